@@ -1,0 +1,4 @@
+pub mod Line
+pub mod Halves
+pub mod Rows
+pub mod Passes

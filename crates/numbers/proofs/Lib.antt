@@ -1,0 +1,4 @@
+pub mod Integers
+pub mod Words
+pub mod Sweep
+pub mod Parts
