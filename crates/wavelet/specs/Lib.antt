@@ -1,0 +1,6 @@
+pub mod Limits
+pub mod Bands
+pub mod Levels
+pub mod Plane
+pub mod View
+pub mod Maps

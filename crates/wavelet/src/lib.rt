@@ -1,0 +1,1 @@
+// The wavelet transform of a map: definitions and theory, and the view of one band row of a plane.
