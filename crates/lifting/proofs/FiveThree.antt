@@ -14,7 +14,7 @@ use Rattle.numbers.specs.Word.{wrap32, whole}
 use Rattle.numbers.proofs.Integers.{dif, each, lin, dif-natAbs}
 use Rattle.numbers.proofs.Words.{wrap-fits, add-sub, sub-add}
 use Rattle.lifting.specs.Line.{predicted, updated, unpredicted, unupdated, mirror, high, highAt, low, backEven, backOdd, Half, lo, hi, count, joined, lineForward, lineHalvesBack, lineBack}
-use Rattle.lifting.proofs.Filter.{other, place, many, part, Step, Filter, forward, back, forward-high, forward-low, forward-one, back-low, back-high, back-one, by-place}
+use Rattle.lifting.proofs.Filter.{other, place, many, part, Step, Filter, forward, back, forward-high, forward-low, forward-one, back-low, back-high, back-one, by-place, back-forward, forward-back, forward-reads, back-reads}
 
 -- ---- the shape: each step changes a number by its two neighbours of the other half, by any rule that can be undone
 pub record Reversible (A : Type 0) : Type 0 where
@@ -315,3 +315,39 @@ module _ {keep : ℤ → ℤ} (K : Keeping keep) where
   back-is N c good =
       by-place lo (λ i. i < N → back (lifting K) N c i ≡ lineBack keep N c i)
       (λ h n b. half-back-is N c good h n b ∙ sym (joined-place (lineHalvesBack keep N c) h n))
+
+  -- so what holds of the general filter holds of the definitions. What is stored is good:
+  pub forward-good : (N : ℕ) (x : ℕ → ℤ) → ((i : ℕ) → i < N → Good (x i)) → (h : Half) (n : ℕ) → n < count h N → Good (lineForward keep N x h n)
+  unfolding lineForward high low count
+  forward-good zero x good lo n b = absurd (omega arith)
+  forward-good (suc zero) x good lo n b = good (2 * n) (omega arith)
+  forward-good (suc (suc m)) x good lo n b = rw (lt-ltb 1 (suc (suc m)) (omega arith)) (updated-good K _ _ _)
+  forward-good N x good hi n b = predicted-good K _ _ _
+
+  halves-good : (N : ℕ) (c : Half → ℕ → ℤ) → ((h : Half) (n : ℕ) → n < count h N → Good (c h n)) → (h : Half) (n : ℕ) → place lo h n < N → Good (lineHalvesBack keep N c h n)
+  unfolding lineHalvesBack backEven backOdd count
+  halves-good zero c good lo n b = absurd (omega arith)
+  halves-good (suc zero) c good lo n b = good lo n (omega arith)
+  halves-good (suc (suc m)) c good lo n b = rw (lt-ltb 1 (suc (suc m)) (omega arith)) (unupdated-good K _ _ _)
+  halves-good N c good hi n b = unpredicted-good K _ _ _
+
+  pub back-good : (N : ℕ) (c : Half → ℕ → ℤ) → ((h : Half) (n : ℕ) → n < count h N → Good (c h n)) → (i : ℕ) → i < N → Good (lineBack keep N c i)
+  unfolding lineBack
+  back-good N c good =
+      by-place lo (λ i. i < N → Good (lineBack keep N c i))
+      (λ h n b. rw (joined-place (lineHalvesBack keep N c) h n) (halves-good N c good h n b))
+
+  -- and the two ways are inverse
+  pub line-back-forward : (N : ℕ) (x : ℕ → ℤ) → ((i : ℕ) → i < N → Good (x i)) → (i : ℕ) → i < N → lineBack keep N (lineForward keep N x) i ≡ x i
+  line-back-forward N x good i b =
+      sym (back-is N (lineForward keep N x) (forward-good N x good) i b)
+      ∙ back-reads (lifting K) N (lineForward keep N x) (forward (lifting K) N x)
+      (λ h n p. sym (forward-is N x good h n p)) i b
+      ∙ back-forward (lifting K) N x (λ _. refl) i
+
+  pub line-forward-back : (N : ℕ) (c : Half → ℕ → ℤ) → ((h : Half) (n : ℕ) → n < count h N → Good (c h n)) → (h : Half) (n : ℕ) → n < count h N → lineForward keep N (lineBack keep N c) h n ≡ c h n
+  line-forward-back N c good h n b =
+      sym (forward-is N (lineBack keep N c) (back-good N c good) h n b)
+      ∙ forward-reads (lifting K) N (lineBack keep N c) (back (lifting K) N c) h n b
+      (λ i p _. sym (back-is N c good i p))
+      ∙ forward-back (lifting K) N c (λ _. refl) h n

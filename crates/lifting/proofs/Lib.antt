@@ -1,3 +1,4 @@
 pub mod Fits
 pub mod Filter
 pub mod FiveThree
+pub mod LineTheorems
