@@ -1,3 +1,4 @@
 pub mod Fits
 pub mod LineLaws
 pub mod PassLaws
+pub mod AreaLaws

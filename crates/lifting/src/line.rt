@@ -77,3 +77,27 @@ fn unpredict_highs(line: &mut [i32], low: usize)
     }
 }
 
+// A line in halves lifted in place: the low values first, then the high ones. A line of one number or none stays.
+pub fn lift(line: &mut [i32])
+    ensures { λ _. ⌜ at (now (line .exit)) ≡ liftedInPlace (length (now (line .entry))) (at (now (line .entry))) ⌝ }
+{
+    let n = line.len();
+    if 1 < n {
+        let low = n - n / 2;
+        predict_highs(line, low);
+        update_lows(line, low);
+    }
+}
+
+// The way back: low and high values in place to the line in halves.
+pub fn unlift(line: &mut [i32])
+    ensures { λ _. ⌜ at (now (line .exit)) ≡ unliftedInPlace (length (now (line .entry))) (at (now (line .entry))) ⌝ }
+{
+    let n = line.len();
+    if 1 < n {
+        let low = n - n / 2;
+        unupdate_lows(line, low);
+        unpredict_highs(line, low);
+    }
+}
+
