@@ -6,29 +6,22 @@ use lib.Dec.{leb, eqb}
 use Rattle.numbers.specs.Signal.{pick, both}
 use Rattle.wavelet.specs.Limits.{maxWidth, maxHeight, maxLevels, range}
 use Rattle.wavelet.specs.Maps.{every}
+use Rattle.wavelet.specs.Questions.{ask, within}
 use Rattle.reader.specs.declared.Reader.{Reader}
 use Rattle.reader.specs.Tried.{fits}
 use Rattle.reader.specs.Store.{storeLength}
 use Rattle.reader.specs.Machine.{Place}
 use Rattle.reader.specs.State.{next, nextLength, rowDue, drawDue, settles, feeds}
 
--- a question, the number that a no gives, and what a yes goes on to
-abbrev pub ask : Bool → ℕ → ℕ → ℕ
-ask q n rest = pick q rest n
-
 abbrev pub not : Bool → Bool
 not b = pick b false true
-
--- is n from a to b?
-unfoldable pub between : ℕ → ℕ → ℕ → Bool
-between a b n = both (leb a n) (leb n b)
 
 -- question 1: "Is every count in the state inside its range?"
 unfoldable pub countsFit : Reader → Bool
 countsFit s =
-    both (between 1 maxWidth (s .width))
-    (both (between 1 maxHeight (s .height))
-    (both (between 1 maxLevels (s .levels))
+    both (within 1 maxWidth (s .width))
+    (both (within 1 maxHeight (s .height))
+    (both (within 1 maxLevels (s .levels))
     (both (leb (s .drawn) (s .height))
     (both (leb (s .level) (s .levels))
     (leb (s .band) 4)))))
@@ -44,9 +37,9 @@ runFits k n v = every n (λ i. leb (natAbs (v i)) (range k))
 -- n is the length of the store
 unfoldable pub setUpQuestion : ℕ → ℕ → ℕ → ℕ → ℕ
 setUpQuestion W H L n =
-    ask (between 1 maxWidth W) 2
-    (ask (between 1 maxHeight H) 3
-    (ask (between 1 maxLevels L) 4
+    ask (within 1 maxWidth W) 2
+    (ask (within 1 maxHeight H) 3
+    (ask (within 1 maxLevels L) 4
     (ask (storeFits W L n) 5
     0)))
 

@@ -7,7 +7,7 @@ use Rattle.numbers.specs.Signal.{pick}
 use Rattle.lifting.specs.Halves.{fronted}
 use Rattle.wavelet.specs.Bands.{Band}
 use Rattle.wavelet.specs.Levels.{size}
-use Rattle.reader.specs.Tried.{Tried, within}
+use Rattle.reader.specs.Tried.{Tried, onto}
 use Rattle.reader.specs.Sets.{rowAt}
 use Rattle.reader.specs.Asked.{named}
 use Rattle.reader.specs.Slots.{bandFed}
@@ -42,5 +42,5 @@ module _ (W H L d k : ℕ) where
   -- its set worked out
   unfoldable pub workedAt : (ℕ → ℤ) → Tried
   workedAt x =
-      within (behind (stretchAt W k) x)
+      onto (behind (stretchAt W k) x)
       (setWorked (eqb (suc k) L) k (size k W) (size k H) (rowAt H d (suc k)) (from (stretchAt W k) x))

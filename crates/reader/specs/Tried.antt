@@ -17,10 +17,10 @@ unfoldable pub bind : Tried → ((ℕ → ℤ) → Tried) → Tried
 bind failed f = failed
 bind (passed x) f = f x
 
--- a part worked out within a whole
-unfoldable pub within : ((ℕ → ℤ) → ℕ → ℤ) → Tried → Tried
-within f failed = failed
-within f (passed x) = passed (f x)
+-- a part worked out, put back into the whole
+unfoldable pub onto : ((ℕ → ℤ) → ℕ → ℤ) → Tried → Tried
+onto f failed = failed
+onto f (passed x) = passed (f x)
 
 unfoldable pub fits : Tried → Bool
 fits failed = false
