@@ -122,7 +122,7 @@ impl Reader {
             let e = a + w;
             areas::draw_heights(&store[a..e], out);
             let d = self.drawn + 1;
-            return Drawn::Heights(w, self.at(d, walk::enter_of(self.height, self.levels, d)));
+            return Drawn::Heights(w, self.at(d, walk::enter_of(w, self.height, self.levels, d)));
         }
         let n = walk::store_length(w, self.levels);
         areas::clear(store, n);

@@ -9,7 +9,9 @@ ghost use mathlib.Core.Path.{_≡_};
 ghost use Prim.Native.Nat.{ℕ, _≤_};
 ghost use lib.ListN.{length};
 ghost use Rattle.numbers.specs.Signal.{at};
-ghost use Rattle.reader.specs.Questions.{countsFit, storeFits, runFits};
+ghost use Rattle.reader.specs.State.{next, drawDue};
+ghost use Rattle.reader.specs.Questions.{countsFit, runFits, setUpQuestion};
+ghost use Rattle.reader.specs.Inside.{Counts, Is, storeQuestion, rowQuestion};
 
 // Question 1: is every count inside its range?
 pub fn counts_fit(s: Reader) -> bool
@@ -79,7 +81,7 @@ pub fn store_question(s: Reader, length: usize) -> u8
 
 // Questions 8, 13 and 7 of a feed, whose row wanted is p.
 pub fn row_question(s: Reader, p: Spot, run: &[i32]) -> u8
-    requires { ⌜ Counts s × IsNext s p ⌝ }
+    requires { ⌜ Counts s × Is (next s) p ⌝ }
     ensures { λ r. ⌜ r ≡ rowQuestion s (length (now (run .entry))) (at (now (run .entry))) ⌝ }
 {
     if s.height <= s.drawn {

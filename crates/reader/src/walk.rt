@@ -5,15 +5,19 @@ use crate::work;
 use crate::Reader;
 use wavelet::sizes;
 ghost use mathlib.Core.Path.{_≡_};
-ghost use Prim.Native.Nat.{ℕ, suc, _+_, _-_, _*_, _<_, _≤_};
+ghost use Prim.Native.Nat.{ℕ, _+_, _<_, _≤_};
 ghost use lib.ListN.{length};
 ghost use Rattle.numbers.specs.Signal.{at};
+ghost use Rattle.lifting.specs.Line.{count};
+ghost use Rattle.wavelet.specs.Bands.{across, down};
+ghost use Rattle.wavelet.specs.Levels.{size};
 ghost use Rattle.reader.specs.Asked.{named};
 ghost use Rattle.reader.specs.Tried.{outcome};
 ghost use Rattle.reader.specs.Store.{storeLength, fedAt, workedAt};
-ghost use Rattle.reader.specs.Machine.{Place, bandAt, nextAt, settled, fedOn, placeFed, enter};
-ghost use Rattle.reader.specs.State.{next, nextLength, settles, feeds};
-ghost use Rattle.reader.specs.Inside.{Counts, IsLevel};
+ghost use Rattle.reader.specs.Slots.{rowPlace, setRow, halfPlace};
+ghost use Rattle.reader.specs.Machine.{bandAt, settled, placeFed, enter};
+ghost use Rattle.reader.specs.State.{next, nextRow, nextLength, feeds};
+ghost use Rattle.reader.specs.Inside.{Counts, IsLevel, Is};
 
 // A level: where its stretch begins, the columns and rows that it splits, and the set that it is at.
 pub struct Level {
@@ -82,7 +86,7 @@ fn band_at(s: Reader, k: usize, band: usize) -> usize
 // The row wanted: of this level, or of the next finer one whose set asks for one.
 pub fn next_of(s: Reader) -> Spot
     requires { ⌜ Counts s ⌝ }
-    ensures { λ p. ⌜ (p .level ≡ next s .level) × (p .band ≡ next s .band) ⌝ }
+    ensures { λ p. ⌜ Is (next s) p ⌝ }
 {
     let mut k = s.level;
     let mut b = s.band;
@@ -107,7 +111,7 @@ pub fn band_length(w: usize, band: usize) -> usize
 
 // The length of the row wanted, and its number.
 pub fn row_length(s: Reader, p: Spot) -> usize
-    requires { ⌜ Counts s × IsNext s p × (0 < p .level) ⌝ }
+    requires { ⌜ Counts s × Is (next s) p × (0 < p .level) ⌝ }
     ensures { λ n. ⌜ n ≡ nextLength s ⌝ }
 {
     let l = level_at(s, p.level - 1);
@@ -115,7 +119,7 @@ pub fn row_length(s: Reader, p: Spot) -> usize
 }
 
 pub fn row_number(s: Reader, p: Spot) -> usize
-    requires { ⌜ Counts s × IsNext s p × (0 < p .level) ⌝ }
+    requires { ⌜ Counts s × Is (next s) p × (0 < p .level) ⌝ }
     ensures { λ n. ⌜ n ≡ nextRow s ⌝ }
 {
     let l = level_at(s, p.level - 1);
@@ -169,7 +173,7 @@ fn half_place(w: usize, n: usize, band: usize) -> usize
 
 // The sets that wait worked out, the run put, and the set that it completes worked out.
 pub fn feed_row(s: Reader, store: &mut [i32], p: Spot, run: &[i32]) -> bool
-    requires { ⌜ Counts s × (storeLength (s .width) (s .levels) ≤ length (now store)) × (p .level ≡ next s .level) × (p .band ≡ next s .band) × (0 < p .level) × (length (now run) ≡ nextLength s) ⌝ }
+    requires { ⌜ Counts s × (storeLength (s .width) (s .levels) ≤ length (now store)) × Is (next s) p × (0 < p .level) × (length (now run) ≡ nextLength s) ⌝ }
     ensures { λ ok. ⌜ outcome ok (at (now (store .exit))) ≡ feeds s (at (now (run .entry))) (at (now (store .entry))) ⌝ }
 {
     let k = p.level - 1;
@@ -186,7 +190,7 @@ pub fn feed_row(s: Reader, store: &mut [i32], p: Spot, run: &[i32]) -> bool
 // Where the reader goes on after that row.
 pub fn beyond_of(s: Reader, p: Spot) -> Spot
     requires { ⌜ Counts s × (0 < p .level) × (p .level ≤ s .levels) × (p .band < 4) ⌝ }
-    ensures { λ q. ⌜ (q .level ≡ placeFed (s .width) (s .height) (s .levels) (s .drawn) (p .level) (p .band) .level) × (q .band ≡ placeFed (s .width) (s .height) (s .levels) (s .drawn) (p .level) (p .band) .band) ⌝ }
+    ensures { λ q. ⌜ Is (placeFed (s .width) (s .height) (s .levels) (s .drawn) (p .level) (p .band)) q ⌝ }
 {
     let k = p.level - 1;
     if band_at(s, k, p.band + 1) < 4 {
@@ -200,9 +204,9 @@ pub fn beyond_of(s: Reader, p: Spot) -> Spot
 }
 
 // Where row d begins: past each level whose set it opens.
-pub fn enter_of(height: usize, levels: usize, d: usize) -> Spot
+pub fn enter_of(width: usize, height: usize, levels: usize, d: usize) -> Spot
     requires { ⌜ (0 < height) × (height ≤ 65535) × (d ≤ height) × (levels ≤ 5) ⌝ }
-    ensures { λ p. ⌜ Entered height levels d p ⌝ }
+    ensures { λ p. ⌜ Is (enter width height levels d) p ⌝ }
 {
     let mut k = 0;
     let mut r = d;

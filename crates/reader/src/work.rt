@@ -5,7 +5,7 @@ use lifting::rows;
 use wavelet::sizes;
 ghost use mathlib.Core.Path.{_≡_};
 ghost use mathlib.Core.Bool.{Bool, true, false};
-ghost use Prim.Native.Nat.{ℕ, _+_, _-_, _*_, _<_, _≤_};
+ghost use Prim.Native.Nat.{ℕ, _+_, _-_, _*_, _<_, _≤_, min};
 ghost use lib.IntN.{ℤ, pos};
 ghost use lib.ListN.{length};
 ghost use Rattle.numbers.specs.Signal.{at, pick};
@@ -13,7 +13,7 @@ ghost use Rattle.lifting.specs.Line.{lo, count};
 ghost use Rattle.reader.specs.Tried.{outcome};
 ghost use Rattle.reader.specs.Slots.{rowPlace, rowUnlifted, lowRowTaken};
 ghost use Rattle.reader.specs.Work.{rowFits, setUnlifted, evenRow, oddRow, evenMade, oddMade, lastMade, setMade, setWorked};
-ghost use Rattle.reader.specs.Areas.{lowestOf, highestOf};
+ghost use Rattle.reader.specs.Areas.{lowestOf};
 
 // Where row r begins.
 pub fn row_place(w: usize, r: usize) -> usize
