@@ -1,6 +1,6 @@
 -- Numbers of an area, one by one: heights as whole numbers, the test of a range, and what a u16 keeps.
 use mathlib.Core.Bool.{Bool, true, false}
-use mathlib.Core.List.{List}
+use mathlib.Core.List.{List, map}
 use Prim.Native.Nat.{ℕ, zero, suc}
 use lib.IntN.{ℤ, pos, _-ℤ_, _*ℤ_}
 use lib.Signed.{shrZ, leZ}
@@ -11,6 +11,9 @@ use Rattle.wavelet.specs.Limits.{range}
 -- a slice of u16 heights as a signal of whole numbers
 abbrev pub heightsAt : List ℕ → ℕ → ℤ
 heightsAt l i = pos (getD l i 0)
+
+abbrev pub wholes : List ℕ → List ℤ
+wholes l = map pos l
 
 -- z modulo 65,536: "a made height row is then drawn modulo 65,536"
 unfoldable pub height16 : ℤ → ℤ

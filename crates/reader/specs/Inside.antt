@@ -25,12 +25,16 @@ pub record Counts (s : Reader) : Type 0 where
   pub at : s .level ≤ s .levels
   pub next : s .band ≤ 4
 
--- l is level k + 1
-pub record IsLevel (s : Reader) (k : ℕ) (l : Level) : Type 0 where
-  pub start : l .start ≡ stretchAt (s .width) k
-  pub width : l .width ≡ size k (s .width)
-  pub height : l .height ≡ size k (s .height)
-  pub set : l .set ≡ rowAt (s .height) (s .drawn) (suc k)
+-- a map of W × H while row d is waited for: sizes so small that no place in memory overflows
+abbrev pub Shape : ℕ → ℕ → ℕ → Type 0
+Shape W H d = (0 < W) × (W ≤ 65536) × (0 < H) × (H ≤ 4294967295) × (d ≤ H)
+
+-- l is level k + 1 of that map
+pub record IsLevel (W H d k : ℕ) (l : Level) : Type 0 where
+  pub start : l .start ≡ stretchAt W k
+  pub width : l .width ≡ size k W
+  pub height : l .height ≡ size k H
+  pub set : l .set ≡ rowAt H d (suc k)
 
 -- p is a place
 pub record Is (q : Place) (p : Spot) : Type 0 where

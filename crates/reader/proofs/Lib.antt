@@ -1,0 +1,3 @@
+pub mod HeightLaws
+pub mod AreaLaws
+pub mod WeaveLaws
