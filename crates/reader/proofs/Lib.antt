@@ -1,3 +1,9 @@
 pub mod HeightLaws
 pub mod AreaLaws
 pub mod WeaveLaws
+pub mod SetLaws
+pub mod SlotLaws
+pub mod RangeLaws
+pub mod WorkLaws
+pub mod StoreLaws
+pub mod EnterLaws
