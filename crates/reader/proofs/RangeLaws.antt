@@ -14,7 +14,7 @@ use mir.Val.{SFits}
 use borrow.Author.Tests.{le-leb, lt-leb}
 use borrow.Rule.Slice.PartMut.{midOf}
 use Rattle.numbers.specs.Signal.{at, both}
-use Rattle.numbers.proofs.Integers.{each, lin, dif, dif-natAbs, dif-leZ}
+use Rattle.numbers.proofs.Integers.{each, lin, dif, dif-pos, dif-natAbs, dif-leZ}
 use Rattle.numbers.proofs.Parts.{length-mid, at-mid, window-in}
 use Rattle.wavelet.specs.Limits.{maxSample, maxLevels, range}
 use Rattle.wavelet.specs.Maps.{every, valueFits}
@@ -39,10 +39,10 @@ leb-both a r b c d e back forth =
     ]
 
 least-is : (R : ℕ) → pos 0 -ℤ pos R ≡ dif 0 R
-least-is R = simp lin (omega arith)
+least-is R = ap (λ (z : ℤ). pos 0 -ℤ z) (dif-pos R) ∙ simp lin (omega arith)
 
 most-is : (R : ℕ) → pos R ≡ dif R 0
-most-is R = simp lin (omega arith)
+most-is R = dif-pos R
 
 pub abs-between : (R : ℕ) (v : ℤ) → leb (natAbs v) R ≡ between (pos 0 -ℤ pos R) (pos R) v
 unfolding between
@@ -68,9 +68,9 @@ low-more zero h = absurd (h refl)
 low-more (suc k) h = refl
 
 pub neg-fits : (z : ℤ) (n : ℕ) → z ≡ pos n → SFits w32 z → SFits w32 (pos 0 -ℤ z)
-neg-fits z n e h = let g : SFits w32 (pos n) = rw (← e) h in rw e (go n g)
+neg-fits z n e h = let g : SFits w32 (pos n) = rw (← e) h in rw (e, least-is n) (go n g)
   where
-    go : (n : ℕ) → SFits w32 (pos n) → SFits w32 (pos 0 -ℤ pos n)
+    go : (n : ℕ) → SFits w32 (pos n) → SFits w32 (dif 0 n)
     go n = simp lin (omega arith)
 
 pub value-between : (k : ℕ) (v : ℤ) → valueFits k v ≡ between (lowestOf k) (pos (range k)) v

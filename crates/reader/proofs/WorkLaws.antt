@@ -14,10 +14,10 @@ use Rattle.reader.specs.Work.{rowFits, admitted, setUnlifted, evenRow, o
 
 -- ---- what an answer tells
 pub told-no : (ok : Bool) (x : ℕ → ℤ) (t : Tried) → outcome ok x ≡ t → ok ≡ false → failed ≡ t
-told-no ok x t e no = ap (λ (b : Bool). outcome b x) (sym no) ∙ e
+told-no ok x t e f = ap (λ (b : Bool). outcome b x) (sym f) ∙ e
 
 pub told-yes : (ok : Bool) (x : ℕ → ℤ) (t : Tried) → outcome ok x ≡ t → ok ≡ true → passed x ≡ t
-told-yes ok x t e yes = ap (λ (b : Bool). outcome b x) (sym yes) ∙ e
+told-yes ok x t e f = ap (λ (b : Bool). outcome b x) (sym f) ∙ e
 
 pub bind-failed : (t : Tried) (f : (ℕ → ℤ) → Tried) → failed ≡ t → failed ≡ bind t f
 unfolding bind
