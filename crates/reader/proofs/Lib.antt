@@ -7,3 +7,5 @@ pub mod RangeLaws
 pub mod WorkLaws
 pub mod StoreLaws
 pub mod EnterLaws
+pub mod WalkLaws
+pub mod PartLaws

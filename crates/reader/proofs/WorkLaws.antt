@@ -60,13 +60,13 @@ module _ (k w h n : ℕ) (x : ℕ → ℤ) where
     unfolding setMade
     made-3 z e = bind-passed _ (lastMade k w h n) z e ∙ bind-passed _ (λ y. bind (oddMade k w h n y) (lastMade k w h n)) y one
 
-  pub worked-last : setMade k w h n x ≡ setWorked true k w h n x
+  pub worked-last : (last : Bool) → last ≡ true → setMade k w h n x ≡ setWorked last k w h n x
   unfolding setWorked
-  worked-last = refl
+  worked-last last e = rw e
 
-  pub worked-on : (y : ℕ → ℤ) → y ≡ lowRowTaken w n x → setMade k w h n y ≡ setWorked false k w h n x
+  pub worked-on : (last : Bool) (y : ℕ → ℤ) → last ≡ false → y ≡ lowRowTaken w n x → setMade k w h n y ≡ setWorked last k w h n x
   unfolding setWorked
-  worked-on y e = ap (setMade k w h n) e
+  worked-on last y e taken = rw e (ap (setMade k w h n) taken)
 
 pub odd-made : (k w h n : ℕ) (x : ℕ → ℤ) (ok : Bool) (z : ℕ → ℤ) → (n ≡ 0 → ⊥) → z ≡ oddRow w h (n - 1) x → ok ≡ rowFits k w (2 * n - 1) z → outcome ok z ≡ oddMade k w h n x
 odd-made k w h zero x ok z ne ez eo = absurd (ne refl)

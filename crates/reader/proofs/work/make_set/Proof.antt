@@ -1,6 +1,7 @@
 -- `reader::work::make_set` meets its contract: one row after another, as long as they fit. Assumes nothing.
 use mathlib.Core.Path.{_≡_, _∙_}
 use native.Mathlib.Omega.{arith}
+use Rattle.numbers.specs.Signal.{at}
 use borrow.Author.Needs.{needs}
 use borrow.Author.Tests.{not-true, not-false}
 use Rattle.reader.proofs.WorkLaws.{told-no, told-yes, made-1, made-2, made-3}
@@ -17,7 +18,7 @@ returns : tie.Need-returns
 returns c =
     let one = c .before .before in
     let a = one .before .before .args in
-    made-1 (a .k) (a .w) (a .h) (a .n) _ (told-no _ _ _ (one .make-even .ensures) (not-true _ (c .if1 .taken)))
+    made-1 (a .k) (a .w) (a .h) (a .n) _ (told-no (one .make-even .result) (at (one .make-even .last .0)) _ (one .make-even .ensures) (not-true _ (c .if1 .taken)))
 
 make-odd-requires : tie.Need-make-odd-requires
 make-odd-requires c κs = search needs
@@ -31,7 +32,7 @@ returns-2 c =
     let went = two .before .before in
     let one = went .before .before in
     let a = one .before .before .args in
-    made-2 (a .k) (a .w) (a .h) (a .n) _ _ (told-yes _ _ _ (one .make-even .ensures) (not-false _ (went .if1 .left))) (told-no _ _ _ (two .make-odd .ensures) (not-true _ (c .if2 .taken)))
+    made-2 (a .k) (a .w) (a .h) (a .n) _ _ (told-yes (one .make-even .result) (at (one .make-even .last .0)) _ (one .make-even .ensures) (not-false _ (went .if1 .left))) (told-no (two .make-odd .result) (at (two .make-odd .last .0)) _ (two .make-odd .ensures) (not-true _ (c .if2 .taken)))
 
 make-last-requires : tie.Need-make-last-requires
 make-last-requires c κs = search needs
@@ -48,7 +49,7 @@ returns-3 c =
     let one = went .before .before in
     let a = one .before .before .args in
     three .make-last .ensures
-    ∙ made-3 (a .k) (a .w) (a .h) (a .n) _ _ (told-yes _ _ _ (one .make-even .ensures) (not-false _ (went .if1 .left))) _ (told-yes _ _ _ (two .make-odd .ensures) (not-false _ (on .if2 .left)))
+    ∙ made-3 (a .k) (a .w) (a .h) (a .n) _ _ (told-yes (one .make-even .result) (at (one .make-even .last .0)) _ (one .make-even .ensures) (not-false _ (went .if1 .left))) _ (told-yes (two .make-odd .result) (at (two .make-odd .last .0)) _ (two .make-odd .ensures) (not-false _ (on .if2 .left)))
 
 pub make-set-spec : {M : Type 1} → statement M
 make-set-spec =
