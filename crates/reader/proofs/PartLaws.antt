@@ -13,11 +13,11 @@ use borrow.Author.Tests.{lt-ltb, le-ltb, eq-eqb, ne-eqb}
 use borrow.Rule.Slice.PartMut.{midOf, putMid}
 use Rattle.numbers.specs.Signal.{at, pick, windowed, spliced}
 use Rattle.numbers.proofs.Parts.{window-in, window-past, splice-below, splice-in, splice-past, length-mid, at-mid, at-put}
-use Rattle.lifting.specs.Line.{lo, count}
+use Rattle.lifting.specs.Line.{Half, lo, hi, count}
 use Rattle.lifting.specs.Halves.{fronted}
 use Rattle.wavelet.specs.Bands.{across, down}
 use Rattle.wavelet.specs.Levels.{size}
-use Rattle.wavelet.proofs.SizeLaws.{size-suc, count-le}
+use Rattle.wavelet.proofs.SizeLaws.{size-suc, size-le, count-le, count-sum}
 use Rattle.reader.specs.declared.walk.Level.{Level}
 use Rattle.reader.specs.Sets.{rowAt}
 use Rattle.reader.specs.Asked.{named}
@@ -27,7 +27,9 @@ use Rattle.reader.specs.Work.{setWorked}
 use Rattle.reader.specs.Store.{stretchAt, from, behind, fedAt, workedAt}
 use Rattle.reader.specs.Inside.{IsLevel}
 use Rattle.reader.proofs.AreaLaws.{front-at}
-use Rattle.reader.proofs.StoreLaws.{stretch-suc, stretch-in}
+use Rattle.reader.proofs.StoreLaws.{stretch-suc, stretch-in, stretch-small}
+use Rattle.reader.proofs.SetLaws.{row-in}
+use Rattle.reader.proofs.SlotLaws.{slot-room, place-is}
 
 module _ (a : ℕ) (x y : ℕ → ℤ) (j : ℕ) where
   pub behind-below : j < a → behind a x y j ≡ x j
@@ -110,9 +112,11 @@ put-is W H d k c l a p m v s ys is ep ea em en room long made =
     ∙ ap (λ (i : ℕ). spliced i n (at v) (at s)) place
     ∙ behind-splice (stretchAt W k) q n (at v) (at s)
 
--- the half row lies within the level's stretch
-pub half-room : (w n c : ℕ) → rowPlace w n + w ≤ 4 * w → halfPlace (across (named c)) w + count (across (named c)) w ≤ w → rowPlace w n + halfPlace (across (named c)) w + count (across (named c)) w ≤ 4 * w
-half-room w n c h g = omega arith
+-- a half lies within its row
+half-in : (b : Half) (w : ℕ) → halfPlace b w + count b w ≤ w
+unfolding halfPlace
+half-in lo w = omega (arith, count-le lo w)
+half-in hi w = omega (arith, count-sum w)
 
 -- ---- a set worked out in its level's stretch
 onto-outcome : (f : (ℕ → ℤ) → ℕ → ℤ) (ok : Bool) (y : ℕ → ℤ) → outcome ok (f y) ≡ onto f (outcome ok y)
@@ -135,3 +139,27 @@ stretch-room W k L h = elim (ℕ-discrete (k + 1) L) [
   | yes e ↦ rw (eq-eqb (k + 1) L e) (omega (arith, stretch-suc W k, stretch-in W (suc k) L (omega arith)))
   | no d ↦ rw (ne-eqb (k + 1) L d) (omega (arith, stretch-suc W k, stretch-suc W (suc k), size-suc k W, stretch-in W (suc (suc k)) L (omega arith)))
 ]
+
+-- ---- the same of a level
+module _ (W H d k : ℕ) (l : Level) (is : IsLevel W H d k l) where
+  pub level-in : 0 < H → W ≤ 65536 → H ≤ 4294967295 → (l .start ≤ 262144 * k) × (l .width ≤ 65536) × (l .height ≤ 4294967295) × (l .set < count lo (l .height)) × (l .set ≤ 4294967295)
+  level-in some wide high =
+      let set : l .set < count lo (l .height) = rw (is .set, is .height) (row-in H d k some) in
+      (
+        rw (is .start) (stretch-small W k wide),
+        omega (arith, is .width, size-le k W),
+        omega (arith, is .height, size-le k H),
+        set,
+        omega (arith, set, is .height, size-le k H, count-le lo (l .height)),
+      )
+
+  pub work-room : (L : ℕ) → k < L → l .start + (4 * l .width + 4 * pick (eqb (k + 1) L) 0 (count lo (l .width))) ≤ stretchAt W L
+  work-room L h = rw (is .start, is .width) (stretch-room W k L h)
+
+  pub put-room : (c p n : ℕ) → p ≡ rowPlace (l .width) (setRow (down (named c)) (l .set)) + halfPlace (across (named c)) (l .width) → n ≡ count (across (named c)) (size k W) → l .start + p + n ≤ stretchAt W (k + 1)
+  put-room c p n ep en =
+      let w = l .width in
+      let r = setRow (down (named c)) (l .set) in
+      let half = half-in (across (named c)) w in
+      let columns : n ≡ count (across (named c)) w = rw (is .width) en in
+      rw (add-one k, stretch-suc W k) (omega (arith, is .start, is .width, place-is w r, slot-room w r))

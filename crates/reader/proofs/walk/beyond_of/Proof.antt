@@ -1,33 +1,30 @@
+-- `reader::walk::beyond_of` meets its contract: another band of this level, or the next finer level. Assumes nothing.
+use mathlib.Core.Path.{_≡_, _∙_}
+use native.Mathlib.Omega.{arith}
 use borrow.Author.Needs.{needs}
+use Rattle.wavelet.specs.Limits.{maxLevels}
+use Rattle.reader.proofs.WalkLaws.{is-place, beyond-more, beyond-set}
 use Rattle.reader.proofs.walk.beyond_of.Statement.{statement}
 use Rattle.reader.proofs.walk.beyond_of.Tie as tie
-use Rattle.reader.proofs.walk.beyond_of.Reads as reads
-use Rattle.reader.proofs.walk.beyond_of.Lts as lts
-use Rattle.reader.proofs.walk.band_at.Reads as band-at-reads
 
--- src/walk.rt:223:49
 add-band-at : tie.Need-add-band-at
 add-band-at c = search needs
 
--- src/walk.rt:223:8
 band-at-requires : tie.Need-band-at-requires
 band-at-requires c κs = search needs
 
--- src/walk.rt:225:20
 add-t10 : tie.Need-add-t10
-add-t10 c = ?
+unfolding maxLevels
+add-t10 c = omega arith
 
--- src/walk.rt:226:19
 add-t11 : tie.Need-add-t11
 add-t11 c = search needs
 
--- src/walk.rt:224:9
 returns : tie.Need-returns
-returns c = ?
+returns c = let a = c .before .before .args in is-place _ _ (beyond-more (a .width) (a .height) (a .levels) (a .drawn) (a .k) (a .band) _ (c .before .band-at .ensures) (c .if1 .taken))
 
--- src/walk.rt:212:1
 returns-2 : tie.Need-returns-2
-returns-2 c = ?
+returns-2 c = let a = c .before .before .args in is-place _ _ (beyond-set (a .width) (a .height) (a .levels) (a .drawn) (a .k) (a .band) _ (c .before .band-at .ensures) (omega arith))
 
 pub beyond-of-spec : {M : Type 1} → statement M
 beyond-of-spec =

@@ -1,34 +1,32 @@
+-- `reader::walk::finish` meets its contract: nothing, or the set worked out. Assumes nothing.
+use mathlib.Core.Path.{_≡_, _∙_}
+use native.Mathlib.Omega.{arith}
 use borrow.Author.Needs.{needs}
+use Rattle.reader.proofs.WalkLaws.{finish-more, finish-set}
 use Rattle.reader.proofs.walk.finish.Statement.{statement}
 use Rattle.reader.proofs.walk.finish.Tie as tie
-use Rattle.reader.proofs.walk.finish.Reads as reads
-use Rattle.reader.proofs.walk.finish.Lts as lts
-use Rattle.reader.proofs.walk.band_at.Reads as band-at-reads
-use Rattle.reader.proofs.walk.work_at.Reads as work-at-reads
 
--- src/walk.rt:205:49
 add-band-at : tie.Need-add-band-at
 add-band-at c = search needs
 
--- src/walk.rt:205:8
 band-at-requires : tie.Need-band-at-requires
 band-at-requires c κs = search needs
 
--- src/walk.rt:206:9
 returns : tie.Need-returns
-returns c = ?
+returns c = let a = c .before .before .args in finish-more (a .width) (a .height) (a .levels) (a .drawn) (a .k) (a .band) _ (c .before .band-at .ensures) _ (c .if1 .taken)
 
--- src/walk.rt:208:5
 work-at-requires : tie.Need-work-at-requires
 work-at-requires c κs = search needs
 
--- src/walk.rt:193:1
 same-length : tie.Need-same-length
 same-length c = search needs
 
--- src/walk.rt:193:1
 returns-2 : tie.Need-returns-2
-returns-2 c = ?
+returns-2 c =
+    let call = c .before in
+    let done = call .before .before in
+    let a = done .before .before .args in
+    call .work-at .ensures ∙ finish-set (a .width) (a .height) (a .levels) (a .drawn) (a .k) (a .band) _ (done .before .band-at .ensures) _ (omega arith)
 
 pub finish-spec : {M : Type 1} → statement M
 finish-spec =

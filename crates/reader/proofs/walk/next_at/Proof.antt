@@ -1,46 +1,52 @@
+-- `reader::walk::next_at` meets its contract: level by level, as the definition goes. Assumes nothing.
+use mathlib.Core.Path.{_≡_, _∙_, refl}
+use Prim.Native.Nat.{ℕ, _≤_, _<_}
+use native.Mathlib.Omega.{arith}
+use Rattle.wavelet.specs.Limits.{maxLevels}
+use Rattle.reader.specs.Machine.{nextAt}
+use Rattle.reader.specs.Inside.{Shape}
+use Rattle.reader.proofs.WalkLaws.{is-place, next-here, next-finer, next-none}
 use Rattle.reader.proofs.walk.next_at.Statement.{statement}
 use Rattle.reader.proofs.walk.next_at.Tie as tie
-use Rattle.reader.proofs.walk.next_at.Reads as reads
-use Rattle.reader.proofs.walk.next_at.Lts as lts
-use Rattle.reader.proofs.walk.band_at.Reads as band-at-reads
 
 abbrev Inv-loop : tie.InvT-loop
-Inv-loop width height levels drawn level band k₀ b₀ k b = ?
+Inv-loop width height levels drawn level band k₀ b₀ k b =
+    Shape width height drawn × (k ≤ level) × (level ≤ maxLevels) × (nextAt width height levels drawn k b ≡ nextAt width height levels drawn level band)
 
 abbrev μ-loop : tie.MeasureT-loop
-μ-loop width height levels drawn level band k₀ b₀ k b = ?
+μ-loop width height levels drawn level band k₀ b₀ k b = k
 
--- src/walk.rt:106:5
 loop-holds : tie.Need-loop-holds Inv-loop μ-loop
-loop-holds c = ?
+loop-holds c = (c .pre .0, omega arith, omega arith, refl)
 
--- src/walk.rt:107:55
 sub-band-at : tie.Need-sub-band-at Inv-loop μ-loop
-sub-band-at c = ?
+sub-band-at c = omega arith
 
--- src/walk.rt:107:13
 band-at-requires : tie.Need-band-at-requires Inv-loop μ-loop
-band-at-requires c κs = ?
+band-at-requires c κs = let inv = c .before .loop .inv in (inv .0, omega arith)
 
--- src/walk.rt:109:13
 returns : tie.Need-returns Inv-loop μ-loop
-returns c = ?
+returns c =
+    let band = c .before in
+    let test = band .before in
+    let l = test .before .loop in
+    is-place _ _ (next-here _ _ _ _ (l .k) (l .b) (band .band-at .result) (test .loop-test .taken) (band .band-at .ensures) (c .if1 .taken) ∙ l .inv .3)
 
--- src/walk.rt:111:9
 sub-k : tie.Need-sub-k Inv-loop μ-loop
-sub-k c = ?
+sub-k c = omega arith
 
--- src/walk.rt:106:5
 loop-less : tie.Need-loop-less Inv-loop μ-loop
-loop-less c = ?
+loop-less c = omega arith
 
--- src/walk.rt:106:5
 loop-again : tie.Need-loop-again Inv-loop μ-loop
-loop-again c = ?
+loop-again c =
+    let band = c .before in
+    let test = band .before in
+    let l = test .before .loop in
+    (l .inv .0, omega arith, l .inv .2, next-finer _ _ _ _ (l .k) (l .b) (band .band-at .result) (test .loop-test .taken) (band .band-at .ensures) (omega arith) ∙ l .inv .3)
 
--- src/walk.rt:93:1
 returns-2 : tie.Need-returns-2 Inv-loop μ-loop
-returns-2 c = ?
+returns-2 c = let l = c .before .loop in is-place _ _ (next-none _ _ _ _ (l .k) (l .b) (omega arith) ∙ l .inv .3)
 
 pub next-at-spec : {M : Type 1} → statement M
 next-at-spec =
