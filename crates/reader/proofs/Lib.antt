@@ -9,3 +9,6 @@ pub mod StoreLaws
 pub mod EnterLaws
 pub mod WalkLaws
 pub mod PartLaws
+pub mod KeptLaws
+pub mod QuestionLaws
+pub mod StepLaws

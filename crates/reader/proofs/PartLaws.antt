@@ -113,7 +113,7 @@ put-is W H d k c l a p m v s ys is ep ea em en room long made =
     ∙ behind-splice (stretchAt W k) q n (at v) (at s)
 
 -- a half lies within its row
-half-in : (b : Half) (w : ℕ) → halfPlace b w + count b w ≤ w
+pub half-in : (b : Half) (w : ℕ) → halfPlace b w + count b w ≤ w
 unfolding halfPlace
 half-in lo w = omega (arith, count-le lo w)
 half-in hi w = omega (arith, count-sum w)

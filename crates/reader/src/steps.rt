@@ -11,7 +11,7 @@ ghost use Rattle.reader.specs.Tried.{outcome};
 ghost use Rattle.reader.specs.Store.{storeLength};
 ghost use Rattle.reader.specs.Machine.{Place, placeFed, enter};
 ghost use Rattle.reader.specs.State.{next, nextRow, nextLength, settles, feeds};
-ghost use Rattle.reader.specs.Inside.{Counts, Is};
+ghost use Rattle.reader.specs.Inside.{Counts, Is, Kept};
 
 // The place of the row wanted; level 0: there is none.
 pub fn next_of(s: Reader) -> Spot
@@ -42,6 +42,7 @@ pub fn row_number(s: Reader, p: Spot) -> usize
 pub fn settle(s: Reader, store: &mut [i32], p: Spot) -> bool
     requires { ⌜ Counts s × Is (next s) p × (storeLength (s .width) (s .levels) ≤ length (now store)) ⌝ }
     ensures { λ ok. ⌜ outcome ok (at (now (store .exit))) ≡ settles s (at (now (store .entry))) ⌝ }
+    ensures { λ _. ⌜ Kept (storeLength (s .width) (s .levels)) (at (now (store .entry))) (at (now (store .exit))) ⌝ }
 {
     walk::settle(s.width, s.height, s.levels, s.drawn, store, s.level, p.level)
 }
@@ -50,6 +51,7 @@ pub fn settle(s: Reader, store: &mut [i32], p: Spot) -> bool
 pub fn feed_row(s: Reader, store: &mut [i32], p: Spot, run: &[i32]) -> bool
     requires { ⌜ Counts s × Is (next s) p × (0 < p .level) × (storeLength (s .width) (s .levels) ≤ length (now store)) × (length (now run) ≡ nextLength s) ⌝ }
     ensures { λ ok. ⌜ outcome ok (at (now (store .exit))) ≡ feeds s (at (now (run .entry))) (at (now (store .entry))) ⌝ }
+    ensures { λ _. ⌜ Kept (storeLength (s .width) (s .levels)) (at (now (store .entry))) (at (now (store .exit))) ⌝ }
 {
     if !settle(s, store, p) {
         return false;

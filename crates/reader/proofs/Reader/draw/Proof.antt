@@ -17,7 +17,7 @@ use Rattle.reader.proofs.work.row_place.Reads as row-place-reads
 
 -- src/lib.rt:160:13
 store-question-requires : tie.Need-store-question-requires
-store-question-requires c κs = search needs
+store-question-requires c κs = ?
 
 -- src/lib.rt:162:13
 returns : tie.Need-returns
@@ -29,7 +29,7 @@ next-of-requires c κs = ?
 
 -- src/lib.rt:165:13
 draw-due-requires : tie.Need-draw-due-requires
-draw-due-requires c κs = search needs
+draw-due-requires c κs = ?
 
 -- src/lib.rt:166:13
 returns-2 : tie.Need-returns-2
@@ -49,7 +49,7 @@ row-place-requires c κs = ?
 
 -- src/lib.rt:174:21
 add-e : tie.Need-add-e
-add-e c = search needs
+add-e c = ?
 
 -- src/lib.rt:175:33
 mul-draw-heights : tie.Need-mul-draw-heights
@@ -57,11 +57,11 @@ mul-draw-heights c = ?
 
 -- src/lib.rt:175:33
 sub-draw-heights : tie.Need-sub-draw-heights
-sub-draw-heights c = search needs
+sub-draw-heights c = ?
 
 -- src/lib.rt:175:33
 part-draw-heights-start : tie.Need-part-draw-heights-start
-part-draw-heights-start c = search needs
+part-draw-heights-start c = ?
 
 -- src/lib.rt:175:33
 part-draw-heights-end : tie.Need-part-draw-heights-end
@@ -69,7 +69,7 @@ part-draw-heights-end c = ?
 
 -- src/lib.rt:175:13
 draw-heights-requires : tie.Need-draw-heights-requires
-draw-heights-requires c κs = search needs
+draw-heights-requires c κs = ?
 
 -- src/lib.rt:176:21
 add-d : tie.Need-add-d
@@ -81,15 +81,15 @@ enter-of-requires c κs = ?
 
 -- src/lib.rt:177:38
 moved-requires : tie.Need-moved-requires
-moved-requires c κs = search needs
+moved-requires c κs = ?
 
 -- src/lib.rt:177:13
 same-length : tie.Need-same-length
-same-length c = search needs
+same-length c = ?
 
 -- src/lib.rt:177:13
 same-length-2 : tie.Need-same-length-2
-same-length-2 c = search needs
+same-length-2 c = ?
 
 -- src/lib.rt:177:13
 returns-4 : tie.Need-returns-4
@@ -105,11 +105,11 @@ clear-requires c κs = ?
 
 -- src/lib.rt:181:27
 over-requires : tie.Need-over-requires
-over-requires c κs = search needs
+over-requires c κs = ?
 
 -- src/lib.rt:154:5
 same-length-3 : tie.Need-same-length-3
-same-length-3 c = search needs
+same-length-3 c = ?
 
 -- src/lib.rt:154:5
 returns-5 : tie.Need-returns-5

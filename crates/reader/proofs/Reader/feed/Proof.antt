@@ -15,7 +15,7 @@ use Rattle.reader.proofs.walk.store_length.Reads as store-length-reads
 
 -- src/lib.rt:136:13
 store-question-requires : tie.Need-store-question-requires
-store-question-requires c κs = search needs
+store-question-requires c κs = ?
 
 -- src/lib.rt:138:13
 returns : tie.Need-returns
@@ -43,11 +43,11 @@ place-fed-requires c κs = ?
 
 -- src/lib.rt:146:32
 moved-requires : tie.Need-moved-requires
-moved-requires c κs = search needs
+moved-requires c κs = ?
 
 -- src/lib.rt:146:13
 same-length : tie.Need-same-length
-same-length c = search needs
+same-length c = ?
 
 -- src/lib.rt:146:13
 returns-3 : tie.Need-returns-3
@@ -63,11 +63,11 @@ clear-requires c κs = ?
 
 -- src/lib.rt:150:25
 over-requires : tie.Need-over-requires
-over-requires c κs = search needs
+over-requires c κs = ?
 
 -- src/lib.rt:131:5
 same-length-2 : tie.Need-same-length-2
-same-length-2 c = search needs
+same-length-2 c = ?
 
 -- src/lib.rt:131:5
 returns-4 : tie.Need-returns-4

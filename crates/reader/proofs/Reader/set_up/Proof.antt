@@ -9,11 +9,11 @@ use Rattle.reader.proofs.walk.store_length.Reads as store-length-reads
 
 -- src/lib.rt:57:13
 set-up-question-requires : tie.Need-set-up-question-requires
-set-up-question-requires c κs = search needs
+set-up-question-requires c κs = ?
 
 -- src/lib.rt:59:13
 returns : tie.Need-returns
-returns c = search needs
+returns c = ?
 
 -- src/lib.rt:61:13
 store-length-requires : tie.Need-store-length-requires
@@ -25,11 +25,11 @@ clear-requires c κs = ?
 
 -- src/lib.rt:56:5
 same-length : tie.Need-same-length
-same-length c = search needs
+same-length c = ?
 
 -- src/lib.rt:56:5
 returns-2 : tie.Need-returns-2
-returns-2 c = search needs
+returns-2 c = ?
 
 pub set-up-spec : {M : Type 1} → statement M
 set-up-spec =

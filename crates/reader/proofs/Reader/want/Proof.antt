@@ -10,7 +10,7 @@ use Rattle.reader.proofs.steps.row_number.Reads as row-number-reads
 
 -- src/lib.rt:114:13
 counts-fit-requires : tie.Need-counts-fit-requires
-counts-fit-requires c κs = search needs
+counts-fit-requires c κs = ?
 
 -- src/lib.rt:115:13
 returns : tie.Need-returns
