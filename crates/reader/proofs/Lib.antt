@@ -12,3 +12,4 @@ pub mod PartLaws
 pub mod KeptLaws
 pub mod QuestionLaws
 pub mod StepLaws
+pub mod CallLaws
