@@ -145,7 +145,7 @@ draw-heights-requires c κs =
 
 add-d : tie.Need-add-d
 add-d c =
-    let call = c .before .before .before .before .before .before .before .before .before in
+    let call = c .before .before .before .before .before .before .before .before .before .before in
     let fits = call .before .before in
     let due = fits .before in
     let next = due .before .before in
@@ -159,7 +159,7 @@ add-d c =
 
 enter-of-requires : tie.Need-enter-of-requires
 enter-of-requires c κs =
-    let call = c .before .before .before .before .before .before .before .before .before in
+    let call = c .before .before .before .before .before .before .before .before .before .before in
     let fits = call .before .before in
     let due = fits .before in
     let next = due .before .before in
@@ -176,13 +176,40 @@ moved-requires : tie.Need-moved-requires
 moved-requires c κs = tt
 
 same-length : tie.Need-same-length
-same-length c = ?
+same-length c = c .before .before .before .before .before .before .before .before .before .before .before .before .settle .kept .1 .0
 
 same-length-2 : tie.Need-same-length-2
-same-length-2 c = ?
+same-length-2 c = c .before .before .before .before .before .draw-heights .kept .1 .0
 
 returns-4 : tie.Need-returns-4
-returns-4 c = ?
+returns-4 c =
+    let call = c .before .before .before .before .before .before .before .before .before .before .before .before in
+    let fits = call .before .before in
+    let due = fits .before in
+    let next = due .before .before in
+    let ok = next .before in
+    let start = ok .before .before .before in
+    let a = start .args in
+    let s = a .self in
+    let enter = c .before in
+    let drawing = c .before .before .before .before .before in
+    let place = drawing .before .before .before .before in
+    let settled = place .before in
+    let one = store-in s _ (sym (ok .before .store-question .ensures) ∙ ok .if1 .left) in
+    let n = length (a .store .now) in
+    let m = length (a .out .now) in
+    let p = place .row-place .result in
+    let y = call .settle .last .1 .0 in
+    let w = s .width in
+    let room = first-room w (s .levels) (one .0 .deep .0) in
+    let made = told-yes (call .settle .result) (at y) _ (call .settle .ensures .0) (settled .if4 .taken) in
+    let is-due = sym (due .before .draw-due .ensures) ∙ not-false _ (due .if2 .left) in
+    draw-yes s _ _ _ _ _ _
+    (fits-yes _ _ made ∙ draw-last s n m (at (a .store .now)) (sym (ok .before .store-question .ensures) ∙ ok .if1 .left) is-due (omega arith))
+    is-due
+    (drawn-reader s (c .moved .result) _ (enter .enter-of .result) refl (enter .enter-of .ensures) (c .moved .ensures))
+    made
+    (drawn-row w (s .drawn) p (p + w - p) y _ _ (place .row-place .ensures .0) (omega arith) (omega (arith, place .row-place .ensures .1, one .1, room, call .settle .kept .1 .0)) (drawing .draw-heights .ensures))
 
 store-length-requires : tie.Need-store-length-requires
 store-length-requires c κs =
@@ -214,10 +241,28 @@ over-requires : tie.Need-over-requires
 over-requires c κs = tt
 
 same-length-3 : tie.Need-same-length-3
-same-length-3 c = ?
+same-length-3 c = c .before .before .clear .kept .0 ∙ c .before .before .before .before .before .before .before .settle .kept .1 .0
 
 returns-5 : tie.Need-returns-5
-returns-5 c = ?
+returns-5 c =
+    let call = c .before .before .before .before .before .before .before in
+    let fits = call .before .before in
+    let due = fits .before in
+    let next = due .before .before in
+    let ok = next .before in
+    let start = ok .before .before .before in
+    let a = start .args in
+    let s = a .self in
+    let clear = c .before .before in
+    let long = clear .before .before in
+    let failed = long .before in
+    let n = length (a .store .now) in
+    let m = length (a .out .now) in
+    let made = told-no (call .settle .result) (at (call .settle .last .1 .0)) _ (call .settle .ensures .0) (failed .if4 .left) in
+    draw-end s _ _ _ _ _
+    (fits-no _ made ∙ draw-last s n m (at (a .store .now)) (sym (ok .before .store-question .ensures) ∙ ok .if1 .left) (sym (due .before .draw-due .ensures) ∙ not-false _ (due .if2 .left)) (omega arith))
+    (c .over .ensures)
+    (zero-kept (s .width) (s .levels) _ _ _ _ (long .store-length .ensures) (call .settle .ensures .1) (clear .clear .ensures))
 
 pub draw-spec : {M : Type 1} → statement M
 draw-spec =

@@ -35,10 +35,13 @@ put-row-requires c κs =
     let s = start .args .s in
     let near = spot-in _ _ (start .pre .1) (omega arith) in
     let counts = start .pre .0 in
-    let call = c .before .before .before .before in
-    (counts-shape s counts, omega (arith, near .0, counts .at, counts .deep .1), near .1,
+    let call = c .before .before .before .before in (
+      counts-shape s counts,
+      omega (arith, near .0, counts .at, counts .deep .1),
+      near .1,
       omega (arith, stretch-in (s .width) (start .args .p .level - 1 + 1) (s .levels) (omega (arith, near .0, counts .at)), call .settle .kept .1 .0),
-      start .pre .4 ∙ length-back s (start .args .p) (start .pre .1))
+      start .pre .4 ∙ length-back s (start .args .p) (start .pre .1),
+    )
 
 finish-requires : tie.Need-finish-requires
 finish-requires c κs =
@@ -60,9 +63,10 @@ returns-2 c =
     let call = on .before .before in
     let start = call .before .before in
     let s = start .args .s in
-    let near = spot-in _ _ (start .pre .1) (omega arith) in
-    (done .finish .ensures .0 ∙ ap (λ y. finished (s .width) (s .height) (s .levels) (s .drawn) (start .args .p .level - 1) (start .args .p .band) y) (put .put-row .ensures) ∙ feed-on s (start .args .p) (start .pre .1) _ _ _ (omega arith) (told-yes (call .settle .result) (at (call .settle .last .1 .0)) _ (call .settle .ensures .0) (not-false _ (on .if1 .left))),
-      kept-both _ _ _ _ (kept-both _ _ _ _ (call .settle .ensures .1) (kept-is _ _ _ _ (kept-more _ _ _ _ (stretch-in (s .width) (start .args .p .level - 1 + 1) (s .levels) (omega (arith, near .0, start .pre .0 .at))) (fed-kept (s .width) (s .height) (s .drawn) (start .args .p .level - 1) (start .args .p .band) _ _)) (put .put-row .ensures))) (done .finish .ensures .1))
+    let near = spot-in _ _ (start .pre .1) (omega arith) in (
+      done .finish .ensures .0 ∙ ap (λ y. finished (s .width) (s .height) (s .levels) (s .drawn) (start .args .p .level - 1) (start .args .p .band) y) (put .put-row .ensures) ∙ feed-on s (start .args .p) (start .pre .1) _ _ _ (omega arith) (told-yes (call .settle .result) (at (call .settle .last .1 .0)) _ (call .settle .ensures .0) (not-false _ (on .if1 .left))),
+      kept-both _ _ _ _ (kept-both _ _ _ _ (call .settle .ensures .1) (kept-is _ _ _ _ (kept-more _ _ _ _ (stretch-in (s .width) (start .args .p .level - 1 + 1) (s .levels) (omega (arith, near .0, start .pre .0 .at))) (fed-kept (s .width) (s .height) (s .drawn) (start .args .p .level - 1) (start .args .p .band) _ _)) (put .put-row .ensures))) (done .finish .ensures .1),
+    )
 
 pub feed-row-spec : {M : Type 1} → statement M
 feed-row-spec =

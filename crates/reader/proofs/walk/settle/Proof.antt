@@ -50,9 +50,15 @@ loop-again c =
     let call = c .before .before in
     let test = call .before .before in
     let l = test .before .loop in
-    let inv = l .inv in
-    (inv .0, inv .1, omega arith, inv .3, call .work-at .kept .1 .1 .1 .1 .0 ∙ inv .4,
-      settle-on _ _ _ _ _ (l .k) (at (l .store)) _ (test .loop-test .taken) (told-yes (call .work-at .result) (at (call .work-at .last .1 .1 .1 .1 .0)) _ (call .work-at .ensures .0) (not-false _ (c .if1 .left))) ∙ inv .5, kept-both _ _ _ _ (inv .6) (call .work-at .ensures .1))
+    let inv = l .inv in (
+      inv .0,
+      inv .1,
+      omega arith,
+      inv .3,
+      call .work-at .kept .1 .1 .1 .1 .0 ∙ inv .4,
+      settle-on _ _ _ _ _ (l .k) (at (l .store)) _ (test .loop-test .taken) (told-yes (call .work-at .result) (at (call .work-at .last .1 .1 .1 .1 .0)) _ (call .work-at .ensures .0) (not-false _ (c .if1 .left))) ∙ inv .5,
+      kept-both _ _ _ _ (inv .6) (call .work-at .ensures .1),
+    )
 
 same-length-2 : tie.Need-same-length-2 Inv-loop μ-loop
 same-length-2 c = c .before .loop .inv .4

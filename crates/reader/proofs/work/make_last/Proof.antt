@@ -36,8 +36,7 @@ returns-2 : tie.Need-returns-2
 returns-2 c =
     let undo = c .before .before .before in
     let even = undo .before .before in
-    let a = even .before .args in
-    (
+    let a = even .before .args in (
       last-made (a .k) (a .w) (a .h) (a .n) _ _ _ (even .if1 .left) (undo .undo-odd .ensures) (c .admit-row .ensures),
       kept-is _ _ _ _ (odd-kept (a .w) (a .h) (a .n) _) (undo .undo-odd .ensures),
     )

@@ -34,8 +34,7 @@ returns-2 : tie.Need-returns-2
 returns-2 c =
     let undo = c .before .before .before in
     let some = undo .before .before in
-    let a = some .before .args in
-    (
+    let a = some .before .args in (
       odd-made (a .k) (a .w) (a .h) (a .n) _ _ _ (some .if1 .left) (undo .undo-odd .ensures) (c .admit-row .ensures),
       kept-is _ _ _ _ (odd-kept (a .w) (a .h) (a .n - 1) _) (undo .undo-odd .ensures),
     )

@@ -48,10 +48,11 @@ returns-3 c =
     let two = on .before .before in
     let went = two .before .before in
     let one = went .before .before in
-    let a = one .before .before .args in
-    (three .make-last .ensures .0
-    ∙ made-3 (a .k) (a .w) (a .h) (a .n) _ _ (told-yes (one .make-even .result) (at (one .make-even .last .0)) _ (one .make-even .ensures .0) (not-false _ (went .if1 .left))) _ (told-yes (two .make-odd .result) (at (two .make-odd .last .0)) _ (two .make-odd .ensures .0) (not-false _ (on .if2 .left))),
-      kept-both _ _ _ _ (kept-both _ _ _ _ (one .make-even .ensures .1) (two .make-odd .ensures .1)) (three .make-last .ensures .1))
+    let a = one .before .before .args in (
+      three .make-last .ensures .0
+          ∙ made-3 (a .k) (a .w) (a .h) (a .n) _ _ (told-yes (one .make-even .result) (at (one .make-even .last .0)) _ (one .make-even .ensures .0) (not-false _ (went .if1 .left))) _ (told-yes (two .make-odd .result) (at (two .make-odd .last .0)) _ (two .make-odd .ensures .0) (not-false _ (on .if2 .left))),
+      kept-both _ _ _ _ (kept-both _ _ _ _ (one .make-even .ensures .1) (two .make-odd .ensures .1)) (three .make-last .ensures .1),
+    )
 
 pub make-set-spec : {M : Type 1} → statement M
 make-set-spec =

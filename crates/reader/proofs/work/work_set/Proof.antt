@@ -36,8 +36,7 @@ returns-2 : tie.Need-returns-2
 returns-2 c =
     let take = c .before .before .before .before in
     let more = take .before .before in
-    let a = more .before .args in
-    (
+    let a = more .before .args in (
       c .before .make-set2 .ensures .0 ∙ worked-on (a .k) (a .w) (a .h) (a .n) _ (a .last) _ (more .if1 .left) (take .take-low-row .ensures),
       kept-both _ _ _ _ (kept-is _ _ _ _ (low-kept (a .w) _ (a .n)) (take .take-low-row .ensures)) (c .before .make-set2 .ensures .1),
     )
