@@ -4,3 +4,5 @@ pub mod Levels
 pub mod Plane
 pub mod View
 pub mod Maps
+pub mod Questions
+pub mod Store
