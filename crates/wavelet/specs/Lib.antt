@@ -6,3 +6,5 @@ pub mod View
 pub mod Maps
 pub mod Questions
 pub mod Store
+pub mod ViewCall
+pub mod Span
