@@ -14,13 +14,13 @@ use lib.IntN.{ℤ}
 use mir.Syntax.{w32}
 use mir.Val.{SFits}
 use borrow.Author.Tests.{lt-ltb, le-ltb}
-use Rattle.numbers.specs.Word.{wrap32, whole}
+use Rattle.numbers.specs.Word.{wrap32}
 use Rattle.lifting.specs.Line.{Half, lo, hi, count, lineForward, lineBack}
-use Rattle.lifting.proofs.FiveThree.{Keeping, words, wholes, forward-good, back-good, line-back-forward, line-forward-back}
+use Rattle.lifting.proofs.FiveThree.{Keeping, words, forward-good, back-good, line-back-forward, line-forward-back}
 use Rattle.lifting.proofs.LineTheorems.{forward-reads, forward-inner, back-reads}
 use Rattle.wavelet.specs.Bands.{Grid, Band, LL, HL, LH, HH, across, down, bandOf, columnsLifted, subband, rowsUnlifted, levelBack}
 use Rattle.wavelet.specs.Plane.{halfAt, placeIn, planeCell, levelAt, mapBack}
-use Rattle.wavelet.proofs.SizeLaws.{count-lo, count-hi}
+use Rattle.wavelet.proofs.SizeLaws.{count-lo, count-hi, count-le}
 
 -- ---- bands are pairs of halves
 pub band-of : (b : Band) → bandOf (across b) (down b) ≡ b
@@ -163,16 +163,6 @@ unfolding placed
 placed-in lo N n p = omega (arith, count-lo N)
 placed-in hi N n p = omega (arith, count-lo N, count-hi N)
 
-pub half-placed : (h : Half) (N n : ℕ) → n < count h N → halfAt N (placed h N n) ≡ h
-unfolding placed halfAt
-half-placed lo N n p = simp (lt-ltb n (count lo N) p)
-half-placed hi N n p = simp (le-ltb (count lo N + n) (count lo N) (omega arith))
-
-pub place-placed : (h : Half) (N n : ℕ) → n < count h N → placeIn N (placed h N n) ≡ n
-unfolding placed placeIn
-place-placed lo N n p = simp (lt-ltb n (count lo N) p)
-place-placed hi N n p = simp (le-ltb (count lo N + n) (count lo N) (omega arith)) (omega arith)
-
 -- every place of a side is the place of a number of a half
 pub by-half : (N : ℕ) (P : ℕ → Type 0) → ((h : Half) (n : ℕ) → n < count h N → P (placed h N n)) → (i : ℕ) → i < N → P i
 unfolding placed
@@ -231,3 +221,170 @@ level-at L W H LL r c p q = simp (lt-ltb r (count lo H) p, lt-ltb c (count lo W)
 level-at L W H HL r c p q = simp (lt-ltb r (count lo H) p, le-ltb (count lo W + c) (count lo W) (omega arith))
 level-at L W H LH r c p q = simp (le-ltb (count lo H + r) (count lo H) (omega arith))
 level-at L W H HH r c p q = simp (le-ltb (count lo H + r) (count lo H) (omega arith))
+
+-- ---- what holds of a plane holds of its corner and of its bands
+pub corner : (P : ℤ → Type 0) (W H : ℕ) (x : Grid) → OnCells P W H x → OnCells P (count lo W) (count lo H) x
+corner P W H x f r c p q = f r c (omega (arith, count-le lo H)) (omega (arith, count-le lo W))
+
+pub in-bands : (P : ℤ → Type 0) (W H : ℕ) (x : Grid) → OnCells P W H x → OnBands P W H (bandIn W H x)
+unfolding bandIn
+in-bands P W H x f b r c p q = f (placed (down b) H r) (placed (across b) W c) (placed-in (down b) H r p) (placed-in (across b) W c q)
+
+pub over-all : (P : ℤ → Type 0) (W H : ℕ) (g : Grid) (p : Band → Grid) → OnCells P (count lo W) (count lo H) g → OnBands P W H p → OnBands P W H (over g p)
+unfolding over across down
+over-all P W H g p f f′ LL = f
+over-all P W H g p f f′ HL = f′ HL
+over-all P W H g p f f′ LH = f′ LH
+over-all P W H g p f f′ HH = f′ HH
+
+pub same-corner : (W H : ℕ) (x y : Grid) → Same W H x y → Same (count lo W) (count lo H) x y
+same-corner W H x y e r c p q = e r c (omega (arith, count-le lo H)) (omega (arith, count-le lo W))
+
+pub same-in-bands : (W H : ℕ) (x y : Grid) → Same W H x y → SameBands W H (bandIn W H x) (bandIn W H y)
+unfolding bandIn
+same-in-bands W H x y e b r c p q = e (placed (down b) H r) (placed (across b) W c) (placed-in (down b) H r p) (placed-in (across b) W c q)
+
+pub over-same : (W H : ℕ) (g g′ : Grid) (p q : Band → Grid) → Same (count lo W) (count lo H) g g′ → SameBands W H p q → SameBands W H (over g p) (over g′ q)
+unfolding over across down
+over-same W H g g′ p q e e′ LL = e
+over-same W H g g′ p q e e′ HL = e′ HL
+over-same W H g g′ p q e e′ LH = e′ LH
+over-same W H g g′ p q e e′ HH = e′ HH
+
+-- the bands p with their own low-low band, another put aside
+over-twice : (g : Grid) (p : Band → Grid) (b : Band) → over (p LL) (over g p) b ≡ p b
+unfolding over
+over-twice g p LL = refl
+over-twice g p HL = refl
+over-twice g p LH = refl
+over-twice g p HH = refl
+
+over-band : (W H : ℕ) (x g : Grid) (b : Band) → over x (over g (bandIn W H x)) b ≡ bandIn W H x b
+unfolding bandIn placed across down
+over-band W H x g = over-twice g (bandIn W H x)
+
+-- what holds of the bands holds of the low-low one
+pub low-all : (P : ℤ → Type 0) (W H : ℕ) (p : Band → Grid) → OnBands P W H p → OnCells P (count lo W) (count lo H) (p LL)
+unfolding across down
+low-all P W H p f = f LL
+
+pub same-low : (W H : ℕ) (p q : Band → Grid) → SameBands W H p q → Same (count lo W) (count lo H) (p LL) (q LL)
+unfolding across down
+same-low W H p q e = e LL
+
+-- planes are the same where their bands are
+pub same-bands : (W H : ℕ) (x y : Grid) → SameBands W H (bandIn W H x) (bandIn W H y) → Same W H x y
+unfolding bandIn
+same-bands W H x y = by-band W H (λ r c. x r c ≡ y r c)
+
+pub plane-corner : (keep : ℤ → ℤ) (L W H : ℕ) (g : Grid) → Same (count lo W) (count lo H) (planeCell keep (suc L) W H g) (planeCell keep L (count lo W) (count lo H) (subband keep W H g LL))
+unfolding bandIn over placed across down
+plane-corner keep L W H g = plane-at keep L W H g LL
+
+-- ---- what all levels read: the cells that are there
+pub plane-reads : (keep : ℤ → ℤ) (L W H : ℕ) (g g′ : Grid) → Same W H g g′ → Same W H (planeCell keep L W H g) (planeCell keep L W H g′)
+unfolding planeCell
+plane-reads keep zero W H g g′ e = e
+plane-reads keep (suc L) W H g g′ e =
+    let one = subband-same keep W H g g′ e in
+    let rest = plane-reads keep L (count lo W) (count lo H) _ _ (same-low W H _ _ one) in
+    let both = over-same W H _ _ _ _ rest one in
+    same-bands W H _ _ (λ b r c p q. plane-at keep L W H g b r c p q ∙ both b r c p q ∙ sym (plane-at keep L W H g′ b r c p q))
+
+pub map-back-reads : (keep : ℤ → ℤ) (L W H : ℕ) (x y : Grid) → Same W H x y → Same W H (mapBack keep L W H x) (mapBack keep L W H y)
+unfolding mapBack
+map-back-reads keep zero W H x y e = e
+map-back-reads keep (suc L) W H x y e =
+    let rest = map-back-reads keep L (count lo W) (count lo H) x y (same-corner W H x y e) in
+    λ r c p q.
+    ap (λ (g : Grid). g r c) (map-back-at keep L W H x)
+    ∙ level-back-reads keep W H _ _ (over-same W H _ _ _ _ rest (same-in-bands W H x y e)) r c p q
+    ∙ ap (λ (g : Grid). g r c) (sym (map-back-at keep L W H y))
+
+-- ---- all levels and their way back
+module _ {keep : ℤ → ℤ} (K : Keeping keep) where
+  open Keeping K using (Good)
+
+  pub plane-good : (L W H : ℕ) (g : Grid) → OnCells Good W H g → OnCells Good W H (planeCell keep L W H g)
+  unfolding planeCell bandIn
+  plane-good zero W H g good = good
+  plane-good (suc L) W H g good =
+      let one = subband-good K W H g good in
+      let rest = plane-good L (count lo W) (count lo H) _ (low-all Good W H _ one) in
+      by-band W H (λ r c. Good (planeCell keep (suc L) W H g r c))
+      (λ b r c p q. rw (plane-at keep L W H g b r c p q) (over-all Good W H _ _ rest one b r c p q))
+
+  pub map-back-good : (L W H : ℕ) (x : Grid) → OnCells Good W H x → OnCells Good W H (mapBack keep L W H x)
+  unfolding mapBack
+  map-back-good zero W H x good = good
+  map-back-good (suc L) W H x good =
+      let rest = map-back-good L (count lo W) (count lo H) x (corner Good W H x good) in
+      rw (map-back-at keep L W H x) (level-back-good K W H _ (over-all Good W H _ _ rest (in-bands Good W H x good)))
+
+  pub map-back-plane : (L W H : ℕ) (g : Grid) → OnCells Good W H g → Same W H (mapBack keep L W H (planeCell keep L W H g)) g
+  unfolding mapBack planeCell
+  map-back-plane zero W H g good = λ r c p q. refl
+  map-back-plane (suc L) W H g good =
+      let x = planeCell keep (suc L) W H g in
+      let ll = subband keep W H g LL in
+      let ih = map-back-plane L (count lo W) (count lo H) ll (low-all Good W H (subband keep W H g) (subband-good K W H g good)) in
+      let low : Same (count lo W) (count lo H) (mapBack keep L (count lo W) (count lo H) x) ll =
+      λ r c p q. map-back-reads keep L (count lo W) (count lo H) x (planeCell keep L (count lo W) (count lo H) ll) (plane-corner keep L W H g) r c p q ∙ ih r c p q in
+      let bands : SameBands W H (over (mapBack keep L (count lo W) (count lo H) x) (bandIn W H x)) (subband keep W H g) =
+      λ b r c p q.
+      over-same W H _ _ _ _ low (plane-at keep L W H g) b r c p q
+      ∙ ap (λ (f : Grid). f r c) (over-twice _ (subband keep W H g) b) in
+      λ r c p q.
+      ap (λ (f : Grid). f r c) (map-back-at keep L W H x)
+      ∙ level-back-reads keep W H _ _ bands r c p q
+      ∙ level-back-forward K W H g good r c p q
+
+  -- the bands of the grid that a plane gives: those that stand in it
+  pub bands-map-back : (L W H : ℕ) (x : Grid) → OnCells Good W H x → SameBands W H (subband keep W H (mapBack keep (suc L) W H x)) (over (mapBack keep L (count lo W) (count lo H) x) (bandIn W H x))
+  bands-map-back L W H x good =
+      let rest = map-back-good L (count lo W) (count lo H) x (corner Good W H x good) in
+      rw (map-back-at keep L W H x) (level-forward-back K W H _ (over-all Good W H _ _ rest (in-bands Good W H x good)))
+
+  pub low-map-back : (L W H : ℕ) (x : Grid) → OnCells Good W H x → Same (count lo W) (count lo H) (subband keep W H (mapBack keep (suc L) W H x) LL) (mapBack keep L (count lo W) (count lo H) x)
+  unfolding over
+  low-map-back L W H x good = same-low W H (subband keep W H (mapBack keep (suc L) W H x)) _ (bands-map-back L W H x good)
+
+  pub plane-map-back : (L W H : ℕ) (x : Grid) → OnCells Good W H x → Same W H (planeCell keep L W H (mapBack keep L W H x)) x
+  unfolding mapBack planeCell
+  plane-map-back zero W H x good = λ r c p q. refl
+  plane-map-back (suc L) W H x good =
+      let m = mapBack keep (suc L) W H x in
+      let one = bands-map-back L W H x good in
+      let ih = plane-map-back L (count lo W) (count lo H) x (corner Good W H x good) in
+      let low : Same (count lo W) (count lo H) (planeCell keep L (count lo W) (count lo H) (subband keep W H m LL)) x =
+      λ r c p q.
+      plane-reads keep L (count lo W) (count lo H) (subband keep W H m LL) (mapBack keep L (count lo W) (count lo H) x) (low-map-back L W H x good) r c p q
+      ∙ ih r c p q in
+      same-bands W H (planeCell keep (suc L) W H m) x
+      (λ b r c p q.
+      plane-at keep L W H m b r c p q
+      ∙ over-same W H _ _ _ _ low one b r c p q
+      ∙ ap (λ (f : Grid). f r c) (over-band W H x (mapBack keep L (count lo W) (count lo H) x) b))
+
+  -- so grids with the same plane are the same
+  pub plane-unique : (L W H : ℕ) (g g′ : Grid) → OnCells Good W H g → OnCells Good W H g′ → Same W H (planeCell keep L W H g) (planeCell keep L W H g′) → Same W H g g′
+  plane-unique L W H g g′ good good′ e r c p q =
+      sym (map-back-plane L W H g good r c p q)
+      ∙ map-back-reads keep L W H _ _ e r c p q
+      ∙ map-back-plane L W H g′ good′ r c p q
+
+-- ---- the same for words: the transform and its way back are inverse to each other, for every grid and every plane of 32-bit numbers
+pub plane-fits : (L W H : ℕ) (g : Grid) → OnCells (SFits w32) W H g → OnCells (SFits w32) W H (planeCell wrap32 L W H g)
+plane-fits = plane-good words
+
+pub map-back-fits : (L W H : ℕ) (x : Grid) → OnCells (SFits w32) W H x → OnCells (SFits w32) W H (mapBack wrap32 L W H x)
+map-back-fits = map-back-good words
+
+pub words-map-back-plane : (L W H : ℕ) (g : Grid) → OnCells (SFits w32) W H g → (r c : ℕ) → r < H → c < W → mapBack wrap32 L W H (planeCell wrap32 L W H g) r c ≡ g r c
+words-map-back-plane = map-back-plane words
+
+pub words-plane-map-back : (L W H : ℕ) (x : Grid) → OnCells (SFits w32) W H x → (r c : ℕ) → r < H → c < W → planeCell wrap32 L W H (mapBack wrap32 L W H x) r c ≡ x r c
+words-plane-map-back = plane-map-back words
+
+pub words-plane-unique : (L W H : ℕ) (g g′ : Grid) → OnCells (SFits w32) W H g → OnCells (SFits w32) W H g′ → Same W H (planeCell wrap32 L W H g) (planeCell wrap32 L W H g′) → Same W H g g′
+words-plane-unique = plane-unique words
