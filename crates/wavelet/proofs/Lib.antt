@@ -1,3 +1,4 @@
 pub mod SizeLaws
 pub mod GridLaws
 pub mod LevelTheory
+pub mod Bridge
