@@ -147,7 +147,7 @@ pub range-small : (k : ℕ) → k ≤ 5 → range k < 2 ^ 31
 unfolding range maxSample
 range-small k h = let a = range-le k 5 h in omega arith
 
-map-height : (v : ℤ) → pos 0 ≤ℤ v → v ≤ℤ pos 65535 → natAbs v ≤ 65535
+pub map-height : (v : ℤ) → pos 0 ≤ℤ v → v ≤ℤ pos 65535 → natAbs v ≤ 65535
 map-height = each _ λ p q. simp lin (omega arith)
 
 pub map-within : (W H : ℕ) (g : Grid) → IsMap W H g → OnCells (Within maxSample) W H g

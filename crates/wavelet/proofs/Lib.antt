@@ -2,3 +2,4 @@ pub mod SizeLaws
 pub mod GridLaws
 pub mod LevelTheory
 pub mod Bridge
+pub mod MapTheorems
