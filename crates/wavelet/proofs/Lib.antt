@@ -3,3 +3,4 @@ pub mod GridLaws
 pub mod LevelTheory
 pub mod Bridge
 pub mod MapTheorems
+pub mod LevelReads
