@@ -1,4 +1,9 @@
 pub mod Fits
+pub mod Filter
+pub mod FiveThree
+pub mod LineTheorems
 pub mod LineLaws
 pub mod PassLaws
 pub mod AreaLaws
+pub mod RowLaws
+pub mod RowSweep
