@@ -14,7 +14,7 @@ use Rattle.numbers.proofs.Parts.{window-in, splice-in, splice-past}
 use Rattle.lifting.specs.Line.{Half, lo, hi, count, unupdated, joined, backEven, lineForward, lineHalvesBack, lineBack}
 use Rattle.lifting.specs.Halves.{halvesOf, liftedInPlace, forwardInto, backwardInto}
 use Rattle.lifting.specs.Passes.{evensCopied, oddsCopied, evenBack, evensBack, oddBack, oddsBack}
-use Rattle.lifting.proofs.LineLaws.{counts, count-lo, count-hi, even-one, halves-low, halves-high, halves-are, front-are}
+use Rattle.lifting.proofs.LineLaws.{counts, count-lo, count-hi, even-short, halves-low, halves-high, halves-are, front-are}
 use Rattle.lifting.proofs.FiveThree.{even-near, odd-near, joined-place}
 use Rattle.lifting.proofs.LineTheorems.{forward-reads}
 
@@ -44,12 +44,12 @@ module _ (N : ℕ) (x z : ℕ → ℤ) where
   odds-past j h = let both = counts N in simp (le-ltb j (count lo N) (omega arith), le-ltb j N h)
 
   -- a turn of the second loop, whose places begin at low
-  pub odds-turn : (L low n : ℕ) (l : List ℤ) → low ≡ count lo N → n < count hi N → N ≤ L → Swept L (oddsCopied N x z) z (low + n) l → Swept L (oddsCopied N x z) z (low + (n + 1)) (set l (low + n) (x (2 * n + 1)))
-  odds-turn L low n l e h fit sw =
+  pub odds-turn : (L low n p : ℕ) (l : List ℤ) → low ≡ count lo N → n < count hi N → N ≤ L → p ≡ low + n → Swept L (oddsCopied N x z) z (low + n) l → Swept L (oddsCopied N x z) z (low + (n + 1)) (set l p (x (2 * n + 1)))
+  odds-turn L low n p l e h fit k sw =
       let both = counts N in
       let here : low + n ≡ count lo N + n = omega arith in
-      subst (λ (m : ℕ). Swept L (oddsCopied N x z) z m (set l (low + n) (x (2 * n + 1)))) (omega arith)
-      (store _ sw (omega arith) (cc (here, odds-high n h)))
+      let next : low + n + 1 ≡ low + (n + 1) = omega arith in
+      rw (k, ← next) (store _ sw (omega arith) (cc (here, odds-high n h)))
 
 -- the halves of a line copied into memory, and lifted there
 module _ (N : ℕ) (x z : ℕ → ℤ) where
@@ -104,7 +104,7 @@ module _ (N : ℕ) (y : ℕ → ℤ) (n : ℕ) where
 
   pub evenBack-one : N ≤ 1 → evenBack N y n ≡ y n
   unfolding evenBack lineHalvesBack halvesOf
-  evenBack-one g = even-one wrap32 N g (halvesOf N y lo) (halvesOf N y hi) n
+  evenBack-one g = even-short wrap32 N g (halvesOf N y lo) (halvesOf N y hi) n
 
 module _ (N : ℕ) (y z : ℕ → ℤ) where
   pub evensBack-even : (n : ℕ) → n < count lo N → evensBack N y z (2 * n) ≡ evenBack N y n

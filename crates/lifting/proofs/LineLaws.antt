@@ -39,13 +39,13 @@ joined-parted x i =
 
 -- a line of one number is its own low value
 module _ (keep : ℤ → ℤ) (N : ℕ) (g : N ≤ 1) where
-  pub low-one : (x : ℕ → ℤ) (n : ℕ) → low keep N x n ≡ x (2 * n)
+  pub low-short : (x : ℕ → ℤ) (n : ℕ) → low keep N x n ≡ x (2 * n)
   unfolding low
-  low-one x n = simp (le-ltb 1 N g)
+  low-short x n = simp (le-ltb 1 N g)
 
-  pub even-one : (s d : ℕ → ℤ) (n : ℕ) → backEven keep N s d n ≡ s n
+  pub even-short : (s d : ℕ → ℤ) (n : ℕ) → backEven keep N s d n ≡ s n
   unfolding backEven
-  even-one s d n = simp (le-ltb 1 N g)
+  even-short s d n = simp (le-ltb 1 N g)
 
 -- ---- memory
 module _ (N : ℕ) (p : Half → ℕ → ℤ) (z : ℕ → ℤ) where

@@ -12,7 +12,7 @@ use Rattle.numbers.proofs.Sweep.{Swept, start, store, left}
 use Rattle.lifting.specs.Line.{lo, hi, count, predicted, updated, unpredicted, unupdated, high, low, backEven, joined, lineForward, lineHalvesBack}
 use Rattle.lifting.specs.Halves.{halvesOf, liftedInPlace, unliftedInPlace}
 use Rattle.lifting.specs.Passes.{highsChanged, lowsChanged}
-use Rattle.lifting.proofs.LineLaws.{counts, count-lo, count-hi, low-one, even-one, halves-are}
+use Rattle.lifting.proofs.LineLaws.{counts, count-lo, count-hi, low-short, even-short, halves-are}
 use Rattle.lifting.proofs.FiveThree.{high-near, low-near, even-near, odd-near, joined-place}
 
 -- ---- the two passes in place, by any step f
@@ -103,10 +103,10 @@ module _ (N : ℕ) (y : ℕ → ℤ) where
   unfolding liftedInPlace lineForward halvesOf
   lifted-one g =
       let c = count-hi N in
-      halves-are N _ y y (λ n h. low-one wrap32 N g (joined (halvesOf N y)) n ∙ joined-place (halvesOf N y) lo n) (λ n h. absurd (omega arith)) (λ j h. refl)
+      halves-are N _ y y (λ n h. low-short wrap32 N g (joined (halvesOf N y)) n ∙ joined-place (halvesOf N y) lo n) (λ n h. absurd (omega arith)) (λ j h. refl)
 
   pub unlifted-one : N ≤ 1 → unliftedInPlace N y ≡ y
   unfolding unliftedInPlace lineHalvesBack halvesOf
   unlifted-one g =
       let c = count-hi N in
-      halves-are N _ y y (λ n h. even-one wrap32 N g (halvesOf N y lo) (halvesOf N y hi) n) (λ n h. absurd (omega arith)) (λ j h. refl)
+      halves-are N _ y y (λ n h. even-short wrap32 N g (halvesOf N y lo) (halvesOf N y hi) n) (λ n h. absurd (omega arith)) (λ j h. refl)
