@@ -1,7 +1,9 @@
 // The row that waits, and the draw of it.
 use crate::cascade;
 use crate::cascade::Wait;
+use crate::closing;
 use crate::counts;
+use crate::Writer;
 use wavelet::sizes;
 ghost use mathlib.Core.Path.{_≡_};
 ghost use Prim.Native.Nat.{ℕ, _<_, _≤_, _+_, _*_};
@@ -90,6 +92,36 @@ pub fn pull(
     );
     Wait {
         level: counts::deeper(r.level),
+        left: r.left,
+    }
+}
+
+// The writer after the draw of the row that waits: once finished and nothing waits, the levels close on.
+pub fn draw_on(s: Writer, store: &mut [i32]) -> Writer {
+    let r = pull(store, s.levels, s.width, s.closed, s.level, s.left, s.rows);
+    if s.finished {
+        if r.level == 0 {
+            let q = closing::shut(store, s.levels, s.width, s.closed, s.rows);
+            return Writer {
+                width: s.width,
+                levels: s.levels,
+                rows: s.rows,
+                column: s.column,
+                finished: s.finished,
+                closed: q.closed,
+                level: q.level,
+                left: q.left,
+            };
+        }
+    }
+    Writer {
+        width: s.width,
+        levels: s.levels,
+        rows: s.rows,
+        column: s.column,
+        finished: s.finished,
+        closed: s.closed,
+        level: r.level,
         left: r.left,
     }
 }
