@@ -1,69 +1,60 @@
+-- `copies::copy_row` meets its contract: a row call whose step takes the number of the other row. Assumes nothing.
+use Prim.Native.Nat.{_-_}
+use native.Mathlib.Omega.{arith}
+use Rattle.numbers.proofs.Words.{read-back}
+use Rattle.lifting.proofs.RowSweep.{Turned, row-start, row-turn, row-end}
+use Rattle.writer.specs.FiveThreeLevel.{first}
 use Rattle.writer.proofs.copies.copy_row.Statement.{statement}
 use Rattle.writer.proofs.copies.copy_row.Tie as tie
-use Rattle.writer.proofs.copies.copy_row.Reads as reads
-use Rattle.writer.proofs.copies.copy_row.Lts as lts
 
 abbrev Inv-loop : tie.InvT-loop
-Inv-loop store₀ w from to t f i₀ store i = ?
+Inv-loop store₀ w from to t f i₀ store i = Turned first w w to from from store₀ i store
 
 abbrev μ-loop : tie.MeasureT-loop
-μ-loop store₀ w from to t f i₀ store i = ?
+μ-loop store₀ w from to t f i₀ store i = w - i
 
--- src/copies.rt:41:13
 mul-t : tie.Need-mul-t Inv-loop μ-loop
-mul-t c = ?
+mul-t c = omega arith
 
--- src/copies.rt:42:13
 mul-f : tie.Need-mul-f Inv-loop μ-loop
-mul-f c = ?
+mul-f c = omega arith
 
--- src/copies.rt:44:5
 loop-holds : tie.Need-loop-holds Inv-loop μ-loop
-loop-holds c = ?
+loop-holds c =
+    row-start _ _ _ _ _ _ _ (record { one = record { wide = omega arith; room = omega arith }; two = record { wide = omega arith; room = omega arith }; three = record { wide = omega arith; room = omega arith } })
 
--- src/copies.rt:45:30
 add-store : tie.Need-add-store Inv-loop μ-loop
-add-store c = ?
+add-store c = omega arith
 
--- src/copies.rt:45:24
 mul-store : tie.Need-mul-store Inv-loop μ-loop
-mul-store c = ?
+mul-store c = omega (arith, c .before .loop .inv .swept .size)
 
--- src/copies.rt:45:24
 slice-copy-out-store : tie.Need-slice-copy-out-store Inv-loop μ-loop
-slice-copy-out-store c = ?
+slice-copy-out-store c = omega (arith, c .before .loop .inv .swept .size)
 
--- src/copies.rt:45:15
 add-t13 : tie.Need-add-t13 Inv-loop μ-loop
-add-t13 c = ?
+add-t13 c = omega arith
 
--- src/copies.rt:45:9
 mul-t14 : tie.Need-mul-t14 Inv-loop μ-loop
-mul-t14 c = ?
+mul-t14 c = omega arith
 
--- src/copies.rt:45:9
 slice-set-from-store : tie.Need-slice-set-from-store Inv-loop μ-loop
-slice-set-from-store c = ?
+slice-set-from-store c = omega (arith, c .before .before .loop .inv .swept .size)
 
--- src/copies.rt:46:9
 add-i : tie.Need-add-i Inv-loop μ-loop
-add-i c = ?
+add-i c = omega arith
 
--- src/copies.rt:44:5
 loop-less : tie.Need-loop-less Inv-loop μ-loop
-loop-less c = ?
+loop-less c = omega arith
 
--- src/copies.rt:44:5
 loop-again : tie.Need-loop-again Inv-loop μ-loop
-loop-again c = ?
+loop-again c = rw (read-back _ (c .store .given)) (row-turn _ _ _ _ _ _ _ _ _ (c .before .before .loop .inv) (omega arith))
 
--- src/copies.rt:37:1
 same-length : tie.Need-same-length Inv-loop μ-loop
-same-length c = ?
+same-length c = c .before .loop .inv .swept .size
 
--- src/copies.rt:37:1
 returns : tie.Need-returns Inv-loop μ-loop
-returns c = ?
+returns c = row-end _ _ _ _ _ _ _ _ _ (c .before .loop .inv) (omega arith)
 
 pub copy-row-spec : {M : Type 1} → statement M
 copy-row-spec =

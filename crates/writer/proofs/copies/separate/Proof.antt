@@ -1,65 +1,62 @@
+-- `copies::separate` meets its contract: the places from `to` on are filled, from places before them. Assumes nothing.
+use mathlib.Core.Path.{_∙_}
+use Prim.Native.Nat.{_+_, _*_, _-_, _≤_}
+use native.Mathlib.Omega.{arith}
+use Rattle.numbers.specs.Signal.{at}
+use Rattle.numbers.proofs.Words.{read-back}
+use Rattle.writer.proofs.Filling.{Filled, fill-start, fill-turn, fill-below, fill-end}
 use Rattle.writer.proofs.copies.separate.Statement.{statement}
 use Rattle.writer.proofs.copies.separate.Tie as tie
-use Rattle.writer.proofs.copies.separate.Reads as reads
-use Rattle.writer.proofs.copies.separate.Lts as lts
 
 abbrev Inv-loop : tie.InvT-loop
-Inv-loop store₀ from to count j₀ store j = ?
+Inv-loop store₀ from to count j₀ store j = (from + 2 * count ≤ to + 1) × Filled to count (λ j. at store₀ (from + 2 * j)) store₀ j store
 
 abbrev μ-loop : tie.MeasureT-loop
-μ-loop store₀ from to count j₀ store j = ?
+μ-loop store₀ from to count j₀ store j = count - j
 
--- src/copies.rt:30:5
 loop-holds : tie.Need-loop-holds Inv-loop μ-loop
-loop-holds c = ?
+loop-holds c = (omega arith, fill-start _ _ _ _ (omega arith))
 
--- src/copies.rt:31:38
 mul-store : tie.Need-mul-store Inv-loop μ-loop
-mul-store c = ?
+mul-store c = omega arith
 
--- src/copies.rt:31:31
 add-store : tie.Need-add-store Inv-loop μ-loop
-add-store c = ?
+add-store c = omega arith
 
--- src/copies.rt:31:25
 mul-store-2 : tie.Need-mul-store-2 Inv-loop μ-loop
-mul-store-2 c = ?
+mul-store-2 c = omega (arith, c .before .loop .inv .1 .swept .size)
 
--- src/copies.rt:31:25
 slice-copy-out-store : tie.Need-slice-copy-out-store Inv-loop μ-loop
-slice-copy-out-store c = ?
+slice-copy-out-store c = omega (arith, c .before .loop .inv .1 .swept .size)
 
--- src/copies.rt:31:15
 add-t12 : tie.Need-add-t12 Inv-loop μ-loop
-add-t12 c = ?
+add-t12 c = omega arith
 
--- src/copies.rt:31:9
 mul-t13 : tie.Need-mul-t13 Inv-loop μ-loop
-mul-t13 c = ?
+mul-t13 c = omega arith
 
--- src/copies.rt:31:9
 slice-set-from-store : tie.Need-slice-set-from-store Inv-loop μ-loop
-slice-set-from-store c = ?
+slice-set-from-store c = omega (arith, c .before .before .loop .inv .1 .swept .size)
 
--- src/copies.rt:32:9
 add-j : tie.Need-add-j Inv-loop μ-loop
-add-j c = ?
+add-j c = omega arith
 
--- src/copies.rt:30:5
 loop-less : tie.Need-loop-less Inv-loop μ-loop
-loop-less c = ?
+loop-less c = omega arith
 
--- src/copies.rt:30:5
 loop-again : tie.Need-loop-again Inv-loop μ-loop
-loop-again c = ?
+loop-again c =
+    let head = c .before .before in
+    let f = head .loop .inv .1 in (
+      omega arith,
+      fill-turn _ _ _ _ _ _ _ f (omega arith) (read-back _ (c .store .given) ∙ fill-below _ _ _ _ _ _ f _ (omega arith)),
+    )
 
--- src/copies.rt:25:1
 same-length : tie.Need-same-length Inv-loop μ-loop
-same-length c = ?
+same-length c = c .before .loop .inv .1 .swept .size
 
--- src/copies.rt:25:1
 returns : tie.Need-returns Inv-loop μ-loop
-returns c = ?
+returns c = fill-end _ _ _ _ _ _ (c .before .loop .inv .1) (omega arith)
 
 pub separate-spec : {M : Type 1} → statement M
 separate-spec =
