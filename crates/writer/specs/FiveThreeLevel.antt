@@ -33,9 +33,12 @@ rowPredicted w t l r = rowChanged (predicted wrap32) w w (t % 4) (l % 4) (r % 4)
 unfoldable pub rowUpdated : ℕ → ℕ → ℕ → ℕ → Memory → Memory
 rowUpdated w t l r = rowChanged (updated wrap32) w w (t % 4) (l % 4) (r % 4)
 
--- row a copied to the slot of row b
+-- row a copied to the slot of row b: each number becomes that of row a
+abbrev pub first : ℤ → ℤ → ℤ → ℤ
+first v a b = a
+
 unfoldable pub rowCopied : ℕ → ℕ → ℕ → Memory → Memory
-rowCopied w a b x = spliced (slot w b) w (windowed (slot w a) w x) x
+rowCopied w a b = rowChanged first w w (b % 4) (a % 4) (a % 4)
 
 -- row r lifted along the row
 unfoldable pub rowLifted : ℕ → ℕ → Memory → Memory

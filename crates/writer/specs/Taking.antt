@@ -4,6 +4,7 @@ use mathlib.Core.List.{List, [], _∷_}
 use Prim.Native.Nat.{ℕ, zero, suc, _+_}
 use lib.IntN.{ℤ, pos}
 use lib.Dec.{ltb, eqb}
+use lib.ListN.{getD}
 use Rattle.numbers.specs.Signal.{pick, both}
 use Rattle.wavelet.specs.Limits.{maxHeight}
 use Rattle.writer.specs.declared.Writer.{Writer}
@@ -13,6 +14,10 @@ use Rattle.writer.specs.Machine.{Out, arrive}
 -- a number stored at place a
 unfoldable pub stored : ℕ → ℤ → Memory → Memory
 stored a v x j = pick (eqb j a) v (x j)
+
+-- a run of heights as a signal
+abbrev pub heightAt : List ℕ → ℕ → ℤ
+heightAt run j = pos (getD run j 0)
 
 -- how many were taken, and the writer and the store then
 pub record Taking : Type 0 where

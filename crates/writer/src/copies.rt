@@ -6,7 +6,8 @@ ghost use lib.ListN.{length};
 ghost use Rattle.numbers.specs.Signal.{at, spliced};
 ghost use Rattle.lifting.specs.Halves.{fronted};
 ghost use Rattle.lifting.specs.Rows.{rowChanged};
-ghost use Rattle.writer.specs.Copies.{heightAt, first};
+ghost use Rattle.writer.specs.FiveThreeLevel.{first};
+ghost use Rattle.writer.specs.Taking.{heightAt};
 
 // Every second height of a run from `from` on, to the `count` places of the store from `to` on.
 pub fn put_heights(store: &mut [i32], to: usize, run: &[u16], from: usize, count: usize)

@@ -1,4 +1,6 @@
 // The row-by-row writer: heights in, band rows out, in the order of document 01.
+mod copies;
+mod counts;
 
 // The counts of a writer; docs/STATE.md gives their ranges.
 pub struct Writer {
