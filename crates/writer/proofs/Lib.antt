@@ -1,3 +1,4 @@
 pub mod CountLaws
 pub mod Filling
 pub mod Slots
+pub mod LevelLaws

@@ -55,7 +55,7 @@ spot-in w i h =
       | no e ↦ omega (arith, spot-odd w i e, count-lo w)
     ]
 
-spot-apart : (w i j : ℕ) → i < w → j < w → spot w i ≡ spot w j → i ≡ j
+pub spot-apart : (w i j : ℕ) → i < w → j < w → spot w i ≡ spot w j → i ≡ j
 spot-apart w i j p q h =
     elim (ℕ-discrete (i % 2) 0) [
       | yes a ↦
