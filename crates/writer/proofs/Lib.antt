@@ -2,3 +2,5 @@ pub mod CountLaws
 pub mod Filling
 pub mod Slots
 pub mod LevelLaws
+pub mod Waiting
+pub mod Cascade
