@@ -303,3 +303,174 @@ module _ (K : LevelKind) (Held : Meaning) (laws : LevelLaws K Held) where
   pub arrive-good : (L : ℕ) → Receives L
   arrive-good zero k w H g m x i h v = unfold arrive madeBy LevelsHold pend in record { inv = (refl, refl); rows = refl; few = omega arith }
   arrive-good (suc l) k w H g m x i h v = got l (arrive-good l) k w H g x i m h v
+
+  -- ---- a number of the row begun
+  pub cell-good : (l w H : ℕ) (g : Grid) (i m c : ℕ) (x : Memory) → c < w → Inv (suc l) w H g 0 0 i m c x → Inv (suc l) w H g 0 0 i m (suc c) (stored (K .cell w m c) (g m c) x)
+  unfolding LevelsHold LevelHolds SetWaits
+  cell-good l w H g i m c x h v =
+      ((v .0 .0, held-cell w H g m c x h (v .0 .1)), tt, subst (λ t. Inv l (count lo w) (count lo H) (lowMap w H g) 0 0 i (below 0 0 m) 0 t) (sym (rest-same (K .stretch w) x _ (λ j p. cell-past w m c (g m c) x j h p))) (v .2))
+
+  -- ---- at first
+  pub fresh-good : (L w H : ℕ) (g : Grid) (x : Memory) → Inv L w H g 0 0 0 0 0 x
+  unfolding LevelsHold LevelHolds SetWaits below made
+  fresh-good zero w H g x = (refl, refl)
+  fresh-good (suc l) w H g x = ((omega arith, held-none w H g x), tt, fresh-good l (count lo w) (count lo H) (lowMap w H g) _)
+
+  -- ---- the counts stay in their ranges
+  pub level-le : (L w H : ℕ) (g : Grid) (c v i m j : ℕ) (x : Memory) → Inv L w H g c v i m j x → v ≤ L
+  unfolding LevelsHold
+  level-le zero w H g c v i m j x s = let e : v ≡ 0 = s .1 in omega arith
+  level-le (suc l) w H g c zero i m j x s = omega arith
+  level-le (suc l) w H g c (suc v) i m j x s = let h = level-le l _ _ _ _ v i _ 0 _ (s .2) in omega arith
+
+  pub closed-le : (L w H : ℕ) (g : Grid) (c v i m j : ℕ) (x : Memory) → Inv L w H g c v i m j x → c ≤ L
+  unfolding LevelsHold
+  closed-le zero w H g c v i m j x s = let e : c ≡ 0 = s .0 in omega arith
+  closed-le (suc l) w H g zero v i m j x s = omega arith
+  closed-le (suc l) w H g (suc c) v i m j x s = let h = closed-le l _ _ _ c _ i _ 0 _ (s .2) in omega arith
+
+  -- ---- a row is drawn
+  pub record Pulled (L k w H : ℕ) (g : Grid) (c v i m : ℕ) (x : Memory) : Type 0 where
+    pub depth : ℕ
+    pub todo : List RowName
+    pub is : IsRow w H g (waiting K L w c (suc v) i m) depth x
+    pub first : pend L k w c (suc v) i m ≡ rowName (k + depth) (waiting K L w c (suc v) i m .band) (waiting K L w c (suc v) i m .row) ∷ todo
+    pub good : Good L k w H g c m (pull K L w c (suc v) i m x) todo
+
+  pull-here : (l k w H : ℕ) (g : Grid) (c i m j : ℕ) (x : Memory) → i ≤ 4 → j ≡ 0 → Inv (suc l) w H g c 1 i m j x → Pulled (suc l) k w H g c 0 i m x
+  unfolding LevelsHold SetWaits waiting pull pend below
+  pull-here l k w H g c zero m j x f z v = let e : 1 ≤ 0 = v .1 .some-left in absurd (omega arith)
+  pull-here l k w H g c (suc i) m j x f z v = record {
+      depth = 0;
+      todo = rowsOf k w m n (lasts i) ++ next;
+      is = record {
+        level-is = refl;
+        length-is = unfold size in refl;
+        row-in = unfold size in row-there;
+        values = λ a h. unfold levelBand size approximation in v .1 .stands b a row-there h;
+      };
+      first = unfold lasts in (ap (λ r. r ++ next) (rows-yes k w m n b (lasts i) (v .1 .has)) ∙ ap (λ a. rowName a b n ∷ (rowsOf k w m n (lasts i) ++ next)) (omega arith));
+      good = settle-good l (arrive-good l) k w H g c m i (omega arith) x here (v .1 .one) n refl (v .1 .stands) (inv-left l _ _ _ (prev c) (suc i) 0 n 0 _ (v .2));
+    }
+    where
+      n : ℕ
+      n = prev (made c m)
+
+      b : Band
+      b = bandAt i
+
+      next : List RowName
+      next = madeBy l (suc k) (count lo w) n
+
+      here : LevelHolds Held w H g c m 0 x
+      here = subst (λ a. LevelHolds Held w H g c m a x) z (v .0)
+
+      row-there : n < count (down b) H
+      row-there = omega (arith, has-down w m b n (v .1 .has), count-up (down b) m H (here-le w H g c m j x (v .0)))
+
+  pub pull-good : (L k w H : ℕ) (g : Grid) (c v i m j : ℕ) (x : Memory) → i ≤ 4 → j ≡ 0 → Inv L w H g c (suc v) i m j x → Pulled L k w H g c v i m x
+  unfolding LevelsHold waiting pull pend below
+  pull-good zero k w H g c v i m j x f z s = let e : suc v ≡ 0 = s .1 in absurd (omega arith)
+  pull-good (suc l) k w H g c zero i m j x f z s = pull-here l k w H g c i m j x f z s
+  pull-good (suc l) k w H g c (suc v) i m j x f z s =
+      let r = pull-good l (suc k) (count lo w) (count lo H) (lowMap w H g) (prev c) v i (made c m) 0 (rest (K .stretch w) x) f refl (s .2) in
+      record {
+        depth = suc (r .depth);
+        todo = r .todo;
+        is = is-under w H g _ (r .depth) (K .stretch w) x (r .is);
+        first = r .first ∙ ap (λ a. rowName a (waiting K l (count lo w) (prev c) (suc v) i (made c m) .band) (waiting K l (count lo w) (prev c) (suc v) i (made c m) .row) ∷ r .todo) (omega arith);
+        good = good-under l k w H g c m x _ (r .todo) (subst (λ a. LevelHolds Held w H g c m a x) z (s .0)) (r .good);
+      }
+
+  -- ---- levels are closed
+  pub record Closed (L k w H : ℕ) (g : Grid) (c m : ℕ) (r : Shut) : Type 0 where
+    pub inv : Inv L w H g (r .closed) (r .out .level) (r .out .left) m 0 (r .out .store)
+    pub rows : pend L k w (r .closed) (r .out .level) (r .out .left) m ++ later L k w m (r .closed) ≡ later L k w m c
+    pub all : r .out .level ≡ 0 → r .closed ≡ L
+    pub few : r .out .left ≤ 4
+
+  deeper-zero : (v : ℕ) → deeper v ≡ 0 → v ≡ 0
+  unfolding deeper
+  deeper-zero zero e = refl
+  deeper-zero (suc v) e = absurd (omega arith)
+
+  closed-on : (l k w H : ℕ) (g : Grid) (c m : ℕ) (f : Memory → Shut) (o : Out) → m ≡ H → Closed l (suc k) (count lo w) (count lo H) (lowMap w H g) c (count lo m) (f (rest (K .stretch w) (o .store))) → Closed (suc l) k w H g (suc c) m (onward (K .stretch w) f o 0)
+  unfolding onward
+  closed-on l k w H g c m f o e d =
+      let r : Shut = f (rest (K .stretch w) (o .store)) in
+      record {
+        inv = inv-under l w H g (suc (r .closed)) (r .out .level) (r .out .left) m (o .store) (r .out .store) (unfold LevelHolds in (e, refl)) (unfold made in d .inv);
+        rows = ap (λ a. a ++ later (suc l) k w m (suc (r .closed))) (pend-under l k w (suc (r .closed)) (r .out .level) (r .out .left) m) ∙ unfold later made in d .rows;
+        all = λ z. ap suc (d .all (deeper-zero (r .out .level) z));
+        few = d .few;
+      }
+
+  closed-from : (L k w H : ℕ) (g : Grid) (c c′ m : ℕ) (r : Shut) → later L k w m c ≡ later L k w m c′ → Closed L k w H g c m r → Closed L k w H g c′ m r
+  closed-from L k w H g c c′ m r e d = record { inv = d .inv; rows = d .rows ∙ e; all = d .all; few = d .few }
+
+  abbrev Shuts : ℕ → Type 0
+  Shuts L = (k w H : ℕ) (g : Grid) (c m i : ℕ) (x : Memory) → m ≡ H → 0 < m → Inv L w H g c 0 i m 0 x → Closed L k w H g c m (shut K L w c m x)
+
+  module _ (l : ℕ) (ih : Shuts l) (k w H : ℕ) (g : Grid) (i : ℕ) (x : Memory) (m : ℕ) (e : suc m ≡ H) (v : Inv (suc l) w H g 0 0 i (suc m) 0 x) where
+    abbrev M : ℕ
+    M = suc m
+
+    abbrev n : ℕ
+    n = prev (count lo M)
+
+    abbrev y : Memory
+    y = K .close w M x
+
+    abbrev o : Out
+    o = settled (passOn K l w) n y (skip w M n (most l))
+
+    abbrev f : Memory → Shut
+    f = shut K l (count lo w) 0 (count lo M)
+
+    held : Held w H g H 0 x
+    unfolding LevelsHold LevelHolds
+    held = subst (λ a. Held w H g a 0 x) e (v .0 .1)
+
+    stands : SetStands K w H g n y
+    stands = subst (λ a. SetStands K w H g (prev (count lo a)) (K .close w a x)) (sym e) (close-stands w H g x (omega arith) held)
+
+    sub : Inv l (count lo w) (count lo H) (lowMap w H g) 0 0 0 n 0 (rest (K .stretch w) y)
+    unfolding LevelsHold below made
+    sub =
+        inv-left l _ _ _ 0 i 0 n 0 _
+        (subst₂ (λ a t. Inv l (count lo w) (count lo H) (lowMap w H g) 0 0 i a 0 t) (omega (arith, prev-is (count lo M), count-lo M)) (sym (rest-same (K .stretch w) x y (λ j p. close-past w M x j p))) (v .2))
+
+    good : Good (suc l) k w H g 1 M o (rowsOf k w M n (lasts (most l)) ++ madeBy l (suc k) (count lo w) n)
+    good =
+        settle-good l (arrive-good l) k w H g 1 M (most l) (most-le l) y (unfold LevelHolds in (e, refl)) (unfold made in omega (arith, count-lo M)) n (unfold made in refl) stands sub
+
+    set-is : rowsOf k w M n (lasts (most l)) ++ madeBy l (suc k) (count lo w) n ≡ setRows l k w M (count lo M - 1) ++ madeBy l (suc k) (count lo w) (count lo M - 1)
+    unfolding setRows
+    set-is = ap₂ (λ bs a. rowsOf k w M a bs ++ madeBy l (suc k) (count lo w) a) (lasts-most l) (prev-is (count lo M))
+
+    total : pend (suc l) k w 1 (o .level) (o .left) M ++ later (suc l) k w M 1 ≡ later (suc l) k w M 0
+    total = ap (λ a. a ++ later (suc l) k w M 1) (good .rows ∙ set-is) ∙ sym (later-first l k w M)
+
+    below-is : o .level ≡ 0 → Inv l (count lo w) (count lo H) (lowMap w H g) 0 0 (o .left) (count lo M) 0 (rest (K .stretch w) (o .store))
+    unfolding LevelsHold below made
+    below-is z = subst (λ a. Inv (suc l) w H g 1 a (o .left) M 0 (o .store)) z (good .inv) .2
+
+    shut-open : (a : ℕ) → o .level ≡ a → Closed (suc l) k w H g 0 M (onward (K .stretch w) f o a)
+    shut-open zero z =
+        closed-from (suc l) k w H g 1 0 M (onward (K .stretch w) f o 0)
+        (ap (λ a. a ++ later (suc l) k w M 1) (sym (pend-none (suc l) k w 1 (o .left) M) ∙ ap (λ a. pend (suc l) k w 1 a (o .left) M) (sym z)) ∙ total)
+        (closed-on l k w H g 0 M f o e
+        (ih (suc k) (count lo w) (count lo H) (lowMap w H g) 0 (count lo M) (o .left) (rest (K .stretch w) (o .store)) (ap (count lo) e) (omega (arith, count-lo M)) (below-is z)))
+    shut-open (suc a) z = unfold onward in record { inv = good .inv; rows = total; all = λ b. absurd (omega arith); few = good .few }
+
+  pub shut-good : (L : ℕ) → Shuts L
+  unfolding shut closeLevel
+  shut-good zero k w H g c m i x e p v = unfold LevelsHold pend later in record { inv = (v .0, refl); rows = refl; all = λ _. v .0; few = omega arith }
+  shut-good (suc l) k w H g zero zero i x e p v = absurd (omega arith)
+  shut-good (suc l) k w H g zero (suc m) i x e p v = shut-open l (shut-good l) k w H g i x m e v _ refl
+  shut-good (suc l) k w H g (suc c) m i x e p v =
+      closed-on l k w H g c m (shut K l (count lo w) c (count lo m)) (still x) e
+      (shut-good l (suc k) (count lo w) (count lo H) (lowMap w H g) c (count lo m) i (rest (K .stretch w) x) (ap (count lo) e) (omega (arith, count-lo m)) (below-open v))
+    where
+      below-open : Inv (suc l) w H g (suc c) 0 i m 0 x → Inv l (count lo w) (count lo H) (lowMap w H g) c 0 i (count lo m) 0 (rest (K .stretch w) x)
+      below-open v = unfold LevelsHold below made in v .2
