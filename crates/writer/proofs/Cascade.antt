@@ -332,6 +332,7 @@ module _ (K : LevelKind) (Held : Meaning) (laws : LevelLaws K Held) where
   -- ---- a row is drawn
   pub record Pulled (L k w H : ℕ) (g : Grid) (c v i m : ℕ) (x : Memory) : Type 0 where
     pub depth : ℕ
+    pub deep : depth < L
     pub todo : List RowName
     pub is : IsRow w H g (waiting K L w c (suc v) i m) depth x
     pub first : pend L k w c (suc v) i m ≡ rowName (k + depth) (waiting K L w c (suc v) i m .band) (waiting K L w c (suc v) i m .row) ∷ todo
@@ -342,6 +343,7 @@ module _ (K : LevelKind) (Held : Meaning) (laws : LevelLaws K Held) where
   pull-here l k w H g c zero m j x f z v = let e : 1 ≤ 0 = v .1 .some-left in absurd (omega arith)
   pull-here l k w H g c (suc i) m j x f z v = record {
       depth = 0;
+      deep = omega arith;
       todo = rowsOf k w m n (lasts i) ++ next;
       is = record {
         level-is = refl;
@@ -376,6 +378,7 @@ module _ (K : LevelKind) (Held : Meaning) (laws : LevelLaws K Held) where
       let r = pull-good l (suc k) (count lo w) (count lo H) (lowMap w H g) (prev c) v i (made c m) 0 (rest (K .stretch w) x) f refl (s .2) in
       record {
         depth = suc (r .depth);
+        deep = omega (arith, r .deep);
         todo = r .todo;
         is = is-under w H g _ (r .depth) (K .stretch w) x (r .is);
         first = r .first ∙ ap (λ a. rowName a (waiting K l (count lo w) (prev c) (suc v) i (made c m) .band) (waiting K l (count lo w) (prev c) (suc v) i (made c m) .row) ∷ r .todo) (omega arith);

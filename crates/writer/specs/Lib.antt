@@ -9,3 +9,4 @@ pub mod Questions
 pub mod Answers
 pub mod Calls
 pub mod Holds
+pub mod Demand3
