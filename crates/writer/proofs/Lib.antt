@@ -4,3 +4,4 @@ pub mod Slots
 pub mod LevelLaws
 pub mod Waiting
 pub mod Cascade
+pub mod CallList

@@ -1,0 +1,300 @@
+-- What every call keeps, the history being the heights taken ts, whether a finish passed f, and the rows drawn ds: `At`. For EVERY grid that begins with ts the store holds what it must (`Sound`).
+--     offering-good   heights are taken
+--     draw-good       a row is drawn
+--     finish-good     the finish
+-- Assumes nothing.
+use mathlib.Core.Bool.{Bool, true, false, not}
+use mathlib.Core.Path.{_≡_, refl, sym, ap, ap₂, subst, subst₂, _∙_}
+use mathlib.Core.List.{List, [], _∷_, _++_, map, append-nil, append-assoc}
+use Prim.Native.Nat.{ℕ, zero, suc, _+_, _-_, _*_, _/_, _%_, _≤_, _<_}
+use native.Mathlib.Nat.{mul-comm, mul-le-mul-right, mul-add-div-right, div-eq-of-lt, mul-add-mod-self-right, mod-eq-of-lt, mul-div-cancel, mul-div-cancel-left, suc-mul, mul-suc}
+use native.Mathlib.Decide.{decLt}
+use native.Mathlib.Omega.{arith}
+use lib.IntN.{ℤ, pos}
+use lib.ListN.{length, take, drop, getD, length-append, length-map, List·getD-append}
+use lib.Seq.{getD-at, drop-at}
+use lib.Dec.{leb, ltb, eqb}
+use borrow.Author.Tests.{lt-ltb, le-ltb, le-leb, lt-leb, eq-eqb, ne-eqb, ltb-true, ltb-false, eqb-true}
+use Rattle.numbers.specs.Signal.{pick, both}
+use Rattle.numbers.specs.Word.{wrap32}
+use Rattle.numbers.proofs.Sweep.{both as split-both}
+use Rattle.lifting.specs.Line.{lo, count}
+use Rattle.lifting.specs.Halves.{fronted}
+use Rattle.wavelet.specs.Limits.{maxWidth, maxHeight, maxLevels}
+use Rattle.wavelet.specs.Bands.{Grid, Band, code, across, down}
+use Rattle.wavelet.specs.Levels.{size, levelBand}
+use Rattle.wavelet.specs.View.{bandColumns}
+use Rattle.wavelet.specs.Questions.{within}
+use Rattle.wavelet.specs.Store.{storeLength}
+use Rattle.wavelet.specs.Order.{RowName, rowName, madeBy, closing, inTurn, made}
+use Rattle.wavelet.proofs.OrderLaws.{turn-zero, turn-suc}
+use Rattle.writer.specs.declared.Writer.{Writer}
+use Rattle.writer.specs.declared.BandRow.{BandRow}
+use Rattle.writer.specs.Level.{Memory, LevelKind}
+use Rattle.writer.specs.FiveThreeLevel.{cellOf, fiveThree}
+use Rattle.writer.specs.Machine.{Out, rest, arrive}
+use Rattle.writer.specs.Draws.{Waiting, waiting, pull}
+use Rattle.writer.specs.Closing.{Shut, shut}
+use Rattle.writer.specs.Taking.{stored, Taking, takes, offering}
+use Rattle.writer.specs.Questions.{inRanges, longEnough}
+use Rattle.writer.specs.Calls.{resumed, bandRow}
+use Rattle.writer.specs.Holds.{Kept, LevelsHold}
+use Rattle.writer.specs.Demand3.{DrawnRow, answered, All, all-none, all-more, isNone}
+use Rattle.writer.proofs.LevelLaws.{LevelLaws, five-three-laws}
+use Rattle.writer.proofs.Waiting.{pend, later, pend-none, later-all, later-none}
+use Rattle.writer.proofs.Cascade.{IsRow, Good, Pulled, Closed, cell-good, arrive-good, pull-good, shut-good, fresh-good, level-le, closed-le, inv-left}
+
+-- ---- lists
+module _ {A : Type 0} {P : A → Type 0} where
+  pub all-append : {s t : List A} → All P s → All P t → All P (s ++ t)
+  all-append all-none q = q
+  all-append (all-more p ps) q = all-more p (all-append ps q)
+
+  pub all-map : {Q : A → Type 0} {s : List A} → ((x : A) → P x → Q x) → All P s → All Q s
+  all-map f all-none = all-none
+  all-map f (all-more p ps) = all-more (f _ p) (all-map f ps)
+
+module _ {A B : Type 0} (f : A → B) where
+  pub map-append : (s t : List A) → map f (s ++ t) ≡ map f s ++ map f t
+  map-append [] t = refl
+  map-append (x ∷ s) t = ap (λ l. f x ∷ l) (map-append s t)
+
+-- ---- numbers
+pub rows-below : (W H r c : ℕ) → r * W + c < W * H → r < H
+rows-below W H r c h =
+    elim (decLt r H) [
+      | yes p ↦ p
+      | no p ↦ absurd (omega (arith, mul-le-mul-right {m = H} {n = r} W (omega arith), mul-comm W H))
+    ]
+
+pub rows-of : (W r c : ℕ) → c < W → (r * W + c) / W ≡ r
+rows-of W r c h = mul-add-div-right {m = W} (omega arith) r c ∙ ap (λ a. r + a) (div-eq-of-lt h) ∙ omega arith
+
+pub column-of : (W r c : ℕ) → c < W → (r * W + c) % W ≡ c
+column-of W r c h = mul-add-mod-self-right r W c ∙ mod-eq-of-lt h
+
+pub rows-all : (W H r c : ℕ) → 0 < W → c ≡ 0 → r * W + c ≡ W * H → r ≡ H
+rows-all W H r c p z e = sym (mul-div-cancel r p) ∙ ap (λ a. a / W) (omega arith) ∙ mul-div-cancel-left H p
+
+differ : false ≡ true → ⊥
+differ e = let z : _≡_ {A = ℕ} 0 1 = ap (λ t. pick t 1 0) e in omega arith
+
+-- ---- the writer by its numbers
+abbrev pub st : (W L r c : ℕ) → Bool → (cl v i : ℕ) → Writer
+st W L r c f cl v i = record { width = W; levels = L; rows = r; column = c; finished = f; closed = cl; level = v; left = i }
+
+-- a grid of H rows begins with the heights taken; once finished it is they
+pub record Fits (W H : ℕ) (g : Grid) (ts : List ℕ) (f : Bool) : Type 0 where
+  pub within : length ts ≤ W * H
+  pub heights : (r c : ℕ) → c < W → r * W + c < length ts → g r c ≡ pos (getD ts (r * W + c) 0)
+  pub whole : f ≡ true → length ts ≡ W * H
+
+pub fits-back : (W H : ℕ) (g : Grid) (ts us : List ℕ) (f : Bool) → Fits W H g (ts ++ us) f → Fits W H g ts false
+fits-back W H g ts us f t = record {
+  within = omega (arith, t .within, length-append ts us);
+  heights = λ r c p q. t .heights r c p (omega (arith, length-append ts us)) ∙ ap pos (List·getD-append ts us 0 (r * W + c) q);
+  whole = λ e. absurd (differ e);
+}
+
+fits-height : (W H : ℕ) (g : Grid) (ts : List ℕ) (h : ℕ) (us : List ℕ) (f : Bool) (r c : ℕ) → length ts ≡ r * W + c → c < W → Fits W H g (ts ++ h ∷ us) f → (g r c ≡ pos h) × (r < H)
+fits-height W H g ts h us f r c e p t =
+    let len : length (ts ++ h ∷ us) ≡ length ts + suc (length us) = length-append ts (h ∷ us) in
+    (t .heights r c p (omega arith) ∙ ap pos (getD-at ts h us 0 (r * W + c) e), rows-below W H r c (omega (arith, t .within)))
+
+-- ---- what is to come without a further row, and how far the levels are closed
+unfoldable pub coming : (L W : ℕ) → Bool → (cl v i r : ℕ) → List RowName
+coming L W false cl v i r = pend L 1 W cl v i r
+coming L W true cl v i r = pend L 1 W cl v i r ++ later L 1 W r cl
+
+unfoldable pub Ready : ℕ → Bool → ℕ → ℕ → Type 0
+Ready L false cl v = cl ≡ 0
+Ready L true cl v = v ≡ 0 → cl ≡ L
+
+open-ready : (L cl v : ℕ) → cl ≡ 0 → Ready L false cl v
+unfolding Ready
+open-ready L cl v q = q
+
+closed-ready : (L cl v : ℕ) → (v ≡ 0 → cl ≡ L) → Ready L true cl v
+unfolding Ready
+closed-ready L cl v q = q
+
+coming-open : (L W cl v i r : ℕ) → coming L W false cl v i r ≡ pend L 1 W cl v i r
+unfolding coming
+coming-open L W cl v i r = refl
+
+coming-closed : (L W cl v i r : ℕ) → coming L W true cl v i r ≡ pend L 1 W cl v i r ++ later L 1 W r cl
+unfolding coming
+coming-closed L W cl v i r = refl
+
+ready-open : (L cl v : ℕ) → Ready L false cl v → cl ≡ 0
+unfolding Ready
+ready-open L cl v q = q
+
+-- a drawn row is the row of the grid's word transform that its answer names
+pub record Right (L W H : ℕ) (g : Grid) (d : DrawnRow) : Type 0 where
+  pub depth : ℕ
+  pub deep : depth < L
+  pub band : Band
+  pub level-is : d .row .level ≡ suc depth
+  pub band-is : d .row .band ≡ code band
+  pub length-is : d .row .length ≡ count (across band) (size depth W)
+  pub row-in : d .row .row < count (down band) (size depth H)
+  pub values : (i : ℕ) → i < d .row .length → d .values i ≡ levelBand wrap32 W H g (suc depth) band (d .row .row) i
+
+pub record Sound (L W H : ℕ) (g : Grid) (f : Bool) (ds : List DrawnRow) (r c cl v i : ℕ) (x : Memory) : Type 0 where
+  pub inv : LevelsHold fiveThree Kept L W H g cl v i r c x
+  pub few : i ≤ 4
+  pub idle : 0 < v → c ≡ 0
+  pub ready : Ready L f cl v
+  pub names : List RowName
+  pub named : map (λ d. d .row) ds ≡ map (answered W) names
+  pub order : names ++ coming L W f cl v i r ≡ made W L r f
+  pub values : All (Right L W H g) ds
+
+pub record At (L W : ℕ) (ts : List ℕ) (f : Bool) (ds : List DrawnRow) (r c cl v i : ℕ) (x : Memory) : Type 0 where
+  pub counted : length ts ≡ r * W + c
+  pub column-in : c < W
+  pub rows-in : r ≤ maxHeight
+  pub ended : f ≡ true → (0 < r) × (c ≡ 0)
+  pub sound : (H : ℕ) (g : Grid) → Fits W H g ts f → Sound L W H g f ds r c cl v i x
+
+-- ---- there is such a grid: the heights taken themselves
+abbrev own : ℕ → List ℕ → Grid
+own W ts r c = pos (getD ts (r * W + c) 0)
+
+unfoldable pub own-height : Bool → ℕ → ℕ
+own-height false r = suc r
+own-height true r = r
+
+module _ {L W : ℕ} {ts : List ℕ} {f : Bool} {ds : List DrawnRow} {r c cl v i : ℕ} {x : Memory} (a : At L W ts f ds r c cl v i x) where
+  own-fits : Fits W (own-height f r) (own W ts) ts f
+  own-fits = record { within = go f refl; heights = λ _ _ _ _. refl; whole = all f refl }
+    where
+      go : (t : Bool) → f ≡ t → length ts ≤ W * own-height t r
+      go false e = unfold own-height in omega (arith, a .counted, a .column-in, mul-suc W r, mul-comm r W)
+      go true e = unfold own-height in omega (arith, a .counted, a .ended e .1, mul-comm r W)
+      all : (t : Bool) → f ≡ t → t ≡ true → length ts ≡ W * own-height t r
+      all false e z = absurd (differ z)
+      all true e z = unfold own-height in omega (arith, a .counted, a .ended e .1, mul-comm r W)
+
+  pub own-sound : Sound L W (own-height f r) (own W ts) f ds r c cl v i x
+  own-sound = a .sound _ _ own-fits
+
+  pub whole-rows : length ts / W ≡ r
+  whole-rows = ap (λ n. n / W) (a .counted) ∙ rows-of W r c (a .column-in)
+
+  pub begun-row : length ts % W ≡ c
+  begun-row = ap (λ n. n % W) (a .counted) ∙ column-of W r c (a .column-in)
+
+  -- every count is in its range
+  pub in-ranges : within 1 maxWidth W ≡ true → within 1 maxLevels L ≡ true → inRanges (st W L r c f cl v i) ≡ true
+  unfolding inRanges
+  in-ranges p q =
+      let s = own-sound in
+      simp (p, q, le-leb r maxHeight (a .rows-in), lt-ltb c W (a .column-in), le-leb cl L (closed-le fiveThree Kept five-three-laws L _ _ _ _ _ _ _ _ _ (s .inv)), le-leb v L (level-le fiveThree Kept five-three-laws L _ _ _ _ _ _ _ _ _ (s .inv)), le-leb i 4 (s .few))
+
+  -- what waits, by the history: made and not drawn
+  pub waiting-is : drop (length ds) (made W L r f) ≡ coming L W f cl v i r
+  waiting-is =
+      let s = own-sound in
+      ap (drop (length ds)) (sym (s .order))
+      ∙ drop-at (s .names) (coming L W f cl v i r) (length ds)
+      (sym (sym (length-map ds (λ d. d .row)) ∙ ap length (s .named) ∙ length-map (s .names) (answered W)))
+
+  -- nothing waits exactly at level 0
+  pub none-waits : v ≡ 0 → coming L W f cl v i r ≡ []
+  none-waits z = go f (own-sound .ready)
+    where
+      none : pend L 1 W cl v i r ≡ []
+      none = ap (λ a. pend L 1 W cl a i r) z ∙ pend-none L 1 W cl i r
+      go : (t : Bool) → Ready L t cl v → coming L W t cl v i r ≡ []
+      go false q = unfold coming in none
+      go true q = unfold coming Ready in (ap₂ _++_ none (ap (later L 1 W r) (q z) ∙ later-all L 1 W r))
+
+-- ---- one height more
+module _ (l W : ℕ) (ds : List DrawnRow) where
+  abbrev L : ℕ
+  L = suc l
+
+  abbrev K : LevelKind
+  K = fiveThree
+
+  abbrev Inv : (H : ℕ) → Grid → (cl v i r c : ℕ) → Memory → Type 0
+  Inv H g cl v i r c x = LevelsHold K Kept L W H g cl v i r c x
+
+  module _ (ts : List ℕ) (r c cl v i : ℕ) (x : Memory) (a : At L W ts false ds r c cl v i x) (z : v ≡ 0) (h : ℕ) where
+    abbrev x′ : Memory
+    x′ = stored (cellOf W r c) (pos h) x
+
+    -- the store, for a grid that has the height too
+    cell-held : (H : ℕ) (g : Grid) → Fits W H g (ts ++ h ∷ []) false → Inv H g 0 0 i r (suc c) x′
+    cell-held H g t =
+        let q = fits-height W H g ts h [] false r c (a .counted) (a .column-in) t in
+        let s = a .sound H g (fits-back W H g ts (h ∷ []) false t) in
+        subst (λ w. Inv H g 0 0 i r (suc c) (stored (cellOf W r c) w x)) (q .0)
+        (cell-good K Kept five-three-laws l W H g i r c x (a .column-in)
+        (subst₂ (λ e b. Inv H g e b i r c x) (ready-open L cl v (s .ready)) z (s .inv)))
+
+    longer : length (ts ++ h ∷ []) ≡ suc (length ts)
+    longer = length-append ts (h ∷ []) ∙ omega arith
+
+    pub begun-at : c + 1 < W → At L W (ts ++ h ∷ []) false ds r (c + 1) cl v i x′
+    begun-at p = record {
+      counted = omega (arith, longer, a .counted);
+      column-in = p;
+      rows-in = a .rows-in;
+      ended = λ e. absurd (differ e);
+      sound = λ H g t. let s = a .sound H g (fits-back W H g ts (h ∷ []) false t) in record {
+        inv = subst₂ (λ e b. Inv H g e b i r (c + 1) x′) (sym (ready-open L cl v (s .ready))) (sym z) (subst (λ b. Inv H g 0 0 i r b x′) (omega arith) (cell-held H g t));
+        few = s .few;
+        idle = λ e. absurd (omega arith);
+        ready = s .ready;
+        names = s .names;
+        named = s .named;
+        order = s .order;
+        values = s .values;
+      };
+    }
+
+    -- the row is complete: o is what it makes
+    abbrev o : Out
+    o = arrive K L W r x′
+
+    arrived-good : (H : ℕ) (g : Grid) → c + 1 ≡ W → Fits W H g (ts ++ h ∷ []) false → Good K Kept five-three-laws L 1 W H g 0 (suc r) o (madeBy L 1 W r)
+    arrived-good H g e t =
+        arrive-good K Kept five-three-laws L 1 W H g r x′ i (fits-height W H g ts h [] false r c (a .counted) (a .column-in) t .1)
+        (subst (λ b. Inv H g 0 0 i r b x′) (omega arith) (cell-held H g t))
+
+    next-row : suc r ≡ r + 1
+    next-row = omega arith
+
+    made-next : (names : List RowName) → names ++ coming L W false cl v i r ≡ made W L r false → (todo : List RowName) → todo ≡ madeBy L 1 W r → names ++ todo ≡ made W L (r + 1) false
+    unfolding made
+    made-next names e todo q =
+        let n : names ≡ inTurn r (madeBy L 1 W) ++ [] = sym (append-nil names) ∙ ap (λ b. names ++ b) (sym (none-waits a z)) ∙ e in
+        ap₂ _++_ (n ∙ append-nil (inTurn r (madeBy L 1 W))) q
+        ∙ sym (turn-suc r (madeBy L 1 W))
+        ∙ ap (λ b. inTurn b (madeBy L 1 W)) next-row
+        ∙ sym (append-nil _)
+
+    pub complete-at : r < maxHeight → W ≤ c + 1 → At L W (ts ++ h ∷ []) false ds (r + 1) 0 cl (o .level) (o .left) (o .store)
+    complete-at q p = record {
+      counted = longer ∙ omega (arith, a .counted, a .column-in, suc-mul r W, ap (λ b. b * W) next-row);
+      column-in = omega (arith, a .column-in);
+      rows-in = omega arith;
+      ended = λ e. absurd (differ e);
+      sound = λ H g t.
+          let s = a .sound H g (fits-back W H g ts (h ∷ []) false t) in
+          let k = arrived-good H g (omega (arith, a .column-in)) t in
+          let e : cl ≡ 0 = ready-open L cl v (s .ready) in
+          record {
+            inv = subst₂ (λ b d. Inv H g b (o .level) (o .left) d 0 (o .store)) (sym e) next-row (k .inv);
+            few = k .few;
+            idle = λ _. refl;
+            ready = open-ready L cl (o .level) e;
+            names = s .names;
+            named = s .named;
+            order = made-next (s .names) (s .order) _ (coming-open L W cl (o .level) (o .left) (r + 1) ∙ ap₂ (λ b d. pend L 1 W b (o .level) (o .left) d) e (sym next-row) ∙ k .rows);
+            values = s .values;
+          };
+    }
