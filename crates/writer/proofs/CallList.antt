@@ -298,3 +298,123 @@ module _ (l W : ℕ) (ds : List DrawnRow) where
             values = s .values;
           };
     }
+
+  -- ---- a row waits where a set is being handed out
+  pub some-wait : (ts : List ℕ) (f : Bool) (r c cl v i : ℕ) (x : Memory) → At L W ts f ds r c cl (suc v) i x → isNone (coming L W f cl (suc v) i r) ≡ false
+  some-wait ts f r c cl v i x a = go f
+    where
+      s : Sound L W (own-height f r) (own W ts) f ds r c cl (suc v) i x
+      s = own-sound a
+
+      P : Pulled K Kept five-three-laws L 1 W (own-height f r) (own W ts) cl v i r x
+      P = pull-good K Kept five-three-laws L 1 W _ _ cl v i r c x (s .few) (s .idle (omega arith)) (s .inv)
+
+      go : (t : Bool) → isNone (coming L W t cl (suc v) i r) ≡ false
+      go false = ap isNone (coming-open L W cl (suc v) i r ∙ P .first)
+      go true = ap isNone (coming-closed L W cl (suc v) i r ∙ ap (λ l. l ++ later L 1 W r cl) (P .first))
+
+  pub none-eqb : (ts : List ℕ) (f : Bool) (r c cl v i : ℕ) (x : Memory) → At L W ts f ds r c cl v i x → isNone (coming L W f cl v i r) ≡ eqb v 0
+  none-eqb ts f r c cl zero i x a = ap isNone (none-waits a refl) ∙ sym (eq-eqb 0 0 refl)
+  none-eqb ts f r c cl (suc v) i x a = some-wait ts f r c cl v i x a ∙ sym (ne-eqb (suc v) 0 (λ e. omega arith))
+
+  -- after so many heights no row waits, and the limit is not reached
+  abbrev pub takesAt : ℕ → Bool
+  takesAt m = both (isNone (drop (length ds) (made W L (m / W) false))) (ltb (m / W) maxHeight)
+
+  takes-is : (ts : List ℕ) (r c cl v i : ℕ) (x : Memory) → At L W ts false ds r c cl v i x → takes (st W L r c false cl v i) ≡ takesAt (length ts)
+  unfolding takes
+  takes-is ts r c cl v i x a =
+      sym (ap (λ m. both (isNone (drop (length ds) (made W L m false))) (ltb m maxHeight)) (whole-rows a)
+      ∙ ap (λ b. both b (ltb r maxHeight)) (ap isNone (waiting-is a) ∙ none-eqb ts false r c cl v i x a))
+
+  -- ---- an offer
+  pub record Offered (run ts : List ℕ) (t : Taking) : Type 0 where
+    pub rows : ℕ
+    pub column : ℕ
+    pub closed : ℕ
+    pub level : ℕ
+    pub left : ℕ
+    pub writer-is : t .writer ≡ st W L rows column false closed level left
+    pub at : At L W (ts ++ take (t .taken) run) false ds rows column closed level left (t .store)
+    pub most : t .taken ≤ length run
+    pub until : (j : ℕ) → j < t .taken → takesAt (length ts + j) ≡ true
+    pub stop : t .taken < length run → takesAt (length ts + t .taken) ≡ false
+
+  abbrev Offers : List ℕ → Type 0
+  Offers run = (ts : List ℕ) (r c cl v i : ℕ) (x : Memory) → At L W ts false ds r c cl v i x → Offered run ts (offering K run (st W L r c false cl v i) x)
+
+  -- one height, then the others
+  one-more : (h : ℕ) (run ts : List ℕ) (t : Taking) → takesAt (length ts) ≡ true → Offered run (ts ++ h ∷ []) t → Offered (h ∷ run) ts (record { taken = suc (t .taken); writer = t .writer; store = t .store })
+  one-more h run ts t e k = record {
+    rows = k .rows;
+    column = k .column;
+    closed = k .closed;
+    level = k .level;
+    left = k .left;
+    writer-is = k .writer-is;
+    at = subst (λ b. At L W b false ds (k .rows) (k .column) (k .closed) (k .level) (k .left) (t .store)) (append-assoc ts (h ∷ []) (take (t .taken) run)) (k .at);
+    most = omega (arith, k .most);
+    until = first;
+    stop = λ p. ap takesAt (omega (arith, len)) ∙ k .stop (omega arith);
+  }
+    where
+      len : length (ts ++ h ∷ []) ≡ suc (length ts)
+      len = length-append ts (h ∷ []) ∙ omega arith
+
+      first : (j : ℕ) → j < suc (t .taken) → takesAt (length ts + j) ≡ true
+      first zero p = ap takesAt (omega arith) ∙ e
+      first (suc j) p = ap takesAt (omega (arith, len)) ∙ k .until j (omega arith)
+
+  none-more : (run ts : List ℕ) (r c cl v i : ℕ) (x : Memory) → At L W ts false ds r c cl v i x → (0 < length run → takesAt (length ts) ≡ false) → Offered run ts (record { taken = 0; writer = st W L r c false cl v i; store = x })
+  none-more run ts r c cl v i x a e = record {
+    rows = r;
+    column = c;
+    closed = cl;
+    level = v;
+    left = i;
+    writer-is = refl;
+    at = subst (λ b. At L W b false ds r c cl v i x) (sym (append-nil ts)) a;
+    most = omega arith;
+    until = λ j p. absurd (omega arith);
+    stop = λ p. ap takesAt (omega arith) ∙ e p;
+  }
+
+  offer-more : (h : ℕ) (run : List ℕ) → Offers run → Offers (h ∷ run)
+  unfolding offering
+  offer-more h run ih ts r c cl v i x a = go (takes (st W L r c false cl v i)) refl
+    where
+      y : Memory
+      y = stored (cellOf W r c) (pos h) x
+
+      o : Out
+      o = arrive K L W r y
+
+      b : Taking
+      b = offering K run (st W L r (c + 1) false cl v i) y
+
+      d : Taking
+      d = offering K run (st W L (r + 1) 0 false cl (o .level) (o .left)) (o .store)
+
+      more : Taking → Taking
+      more t = record { taken = suc (t .taken); writer = t .writer; store = t .store }
+
+      go : (t : Bool) → takes (st W L r c false cl v i) ≡ t → Offered (h ∷ run) ts (pick t (more (pick (ltb (c + 1) W) b d)) (record { taken = 0; writer = st W L r c false cl v i; store = x }))
+      go false e = none-more (h ∷ run) ts r c cl v i x a (λ _. sym (takes-is ts r c cl v i x a) ∙ e)
+      go true e = inner (ltb (c + 1) W) refl
+        where
+          free : v ≡ 0
+          free = unfold takes in eqb-true v 0 (split-both (eqb v 0) (ltb r maxHeight) e .0)
+
+          low : r < maxHeight
+          low = unfold takes in ltb-true r maxHeight (split-both (eqb v 0) (ltb r maxHeight) e .1)
+
+          open-here : takesAt (length ts) ≡ true
+          open-here = sym (takes-is ts r c cl v i x a) ∙ e
+
+          inner : (t : Bool) → ltb (c + 1) W ≡ t → Offered (h ∷ run) ts (more (pick t b d))
+          inner true q = one-more h run ts b open-here (ih (ts ++ h ∷ []) r (c + 1) cl v i y (begun-at ts r c cl v i x a free h (ltb-true _ _ q)))
+          inner false q = one-more h run ts d open-here (ih (ts ++ h ∷ []) (r + 1) 0 cl (o .level) (o .left) (o .store) (complete-at ts r c cl v i x a free h low (ltb-false _ _ q)))
+
+  pub offering-good : (run : List ℕ) → Offers run
+  offering-good [] ts r c cl v i x a = unfold offering in none-more [] ts r c cl v i x a (λ p. absurd (omega arith))
+  offering-good (h ∷ run) ts r c cl v i x a = offer-more h run (offering-good run) ts r c cl v i x a
