@@ -418,3 +418,222 @@ module _ (l W : ℕ) (ds : List DrawnRow) where
   pub offering-good : (run : List ℕ) → Offers run
   offering-good [] ts r c cl v i x a = unfold offering in none-more [] ts r c cl v i x a (λ p. absurd (omega arith))
   offering-good (h ∷ run) ts r c cl v i x a = offer-more h run (offering-good run) ts r c cl v i x a
+
+  -- ---- a draw: q is the row that waits, z what stands in the output area afterwards
+  module _ (ts : List ℕ) (f : Bool) (r c cl v i : ℕ) (x : Memory) (a : At L W ts f ds r c cl (suc v) i x) where
+    abbrev q : Waiting
+    q = waiting K L W cl (suc v) i r
+
+    abbrev out : Out
+    out = pull K L W cl (suc v) i r x
+
+    module _ (H : ℕ) (g : Grid) (t : Fits W H g ts f) where
+      abbrev s : Sound L W H g f ds r c cl (suc v) i x
+      s = a .sound H g t
+
+      pub pulled-by : Pulled K Kept five-three-laws L 1 W H g cl v i r x
+      pulled-by = pull-good K Kept five-three-laws L 1 W H g cl v i r c x (s .few) (s .idle (omega arith)) (s .inv)
+
+      abbrev name : RowName
+      name = rowName (1 + pulled-by .depth) (q .band) (q .row)
+
+      pub answer-is : bandRow q ≡ answered W name
+      unfolding bandColumns
+      answer-is =
+          let e : 1 + pulled-by .depth - 1 ≡ pulled-by .depth = omega arith in
+          ap₂ (λ b d. record { level = b; band = code (q .band); row = q .row; length = d }) (pulled-by .is .level-is ∙ omega arith)
+          (pulled-by .is .length-is ∙ ap (λ k. count (across (q .band)) (size k W)) (sym e))
+
+      named-more : (z : ℕ → ℤ) → map (λ d. d .row) (ds ++ (record { row = bandRow q; values = z } ∷ [])) ≡ map (answered W) (s .names ++ (name ∷ []))
+      named-more z = map-append (λ d. d .row) ds _ ∙ ap₂ (λ b d. b ++ (d ∷ [])) (s .named) answer-is ∙ sym (map-append (answered W) (s .names) _)
+
+      right : (z : ℕ → ℤ) → ((j : ℕ) → j < q .length → z j ≡ x (q .start + j)) → Right L W H g (record { row = bandRow q; values = z })
+      right z e = record {
+        depth = pulled-by .depth;
+        deep = pulled-by .deep;
+        band = q .band;
+        level-is = pulled-by .is .level-is;
+        band-is = refl;
+        length-is = pulled-by .is .length-is;
+        row-in = pulled-by .is .row-in;
+        values = λ j p. e j p ∙ pulled-by .is .values j p;
+      }
+
+      -- the rows left
+      one-less : (later′ : List RowName) → (s .names ++ (name ∷ [])) ++ (pulled-by .todo ++ later′) ≡ s .names ++ (pend L 1 W cl (suc v) i r ++ later′)
+      one-less later′ =
+          append-assoc (s .names) (name ∷ []) _ ∙ ap (λ l. s .names ++ (l ++ later′)) (sym (pulled-by .first))
+
+    -- what waits is named by the answer
+    pub head-is : (n : RowName) × (l : List RowName) × (coming L W f cl (suc v) i r ≡ n ∷ l) × (bandRow q ≡ answered W n)
+    head-is = let g = go f in (name _ _ (own-fits a), g .0, g .1, answer-is _ _ (own-fits a))
+      where
+        P : Pulled K Kept five-three-laws L 1 W (own-height f r) (own W ts) cl v i r x
+        P = pulled-by _ _ (own-fits a)
+
+        go : (b : Bool) → (l : List RowName) × (coming L W b cl (suc v) i r ≡ name _ _ (own-fits a) ∷ l)
+        go false = (P .todo, coming-open L W cl (suc v) i r ∙ P .first)
+        go true = (P .todo ++ later L 1 W r cl, coming-closed L W cl (suc v) i r ∙ ap (λ l. l ++ later L 1 W r cl) (P .first))
+
+  -- before the finish
+  module _ (ts : List ℕ) (r c cl v i : ℕ) (x : Memory) (a : At L W ts false ds r c cl (suc v) i x) (z : ℕ → ℤ) (e : (j : ℕ) → j < q ts false r c cl v i x a .length → z j ≡ x (q ts false r c cl v i x a .start + j)) where
+    abbrev ds′ : List DrawnRow
+    ds′ = ds ++ (record { row = bandRow (q ts false r c cl v i x a); values = z } ∷ [])
+
+    abbrev o₁ : Out
+    o₁ = out ts false r c cl v i x a
+
+    draw-open : At L W ts false ds′ r c cl (o₁ .level) (o₁ .left) (o₁ .store)
+    draw-open = record {
+      counted = a .counted;
+      column-in = a .column-in;
+      rows-in = a .rows-in;
+      ended = a .ended;
+      sound = λ H g t.
+          let s = a .sound H g t in
+          let P = pulled-by ts false r c cl v i x a H g t in
+          let c0 : c ≡ 0 = s .idle (omega arith) in
+          record {
+            inv = subst (λ b. Inv H g cl (o₁ .level) (o₁ .left) r b (o₁ .store)) (sym c0) (P .good .inv);
+            few = P .good .few;
+            idle = λ _. c0;
+            ready = open-ready L cl (o₁ .level) (ready-open L cl (suc v) (s .ready));
+            names = s .names ++ (name ts false r c cl v i x a H g t ∷ []);
+            named = named-more ts false r c cl v i x a H g t z;
+            order =
+                ap (λ l. (s .names ++ (name ts false r c cl v i x a H g t ∷ [])) ++ l)
+                (coming-open L W cl (o₁ .level) (o₁ .left) r ∙ P .good .rows ∙ sym (append-nil _))
+                ∙ one-less ts false r c cl v i x a H g t []
+                ∙ ap (λ l. s .names ++ l) (append-nil _ ∙ sym (coming-open L W cl (suc v) i r))
+                ∙ s .order;
+            values = all-append (s .values) (all-more (right ts false r c cl v i x a H g t z e) all-none);
+          };
+    }
+
+  -- after it: once nothing waits, the levels close on
+  module _ (ts : List ℕ) (r c cl v i : ℕ) (x : Memory) (a : At L W ts true ds r c cl (suc v) i x) (z : ℕ → ℤ) (e : (j : ℕ) → j < q ts true r c cl v i x a .length → z j ≡ x (q ts true r c cl v i x a .start + j)) where
+    abbrev ds″ : List DrawnRow
+    ds″ = ds ++ (record { row = bandRow (q ts true r c cl v i x a); values = z } ∷ [])
+
+    abbrev o₂ : Out
+    o₂ = out ts true r c cl v i x a
+
+    -- what the draw leaves
+    abbrev R : ℕ → Shut
+    R b = resumed true (st W L r c true cl (suc v) i) o₂ b
+
+    module _ (H : ℕ) (g : Grid) (t : Fits W H g ts true) where
+      abbrev s₂ : Sound L W H g true ds r c cl (suc v) i x
+      s₂ = a .sound H g t
+
+      abbrev P₂ : Pulled K Kept five-three-laws L 1 W H g cl v i r x
+      P₂ = pulled-by ts true r c cl v i x a H g t
+
+      column-none : c ≡ 0
+      column-none = s₂ .idle (omega arith)
+
+      rows-are : r ≡ H
+      rows-are = rows-all W H r c (omega (arith, a .column-in)) column-none (sym (a .counted) ∙ t .whole refl)
+
+      -- with what is still to come after the draw
+      drawn-order : (l : List RowName) → l ≡ P₂ .todo ++ later L 1 W r cl → (s₂ .names ++ (name ts true r c cl v i x a H g t ∷ [])) ++ l ≡ made W L r true
+      drawn-order l q =
+          ap (λ k. (s₂ .names ++ (name ts true r c cl v i x a H g t ∷ [])) ++ k) q
+          ∙ one-less ts true r c cl v i x a H g t (later L 1 W r cl)
+          ∙ ap (λ k. s₂ .names ++ k) (sym (coming-closed L W cl (suc v) i r))
+          ∙ s₂ .order
+
+      drawn-sound : (cl′ v′ i′ : ℕ) (y : Memory) → Inv H g cl′ v′ i′ r 0 y → i′ ≤ 4 → (v′ ≡ 0 → cl′ ≡ L) → pend L 1 W cl′ v′ i′ r ++ later L 1 W r cl′ ≡ P₂ .todo ++ later L 1 W r cl → Sound L W H g true ds″ r c cl′ v′ i′ y
+      drawn-sound cl′ v′ i′ y inv few all rest = record {
+        inv = subst (λ b. Inv H g cl′ v′ i′ r b y) (sym column-none) inv;
+        few = few;
+        idle = λ _. column-none;
+        ready = closed-ready L cl′ v′ all;
+        names = s₂ .names ++ (name ts true r c cl v i x a H g t ∷ []);
+        named = named-more ts true r c cl v i x a H g t z;
+        order = drawn-order _ (coming-closed L W cl′ v′ i′ r ∙ rest);
+        values = all-append (s₂ .values) (all-more (right ts true r c cl v i x a H g t z e) all-none);
+      }
+
+      closed-sound : (b : ℕ) → o₂ .level ≡ b → Sound L W H g true ds″ r c (R b .closed) (R b .out .level) (R b .out .left) (R b .out .store)
+      unfolding resumed
+      closed-sound zero y =
+          let C = shut-good K Kept five-three-laws L 1 W H g cl r (o₂ .left) (o₂ .store) rows-are (a .ended refl .0) (subst (λ b. Inv H g cl b (o₂ .left) r 0 (o₂ .store)) y (P₂ .good .inv)) in
+          let none : P₂ .todo ≡ [] = sym (P₂ .good .rows) ∙ ap (λ b. pend L 1 W cl b (o₂ .left) r) y ∙ pend-none L 1 W cl (o₂ .left) r in
+          drawn-sound _ _ _ _ (C .inv) (C .few) (C .all) (C .rows ∙ ap (λ l. l ++ later L 1 W r cl) (sym none))
+      closed-sound (suc b) y = drawn-sound cl (o₂ .level) (o₂ .left) (o₂ .store) (P₂ .good .inv) (P₂ .good .few) (λ k. absurd (omega arith)) (ap (λ l. l ++ later L 1 W r cl) (P₂ .good .rows))
+
+    draw-closed : At L W ts true ds″ r c (R (o₂ .level) .closed) (R (o₂ .level) .out .level) (R (o₂ .level) .out .left) (R (o₂ .level) .out .store)
+    draw-closed = record {
+      counted = a .counted;
+      column-in = a .column-in;
+      rows-in = a .rows-in;
+      ended = a .ended;
+      sound = λ H g t. closed-sound H g t (o₂ .level) refl;
+    }
+
+  -- either
+  pub draw-good : (ts : List ℕ) (f : Bool) (r c cl v i : ℕ) (x : Memory) (a : At L W ts f ds r c cl (suc v) i x) (z : ℕ → ℤ) →
+      (let w = waiting K L W cl (suc v) i r in let o = pull K L W cl (suc v) i r x in let k = resumed f (st W L r c f cl (suc v) i) o (o .level) in
+      ((j : ℕ) → j < w .length → z j ≡ x (w .start + j)) → At L W ts f (ds ++ (record { row = bandRow w; values = z } ∷ [])) r c (k .closed) (k .out .level) (k .out .left) (k .out .store))
+  draw-good ts false r c cl v i x a z e = unfold resumed in draw-open ts r c cl v i x a z e
+  draw-good ts true r c cl v i x a z e = draw-closed ts r c cl v i x a z e
+
+  -- ---- the finish
+  pub finish-good : (ts : List ℕ) (r c cl v i : ℕ) (x : Memory) → At L W ts false ds r c cl v i x → v ≡ 0 → 0 < r → c ≡ 0 →
+      (let k = shut K L W 0 r x in At L W ts true ds r c (k .closed) (k .out .level) (k .out .left) (k .out .store))
+  finish-good ts r c cl v i x a z p n = record {
+      counted = a .counted;
+      column-in = a .column-in;
+      rows-in = a .rows-in;
+      ended = λ _. (p, n);
+      sound = ended-sound;
+    }
+    where
+      k : Shut
+      k = shut K L W 0 r x
+
+      ended-sound : (H : ℕ) (g : Grid) → Fits W H g ts true → Sound L W H g true ds r c (k .closed) (k .out .level) (k .out .left) (k .out .store)
+      ended-sound H g t =
+          let s = a .sound H g (record { within = t .within; heights = t .heights; whole = λ e. absurd (differ e) }) in
+          let C =
+          shut-good K Kept five-three-laws L 1 W H g 0 r i x (rows-all W H r c (omega (arith, a .column-in)) n (sym (a .counted) ∙ t .whole refl)) p
+          (subst₂ (λ b d. Inv H g 0 b i r d x) z n (subst (λ b. Inv H g b v i r c x) (ready-open L cl v (s .ready)) (s .inv))) in
+          record {
+            inv = subst (λ b. Inv H g (k .closed) (k .out .level) (k .out .left) r b (k .out .store)) (sym n) (C .inv);
+            few = C .few;
+            idle = λ _. n;
+            ready = closed-ready L (k .closed) (k .out .level) (C .all);
+            names = s .names;
+            named = s .named;
+            order = made-whole (s .names) (s .order) _ (coming-closed L W (k .closed) (k .out .level) (k .out .left) r ∙ C .rows ∙ later-none L 1 W r);
+            values = s .values;
+          }
+        where
+          made-whole : (names : List RowName) → names ++ coming L W false cl v i r ≡ made W L r false → (l : List RowName) → l ≡ closing L 1 W r → names ++ l ≡ made W L r true
+          made-whole names e l q =
+              unfold made in
+              (let m : names ≡ inTurn r (madeBy L 1 W) ++ [] = sym (append-nil names) ∙ ap (λ b. names ++ b) (sym (none-waits a z)) ∙ e in
+              ap₂ _++_ (m ∙ append-nil (inTurn r (madeBy L 1 W))) q)
+
+  -- ---- at first
+  pub fresh-at : (x : Memory) → 0 < W → ds ≡ [] → At L W [] false ds 0 0 0 0 0 x
+  fresh-at x p e = record {
+    counted = omega arith;
+    column-in = p;
+    rows-in = omega arith;
+    ended = λ e. absurd (differ e);
+    sound = λ H g t. record {
+      inv = fresh-good K Kept five-three-laws L W H g x;
+      few = omega arith;
+      idle = λ _. refl;
+      ready = open-ready L 0 0 refl;
+      names = [];
+      named = ap (map (λ d. d .row)) e;
+      order = coming-open L W 0 0 0 0 ∙ pend-none L 1 W 0 0 0 ∙ sym (none-made W);
+      values = subst (All (Right L W H g)) (sym e) all-none;
+    };
+  }
+    where
+      none-made : (W : ℕ) → made W L 0 false ≡ []
+      none-made W = unfold made inTurn in refl
