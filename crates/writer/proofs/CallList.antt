@@ -159,7 +159,7 @@ pub record At (L W : ℕ) (ts : List ℕ) (f : Bool) (ds : List DrawnRow) (r c c
   pub sound : (H : ℕ) (g : Grid) → Fits W H g ts f → Sound L W H g f ds r c cl v i x
 
 -- ---- there is such a grid: the heights taken themselves
-abbrev own : ℕ → List ℕ → Grid
+abbrev pub own : ℕ → List ℕ → Grid
 own W ts r c = pos (getD ts (r * W + c) 0)
 
 unfoldable pub own-height : Bool → ℕ → ℕ
@@ -167,7 +167,7 @@ own-height false r = suc r
 own-height true r = r
 
 module _ {L W : ℕ} {ts : List ℕ} {f : Bool} {ds : List DrawnRow} {r c cl v i : ℕ} {x : Memory} (a : At L W ts f ds r c cl v i x) where
-  own-fits : Fits W (own-height f r) (own W ts) ts f
+  pub own-fits : Fits W (own-height f r) (own W ts) ts f
   own-fits = record { within = go f refl; heights = λ _ _ _ _. refl; whole = all f refl }
     where
       go : (t : Bool) → f ≡ t → length ts ≤ W * own-height t r

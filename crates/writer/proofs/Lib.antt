@@ -5,3 +5,4 @@ pub mod LevelLaws
 pub mod Waiting
 pub mod Cascade
 pub mod CallList
+pub mod Demand3
