@@ -10,7 +10,7 @@ use native.Mathlib.Omega.{arith}
 use lib.IntN.{ℤ, pos}
 use lib.ListN.{length, take, drop, getD}
 use lib.Dec.{leb, ltb, eqb}
-use borrow.Author.Tests.{le-leb, eq-eqb, ne-eqb, eqb-true, ltb-true, leb-true}
+use borrow.Author.Tests.{le-leb, lt-ltb, le-ltb, eq-eqb, ne-eqb, eqb-true, ltb-true, leb-true}
 use Rattle.numbers.specs.Signal.{pick, both}
 use Rattle.numbers.specs.Word.{wrap32, whole}
 use Rattle.numbers.proofs.Sweep.{both as split-both}
@@ -247,3 +247,155 @@ module _ (l W : ℕ) (wide : within 1 maxWidth W ≡ true) (deep : within 1 maxL
     finish-reached (suc q) e =
         let p = finish-refused q e in
         subst₂ (λ d g. Reached (es ++ d ∷ []) g) (sym (p .0)) (sym (p .1)) (unchanged (finished (refused (suc q))) refl refl refl)
+
+  -- ---- a draw
+  abbrev same : Area → Area
+  same b = record { size = b .size; numbers = b .numbers }
+
+  -- what a draw is to say and leave, of the rows that wait
+  pub record Draws (es : List Event) (e : Event) (b : Area) : Type 0 where
+    pub area : Area
+    pub says : e ≡ drew b (drawSays W (waitingOf W L es) (b .size)) area
+    pub size-is : area .size ≡ b .size
+    pub surplus : (j : ℕ) → written (drawSays W (waitingOf W L es) (b .size)) ≤ j → area .numbers j ≡ b .numbers j
+
+  -- nothing waits
+  module _ (es : List Event) (n r c cl i : ℕ) (x : Memory) (long : storeLength W L ≤ n) (a : State es r c cl 0 i x) (b : Area) where
+    abbrev s₀ : Writer
+    s₀ = st W L r c (finishedBy es) cl 0 i
+
+    question-none : drawQuestion s₀ n (b .size) ≡ 0
+    unfolding drawQuestion
+    question-none = simp (ranges es n r c cl 0 i x long a, enough es n r c cl 0 i x long a)
+
+    draw-none : (event (draw b) (world s₀ n x) ≡ drew b (gives none) (same b)) × (next (draw b) (world s₀ n x) ≡ world s₀ n x)
+    unfolding event next drawReply drawStore drawArea
+    draw-none = (rw question-none refl, rw question-none refl)
+
+    none-reached : Reached (es ++ event (draw b) (world s₀ n x) ∷ []) (next (draw b) (world s₀ n x))
+    none-reached =
+        subst₂ (λ d k. Reached (es ++ d ∷ []) k) (sym (draw-none .0)) (sym (draw-none .1))
+        (unchanged es n r c cl 0 i x long a (drew b (gives none) (same b)) refl refl refl)
+
+    none-says : Draws es (event (draw b) (world s₀ n x)) b
+    none-says =
+        let e : waitingOf W L es ≡ [] = waiting-coming es n r c cl 0 i x long a ∙ none-waits a refl in
+        record { area = same b; says = draw-none .0 ∙ ap (λ l. drew b (drawSays W l (b .size)) (same b)) (sym e); size-is = refl; surplus = λ j p. refl }
+
+  -- a row waits
+  module _ (es : List Event) (n r c cl u i : ℕ) (x : Memory) (long : storeLength W L ≤ n) (a : State es r c cl (suc u) i x) (b : Area) where
+    abbrev f₁ : Bool
+    f₁ = finishedBy es
+
+    abbrev s₁ : Writer
+    s₁ = st W L r c f₁ cl (suc u) i
+
+    abbrev q : Waiting
+    q = waiting fiveThree L W cl (suc u) i r
+
+    abbrev o : Out
+    o = pull fiveThree L W cl (suc u) i r x
+
+    abbrev R : Shut
+    R = resumed f₁ s₁ o (o .level)
+
+    -- the output area afterwards
+    abbrev z : ℕ → ℤ
+    z = fronted (q .length) (rest (q .start) x) (b .numbers)
+
+    question-some : drawQuestion s₁ n (b .size) ≡ ask (leb (q .length) (b .size)) 12 0
+    unfolding drawQuestion
+    question-some = simp (ranges es n r c cl (suc u) i x long a, enough es n r c cl (suc u) i x long a, ne-eqb (suc u) 0 (λ e. omega arith))
+
+    draw-short : leb (q .length) (b .size) ≡ false → (event (draw b) (world s₁ n x) ≡ drew b (refused 12) (same b)) × (next (draw b) (world s₁ n x) ≡ world s₁ n x)
+    unfolding event next drawReply drawStore drawArea
+    draw-short e = let p : drawQuestion s₁ n (b .size) ≡ 12 = question-some ∙ ap (λ t. ask t 12 0) e in (rw p refl, rw p refl)
+
+    draw-row : leb (q .length) (b .size) ≡ true → (event (draw b) (world s₁ n x) ≡ drew b (gives (row (bandRow q))) (record { size = b .size; numbers = z })) × (next (draw b) (world s₁ n x) ≡ world (st W L r c f₁ (R .closed) (R .out .level) (R .out .left)) n (R .out .store))
+    unfolding event next drawReply drawStore drawArea
+    draw-row e = let p : drawQuestion s₁ n (b .size) ≡ 0 = question-some ∙ ap (λ t. ask t 12 0) e in (rw p refl, rw p refl)
+
+    values-are : (j : ℕ) → j < q .length → z j ≡ x (q .start + j)
+    unfolding fronted rest
+    values-are j p = simp (lt-ltb j (q .length) p)
+
+    surplus-is : (j : ℕ) → q .length ≤ j → z j ≡ b .numbers j
+    unfolding fronted
+    surplus-is j p = simp (le-ltb j (q .length) p)
+
+    some-reached : (t : Bool) → leb (q .length) (b .size) ≡ t → Reached (es ++ event (draw b) (world s₁ n x) ∷ []) (next (draw b) (world s₁ n x))
+    some-reached false e =
+        let p = draw-short e in
+        subst₂ (λ d k. Reached (es ++ d ∷ []) k) (sym (p .0)) (sym (p .1))
+        (unchanged es n r c cl (suc u) i x long a (drew b (refused 12) (same b)) refl refl refl)
+    some-reached true e =
+        let p = draw-row e in
+        let d = drew b (gives (row (bandRow q))) (record { size = b .size; numbers = z }) in
+        subst₂ (λ d k. Reached (es ++ d ∷ []) k) (sym (p .0)) (sym (p .1))
+        (more es d f₁ n r c (R .closed) (R .out .level) (R .out .left) (R .out .store) long (either-false f₁)
+        (subst (λ t. At L W t f₁ (drawn es ++ drawnBy d) r c (R .closed) (R .out .level) (R .out .left) (R .out .store)) (sym (append-nil (taken es)))
+        (draw-good l W (drawn es) (taken es) f₁ r c cl u i x a z values-are)))
+
+    some-says : (t : Bool) → leb (q .length) (b .size) ≡ t → Draws es (event (draw b) (world s₁ n x)) b
+    some-says t e = go t e
+      where
+        h : (m : RowName) × (k : List RowName) × (coming L W f₁ cl (suc u) i r ≡ m ∷ k) × (bandRow q ≡ answered W m)
+        h = head-is l W (drawn es) (taken es) f₁ r c cl u i x a
+
+        m : RowName
+        m = h .0
+
+        long-is : q .length ≡ bandColumns W (m .level) (m .band)
+        long-is = ap (λ y. y .length) (h .3)
+
+        says-is : drawSays W (waitingOf W L es) (b .size) ≡ pick (leb (q .length) (b .size)) (gives (row (answered W m))) (refused 12)
+        says-is =
+            ap (λ y. drawSays W y (b .size)) (waiting-coming es n r c cl (suc u) i x long a ∙ h .2)
+            ∙ ap (λ y. pick (leb y (b .size)) (gives (row (answered W m))) (refused 12)) (sym long-is)
+
+        go : (t : Bool) → leb (q .length) (b .size) ≡ t → Draws es (event (draw b) (world s₁ n x)) b
+        go false e =
+            record {
+              area = same b;
+              says = draw-short e .0 ∙ ap (λ y. drew b y (same b)) (sym (says-is ∙ ap (λ y. pick y (gives (row (answered W m))) (refused 12)) e));
+              size-is = refl;
+              surplus = λ j p. refl;
+            }
+        go true e =
+            let y : drawSays W (waitingOf W L es) (b .size) ≡ gives (row (answered W m)) = says-is ∙ ap (λ y. pick y (gives (row (answered W m))) (refused 12)) e in
+            record {
+              area = record { size = b .size; numbers = z };
+              says = draw-row e .0 ∙ ap (λ k. drew b k (record { size = b .size; numbers = z })) (ap (λ k. gives (row k)) (h .3) ∙ sym y);
+              size-is = refl;
+              surplus = λ j p. surplus-is j (subst (λ k. k ≤ j) (ap written y ∙ sym long-is) p);
+            }
+
+  draw-reached : (es : List Event) (n r c cl v i : ℕ) (x : Memory) → storeLength W L ≤ n → State es r c cl v i x → (b : Area) → Reached (es ++ event (draw b) (world (st W L r c (finishedBy es) cl v i) n x) ∷ []) (next (draw b) (world (st W L r c (finishedBy es) cl v i) n x))
+  draw-reached es n r c cl zero i x long a b = none-reached es n r c cl i x long a b
+  draw-reached es n r c cl (suc u) i x long a b = some-reached es n r c cl u i x long a b _ refl
+
+  draw-says : (es : List Event) (n r c cl v i : ℕ) (x : Memory) → storeLength W L ≤ n → State es r c cl v i x → (b : Area) → Draws es (event (draw b) (world (st W L r c (finishedBy es) cl v i) n x)) b
+  draw-says es n r c cl zero i x long a b = none-says es n r c cl i x long a b
+  draw-says es n r c cl (suc u) i x long a b = some-says es n r c cl u i x long a b _ refl
+
+  -- ---- every call, and every list of calls
+  call-reached : (k : Call) (es : List Event) (n r c cl v i : ℕ) (x : Memory) → storeLength W L ≤ n → State es r c cl v i x → Reached (es ++ event k (world (st W L r c (finishedBy es) cl v i) n x) ∷ []) (next k (world (st W L r c (finishedBy es) cl v i) n x))
+  call-reached (offer run) es n r c cl v i x long a = offer-reached es n r c cl v i x long a run _ refl
+  call-reached (draw b) es n r c cl v i x long a = draw-reached es n r c cl v i x long a b
+  call-reached finish es n r c cl v i x long a = finish-reached es n r c cl v i x long a _ refl
+
+  pub step-reached : (k : Call) (es : List Event) (w : World) → Reached es w → Reached (es ++ event k w ∷ []) (next k w)
+  step-reached k es w m =
+      subst (λ s. Reached (es ++ event k (world s (w .length) (w .store)) ∷ []) (next k (world s (w .length) (w .store)))) (sym (m .writer-is))
+      (call-reached k es (w .length) (m .rows) (m .column) (m .closed) (m .level) (m .rest) (w .store) (m .long) (m .at))
+
+  pub list-reached : (cs : List Call) (es : List Event) (w : World) → Reached es w → Reached (es ++ events cs w) (final cs w)
+  unfolding events final
+  list-reached [] es w m = subst (λ l. Reached l w) (sym (append-nil es)) m
+  list-reached (k ∷ cs) es w m =
+      subst (λ l. Reached l (final cs (next k w))) (append-assoc es (event k w ∷ []) (events cs (next k w)))
+      (list-reached cs (es ++ event k w ∷ []) (next k w) (step-reached k es w m))
+
+  pub fresh-reached : (n : ℕ) (x : Memory) → 0 < W → storeLength W L ≤ n → Reached [] (world (fresh W L) n x)
+  unfolding taken finishedBy drawn
+  fresh-reached n x p long = record { long = long; rows = 0; column = 0; closed = 0; level = 0; rest = 0; writer-is = refl; at = fresh-at l W [] x p refl }
