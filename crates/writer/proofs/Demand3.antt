@@ -399,3 +399,156 @@ module _ (l W : ℕ) (wide : within 1 maxWidth W ≡ true) (deep : within 1 maxL
   pub fresh-reached : (n : ℕ) (x : Memory) → 0 < W → storeLength W L ≤ n → Reached [] (world (fresh W L) n x)
   unfolding taken finishedBy drawn
   fresh-reached n x p long = record { long = long; rows = 0; column = 0; closed = 0; level = 0; rest = 0; writer-is = refl; at = fresh-at l W [] x p refl }
+
+-- ---- the statement, read off what is reached
+-- codes tell bands apart
+uncode : ℕ → Band
+uncode zero = LL
+uncode (suc zero) = HL
+uncode (suc (suc zero)) = LH
+uncode (suc (suc (suc c))) = HH
+
+code-back : (b : Band) → uncode (code b) ≡ b
+unfolding uncode code
+code-back LL = refl
+code-back HL = refl
+code-back LH = refl
+code-back HH = refl
+
+code-one : (b d : Band) → code b ≡ code d → b ≡ d
+code-one b d e = sym (code-back b) ∙ ap uncode e ∙ code-back d
+
+five-levels : (l : ℕ) → within 1 maxLevels (suc l) ≡ true → suc l ≤ 5
+unfolding within maxLevels
+five-levels l h = leb-true (suc l) 5 (split-both (leb 1 (suc l)) _ h .1)
+
+some-width : (W : ℕ) → within 1 maxWidth W ≡ true → 0 < W
+unfolding within
+some-width W h = leb-true 1 W (split-both (leb 1 W) _ h .0)
+
+-- a drawn row of words is a row of T.800's whole numbers, for a map
+right-values : (L W H : ℕ) (g : Grid) → L ≤ 5 → (es : List Event) → MapOf W H g es → (d : DrawnRow) → Right L W H g d → HasValues W H g d
+right-values L W H g few es m d t = record {
+  are = λ b e j p.
+      let same : b ≡ t .band = code-one b (t .band) (sym e ∙ t .band-is) in
+      t .values j p
+      ∙ map-band W H g (m .map) (t .depth) (omega (arith, t .deep)) (t .band) (d .row .row) j (t .row-in) (subst (λ k. j < k) (t .length-is) p)
+      ∙ ap₂ (λ k c. levelBand whole W H g k c (d .row .row) j) (sym (t .level-is)) (sym same);
+}
+
+-- a map that begins with the heights taken has at least the rows taken whole
+rows-within : (W H r c : ℕ) → 0 < W → r * W + c ≤ W * H → r ≤ H
+rows-within W H r c p h =
+    elim (decLt H r) [
+      | no q ↦ omega (arith, q)
+      | yes q ↦ absurd (omega (arith, mul-le-mul-right {m = suc H} {n = r} W q, suc-mul H W, mul-comm W H))
+    ]
+
+map-fits : (W H : ℕ) (g : Grid) (es : List Event) → MapOf W H g es → Fits W H g (taken es) (finishedBy es)
+map-fits W H g es m = record { within = m .within; heights = m .heights; whole = m .all }
+
+-- the rows made so far are the first of all
+made-prefix : (W L H r : ℕ) → r ≤ H → (k : List RowName) × (made W L r false ++ k ≡ made W L H true)
+unfolding made
+made-prefix W L H r h =
+    let q = turn-prefix H r (madeBy L 1 W) h in
+    (q .0 ++ closing L 1 W H, ap (λ b. b ++ (q .0 ++ closing L 1 W H)) (append-nil (inTurn r (madeBy L 1 W))) ∙ sym (append-assoc (inTurn r (madeBy L 1 W)) (q .0) (closing L 1 W H)) ∙ ap (λ b. b ++ closing L 1 W H) (q .1))
+
+module _ (l W : ℕ) (wide : within 1 maxWidth W ≡ true) (deep : within 1 maxLevels (suc l) ≡ true) (es : List Event) (n r c cl v i : ℕ) (x : Memory) (long : storeLength W (suc l) ≤ n) (a : At (suc l) W (taken es) (finishedBy es) (drawn es) r c cl v i x) where
+  abbrev M : ℕ
+  M = suc l
+
+  abbrev g₀ : Bool
+  g₀ = finishedBy es
+
+  abbrev w₀ : World
+  w₀ = record { writer = st W M r c g₀ cl v i; length = n; store = x }
+
+  rows-here : wholeRows W es ≡ r
+  rows-here = rows-are l W wide deep es n r c cl v i x long a
+
+  waiting-here : waitingOf W M es ≡ coming M W g₀ cl v i r
+  waiting-here = waiting-coming l W wide deep es n r c cl v i x long a
+
+  made-here : madeOf W M es ≡ made W M r g₀
+  unfolding madeOf
+  made-here = ap (λ b. made W M b g₀) rows-here
+
+  ordered : map (λ d. d .row) (drawn es) ++ map (answered W) (waitingOf W M es) ≡ map (answered W) (madeOf W M es)
+  ordered =
+      let s = own-sound a in
+      ap₂ (λ b d. b ++ map (answered W) d) (s .named) waiting-here
+      ∙ sym (map-append (answered W) (s .names) (coming M W g₀ cl v i r))
+      ∙ ap (map (answered W)) (s .order ∙ sym made-here)
+
+  firsts : (H : ℕ) (g : Grid) → MapOf W H g es → (k : List RowName) × (made W M r g₀ ++ k ≡ made W M H true)
+  firsts H g m = go g₀ refl
+    where
+      t : Fits W H g (taken es) g₀
+      t = map-fits W H g es m
+
+      go : (b : Bool) → g₀ ≡ b → (k : List RowName) × (made W M r b ++ k ≡ made W M H true)
+      go false e = made-prefix W M H r (rows-within W H r c (some-width W wide) (omega (arith, a .counted, t .within)))
+      go true e =
+          let z : r ≡ H = rows-all W H r c (some-width W wide) (a .ended e .1) (sym (a .counted) ∙ t .whole e) in
+          ([], append-nil _ ∙ ap (λ b. made W M b true) z)
+
+  is-first : (H : ℕ) (g : Grid) → MapOf W H g es → (k : List RowName) × (map (λ d. d .row) (drawn es) ++ map (answered W) k ≡ map (answered W) (made W M H true))
+  is-first H g m =
+      let s = own-sound a in
+      let p = firsts H g m in
+      (coming M W g₀ cl v i r ++ p .0,
+       ap (λ b. b ++ map (answered W) (coming M W g₀ cl v i r ++ p .0)) (s .named)
+       ∙ sym (map-append (answered W) (s .names) (coming M W g₀ cl v i r ++ p .0))
+       ∙ ap (map (answered W)) (sym (append-assoc (s .names) (coming M W g₀ cl v i r) (p .0)) ∙ ap (λ b. b ++ p .0) (s .order) ∙ p .1))
+
+  whole-map : g₀ ≡ true → (1 ≤ wholeRows W es) × (wholeRows W es ≤ maxHeight) × (length (taken es) ≡ W * wholeRows W es)
+  whole-map e =
+      let p = a .ended e in
+      (omega (arith, rows-here, p .0), omega (arith, rows-here, a .rows-in), a .counted ∙ omega (arith, p .1, mul-comm r W) ∙ ap (λ b. W * b) (sym rows-here))
+
+  drew-all : g₀ ≡ true → waitingOf W M es ≡ [] → (names : List RowName) × (map (λ d. d .row) (drawn es) ≡ map (answered W) names) × ((y : RowName) → times y names ≡ pick (bandRowExists W (wholeRows W es) M (y .level) (y .band) (y .row)) 1 0)
+  drew-all e z =
+      (madeOf W M es,
+       sym (append-nil _) ∙ ap (λ b. map (λ d. d .row) (drawn es) ++ map (answered W) b) (sym z) ∙ ordered,
+       λ y. ap (times y) (made-here ∙ ap (made W M r) e) ∙ made-once W M r (a .ended e .0) y ∙ ap (λ b. pick (bandRowExists W b M (y .level) (y .band) (y .row)) 1 0) (sym rows-here))
+
+  claim : Demand3 W M es (λ k. event k w₀)
+  claim = record {
+    in-order = ordered;
+    values = λ H g m. all-map (right-values M W H g (five-levels l deep) es m) (a .sound H g (map-fits W H g es m) .values);
+    first = is-first;
+    finished-map = whole-map;
+    all-drawn = drew-all;
+    draws = λ b. let d = draw-says l W wide deep es n r c cl v i x long a b in (d .area, d .says, d .size-is, d .surplus);
+    offers-turned = λ run. offer-turned l W wide deep es n r c cl v i x long a run;
+    offers-taken = λ run. offer-takes l W wide deep es n r c cl v i x long a run;
+    finishes = finish-answer l W wide deep es n r c cl v i x long a;
+  }
+
+-- ---- the theorem
+set-up-passed : (W L n : ℕ) → setUpQuestion W L n ≡ 0 → (within 1 maxWidth W ≡ true) × (within 1 maxLevels L ≡ true) × (storeLength W L ≤ n)
+unfolding setUpQuestion
+set-up-passed W L n e = go (within 1 maxWidth W) refl (within 1 maxLevels L) refl (leb (storeLength W L) n) refl e
+  where
+    go : (p : Bool) → within 1 maxWidth W ≡ p → (q : Bool) → within 1 maxLevels L ≡ q → (t : Bool) → leb (storeLength W L) n ≡ t → ask p 2 (ask q 4 (ask t 5 0)) ≡ 0 → (within 1 maxWidth W ≡ true) × (within 1 maxLevels L ≡ true) × (storeLength W L ≤ n)
+    go false a q b t c z = absurd (omega arith)
+    go true a false b t c z = absurd (omega arith)
+    go true a true b false c z = absurd (omega arith)
+    go true a true b true c z = (a, b, leb-true _ _ c)
+
+some-level : within 1 maxLevels 0 ≡ true → ⊥
+unfolding within
+some-level e = let z : _≡_ {A = ℕ} 0 1 = ap (λ t. pick t 1 0) e in omega arith
+
+-- every list of calls on a fresh writer: the state passes question 1, and demand 3 holds
+pub demand-3 : (W L n : ℕ) (x : Memory) → setUpQuestion W L n ≡ 0 → (cs : List Call) →
+    (let w = freshWorld W L n x in (inRanges (final cs w .writer) ≡ true) × Demand3 W L (events cs w) (λ k. event k (final cs w)))
+demand-3 W zero n x h cs = absurd (some-level (set-up-passed W 0 n h .1))
+demand-3 W (suc l) n x h cs =
+    let p = set-up-passed W (suc l) n h in
+    let w = freshWorld W (suc l) n x in
+    let m = list-reached l W (p .0) (p .1) cs [] w (fresh-reached l W (p .0) (p .1) n (w .store) (some-width W (p .0)) (p .2)) in
+    let e = final cs w in
+    subst (λ s. (inRanges s ≡ true) × Demand3 W (suc l) (events cs w) (λ k. event k (record { writer = s; length = e .length; store = e .store }))) (sym (m .writer-is))
+    (in-ranges (m .at) (p .0) (p .1), claim l W (p .0) (p .1) (events cs w) (e .length) (m .rows) (m .column) (m .closed) (m .level) (m .rest) (e .store) (m .long) (m .at))
