@@ -173,6 +173,7 @@ module _ {L W : ℕ} {ts : List ℕ} {f : Bool} {ds : List DrawnRow} {r c cl v i
       go : (t : Bool) → f ≡ t → length ts ≤ W * own-height t r
       go false e = unfold own-height in omega (arith, a .counted, a .column-in, mul-suc W r, mul-comm r W)
       go true e = unfold own-height in omega (arith, a .counted, a .ended e .1, mul-comm r W)
+
       all : (t : Bool) → f ≡ t → t ≡ true → length ts ≡ W * own-height t r
       all false e z = absurd (differ z)
       all true e z = unfold own-height in omega (arith, a .counted, a .ended e .1, mul-comm r W)
@@ -207,6 +208,7 @@ module _ {L W : ℕ} {ts : List ℕ} {f : Bool} {ds : List DrawnRow} {r c cl v i
     where
       none : pend L 1 W cl v i r ≡ []
       none = ap (λ a. pend L 1 W cl a i r) z ∙ pend-none L 1 W cl i r
+
       go : (t : Bool) → Ready L t cl v → coming L W t cl v i r ≡ []
       go false q = unfold coming in none
       go true q = unfold coming Ready in (ap₂ _++_ none (ap (later L 1 W r) (q z) ∙ later-all L 1 W r))
@@ -583,12 +585,12 @@ module _ (l W : ℕ) (ds : List DrawnRow) where
   pub finish-good : (ts : List ℕ) (r c cl v i : ℕ) (x : Memory) → At L W ts false ds r c cl v i x → v ≡ 0 → 0 < r → c ≡ 0 →
       (let k = shut K L W 0 r x in At L W ts true ds r c (k .closed) (k .out .level) (k .out .left) (k .out .store))
   finish-good ts r c cl v i x a z p n = record {
-      counted = a .counted;
-      column-in = a .column-in;
-      rows-in = a .rows-in;
-      ended = λ _. (p, n);
-      sound = ended-sound;
-    }
+    counted = a .counted;
+    column-in = a .column-in;
+    rows-in = a .rows-in;
+    ended = λ _. (p, n);
+    sound = ended-sound;
+  }
     where
       k : Shut
       k = shut K L W 0 r x

@@ -342,18 +342,18 @@ module _ (K : LevelKind) (Held : Meaning) (laws : LevelLaws K Held) where
   unfolding LevelsHold SetWaits waiting pull pend below
   pull-here l k w H g c zero m j x f z v = let e : 1 ≤ 0 = v .1 .some-left in absurd (omega arith)
   pull-here l k w H g c (suc i) m j x f z v = record {
-      depth = 0;
-      deep = omega arith;
-      todo = rowsOf k w m n (lasts i) ++ next;
-      is = record {
-        level-is = refl;
-        length-is = unfold size in refl;
-        row-in = unfold size in row-there;
-        values = λ a h. unfold levelBand size approximation in v .1 .stands b a row-there h;
-      };
-      first = unfold lasts in (ap (λ r. r ++ next) (rows-yes k w m n b (lasts i) (v .1 .has)) ∙ ap (λ a. rowName a b n ∷ (rowsOf k w m n (lasts i) ++ next)) (omega arith));
-      good = settle-good l (arrive-good l) k w H g c m i (omega arith) x here (v .1 .one) n refl (v .1 .stands) (inv-left l _ _ _ (prev c) (suc i) 0 n 0 _ (v .2));
-    }
+    depth = 0;
+    deep = omega arith;
+    todo = rowsOf k w m n (lasts i) ++ next;
+    is = record {
+      level-is = refl;
+      length-is = unfold size in refl;
+      row-in = unfold size in row-there;
+      values = λ a h. unfold levelBand size approximation in v .1 .stands b a row-there h;
+    };
+    first = unfold lasts in (ap (λ r. r ++ next) (rows-yes k w m n b (lasts i) (v .1 .has)) ∙ ap (λ a. rowName a b n ∷ (rowsOf k w m n (lasts i) ++ next)) (omega arith));
+    good = settle-good l (arrive-good l) k w H g c m i (omega arith) x here (v .1 .one) n refl (v .1 .stands) (inv-left l _ _ _ (prev c) (suc i) 0 n 0 _ (v .2));
+  }
     where
       n : ℕ
       n = prev (made c m)

@@ -496,11 +496,12 @@ module _ (l W : ℕ) (wide : within 1 maxWidth W ≡ true) (deep : within 1 maxL
   is-first : (H : ℕ) (g : Grid) → MapOf W H g es → (k : List RowName) × (map (λ d. d .row) (drawn es) ++ map (answered W) k ≡ map (answered W) (made W M H true))
   is-first H g m =
       let s = own-sound a in
-      let p = firsts H g m in
-      (coming M W g₀ cl v i r ++ p .0,
-       ap (λ b. b ++ map (answered W) (coming M W g₀ cl v i r ++ p .0)) (s .named)
-       ∙ sym (map-append (answered W) (s .names) (coming M W g₀ cl v i r ++ p .0))
-       ∙ ap (map (answered W)) (sym (append-assoc (s .names) (coming M W g₀ cl v i r) (p .0)) ∙ ap (λ b. b ++ p .0) (s .order) ∙ p .1))
+      let p = firsts H g m in (
+        coming M W g₀ cl v i r ++ p .0,
+        ap (λ b. b ++ map (answered W) (coming M W g₀ cl v i r ++ p .0)) (s .named)
+            ∙ sym (map-append (answered W) (s .names) (coming M W g₀ cl v i r ++ p .0))
+            ∙ ap (map (answered W)) (sym (append-assoc (s .names) (coming M W g₀ cl v i r) (p .0)) ∙ ap (λ b. b ++ p .0) (s .order) ∙ p .1),
+      )
 
   whole-map : g₀ ≡ true → (1 ≤ wholeRows W es) × (wholeRows W es ≤ maxHeight) × (length (taken es) ≡ W * wholeRows W es)
   whole-map e =
@@ -508,10 +509,11 @@ module _ (l W : ℕ) (wide : within 1 maxWidth W ≡ true) (deep : within 1 maxL
       (omega (arith, rows-here, p .0), omega (arith, rows-here, a .rows-in), a .counted ∙ omega (arith, p .1, mul-comm r W) ∙ ap (λ b. W * b) (sym rows-here))
 
   drew-all : g₀ ≡ true → waitingOf W M es ≡ [] → (names : List RowName) × (map (λ d. d .row) (drawn es) ≡ map (answered W) names) × ((y : RowName) → times y names ≡ pick (bandRowExists W (wholeRows W es) M (y .level) (y .band) (y .row)) 1 0)
-  drew-all e z =
-      (madeOf W M es,
-       sym (append-nil _) ∙ ap (λ b. map (λ d. d .row) (drawn es) ++ map (answered W) b) (sym z) ∙ ordered,
-       λ y. ap (times y) (made-here ∙ ap (made W M r) e) ∙ made-once W M r (a .ended e .0) y ∙ ap (λ b. pick (bandRowExists W b M (y .level) (y .band) (y .row)) 1 0) (sym rows-here))
+  drew-all e z = (
+    madeOf W M es,
+    sym (append-nil _) ∙ ap (λ b. map (λ d. d .row) (drawn es) ++ map (answered W) b) (sym z) ∙ ordered,
+    λ y. ap (times y) (made-here ∙ ap (made W M r) e) ∙ made-once W M r (a .ended e .0) y ∙ ap (λ b. pick (bandRowExists W b M (y .level) (y .band) (y .row)) 1 0) (sym rows-here),
+  )
 
   claim : Demand3 W M es (λ k. event k w₀)
   claim = record {

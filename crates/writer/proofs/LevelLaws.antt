@@ -181,6 +181,7 @@ last-past w m x j h = go (eqb (m % 2) 0)
   where
     a : ℕ
     a = prev (count lo m)
+
     go : (t : Bool) → pick t (setWith w a (2 * a) x) (lowAlone w a x) j ≡ x j
     go true = set-past w 0 (λ _ _. x 0) a (2 * a) x j h
     go false = alone-past w 0 (λ _ _. x 0) a x j h
