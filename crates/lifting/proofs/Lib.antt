@@ -1,4 +1,7 @@
 pub mod Fits
+pub mod Filter
+pub mod FiveThree
+pub mod LineTheorems
 pub mod RowLaws
 pub mod RowSweep
 pub mod LineLaws
