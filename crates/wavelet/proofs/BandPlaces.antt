@@ -1,5 +1,5 @@
 -- Where the bands stand in the plane: rows begin `offset` rows down and `offset` columns across. Assumes nothing.
-use mathlib.Core.Path.{_≡_, refl, sym, ap, _∙_}
+use mathlib.Core.Path.{_≡_, refl}
 use Prim.Native.Nat.{ℕ, suc, _+_, _-_, _*_, _≤_, _<_}
 use native.Mathlib.Omega.{arith}
 use Rattle.wavelet.specs.Bands.{Band, LL, HL, LH, HH, across, down, bandOf}

@@ -1,5 +1,5 @@
 -- The levels from the other end: level k + 1 of a map is level k of its low-low part. Assumes nothing.
-use mathlib.Core.Path.{_≡_, refl, sym, ap, _∙_}
+use mathlib.Core.Path.{_≡_, refl, sym, _∙_}
 use Prim.Native.Nat.{ℕ, zero, suc}
 use lib.IntN.{ℤ}
 use Rattle.lifting.specs.Line.{lo, count}

@@ -6,3 +6,5 @@ pub mod BandPlaces
 pub mod ViewLaws
 pub mod LevelLaws
 pub mod PlaneLayout
+pub mod PlanePlaces
+pub mod ViewTheory

@@ -1,22 +1,20 @@
 -- The plane's layout: every kept band row stands in the plane where document 01 says, and every place of the plane is a place of exactly one of them.
 -- Assumes nothing.
-use mathlib.Core.Path.{_≡_, refl, sym, ap, _∙_, subst}
+use mathlib.Core.Path.{_≡_, refl, sym, ap, _∙_}
 use mathlib.Core.Bool.{Bool, true, false}
-use Prim.Native.Nat.{ℕ, zero, suc, _+_, _-_, _*_, _≤_, _<_}
-use native.Mathlib.Decide.{decLt}
+use Prim.Native.Nat.{ℕ, zero, suc, _+_, _*_, _≤_, _<_}
 use native.Mathlib.Omega.{arith}
 use lib.IntN.{ℤ}
 use lib.Dec.{ltb}
-use borrow.Author.Tests.{lt-ltb, le-ltb}
-use Rattle.numbers.specs.Signal.{pick, both}
-use Rattle.lifting.specs.Line.{Half, lo, hi, count}
-use Rattle.wavelet.specs.Bands.{Grid, Band, LL, HL, LH, HH, Band-discrete, across, down, bandOf, subband}
-use Rattle.wavelet.specs.Levels.{size, approximation, levelBand}
+use borrow.Author.Tests.{lt-ltb}
+use Rattle.numbers.specs.Signal.{both}
+use Rattle.lifting.specs.Line.{lo, hi, count}
+use Rattle.wavelet.specs.Bands.{Grid, Band, LL, HL, LH, HH, across, down, bandOf, subband}
+use Rattle.wavelet.specs.Levels.{levelBand}
 use Rattle.wavelet.specs.Plane.{planeCell, planeOf, levelAt, halfAt, placeIn}
 use Rattle.wavelet.specs.View.{bandRows, bandColumns, bandStart}
-use Rattle.wavelet.proofs.SizeLaws.{count-sum}
 use Rattle.wavelet.proofs.GridLaws.{flat-at}
-use Rattle.wavelet.proofs.SidePlaces.{offset, extent, extent-end, offset-inner, inner-below, extent-first, low-test, half-at, place-in, one-half}
+use Rattle.wavelet.proofs.SidePlaces.{offset, extent, extent-end, offset-inner, inner-below, extent-first, low-test, half-at, place-in}
 use Rattle.wavelet.proofs.BandPlaces.{band-start, band-of, rows-in, columns-in}
 use Rattle.wavelet.proofs.LevelLaws.{level-first, level-inner}
 
