@@ -4,3 +4,6 @@ pub mod FiveThree
 pub mod LineTheorems
 pub mod RowLaws
 pub mod RowSweep
+pub mod LineLaws
+pub mod PassLaws
+pub mod AreaLaws
