@@ -8,3 +8,7 @@ pub mod LevelLaws
 pub mod PlaneLayout
 pub mod PlanePlaces
 pub mod ViewTheory
+pub mod LevelTheory
+pub mod Bridge
+pub mod MapTheorems
+pub mod LevelReads
