@@ -11,12 +11,10 @@ use Rattle.numbers.specs.Signal.{at, windowed, spliced}
 use Rattle.numbers.specs.Word.{wrap32}
 use Rattle.numbers.proofs.Sweep.{Swept, store, store2, left}
 use Rattle.numbers.proofs.Parts.{window-in, splice-in, splice-past}
-use Rattle.lifting.specs.Line.{Half, lo, hi, count, unupdated, joined, backEven, lineForward, lineHalvesBack, lineBack}
+use Rattle.lifting.specs.Line.{lo, hi, count, unupdated, joined, backEven, lineForward, lineHalvesBack, lineBack}
 use Rattle.lifting.specs.Halves.{halvesOf, liftedInPlace, forwardInto, backwardInto}
 use Rattle.lifting.specs.Passes.{evensCopied, oddsCopied, evenBack, evensBack, oddBack, oddsBack}
-use Rattle.lifting.proofs.LineLaws.{counts, count-lo, count-hi, even-short, halves-low, halves-high, halves-are, front-are}
-use Rattle.lifting.proofs.FiveThree.{even-near, odd-near, joined-place}
-use Rattle.lifting.proofs.LineTheorems.{forward-reads}
+use Rattle.lifting.proofs.LineLaws.{counts, count-lo, count-hi, joined-even, joined-odd, even-is, even-one, odd-is, high-same, low-same, halves-low, halves-high, halves-are, front-are}
 
 -- ---- a line copied into its halves
 module _ (N : ℕ) (x z : ℕ → ℤ) where
@@ -44,12 +42,12 @@ module _ (N : ℕ) (x z : ℕ → ℤ) where
   odds-past j h = let both = counts N in simp (le-ltb j (count lo N) (omega arith), le-ltb j N h)
 
   -- a turn of the second loop, whose places begin at low
-  pub odds-turn : (L low n p : ℕ) (l : List ℤ) → low ≡ count lo N → n < count hi N → N ≤ L → p ≡ low + n → Swept L (oddsCopied N x z) z (low + n) l → Swept L (oddsCopied N x z) z (low + (n + 1)) (set l p (x (2 * n + 1)))
-  odds-turn L low n p l e h fit k sw =
+  pub odds-turn : (L low n : ℕ) (l : List ℤ) → low ≡ count lo N → n < count hi N → N ≤ L → Swept L (oddsCopied N x z) z (low + n) l → Swept L (oddsCopied N x z) z (low + (n + 1)) (set l (low + n) (x (2 * n + 1)))
+  odds-turn L low n l e h fit sw =
       let both = counts N in
       let here : low + n ≡ count lo N + n = omega arith in
-      let next : low + n + 1 ≡ low + (n + 1) = omega arith in
-      rw (k, ← next) (store _ sw (omega arith) (cc (here, odds-high n h)))
+      subst (λ (m : ℕ). Swept L (oddsCopied N x z) z m (set l (low + n) (x (2 * n + 1)))) (omega arith)
+      (store _ sw (omega arith) (cc (here, odds-high n h)))
 
 -- the halves of a line copied into memory, and lifted there
 module _ (N : ℕ) (x z : ℕ → ℤ) where
@@ -72,16 +70,13 @@ module _ (N : ℕ) (x z : ℕ → ℤ) where
       let c = count-hi N in
       let p = halvesOf N lent in
       let even : (n : ℕ) → n < count lo N → joined p (2 * n) ≡ x (2 * n) =
-      λ n g. joined-place p lo n ∙ lent-in n (omega arith) ∙ odds-low N x (evensCopied N x z) n g ∙ evens-in N x z n g in
+      λ n g. joined-even p n ∙ lent-in n (omega arith) ∙ odds-low N x (evensCopied N x z) n g ∙ evens-in N x z n g in
       let odd : (n : ℕ) → n < count hi N → joined p (2 * n + 1) ≡ x (2 * n + 1) =
-      λ n g. joined-place p hi n ∙ lent-in (count lo N + n) (omega arith) ∙ odds-high N x (evensCopied N x z) n g in
+      λ n g. joined-odd p n ∙ lent-in (count lo N + n) (omega arith) ∙ odds-high N x (evensCopied N x z) n g in
       elim (ℕ-discrete (i % 2) 0) [
         | yes e ↦ let k : 2 * (i / 2) ≡ i = omega arith in sym (rw k at (even (i / 2) (omega arith)))
         | no d ↦ let k : 2 * (i / 2) + 1 ≡ i = omega arith in sym (rw k at (odd (i / 2) (omega arith)))
       ]
-
-  copied-forward : (h : Half) (n : ℕ) → n < count h N → lineForward wrap32 N x h n ≡ lineForward wrap32 N (joined (halvesOf N lent)) h n
-  copied-forward h n b = forward-reads wrap32 N x _ h n b (λ i l _. copied-line i l)
 
   pub forward-is : forwardInto N x z ≡ spliced 0 N (liftedInPlace N lent) copied
   unfolding forwardInto liftedInPlace lineForward
@@ -89,10 +84,10 @@ module _ (N : ℕ) (x z : ℕ → ℤ) where
       let both = counts N in
       let p = lineForward wrap32 N (joined (halvesOf N lent)) in
       halves-are N _ z _
-      (λ n h. copied-forward lo n h ∙ sym (back-in n (omega arith) ∙ halves-low N p lent n h))
+      (λ n h. low-same wrap32 N x _ copied-line n h ∙ sym (back-in n (omega arith) ∙ halves-low N p lent n h))
       (λ n h.
       let k : count lo N + n - count lo N ≡ n = omega arith in
-      copied-forward hi n h
+      high-same wrap32 N x _ copied-line n h
       ∙ sym (back-in (count lo N + n) (omega arith) ∙ halves-high N p lent (count lo N + n) (omega arith) (omega arith) ∙ ap (p hi) k))
       (λ j h. sym (splice-past 0 N (liftedInPlace N lent) copied j (omega arith) ∙ odds-past N x (evensCopied N x z) j h ∙ evens-past N x z j (omega arith)))
 
@@ -100,11 +95,11 @@ module _ (N : ℕ) (x z : ℕ → ℤ) where
 module _ (N : ℕ) (y : ℕ → ℤ) (n : ℕ) where
   pub evenBack-is : (a b : ℕ) → 1 < N → n < count lo N → a ≡ count lo N + (n - 1) → b ≡ count lo N + min n (count hi N - 1) → evenBack N y n ≡ unupdated wrap32 (y n) (y a) (y b)
   unfolding evenBack lineHalvesBack halvesOf
-  evenBack-is a b g h ea eb = rw (ea, eb) (even-near wrap32 N (halvesOf N y lo) (halvesOf N y hi) n g h)
+  evenBack-is a b g h ea eb = rw (ea, eb) (even-is wrap32 N g (halvesOf N y lo) (halvesOf N y hi) n h)
 
   pub evenBack-one : N ≤ 1 → evenBack N y n ≡ y n
   unfolding evenBack lineHalvesBack halvesOf
-  evenBack-one g = even-short wrap32 N g (halvesOf N y lo) (halvesOf N y hi) n
+  evenBack-one g = even-one wrap32 N g (halvesOf N y lo) (halvesOf N y hi) n
 
 module _ (N : ℕ) (y z : ℕ → ℤ) where
   pub evensBack-even : (n : ℕ) → n < count lo N → evensBack N y z (2 * n) ≡ evenBack N y n
@@ -176,5 +171,5 @@ backward-is N y z =
     let even : (n : ℕ) → n < count lo N → backEven wrap32 N (p lo) (p hi) n ≡ w (2 * n) = λ n h. sym (evensBack-even N y z n h) in
     front-are N (lineHalvesBack wrap32 N p) z _
     (λ n h. even n h ∙ sym (oddsBack-even N y w n))
-    (λ n h. cc (odd-near wrap32 N (p lo) (p hi) n h, oddsBack-odd N y w n h, even n (omega arith), even (min (n + 1) (count lo N - 1)) (omega arith)))
+    (λ n h. cc (odd-is wrap32 N (omega arith) (p lo) (p hi) n h, oddsBack-odd N y w n h, even n (omega arith), even (min (n + 1) (count lo N - 1)) (omega arith)))
     (λ j h. sym (oddsBack-past N y w j h ∙ evensBack-past N y z j h))

@@ -1,13 +1,14 @@
--- The laws of a line in memory: how many values there are, and what stands where. Assumes nothing.
+-- The laws of a line as the calls use them: what each value goes by (cited from FiveThree, where the mirror is worked out) and what stands where in memory. Assumes nothing.
 use mathlib.Core.Path.{_≡_, refl, sym, ap, _∙_, fun-ext}
-use Prim.Native.Nat.{ℕ, _+_, _-_, _*_, _/_, _%_, _≤_, _<_}
+use Prim.Native.Nat.{ℕ, _+_, _-_, _*_, _/_, _%_, _≤_, _<_, min}
 use native.Mathlib.Decide.{decLt, ℕ-discrete}
 use native.Mathlib.Omega.{arith}
 use lib.IntN.{ℤ}
 use borrow.Author.Tests.{lt-ltb, le-ltb, eq-eqb, ne-eqb}
-use Rattle.lifting.specs.Line.{Half, lo, hi, count, low, backEven, parted, joined}
+use Rattle.lifting.specs.Line.{Half, lo, hi, count, predicted, updated, unpredicted, unupdated, high, low, backEven, backOdd, parted, joined, lineForward}
 use Rattle.lifting.specs.Halves.{inHalves, fronted}
-use Rattle.lifting.proofs.FiveThree.{joined-place}
+use Rattle.lifting.proofs.FiveThree.{high-near, low-near, even-near, odd-near, joined-place}
+use Rattle.lifting.proofs.LineTheorems.{forward-reads}
 
 -- ---- counts
 pub counts : (N : ℕ) → count lo N + count hi N ≡ N
@@ -24,10 +25,17 @@ unfolding count
 count-hi N = refl
 
 -- ---- halves of a line, joined and parted
+module _ (p : Half → ℕ → ℤ) (n : ℕ) where
+  pub joined-even : joined p (2 * n) ≡ p lo n
+  joined-even = joined-place p lo n
+
+  pub joined-odd : joined p (2 * n + 1) ≡ p hi n
+  joined-odd = joined-place p hi n
+
 pub parted-joined : (p : Half → ℕ → ℤ) (h : Half) (n : ℕ) → parted (joined p) h n ≡ p h n
 unfolding parted
-parted-joined p lo n = joined-place p lo n
-parted-joined p hi n = joined-place p hi n
+parted-joined p lo n = joined-even p n
+parted-joined p hi n = joined-odd p n
 
 pub joined-parted : (x : ℕ → ℤ) (i : ℕ) → joined (parted x) i ≡ x i
 unfolding joined parted
@@ -37,15 +45,43 @@ joined-parted x i =
       | no d ↦ simp (ne-eqb (i % 2) 0 d) (ap x (omega arith))
     ]
 
+-- ---- what a value goes by, in a line of more than one
+module _ (keep : ℤ → ℤ) (N : ℕ) (g : 1 < N) where
+  pub high-is : (x : ℕ → ℤ) (n : ℕ) → n < count hi N → high keep N x n ≡ predicted keep (x (2 * n + 1)) (x (2 * n)) (x (2 * min (n + 1) (count lo N - 1)))
+  high-is = high-near keep N
+
+  pub high-parted : (x : ℕ → ℤ) (n : ℕ) → n < count hi N → high keep N x n ≡ predicted keep (parted x hi n) (parted x lo n) (parted x lo (min (n + 1) (count lo N - 1)))
+  unfolding parted
+  high-parted = high-is
+
+  pub low-is : (x : ℕ → ℤ) (n : ℕ) → n < count lo N → low keep N x n ≡ updated keep (x (2 * n)) (high keep N x (n - 1)) (high keep N x (min n (count hi N - 1)))
+  low-is x n h = low-near keep N x n g h
+
+  pub even-is : (s d : ℕ → ℤ) (n : ℕ) → n < count lo N → backEven keep N s d n ≡ unupdated keep (s n) (d (n - 1)) (d (min n (count hi N - 1)))
+  even-is s d n h = even-near keep N s d n g h
+
+  pub odd-is : (s d : ℕ → ℤ) (n : ℕ) → n < count hi N → backOdd keep N s d n ≡ unpredicted keep (d n) (backEven keep N s d n) (backEven keep N s d (min (n + 1) (count lo N - 1)))
+  odd-is = odd-near keep N
+
 -- a line of one number is its own low value
 module _ (keep : ℤ → ℤ) (N : ℕ) (g : N ≤ 1) where
-  pub low-short : (x : ℕ → ℤ) (n : ℕ) → low keep N x n ≡ x (2 * n)
+  pub low-one : (x : ℕ → ℤ) (n : ℕ) → low keep N x n ≡ x (2 * n)
   unfolding low
-  low-short x n = simp (le-ltb 1 N g)
+  low-one x n = simp (le-ltb 1 N g)
 
-  pub even-short : (s d : ℕ → ℤ) (n : ℕ) → backEven keep N s d n ≡ s n
+  pub even-one : (s d : ℕ → ℤ) (n : ℕ) → backEven keep N s d n ≡ s n
   unfolding backEven
-  even-short s d n = simp (le-ltb 1 N g)
+  even-one s d n = simp (le-ltb 1 N g)
+
+-- its values go by what stands in the line alone
+module _ (keep : ℤ → ℤ) (N : ℕ) (x y : ℕ → ℤ) (same : (i : ℕ) → i < N → x i ≡ y i) where
+  pub high-same : (n : ℕ) → n < count hi N → high keep N x n ≡ high keep N y n
+  unfolding lineForward
+  high-same n h = forward-reads keep N x y hi n h (λ i l _. same i l)
+
+  pub low-same : (n : ℕ) → n < count lo N → low keep N x n ≡ low keep N y n
+  unfolding lineForward
+  low-same n h = forward-reads keep N x y lo n h (λ i l _. same i l)
 
 -- ---- memory
 module _ (N : ℕ) (p : Half → ℕ → ℤ) (z : ℕ → ℤ) where
@@ -96,9 +132,9 @@ module _ (N : ℕ) (p : Half → ℕ → ℤ) (z : ℕ → ℤ) where
             ∙ elim (ℕ-discrete (j % 2) 0) [
               | yes e ↦
                   let k : j ≡ 2 * (j / 2) = omega arith in
-                  ap (joined p) k ∙ joined-place p lo (j / 2) ∙ l (j / 2) (omega arith) ∙ ap y (sym k)
+                  ap (joined p) k ∙ joined-even p (j / 2) ∙ l (j / 2) (omega arith) ∙ ap y (sym k)
               | no d ↦
                   let k : j ≡ 2 * (j / 2) + 1 = omega arith in
-                  ap (joined p) k ∙ joined-place p hi (j / 2) ∙ h (j / 2) (omega arith) ∙ ap y (sym k)
+                  ap (joined p) k ∙ joined-odd p (j / 2) ∙ h (j / 2) (omega arith) ∙ ap y (sym k)
             ]
       ]

@@ -12,8 +12,7 @@ use Rattle.numbers.proofs.Sweep.{Swept, start, store, left}
 use Rattle.lifting.specs.Line.{lo, hi, count, predicted, updated, unpredicted, unupdated, high, low, backEven, joined, lineForward, lineHalvesBack}
 use Rattle.lifting.specs.Halves.{halvesOf, liftedInPlace, unliftedInPlace}
 use Rattle.lifting.specs.Passes.{highsChanged, lowsChanged}
-use Rattle.lifting.proofs.LineLaws.{counts, count-lo, count-hi, low-short, even-short, halves-are}
-use Rattle.lifting.proofs.FiveThree.{high-near, low-near, even-near, odd-near, joined-place}
+use Rattle.lifting.proofs.LineLaws.{counts, count-lo, count-hi, joined-even, joined-odd, high-is, low-is, even-is, odd-is, low-one, even-one, halves-are}
 
 -- ---- the two passes in place, by any step f
 module _ (f : ℤ → ℤ → ℤ → ℤ) (N : ℕ) (y : ℕ → ℤ) where
@@ -70,7 +69,7 @@ module _ (N : ℕ) (y : ℕ → ℤ) where
   unfolding halvesOf
   line-highs g n h =
       let p = halvesOf N y in
-      cc (high-near wrap32 N (joined p) n h, highs-high (predicted wrap32) N y n h, joined-place p hi n, joined-place p lo n, joined-place p lo (min (n + 1) (count lo N - 1)))
+      cc (high-is wrap32 N g (joined p) n h, highs-high (predicted wrap32) N y n h, joined-odd p n, joined-even p n, joined-even p (min (n + 1) (count lo N - 1)))
 
   pub lifted-is : 1 < N → liftedInPlace N y ≡ lowsChanged (updated wrap32) N (highsChanged (predicted wrap32) N y)
   unfolding liftedInPlace lineForward halvesOf
@@ -80,7 +79,7 @@ module _ (N : ℕ) (y : ℕ → ℤ) where
       let p = halvesOf N y in
       let z = highsChanged (predicted wrap32) N y in
       halves-are N _ y _
-      (λ n h. cc (low-near wrap32 N (joined p) n g h, lows-low (updated wrap32) N z n h, joined-place p lo n, highs-low (predicted wrap32) N y n h, line-highs g (n - 1) (omega arith), line-highs g (min n (count hi N - 1)) (omega arith)))
+      (λ n h. cc (low-is wrap32 N g (joined p) n h, lows-low (updated wrap32) N z n h, joined-even p n, highs-low (predicted wrap32) N y n h, line-highs g (n - 1) (omega arith), line-highs g (min n (count hi N - 1)) (omega arith)))
       (λ n h. line-highs g n h ∙ sym (lows-past (updated wrap32) N z (count lo N + n) (omega arith)))
       (λ j h. sym (lows-past (updated wrap32) N z j (omega arith) ∙ highs-past (predicted wrap32) N y j h))
 
@@ -92,10 +91,10 @@ module _ (N : ℕ) (y : ℕ → ℤ) where
       let p = halvesOf N y in
       let z = lowsChanged (unupdated wrap32) N y in
       let even : (n : ℕ) → n < count lo N → backEven wrap32 N (p lo) (p hi) n ≡ z n =
-      λ n h. even-near wrap32 N (p lo) (p hi) n g h ∙ sym (lows-low (unupdated wrap32) N y n h) in
+      λ n h. even-is wrap32 N g (p lo) (p hi) n h ∙ sym (lows-low (unupdated wrap32) N y n h) in
       halves-are N _ y _
       (λ n h. even n h ∙ sym (highs-low (unpredicted wrap32) N z n h))
-      (λ n h. cc (odd-near wrap32 N (p lo) (p hi) n h, highs-high (unpredicted wrap32) N z n h, lows-past (unupdated wrap32) N y (count lo N + n) (omega arith), even n (omega arith), even (min (n + 1) (count lo N - 1)) (omega arith)))
+      (λ n h. cc (odd-is wrap32 N g (p lo) (p hi) n h, highs-high (unpredicted wrap32) N z n h, lows-past (unupdated wrap32) N y (count lo N + n) (omega arith), even n (omega arith), even (min (n + 1) (count lo N - 1)) (omega arith)))
       (λ j h. sym (highs-past (unpredicted wrap32) N z j h ∙ lows-past (unupdated wrap32) N y j (omega arith)))
 
   -- a line of one number or none stays
@@ -103,10 +102,10 @@ module _ (N : ℕ) (y : ℕ → ℤ) where
   unfolding liftedInPlace lineForward halvesOf
   lifted-one g =
       let c = count-hi N in
-      halves-are N _ y y (λ n h. low-short wrap32 N g (joined (halvesOf N y)) n ∙ joined-place (halvesOf N y) lo n) (λ n h. absurd (omega arith)) (λ j h. refl)
+      halves-are N _ y y (λ n h. low-one wrap32 N g (joined (halvesOf N y)) n ∙ joined-even (halvesOf N y) n) (λ n h. absurd (omega arith)) (λ j h. refl)
 
   pub unlifted-one : N ≤ 1 → unliftedInPlace N y ≡ y
   unfolding unliftedInPlace lineHalvesBack halvesOf
   unlifted-one g =
       let c = count-hi N in
-      halves-are N _ y y (λ n h. even-short wrap32 N g (halvesOf N y lo) (halvesOf N y hi) n) (λ n h. absurd (omega arith)) (λ j h. refl)
+      halves-are N _ y y (λ n h. even-one wrap32 N g (halvesOf N y lo) (halvesOf N y hi) n) (λ n h. absurd (omega arith)) (λ j h. refl)

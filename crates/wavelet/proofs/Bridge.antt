@@ -1,7 +1,7 @@
 -- Ranges, and the bridge from words to whole numbers. Samples within ±M give values within ±4M a level, so k levels within ±M · 4^k; where that is below 2^31 nothing wraps, and word-lifting is T.800's own.
 -- First for any grid within ±M, then for a map, whose values are within `range k` at level k.
 -- Assumes nothing.
-use mathlib.Core.Path.{_≡_, refl, sym, ap, _∙_}
+use mathlib.Core.Path.{_≡_, refl, sym, _∙_}
 use Prim.Native.Nat.{ℕ, zero, suc, _+_, _*_, _^_, _≤_, _<_}
 use native.Mathlib.Nat.{pow-suc, pow-le-pow-right, mul-le-mul-left}
 use native.Mathlib.Omega.{arith}
@@ -12,14 +12,14 @@ use mir.Val.{SFits}
 use Rattle.numbers.specs.Word.{wrap32, whole}
 use Rattle.numbers.proofs.Integers.{each, lin}
 use Rattle.numbers.proofs.Words.{abs-fits}
-use Rattle.lifting.specs.Line.{Half, lo, hi, count, lineForward}
+use Rattle.lifting.specs.Line.{Half, lo, count}
 use Rattle.lifting.proofs.LineTheorems.{forward-reads, forward-range, forward-exact}
 use Rattle.wavelet.specs.Limits.{maxSample, range}
 use Rattle.wavelet.specs.Bands.{Grid, Band, LL, HL, LH, HH, across, down, columnsLifted, subband}
 use Rattle.wavelet.specs.Levels.{size, approximation, levelBand}
 use Rattle.wavelet.specs.Plane.{planeCell, levelAt}
 use Rattle.wavelet.specs.Maps.{IsMap}
-use Rattle.wavelet.proofs.LevelTheory.{OnCells, OnBands, Same, SameBands, subband-same, over, over-all, over-same, by-band, bandIn, same-bands, low-all, same-low, plane-at, level-at, plane-reads}
+use Rattle.wavelet.proofs.LevelTheory.{OnCells, OnBands, Same, SameBands, subband-same, over, over-same, by-band, bandIn, same-bands, low-all, same-low, plane-at, level-at, plane-reads}
 
 -- z is within ±M
 abbrev pub Within : ℕ → ℤ → Type 0

@@ -21,15 +21,9 @@ use Rattle.lifting.proofs.LineTheorems.{forward-reads, forward-inner, back-read
 use Rattle.wavelet.specs.Bands.{Grid, Band, LL, HL, LH, HH, across, down, bandOf, columnsLifted, subband, rowsUnlifted, levelBack}
 use Rattle.wavelet.specs.Plane.{halfAt, placeIn, planeCell, levelAt, mapBack}
 use Rattle.wavelet.proofs.SizeLaws.{count-lo, count-hi, count-le}
+use Rattle.wavelet.proofs.BandPlaces.{band-of}
 
 -- ---- bands are pairs of halves
-pub band-of : (b : Band) → bandOf (across b) (down b) ≡ b
-unfolding bandOf across down
-band-of LL = refl
-band-of HL = refl
-band-of LH = refl
-band-of HH = refl
-
 pub across-of : (a h : Half) → across (bandOf a h) ≡ a
 unfolding bandOf across
 across-of lo lo = refl

@@ -2,12 +2,13 @@
 --     plane-in-range, plane-rebuilt, plane-back    of a plane that a map has: questions 7 and 14 are answered yes, and the way back gives the map
 --     rebuilt-plane                                a plane that is answered so is the plane of the map that the way back gives
 --     some-map, no-map, one-map                    so both are answered yes exactly where some map has the plane, and that map is one
+--     back-exactly                                 and the way back then gives it
 -- Proved by the inverse over words (LevelTheory) and the bridge to whole numbers (Bridge). Assumes nothing.
 use mathlib.Core.Path.{_≡_, refl, sym, ap, _∙_, subst}
 use mathlib.Core.Bool.{Bool, true, false}
 use mathlib.Core.Logic.{_↔_}
 use Prim.Native.Nat.{ℕ, zero, suc, _+_, _*_, _^_, _≤_, _<_}
-use native.Mathlib.Decide.{ℕ-discrete, decLt}
+use native.Mathlib.Decide.{ℕ-discrete}
 use native.Mathlib.Omega.{arith}
 use lib.IntN.{ℤ, pos, natAbs}
 use lib.Signed.{_≤ℤ_, leZ}
@@ -24,8 +25,8 @@ use Rattle.wavelet.specs.Limits.{maxSample, range}
 use Rattle.wavelet.specs.Bands.{Grid, LL, subband}
 use Rattle.wavelet.specs.Plane.{planeCell, levelAt, mapBack}
 use Rattle.wavelet.specs.Maps.{IsMap, HasPlane, every, everyCell, inRange, valueFits, rebuiltFits}
-use Rattle.wavelet.proofs.LevelTheory.{OnCells, Same, low-all, same-low, same-corner, plane-corner, map-back-reads, words-map-back-plane, words-plane-map-back}
-use Rattle.wavelet.proofs.Bridge.{Within, subband-range, subband-exact, range-suc, range-le, range-small, map-height, map-within, map-fits, map-plane, map-plane-range}
+use Rattle.wavelet.proofs.LevelTheory.{OnCells, Same, low-all, same-low, same-corner, plane-corner, plane-reads, map-back-reads, words-map-back-plane, words-plane-map-back}
+use Rattle.wavelet.proofs.Bridge.{Within, subband-range, subband-exact, range-suc, range-small, map-height, map-fits, map-plane, map-plane-range}
 
 -- ---- a test of every number, and of every cell
 pub every-each : (n : ℕ) (p : ℕ → Bool) → every n p ≡ true → (i : ℕ) → i < n → p i ≡ true
@@ -48,6 +49,16 @@ pub each-cells : (W H : ℕ) (p : ℕ → ℕ → Bool) → ((r c : ℕ) → r <
 unfolding everyCell
 each-cells W H p f = each-every H (λ i. every W (p i)) (λ r u. each-every W (p r) (λ c v. f r c u v))
 
+-- tests that agree below n, and on every cell
+pub every-same : (n : ℕ) (p q : ℕ → Bool) → ((i : ℕ) → i < n → p i ≡ q i) → every n p ≡ every n q
+unfolding every
+every-same zero p q e = refl
+every-same (suc n) p q e = rw (every-same n p q (λ i h. e i (omega arith)), e n (omega arith))
+
+pub cells-same : (W H : ℕ) (p q : ℕ → ℕ → Bool) → ((r c : ℕ) → r < H → c < W → p r c ≡ q r c) → everyCell W H p ≡ everyCell W H q
+unfolding everyCell
+cells-same W H p q e = every-same H (λ i. every W (p i)) (λ i. every W (q i)) (λ r u. every-same W (p r) (q r) (λ c v. e r c u v))
+
 -- ---- a rebuilt value
 T-true : (b : Bool) → T b → b ≡ true
 T-true true t = refl
@@ -69,6 +80,22 @@ pub fits-within : (k : ℕ) (v : ℤ) → valueFits k v ≡ true → natAbs v �
 unfolding range maxSample
 fits-within zero v e = let a = height-fits v .0 e in map-height v (a .0) (a .1)
 fits-within (suc k) v e = low-fits k v .0 e
+
+-- ---- the questions read the cells that are there
+pub in-range-reads : (L W H : ℕ) (x y : Grid) → Same W H x y → inRange L W H x ≡ inRange L W H y
+unfolding inRange
+in-range-reads L W H x y e =
+    cells-same W H _ _ (λ r c p q. ap (λ (v : ℤ). leb (natAbs v) (range (levelAt L W H r c))) (e r c p q))
+
+pub rebuilt-reads : (k L W H : ℕ) (x y : Grid) → Same W H x y → rebuiltFits k L W H x ≡ rebuiltFits k L W H y
+unfolding rebuiltFits
+rebuilt-reads k zero W H x y e = refl
+rebuilt-reads k (suc L) W H x y e =
+    rw (
+      rebuilt-reads (suc k) L (count lo W) (count lo H) x y (same-corner W H x y e),
+      cells-same W H (λ r c. valueFits k (mapBack wrap32 (suc L) W H x r c)) (λ r c. valueFits k (mapBack wrap32 (suc L) W H y r c))
+          (λ r c p q. ap (valueFits k) (map-back-reads wrap32 (suc L) W H x y e r c p q)),
+    )
 
 -- ---- question 14, for a grid whose values fit at level k and that has the plane x
 pub rebuilt-yes : (k L W H : ℕ) (g x : Grid) → k + L ≤ 5 → OnCells (λ v. valueFits k v ≡ true) W H g → Same W H x (planeCell wrap32 L W H g) → rebuiltFits k L W H x ≡ true
@@ -167,3 +194,25 @@ no-map L W H x some few =
     let asked = both-no (inRange L W H x) (rebuiltFits 0 L W H x) in
     let maps = some-map L W H x some few in
     (λ e g m. asked .0 e (maps .1 (g, m)), λ h. asked .1 (λ a. let m = maps .0 a in h (m .0) (m .1)))
+
+-- ---- maps and planes by their cells
+pub same-map : (W H : ℕ) (g g′ : Grid) → Same W H g g′ → IsMap W H g → IsMap W H g′
+same-map W H g g′ e m = record { heights = λ r c p q. rw (sym (e r c p q)) (m .heights r c p q) }
+
+pub same-plane : (L W H : ℕ) (g g′ x y : Grid) → Same W H g g′ → Same W H x y → HasPlane L W H g x → HasPlane L W H g′ y
+same-plane L W H g g′ x y e d has = record {
+  map = same-map W H g g′ e (has .map);
+  coefficients = λ r c p q. sym (d r c p q) ∙ has .coefficients r c p q ∙ plane-reads whole L W H g g′ e r c p q;
+}
+
+-- a map has the plane that its word transform is
+pub own-plane : (L W H : ℕ) (g : Grid) → L ≤ 5 → IsMap W H g → HasPlane L W H g (planeCell wrap32 L W H g)
+own-plane L W H g few m = record { map = m; coefficients = map-plane W H g m L few }
+
+-- the way back gives the map, with both questions answered yes, exactly where the plane is that map's
+pub back-exactly : (L W H : ℕ) (g x : Grid) → 1 ≤ L → L ≤ 5 → HasPlane L W H g x ↔ (inRange L W H x ≡ true) × (rebuiltFits 0 L W H x ≡ true) × Same W H (mapBack wrap32 L W H x) g
+back-exactly L W H g x some few = (
+  λ has. (plane-in-range L W H g x few has, plane-rebuilt L W H g x few has, plane-back L W H g x few has),
+  λ h. same-plane L W H (mapBack wrap32 L W H x) g x x (h .2) (λ r c p q. refl)
+      (rebuilt-plane L W H x some few (range-words L W H x few (h .0)) (h .1)),
+)

@@ -63,7 +63,7 @@ loop-again c =
     let j = head .loop .j in (
       omega arith,
       rw (read-back (at (a .line .now) (2 * j + 1)) (c .out .given))
-          (odds-turn N (at (a .line .now)) _ (length (a .out .now)) _ j _ _ (sym half) (omega arith) (omega arith) (omega arith) (head .loop .inv .1)),
+          (odds-turn N (at (a .line .now)) _ (length (a .out .now)) _ j _ (sym half) (omega arith) (omega arith) (head .loop .inv .1)),
     )
 
 same-length : tie.Need-same-length Inv-loop μ-loop
