@@ -1,6 +1,7 @@
 // The row-by-row writer: heights in, band rows out, in the order of document 01.
 mod copies;
 mod counts;
+mod sets;
 
 // The counts of a writer; docs/STATE.md gives their ranges.
 pub struct Writer {
