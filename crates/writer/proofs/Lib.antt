@@ -1,3 +1,6 @@
 pub mod CountLaws
 pub mod Filling
 pub mod SetLaws
+pub mod RestLaws
+pub mod DeliverLaws
+pub mod CascadeLaws

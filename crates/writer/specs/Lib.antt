@@ -8,3 +8,4 @@ pub mod Taking
 pub mod Questions
 pub mod Answers
 pub mod Calls
+pub mod Steps

@@ -1,4 +1,5 @@
 // The row-by-row writer: heights in, band rows out, in the order of document 01.
+mod cascade;
 mod copies;
 mod counts;
 mod sets;

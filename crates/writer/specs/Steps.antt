@@ -1,0 +1,28 @@
+-- What the private functions require and leave: the machine's steps at the 5/3 level.
+use mathlib.Core.Path.{_≡_}
+use Prim.Native.Nat.{ℕ, _+_, _*_, _<_, _≤_}
+use Rattle.lifting.specs.Line.{lo, count}
+use Rattle.wavelet.specs.Bands.{LL}
+use Rattle.wavelet.specs.Store.{storeLength}
+use Rattle.writer.specs.declared.cascade.Wait.{Wait}
+use Rattle.writer.specs.Level.{Memory}
+use Rattle.writer.specs.FiveThreeLevel.{rowPut, bandPlace}
+use Rattle.writer.specs.Machine.{Out, rest, joinAt}
+
+-- l levels, the first of w columns, in a store of n numbers; m is a number of rows
+pub record Room (l w m n : ℕ) : Type 0 where
+  pub room : storeLength w l ≤ n
+  pub wide : w < 65536
+  pub rows : m < 65536
+  pub deep : l < 65536
+
+-- what a step of l levels leaves: what waits, r, and the store x, as the machine's o
+pub record Left (l : ℕ) (o : Out) (r : Wait) (x : Memory) : Type 0 where
+  pub level : r .level ≡ o .level
+  pub left : r .left ≡ o .left
+  pub store : x ≡ o .store
+  pub within : r .level ≤ l
+
+-- the LL row of set n put into its place at the next level
+unfoldable pub delivered : ℕ → ℕ → Memory → Memory
+delivered w n x = joinAt (4 * w) x (rowPut (count lo w) n (λ i. x (bandPlace w n LL + i)) (rest (4 * w) x))
