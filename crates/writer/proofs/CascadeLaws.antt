@@ -66,6 +66,13 @@ module _ (w n : ℕ) (x : Memory) where
   pass-goes zero h = absurd (omega arith)
   pass-goes (suc l) h = ap (λ (t : Memory). under (4 * w) x (arrive fiveThree (suc l) (count lo w) n t)) (sym (rest-join (4 * w) x _))
 
+-- the LL row has gone on to the levels below, which leave t
+pub passed-goes : (l w n v d : ℕ) (x y t z : Memory) (r : Wait) → 0 < l → v ≡ count lo w → y ≡ delivered w n x → Left l (arrive fiveThree l v n (rest (4 * w) y)) r t → z ≡ joinAt (4 * w) y t → d ≡ deeper (r .level) →
+    Left (l + 1) (passOn fiveThree l w n x) (record { level = d; left = r .left }) z
+passed-goes l w n v d x y t z r h ev e f ez ed =
+    left-same (l + 1) _ _ _ z (pass-goes w n x l h)
+    (left-under (l + 1) l (4 * w) d x y _ t z _ r refl (e ∙ delivered-join w n x) ez ed (rw (ev, e) at f))
+
 -- ---- a row that comes
 module _ (l w m : ℕ) (x : Memory) where
   pub arrive-none : l ≡ 0 → arrive fiveThree l w m x ≡ still x
@@ -118,7 +125,5 @@ module _ (l w m n : ℕ) (x x₁ : Memory) (i : ℕ) (hl : 0 < l) (e : m ≡ 2 *
       Left (l - 1) (arrive fiveThree (l - 1) v n (rest (4 * w) x₂)) r t → z ≡ joinAt (4 * w) x₂ t → d ≡ deeper (r .level) →
       Left l (arrive fiveThree l w m x) (record { level = d; left = r .left }) z
   came-goes q h g v d x₂ t z r ev e₂ f ez ed =
-      left-same l _ _ _ z
-      (goes q h ∙ pass-goes w n x₁ (l - 1) (omega arith))
-      (left-under l (l - 1) (4 * w) d x₁ x₂ _ t z _ r (omega arith) (e₂ ∙ delivered-join w n x₁) ez ed
-      (rw (ev, e₂) at f))
+      let k : l - 1 + 1 ≡ l = omega arith in
+      rw k at (left-same (l - 1 + 1) _ _ _ z (goes q h) (passed-goes (l - 1) w n v d x₁ x₂ t z r (omega arith) ev e₂ f ez ed))
