@@ -4,3 +4,5 @@ pub mod SetLaws
 pub mod RestLaws
 pub mod DeliverLaws
 pub mod CascadeLaws
+pub mod DrawLaws
+pub mod ClosingLaws

@@ -2,12 +2,16 @@
 use mathlib.Core.Path.{_≡_}
 use Prim.Native.Nat.{ℕ, _+_, _*_, _<_, _≤_}
 use Rattle.lifting.specs.Line.{lo, count}
-use Rattle.wavelet.specs.Bands.{LL}
+use Rattle.wavelet.specs.Bands.{LL, code}
 use Rattle.wavelet.specs.Store.{storeLength}
 use Rattle.writer.specs.declared.cascade.Wait.{Wait}
+use Rattle.writer.specs.declared.draws.Spot.{Spot}
+use Rattle.writer.specs.declared.closing.Closure.{Closure}
 use Rattle.writer.specs.Level.{Memory}
 use Rattle.writer.specs.FiveThreeLevel.{rowPut, bandPlace}
 use Rattle.writer.specs.Machine.{Out, rest, joinAt}
+use Rattle.writer.specs.Draws.{Waiting}
+use Rattle.writer.specs.Closing.{Shut}
 
 -- l levels, the first of w columns, in a store of n numbers; m is a number of rows
 pub record Room (l w m n : ℕ) : Type 0 where
@@ -26,3 +30,29 @@ pub record Left (l : ℕ) (o : Out) (r : Wait) (x : Memory) : Type 0 where
 -- the LL row of set n put into its place at the next level
 unfoldable pub delivered : ℕ → ℕ → Memory → Memory
 delivered w n x = joinAt (4 * w) x (rowPut (count lo w) n (λ i. x (bandPlace w n LL + i)) (rest (4 * w) x))
+
+-- level v of l, the first of w columns and m rows
+pub record Walk (l w v m : ℕ) : Type 0 where
+  pub first : 0 < v
+  pub last : v ≤ l
+  pub wide : w < 65536
+  pub rows : m < 65536
+  pub deep : l < 65536
+
+abbrev pub spotOf : Waiting → Spot
+spotOf o = record { level = o .level; band = code (o .band); row = o .row; length = o .length; start = o .start }
+
+-- the row that waits, of l levels, the first of w columns; it lies within their store
+pub record Found (l w : ℕ) (o : Waiting) (r : Spot) : Type 0 where
+  pub spot : r ≡ spotOf o
+  pub room : r .start + r .length ≤ storeLength w l
+  pub within : r .level ≤ l
+
+-- what the finish of l levels leaves
+pub record Closed (l : ℕ) (o : Shut) (r : Closure) (x : Memory) : Type 0 where
+  pub closed : r .closed ≡ o .closed
+  pub level : r .level ≡ o .out .level
+  pub left : r .left ≡ o .out .left
+  pub store : x ≡ o .out .store
+  pub within : r .level ≤ l
+  pub all : r .closed ≤ l

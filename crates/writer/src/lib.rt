@@ -1,7 +1,9 @@
 // The row-by-row writer: heights in, band rows out, in the order of document 01.
 mod cascade;
+mod closing;
 mod copies;
 mod counts;
+mod draws;
 mod sets;
 
 // The counts of a writer; docs/STATE.md gives their ranges.
