@@ -6,3 +6,4 @@ pub mod DeliverLaws
 pub mod CascadeLaws
 pub mod DrawLaws
 pub mod ClosingLaws
+pub mod GateLaws

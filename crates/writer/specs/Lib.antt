@@ -9,3 +9,4 @@ pub mod Questions
 pub mod Answers
 pub mod Calls
 pub mod Steps
+pub mod Gate

@@ -4,6 +4,7 @@ mod closing;
 mod copies;
 mod counts;
 mod draws;
+mod gate;
 mod sets;
 
 // The counts of a writer; docs/STATE.md gives their ranges.
@@ -50,4 +51,12 @@ pub enum Drawn {
 pub enum Finished {
     Closed(Writer),
     Refused(u8),
+}
+
+impl Writer {
+    pub const MAX_WIDTH: usize = 2049;
+
+    pub const MAX_HEIGHT: usize = 65535;
+
+    pub const MAX_LEVELS: usize = 5;
 }
