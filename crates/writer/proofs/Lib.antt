@@ -7,3 +7,4 @@ pub mod CascadeLaws
 pub mod DrawLaws
 pub mod ClosingLaws
 pub mod GateLaws
+pub mod CallLaws

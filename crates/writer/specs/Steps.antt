@@ -4,6 +4,7 @@ use Prim.Native.Nat.{ℕ, _+_, _*_, _<_, _≤_}
 use Rattle.lifting.specs.Line.{lo, count}
 use Rattle.wavelet.specs.Bands.{LL, code}
 use Rattle.wavelet.specs.Store.{storeLength}
+use Rattle.writer.specs.declared.Writer.{Writer}
 use Rattle.writer.specs.declared.cascade.Wait.{Wait}
 use Rattle.writer.specs.declared.draws.Spot.{Spot}
 use Rattle.writer.specs.declared.closing.Closure.{Closure}
@@ -12,6 +13,7 @@ use Rattle.writer.specs.FiveThreeLevel.{rowPut, bandPlace}
 use Rattle.writer.specs.Machine.{Out, rest, joinAt}
 use Rattle.writer.specs.Draws.{Waiting}
 use Rattle.writer.specs.Closing.{Shut}
+use Rattle.writer.specs.Calls.{waits, afterDraw}
 
 -- l levels, the first of w columns, in a store of n numbers; m is a number of rows
 pub record Room (l w m n : ℕ) : Type 0 where
@@ -56,3 +58,14 @@ pub record Closed (l : ℕ) (o : Shut) (r : Closure) (x : Memory) : Type 0 where
   pub store : x ≡ o .out .store
   pub within : r .level ≤ l
   pub all : r .closed ≤ l
+
+-- a row waits in a writer whose store has n numbers
+pub record Drawable (s : Writer) (n : ℕ) : Type 0 where
+  pub room : Room (s .levels) (s .width) (s .rows) n
+  pub walk : Walk (s .levels) (s .width) (s .level) (s .rows)
+  pub closed : s .closed ≤ s .levels
+
+-- what the draw leaves: the writer r and the store y
+pub record Drew (s : Writer) (x : Memory) (r : Writer) (y : Memory) : Type 0 where
+  pub writer : r ≡ waits (s .finished) s (afterDraw s x)
+  pub store : y ≡ afterDraw s x .out .store
