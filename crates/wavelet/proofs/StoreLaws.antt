@@ -2,6 +2,7 @@
 use mathlib.Core.Path.{_≡_, refl}
 use Prim.Native.Nat.{ℕ, zero, suc, _+_, _-_, _*_, _≤_, _<_}
 use native.Mathlib.Omega.{arith}
+use native.Mathlib.Numerals.{add-one}
 use Rattle.lifting.specs.Line.{lo, count}
 use Rattle.wavelet.specs.Levels.{size}
 use Rattle.wavelet.specs.Store.{widths, storeLength}
@@ -25,6 +26,9 @@ inner W (suc L) = omega (arith, inner W L, size-inner L W)
 pub store-below : (W L : ℕ) → storeLength W (suc L) ≡ 4 * W + storeLength (count lo W) L
 unfolding storeLength
 store-below W L = omega (arith, inner W L)
+
+pub store-next : (W L : ℕ) → storeLength W (L + 1) ≡ 4 * W + storeLength (count lo W) L
+store-next W L = rw add-one (store-below W L)
 
 pub store-back : (W L : ℕ) → 0 < L → storeLength W L ≡ 4 * W + storeLength (count lo W) (L - 1)
 store-back W zero h = absurd (omega arith)

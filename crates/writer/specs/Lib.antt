@@ -10,3 +10,5 @@ pub mod Answers
 pub mod Calls
 pub mod Holds
 pub mod Demand3
+pub mod Steps
+pub mod Gate
