@@ -42,7 +42,7 @@ use Rattle.writer.specs.Holds.{Kept, LevelsHold}
 use Rattle.writer.specs.Demand3.{DrawnRow, answered, All, all-none, all-more, isNone}
 use Rattle.writer.proofs.LevelLaws.{LevelLaws, five-three-laws}
 use Rattle.writer.proofs.Waiting.{pend, later, pend-none, later-all, later-none}
-use Rattle.writer.proofs.Cascade.{IsRow, Good, Pulled, Closed, cell-good, arrive-good, pull-good, shut-good, fresh-good, level-le, closed-le, inv-left}
+use Rattle.writer.proofs.CascadeHolds.{IsRow, Good, Pulled, Closed, cell-good, arrive-good, pull-good, shut-good, fresh-good, level-le, closed-le, inv-left}
 
 -- ---- lists
 module _ {A : Type 0} {P : A → Type 0} where

@@ -3,7 +3,7 @@ pub mod Filling
 pub mod Slots
 pub mod LevelLaws
 pub mod Waiting
-pub mod Cascade
+pub mod CascadeHolds
 pub mod CallList
 pub mod Demand3
 pub mod SetLaws
