@@ -39,7 +39,8 @@ use Rattle.writer.specs.Questions.{either, inRanges, longEnough, waiting
 use Rattle.writer.specs.Answers.{Reply, gives, refused, unless, changedUnless, Took, Handed, aRow, nothing}
 use Rattle.writer.specs.Calls.{fresh, setUpStore, took, offerReply, offerStore, waits, closing as closingOf, finishReply, finishStore, resumed, pulled, afterDraw, bandRow, handed, handedStore, handedArea, drawReply, drawStore, drawArea}
 use Rattle.writer.specs.Demand3.{Area, Call, offer, draw, finish, Given, row, none, Event, offered, drew, finished, World, seen, given, left, after, event, next, events, final, freshWorld, takenBy, taken, finishes, finishedBy, DrawnRow, drawnBy, drawn, wholeRows, madeOf, waitingOf, answered, MapOf, HasValues, All, isNone, drawSays, written, takesOn, offerTurned, Takes, finishTurned, Demand3}
-use Rattle.writer.proofs.CallList.{st, Fits, coming, Right, Sound, At, own-sound, own-fits, whole-rows, begun-row, in-ranges, waiting-is, none-waits, none-eqb, Offered, offering-good, head-is, draw-good, finish-good, fresh-at, all-map, map-append, rows-of, rows-all}
+use Rattle.writer.proofs.StateHolds.{st}
+use Rattle.writer.proofs.CallList.{Fits, coming, Right, Sound, At, own-sound, own-fits, whole-rows, begun-row, in-ranges, waiting-is, none-waits, none-eqb, Offered, offering-good, head-is, draw-good, finish-good, fresh-at, all-map, map-append, rows-of, rows-all}
 
 -- ---- histories
 pub taken-snoc : (es : List Event) (e : Event) → taken (es ++ e ∷ []) ≡ taken es ++ takenBy e
@@ -398,7 +399,7 @@ module _ (l W : ℕ) (wide : within 1 maxWidth W ≡ true) (deep : within 1 maxL
 
   pub fresh-reached : (n : ℕ) (x : Memory) → 0 < W → storeLength W L ≤ n → Reached [] (world (fresh W L) n x)
   unfolding taken finishedBy drawn
-  fresh-reached n x p long = record { long = long; rows = 0; column = 0; closed = 0; level = 0; rest = 0; writer-is = refl; at = fresh-at l W [] x p refl }
+  fresh-reached n x p long = record { long = long; rows = 0; column = 0; closed = 0; level = 0; rest = 0; writer-is = refl; at = fresh-at L W x p }
 
 -- ---- the statement, read off what is reached
 -- codes tell bands apart

@@ -4,6 +4,7 @@ pub mod Slots
 pub mod LevelLaws
 pub mod Waiting
 pub mod CascadeHolds
+pub mod StateHolds
 pub mod CallList
 pub mod Demand3
 pub mod SetLaws

@@ -1,7 +1,7 @@
 -- What stands in the line store of a writer, for a map g of H rows: `Holds H g s x`. While a band row of any level waits, its values are the map's; that is in it too.
 -- The numbers are 32-bit words (`wrap32`); for a map they are T.800's whole numbers.
 use mathlib.Core.Path.{_≡_}
-use mathlib.Core.Bool.{Bool, true}
+use mathlib.Core.Bool.{Bool, true, false}
 use Prim.Native.Nat.{ℕ, zero, suc, _+_, _*_, _≤_, _<_}
 use lib.IntN.{ℤ}
 use Rattle.numbers.specs.Word.{wrap32}
@@ -72,3 +72,11 @@ LevelsHold K Held (suc l) w H g c v i m j x =
 -- ---- the writer's store
 pub record Holds (H : ℕ) (g : Grid) (s : Writer) (x : Memory) : Type 0 where
   pub levels : LevelsHold fiveThree Kept (s .levels) (s .width) H g (s .closed) (s .level) (s .left) (s .rows) (s .column) x
+  -- at most the four bands of a set are left
+  pub few : s .left ≤ 4
+  -- while a band row waits, no row is begun
+  pub idle : 0 < s .level → s .column ≡ 0
+  -- before the finish no level is closed
+  pub before : s .finished ≡ false → s .closed ≡ 0
+  -- after it the map has the rows taken, at least one, and once no band row waits all levels are closed
+  pub ended : s .finished ≡ true → (s .rows ≡ H) × (0 < s .rows) × (s .level ≡ 0 → s .closed ≡ s .levels)
