@@ -6,6 +6,7 @@ pub mod Waiting
 pub mod CascadeHolds
 pub mod StateHolds
 pub mod CallList
+pub mod CallsKeep
 pub mod Demand3
 pub mod SetLaws
 pub mod RestLaws

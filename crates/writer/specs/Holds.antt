@@ -2,8 +2,10 @@
 -- The numbers are 32-bit words (`wrap32`); for a map they are T.800's whole numbers.
 use mathlib.Core.Path.{_≡_}
 use mathlib.Core.Bool.{Bool, true, false}
-use Prim.Native.Nat.{ℕ, zero, suc, _+_, _*_, _≤_, _<_}
-use lib.IntN.{ℤ}
+use mathlib.Core.List.{List}
+use Prim.Native.Nat.{ℕ, zero, suc, _+_, _*_, _/_, _%_, _≤_, _<_}
+use lib.IntN.{ℤ, pos}
+use lib.ListN.{getD}
 use Rattle.numbers.specs.Word.{wrap32}
 use Rattle.lifting.specs.Line.{lo, hi, count}
 use Rattle.wavelet.specs.Bands.{Grid, Band, LL, across, down, columnsLifted, subband}
@@ -80,3 +82,18 @@ pub record Holds (H : ℕ) (g : Grid) (s : Writer) (x : Memory) : Type 0 where
   pub before : s .finished ≡ false → s .closed ≡ 0
   -- after it the map has the rows taken, at least one, and once no band row waits all levels are closed
   pub ended : s .finished ≡ true → (s .rows ≡ H) × (0 < s .rows) × (s .level ≡ 0 → s .closed ≡ s .levels)
+
+-- ---- what a call keeps: for every map of which Map says what the call asks of it
+pub record Keeps (Map : ℕ → Grid → Type 0) (s : Writer) (x : Memory) (s′ : Writer) (x′ : Memory) : Type 0 where
+  pub keeps : (H : ℕ) (g : Grid) → Map H g → Holds H g s x → Holds H g s′ x′
+
+-- a draw asks nothing; a finish that the map has the rows taken; an offer that the map goes on with the k heights taken of the run
+abbrev pub AnyMap : ℕ → Grid → Type 0
+AnyMap H g = Unit {0}
+
+abbrev pub AllRows : Writer → ℕ → Grid → Type 0
+AllRows s H g = s .rows ≡ H
+
+pub record GoesOn (s : Writer) (run : List ℕ) (k : ℕ) (H : ℕ) (g : Grid) : Type 0 where
+  pub within : s .rows * s .width + s .column + k ≤ s .width * H
+  pub heights : (j : ℕ) → j < k → g ((s .rows * s .width + s .column + j) / s .width) ((s .rows * s .width + s .column + j) % s .width) ≡ pos (getD run j 0)
