@@ -131,6 +131,7 @@ pub record At (L W : ℕ) (ts : List ℕ) (f : Bool) (ds : List DrawnRow) (r c c
   pub counted : length ts ≡ r * W + c
   pub column-in : c < W
   pub rows-in : r ≤ maxHeight
+  pub room : 0 < c → r < maxHeight
   pub ended : f ≡ true → (0 < r) × (c ≡ 0)
   pub sound : (H : ℕ) (g : Grid) → Fits W H g ts f → Sound L W H g f ds r c cl v i x
 
@@ -212,11 +213,12 @@ module _ (l W : ℕ) (ds : List DrawnRow) where
       here : (g r c ≡ pos h) × (r < H)
       here = fits-height W H g ts h [] false r c (a .counted) (a .column-in) t
 
-    pub begun-at : c + 1 < W → At L W (ts ++ h ∷ []) false ds r (c + 1) cl v i x′
-    begun-at p = record {
+    pub begun-at : r < maxHeight → c + 1 < W → At L W (ts ++ h ∷ []) false ds r (c + 1) cl v i x′
+    begun-at q p = record {
       counted = omega (arith, longer, a .counted);
       column-in = p;
       rows-in = a .rows-in;
+      room = λ _. q;
       ended = λ e. absurd (differ e);
       sound = λ H g t. let s = before H g t in record {
         holds = subst (λ d. Holds H g (st W L r (c + 1) false cl v i) (stored (cellOf W r c) d x)) (here H g t .0) (begun-holds H g W l r c cl v i x (s .holds) z (a .column-in));
@@ -267,6 +269,7 @@ module _ (l W : ℕ) (ds : List DrawnRow) where
           counted = longer ∙ omega (arith, a .counted, a .column-in, suc-mul r W, ap (λ b. b * W) next);
           column-in = omega (arith, a .column-in);
           rows-in = omega arith;
+          room = λ e. absurd (omega arith);
           ended = λ e. absurd (differ e);
           sound = λ H g t. complete-sound H g t p;
         }
@@ -384,7 +387,7 @@ module _ (l W : ℕ) (ds : List DrawnRow) where
           open-here = sym (takes-is ts r c cl v i x a) ∙ e
 
           inner : (t : Bool) → ltb (c + 1) W ≡ t → Offered (h ∷ run) ts (more (pick t b d))
-          inner true q = one-more h run ts b open-here (ih (ts ++ h ∷ []) r (c + 1) cl v i y (begun-at ts r c cl v i x a free h (ltb-true _ _ q)))
+          inner true q = one-more h run ts b open-here (ih (ts ++ h ∷ []) r (c + 1) cl v i y (begun-at ts r c cl v i x a free h low (ltb-true _ _ q)))
           inner false q = one-more h run ts d open-here (ih (ts ++ h ∷ []) (r + 1) 0 cl (o .level) (o .left) (o .store) (complete-at ts r c cl v i x a free h low (ltb-false _ _ q)))
 
   pub offering-good : (run : List ℕ) → Offers run
@@ -467,6 +470,7 @@ module _ (l W : ℕ) (ds : List DrawnRow) where
       counted = a .counted;
       column-in = a .column-in;
       rows-in = a .rows-in;
+      room = a .room;
       ended = a .ended;
       sound = λ H g t. drawn-sound H g t z e;
     }
@@ -501,6 +505,7 @@ module _ (l W : ℕ) (ds : List DrawnRow) where
       counted = a .counted;
       column-in = a .column-in;
       rows-in = a .rows-in;
+      room = a .room;
       ended = λ _. (p, n);
       sound = finish-sound;
     }
@@ -515,6 +520,7 @@ fresh-at L W x p = record {
   counted = omega arith;
   column-in = p;
   rows-in = omega arith;
+  room = λ e. absurd (omega arith);
   ended = λ e. absurd (differ e);
   sound = λ H g t. record {
     holds = fresh-holds H g W L x;

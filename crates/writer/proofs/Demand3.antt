@@ -8,15 +8,16 @@ use native.Mathlib.Nat.{mul-comm, mul-le-mul-right, suc-mul}
 use native.Mathlib.Decide.{decLt}
 use native.Mathlib.Omega.{arith}
 use lib.IntN.{ℤ, pos}
+use lib.Signed.{_≤ℤ_}
 use lib.ListN.{length, take, drop, getD}
-use lib.Dec.{leb, ltb, eqb}
+use lib.Dec.{leb, ltb, eqb, le→leb}
 use borrow.Author.Tests.{le-leb, lt-ltb, le-ltb, eq-eqb, ne-eqb, eqb-true, ltb-true, leb-true}
 use Rattle.numbers.specs.Signal.{pick, both}
 use Rattle.numbers.specs.Word.{wrap32, whole}
 use Rattle.numbers.proofs.Sweep.{both as split-both}
 use Rattle.lifting.specs.Line.{count}
 use Rattle.lifting.specs.Halves.{fronted}
-use Rattle.wavelet.specs.Limits.{maxWidth, maxHeight, maxLevels}
+use Rattle.wavelet.specs.Limits.{maxWidth, maxHeight, maxLevels, maxSample}
 use Rattle.wavelet.specs.Bands.{Grid, Band, LL, HL, LH, HH, code, across, down}
 use Rattle.wavelet.specs.Levels.{size, levelBand}
 use Rattle.wavelet.specs.View.{bandColumns}
@@ -38,7 +39,7 @@ use Rattle.writer.specs.Taking.{Taking, offering}
 use Rattle.writer.specs.Questions.{either, inRanges, longEnough, waitingRow, setUpQuestion, offerQuestion, drawQuestion, finishQuestion}
 use Rattle.writer.specs.Answers.{Reply, gives, refused, unless, changedUnless, Took, Handed, aRow, nothing}
 use Rattle.writer.specs.Calls.{fresh, setUpStore, took, offerReply, offerStore, waits, closing as closingOf, finishReply, finishStore, resumed, pulled, afterDraw, bandRow, handed, handedStore, handedArea, drawReply, drawStore, drawArea}
-use Rattle.writer.specs.Demand3.{Area, Call, offer, draw, finish, Given, row, none, Event, offered, drew, finished, World, seen, given, left, after, event, next, events, final, freshWorld, takenBy, taken, finishes, finishedBy, DrawnRow, drawnBy, drawn, wholeRows, madeOf, waitingOf, answered, MapOf, HasValues, All, isNone, drawSays, written, takesOn, offerTurned, Takes, finishTurned, Demand3}
+use Rattle.writer.specs.Demand3.{Area, Call, offer, draw, finish, Given, row, none, Event, offered, drew, finished, World, seen, given, left, after, event, next, events, final, freshWorld, takenBy, taken, finishes, finishedBy, DrawnRow, drawnBy, drawn, wholeRows, madeOf, waitingOf, answered, MapOf, HasValues, All, all-none, all-more, isNone, drawSays, written, takesOn, offerTurned, Takes, finishTurned, Demand3}
 use Rattle.writer.proofs.StateHolds.{st}
 use Rattle.writer.proofs.CallList.{Fits, coming, Right, Sound, At, own-sound, own-fits, whole-rows, begun-row, in-ranges, waiting-is, none-waits, none-eqb, Offered, offering-good, head-is, draw-good, finish-good, fresh-at, all-map, map-append, rows-of, rows-all}
 
@@ -448,6 +449,45 @@ rows-within W H r c p h =
 map-fits : (W H : ℕ) (g : Grid) (es : List Event) → MapOf W H g es → Fits W H g (taken es) (finishedBy es)
 map-fits W H g es m = record { within = m .within; heights = m .heights; whole = m .all }
 
+-- the heights taken, as a map: the row begun is filled up with zeros
+mapRows : ℕ → ℕ → ℕ
+mapRows zero c = 1
+mapRows (suc r) zero = suc r
+mapRows (suc r) (suc c) = suc (suc r)
+
+module _ (W : ℕ) where
+  map-some : (r c : ℕ) → 1 ≤ mapRows r c
+  unfolding mapRows
+  map-some zero c = omega arith
+  map-some (suc r) zero = omega arith
+  map-some (suc r) (suc c) = omega arith
+
+  map-limit : (r c : ℕ) → r ≤ maxHeight → (0 < c → r < maxHeight) → mapRows r c ≤ maxHeight
+  unfolding mapRows maxHeight
+  map-limit zero c p q = omega arith
+  map-limit (suc r) zero p q = p
+  map-limit (suc r) (suc c) p q = q (omega arith)
+
+  map-room : (r c : ℕ) → c < W → r * W + c ≤ W * mapRows r c
+  unfolding mapRows
+  map-room zero c p = omega arith
+  map-room (suc r) zero p = omega (arith, mul-comm W (suc r))
+  map-room (suc r) (suc c) p = omega (arith, mul-comm W (suc (suc r)), suc-mul (suc r) W)
+
+  map-whole : (r c : ℕ) → 0 < r → c ≡ 0 → r * W + c ≡ W * mapRows r c
+  unfolding mapRows
+  map-whole zero c p e = absurd (omega arith)
+  map-whole (suc r) zero p e = omega (arith, mul-comm W (suc r))
+  map-whole (suc r) (suc c) p e = absurd (omega arith)
+
+small-each : (M : ℕ) (l : List ℕ) → All (λ h. h ≤ M) l → (j : ℕ) → getD l j 0 ≤ M
+small-each M [] a j = omega arith
+small-each M (h ∷ l) (all-more p a) zero = p
+small-each M (h ∷ l) (all-more p a) (suc j) = small-each M l a j
+
+height-range : (h : ℕ) → h ≤ maxSample → (pos 0 ≤ℤ pos h) × (pos h ≤ℤ pos maxSample)
+height-range h p = (record { le = le→leb 0 h (omega arith) }, record { le = le→leb h maxSample p })
+
 -- the rows made so far are the first of all
 made-prefix : (W L H r : ℕ) → r ≤ H → (k : List RowName) × (made W L r false ++ k ≡ made W L H true)
 unfolding made
@@ -504,6 +544,20 @@ module _ (l W : ℕ) (wide : within 1 maxWidth W ≡ true) (deep : within 1 maxL
             ∙ ap (map (answered W)) (sym (append-assoc (s .names) (coming M W g₀ cl v i r) (p .0)) ∙ ap (λ b. b ++ p .0) (s .order) ∙ p .1),
       )
 
+  map-there : All (λ h. h ≤ maxSample) (taken es) → (H : ℕ) × (g : Grid) × MapOf W H g es
+  map-there small = (
+    mapRows r c,
+    λ p q. pos (getD (taken es) (p * W + q) 0),
+    record {
+      some = map-some W r c;
+      limit = map-limit W r c (a .rows-in) (a .room);
+      map = record { heights = λ p q _ _. height-range (getD (taken es) (p * W + q) 0) (small-each maxSample (taken es) small (p * W + q)) };
+      within = omega (arith, a .counted, map-room W r c (a .column-in));
+      heights = λ _ _ _ _. refl;
+      all = λ e. a .counted ∙ map-whole W r c (a .ended e .0) (a .ended e .1);
+    },
+  )
+
   whole-map : g₀ ≡ true → (1 ≤ wholeRows W es) × (wholeRows W es ≤ maxHeight) × (length (taken es) ≡ W * wholeRows W es)
   whole-map e =
       let p = a .ended e in
@@ -521,6 +575,7 @@ module _ (l W : ℕ) (wide : within 1 maxWidth W ≡ true) (deep : within 1 maxL
     in-order = ordered;
     values = λ H g m. all-map (right-values M W H g (five-levels l deep) es m) (a .sound H g (map-fits W H g es m) .values);
     first = is-first;
+    some-map = map-there;
     finished-map = whole-map;
     all-drawn = drew-all;
     draws = λ b. let d = draw-says l W wide deep es n r c cl v i x long a b in (d .area, d .says, d .size-is, d .surplus);

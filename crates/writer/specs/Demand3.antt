@@ -9,7 +9,7 @@ use lib.ListN.{length, take, drop, getD}
 use lib.Dec.{leb, ltb, eqb}
 use Rattle.numbers.specs.Signal.{pick, both}
 use Rattle.numbers.specs.Word.{whole}
-use Rattle.wavelet.specs.Limits.{maxHeight}
+use Rattle.wavelet.specs.Limits.{maxHeight, maxSample}
 use Rattle.wavelet.specs.Bands.{Grid, Band, code}
 use Rattle.wavelet.specs.Levels.{levelBand}
 use Rattle.wavelet.specs.View.{bandColumns}
@@ -218,6 +218,8 @@ pub record Demand3 (W L : ℕ) (es : List Event) (then : Call → Event) : Type 
   -- they have the values of every map that begins with the heights taken, and are the first in that map's order
   pub values : (H : ℕ) (g : Grid) → MapOf W H g es → All (HasValues W H g) (drawn es)
   pub first : (H : ℕ) (g : Grid) → MapOf W H g es → (r : List RowName) × (map (λ d. d .row) (drawn es) ++ map (answered W) r ≡ map (answered W) (made W L H true))
+  -- there is such a map, the heights taken being 16-bit numbers
+  pub some-map : All (λ h. h ≤ maxSample) (taken es) → (H : ℕ) × (g : Grid) × MapOf W H g es
   -- once finished, the heights taken are a map
   pub finished-map : finishedBy es ≡ true → (1 ≤ wholeRows W es) × (wholeRows W es ≤ maxHeight) × (length (taken es) ≡ W * wholeRows W es)
   -- and once none waits, the rows drawn are its plane's band rows, each once
