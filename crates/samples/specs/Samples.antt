@@ -59,11 +59,11 @@ table =
     -- the column 1, 4, 2, 7 at L = 2: 2 LL 4, 2 LH 1, 1 LH 3 and 5
     ∷ map 2 1 4 (pos 1 ∷ pos 4 ∷ pos 2 ∷ pos 7 ∷ []) (pos 4 ∷ pos 1 ∷ pos 3 ∷ pos 5 ∷ [])
     ∷ order 2 1 4 (pos 1 ∷ pos 4 ∷ pos 2 ∷ pos 7 ∷ [])
-      (record { name = rowName 1 LH 0; values = pos 3 ∷ [] }
-      ∷ record { name = rowName 1 LH 1; values = pos 5 ∷ [] }
-      ∷ record { name = rowName 2 LL 0; values = pos 4 ∷ [] }
-      ∷ record { name = rowName 2 LH 0; values = pos 1 ∷ [] }
-      ∷ [])
+    (record { name = rowName 1 LH 0; values = pos 3 ∷ [] }
+    ∷ record { name = rowName 1 LH 1; values = pos 5 ∷ [] }
+    ∷ record { name = rowName 2 LL 0; values = pos 4 ∷ [] }
+    ∷ record { name = rowName 2 LH 0; values = pos 1 ∷ [] }
+    ∷ [])
     ∷ map 5 1 1 (pos 65535 ∷ []) (pos 65535 ∷ [])
     ∷ []
 

@@ -3,8 +3,8 @@
 --     draw-good       a row is drawn
 --     finish-good     the finish
 -- Assumes nothing.
-use mathlib.Core.Bool.{Bool, true, false, not}
-use mathlib.Core.Path.{_≡_, refl, sym, ap, ap₂, subst, subst₂, _∙_}
+use mathlib.Core.Bool.{Bool, true, false}
+use mathlib.Core.Path.{_≡_, refl, sym, ap, ap₂, subst, _∙_}
 use mathlib.Core.List.{List, [], _∷_, _++_, map, append-nil, append-assoc}
 use Prim.Native.Nat.{ℕ, zero, suc, _+_, _-_, _*_, _/_, _%_, _≤_, _<_}
 use native.Mathlib.Nat.{mul-comm, mul-le-mul-right, mul-add-div-right, div-eq-of-lt, mul-add-mod-self-right, mod-eq-of-lt, mul-div-cancel, mul-div-cancel-left, suc-mul, mul-suc}
@@ -13,37 +13,33 @@ use native.Mathlib.Omega.{arith}
 use lib.IntN.{ℤ, pos}
 use lib.ListN.{length, take, drop, getD, length-append, length-map, List·getD-append}
 use lib.Seq.{getD-at, drop-at}
-use lib.Dec.{leb, ltb, eqb}
-use borrow.Author.Tests.{lt-ltb, le-ltb, le-leb, lt-leb, eq-eqb, ne-eqb, ltb-true, ltb-false, eqb-true}
+use lib.Dec.{ltb, eqb}
+use borrow.Author.Tests.{lt-ltb, le-leb, eq-eqb, ne-eqb, ltb-true, ltb-false, eqb-true}
 use Rattle.numbers.specs.Signal.{pick, both}
 use Rattle.numbers.specs.Word.{wrap32}
 use Rattle.numbers.proofs.Sweep.{both as split-both}
-use Rattle.lifting.specs.Line.{lo, count}
-use Rattle.lifting.specs.Halves.{fronted}
+use Rattle.lifting.specs.Line.{count}
 use Rattle.wavelet.specs.Limits.{maxWidth, maxHeight, maxLevels}
 use Rattle.wavelet.specs.Bands.{Grid, Band, code, across, down}
 use Rattle.wavelet.specs.Levels.{size, levelBand}
 use Rattle.wavelet.specs.View.{bandColumns}
 use Rattle.wavelet.specs.Questions.{within}
-use Rattle.wavelet.specs.Store.{storeLength}
 use Rattle.wavelet.specs.Order.{RowName, rowName, madeBy, closing, inTurn, made}
-use Rattle.wavelet.proofs.OrderLaws.{turn-zero, turn-suc}
-use Rattle.writer.specs.declared.Writer.{Writer}
-use Rattle.writer.specs.declared.BandRow.{BandRow}
+use Rattle.wavelet.proofs.OrderLaws.{turn-suc}
 use Rattle.writer.specs.Level.{Memory, LevelKind}
 use Rattle.writer.specs.FiveThreeLevel.{cellOf, fiveThree}
-use Rattle.writer.specs.Machine.{Out, rest, arrive}
+use Rattle.writer.specs.Machine.{Out, arrive}
 use Rattle.writer.specs.Draws.{Waiting, waiting, pull}
 use Rattle.writer.specs.Closing.{Shut, shut}
 use Rattle.writer.specs.Taking.{stored, Taking, takes, offering}
-use Rattle.writer.specs.Questions.{inRanges, longEnough}
+use Rattle.writer.specs.Questions.{inRanges}
 use Rattle.writer.specs.Calls.{resumed, bandRow}
-use Rattle.writer.specs.Holds.{Kept, LevelsHold, Holds}
+use Rattle.writer.specs.Holds.{Kept, Holds}
 use Rattle.writer.specs.Demand3.{DrawnRow, answered, All, all-none, all-more, isNone}
-use Rattle.writer.proofs.LevelLaws.{LevelLaws, five-three-laws}
+use Rattle.writer.proofs.LevelLaws.{five-three-laws}
 use Rattle.writer.proofs.Waiting.{pend, later, pend-none, later-all, later-none}
-use Rattle.writer.proofs.CascadeHolds.{Good, Pulled, Closed, level-le, closed-le}
-use Rattle.writer.proofs.StateHolds.{differ, st, fresh-holds, none-begun, pulled-by, shut-on, draw-holds, shut-first, finish-holds, begun-holds, arrived-by, complete-holds}
+use Rattle.writer.proofs.CascadeHolds.{Good, Pulled, level-le, closed-le}
+use Rattle.writer.proofs.StateHolds.{differ, st, fresh-holds, pulled-by, shut-on, draw-holds, shut-first, finish-holds, begun-holds, arrived-by, complete-holds}
 
 -- ---- lists
 module _ {A : Type 0} {P : A → Type 0} where

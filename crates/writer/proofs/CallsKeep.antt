@@ -1,12 +1,12 @@
 -- Every call keeps what the store holds, on every state and store: `set-up-holds`, `draw-keeps`, `finish-keeps`, `offer-keeps`; and a drawn row has the map's values: `draw-values`.
 -- Assumes nothing.
 use mathlib.Core.Bool.{Bool, true, false, not}
-use mathlib.Core.Path.{_≡_, refl, sym, ap, subst, subst₂, _∙_}
+use mathlib.Core.Path.{_≡_, refl, sym, ap, subst, _∙_}
 use mathlib.Core.List.{List, [], _∷_}
 use Prim.Native.Nat.{ℕ, zero, suc, _+_, _-_, _*_, _/_, _%_, _≤_, _<_}
-use native.Mathlib.Nat.{mul-comm, suc-mul}
+use native.Mathlib.Nat.{suc-mul}
 use native.Mathlib.Omega.{arith}
-use lib.IntN.{ℤ, pos}
+use lib.IntN.{pos}
 use lib.ListN.{length, getD}
 use lib.Dec.{leb, ltb, eqb}
 use borrow.Author.Tests.{eqb-true, ltb-true, ltb-false, leb-true}
@@ -24,8 +24,8 @@ use Rattle.writer.specs.Machine.{Out, arrive}
 use Rattle.writer.specs.Draws.{Waiting}
 use Rattle.writer.specs.Taking.{stored, Taking, takes, offering}
 use Rattle.writer.specs.Questions.{either, inRanges, longEnough, waitingRow, offerQuestion, drawQuestion, finishQuestion}
-use Rattle.writer.specs.Answers.{Reply, unless, changedUnless, Took, Handed, aRow, nothing}
-use Rattle.writer.specs.Calls.{fresh, took, offerReply, offerStore, waits, closing, finishReply, finishStore, afterDraw, handed, handedStore, drawReply, drawStore}
+use Rattle.writer.specs.Answers.{unless, changedUnless}
+use Rattle.writer.specs.Calls.{fresh, took, offerReply, offerStore, waits, closing, finishReply, finishStore, handed, handedStore, drawReply, drawStore}
 use Rattle.writer.specs.Holds.{Holds, Keeps, AnyMap, AllRows, GoesOn}
 use Rattle.writer.specs.Demand3.{left, after}
 use Rattle.writer.proofs.StateHolds.{st, fresh-holds, pulled-by, draw-holds, finish-holds, begun-holds, complete-holds}

@@ -4,35 +4,34 @@
 --     pull-good     a row is drawn
 --     shut-good     levels are closed
 -- Assumes nothing.
-use mathlib.Core.Bool.{Bool, true, false}
+use mathlib.Core.Bool.{true}
 use mathlib.Core.Path.{_≡_, refl, sym, ap, ap₂, subst, subst₂, _∙_, fun-ext}
-use mathlib.Core.List.{List, [], _∷_, _++_, append-nil, append-assoc}
+use mathlib.Core.List.{List, [], _∷_, _++_}
 use Prim.Native.Nat.{ℕ, zero, suc, _+_, _-_, _*_, _/_, _%_, _≤_, _<_}
 use native.Mathlib.Nat.{add-sub-cancel-left, add-assoc}
 use native.Mathlib.Omega.{arith}
 use lib.IntN.{ℤ}
-use lib.Dec.{ltb, eqb}
+use lib.Dec.{ltb}
 use borrow.Author.Tests.{lt-ltb, le-ltb, ltb-true}
-use Rattle.numbers.specs.Signal.{pick, both}
 use Rattle.numbers.specs.Word.{wrap32}
 use Rattle.numbers.proofs.Sweep.{both as split-both}
 use Rattle.lifting.specs.Line.{Half, lo, hi, count}
 use Rattle.lifting.proofs.Filter.{place, by-place}
-use Rattle.wavelet.specs.Bands.{Grid, Band, LL, HL, LH, HH, across, down, subband}
+use Rattle.wavelet.specs.Bands.{Grid, Band, LL, across, down, subband}
 use Rattle.wavelet.specs.Levels.{size, approximation, levelBand}
-use Rattle.wavelet.specs.Order.{RowName, rowName, handedOut, rowsOf, setRows, madeBy, closing}
+use Rattle.wavelet.specs.Order.{RowName, rowName, rowsOf, setRows, madeBy}
 use Rattle.wavelet.proofs.SizeLaws.{count-lo, count-hi, size-inner}
 use Rattle.wavelet.proofs.OrderLaws.{made-first, made-odd, made-even}
 use Rattle.writer.specs.Level.{Memory, LevelKind}
 use Rattle.writer.specs.Counts.{prev, deeper, made, most, bandAt, hasRow, skip}
 use Rattle.writer.specs.Machine.{rest, joinAt, Out, still, under, passed, settled, arrived, arrive, passOn}
-use Rattle.writer.specs.Draws.{Waiting, nothing, lower, rowOf, waiting, pull}
+use Rattle.writer.specs.Draws.{Waiting, lower, waiting, pull}
 use Rattle.writer.specs.Closing.{Shut, onward, closeLevel, shut}
 use Rattle.writer.specs.Taking.{stored}
-use Rattle.writer.specs.Holds.{Meaning, SetStands, below, Waits, LevelHolds, SetWaits, LevelsHold}
+use Rattle.writer.specs.Holds.{Meaning, SetStands, below, LevelHolds, SetWaits, LevelsHold}
 use Rattle.writer.proofs.CountLaws.{prev-is}
 use Rattle.writer.proofs.LevelLaws.{LevelLaws}
-use Rattle.writer.proofs.Waiting.{lasts, lasts-most, most-le, rows-yes, skip-rows, skip-has, skip-le, pend, later, pend-none, pend-under, later-all, later-none, later-first}
+use Rattle.writer.proofs.Waiting.{lasts, lasts-most, most-le, rows-yes, skip-rows, skip-has, skip-le, pend, later, pend-none, pend-under, later-first}
 
 -- ---- the store from a place on
 pub rest-join : (a : ℕ) (x t : Memory) → rest a (joinAt a x t) ≡ t

@@ -3,7 +3,7 @@
 use mathlib.Core.Bool.{Bool, true, false, not}
 use mathlib.Core.Path.{_≡_, refl, sym, ap, ap₂, subst, subst₂, _∙_}
 use mathlib.Core.List.{List, [], _∷_, _++_, map, append-nil, append-assoc}
-use Prim.Native.Nat.{ℕ, zero, suc, _+_, _-_, _*_, _/_, _%_, _≤_, _<_}
+use Prim.Native.Nat.{ℕ, zero, suc, _+_, _-_, _*_, _≤_, _<_}
 use native.Mathlib.Nat.{mul-comm, mul-le-mul-right, suc-mul}
 use native.Mathlib.Decide.{decLt}
 use native.Mathlib.Omega.{arith}
@@ -11,14 +11,13 @@ use lib.IntN.{ℤ, pos}
 use lib.Signed.{_≤ℤ_}
 use lib.ListN.{length, take, drop, getD}
 use lib.Dec.{leb, ltb, eqb, le→leb}
-use borrow.Author.Tests.{le-leb, lt-ltb, le-ltb, eq-eqb, ne-eqb, eqb-true, ltb-true, leb-true}
+use borrow.Author.Tests.{le-leb, lt-ltb, le-ltb, ne-eqb, eqb-true, ltb-true, leb-true}
 use Rattle.numbers.specs.Signal.{pick, both}
-use Rattle.numbers.specs.Word.{wrap32, whole}
+use Rattle.numbers.specs.Word.{whole}
 use Rattle.numbers.proofs.Sweep.{both as split-both}
-use Rattle.lifting.specs.Line.{count}
 use Rattle.lifting.specs.Halves.{fronted}
 use Rattle.wavelet.specs.Limits.{maxWidth, maxHeight, maxLevels, maxSample}
-use Rattle.wavelet.specs.Bands.{Grid, Band, LL, HL, LH, HH, code, across, down}
+use Rattle.wavelet.specs.Bands.{Grid, Band, LL, HL, LH, HH, code}
 use Rattle.wavelet.specs.Levels.{size, levelBand}
 use Rattle.wavelet.specs.View.{bandColumns}
 use Rattle.wavelet.specs.ViewCall.{bandRowExists}
@@ -29,19 +28,18 @@ use Rattle.wavelet.proofs.OrderLaws.{turn-prefix}
 use Rattle.wavelet.proofs.OrderOnce.{made-once}
 use Rattle.wavelet.proofs.Bridge.{map-band}
 use Rattle.writer.specs.declared.Writer.{Writer}
-use Rattle.writer.specs.declared.BandRow.{BandRow}
 use Rattle.writer.specs.Level.{Memory}
 use Rattle.writer.specs.FiveThreeLevel.{fiveThree}
 use Rattle.writer.specs.Machine.{Out, rest}
 use Rattle.writer.specs.Draws.{Waiting, waiting, pull}
 use Rattle.writer.specs.Closing.{Shut, shut}
 use Rattle.writer.specs.Taking.{Taking, offering}
-use Rattle.writer.specs.Questions.{either, inRanges, longEnough, waitingRow, setUpQuestion, offerQuestion, drawQuestion, finishQuestion}
-use Rattle.writer.specs.Answers.{Reply, gives, refused, unless, changedUnless, Took, Handed, aRow, nothing}
-use Rattle.writer.specs.Calls.{fresh, setUpStore, took, offerReply, offerStore, waits, closing as closingOf, finishReply, finishStore, resumed, pulled, afterDraw, bandRow, handed, handedStore, handedArea, drawReply, drawStore, drawArea}
-use Rattle.writer.specs.Demand3.{Area, Call, offer, draw, finish, Given, row, none, Event, offered, drew, finished, World, seen, given, left, after, event, next, events, final, freshWorld, takenBy, taken, finishes, finishedBy, DrawnRow, drawnBy, drawn, wholeRows, madeOf, waitingOf, answered, MapOf, HasValues, All, all-none, all-more, isNone, drawSays, written, takesOn, offerTurned, Takes, finishTurned, Demand3}
+use Rattle.writer.specs.Questions.{either, inRanges, longEnough, setUpQuestion, offerQuestion, drawQuestion, finishQuestion}
+use Rattle.writer.specs.Answers.{Reply, gives, refused, unless}
+use Rattle.writer.specs.Calls.{fresh, offerReply, offerStore, waits, closing as closingOf, finishReply, finishStore, resumed, bandRow, drawReply, drawStore, drawArea}
+use Rattle.writer.specs.Demand3.{Area, Call, offer, draw, finish, row, none, Event, offered, drew, finished, World, seen, left, event, next, events, final, freshWorld, takenBy, taken, finishes, finishedBy, DrawnRow, drawnBy, drawn, wholeRows, madeOf, waitingOf, answered, MapOf, HasValues, All, all-more, isNone, drawSays, written, takesOn, offerTurned, Takes, finishTurned, Demand3}
 use Rattle.writer.proofs.StateHolds.{st}
-use Rattle.writer.proofs.CallList.{Fits, coming, Right, Sound, At, own-sound, own-fits, whole-rows, begun-row, in-ranges, waiting-is, none-waits, none-eqb, Offered, offering-good, head-is, draw-good, finish-good, fresh-at, all-map, map-append, rows-of, rows-all}
+use Rattle.writer.proofs.CallList.{Fits, coming, Right, At, own-sound, whole-rows, begun-row, in-ranges, waiting-is, none-waits, none-eqb, Offered, offering-good, head-is, draw-good, finish-good, fresh-at, all-map, map-append, rows-all}
 
 -- ---- histories
 pub taken-snoc : (es : List Event) (e : Event) → taken (es ++ e ∷ []) ≡ taken es ++ takenBy e

@@ -1,27 +1,27 @@
 -- What the theorems above ask of a level, whatever it does: `LevelLaws`; and that the 5/3 level meets it: `five-three-laws`.
 -- Assumes nothing.
-use mathlib.Core.Path.{_≡_, refl, sym, ap, subst, _∙_}
+use mathlib.Core.Path.{_≡_, refl, ap, _∙_}
 use mathlib.Core.Bool.{Bool, true, false}
-use Prim.Native.Nat.{ℕ, zero, suc, _+_, _-_, _*_, _/_, _%_, _≤_, _<_}
-use native.Mathlib.Decide.{decLt, ℕ-discrete}
+use Prim.Native.Nat.{ℕ, suc, _+_, _-_, _*_, _/_, _%_, _≤_, _<_}
+use native.Mathlib.Decide.{ℕ-discrete}
 use native.Mathlib.Omega.{arith}
 use lib.IntN.{ℤ}
 use lib.Dec.{eqb}
 use borrow.Author.Tests.{eq-eqb, ne-eqb}
 use Rattle.numbers.specs.Signal.{pick}
 use Rattle.numbers.specs.Word.{wrap32}
-use Rattle.lifting.specs.Line.{Half, lo, hi, count, parted, predicted}
+use Rattle.lifting.specs.Line.{lo, hi, count, parted, predicted}
 use Rattle.lifting.specs.Halves.{partedInto}
 use Rattle.lifting.proofs.LineLaws.{halves-low, halves-high}
 use Rattle.lifting.proofs.LineTheorems.{high-mid, high-end}
-use Rattle.wavelet.specs.Bands.{Grid, Band, LL, HL, LH, HH, across, down, columnsLifted}
+use Rattle.wavelet.specs.Bands.{Grid, Band, LL, HL, LH, HH, across, columnsLifted}
 use Rattle.writer.specs.Level.{Memory, LevelKind}
 use Rattle.writer.specs.Counts.{prev}
-use Rattle.writer.specs.FiveThreeLevel.{slot, cellOf, rowPut, setWith, setMade, lastSet, lowAlone, bandPlace, fiveThree}
+use Rattle.writer.specs.FiveThreeLevel.{cellOf, rowPut, setWith, setMade, lastSet, lowAlone, bandPlace, fiveThree}
 use Rattle.writer.specs.Taking.{stored}
 use Rattle.writer.specs.Holds.{RowStands, Kept, Meaning, SetStands}
 use Rattle.writer.proofs.CountLaws.{prev-is, slot-room}
-use Rattle.writer.proofs.Slots.{spot, cell-spot, spot-even, spot-odd, spot-in, spot-apart, slots-apart, slots-apart′, Only, only-cell, only-row, only-past, spliced-only, spliced-at, stored-at, stored-other, stored-only, next-stays, set-past, high-stays, set-stands, alone-stands, alone-past}
+use Rattle.writer.proofs.Slots.{spot, cell-spot, spot-even, spot-odd, spot-in, spot-apart, slots-apart′, Only, only-row, only-past, spliced-only, spliced-at, stored-at, stored-other, stored-only, next-stays, set-past, high-stays, set-stands, alone-stands, alone-past}
 
 -- Held w H g m c x: what a level holds after m rows of g and c columns of row m
 pub record LevelLaws (K : LevelKind) (Held : Meaning) : Type 0 where

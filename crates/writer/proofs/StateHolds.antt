@@ -1,14 +1,12 @@
 -- Each step of a call keeps what the store holds (`Holds`), for a fixed grid g of H rows. The writer is given by its numbers (`st`).
 -- Assumes nothing.
 use mathlib.Core.Bool.{Bool, true, false}
-use mathlib.Core.Path.{_≡_, refl, sym, ap, subst, subst₂, _∙_}
-use mathlib.Core.List.{List}
+use mathlib.Core.Path.{_≡_, refl, sym, ap, subst, subst₂}
 use Prim.Native.Nat.{ℕ, zero, suc, _+_, _≤_, _<_}
 use native.Mathlib.Omega.{arith}
-use lib.IntN.{ℤ}
 use Rattle.numbers.specs.Signal.{pick}
 use Rattle.wavelet.specs.Bands.{Grid}
-use Rattle.wavelet.specs.Order.{RowName, madeBy}
+use Rattle.wavelet.specs.Order.{madeBy}
 use Rattle.writer.specs.declared.Writer.{Writer}
 use Rattle.writer.specs.Level.{Memory, LevelKind}
 use Rattle.writer.specs.FiveThreeLevel.{cellOf, fiveThree}

@@ -3,7 +3,7 @@
 use mathlib.Core.Path.{_≡_}
 use mathlib.Core.Bool.{Bool, true, false, not}
 use mathlib.Core.List.{List, [], _∷_, _++_, map}
-use Prim.Native.Nat.{ℕ, zero, suc, _+_, _*_, _/_, _%_, _≤_, _<_}
+use Prim.Native.Nat.{ℕ, suc, _+_, _*_, _/_, _%_, _≤_, _<_}
 use lib.IntN.{ℤ, pos}
 use lib.ListN.{length, take, drop, getD}
 use lib.Dec.{leb, ltb, eqb}
@@ -21,7 +21,7 @@ use Rattle.writer.specs.declared.Writer.{Writer}
 use Rattle.writer.specs.declared.BandRow.{BandRow}
 use Rattle.writer.specs.Level.{Memory}
 use Rattle.writer.specs.Questions.{either}
-use Rattle.writer.specs.Answers.{Reply, gives, refused, unless, Took, Handed, aRow, nothing}
+use Rattle.writer.specs.Answers.{Reply, gives, refused, unless, Handed, aRow, nothing}
 use Rattle.writer.specs.Calls.{fresh, setUpStore, offerReply, offerStore, drawReply, drawStore, drawArea, finishReply, finishStore}
 
 -- ---- calls, and what is seen of them
