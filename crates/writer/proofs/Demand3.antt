@@ -33,7 +33,7 @@ use Rattle.writer.specs.FiveThreeLevel.{fiveThree}
 use Rattle.writer.specs.Machine.{Out, rest}
 use Rattle.writer.specs.Draws.{Waiting, waiting, pull}
 use Rattle.writer.specs.Closing.{Shut, shut}
-use Rattle.writer.specs.Taking.{Taking, offering}
+use Rattle.writer.specs.Taking.{Taking, takes, offering}
 use Rattle.writer.specs.Questions.{either, inRanges, longEnough, setUpQuestion, offerQuestion, drawQuestion, finishQuestion}
 use Rattle.writer.specs.Answers.{Reply, gives, refused, unless}
 use Rattle.writer.specs.Calls.{fresh, offerReply, offerStore, waits, closing as closingOf, finishReply, finishStore, resumed, bandRow, drawReply, drawStore, drawArea}
@@ -64,6 +64,12 @@ finished-snoc (d ∷ es) e = ap (either (finishes d)) (finished-snoc es e) ∙ g
     go : (t : Bool) → either t (either (finishedBy es) (finishes e)) ≡ either (either t (finishedBy es)) (finishes e)
     go true = refl
     go false = refl
+
+-- where it may take, an offer of one height or more takes one
+takes-one : (run : List ℕ) (s : Writer) (x : Memory) → takes s ≡ true → 0 < length run → 0 < offering fiveThree run s x .taken
+unfolding offering
+takes-one [] s x e p = absurd (omega arith)
+takes-one (h ∷ run) s x e p = rw e (omega arith)
 
 module _ (l W : ℕ) (wide : within 1 maxWidth W ≡ true) (deep : within 1 maxLevels (suc l) ≡ true) where
   abbrev L : ℕ
@@ -164,6 +170,17 @@ module _ (l W : ℕ) (wide : within 1 maxWidth W ≡ true) (deep : within 1 maxL
           go true z = absurd (omega arith)
           go false z = refl
 
+      -- and of one height or more it takes one
+      offer-open : offerQuestion s n (length run) ≡ 0 → 0 < length run → takes (st W L r c false cl v i) ≡ true
+      unfolding offerQuestion takes
+      offer-open e p = go (not f) (eqb v 0) (ltb r maxHeight) (sym (simp (ranges, enough, ne-eqb (length run) 0 (λ z. omega arith)) refl) ∙ e)
+        where
+          go : (b d t : Bool) → ask b 9 (ask d 8 (ask t 10 0)) ≡ 0 → both d t ≡ true
+          go false d t z = absurd (omega arith)
+          go true false t z = absurd (omega arith)
+          go true true false z = absurd (omega arith)
+          go true true true z = refl
+
       abbrev T : Bool → Taking
       T b = offering fiveThree run (st W L r c b cl v i) x
 
@@ -195,7 +212,7 @@ module _ (l W : ℕ) (wide : within 1 maxWidth W ≡ true) (deep : within 1 maxL
           let q = offer-question (length run) ∙ e in
           let z = not-finished q in
           let o = taking z in
-          (T false .taken, offer-passed q .0 ∙ ap (λ b. offered run (gives (T b .taken))) z, record { most = o .most; until = o .until; stop = o .stop })
+          (T false .taken, offer-passed q .0 ∙ ap (λ b. offered run (gives (T b .taken))) z, record { most = o .most; some = λ p. takes-one run (st W L r c false cl v i) x (offer-open q p) p; until = o .until; stop = o .stop })
 
     -- ---- a finish
     finish-question : finishQuestion s n ≡ finishTurned W L es

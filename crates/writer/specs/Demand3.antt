@@ -200,6 +200,7 @@ offerTurned W L es k =
 
 pub record Takes (W L : ℕ) (es : List Event) (k n : ℕ) : Type 0 where
   pub most : n ≤ k
+  pub some : 0 < k → 0 < n
   pub until : (j : ℕ) → j < n → takesOn W L es j ≡ true
   pub stop : n < k → takesOn W L es n ≡ false
 
