@@ -12,7 +12,7 @@ use native.Mathlib.Decide.{decLt}
 use native.Mathlib.Omega.{arith}
 use lib.IntN.{ℤ, pos}
 use lib.ListN.{length, take, drop, getD, length-append, length-map, List·getD-append}
-use lib.Seq.{getD-at, drop-at}
+use lib.Seq.{getD-at, drop-at, take-all, take-append-le}
 use lib.Dec.{ltb, eqb}
 use borrow.Author.Tests.{lt-ltb, le-leb, eq-eqb, ne-eqb, ltb-true, ltb-false, eqb-true}
 use Rattle.numbers.specs.Signal.{pick, both}
@@ -46,6 +46,11 @@ module _ {A : Type 0} {P : A → Type 0} where
   pub all-append : {s t : List A} → All P s → All P t → All P (s ++ t)
   all-append all-none q = q
   all-append (all-more p ps) q = all-more p (all-append ps q)
+
+  pub all-take : (n : ℕ) {s : List A} → All P s → All P (take n s)
+  all-take zero a = all-none
+  all-take (suc n) all-none = all-none
+  all-take (suc n) (all-more p ps) = all-more p (all-take n ps)
 
   pub all-map : {Q : A → Type 0} {s : List A} → ((x : A) → P x → Q x) → All P s → All Q s
   all-map f all-none = all-none
@@ -123,6 +128,10 @@ pub record Sound (L W H : ℕ) (g : Grid) (f : Bool) (ds : List DrawnRow) (r c c
   pub order : names ++ coming L W f cl v i r ≡ made W L r f
   pub values : All (Right L W H g) ds
 
+pub record Early (L W : ℕ) (ts : List ℕ) (ds : List DrawnRow) (r : ℕ) : Type 0 where
+  pub drawn : length (made W L r false) ≤ length ds
+  pub right : (H : ℕ) (g : Grid) → Fits W H g ts false → All (Right L W H g) (take (length (made W L r false)) ds)
+
 pub record At (L W : ℕ) (ts : List ℕ) (f : Bool) (ds : List DrawnRow) (r c cl v i : ℕ) (x : Memory) : Type 0 where
   pub counted : length ts ≡ r * W + c
   pub column-in : c < W
@@ -130,6 +139,8 @@ pub record At (L W : ℕ) (ts : List ℕ) (f : Bool) (ds : List DrawnRow) (r c c
   pub room : 0 < c → r < maxHeight
   pub ended : f ≡ true → (0 < r) × (c ≡ 0)
   pub sound : (H : ℕ) (g : Grid) → Fits W H g ts f → Sound L W H g f ds r c cl v i x
+  -- the rows made before the finish are drawn, and right for every grid that begins with the heights
+  pub early : f ≡ true → Early L W ts ds r
 
 -- ---- there is such a grid: the heights taken themselves
 abbrev pub own : ℕ → List ℕ → Grid
@@ -223,6 +234,7 @@ module _ (l W : ℕ) (ds : List DrawnRow) where
         order = s .order;
         values = s .values;
       };
+      early = λ e. absurd (differ e);
     }
 
     -- the row is complete: o is what it makes
@@ -268,6 +280,7 @@ module _ (l W : ℕ) (ds : List DrawnRow) where
           room = λ e. absurd (omega arith);
           ended = λ e. absurd (differ e);
           sound = λ H g t. complete-sound H g t p;
+          early = λ e. absurd (differ e);
         }
 
   -- ---- a row waits where a set is being handed out
@@ -469,6 +482,10 @@ module _ (l W : ℕ) (ds : List DrawnRow) where
       room = a .room;
       ended = a .ended;
       sound = λ H g t. drawn-sound H g t z e;
+      early = λ y. let k = a .early y in record {
+        drawn = omega (arith, k .drawn, length-append ds (record { row = bandRow q; values = z } ∷ []));
+        right = λ H g t. subst (All (Right L W H g)) (sym (take-append-le _ ds _ (k .drawn))) (k .right H g t);
+      };
     }
 
   -- ---- the finish
@@ -496,6 +513,17 @@ module _ (l W : ℕ) (ds : List DrawnRow) where
           values = s .values;
         }
 
+    -- all rows made before the finish are drawn
+    all-early : Early L W ts ds r
+    all-early =
+        let s = own-sound a in
+        let e : length ds ≡ length (made W L r false) =
+        sym (length-map ds (λ d. d .row))
+        ∙ ap length (s .named)
+        ∙ length-map (s .names) (answered W)
+        ∙ ap length (sym (append-nil (s .names)) ∙ ap (λ b. s .names ++ b) (sym (none-waits a z)) ∙ s .order) in
+        record { drawn = omega arith; right = λ H g t. subst (All (Right L W H g)) (sym (take-all (length (made W L r false)) ds (omega arith))) (a .sound H g t .values) }
+
     pub finish-good : At L W ts true ds r c (k .closed) (k .out .level) (k .out .left) (k .out .store)
     finish-good = record {
       counted = a .counted;
@@ -504,6 +532,7 @@ module _ (l W : ℕ) (ds : List DrawnRow) where
       room = a .room;
       ended = λ _. (p, n);
       sound = finish-sound;
+      early = λ _. all-early;
     }
 
 -- ---- at first
@@ -525,4 +554,5 @@ fresh-at L W x p = record {
     order = coming-open L W 0 0 0 0 ∙ pend-none L 1 W 0 0 0 ∙ sym (none-made W L);
     values = all-none;
   };
+  early = λ e. absurd (differ e);
 }

@@ -37,9 +37,9 @@ use Rattle.writer.specs.Taking.{Taking, takes, offering}
 use Rattle.writer.specs.Questions.{either, inRanges, longEnough, setUpQuestion, offerQuestion, drawQuestion, finishQuestion}
 use Rattle.writer.specs.Answers.{Reply, gives, refused, unless}
 use Rattle.writer.specs.Calls.{fresh, offerReply, offerStore, waits, closing as closingOf, finishReply, finishStore, resumed, bandRow, drawReply, drawStore, drawArea}
-use Rattle.writer.specs.Demand3.{Area, Call, offer, draw, finish, row, none, Event, offered, drew, finished, World, seen, left, event, next, events, final, freshWorld, takenBy, taken, finishes, finishedBy, DrawnRow, drawnBy, drawn, wholeRows, madeOf, waitingOf, answered, MapOf, HasValues, All, all-more, isNone, drawSays, written, takesOn, offerTurned, Takes, finishTurned, Demand3}
-use Rattle.writer.proofs.StateHolds.{st}
-use Rattle.writer.proofs.CallList.{Fits, coming, Right, At, own-sound, whole-rows, begun-row, in-ranges, waiting-is, none-waits, none-eqb, Offered, offering-good, head-is, draw-good, finish-good, fresh-at, all-map, map-append, rows-all}
+use Rattle.writer.specs.Demand3.{Area, Call, offer, draw, finish, row, none, Event, offered, drew, finished, World, seen, left, event, next, events, final, freshWorld, takenBy, taken, finishes, finishedBy, DrawnRow, drawnBy, drawn, wholeRows, madeOf, waitingOf, answered, Begins, MapOf, HasValues, All, all-more, isNone, drawSays, written, takesOn, offerTurned, Takes, finishTurned, Demand3}
+use Rattle.writer.proofs.StateHolds.{differ, st}
+use Rattle.writer.proofs.CallList.{Fits, coming, Right, At, own-sound, whole-rows, begun-row, in-ranges, waiting-is, none-waits, none-eqb, Offered, offering-good, head-is, draw-good, finish-good, fresh-at, all-map, all-take, map-append, rows-all}
 
 -- ---- histories
 pub taken-snoc : (es : List Event) (e : Event) → taken (es ++ e ∷ []) ≡ taken es ++ takenBy e
@@ -444,7 +444,7 @@ unfolding within
 some-width W h = leb-true 1 W (split-both (leb 1 W) _ h .0)
 
 -- a drawn row of words is a row of T.800's whole numbers, for a map
-right-values : (L W H : ℕ) (g : Grid) → L ≤ 5 → (es : List Event) → MapOf W H g es → (d : DrawnRow) → Right L W H g d → HasValues W H g d
+right-values : (L W H : ℕ) (g : Grid) → L ≤ 5 → (es : List Event) → Begins W H g es → (d : DrawnRow) → Right L W H g d → HasValues W H g d
 right-values L W H g few es m d t = record {
   are = λ b e j p.
       let same : b ≡ t .band = code-one b (t .band) (sym e ∙ t .band-is) in
@@ -462,7 +462,10 @@ rows-within W H r c p h =
     ]
 
 map-fits : (W H : ℕ) (g : Grid) (es : List Event) → MapOf W H g es → Fits W H g (taken es) (finishedBy es)
-map-fits W H g es m = record { within = m .within; heights = m .heights; whole = m .all }
+map-fits W H g es m = record { within = m .begins .within; heights = m .begins .heights; whole = m .all }
+
+begins-fits : (W H : ℕ) (g : Grid) (es : List Event) → Begins W H g es → Fits W H g (taken es) false
+begins-fits W H g es m = record { within = m .within; heights = m .heights; whole = λ e. absurd (differ e) }
 
 -- the heights taken, as a map: the row begun is filled up with zeros
 mapRows : ℕ → ℕ → ℕ
@@ -564,14 +567,25 @@ module _ (l W : ℕ) (wide : within 1 maxWidth W ≡ true) (deep : within 1 maxL
     mapRows r c,
     λ p q. pos (getD (taken es) (p * W + q) 0),
     record {
-      some = map-some W r c;
-      limit = map-limit W r c (a .rows-in) (a .room);
-      map = record { heights = λ p q _ _. height-range (getD (taken es) (p * W + q) 0) (small-each maxSample (taken es) small (p * W + q)) };
-      within = omega (arith, a .counted, map-room W r c (a .column-in));
-      heights = λ _ _ _ _. refl;
+      begins = record {
+        some = map-some W r c;
+        limit = map-limit W r c (a .rows-in) (a .room);
+        map = record { heights = λ p q _ _. height-range (getD (taken es) (p * W + q) 0) (small-each maxSample (taken es) small (p * W + q)) };
+        within = omega (arith, a .counted, map-room W r c (a .column-in));
+        heights = λ _ _ _ _. refl;
+      };
       all = λ e. a .counted ∙ map-whole W r c (a .ended e .0) (a .ended e .1);
     },
   )
+
+  early : (H : ℕ) (g : Grid) → Begins W H g es → All (HasValues W H g) (take (length (made W M (wholeRows W es) false)) (drawn es))
+  early H g m =
+      subst (λ k. All (HasValues W H g) (take (length (made W M k false)) (drawn es))) (sym rows-here)
+      (all-map (right-values M W H g (five-levels l deep) es m) (go g₀ refl a))
+    where
+      go : (b : Bool) → g₀ ≡ b → At M W (taken es) g₀ (drawn es) r c cl v i x → All (Right M W H g) (take (length (made W M r false)) (drawn es))
+      go false e h = all-take (length (made W M r false)) (subst (λ b. At M W (taken es) b (drawn es) r c cl v i x) e h .sound H g (begins-fits W H g es m) .values)
+      go true e h = h .early e .right H g (begins-fits W H g es m)
 
   whole-map : g₀ ≡ true → (1 ≤ wholeRows W es) × (wholeRows W es ≤ maxHeight) × (length (taken es) ≡ W * wholeRows W es)
   whole-map e =
@@ -588,7 +602,8 @@ module _ (l W : ℕ) (wide : within 1 maxWidth W ≡ true) (deep : within 1 maxL
   claim : Demand3 W M es (λ k. event k w₀)
   claim = record {
     in-order = ordered;
-    values = λ H g m. all-map (right-values M W H g (five-levels l deep) es m) (a .sound H g (map-fits W H g es m) .values);
+    values = λ H g m. all-map (right-values M W H g (five-levels l deep) es (m .begins)) (a .sound H g (map-fits W H g es m) .values);
+    early-values = early;
     first = is-first;
     some-map = map-there;
     finished-map = whole-map;

@@ -151,13 +151,17 @@ waitingOf W L es = drop (length (drawn es)) (madeOf W L es)
 abbrev pub answered : ℕ → RowName → BandRow
 answered W x = record { level = x .level; band = code (x .band); row = x .row; length = bandColumns W (x .level) (x .band) }
 
--- ---- "A map begins with them if it fits the set-up, has H within the limit, and has these heights first"; once a finish passed, the map that they are
-pub record MapOf (W H : ℕ) (g : Grid) (es : List Event) : Type 0 where
+-- ---- "A map begins with them if it fits the set-up, has H within the limit, and has these heights first"
+pub record Begins (W H : ℕ) (g : Grid) (es : List Event) : Type 0 where
   pub some : 1 ≤ H
   pub limit : H ≤ maxHeight
   pub map : IsMap W H g
   pub within : length (taken es) ≤ W * H
   pub heights : (r c : ℕ) → c < W → r * W + c < length (taken es) → g r c ≡ pos (getD (taken es) (r * W + c) 0)
+
+-- and once a finish passed, it is they
+pub record MapOf (W H : ℕ) (g : Grid) (es : List Event) : Type 0 where
+  pub begins : Begins W H g es
   pub all : finishedBy es ≡ true → length (taken es) ≡ W * H
 
 -- the values of a drawn row are the map's, T.800's whole numbers
@@ -216,8 +220,10 @@ finishTurned W L es =
 pub record Demand3 (W L : ℕ) (es : List Event) (then : Call → Event) : Type 0 where
   -- the rows drawn, then those waiting, are the rows made, in the order of the rules; each is answered with its level, band, number and length
   pub in-order : map (λ d. d .row) (drawn es) ++ map (answered W) (waitingOf W L es) ≡ map (answered W) (madeOf W L es)
-  -- they have the values of every map that begins with the heights taken, and are the first in that map's order
+  -- they have the values of every map that begins with the heights taken: until a finish passes all of them, then those made before it; of the map that was finished all of them
   pub values : (H : ℕ) (g : Grid) → MapOf W H g es → All (HasValues W H g) (drawn es)
+  pub early-values : (H : ℕ) (g : Grid) → Begins W H g es → All (HasValues W H g) (take (length (made W L (wholeRows W es) false)) (drawn es))
+  -- and are the first in that map's order
   pub first : (H : ℕ) (g : Grid) → MapOf W H g es → (r : List RowName) × (map (λ d. d .row) (drawn es) ++ map (answered W) r ≡ map (answered W) (made W L H true))
   -- there is such a map, the heights taken being 16-bit numbers
   pub some-map : All (λ h. h ≤ maxSample) (taken es) → (H : ℕ) × (g : Grid) × MapOf W H g es
