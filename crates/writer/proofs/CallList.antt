@@ -35,7 +35,8 @@ use Rattle.writer.specs.Taking.{stored, Taking, takes, offering}
 use Rattle.writer.specs.Questions.{inRanges}
 use Rattle.writer.specs.Calls.{resumed, bandRow}
 use Rattle.writer.specs.Holds.{Kept, Holds}
-use Rattle.writer.specs.Demand3.{DrawnRow, answered, All, all-none, all-more, isNone}
+use Rattle.writer.specs.History.{DrawnRow}
+use Rattle.writer.specs.Demand3.{answered, All, all-none, all-more, isNone}
 use Rattle.writer.proofs.LevelLaws.{five-three-laws}
 use Rattle.writer.proofs.Waiting.{pend, later, pend-none, later-all, later-none}
 use Rattle.writer.proofs.CascadeHolds.{Good, Pulled, level-le, closed-le}

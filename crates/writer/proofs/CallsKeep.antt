@@ -27,7 +27,7 @@ use Rattle.writer.specs.Questions.{either, inRanges, longEnough, waiting
 use Rattle.writer.specs.Answers.{unless, changedUnless}
 use Rattle.writer.specs.Calls.{fresh, took, offerReply, offerStore, waits, closing, finishReply, finishStore, handed, handedStore, drawReply, drawStore}
 use Rattle.writer.specs.Holds.{Holds, Keeps, AnyMap, AllRows, GoesOn}
-use Rattle.writer.specs.Demand3.{left, after}
+use Rattle.writer.specs.History.{left, after}
 use Rattle.writer.proofs.StateHolds.{st, fresh-holds, pulled-by, draw-holds, finish-holds, begun-holds, complete-holds}
 use Rattle.writer.proofs.CallList.{rows-of, column-of, rows-below}
 

@@ -15,6 +15,7 @@ use Rattle.lifting.specs.Halves.{partedInto}
 use Rattle.lifting.proofs.LineLaws.{halves-low, halves-high}
 use Rattle.lifting.proofs.LineTheorems.{high-mid, high-end}
 use Rattle.wavelet.specs.Bands.{Grid, Band, LL, HL, LH, HH, across, columnsLifted}
+use Rattle.wavelet.proofs.SizeLaws.{count-lo, count-hi}
 use Rattle.writer.specs.Level.{Memory, LevelKind}
 use Rattle.writer.specs.Counts.{prev}
 use Rattle.writer.specs.FiveThreeLevel.{cellOf, rowPut, setWith, setMade, lastSet, lowAlone, bandPlace, fiveThree}
@@ -46,14 +47,6 @@ pub record LevelLaws (K : LevelKind) (Held : Meaning) : Type 0 where
   pub close-past : (w m : ℕ) (x : Memory) (j : ℕ) → K .stretch w ≤ j → K .close w m x j ≡ x j
 
 -- ---- the 5/3 level
-count-lo : (N : ℕ) → count lo N ≡ (N + 1) / 2
-unfolding count
-count-lo N = refl
-
-count-hi : (N : ℕ) → count hi N ≡ N / 2
-unfolding count
-count-hi N = refl
-
 -- a number stored, or a row put, in the slot of row m, leaves the level's other rows
 module _ (w H : ℕ) (g : Grid) (m c c′ : ℕ) (x x′ : Memory) (o : Only w m x x′) (k : Kept w H g m c x) (b : RowStands w m c′ (g m) x′) where
   kept-only : Kept w H g m c′ x′

@@ -7,6 +7,7 @@ pub mod CascadeHolds
 pub mod StateHolds
 pub mod CallList
 pub mod CallsKeep
+pub mod Reached
 pub mod Demand3
 pub mod SetLaws
 pub mod RestLaws

@@ -18,19 +18,12 @@ use Rattle.lifting.proofs.RowLaws.{row-order, row-at, row-before, row-past}
 use Rattle.lifting.proofs.LineLaws.{halves-low, halves-high}
 use Rattle.lifting.proofs.LineTheorems.{low-mid, low-end, low-one, forward-reads}
 use Rattle.wavelet.specs.Bands.{Grid, LL, HL, LH, HH, across, down, columnsLifted, subband}
+use Rattle.wavelet.proofs.SizeLaws.{count-lo, count-hi}
 use Rattle.writer.specs.Level.{Memory}
 use Rattle.writer.specs.FiveThreeLevel.{slot, cellOf, rowPredicted, rowUpdated, first, rowCopied, rowLifted, before, setWith, lowAlone, bandPlace, fiveThree}
 use Rattle.writer.specs.Taking.{stored}
 use Rattle.writer.specs.Holds.{RowStands, SetStands}
 use Rattle.writer.proofs.CountLaws.{slot-room}
-
-count-lo : (N : ℕ) → count lo N ≡ (N + 1) / 2
-unfolding count
-count-lo N = refl
-
-count-hi : (N : ℕ) → count hi N ≡ N / 2
-unfolding count
-count-hi N = refl
 
 -- ---- where column i stands in a row in halves
 abbrev pub spot : ℕ → ℕ → ℕ
