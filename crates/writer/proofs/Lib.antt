@@ -8,3 +8,5 @@ pub mod DrawLaws
 pub mod ClosingLaws
 pub mod GateLaws
 pub mod CallLaws
+pub mod FillLaws
+pub mod OfferLaws

@@ -10,3 +10,4 @@ pub mod Answers
 pub mod Calls
 pub mod Steps
 pub mod Gate
+pub mod Stretch
