@@ -6,6 +6,7 @@ mod copies;
 mod counts;
 mod draws;
 mod gate;
+mod offers;
 mod sets;
 
 use wavelet::store;
@@ -14,7 +15,7 @@ ghost use lib.ListN.{length};
 ghost use Rattle.numbers.specs.Signal.{at};
 ghost use Rattle.wavelet.specs.Limits.{maxWidth, maxHeight, maxLevels};
 ghost use Rattle.writer.specs.Answers.{ofSetUp, ofOffered, ofDrawn, ofFinished};
-ghost use Rattle.writer.specs.Calls.{setUpReply, setUpStore, drawReply, drawStore, drawArea, finishReply, finishStore};
+ghost use Rattle.writer.specs.Calls.{setUpReply, setUpStore, offerReply, offerStore, drawReply, drawStore, drawArea, finishReply, finishStore};
 
 // The counts of a writer; docs/STATE.md gives their ranges.
 pub struct Writer {
@@ -109,6 +110,26 @@ impl Writer {
             level: 0,
             left: 0,
         })
+    }
+
+    // Heights taken until a band row waits, the row limit is reached or the run is used up, and how many.
+    pub fn offer(self, store: &mut [i32], run: &[u16]) -> Offered
+        ensures { λ r. ⌜ ofOffered r ≡ offerReply self (length (now (store .entry))) (now (run .entry)) (at (now (store .entry))) ⌝ }
+        ensures { λ r. ⌜ at (now (store .exit)) ≡ offerStore self (length (now (store .entry))) (now (run .entry)) (at (now (store .entry))) ⌝ }
+    {
+        let no = gate::offer_question(self, store.len(), run.len());
+        if 0 < no {
+            return Offered::Refused(no);
+        }
+        let mut s = self;
+        let mut taken = 0;
+        let mut n = offers::next(s, run.len());
+        while 0 < n {
+            s = offers::stretch(s, store, run, taken, n);
+            taken += n;
+            n = offers::next(s, run.len() - taken);
+        }
+        Offered::Taken(taken, s)
     }
 
     // The row that waits, its values at the front of `out`, or Nothing.
