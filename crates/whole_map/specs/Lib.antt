@@ -1,0 +1,3 @@
+pub mod Rowwise
+pub mod Passes
+pub mod Calls
