@@ -1,15 +1,22 @@
 -- A pass over the rows of an area: rows of w numbers, h of them, cell (r, c) of the area being number c of row r (wavelet's `cells`, `flat`).
 -- Each pass leaves every other cell as it was.
 use mathlib.Core.Bool.{Bool, true, false}
-use Prim.Native.Nat.{ℕ, _+_, _-_, _*_, _/_, _%_, _≤_}
+use Prim.Native.Nat.{ℕ, _+_, _-_, _*_, _/_, _%_, _<_, _≤_}
 use mathlib.Core.Path.{_≡_}
 use lib.IntN.{ℤ}
 use lib.Dec.{ltb, eqb}
 use Rattle.numbers.specs.Signal.{pick, both}
-use Rattle.lifting.specs.Line.{Half, lo, hi, count, parted}
-use Rattle.lifting.specs.Halves.{inHalves}
+use Rattle.lifting.specs.Line.{Half, lo, hi, count, parted, joined}
+use Rattle.lifting.specs.Halves.{halvesOf, inHalves}
 use Rattle.wavelet.specs.Bands.{Grid}
 use Rattle.whole_map.specs.Rowwise.{cut}
+
+-- h rows of w numbers, s apart, lie within n numbers
+pub record Rows (n s w h : ℕ) : Type 0 where
+  pub apart : 0 < s
+  pub wide : w ≤ s
+  pub some : 0 < h
+  pub room : (h - 1) * s + w ≤ n
 
 -- a cell among the h rows of w numbers
 unfoldable pub within : ℕ → ℕ → ℕ → ℕ → Bool
@@ -56,6 +63,10 @@ rowsFetched from w h z x r c =
 -- rows of heights g loaded, each in halves
 unfoldable pub rowsLoaded : ℕ → ℕ → Grid → Grid → Grid
 rowsLoaded w h g x r c = pick (within w h r c) (inHalves w (parted (g r)) (x r) c) (x r c)
+
+-- rows x in halves returned in their own order to the rows z
+unfoldable pub rowsReturned : ℕ → ℕ → Grid → Grid → Grid
+rowsReturned w h x z r c = pick (within w h r c) (joined (halvesOf w (x r)) c) (z r c)
 
 -- nothing changed from place n on
 pub record KeptFrom (n : ℕ) (x y : ℕ → ℤ) : Type 0 where
