@@ -2,5 +2,8 @@ pub mod Fits
 pub mod LineLaws
 pub mod PassLaws
 pub mod AreaLaws
+pub mod Filter
+pub mod FiveThree
+pub mod LineTheorems
 pub mod RowLaws
 pub mod RowSweep
