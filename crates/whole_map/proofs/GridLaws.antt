@@ -1,0 +1,178 @@
+-- The laws of cells in an area, of rows in halves, and of the passes over rows at one cell. Assumes nothing.
+use mathlib.Core.Path.{_≡_, refl, sym, ap, _∙_, fun-ext}
+use mathlib.Core.Bool.{Bool, true, false}
+use Prim.Native.Nat.{ℕ, _+_, _-_, _*_, _/_, _%_, _≤_, _<_, min}
+use native.Mathlib.Nat.{div-add-mod', mod-lt, mul-le-mul-right}
+use native.Mathlib.Decide.{decLt, ℕ-discrete}
+use native.Mathlib.Omega.{arith}
+use lib.IntN.{ℤ, pos}
+use lib.Dec.{eqb}
+use lib.Arith.{digits-div, digits-mod}
+use borrow.Author.Tests.{lt-ltb, le-ltb, eq-eqb, ne-eqb}
+use Rattle.numbers.specs.Signal.{pick}
+use Rattle.lifting.specs.Line.{Half, lo, hi, count, parted, joined}
+use Rattle.lifting.specs.Halves.{halvesOf, inHalves}
+use Rattle.lifting.proofs.LineLaws.{counts, count-lo, count-hi, halves-low, halves-high}
+use Rattle.wavelet.specs.Bands.{Grid}
+use Rattle.wavelet.specs.Plane.{cells, flat, halfAt, placeIn}
+use Rattle.whole_map.specs.Rowwise.{cut}
+use Rattle.whole_map.specs.Passes.{within, after, before, even, oddRowsChanged, evenRowsChanged, rowsMapped, planeRow, levelRow}
+use Rattle.whole_map.specs.LevelPasses.{levelGrid}
+
+-- ---- cells
+pub cells-flat : (s : ℕ) (X : Grid) (r c : ℕ) → c < s → cells s (flat s X) r c ≡ X r c
+unfolding cells flat
+cells-flat s X r c h = rw (digits-div r h, digits-mod r h)
+
+pub flat-same : (s : ℕ) (X Y : Grid) → 0 < s → ((r c : ℕ) → c < s → X r c ≡ Y r c) → flat s X ≡ flat s Y
+unfolding flat
+flat-same s X Y g h = fun-ext λ j. h (j / s) (j % s) (mod-lt j g)
+
+pub flat-cells : (s : ℕ) (x : ℕ → ℤ) → flat s (cells s x) ≡ x
+unfolding flat cells
+flat-cells s x = fun-ext λ j. ap x (div-add-mod' j s)
+
+-- ---- a row in halves: where its number c stands
+unfoldable pub placed : ℕ → ℕ → ℕ
+placed w c = pick (eqb (c % 2) 0) (c / 2) (count lo w + c / 2)
+
+pub placed-even : (w n : ℕ) → placed w (2 * n) ≡ n
+unfolding placed
+placed-even w n = let d : 2 * n / 2 ≡ n = omega arith in simp (eq-eqb (2 * n % 2) 0 (omega arith), d)
+
+pub placed-odd : (w n : ℕ) → placed w (2 * n + 1) ≡ count lo w + n
+unfolding placed
+placed-odd w n = let d : (2 * n + 1) / 2 ≡ n = omega arith in simp (ne-eqb ((2 * n + 1) % 2) 0 (omega arith), d)
+
+pub placed-in : (w c : ℕ) → c < w → placed w c < w
+unfolding placed count
+placed-in w c h =
+    elim (ℕ-discrete (c % 2) 0) [
+      | yes e ↦ simp (eq-eqb (c % 2) 0 e) (omega arith)
+      | no d ↦ simp (ne-eqb (c % 2) 0 d) (omega arith)
+    ]
+
+push : (b : Bool) (f : ℕ → ℤ) (m n : ℕ) → pick b (f m) (f n) ≡ f (pick b m n)
+push true f m n = refl
+push false f m n = refl
+
+pub joined-at : (w : ℕ) (y : ℕ → ℤ) (c : ℕ) → joined (halvesOf w y) c ≡ y (placed w c)
+unfolding joined halvesOf placed
+joined-at w y c = push (eqb (c % 2) 0) y (c / 2) (count lo w + c / 2)
+
+pub grid-at : (w : ℕ) (X : Grid) (r c : ℕ) → levelGrid w X r c ≡ X r (placed w c)
+unfolding levelGrid
+grid-at w X r c = joined-at w (X r) c
+
+-- halves in memory, read at the place of number c
+pub halves-at : (w : ℕ) (p : Half → ℕ → ℤ) (z : ℕ → ℤ) (c : ℕ) → c < w → inHalves w p z (placed w c) ≡ joined p c
+unfolding placed joined
+halves-at w p z c h =
+    let both = counts w in
+    let l = count-lo w in
+    elim (ℕ-discrete (c % 2) 0) [
+      | yes e ↦ simp (eq-eqb (c % 2) 0 e) (halves-low w p z (c / 2) (omega arith))
+      | no d ↦
+          let k : count lo w + c / 2 - count lo w ≡ c / 2 = omega arith in
+          simp (ne-eqb (c % 2) 0 d) (halves-high w p z (count lo w + c / 2) (omega arith) (omega arith) ∙ ap (p hi) k)
+    ]
+
+-- halves in memory, read at place j
+pub halves-half : (w : ℕ) (p : Half → ℕ → ℤ) (z : ℕ → ℤ) (j : ℕ) → j < w → inHalves w p z j ≡ p (halfAt w j) (placeIn w j)
+unfolding halfAt placeIn
+halves-half w p z j h =
+    elim (decLt j (count lo w)) [
+      | yes a ↦ simp (lt-ltb j (count lo w) a) (halves-low w p z j a)
+      | no a ↦ simp (le-ltb j (count lo w) (omega arith)) (halves-high w p z j (omega arith) h)
+    ]
+
+-- ---- halves of a side of N
+module _ (N i : ℕ) where
+  pub half-low : i < count lo N → (halfAt N i ≡ lo) × (placeIn N i ≡ i)
+  unfolding halfAt placeIn
+  half-low h = (simp (lt-ltb i (count lo N) h), simp (lt-ltb i (count lo N) h))
+
+  pub half-high : count lo N ≤ i → (halfAt N i ≡ hi) × (placeIn N i ≡ i - count lo N)
+  unfolding halfAt placeIn
+  half-high h = (simp (le-ltb i (count lo N) h), simp (le-ltb i (count lo N) h))
+
+  pub place-in : i < N → placeIn N i < count (halfAt N i) N
+  unfolding halfAt placeIn
+  place-in h =
+      let both = counts N in
+      elim (decLt i (count lo N)) [
+        | yes a ↦ simp (lt-ltb i (count lo N) a) a
+        | no a ↦ simp (le-ltb i (count lo N) (omega arith)) (omega arith)
+      ]
+
+  -- what stands at the row of the level that goes to row i of the plane
+  pub level-at : (y : ℕ → ℤ) → y (levelRow N i) ≡ parted y (halfAt N i) (placeIn N i)
+  unfolding levelRow halfAt placeIn parted
+  level-at y =
+      elim (decLt i (count lo N)) [
+        | yes a ↦ simp (lt-ltb i (count lo N) a)
+        | no a ↦ simp (le-ltb i (count lo N) (omega arith))
+      ]
+
+  pub level-in : i < N → levelRow N i < N
+  unfolding levelRow count
+  level-in h =
+      elim (decLt i ((N + 1) / 2)) [
+        | yes a ↦ simp (lt-ltb i ((N + 1) / 2) a) (omega arith)
+        | no a ↦ simp (le-ltb i ((N + 1) / 2) (omega arith)) (omega arith)
+      ]
+
+-- ---- a pass at one cell of its h rows of w numbers
+module _ (f : ℤ → ℤ → ℤ → ℤ) (w h : ℕ) (X : Grid) (c : ℕ) (cw : c < w) where
+  pub odd-in : (r : ℕ) → r < h → r % 2 ≡ 1 → oddRowsChanged f w h X r c ≡ f (X r c) (X (before r) c) (X (after h r) c)
+  unfolding oddRowsChanged within even
+  odd-in r rh e = simp (lt-ltb r h rh, lt-ltb c w cw, ne-eqb (r % 2) 0 (omega arith))
+
+  pub odd-even : (r : ℕ) → r < h → r % 2 ≡ 0 → oddRowsChanged f w h X r c ≡ X r c
+  unfolding oddRowsChanged within even
+  odd-even r rh e = simp (lt-ltb r h rh, lt-ltb c w cw, eq-eqb (r % 2) 0 e)
+
+  pub even-in : (r : ℕ) → r < h → r % 2 ≡ 0 → evenRowsChanged f w h X r c ≡ f (X r c) (X (before r) c) (X (after h r) c)
+  unfolding evenRowsChanged within even
+  even-in r rh e = simp (lt-ltb r h rh, lt-ltb c w cw, eq-eqb (r % 2) 0 e)
+
+  pub even-odd : (r : ℕ) → r < h → r % 2 ≡ 1 → evenRowsChanged f w h X r c ≡ X r c
+  unfolding evenRowsChanged within even
+  even-odd r rh e = simp (lt-ltb r h rh, lt-ltb c w cw, ne-eqb (r % 2) 0 (omega arith))
+
+pub mapped-in : (f : (ℕ → ℤ) → ℕ → ℤ) (w h : ℕ) (X : Grid) (r c : ℕ) → r < h → c < w → rowsMapped f w h X r c ≡ f (cut w (X r)) c
+unfolding rowsMapped within
+mapped-in f w h X r c rh cw = simp (lt-ltb r h rh, lt-ltb c w cw)
+
+pub cut-in : (n : ℕ) (x : ℕ → ℤ) (j : ℕ) → j < n → cut n x j ≡ x j
+unfolding cut
+cut-in n x j h = simp (lt-ltb j n h)
+
+-- the rows next to an odd and to an even one
+pub before-odd : (n : ℕ) → before (2 * n + 1) ≡ 2 * n
+unfolding before
+before-odd n = simp (lt-ltb 0 (2 * n + 1) (omega arith)) (omega arith)
+
+pub before-even : (n : ℕ) → before (2 * n) ≡ 2 * (n - 1) + 1
+unfolding before
+before-even n =
+    elim (decLt 0 (2 * n)) [
+      | yes a ↦ simp (lt-ltb 0 (2 * n) a) (omega arith)
+      | no a ↦ simp (le-ltb 0 (2 * n) (omega arith)) (omega arith)
+    ]
+
+pub after-odd : (h n : ℕ) → n < count hi h → after h (2 * n + 1) ≡ 2 * min (n + 1) (count lo h - 1)
+unfolding after count
+after-odd h n b =
+    elim (decLt (2 * n + 1 + 1) h) [
+      | yes a ↦ simp (lt-ltb (2 * n + 1 + 1) h a) (omega arith)
+      | no a ↦ simp (le-ltb (2 * n + 1 + 1) h (omega arith)) (omega arith)
+    ]
+
+pub after-even : (h n : ℕ) → 1 < h → n < count lo h → after h (2 * n) ≡ 2 * min n (count hi h - 1) + 1
+unfolding after count
+after-even h n g b =
+    elim (decLt (2 * n + 1) h) [
+      | yes a ↦ simp (lt-ltb (2 * n + 1) h a) (omega arith)
+      | no a ↦ simp (le-ltb (2 * n + 1) h (omega arith)) (omega arith)
+    ]
