@@ -70,9 +70,9 @@ module _ (N : ℕ) (x z : ℕ → ℤ) where
       let c = count-hi N in
       let p = halvesOf N lent in
       let even : (n : ℕ) → n < count lo N → joined p (2 * n) ≡ x (2 * n) =
-        λ n g. joined-even p n ∙ lent-in n (omega arith) ∙ odds-low N x (evensCopied N x z) n g ∙ evens-in N x z n g in
+      λ n g. joined-even p n ∙ lent-in n (omega arith) ∙ odds-low N x (evensCopied N x z) n g ∙ evens-in N x z n g in
       let odd : (n : ℕ) → n < count hi N → joined p (2 * n + 1) ≡ x (2 * n + 1) =
-        λ n g. joined-odd p n ∙ lent-in (count lo N + n) (omega arith) ∙ odds-high N x (evensCopied N x z) n g in
+      λ n g. joined-odd p n ∙ lent-in (count lo N + n) (omega arith) ∙ odds-high N x (evensCopied N x z) n g in
       elim (ℕ-discrete (i % 2) 0) [
         | yes e ↦ let k : 2 * (i / 2) ≡ i = omega arith in sym (rw k at (even (i / 2) (omega arith)))
         | no d ↦ let k : 2 * (i / 2) + 1 ≡ i = omega arith in sym (rw k at (odd (i / 2) (omega arith)))
@@ -86,9 +86,9 @@ module _ (N : ℕ) (x z : ℕ → ℤ) where
       halves-are N _ z _
       (λ n h. low-same wrap32 N x _ copied-line n h ∙ sym (back-in n (omega arith) ∙ halves-low N p lent n h))
       (λ n h.
-          let k : count lo N + n - count lo N ≡ n = omega arith in
-          high-same wrap32 N x _ copied-line n h
-          ∙ sym (back-in (count lo N + n) (omega arith) ∙ halves-high N p lent (count lo N + n) (omega arith) (omega arith) ∙ ap (p hi) k))
+      let k : count lo N + n - count lo N ≡ n = omega arith in
+      high-same wrap32 N x _ copied-line n h
+      ∙ sym (back-in (count lo N + n) (omega arith) ∙ halves-high N p lent (count lo N + n) (omega arith) (omega arith) ∙ ap (p hi) k))
       (λ j h. sym (splice-past 0 N (liftedInPlace N lent) copied j (omega arith) ∙ odds-past N x (evensCopied N x z) j h ∙ evens-past N x z j (omega arith)))
 
 -- ---- a line made of its coefficients

@@ -93,7 +93,7 @@ module _ (N : ℕ) (y : ℕ → ℤ) where
       let p = halvesOf N y in
       let z = lowsChanged (unupdated wrap32) N y in
       let even : (n : ℕ) → n < count lo N → backEven wrap32 N (p lo) (p hi) n ≡ z n =
-        λ n h. even-is wrap32 N g (p lo) (p hi) n h ∙ sym (lows-low (unupdated wrap32) N y n h) in
+      λ n h. even-is wrap32 N g (p lo) (p hi) n h ∙ sym (lows-low (unupdated wrap32) N y n h) in
       halves-are N _ y _
       (λ n h. even n h ∙ sym (highs-low (unpredicted wrap32) N z n h))
       (λ n h. cc (odd-is wrap32 N g (p lo) (p hi) n h, highs-high (unpredicted wrap32) N z n h, lows-past (unupdated wrap32) N y (count lo N + n) (omega arith), even n (omega arith), even (min (n + 1) (count lo N - 1)) (omega arith)))

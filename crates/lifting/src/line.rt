@@ -100,4 +100,3 @@ pub fn unlift(line: &mut [i32])
         unpredict_highs(line, low);
     }
 }
-

@@ -10,14 +10,15 @@ use lib.Dec.{eqb}
 use lib.Arith.{digits-div, digits-mod}
 use borrow.Author.Tests.{lt-ltb, le-ltb, eq-eqb, ne-eqb}
 use Rattle.numbers.specs.Signal.{pick}
-use Rattle.lifting.specs.Line.{Half, lo, hi, count, parted, joined}
-use Rattle.lifting.specs.Halves.{halvesOf, inHalves}
+use Rattle.numbers.specs.Word.{wrap32}
+use Rattle.lifting.specs.Line.{predicted, updated, unupdated, unpredicted, Half, lo, hi, count, parted, joined}
+use Rattle.lifting.specs.Halves.{halvesOf, inHalves, liftedInPlace, unliftedInPlace}
 use Rattle.lifting.proofs.LineLaws.{counts, count-lo, count-hi, halves-low, halves-high}
 use Rattle.wavelet.specs.Bands.{Grid}
 use Rattle.wavelet.specs.Plane.{cells, flat, halfAt, placeIn}
 use Rattle.whole_map.specs.Rowwise.{cut}
-use Rattle.whole_map.specs.Passes.{within, after, before, even, oddRowsChanged, evenRowsChanged, rowsMapped, planeRow, levelRow}
-use Rattle.whole_map.specs.LevelPasses.{levelGrid}
+use Rattle.whole_map.specs.Passes.{Rows, KeptFrom, within, after, before, even, oddRowsChanged, evenRowsChanged, rowsMapped, planeRow, levelRow, rowsStored, rowsFetched}
+use Rattle.whole_map.specs.LevelPasses.{levelGrid, columnsLiftedInPlace, levelLifted, columnsUnliftedInPlace, levelUnlifted}
 
 -- ---- cells
 pub cells-flat : (s : ℕ) (X : Grid) (r c : ℕ) → c < s → cells s (flat s X) r c ≡ X r c
@@ -114,6 +115,10 @@ module _ (N i : ℕ) where
         | no a ↦ simp (le-ltb i (count lo N) (omega arith))
       ]
 
+  pub level-low : i < count lo N → levelRow N i ≡ 2 * i
+  unfolding levelRow
+  level-low h = simp (lt-ltb i (count lo N) h)
+
   pub level-in : i < N → levelRow N i < N
   unfolding levelRow count
   level-in h =
@@ -121,6 +126,19 @@ module _ (N i : ℕ) where
         | yes a ↦ simp (lt-ltb i ((N + 1) / 2) a) (omega arith)
         | no a ↦ simp (le-ltb i ((N + 1) / 2) (omega arith)) (omega arith)
       ]
+
+-- ---- a cell is among the h rows of w numbers, or it is not
+pub within-in : (w h r c : ℕ) → r < h → c < w → within w h r c ≡ true
+unfolding within
+within-in w h r c a b = simp (lt-ltb r h a, lt-ltb c w b)
+
+pub by-within : {P : Type 0} (w h r c : ℕ) → (r < h → c < w → P) → (within w h r c ≡ false → P) → P
+unfolding within
+by-within w h r c f g =
+    elim (decLt r h) [
+      | yes a ↦ elim (decLt c w) [ yes b ↦ f a b | no b ↦ g (simp (lt-ltb r h a, le-ltb c w (omega arith))) ]
+      | no a ↦ g (simp (le-ltb r h (omega arith)))
+    ]
 
 -- ---- a pass at one cell of its h rows of w numbers
 module _ (f : ℤ → ℤ → ℤ → ℤ) (w h : ℕ) (X : Grid) (c : ℕ) (cw : c < w) where
@@ -176,3 +194,86 @@ after-even h n g b =
       | yes a ↦ simp (lt-ltb (2 * n + 1) h a) (omega arith)
       | no a ↦ simp (le-ltb (2 * n + 1) h (omega arith)) (omega arith)
     ]
+
+-- ---- a cell outside the h rows of w numbers stays
+module _ (w h : ℕ) (X : Grid) (r c : ℕ) (e : within w h r c ≡ false) where
+  pub odd-out : (f : ℤ → ℤ → ℤ → ℤ) → oddRowsChanged f w h X r c ≡ X r c
+  unfolding oddRowsChanged
+  odd-out f = simp e
+
+  pub even-out : (f : ℤ → ℤ → ℤ → ℤ) → evenRowsChanged f w h X r c ≡ X r c
+  unfolding evenRowsChanged
+  even-out f = simp e
+
+  pub mapped-out : (f : (ℕ → ℤ) → ℕ → ℤ) → rowsMapped f w h X r c ≡ X r c
+  unfolding rowsMapped
+  mapped-out f = simp e
+
+  pub fetched-out : (from : ℕ) (z : Grid) → rowsFetched from w h z X r c ≡ X r c
+  unfolding rowsFetched
+  fetched-out from z = simp e
+
+pub lifted-out : (w h : ℕ) (X : Grid) (r c : ℕ) → within w h r c ≡ false → levelLifted w h X r c ≡ X r c
+unfolding levelLifted columnsLiftedInPlace
+lifted-out w h X r c e =
+    mapped-out w h (columnsLiftedInPlace w h X) r c e (liftedInPlace w)
+    ∙ elim (decLt 1 h) [
+      | yes g ↦ simp (lt-ltb 1 h g) (even-out w h (oddRowsChanged (predicted wrap32) w h X) r c e (updated wrap32) ∙ odd-out w h X r c e (predicted wrap32))
+      | no g ↦ simp (le-ltb 1 h (omega arith))
+    ]
+
+pub unlifted-out : (w h : ℕ) (X : Grid) (r c : ℕ) → within w h r c ≡ false → levelUnlifted w h X r c ≡ X r c
+unfolding levelUnlifted columnsUnliftedInPlace
+unlifted-out w h X r c e =
+    let Z = rowsMapped (unliftedInPlace w) w h X in
+    let m = mapped-out w h X r c e (unliftedInPlace w) in
+    elim (decLt 1 h) [
+      | yes g ↦ simp (lt-ltb 1 h g) (odd-out w h (evenRowsChanged (unupdated wrap32) w h Z) r c e (unpredicted wrap32) ∙ even-out w h Z r c e (unupdated wrap32) ∙ m)
+      | no g ↦ simp (le-ltb 1 h (omega arith)) m
+    ]
+
+-- ---- what stands past the rows stays
+past-rows : (s w h j : ℕ) → 0 < h → (h - 1) * s + w ≤ j → within w h (j / s) (j % s) ≡ false
+past-rows s w h j some b =
+    let k = div-add-mod' j s in
+    by-within w h (j / s) (j % s) (λ rh cw. let m : j / s * s ≤ (h - 1) * s = mul-le-mul-right s (omega arith) in absurd (omega arith)) (λ e. e)
+
+pub kept-flat : (n s w h : ℕ) (x y : ℕ → ℤ) (F : Grid) → Rows n s w h → y ≡ flat s F → ((r c : ℕ) → within w h r c ≡ false → F r c ≡ cells s x r c) → KeptFrom ((h - 1) * s + w) x y
+unfolding flat cells
+kept-flat n s w h x y F R e f =
+    record {
+      kept = λ j b. ap (λ (z : ℕ → ℤ). z j) e ∙ f (j / s) (j % s) (past-rows s w h j (R .some) b) ∙ ap x (div-add-mod' j s);
+    }
+
+pub kept-then : {m n : ℕ} {x y z : ℕ → ℤ} → KeptFrom n x y → KeptFrom m y z → m ≤ n → KeptFrom n x z
+kept-then k l b = record { kept = λ j h. l .kept j (omega arith) ∙ k .kept j h }
+
+-- ---- the rows of the next level: every second row, its low half
+pub next-end : (s w h : ℕ) → 0 < h → (count lo h - 1) * (2 * s) + count lo w ≤ (h - 1) * s + w
+next-end s w h some =
+    let l = count-lo h in
+    let k = count-lo w in
+    let m : 2 * (count lo h - 1) * s ≤ (h - 1) * s = mul-le-mul-right s (omega arith) in
+    let e : (count lo h - 1) * (2 * s) ≡ 2 * (count lo h - 1) * s = omega arith in
+    omega arith
+
+pub next-rows : (n s w h : ℕ) → Rows n s w h → Rows n (2 * s) (count lo w) (count lo h)
+next-rows n s w h R =
+    let l = count-lo h in
+    let k = count-lo w in
+    record {
+      apart = omega arith;
+      wide = omega arith;
+      some = omega arith;
+      room = omega (arith, next-end s w h (R .some), R .room);
+    }
+
+-- a part of the rows
+pub row-room : (n s w h r : ℕ) → Rows n s w h → r < h → r * s + w ≤ n
+row-room n s w h r R rh = let m : r * s ≤ (h - 1) * s = mul-le-mul-right s (omega arith) in omega (arith, R .room)
+
+pub fewer-rows : (n s w h m : ℕ) → Rows n s w h → 0 < m → m ≤ h → Rows n s w m
+fewer-rows n s w h m R some b = record { apart = R .apart; wide = R .wide; some = some; room = row-room n s w h (m - 1) R (omega arith) }
+
+pub fewer-columns : (n s w h v : ℕ) → Rows n s w h → v ≤ w → Rows n s v h
+fewer-columns n s w h v R b = record { apart = R .apart; wide = omega (arith, R .wide); some = R .some; room = omega (arith, R .room) }

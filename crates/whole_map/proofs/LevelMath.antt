@@ -130,10 +130,10 @@ module _ (w h : ℕ) (X : Grid) where
       rows-forward w h Z (levelRow h R) (level-in h R rh) C cw
       ∙ forward-reads wrap32 w _ _ (halfAt w C) (placeIn w C) (place-in w C cw)
       (λ c b _.
-          grid-at w Z (levelRow h R) c
-          ∙ level-at h R (λ (j : ℕ). Z j (placed w c))
-          ∙ columns-forward w h X (placed w c) (placed-in w c b) d i (place-in h R rh)
-          ∙ ap (λ (y : ℕ → ℤ). lineForward wrap32 h y d i) (fun-ext λ j. sym (grid-at w X j c)))
+      grid-at w Z (levelRow h R) c
+      ∙ level-at h R (λ (j : ℕ). Z j (placed w c))
+      ∙ columns-forward w h X (placed w c) (placed-in w c b) d i (place-in h R rh)
+      ∙ ap (λ (y : ℕ → ℤ). lineForward wrap32 h y d i) (fun-ext λ j. sym (grid-at w X j c)))
       ∙ rw (across-of (halfAt w C) (halfAt h R), down-of (halfAt w C) (halfAt h R))
 
 -- ---- one level back, where the area has the bands p: the low ones in its even rows, the high ones in its odd rows

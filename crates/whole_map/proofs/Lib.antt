@@ -1,2 +1,4 @@
 pub mod GridLaws
 pub mod LevelMath
+pub mod LevelsMath
+pub mod TestLaws
