@@ -1,0 +1,167 @@
+-- The laws of a line: what mirroring does at its two ends, what each value goes by, and what stands where in memory. Assumes nothing.
+use mathlib.Core.Path.{_≡_, refl, sym, ap, _∙_, fun-ext}
+use Prim.Native.Nat.{ℕ, _+_, _-_, _*_, _/_, _%_, _≤_, _<_, min}
+use native.Mathlib.Decide.{decLt, ℕ-discrete}
+use native.Mathlib.Omega.{arith}
+use lib.IntN.{ℤ, pos, natAbs, _-ℤ_}
+use borrow.Author.Tests.{lt-ltb, le-ltb, eq-eqb, ne-eqb}
+use Rattle.numbers.proofs.Integers.{dif, dif-natAbs}
+use Rattle.lifting.specs.Line.{Half, lo, hi, count, mirror, predicted, updated, unpredicted, unupdated, high, highAt, low, backEven, backOdd, parted, joined, lineForward, lineHalvesBack, lineBack}
+use Rattle.lifting.specs.Halves.{halvesOf, inHalves, fronted}
+
+-- ---- counts and mirrored places
+pub counts : (N : ℕ) → count lo N + count hi N ≡ N
+unfolding count
+counts N = omega arith
+
+-- one low value more, or as many of both
+pub count-lo : (N : ℕ) → count lo N ≡ N - N / 2
+unfolding count
+count-lo N = omega arith
+
+pub count-hi : (N : ℕ) → count hi N ≡ N / 2
+unfolding count
+count-hi N = refl
+
+-- the places 2n + 2, 2n − 1 and 2n + 1 of a line, mirrored: beyond an end the nearest of their own half is taken
+pub mirror-after : (N n : ℕ) → 1 < N → n < count hi N → mirror N (pos (2 * n + 2)) ≡ 2 * min (n + 1) (count lo N - 1)
+unfolding mirror count
+mirror-after N n g h = omega arith
+
+less-one : (a : ℕ) → natAbs (pos a -ℤ pos 1) ≡ (a - 1) + (1 - a)
+unfolding dif
+less-one a = dif-natAbs a 1
+
+pub mirror-before : (N n : ℕ) → 1 < N → n < count lo N → mirror N (pos (2 * n) -ℤ pos 1) / 2 ≡ n - 1
+unfolding mirror count
+mirror-before N n g h = rw (less-one (2 * n)) (omega arith)
+
+pub mirror-here : (N n : ℕ) → 1 < N → n < count lo N → mirror N (pos (2 * n + 1)) / 2 ≡ min n (count hi N - 1)
+unfolding mirror count
+mirror-here N n g h = omega arith
+
+-- ---- halves of a line, joined and parted
+module _ (p : Half → ℕ → ℤ) (n : ℕ) where
+  pub joined-even : joined p (2 * n) ≡ p lo n
+  unfolding joined
+  joined-even = let d : 2 * n / 2 ≡ n = omega arith in simp (eq-eqb (2 * n % 2) 0 (omega arith), d)
+
+  pub joined-odd : joined p (2 * n + 1) ≡ p hi n
+  unfolding joined
+  joined-odd = let d : (2 * n + 1) / 2 ≡ n = omega arith in simp (ne-eqb ((2 * n + 1) % 2) 0 (omega arith), d)
+
+pub parted-joined : (p : Half → ℕ → ℤ) (h : Half) (n : ℕ) → parted (joined p) h n ≡ p h n
+unfolding parted
+parted-joined p lo n = joined-even p n
+parted-joined p hi n = joined-odd p n
+
+pub joined-parted : (x : ℕ → ℤ) (i : ℕ) → joined (parted x) i ≡ x i
+unfolding joined parted
+joined-parted x i =
+    elim (ℕ-discrete (i % 2) 0) [
+      | yes e ↦ simp (eq-eqb (i % 2) 0 e) (ap x (omega arith))
+      | no d ↦ simp (ne-eqb (i % 2) 0 d) (ap x (omega arith))
+    ]
+
+-- ---- what a value goes by
+module _ (keep : ℤ → ℤ) (N : ℕ) (g : 1 < N) where
+  pub high-is : (x : ℕ → ℤ) (n : ℕ) → n < count hi N → high keep N x n ≡ predicted keep (x (2 * n + 1)) (x (2 * n)) (x (2 * min (n + 1) (count lo N - 1)))
+  unfolding high
+  high-is x n h = rw (mirror-after N n g h)
+
+  pub low-is : (x : ℕ → ℤ) (n : ℕ) → n < count lo N → low keep N x n ≡ updated keep (x (2 * n)) (high keep N x (n - 1)) (high keep N x (min n (count hi N - 1)))
+  unfolding low highAt
+  low-is x n h = simp (lt-ltb 1 N g, mirror-before N n g h, mirror-here N n g h)
+
+  pub even-is : (s d : ℕ → ℤ) (n : ℕ) → n < count lo N → backEven keep N s d n ≡ unupdated keep (s n) (d (n - 1)) (d (min n (count hi N - 1)))
+  unfolding backEven highAt
+  even-is s d n h = simp (lt-ltb 1 N g, mirror-before N n g h, mirror-here N n g h)
+
+  pub odd-is : (s d : ℕ → ℤ) (n : ℕ) → n < count hi N → backOdd keep N s d n ≡ unpredicted keep (d n) (backEven keep N s d n) (backEven keep N s d (min (n + 1) (count lo N - 1)))
+  unfolding backOdd
+  odd-is s d n h = let e : mirror N (pos (2 * n + 2)) / 2 ≡ min (n + 1) (count lo N - 1) = omega (arith, mirror-after N n g h) in rw e
+
+-- a line of one number is its own low value
+module _ (keep : ℤ → ℤ) (N : ℕ) (g : N ≤ 1) where
+  pub low-one : (x : ℕ → ℤ) (n : ℕ) → low keep N x n ≡ x (2 * n)
+  unfolding low
+  low-one x n = simp (le-ltb 1 N g)
+
+  pub even-one : (s d : ℕ → ℤ) (n : ℕ) → backEven keep N s d n ≡ s n
+  unfolding backEven
+  even-one s d n = simp (le-ltb 1 N g)
+
+-- its values go by what stands in the line alone
+module _ (keep : ℤ → ℤ) (N : ℕ) (x y : ℕ → ℤ) (same : (i : ℕ) → i < N → x i ≡ y i) where
+  pub high-same : (n : ℕ) → n < count hi N → high keep N x n ≡ high keep N y n
+  high-same n h =
+      let both = counts N in
+      let c = count-hi N in
+      let g : 1 < N = omega arith in
+      cc (high-is keep N g x n h, high-is keep N g y n h, same (2 * n + 1) (omega arith), same (2 * n) (omega arith), same (2 * min (n + 1) (count lo N - 1)) (omega arith))
+
+  pub low-same : (n : ℕ) → n < count lo N → low keep N x n ≡ low keep N y n
+  low-same n h =
+      let both = counts N in
+      let c = count-hi N in
+      elim (decLt 1 N) [
+        | yes g ↦
+            cc (low-is keep N g x n h, low-is keep N g y n h, same (2 * n) (omega arith), high-same (n - 1) (omega arith), high-same (min n (count hi N - 1)) (omega arith))
+        | no d ↦ cc (low-one keep N (omega arith) x n, low-one keep N (omega arith) y n, same (2 * n) (omega arith))
+      ]
+
+-- ---- memory
+module _ (N : ℕ) (p : Half → ℕ → ℤ) (z : ℕ → ℤ) where
+  pub halves-low : (j : ℕ) → j < count lo N → inHalves N p z j ≡ p lo j
+  unfolding inHalves
+  halves-low j h = simp (lt-ltb j (count lo N) h)
+
+  pub halves-high : (j : ℕ) → count lo N ≤ j → j < N → inHalves N p z j ≡ p hi (j - count lo N)
+  unfolding inHalves
+  halves-high j g h = simp (le-ltb j (count lo N) g, lt-ltb j N h)
+
+  pub halves-past : (j : ℕ) → N ≤ j → inHalves N p z j ≡ z j
+  unfolding inHalves
+  halves-past j h = let both = counts N in simp (le-ltb j (count lo N) (omega arith), le-ltb j N h)
+
+  -- memory in halves is y, where y has the halves at their places
+  pub halves-are : (y : ℕ → ℤ) → ((n : ℕ) → n < count lo N → p lo n ≡ y n) → ((n : ℕ) → n < count hi N → p hi n ≡ y (count lo N + n)) → ((j : ℕ) → N ≤ j → z j ≡ y j) → inHalves N p z ≡ y
+  halves-are y l h r =
+      let both = counts N in
+      fun-ext λ j.
+      elim (decLt j (count lo N)) [
+        | yes a ↦ halves-low j a ∙ l j a
+        | no a ↦
+            elim (decLt j N) [
+              | yes b ↦ halves-high j (omega arith) b ∙ h (j - count lo N) (omega arith) ∙ ap y (omega arith)
+              | no b ↦ halves-past j (omega arith) ∙ r j (omega arith)
+            ]
+      ]
+
+  pub front-in : (x : ℕ → ℤ) (j : ℕ) → j < N → fronted N x z j ≡ x j
+  unfolding fronted
+  front-in x j h = simp (lt-ltb j N h)
+
+  pub front-past : (x : ℕ → ℤ) (j : ℕ) → N ≤ j → fronted N x z j ≡ z j
+  unfolding fronted
+  front-past x j h = simp (le-ltb j N h)
+
+  -- memory with a line at its front is y, where y has the line's two halves at the even and the odd places
+  pub front-are : (y : ℕ → ℤ) → ((n : ℕ) → n < count lo N → p lo n ≡ y (2 * n)) → ((n : ℕ) → n < count hi N → p hi n ≡ y (2 * n + 1)) → ((j : ℕ) → N ≤ j → z j ≡ y j) → fronted N (joined p) z ≡ y
+  front-are y l h r =
+      let both = counts N in
+      let c = count-hi N in
+      fun-ext λ j.
+      elim (decLt j N) [
+        | no b ↦ front-past (joined p) j (omega arith) ∙ r j (omega arith)
+        | yes b ↦
+            front-in (joined p) j b
+            ∙ elim (ℕ-discrete (j % 2) 0) [
+              | yes e ↦
+                  let k : j ≡ 2 * (j / 2) = omega arith in
+                  ap (joined p) k ∙ joined-even p (j / 2) ∙ l (j / 2) (omega arith) ∙ ap y (sym k)
+              | no d ↦
+                  let k : j ≡ 2 * (j / 2) + 1 = omega arith in
+                  ap (joined p) k ∙ joined-odd p (j / 2) ∙ h (j / 2) (omega arith) ∙ ap y (sym k)
+            ]
+      ]
