@@ -1,0 +1,4 @@
+pub mod RowwiseLaws
+pub mod HeightLaws
+pub mod GridSweep
+pub mod ColumnPass
