@@ -4,10 +4,11 @@ ghost use Prim.Native.Nat.{ℕ, _+_, _*_, _<_, _≤_};
 ghost use lib.IntN.{ℤ, pos};
 ghost use lib.ListN.{length};
 ghost use Rattle.numbers.specs.Signal.{at};
-ghost use Rattle.lifting.specs.Line.{parted, joined};
+ghost use Rattle.lifting.specs.Line.{lo, hi, parted, joined};
 ghost use Rattle.lifting.specs.Halves.{halvesOf, inHalves, fronted};
+ghost use Rattle.lifting.specs.Passes.{evensCopied, oddsCopied};
 ghost use Rattle.wavelet.specs.Maps.{every};
-ghost use Rattle.whole_map.specs.Rowwise.{partedInPlace, wovenInPlace, between};
+ghost use Rattle.whole_map.specs.Rowwise.{partedInPlace, wovenInPlace, evensLaid, oddsLaid, between};
 
 // The longest row that is parted or woven in place: half the largest width, rounded up.
 pub const LONGEST: usize = 1025;
@@ -68,7 +69,11 @@ fn weave_line(row: &[i32], line: &mut [i32])
     weave_odds(row, line);
 }
 
-fn part_evens(line: &[i32], row: &mut [i32]) {
+// The even places of a line to the front of a row as long.
+fn part_evens(line: &[i32], row: &mut [i32])
+    requires { ⌜ length (now line) ≡ length (now row) ⌝ }
+    ensures { λ _. ⌜ at (now (row .exit)) ≡ evensCopied (length (now (line .entry))) (at (now (line .entry))) (at (now (row .entry))) ⌝ }
+{
     let n = line.len();
     let low = n - n / 2;
     let mut j = 0;
@@ -78,7 +83,11 @@ fn part_evens(line: &[i32], row: &mut [i32]) {
     }
 }
 
-fn part_odds(line: &[i32], row: &mut [i32]) {
+// The odd places after them.
+fn part_odds(line: &[i32], row: &mut [i32])
+    requires { ⌜ length (now line) ≡ length (now row) ⌝ }
+    ensures { λ _. ⌜ at (now (row .exit)) ≡ oddsCopied (length (now (line .entry))) (at (now (line .entry))) (at (now (row .entry))) ⌝ }
+{
     let n = line.len();
     let high = n / 2;
     let low = n - high;
@@ -89,7 +98,11 @@ fn part_odds(line: &[i32], row: &mut [i32]) {
     }
 }
 
-fn weave_evens(row: &[i32], line: &mut [i32]) {
+// The first half of a row to the even places of a line as long.
+fn weave_evens(row: &[i32], line: &mut [i32])
+    requires { ⌜ length (now row) ≡ length (now line) ⌝ }
+    ensures { λ _. ⌜ at (now (line .exit)) ≡ evensLaid (length (now (row .entry))) (halvesOf (length (now (row .entry))) (at (now (row .entry))) lo) (at (now (line .entry))) ⌝ }
+{
     let n = row.len();
     let low = n - n / 2;
     let mut j = 0;
@@ -99,7 +112,11 @@ fn weave_evens(row: &[i32], line: &mut [i32]) {
     }
 }
 
-fn weave_odds(row: &[i32], line: &mut [i32]) {
+// The second half to the odd places.
+fn weave_odds(row: &[i32], line: &mut [i32])
+    requires { ⌜ length (now row) ≡ length (now line) ⌝ }
+    ensures { λ _. ⌜ at (now (line .exit)) ≡ oddsLaid (length (now (row .entry))) (halvesOf (length (now (row .entry))) (at (now (row .entry))) hi) (at (now (line .entry))) ⌝ }
+{
     let n = row.len();
     let high = n / 2;
     let low = n - high;
