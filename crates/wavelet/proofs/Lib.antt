@@ -1,2 +1,5 @@
 pub mod SizeLaws
 pub mod GridLaws
+pub mod QuestionLaws
+pub mod BandPlaces
+pub mod ViewLaws
