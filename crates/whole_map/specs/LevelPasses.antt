@@ -1,6 +1,6 @@
 -- The levels as the private functions make them: a level's rows stand in an area, each in halves.
 use mathlib.Core.Bool.{Bool, true, false}
-use Prim.Native.Nat.{ℕ, zero, suc, _+_, _-_, _≤_, _<_}
+use Prim.Native.Nat.{ℕ, zero, suc, _+_, _-_, _*_, _^_, _≤_, _<_}
 use mathlib.Core.Path.{_≡_}
 use lib.IntN.{ℤ, pos, negℤ, natAbs}
 use lib.Dec.{ltb, leb}
@@ -10,10 +10,10 @@ use Rattle.lifting.specs.Line.{predicted, updated, unupdated, unpredicted, join
 use Rattle.lifting.specs.Halves.{halvesOf, liftedInPlace, unliftedInPlace}
 use Rattle.wavelet.specs.Limits.{range}
 use Rattle.wavelet.specs.Bands.{Grid}
-use Rattle.wavelet.specs.Plane.{planeCell, levelAt, mapBack}
-use Rattle.wavelet.specs.Maps.{everyCell}
+use Rattle.wavelet.specs.Plane.{planeCell, levelAt, mapBack, cells, flat}
+use Rattle.wavelet.specs.Maps.{everyCell, rebuiltFits}
 use Rattle.whole_map.specs.Rowwise.{between}
-use Rattle.whole_map.specs.Passes.{within, oddRowsChanged, evenRowsChanged, rowsMapped}
+use Rattle.whole_map.specs.Passes.{within, oddRowsChanged, evenRowsChanged, rowsMapped, rowsFetched, KeptFrom}
 
 -- the grid of w columns whose rows stand in X, each in halves
 unfoldable pub levelGrid : ℕ → Grid → Grid
@@ -56,3 +56,20 @@ rowsBetween first last from to low high x =
 -- question 7 of a region of w × h numbers, k being the level of its own bands
 unfoldable pub regionInRange : ℕ → ℕ → ℕ → ℕ → Grid → Bool
 regionInRange k L w h x = everyCell w h (λ r c. leb (natAbs (x r c)) (range (k - 1 + levelAt L w h r c)))
+
+-- L levels of rows of w numbers, s apart: strides double from level to level, and stay small
+pub record Doubling (L s w : ℕ) : Type 0 where
+  pub some : 0 < L
+  pub small : s * 2 ^ L ≤ 65568
+  pub narrow : w ≤ 2049
+
+-- what one level back leaves of the work area y₀, and its answer: z is the plane, k the level as in `leastFit`
+pub record LevelBack (ok : Bool) (k from s A w h : ℕ) (z y₀ y : ℕ → ℤ) : Type 0 where
+  pub lifted : y ≡ flat s (levelUnlifted w h (cells s (flat s (rowsFetched from w h (cells A z) (cells s y₀)))))
+  pub answer : ok ≡ rowsBetween 0 h 0 w (leastFit k) (pos (range k)) (cells s y)
+
+-- what all levels back leave, and their answer: question 14
+pub record LevelsBack (ok : Bool) (k L s A w h : ℕ) (z y₀ y : ℕ → ℤ) : Type 0 where
+  pub answer : ok ≡ rebuiltFits k L w h (cells A z)
+  pub grid : ok ≡ true → Rebuilt L w h (cells A z) (cells s y)
+  pub kept : KeptFrom ((h - 1) * s + w) y₀ y
