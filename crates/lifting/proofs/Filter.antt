@@ -1,7 +1,7 @@
 -- The lifting of one line in general: two steps that can be undone, for any reach. A tool of proofs: no contract and no theorem for readers names it. The 5/3 is its first instance (FiveThree).
 -- A line is a signal with its length N. Its first sample is of half `first`: lo where it stands at an even place of its grid, which is so throughout document 01, hi where it stands at an odd one.
 -- A line of one sample goes apart from the steps. Assumes nothing.
-use Prim.Native.Nat.{ℕ, zero, suc, _+_, _*_, _/_, _≤_, _<_}
+use Prim.Native.Nat.{ℕ, zero, suc, _+_, _*_, _≤_, _<_}
 use mathlib.Core.Path.{_≡_, refl, sym, ap, subst, _∙_, fun-ext}
 use native.Mathlib.Numerals.{add-one}
 use native.Mathlib.Omega.{arith}

@@ -1,7 +1,6 @@
 -- The 5/3 as an instance of the general filter, and that the instance is the lifting of a line as the definitions have it (`forward-is`, `back-is`). Assumes nothing.
 use Prim.Native.Nat.{ℕ, zero, suc, _+_, _-_, _*_, _/_, _%_, _^_, min, _≤_, _<_}
 use mathlib.Core.Path.{_≡_, refl, sym, ap, ap₂, _∙_}
-use mathlib.Core.Bool.{Bool, true, false}
 use native.Mathlib.Decide.{decLt}
 use native.Mathlib.Omega.{arith}
 use lib.IntN.{ℤ, pos, natAbs, _+ℤ_, _-ℤ_}
@@ -9,12 +8,11 @@ use lib.Signed.{shrZ, mag}
 use mir.Syntax.{w32}
 use mir.Val.{SFits, hbits}
 use borrow.Author.Tests.{lt-ltb}
-use Rattle.numbers.specs.Signal.{pick}
 use Rattle.numbers.specs.Word.{wrap32, whole}
 use Rattle.numbers.proofs.Integers.{dif, each, lin, dif-natAbs}
 use Rattle.numbers.proofs.Words.{wrap-fits, add-sub, sub-add}
 use Rattle.lifting.specs.Line.{predicted, updated, unpredicted, unupdated, mirror, high, highAt, low, backEven, backOdd, Half, lo, hi, count, joined, lineForward, lineHalvesBack, lineBack}
-use Rattle.lifting.proofs.Filter.{other, place, many, part, Step, Filter, forward, back, forward-high, forward-low, forward-one, back-low, back-high, back-one, by-place, back-forward, forward-back, forward-reads, back-reads}
+use Rattle.lifting.proofs.Filter.{place, many, part, Step, Filter, forward, back, forward-high, forward-low, forward-one, back-low, back-high, back-one, by-place, back-forward, forward-back, forward-reads, back-reads}
 
 -- ---- the shape: each step changes a number by its two neighbours of the other half, by any rule that can be undone
 pub record Reversible (A : Type 0) : Type 0 where

@@ -3,3 +3,7 @@ pub mod GridLaws
 pub mod QuestionLaws
 pub mod BandPlaces
 pub mod ViewLaws
+pub mod LevelTheory
+pub mod Bridge
+pub mod MapTheorems
+pub mod LevelReads
