@@ -17,21 +17,9 @@ use Rattle.wavelet.specs.Plane.{halfAt, placeIn}
 use Rattle.whole_map.specs.Rowwise.{cut}
 use Rattle.whole_map.specs.Passes.{oddRowsChanged, evenRowsChanged, rowsMapped, levelRow}
 use Rattle.whole_map.specs.LevelPasses.{levelGrid, columnsLiftedInPlace, levelLifted, columnsUnliftedInPlace, levelUnlifted}
-use Rattle.whole_map.proofs.GridLaws.{placed, placed-in, joined-at, grid-at, halves-at, halves-half, place-in, level-at, level-in, odd-in, odd-even, even-in, even-odd, mapped-in, cut-in, before-odd, before-even, after-odd, after-even}
-
-pub across-of : (a d : Half) → across (bandOf a d) ≡ a
-unfolding across bandOf
-across-of lo lo = refl
-across-of lo hi = refl
-across-of hi lo = refl
-across-of hi hi = refl
-
-pub down-of : (a d : Half) → down (bandOf a d) ≡ d
-unfolding down bandOf
-down-of lo lo = refl
-down-of lo hi = refl
-down-of hi lo = refl
-down-of hi hi = refl
+use Rattle.wavelet.proofs.LevelTheory.{across-of, down-of}
+use Rattle.whole_map.proofs.GridSweep.{mapped-in}
+use Rattle.whole_map.proofs.CellLaws.{placed, placed-in, joined-at, grid-at, halves-at, halves-half, place-in, level-at, level-in, odd-in, odd-even, even-in, even-odd, cut-in, before-odd, before-even, after-odd, after-even}
 
 -- ---- columns: each is a line of h numbers, its even rows the low half and its odd rows the high half
 module _ (w h : ℕ) (X : Grid) (c : ℕ) (cw : c < w) where

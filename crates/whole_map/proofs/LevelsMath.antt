@@ -11,23 +11,18 @@ use Rattle.numbers.specs.Word.{wrap32}
 use Rattle.lifting.specs.Line.{Half, lo, hi, count, parted, joined}
 use Rattle.lifting.specs.Halves.{halvesOf, inHalves, fronted}
 use Rattle.lifting.proofs.LineLaws.{counts, count-lo, count-hi, joined-parted, front-in}
-use Rattle.lifting.proofs.LineTheorems.{forward-reads}
 use Rattle.wavelet.specs.Bands.{Grid, Band, LL, HL, LH, HH, across, down, bandOf, columnsLifted, subband, levelBack}
 use Rattle.wavelet.specs.Plane.{cells, flat, halfAt, placeIn, planeCell, mapBack}
 use Rattle.whole_map.specs.Rowwise.{cut, partedInPlace, wovenInPlace}
 use Rattle.whole_map.specs.Passes.{within, even, rowsMapped, planeRow, levelRow, rowsStored, rowsFetched}
 use Rattle.whole_map.specs.LevelPasses.{levelGrid, levelLifted, levelUnlifted, planeWritten, Rebuilt}
-use Rattle.whole_map.proofs.GridLaws.{cells-flat, flat-same, placed, placed-in, joined-at, grid-at, halves-at, half-low, half-high, mapped-in, cut-in, level-low, place-in, within-in, by-within}
-use Rattle.whole_map.proofs.LevelMath.{across-of, down-of, BandsIn, level-forward, level-back}
+use Rattle.wavelet.proofs.GridLaws.{cells-flat}
+use Rattle.wavelet.proofs.LevelTheory.{plane-reads}
+use Rattle.whole_map.proofs.GridSweep.{mapped-in}
+use Rattle.whole_map.proofs.CellLaws.{flat-same, placed, placed-in, joined-at, grid-at, halves-at, half-low, cut-in, level-low, within-in, by-within}
+use Rattle.whole_map.proofs.LevelMath.{BandsIn, level-forward, level-back}
 
--- ---- the plane goes by what stands in the grid alone
-module _ (keep : ℤ → ℤ) (w h : ℕ) (g g′ : Grid) (same : (r c : ℕ) → r < h → c < w → g r c ≡ g′ r c) where
-  pub subband-reads : (b : Band) (i n : ℕ) → i < count (down b) h → n < count (across b) w → subband keep w h g b i n ≡ subband keep w h g′ b i n
-  unfolding subband columnsLifted
-  subband-reads b i n ib nb =
-      forward-reads keep w _ _ (across b) n nb
-      (λ c cw _. forward-reads keep h _ _ (down b) i ib (λ r rh _. same r c rh cw))
-
+-- ---- the plane, by cells
 module _ (keep : ℤ → ℤ) where
   plane-corner : (L w h : ℕ) (g : Grid) (r c : ℕ) → r < count lo h → c < count lo w → planeCell keep (suc L) w h g r c ≡ planeCell keep L (count lo w) (count lo h) (subband keep w h g LL) r c
   unfolding planeCell
@@ -36,22 +31,6 @@ module _ (keep : ℤ → ℤ) where
   plane-rest : (L w h : ℕ) (g : Grid) (r c : ℕ) → within (count lo w) (count lo h) r c ≡ false → planeCell keep (suc L) w h g r c ≡ subband keep w h g (bandOf (halfAt w c) (halfAt h r)) (placeIn h r) (placeIn w c)
   unfolding planeCell within
   plane-rest L w h g r c e = simp e
-
-  pub plane-reads : (L w h : ℕ) (g g′ : Grid) → ((r c : ℕ) → r < h → c < w → g r c ≡ g′ r c) → (r c : ℕ) → r < h → c < w → planeCell keep L w h g r c ≡ planeCell keep L w h g′ r c
-  unfolding planeCell down across
-  plane-reads zero w h g g′ same r c rh cw = same r c rh cw
-  plane-reads (suc L) w h g g′ same r c rh cw =
-      by-within (count lo w) (count lo h) r c
-      (λ rb cb.
-      plane-corner L w h g r c rb cb
-      ∙ plane-reads L (count lo w) (count lo h) _ _ (subband-reads keep w h g g′ same LL) r c rb cb
-      ∙ sym (plane-corner L w h g′ r c rb cb))
-      (λ e.
-      plane-rest L w h g r c e
-      ∙ subband-reads keep w h g g′ same (bandOf (halfAt w c) (halfAt h r)) (placeIn h r) (placeIn w c)
-      (rw (down-of (halfAt w c) (halfAt h r)) (place-in h r rh))
-      (rw (across-of (halfAt w c) (halfAt h r)) (place-in w c cw))
-      ∙ sym (plane-rest L w h g′ r c e))
 
   -- the last level: the corner is its low-low band
   plane-last : (w h : ℕ) (g : Grid) (r c : ℕ) → planeCell keep 1 w h g r c ≡ subband keep w h g (bandOf (halfAt w c) (halfAt h r)) (placeIn h r) (placeIn w c)

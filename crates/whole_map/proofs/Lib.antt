@@ -1,8 +1,12 @@
-pub mod GridLaws
-pub mod LevelMath
-pub mod LevelsMath
-pub mod TestLaws
 pub mod RowwiseLaws
+pub mod EveryLaws
 pub mod HeightLaws
 pub mod GridSweep
 pub mod ColumnPass
+pub mod HeightRows
+pub mod CellLaws
+pub mod LevelMath
+pub mod LevelsMath
+pub mod TestLaws
+pub mod LevelCalls
+pub mod LevelSteps

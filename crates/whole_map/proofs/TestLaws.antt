@@ -21,7 +21,8 @@ use Rattle.wavelet.specs.Maps.{every, everyCell, valueFits, rebuiltFits}
 use Rattle.whole_map.specs.Rowwise.{between}
 use Rattle.whole_map.specs.Passes.{within}
 use Rattle.whole_map.specs.LevelPasses.{Rebuilt, leastFit, rowsBetween, regionInRange}
-use Rattle.whole_map.proofs.GridLaws.{placed, placed-in, placed-even, placed-odd, grid-at, within-in, by-within}
+use Rattle.wavelet.proofs.MapTheorems.{every-each, each-every, every-same, cells-each, each-cells}
+use Rattle.whole_map.proofs.CellLaws.{placed, placed-in, placed-even, placed-odd, grid-at, within-in, by-within}
 
 pub bool-same : (a b : Bool) → (a ≡ true → b ≡ true) → (b ≡ true → a ≡ true) → a ≡ b
 bool-same true b f g = sym (f refl)
@@ -31,48 +32,19 @@ bool-same false false f g = refl
 pub both-is : (a b : Bool) → a ≡ true → b ≡ true → pick a b false ≡ true
 both-is a b e f = rw (e, f)
 
--- ---- every number below n
-pub every-holds : (n : ℕ) (p : ℕ → Bool) → every n p ≡ true → (i : ℕ) → i < n → p i ≡ true
-unfolding every
-every-holds zero p e i h = absurd (omega arith)
-every-holds (suc n) p e i h =
-    let b = both (every n p) (p n) e in
-    elim (ℕ-discrete i n) [ yes k ↦ ap p k ∙ b .1 | no d ↦ every-holds n p (b .0) i (omega arith) ]
-
-pub every-is : (n : ℕ) (p : ℕ → Bool) → ((i : ℕ) → i < n → p i ≡ true) → every n p ≡ true
-unfolding every
-every-is zero p f = refl
-every-is (suc n) p f = both-is (every n p) (p n) (every-is n p (λ i h. f i (omega arith))) (f n (omega arith))
-
-pub every-same : (n : ℕ) (p q : ℕ → Bool) → ((i : ℕ) → i < n → p i ≡ q i) → every n p ≡ every n q
-every-same n p q f =
-    bool-same (every n p) (every n q)
-    (λ e. every-is n q (λ i h. sym (f i h) ∙ every-holds n p e i h))
-    (λ e. every-is n p (λ i h. f i h ∙ every-holds n q e i h))
-
 -- in whatever order they stand: every number of a row, and every number of the row in halves
 pub every-placed : (w : ℕ) (p : ℕ → Bool) → every w (λ c. p (placed w c)) ≡ every w p
 every-placed w p =
     let l = count-lo w in
     bool-same _ _
-    (λ e. every-is w p (λ j h.
+    (λ e. each-every w p (λ j h.
     elim (decLt j (count lo w)) [
-      | yes a ↦ sym (ap p (placed-even w j)) ∙ every-holds w _ e (2 * j) (omega arith)
+      | yes a ↦ sym (ap p (placed-even w j)) ∙ every-each w _ e (2 * j) (omega arith)
       | no a ↦
           let k : count lo w + (j - count lo w) ≡ j = omega arith in
-          sym (ap p (placed-odd w (j - count lo w) ∙ k)) ∙ every-holds w _ e (2 * (j - count lo w) + 1) (omega arith)
+          sym (ap p (placed-odd w (j - count lo w) ∙ k)) ∙ every-each w _ e (2 * (j - count lo w) + 1) (omega arith)
     ]))
-    (λ e. every-is w _ (λ c h. every-holds w p e (placed w c) (placed-in w c h)))
-
--- ---- every cell of h rows of w
-module _ (w h : ℕ) (p : ℕ → ℕ → Bool) where
-  pub cells-hold : everyCell w h p ≡ true → (r c : ℕ) → r < h → c < w → p r c ≡ true
-  unfolding everyCell
-  cells-hold e r c rh cw = every-holds w (p r) (every-holds h (λ i. every w (p i)) e r rh) c cw
-
-  pub cells-are : ((r c : ℕ) → r < h → c < w → p r c ≡ true) → everyCell w h p ≡ true
-  unfolding everyCell
-  cells-are f = every-is h (λ i. every w (p i)) (λ r rh. every-is w (p r) (λ c cw. f r c rh cw))
+    (λ e. each-every w _ (λ c h. every-each w p e (placed w c) (placed-in w c h)))
 
 -- ---- ranges
 abs-between : (N : ℕ) (m v : ℤ) → m ≡ pos N → leZ (negℤ m) v ≡ true → leZ v m ≡ true → natAbs v ≤ N
@@ -129,12 +101,12 @@ module _ (first last from to N : ℕ) (x : Grid) where
   rows-hold e r c fr rl fc ct =
       let a : first + (r - first) ≡ r = omega arith in
       let b : from + (c - from) ≡ c = omega arith in
-      sym (between-is N (x r c)) ∙ (rw (a, b) at (cells-hold (to - from) (last - first) _ e (r - first) (c - from) (omega arith) (omega arith)))
+      sym (between-is N (x r c)) ∙ (rw (a, b) at (cells-each (to - from) (last - first) _ e (r - first) (c - from) (omega arith) (omega arith)))
 
   pub rows-are : ((r c : ℕ) → first ≤ r → r < last → from ≤ c → c < to → leb (natAbs (x r c)) N ≡ true) → ranged ≡ true
   unfolding rowsBetween
   rows-are f =
-      cells-are (to - from) (last - first) _
+      each-cells (to - from) (last - first) _
       (λ r c rh cw. between-is N (x (first + r) (from + c)) ∙ f (first + r) (from + c) (omega arith) (omega arith) (omega arith) (omega arith))
 
 module _ (L w h : ℕ) (r c : ℕ) where
@@ -162,8 +134,8 @@ unfolding regionInRange
 region-last k w h x b =
     let here : (r c : ℕ) → k - 1 + levelAt 1 w h r c ≡ k = λ r c. omega (arith, level-last w h r c) in
     bool-same _ _
-    (λ e. rows-are 0 h 0 w (range k) x (λ r c _ rh _ cw. sym (ap (rangeTest x r c) (here r c)) ∙ cells-hold w h _ e r c rh cw))
-    (λ e. cells-are w h _ (λ r c rh cw. ap (rangeTest x r c) (here r c) ∙ rows-hold 0 h 0 w (range k) x e r c (omega arith) rh (omega arith) cw))
+    (λ e. rows-are 0 h 0 w (range k) x (λ r c _ rh _ cw. sym (ap (rangeTest x r c) (here r c)) ∙ cells-each w h _ e r c rh cw))
+    (λ e. each-cells w h _ (λ r c rh cw. ap (rangeTest x r c) (here r c) ∙ rows-hold 0 h 0 w (range k) x e r c (omega arith) rh (omega arith) cw))
 
 module _ (k L w h : ℕ) (x : Grid) where
   abbrev inner : Bool
@@ -188,20 +160,20 @@ module _ (k L w h : ℕ) (x : Grid) where
       λ r c e. omega (arith, level-rest L w h r c e) in
       bool-same _ _
       (λ e.
-      let all = cells-hold w h _ e in
+      let all = cells-each w h _ e in
       both-is inner _
-      (cells-are w′ h′ _ (λ r c rb cb. sym (ap (rangeTest x r c) (corner r c rb cb)) ∙ all r c (omega arith) (omega arith)))
+      (each-cells w′ h′ _ (λ r c rb cb. sym (ap (rangeTest x r c) (corner r c rb cb)) ∙ all r c (omega arith) (omega arith)))
       (both-is right below
       (rows-are 0 h′ w′ w (range k) x (λ r c _ rb wc cw. sym (ap (rangeTest x r c) (rest r c (outside w′ h′ r c (λ _ d. omega arith)))) ∙ all r c (omega arith) cw))
       (rows-are h′ h 0 w (range k) x (λ r c hr rh _ cw. sym (ap (rangeTest x r c) (rest r c (outside w′ h′ r c (λ d _. omega arith)))) ∙ all r c rh cw))))
       (λ e.
       let one = both inner _ e in
       let two = both right below (one .1) in
-      cells-are w h _ (λ r c rh cw.
+      each-cells w h _ (λ r c rh cw.
       elim (decLt r h′) [
         | yes rb ↦
             elim (decLt c w′) [
-              | yes cb ↦ ap (rangeTest x r c) (corner r c rb cb) ∙ cells-hold w′ h′ _ (one .0) r c rb cb
+              | yes cb ↦ ap (rangeTest x r c) (corner r c rb cb) ∙ cells-each w′ h′ _ (one .0) r c rb cb
               | no d ↦ ap (rangeTest x r c) (rest r c (outside w′ h′ r c (λ _ cb. d cb))) ∙ rows-hold 0 h′ w′ w (range k) x (two .0) r c (omega arith) rb (omega arith) cw
             ]
         | no d ↦ ap (rangeTest x r c) (rest r c (outside w′ h′ r c (λ rb _. d rb))) ∙ rows-hold h′ h 0 w (range k) x (two .1) r c (omega arith) rh (omega arith) cw

@@ -1,37 +1,33 @@
 -- What the two calls answer and leave: document 01, "The plane" and "The gate questions".
 use mathlib.Core.Bool.{Bool, true, false}
-use mathlib.Core.List.{List}
 use Prim.Native.Nat.{ℕ, _*_}
 use lib.IntN.{ℤ, pos}
 use lib.Dec.{leb, eqb}
 use Rattle.numbers.specs.Signal.{pick, both}
-use Rattle.numbers.specs.Word.{whole, wrap32}
 use Rattle.lifting.specs.Halves.{fronted}
 use Rattle.wavelet.specs.Limits.{maxWidth, maxHeight, maxLevels}
+use Rattle.wavelet.specs.Questions.{ask, within}
 use Rattle.wavelet.specs.Bands.{Grid}
-use Rattle.wavelet.specs.Plane.{planeOf, mapBack, cells, flat}
 use Rattle.wavelet.specs.Maps.{inRange, rebuiltFits}
-
--- from 1 to most
-unfoldable pub oneTo : ℕ → ℕ → Bool
-oneTo most n = both (leb 1 n) (leb n most)
 
 -- questions 2, 3, 4 and 5, of areas of a, b and c numbers, and then `rest`
 unfoldable pub sizeQuestions : ℕ → ℕ → ℕ → ℕ → ℕ → ℕ → ℕ → ℕ
 sizeQuestions W H L a b c rest =
-    pick (oneTo maxWidth W)
-    (pick (oneTo maxHeight H)
-    (pick (oneTo maxLevels L) (pick (both (leb (W * H) a) (both (leb (W * H) b) (leb (W * H) c))) rest 5) 4)
-    3)
-    2
+    ask (within 1 maxWidth W) 2
+    (ask (within 1 maxHeight H) 3
+    (ask (within 1 maxLevels L) 4
+    (ask (both (leb (W * H) a) (both (leb (W * H) b) (leb (W * H) c))) 5
+    rest)))
 
 unfoldable pub forwardQuestion : ℕ → ℕ → ℕ → ℕ → ℕ → ℕ → ℕ
 forwardQuestion W H L heights plane work = sizeQuestions W H L heights plane work 0
 
--- and 7 and 14, of the plane x
+-- 7 and 14, of the plane x
+unfoldable pub planeQuestions : ℕ → ℕ → ℕ → Grid → ℕ
+planeQuestions W H L x = ask (inRange L W H x) 7 (ask (rebuiltFits 0 L W H x) 14 0)
+
 unfoldable pub backwardQuestion : ℕ → ℕ → ℕ → ℕ → ℕ → ℕ → Grid → ℕ
-backwardQuestion W H L plane heights work x =
-    sizeQuestions W H L plane heights work (pick (inRange L W H x) (pick (rebuiltFits 0 L W H x) 0 14) 7)
+backwardQuestion W H L plane heights work x = sizeQuestions W H L plane heights work (planeQuestions W H L x)
 
 abbrev pub zeros : ℕ → ℤ
 zeros _ = pos 0

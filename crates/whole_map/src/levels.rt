@@ -14,7 +14,7 @@ ghost use Rattle.wavelet.specs.Limits.{range};
 ghost use Rattle.wavelet.specs.Plane.{cells, flat};
 ghost use Rattle.whole_map.specs.Rowwise.{partedInPlace, wovenInPlace};
 ghost use Rattle.whole_map.specs.Passes.{Rows, KeptFrom, even, planeRow, levelRow, rowsMapped, rowsStored, rowsFetched};
-ghost use Rattle.whole_map.specs.LevelPasses.{levelGrid, levelLifted, levelUnlifted, planeWritten, leastFit, rowsBetween, regionInRange, Doubling, LevelBack, LevelsBack};
+ghost use Rattle.whole_map.specs.LevelPasses.{levelGrid, columnsLiftedInPlace, levelLifted, columnsUnliftedInPlace, levelUnlifted, planeWritten, leastFit, rowsBetween, regionInRange, Doubling, LevelBack, LevelsBack};
 
 // The plane's row for row r of a level: the low rows come first.
 fn plane_row(height: usize, r: usize) -> usize
@@ -39,15 +39,36 @@ fn level_row(height: usize, r: usize) -> usize
     2 * (r - low) + 1
 }
 
+// All columns forward, in place; a column of one number stays.
+fn lift_columns(work: &mut [i32], stride: usize, width: usize, height: usize)
+    requires { ⌜ Rows (length (now work)) stride width height ⌝ }
+    ensures { λ _. ⌜ at (now (work .exit)) ≡ flat stride (columnsLiftedInPlace width height (cells stride (at (now (work .entry))))) ⌝ }
+{
+    if height < 2 {
+        return;
+    }
+    passes::predict_odd_rows(work, stride, width, height);
+    passes::update_even_rows(work, stride, width, height);
+}
+
+// All columns back.
+fn unlift_columns(work: &mut [i32], stride: usize, width: usize, height: usize)
+    requires { ⌜ Rows (length (now work)) stride width height ⌝ }
+    ensures { λ _. ⌜ at (now (work .exit)) ≡ flat stride (columnsUnliftedInPlace width height (cells stride (at (now (work .entry))))) ⌝ }
+{
+    if height < 2 {
+        return;
+    }
+    passes::unupdate_even_rows(work, stride, width, height);
+    passes::unpredict_odd_rows(work, stride, width, height);
+}
+
 // One level forward, in place: all columns, then all rows.
 fn lift_level(work: &mut [i32], stride: usize, width: usize, height: usize)
     requires { ⌜ Rows (length (now work)) stride width height ⌝ }
     ensures { λ _. ⌜ at (now (work .exit)) ≡ flat stride (levelLifted width height (cells stride (at (now (work .entry))))) ⌝ }
 {
-    if 1 < height {
-        passes::predict_odd_rows(work, stride, width, height);
-        passes::update_even_rows(work, stride, width, height);
-    }
+    lift_columns(work, stride, width, height);
     passes::lift_rows(work, stride, width, height);
 }
 
@@ -57,10 +78,7 @@ fn unlift_level(work: &mut [i32], stride: usize, width: usize, height: usize)
     ensures { λ _. ⌜ at (now (work .exit)) ≡ flat stride (levelUnlifted width height (cells stride (at (now (work .entry))))) ⌝ }
 {
     passes::unlift_rows(work, stride, width, height);
-    if 1 < height {
-        passes::unupdate_even_rows(work, stride, width, height);
-        passes::unpredict_odd_rows(work, stride, width, height);
-    }
+    unlift_columns(work, stride, width, height);
 }
 
 // n numbers from place a of one area to place b of another.

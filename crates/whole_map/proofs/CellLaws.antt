@@ -7,7 +7,6 @@ use native.Mathlib.Decide.{decLt, ℕ-discrete}
 use native.Mathlib.Omega.{arith}
 use lib.IntN.{ℤ, pos}
 use lib.Dec.{eqb}
-use lib.Arith.{digits-div, digits-mod}
 use borrow.Author.Tests.{lt-ltb, le-ltb, eq-eqb, ne-eqb}
 use Rattle.numbers.specs.Signal.{pick}
 use Rattle.numbers.specs.Word.{wrap32}
@@ -18,20 +17,13 @@ use Rattle.wavelet.specs.Bands.{Grid}
 use Rattle.wavelet.specs.Plane.{cells, flat, halfAt, placeIn}
 use Rattle.whole_map.specs.Rowwise.{cut}
 use Rattle.whole_map.specs.Passes.{Rows, KeptFrom, within, after, before, even, oddRowsChanged, evenRowsChanged, rowsMapped, planeRow, levelRow, rowsStored, rowsFetched}
+use Rattle.whole_map.proofs.GridSweep.{row-room}
 use Rattle.whole_map.specs.LevelPasses.{levelGrid, columnsLiftedInPlace, levelLifted, columnsUnliftedInPlace, levelUnlifted}
 
 -- ---- cells
-pub cells-flat : (s : ℕ) (X : Grid) (r c : ℕ) → c < s → cells s (flat s X) r c ≡ X r c
-unfolding cells flat
-cells-flat s X r c h = rw (digits-div r h, digits-mod r h)
-
 pub flat-same : (s : ℕ) (X Y : Grid) → 0 < s → ((r c : ℕ) → c < s → X r c ≡ Y r c) → flat s X ≡ flat s Y
 unfolding flat
 flat-same s X Y g h = fun-ext λ j. h (j / s) (j % s) (mod-lt j g)
-
-pub flat-cells : (s : ℕ) (x : ℕ → ℤ) → flat s (cells s x) ≡ x
-unfolding flat cells
-flat-cells s x = fun-ext λ j. ap x (div-add-mod' j s)
 
 -- ---- a row in halves: where its number c stands
 unfoldable pub placed : ℕ → ℕ → ℕ
@@ -119,6 +111,10 @@ module _ (N i : ℕ) where
   unfolding levelRow
   level-low h = simp (lt-ltb i (count lo N) h)
 
+  pub level-high : count lo N ≤ i → levelRow N i ≡ 2 * (i - count lo N) + 1
+  unfolding levelRow
+  level-high h = simp (le-ltb i (count lo N) h)
+
   pub level-in : i < N → levelRow N i < N
   unfolding levelRow count
   level-in h =
@@ -157,10 +153,6 @@ module _ (f : ℤ → ℤ → ℤ → ℤ) (w h : ℕ) (X : Grid) (c : ℕ) (cw 
   pub even-odd : (r : ℕ) → r < h → r % 2 ≡ 1 → evenRowsChanged f w h X r c ≡ X r c
   unfolding evenRowsChanged within even
   even-odd r rh e = simp (lt-ltb r h rh, lt-ltb c w cw, ne-eqb (r % 2) 0 (omega arith))
-
-pub mapped-in : (f : (ℕ → ℤ) → ℕ → ℤ) (w h : ℕ) (X : Grid) (r c : ℕ) → r < h → c < w → rowsMapped f w h X r c ≡ f (cut w (X r)) c
-unfolding rowsMapped within
-mapped-in f w h X r c rh cw = simp (lt-ltb r h rh, lt-ltb c w cw)
 
 pub cut-in : (n : ℕ) (x : ℕ → ℤ) (j : ℕ) → j < n → cut n x j ≡ x j
 unfolding cut
@@ -269,9 +261,6 @@ next-rows n s w h R =
     }
 
 -- a part of the rows
-pub row-room : (n s w h r : ℕ) → Rows n s w h → r < h → r * s + w ≤ n
-row-room n s w h r R rh = let m : r * s ≤ (h - 1) * s = mul-le-mul-right s (omega arith) in omega (arith, R .room)
-
 pub fewer-rows : (n s w h m : ℕ) → Rows n s w h → 0 < m → m ≤ h → Rows n s w m
 fewer-rows n s w h m R some b = record { apart = R .apart; wide = R .wide; some = some; room = row-room n s w h (m - 1) R (omega arith) }
 
