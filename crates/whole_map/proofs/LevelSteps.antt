@@ -18,10 +18,10 @@ use Rattle.wavelet.specs.Plane.{cells, flat, mapBack}
 use Rattle.wavelet.specs.Maps.{everyCell, valueFits, rebuiltFits}
 use Rattle.whole_map.specs.Rowwise.{partedInPlace, wovenInPlace}
 use Rattle.whole_map.specs.Passes.{Rows, KeptFrom, rowsMapped, rowsStored, rowsFetched}
-use Rattle.whole_map.specs.LevelPasses.{levelGrid, levelLifted, levelUnlifted, planeWritten, Rebuilt, leastFit, rowsBetween, Doubling, LevelBack, LevelsBack}
+use Rattle.whole_map.specs.LevelPasses.{levelGrid, levelLifted, levelUnlifted, planeWritten, Rebuilt, leastFit, rowsBetween, regionInRange, Doubling, LevelBack, LevelsBack}
 use Rattle.whole_map.proofs.CellLaws.{mapped-out, fetched-out, lifted-out, unlifted-out, kept-flat, kept-then, next-end, next-rows, fewer-rows, fewer-columns}
 use Rattle.whole_map.proofs.LevelsMath.{forward-last, forward-more, back-last, back-more}
-use Rattle.whole_map.proofs.TestLaws.{rebuilt-fits, fits-more, fits-last}
+use Rattle.whole_map.proofs.TestLaws.{rebuilt-fits, fits-more, fits-last, region-more, region-last}
 
 -- ---- sizes
 pub stride-small : (L s w : ℕ) → Doubling L s w → 2 * s ≤ 65568
@@ -136,6 +136,9 @@ back-step n s A w h k L w′ h′ done ok z y₀ y₁ y₂ y R a ew eh it b e₂
     }
 
 -- ---- ranges
+pub between-by : (first last from to : ℕ) (X : Grid) {low low′ high high′ : ℤ} → low ≡ low′ → high ≡ high′ → rowsBetween first last from to low high X ≡ rowsBetween first last from to low′ high′ X
+between-by first last from to X e f = λ i. rowsBetween first last from to (e i) (f i) X
+
 pub range-is : (k : ℕ) → k ≤ 5 → pos (range (min k maxLevels)) ≡ pos (range k)
 unfolding maxLevels
 range-is k b = ap (λ (i : ℕ). pos (range i)) (omega arith)
@@ -145,3 +148,26 @@ neg-fits N = each _ λ p q. simp lin (omega arith)
 
 pub neg-is : (z : ℤ) → pos 0 -ℤ z ≡ negℤ z
 neg-is = each _ λ p q. simp lin (omega arith)
+
+-- ---- question 7, test by test: of the low-low part, of the rows beside it, of the rows below
+module _ (k L w h w′ h′ : ℕ) (x : Grid) (a : Bool) (one : 0 < k) (more : 2 ≤ L) (ew : w′ ≡ count lo w) (eh : h′ ≡ count lo h) (ea : a ≡ regionInRange (k + 1) (L - 1) w′ h′ x) where
+  low-test : a ≡ regionInRange (k + 1) (L - 1) (count lo w) (count lo h) x
+  low-test = rw (ew, eh) at ea
+
+  pub range-first : a ≡ false → false ≡ regionInRange k L w h x
+  range-first no′ = sym (region-more k L w h x one more ∙ rw (← low-test, no′))
+
+  module _ (yes′ : a ≡ true) (b : Bool) (eb : b ≡ rowsBetween 0 h′ w′ w (negℤ (pos (range k))) (pos (range k)) x) where
+    beside-test : b ≡ rowsBetween 0 (count lo h) (count lo w) w (negℤ (pos (range k))) (pos (range k)) x
+    beside-test = rw (ew, eh) at eb
+
+    pub range-second : b ≡ false → false ≡ regionInRange k L w h x
+    range-second no′ = sym (region-more k L w h x one more ∙ rw (← low-test, yes′, ← beside-test, no′))
+
+    pub range-third : b ≡ true → (d : Bool) → d ≡ rowsBetween h′ h 0 w (negℤ (pos (range k))) (pos (range k)) x → d ≡ regionInRange k L w h x
+    range-third yes″ d ed =
+        let below : d ≡ rowsBetween (count lo h) h 0 w (negℤ (pos (range k))) (pos (range k)) x = rw eh at ed in
+        below ∙ sym (region-more k L w h x one more ∙ rw (← low-test, yes′, ← beside-test, yes″))
+
+pub range-end : (k L w h : ℕ) (x : Grid) (d : Bool) → 0 < k → 0 < L → L < 2 → d ≡ rowsBetween 0 h 0 w (negℤ (pos (range k))) (pos (range k)) x → d ≡ regionInRange k L w h x
+range-end k L w h x d one a b e = let j : L ≡ 1 = omega arith in rw j (e ∙ sym (region-last k w h x one))

@@ -1,3 +1,8 @@
+-- `levels::forward_levels` meets its contract: this level, and then the low-low part by the levels left, which fall. Assumes nothing.
+use mathlib.Core.Path.{_≡_, refl, sym, _∙_}
+use native.Mathlib.Omega.{arith}
+use borrow.Author.Needs.{needs}
+use Rattle.whole_map.proofs.LevelSteps.{stride-small, doubled, rows-next, rows-corner, forward-end, forward-step}
 use Prim.Native.Nat.{ℕ, _<_}
 use borrow.Fn.Kinds.{In}
 use borrow.Fn.PlainCycle.{Measures, is, falls, and}
@@ -12,7 +17,7 @@ use Rattle.whole_map.proofs.levels.+forward_levels.{statement}
 use Rattle.whole_map.proofs.levels.+forward_levels.Tie.{close}
 
 abbrev μ-forward-levels : Measures 2 forward-levels-kinds.ps ℕ
-μ-forward-levels κs a = ?
+μ-forward-levels κs a = a .1 .1 .1 .1 .1 .1 .0
 
 abbrev forward-levels-at : ℕ → In 2 forward-levels-kinds.ps
 forward-levels-at t =
@@ -30,7 +35,6 @@ forward-levels-below t =
     (falls 2 forward-levels-kinds.ps _<_ μ-forward-levels t)
     forward-levels.Pre
 
--- src/levels.rt:172:5
 forward-levels-lift-level-requires : (t : ℕ) → forward-levels-lts.Need-lift-level-requires (
   lift-level-reads.Asked,
   lift-level-reads.Learnt,
@@ -43,9 +47,8 @@ forward-levels-lift-level-requires : (t : ℕ) → forward-levels-lts.Need-lift-
   forward-levels-below t,
   forward-levels.Post,
 ) (forward-levels-at t) forward-levels.Post
-forward-levels-lift-level-requires t c κs = ?
+forward-levels-lift-level-requires t c κs = search needs
 
--- src/levels.rt:173:5
 forward-levels-store-level-requires : (t : ℕ) → forward-levels-lts.Need-store-level-requires (
   lift-level-reads.Asked,
   lift-level-reads.Learnt,
@@ -58,9 +61,8 @@ forward-levels-store-level-requires : (t : ℕ) → forward-levels-lts.Need-stor
   forward-levels-below t,
   forward-levels.Post,
 ) (forward-levels-at t) forward-levels.Post
-forward-levels-store-level-requires t c κs = ?
+forward-levels-store-level-requires t c κs = search needs
 
--- src/levels.rt:175:9
 forward-levels-same-length : (t : ℕ) → forward-levels-lts.Need-same-length (
   lift-level-reads.Asked,
   lift-level-reads.Learnt,
@@ -73,9 +75,8 @@ forward-levels-same-length : (t : ℕ) → forward-levels-lts.Need-same-length (
   forward-levels-below t,
   forward-levels.Post,
 ) (forward-levels-at t) forward-levels.Post
-forward-levels-same-length t c = ?
+forward-levels-same-length t c = search needs
 
--- src/levels.rt:175:9
 forward-levels-same-length-2 : (t : ℕ) → forward-levels-lts.Need-same-length-2 (
   lift-level-reads.Asked,
   lift-level-reads.Learnt,
@@ -88,9 +89,8 @@ forward-levels-same-length-2 : (t : ℕ) → forward-levels-lts.Need-same-length
   forward-levels-below t,
   forward-levels.Post,
 ) (forward-levels-at t) forward-levels.Post
-forward-levels-same-length-2 t c = ?
+forward-levels-same-length-2 t c = search needs
 
--- src/levels.rt:175:9
 forward-levels-returns : (t : ℕ) → forward-levels-lts.Need-returns (
   lift-level-reads.Asked,
   lift-level-reads.Learnt,
@@ -103,9 +103,12 @@ forward-levels-returns : (t : ℕ) → forward-levels-lts.Need-returns (
   forward-levels-below t,
   forward-levels.Post,
 ) (forward-levels-at t) forward-levels.Post
-forward-levels-returns t c = ?
+forward-levels-returns t c =
+    let store = c .before .before in
+    let lift = store .before .before .before .before in
+    let start = lift .before .before in
+    forward-end _ _ _ _ _ _ _ _ _ (start .pre .1 .1) (start .pre .1 .0 .apart) (lift .lift-level .ensures) (store .store-level .ensures) _ (start .pre .1 .2 .some) (c .if1 .taken)
 
--- src/levels.rt:177:5
 forward-levels-part-low-requires : (t : ℕ) → forward-levels-lts.Need-part-low-requires (
   lift-level-reads.Asked,
   lift-level-reads.Learnt,
@@ -118,9 +121,12 @@ forward-levels-part-low-requires : (t : ℕ) → forward-levels-lts.Need-part-lo
   forward-levels-below t,
   forward-levels.Post,
 ) (forward-levels-at t) forward-levels.Post
-forward-levels-part-low-requires t c κs = ?
+forward-levels-part-low-requires t c κs =
+    let store = c .before .before .before in
+    let lift = store .before .before .before .before in
+    let start = lift .before .before in
+    (rw (lift .lift-level .kept .0) (start .pre .1 .1), start .pre .1 .2 .narrow, omega (arith, stride-small _ _ _ (start .pre .1 .2)))
 
--- src/levels.rt:182:9
 forward-levels-mul-forward-levels : (t : ℕ) → forward-levels-lts.Need-mul-forward-levels (
   lift-level-reads.Asked,
   lift-level-reads.Learnt,
@@ -133,9 +139,11 @@ forward-levels-mul-forward-levels : (t : ℕ) → forward-levels-lts.Need-mul-fo
   forward-levels-below t,
   forward-levels.Post,
 ) (forward-levels-at t) forward-levels.Post
-forward-levels-mul-forward-levels t c = ?
+forward-levels-mul-forward-levels t c =
+    let store = c .before .before .before .before .before .before .before in
+    let start = store .before .before .before .before .before .before in
+    omega (arith, stride-small _ _ _ (start .pre .1 .2))
 
--- src/levels.rt:183:9
 forward-levels-half-requires : (t : ℕ) → forward-levels-lts.Need-half-requires (
   lift-level-reads.Asked,
   lift-level-reads.Learnt,
@@ -148,9 +156,8 @@ forward-levels-half-requires : (t : ℕ) → forward-levels-lts.Need-half-requir
   forward-levels-below t,
   forward-levels.Post,
 ) (forward-levels-at t) forward-levels.Post
-forward-levels-half-requires t c κs = ?
+forward-levels-half-requires t c κs = search needs
 
--- src/levels.rt:184:9
 forward-levels-half-requires-2 : (t : ℕ) → forward-levels-lts.Need-half-requires-2 (
   lift-level-reads.Asked,
   lift-level-reads.Learnt,
@@ -163,9 +170,8 @@ forward-levels-half-requires-2 : (t : ℕ) → forward-levels-lts.Need-half-requ
   forward-levels-below t,
   forward-levels.Post,
 ) (forward-levels-at t) forward-levels.Post
-forward-levels-half-requires-2 t c κs = ?
+forward-levels-half-requires-2 t c κs = search needs
 
--- src/levels.rt:185:9
 forward-levels-sub-forward-levels : (t : ℕ) → forward-levels-lts.Need-sub-forward-levels (
   lift-level-reads.Asked,
   lift-level-reads.Learnt,
@@ -178,9 +184,8 @@ forward-levels-sub-forward-levels : (t : ℕ) → forward-levels-lts.Need-sub-fo
   forward-levels-below t,
   forward-levels.Post,
 ) (forward-levels-at t) forward-levels.Post
-forward-levels-sub-forward-levels t c = ?
+forward-levels-sub-forward-levels t c = search needs
 
--- src/levels.rt:178:5
 forward-levels-forward-levels-requires : (t : ℕ) → forward-levels-lts.Need-forward-levels-requires (
   lift-level-reads.Asked,
   lift-level-reads.Learnt,
@@ -193,9 +198,20 @@ forward-levels-forward-levels-requires : (t : ℕ) → forward-levels-lts.Need-f
   forward-levels-below t,
   forward-levels.Post,
 ) (forward-levels-at t) forward-levels.Post
-forward-levels-forward-levels-requires t c κs = ?
+forward-levels-forward-levels-requires t c κs =
+    let part = c .before .before .before .before .before in
+    let store = part .before .before .before .before in
+    let lift = store .before .before .before .before in
+    let start = lift .before .before in
+    (
+      omega arith,
+      (
+        rows-corner _ _ _ _ _ _ _ (store .store-level .kept .1 .0) (c .before .half .ensures) (c .half2 .ensures) (start .pre .1 .0),
+        rows-next _ _ _ _ _ _ _ (part .part-low .kept .0 ∙ lift .lift-level .kept .0) (c .before .half .ensures) (c .half2 .ensures) (start .pre .1 .1),
+        doubled _ _ _ _ (start .pre .1 .2) (part .before .before .if1 .left) (c .before .half .ensures),
+      ),
+    )
 
--- src/levels.rt:159:1
 forward-levels-same-length-3 : (t : ℕ) → forward-levels-lts.Need-same-length-3 (
   lift-level-reads.Asked,
   lift-level-reads.Learnt,
@@ -208,9 +224,8 @@ forward-levels-same-length-3 : (t : ℕ) → forward-levels-lts.Need-same-length
   forward-levels-below t,
   forward-levels.Post,
 ) (forward-levels-at t) forward-levels.Post
-forward-levels-same-length-3 t c = ?
+forward-levels-same-length-3 t c = search needs
 
--- src/levels.rt:159:1
 forward-levels-same-length-4 : (t : ℕ) → forward-levels-lts.Need-same-length-4 (
   lift-level-reads.Asked,
   lift-level-reads.Learnt,
@@ -223,9 +238,8 @@ forward-levels-same-length-4 : (t : ℕ) → forward-levels-lts.Need-same-length
   forward-levels-below t,
   forward-levels.Post,
 ) (forward-levels-at t) forward-levels.Post
-forward-levels-same-length-4 t c = ?
+forward-levels-same-length-4 t c = search needs
 
--- src/levels.rt:159:1
 forward-levels-returns-2 : (t : ℕ) → forward-levels-lts.Need-returns-2 (
   lift-level-reads.Asked,
   lift-level-reads.Learnt,
@@ -238,7 +252,15 @@ forward-levels-returns-2 : (t : ℕ) → forward-levels-lts.Need-returns-2 (
   forward-levels-below t,
   forward-levels.Post,
 ) (forward-levels-at t) forward-levels.Post
-forward-levels-returns-2 t c = ?
+forward-levels-returns-2 t c =
+    let again = c .before .before in
+    let half2 = again .before in
+    let part = half2 .before .before .before .before .before in
+    let store = part .before .before .before .before in
+    let lift = store .before .before .before .before in
+    let start = lift .before .before in
+    forward-step _ _ _ _ _ _ _ _ _ (start .pre .1 .1) (start .pre .1 .0 .apart) (lift .lift-level .ensures) (store .store-level .ensures)
+    _ _ _ _ _ _ (part .before .before .if1 .left) (half2 .before .half .ensures) (half2 .half2 .ensures) (part .part-low .ensures) (again .forward-levels .ensures .0) (again .forward-levels .ensures .1)
 
 pub +forward-levels-spec : {M : Type 1} → statement M
 +forward-levels-spec = close μ-forward-levels λ t. forward-levels-lts.spec (

@@ -1,4 +1,5 @@
 -- `levels::copy_part` meets its contract: the part lent, copied and come back. Assumes nothing.
+use Prim.Native.Nat.{_+_, _-_}
 use native.Mathlib.Omega.{arith}
 use Rattle.whole_map.proofs.LevelCalls.{copied-part}
 use borrow.Author.Needs.{needs}
@@ -45,7 +46,7 @@ returns : tie.Need-returns
 returns c =
     let start = c .before .before .before .before in
     let a = start .args in
-    copied-part (a .a) (a .b) (a .n) _ _ (a .from .now) (a .to .now) _ (omega arith) (omega arith) (start .pre .0) (start .pre .1) (c .before .copy .kept .1 .0) (c .before .copy .ensures)
+    copied-part (a .a) (a .b) (a .n) (a .b + a .n - a .b) (a .a + a .n - a .a) (a .from .now) (a .to .now) (c .before .copy .last .1 .0) (omega arith) (omega arith) (start .pre .0) (start .pre .1) (c .before .copy .kept .1 .0) (c .before .copy .ensures)
 
 pub copy-part-spec : {M : Type 1} → statement M
 copy-part-spec =

@@ -1,41 +1,52 @@
+-- `levels::level_back` meets its contract: what its three calls give. Assumes nothing.
+use mathlib.Core.Path.{_≡_, ap, _∙_}
+use Prim.Native.Nat.{ℕ}
+use lib.IntN.{ℤ}
 use borrow.Author.Needs.{needs}
+use Rattle.numbers.proofs.Words.{read-back}
+use Rattle.numbers.specs.Signal.{at}
+use Rattle.wavelet.specs.Plane.{cells, flat}
+use Rattle.whole_map.specs.LevelPasses.{levelUnlifted, LevelBack}
+use Rattle.whole_map.proofs.LevelSteps.{between-by, range-is}
 use Rattle.whole_map.proofs.levels.level_back.Statement.{statement}
 use Rattle.whole_map.proofs.levels.level_back.Tie as tie
-use Rattle.whole_map.proofs.levels.level_back.Reads as reads
-use Rattle.whole_map.proofs.levels.level_back.Lts as lts
-use Rattle.wavelet.proofs.sizes.range_of.Reads as range-of-reads
-use Rattle.whole_map.proofs.levels.fetch_level.Reads as fetch-level-reads
-use Rattle.whole_map.proofs.levels.least.Reads as least-reads
-use Rattle.whole_map.proofs.levels.rows_between.Reads as rows-between-reads
-use Rattle.whole_map.proofs.levels.unlift_level.Reads as unlift-level-reads
 
--- src/levels.rt:248:5
 fetch-level-requires : tie.Need-fetch-level-requires
 fetch-level-requires c κs = search needs
 
--- src/levels.rt:249:5
 unlift-level-requires : tie.Need-unlift-level-requires
 unlift-level-requires c κs = search needs
 
--- src/levels.rt:257:9
 least-requires : tie.Need-least-requires
 least-requires c κs = search needs
 
--- src/levels.rt:258:9
 range-of-requires : tie.Need-range-of-requires
 range-of-requires c κs = search needs
 
--- src/levels.rt:250:5
 rows-between-requires : tie.Need-rows-between-requires
 rows-between-requires c κs = search needs
 
--- src/levels.rt:235:1
 same-length : tie.Need-same-length
 same-length c = search needs
 
--- src/levels.rt:235:1
 returns : tie.Need-returns
-returns c = ?
+returns c =
+    let high = c .before in
+    let low = c .before .before in
+    let unlift = low .before .before .before in
+    let fetch = unlift .before .before .before in
+    let start = fetch .before .before in
+    let a = start .args in
+    record {
+      lifted =
+          unlift .unlift-level .ensures
+          ∙ ap (λ (y : ℕ → ℤ). flat (a .stride) (levelUnlifted (a .width) (a .height) (cells (a .stride) y))) (fetch .fetch-level .ensures);
+      answer =
+          c .rows-between .ensures
+          ∙ between-by 0 (a .height) 0 (a .width) (cells (a .stride) (at (unlift .unlift-level .last .0)))
+          (read-back (low .least .result) (low .least .ok) ∙ low .least .ensures)
+          (read-back (high .range-of .result) (high .range-of .ok) ∙ high .range-of .ensures ∙ range-is (a .level) (start .pre .3));
+    }
 
 pub level-back-spec : {M : Type 1} → statement M
 level-back-spec =

@@ -1,27 +1,31 @@
+-- `levels::rows_in_range` meets its contract: the test of the rows, with the range of the level. Assumes nothing.
+use mathlib.Core.Path.{_∙_}
 use borrow.Author.Needs.{needs}
+use Rattle.numbers.specs.Signal.{at}
+use Rattle.wavelet.specs.Plane.{cells}
+use Rattle.numbers.proofs.Words.{read-back}
+use Rattle.whole_map.proofs.LevelSteps.{between-by, range-is}
 use Rattle.whole_map.proofs.levels.rows_in_range.Statement.{statement}
 use Rattle.whole_map.proofs.levels.rows_in_range.Tie as tie
-use Rattle.whole_map.proofs.levels.rows_in_range.Reads as reads
-use Rattle.whole_map.proofs.levels.rows_in_range.Lts as lts
-use Rattle.wavelet.proofs.sizes.range_of.Reads as range-of-reads
-use Rattle.whole_map.proofs.levels.lowest.Reads as lowest-reads
-use Rattle.whole_map.proofs.levels.rows_between.Reads as rows-between-reads
 
--- src/levels.rt:316:9
 lowest-requires : tie.Need-lowest-requires
 lowest-requires c κs = search needs
 
--- src/levels.rt:317:9
 range-of-requires : tie.Need-range-of-requires
 range-of-requires c κs = search needs
 
--- src/levels.rt:309:5
 rows-between-requires : tie.Need-rows-between-requires
 rows-between-requires c κs = search needs
 
--- src/levels.rt:297:1
 returns : tie.Need-returns
-returns c = ?
+returns c =
+    let a = c .before .before .before .args in
+    let low = c .before .before in
+    let high = c .before in
+    c .rows-between .ensures
+    ∙ between-by (a .first) (a .last) (a .from) (a .to) (cells (a .across) (at (a .plane .now)))
+    (read-back (low .lowest .result) (low .lowest .ok) ∙ low .lowest .ensures)
+    (read-back (high .range-of .result) (high .range-of .ok) ∙ high .range-of .ensures ∙ range-is (a .level) (low .before .pre .3))
 
 pub rows-in-range-spec : {M : Type 1} → statement M
 rows-in-range-spec =
