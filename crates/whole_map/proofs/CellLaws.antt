@@ -225,7 +225,7 @@ unlifted-out w h X r c e =
     ]
 
 -- ---- what stands past the rows stays
-past-rows : (s w h j : ℕ) → 0 < h → (h - 1) * s + w ≤ j → within w h (j / s) (j % s) ≡ false
+pub past-rows : (s w h j : ℕ) → 0 < h → (h - 1) * s + w ≤ j → within w h (j / s) (j % s) ≡ false
 past-rows s w h j some b =
     let k = div-add-mod' j s in
     by-within w h (j / s) (j % s) (λ rh cw. let m : j / s * s ≤ (h - 1) * s = mul-le-mul-right s (omega arith) in absurd (omega arith)) (λ e. e)

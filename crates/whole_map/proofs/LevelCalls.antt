@@ -116,10 +116,10 @@ copied-part a b n k k′ from to z e e′ fa fb size is =
     ∙ ap (λ (m : ℕ). spliced b m (at z) (at to)) e
     ∙ splice-same b n (at z) (windowed a n (at from)) (at to)
     (λ i h.
-        ap (λ (y : ℕ → ℤ). y i) is
-        ∙ front-at _ _ _ i (omega arith)
-        ∙ ap (λ (y : ℕ → ℤ). y i) (at-mid a k′ from)
-        ∙ ap (λ (m : ℕ). windowed a m (at from) i) e′)
+    ap (λ (y : ℕ → ℤ). y i) is
+    ∙ front-at _ _ _ i (omega arith)
+    ∙ ap (λ (y : ℕ → ℤ). y i) (at-mid a k′ from)
+    ∙ ap (λ (m : ℕ). windowed a m (at from) i) e′)
 
 -- ---- row i of an area: n numbers y put in from column `made` on, where the pass leaves those before and those past
 pub copy-turn : (s w made n i p : ℕ) (Y Z : Grid) (y x x′ : ℕ → ℤ) → w ≤ s → made + n ≡ w → p ≡ i * s + made → x′ ≡ spliced p n y x → ((c : ℕ) → c < n → y c ≡ Y i (made + c)) → ((c : ℕ) → c < made → Y i c ≡ Z i c) → ((c : ℕ) → w ≤ c → Y i c ≡ Z i c) → RowSwept s Y Z i x → RowSwept s Y Z (i + 1) x′
@@ -127,27 +127,27 @@ copy-turn s w made n i p Y Z y x x′ ws all e is new left past sw =
     let put : (j : ℕ) → x′ j ≡ spliced p n y x j = λ j. ap (λ (z : ℕ → ℤ). z j) is in
     store-row x′ sw
     (λ r c cs d.
-        put (r * s + c)
-        ∙ elim (decLt r i) [
-          | yes b ↦ let a = row-order s r i b in splice-below p n y x (r * s + c) (omega arith)
-          | no b ↦ let a = row-order s i r (omega arith) in splice-past p n y x (r * s + c) (omega arith)
-        ])
+    put (r * s + c)
+    ∙ elim (decLt r i) [
+      | yes b ↦ let a = row-order s r i b in splice-below p n y x (r * s + c) (omega arith)
+      | no b ↦ let a = row-order s i r (omega arith) in splice-past p n y x (r * s + c) (omega arith)
+    ])
     (λ c cs.
-        put (i * s + c)
-        ∙ elim (decLt c made) [
-          | yes b ↦ splice-below p n y x (i * s + c) (omega arith) ∙ sw .rest i c cs (omega arith) ∙ sym (left c b)
-          | no b ↦
-              elim (decLt c w) [
-                | yes q ↦
-                    let k : i * s + c - p ≡ c - made = omega arith in
-                    let m : made + (c - made) ≡ c = omega arith in
-                    splice-in p n y x (i * s + c) (omega arith) (omega arith)
-                    ∙ ap y k
-                    ∙ new (c - made) (omega arith)
-                    ∙ ap (Y i) m
-                | no q ↦ splice-past p n y x (i * s + c) (omega arith) ∙ sw .rest i c cs (omega arith) ∙ sym (past c (omega arith))
-              ]
-        ])
+    put (i * s + c)
+    ∙ elim (decLt c made) [
+      | yes b ↦ splice-below p n y x (i * s + c) (omega arith) ∙ sw .rest i c cs (omega arith) ∙ sym (left c b)
+      | no b ↦
+          elim (decLt c w) [
+            | yes q ↦
+                let k : i * s + c - p ≡ c - made = omega arith in
+                let m : made + (c - made) ≡ c = omega arith in
+                splice-in p n y x (i * s + c) (omega arith) (omega arith)
+                ∙ ap y k
+                ∙ new (c - made) (omega arith)
+                ∙ ap (Y i) m
+            | no q ↦ splice-past p n y x (i * s + c) (omega arith) ∙ sw .rest i c cs (omega arith) ∙ sym (past c (omega arith))
+          ]
+    ])
 
 outside-columns : (w h r c : ℕ) → w ≤ c → within w h r c ≡ false
 unfolding within
@@ -176,8 +176,8 @@ unfolding cells
 stored-turn s A w h i l x z₀ z z′ wa ih e is sw =
     copy-turn A w 0 w i (i * A) _ _ (windowed (l * s) w x) z z′ wa (omega arith) (omega arith) is
     (λ c cw.
-        let k : 0 + c ≡ c = omega arith in
-        rw k (window-in (l * s) w x c cw ∙ ap (λ (m : ℕ). x (m * s + c)) e ∙ sym (stored-in w h (cells s x) (cells A z₀) i c ih cw)))
+    let k : 0 + c ≡ c = omega arith in
+    rw k (window-in (l * s) w x c cw ∙ ap (λ (m : ℕ). x (m * s + c)) e ∙ sym (stored-in w h (cells s x) (cells A z₀) i c ih cw)))
     (λ c b. absurd (omega arith))
     (λ c b. stored-wide w h (cells s x) (cells A z₀) i c b)
     sw
@@ -217,11 +217,11 @@ unfolding cells
 fetched-turn s A from w h i l made z x₀ x x′ ws ih m few e is sw =
     copy-turn s w made (w - made) i (i * s + made) _ _ (windowed (l * A + made) (w - made) z) x x′ ws (omega arith) refl is
     (λ c cw.
-        let k : l * A + made + c ≡ l * A + (made + c) = omega arith in
-        window-in (l * A + made) (w - made) z c cw
-        ∙ ap z k
-        ∙ ap (λ (j : ℕ). z (j * A + (made + c))) e
-        ∙ sym (fetched-new from w h (cells A z) (cells s x₀) i (made + c) ih (omega arith) (omega arith)))
+    let k : l * A + made + c ≡ l * A + (made + c) = omega arith in
+    window-in (l * A + made) (w - made) z c cw
+    ∙ ap z k
+    ∙ ap (λ (j : ℕ). z (j * A + (made + c))) e
+    ∙ sym (fetched-new from w h (cells A z) (cells s x₀) i (made + c) ih (omega arith) (omega arith)))
     (λ c b. fetched-made from w h (cells A z) (cells s x₀) i c ih (omega arith) (omega arith))
     (λ c b. fetched-wide from w h (cells A z) (cells s x₀) i c b)
     sw
@@ -252,13 +252,13 @@ module _ (s first last from to : ℕ) (low high : ℤ) (l : List ℤ) where
       ∙ ap (λ (n : ℕ). every n (λ i. between low high (at (midOf a k l) i))) mid
       ∙ every-same (to - from) _ _
       (λ i ib.
-          let j : first + (r - first) ≡ r = omega arith in
-          let p : a + i ≡ r * s + (from + i) = omega arith in
-          ap (between low high)
-          (ap (λ (y : ℕ → ℤ). y i) (at-mid a k l)
-          ∙ window-in a k (at l) i (omega arith)
-          ∙ ap (at l) p
-          ∙ ap (λ (m : ℕ). at l (m * s + (from + i))) (sym j)))
+      let j : first + (r - first) ≡ r = omega arith in
+      let p : a + i ≡ r * s + (from + i) = omega arith in
+      ap (between low high)
+      (ap (λ (y : ℕ → ℤ). y i) (at-mid a k l)
+      ∙ window-in a k (at l) i (omega arith)
+      ∙ ap (at l) p
+      ∙ ap (λ (m : ℕ). at l (m * s + (from + i))) (sym j)))
 
   pub tested-start : first ≤ last → Tested first
   tested-start b = record { some = omega arith; most = b; all = each-every (first - first) rowTest (λ i h. absurd (omega arith)) }

@@ -21,7 +21,7 @@ use Rattle.whole_map.specs.Passes.{Rows, KeptFrom, rowsMapped, rowsStore
 use Rattle.whole_map.specs.LevelPasses.{levelGrid, levelLifted, levelUnlifted, planeWritten, Rebuilt, leastFit, rowsBetween, regionInRange, Doubling, LevelBack, LevelsBack}
 use Rattle.whole_map.proofs.CellLaws.{mapped-out, fetched-out, lifted-out, unlifted-out, kept-flat, kept-then, next-end, next-rows, fewer-rows, fewer-columns}
 use Rattle.whole_map.proofs.LevelsMath.{forward-last, forward-more, back-last, back-more}
-use Rattle.whole_map.proofs.TestLaws.{rebuilt-fits, fits-more, fits-last, region-more, region-last}
+use Rattle.whole_map.proofs.TestLaws.{rebuilt-test, fits-more, fits-last, region-more, region-last}
 
 -- ---- sizes
 pub stride-small : (L s w : ℕ) → Doubling L s w → 2 * s ≤ 65568
@@ -70,9 +70,8 @@ module _ (n s A w h : ℕ) (x₀ z₀ x₁ z₁ : ℕ → ℤ) (R : Rows n s w h
       let f : z₂ ≡ flat A (planeWritten (L - 1) (count lo w) (count lo h) (levelGrid (count lo w) (cells (2 * s) x₂)) (cells A z₁)) = rw (ew, eh) at f₂ in
       let k : KeptFrom ((count lo h - 1) * (2 * s) + count lo w) x₂ x₃ = rw (ew, eh) at k₂ in
       let part : KeptFrom ((count lo h - 1) * (2 * s) + count lo w) x₁ x₂ =
-        kept-flat n (2 * s) (count lo w) (count lo h) x₁ x₂ _ (next-rows n s w h R) e₂
-        (λ r c o. mapped-out (count lo w) (count lo h) (cells (2 * s) x₁) r c o (partedInPlace (count lo w))) in
-      (
+      kept-flat n (2 * s) (count lo w) (count lo h) x₁ x₂ _ (next-rows n s w h R) e₂
+      (λ r c o. mapped-out (count lo w) (count lo h) (cells (2 * s) x₁) r c o (partedInPlace (count lo w))) in (
         forward-more s A w h x₀ z₀ x₁ z₁ (R .wide) some e₁ f₁ x₂ e₂ L z₂ b f,
         kept-then lift-kept (kept-then part k (omega arith)) end,
       )
@@ -90,7 +89,7 @@ module _ (n s A w h k from : ℕ) (ok : Bool) (z y₀ y : ℕ → ℤ) (R : Rows
       (omega arith)
 
   back-answer : (L : ℕ) → Rebuilt L w h (cells A z) (cells s y) → ok ≡ everyCell w h (λ r c. valueFits k (mapBack wrap32 L w h (cells A z) r c))
-  back-answer L B = b .answer ∙ rebuilt-fits k L w h (cells A z) (cells s y) B
+  back-answer L B = b .answer ∙ rebuilt-test k L w h (cells A z) (cells s y) B
 
 pub back-end : (n s A w h k L : ℕ) (ok : Bool) (z y₀ y : ℕ → ℤ) → Rows n s w h → 0 < L → L < 2 → LevelBack ok k 0 s A w h z y₀ y → LevelsBack ok k L s A w h z y₀ y
 back-end n s A w h k L ok z y₀ y R a c b =
@@ -126,8 +125,8 @@ back-step n s A w h k L w′ h′ done ok z y₀ y₁ y₂ y R a ew eh it b e₂
     let inner = b′ .answer in
     let B : Rebuilt L w h (cells A z) (cells s y) = back-more s w h (cells A z) y₁ y₂ _ y L (R .wide) a (b′ .grid refl) e₂ refl (c′ .lifted) in
     let woven : KeptFrom ((count lo h - 1) * (2 * s) + count lo w) y₁ y₂ =
-      kept-flat n (2 * s) (count lo w) (count lo h) y₁ y₂ _ (next-rows n s w h R) e₂
-      (λ r c o. mapped-out (count lo w) (count lo h) (cells (2 * s) y₁) r c o (wovenInPlace (count lo w))) in
+    kept-flat n (2 * s) (count lo w) (count lo h) y₁ y₂ _ (next-rows n s w h R) e₂
+    (λ r c o. mapped-out (count lo w) (count lo h) (cells (2 * s) y₁) r c o (wovenInPlace (count lo w))) in
     let first : KeptFrom ((h - 1) * s + w) y₀ y₂ = record { kept = λ j g. woven .kept j (omega arith) ∙ b′ .kept .kept j (omega arith) } in
     record {
       answer = back-answer n s A w h k (count lo w) ok z y₂ y R c′ L B ∙ sym (fits-more k L w h (cells A z) (omega arith) ∙ rw (← inner));

@@ -10,3 +10,4 @@ pub mod LevelsMath
 pub mod TestLaws
 pub mod LevelCalls
 pub mod LevelSteps
+pub mod CallLaws

@@ -69,9 +69,9 @@ between-fits zero v = refl
 between-fits (suc k) v = between-is (range (suc k)) v
 
 -- ---- question 14: the numbers of a rebuilt level, in halves, are the grid's
-pub rebuilt-fits : (k L w h : ℕ) (x X : Grid) → Rebuilt L w h x X → rowsBetween 0 h 0 w (leastFit k) (pos (range k)) X ≡ everyCell w h (λ r c. valueFits k (mapBack wrap32 L w h x r c))
+pub rebuilt-test : (k L w h : ℕ) (x X : Grid) → Rebuilt L w h x X → rowsBetween 0 h 0 w (leastFit k) (pos (range k)) X ≡ everyCell w h (λ r c. valueFits k (mapBack wrap32 L w h x r c))
 unfolding rowsBetween everyCell
-rebuilt-fits k L w h x X R =
+rebuilt-test k L w h x X R =
     let kw : w - 0 ≡ w = omega arith in
     let kh : h - 0 ≡ h = omega arith in
     rw (kw, kh)

@@ -3,6 +3,7 @@ mod heights;
 mod levels;
 mod passes;
 mod rowwise;
+
 use wavelet::limits;
 ghost use mathlib.Core.Path.{_≡_};
 ghost use mathlib.Core.Bool.{Bool, true, false};

@@ -1,77 +1,100 @@
+-- `restore` meets its contract: the two questions of the plane, and what each answer leaves. Assumes nothing.
+use mathlib.Core.Path.{_≡_, refl, sym, _∙_}
+use native.Mathlib.Omega.{arith}
+use borrow.Author.Tests.{not-true, not-false}
+use Rattle.whole_map.proofs.CallLaws.{map-rows, map-doubling, cleared, rebuilt-no, rebuilt-yes, rebuilt-zero, out-of-range, not-rebuilt, all-rebuilt, map-returned, rows-fit}
 use borrow.Author.Needs.{needs}
 use Rattle.whole_map.proofs.restore.Statement.{statement}
 use Rattle.whole_map.proofs.restore.Tie as tie
-use Rattle.whole_map.proofs.restore.Reads as reads
-use Rattle.whole_map.proofs.restore.Lts as lts
-use Rattle.whole_map.proofs.heights.clear_heights.Reads as clear-heights-reads
-use Rattle.whole_map.proofs.heights.store_rows.Reads as store-rows-reads
-use Rattle.whole_map.proofs.levels.back_levels.Reads as back-levels-reads
-use Rattle.whole_map.proofs.levels.in_range.Reads as in-range-reads
-use Rattle.whole_map.proofs.rowwise.clear.Reads as clear-reads
 
--- src/lib.rt:100:9
 in-range-requires : tie.Need-in-range-requires
-in-range-requires c κs = ?
+in-range-requires c κs =
+    let start = c .before in
+    let s = start .pre .0 in
+    (map-rows _ _ _ _ s (start .pre .1), s .levels .0, omega arith, omega (arith, s .levels .1))
 
--- src/lib.rt:101:9
 returns : tie.Need-returns
-returns c = ?
+returns c = (
+  out-of-range _ _ _ _ _ (c .before .in-range .ensures) (not-true _ (c .if1 .taken)),
+  (rebuilt-no _ _ _ 7 (omega arith) (omega arith), rebuilt-no _ _ _ 7 (omega arith) (omega arith)),
+)
 
--- src/lib.rt:103:9
 back-levels-requires : tie.Need-back-levels-requires
-back-levels-requires c κs = ?
+back-levels-requires c κs =
+    let start = c .before .before .before .before in
+    let s = start .pre .0 in
+    (map-rows _ _ _ _ s (start .pre .1), map-rows _ _ _ _ s (start .pre .3), map-doubling _ _ _ s, omega (arith, s .levels .1))
 
--- src/lib.rt:104:41
 mul-clear-heights : tie.Need-mul-clear-heights
 mul-clear-heights c = search needs
 
--- src/lib.rt:104:9
 clear-heights-requires : tie.Need-clear-heights-requires
 clear-heights-requires c κs = search needs
 
--- src/lib.rt:105:30
 mul-clear : tie.Need-mul-clear
 mul-clear c = search needs
 
--- src/lib.rt:105:9
 clear-requires : tie.Need-clear-requires
 clear-requires c κs = search needs
 
--- src/lib.rt:106:9
 same-length : tie.Need-same-length
 same-length c = search needs
 
--- src/lib.rt:106:9
 same-length-2 : tie.Need-same-length-2
 same-length-2 c = search needs
 
--- src/lib.rt:106:9
 returns-2 : tie.Need-returns-2
-returns-2 c = ?
+returns-2 c =
+    let heights = c .before .before .before .before .before in
+    let back = heights .before .before .before .before in
+    let range = back .before .before .before in
+    let start = range .before .before in (
+      not-rebuilt _ _ _ _ _ (range .in-range .ensures) (not-false _ (back .before .before .if1 .left)) _ (back .back-levels .ensures .answer) (not-true _ (heights .before .before .if2 .taken)),
+      (
+        heights .clear-heights .ensures ∙ sym (rebuilt-zero _ _ _),
+        cleared _ _ _ _ _ (start .pre .0 .height .0) (back .back-levels .ensures .kept) (c .before .clear .ensures) ∙ sym (rebuilt-zero _ _ _),
+      ),
+    )
 
--- src/lib.rt:108:5
 store-rows-requires : tie.Need-store-rows-requires
-store-rows-requires c κs = ?
+store-rows-requires c κs =
+    let back = c .before .before .before .before in
+    let start = back .before .before .before .before .before in
+    let s = start .pre .0 in
+    let t = not-false _ (c .before .before .if2 .left) in
+    let b = back .back-levels .ensures in (
+      rw (back .back-levels .kept .1 .0) (map-rows _ _ _ _ s (start .pre .3)),
+      map-rows _ _ _ _ s (start .pre .2),
+      rows-fit _ _ _ _ _ s (b .grid t) (sym (b .answer) ∙ t),
+    )
 
--- src/lib.rt:109:26
 mul-clear-2 : tie.Need-mul-clear-2
 mul-clear-2 c = search needs
 
--- src/lib.rt:109:5
 clear-requires-2 : tie.Need-clear-requires-2
 clear-requires-2 c κs = search needs
 
--- src/lib.rt:87:1
 same-length-3 : tie.Need-same-length-3
 same-length-3 c = search needs
 
--- src/lib.rt:87:1
 same-length-4 : tie.Need-same-length-4
 same-length-4 c = search needs
 
--- src/lib.rt:87:1
 returns-3 : tie.Need-returns-3
-returns-3 c = ?
+returns-3 c =
+    let store = c .before .before .before .before .before in
+    let back = store .before .before .before .before .before in
+    let range = back .before .before .before in
+    let start = range .before .before in
+    let s = start .pre .0 in
+    let t = not-false _ (store .before .before .before .if2 .left) in
+    let b = back .back-levels .ensures in (
+      all-rebuilt _ _ _ _ _ (range .in-range .ensures) (not-false _ (back .before .before .if1 .left)) _ (b .answer) t,
+      (
+        map-returned _ _ _ _ _ s (b .grid t) _ _ (store .store-rows .ensures) ∙ sym (rebuilt-yes _ _ _),
+        cleared _ _ _ _ _ (s .height .0) (b .kept) (c .before .clear2 .ensures) ∙ sym (rebuilt-yes _ _ _),
+      ),
+    )
 
 pub restore-spec : {M : Type 1} → statement M
 restore-spec =

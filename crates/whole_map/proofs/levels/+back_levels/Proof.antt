@@ -138,8 +138,7 @@ back-levels-back-levels-requires : (t : ℕ) → back-levels-lts.Need-back-level
 ) (back-levels-at t) back-levels.Post
 back-levels-back-levels-requires t c κs =
     let half = c .before .before in
-    let start = half .before .before in
-    (
+    let start = half .before .before in (
       omega arith,
       (
         rows-corner _ _ _ _ _ _ _ refl (half .half .ensures) (c .half2 .ensures) (start .pre .1 .0),

@@ -202,8 +202,7 @@ forward-levels-forward-levels-requires t c κs =
     let part = c .before .before .before .before .before in
     let store = part .before .before .before .before in
     let lift = store .before .before .before .before in
-    let start = lift .before .before in
-    (
+    let start = lift .before .before in (
       omega arith,
       (
         rows-corner _ _ _ _ _ _ _ (store .store-level .kept .1 .0) (c .before .half .ensures) (c .half2 .ensures) (start .pre .1 .0),

@@ -98,8 +98,7 @@ in-range-in-range-requires : (t : ℕ) → in-range-lts.Need-in-range-requires (
   in-range.Post,
 ) (in-range-at t) in-range.Post
 in-range-in-range-requires t c κs =
-    let start = c .before .before .before in
-    (
+    let start = c .before .before .before in (
       omega arith,
       (
         rows-corner _ _ _ _ _ _ _ refl (c .before .half .ensures) (c .half2 .ensures) (start .pre .1 .0),
@@ -135,8 +134,7 @@ in-range-rows-in-range-requires-2 t c κs =
     let half2 = c .before .before in
     let start = half2 .before .before .before in
     let lw = count-lo (start .args .width) in
-    let lh = count-lo (start .args .height) in
-    (
+    let lh = count-lo (start .args .height) in (
       fewer-rows _ _ _ _ _ (start .pre .1 .0) (omega (arith, start .pre .1 .0 .some)) (omega arith),
       omega arith,
       omega arith,

@@ -78,8 +78,7 @@ loop-again c =
     let made = row .before in
     let head = made .before .before in
     let inv = head .loop .inv in
-    let f = few row in
-    (
+    let f = few row in (
       omega arith,
       copy .copy-part .kept .1 .1 .0 ∙ inv .1,
       inv .2,

@@ -90,13 +90,12 @@ loop-again c =
     let inv = head .loop .inv in
     let test = c .before .before .before in
     let p = head .loop .r * a .stride + a .from in
-    let n = head .loop .r * a .stride + a .to - p in
-    (
+    let n = head .loop .r * a .stride + a .to - p in (
       inv .0,
       inv .1,
       tested-turn (a .stride) (a .first) (a .last) (a .from) (a .to) _ _ (a .area .now) (head .loop .r) (test .loop-test .taken)
-      (sym (row-test (a .stride) (a .first) (a .last) (a .from) (a .to) _ _ (a .area .now) (head .loop .r) p n (c .before .all-between .result) (inv .2 .some) refl (omega (arith, room test)) (omega (arith, room test)) (c .before .all-between .ensures)) ∙ not-false _ (c .if1 .left))
-      (inv .2),
+          (sym (row-test (a .stride) (a .first) (a .last) (a .from) (a .to) _ _ (a .area .now) (head .loop .r) p n (c .before .all-between .result) (inv .2 .some) refl (omega (arith, room test)) (omega (arith, room test)) (c .before .all-between .ensures)) ∙ not-false _ (c .if1 .left))
+          (inv .2),
     )
 
 returns-2 : tie.Need-returns-2 Inv-loop μ-loop

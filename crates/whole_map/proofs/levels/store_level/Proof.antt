@@ -38,8 +38,7 @@ mul-copy-part c = let head = c .before .before .before in omega (arith, row-room
 copy-part-requires : tie.Need-copy-part-requires Inv-loop μ-loop
 copy-part-requires c κs =
     let head = c .before .before .before in
-    let inv = head .loop .inv in
-    (
+    let inv = head .loop .inv in (
       row-room _ _ _ _ _ (inv .2) (c .before .level-row .ensures .1),
       omega (arith, row-room _ _ _ _ _ (inv .3) (c .before .before .loop-test .taken)),
     )
@@ -55,8 +54,7 @@ loop-again c =
     let copy = c .before in
     let row = copy .before .before in
     let head = row .before .before in
-    let inv = head .loop .inv in
-    (
+    let inv = head .loop .inv in (
       omega arith,
       copy .copy-part .kept .1 .1 .0 ∙ inv .1,
       inv .2,
