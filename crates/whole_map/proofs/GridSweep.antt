@@ -104,16 +104,26 @@ pub record Passed (s w h : ℕ) (Y : Grid) (l₀ : List ℤ) (k : ℕ) (l : List
 pub pass-start : (s w h : ℕ) (Y : Grid) (l₀ : List ℤ) (k : ℕ) → Rows (length l₀) s w h → ((r c : ℕ) → r < k → Y r c ≡ cells s (at l₀) r c) → Passed s w h Y l₀ k l₀
 pass-start s w h Y l₀ k g e = record { rows = g; few = few (length l₀) s w h g; size = refl; swept = start s Y k (at l₀) e }
 
+-- row k lies in the area
+pub pass-room : {s w h : ℕ} {Y : Grid} {l₀ : List ℤ} {k : ℕ} {l : List ℤ} → Passed s w h Y l₀ k l → k < h → k * s + w ≤ length l
+pass-room {s} {w} {h} {l₀ = l₀} {k = k} p lt = let room = row-room (length l₀) s w h k (p .rows) lt in omega (arith, p .size)
+
 pub pass-end : {s w h : ℕ} {Y : Grid} {l₀ : List ℤ} {k : ℕ} {l : List ℤ} → Passed s w h Y l₀ k l → ((r c : ℕ) → k ≤ r → Y r c ≡ cells s (at l₀) r c) → at l ≡ flat s Y
 pass-end p e = finish (p .rows .apart) (p .swept) e
 
--- row i lent as a part of k numbers, which are its w, and come back as z
+-- row i, lent as a part of k numbers, which are its w: its length
+pub row-length : (s w h : ℕ) (Y : Grid) (l₀ : List ℤ) (i k : ℕ) (l : List ℤ) → k ≡ w → i < h → Passed s w h Y l₀ i l → length (midOf (i * s) k l) ≡ w
+row-length s w h Y l₀ i k l e lt p =
+    let room = row-room (length l₀) s w h i (p .rows) lt in
+    length-mid (i * s) k l (omega (arith, p .size)) ∙ e
+
+-- and come back as z
 pub part-turn : (s w h : ℕ) (Y : Grid) (l₀ : List ℤ) (i k : ℕ) (l z : List ℤ) → k ≡ w → i < h → length z ≡ length (midOf (i * s) k l) → ((c : ℕ) → c < w → at z c ≡ Y i c) → ((c : ℕ) → w ≤ c → Y i c ≡ cells s (at l₀) i c) → Passed s w h Y l₀ i l → Passed s w h Y l₀ (i + 1) (putMid (i * s) k l z)
 part-turn s w h Y l₀ i k l z e lt ez here beside p =
     let room = row-room (length l₀) s w h i (p .rows) lt in
     let wide = p .rows .wide in
     let size = p .size in
-    let mid = length-mid (i * s) k l (omega arith) in
+    let mid = row-length s w h Y l₀ i k l e lt p in
     let put : (j : ℕ) → at (putMid (i * s) k l z) j ≡ spliced (i * s) w (at z) (at l) j =
       λ j. ap (λ (f : ℕ → ℤ). f j) (at-put (i * s) k l z (omega arith) (omega arith)) ∙ ap (λ (m : ℕ). spliced (i * s) m (at z) (at l) j) e in
     record {
@@ -154,8 +164,7 @@ module _ (F : (ℕ → ℤ) → ℕ → ℤ) (w h : ℕ) (X : Grid) (r c : ℕ) 
 pub map-turn : (G : ℕ → (ℕ → ℤ) → ℕ → ℤ) (s w h : ℕ) (l₀ : List ℤ) (i k : ℕ) (l z : List ℤ) → k ≡ w → i < h → length z ≡ length (midOf (i * s) k l) → at z ≡ G (length (midOf (i * s) k l)) (at (midOf (i * s) k l)) → Passed s w h (rowsMapped (G w) w h (cells s (at l₀))) l₀ i l → Passed s w h (rowsMapped (G w) w h (cells s (at l₀))) l₀ (i + 1) (putMid (i * s) k l z)
 map-turn G s w h l₀ i k l z e lt ez is p =
     let X = cells s (at l₀) in
-    let room = row-room (length l₀) s w h i (p .rows) lt in
-    let mid : length (midOf (i * s) k l) ≡ w = length-mid (i * s) k l (omega (arith, p .size)) ∙ e in
+    let mid = row-length s w h _ l₀ i k l e lt p in
     let is′ : at z ≡ G w (cut w (X i)) = cc (is, mid, lent-row s w h _ l₀ i k l e p) in
     part-turn s w h _ l₀ i k l z e lt ez
     (λ c q. ap (λ (f : ℕ → ℤ). f c) is′ ∙ sym (mapped-in (G w) w h X i c lt q))
