@@ -7,6 +7,7 @@
 use mathlib.Core.Path.{_≡_, refl, sym, ap, _∙_, subst, fun-ext}
 use mathlib.Core.Logic.{_≢_}
 use mathlib.Core.List.{List}
+use mathlib.Core.Bool.{true, false}
 use Prim.Native.Nat.{ℕ, _+_, _-_, _*_, _/_, _%_, _≤_, _<_}
 use native.Mathlib.Nat.{mul-le-mul-right, mul-le-mul-left, div-add-mod', mod-lt}
 use native.Mathlib.Decide.{decLt, ℕ-discrete}
@@ -30,6 +31,20 @@ row-room n s w h r g lt = let m : r * s ≤ (h - 1) * s = mul-le-mul-right s (om
 
 pub few : (n s w h : ℕ) → Rows n s w h → h ≤ n + 1
 few n s w h g = let m : (h - 1) * 1 ≤ (h - 1) * s = mul-le-mul-left (h - 1) (g .apart) in omega (arith, g .room)
+
+-- a cell among the rows, below them, and beside them
+module _ (w h r c : ℕ) where
+  pub within-in : r < h → c < w → within w h r c ≡ true
+  unfolding within
+  within-in p q = simp (lt-ltb r h p, lt-ltb c w q)
+
+  pub within-past : h ≤ r → within w h r c ≡ false
+  unfolding within
+  within-past p = simp (le-ltb r h p)
+
+  pub within-wide : w ≤ c → within w h r c ≡ false
+  unfolding within
+  within-wide q = elim (decLt r h) [ yes p ↦ simp (lt-ltb r h p, le-ltb c w q) | no d ↦ within-past (omega arith) ]
 
 -- y in the place of row i: any other row, the row, and the columns after it
 module _ (s w i : ℕ) (y x : ℕ → ℤ) (wide : w ≤ s) where
@@ -148,25 +163,17 @@ lent-row s w h Y l₀ i k l e p =
     at-mid (i * s) k l ∙ rw e (window-cut (i * s) w (at l) (cells s (at l₀) i) (λ c q. p .swept .rest i c (omega arith) (omega arith)))
 
 -- ---- each row changed by itself
-module _ (F : (ℕ → ℤ) → ℕ → ℤ) (w h : ℕ) (X : Grid) (r c : ℕ) where
-  pub mapped-in : r < h → c < w → rowsMapped F w h X r c ≡ F (cut w (X r)) c
-  unfolding rowsMapped within
-  mapped-in p q = simp (lt-ltb r h p, lt-ltb c w q)
-
-  pub mapped-past : h ≤ r → rowsMapped F w h X r c ≡ X r c
-  unfolding rowsMapped within
-  mapped-past p = simp (le-ltb r h p)
-
-  pub mapped-wide : w ≤ c → rowsMapped F w h X r c ≡ X r c
-  unfolding rowsMapped within
-  mapped-wide q = elim (decLt r h) [ yes p ↦ simp (lt-ltb r h p, le-ltb c w q) | no d ↦ mapped-past (omega arith) ]
+pub mapped-past : (F : (ℕ → ℤ) → ℕ → ℤ) (w h : ℕ) (X : Grid) (r c : ℕ) → h ≤ r → rowsMapped F w h X r c ≡ X r c
+unfolding rowsMapped
+mapped-past F w h X r c p = simp (within-past w h r c p)
 
 pub map-turn : (G : ℕ → (ℕ → ℤ) → ℕ → ℤ) (s w h : ℕ) (l₀ : List ℤ) (i k : ℕ) (l z : List ℤ) → k ≡ w → i < h → length z ≡ length (midOf (i * s) k l) → at z ≡ G (length (midOf (i * s) k l)) (at (midOf (i * s) k l)) → Passed s w h (rowsMapped (G w) w h (cells s (at l₀))) l₀ i l → Passed s w h (rowsMapped (G w) w h (cells s (at l₀))) l₀ (i + 1) (putMid (i * s) k l z)
+unfolding rowsMapped
 map-turn G s w h l₀ i k l z e lt ez is p =
     let X = cells s (at l₀) in
     let mid = row-length s w h _ l₀ i k l e lt p in
     let is′ : at z ≡ G w (cut w (X i)) = cc (is, mid, lent-row s w h _ l₀ i k l e p) in
     part-turn s w h _ l₀ i k l z e lt ez
-    (λ c q. ap (λ (f : ℕ → ℤ). f c) is′ ∙ sym (mapped-in (G w) w h X i c lt q))
-    (λ c q. mapped-wide (G w) w h X i c q)
+    (λ c q. ap (λ (f : ℕ → ℤ). f c) is′ ∙ simp (within-in w h i c lt q))
+    (λ c q. simp (within-wide w h i c q))
     p

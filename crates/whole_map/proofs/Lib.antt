@@ -2,3 +2,4 @@ pub mod RowwiseLaws
 pub mod HeightLaws
 pub mod GridSweep
 pub mod ColumnPass
+pub mod HeightRows
