@@ -1,5 +1,5 @@
 -- The laws of the passes from one area to another: what each leaves at a place, a turn of its loop, and what the passes come to together. Assumes nothing.
-use mathlib.Core.Path.{_≡_, refl, sym, ap, _∙_, subst}
+use mathlib.Core.Path.{_≡_, sym, ap, _∙_, subst}
 use mathlib.Core.List.{List}
 use Prim.Native.Nat.{ℕ, _+_, _-_, _*_, _/_, _%_, _≤_, _<_, min}
 use native.Mathlib.Decide.{decLt, ℕ-discrete}
@@ -11,10 +11,10 @@ use Rattle.numbers.specs.Signal.{at, windowed, spliced}
 use Rattle.numbers.specs.Word.{wrap32}
 use Rattle.numbers.proofs.Sweep.{Swept, store, store2, left}
 use Rattle.numbers.proofs.Parts.{window-in, splice-in, splice-past}
-use Rattle.lifting.specs.Line.{lo, hi, count, parted, joined, backEven, lineForward, lineHalvesBack, lineBack}
+use Rattle.lifting.specs.Line.{lo, hi, count, unupdated, joined, backEven, lineForward, lineHalvesBack, lineBack}
 use Rattle.lifting.specs.Halves.{halvesOf, liftedInPlace, forwardInto, backwardInto}
 use Rattle.lifting.specs.Passes.{evensCopied, oddsCopied, evenBack, evensBack, oddBack, oddsBack}
-use Rattle.lifting.proofs.LineLaws.{counts, count-lo, count-hi, joined-even, joined-odd, odd-is, high-same, low-same, halves-low, halves-high, halves-are, front-are}
+use Rattle.lifting.proofs.LineLaws.{counts, count-lo, count-hi, joined-even, joined-odd, even-is, even-one, odd-is, high-same, low-same, halves-low, halves-high, halves-are, front-are}
 
 -- ---- a line copied into its halves
 module _ (N : ℕ) (x z : ℕ → ℤ) where
@@ -70,9 +70,9 @@ module _ (N : ℕ) (x z : ℕ → ℤ) where
       let c = count-hi N in
       let p = halvesOf N lent in
       let even : (n : ℕ) → n < count lo N → joined p (2 * n) ≡ x (2 * n) =
-        λ n g. joined-even p n ∙ lent-in n (omega arith) ∙ odds-low N x (evensCopied N x z) n g ∙ evens-in N x z n g in
+      λ n g. joined-even p n ∙ lent-in n (omega arith) ∙ odds-low N x (evensCopied N x z) n g ∙ evens-in N x z n g in
       let odd : (n : ℕ) → n < count hi N → joined p (2 * n + 1) ≡ x (2 * n + 1) =
-        λ n g. joined-odd p n ∙ lent-in (count lo N + n) (omega arith) ∙ odds-high N x (evensCopied N x z) n g in
+      λ n g. joined-odd p n ∙ lent-in (count lo N + n) (omega arith) ∙ odds-high N x (evensCopied N x z) n g in
       elim (ℕ-discrete (i % 2) 0) [
         | yes e ↦ let k : 2 * (i / 2) ≡ i = omega arith in sym (rw k at (even (i / 2) (omega arith)))
         | no d ↦ let k : 2 * (i / 2) + 1 ≡ i = omega arith in sym (rw k at (odd (i / 2) (omega arith)))
@@ -86,12 +86,21 @@ module _ (N : ℕ) (x z : ℕ → ℤ) where
       halves-are N _ z _
       (λ n h. low-same wrap32 N x _ copied-line n h ∙ sym (back-in n (omega arith) ∙ halves-low N p lent n h))
       (λ n h.
-          let k : count lo N + n - count lo N ≡ n = omega arith in
-          high-same wrap32 N x _ copied-line n h
-          ∙ sym (back-in (count lo N + n) (omega arith) ∙ halves-high N p lent (count lo N + n) (omega arith) (omega arith) ∙ ap (p hi) k))
+      let k : count lo N + n - count lo N ≡ n = omega arith in
+      high-same wrap32 N x _ copied-line n h
+      ∙ sym (back-in (count lo N + n) (omega arith) ∙ halves-high N p lent (count lo N + n) (omega arith) (omega arith) ∙ ap (p hi) k))
       (λ j h. sym (splice-past 0 N (liftedInPlace N lent) copied j (omega arith) ∙ odds-past N x (evensCopied N x z) j h ∙ evens-past N x z j (omega arith)))
 
 -- ---- a line made of its coefficients
+module _ (N : ℕ) (y : ℕ → ℤ) (n : ℕ) where
+  pub evenBack-is : (a b : ℕ) → 1 < N → n < count lo N → a ≡ count lo N + (n - 1) → b ≡ count lo N + min n (count hi N - 1) → evenBack N y n ≡ unupdated wrap32 (y n) (y a) (y b)
+  unfolding evenBack lineHalvesBack halvesOf
+  evenBack-is a b g h ea eb = rw (ea, eb) (even-is wrap32 N g (halvesOf N y lo) (halvesOf N y hi) n h)
+
+  pub evenBack-one : N ≤ 1 → evenBack N y n ≡ y n
+  unfolding evenBack lineHalvesBack halvesOf
+  evenBack-one g = even-one wrap32 N g (halvesOf N y lo) (halvesOf N y hi) n
+
 module _ (N : ℕ) (y z : ℕ → ℤ) where
   pub evensBack-even : (n : ℕ) → n < count lo N → evensBack N y z (2 * n) ≡ evenBack N y n
   unfolding evensBack
@@ -126,6 +135,9 @@ module _ (N : ℕ) (y z : ℕ → ℤ) where
         | yes p ↦ simp (lt-ltb (2 * n) N p, eq-eqb (2 * n % 2) 0 (omega arith))
         | no d ↦ simp (le-ltb (2 * n) N (omega arith))
       ]
+
+  pub oddsBack-first : (i : ℕ) → i < 1 → oddsBack N y z i ≡ z i
+  oddsBack-first i h = let k : i ≡ 2 * 0 = omega arith in rw k (oddsBack-even 0)
 
   pub oddsBack-past : (i : ℕ) → N ≤ i → oddsBack N y z i ≡ z i
   unfolding oddsBack

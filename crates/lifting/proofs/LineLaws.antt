@@ -6,8 +6,8 @@ use native.Mathlib.Omega.{arith}
 use lib.IntN.{ℤ, pos, natAbs, _-ℤ_}
 use borrow.Author.Tests.{lt-ltb, le-ltb, eq-eqb, ne-eqb}
 use Rattle.numbers.proofs.Integers.{dif, dif-natAbs}
-use Rattle.lifting.specs.Line.{Half, lo, hi, count, mirror, predicted, updated, unpredicted, unupdated, high, highAt, low, backEven, backOdd, parted, joined, lineForward, lineHalvesBack, lineBack}
-use Rattle.lifting.specs.Halves.{halvesOf, inHalves, fronted}
+use Rattle.lifting.specs.Line.{Half, lo, hi, count, mirror, predicted, updated, unpredicted, unupdated, high, highAt, low, backEven, backOdd, parted, joined}
+use Rattle.lifting.specs.Halves.{inHalves, fronted}
 
 -- ---- counts and mirrored places
 pub counts : (N : ℕ) → count lo N + count hi N ≡ N
@@ -40,6 +40,19 @@ pub mirror-here : (N n : ℕ) → 1 < N → n < count lo N → mirror N (pos (2 
 unfolding mirror count
 mirror-here N n g h = omega arith
 
+-- the same of the halves: the neighbours of a number are the nearest two of the other half
+pub mirror-next : (N n : ℕ) → 1 < N → n < count hi N → mirror N (pos (2 * n + 2)) / 2 ≡ min (n + 1) (count lo N - 1)
+mirror-next N n g h = omega (arith, mirror-after N n g h)
+
+module _ (N : ℕ) (d : ℕ → ℤ) (n : ℕ) (g : 1 < N) (h : n < count lo N) where
+  pub high-before : highAt N d (pos (2 * n) -ℤ pos 1) ≡ d (n - 1)
+  unfolding highAt
+  high-before = ap d (mirror-before N n g h)
+
+  pub high-here : highAt N d (pos (2 * n + 1)) ≡ d (min n (count hi N - 1))
+  unfolding highAt
+  high-here = ap d (mirror-here N n g h)
+
 -- ---- halves of a line, joined and parted
 module _ (p : Half → ℕ → ℤ) (n : ℕ) where
   pub joined-even : joined p (2 * n) ≡ p lo n
@@ -69,17 +82,21 @@ module _ (keep : ℤ → ℤ) (N : ℕ) (g : 1 < N) where
   unfolding high
   high-is x n h = rw (mirror-after N n g h)
 
+  pub high-parted : (x : ℕ → ℤ) (n : ℕ) → n < count hi N → high keep N x n ≡ predicted keep (parted x hi n) (parted x lo n) (parted x lo (min (n + 1) (count lo N - 1)))
+  unfolding parted
+  high-parted = high-is
+
   pub low-is : (x : ℕ → ℤ) (n : ℕ) → n < count lo N → low keep N x n ≡ updated keep (x (2 * n)) (high keep N x (n - 1)) (high keep N x (min n (count hi N - 1)))
-  unfolding low highAt
-  low-is x n h = simp (lt-ltb 1 N g, mirror-before N n g h, mirror-here N n g h)
+  unfolding low
+  low-is x n h = let d = high keep N x in simp (lt-ltb 1 N g, high-before N d n g h, high-here N d n g h)
 
   pub even-is : (s d : ℕ → ℤ) (n : ℕ) → n < count lo N → backEven keep N s d n ≡ unupdated keep (s n) (d (n - 1)) (d (min n (count hi N - 1)))
-  unfolding backEven highAt
-  even-is s d n h = simp (lt-ltb 1 N g, mirror-before N n g h, mirror-here N n g h)
+  unfolding backEven
+  even-is s d n h = simp (lt-ltb 1 N g, high-before N d n g h, high-here N d n g h)
 
   pub odd-is : (s d : ℕ → ℤ) (n : ℕ) → n < count hi N → backOdd keep N s d n ≡ unpredicted keep (d n) (backEven keep N s d n) (backEven keep N s d (min (n + 1) (count lo N - 1)))
   unfolding backOdd
-  odd-is s d n h = let e : mirror N (pos (2 * n + 2)) / 2 ≡ min (n + 1) (count lo N - 1) = omega (arith, mirror-after N n g h) in rw e
+  odd-is s d n h = rw (mirror-next N n g h)
 
 -- a line of one number is its own low value
 module _ (keep : ℤ → ℤ) (N : ℕ) (g : N ≤ 1) where

@@ -1,20 +1,18 @@
 -- The laws of the private passes: what each leaves at a place, a turn of its loop over any step f, and what the passes come to together. Assumes nothing.
 use mathlib.Core.Path.{_≡_, refl, sym, ap, _∙_, subst}
 use mathlib.Core.List.{List}
-use Prim.Native.Nat.{ℕ, _+_, _-_, _*_, _/_, _%_, _≤_, _<_, min}
-use native.Mathlib.Decide.{decLt, ℕ-discrete}
+use Prim.Native.Nat.{ℕ, _+_, _-_, _≤_, _<_, min}
 use native.Mathlib.Omega.{arith}
 use lib.IntN.{ℤ}
 use lib.ListN.{length, set, length-set}
-use borrow.Author.Tests.{lt-ltb, le-ltb, eq-eqb, ne-eqb}
-use Rattle.numbers.specs.Signal.{at, windowed, spliced}
+use borrow.Author.Tests.{lt-ltb, le-ltb}
+use Rattle.numbers.specs.Signal.{at}
 use Rattle.numbers.specs.Word.{wrap32}
-use Rattle.numbers.proofs.Sweep.{Swept, start, store, store2, left}
-use Rattle.numbers.proofs.Parts.{window-in, splice-in, splice-past}
-use Rattle.lifting.specs.Line.{lo, hi, count, predicted, updated, unpredicted, unupdated, high, low, backEven, parted, joined, lineForward, lineHalvesBack, lineBack}
-use Rattle.lifting.specs.Halves.{halvesOf, inHalves, liftedInPlace, unliftedInPlace, forwardInto, backwardInto}
-use Rattle.lifting.specs.Passes.{highsChanged, lowsChanged, evensCopied, oddsCopied, evenBack, evensBack, oddBack, oddsBack}
-use Rattle.lifting.proofs.LineLaws.{counts, count-lo, count-hi, joined-even, joined-odd, high-is, low-is, even-is, odd-is, low-one, even-one, high-same, low-same, halves-low, halves-high, halves-are, front-are}
+use Rattle.numbers.proofs.Sweep.{Swept, start, store, left}
+use Rattle.lifting.specs.Line.{lo, hi, count, predicted, updated, unpredicted, unupdated, high, low, backEven, joined, lineForward, lineHalvesBack}
+use Rattle.lifting.specs.Halves.{halvesOf, liftedInPlace, unliftedInPlace}
+use Rattle.lifting.specs.Passes.{highsChanged, lowsChanged}
+use Rattle.lifting.proofs.LineLaws.{counts, count-lo, count-hi, joined-even, joined-odd, high-is, low-is, even-is, odd-is, low-one, even-one, halves-are}
 
 -- ---- the two passes in place, by any step f
 module _ (f : ℤ → ℤ → ℤ → ℤ) (N : ℕ) (y : ℕ → ℤ) where
@@ -93,7 +91,7 @@ module _ (N : ℕ) (y : ℕ → ℤ) where
       let p = halvesOf N y in
       let z = lowsChanged (unupdated wrap32) N y in
       let even : (n : ℕ) → n < count lo N → backEven wrap32 N (p lo) (p hi) n ≡ z n =
-        λ n h. even-is wrap32 N g (p lo) (p hi) n h ∙ sym (lows-low (unupdated wrap32) N y n h) in
+      λ n h. even-is wrap32 N g (p lo) (p hi) n h ∙ sym (lows-low (unupdated wrap32) N y n h) in
       halves-are N _ y _
       (λ n h. even n h ∙ sym (highs-low (unpredicted wrap32) N z n h))
       (λ n h. cc (odd-is wrap32 N g (p lo) (p hi) n h, highs-high (unpredicted wrap32) N z n h, lows-past (unupdated wrap32) N y (count lo N + n) (omega arith), even n (omega arith), even (min (n + 1) (count lo N - 1)) (omega arith)))

@@ -1,5 +1,4 @@
 -- The two passes of a line of N numbers in halves, as the private functions make them: each number of one half changed by its two neighbours of the other, the nearest one twice at an end.
-use mathlib.Core.Bool.{Bool, true, false}
 use Prim.Native.Nat.{ℕ, _+_, _-_, _*_, _/_, _%_, min}
 use lib.IntN.{ℤ}
 use lib.Dec.{ltb, eqb}

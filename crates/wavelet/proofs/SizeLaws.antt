@@ -1,5 +1,5 @@
 -- The laws of the sizes of the levels, W(k) and H(k). Assumes nothing.
-use mathlib.Core.Path.{_≡_, refl, ap, _∙_}
+use mathlib.Core.Path.{_≡_, refl, ap}
 use Prim.Native.Nat.{ℕ, zero, suc, _+_, _-_, _/_, _≤_, _<_}
 use native.Mathlib.Omega.{arith}
 use Rattle.lifting.specs.Line.{Half, lo, hi, count}
@@ -32,6 +32,10 @@ size-zero N = refl
 pub size-suc : (k N : ℕ) → size (suc k) N ≡ count lo (size k N)
 unfolding size
 size-suc k N = refl
+
+pub size-back : (k N : ℕ) → 0 < k → size k N ≡ count lo (size (k - 1) N)
+size-back zero N h = absurd (omega arith)
+size-back (suc k) N h = let e : suc k - 1 ≡ k = omega arith in rw (e, size-suc)
 
 -- level k + 1 of a side is level k of its low half
 pub size-inner : (k N : ℕ) → size (suc k) N ≡ size k (count lo N)

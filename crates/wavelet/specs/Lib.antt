@@ -4,3 +4,6 @@ pub mod Levels
 pub mod Plane
 pub mod View
 pub mod Maps
+pub mod Questions
+pub mod ViewCall
+pub mod Span

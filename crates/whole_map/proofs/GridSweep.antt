@@ -4,7 +4,7 @@
 --     part-turn        a turn that lends the row out as a part
 --     map-turn         such a turn of a pass that changes each row by G, the row's length and its numbers given
 -- Assumes nothing.
-use mathlib.Core.Path.{_≡_, refl, sym, ap, _∙_, subst, fun-ext}
+use mathlib.Core.Path.{_≡_, refl, sym, ap, _∙_, fun-ext}
 use mathlib.Core.Logic.{_≢_}
 use mathlib.Core.List.{List}
 use mathlib.Core.Bool.{true, false}
@@ -16,7 +16,7 @@ use lib.IntN.{ℤ}
 use lib.ListN.{length}
 use borrow.Author.Tests.{lt-ltb, le-ltb}
 use borrow.Rule.Slice.PartMut.{midOf, putMid, same-len-mid}
-use Rattle.numbers.specs.Signal.{at, pick, windowed, spliced}
+use Rattle.numbers.specs.Signal.{at, spliced}
 use Rattle.numbers.proofs.Parts.{splice-below, splice-in, splice-past, length-mid, at-mid, at-put}
 use Rattle.lifting.proofs.RowLaws.{row-order}
 use Rattle.wavelet.specs.Bands.{Grid}
@@ -163,17 +163,25 @@ lent-row s w h Y l₀ i k l e p =
     at-mid (i * s) k l ∙ rw e (window-cut (i * s) w (at l) (cells s (at l₀) i) (λ c q. p .swept .rest i c (omega arith) (omega arith)))
 
 -- ---- each row changed by itself
-pub mapped-past : (F : (ℕ → ℤ) → ℕ → ℤ) (w h : ℕ) (X : Grid) (r c : ℕ) → h ≤ r → rowsMapped F w h X r c ≡ X r c
-unfolding rowsMapped
-mapped-past F w h X r c p = simp (within-past w h r c p)
+module _ (F : (ℕ → ℤ) → ℕ → ℤ) (w h : ℕ) (X : Grid) (r c : ℕ) where
+  pub mapped-in : r < h → c < w → rowsMapped F w h X r c ≡ F (cut w (X r)) c
+  unfolding rowsMapped
+  mapped-in p q = simp (within-in w h r c p q)
+
+  pub mapped-past : h ≤ r → rowsMapped F w h X r c ≡ X r c
+  unfolding rowsMapped
+  mapped-past p = simp (within-past w h r c p)
+
+  pub mapped-wide : w ≤ c → rowsMapped F w h X r c ≡ X r c
+  unfolding rowsMapped
+  mapped-wide q = simp (within-wide w h r c q)
 
 pub map-turn : (G : ℕ → (ℕ → ℤ) → ℕ → ℤ) (s w h : ℕ) (l₀ : List ℤ) (i k : ℕ) (l z : List ℤ) → k ≡ w → i < h → length z ≡ length (midOf (i * s) k l) → at z ≡ G (length (midOf (i * s) k l)) (at (midOf (i * s) k l)) → Passed s w h (rowsMapped (G w) w h (cells s (at l₀))) l₀ i l → Passed s w h (rowsMapped (G w) w h (cells s (at l₀))) l₀ (i + 1) (putMid (i * s) k l z)
-unfolding rowsMapped
 map-turn G s w h l₀ i k l z e lt ez is p =
     let X = cells s (at l₀) in
     let mid = row-length s w h _ l₀ i k l e lt p in
     let is′ : at z ≡ G w (cut w (X i)) = cc (is, mid, lent-row s w h _ l₀ i k l e p) in
     part-turn s w h _ l₀ i k l z e lt ez
-    (λ c q. ap (λ (f : ℕ → ℤ). f c) is′ ∙ simp (within-in w h i c lt q))
-    (λ c q. simp (within-wide w h i c q))
+    (λ c q. ap (λ (f : ℕ → ℤ). f c) is′ ∙ sym (mapped-in (G w) w h X i c lt q))
+    (λ c q. mapped-wide (G w) w h X i c q)
     p

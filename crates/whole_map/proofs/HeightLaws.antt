@@ -1,24 +1,23 @@
 -- Heights, u16, as whole numbers: a list of them is the list `wholes l` of i32's kind, so that its loops go by the same laws. Assumes nothing.
 use mathlib.Core.Path.{_≡_, refl, sym, ap, _∙_, fun-ext}
-use mathlib.Core.List.{List, [], _∷_, _++_, map, map-append}
-use Prim.Native.Nat.{ℕ, zero, suc, _+_, _≤_, _<_}
+use mathlib.Core.List.{List, [], _∷_, map, map-append}
+use Prim.Native.Nat.{ℕ, zero, suc, _≤_, _<_}
 use native.Mathlib.Omega.{arith}
-use native.Mathlib.Decide.{ℕ-discrete}
 use lib.Dec.{T}
 use lib.IntN.{ℤ, pos, negsuc, natAbs}
 use lib.Signed.{nonNeg, leZ}
-use mathlib.Core.Bool.{Bool, true, false}
+use mathlib.Core.Bool.{true}
 use mir.Syntax.{w16, w32}
 use mir.Val.{Fits, SFits, toZ}
 use borrow.Author.Needs.{sfits-of}
 use borrow.Author.Tests.{leb-true}
-use lib.ListN.{length, getD, set, take, drop, length-map, List·getD-map}
+use lib.ListN.{length, set, take, drop, length-map, List·getD-map}
 use borrow.Rule.Slice.PartMut.{midOf, putMid}
 use Rattle.numbers.specs.Signal.{at}
 use Rattle.numbers.proofs.Words.{read-back}
 use Rattle.numbers.proofs.Sweep.{Swept, finish, both}
 use Rattle.wavelet.specs.Limits.{maxSample}
-use Rattle.wavelet.specs.Maps.{every, valueFits}
+use Rattle.wavelet.specs.Maps.{valueFits}
 use Rattle.whole_map.specs.Rowwise.{heightsAt}
 
 abbrev pub wholes : List ℕ → List ℤ
@@ -83,10 +82,3 @@ pub is-height : (v : ℤ) → valueFits 0 v ≡ true → IsHeight v
 unfolding valueFits maxSample
 is-height (pos n) h = let b = leb-true n 65535 (both (leZ (pos 0) (pos n)) (leZ (pos n) (pos 65535)) h .1) in record { sign = tt; fits = record { fits = omega arith }; same = refl }
 is-height (negsuc n) h = let z : _≡_ {A = ℕ} 0 1 = cc in absurd (omega arith)
-
-pub every-at : (n : ℕ) (p : ℕ → Bool) → every n p ≡ true → (i : ℕ) → i < n → p i ≡ true
-unfolding every
-every-at zero p h i lt = absurd (omega arith)
-every-at (suc n) p h i lt =
-    let a = both (every n p) (p n) h in
-    elim (ℕ-discrete i n) [ yes e ↦ rw e (a .1) | no d ↦ every-at n p (a .0) i (omega arith) ]

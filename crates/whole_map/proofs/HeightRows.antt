@@ -1,14 +1,14 @@
 -- The rows of heights loaded and stored: a turn of each loop. Assumes nothing.
 use mathlib.Core.Path.{_≡_, refl, sym, ap, _∙_}
 use mathlib.Core.List.{List}
-use mathlib.Core.Bool.{Bool, true}
-use Prim.Native.Nat.{ℕ, zero, suc, _+_, _-_, _*_, _≤_, _<_}
+use mathlib.Core.Bool.{true}
+use Prim.Native.Nat.{ℕ, _+_, _*_, _≤_, _<_}
 use native.Mathlib.Decide.{decLt}
 use native.Mathlib.Omega.{arith}
 use lib.IntN.{ℤ, pos}
 use lib.ListN.{length, length-map}
 use borrow.Rule.Slice.PartMut.{midOf, putMid}
-use Rattle.numbers.specs.Signal.{at, windowed, both}
+use Rattle.numbers.specs.Signal.{at}
 use Rattle.numbers.proofs.Parts.{length-mid, at-mid}
 use Rattle.lifting.specs.Line.{Half, lo, count, parted, joined}
 use Rattle.lifting.specs.Halves.{halvesOf, inHalves, fronted}
@@ -19,7 +19,8 @@ use Rattle.wavelet.specs.Maps.{every, everyCell, valueFits}
 use Rattle.whole_map.specs.Rowwise.{heightsAt, cut}
 use Rattle.whole_map.specs.Passes.{Rows, rowsLoaded, rowsReturned}
 use Rattle.whole_map.proofs.RowwiseLaws.{front-at, window-cut, cut-in, cut-parted, cut-woven}
-use Rattle.whole_map.proofs.HeightLaws.{wholes, wholes-at, wholes-mid, wholes-put, every-at}
+use Rattle.whole_map.proofs.EveryLaws.{every-holds, every-same}
+use Rattle.whole_map.proofs.HeightLaws.{wholes, wholes-at, wholes-mid, wholes-put}
 use Rattle.whole_map.proofs.GridSweep.{Passed, row-room, within-in, within-past, within-wide, pass-room, pass-end, row-length, part-turn}
 
 -- ---- a row lent as `&`: its length, and its numbers
@@ -78,18 +79,12 @@ module _ {s w h : ℕ} {Y : Grid} {l₀ : List ℤ} {i : ℕ} (g : List ℕ) (p 
   pub swept-size : (g₀ : List ℕ) → l₀ ≡ wholes g₀ → length g ≡ length g₀
   swept-size g₀ e = sym (length-map g pos) ∙ p .size ∙ ap length e ∙ length-map g₀ pos
 
-pub every-same : (n : ℕ) (p q : ℕ → Bool) → ((j : ℕ) → j < n → p j ≡ q j) → every n p ≡ every n q
-unfolding every
-every-same zero p q same = refl
-every-same (suc n) p q same =
-    cc (every-same n p q (λ j lt. same j (omega arith)), same n (omega arith))
-
 pub row-fits : (s w h i k : ℕ) (x : List ℤ) → k ≡ w → i < h → Rows (length x) s w h → everyCell w h (λ r c. valueFits 0 (cells s (at x) r c)) ≡ true → every (length (midOf (i * s) k x)) (λ j. valueFits 0 (at (midOf (i * s) k x) j)) ≡ true
 unfolding everyCell
 row-fits s w h i k x e lt r all =
     rw (numbers-length s w h i k e lt x r)
     (every-same w _ _ (λ j q. ap (valueFits 0) (ap (λ (f : ℕ → ℤ). f j) (numbers-row s w h i k e lt x) ∙ cut-in w (cells s (at x) i) j q))
-    ∙ every-at h _ all i lt)
+    ∙ every-holds h _ all i lt)
 
 pub store-turn : (w h : ℕ) (x : List ℤ) (g₀ : List ℕ) (i k : ℕ) (g z : List ℕ) → k ≡ w → i < h → Rows (length x) w w h → length z ≡ length (midOf (i * w) k g) → heightsAt z ≡ fronted (length (midOf (i * w) k x)) (joined (halvesOf (length (midOf (i * w) k x)) (at (midOf (i * w) k x)))) (heightsAt (midOf (i * w) k g)) → Passed w w h (rowsReturned w h (cells w (at x)) (cells w (at (wholes g₀)))) (wholes g₀) i (wholes g) → Passed w w h (rowsReturned w h (cells w (at x)) (cells w (at (wholes g₀)))) (wholes g₀) (i + 1) (wholes (putMid (i * w) k g z))
 unfolding rowsReturned

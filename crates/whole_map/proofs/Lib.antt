@@ -1,4 +1,5 @@
 pub mod RowwiseLaws
+pub mod EveryLaws
 pub mod HeightLaws
 pub mod GridSweep
 pub mod ColumnPass

@@ -2,15 +2,15 @@
 use mathlib.Core.Path.{_≡_, refl, sym, ap, _∙_, subst, fun-ext}
 use mathlib.Core.List.{List}
 use mathlib.Core.Bool.{Bool, true, false, _&&_}
-use Prim.Native.Nat.{ℕ, zero, suc, _+_, _-_, _*_, _/_, _%_, _≤_, _<_}
+use Prim.Native.Nat.{ℕ, suc, _+_, _-_, _*_, _/_, _%_, _≤_, _<_}
 use native.Mathlib.Decide.{decLt}
 use native.Mathlib.Omega.{arith}
 use lib.IntN.{ℤ, pos}
 use lib.Signed.{leZ}
 use lib.ListN.{length, set}
 use borrow.Author.Tests.{lt-ltb, le-ltb, eq-eqb, ne-eqb}
-use Rattle.numbers.specs.Signal.{at, windowed, pick, both}
-use Rattle.numbers.proofs.Sweep.{Swept, store, store2}
+use Rattle.numbers.specs.Signal.{at, windowed, both}
+use Rattle.numbers.proofs.Sweep.{Swept, store2}
 use borrow.Rule.Slice.PartMut.{midOf}
 use Rattle.numbers.proofs.Parts.{window-in, window-past, length-mid, at-mid}
 use Rattle.lifting.specs.Line.{Half, lo, hi, count, parted, joined}
@@ -21,15 +21,12 @@ use Rattle.lifting.proofs.AreaLaws.{evens-in, evens-past, odds-low, odds-high, 
 use Rattle.wavelet.specs.Maps.{every}
 use Rattle.whole_map.specs.Rowwise.{cut, evensLaid, oddsLaid, partedInPlace, wovenInPlace, between}
 
--- ---- numbers at the front of memory
-module _ (N : ℕ) (x z : ℕ → ℤ) (j : ℕ) where
-  pub front-at : j < N → fronted N x z j ≡ x j
-  unfolding fronted
-  front-at h = simp (lt-ltb j N h)
+-- ---- numbers x at the front of memory z
+pub front-at : (N : ℕ) (x z : ℕ → ℤ) (j : ℕ) → j < N → fronted N x z j ≡ x j
+front-at N x z j h = front-in N (parted x) z x j h
 
-  pub front-rest : N ≤ j → fronted N x z j ≡ z j
-  unfolding fronted
-  front-rest h = simp (le-ltb j N h)
+pub front-rest : (N : ℕ) (x z : ℕ → ℤ) (j : ℕ) → N ≤ j → fronted N x z j ≡ z j
+front-rest N x z j h = front-past N (parted x) z x j h
 
 -- ---- places laid from a half
 module _ (N : ℕ) (p z : ℕ → ℤ) where

@@ -1,19 +1,17 @@
 -- `lifting::line::predict_highs` meets its contract: a sweep over the high numbers, the last of an even line after the loop. Assumes nothing.
-use mathlib.Core.Path.{_≡_, refl, sym, ap, _∙_}
-use Prim.Native.Nat.{ℕ, _+_, _-_, _/_, _≤_, _<_, min}
+use mathlib.Core.Path.{_≡_, _∙_}
+use Prim.Native.Nat.{_+_, _-_, _/_, _≤_}
 use native.Mathlib.Omega.{arith}
 use lib.ListN.{length}
 use Rattle.numbers.specs.Signal.{at}
 use Rattle.numbers.specs.Word.{wrap32}
 use Rattle.numbers.proofs.Sweep.{Swept, start, finish}
-use Rattle.lifting.specs.Line.{lo, hi, count, predicted}
+use Rattle.lifting.specs.Line.{lo, count, predicted}
 use Rattle.lifting.specs.Passes.{highsChanged}
 use Rattle.lifting.proofs.LineLaws.{counts, count-lo}
 use Rattle.lifting.proofs.PassLaws.{highs-low, highs-past, highs-turn}
 use Rattle.lifting.proofs.line.predict_highs.Statement.{statement}
 use Rattle.lifting.proofs.line.predict_highs.Tie as tie
-use Rattle.lifting.proofs.line.predict_highs.Reads as reads
-use Rattle.lifting.proofs.line.predict_highs.Lts as lts
 
 abbrev Inv-loop : tie.InvT-loop
 Inv-loop line₀ low n₀ line n =

@@ -1,5 +1,5 @@
 -- `lifting::line::unlift` meets its contract: the two passes come to it, and a line of one number or none stays. Assumes nothing.
-use mathlib.Core.Path.{_≡_, refl, sym, ap, _∙_}
+use mathlib.Core.Path.{sym, ap, _∙_}
 use native.Mathlib.Omega.{arith}
 use lib.ListN.{length}
 use borrow.Author.Needs.{needs}

@@ -1,20 +1,18 @@
 -- `lifting::line::update_lows` meets its contract: a sweep over the low numbers, the first before the loop and the last of an odd line after it. Assumes nothing.
 use mathlib.Core.Path.{_≡_, refl, sym, ap, _∙_}
-use Prim.Native.Nat.{ℕ, _+_, _-_, _/_, _≤_, _<_, min}
+use Prim.Native.Nat.{ℕ, _-_, _/_, _≤_}
 use native.Mathlib.Omega.{arith}
 use lib.IntN.{ℤ}
 use lib.ListN.{length}
 use Rattle.numbers.specs.Signal.{at}
 use Rattle.numbers.specs.Word.{wrap32}
 use Rattle.numbers.proofs.Sweep.{Swept, finish}
-use Rattle.lifting.specs.Line.{lo, hi, count, updated}
+use Rattle.lifting.specs.Line.{lo, count, updated}
 use Rattle.lifting.specs.Passes.{lowsChanged}
 use Rattle.lifting.proofs.LineLaws.{counts, count-lo}
 use Rattle.lifting.proofs.PassLaws.{lows-past, lows-first, lows-turn}
 use Rattle.lifting.proofs.line.update_lows.Statement.{statement}
 use Rattle.lifting.proofs.line.update_lows.Tie as tie
-use Rattle.lifting.proofs.line.update_lows.Reads as reads
-use Rattle.lifting.proofs.line.update_lows.Lts as lts
 
 -- `line₀` is the line after the first store: it is swept of x up to 1, x being what the function was given
 abbrev Inv-loop : tie.InvT-loop

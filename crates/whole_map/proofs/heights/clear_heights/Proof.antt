@@ -1,9 +1,8 @@
 -- `whole_map::heights::clear_heights` meets its contract: a sweep over the front of the heights. Assumes nothing.
-use mathlib.Core.Path.{_≡_, sym, _∙_}
-use Prim.Native.Nat.{ℕ, _+_, _-_, _*_, _≤_, _<_}
+use mathlib.Core.Path.{sym}
+use Prim.Native.Nat.{_-_, _≤_}
 use native.Mathlib.Omega.{arith}
 use lib.ListN.{length}
-use Rattle.numbers.specs.Signal.{at}
 use lib.IntN.{pos}
 use Rattle.numbers.proofs.Sweep.{Swept, store}
 use Rattle.lifting.specs.Halves.{fronted}
@@ -36,7 +35,7 @@ loop-less : tie.Need-loop-less Inv-loop μ-loop
 loop-less c = omega arith
 
 loop-again : tie.Need-loop-again Inv-loop μ-loop
-loop-again c = 
+loop-again c =
     let head = c .before in (
       omega arith,
       rw wholes-set (store (pos 0) (head .loop .inv .1) (omega arith) (sym (front-at _ _ _ (head .loop .i) (omega arith)))),

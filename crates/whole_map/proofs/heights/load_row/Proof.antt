@@ -17,7 +17,7 @@ same-length : tie.Need-same-length
 same-length c = search needs
 
 returns : tie.Need-returns
-returns c = 
+returns c =
     let evens = c .before .before .before .before in
     let args = evens .before .before .before .args in
     let g = args .heights .now in

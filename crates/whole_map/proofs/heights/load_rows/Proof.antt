@@ -56,7 +56,7 @@ part-load-row-end-2 : tie.Need-part-load-row-end-2 Inv-loop μ-loop
 part-load-row-end-2 c = omega (arith, room (c .before))
 
 load-row-requires : tie.Need-load-row-requires Inv-loop μ-loop
-load-row-requires c κs = 
+load-row-requires c κs =
     let row = c .before .before in
     let args = row .before .before .before .args in
     let w = args .width in
@@ -73,7 +73,7 @@ loop-less : tie.Need-loop-less Inv-loop μ-loop
 loop-less c = omega arith
 
 loop-again : tie.Need-loop-again Inv-loop μ-loop
-loop-again c = 
+loop-again c =
     let part = c .before .load-row in
     let row = c .before .before .before .before in
     let head = row .before in

@@ -1,6 +1,6 @@
 -- `whole_map::heights::store_odds` meets its contract: a sweep over the heights, two places a turn. Assumes nothing.
-use mathlib.Core.Path.{_≡_, sym, _∙_}
-use Prim.Native.Nat.{ℕ, _+_, _-_, _*_, _/_, _≤_, _<_}
+use mathlib.Core.Path.{_∙_}
+use Prim.Native.Nat.{_+_, _-_, _*_, _/_, _≤_}
 use native.Mathlib.Omega.{arith}
 use lib.ListN.{length}
 use Rattle.numbers.specs.Signal.{at}
@@ -12,7 +12,8 @@ use Rattle.lifting.specs.Halves.{halvesOf}
 use Rattle.lifting.proofs.LineLaws.{count-hi}
 use Rattle.whole_map.specs.Rowwise.{heightsAt, oddsLaid}
 use Rattle.whole_map.proofs.RowwiseLaws.{laid-past-odd, odds-turn, high-is, laid-first}
-use Rattle.whole_map.proofs.HeightLaws.{wholes, wholes-set, start-heights, size-heights, finish-heights, IsHeight, is-height, every-at}
+use Rattle.whole_map.proofs.EveryLaws.{every-holds}
+use Rattle.whole_map.proofs.HeightLaws.{wholes, wholes-set, start-heights, size-heights, finish-heights, IsHeight, is-height}
 use Rattle.whole_map.proofs.heights.store_odds.Statement.{statement}
 use Rattle.whole_map.proofs.heights.store_odds.Tie as tie
 
@@ -40,7 +41,7 @@ shared-slice-copy-out-heights c = omega arith
 
 -- what the turn reads is a height
 value : (c : tie.After-heights Inv-loop μ-loop) → IsHeight (at (c .before .before .before .args .row .now) (length (c .before .before .before .args .row .now) - length (c .before .before .before .args .row .now) / 2 + c .before .before .loop .j))
-value c = is-height _ (every-at _ _ (c .before .before .before .pre .1) _ (omega arith))
+value c = is-height _ (every-holds _ _ (c .before .before .before .pre .1) _ (omega arith))
 
 cast-heights : tie.Need-cast-heights Inv-loop μ-loop
 cast-heights c = let v = value c in rw (read-back _ (c .heights .given)) (v .sign, v .fits)
@@ -64,7 +65,7 @@ loop-less : tie.Need-loop-less Inv-loop μ-loop
 loop-less c = omega arith
 
 loop-again : tie.Need-loop-again Inv-loop μ-loop
-loop-again c = 
+loop-again c =
     let head = c .before .before in
     let x = head .before .args .row .now in
     let N = length x in
@@ -79,7 +80,7 @@ same-length : tie.Need-same-length Inv-loop μ-loop
 same-length c = size-heights (c .before .loop .heights) (c .before .loop .inv .1)
 
 returns : tie.Need-returns Inv-loop μ-loop
-returns c = 
+returns c =
     let N = length (c .before .before .args .row .now) in
     finish-heights (c .before .loop .heights) (c .before .loop .inv .1) (λ j le. laid-past-odd N _ _ j (omega arith))
 

@@ -18,7 +18,7 @@ same-length : tie.Need-same-length
 same-length c = search needs
 
 returns : tie.Need-returns
-returns c = 
+returns c =
     let odds = c .before .before in
     let evens = odds .before .before .before .before in
     let args = evens .before .before .before .args in

@@ -7,7 +7,7 @@ use Rattle.numbers.specs.Signal.{at}
 use Rattle.wavelet.specs.Plane.{cells}
 use lib.IntN.{pos}
 use lib.ListN.{length-map}
-use Rattle.whole_map.specs.Passes.{Rows, rowsReturned}
+use Rattle.whole_map.specs.Passes.{rowsReturned}
 use Rattle.whole_map.proofs.HeightLaws.{wholes}
 use Rattle.whole_map.proofs.GridSweep.{Passed, pass-start, row-room}
 use Rattle.whole_map.proofs.HeightRows.{numbers-length, swept-room, swept-length, swept-size, row-fits, store-turn, store-end}
@@ -23,7 +23,7 @@ abbrev μ-loop : tie.MeasureT-loop
 μ-loop work heights₀ width height r₀ heights r = height - r
 
 loop-holds : tie.Need-loop-holds Inv-loop μ-loop
-loop-holds c = 
+loop-holds c =
     let g = c .before .args .heights .now in
     (omega arith, pass-start _ _ _ _ (wholes g) 0 (rw (length-map g pos) (c .before .pre .1)) (λ r k lt. absurd (omega arith)))
 
@@ -62,7 +62,7 @@ part-store-row-end-2 : tie.Need-part-store-row-end-2 Inv-loop μ-loop
 part-store-row-end-2 c = omega (arith, room (c .before))
 
 store-row-requires : tie.Need-store-row-requires Inv-loop μ-loop
-store-row-requires c κs = 
+store-row-requires c κs =
     let row = c .before .before in
     let start = row .before .before .before in
     let g = row .before .loop .heights in
@@ -84,7 +84,7 @@ loop-less : tie.Need-loop-less Inv-loop μ-loop
 loop-less c = omega arith
 
 loop-again : tie.Need-loop-again Inv-loop μ-loop
-loop-again c = 
+loop-again c =
     let part = c .before .before .store-row in
     let row = c .before .before .before .before .before in
     let head = row .before in

@@ -2,7 +2,6 @@
 use Prim.Native.Nat.{_+_, _-_, _*_, _≤_}
 use native.Mathlib.Omega.{arith}
 use lib.ListN.{length}
-use borrow.Author.Needs.{needs}
 use Rattle.numbers.specs.Signal.{at}
 use Rattle.whole_map.specs.Rowwise.{partedInPlace}
 use Rattle.wavelet.specs.Plane.{cells}
@@ -43,7 +42,7 @@ part-part-end : tie.Need-part-part-end Inv-loop μ-loop
 part-part-end c = omega (arith, room c)
 
 part-requires : tie.Need-part-requires Inv-loop μ-loop
-part-requires c κs = 
+part-requires c κs =
     let row = c .before in
     let a = row .before .loop .r * row .before .before .args .stride in
     omega (arith, row-length _ _ _ _ _ _ (a + row .before .before .args .width - a) _ (omega arith) (row .loop-test .taken) (row .before .loop .inv .1))
@@ -55,7 +54,7 @@ loop-less : tie.Need-loop-less Inv-loop μ-loop
 loop-less c = omega arith
 
 loop-again : tie.Need-loop-again Inv-loop μ-loop
-loop-again c = 
+loop-again c =
     let part = c .before .part in
     let row = c .before .before .before in
     let head = row .before in

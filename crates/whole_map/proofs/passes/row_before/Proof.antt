@@ -1,7 +1,4 @@
 -- `whole_map::passes::row_before` meets its contract: the definition by the test. Assumes nothing.
-use mathlib.Core.Path.{_≡_}
-use Prim.Native.Nat.{ℕ, _+_, _-_, _<_}
-use native.Mathlib.Omega.{arith}
 use borrow.Author.Tests.{lt-ltb, le-ltb}
 use Rattle.whole_map.specs.Passes.{before}
 use borrow.Author.Needs.{needs}

@@ -30,7 +30,7 @@ same-length : tie.Need-same-length
 same-length c = search needs
 
 returns : tie.Need-returns
-returns c = 
+returns c =
     let copied = c .before .before .before .before .before .before .copy in
     let row = c .before .before .before .before .before .before .before .before .before .args .row .now in
     let n = length row in

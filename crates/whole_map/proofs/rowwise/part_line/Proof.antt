@@ -16,7 +16,7 @@ same-length : tie.Need-same-length
 same-length c = search needs
 
 returns : tie.Need-returns
-returns c = 
+returns c =
     let evens = c .before .before .before .before in
     let args = evens .before .before .args in
     let line = args .line .now in

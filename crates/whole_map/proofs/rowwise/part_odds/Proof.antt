@@ -1,11 +1,11 @@
 -- `whole_map::rowwise::part_odds` meets its contract: a sweep over the row's second half. Assumes nothing.
-use mathlib.Core.Path.{_≡_, sym, _∙_}
-use Prim.Native.Nat.{ℕ, _+_, _-_, _*_, _≤_, _<_}
+use mathlib.Core.Path.{sym}
+use Prim.Native.Nat.{_+_, _-_, _*_, _≤_}
 use native.Mathlib.Omega.{arith}
 use lib.ListN.{length}
 use Rattle.numbers.specs.Signal.{at}
 use Rattle.numbers.proofs.Words.{read-back}
-use Rattle.numbers.proofs.Sweep.{Swept, start, store, finish}
+use Rattle.numbers.proofs.Sweep.{Swept, start, finish}
 use Rattle.lifting.specs.Passes.{oddsCopied}
 use Rattle.lifting.proofs.LineLaws.{count-lo, count-hi}
 use Rattle.lifting.proofs.AreaLaws.{odds-low, odds-past, odds-turn}
@@ -23,7 +23,7 @@ sub-low : tie.Need-sub-low Inv-loop μ-loop
 sub-low c = omega arith
 
 loop-holds : tie.Need-loop-holds Inv-loop μ-loop
-loop-holds c = 
+loop-holds c =
     let N = length (c .args .line .now) in
     (omega arith, start _ _ _ (λ j lt. odds-low N _ _ j (omega (arith, count-lo N))))
 
@@ -55,7 +55,7 @@ loop-less : tie.Need-loop-less Inv-loop μ-loop
 loop-less c = omega arith
 
 loop-again : tie.Need-loop-again Inv-loop μ-loop
-loop-again c = 
+loop-again c =
     let head = c .before .before in
     let x = head .before .args .line .now in
     let j = head .loop .j in (
@@ -68,7 +68,7 @@ same-length : tie.Need-same-length Inv-loop μ-loop
 same-length c = c .before .loop .inv .1 .size
 
 returns : tie.Need-returns Inv-loop μ-loop
-returns c = 
+returns c =
     let N = length (c .before .before .args .line .now) in
     finish (c .before .loop .inv .1) (λ j le. odds-past N _ _ j (omega arith))
 

@@ -1,0 +1,40 @@
+-- The samples of document 01 that are marked P, in whole numbers: what each says, and the table of them.
+use mathlib.Core.Path.{_≡_}
+use mathlib.Core.List.{List, [], _∷_}
+use Prim.Native.Nat.{ℕ, zero, suc}
+use lib.IntN.{ℤ, pos, negℤ}
+use lib.ListN.{length}
+use Rattle.numbers.specs.Signal.{at}
+use Rattle.numbers.specs.Word.{whole}
+use Rattle.lifting.specs.Line.{Half, lo, hi, count, lineForward}
+
+-- the first n numbers of a signal
+unfoldable pub listed : ℕ → (ℕ → ℤ) → List ℤ
+listed zero x = []
+listed (suc n) x = x 0 ∷ listed n (λ i. x (suc i))
+
+-- all values of one half of a line
+unfoldable pub values : Half → List ℤ → List ℤ
+values h l = listed (count h (length l)) (lineForward whole (length l) (at l) h)
+
+-- a kind of sample
+pub data Sample : Type 0 where
+  -- a line, its low values and its high values
+  line : List ℤ → List ℤ → List ℤ → Sample
+
+-- what makes a sample of each kind hold
+pub data Holds : Sample → Type 0 where
+  holds-line : {l low high : List ℤ} → values lo l ≡ low → values hi l ≡ high → Holds (line l low high)
+
+abbrev pub table : List Sample
+table =
+    line (pos 1 ∷ pos 4 ∷ pos 2 ∷ pos 7 ∷ pos 3 ∷ []) (pos 3 ∷ pos 4 ∷ pos 6 ∷ []) (pos 3 ∷ pos 5 ∷ [])
+    ∷ line (pos 2 ∷ pos 0 ∷ []) (pos 1 ∷ []) (negℤ (pos 2) ∷ [])
+    ∷ line (pos 5 ∷ pos 0 ∷ []) (pos 3 ∷ []) (negℤ (pos 5) ∷ [])
+    ∷ line (pos 9 ∷ []) (pos 9 ∷ []) []
+    ∷ []
+
+-- every entry holds
+pub data AllHold : List Sample → Type 0 where
+  none : AllHold []
+  also : {s : Sample} {l : List Sample} → Holds s → AllHold l → AllHold (s ∷ l)
