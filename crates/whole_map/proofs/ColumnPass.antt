@@ -107,20 +107,20 @@ column-turn f q s w h Y l₀ i a b l l′ col o small more lt ea eb el is p =
     let near = before-is h i more lt in
     let far = after-is h i more lt in
     let fit = rows-fit (length l) s w i a b wide
-          (rw size (row-room (length l₀) s w h i g lt))
-          (rw (size, ea) (row-room (length l₀) s w h (before i) g (near .0)))
-          (rw (size, eb) (row-room (length l₀) s w h (after h i) g (far .0))) in
+    (rw size (row-room (length l₀) s w h i g lt))
+    (rw (size, ea) (row-room (length l₀) s w h (before i) g (near .0)))
+    (rw (size, eb) (row-room (length l₀) s w h (after h i) g (far .0))) in
     let made : (j : ℕ) → at l′ j ≡ rowChanged f s w i a b (at l) j =
-      λ j. ap (λ (x : ℕ → ℤ). x j) (is ∙ changed f s w i a b (at l) (length l) fit) in
+    λ j. ap (λ (x : ℕ → ℤ). x j) (is ∙ changed f s w i a b (at l) (length l) fit) in
     let stored =
-      store-row (at l′) sw
-          (λ r c cs d. made (r * s + c) ∙ row-other f s w i a b (at l) r c d wide cs)
-          (λ c cs.
-          elim (decLt c w) [
-            | yes x ↦
-                cc (made (i * s + c), row-at f s w i a b (at l) c x, ea, eb, col .hit i c lt x o, sw .rest i c cs (omega arith), left-row (before i) c sw cs (col .other (before i) c (λ e. near .1 (e ∙ sym o))), left-row (after h i) c sw cs (col .other (after h i) c (λ e. far .1 (e ∙ sym o))))
-            | no d ↦ made (i * s + c) ∙ row-past f s w i a b (at l) (i * s + c) (omega arith) ∙ sw .rest i c cs (omega arith) ∙ sym (col .wide i c (omega arith))
-          ]) in
+    store-row (at l′) sw
+    (λ r c cs d. made (r * s + c) ∙ row-other f s w i a b (at l) r c d wide cs)
+    (λ c cs.
+    elim (decLt c w) [
+      | yes x ↦
+          cc (made (i * s + c), row-at f s w i a b (at l) c x, ea, eb, col .hit i c lt x o, sw .rest i c cs (omega arith), left-row (before i) c sw cs (col .other (before i) c (λ e. near .1 (e ∙ sym o))), left-row (after h i) c sw cs (col .other (after h i) c (λ e. far .1 (e ∙ sym o))))
+      | no d ↦ made (i * s + c) ∙ row-past f s w i a b (at l) (i * s + c) (omega arith) ∙ sw .rest i c cs (omega arith) ∙ sym (col .wide i c (omega arith))
+    ]) in
     record {
       rows = g;
       few = p .few;

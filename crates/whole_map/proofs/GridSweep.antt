@@ -140,7 +140,7 @@ part-turn s w h Y l₀ i k l z e lt ez here beside p =
     let size = p .size in
     let mid = row-length s w h Y l₀ i k l e lt p in
     let put : (j : ℕ) → at (putMid (i * s) k l z) j ≡ spliced (i * s) w (at z) (at l) j =
-      λ j. ap (λ (f : ℕ → ℤ). f j) (at-put (i * s) k l z (omega arith) (omega arith)) ∙ ap (λ (m : ℕ). spliced (i * s) m (at z) (at l) j) e in
+    λ j. ap (λ (f : ℕ → ℤ). f j) (at-put (i * s) k l z (omega arith) (omega arith)) ∙ ap (λ (m : ℕ). spliced (i * s) m (at z) (at l) j) e in
     record {
       rows = p .rows;
       few = p .few;

@@ -60,7 +60,7 @@ load-turn w h g l₀ i k l z e lt r ez is p =
     let G = cells w (heightsAt g) i in
     let X = cells w (at l₀) i in
     let is′ : at z ≡ inHalves w (parted G) (at (midOf (i * w) k l)) =
-      cc (is, heights-length w w h i k e lt g r, heights-row w w h i k e lt g, cut-parted w G (at (midOf (i * w) k l))) in
+    cc (is, heights-length w w h i k e lt g r, heights-row w w h i k e lt g, cut-parted w G (at (midOf (i * w) k l))) in
     part-turn w w h _ l₀ i k l z e lt ez
     (λ c q. ap (λ (f : ℕ → ℤ). f c) is′ ∙ halves-inside w (parted G) _ X c q ∙ simp (within-in w h i c lt q))
     (λ c q. simp (within-wide w h i c q))
@@ -92,9 +92,9 @@ store-turn w h x g₀ i k g z e lt r ez is p =
     let X = cells w (at x) i in
     let y = heightsAt (midOf (i * w) k g) in
     let is′ : at (wholes z) ≡ fronted w (joined (halvesOf w X)) y =
-      wholes-at z ∙ cc (is, numbers-length w w h i k e lt x r, numbers-row w w h i k e lt x, cut-woven w X y) in
+    wholes-at z ∙ cc (is, numbers-length w w h i k e lt x r, numbers-row w w h i k e lt x, cut-woven w X y) in
     let ez′ : length (wholes z) ≡ length (midOf (i * w) k (wholes g)) =
-      length-map z pos ∙ ez ∙ sym (length-map (midOf (i * w) k g) pos) ∙ ap length (wholes-mid (i * w) k g) in
+    length-map z pos ∙ ez ∙ sym (length-map (midOf (i * w) k g) pos) ∙ ap length (wholes-mid (i * w) k g) in
     rw (wholes-put (i * w) k g z)
     (part-turn w w h _ (wholes g₀) i k (wholes g) (wholes z) e lt ez′
     (λ c q. ap (λ (f : ℕ → ℤ). f c) is′ ∙ front-at w (joined (halvesOf w X)) y c q ∙ simp (within-in w h i c lt q))

@@ -146,8 +146,8 @@ cut-parted n x z =
     halves-are n (parted (cut n x)) z _
     (λ m h. cut-in n x (2 * m) (omega arith) ∙ sym (halves-low n (parted x) z m h))
     (λ m h.
-        let k : count lo n + m - count lo n ≡ m = omega arith in
-        cut-in n x (2 * m + 1) (omega arith) ∙ sym (halves-high n (parted x) z (count lo n + m) (omega arith) (omega arith) ∙ ap (parted x hi) k))
+    let k : count lo n + m - count lo n ≡ m = omega arith in
+    cut-in n x (2 * m + 1) (omega arith) ∙ sym (halves-high n (parted x) z (count lo n + m) (omega arith) (omega arith) ∙ ap (parted x hi) k))
     (λ j h. sym (halves-past n (parted x) z j h))
 
 pub cut-woven : (n : ℕ) (x z : ℕ → ℤ) → fronted n (joined (halvesOf n (cut n x))) z ≡ fronted n (joined (halvesOf n x)) z

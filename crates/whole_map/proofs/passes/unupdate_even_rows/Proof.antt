@@ -47,7 +47,8 @@ loop-again c =
     let near = far .before in
     let head = near .before .before .before in
     let inv = head .loop .inv in (
-      inv .0, omega arith,
+      inv .0,
+      omega arith,
       omega arith,
       column-turn _ 0 _ _ _ _ _ _ _ _ _ _ (even-column _ _ _ _) (inv .1) (omega arith) (omega arith) (near .before .before .loop-test .taken) (near .row-before .ensures) (far .row-after .ensures .0) (called .unupdate-row .kept .0) (called .unupdate-row .ensures .1) (inv .3),
     )
