@@ -1,21 +1,20 @@
 -- A pass over the columns: the rows of one parity changed by f of themselves and of their two neighbours, which have the other parity and stay.
 -- `Column` says it of any grid Y, and the turn of the loop is proved once, for both parities and any f. Assumes nothing.
-use mathlib.Core.Path.{_≡_, refl, sym, ap, _∙_, subst}
+use mathlib.Core.Path.{_≡_, sym, ap, _∙_, subst}
 use mathlib.Core.Logic.{_≢_}
 use mathlib.Core.List.{List}
-use mathlib.Core.Bool.{Bool, true, false}
-use Prim.Native.Nat.{ℕ, _+_, _-_, _*_, _%_, _≤_, _<_}
-use native.Mathlib.Decide.{decLt, ℕ-discrete}
+use Prim.Native.Nat.{ℕ, _+_, _*_, _%_, _≤_, _<_}
+use native.Mathlib.Decide.{decLt}
 use native.Mathlib.Omega.{arith}
 use lib.IntN.{ℤ}
 use lib.ListN.{length}
 use borrow.Author.Tests.{lt-ltb, le-ltb, eq-eqb, ne-eqb}
-use Rattle.numbers.specs.Signal.{at, pick}
+use Rattle.numbers.specs.Signal.{at}
 use Rattle.lifting.specs.Rows.{rowChanged, rowsChanged}
 use Rattle.lifting.proofs.RowLaws.{rows-fit, changed, row-at, row-other, row-past}
 use Rattle.wavelet.specs.Bands.{Grid}
 use Rattle.wavelet.specs.Plane.{cells}
-use Rattle.whole_map.specs.Passes.{Rows, within, even, before, after, oddRowsChanged, evenRowsChanged}
+use Rattle.whole_map.specs.Passes.{within, even, before, after, oddRowsChanged, evenRowsChanged}
 use Rattle.whole_map.proofs.GridSweep.{RowSwept, Passed, row-room, store-row, skip-row, left-row}
 
 -- ---- the neighbours

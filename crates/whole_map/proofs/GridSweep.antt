@@ -4,9 +4,10 @@
 --     part-turn        a turn that lends the row out as a part
 --     map-turn         such a turn of a pass that changes each row by G, the row's length and its numbers given
 -- Assumes nothing.
-use mathlib.Core.Path.{_≡_, refl, sym, ap, _∙_, subst, fun-ext}
+use mathlib.Core.Path.{_≡_, refl, sym, ap, _∙_, fun-ext}
 use mathlib.Core.Logic.{_≢_}
 use mathlib.Core.List.{List}
+use mathlib.Core.Bool.{true, false}
 use Prim.Native.Nat.{ℕ, _+_, _-_, _*_, _/_, _%_, _≤_, _<_}
 use native.Mathlib.Nat.{mul-le-mul-right, mul-le-mul-left, div-add-mod', mod-lt}
 use native.Mathlib.Decide.{decLt, ℕ-discrete}
@@ -15,7 +16,7 @@ use lib.IntN.{ℤ}
 use lib.ListN.{length}
 use borrow.Author.Tests.{lt-ltb, le-ltb}
 use borrow.Rule.Slice.PartMut.{midOf, putMid, same-len-mid}
-use Rattle.numbers.specs.Signal.{at, pick, windowed, spliced}
+use Rattle.numbers.specs.Signal.{at, spliced}
 use Rattle.numbers.proofs.Parts.{splice-below, splice-in, splice-past, length-mid, at-mid, at-put}
 use Rattle.lifting.proofs.RowLaws.{row-order}
 use Rattle.wavelet.specs.Bands.{Grid}
@@ -30,6 +31,20 @@ row-room n s w h r g lt = let m : r * s ≤ (h - 1) * s = mul-le-mul-right s (om
 
 pub few : (n s w h : ℕ) → Rows n s w h → h ≤ n + 1
 few n s w h g = let m : (h - 1) * 1 ≤ (h - 1) * s = mul-le-mul-left (h - 1) (g .apart) in omega (arith, g .room)
+
+-- a cell among the rows, below them, and beside them
+module _ (w h r c : ℕ) where
+  pub within-in : r < h → c < w → within w h r c ≡ true
+  unfolding within
+  within-in p q = simp (lt-ltb r h p, lt-ltb c w q)
+
+  pub within-past : h ≤ r → within w h r c ≡ false
+  unfolding within
+  within-past p = simp (le-ltb r h p)
+
+  pub within-wide : w ≤ c → within w h r c ≡ false
+  unfolding within
+  within-wide q = elim (decLt r h) [ yes p ↦ simp (lt-ltb r h p, le-ltb c w q) | no d ↦ within-past (omega arith) ]
 
 -- y in the place of row i: any other row, the row, and the columns after it
 module _ (s w i : ℕ) (y x : ℕ → ℤ) (wide : w ≤ s) where
@@ -104,16 +119,26 @@ pub record Passed (s w h : ℕ) (Y : Grid) (l₀ : List ℤ) (k : ℕ) (l : List
 pub pass-start : (s w h : ℕ) (Y : Grid) (l₀ : List ℤ) (k : ℕ) → Rows (length l₀) s w h → ((r c : ℕ) → r < k → Y r c ≡ cells s (at l₀) r c) → Passed s w h Y l₀ k l₀
 pass-start s w h Y l₀ k g e = record { rows = g; few = few (length l₀) s w h g; size = refl; swept = start s Y k (at l₀) e }
 
+-- row k lies in the area
+pub pass-room : {s w h : ℕ} {Y : Grid} {l₀ : List ℤ} {k : ℕ} {l : List ℤ} → Passed s w h Y l₀ k l → k < h → k * s + w ≤ length l
+pass-room {s} {w} {h} {l₀ = l₀} {k = k} p lt = let room = row-room (length l₀) s w h k (p .rows) lt in omega (arith, p .size)
+
 pub pass-end : {s w h : ℕ} {Y : Grid} {l₀ : List ℤ} {k : ℕ} {l : List ℤ} → Passed s w h Y l₀ k l → ((r c : ℕ) → k ≤ r → Y r c ≡ cells s (at l₀) r c) → at l ≡ flat s Y
 pass-end p e = finish (p .rows .apart) (p .swept) e
 
--- row i lent as a part of k numbers, which are its w, and come back as z
+-- row i, lent as a part of k numbers, which are its w: its length
+pub row-length : (s w h : ℕ) (Y : Grid) (l₀ : List ℤ) (i k : ℕ) (l : List ℤ) → k ≡ w → i < h → Passed s w h Y l₀ i l → length (midOf (i * s) k l) ≡ w
+row-length s w h Y l₀ i k l e lt p =
+    let room = row-room (length l₀) s w h i (p .rows) lt in
+    length-mid (i * s) k l (omega (arith, p .size)) ∙ e
+
+-- and come back as z
 pub part-turn : (s w h : ℕ) (Y : Grid) (l₀ : List ℤ) (i k : ℕ) (l z : List ℤ) → k ≡ w → i < h → length z ≡ length (midOf (i * s) k l) → ((c : ℕ) → c < w → at z c ≡ Y i c) → ((c : ℕ) → w ≤ c → Y i c ≡ cells s (at l₀) i c) → Passed s w h Y l₀ i l → Passed s w h Y l₀ (i + 1) (putMid (i * s) k l z)
 part-turn s w h Y l₀ i k l z e lt ez here beside p =
     let room = row-room (length l₀) s w h i (p .rows) lt in
     let wide = p .rows .wide in
     let size = p .size in
-    let mid = length-mid (i * s) k l (omega arith) in
+    let mid = row-length s w h Y l₀ i k l e lt p in
     let put : (j : ℕ) → at (putMid (i * s) k l z) j ≡ spliced (i * s) w (at z) (at l) j =
     λ j. ap (λ (f : ℕ → ℤ). f j) (at-put (i * s) k l z (omega arith) (omega arith)) ∙ ap (λ (m : ℕ). spliced (i * s) m (at z) (at l) j) e in
     record {
@@ -140,22 +165,21 @@ lent-row s w h Y l₀ i k l e p =
 -- ---- each row changed by itself
 module _ (F : (ℕ → ℤ) → ℕ → ℤ) (w h : ℕ) (X : Grid) (r c : ℕ) where
   pub mapped-in : r < h → c < w → rowsMapped F w h X r c ≡ F (cut w (X r)) c
-  unfolding rowsMapped within
-  mapped-in p q = simp (lt-ltb r h p, lt-ltb c w q)
+  unfolding rowsMapped
+  mapped-in p q = simp (within-in w h r c p q)
 
   pub mapped-past : h ≤ r → rowsMapped F w h X r c ≡ X r c
-  unfolding rowsMapped within
-  mapped-past p = simp (le-ltb r h p)
+  unfolding rowsMapped
+  mapped-past p = simp (within-past w h r c p)
 
   pub mapped-wide : w ≤ c → rowsMapped F w h X r c ≡ X r c
-  unfolding rowsMapped within
-  mapped-wide q = elim (decLt r h) [ yes p ↦ simp (lt-ltb r h p, le-ltb c w q) | no d ↦ mapped-past (omega arith) ]
+  unfolding rowsMapped
+  mapped-wide q = simp (within-wide w h r c q)
 
 pub map-turn : (G : ℕ → (ℕ → ℤ) → ℕ → ℤ) (s w h : ℕ) (l₀ : List ℤ) (i k : ℕ) (l z : List ℤ) → k ≡ w → i < h → length z ≡ length (midOf (i * s) k l) → at z ≡ G (length (midOf (i * s) k l)) (at (midOf (i * s) k l)) → Passed s w h (rowsMapped (G w) w h (cells s (at l₀))) l₀ i l → Passed s w h (rowsMapped (G w) w h (cells s (at l₀))) l₀ (i + 1) (putMid (i * s) k l z)
 map-turn G s w h l₀ i k l z e lt ez is p =
     let X = cells s (at l₀) in
-    let room = row-room (length l₀) s w h i (p .rows) lt in
-    let mid : length (midOf (i * s) k l) ≡ w = length-mid (i * s) k l (omega (arith, p .size)) ∙ e in
+    let mid = row-length s w h _ l₀ i k l e lt p in
     let is′ : at z ≡ G w (cut w (X i)) = cc (is, mid, lent-row s w h _ l₀ i k l e p) in
     part-turn s w h _ l₀ i k l z e lt ez
     (λ c q. ap (λ (f : ℕ → ℤ). f c) is′ ∙ sym (mapped-in (G w) w h X i c lt q))

@@ -1,13 +1,23 @@
 -- Heights, u16, as whole numbers: a list of them is the list `wholes l` of i32's kind, so that its loops go by the same laws. Assumes nothing.
 use mathlib.Core.Path.{_≡_, refl, sym, ap, _∙_, fun-ext}
-use mathlib.Core.List.{List, [], _∷_, _++_, map, map-append}
-use Prim.Native.Nat.{ℕ, zero, suc, _+_, _≤_, _<_}
+use mathlib.Core.List.{List, [], _∷_, map, map-append}
+use Prim.Native.Nat.{ℕ, zero, suc, _≤_, _<_}
 use native.Mathlib.Omega.{arith}
-use lib.IntN.{ℤ, pos}
-use lib.ListN.{length, getD, set, take, drop, length-map, List·getD-map}
+use lib.Dec.{T}
+use lib.IntN.{ℤ, pos, negsuc, natAbs}
+use lib.Signed.{nonNeg, leZ}
+use mathlib.Core.Bool.{true}
+use mir.Syntax.{w16, w32}
+use mir.Val.{Fits, SFits, toZ}
+use borrow.Author.Needs.{sfits-of}
+use borrow.Author.Tests.{leb-true}
+use lib.ListN.{length, set, take, drop, length-map, List·getD-map}
 use borrow.Rule.Slice.PartMut.{midOf, putMid}
 use Rattle.numbers.specs.Signal.{at}
-use Rattle.numbers.proofs.Sweep.{Swept}
+use Rattle.numbers.proofs.Words.{read-back}
+use Rattle.numbers.proofs.Sweep.{Swept, finish, both}
+use Rattle.wavelet.specs.Limits.{maxSample}
+use Rattle.wavelet.specs.Maps.{valueFits}
 use Rattle.whole_map.specs.Rowwise.{heightsAt}
 
 abbrev pub wholes : List ℕ → List ℤ
@@ -47,3 +57,28 @@ start-heights l y k h =
       done = λ j lt. ap (λ (f : ℕ → ℤ). f j) e ∙ sym (h j lt);
       rest = λ j le. ap (λ (f : ℕ → ℤ). f j) e;
     }
+
+module _ {n : ℕ} {y x : ℕ → ℤ} {k : ℕ} (l : List ℕ) (sw : Swept n y x k (wholes l)) where
+  pub size-heights : length l ≡ n
+  size-heights = sym (length-map l pos) ∙ sw .size
+
+  pub finish-heights : ((j : ℕ) → k ≤ j → y j ≡ x j) → heightsAt l ≡ y
+  finish-heights h = sym (wholes-at l) ∙ finish sw h
+
+-- ---- a height as a 32-bit number
+pub height-fits : (v : ℕ) → v < 65536 → SFits w32 (pos v)
+height-fits v h = sfits-of (omega arith)
+
+pub height-read : (v : ℕ) → v < 65536 → toZ w32 v ≡ pos v
+height-read v h = read-back (pos v) (omega arith)
+
+-- ---- a number that is a height
+pub record IsHeight (v : ℤ) : Type 0 where
+  pub sign : T (nonNeg v)
+  pub fits : Fits w16 (natAbs v)
+  pub same : pos (natAbs v) ≡ v
+
+pub is-height : (v : ℤ) → valueFits 0 v ≡ true → IsHeight v
+unfolding valueFits maxSample
+is-height (pos n) h = let b = leb-true n 65535 (both (leZ (pos 0) (pos n)) (leZ (pos n) (pos 65535)) h .1) in record { sign = tt; fits = record { fits = omega arith }; same = refl }
+is-height (negsuc n) h = let z : _≡_ {A = ℕ} 0 1 = cc in absurd (omega arith)

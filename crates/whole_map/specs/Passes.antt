@@ -6,7 +6,7 @@ use mathlib.Core.Path.{_≡_}
 use lib.IntN.{ℤ}
 use lib.Dec.{ltb, eqb}
 use Rattle.numbers.specs.Signal.{pick, both}
-use Rattle.lifting.specs.Line.{Half, lo, hi, count, parted, joined}
+use Rattle.lifting.specs.Line.{lo, count, parted, joined}
 use Rattle.lifting.specs.Halves.{halvesOf, inHalves}
 use Rattle.wavelet.specs.Bands.{Grid}
 use Rattle.whole_map.specs.Rowwise.{cut}

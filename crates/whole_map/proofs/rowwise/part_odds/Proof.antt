@@ -1,11 +1,11 @@
 -- `whole_map::rowwise::part_odds` meets its contract: a sweep over the row's second half. Assumes nothing.
-use mathlib.Core.Path.{_≡_, sym, _∙_}
-use Prim.Native.Nat.{ℕ, _+_, _-_, _*_, _≤_, _<_}
+use mathlib.Core.Path.{sym}
+use Prim.Native.Nat.{_+_, _-_, _*_, _≤_}
 use native.Mathlib.Omega.{arith}
 use lib.ListN.{length}
 use Rattle.numbers.specs.Signal.{at}
 use Rattle.numbers.proofs.Words.{read-back}
-use Rattle.numbers.proofs.Sweep.{Swept, start, store, finish}
+use Rattle.numbers.proofs.Sweep.{Swept, start, finish}
 use Rattle.lifting.specs.Passes.{oddsCopied}
 use Rattle.lifting.proofs.LineLaws.{count-lo, count-hi}
 use Rattle.lifting.proofs.AreaLaws.{odds-low, odds-past, odds-turn}

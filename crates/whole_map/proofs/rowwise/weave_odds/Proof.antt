@@ -1,6 +1,5 @@
 -- `whole_map::rowwise::weave_odds` meets its contract: a sweep over the line, two places a turn. Assumes nothing.
-use mathlib.Core.Path.{_≡_, sym, _∙_}
-use Prim.Native.Nat.{ℕ, _+_, _-_, _*_, _/_, _≤_, _<_}
+use Prim.Native.Nat.{_+_, _-_, _*_, _/_, _≤_}
 use native.Mathlib.Omega.{arith}
 use lib.ListN.{length}
 use Rattle.numbers.specs.Signal.{at}
@@ -8,7 +7,7 @@ use Rattle.numbers.proofs.Words.{read-back}
 use Rattle.numbers.proofs.Sweep.{Swept, start, finish}
 use Rattle.lifting.specs.Line.{hi}
 use Rattle.lifting.specs.Halves.{halvesOf}
-use Rattle.lifting.proofs.LineLaws.{count-lo, count-hi}
+use Rattle.lifting.proofs.LineLaws.{count-hi}
 use Rattle.whole_map.specs.Rowwise.{oddsLaid}
 use Rattle.whole_map.proofs.RowwiseLaws.{laid-first, laid-past-odd, odds-turn, high-is}
 use Rattle.whole_map.proofs.rowwise.weave_odds.Statement.{statement}
