@@ -11,3 +11,4 @@ pub mod TestLaws
 pub mod LevelCalls
 pub mod LevelSteps
 pub mod CallLaws
+pub mod Demand2
