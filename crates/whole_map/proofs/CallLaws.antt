@@ -3,7 +3,7 @@ use mathlib.Core.Path.{_≡_, refl, sym, ap, _∙_, fun-ext}
 use mathlib.Core.Bool.{Bool, true, false}
 use mathlib.Core.List.{List}
 use Prim.Native.Nat.{ℕ, zero, suc, _+_, _-_, _*_, _/_, _%_, _^_, _≤_, _<_}
-use native.Mathlib.Nat.{mul-le-mul-left, mul-le-mul-right, pow-le-pow-right, mod-lt, mul-comm, suc-mul, div-add-mod'}
+use native.Mathlib.Nat.{mul-le-mul-left, pow-le-pow-right, mod-lt, mul-comm, suc-mul, div-add-mod'}
 use native.Mathlib.Decide.{decLt, ℕ-discrete}
 use native.Mathlib.Omega.{arith}
 use lib.IntN.{ℤ, pos, natAbs}
@@ -11,26 +11,26 @@ use lib.Signed.{_≤ℤ_}
 use lib.ListN.{getD}
 use lib.Dec.{leb, le→leb}
 use borrow.Author.Tests.{le-leb, lt-leb, eq-eqb, ne-eqb}
-use Rattle.numbers.specs.Signal.{pick, both}
+use Rattle.numbers.specs.Signal.{both}
 use Rattle.numbers.specs.Word.{wrap32, whole}
-use Rattle.lifting.specs.Line.{lo, count, parted}
+use Rattle.lifting.specs.Line.{parted}
 use Rattle.lifting.specs.Halves.{inHalves, fronted}
 use Rattle.lifting.proofs.LineLaws.{joined-parted}
 use Rattle.wavelet.specs.Limits.{maxWidth, maxHeight, maxLevels, maxSample, range}
 use Rattle.wavelet.specs.Questions.{ask, within, sizeQuestion}
 use Rattle.wavelet.specs.Bands.{Grid}
-use Rattle.wavelet.specs.Plane.{cells, flat, planeCell, planeOf, levelAt, mapBack}
-use Rattle.wavelet.specs.Maps.{IsMap, every, everyCell, inRange, valueFits, rebuiltFits}
+use Rattle.wavelet.specs.Plane.{cells, flat, planeCell, planeOf, mapBack}
+use Rattle.wavelet.specs.Maps.{IsMap, everyCell, inRange, valueFits, rebuiltFits}
 use Rattle.wavelet.proofs.GridLaws.{cells-flat, row-below}
 use Rattle.wavelet.proofs.QuestionLaws.{Sized, sized, size-no, size-yes}
-use Rattle.wavelet.proofs.LevelTheory.{Same, plane-reads}
+use Rattle.wavelet.proofs.LevelTheory.{plane-reads}
 use Rattle.wavelet.proofs.Bridge.{map-plane}
 use Rattle.wavelet.proofs.MapTheorems.{each-every, cells-same, rebuilt-fits}
 use Rattle.whole_map.specs.Rowwise.{heightsAt}
 use Rattle.whole_map.specs.Passes.{within as inside}
 use Rattle.whole_map.specs.Passes.{Rows, KeptFrom, rowsLoaded, rowsReturned}
-use Rattle.whole_map.specs.LevelPasses.{levelGrid, planeWritten, Rebuilt, regionInRange, Doubling, LevelsBack}
-use Rattle.whole_map.specs.Calls.{sizeQuestions, forwardQuestion, planeQuestions, backwardQuestion, zeros, passed, rebuilt}
+use Rattle.whole_map.specs.LevelPasses.{levelGrid, planeWritten, Rebuilt, regionInRange, Doubling}
+use Rattle.whole_map.specs.Calls.{sizeQuestions, planeQuestions, zeros, passed, rebuilt}
 use Rattle.whole_map.proofs.RowwiseLaws.{front-at, front-rest}
 use Rattle.whole_map.proofs.CellLaws.{past-rows, kept-flat, kept-then, grid-at, placed, placed-in, halves-at, within-in}
 use Rattle.whole_map.proofs.LevelsMath.{written-in, written-out}

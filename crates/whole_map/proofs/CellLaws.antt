@@ -1,18 +1,18 @@
 -- The laws of cells in an area, of rows in halves, and of the passes over rows at one cell. Assumes nothing.
-use mathlib.Core.Path.{_≡_, refl, sym, ap, _∙_, fun-ext}
+use mathlib.Core.Path.{_≡_, refl, ap, _∙_, fun-ext}
 use mathlib.Core.Bool.{Bool, true, false}
 use Prim.Native.Nat.{ℕ, _+_, _-_, _*_, _/_, _%_, _≤_, _<_, min}
 use native.Mathlib.Nat.{div-add-mod', mod-lt, mul-le-mul-right}
 use native.Mathlib.Decide.{decLt, ℕ-discrete}
 use native.Mathlib.Omega.{arith}
-use lib.IntN.{ℤ, pos}
+use lib.IntN.{ℤ}
 use lib.Dec.{eqb}
 use borrow.Author.Tests.{lt-ltb, le-ltb, eq-eqb, ne-eqb}
 use Rattle.numbers.specs.Signal.{pick}
 use Rattle.numbers.specs.Word.{wrap32}
 use Rattle.lifting.specs.Line.{predicted, updated, unupdated, unpredicted, Half, lo, hi, count, parted, joined}
 use Rattle.lifting.specs.Halves.{halvesOf, inHalves, liftedInPlace, unliftedInPlace}
-use Rattle.lifting.proofs.LineLaws.{counts, count-lo, count-hi, halves-low, halves-high}
+use Rattle.lifting.proofs.LineLaws.{counts, count-lo, halves-low, halves-high}
 use Rattle.wavelet.specs.Bands.{Grid}
 use Rattle.wavelet.specs.Plane.{cells, flat, halfAt, placeIn}
 use Rattle.whole_map.specs.Rowwise.{cut}
@@ -187,7 +187,59 @@ after-even h n g b =
       | no a ↦ simp (le-ltb (2 * n + 1) h (omega arith)) (omega arith)
     ]
 
+-- ---- rows stored in the plane, and fetched from it, at one cell
+pub stored-in : (w h : ℕ) (X Z : Grid) (r c : ℕ) → r < h → c < w → rowsStored w h X Z r c ≡ X (levelRow h r) c
+unfolding rowsStored
+stored-in w h X Z r c rh cw = simp (within-in w h r c rh cw)
+
+pub stored-out : (w h : ℕ) (X Z : Grid) (r c : ℕ) → within w h r c ≡ false → rowsStored w h X Z r c ≡ Z r c
+unfolding rowsStored
+stored-out w h X Z r c e = simp e
+
+module _ (from w h : ℕ) (P X : Grid) (r c : ℕ) (rh : r < h) (cw : c < w) where
+  pub fetched-new : pick (even r) from 0 ≤ c → rowsFetched from w h P X r c ≡ P (planeRow h r) c
+  unfolding rowsFetched even
+  fetched-new =
+      elim (ℕ-discrete (r % 2) 0) [
+        | yes e ↦ simp (within-in w h r c rh cw, eq-eqb (r % 2) 0 e) (λ b. simp (le-ltb c from b))
+        | no d ↦ simp (within-in w h r c rh cw, ne-eqb (r % 2) 0 d) (λ b. refl)
+      ]
+
+  pub fetched-made : c < pick (even r) from 0 → rowsFetched from w h P X r c ≡ X r c
+  unfolding rowsFetched even
+  fetched-made =
+      elim (ℕ-discrete (r % 2) 0) [
+        | yes e ↦ simp (within-in w h r c rh cw, eq-eqb (r % 2) 0 e) (λ b. simp (lt-ltb c from b))
+        | no d ↦ simp (ne-eqb (r % 2) 0 d) (λ b. absurd (omega arith))
+      ]
+
+-- what an even and an odd row have made already, and their rows of the plane
+module _ (h i : ℕ) where
+  pub made-even : (from : ℕ) → pick (even (2 * i)) from 0 ≡ from
+  unfolding even
+  made-even from = simp (eq-eqb (2 * i % 2) 0 (omega arith))
+
+  pub made-odd : (from : ℕ) → pick (even (2 * i + 1)) from 0 ≡ 0
+  unfolding even
+  made-odd from = simp (ne-eqb ((2 * i + 1) % 2) 0 (omega arith))
+
+  pub plane-even : planeRow h (2 * i) ≡ i
+  unfolding planeRow even
+  plane-even = simp (eq-eqb (2 * i % 2) 0 (omega arith)) (omega arith)
+
+  pub plane-odd : planeRow h (2 * i + 1) ≡ count lo h + i
+  unfolding planeRow even
+  plane-odd = simp (ne-eqb ((2 * i + 1) % 2) 0 (omega arith)) (omega arith)
+
 -- ---- a cell outside the h rows of w numbers stays
+pub outside-columns : (w h r c : ℕ) → w ≤ c → within w h r c ≡ false
+unfolding within
+outside-columns w h r c b = elim (decLt r h) [ yes a ↦ simp (lt-ltb r h a, le-ltb c w b) | no a ↦ simp (le-ltb r h (omega arith)) ]
+
+pub outside-rows : (w h r c : ℕ) → h ≤ r → within w h r c ≡ false
+unfolding within
+outside-rows w h r c b = simp (le-ltb r h b)
+
 module _ (w h : ℕ) (X : Grid) (r c : ℕ) (e : within w h r c ≡ false) where
   pub odd-out : (f : ℤ → ℤ → ℤ → ℤ) → oddRowsChanged f w h X r c ≡ X r c
   unfolding oddRowsChanged

@@ -23,6 +23,7 @@ use Rattle.wavelet.proofs.LevelTheory.{Same}
 use Rattle.wavelet.proofs.MapTheorems.{some-map, one-map, back-exactly}
 use Rattle.whole_map.specs.Calls.{sizeQuestions, forwardQuestion, planeQuestions, backwardQuestion, passed, rebuilt}
 use Rattle.whole_map.proofs.RowwiseLaws.{front-at}
+use Rattle.whole_map.proofs.TestLaws.{false-true}
 use Rattle.whole_map.proofs.CallLaws.{roomy-is, asked-on, passed-yes, rebuilt-yes}
 
 -- the cells of an area with a map or a plane at its front
@@ -38,14 +39,8 @@ pub data SevenOrFourteen (q : ℕ) : Type 0 where
 
 passes : (p q : Bool) → ask p 7 (ask q 14 0) ≡ 0 ↔ (p ≡ true) × (q ≡ true)
 passes true true = (λ e. (refl, refl), λ e. refl)
-passes true false = (λ e. absurd (omega arith), λ e. absurd (never (e .1)))
-  where
-    never : false ≡ true → ⊥
-    never e = let z : _≡_ {A = ℕ} 0 1 = cc in omega arith
-passes false q = (λ e. absurd (omega arith), λ e. absurd (never (e .0)))
-  where
-    never : false ≡ true → ⊥
-    never e = let z : _≡_ {A = ℕ} 0 1 = cc in omega arith
+passes true false = (λ e. absurd (omega arith), λ e. absurd (false-true (e .1)))
+passes false q = (λ e. absurd (omega arith), λ e. absurd (false-true (e .0)))
 
 refuses : (p q : Bool) → SevenOrFourteen (ask p 7 (ask q 14 0)) ↔ (ask p 7 (ask q 14 0) ≡ 0 → ⊥)
 refuses true true = (λ s n. elim s [ seven e ↦ omega arith | fourteen e ↦ omega arith ], λ n. absurd (n refl))
@@ -94,8 +89,7 @@ module _ (W H L a b c : ℕ) (pass : sizeQuestions W H L a b c 0 ≡ 0) where
     pub backward-gives : (g : Grid) → HasPlane L W H g x ↔ (answer ≡ 0) × Same W H (cells W heightsAfter) g
     backward-gives g =
         let s = roomy-is W H L a b c pass .size in
-        let m = back-exactly L W H g x (s .levels .0) (s .levels .1) in
-        (
+        let m = back-exactly L W H g x (s .levels .0) (s .levels .1) in (
           λ has.
               let k = m .0 has in
               let e = asked .1 (k .0, k .1) in
@@ -116,8 +110,7 @@ module _ (W H L a b c : ℕ) (pass : sizeQuestions W H L a b c 0 ≡ 0) where
 
     pub backward-refuses : SevenOrFourteen answer ↔ ((g : Grid) → HasPlane L W H g x → ⊥)
     backward-refuses =
-        let r = refuses (inRange L W H x) (rebuiltFits 0 L W H x) in
-        (
+        let r = refuses (inRange L W H x) (rebuiltFits 0 L W H x) in (
           λ s g has. r .0 (rw answer-is at s) (sym answer-is ∙ backward-passes .1 (g, has)),
           λ n. rw answer-is (r .1 (λ e. let m = backward-passes .0 (answer-is ∙ e) in n (m .0) (m .1))),
         )

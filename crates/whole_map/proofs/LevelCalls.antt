@@ -1,20 +1,18 @@
 -- What the calls of `levels` come to together: passes one after the other, a row copied in a loop, a row tested in a loop. Assumes nothing.
 use mathlib.Core.Path.{_≡_, refl, sym, ap, _∙_, fun-ext}
-use mathlib.Core.Logic.{_≢_}
 use mathlib.Core.Bool.{Bool, true, false}
 use mathlib.Core.List.{List}
-use Prim.Native.Nat.{ℕ, zero, suc, _+_, _-_, _*_, _/_, _%_, _^_, _≤_, _<_}
-use native.Mathlib.Nat.{mul-le-mul-left, mul-le-mul-right}
+use Prim.Native.Nat.{ℕ, _+_, _-_, _*_, _%_, _≤_, _<_}
 use native.Mathlib.Decide.{decLt, ℕ-discrete}
 use native.Mathlib.Omega.{arith}
-use lib.IntN.{ℤ, pos}
+use lib.IntN.{ℤ}
 use lib.ListN.{length}
 use borrow.Rule.Slice.PartMut.{midOf, putMid}
 use borrow.Author.Tests.{lt-ltb, le-ltb, eq-eqb, ne-eqb}
 use Rattle.numbers.specs.Signal.{at, pick, windowed, spliced}
 use Rattle.numbers.specs.Word.{wrap32}
 use Rattle.numbers.proofs.Parts.{window-in, splice-below, splice-in, splice-past, length-mid, at-mid, at-put}
-use Rattle.lifting.specs.Line.{lo, count, predicted, updated, unupdated, unpredicted}
+use Rattle.lifting.specs.Line.{predicted, updated, unupdated, unpredicted}
 use Rattle.lifting.specs.Halves.{fronted, liftedInPlace, unliftedInPlace}
 use Rattle.lifting.proofs.RowLaws.{row-order}
 use Rattle.wavelet.specs.Bands.{Grid}
@@ -23,12 +21,12 @@ use Rattle.wavelet.specs.Maps.{every, everyCell}
 use Rattle.wavelet.proofs.GridLaws.{cells-flat, flat-cells}
 use Rattle.wavelet.proofs.MapTheorems.{every-each, each-every, every-same}
 use Rattle.whole_map.specs.Rowwise.{cut, between}
-use Rattle.whole_map.specs.Passes.{Rows, within, even, before, after, oddRowsChanged, evenRowsChanged, rowsMapped, planeRow, levelRow, rowsStored, rowsFetched}
-use Rattle.whole_map.specs.LevelPasses.{columnsLiftedInPlace, levelLifted, columnsUnliftedInPlace, levelUnlifted, rowsBetween, Doubling}
+use Rattle.whole_map.specs.Passes.{even, before, after, oddRowsChanged, evenRowsChanged, rowsMapped, planeRow, levelRow, rowsStored, rowsFetched}
+use Rattle.whole_map.specs.LevelPasses.{columnsLiftedInPlace, levelLifted, columnsUnliftedInPlace, levelUnlifted, rowsBetween}
 use Rattle.whole_map.proofs.GridSweep.{RowSwept, store-row}
 use Rattle.whole_map.proofs.RowwiseLaws.{front-at}
-use Rattle.whole_map.proofs.CellLaws.{flat-same, within-in}
-use Rattle.whole_map.proofs.TestLaws.{bool-same}
+use Rattle.whole_map.proofs.CellLaws.{flat-same, stored-in, stored-out, fetched-new, fetched-made, fetched-out, outside-columns}
+use Rattle.whole_map.proofs.TestLaws.{false-true, bool-same}
 
 -- ---- a pass reads the cells that stand in the area alone
 module _ (f : ℤ → ℤ → ℤ → ℤ) (w h : ℕ) (X Y : Grid) (r c : ℕ) (same : (i : ℕ) → X i c ≡ Y i c) where
@@ -149,28 +147,7 @@ copy-turn s w made n i p Y Z y x x′ ws all e is new left past sw =
           ]
     ])
 
-outside-columns : (w h r c : ℕ) → w ≤ c → within w h r c ≡ false
-unfolding within
-outside-columns w h r c b = elim (decLt r h) [ yes a ↦ simp (lt-ltb r h a, le-ltb c w b) | no a ↦ simp (le-ltb r h (omega arith)) ]
-
-outside-rows : (w h r c : ℕ) → h ≤ r → within w h r c ≡ false
-unfolding within
-outside-rows w h r c b = simp (le-ltb r h b)
-
 -- the rows of a level to the plane
-module _ (w h : ℕ) (X Z : Grid) (r c : ℕ) where
-  stored-in : r < h → c < w → rowsStored w h X Z r c ≡ X (levelRow h r) c
-  unfolding rowsStored
-  stored-in rh cw = simp (within-in w h r c rh cw)
-
-  stored-wide : w ≤ c → rowsStored w h X Z r c ≡ Z r c
-  unfolding rowsStored
-  stored-wide b = simp (outside-columns w h r c b)
-
-  pub stored-past : h ≤ r → rowsStored w h X Z r c ≡ Z r c
-  unfolding rowsStored
-  stored-past b = simp (outside-rows w h r c b)
-
 pub stored-turn : (s A w h i l : ℕ) (x z₀ z z′ : ℕ → ℤ) → w ≤ A → i < h → l ≡ levelRow h i → z′ ≡ spliced (i * A) w (windowed (l * s) w x) z → RowSwept A (rowsStored w h (cells s x) (cells A z₀)) (cells A z₀) i z → RowSwept A (rowsStored w h (cells s x) (cells A z₀)) (cells A z₀) (i + 1) z′
 unfolding cells
 stored-turn s A w h i l x z₀ z z′ wa ih e is sw =
@@ -179,35 +156,10 @@ stored-turn s A w h i l x z₀ z z′ wa ih e is sw =
     let k : 0 + c ≡ c = omega arith in
     rw k (window-in (l * s) w x c cw ∙ ap (λ (m : ℕ). x (m * s + c)) e ∙ sym (stored-in w h (cells s x) (cells A z₀) i c ih cw)))
     (λ c b. absurd (omega arith))
-    (λ c b. stored-wide w h (cells s x) (cells A z₀) i c b)
+    (λ c b. stored-out w h (cells s x) (cells A z₀) i c (outside-columns w h i c b))
     sw
 
 -- the rows of a level from the plane
-module _ (from w h : ℕ) (P X : Grid) (r c : ℕ) where
-  fetched-new : r < h → c < w → pick (even r) from 0 ≤ c → rowsFetched from w h P X r c ≡ P (planeRow h r) c
-  unfolding rowsFetched even
-  fetched-new rh cw =
-      elim (ℕ-discrete (r % 2) 0) [
-        | yes e ↦ simp (within-in w h r c rh cw, eq-eqb (r % 2) 0 e) (λ b. simp (le-ltb c from b))
-        | no d ↦ simp (within-in w h r c rh cw, ne-eqb (r % 2) 0 d) (λ b. refl)
-      ]
-
-  fetched-made : r < h → c < w → c < pick (even r) from 0 → rowsFetched from w h P X r c ≡ X r c
-  unfolding rowsFetched even
-  fetched-made rh cw =
-      elim (ℕ-discrete (r % 2) 0) [
-        | yes e ↦ simp (within-in w h r c rh cw, eq-eqb (r % 2) 0 e) (λ b. simp (lt-ltb c from b))
-        | no d ↦ simp (ne-eqb (r % 2) 0 d) (λ b. absurd (omega arith))
-      ]
-
-  fetched-wide : w ≤ c → rowsFetched from w h P X r c ≡ X r c
-  unfolding rowsFetched
-  fetched-wide b = simp (outside-columns w h r c b)
-
-  pub fetched-past : h ≤ r → rowsFetched from w h P X r c ≡ X r c
-  unfolding rowsFetched
-  fetched-past b = simp (outside-rows w h r c b)
-
 pub made-few : (r from w : ℕ) → from ≤ w → pick (even r) from 0 ≤ w
 unfolding even
 made-few r from w b = elim (ℕ-discrete (r % 2) 0) [ yes e ↦ simp (eq-eqb (r % 2) 0 e) b | no d ↦ simp (ne-eqb (r % 2) 0 d) (omega arith) ]
@@ -223,15 +175,12 @@ fetched-turn s A from w h i l made z x₀ x x′ ws ih m few e is sw =
     ∙ ap (λ (j : ℕ). z (j * A + (made + c))) e
     ∙ sym (fetched-new from w h (cells A z) (cells s x₀) i (made + c) ih (omega arith) (omega arith)))
     (λ c b. fetched-made from w h (cells A z) (cells s x₀) i c ih (omega arith) (omega arith))
-    (λ c b. fetched-wide from w h (cells A z) (cells s x₀) i c b)
+    (λ c b. fetched-out w h (cells s x₀) i c (outside-columns w h i c b) from (cells A z))
     sw
 
 -- one no is enough
 not-every : (n : ℕ) (p : ℕ → Bool) (i : ℕ) → i < n → p i ≡ false → every n p ≡ false
-not-every n p i h e = bool-same (every n p) false (λ a. sym e ∙ every-each n p a i h) (λ a. absurd (never a))
-  where
-    never : false ≡ true → ⊥
-    never a = let z : _≡_ {A = ℕ} 0 1 = cc in omega arith
+not-every n p i h e = bool-same (every n p) false (λ a. sym e ∙ every-each n p a i h) (λ a. absurd (false-true a))
 
 -- ---- rows tested: those from `first` up to r are between low and high
 module _ (s first last from to : ℕ) (low high : ℤ) (l : List ℤ) where

@@ -1,18 +1,16 @@
 -- One level in an area is one level of the definition: the passes over rows in halves, forward and back. Assumes nothing.
-use mathlib.Core.Path.{_≡_, refl, sym, ap, _∙_, fun-ext}
-use mathlib.Core.Bool.{Bool, true, false}
-use Prim.Native.Nat.{ℕ, _+_, _-_, _*_, _/_, _%_, _≤_, _<_, min}
+use mathlib.Core.Path.{_≡_, sym, ap, _∙_, fun-ext}
+use Prim.Native.Nat.{ℕ, _+_, _-_, _*_, _/_, _%_, _<_, min}
 use native.Mathlib.Decide.{decLt, ℕ-discrete}
 use native.Mathlib.Omega.{arith}
-use lib.IntN.{ℤ, pos}
+use lib.IntN.{ℤ}
 use borrow.Author.Tests.{lt-ltb, le-ltb}
-use Rattle.numbers.specs.Signal.{pick}
 use Rattle.numbers.specs.Word.{wrap32}
-use Rattle.lifting.specs.Line.{Half, lo, hi, count, predicted, updated, unupdated, unpredicted, high, low, backEven, backOdd, parted, joined, lineForward, lineHalvesBack, lineBack}
+use Rattle.lifting.specs.Line.{Half, lo, hi, count, predicted, updated, unupdated, unpredicted, high, backEven, parted, joined, lineForward, lineHalvesBack, lineBack}
 use Rattle.lifting.specs.Halves.{halvesOf, liftedInPlace, unliftedInPlace}
 use Rattle.lifting.proofs.LineLaws.{counts, count-lo, count-hi, joined-even, joined-odd, high-is, low-is, even-is, odd-is, low-one, even-one}
 use Rattle.lifting.proofs.LineTheorems.{forward-reads, back-reads}
-use Rattle.wavelet.specs.Bands.{Grid, Band, LL, HL, LH, HH, across, down, bandOf, columnsLifted, subband, rowsUnlifted, levelBack}
+use Rattle.wavelet.specs.Bands.{Grid, Band, bandOf, columnsLifted, subband, rowsUnlifted, levelBack}
 use Rattle.wavelet.specs.Plane.{halfAt, placeIn}
 use Rattle.whole_map.specs.Rowwise.{cut}
 use Rattle.whole_map.specs.Passes.{oddRowsChanged, evenRowsChanged, rowsMapped, levelRow}

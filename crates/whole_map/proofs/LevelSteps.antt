@@ -7,7 +7,6 @@ use native.Mathlib.Omega.{arith}
 use lib.IntN.{ℤ, pos, negℤ, _-ℤ_}
 use mir.Syntax.{w32}
 use mir.Val.{SFits}
-use Rattle.numbers.specs.Signal.{pick}
 use Rattle.numbers.specs.Word.{wrap32}
 use Rattle.numbers.proofs.Integers.{each, lin}
 use Rattle.lifting.specs.Line.{lo, count}
@@ -15,13 +14,13 @@ use Rattle.lifting.proofs.LineLaws.{count-lo}
 use Rattle.wavelet.specs.Limits.{maxLevels, range}
 use Rattle.wavelet.specs.Bands.{Grid}
 use Rattle.wavelet.specs.Plane.{cells, flat, mapBack}
-use Rattle.wavelet.specs.Maps.{everyCell, valueFits, rebuiltFits}
+use Rattle.wavelet.specs.Maps.{everyCell, valueFits}
 use Rattle.whole_map.specs.Rowwise.{partedInPlace, wovenInPlace}
 use Rattle.whole_map.specs.Passes.{Rows, KeptFrom, rowsMapped, rowsStored, rowsFetched}
-use Rattle.whole_map.specs.LevelPasses.{levelGrid, levelLifted, levelUnlifted, planeWritten, Rebuilt, leastFit, rowsBetween, regionInRange, Doubling, LevelBack, LevelsBack}
+use Rattle.whole_map.specs.LevelPasses.{levelGrid, levelLifted, planeWritten, Rebuilt, rowsBetween, regionInRange, Doubling, LevelBack, LevelsBack}
 use Rattle.whole_map.proofs.CellLaws.{mapped-out, fetched-out, lifted-out, unlifted-out, kept-flat, kept-then, next-end, next-rows, fewer-rows, fewer-columns}
 use Rattle.whole_map.proofs.LevelsMath.{forward-last, forward-more, back-last, back-more}
-use Rattle.whole_map.proofs.TestLaws.{rebuilt-test, fits-more, fits-last, region-more, region-last}
+use Rattle.whole_map.proofs.TestLaws.{false-true, rebuilt-test, fits-more, fits-last, region-more, region-last}
 
 -- ---- sizes
 pub stride-small : (L s w : ℕ) → Doubling L s w → 2 * s ≤ 65568
@@ -109,12 +108,9 @@ back-no n s A w h k L w′ h′ ok z y₀ y R a ew eh it b =
     let inner = b′ .answer in
     record {
       answer = sym (fits-more k L w h (cells A z) (omega arith) ∙ rw (← inner));
-      grid = λ e. absurd (never e);
+      grid = λ e. absurd (false-true e);
       kept = record { kept = λ j h. b′ .kept .kept j (omega arith) };
     }
-  where
-    never : false ≡ true → ⊥
-    never e = let x : _≡_ {A = ℕ} 0 1 = cc in omega arith
 
 -- it fits: y₁ is the work area with it, y₂ the same with its rows in their own order
 pub back-step : (n s A w h k L w′ h′ : ℕ) (done ok : Bool) (z y₀ y₁ y₂ y : ℕ → ℤ) → Rows n s w h → 2 ≤ L → w′ ≡ count lo w → h′ ≡ count lo h → done ≡ true → LevelsBack done (k + 1) (L - 1) (2 * s) A w′ h′ z y₀ y₁ → y₂ ≡ flat (2 * s) (rowsMapped (wovenInPlace (count lo w)) (count lo w) (count lo h) (cells (2 * s) y₁)) → LevelBack ok k w′ s A w h z y₂ y → LevelsBack ok k L s A w h z y₀ y

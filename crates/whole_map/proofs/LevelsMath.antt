@@ -1,25 +1,23 @@
 -- The levels in an area and a plane are the levels of the definition: from one level to the next, forward and back. Assumes nothing.
 use mathlib.Core.Path.{_≡_, refl, sym, ap, _∙_, fun-ext}
-use mathlib.Core.Bool.{Bool, true, false}
-use Prim.Native.Nat.{ℕ, zero, suc, _+_, _-_, _*_, _/_, _%_, _≤_, _<_}
-use native.Mathlib.Decide.{decLt}
+use mathlib.Core.Bool.{false}
+use Prim.Native.Nat.{ℕ, zero, suc, _+_, _-_, _*_, _≤_, _<_}
 use native.Mathlib.Omega.{arith}
-use lib.IntN.{ℤ, pos}
-use borrow.Author.Tests.{lt-ltb, le-ltb, eq-eqb, ne-eqb}
-use Rattle.numbers.specs.Signal.{pick}
+use lib.IntN.{ℤ}
+use borrow.Author.Tests.{lt-ltb}
 use Rattle.numbers.specs.Word.{wrap32}
-use Rattle.lifting.specs.Line.{Half, lo, hi, count, parted, joined}
-use Rattle.lifting.specs.Halves.{halvesOf, inHalves, fronted}
+use Rattle.lifting.specs.Line.{lo, hi, count, parted, joined}
+use Rattle.lifting.specs.Halves.{halvesOf}
 use Rattle.lifting.proofs.LineLaws.{counts, count-lo, count-hi, joined-parted, front-in}
-use Rattle.wavelet.specs.Bands.{Grid, Band, LL, HL, LH, HH, across, down, bandOf, columnsLifted, subband, levelBack}
+use Rattle.wavelet.specs.Bands.{Grid, Band, LL, HL, LH, HH, bandOf, subband, levelBack}
 use Rattle.wavelet.specs.Plane.{cells, flat, halfAt, placeIn, planeCell, mapBack}
 use Rattle.whole_map.specs.Rowwise.{cut, partedInPlace, wovenInPlace}
-use Rattle.whole_map.specs.Passes.{within, even, rowsMapped, planeRow, levelRow, rowsStored, rowsFetched}
+use Rattle.whole_map.specs.Passes.{within, rowsMapped, levelRow, rowsStored, rowsFetched}
 use Rattle.whole_map.specs.LevelPasses.{levelGrid, levelLifted, levelUnlifted, planeWritten, Rebuilt}
 use Rattle.wavelet.proofs.GridLaws.{cells-flat}
 use Rattle.wavelet.proofs.LevelTheory.{plane-reads}
 use Rattle.whole_map.proofs.GridSweep.{mapped-in}
-use Rattle.whole_map.proofs.CellLaws.{flat-same, placed, placed-in, joined-at, grid-at, halves-at, half-low, cut-in, level-low, within-in, by-within}
+use Rattle.whole_map.proofs.CellLaws.{stored-in, stored-out, fetched-new, fetched-made, made-even, made-odd, plane-even, plane-odd, flat-same, placed, placed-in, joined-at, grid-at, halves-at, half-low, cut-in, level-low, within-in, by-within}
 use Rattle.whole_map.proofs.LevelMath.{BandsIn, level-forward, level-back}
 
 -- ---- the plane, by cells
@@ -68,21 +66,16 @@ module _ (s A w h : ℕ) (x₀ z₀ x₁ z₁ : ℕ → ℤ) (ws : w ≤ s) (som
       ∙ cells-flat s (levelLifted w h (cells s x₀)) (levelRow h r) c (omega arith)
       ∙ level-forward w h (cells s x₀) r c rh cw
 
-  stored-in : (r c : ℕ) → r < h → c < w → rowsStored w h (cells s x₁) (cells A z₀) r c ≡ subband wrap32 w h g (bandOf (halfAt w c) (halfAt h r)) (placeIn h r) (placeIn w c)
-  unfolding rowsStored
-  stored-in r c rh cw = simp (within-in w h r c rh cw) (lifted-cell r c rh cw)
-
-  stored-out : (r c : ℕ) → within w h r c ≡ false → rowsStored w h (cells s x₁) (cells A z₀) r c ≡ cells A z₀ r c
-  unfolding rowsStored
-  stored-out r c e = simp e
+  stored-cell : (r c : ℕ) → r < h → c < w → rowsStored w h (cells s x₁) (cells A z₀) r c ≡ subband wrap32 w h g (bandOf (halfAt w c) (halfAt h r)) (placeIn h r) (placeIn w c)
+  stored-cell r c rh cw = stored-in w h (cells s x₁) (cells A z₀) r c rh cw ∙ lifted-cell r c rh cw
 
   pub forward-last : z₁ ≡ flat A (planeWritten 1 w h g (cells A z₀))
   forward-last =
       f₁ ∙ flat-same A _ _ some
       (λ r c _.
       by-within w h r c
-      (λ rh cw. stored-in r c rh cw ∙ sym (written-in 1 w h g (cells A z₀) r c rh cw ∙ plane-last wrap32 w h g r c))
-      (λ e. stored-out r c e ∙ sym (written-out 1 w h g (cells A z₀) r c e)))
+      (λ rh cw. stored-cell r c rh cw ∙ sym (written-in 1 w h g (cells A z₀) r c rh cw ∙ plane-last wrap32 w h g r c))
+      (λ e. stored-out w h (cells s x₁) (cells A z₀) r c e ∙ sym (written-out 1 w h g (cells A z₀) r c e)))
 
   -- the low-low part, brought into halves at twice the stride
   module _ (x₂ : ℕ → ℤ) (e₂ : x₂ ≡ flat (2 * s) (rowsMapped (partedInPlace (count lo w)) (count lo w) (count lo h) (cells (2 * s) x₁))) where
@@ -129,8 +122,8 @@ module _ (s A w h : ℕ) (x₀ z₀ x₁ z₁ : ℕ → ℤ) (ws : w ≤ s) (som
         ∙ ap (λ (z : ℕ → ℤ). cells A z r c) f₁
         ∙ cells-flat A (rowsStored w h (cells s x₁) (cells A z₀)) r c ca
         ∙ by-within w h r c
-        (λ rh cw. stored-in r c rh cw ∙ sym (written-in (suc L) w h g (cells A z₀) r c rh cw ∙ plane-rest wrap32 L w h g r c e))
-        (λ o. stored-out r c o ∙ sym (written-out (suc L) w h g (cells A z₀) r c o))))
+        (λ rh cw. stored-cell r c rh cw ∙ sym (written-in (suc L) w h g (cells A z₀) r c rh cw ∙ plane-rest wrap32 L w h g r c e))
+        (λ o. stored-out w h (cells s x₁) (cells A z₀) r c o ∙ sym (written-out (suc L) w h g (cells A z₀) r c o))))
 
 -- ---- back
 -- the bands that the plane x and the levels left give
@@ -144,27 +137,20 @@ pub back-is : (L w h : ℕ) (x : Grid) → mapBack wrap32 (suc L) w h x ≡ leve
 unfolding mapBack bandsBack
 back-is L w h x = ap (levelBack wrap32 w h) (fun-ext (λ b. elim b [ LL ↦ refl | HL ↦ refl | LH ↦ refl | HH ↦ refl ]))
 
-plane-even : (h i : ℕ) → planeRow h (2 * i) ≡ i
-unfolding planeRow even
-plane-even h i = simp (eq-eqb (2 * i % 2) 0 (omega arith)) (omega arith)
-
-plane-odd : (h i : ℕ) → planeRow h (2 * i + 1) ≡ count lo h + i
-unfolding planeRow even
-plane-odd h i = simp (ne-eqb ((2 * i + 1) % 2) 0 (omega arith)) (omega arith)
-
 -- what is fetched from the plane, and what is left
-module _ (from w h : ℕ) (z x : Grid) (c : ℕ) (cw : c < w) where
-  fetched-odd : (i : ℕ) → i < count hi h → rowsFetched from w h z x (2 * i + 1) c ≡ z (count lo h + i) c
-  unfolding rowsFetched even
-  fetched-odd i b = let l = count-hi h in simp (within-in w h (2 * i + 1) c (omega arith) cw, ne-eqb ((2 * i + 1) % 2) 0 (omega arith), plane-odd h i)
+module _ (from w h : ℕ) (z x : Grid) (c : ℕ) (cw : c < w) (i : ℕ) where
+  fetched-odd : i < count hi h → rowsFetched from w h z x (2 * i + 1) c ≡ z (count lo h + i) c
+  fetched-odd b =
+      let l = count-hi h in
+      fetched-new from w h z x (2 * i + 1) c (omega arith) cw (rw (made-odd h i from) (omega arith)) ∙ ap (λ (r : ℕ). z r c) (plane-odd h i)
 
-  fetched-even : (i : ℕ) → i < count lo h → from ≤ c → rowsFetched from w h z x (2 * i) c ≡ z i c
-  unfolding rowsFetched even
-  fetched-even i b f = let l = count-lo h in simp (within-in w h (2 * i) c (omega arith) cw, eq-eqb (2 * i % 2) 0 (omega arith), le-ltb c from f, plane-even h i)
+  fetched-even : i < count lo h → from ≤ c → rowsFetched from w h z x (2 * i) c ≡ z i c
+  fetched-even b f =
+      let l = count-lo h in
+      fetched-new from w h z x (2 * i) c (omega arith) cw (rw (made-even h i from) f) ∙ ap (λ (r : ℕ). z r c) (plane-even h i)
 
-  fetched-left : (i : ℕ) → i < count lo h → c < from → rowsFetched from w h z x (2 * i) c ≡ x (2 * i) c
-  unfolding rowsFetched even
-  fetched-left i b f = let l = count-lo h in simp (within-in w h (2 * i) c (omega arith) cw, eq-eqb (2 * i % 2) 0 (omega arith), lt-ltb c from f)
+  fetched-left : i < count lo h → c < from → rowsFetched from w h z x (2 * i) c ≡ x (2 * i) c
+  fetched-left b f = let l = count-lo h in fetched-made from w h z x (2 * i) c (omega arith) cw (rw (made-even h i from) f)
 
 -- rows in halves brought into their own order are the grid
 pub woven-in : (w h : ℕ) (X : Grid) (r c : ℕ) → r < h → c < w → rowsMapped (wovenInPlace w) w h X r c ≡ levelGrid w X r c

@@ -1,5 +1,4 @@
 -- What the two calls answer and leave: document 01, "The plane" and "The gate questions".
-use mathlib.Core.Bool.{Bool, true, false}
 use Prim.Native.Nat.{ℕ, _*_}
 use lib.IntN.{ℤ, pos}
 use lib.Dec.{leb, eqb}

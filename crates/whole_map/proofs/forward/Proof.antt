@@ -1,6 +1,5 @@
 -- `forward` meets its contract: the questions, and then the transform. Assumes nothing.
-use mathlib.Core.Path.{_≡_, refl, sym, _∙_}
-use native.Mathlib.Omega.{arith}
+use mathlib.Core.Path.{refl, sym, _∙_}
 use Rattle.whole_map.specs.Calls.{forwardQuestion}
 use Rattle.whole_map.proofs.CallLaws.{roomy-is, passed-no, passed-yes}
 use borrow.Author.Needs.{needs}

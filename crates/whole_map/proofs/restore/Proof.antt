@@ -1,5 +1,5 @@
 -- `restore` meets its contract: the two questions of the plane, and what each answer leaves. Assumes nothing.
-use mathlib.Core.Path.{_≡_, refl, sym, _∙_}
+use mathlib.Core.Path.{sym, _∙_}
 use native.Mathlib.Omega.{arith}
 use borrow.Author.Tests.{not-true, not-false}
 use Rattle.whole_map.proofs.CallLaws.{map-rows, map-doubling, cleared, rebuilt-no, rebuilt-yes, rebuilt-zero, out-of-range, not-rebuilt, all-rebuilt, map-returned, rows-fit}

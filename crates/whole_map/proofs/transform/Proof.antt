@@ -1,5 +1,4 @@
 -- `transform` meets its contract: the rows loaded are the map, the levels write its plane, and for a map the words are whole numbers. Assumes nothing.
-use mathlib.Core.Path.{_≡_, _∙_}
 use Prim.Native.Nat.{ℕ, _<_}
 use native.Mathlib.Omega.{arith}
 use lib.ListN.{getD}

@@ -1,5 +1,5 @@
 -- `levels::back_levels` meets its contract: the low-low part by the levels left, which fall, and then this level. Assumes nothing.
-use mathlib.Core.Path.{_≡_, refl, sym, _∙_}
+use mathlib.Core.Path.{refl, _∙_}
 use native.Mathlib.Omega.{arith}
 use borrow.Author.Needs.{needs}
 use borrow.Author.Tests.{not-true, not-false}

@@ -1,5 +1,5 @@
 -- `levels::forward_levels` meets its contract: this level, and then the low-low part by the levels left, which fall. Assumes nothing.
-use mathlib.Core.Path.{_≡_, refl, sym, _∙_}
+use mathlib.Core.Path.{_∙_}
 use native.Mathlib.Omega.{arith}
 use borrow.Author.Needs.{needs}
 use Rattle.whole_map.proofs.LevelSteps.{stride-small, doubled, rows-next, rows-corner, forward-end, forward-step}

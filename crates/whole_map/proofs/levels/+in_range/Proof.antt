@@ -1,5 +1,5 @@
 -- `levels::in_range` meets its contract: the region's own bands, and the low-low part by the levels left, which fall. Assumes nothing.
-use mathlib.Core.Path.{_≡_, refl}
+use mathlib.Core.Path.{refl}
 use native.Mathlib.Omega.{arith}
 use borrow.Author.Needs.{needs}
 use borrow.Author.Tests.{not-true, not-false}

@@ -8,7 +8,8 @@ use Rattle.numbers.specs.Signal.{at, pick}
 use Rattle.wavelet.specs.Plane.{cells}
 use Rattle.whole_map.specs.Passes.{Rows, even, rowsFetched}
 use Rattle.whole_map.proofs.GridSweep.{RowSwept, row-room, start, finish}
-use Rattle.whole_map.proofs.LevelCalls.{made-few, fetched-turn, fetched-past}
+use Rattle.whole_map.proofs.CellLaws.{fetched-out, outside-rows}
+use Rattle.whole_map.proofs.LevelCalls.{made-few, fetched-turn}
 use Rattle.whole_map.proofs.levels.fetch_level.Statement.{statement}
 use Rattle.whole_map.proofs.levels.fetch_level.Tie as tie
 
@@ -91,7 +92,7 @@ same-length : tie.Need-same-length Inv-loop μ-loop
 same-length c = c .before .loop .inv .1
 
 returns : tie.Need-returns Inv-loop μ-loop
-returns c = finish (c .before .loop .inv .3 .apart) (c .before .loop .inv .5) (λ r k le. fetched-past _ _ _ _ _ r k (omega arith))
+returns c = finish (c .before .loop .inv .3 .apart) (c .before .loop .inv .5) (λ r k le. fetched-out _ _ _ r k (outside-rows _ _ r k (omega arith)) _ _)
 
 pub fetch-level-spec : {M : Type 1} → statement M
 fetch-level-spec =

@@ -1,12 +1,12 @@
 -- `levels::level_back` meets its contract: what its three calls give. Assumes nothing.
-use mathlib.Core.Path.{_≡_, ap, _∙_}
+use mathlib.Core.Path.{ap, _∙_}
 use Prim.Native.Nat.{ℕ}
 use lib.IntN.{ℤ}
 use borrow.Author.Needs.{needs}
 use Rattle.numbers.proofs.Words.{read-back}
 use Rattle.numbers.specs.Signal.{at}
 use Rattle.wavelet.specs.Plane.{cells, flat}
-use Rattle.whole_map.specs.LevelPasses.{levelUnlifted, LevelBack}
+use Rattle.whole_map.specs.LevelPasses.{levelUnlifted}
 use Rattle.whole_map.proofs.LevelSteps.{between-by, range-is}
 use Rattle.whole_map.proofs.levels.level_back.Statement.{statement}
 use Rattle.whole_map.proofs.levels.level_back.Tie as tie

@@ -1,5 +1,4 @@
 -- `levels::lift_columns` meets its contract: the two passes, one after the other. Assumes nothing.
-use native.Mathlib.Omega.{arith}
 use borrow.Author.Needs.{needs}
 use Rattle.whole_map.proofs.LevelCalls.{columns-alone, columns-both}
 use Rattle.whole_map.proofs.levels.lift_columns.Statement.{statement}

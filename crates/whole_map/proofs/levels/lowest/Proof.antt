@@ -1,14 +1,13 @@
 -- `levels::lowest` meets its contract: a range is small, so its negative fits. Assumes nothing.
-use mathlib.Core.Path.{_≡_, ap, _∙_}
-use Prim.Native.Nat.{_<_, min}
-use native.Mathlib.Omega.{arith}
-use lib.IntN.{ℤ, pos, negℤ, _-ℤ_}
+use mathlib.Core.Path.{ap, _∙_}
+use Prim.Native.Nat.{_<_}
+use lib.IntN.{pos, negℤ, _-ℤ_}
 use mir.Syntax.{w32}
 use mir.Val.{toZ, ofZ}
 use mir.ValLaws.{toZ-ofZ}
 use borrow.Author.Needs.{needs}
 use Rattle.numbers.proofs.Words.{read-back}
-use Rattle.wavelet.specs.Limits.{range, maxLevels}
+use Rattle.wavelet.specs.Limits.{range}
 use Rattle.wavelet.proofs.Bridge.{range-small}
 use Rattle.whole_map.proofs.LevelSteps.{range-is, neg-fits, neg-is}
 use Rattle.whole_map.proofs.levels.lowest.Statement.{statement}

@@ -1,5 +1,4 @@
 -- `levels::plane_row` meets its contract: the definition's two cases. Assumes nothing.
-use mathlib.Core.Path.{sym}
 use native.Mathlib.Omega.{arith}
 use borrow.Author.Needs.{needs}
 use Prim.Native.Nat.{_%_}

@@ -8,7 +8,8 @@ use Rattle.numbers.specs.Signal.{at}
 use Rattle.wavelet.specs.Plane.{cells}
 use Rattle.whole_map.specs.Passes.{Rows, rowsStored}
 use Rattle.whole_map.proofs.GridSweep.{RowSwept, row-room, start, finish}
-use Rattle.whole_map.proofs.LevelCalls.{stored-turn, stored-past}
+use Rattle.whole_map.proofs.CellLaws.{stored-out, outside-rows}
+use Rattle.whole_map.proofs.LevelCalls.{stored-turn}
 use Rattle.whole_map.proofs.levels.store_level.Statement.{statement}
 use Rattle.whole_map.proofs.levels.store_level.Tie as tie
 
@@ -66,7 +67,7 @@ same-length : tie.Need-same-length Inv-loop μ-loop
 same-length c = c .before .loop .inv .1
 
 returns : tie.Need-returns Inv-loop μ-loop
-returns c = finish (c .before .loop .inv .3 .apart) (c .before .loop .inv .4) (λ r k le. stored-past _ _ _ _ r k (omega arith))
+returns c = finish (c .before .loop .inv .3 .apart) (c .before .loop .inv .4) (λ r k le. stored-out _ _ _ _ r k (outside-rows _ _ r k (omega arith)))
 
 pub store-level-spec : {M : Type 1} → statement M
 store-level-spec =

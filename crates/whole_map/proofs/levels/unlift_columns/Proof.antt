@@ -1,5 +1,4 @@
 -- `levels::unlift_columns` meets its contract: the two passes, one after the other. Assumes nothing.
-use native.Mathlib.Omega.{arith}
 use borrow.Author.Needs.{needs}
 use Rattle.whole_map.proofs.LevelCalls.{columns-alone-back, columns-both-back}
 use Rattle.whole_map.proofs.levels.unlift_columns.Statement.{statement}

@@ -1,5 +1,4 @@
 -- `levels::weave_low` meets its contract: the next level's rows. Assumes nothing.
-use mathlib.Core.Path.{_≡_}
 use native.Mathlib.Omega.{arith}
 use Rattle.lifting.proofs.LineLaws.{count-lo}
 use Rattle.whole_map.proofs.CellLaws.{next-rows}
