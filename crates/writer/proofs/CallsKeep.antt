@@ -188,9 +188,9 @@ offer-keeps s n run x = record { keeps = λ H g t h. go H g h (offerQuestion s n
     go H g h (suc q) z m = h
 
 -- ---- the same of an answer and a store that are the definitions', as a contract says it
-pub set-up-kept : (W L n : ℕ) (x : Memory) (a : Reply Writer) (y : Memory) → a ≡ setUpReply W L n → SetUpHolds a y
+pub set-up-kept : (W L n : ℕ) (a : Reply Writer) (y : Memory) → a ≡ setUpReply W L n → SetUpHolds a y
 unfolding setUpReply
-set-up-kept W L n x a y e = record { holds = λ s z H g. go H g s (setUpQuestion W L n) (sym e ∙ z) }
+set-up-kept W L n a y e = record { holds = λ s z H g. go H g s (setUpQuestion W L n) (sym e ∙ z) }
   where
     given : Writer → Reply Writer → Writer
     given s (gives t) = t
