@@ -31,9 +31,15 @@ difference-small = each _ λ p q. each _ λ r s. simp lin (omega arith)
 pub half : (a b : ℤ) → SFits w32 a → SFits w32 b → SFits w32 (shrZ (a +ℤ b) 2)
 half = each _ λ p q. each _ λ r s. simp lin (omega arith)
 
--- a quarter is half a half
-pub halves : (a b : ℤ) → shrZ (shrZ (a +ℤ b) 2 +ℤ pos 1) 2 ≡ shrZ (a +ℤ b +ℤ pos 2) 4
-halves = each _ λ p q. each _ λ r s. simp lin (omega arith)
+-- a number is its lower half and its upper one, and a quarter, rounded as `updated` rounds it, is the upper half of a half
+pub lower-half : (z : ℤ) → SFits w32 z → SFits w32 (shrZ z 2)
+lower-half = each _ λ p q. simp lin (omega arith)
+
+pub upper-half : (z : ℤ) → SFits w32 z → SFits w32 (z -ℤ shrZ z 2)
+upper-half = each _ λ p q. simp lin (omega arith)
+
+pub quarter : (a b : ℤ) → shrZ (a +ℤ b) 2 -ℤ shrZ (shrZ (a +ℤ b) 2) 2 ≡ shrZ (a +ℤ b +ℤ pos 2) 4
+quarter = each _ λ p q. each _ λ r s. simp lin (omega arith)
 
 -- the three steps of `wrap`
 pub raised : (z : ℤ) → natAbs z ≤ 4294967296 → SFits w64 (z +ℤ pos 2147483648)

@@ -34,11 +34,12 @@ fn half_sum(a: i32, b: i32) -> i32
     ((a as i64 + b as i64) >> 1) as i32
 }
 
-// ⌊(a + b + 2) / 4⌋, by two halvings: no step needs more than 32 bits and a carry, so a loop of them stays in 32-bit lanes
+// ⌊(a + b + 2) / 4⌋ as the larger half of the half: no step needs more than 32 bits and a carry, so a loop of them stays in 32-bit lanes
 fn quarter_sum(a: i32, b: i32) -> i32
     ensures { λ r. ⌜ r ≡ shrZ (a +ℤ b +ℤ pos 2) 4 ⌝ }
 {
-    half_sum(half_sum(a, b), 1)
+    let h = half_sum(a, b);
+    h - (h >> 1)
 }
 
 pub fn predict(x: i32, a: i32, b: i32) -> i32

@@ -1,4 +1,5 @@
 -- `lifting::line::backward` meets its contract: the even places, then the odd ones from them, come to the line. Assumes nothing.
+use native.Mathlib.Omega.{arith}
 use lib.ListN.{length}
 use borrow.Author.Needs.{needs}
 use borrow.Author.Tests.{le-leb, lt-leb}
@@ -23,11 +24,14 @@ returns c =
     let taken = evens .before .before in
     let args = taken .before .args in
     let y = args .coefficients .now in
-    let ok = le-leb _ _ (taken .if1 .taken) in
+    let ok = le-leb (length y) (length (args .out .now)) (omega arith) in
     (simp ok, simp ok (cc (odds .back-odds .ensures, evens .back-evens .ensures, backward-is (length y) (at y) (at (args .out .now)))))
 
 returns-2 : tie.Need-returns-2
-returns-2 c = let bad = lt-leb _ _ (c .if1 .left) in (simp bad, simp bad)
+returns-2 c =
+    let args = c .before .args in
+    let bad = lt-leb (length (args .coefficients .now)) (length (args .out .now)) (omega arith) in
+    (simp bad, simp bad)
 
 pub backward-spec : {M : Type 1} → statement M
 backward-spec =

@@ -45,14 +45,17 @@ returns c =
     let z = lifted .lift .last .0 in
     let k : N - 0 ≡ N = omega arith in
     let mid = length-mid 0 (N - 0) y (omega arith) in
-    let ok = le-leb _ _ (taken .if1 .taken) in (
+    let ok = le-leb N (length (args .out .now)) (omega arith) in (
       simp ok,
       simp ok
           (cc (k, evens .copy-evens .ensures, odds .copy-odds .ensures, lifted .lift .ensures, mid, at-mid 0 (N - 0) y, at-put 0 (N - 0) y z (omega arith) (omega arith), forward-is N (at x) (at (args .out .now)))),
     )
 
 returns-2 : tie.Need-returns-2
-returns-2 c = let bad = lt-leb _ _ (c .if1 .left) in (simp bad, simp bad)
+returns-2 c =
+    let args = c .before .args in
+    let bad = lt-leb (length (args .line .now)) (length (args .out .now)) (omega arith) in
+    (simp bad, simp bad)
 
 pub forward-spec : {M : Type 1} → statement M
 forward-spec =
