@@ -2,7 +2,7 @@
 use mathlib.Core.Path.{_≡_, refl, sym, ap, _∙_, fun-ext}
 use mathlib.Core.List.{List}
 use mathlib.Core.Bool.{Bool, true, false}
-use Prim.Native.Nat.{ℕ, zero, suc, _+_, _-_, _≤_, _<_}
+use Prim.Native.Nat.{ℕ, suc, _+_, _≤_, _<_}
 use native.Mathlib.Decide.{decLt}
 use native.Mathlib.Omega.{arith}
 use native.Mathlib.Numerals.{add-one}
@@ -11,27 +11,24 @@ use lib.Dec.{leb, ltb, eqb}
 use lib.ListN.{length}
 use borrow.Author.Tests.{le-leb, lt-leb, lt-ltb, le-ltb, eq-eqb, ne-eqb}
 use borrow.Rule.Slice.PartMut.{midOf}
-use Rattle.numbers.specs.Signal.{at, pick, both, windowed}
+use Rattle.numbers.specs.Signal.{at, pick, windowed}
 use Rattle.numbers.proofs.Parts.{length-mid, at-mid}
 use Rattle.lifting.specs.Line.{joined}
 use Rattle.lifting.specs.Halves.{halvesOf, fronted}
 use Rattle.wavelet.specs.Questions.{ask}
 use Rattle.reader.specs.declared.Reader.{Reader}
 use Rattle.reader.specs.declared.walk.Spot.{Spot}
-use Rattle.reader.specs.declared.SetUp.{SetUp}
 use Rattle.reader.specs.declared.SetUp.the-variants as up
 use Rattle.reader.specs.declared.Wanted.{Wanted}
 use Rattle.reader.specs.declared.Wanted.the-variants as wanted
-use Rattle.reader.specs.declared.Fed.{Fed}
 use Rattle.reader.specs.declared.Fed.the-variants as fed
-use Rattle.reader.specs.declared.Drawn.{Drawn}
 use Rattle.reader.specs.declared.Drawn.the-variants as drawn
 use Rattle.reader.specs.Areas.{height16}
 use Rattle.reader.specs.Tried.{Tried, failed, passed, fits, memory}
 use Rattle.reader.specs.Slots.{rowPlace, rowIn}
 use Rattle.wavelet.specs.Store.{storeLength}
 use Rattle.reader.specs.Store.{zeroed}
-use Rattle.reader.specs.Machine.{Place, place, enter, placeFed}
+use Rattle.reader.specs.Machine.{place, enter, placeFed}
 use Rattle.reader.specs.State.{next, nextRow, nextLength, unfinished, rowDue, drawDue, wants, settles, feeds, movedTo, fedReader, drawnReader, endedReader}
 use Rattle.reader.specs.Questions.{not, countsFit, storeFits, runFits, wantQuestion, feedQuestion, drawQuestion}
 use Rattle.reader.specs.Calls.{setUpNumber, wantNumber, feedNumber, drawNumber, fresh, setUpAnswer, setUpStore, wantAnswer, feedAnswer, storeAfter, feedStore, drawAnswer, drawStore, heightRow, drawArea}

@@ -1,13 +1,13 @@
 -- The place where a height row begins, found from level 0 on. Assumes nothing.
 use mathlib.Core.Path.{_≡_, refl, sym, ap, _∙_}
-use Prim.Native.Nat.{ℕ, zero, suc, _+_, _-_, _*_, _≤_, _<_}
+use Prim.Native.Nat.{ℕ, suc, _+_, _-_, _*_, _≤_, _<_}
 use native.Mathlib.Omega.{arith}
 use borrow.Author.Tests.{eq-eqb, ne-eqb}
 use Rattle.lifting.specs.Line.{lo, count}
 use Rattle.wavelet.specs.Levels.{size}
 use Rattle.wavelet.proofs.SizeLaws.{count-lo, size-zero, size-suc}
 use Rattle.reader.specs.Sets.{setOf, opens, rowAt}
-use Rattle.reader.specs.Machine.{Place, place, dive, enter}
+use Rattle.reader.specs.Machine.{place, dive, enter}
 use Rattle.reader.proofs.SetLaws.{set-in, row-zero, row-suc}
 
 -- after k levels: the row r of h rows that is looked at, and where the search goes on

@@ -11,7 +11,7 @@ use mir.Syntax.{w32}
 use mir.Val.{SFits}
 use mir.ValLaws.{sfits-le}
 use Rattle.numbers.specs.Signal.{at}
-use Rattle.numbers.proofs.Integers.{each, lin, dif-natAbs}
+use Rattle.numbers.proofs.Integers.{each, lin}
 use Rattle.numbers.proofs.Sweep.{Swept, finish}
 use Rattle.reader.specs.Areas.{heightsAt, wholes}
 

@@ -1,19 +1,17 @@
 -- What working out a set leaves as it was: every place past its level's stretch, and past what the levels need. Assumes nothing.
 use mathlib.Core.Path.{_≡_, refl, sym, ap, _∙_}
 use mathlib.Core.List.{List}
-use mathlib.Core.Bool.{Bool, true, false}
 use Prim.Native.Nat.{ℕ, suc, _+_, _-_, _*_, _%_, _≤_, _<_}
 use native.Mathlib.Decide.{decLt}
 use native.Mathlib.Omega.{arith}
 use lib.IntN.{ℤ}
 use lib.ListN.{length}
-use borrow.Author.Tests.{lt-ltb, le-ltb}
+use borrow.Author.Tests.{lt-ltb}
 use borrow.Rule.Slice.PartMut.{midOf, putMid}
 use Rattle.numbers.specs.Signal.{at}
 use Rattle.numbers.proofs.Parts.{splice-past}
 use Rattle.lifting.proofs.RowLaws.{row-past}
 use Rattle.lifting.specs.Line.{lo, count}
-use Rattle.lifting.specs.Halves.{unliftedInPlace}
 use Rattle.wavelet.proofs.SizeLaws.{count-le}
 use Rattle.reader.specs.declared.walk.Level.{Level}
 use Rattle.reader.specs.Sets.{rowAt}
@@ -23,9 +21,9 @@ use Rattle.wavelet.specs.Levels.{size}
 use Rattle.wavelet.specs.Store.{storeLength}
 use native.Mathlib.Numerals.{add-one}
 use Rattle.reader.proofs.StoreLaws.{stretch-suc, stretch-is}
-use Rattle.reader.specs.Slots.{setRow, halfPlace, bandFed, rowPlace, rowIn, rowUnlifted, rowBy, lowRowTaken}
+use Rattle.reader.specs.Slots.{setRow, halfPlace, bandFed, rowPlace, rowUnlifted, rowBy, lowRowTaken}
 use Rattle.reader.specs.Work.{setUnlifted, evenRow, oddRow}
-use Rattle.reader.specs.Store.{stretchAt, from, behind, fedAt}
+use Rattle.reader.specs.Store.{stretchAt, from, fedAt}
 use Rattle.reader.specs.Inside.{Kept, IsLevel}
 use Rattle.reader.proofs.SlotLaws.{slot-room, place-is, unlifted-both, unlifted-one, even-one}
 use Rattle.reader.proofs.PartLaws.{half-in, behind-past, from-at, at-rest, at-put-rest, work-room}

@@ -2,7 +2,7 @@
 use mathlib.Core.Path.{_≡_, refl, sym, ap, _∙_, fun-ext}
 use mathlib.Core.List.{List}
 use mathlib.Core.Bool.{Bool, true, false}
-use Prim.Native.Nat.{ℕ, zero, suc, _+_, _-_, _*_, _≤_, _<_}
+use Prim.Native.Nat.{ℕ, suc, _+_, _-_, _*_, _≤_, _<_}
 use native.Mathlib.Decide.{decLt, ℕ-discrete}
 use native.Mathlib.Omega.{arith}
 use native.Mathlib.Numerals.{add-one}
@@ -11,8 +11,8 @@ use lib.Dec.{eqb}
 use lib.ListN.{length, List·getD-eq-default}
 use borrow.Author.Tests.{lt-ltb, le-ltb, eq-eqb, ne-eqb}
 use borrow.Rule.Slice.PartMut.{midOf, putMid}
-use Rattle.numbers.specs.Signal.{at, pick, windowed, spliced}
-use Rattle.numbers.proofs.Parts.{window-in, window-past, splice-below, splice-in, splice-past, length-mid, at-mid, at-put}
+use Rattle.numbers.specs.Signal.{at, pick, spliced}
+use Rattle.numbers.proofs.Parts.{window-in, window-past, splice-below, splice-in, splice-past, at-mid, at-put}
 use Rattle.lifting.specs.Line.{Half, lo, hi, count}
 use Rattle.lifting.specs.Halves.{fronted}
 use Rattle.wavelet.specs.Bands.{across, down}
@@ -22,7 +22,7 @@ use Rattle.wavelet.proofs.SizeLaws.{size-suc, size-le, count-le, count-sum}
 use Rattle.reader.specs.declared.walk.Level.{Level}
 use Rattle.reader.specs.Sets.{rowAt}
 use Rattle.reader.specs.Asked.{named}
-use Rattle.reader.specs.Tried.{Tried, failed, passed, outcome, onto}
+use Rattle.reader.specs.Tried.{outcome, onto}
 use Rattle.reader.specs.Slots.{rowPlace, setRow, halfPlace, bandFed}
 use Rattle.reader.specs.Work.{setWorked}
 use Rattle.reader.specs.Store.{stretchAt, from, behind, fedAt, workedAt}

@@ -1,7 +1,7 @@
 -- The questions, one after another: what each no and each yes says. Assumes nothing.
-use mathlib.Core.Path.{_≡_, refl, sym, ap, _∙_}
+use mathlib.Core.Path.{_≡_, refl, _∙_}
 use mathlib.Core.Bool.{Bool, true, false}
-use Prim.Native.Nat.{ℕ, zero, suc, _≤_, _<_}
+use Prim.Native.Nat.{ℕ, _≤_, _<_}
 use native.Mathlib.Omega.{arith}
 use lib.IntN.{ℤ}
 use lib.Dec.{leb, ltb, eqb}
@@ -13,12 +13,10 @@ use Rattle.wavelet.specs.Questions.{ask, within}
 use Rattle.wavelet.proofs.QuestionLaws.{within-true, within-yes}
 use Rattle.reader.proofs.StoreLaws.{length-is}
 use Rattle.reader.specs.declared.Reader.{Reader}
-use Rattle.reader.specs.declared.walk.Spot.{Spot}
 use Rattle.wavelet.specs.Store.{storeLength}
-use Rattle.reader.specs.Machine.{Place}
 use Rattle.reader.specs.State.{next, nextLength, unfinished, rowDue, drawDue}
 use Rattle.reader.specs.Questions.{not, countsFit, storeFits, runFits, setUpQuestion}
-use Rattle.reader.specs.Inside.{Counts, Shape, Is, storeQuestion, rowQuestion}
+use Rattle.reader.specs.Inside.{Counts, Shape, storeQuestion, rowQuestion}
 
 -- the length that the code asks for, 0 outside the limits
 abbrev pub asked : ℕ → ℕ → ℕ

@@ -4,13 +4,13 @@ use mathlib.Core.Bool.{Bool, true, false}
 use mathlib.Core.List.{List, [], _∷_}
 use Prim.Native.Nat.{ℕ, zero, suc, _+_, _-_, _*_, _/_, _%_, min, _≤_, _<_}
 use native.Mathlib.Omega.{arith}
-use lib.Dec.{leb, ltb, eqb}
-use borrow.Author.Tests.{le-leb, lt-leb, lt-ltb, le-ltb, eq-eqb, ne-eqb}
+use lib.Dec.{leb, eqb}
+use borrow.Author.Tests.{lt-leb, lt-ltb, le-ltb, ne-eqb}
 use Rattle.numbers.specs.Signal.{pick, both}
 use Rattle.lifting.specs.Line.{lo, hi, count}
 use Rattle.wavelet.specs.Bands.{Band, LL, HL, LH, HH, code, across, down}
 use Rattle.wavelet.specs.Levels.{size}
-use Rattle.wavelet.proofs.SizeLaws.{count-lo, size-positive, size-suc}
+use Rattle.wavelet.proofs.SizeLaws.{count-lo, size-positive}
 use Rattle.reader.specs.Sets.{setOf, rowAt}
 use Rattle.reader.specs.Slots.{setRow, halfPlace}
 use Rattle.reader.specs.Asked.{keptAt, asked, bandsFrom, those, look, firstCode, nextBand, named}

@@ -1,22 +1,21 @@
 -- The laws of a level's memory: its slots, a part lent and come back, a row changed. Assumes nothing.
-use mathlib.Core.Path.{_≡_, refl, sym, ap, _∙_, subst}
+use mathlib.Core.Path.{_≡_, refl, sym, _∙_}
 use mathlib.Core.List.{List}
-use mathlib.Core.Bool.{Bool, true, false}
 use Prim.Native.Nat.{ℕ, _+_, _-_, _*_, _%_, min, _≤_, _<_}
 use native.Mathlib.Nat.{mul-le-mul-right}
 use native.Mathlib.Omega.{arith}
-use lib.IntN.{ℤ, pos}
+use lib.IntN.{ℤ}
 use lib.ListN.{length}
 use borrow.Author.Tests.{lt-ltb, le-ltb}
 use borrow.Rule.Slice.PartMut.{midOf, putMid}
-use Rattle.numbers.specs.Signal.{at, windowed, spliced}
+use Rattle.numbers.specs.Signal.{at}
 use Rattle.numbers.specs.Word.{wrap32}
 use Rattle.numbers.proofs.Parts.{length-mid, at-mid, at-put}
 use Rattle.lifting.specs.Line.{lo, hi, count, unupdated, unpredicted}
 use Rattle.lifting.specs.Halves.{unliftedInPlace}
-use Rattle.lifting.specs.Rows.{rowsFit, rowChanged, rowsChanged}
+use Rattle.lifting.specs.Rows.{rowsChanged}
 use Rattle.lifting.proofs.RowLaws.{rows-fit, changed}
-use Rattle.reader.specs.Slots.{slot, rowPlace, rowIn, rowUnlifted, rowBy}
+use Rattle.reader.specs.Slots.{rowPlace, rowIn, rowUnlifted, rowBy}
 use Rattle.reader.specs.Work.{setUnlifted, evenRow, oddRow}
 
 -- ---- the slots

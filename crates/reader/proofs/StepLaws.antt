@@ -1,7 +1,6 @@
 -- The steps of a reader: the row wanted, a row fed, the place after it. Assumes nothing.
 use mathlib.Core.Path.{_≡_, refl, sym, ap, _∙_}
-use mathlib.Core.Bool.{Bool, true, false}
-use Prim.Native.Nat.{ℕ, zero, suc, _+_, _-_, _≤_, _<_}
+use Prim.Native.Nat.{ℕ, zero, suc, _-_, _≤_, _<_}
 use native.Mathlib.Decide.{decLt}
 use native.Mathlib.Omega.{arith}
 use lib.IntN.{ℤ}
@@ -14,7 +13,7 @@ use Rattle.reader.specs.declared.walk.Level.{Level}
 use Rattle.reader.specs.declared.walk.Spot.{Spot}
 use Rattle.reader.specs.Sets.{rowAt}
 use Rattle.reader.specs.Asked.{named}
-use Rattle.reader.specs.Tried.{Tried, failed, passed, bind}
+use Rattle.reader.specs.Tried.{failed, passed}
 use Rattle.reader.specs.Store.{fedAt}
 use Rattle.reader.specs.Machine.{Place, place, bandAt, nextAt, settled, finished, beyond, fedOn, placeFed}
 use Rattle.reader.specs.State.{next, nextRow, nextLength, settles, feeds}

@@ -1,11 +1,11 @@
 -- The laws of the line store: where the stretches of the levels stand. Assumes nothing.
-use mathlib.Core.Path.{_≡_, refl, sym, ap, _∙_}
-use Prim.Native.Nat.{ℕ, zero, suc, _+_, _-_, _*_, _≤_, _<_}
+use mathlib.Core.Path.{_≡_, refl, sym, _∙_}
+use Prim.Native.Nat.{ℕ, zero, suc, _+_, _*_, _≤_, _<_}
 use native.Mathlib.Decide.{ℕ-discrete}
 use native.Mathlib.Omega.{arith}
 use Rattle.lifting.specs.Line.{lo, count}
 use Rattle.wavelet.specs.Levels.{size}
-use Rattle.wavelet.proofs.SizeLaws.{count-lo, size-zero, size-suc, size-le, size-positive}
+use Rattle.wavelet.proofs.SizeLaws.{count-lo, size-zero, size-suc, size-le}
 use mathlib.Core.Bool.{true}
 use Rattle.numbers.specs.Signal.{pick, both}
 use Rattle.wavelet.specs.Limits.{maxWidth, maxLevels}
@@ -14,7 +14,7 @@ use Rattle.wavelet.specs.Store.{storeLength}
 use Rattle.wavelet.proofs.StoreLaws.{store-none, store-more}
 use Rattle.reader.specs.Sets.{setOf, rowAt}
 use Rattle.reader.specs.Store.{stretchAt}
-use Rattle.reader.proofs.SetLaws.{set-is, set-in, row-zero, row-suc}
+use Rattle.reader.proofs.SetLaws.{set-in, row-zero, row-suc}
 
 pub stretch-zero : (W : ℕ) → stretchAt W 0 ≡ 0
 unfolding stretchAt

@@ -1,17 +1,15 @@
 -- The walk over the levels: the row wanted, the sets worked out on the way, the place after a row. Assumes nothing.
-use mathlib.Core.Path.{_≡_, refl, sym, ap, _∙_}
-use mathlib.Core.Bool.{Bool, true, false}
+use mathlib.Core.Path.{_≡_, refl, ap, _∙_}
 use Prim.Native.Nat.{ℕ, zero, suc, _+_, _-_, _≤_, _<_}
 use native.Mathlib.Omega.{arith}
 use native.Mathlib.Numerals.{add-one}
 use lib.IntN.{ℤ}
 use lib.Dec.{eqb}
 use borrow.Author.Tests.{lt-ltb, le-ltb}
-use Rattle.numbers.specs.Signal.{pick}
 use Rattle.reader.specs.declared.walk.Level.{Level}
 use Rattle.reader.specs.declared.walk.Spot.{Spot}
 use Rattle.reader.specs.Asked.{nextBand}
-use Rattle.reader.specs.Tried.{Tried, failed, passed, bind}
+use Rattle.reader.specs.Tried.{failed, passed}
 use Rattle.reader.specs.Store.{workedAt}
 use Rattle.reader.specs.Machine.{Place, place, bandAt, nextAt, settled, finished, beyond}
 use Rattle.reader.specs.Inside.{IsLevel, Is}

@@ -1,5 +1,5 @@
 -- A row in halves laid in its own order, a pair a turn: the sweeps of the two loops that do it. Assumes nothing.
-use mathlib.Core.Path.{_≡_, refl, sym, ap, _∙_, subst}
+use mathlib.Core.Path.{_≡_, sym, ap, _∙_, subst}
 use mathlib.Core.List.{List}
 use Prim.Native.Nat.{ℕ, _+_, _-_, _*_, _/_, _≤_, _<_}
 use native.Mathlib.Omega.{arith}
@@ -9,7 +9,7 @@ use lib.Seq.{getD-set-other}
 use Rattle.numbers.specs.Signal.{at, windowed, spliced}
 use Rattle.numbers.proofs.Sweep.{Swept, store}
 use Rattle.numbers.proofs.Parts.{window-in, splice-in}
-use Rattle.lifting.specs.Line.{Half, lo, hi, count, joined}
+use Rattle.lifting.specs.Line.{Half, lo, count, joined}
 use Rattle.lifting.specs.Halves.{halvesOf, fronted}
 use Rattle.lifting.proofs.LineLaws.{joined-even, joined-odd, count-lo}
 use Rattle.reader.proofs.AreaLaws.{front-at, front-rest}

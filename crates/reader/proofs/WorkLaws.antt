@@ -1,11 +1,11 @@
 -- Working out a set, step by step: what each call comes to. Assumes nothing.
 use mathlib.Core.Path.{_≡_, refl, sym, ap, _∙_}
 use mathlib.Core.Bool.{Bool, true, false}
-use Prim.Native.Nat.{ℕ, zero, suc, _+_, _-_, _*_, _≤_, _<_}
+use Prim.Native.Nat.{ℕ, zero, suc, _+_, _-_, _*_}
 use native.Mathlib.Omega.{arith}
 use lib.IntN.{ℤ}
 use borrow.Author.Tests.{eq-eqb, ne-eqb}
-use Rattle.numbers.specs.Signal.{pick, windowed, spliced}
+use Rattle.numbers.specs.Signal.{windowed, spliced}
 use Rattle.lifting.specs.Line.{lo, count, joined}
 use Rattle.lifting.specs.Halves.{halvesOf}
 use Rattle.reader.specs.Tried.{Tried, failed, passed, outcome, bind}

@@ -1,5 +1,5 @@
 -- Numbers of an area, one by one: heights as whole numbers, the test of a range, and what a u16 keeps.
-use mathlib.Core.Bool.{Bool, true, false}
+use mathlib.Core.Bool.{Bool}
 use mathlib.Core.List.{List, map}
 use Prim.Native.Nat.{ℕ, zero, suc}
 use lib.IntN.{ℤ, pos, _-ℤ_, _*ℤ_}

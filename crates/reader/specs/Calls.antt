@@ -1,6 +1,6 @@
 -- What each call answers, and what stands in each lent area afterwards. q is the number of the question that turns the call away, 0 if none does.
 -- An answer's number in document 01: `Refused(q)` is q, `Impossible` is 14, and every other answer is 0.
-use mathlib.Core.Bool.{Bool, true, false}
+use mathlib.Core.Bool.{false}
 use Prim.Native.Nat.{ℕ}
 use lib.IntN.{ℤ}
 use lib.Dec.{eqb}

@@ -1,6 +1,5 @@
 -- What the private functions of the reader require and ensure of each other.
 use mathlib.Core.Path.{_≡_}
-use mathlib.Core.Bool.{Bool, true, false}
 use Prim.Native.Nat.{ℕ, suc, _≤_, _<_}
 use lib.IntN.{ℤ}
 use lib.Dec.{eqb}
@@ -12,7 +11,7 @@ use Rattle.reader.specs.declared.walk.Level.{Level}
 use Rattle.reader.specs.declared.walk.Spot.{Spot}
 use Rattle.reader.specs.Sets.{rowAt}
 use Rattle.reader.specs.Store.{stretchAt}
-use Rattle.reader.specs.Machine.{Place, enter}
+use Rattle.reader.specs.Machine.{Place}
 use Rattle.reader.specs.State.{next, nextLength, rowDue}
 use Rattle.reader.specs.Questions.{not, countsFit, storeFits, runFits}
 

@@ -10,7 +10,6 @@ use Rattle.wavelet.specs.Questions.{ask, within}
 use Rattle.wavelet.specs.Store.{storeLength}
 use Rattle.reader.specs.declared.Reader.{Reader}
 use Rattle.reader.specs.Tried.{fits}
-use Rattle.reader.specs.Machine.{Place}
 use Rattle.reader.specs.State.{next, nextLength, rowDue, drawDue, settles, feeds}
 
 abbrev pub not : Bool → Bool

@@ -7,7 +7,7 @@ use Rattle.numbers.specs.Signal.{pick, both}
 use Rattle.wavelet.specs.View.{bandColumns}
 use Rattle.reader.specs.declared.Reader.{Reader}
 use Rattle.reader.specs.declared.Wanted.{Wanted}
-use Rattle.reader.specs.declared.Wanted.the-variants.{Row, Draw, Done, Ended, Refused}
+use Rattle.reader.specs.declared.Wanted.the-variants.{Row, Draw, Done, Ended}
 use Rattle.reader.specs.Sets.{rowAt}
 use Rattle.reader.specs.Asked.{named}
 use Rattle.reader.specs.Tried.{Tried, bind}

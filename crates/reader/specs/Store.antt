@@ -1,11 +1,9 @@
 -- The line store: the levels' memories one after another, level 1 first. Document 01: it "needs 4 × (W(0) + ... + W(L−1)) numbers", and "each level works in its own stretch".
-use mathlib.Core.Bool.{Bool, true, false}
 use Prim.Native.Nat.{ℕ, zero, suc, _+_, _-_, _*_}
 use lib.IntN.{ℤ, pos}
 use lib.Dec.{ltb, eqb}
 use Rattle.numbers.specs.Signal.{pick}
 use Rattle.lifting.specs.Halves.{fronted}
-use Rattle.wavelet.specs.Bands.{Band}
 use Rattle.wavelet.specs.Levels.{size}
 use Rattle.wavelet.specs.Store.{storeLength}
 use Rattle.reader.specs.Tried.{Tried, onto}

@@ -1,6 +1,6 @@
 -- Working out set n of a level that splits a grid of w columns and h rows. Its rows are low-low values of level k (k = 0: heights), and each passes the test of 14 as soon as it is made.
 -- Document 01, "Back: rows, then columns": along the row, then the even row from its low row and the high rows next to it, then the odd rows.
-use mathlib.Core.Bool.{Bool, true, false}
+use mathlib.Core.Bool.{Bool}
 use Prim.Native.Nat.{ℕ, zero, suc, _+_, _-_, _*_, min}
 use lib.IntN.{ℤ}
 use lib.Dec.{ltb, eqb}
@@ -8,7 +8,7 @@ use Rattle.numbers.specs.Signal.{pick}
 use Rattle.numbers.specs.Word.{wrap32}
 use Rattle.lifting.specs.Line.{lo, hi, count, unupdated, unpredicted}
 use Rattle.wavelet.specs.Maps.{every, valueFits}
-use Rattle.reader.specs.Tried.{Tried, failed, passed, outcome, bind}
+use Rattle.reader.specs.Tried.{Tried, passed, outcome, bind}
 use Rattle.reader.specs.Slots.{rowPlace, rowUnlifted, rowBy, lowRowTaken}
 
 -- the test of 14 on row r

@@ -1,7 +1,7 @@
 // What is done to stretches of numbers: copied, cleared, tested, woven from halves into their own order. The module is private: only this crate, which meets what is required, can call it.
 ghost use mathlib.Core.Path.{_≡_};
-ghost use Prim.Native.Nat.{ℕ, _+_, _<_, _≤_};
-ghost use lib.IntN.{ℤ, pos};
+ghost use Prim.Native.Nat.{_+_, _<_, _≤_};
+ghost use lib.IntN.{pos};
 ghost use lib.ListN.{length, set};
 ghost use Rattle.numbers.specs.Signal.{at, windowed, spliced};
 ghost use Rattle.lifting.specs.Line.{joined};

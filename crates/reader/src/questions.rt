@@ -7,7 +7,7 @@ use wavelet::limits;
 use wavelet::sizes;
 use wavelet::store;
 ghost use mathlib.Core.Path.{_≡_};
-ghost use Prim.Native.Nat.{ℕ, _≤_};
+ghost use Prim.Native.Nat.{_≤_};
 ghost use lib.ListN.{length};
 ghost use Rattle.wavelet.specs.Limits.{maxLevels};
 ghost use Rattle.numbers.specs.Signal.{at};

@@ -1,7 +1,7 @@
 // Sets of rows, and the bands that a set asks for: numbers alone. The module is private, as `areas` is.
 use wavelet::sizes;
 ghost use mathlib.Core.Path.{_≡_};
-ghost use Prim.Native.Nat.{ℕ, _-_, _*_, _<_, _≤_};
+ghost use Prim.Native.Nat.{_-_, _*_, _<_, _≤_};
 ghost use lib.Dec.{leb};
 ghost use Rattle.numbers.specs.Signal.{both};
 ghost use Rattle.lifting.specs.Line.{count};

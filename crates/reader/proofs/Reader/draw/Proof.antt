@@ -1,12 +1,11 @@
 -- `reader::Reader::draw` meets its contract: refused by a question, or nothing, or drawn, or ended. Assumes nothing.
-use mathlib.Core.Path.{_≡_, _∙_, sym, ap, refl}
+use mathlib.Core.Path.{_∙_, sym, refl}
 use native.Mathlib.Omega.{arith}
 use borrow.Author.Tests.{not-true, not-false}
-use Prim.Native.Nat.{ℕ, _+_, _-_}
+use Prim.Native.Nat.{_+_, _-_}
 use lib.ListN.{length}
 use Rattle.numbers.specs.Signal.{at}
 use Rattle.numbers.proofs.Parts.{length-mid}
-use Rattle.reader.specs.Areas.{heightsAt}
 use Rattle.reader.proofs.WorkLaws.{told-no, told-yes}
 use Rattle.reader.proofs.StoreLaws.{first-room}
 use Rattle.reader.proofs.QuestionLaws.{counts-shape, counts-length, store-in, due-in}

@@ -1,8 +1,6 @@
 -- `reader::Reader::feed` meets its contract: refused by a question, or fed, or ended. Assumes nothing.
-use mathlib.Core.Path.{_≡_, _∙_, sym, ap, refl}
+use mathlib.Core.Path.{_∙_, sym}
 use native.Mathlib.Omega.{arith}
-use borrow.Author.Needs.{needs}
-use Prim.Native.Nat.{ℕ}
 use lib.ListN.{length}
 use Rattle.numbers.specs.Signal.{at}
 use Rattle.reader.proofs.WorkLaws.{told-no, told-yes}

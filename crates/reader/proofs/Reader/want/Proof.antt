@@ -1,5 +1,5 @@
 -- `reader::Reader::want` meets its contract: the definition's tests, in its order. Assumes nothing.
-use mathlib.Core.Path.{_≡_, _∙_, sym, ap, refl}
+use mathlib.Core.Path.{_∙_, sym, refl}
 use native.Mathlib.Omega.{arith}
 use borrow.Author.Tests.{not-true, not-false}
 use Rattle.reader.specs.Calls.{wantNumber}

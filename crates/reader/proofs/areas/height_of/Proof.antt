@@ -1,5 +1,4 @@
 -- `reader::areas::height_of` meets its contract: it computes as `height16` is defined, and each step fits. Assumes nothing.
-use mathlib.Core.Path.{_∙_}
 use native.Mathlib.Omega.{arith}
 use mir.Syntax.{w32}
 use mir.ValLaws.{toZ-ofZ}

@@ -1,5 +1,5 @@
 -- `reader::questions::draw_due` meets its contract: the definition's tests. Assumes nothing.
-use mathlib.Core.Path.{_≡_, _∙_, sym, ap}
+use mathlib.Core.Path.{_∙_, ap}
 use native.Mathlib.Omega.{arith}
 use Prim.Native.Nat.{ℕ}
 use lib.Dec.{eqb}

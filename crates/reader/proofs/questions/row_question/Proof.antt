@@ -1,7 +1,6 @@
 -- `reader::questions::row_question` meets its contract: the definition's tests, in its order. Assumes nothing.
-use mathlib.Core.Path.{_≡_, _∙_, sym, ap}
+use mathlib.Core.Path.{_∙_, sym, ap}
 use native.Mathlib.Omega.{arith}
-use borrow.Author.Needs.{needs}
 use borrow.Author.Tests.{not-true, not-false}
 use Rattle.reader.proofs.QuestionLaws.{row-done, row-draw, row-13, row-7, row-0}
 use Rattle.reader.proofs.StepLaws.{spot-in}

@@ -1,5 +1,4 @@
 -- `reader::sets::asks` meets its contract: the definition's tests, one after another. Assumes nothing.
-use mathlib.Core.Path.{_∙_, refl, ap}
 use native.Mathlib.Omega.{arith}
 use borrow.Author.Needs.{needs}
 use borrow.Author.Tests.{eq-eqb, ne-eqb}

@@ -1,5 +1,4 @@
 -- `reader::sets::asks_from` meets its contract: the two tests, one after the other. Assumes nothing.
-use mathlib.Core.Path.{_∙_, sym}
 use borrow.Author.Needs.{needs}
 use borrow.Author.Tests.{le-leb, lt-leb}
 use Rattle.reader.proofs.sets.asks_from.Statement.{statement}

@@ -1,9 +1,9 @@
 -- `reader::steps::feed_row` meets its contract: the sets that wait, the run put, the set that it completes. Assumes nothing.
-use mathlib.Core.Path.{_≡_, _∙_, sym, ap}
+use mathlib.Core.Path.{_∙_, ap}
 use native.Mathlib.Omega.{arith}
 use borrow.Author.Needs.{needs}
 use borrow.Author.Tests.{not-true, not-false}
-use Prim.Native.Nat.{_+_, _-_, _≤_}
+use Prim.Native.Nat.{_+_, _-_}
 use Rattle.numbers.specs.Signal.{at}
 use Rattle.reader.specs.Machine.{finished}
 use Rattle.reader.proofs.WorkLaws.{told-no, told-yes}

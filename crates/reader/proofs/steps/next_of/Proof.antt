@@ -1,5 +1,4 @@
 -- `reader::steps::next_of` meets its contract: the walk from the reader's place. Assumes nothing.
-use mathlib.Core.Path.{_≡_, _∙_, sym, ap}
 use native.Mathlib.Omega.{arith}
 use Rattle.reader.specs.State.{next}
 use Rattle.reader.proofs.QuestionLaws.{counts-shape}

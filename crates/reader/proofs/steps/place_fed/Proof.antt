@@ -1,5 +1,5 @@
 -- `reader::steps::place_fed` meets its contract: the place after the row. Assumes nothing.
-use mathlib.Core.Path.{_≡_, _∙_, sym, ap}
+use mathlib.Core.Path.{_∙_}
 use native.Mathlib.Omega.{arith}
 use Rattle.reader.proofs.QuestionLaws.{counts-shape}
 use Rattle.reader.proofs.StepLaws.{spot-in, beyond-is, place-of}

@@ -1,5 +1,4 @@
 -- `reader::steps::row_length` meets its contract: the columns of the band, at its level. Assumes nothing.
-use mathlib.Core.Path.{_≡_, _∙_, sym, ap}
 use native.Mathlib.Omega.{arith}
 use Rattle.reader.proofs.QuestionLaws.{counts-shape}
 use Rattle.reader.proofs.StepLaws.{spot-in, length-is}

@@ -1,5 +1,4 @@
 -- `reader::steps::row_number` meets its contract: the set that the level is at. Assumes nothing.
-use mathlib.Core.Path.{_≡_, _∙_, sym, ap}
 use native.Mathlib.Omega.{arith}
 use Rattle.reader.proofs.QuestionLaws.{counts-shape}
 use Rattle.reader.proofs.StepLaws.{spot-in, number-is}

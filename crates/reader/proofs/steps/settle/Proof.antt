@@ -1,5 +1,5 @@
 -- `reader::steps::settle` meets its contract: the walk down to the row wanted. Assumes nothing.
-use mathlib.Core.Path.{_≡_, _∙_, sym, ap}
+use mathlib.Core.Path.{_∙_}
 use native.Mathlib.Omega.{arith}
 use borrow.Author.Needs.{needs}
 use Rattle.reader.proofs.QuestionLaws.{counts-shape}

@@ -1,5 +1,5 @@
 -- `reader::walk::band_at` meets its contract: the level, and the first band that its set asks for. Assumes nothing.
-use mathlib.Core.Path.{_≡_, _∙_}
+use mathlib.Core.Path.{_∙_}
 use native.Mathlib.Omega.{arith}
 use borrow.Author.Needs.{needs}
 use Rattle.wavelet.specs.Limits.{maxLevels}

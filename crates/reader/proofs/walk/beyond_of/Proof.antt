@@ -1,5 +1,4 @@
 -- `reader::walk::beyond_of` meets its contract: another band of this level, or the next finer level. Assumes nothing.
-use mathlib.Core.Path.{_≡_, _∙_}
 use native.Mathlib.Omega.{arith}
 use borrow.Author.Needs.{needs}
 use Rattle.wavelet.specs.Limits.{maxLevels}

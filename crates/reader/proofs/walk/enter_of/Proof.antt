@@ -1,6 +1,6 @@
 -- `reader::walk::enter_of` meets its contract: the search of the definition, from level 0 on. Assumes nothing.
-use mathlib.Core.Path.{_≡_, _∙_, sym, ap}
-use Prim.Native.Nat.{ℕ, _-_, _≤_}
+use mathlib.Core.Path.{_∙_, sym, ap}
+use Prim.Native.Nat.{_-_, _≤_}
 use native.Mathlib.Omega.{arith}
 use Rattle.wavelet.specs.Limits.{maxLevels}
 use Rattle.wavelet.proofs.SizeLaws.{count-lo}

@@ -1,5 +1,5 @@
 -- `reader::walk::finish` meets its contract: nothing, or the set worked out. Assumes nothing.
-use mathlib.Core.Path.{_≡_, _∙_}
+use mathlib.Core.Path.{_∙_}
 use native.Mathlib.Omega.{arith}
 use borrow.Author.Needs.{needs}
 use Rattle.reader.proofs.WalkLaws.{finish-more, finish-set}

@@ -1,6 +1,5 @@
 -- `reader::walk::half_place` meets its contract: the slot, and the half of it. Assumes nothing.
-use mathlib.Core.Path.{_≡_, _∙_, sym, ap}
-use Prim.Native.Nat.{ℕ}
+use mathlib.Core.Path.{_∙_, ap}
 use native.Mathlib.Omega.{arith}
 use borrow.Author.Needs.{needs}
 use Rattle.wavelet.proofs.SizeLaws.{count-lo}

@@ -1,8 +1,7 @@
 -- `reader::walk::level_at` meets its contract: a walk from level 1 on. Assumes nothing.
 use mathlib.Core.Path.{_≡_, _∙_, ap}
-use Prim.Native.Nat.{ℕ, suc, _-_, _*_, _≤_}
+use Prim.Native.Nat.{ℕ, suc, _-_, _≤_}
 use native.Mathlib.Omega.{arith}
-use Rattle.lifting.specs.Line.{lo, count}
 use Rattle.wavelet.specs.Limits.{maxLevels}
 use Rattle.wavelet.specs.Levels.{size}
 use Rattle.wavelet.proofs.SizeLaws.{count-lo}

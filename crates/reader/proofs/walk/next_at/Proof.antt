@@ -1,6 +1,6 @@
 -- `reader::walk::next_at` meets its contract: level by level, as the definition goes. Assumes nothing.
 use mathlib.Core.Path.{_≡_, _∙_, refl}
-use Prim.Native.Nat.{ℕ, _≤_, _<_}
+use Prim.Native.Nat.{_≤_}
 use native.Mathlib.Omega.{arith}
 use Rattle.wavelet.specs.Limits.{maxLevels}
 use Rattle.reader.specs.Machine.{nextAt}

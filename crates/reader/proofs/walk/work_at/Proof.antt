@@ -1,5 +1,5 @@
 -- `reader::walk::work_at` meets its contract: the level's stretch lent on to be worked in. Assumes nothing.
-use mathlib.Core.Path.{_≡_, _∙_, refl}
+use mathlib.Core.Path.{_∙_, refl}
 use Prim.Native.Nat.{_-_}
 use native.Mathlib.Omega.{arith}
 use lib.ListN.{length}

@@ -1,5 +1,4 @@
 -- `reader::work::make_last` meets its contract: no row, or the last row and its test. Assumes nothing.
-use mathlib.Core.Path.{_≡_, _∙_}
 use native.Mathlib.Omega.{arith}
 use borrow.Author.Needs.{needs}
 use Rattle.wavelet.proofs.SizeLaws.{count-lo}

@@ -1,6 +1,5 @@
 -- `reader::work::make_set` meets its contract: one row after another, as long as they fit. Assumes nothing.
-use mathlib.Core.Path.{_≡_, _∙_}
-use native.Mathlib.Omega.{arith}
+use mathlib.Core.Path.{_∙_}
 use Rattle.numbers.specs.Signal.{at}
 use borrow.Author.Needs.{needs}
 use borrow.Author.Tests.{not-true, not-false}

@@ -1,5 +1,5 @@
 -- `reader::work::take_low_row` meets its contract: the row woven down. Assumes nothing.
-use mathlib.Core.Path.{_≡_, _∙_, refl}
+use mathlib.Core.Path.{_∙_}
 use native.Mathlib.Omega.{arith}
 use borrow.Author.Needs.{needs}
 use Rattle.wavelet.proofs.SizeLaws.{count-lo}

@@ -1,9 +1,9 @@
 -- `reader::work::undo_odd` meets its contract: the row call, on slots. Assumes nothing.
-use mathlib.Core.Path.{_≡_, _∙_, sym, ap}
+use mathlib.Core.Path.{_∙_, ap}
 use Prim.Native.Nat.{ℕ, _+_, _-_, min}
 use native.Mathlib.Omega.{arith}
 use borrow.Author.Needs.{needs}
-use Rattle.wavelet.proofs.SizeLaws.{count-lo, count-hi}
+use Rattle.wavelet.proofs.SizeLaws.{count-lo}
 use Rattle.reader.proofs.SlotLaws.{odd-by}
 use Rattle.reader.proofs.work.undo_odd.Statement.{statement}
 use Rattle.reader.proofs.work.undo_odd.Tie as tie

@@ -1,5 +1,4 @@
 -- `reader::work::unlift_row` meets its contract: the line call on the part that is the row. Assumes nothing.
-use mathlib.Core.Path.{_≡_, _∙_, ap}
 use Prim.Native.Nat.{_+_, _-_}
 use native.Mathlib.Omega.{arith}
 use borrow.Author.Needs.{needs}

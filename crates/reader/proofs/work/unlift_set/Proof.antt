@@ -1,6 +1,4 @@
 -- `reader::work::unlift_set` meets its contract: one row, and the other where there is one. Assumes nothing.
-use mathlib.Core.Path.{_≡_, _∙_, sym, ap}
-use native.Mathlib.Omega.{arith}
 use borrow.Author.Needs.{needs}
 use Rattle.reader.proofs.SlotLaws.{unlifted-both, unlifted-one}
 use Rattle.reader.proofs.work.unlift_set.Statement.{statement}
