@@ -33,9 +33,6 @@ start-heights l y k h =
     }
 
 module _ {n : ℕ} {y x : ℕ → ℤ} {k : ℕ} (l : List ℕ) (sw : Swept n y x k (wholes l)) where
-  pub size-heights : length l ≡ n
-  size-heights = sym (length-map l pos) ∙ sw .size
-
   pub finish-heights : ((j : ℕ) → k ≤ j → y j ≡ x j) → heightsAt l ≡ y
   finish-heights h = sym (wholes-at l) ∙ finish sw h
 

@@ -179,13 +179,3 @@ module _ (last : Bool) (w h n b : ℕ) where
 
   pub next-4 : from 0 ≡ false → from 1 ≡ false → from 2 ≡ false → from 3 ≡ false → 4 ≡ nextBand last w h n b
   next-4 q r s t = sym (next-is ∙ rw (q, r, s, t))
-
-pub next-most : (last : Bool) (w h n b : ℕ) → nextBand last w h n b ≤ 4
-next-most last w h n b = rw (next-is last w h n b) (go (from last w h n b 0) (from last w h n b 1) (from last w h n b 2) (from last w h n b 3))
-  where
-    go : (p q r s : Bool) → pick p 0 (pick q 1 (pick r 2 (pick s 3 4))) ≤ 4
-    go true q r s = omega arith
-    go false true r s = omega arith
-    go false false true s = omega arith
-    go false false false true = omega arith
-    go false false false false = omega arith

@@ -50,10 +50,6 @@ module _ (s : Reader) where
   unfolding next
   near = next-in _ _ _ _ (s .level) (s .band)
 
-  pub next-is : next s ≡ nextAt (s .width) (s .height) (s .levels) (s .drawn) (s .level) (s .band)
-  unfolding next
-  next-is = refl
-
   module _ (p : Spot) (is : Is (next s) p) where
     pub spot-in : 0 < p .level → (p .level ≤ s .level) × (p .band < 4) × (0 < next s .level)
     spot-in h =

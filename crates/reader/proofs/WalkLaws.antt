@@ -14,7 +14,6 @@ use Rattle.reader.specs.Store.{workedAt}
 use Rattle.reader.specs.Machine.{Place, place, bandAt, nextAt, settled, finished, beyond}
 use Rattle.reader.specs.Inside.{IsLevel, Is}
 use Rattle.reader.proofs.WorkLaws.{bind-failed, bind-passed}
-use Rattle.reader.proofs.SetLaws.{next-most}
 
 -- a place by its numbers
 pub is-place : (q : Place) (p : Spot) → place (p .level) (p .band) ≡ q → Is q p
@@ -24,10 +23,6 @@ module _ (W H L d : ℕ) where
   pub band-is : (k b : ℕ) (l : Level) → IsLevel W H d k l → nextBand (eqb (k + 1) L) (l .width) (l .height) (l .set) b ≡ bandAt W H L d k b
   unfolding bandAt
   band-is k b l is = rw (is .width, is .height, is .set, add-one k)
-
-  pub band-most : (k b : ℕ) → bandAt W H L d k b ≤ 4
-  unfolding bandAt
-  band-most k b = next-most _ _ _ _ _
 
   -- ---- the row wanted
   pub next-here : (k b c : ℕ) → 0 < k → c ≡ bandAt W H L d (k - 1) b → c < 4 → place k c ≡ nextAt W H L d k b

@@ -17,7 +17,7 @@ ghost use Rattle.reader.specs.State.{movedTo, endedReader};
 ghost use Rattle.reader.specs.Questions.{setUpQuestion, wantQuestion, feedQuestion, drawQuestion};
 ghost use Rattle.reader.specs.Calls.{setUpNumber, wantNumber, feedNumber, drawNumber, setUpAnswer, setUpStore, wantAnswer, feedAnswer, feedStore, drawAnswer, drawStore, drawArea};
 
-// A reader. `drawn` height rows are drawn; rows of `level` are collected (0: a height row can be drawn), and `band` is the code of the first band that may be next.
+// The counts of a reader; docs/STATE.md gives their ranges. `drawn` height rows are drawn; rows of `level` are collected (0: a height row can be drawn), and `band` is the code of the first band that may be next.
 pub struct Reader {
     pub width: usize,
     pub height: usize,
