@@ -1,0 +1,10 @@
+pub mod Sets
+pub mod Asked
+pub mod Tried
+pub mod Slots
+pub mod Work
+pub mod Store
+pub mod Machine
+pub mod State
+pub mod Questions
+pub mod Calls
