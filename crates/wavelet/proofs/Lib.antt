@@ -7,3 +7,4 @@ pub mod LevelTheory
 pub mod Bridge
 pub mod MapTheorems
 pub mod LevelReads
+pub mod OrderLaws

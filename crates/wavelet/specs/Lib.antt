@@ -7,3 +7,5 @@ pub mod Maps
 pub mod Questions
 pub mod ViewCall
 pub mod Span
+pub mod Order
+pub mod Steps
