@@ -1,3 +1,4 @@
 pub mod SetLaws
 pub mod StepsLeft
 pub mod RowsIn
+pub mod SetMade
