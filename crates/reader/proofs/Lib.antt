@@ -2,3 +2,4 @@ pub mod SetLaws
 pub mod StepsLeft
 pub mod RowsIn
 pub mod SetMade
+pub mod Holds
