@@ -195,7 +195,7 @@ module _ (W H l : ℕ) (g : Grid) (words : OnCells (SFits w32) W H g) where
   code-same : (c e : Band) → code c ≡ code e → c ≡ e
   code-same c e z = sym (named-code c) ∙ ap named z ∙ named-code e
 
-  pub feed-holds : (d k : ℕ) (c : Band) (v x : ℕ → ℤ) → k ≤ l → ((i : ℕ) → i < count (across c) (size k W) → v i ≡ subband wrap32 (size k W) (size k H) (G k) c (rowAt H d (suc k)) i) → Holds d (suc k) (code c) x → Holds d (suc k) (code c + 1) (fedAt W H (suc l) d k (code c) v x)
+  pub feed-holds : (d k : ℕ) (c : Band) (v x : ℕ → ℤ) → k ≤ l → ((i : ℕ) → i < count (across c) (size k W) → v i ≡ subband wrap32 (size k W) (size k H) (G k) c (rowAt H d (suc k)) i) → Holds d (suc k) (code c) x → Holds d (suc k) (code c + 1) (fedAt W H d k (code c) v x)
   unfolding fedAt
   feed-holds d k c v x inside row s =
       rw (named-code c) (record {
@@ -382,7 +382,7 @@ module _ (W H l : ℕ) (g : Grid) (words : OnCells (SFits w32) W H g) where
   fed-holds d k c v x due inside row s = go (look (eqb (suc k) (suc l)) (size k W) (size k H) (rowAt H d (suc k)) (code c + 1)) refl
     where
       y : ℕ → ℤ
-      y = fedAt W H (suc l) d k (code c) v x
+      y = fedAt W H d k (code c) v x
 
       go : (xs : List Band) → look (eqb (suc k) (suc l)) (size k W) (size k H) (rowAt H d (suc k)) (code c + 1) ≡ xs → Outcome Fits (HoldsAt d (pick (ltb (firstCode xs) 4) (place (suc k) (code c + 1)) (place k 1))) (pick (ltb (firstCode xs) 4) (passed y) (workedAt W H (suc l) d k y))
       go [] e = unfold firstCode in work-holds d k y inside due (holds-all d k (code c + 1) y e (feed-holds d k c v x inside row s))

@@ -1,3 +1,6 @@
+pub mod HeightLaws
+pub mod AreaLaws
+pub mod WeaveLaws
 pub mod SetLaws
 pub mod StepsLeft
 pub mod RowsIn

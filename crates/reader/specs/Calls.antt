@@ -1,11 +1,8 @@
 -- What each call answers, and what stands in each lent area afterwards. q is the number of the question that turns the call away, 0 if none does.
 -- An answer's number in document 01: `Refused(q)` is q, `Impossible` is 14, and every other answer is 0.
 use mathlib.Core.Bool.{Bool, true, false}
-use mathlib.Core.List.{List}
 use Prim.Native.Nat.{ℕ}
-use lib.IntN.{ℤ, pos, _-ℤ_, _*ℤ_}
-use lib.Signed.{shrZ}
-use lib.ListN.{getD}
+use lib.IntN.{ℤ}
 use lib.Dec.{eqb}
 use Rattle.numbers.specs.Signal.{pick}
 use Rattle.lifting.specs.Line.{joined}
@@ -19,6 +16,7 @@ use Rattle.reader.specs.declared.Fed.{Fed}
 use Rattle.reader.specs.declared.Fed.the-variants as fed
 use Rattle.reader.specs.declared.Drawn.{Drawn}
 use Rattle.reader.specs.declared.Drawn.the-variants as drawn
+use Rattle.reader.specs.Areas.{height16}
 use Rattle.reader.specs.Tried.{memory}
 use Rattle.reader.specs.Slots.{rowIn}
 use Rattle.reader.specs.Store.{zeroed}
@@ -83,14 +81,6 @@ drawAnswer s q =
 
 unfoldable pub drawStore : Reader → ℕ → (ℕ → ℤ) → ℕ → ℤ
 drawStore s q x = storeAfter s q (pick (drawDue s) (memory x (settles s x)) x) x
-
--- a slice of u16 heights as a signal of whole numbers
-abbrev pub heightsAt : List ℕ → ℕ → ℤ
-heightsAt l i = pos (getD l i 0)
-
--- z modulo 65,536: "a made height row is then drawn modulo 65,536"
-unfoldable pub height16 : ℤ → ℤ
-height16 z = z -ℤ pos 65536 *ℤ shrZ z 65536
 
 -- the height row that stands in the store x: row d of level 1, from halves into its own order
 unfoldable pub heightRow : ℕ → ℕ → (ℕ → ℤ) → ℕ → ℤ

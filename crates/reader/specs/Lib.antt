@@ -1,3 +1,4 @@
+pub mod Areas
 pub mod Sets
 pub mod Asked
 pub mod Tried
@@ -8,3 +9,4 @@ pub mod Machine
 pub mod State
 pub mod Questions
 pub mod Calls
+pub mod Inside

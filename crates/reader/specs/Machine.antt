@@ -46,7 +46,7 @@ module _ (W H L d : ℕ) where
   -- a row wanted at this place is fed
   unfoldable pub fedOn : ℕ → ℕ → (ℕ → ℤ) → (ℕ → ℤ) → Tried
   fedOn zero c v x = passed x
-  fedOn (suc k) c v x = finished k c (fedAt W H L d k c v x)
+  fedOn (suc k) c v x = finished k c (fedAt W H d k c v x)
 
   unfoldable pub placeFed : ℕ → ℕ → Place
   placeFed zero c = place 0 4

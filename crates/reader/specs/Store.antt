@@ -34,13 +34,12 @@ unfoldable pub zeroed : ℕ → ℕ → (ℕ → ℤ) → ℕ → ℤ
 zeroed W L x = fronted (storeLength W L) (λ _. pos 0) x
 
 -- ---- at level k + 1, which splits a grid of size k W columns and size k H rows, while row d of the map is waited for
-module _ (W H L d k : ℕ) where
-  -- the row with band code c of its set fed
-  unfoldable pub fedAt : ℕ → (ℕ → ℤ) → (ℕ → ℤ) → ℕ → ℤ
-  fedAt c v x = behind (stretchAt W k) x (bandFed (size k W) (named c) (rowAt H d (suc k)) v (from (stretchAt W k) x))
+-- the row with band code c of its set fed
+unfoldable pub fedAt : ℕ → ℕ → ℕ → ℕ → ℕ → (ℕ → ℤ) → (ℕ → ℤ) → ℕ → ℤ
+fedAt W H d k c v x = behind (stretchAt W k) x (bandFed (size k W) (named c) (rowAt H d (suc k)) v (from (stretchAt W k) x))
 
-  -- its set worked out
-  unfoldable pub workedAt : (ℕ → ℤ) → Tried
-  workedAt x =
-      onto (behind (stretchAt W k) x)
-      (setWorked (eqb (suc k) L) k (size k W) (size k H) (rowAt H d (suc k)) (from (stretchAt W k) x))
+-- its set worked out
+unfoldable pub workedAt : ℕ → ℕ → ℕ → ℕ → ℕ → (ℕ → ℤ) → Tried
+workedAt W H L d k x =
+    onto (behind (stretchAt W k) x)
+    (setWorked (eqb (suc k) L) k (size k W) (size k H) (rowAt H d (suc k)) (from (stretchAt W k) x))

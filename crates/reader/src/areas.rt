@@ -1,13 +1,13 @@
 // What is done to stretches of numbers: copied, cleared, tested, woven from halves into their own order. The module is private: only this crate, which meets what is required, can call it.
 ghost use mathlib.Core.Path.{_≡_};
-ghost use Prim.Native.Nat.{ℕ, _+_, _≤_};
+ghost use Prim.Native.Nat.{ℕ, _+_, _<_, _≤_};
 ghost use lib.IntN.{ℤ, pos};
-ghost use lib.ListN.{length};
+ghost use lib.ListN.{length, set};
 ghost use Rattle.numbers.specs.Signal.{at, windowed, spliced};
 ghost use Rattle.lifting.specs.Line.{joined};
 ghost use Rattle.lifting.specs.Halves.{halvesOf, fronted};
 ghost use Rattle.wavelet.specs.Maps.{every};
-ghost use Rattle.reader.specs.Areas.{between, height16, heightsAt};
+ghost use Rattle.reader.specs.Areas.{between, height16, heightsAt, wholes};
 
 // Numbers copied to the front of `to`.
 pub fn copy(from: &[i32], to: &mut [i32])
@@ -47,6 +47,14 @@ pub fn all_between(row: &[i32], low: i32, high: i32) -> bool
     ok
 }
 
+// Number q of an area to place p.
+fn move_at(area: &mut [i32], p: usize, q: usize)
+    requires { ⌜ (p < length (now area)) × (q < length (now area)) ⌝ }
+    ensures { λ _. ⌜ now (area .exit) ≡ set (now (area .entry)) p (at (now (area .entry)) q) ⌝ }
+{
+    area[p] = area[q];
+}
+
 // The n numbers in halves at place `from` to place `to`, before them, in their own order: a pair a turn.
 pub fn weave_down(area: &mut [i32], from: usize, to: usize, n: usize)
     requires { ⌜ (to + n ≤ from) × (from + n ≤ length (now area)) ⌝ }
@@ -56,13 +64,28 @@ pub fn weave_down(area: &mut [i32], from: usize, to: usize, n: usize)
     let low = n - high;
     let mut j = 0;
     while j < high {
-        area[to + 2 * j] = area[from + j];
-        area[to + 2 * j + 1] = area[from + low + j];
+        move_at(area, to + 2 * j, from + j);
+        move_at(area, to + 2 * j + 1, from + low + j);
         j += 1;
     }
     if j < low {
-        area[to + 2 * j] = area[from + j];
+        move_at(area, to + 2 * j, from + j);
     }
+}
+
+// A value modulo 65,536.
+fn height_of(v: i32) -> u16
+    ensures { λ r. ⌜ pos r ≡ height16 v ⌝ }
+{
+    (v - 65536 * (v >> 16)) as u16
+}
+
+// Number q of a row to height p.
+fn draw_at(row: &[i32], q: usize, out: &mut [u16], p: usize)
+    requires { ⌜ (q < length (now row)) × (p < length (now out)) ⌝ }
+    ensures { λ _. ⌜ wholes (now (out .exit)) ≡ set (wholes (now (out .entry))) p (height16 (at (now (row .entry)) q)) ⌝ }
+{
+    out[p] = height_of(row[q]);
 }
 
 // A row in halves to heights in their own order, each modulo 65,536: a pair a turn.
@@ -75,11 +98,11 @@ pub fn draw_heights(row: &[i32], out: &mut [u16])
     let low = n - high;
     let mut j = 0;
     while j < high {
-        out[2 * j] = row[j] as u16;
-        out[2 * j + 1] = row[low + j] as u16;
+        draw_at(row, j, out, 2 * j);
+        draw_at(row, low + j, out, 2 * j + 1);
         j += 1;
     }
     if j < low {
-        out[2 * j] = row[j] as u16;
+        draw_at(row, j, out, 2 * j);
     }
 }

@@ -2,6 +2,7 @@
 mod areas;
 mod questions;
 mod sets;
+mod steps;
 mod walk;
 mod work;
 
@@ -80,11 +81,11 @@ impl Reader {
         if self.height <= self.drawn {
             return Wanted::Done;
         }
-        let p = walk::next_of(self);
+        let p = steps::next_of(self);
         if p.level == 0 {
             return Wanted::Draw;
         }
-        Wanted::Row(p.level, p.band, walk::row_number(self, p), walk::row_length(self, p))
+        Wanted::Row(p.level, p.band, steps::row_number(self, p), steps::row_length(self, p))
     }
 
     pub fn feed(self, store: &mut [i32], run: &[i32]) -> Fed {
@@ -92,13 +93,13 @@ impl Reader {
         if q != 0 {
             return Fed::Refused(q);
         }
-        let p = walk::next_of(self);
+        let p = steps::next_of(self);
         let r = questions::row_question(self, p, run);
         if r != 0 {
             return Fed::Refused(r);
         }
-        if walk::feed_row(self, store, p, run) {
-            return Fed::Passed(self.at(self.drawn, walk::beyond_of(self, p)));
+        if steps::feed_row(self, store, p, run) {
+            return Fed::Passed(self.at(self.drawn, steps::place_fed(self, p)));
         }
         let n = walk::store_length(self.width, self.levels);
         areas::clear(store, n);
@@ -110,19 +111,20 @@ impl Reader {
         if q != 0 {
             return Drawn::Refused(q);
         }
-        if !questions::draw_due(self) {
+        let p = steps::next_of(self);
+        if !questions::draw_due(self, p) {
             return Drawn::Nothing;
         }
         let w = self.width;
         if out.len() < w {
             return Drawn::Refused(12);
         }
-        if walk::settle(self, store, 0) {
+        if steps::settle(self, store, p) {
             let a = work::row_place(w, self.drawn);
             let e = a + w;
             areas::draw_heights(&store[a..e], out);
             let d = self.drawn + 1;
-            return Drawn::Heights(w, self.at(d, walk::enter_of(self.height, self.levels, d)));
+            return Drawn::Heights(w, self.at(d, walk::enter_of(w, self.height, self.levels, d)));
         }
         let n = walk::store_length(w, self.levels);
         areas::clear(store, n);

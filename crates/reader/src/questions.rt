@@ -2,14 +2,18 @@
 use crate::areas;
 use crate::walk;
 use crate::walk::Spot;
+use crate::steps;
 use crate::Reader;
 use wavelet::limits;
 use wavelet::sizes;
 ghost use mathlib.Core.Path.{_≡_};
 ghost use Prim.Native.Nat.{ℕ, _≤_};
 ghost use lib.ListN.{length};
+ghost use Rattle.wavelet.specs.Limits.{maxLevels};
 ghost use Rattle.numbers.specs.Signal.{at};
-ghost use Rattle.reader.specs.Questions.{countsFit, storeFits, runFits};
+ghost use Rattle.reader.specs.State.{next, drawDue};
+ghost use Rattle.reader.specs.Questions.{countsFit, runFits, setUpQuestion};
+ghost use Rattle.reader.specs.Inside.{Counts, Is, storeQuestion, rowQuestion};
 
 // Question 1: is every count inside its range?
 pub fn counts_fit(s: Reader) -> bool
@@ -54,7 +58,7 @@ pub fn set_up_question(width: usize, height: usize, levels: usize, length: usize
 
 // Question 7: is each number of the run in its level's range?
 fn run_fits(run: &[i32], level: usize) -> bool
-    requires { ⌜ level ≤ 5 ⌝ }
+    requires { ⌜ level ≤ maxLevels ⌝ }
     ensures { λ r. ⌜ r ≡ runFits level (length (now (run .entry))) (at (now (run .entry))) ⌝ }
 {
     let most = sizes::range_of(level);
@@ -79,7 +83,7 @@ pub fn store_question(s: Reader, length: usize) -> u8
 
 // Questions 8, 13 and 7 of a feed, whose row wanted is p.
 pub fn row_question(s: Reader, p: Spot, run: &[i32]) -> u8
-    requires { ⌜ Counts s × IsNext s p ⌝ }
+    requires { ⌜ Counts s × Is (next s) p ⌝ }
     ensures { λ r. ⌜ r ≡ rowQuestion s (length (now (run .entry))) (at (now (run .entry))) ⌝ }
 {
     if s.height <= s.drawn {
@@ -88,7 +92,7 @@ pub fn row_question(s: Reader, p: Spot, run: &[i32]) -> u8
     if p.level == 0 {
         return 8;
     }
-    if run.len() != walk::row_length(s, p) {
+    if run.len() != steps::row_length(s, p) {
         return 13;
     }
     if !run_fits(run, p.level) {
@@ -97,14 +101,13 @@ pub fn row_question(s: Reader, p: Spot, run: &[i32]) -> u8
     0
 }
 
-// Whether a height row can be drawn.
-pub fn draw_due(s: Reader) -> bool
-    requires { ⌜ Counts s ⌝ }
+// Whether a height row can be drawn, where p is the row wanted.
+pub fn draw_due(s: Reader, p: Spot) -> bool
+    requires { ⌜ Is (next s) p ⌝ }
     ensures { λ r. ⌜ r ≡ drawDue s ⌝ }
 {
     if s.height <= s.drawn {
         return false;
     }
-    let p = walk::next_of(s);
     p.level == 0
 }

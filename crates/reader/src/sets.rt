@@ -8,7 +8,7 @@ ghost use Rattle.reader.specs.Asked.{nextBand};
 
 // The set that makes row r of h rows.
 pub fn set_of(h: usize, r: usize) -> usize
-    requires { ⌜ (0 < h) × (r ≤ 65535) ⌝ }
+    requires { ⌜ (0 < h) × (r ≤ 4294967296) ⌝ }
     ensures { λ n. ⌜ n ≡ setOf h r ⌝ }
 {
     let a = (r + 1) / 2;
@@ -18,7 +18,7 @@ pub fn set_of(h: usize, r: usize) -> usize
 
 // The first row that set n makes.
 pub fn first_of(n: usize) -> usize
-    requires { ⌜ n ≤ 65535 ⌝ }
+    requires { ⌜ n ≤ 4294967296 ⌝ }
     ensures { λ r. ⌜ r ≡ 2 * n - 1 ⌝ }
 {
     if n == 0 { 0 } else { 2 * n - 1 }

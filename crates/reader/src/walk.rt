@@ -1,26 +1,29 @@
-// The walk over the levels: the stretch and the set of each, the row wanted, the sets worked out on the way. The module is private, as `areas` is.
+// The walk over the levels of a map of `width` × `height`, while row `drawn` is waited for: the stretch and the set of each level, the row wanted, the sets worked out on the way. The module is private, as `areas` is.
 use crate::areas;
 use crate::sets;
 use crate::work;
-use crate::Reader;
 use wavelet::sizes;
 ghost use mathlib.Core.Path.{_≡_};
-ghost use Prim.Native.Nat.{ℕ, suc, _+_, _-_, _*_, _<_, _≤_};
+ghost use Prim.Native.Nat.{ℕ, _+_, _<_, _≤_};
 ghost use lib.ListN.{length};
 ghost use Rattle.numbers.specs.Signal.{at};
+ghost use Rattle.lifting.specs.Line.{count};
+ghost use Rattle.wavelet.specs.Bands.{across, down};
+ghost use Rattle.wavelet.specs.Levels.{size};
+ghost use Rattle.wavelet.specs.Limits.{maxLevels};
 ghost use Rattle.reader.specs.Asked.{named};
 ghost use Rattle.reader.specs.Tried.{outcome};
+ghost use Rattle.reader.specs.Slots.{rowPlace, setRow, halfPlace};
 ghost use Rattle.reader.specs.Store.{storeLength, fedAt, workedAt};
-ghost use Rattle.reader.specs.Machine.{Place, bandAt, nextAt, settled, fedOn, placeFed, enter};
-ghost use Rattle.reader.specs.State.{next, nextLength, settles, feeds};
-ghost use Rattle.reader.specs.Inside.{Counts, IsLevel};
+ghost use Rattle.reader.specs.Machine.{bandAt, nextAt, settled, finished, beyond, enter};
+ghost use Rattle.reader.specs.Inside.{Shape, IsLevel, Is};
 
 // A level: where its stretch begins, the columns and rows that it splits, and the set that it is at.
 pub struct Level {
-    start: usize,
-    width: usize,
-    height: usize,
-    set: usize,
+    pub start: usize,
+    pub width: usize,
+    pub height: usize,
+    pub set: usize,
 }
 
 // A level and a band of it: the row wanted, or where the reader goes on. Level 0: a height row can be drawn.
@@ -30,14 +33,14 @@ pub struct Spot {
 }
 
 // Level k + 1.
-fn level_at(s: Reader, k: usize) -> Level
-    requires { ⌜ Counts s × (k < s .levels) ⌝ }
-    ensures { λ l. ⌜ IsLevel s k l ⌝ }
+pub fn level_at(width: usize, height: usize, drawn: usize, k: usize) -> Level
+    requires { ⌜ Shape width height drawn × (k ≤ maxLevels) ⌝ }
+    ensures { λ l. ⌜ IsLevel width height drawn k l ⌝ }
 {
     let mut start = 0;
-    let mut w = s.width;
-    let mut h = s.height;
-    let mut n = sets::set_of(h, s.drawn);
+    let mut w = width;
+    let mut h = height;
+    let mut n = sets::set_of(height, drawn);
     let mut i = 0;
     while i < k {
         start += 4 * w;
@@ -56,7 +59,7 @@ fn level_at(s: Reader, k: usize) -> Level
 
 // The numbers that the line store needs.
 pub fn store_length(width: usize, levels: usize) -> usize
-    requires { ⌜ (width ≤ 2049) × (levels ≤ 5) ⌝ }
+    requires { ⌜ (width ≤ 65536) × (levels ≤ maxLevels) ⌝ }
     ensures { λ n. ⌜ n ≡ storeLength width levels ⌝ }
 {
     let mut n = 0;
@@ -71,23 +74,37 @@ pub fn store_length(width: usize, levels: usize) -> usize
 }
 
 // The code of the first band from `band` on that the set of level k + 1 asks for; 4 where there is none.
-fn band_at(s: Reader, k: usize, band: usize) -> usize
-    requires { ⌜ Counts s × (k < s .levels) ⌝ }
-    ensures { λ c. ⌜ c ≡ bandAt (s .width) (s .height) (s .levels) (s .drawn) k band ⌝ }
+pub fn band_at(
+    width: usize,
+    height: usize,
+    levels: usize,
+    drawn: usize,
+    k: usize,
+    band: usize,
+) -> usize
+    requires { ⌜ Shape width height drawn × (k ≤ maxLevels) ⌝ }
+    ensures { λ c. ⌜ c ≡ bandAt width height levels drawn k band ⌝ }
 {
-    let l = level_at(s, k);
-    sets::next_band(k + 1 == s.levels, l.width, l.height, l.set, band)
+    let l = level_at(width, height, drawn, k);
+    sets::next_band(k + 1 == levels, l.width, l.height, l.set, band)
 }
 
 // The row wanted: of this level, or of the next finer one whose set asks for one.
-pub fn next_of(s: Reader) -> Spot
-    requires { ⌜ Counts s ⌝ }
-    ensures { λ p. ⌜ (p .level ≡ next s .level) × (p .band ≡ next s .band) ⌝ }
+pub fn next_at(
+    width: usize,
+    height: usize,
+    levels: usize,
+    drawn: usize,
+    level: usize,
+    band: usize,
+) -> Spot
+    requires { ⌜ Shape width height drawn × (level ≤ maxLevels) ⌝ }
+    ensures { λ p. ⌜ Is (nextAt width height levels drawn level band) p ⌝ }
 {
-    let mut k = s.level;
-    let mut b = s.band;
+    let mut k = level;
+    let mut b = band;
     while 0 < k {
-        let c = band_at(s, k - 1, b);
+        let c = band_at(width, height, levels, drawn, k - 1, b);
         if c < 4 {
             return Spot { level: k, band: c };
         }
@@ -105,104 +122,125 @@ pub fn band_length(w: usize, band: usize) -> usize
     if band % 2 == 0 { sizes::half(w) } else { w / 2 }
 }
 
-// The length of the row wanted, and its number.
-pub fn row_length(s: Reader, p: Spot) -> usize
-    requires { ⌜ Counts s × IsNext s p × (0 < p .level) ⌝ }
-    ensures { λ n. ⌜ n ≡ nextLength s ⌝ }
-{
-    let l = level_at(s, p.level - 1);
-    band_length(l.width, p.band)
-}
-
-pub fn row_number(s: Reader, p: Spot) -> usize
-    requires { ⌜ Counts s × IsNext s p × (0 < p .level) ⌝ }
-    ensures { λ n. ⌜ n ≡ nextRow s ⌝ }
-{
-    let l = level_at(s, p.level - 1);
-    l.set
-}
-
-// The set of level k + 1 worked out, in the level's own stretch.
-fn work_at(s: Reader, store: &mut [i32], k: usize) -> bool
-    requires { ⌜ Counts s × (storeLength (s .width) (s .levels) ≤ length (now store)) × (k < s .levels) ⌝ }
-    ensures { λ ok. ⌜ outcome ok (at (now (store .exit))) ≡ workedAt (s .width) (s .height) (s .levels) (s .drawn) k (at (now (store .entry))) ⌝ }
-{
-    let l = level_at(s, k);
-    let a = l.start;
-    work::work_set(&mut store[a..], k + 1 == s.levels, k, l.width, l.height, l.set)
-}
-
-// The sets of the levels above `to`, the coarsest first.
-pub fn settle(s: Reader, store: &mut [i32], to: usize) -> bool
-    requires { ⌜ Counts s × (storeLength (s .width) (s .levels) ≤ length (now store)) ⌝ }
-    ensures { λ ok. ⌜ outcome ok (at (now (store .exit))) ≡ settled (s .width) (s .height) (s .levels) (s .drawn) to (s .level) (at (now (store .entry))) ⌝ }
-{
-    let mut k = s.level;
-    while to < k {
-        k -= 1;
-        if !work_at(s, store, k) {
-            return false;
-        }
-    }
-    true
-}
-
-// A band row put into the half row where it belongs.
-fn put_row(s: Reader, store: &mut [i32], k: usize, band: usize, run: &[i32])
-    requires { ⌜ Counts s × (storeLength (s .width) (s .levels) ≤ length (now store)) × (k < s .levels) × (band < 4) × (length (now run) ≡ count (across (named band)) (size k (s .width))) ⌝ }
-    ensures { λ _. ⌜ at (now (store .exit)) ≡ fedAt (s .width) (s .height) (s .levels) (s .drawn) k band (at (now (run .entry))) (at (now (store .entry))) ⌝ }
-{
-    let l = level_at(s, k);
-    let a = l.start + half_place(l.width, l.set, band);
-    let e = a + run.len();
-    areas::copy(run, &mut store[a..e]);
-}
-
-// Where the half row of a band of set n begins.
+// Where the half row of a band of set n begins, in its level's stretch.
 fn half_place(w: usize, n: usize, band: usize) -> usize
-    requires { ⌜ (band < 4) × (w ≤ 2049) × (n ≤ 65535) ⌝ }
+    requires { ⌜ (band < 4) × (w ≤ 65536) × (n ≤ 4294967296) ⌝ }
     ensures { λ a. ⌜ a ≡ rowPlace w (setRow (down (named band)) n) + halfPlace (across (named band)) w ⌝ }
 {
     let a = work::row_place(w, 2 * n + band / 2);
     if band % 2 == 0 { a } else { a + sizes::half(w) }
 }
 
-// The sets that wait worked out, the run put, and the set that it completes worked out.
-pub fn feed_row(s: Reader, store: &mut [i32], p: Spot, run: &[i32]) -> bool
-    requires { ⌜ Counts s × (storeLength (s .width) (s .levels) ≤ length (now store)) × (p .level ≡ next s .level) × (p .band ≡ next s .band) × (0 < p .level) × (length (now run) ≡ nextLength s) ⌝ }
-    ensures { λ ok. ⌜ outcome ok (at (now (store .exit))) ≡ feeds s (at (now (run .entry))) (at (now (store .entry))) ⌝ }
+// A band row put into the half row where it belongs.
+pub fn put_row(
+    width: usize,
+    height: usize,
+    drawn: usize,
+    store: &mut [i32],
+    k: usize,
+    band: usize,
+    run: &[i32],
+)
+    requires { ⌜ Shape width height drawn × (k < maxLevels) × (band < 4) × (storeLength width (k + 1) ≤ length (now store)) × (length (now run) ≡ count (across (named band)) (size k width)) ⌝ }
+    ensures { λ _. ⌜ at (now (store .exit)) ≡ fedAt width height drawn k band (at (now (run .entry))) (at (now (store .entry))) ⌝ }
 {
-    let k = p.level - 1;
-    if !settle(s, store, p.level) {
-        return false;
-    }
-    put_row(s, store, k, p.band, run);
-    if band_at(s, k, p.band + 1) < 4 {
-        return true;
-    }
-    work_at(s, store, k)
+    let l = level_at(width, height, drawn, k);
+    let a = l.start + half_place(l.width, l.set, band);
+    let e = a + run.len();
+    areas::copy(run, &mut store[a..e]);
 }
 
-// Where the reader goes on after that row.
-pub fn beyond_of(s: Reader, p: Spot) -> Spot
-    requires { ⌜ Counts s × (0 < p .level) × (p .level ≤ s .levels) × (p .band < 4) ⌝ }
-    ensures { λ q. ⌜ (q .level ≡ placeFed (s .width) (s .height) (s .levels) (s .drawn) (p .level) (p .band) .level) × (q .band ≡ placeFed (s .width) (s .height) (s .levels) (s .drawn) (p .level) (p .band) .band) ⌝ }
+// The set of level k + 1 worked out, in the level's own stretch.
+pub fn work_at(
+    width: usize,
+    height: usize,
+    levels: usize,
+    drawn: usize,
+    store: &mut [i32],
+    k: usize,
+) -> bool
+    requires { ⌜ Shape width height drawn × (levels ≤ maxLevels) × (k < levels) × (storeLength width levels ≤ length (now store)) ⌝ }
+    ensures { λ ok. ⌜ outcome ok (at (now (store .exit))) ≡ workedAt width height levels drawn k (at (now (store .entry))) ⌝ }
 {
-    let k = p.level - 1;
-    if band_at(s, k, p.band + 1) < 4 {
-        Spot {
-            level: p.level,
-            band: p.band + 1,
+    let l = level_at(width, height, drawn, k);
+    let a = l.start;
+    work::work_set(
+        &mut store[a..],
+        k + 1 == levels,
+        k,
+        l.width,
+        l.height,
+        l.set,
+    )
+}
+
+// The sets of the levels from `from` down to above `to`, the coarsest first.
+pub fn settle(
+    width: usize,
+    height: usize,
+    levels: usize,
+    drawn: usize,
+    store: &mut [i32],
+    from: usize,
+    to: usize,
+) -> bool
+    requires { ⌜ Shape width height drawn × (levels ≤ maxLevels) × (from ≤ levels) × (storeLength width levels ≤ length (now store)) ⌝ }
+    ensures { λ ok. ⌜ outcome ok (at (now (store .exit))) ≡ settled width height levels drawn to from (at (now (store .entry))) ⌝ }
+{
+    let mut k = from;
+    while to < k {
+        k -= 1;
+        if !work_at(width, height, levels, drawn, store, k) {
+            return false;
         }
-    } else {
-        Spot { level: k, band: 1 }
     }
+    true
+}
+
+// The set of level k + 1 worked out if no band from `band` on is left to feed.
+pub fn finish(
+    width: usize,
+    height: usize,
+    levels: usize,
+    drawn: usize,
+    store: &mut [i32],
+    k: usize,
+    band: usize,
+) -> bool
+    requires { ⌜ Shape width height drawn × (levels ≤ maxLevels) × (k < levels) × (band < 4) × (storeLength width levels ≤ length (now store)) ⌝ }
+    ensures { λ ok. ⌜ outcome ok (at (now (store .exit))) ≡ finished width height levels drawn k band (at (now (store .entry))) ⌝ }
+{
+    if band_at(width, height, levels, drawn, k, band + 1) < 4 {
+        return true;
+    }
+    work_at(width, height, levels, drawn, store, k)
+}
+
+// Where the reader goes on after the row of that band.
+pub fn beyond_of(
+    width: usize,
+    height: usize,
+    levels: usize,
+    drawn: usize,
+    k: usize,
+    band: usize,
+) -> Spot
+    requires { ⌜ Shape width height drawn × (k ≤ maxLevels) × (band < 4) ⌝ }
+    ensures { λ p. ⌜ Is (beyond width height levels drawn k band) p ⌝ }
+{
+    if band_at(width, height, levels, drawn, k, band + 1) < 4 {
+        return Spot {
+            level: k + 1,
+            band: band + 1,
+        };
+    }
+    Spot { level: k, band: 1 }
 }
 
 // Where row d begins: past each level whose set it opens.
-pub fn enter_of(height: usize, levels: usize, d: usize) -> Spot
-    requires { ⌜ (0 < height) × (height ≤ 65535) × (d ≤ height) × (levels ≤ 5) ⌝ }
-    ensures { λ p. ⌜ Entered height levels d p ⌝ }
+pub fn enter_of(width: usize, height: usize, levels: usize, d: usize) -> Spot
+    requires { ⌜ Shape width height d × (levels ≤ maxLevels) ⌝ }
+    ensures { λ p. ⌜ Is (enter width height levels d) p ⌝ }
 {
     let mut k = 0;
     let mut r = d;

@@ -5,19 +5,20 @@ use lifting::rows;
 use wavelet::sizes;
 ghost use mathlib.Core.Path.{_≡_};
 ghost use mathlib.Core.Bool.{Bool, true, false};
-ghost use Prim.Native.Nat.{ℕ, _+_, _-_, _*_, _<_, _≤_};
+ghost use Prim.Native.Nat.{ℕ, _+_, _-_, _*_, _<_, _≤_, min};
 ghost use lib.IntN.{ℤ, pos};
 ghost use lib.ListN.{length};
 ghost use Rattle.numbers.specs.Signal.{at, pick};
 ghost use Rattle.lifting.specs.Line.{lo, count};
+ghost use Rattle.wavelet.specs.Limits.{maxLevels};
 ghost use Rattle.reader.specs.Tried.{outcome};
 ghost use Rattle.reader.specs.Slots.{rowPlace, rowUnlifted, lowRowTaken};
 ghost use Rattle.reader.specs.Work.{rowFits, setUnlifted, evenRow, oddRow, evenMade, oddMade, lastMade, setMade, setWorked};
-ghost use Rattle.reader.specs.Areas.{lowestOf, highestOf};
+ghost use Rattle.reader.specs.Areas.{lowestOf};
 
 // Where row r begins.
 pub fn row_place(w: usize, r: usize) -> usize
-    requires { ⌜ w ≤ 2049 ⌝ }
+    requires { ⌜ w ≤ 65536 ⌝ }
     ensures { λ a. ⌜ (a ≡ rowPlace w r) × (a + w ≤ 4 * w) ⌝ }
 {
     r % 4 * w
@@ -25,7 +26,7 @@ pub fn row_place(w: usize, r: usize) -> usize
 
 // Row r lifted back along the row.
 fn unlift_row(stretch: &mut [i32], w: usize, r: usize)
-    requires { ⌜ (w ≤ 2049) × (4 * w ≤ length (now stretch)) ⌝ }
+    requires { ⌜ (w ≤ 65536) × (4 * w ≤ length (now stretch)) ⌝ }
     ensures { λ _. ⌜ at (now (stretch .exit)) ≡ rowUnlifted w r (at (now (stretch .entry))) ⌝ }
 {
     let a = row_place(w, r);
@@ -35,7 +36,7 @@ fn unlift_row(stretch: &mut [i32], w: usize, r: usize)
 
 // The rows of set n lifted back along the row: the low one, and the high one if there is one.
 fn unlift_set(stretch: &mut [i32], w: usize, h: usize, n: usize)
-    requires { ⌜ (w ≤ 2049) × (4 * w ≤ length (now stretch)) × (n ≤ 65535) ⌝ }
+    requires { ⌜ (w ≤ 65536) × (4 * w ≤ length (now stretch)) × (n ≤ 4294967296) ⌝ }
     ensures { λ _. ⌜ at (now (stretch .exit)) ≡ setUnlifted w h n (at (now (stretch .entry))) ⌝ }
 {
     unlift_row(stretch, w, 2 * n);
@@ -53,7 +54,7 @@ fn before(n: usize) -> usize
 
 // Row 2n by the high rows next to it, the nearest one twice at an end.
 fn undo_even(stretch: &mut [i32], w: usize, h: usize, n: usize)
-    requires { ⌜ (w ≤ 2049) × (4 * w ≤ length (now stretch)) × (n < count lo h) × (h ≤ 65535) ⌝ }
+    requires { ⌜ (w ≤ 65536) × (4 * w ≤ length (now stretch)) × (n < count lo h) × (h ≤ 4294967295) ⌝ }
     ensures { λ _. ⌜ at (now (stretch .exit)) ≡ evenRow w h n (at (now (stretch .entry))) ⌝ }
 {
     if 1 < h {
@@ -65,7 +66,7 @@ fn undo_even(stretch: &mut [i32], w: usize, h: usize, n: usize)
 
 // Row 2m + 1 by the even rows next to it, the nearest one twice at the end.
 fn undo_odd(stretch: &mut [i32], w: usize, h: usize, m: usize)
-    requires { ⌜ (w ≤ 2049) × (4 * w ≤ length (now stretch)) × (m < count lo h) × (h ≤ 65535) ⌝ }
+    requires { ⌜ (w ≤ 65536) × (4 * w ≤ length (now stretch)) × (m < count lo h) × (h ≤ 4294967295) ⌝ }
     ensures { λ _. ⌜ at (now (stretch .exit)) ≡ oddRow w h m (at (now (stretch .entry))) ⌝ }
 {
     let r = 2 * least(m + 1, sizes::half(h) - 1);
@@ -88,7 +89,7 @@ fn lowest_of(k: usize) -> i32
 
 // The test of 14, which every row made passes before it is used.
 fn admit_row(stretch: &[i32], k: usize, w: usize, r: usize) -> bool
-    requires { ⌜ (w ≤ 2049) × (4 * w ≤ length (now stretch)) × (k ≤ 5) ⌝ }
+    requires { ⌜ (w ≤ 65536) × (4 * w ≤ length (now stretch)) × (k ≤ maxLevels) ⌝ }
     ensures { λ ok. ⌜ ok ≡ rowFits k w r (at (now (stretch .entry))) ⌝ }
 {
     let a = row_place(w, r);
@@ -98,7 +99,7 @@ fn admit_row(stretch: &[i32], k: usize, w: usize, r: usize) -> bool
 
 // Row 2n of set n made.
 fn make_even(stretch: &mut [i32], k: usize, w: usize, h: usize, n: usize) -> bool
-    requires { ⌜ (w ≤ 2049) × (4 * w ≤ length (now stretch)) × (n < count lo h) × (h ≤ 65535) × (k ≤ 5) ⌝ }
+    requires { ⌜ (w ≤ 65536) × (4 * w ≤ length (now stretch)) × (n < count lo h) × (h ≤ 4294967295) × (k ≤ maxLevels) ⌝ }
     ensures { λ ok. ⌜ outcome ok (at (now (stretch .exit))) ≡ evenMade k w h n (at (now (stretch .entry))) ⌝ }
 {
     unlift_set(stretch, w, h, n);
@@ -108,7 +109,7 @@ fn make_even(stretch: &mut [i32], k: usize, w: usize, h: usize, n: usize) -> boo
 
 // Row 2n − 1 made, if there is one.
 fn make_odd(stretch: &mut [i32], k: usize, w: usize, h: usize, n: usize) -> bool
-    requires { ⌜ (w ≤ 2049) × (4 * w ≤ length (now stretch)) × (n < count lo h) × (h ≤ 65535) × (k ≤ 5) ⌝ }
+    requires { ⌜ (w ≤ 65536) × (4 * w ≤ length (now stretch)) × (n < count lo h) × (h ≤ 4294967295) × (k ≤ maxLevels) ⌝ }
     ensures { λ ok. ⌜ outcome ok (at (now (stretch .exit))) ≡ oddMade k w h n (at (now (stretch .entry))) ⌝ }
 {
     if n == 0 {
@@ -120,7 +121,7 @@ fn make_odd(stretch: &mut [i32], k: usize, w: usize, h: usize, n: usize) -> bool
 
 // Row 2n + 1 made, if it is the last of an even height.
 fn make_last(stretch: &mut [i32], k: usize, w: usize, h: usize, n: usize) -> bool
-    requires { ⌜ (w ≤ 2049) × (4 * w ≤ length (now stretch)) × (n < count lo h) × (h ≤ 65535) × (k ≤ 5) ⌝ }
+    requires { ⌜ (w ≤ 65536) × (4 * w ≤ length (now stretch)) × (n < count lo h) × (h ≤ 4294967295) × (k ≤ maxLevels) ⌝ }
     ensures { λ ok. ⌜ outcome ok (at (now (stretch .exit))) ≡ lastMade k w h n (at (now (stretch .entry))) ⌝ }
 {
     if 2 * n + 2 != h {
@@ -132,7 +133,7 @@ fn make_last(stretch: &mut [i32], k: usize, w: usize, h: usize, n: usize) -> boo
 
 // The rows of set n made, one after another as long as they fit.
 fn make_set(stretch: &mut [i32], k: usize, w: usize, h: usize, n: usize) -> bool
-    requires { ⌜ (w ≤ 2049) × (4 * w ≤ length (now stretch)) × (n < count lo h) × (h ≤ 65535) × (k ≤ 5) ⌝ }
+    requires { ⌜ (w ≤ 65536) × (4 * w ≤ length (now stretch)) × (n < count lo h) × (h ≤ 4294967295) × (k ≤ maxLevels) ⌝ }
     ensures { λ ok. ⌜ outcome ok (at (now (stretch .exit))) ≡ setMade k w h n (at (now (stretch .entry))) ⌝ }
 {
     if !make_even(stretch, k, w, h, n) {
@@ -146,7 +147,7 @@ fn make_set(stretch: &mut [i32], k: usize, w: usize, h: usize, n: usize) -> bool
 
 // Below the last level: the low-low row of set n from the next level's memory, which follows this one's.
 fn take_low_row(stretch: &mut [i32], w: usize, n: usize)
-    requires { ⌜ (w ≤ 2049) × (4 * w + 4 * count lo w ≤ length (now stretch)) × (n ≤ 65535) ⌝ }
+    requires { ⌜ (w ≤ 65536) × (4 * w + 4 * count lo w ≤ length (now stretch)) × (n ≤ 4294967296) ⌝ }
     ensures { λ _. ⌜ at (now (stretch .exit)) ≡ lowRowTaken w n (at (now (stretch .entry))) ⌝ }
 {
     let low = sizes::half(w);
@@ -157,7 +158,7 @@ fn take_low_row(stretch: &mut [i32], w: usize, n: usize)
 
 // Set n of level k + 1 worked out.
 pub fn work_set(stretch: &mut [i32], last: bool, k: usize, w: usize, h: usize, n: usize) -> bool
-    requires { ⌜ (w ≤ 2049) × (4 * w + 4 * pick last 0 (count lo w) ≤ length (now stretch)) × (n < count lo h) × (h ≤ 65535) × (k ≤ 5) ⌝ }
+    requires { ⌜ (w ≤ 65536) × (4 * w + 4 * pick last 0 (count lo w) ≤ length (now stretch)) × (n < count lo h) × (h ≤ 4294967295) × (k ≤ maxLevels) ⌝ }
     ensures { λ ok. ⌜ outcome ok (at (now (stretch .exit))) ≡ setWorked last k w h n (at (now (stretch .entry))) ⌝ }
 {
     if !last {

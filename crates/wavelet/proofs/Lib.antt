@@ -8,3 +8,5 @@ pub mod Bridge
 pub mod MapTheorems
 pub mod LevelReads
 pub mod OrderLaws
+pub mod OrderOnce
+pub mod StepLaws
