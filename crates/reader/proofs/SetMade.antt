@@ -293,19 +293,25 @@ module _ (k w h : ℕ) (G : Grid) (good : OnCells (SFits w32) w h G) where
         last e = odd-is-made n x (omega arith) (s .even) (λ l. absurd (omega arith)) (s .high (omega arith))
 
         go : Dec (2 * n + 2 ≡ h) → Outcome FitAll (Worked n) (pick (eqb (2 * n + 2) h) (admitted k w (2 * n + 1) y) (passed x))
-        go (yes e) = rw (eq-eqb (2 * n + 2) h e) (admit (Worked n) (2 * n + 1) y (omega arith) (last e) (λ f. (record {
-          made = by-set (λ r. Is w y r (parted (G r))) n b
-              (kept (2 * n) _ (λ z. parity (2 * n) (2 * n + 1) n n (omega arith) (omega arith) (sym z)) (s .even))
-              (λ p z. kept (2 * p + 1) _ (λ u. apart (2 * p + 1) (2 * n + 1) (omega arith) (sym u)) (s .odd p z))
-              (λ _. last e);
-          fit = by-set FitRow n b (s .even-fit) (s .odd-fit) (λ _. f);
-          high = λ l. absurd (omega arith);
-        }, λ j p. only-by w (2 * n + 1) (unpredicted wrap32) _ _ x .past j p ∙ s .past j p)))
-        go (no e) = rw (ne-eqb (2 * n + 2) h e) (goes x (record {
-          made = by-set (λ r. Is w x r (parted (G r))) n b (s .even) (s .odd) (λ z. absurd (e z));
-          fit = by-set FitRow n b (s .even-fit) (s .odd-fit) (λ z. absurd (e z));
-          high = λ l. s .high (omega arith);
-        }, s .past))
+        go (yes e) = rw (eq-eqb (2 * n + 2) h e) (admit (Worked n) (2 * n + 1) y (omega arith) (last e) (λ f. (
+          record {
+            made = by-set (λ r. Is w y r (parted (G r))) n b
+                (kept (2 * n) _ (λ z. parity (2 * n) (2 * n + 1) n n (omega arith) (omega arith) (sym z)) (s .even))
+                (λ p z. kept (2 * p + 1) _ (λ u. apart (2 * p + 1) (2 * n + 1) (omega arith) (sym u)) (s .odd p z))
+                (λ _. last e);
+            fit = by-set FitRow n b (s .even-fit) (s .odd-fit) (λ _. f);
+            high = λ l. absurd (omega arith);
+          },
+          λ j p. only-by w (2 * n + 1) (unpredicted wrap32) _ _ x .past j p ∙ s .past j p,
+        )))
+        go (no e) = rw (ne-eqb (2 * n + 2) h e) (goes x (
+          record {
+            made = by-set (λ r. Is w x r (parted (G r))) n b (s .even) (s .odd) (λ z. absurd (e z));
+            fit = by-set FitRow n b (s .even-fit) (s .odd-fit) (λ z. absurd (e z));
+            high = λ l. s .high (omega arith);
+          },
+          s .past,
+        ))
 
     -- ---- a set worked out makes rows of the grid
     pub set-made : (n : ℕ) (x : ℕ → ℤ) → 2 * n < h → Past x → Needs n x → Outcome FitAll (Worked n) (setMade k w h n x)
