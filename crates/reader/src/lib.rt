@@ -85,12 +85,7 @@ impl Reader {
         if p.level == 0 {
             return Wanted::Draw;
         }
-        Wanted::Row(
-            p.level,
-            p.band,
-            steps::row_number(self, p),
-            steps::row_length(self, p),
-        )
+        Wanted::Row(p.level, p.band, steps::row_number(self, p), steps::row_length(self, p))
     }
 
     pub fn feed(self, store: &mut [i32], run: &[i32]) -> Fed {
@@ -129,10 +124,7 @@ impl Reader {
             let e = a + w;
             areas::draw_heights(&store[a..e], out);
             let d = self.drawn + 1;
-            return Drawn::Heights(
-                w,
-                self.at(d, walk::enter_of(w, self.height, self.levels, d)),
-            );
+            return Drawn::Heights(w, self.at(d, walk::enter_of(w, self.height, self.levels, d)));
         }
         let n = walk::store_length(w, self.levels);
         areas::clear(store, n);

@@ -1,7 +1,7 @@
 // The steps of a reader: the row that it wants, a row fed, a height row made ready. Each of a state whose counts are in their ranges. The module is private, as `areas` is.
-use crate::Reader;
 use crate::walk;
 use crate::walk::Spot;
+use crate::Reader;
 ghost use mathlib.Core.Path.{_≡_};
 ghost use Prim.Native.Nat.{ℕ, _+_, _<_, _≤_};
 ghost use lib.ListN.{length};
@@ -42,15 +42,7 @@ pub fn settle(s: Reader, store: &mut [i32], p: Spot) -> bool
     requires { ⌜ Counts s × Is (next s) p × (storeLength (s .width) (s .levels) ≤ length (now store)) ⌝ }
     ensures { λ ok. ⌜ outcome ok (at (now (store .exit))) ≡ settles s (at (now (store .entry))) ⌝ }
 {
-    walk::settle(
-        s.width,
-        s.height,
-        s.levels,
-        s.drawn,
-        store,
-        s.level,
-        p.level,
-    )
+    walk::settle(s.width, s.height, s.levels, s.drawn, store, s.level, p.level)
 }
 
 // Then the run put where it belongs, and the set that it completes worked out.
