@@ -10,3 +10,4 @@ pub mod State
 pub mod Questions
 pub mod Calls
 pub mod Inside
+pub mod Demand3
