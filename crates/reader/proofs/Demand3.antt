@@ -1,0 +1,259 @@
+-- Demand 3 for the reader: the theorem. From a fresh reader and store, for every list of calls. Assumes nothing.
+use mathlib.Core.Bool.{Bool, true, false}
+use mathlib.Core.Logic.{_↔_}
+use mathlib.Core.Path.{_≡_, refl, sym, ap, ap₂, subst, _∙_}
+use mathlib.Core.List.{List, [], _∷_, _++_, append-nil, append-assoc}
+use Prim.Native.Nat.{ℕ, zero, suc, _+_, _-_, _*_, _≤_, _<_}
+use native.Mathlib.Omega.{arith}
+use lib.IntN.{ℤ, pos, natAbs}
+use lib.Signed.{_≤ℤ_}
+use lib.ListN.{length, getD}
+use lib.Dec.{T, eqb, ltb}
+use mir.Syntax.{w32}
+use mir.Val.{SFits}
+use borrow.Author.Tests.{le-ltb, ltb-true, eqb-true}
+use Rattle.numbers.specs.Signal.{pick}
+use Rattle.numbers.specs.Word.{wrap32, whole}
+use Rattle.numbers.proofs.Sweep.{both}
+use Rattle.lifting.specs.Line.{lo, count}
+use Rattle.lifting.specs.Halves.{fronted}
+use Rattle.lifting.proofs.LineLaws.{front-past}
+use Rattle.wavelet.specs.Limits.{maxWidth, maxHeight, maxLevels, maxSample, range}
+use Rattle.wavelet.specs.Bands.{Grid, Band, LL, HL, LH, HH, code, across, down}
+use Rattle.wavelet.specs.Levels.{size, approximation, levelBand}
+use Rattle.wavelet.specs.View.{bandColumns}
+use Rattle.wavelet.specs.ViewCall.{bandRowExists}
+use Rattle.wavelet.specs.Maps.{IsMap, valueFits}
+use Rattle.wavelet.specs.Questions.{ask}
+use Rattle.wavelet.specs.Order.{RowName, rowName, times, inTurn}
+use Rattle.wavelet.specs.Steps.{Step, steps, bandRowsOf}
+use Rattle.wavelet.specs.Steps as step
+use Rattle.wavelet.proofs.LevelTheory.{OnCells}
+use Rattle.wavelet.proofs.Bridge.{map-fits, map-band, map-approximation, map-approximation-range}
+use Rattle.wavelet.proofs.MapTheorems.{height-fits, low-fits}
+use Rattle.wavelet.proofs.StepLaws.{steps-once, steps-heights}
+use Rattle.reader.specs.declared.Reader.{Reader}
+use Rattle.reader.specs.Asked.{keptAt, asked}
+use Rattle.reader.specs.Tried.{Tried, failed, passed, fits}
+use Rattle.reader.specs.Machine.{place}
+use Rattle.reader.specs.State.{drawDue, feeds, settles}
+use Rattle.reader.specs.Questions.{countsFit, setUpQuestion, feedQuestion, drawQuestion}
+use Rattle.reader.specs.Calls.{fresh, setUpStore, feedAnswer, drawAnswer, drawArea, wantAnswer}
+use Rattle.reader.specs.Demand3.{Area, Call, want, feed, draw, Reply, gives, refused, Want, row, drawNow, done, ended, Given, heights, nothing, Event, wanted, fed, drew, saidFeed, saidDraw, World, event, events, final, freshWorld, leftBy, left, ends, endedBy, FedRow, fedBy, fedRows, drawnBy, drawnRows, All, none, more, HasRow, HasFed, FirstRows, wantSays, feedTurned, drawSays, OneOf, this, that, written, Draws, Demand3}
+use Rattle.reader.specs.Demand3 as demand
+use Rattle.reader.proofs.StepsLeft.{stepsLeft, left-first}
+use Rattle.reader.proofs.Holds.{Fits, first-holds}
+use Rattle.reader.proofs.CallLaws.{Limits, limits, within-both, here, View, at-end, at-height, at-row, view, counts, want-says, FeedView, feed-away, feed-onward, feed-view, DrawView, draw-away, draw-idle, draw-onward, draw-view}
+use Rattle.reader.proofs.Reached.{namesOf, Good, HasWords, Agrees, Kept, Reached, reached, world, call-reached}
+use Rattle.reader.proofs.Rebuilt.{lookup, lookup-words, found, In, all-in, in-all, rebuilt-words, back, back-has}
+
+-- ---- the list of calls
+endedFrom : Bool → List Event → Bool
+endedFrom e [] = e
+endedFrom e (ev ∷ es) = endedFrom (pick (ends ev) true e) es
+
+ended-from : (e : Bool) (es : List Event) → endedFrom e es ≡ pick e true (endedBy es)
+unfolding endedFrom endedBy
+ended-from e [] = go e
+  where
+    go : (e : Bool) → e ≡ pick e true false
+    go true = refl
+    go false = refl
+ended-from e (ev ∷ es) = ended-from (pick (ends ev) true e) es ∙ go (ends ev) e
+  where
+    go : (a e : Bool) → pick (pick a true e) true (endedBy es) ≡ pick e true (pick a true (endedBy es))
+    go true true = refl
+    go true false = refl
+    go false e = refl
+
+module _ (W H l n : ℕ) (lim : Limits W H l n) where
+  calls-reached : (cs : List Call) (w : World) (e : Bool) (t : List Step) (fs : List FedRow) (ds : List (ℕ → ℤ)) → Reached W H l n lim w e t fs ds → Reached W H l n lim (final cs w) (endedFrom e (events cs w)) (left t (events cs w)) (fs ++ fedRows t (events cs w)) (ds ++ drawnRows (events cs w))
+  unfolding final events endedFrom left fedRows drawnRows
+  calls-reached [] w e t fs ds r = rw (append-nil fs, append-nil ds) r
+  calls-reached (c ∷ cs) w e t fs ds r =
+      rw (← append-assoc fs (fedBy t (event c w)) (fedRows (leftBy t (event c w)) (events cs (demand.next c w))), ← append-assoc ds (drawnBy (event c w)) (drawnRows (events cs (demand.next c w))))
+      (calls-reached cs (demand.next c w) (pick (ends (event c w)) true e) (leftBy t (event c w)) (fs ++ fedBy t (event c w)) (ds ++ drawnBy (event c w)) (call-reached W H l n lim c w e t fs ds r))
+
+  tall : 0 < H
+  tall = within-both 1 maxHeight H (lim .high) .0
+
+  few : suc l ≤ 5
+  unfolding maxLevels
+  few = within-both 1 maxLevels (suc l) (lim .deep) .1
+
+  fresh-reached : (x : ℕ → ℤ) → Reached W H l n lim (freshWorld W H (suc l) n x) false (steps W H (suc l)) [] []
+  unfolding fresh namesOf
+  fresh-reached x = reached 0 (suc l) 0 false _ (steps W H (suc l)) [] [] (record {
+    drawn-le = omega arith;
+    level-le = omega arith;
+    band-le = omega arith;
+    left = left-first W H l tall;
+    drawn = refl;
+    good = none;
+    names = λ _. refl;
+    grids = λ g words _. record {
+      fit = λ r c p q. absurd (omega arith);
+      shows = λ r c p q. absurd (omega arith);
+      holds = λ _ _. first-holds W H l g words _;
+      refuses = λ z. absurd (subst T (sym z) tt);
+    };
+  })
+
+  then-reached : (x : ℕ → ℤ) (cs : List Call) → Reached W H l n lim (final cs (freshWorld W H (suc l) n x)) (endedBy (events cs (freshWorld W H (suc l) n x))) (left (steps W H (suc l)) (events cs (freshWorld W H (suc l) n x))) (fedRows (steps W H (suc l)) (events cs (freshWorld W H (suc l) n x))) (drawnRows (events cs (freshWorld W H (suc l) n x)))
+  then-reached x cs = subst (λ e. Reached W H l n lim (final cs (freshWorld W H (suc l) n x)) e (left (steps W H (suc l)) (events cs (freshWorld W H (suc l) n x))) (fedRows (steps W H (suc l)) (events cs (freshWorld W H (suc l) n x))) (drawnRows (events cs (freshWorld W H (suc l) n x)))) (ended-from false (events cs (freshWorld W H (suc l) n x))) (calls-reached cs _ false (steps W H (suc l)) [] [] (fresh-reached x))
+
+  -- ---- what a row fed says of a map, over words and over whole numbers
+  asked-row : (t : Bool) (w h r : ℕ) (b : Band) → asked t w h r b ≡ true → (keptAt t b ≡ true) × (r < count (down b) h)
+  unfolding asked
+  asked-row t w h r b e =
+      let a = both (keptAt t b) _ e in
+      let c = both (ltb 0 (count (across b) w)) _ (a .1) in
+      (a .0, ltb-true r (count (down b) h) (c .1))
+
+  -- the cells of a row fed are cells of its band
+  in-band : (f : FedRow) (P : ℕ → ℕ → Type 0) (good : Good W H l f) → ((i : ℕ) → i < count (across (f .row .band)) (size (good .k) W) → P (suc (good .k)) i) → (i : ℕ) → i < bandColumns W (f .row .level) (f .row .band) → P (f .row .level) i
+  unfolding bandColumns
+  in-band f P good h i p =
+      let z : suc (good .k) - 1 ≡ good .k = omega arith in
+      let q : i < count (across (f .row .band)) (size (suc (good .k) - 1) W) = subst (λ v. i < count (across (f .row .band)) (size (v - 1) W)) (good .level) p in
+      subst (λ v. P v i) (sym (good .level)) (h i (rw z at q))
+
+  exact : (g : Grid) → IsMap W H g → (f : FedRow) → Good W H l f → (i : ℕ) → i < bandColumns W (f .row .level) (f .row .band) → levelBand wrap32 W H g (f .row .level) (f .row .band) (f .row .row) i ≡ levelBand whole W H g (f .row .level) (f .row .band) (f .row .row) i
+  exact g m f good =
+      in-band f (λ v i. levelBand wrap32 W H g v (f .row .band) (f .row .row) i ≡ levelBand whole W H g v (f .row .band) (f .row .row) i) good
+      (λ i p. map-band W H g m (good .k) (omega (arith, good .inside, few)) (f .row .band) (f .row .row) i (asked-row _ _ _ _ _ (good .asks) .1) p)
+
+  words-of : (g : Grid) → IsMap W H g → (fs : List FedRow) → All (Good W H l) fs → All (HasRow W H g) fs → All (HasWords W H l g) fs
+  words-of g m [] none none = none
+  words-of g m (f ∷ fs) (more good gs) (more h hs) = more (λ i p. h .values i p ∙ sym (exact g m f good i p)) (words-of g m fs gs hs)
+
+  wholes-of : (g : Grid) → IsMap W H g → (fs : List FedRow) → All (Good W H l) fs → All (HasWords W H l g) fs → All (HasRow W H g) fs
+  wholes-of g m [] none none = none
+  wholes-of g m (f ∷ fs) (more good gs) (more h hs) = more (record { size = good .size; values = λ i p. h i p ∙ exact g m f good i p }) (wholes-of g m fs gs hs)
+
+  -- every value of a map and of its low-low parts fits
+  map-fitting : (g : Grid) (m : IsMap W H g) → Fits W H l g (map-fits W H g m)
+  unfolding approximation size
+  map-fitting g m zero r c h p q = height-fits (g r c) .1 (m .heights r c p q)
+  map-fitting g m (suc k) r c h p q = low-fits k _ .1 (rw (map-approximation W H g m (suc k) (omega (arith, few)) r c p q) (map-approximation-range W H g m (suc k) r c p q))
+
+  -- ---- each part of the claim, for a world that is reached
+  module _ (d lev b : ℕ) (e : Bool) (x : ℕ → ℤ) (t : List Step) (fs : List FedRow) (ds : List (ℕ → ℤ)) (kept : Kept W H l d lev b e x t fs ds) where
+    viewed : View W H l d lev b t
+    viewed = subst (View W H l d lev b) (kept .left) (view W H l d lev b)
+
+    want-is : event want (world W H l n lim d lev b e x) ≡ wanted (gives (wantSays W e t))
+    unfolding event
+    want-is = ap wanted (want-says W H l n lim d lev b (kept .drawn-le) (kept .level-le) (kept .band-le) e t viewed)
+
+    -- ---- feed
+    module _ (a : Area) where
+      abbrev seenFeed : ℕ → Event
+      seenFeed q = fed a (saidFeed (feedAnswer (here W H l d lev b e) q))
+
+      seen-away : (q : ℕ) → eqb q 0 ≡ false → eqb q 14 ≡ false → seenFeed q ≡ fed a (refused q)
+      unfolding feedAnswer
+      seen-away q z f = rw (z, f) refl
+
+      seen-goes : seenFeed 0 ≡ fed a (gives tt)
+      unfolding feedAnswer
+      seen-goes = refl
+
+      seen-stops : seenFeed 14 ≡ fed a (refused 14)
+      unfolding feedAnswer
+      seen-stops = refl
+
+      feed-turned : (q : ℕ) → feedTurned W e t a ≡ suc q → event (feed a) (world W H l n lim d lev b e x) ≡ fed a (refused (suc q))
+      unfolding event
+      feed-turned q h = go (feed-view W H l n lim d lev b (kept .drawn-le) (kept .level-le) (kept .band-le) e t x a viewed)
+        where
+          go : FeedView W H l n lim d lev b (kept .drawn-le) (kept .level-le) (kept .band-le) e t x a → seenFeed (feedQuestion (here W H l d lev b e) n x (a .size) (a .numbers)) ≡ fed a (refused (suc q))
+          go (feed-away p f z z′ at) = ap seenFeed at ∙ seen-away p z z′ ∙ ap (λ i. fed a (refused i)) (sym f ∙ h)
+          go (feed-onward k c live due below asks is-row head long in-range f at) = absurd (omega (arith, f, h))
+
+      feed-on : feedTurned W e t a ≡ 0 → OneOf (event (feed a) (world W H l n lim d lev b e x)) (fed a (gives tt)) (fed a (refused 14))
+      unfolding event
+      feed-on h = go (feed-view W H l n lim d lev b (kept .drawn-le) (kept .level-le) (kept .band-le) e t x a viewed)
+        where
+          zero-away : (q : ℕ) → q ≡ 0 → eqb q 0 ≡ false → ⊥
+          zero-away q f z = subst T (ap (λ i. eqb i 0) (sym f) ∙ z) tt
+
+          go : FeedView W H l n lim d lev b (kept .drawn-le) (kept .level-le) (kept .band-le) e t x a → OneOf (seenFeed (feedQuestion (here W H l d lev b e) n x (a .size) (a .numbers))) (fed a (gives tt)) (fed a (refused 14))
+          go (feed-away p f z z′ at) = absurd (zero-away p (sym f ∙ h) z)
+          go (feed-onward k c live due below asks is-row head long in-range f at) = tried (fits (feeds (here W H l d lev b e) (a .numbers) x)) at
+            where
+              tried : (u : Bool) → feedQuestion (here W H l d lev b e) n x (a .size) (a .numbers) ≡ ask u 14 0 → OneOf (seenFeed (feedQuestion (here W H l d lev b e) n x (a .size) (a .numbers))) (fed a (gives tt)) (fed a (refused 14))
+              tried true z = this (ap seenFeed z ∙ seen-goes)
+              tried false z = that (ap seenFeed z ∙ seen-stops)
+
+    -- ---- draw
+    module _ (a : Area) where
+      abbrev s : Reader
+      s = here W H l d lev b e
+
+      abbrev seenDraw : ℕ → Event
+      seenDraw q = drew a (saidDraw (drawAnswer s q)) (record { size = a .size; numbers = drawArea s q x (a .numbers) })
+
+      drawn-away : (q : ℕ) → eqb q 0 ≡ false → eqb q 14 ≡ false → drawSays W e t (a .size) ≡ refused q → Draws W e t a (seenDraw q)
+      unfolding drawAnswer drawArea
+      drawn-away q z f says = rw (z, f) (record {
+        answer = refused q;
+        after = a;
+        is = refl;
+        size = refl;
+        untouched = λ i p. refl;
+        says = this (sym says);
+        possible = λ r. absurd (no-fourteen r);
+      })
+        where
+          no-fourteen : _≡_ {A = Reply Given} (refused q) (refused 14) → ⊥
+          no-fourteen r = let p : q ≡ 14 = cc in subst T (ap (λ i. eqb i 14) (sym p) ∙ f) tt
+
+      drawn-idle : drawDue s ≡ false → drawSays W e t (a .size) ≡ gives nothing → Draws W e t a (seenDraw 0)
+      unfolding drawAnswer drawArea
+      drawn-idle z says = rw z (record {
+        answer = gives nothing;
+        after = a;
+        is = refl;
+        size = refl;
+        untouched = λ i p. refl;
+        says = this (sym says);
+        possible = λ r. absurd (let p : _≡_ {A = ℕ} 0 1 = cc in omega arith);
+      })
+
+      drawn-stops : drawSays W e t (a .size) ≡ gives (heights W) → Draws W e t a (seenDraw 14)
+      unfolding drawAnswer drawArea
+      drawn-stops says = record {
+        answer = refused 14;
+        after = a;
+        is = refl;
+        size = refl;
+        untouched = λ i p. refl;
+        says = that refl;
+        possible = λ _. says;
+      }
+
+      drawn-goes : drawDue s ≡ true → drawSays W e t (a .size) ≡ gives (heights W) → Draws W e t a (seenDraw 0)
+      unfolding drawAnswer drawArea written
+      drawn-goes z says = rw z (record {
+        answer = gives (heights W);
+        after = record { size = a .size; numbers = fronted W _ (a .numbers) };
+        is = refl;
+        size = refl;
+        untouched = λ i p. unfold fronted in rw (le-ltb i W p) refl;
+        says = this (sym says);
+        possible = λ r. absurd (let p : _≡_ {A = ℕ} 0 1 = cc in omega arith);
+      })
+
+      draw-is : Draws W e t a (event (draw a) (world W H l n lim d lev b e x))
+      unfolding event
+      draw-is = go (draw-view W H l n lim d lev b (kept .drawn-le) (kept .level-le) (kept .band-le) e t x a viewed)
+        where
+          go : DrawView W H l n lim d lev b (kept .drawn-le) (kept .level-le) (kept .band-le) e t x a → Draws W e t a (seenDraw (drawQuestion s n x (a .size)))
+          go (draw-away q z f says at) = subst (λ i. Draws W e t a (seenDraw i)) (sym at) (drawn-away q z f says)
+          go (draw-idle live z says at) = subst (λ i. Draws W e t a (seenDraw i)) (sym at) (drawn-idle z says)
+          go (draw-onward live due is-height head to-draw says at) = subst (λ i. Draws W e t a (seenDraw i)) (sym at) (tried (fits (settles s x)))
+            where
+              tried : (u : Bool) → Draws W e t a (seenDraw (ask u 14 0))
+              tried true = drawn-goes to-draw says
+              tried false = drawn-stops says
