@@ -24,7 +24,7 @@ use Rattle.wavelet.specs.Levels.{size, approximation, levelBand}
 use Rattle.wavelet.specs.View.{bandColumns}
 use Rattle.wavelet.specs.ViewCall.{bandRowExists}
 use Rattle.wavelet.specs.Maps.{IsMap, valueFits}
-use Rattle.wavelet.specs.Questions.{ask}
+use Rattle.wavelet.specs.Questions.{ask, within}
 use Rattle.wavelet.specs.Order.{RowName, rowName, times, inTurn}
 use Rattle.wavelet.specs.Steps.{Step, steps, bandRowsOf}
 use Rattle.wavelet.specs.Steps as step
@@ -65,6 +65,16 @@ ended-from e (ev ∷ es) = ended-from (pick (ends ev) true e) es ∙ go (ends ev
     go true true = refl
     go true false = refl
     go false e = refl
+
+-- a set-up of no levels does not pass
+no-levels : (W H n : ℕ) → setUpQuestion W H 0 n ≡ 0 → ⊥
+unfolding setUpQuestion within
+no-levels W H n = go (within 1 maxWidth W) (within 1 maxHeight H)
+  where
+    go : (s t : Bool) → ask s 2 (ask t 3 4) ≡ 0 → ⊥
+    go true true z = omega arith
+    go true false z = omega arith
+    go false t z = omega arith
 
 module _ (W H l n : ℕ) (lim : Limits W H l n) where
   calls-reached : (cs : List Call) (w : World) (e : Bool) (t : List Step) (fs : List FedRow) (ds : List (ℕ → ℤ)) → Reached W H l n lim w e t fs ds → Reached W H l n lim (final cs w) (endedFrom e (events cs w)) (left t (events cs w)) (fs ++ fedRows t (events cs w)) (ds ++ drawnRows (events cs w))
@@ -257,3 +267,121 @@ module _ (W H l n : ℕ) (lim : Limits W H l n) where
               tried : (u : Bool) → Draws W e t a (seenDraw (ask u 14 0))
               tried true = drawn-goes to-draw says
               tried false = drawn-stops says
+
+    -- ---- maps that have the rows fed
+    agrees : (g : Grid) (m : IsMap W H g) → All (HasRow W H g) fs → Agrees W H l g (map-fits W H g m) d lev b e x ds
+    agrees g m has = kept .grids g (map-fits W H g m) (words-of g m fs (kept .good) has)
+
+    first-rows : (g : Grid) → IsMap W H g → All (HasRow W H g) fs → FirstRows W g ds
+    first-rows g m has = record { are = λ r c p q. agrees g m has .shows r c (omega (arith, kept .drawn)) q }
+
+    none-has : e ≡ true → (g : Grid) → IsMap W H g → All (HasRow W H g) fs → ⊥
+    none-has z g m has = agrees g m has .refuses z (map-fitting g m)
+
+    -- ---- Done
+    done-only : (u : Bool) (v : List Step) → wantSays W u v ≡ done → (u ≡ false) × (v ≡ [])
+    unfolding wantSays
+    done-only true v z = absurd (let p : _≡_ {A = ℕ} 0 1 = cc in omega arith)
+    done-only false [] z = (refl, refl)
+    done-only false (step.feed y ∷ v) z = absurd (let p : _≡_ {A = ℕ} 0 1 = cc in omega arith)
+    done-only false (step.draw r ∷ v) z = absurd (let p : _≡_ {A = ℕ} 0 1 = cc in omega arith)
+
+    all-drawn : View W H l d lev b [] → H ≤ d
+    all-drawn (at-end h) = h
+
+    none-left : (v : List Step) → View W H l d lev b v → H ≤ d → v ≡ []
+    none-left _ (at-end h) p = refl
+    none-left _ (at-height due q) p = absurd (omega arith)
+    none-left _ (at-row k c due h i q) p = absurd (omega arith)
+
+    -- the grid that has the rows fed
+    module _ (live : e ≡ false) (over : t ≡ []) where
+      all-names : namesOf fs ≡ bandRowsOf (steps W H (suc l))
+      unfolding bandRowsOf
+      all-names = sym (append-nil (namesOf fs)) ∙ ap (λ v. namesOf fs ++ bandRowsOf v) (sym over) ∙ kept .names live
+
+      words-at : (k : ℕ) (c : Band) (r i : ℕ) → k ≤ l → r < count (down c) (size k H) → i < count (across c) (size k W) → SFits w32 (lookup fs (rowName (suc k) c r) i)
+      unfolding bandColumns
+      words-at k c r i h p q = let z : suc k - 1 ≡ k = omega arith in lookup-words W H l few fs (kept .good) (rowName (suc k) c r) i (rw z q)
+
+      abbrev grid : Grid
+      grid = back W H l (lookup fs) words-at
+
+      grid-words : OnCells (SFits w32) W H grid
+      unfolding size
+      grid-words = rebuilt-words W H l (lookup fs) words-at (suc l) 0 (omega arith)
+
+      once : (f : FedRow) → times (f .row) (namesOf fs) ≤ 1
+      once f = rw (all-names, steps-once W H (suc l) tall (omega arith) (f .row)) (go (bandRowExists W H (suc l) (f .row .level) (f .row .band) (f .row .row)))
+        where
+          go : (u : Bool) → pick u 1 0 ≤ 1
+          go true = omega arith
+          go false = omega arith
+
+      kept-last : (k : ℕ) (c : Band) → keptAt (eqb (suc k) (suc l)) c ≡ true → c ≡ LL → k ≡ l
+      unfolding keptAt
+      kept-last k c h z = let q : keptAt (eqb (suc k) (suc l)) LL ≡ true = subst (λ v. keptAt (eqb (suc k) (suc l)) v ≡ true) z h in let p = eqb-true (suc k) (suc l) q in omega arith
+
+      grid-has : All (HasWords W H l grid) fs
+      grid-has = all-in fs (λ f i. one f (in-all f fs i (kept .good)) (found f fs i (once f)))
+        where
+          one : (f : FedRow) → Good W H l f → lookup fs (f .row) ≡ f .run .numbers → HasWords W H l grid f
+          one f good eq i p =
+              sym (in-band f (λ v j. levelBand wrap32 W H grid v (f .row .band) (f .row .row) j ≡ lookup fs (rowName v (f .row .band) (f .row .row)) j) good
+              (λ j q. let a = asked-row _ _ _ _ _ (good .asks) in back-has W H l (lookup fs) words-at (good .k) (f .row .band) (good .inside) (kept-last (good .k) (f .row .band) (a .0)) (f .row .row) j (a .1) q) i p
+              ∙ ap (λ u. u i) eq)
+
+      grid-agrees : Agrees W H l grid grid-words d lev b e x ds
+      grid-agrees = kept .grids grid grid-words grid-has
+
+      d-is : d ≡ H
+      d-is = omega (arith, kept .drawn-le, all-drawn (subst (View W H l d lev b) over viewed))
+
+      grid-map : IsMap W H grid
+      grid-map = record { heights = λ r c p q. height-fits (grid r c) .0 (grid-agrees .fit r c (omega (arith, d-is)) q) }
+
+      grid-rows : All (HasRow W H grid) fs
+      grid-rows = wholes-of grid grid-map fs (kept .good) grid-has
+
+    finished-then : event want (world W H l n lim d lev b e x) ≡ wanted (gives done) → (g : Grid) × IsMap W H g × All (HasRow W H g) fs × (length ds ≡ H) × FirstRows W g ds
+    finished-then z =
+        let w : _≡_ {A = Event} (wanted (gives (wantSays W e t))) (wanted (gives done)) = sym want-is ∙ z in
+        let v : wantSays W e t ≡ done = cc in
+        let o = done-only e t v in
+        (grid (o .0) (o .1), grid-map (o .0) (o .1), grid-rows (o .0) (o .1), kept .drawn ∙ d-is (o .0) (o .1), first-rows (grid (o .0) (o .1)) (grid-map (o .0) (o .1)) (grid-rows (o .0) (o .1)))
+
+    not-ended : (u : Bool) → (u ≡ true → ⊥) → u ≡ false
+    not-ended true h = absurd (h refl)
+    not-ended false h = refl
+
+    then-finished : (g : Grid) → IsMap W H g → All (HasRow W H g) fs → length ds ≡ H → event want (world W H l n lim d lev b e x) ≡ wanted (gives done)
+    unfolding wantSays
+    then-finished g m has all =
+        let live : e ≡ false = not-ended e (λ z. none-has z g m has) in
+        let over : t ≡ [] = none-left t viewed (omega (arith, kept .drawn, all)) in
+        want-is ∙ ap₂ (λ u v. wanted (gives (wantSays W u v))) live over
+
+  -- ---- the claim, for a world that is reached
+  claim : (w : World) (es : List Event) → Reached W H l n lim w (endedBy es) (left (steps W H (suc l)) es) (fedRows (steps W H (suc l)) es) (drawnRows es) → (countsFit (w .reader) ≡ true) × Demand3 W H (suc l) es (λ c. event c w)
+  claim _ es (reached d lev b e x t fs ds kept) = (
+    counts W H l n lim d lev b (kept .drawn-le) (kept .level-le) (kept .band-le) e,
+    record {
+      rows-once = steps-once W H (suc l) tall (omega arith);
+      heights-once = steps-heights W H (suc l);
+      wants = want-is d lev b e x t fs ds kept;
+      feeds-turned = feed-turned d lev b e x t fs ds kept;
+      feeds-on = feed-on d lev b e x t fs ds kept;
+      draws = draw-is d lev b e x t fs ds kept;
+      first = λ g has. first-rows d lev b e x t fs ds kept g (has .map) (has .rows);
+      impossible = λ z g has. none-has d lev b e x t fs ds kept z g (has .map) (has .rows);
+      finished = (
+        λ z. let f = finished-then d lev b e x t fs ds kept z in (f .0, record { map = f .1; rows = f .2 }, f .3, f .4),
+        λ f. then-finished d lev b e x t fs ds kept (f .0) (f .1 .map) (f .1 .rows) (f .2),
+      );
+    },
+  )
+
+-- ---- demand 3: a set-up that passes, on a store of n numbers in which x stood, then any calls. Every state that is reached passes question 1, and the claim holds.
+pub demand-3 : (W H L n : ℕ) → setUpQuestion W H L n ≡ 0 → (x : ℕ → ℤ) (cs : List Call) → (countsFit (final cs (freshWorld W H L n x) .reader) ≡ true) × Demand3 W H L (events cs (freshWorld W H L n x)) (λ c. event c (final cs (freshWorld W H L n x)))
+demand-3 W H zero n ok x cs = absurd (no-levels W H n ok)
+demand-3 W H (suc l) n ok x cs = claim W H l n (limits W H l n ok) _ _ (then-reached W H l n (limits W H l n ok) x cs)

@@ -6,3 +6,7 @@ pub mod StepsLeft
 pub mod RowsIn
 pub mod SetMade
 pub mod Holds
+pub mod CallLaws
+pub mod Reached
+pub mod Rebuilt
+pub mod Demand3
