@@ -1,5 +1,5 @@
 -- The laws of the sizes of the levels, W(k) and H(k). Assumes nothing.
-use mathlib.Core.Path.{_≡_, refl, ap, _∙_}
+use mathlib.Core.Path.{_≡_, refl, ap}
 use Prim.Native.Nat.{ℕ, zero, suc, _+_, _-_, _/_, _≤_, _<_}
 use native.Mathlib.Omega.{arith}
 use Rattle.lifting.specs.Line.{Half, lo, hi, count}

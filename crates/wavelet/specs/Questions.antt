@@ -1,5 +1,5 @@
--- The gate questions that the whole map and the view share. Document 01, "The gate questions": "Asked in this order. The first no gives its number."
-use mathlib.Core.Bool.{Bool, true, false}
+-- The gate questions that the whole map and the view share. Document 01, "The gate questions": "Asked in this order, each only of the calls named. The first no gives its number, and nothing changes."
+use mathlib.Core.Bool.{Bool}
 use Prim.Native.Nat.{ℕ}
 use lib.Dec.{leb}
 use Rattle.numbers.specs.Signal.{pick, both}

@@ -1,9 +1,8 @@
 -- Where a band row stands, as `locate` answers it: the definitions of the view, in the cases of the answer.
-use mathlib.Core.Bool.{Bool, true, false}
+use mathlib.Core.Bool.{false}
 use Prim.Native.Nat.{ℕ}
 use lib.Dec.{ltb, eqb}
 use Rattle.numbers.specs.Signal.{pick, both}
-use Rattle.wavelet.specs.View.{bandColumns, bandStart}
 use Rattle.wavelet.specs.ViewCall.{named, bandRowExists, viewQuestion, viewStart, viewLength}
 use Rattle.wavelet.specs.declared.view.Span.{Span}
 use Rattle.wavelet.specs.declared.view.Span.the-variants.{At, Refused}

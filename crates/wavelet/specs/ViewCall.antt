@@ -51,7 +51,7 @@ viewStart W H k c r = named c (λ b. bandStart W H k b r) 0
 unfoldable pub viewLength : ℕ → ℕ → ℕ → ℕ
 viewLength W k c = named c (bandColumns W k) 0
 
--- "The view of a band row is a stretch of the caller's plane." "A refused view is an empty stretch."
+-- "The view of a band row is a stretch of the caller's plane, not a copy. A refused view is an empty stretch, which no band row is"
 unfoldable pub viewRow : List ℤ → ℕ → ℕ → ℕ → ℕ → ℕ → ℕ → List ℤ
 viewRow plane W H L k c r =
     pick (eqb (viewQuestion (length plane) W H L k c r) 0) (take (viewLength W k c) (drop (viewStart W H k c r) plane)) []

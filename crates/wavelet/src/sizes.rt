@@ -1,6 +1,6 @@
 // The sizes of the levels, and the range of their coefficients.
 ghost use mathlib.Core.Path.{_≡_};
-ghost use Prim.Native.Nat.{ℕ, min};
+ghost use Prim.Native.Nat.{min};
 ghost use lib.IntN.{pos};
 ghost use Rattle.lifting.specs.Line.{lo, count};
 ghost use Rattle.wavelet.specs.Limits.{maxLevels, range};

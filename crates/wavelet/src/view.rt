@@ -2,7 +2,7 @@
 use crate::limits;
 use crate::sizes;
 ghost use mathlib.Core.Path.{_≡_};
-ghost use Prim.Native.Nat.{ℕ, _≤_, _*_};
+ghost use Prim.Native.Nat.{_≤_, _*_};
 ghost use lib.ListN.{length};
 ghost use Rattle.wavelet.specs.Limits.{maxWidth, maxHeight};
 ghost use Rattle.wavelet.specs.ViewCall.{viewQuestion, viewRow};

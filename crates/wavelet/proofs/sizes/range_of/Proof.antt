@@ -1,5 +1,5 @@
 -- `sizes::range_of` meets its contract: the table is the definition's, level by level. Assumes nothing.
-use mathlib.Core.Path.{_≡_, refl, ap}
+use mathlib.Core.Path.{_≡_, ap}
 use Prim.Native.Nat.{ℕ, min}
 use native.Mathlib.Omega.{arith}
 use lib.IntN.{pos}
