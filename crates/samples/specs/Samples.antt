@@ -7,6 +7,9 @@ use lib.ListN.{length}
 use Rattle.numbers.specs.Signal.{at}
 use Rattle.numbers.specs.Word.{whole}
 use Rattle.lifting.specs.Line.{Half, lo, hi, count, lineForward}
+use Rattle.wavelet.specs.Bands.{LL, LH}
+use Rattle.wavelet.specs.Order.{RowName, rowName}
+use Rattle.wavelet.specs.Steps.{steps, bandRowsOf}
 
 -- the first n numbers of a signal
 unfoldable pub listed : ℕ → (ℕ → ℤ) → List ℤ
@@ -21,10 +24,13 @@ values h l = listed (count h (length l)) (lineForward whole (length l) (at l) h)
 pub data Sample : Type 0 where
   -- a line, its low values and its high values
   line : List ℤ → List ℤ → List ℤ → Sample
+  -- width, height and levels of a map, and the band rows that the reader wants for it, in their order
+  wants : ℕ → ℕ → ℕ → List RowName → Sample
 
 -- what makes a sample of each kind hold
 pub data Holds : Sample → Type 0 where
   holds-line : {l low high : List ℤ} → values lo l ≡ low → values hi l ≡ high → Holds (line l low high)
+  holds-wants : {W H L : ℕ} {rows : List RowName} → bandRowsOf (steps W H L) ≡ rows → Holds (wants W H L rows)
 
 abbrev pub table : List Sample
 table =
@@ -32,6 +38,7 @@ table =
     ∷ line (pos 2 ∷ pos 0 ∷ []) (pos 1 ∷ []) (negℤ (pos 2) ∷ [])
     ∷ line (pos 5 ∷ pos 0 ∷ []) (pos 3 ∷ []) (negℤ (pos 5) ∷ [])
     ∷ line (pos 9 ∷ []) (pos 9 ∷ []) []
+    ∷ wants 1 4 2 (rowName 2 LL 0 ∷ rowName 2 LH 0 ∷ rowName 1 LH 0 ∷ rowName 1 LH 1 ∷ [])
     ∷ []
 
 -- every entry holds
