@@ -11,3 +11,4 @@ pub mod Questions
 pub mod Calls
 pub mod Inside
 pub mod Demand3
+pub mod Played
