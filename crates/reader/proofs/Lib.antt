@@ -10,3 +10,4 @@ pub mod CallLaws
 pub mod Reached
 pub mod Rebuilt
 pub mod Demand3
+pub mod Played

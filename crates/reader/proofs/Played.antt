@@ -358,3 +358,97 @@ module _ (W H L n : ℕ) (ok : setUpQuestion W H L n ≡ 0) (rows : RowName → 
     refuses m c v a e len off r no-g =
         subst Verdict (ap (λ u. cs ++ u) (sym (played-on m c a)))
         (bad (refused-in c v _ e r) (too-few m cs c _ len (ap goesOn e ∙ off) (played-length rows out m (demand.next c w))) no-g)
+
+  -- ---- turn after turn
+  turn : (m : ℕ) (cs : List Call) → length (left T₀ (events cs w₀)) ≡ suc m → Fair (events cs w₀) → ((ds : List Call) → length (left T₀ (events ds w₀)) ≡ m → Fair (events ds w₀) → Verdict (ds ++ played rows out m (final ds w₀))) → Verdict (cs ++ played rows out (suc m) (final cs w₀))
+  turn m cs len fair ih = go (left T₀ (events cs w₀)) refl
+    where
+      at-draw : (r : ℕ) (t : List Step) → left T₀ (events cs w₀) ≡ step.draw r ∷ t → Draws W (endedBy (events cs w₀)) (left T₀ (events cs w₀)) out (event (draw out) (final cs w₀)) → Verdict (cs ++ played rows out (suc m) (final cs w₀))
+      at-draw r t head d = says (d .says)
+        where
+          gave : drawSays W (endedBy (events cs w₀)) (left T₀ (events cs w₀)) (out .size) ≡ gives (heights W)
+          gave = ap₂ (λ u v. drawSays W u v (out .size)) (fair .live) head ∙ (unfold drawSays in rw (le-leb W (out .size) room) refl)
+
+          says : OneOf (d .answer) (drawSays W (endedBy (events cs w₀)) (left T₀ (events cs w₀)) (out .size)) (refused 14) → Verdict (cs ++ played rows out (suc m) (final cs w₀))
+          says (this e) =
+              let on = drawn-goes cs fair (d .after) r t head in
+              goes cs fair m (draw out) (drew out (gives (heights W)) (d .after)) t (wanted-draw cs fair r t head) (d .is ∙ ap (λ u. drew out u (d .after)) (e ∙ gave)) (on .0) (on .1) (omega (arith, ap length head)) ih
+          says (that e) =
+              let is : event (draw out) (final cs w₀) ≡ drew out (refused 14) (d .after) = d .is ∙ ap (λ u. drew out u (d .after)) e in
+              refuses cs fair m (draw out) (drew out (refused 14) (d .after)) (wanted-draw cs fair r t head) is len (unfold goesOn in refl) (λ vs. drawn-fourteen) (drawn-none cs fair (d .after) r t head is)
+
+      at-feed : (y : RowName) (t : List Step) → left T₀ (events cs w₀) ≡ step.feed y ∷ t → (u : Bool) → runFits (y .level) (bandColumns W (y .level) (y .band)) (rows y) ≡ u → Verdict (cs ++ played rows out (suc m) (final cs w₀))
+      at-feed y t head false z =
+          let is : event (feed (runOf y)) (final cs w₀) ≡ fed (runOf y) (refused 7) = claim cs .feeds-turned (runOf y) 6 (turned 7 (unfold feedTurned in rw (eq-eqb (bandColumns W (y .level) (y .band)) (bandColumns W (y .level) (y .band)) refl, z) refl)) in
+          refuses cs fair m (feed (runOf y)) (fed (runOf y) (refused 7)) (wanted-row cs fair y t head) is len (unfold goesOn in refl) (λ vs. seven) (λ g mp h. subst T (sym (run-fits y (next-exists (events cs w₀) fair y t head) g mp h) ∙ z) tt)
+        where
+          turned : (q : ℕ) → feedTurned W false (step.feed y ∷ t) (runOf y) ≡ q → feedTurned W (endedBy (events cs w₀)) (left T₀ (events cs w₀)) (runOf y) ≡ q
+          turned q e = ap₂ (λ u v. feedTurned W u v (runOf y)) (fair .live) head ∙ e
+      at-feed y t head true z = says (claim cs .feeds-on (runOf y) (ap₂ (λ u v. feedTurned W u v (runOf y)) (fair .live) head ∙ (unfold feedTurned in rw (eq-eqb (bandColumns W (y .level) (y .band)) (bandColumns W (y .level) (y .band)) refl, z) refl)))
+        where
+          says : OneOf (event (feed (runOf y)) (final cs w₀)) (fed (runOf y) (gives tt)) (fed (runOf y) (refused 14)) → Verdict (cs ++ played rows out (suc m) (final cs w₀))
+          says (this e) =
+              let on = fed-goes cs fair y t head in
+              goes cs fair m (feed (runOf y)) (fed (runOf y) (gives tt)) t (wanted-row cs fair y t head) e (on .0) (on .1) (omega (arith, ap length head)) ih
+          says (that e) = refuses cs fair m (feed (runOf y)) (fed (runOf y) (refused 14)) (wanted-row cs fair y t head) e len (unfold goesOn in refl) (λ vs. fed-fourteen) (fed-none cs fair y t head e)
+
+      go : (t : List Step) → left T₀ (events cs w₀) ≡ t → Verdict (cs ++ played rows out (suc m) (final cs w₀))
+      go [] e = absurd (omega (arith, ap length e))
+      go (step.feed y ∷ t) e = at-feed y t e (runFits (y .level) (bandColumns W (y .level) (y .band)) (rows y)) refl
+      go (step.draw r ∷ t) e = at-draw r t e (claim cs .draws out)
+
+  no-length : (t : List Step) → length t ≡ 0 → t ≡ []
+  no-length [] e = refl
+  no-length (y ∷ t) e = absurd (omega arith)
+
+  turns : (m : ℕ) (cs : List Call) → length (left T₀ (events cs w₀)) ≡ m → Fair (events cs w₀) → Verdict (cs ++ played rows out m (final cs w₀))
+  unfolding played
+  turns zero cs len fair = subst Verdict (sym (append-nil cs)) (fine fair (no-length _ len))
+  turns (suc m) cs len fair = turn m cs len fair (turns m)
+
+  fair-first : Fair []
+  unfolding endedBy fedRows left namesOf
+  fair-first = record { live = refl; from-rows = none; sizes = none; names = refl }
+
+  abbrev all : List Call
+  all = played rows out (length T₀) w₀
+
+  verdict : Verdict all
+  unfolding events final left
+  verdict = turns (length T₀) [] refl fair-first
+
+  -- what the fair end comes to
+  done-then : Fair (events all w₀) → left T₀ (events all w₀) ≡ [] → event want (final all w₀) ≡ wanted (gives done)
+  unfolding wantSays
+  done-then fair over = claim all .wants ∙ ap₂ (λ u v. wanted (gives (wantSays W u v))) (fair .live) over
+
+  has-all : Fair (events all w₀) → left T₀ (events all w₀) ≡ [] → (g : Grid) → HasFed W H L g (events all w₀) → HasAll W H L g rows
+  unfolding bandRowsOf
+  has-all fair over g has = record { values = λ y e i p. at y (names-in y (fedRows T₀ (events all w₀)) (in-fed y e)) i p }
+    where
+      in-fed : (y : RowName) → bandRowExists W H L (y .level) (y .band) (y .row) ≡ true → In y (namesOf (fedRows T₀ (events all w₀)))
+      in-fed y e =
+          let names : namesOf (fedRows T₀ (events all w₀)) ≡ bandRowsOf T₀ = sym (append-nil (namesOf (fedRows T₀ (events all w₀)))) ∙ ap (λ v. namesOf (fedRows T₀ (events all w₀)) ++ bandRowsOf v) (sym over) ∙ fair .names in
+          let one : times y (bandRowsOf T₀) ≡ 1 = claim [] .rows-once y ∙ ap (λ u. pick u 1 0) e in
+          subst (In y) (sym names) (times-in y (bandRowsOf T₀) (omega arith))
+
+      at : (y : RowName) → (f : FedRow) × In f (fedRows T₀ (events all w₀)) × (f .row ≡ y) → (i : ℕ) → i < bandColumns W (y .level) (y .band) → rows y i ≡ levelBand whole W H g (y .level) (y .band) (y .row) i
+      at y r = subst (λ v. (i : ℕ) → i < bandColumns W (v .level) (v .band) → rows v i ≡ levelBand whole W H g (v .level) (v .band) (v .row) i) (r .2)
+          (λ i p. sym (ap (λ u. u i) (in-all (r .0) (fedRows T₀ (events all w₀)) (r .1) (fair .from-rows))) ∙ in-all (r .0) (fedRows T₀ (events all w₀)) (r .1) (has .rows) .values i p)
+
+  -- ---- the theorem
+  pub played-holds : Played W H L rows (events all w₀) (λ c. event c (final all w₀))
+  played-holds = record {
+    map-back = λ g m h. back g m h verdict;
+    no-map = λ none-has. refused-by none-has verdict;
+  }
+    where
+      back : (g : Grid) → IsMap W H g → HasAll W H L g rows → Verdict all → (length (drawnRows (events all w₀)) ≡ H) × FirstRows W g (drawnRows (events all w₀)) × (event want (final all w₀) ≡ wanted (gives done))
+      back g m h (fine fair over) =
+          let z = done-then fair over in
+          (claim all .finished .0 z .2, claim all .first g (record { map = m; rows = has-fed (events all w₀) fair g m h }), z)
+      back g m h (bad _ _ no-g) = absurd (no-g g m h)
+
+      refused-by : ((g : Grid) → IsMap W H g → HasAll W H L g rows → ⊥) → Verdict all → Refusal (events all w₀) × (event want (final all w₀) ≡ wanted (gives done) → ⊥)
+      refused-by none-has (bad r d _) = (r, d)
+      refused-by none-has (fine fair over) = let f = claim all .finished .0 (done-then fair over) in absurd (none-has (f .0) (f .1 .map) (has-all fair over (f .0) (f .1)))
