@@ -92,7 +92,7 @@ unfolding times
 in-times x (y ∷ xs) first = rw (same-self x) (omega arith)
 in-times x (y ∷ xs) (later i) = let a = in-times x xs i in omega arith
 
-times-in : (x : RowName) (xs : List RowName) → 1 ≤ times x xs → In x xs
+pub times-in : (x : RowName) (xs : List RowName) → 1 ≤ times x xs → In x xs
 unfolding times
 times-in x [] h = absurd (omega arith)
 times-in x (y ∷ xs) h = go (sameName x y) refl h (times-in x xs)
