@@ -7,19 +7,22 @@ use native.Mathlib.Nat.{mul-le-mul-right, mul-comm, eq-of-mul-eq-mul-left}
 use native.Mathlib.Omega.{arith}
 use lib.IntN.{ℤ, pos}
 use lib.ListN.{length, getD}
-use lib.Dec.{T, eqb}
-use borrow.Author.Tests.{eq-eqb, eqb-true}
+use lib.Dec.{T, leb, ltb, eqb}
+use borrow.Author.Tests.{le-leb, lt-ltb, eq-eqb, leb-true, ltb-true, eqb-true}
 use Rattle.numbers.specs.Signal.{pick}
 use Rattle.numbers.specs.Word.{whole}
 use Rattle.numbers.proofs.Sweep.{both}
-use Rattle.wavelet.specs.Bands.{Grid, Band, code}
+use Rattle.wavelet.specs.Bands.{Grid, Band, LL, HL, LH, HH, code}
 use Rattle.wavelet.specs.Levels.{levelBand}
-use Rattle.wavelet.specs.View.{bandColumns}
-use Rattle.wavelet.specs.ViewCall.{bandRowExists}
-use Rattle.wavelet.specs.Limits.{maxWidth}
+use Rattle.wavelet.specs.Plane.{planeCell, cells}
+use Rattle.wavelet.specs.View.{bandRows, bandColumns}
+use Rattle.wavelet.specs.ViewCall.{keptAt, bandRowExists}
+use Rattle.wavelet.specs.Limits.{maxWidth, maxHeight, maxLevels}
 use Rattle.wavelet.specs.Questions.{within}
-use Rattle.wavelet.specs.Maps.{IsMap}
+use Rattle.wavelet.specs.Maps.{IsMap, HasPlane}
 use Rattle.wavelet.specs.Order.{RowName, times}
+use Rattle.wavelet.proofs.PlaneLayout.{Stands, place-is, row-in, column-in, cell-places}
+use Rattle.wavelet.proofs.PlanePlaces.{Found, found, found-place}
 use Rattle.writer.specs.declared.BandRow.{BandRow}
 use Rattle.writer.specs.History as writer
 use Rattle.writer.specs.Demand3.{All, all-none, all-more, HasValues, MapOf, answered}
@@ -27,13 +30,14 @@ use Rattle.writer.specs.Questions as writer-asks
 use Rattle.writer.specs.Demand3 as writes
 use Rattle.writer.proofs.Demand3 as writer-holds
 use Rattle.reader.specs.Asked.{named}
+use Rattle.reader.specs.Questions as reader-asks
 use Rattle.reader.specs.Demand3 as reader
 use Rattle.reader.specs.Played.{HasAll}
 use Rattle.reader.proofs.CallLaws.{within-both}
 use Rattle.reader.proofs.StepsLeft.{named-code}
 use Rattle.reader.proofs.Rebuilt.{In, first, later}
 use Rattle.reader.proofs.Played.{times-in, played-holds}
-use Rattle.round_trip.specs.RoundTrip.{isNamed, drawnAs, wrote, rowsWrote, Finished, HandsBack, SetUp}
+use Rattle.round_trip.specs.RoundTrip.{isNamed, drawnAs, wrote, rowsWrote, Finished, HandsBack, SetUp, planeRows, FromPlane}
 
 -- ---- a row found by its name
 code-same : (b c : Band) → code b ≡ code c → b ≡ c
@@ -145,3 +149,67 @@ module _ (W L n : ℕ) (x : ℕ → ℤ) (cs : List writer.Call) (done : Finishe
     where
       place : (r c : ℕ) → r < rowsWrote W L n x cs → c < W → r * W + c < length (writer.taken es)
       place r c h k = let m : (r + 1) * W ≤ rowsWrote W L n x cs * W = mul-le-mul-right W (omega arith) in omega (arith, whole-map, mul-comm W (rowsWrote W L n x cs))
+
+-- ---- from a plane: its band rows are a map's exactly where the plane is
+module _ (W H L : ℕ) (plane : ℕ → ℤ) (g : Grid) where
+  kept-if : (k : ℕ) (b : Band) → (b ≡ LL → k ≡ L) → keptAt L k b ≡ true
+  unfolding keptAt
+  kept-if k LL h = eq-eqb k L (h refl)
+  kept-if k HL h = refl
+  kept-if k LH h = refl
+  kept-if k HH h = refl
+
+  kept-last : (k : ℕ) (b : Band) → keptAt L k b ≡ true → b ≡ LL → k ≡ L
+  unfolding keptAt
+  kept-last k b h z = eqb-true k L (subst (λ v. keptAt L k v ≡ true) z h)
+
+  exists-if : (k : ℕ) (b : Band) (r c : ℕ) → Stands L W H k b r c → bandRowExists W H L k b r ≡ true
+  unfolding bandRowExists within
+  exists-if k b r c s = rw (le-leb 1 k (s .deep), le-leb k L (s .most), kept-if k b (s .last), lt-ltb 0 (bandColumns W k b) (omega (arith, s .column)), lt-ltb r (bandRows H k b) (s .row)) refl
+
+  stands-if : (k : ℕ) (b : Band) (r c : ℕ) → bandRowExists W H L k b r ≡ true → c < bandColumns W k b → Stands L W H k b r c
+  unfolding bandRowExists within
+  stands-if k b r c e p =
+      let a = both (pick (leb 1 k) (leb k L) false) _ e in
+      let d = both (leb 1 k) (leb k L) (a .0) in
+      let f = both (keptAt L k b) _ (a .1) in
+      let h = both (ltb 0 (bandColumns W k b)) _ (f .1) in
+      record { deep = leb-true 1 k (d .0); most = leb-true k L (d .1); last = kept-last k b (f .0); row = ltb-true r (bandRows H k b) (h .1); column = p }
+
+  rows-plane : 0 < L → IsMap W H g → HasAll W H L g (planeRows W H plane) → HasPlane L W H g (cells W plane)
+  unfolding planeRows cells
+  rows-plane some m h = record { map = m; coefficients = λ r c p q. at r c (found L W H r c some p q) }
+    where
+      at : (r c : ℕ) → Found L W H r c → plane (r * W + c) ≡ planeCell whole L W H g r c
+      at r c f =
+          ap plane (sym (found-place L W H r c f))
+          ∙ h .values (record { level = f .level; band = f .band; row = f .row }) (exists-if (f .level) (f .band) (f .row) (f .column) (f .stands)) (f .column) (f .stands .column)
+          ∙ sym (cell-places whole L W H g (f .level) (f .band) (f .row) (f .column) (f .stands))
+          ∙ ap₂ (planeCell whole L W H g) (f .row-is) (f .column-is)
+
+  plane-rows : HasPlane L W H g (cells W plane) → HasAll W H L g (planeRows W H plane)
+  unfolding planeRows cells
+  plane-rows has = record { values = λ y e i p.
+      let s = stands-if (y .level) (y .band) (y .row) i e p in
+      ap plane (place-is W H (y .level) (y .band) (y .row) i)
+      ∙ has .coefficients _ _ (row-in L W H (y .level) (y .band) (y .row) i s) (column-in L W H (y .level) (y .band) (y .row) i s)
+      ∙ cell-places whole L W H g (y .level) (y .band) (y .row) i s }
+
+some-levels : (W H L n : ℕ) → reader-asks.setUpQuestion W H L n ≡ 0 → 0 < L
+unfolding reader-asks.setUpQuestion
+some-levels W H L n e = within-both 1 maxLevels L (go (within 1 maxWidth W) (within 1 maxHeight H) (within 1 maxLevels L) _ e) .0
+  where
+    go : (s t u : Bool) (r : ℕ) → pick s (pick t (pick u r 4) 3) 2 ≡ 0 → u ≡ true
+    go true true true r z = refl
+    go true true false r z = absurd (omega arith)
+    go true false u r z = absurd (omega arith)
+    go false t u r z = absurd (omega arith)
+
+-- ---- the theorem: of a map's plane the map and Done, of any other plane 7 or 14 and no Done
+pub from-plane : (W H L n : ℕ) (y plane : ℕ → ℤ) (out : reader.Area) → reader-asks.setUpQuestion W H L n ≡ 0 → W ≤ out .size → FromPlane W H L n y plane out
+from-plane W H L n y plane out ok room =
+    let p = played-holds W H L n ok (planeRows W H plane) out room y in
+    record {
+      map-back = λ g has. p .map-back g (has .map) (plane-rows W H L plane g has);
+      no-map = λ none-has. p .no-map (λ g m h. none-has g (rows-plane W H L plane g (some-levels W H L n ok) m h));
+    }

@@ -8,7 +8,10 @@ use lib.ListN.{length, getD}
 use lib.Dec.{eqb}
 use Rattle.numbers.specs.Signal.{pick, both}
 use Rattle.wavelet.specs.Limits.{maxSample}
-use Rattle.wavelet.specs.Bands.{code}
+use Rattle.wavelet.specs.Bands.{Grid, code}
+use Rattle.wavelet.specs.Plane.{cells}
+use Rattle.wavelet.specs.View.{bandStart}
+use Rattle.wavelet.specs.Maps.{HasPlane}
 use Rattle.wavelet.specs.Order.{RowName}
 use Rattle.wavelet.specs.Steps.{steps}
 use Rattle.writer.specs.declared.BandRow.{BandRow}
@@ -17,7 +20,7 @@ use Rattle.writer.specs.Demand3.{All, wholeRows, waitingOf}
 use Rattle.writer.specs.Questions as writer-asks
 use Rattle.reader.specs.Demand3 as reader
 use Rattle.reader.specs.Questions as reader-asks
-use Rattle.reader.specs.Played.{played}
+use Rattle.reader.specs.Played.{played, Refusal}
 
 -- the drawn row of that name: its values
 unfoldable pub isNamed : RowName → BandRow → Bool
@@ -65,3 +68,22 @@ module _ (W L n : ℕ) (x : ℕ → ℤ) (cs : List writer.Call) where
     pub record SetUp : Type 0 where
       pub passed : reader-asks.setUpQuestion W rowsWrote L n′ ≡ 0
       pub room : W ≤ out .size
+
+-- ---- in that way from a plane: its band rows by their names
+unfoldable pub planeRows : ℕ → ℕ → (ℕ → ℤ) → RowName → ℕ → ℤ
+planeRows W H plane x i = plane (bandStart W H (x .level) (x .band) (x .row) + i)
+
+module _ (W H L n : ℕ) (y : ℕ → ℤ) (plane : ℕ → ℤ) (out : reader.Area) where
+  abbrev pub planeTurns : List reader.Call
+  planeTurns = played (planeRows W H plane) out (length (steps W H L)) (reader.freshWorld W H L n y)
+
+  abbrev pub planeRead : List reader.Event
+  planeRead = reader.events planeTurns (reader.freshWorld W H L n y)
+
+  abbrev pub wantThen : reader.Event
+  wantThen = reader.event reader.want (reader.final planeTurns (reader.freshWorld W H L n y))
+
+  -- of a map's plane it hands back that map and says Done; of a plane that no map has, it gives 7 or 14 and never says Done
+  pub record FromPlane : Type 0 where
+    pub map-back : (g : Grid) → HasPlane L W H g (cells W plane) → (length (reader.drawnRows planeRead) ≡ H) × reader.FirstRows W g (reader.drawnRows planeRead) × (wantThen ≡ reader.wanted (reader.gives reader.done))
+    pub no-map : ((g : Grid) → HasPlane L W H g (cells W plane) → ⊥) → Refusal planeRead × (wantThen ≡ reader.wanted (reader.gives reader.done) → ⊥)
