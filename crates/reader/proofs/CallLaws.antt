@@ -2,11 +2,11 @@
 use mathlib.Core.Bool.{Bool, true, false}
 use mathlib.Core.Path.{_≡_, refl, sym, ap, subst, _∙_}
 use mathlib.Core.List.{List, [], _∷_}
-use Prim.Native.Nat.{ℕ, zero, suc, _+_, _-_, _≤_, _<_}
+use Prim.Native.Nat.{ℕ, suc, _≤_, _<_}
 use native.Mathlib.Decide.{decLt, decLe}
 use native.Mathlib.Omega.{arith}
 use lib.IntN.{ℤ}
-use lib.Dec.{leb, ltb, eqb}
+use lib.Dec.{leb, eqb}
 use borrow.Author.Tests.{lt-ltb, le-ltb, le-leb, lt-leb, ne-eqb, eqb-true, leb-true}
 use Rattle.numbers.specs.Signal.{pick}
 use Rattle.numbers.proofs.Sweep.{both}
@@ -19,13 +19,13 @@ use Rattle.wavelet.specs.Order.{rowName}
 use Rattle.wavelet.specs.Steps.{Step, feed, draw}
 use Rattle.reader.specs.declared.Reader.{Reader}
 use Rattle.reader.specs.Sets.{rowAt}
-use Rattle.reader.specs.Asked.{asked, named}
+use Rattle.reader.specs.Asked.{asked}
 use Rattle.reader.specs.Tried.{fits}
 use Rattle.reader.specs.Machine.{Place, place, nextAt, beyond, enter}
 use Rattle.reader.specs.State.{next, nextRow, nextLength, unfinished, rowDue, drawDue, wants, settles, feeds}
-use Rattle.reader.specs.Questions.{not, countsFit, storeFits, runFits, setUpQuestion, wantQuestion, feedQuestion, drawQuestion}
+use Rattle.reader.specs.Questions.{countsFit, storeFits, runFits, setUpQuestion, wantQuestion, feedQuestion, drawQuestion}
 use Rattle.reader.specs.Calls.{wantAnswer}
-use Rattle.reader.specs.Demand3.{Area, Want, saidWant, gives, refused, heights, nothing, wantSays, feedTurned, drawSays}
+use Rattle.reader.specs.Demand3.{Area, saidWant, gives, refused, heights, nothing, wantSays, feedTurned, drawSays}
 use Rattle.reader.proofs.StepsLeft.{named-code, stepsLeft, Ahead, height, row, ahead, left-row, left-height, left-done}
 
 -- ---- a set-up that passed

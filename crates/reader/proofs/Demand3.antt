@@ -1,13 +1,11 @@
 -- Demand 3 for the reader: the theorem. From a fresh reader and store, for every list of calls. Assumes nothing.
 use mathlib.Core.Bool.{Bool, true, false}
-use mathlib.Core.Logic.{_↔_}
 use mathlib.Core.Path.{_≡_, refl, sym, ap, ap₂, subst, _∙_}
 use mathlib.Core.List.{List, [], _∷_, _++_, append-nil, append-assoc}
-use Prim.Native.Nat.{ℕ, zero, suc, _+_, _-_, _*_, _≤_, _<_}
+use Prim.Native.Nat.{ℕ, zero, suc, _-_, _≤_, _<_}
 use native.Mathlib.Omega.{arith}
-use lib.IntN.{ℤ, pos, natAbs}
-use lib.Signed.{_≤ℤ_}
-use lib.ListN.{length, getD}
+use lib.IntN.{ℤ}
+use lib.ListN.{length}
 use lib.Dec.{T, eqb, ltb}
 use mir.Syntax.{w32}
 use mir.Val.{SFits}
@@ -15,17 +13,16 @@ use borrow.Author.Tests.{le-ltb, ltb-true, eqb-true}
 use Rattle.numbers.specs.Signal.{pick}
 use Rattle.numbers.specs.Word.{wrap32, whole}
 use Rattle.numbers.proofs.Sweep.{both}
-use Rattle.lifting.specs.Line.{lo, count}
+use Rattle.lifting.specs.Line.{count}
 use Rattle.lifting.specs.Halves.{fronted}
-use Rattle.lifting.proofs.LineLaws.{front-past}
-use Rattle.wavelet.specs.Limits.{maxWidth, maxHeight, maxLevels, maxSample, range}
-use Rattle.wavelet.specs.Bands.{Grid, Band, LL, HL, LH, HH, code, across, down}
+use Rattle.wavelet.specs.Limits.{maxWidth, maxHeight, maxLevels}
+use Rattle.wavelet.specs.Bands.{Grid, Band, LL, across, down}
 use Rattle.wavelet.specs.Levels.{size, approximation, levelBand}
 use Rattle.wavelet.specs.View.{bandColumns}
 use Rattle.wavelet.specs.ViewCall.{bandRowExists}
-use Rattle.wavelet.specs.Maps.{IsMap, valueFits}
+use Rattle.wavelet.specs.Maps.{IsMap}
 use Rattle.wavelet.specs.Questions.{ask, within}
-use Rattle.wavelet.specs.Order.{RowName, rowName, times, inTurn}
+use Rattle.wavelet.specs.Order.{rowName, times}
 use Rattle.wavelet.specs.Steps.{Step, steps, bandRowsOf}
 use Rattle.wavelet.specs.Steps as step
 use Rattle.wavelet.proofs.LevelTheory.{OnCells}
@@ -34,18 +31,17 @@ use Rattle.wavelet.proofs.MapTheorems.{height-fits, low-fits}
 use Rattle.wavelet.proofs.StepLaws.{steps-once, steps-heights}
 use Rattle.reader.specs.declared.Reader.{Reader}
 use Rattle.reader.specs.Asked.{keptAt, asked}
-use Rattle.reader.specs.Tried.{Tried, failed, passed, fits}
-use Rattle.reader.specs.Machine.{place}
+use Rattle.reader.specs.Tried.{fits}
 use Rattle.reader.specs.State.{drawDue, feeds, settles}
 use Rattle.reader.specs.Questions.{countsFit, setUpQuestion, feedQuestion, drawQuestion}
-use Rattle.reader.specs.Calls.{fresh, setUpStore, feedAnswer, drawAnswer, drawArea, wantAnswer}
-use Rattle.reader.specs.Demand3.{Area, Call, want, feed, draw, Reply, gives, refused, Want, row, drawNow, done, ended, Given, heights, nothing, Event, wanted, fed, drew, saidFeed, saidDraw, World, event, events, final, freshWorld, leftBy, left, ends, endedBy, FedRow, fedBy, fedRows, drawnBy, drawnRows, All, none, more, HasRow, HasFed, FirstRows, wantSays, feedTurned, drawSays, OneOf, this, that, written, Draws, Demand3}
+use Rattle.reader.specs.Calls.{fresh, feedAnswer, drawAnswer, drawArea}
+use Rattle.reader.specs.Demand3.{Area, Call, want, feed, draw, Reply, gives, refused, row, done, Given, heights, nothing, Event, wanted, fed, drew, saidFeed, saidDraw, World, event, events, final, freshWorld, leftBy, left, ends, endedBy, FedRow, fedBy, fedRows, drawnBy, drawnRows, All, none, more, HasRow, FirstRows, wantSays, feedTurned, drawSays, OneOf, this, that, written, Draws, Demand3}
 use Rattle.reader.specs.Demand3 as demand
-use Rattle.reader.proofs.StepsLeft.{stepsLeft, left-first}
+use Rattle.reader.proofs.StepsLeft.{left-first}
 use Rattle.reader.proofs.Holds.{Fits, first-holds}
 use Rattle.reader.proofs.CallLaws.{Limits, limits, within-both, here, View, at-end, at-height, at-row, view, counts, want-says, FeedView, feed-away, feed-onward, feed-view, DrawView, draw-away, draw-idle, draw-onward, draw-view}
 use Rattle.reader.proofs.Reached.{namesOf, Good, HasWords, Agrees, Kept, Reached, reached, world, call-reached}
-use Rattle.reader.proofs.Rebuilt.{lookup, lookup-words, found, In, all-in, in-all, rebuilt-words, back, back-has}
+use Rattle.reader.proofs.Rebuilt.{lookup, lookup-words, found, all-in, in-all, rebuilt-words, back, back-has}
 
 -- ---- the list of calls
 endedFrom : Bool → List Event → Bool
@@ -65,6 +61,14 @@ ended-from e (ev ∷ es) = ended-from (pick (ends ev) true e) es ∙ go (ends ev
     go true true = refl
     go true false = refl
     go false e = refl
+
+-- Done is said with no step left, and not after 14
+pub done-only : (W : ℕ) (u : Bool) (v : List Step) → wantSays W u v ≡ done → (u ≡ false) × (v ≡ [])
+unfolding wantSays
+done-only W true v z = absurd (let p : _≡_ {A = ℕ} 0 1 = cc in omega arith)
+done-only W false [] z = (refl, refl)
+done-only W false (step.feed y ∷ v) z = absurd (let p : _≡_ {A = ℕ} 0 1 = cc in omega arith)
+done-only W false (step.draw r ∷ v) z = absurd (let p : _≡_ {A = ℕ} 0 1 = cc in omega arith)
 
 -- a set-up of no levels does not pass
 no-levels : (W H n : ℕ) → setUpQuestion W H 0 n ≡ 0 → ⊥
@@ -279,13 +283,6 @@ module _ (W H l n : ℕ) (lim : Limits W H l n) where
     none-has z g m has = agrees g m has .refuses z (map-fitting g m)
 
     -- ---- Done
-    done-only : (u : Bool) (v : List Step) → wantSays W u v ≡ done → (u ≡ false) × (v ≡ [])
-    unfolding wantSays
-    done-only true v z = absurd (let p : _≡_ {A = ℕ} 0 1 = cc in omega arith)
-    done-only false [] z = (refl, refl)
-    done-only false (step.feed y ∷ v) z = absurd (let p : _≡_ {A = ℕ} 0 1 = cc in omega arith)
-    done-only false (step.draw r ∷ v) z = absurd (let p : _≡_ {A = ℕ} 0 1 = cc in omega arith)
-
     all-drawn : View W H l d lev b [] → H ≤ d
     all-drawn (at-end h) = h
 
@@ -347,7 +344,7 @@ module _ (W H l n : ℕ) (lim : Limits W H l n) where
     finished-then z =
         let w : _≡_ {A = Event} (wanted (gives (wantSays W e t))) (wanted (gives done)) = sym want-is ∙ z in
         let v : wantSays W e t ≡ done = cc in
-        let o = done-only e t v in
+        let o = done-only W e t v in
         (grid (o .0) (o .1), grid-map (o .0) (o .1), grid-rows (o .0) (o .1), kept .drawn ∙ d-is (o .0) (o .1), first-rows (grid (o .0) (o .1)) (grid-map (o .0) (o .1)) (grid-rows (o .0) (o .1)))
 
     not-ended : (u : Bool) → (u ≡ true → ⊥) → u ≡ false

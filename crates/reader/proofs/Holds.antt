@@ -7,10 +7,10 @@ use Prim.Native.Nat.{ℕ, zero, suc, _+_, _-_, _*_, _≤_, _<_}
 use native.Mathlib.Decide.{ℕ-discrete, decLt}
 use native.Mathlib.Omega.{arith}
 use lib.IntN.{ℤ}
-use lib.Dec.{T, ltb, eqb}
+use lib.Dec.{ltb, eqb}
 use mir.Syntax.{w32}
 use mir.Val.{SFits}
-use borrow.Author.Tests.{lt-ltb, le-ltb, eq-eqb, ne-eqb, ltb-true, eqb-true}
+use borrow.Author.Tests.{lt-ltb, le-ltb, eq-eqb, ne-eqb, eqb-true}
 use Rattle.numbers.specs.Signal.{pick}
 use Rattle.numbers.specs.Word.{wrap32}
 use Rattle.lifting.specs.Line.{Half, lo, hi, Half-discrete, count, parted, lineForward}
@@ -18,20 +18,20 @@ use Rattle.lifting.proofs.RowLaws.{row-order}
 use Rattle.wavelet.specs.Bands.{Grid, Band, LL, HL, LH, HH, Band-discrete, code, across, down, bandOf, columnsLifted, subband}
 use Rattle.wavelet.specs.Levels.{size, approximation}
 use Rattle.wavelet.specs.Maps.{valueFits}
-use Rattle.wavelet.proofs.SizeLaws.{count-lo, count-hi}
+use Rattle.wavelet.proofs.SizeLaws.{count-lo}
 use Rattle.wavelet.proofs.BandPlaces.{band-of}
 use Rattle.wavelet.proofs.LevelTheory.{OnCells, low-all, subband-fits, placed, placed-in}
 use Rattle.reader.specs.Sets.{setOf, opens, rowAt}
 use Rattle.reader.specs.Asked.{keptAt, asked, bandsFrom, those, look, firstCode, nextBand, named}
-use Rattle.reader.specs.Tried.{Tried, failed, passed, bind, onto}
+use Rattle.reader.specs.Tried.{Tried, passed, bind, onto}
 use Rattle.reader.specs.Slots.{slot, rowPlace, setRow, bandFed, lowRowTaken}
 use Rattle.reader.specs.Work.{setMade, setWorked}
 use Rattle.reader.specs.Store.{stretchAt, from, behind, fedAt, workedAt}
 use Rattle.reader.specs.Machine.{Place, place, bandAt, nextAt, settled, finished, beyond, fedOn, dive, enter}
 use Rattle.reader.proofs.SetLaws.{opens-next, same-set, setOf-there, rowAt-next, rowAt-there, rowAt-first}
-use Rattle.reader.proofs.StepsLeft.{named-code, code-lt, Look, nothing, first, look-is, first-le}
+use Rattle.reader.proofs.StepsLeft.{named-code, code-lt, first-le}
 use Rattle.reader.proofs.RowsIn.{apart, parity, Is, Only, is-old, only-fed, fed-here, fed-beside, only-taken, taken-is, taken-beside}
-use Rattle.reader.proofs.SetMade.{Outcome, stops, goes, bind-outcome, FitRow, cols, Needs, Leaves, set-made}
+use Rattle.reader.proofs.SetMade.{Outcome, stops, goes, bind-outcome, Needs, Leaves, set-made}
 
 -- ---- memory: two that agree in a level's four rows
 abbrev SameMem : ℕ → (ℕ → ℤ) → (ℕ → ℤ) → Type 0

@@ -6,11 +6,11 @@ use Prim.Native.Nat.{ℕ, zero, suc, _+_, _-_, _≤_, _<_}
 use native.Mathlib.Omega.{arith}
 use lib.IntN.{ℤ, natAbs}
 use lib.ListN.{length, length-append}
-use lib.Dec.{T, eqb, leb, ltb}
+use lib.Dec.{T, leb, ltb}
 use borrow.Author.Tests.{le-leb, eq-eqb, leb-true, ltb-true}
 use Rattle.numbers.specs.Signal.{pick}
 use Rattle.numbers.specs.Word.{whole}
-use Rattle.wavelet.specs.Bands.{Grid, Band, code}
+use Rattle.wavelet.specs.Bands.{Grid, Band}
 use Rattle.wavelet.specs.Levels.{levelBand}
 use Rattle.numbers.proofs.Sweep.{both}
 use Rattle.wavelet.specs.Limits.{range}
@@ -19,19 +19,18 @@ use Rattle.wavelet.specs.Questions.{within}
 use Rattle.wavelet.specs.ViewCall.{keptAt, bandRowExists}
 use Rattle.wavelet.proofs.Bridge.{map-band-range}
 use Rattle.wavelet.proofs.MapTheorems.{each-every}
-use Rattle.wavelet.specs.Maps.{IsMap, every}
+use Rattle.wavelet.specs.Maps.{IsMap}
 use Rattle.wavelet.specs.Order.{RowName, rowName, sameName, times}
 use Rattle.wavelet.specs.Steps.{Step, steps, bandRowsOf}
 use Rattle.wavelet.specs.Steps as step
-use Rattle.reader.specs.Asked.{named}
 use Rattle.reader.specs.Questions.{runFits, setUpQuestion}
-use Rattle.reader.specs.Demand3.{Area, Call, want, feed, draw, Reply, gives, refused, Want, row, drawNow, done, ended, Given, heights, nothing, Event, wanted, fed, drew, World, event, events, final, freshWorld, goesOn, rest, leftBy, left, ends, endedBy, FedRow, fedAs, fedBy, fedRows, drawnBy, drawnRows, All, none, more, HasRow, HasFed, FirstRows, wantSays, feedTurned, drawSays, OneOf, this, that, Draws, Demand3}
+use Rattle.reader.specs.Demand3.{Area, Call, want, feed, draw, Reply, gives, refused, row, drawNow, done, ended, Given, heights, Event, wanted, fed, drew, World, event, events, final, freshWorld, goesOn, rest, leftBy, left, ends, endedBy, FedRow, fedBy, fedRows, drawnRows, All, none, more, HasRow, HasFed, FirstRows, wantSays, feedTurned, drawSays, OneOf, this, that, Draws, Demand3}
 use Rattle.reader.specs.Demand3 as demand
 use Rattle.reader.specs.Played.{asWanted, answering, played, HasAll, Refusal, seven, fed-fourteen, drawn-fourteen, after, Played}
 use Rattle.reader.proofs.StepsLeft.{named-code}
-use Rattle.reader.proofs.Reached.{namesOf, all-append}
-use Rattle.reader.proofs.Rebuilt.{same-name, In, first, later, all-in, in-all}
-use Rattle.reader.proofs.Demand3.{demand-3}
+use Rattle.reader.proofs.Reached.{namesOf, names-append, all-append}
+use Rattle.reader.proofs.Rebuilt.{same-name, same-self, In, first, later, all-in, in-all}
+use Rattle.reader.proofs.Demand3.{done-only, demand-3}
 
 -- ---- one list of calls after another
 events-append : (cs ds : List Call) (w : World) → events (cs ++ ds) w ≡ events cs w ++ events ds (final cs w)
@@ -64,14 +63,13 @@ ended-append (e ∷ es) fs = ap (λ u. pick (ends e) true u) (ended-append es fs
     go false b = refl
 
 -- ---- names
-names-append : (s t : List FedRow) → namesOf (s ++ t) ≡ namesOf s ++ namesOf t
-unfolding namesOf
-names-append [] t = refl
-names-append (f ∷ s) t = ap (λ r. f .row ∷ r) (names-append s t)
-
 in-left : {A : Type 0} (x : A) (s t : List A) → In x s → In x (s ++ t)
 in-left x (y ∷ s) t first = first
 in-left x (y ∷ s) t (later i) = later (in-left x s t i)
+
+in-right : {A : Type 0} (y : A) (s t : List A) → In y t → In y (s ++ t)
+in-right y [] t i = i
+in-right y (z ∷ s) t i = later (in-right y s t i)
 
 in-names : (f : FedRow) (fs : List FedRow) → In f fs → In (f .row) (namesOf fs)
 unfolding namesOf
@@ -82,10 +80,6 @@ names-in : (x : RowName) (fs : List FedRow) → In x (namesOf fs) → (f : FedRo
 unfolding namesOf
 names-in x (f ∷ fs) first = (f, first, refl)
 names-in x (f ∷ fs) (later i) = let r = names-in x fs i in (r .0, later (r .1), r .2)
-
-same-self : (x : RowName) → sameName x x ≡ true
-unfolding sameName
-same-self x = rw (eq-eqb (x .level) (x .level) refl, eq-eqb (code (x .band)) (code (x .band)) refl, eq-eqb (x .row) (x .row) refl) refl
 
 in-times : (x : RowName) (xs : List RowName) → In x xs → 1 ≤ times x xs
 unfolding times
@@ -183,10 +177,6 @@ module _ (W H L n : ℕ) (ok : setUpQuestion W H L n ≡ 0) (rows : RowName → 
       go true e h = refl
       go false e h = absurd (omega arith)
 
-  in-right : {A : Type 0} (y : A) (s t : List A) → In y t → In y (s ++ t)
-  in-right y [] t i = i
-  in-right y (z ∷ s) t i = later (in-right y s t i)
-
   fed-exists : (es : List Event) → Fair es → (f : FedRow) → In f (fedRows T₀ es) → bandRowExists W H L (f .row .level) (f .row .band) (f .row .row) ≡ true
   fed-exists es fair f i = step-exists (f .row) (subst (In (f .row)) (fair .names) (in-left (f .row) (namesOf (fedRows T₀ es)) _ (in-names f (fedRows T₀ es) i)))
 
@@ -214,18 +204,11 @@ module _ (W H L n : ℕ) (ok : setUpQuestion W H L n ≡ 0) (rows : RowName → 
     fine : Fair (events cs w₀) → left T₀ (events cs w₀) ≡ [] → Verdict cs
     bad : Refusal (events cs w₀) → (event want (final cs w₀) ≡ wanted (gives done) → ⊥) → ((g : Grid) → IsMap W H g → HasAll W H L g rows → ⊥) → Verdict cs
 
-  done-only : (u : Bool) (v : List Step) → wantSays W u v ≡ done → v ≡ []
-  unfolding wantSays
-  done-only true v z = absurd (let p : _≡_ {A = ℕ} 0 1 = cc in omega arith)
-  done-only false [] z = refl
-  done-only false (step.feed y ∷ v) z = absurd (let p : _≡_ {A = ℕ} 0 1 = cc in omega arith)
-  done-only false (step.draw r ∷ v) z = absurd (let p : _≡_ {A = ℕ} 0 1 = cc in omega arith)
-
   said-done : (cs : List Call) → event want (final cs w₀) ≡ wanted (gives done) → left T₀ (events cs w₀) ≡ []
   said-done cs z =
       let w : _≡_ {A = Event} (wanted (gives (wantSays W (endedBy (events cs w₀)) (left T₀ (events cs w₀))))) (wanted (gives done)) = sym (claim cs .wants) ∙ z in
       let v : wantSays W (endedBy (events cs w₀)) (left T₀ (events cs w₀)) ≡ done = cc in
-      done-only _ _ v
+      done-only W _ _ v .1
 
   -- a call that is refused leaves too few turns
   too-few : (m : ℕ) (cs : List Call) (c : Call) (ps : List Call) → length (left T₀ (events cs w₀)) ≡ suc m → goesOn (event c (final cs w₀)) ≡ false → length ps ≤ m → event want (final (cs ++ (c ∷ ps)) w₀) ≡ wanted (gives done) → ⊥

@@ -1,13 +1,13 @@
 -- Every world that calls reach from a fresh one, and what is kept of it: the steps left, the rows fed and drawn, and what holds of every grid of 32-bit numbers that has the rows fed.
 -- Assumes nothing.
 use mathlib.Core.Bool.{Bool, true, false}
-use mathlib.Core.Path.{_≡_, refl, sym, ap, ap₂, subst, _∙_}
-use mathlib.Core.List.{List, [], _∷_, _++_, append-nil, append-assoc, map}
-use Prim.Native.Nat.{ℕ, zero, suc, _+_, _-_, _*_, _≤_, _<_}
-use native.Mathlib.Decide.{ℕ-discrete, decLt}
+use mathlib.Core.Path.{_≡_, refl, sym, ap, subst, _∙_}
+use mathlib.Core.List.{List, [], _∷_, _++_, append-nil, append-assoc}
+use Prim.Native.Nat.{ℕ, zero, suc, _+_, _-_, _≤_, _<_}
+use native.Mathlib.Decide.{ℕ-discrete}
 use native.Mathlib.Omega.{arith}
-use lib.IntN.{ℤ, pos, natAbs, _-ℤ_, _*ℤ_}
-use lib.Signed.{shrZ, _≤ℤ_}
+use lib.IntN.{ℤ, pos, natAbs}
+use lib.Signed.{_≤ℤ_}
 use lib.ListN.{length, length-append, getD, List·getD-append}
 use lib.Seq.{getD-append-add}
 use lib.Dec.{T, ltb, eqb}
@@ -17,13 +17,13 @@ use borrow.Author.Tests.{lt-ltb, leb-true}
 use Rattle.numbers.specs.Signal.{pick}
 use Rattle.numbers.specs.Word.{wrap32}
 use Rattle.numbers.proofs.Integers.{each, lin}
-use Rattle.lifting.specs.Line.{count, joined}
-use Rattle.lifting.specs.Halves.{halvesOf, fronted}
+use Rattle.lifting.specs.Line.{count}
+use Rattle.lifting.specs.Halves.{fronted}
 use Rattle.wavelet.specs.Limits.{range, maxSample}
-use Rattle.wavelet.specs.Bands.{Grid, Band, code, across, down, subband}
+use Rattle.wavelet.specs.Bands.{Grid, Band, code, across}
 use Rattle.wavelet.specs.Levels.{size, levelBand}
 use Rattle.wavelet.specs.View.{bandColumns}
-use Rattle.wavelet.specs.Maps.{every, valueFits}
+use Rattle.wavelet.specs.Maps.{valueFits}
 use Rattle.wavelet.specs.Questions.{ask}
 use Rattle.wavelet.specs.Order.{RowName, rowName}
 use Rattle.wavelet.specs.Steps.{Step, steps, bandRowsOf}
@@ -33,19 +33,18 @@ use Rattle.wavelet.proofs.MapTheorems.{every-each, height-fits}
 use Rattle.reader.specs.declared.Reader.{Reader}
 use Rattle.reader.specs.Areas.{height16}
 use Rattle.reader.specs.Sets.{opens, rowAt}
-use Rattle.reader.specs.Asked.{asked, keptAt}
+use Rattle.reader.specs.Asked.{asked}
 use Rattle.reader.specs.Tried.{Tried, failed, passed, bind, fits, memory}
-use Rattle.reader.specs.Slots.{rowIn}
 use Rattle.reader.specs.Machine.{Place, place, bandAt, nextAt, settled, fedOn, placeFed, beyond, dive, enter}
 use Rattle.reader.specs.State.{next, settles, feeds, drawDue, fedReader, drawnReader, endedReader}
 use Rattle.reader.specs.Questions.{runFits, feedQuestion, drawQuestion}
 use Rattle.reader.specs.Calls.{feedAnswer, feedStore, storeAfter, drawAnswer, drawStore, drawArea, heightRow}
-use Rattle.reader.specs.Demand3.{Area, Call, want, feed, draw, Reply, gives, refused, Given, heights, nothing, Event, wanted, fed, drew, World, event, goesOn, rest, leftBy, ends, FedRow, fedAs, fedBy, drawnBy, saidFeed, saidDraw, leftByFeed, leftByDraw, All, none, more}
+use Rattle.reader.specs.Demand3.{Area, Call, want, feed, draw, Event, fed, drew, World, event, goesOn, leftBy, ends, FedRow, fedAs, fedBy, drawnBy, saidFeed, saidDraw, leftByFeed, leftByDraw, All, none, more}
 use Rattle.reader.specs.Demand3 as demand
 use Rattle.reader.proofs.StepsLeft.{code-lt, stepsLeft}
 use Rattle.reader.proofs.RowsIn.{row-halves, joined-reads}
 use Rattle.reader.proofs.SetMade.{Outcome, stops, goes, bind-outcome}
-use Rattle.reader.proofs.Holds.{Fits, Holds, settle-holds, fed-holds, enter-holds, first-holds, height-made, height-fit}
+use Rattle.reader.proofs.Holds.{Fits, Holds, settle-holds, fed-holds, enter-holds, height-made, height-fit}
 use Rattle.reader.proofs.CallLaws.{Limits, here, View, view, FeedView, feed-away, feed-onward, feed-view, DrawView, draw-away, draw-idle, draw-onward, draw-view}
 
 module _ {A : Type 0} {P : A → Type 0} where
@@ -66,7 +65,7 @@ unfoldable pub namesOf : List FedRow → List RowName
 namesOf [] = []
 namesOf (f ∷ fs) = f .row ∷ namesOf fs
 
-names-append : (s t : List FedRow) → namesOf (s ++ t) ≡ namesOf s ++ namesOf t
+pub names-append : (s t : List FedRow) → namesOf (s ++ t) ≡ namesOf s ++ namesOf t
 unfolding namesOf
 names-append [] t = refl
 names-append (f ∷ s) t = ap (λ r. f .row ∷ r) (names-append s t)

@@ -4,8 +4,8 @@ use mathlib.Core.Path.{_≡_, refl, sym, ap, subst, _∙_}
 use mathlib.Core.List.{List, [], _∷_}
 use Prim.Native.Nat.{ℕ, zero, suc, _+_, _-_, _≤_, _<_}
 use native.Mathlib.Omega.{arith}
-use lib.IntN.{ℤ, pos, natAbs}
-use lib.Dec.{T, eqb}
+use lib.IntN.{ℤ, pos}
+use lib.Dec.{eqb}
 use mir.Syntax.{w32}
 use mir.Val.{SFits}
 use borrow.Author.Tests.{eq-eqb, eqb-true}
@@ -13,7 +13,7 @@ use Rattle.numbers.specs.Signal.{pick}
 use Rattle.numbers.specs.Word.{wrap32}
 use Rattle.numbers.proofs.Words.{abs-fits}
 use Rattle.numbers.proofs.Sweep.{both}
-use Rattle.lifting.specs.Line.{lo, count}
+use Rattle.lifting.specs.Line.{count}
 use Rattle.wavelet.specs.Limits.{range}
 use Rattle.wavelet.specs.Bands.{Grid, Band, LL, HL, LH, HH, code, across, down, subband, levelBack}
 use Rattle.wavelet.specs.Levels.{size, approximation, levelBand}
@@ -75,7 +75,7 @@ same-name x y e =
     let r = eqb-true _ _ (b .1) in
     λ i. record { level = p i; band = q i; row = r i }
 
-same-self : (x : RowName) → sameName x x ≡ true
+pub same-self : (x : RowName) → sameName x x ≡ true
 unfolding sameName
 same-self x = rw (eq-eqb (x .level) (x .level) refl, eq-eqb (code (x .band)) (code (x .band)) refl, eq-eqb (x .row) (x .row) refl) refl
 

@@ -1,8 +1,7 @@
 -- A level's memory, row by row: what a row fed, a row lifted back, a row changed by others, and a row taken from the next level leave of every row.
 -- A row is told by its two halves, c : Half → ℕ → ℤ: the numbers of two bands, or the even and the odd places of a line. Assumes nothing.
-use mathlib.Core.Path.{_≡_, refl, sym, ap, ap₂, subst, _∙_}
-use Prim.Native.Nat.{ℕ, zero, suc, _+_, _-_, _*_, _/_, _%_, _≤_, _<_}
-use native.Mathlib.Nat.{mul-le-mul-right}
+use mathlib.Core.Path.{_≡_, refl, sym, ap, _∙_}
+use Prim.Native.Nat.{ℕ, _+_, _-_, _*_, _/_, _≤_, _<_}
 use native.Mathlib.Decide.{decLt}
 use native.Mathlib.Omega.{arith}
 use lib.IntN.{ℤ}
@@ -13,15 +12,14 @@ use Rattle.numbers.specs.Word.{wrap32}
 use Rattle.numbers.proofs.Parts.{window-in, splice-below, splice-in, splice-past}
 use Rattle.lifting.specs.Line.{Half, lo, hi, count, parted, joined, lineForward, lineHalvesBack, lineBack}
 use Rattle.lifting.specs.Halves.{halvesOf, inHalves, unliftedInPlace}
-use Rattle.lifting.specs.Rows.{rowChanged}
 use Rattle.lifting.proofs.Filter.{place, place-in, in-place, by-place}
 use Rattle.lifting.proofs.FiveThree.{joined-place}
 use Rattle.lifting.proofs.LineTheorems.{back-forward, halves-back-reads}
-use Rattle.lifting.proofs.LineLaws.{joined-parted, halves-low, halves-high}
-use Rattle.lifting.proofs.RowLaws.{row-order, row-at, row-before, row-past, row-other}
+use Rattle.lifting.proofs.LineLaws.{halves-low, halves-high}
+use Rattle.lifting.proofs.RowLaws.{row-order, row-at, row-past, row-other}
 use Rattle.wavelet.specs.Bands.{Band, across, down}
 use Rattle.wavelet.proofs.SizeLaws.{count-lo, count-hi}
-use Rattle.wavelet.proofs.LevelTheory.{placed, placed-in, by-half}
+use Rattle.wavelet.proofs.LevelTheory.{placed, placed-in}
 use Rattle.reader.specs.Slots.{slot, rowPlace, setRow, halfPlace, bandFed, rowIn, rowUnlifted, rowBy, lowRowTaken}
 
 -- ---- slots

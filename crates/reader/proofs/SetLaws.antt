@@ -1,15 +1,13 @@
 -- The laws of the sets of a level: which row opens a set, and where each level is while a height row is waited for. Assumes nothing.
-use mathlib.Core.Bool.{Bool, true, false}
-use mathlib.Core.Path.{_≡_, refl, sym, ap, _∙_}
-use Prim.Native.Nat.{ℕ, zero, suc, _+_, _-_, _*_, _/_, _%_, min, _≤_, _<_}
+use mathlib.Core.Bool.{true, false}
+use mathlib.Core.Path.{_≡_, refl, ap, _∙_}
+use Prim.Native.Nat.{ℕ, zero, suc, _+_, _-_, _*_, _/_, _%_, min, _<_}
 use native.Mathlib.Decide.{ℕ-discrete, decLt}
 use native.Mathlib.Omega.{arith}
-use lib.Dec.{eqb}
 use borrow.Author.Tests.{lt-ltb, le-ltb, eq-eqb, ne-eqb, eqb-true, eqb-false}
 use Rattle.lifting.specs.Line.{lo, count}
 use Rattle.wavelet.specs.Levels.{size}
 use Rattle.wavelet.specs.Steps.{opensSet}
-use Rattle.wavelet.proofs.SizeLaws.{size-positive}
 use Rattle.reader.specs.Sets.{setOf, opens, rowAt}
 
 pub setOf-there : (h r : ℕ) → r < h → setOf h r < count lo h

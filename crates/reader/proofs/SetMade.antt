@@ -1,7 +1,7 @@
 -- Working out a set. If the level's memory holds the set's rows, and of the set before it the even row and the high row of the columns, then what is made are rows of the grid; and if a value is refused, the grid has one that does not fit.
 -- Over words, for any grid of 32-bit numbers: no range is asked. Assumes nothing.
 use mathlib.Core.Bool.{Bool, true, false}
-use mathlib.Core.Path.{_≡_, refl, sym, ap, subst, _∙_}
+use mathlib.Core.Path.{_≡_, refl, sym, subst, _∙_}
 use Prim.Native.Nat.{ℕ, zero, suc, _+_, _-_, _*_, min, _≤_, _<_}
 use native.Mathlib.Decide.{ℕ-discrete, decLt}
 use native.Mathlib.Omega.{arith}
@@ -17,14 +17,14 @@ use Rattle.lifting.proofs.Filter.{place, place-in, in-place, by-place}
 use Rattle.lifting.proofs.LineTheorems.{forward-fits}
 use Rattle.lifting.proofs.LineLaws.{even-is, odd-is, low-one}
 use Rattle.wavelet.specs.Bands.{Grid, columnsLifted}
-use Rattle.wavelet.specs.Maps.{every, valueFits}
+use Rattle.wavelet.specs.Maps.{valueFits}
 use Rattle.wavelet.proofs.LevelTheory.{OnCells, by-half, placed}
 use Rattle.wavelet.proofs.MapTheorems.{every-each, each-every}
 use Rattle.reader.specs.Sets.{setOf}
-use Rattle.reader.specs.Tried.{Tried, failed, passed, outcome, bind}
+use Rattle.reader.specs.Tried.{Tried, failed, passed, bind}
 use Rattle.reader.specs.Slots.{slot, rowPlace, rowUnlifted, rowBy}
 use Rattle.reader.specs.Work.{rowFits, admitted, setUnlifted, evenRow, oddRow, evenMade, oddMade, lastMade, setMade}
-use Rattle.reader.proofs.RowsIn.{apart, parity, Is, Only, only-by, is-old, only-unlifted, unlifted-is, by-is, halves-back-forward}
+use Rattle.reader.proofs.RowsIn.{apart, parity, Is, only-by, is-old, only-unlifted, unlifted-is, by-is, halves-back-forward}
 
 -- ---- what trying comes to: a memory with a property, or a value that does not fit where N says that all do
 pub data Outcome (N : Type 0) (P : (ℕ → ℤ) → Type 0) : Tried → Type 0 where

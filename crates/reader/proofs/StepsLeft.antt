@@ -1,18 +1,18 @@
 -- The steps left, as a function of where the reader is, and what the machine does to them: the want is the first of them, and a row fed or drawn takes it off.
 -- Assumes nothing.
 use mathlib.Core.Bool.{Bool, true, false}
-use mathlib.Core.Path.{_≡_, refl, sym, ap, ap₂, subst, _∙_}
+use mathlib.Core.Path.{_≡_, refl, sym, ap, subst, _∙_}
 use mathlib.Core.List.{List, [], _∷_, _++_, append-nil, append-assoc}
-use Prim.Native.Nat.{ℕ, zero, suc, _+_, _-_, _*_, _/_, _≤_, _<_}
+use Prim.Native.Nat.{ℕ, zero, suc, _+_, _-_, _≤_, _<_}
 use native.Mathlib.Omega.{arith}
 use lib.Dec.{T, ltb, eqb}
-use borrow.Author.Tests.{lt-ltb, le-ltb, eq-eqb, ne-eqb}
-use Rattle.numbers.specs.Signal.{pick, both}
+use borrow.Author.Tests.{lt-ltb, eq-eqb, ne-eqb}
+use Rattle.numbers.specs.Signal.{pick}
 use Rattle.lifting.specs.Line.{lo, count}
 use Rattle.wavelet.specs.Bands.{Band, LL, HL, LH, HH, code}
 use Rattle.wavelet.specs.Levels.{size}
 use Rattle.wavelet.specs.Order.{RowName, rowName, handedOut, hasRow, rowsOf, setRows, inTurn}
-use Rattle.wavelet.specs.Steps.{Step, feed, draw, feedAll, opensSet, rowSteps, setSteps, steps}
+use Rattle.wavelet.specs.Steps.{Step, feed, draw, feedAll, rowSteps, setSteps, steps}
 use Rattle.reader.specs.Sets.{setOf, opens, rowAt}
 use Rattle.reader.specs.Asked.{keptAt, asked, bandsFrom, those, look, firstCode, nextBand, named}
 use Rattle.reader.specs.Machine.{Place, place, bandAt, nextAt, beyond, dive, enter}

@@ -2,11 +2,11 @@
 use mathlib.Core.Bool.{Bool, true, false}
 use mathlib.Core.Path.{_≡_, refl, sym, ap, ap₂, subst, _∙_}
 use mathlib.Core.List.{List, [], _∷_, map}
-use Prim.Native.Nat.{ℕ, zero, suc, _+_, _*_, _≤_, _<_}
+use Prim.Native.Nat.{ℕ, _+_, _*_, _≤_, _<_}
 use native.Mathlib.Nat.{mul-le-mul-right, mul-comm, eq-of-mul-eq-mul-left}
 use native.Mathlib.Omega.{arith}
-use lib.IntN.{ℤ, pos}
-use lib.ListN.{length, getD}
+use lib.IntN.{ℤ}
+use lib.ListN.{length}
 use lib.Dec.{T, leb, ltb, eqb}
 use borrow.Author.Tests.{le-leb, lt-ltb, eq-eqb, leb-true, ltb-true, eqb-true}
 use Rattle.numbers.specs.Signal.{pick}
@@ -20,12 +20,12 @@ use Rattle.wavelet.specs.ViewCall.{keptAt, bandRowExists}
 use Rattle.wavelet.specs.Limits.{maxWidth, maxHeight, maxLevels}
 use Rattle.wavelet.specs.Questions.{within}
 use Rattle.wavelet.specs.Maps.{IsMap, HasPlane}
-use Rattle.wavelet.specs.Order.{RowName, times}
+use Rattle.wavelet.specs.Order.{RowName}
 use Rattle.wavelet.proofs.PlaneLayout.{Stands, place-is, row-in, column-in, cell-places}
 use Rattle.wavelet.proofs.PlanePlaces.{Found, found, found-place}
 use Rattle.writer.specs.declared.BandRow.{BandRow}
 use Rattle.writer.specs.History as writer
-use Rattle.writer.specs.Demand3.{All, all-none, all-more, HasValues, MapOf, answered}
+use Rattle.writer.specs.Demand3.{All, all-more, HasValues, MapOf, answered}
 use Rattle.writer.specs.Questions as writer-asks
 use Rattle.writer.specs.Demand3 as writes
 use Rattle.writer.proofs.Demand3 as writer-holds
@@ -189,11 +189,13 @@ module _ (W H L : ℕ) (plane : ℕ → ℤ) (g : Grid) where
 
   plane-rows : HasPlane L W H g (cells W plane) → HasAll W H L g (planeRows W H plane)
   unfolding planeRows cells
-  plane-rows has = record { values = λ y e i p.
-      let s = stands-if (y .level) (y .band) (y .row) i e p in
-      ap plane (place-is W H (y .level) (y .band) (y .row) i)
-      ∙ has .coefficients _ _ (row-in L W H (y .level) (y .band) (y .row) i s) (column-in L W H (y .level) (y .band) (y .row) i s)
-      ∙ cell-places whole L W H g (y .level) (y .band) (y .row) i s }
+  plane-rows has = record {
+    values = λ y e i p.
+        let s = stands-if (y .level) (y .band) (y .row) i e p in
+        ap plane (place-is W H (y .level) (y .band) (y .row) i)
+        ∙ has .coefficients _ _ (row-in L W H (y .level) (y .band) (y .row) i s) (column-in L W H (y .level) (y .band) (y .row) i s)
+        ∙ cell-places whole L W H g (y .level) (y .band) (y .row) i s;
+  }
 
 some-levels : (W H L n : ℕ) → reader-asks.setUpQuestion W H L n ≡ 0 → 0 < L
 unfolding reader-asks.setUpQuestion

@@ -2,18 +2,17 @@
 -- By weights: whatever the names weigh, the steps weigh what the writer's order weighs. Assumes nothing.
 use mathlib.Core.Bool.{Bool, true, false}
 use mathlib.Core.Path.{_≡_, refl, sym, ap, ap₂, _∙_}
-use mathlib.Core.List.{List, [], _∷_, _++_, append-nil, append-assoc}
-use Prim.Native.Nat.{ℕ, zero, suc, _+_, _-_, _*_, _/_, _%_, min, _≤_, _<_}
+use mathlib.Core.List.{List, [], _∷_, _++_, append-nil}
+use Prim.Native.Nat.{ℕ, zero, suc, _+_, _-_, _/_, _%_, min, _≤_, _<_}
 use native.Mathlib.Decide.{ℕ-discrete, decLt}
 use native.Mathlib.Omega.{arith}
 use borrow.Author.Tests.{lt-ltb, le-ltb, eq-eqb, ne-eqb}
 use Rattle.numbers.specs.Signal.{pick}
 use Rattle.lifting.specs.Line.{lo, count}
-use Rattle.wavelet.specs.Bands.{Band}
 use Rattle.wavelet.specs.ViewCall.{bandRowExists}
 use Rattle.wavelet.specs.Order.{RowName, setRows, madeBy, closing, inTurn, made, sameName, times}
 use Rattle.wavelet.specs.Steps.{Step, feed, draw, feedAll, opensSet, rowSteps, setSteps, steps, bandRowsOf, heightRowsOf}
-use Rattle.wavelet.proofs.SizeLaws.{count-lo, count-positive}
+use Rattle.wavelet.proofs.SizeLaws.{count-positive}
 use Rattle.wavelet.proofs.OrderLaws.{makes, turn-suc, turn-none, map-made}
 use Rattle.wavelet.proofs.OrderOnce.{weigh, weigh-append, made-once}
 

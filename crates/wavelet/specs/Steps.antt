@@ -1,6 +1,6 @@
 -- The reader's steps: each band row to feed and each height row to draw, in their order. Document 01, "The reader".
 -- A level k, from 1, splits w columns and h rows; l levels lie below it.
-use mathlib.Core.Bool.{Bool, true, false}
+use mathlib.Core.Bool.{Bool, true}
 use mathlib.Core.List.{List, [], _∷_, _++_}
 use Prim.Native.Nat.{ℕ, zero, suc, _+_, _-_, _/_, _%_}
 use lib.Dec.{ltb, eqb}
