@@ -1,23 +1,18 @@
 -- Heights, u16, as whole numbers: a list l of them is the list `wholes l` of i32's kind, so that its loops go by the same laws. Assumes nothing.
 use mathlib.Core.Path.{_≡_, refl, sym, ap, _∙_, fun-ext}
 use mathlib.Core.List.{List, [], _∷_}
-use Prim.Native.Nat.{ℕ, zero, suc, _+_, _≤_, _<_}
+use Prim.Native.Nat.{ℕ, zero, suc, _≤_, _<_}
 use native.Mathlib.Omega.{arith}
-use native.Mathlib.Decide.{ℕ-discrete}
 use lib.Dec.{T}
-use lib.IntN.{ℤ, pos, negsuc, natAbs}
-use lib.Signed.{nonNeg, leZ}
-use mathlib.Core.Bool.{Bool, true, false}
-use mir.Syntax.{w16, w32}
-use mir.Val.{Fits, SFits, toZ}
-use borrow.Author.Needs.{sfits-of}
-use borrow.Author.Tests.{leb-true}
-use lib.ListN.{length, getD, set, length-map, List·getD-map}
+use lib.IntN.{ℤ, pos, negsuc, natAbs, _-ℤ_, _*ℤ_}
+use lib.Signed.{shrZ, nonNeg, mag-shr}
+use lib.ListN.{length, set, length-map, List·getD-map}
+use mir.Syntax.{w32}
+use mir.Val.{SFits}
+use mir.ValLaws.{sfits-le}
 use Rattle.numbers.specs.Signal.{at}
-use Rattle.numbers.proofs.Words.{read-back}
-use Rattle.numbers.proofs.Sweep.{Swept, finish, both}
-use Rattle.wavelet.specs.Limits.{maxSample}
-use Rattle.wavelet.specs.Maps.{every, valueFits}
+use Rattle.numbers.proofs.Integers.{each, lin, dif-natAbs}
+use Rattle.numbers.proofs.Sweep.{Swept, finish}
 use Rattle.reader.specs.Areas.{heightsAt, wholes}
 
 pub wholes-at : (l : List ℕ) → at (wholes l) ≡ heightsAt l
@@ -44,27 +39,22 @@ module _ {n : ℕ} {y x : ℕ → ℤ} {k : ℕ} (l : List ℕ) (sw : Swept n y 
   pub finish-heights : ((j : ℕ) → k ≤ j → y j ≡ x j) → heightsAt l ≡ y
   finish-heights h = sym (wholes-at l) ∙ finish sw h
 
--- ---- a height as a 32-bit number
-pub height-fits : (v : ℕ) → v < 65536 → SFits w32 (pos v)
-height-fits v h = sfits-of (omega arith)
+-- ---- a value modulo 65,536
+pub shift-fits : (z : ℤ) → SFits w32 z → SFits w32 (shrZ z 65536)
+shift-fits z h = sfits-le (mag-shr z 65536) h
 
-pub height-read : (v : ℕ) → v < 65536 → toZ w32 v ≡ pos v
-height-read v h = read-back (pos v) (omega arith)
+pub multiple-fits : (z : ℤ) → SFits w32 z → SFits w32 (pos 65536 *ℤ shrZ z 65536)
+multiple-fits = each _ λ p q. simp lin (omega arith)
 
--- ---- a number that is a height
-pub record IsHeight (v : ℤ) : Type 0 where
-  pub sign : T (nonNeg v)
-  pub fits : Fits w16 (natAbs v)
-  pub same : pos (natAbs v) ≡ v
+pub rest-fits : (z : ℤ) → SFits w32 (z -ℤ pos 65536 *ℤ shrZ z 65536)
+rest-fits = each _ λ p q. simp lin (omega arith)
 
-pub is-height : (v : ℤ) → valueFits 0 v ≡ true → IsHeight v
-unfolding valueFits maxSample
-is-height (pos n) h = let b = leb-true n 65535 (both (leZ (pos 0) (pos n)) (leZ (pos n) (pos 65535)) h .1) in record { sign = tt; fits = record { fits = omega arith }; same = refl }
-is-height (negsuc n) h = let z : _≡_ {A = ℕ} 0 1 = cc in absurd (omega arith)
+pub rest-positive : (z : ℤ) → T (nonNeg (z -ℤ pos 65536 *ℤ shrZ z 65536))
+rest-positive = each _ λ p q. simp lin (omega arith)
 
-pub every-at : (n : ℕ) (p : ℕ → Bool) → every n p ≡ true → (i : ℕ) → i < n → p i ≡ true
-unfolding every
-every-at zero p h i lt = absurd (omega arith)
-every-at (suc n) p h i lt =
-    let a = both (every n p) (p n) h in
-    elim (ℕ-discrete i n) [ yes e ↦ rw e (a .1) | no d ↦ every-at n p (a .0) i (omega arith) ]
+pub rest-small : (z : ℤ) → natAbs (z -ℤ pos 65536 *ℤ shrZ z 65536) ≤ 65535
+rest-small = each _ λ p q. simp lin (omega arith)
+
+pub positive : (z : ℤ) → T (nonNeg z) → pos (natAbs z) ≡ z
+positive (pos n) h = refl
+positive (negsuc n) h = absurd h

@@ -28,7 +28,7 @@ use Rattle.reader.specs.Slots.{slot, rowPlace, setRow, bandFed, lowRowTa
 use Rattle.reader.specs.Work.{setMade, setWorked}
 use Rattle.reader.specs.Store.{stretchAt, from, behind, fedAt, workedAt}
 use Rattle.reader.specs.Machine.{Place, place, bandAt, nextAt, settled, finished, beyond, fedOn, dive, enter}
-use Rattle.reader.proofs.SetLaws.{opens-next, same-set, setOf-there, rowAt-next, rowAt-there, rowAt-first}
+use Rattle.reader.proofs.OpenedSets.{opens-next, same-set, setOf-there, rowAt-next, rowAt-there, rowAt-first}
 use Rattle.reader.proofs.StepsLeft.{named-code, code-lt, first-le}
 use Rattle.reader.proofs.RowsIn.{apart, parity, Is, Only, is-old, only-fed, fed-here, fed-beside, only-taken, taken-is, taken-beside}
 use Rattle.reader.proofs.SetMade.{Outcome, stops, goes, bind-outcome, Needs, Leaves, set-made}

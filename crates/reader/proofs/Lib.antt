@@ -2,6 +2,7 @@ pub mod HeightLaws
 pub mod AreaLaws
 pub mod WeaveLaws
 pub mod SetLaws
+pub mod OpenedSets
 pub mod StepsLeft
 pub mod RowsIn
 pub mod SetMade
@@ -11,3 +12,10 @@ pub mod Reached
 pub mod Rebuilt
 pub mod Demand3
 pub mod Played
+pub mod SlotLaws
+pub mod RangeLaws
+pub mod WorkLaws
+pub mod StoreLaws
+pub mod EnterLaws
+pub mod WalkLaws
+pub mod PartLaws

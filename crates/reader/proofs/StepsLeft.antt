@@ -16,7 +16,7 @@ use Rattle.wavelet.specs.Steps.{Step, feed, draw, feedAll, rowSteps, setSteps, 
 use Rattle.reader.specs.Sets.{setOf, opens, rowAt}
 use Rattle.reader.specs.Asked.{keptAt, asked, bandsFrom, those, look, firstCode, nextBand, named}
 use Rattle.reader.specs.Machine.{Place, place, bandAt, nextAt, beyond, dive, enter}
-use Rattle.reader.proofs.SetLaws.{opens-row, opens-set, opens-first, rowAt-next, rowAt-there, rowAt-first}
+use Rattle.reader.proofs.OpenedSets.{opens-row, opens-set, opens-first, rowAt-next, rowAt-there, rowAt-first}
 
 -- ---- the bands that a set still asks for
 pub named-code : (b : Band) → named (code b) ≡ b

@@ -1,4 +1,5 @@
 // The steps of a reader: the row that it wants, a row fed, a height row made ready. Each of a state whose counts are in their ranges. The module is private, as `areas` is.
+use crate::sets;
 use crate::walk;
 use crate::walk::Spot;
 use crate::Reader;
@@ -26,7 +27,7 @@ pub fn row_length(s: Reader, p: Spot) -> usize
     ensures { λ n. ⌜ n ≡ nextLength s ⌝ }
 {
     let l = walk::level_at(s.width, s.height, s.drawn, p.level - 1);
-    walk::band_length(l.width, p.band)
+    sets::band_columns(l.width, p.band)
 }
 
 pub fn row_number(s: Reader, p: Spot) -> usize

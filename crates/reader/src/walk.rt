@@ -114,14 +114,6 @@ pub fn next_at(
     Spot { level: 0, band: 4 }
 }
 
-// How many numbers the row of a band code has, of a row of w.
-pub fn band_length(w: usize, band: usize) -> usize
-    requires { ⌜ band < 4 ⌝ }
-    ensures { λ n. ⌜ n ≡ count (across (named band)) w ⌝ }
-{
-    if band % 2 == 0 { sizes::half(w) } else { w / 2 }
-}
-
 // Where the half row of a band of set n begins, in its level's stretch.
 fn half_place(w: usize, n: usize, band: usize) -> usize
     requires { ⌜ (band < 4) × (w ≤ 65536) × (n ≤ 4294967296) ⌝ }

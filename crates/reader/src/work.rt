@@ -82,6 +82,7 @@ fn least(a: usize, b: usize) -> usize
 
 // The least and the largest value that a row made at level k + 1 may have.
 fn lowest_of(k: usize) -> i32
+    requires { ⌜ k ≤ maxLevels ⌝ }
     ensures { λ r. ⌜ r ≡ lowestOf k ⌝ }
 {
     if k == 0 { 0 } else { -sizes::range_of(k) }
@@ -161,8 +162,9 @@ pub fn work_set(stretch: &mut [i32], last: bool, k: usize, w: usize, h: usize, n
     requires { ⌜ (w ≤ 65536) × (4 * w + 4 * pick last 0 (count lo w) ≤ length (now stretch)) × (n < count lo h) × (h ≤ 4294967295) × (k ≤ maxLevels) ⌝ }
     ensures { λ ok. ⌜ outcome ok (at (now (stretch .exit))) ≡ setWorked last k w h n (at (now (stretch .entry))) ⌝ }
 {
-    if !last {
-        take_low_row(stretch, w, n);
+    if last {
+        return make_set(stretch, k, w, h, n);
     }
+    take_low_row(stretch, w, n);
     make_set(stretch, k, w, h, n)
 }

@@ -1,82 +1,89 @@
+-- `reader::areas::draw_heights` meets its contract: a sweep over the heights, a pair a turn, the last of an odd row after the loop. Assumes nothing.
+use mathlib.Core.Path.{_≡_, _∙_}
+use Prim.Native.Nat.{_-_, _*_, _/_, _≤_}
+use native.Mathlib.Omega.{arith}
+use lib.ListN.{length}
+use Rattle.numbers.specs.Signal.{at}
+use Rattle.numbers.proofs.Sweep.{Swept}
+use Rattle.reader.specs.Areas.{heightsAt, wholes, height16}
+use Rattle.reader.proofs.AreaLaws.{front-rest}
+use Rattle.reader.proofs.HeightLaws.{start-heights, finish-heights}
+use Rattle.reader.proofs.WeaveLaws.{laid, lay-turn, lay-last, finish-drawn}
 use Rattle.reader.proofs.areas.draw_heights.Statement.{statement}
 use Rattle.reader.proofs.areas.draw_heights.Tie as tie
-use Rattle.reader.proofs.areas.draw_heights.Reads as reads
-use Rattle.reader.proofs.areas.draw_heights.Lts as lts
-use Rattle.reader.proofs.areas.draw_at.Reads as draw-at-reads
 
 abbrev Inv-loop : tie.InvT-loop
-Inv-loop row out₀ n high low j₀ out j = ?
+Inv-loop row out₀ n high low j₀ out j =
+    (length row ≤ length out₀) × (n ≡ length row) × (high ≡ length row / 2) × (low ≡ length row - length row / 2) × (j ≤ high)
+    × (length out ≡ length out₀) × Swept (length out₀) (laid (length row) height16 (at row) (heightsAt out₀)) (heightsAt out₀) (2 * j) (wholes out)
 
 abbrev μ-loop : tie.MeasureT-loop
-μ-loop row out₀ n high low j₀ out j = ?
+μ-loop row out₀ n high low j₀ out j = high - j
 
--- src/areas.rt:98:15
 sub-low : tie.Need-sub-low Inv-loop μ-loop
-sub-low c = ?
+sub-low c = omega arith
 
--- src/areas.rt:100:5
 loop-holds : tie.Need-loop-holds Inv-loop μ-loop
-loop-holds c = ?
+loop-holds c =
+    (omega arith, omega arith, omega arith, omega arith, omega arith, omega arith, start-heights (c .before .args .out .now) _ 0 (λ j lt. absurd (omega arith)))
 
--- src/areas.rt:101:30
 mul-draw-at : tie.Need-mul-draw-at Inv-loop μ-loop
-mul-draw-at c = ?
+mul-draw-at c = omega arith
 
--- src/areas.rt:101:9
 draw-at-requires : tie.Need-draw-at-requires Inv-loop μ-loop
-draw-at-requires c κs = ?
+draw-at-requires c κs = omega arith
 
--- src/areas.rt:102:22
 add-draw-at : tie.Need-add-draw-at Inv-loop μ-loop
-add-draw-at c = ?
+add-draw-at c = omega arith
 
--- src/areas.rt:102:36
 mul-draw-at-2 : tie.Need-mul-draw-at-2 Inv-loop μ-loop
-mul-draw-at-2 c = ?
+mul-draw-at-2 c = omega arith
 
--- src/areas.rt:102:36
 add-draw-at-2 : tie.Need-add-draw-at-2 Inv-loop μ-loop
-add-draw-at-2 c = ?
+add-draw-at-2 c = omega arith
 
--- src/areas.rt:102:9
 draw-at-requires-2 : tie.Need-draw-at-requires-2 Inv-loop μ-loop
-draw-at-requires-2 c κs = ?
+draw-at-requires-2 c κs = omega arith
 
--- src/areas.rt:103:9
 add-j : tie.Need-add-j Inv-loop μ-loop
-add-j c = ?
+add-j c = omega arith
 
--- src/areas.rt:100:5
 loop-less : tie.Need-loop-less Inv-loop μ-loop
-loop-less c = ?
+loop-less c = omega arith
 
--- src/areas.rt:100:5
 loop-again : tie.Need-loop-again Inv-loop μ-loop
-loop-again c = ?
+loop-again c =
+    let two = c .before .before in
+    let one = two .before .before .before .before in
+    let head = one .before .before .before in
+    let x = head .before .before .args .row .now in
+    let inv = head .loop .inv in
+    (inv .0, inv .1, inv .2, inv .3, omega arith, two .draw-at2 .kept .1 .1 .0 ∙ one .draw-at .kept .1 .1 .0 ∙ inv .5,
+      rw (two .draw-at2 .ensures, one .draw-at .ensures)
+          (lay-turn (length x) height16 (at x) _ _ _ (head .loop .j) _ (inv .3) (inv .0) (inv .6) (omega arith)))
 
--- src/areas.rt:106:30
 mul-draw-at-3 : tie.Need-mul-draw-at-3 Inv-loop μ-loop
-mul-draw-at-3 c = ?
+mul-draw-at-3 c = omega arith
 
--- src/areas.rt:106:9
 draw-at-requires-3 : tie.Need-draw-at-requires-3 Inv-loop μ-loop
-draw-at-requires-3 c κs = ?
+draw-at-requires-3 c κs = omega arith
 
--- src/areas.rt:92:1
 same-length : tie.Need-same-length Inv-loop μ-loop
-same-length c = ?
+same-length c = c .before .before .draw-at3 .kept .1 .1 .0 ∙ c .before .before .before .before .before .before .loop .inv .5
 
--- src/areas.rt:92:1
 returns : tie.Need-returns Inv-loop μ-loop
-returns c = ?
+returns c =
+    let head = c .before .before .before .before .before .before in
+    let x = head .before .before .args .row .now in
+    let inv = head .loop .inv in
+    let made = lay-last (length x) height16 (at x) _ _ _ (head .loop .j) _ (inv .3) (inv .0) (inv .6) (omega arith) in
+    finish-drawn (length x) height16 (at x) _ _ _ (head .loop .j) (c .before .before .draw-at3 .last .1 .1 .0) _ (inv .3) made (c .before .before .draw-at3 .ensures) (omega arith)
 
--- src/areas.rt:92:1
 same-length-2 : tie.Need-same-length-2 Inv-loop μ-loop
-same-length-2 c = ?
+same-length-2 c = c .before .before .loop .inv .5
 
--- src/areas.rt:92:1
 returns-2 : tie.Need-returns-2 Inv-loop μ-loop
-returns-2 c = ?
+returns-2 c = finish-heights (c .before .before .loop .out) (c .before .before .loop .inv .6) (λ j le. front-rest _ _ _ j (omega arith))
 
 pub draw-heights-spec : {M : Type 1} → statement M
 draw-heights-spec =

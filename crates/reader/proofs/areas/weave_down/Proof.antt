@@ -1,106 +1,102 @@
+-- `reader::areas::weave_down` meets its contract: a sweep from place `to` on, a pair a turn, the last of an odd row after the loop. Assumes nothing.
+use mathlib.Core.Path.{_≡_, _∙_}
+use Prim.Native.Nat.{_+_, _-_, _*_, _/_, _≤_}
+use native.Mathlib.Omega.{arith}
+use lib.ListN.{length}
+use Rattle.numbers.specs.Signal.{at}
+use Rattle.numbers.proofs.Sweep.{Swept, start, finish}
+use Rattle.numbers.proofs.Parts.{splice-below, splice-past}
+use Rattle.reader.proofs.WeaveLaws.{woven, weave-turn, weave-last}
 use Rattle.reader.proofs.areas.weave_down.Statement.{statement}
 use Rattle.reader.proofs.areas.weave_down.Tie as tie
-use Rattle.reader.proofs.areas.weave_down.Reads as reads
-use Rattle.reader.proofs.areas.weave_down.Lts as lts
-use Rattle.reader.proofs.areas.move_at.Reads as move-at-reads
 
 abbrev Inv-loop : tie.InvT-loop
-Inv-loop area₀ from to n high low j₀ area j = ?
+Inv-loop area₀ from to n high low j₀ area j =
+    (to + n ≤ from) × (from + n ≤ length area₀) × (high ≡ n / 2) × (low ≡ n - n / 2) × (j ≤ high)
+    × (length area ≡ length area₀) × Swept (length area₀) (woven from to n (at area₀)) (at area₀) (to + 2 * j) area
 
 abbrev μ-loop : tie.MeasureT-loop
-μ-loop area₀ from to n high low j₀ area j = ?
+μ-loop area₀ from to n high low j₀ area j = high - j
 
--- src/areas.rt:64:15
 sub-low : tie.Need-sub-low Inv-loop μ-loop
-sub-low c = ?
+sub-low c = omega arith
 
--- src/areas.rt:66:5
 loop-holds : tie.Need-loop-holds Inv-loop μ-loop
-loop-holds c = ?
+loop-holds c =
+    (omega arith, omega arith, omega arith, omega arith, omega arith, omega arith, start _ _ _ (λ j lt. splice-below _ _ _ _ j (omega arith)))
 
--- src/areas.rt:67:28
 mul-move-at : tie.Need-mul-move-at Inv-loop μ-loop
-mul-move-at c = ?
+mul-move-at c = omega arith
 
--- src/areas.rt:67:23
 add-move-at : tie.Need-add-move-at Inv-loop μ-loop
-add-move-at c = ?
+add-move-at c = omega arith
 
--- src/areas.rt:67:35
 add-move-at-2 : tie.Need-add-move-at-2 Inv-loop μ-loop
-add-move-at-2 c = ?
+add-move-at-2 c = omega arith
 
--- src/areas.rt:67:9
 move-at-requires : tie.Need-move-at-requires Inv-loop μ-loop
-move-at-requires c κs = ?
+move-at-requires c κs = omega arith
 
--- src/areas.rt:68:28
 mul-move-at-2 : tie.Need-mul-move-at-2 Inv-loop μ-loop
-mul-move-at-2 c = ?
+mul-move-at-2 c = omega arith
 
--- src/areas.rt:68:23
 add-move-at-3 : tie.Need-add-move-at-3 Inv-loop μ-loop
-add-move-at-3 c = ?
+add-move-at-3 c = omega arith
 
--- src/areas.rt:68:23
 add-move-at-4 : tie.Need-add-move-at-4 Inv-loop μ-loop
-add-move-at-4 c = ?
+add-move-at-4 c = omega arith
 
--- src/areas.rt:68:39
 add-move-at-5 : tie.Need-add-move-at-5 Inv-loop μ-loop
-add-move-at-5 c = ?
+add-move-at-5 c = omega arith
 
--- src/areas.rt:68:39
 add-move-at-6 : tie.Need-add-move-at-6 Inv-loop μ-loop
-add-move-at-6 c = ?
+add-move-at-6 c = omega arith
 
--- src/areas.rt:68:9
 move-at-requires-2 : tie.Need-move-at-requires-2 Inv-loop μ-loop
-move-at-requires-2 c κs = ?
+move-at-requires-2 c κs = omega arith
 
--- src/areas.rt:69:9
 add-j : tie.Need-add-j Inv-loop μ-loop
-add-j c = ?
+add-j c = omega arith
 
--- src/areas.rt:66:5
 loop-less : tie.Need-loop-less Inv-loop μ-loop
-loop-less c = ?
+loop-less c = omega arith
 
--- src/areas.rt:66:5
 loop-again : tie.Need-loop-again Inv-loop μ-loop
-loop-again c = ?
+loop-again c =
+    let one = c .before .before .before .before in
+    let head = one .before .before .before in
+    let inv = head .loop .inv in
+    (inv .0, inv .1, inv .2, inv .3, omega arith, c .before .move-at2 .kept .0 ∙ one .move-at .kept .0 ∙ inv .5,
+      rw (c .before .move-at2 .ensures, one .move-at .ensures)
+          (weave-turn _ _ _ _ _ _ (head .loop .j) (head .loop .area) (inv .3) (inv .0) (inv .1) (inv .6) (omega arith)))
 
--- src/areas.rt:72:28
 mul-move-at-3 : tie.Need-mul-move-at-3 Inv-loop μ-loop
-mul-move-at-3 c = ?
+mul-move-at-3 c = omega arith
 
--- src/areas.rt:72:23
 add-move-at-7 : tie.Need-add-move-at-7 Inv-loop μ-loop
-add-move-at-7 c = ?
+add-move-at-7 c = omega arith
 
--- src/areas.rt:72:35
 add-move-at-8 : tie.Need-add-move-at-8 Inv-loop μ-loop
-add-move-at-8 c = ?
+add-move-at-8 c = omega arith
 
--- src/areas.rt:72:9
 move-at-requires-3 : tie.Need-move-at-requires-3 Inv-loop μ-loop
-move-at-requires-3 c κs = ?
+move-at-requires-3 c κs = omega arith
 
--- src/areas.rt:59:1
 same-length : tie.Need-same-length Inv-loop μ-loop
-same-length c = ?
+same-length c = c .before .move-at3 .kept .0 ∙ c .before .before .before .before .before .loop .inv .5
 
--- src/areas.rt:59:1
 returns : tie.Need-returns Inv-loop μ-loop
-returns c = ?
+returns c =
+    let head = c .before .before .before .before .before in
+    let inv = head .loop .inv in
+    rw (c .before .move-at3 .ensures)
+    (finish (weave-last _ _ _ _ _ _ (head .loop .j) (head .loop .area) (inv .3) (inv .0) (inv .1) (inv .6) (omega arith)) (λ j le. splice-past _ _ _ _ j (omega arith)))
 
--- src/areas.rt:59:1
 same-length-2 : tie.Need-same-length-2 Inv-loop μ-loop
-same-length-2 c = ?
+same-length-2 c = c .before .before .loop .inv .5
 
--- src/areas.rt:59:1
 returns-2 : tie.Need-returns-2 Inv-loop μ-loop
-returns-2 c = ?
+returns-2 c = finish (c .before .before .loop .inv .6) (λ j le. splice-past _ _ _ _ j (omega arith))
 
 pub weave-down-spec : {M : Type 1} → statement M
 weave-down-spec =

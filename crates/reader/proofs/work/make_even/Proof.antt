@@ -1,35 +1,33 @@
+-- `reader::work::make_even` meets its contract: the rows lifted back, the even row, its test. Assumes nothing.
+use mathlib.Core.Path.{_≡_, _∙_}
+use native.Mathlib.Omega.{arith}
 use borrow.Author.Needs.{needs}
+use Rattle.wavelet.proofs.SizeLaws.{count-lo}
+use Rattle.reader.proofs.WorkLaws.{even-made}
 use Rattle.reader.proofs.work.make_even.Statement.{statement}
 use Rattle.reader.proofs.work.make_even.Tie as tie
-use Rattle.reader.proofs.work.make_even.Reads as reads
-use Rattle.reader.proofs.work.make_even.Lts as lts
-use Rattle.reader.proofs.work.admit_row.Reads as admit-row-reads
-use Rattle.reader.proofs.work.undo_even.Reads as undo-even-reads
-use Rattle.reader.proofs.work.unlift_set.Reads as unlift-set-reads
 
--- src/work.rt:104:5
 unlift-set-requires : tie.Need-unlift-set-requires
-unlift-set-requires c κs = ?
+unlift-set-requires c κs = omega (arith, count-lo (c .before .args .h))
 
--- src/work.rt:105:5
 undo-even-requires : tie.Need-undo-even-requires
 undo-even-requires c κs = search needs
 
--- src/work.rt:106:30
 mul-admit-row : tie.Need-mul-admit-row
-mul-admit-row c = ?
+mul-admit-row c = omega (arith, count-lo (c .before .before .before .before .before .before .before .args .h))
 
--- src/work.rt:106:5
 admit-row-requires : tie.Need-admit-row-requires
 admit-row-requires c κs = search needs
 
--- src/work.rt:100:1
 same-length : tie.Need-same-length
 same-length c = search needs
 
--- src/work.rt:100:1
 returns : tie.Need-returns
-returns c = ?
+returns c =
+    let undo = c .before .before .before in
+    let lift = undo .before .before .before in
+    let a = lift .before .before .args in
+    even-made (a .k) (a .w) (a .h) (a .n) _ _ _ _ (lift .unlift-set .ensures) (undo .undo-even .ensures) (c .admit-row .ensures)
 
 pub make-even-spec : {M : Type 1} → statement M
 make-even-spec =

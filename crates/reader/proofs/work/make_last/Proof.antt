@@ -1,46 +1,42 @@
+-- `reader::work::make_last` meets its contract: no row, or the last row and its test. Assumes nothing.
+use mathlib.Core.Path.{_≡_, _∙_}
+use native.Mathlib.Omega.{arith}
 use borrow.Author.Needs.{needs}
+use Rattle.wavelet.proofs.SizeLaws.{count-lo}
+use Rattle.reader.proofs.WorkLaws.{last-none, last-made}
 use Rattle.reader.proofs.work.make_last.Statement.{statement}
 use Rattle.reader.proofs.work.make_last.Tie as tie
-use Rattle.reader.proofs.work.make_last.Reads as reads
-use Rattle.reader.proofs.work.make_last.Lts as lts
-use Rattle.reader.proofs.work.admit_row.Reads as admit-row-reads
-use Rattle.reader.proofs.work.undo_odd.Reads as undo-odd-reads
 
--- src/work.rt:126:8
 mul-if1 : tie.Need-mul-if1
-mul-if1 c = ?
+mul-if1 c = omega (arith, count-lo (c .args .h))
 
--- src/work.rt:126:8
 add-if1 : tie.Need-add-if1
-add-if1 c = ?
+add-if1 c = omega (arith, count-lo (c .args .h))
 
--- src/work.rt:127:9
 returns : tie.Need-returns
-returns c = ?
+returns c = let a = c .before .args in last-none (a .k) (a .w) (a .h) (a .n) _ (c .if1 .taken)
 
--- src/work.rt:129:5
 undo-odd-requires : tie.Need-undo-odd-requires
 undo-odd-requires c κs = search needs
 
--- src/work.rt:130:30
 mul-admit-row : tie.Need-mul-admit-row
-mul-admit-row c = search needs
+mul-admit-row c = omega (arith, count-lo (c .before .before .before .before .before .args .h))
 
--- src/work.rt:130:30
 add-admit-row : tie.Need-add-admit-row
-add-admit-row c = search needs
+add-admit-row c = omega (arith, count-lo (c .before .before .before .before .before .args .h))
 
--- src/work.rt:130:5
 admit-row-requires : tie.Need-admit-row-requires
 admit-row-requires c κs = search needs
 
--- src/work.rt:122:1
 same-length : tie.Need-same-length
 same-length c = search needs
 
--- src/work.rt:122:1
 returns-2 : tie.Need-returns-2
-returns-2 c = ?
+returns-2 c =
+    let undo = c .before .before .before in
+    let even = undo .before .before in
+    let a = even .before .args in
+    last-made (a .k) (a .w) (a .h) (a .n) _ _ _ (even .if1 .left) (undo .undo-odd .ensures) (c .admit-row .ensures)
 
 pub make-last-spec : {M : Type 1} → statement M
 make-last-spec =

@@ -1,42 +1,39 @@
+-- `reader::work::make_odd` meets its contract: no row, or the odd row and its test. Assumes nothing.
+use mathlib.Core.Path.{_≡_, _∙_}
+use native.Mathlib.Omega.{arith}
 use borrow.Author.Needs.{needs}
+use Rattle.wavelet.proofs.SizeLaws.{count-lo}
+use Rattle.reader.proofs.WorkLaws.{odd-none, odd-made}
 use Rattle.reader.proofs.work.make_odd.Statement.{statement}
 use Rattle.reader.proofs.work.make_odd.Tie as tie
-use Rattle.reader.proofs.work.make_odd.Reads as reads
-use Rattle.reader.proofs.work.make_odd.Lts as lts
-use Rattle.reader.proofs.work.admit_row.Reads as admit-row-reads
-use Rattle.reader.proofs.work.undo_odd.Reads as undo-odd-reads
 
--- src/work.rt:115:9
 returns : tie.Need-returns
-returns c = ?
+returns c = let a = c .before .args in odd-none (a .k) (a .w) (a .h) (a .n) _ (c .if1 .taken)
 
--- src/work.rt:117:29
 sub-undo-odd : tie.Need-sub-undo-odd
 sub-undo-odd c = search needs
 
--- src/work.rt:117:5
 undo-odd-requires : tie.Need-undo-odd-requires
 undo-odd-requires c κs = search needs
 
--- src/work.rt:118:30
 mul-admit-row : tie.Need-mul-admit-row
-mul-admit-row c = ?
+mul-admit-row c = omega (arith, count-lo (c .before .before .before .before .before .args .h))
 
--- src/work.rt:118:30
 sub-admit-row : tie.Need-sub-admit-row
 sub-admit-row c = search needs
 
--- src/work.rt:118:5
 admit-row-requires : tie.Need-admit-row-requires
 admit-row-requires c κs = search needs
 
--- src/work.rt:110:1
 same-length : tie.Need-same-length
 same-length c = search needs
 
--- src/work.rt:110:1
 returns-2 : tie.Need-returns-2
-returns-2 c = ?
+returns-2 c =
+    let undo = c .before .before .before in
+    let some = undo .before .before in
+    let a = some .before .args in
+    odd-made (a .k) (a .w) (a .h) (a .n) _ _ _ (some .if1 .left) (undo .undo-odd .ensures) (c .admit-row .ensures)
 
 pub make-odd-spec : {M : Type 1} → statement M
 make-odd-spec =

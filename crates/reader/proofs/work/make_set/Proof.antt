@@ -1,47 +1,55 @@
+-- `reader::work::make_set` meets its contract: one row after another, as long as they fit. Assumes nothing.
+use mathlib.Core.Path.{_≡_, _∙_}
+use native.Mathlib.Omega.{arith}
+use Rattle.numbers.specs.Signal.{at}
 use borrow.Author.Needs.{needs}
+use borrow.Author.Tests.{not-true, not-false}
+use Rattle.reader.proofs.WorkLaws.{told-no, told-yes, made-1, made-2, made-3}
 use Rattle.reader.proofs.work.make_set.Statement.{statement}
 use Rattle.reader.proofs.work.make_set.Tie as tie
-use Rattle.reader.proofs.work.make_set.Reads as reads
-use Rattle.reader.proofs.work.make_set.Lts as lts
-use Rattle.reader.proofs.work.make_even.Reads as make-even-reads
-use Rattle.reader.proofs.work.make_last.Reads as make-last-reads
-use Rattle.reader.proofs.work.make_odd.Reads as make-odd-reads
 
--- src/work.rt:138:9
 make-even-requires : tie.Need-make-even-requires
 make-even-requires c κs = search needs
 
--- src/work.rt:139:9
 same-length : tie.Need-same-length
 same-length c = search needs
 
--- src/work.rt:139:9
 returns : tie.Need-returns
-returns c = ?
+returns c =
+    let one = c .before .before in
+    let a = one .before .before .args in
+    made-1 (a .k) (a .w) (a .h) (a .n) _ (told-no (one .make-even .result) (at (one .make-even .last .0)) _ (one .make-even .ensures) (not-true _ (c .if1 .taken)))
 
--- src/work.rt:141:9
 make-odd-requires : tie.Need-make-odd-requires
 make-odd-requires c κs = search needs
 
--- src/work.rt:142:9
 same-length-2 : tie.Need-same-length-2
 same-length-2 c = search needs
 
--- src/work.rt:142:9
 returns-2 : tie.Need-returns-2
-returns-2 c = ?
+returns-2 c =
+    let two = c .before .before in
+    let went = two .before .before in
+    let one = went .before .before in
+    let a = one .before .before .args in
+    made-2 (a .k) (a .w) (a .h) (a .n) _ _ (told-yes (one .make-even .result) (at (one .make-even .last .0)) _ (one .make-even .ensures) (not-false _ (went .if1 .left))) (told-no (two .make-odd .result) (at (two .make-odd .last .0)) _ (two .make-odd .ensures) (not-true _ (c .if2 .taken)))
 
--- src/work.rt:144:5
 make-last-requires : tie.Need-make-last-requires
 make-last-requires c κs = search needs
 
--- src/work.rt:134:1
 same-length-3 : tie.Need-same-length-3
 same-length-3 c = search needs
 
--- src/work.rt:134:1
 returns-3 : tie.Need-returns-3
-returns-3 c = ?
+returns-3 c =
+    let three = c .before in
+    let on = three .before .before in
+    let two = on .before .before in
+    let went = two .before .before in
+    let one = went .before .before in
+    let a = one .before .before .args in
+    three .make-last .ensures
+    ∙ made-3 (a .k) (a .w) (a .h) (a .n) _ _ (told-yes (one .make-even .result) (at (one .make-even .last .0)) _ (one .make-even .ensures) (not-false _ (went .if1 .left))) _ (told-yes (two .make-odd .result) (at (two .make-odd .last .0)) _ (two .make-odd .ensures) (not-false _ (on .if2 .left)))
 
 pub make-set-spec : {M : Type 1} → statement M
 make-set-spec =

@@ -1,55 +1,51 @@
+-- `reader::work::undo_odd` meets its contract: the row call, on slots. Assumes nothing.
+use mathlib.Core.Path.{_≡_, _∙_, sym, ap}
+use Prim.Native.Nat.{ℕ, _+_, _-_, min}
+use native.Mathlib.Omega.{arith}
 use borrow.Author.Needs.{needs}
+use Rattle.wavelet.proofs.SizeLaws.{count-lo, count-hi}
+use Rattle.reader.proofs.SlotLaws.{odd-by}
 use Rattle.reader.proofs.work.undo_odd.Statement.{statement}
 use Rattle.reader.proofs.work.undo_odd.Tie as tie
-use Rattle.reader.proofs.work.undo_odd.Reads as reads
-use Rattle.reader.proofs.work.undo_odd.Lts as lts
-use Rattle.lifting.proofs.rows.unpredict_row.Reads as unpredict-row-reads
-use Rattle.reader.proofs.work.least.Reads as least-reads
-use Rattle.wavelet.proofs.sizes.half.Reads as half-reads
 
--- src/work.rt:71:23
 add-least : tie.Need-add-least
-add-least c = ?
+add-least c = omega (arith, count-lo (c .args .h))
 
--- src/work.rt:71:30
 half-requires : tie.Need-half-requires
 half-requires c κs = search needs
 
--- src/work.rt:71:30
 sub-least : tie.Need-sub-least
 sub-least c = search needs
 
--- src/work.rt:71:17
 least-requires : tie.Need-least-requires
 least-requires c κs = search needs
 
--- src/work.rt:71:13
 mul-r : tie.Need-mul-r
-mul-r c = ?
+mul-r c = omega (arith, count-lo (c .before .before .args .h))
 
--- src/work.rt:72:41
 mul-unpredict-row : tie.Need-mul-unpredict-row
-mul-unpredict-row c = ?
+mul-unpredict-row c = omega (arith, count-lo (c .before .before .before .args .h))
 
--- src/work.rt:72:41
 add-unpredict-row : tie.Need-add-unpredict-row
-add-unpredict-row c = ?
+add-unpredict-row c = omega (arith, count-lo (c .before .before .before .args .h))
 
--- src/work.rt:72:57
 mul-unpredict-row-2 : tie.Need-mul-unpredict-row-2
-mul-unpredict-row-2 c = ?
+mul-unpredict-row-2 c = omega (arith, count-lo (c .before .before .before .args .h))
 
--- src/work.rt:72:5
 unpredict-row-requires : tie.Need-unpredict-row-requires
 unpredict-row-requires c κs = search needs
 
--- src/work.rt:67:1
 same-length : tie.Need-same-length
 same-length c = search needs
 
--- src/work.rt:67:1
 returns : tie.Need-returns
-returns c = ?
+returns c =
+    let call = c .before in
+    let least = call .before .before in
+    let half = least .before in
+    let a = half .before .args in
+    call .unpredict-row .ensures .1
+    ∙ odd-by (a .w) (a .h) (a .m) _ _ _ (half .before .pre .1) (least .least .ensures ∙ ap (λ (q : ℕ). min (a .m + 1) (q - 1)) (half .half .ensures))
 
 pub undo-odd-spec : {M : Type 1} → statement M
 undo-odd-spec =
