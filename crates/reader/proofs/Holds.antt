@@ -26,6 +26,7 @@ use Rattle.reader.specs.Asked.{keptAt, asked, bandsFrom, those, look, fi
 use Rattle.reader.specs.Tried.{Tried, passed, bind, onto}
 use Rattle.reader.specs.Slots.{slot, rowPlace, setRow, bandFed, lowRowTaken}
 use Rattle.reader.specs.Work.{setMade, setWorked}
+use Rattle.reader.specs.Holds.{SetBefore, BandStands}
 use Rattle.reader.specs.Store.{stretchAt, from, behind, fedAt, workedAt}
 use Rattle.reader.specs.Machine.{Place, place, bandAt, nextAt, settled, finished, beyond, fedOn, dive, enter}
 use Rattle.reader.proofs.OpenedSets.{opens-next, same-set, setOf-there, rowAt-next, rowAt-there, rowAt-first}
@@ -126,13 +127,12 @@ module _ (W H l : ℕ) (g : Grid) (words : OnCells (SFits w32) W H g) where
   LeavesAt k n m = Leaves k (size k W) (size k H) (G k) (words-at k) n m
 
   -- what of the set before set n is still needed
-  pub record Before (k n : ℕ) (m : ℕ → ℤ) : Type 0 where
-    pub even : (p : ℕ) → n ≡ suc p → Is (size k W) m (2 * p) (parted (G k (2 * p)))
-    pub high : (p : ℕ) → n ≡ suc p → Is (size k W) m (2 * p + 1) (parted (columnsLifted wrap32 (size k H) (G k) hi p))
+  abbrev pub Before : ℕ → ℕ → (ℕ → ℤ) → Type 0
+  Before k n m = SetBefore (size k W) (size k H) (G k) n m
 
   -- row n of band c is there, if there is one
   abbrev pub Got : ℕ → ℕ → (ℕ → ℤ) → Band → Type 0
-  Got k n m c = n < count (down c) (size k H) → (i : ℕ) → i < count (across c) (size k W) → m (rowPlace (size k W) (setRow (down c) n) + placed (across c) (size k W) i) ≡ subband wrap32 (size k W) (size k H) (G k) c n i
+  Got k n m c = BandStands (size k W) (size k H) (G k) n m c
 
   -- ---- what the store x holds while row d is waited for: coarser levels have their set, this level has the bands before b, finer ones wait
   pub record Holds (d lev b : ℕ) (x : ℕ → ℤ) : Type 0 where

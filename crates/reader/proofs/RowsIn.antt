@@ -20,6 +20,7 @@ use Rattle.lifting.proofs.RowLaws.{row-order, row-at, row-past, row-other}
 use Rattle.wavelet.specs.Bands.{Band, across, down}
 use Rattle.wavelet.proofs.SizeLaws.{count-lo, count-hi}
 use Rattle.wavelet.proofs.LevelTheory.{placed, placed-in}
+use Rattle.reader.specs.Holds.{RowStands}
 use Rattle.reader.specs.Slots.{slot, rowPlace, setRow, halfPlace, bandFed, rowIn, rowUnlifted, rowBy, lowRowTaken}
 
 -- ---- slots
@@ -38,7 +39,7 @@ slot-lt r = omega arith
 
 -- ---- the row that stands in the slot of row r
 abbrev pub Is : ℕ → (ℕ → ℤ) → ℕ → (Half → ℕ → ℤ) → Type 0
-Is w x r c = (h : Half) (i : ℕ) → i < count h w → x (rowPlace w r + placed h w i) ≡ c h i
+Is = RowStands
 
 -- y differs from x in the slot of row t alone, of the four
 pub record Only (w t : ℕ) (x y : ℕ → ℤ) : Type 0 where

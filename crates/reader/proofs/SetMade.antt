@@ -23,6 +23,7 @@ use Rattle.wavelet.proofs.MapTheorems.{every-each, each-every}
 use Rattle.reader.specs.Sets.{setOf}
 use Rattle.reader.specs.Tried.{Tried, failed, passed, bind}
 use Rattle.reader.specs.Slots.{slot, rowPlace, rowUnlifted, rowBy}
+use Rattle.reader.specs.Holds.{SetLeaves}
 use Rattle.reader.specs.Work.{rowFits, admitted, setUnlifted, evenRow, oddRow, evenMade, oddMade, lastMade, setMade}
 use Rattle.reader.proofs.RowsIn.{apart, parity, Is, only-by, is-old, only-unlifted, unlifted-is, by-is, halves-back-forward}
 
@@ -118,11 +119,8 @@ module _ (k w h : ℕ) (G : Grid) (good : OnCells (SFits w32) w h G) where
     pub even-before : (p : ℕ) → n ≡ suc p → Is w x (2 * p) (parted (G (2 * p)))
     pub high-before : (p : ℕ) → n ≡ suc p → Is w x (2 * p + 1) (parted (cols hi p))
 
-  -- what a set leaves: the rows that it makes, each fitting, and its high row for the next set
-  pub record Leaves (n : ℕ) (x : ℕ → ℤ) : Type 0 where
-    pub made : (r : ℕ) → r < h → setOf h r ≡ n → Is w x r (parted (G r))
-    pub fit : (r : ℕ) → r < h → setOf h r ≡ n → FitRow r
-    pub high : 2 * n + 2 < h → Is w x (2 * n + 1) (parted (cols hi n))
+  abbrev pub Leaves : ℕ → (ℕ → ℤ) → Type 0
+  Leaves n x = SetLeaves k w h G n x
 
   module _ (x₀ : ℕ → ℤ) where
     -- nothing past the level's four rows has changed
