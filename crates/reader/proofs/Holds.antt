@@ -135,7 +135,7 @@ module _ (W H l : ℕ) (g : Grid) (words : OnCells (SFits w32) W H g) where
   Got k n m c = BandStands (size k W) (size k H) (G k) n m c
 
   -- ---- what the store x holds while row d is waited for: coarser levels have their set, this level has the bands before b, finer ones wait
-  pub record Holds (d lev b : ℕ) (x : ℕ → ℤ) : Type 0 where
+  pub record Held (d lev b : ℕ) (x : ℕ → ℤ) : Type 0 where
     pub below : (k : ℕ) → k ≤ l → lev ≤ k → LeavesAt k (rowAt H d (suc k)) (mem W k x)
     pub before : (k : ℕ) → k ≤ l → k < lev → Before k (rowAt H d (suc k)) (mem W k x)
     pub got : (k : ℕ) → k ≤ l → suc k ≡ lev → (c : Band) → keptAt (eqb (suc k) (suc l)) c ≡ true → code c < b → Got k (rowAt H d (suc k)) (mem W k x) c
@@ -166,7 +166,7 @@ module _ (W H l : ℕ) (g : Grid) (words : OnCells (SFits w32) W H g) where
   got-none k n m t c e f p i q = absurd (f (rw (e, lt-ltb 0 (count (across c) (size k W)) (omega arith), lt-ltb n (count (down c) (size k H)) p) refl))
 
   -- so the band that may be next may be any up to the next that is asked for
-  holds-more : (d k b b′ : ℕ) (x : ℕ → ℤ) → ((c : Band) → asked (eqb (suc k) (suc l)) (size k W) (size k H) (rowAt H d (suc k)) c ≡ true → code c < b′ → code c < b) → Holds d (suc k) b x → Holds d (suc k) b′ x
+  holds-more : (d k b b′ : ℕ) (x : ℕ → ℤ) → ((c : Band) → asked (eqb (suc k) (suc l)) (size k W) (size k H) (rowAt H d (suc k)) c ≡ true → code c < b′ → code c < b) → Held d (suc k) b x → Held d (suc k) b′ x
   holds-more d k b b′ x f s = record {
     below = s .below;
     before = s .before;
@@ -195,7 +195,7 @@ module _ (W H l : ℕ) (g : Grid) (words : OnCells (SFits w32) W H g) where
   code-same : (c e : Band) → code c ≡ code e → c ≡ e
   code-same c e z = sym (named-code c) ∙ ap named z ∙ named-code e
 
-  pub feed-holds : (d k : ℕ) (c : Band) (v x : ℕ → ℤ) → k ≤ l → ((i : ℕ) → i < count (across c) (size k W) → v i ≡ subband wrap32 (size k W) (size k H) (G k) c (rowAt H d (suc k)) i) → Holds d (suc k) (code c) x → Holds d (suc k) (code c + 1) (fedAt W H d k (code c) v x)
+  pub feed-holds : (d k : ℕ) (c : Band) (v x : ℕ → ℤ) → k ≤ l → ((i : ℕ) → i < count (across c) (size k W) → v i ≡ subband wrap32 (size k W) (size k H) (G k) c (rowAt H d (suc k)) i) → Held d (suc k) (code c) x → Held d (suc k) (code c + 1) (fedAt W H d k (code c) v x)
   unfolding fedAt
   feed-holds d k c v x inside row s =
       rw (named-code c) (record {
@@ -229,7 +229,7 @@ module _ (W H l : ℕ) (g : Grid) (words : OnCells (SFits w32) W H g) where
       at b less kept p i q = here W k x y past _ ∙ in-y b less kept p i q
 
   -- ---- a set worked out
-  module _ (d k : ℕ) (x : ℕ → ℤ) (inside : k ≤ l) (due : d < H) (s : Holds d (suc k) 4 x) where
+  module _ (d k : ℕ) (x : ℕ → ℤ) (inside : k ≤ l) (due : d < H) (s : Held d (suc k) 4 x) where
     abbrev n : ℕ
     n = rowAt H d (suc k)
 
@@ -302,7 +302,7 @@ module _ (W H l : ℕ) (g : Grid) (words : OnCells (SFits w32) W H g) where
     before-taken = before-only k n lo m taken (only-taken (size k W) n m) before-here
 
     -- the whole store after it
-    worked : (y : ℕ → ℤ) → LeavesAt k n y × ((j : ℕ) → 4 * size k W ≤ j → y j ≡ m j) → Holds d k 1 (behind (stretchAt W k) x y)
+    worked : (y : ℕ → ℤ) → LeavesAt k n y × ((j : ℕ) → 4 * size k W ≤ j → y j ≡ m j) → Held d k 1 (behind (stretchAt W k) x y)
     worked y a = record {
       below = λ j h e. elim (ℕ-discrete j k) [
         | yes z ↦ rw z (leaves-same k n y _ (λ i _. here W k x y (a .1) i) (a .0))
@@ -320,7 +320,7 @@ module _ (W H l : ℕ) (g : Grid) (words : OnCells (SFits w32) W H g) where
     onto-outcome Q P N N′ f _ a b (stops z) = stops (λ p. z (a p))
     onto-outcome Q P N N′ f _ a b (goes y q) = goes (f y) (b y q)
 
-    pub work-holds : Outcome Fits (Holds d k 1) (workedAt W H (suc l) d k x)
+    pub work-holds : Outcome Fits (Held d k 1) (workedAt W H (suc l) d k x)
     unfolding workedAt setWorked
     work-holds = onto-outcome _ _ _ _ (behind (stretchAt W k) x) _ (λ a r c p q. a k r c inside p q) worked (go (ℕ-discrete k l))
       where
@@ -330,7 +330,7 @@ module _ (W H l : ℕ) (g : Grid) (words : OnCells (SFits w32) W H g) where
 
   -- ---- the sets that wait
   -- a set of which no band from b on is asked for has all of them
-  holds-all : (d k b : ℕ) (x : ℕ → ℤ) → look (eqb (suc k) (suc l)) (size k W) (size k H) (rowAt H d (suc k)) b ≡ [] → Holds d (suc k) b x → Holds d (suc k) 4 x
+  holds-all : (d k b : ℕ) (x : ℕ → ℤ) → look (eqb (suc k) (suc l)) (size k W) (size k H) (rowAt H d (suc k)) b ≡ [] → Held d (suc k) b x → Held d (suc k) 4 x
   unfolding look firstCode
   holds-all d k b x e s = holds-more d k b 4 x (λ c a _. elim (decLt (code c) b) [
     | yes q ↦ q
@@ -338,15 +338,15 @@ module _ (W H l : ℕ) (g : Grid) (words : OnCells (SFits w32) W H g) where
   ]) s
 
   -- and one of which c is the first has those before c
-  holds-up : (d k b : ℕ) (x : ℕ → ℤ) (c : Band) (cs : List Band) → look (eqb (suc k) (suc l)) (size k W) (size k H) (rowAt H d (suc k)) b ≡ c ∷ cs → Holds d (suc k) b x → Holds d (suc k) (code c) x
+  holds-up : (d k b : ℕ) (x : ℕ → ℤ) (c : Band) (cs : List Band) → look (eqb (suc k) (suc l)) (size k W) (size k H) (rowAt H d (suc k)) b ≡ c ∷ cs → Held d (suc k) b x → Held d (suc k) (code c) x
   unfolding look firstCode
   holds-up d k b x c cs e s = holds-more d k b (code c) x (λ f a less. elim (decLt (code f) b) [
     | yes q ↦ q
     | no q ↦ absurd (omega (arith, first-le (asked (eqb (suc k) (suc l)) (size k W) (size k H) (rowAt H d (suc k))) b f a (omega arith), ap firstCode e))
   ]) s
 
-  abbrev HoldsAt : ℕ → Place → (ℕ → ℤ) → Type 0
-  HoldsAt d p x = Holds d (p .level) (p .band) x
+  abbrev HeldAt : ℕ → Place → (ℕ → ℤ) → Type 0
+  HeldAt d p x = Held d (p .level) (p .band) x
 
   next-le : (d lev b : ℕ) → nextAt W H (suc l) d lev b .level ≤ lev
   unfolding nextAt
@@ -357,7 +357,7 @@ module _ (W H l : ℕ) (g : Grid) (words : OnCells (SFits w32) W H g) where
       go true h = omega arith
       go false h = omega arith
 
-  pub settle-holds : (d lev b : ℕ) (x : ℕ → ℤ) → d < H → lev ≤ suc l → Holds d lev b x → Outcome Fits (HoldsAt d (nextAt W H (suc l) d lev b)) (settled W H (suc l) d (nextAt W H (suc l) d lev b .level) lev x)
+  pub settle-holds : (d lev b : ℕ) (x : ℕ → ℤ) → d < H → lev ≤ suc l → Held d lev b x → Outcome Fits (HeldAt d (nextAt W H (suc l) d lev b)) (settled W H (suc l) d (nextAt W H (suc l) d lev b .level) lev x)
   unfolding nextAt settled bandAt nextBand look
   settle-holds d zero b x due h s = goes x (record { below = s .below; before = s .before; got = λ k _ e c _ _. absurd (omega arith) })
   settle-holds d (suc k) b x due h s = go (those p (bandsFrom b)) refl (λ y. settle-holds d k 1 y due (omega arith))
@@ -368,23 +368,23 @@ module _ (W H l : ℕ) (g : Grid) (words : OnCells (SFits w32) W H g) where
       to : Place
       to = nextAt W H (suc l) d k 1
 
-      on : those p (bandsFrom b) ≡ [] → ((y : ℕ → ℤ) → Holds d k 1 y → Outcome Fits (HoldsAt d to) (settled W H (suc l) d (to .level) k y)) → Outcome Fits (HoldsAt d to) (pick (ltb (to .level) (suc k)) (bind (workedAt W H (suc l) d k x) (settled W H (suc l) d (to .level) k)) (passed x))
+      on : those p (bandsFrom b) ≡ [] → ((y : ℕ → ℤ) → Held d k 1 y → Outcome Fits (HeldAt d to) (settled W H (suc l) d (to .level) k y)) → Outcome Fits (HeldAt d to) (pick (ltb (to .level) (suc k)) (bind (workedAt W H (suc l) d k x) (settled W H (suc l) d (to .level) k)) (passed x))
       on e ih = rw (lt-ltb (to .level) (suc k) (omega (arith, next-le d k 1))) (bind-outcome (workedAt W H (suc l) d k x) _ (work-holds d k x (omega arith) due (holds-all d k b x (unfold look in e) s)) ih)
 
-      go : (xs : List Band) → those p (bandsFrom b) ≡ xs → ((y : ℕ → ℤ) → Holds d k 1 y → Outcome Fits (HoldsAt d to) (settled W H (suc l) d (to .level) k y)) →
-          Outcome Fits (HoldsAt d (pick (ltb (firstCode xs) 4) (place (suc k) (firstCode xs)) to)) (pick (ltb (pick (ltb (firstCode xs) 4) (place (suc k) (firstCode xs)) to .level) (suc k)) (bind (workedAt W H (suc l) d k x) (settled W H (suc l) d (pick (ltb (firstCode xs) 4) (place (suc k) (firstCode xs)) to .level) k)) (passed x))
+      go : (xs : List Band) → those p (bandsFrom b) ≡ xs → ((y : ℕ → ℤ) → Held d k 1 y → Outcome Fits (HeldAt d to) (settled W H (suc l) d (to .level) k y)) →
+          Outcome Fits (HeldAt d (pick (ltb (firstCode xs) 4) (place (suc k) (firstCode xs)) to)) (pick (ltb (pick (ltb (firstCode xs) 4) (place (suc k) (firstCode xs)) to .level) (suc k)) (bind (workedAt W H (suc l) d k x) (settled W H (suc l) d (pick (ltb (firstCode xs) 4) (place (suc k) (firstCode xs)) to .level) k)) (passed x))
       go [] e ih = unfold firstCode in on e ih
       go (c ∷ cs) e ih = unfold firstCode in rw (lt-ltb (code c) 4 (code-lt c), le-ltb (suc k) (suc k) (omega arith)) (goes x (holds-up d k b x c cs (unfold look in e) s))
 
   -- ---- a row that is wanted, fed
-  pub fed-holds : (d k : ℕ) (c : Band) (v x : ℕ → ℤ) → d < H → k ≤ l → ((i : ℕ) → i < count (across c) (size k W) → v i ≡ subband wrap32 (size k W) (size k H) (G k) c (rowAt H d (suc k)) i) → Holds d (suc k) (code c) x → Outcome Fits (HoldsAt d (beyond W H (suc l) d k (code c))) (fedOn W H (suc l) d (suc k) (code c) v x)
+  pub fed-holds : (d k : ℕ) (c : Band) (v x : ℕ → ℤ) → d < H → k ≤ l → ((i : ℕ) → i < count (across c) (size k W) → v i ≡ subband wrap32 (size k W) (size k H) (G k) c (rowAt H d (suc k)) i) → Held d (suc k) (code c) x → Outcome Fits (HeldAt d (beyond W H (suc l) d k (code c))) (fedOn W H (suc l) d (suc k) (code c) v x)
   unfolding fedOn finished beyond bandAt nextBand
   fed-holds d k c v x due inside row s = go (look (eqb (suc k) (suc l)) (size k W) (size k H) (rowAt H d (suc k)) (code c + 1)) refl
     where
       y : ℕ → ℤ
       y = fedAt W H d k (code c) v x
 
-      go : (xs : List Band) → look (eqb (suc k) (suc l)) (size k W) (size k H) (rowAt H d (suc k)) (code c + 1) ≡ xs → Outcome Fits (HoldsAt d (pick (ltb (firstCode xs) 4) (place (suc k) (code c + 1)) (place k 1))) (pick (ltb (firstCode xs) 4) (passed y) (workedAt W H (suc l) d k y))
+      go : (xs : List Band) → look (eqb (suc k) (suc l)) (size k W) (size k H) (rowAt H d (suc k)) (code c + 1) ≡ xs → Outcome Fits (HeldAt d (pick (ltb (firstCode xs) 4) (place (suc k) (code c + 1)) (place k 1))) (pick (ltb (firstCode xs) 4) (passed y) (workedAt W H (suc l) d k y))
       go [] e = unfold firstCode in work-holds d k y inside due (holds-all d k (code c + 1) y e (feed-holds d k c v x inside row s))
       go (b ∷ bs) e = unfold firstCode in rw (lt-ltb (code b) 4 (code-lt b)) (goes y (feed-holds d k c v x inside row s))
 
@@ -396,7 +396,7 @@ module _ (W H l : ℕ) (g : Grid) (words : OnCells (SFits w32) W H g) where
     high = λ p e. let z : p ≡ n = omega arith in rw z (s .high (omega arith));
   }
 
-  module _ (d : ℕ) (more : suc d < H) (x : ℕ → ℤ) (s : Holds d 0 4 x) where
+  module _ (d : ℕ) (more : suc d < H) (x : ℕ → ℤ) (s : Held d 0 4 x) where
     -- from a level on whose set stays, all sets stay
     rows-stay : (k : ℕ) → rowAt H (suc d) (suc k) ≡ rowAt H d (suc k) → (j : ℕ) → rowAt H (suc d) (suc (k + j)) ≡ rowAt H d (suc (k + j))
     rows-stay k e zero = let z : k + 0 ≡ k = omega arith in rw z e
@@ -410,7 +410,7 @@ module _ (W H l : ℕ) (g : Grid) (words : OnCells (SFits w32) W H g) where
         let f : rowAt H (suc d) (suc j) ≡ rowAt H d (suc j) = rw z at (rows-stay k e (j - k)) in
         subst (λ i. LeavesAt j i (mem W j x)) (sym f) (s .below j h (omega arith))
 
-    dive-holds : (m k : ℕ) → k + m ≡ suc l → rowAt H (suc d) k ≡ suc (rowAt H d k) → ((j : ℕ) → j ≤ l → j < k → Before j (rowAt H (suc d) (suc j)) (mem W j x)) → HoldsAt (suc d) (dive W H (suc l) (suc d) m k) x
+    dive-holds : (m k : ℕ) → k + m ≡ suc l → rowAt H (suc d) k ≡ suc (rowAt H d k) → ((j : ℕ) → j ≤ l → j < k → Before j (rowAt H (suc d) (suc j)) (mem W j x)) → HeldAt (suc d) (dive W H (suc l) (suc d) m k) x
     unfolding dive
     dive-holds zero k e new f = record {
       below = λ j h q. absurd (omega arith);
@@ -425,7 +425,7 @@ module _ (W H l : ℕ) (g : Grid) (words : OnCells (SFits w32) W H g) where
         no-first : (j : ℕ) → j < l → (c : Band) → keptAt (eqb (suc j) (suc l)) c ≡ true → code c < 1 → ⊥
         no-first j h c kept less = let z = eqb-true (suc j) (suc l) (kept-first (eqb (suc j) (suc l)) c kept less) in omega arith
 
-        go : (t : Bool) → opens (size k H) (rowAt H (suc d) k) ≡ t → (suc k + m ≡ suc l → rowAt H (suc d) (suc k) ≡ suc (rowAt H d (suc k)) → ((j : ℕ) → j ≤ l → j < suc k → Before j (rowAt H (suc d) (suc j)) (mem W j x)) → HoldsAt (suc d) (dive W H (suc l) (suc d) m (suc k)) x) → HoldsAt (suc d) (pick t (dive W H (suc l) (suc d) m (suc k)) (place k 1)) x
+        go : (t : Bool) → opens (size k H) (rowAt H (suc d) k) ≡ t → (suc k + m ≡ suc l → rowAt H (suc d) (suc k) ≡ suc (rowAt H d (suc k)) → ((j : ℕ) → j ≤ l → j < suc k → Before j (rowAt H (suc d) (suc j)) (mem W j x)) → HeldAt (suc d) (dive W H (suc l) (suc d) m (suc k)) x) → HeldAt (suc d) (pick t (dive W H (suc l) (suc d) m (suc k)) (place k 1)) x
         go true o ih =
             let next : rowAt H (suc d) (suc k) ≡ suc (rowAt H d (suc k)) = rowAt-next H (suc d) k ∙ ap (setOf (size k H)) new ∙ opens-next (size k H) (rowAt H d k) there (rw new at o) ∙ ap suc (sym (rowAt-next H d k)) in
             let top : suc (rowAt H d (suc k)) < count lo (size k H) = rw (← next) (unfold size in rowAt-there H (suc d) more (suc k)) in
@@ -441,12 +441,12 @@ module _ (W H l : ℕ) (g : Grid) (words : OnCells (SFits w32) W H g) where
               got = λ j h q c kept less. absurd (no-first j (omega arith) c kept less);
             }
 
-    pub enter-holds : HoldsAt (suc d) (enter W H (suc l) (suc d)) x
+    pub enter-holds : HeldAt (suc d) (enter W H (suc l) (suc d)) x
     unfolding enter rowAt
     enter-holds = dive-holds (suc l) 0 (omega arith) refl (λ j h q. absurd (omega arith))
 
   -- ---- the first: nothing is needed
-  pub first-holds : (x : ℕ → ℤ) → Holds 0 (suc l) 0 x
+  pub first-holds : (x : ℕ → ℤ) → Held 0 (suc l) 0 x
   first-holds x = record {
     below = λ j h q. absurd (omega arith);
     before = λ j h q. record {
@@ -457,10 +457,10 @@ module _ (W H l : ℕ) (g : Grid) (words : OnCells (SFits w32) W H g) where
   }
 
   -- ---- the row that can be drawn
-  pub height-made : (d : ℕ) (x : ℕ → ℤ) → d < H → Holds d 0 4 x → Is W x d (parted (g d))
+  pub height-made : (d : ℕ) (x : ℕ → ℤ) → d < H → Held d 0 4 x → Is W x d (parted (g d))
   unfolding from stretchAt size approximation rowAt
   height-made d x due s h i b = let e : 0 + (rowPlace W d + placed h W i) ≡ rowPlace W d + placed h W i = omega arith in ap x (sym e) ∙ s .below 0 (omega arith) (omega arith) .made d due refl h i b
 
-  pub height-fit : (d : ℕ) (x : ℕ → ℤ) → d < H → Holds d 0 4 x → (c : ℕ) → c < W → valueFits 0 (g d c) ≡ true
+  pub height-fit : (d : ℕ) (x : ℕ → ℤ) → d < H → Held d 0 4 x → (c : ℕ) → c < W → valueFits 0 (g d c) ≡ true
   unfolding size approximation rowAt
   height-fit d x due s = s .below 0 (omega arith) (omega arith) .fit d due refl

@@ -8,6 +8,7 @@ pub mod RowsIn
 pub mod SetMade
 pub mod Holds
 pub mod CallLaws
+pub mod Outcomes
 pub mod Reached
 pub mod Rebuilt
 pub mod Demand3

@@ -3,24 +3,21 @@
 use mathlib.Core.Bool.{Bool, true, false}
 use mathlib.Core.Path.{_≡_, refl, sym, ap, subst, _∙_}
 use mathlib.Core.List.{List, [], _∷_, _++_, append-nil, append-assoc}
-use Prim.Native.Nat.{ℕ, zero, suc, _+_, _-_, _≤_, _<_}
+use Prim.Native.Nat.{ℕ, zero, suc, _+_, _≤_, _<_}
 use native.Mathlib.Decide.{ℕ-discrete}
 use native.Mathlib.Omega.{arith}
 use lib.IntN.{ℤ, pos, natAbs}
-use lib.Signed.{_≤ℤ_}
 use lib.ListN.{length, length-append, getD, List·getD-append}
 use lib.Seq.{getD-append-add}
 use lib.Dec.{T, ltb, eqb}
 use mir.Syntax.{w32}
 use mir.Val.{SFits}
-use borrow.Author.Tests.{lt-ltb, leb-true}
+use borrow.Author.Tests.{leb-true}
 use Rattle.numbers.specs.Signal.{pick}
 use Rattle.numbers.specs.Word.{wrap32}
-use Rattle.numbers.proofs.Integers.{each, lin}
-use Rattle.lifting.specs.Line.{count}
 use Rattle.lifting.specs.Halves.{fronted}
-use Rattle.wavelet.specs.Limits.{range, maxSample}
-use Rattle.wavelet.specs.Bands.{Grid, Band, code, across}
+use Rattle.wavelet.specs.Limits.{range}
+use Rattle.wavelet.specs.Bands.{Grid, Band, code}
 use Rattle.wavelet.specs.Levels.{size, levelBand}
 use Rattle.wavelet.specs.View.{bandColumns}
 use Rattle.wavelet.specs.Maps.{valueFits}
@@ -29,22 +26,21 @@ use Rattle.wavelet.specs.Order.{RowName, rowName}
 use Rattle.wavelet.specs.Steps.{Step, steps, bandRowsOf}
 use Rattle.wavelet.specs.Steps as step
 use Rattle.wavelet.proofs.LevelTheory.{OnCells}
-use Rattle.wavelet.proofs.MapTheorems.{every-each, height-fits}
+use Rattle.wavelet.proofs.MapTheorems.{every-each}
 use Rattle.reader.specs.declared.Reader.{Reader}
-use Rattle.reader.specs.Areas.{height16}
 use Rattle.reader.specs.Sets.{opens, rowAt}
 use Rattle.reader.specs.Asked.{asked}
-use Rattle.reader.specs.Tried.{Tried, failed, passed, bind, fits, memory}
-use Rattle.reader.specs.Machine.{Place, place, bandAt, nextAt, settled, fedOn, placeFed, beyond, dive, enter}
+use Rattle.reader.specs.Tried.{Tried, failed, passed, fits, memory}
+use Rattle.reader.specs.Machine.{Place, place, bandAt, nextAt, placeFed, beyond, dive, enter}
 use Rattle.reader.specs.State.{next, settles, feeds, drawDue, fedReader, drawnReader, endedReader}
 use Rattle.reader.specs.Questions.{runFits, feedQuestion, drawQuestion}
 use Rattle.reader.specs.Calls.{feedAnswer, feedStore, storeAfter, drawAnswer, drawStore, drawArea, heightRow}
 use Rattle.reader.specs.Demand3.{Area, Call, want, feed, draw, Event, fed, drew, World, event, goesOn, leftBy, ends, FedRow, fedAs, fedBy, drawnBy, saidFeed, saidDraw, leftByFeed, leftByDraw, All, none, more}
 use Rattle.reader.specs.Demand3 as demand
 use Rattle.reader.proofs.StepsLeft.{code-lt, stepsLeft}
-use Rattle.reader.proofs.RowsIn.{row-halves, joined-reads}
-use Rattle.reader.proofs.SetMade.{Outcome, stops, goes, bind-outcome}
-use Rattle.reader.proofs.Holds.{Fits, Holds, settle-holds, fed-holds, enter-holds, height-made, height-fit}
+use Rattle.reader.proofs.SetMade.{Outcome}
+use Rattle.reader.proofs.Holds.{Fits, Held, enter-holds, height-fit}
+use Rattle.reader.proofs.Outcomes.{outcome-failed, outcome-passed, settles-outcome, feeds-outcome, row-out}
 use Rattle.reader.proofs.CallLaws.{Limits, here, View, view, FeedView, feed-away, feed-onward, feed-view, DrawView, draw-away, draw-idle, draw-onward, draw-view}
 
 module _ {A : Type 0} {P : A → Type 0} where
@@ -70,19 +66,8 @@ unfolding namesOf
 names-append [] t = refl
 names-append (f ∷ s) t = ap (λ r. f .row ∷ r) (names-append s t)
 
-outcome-failed : {N : Type 0} {P : (ℕ → ℤ) → Type 0} → Outcome N P failed → N → ⊥
-outcome-failed (stops n) = n
-
-outcome-passed : {N : Type 0} {P : (ℕ → ℤ) → Type 0} (y : ℕ → ℤ) → Outcome N P (passed y) → P y
-outcome-passed _ (goes _ p) = p
-
 true-false : true ≡ false → ⊥
 true-false z = subst T z tt
-
--- a height is its own remainder
-height-kept : (v : ℤ) → pos 0 ≤ℤ v → v ≤ℤ pos 65535 → height16 v ≡ v
-unfolding height16
-height-kept = each _ λ p q. simp lin (omega arith)
 
 -- where a row begins, the numbers are inside their ranges
 dive-le : (W H l d m k : ℕ) → k + m ≡ suc l → (dive W H (suc l) d m k .level ≤ suc l) × (dive W H (suc l) d m k .band ≤ 4)
@@ -112,7 +97,7 @@ module _ (W H l : ℕ) where
   pub record Agrees (g : Grid) (words : OnCells (SFits w32) W H g) (d lev b : ℕ) (e : Bool) (x : ℕ → ℤ) (ds : List (ℕ → ℤ)) : Type 0 where
     pub fit : (r c : ℕ) → r < d → c < W → valueFits 0 (g r c) ≡ true
     pub shows : (r c : ℕ) → r < d → c < W → getD ds r (λ _. pos 0) c ≡ g r c
-    pub holds : e ≡ false → d < H → Holds W H l g words d lev b x
+    pub holds : e ≡ false → d < H → Held W H l g words d lev b x
     pub refuses : e ≡ true → Fits W H l g words → ⊥
 
   pub record Kept (d lev b : ℕ) (e : Bool) (x : ℕ → ℤ) (t : List Step) (fs : List FedRow) (ds : List (ℕ → ℤ)) : Type 0 where
@@ -172,15 +157,9 @@ module _ (W H l : ℕ) where
           good-all = all-append fs (f ∷ []) (kept .good) (more good-f none)
 
           -- what the feed comes to, for a grid that has the row too
-          outcome-is : (g : Grid) (words : OnCells (SFits w32) W H g) → All (HasWords g) (fs ++ (f ∷ [])) → Outcome (Fits W H l g words) (λ y. Holds W H l g words d (beyond W H (suc l) d k (code c) .level) (beyond W H (suc l) d k (code c) .band) y) (feeds s (a .numbers) x)
-          unfolding feeds settles next levelBand bandColumns
+          outcome-is : (g : Grid) (words : OnCells (SFits w32) W H g) → All (HasWords g) (fs ++ (f ∷ [])) → Outcome (Fits W H l g words) (Held W H l g words d (beyond W H (suc l) d k (code c) .level) (beyond W H (suc l) d k (code c) .band)) (feeds s (a .numbers) x)
           outcome-is g words has =
-              let z : suc k - 1 ≡ k = omega arith in
-              let row : (i : ℕ) → i < count (across c) (size k W) → a .numbers i ≡ levelBand wrap32 W H g (suc k) c (rowAt H d (suc k)) i = rw z at (all-last fs f has) in
-              let old = kept .grids g words (all-left fs (f ∷ []) has) .holds live due in
-              let set = subst (λ p. Outcome (Fits W H l g words) (Holds W H l g words d (p .level) (p .band)) (settled W H (suc l) d (p .level) lev x)) at-row (settle-holds W H l g words d lev b x due (kept .level-le) old) in
-              subst (λ p. Outcome (Fits W H l g words) (Holds W H l g words d (beyond W H (suc l) d k (code c) .level) (beyond W H (suc l) d k (code c) .band)) (bind (settled W H (suc l) d (p .level) lev x) (fedOn W H (suc l) d (p .level) (p .band) (a .numbers)))) (sym at-row)
-              (bind-outcome (settled W H (suc l) d (suc k) lev x) _ set (λ y h. fed-holds W H l g words d k c (a .numbers) y due inside row h))
+              feeds-outcome W H l d lev b due (kept .level-le) g words x (kept .grids g words (all-left fs (f ∷ []) has) .holds live due) e k c below at-row (a .numbers) (all-last fs f has)
 
           -- 14
           abbrev zeros : ℕ → ℤ
@@ -277,11 +256,9 @@ module _ (W H l : ℕ) where
         drawn-idle z = rw z stays
 
         module _ (live : e ≡ false) (due : d < H) (at-height : nextAt W H (suc l) d lev b ≡ place 0 4) (head : t ≡ step.draw d ∷ stepsLeft W H l (suc d) (enter W H (suc l) (suc d))) (to-draw : drawDue s ≡ true) where
-          settles-is : (g : Grid) (words : OnCells (SFits w32) W H g) → All (HasWords g) fs → Outcome (Fits W H l g words) (Holds W H l g words d 0 4) (settles s x)
-          unfolding settles next
+          settles-is : (g : Grid) (words : OnCells (SFits w32) W H g) → All (HasWords g) fs → Outcome (Fits W H l g words) (Held W H l g words d 0 4) (settles s x)
           settles-is g words has =
-              let set = subst (λ p. Outcome (Fits W H l g words) (Holds W H l g words d (p .level) (p .band)) (settled W H (suc l) d (p .level) lev x)) at-height (settle-holds W H l g words d lev b x due (kept .level-le) (kept .grids g words has .holds live due)) in
-              subst (λ p. Outcome (Fits W H l g words) (Holds W H l g words d 0 4) (settled W H (suc l) d (p .level) lev x)) (sym at-height) set
+              settles-outcome W H l d lev b due (kept .level-le) g words x (kept .grids g words has .holds live due) e (place 0 4) at-height
 
           -- 14
           abbrev zeros-drawn : ℕ → ℤ
@@ -318,11 +295,8 @@ module _ (W H l : ℕ) where
             abbrev into : Place
             into = enter W H (suc l) (suc d)
 
-            out-is : (g : Grid) (words : OnCells (SFits w32) W H g) → Holds W H l g words d 0 4 y → (c : ℕ) → c < W → out c ≡ g d c
-            unfolding fronted heightRow maxSample
-            out-is g words h c p =
-                let fit = height-fits (g d c) .0 (height-fit W H l g words d y due h c p) in
-                rw (lt-ltb c W p) (ap height16 (joined-reads W _ (g d) (row-halves W y d _ (height-made W H l g words d y due h)) c p) ∙ height-kept (g d c) (fit .0) (fit .1))
+            out-is : (g : Grid) (words : OnCells (SFits w32) W H g) → Held W H l g words d 0 4 y → (c : ℕ) → c < W → out c ≡ g d c
+            out-is g words h = row-out W H l d due g words y h (a .numbers)
 
             -- the rows drawn before, and it
             row-at : (g : Grid) → ((c : ℕ) → c < W → out c ≡ g d c) → ((r c : ℕ) → r < d → c < W → getD ds r (λ _. pos 0) c ≡ g r c) → (r c : ℕ) → r < suc d → c < W → getD (ds ++ (out ∷ [])) r (λ _. pos 0) c ≡ g r c
@@ -347,7 +321,7 @@ module _ (W H l : ℕ) where
               names = λ _. names-same ∙ kept .names live;
               grids = λ g words has.
                   let old = kept .grids g words has in
-                  let h : Holds W H l g words d 0 4 y = outcome-passed y (subst (Outcome (Fits W H l g words) _) made (settles-is g words has)) in
+                  let h : Held W H l g words d 0 4 y = outcome-passed y (subst (Outcome (Fits W H l g words) _) made (settles-is g words has)) in
                   record {
                     fit = λ r c p q. elim (ℕ-discrete r d) [ yes z ↦ rw z (height-fit W H l g words d y due h c q) | no z ↦ old .fit r c (omega (arith, z)) q ];
                     shows = row-at g (out-is g words h) (old .shows);

@@ -1,7 +1,7 @@
 -- What stands in the line store of a reader, `Holds g s x`, for a grid g of 32-bit numbers that has the rows fed; and what each call keeps of it.
 -- The numbers are 32-bit words (`wrap32`); for a map they are T.800's whole numbers.
 use mathlib.Core.Path.{_≡_}
-use mathlib.Core.Bool.{Bool, true}
+use mathlib.Core.Bool.{true}
 use Prim.Native.Nat.{ℕ, suc, _+_, _*_, _≤_, _<_}
 use lib.IntN.{ℤ}
 use lib.Dec.{eqb}
@@ -24,7 +24,6 @@ use Rattle.reader.specs.Sets.{setOf, rowAt}
 use Rattle.reader.specs.Asked.{keptAt, named}
 use Rattle.reader.specs.Slots.{rowPlace, setRow}
 use Rattle.reader.specs.Store.{stretchAt, from}
-use Rattle.reader.specs.Machine.{Place}
 use Rattle.reader.specs.State.{next, nextRow, nextLength}
 
 -- ---- a level that splits the grid G of w columns and h rows, in the memory x
