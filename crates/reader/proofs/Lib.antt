@@ -9,6 +9,7 @@ pub mod SetMade
 pub mod Holds
 pub mod CallLaws
 pub mod Outcomes
+pub mod Keeps
 pub mod Reached
 pub mod Rebuilt
 pub mod Demand3
