@@ -32,7 +32,7 @@ use Rattle.reader.proofs.OpenedSets.{rowAt-first}
 use Rattle.reader.proofs.StepsLeft.{named-code, stepsLeft}
 use Rattle.reader.proofs.SetMade.{Outcome}
 use Rattle.reader.proofs.Holds.{Fits, Held, enter-holds}
-use Rattle.reader.proofs.CallLaws.{Limits, here, view, FeedView, feed-away, feed-onward, feed-view, DrawView, draw-away, draw-idle, draw-onward, draw-view}
+use Rattle.reader.proofs.CallViews.{Limits, here, view, FeedView, feed-away, feed-onward, feed-view, DrawView, draw-away, draw-idle, draw-onward, draw-view}
 use Rattle.reader.proofs.Outcomes.{outcome-failed, outcome-passed, settles-outcome, feeds-outcome, row-out}
 
 -- ---- question 1, part by part

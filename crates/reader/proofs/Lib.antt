@@ -8,6 +8,7 @@ pub mod RowsIn
 pub mod SetMade
 pub mod Holds
 pub mod CallLaws
+pub mod CallViews
 pub mod Outcomes
 pub mod Keeps
 pub mod Reached
@@ -21,3 +22,6 @@ pub mod StoreLaws
 pub mod EnterLaws
 pub mod WalkLaws
 pub mod PartLaws
+pub mod KeptLaws
+pub mod QuestionLaws
+pub mod StepLaws

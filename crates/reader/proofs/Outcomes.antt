@@ -27,7 +27,7 @@ use Rattle.reader.specs.Calls.{heightRow}
 use Rattle.reader.proofs.RowsIn.{row-halves, joined-reads}
 use Rattle.reader.proofs.SetMade.{Outcome, stops, goes, bind-outcome}
 use Rattle.reader.proofs.Holds.{Fits, Held, settle-holds, fed-holds, height-made, height-fit}
-use Rattle.reader.proofs.CallLaws.{here}
+use Rattle.reader.proofs.CallViews.{here}
 
 pub outcome-failed : {N : Type 0} {P : (ℕ → ℤ) → Type 0} → Outcome N P failed → N → ⊥
 outcome-failed (stops n) = n

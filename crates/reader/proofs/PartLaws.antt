@@ -113,7 +113,7 @@ put-is W H d k c l a p m v s ys is ep ea em en room long made =
     ∙ behind-splice (stretchAt W k) q n (at v) (at s)
 
 -- a half lies within its row
-half-in : (b : Half) (w : ℕ) → halfPlace b w + count b w ≤ w
+pub half-in : (b : Half) (w : ℕ) → halfPlace b w + count b w ≤ w
 unfolding halfPlace
 half-in lo w = omega (arith, count-le lo w)
 half-in hi w = omega (arith, count-sum w)
@@ -144,8 +144,7 @@ stretch-room W k L h = elim (ℕ-discrete (k + 1) L) [
 module _ (W H d k : ℕ) (l : Level) (is : IsLevel W H d k l) where
   pub level-in : 0 < H → W ≤ 65536 → H ≤ 4294967295 → (l .start ≤ 262144 * k) × (l .width ≤ 65536) × (l .height ≤ 4294967295) × (l .set < count lo (l .height)) × (l .set ≤ 4294967295)
   level-in some wide high =
-      let set : l .set < count lo (l .height) = rw (is .set, is .height) (row-in H d k some) in
-      (
+      let set : l .set < count lo (l .height) = rw (is .set, is .height) (row-in H d k some) in (
         rw (is .start) (stretch-small W k wide),
         omega (arith, is .width, size-le k W),
         omega (arith, is .height, size-le k H),

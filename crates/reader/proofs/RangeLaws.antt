@@ -87,9 +87,9 @@ unfolding rowFits
 admit-is k w r a m l low high ea em room el eh =
     ap (λ (n : ℕ). every n (λ i. between low high (at (midOf a m l) i))) (length-mid a m l room ∙ em)
     ∙ every-same w _ _ (λ i h.
-      let place : a + i ≡ rowPlace w r + i = omega arith in
-      let seen : at (midOf a m l) i ≡ at l (rowPlace w r + i) = ap (λ (f : ℕ → ℤ). f i) (at-mid a m l) ∙ window-in a m (at l) i (omega arith) ∙ ap (at l) place in
-      cc (seen, el, eh, value-between k (at l (rowPlace w r + i))))
+    let place : a + i ≡ rowPlace w r + i = omega arith in
+    let seen : at (midOf a m l) i ≡ at l (rowPlace w r + i) = ap (λ (f : ℕ → ℤ). f i) (at-mid a m l) ∙ window-in a m (at l) i (omega arith) ∙ ap (at l) place in
+    cc (seen, el, eh, value-between k (at l (rowPlace w r + i))))
 
 pub run-is : (k n : ℕ) (v : ℕ → ℤ) (low high : ℤ) → low ≡ pos 0 -ℤ pos (range k) → high ≡ pos (range k) → every n (λ i. between low high (v i)) ≡ runFits k n v
 unfolding runFits

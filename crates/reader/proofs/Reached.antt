@@ -41,7 +41,7 @@ use Rattle.reader.proofs.StepsLeft.{code-lt, stepsLeft}
 use Rattle.reader.proofs.SetMade.{Outcome}
 use Rattle.reader.proofs.Holds.{Fits, Held, enter-holds, height-fit}
 use Rattle.reader.proofs.Outcomes.{outcome-failed, outcome-passed, settles-outcome, feeds-outcome, row-out}
-use Rattle.reader.proofs.CallLaws.{Limits, here, View, view, FeedView, feed-away, feed-onward, feed-view, DrawView, draw-away, draw-idle, draw-onward, draw-view}
+use Rattle.reader.proofs.CallViews.{Limits, here, View, view, FeedView, feed-away, feed-onward, feed-view, DrawView, draw-away, draw-idle, draw-onward, draw-view}
 
 module _ {A : Type 0} {P : A → Type 0} where
   pub all-append : (s t : List A) → All P s → All P t → All P (s ++ t)

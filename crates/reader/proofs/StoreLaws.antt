@@ -73,3 +73,7 @@ walk-on W H d i start w h n w′ h′ n′ a ew eh en =
       narrow = omega (arith, count-lo w);
       near = omega (arith, en, set-in h′ n (omega (arith, count-lo h)), count-lo h′, count-lo h);
     }
+
+-- level 1's stretch lies within the store
+pub first-room : (W L : ℕ) → 1 ≤ L → 4 * W ≤ stretchAt W L
+first-room W L h = omega (arith, stretch-suc W 0, stretch-zero W, size-zero W, stretch-in W 1 L h)

@@ -41,6 +41,10 @@ pub record Is (q : Place) (p : Spot) : Type 0 where
   pub level : p .level ≡ q .level
   pub band : p .band ≡ q .band
 
+-- nothing changed from place n on
+pub record Kept (n : ℕ) (x y : ℕ → ℤ) : Type 0 where
+  pub same : (j : ℕ) → n ≤ j → y j ≡ x j
+
 -- the questions of a feed or a draw that the state and the store's length answer, and those of a feed that the run answers
 unfoldable pub storeQuestion : Reader → ℕ → ℕ
 storeQuestion s n = ask (countsFit s) 1 (ask (storeFits (s .width) (s .levels) n) 5 (ask (not (s .ended)) 9 0))

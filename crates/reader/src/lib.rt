@@ -124,7 +124,12 @@ impl Reader {
         if p.level == 0 {
             return Wanted::Draw;
         }
-        Wanted::Row(p.level, p.band, steps::row_number(self, p), steps::row_length(self, p))
+        Wanted::Row(
+            p.level,
+            p.band,
+            steps::row_number(self, p),
+            steps::row_length(self, p),
+        )
     }
 
     // The row wanted is fed. The questions are 1, 5, 9, 8, 13, 7 and 14.
@@ -174,7 +179,10 @@ impl Reader {
             let e = a + w;
             areas::draw_heights(&store[a..e], out);
             let d = self.drawn + 1;
-            return Drawn::Heights(w, self.moved(d, walk::enter_of(w, self.height, self.levels, d)));
+            return Drawn::Heights(
+                w,
+                self.moved(d, walk::enter_of(w, self.height, self.levels, d)),
+            );
         }
         let n = walk::store_length(w, self.levels);
         areas::clear(store, n);

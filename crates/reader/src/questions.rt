@@ -1,9 +1,9 @@
 // The gate questions of the reader, in the order of document 01. The module is private, as `areas` is.
+use crate::Reader;
 use crate::areas;
+use crate::steps;
 use crate::walk;
 use crate::walk::Spot;
-use crate::steps;
-use crate::Reader;
 use wavelet::limits;
 use wavelet::sizes;
 ghost use mathlib.Core.Path.{_≡_};

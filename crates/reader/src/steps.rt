@@ -1,8 +1,8 @@
 // The steps of a reader: the row that it wants, a row fed, a height row made ready. Each of a state whose counts are in their ranges. The module is private, as `areas` is.
+use crate::Reader;
 use crate::sets;
 use crate::walk;
 use crate::walk::Spot;
-use crate::Reader;
 ghost use mathlib.Core.Path.{_≡_};
 ghost use Prim.Native.Nat.{ℕ, _+_, _<_, _≤_};
 ghost use lib.ListN.{length};
@@ -11,7 +11,7 @@ ghost use Rattle.reader.specs.Tried.{outcome};
 ghost use Rattle.reader.specs.Store.{storeLength};
 ghost use Rattle.reader.specs.Machine.{Place, placeFed, enter};
 ghost use Rattle.reader.specs.State.{next, nextRow, nextLength, settles, feeds};
-ghost use Rattle.reader.specs.Inside.{Counts, Is};
+ghost use Rattle.reader.specs.Inside.{Counts, Is, Kept};
 
 // The place of the row wanted; level 0: there is none.
 pub fn next_of(s: Reader) -> Spot
@@ -42,14 +42,24 @@ pub fn row_number(s: Reader, p: Spot) -> usize
 pub fn settle(s: Reader, store: &mut [i32], p: Spot) -> bool
     requires { ⌜ Counts s × Is (next s) p × (storeLength (s .width) (s .levels) ≤ length (now store)) ⌝ }
     ensures { λ ok. ⌜ outcome ok (at (now (store .exit))) ≡ settles s (at (now (store .entry))) ⌝ }
+    ensures { λ _. ⌜ Kept (storeLength (s .width) (s .levels)) (at (now (store .entry))) (at (now (store .exit))) ⌝ }
 {
-    walk::settle(s.width, s.height, s.levels, s.drawn, store, s.level, p.level)
+    walk::settle(
+        s.width,
+        s.height,
+        s.levels,
+        s.drawn,
+        store,
+        s.level,
+        p.level,
+    )
 }
 
 // Then the run put where it belongs, and the set that it completes worked out.
 pub fn feed_row(s: Reader, store: &mut [i32], p: Spot, run: &[i32]) -> bool
     requires { ⌜ Counts s × Is (next s) p × (0 < p .level) × (storeLength (s .width) (s .levels) ≤ length (now store)) × (length (now run) ≡ nextLength s) ⌝ }
     ensures { λ ok. ⌜ outcome ok (at (now (store .exit))) ≡ feeds s (at (now (run .entry))) (at (now (store .entry))) ⌝ }
+    ensures { λ _. ⌜ Kept (storeLength (s .width) (s .levels)) (at (now (store .entry))) (at (now (store .exit))) ⌝ }
 {
     if !settle(s, store, p) {
         return false;

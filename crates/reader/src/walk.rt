@@ -16,7 +16,7 @@ ghost use Rattle.reader.specs.Tried.{outcome};
 ghost use Rattle.reader.specs.Slots.{rowPlace, setRow, halfPlace};
 ghost use Rattle.reader.specs.Store.{storeLength, fedAt, workedAt};
 ghost use Rattle.reader.specs.Machine.{bandAt, nextAt, settled, finished, beyond, enter};
-ghost use Rattle.reader.specs.Inside.{Shape, IsLevel, Is};
+ghost use Rattle.reader.specs.Inside.{Shape, IsLevel, Is, Kept};
 
 // A level: where its stretch begins, the columns and rows that it splits, and the set that it is at.
 pub struct Level {
@@ -153,6 +153,7 @@ pub fn work_at(
 ) -> bool
     requires { ⌜ Shape width height drawn × (levels ≤ maxLevels) × (k < levels) × (storeLength width levels ≤ length (now store)) ⌝ }
     ensures { λ ok. ⌜ outcome ok (at (now (store .exit))) ≡ workedAt width height levels drawn k (at (now (store .entry))) ⌝ }
+    ensures { λ _. ⌜ Kept (storeLength width levels) (at (now (store .entry))) (at (now (store .exit))) ⌝ }
 {
     let l = level_at(width, height, drawn, k);
     let a = l.start;
@@ -178,6 +179,7 @@ pub fn settle(
 ) -> bool
     requires { ⌜ Shape width height drawn × (levels ≤ maxLevels) × (from ≤ levels) × (storeLength width levels ≤ length (now store)) ⌝ }
     ensures { λ ok. ⌜ outcome ok (at (now (store .exit))) ≡ settled width height levels drawn to from (at (now (store .entry))) ⌝ }
+    ensures { λ _. ⌜ Kept (storeLength width levels) (at (now (store .entry))) (at (now (store .exit))) ⌝ }
 {
     let mut k = from;
     while to < k {
@@ -201,6 +203,7 @@ pub fn finish(
 ) -> bool
     requires { ⌜ Shape width height drawn × (levels ≤ maxLevels) × (k < levels) × (band < 4) × (storeLength width levels ≤ length (now store)) ⌝ }
     ensures { λ ok. ⌜ outcome ok (at (now (store .exit))) ≡ finished width height levels drawn k band (at (now (store .entry))) ⌝ }
+    ensures { λ _. ⌜ Kept (storeLength width levels) (at (now (store .entry))) (at (now (store .exit))) ⌝ }
 {
     if band_at(width, height, levels, drawn, k, band + 1) < 4 {
         return true;

@@ -15,6 +15,7 @@ ghost use Rattle.reader.specs.Tried.{outcome};
 ghost use Rattle.reader.specs.Slots.{rowPlace, rowUnlifted, lowRowTaken};
 ghost use Rattle.reader.specs.Work.{rowFits, setUnlifted, evenRow, oddRow, evenMade, oddMade, lastMade, setMade, setWorked};
 ghost use Rattle.reader.specs.Areas.{lowestOf};
+ghost use Rattle.reader.specs.Inside.{Kept};
 
 // Where row r begins.
 pub fn row_place(w: usize, r: usize) -> usize
@@ -102,6 +103,7 @@ fn admit_row(stretch: &[i32], k: usize, w: usize, r: usize) -> bool
 fn make_even(stretch: &mut [i32], k: usize, w: usize, h: usize, n: usize) -> bool
     requires { ⌜ (w ≤ 65536) × (4 * w ≤ length (now stretch)) × (n < count lo h) × (h ≤ 4294967295) × (k ≤ maxLevels) ⌝ }
     ensures { λ ok. ⌜ outcome ok (at (now (stretch .exit))) ≡ evenMade k w h n (at (now (stretch .entry))) ⌝ }
+    ensures { λ _. ⌜ Kept (4 * w) (at (now (stretch .entry))) (at (now (stretch .exit))) ⌝ }
 {
     unlift_set(stretch, w, h, n);
     undo_even(stretch, w, h, n);
@@ -112,6 +114,7 @@ fn make_even(stretch: &mut [i32], k: usize, w: usize, h: usize, n: usize) -> boo
 fn make_odd(stretch: &mut [i32], k: usize, w: usize, h: usize, n: usize) -> bool
     requires { ⌜ (w ≤ 65536) × (4 * w ≤ length (now stretch)) × (n < count lo h) × (h ≤ 4294967295) × (k ≤ maxLevels) ⌝ }
     ensures { λ ok. ⌜ outcome ok (at (now (stretch .exit))) ≡ oddMade k w h n (at (now (stretch .entry))) ⌝ }
+    ensures { λ _. ⌜ Kept (4 * w) (at (now (stretch .entry))) (at (now (stretch .exit))) ⌝ }
 {
     if n == 0 {
         return true;
@@ -124,6 +127,7 @@ fn make_odd(stretch: &mut [i32], k: usize, w: usize, h: usize, n: usize) -> bool
 fn make_last(stretch: &mut [i32], k: usize, w: usize, h: usize, n: usize) -> bool
     requires { ⌜ (w ≤ 65536) × (4 * w ≤ length (now stretch)) × (n < count lo h) × (h ≤ 4294967295) × (k ≤ maxLevels) ⌝ }
     ensures { λ ok. ⌜ outcome ok (at (now (stretch .exit))) ≡ lastMade k w h n (at (now (stretch .entry))) ⌝ }
+    ensures { λ _. ⌜ Kept (4 * w) (at (now (stretch .entry))) (at (now (stretch .exit))) ⌝ }
 {
     if 2 * n + 2 != h {
         return true;
@@ -136,6 +140,7 @@ fn make_last(stretch: &mut [i32], k: usize, w: usize, h: usize, n: usize) -> boo
 fn make_set(stretch: &mut [i32], k: usize, w: usize, h: usize, n: usize) -> bool
     requires { ⌜ (w ≤ 65536) × (4 * w ≤ length (now stretch)) × (n < count lo h) × (h ≤ 4294967295) × (k ≤ maxLevels) ⌝ }
     ensures { λ ok. ⌜ outcome ok (at (now (stretch .exit))) ≡ setMade k w h n (at (now (stretch .entry))) ⌝ }
+    ensures { λ _. ⌜ Kept (4 * w) (at (now (stretch .entry))) (at (now (stretch .exit))) ⌝ }
 {
     if !make_even(stretch, k, w, h, n) {
         return false;
@@ -161,6 +166,7 @@ fn take_low_row(stretch: &mut [i32], w: usize, n: usize)
 pub fn work_set(stretch: &mut [i32], last: bool, k: usize, w: usize, h: usize, n: usize) -> bool
     requires { ⌜ (w ≤ 65536) × (4 * w + 4 * pick last 0 (count lo w) ≤ length (now stretch)) × (n < count lo h) × (h ≤ 4294967295) × (k ≤ maxLevels) ⌝ }
     ensures { λ ok. ⌜ outcome ok (at (now (stretch .exit))) ≡ setWorked last k w h n (at (now (stretch .entry))) ⌝ }
+    ensures { λ _. ⌜ Kept (4 * w) (at (now (stretch .entry))) (at (now (stretch .exit))) ⌝ }
 {
     if last {
         return make_set(stretch, k, w, h, n);

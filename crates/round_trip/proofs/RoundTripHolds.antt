@@ -33,7 +33,7 @@ use Rattle.reader.specs.Asked.{named}
 use Rattle.reader.specs.Questions as reader-asks
 use Rattle.reader.specs.Demand3 as reader
 use Rattle.reader.specs.Played.{HasAll}
-use Rattle.reader.proofs.CallLaws.{within-both}
+use Rattle.reader.proofs.CallViews.{within-both}
 use Rattle.reader.proofs.StepsLeft.{named-code}
 use Rattle.reader.proofs.Rebuilt.{In, first, later}
 use Rattle.reader.proofs.Played.{times-in, played-holds}

@@ -1,7 +1,7 @@
 -- Every call keeps what the store holds, on every state and store: `set-up-holds`, `draw-keeps`, `finish-keeps`, `offer-keeps`; and a drawn row has the map's values: `draw-values`.
 -- Assumes nothing.
 use mathlib.Core.Bool.{Bool, true, false, not}
-use mathlib.Core.Path.{_≡_, refl, sym, ap, subst, _∙_}
+use mathlib.Core.Path.{_≡_, refl, sym, ap, subst, subst₂, _∙_}
 use mathlib.Core.List.{List, [], _∷_}
 use Prim.Native.Nat.{ℕ, zero, suc, _+_, _-_, _*_, _/_, _%_, _≤_, _<_}
 use native.Mathlib.Nat.{suc-mul}
@@ -23,11 +23,10 @@ use Rattle.writer.specs.FiveThreeLevel.{cellOf, fiveThree}
 use Rattle.writer.specs.Machine.{Out, arrive}
 use Rattle.writer.specs.Draws.{Waiting}
 use Rattle.writer.specs.Taking.{stored, Taking, takes, offering}
-use Rattle.writer.specs.Questions.{either, inRanges, longEnough, waitingRow, offerQuestion, drawQuestion, finishQuestion}
-use Rattle.writer.specs.Answers.{unless, changedUnless}
-use Rattle.writer.specs.Calls.{fresh, took, offerReply, offerStore, waits, closing, finishReply, finishStore, handed, handedStore, drawReply, drawStore}
-use Rattle.writer.specs.Holds.{Holds, Keeps, AnyMap, AllRows, GoesOn}
-use Rattle.writer.specs.History.{left, after}
+use Rattle.writer.specs.Questions.{setUpQuestion, either, inRanges, longEnough, waitingRow, offerQuestion, drawQuestion, finishQuestion}
+use Rattle.writer.specs.Answers.{Reply, gives, refused, unless, changedUnless, Took, Handed}
+use Rattle.writer.specs.Calls.{fresh, setUpReply, took, offerReply, offerStore, waits, closing, finishReply, finishStore, handed, handedStore, drawReply, drawStore}
+use Rattle.writer.specs.Holds.{Holds, Keeps, AnyMap, AllRows, GoesOn, left, after, tookOf, DrawKeeps, FinishKeeps, OfferKeeps, SetUpHolds}
 use Rattle.writer.proofs.StateHolds.{st, fresh-holds, pulled-by, draw-holds, finish-holds, begun-holds, complete-holds}
 use Rattle.writer.proofs.CallList.{rows-of, column-of, rows-below}
 
@@ -40,7 +39,7 @@ handed-holds : (H : ℕ) (g : Grid) (W L r c : ℕ) (f : Bool) (cl v i : ℕ) (x
 handed-holds H g W L r c f cl zero i x h = h
 handed-holds H g W L r c f cl (suc v) i x h = draw-holds H g W L r c f cl v i x h
 
-pub draw-keeps : (s : Writer) (n k : ℕ) (x : Memory) → Keeps AnyMap s x (left (after s) s (drawReply s n k x)) (drawStore s n k x)
+pub draw-keeps : (s : Writer) (n k : ℕ) (x : Memory) → DrawKeeps s x (drawReply s n k x) (drawStore s n k x)
 unfolding drawReply drawStore
 draw-keeps s n k x = record { keeps = λ H g _ h. go H g h (drawQuestion s n k) }
   where
@@ -73,7 +72,7 @@ finish-may s n e = go (inRanges s) (longEnough n s) (s .finished) refl (eqb (s .
     go true true false p true q false r z = absurd (omega arith)
     go true true false p true q true r z = let h = split-both (ltb 0 (s .rows)) _ r in (p, eqb-true _ 0 q, ltb-true 0 _ (h .0), eqb-true _ 0 (h .1))
 
-pub finish-keeps : (s : Writer) (n : ℕ) (x : Memory) → Keeps (AllRows s) s x (left (λ t. t) s (finishReply s n x)) (finishStore s n x)
+pub finish-keeps : (s : Writer) (n : ℕ) (x : Memory) → FinishKeeps s x (finishReply s n x) (finishStore s n x)
 unfolding finishReply finishStore
 finish-keeps s n x = record { keeps = λ H g e h. go H g e h (finishQuestion s n) refl }
   where
@@ -171,9 +170,9 @@ offer-may s n k e = go (inRanges s) refl (longEnough n s) (s .finished) refl e
         let c = split-both (leb (s .rows) maxHeight) _ (b .1) .1 in
         (q, leb-true 1 (s .levels) (split-both (leb 1 (s .levels)) _ (b .0) .0), ltb-true _ _ (split-both (ltb (s .column) (s .width)) _ c .0)))
 
-pub offer-keeps : (s : Writer) (n : ℕ) (run : List ℕ) (x : Memory) → Keeps (GoesOn s run (offering fiveThree run s x .taken)) s x (left (λ t. t .writer) s (offerReply s n run x)) (offerStore s n run x)
+pub offer-keeps : (s : Writer) (n : ℕ) (run : List ℕ) (x : Memory) → OfferKeeps s run x (offerReply s n run x) (offerStore s n run x)
 unfolding offerReply offerStore
-offer-keeps s n run x = record { keeps = λ H g t h. go H g t h (offerQuestion s n (length run)) refl }
+offer-keeps s n run x = record { keeps = λ H g t h. go H g h (offerQuestion s n (length run)) refl t }
   where
     passed : (H : ℕ) (g : Grid) (W L r c : ℕ) (f : Bool) (cl v i : ℕ) → f ≡ false → 0 < L → c < W →
         (let t = offering fiveThree run (st W L r c f cl v i) x in GoesOn (st W L r c f cl v i) run (t .taken) H g → Holds H g (st W L r c f cl v i) x → Holds H g (t .writer) (t .store))
@@ -181,8 +180,31 @@ offer-keeps s n run x = record { keeps = λ H g t h. go H g t h (offerQuestion s
     passed H g W (suc l) r c true cl v i z p q m h = let y : _≡_ {A = ℕ} 0 1 = ap (λ b. pick b 0 1) z in absurd (omega arith)
     passed H g W (suc l) r c false cl v i z p q m h = unfold Taken in offering-holds H g W l run r c cl v i x q h (m .within) (m .heights)
 
-    go : (H : ℕ) (g : Grid) → GoesOn s run (offering fiveThree run s x .taken) H g → Holds H g s x → (q : ℕ) → offerQuestion s n (length run) ≡ q → Holds H g (left (λ t. t .writer) s (unless q (took (offering fiveThree run s x)))) (changedUnless q (offering fiveThree run s x .store) x)
-    go H g m h zero z =
+    go : (H : ℕ) (g : Grid) → Holds H g s x → (q : ℕ) → offerQuestion s n (length run) ≡ q → (let a = unless q (took (offering fiveThree run s x)) in
+        GoesOn s run (tookOf a) H g → Holds H g (left (λ t. t .writer) s a) (changedUnless q (offering fiveThree run s x .store) x))
+    go H g h zero z m =
         let y = offer-may s n (length run) z in
         passed H g (s .width) (s .levels) (s .rows) (s .column) (s .finished) (s .closed) (s .level) (s .left) (y .0) (y .1) (y .2) m h
-    go H g m h (suc q) z = h
+    go H g h (suc q) z m = h
+
+-- ---- the same of an answer and a store that are the definitions', as a contract says it
+pub set-up-kept : (W L n : ℕ) (a : Reply Writer) (y : Memory) → a ≡ setUpReply W L n → SetUpHolds a y
+unfolding setUpReply
+set-up-kept W L n a y e = record { holds = λ s z H g. go H g s (setUpQuestion W L n) (sym e ∙ z) }
+  where
+    given : Writer → Reply Writer → Writer
+    given s (gives t) = t
+    given s (refused q) = s
+
+    go : (H : ℕ) (g : Grid) (s : Writer) (q : ℕ) → unless q (fresh W L) ≡ gives s → Holds H g s y
+    go H g s zero z = subst (λ t. Holds H g t y) (ap (given s) z) (set-up-holds W L H g y)
+    go H g s (suc q) z = let b : _≡_ {A = ℕ} 0 1 = ap (λ r. elim r [ gives t ↦ 1 | refused k ↦ 0 ]) z in absurd (omega arith)
+
+pub draw-kept : (s : Writer) (n k : ℕ) (x : Memory) (a : Reply Handed) (y : Memory) → a ≡ drawReply s n k x → y ≡ drawStore s n k x → DrawKeeps s x a y
+draw-kept s n k x a y e f = subst₂ (DrawKeeps s x) (sym e) (sym f) (draw-keeps s n k x)
+
+pub finish-kept : (s : Writer) (n : ℕ) (x : Memory) (a : Reply Writer) (y : Memory) → a ≡ finishReply s n x → y ≡ finishStore s n x → FinishKeeps s x a y
+finish-kept s n x a y e f = subst₂ (FinishKeeps s x) (sym e) (sym f) (finish-keeps s n x)
+
+pub offer-kept : (s : Writer) (n : ℕ) (run : List ℕ) (x : Memory) (a : Reply Took) (y : Memory) → a ≡ offerReply s n run x → y ≡ offerStore s n run x → OfferKeeps s run x a y
+offer-kept s n run x a y e f = subst₂ (OfferKeeps s run x) (sym e) (sym f) (offer-keeps s n run x)

@@ -17,3 +17,5 @@ pub mod DrawLaws
 pub mod ClosingLaws
 pub mod GateLaws
 pub mod CallLaws
+pub mod FillLaws
+pub mod OfferLaws

@@ -9,6 +9,7 @@ use Rattle.writer.specs.declared.BandRow.{BandRow}
 use Rattle.writer.specs.Level.{Memory}
 use Rattle.writer.specs.Questions.{either}
 use Rattle.writer.specs.Answers.{Reply, gives, refused, Handed, aRow, nothing}
+use Rattle.writer.specs.Holds.{left, after}
 use Rattle.writer.specs.Calls.{fresh, setUpStore, offerReply, offerStore, drawReply, drawStore, drawArea, finishReply, finishStore}
 
 -- ---- calls, and what is seen of them
@@ -48,15 +49,6 @@ seen f (refused q) = refused q
 abbrev pub given : Handed → Given
 given (aRow r s) = row r
 given nothing = none
-
--- the state that a call leaves: its own before where it was turned away or gave Nothing
-abbrev pub left : {A : Type 0} → (A → Writer) → Writer → Reply A → Writer
-left f s (gives a) = f a
-left f s (refused q) = s
-
-abbrev pub after : Writer → Handed → Writer
-after s (aRow r t) = t
-after s nothing = s
 
 unfoldable pub event : Call → World → Event
 event (offer run) w = offered run (seen (λ t. t .taken) (offerReply (w .writer) (w .length) run (w .store)))

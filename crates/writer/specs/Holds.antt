@@ -14,6 +14,7 @@ use Rattle.writer.specs.Level.{Memory, LevelKind}
 use Rattle.writer.specs.Counts.{prev, made, bandAt, hasRow}
 use Rattle.writer.specs.FiveThreeLevel.{cellOf, fiveThree}
 use Rattle.writer.specs.Machine.{rest}
+use Rattle.writer.specs.Answers.{Reply, gives, refused, Took, Handed, aRow, nothing}
 
 -- ---- the 5/3 level
 -- the first c columns of row y stand in the slot of row r
@@ -97,3 +98,30 @@ AllRows s H g = s .rows ≡ H
 pub record GoesOn (s : Writer) (run : List ℕ) (k : ℕ) (H : ℕ) (g : Grid) : Type 0 where
   pub within : s .rows * s .width + s .column + k ≤ s .width * H
   pub heights : (j : ℕ) → j < k → g ((s .rows * s .width + s .column + j) / s .width) ((s .rows * s .width + s .column + j) % s .width) ≡ pos (getD run j 0)
+
+-- the state that a call leaves: the one before where it was turned away or gave Nothing; and how many heights it took
+abbrev pub left : {A : Type 0} → (A → Writer) → Writer → Reply A → Writer
+left f s (gives a) = f a
+left f s (refused q) = s
+
+abbrev pub after : Writer → Handed → Writer
+after s (aRow r t) = t
+after s nothing = s
+
+abbrev pub tookOf : Reply Took → ℕ
+tookOf (gives t) = t .taken
+tookOf (refused q) = 0
+
+-- what each call keeps, by its answer: s, x and x′ are the state and the store before, and the store after
+abbrev pub DrawKeeps : Writer → Memory → Reply Handed → Memory → Type 0
+DrawKeeps s x r x′ = Keeps AnyMap s x (left (after s) s r) x′
+
+abbrev pub FinishKeeps : Writer → Memory → Reply Writer → Memory → Type 0
+FinishKeeps s x r x′ = Keeps (AllRows s) s x (left (λ t. t) s r) x′
+
+abbrev pub OfferKeeps : Writer → List ℕ → Memory → Reply Took → Memory → Type 0
+OfferKeeps s run x r x′ = Keeps (GoesOn s run (tookOf r)) s x (left (λ t. t .writer) s r) x′
+
+-- the store that set-up leaves holds the beginning of every map
+pub record SetUpHolds (r : Reply Writer) (x : Memory) : Type 0 where
+  pub holds : (s : Writer) → r ≡ gives s → (H : ℕ) (g : Grid) → Holds H g s x

@@ -13,3 +13,4 @@ pub mod History
 pub mod Demand3
 pub mod Steps
 pub mod Gate
+pub mod Stretch

@@ -1,119 +1,268 @@
-use borrow.Author.Needs.{needs}
+-- `reader::Reader::draw` meets its contract: refused by a question, or nothing, or drawn, or ended. Assumes nothing.
+use mathlib.Core.Path.{_≡_, _∙_, sym, ap, refl}
+use native.Mathlib.Omega.{arith}
+use borrow.Author.Tests.{not-true, not-false}
+use Prim.Native.Nat.{ℕ, _+_, _-_}
+use lib.ListN.{length}
+use Rattle.numbers.specs.Signal.{at}
+use Rattle.numbers.proofs.Parts.{length-mid}
+use Rattle.reader.specs.Areas.{heightsAt}
+use Rattle.reader.proofs.WorkLaws.{told-no, told-yes}
+use Rattle.reader.proofs.StoreLaws.{first-room}
+use Rattle.reader.proofs.QuestionLaws.{counts-shape, store-in, due-in}
+use Rattle.reader.proofs.CallLaws.{store-14, draw-early, draw-none, draw-12, draw-last, draw-no, draw-nothing, draw-yes, draw-end, fits-yes, fits-no, drawn-reader, drawn-row, zero-kept}
 use Rattle.reader.proofs.Reader.draw.Statement.{statement}
 use Rattle.reader.proofs.Reader.draw.Tie as tie
-use Rattle.reader.proofs.Reader.draw.Reads as reads
-use Rattle.reader.proofs.Reader.draw.Lts as lts
-use Rattle.reader.proofs.Reader.moved.Reads as moved-reads
-use Rattle.reader.proofs.Reader.over.Reads as over-reads
-use Rattle.reader.proofs.areas.clear.Reads as clear-reads
-use Rattle.reader.proofs.areas.draw_heights.Reads as draw-heights-reads
-use Rattle.reader.proofs.questions.draw_due.Reads as draw-due-reads
-use Rattle.reader.proofs.questions.store_question.Reads as store-question-reads
-use Rattle.reader.proofs.steps.next_of.Reads as next-of-reads
-use Rattle.reader.proofs.steps.settle.Reads as settle-reads
-use Rattle.reader.proofs.walk.enter_of.Reads as enter-of-reads
-use Rattle.reader.proofs.walk.store_length.Reads as store-length-reads
-use Rattle.reader.proofs.work.row_place.Reads as row-place-reads
 
--- src/lib.rt:160:13
 store-question-requires : tie.Need-store-question-requires
-store-question-requires c κs = search needs
+store-question-requires c κs = tt
 
--- src/lib.rt:162:13
 returns : tie.Need-returns
-returns c = ?
+returns c =
+    let q = c .before .store-question .ensures in
+    let a = c .before .before .before .args in
+    let n = length (a .store .now) in
+    let m = length (a .out .now) in
+    draw-no (a .self) _ _ _ _ (q ∙ draw-early (a .self) n m (at (a .store .now)) (λ e. c .if1 .taken (q ∙ e))) (c .if1 .taken) (λ e. store-14 (a .self) n m (at (a .store .now)) (at (a .store .now)) (sym q ∙ e))
 
--- src/lib.rt:164:13
 next-of-requires : tie.Need-next-of-requires
-next-of-requires c κs = ?
+next-of-requires c κs = store-in _ _ (sym (c .before .store-question .ensures) ∙ c .if1 .left) .0
 
--- src/lib.rt:165:13
 draw-due-requires : tie.Need-draw-due-requires
-draw-due-requires c κs = search needs
+draw-due-requires c κs = c .next-of .ensures
 
--- src/lib.rt:166:13
 returns-2 : tie.Need-returns-2
-returns-2 c = ?
+returns-2 c =
+    let ok = c .before .before .before in
+    let a = ok .before .before .before .args in
+    let none = sym (c .before .draw-due .ensures) ∙ not-true _ (c .if2 .taken) in
+    let one = sym (ok .before .store-question .ensures) ∙ ok .if1 .left in
+    draw-nothing (a .self) _ _ _ (draw-none (a .self) (length (a .store .now)) (length (a .out .now)) (at (a .store .now)) one none) none
 
--- src/lib.rt:170:13
 returns-3 : tie.Need-returns-3
-returns-3 c = ?
+returns-3 c =
+    let due = c .before in
+    let ok = due .before .before .before in
+    let a = ok .before .before .before .args in
+    let one = sym (ok .before .store-question .ensures) ∙ ok .if1 .left in
+    draw-no (a .self) _ _ _ 12 (draw-12 (a .self) (length (a .store .now)) (length (a .out .now)) (at (a .store .now)) one (sym (due .before .draw-due .ensures) ∙ not-false _ (due .if2 .left)) (omega arith)) (omega arith) (omega arith)
 
--- src/lib.rt:172:12
 settle-requires : tie.Need-settle-requires
-settle-requires c κs = ?
+settle-requires c κs =
+    let next = c .before .before .before .before in
+    let ok = next .before in
+    let one = store-in _ _ (sym (ok .before .store-question .ensures) ∙ ok .if1 .left) in
+    (one .0, next .next-of .ensures, one .1)
 
--- src/lib.rt:173:17
 row-place-requires : tie.Need-row-place-requires
-row-place-requires c κs = ?
+row-place-requires c κs =
+    let call = c .before .before in
+    let fits = call .before .before in
+    let due = fits .before in
+    let next = due .before .before in
+    let ok = next .before in
+    let start = ok .before .before .before in
+    let a = start .args in
+    let s = a .self in
+    let one = store-in s _ (sym (ok .before .store-question .ensures) ∙ ok .if1 .left) in
+    counts-shape s (one .0) .1
 
--- src/lib.rt:174:21
 add-e : tie.Need-add-e
-add-e c = search needs
+add-e c =
+    let call = c .before .before .before in
+    let fits = call .before .before in
+    let due = fits .before in
+    let next = due .before .before in
+    let ok = next .before in
+    let start = ok .before .before .before in
+    let a = start .args in
+    let s = a .self in
+    let one = store-in s _ (sym (ok .before .store-question .ensures) ∙ ok .if1 .left) in
+    let shape = counts-shape s (one .0) in
+    omega (arith, shape .1, c .row-place .ensures .1)
 
--- src/lib.rt:175:33
 mul-draw-heights : tie.Need-mul-draw-heights
-mul-draw-heights c = ?
+mul-draw-heights c =
+    let call = c .before .before .before in
+    let fits = call .before .before in
+    let due = fits .before in
+    let next = due .before .before in
+    let ok = next .before in
+    let start = ok .before .before .before in
+    let a = start .args in
+    let s = a .self in
+    let one = store-in s _ (sym (ok .before .store-question .ensures) ∙ ok .if1 .left) in
+    let shape = counts-shape s (one .0) in
+    omega (arith, shape .1, c .row-place .ensures .1)
 
--- src/lib.rt:175:33
 sub-draw-heights : tie.Need-sub-draw-heights
-sub-draw-heights c = search needs
+sub-draw-heights c = omega arith
 
--- src/lib.rt:175:33
 part-draw-heights-start : tie.Need-part-draw-heights-start
-part-draw-heights-start c = search needs
+part-draw-heights-start c =
+    let call = c .before .before .before .before in
+    let fits = call .before .before in
+    let due = fits .before in
+    let next = due .before .before in
+    let ok = next .before in
+    let start = ok .before .before .before in
+    let a = start .args in
+    let s = a .self in
+    let one = store-in s _ (sym (ok .before .store-question .ensures) ∙ ok .if1 .left) in
+    let shape = counts-shape s (one .0) in
+    omega (arith, shape .1, c .before .row-place .ensures .1, one .1, first-room (s .width) (s .levels) (one .0 .deep .0), call .settle .kept .1 .0)
 
--- src/lib.rt:175:33
 part-draw-heights-end : tie.Need-part-draw-heights-end
-part-draw-heights-end c = ?
+part-draw-heights-end c =
+    let call = c .before .before .before .before in
+    let fits = call .before .before in
+    let due = fits .before in
+    let next = due .before .before in
+    let ok = next .before in
+    let start = ok .before .before .before in
+    let a = start .args in
+    let s = a .self in
+    let one = store-in s _ (sym (ok .before .store-question .ensures) ∙ ok .if1 .left) in
+    let shape = counts-shape s (one .0) in
+    omega (arith, shape .1, c .before .row-place .ensures .1, one .1, first-room (s .width) (s .levels) (one .0 .deep .0), call .settle .kept .1 .0)
 
--- src/lib.rt:175:13
 draw-heights-requires : tie.Need-draw-heights-requires
-draw-heights-requires c κs = search needs
+draw-heights-requires c κs =
+    let call = c .before .before .before .before .before .before in
+    let fits = call .before .before in
+    let due = fits .before in
+    let next = due .before .before in
+    let ok = next .before in
+    let start = ok .before .before .before in
+    let a = start .args in
+    let s = a .self in
+    let one = store-in s _ (sym (ok .before .store-question .ensures) ∙ ok .if1 .left) in
+    let place = c .before .before .before in
+    let p = place .row-place .result in
+    let y = call .settle .last .1 .0 in
+    let room = first-room (s .width) (s .levels) (one .0 .deep .0) in
+    omega (arith, length-mid p (p + s .width - p) y (omega (arith, place .row-place .ensures .1, one .1, room, call .settle .kept .1 .0)))
 
--- src/lib.rt:176:21
 add-d : tie.Need-add-d
-add-d c = ?
+add-d c =
+    let call = c .before .before .before .before .before .before .before .before .before .before in
+    let fits = call .before .before in
+    let due = fits .before in
+    let next = due .before .before in
+    let ok = next .before in
+    let start = ok .before .before .before in
+    let a = start .args in
+    let s = a .self in
+    let one = store-in s _ (sym (ok .before .store-question .ensures) ∙ ok .if1 .left) in
+    let shape = counts-shape s (one .0) in
+    omega (arith, shape .3, shape .4)
 
--- src/lib.rt:177:52
 enter-of-requires : tie.Need-enter-of-requires
-enter-of-requires c κs = ?
+enter-of-requires c κs =
+    let call = c .before .before .before .before .before .before .before .before .before .before in
+    let fits = call .before .before in
+    let due = fits .before in
+    let next = due .before .before in
+    let ok = next .before in
+    let start = ok .before .before .before in
+    let a = start .args in
+    let s = a .self in
+    let one = store-in s _ (sym (ok .before .store-question .ensures) ∙ ok .if1 .left) in
+    let shape = counts-shape s (one .0) in
+    let draws = due-in s (sym (due .before .draw-due .ensures) ∙ not-false _ (due .if2 .left)) in
+    ((shape .0, shape .1, shape .2, shape .3, omega (arith, draws .0)), one .0 .deep .1)
 
--- src/lib.rt:177:38
 moved-requires : tie.Need-moved-requires
-moved-requires c κs = search needs
+moved-requires c κs = tt
 
--- src/lib.rt:177:13
 same-length : tie.Need-same-length
-same-length c = search needs
+same-length c = c .before .before .before .before .before .before .before .before .before .before .before .before .settle .kept .1 .0
 
--- src/lib.rt:177:13
 same-length-2 : tie.Need-same-length-2
-same-length-2 c = search needs
+same-length-2 c = c .before .before .before .before .before .draw-heights .kept .1 .0
 
--- src/lib.rt:177:13
 returns-4 : tie.Need-returns-4
-returns-4 c = ?
+returns-4 c =
+    let call = c .before .before .before .before .before .before .before .before .before .before .before .before in
+    let fits = call .before .before in
+    let due = fits .before in
+    let next = due .before .before in
+    let ok = next .before in
+    let start = ok .before .before .before in
+    let a = start .args in
+    let s = a .self in
+    let enter = c .before in
+    let drawing = c .before .before .before .before .before in
+    let place = drawing .before .before .before .before in
+    let settled = place .before in
+    let one = store-in s _ (sym (ok .before .store-question .ensures) ∙ ok .if1 .left) in
+    let n = length (a .store .now) in
+    let m = length (a .out .now) in
+    let p = place .row-place .result in
+    let y = call .settle .last .1 .0 in
+    let w = s .width in
+    let room = first-room w (s .levels) (one .0 .deep .0) in
+    let made = told-yes (call .settle .result) (at y) _ (call .settle .ensures .0) (settled .if4 .taken) in
+    let is-due = sym (due .before .draw-due .ensures) ∙ not-false _ (due .if2 .left) in
+    draw-yes s _ _ _ _ _ _
+    (fits-yes _ _ made ∙ draw-last s n m (at (a .store .now)) (sym (ok .before .store-question .ensures) ∙ ok .if1 .left) is-due (omega arith))
+    is-due
+    (drawn-reader s (c .moved .result) _ (enter .enter-of .result) refl (enter .enter-of .ensures) (c .moved .ensures))
+    made
+    (drawn-row w (s .drawn) p (p + w - p) y _ _ (place .row-place .ensures .0) (omega arith) (omega (arith, place .row-place .ensures .1, one .1, room, call .settle .kept .1 .0)) (drawing .draw-heights .ensures))
 
--- src/lib.rt:179:13
 store-length-requires : tie.Need-store-length-requires
-store-length-requires c κs = ?
+store-length-requires c κs =
+    let call = c .before .before in
+    let fits = call .before .before in
+    let due = fits .before in
+    let next = due .before .before in
+    let ok = next .before in
+    let start = ok .before .before .before in
+    let a = start .args in
+    let s = a .self in
+    let one = store-in s _ (sym (ok .before .store-question .ensures) ∙ ok .if1 .left) in
+    (counts-shape s (one .0) .1, one .0 .deep .1)
 
--- src/lib.rt:180:9
 clear-requires : tie.Need-clear-requires
-clear-requires c κs = ?
+clear-requires c κs =
+    let call = c .before .before .before .before in
+    let fits = call .before .before in
+    let due = fits .before in
+    let next = due .before .before in
+    let ok = next .before in
+    let start = ok .before .before .before in
+    let a = start .args in
+    let s = a .self in
+    let one = store-in s _ (sym (ok .before .store-question .ensures) ∙ ok .if1 .left) in
+    omega (arith, one .1, c .before .store-length .ensures, call .settle .kept .1 .0)
 
--- src/lib.rt:181:27
 over-requires : tie.Need-over-requires
-over-requires c κs = search needs
+over-requires c κs = tt
 
--- src/lib.rt:154:5
 same-length-3 : tie.Need-same-length-3
-same-length-3 c = search needs
+same-length-3 c = c .before .before .clear .kept .0 ∙ c .before .before .before .before .before .before .before .settle .kept .1 .0
 
--- src/lib.rt:154:5
 returns-5 : tie.Need-returns-5
-returns-5 c = ?
+returns-5 c =
+    let call = c .before .before .before .before .before .before .before in
+    let fits = call .before .before in
+    let due = fits .before in
+    let next = due .before .before in
+    let ok = next .before in
+    let start = ok .before .before .before in
+    let a = start .args in
+    let s = a .self in
+    let clear = c .before .before in
+    let long = clear .before .before in
+    let failed = long .before in
+    let n = length (a .store .now) in
+    let m = length (a .out .now) in
+    let made = told-no (call .settle .result) (at (call .settle .last .1 .0)) _ (call .settle .ensures .0) (failed .if4 .left) in
+    draw-end s _ _ _ _ _
+    (fits-no _ made ∙ draw-last s n m (at (a .store .now)) (sym (ok .before .store-question .ensures) ∙ ok .if1 .left) (sym (due .before .draw-due .ensures) ∙ not-false _ (due .if2 .left)) (omega arith))
+    (c .over .ensures)
+    (zero-kept (s .width) (s .levels) _ _ _ _ (long .store-length .ensures) (call .settle .ensures .1) (clear .clear .ensures))
 
 pub draw-spec : {M : Type 1} → statement M
 draw-spec =

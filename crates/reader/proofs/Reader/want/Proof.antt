@@ -1,48 +1,67 @@
-use borrow.Author.Needs.{needs}
+-- `reader::Reader::want` meets its contract: the definition's tests, in its order. Assumes nothing.
+use mathlib.Core.Path.{_≡_, _∙_, sym, ap, refl}
+use native.Mathlib.Omega.{arith}
+use borrow.Author.Tests.{not-true, not-false}
+use Rattle.reader.specs.Calls.{wantNumber}
+use Rattle.reader.proofs.QuestionLaws.{counts-in}
+use Rattle.reader.proofs.CallLaws.{want-no, want-yes, wants-ended, wants-done, wants-draw, wants-row}
 use Rattle.reader.proofs.Reader.want.Statement.{statement}
 use Rattle.reader.proofs.Reader.want.Tie as tie
-use Rattle.reader.proofs.Reader.want.Reads as reads
-use Rattle.reader.proofs.Reader.want.Lts as lts
-use Rattle.reader.proofs.questions.counts_fit.Reads as counts-fit-reads
-use Rattle.reader.proofs.steps.next_of.Reads as next-of-reads
-use Rattle.reader.proofs.steps.row_length.Reads as row-length-reads
-use Rattle.reader.proofs.steps.row_number.Reads as row-number-reads
 
--- src/lib.rt:114:13
 counts-fit-requires : tie.Need-counts-fit-requires
-counts-fit-requires c κs = search needs
+counts-fit-requires c κs = tt
 
--- src/lib.rt:115:13
 returns : tie.Need-returns
-returns c = ?
+returns c = want-no _ (sym (c .before .counts-fit .ensures) ∙ not-true _ (c .if1 .taken))
 
--- src/lib.rt:118:13
 returns-2 : tie.Need-returns-2
-returns-2 c = ?
+unfolding wantNumber
+returns-2 c =
+    let fit = c .before in
+    want-yes _ _ (sym (fit .before .counts-fit .ensures) ∙ not-false _ (fit .if1 .left)) refl (wants-ended _ (c .if2 .taken))
 
--- src/lib.rt:121:13
 returns-3 : tie.Need-returns-3
-returns-3 c = ?
+unfolding wantNumber
+returns-3 c =
+    let live = c .before .before in
+    let fit = live .before in
+    want-yes _ _ (sym (fit .before .counts-fit .ensures) ∙ not-false _ (fit .if1 .left)) refl (wants-done _ (live .if2 .left) (c .if3 .taken))
 
--- src/lib.rt:123:13
 next-of-requires : tie.Need-next-of-requires
-next-of-requires c κs = ?
+next-of-requires c κs =
+    let fit = c .before .before .before in
+    counts-in _ (sym (fit .before .counts-fit .ensures) ∙ not-false _ (fit .if1 .left))
 
--- src/lib.rt:125:13
 returns-4 : tie.Need-returns-4
-returns-4 c = ?
+unfolding wantNumber
+returns-4 c =
+    let next = c .before .before in
+    let more = next .before in
+    let live = more .before .before in
+    let fit = live .before in
+    want-yes _ _ (sym (fit .before .counts-fit .ensures) ∙ not-false _ (fit .if1 .left)) refl (wants-draw _ (next .next-of .result) (next .next-of .ensures) (live .if2 .left) (omega arith) (c .if4 .taken))
 
--- src/lib.rt:127:38
 row-number-requires : tie.Need-row-number-requires
-row-number-requires c κs = ?
+row-number-requires c κs =
+    let next = c .before .before in
+    let fit = next .before .before .before .before in
+    (counts-in _ (sym (fit .before .counts-fit .ensures) ∙ not-false _ (fit .if1 .left)), next .next-of .ensures, omega arith)
 
--- src/lib.rt:127:66
 row-length-requires : tie.Need-row-length-requires
-row-length-requires c κs = ?
+row-length-requires c κs =
+    let next = c .before .before .before in
+    let fit = next .before .before .before .before in
+    (counts-in _ (sym (fit .before .counts-fit .ensures) ∙ not-false _ (fit .if1 .left)), next .next-of .ensures, omega arith)
 
--- src/lib.rt:110:5
 returns-5 : tie.Need-returns-5
-returns-5 c = ?
+unfolding wantNumber
+returns-5 c =
+    let number = c .before in
+    let next = number .before .before .before in
+    let more = next .before in
+    let live = more .before .before in
+    let fit = live .before in
+    want-yes _ _ (sym (fit .before .counts-fit .ensures) ∙ not-false _ (fit .if1 .left)) refl (wants-row _ (next .next-of .result) (next .next-of .ensures) (live .if2 .left) (omega arith) _ _ (omega arith) (number .row-number .ensures) (c .row-length .ensures))
 
 pub want-spec : {M : Type 1} → statement M
 want-spec =

@@ -43,14 +43,14 @@ loop-less : tie.Need-loop-less Inv-loop μ-loop
 loop-less c = omega arith
 
 loop-again : tie.Need-loop-again Inv-loop μ-loop
-loop-again c = 
+loop-again c =
     let head = c .before .before .before in
     let x = head .before .args .row .now in
     let i = head .loop .i in
     (omega arith, rw (read-back (at x i) (c .ok2 .given)) (between-turn _ i _ _ (at x) (head .loop .inv .1)))
 
 returns : tie.Need-returns Inv-loop μ-loop
-returns c = 
+returns c =
     let fits = c .before .before .fits in
     between-end _ _ _ _ _ _ _ _ (toZ-ofZ w32 _ (fits .low)) (toZ-ofZ w32 _ (fits .high)) (c .before .loop .inv .0) (c .loop-test .left) (c .before .loop .inv .1)
 

@@ -34,7 +34,7 @@ loop-less : tie.Need-loop-less Inv-loop μ-loop
 loop-less c = omega arith
 
 loop-again : tie.Need-loop-again Inv-loop μ-loop
-loop-again c = 
+loop-again c =
     let head = c .before in (
       omega arith,
       store (pos 0) (head .loop .inv .1) (omega arith) (sym (front-at _ _ _ (head .loop .i) (omega arith))),

@@ -4,7 +4,6 @@ use Prim.Native.Nat.{ℕ, _+_, _-_, _*_, _≤_, _<_}
 use native.Mathlib.Omega.{arith}
 use lib.ListN.{length}
 use Rattle.numbers.specs.Signal.{at}
-
 use Rattle.numbers.proofs.Words.{read-back}
 use Rattle.numbers.proofs.Sweep.{Swept, start, store, finish}
 use Rattle.lifting.specs.Halves.{fronted}
@@ -41,7 +40,7 @@ loop-less : tie.Need-loop-less Inv-loop μ-loop
 loop-less c = omega arith
 
 loop-again : tie.Need-loop-again Inv-loop μ-loop
-loop-again c = 
+loop-again c =
     let head = c .before .before in
     let x = head .before .args .from .now in
     let i = head .loop .i in (

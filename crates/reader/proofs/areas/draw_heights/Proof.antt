@@ -57,10 +57,16 @@ loop-again c =
     let one = two .before .before .before .before in
     let head = one .before .before .before in
     let x = head .before .before .args .row .now in
-    let inv = head .loop .inv in
-    (inv .0, inv .1, inv .2, inv .3, omega arith, two .draw-at2 .kept .1 .1 .0 ∙ one .draw-at .kept .1 .1 .0 ∙ inv .5,
+    let inv = head .loop .inv in (
+      inv .0,
+      inv .1,
+      inv .2,
+      inv .3,
+      omega arith,
+      two .draw-at2 .kept .1 .1 .0 ∙ one .draw-at .kept .1 .1 .0 ∙ inv .5,
       rw (two .draw-at2 .ensures, one .draw-at .ensures)
-          (lay-turn (length x) height16 (at x) _ _ _ (head .loop .j) _ (inv .3) (inv .0) (inv .6) (omega arith)))
+          (lay-turn (length x) height16 (at x) _ _ _ (head .loop .j) _ (inv .3) (inv .0) (inv .6) (omega arith)),
+    )
 
 mul-draw-at-3 : tie.Need-mul-draw-at-3 Inv-loop μ-loop
 mul-draw-at-3 c = omega arith

@@ -65,10 +65,16 @@ loop-again : tie.Need-loop-again Inv-loop μ-loop
 loop-again c =
     let one = c .before .before .before .before in
     let head = one .before .before .before in
-    let inv = head .loop .inv in
-    (inv .0, inv .1, inv .2, inv .3, omega arith, c .before .move-at2 .kept .0 ∙ one .move-at .kept .0 ∙ inv .5,
+    let inv = head .loop .inv in (
+      inv .0,
+      inv .1,
+      inv .2,
+      inv .3,
+      omega arith,
+      c .before .move-at2 .kept .0 ∙ one .move-at .kept .0 ∙ inv .5,
       rw (c .before .move-at2 .ensures, one .move-at .ensures)
-          (weave-turn _ _ _ _ _ _ (head .loop .j) (head .loop .area) (inv .3) (inv .0) (inv .1) (inv .6) (omega arith)))
+          (weave-turn _ _ _ _ _ _ (head .loop .j) (head .loop .area) (inv .3) (inv .0) (inv .1) (inv .6) (omega arith)),
+    )
 
 mul-move-at-3 : tie.Need-mul-move-at-3 Inv-loop μ-loop
 mul-move-at-3 c = omega arith

@@ -1,45 +1,58 @@
+-- `reader::questions::counts_fit` meets its contract: the definition's tests, in its order. Assumes nothing.
+use mathlib.Core.Path.{_≡_, _∙_, sym, ap}
+use native.Mathlib.Omega.{arith}
 use borrow.Author.Needs.{needs}
+use borrow.Author.Tests.{not-true, not-false}
+use Rattle.reader.proofs.QuestionLaws.{counts-1, counts-2, counts-3, counts-4, counts-5, counts-6}
 use Rattle.reader.proofs.questions.counts_fit.Statement.{statement}
 use Rattle.reader.proofs.questions.counts_fit.Tie as tie
-use Rattle.reader.proofs.questions.counts_fit.Reads as reads
-use Rattle.reader.proofs.questions.counts_fit.Lts as lts
-use Rattle.wavelet.proofs.limits.is_within.Reads as is-within-reads
 
--- src/questions.rt:22:9
 is-within-requires : tie.Need-is-within-requires
 is-within-requires c κs = search needs
 
--- src/questions.rt:23:9
 returns : tie.Need-returns
-returns c = ?
+returns c = counts-1 _ (sym (c .before .is-within .ensures) ∙ not-true _ (c .if1 .taken))
 
--- src/questions.rt:25:9
 is-within-requires-2 : tie.Need-is-within-requires-2
 is-within-requires-2 c κs = search needs
 
--- src/questions.rt:26:9
 returns-2 : tie.Need-returns-2
-returns-2 c = ?
+returns-2 c =
+    let a = c .before .before in
+    counts-2 _ (sym (a .before .is-within .ensures) ∙ not-false _ (a .if1 .left)) (sym (c .before .is-within2 .ensures) ∙ not-true _ (c .if2 .taken))
 
--- src/questions.rt:28:9
 is-within-requires-3 : tie.Need-is-within-requires-3
 is-within-requires-3 c κs = search needs
 
--- src/questions.rt:29:9
 returns-3 : tie.Need-returns-3
-returns-3 c = ?
+returns-3 c =
+    let b = c .before .before in
+    let a = b .before .before in
+    counts-3 _ (sym (a .before .is-within .ensures) ∙ not-false _ (a .if1 .left)) (sym (b .before .is-within2 .ensures) ∙ not-false _ (b .if2 .left)) (sym (c .before .is-within3 .ensures) ∙ not-true _ (c .if3 .taken))
 
--- src/questions.rt:32:9
 returns-4 : tie.Need-returns-4
-returns-4 c = ?
+returns-4 c =
+    let d = c .before .before in
+    let b = d .before .before in
+    let a = b .before .before in
+    counts-4 _ (sym (a .before .is-within .ensures) ∙ not-false _ (a .if1 .left)) (sym (b .before .is-within2 .ensures) ∙ not-false _ (b .if2 .left)) (sym (d .before .is-within3 .ensures) ∙ not-false _ (d .if3 .left)) (c .if4 .taken)
 
--- src/questions.rt:35:9
 returns-5 : tie.Need-returns-5
-returns-5 c = ?
+returns-5 c =
+    let f = c .before .before in
+    let d = f .before .before in
+    let b = d .before .before in
+    let a = b .before .before in
+    counts-5 _ (sym (a .before .is-within .ensures) ∙ not-false _ (a .if1 .left)) (sym (b .before .is-within2 .ensures) ∙ not-false _ (b .if2 .left)) (sym (d .before .is-within3 .ensures) ∙ not-false _ (d .if3 .left)) (omega arith) (c .if5 .taken)
 
--- src/questions.rt:19:1
 returns-6 : tie.Need-returns-6
-returns-6 c = ?
+returns-6 c =
+    let g = c .before in
+    let f = g .before .before in
+    let d = f .before .before in
+    let b = d .before .before in
+    let a = b .before .before in
+    counts-6 _ (sym (a .before .is-within .ensures) ∙ not-false _ (a .if1 .left)) (sym (b .before .is-within2 .ensures) ∙ not-false _ (b .if2 .left)) (sym (d .before .is-within3 .ensures) ∙ not-false _ (d .if3 .left)) (omega arith) (omega arith)
 
 pub counts-fit-spec : {M : Type 1} → statement M
 counts-fit-spec =

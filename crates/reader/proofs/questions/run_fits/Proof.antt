@@ -1,26 +1,29 @@
-use borrow.Author.Needs.{needs}
+-- `reader::questions::run_fits` meets its contract: every number of the run between the bounds. Assumes nothing.
+use mathlib.Core.Path.{_≡_, _∙_, sym, ap}
+use lib.IntN.{ℤ, pos, _-ℤ_}
+use mir.Syntax.{w32}
+use mir.ValLaws.{toZ-ofZ}
+use borrow.Author.Needs.{needs, sfits-of}
+use Rattle.numbers.proofs.Words.{read-back}
+use Rattle.reader.proofs.RangeLaws.{neg-fits, same-range, run-is}
 use Rattle.reader.proofs.questions.run_fits.Statement.{statement}
 use Rattle.reader.proofs.questions.run_fits.Tie as tie
-use Rattle.reader.proofs.questions.run_fits.Reads as reads
-use Rattle.reader.proofs.questions.run_fits.Lts as lts
-use Rattle.reader.proofs.areas.all_between.Reads as all-between-reads
-use Rattle.wavelet.proofs.sizes.range_of.Reads as range-of-reads
 
--- src/questions.rt:64:9
 range-of-requires : tie.Need-range-of-requires
 range-of-requires c κs = search needs
 
--- src/questions.rt:65:29
 sub-all-between : tie.Need-sub-all-between
-sub-all-between c = ?
+sub-all-between c = rw (read-back (c .range-of .result) (c .range-of .ok)) (neg-fits _ _ (c .range-of .ensures) (sfits-of (c .range-of .ok)))
 
--- src/questions.rt:65:5
 all-between-requires : tie.Need-all-between-requires
 all-between-requires c κs = search needs
 
--- src/questions.rt:60:1
 returns : tie.Need-returns
-returns c = ?
+returns c =
+    let most = c .before in
+    let start = most .before in
+    let is = read-back (most .range-of .result) (most .range-of .ok) ∙ most .range-of .ensures ∙ same-range (start .args .level) (start .pre) in
+    c .all-between .ensures ∙ run-is (start .args .level) _ _ _ _ (toZ-ofZ w32 _ (sub-all-between most) ∙ ap (λ (z : ℤ). pos 0 -ℤ z) is) is
 
 pub run-fits-spec : {M : Type 1} → statement M
 run-fits-spec = tie.close (tie.spec range-of-requires sub-all-between all-between-requires returns)

@@ -1,46 +1,54 @@
+-- `reader::questions::set_up_question` meets its contract: the definition's tests, in its order. Assumes nothing.
+use mathlib.Core.Path.{_≡_, _∙_, sym, ap}
+use native.Mathlib.Omega.{arith}
 use borrow.Author.Needs.{needs}
+use borrow.Author.Tests.{not-true, not-false}
+use Rattle.reader.proofs.QuestionLaws.{up-2, up-3, up-4, up-5, up-0, up-small}
 use Rattle.reader.proofs.questions.set_up_question.Statement.{statement}
 use Rattle.reader.proofs.questions.set_up_question.Tie as tie
-use Rattle.reader.proofs.questions.set_up_question.Reads as reads
-use Rattle.reader.proofs.questions.set_up_question.Lts as lts
-use Rattle.reader.proofs.walk.store_length.Reads as store-length-reads
-use Rattle.wavelet.proofs.limits.is_within.Reads as is-within-reads
 
--- src/questions.rt:44:9
 is-within-requires : tie.Need-is-within-requires
 is-within-requires c κs = search needs
 
--- src/questions.rt:45:9
 returns : tie.Need-returns
-returns c = ?
+returns c = up-2 _ _ _ _ (sym (c .before .is-within .ensures) ∙ not-true _ (c .if1 .taken))
 
--- src/questions.rt:47:9
 is-within-requires-2 : tie.Need-is-within-requires-2
 is-within-requires-2 c κs = search needs
 
--- src/questions.rt:48:9
 returns-2 : tie.Need-returns-2
-returns-2 c = ?
+returns-2 c =
+    let a = c .before .before in
+    up-3 _ _ _ _ (sym (a .before .is-within .ensures) ∙ not-false _ (a .if1 .left)) (sym (c .before .is-within2 .ensures) ∙ not-true _ (c .if2 .taken))
 
--- src/questions.rt:50:9
 is-within-requires-3 : tie.Need-is-within-requires-3
 is-within-requires-3 c κs = search needs
 
--- src/questions.rt:51:9
 returns-3 : tie.Need-returns-3
-returns-3 c = ?
+returns-3 c =
+    let b = c .before .before in
+    let a = b .before .before in
+    up-4 _ _ _ _ (sym (a .before .is-within .ensures) ∙ not-false _ (a .if1 .left)) (sym (b .before .is-within2 .ensures) ∙ not-false _ (b .if2 .left)) (sym (c .before .is-within3 .ensures) ∙ not-true _ (c .if3 .taken))
 
--- src/questions.rt:53:17
 store-length-requires : tie.Need-store-length-requires
-store-length-requires c κs = ?
+store-length-requires c κs =
+    let a = c .before .before .before .before in
+    let start = a .before .before in
+    up-small (start .args .width) (start .args .height) (start .args .levels) 0 (sym (a .before .is-within .ensures) ∙ not-false _ (a .if1 .left)) (sym (c .before .is-within3 .ensures) ∙ not-false _ (c .if3 .left))
 
--- src/questions.rt:54:9
 returns-4 : tie.Need-returns-4
-returns-4 c = ?
+returns-4 c =
+    let d = c .before .before in
+    let b = d .before .before in
+    let a = b .before .before in
+    up-5 _ _ _ _ (sym (a .before .is-within .ensures) ∙ not-false _ (a .if1 .left)) (sym (b .before .is-within2 .ensures) ∙ not-false _ (b .if2 .left)) (sym (d .before .is-within3 .ensures) ∙ not-false _ (d .if3 .left)) (omega (arith, c .before .store-length .ensures))
 
--- src/questions.rt:41:1
 returns-5 : tie.Need-returns-5
-returns-5 c = ?
+returns-5 c =
+    let d = c .before .before in
+    let b = d .before .before in
+    let a = b .before .before in
+    up-0 _ _ _ _ (sym (a .before .is-within .ensures) ∙ not-false _ (a .if1 .left)) (sym (b .before .is-within2 .ensures) ∙ not-false _ (b .if2 .left)) (sym (d .before .is-within3 .ensures) ∙ not-false _ (d .if3 .left)) (omega (arith, c .before .store-length .ensures))
 
 pub set-up-question-spec : {M : Type 1} → statement M
 set-up-question-spec =

@@ -1,34 +1,42 @@
+-- `reader::questions::store_question` meets its contract: the definition's tests, in its order. Assumes nothing.
+use mathlib.Core.Path.{_≡_, _∙_, sym, ap}
+use native.Mathlib.Omega.{arith}
 use borrow.Author.Needs.{needs}
+use borrow.Author.Tests.{not-true, not-false}
+use Rattle.wavelet.specs.Limits.{maxWidth}
+use Rattle.reader.proofs.QuestionLaws.{counts-in, counts-shape, store-1, store-5, store-9, store-0}
 use Rattle.reader.proofs.questions.store_question.Statement.{statement}
 use Rattle.reader.proofs.questions.store_question.Tie as tie
-use Rattle.reader.proofs.questions.store_question.Reads as reads
-use Rattle.reader.proofs.questions.store_question.Lts as lts
-use Rattle.reader.proofs.questions.counts_fit.Reads as counts-fit-reads
-use Rattle.reader.proofs.walk.store_length.Reads as store-length-reads
 
--- src/questions.rt:72:9
 counts-fit-requires : tie.Need-counts-fit-requires
 counts-fit-requires c κs = search needs
 
--- src/questions.rt:73:9
 returns : tie.Need-returns
-returns c = ?
+returns c = store-1 _ _ (sym (c .before .counts-fit .ensures) ∙ not-true _ (c .if1 .taken))
 
--- src/questions.rt:75:17
 store-length-requires : tie.Need-store-length-requires
-store-length-requires c κs = ?
+store-length-requires c κs =
+    let s = c .before .before .args .s in
+    let counts = counts-in s (sym (c .before .counts-fit .ensures) ∙ not-false _ (c .if1 .left)) in
+    let shape = counts-shape s counts in
+    (shape .1, counts .deep .1)
 
--- src/questions.rt:76:9
 returns-2 : tie.Need-returns-2
-returns-2 c = ?
+returns-2 c =
+    let a = c .before .before in
+    store-5 _ _ (sym (a .before .counts-fit .ensures) ∙ not-false _ (a .if1 .left)) (omega (arith, c .before .store-length .ensures))
 
--- src/questions.rt:79:9
 returns-3 : tie.Need-returns-3
-returns-3 c = ?
+returns-3 c =
+    let b = c .before in
+    let a = b .before .before in
+    store-9 _ _ (sym (a .before .counts-fit .ensures) ∙ not-false _ (a .if1 .left)) (omega (arith, b .before .store-length .ensures)) (c .if3 .taken)
 
--- src/questions.rt:69:1
 returns-4 : tie.Need-returns-4
-returns-4 c = ?
+returns-4 c =
+    let b = c .before in
+    let a = b .before .before in
+    store-0 _ _ (sym (a .before .counts-fit .ensures) ∙ not-false _ (a .if1 .left)) (omega (arith, b .before .store-length .ensures)) (c .if3 .left)
 
 pub store-question-spec : {M : Type 1} → statement M
 store-question-spec =

@@ -1,16 +1,17 @@
+-- `reader::steps::next_of` meets its contract: the walk from the reader's place. Assumes nothing.
+use mathlib.Core.Path.{_≡_, _∙_, sym, ap}
+use native.Mathlib.Omega.{arith}
+use Rattle.reader.specs.State.{next}
+use Rattle.reader.proofs.QuestionLaws.{counts-shape}
 use Rattle.reader.proofs.steps.next_of.Statement.{statement}
 use Rattle.reader.proofs.steps.next_of.Tie as tie
-use Rattle.reader.proofs.steps.next_of.Reads as reads
-use Rattle.reader.proofs.steps.next_of.Lts as lts
-use Rattle.reader.proofs.walk.next_at.Reads as next-at-reads
 
--- src/steps.rt:21:5
 next-at-requires : tie.Need-next-at-requires
-next-at-requires c κs = ?
+next-at-requires c κs = let counts = c .pre in (counts-shape (c .args .s) counts, omega (arith, counts .at, counts .deep .1))
 
--- src/steps.rt:17:1
 returns : tie.Need-returns
-returns c = ?
+unfolding next
+returns c = c .next-at .ensures
 
 pub next-of-spec : {M : Type 1} → statement M
 next-of-spec = tie.close (tie.spec next-at-requires returns)

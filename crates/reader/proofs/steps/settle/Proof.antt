@@ -1,21 +1,26 @@
+-- `reader::steps::settle` meets its contract: the walk down to the row wanted. Assumes nothing.
+use mathlib.Core.Path.{_≡_, _∙_, sym, ap}
+use native.Mathlib.Omega.{arith}
 use borrow.Author.Needs.{needs}
+use Rattle.reader.proofs.QuestionLaws.{counts-shape}
+use Rattle.reader.proofs.StepLaws.{settles-is}
 use Rattle.reader.proofs.steps.settle.Statement.{statement}
 use Rattle.reader.proofs.steps.settle.Tie as tie
-use Rattle.reader.proofs.steps.settle.Reads as reads
-use Rattle.reader.proofs.steps.settle.Lts as lts
-use Rattle.reader.proofs.walk.settle.Reads as settle-reads
 
--- src/steps.rt:46:5
 settle-requires : tie.Need-settle-requires
-settle-requires c κs = ?
+settle-requires c κs =
+    let start = c .before in
+    let counts = start .pre .0 in
+    (counts-shape (start .args .s) counts, counts .deep .1, counts .at, omega arith)
 
--- src/steps.rt:42:1
 same-length : tie.Need-same-length
 same-length c = search needs
 
--- src/steps.rt:42:1
 returns : tie.Need-returns
-returns c = ?
+returns c =
+    let call = c .before in
+    let start = call .before .before in
+    (call .settle .ensures .0 ∙ settles-is (start .args .s) (start .args .p) (start .pre .1) _, call .settle .ensures .1)
 
 pub settle-spec : {M : Type 1} → statement M
 settle-spec = tie.close (tie.spec settle-requires same-length returns)

@@ -3,6 +3,7 @@ use mathlib.Core.Path.{_≡_, _∙_}
 use native.Mathlib.Omega.{arith}
 use borrow.Author.Needs.{needs}
 use Rattle.reader.proofs.WalkLaws.{finish-more, finish-set}
+use Rattle.reader.proofs.KeptLaws.{kept-none}
 use Rattle.reader.proofs.walk.finish.Statement.{statement}
 use Rattle.reader.proofs.walk.finish.Tie as tie
 
@@ -13,7 +14,7 @@ band-at-requires : tie.Need-band-at-requires
 band-at-requires c κs = search needs
 
 returns : tie.Need-returns
-returns c = let a = c .before .before .args in finish-more (a .width) (a .height) (a .levels) (a .drawn) (a .k) (a .band) _ (c .before .band-at .ensures) _ (c .if1 .taken)
+returns c = let a = c .before .before .args in (finish-more (a .width) (a .height) (a .levels) (a .drawn) (a .k) (a .band) _ (c .before .band-at .ensures) _ (c .if1 .taken), kept-none _ _)
 
 work-at-requires : tie.Need-work-at-requires
 work-at-requires c κs = search needs
@@ -26,7 +27,7 @@ returns-2 c =
     let call = c .before in
     let done = call .before .before in
     let a = done .before .before .args in
-    call .work-at .ensures ∙ finish-set (a .width) (a .height) (a .levels) (a .drawn) (a .k) (a .band) _ (done .before .band-at .ensures) _ (omega arith)
+    (call .work-at .ensures .0 ∙ finish-set (a .width) (a .height) (a .levels) (a .drawn) (a .k) (a .band) _ (done .before .band-at .ensures) _ (omega arith), call .work-at .ensures .1)
 
 pub finish-spec : {M : Type 1} → statement M
 finish-spec =

@@ -23,9 +23,13 @@ set-of-requires : tie.Need-set-of-requires Inv-loop μ-loop
 set-of-requires c κs = omega arith
 
 loop-holds : tie.Need-loop-holds Inv-loop μ-loop
-loop-holds c =
-    (omega arith, omega arith, omega arith, omega arith,
-      rw (c .set-of .ensures) (walk-start _ _ _ (omega arith)))
+loop-holds c = (
+  omega arith,
+  omega arith,
+  omega arith,
+  omega arith,
+  rw (c .set-of .ensures) (walk-start _ _ _ (omega arith)),
+)
 
 mul-start : tie.Need-mul-start Inv-loop μ-loop
 mul-start c = let a = c .before .loop .inv .4 in omega (arith, a .narrow)

@@ -7,6 +7,7 @@ use borrow.Author.Needs.{needs}
 use Rattle.numbers.proofs.Parts.{length-mid}
 use Rattle.wavelet.specs.Limits.{maxLevels}
 use Rattle.reader.proofs.PartLaws.{level-in, work-room, work-is}
+use Rattle.reader.proofs.KeptLaws.{part-kept}
 use Rattle.reader.proofs.walk.work_at.Statement.{statement}
 use Rattle.reader.proofs.walk.work_at.Tie as tie
 
@@ -57,8 +58,10 @@ returns c =
     let a = level .before .args in
     let room = work-room _ _ _ _ l (level .level-at .ensures) (a .levels) (omega arith) in
     let n = length (a .store .now) - l .start in
-    let long = length-mid (l .start) n (a .store .now) (omega arith) in
-    work-is (a .width) (a .height) (a .levels) (a .drawn) (a .k) l (l .start) n (a .store .now) (call .work-set .last .0) (call .work-set .result) (level .level-at .ensures) refl (omega arith) (call .work-set .kept .0 ∙ long) (call .work-set .ensures)
+    let long = length-mid (l .start) n (a .store .now) (omega arith) in (
+      work-is (a .width) (a .height) (a .levels) (a .drawn) (a .k) l (l .start) n (a .store .now) (call .work-set .last .0) (call .work-set .result) (level .level-at .ensures) refl (omega arith) (call .work-set .kept .0 ∙ long) (call .work-set .ensures .0),
+      part-kept (a .width) (a .height) (a .drawn) (a .k) (a .levels) l (level .level-at .ensures) n (a .store .now) (call .work-set .last .0) (omega arith) (omega arith) (call .work-set .kept .0 ∙ long) (call .work-set .ensures .1),
+    )
 
 pub work-at-spec : {M : Type 1} → statement M
 work-at-spec =

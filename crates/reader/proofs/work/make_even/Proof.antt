@@ -4,6 +4,7 @@ use native.Mathlib.Omega.{arith}
 use borrow.Author.Needs.{needs}
 use Rattle.wavelet.proofs.SizeLaws.{count-lo}
 use Rattle.reader.proofs.WorkLaws.{even-made}
+use Rattle.reader.proofs.KeptLaws.{kept-both, kept-is, set-kept, even-kept}
 use Rattle.reader.proofs.work.make_even.Statement.{statement}
 use Rattle.reader.proofs.work.make_even.Tie as tie
 
@@ -26,8 +27,10 @@ returns : tie.Need-returns
 returns c =
     let undo = c .before .before .before in
     let lift = undo .before .before .before in
-    let a = lift .before .before .args in
-    even-made (a .k) (a .w) (a .h) (a .n) _ _ _ _ (lift .unlift-set .ensures) (undo .undo-even .ensures) (c .admit-row .ensures)
+    let a = lift .before .before .args in (
+      even-made (a .k) (a .w) (a .h) (a .n) _ _ _ _ (lift .unlift-set .ensures) (undo .undo-even .ensures) (c .admit-row .ensures),
+      kept-both _ _ _ _ (kept-is _ _ _ _ (set-kept (a .w) (a .h) (a .n) _) (lift .unlift-set .ensures)) (kept-is _ _ _ _ (even-kept (a .w) (a .h) (a .n) _) (undo .undo-even .ensures)),
+    )
 
 pub make-even-spec : {M : Type 1} → statement M
 make-even-spec =

@@ -4,6 +4,7 @@ use native.Mathlib.Omega.{arith}
 use borrow.Author.Needs.{needs}
 use Rattle.wavelet.proofs.SizeLaws.{count-lo}
 use Rattle.reader.proofs.WorkLaws.{last-none, last-made}
+use Rattle.reader.proofs.KeptLaws.{kept-none, kept-is, odd-kept}
 use Rattle.reader.proofs.work.make_last.Statement.{statement}
 use Rattle.reader.proofs.work.make_last.Tie as tie
 
@@ -14,7 +15,7 @@ add-if1 : tie.Need-add-if1
 add-if1 c = omega (arith, count-lo (c .args .h))
 
 returns : tie.Need-returns
-returns c = let a = c .before .args in last-none (a .k) (a .w) (a .h) (a .n) _ (c .if1 .taken)
+returns c = let a = c .before .args in (last-none (a .k) (a .w) (a .h) (a .n) _ (c .if1 .taken), kept-none _ _)
 
 undo-odd-requires : tie.Need-undo-odd-requires
 undo-odd-requires c κs = search needs
@@ -35,8 +36,10 @@ returns-2 : tie.Need-returns-2
 returns-2 c =
     let undo = c .before .before .before in
     let even = undo .before .before in
-    let a = even .before .args in
-    last-made (a .k) (a .w) (a .h) (a .n) _ _ _ (even .if1 .left) (undo .undo-odd .ensures) (c .admit-row .ensures)
+    let a = even .before .args in (
+      last-made (a .k) (a .w) (a .h) (a .n) _ _ _ (even .if1 .left) (undo .undo-odd .ensures) (c .admit-row .ensures),
+      kept-is _ _ _ _ (odd-kept (a .w) (a .h) (a .n) _) (undo .undo-odd .ensures),
+    )
 
 pub make-last-spec : {M : Type 1} → statement M
 make-last-spec =

@@ -4,11 +4,13 @@ use native.Mathlib.Omega.{arith}
 use borrow.Author.Needs.{needs}
 use Rattle.wavelet.proofs.SizeLaws.{count-lo}
 use Rattle.reader.proofs.WorkLaws.{odd-none, odd-made}
+use Prim.Native.Nat.{_-_}
+use Rattle.reader.proofs.KeptLaws.{kept-none, kept-is, odd-kept}
 use Rattle.reader.proofs.work.make_odd.Statement.{statement}
 use Rattle.reader.proofs.work.make_odd.Tie as tie
 
 returns : tie.Need-returns
-returns c = let a = c .before .args in odd-none (a .k) (a .w) (a .h) (a .n) _ (c .if1 .taken)
+returns c = let a = c .before .args in (odd-none (a .k) (a .w) (a .h) (a .n) _ (c .if1 .taken), kept-none _ _)
 
 sub-undo-odd : tie.Need-sub-undo-odd
 sub-undo-odd c = search needs
@@ -32,8 +34,10 @@ returns-2 : tie.Need-returns-2
 returns-2 c =
     let undo = c .before .before .before in
     let some = undo .before .before in
-    let a = some .before .args in
-    odd-made (a .k) (a .w) (a .h) (a .n) _ _ _ (some .if1 .left) (undo .undo-odd .ensures) (c .admit-row .ensures)
+    let a = some .before .args in (
+      odd-made (a .k) (a .w) (a .h) (a .n) _ _ _ (some .if1 .left) (undo .undo-odd .ensures) (c .admit-row .ensures),
+      kept-is _ _ _ _ (odd-kept (a .w) (a .h) (a .n - 1) _) (undo .undo-odd .ensures),
+    )
 
 pub make-odd-spec : {M : Type 1} → statement M
 make-odd-spec =

@@ -4,6 +4,7 @@ use native.Mathlib.Omega.{arith}
 use borrow.Author.Needs.{needs}
 use Rattle.wavelet.proofs.SizeLaws.{count-lo}
 use Rattle.reader.proofs.WorkLaws.{worked-last, worked-on}
+use Rattle.reader.proofs.KeptLaws.{kept-both, kept-is, low-kept}
 use Rattle.reader.proofs.work.work_set.Statement.{statement}
 use Rattle.reader.proofs.work.work_set.Tie as tie
 
@@ -17,7 +18,7 @@ returns : tie.Need-returns
 returns c =
     let last = c .before .before .before in
     let a = last .before .args in
-    c .before .make-set .ensures ∙ worked-last (a .k) (a .w) (a .h) (a .n) _ (a .last) (last .if1 .taken)
+    (c .before .make-set .ensures .0 ∙ worked-last (a .k) (a .w) (a .h) (a .n) _ (a .last) (last .if1 .taken), c .before .make-set .ensures .1)
 
 take-low-row-requires : tie.Need-take-low-row-requires
 take-low-row-requires c κs =
@@ -35,8 +36,10 @@ returns-2 : tie.Need-returns-2
 returns-2 c =
     let take = c .before .before .before .before in
     let more = take .before .before in
-    let a = more .before .args in
-    c .before .make-set2 .ensures ∙ worked-on (a .k) (a .w) (a .h) (a .n) _ (a .last) _ (more .if1 .left) (take .take-low-row .ensures)
+    let a = more .before .args in (
+      c .before .make-set2 .ensures .0 ∙ worked-on (a .k) (a .w) (a .h) (a .n) _ (a .last) _ (more .if1 .left) (take .take-low-row .ensures),
+      kept-both _ _ _ _ (kept-is _ _ _ _ (low-kept (a .w) _ (a .n)) (take .take-low-row .ensures)) (c .before .make-set2 .ensures .1),
+    )
 
 pub work-set-spec : {M : Type 1} → statement M
 work-set-spec =
