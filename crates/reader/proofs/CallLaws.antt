@@ -29,7 +29,8 @@ use Rattle.reader.specs.declared.Drawn.the-variants as drawn
 use Rattle.reader.specs.Areas.{height16}
 use Rattle.reader.specs.Tried.{Tried, failed, passed, fits, memory}
 use Rattle.reader.specs.Slots.{rowPlace, rowIn}
-use Rattle.reader.specs.Store.{storeLength, zeroed}
+use Rattle.wavelet.specs.Store.{storeLength}
+use Rattle.reader.specs.Store.{zeroed}
 use Rattle.reader.specs.Machine.{Place, place, enter, placeFed}
 use Rattle.reader.specs.State.{next, nextRow, nextLength, unfinished, rowDue, drawDue, wants, settles, feeds, movedTo, fedReader, drawnReader, endedReader}
 use Rattle.reader.specs.Questions.{not, countsFit, storeFits, runFits, wantQuestion, feedQuestion, drawQuestion}

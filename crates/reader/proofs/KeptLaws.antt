@@ -20,8 +20,9 @@ use Rattle.reader.specs.Sets.{rowAt}
 use Rattle.reader.specs.Asked.{named}
 use Rattle.wavelet.specs.Bands.{across, down}
 use Rattle.wavelet.specs.Levels.{size}
+use Rattle.wavelet.specs.Store.{storeLength}
 use native.Mathlib.Numerals.{add-one}
-use Rattle.reader.proofs.StoreLaws.{stretch-suc}
+use Rattle.reader.proofs.StoreLaws.{stretch-suc, stretch-is}
 use Rattle.reader.specs.Slots.{setRow, halfPlace, bandFed, rowPlace, rowIn, rowUnlifted, rowBy, lowRowTaken}
 use Rattle.reader.specs.Work.{setUnlifted, evenRow, oddRow}
 use Rattle.reader.specs.Store.{stretchAt, from, behind, fedAt}
@@ -84,7 +85,7 @@ module _ (w h n : ℕ) (x : ℕ → ℤ) where
   odd-kept = by-kept w x _ _ _ _
 
 -- ---- the stretch within the store
-pub part-kept : (W H d k L : ℕ) (l : Level) (is : IsLevel W H d k l) (n : ℕ) (s ys : List ℤ) → k < L → l .start + n ≡ length s → length ys ≡ n → Kept (4 * l .width) (at (midOf (l .start) n s)) (at ys) → Kept (stretchAt W L) (at s) (at (putMid (l .start) n s ys))
+pub part-kept : (W H d k L : ℕ) (l : Level) (is : IsLevel W H d k l) (n : ℕ) (s ys : List ℤ) → k < L → l .start + n ≡ length s → length ys ≡ n → Kept (4 * l .width) (at (midOf (l .start) n s)) (at ys) → Kept (storeLength W L) (at s) (at (putMid (l .start) n s ys))
 part-kept W H d k L l is n s ys h whole long a =
     let room = work-room W H d k l is L h in
     let b = l .start in
@@ -100,14 +101,14 @@ part-kept W H d k L l is n s ys h whole long a =
     }
 
 -- a band row fed
-pub fed-kept : (W H d k c : ℕ) (v x : ℕ → ℤ) → Kept (stretchAt W (k + 1)) x (fedAt W H d k c v x)
+pub fed-kept : (W H d k c : ℕ) (v x : ℕ → ℤ) → Kept (storeLength W (k + 1)) x (fedAt W H d k c v x)
 unfolding fedAt bandFed
 fed-kept W H d k c v x =
     let w = size k W in
     let r = setRow (down (named c)) (rowAt H d (suc k)) in
     let a = stretchAt W k in
     let half = half-in (across (named c)) w in
-    let next : stretchAt W (k + 1) ≡ a + 4 * w = ap (stretchAt W) (add-one k) ∙ stretch-suc W k in
+    let next : storeLength W (k + 1) ≡ a + 4 * w = sym (stretch-is W (k + 1)) ∙ ap (stretchAt W) (add-one k) ∙ stretch-suc W k in
     record {
       same = λ j le.
           let back : a + (j - a) ≡ j = omega arith in

@@ -17,6 +17,7 @@ use Rattle.lifting.specs.Line.{Half, lo, hi, count}
 use Rattle.lifting.specs.Halves.{fronted}
 use Rattle.wavelet.specs.Bands.{across, down}
 use Rattle.wavelet.specs.Levels.{size}
+use Rattle.wavelet.specs.Store.{storeLength}
 use Rattle.wavelet.proofs.SizeLaws.{size-suc, size-le, count-le, count-sum}
 use Rattle.reader.specs.declared.walk.Level.{Level}
 use Rattle.reader.specs.Sets.{rowAt}
@@ -27,7 +28,7 @@ use Rattle.reader.specs.Work.{setWorked}
 use Rattle.reader.specs.Store.{stretchAt, from, behind, fedAt, workedAt}
 use Rattle.reader.specs.Inside.{IsLevel}
 use Rattle.reader.proofs.AreaLaws.{front-at}
-use Rattle.reader.proofs.StoreLaws.{stretch-suc, stretch-in, stretch-small}
+use Rattle.reader.proofs.StoreLaws.{stretch-suc, stretch-in, stretch-is, stretch-small}
 use Rattle.reader.proofs.SetLaws.{row-in}
 use Rattle.reader.proofs.SlotLaws.{slot-room, place-is}
 
@@ -152,13 +153,13 @@ module _ (W H d k : ℕ) (l : Level) (is : IsLevel W H d k l) where
         omega (arith, set, is .height, size-le k H, count-le lo (l .height)),
       )
 
-  pub work-room : (L : ℕ) → k < L → l .start + (4 * l .width + 4 * pick (eqb (k + 1) L) 0 (count lo (l .width))) ≤ stretchAt W L
-  work-room L h = rw (is .start, is .width) (stretch-room W k L h)
+  pub work-room : (L : ℕ) → k < L → l .start + (4 * l .width + 4 * pick (eqb (k + 1) L) 0 (count lo (l .width))) ≤ storeLength W L
+  work-room L h = rw (is .start, is .width, ← stretch-is W L) (stretch-room W k L h)
 
-  pub put-room : (c p n : ℕ) → p ≡ rowPlace (l .width) (setRow (down (named c)) (l .set)) + halfPlace (across (named c)) (l .width) → n ≡ count (across (named c)) (size k W) → l .start + p + n ≤ stretchAt W (k + 1)
+  pub put-room : (c p n : ℕ) → p ≡ rowPlace (l .width) (setRow (down (named c)) (l .set)) + halfPlace (across (named c)) (l .width) → n ≡ count (across (named c)) (size k W) → l .start + p + n ≤ storeLength W (k + 1)
   put-room c p n ep en =
       let w = l .width in
       let r = setRow (down (named c)) (l .set) in
       let half = half-in (across (named c)) w in
       let columns : n ≡ count (across (named c)) w = rw (is .width) en in
-      rw (add-one k, stretch-suc W k) (omega (arith, is .start, is .width, place-is w r, slot-room w r))
+      rw (← stretch-is W (k + 1), add-one k, stretch-suc W k) (omega (arith, is .start, is .width, place-is w r, slot-room w r))

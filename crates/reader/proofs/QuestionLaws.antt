@@ -10,14 +10,19 @@ use Rattle.numbers.specs.Signal.{pick, both}
 use Rattle.numbers.proofs.Sweep.{both as halves}
 use Rattle.wavelet.specs.Limits.{maxWidth, maxHeight, maxLevels}
 use Rattle.wavelet.specs.Questions.{ask, within}
-use Rattle.wavelet.proofs.QuestionLaws.{within-true}
+use Rattle.wavelet.proofs.QuestionLaws.{within-true, within-yes}
+use Rattle.reader.proofs.StoreLaws.{length-is}
 use Rattle.reader.specs.declared.Reader.{Reader}
 use Rattle.reader.specs.declared.walk.Spot.{Spot}
-use Rattle.reader.specs.Store.{storeLength}
+use Rattle.wavelet.specs.Store.{storeLength}
 use Rattle.reader.specs.Machine.{Place}
 use Rattle.reader.specs.State.{next, nextLength, unfinished, rowDue, drawDue}
 use Rattle.reader.specs.Questions.{not, countsFit, storeFits, runFits, setUpQuestion}
 use Rattle.reader.specs.Inside.{Counts, Shape, Is, storeQuestion, rowQuestion}
+
+-- the length that the code asks for, 0 outside the limits
+abbrev pub asked : ℕ → ℕ → ℕ
+asked W L = pick (both (within 1 maxWidth W) (within 1 maxLevels L)) (storeLength W L) 0
 
 -- ---- question 1
 module _ (s : Reader) where
@@ -65,6 +70,9 @@ module _ (s : Reader) where
         next = leb-true _ _ (g .1);
       }
 
+  pub counts-length : Counts s → (m : ℕ) → m ≡ asked (s .width) (s .levels) → m ≡ storeLength (s .width) (s .levels)
+  counts-length c m e = e ∙ length-is (s .width) (s .levels) (within-yes 1 maxWidth (s .width) (c .wide .0) (c .wide .1)) (within-yes 1 maxLevels (s .levels) (c .deep .0) (c .deep .1))
+
   pub counts-shape : Counts s → Shape (s .width) (s .height) (s .drawn)
   unfolding maxWidth maxHeight
   counts-shape c = let w = c .wide in let h = c .high in let d = c .drew in (omega arith, omega arith, omega arith, omega arith, omega arith)
@@ -86,25 +94,26 @@ module _ (W H L n : ℕ) where
       up-4 b = rw (one, two, b)
 
       module _ (three : within 1 5 L ≡ true) where
-        pub up-5 : n < storeLength W L → 5 ≡ setUpQuestion W H L n
-        unfolding setUpQuestion storeFits maxWidth maxHeight maxLevels
-        up-5 h = rw (one, two, three, lt-leb (storeLength W L) n h)
+        -- m is the length that the code asks for
+        pub up-length : (m : ℕ) → m ≡ asked W L → m ≡ storeLength W L
+        unfolding maxWidth maxLevels
+        up-length m e = e ∙ length-is W L one three
 
-        pub up-0 : storeLength W L ≤ n → 0 ≡ setUpQuestion W H L n
+        pub up-5 : (m : ℕ) → m ≡ asked W L → n < m → 5 ≡ setUpQuestion W H L n
         unfolding setUpQuestion storeFits maxWidth maxHeight maxLevels
-        up-0 h = rw (one, two, three, le-leb (storeLength W L) n h)
+        up-5 m e h = rw (one, two, three, lt-leb (storeLength W L) n (omega (arith, up-length m e)))
 
-  pub up-small : within 1 2049 W ≡ true → within 1 5 L ≡ true → (W ≤ 65536) × (L ≤ maxLevels)
-  unfolding maxLevels
-  up-small a b = let p = within-true 1 2049 W a in let q = within-true 1 5 L b in (omega arith, q .1)
+        pub up-0 : (m : ℕ) → m ≡ asked W L → m ≤ n → 0 ≡ setUpQuestion W H L n
+        unfolding setUpQuestion storeFits maxWidth maxHeight maxLevels
+        up-0 m e h = rw (one, two, three, le-leb (storeLength W L) n (omega (arith, up-length m e)))
 
   -- a set-up that passes
-  pub up-in : setUpQuestion W H L n ≡ 0 → (W ≤ 65536) × (L ≤ maxLevels) × (storeLength W L ≤ n)
-  unfolding setUpQuestion storeFits maxWidth
-  up-in e = go (within 1 2049 W) (within 1 maxHeight H) (within 1 maxLevels L) (leb (storeLength W L) n) refl refl refl refl e
+  pub up-in : setUpQuestion W H L n ≡ 0 → (within 1 maxWidth W ≡ true) × (within 1 maxLevels L ≡ true) × (storeLength W L ≤ n)
+  unfolding setUpQuestion storeFits
+  up-in e = go (within 1 maxWidth W) (within 1 maxHeight H) (within 1 maxLevels L) (leb (storeLength W L) n) refl refl refl refl e
     where
-      go : (a b c d : Bool) → within 1 2049 W ≡ a → within 1 maxHeight H ≡ b → within 1 maxLevels L ≡ c → leb (storeLength W L) n ≡ d → ask a 2 (ask b 3 (ask c 4 (ask d 5 0))) ≡ 0 → (W ≤ 65536) × (L ≤ maxLevels) × (storeLength W L ≤ n)
-      go true true true true ea eb ec ed e = let p = within-true 1 2049 W ea in let q = within-true 1 maxLevels L ec in (omega arith, q .1, leb-true _ _ ed)
+      go : (a b c d : Bool) → within 1 maxWidth W ≡ a → within 1 maxHeight H ≡ b → within 1 maxLevels L ≡ c → leb (storeLength W L) n ≡ d → ask a 2 (ask b 3 (ask c 4 (ask d 5 0))) ≡ 0 → (within 1 maxWidth W ≡ true) × (within 1 maxLevels L ≡ true) × (storeLength W L ≤ n)
+      go true true true true ea eb ec ed e = (ea, ec, leb-true _ _ ed)
       go true true true false ea eb ec ed e = absurd (omega arith)
       go true true false d ea eb ec ed e = absurd (omega arith)
       go true false c d ea eb ec ed e = absurd (omega arith)
@@ -116,19 +125,21 @@ module _ (s : Reader) (n : ℕ) where
   unfolding storeQuestion
   store-1 a = rw a
 
-  module _ (one : countsFit s ≡ true) where
-    pub store-5 : n < storeLength (s .width) (s .levels) → 5 ≡ storeQuestion s n
+  module _ (one : countsFit s ≡ true) (m : ℕ) (e : m ≡ asked (s .width) (s .levels)) where
+    long : m ≡ storeLength (s .width) (s .levels)
+    long = counts-length s (counts-in s one) m e
+
+    pub store-5 : n < m → 5 ≡ storeQuestion s n
     unfolding storeQuestion storeFits
-    store-5 h = rw (one, lt-leb (storeLength (s .width) (s .levels)) n h)
+    store-5 h = rw (one, lt-leb (storeLength (s .width) (s .levels)) n (omega (arith, long)))
 
-    module _ (two : storeLength (s .width) (s .levels) ≤ n) where
-      pub store-9 : s .ended ≡ true → 9 ≡ storeQuestion s n
-      unfolding storeQuestion storeFits
-      store-9 e = rw (one, le-leb (storeLength (s .width) (s .levels)) n two, e)
+    pub store-9 : m ≤ n → s .ended ≡ true → 9 ≡ storeQuestion s n
+    unfolding storeQuestion storeFits
+    store-9 h f = rw (one, le-leb (storeLength (s .width) (s .levels)) n (omega (arith, long)), f)
 
-      pub store-0 : s .ended ≡ false → 0 ≡ storeQuestion s n
-      unfolding storeQuestion storeFits
-      store-0 e = rw (one, le-leb (storeLength (s .width) (s .levels)) n two, e)
+    pub store-0 : m ≤ n → s .ended ≡ false → 0 ≡ storeQuestion s n
+    unfolding storeQuestion storeFits
+    store-0 h f = rw (one, le-leb (storeLength (s .width) (s .levels)) n (omega (arith, long)), f)
 
   pub store-in : storeQuestion s n ≡ 0 → Counts s × (storeLength (s .width) (s .levels) ≤ n) × (s .ended ≡ false)
   unfolding storeQuestion storeFits

@@ -6,6 +6,12 @@ use native.Mathlib.Omega.{arith}
 use Rattle.lifting.specs.Line.{lo, count}
 use Rattle.wavelet.specs.Levels.{size}
 use Rattle.wavelet.proofs.SizeLaws.{count-lo, size-zero, size-suc, size-le, size-positive}
+use mathlib.Core.Bool.{true}
+use Rattle.numbers.specs.Signal.{pick, both}
+use Rattle.wavelet.specs.Limits.{maxWidth, maxLevels}
+use Rattle.wavelet.specs.Questions.{within}
+use Rattle.wavelet.specs.Store.{storeLength}
+use Rattle.wavelet.proofs.StoreLaws.{store-none, store-more}
 use Rattle.reader.specs.Sets.{setOf, rowAt}
 use Rattle.reader.specs.Store.{stretchAt}
 use Rattle.reader.proofs.SetLaws.{set-is, set-in, row-zero, row-suc}
@@ -29,6 +35,25 @@ stretch-in W k (suc L) h = elim (ℕ-discrete k (suc L)) [
   | yes e ↦ rw e (omega arith)
   | no d ↦ omega (arith, stretch-suc W L, stretch-in W k L (omega arith))
 ]
+
+-- what k levels need ends where the next begins
+pub stretch-is : (W k : ℕ) → stretchAt W k ≡ storeLength W k
+stretch-is W zero = stretch-zero W ∙ sym (store-none W)
+stretch-is W (suc k) = omega (arith, stretch-suc W k, store-more W k, stretch-is W k)
+
+pub store-small : (W k : ℕ) → W ≤ 65536 → storeLength W k ≤ 262144 * k
+store-small W k h = omega (arith, stretch-is W k, stretch-small W k h)
+
+pub store-in : (W k L : ℕ) → k ≤ L → storeLength W k ≤ storeLength W L
+store-in W k L h = omega (arith, stretch-is W k, stretch-is W L, stretch-in W k L h)
+
+-- level 1's stretch lies within the store
+pub first-room : (W L : ℕ) → 1 ≤ L → 4 * W ≤ storeLength W L
+first-room W L h = omega (arith, stretch-is W L, stretch-suc W 0, stretch-zero W, size-zero W, stretch-in W 1 L h)
+
+-- the length that the code asks for, within the limits
+pub length-is : (W L : ℕ) → within 1 maxWidth W ≡ true → within 1 maxLevels L ≡ true → pick (both (within 1 maxWidth W) (within 1 maxLevels L)) (storeLength W L) 0 ≡ storeLength W L
+length-is W L a b = rw (a, b)
 
 -- ---- a walk from level 1 on: after i levels, the start, the sizes and the set of level i + 1
 pub record Walked (W H d i start w h n : ℕ) : Type 0 where
@@ -73,7 +98,3 @@ walk-on W H d i start w h n w′ h′ n′ a ew eh en =
       narrow = omega (arith, count-lo w);
       near = omega (arith, en, set-in h′ n (omega (arith, count-lo h)), count-lo h′, count-lo h);
     }
-
--- level 1's stretch lies within the store
-pub first-room : (W L : ℕ) → 1 ≤ L → 4 * W ≤ stretchAt W L
-first-room W L h = omega (arith, stretch-suc W 0, stretch-zero W, size-zero W, stretch-in W 1 L h)

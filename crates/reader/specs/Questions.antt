@@ -7,9 +7,9 @@ use Rattle.numbers.specs.Signal.{pick, both}
 use Rattle.wavelet.specs.Limits.{maxWidth, maxHeight, maxLevels, range}
 use Rattle.wavelet.specs.Maps.{every}
 use Rattle.wavelet.specs.Questions.{ask, within}
+use Rattle.wavelet.specs.Store.{storeLength}
 use Rattle.reader.specs.declared.Reader.{Reader}
 use Rattle.reader.specs.Tried.{fits}
-use Rattle.reader.specs.Store.{storeLength}
 use Rattle.reader.specs.Machine.{Place}
 use Rattle.reader.specs.State.{next, nextLength, rowDue, drawDue, settles, feeds}
 

@@ -7,6 +7,7 @@ use Rattle.numbers.specs.Signal.{pick}
 use Rattle.lifting.specs.Halves.{fronted}
 use Rattle.wavelet.specs.Bands.{Band}
 use Rattle.wavelet.specs.Levels.{size}
+use Rattle.wavelet.specs.Store.{storeLength}
 use Rattle.reader.specs.Tried.{Tried, onto}
 use Rattle.reader.specs.Sets.{rowAt}
 use Rattle.reader.specs.Asked.{named}
@@ -17,10 +18,6 @@ use Rattle.reader.specs.Work.{setWorked}
 unfoldable pub stretchAt : ℕ → ℕ → ℕ
 stretchAt W zero = 0
 stretchAt W (suc k) = stretchAt W k + 4 * size k W
-
--- all that L levels need
-abbrev pub storeLength : ℕ → ℕ → ℕ
-storeLength W L = stretchAt W L
 
 -- the store from place a on, and the store x with y from place a on
 unfoldable pub from : ℕ → (ℕ → ℤ) → ℕ → ℤ

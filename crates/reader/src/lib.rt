@@ -93,7 +93,7 @@ impl Reader {
         if q != 0 {
             return SetUp::Refused(q);
         }
-        let n = walk::store_length(width, levels);
+        let n = wavelet::store::store_length(width, levels);
         areas::clear(store, n);
         SetUp::Ready(Reader {
             width,
@@ -150,7 +150,7 @@ impl Reader {
         if steps::feed_row(self, store, p, run) {
             return Fed::Passed(self.moved(self.drawn, steps::place_fed(self, p)));
         }
-        let n = walk::store_length(self.width, self.levels);
+        let n = wavelet::store::store_length(self.width, self.levels);
         areas::clear(store, n);
         Fed::Impossible(self.over())
     }
@@ -184,7 +184,7 @@ impl Reader {
                 self.moved(d, walk::enter_of(w, self.height, self.levels, d)),
             );
         }
-        let n = walk::store_length(w, self.levels);
+        let n = wavelet::store::store_length(w, self.levels);
         areas::clear(store, n);
         Drawn::Impossible(self.over())
     }

@@ -2,10 +2,10 @@
 use crate::Reader;
 use crate::areas;
 use crate::steps;
-use crate::walk;
 use crate::walk::Spot;
 use wavelet::limits;
 use wavelet::sizes;
+use wavelet::store;
 ghost use mathlib.Core.Path.{_≡_};
 ghost use Prim.Native.Nat.{ℕ, _≤_};
 ghost use lib.ListN.{length};
@@ -50,7 +50,7 @@ pub fn set_up_question(width: usize, height: usize, levels: usize, length: usize
     if !limits::is_within(levels, Reader::MAX_LEVELS) {
         return 4;
     }
-    if length < walk::store_length(width, levels) {
+    if length < store::store_length(width, levels) {
         return 5;
     }
     0
@@ -72,7 +72,7 @@ pub fn store_question(s: Reader, length: usize) -> u8
     if !counts_fit(s) {
         return 1;
     }
-    if length < walk::store_length(s.width, s.levels) {
+    if length < store::store_length(s.width, s.levels) {
         return 5;
     }
     if s.ended {

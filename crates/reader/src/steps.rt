@@ -8,7 +8,7 @@ ghost use Prim.Native.Nat.{ℕ, _+_, _<_, _≤_};
 ghost use lib.ListN.{length};
 ghost use Rattle.numbers.specs.Signal.{at};
 ghost use Rattle.reader.specs.Tried.{outcome};
-ghost use Rattle.reader.specs.Store.{storeLength};
+ghost use Rattle.wavelet.specs.Store.{storeLength};
 ghost use Rattle.reader.specs.Machine.{Place, placeFed, enter};
 ghost use Rattle.reader.specs.State.{next, nextRow, nextLength, settles, feeds};
 ghost use Rattle.reader.specs.Inside.{Counts, Is, Kept};

@@ -14,7 +14,8 @@ ghost use Rattle.wavelet.specs.Limits.{maxLevels};
 ghost use Rattle.reader.specs.Asked.{named};
 ghost use Rattle.reader.specs.Tried.{outcome};
 ghost use Rattle.reader.specs.Slots.{rowPlace, setRow, halfPlace};
-ghost use Rattle.reader.specs.Store.{storeLength, fedAt, workedAt};
+ghost use Rattle.wavelet.specs.Store.{storeLength};
+ghost use Rattle.reader.specs.Store.{fedAt, workedAt};
 ghost use Rattle.reader.specs.Machine.{bandAt, nextAt, settled, finished, beyond, enter};
 ghost use Rattle.reader.specs.Inside.{Shape, IsLevel, Is, Kept};
 
@@ -55,22 +56,6 @@ pub fn level_at(width: usize, height: usize, drawn: usize, k: usize) -> Level
         height: h,
         set: n,
     }
-}
-
-// The numbers that the line store needs.
-pub fn store_length(width: usize, levels: usize) -> usize
-    requires { ⌜ (width ≤ 65536) × (levels ≤ maxLevels) ⌝ }
-    ensures { λ n. ⌜ n ≡ storeLength width levels ⌝ }
-{
-    let mut n = 0;
-    let mut w = width;
-    let mut i = 0;
-    while i < levels {
-        n += 4 * w;
-        w = sizes::half(w);
-        i += 1;
-    }
-    n
 }
 
 // The code of the first band from `band` on that the set of level k + 1 asks for; 4 where there is none.

@@ -9,7 +9,7 @@ use Rattle.numbers.proofs.Parts.{length-mid}
 use Rattle.reader.specs.Areas.{heightsAt}
 use Rattle.reader.proofs.WorkLaws.{told-no, told-yes}
 use Rattle.reader.proofs.StoreLaws.{first-room}
-use Rattle.reader.proofs.QuestionLaws.{counts-shape, store-in, due-in}
+use Rattle.reader.proofs.QuestionLaws.{counts-shape, counts-length, store-in, due-in}
 use Rattle.reader.proofs.CallLaws.{store-14, draw-early, draw-none, draw-12, draw-last, draw-no, draw-nothing, draw-yes, draw-end, fits-yes, fits-no, drawn-reader, drawn-row, zero-kept}
 use Rattle.reader.proofs.Reader.draw.Statement.{statement}
 use Rattle.reader.proofs.Reader.draw.Tie as tie
@@ -212,17 +212,7 @@ returns-4 c =
     (drawn-row w (s .drawn) p (p + w - p) y _ _ (place .row-place .ensures .0) (omega arith) (omega (arith, place .row-place .ensures .1, one .1, room, call .settle .kept .1 .0)) (drawing .draw-heights .ensures))
 
 store-length-requires : tie.Need-store-length-requires
-store-length-requires c κs =
-    let call = c .before .before in
-    let fits = call .before .before in
-    let due = fits .before in
-    let next = due .before .before in
-    let ok = next .before in
-    let start = ok .before .before .before in
-    let a = start .args in
-    let s = a .self in
-    let one = store-in s _ (sym (ok .before .store-question .ensures) ∙ ok .if1 .left) in
-    (counts-shape s (one .0) .1, one .0 .deep .1)
+store-length-requires c κs = tt
 
 clear-requires : tie.Need-clear-requires
 clear-requires c κs =
@@ -235,7 +225,7 @@ clear-requires c κs =
     let a = start .args in
     let s = a .self in
     let one = store-in s _ (sym (ok .before .store-question .ensures) ∙ ok .if1 .left) in
-    omega (arith, one .1, c .before .store-length .ensures, call .settle .kept .1 .0)
+    omega (arith, one .1, counts-length s (one .0) _ (c .before .store-length .ensures), call .settle .kept .1 .0)
 
 over-requires : tie.Need-over-requires
 over-requires c κs = tt
@@ -262,7 +252,7 @@ returns-5 c =
     draw-end s _ _ _ _ _
     (fits-no _ made ∙ draw-last s n m (at (a .store .now)) (sym (ok .before .store-question .ensures) ∙ ok .if1 .left) (sym (due .before .draw-due .ensures) ∙ not-false _ (due .if2 .left)) (omega arith))
     (c .over .ensures)
-    (zero-kept (s .width) (s .levels) _ _ _ _ (long .store-length .ensures) (call .settle .ensures .1) (clear .clear .ensures))
+    (zero-kept (s .width) (s .levels) _ _ _ _ (counts-length s (store-in s _ (sym (ok .before .store-question .ensures) ∙ ok .if1 .left) .0) _ (long .store-length .ensures)) (call .settle .ensures .1) (clear .clear .ensures))
 
 pub draw-spec : {M : Type 1} → statement M
 draw-spec =

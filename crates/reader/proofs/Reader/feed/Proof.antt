@@ -6,7 +6,7 @@ use Prim.Native.Nat.{ℕ}
 use lib.ListN.{length}
 use Rattle.numbers.specs.Signal.{at}
 use Rattle.reader.proofs.WorkLaws.{told-no, told-yes}
-use Rattle.reader.proofs.QuestionLaws.{counts-shape, store-in, row-asked}
+use Rattle.reader.proofs.QuestionLaws.{counts-length, store-in, row-asked}
 use Rattle.reader.proofs.CallLaws.{store-14, row-14, feed-early, feed-late, feed-last, feed-no, feed-yes, feed-end, fits-yes, fits-no, fed-reader, zero-kept}
 use Rattle.reader.proofs.Reader.feed.Statement.{statement}
 use Rattle.reader.proofs.Reader.feed.Tie as tie
@@ -80,11 +80,7 @@ returns-3 c =
     feed-yes (a .self) _ _ _ _ _ (fits-yes _ _ made ∙ feed-last (a .self) n m (at (a .run .now)) (at (a .store .now)) one two) (fed-reader (a .self) (c .moved .result) (there .place-fed .result) (there .place-fed .ensures) (c .moved .ensures)) made
 
 store-length-requires : tie.Need-store-length-requires
-store-length-requires c κs =
-    let ok = c .before .before .before .before .before .before .before in
-    let s = ok .before .before .args .self in
-    let one = store-in _ _ (sym (ok .before .store-question .ensures) ∙ ok .if1 .left) in
-    (counts-shape s (one .0) .1, one .0 .deep .1)
+store-length-requires c κs = tt
 
 clear-requires : tie.Need-clear-requires
 clear-requires c κs =
@@ -93,7 +89,7 @@ clear-requires c κs =
     let call = failed .before .before in
     let ok = call .before .before .before .before .before in
     let one = store-in _ _ (sym (ok .before .store-question .ensures) ∙ ok .if1 .left) in
-    omega (arith, one .1, long .store-length .ensures, call .feed-row .kept .1 .0)
+    omega (arith, one .1, counts-length (ok .before .before .args .self) (one .0) _ (long .store-length .ensures), call .feed-row .kept .1 .0)
 
 over-requires : tie.Need-over-requires
 over-requires c κs = tt
@@ -119,7 +115,7 @@ returns-4 c =
     let one = sym (ok .before .store-question .ensures) ∙ ok .if1 .left in
     let two = sym (asked .before .row-question .ensures) ∙ asked .if2 .left in
     let made = told-no (call .feed-row .result) (at (call .feed-row .last .1 .0)) _ (call .feed-row .ensures .0) (failed .if3 .left) in
-    feed-end s _ _ _ _ _ (fits-no _ made ∙ feed-last s n m (at (a .run .now)) (at (a .store .now)) one two) (c .over .ensures) (zero-kept (s .width) (s .levels) _ _ _ _ (long .store-length .ensures) (call .feed-row .ensures .1) (clear .clear .ensures))
+    feed-end s _ _ _ _ _ (fits-no _ made ∙ feed-last s n m (at (a .run .now)) (at (a .store .now)) one two) (c .over .ensures) (zero-kept (s .width) (s .levels) _ _ _ _ (counts-length s (store-in s _ one .0) _ (long .store-length .ensures)) (call .feed-row .ensures .1) (clear .clear .ensures))
 
 pub feed-spec : {M : Type 1} → statement M
 feed-spec =

@@ -3,6 +3,7 @@ use mathlib.Core.Path.{_≡_, _∙_, sym, ap, refl}
 use native.Mathlib.Omega.{arith}
 use borrow.Author.Needs.{needs}
 use Rattle.reader.specs.Calls.{fresh}
+use Rattle.reader.proofs.StoreLaws.{length-is}
 use Rattle.reader.proofs.QuestionLaws.{up-in}
 use Rattle.reader.proofs.CallLaws.{set-up-no, set-up-yes}
 use Rattle.reader.proofs.Reader.set_up.Statement.{statement}
@@ -15,10 +16,7 @@ returns : tie.Need-returns
 returns c = let a = c .before .before .args in set-up-no (a .width) (a .height) (a .levels) _ _ _ (c .before .set-up-question .ensures) (c .if1 .taken)
 
 store-length-requires : tie.Need-store-length-requires
-store-length-requires c κs =
-    let a = c .before .before .args in
-    let ok = up-in (a .width) (a .height) (a .levels) _ (sym (c .before .set-up-question .ensures) ∙ c .if1 .left) in
-    (ok .0, ok .1)
+store-length-requires c κs = tt
 
 clear-requires : tie.Need-clear-requires
 clear-requires c κs =
@@ -26,7 +24,7 @@ clear-requires c κs =
     let yes′ = long .before in
     let a = yes′ .before .before .args in
     let ok = up-in (a .width) (a .height) (a .levels) _ (sym (yes′ .before .set-up-question .ensures) ∙ yes′ .if1 .left) in
-    omega (arith, ok .2, long .store-length .ensures)
+    omega (arith, ok .2, long .store-length .ensures ∙ length-is (a .width) (a .levels) (ok .0) (ok .1))
 
 same-length : tie.Need-same-length
 same-length c = c .before .clear .kept .0
@@ -38,7 +36,8 @@ returns-2 c =
     let long = call .before .before in
     let passed = long .before in
     let a = passed .before .before .args in
-    set-up-yes (a .width) (a .height) (a .levels) _ _ _ _ (sym (passed .before .set-up-question .ensures) ∙ passed .if1 .left) (long .store-length .ensures) (call .clear .ensures)
+    let ok = up-in (a .width) (a .height) (a .levels) _ (sym (passed .before .set-up-question .ensures) ∙ passed .if1 .left) in
+    set-up-yes (a .width) (a .height) (a .levels) _ _ _ _ (sym (passed .before .set-up-question .ensures) ∙ passed .if1 .left) (long .store-length .ensures ∙ length-is (a .width) (a .levels) (ok .0) (ok .1)) (call .clear .ensures)
 
 pub set-up-spec : {M : Type 1} → statement M
 set-up-spec =

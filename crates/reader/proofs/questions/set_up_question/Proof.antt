@@ -3,7 +3,7 @@ use mathlib.Core.Path.{_≡_, _∙_, sym, ap}
 use native.Mathlib.Omega.{arith}
 use borrow.Author.Needs.{needs}
 use borrow.Author.Tests.{not-true, not-false}
-use Rattle.reader.proofs.QuestionLaws.{up-2, up-3, up-4, up-5, up-0, up-small}
+use Rattle.reader.proofs.QuestionLaws.{up-2, up-3, up-4, up-5, up-0}
 use Rattle.reader.proofs.questions.set_up_question.Statement.{statement}
 use Rattle.reader.proofs.questions.set_up_question.Tie as tie
 
@@ -31,24 +31,21 @@ returns-3 c =
     up-4 _ _ _ _ (sym (a .before .is-within .ensures) ∙ not-false _ (a .if1 .left)) (sym (b .before .is-within2 .ensures) ∙ not-false _ (b .if2 .left)) (sym (c .before .is-within3 .ensures) ∙ not-true _ (c .if3 .taken))
 
 store-length-requires : tie.Need-store-length-requires
-store-length-requires c κs =
-    let a = c .before .before .before .before in
-    let start = a .before .before in
-    up-small (start .args .width) (start .args .height) (start .args .levels) 0 (sym (a .before .is-within .ensures) ∙ not-false _ (a .if1 .left)) (sym (c .before .is-within3 .ensures) ∙ not-false _ (c .if3 .left))
+store-length-requires c κs = tt
 
 returns-4 : tie.Need-returns-4
 returns-4 c =
     let d = c .before .before in
     let b = d .before .before in
     let a = b .before .before in
-    up-5 _ _ _ _ (sym (a .before .is-within .ensures) ∙ not-false _ (a .if1 .left)) (sym (b .before .is-within2 .ensures) ∙ not-false _ (b .if2 .left)) (sym (d .before .is-within3 .ensures) ∙ not-false _ (d .if3 .left)) (omega (arith, c .before .store-length .ensures))
+    up-5 _ _ _ _ (sym (a .before .is-within .ensures) ∙ not-false _ (a .if1 .left)) (sym (b .before .is-within2 .ensures) ∙ not-false _ (b .if2 .left)) (sym (d .before .is-within3 .ensures) ∙ not-false _ (d .if3 .left)) (c .before .store-length .result) (c .before .store-length .ensures) (omega arith)
 
 returns-5 : tie.Need-returns-5
 returns-5 c =
     let d = c .before .before in
     let b = d .before .before in
     let a = b .before .before in
-    up-0 _ _ _ _ (sym (a .before .is-within .ensures) ∙ not-false _ (a .if1 .left)) (sym (b .before .is-within2 .ensures) ∙ not-false _ (b .if2 .left)) (sym (d .before .is-within3 .ensures) ∙ not-false _ (d .if3 .left)) (omega (arith, c .before .store-length .ensures))
+    up-0 _ _ _ _ (sym (a .before .is-within .ensures) ∙ not-false _ (a .if1 .left)) (sym (b .before .is-within2 .ensures) ∙ not-false _ (b .if2 .left)) (sym (d .before .is-within3 .ensures) ∙ not-false _ (d .if3 .left)) (c .before .store-length .result) (c .before .store-length .ensures) (omega arith)
 
 pub set-up-question-spec : {M : Type 1} → statement M
 set-up-question-spec =

@@ -3,8 +3,7 @@ use mathlib.Core.Path.{_≡_, _∙_, sym, ap}
 use native.Mathlib.Omega.{arith}
 use borrow.Author.Needs.{needs}
 use borrow.Author.Tests.{not-true, not-false}
-use Rattle.wavelet.specs.Limits.{maxWidth}
-use Rattle.reader.proofs.QuestionLaws.{counts-in, counts-shape, store-1, store-5, store-9, store-0}
+use Rattle.reader.proofs.QuestionLaws.{store-1, store-5, store-9, store-0}
 use Rattle.reader.proofs.questions.store_question.Statement.{statement}
 use Rattle.reader.proofs.questions.store_question.Tie as tie
 
@@ -15,28 +14,24 @@ returns : tie.Need-returns
 returns c = store-1 _ _ (sym (c .before .counts-fit .ensures) ∙ not-true _ (c .if1 .taken))
 
 store-length-requires : tie.Need-store-length-requires
-store-length-requires c κs =
-    let s = c .before .before .args .s in
-    let counts = counts-in s (sym (c .before .counts-fit .ensures) ∙ not-false _ (c .if1 .left)) in
-    let shape = counts-shape s counts in
-    (shape .1, counts .deep .1)
+store-length-requires c κs = tt
 
 returns-2 : tie.Need-returns-2
 returns-2 c =
     let a = c .before .before in
-    store-5 _ _ (sym (a .before .counts-fit .ensures) ∙ not-false _ (a .if1 .left)) (omega (arith, c .before .store-length .ensures))
+    store-5 _ _ (sym (a .before .counts-fit .ensures) ∙ not-false _ (a .if1 .left)) (c .before .store-length .result) (c .before .store-length .ensures) (c .if2 .taken)
 
 returns-3 : tie.Need-returns-3
 returns-3 c =
     let b = c .before in
     let a = b .before .before in
-    store-9 _ _ (sym (a .before .counts-fit .ensures) ∙ not-false _ (a .if1 .left)) (omega (arith, b .before .store-length .ensures)) (c .if3 .taken)
+    store-9 _ _ (sym (a .before .counts-fit .ensures) ∙ not-false _ (a .if1 .left)) (b .before .store-length .result) (b .before .store-length .ensures) (omega arith) (c .if3 .taken)
 
 returns-4 : tie.Need-returns-4
 returns-4 c =
     let b = c .before in
     let a = b .before .before in
-    store-0 _ _ (sym (a .before .counts-fit .ensures) ∙ not-false _ (a .if1 .left)) (omega (arith, b .before .store-length .ensures)) (c .if3 .left)
+    store-0 _ _ (sym (a .before .counts-fit .ensures) ∙ not-false _ (a .if1 .left)) (b .before .store-length .result) (b .before .store-length .ensures) (omega arith) (c .if3 .left)
 
 pub store-question-spec : {M : Type 1} → statement M
 store-question-spec =

@@ -7,7 +7,7 @@ use Prim.Native.Nat.{_+_, _-_, _≤_}
 use Rattle.numbers.specs.Signal.{at}
 use Rattle.reader.specs.Machine.{finished}
 use Rattle.reader.proofs.WorkLaws.{told-no, told-yes}
-use Rattle.reader.proofs.StoreLaws.{stretch-in}
+use Rattle.reader.proofs.StoreLaws.{store-in}
 use Rattle.reader.proofs.KeptLaws.{kept-both, kept-is, kept-more, fed-kept}
 use Rattle.reader.proofs.QuestionLaws.{counts-shape}
 use Rattle.reader.proofs.StepLaws.{spot-in, feed-failed, feed-on, length-back}
@@ -39,7 +39,7 @@ put-row-requires c κs =
       counts-shape s counts,
       omega (arith, near .0, counts .at, counts .deep .1),
       near .1,
-      omega (arith, stretch-in (s .width) (start .args .p .level - 1 + 1) (s .levels) (omega (arith, near .0, counts .at)), call .settle .kept .1 .0),
+      omega (arith, store-in (s .width) (start .args .p .level - 1 + 1) (s .levels) (omega (arith, near .0, counts .at)), call .settle .kept .1 .0),
       start .pre .4 ∙ length-back s (start .args .p) (start .pre .1),
     )
 
@@ -65,7 +65,7 @@ returns-2 c =
     let s = start .args .s in
     let near = spot-in _ _ (start .pre .1) (omega arith) in (
       done .finish .ensures .0 ∙ ap (λ y. finished (s .width) (s .height) (s .levels) (s .drawn) (start .args .p .level - 1) (start .args .p .band) y) (put .put-row .ensures) ∙ feed-on s (start .args .p) (start .pre .1) _ _ _ (omega arith) (told-yes (call .settle .result) (at (call .settle .last .1 .0)) _ (call .settle .ensures .0) (not-false _ (on .if1 .left))),
-      kept-both _ _ _ _ (kept-both _ _ _ _ (call .settle .ensures .1) (kept-is _ _ _ _ (kept-more _ _ _ _ (stretch-in (s .width) (start .args .p .level - 1 + 1) (s .levels) (omega (arith, near .0, start .pre .0 .at))) (fed-kept (s .width) (s .height) (s .drawn) (start .args .p .level - 1) (start .args .p .band) _ _)) (put .put-row .ensures))) (done .finish .ensures .1),
+      kept-both _ _ _ _ (kept-both _ _ _ _ (call .settle .ensures .1) (kept-is _ _ _ _ (kept-more _ _ _ _ (store-in (s .width) (start .args .p .level - 1 + 1) (s .levels) (omega (arith, near .0, start .pre .0 .at))) (fed-kept (s .width) (s .height) (s .drawn) (start .args .p .level - 1) (start .args .p .band) _ _)) (put .put-row .ensures))) (done .finish .ensures .1),
     )
 
 pub feed-row-spec : {M : Type 1} → statement M

@@ -7,7 +7,7 @@ use borrow.Author.Needs.{needs}
 use Rattle.numbers.proofs.Parts.{length-mid}
 use Rattle.wavelet.specs.Limits.{maxLevels}
 use Rattle.reader.proofs.PartLaws.{level-in, put-room, put-is}
-use Rattle.reader.proofs.StoreLaws.{stretch-small}
+use Rattle.reader.proofs.StoreLaws.{store-small}
 use Rattle.reader.proofs.walk.put_row.Statement.{statement}
 use Rattle.reader.proofs.walk.put_row.Tie as tie
 
@@ -25,7 +25,7 @@ add-a c =
     let half = c .before in
     let level = half .before in
     let a = level .before .args in
-    omega (arith, put-room _ _ _ _ (level .level-at .result) (level .level-at .ensures) (a .band) (half .half-place .result) (length (a .run .now)) (half .half-place .ensures) (omega arith), stretch-small (a .width) (a .k + 1) (omega arith))
+    omega (arith, put-room _ _ _ _ (level .level-at .result) (level .level-at .ensures) (a .band) (half .half-place .result) (length (a .run .now)) (half .half-place .ensures) (omega arith), store-small (a .width) (a .k + 1) (omega arith))
 
 add-e : tie.Need-add-e
 unfolding maxLevels
@@ -33,7 +33,7 @@ add-e c =
     let half = c .before in
     let level = half .before in
     let a = level .before .args in
-    omega (arith, put-room _ _ _ _ (level .level-at .result) (level .level-at .ensures) (a .band) (half .half-place .result) (length (a .run .now)) (half .half-place .ensures) (omega arith), stretch-small (a .width) (a .k + 1) (omega arith))
+    omega (arith, put-room _ _ _ _ (level .level-at .result) (level .level-at .ensures) (a .band) (half .half-place .result) (length (a .run .now)) (half .half-place .ensures) (omega arith), store-small (a .width) (a .k + 1) (omega arith))
 
 mul-copy : tie.Need-mul-copy
 unfolding maxLevels
@@ -41,7 +41,7 @@ mul-copy c =
     let half = c .before in
     let level = half .before in
     let a = level .before .args in
-    omega (arith, put-room _ _ _ _ (level .level-at .result) (level .level-at .ensures) (a .band) (half .half-place .result) (length (a .run .now)) (half .half-place .ensures) (omega arith), stretch-small (a .width) (a .k + 1) (omega arith))
+    omega (arith, put-room _ _ _ _ (level .level-at .result) (level .level-at .ensures) (a .band) (half .half-place .result) (length (a .run .now)) (half .half-place .ensures) (omega arith), store-small (a .width) (a .k + 1) (omega arith))
 
 sub-copy : tie.Need-sub-copy
 sub-copy c = search needs

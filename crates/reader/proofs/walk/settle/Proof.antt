@@ -6,7 +6,7 @@ use lib.ListN.{length}
 use borrow.Author.Tests.{not-true, not-false}
 use Rattle.numbers.specs.Signal.{at}
 use Rattle.wavelet.specs.Limits.{maxLevels}
-use Rattle.reader.specs.Store.{storeLength}
+use Rattle.wavelet.specs.Store.{storeLength}
 use Rattle.reader.specs.Machine.{settled}
 use Rattle.reader.specs.Inside.{Shape, Kept}
 use Rattle.reader.proofs.WorkLaws.{told-no, told-yes}
