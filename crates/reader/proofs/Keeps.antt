@@ -16,8 +16,11 @@ use Rattle.wavelet.specs.Levels.{levelBand}
 use Rattle.wavelet.specs.View.{bandColumns}
 use Rattle.wavelet.specs.Questions.{ask, within}
 use Rattle.reader.specs.declared.Reader.{Reader}
+use Rattle.reader.specs.declared.SetUp.{SetUp}
 use Rattle.reader.specs.declared.SetUp.the-variants as up
+use Rattle.reader.specs.declared.Fed.{Fed}
 use Rattle.reader.specs.declared.Fed.the-variants as fed
+use Rattle.reader.specs.declared.Drawn.{Drawn}
 use Rattle.reader.specs.declared.Drawn.the-variants as drawn
 use Rattle.reader.specs.Sets.{rowAt}
 use Rattle.reader.specs.Tried.{Tried, failed, passed, fits, memory}
@@ -342,3 +345,13 @@ draw-keeps s n m x z = at (s .width) (s .height) (s .levels) (s .drawn) (s .leve
           passed = λ k t r. let q = heights-only u (drawQuestion u n x m) k t r .0 in absurd (no-levels W H d lev b e (draw-counts u n m x (λ y. omega (arith, y, q)) (λ y. omega (arith, y, q))));
           impossible = λ t r. let q = drawn-fourteen u (drawQuestion u n x m) t r in absurd (no-levels W H d lev b e (draw-counts u n m x (λ y. omega (arith, y, q)) (λ y. omega (arith, y, q))));
         }
+
+-- ---- the same for an answer and a store that are the model's, as a contract has them
+pub set-up-said : (W H L n : ℕ) (x : ℕ → ℤ) (r : SetUp) (x′ : ℕ → ℤ) → r ≡ setUpAnswer W H L (setUpQuestion W H L n) → x′ ≡ setUpStore W L (setUpQuestion W H L n) x → SetUpHolds r x′
+set-up-said W H L n x r x′ p q = rw (p, q) (set-up-holds W H L n x)
+
+pub feed-said : (s : Reader) (n m : ℕ) (x v : ℕ → ℤ) (r : Fed) (x′ : ℕ → ℤ) → r ≡ feedAnswer s (feedQuestion s n x m v) → x′ ≡ feedStore s (feedQuestion s n x m v) v x → FeedKeeps s v x r x′
+feed-said s n m x v r x′ p q = rw (p, q) (feed-keeps s n m x v)
+
+pub draw-said : (s : Reader) (n m : ℕ) (x z : ℕ → ℤ) (r : Drawn) (x′ z′ : ℕ → ℤ) → r ≡ drawAnswer s (drawQuestion s n x m) → x′ ≡ drawStore s (drawQuestion s n x m) x → z′ ≡ drawArea s (drawQuestion s n x m) x z → DrawKeeps s x r x′ z′
+draw-said s n m x z r x′ z′ p q t = rw (p, q, t) (draw-keeps s n m x z)
