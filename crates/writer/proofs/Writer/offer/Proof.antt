@@ -1,5 +1,5 @@
 -- `Writer::offer` meets its contract. The loop goes stretch by stretch: what is taken, the writer and the store so far are those of the offer height by height. Assumes nothing.
-use mathlib.Core.Path.{_≡_, sym, _∙_}
+use mathlib.Core.Path.{_≡_}
 use Prim.Native.Nat.{_-_}
 use native.Mathlib.Omega.{arith}
 use lib.ListN.{length}
@@ -7,7 +7,7 @@ use borrow.Author.Needs.{needs}
 use Rattle.numbers.specs.Signal.{at}
 use Rattle.writer.specs.Questions.{offerQuestion}
 use Rattle.writer.proofs.CallLaws.{offer-sound}
-use Rattle.writer.proofs.OfferLaws.{Offering, offer-start, offer-turn, offer-ready, offer-no, offer-yes, gone-all, next-is, sound-taker}
+use Rattle.writer.proofs.OfferLaws.{Offering, offer-start, offer-turn, offer-ready, offer-no, offer-yes, gone-all, sound-taker}
 use Rattle.writer.proofs.Writer.offer.Statement.{statement}
 use Rattle.writer.proofs.Writer.offer.Tie as tie
 

@@ -2,7 +2,6 @@
 use native.Mathlib.Omega.{arith}
 use borrow.Author.Needs.{needs}
 use Rattle.writer.proofs.CallLaws.{set-up-fits, set-up-no, set-up-yes}
-use Rattle.writer.proofs.Writer.set_up.Lts as lts
 use Rattle.writer.proofs.Writer.set_up.Statement.{statement}
 use Rattle.writer.proofs.Writer.set_up.Tie as tie
 
