@@ -2,6 +2,7 @@
 //!
 //! Nothing checks a declaration here against the Rattle source, so each stands beside its wrapper and is driven by a test.
 pub mod areas;
+pub mod maps;
 pub mod random;
 pub mod reference;
 
@@ -20,6 +21,100 @@ pub mod line {
     pub fn backward(coefficients: &[i32], out: &mut [i32]) -> u32 {
         // SAFETY: as above.
         unsafe { terrain_line_backward(coefficients.as_ptr(), coefficients.len(), out.as_mut_ptr(), out.len()) }
+    }
+}
+
+/// `include/terrain.h`: the whole map and the view of a band row.
+pub mod map {
+    extern "C" {
+        fn terrain_map_forward(
+            heights: *const u16,
+            heights_len: usize,
+            width: usize,
+            height: usize,
+            levels: usize,
+            plane: *mut i32,
+            plane_len: usize,
+            work: *mut i32,
+            work_len: usize,
+        ) -> u32;
+        fn terrain_map_backward(
+            plane: *const i32,
+            plane_len: usize,
+            width: usize,
+            height: usize,
+            levels: usize,
+            heights: *mut u16,
+            heights_len: usize,
+            work: *mut i32,
+            work_len: usize,
+        ) -> u32;
+        fn terrain_band_row(
+            plane_len: usize,
+            width: usize,
+            height: usize,
+            levels: usize,
+            level: usize,
+            band: usize,
+            row: usize,
+            start: *mut usize,
+            length: *mut usize,
+        ) -> u32;
+    }
+
+    /// Width, height and levels.
+    #[derive(Clone, Copy, Debug)]
+    pub struct Shape {
+        pub width: usize,
+        pub height: usize,
+        pub levels: usize,
+    }
+
+    pub fn forward(heights: &[u16], s: Shape, plane: &mut [i32], work: &mut [i32]) -> u32 {
+        // SAFETY: every area is a whole slice, and a `&mut` one overlaps no other.
+        unsafe {
+            terrain_map_forward(
+                heights.as_ptr(),
+                heights.len(),
+                s.width,
+                s.height,
+                s.levels,
+                plane.as_mut_ptr(),
+                plane.len(),
+                work.as_mut_ptr(),
+                work.len(),
+            )
+        }
+    }
+
+    pub fn backward(plane: &[i32], s: Shape, heights: &mut [u16], work: &mut [i32]) -> u32 {
+        // SAFETY: as above.
+        unsafe {
+            terrain_map_backward(
+                plane.as_ptr(),
+                plane.len(),
+                s.width,
+                s.height,
+                s.levels,
+                heights.as_mut_ptr(),
+                heights.len(),
+                work.as_mut_ptr(),
+                work.len(),
+            )
+        }
+    }
+
+    /// Start and length of a band row in a plane of `plane_len` numbers, or the number of the question that says no.
+    pub fn band_row(plane_len: usize, s: Shape, level: usize, band: usize, row: usize) -> Result<(usize, usize), u32> {
+        const UNSET: usize = 0x1234_5678;
+        let (mut start, mut length) = (UNSET, UNSET);
+        // SAFETY: the two numbers are ours alone.
+        let q = unsafe { terrain_band_row(plane_len, s.width, s.height, s.levels, level, band, row, &mut start, &mut length) };
+        if q == 0 {
+            return Ok((start, length));
+        }
+        assert_eq!((start, length), (UNSET, UNSET), "a refusal changes nothing");
+        Err(q)
     }
 }
 
