@@ -1,15 +1,16 @@
--- The laws of a line: what mirroring does at its two ends, what each value goes by, and what stands where in memory. Assumes nothing.
+-- The laws of a line as the calls use them: what each value goes by (cited from FiveThree, where the mirror is worked out) and what stands where in memory. Assumes nothing.
 use mathlib.Core.Path.{_≡_, refl, sym, ap, _∙_, fun-ext}
 use Prim.Native.Nat.{ℕ, _+_, _-_, _*_, _/_, _%_, _≤_, _<_, min}
 use native.Mathlib.Decide.{decLt, ℕ-discrete}
 use native.Mathlib.Omega.{arith}
-use lib.IntN.{ℤ, pos, natAbs, _-ℤ_}
+use lib.IntN.{ℤ}
 use borrow.Author.Tests.{lt-ltb, le-ltb, eq-eqb, ne-eqb}
-use Rattle.numbers.proofs.Integers.{dif, dif-natAbs}
-use Rattle.lifting.specs.Line.{Half, lo, hi, count, mirror, predicted, updated, unpredicted, unupdated, high, highAt, low, backEven, backOdd, parted, joined}
+use Rattle.lifting.specs.Line.{Half, lo, hi, count, predicted, updated, unpredicted, unupdated, high, low, backEven, backOdd, parted, joined, lineForward}
 use Rattle.lifting.specs.Halves.{inHalves, fronted}
+use Rattle.lifting.proofs.FiveThree.{high-near, low-near, even-near, odd-near, joined-place}
+use Rattle.lifting.proofs.LineTheorems.{forward-reads}
 
--- ---- counts and mirrored places
+-- ---- counts
 pub counts : (N : ℕ) → count lo N + count hi N ≡ N
 unfolding count
 counts N = omega arith
@@ -23,45 +24,13 @@ pub count-hi : (N : ℕ) → count hi N ≡ N / 2
 unfolding count
 count-hi N = refl
 
--- the places 2n + 2, 2n − 1 and 2n + 1 of a line, mirrored: beyond an end the nearest of their own half is taken
-pub mirror-after : (N n : ℕ) → 1 < N → n < count hi N → mirror N (pos (2 * n + 2)) ≡ 2 * min (n + 1) (count lo N - 1)
-unfolding mirror count
-mirror-after N n g h = omega arith
-
-less-one : (a : ℕ) → natAbs (pos a -ℤ pos 1) ≡ (a - 1) + (1 - a)
-unfolding dif
-less-one a = dif-natAbs a 1
-
-pub mirror-before : (N n : ℕ) → 1 < N → n < count lo N → mirror N (pos (2 * n) -ℤ pos 1) / 2 ≡ n - 1
-unfolding mirror count
-mirror-before N n g h = rw (less-one (2 * n)) (omega arith)
-
-pub mirror-here : (N n : ℕ) → 1 < N → n < count lo N → mirror N (pos (2 * n + 1)) / 2 ≡ min n (count hi N - 1)
-unfolding mirror count
-mirror-here N n g h = omega arith
-
--- the same of the halves: the neighbours of a number are the nearest two of the other half
-pub mirror-next : (N n : ℕ) → 1 < N → n < count hi N → mirror N (pos (2 * n + 2)) / 2 ≡ min (n + 1) (count lo N - 1)
-mirror-next N n g h = omega (arith, mirror-after N n g h)
-
-module _ (N : ℕ) (d : ℕ → ℤ) (n : ℕ) (g : 1 < N) (h : n < count lo N) where
-  pub high-before : highAt N d (pos (2 * n) -ℤ pos 1) ≡ d (n - 1)
-  unfolding highAt
-  high-before = ap d (mirror-before N n g h)
-
-  pub high-here : highAt N d (pos (2 * n + 1)) ≡ d (min n (count hi N - 1))
-  unfolding highAt
-  high-here = ap d (mirror-here N n g h)
-
 -- ---- halves of a line, joined and parted
 module _ (p : Half → ℕ → ℤ) (n : ℕ) where
   pub joined-even : joined p (2 * n) ≡ p lo n
-  unfolding joined
-  joined-even = let d : 2 * n / 2 ≡ n = omega arith in simp (eq-eqb (2 * n % 2) 0 (omega arith), d)
+  joined-even = joined-place p lo n
 
   pub joined-odd : joined p (2 * n + 1) ≡ p hi n
-  unfolding joined
-  joined-odd = let d : (2 * n + 1) / 2 ≡ n = omega arith in simp (ne-eqb ((2 * n + 1) % 2) 0 (omega arith), d)
+  joined-odd = joined-place p hi n
 
 pub parted-joined : (p : Half → ℕ → ℤ) (h : Half) (n : ℕ) → parted (joined p) h n ≡ p h n
 unfolding parted
@@ -76,27 +45,23 @@ joined-parted x i =
       | no d ↦ simp (ne-eqb (i % 2) 0 d) (ap x (omega arith))
     ]
 
--- ---- what a value goes by
+-- ---- what a value goes by, in a line of more than one
 module _ (keep : ℤ → ℤ) (N : ℕ) (g : 1 < N) where
   pub high-is : (x : ℕ → ℤ) (n : ℕ) → n < count hi N → high keep N x n ≡ predicted keep (x (2 * n + 1)) (x (2 * n)) (x (2 * min (n + 1) (count lo N - 1)))
-  unfolding high
-  high-is x n h = rw (mirror-after N n g h)
+  high-is = high-near keep N
 
   pub high-parted : (x : ℕ → ℤ) (n : ℕ) → n < count hi N → high keep N x n ≡ predicted keep (parted x hi n) (parted x lo n) (parted x lo (min (n + 1) (count lo N - 1)))
   unfolding parted
   high-parted = high-is
 
   pub low-is : (x : ℕ → ℤ) (n : ℕ) → n < count lo N → low keep N x n ≡ updated keep (x (2 * n)) (high keep N x (n - 1)) (high keep N x (min n (count hi N - 1)))
-  unfolding low
-  low-is x n h = let d = high keep N x in simp (lt-ltb 1 N g, high-before N d n g h, high-here N d n g h)
+  low-is x n h = low-near keep N x n g h
 
   pub even-is : (s d : ℕ → ℤ) (n : ℕ) → n < count lo N → backEven keep N s d n ≡ unupdated keep (s n) (d (n - 1)) (d (min n (count hi N - 1)))
-  unfolding backEven
-  even-is s d n h = simp (lt-ltb 1 N g, high-before N d n g h, high-here N d n g h)
+  even-is s d n h = even-near keep N s d n g h
 
   pub odd-is : (s d : ℕ → ℤ) (n : ℕ) → n < count hi N → backOdd keep N s d n ≡ unpredicted keep (d n) (backEven keep N s d n) (backEven keep N s d (min (n + 1) (count lo N - 1)))
-  unfolding backOdd
-  odd-is s d n h = rw (mirror-next N n g h)
+  odd-is = odd-near keep N
 
 -- a line of one number is its own low value
 module _ (keep : ℤ → ℤ) (N : ℕ) (g : N ≤ 1) where
@@ -111,21 +76,12 @@ module _ (keep : ℤ → ℤ) (N : ℕ) (g : N ≤ 1) where
 -- its values go by what stands in the line alone
 module _ (keep : ℤ → ℤ) (N : ℕ) (x y : ℕ → ℤ) (same : (i : ℕ) → i < N → x i ≡ y i) where
   pub high-same : (n : ℕ) → n < count hi N → high keep N x n ≡ high keep N y n
-  high-same n h =
-      let both = counts N in
-      let c = count-hi N in
-      let g : 1 < N = omega arith in
-      cc (high-is keep N g x n h, high-is keep N g y n h, same (2 * n + 1) (omega arith), same (2 * n) (omega arith), same (2 * min (n + 1) (count lo N - 1)) (omega arith))
+  unfolding lineForward
+  high-same n h = forward-reads keep N x y hi n h (λ i l _. same i l)
 
   pub low-same : (n : ℕ) → n < count lo N → low keep N x n ≡ low keep N y n
-  low-same n h =
-      let both = counts N in
-      let c = count-hi N in
-      elim (decLt 1 N) [
-        | yes g ↦
-            cc (low-is keep N g x n h, low-is keep N g y n h, same (2 * n) (omega arith), high-same (n - 1) (omega arith), high-same (min n (count hi N - 1)) (omega arith))
-        | no d ↦ cc (low-one keep N (omega arith) x n, low-one keep N (omega arith) y n, same (2 * n) (omega arith))
-      ]
+  unfolding lineForward
+  low-same n h = forward-reads keep N x y lo n h (λ i l _. same i l)
 
 -- ---- memory
 module _ (N : ℕ) (p : Half → ℕ → ℤ) (z : ℕ → ℤ) where

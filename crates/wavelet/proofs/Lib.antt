@@ -1,0 +1,14 @@
+pub mod SizeLaws
+pub mod GridLaws
+pub mod QuestionLaws
+pub mod SidePlaces
+pub mod BandPlaces
+pub mod ViewLaws
+pub mod LevelLaws
+pub mod PlaneLayout
+pub mod PlanePlaces
+pub mod ViewTheory
+pub mod LevelTheory
+pub mod Bridge
+pub mod MapTheorems
+pub mod LevelReads

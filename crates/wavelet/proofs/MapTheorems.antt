@@ -1,0 +1,218 @@
+-- Maps and the planes they have, over the definitions of specs/Maps, for up to 5 levels.
+--     plane-in-range, plane-rebuilt, plane-back    of a plane that a map has: questions 7 and 14 are answered yes, and the way back gives the map
+--     rebuilt-plane                                a plane that is answered so is the plane of the map that the way back gives
+--     some-map, no-map, one-map                    so both are answered yes exactly where some map has the plane, and that map is one
+--     back-exactly                                 and the way back then gives it
+-- Proved by the inverse over words (LevelTheory) and the bridge to whole numbers (Bridge). Assumes nothing.
+use mathlib.Core.Path.{_≡_, refl, sym, ap, _∙_, subst}
+use mathlib.Core.Bool.{Bool, true, false}
+use mathlib.Core.Logic.{_↔_}
+use Prim.Native.Nat.{ℕ, zero, suc, _+_, _*_, _^_, _≤_, _<_}
+use native.Mathlib.Decide.{ℕ-discrete}
+use native.Mathlib.Omega.{arith}
+use lib.IntN.{ℤ, pos, natAbs}
+use lib.Signed.{_≤ℤ_, leZ}
+use lib.Dec.{T, leb, ltb}
+use mir.Syntax.{w32}
+use mir.Val.{SFits}
+use borrow.Author.Tests.{leb-true, le-leb}
+use Rattle.numbers.specs.Signal.{pick}
+use Rattle.numbers.specs.Word.{wrap32, whole}
+use Rattle.numbers.proofs.Words.{abs-fits}
+use Rattle.numbers.proofs.Sweep.{both}
+use Rattle.lifting.specs.Line.{lo, count}
+use Rattle.wavelet.specs.Limits.{maxSample, range}
+use Rattle.wavelet.specs.Bands.{Grid, LL, subband}
+use Rattle.wavelet.specs.Plane.{planeCell, levelAt, mapBack}
+use Rattle.wavelet.specs.Maps.{IsMap, HasPlane, every, everyCell, inRange, valueFits, rebuiltFits}
+use Rattle.wavelet.proofs.LevelTheory.{OnCells, Same, low-all, same-low, same-corner, plane-corner, plane-reads, map-back-reads, words-map-back-plane, words-plane-map-back}
+use Rattle.wavelet.proofs.Bridge.{Within, subband-range, subband-exact, range-suc, range-small, map-height, map-fits, map-plane, map-plane-range}
+
+-- ---- a test of every number, and of every cell
+pub every-each : (n : ℕ) (p : ℕ → Bool) → every n p ≡ true → (i : ℕ) → i < n → p i ≡ true
+unfolding every
+every-each zero p e i h = absurd (omega arith)
+every-each (suc n) p e i h =
+    let a = both (every n p) (p n) e in
+    elim (ℕ-discrete i n) [ yes q ↦ rw q (a .1) | no d ↦ every-each n p (a .0) i (omega arith) ]
+
+pub each-every : (n : ℕ) (p : ℕ → Bool) → ((i : ℕ) → i < n → p i ≡ true) → every n p ≡ true
+unfolding every
+each-every zero p f = refl
+each-every (suc n) p f = simp (each-every n p (λ i h. f i (omega arith)), f n (omega arith))
+
+pub cells-each : (W H : ℕ) (p : ℕ → ℕ → Bool) → everyCell W H p ≡ true → (r c : ℕ) → r < H → c < W → p r c ≡ true
+unfolding everyCell
+cells-each W H p e r c u v = every-each W (p r) (every-each H (λ i. every W (p i)) e r u) c v
+
+pub each-cells : (W H : ℕ) (p : ℕ → ℕ → Bool) → ((r c : ℕ) → r < H → c < W → p r c ≡ true) → everyCell W H p ≡ true
+unfolding everyCell
+each-cells W H p f = each-every H (λ i. every W (p i)) (λ r u. each-every W (p r) (λ c v. f r c u v))
+
+-- tests that agree below n, and on every cell
+pub every-same : (n : ℕ) (p q : ℕ → Bool) → ((i : ℕ) → i < n → p i ≡ q i) → every n p ≡ every n q
+unfolding every
+every-same zero p q e = refl
+every-same (suc n) p q e = rw (every-same n p q (λ i h. e i (omega arith)), e n (omega arith))
+
+pub cells-same : (W H : ℕ) (p q : ℕ → ℕ → Bool) → ((r c : ℕ) → r < H → c < W → p r c ≡ q r c) → everyCell W H p ≡ everyCell W H q
+unfolding everyCell
+cells-same W H p q e = every-same H (λ i. every W (p i)) (λ i. every W (q i)) (λ r u. every-same W (p r) (q r) (λ c v. e r c u v))
+
+-- ---- a rebuilt value
+T-true : (b : Bool) → T b → b ≡ true
+T-true true t = refl
+T-true false t = absurd t
+
+pub height-fits : (v : ℤ) → valueFits 0 v ≡ true ↔ (pos 0 ≤ℤ v) × (v ≤ℤ pos maxSample)
+unfolding valueFits
+height-fits v = (
+  λ e. let a = both (leZ (pos 0) v) (leZ v (pos maxSample)) e in
+      (record { le = subst T (sym (a .0)) tt }, record { le = subst T (sym (a .1)) tt }),
+  λ h. simp (T-true (leZ (pos 0) v) (h .0 .le), T-true (leZ v (pos maxSample)) (h .1 .le)),
+)
+
+pub low-fits : (k : ℕ) (v : ℤ) → valueFits (suc k) v ≡ true ↔ natAbs v ≤ range (suc k)
+unfolding valueFits
+low-fits k v = (leb-true (natAbs v) (range (suc k)), le-leb (natAbs v) (range (suc k)))
+
+pub fits-within : (k : ℕ) (v : ℤ) → valueFits k v ≡ true → natAbs v ≤ range k
+unfolding range maxSample
+fits-within zero v e = let a = height-fits v .0 e in map-height v (a .0) (a .1)
+fits-within (suc k) v e = low-fits k v .0 e
+
+-- ---- the questions read the cells that are there
+pub in-range-reads : (L W H : ℕ) (x y : Grid) → Same W H x y → inRange L W H x ≡ inRange L W H y
+unfolding inRange
+in-range-reads L W H x y e =
+    cells-same W H _ _ (λ r c p q. ap (λ (v : ℤ). leb (natAbs v) (range (levelAt L W H r c))) (e r c p q))
+
+pub rebuilt-reads : (k L W H : ℕ) (x y : Grid) → Same W H x y → rebuiltFits k L W H x ≡ rebuiltFits k L W H y
+unfolding rebuiltFits
+rebuilt-reads k zero W H x y e = refl
+rebuilt-reads k (suc L) W H x y e =
+    rw (
+      rebuilt-reads (suc k) L (count lo W) (count lo H) x y (same-corner W H x y e),
+      cells-same W H (λ r c. valueFits k (mapBack wrap32 (suc L) W H x r c)) (λ r c. valueFits k (mapBack wrap32 (suc L) W H y r c))
+          (λ r c p q. ap (valueFits k) (map-back-reads wrap32 (suc L) W H x y e r c p q)),
+    )
+
+-- ---- question 14, for a grid whose values fit at level k and that has the plane x
+pub rebuilt-yes : (k L W H : ℕ) (g x : Grid) → k + L ≤ 5 → OnCells (λ v. valueFits k v ≡ true) W H g → Same W H x (planeCell wrap32 L W H g) → rebuiltFits k L W H x ≡ true
+unfolding rebuiltFits
+rebuilt-yes k zero W H g x h fit e = refl
+rebuilt-yes k (suc L) W H g x h fit e =
+    let small : range (suc k) < 2 ^ 31 = range-small (suc k) (omega arith) in
+    let small′ : 4 * range k < 2 ^ 31 = omega (arith, range-suc k) in
+    let within : OnCells (Within (range k)) W H g = λ r c p q. fits-within k (g r c) (fit r c p q) in
+    let words : OnCells (SFits w32) W H g = λ r c p q. abs-fits (g r c) (range k) (omega arith) (within r c p q) in
+    let back : Same W H (mapBack wrap32 (suc L) W H x) g =
+    λ r c p q. map-back-reads wrap32 (suc L) W H x (planeCell wrap32 (suc L) W H g) e r c p q ∙ words-map-back-plane (suc L) W H g words r c p q in
+    let exact = same-low W H (subband wrap32 W H g) (subband whole W H g) (subband-exact (range k) W H g small′ within) in
+    let low = low-all (Within (4 * range k)) W H (subband whole W H g) (subband-range (range k) W H g within) in
+    let rest =
+    rebuilt-yes (suc k) L (count lo W) (count lo H) (subband wrap32 W H g LL) x (omega arith)
+    (λ r c p q. low-fits k (subband wrap32 W H g LL r c) .1 (rw (exact r c p q, range-suc k) (low r c p q)))
+    (λ r c p q. same-corner W H x (planeCell wrap32 (suc L) W H g) e r c p q ∙ plane-corner wrap32 L W H g r c p q) in
+    simp (rest, each-cells W H (λ r c. valueFits k (mapBack wrap32 (suc L) W H x r c)) (λ r c p q. rw (back r c p q) (fit r c p q)))
+
+-- ---- a plane that a map has
+module _ (L W H : ℕ) (g x : Grid) (few : L ≤ 5) (has : HasPlane L W H g x) where
+  pub plane-words : Same W H x (planeCell wrap32 L W H g)
+  plane-words r c p q = has .coefficients r c p q ∙ sym (map-plane W H g (has .map) L few r c p q)
+
+  pub plane-within : (r c : ℕ) → r < H → c < W → natAbs (x r c) ≤ range (levelAt L W H r c)
+  plane-within r c p q = rw (has .coefficients r c p q) (map-plane-range W H g (has .map) L r c p q)
+
+  pub plane-in-range : inRange L W H x ≡ true
+  unfolding inRange
+  plane-in-range = each-cells W H (λ r c. leb (natAbs (x r c)) (range (levelAt L W H r c))) (λ r c p q. le-leb _ _ (plane-within r c p q))
+
+  pub plane-rebuilt : rebuiltFits 0 L W H x ≡ true
+  plane-rebuilt =
+      rebuilt-yes 0 L W H g x (omega arith) (λ r c p q. height-fits (g r c) .1 (has .map .heights r c p q)) plane-words
+
+  pub plane-back : (r c : ℕ) → r < H → c < W → mapBack wrap32 L W H x r c ≡ g r c
+  plane-back r c p q =
+      map-back-reads wrap32 L W H x (planeCell wrap32 L W H g) plane-words r c p q
+      ∙ words-map-back-plane L W H g (map-fits W H g (has .map)) r c p q
+
+-- ---- a plane whose rebuilt values fit
+pick-le : (t : Bool) (m n k : ℕ) → m ≤ k → n ≤ k → pick t m n ≤ k
+pick-le true m n k h h′ = h
+pick-le false m n k h h′ = h′
+
+pub level-le : (L W H r c : ℕ) → levelAt L W H r c ≤ L
+unfolding levelAt
+level-le zero W H r c = omega arith
+level-le (suc L) W H r c =
+    let a = level-le L (count lo W) (count lo H) r c in
+    pick-le (pick (ltb r (count lo H)) (ltb c (count lo W)) false) (1 + levelAt L (count lo W) (count lo H) r c) 1 (suc L) (omega arith) (omega arith)
+
+-- a plane in range is one of 32-bit numbers
+pub range-words : (L W H : ℕ) (x : Grid) → L ≤ 5 → inRange L W H x ≡ true → OnCells (SFits w32) W H x
+unfolding inRange
+range-words L W H x few e r c p q =
+    let a = leb-true _ _ (cells-each W H _ e r c p q) in
+    abs-fits (x r c) (range (levelAt L W H r c)) (range-small (levelAt L W H r c) (omega (arith, level-le L W H r c))) a
+
+pub rebuilt-fits : (k L W H : ℕ) (x : Grid) → 1 ≤ L → rebuiltFits k L W H x ≡ true → OnCells (λ v. valueFits k v ≡ true) W H (mapBack wrap32 L W H x)
+unfolding rebuiltFits
+rebuilt-fits k zero W H x some e = absurd (omega arith)
+rebuilt-fits k (suc L) W H x some e =
+    cells-each W H (λ r c. valueFits k (mapBack wrap32 (suc L) W H x r c)) (both (rebuiltFits (suc k) L (count lo W) (count lo H) x) _ e .1)
+
+module _ (L W H : ℕ) (x : Grid) (some : 1 ≤ L) (few : L ≤ 5) (fits : OnCells (SFits w32) W H x) (rebuilt : rebuiltFits 0 L W H x ≡ true) where
+  pub rebuilt-map : IsMap W H (mapBack wrap32 L W H x)
+  rebuilt-map = record { heights = λ r c p q. height-fits (mapBack wrap32 L W H x r c) .0 (rebuilt-fits 0 L W H x some rebuilt r c p q) }
+
+  pub rebuilt-plane : HasPlane L W H (mapBack wrap32 L W H x) x
+  rebuilt-plane = record {
+    map = rebuilt-map;
+    coefficients = λ r c p q.
+        sym (words-plane-map-back L W H x fits r c p q) ∙ map-plane W H (mapBack wrap32 L W H x) rebuilt-map L few r c p q;
+  }
+
+-- ---- so both questions are answered yes exactly where some map has the plane, and no other map has it
+pub some-map : (L W H : ℕ) (x : Grid) → 1 ≤ L → L ≤ 5 → (inRange L W H x ≡ true) × (rebuiltFits 0 L W H x ≡ true) ↔ (g : Grid) × HasPlane L W H g x
+some-map L W H x some few = (
+  λ h. (mapBack wrap32 L W H x, rebuilt-plane L W H x some few (range-words L W H x few (h .0)) (h .1)),
+  λ m. (plane-in-range L W H (m .0) x few (m .1), plane-rebuilt L W H (m .0) x few (m .1)),
+)
+
+pub one-map : (L W H : ℕ) (g g′ x : Grid) → L ≤ 5 → HasPlane L W H g x → HasPlane L W H g′ x → Same W H g g′
+one-map L W H g g′ x few m m′ r c p q = sym (plane-back L W H g x few m r c p q) ∙ plane-back L W H g′ x few m′ r c p q
+
+-- and one of them no exactly where no map has it
+both-no : (a b : Bool) → pick a b false ≡ false ↔ ((a ≡ true) × (b ≡ true) → ⊥)
+both-no true true = (λ e h. subst T e tt, λ h. absurd (h (refl, refl)))
+both-no true false = (λ e h. subst T (sym (h .1)) tt, λ h. refl)
+both-no false b = (λ e h. subst T (sym (h .0)) tt, λ h. refl)
+
+pub no-map : (L W H : ℕ) (x : Grid) → 1 ≤ L → L ≤ 5 → pick (inRange L W H x) (rebuiltFits 0 L W H x) false ≡ false ↔ ((g : Grid) → HasPlane L W H g x → ⊥)
+no-map L W H x some few =
+    let asked = both-no (inRange L W H x) (rebuiltFits 0 L W H x) in
+    let maps = some-map L W H x some few in
+    (λ e g m. asked .0 e (maps .1 (g, m)), λ h. asked .1 (λ a. let m = maps .0 a in h (m .0) (m .1)))
+
+-- ---- maps and planes by their cells
+pub same-map : (W H : ℕ) (g g′ : Grid) → Same W H g g′ → IsMap W H g → IsMap W H g′
+same-map W H g g′ e m = record { heights = λ r c p q. rw (sym (e r c p q)) (m .heights r c p q) }
+
+pub same-plane : (L W H : ℕ) (g g′ x y : Grid) → Same W H g g′ → Same W H x y → HasPlane L W H g x → HasPlane L W H g′ y
+same-plane L W H g g′ x y e d has = record {
+  map = same-map W H g g′ e (has .map);
+  coefficients = λ r c p q. sym (d r c p q) ∙ has .coefficients r c p q ∙ plane-reads whole L W H g g′ e r c p q;
+}
+
+-- a map has the plane that its word transform is
+pub own-plane : (L W H : ℕ) (g : Grid) → L ≤ 5 → IsMap W H g → HasPlane L W H g (planeCell wrap32 L W H g)
+own-plane L W H g few m = record { map = m; coefficients = map-plane W H g m L few }
+
+-- the way back gives the map, with both questions answered yes, exactly where the plane is that map's
+pub back-exactly : (L W H : ℕ) (g x : Grid) → 1 ≤ L → L ≤ 5 → HasPlane L W H g x ↔ (inRange L W H x ≡ true) × (rebuiltFits 0 L W H x ≡ true) × Same W H (mapBack wrap32 L W H x) g
+back-exactly L W H g x some few = (
+  λ has. (plane-in-range L W H g x few has, plane-rebuilt L W H g x few has, plane-back L W H g x few has),
+  λ h. same-plane L W H (mapBack wrap32 L W H x) g x x (h .2) (λ r c p q. refl)
+      (rebuilt-plane L W H x some few (range-words L W H x few (h .0)) (h .1)),
+)

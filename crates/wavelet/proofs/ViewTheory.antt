@@ -1,0 +1,70 @@
+-- What a view is: refused it is empty, which no band row is, and of the plane of a map it is that band row of the map. Assumes nothing.
+use mathlib.Core.Path.{_≡_, ap, _∙_}
+use mathlib.Core.List.{List, []}
+use Prim.Native.Nat.{ℕ, _+_, _*_, _<_}
+use native.Mathlib.Omega.{arith}
+use lib.IntN.{ℤ}
+use lib.ListN.{length, take, drop}
+use borrow.Author.Tests.{eq-eqb, ne-eqb}
+use Rattle.numbers.specs.Signal.{at}
+use Rattle.numbers.proofs.Parts.{length-mid, at-mid, window-in}
+use Rattle.wavelet.specs.Bands.{Grid, Band, code}
+use Rattle.wavelet.specs.Levels.{levelBand}
+use Rattle.wavelet.specs.Plane.{planeOf}
+use Rattle.wavelet.specs.View.{bandColumns, bandStart}
+use Rattle.wavelet.specs.ViewCall.{viewQuestion, viewStart, viewLength, viewRow}
+use Rattle.wavelet.proofs.BandPlaces.{stretch-in}
+use Rattle.wavelet.proofs.ViewLaws.{Viewed, viewed, start-is, length-is, view-in}
+use Rattle.wavelet.proofs.PlaneLayout.{Stands, plane-places}
+
+module _ (plane : List ℤ) (W H L k c r : ℕ) where
+  pub view-refused : (viewQuestion (length plane) W H L k c r ≡ 0 → ⊥) → viewRow plane W H L k c r ≡ []
+  unfolding viewRow
+  view-refused h = rw (ne-eqb (viewQuestion (length plane) W H L k c r) 0 h)
+
+  pub view-passed : viewQuestion (length plane) W H L k c r ≡ 0 → viewRow plane W H L k c r ≡ take (viewLength W k c) (drop (viewStart W H k c r) plane)
+  unfolding viewRow
+  view-passed e = rw (eq-eqb (viewQuestion (length plane) W H L k c r) 0 e)
+
+  -- the band row that a passed view is of
+  module _ (e : viewQuestion (length plane) W H L k c r ≡ 0) where
+    abbrev view : Viewed (length plane) W H L k c r
+    view = viewed (length plane) W H L k c r e
+
+    pub view-band : Band
+    view-band = view .band
+
+    pub view-code : c ≡ code view-band
+    unfolding view-band
+    view-code = view .code-is
+
+    pub view-length : length (viewRow plane W H L k c r) ≡ bandColumns W k view-band
+    unfolding view-band
+    view-length =
+        ap length (view-passed e)
+        ∙ length-mid (viewStart W H k c r) (viewLength W k c) plane (view-in (length plane) W H L k c r view)
+        ∙ length-is (length plane) W H L k c r view
+
+    pub view-some : 0 < length (viewRow plane W H L k c r)
+    unfolding view-band
+    view-some = omega (arith, view-length, view .kept .columns)
+
+    pub view-values : (keep : ℤ → ℤ) (g : Grid) → ((j : ℕ) → j < W * H → at plane j ≡ planeOf keep L W H g j) → (i : ℕ) → i < bandColumns W k view-band → at (viewRow plane W H L k c r) i ≡ levelBand keep W H g k view-band r i
+    unfolding view-band
+    view-values keep g same i h =
+        let b = view .band in
+        let inside = stretch-in W H k b (view .kept .deep) r (view .kept .columns) (view .kept .row) in
+        let start = start-is (length plane) W H L k c r view in
+        let stands : Stands L W H k b r i = record {
+          deep = view .kept .deep;
+          most = view .kept .most;
+          last = view .kept .last;
+          row = view .kept .row;
+          column = h;
+        } in
+        ap (λ (l : List ℤ). at l i) (view-passed e)
+        ∙ ap (λ (f : ℕ → ℤ). f i) (at-mid (viewStart W H k c r) (viewLength W k c) plane)
+        ∙ window-in (viewStart W H k c r) (viewLength W k c) (at plane) i (omega (arith, length-is (length plane) W H L k c r view))
+        ∙ ap (λ (x : ℕ). at plane (x + i)) start
+        ∙ same (bandStart W H k b r + i) (omega arith)
+        ∙ plane-places keep L W H g k b r i stands

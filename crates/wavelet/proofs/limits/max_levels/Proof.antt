@@ -1,0 +1,12 @@
+-- `limits::max_levels` meets its contract: the definition's number. Assumes nothing.
+use mathlib.Core.Path.{refl}
+use Rattle.wavelet.specs.Limits.{maxLevels}
+use Rattle.wavelet.proofs.limits.max_levels.Statement.{statement}
+use Rattle.wavelet.proofs.limits.max_levels.Tie as tie
+
+returns : tie.Need-returns
+unfolding maxLevels
+returns c = refl
+
+pub max-levels-spec : {M : Type 1} → statement M
+max-levels-spec = tie.close (tie.spec returns)

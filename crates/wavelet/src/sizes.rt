@@ -1,0 +1,41 @@
+// The sizes of the levels, and the range of their coefficients.
+ghost use mathlib.Core.Path.{_≡_};
+ghost use Prim.Native.Nat.{min};
+ghost use lib.IntN.{pos};
+ghost use Rattle.lifting.specs.Line.{lo, count};
+ghost use Rattle.wavelet.specs.Limits.{maxLevels, range};
+ghost use Rattle.wavelet.specs.Levels.{size};
+
+// ⌈n / 2⌉, for every n: n + 1 might not fit.
+pub fn half(n: usize) -> usize
+    ensures { λ r. ⌜ r ≡ count lo n ⌝ }
+{
+    n - n / 2
+}
+
+// The side of level `level` of a side of n: W(level) of W = n.
+pub fn size_at(level: usize, n: usize) -> usize
+    ensures { λ r. ⌜ r ≡ size level n ⌝ }
+{
+    let mut side = n;
+    let mut k = 0;
+    while k < level {
+        side = half(side);
+        k += 1;
+    }
+    side
+}
+
+// The largest magnitude of a coefficient of a level, 65,535 × 4^level; past the last level, that of the last.
+pub fn range_of(level: usize) -> i32
+    ensures { λ r. ⌜ r ≡ pos (range (min level maxLevels)) ⌝ }
+{
+    match level {
+        0 => 65535,
+        1 => 262140,
+        2 => 1048560,
+        3 => 4194240,
+        4 => 16776960,
+        _ => 67107840,
+    }
+}

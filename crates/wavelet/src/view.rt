@@ -1,0 +1,123 @@
+// The view of one band row: a stretch of the caller's plane, not a copy.
+use crate::limits;
+use crate::sizes;
+ghost use mathlib.Core.Path.{_≡_};
+ghost use Prim.Native.Nat.{_≤_, _*_};
+ghost use lib.ListN.{length};
+ghost use Rattle.wavelet.specs.Limits.{maxWidth, maxHeight};
+ghost use Rattle.wavelet.specs.ViewCall.{viewQuestion, viewRow};
+ghost use Rattle.wavelet.specs.Span.{keptSpan, stretchOf, spanOf};
+
+// Where a band row stands in its plane: start and length, or the number of the question that turned it away.
+pub enum Span {
+    At(usize, usize),
+    Refused(u8),
+}
+
+// A row of a band that has `rows` rows, each of `length` numbers.
+fn keep(row: usize, rows: usize, start: usize, length: usize) -> Span
+    ensures { λ r. ⌜ r ≡ keptSpan row rows start length ⌝ }
+{
+    if 0 < length {
+        if row < rows {
+            return Span::At(start, length);
+        }
+    }
+    Span::Refused(6)
+}
+
+// Question 6, and the stretch: of a plane within the limits.
+fn stretch(
+    width: usize,
+    height: usize,
+    levels: usize,
+    level: usize,
+    band: usize,
+    row: usize,
+) -> Span
+    requires { ⌜ (width ≤ maxWidth) × (height ≤ maxHeight) ⌝ }
+    ensures { λ r. ⌜ r ≡ stretchOf width height levels level band row ⌝ }
+{
+    if !limits::is_within(level, levels) {
+        return Span::Refused(6);
+    }
+    if height <= row {
+        return Span::Refused(6);
+    }
+    let w = sizes::size_at(level - 1, width);
+    let h = sizes::size_at(level - 1, height);
+    let low = sizes::half(w);
+    let right = w - low;
+    let top = sizes::half(h);
+    let bottom = h - top;
+    match band {
+        0 => {
+            if level < levels {
+                return Span::Refused(6);
+            }
+            keep(row, top, row * width, low)
+        }
+        1 => keep(row, top, row * width + low, right),
+        2 => keep(row, bottom, (top + row) * width, low),
+        3 => keep(row, bottom, (top + row) * width + low, right),
+        _ => Span::Refused(6),
+    }
+}
+
+// Where the named band row stands in a plane of `length` numbers. The questions are 2, 3, 4, 5 and 6.
+pub fn locate(
+    length: usize,
+    width: usize,
+    height: usize,
+    levels: usize,
+    level: usize,
+    band: usize,
+    row: usize,
+) -> Span
+    ensures { λ r. ⌜ r ≡ spanOf length width height levels level band row ⌝ }
+{
+    let no = limits::size_question(width, height, levels);
+    if no != 0 {
+        return Span::Refused(no);
+    }
+    if length < width * height {
+        return Span::Refused(5);
+    }
+    stretch(width, height, levels, level, band, row)
+}
+
+// The number of the question that turns the view of this band row away, or 0.
+pub fn band_row_question(
+    plane: &[i32],
+    width: usize,
+    height: usize,
+    levels: usize,
+    level: usize,
+    band: usize,
+    row: usize,
+) -> u8
+    ensures { λ r. ⌜ r ≡ viewQuestion (length (now (plane .entry))) width height levels level band row ⌝ }
+{
+    match locate(plane.len(), width, height, levels, level, band, row) {
+        Span::At(_, _) => 0,
+        Span::Refused(no) => no,
+    }
+}
+
+// The band row, or the empty stretch where a question turns the view away.
+pub fn band_row<'a>(
+    plane: &'a [i32],
+    width: usize,
+    height: usize,
+    levels: usize,
+    level: usize,
+    band: usize,
+    row: usize,
+) -> &'a [i32]
+    ensures { λ r. ⌜ now r ≡ viewRow (now (plane .entry)) width height levels level band row ⌝ }
+{
+    match locate(plane.len(), width, height, levels, level, band, row) {
+        Span::At(start, count) => &plane[start..start + count],
+        Span::Refused(_) => &plane[0..0],
+    }
+}
