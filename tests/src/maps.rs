@@ -40,29 +40,38 @@ pub fn forward(heights: &[u16], width: usize, height: usize, levels: usize) -> V
     plane
 }
 
-/// The grid that has this plane over 32-bit words, whatever stands in it: the inverse, level by level.
-fn backward_words(plane: &[i32], width: usize, height: usize, levels: usize) -> Vec<i32> {
-    let mut grid = plane.to_vec();
+/// The grids that have this plane over 32-bit words, whatever stands in it: that of level k, W(k) × H(k), for k from 0 to L − 1.
+pub fn rebuilt(plane: &[i32], width: usize, height: usize, levels: usize) -> Vec<Vec<i32>> {
+    let mut area = plane.to_vec();
+    let mut grids = Vec::new();
     for k in (0..levels).rev() {
         let (w, h) = (side(width, k), side(height, k));
         for r in 0..h {
-            let row = reference::backward(&reference::interleaved(&grid[r * width..r * width + w]));
-            grid[r * width..r * width + w].copy_from_slice(&row);
+            let row = reference::backward(&reference::interleaved(&area[r * width..r * width + w]));
+            area[r * width..r * width + w].copy_from_slice(&row);
         }
         for c in 0..w {
-            let column: Vec<i32> = (0..h).map(|r| grid[r * width + c]).collect();
+            let column: Vec<i32> = (0..h).map(|r| area[r * width + c]).collect();
             for (r, v) in reference::backward(&reference::interleaved(&column)).into_iter().enumerate() {
-                grid[r * width + c] = v;
+                area[r * width + c] = v;
             }
         }
+        grids.push((0..h).flat_map(|r| area[r * width..r * width + w].to_vec()).collect());
     }
-    grid
+    grids.reverse();
+    grids
+}
+
+/// Whether a rebuilt number fits: question 14.
+pub fn fits(level: usize, v: i32) -> bool {
+    let low = if level == 0 { 0 } else { -range(level) };
+    (low..=range(level)).contains(&i64::from(v))
 }
 
 /// The map that has this plane, by the definition: some map's plane is this one. `None` where no map has it.
 pub fn map_of(plane: &[i32], width: usize, height: usize, levels: usize) -> Option<Vec<u16>> {
-    let grid = backward_words(plane, width, height, levels);
-    let heights: Option<Vec<u16>> = grid.iter().map(|&v| u16::try_from(v).ok()).collect();
+    let grids = rebuilt(plane, width, height, levels);
+    let heights: Option<Vec<u16>> = grids[0].iter().map(|&v| u16::try_from(v).ok()).collect();
     heights.filter(|map| forward(map, width, height, levels) == plane)
 }
 
