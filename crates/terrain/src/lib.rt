@@ -2,3 +2,4 @@
 mod line;
 mod map;
 mod states;
+mod writer_calls;
