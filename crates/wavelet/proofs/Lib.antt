@@ -1,4 +1,5 @@
 pub mod SizeLaws
+pub mod StoreLaws
 pub mod GridLaws
 pub mod QuestionLaws
 pub mod SidePlaces

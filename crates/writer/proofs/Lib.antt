@@ -1,0 +1,12 @@
+pub mod CountLaws
+pub mod Filling
+pub mod SetLaws
+pub mod RestLaws
+pub mod DeliverLaws
+pub mod CascadeLaws
+pub mod DrawLaws
+pub mod ClosingLaws
+pub mod GateLaws
+pub mod CallLaws
+pub mod FillLaws
+pub mod OfferLaws
