@@ -7,7 +7,7 @@ use native.Mathlib.Omega.{arith}
 use lib.IntN.{ℤ}
 use Rattle.writer.specs.declared.Writer.{Writer}
 use Rattle.writer.specs.Answers.{Reply, refused}
-use Rattle.terrain.specs.States.{isWriter, writerOf}
+use Rattle.terrain.specs.WriterState.{isWriter, writerOf}
 use Rattle.terrain.specs.WriterCalls.{onWriter, areaOn}
 
 not-yes : (b : Bool) → not b ≡ true → b ≡ false

@@ -7,7 +7,7 @@ use Rattle.writer.specs.declared.Writer.{Writer}
 use Rattle.writer.specs.declared.BandRow.{BandRow}
 use Rattle.writer.specs.Answers.{Reply, gives, refused, Took, Handed, aRow, nothing}
 use Rattle.writer.specs.Calls.{offerReply, offerStore, drawReply, drawStore, drawArea, finishReply, finishStore}
-use Rattle.terrain.specs.States.{isWriter, writerOf, writerWords}
+use Rattle.terrain.specs.WriterState.{isWriter, writerOf, writerWords}
 
 -- the answer of a call on the writer that s holds, and an area afterwards that held x
 unfoldable pub onWriter : {A : Type 0} → List ℕ → (Writer → Reply A) → Reply A

@@ -3,3 +3,4 @@ mod line;
 mod map;
 mod states;
 mod writer_calls;
+mod writer_state;

@@ -1,5 +1,5 @@
-// The writer's calls. The state is the caller's array: `states` unpacks and packs it.
-use crate::states;
+// The writer's calls. The state is the caller's array: `writer_state` unpacks and packs it.
+use crate::writer_state;
 use wavelet::store;
 use writer::Drawn;
 use writer::Finished;
@@ -37,7 +37,7 @@ pub extern "C" fn terrain_writer_set_up(
 {
     match Writer::set_up(width, levels, store) {
         SetUp::Ready(w) => {
-            states::pack_writer(w, state);
+            writer_state::pack_writer(w, state);
             0
         }
         SetUp::Refused(no) => no as u32,
@@ -57,13 +57,13 @@ pub extern "C" fn terrain_writer_offer(
     ensures { λ r. ⌜ at (now (store .exit)) ≡ offeredStore (now (state .entry)) (length (now (store .entry))) (now (run .entry)) (at (now (store .entry))) ⌝ }
     ensures { λ r. ⌜ now (taken .exit) ≡ takenOf (offered (now (state .entry)) (length (now (store .entry))) (now (run .entry)) (at (now (store .entry)))) (now (taken .entry)) ⌝ }
 {
-    if !states::is_writer(state) {
+    if !writer_state::is_writer(state) {
         return 1;
     }
-    let w = states::unpack_writer(state);
+    let w = writer_state::unpack_writer(state);
     match w.offer(store, run) {
         Offered::Taken(n, next) => {
-            states::pack_writer(next, state);
+            writer_state::pack_writer(next, state);
             *taken = n;
             0
         }
@@ -85,13 +85,13 @@ pub extern "C" fn terrain_writer_draw(
     ensures { λ r. ⌜ at (now (out .exit)) ≡ drawnArea (now (state .entry)) (length (now (store .entry))) (length (now (out .entry))) (at (now (store .entry))) (at (now (out .entry))) ⌝ }
     ensures { λ r. ⌜ now (row .exit) ≡ rowOf (drawn (now (state .entry)) (length (now (store .entry))) (length (now (out .entry))) (at (now (store .entry)))) (now (row .entry)) ⌝ }
 {
-    if !states::is_writer(state) {
+    if !writer_state::is_writer(state) {
         return 1;
     }
-    let w = states::unpack_writer(state);
+    let w = writer_state::unpack_writer(state);
     match w.draw(store, out) {
         Drawn::Row(r, next) => {
-            states::pack_writer(next, state);
+            writer_state::pack_writer(next, state);
             *row = [r.level as u64, r.band as u64, r.row as u64, r.length as u64];
             0
         }
@@ -110,13 +110,13 @@ pub extern "C" fn terrain_writer_finish(state: &mut [u64; 16], store: &mut [i32]
     ensures { λ r. ⌜ now (state .exit) ≡ stateOf (finished (now (state .entry)) (length (now (store .entry))) (at (now (store .entry)))) (now (state .entry)) ⌝ }
     ensures { λ r. ⌜ at (now (store .exit)) ≡ finishedStore (now (state .entry)) (length (now (store .entry))) (at (now (store .entry))) ⌝ }
 {
-    if !states::is_writer(state) {
+    if !writer_state::is_writer(state) {
         return 1;
     }
-    let w = states::unpack_writer(state);
+    let w = writer_state::unpack_writer(state);
     match w.finish(store) {
         Finished::Closed(next) => {
-            states::pack_writer(next, state);
+            writer_state::pack_writer(next, state);
             0
         }
         Finished::Refused(no) => no as u32,

@@ -1,7 +1,7 @@
--- `states::pack_writer` meets its contract: the numbers as they are, and the flag as one. Assumes nothing.
+-- `writer_state::pack_writer` meets its contract: the numbers as they are, and the flag as one. Assumes nothing.
 use borrow.Author.Needs.{needs}
-use Rattle.terrain.proofs.states.pack_writer.Statement.{statement}
-use Rattle.terrain.proofs.states.pack_writer.Tie as tie
+use Rattle.terrain.proofs.writer_state.pack_writer.Statement.{statement}
+use Rattle.terrain.proofs.writer_state.pack_writer.Tie as tie
 
 flag-of-requires : tie.Need-flag-of-requires
 flag-of-requires c κs = search needs
