@@ -68,11 +68,7 @@ pub extern "C" fn terrain_reader_want(state: &[u64; 16], want: &mut [u64; 5]) ->
 
 // A band row fed. The questions are 1, 5, 9, 8, 13, 7 and 14; 14 leaves the ended reader.
 #[no_mangle]
-pub extern "C" fn terrain_reader_feed(
-    state: &mut [u64; 16],
-    store: &mut [i32],
-    run: &[i32],
-) -> u32
+pub extern "C" fn terrain_reader_feed(state: &mut [u64; 16], store: &mut [i32], run: &[i32]) -> u32
     ensures { λ r. ⌜ r ≡ feedNumber (feeding (now (state .entry)) (length (now (store .entry))) (at (now (store .entry))) (length (now (run .entry))) (at (now (run .entry)))) ⌝ }
     ensures { λ _. ⌜ now (state .exit) ≡ stateFed (feeding (now (state .entry)) (length (now (store .entry))) (at (now (store .entry))) (length (now (run .entry))) (at (now (run .entry)))) (now (state .entry)) ⌝ }
     ensures { λ _. ⌜ at (now (store .exit)) ≡ feedingStore (now (state .entry)) (length (now (store .entry))) (at (now (store .entry))) (length (now (run .entry))) (at (now (run .entry))) ⌝ }

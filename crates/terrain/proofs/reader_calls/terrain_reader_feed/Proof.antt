@@ -1,76 +1,112 @@
+-- `terrain_reader_feed` meets its contract: what the call on the unpacked reader answers, in its three cases, and 1 where the array is none. Assumes nothing.
+use mathlib.Core.Path.{_≡_, refl, sym, ap, _∙_}
+use lib.ListN.{length}
 use borrow.Author.Needs.{needs}
+use Rattle.numbers.specs.Signal.{at}
+use Rattle.reader.specs.declared.Reader.{Reader}
+use Rattle.reader.specs.declared.Fed.{Fed}
+use Rattle.reader.specs.declared.Fed.the-variants as fed
+use Rattle.reader.specs.Questions.{feedQuestion}
+use Rattle.reader.specs.Calls.{feedNumber, feedAnswer, feedStore}
+use Rattle.terrain.specs.ReaderCalls.{feeding, stateFed}
+use Rattle.terrain.specs.ReaderState.{isReader, readerOf}
+use Rattle.terrain.proofs.StateLaws.{turned, went}
 use Rattle.terrain.proofs.reader_calls.terrain_reader_feed.Statement.{statement}
 use Rattle.terrain.proofs.reader_calls.terrain_reader_feed.Tie as tie
-use Rattle.terrain.proofs.reader_calls.terrain_reader_feed.Reads as reads
-use Rattle.terrain.proofs.reader_calls.terrain_reader_feed.Lts as lts
-use Rattle.reader.proofs.Reader.feed.Reads as feed-reads
-use Rattle.terrain.proofs.reader_state.is_reader.Reads as is-reader-reads
-use Rattle.terrain.proofs.reader_state.pack_reader.Reads as pack-reader-reads
-use Rattle.terrain.proofs.reader_state.unpack_reader.Reads as unpack-reader-reads
 
--- src/reader_calls.rt:80:9
 is-reader-requires : tie.Need-is-reader-requires
 is-reader-requires c κs = search needs
 
--- src/reader_calls.rt:81:9
 returns : tie.Need-returns
-returns c = ?
+unfolding feedNumber
+returns c =
+    let i = c .before in
+    let a = i .before .before .args in
+    let e : feeding (a .state .now) (length (a .store .now)) (at (a .store .now)) (length (a .run .now)) (at (a .run .now)) ≡ fed.Refused 1 = turned (isReader (a .state .now)) (i .is-reader .result) (i .is-reader .ensures) _ _ (c .if1 .taken) in (
+      sym (ap feedNumber e),
+      (
+        sym (ap (λ (q : Fed). stateFed q (a .state .now)) e),
+        sym (turned (isReader (a .state .now)) (i .is-reader .result) (i .is-reader .ensures) _ (at (a .store .now)) (c .if1 .taken)),
+      ),
+    )
 
--- src/reader_calls.rt:83:9
 unpack-reader-requires : tie.Need-unpack-reader-requires
 unpack-reader-requires c κs = search needs
 
--- src/reader_calls.rt:84:11
 feed-requires : tie.Need-feed-requires
 feed-requires c κs = search needs
 
--- src/reader_calls.rt:85:21
 enum-known-next : tie.Need-enum-known-next
 enum-known-next c = search needs
 
--- src/reader_calls.rt:86:13
 pack-reader-requires : tie.Need-pack-reader-requires
 pack-reader-requires c κs = search needs
 
--- src/reader_calls.rt:89:25
 enum-known-next-2 : tie.Need-enum-known-next-2
 enum-known-next-2 c = search needs
 
--- src/reader_calls.rt:90:13
 pack-reader-requires-2 : tie.Need-pack-reader-requires-2
 pack-reader-requires-2 c κs = search needs
 
--- src/reader_calls.rt:93:22
 enum-known-no : tie.Need-enum-known-no
 enum-known-no c = search needs
 
--- src/reader_calls.rt:93:29
 cast-result : tie.Need-cast-result
 cast-result c = search needs
 
--- src/reader_calls.rt:70:1
 same-length : tie.Need-same-length
 same-length c = search needs
 
--- src/reader_calls.rt:70:1
 returns-2 : tie.Need-returns-2
-returns-2 c = ?
+unfolding feedNumber
+returns-2 c =
+    let o = c .before .before .before .before .before in
+    let u = o .before .before .before in
+    let i = u .before .before .before in
+    let a = i .before .before .args in
+    let e = went (isReader (a .state .now)) (i .is-reader .result) (i .is-reader .ensures) (λ (r : Reader). feedAnswer r (feedQuestion r (length (a .store .now)) (at (a .store .now)) (length (a .run .now)) (at (a .run .now)))) (readerOf (a .state .now)) (u .unpack-reader .result) (fed.Refused 1) _ (u .before .before .if1 .left) (u .unpack-reader .ensures) (o .before .feed .ensures .1 .0) ∙ c .before .before .before .next .given .1 in (
+      sym (ap feedNumber e),
+      (
+        c .pack-reader .ensures ∙ sym (ap (λ (q : Fed). stateFed q (a .state .now)) e),
+        sym (went (isReader (a .state .now)) (i .is-reader .result) (i .is-reader .ensures) (λ (r : Reader). feedStore r (feedQuestion r (length (a .store .now)) (at (a .store .now)) (length (a .run .now)) (at (a .run .now))) (at (a .run .now)) (at (a .store .now))) (readerOf (a .state .now)) (u .unpack-reader .result) (at (a .store .now)) _ (u .before .before .if1 .left) (u .unpack-reader .ensures) (o .before .feed .ensures .1 .1)),
+      ),
+    )
 
--- src/reader_calls.rt:70:1
 same-length-2 : tie.Need-same-length-2
 same-length-2 c = search needs
 
--- src/reader_calls.rt:70:1
 returns-3 : tie.Need-returns-3
-returns-3 c = ?
+unfolding feedNumber
+returns-3 c =
+    let o = c .before .before .before .before .before in
+    let u = o .before .before .before in
+    let i = u .before .before .before in
+    let a = i .before .before .args in
+    let e = went (isReader (a .state .now)) (i .is-reader .result) (i .is-reader .ensures) (λ (r : Reader). feedAnswer r (feedQuestion r (length (a .store .now)) (at (a .store .now)) (length (a .run .now)) (at (a .run .now)))) (readerOf (a .state .now)) (u .unpack-reader .result) (fed.Refused 1) _ (u .before .before .if1 .left) (u .unpack-reader .ensures) (o .before .feed .ensures .1 .0) ∙ c .before .before .before .next2 .given .1 in (
+      sym (ap feedNumber e),
+      (
+        c .pack-reader2 .ensures ∙ sym (ap (λ (q : Fed). stateFed q (a .state .now)) e),
+        sym (went (isReader (a .state .now)) (i .is-reader .result) (i .is-reader .ensures) (λ (r : Reader). feedStore r (feedQuestion r (length (a .store .now)) (at (a .store .now)) (length (a .run .now)) (at (a .run .now))) (at (a .run .now)) (at (a .store .now))) (readerOf (a .state .now)) (u .unpack-reader .result) (at (a .store .now)) _ (u .before .before .if1 .left) (u .unpack-reader .ensures) (o .before .feed .ensures .1 .1)),
+      ),
+    )
 
--- src/reader_calls.rt:70:1
 same-length-3 : tie.Need-same-length-3
 same-length-3 c = search needs
 
--- src/reader_calls.rt:70:1
 returns-4 : tie.Need-returns-4
-returns-4 c = ?
+unfolding feedNumber
+returns-4 c =
+    let o = c .before .before .before in
+    let u = o .before .before .before in
+    let i = u .before .before .before in
+    let a = i .before .before .args in
+    let e = went (isReader (a .state .now)) (i .is-reader .result) (i .is-reader .ensures) (λ (r : Reader). feedAnswer r (feedQuestion r (length (a .store .now)) (at (a .store .now)) (length (a .run .now)) (at (a .run .now)))) (readerOf (a .state .now)) (u .unpack-reader .result) (fed.Refused 1) _ (u .before .before .if1 .left) (u .unpack-reader .ensures) (o .before .feed .ensures .1 .0) ∙ c .before .no .given .1 in (
+      sym (ap feedNumber e),
+      (
+        sym (ap (λ (q : Fed). stateFed q (a .state .now)) e),
+        sym (went (isReader (a .state .now)) (i .is-reader .result) (i .is-reader .ensures) (λ (r : Reader). feedStore r (feedQuestion r (length (a .store .now)) (at (a .store .now)) (length (a .run .now)) (at (a .run .now))) (at (a .run .now)) (at (a .store .now))) (readerOf (a .state .now)) (u .unpack-reader .result) (at (a .store .now)) _ (u .before .before .if1 .left) (u .unpack-reader .ensures) (o .before .feed .ensures .1 .1)),
+      ),
+    )
 
 pub terrain-reader-feed-spec : {M : Type 1} → statement M
 terrain-reader-feed-spec =

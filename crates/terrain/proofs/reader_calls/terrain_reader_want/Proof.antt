@@ -1,71 +1,115 @@
+-- `terrain_reader_want` meets its contract: what the call on the unpacked reader answers, in its five cases, and 1 where the array is none. Assumes nothing.
+use mathlib.Core.Path.{_≡_, refl, sym, ap, _∙_}
+use lib.ListN.{length}
 use borrow.Author.Needs.{needs}
+use Rattle.numbers.specs.Signal.{at}
+use Rattle.reader.specs.declared.Reader.{Reader}
+use Rattle.reader.specs.declared.Wanted.{Wanted}
+use Rattle.reader.specs.declared.Wanted.the-variants as wanted
+use Rattle.reader.specs.Questions.{wantQuestion}
+use Rattle.reader.specs.Calls.{wantNumber, wantAnswer}
+use Rattle.terrain.specs.ReaderCalls.{wanting, wantOf}
+use Rattle.terrain.specs.ReaderState.{isReader, readerOf}
+use Rattle.terrain.proofs.StateLaws.{turned, went}
 use Rattle.terrain.proofs.reader_calls.terrain_reader_want.Statement.{statement}
 use Rattle.terrain.proofs.reader_calls.terrain_reader_want.Tie as tie
-use Rattle.terrain.proofs.reader_calls.terrain_reader_want.Reads as reads
-use Rattle.terrain.proofs.reader_calls.terrain_reader_want.Lts as lts
-use Rattle.reader.proofs.Reader.want.Reads as want-reads
-use Rattle.terrain.proofs.reader_state.is_reader.Reads as is-reader-reads
-use Rattle.terrain.proofs.reader_state.unpack_reader.Reads as unpack-reader-reads
 
--- src/reader_calls.rt:44:9
 is-reader-requires : tie.Need-is-reader-requires
 is-reader-requires c κs = search needs
 
--- src/reader_calls.rt:45:9
 returns : tie.Need-returns
-returns c = ?
+unfolding wantNumber
+returns c =
+    let i = c .before in
+    let a = i .before .args in
+    let e : wanting (a .state .now) ≡ wanted.Refused 1 = turned (isReader (a .state .now)) (i .is-reader .result) (i .is-reader .ensures) _ _ (c .if1 .taken) in (
+      sym (ap wantNumber e),
+      sym (ap (λ (q : Wanted). wantOf q (a .want .now)) e),
+    )
 
--- src/reader_calls.rt:47:9
 unpack-reader-requires : tie.Need-unpack-reader-requires
 unpack-reader-requires c κs = search needs
 
--- src/reader_calls.rt:48:11
 want-requires : tie.Need-want-requires
 want-requires c κs = search needs
 
--- src/reader_calls.rt:49:21
 enum-known-level : tie.Need-enum-known-level
 enum-known-level c = search needs
 
--- src/reader_calls.rt:54:13
 enum-told : tie.Need-enum-told
 enum-told c = search needs
 
--- src/reader_calls.rt:58:13
 enum-told-2 : tie.Need-enum-told-2
 enum-told-2 c = search needs
 
--- src/reader_calls.rt:62:13
 enum-told-3 : tie.Need-enum-told-3
 enum-told-3 c = search needs
 
--- src/reader_calls.rt:65:25
 enum-known-no : tie.Need-enum-known-no
 enum-known-no c = search needs
 
--- src/reader_calls.rt:65:32
 cast-result : tie.Need-cast-result
 cast-result c = search needs
 
--- src/reader_calls.rt:39:1
 returns-2 : tie.Need-returns-2
-returns-2 c = ?
+unfolding wantNumber
+returns-2 c =
+    let o = c .before .before .before .before in
+    let u = o .before in
+    let i = u .before .before in
+    let a = i .before .args in
+    let e = went (isReader (a .state .now)) (i .is-reader .result) (i .is-reader .ensures) (λ (r : Reader). wantAnswer r (wantQuestion r)) (readerOf (a .state .now)) (u .unpack-reader .result) (wanted.Refused 1) _ (u .before .if1 .left) (u .unpack-reader .ensures) (o .want .ensures .1) ∙ c .before .before .level .given .1 in (
+      sym (ap wantNumber e),
+      sym (ap (λ (q : Wanted). wantOf q (a .want .now)) e),
+    )
 
--- src/reader_calls.rt:39:1
 returns-3 : tie.Need-returns-3
-returns-3 c = ?
+unfolding wantNumber
+returns-3 c =
+    let o = c .before .before .before in
+    let u = o .before in
+    let i = u .before .before in
+    let a = i .before .args in
+    let e = went (isReader (a .state .now)) (i .is-reader .result) (i .is-reader .ensures) (λ (r : Reader). wantAnswer r (wantQuestion r)) (readerOf (a .state .now)) (u .unpack-reader .result) (wanted.Refused 1) _ (u .before .if1 .left) (u .unpack-reader .ensures) (o .want .ensures .1) ∙ c .before .enum-told .given .1 in (
+      sym (ap wantNumber e),
+      sym (ap (λ (q : Wanted). wantOf q (a .want .now)) e),
+    )
 
--- src/reader_calls.rt:39:1
 returns-4 : tie.Need-returns-4
-returns-4 c = ?
+unfolding wantNumber
+returns-4 c =
+    let o = c .before .before .before in
+    let u = o .before in
+    let i = u .before .before in
+    let a = i .before .args in
+    let e = went (isReader (a .state .now)) (i .is-reader .result) (i .is-reader .ensures) (λ (r : Reader). wantAnswer r (wantQuestion r)) (readerOf (a .state .now)) (u .unpack-reader .result) (wanted.Refused 1) _ (u .before .if1 .left) (u .unpack-reader .ensures) (o .want .ensures .1) ∙ c .before .enum-told2 .given .1 in (
+      sym (ap wantNumber e),
+      sym (ap (λ (q : Wanted). wantOf q (a .want .now)) e),
+    )
 
--- src/reader_calls.rt:39:1
 returns-5 : tie.Need-returns-5
-returns-5 c = ?
+unfolding wantNumber
+returns-5 c =
+    let o = c .before .before .before in
+    let u = o .before in
+    let i = u .before .before in
+    let a = i .before .args in
+    let e = went (isReader (a .state .now)) (i .is-reader .result) (i .is-reader .ensures) (λ (r : Reader). wantAnswer r (wantQuestion r)) (readerOf (a .state .now)) (u .unpack-reader .result) (wanted.Refused 1) _ (u .before .if1 .left) (u .unpack-reader .ensures) (o .want .ensures .1) ∙ c .before .enum-told3 .given .1 in (
+      sym (ap wantNumber e),
+      sym (ap (λ (q : Wanted). wantOf q (a .want .now)) e),
+    )
 
--- src/reader_calls.rt:39:1
 returns-6 : tie.Need-returns-6
-returns-6 c = ?
+unfolding wantNumber
+returns-6 c =
+    let o = c .before .before .before in
+    let u = o .before in
+    let i = u .before .before in
+    let a = i .before .args in
+    let e = went (isReader (a .state .now)) (i .is-reader .result) (i .is-reader .ensures) (λ (r : Reader). wantAnswer r (wantQuestion r)) (readerOf (a .state .now)) (u .unpack-reader .result) (wanted.Refused 1) _ (u .before .if1 .left) (u .unpack-reader .ensures) (o .want .ensures .1) ∙ c .before .no .given .1 in (
+      sym (ap wantNumber e),
+      sym (ap (λ (q : Wanted). wantOf q (a .want .now)) e),
+    )
 
 pub terrain-reader-want-spec : {M : Type 1} → statement M
 terrain-reader-want-spec =

@@ -20,12 +20,19 @@ returns : tie.Need-returns
 returns c =
     let i = c .before in
     let a = i .before .before .args in
-    let e : drawn (a .state .now) (length (a .store .now)) (length (a .out .now)) (at (a .store .now)) ≡ refused 1 = turned (isWriter (a .state .now)) (i .is-writer .result) (i .is-writer .ensures) _ _ (c .if1 .taken) in
-    (sym (ap number e),
-      (sym (ap (λ (q : Reply Handed). stateHanded q (a .state .now)) e),
-      (sym (turned (isWriter (a .state .now)) (i .is-writer .result) (i .is-writer .ensures) _ (at (a .store .now)) (c .if1 .taken)),
-      (sym (turned (isWriter (a .state .now)) (i .is-writer .result) (i .is-writer .ensures) _ (at (a .out .now)) (c .if1 .taken)),
-      sym (ap (λ (q : Reply Handed). rowOf q (a .row .now)) e)))))
+    let e : drawn (a .state .now) (length (a .store .now)) (length (a .out .now)) (at (a .store .now)) ≡ refused 1 = turned (isWriter (a .state .now)) (i .is-writer .result) (i .is-writer .ensures) _ _ (c .if1 .taken) in (
+      sym (ap number e),
+      (
+        sym (ap (λ (q : Reply Handed). stateHanded q (a .state .now)) e),
+        (
+          sym (turned (isWriter (a .state .now)) (i .is-writer .result) (i .is-writer .ensures) _ (at (a .store .now)) (c .if1 .taken)),
+          (
+            sym (turned (isWriter (a .state .now)) (i .is-writer .result) (i .is-writer .ensures) _ (at (a .out .now)) (c .if1 .taken)),
+            sym (ap (λ (q : Reply Handed). rowOf q (a .row .now)) e),
+          ),
+        ),
+      ),
+    )
 
 unpack-writer-requires : tie.Need-unpack-writer-requires
 unpack-writer-requires c κs = search needs
@@ -62,12 +69,19 @@ returns-2 c =
     let a = i .before .before .args in
     let e =
     went (isWriter (a .state .now)) (i .is-writer .result) (i .is-writer .ensures) (λ (w : Writer). drawReply w (length (a .store .now)) (length (a .out .now)) (at (a .store .now))) (writerOf (a .state .now)) (u .unpack-writer .result) (refused 1) _ (u .before .before .if1 .left) (u .unpack-writer .ensures) (o .before .before .draw .ensures .0)
-    ∙ ap ofDrawn (c .before .before .before .before .r .given .1) in
-    (sym (ap number e),
-      (c .before .pack-writer .ensures ∙ sym (ap (λ (q : Reply Handed). stateHanded q (a .state .now)) e),
-      (sym (went (isWriter (a .state .now)) (i .is-writer .result) (i .is-writer .ensures) (λ (w : Writer). drawStore w (length (a .store .now)) (length (a .out .now)) (at (a .store .now))) (writerOf (a .state .now)) (u .unpack-writer .result) (at (a .store .now)) _ (u .before .before .if1 .left) (u .unpack-writer .ensures) (o .before .before .draw .ensures .1 .0)),
-      (sym (went (isWriter (a .state .now)) (i .is-writer .result) (i .is-writer .ensures) (λ (w : Writer). drawArea w (length (a .store .now)) (length (a .out .now)) (at (a .store .now)) (at (a .out .now))) (writerOf (a .state .now)) (u .unpack-writer .result) (at (a .out .now)) _ (u .before .before .if1 .left) (u .unpack-writer .ensures) (o .before .before .draw .ensures .1 .1)),
-      sym (ap (λ (q : Reply Handed). rowOf q (a .row .now)) e)))))
+    ∙ ap ofDrawn (c .before .before .before .before .r .given .1) in (
+      sym (ap number e),
+      (
+        c .before .pack-writer .ensures ∙ sym (ap (λ (q : Reply Handed). stateHanded q (a .state .now)) e),
+        (
+          sym (went (isWriter (a .state .now)) (i .is-writer .result) (i .is-writer .ensures) (λ (w : Writer). drawStore w (length (a .store .now)) (length (a .out .now)) (at (a .store .now))) (writerOf (a .state .now)) (u .unpack-writer .result) (at (a .store .now)) _ (u .before .before .if1 .left) (u .unpack-writer .ensures) (o .before .before .draw .ensures .1 .0)),
+          (
+            sym (went (isWriter (a .state .now)) (i .is-writer .result) (i .is-writer .ensures) (λ (w : Writer). drawArea w (length (a .store .now)) (length (a .out .now)) (at (a .store .now)) (at (a .out .now))) (writerOf (a .state .now)) (u .unpack-writer .result) (at (a .out .now)) _ (u .before .before .if1 .left) (u .unpack-writer .ensures) (o .before .before .draw .ensures .1 .1)),
+            sym (ap (λ (q : Reply Handed). rowOf q (a .row .now)) e),
+          ),
+        ),
+      ),
+    )
 
 same-length-3 : tie.Need-same-length-3
 same-length-3 c = search needs
@@ -83,12 +97,19 @@ returns-3 c =
     let a = i .before .before .args in
     let e =
     went (isWriter (a .state .now)) (i .is-writer .result) (i .is-writer .ensures) (λ (w : Writer). drawReply w (length (a .store .now)) (length (a .out .now)) (at (a .store .now))) (writerOf (a .state .now)) (u .unpack-writer .result) (refused 1) _ (u .before .before .if1 .left) (u .unpack-writer .ensures) (o .before .before .draw .ensures .0)
-    ∙ ap ofDrawn (c .before .enum-told .given .1) in
-    (sym (ap number e),
-      (sym (ap (λ (q : Reply Handed). stateHanded q (a .state .now)) e),
-      (sym (went (isWriter (a .state .now)) (i .is-writer .result) (i .is-writer .ensures) (λ (w : Writer). drawStore w (length (a .store .now)) (length (a .out .now)) (at (a .store .now))) (writerOf (a .state .now)) (u .unpack-writer .result) (at (a .store .now)) _ (u .before .before .if1 .left) (u .unpack-writer .ensures) (o .before .before .draw .ensures .1 .0)),
-      (sym (went (isWriter (a .state .now)) (i .is-writer .result) (i .is-writer .ensures) (λ (w : Writer). drawArea w (length (a .store .now)) (length (a .out .now)) (at (a .store .now)) (at (a .out .now))) (writerOf (a .state .now)) (u .unpack-writer .result) (at (a .out .now)) _ (u .before .before .if1 .left) (u .unpack-writer .ensures) (o .before .before .draw .ensures .1 .1)),
-      sym (ap (λ (q : Reply Handed). rowOf q (a .row .now)) e)))))
+    ∙ ap ofDrawn (c .before .enum-told .given .1) in (
+      sym (ap number e),
+      (
+        sym (ap (λ (q : Reply Handed). stateHanded q (a .state .now)) e),
+        (
+          sym (went (isWriter (a .state .now)) (i .is-writer .result) (i .is-writer .ensures) (λ (w : Writer). drawStore w (length (a .store .now)) (length (a .out .now)) (at (a .store .now))) (writerOf (a .state .now)) (u .unpack-writer .result) (at (a .store .now)) _ (u .before .before .if1 .left) (u .unpack-writer .ensures) (o .before .before .draw .ensures .1 .0)),
+          (
+            sym (went (isWriter (a .state .now)) (i .is-writer .result) (i .is-writer .ensures) (λ (w : Writer). drawArea w (length (a .store .now)) (length (a .out .now)) (at (a .store .now)) (at (a .out .now))) (writerOf (a .state .now)) (u .unpack-writer .result) (at (a .out .now)) _ (u .before .before .if1 .left) (u .unpack-writer .ensures) (o .before .before .draw .ensures .1 .1)),
+            sym (ap (λ (q : Reply Handed). rowOf q (a .row .now)) e),
+          ),
+        ),
+      ),
+    )
 
 same-length-5 : tie.Need-same-length-5
 same-length-5 c = search needs
@@ -104,12 +125,19 @@ returns-4 c =
     let a = i .before .before .args in
     let e =
     went (isWriter (a .state .now)) (i .is-writer .result) (i .is-writer .ensures) (λ (w : Writer). drawReply w (length (a .store .now)) (length (a .out .now)) (at (a .store .now))) (writerOf (a .state .now)) (u .unpack-writer .result) (refused 1) _ (u .before .before .if1 .left) (u .unpack-writer .ensures) (o .before .before .draw .ensures .0)
-    ∙ ap ofDrawn (c .before .no .given .1) in
-    (sym (ap number e),
-      (sym (ap (λ (q : Reply Handed). stateHanded q (a .state .now)) e),
-      (sym (went (isWriter (a .state .now)) (i .is-writer .result) (i .is-writer .ensures) (λ (w : Writer). drawStore w (length (a .store .now)) (length (a .out .now)) (at (a .store .now))) (writerOf (a .state .now)) (u .unpack-writer .result) (at (a .store .now)) _ (u .before .before .if1 .left) (u .unpack-writer .ensures) (o .before .before .draw .ensures .1 .0)),
-      (sym (went (isWriter (a .state .now)) (i .is-writer .result) (i .is-writer .ensures) (λ (w : Writer). drawArea w (length (a .store .now)) (length (a .out .now)) (at (a .store .now)) (at (a .out .now))) (writerOf (a .state .now)) (u .unpack-writer .result) (at (a .out .now)) _ (u .before .before .if1 .left) (u .unpack-writer .ensures) (o .before .before .draw .ensures .1 .1)),
-      sym (ap (λ (q : Reply Handed). rowOf q (a .row .now)) e)))))
+    ∙ ap ofDrawn (c .before .no .given .1) in (
+      sym (ap number e),
+      (
+        sym (ap (λ (q : Reply Handed). stateHanded q (a .state .now)) e),
+        (
+          sym (went (isWriter (a .state .now)) (i .is-writer .result) (i .is-writer .ensures) (λ (w : Writer). drawStore w (length (a .store .now)) (length (a .out .now)) (at (a .store .now))) (writerOf (a .state .now)) (u .unpack-writer .result) (at (a .store .now)) _ (u .before .before .if1 .left) (u .unpack-writer .ensures) (o .before .before .draw .ensures .1 .0)),
+          (
+            sym (went (isWriter (a .state .now)) (i .is-writer .result) (i .is-writer .ensures) (λ (w : Writer). drawArea w (length (a .store .now)) (length (a .out .now)) (at (a .store .now)) (at (a .out .now))) (writerOf (a .state .now)) (u .unpack-writer .result) (at (a .out .now)) _ (u .before .before .if1 .left) (u .unpack-writer .ensures) (o .before .before .draw .ensures .1 .1)),
+            sym (ap (λ (q : Reply Handed). rowOf q (a .row .now)) e),
+          ),
+        ),
+      ),
+    )
 
 pub terrain-writer-draw-spec : {M : Type 1} → statement M
 terrain-writer-draw-spec =

@@ -20,10 +20,13 @@ returns : tie.Need-returns
 returns c =
     let i = c .before in
     let a = i .before .before .args in
-    let e : finished (a .state .now) (length (a .store .now)) (at (a .store .now)) ≡ refused 1 = turned (isWriter (a .state .now)) (i .is-writer .result) (i .is-writer .ensures) _ _ (c .if1 .taken) in
-    (sym (ap number e),
-      (sym (ap (λ (q : Reply Writer). stateOf q (a .state .now)) e),
-      sym (turned (isWriter (a .state .now)) (i .is-writer .result) (i .is-writer .ensures) _ (at (a .store .now)) (c .if1 .taken))))
+    let e : finished (a .state .now) (length (a .store .now)) (at (a .store .now)) ≡ refused 1 = turned (isWriter (a .state .now)) (i .is-writer .result) (i .is-writer .ensures) _ _ (c .if1 .taken) in (
+      sym (ap number e),
+      (
+        sym (ap (λ (q : Reply Writer). stateOf q (a .state .now)) e),
+        sym (turned (isWriter (a .state .now)) (i .is-writer .result) (i .is-writer .ensures) _ (at (a .store .now)) (c .if1 .taken)),
+      ),
+    )
 
 unpack-writer-requires : tie.Need-unpack-writer-requires
 unpack-writer-requires c κs = search needs
@@ -54,10 +57,13 @@ returns-2 c =
     let a = i .before .before .args in
     let e =
     went (isWriter (a .state .now)) (i .is-writer .result) (i .is-writer .ensures) (λ (w : Writer). finishReply w (length (a .store .now)) (at (a .store .now))) (writerOf (a .state .now)) (u .unpack-writer .result) (refused 1) _ (u .before .before .if1 .left) (u .unpack-writer .ensures) (o .before .finish .ensures .0)
-    ∙ ap ofFinished (c .before .before .before .next .given .1) in
-    (sym (ap number e),
-      (c .pack-writer .ensures ∙ sym (ap (λ (q : Reply Writer). stateOf q (a .state .now)) e),
-      sym (went (isWriter (a .state .now)) (i .is-writer .result) (i .is-writer .ensures) (λ (w : Writer). finishStore w (length (a .store .now)) (at (a .store .now))) (writerOf (a .state .now)) (u .unpack-writer .result) (at (a .store .now)) _ (u .before .before .if1 .left) (u .unpack-writer .ensures) (o .before .finish .ensures .1))))
+    ∙ ap ofFinished (c .before .before .before .next .given .1) in (
+      sym (ap number e),
+      (
+        c .pack-writer .ensures ∙ sym (ap (λ (q : Reply Writer). stateOf q (a .state .now)) e),
+        sym (went (isWriter (a .state .now)) (i .is-writer .result) (i .is-writer .ensures) (λ (w : Writer). finishStore w (length (a .store .now)) (at (a .store .now))) (writerOf (a .state .now)) (u .unpack-writer .result) (at (a .store .now)) _ (u .before .before .if1 .left) (u .unpack-writer .ensures) (o .before .finish .ensures .1)),
+      ),
+    )
 
 same-length-2 : tie.Need-same-length-2
 same-length-2 c = search needs
@@ -70,10 +76,13 @@ returns-3 c =
     let a = i .before .before .args in
     let e =
     went (isWriter (a .state .now)) (i .is-writer .result) (i .is-writer .ensures) (λ (w : Writer). finishReply w (length (a .store .now)) (at (a .store .now))) (writerOf (a .state .now)) (u .unpack-writer .result) (refused 1) _ (u .before .before .if1 .left) (u .unpack-writer .ensures) (o .before .finish .ensures .0)
-    ∙ ap ofFinished (c .before .no .given .1) in
-    (sym (ap number e),
-      (sym (ap (λ (q : Reply Writer). stateOf q (a .state .now)) e),
-      sym (went (isWriter (a .state .now)) (i .is-writer .result) (i .is-writer .ensures) (λ (w : Writer). finishStore w (length (a .store .now)) (at (a .store .now))) (writerOf (a .state .now)) (u .unpack-writer .result) (at (a .store .now)) _ (u .before .before .if1 .left) (u .unpack-writer .ensures) (o .before .finish .ensures .1))))
+    ∙ ap ofFinished (c .before .no .given .1) in (
+      sym (ap number e),
+      (
+        sym (ap (λ (q : Reply Writer). stateOf q (a .state .now)) e),
+        sym (went (isWriter (a .state .now)) (i .is-writer .result) (i .is-writer .ensures) (λ (w : Writer). finishStore w (length (a .store .now)) (at (a .store .now))) (writerOf (a .state .now)) (u .unpack-writer .result) (at (a .store .now)) _ (u .before .before .if1 .left) (u .unpack-writer .ensures) (o .before .finish .ensures .1)),
+      ),
+    )
 
 pub terrain-writer-finish-spec : {M : Type 1} → statement M
 terrain-writer-finish-spec =

@@ -21,11 +21,16 @@ returns : tie.Need-returns
 returns c =
     let i = c .before in
     let a = i .before .before .before .args in
-    let e : offered (a .state .now) (length (a .store .now)) (a .run .now) (at (a .store .now)) ≡ refused 1 = turned (isWriter (a .state .now)) (i .is-writer .result) (i .is-writer .ensures) _ _ (c .if1 .taken) in
-    (sym (ap number e),
-      (sym (ap (λ (q : Reply Took). stateTook q (a .state .now)) e),
-      (sym (turned (isWriter (a .state .now)) (i .is-writer .result) (i .is-writer .ensures) _ (at (a .store .now)) (c .if1 .taken)),
-      sym (ap (λ (q : Reply Took). takenOf q (a .taken .now)) e))))
+    let e : offered (a .state .now) (length (a .store .now)) (a .run .now) (at (a .store .now)) ≡ refused 1 = turned (isWriter (a .state .now)) (i .is-writer .result) (i .is-writer .ensures) _ _ (c .if1 .taken) in (
+      sym (ap number e),
+      (
+        sym (ap (λ (q : Reply Took). stateTook q (a .state .now)) e),
+        (
+          sym (turned (isWriter (a .state .now)) (i .is-writer .result) (i .is-writer .ensures) _ (at (a .store .now)) (c .if1 .taken)),
+          sym (ap (λ (q : Reply Took). takenOf q (a .taken .now)) e),
+        ),
+      ),
+    )
 
 unpack-writer-requires : tie.Need-unpack-writer-requires
 unpack-writer-requires c κs = search needs
@@ -56,11 +61,16 @@ returns-2 c =
     let a = i .before .before .before .args in
     let e =
     went (isWriter (a .state .now)) (i .is-writer .result) (i .is-writer .ensures) (λ (w : Writer). offerReply w (length (a .store .now)) (a .run .now) (at (a .store .now))) (writerOf (a .state .now)) (u .unpack-writer .result) (refused 1) _ (u .before .before .if1 .left) (u .unpack-writer .ensures) (o .before .offer .ensures .0)
-    ∙ ap ofOffered (c .before .before .before .n .given .1) in
-    (sym (ap number e),
-      (c .pack-writer .ensures ∙ sym (ap (λ (q : Reply Took). stateTook q (a .state .now)) e),
-      (sym (went (isWriter (a .state .now)) (i .is-writer .result) (i .is-writer .ensures) (λ (w : Writer). offerStore w (length (a .store .now)) (a .run .now) (at (a .store .now))) (writerOf (a .state .now)) (u .unpack-writer .result) (at (a .store .now)) _ (u .before .before .if1 .left) (u .unpack-writer .ensures) (o .before .offer .ensures .1)),
-      sym (ap (λ (q : Reply Took). takenOf q (a .taken .now)) e))))
+    ∙ ap ofOffered (c .before .before .before .n .given .1) in (
+      sym (ap number e),
+      (
+        c .pack-writer .ensures ∙ sym (ap (λ (q : Reply Took). stateTook q (a .state .now)) e),
+        (
+          sym (went (isWriter (a .state .now)) (i .is-writer .result) (i .is-writer .ensures) (λ (w : Writer). offerStore w (length (a .store .now)) (a .run .now) (at (a .store .now))) (writerOf (a .state .now)) (u .unpack-writer .result) (at (a .store .now)) _ (u .before .before .if1 .left) (u .unpack-writer .ensures) (o .before .offer .ensures .1)),
+          sym (ap (λ (q : Reply Took). takenOf q (a .taken .now)) e),
+        ),
+      ),
+    )
 
 same-length-2 : tie.Need-same-length-2
 same-length-2 c = search needs
@@ -73,11 +83,16 @@ returns-3 c =
     let a = i .before .before .before .args in
     let e =
     went (isWriter (a .state .now)) (i .is-writer .result) (i .is-writer .ensures) (λ (w : Writer). offerReply w (length (a .store .now)) (a .run .now) (at (a .store .now))) (writerOf (a .state .now)) (u .unpack-writer .result) (refused 1) _ (u .before .before .if1 .left) (u .unpack-writer .ensures) (o .before .offer .ensures .0)
-    ∙ ap ofOffered (c .before .no .given .1) in
-    (sym (ap number e),
-      (sym (ap (λ (q : Reply Took). stateTook q (a .state .now)) e),
-      (sym (went (isWriter (a .state .now)) (i .is-writer .result) (i .is-writer .ensures) (λ (w : Writer). offerStore w (length (a .store .now)) (a .run .now) (at (a .store .now))) (writerOf (a .state .now)) (u .unpack-writer .result) (at (a .store .now)) _ (u .before .before .if1 .left) (u .unpack-writer .ensures) (o .before .offer .ensures .1)),
-      sym (ap (λ (q : Reply Took). takenOf q (a .taken .now)) e))))
+    ∙ ap ofOffered (c .before .no .given .1) in (
+      sym (ap number e),
+      (
+        sym (ap (λ (q : Reply Took). stateTook q (a .state .now)) e),
+        (
+          sym (went (isWriter (a .state .now)) (i .is-writer .result) (i .is-writer .ensures) (λ (w : Writer). offerStore w (length (a .store .now)) (a .run .now) (at (a .store .now))) (writerOf (a .state .now)) (u .unpack-writer .result) (at (a .store .now)) _ (u .before .before .if1 .left) (u .unpack-writer .ensures) (o .before .offer .ensures .1)),
+          sym (ap (λ (q : Reply Took). takenOf q (a .taken .now)) e),
+        ),
+      ),
+    )
 
 pub terrain-writer-offer-spec : {M : Type 1} → statement M
 terrain-writer-offer-spec =
