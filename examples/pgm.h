@@ -11,18 +11,22 @@ typedef struct {
     uint16_t *heights; /* row by row; the caller frees it */
 } Pgm;
 
+static inline int pgm_space(int c)
+{
+    return c == ' ' || c == '\t' || c == '\r' || c == '\n';
+}
+
 /* The next number of the header, or 0: none stands there. Comments are passed over. */
 static inline size_t pgm_number(FILE *file)
 {
     size_t n = 0;
     int c = getc(file), digits = 0;
-    while (c == ' ' || c == '\t' || c == '\r' || c == '\n' || c == '#') {
+    while (pgm_space(c) || c == '#') {
         if (c == '#') while (c != '\n' && c != EOF) c = getc(file);
         if (c != EOF) c = getc(file);
     }
     for (; c >= '0' && c <= '9' && digits < 9; c = getc(file), digits++) n = 10 * n + (size_t)(c - '0');
-    /* the one whitespace byte after a number is used up with it */
-    return c == ' ' || c == '\t' || c == '\r' || c == '\n' ? n : 0;
+    return pgm_space(c) ? n : 0; /* this one byte is used up with the number */
 }
 
 /* What keeps the samples from being read, or NULL: all are there and nothing follows. */
@@ -47,7 +51,7 @@ static inline const char *pgm_read(const char *path, Pgm *map)
     FILE *file = fopen(path, "rb");
     map->heights = NULL;
     if (!file) return "it cannot be opened";
-    if (getc(file) != 'P' || getc(file) != '5') wrong = "it is not a binary PGM (P5)";
+    if (getc(file) != 'P' || getc(file) != '5' || !pgm_space(getc(file))) wrong = "it is not a binary PGM (P5)";
     if (!wrong) {
         size_t most;
         map->width = pgm_number(file);
