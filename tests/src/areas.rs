@@ -20,7 +20,7 @@ impl Element for i32 {
 impl Element for u16 {
     const MARK: u16 = 0x5eed;
     fn unset(i: usize) -> u16 {
-        54_321u16.wrapping_sub(3 * i as u16)
+        54_321u16.wrapping_sub((i as u16).wrapping_mul(3))
     }
 }
 

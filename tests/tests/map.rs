@@ -208,6 +208,9 @@ fn expected(s: Shape, level: usize, band: usize, row: usize) -> Option<(usize, u
     let (right, below) = (side(s.width, level - 1) - w, side(s.height, level - 1) - h);
     let (high_across, high_down) = (band % 2 == 1, band >= 2);
     let (rows, length) = (if high_down { below } else { h }, if high_across { right } else { w });
-    let start = (if high_down { h } else { 0 }).checked_add(row)?.checked_mul(s.width)? + if high_across { w } else { 0 };
-    (row < rows && length > 0).then_some((start, length))
+    if row >= rows || length == 0 {
+        return None;
+    }
+    let start = (row + if high_down { h } else { 0 }) * s.width + if high_across { w } else { 0 };
+    Some((start, length))
 }

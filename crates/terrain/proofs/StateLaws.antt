@@ -1,6 +1,6 @@
 -- The laws of a state array. Assumes nothing.
 use mathlib.Core.Path.{_≡_, refl, sym, ap, _∙_}
-use mathlib.Core.Bool.{Bool, true, false}
+use mathlib.Core.Bool.{Bool, true, false, not}
 use mathlib.Core.List.{List}
 use Prim.Native.Nat.{ℕ, zero, suc, _+_, _-_, _<_, _≤_}
 use native.Mathlib.Omega.{arith}
@@ -41,8 +41,23 @@ module _ (kind f k : ℕ) (s : List ℕ) where
   rest-left h g = simp (eq-eqb (getD s 0 0) kind h, le-leb (getD s f 0) 1 g)
 
 -- what a test chooses
-pub pick-yes : {A : Type 0} (t : Bool) (a b : A) → t ≡ true → pick t a b ≡ a
-pick-yes t a b e = rw e refl
-
 pub pick-no : {A : Type 0} (t : Bool) (a b : A) → t ≡ false → pick t a b ≡ b
 pick-no t a b e = rw e refl
+
+-- ---- a call on a state array. b is what the code asked of it, `is` what that says; the code goes by `not b`
+not-yes : (b : Bool) → not b ≡ true → b ≡ false
+not-yes true e = let z : _≡_ {A = ℕ} 0 1 = cc in absurd (omega arith)
+not-yes false e = refl
+
+not-no : (b : Bool) → not b ≡ false → b ≡ true
+not-no true e = refl
+not-no false e = let z : _≡_ {A = ℕ} 0 1 = cc in absurd (omega arith)
+
+module _ (is b : Bool) (told : b ≡ is) where
+  -- the array is none
+  pub turned : {A : Type 0} (x y : A) → not b ≡ true → pick is x y ≡ y
+  turned x y e = pick-no is x y (sym told ∙ not-yes b e)
+
+  -- it is one: w is what was unpacked, r what the call on it says
+  pub went : {S A : Type 0} (f : S → A) (s w : S) (y r : A) → not b ≡ false → w ≡ s → r ≡ f w → pick is (f s) y ≡ r
+  went f s w y r e of g = let t : is ≡ true = sym told ∙ not-no b e in rw t (ap f (sym of) ∙ sym g)

@@ -4,17 +4,9 @@ use Prim.Native.Nat.{ℕ}
 use lib.IntN.{ℤ}
 use Rattle.numbers.specs.Signal.{pick}
 use Rattle.writer.specs.declared.Writer.{Writer}
-use Rattle.writer.specs.declared.BandRow.{BandRow}
 use Rattle.writer.specs.Answers.{Reply, gives, refused, Took, Handed, aRow, nothing}
 use Rattle.writer.specs.Calls.{offerReply, offerStore, drawReply, drawStore, drawArea, finishReply, finishStore}
 use Rattle.terrain.specs.WriterState.{isWriter, writerOf, writerWords}
-
--- the answer of a call on the writer that s holds, and an area afterwards that held x
-unfoldable pub onWriter : {A : Type 0} → List ℕ → (Writer → Reply A) → Reply A
-onWriter s f = pick (isWriter s) (f (writerOf s)) (refused 1)
-
-unfoldable pub areaOn : List ℕ → (Writer → ℕ → ℤ) → (ℕ → ℤ) → ℕ → ℤ
-areaOn s f x = pick (isWriter s) (f (writerOf s)) x
 
 -- 0, or the number of the question that turned the call away
 abbrev pub number : {A : Type 0} → Reply A → ℕ
@@ -28,10 +20,10 @@ stateOf (refused q) s = s
 
 -- ---- offer; z is what the out-parameter held
 abbrev pub offered : List ℕ → ℕ → List ℕ → (ℕ → ℤ) → Reply Took
-offered s n run x = onWriter s (λ w. offerReply w n run x)
+offered s n run x = pick (isWriter s) (offerReply (writerOf s) n run x) (refused 1)
 
 abbrev pub offeredStore : List ℕ → ℕ → List ℕ → (ℕ → ℤ) → ℕ → ℤ
-offeredStore s n run x = areaOn s (λ w. offerStore w n run x) x
+offeredStore s n run x = pick (isWriter s) (offerStore (writerOf s) n run x) x
 
 abbrev pub stateTook : Reply Took → List ℕ → List ℕ
 stateTook (gives t) s = writerWords (t .writer)
@@ -43,13 +35,13 @@ takenOf (refused q) z = z
 
 -- ---- draw into an area of k numbers that holds z
 abbrev pub drawn : List ℕ → ℕ → ℕ → (ℕ → ℤ) → Reply Handed
-drawn s n k x = onWriter s (λ w. drawReply w n k x)
+drawn s n k x = pick (isWriter s) (drawReply (writerOf s) n k x) (refused 1)
 
 abbrev pub drawnStore : List ℕ → ℕ → ℕ → (ℕ → ℤ) → ℕ → ℤ
-drawnStore s n k x = areaOn s (λ w. drawStore w n k x) x
+drawnStore s n k x = pick (isWriter s) (drawStore (writerOf s) n k x) x
 
 abbrev pub drawnArea : List ℕ → ℕ → ℕ → (ℕ → ℤ) → (ℕ → ℤ) → ℕ → ℤ
-drawnArea s n k x z = areaOn s (λ w. drawArea w n k x z) z
+drawnArea s n k x z = pick (isWriter s) (drawArea (writerOf s) n k x z) z
 
 abbrev pub stateHanded : Reply Handed → List ℕ → List ℕ
 stateHanded (gives (aRow r w)) s = writerWords w
@@ -64,7 +56,7 @@ rowOf (refused q) z = z
 
 -- ---- finish
 abbrev pub finished : List ℕ → ℕ → (ℕ → ℤ) → Reply Writer
-finished s n x = onWriter s (λ w. finishReply w n x)
+finished s n x = pick (isWriter s) (finishReply (writerOf s) n x) (refused 1)
 
 abbrev pub finishedStore : List ℕ → ℕ → (ℕ → ℤ) → ℕ → ℤ
-finishedStore s n x = areaOn s (λ w. finishStore w n x) x
+finishedStore s n x = pick (isWriter s) (finishStore (writerOf s) n x) x

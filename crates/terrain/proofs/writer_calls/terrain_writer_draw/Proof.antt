@@ -4,10 +4,12 @@ use mathlib.Core.List.{List}
 use lib.ListN.{length}
 use borrow.Author.Needs.{needs}
 use Rattle.numbers.specs.Signal.{at}
-use Rattle.writer.specs.Answers.{Reply, Handed, ofDrawn}
+use Rattle.writer.specs.declared.Writer.{Writer}
+use Rattle.writer.specs.Answers.{Reply, refused, Handed, ofDrawn}
 use Rattle.writer.specs.Calls.{drawReply, drawStore, drawArea}
-use Rattle.terrain.specs.WriterCalls.{number, stateHanded, rowOf}
-use Rattle.terrain.proofs.WriterLaws.{none, none-area, one, one-area}
+use Rattle.terrain.specs.WriterState.{isWriter, writerOf}
+use Rattle.terrain.specs.WriterCalls.{number, drawn, stateHanded, rowOf}
+use Rattle.terrain.proofs.StateLaws.{turned, went}
 use Rattle.terrain.proofs.writer_calls.terrain_writer_draw.Statement.{statement}
 use Rattle.terrain.proofs.writer_calls.terrain_writer_draw.Tie as tie
 
@@ -18,16 +20,14 @@ returns : tie.Need-returns
 returns c =
     let i = c .before in
     let a = i .before .before .args in
-    let e = none (a .state .now) (i .is-writer .result) (i .is-writer .ensures) (λ w. drawReply w (length (a .store .now)) (length (a .out .now)) (at (a .store .now))) (c .if1 .taken) in
-    let store = none-area (a .state .now) (i .is-writer .result) (i .is-writer .ensures) (λ w. drawStore w (length (a .store .now)) (length (a .out .now)) (at (a .store .now))) (at (a .store .now)) (c .if1 .taken) in
-    let area = none-area (a .state .now) (i .is-writer .result) (i .is-writer .ensures) (λ w. drawArea w (length (a .store .now)) (length (a .out .now)) (at (a .store .now)) (at (a .out .now))) (at (a .out .now)) (c .if1 .taken) in (
+    let e : drawn (a .state .now) (length (a .store .now)) (length (a .out .now)) (at (a .store .now)) ≡ refused 1 = turned (isWriter (a .state .now)) (i .is-writer .result) (i .is-writer .ensures) _ _ (c .if1 .taken) in (
       sym (ap number e),
       (
         sym (ap (λ (q : Reply Handed). stateHanded q (a .state .now)) e),
         (
-          sym store,
+          sym (turned (isWriter (a .state .now)) (i .is-writer .result) (i .is-writer .ensures) _ (at (a .store .now)) (c .if1 .taken)),
           (
-            sym area,
+            sym (turned (isWriter (a .state .now)) (i .is-writer .result) (i .is-writer .ensures) _ (at (a .out .now)) (c .if1 .taken)),
             sym (ap (λ (q : Reply Handed). rowOf q (a .row .now)) e),
           ),
         ),
@@ -64,21 +64,19 @@ same-length-2 c = search needs
 returns-2 : tie.Need-returns-2
 returns-2 c =
     let o = c .before .before .before .before .before .before in
-    let d = o .before .before .draw in
     let u = o .before .before .before .before .before in
     let i = u .before .before .before in
     let a = i .before .before .args in
-    let g = c .before .before .before .before .r .given in
-    let e = one (a .state .now) (i .is-writer .result) (i .is-writer .ensures) (u .unpack-writer .result) (u .unpack-writer .ensures) (u .before .before .if1 .left) (λ w. drawReply w (length (a .store .now)) (length (a .out .now)) (at (a .store .now))) _ (sym (ap ofDrawn (g .1)) ∙ d .ensures .0) in
-    let store = one-area (a .state .now) (i .is-writer .result) (i .is-writer .ensures) (u .unpack-writer .result) (u .unpack-writer .ensures) (u .before .before .if1 .left) (λ w. drawStore w (length (a .store .now)) (length (a .out .now)) (at (a .store .now))) (at (a .store .now)) _ (d .ensures .1 .0) in
-    let area = one-area (a .state .now) (i .is-writer .result) (i .is-writer .ensures) (u .unpack-writer .result) (u .unpack-writer .ensures) (u .before .before .if1 .left) (λ w. drawArea w (length (a .store .now)) (length (a .out .now)) (at (a .store .now)) (at (a .out .now))) (at (a .out .now)) _ (d .ensures .1 .1) in (
+    let e =
+    went (isWriter (a .state .now)) (i .is-writer .result) (i .is-writer .ensures) (λ (w : Writer). drawReply w (length (a .store .now)) (length (a .out .now)) (at (a .store .now))) (writerOf (a .state .now)) (u .unpack-writer .result) (refused 1) _ (u .before .before .if1 .left) (u .unpack-writer .ensures) (o .before .before .draw .ensures .0)
+    ∙ ap ofDrawn (c .before .before .before .before .r .given .1) in (
       sym (ap number e),
       (
         c .before .pack-writer .ensures ∙ sym (ap (λ (q : Reply Handed). stateHanded q (a .state .now)) e),
         (
-          sym store,
+          sym (went (isWriter (a .state .now)) (i .is-writer .result) (i .is-writer .ensures) (λ (w : Writer). drawStore w (length (a .store .now)) (length (a .out .now)) (at (a .store .now))) (writerOf (a .state .now)) (u .unpack-writer .result) (at (a .store .now)) _ (u .before .before .if1 .left) (u .unpack-writer .ensures) (o .before .before .draw .ensures .1 .0)),
           (
-            sym area,
+            sym (went (isWriter (a .state .now)) (i .is-writer .result) (i .is-writer .ensures) (λ (w : Writer). drawArea w (length (a .store .now)) (length (a .out .now)) (at (a .store .now)) (at (a .out .now))) (writerOf (a .state .now)) (u .unpack-writer .result) (at (a .out .now)) _ (u .before .before .if1 .left) (u .unpack-writer .ensures) (o .before .before .draw .ensures .1 .1)),
             sym (ap (λ (q : Reply Handed). rowOf q (a .row .now)) e),
           ),
         ),
@@ -94,21 +92,19 @@ same-length-4 c = search needs
 returns-3 : tie.Need-returns-3
 returns-3 c =
     let o = c .before .before .before in
-    let d = o .before .before .draw in
     let u = o .before .before .before .before .before in
     let i = u .before .before .before in
     let a = i .before .before .args in
-    let g = c .before .enum-told .given in
-    let e = one (a .state .now) (i .is-writer .result) (i .is-writer .ensures) (u .unpack-writer .result) (u .unpack-writer .ensures) (u .before .before .if1 .left) (λ w. drawReply w (length (a .store .now)) (length (a .out .now)) (at (a .store .now))) _ (sym (ap ofDrawn (g .1)) ∙ d .ensures .0) in
-    let store = one-area (a .state .now) (i .is-writer .result) (i .is-writer .ensures) (u .unpack-writer .result) (u .unpack-writer .ensures) (u .before .before .if1 .left) (λ w. drawStore w (length (a .store .now)) (length (a .out .now)) (at (a .store .now))) (at (a .store .now)) _ (d .ensures .1 .0) in
-    let area = one-area (a .state .now) (i .is-writer .result) (i .is-writer .ensures) (u .unpack-writer .result) (u .unpack-writer .ensures) (u .before .before .if1 .left) (λ w. drawArea w (length (a .store .now)) (length (a .out .now)) (at (a .store .now)) (at (a .out .now))) (at (a .out .now)) _ (d .ensures .1 .1) in (
+    let e =
+    went (isWriter (a .state .now)) (i .is-writer .result) (i .is-writer .ensures) (λ (w : Writer). drawReply w (length (a .store .now)) (length (a .out .now)) (at (a .store .now))) (writerOf (a .state .now)) (u .unpack-writer .result) (refused 1) _ (u .before .before .if1 .left) (u .unpack-writer .ensures) (o .before .before .draw .ensures .0)
+    ∙ ap ofDrawn (c .before .enum-told .given .1) in (
       sym (ap number e),
       (
         sym (ap (λ (q : Reply Handed). stateHanded q (a .state .now)) e),
         (
-          sym store,
+          sym (went (isWriter (a .state .now)) (i .is-writer .result) (i .is-writer .ensures) (λ (w : Writer). drawStore w (length (a .store .now)) (length (a .out .now)) (at (a .store .now))) (writerOf (a .state .now)) (u .unpack-writer .result) (at (a .store .now)) _ (u .before .before .if1 .left) (u .unpack-writer .ensures) (o .before .before .draw .ensures .1 .0)),
           (
-            sym area,
+            sym (went (isWriter (a .state .now)) (i .is-writer .result) (i .is-writer .ensures) (λ (w : Writer). drawArea w (length (a .store .now)) (length (a .out .now)) (at (a .store .now)) (at (a .out .now))) (writerOf (a .state .now)) (u .unpack-writer .result) (at (a .out .now)) _ (u .before .before .if1 .left) (u .unpack-writer .ensures) (o .before .before .draw .ensures .1 .1)),
             sym (ap (λ (q : Reply Handed). rowOf q (a .row .now)) e),
           ),
         ),
@@ -124,21 +120,19 @@ same-length-6 c = search needs
 returns-4 : tie.Need-returns-4
 returns-4 c =
     let o = c .before .before .before in
-    let d = o .before .before .draw in
     let u = o .before .before .before .before .before in
     let i = u .before .before .before in
     let a = i .before .before .args in
-    let g = c .before .no .given in
-    let e = one (a .state .now) (i .is-writer .result) (i .is-writer .ensures) (u .unpack-writer .result) (u .unpack-writer .ensures) (u .before .before .if1 .left) (λ w. drawReply w (length (a .store .now)) (length (a .out .now)) (at (a .store .now))) _ (sym (ap ofDrawn (g .1)) ∙ d .ensures .0) in
-    let store = one-area (a .state .now) (i .is-writer .result) (i .is-writer .ensures) (u .unpack-writer .result) (u .unpack-writer .ensures) (u .before .before .if1 .left) (λ w. drawStore w (length (a .store .now)) (length (a .out .now)) (at (a .store .now))) (at (a .store .now)) _ (d .ensures .1 .0) in
-    let area = one-area (a .state .now) (i .is-writer .result) (i .is-writer .ensures) (u .unpack-writer .result) (u .unpack-writer .ensures) (u .before .before .if1 .left) (λ w. drawArea w (length (a .store .now)) (length (a .out .now)) (at (a .store .now)) (at (a .out .now))) (at (a .out .now)) _ (d .ensures .1 .1) in (
+    let e =
+    went (isWriter (a .state .now)) (i .is-writer .result) (i .is-writer .ensures) (λ (w : Writer). drawReply w (length (a .store .now)) (length (a .out .now)) (at (a .store .now))) (writerOf (a .state .now)) (u .unpack-writer .result) (refused 1) _ (u .before .before .if1 .left) (u .unpack-writer .ensures) (o .before .before .draw .ensures .0)
+    ∙ ap ofDrawn (c .before .no .given .1) in (
       sym (ap number e),
       (
         sym (ap (λ (q : Reply Handed). stateHanded q (a .state .now)) e),
         (
-          sym store,
+          sym (went (isWriter (a .state .now)) (i .is-writer .result) (i .is-writer .ensures) (λ (w : Writer). drawStore w (length (a .store .now)) (length (a .out .now)) (at (a .store .now))) (writerOf (a .state .now)) (u .unpack-writer .result) (at (a .store .now)) _ (u .before .before .if1 .left) (u .unpack-writer .ensures) (o .before .before .draw .ensures .1 .0)),
           (
-            sym area,
+            sym (went (isWriter (a .state .now)) (i .is-writer .result) (i .is-writer .ensures) (λ (w : Writer). drawArea w (length (a .store .now)) (length (a .out .now)) (at (a .store .now)) (at (a .out .now))) (writerOf (a .state .now)) (u .unpack-writer .result) (at (a .out .now)) _ (u .before .before .if1 .left) (u .unpack-writer .ensures) (o .before .before .draw .ensures .1 .1)),
             sym (ap (λ (q : Reply Handed). rowOf q (a .row .now)) e),
           ),
         ),

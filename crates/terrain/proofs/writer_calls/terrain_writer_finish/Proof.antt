@@ -5,10 +5,11 @@ use lib.ListN.{length}
 use borrow.Author.Needs.{needs}
 use Rattle.numbers.specs.Signal.{at}
 use Rattle.writer.specs.declared.Writer.{Writer}
-use Rattle.writer.specs.Answers.{Reply, ofFinished}
+use Rattle.writer.specs.Answers.{Reply, refused, ofFinished}
 use Rattle.writer.specs.Calls.{finishReply, finishStore}
-use Rattle.terrain.specs.WriterCalls.{number, stateOf}
-use Rattle.terrain.proofs.WriterLaws.{none, none-area, one, one-area}
+use Rattle.terrain.specs.WriterState.{isWriter, writerOf}
+use Rattle.terrain.specs.WriterCalls.{number, finished, stateOf}
+use Rattle.terrain.proofs.StateLaws.{turned, went}
 use Rattle.terrain.proofs.writer_calls.terrain_writer_finish.Statement.{statement}
 use Rattle.terrain.proofs.writer_calls.terrain_writer_finish.Tie as tie
 
@@ -19,12 +20,11 @@ returns : tie.Need-returns
 returns c =
     let i = c .before in
     let a = i .before .before .args in
-    let e = none (a .state .now) (i .is-writer .result) (i .is-writer .ensures) (λ w. finishReply w (length (a .store .now)) (at (a .store .now))) (c .if1 .taken) in
-    let store = none-area (a .state .now) (i .is-writer .result) (i .is-writer .ensures) (λ w. finishStore w (length (a .store .now)) (at (a .store .now))) (at (a .store .now)) (c .if1 .taken) in (
+    let e : finished (a .state .now) (length (a .store .now)) (at (a .store .now)) ≡ refused 1 = turned (isWriter (a .state .now)) (i .is-writer .result) (i .is-writer .ensures) _ _ (c .if1 .taken) in (
       sym (ap number e),
       (
         sym (ap (λ (q : Reply Writer). stateOf q (a .state .now)) e),
-        sym store,
+        sym (turned (isWriter (a .state .now)) (i .is-writer .result) (i .is-writer .ensures) _ (at (a .store .now)) (c .if1 .taken)),
       ),
     )
 
@@ -55,13 +55,13 @@ returns-2 c =
     let u = o .before .before .before in
     let i = u .before .before .before in
     let a = i .before .before .args in
-    let g = c .before .before .before .next .given in
-    let e = one (a .state .now) (i .is-writer .result) (i .is-writer .ensures) (u .unpack-writer .result) (u .unpack-writer .ensures) (u .before .before .if1 .left) (λ w. finishReply w (length (a .store .now)) (at (a .store .now))) _ (sym (ap ofFinished (g .1)) ∙ o .before .finish .ensures .0) in
-    let store = one-area (a .state .now) (i .is-writer .result) (i .is-writer .ensures) (u .unpack-writer .result) (u .unpack-writer .ensures) (u .before .before .if1 .left) (λ w. finishStore w (length (a .store .now)) (at (a .store .now))) (at (a .store .now)) _ (o .before .finish .ensures .1) in (
+    let e =
+    went (isWriter (a .state .now)) (i .is-writer .result) (i .is-writer .ensures) (λ (w : Writer). finishReply w (length (a .store .now)) (at (a .store .now))) (writerOf (a .state .now)) (u .unpack-writer .result) (refused 1) _ (u .before .before .if1 .left) (u .unpack-writer .ensures) (o .before .finish .ensures .0)
+    ∙ ap ofFinished (c .before .before .before .next .given .1) in (
       sym (ap number e),
       (
         c .pack-writer .ensures ∙ sym (ap (λ (q : Reply Writer). stateOf q (a .state .now)) e),
-        sym store,
+        sym (went (isWriter (a .state .now)) (i .is-writer .result) (i .is-writer .ensures) (λ (w : Writer). finishStore w (length (a .store .now)) (at (a .store .now))) (writerOf (a .state .now)) (u .unpack-writer .result) (at (a .store .now)) _ (u .before .before .if1 .left) (u .unpack-writer .ensures) (o .before .finish .ensures .1)),
       ),
     )
 
@@ -74,13 +74,13 @@ returns-3 c =
     let u = o .before .before .before in
     let i = u .before .before .before in
     let a = i .before .before .args in
-    let g = c .before .no .given in
-    let e = one (a .state .now) (i .is-writer .result) (i .is-writer .ensures) (u .unpack-writer .result) (u .unpack-writer .ensures) (u .before .before .if1 .left) (λ w. finishReply w (length (a .store .now)) (at (a .store .now))) _ (sym (ap ofFinished (g .1)) ∙ o .before .finish .ensures .0) in
-    let store = one-area (a .state .now) (i .is-writer .result) (i .is-writer .ensures) (u .unpack-writer .result) (u .unpack-writer .ensures) (u .before .before .if1 .left) (λ w. finishStore w (length (a .store .now)) (at (a .store .now))) (at (a .store .now)) _ (o .before .finish .ensures .1) in (
+    let e =
+    went (isWriter (a .state .now)) (i .is-writer .result) (i .is-writer .ensures) (λ (w : Writer). finishReply w (length (a .store .now)) (at (a .store .now))) (writerOf (a .state .now)) (u .unpack-writer .result) (refused 1) _ (u .before .before .if1 .left) (u .unpack-writer .ensures) (o .before .finish .ensures .0)
+    ∙ ap ofFinished (c .before .no .given .1) in (
       sym (ap number e),
       (
         sym (ap (λ (q : Reply Writer). stateOf q (a .state .now)) e),
-        sym store,
+        sym (went (isWriter (a .state .now)) (i .is-writer .result) (i .is-writer .ensures) (λ (w : Writer). finishStore w (length (a .store .now)) (at (a .store .now))) (writerOf (a .state .now)) (u .unpack-writer .result) (at (a .store .now)) _ (u .before .before .if1 .left) (u .unpack-writer .ensures) (o .before .finish .ensures .1)),
       ),
     )
 

@@ -6,10 +6,11 @@ use lib.ListN.{length}
 use borrow.Author.Needs.{needs}
 use Rattle.numbers.specs.Signal.{at}
 use Rattle.writer.specs.declared.Writer.{Writer}
-use Rattle.writer.specs.Answers.{Reply, Took, ofOffered}
+use Rattle.writer.specs.Answers.{Reply, refused, Took, ofOffered}
 use Rattle.writer.specs.Calls.{offerReply, offerStore}
-use Rattle.terrain.specs.WriterCalls.{number, stateTook, takenOf}
-use Rattle.terrain.proofs.WriterLaws.{none, none-area, one, one-area}
+use Rattle.terrain.specs.WriterState.{isWriter, writerOf}
+use Rattle.terrain.specs.WriterCalls.{number, offered, stateTook, takenOf}
+use Rattle.terrain.proofs.StateLaws.{turned, went}
 use Rattle.terrain.proofs.writer_calls.terrain_writer_offer.Statement.{statement}
 use Rattle.terrain.proofs.writer_calls.terrain_writer_offer.Tie as tie
 
@@ -20,13 +21,13 @@ returns : tie.Need-returns
 returns c =
     let i = c .before in
     let a = i .before .before .before .args in
-    let n = none (a .state .now) (i .is-writer .result) (i .is-writer .ensures) (λ w. offerReply w (length (a .store .now)) (a .run .now) (at (a .store .now))) (c .if1 .taken) in (
-      sym (ap number n),
+    let e : offered (a .state .now) (length (a .store .now)) (a .run .now) (at (a .store .now)) ≡ refused 1 = turned (isWriter (a .state .now)) (i .is-writer .result) (i .is-writer .ensures) _ _ (c .if1 .taken) in (
+      sym (ap number e),
       (
-        sym (ap (λ (q : Reply Took). stateTook q (a .state .now)) n),
+        sym (ap (λ (q : Reply Took). stateTook q (a .state .now)) e),
         (
-          sym (none-area (a .state .now) (i .is-writer .result) (i .is-writer .ensures) (λ w. offerStore w (length (a .store .now)) (a .run .now) (at (a .store .now))) (at (a .store .now)) (c .if1 .taken)),
-          sym (ap (λ (q : Reply Took). takenOf q (a .taken .now)) n),
+          sym (turned (isWriter (a .state .now)) (i .is-writer .result) (i .is-writer .ensures) _ (at (a .store .now)) (c .if1 .taken)),
+          sym (ap (λ (q : Reply Took). takenOf q (a .taken .now)) e),
         ),
       ),
     )
@@ -58,17 +59,16 @@ returns-2 c =
     let u = o .before .before .before in
     let i = u .before .before .before in
     let a = i .before .before .before .args in
-    let g = c .before .before .before .n .given in
     let e =
-    one (a .state .now) (i .is-writer .result) (i .is-writer .ensures) (u .unpack-writer .result) (u .unpack-writer .ensures) (u .before .before .if1 .left)
-    (λ w. offerReply w (length (a .store .now)) (a .run .now) (at (a .store .now))) _ (sym (ap ofOffered (g .1)) ∙ o .before .offer .ensures .0) in
-    let m =
-    one-area (a .state .now) (i .is-writer .result) (i .is-writer .ensures) (u .unpack-writer .result) (u .unpack-writer .ensures) (u .before .before .if1 .left)
-    (λ w. offerStore w (length (a .store .now)) (a .run .now) (at (a .store .now))) (at (a .store .now)) _ (o .before .offer .ensures .1) in (
+    went (isWriter (a .state .now)) (i .is-writer .result) (i .is-writer .ensures) (λ (w : Writer). offerReply w (length (a .store .now)) (a .run .now) (at (a .store .now))) (writerOf (a .state .now)) (u .unpack-writer .result) (refused 1) _ (u .before .before .if1 .left) (u .unpack-writer .ensures) (o .before .offer .ensures .0)
+    ∙ ap ofOffered (c .before .before .before .n .given .1) in (
       sym (ap number e),
       (
         c .pack-writer .ensures ∙ sym (ap (λ (q : Reply Took). stateTook q (a .state .now)) e),
-        (sym m, sym (ap (λ (q : Reply Took). takenOf q (a .taken .now)) e)),
+        (
+          sym (went (isWriter (a .state .now)) (i .is-writer .result) (i .is-writer .ensures) (λ (w : Writer). offerStore w (length (a .store .now)) (a .run .now) (at (a .store .now))) (writerOf (a .state .now)) (u .unpack-writer .result) (at (a .store .now)) _ (u .before .before .if1 .left) (u .unpack-writer .ensures) (o .before .offer .ensures .1)),
+          sym (ap (λ (q : Reply Took). takenOf q (a .taken .now)) e),
+        ),
       ),
     )
 
@@ -81,17 +81,16 @@ returns-3 c =
     let u = o .before .before .before in
     let i = u .before .before .before in
     let a = i .before .before .before .args in
-    let g = c .before .no .given in
     let e =
-    one (a .state .now) (i .is-writer .result) (i .is-writer .ensures) (u .unpack-writer .result) (u .unpack-writer .ensures) (u .before .before .if1 .left)
-    (λ w. offerReply w (length (a .store .now)) (a .run .now) (at (a .store .now))) _ (sym (ap ofOffered (g .1)) ∙ o .before .offer .ensures .0) in
-    let m =
-    one-area (a .state .now) (i .is-writer .result) (i .is-writer .ensures) (u .unpack-writer .result) (u .unpack-writer .ensures) (u .before .before .if1 .left)
-    (λ w. offerStore w (length (a .store .now)) (a .run .now) (at (a .store .now))) (at (a .store .now)) _ (o .before .offer .ensures .1) in (
+    went (isWriter (a .state .now)) (i .is-writer .result) (i .is-writer .ensures) (λ (w : Writer). offerReply w (length (a .store .now)) (a .run .now) (at (a .store .now))) (writerOf (a .state .now)) (u .unpack-writer .result) (refused 1) _ (u .before .before .if1 .left) (u .unpack-writer .ensures) (o .before .offer .ensures .0)
+    ∙ ap ofOffered (c .before .no .given .1) in (
       sym (ap number e),
       (
         sym (ap (λ (q : Reply Took). stateTook q (a .state .now)) e),
-        (sym m, sym (ap (λ (q : Reply Took). takenOf q (a .taken .now)) e)),
+        (
+          sym (went (isWriter (a .state .now)) (i .is-writer .result) (i .is-writer .ensures) (λ (w : Writer). offerStore w (length (a .store .now)) (a .run .now) (at (a .store .now))) (writerOf (a .state .now)) (u .unpack-writer .result) (at (a .store .now)) _ (u .before .before .if1 .left) (u .unpack-writer .ensures) (o .before .offer .ensures .1)),
+          sym (ap (λ (q : Reply Took). takenOf q (a .taken .now)) e),
+        ),
       ),
     )
 
