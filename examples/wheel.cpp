@@ -2,7 +2,7 @@
 // Two machines load the ground from one file of coefficients, in reads of different sizes: after every step their wheels agree bit for bit.
 // On the third one height on the wheel's way is off by one: its wheel goes another way from there on.
 //
-// apt-get install libbullet-dev, then from the top of the repository:
+// apt-get install libbullet-dev pkg-config, then from the top of the repository:
 // c++ -O2 -I include examples/wheel.cpp target/staticlib/libterrain.a $(pkg-config --cflags --libs bullet) -o target/wheel && target/wheel examples/hill.pgm 3 target/hill.coefficients
 #include <btBulletDynamicsCommon.h>
 #include <BulletCollision/CollisionShapes/btHeightfieldTerrainShape.h>
