@@ -13,3 +13,5 @@ pub mod LevelTheory
 pub mod Bridge
 pub mod MapTheorems
 pub mod LevelReads
+pub mod OrderLaws
+pub mod OrderOnce

@@ -8,3 +8,4 @@ pub mod Questions
 pub mod Store
 pub mod ViewCall
 pub mod Span
+pub mod Order

@@ -1,5 +1,14 @@
 pub mod CountLaws
 pub mod Filling
+pub mod Slots
+pub mod LevelLaws
+pub mod Waiting
+pub mod CascadeHolds
+pub mod StateHolds
+pub mod CallList
+pub mod CallsKeep
+pub mod Reached
+pub mod Demand3
 pub mod SetLaws
 pub mod RestLaws
 pub mod DeliverLaws

@@ -76,7 +76,7 @@ returns-2 c =
         (
           sym (went (isWriter (a .state .now)) (i .is-writer .result) (i .is-writer .ensures) (λ (w : Writer). drawStore w (length (a .store .now)) (length (a .out .now)) (at (a .store .now))) (writerOf (a .state .now)) (u .unpack-writer .result) (at (a .store .now)) _ (u .before .before .if1 .left) (u .unpack-writer .ensures) (o .before .before .draw .ensures .1 .0)),
           (
-            sym (went (isWriter (a .state .now)) (i .is-writer .result) (i .is-writer .ensures) (λ (w : Writer). drawArea w (length (a .store .now)) (length (a .out .now)) (at (a .store .now)) (at (a .out .now))) (writerOf (a .state .now)) (u .unpack-writer .result) (at (a .out .now)) _ (u .before .before .if1 .left) (u .unpack-writer .ensures) (o .before .before .draw .ensures .1 .1)),
+            sym (went (isWriter (a .state .now)) (i .is-writer .result) (i .is-writer .ensures) (λ (w : Writer). drawArea w (length (a .store .now)) (length (a .out .now)) (at (a .store .now)) (at (a .out .now))) (writerOf (a .state .now)) (u .unpack-writer .result) (at (a .out .now)) _ (u .before .before .if1 .left) (u .unpack-writer .ensures) (o .before .before .draw .ensures .1 .1 .0)),
             sym (ap (λ (q : Reply Handed). rowOf q (a .row .now)) e),
           ),
         ),
@@ -104,7 +104,7 @@ returns-3 c =
         (
           sym (went (isWriter (a .state .now)) (i .is-writer .result) (i .is-writer .ensures) (λ (w : Writer). drawStore w (length (a .store .now)) (length (a .out .now)) (at (a .store .now))) (writerOf (a .state .now)) (u .unpack-writer .result) (at (a .store .now)) _ (u .before .before .if1 .left) (u .unpack-writer .ensures) (o .before .before .draw .ensures .1 .0)),
           (
-            sym (went (isWriter (a .state .now)) (i .is-writer .result) (i .is-writer .ensures) (λ (w : Writer). drawArea w (length (a .store .now)) (length (a .out .now)) (at (a .store .now)) (at (a .out .now))) (writerOf (a .state .now)) (u .unpack-writer .result) (at (a .out .now)) _ (u .before .before .if1 .left) (u .unpack-writer .ensures) (o .before .before .draw .ensures .1 .1)),
+            sym (went (isWriter (a .state .now)) (i .is-writer .result) (i .is-writer .ensures) (λ (w : Writer). drawArea w (length (a .store .now)) (length (a .out .now)) (at (a .store .now)) (at (a .out .now))) (writerOf (a .state .now)) (u .unpack-writer .result) (at (a .out .now)) _ (u .before .before .if1 .left) (u .unpack-writer .ensures) (o .before .before .draw .ensures .1 .1 .0)),
             sym (ap (λ (q : Reply Handed). rowOf q (a .row .now)) e),
           ),
         ),
@@ -132,7 +132,7 @@ returns-4 c =
         (
           sym (went (isWriter (a .state .now)) (i .is-writer .result) (i .is-writer .ensures) (λ (w : Writer). drawStore w (length (a .store .now)) (length (a .out .now)) (at (a .store .now))) (writerOf (a .state .now)) (u .unpack-writer .result) (at (a .store .now)) _ (u .before .before .if1 .left) (u .unpack-writer .ensures) (o .before .before .draw .ensures .1 .0)),
           (
-            sym (went (isWriter (a .state .now)) (i .is-writer .result) (i .is-writer .ensures) (λ (w : Writer). drawArea w (length (a .store .now)) (length (a .out .now)) (at (a .store .now)) (at (a .out .now))) (writerOf (a .state .now)) (u .unpack-writer .result) (at (a .out .now)) _ (u .before .before .if1 .left) (u .unpack-writer .ensures) (o .before .before .draw .ensures .1 .1)),
+            sym (went (isWriter (a .state .now)) (i .is-writer .result) (i .is-writer .ensures) (λ (w : Writer). drawArea w (length (a .store .now)) (length (a .out .now)) (at (a .store .now)) (at (a .out .now))) (writerOf (a .state .now)) (u .unpack-writer .result) (at (a .out .now)) _ (u .before .before .if1 .left) (u .unpack-writer .ensures) (o .before .before .draw .ensures .1 .1 .0)),
             sym (ap (λ (q : Reply Handed). rowOf q (a .row .now)) e),
           ),
         ),

@@ -61,7 +61,7 @@ returns-2 c =
       sym (ap number e),
       (
         c .pack-writer .ensures ∙ sym (ap (λ (q : Reply Writer). stateOf q (a .state .now)) e),
-        sym (went (isWriter (a .state .now)) (i .is-writer .result) (i .is-writer .ensures) (λ (w : Writer). finishStore w (length (a .store .now)) (at (a .store .now))) (writerOf (a .state .now)) (u .unpack-writer .result) (at (a .store .now)) _ (u .before .before .if1 .left) (u .unpack-writer .ensures) (o .before .finish .ensures .1)),
+        sym (went (isWriter (a .state .now)) (i .is-writer .result) (i .is-writer .ensures) (λ (w : Writer). finishStore w (length (a .store .now)) (at (a .store .now))) (writerOf (a .state .now)) (u .unpack-writer .result) (at (a .store .now)) _ (u .before .before .if1 .left) (u .unpack-writer .ensures) (o .before .finish .ensures .1 .0)),
       ),
     )
 
@@ -80,7 +80,7 @@ returns-3 c =
       sym (ap number e),
       (
         sym (ap (λ (q : Reply Writer). stateOf q (a .state .now)) e),
-        sym (went (isWriter (a .state .now)) (i .is-writer .result) (i .is-writer .ensures) (λ (w : Writer). finishStore w (length (a .store .now)) (at (a .store .now))) (writerOf (a .state .now)) (u .unpack-writer .result) (at (a .store .now)) _ (u .before .before .if1 .left) (u .unpack-writer .ensures) (o .before .finish .ensures .1)),
+        sym (went (isWriter (a .state .now)) (i .is-writer .result) (i .is-writer .ensures) (λ (w : Writer). finishStore w (length (a .store .now)) (at (a .store .now))) (writerOf (a .state .now)) (u .unpack-writer .result) (at (a .store .now)) _ (u .before .before .if1 .left) (u .unpack-writer .ensures) (o .before .finish .ensures .1 .0)),
       ),
     )
 

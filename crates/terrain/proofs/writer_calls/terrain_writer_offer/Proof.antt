@@ -66,7 +66,7 @@ returns-2 c =
       (
         c .pack-writer .ensures ∙ sym (ap (λ (q : Reply Took). stateTook q (a .state .now)) e),
         (
-          sym (went (isWriter (a .state .now)) (i .is-writer .result) (i .is-writer .ensures) (λ (w : Writer). offerStore w (length (a .store .now)) (a .run .now) (at (a .store .now))) (writerOf (a .state .now)) (u .unpack-writer .result) (at (a .store .now)) _ (u .before .before .if1 .left) (u .unpack-writer .ensures) (o .before .offer .ensures .1)),
+          sym (went (isWriter (a .state .now)) (i .is-writer .result) (i .is-writer .ensures) (λ (w : Writer). offerStore w (length (a .store .now)) (a .run .now) (at (a .store .now))) (writerOf (a .state .now)) (u .unpack-writer .result) (at (a .store .now)) _ (u .before .before .if1 .left) (u .unpack-writer .ensures) (o .before .offer .ensures .1 .0)),
           sym (ap (λ (q : Reply Took). takenOf q (a .taken .now)) e),
         ),
       ),
@@ -88,7 +88,7 @@ returns-3 c =
       (
         sym (ap (λ (q : Reply Took). stateTook q (a .state .now)) e),
         (
-          sym (went (isWriter (a .state .now)) (i .is-writer .result) (i .is-writer .ensures) (λ (w : Writer). offerStore w (length (a .store .now)) (a .run .now) (at (a .store .now))) (writerOf (a .state .now)) (u .unpack-writer .result) (at (a .store .now)) _ (u .before .before .if1 .left) (u .unpack-writer .ensures) (o .before .offer .ensures .1)),
+          sym (went (isWriter (a .state .now)) (i .is-writer .result) (i .is-writer .ensures) (λ (w : Writer). offerStore w (length (a .store .now)) (a .run .now) (at (a .store .now))) (writerOf (a .state .now)) (u .unpack-writer .result) (at (a .store .now)) _ (u .before .before .if1 .left) (u .unpack-writer .ensures) (o .before .offer .ensures .1 .0)),
           sym (ap (λ (q : Reply Took). takenOf q (a .taken .now)) e),
         ),
       ),

@@ -38,7 +38,7 @@ returns c =
       sym (ap number e),
       (
         c .pack-writer .ensures ∙ sym (ap (λ (q : Reply Writer). stateOf q (a .state .now)) e),
-        o .before .set-up .ensures .1,
+        o .before .set-up .ensures .1 .0,
       ),
     )
 
@@ -54,7 +54,7 @@ returns-2 c =
       sym (ap number e),
       (
         sym (ap (λ (q : Reply Writer). stateOf q (a .state .now)) e),
-        o .before .set-up .ensures .1,
+        o .before .set-up .ensures .1 .0,
       ),
     )
 

@@ -8,6 +8,7 @@ use Rattle.numbers.specs.Signal.{at}
 use Rattle.writer.specs.Questions.{offerQuestion}
 use Rattle.writer.proofs.CallLaws.{offer-sound}
 use Rattle.writer.proofs.OfferLaws.{Offering, offer-start, offer-turn, offer-ready, offer-no, offer-yes, gone-all, next-is, sound-taker}
+use Rattle.writer.proofs.CallsKeep.{offer-kept}
 use Rattle.writer.proofs.Writer.offer.Statement.{statement}
 use Rattle.writer.proofs.Writer.offer.Tie as tie
 
@@ -21,7 +22,7 @@ offer-question-requires : tie.Need-offer-question-requires Inv-loop μ-loop
 offer-question-requires c κs = search needs
 
 returns : tie.Need-returns Inv-loop μ-loop
-returns c = offer-no _ _ _ _ _ (c .before .offer-question .ensures) (omega arith)
+returns c = let t = offer-no _ _ _ _ _ (c .before .offer-question .ensures) (omega arith) in (t .0, (t .1, offer-kept _ _ _ _ _ _ (t .0) (t .1)))
 
 next-requires : tie.Need-next-requires Inv-loop μ-loop
 next-requires c κs =
@@ -61,7 +62,8 @@ returns-2 c =
     let a = c .before .before .before .before .before .before .args in
     let i = c .before .loop .inv in
     let all = gone-all (a .run .now) (a .self) (at (a .store .now)) _ _ _ (i .gone) _ (i .next) (omega arith) (i .taker .column) (i .within) in
-    offer-yes _ _ _ _ _ (c .before .before .before .before .offer-question .ensures) _ _ _ (omega arith) all
+    let t = offer-yes _ _ _ _ _ (c .before .before .before .before .offer-question .ensures) _ _ _ (omega arith) all in
+    (t .0, (t .1, offer-kept _ _ _ _ _ _ (t .0) (t .1)))
 
 pub offer-spec : {M : Type 1} → statement M
 offer-spec =

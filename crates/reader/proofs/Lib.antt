@@ -1,0 +1,15 @@
+pub mod HeightLaws
+pub mod AreaLaws
+pub mod WeaveLaws
+pub mod SetLaws
+pub mod SlotLaws
+pub mod RangeLaws
+pub mod WorkLaws
+pub mod StoreLaws
+pub mod EnterLaws
+pub mod WalkLaws
+pub mod PartLaws
+pub mod KeptLaws
+pub mod QuestionLaws
+pub mod StepLaws
+pub mod CallLaws

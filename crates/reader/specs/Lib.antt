@@ -1,0 +1,12 @@
+pub mod Areas
+pub mod Sets
+pub mod Asked
+pub mod Tried
+pub mod Slots
+pub mod Work
+pub mod Store
+pub mod Machine
+pub mod State
+pub mod Questions
+pub mod Calls
+pub mod Inside

@@ -1,0 +1,258 @@
+-- Demand 3 for the writer: `demand-3`, read off what every list of calls reaches.
+-- Assumes nothing.
+use mathlib.Core.Bool.{Bool, true, false}
+use mathlib.Core.Path.{_≡_, refl, sym, ap, ap₂, subst, _∙_}
+use mathlib.Core.List.{List, [], _∷_, _++_, map, append-nil, append-assoc}
+use Prim.Native.Nat.{ℕ, zero, suc, _+_, _-_, _*_, _≤_, _<_}
+use native.Mathlib.Nat.{mul-comm, mul-le-mul-right, suc-mul}
+use native.Mathlib.Decide.{decLt}
+use native.Mathlib.Omega.{arith}
+use lib.IntN.{pos}
+use lib.Signed.{_≤ℤ_}
+use lib.ListN.{length, take, getD}
+use lib.Dec.{leb, le→leb}
+use borrow.Author.Tests.{leb-true}
+use Rattle.numbers.specs.Signal.{pick}
+use Rattle.numbers.specs.Word.{whole}
+use Rattle.numbers.proofs.Sweep.{both as split-both}
+use Rattle.wavelet.specs.Limits.{maxWidth, maxHeight, maxLevels, maxSample}
+use Rattle.wavelet.specs.Bands.{Grid, Band, LL, HL, LH, HH, code}
+use Rattle.wavelet.specs.Levels.{levelBand}
+use Rattle.wavelet.specs.ViewCall.{bandRowExists}
+use Rattle.wavelet.specs.Questions.{ask, within}
+use Rattle.wavelet.specs.Store.{storeLength}
+use Rattle.wavelet.specs.Order.{RowName, madeBy, closing, inTurn, made, times}
+use Rattle.wavelet.proofs.OrderLaws.{turn-prefix}
+use Rattle.wavelet.proofs.OrderOnce.{made-once}
+use Rattle.wavelet.proofs.Bridge.{map-band}
+use Rattle.writer.specs.Level.{Memory}
+use Rattle.writer.specs.Machine.{rest}
+use Rattle.writer.specs.Questions.{inRanges, setUpQuestion}
+use Rattle.writer.specs.History.{Call, row, Event, World, event, events, final, freshWorld, taken, finishes, finishedBy, DrawnRow, drawn}
+use Rattle.writer.specs.Demand3.{wholeRows, madeOf, waitingOf, answered, Begins, MapOf, HasValues, All, all-more, Demand3}
+use Rattle.writer.proofs.StateHolds.{differ, st}
+use Rattle.writer.proofs.CallList.{Fits, coming, Right, At, own-sound, in-ranges, all-map, all-take, map-append, rows-all}
+use Rattle.writer.proofs.Reached.{rows-are, waiting-coming, offer-turned, offer-takes, finish-answer, draw-says, list-reached, fresh-reached}
+
+-- codes tell bands apart
+uncode : ℕ → Band
+uncode zero = LL
+uncode (suc zero) = HL
+uncode (suc (suc zero)) = LH
+uncode (suc (suc (suc c))) = HH
+
+code-back : (b : Band) → uncode (code b) ≡ b
+unfolding uncode code
+code-back LL = refl
+code-back HL = refl
+code-back LH = refl
+code-back HH = refl
+
+code-one : (b d : Band) → code b ≡ code d → b ≡ d
+code-one b d e = sym (code-back b) ∙ ap uncode e ∙ code-back d
+
+five-levels : (l : ℕ) → within 1 maxLevels (suc l) ≡ true → suc l ≤ 5
+unfolding within maxLevels
+five-levels l h = leb-true (suc l) 5 (split-both (leb 1 (suc l)) _ h .1)
+
+some-width : (W : ℕ) → within 1 maxWidth W ≡ true → 0 < W
+unfolding within
+some-width W h = leb-true 1 W (split-both (leb 1 W) _ h .0)
+
+-- a drawn row of words is a row of T.800's whole numbers, for a map
+right-values : (L W H : ℕ) (g : Grid) → L ≤ 5 → (es : List Event) → Begins W H g es → (d : DrawnRow) → Right L W H g d → HasValues W H g d
+right-values L W H g few es m d t = record {
+  are = λ b e j p.
+      let same : b ≡ t .band = code-one b (t .band) (sym e ∙ t .band-is) in
+      t .values j p
+      ∙ map-band W H g (m .map) (t .depth) (omega (arith, t .deep)) (t .band) (d .row .row) j (t .row-in) (subst (λ k. j < k) (t .length-is) p)
+      ∙ ap₂ (λ k c. levelBand whole W H g k c (d .row .row) j) (sym (t .level-is)) (sym same);
+}
+
+-- a map that begins with the heights taken has at least the rows taken whole
+rows-within : (W H r c : ℕ) → 0 < W → r * W + c ≤ W * H → r ≤ H
+rows-within W H r c p h =
+    elim (decLt H r) [
+      | no q ↦ omega (arith, q)
+      | yes q ↦ absurd (omega (arith, mul-le-mul-right {m = suc H} {n = r} W q, suc-mul H W, mul-comm W H))
+    ]
+
+map-fits : (W H : ℕ) (g : Grid) (es : List Event) → MapOf W H g es → Fits W H g (taken es) (finishedBy es)
+map-fits W H g es m = record { within = m .begins .within; heights = m .begins .heights; whole = m .all }
+
+begins-fits : (W H : ℕ) (g : Grid) (es : List Event) → Begins W H g es → Fits W H g (taken es) false
+begins-fits W H g es m = record { within = m .within; heights = m .heights; whole = λ e. absurd (differ e) }
+
+-- the heights taken, as a map: the row begun is filled up with zeros
+mapRows : ℕ → ℕ → ℕ
+mapRows zero c = 1
+mapRows (suc r) zero = suc r
+mapRows (suc r) (suc c) = suc (suc r)
+
+module _ (W : ℕ) where
+  map-some : (r c : ℕ) → 1 ≤ mapRows r c
+  unfolding mapRows
+  map-some zero c = omega arith
+  map-some (suc r) zero = omega arith
+  map-some (suc r) (suc c) = omega arith
+
+  map-limit : (r c : ℕ) → r ≤ maxHeight → (0 < c → r < maxHeight) → mapRows r c ≤ maxHeight
+  unfolding mapRows maxHeight
+  map-limit zero c p q = omega arith
+  map-limit (suc r) zero p q = p
+  map-limit (suc r) (suc c) p q = q (omega arith)
+
+  map-room : (r c : ℕ) → c < W → r * W + c ≤ W * mapRows r c
+  unfolding mapRows
+  map-room zero c p = omega arith
+  map-room (suc r) zero p = omega (arith, mul-comm W (suc r))
+  map-room (suc r) (suc c) p = omega (arith, mul-comm W (suc (suc r)), suc-mul (suc r) W)
+
+  map-whole : (r c : ℕ) → 0 < r → c ≡ 0 → r * W + c ≡ W * mapRows r c
+  unfolding mapRows
+  map-whole zero c p e = absurd (omega arith)
+  map-whole (suc r) zero p e = omega (arith, mul-comm W (suc r))
+  map-whole (suc r) (suc c) p e = absurd (omega arith)
+
+small-each : (M : ℕ) (l : List ℕ) → All (λ h. h ≤ M) l → (j : ℕ) → getD l j 0 ≤ M
+small-each M [] a j = omega arith
+small-each M (h ∷ l) (all-more p a) zero = p
+small-each M (h ∷ l) (all-more p a) (suc j) = small-each M l a j
+
+height-range : (h : ℕ) → h ≤ maxSample → (pos 0 ≤ℤ pos h) × (pos h ≤ℤ pos maxSample)
+height-range h p = (record { le = le→leb 0 h (omega arith) }, record { le = le→leb h maxSample p })
+
+-- the rows made so far are the first of all
+made-prefix : (W L H r : ℕ) → r ≤ H → (k : List RowName) × (made W L r false ++ k ≡ made W L H true)
+unfolding made
+made-prefix W L H r h =
+    let q = turn-prefix H r (madeBy L 1 W) h in
+    (q .0 ++ closing L 1 W H, ap (λ b. b ++ (q .0 ++ closing L 1 W H)) (append-nil (inTurn r (madeBy L 1 W))) ∙ sym (append-assoc (inTurn r (madeBy L 1 W)) (q .0) (closing L 1 W H)) ∙ ap (λ b. b ++ closing L 1 W H) (q .1))
+
+module _ (l W : ℕ) (wide : within 1 maxWidth W ≡ true) (deep : within 1 maxLevels (suc l) ≡ true) (es : List Event) (n r c cl v i : ℕ) (x : Memory) (long : storeLength W (suc l) ≤ n) (a : At (suc l) W (taken es) (finishedBy es) (drawn es) r c cl v i x) where
+  abbrev M : ℕ
+  M = suc l
+
+  abbrev g₀ : Bool
+  g₀ = finishedBy es
+
+  abbrev w₀ : World
+  w₀ = record { writer = st W M r c g₀ cl v i; length = n; store = x }
+
+  rows-here : wholeRows W es ≡ r
+  rows-here = rows-are l W wide deep es n r c cl v i x long a
+
+  waiting-here : waitingOf W M es ≡ coming M W g₀ cl v i r
+  waiting-here = waiting-coming l W wide deep es n r c cl v i x long a
+
+  made-here : madeOf W M es ≡ made W M r g₀
+  unfolding madeOf
+  made-here = ap (λ b. made W M b g₀) rows-here
+
+  ordered : map (λ d. d .row) (drawn es) ++ map (answered W) (waitingOf W M es) ≡ map (answered W) (madeOf W M es)
+  ordered =
+      let s = own-sound a in
+      ap₂ (λ b d. b ++ map (answered W) d) (s .named) waiting-here
+      ∙ sym (map-append (answered W) (s .names) (coming M W g₀ cl v i r))
+      ∙ ap (map (answered W)) (s .order ∙ sym made-here)
+
+  firsts : (H : ℕ) (g : Grid) → MapOf W H g es → (k : List RowName) × (made W M r g₀ ++ k ≡ made W M H true)
+  firsts H g m = go g₀ refl
+    where
+      t : Fits W H g (taken es) g₀
+      t = map-fits W H g es m
+
+      go : (b : Bool) → g₀ ≡ b → (k : List RowName) × (made W M r b ++ k ≡ made W M H true)
+      go false e = made-prefix W M H r (rows-within W H r c (some-width W wide) (omega (arith, a .counted, t .within)))
+      go true e =
+          let z : r ≡ H = rows-all W H r c (some-width W wide) (a .ended e .1) (sym (a .counted) ∙ t .whole e) in
+          ([], append-nil _ ∙ ap (λ b. made W M b true) z)
+
+  is-first : (H : ℕ) (g : Grid) → MapOf W H g es → (k : List RowName) × (map (λ d. d .row) (drawn es) ++ map (answered W) k ≡ map (answered W) (made W M H true))
+  is-first H g m =
+      let s = own-sound a in
+      let p = firsts H g m in (
+        coming M W g₀ cl v i r ++ p .0,
+        ap (λ b. b ++ map (answered W) (coming M W g₀ cl v i r ++ p .0)) (s .named)
+            ∙ sym (map-append (answered W) (s .names) (coming M W g₀ cl v i r ++ p .0))
+            ∙ ap (map (answered W)) (sym (append-assoc (s .names) (coming M W g₀ cl v i r) (p .0)) ∙ ap (λ b. b ++ p .0) (s .order) ∙ p .1),
+      )
+
+  map-there : All (λ h. h ≤ maxSample) (taken es) → (H : ℕ) × (g : Grid) × MapOf W H g es
+  map-there small = (
+    mapRows r c,
+    λ p q. pos (getD (taken es) (p * W + q) 0),
+    record {
+      begins = record {
+        some = map-some W r c;
+        limit = map-limit W r c (a .rows-in) (a .room);
+        map = record { heights = λ p q _ _. height-range (getD (taken es) (p * W + q) 0) (small-each maxSample (taken es) small (p * W + q)) };
+        within = omega (arith, a .counted, map-room W r c (a .column-in));
+        heights = λ _ _ _ _. refl;
+      };
+      all = λ e. a .counted ∙ map-whole W r c (a .ended e .0) (a .ended e .1);
+    },
+  )
+
+  early : (H : ℕ) (g : Grid) → Begins W H g es → All (HasValues W H g) (take (length (made W M (wholeRows W es) false)) (drawn es))
+  early H g m =
+      subst (λ k. All (HasValues W H g) (take (length (made W M k false)) (drawn es))) (sym rows-here)
+      (all-map (right-values M W H g (five-levels l deep) es m) (go g₀ refl a))
+    where
+      go : (b : Bool) → g₀ ≡ b → At M W (taken es) g₀ (drawn es) r c cl v i x → All (Right M W H g) (take (length (made W M r false)) (drawn es))
+      go false e h = all-take (length (made W M r false)) (subst (λ b. At M W (taken es) b (drawn es) r c cl v i x) e h .sound H g (begins-fits W H g es m) .values)
+      go true e h = h .early e .right H g (begins-fits W H g es m)
+
+  whole-map : g₀ ≡ true → (1 ≤ wholeRows W es) × (wholeRows W es ≤ maxHeight) × (length (taken es) ≡ W * wholeRows W es)
+  whole-map e =
+      let p = a .ended e in
+      (omega (arith, rows-here, p .0), omega (arith, rows-here, a .rows-in), a .counted ∙ omega (arith, p .1, mul-comm r W) ∙ ap (λ b. W * b) (sym rows-here))
+
+  drew-all : g₀ ≡ true → waitingOf W M es ≡ [] → (names : List RowName) × (map (λ d. d .row) (drawn es) ≡ map (answered W) names) × ((y : RowName) → times y names ≡ pick (bandRowExists W (wholeRows W es) M (y .level) (y .band) (y .row)) 1 0)
+  drew-all e z = (
+    madeOf W M es,
+    sym (append-nil _) ∙ ap (λ b. map (λ d. d .row) (drawn es) ++ map (answered W) b) (sym z) ∙ ordered,
+    λ y. ap (times y) (made-here ∙ ap (made W M r) e) ∙ made-once W M r (a .ended e .0) y ∙ ap (λ b. pick (bandRowExists W b M (y .level) (y .band) (y .row)) 1 0) (sym rows-here),
+  )
+
+  claim : Demand3 W M es (λ k. event k w₀)
+  claim = record {
+    in-order = ordered;
+    values = λ H g m. all-map (right-values M W H g (five-levels l deep) es (m .begins)) (a .sound H g (map-fits W H g es m) .values);
+    early-values = early;
+    first = is-first;
+    some-map = map-there;
+    finished-map = whole-map;
+    all-drawn = drew-all;
+    draws = λ b. let d = draw-says l W wide deep es n r c cl v i x long a b in (d .area, d .says, d .size-is, d .surplus);
+    offers-turned = λ run. offer-turned l W wide deep es n r c cl v i x long a run;
+    offers-taken = λ run. offer-takes l W wide deep es n r c cl v i x long a run;
+    finishes = finish-answer l W wide deep es n r c cl v i x long a;
+  }
+
+-- ---- the theorem
+set-up-passed : (W L n : ℕ) → setUpQuestion W L n ≡ 0 → (within 1 maxWidth W ≡ true) × (within 1 maxLevels L ≡ true) × (storeLength W L ≤ n)
+unfolding setUpQuestion
+set-up-passed W L n e = go (within 1 maxWidth W) refl (within 1 maxLevels L) refl (leb (storeLength W L) n) refl e
+  where
+    go : (p : Bool) → within 1 maxWidth W ≡ p → (q : Bool) → within 1 maxLevels L ≡ q → (t : Bool) → leb (storeLength W L) n ≡ t → ask p 2 (ask q 4 (ask t 5 0)) ≡ 0 → (within 1 maxWidth W ≡ true) × (within 1 maxLevels L ≡ true) × (storeLength W L ≤ n)
+    go false a q b t c z = absurd (omega arith)
+    go true a false b t c z = absurd (omega arith)
+    go true a true b false c z = absurd (omega arith)
+    go true a true b true c z = (a, b, leb-true _ _ c)
+
+some-level : within 1 maxLevels 0 ≡ true → ⊥
+unfolding within
+some-level e = let z : _≡_ {A = ℕ} 0 1 = ap (λ t. pick t 1 0) e in omega arith
+
+-- every list of calls on a fresh writer: the state passes question 1, and demand 3 holds
+pub demand-3 : (W L n : ℕ) (x : Memory) → setUpQuestion W L n ≡ 0 → (cs : List Call) →
+    (let w = freshWorld W L n x in (inRanges (final cs w .writer) ≡ true) × Demand3 W L (events cs w) (λ k. event k (final cs w)))
+demand-3 W zero n x h cs = absurd (some-level (set-up-passed W 0 n h .1))
+demand-3 W (suc l) n x h cs =
+    let p = set-up-passed W (suc l) n h in
+    let w = freshWorld W (suc l) n x in
+    let m = list-reached l W (p .0) (p .1) cs [] w (fresh-reached l W (p .0) (p .1) n (w .store) (some-width W (p .0)) (p .2)) in
+    let e = final cs w in
+    subst (λ s. (inRanges s ≡ true) × Demand3 W (suc l) (events cs w) (λ k. event k (record { writer = s; length = e .length; store = e .store }))) (sym (m .writer-is))
+    (in-ranges (m .at) (p .0) (p .1), claim l W (p .0) (p .1) (events cs w) (e .length) (m .rows) (m .column) (m .closed) (m .level) (m .rest) (e .store) (m .long) (m .at))
