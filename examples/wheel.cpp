@@ -114,33 +114,19 @@ void print(const char *machine, const std::vector<Moment> &moments)
     std::printf("%s: after %d steps the wheel is at %a %a %a\n", machine, steps, double(at[0]), double(at[1]), double(at[2]));
 }
 
-} // namespace
-
-int main(int argc, char **argv)
+// Whether the first two wheels never parted and the third did.
+bool compare(const std::vector<Moment> &a, const std::vector<Moment> &b, const std::vector<Moment> &c)
 {
-    Pgm map;
-    Ground first, second, third;
-    if (argc != 4) {
-        std::fprintf(stderr, "usage: wheel MAP.pgm LEVELS COEFFICIENTS\n");
-        return 2;
-    }
-    if (const char *wrong = pgm_read(argv[1], &map)) {
-        std::fprintf(stderr, "%s: %s\n", argv[1], wrong);
-        return 1;
-    }
-    if (map.width <= size_t(start_column) || map.height <= size_t(start_row)) {
-        std::fprintf(stderr, "%s: the wheel starts at column %d, row %d, and the map is smaller\n", argv[1], start_column, start_row);
-        return 1;
-    }
-    uint32_t no = write_coefficients(argv[3], map.heights, map.width, map.height, size_t(std::atol(argv[2])));
-    if (!no) no = load(argv[3], 7, first);
-    if (!no) no = load(argv[3], 4096, second);
-    if (!no) no = load(argv[3], 4096, third);
-    free(map.heights);
-    if (no) {
-        std::fprintf(stderr, "no ground: %s (%u)\n", sentence(no), unsigned(no));
-        return 1;
-    }
+    const int ab = parted(a, b), ac = parted(a, c);
+    if (ab == steps) std::printf("first and second: identical after every step\n");
+    else std::printf("first and second: DIFFERENT from step %d on\n", ab + 1);
+    if (ac == steps) std::printf("first and third: NO DIFFERENCE SEEN\n");
+    else std::printf("first and third: different from step %d on\n", ac + 1);
+    return ab == steps && ac < steps;
+}
+
+bool race(const Ground &first, const Ground &second, Ground third)
+{
     const btScalar from = first.heights[start_row * first.width + start_column] * metres_a_height + 1;
     const std::vector<Moment> a = roll(first, from), b = roll(second, from);
     uint16_t &one = third.heights[nearest(first, a[steps / 4])];
@@ -150,10 +136,34 @@ int main(int argc, char **argv)
     print("first machine, reads of 7 bytes", a);
     print("second machine, reads of 4096 bytes", b);
     print("third machine, one height off by one", c);
-    const int ab = parted(a, b), ac = parted(a, c);
-    if (ab == steps) std::printf("first and second: identical after every step\n");
-    else std::printf("first and second: DIFFERENT from step %d on\n", ab + 1);
-    if (ac == steps) std::printf("first and third: NO DIFFERENCE SEEN\n");
-    else std::printf("first and third: different from step %d on\n", ac + 1);
-    return ab == steps && ac < steps ? 0 : 1;
+    return compare(a, b, c);
+}
+
+} // namespace
+
+int main(int argc, char **argv)
+{
+    Pgm map;
+    Ground first, second;
+    if (argc != 4) {
+        std::fprintf(stderr, "usage: wheel MAP.pgm LEVELS COEFFICIENTS\n");
+        return 2;
+    }
+    if (const char *wrong = pgm_read(argv[1], &map)) {
+        std::fprintf(stderr, "%s: %s\n", argv[1], wrong);
+        return 1;
+    }
+    uint32_t no = write_coefficients(argv[3], map.heights, map.width, map.height, size_t(std::atol(argv[2])));
+    free(map.heights);
+    if (!no) no = load(argv[3], 7, first);
+    if (!no) no = load(argv[3], 4096, second);
+    if (no) {
+        std::fprintf(stderr, "no ground: %s (%u)\n", sentence(no), unsigned(no));
+        return 1;
+    }
+    if (first.width <= size_t(start_column) || first.height <= size_t(start_row)) {
+        std::fprintf(stderr, "%s: the wheel starts at column %d, row %d, and the map is smaller\n", argv[1], start_column, start_row);
+        return 1;
+    }
+    return race(first, second, second) ? 0 : 1;
 }
