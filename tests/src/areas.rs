@@ -2,43 +2,68 @@
 use crate::random::Random;
 
 const GUARD: usize = 16;
-const MARK: i32 = 0x5eed_1e55;
 
-/// An area that is lent, with marks before and after it that no call may touch.
-pub struct Guarded {
-    all: Vec<i32>,
+/// A number that an area holds: a mark for the guards, and values no two neighbours of which are equal, so that a store in a wrong place
+/// is seen.
+pub trait Element: Copy + PartialEq {
+    const MARK: Self;
+    fn unset(i: usize) -> Self;
 }
 
-impl Guarded {
-    pub fn new(content: &[i32]) -> Self {
-        let mut all = vec![MARK; GUARD];
+impl Element for i32 {
+    const MARK: i32 = 0x5eed_1e55;
+    fn unset(i: usize) -> i32 {
+        -1_234_567 - 3 * i as i32
+    }
+}
+
+impl Element for u16 {
+    const MARK: u16 = 0x5eed;
+    fn unset(i: usize) -> u16 {
+        54_321u16.wrapping_sub((i as u16).wrapping_mul(3))
+    }
+}
+
+/// An area that is lent, with marks before and after it that no call may touch.
+pub struct Guarded<T = i32> {
+    all: Vec<T>,
+}
+
+impl<T: Element> Guarded<T> {
+    pub fn new(content: &[T]) -> Self {
+        let mut all = vec![T::MARK; GUARD];
         all.extend_from_slice(content);
-        all.extend(std::iter::repeat(MARK).take(GUARD));
+        all.extend(std::iter::repeat(T::MARK).take(GUARD));
         Guarded { all }
     }
 
-    /// An area of `len` numbers, no two neighbours equal, so that a store in a wrong place is seen.
+    /// An area of `len` numbers that no call has written.
     pub fn unset(len: usize) -> Self {
-        Guarded::new(&(0..len).map(|i| unset(i)).collect::<Vec<_>>())
+        Guarded::new(&(0..len).map(T::unset).collect::<Vec<_>>())
     }
 
-    pub fn lent(&mut self) -> &mut [i32] {
+    pub fn lent(&mut self) -> &mut [T] {
         let end = self.all.len() - GUARD;
         &mut self.all[GUARD..end]
     }
 
     /// What stands in the area, once the marks around it have been looked at.
-    pub fn content(&self) -> &[i32] {
+    pub fn content(&self) -> &[T] {
         let end = self.all.len() - GUARD;
-        assert!(self.all[..GUARD].iter().all(|&m| m == MARK), "written before the area");
-        assert!(self.all[end..].iter().all(|&m| m == MARK), "written after the area");
+        assert!(self.all[..GUARD].iter().all(|&m| m == T::MARK), "written before the area");
+        assert!(self.all[end..].iter().all(|&m| m == T::MARK), "written after the area");
         &self.all[GUARD..end]
+    }
+
+    /// Whether the places from `from` on are as [`Guarded::unset`] made them.
+    pub fn is_unset_from(&self, from: usize) -> bool {
+        (from..self.content().len()).all(|i| self.content()[i] == T::unset(i))
     }
 }
 
-/// What [`Guarded::unset`] has at place `i`.
+/// What [`Guarded::unset`] has at place `i` of an `i32` area.
 pub fn unset(i: usize) -> i32 {
-    -1_234_567 - 3 * i as i32
+    i32::unset(i)
 }
 
 /// Lines of `n` numbers: constants, the largest steps that heights and words can make, slopes, and random ones.

@@ -31,3 +31,11 @@ fn the_line_example() {
         assert_eq!(output_of("line", language), "low 3 4 6\nhigh 3 5\nline 1 4 2 7 3\ntoo short: 5\n");
     }
 }
+
+#[test]
+fn the_stream_example() {
+    let rows = "1 LH 0 3\n1 LH 1 5\n2 LL 0 4\n2 LH 0 1\n";
+    for language in ["c", "c++"] {
+        assert_eq!(output_of("stream", language), format!("{rows}height 1\nheight 4\nheight 2\nheight 7\n"));
+    }
+}

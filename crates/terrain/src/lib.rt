@@ -1,2 +1,8 @@
 // The C interface, declared in include/terrain.h: each call is a thin shell over a call of the crates below, with the same promise. A file for each layer.
 mod line;
+mod map;
+mod reader_calls;
+mod reader_state;
+mod states;
+mod writer_calls;
+mod writer_state;

@@ -1,0 +1,63 @@
+-- The laws of a state array. Assumes nothing.
+use mathlib.Core.Path.{_≡_, refl, sym, ap, _∙_}
+use mathlib.Core.Bool.{Bool, true, false, not}
+use mathlib.Core.List.{List}
+use Prim.Native.Nat.{ℕ, zero, suc, _+_, _-_, _<_, _≤_}
+use native.Mathlib.Omega.{arith}
+use lib.Dec.{eqb}
+use lib.ListN.{getD}
+use borrow.Author.Tests.{eq-eqb, ne-eqb, le-leb, lt-leb}
+use Rattle.numbers.specs.Signal.{pick, both}
+use Rattle.terrain.specs.States.{zeroNext, zeroFrom, isState}
+
+module _ (s : List ℕ) (i : ℕ) where
+  next : i < 16 → zeroFrom i s ≡ both (eqb (getD s i 0) 0) (zeroFrom (i + 1) s)
+  unfolding zeroFrom zeroNext
+  next h = let e : 16 - i ≡ suc (16 - (i + 1)) = omega arith in rw e refl
+
+  -- a 0 leaves the answer to the places after it; another number is a no
+  pub zero-on : i < 16 → getD s i 0 ≡ 0 → zeroFrom i s ≡ zeroFrom (i + 1) s
+  zero-on h e = next h ∙ simp (eq-eqb (getD s i 0) 0 e)
+
+  pub zero-no : i < 16 → (getD s i 0 ≡ 0 → ⊥) → zeroFrom i s ≡ false
+  zero-no h e = next h ∙ simp (ne-eqb (getD s i 0) 0 e)
+
+  pub zero-end : 16 ≤ i → zeroFrom i s ≡ true
+  unfolding zeroFrom zeroNext
+  zero-end h = let e : 16 - i ≡ 0 = omega arith in rw e refl
+
+-- the tests of a state one after the other
+module _ (kind f k : ℕ) (s : List ℕ) where
+  pub no-kind : (getD s 0 0 ≡ kind → ⊥) → isState kind f k s ≡ false
+  unfolding isState
+  no-kind h = simp (ne-eqb (getD s 0 0) kind h)
+
+  pub no-flag : getD s 0 0 ≡ kind → 1 < getD s f 0 → isState kind f k s ≡ false
+  unfolding isState
+  no-flag h g = simp (eq-eqb (getD s 0 0) kind h, lt-leb (getD s f 0) 1 g)
+
+  pub rest-left : getD s 0 0 ≡ kind → getD s f 0 ≤ 1 → isState kind f k s ≡ zeroFrom k s
+  unfolding isState
+  rest-left h g = simp (eq-eqb (getD s 0 0) kind h, le-leb (getD s f 0) 1 g)
+
+-- what a test chooses
+pub pick-no : {A : Type 0} (t : Bool) (a b : A) → t ≡ false → pick t a b ≡ b
+pick-no t a b e = rw e refl
+
+-- ---- a call on a state array. b is what the code asked of it, `is` what that says; the code goes by `not b`
+not-yes : (b : Bool) → not b ≡ true → b ≡ false
+not-yes true e = let z : _≡_ {A = ℕ} 0 1 = cc in absurd (omega arith)
+not-yes false e = refl
+
+not-no : (b : Bool) → not b ≡ false → b ≡ true
+not-no true e = refl
+not-no false e = let z : _≡_ {A = ℕ} 0 1 = cc in absurd (omega arith)
+
+module _ (is b : Bool) (told : b ≡ is) where
+  -- the array is none
+  pub turned : {A : Type 0} (x y : A) → not b ≡ true → pick is x y ≡ y
+  turned x y e = pick-no is x y (sym told ∙ not-yes b e)
+
+  -- it is one: w is what was unpacked, r what the call on it says
+  pub went : {S A : Type 0} (f : S → A) (s w : S) (y r : A) → not b ≡ false → w ≡ s → r ≡ f w → pick is (f s) y ≡ r
+  went f s w y r e of g = let t : is ≡ true = sym told ∙ not-no b e in rw t (ap f (sym of) ∙ sym g)

@@ -1,0 +1,72 @@
+-- `terrain_reader_set_up` meets its contract: what the set-up answers, in its two cases. Assumes nothing.
+use mathlib.Core.Path.{_≡_, refl, sym, ap, _∙_}
+use lib.ListN.{length}
+use borrow.Author.Needs.{needs}
+use Rattle.numbers.specs.Signal.{at}
+use Rattle.reader.specs.declared.SetUp.{SetUp}
+use Rattle.reader.specs.Questions.{setUpQuestion}
+use Rattle.reader.specs.Calls.{setUpNumber, setUpAnswer}
+use Rattle.terrain.specs.ReaderCalls.{stateUp}
+use Rattle.terrain.proofs.reader_calls.terrain_reader_set_up.Statement.{statement}
+use Rattle.terrain.proofs.reader_calls.terrain_reader_set_up.Tie as tie
+
+set-up-requires : tie.Need-set-up-requires
+set-up-requires c κs = search needs
+
+enum-known-r : tie.Need-enum-known-r
+enum-known-r c = search needs
+
+pack-reader-requires : tie.Need-pack-reader-requires
+pack-reader-requires c κs = search needs
+
+enum-known-no : tie.Need-enum-known-no
+enum-known-no c = search needs
+
+cast-result : tie.Need-cast-result
+cast-result c = search needs
+
+same-length : tie.Need-same-length
+same-length c = search needs
+
+returns : tie.Need-returns
+unfolding setUpNumber
+returns c =
+    let o = c .before .before .before .before .before in
+    let a = o .before .before .before .args in
+    let e : setUpAnswer (a .width) (a .height) (a .levels) (setUpQuestion (a .width) (a .height) (a .levels) (length (a .store .now))) ≡ _ = sym (o .before .set-up .ensures .1 .0) ∙ c .before .before .before .r .given .1 in (
+      sym (ap setUpNumber e),
+      (
+        c .pack-reader .ensures ∙ sym (ap (λ (q : SetUp). stateUp q (a .state .now)) e),
+        o .before .set-up .ensures .1 .1,
+      ),
+    )
+
+same-length-2 : tie.Need-same-length-2
+same-length-2 c = search needs
+
+returns-2 : tie.Need-returns-2
+unfolding setUpNumber
+returns-2 c =
+    let o = c .before .before .before in
+    let a = o .before .before .before .args in
+    let e : setUpAnswer (a .width) (a .height) (a .levels) (setUpQuestion (a .width) (a .height) (a .levels) (length (a .store .now))) ≡ _ = sym (o .before .set-up .ensures .1 .0) ∙ c .before .no .given .1 in (
+      sym (ap setUpNumber e),
+      (
+        sym (ap (λ (q : SetUp). stateUp q (a .state .now)) e),
+        o .before .set-up .ensures .1 .1,
+      ),
+    )
+
+pub terrain-reader-set-up-spec : {M : Type 1} → statement M
+terrain-reader-set-up-spec =
+    tie.close
+    (tie.spec
+    set-up-requires
+    enum-known-r
+    pack-reader-requires
+    enum-known-no
+    cast-result
+    same-length
+    returns
+    same-length-2
+    returns-2)

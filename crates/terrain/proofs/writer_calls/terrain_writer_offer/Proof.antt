@@ -1,0 +1,112 @@
+-- `terrain_writer_offer` meets its contract: what the call on the unpacked writer answers, in its two cases, and 1 where the array is none. Assumes nothing.
+use mathlib.Core.Path.{_≡_, refl, sym, ap, _∙_}
+use mathlib.Core.List.{List}
+use Prim.Native.Nat.{ℕ}
+use lib.ListN.{length}
+use borrow.Author.Needs.{needs}
+use Rattle.numbers.specs.Signal.{at}
+use Rattle.writer.specs.declared.Writer.{Writer}
+use Rattle.writer.specs.Answers.{Reply, refused, Took, ofOffered}
+use Rattle.writer.specs.Calls.{offerReply, offerStore}
+use Rattle.terrain.specs.WriterState.{isWriter, writerOf}
+use Rattle.terrain.specs.WriterCalls.{number, offered, stateTook, takenOf}
+use Rattle.terrain.proofs.StateLaws.{turned, went}
+use Rattle.terrain.proofs.writer_calls.terrain_writer_offer.Statement.{statement}
+use Rattle.terrain.proofs.writer_calls.terrain_writer_offer.Tie as tie
+
+is-writer-requires : tie.Need-is-writer-requires
+is-writer-requires c κs = search needs
+
+returns : tie.Need-returns
+returns c =
+    let i = c .before in
+    let a = i .before .before .before .args in
+    let e : offered (a .state .now) (length (a .store .now)) (a .run .now) (at (a .store .now)) ≡ refused 1 = turned (isWriter (a .state .now)) (i .is-writer .result) (i .is-writer .ensures) _ _ (c .if1 .taken) in (
+      sym (ap number e),
+      (
+        sym (ap (λ (q : Reply Took). stateTook q (a .state .now)) e),
+        (
+          sym (turned (isWriter (a .state .now)) (i .is-writer .result) (i .is-writer .ensures) _ (at (a .store .now)) (c .if1 .taken)),
+          sym (ap (λ (q : Reply Took). takenOf q (a .taken .now)) e),
+        ),
+      ),
+    )
+
+unpack-writer-requires : tie.Need-unpack-writer-requires
+unpack-writer-requires c κs = search needs
+
+offer-requires : tie.Need-offer-requires
+offer-requires c κs = search needs
+
+enum-known-n : tie.Need-enum-known-n
+enum-known-n c = search needs
+
+pack-writer-requires : tie.Need-pack-writer-requires
+pack-writer-requires c κs = search needs
+
+enum-known-no : tie.Need-enum-known-no
+enum-known-no c = search needs
+
+cast-result : tie.Need-cast-result
+cast-result c = search needs
+
+same-length : tie.Need-same-length
+same-length c = search needs
+
+returns-2 : tie.Need-returns-2
+returns-2 c =
+    let o = c .before .before .before .before .before in
+    let u = o .before .before .before in
+    let i = u .before .before .before in
+    let a = i .before .before .before .args in
+    let e =
+    went (isWriter (a .state .now)) (i .is-writer .result) (i .is-writer .ensures) (λ (w : Writer). offerReply w (length (a .store .now)) (a .run .now) (at (a .store .now))) (writerOf (a .state .now)) (u .unpack-writer .result) (refused 1) _ (u .before .before .if1 .left) (u .unpack-writer .ensures) (o .before .offer .ensures .0)
+    ∙ ap ofOffered (c .before .before .before .n .given .1) in (
+      sym (ap number e),
+      (
+        c .pack-writer .ensures ∙ sym (ap (λ (q : Reply Took). stateTook q (a .state .now)) e),
+        (
+          sym (went (isWriter (a .state .now)) (i .is-writer .result) (i .is-writer .ensures) (λ (w : Writer). offerStore w (length (a .store .now)) (a .run .now) (at (a .store .now))) (writerOf (a .state .now)) (u .unpack-writer .result) (at (a .store .now)) _ (u .before .before .if1 .left) (u .unpack-writer .ensures) (o .before .offer .ensures .1 .0)),
+          sym (ap (λ (q : Reply Took). takenOf q (a .taken .now)) e),
+        ),
+      ),
+    )
+
+same-length-2 : tie.Need-same-length-2
+same-length-2 c = search needs
+
+returns-3 : tie.Need-returns-3
+returns-3 c =
+    let o = c .before .before .before in
+    let u = o .before .before .before in
+    let i = u .before .before .before in
+    let a = i .before .before .before .args in
+    let e =
+    went (isWriter (a .state .now)) (i .is-writer .result) (i .is-writer .ensures) (λ (w : Writer). offerReply w (length (a .store .now)) (a .run .now) (at (a .store .now))) (writerOf (a .state .now)) (u .unpack-writer .result) (refused 1) _ (u .before .before .if1 .left) (u .unpack-writer .ensures) (o .before .offer .ensures .0)
+    ∙ ap ofOffered (c .before .no .given .1) in (
+      sym (ap number e),
+      (
+        sym (ap (λ (q : Reply Took). stateTook q (a .state .now)) e),
+        (
+          sym (went (isWriter (a .state .now)) (i .is-writer .result) (i .is-writer .ensures) (λ (w : Writer). offerStore w (length (a .store .now)) (a .run .now) (at (a .store .now))) (writerOf (a .state .now)) (u .unpack-writer .result) (at (a .store .now)) _ (u .before .before .if1 .left) (u .unpack-writer .ensures) (o .before .offer .ensures .1 .0)),
+          sym (ap (λ (q : Reply Took). takenOf q (a .taken .now)) e),
+        ),
+      ),
+    )
+
+pub terrain-writer-offer-spec : {M : Type 1} → statement M
+terrain-writer-offer-spec =
+    tie.close
+    (tie.spec
+    is-writer-requires
+    returns
+    unpack-writer-requires
+    offer-requires
+    enum-known-n
+    pack-writer-requires
+    enum-known-no
+    cast-result
+    same-length
+    returns-2
+    same-length-2
+    returns-3)

@@ -1,0 +1,5 @@
+pub mod States
+pub mod WriterState
+pub mod WriterCalls
+pub mod ReaderState
+pub mod ReaderCalls

@@ -1,0 +1,28 @@
+-- The state array of a reader: kind 2. docs/STATE.md lists its numbers.
+use mathlib.Core.Bool.{Bool}
+use mathlib.Core.List.{List, [], _∷_}
+use Prim.Native.Nat.{ℕ}
+use lib.Dec.{eqb}
+use lib.ListN.{getD}
+use Rattle.reader.specs.declared.Reader.{Reader}
+use Rattle.terrain.specs.States.{flag, isState}
+
+abbrev pub isReader : List ℕ → Bool
+isReader s = isState 2 7 8 s
+
+abbrev pub readerOf : List ℕ → Reader
+readerOf s =
+    record {
+      width = getD s 1 0;
+      height = getD s 2 0;
+      levels = getD s 3 0;
+      drawn = getD s 4 0;
+      level = getD s 5 0;
+      band = getD s 6 0;
+      ended = eqb (getD s 7 0) 1;
+    }
+
+abbrev pub readerWords : Reader → List ℕ
+readerWords r =
+    2 ∷ r .width ∷ r .height ∷ r .levels ∷ r .drawn ∷ r .level ∷ r .band ∷ flag (r .ended)
+    ∷ 0 ∷ 0 ∷ 0 ∷ 0 ∷ 0 ∷ 0 ∷ 0 ∷ 0 ∷ []

@@ -1,0 +1,29 @@
+-- The state array of a writer: kind 1. docs/STATE.md lists its numbers.
+use mathlib.Core.Bool.{Bool}
+use mathlib.Core.List.{List, [], _∷_}
+use Prim.Native.Nat.{ℕ}
+use lib.Dec.{eqb}
+use lib.ListN.{getD}
+use Rattle.writer.specs.declared.Writer.{Writer}
+use Rattle.terrain.specs.States.{flag, isState}
+
+abbrev pub isWriter : List ℕ → Bool
+isWriter s = isState 1 5 9 s
+
+abbrev pub writerOf : List ℕ → Writer
+writerOf s =
+    record {
+      width = getD s 1 0;
+      levels = getD s 2 0;
+      rows = getD s 3 0;
+      column = getD s 4 0;
+      finished = eqb (getD s 5 0) 1;
+      closed = getD s 6 0;
+      level = getD s 7 0;
+      left = getD s 8 0;
+    }
+
+abbrev pub writerWords : Writer → List ℕ
+writerWords w =
+    1 ∷ w .width ∷ w .levels ∷ w .rows ∷ w .column ∷ flag (w .finished) ∷ w .closed ∷ w .level ∷ w .left
+    ∷ 0 ∷ 0 ∷ 0 ∷ 0 ∷ 0 ∷ 0 ∷ 0 ∷ []

@@ -1,0 +1,127 @@
+// The reader's calls. The state is the caller's array: `reader_state` unpacks and packs it.
+use crate::reader_state;
+use reader::Drawn;
+use reader::Fed;
+use reader::Reader;
+use reader::SetUp;
+use reader::Wanted;
+ghost use mathlib.Core.Path.{_≡_};
+ghost use lib.ListN.{length};
+ghost use Rattle.numbers.specs.Signal.{at};
+ghost use Rattle.reader.specs.Areas.{heightsAt};
+ghost use Rattle.reader.specs.Questions.{setUpQuestion};
+ghost use Rattle.reader.specs.Calls.{setUpNumber, wantNumber, feedNumber, drawNumber, setUpAnswer, setUpStore};
+ghost use Rattle.terrain.specs.ReaderCalls.{stateUp, wanting, wantOf, feeding, feedingStore, stateFed, drawing, drawingStore, drawingArea, stateDrawn, countOf};
+
+// A fresh reader. The questions are 2, 3, 4 and 5.
+#[no_mangle]
+pub extern "C" fn terrain_reader_set_up(
+    state: &mut [u64; 16],
+    width: usize,
+    height: usize,
+    levels: usize,
+    store: &mut [i32],
+) -> u32
+    ensures { λ r. ⌜ r ≡ setUpNumber (setUpAnswer width height levels (setUpQuestion width height levels (length (now (store .entry))))) ⌝ }
+    ensures { λ _. ⌜ now (state .exit) ≡ stateUp (setUpAnswer width height levels (setUpQuestion width height levels (length (now (store .entry))))) (now (state .entry)) ⌝ }
+    ensures { λ _. ⌜ at (now (store .exit)) ≡ setUpStore width levels (setUpQuestion width height levels (length (now (store .entry)))) (at (now (store .entry))) ⌝ }
+{
+    match Reader::set_up(width, height, levels, store) {
+        SetUp::Ready(r) => {
+            reader_state::pack_reader(r, state);
+            0
+        }
+        SetUp::Refused(no) => no as u32,
+    }
+}
+
+// What the reader wants. The question is 1.
+#[no_mangle]
+pub extern "C" fn terrain_reader_want(state: &[u64; 16], want: &mut [u64; 5]) -> u32
+    ensures { λ r. ⌜ r ≡ wantNumber (wanting (now (state .entry))) ⌝ }
+    ensures { λ _. ⌜ now (want .exit) ≡ wantOf (wanting (now (state .entry))) (now (want .entry)) ⌝ }
+{
+    if !reader_state::is_reader(state) {
+        return 1;
+    }
+    let s = reader_state::unpack_reader(state);
+    match s.want() {
+        Wanted::Row(level, band, row, length) => {
+            *want = [0, level as u64, band as u64, row as u64, length as u64];
+            0
+        }
+        Wanted::Draw => {
+            *want = [1, 0, 0, 0, 0];
+            0
+        }
+        Wanted::Done => {
+            *want = [2, 0, 0, 0, 0];
+            0
+        }
+        Wanted::Ended => {
+            *want = [3, 0, 0, 0, 0];
+            0
+        }
+        Wanted::Refused(no) => no as u32,
+    }
+}
+
+// A band row fed. The questions are 1, 5, 9, 8, 13, 7 and 14; 14 leaves the ended reader.
+#[no_mangle]
+pub extern "C" fn terrain_reader_feed(state: &mut [u64; 16], store: &mut [i32], run: &[i32]) -> u32
+    ensures { λ r. ⌜ r ≡ feedNumber (feeding (now (state .entry)) (length (now (store .entry))) (at (now (store .entry))) (length (now (run .entry))) (at (now (run .entry)))) ⌝ }
+    ensures { λ _. ⌜ now (state .exit) ≡ stateFed (feeding (now (state .entry)) (length (now (store .entry))) (at (now (store .entry))) (length (now (run .entry))) (at (now (run .entry)))) (now (state .entry)) ⌝ }
+    ensures { λ _. ⌜ at (now (store .exit)) ≡ feedingStore (now (state .entry)) (length (now (store .entry))) (at (now (store .entry))) (length (now (run .entry))) (at (now (run .entry))) ⌝ }
+{
+    if !reader_state::is_reader(state) {
+        return 1;
+    }
+    let s = reader_state::unpack_reader(state);
+    match s.feed(store, run) {
+        Fed::Passed(next) => {
+            reader_state::pack_reader(next, state);
+            0
+        }
+        Fed::Impossible(next) => {
+            reader_state::pack_reader(next, state);
+            14
+        }
+        Fed::Refused(no) => no as u32,
+    }
+}
+
+// A height row drawn, or Nothing. The questions are 1, 5, 9, 12 and 14; 14 leaves the ended reader.
+#[no_mangle]
+pub extern "C" fn terrain_reader_draw(
+    state: &mut [u64; 16],
+    store: &mut [i32],
+    out: &mut [u16],
+    drawn: &mut usize,
+) -> u32
+    ensures { λ r. ⌜ r ≡ drawNumber (drawing (now (state .entry)) (length (now (store .entry))) (at (now (store .entry))) (length (now (out .entry)))) ⌝ }
+    ensures { λ _. ⌜ now (state .exit) ≡ stateDrawn (drawing (now (state .entry)) (length (now (store .entry))) (at (now (store .entry))) (length (now (out .entry)))) (now (state .entry)) ⌝ }
+    ensures { λ _. ⌜ at (now (store .exit)) ≡ drawingStore (now (state .entry)) (length (now (store .entry))) (at (now (store .entry))) (length (now (out .entry))) ⌝ }
+    ensures { λ _. ⌜ heightsAt (now (out .exit)) ≡ drawingArea (now (state .entry)) (length (now (store .entry))) (at (now (store .entry))) (length (now (out .entry))) (heightsAt (now (out .entry))) ⌝ }
+    ensures { λ _. ⌜ now (drawn .exit) ≡ countOf (drawing (now (state .entry)) (length (now (store .entry))) (at (now (store .entry))) (length (now (out .entry)))) (now (drawn .entry)) ⌝ }
+{
+    if !reader_state::is_reader(state) {
+        return 1;
+    }
+    let s = reader_state::unpack_reader(state);
+    match s.draw(store, out) {
+        Drawn::Heights(n, next) => {
+            reader_state::pack_reader(next, state);
+            *drawn = n;
+            0
+        }
+        Drawn::Nothing => {
+            *drawn = 0;
+            0
+        }
+        Drawn::Impossible(next) => {
+            reader_state::pack_reader(next, state);
+            14
+        }
+        Drawn::Refused(no) => no as u32,
+    }
+}

@@ -1,0 +1,58 @@
+// The state array of a reader: unpacked, used by value, packed again.
+use crate::states;
+use reader::Reader;
+ghost use mathlib.Core.Path.{_≡_};
+ghost use Rattle.terrain.specs.ReaderState.{isReader, readerOf, readerWords};
+
+// Is this the state array of a reader?
+pub fn is_reader(s: &[u64; 16]) -> bool
+    ensures { λ r. ⌜ r ≡ isReader (now (s .entry)) ⌝ }
+{
+    if s[0] != 2 {
+        return false;
+    }
+    if 1 < s[7] {
+        return false;
+    }
+    states::zero_from(s, 8)
+}
+
+// The reader that the array holds.
+pub fn unpack_reader(s: &[u64; 16]) -> Reader
+    ensures { λ r. ⌜ r ≡ readerOf (now (s .entry)) ⌝ }
+{
+    Reader {
+        width: s[1] as usize,
+        height: s[2] as usize,
+        levels: s[3] as usize,
+        drawn: s[4] as usize,
+        level: s[5] as usize,
+        band: s[6] as usize,
+        ended: s[7] == 1,
+    }
+}
+
+// A reader into the array.
+pub fn pack_reader(r: Reader, s: &mut [u64; 16])
+    ensures { λ _. ⌜ now (s .exit) ≡ readerWords r ⌝ }
+{
+    let ended = states::flag_of(r.ended);
+    *s = [
+        2,
+        r.width as u64,
+        r.height as u64,
+        r.levels as u64,
+        r.drawn as u64,
+        r.level as u64,
+        r.band as u64,
+        ended,
+        0,
+        0,
+        0,
+        0,
+        0,
+        0,
+        0,
+        0,
+    ];
+}

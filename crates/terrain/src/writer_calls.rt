@@ -1,0 +1,124 @@
+// The writer's calls. The state is the caller's array: `writer_state` unpacks and packs it.
+use crate::writer_state;
+use wavelet::store;
+use writer::Drawn;
+use writer::Finished;
+use writer::Offered;
+use writer::SetUp;
+use writer::Writer;
+ghost use mathlib.Core.Path.{_≡_};
+ghost use lib.ListN.{length};
+ghost use Rattle.numbers.specs.Signal.{at, pick, both};
+ghost use Rattle.wavelet.specs.Limits.{maxWidth, maxLevels};
+ghost use Rattle.wavelet.specs.Questions.{within};
+ghost use Rattle.wavelet.specs.Store.{storeLength};
+ghost use Rattle.writer.specs.Calls.{setUpReply, setUpStore};
+ghost use Rattle.terrain.specs.WriterCalls.{number, stateOf, offered, offeredStore, stateTook, takenOf, drawn, drawnStore, drawnArea, stateHanded, rowOf, finished, finishedStore};
+
+// The numbers that the line store of a writer or a reader needs; 0 where set-up would give 2 or 4.
+#[no_mangle]
+pub extern "C" fn terrain_store_length(width: usize, levels: usize) -> usize
+    ensures { λ r. ⌜ r ≡ pick (both (within 1 maxWidth width) (within 1 maxLevels levels)) (storeLength width levels) 0 ⌝ }
+{
+    store::store_length(width, levels)
+}
+
+// A fresh writer. The questions are 2, 4 and 5.
+#[no_mangle]
+pub extern "C" fn terrain_writer_set_up(
+    state: &mut [u64; 16],
+    width: usize,
+    levels: usize,
+    store: &mut [i32],
+) -> u32
+    ensures { λ r. ⌜ r ≡ number (setUpReply width levels (length (now (store .entry)))) ⌝ }
+    ensures { λ r. ⌜ now (state .exit) ≡ stateOf (setUpReply width levels (length (now (store .entry)))) (now (state .entry)) ⌝ }
+    ensures { λ r. ⌜ at (now (store .exit)) ≡ setUpStore width levels (length (now (store .entry))) (at (now (store .entry))) ⌝ }
+{
+    match Writer::set_up(width, levels, store) {
+        SetUp::Ready(w) => {
+            writer_state::pack_writer(w, state);
+            0
+        }
+        SetUp::Refused(no) => no as u32,
+    }
+}
+
+// Heights offered. The questions are 1, 5, 9, 8 and 10.
+#[no_mangle]
+pub extern "C" fn terrain_writer_offer(
+    state: &mut [u64; 16],
+    store: &mut [i32],
+    run: &[u16],
+    taken: &mut usize,
+) -> u32
+    ensures { λ r. ⌜ r ≡ number (offered (now (state .entry)) (length (now (store .entry))) (now (run .entry)) (at (now (store .entry)))) ⌝ }
+    ensures { λ r. ⌜ now (state .exit) ≡ stateTook (offered (now (state .entry)) (length (now (store .entry))) (now (run .entry)) (at (now (store .entry)))) (now (state .entry)) ⌝ }
+    ensures { λ r. ⌜ at (now (store .exit)) ≡ offeredStore (now (state .entry)) (length (now (store .entry))) (now (run .entry)) (at (now (store .entry))) ⌝ }
+    ensures { λ r. ⌜ now (taken .exit) ≡ takenOf (offered (now (state .entry)) (length (now (store .entry))) (now (run .entry)) (at (now (store .entry)))) (now (taken .entry)) ⌝ }
+{
+    if !writer_state::is_writer(state) {
+        return 1;
+    }
+    let w = writer_state::unpack_writer(state);
+    match w.offer(store, run) {
+        Offered::Taken(n, next) => {
+            writer_state::pack_writer(next, state);
+            *taken = n;
+            0
+        }
+        Offered::Refused(no) => no as u32,
+    }
+}
+
+// A band row drawn, or Nothing. The questions are 1, 5 and 12.
+#[no_mangle]
+pub extern "C" fn terrain_writer_draw(
+    state: &mut [u64; 16],
+    store: &mut [i32],
+    out: &mut [i32],
+    row: &mut [u64; 4],
+) -> u32
+    ensures { λ r. ⌜ r ≡ number (drawn (now (state .entry)) (length (now (store .entry))) (length (now (out .entry))) (at (now (store .entry)))) ⌝ }
+    ensures { λ r. ⌜ now (state .exit) ≡ stateHanded (drawn (now (state .entry)) (length (now (store .entry))) (length (now (out .entry))) (at (now (store .entry)))) (now (state .entry)) ⌝ }
+    ensures { λ r. ⌜ at (now (store .exit)) ≡ drawnStore (now (state .entry)) (length (now (store .entry))) (length (now (out .entry))) (at (now (store .entry))) ⌝ }
+    ensures { λ r. ⌜ at (now (out .exit)) ≡ drawnArea (now (state .entry)) (length (now (store .entry))) (length (now (out .entry))) (at (now (store .entry))) (at (now (out .entry))) ⌝ }
+    ensures { λ r. ⌜ now (row .exit) ≡ rowOf (drawn (now (state .entry)) (length (now (store .entry))) (length (now (out .entry))) (at (now (store .entry)))) (now (row .entry)) ⌝ }
+{
+    if !writer_state::is_writer(state) {
+        return 1;
+    }
+    let w = writer_state::unpack_writer(state);
+    match w.draw(store, out) {
+        Drawn::Row(r, next) => {
+            writer_state::pack_writer(next, state);
+            *row = [r.level as u64, r.band as u64, r.row as u64, r.length as u64];
+            0
+        }
+        Drawn::Nothing => {
+            *row = [0, 0, 0, 0];
+            0
+        }
+        Drawn::Refused(no) => no as u32,
+    }
+}
+
+// The map finished. The questions are 1, 5, 9, 8 and 11.
+#[no_mangle]
+pub extern "C" fn terrain_writer_finish(state: &mut [u64; 16], store: &mut [i32]) -> u32
+    ensures { λ r. ⌜ r ≡ number (finished (now (state .entry)) (length (now (store .entry))) (at (now (store .entry)))) ⌝ }
+    ensures { λ r. ⌜ now (state .exit) ≡ stateOf (finished (now (state .entry)) (length (now (store .entry))) (at (now (store .entry)))) (now (state .entry)) ⌝ }
+    ensures { λ r. ⌜ at (now (store .exit)) ≡ finishedStore (now (state .entry)) (length (now (store .entry))) (at (now (store .entry))) ⌝ }
+{
+    if !writer_state::is_writer(state) {
+        return 1;
+    }
+    let w = writer_state::unpack_writer(state);
+    match w.finish(store) {
+        Finished::Closed(next) => {
+            writer_state::pack_writer(next, state);
+            0
+        }
+        Finished::Refused(no) => no as u32,
+    }
+}

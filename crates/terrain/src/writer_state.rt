@@ -1,0 +1,59 @@
+// The state array of a writer: unpacked, used by value, packed again.
+use crate::states;
+use writer::Writer;
+ghost use mathlib.Core.Path.{_≡_};
+ghost use Rattle.terrain.specs.WriterState.{isWriter, writerOf, writerWords};
+
+// Is this the state array of a writer?
+pub fn is_writer(s: &[u64; 16]) -> bool
+    ensures { λ r. ⌜ r ≡ isWriter (now (s .entry)) ⌝ }
+{
+    if s[0] != 1 {
+        return false;
+    }
+    if 1 < s[5] {
+        return false;
+    }
+    states::zero_from(s, 9)
+}
+
+// The writer that the array holds.
+pub fn unpack_writer(s: &[u64; 16]) -> Writer
+    ensures { λ r. ⌜ r ≡ writerOf (now (s .entry)) ⌝ }
+{
+    Writer {
+        width: s[1] as usize,
+        levels: s[2] as usize,
+        rows: s[3] as usize,
+        column: s[4] as usize,
+        finished: s[5] == 1,
+        closed: s[6] as usize,
+        level: s[7] as usize,
+        left: s[8] as usize,
+    }
+}
+
+// A writer into the array.
+pub fn pack_writer(w: Writer, s: &mut [u64; 16])
+    ensures { λ _. ⌜ now (s .exit) ≡ writerWords w ⌝ }
+{
+    let finished = states::flag_of(w.finished);
+    *s = [
+        1,
+        w.width as u64,
+        w.levels as u64,
+        w.rows as u64,
+        w.column as u64,
+        finished,
+        w.closed as u64,
+        w.level as u64,
+        w.left as u64,
+        0,
+        0,
+        0,
+        0,
+        0,
+        0,
+        0,
+    ];
+}

@@ -1,0 +1,216 @@
+//! The whole-map calls and the view against the reference.
+use terrain_tests::areas::Guarded;
+use terrain_tests::map::{self, Shape};
+use terrain_tests::maps::{self, forward, in_range, level_at, map_of, range, side, MAX_HEIGHT, MAX_LEVELS, MAX_WIDTH};
+use terrain_tests::random::Random;
+
+/// There and back: the plane is the reference's, the map comes back, the work area is zero, every surplus and guard untouched.
+fn there_and_back(heights: &[u16], s: Shape) {
+    let n = s.width * s.height;
+    let mut plane = Guarded::unset(n + 3);
+    let mut work = Guarded::unset(n + 2);
+    assert_eq!(map::forward(heights, s, plane.lent(), work.lent()), 0, "{s:?}");
+    assert_eq!(plane.content()[..n], forward(heights, s.width, s.height, s.levels), "{s:?}");
+    assert!(work.content()[..n].iter().all(|&v| v == 0), "{s:?}: the work area is not zero");
+    assert!(plane.is_unset_from(n) && work.is_unset_from(n), "{s:?}: a surplus is touched");
+    let mut back = Guarded::<u16>::unset(n + 1);
+    let mut work = Guarded::unset(n + 2);
+    assert_eq!(map::backward(plane.content(), s, back.lent(), work.lent()), 0, "{s:?}");
+    assert_eq!(&back.content()[..n], heights, "{s:?}");
+    assert!(work.content()[..n].iter().all(|&v| v == 0), "{s:?}: the work area is not zero");
+    assert!(back.is_unset_from(n) && work.is_unset_from(n), "{s:?}: a surplus is touched");
+}
+
+#[test]
+fn every_small_size_at_every_level_count() {
+    for width in 1..=12 {
+        for height in 1..=12 {
+            for levels in 1..=MAX_LEVELS {
+                for heights in maps::maps(width, height) {
+                    there_and_back(&heights, Shape { width, height, levels });
+                }
+            }
+        }
+    }
+}
+
+#[test]
+fn larger_and_odd_sizes() {
+    let mut random = Random::new(1);
+    for _ in 0..100 {
+        let (width, height) = (1 + random.below(90), 1 + random.below(90));
+        let levels = 1 + random.below(MAX_LEVELS);
+        for heights in maps::maps(width, height) {
+            there_and_back(&heights, Shape { width, height, levels });
+        }
+    }
+    for (width, height) in [(1, 1), (1, 2), (2, 1), (1, 333), (333, 1), (2, 200), (200, 2), (2_049, 1), (2_049, 2), (2_049, 7), (2_048, 5), (1, 65_535), (2, 40_001)] {
+        for levels in [1, 2, 5] {
+            for heights in maps::maps(width, height) {
+                there_and_back(&heights, Shape { width, height, levels });
+            }
+        }
+    }
+}
+
+/// What backward must answer for a plane, by the definitions: 7, 14, or 0 with the map.
+fn check_backward(plane: &[i32], s: Shape) -> u32 {
+    let n = s.width * s.height;
+    let mut heights = Guarded::<u16>::unset(n + 1);
+    let mut work = Guarded::unset(n + 1);
+    let lent = Guarded::new(plane);
+    let answer = map::backward(lent.content(), s, heights.lent(), work.lent());
+    assert_eq!(lent.content(), plane, "the plane is changed");
+    assert!(heights.is_unset_from(n) && work.is_unset_from(n), "{s:?}: a surplus is touched");
+    match map_of(&plane[..n], s.width, s.height, s.levels) {
+        Some(map) => {
+            assert_eq!(answer, 0, "{s:?}: a map has this plane");
+            assert_eq!(heights.content()[..n], map[..]);
+            assert!(work.content()[..n].iter().all(|&v| v == 0));
+        }
+        None if in_range(plane, s.width, s.height, s.levels) => {
+            assert_eq!(answer, 14, "{s:?}: no map has this plane");
+            assert!(heights.content()[..n].iter().all(|&v| v == 0), "14 zeroes the heights");
+            assert!(work.content()[..n].iter().all(|&v| v == 0), "14 zeroes the work area");
+        }
+        None => {
+            assert_eq!(answer, 7, "{s:?}: a coefficient is out of its level's range");
+            assert!(heights.is_unset_from(0) && work.is_unset_from(0), "7 changes nothing");
+        }
+    }
+    answer
+}
+
+#[test]
+fn damaged_planes_are_turned_away_exactly_when_no_map_has_them() {
+    let mut random = Random::new(77);
+    let mut seen = [0usize; 3];
+    for _ in 0..6_000 {
+        let s = Shape { width: 1 + random.below(9), height: 1 + random.below(9), levels: 1 + random.below(MAX_LEVELS) };
+        let all = maps::maps(s.width, s.height);
+        let mut plane = forward(&all[random.below(all.len())], s.width, s.height, s.levels);
+        for _ in 0..1 + random.below(3) {
+            let i = random.below(plane.len());
+            let reach = range(level_at(s.width, s.height, s.levels, i / s.width, i % s.width)) as i32;
+            plane[i] = match random.below(8) {
+                0 => reach,
+                1 => -reach,
+                2 => reach + 1,
+                3 => -reach - 1,
+                4 => random.word(),
+                5 => plane[i].wrapping_add(1),
+                6 => plane[i].wrapping_sub(1),
+                _ => plane[i].wrapping_add(random.below(9) as i32 - 4),
+            };
+        }
+        seen[match check_backward(&plane, s) {
+            0 => 0,
+            7 => 1,
+            _ => 2,
+        }] += 1;
+    }
+    assert!(seen.iter().all(|&n| n > 300), "each answer is tried often: {seen:?}");
+}
+
+#[test]
+fn the_samples_of_the_scope() {
+    let s = Shape { width: 2, height: 2, levels: 1 };
+    let mut plane = [0; 4];
+    assert_eq!(map::forward(&[0, 2, 1, 1], s, &mut plane, &mut [0; 4]), 0);
+    assert_eq!(plane, [2, 1, 0, -2], "LL, HL, LH, HH");
+    let column = Shape { width: 1, height: 4, levels: 2 };
+    assert_eq!(map::forward(&[1, 4, 2, 7], column, &mut plane, &mut [0; 4]), 0);
+    assert_eq!(plane, [4, 1, 3, 5], "2 LL 0, 2 LH 0, 1 LH 0, 1 LH 1");
+    let one = Shape { width: 1, height: 1, levels: 5 };
+    assert_eq!(map::forward(&[65_535], one, &mut plane, &mut [0; 4]), 0);
+    assert_eq!(plane[0], 65_535);
+    assert_eq!(check_backward(&[65_535], one), 0);
+    assert_eq!(check_backward(&[65_536], one), 14);
+    let flat = Shape { width: 2, height: 1, levels: 1 };
+    assert_ne!(check_backward(&[0, 262_140], flat), 7);
+    assert_eq!(check_backward(&[0, 262_141], flat), 7);
+    assert_ne!(check_backward(&[0, -262_140], flat), 7);
+    assert_eq!(check_backward(&[0, -262_141], flat), 7);
+}
+
+/// Both calls are turned away with `number`, and nothing lent has changed.
+fn refused(s: Shape, lens: [usize; 3], number: u32) {
+    let mut a = Guarded::<u16>::unset(lens[0]);
+    let mut b = Guarded::unset(lens[1]);
+    let mut c = Guarded::unset(lens[2]);
+    let heights = Guarded::<u16>::unset(lens[0]);
+    assert_eq!(map::forward(heights.content(), s, b.lent(), c.lent()), number, "{s:?} {lens:?}");
+    assert!(b.is_unset_from(0) && c.is_unset_from(0));
+    let plane = Guarded::unset(lens[1]);
+    assert_eq!(map::backward(plane.content(), s, a.lent(), c.lent()), number, "{s:?} {lens:?}");
+    assert!(a.is_unset_from(0) && c.is_unset_from(0));
+    assert_eq!(map::band_row(lens[1], s, 1, 3, 0), Err(number), "{s:?} {lens:?}");
+}
+
+#[test]
+fn the_questions_in_their_order() {
+    let ok = Shape { width: 3, height: 3, levels: 2 };
+    for width in [0, MAX_WIDTH + 1, usize::MAX] {
+        for height in [0, 3, usize::MAX] {
+            for levels in [0, 2, 6] {
+                refused(Shape { width, height, levels }, [9, 9, 9], 2);
+            }
+        }
+    }
+    for height in [0, MAX_HEIGHT + 1, usize::MAX] {
+        for levels in [0, 2, usize::MAX] {
+            refused(Shape { height, levels, ..ok }, [9, 9, 9], 3);
+        }
+    }
+    for levels in [0, MAX_LEVELS + 1, usize::MAX] {
+        refused(Shape { levels, ..ok }, [9, 0, 9], 4);
+    }
+    refused(ok, [8, 8, 9], 5);
+    refused(ok, [0, 0, 0], 5);
+    let mut plane = Guarded::unset(9);
+    let mut work = Guarded::unset(8);
+    assert_eq!(map::forward(&[1; 9], ok, plane.lent(), work.lent()), 5);
+    assert!(plane.is_unset_from(0) && work.is_unset_from(0));
+    let wide = Shape { width: MAX_WIDTH, height: 1, levels: MAX_LEVELS };
+    there_and_back(&vec![7; MAX_WIDTH], wide);
+}
+
+#[test]
+fn the_view_is_the_plane_s_band_row() {
+    for width in 1..=9 {
+        for height in 1..=9 {
+            for levels in 1..=MAX_LEVELS {
+                let s = Shape { width, height, levels };
+                let mut covered = vec![0; width * height];
+                for level in 0..=levels + 1 {
+                    for band in [0, 1, 2, 3, 4, 255, 256, 257, usize::MAX] {
+                        for row in (0..=height).chain([usize::MAX]) {
+                            let got = map::band_row(width * height + 2, s, level, band, row);
+                            assert_eq!(got, expected(s, level, band, row).ok_or(6), "{s:?} {level} {band} {row}");
+                            if let Ok((start, length)) = got {
+                                covered[start..start + length].iter_mut().for_each(|n| *n += 1);
+                            }
+                        }
+                    }
+                }
+                assert!(covered.iter().all(|&n| n == 1), "{s:?}: each place stands in one band row");
+            }
+        }
+    }
+}
+
+/// Start and length by document 01, "The plane".
+fn expected(s: Shape, level: usize, band: usize, row: usize) -> Option<(usize, usize)> {
+    if level < 1 || level > s.levels || band > 3 || (band == 0 && level < s.levels) {
+        return None;
+    }
+    let (w, h) = (side(s.width, level), side(s.height, level));
+    let (right, below) = (side(s.width, level - 1) - w, side(s.height, level - 1) - h);
+    let (high_across, high_down) = (band % 2 == 1, band >= 2);
+    let (rows, length) = (if high_down { below } else { h }, if high_across { right } else { w });
+    if row >= rows || length == 0 {
+        return None;
+    }
+    let start = (row + if high_down { h } else { 0 }) * s.width + if high_across { w } else { 0 };
+    Some((start, length))
+}

@@ -1,0 +1,578 @@
+//! The reader against the independent transform and the independent steps, and round trips through writer and reader.
+use std::collections::HashMap;
+use terrain_tests::areas::Guarded;
+use terrain_tests::map::{self, Shape};
+use terrain_tests::maps::{self, MAX_HEIGHT, MAX_LEVELS, MAX_WIDTH};
+use terrain_tests::order::{self, BandRow, Step, Turn};
+use terrain_tests::random::Random;
+use terrain_tests::reader::{self, Want};
+use terrain_tests::{writer, State};
+
+/// Numbers lent beyond what a line store needs.
+const SURPLUS: usize = 5;
+
+/// Where docs/STATE.md has the flag of a reader that 14 ended.
+const ENDED: usize = 7;
+
+/// A reader beside what it must answer, over one plane, a map's or not.
+struct Play<'a> {
+    shape: Shape,
+    plane: &'a [i32],
+    /// what the plane makes of each level over 32-bit words
+    grids: Vec<Vec<i32>>,
+    turns: Vec<Turn>,
+    at: usize,
+    ended: bool,
+    state: State,
+    store: Guarded,
+}
+
+impl<'a> Play<'a> {
+    fn new(plane: &'a [i32], shape: Shape) -> Self {
+        let Shape { width, height, levels } = shape;
+        let needed = order::store_length(width, levels);
+        let mut store = Guarded::unset(needed + SURPLUS);
+        let mut state = [u64::MAX; 16];
+        assert_eq!(reader::set_up(&mut state, shape, store.lent()), Ok(()), "{shape:?}");
+        assert!(store.content()[..needed].iter().all(|&v| v == 0), "set-up zeroes the needed part");
+        let (grids, turns) = (maps::rebuilt(plane, width, height, levels), order::steps(width, height, levels));
+        Play { shape, plane, grids, turns, at: 0, ended: false, state, store }
+    }
+
+    fn step(&self) -> Option<Step> {
+        self.turns.get(self.at).map(|t| t.step)
+    }
+
+    fn row(&self, r: BandRow) -> Vec<i32> {
+        self.plane[order::place(self.shape.width, self.shape.height, r)].to_vec()
+    }
+
+    /// Question 14 of the next step: whether all rows fit that its call makes.
+    fn fits(&self) -> bool {
+        self.turns[self.at].made.iter().all(|m| {
+            let w = maps::side(self.shape.width, m.level);
+            self.grids[m.level][m.first * w..(m.last + 1) * w].iter().all(|&v| maps::fits(m.level, v))
+        })
+    }
+
+    fn want(&self) {
+        let wanted = match self.step() {
+            _ if self.ended => Want::Ended,
+            Some(Step::Feed(r)) => Want::Row(r),
+            Some(Step::Draw(_)) => Want::Draw,
+            None => Want::Done,
+        };
+        assert_eq!(reader::want(&self.state), Ok(wanted), "{:?} at step {}", self.shape, self.at);
+    }
+
+    /// Makes a call that must be answered by `answer`: the surplus stays, and where it is turned away the whole store; but 14 zeroes the
+    /// needed part and ends the reader.
+    fn call<T: PartialEq + std::fmt::Debug>(&mut self, answer: Result<T, u32>, run: impl FnOnce(&mut State, &mut [i32]) -> Result<T, u32>) {
+        let mut state = self.state;
+        let before = if answer.is_err() { self.store.content().to_vec() } else { Vec::new() };
+        assert_eq!(run(&mut self.state, self.store.lent()), answer, "{:?} at step {}", self.shape, self.at);
+        let needed = self.store.content().len() - SURPLUS;
+        assert!(self.store.is_unset_from(needed), "the surplus of the store is touched");
+        if answer == Err(14) {
+            self.ended = true;
+            state[ENDED] = 1;
+            assert_eq!(self.state, state, "14 ends the reader, and its other numbers stay");
+            assert!(self.store.content()[..needed].iter().all(|&v| v == 0), "14 zeroes the needed part");
+        } else {
+            assert!(answer.is_ok() || self.store.content() == before, "a refusal changes nothing");
+        }
+    }
+
+    fn feed(&mut self, run: &[i32]) -> Result<(), u32> {
+        let answer = match self.step() {
+            _ if self.ended => Err(9),
+            Some(Step::Feed(r)) if run.len() != r.length => Err(13),
+            Some(Step::Feed(r)) if run.iter().any(|&v| i64::from(v).abs() > maps::range(r.level)) => Err(7),
+            Some(Step::Feed(_)) if !self.fits() => Err(14),
+            Some(Step::Feed(_)) => Ok(()),
+            _ => Err(8),
+        };
+        self.call(answer, |state, store| reader::feed(state, store, run));
+        self.at += usize::from(answer.is_ok());
+        answer
+    }
+
+    fn draw(&mut self, room: usize) -> Result<usize, u32> {
+        let width = self.shape.width;
+        let answer = match self.step() {
+            _ if self.ended => Err(9),
+            Some(Step::Draw(_)) if room < width => Err(12),
+            Some(Step::Draw(_)) if !self.fits() => Err(14),
+            Some(Step::Draw(_)) => Ok(width),
+            _ => Ok(0),
+        };
+        let mut out = Guarded::<u16>::unset(room);
+        self.call(answer, |state, store| reader::draw(state, store, out.lent()));
+        if let (Ok(1..), Some(Step::Draw(row))) = (answer, self.step()) {
+            let expected: Vec<u16> = self.grids[0][row * width..(row + 1) * width].iter().map(|&v| u16::try_from(v).unwrap()).collect();
+            assert_eq!(out.content()[..width], expected, "{:?}: height row {row}", self.shape);
+            self.at += 1;
+        }
+        assert!(out.is_unset_from(answer.unwrap_or(0)), "the surplus of the output area is touched");
+        answer
+    }
+
+    /// Calls at a wrong moment, of a wrong length, with an area too short or with a number out of range.
+    fn wrongly(&mut self, random: &mut Random) {
+        let short = self.store.content().len() - SURPLUS - 1;
+        match random.below(6) {
+            0 => {
+                let mut out = Guarded::<u16>::unset(self.shape.width);
+                self.call(Err(5), |state, store| reader::feed(state, &mut store[..short], &[1]));
+                self.call(Err(5), |state, store| reader::draw(state, &mut store[..short], out.lent()));
+                assert!(out.is_unset_from(0));
+            }
+            1 if !matches!(self.step(), Some(Step::Draw(_))) => {
+                let _ = self.draw(self.shape.width + random.below(3));
+            }
+            1 | 2 => {
+                let _ = self.draw(random.below(self.shape.width));
+            }
+            3 => match self.step() {
+                Some(Step::Feed(r)) if !self.ended => {
+                    for len in [0, r.length - 1, r.length + 1, self.shape.width + 7] {
+                        if len != r.length {
+                            assert_eq!(self.feed(&vec![0; len]), Err(13));
+                        }
+                    }
+                }
+                _ => {
+                    let _ = self.feed(&vec![0; random.below(4)]);
+                }
+            },
+            4 => {
+                if let (Some(Step::Feed(r)), false) = (self.step(), self.ended) {
+                    let mut run = vec![0; r.length];
+                    let reach = maps::range(r.level) as i32;
+                    run[random.below(r.length)] = [reach + 1, -reach - 1, i32::MIN, i32::MAX][random.below(4)];
+                    assert_eq!(self.feed(&run), Err(7));
+                }
+            }
+            _ => self.want(),
+        }
+    }
+
+    /// Feeds and draws as wanted until Done or until a question says no: its number, or 0.
+    fn run(&mut self, random: &mut Random) -> u32 {
+        loop {
+            self.want();
+            if random.below(4) == 0 {
+                self.wrongly(random);
+                self.want();
+            }
+            let answer = match self.step() {
+                Some(Step::Feed(r)) => self.feed(&self.row(r)),
+                Some(Step::Draw(_)) => self.draw(self.shape.width + [0, 0, 3][random.below(3)]).map(|_| ()),
+                None => break,
+            };
+            if let Err(number) = answer {
+                for _ in 0..4 {
+                    self.wrongly(random);
+                }
+                self.want();
+                return number;
+            }
+        }
+        for _ in 0..4 {
+            self.wrongly(random);
+        }
+        self.want();
+        0
+    }
+}
+
+#[test]
+fn every_small_size_at_every_level_count() {
+    let mut random = Random::new(21);
+    for width in 1..=9 {
+        for height in 1..=9 {
+            for levels in 1..=MAX_LEVELS {
+                for heights in maps::maps(width, height) {
+                    let plane = maps::forward(&heights, width, height, levels);
+                    assert_eq!(Play::new(&plane, Shape { width, height, levels }).run(&mut random), 0);
+                }
+            }
+        }
+    }
+}
+
+#[test]
+fn single_columns_and_single_rows() {
+    let mut random = Random::new(22);
+    for long in (1..=70).chain([127, 128, 129, 333, 1_025]) {
+        for levels in 1..=MAX_LEVELS {
+            for (width, height) in [(1, long), (long, 1), (2, long), (long, 2)] {
+                let mut all = maps::maps(width, height);
+                let plane = maps::forward(&all.swap_remove(random.below(all.len())), width, height, levels);
+                assert_eq!(Play::new(&plane, Shape { width, height, levels }).run(&mut random), 0);
+            }
+        }
+    }
+}
+
+#[test]
+fn larger_and_odd_sizes() {
+    let mut random = Random::new(23);
+    let mut shapes: Vec<(usize, usize)> = (0..50).map(|_| (1 + random.below(130), 1 + random.below(70))).collect();
+    shapes.extend((0..10).map(|_| (1 + random.below(MAX_WIDTH), 1 + random.below(12))));
+    shapes.extend([(2_049, 1), (2_049, 2), (2_049, 9), (2_048, 6), (2_047, 5), (1_025, 34), (1, MAX_HEIGHT), (2, 40_001)]);
+    for (width, height) in shapes {
+        for levels in [1, 2 + random.below(3), MAX_LEVELS] {
+            let mut all = maps::maps(width, height);
+            let plane = maps::forward(&all.swap_remove(random.below(all.len())), width, height, levels);
+            assert_eq!(Play::new(&plane, Shape { width, height, levels }).run(&mut random), 0);
+        }
+    }
+}
+
+/// A plane with one to three numbers changed: to the ends of their range, past them, a little, or to anything.
+fn damaged(s: Shape, random: &mut Random) -> Vec<i32> {
+    let all = maps::maps(s.width, s.height);
+    let mut plane = maps::forward(&all[random.below(all.len())], s.width, s.height, s.levels);
+    for _ in 0..1 + random.below(3) {
+        let i = random.below(plane.len());
+        let reach = maps::range(maps::level_at(s.width, s.height, s.levels, i / s.width, i % s.width)) as i32;
+        plane[i] = match random.below(8) {
+            0 => reach,
+            1 => -reach,
+            2 => reach + 1,
+            3 => random.word(),
+            4 => plane[i].wrapping_add(1),
+            5 => plane[i].wrapping_sub(1),
+            _ => plane[i].wrapping_add(random.below(9) as i32 - 4),
+        };
+    }
+    plane
+}
+
+/// "7 or 14 before Done exactly where the whole map backward refuses": which of the two, and in which call, is the model's.
+fn same_verdict(plane: &[i32], s: Shape, random: &mut Random) -> u32 {
+    let number = Play::new(plane, s).run(random);
+    let n = s.width * s.height;
+    let whole = map::backward(plane, s, &mut vec![0; n], &mut vec![0; n]);
+    assert_eq!(number == 0, whole == 0, "{s:?}: the reader gives {number}, the whole map {whole}");
+    assert_eq!(number == 0, maps::map_of(plane, s.width, s.height, s.levels).is_some(), "{s:?}");
+    assert!([0, 7, 14].contains(&number), "{s:?}: {number}");
+    number
+}
+
+#[test]
+fn damaged_planes() {
+    let mut random = Random::new(24);
+    let mut seen = [0; 15];
+    for _ in 0..12_000 {
+        let (a, b, levels) = (1 + random.below(9), 1 + random.below(9), 1 + random.below(MAX_LEVELS));
+        // one column and one row above all: sets without a fed row of their own
+        let (width, height) = [(a, b), (1, b), (1, 4 * b + a), (a, 1)][random.below(4)];
+        let s = Shape { width, height, levels };
+        let plane = damaged(s, &mut random);
+        seen[same_verdict(&plane, s, &mut random) as usize] += 1;
+    }
+    assert!([0, 7, 14].iter().all(|&q: &usize| seen[q] > 500), "each answer is tried often: {seen:?}");
+}
+
+#[test]
+fn planes_of_noise() {
+    let mut random = Random::new(25);
+    for _ in 0..3_000 {
+        let s = Shape { width: 1 + random.below(4), height: 1 + random.below(9), levels: 1 + random.below(MAX_LEVELS) };
+        let plane: Vec<i32> = (0..s.width * s.height)
+            .map(|i| {
+                let reach = maps::range(maps::level_at(s.width, s.height, s.levels, i / s.width, i % s.width)) as i32;
+                [random.below(65_536) as i32, random.below(9) as i32 - 4, reach, -reach][random.below(4)]
+            })
+            .collect();
+        same_verdict(&plane, s, &mut random);
+    }
+}
+
+#[test]
+fn the_samples_of_the_scope() {
+    let column = Shape { width: 1, height: 4, levels: 2 };
+    let plane = [4, 1, 3, 5];
+    let mut play = Play::new(&plane, column);
+    let mut wants = Vec::new();
+    while let Want::Row(r) = reader::want(&play.state).unwrap() {
+        wants.push((r.level, r.band, r.row));
+        play.feed(&play.row(r)).unwrap();
+        while let Some(Step::Draw(_)) = play.step() {
+            play.draw(1).unwrap();
+        }
+    }
+    assert_eq!(wants, [(2, order::LL, 0), (2, order::LH, 0), (1, order::LH, 0), (1, order::LH, 1)]);
+    assert_eq!(play.grids[0], [1, 4, 2, 7]);
+    let one = Shape { width: 1, height: 1, levels: 5 };
+    assert_eq!(Play::new(&[65_535], one).run(&mut Random::new(1)), 0);
+    assert_eq!(Play::new(&[65_536], one).run(&mut Random::new(1)), 14);
+}
+
+/// Through a writer and a reader, with nothing between them but the rows: the heights again.
+fn round_trip(heights: &[u16], s: Shape) {
+    let needed = order::store_length(s.width, s.levels);
+    let (mut state, mut store) = ([0; 16], Guarded::unset(needed));
+    assert_eq!(writer::set_up(&mut state, s.width, s.levels, store.lent()), Ok(()));
+    let mut rows: HashMap<(usize, usize, usize), Vec<i32>> = HashMap::new();
+    let mut out = vec![0; s.width];
+    let mut taken = 0;
+    loop {
+        if let Some(r) = writer::draw(&mut state, store.lent(), &mut out).unwrap() {
+            assert!(rows.insert((r.level, r.band, r.row), out[..r.length].to_vec()).is_none(), "{s:?}: {r:?} twice");
+        } else if taken < heights.len() {
+            taken += writer::offer(&mut state, store.lent(), &heights[taken..]).unwrap();
+        } else if writer::finish(&mut state, store.lent()) == Err(9) {
+            break;
+        }
+    }
+    assert_eq!(reader::set_up(&mut state, s, store.lent()), Ok(()));
+    let mut drawn: Vec<u16> = Vec::new();
+    let mut line = vec![0; s.width];
+    loop {
+        match reader::want(&state).unwrap() {
+            Want::Row(r) => {
+                let run = rows.remove(&(r.level, r.band, r.row)).expect("a row that the writer made, once");
+                reader::feed(&mut state, store.lent(), &run).unwrap();
+            }
+            Want::Draw => {
+                assert_eq!(reader::draw(&mut state, store.lent(), &mut line), Ok(s.width));
+                drawn.extend_from_slice(&line);
+            }
+            Want::Done => break,
+            Want::Ended => panic!("{s:?}: a map's rows are refused"),
+        }
+    }
+    store.content();
+    assert!(rows.is_empty(), "{s:?}: every row is wanted");
+    assert_eq!(drawn, heights, "{s:?}");
+}
+
+#[test]
+fn round_trips() {
+    for width in 1..=12 {
+        for height in 1..=12 {
+            for levels in 1..=MAX_LEVELS {
+                for heights in maps::maps(width, height) {
+                    round_trip(&heights, Shape { width, height, levels });
+                }
+            }
+        }
+    }
+    for (width, height) in [(2_049, 65), (2_048, 33), (1_000, 100), (1, 65_535), (3, 9_999), (2_049, 1)] {
+        for levels in [1, 3, MAX_LEVELS] {
+            for heights in maps::maps(width, height) {
+                round_trip(&heights, Shape { width, height, levels });
+            }
+        }
+    }
+}
+
+#[test]
+fn the_questions_of_set_up() {
+    let refused = |s: Shape, len: usize, number: u32| {
+        let mut store = Guarded::unset(len);
+        assert_eq!(reader::set_up(&mut [7; 16], s, store.lent()), Err(number), "{s:?} {len}");
+        assert!(store.is_unset_from(0));
+    };
+    let ok = Shape { width: 3, height: 3, levels: 2 };
+    for width in [0, MAX_WIDTH + 1, 1 << 32, usize::MAX] {
+        for height in [0, 3, usize::MAX] {
+            for levels in [0, 2, 6] {
+                refused(Shape { width, height, levels }, 0, 2);
+            }
+        }
+    }
+    for height in [0, MAX_HEIGHT + 1, usize::MAX] {
+        for levels in [0, 2, usize::MAX] {
+            refused(Shape { height, levels, ..ok }, 0, 3);
+        }
+    }
+    for levels in [0, MAX_LEVELS + 1, usize::MAX] {
+        refused(Shape { levels, ..ok }, 0, 4);
+    }
+    for width in [1, 2, 3, 9, MAX_WIDTH] {
+        for height in [1, 2, MAX_HEIGHT] {
+            for levels in 1..=MAX_LEVELS {
+                let s = Shape { width, height, levels };
+                let needed = order::store_length(width, levels);
+                refused(s, needed - 1, 5);
+                let mut store = Guarded::unset(needed);
+                assert_eq!(reader::set_up(&mut [7; 16], s, store.lent()), Ok(()));
+                assert!(store.content().iter().all(|&v| v == 0));
+            }
+        }
+    }
+}
+
+#[test]
+fn a_made_row_is_drawn_modulo_65_536_whatever_the_store_holds() {
+    let mut random = Random::new(26);
+    for _ in 0..500 {
+        let s = Shape { width: 1 + random.below(9), height: 1 + random.below(9), levels: 1 + random.below(MAX_LEVELS) };
+        let plane = vec![0; s.width * s.height];
+        let mut play = Play::new(&plane, s);
+        let until = random.below(play.turns.len());
+        while play.at < until {
+            match play.step() {
+                Some(Step::Feed(r)) => play.feed(&play.row(r)),
+                _ => play.draw(s.width).map(|_| ()),
+            }
+            .unwrap();
+        }
+        if matches!(play.step(), Some(Step::Draw(_))) && play.turns[until].made.is_empty() {
+            let word = random.word();
+            play.store.lent().iter_mut().for_each(|v| *v = word);
+            let mut out = Guarded::<u16>::unset(s.width + 1);
+            assert_eq!(reader::draw(&mut play.state, play.store.lent(), out.lent()), Ok(s.width));
+            assert!(out.content()[..s.width].iter().all(|&h| h == word as u16), "{s:?}");
+            assert!(out.is_unset_from(s.width) && play.store.content().iter().all(|&v| v == word));
+        }
+    }
+}
+
+/// The counts of a reader, as docs/STATE.md lists them: whether question 1 passes.
+fn counts_fit(s: &State) -> bool {
+    let [kind, width, height, levels, drawn, level, band, ended, ..] = *s;
+    kind == 2
+        && (1..=2_049).contains(&width)
+        && (1..=65_535).contains(&height)
+        && (1..=5).contains(&levels)
+        && drawn <= height
+        && level <= levels
+        && band <= 4
+        && ended <= 1
+        && s[8..].iter().all(|&n| n == 0)
+}
+
+/// All calls on a state and a store, whatever they hold: each returns, answers 1 or 5 exactly where it must, and stays in its areas.
+fn bear(state: &State, store: &[i32], random: &mut Random) {
+    let fit = counts_fit(state);
+    let needed = if fit { order::store_length(state[1] as usize, state[3] as usize) } else { 0 };
+    let first = if !fit {
+        Some(1)
+    } else if store.len() < needed {
+        Some(5)
+    } else {
+        None
+    };
+    let want = reader::want(state);
+    assert_eq!(want.is_err(), !fit, "{state:?}");
+    assert!(fit || want == Err(1));
+    let mut len = random.below(9);
+    if let Ok(Want::Row(r)) = want {
+        assert!(r.level >= 1 && r.level <= state[3] as usize && r.band <= 3 && r.length <= state[1] as usize);
+        len = r.length + usize::from(random.below(8) == 0);
+    }
+    let run: Vec<i32> = (0..len).map(|_| [random.below(65_536) as i32, 0, random.word()][random.below(3)]).collect();
+    let room = [0, 1, 8, 40, 2_049][random.below(5)];
+    for call in 0..2 {
+        let mut kept = *state;
+        let mut lent = Guarded::new(store);
+        let mut out = Guarded::<u16>::unset(room);
+        let mut length = 0;
+        let answer = match call {
+            0 => reader::feed(&mut kept, lent.lent(), &run),
+            _ => reader::draw(&mut kept, lent.lent(), out.lent()).map(|n| length = n),
+        };
+        assert!(length == 0 || length == state[1] as usize);
+        assert!(out.is_unset_from(length));
+        assert_eq!(lent.content()[needed.min(store.len())..], store[needed.min(store.len())..], "the surplus is touched");
+        match answer {
+            Ok(()) => assert_eq!(first, None, "{state:?}"),
+            Err(14) => {
+                assert!(first.is_none() && kept[ENDED] == 1 && state[ENDED] == 0);
+                assert!(lent.content()[..needed].iter().all(|&v| v == 0), "14 zeroes the needed part");
+            }
+            Err(number) => {
+                assert_eq!(lent.content(), store, "a refusal changes nothing");
+                let others: &[u32] = [&[7, 8, 9, 13][..], &[9, 12]][call];
+                assert!(first == Some(number) || (first.is_none() && others.contains(&number)), "{number} of {state:?}");
+            }
+        }
+    }
+}
+
+#[test]
+fn states_nobody_reached_and_scribbled_stores() {
+    let mut random = Random::new(27);
+    let mut passed = 0;
+    for _ in 0..60_000 {
+        let width = [1, 1, 2, 3, 5, 8, 17, 2_049][random.below(8)] as u64;
+        let height = [1 + random.below(12), 1 + random.below(65_535), 65_535][random.below(3)] as u64;
+        let levels = 1 + random.below(5) as u64;
+        let up_to = |random: &mut Random, n: u64| random.below(n as usize + 1) as u64;
+        let mut state = [0; 16];
+        state[..8].copy_from_slice(&[
+            2,
+            width,
+            height,
+            levels,
+            up_to(&mut random, height),
+            up_to(&mut random, levels),
+            up_to(&mut random, 4),
+            u64::from(random.below(8) == 0),
+        ]);
+        if random.below(3) == 0 {
+            let i = random.below(16);
+            state[i] = [0, 1, 2, 6, 2_050, 65_536, 1 << 32, u64::MAX][random.below(8)];
+        }
+        passed += usize::from(counts_fit(&state));
+        let needed = order::store_length(width as usize, levels as usize);
+        let len = needed + [0, 3, 11][random.below(3)] - usize::from(random.below(5) == 0);
+        let store: Vec<i32> = match random.below(3) {
+            0 => vec![[i32::MIN, i32::MAX, -1][random.below(3)]; len],
+            1 => (0..len).map(|_| random.below(65_536) as i32).collect(),
+            _ => (0..len).map(|_| random.word()).collect(),
+        };
+        bear(&state, &store, &mut random);
+    }
+    assert!(passed > 30_000, "{passed} states pass question 1");
+}
+
+#[test]
+fn a_store_scribbled_in_between_two_calls() {
+    let mut random = Random::new(28);
+    for _ in 0..3_000 {
+        let s = Shape { width: 1 + random.below(9), height: 1 + random.below(12), levels: 1 + random.below(MAX_LEVELS) };
+        let plane = vec![32_768; s.width * s.height];
+        let mut play = Play::new(&plane, s);
+        // wants never depend on what the store holds, and every call returns: it goes on, or ends in 14
+        while let Some(turn) = play.turns.get(play.at) {
+            play.want();
+            if random.below(3) == 0 {
+                let i = random.below(play.store.content().len() - SURPLUS);
+                play.store.lent()[i] = [random.word(), random.below(65_536) as i32][random.below(2)];
+            }
+            let mut out = Guarded::<u16>::unset(s.width);
+            let answer = match turn.step {
+                Step::Feed(r) => reader::feed(&mut play.state, play.store.lent(), &vec![0; r.length]),
+                Step::Draw(_) => reader::draw(&mut play.state, play.store.lent(), out.lent()).map(|n| assert_eq!(n, s.width)),
+            };
+            assert!(play.store.is_unset_from(play.store.content().len() - SURPLUS));
+            if let Err(number) = answer {
+                assert!(number == 14 && out.is_unset_from(0));
+                play.ended = true;
+                break;
+            }
+            play.at += 1;
+        }
+        play.want();
+    }
+}
+
+#[test]
+fn a_writer_s_state_is_no_reader_s() {
+    let mut store = vec![0; order::store_length(3, 2)];
+    let (mut of_writer, mut of_reader) = ([0; 16], [0; 16]);
+    assert_eq!(writer::set_up(&mut of_writer, 3, 2, &mut store), Ok(()));
+    assert_eq!(reader::set_up(&mut of_reader, Shape { width: 3, height: 3, levels: 2 }, &mut store), Ok(()));
+    assert_eq!(reader::want(&of_writer), Err(1));
+    assert_eq!(reader::feed(&mut of_writer, &mut store, &[0, 0]), Err(1));
+    assert_eq!(reader::draw(&mut of_writer, &mut store, &mut [0; 3]), Err(1));
+    assert_eq!(writer::offer(&mut of_reader, &mut store, &[0]), Err(1));
+    assert_eq!(writer::draw(&mut of_reader, &mut store, &mut [0; 3]), Err(1));
+    assert_eq!(writer::finish(&mut of_reader, &mut store), Err(1));
+}
