@@ -2,6 +2,19 @@ pub mod HeightLaws
 pub mod AreaLaws
 pub mod WeaveLaws
 pub mod SetLaws
+pub mod OpenedSets
+pub mod StepsLeft
+pub mod RowsIn
+pub mod SetMade
+pub mod Holds
+pub mod CallLaws
+pub mod CallViews
+pub mod Outcomes
+pub mod Keeps
+pub mod Reached
+pub mod Rebuilt
+pub mod Demand3
+pub mod Played
 pub mod SlotLaws
 pub mod RangeLaws
 pub mod WorkLaws
@@ -12,4 +25,3 @@ pub mod PartLaws
 pub mod KeptLaws
 pub mod QuestionLaws
 pub mod StepLaws
-pub mod CallLaws

@@ -10,3 +10,6 @@ pub mod State
 pub mod Questions
 pub mod Calls
 pub mod Inside
+pub mod Holds
+pub mod Demand3
+pub mod Played

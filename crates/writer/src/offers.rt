@@ -3,7 +3,7 @@ use crate::Writer;
 use crate::cascade;
 use crate::counts;
 ghost use mathlib.Core.Path.{_≡_};
-ghost use Prim.Native.Nat.{ℕ, _+_, _*_, _<_, _≤_};
+ghost use Prim.Native.Nat.{_+_, _*_, _<_, _≤_};
 ghost use lib.ListN.{length};
 ghost use Rattle.numbers.specs.Signal.{at};
 ghost use Rattle.writer.specs.Taking.{heightAt};

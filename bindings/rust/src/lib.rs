@@ -1,0 +1,94 @@
+//! Height maps to wavelet coefficients and back, exactly: safe Rust over the proved library (`include/terrain.h`).
+//!
+//! Nothing is allocated: the caller lends slices. Every call is a `Result`; its error is the [`Question`] that turned the call away, and it
+//! prints a sentence. A call turned away has changed nothing that was lent to it, but for question 14, which ends a [`Reader`].
+//!
+//! ```
+//! use terrain::{store_length, Reader, Want, Writer};
+//!
+//! # fn main() -> Result<(), terrain::Question> {
+//! let (width, height, levels) = (1, 4, 2);
+//! let mut store = vec![0; store_length(width, levels)];
+//! let mut line = vec![0; width];
+//! let mut rows = Vec::new();
+//!
+//! let mut writer = Writer::new(width, levels, &mut store)?;
+//! let mut heights: &[u16] = &[1, 4, 2, 7];
+//! while !heights.is_empty() {
+//!     let taken = writer.offer(heights)?;
+//!     heights = &heights[taken..];
+//!     while let Some((row, values)) = writer.draw(&mut line)? {
+//!         rows.push((row, values.to_vec()));
+//!     }
+//! }
+//! writer.finish()?;
+//! while let Some((row, values)) = writer.draw(&mut line)? {
+//!     rows.push((row, values.to_vec()));
+//! }
+//!
+//! let mut reader = Reader::new(width, height, levels, &mut store)?;
+//! let mut line = vec![0; width];
+//! let mut again = Vec::new();
+//! loop {
+//!     match reader.want()? {
+//!         Want::Row(row) => reader.feed(&rows.iter().find(|(r, _)| *r == row).expect("the writer made it").1)?,
+//!         Want::Draw => again.extend_from_slice(reader.draw(&mut line)?.expect("a row to draw")),
+//!         Want::Done => break,
+//!         Want::Ended => unreachable!("the rows are a map's"),
+//!     }
+//! }
+//! assert_eq!(again, [1, 4, 2, 7]);
+//! # Ok(())
+//! # }
+//! ```
+mod line;
+mod map;
+mod question;
+mod raw;
+mod reader;
+mod writer;
+
+pub use line::{line_backward, line_forward};
+pub use map::{band_row, map_backward, map_forward, view, Shape};
+pub use question::{Call, Question};
+pub use reader::{Reader, Want};
+pub use writer::Writer;
+
+/// The largest width of a map.
+pub const MAX_WIDTH: usize = 2_049;
+/// The largest height of a map.
+pub const MAX_HEIGHT: usize = 65_535;
+/// The largest number of levels.
+pub const MAX_LEVELS: usize = 5;
+
+/// A band of a level. The first letter is horizontal: `Hl` is high along rows, low along columns.
+#[derive(Clone, Copy, Debug, PartialEq, Eq, Hash)]
+pub enum Band {
+    Ll = 0,
+    Hl = 1,
+    Lh = 2,
+    Hh = 3,
+}
+
+/// A band row: its level (1 the finest), band, number and length.
+#[derive(Clone, Copy, Debug, PartialEq, Eq, Hash)]
+pub struct BandRow {
+    pub level: usize,
+    pub band: Band,
+    pub row: usize,
+    pub length: usize,
+}
+
+impl BandRow {
+    /// As the library names it: level, band, number, length.
+    fn of([level, band, row, length]: [u64; 4]) -> BandRow {
+        let band = [Band::Ll, Band::Hl, Band::Lh, Band::Hh][band as usize];
+        BandRow { level: level as usize, band, row: row as usize, length: length as usize }
+    }
+}
+
+/// How many numbers the line store of a writer or reader needs; 0 where no set-up passes.
+pub fn store_length(width: usize, levels: usize) -> usize {
+    // SAFETY: numbers only.
+    unsafe { raw::terrain_store_length(width, levels) }
+}

@@ -1,0 +1,82 @@
+//! The question that turned a call away.
+use std::fmt;
+
+/// A call of the library.
+#[derive(Clone, Copy, Debug, PartialEq, Eq, Hash)]
+pub enum Call {
+    Line,
+    MapForward,
+    MapBackward,
+    View,
+    WriterSetUp,
+    Offer,
+    WriterDraw,
+    Finish,
+    ReaderSetUp,
+    Want,
+    Feed,
+    ReaderDraw,
+}
+
+/// Why a call was turned away: the first question that said no. Prints a sentence.
+#[derive(Clone, Copy, Debug, PartialEq, Eq, Hash)]
+pub struct Question {
+    /// The call that was turned away.
+    pub call: Call,
+    /// The question's number, 1 to 14.
+    pub number: u32,
+}
+
+impl Question {
+    /// What a call's answer says.
+    pub(crate) fn of(call: Call, number: u32) -> Result<(), Question> {
+        if number == 0 {
+            Ok(())
+        } else {
+            Err(Question { call, number })
+        }
+    }
+
+    /// Why, and what the caller can do about it.
+    pub fn sentence(&self) -> &'static str {
+        match (self.number, self.call) {
+            (1, _) => "the state is none that its calls made: a count is outside its range",
+            (2, _) => "the width is not 1 to 2,049",
+            (3, _) => "the height is not 1 to 65,535",
+            (4, _) => "the number of levels is not 1 to 5",
+            (5, Call::Line) => "the output is shorter than the line",
+            (5, Call::WriterSetUp | Call::ReaderSetUp) => {
+                "the line store is too short: lend it store_length(width, levels) numbers"
+            }
+            (5, Call::MapForward | Call::MapBackward) => {
+                "heights, plane or work area is shorter than width times height"
+            }
+            (5, Call::View) => "the plane is shorter than width times height",
+            (5, _) => "the line store is too short",
+            (6, _) => "there is no such band row at this level",
+            (7, _) => "a coefficient is outside its level's range, so no map has it",
+            (8, Call::Feed) => {
+                "no band row is wanted now: draw the height row that can be drawn, or stop, if all are drawn"
+            }
+            (8, _) => "a band row waits: draw until nothing is left, then call again",
+            (9, Call::Feed | Call::ReaderDraw) => "the reader has ended: no map has the rows that were fed",
+            (9, _) => "the writer is finished",
+            (10, _) => "the map already has 65,535 rows, the most that it can have",
+            (11, _) => "the map has no row yet, or its last row is not complete",
+            (12, Call::ReaderDraw) => "the output is shorter than a height row, which is as long as the map is wide",
+            (12, _) => "the output is shorter than the band row that waits",
+            (13, _) => "the run has not exactly the length of the band row that is wanted",
+            (14, Call::MapBackward) => "no map has this plane",
+            (14, _) => "no map has the rows that were fed: the reader has ended",
+            _ => "no question has this number",
+        }
+    }
+}
+
+impl fmt::Display for Question {
+    fn fmt(&self, f: &mut fmt::Formatter<'_>) -> fmt::Result {
+        write!(f, "{} (question {})", self.sentence(), self.number)
+    }
+}
+
+impl std::error::Error for Question {}

@@ -1,0 +1,140 @@
+//! The wrapper's calls on small maps: there and back, and every question that a caller can meet.
+use std::collections::HashMap;
+use terrain::*;
+
+fn map(width: usize, height: usize) -> Vec<u16> {
+    (0..width * height).map(|i| (i as u64 * 2_654_435_761 % 65_536) as u16).collect()
+}
+
+fn draw_all(writer: &mut Writer, line: &mut [i32], rows: &mut HashMap<BandRow, Vec<i32>>) {
+    while let Some((row, values)) = writer.draw(line).unwrap() {
+        assert!(rows.insert(row, values.to_vec()).is_none());
+    }
+}
+
+/// The rows of a map through a writer, in offers of `cut` heights.
+fn rows_of(heights: &[u16], s: Shape, cut: usize) -> HashMap<BandRow, Vec<i32>> {
+    let mut store = vec![7; store_length(s.width, s.levels) + 3];
+    let (mut line, mut rows) = (vec![0; s.width], HashMap::new());
+    let mut writer = Writer::new(s.width, s.levels, &mut store).unwrap();
+    let mut rest = heights;
+    while !rest.is_empty() {
+        let taken = writer.offer(&rest[..cut.min(rest.len())]).unwrap();
+        rest = &rest[taken..];
+        draw_all(&mut writer, &mut line, &mut rows);
+    }
+    writer.finish().unwrap();
+    draw_all(&mut writer, &mut line, &mut rows);
+    assert_eq!(&store[store.len() - 3..], [7; 3]);
+    rows
+}
+
+fn heights_of(rows: &HashMap<BandRow, Vec<i32>>, s: Shape) -> Result<Vec<u16>, Question> {
+    let mut store = vec![0; store_length(s.width, s.levels)];
+    let mut reader = Reader::new(s.width, s.height, s.levels, &mut store)?;
+    let (mut line, mut heights) = (vec![0; s.width], Vec::new());
+    loop {
+        match reader.want()? {
+            Want::Row(row) => reader.feed(&rows[&row])?,
+            Want::Draw => heights.extend_from_slice(reader.draw(&mut line)?.expect("a row to draw")),
+            Want::Done => return Ok(heights),
+            Want::Ended => panic!("14 was answered before"),
+        }
+    }
+}
+
+#[test]
+fn writer_reader_and_whole_map_agree() {
+    for (width, height) in [(1, 1), (1, 4), (4, 1), (2, 2), (5, 3), (9, 17), (33, 20)] {
+        for levels in 1..=MAX_LEVELS {
+            let s = Shape { width, height, levels };
+            let heights = map(width, height);
+            let n = width * height;
+            let (mut plane, mut work) = (vec![0; n], vec![1; n]);
+            map_forward(&heights, s, &mut plane, &mut work).unwrap();
+            assert_eq!(work, vec![0; n]);
+            for cut in [1, 3, n] {
+                let rows = rows_of(&heights, s, cut);
+                assert_eq!(rows.values().map(Vec::len).sum::<usize>(), n, "{s:?}");
+                for (r, values) in &rows {
+                    assert_eq!(view(&plane, s, r.level, r.band, r.row).unwrap(), values, "{s:?} {r:?}");
+                }
+                assert_eq!(heights_of(&rows, s).unwrap(), heights, "{s:?}");
+            }
+            let mut again = vec![0; n];
+            map_backward(&plane, s, &mut again, &mut work).unwrap();
+            assert_eq!(again, heights);
+        }
+    }
+}
+
+#[test]
+fn a_line() {
+    let (mut out, mut again) = ([0; 5], [0; 5]);
+    line_forward(&[1, 4, 2, 7, 3], &mut out).unwrap();
+    assert_eq!(out, [3, 4, 6, 3, 5]);
+    line_backward(&out, &mut again).unwrap();
+    assert_eq!(again, [1, 4, 2, 7, 3]);
+    assert_eq!(line_forward(&[1, 2], &mut out[..1]).unwrap_err().number, 5);
+}
+
+#[test]
+fn the_questions() {
+    let number = |e: Question| e.number;
+    let mut store = [0; 40];
+    assert_eq!(Writer::new(0, 1, &mut store).unwrap_err().number, 2);
+    assert_eq!(Reader::new(1, 65_536, 1, &mut store).unwrap_err().number, 3);
+    assert_eq!(Writer::new(1, 6, &mut store).unwrap_err().number, 4);
+    assert_eq!(Writer::new(3, 2, &mut store[..19]).unwrap_err().number, 5);
+    assert_eq!((store_length(3, 2), store_length(2_050, 1), store_length(3, 0)), (20, 0, 0));
+
+    let (mut line, mut heights) = ([0; 3], [0; 3]);
+    let mut writer = Writer::new(3, 1, &mut store).unwrap();
+    assert_eq!(writer.finish().map_err(number), Err(11));
+    assert_eq!(writer.offer(&[1, 2]), Ok(2));
+    assert_eq!(writer.finish().map_err(number), Err(11));
+    assert_eq!(writer.draw(&mut []), Ok(None));
+    assert_eq!(writer.offer(&[3]), Ok(1));
+    writer.finish().unwrap();
+    assert_eq!(writer.offer(&[3]).map_err(number), Err(9));
+    assert_eq!(writer.draw(&mut line[..1]).map_err(number), Err(12));
+    let row = BandRow { level: 1, band: Band::Ll, row: 0, length: 2 };
+    assert_eq!(writer.draw(&mut line), Ok(Some((row, &[1, 3][..]))));
+    let mut writer = Writer::new(1, 1, &mut store).unwrap();
+    assert_eq!(writer.offer(&[1, 2, 3, 4]), Ok(3));
+    assert_eq!(writer.offer(&[4]).map_err(number), Err(8));
+
+    let mut reader = Reader::new(1, 1, 1, &mut store).unwrap();
+    assert_eq!(reader.draw(&mut heights), Ok(None));
+    assert_eq!(reader.feed(&[1, 2]).map_err(number), Err(13));
+    assert_eq!(reader.feed(&[262_141]).map_err(number), Err(7));
+    reader.feed(&[9]).unwrap();
+    assert_eq!(reader.feed(&[9]).map_err(number), Err(8));
+    assert_eq!(reader.draw(&mut []).map_err(number), Err(12));
+    assert_eq!(reader.draw(&mut heights), Ok(Some(&[9][..])));
+    assert_eq!(reader.want(), Ok(Want::Done));
+
+    let mut reader = Reader::new(1, 1, 1, &mut store).unwrap();
+    assert_eq!(reader.feed(&[65_536]).map_err(number), Err(14));
+    assert_eq!(reader.want(), Ok(Want::Ended));
+    assert_eq!(reader.feed(&[1]).map_err(number), Err(9));
+    assert_eq!(reader.draw(&mut heights).map_err(number), Err(9));
+
+    let s = Shape { width: 2, height: 1, levels: 1 };
+    assert_eq!(view(&[0; 2], s, 1, Band::Hl, 0), Ok(&[0][..]));
+    assert_eq!(view(&[0; 2], s, 1, Band::Lh, 0).map_err(number), Err(6));
+    assert_eq!(view(&[0; 1], s, 1, Band::Hl, 0).map_err(number), Err(5));
+}
+
+#[test]
+fn a_question_prints_a_sentence() {
+    let e = Writer::new(0, 1, &mut []).unwrap_err();
+    assert_eq!(e.to_string(), "the width is not 1 to 2,049 (question 2)");
+    let mut store = [0; 8];
+    let mut reader = Reader::new(1, 1, 1, &mut store).unwrap();
+    let e: Box<dyn std::error::Error> = Box::new(reader.feed(&[]).unwrap_err());
+    assert_eq!(e.to_string(), "the run has not exactly the length of the band row that is wanted (question 13)");
+    reader.feed(&[1]).unwrap();
+    let e = reader.feed(&[1]).unwrap_err();
+    assert!(e.to_string().starts_with("no band row is wanted now"));
+}

@@ -1,0 +1,206 @@
+/* A file of a map's coefficients: written through the writer, loaded through the reader in reads of any size. C and C++.
+ *
+ * The file: width, height and levels, then every band row in the order in which the reader wants them, so that it is loaded from front to
+ * back. All numbers are 32 bits, the least significant byte first.
+ *
+ * Each function answers 0, or the number of the question that turned a call away (terrain.h), or NO_FILE or NO_MEMORY. */
+#ifndef COEFFICIENTS_H
+#define COEFFICIENTS_H
+
+#include <stdio.h>
+#include <stdlib.h>
+#include <string.h>
+#include <terrain.h>
+
+#include "questions.h"
+
+enum { BAND_ROW, DRAW, DONE, ENDED };  /* want[0] */
+enum { LEVEL = 1, BAND, ROW, LENGTH }; /* the places of want */
+#define NO_FILE 100u
+#define NO_MEMORY 101u
+
+static inline const char *sentence(uint32_t number)
+{
+    return number == NO_FILE ? "the file cannot be opened, written or read to its end"
+        : number == NO_MEMORY ? "there is not enough memory" : question_sentence(number);
+}
+
+/* ---- writing */
+
+/* Every row that waits goes to its place in the plane. `line` has `width` numbers. */
+static inline uint32_t draw_rows(uint64_t state[16], int32_t *store, size_t store_len, int32_t *line,
+                                 int32_t *plane, size_t width, size_t height, size_t levels)
+{
+    for (;;) {
+        uint64_t row[4];
+        size_t start, length;
+        uint32_t no = terrain_writer_draw(state, store, store_len, line, width, row);
+        if (no || row[0] == 0) return no;
+        no = terrain_band_row(width * height, width, height, levels, row[0], row[1], row[2], &start, &length);
+        if (no) return no;
+        memcpy(plane + start, line, length * sizeof *line);
+    }
+}
+
+/* The heights through a writer, into a plane of width * height numbers. */
+static inline uint32_t write_plane(const uint16_t *heights, size_t width, size_t height, size_t levels, int32_t *plane)
+{
+    uint64_t state[16];
+    size_t store_len = terrain_store_length(width, levels), offered = 0, taken;
+    int32_t *store = (int32_t *)malloc((store_len + width + 1) * sizeof *store), *line = store + store_len;
+    uint32_t no = store ? terrain_writer_set_up(state, width, levels, store, store_len) : NO_MEMORY;
+    while (!no && offered < width * height) {
+        no = terrain_writer_offer(state, store, store_len, heights + offered, width * height - offered, &taken);
+        if (!no) offered += taken;
+        if (!no) no = draw_rows(state, store, store_len, line, plane, width, height, levels);
+    }
+    if (!no) no = terrain_writer_finish(state, store, store_len);
+    if (!no) no = draw_rows(state, store, store_len, line, plane, width, height, levels);
+    free(store);
+    return no;
+}
+
+static inline void put_number(FILE *file, uint32_t number)
+{
+    for (int shift = 0; shift < 32; shift += 8) putc((int)(number >> shift & 255), file);
+}
+
+/* The plane's band rows, in the order in which a reader wants them: the reader itself says it. `line` has `width` heights. */
+static inline uint32_t save_rows(FILE *file, const int32_t *plane, size_t width, size_t height, size_t levels,
+                                 uint64_t state[16], int32_t *store, size_t store_len, uint16_t *line)
+{
+    for (;;) {
+        uint64_t want[5];
+        size_t start, length;
+        uint32_t no = terrain_reader_want(state, want);
+        if (no || want[0] == DONE) return no;
+        if (want[0] == ENDED) return 14;
+        if (want[0] == DRAW) {
+            no = terrain_reader_draw(state, store, store_len, line, width, &length);
+        } else {
+            no = terrain_band_row(width * height, width, height, levels, want[LEVEL], want[BAND], want[ROW], &start, &length);
+            for (size_t i = 0; !no && i < length; i++) put_number(file, (uint32_t)plane[start + i]);
+            if (!no) no = terrain_reader_feed(state, store, store_len, plane + start, length);
+        }
+        if (no) return no;
+    }
+}
+
+static inline uint32_t save_plane(FILE *file, const int32_t *plane, size_t width, size_t height, size_t levels)
+{
+    uint64_t state[16];
+    size_t store_len = terrain_store_length(width, levels);
+    int32_t *store = (int32_t *)malloc((store_len + 1) * sizeof *store);
+    uint16_t *line = (uint16_t *)malloc(width * sizeof *line);
+    uint32_t no = store && line ? terrain_reader_set_up(state, width, height, levels, store, store_len) : NO_MEMORY;
+    if (!no) {
+        put_number(file, (uint32_t)width);
+        put_number(file, (uint32_t)height);
+        put_number(file, (uint32_t)levels);
+        no = save_rows(file, plane, width, height, levels, state, store, store_len, line);
+    }
+    free(line);
+    free(store);
+    return no;
+}
+
+static inline uint32_t write_coefficients(const char *path, const uint16_t *heights, size_t width, size_t height, size_t levels)
+{
+    int32_t *plane = (int32_t *)malloc(width * height * sizeof *plane);
+    uint32_t no = plane ? write_plane(heights, width, height, levels, plane) : NO_MEMORY;
+    FILE *file = no ? NULL : fopen(path, "wb");
+    if (!no) no = file ? save_plane(file, plane, width, height, levels) : NO_FILE;
+    if (file) {
+        int lost = ferror(file);
+        if (fclose(file) != 0) lost = 1;
+        if (lost && !no) no = NO_FILE;
+    }
+    free(plane);
+    return no;
+}
+
+/* ---- loading */
+
+/* A file read `read_size` bytes at a time, wherever that cuts a number or a row. */
+typedef struct {
+    FILE *file;
+    unsigned char *bytes;
+    size_t read_size, at, end;
+} Source;
+
+/* 0: the file has no number left. */
+static inline int get_number(Source *from, int32_t *number)
+{
+    uint32_t n = 0;
+    for (int shift = 0; shift < 32; shift += 8) {
+        if (from->at == from->end) {
+            from->at = 0;
+            from->end = fread(from->bytes, 1, from->read_size, from->file);
+            if (from->end == 0) return 0;
+        }
+        n |= (uint32_t)from->bytes[from->at++] << shift;
+    }
+    *number = (int32_t)n;
+    return 1;
+}
+
+static inline uint32_t load_rows(Source *from, size_t width, uint64_t state[16], int32_t *store, size_t store_len, int32_t *run,
+                                 uint16_t *heights)
+{
+    for (;;) {
+        uint64_t want[5];
+        size_t drawn;
+        uint32_t no = terrain_reader_want(state, want);
+        if (no || want[0] == DONE) return no;
+        if (want[0] == ENDED) return 14;
+        if (want[0] == DRAW) {
+            no = terrain_reader_draw(state, store, store_len, heights, width, &drawn);
+            if (!no) heights += drawn;
+        } else {
+            for (size_t i = 0; i < want[LENGTH]; i++)
+                if (!get_number(from, &run[i])) return NO_FILE;
+            no = terrain_reader_feed(state, store, store_len, run, want[LENGTH]);
+        }
+        if (no) return no;
+    }
+}
+
+/* The map's size and its heights; the caller frees them. */
+static inline uint32_t load_map(Source *from, size_t *width, size_t *height, uint16_t **heights)
+{
+    uint64_t state[16];
+    int32_t size[3];
+    for (int i = 0; i < 3; i++)
+        if (!get_number(from, &size[i])) return NO_FILE;
+    *width = (uint32_t)size[0];
+    *height = (uint32_t)size[1];
+    size_t levels = (uint32_t)size[2], store_len = terrain_store_length(*width, levels);
+    int32_t *store = (int32_t *)malloc((store_len + 1) * sizeof *store);
+    if (!store) return NO_MEMORY;
+    /* the reader's own questions tell a good header from a bad one: nothing is allocated by a size that it turned away */
+    uint32_t no = terrain_reader_set_up(state, *width, *height, levels, store, store_len);
+    if (!no) {
+        int32_t *run = (int32_t *)malloc(*width * sizeof *run);
+        *heights = (uint16_t *)malloc(*width * *height * sizeof **heights);
+        no = run && *heights ? load_rows(from, *width, state, store, store_len, run, *heights) : NO_MEMORY;
+        free(run);
+    }
+    free(store);
+    return no;
+}
+
+static inline uint32_t load_coefficients(const char *path, size_t read_size, size_t *width, size_t *height, uint16_t **heights)
+{
+    Source from = {fopen(path, "rb"), (unsigned char *)malloc(read_size), read_size, 0, 0};
+    *heights = NULL;
+    uint32_t no = !from.file ? NO_FILE : !from.bytes ? NO_MEMORY : load_map(&from, width, height, heights);
+    if (from.file) fclose(from.file);
+    free(from.bytes);
+    if (no) {
+        free(*heights);
+        *heights = NULL;
+    }
+    return no;
+}
+
+#endif
