@@ -1,4 +1,4 @@
-// The copies: heights into the store, rows within it, rows out of it. One pass over the numbers each.
+// The copies: rows within the store, and rows out of it. One pass over the numbers each.
 ghost use mathlib.Core.Path.{_≡_};
 ghost use Prim.Native.Nat.{_<_, _≤_, _+_, _*_};
 ghost use lib.IntN.{pos};
