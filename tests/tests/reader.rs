@@ -218,8 +218,8 @@ fn single_columns_and_single_rows() {
 #[test]
 fn larger_and_odd_sizes() {
     let mut random = Random::new(23);
-    let mut shapes: Vec<(usize, usize)> = (0..50).map(|_| (1 + random.below(130), 1 + random.below(70))).collect();
-    shapes.extend((0..10).map(|_| (1 + random.below(MAX_WIDTH), 1 + random.below(12))));
+    let mut shapes: Vec<(usize, usize)> = (0..80).map(|_| (1 + random.below(130), 1 + random.below(70))).collect();
+    shapes.extend((0..20).map(|_| (1 + random.below(MAX_WIDTH), 1 + random.below(12))));
     shapes.extend([(2_049, 1), (2_049, 2), (2_049, 9), (2_048, 6), (2_047, 5), (1_025, 34), (1, MAX_HEIGHT), (2, 40_001)]);
     for (width, height) in shapes {
         for levels in [1, 2 + random.below(3), MAX_LEVELS] {

@@ -140,8 +140,8 @@ fn every_small_size_at_every_level_count() {
 #[test]
 fn larger_and_odd_sizes() {
     let mut random = Random::new(12);
-    let mut shapes: Vec<(usize, usize)> = (0..60).map(|_| (1 + random.below(130), 1 + random.below(70))).collect();
-    shapes.extend((0..12).map(|_| (1 + random.below(MAX_WIDTH), 1 + random.below(12))));
+    let mut shapes: Vec<(usize, usize)> = (0..100).map(|_| (1 + random.below(130), 1 + random.below(70))).collect();
+    shapes.extend((0..24).map(|_| (1 + random.below(MAX_WIDTH), 1 + random.below(12))));
     shapes.extend([(1, 333), (2, 200), (3, 1_001), (333, 1), (2_049, 1), (2_049, 2), (2_049, 9), (2_048, 6), (2_047, 5), (1_025, 34)]);
     for (width, height) in shapes {
         for levels in [1, 2 + random.below(3), MAX_LEVELS] {

@@ -1,177 +1,101 @@
--- A stretch of heights put into a row: its even columns and then its odd ones come to the same as one height after the other. Assumes nothing.
+-- A stretch of heights put into a row a pair at a time comes to the same as one height after the other. Assumes nothing.
 use mathlib.Core.Path.{_≡_, refl, sym, ap, _∙_, fun-ext}
-use Prim.Native.Nat.{ℕ, zero, suc, _+_, _-_, _*_, _/_, _%_, _≤_, _<_}
-use native.Mathlib.Decide.{ℕ-discrete, decLt}
+use mathlib.Core.List.{List}
+use Prim.Native.Nat.{ℕ, zero, suc, _+_, _*_, _/_, _%_, _≤_, _<_}
+use native.Mathlib.Decide.{ℕ-discrete}
 use native.Mathlib.Omega.{arith}
-use lib.IntN.{ℤ}
+use lib.Dec.{eqb}
+use lib.IntN.{ℤ, pos}
+use lib.ListN.{length, set, length-set}
+use lib.Seq.{getD-set-same, getD-set-other}
 use borrow.Author.Tests.{eq-eqb, ne-eqb}
-use Rattle.numbers.specs.Signal.{spliced}
-use Rattle.numbers.proofs.Parts.{splice-below, splice-in, splice-past}
+use Rattle.numbers.specs.Signal.{at}
 use Rattle.lifting.specs.Line.{lo, count}
 use Rattle.wavelet.proofs.SizeLaws.{count-lo}
 use Rattle.writer.specs.FiveThreeLevel.{slot, cellOf}
 use Rattle.writer.specs.Taking.{stored}
 use Rattle.writer.specs.Stretch.{heightsPut}
-use Rattle.writer.proofs.RestLaws.{splice-same}
+use Rattle.writer.proofs.CountLaws.{slot-room}
 
-pub stored-same : (a : ℕ) (v : ℤ) (x : ℕ → ℤ) → stored a v x a ≡ v
+-- a store into a list is a store into its signal
+pub at-stored : (l : List ℤ) (p : ℕ) (v : ℤ) → p < length l → at (set l p v) ≡ stored p v (at l)
 unfolding stored
-stored-same a v x = simp (eq-eqb a a refl)
+at-stored l p v h =
+    fun-ext λ j.
+    elim (ℕ-discrete j p) [
+      | yes e ↦ ap (at (set l p v)) e ∙ getD-set-same l p v (pos 0) h ∙ sym (simp (eq-eqb j p e))
+      | no d ↦ getD-set-other l p j v (pos 0) d ∙ sym (simp (ne-eqb j p d))
+    ]
 
-pub stored-other : (a : ℕ) (v : ℤ) (x : ℕ → ℤ) (j : ℕ) → (j ≡ a → ⊥) → stored a v x j ≡ x j
-unfolding stored
-stored-other a v x j h = simp (ne-eqb j a h)
-
--- ---- one number more, and a number stored before the stretch
-module _ (p : ℕ) (y : ℕ → ℤ) where
-  splice-none : (x : ℕ → ℤ) → spliced p 0 y x ≡ x
-  splice-none x =
-      fun-ext λ j.
-      elim (decLt j p) [
-        | yes h ↦ splice-below p 0 y x j h
-        | no d ↦ splice-past p 0 y x j (omega arith)
-      ]
-
-  splice-more : (k : ℕ) (x : ℕ → ℤ) → spliced p (k + 1) y x ≡ stored (p + k) (y k) (spliced p k y x)
-  splice-more k x =
-      fun-ext λ j.
-      elim (ℕ-discrete j (p + k)) [
-        | yes e ↦
-            let i : j - p ≡ k = omega arith in
-            splice-in p (k + 1) y x j (omega arith) (omega arith) ∙ ap y i ∙ sym (ap (stored (p + k) (y k) (spliced p k y x)) e ∙ stored-same (p + k) (y k) (spliced p k y x))
-        | no d ↦
-            elim (decLt j p) [
-              | yes h ↦ splice-below p (k + 1) y x j h ∙ sym (stored-other (p + k) (y k) _ j d ∙ splice-below p k y x j h)
-              | no g ↦
-                  elim (decLt j (p + k)) [
-                    | yes h ↦ splice-in p (k + 1) y x j (omega arith) (omega arith) ∙ sym (stored-other (p + k) (y k) _ j d ∙ splice-in p k y x j (omega arith) h)
-                    | no f ↦ splice-past p (k + 1) y x j (omega (arith, d)) ∙ sym (stored-other (p + k) (y k) _ j d ∙ splice-past p k y x j (omega arith))
-                  ]
-            ]
-      ]
-
-  splice-stored : (k e : ℕ) (v : ℤ) (x : ℕ → ℤ) → e < p → spliced p k y (stored e v x) ≡ stored e v (spliced p k y x)
-  splice-stored k e v x h =
-      fun-ext λ j.
-      elim (ℕ-discrete j e) [
-        | yes q ↦
-            splice-below p k y (stored e v x) j (omega arith) ∙ ap (stored e v x) q ∙ stored-same e v x
-            ∙ sym (ap (stored e v (spliced p k y x)) q ∙ stored-same e v (spliced p k y x))
-        | no d ↦
-            elim (decLt j p) [
-              | yes g ↦ splice-below p k y (stored e v x) j g ∙ stored-other e v x j d ∙ sym (stored-other e v (spliced p k y x) j d ∙ splice-below p k y x j g)
-              | no g ↦
-                  elim (decLt j (p + k)) [
-                    | yes f ↦ splice-in p k y (stored e v x) j (omega arith) f ∙ sym (stored-other e v (spliced p k y x) j d ∙ splice-in p k y x j (omega arith) f)
-                    | no f ↦ splice-past p k y (stored e v x) j (omega arith) ∙ stored-other e v x j d ∙ sym (stored-other e v (spliced p k y x) j d ∙ splice-past p k y x j (omega arith))
-                  ]
-            ]
-      ]
-
--- ---- the heights of a stretch that go to even columns, and to odd ones: the last of them is height n
-half-even : (a : ℕ) → a % 2 ≡ 0 → a ≡ 2 * ((a + 1) / 2)
-half-even a e = omega arith
-
-half-odd : (a : ℕ) → (a % 2 ≡ 0 → ⊥) → a ≡ 2 * (a / 2) + 1
-half-odd a e = omega (arith, e)
-
-half-up : (a : ℕ) → (a + 1) / 2 ≡ a / 2 + a % 2
-half-up a = omega arith
-
-half-of : (a : ℕ) → a ≡ 2 * (a / 2) + a % 2
-half-of a = omega arith
-
-rest-le : (a : ℕ) → a % 2 ≤ 1
-rest-le a = omega arith
-
-nth-even : (c n e f k r : ℕ) → c + n ≡ 2 * e → f ≡ k + r → c ≡ 2 * k + r → r ≤ 1 → r + 2 * (e - f) ≡ n
-nth-even c n e f k r a b d g = omega arith
-
-nth-odd : (c n e k r : ℕ) → c + n ≡ 2 * e + 1 → c ≡ 2 * k + r → r ≤ 1 → 1 - r + 2 * (e - k) ≡ n
-nth-odd c n e k r a d g = omega arith
-
-even-height : (c n : ℕ) → (c + n) % 2 ≡ 0 → c % 2 + 2 * ((c + n + 1) / 2 - (c + 1) / 2) ≡ n
-even-height c n e = nth-even c n _ _ (c / 2) (c % 2) (half-even (c + n) e) (half-up c) (half-of c) (rest-le c)
-
-odd-height : (c n : ℕ) → ((c + n) % 2 ≡ 0 → ⊥) → 1 - c % 2 + 2 * ((c + n) / 2 - c / 2) ≡ n
-odd-height c n e = nth-odd c n _ (c / 2) (c % 2) (half-odd (c + n) e) (half-of c) (rest-le c)
-
--- ---- the columns from c on of row m
-module _ (w m c : ℕ) (h x : ℕ → ℤ) where
-  -- the first even place, and the first odd one
-  abbrev pe : ℕ
-  pe = slot w m + (c + 1) / 2
-
-  abbrev po : ℕ
-  po = slot w m + count lo w + c / 2
-
-  abbrev ye : ℕ → ℤ
-  ye j = h (c % 2 + 2 * j)
-
-  abbrev yo : ℕ → ℤ
-  yo j = h (1 - c % 2 + 2 * j)
-
-  abbrev evens : ℕ → ℕ
-  evens n = (c + n + 1) / 2 - (c + 1) / 2
-
-  abbrev odds : ℕ → ℕ
-  odds n = (c + n) / 2 - c / 2
-
-  abbrev both : ℕ → ℕ → ℤ
-  both n = spliced po (odds n) yo (spliced pe (evens n) ye x)
-
-  cell-even : (n : ℕ) → (c + n) % 2 ≡ 0 → cellOf w m (c + n) ≡ pe + evens n
+-- ---- the places of columns
+module _ (w m c : ℕ) where
+  pub cell-even : c % 2 ≡ 0 → cellOf w m c ≡ slot w m + c / 2
   unfolding cellOf
-  cell-even n e = simp (eq-eqb ((c + n) % 2) 0 e) (omega arith)
+  cell-even e = simp (eq-eqb (c % 2) 0 e)
 
-  cell-odd : (n : ℕ) → ((c + n) % 2 ≡ 0 → ⊥) → cellOf w m (c + n) ≡ po + odds n
+  pub cell-odd : (c % 2 ≡ 0 → ⊥) → cellOf w m c ≡ slot w m + (count lo w + c / 2)
   unfolding cellOf
-  cell-odd n e = simp (ne-eqb ((c + n) % 2) 0 e) (omega arith)
+  cell-odd e = simp (ne-eqb (c % 2) 0 e)
 
-  more : (n : ℕ) → c + n < w → both (n + 1) ≡ stored (cellOf w m (c + n)) (h n) (both n)
-  more n r =
-      elim (ℕ-discrete ((c + n) % 2) 0) [
-        | yes e ↦
-            let a : evens (n + 1) ≡ evens n + 1 = omega arith in
-            let b : odds (n + 1) ≡ odds n = omega arith in
-            let d : c % 2 + 2 * evens n ≡ n = even-height c n e in
-            let u : pe + evens n < po = omega (arith, count-lo w) in
-            ap (λ (k : ℕ). spliced po k yo (spliced pe (evens (n + 1)) ye x)) b
-            ∙ ap (λ (k : ℕ). spliced po (odds n) yo (spliced pe k ye x)) a
-            ∙ ap (spliced po (odds n) yo) (splice-more pe ye (evens n) x)
-            ∙ splice-stored po yo (odds n) (pe + evens n) (ye (evens n)) (spliced pe (evens n) ye x) u
-            ∙ ap (λ (v : ℤ). stored (pe + evens n) v (both n)) (ap h d)
-            ∙ ap (λ (p : ℕ). stored p (h n) (both n)) (sym (cell-even n e))
-        | no e ↦
-            let a : evens (n + 1) ≡ evens n = omega (arith, e) in
-            let b : odds (n + 1) ≡ odds n + 1 = omega (arith, e) in
-            let d : 1 - c % 2 + 2 * odds n ≡ n = odd-height c n e in
-            ap (λ (k : ℕ). spliced po k yo (spliced pe (evens (n + 1)) ye x)) b
-            ∙ ap (λ (k : ℕ). spliced po (odds n + 1) yo (spliced pe k ye x)) a
-            ∙ splice-more po yo (odds n) (spliced pe (evens n) ye x)
-            ∙ ap (λ (v : ℤ). stored (po + odds n) v (both n)) (ap h d)
-            ∙ ap (λ (p : ℕ). stored p (h n) (both n)) (sym (cell-odd n e))
+  pub cell-in : c < w → cellOf w m c < 4 * w
+  cell-in h =
+      let s = slot-room w m in
+      let n = count-lo w in
+      elim (ℕ-discrete (c % 2) 0) [
+        | yes e ↦ omega (arith, cell-even e)
+        | no e ↦ omega (arith, cell-odd e, e)
       ]
 
-  put-all : (n : ℕ) → c + n ≤ w → both n ≡ heightsPut w m c n h x
+-- two columns on is one place on
+pub cell-on : (w m c j : ℕ) → cellOf w m (c + 2 * j) ≡ cellOf w m c + j
+cell-on w m c j =
+    elim (ℕ-discrete (c % 2) 0) [
+      | yes e ↦
+          let d : (c + 2 * j) % 2 ≡ 0 = omega arith in
+          let q : (c + 2 * j) / 2 ≡ c / 2 + j = omega arith in
+          omega (arith, cell-even w m (c + 2 * j) d, cell-even w m c e, q)
+      | no e ↦
+          let d : (c + 2 * j) % 2 ≡ 1 = omega (arith, e) in
+          let q : (c + 2 * j) / 2 ≡ c / 2 + j = omega arith in
+          omega (arith, cell-odd w m (c + 2 * j) (λ z. omega arith), cell-odd w m c e, q)
+    ]
+
+-- ---- one height more
+pub put-more : (w m c n : ℕ) (h x : ℕ → ℤ) → heightsPut w m c (n + 1) h x ≡ stored (cellOf w m (c + n)) (h n) (heightsPut w m c n h x)
+unfolding heightsPut
+put-more w m c n h x = let e : n + 1 ≡ suc n = omega arith in rw e refl
+
+-- n heights stand in the list l, l₀ being the list before them
+pub record Put (w m c n : ℕ) (h : ℕ → ℤ) (l₀ l : List ℤ) : Type 0 where
+  pub room : 4 * w ≤ length l₀
+  pub size : length l ≡ length l₀
+  pub value : at l ≡ heightsPut w m c n h (at l₀)
+
+module _ (w m c : ℕ) (h : ℕ → ℤ) (l₀ : List ℤ) where
+  pub put-none : 4 * w ≤ length l₀ → Put w m c 0 h l₀ l₀
   unfolding heightsPut
-  put-all zero r =
-      let a : evens 0 ≡ 0 = omega arith in
-      let b : odds 0 ≡ 0 = omega arith in
-      ap (λ (k : ℕ). spliced po k yo (spliced pe (evens 0) ye x)) b ∙ splice-none po yo _ ∙ ap (λ (k : ℕ). spliced pe k ye x) a ∙ splice-none pe ye x
-  put-all (suc n) r =
-      let k : suc n ≡ n + 1 = omega arith in
-      ap both k ∙ more n (omega arith) ∙ ap (stored (cellOf w m (c + n)) (h n)) (put-all n (omega arith))
+  put-none r = record { room = r; size = refl; value = refl }
 
--- ---- as the two copies leave it, the run's heights from `from` on
-pub fill-is : (w m c n from a v : ℕ) (run x x₁ x₂ : ℕ → ℤ) → c + n ≤ w → a ≡ slot w m → v ≡ count lo w →
-    x₁ ≡ spliced (a + (c + 1) / 2) ((c + n + 1) / 2 - (c + 1) / 2) (λ j. run (from + c % 2 + 2 * j)) x →
-    x₂ ≡ spliced (a + v + c / 2) ((c + n) / 2 - c / 2) (λ j. run (from + 1 - c % 2 + 2 * j)) x₁ → x₂ ≡ heightsPut w m c n (λ j. run (from + j)) x
-fill-is w m c n from a v run x x₁ x₂ r ea ev e₁ e₂ =
-    let h : ℕ → ℤ = λ j. run (from + j) in
-    let f₁ : x₁ ≡ spliced (pe w m c h x) (evens w m c h x n) (ye w m c h x) x =
-    e₁ ∙ splice-same _ _ _ (ye w m c h x) x (λ j g. ap run (omega arith)) ∙ ap (λ (a : ℕ). spliced (a + (c + 1) / 2) ((c + n + 1) / 2 - (c + 1) / 2) (ye w m c h x) x) ea in
-    e₂
-    ∙ splice-same _ _ _ (yo w m c h x) x₁ (λ j g. ap run (omega arith))
-    ∙ cc (ea, ev, f₁)
-    ∙ put-all w m c h x n r
+  pub put-one : (n p : ℕ) (v : ℤ) (l : List ℤ) → Put w m c n h l₀ l → c + n < w → p ≡ cellOf w m (c + n) → v ≡ h n → Put w m c (n + 1) h l₀ (set l p v)
+  put-one n p v l f r e g =
+      let i : p < length l = omega (arith, cell-in w m (c + n) r, f .room, f .size) in
+      record {
+        room = f .room;
+        size = length-set l p v ∙ f .size;
+        value = at-stored l p v i ∙ ap (stored p v) (f .value) ∙ cc (e, g) ∙ sym (put-more w m c n h (at l₀));
+      }
+
+  -- a pair more: a and b are the places of the first two columns
+  pub put-pair : (j a b : ℕ) (v u : ℤ) (l : List ℤ) → Put w m c (2 * j) h l₀ l → c + 2 * j + 2 ≤ w
+      → a ≡ cellOf w m c → b ≡ cellOf w m (c + 1) → v ≡ h (2 * j) → u ≡ h (2 * j + 1)
+      → Put w m c (2 * (j + 1)) h l₀ (set (set l (a + j) v) (b + j) u)
+  put-pair j a b v u l f r ea eb ev eu =
+      let p : a + j ≡ cellOf w m (c + 2 * j) = omega (arith, ea, cell-on w m c j) in
+      let k : c + (2 * j + 1) ≡ c + 1 + 2 * j = omega arith in
+      let q : b + j ≡ cellOf w m (c + (2 * j + 1)) = ap (λ (z : ℕ). z + j) eb ∙ sym (cell-on w m (c + 1) j) ∙ sym (ap (cellOf w m) k) in
+      let n : 2 * (j + 1) ≡ 2 * j + 1 + 1 = omega arith in
+      rw n (put-one (2 * j + 1) (b + j) u _ (put-one (2 * j) (a + j) v l f (omega arith) p ev) (omega arith) q eu)
+
+-- the places of a pair lie in the store
+pub put-place : (w m c j a : ℕ) → c + 2 * j < w → a ≡ cellOf w m c → a + j < 4 * w
+put-place w m c j a h e = omega (arith, e, cell-on w m c j, cell-in w m (c + 2 * j) h)

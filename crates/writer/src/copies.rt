@@ -1,4 +1,4 @@
-// The copies: heights into the store, rows within it, rows out of it. One pass over the numbers each.
+// The copies: rows within the store, and rows out of it. One pass over the numbers each.
 ghost use mathlib.Core.Path.{_≡_};
 ghost use Prim.Native.Nat.{_<_, _≤_, _+_, _*_};
 ghost use lib.IntN.{pos};
@@ -7,19 +7,6 @@ ghost use Rattle.numbers.specs.Signal.{at, spliced};
 ghost use Rattle.lifting.specs.Halves.{fronted};
 ghost use Rattle.lifting.specs.Rows.{rowChanged};
 ghost use Rattle.writer.specs.FiveThreeLevel.{first};
-ghost use Rattle.writer.specs.Taking.{heightAt};
-
-// Every second height of a run from `from` on, to the `count` places of the store from `to` on.
-pub fn put_heights(store: &mut [i32], to: usize, run: &[u16], from: usize, count: usize)
-    requires { ⌜ (to + count ≤ length (now store)) × (from + 2 * count ≤ length (now run) + 1) ⌝ }
-    ensures { λ _. ⌜ at (now (store .exit)) ≡ spliced to count (λ j. heightAt (now (run .entry)) (from + 2 * j)) (at (now (store .entry))) ⌝ }
-{
-    let mut j = 0;
-    while j < count {
-        store[to + j] = run[from + 2 * j] as i32;
-        j += 1;
-    }
-}
 
 // Every second number from `from` on, to the `count` places from `to` on, which lie past them.
 pub fn separate(store: &mut [i32], from: usize, to: usize, count: usize)

@@ -5,7 +5,7 @@ ghost use Prim.Native.Nat.{_<_, _+_, _*_};
 ghost use Rattle.lifting.specs.Line.{count};
 ghost use Rattle.wavelet.specs.Bands.{across, down, code};
 ghost use Rattle.writer.specs.Counts.{prev, deeper, made, most, bandAt, hasRow, skip};
-ghost use Rattle.writer.specs.FiveThreeLevel.{slot, before};
+ghost use Rattle.writer.specs.FiveThreeLevel.{slot, cellOf, before};
 
 // One less, and 0 of 0.
 pub fn prev(n: usize) -> usize
@@ -102,6 +102,17 @@ pub fn slot(w: usize, r: usize) -> usize
     ensures { λ s. ⌜ s ≡ slot w r ⌝ }
 {
     r % 4 * w
+}
+
+// Where column c of row r stands: the even columns stand first.
+pub fn cell(w: usize, r: usize, c: usize) -> usize
+    requires { ⌜ (w < 4294967296) × (c < 4294967296) ⌝ }
+    ensures { λ s. ⌜ s ≡ cellOf w r c ⌝ }
+{
+    if c % 2 == 0 {
+        return slot(w, r) + c / 2;
+    }
+    slot(w, r) + (sizes::half(w) + c / 2)
 }
 
 // The row where the high row of the set before set n stands; of the first set, its own.

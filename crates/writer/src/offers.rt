@@ -1,9 +1,7 @@
 // Heights into level 1, a stretch of a row at a time.
 use crate::Writer;
 use crate::cascade;
-use crate::copies;
 use crate::counts;
-use wavelet::sizes;
 ghost use mathlib.Core.Path.{_≡_};
 ghost use Prim.Native.Nat.{_+_, _*_, _<_, _≤_};
 ghost use lib.ListN.{length};
@@ -11,19 +9,41 @@ ghost use Rattle.numbers.specs.Signal.{at};
 ghost use Rattle.writer.specs.Taking.{heightAt};
 ghost use Rattle.writer.specs.Stretch.{heightsPut, nextCount, Taker, Stretched};
 
-// Heights `from` to `from + n` of a run, to the columns of row m from `column` on: the even columns, then the odd ones.
+// Pairs of heights of a run, from height `from` on, to the columns of row m from `column` on. One loop stores both of a pair: the compiler then reads whole vectors.
+fn fill_pairs(
+    store: &mut [i32],
+    w: usize,
+    m: usize,
+    column: usize,
+    run: &[u16],
+    from: usize,
+    pairs: usize,
+)
+    requires { ⌜ (4 * w ≤ length (now store)) × (w < 65536) × (column + 2 * pairs ≤ w) × (from + 2 * pairs ≤ length (now run)) ⌝ }
+    ensures { λ _. ⌜ at (now (store .exit)) ≡ heightsPut w m column (2 * pairs) (λ j. heightAt (now (run .entry)) (from + j)) (at (now (store .entry))) ⌝ }
+{
+    let first = counts::cell(w, m, column);
+    let second = counts::cell(w, m, column + 1);
+    let mut j = 0;
+    while j < pairs {
+        store[first + j] = run[from + 2 * j] as i32;
+        store[second + j] = run[from + 2 * j + 1] as i32;
+        j += 1;
+    }
+}
+
+// Heights `from` to `from + n` of a run, to the columns of row m from `column` on: pairs, and the last by itself where n is odd.
 fn fill(store: &mut [i32], w: usize, m: usize, column: usize, run: &[u16], from: usize, n: usize)
     requires { ⌜ (4 * w ≤ length (now store)) × (w < 65536) × (column + n ≤ w) × (from + n ≤ length (now run)) ⌝ }
     ensures { λ _. ⌜ at (now (store .exit)) ≡ heightsPut w m column n (λ j. heightAt (now (run .entry)) (from + j)) (at (now (store .entry))) ⌝ }
 {
-    let a = counts::slot(w, m);
-    let even = (column + 1) / 2;
-    let evens = (column + n + 1) / 2 - even;
-    copies::put_heights(store, a + even, run, from + column % 2, evens);
-    let b = a + sizes::half(w);
-    let odd = column / 2;
-    let odds = (column + n) / 2 - odd;
-    copies::put_heights(store, b + odd, run, from + 1 - column % 2, odds);
+    let pairs = n / 2;
+    fill_pairs(store, w, m, column, run, from, pairs);
+    let k = 2 * pairs;
+    if k < n {
+        let p = counts::cell(w, m, column + k);
+        store[p] = run[from + k] as i32;
+    }
 }
 
 // How many heights the next stretch has, of k that are left.

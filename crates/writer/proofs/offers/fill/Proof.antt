@@ -1,86 +1,95 @@
--- `offers::fill` meets its contract: two copies of every second height. Assumes nothing.
+-- `offers::fill` meets its contract: the pairs, and the height that is left where there is one. Assumes nothing.
+use mathlib.Core.Path.{_≡_, ap, _∙_}
+use Prim.Native.Nat.{ℕ, _+_, _*_, _/_}
 use native.Mathlib.Omega.{arith}
-use borrow.Author.Needs.{needs}
-use Rattle.wavelet.proofs.SizeLaws.{count-lo}
+use lib.ListN.{length, getD}
+use Rattle.numbers.specs.Signal.{at}
 use Rattle.writer.specs.Taking.{heightAt}
-use Rattle.writer.proofs.CountLaws.{slot-room}
-use Rattle.writer.proofs.FillLaws.{fill-is}
+use Rattle.writer.specs.Stretch.{heightsPut}
+use Rattle.writer.proofs.Filling.{height-fits, height-read}
+use Rattle.writer.proofs.FillLaws.{cell-in, Put, put-one}
+use borrow.Author.Needs.{needs}
 use Rattle.writer.proofs.offers.fill.Statement.{statement}
 use Rattle.writer.proofs.offers.fill.Tie as tie
 
-slot-requires : tie.Need-slot-requires
-slot-requires c κs = search needs
+fill-pairs-requires : tie.Need-fill-pairs-requires
+fill-pairs-requires c κs = search needs
 
-add-even : tie.Need-add-even
-add-even c = search needs
+mul-k : tie.Need-mul-k
+mul-k c = search needs
 
-add-evens : tie.Need-add-evens
-add-evens c = search needs
+add-cell : tie.Need-add-cell
+add-cell c = search needs
 
-add-evens-2 : tie.Need-add-evens-2
-add-evens-2 c = search needs
+cell-requires : tie.Need-cell-requires
+cell-requires c κs = search needs
 
-sub-evens : tie.Need-sub-evens
-sub-evens c = search needs
+add-store : tie.Need-add-store
+add-store c = search needs
 
-add-put-heights : tie.Need-add-put-heights
-add-put-heights c = omega (arith, slot-room (c .before .before .before .args .w) (c .before .before .before .args .m))
+mul-store : tie.Need-mul-store
+mul-store c = search needs
 
-add-put-heights-2 : tie.Need-add-put-heights-2
-add-put-heights-2 c = search needs
+shared-slice-read-store : tie.Need-shared-slice-read-store
+shared-slice-read-store c = search needs
 
-put-heights-requires : tie.Need-put-heights-requires
-put-heights-requires c κs = omega (arith, slot-room (c .before .before .before .args .w) (c .before .before .before .args .m))
+cast-store : tie.Need-cast-store
+cast-store c =
+    let a = c .before .before .before .before .before .before .before .args in
+    height-fits _ (omega (arith, c .shared-slice-known2 .given (a .from + 2 * (a .n / 2))))
 
-half-requires : tie.Need-half-requires
-half-requires c κs = search needs
+mul-t20 : tie.Need-mul-t20
+mul-t20 c =
+    let a = c .before .before .before .before .before .before .before .args in
+    omega (arith, c .before .cell .ensures, cell-in (a .w) (a .m) (a .column + 2 * (a .n / 2)) (omega arith))
 
-add-b : tie.Need-add-b
-add-b c = omega (arith, slot-room (c .before .before .before .before .before .before .args .w) (c .before .before .before .before .before .before .args .m), count-lo (c .before .before .before .before .before .before .args .w))
-
-add-odds : tie.Need-add-odds
-add-odds c = search needs
-
-sub-odds : tie.Need-sub-odds
-sub-odds c = search needs
-
-add-put-heights-3 : tie.Need-add-put-heights-3
-add-put-heights-3 c = omega (arith, slot-room (c .before .before .before .before .before .before .before .args .w) (c .before .before .before .before .before .before .before .args .m), count-lo (c .before .before .before .before .before .before .before .args .w))
-
-add-put-heights-4 : tie.Need-add-put-heights-4
-add-put-heights-4 c = search needs
-
-sub-put-heights : tie.Need-sub-put-heights
-sub-put-heights c = search needs
-
-put-heights-requires-2 : tie.Need-put-heights-requires-2
-put-heights-requires-2 c κs = omega (arith, slot-room (c .before .before .before .before .before .before .before .args .w) (c .before .before .before .before .before .before .before .args .m), count-lo (c .before .before .before .before .before .before .before .args .w))
+slice-set-from-store : tie.Need-slice-set-from-store
+slice-set-from-store c =
+    let a = c .before .before .before .before .before .before .before .args in
+    omega (arith, c .before .cell .ensures, cell-in (a .w) (a .m) (a .column + 2 * (a .n / 2)) (omega arith), c .before .before .before .store .given)
 
 same-length : tie.Need-same-length
 same-length c = search needs
 
 returns : tie.Need-returns
-returns c = let a = c .before .before .before .before .before .before .before .before .before .args in fill-is (a .w) (a .m) (a .column) (a .n) (a .from) _ _ (heightAt (a .run .now)) _ _ _ (omega arith) (c .before .before .before .before .before .before .before .slot .ensures) (c .before .before .before .half .ensures) (c .before .before .before .before .before .put-heights .ensures) (c .before .put-heights2 .ensures)
+returns c =
+    let a = c .before .before .before .before .before .before .before .args in
+    let k = 2 * (a .n / 2) in
+    let p = a .from + k in
+    let o = c .before .before .before in
+    let f : Put (a .w) (a .m) (a .column) k (λ i. heightAt (a .run .now) (a .from + i)) (a .store .now) (o .before .fill-pairs .last .0) =
+    record { room = omega arith; size = omega (arith, o .store .given); value = o .before .fill-pairs .ensures } in
+    let v = height-read (getD (a .run .now) p 0) (omega (arith, c .shared-slice-known2 .given p)) in
+    let e : k + 1 ≡ a .n = omega arith in
+    put-one (a .w) (a .m) (a .column) _ (a .store .now) k _ _ _ f (omega arith) (c .before .cell .ensures) v .value
+    ∙ ap (λ (n : ℕ). heightsPut (a .w) (a .m) (a .column) n (λ i. heightAt (a .run .now) (a .from + i)) (at (a .store .now))) e
+
+same-length-2 : tie.Need-same-length-2
+same-length-2 c = search needs
+
+returns-2 : tie.Need-returns-2
+returns-2 c =
+    let o = c .before in
+    let a = o .before .before .before .before .args in
+    let e : 2 * (a .n / 2) ≡ a .n = omega arith in
+    o .before .fill-pairs .ensures
+    ∙ ap (λ (n : ℕ). heightsPut (a .w) (a .m) (a .column) n (λ i. heightAt (a .run .now) (a .from + i)) (at (a .store .now))) e
 
 pub fill-spec : {M : Type 1} → statement M
 fill-spec =
     tie.close
     (tie.spec
-    slot-requires
-    add-even
-    add-evens
-    add-evens-2
-    sub-evens
-    add-put-heights
-    add-put-heights-2
-    put-heights-requires
-    half-requires
-    add-b
-    add-odds
-    sub-odds
-    add-put-heights-3
-    add-put-heights-4
-    sub-put-heights
-    put-heights-requires-2
+    fill-pairs-requires
+    mul-k
+    add-cell
+    cell-requires
+    add-store
+    mul-store
+    shared-slice-read-store
+    cast-store
+    mul-t20
+    slice-set-from-store
     same-length
-    returns)
+    returns
+    same-length-2
+    returns-2)

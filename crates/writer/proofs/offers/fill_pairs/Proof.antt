@@ -1,0 +1,174 @@
+-- `offers::fill_pairs` meets its contract: after j turns 2j heights are put. Assumes nothing.
+use mathlib.Core.Path.{_≡_, refl, sym, ap, _∙_}
+use Prim.Native.Nat.{ℕ, _+_, _*_, _-_, _≤_, _<_}
+use native.Mathlib.Omega.{arith}
+use lib.ListN.{length, getD, length-set}
+use Rattle.numbers.specs.Signal.{at}
+use Rattle.writer.specs.FiveThreeLevel.{cellOf}
+use Rattle.writer.specs.Taking.{heightAt}
+use Rattle.writer.specs.Stretch.{heightsPut}
+use Rattle.writer.proofs.Filling.{height-fits, height-read}
+use Rattle.writer.proofs.FillLaws.{Put, put-none, put-pair, put-place}
+use Rattle.writer.proofs.offers.fill_pairs.Statement.{statement}
+use Rattle.writer.proofs.offers.fill_pairs.Tie as tie
+
+-- the bounds, the two places, and the heights put
+abbrev Inv-loop : tie.InvT-loop
+Inv-loop store₀ w m column run from pairs first second j₀ store j =
+    (j ≤ pairs) × (w < 65536) × (column + 2 * pairs ≤ w) × (from + 2 * pairs ≤ length run)
+    × (first ≡ cellOf w m column) × (second ≡ cellOf w m (column + 1))
+    × Put w m column (2 * j) (λ i. heightAt run (from + i)) store₀ store
+
+abbrev μ-loop : tie.MeasureT-loop
+μ-loop store₀ w m column run from pairs first second j₀ store j = pairs - j
+
+cell-requires : tie.Need-cell-requires Inv-loop μ-loop
+cell-requires c κs = omega arith
+
+add-cell : tie.Need-add-cell Inv-loop μ-loop
+add-cell c = omega arith
+
+cell-requires-2 : tie.Need-cell-requires-2 Inv-loop μ-loop
+cell-requires-2 c κs = omega arith
+
+loop-holds : tie.Need-loop-holds Inv-loop μ-loop
+loop-holds c =
+    let a = c .before .before .before .args in
+    (omega arith, omega arith, omega arith, omega arith, c .before .cell .ensures, c .cell2 .ensures, put-none (a .w) (a .m) (a .column) _ (a .store .now) (omega arith))
+
+mul-store : tie.Need-mul-store Inv-loop μ-loop
+mul-store c = omega arith
+
+add-store : tie.Need-add-store Inv-loop μ-loop
+add-store c = omega arith
+
+mul-store-2 : tie.Need-mul-store-2 Inv-loop μ-loop
+mul-store-2 c = omega arith
+
+shared-slice-read-store : tie.Need-shared-slice-read-store Inv-loop μ-loop
+shared-slice-read-store c = omega arith
+
+cast-store : tie.Need-cast-store Inv-loop μ-loop
+cast-store c =
+    let l = c .before .before .loop in
+    let a = c .before .before .before .before .before .before .args in
+    height-fits _ (omega (arith, c .shared-slice-known2 .given (a .from + 2 * l .j)))
+
+add-store-2 : tie.Need-add-store-2 Inv-loop μ-loop
+add-store-2 c =
+    let l = c .before .before .loop in
+    let a = c .before .before .before .before .before .before .args in
+    omega (arith, put-place (a .w) (a .m) (a .column) (l .j) _ (omega arith) (l .inv .4))
+
+mul-store-3 : tie.Need-mul-store-3 Inv-loop μ-loop
+mul-store-3 c =
+    let l = c .before .before .loop in
+    let a = c .before .before .before .before .before .before .args in
+    omega (arith, put-place (a .w) (a .m) (a .column) (l .j) _ (omega arith) (l .inv .4))
+
+slice-set-from-store : tie.Need-slice-set-from-store Inv-loop μ-loop
+slice-set-from-store c =
+    let l = c .before .before .loop in
+    let a = c .before .before .before .before .before .before .args in
+    omega (arith, put-place (a .w) (a .m) (a .column) (l .j) _ (omega arith) (l .inv .4), l .inv .6 .room, l .inv .6 .size)
+
+mul-store-4 : tie.Need-mul-store-4 Inv-loop μ-loop
+mul-store-4 c = omega arith
+
+add-store-3 : tie.Need-add-store-3 Inv-loop μ-loop
+add-store-3 c = omega arith
+
+add-store-4 : tie.Need-add-store-4 Inv-loop μ-loop
+add-store-4 c = omega arith
+
+mul-store-5 : tie.Need-mul-store-5 Inv-loop μ-loop
+mul-store-5 c = omega arith
+
+shared-slice-read-store-2 : tie.Need-shared-slice-read-store-2 Inv-loop μ-loop
+shared-slice-read-store-2 c = omega arith
+
+cast-store-2 : tie.Need-cast-store-2 Inv-loop μ-loop
+cast-store-2 c =
+    let l = c .before .before .before .loop in
+    let a = c .before .before .before .before .before .before .before .args in
+    height-fits _ (omega (arith, c .shared-slice-known3 .given (a .from + 2 * l .j + 1)))
+
+add-t15 : tie.Need-add-t15 Inv-loop μ-loop
+add-t15 c =
+    let l = c .before .before .before .loop in
+    let a = c .before .before .before .before .before .before .before .args in
+    omega (arith, put-place (a .w) (a .m) (a .column + 1) (l .j) _ (omega arith) (l .inv .5))
+
+mul-t23 : tie.Need-mul-t23 Inv-loop μ-loop
+mul-t23 c =
+    let l = c .before .before .before .loop in
+    let a = c .before .before .before .before .before .before .before .args in
+    omega (arith, put-place (a .w) (a .m) (a .column + 1) (l .j) _ (omega arith) (l .inv .5))
+
+slice-set-from-store-2 : tie.Need-slice-set-from-store-2 Inv-loop μ-loop
+slice-set-from-store-2 c =
+    let l = c .before .before .before .loop in
+    let a = c .before .before .before .before .before .before .before .args in
+    let p = put-place (a .w) (a .m) (a .column + 1) (l .j) _ (omega arith) (l .inv .5) in
+    let r = l .inv .6 in
+    simp length-set (omega (arith, p, r .room, r .size))
+
+add-j : tie.Need-add-j Inv-loop μ-loop
+add-j c = omega arith
+
+loop-less : tie.Need-loop-less Inv-loop μ-loop
+loop-less c = omega arith
+
+loop-again : tie.Need-loop-again Inv-loop μ-loop
+loop-again c =
+    let l = c .before .before .before .loop in
+    let a = c .before .before .before .before .before .before .before .args in
+    let i = l .inv in
+    let p = a .from + 2 * l .j in
+    let k : a .from + (2 * l .j + 1) ≡ p + 1 = omega arith in
+    let v = height-read (getD (a .run .now) p 0) (omega (arith, c .before .shared-slice-known2 .given p)) in
+    let u = height-read (getD (a .run .now) (p + 1) 0) (omega (arith, c .shared-slice-known3 .given (p + 1))) ∙ sym (ap (heightAt (a .run .now)) k) in
+    (omega arith, omega arith, omega arith, omega arith, i .4, i .5, put-pair (a .w) (a .m) (a .column) _ (a .store .now) (l .j) _ _ _ _ _ (i .6) (omega arith) (i .4) (i .5) v u)
+
+same-length : tie.Need-same-length Inv-loop μ-loop
+same-length c = c .before .loop .inv .6 .size
+
+returns : tie.Need-returns Inv-loop μ-loop
+returns c =
+    let l = c .before .loop in
+    let a = c .before .before .before .before .before .args in
+    let e : l .j ≡ a .pairs = omega arith in
+    l .inv .6 .value ∙ ap (λ (k : ℕ). heightsPut (a .w) (a .m) (a .column) (2 * k) (λ i. heightAt (a .run .now) (a .from + i)) (at (a .store .now))) e
+
+pub fill-pairs-spec : {M : Type 1} → statement M
+fill-pairs-spec =
+    tie.close
+    (tie.spec
+    Inv-loop
+    μ-loop
+    cell-requires
+    add-cell
+    cell-requires-2
+    loop-holds
+    mul-store
+    add-store
+    mul-store-2
+    shared-slice-read-store
+    cast-store
+    add-store-2
+    mul-store-3
+    slice-set-from-store
+    mul-store-4
+    add-store-3
+    add-store-4
+    mul-store-5
+    shared-slice-read-store-2
+    cast-store-2
+    add-t15
+    mul-t23
+    slice-set-from-store-2
+    add-j
+    loop-less
+    loop-again
+    same-length
+    returns)
