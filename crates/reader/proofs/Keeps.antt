@@ -355,3 +355,13 @@ feed-said s n m x v r x′ p q = rw (p, q) (feed-keeps s n m x v)
 
 pub draw-said : (s : Reader) (n m : ℕ) (x z : ℕ → ℤ) (r : Drawn) (x′ z′ : ℕ → ℤ) → r ≡ drawAnswer s (drawQuestion s n x m) → x′ ≡ drawStore s (drawQuestion s n x m) x → z′ ≡ drawArea s (drawQuestion s n x m) x z → DrawKeeps s x r x′ z′
 draw-said s n m x z r x′ z′ p q t = rw (p, q, t) (draw-keeps s n m x z)
+
+-- ---- the clauses of a call's contract, and then that it keeps what the store holds
+pub set-up-also : {P : Type 0} (W H L n : ℕ) (x : ℕ → ℤ) {r : SetUp} {x′ : ℕ → ℤ} → P × ((r ≡ setUpAnswer W H L (setUpQuestion W H L n)) × (x′ ≡ setUpStore W L (setUpQuestion W H L n) x)) → P × ((r ≡ setUpAnswer W H L (setUpQuestion W H L n)) × ((x′ ≡ setUpStore W L (setUpQuestion W H L n) x) × SetUpHolds r x′))
+set-up-also W H L n x t = (t .0, (t .1 .0, (t .1 .1, set-up-said W H L n x _ _ (t .1 .0) (t .1 .1))))
+
+pub feed-also : {P : Type 0} (s : Reader) (n m : ℕ) (x v : ℕ → ℤ) {r : Fed} {x′ : ℕ → ℤ} → P × ((r ≡ feedAnswer s (feedQuestion s n x m v)) × (x′ ≡ feedStore s (feedQuestion s n x m v) v x)) → P × ((r ≡ feedAnswer s (feedQuestion s n x m v)) × ((x′ ≡ feedStore s (feedQuestion s n x m v) v x) × FeedKeeps s v x r x′))
+feed-also s n m x v t = (t .0, (t .1 .0, (t .1 .1, feed-said s n m x v _ _ (t .1 .0) (t .1 .1))))
+
+pub draw-also : {P : Type 0} (s : Reader) (n m : ℕ) (x z : ℕ → ℤ) {r : Drawn} {x′ z′ : ℕ → ℤ} → P × ((r ≡ drawAnswer s (drawQuestion s n x m)) × ((x′ ≡ drawStore s (drawQuestion s n x m) x) × (z′ ≡ drawArea s (drawQuestion s n x m) x z))) → P × ((r ≡ drawAnswer s (drawQuestion s n x m)) × ((x′ ≡ drawStore s (drawQuestion s n x m) x) × ((z′ ≡ drawArea s (drawQuestion s n x m) x z) × DrawKeeps s x r x′ z′)))
+draw-also s n m x z t = (t .0, (t .1 .0, (t .1 .1 .0, (t .1 .1 .1, draw-said s n m x z _ _ _ (t .1 .0) (t .1 .1 .0) (t .1 .1 .1)))))

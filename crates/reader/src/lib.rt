@@ -15,6 +15,7 @@ ghost use Rattle.reader.specs.Areas.{heightsAt};
 ghost use Rattle.reader.specs.Machine.{place};
 ghost use Rattle.reader.specs.State.{movedTo, endedReader};
 ghost use Rattle.reader.specs.Questions.{setUpQuestion, wantQuestion, feedQuestion, drawQuestion};
+ghost use Rattle.reader.specs.Holds.{SetUpHolds, FeedKeeps, DrawKeeps};
 ghost use Rattle.reader.specs.Calls.{setUpNumber, wantNumber, feedNumber, drawNumber, setUpAnswer, setUpStore, wantAnswer, feedAnswer, feedStore, drawAnswer, drawStore, drawArea};
 
 // The counts of a reader; docs/STATE.md gives their ranges. `drawn` height rows are drawn; rows of `level` are collected (0: a height row can be drawn), and `band` is the code of the first band that may be next.
@@ -88,6 +89,7 @@ impl Reader {
         ensures number { λ r. ⌜ setUpNumber r ≡ setUpQuestion width height levels (length (now (store .entry))) ⌝ }
         ensures answer { λ r. ⌜ r ≡ setUpAnswer width height levels (setUpQuestion width height levels (length (now (store .entry)))) ⌝ }
         ensures kept { λ _. ⌜ at (now (store .exit)) ≡ setUpStore width levels (setUpQuestion width height levels (length (now (store .entry)))) (at (now (store .entry))) ⌝ }
+        ensures meaning { λ r. ⌜ SetUpHolds r (at (now (store .exit))) ⌝ }
     {
         let q = questions::set_up_question(width, height, levels, store.len());
         if q != 0 {
@@ -137,6 +139,7 @@ impl Reader {
         ensures number { λ r. ⌜ feedNumber r ≡ feedQuestion self (length (now (store .entry))) (at (now (store .entry))) (length (now (run .entry))) (at (now (run .entry))) ⌝ }
         ensures answer { λ r. ⌜ r ≡ feedAnswer self (feedQuestion self (length (now (store .entry))) (at (now (store .entry))) (length (now (run .entry))) (at (now (run .entry)))) ⌝ }
         ensures kept { λ _. ⌜ at (now (store .exit)) ≡ feedStore self (feedQuestion self (length (now (store .entry))) (at (now (store .entry))) (length (now (run .entry))) (at (now (run .entry)))) (at (now (run .entry))) (at (now (store .entry))) ⌝ }
+        ensures meaning { λ r. ⌜ FeedKeeps self (at (now (run .entry))) (at (now (store .entry))) r (at (now (store .exit))) ⌝ }
     {
         let q = questions::store_question(self, store.len());
         if q != 0 {
@@ -161,6 +164,7 @@ impl Reader {
         ensures answer { λ r. ⌜ r ≡ drawAnswer self (drawQuestion self (length (now (store .entry))) (at (now (store .entry))) (length (now (out .entry)))) ⌝ }
         ensures kept { λ _. ⌜ at (now (store .exit)) ≡ drawStore self (drawQuestion self (length (now (store .entry))) (at (now (store .entry))) (length (now (out .entry)))) (at (now (store .entry))) ⌝ }
         ensures heights { λ _. ⌜ heightsAt (now (out .exit)) ≡ drawArea self (drawQuestion self (length (now (store .entry))) (at (now (store .entry))) (length (now (out .entry)))) (at (now (store .entry))) (heightsAt (now (out .entry))) ⌝ }
+        ensures meaning { λ r. ⌜ DrawKeeps self (at (now (store .entry))) r (at (now (store .exit))) (heightsAt (now (out .exit))) ⌝ }
     {
         let q = questions::store_question(self, store.len());
         if q != 0 {

@@ -5,11 +5,13 @@ use borrow.Author.Tests.{not-true, not-false}
 use Prim.Native.Nat.{_+_, _-_}
 use lib.ListN.{length}
 use Rattle.numbers.specs.Signal.{at}
+use Rattle.reader.specs.Areas.{heightsAt}
 use Rattle.numbers.proofs.Parts.{length-mid}
 use Rattle.reader.proofs.WorkLaws.{told-no, told-yes}
 use Rattle.reader.proofs.StoreLaws.{first-room}
 use Rattle.reader.proofs.QuestionLaws.{counts-shape, counts-length, store-in, due-in}
 use Rattle.reader.proofs.CallLaws.{store-14, draw-early, draw-none, draw-12, draw-last, draw-no, draw-nothing, draw-yes, draw-end, fits-yes, fits-no, drawn-reader, drawn-row, zero-kept}
+use Rattle.reader.proofs.Keeps.{draw-also}
 use Rattle.reader.proofs.Reader.draw.Statement.{statement}
 use Rattle.reader.proofs.Reader.draw.Tie as tie
 
@@ -22,7 +24,8 @@ returns c =
     let a = c .before .before .before .args in
     let n = length (a .store .now) in
     let m = length (a .out .now) in
-    draw-no (a .self) _ _ _ _ (q ∙ draw-early (a .self) n m (at (a .store .now)) (λ e. c .if1 .taken (q ∙ e))) (c .if1 .taken) (λ e. store-14 (a .self) n m (at (a .store .now)) (at (a .store .now)) (sym q ∙ e))
+    draw-also (a .self) (length (a .store .now)) (length (a .out .now)) (at (a .store .now)) (heightsAt (a .out .now))
+    (draw-no (a .self) _ _ _ _ (q ∙ draw-early (a .self) n m (at (a .store .now)) (λ e. c .if1 .taken (q ∙ e))) (c .if1 .taken) (λ e. store-14 (a .self) n m (at (a .store .now)) (at (a .store .now)) (sym q ∙ e)))
 
 next-of-requires : tie.Need-next-of-requires
 next-of-requires c κs = store-in _ _ (sym (c .before .store-question .ensures) ∙ c .if1 .left) .0
@@ -36,7 +39,8 @@ returns-2 c =
     let a = ok .before .before .before .args in
     let none = sym (c .before .draw-due .ensures) ∙ not-true _ (c .if2 .taken) in
     let one = sym (ok .before .store-question .ensures) ∙ ok .if1 .left in
-    draw-nothing (a .self) _ _ _ (draw-none (a .self) (length (a .store .now)) (length (a .out .now)) (at (a .store .now)) one none) none
+    draw-also (a .self) (length (a .store .now)) (length (a .out .now)) (at (a .store .now)) (heightsAt (a .out .now))
+    (draw-nothing (a .self) _ _ _ (draw-none (a .self) (length (a .store .now)) (length (a .out .now)) (at (a .store .now)) one none) none)
 
 returns-3 : tie.Need-returns-3
 returns-3 c =
@@ -44,7 +48,8 @@ returns-3 c =
     let ok = due .before .before .before in
     let a = ok .before .before .before .args in
     let one = sym (ok .before .store-question .ensures) ∙ ok .if1 .left in
-    draw-no (a .self) _ _ _ 12 (draw-12 (a .self) (length (a .store .now)) (length (a .out .now)) (at (a .store .now)) one (sym (due .before .draw-due .ensures) ∙ not-false _ (due .if2 .left)) (omega arith)) (omega arith) (omega arith)
+    draw-also (a .self) (length (a .store .now)) (length (a .out .now)) (at (a .store .now)) (heightsAt (a .out .now))
+    (draw-no (a .self) _ _ _ 12 (draw-12 (a .self) (length (a .store .now)) (length (a .out .now)) (at (a .store .now)) one (sym (due .before .draw-due .ensures) ∙ not-false _ (due .if2 .left)) (omega arith)) (omega arith) (omega arith))
 
 settle-requires : tie.Need-settle-requires
 settle-requires c κs =
@@ -203,12 +208,13 @@ returns-4 c =
     let room = first-room w (s .levels) (one .0 .deep .0) in
     let made = told-yes (call .settle .result) (at y) _ (call .settle .ensures .0) (settled .if4 .taken) in
     let is-due = sym (due .before .draw-due .ensures) ∙ not-false _ (due .if2 .left) in
-    draw-yes s _ _ _ _ _ _
+    draw-also (a .self) (length (a .store .now)) (length (a .out .now)) (at (a .store .now)) (heightsAt (a .out .now))
+    (draw-yes s _ _ _ _ _ _
     (fits-yes _ _ made ∙ draw-last s n m (at (a .store .now)) (sym (ok .before .store-question .ensures) ∙ ok .if1 .left) is-due (omega arith))
     is-due
     (drawn-reader s (c .moved .result) _ (enter .enter-of .result) refl (enter .enter-of .ensures) (c .moved .ensures))
     made
-    (drawn-row w (s .drawn) p (p + w - p) y _ _ (place .row-place .ensures .0) (omega arith) (omega (arith, place .row-place .ensures .1, one .1, room, call .settle .kept .1 .0)) (drawing .draw-heights .ensures))
+    (drawn-row w (s .drawn) p (p + w - p) y _ _ (place .row-place .ensures .0) (omega arith) (omega (arith, place .row-place .ensures .1, one .1, room, call .settle .kept .1 .0)) (drawing .draw-heights .ensures)))
 
 store-length-requires : tie.Need-store-length-requires
 store-length-requires c κs = tt
@@ -248,10 +254,11 @@ returns-5 c =
     let n = length (a .store .now) in
     let m = length (a .out .now) in
     let made = told-no (call .settle .result) (at (call .settle .last .1 .0)) _ (call .settle .ensures .0) (failed .if4 .left) in
-    draw-end s _ _ _ _ _
+    draw-also (a .self) (length (a .store .now)) (length (a .out .now)) (at (a .store .now)) (heightsAt (a .out .now))
+    (draw-end s _ _ _ _ _
     (fits-no _ made ∙ draw-last s n m (at (a .store .now)) (sym (ok .before .store-question .ensures) ∙ ok .if1 .left) (sym (due .before .draw-due .ensures) ∙ not-false _ (due .if2 .left)) (omega arith))
     (c .over .ensures)
-    (zero-kept (s .width) (s .levels) _ _ _ _ (counts-length s (store-in s _ (sym (ok .before .store-question .ensures) ∙ ok .if1 .left) .0) _ (long .store-length .ensures)) (call .settle .ensures .1) (clear .clear .ensures))
+    (zero-kept (s .width) (s .levels) _ _ _ _ (counts-length s (store-in s _ (sym (ok .before .store-question .ensures) ∙ ok .if1 .left) .0) _ (long .store-length .ensures)) (call .settle .ensures .1) (clear .clear .ensures)))
 
 pub draw-spec : {M : Type 1} → statement M
 draw-spec =

@@ -1,10 +1,13 @@
 -- `reader::Reader::set_up` meets its contract: refused by a question, or the needed part of the store cleared. Assumes nothing.
 use mathlib.Core.Path.{_∙_, sym}
 use native.Mathlib.Omega.{arith}
+use lib.ListN.{length}
+use Rattle.numbers.specs.Signal.{at}
 use Rattle.reader.specs.Calls.{fresh}
 use Rattle.reader.proofs.StoreLaws.{length-is}
 use Rattle.reader.proofs.QuestionLaws.{up-in}
 use Rattle.reader.proofs.CallLaws.{set-up-no, set-up-yes}
+use Rattle.reader.proofs.Keeps.{set-up-also}
 use Rattle.reader.proofs.Reader.set_up.Statement.{statement}
 use Rattle.reader.proofs.Reader.set_up.Tie as tie
 
@@ -12,7 +15,7 @@ set-up-question-requires : tie.Need-set-up-question-requires
 set-up-question-requires c κs = tt
 
 returns : tie.Need-returns
-returns c = let a = c .before .before .args in set-up-no (a .width) (a .height) (a .levels) _ _ _ (c .before .set-up-question .ensures) (c .if1 .taken)
+returns c = let a = c .before .before .args in set-up-also (a .width) (a .height) (a .levels) (length (a .store .now)) (at (a .store .now)) (set-up-no (a .width) (a .height) (a .levels) _ _ _ (c .before .set-up-question .ensures) (c .if1 .taken))
 
 store-length-requires : tie.Need-store-length-requires
 store-length-requires c κs = tt
@@ -36,7 +39,8 @@ returns-2 c =
     let passed = long .before in
     let a = passed .before .before .args in
     let ok = up-in (a .width) (a .height) (a .levels) _ (sym (passed .before .set-up-question .ensures) ∙ passed .if1 .left) in
-    set-up-yes (a .width) (a .height) (a .levels) _ _ _ _ (sym (passed .before .set-up-question .ensures) ∙ passed .if1 .left) (long .store-length .ensures ∙ length-is (a .width) (a .levels) (ok .0) (ok .1)) (call .clear .ensures)
+    set-up-also (a .width) (a .height) (a .levels) (length (a .store .now)) (at (a .store .now))
+    (set-up-yes (a .width) (a .height) (a .levels) _ _ _ _ (sym (passed .before .set-up-question .ensures) ∙ passed .if1 .left) (long .store-length .ensures ∙ length-is (a .width) (a .levels) (ok .0) (ok .1)) (call .clear .ensures))
 
 pub set-up-spec : {M : Type 1} → statement M
 set-up-spec =
