@@ -84,7 +84,7 @@ returns-2 c =
         (
           sym (went (isReader (a .state .now)) (i .is-reader .result) (i .is-reader .ensures) (λ (r : Reader). drawStore r (drawQuestion r (length (a .store .now)) (at (a .store .now)) (length (a .out .now))) (at (a .store .now))) (readerOf (a .state .now)) (u .unpack-reader .result) (at (a .store .now)) _ (u .before .before .if1 .left) (u .unpack-reader .ensures) (o .before .before .draw .ensures .1 .1 .0)),
           (
-            sym (went (isReader (a .state .now)) (i .is-reader .result) (i .is-reader .ensures) (λ (r : Reader). drawArea r (drawQuestion r (length (a .store .now)) (at (a .store .now)) (length (a .out .now))) (at (a .store .now)) (heightsAt (a .out .now))) (readerOf (a .state .now)) (u .unpack-reader .result) (heightsAt (a .out .now)) _ (u .before .before .if1 .left) (u .unpack-reader .ensures) (o .before .before .draw .ensures .1 .1 .1)),
+            sym (went (isReader (a .state .now)) (i .is-reader .result) (i .is-reader .ensures) (λ (r : Reader). drawArea r (drawQuestion r (length (a .store .now)) (at (a .store .now)) (length (a .out .now))) (at (a .store .now)) (heightsAt (a .out .now))) (readerOf (a .state .now)) (u .unpack-reader .result) (heightsAt (a .out .now)) _ (u .before .before .if1 .left) (u .unpack-reader .ensures) (o .before .before .draw .ensures .1 .1 .1 .0)),
             sym (ap (λ (q : Drawn). countOf q (a .drawn .now)) e),
           ),
         ),
@@ -111,7 +111,7 @@ returns-3 c =
         (
           sym (went (isReader (a .state .now)) (i .is-reader .result) (i .is-reader .ensures) (λ (r : Reader). drawStore r (drawQuestion r (length (a .store .now)) (at (a .store .now)) (length (a .out .now))) (at (a .store .now))) (readerOf (a .state .now)) (u .unpack-reader .result) (at (a .store .now)) _ (u .before .before .if1 .left) (u .unpack-reader .ensures) (o .before .before .draw .ensures .1 .1 .0)),
           (
-            sym (went (isReader (a .state .now)) (i .is-reader .result) (i .is-reader .ensures) (λ (r : Reader). drawArea r (drawQuestion r (length (a .store .now)) (at (a .store .now)) (length (a .out .now))) (at (a .store .now)) (heightsAt (a .out .now))) (readerOf (a .state .now)) (u .unpack-reader .result) (heightsAt (a .out .now)) _ (u .before .before .if1 .left) (u .unpack-reader .ensures) (o .before .before .draw .ensures .1 .1 .1)),
+            sym (went (isReader (a .state .now)) (i .is-reader .result) (i .is-reader .ensures) (λ (r : Reader). drawArea r (drawQuestion r (length (a .store .now)) (at (a .store .now)) (length (a .out .now))) (at (a .store .now)) (heightsAt (a .out .now))) (readerOf (a .state .now)) (u .unpack-reader .result) (heightsAt (a .out .now)) _ (u .before .before .if1 .left) (u .unpack-reader .ensures) (o .before .before .draw .ensures .1 .1 .1 .0)),
             sym (ap (λ (q : Drawn). countOf q (a .drawn .now)) e),
           ),
         ),
@@ -138,7 +138,7 @@ returns-4 c =
         (
           sym (went (isReader (a .state .now)) (i .is-reader .result) (i .is-reader .ensures) (λ (r : Reader). drawStore r (drawQuestion r (length (a .store .now)) (at (a .store .now)) (length (a .out .now))) (at (a .store .now))) (readerOf (a .state .now)) (u .unpack-reader .result) (at (a .store .now)) _ (u .before .before .if1 .left) (u .unpack-reader .ensures) (o .before .before .draw .ensures .1 .1 .0)),
           (
-            sym (went (isReader (a .state .now)) (i .is-reader .result) (i .is-reader .ensures) (λ (r : Reader). drawArea r (drawQuestion r (length (a .store .now)) (at (a .store .now)) (length (a .out .now))) (at (a .store .now)) (heightsAt (a .out .now))) (readerOf (a .state .now)) (u .unpack-reader .result) (heightsAt (a .out .now)) _ (u .before .before .if1 .left) (u .unpack-reader .ensures) (o .before .before .draw .ensures .1 .1 .1)),
+            sym (went (isReader (a .state .now)) (i .is-reader .result) (i .is-reader .ensures) (λ (r : Reader). drawArea r (drawQuestion r (length (a .store .now)) (at (a .store .now)) (length (a .out .now))) (at (a .store .now)) (heightsAt (a .out .now))) (readerOf (a .state .now)) (u .unpack-reader .result) (heightsAt (a .out .now)) _ (u .before .before .if1 .left) (u .unpack-reader .ensures) (o .before .before .draw .ensures .1 .1 .1 .0)),
             sym (ap (λ (q : Drawn). countOf q (a .drawn .now)) e),
           ),
         ),
@@ -165,7 +165,7 @@ returns-5 c =
         (
           sym (went (isReader (a .state .now)) (i .is-reader .result) (i .is-reader .ensures) (λ (r : Reader). drawStore r (drawQuestion r (length (a .store .now)) (at (a .store .now)) (length (a .out .now))) (at (a .store .now))) (readerOf (a .state .now)) (u .unpack-reader .result) (at (a .store .now)) _ (u .before .before .if1 .left) (u .unpack-reader .ensures) (o .before .before .draw .ensures .1 .1 .0)),
           (
-            sym (went (isReader (a .state .now)) (i .is-reader .result) (i .is-reader .ensures) (λ (r : Reader). drawArea r (drawQuestion r (length (a .store .now)) (at (a .store .now)) (length (a .out .now))) (at (a .store .now)) (heightsAt (a .out .now))) (readerOf (a .state .now)) (u .unpack-reader .result) (heightsAt (a .out .now)) _ (u .before .before .if1 .left) (u .unpack-reader .ensures) (o .before .before .draw .ensures .1 .1 .1)),
+            sym (went (isReader (a .state .now)) (i .is-reader .result) (i .is-reader .ensures) (λ (r : Reader). drawArea r (drawQuestion r (length (a .store .now)) (at (a .store .now)) (length (a .out .now))) (at (a .store .now)) (heightsAt (a .out .now))) (readerOf (a .state .now)) (u .unpack-reader .result) (heightsAt (a .out .now)) _ (u .before .before .if1 .left) (u .unpack-reader .ensures) (o .before .before .draw .ensures .1 .1 .1 .0)),
             sym (ap (λ (q : Drawn). countOf q (a .drawn .now)) e),
           ),
         ),

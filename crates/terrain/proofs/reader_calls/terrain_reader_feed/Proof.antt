@@ -68,7 +68,7 @@ returns-2 c =
       sym (ap feedNumber e),
       (
         c .pack-reader .ensures ∙ sym (ap (λ (q : Fed). stateFed q (a .state .now)) e),
-        sym (went (isReader (a .state .now)) (i .is-reader .result) (i .is-reader .ensures) (λ (r : Reader). feedStore r (feedQuestion r (length (a .store .now)) (at (a .store .now)) (length (a .run .now)) (at (a .run .now))) (at (a .run .now)) (at (a .store .now))) (readerOf (a .state .now)) (u .unpack-reader .result) (at (a .store .now)) _ (u .before .before .if1 .left) (u .unpack-reader .ensures) (o .before .feed .ensures .1 .1)),
+        sym (went (isReader (a .state .now)) (i .is-reader .result) (i .is-reader .ensures) (λ (r : Reader). feedStore r (feedQuestion r (length (a .store .now)) (at (a .store .now)) (length (a .run .now)) (at (a .run .now))) (at (a .run .now)) (at (a .store .now))) (readerOf (a .state .now)) (u .unpack-reader .result) (at (a .store .now)) _ (u .before .before .if1 .left) (u .unpack-reader .ensures) (o .before .feed .ensures .1 .1 .0)),
       ),
     )
 
@@ -86,7 +86,7 @@ returns-3 c =
       sym (ap feedNumber e),
       (
         c .pack-reader2 .ensures ∙ sym (ap (λ (q : Fed). stateFed q (a .state .now)) e),
-        sym (went (isReader (a .state .now)) (i .is-reader .result) (i .is-reader .ensures) (λ (r : Reader). feedStore r (feedQuestion r (length (a .store .now)) (at (a .store .now)) (length (a .run .now)) (at (a .run .now))) (at (a .run .now)) (at (a .store .now))) (readerOf (a .state .now)) (u .unpack-reader .result) (at (a .store .now)) _ (u .before .before .if1 .left) (u .unpack-reader .ensures) (o .before .feed .ensures .1 .1)),
+        sym (went (isReader (a .state .now)) (i .is-reader .result) (i .is-reader .ensures) (λ (r : Reader). feedStore r (feedQuestion r (length (a .store .now)) (at (a .store .now)) (length (a .run .now)) (at (a .run .now))) (at (a .run .now)) (at (a .store .now))) (readerOf (a .state .now)) (u .unpack-reader .result) (at (a .store .now)) _ (u .before .before .if1 .left) (u .unpack-reader .ensures) (o .before .feed .ensures .1 .1 .0)),
       ),
     )
 
@@ -104,7 +104,7 @@ returns-4 c =
       sym (ap feedNumber e),
       (
         sym (ap (λ (q : Fed). stateFed q (a .state .now)) e),
-        sym (went (isReader (a .state .now)) (i .is-reader .result) (i .is-reader .ensures) (λ (r : Reader). feedStore r (feedQuestion r (length (a .store .now)) (at (a .store .now)) (length (a .run .now)) (at (a .run .now))) (at (a .run .now)) (at (a .store .now))) (readerOf (a .state .now)) (u .unpack-reader .result) (at (a .store .now)) _ (u .before .before .if1 .left) (u .unpack-reader .ensures) (o .before .feed .ensures .1 .1)),
+        sym (went (isReader (a .state .now)) (i .is-reader .result) (i .is-reader .ensures) (λ (r : Reader). feedStore r (feedQuestion r (length (a .store .now)) (at (a .store .now)) (length (a .run .now)) (at (a .run .now))) (at (a .run .now)) (at (a .store .now))) (readerOf (a .state .now)) (u .unpack-reader .result) (at (a .store .now)) _ (u .before .before .if1 .left) (u .unpack-reader .ensures) (o .before .feed .ensures .1 .1 .0)),
       ),
     )
 

@@ -37,7 +37,7 @@ returns c =
       sym (ap setUpNumber e),
       (
         c .pack-reader .ensures ∙ sym (ap (λ (q : SetUp). stateUp q (a .state .now)) e),
-        o .before .set-up .ensures .1 .1,
+        o .before .set-up .ensures .1 .1 .0,
       ),
     )
 
@@ -53,7 +53,7 @@ returns-2 c =
       sym (ap setUpNumber e),
       (
         sym (ap (λ (q : SetUp). stateUp q (a .state .now)) e),
-        o .before .set-up .ensures .1 .1,
+        o .before .set-up .ensures .1 .1 .0,
       ),
     )
 
