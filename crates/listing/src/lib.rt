@@ -1,0 +1,2 @@
+// The listing of a map: bytes in, lines out, cut anywhere.
+mod text;

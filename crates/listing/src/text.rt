@@ -1,0 +1,58 @@
+// Text is built from the back of a small area: a call puts its bytes right before place `at` and answers where they begin.
+ghost use mathlib.Core.Path.{_≡_};
+ghost use mathlib.Core.List.{[], _∷_};
+ghost use Prim.Native.Nat.{_≤_, _<_, _+_, _%_};
+ghost use lib.IntN.{natAbs};
+ghost use lib.ListN.{length};
+ghost use Rattle.listing.specs.Decimal.{numeral, integer};
+ghost use Rattle.listing.specs.Text.{Put};
+
+pub fn put_byte(byte: u8, text: &mut [u8], at: usize) -> usize
+    requires { ⌜ (0 < at) × (at ≤ length (now text)) ⌝ }
+    ensures { λ r. ⌜ Put (byte ∷ []) at r (now (text .entry)) (now (text .exit)) ⌝ }
+{
+    let place = at - 1;
+    text[place] = byte;
+    place
+}
+
+pub fn last_digit(n: u32) -> u8
+    ensures { λ r. ⌜ r ≡ 48 + n % 10 ⌝ }
+{
+    b'0' + (n % 10) as u8
+}
+
+// A number has at most ten digits.
+pub fn put_number(n: u32, text: &mut [u8], at: usize) -> usize
+    requires { ⌜ (10 ≤ at) × (at ≤ length (now text)) ⌝ }
+    ensures { λ r. ⌜ Put (numeral n) at r (now (text .entry)) (now (text .exit)) ⌝ }
+{
+    let mut rest = n;
+    let mut place = at;
+    while 10 <= rest {
+        place = put_byte(last_digit(rest), text, place);
+        rest = rest / 10;
+    }
+    put_byte(last_digit(rest), text, place)
+}
+
+fn magnitude(v: i32) -> u32
+    ensures { λ r. ⌜ r ≡ natAbs v ⌝ }
+{
+    if v < 0 {
+        (0 - (v as i64)) as u32
+    } else {
+        v as u32
+    }
+}
+
+pub fn put_integer(v: i32, text: &mut [u8], at: usize) -> usize
+    requires { ⌜ (11 ≤ at) × (at ≤ length (now text)) ⌝ }
+    ensures { λ r. ⌜ Put (integer v) at r (now (text .entry)) (now (text .exit)) ⌝ }
+{
+    let place = put_number(magnitude(v), text, at);
+    if v < 0 {
+        return put_byte(b'-', text, place);
+    }
+    place
+}
