@@ -1,4 +1,5 @@
 pub mod SizeLaws
+pub mod StoreLaws
 pub mod GridLaws
 pub mod QuestionLaws
 pub mod SidePlaces
@@ -12,3 +13,5 @@ pub mod LevelTheory
 pub mod Bridge
 pub mod MapTheorems
 pub mod LevelReads
+pub mod OrderLaws
+pub mod OrderOnce

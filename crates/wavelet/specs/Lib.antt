@@ -5,5 +5,7 @@ pub mod Plane
 pub mod View
 pub mod Maps
 pub mod Questions
+pub mod Store
 pub mod ViewCall
 pub mod Span
+pub mod Order

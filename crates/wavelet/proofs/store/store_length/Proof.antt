@@ -1,0 +1,60 @@
+-- `store::store_length` meets its contract: each test is the definition's. Assumes nothing.
+use mathlib.Core.Path.{_≡_, sym, _∙_}
+use mathlib.Core.Bool.{true, false}
+use Prim.Native.Nat.{ℕ}
+use native.Mathlib.Omega.{arith}
+use borrow.Author.Needs.{needs}
+use borrow.Author.Tests.{not-true, not-false}
+use Rattle.numbers.specs.Signal.{pick, both}
+use Rattle.wavelet.specs.Limits.{maxWidth, maxLevels}
+use Rattle.wavelet.specs.Questions.{within}
+use Rattle.wavelet.specs.Store.{storeLength}
+use Rattle.wavelet.proofs.QuestionLaws.{within-true}
+use Rattle.wavelet.proofs.store.store_length.Statement.{statement}
+use Rattle.wavelet.proofs.store.store_length.Tie as tie
+
+module _ (W L : ℕ) where
+  wide : within 1 2049 W ≡ false → 0 ≡ pick (both (within 1 maxWidth W) (within 1 maxLevels L)) (storeLength W L) 0
+  unfolding maxWidth
+  wide a = rw a
+
+  deep : within 1 2049 W ≡ true → within 1 5 L ≡ false → 0 ≡ pick (both (within 1 maxWidth W) (within 1 maxLevels L)) (storeLength W L) 0
+  unfolding maxWidth maxLevels
+  deep a b = rw (a, b)
+
+  fits : within 1 2049 W ≡ true → within 1 5 L ≡ true → storeLength W L ≡ pick (both (within 1 maxWidth W) (within 1 maxLevels L)) (storeLength W L) 0
+  unfolding maxWidth maxLevels
+  fits a b = rw (a, b)
+
+is-within-requires : tie.Need-is-within-requires
+is-within-requires c κs = search needs
+
+returns : tie.Need-returns
+returns c = wide _ _ (sym (c .before .is-within .ensures) ∙ not-true _ (c .if1 .taken))
+
+is-within-requires-2 : tie.Need-is-within-requires-2
+is-within-requires-2 c κs = search needs
+
+returns-2 : tie.Need-returns-2
+returns-2 c =
+    let b = c .before .before in
+    deep _ _ (sym (b .before .is-within .ensures) ∙ not-false _ (b .if1 .left)) (sym (c .before .is-within2 .ensures) ∙ not-true _ (c .if2 .taken))
+
+needed-requires : tie.Need-needed-requires
+unfolding maxWidth maxLevels
+needed-requires c κs =
+    let b = c .before .before in
+    let w = within-true 1 2049 _ (sym (b .before .is-within .ensures) ∙ not-false _ (b .if1 .left)) in
+    let l = within-true 1 5 _ (sym (c .before .is-within2 .ensures) ∙ not-false _ (c .if2 .left)) in
+    (w .1, l .1)
+
+returns-3 : tie.Need-returns-3
+returns-3 c =
+    let d = c .before in
+    let b = d .before .before in
+    c .needed .ensures ∙ fits _ _ (sym (b .before .is-within .ensures) ∙ not-false _ (b .if1 .left)) (sym (d .before .is-within2 .ensures) ∙ not-false _ (d .if2 .left))
+
+pub store-length-spec : {M : Type 1} → statement M
+store-length-spec =
+    tie.close
+    (tie.spec is-within-requires returns is-within-requires-2 returns-2 needed-requires returns-3)

@@ -1,0 +1,200 @@
+-- What the calls answer and leave, as the code's branches meet them. Assumes nothing.
+use mathlib.Core.Path.{_≡_, refl, sym, ap, _∙_}
+use mathlib.Core.Bool.{Bool, true, false, not}
+use mathlib.Core.List.{List}
+use Prim.Native.Nat.{ℕ, zero, suc, _+_, _≤_, _<_}
+use native.Mathlib.Omega.{arith}
+use lib.IntN.{ℤ, pos}
+use lib.Dec.{leb, ltb, eqb}
+use borrow.Author.Tests.{leb-true, le-leb, lt-leb, eq-eqb, ne-eqb}
+use Rattle.numbers.specs.Signal.{pick, both}
+use Rattle.lifting.specs.Halves.{fronted}
+use Rattle.wavelet.specs.Bands.{code}
+use Rattle.wavelet.specs.Limits.{maxWidth, maxHeight, maxLevels}
+use Rattle.wavelet.specs.Questions.{ask, within}
+use Rattle.wavelet.specs.Store.{storeLength}
+use Rattle.writer.specs.declared.Writer.{Writer}
+use Rattle.writer.specs.declared.BandRow.{BandRow}
+use Rattle.writer.specs.declared.cascade.Wait.{Wait}
+use Rattle.writer.specs.declared.closing.Closure.{Closure}
+use Rattle.writer.specs.declared.draws.Spot.{Spot}
+use Rattle.writer.specs.Level.{Memory}
+use Rattle.writer.specs.FiveThreeLevel.{fiveThree}
+use Rattle.writer.specs.Machine.{Out, rest}
+use Rattle.writer.specs.Draws.{Waiting, pull}
+use Rattle.writer.specs.Closing.{Shut, shut}
+use Rattle.writer.specs.Questions.{either, inRanges, longEnough, waitingRow, setUpQuestion, offerQuestion, drawQuestion, finishQuestion}
+use Rattle.writer.specs.Gate.{stateQuestion}
+use Rattle.writer.specs.Answers.{Reply, gives, refused, unless, changedUnless, Handed, aRow, nothing}
+use Rattle.writer.specs.Calls.{fresh, setUpReply, setUpStore, waits, closing, finishReply, finishStore, resumed, pulled, afterDraw, bandRow, handed, handedStore, handedArea, drawReply, drawStore, drawArea}
+use Rattle.writer.specs.Steps.{Left, Found, spotOf, Closed, Drew}
+use Rattle.writer.proofs.GateLaws.{Sound, sound, state-no, state-yes}
+
+-- ---- by the number of the question
+pub unless-no : {A : Type 0} (q : ℕ) (a : A) → 0 < q → refused q ≡ unless q a
+unless-no zero a h = absurd (omega arith)
+unless-no (suc q) a h = refl
+
+pub unless-yes : {A : Type 0} (q : ℕ) (a : A) → q ≡ 0 → gives a ≡ unless q a
+unless-yes zero a h = refl
+unless-yes (suc q) a h = absurd (omega arith)
+
+pub changed-no : {A : Type 0} (q : ℕ) (a b : A) → 0 < q → b ≡ changedUnless q a b
+changed-no zero a b h = absurd (omega arith)
+changed-no (suc q) a b h = refl
+
+pub changed-yes : {A : Type 0} (q : ℕ) (a b : A) → q ≡ 0 → a ≡ changedUnless q a b
+changed-yes zero a b h = refl
+changed-yes (suc q) a b h = absurd (omega arith)
+
+-- ---- set-up
+three : (a b d : Bool) → ask a 2 (ask b 4 (ask d 5 0)) ≡ 0 → (a ≡ true) × (b ≡ true) × (d ≡ true)
+three true true true h = (refl, refl, refl)
+three true true false h = absurd (omega arith)
+three true false d h = absurd (omega arith)
+three false b d h = absurd (omega arith)
+
+pub record Fits (W L n k : ℕ) : Type 0 where
+  pub needed : k ≡ storeLength W L
+  pub room : k ≤ n
+
+module _ (W L n q : ℕ) (e : q ≡ setUpQuestion W L n) where
+  pub set-up-fits : (k : ℕ) → q ≡ 0 → k ≡ pick (both (within 1 maxWidth W) (within 1 maxLevels L)) (storeLength W L) 0 → Fits W L n k
+  unfolding setUpQuestion
+  set-up-fits k z f =
+      let t = three (within 1 maxWidth W) (within 1 maxLevels L) (leb (storeLength W L) n) (sym e ∙ z) in
+      let g : k ≡ storeLength W L = f ∙ simp (t .0, t .1) in
+      record { needed = g; room = omega (arith, leb-true (storeLength W L) n (t .2)) }
+
+  pub set-up-no : (x : Memory) → 0 < q → (refused q ≡ setUpReply W L n) × (x ≡ setUpStore W L n x)
+  unfolding setUpReply setUpStore
+  set-up-no x h = rw (← e) (unless-no q _ h, changed-no q _ x h)
+
+  pub set-up-yes : (k : ℕ) (x y : Memory) → q ≡ 0 → Fits W L n k → y ≡ fronted k (λ _. pos 0) x → (gives (fresh W L) ≡ setUpReply W L n) × (y ≡ setUpStore W L n x)
+  unfolding setUpReply setUpStore
+  set-up-yes k x y z f g = rw (← e) (unless-yes q _ z, g ∙ ap (λ (k : ℕ). fronted k (λ _. pos 0) x) (f .needed) ∙ changed-yes q _ x z)
+
+-- ---- a call that passed: its state is sound
+front : (a b : Bool) (x : ℕ) → ask a 1 (ask b 5 x) ≡ 0 → ask a 1 (ask b 5 0) ≡ 0
+front true true x h = refl
+front true false x h = h
+front false b x h = h
+
+module _ (s : Writer) (n : ℕ) where
+  pub finish-sound : finishQuestion s n ≡ 0 → Sound s n
+  unfolding finishQuestion stateQuestion
+  finish-sound h = sound s n (front (inRanges s) (longEnough n s) _ h)
+
+  pub offer-sound : (k : ℕ) → offerQuestion s n k ≡ 0 → Sound s n
+  unfolding offerQuestion stateQuestion
+  offer-sound k h = sound s n (front (inRanges s) (longEnough n s) _ h)
+
+-- ---- finish
+pub waits-same : (f : Bool) (s : Writer) (r : Shut) (c v i : ℕ) → c ≡ r .closed → v ≡ r .out .level → i ≡ r .out .left →
+    record { width = s .width; levels = s .levels; rows = s .rows; column = s .column; finished = f; closed = c; level = v; left = i } ≡ waits f s r
+waits-same f s r c v i a b d = rw (a, b, d) refl
+
+module _ (s : Writer) (n q : ℕ) (x : Memory) (e : q ≡ finishQuestion s n) where
+  pub finish-no : 0 < q → (refused q ≡ finishReply s n x) × (x ≡ finishStore s n x)
+  unfolding finishReply finishStore
+  finish-no h = rw (← e) (unless-no q _ h, changed-no q _ x h)
+
+  pub finish-yes : (r : Closure) (y : Memory) → q ≡ 0 → Closed (s .levels) (shut fiveThree (s .levels) (s .width) 0 (s .rows) x) r y →
+      (gives (record { width = s .width; levels = s .levels; rows = s .rows; column = s .column; finished = true; closed = r .closed; level = r .level; left = r .left }) ≡ finishReply s n x) × (y ≡ finishStore s n x)
+  unfolding finishReply finishStore
+  finish-yes r y z f =
+      rw (← e) (ap gives (waits-same true s (closing s x) (r .closed) (r .level) (r .left) (f .closed) (f .level) (f .left)) ∙ unless-yes q _ z, f .store ∙ changed-yes q _ x z)
+
+-- ---- what a draw leaves
+module _ (s : Writer) (x y : Memory) (r : Wait) (l : Left (s .levels) (pulled s x) r y) where
+  resumed-open : (f : Bool) (v : ℕ) → f ≡ false → resumed f s (pulled s x) v ≡ record { closed = s .closed; out = pulled s x }
+  unfolding resumed
+  resumed-open false v e = refl
+  resumed-open true v e = let z : _≡_ {A = ℕ} 0 1 = cc in absurd (omega arith)
+
+  resumed-waits : (f : Bool) (v : ℕ) → f ≡ true → 0 < v → resumed f s (pulled s x) v ≡ record { closed = s .closed; out = pulled s x }
+  unfolding resumed
+  resumed-waits false v e h = let z : _≡_ {A = ℕ} 0 1 = cc in absurd (omega arith)
+  resumed-waits true zero e h = absurd (omega arith)
+  resumed-waits true (suc v) e h = refl
+
+  resumed-closes : (f : Bool) (v : ℕ) → f ≡ true → v ≡ 0 → resumed f s (pulled s x) v ≡ shut fiveThree (s .levels) (s .width) (s .closed) (s .rows) (pulled s x .store)
+  unfolding resumed
+  resumed-closes false v e h = let z : _≡_ {A = ℕ} 0 1 = cc in absurd (omega arith)
+  resumed-closes true zero e h = refl
+  resumed-closes true (suc v) e h = absurd (omega arith)
+
+  drew : (c v i : ℕ) (z : Memory) (q : Shut) → afterDraw s x ≡ q → c ≡ q .closed → v ≡ q .out .level → i ≡ q .out .left → z ≡ q .out .store →
+      Drew s x (record { width = s .width; levels = s .levels; rows = s .rows; column = s .column; finished = s .finished; closed = c; level = v; left = i }) z
+  drew c v i z q e a b d g = record { writer = waits-same (s .finished) s q c v i a b d ∙ ap (waits (s .finished) s) (sym e); store = g ∙ ap (λ (q : Shut). q .out .store) (sym e) }
+
+  pub drew-open : s .finished ≡ false → Drew s x (record { width = s .width; levels = s .levels; rows = s .rows; column = s .column; finished = s .finished; closed = s .closed; level = r .level; left = r .left }) y
+  drew-open e = drew (s .closed) (r .level) (r .left) y _ (resumed-open (s .finished) (pulled s x .level) e) refl (l .level) (l .left) (l .store)
+
+  pub drew-waits : s .finished ≡ true → 0 < r .level → Drew s x (record { width = s .width; levels = s .levels; rows = s .rows; column = s .column; finished = s .finished; closed = s .closed; level = r .level; left = r .left }) y
+  drew-waits e h = drew (s .closed) (r .level) (r .left) y _ (resumed-waits (s .finished) (pulled s x .level) e (omega (arith, l .level))) refl (l .level) (l .left) (l .store)
+
+  pub drew-closes : (q : Closure) (z : Memory) → s .finished ≡ true → r .level ≡ 0 → Closed (s .levels) (shut fiveThree (s .levels) (s .width) (s .closed) (s .rows) y) q z →
+      Drew s x (record { width = s .width; levels = s .levels; rows = s .rows; column = s .column; finished = s .finished; closed = q .closed; level = q .level; left = q .left }) z
+  drew-closes q z e h f =
+      let g = rw (l .store) at f in
+      drew (q .closed) (q .level) (q .left) z _ (resumed-closes (s .finished) (pulled s x .level) e (sym (l .level) ∙ h)) (g .closed) (g .level) (g .left) (g .store)
+
+-- ---- draw
+module _ (s : Writer) (n k : ℕ) where
+  draw-state : (stateQuestion s n ≡ 0 → ⊥) → drawQuestion s n k ≡ stateQuestion s n
+  unfolding drawQuestion
+  draw-state h = state-no s n _ h
+
+  draw-rest : stateQuestion s n ≡ 0 → drawQuestion s n k ≡ ask (either (eqb (s .level) 0) (leb (waitingRow s .length) k)) 12 0
+  unfolding drawQuestion
+  draw-rest h = state-yes s n _ h
+
+  draw-none : stateQuestion s n ≡ 0 → s .level ≡ 0 → drawQuestion s n k ≡ 0
+  draw-none h e = draw-rest h ∙ simp (eq-eqb (s .level) 0 e)
+
+  draw-short : stateQuestion s n ≡ 0 → 0 < s .level → k < waitingRow s .length → drawQuestion s n k ≡ 12
+  draw-short h e g = draw-rest h ∙ simp (ne-eqb (s .level) 0 (omega arith), lt-leb (waitingRow s .length) k g)
+
+  draw-long : stateQuestion s n ≡ 0 → 0 < s .level → waitingRow s .length ≤ k → drawQuestion s n k ≡ 0
+  draw-long h e g = draw-rest h ∙ simp (ne-eqb (s .level) 0 (omega arith), le-leb (waitingRow s .length) k g)
+
+module _ (s : Writer) (x z : Memory) where
+  handed-none : (v : ℕ) → v ≡ 0 → (nothing ≡ handed v s x) × (x ≡ handedStore v s x) × (z ≡ handedArea v s x z)
+  handed-none zero e = (refl, refl, refl)
+  handed-none (suc v) e = absurd (omega arith)
+
+  handed-row : (v : ℕ) → 0 < v → (aRow (bandRow (waitingRow s)) (waits (s .finished) s (afterDraw s x)) ≡ handed v s x) × (afterDraw s x .out .store ≡ handedStore v s x) × (fronted (waitingRow s .length) (rest (waitingRow s .start) x) z ≡ handedArea v s x z)
+  handed-row zero h = absurd (omega arith)
+  handed-row (suc v) h = (refl, refl, refl)
+
+module _ (s : Writer) (n k q : ℕ) (x z : Memory) (e : q ≡ stateQuestion s n) where
+  refuses : (p : ℕ) → drawQuestion s n k ≡ p → 0 < p → (refused p ≡ drawReply s n k x) × (x ≡ drawStore s n k x) × (z ≡ drawArea s n k x z)
+  unfolding drawReply drawStore drawArea
+  refuses p f h = rw f (unless-no p _ h, changed-no p _ x h, changed-no p _ z h)
+
+  passes : (a : Handed) (y w : Memory) → drawQuestion s n k ≡ 0 → a ≡ handed (s .level) s x → y ≡ handedStore (s .level) s x → w ≡ handedArea (s .level) s x z → (gives a ≡ drawReply s n k x) × (y ≡ drawStore s n k x) × (w ≡ drawArea s n k x z)
+  unfolding drawReply drawStore drawArea
+  passes a y w f ea ey ew = rw f (ap gives ea, ey, ew)
+
+  pub draw-refused : 0 < q → (refused q ≡ drawReply s n k x) × (x ≡ drawStore s n k x) × (z ≡ drawArea s n k x z)
+  draw-refused h = refuses q (draw-state s n k (λ y. omega arith) ∙ sym e) h
+
+  pub draw-nothing : q ≡ 0 → s .level ≡ 0 → (gives nothing ≡ drawReply s n k x) × (x ≡ drawStore s n k x) × (z ≡ drawArea s n k x z)
+  draw-nothing y h = let t = handed-none s x z (s .level) h in passes nothing x z (draw-none s n k (sym e ∙ y) h) (t .0) (t .1) (t .2)
+
+  module _ (r : Spot) (f : Found (s .levels) (s .width) (waitingRow s) r) (y : q ≡ 0) (h : 0 < s .level) where
+    long : r .length ≡ waitingRow s .length
+    long = ap (λ (r : Spot). r .length) (f .spot)
+
+    pub draw-no-room : k < r .length → (refused 12 ≡ drawReply s n k x) × (x ≡ drawStore s n k x) × (z ≡ drawArea s n k x z)
+    draw-no-room g = refuses 12 (draw-short s n k (sym e ∙ y) h (omega (arith, long))) (omega arith)
+
+    pub draw-row : (v : Writer) (x′ z′ : Memory) → r .length ≤ k → z′ ≡ fronted (r .length) (rest (r .start) x) z → Drew s x v x′ →
+        (gives (aRow (record { level = r .level; band = r .band; row = r .row; length = r .length }) v) ≡ drawReply s n k x) × (x′ ≡ drawStore s n k x) × (z′ ≡ drawArea s n k x z)
+    draw-row v x′ z′ g ez d =
+        let t = handed-row s x z (s .level) h in
+        let b : _≡_ {A = BandRow} (record { level = r .level; band = r .band; row = r .row; length = r .length }) (bandRow (waitingRow s)) = ap (λ (r : Spot). record { level = r .level; band = r .band; row = r .row; length = r .length }) (f .spot) in
+        let a : fronted (r .length) (rest (r .start) x) z ≡ fronted (waitingRow s .length) (rest (waitingRow s .start) x) z = ap (λ (r : Spot). fronted (r .length) (rest (r .start) x) z) (f .spot) in
+        passes _ x′ z′ (draw-long s n k (sym e ∙ y) h (omega (arith, long)))
+        (ap (λ (b : BandRow). aRow b v) b ∙ ap (aRow (bandRow (waitingRow s))) (d .writer) ∙ t .0) (d .store ∙ t .1) (ez ∙ a ∙ t .2)

@@ -1,0 +1,93 @@
+-- The closing of the levels, as the code's branches meet it. Assumes nothing.
+use mathlib.Core.Path.{_≡_, refl, sym, ap, _∙_}
+use Prim.Native.Nat.{ℕ, zero, suc, _+_, _-_, _*_, _≤_, _<_}
+use native.Mathlib.Numerals.{add-one}
+use native.Mathlib.Omega.{arith}
+use Rattle.lifting.specs.Line.{lo, count}
+use Rattle.writer.specs.declared.cascade.Wait.{Wait}
+use Rattle.writer.specs.declared.closing.Closure.{Closure}
+use Rattle.writer.specs.Level.{Memory}
+use Rattle.writer.specs.Counts.{prev, deeper, most, skip}
+use Rattle.writer.specs.FiveThreeLevel.{fiveThree, lastSet}
+use Rattle.writer.specs.Machine.{Out, rest, joinAt, still, under, settled, passOn}
+use Rattle.writer.specs.Closing.{Shut, onward, closeLevel, shut}
+use Rattle.writer.specs.Steps.{Left, Closed}
+use Rattle.writer.proofs.CountLaws.{prev-is, deeper-le}
+use Rattle.writer.proofs.CascadeLaws.{left-still, left-waits, left-same, settled-waits, settled-goes}
+
+-- ---- one level
+module _ (l w : ℕ) (x : Memory) where
+  pub level-closed : (c m : ℕ) → 0 < c → closeLevel fiveThree l w c m x ≡ still x
+  unfolding closeLevel
+  level-closed zero m h = absurd (omega arith)
+  level-closed (suc c) m h = refl
+
+  pub level-empty : (c m : ℕ) → c ≡ 0 → m ≡ 0 → closeLevel fiveThree l w c m x ≡ still x
+  unfolding closeLevel
+  level-empty zero zero e h = refl
+  level-empty zero (suc m) e h = absurd (omega arith)
+  level-empty (suc c) m e h = absurd (omega arith)
+
+  pub level-closes : (c m : ℕ) → c ≡ 0 → 0 < m → closeLevel fiveThree l w c m x ≡ settled (passOn fiveThree l w) (prev (count lo m)) (lastSet w m x) (skip w m (prev (count lo m)) (most l))
+  unfolding closeLevel
+  level-closes zero zero e h = absurd (omega arith)
+  level-closes zero (suc m) e h = refl
+  level-closes (suc c) m e h = absurd (omega arith)
+
+module _ (l w c m k n q i : ℕ) (x x₁ : Memory) (e : c ≡ 0) (h : 0 < m) (ek : k ≡ count lo m) (en : n ≡ prev k) (e₁ : x₁ ≡ lastSet w m x) (eq : q ≡ most l) (ei : i ≡ skip w m n q) where
+  closes : closeLevel fiveThree l w c m x ≡ settled (passOn fiveThree l w) n x₁ i
+  closes = level-closes l w x c m e h ∙ cc
+
+  pub close-waits : 0 < i → Left (l + 1) (closeLevel fiveThree l w c m x) (record { level = 1; left = i }) x₁
+  close-waits g = left-waits (l + 1) i _ x₁ (omega arith) (closes ∙ settled-waits _ n i x₁ g)
+
+  pub close-goes : (r : Wait) (y : Memory) → i ≡ 0 → Left (l + 1) (passOn fiveThree l w n x₁) r y → Left (l + 1) (closeLevel fiveThree l w c m x) r y
+  close-goes r y g f = left-same (l + 1) _ _ r y (closes ∙ settled-goes _ n i x₁ g) f
+
+-- ---- all of them
+pub shut-none : (l w c m : ℕ) (x : Memory) → l ≡ 0 → c ≤ l → Closed l (shut fiveThree l w c m x) (record { closed = c; level = 0; left = 0 }) x
+unfolding shut
+shut-none zero w c m x e h = record { closed = refl; level = refl; left = refl; store = refl; within = omega arith; all = h }
+shut-none (suc l) w c m x e h = absurd (omega arith)
+
+shut-more : (l w c m : ℕ) (x : Memory) → shut fiveThree (suc l) w c m x ≡ onward (4 * w) (shut fiveThree l (count lo w) (prev c) (count lo m)) (closeLevel fiveThree l w c m x) (closeLevel fiveThree l w c m x .level)
+unfolding shut
+shut-more l w c m x = refl
+
+shut-is : (l w c m : ℕ) (x : Memory) → 0 < l → shut fiveThree l w c m x ≡ onward (4 * w) (shut fiveThree (l - 1) (count lo w) (prev c) (count lo m)) (closeLevel fiveThree (l - 1) w c m x) (closeLevel fiveThree (l - 1) w c m x .level)
+shut-is zero w c m x h = absurd (omega arith)
+shut-is (suc l) w c m x h = let p : suc l - 1 ≡ l = omega arith in rw p (shut-more l w c m x)
+
+onward-waits : (a : ℕ) (f : Memory → Shut) (o : Out) (v : ℕ) → 0 < v → onward a f o v ≡ record { closed = 1; out = o }
+unfolding onward
+onward-waits a f o zero h = absurd (omega arith)
+onward-waits a f o (suc v) h = refl
+
+onward-goes : (a : ℕ) (f : Memory → Shut) (o : Out) (v : ℕ) → v ≡ 0 → onward a f o v ≡ record { closed = suc (f (rest a (o .store)) .closed); out = under a (o .store) (f (rest a (o .store)) .out) }
+unfolding onward
+onward-goes a f o zero h = refl
+onward-goes a f o (suc v) h = absurd (omega arith)
+
+module _ (l w c m : ℕ) (x y : Memory) (r : Wait) (h : 0 < l) (f : Left (l - 1 + 1) (closeLevel fiveThree (l - 1) w c m x) r y) where
+  abbrev o : Out
+  o = closeLevel fiveThree (l - 1) w c m x
+
+  pub shut-waits : 0 < r .level → Closed l (shut fiveThree l w c m x) (record { closed = 1; level = r .level; left = r .left }) y
+  shut-waits g =
+      let e : shut fiveThree l w c m x ≡ record { closed = 1; out = o } = shut-is l w c m x h ∙ onward-waits _ _ o (o .level) (omega (arith, f .level)) in
+      rw e (record { closed = refl; level = f .level; left = f .left; store = f .store; within = omega (arith, f .within); all = omega arith })
+
+  pub shut-goes : (v p k d : ℕ) (t z : Memory) (q : Closure) → r .level ≡ 0 → v ≡ count lo w → p ≡ prev c → k ≡ count lo m →
+      Closed (l - 1) (shut fiveThree (l - 1) v p k (rest (4 * w) y)) q t → z ≡ joinAt (4 * w) y t → d ≡ deeper (q .level) →
+      Closed l (shut fiveThree l w c m x) (record { closed = q .closed + 1; level = d; left = q .left }) z
+  shut-goes v p k d t z q g ev ep ek b ez ed =
+      let below : Closed (l - 1) (shut fiveThree (l - 1) (count lo w) (prev c) (count lo m) (rest (4 * w) (o .store))) q t = rw (ev, ep, ek, f .store) at b in
+      let e = shut-is l w c m x h ∙ onward-goes _ _ o (o .level) (sym (f .level) ∙ g) in
+      rw e (record {
+        closed = add-one (q .closed) ∙ ap suc (below .closed);
+        level = ed ∙ ap deeper (below .level);
+        left = below .left;
+        store = ez ∙ ap (λ (m : Memory). joinAt (4 * w) m t) (f .store) ∙ ap (joinAt (4 * w) (o .store)) (below .store);
+        within = omega (arith, deeper-le (q .level) (l - 1) (below .within));
+        all = omega (arith, below .all);
+      })

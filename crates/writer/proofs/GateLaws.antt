@@ -1,0 +1,146 @@
+-- What the gate questions say. Assumes nothing.
+use mathlib.Core.Path.{_≡_, refl, sym, _∙_}
+use mathlib.Core.Bool.{Bool, true, false, not}
+use Prim.Native.Nat.{ℕ, zero, suc, _≤_, _<_}
+use native.Mathlib.Omega.{arith}
+use lib.Dec.{leb, ltb, eqb}
+use borrow.Author.Tests.{leb-true, ltb-true, le-leb, lt-leb, lt-ltb, le-ltb, eq-eqb, ne-eqb, eqb-true}
+use Rattle.numbers.specs.Signal.{pick, both}
+use Rattle.numbers.proofs.Sweep as sweep
+use Rattle.wavelet.specs.Limits.{maxWidth, maxHeight, maxLevels}
+use Rattle.wavelet.specs.Questions.{ask, within}
+use Rattle.wavelet.specs.Store.{storeLength}
+use Rattle.wavelet.proofs.QuestionLaws.{within-true}
+use Rattle.writer.specs.declared.Writer.{Writer}
+use Rattle.writer.specs.Questions.{either, inRanges, longEnough, setUpQuestion, offerQuestion, drawQuestion, finishQuestion, waitingRow}
+use Rattle.writer.specs.Gate.{stateQuestion, openQuestion}
+
+-- ---- two questions, and what follows them
+module _ (p q : ℕ) where
+  abbrev pub asked : Bool → Bool → ℕ → ℕ
+  asked a b x = ask a (suc p) (ask b (suc q) x)
+
+  asked-no : (a b : Bool) (x : ℕ) → (asked a b 0 ≡ 0 → ⊥) → asked a b x ≡ asked a b 0
+  asked-no true true x h = absurd (h refl)
+  asked-no true false x h = refl
+  asked-no false b x h = refl
+
+  asked-yes : (a b : Bool) (x : ℕ) → asked a b 0 ≡ 0 → asked a b x ≡ x
+  asked-yes true true x h = refl
+  asked-yes true false x h = absurd (omega arith)
+  asked-yes false b x h = absurd (omega arith)
+
+  asked-all : (a b : Bool) → asked a b 0 ≡ 0 → (a ≡ true) × (b ≡ true)
+  asked-all true true h = (refl, refl)
+  asked-all true false h = absurd (omega arith)
+  asked-all false b h = absurd (omega arith)
+
+-- ---- question 1, the tests but the last passed
+pub ranges-last : (s : Writer) → within 1 2049 (s .width) ≡ true → within 1 5 (s .levels) ≡ true → s .rows ≤ 65535 → s .column < s .width → s .closed ≤ s .levels → s .level ≤ s .levels → leb (s .left) 4 ≡ inRanges s
+unfolding inRanges maxWidth maxHeight maxLevels
+ranges-last s a b d e f g = simp (a, b, le-leb _ _ d, lt-ltb _ _ e, le-leb _ _ f, le-leb _ _ g)
+
+-- ---- a state that passes questions 1 and 5
+pub record Sound (s : Writer) (n : ℕ) : Type 0 where
+  pub width : (1 ≤ s .width) × (s .width ≤ 2049)
+  pub levels : (1 ≤ s .levels) × (s .levels ≤ 5)
+  pub rows : s .rows ≤ 65535
+  pub column : s .column < s .width
+  pub closed : s .closed ≤ s .levels
+  pub level : s .level ≤ s .levels
+  pub left : s .left ≤ 4
+  pub room : storeLength (s .width) (s .levels) ≤ n
+
+module _ (s : Writer) (n : ℕ) where
+  pub state-no : (x : ℕ) → (stateQuestion s n ≡ 0 → ⊥) → ask (inRanges s) 1 (ask (longEnough n s) 5 x) ≡ stateQuestion s n
+  unfolding stateQuestion
+  state-no x h = asked-no 0 4 (inRanges s) (longEnough n s) x h
+
+  pub state-yes : (x : ℕ) → stateQuestion s n ≡ 0 → ask (inRanges s) 1 (ask (longEnough n s) 5 x) ≡ x
+  unfolding stateQuestion
+  state-yes x h = asked-yes 0 4 (inRanges s) (longEnough n s) x h
+
+  pub sound : stateQuestion s n ≡ 0 → Sound s n
+  unfolding stateQuestion inRanges longEnough maxWidth maxHeight maxLevels
+  sound h =
+      let e = asked-all 0 4 (inRanges s) (longEnough n s) h in
+      let a = sweep.both _ _ (e .0) in
+      let b = sweep.both _ _ (a .1) in
+      let d = sweep.both _ _ (b .1) in
+      let f = sweep.both _ _ (d .1) in
+      let g = sweep.both _ _ (f .1) in
+      let i = sweep.both _ _ (g .1) in
+      record {
+        width = within-true 1 2049 _ (a .0);
+        levels = within-true 1 5 _ (b .0);
+        rows = leb-true _ _ (d .0);
+        column = ltb-true _ _ (f .0);
+        closed = leb-true _ _ (g .0);
+        level = leb-true _ _ (i .0);
+        left = leb-true _ _ (i .1);
+        room = leb-true _ _ (e .1);
+      }
+
+module _ (s : Writer) where
+  pub open-no : (x : ℕ) → (openQuestion s ≡ 0 → ⊥) → ask (not (s .finished)) 9 (ask (eqb (s .level) 0) 8 x) ≡ openQuestion s
+  unfolding openQuestion
+  open-no x h = asked-no 8 7 (not (s .finished)) (eqb (s .level) 0) x h
+
+  pub open-yes : (x : ℕ) → openQuestion s ≡ 0 → ask (not (s .finished)) 9 (ask (eqb (s .level) 0) 8 x) ≡ x
+  unfolding openQuestion
+  open-yes x h = asked-yes 8 7 (not (s .finished)) (eqb (s .level) 0) x h
+
+  pub open-level : openQuestion s ≡ 0 → s .level ≡ 0
+  unfolding openQuestion
+  open-level h = eqb-true _ _ (asked-all 8 7 (not (s .finished)) (eqb (s .level) 0) h .1)
+
+-- ---- the calls
+module _ (s : Writer) (n k : ℕ) where
+  pub offer-state : (stateQuestion s n ≡ 0 → ⊥) → stateQuestion s n ≡ offerQuestion s n k
+  unfolding offerQuestion
+  offer-state h = sym (state-no s n _ h)
+
+  pub offer-open : stateQuestion s n ≡ 0 → (openQuestion s ≡ 0 → ⊥) → openQuestion s ≡ offerQuestion s n k
+  unfolding offerQuestion
+  offer-open h g = sym (state-yes s n _ h ∙ open-no s _ g)
+
+  offer-rest : (x : ℕ) → stateQuestion s n ≡ 0 → openQuestion s ≡ 0 → ask (either (eqb k 0) (ltb (s .rows) maxHeight)) 10 0 ≡ x → x ≡ offerQuestion s n k
+  unfolding offerQuestion
+  offer-rest x h g e = sym (state-yes s n _ h ∙ open-yes s _ g ∙ e)
+
+  pub offer-limit : stateQuestion s n ≡ 0 → openQuestion s ≡ 0 → 0 < k → 65535 ≤ s .rows → 10 ≡ offerQuestion s n k
+  unfolding maxHeight
+  offer-limit h g a b = offer-rest 10 h g (simp (ne-eqb k 0 (omega arith), le-ltb (s .rows) 65535 b))
+
+  pub offer-passes : stateQuestion s n ≡ 0 → openQuestion s ≡ 0 → s .rows < 65535 → 0 ≡ offerQuestion s n k
+  unfolding maxHeight
+  offer-passes h g b = offer-rest 0 h g (simp (lt-ltb (s .rows) 65535 b) (any (eqb k 0)))
+    where
+      any : (a : Bool) → ask (either a true) 10 0 ≡ 0
+      any true = refl
+      any false = refl
+
+  pub offer-empty : stateQuestion s n ≡ 0 → openQuestion s ≡ 0 → k ≡ 0 → 0 ≡ offerQuestion s n k
+  offer-empty h g e = offer-rest 0 h g (simp (eq-eqb k 0 e))
+
+module _ (s : Writer) (n : ℕ) where
+  pub finish-state : (stateQuestion s n ≡ 0 → ⊥) → stateQuestion s n ≡ finishQuestion s n
+  unfolding finishQuestion
+  finish-state h = sym (state-no s n _ h)
+
+  pub finish-open : stateQuestion s n ≡ 0 → (openQuestion s ≡ 0 → ⊥) → openQuestion s ≡ finishQuestion s n
+  unfolding finishQuestion
+  finish-open h g = sym (state-yes s n _ h ∙ open-no s _ g)
+
+  finish-rest : (x : ℕ) → stateQuestion s n ≡ 0 → openQuestion s ≡ 0 → ask (both (ltb 0 (s .rows)) (eqb (s .column) 0)) 11 0 ≡ x → x ≡ finishQuestion s n
+  unfolding finishQuestion
+  finish-rest x h g e = sym (state-yes s n _ h ∙ open-yes s _ g ∙ e)
+
+  pub finish-none : stateQuestion s n ≡ 0 → openQuestion s ≡ 0 → s .rows ≡ 0 → 11 ≡ finishQuestion s n
+  finish-none h g e = finish-rest 11 h g (simp (le-ltb 0 (s .rows) (omega arith)))
+
+  pub finish-begun : stateQuestion s n ≡ 0 → openQuestion s ≡ 0 → 0 < s .rows → 0 < s .column → 11 ≡ finishQuestion s n
+  finish-begun h g a b = finish-rest 11 h g (simp (lt-ltb 0 (s .rows) a, ne-eqb (s .column) 0 (omega arith)))
+
+  pub finish-passes : stateQuestion s n ≡ 0 → openQuestion s ≡ 0 → 0 < s .rows → s .column ≡ 0 → 0 ≡ finishQuestion s n
+  finish-passes h g a b = finish-rest 0 h g (simp (lt-ltb 0 (s .rows) a, eq-eqb (s .column) 0 b))

@@ -1,0 +1,16 @@
+pub mod CountLaws
+pub mod Filling
+pub mod Slots
+pub mod LevelLaws
+pub mod Waiting
+pub mod Cascade
+pub mod CallList
+pub mod Demand3
+pub mod SetLaws
+pub mod RestLaws
+pub mod DeliverLaws
+pub mod CascadeLaws
+pub mod DrawLaws
+pub mod ClosingLaws
+pub mod GateLaws
+pub mod CallLaws

@@ -1,0 +1,76 @@
+-- `Writer::draw` meets its contract. Assumes nothing.
+use mathlib.Core.Path.{_≡_, refl, sym, _∙_}
+use native.Mathlib.Omega.{arith}
+use borrow.Author.Needs.{needs}
+use lib.ListN.{length}
+use Rattle.numbers.specs.Signal.{at}
+use Rattle.writer.specs.Machine.{rest}
+use Rattle.writer.specs.Gate.{stateQuestion}
+use Rattle.writer.proofs.GateLaws.{sound}
+use Rattle.writer.proofs.CallLaws.{draw-refused, draw-nothing, draw-no-room, draw-row}
+use Rattle.writer.proofs.Writer.draw.Statement.{statement}
+use Rattle.writer.proofs.Writer.draw.Tie as tie
+
+state-question-requires : tie.Need-state-question-requires
+state-question-requires c κs = search needs
+
+returns : tie.Need-returns
+returns c = let t = draw-refused _ _ _ _ _ _ (c .before .state-question .ensures) (omega arith) in (t .0, (t .1, t .2))
+
+returns-2 : tie.Need-returns-2
+returns-2 c = let t = draw-nothing _ _ _ _ _ _ (c .before .before .before .state-question .ensures) (omega arith) (omega arith) in (t .0, (t .1, t .2))
+
+waiting-requires : tie.Need-waiting-requires
+waiting-requires c κs =
+    let a = c .before .before .before .before .args in
+    let q : stateQuestion (a .self) (length (a .store .now)) ≡ 0 = omega arith in
+    let f = sound (a .self) (length (a .store .now)) q in
+    omega arith
+
+returns-3 : tie.Need-returns-3
+returns-3 c =
+    let a = c .before .before .before .before .before .before .before .args in
+    let t = draw-no-room (a .self) (length (a .store .now)) (length (a .out .now)) _ (at (a .store .now)) (at (a .out .now)) (c .before .before .before .before .before .before .state-question .ensures) _ (c .before .before .waiting .ensures) (omega arith) (omega arith) (omega arith) in
+    (t .0, (t .1, t .2))
+
+hand-out-requires : tie.Need-hand-out-requires
+hand-out-requires c κs =
+    let a = c .before .before .before .before .before .before .before .before .before .args in
+    let q : stateQuestion (a .self) (length (a .store .now)) ≡ 0 = omega arith in
+    let f = sound (a .self) (length (a .store .now)) q in
+    omega arith
+
+draw-on-requires : tie.Need-draw-on-requires
+draw-on-requires c κs =
+    let a = c .before .before .before .before .before .before .before .before .before .before .before .before .args in
+    let q : stateQuestion (a .self) (length (a .store .now)) ≡ 0 = omega arith in
+    let f = sound (a .self) (length (a .store .now)) q in
+    omega arith
+
+same-length : tie.Need-same-length
+same-length c = search needs
+
+same-length-2 : tie.Need-same-length-2
+same-length-2 c = search needs
+
+returns-4 : tie.Need-returns-4
+unfolding rest
+returns-4 c =
+    let a = c .before .before .before .before .before .before .before .before .before .before .before .before .before .before .args in
+    let t = draw-row (a .self) (length (a .store .now)) (length (a .out .now)) _ (at (a .store .now)) (at (a .out .now)) (c .before .before .before .before .before .before .before .before .before .before .before .before .before .state-question .ensures) _ (c .before .before .before .before .before .before .before .before .before .waiting .ensures) (omega arith) (omega arith) _ _ _ (omega arith) (c .before .before .before .before .hand-out .ensures) (c .before .draw-on .ensures) in
+    (t .0, (t .1, t .2))
+
+pub draw-spec : {M : Type 1} → statement M
+draw-spec =
+    tie.close
+    (tie.spec
+    state-question-requires
+    returns
+    returns-2
+    waiting-requires
+    returns-3
+    hand-out-requires
+    draw-on-requires
+    same-length
+    same-length-2
+    returns-4)

@@ -1,0 +1,32 @@
+-- `Writer::finish` meets its contract. Assumes nothing.
+use mathlib.Core.Path.{_≡_, sym, _∙_}
+use native.Mathlib.Omega.{arith}
+use borrow.Author.Needs.{needs}
+use lib.ListN.{length}
+use Rattle.writer.specs.Questions.{finishQuestion}
+use Rattle.writer.proofs.CallLaws.{finish-sound, finish-no, finish-yes}
+use Rattle.writer.proofs.Writer.finish.Statement.{statement}
+use Rattle.writer.proofs.Writer.finish.Tie as tie
+
+finish-question-requires : tie.Need-finish-question-requires
+finish-question-requires c κs = search needs
+
+returns : tie.Need-returns
+returns c = finish-no _ _ _ _ (c .before .finish-question .ensures) (omega arith)
+
+shut-requires : tie.Need-shut-requires
+shut-requires c κs =
+    let a = c .before .before .before .args in
+    let q : finishQuestion (a .self) (length (a .store .now)) ≡ 0 = omega arith in
+    let f = finish-sound (a .self) (length (a .store .now)) q in
+    omega arith
+
+same-length : tie.Need-same-length
+same-length c = search needs
+
+returns-2 : tie.Need-returns-2
+returns-2 c = finish-yes _ _ _ _ (c .before .before .before .before .finish-question .ensures) _ _ (omega arith) (c .before .shut .ensures)
+
+pub finish-spec : {M : Type 1} → statement M
+finish-spec =
+    tie.close (tie.spec finish-question-requires returns shut-requires same-length returns-2)

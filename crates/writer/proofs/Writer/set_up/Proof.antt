@@ -1,0 +1,36 @@
+-- `Writer::set_up` meets its contract. Assumes nothing.
+use native.Mathlib.Omega.{arith}
+use borrow.Author.Needs.{needs}
+use Rattle.writer.proofs.CallLaws.{set-up-fits, set-up-no, set-up-yes}
+use Rattle.writer.proofs.Writer.set_up.Lts as lts
+use Rattle.writer.proofs.Writer.set_up.Statement.{statement}
+use Rattle.writer.proofs.Writer.set_up.Tie as tie
+
+set-up-question-requires : tie.Need-set-up-question-requires
+set-up-question-requires c κs = search needs
+
+returns : tie.Need-returns
+returns c = set-up-no _ _ _ _ (c .before .set-up-question .ensures) _ (omega arith)
+
+store-length-requires : tie.Need-store-length-requires
+store-length-requires c κs = search needs
+
+clear-requires : tie.Need-clear-requires
+clear-requires c κs = let f = set-up-fits _ _ _ _ (c .before .before .before .set-up-question .ensures) _ (omega arith) (c .before .store-length .ensures) in omega arith
+
+same-length : tie.Need-same-length
+same-length c = search needs
+
+returns-2 : tie.Need-returns-2
+returns-2 c = set-up-yes _ _ _ _ (c .before .before .before .before .before .set-up-question .ensures) _ _ _ (omega arith) (set-up-fits _ _ _ _ (c .before .before .before .before .before .set-up-question .ensures) _ (omega arith) (c .before .before .before .store-length .ensures)) (c .before .clear .ensures)
+
+pub set-up-spec : {M : Type 1} → statement M
+set-up-spec =
+    tie.close
+    (tie.spec
+    set-up-question-requires
+    returns
+    store-length-requires
+    clear-requires
+    same-length
+    returns-2)

@@ -1,0 +1,76 @@
+-- `cascade::pass_on` meets its contract: the LL row delivered, and what it makes below. Assumes nothing.
+use mathlib.Core.Path.{ap}
+use Prim.Native.Nat.{ℕ, _+_, _*_}
+use native.Mathlib.Omega.{arith}
+use Rattle.numbers.specs.Signal.{at}
+use Rattle.lifting.specs.Line.{lo, count}
+use Rattle.wavelet.specs.Store.{storeLength}
+use Rattle.wavelet.proofs.SizeLaws.{count-lo}
+use Rattle.wavelet.proofs.StoreLaws.{store-next, store-back}
+use Rattle.writer.proofs.RestLaws.{at-rest, at-join}
+use Rattle.writer.proofs.CascadeLaws.{left-still, pass-none, passed-goes}
+use borrow.Author.Needs.{needs}
+use Rattle.writer.proofs.cascade.pass_on.Statement.{statement}
+use Rattle.writer.proofs.cascade.pass_on.Tie as tie
+
+returns : tie.Need-returns
+returns c = let a = c .before .args in left-still (a .l + 1) _ _ (pass-none (a .w) (a .n) _ (a .l) (omega arith))
+
+deliver-requires : tie.Need-deliver-requires
+deliver-requires c κs =
+    let a = c .before .before .args in
+    omega (arith, store-next (a .w) (a .l), store-back (count lo (a .w)) (a .l) (omega arith))
+
+mul-a : tie.Need-mul-a
+mul-a c = search needs
+
+mul-arrive : tie.Need-mul-arrive
+mul-arrive c = search needs
+
+sub-arrive : tie.Need-sub-arrive
+sub-arrive c = omega (arith, store-next (c .before .before .before .before .args .w) (c .before .before .before .before .args .l))
+
+part-arrive-start : tie.Need-part-arrive-start
+part-arrive-start c = omega (arith, store-next (c .before .before .before .before .args .w) (c .before .before .before .before .args .l))
+
+part-arrive-end : tie.Need-part-arrive-end
+part-arrive-end c = search needs
+
+half-requires : tie.Need-half-requires
+half-requires c κs = search needs
+
+arrive-requires : tie.Need-arrive-requires
+arrive-requires c κs =
+    let a = c .before .before .before .before .before .before .args in
+    omega (arith, store-next (a .w) (a .l), count-lo (a .w), ap (λ (v : ℕ). storeLength v (a .l)) (c .half .ensures))
+
+deeper-requires : tie.Need-deeper-requires
+deeper-requires c κs = search needs
+
+same-length : tie.Need-same-length
+same-length c = search needs
+
+returns-2 : tie.Need-returns-2
+returns-2 c =
+    let a = c .before .before .before .before .before .before .before .before .before .args in
+    let l = c .before .before .before .before .before .before .deliver .last .0 in
+    let s = store-next (a .w) (a .l) in
+    passed-goes (a .l) (a .w) (a .n) _ _ _ (at l) (at (c .before .before .arrive .last .0)) _ _ (omega arith) (c .before .before .before .half .ensures) (c .before .before .before .before .before .before .deliver .ensures)
+    (rw (at-rest (4 * a .w) l) at (c .before .before .arrive .ensures)) (at-join (4 * a .w) l (c .before .before .arrive .last .0) (omega arith)) (c .deeper .ensures)
+
+pub pass-on-spec : {M : Type 1} → statement M
+pass-on-spec =
+    tie.close
+    (tie.spec
+    returns
+    deliver-requires
+    mul-a
+    mul-arrive
+    sub-arrive
+    part-arrive-start
+    part-arrive-end
+    half-requires
+    arrive-requires
+    deeper-requires
+    same-length
+    returns-2)

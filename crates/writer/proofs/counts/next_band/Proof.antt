@@ -1,0 +1,62 @@
+-- `counts::next_band` meets its contract. The loop's invariant: what k bands come to is what i bands come to. Assumes nothing.
+use mathlib.Core.Path.{_≡_, refl, sym, ap, _∙_}
+use Prim.Native.Nat.{_≤_}
+use native.Mathlib.Omega.{arith}
+use borrow.Author.Needs.{needs}
+use Rattle.writer.specs.Counts.{skip}
+use Rattle.writer.proofs.CountLaws.{skip-stop, skip-go, skip-none}
+use Rattle.writer.proofs.counts.next_band.Statement.{statement}
+use Rattle.writer.proofs.counts.next_band.Tie as tie
+
+abbrev Inv-loop : tie.InvT-loop
+Inv-loop w m n i k₀ k = skip w m n k ≡ skip w m n i
+
+abbrev μ-loop : tie.MeasureT-loop
+μ-loop w m n i k₀ k = k
+
+loop-holds : tie.Need-loop-holds Inv-loop μ-loop
+loop-holds c = refl
+
+sub-has-row : tie.Need-sub-has-row Inv-loop μ-loop
+sub-has-row c = omega arith
+
+has-row-requires : tie.Need-has-row-requires Inv-loop μ-loop
+has-row-requires c κs = search needs
+
+returns : tie.Need-returns Inv-loop μ-loop
+returns c =
+    let turn = c .before .before in
+    skip-stop _ _ _ _ (turn .loop-test .taken) (sym (c .before .has-row .ensures) ∙ c .if1 .taken) ∙ turn .before .loop .inv
+
+sub-k : tie.Need-sub-k Inv-loop μ-loop
+sub-k c = omega arith
+
+loop-less : tie.Need-loop-less Inv-loop μ-loop
+loop-less c = omega arith
+
+loop-again : tie.Need-loop-again Inv-loop μ-loop
+loop-again c =
+    let turn = c .before .before in
+    skip-go _ _ _ _ (turn .loop-test .taken) (sym (c .before .has-row .ensures) ∙ c .if1 .left) ∙ turn .before .loop .inv
+
+returns-2 : tie.Need-returns-2 Inv-loop μ-loop
+returns-2 c =
+    let a = c .before .before .args in
+    let l = c .before .loop in
+    let z : l .k ≡ 0 = omega arith in
+    skip-none (a .w) (a .m) (a .n) ∙ ap (skip (a .w) (a .m) (a .n)) (sym z) ∙ l .inv
+
+pub next-band-spec : {M : Type 1} → statement M
+next-band-spec =
+    tie.close
+    (tie.spec
+    Inv-loop
+    μ-loop
+    loop-holds
+    sub-has-row
+    has-row-requires
+    returns
+    sub-k
+    loop-less
+    loop-again
+    returns-2)

@@ -1,0 +1,91 @@
+-- What each call of the writer answers, and what it leaves in the line store and the output area. s is the writer, x the store and n its length.
+use mathlib.Core.Bool.{Bool, true, false}
+use mathlib.Core.List.{List}
+use Prim.Native.Nat.{ℕ, zero, suc, _+_}
+use lib.IntN.{ℤ, pos}
+use lib.ListN.{length}
+use Rattle.lifting.specs.Halves.{fronted}
+use Rattle.wavelet.specs.Bands.{code}
+use Rattle.wavelet.specs.Store.{storeLength}
+use Rattle.writer.specs.declared.Writer.{Writer}
+use Rattle.writer.specs.declared.BandRow.{BandRow}
+use Rattle.writer.specs.Level.{Memory}
+use Rattle.writer.specs.FiveThreeLevel.{fiveThree}
+use Rattle.writer.specs.Machine.{Out, rest}
+use Rattle.writer.specs.Draws.{Waiting, pull}
+use Rattle.writer.specs.Closing.{Shut, shut}
+use Rattle.writer.specs.Taking.{Taking, offering}
+use Rattle.writer.specs.Questions.{waitingRow, setUpQuestion, offerQuestion, drawQuestion, finishQuestion}
+use Rattle.writer.specs.Answers.{Reply, unless, changedUnless, Took, Handed, aRow, nothing}
+
+-- ---- set-up: "Set-up zeroes the needed part."
+abbrev pub fresh : ℕ → ℕ → Writer
+fresh W L = record { width = W; levels = L; rows = 0; column = 0; finished = false; closed = 0; level = 0; left = 0 }
+
+unfoldable pub setUpReply : ℕ → ℕ → ℕ → Reply Writer
+setUpReply W L n = unless (setUpQuestion W L n) (fresh W L)
+
+unfoldable pub setUpStore : ℕ → ℕ → ℕ → Memory → Memory
+setUpStore W L n x = changedUnless (setUpQuestion W L n) (fronted (storeLength W L) (λ _. pos 0) x) x
+
+-- ---- offer
+abbrev pub took : Taking → Took
+took t = record { taken = t .taken; writer = t .writer }
+
+unfoldable pub offerReply : Writer → ℕ → List ℕ → Memory → Reply Took
+offerReply s n run x = unless (offerQuestion s n (length run)) (took (offering fiveThree run s x))
+
+unfoldable pub offerStore : Writer → ℕ → List ℕ → Memory → Memory
+offerStore s n run x = changedUnless (offerQuestion s n (length run)) (offering fiveThree run s x .store) x
+
+-- ---- finish: "At the finish level 1 closes first, then level 2, and so on."
+-- the writer with what waits, f: finished
+abbrev pub waits : Bool → Writer → Shut → Writer
+waits f s r = record { width = s .width; levels = s .levels; rows = s .rows; column = s .column; finished = f; closed = r .closed; level = r .out .level; left = r .out .left }
+
+abbrev pub closing : Writer → Memory → Shut
+closing s x = shut fiveThree (s .levels) (s .width) 0 (s .rows) x
+
+unfoldable pub finishReply : Writer → ℕ → Memory → Reply Writer
+finishReply s n x = unless (finishQuestion s n) (waits true s (closing s x))
+
+unfoldable pub finishStore : Writer → ℕ → Memory → Memory
+finishStore s n x = changedUnless (finishQuestion s n) (closing s x .out .store) x
+
+-- ---- draw: the row is handed out; once finished and nothing waits, the levels close on
+unfoldable pub resumed : Bool → Writer → Out → ℕ → Shut
+resumed false s o v = record { closed = s .closed; out = o }
+resumed true s o zero = shut fiveThree (s .levels) (s .width) (s .closed) (s .rows) (o .store)
+resumed true s o (suc v) = record { closed = s .closed; out = o }
+
+abbrev pub pulled : Writer → Memory → Out
+pulled s x = pull fiveThree (s .levels) (s .width) (s .closed) (s .level) (s .left) (s .rows) x
+
+abbrev pub afterDraw : Writer → Memory → Shut
+afterDraw s x = resumed (s .finished) s (pulled s x) (pulled s x .level)
+
+abbrev pub bandRow : Waiting → BandRow
+bandRow r = record { level = r .level; band = code (r .band); row = r .row; length = r .length }
+
+-- v is the writer's level: 0, and nothing waits
+abbrev pub handed : ℕ → Writer → Memory → Handed
+handed zero s x = nothing
+handed (suc v) s x = aRow (bandRow (waitingRow s)) (waits (s .finished) s (afterDraw s x))
+
+abbrev pub handedStore : ℕ → Writer → Memory → Memory
+handedStore zero s x = x
+handedStore (suc v) s x = afterDraw s x .out .store
+
+abbrev pub handedArea : ℕ → Writer → Memory → Memory → Memory
+handedArea zero s x z = z
+handedArea (suc v) s x z = fronted (waitingRow s .length) (rest (waitingRow s .start) x) z
+
+-- k is the length of the output area, z what stands in it
+unfoldable pub drawReply : Writer → ℕ → ℕ → Memory → Reply Handed
+drawReply s n k x = unless (drawQuestion s n k) (handed (s .level) s x)
+
+unfoldable pub drawStore : Writer → ℕ → ℕ → Memory → Memory
+drawStore s n k x = changedUnless (drawQuestion s n k) (handedStore (s .level) s x) x
+
+unfoldable pub drawArea : Writer → ℕ → ℕ → Memory → Memory → Memory
+drawArea s n k x z = changedUnless (drawQuestion s n k) (handedArea (s .level) s x z) z

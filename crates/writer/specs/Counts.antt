@@ -1,0 +1,43 @@
+-- The numbers that the writer derives on its way down the levels: nothing of them is kept.
+use mathlib.Core.Bool.{Bool, true, false}
+use Prim.Native.Nat.{ℕ, zero, suc, _+_, _-_, _*_, _/_}
+use lib.Dec.{ltb}
+use Rattle.numbers.specs.Signal.{pick, both}
+use Rattle.lifting.specs.Line.{lo, count}
+use Rattle.wavelet.specs.Bands.{Band, LL, HL, LH, HH, across, down}
+
+-- one less, and 0 of 0
+abbrev pub prev : ℕ → ℕ
+prev zero = zero
+prev (suc n) = n
+
+-- A level's number seen from the level above it; 0 is no level.
+unfoldable pub deeper : ℕ → ℕ
+deeper zero = zero
+deeper (suc v) = suc (suc v)
+
+-- How many sets a level has made that has received m rows; c = 0: and that is not closed. "Set n of a level is made when its row 2n+2 is complete, or when the map is finished."
+unfoldable pub made : ℕ → ℕ → ℕ
+made zero m = (m - 1) / 2
+made (suc c) m = count lo m
+
+-- The bands of a set, from the last: HH, LH, HL, LL.
+unfoldable pub bandAt : ℕ → Band
+bandAt zero = HH
+bandAt (suc zero) = LH
+bandAt (suc (suc zero)) = HL
+bandAt (suc (suc (suc i))) = LL
+
+-- How many of them are handed out of a level with l levels below it: "HL, LH, HH (at level L: LL, HL, LH, HH)".
+unfoldable pub most : ℕ → ℕ
+most zero = 4
+most (suc l) = 3
+
+-- Has band b a row n, at a level of w columns that has received m rows? "A band with no row or no column has no band row."
+unfoldable pub hasRow : ℕ → ℕ → Band → ℕ → Bool
+hasRow w m b n = both (ltb 0 (count (across b) w)) (ltb n (count (down b) m))
+
+-- Of the last i bands of set n, those from the first that has row n on.
+unfoldable pub skip : ℕ → ℕ → ℕ → ℕ → ℕ
+skip w m n zero = zero
+skip w m n (suc i) = pick (hasRow w m (bandAt i) n) (suc i) (skip w m n i)

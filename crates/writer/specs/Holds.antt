@@ -1,0 +1,74 @@
+-- What stands in the line store of a writer, for a map g of H rows: `Holds H g s x`. While a band row of any level waits, its values are the map's; that is in it too.
+-- The numbers are 32-bit words (`wrap32`); for a map they are T.800's whole numbers.
+use mathlib.Core.Path.{_≡_}
+use mathlib.Core.Bool.{Bool, true}
+use Prim.Native.Nat.{ℕ, zero, suc, _+_, _*_, _≤_, _<_}
+use lib.IntN.{ℤ}
+use Rattle.numbers.specs.Word.{wrap32}
+use Rattle.lifting.specs.Line.{lo, hi, count}
+use Rattle.wavelet.specs.Bands.{Grid, Band, LL, across, down, columnsLifted, subband}
+use Rattle.writer.specs.declared.Writer.{Writer}
+use Rattle.writer.specs.Level.{Memory, LevelKind}
+use Rattle.writer.specs.Counts.{prev, made, bandAt, hasRow}
+use Rattle.writer.specs.FiveThreeLevel.{cellOf, fiveThree}
+use Rattle.writer.specs.Machine.{rest}
+
+-- ---- the 5/3 level
+-- the first c columns of row y stand in the slot of row r
+abbrev pub RowStands : ℕ → ℕ → ℕ → (ℕ → ℤ) → Memory → Type 0
+RowStands w r c y x = (i : ℕ) → i < c → x (cellOf w r i) ≡ y i
+
+-- what a level of w columns holds after m rows of the grid g and c columns of row m
+pub record Kept (w H : ℕ) (g : Grid) (m c : ℕ) (x : Memory) : Type 0 where
+  -- the last even row, until its set is made
+  pub even : (n : ℕ) → 2 * n + 1 ≤ m → m ≤ 2 * n + 2 → RowStands w (2 * n) w (g (2 * n)) x
+  -- the odd row after it
+  pub odd : (n : ℕ) → m ≡ 2 * n + 2 → RowStands w (2 * n + 1) w (g (2 * n + 1)) x
+  -- d(n) of the last set made
+  pub high : (n : ℕ) → 2 * n + 3 ≤ m → m ≤ 2 * n + 4 → RowStands w (2 * n + 1) w (columnsLifted wrap32 H g hi n) x
+  -- the row begun
+  pub begun : RowStands w m c (g m) x
+
+-- ---- all levels, whatever a level does and holds (Held)
+abbrev pub Meaning : Type 1
+Meaning = (w H : ℕ) → Grid → (m c : ℕ) → Memory → Type 0
+
+-- the rows of set n stand where they wait
+abbrev pub SetStands : LevelKind → ℕ → ℕ → Grid → ℕ → Memory → Type 0
+SetStands K w H g n x =
+    (b : Band) (i : ℕ) → n < count (down b) H → i < count (across b) w → x (K .place w n b + i) ≡ subband wrap32 w H g b n i
+
+-- how many rows the next level has received: the set that is being handed out (v = 1: of this level) has not gone on to it
+unfoldable pub below : ℕ → ℕ → ℕ → ℕ
+below c zero m = made c m
+below c (suc zero) m = prev (made c m)
+below c (suc (suc v)) m = made c m
+
+-- the set that is being handed out: i bands of it are left, and the first of these has the row
+pub record Waits (K : LevelKind) (w H : ℕ) (g : Grid) (c i m : ℕ) (x : Memory) : Type 0 where
+  pub some-left : 1 ≤ i
+  pub has : hasRow w m (bandAt (prev i)) (prev (made c m)) ≡ true
+  pub one : 1 ≤ made c m
+  pub stands : SetStands K w H g (prev (made c m)) x
+
+-- the numbers of the first level: c = 0: it is not closed; v = 1: its set is being handed out; j columns of its row m are there
+unfoldable pub LevelHolds : Meaning → (w H : ℕ) → Grid → (c m j : ℕ) → Memory → Type 0
+LevelHolds Held w H g zero m j x = (m ≤ H) × Held w H g m j x
+LevelHolds Held w H g (suc c) m j x = (m ≡ H) × (j ≡ 0)
+
+unfoldable pub SetWaits : LevelKind → (w H : ℕ) → Grid → (c v i m : ℕ) → Memory → Type 0
+SetWaits K w H g c zero i m x = Unit {0}
+SetWaits K w H g c (suc zero) i m x = Waits K w H g c i m x
+SetWaits K w H g c (suc (suc v)) i m x = Unit {0}
+
+-- and of the levels below it, whose map is its low-low band
+unfoldable pub LevelsHold : LevelKind → Meaning → (L w H : ℕ) → Grid → (c v i m j : ℕ) → Memory → Type 0
+LevelsHold K Held zero w H g c v i m j x = (c ≡ 0) × (v ≡ 0)
+LevelsHold K Held (suc l) w H g c v i m j x =
+    LevelHolds Held w H g c m j x
+    × SetWaits K w H g c v i m x
+    × LevelsHold K Held l (count lo w) (count lo H) (subband wrap32 w H g LL) (prev c) (prev v) i (below c v m) 0 (rest (K .stretch w) x)
+
+-- ---- the writer's store
+pub record Holds (H : ℕ) (g : Grid) (s : Writer) (x : Memory) : Type 0 where
+  pub levels : LevelsHold fiveThree Kept (s .levels) (s .width) H g (s .closed) (s .level) (s .left) (s .rows) (s .column) x

@@ -1,0 +1,14 @@
+pub mod Counts
+pub mod Level
+pub mod FiveThreeLevel
+pub mod Machine
+pub mod Draws
+pub mod Closing
+pub mod Taking
+pub mod Questions
+pub mod Answers
+pub mod Calls
+pub mod Holds
+pub mod Demand3
+pub mod Steps
+pub mod Gate

@@ -1,0 +1,67 @@
+-- The gate questions of the writer's calls, in the order of document 01: 0, or the number of the first that says no. n is the length of the line store.
+use mathlib.Core.Bool.{Bool, true, false, not}
+use Prim.Native.Nat.{ℕ}
+use lib.Dec.{leb, ltb, eqb}
+use Rattle.numbers.specs.Signal.{pick, both}
+use Rattle.wavelet.specs.Limits.{maxWidth, maxHeight, maxLevels}
+use Rattle.wavelet.specs.Questions.{ask, within}
+use Rattle.wavelet.specs.Store.{storeLength}
+use Rattle.writer.specs.declared.Writer.{Writer}
+use Rattle.writer.specs.FiveThreeLevel.{fiveThree}
+use Rattle.writer.specs.Draws.{Waiting, waiting}
+
+abbrev pub either : Bool → Bool → Bool
+either a b = pick a true b
+
+-- question 1: each count by itself, as docs/STATE.md lists them
+unfoldable pub inRanges : Writer → Bool
+inRanges s =
+    both (within 1 maxWidth (s .width))
+    (both (within 1 maxLevels (s .levels))
+    (both (leb (s .rows) maxHeight)
+    (both (ltb (s .column) (s .width))
+    (both (leb (s .closed) (s .levels))
+    (both (leb (s .level) (s .levels))
+    (leb (s .left) 4))))))
+
+-- question 5
+unfoldable pub longEnough : ℕ → Writer → Bool
+longEnough n s = leb (storeLength (s .width) (s .levels)) n
+
+-- the row that waits
+abbrev pub waitingRow : Writer → Waiting
+waitingRow s = waiting fiveThree (s .levels) (s .width) (s .closed) (s .level) (s .left) (s .rows)
+
+unfoldable pub setUpQuestion : ℕ → ℕ → ℕ → ℕ
+setUpQuestion W L n =
+    ask (within 1 maxWidth W) 2
+    (ask (within 1 maxLevels L) 4
+    (ask (leb (storeLength W L) n) 5
+    0))
+
+-- an offer of k heights
+unfoldable pub offerQuestion : Writer → ℕ → ℕ → ℕ
+offerQuestion s n k =
+    ask (inRanges s) 1
+    (ask (longEnough n s) 5
+    (ask (not (s .finished)) 9
+    (ask (eqb (s .level) 0) 8
+    (ask (either (eqb k 0) (ltb (s .rows) maxHeight)) 10
+    0))))
+
+-- a draw into an area of k numbers
+unfoldable pub drawQuestion : Writer → ℕ → ℕ → ℕ
+drawQuestion s n k =
+    ask (inRanges s) 1
+    (ask (longEnough n s) 5
+    (ask (either (eqb (s .level) 0) (leb (waitingRow s .length) k)) 12
+    0))
+
+unfoldable pub finishQuestion : Writer → ℕ → ℕ
+finishQuestion s n =
+    ask (inRanges s) 1
+    (ask (longEnough n s) 5
+    (ask (not (s .finished)) 9
+    (ask (eqb (s .level) 0) 8
+    (ask (both (ltb 0 (s .rows)) (eqb (s .column) 0)) 11
+    0))))

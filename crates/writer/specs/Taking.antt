@@ -1,0 +1,63 @@
+-- "An offer takes heights until a band row waits, the row limit is reached or the run is used up, and gives the number taken."
+use mathlib.Core.Bool.{Bool, true, false}
+use mathlib.Core.List.{List, [], _∷_}
+use Prim.Native.Nat.{ℕ, zero, suc, _+_}
+use lib.IntN.{ℤ, pos}
+use lib.Dec.{ltb, eqb}
+use lib.ListN.{getD}
+use Rattle.numbers.specs.Signal.{pick, both}
+use Rattle.wavelet.specs.Limits.{maxHeight}
+use Rattle.writer.specs.declared.Writer.{Writer}
+use Rattle.writer.specs.Level.{Memory, LevelKind}
+use Rattle.writer.specs.Machine.{Out, arrive}
+
+-- a number stored at place a
+unfoldable pub stored : ℕ → ℤ → Memory → Memory
+stored a v x j = pick (eqb j a) v (x j)
+
+-- a run of heights as a signal
+abbrev pub heightAt : List ℕ → ℕ → ℤ
+heightAt run j = pos (getD run j 0)
+
+-- how many were taken, and the writer and the store then
+pub record Taking : Type 0 where
+  pub taken : ℕ
+  pub writer : Writer
+  pub store : Memory
+
+abbrev pub none : Writer → Memory → Taking
+none s x = record { taken = 0; writer = s; store = x }
+
+abbrev pub oneMore : Taking → Taking
+oneMore t = record { taken = suc (t .taken); writer = t .writer; store = t .store }
+
+-- no row waits, and the limit is not reached
+unfoldable pub takes : Writer → Bool
+takes s = both (eqb (s .level) 0) (ltb (s .rows) maxHeight)
+
+-- the row begun has a height more; the row is complete, and o is what it makes
+abbrev pub begun : Writer → Writer
+begun s = record { width = s .width; levels = s .levels; rows = s .rows; column = s .column + 1; finished = s .finished; closed = s .closed; level = s .level; left = s .left }
+
+abbrev pub complete : Writer → Out → Writer
+complete s o = record { width = s .width; levels = s .levels; rows = s .rows + 1; column = 0; finished = s .finished; closed = s .closed; level = o .level; left = o .left }
+
+module _ (K : LevelKind) where
+  -- height h is put into its place
+  abbrev pub heightPut : ℕ → Writer → Memory → Memory
+  heightPut h s x = stored (K .cell (s .width) (s .rows) (s .column)) (pos h) x
+
+  -- what the row makes that it completes
+  abbrev pub rowMakes : Writer → Memory → Out
+  rowMakes s x = arrive K (s .levels) (s .width) (s .rows) x
+
+  -- one height after the other
+  unfoldable pub offering : List ℕ → Writer → Memory → Taking
+  offering [] s x = none s x
+  offering (h ∷ run) s x =
+      pick (takes s)
+      (oneMore
+      (pick (ltb (s .column + 1) (s .width))
+      (offering run (begun s) (heightPut h s x))
+      (offering run (complete s (rowMakes s (heightPut h s x))) (rowMakes s (heightPut h s x) .store))))
+      (none s x)

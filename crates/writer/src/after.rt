@@ -1,0 +1,40 @@
+// What a draw leaves.
+use crate::Writer;
+use crate::closing;
+use crate::draws;
+ghost use lib.ListN.{length};
+ghost use Rattle.numbers.specs.Signal.{at};
+ghost use Rattle.writer.specs.Steps.{Drawable, Drew};
+
+// The row that waits is drawn; once finished and nothing waits, the levels close on.
+pub fn draw_on(s: Writer, store: &mut [i32]) -> Writer
+    requires { ⌜ Drawable s (length (now store)) ⌝ }
+    ensures { λ r. ⌜ Drew s (at (now (store .entry))) r (at (now (store .exit))) ⌝ }
+{
+    let r = draws::pull(store, s.levels, s.width, s.closed, s.level, s.left, s.rows);
+    if s.finished {
+        if r.level == 0 {
+            let q = closing::shut(store, s.levels, s.width, s.closed, s.rows);
+            return Writer {
+                width: s.width,
+                levels: s.levels,
+                rows: s.rows,
+                column: s.column,
+                finished: s.finished,
+                closed: q.closed,
+                level: q.level,
+                left: q.left,
+            };
+        }
+    }
+    Writer {
+        width: s.width,
+        levels: s.levels,
+        rows: s.rows,
+        column: s.column,
+        finished: s.finished,
+        closed: s.closed,
+        level: r.level,
+        left: r.left,
+    }
+}

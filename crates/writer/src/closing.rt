@@ -1,0 +1,74 @@
+// The finish: the levels close in turn, each once nothing waits at any level.
+use crate::cascade;
+use crate::cascade::Wait;
+use crate::counts;
+use crate::sets;
+use wavelet::sizes;
+ghost use Prim.Native.Nat.{ℕ, _<_, _≤_, _+_};
+ghost use lib.ListN.{length};
+ghost use Rattle.numbers.specs.Signal.{at};
+ghost use Rattle.writer.specs.FiveThreeLevel.{fiveThree};
+ghost use Rattle.writer.specs.Closing.{closeLevel, shut};
+ghost use Rattle.writer.specs.Steps.{Room, Left, Closed};
+
+// How many levels are closed, and what waits.
+pub struct Closure {
+    pub closed: usize,
+    pub level: usize,
+    pub left: usize,
+}
+
+// The level's last set is made, if it is not closed yet; l levels are below.
+fn close_level(store: &mut [i32], l: usize, w: usize, c: usize, m: usize) -> Wait
+    requires { ⌜ Room (l + 1) w m (length (now store)) ⌝ }
+    ensures { λ r. ⌜ Left (l + 1) (closeLevel fiveThree l w c m (at (now (store .entry)))) r (at (now (store .exit))) ⌝ }
+{
+    if 0 < c {
+        return Wait { level: 0, left: 0 };
+    }
+    if m == 0 {
+        return Wait { level: 0, left: 0 };
+    }
+    let n = counts::prev(sizes::half(m));
+    sets::close_set(store, w, m);
+    let i = counts::next_band(w, m, n, counts::most(l));
+    if 0 < i {
+        return Wait { level: 1, left: i };
+    }
+    cascade::pass_on(store, l, w, n)
+}
+
+// The l levels close, of which c are closed, until a row waits.
+pub fn shut(store: &mut [i32], l: usize, w: usize, c: usize, m: usize) -> Closure
+    requires { ⌜ Room l w m (length (now store)) × (c ≤ l) ⌝ }
+    ensures { λ r. ⌜ Closed l (shut fiveThree l w c m (at (now (store .entry)))) r (at (now (store .exit))) ⌝ }
+{
+    if l == 0 {
+        return Closure {
+            closed: c,
+            level: 0,
+            left: 0,
+        };
+    }
+    let o = close_level(store, l - 1, w, c, m);
+    if 0 < o.level {
+        return Closure {
+            closed: 1,
+            level: o.level,
+            left: o.left,
+        };
+    }
+    let a = 4 * w;
+    let r = shut(
+        &mut store[a..],
+        l - 1,
+        sizes::half(w),
+        counts::prev(c),
+        sizes::half(m),
+    );
+    Closure {
+        closed: r.closed + 1,
+        level: counts::deeper(r.level),
+        left: r.left,
+    }
+}

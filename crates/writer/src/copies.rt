@@ -1,0 +1,72 @@
+// The copies: heights into the store, rows within it, rows out of it. One pass over the numbers each.
+ghost use mathlib.Core.Path.{_≡_};
+ghost use Prim.Native.Nat.{ℕ, _<_, _≤_, _+_, _*_};
+ghost use lib.IntN.{pos};
+ghost use lib.ListN.{length};
+ghost use Rattle.numbers.specs.Signal.{at, spliced};
+ghost use Rattle.lifting.specs.Halves.{fronted};
+ghost use Rattle.lifting.specs.Rows.{rowChanged};
+ghost use Rattle.writer.specs.FiveThreeLevel.{first};
+ghost use Rattle.writer.specs.Taking.{heightAt};
+
+// Every second height of a run from `from` on, to the `count` places of the store from `to` on.
+pub fn put_heights(store: &mut [i32], to: usize, run: &[u16], from: usize, count: usize)
+    requires { ⌜ (to + count ≤ length (now store)) × (from + 2 * count ≤ length (now run) + 1) ⌝ }
+    ensures { λ _. ⌜ at (now (store .exit)) ≡ spliced to count (λ j. heightAt (now (run .entry)) (from + 2 * j)) (at (now (store .entry))) ⌝ }
+{
+    let mut j = 0;
+    while j < count {
+        store[to + j] = run[from + 2 * j] as i32;
+        j += 1;
+    }
+}
+
+// Every second number from `from` on, to the `count` places from `to` on, which lie past them.
+pub fn separate(store: &mut [i32], from: usize, to: usize, count: usize)
+    requires { ⌜ (from + 2 * count ≤ to + 1) × (to + count ≤ length (now store)) ⌝ }
+    ensures { λ _. ⌜ at (now (store .exit)) ≡ spliced to count (λ j. at (now (store .entry)) (from + 2 * j)) (at (now (store .entry))) ⌝ }
+{
+    let mut j = 0;
+    while j < count {
+        store[to + j] = store[from + 2 * j];
+        j += 1;
+    }
+}
+
+// Row `from` of w numbers to row `to`.
+pub fn copy_row(store: &mut [i32], w: usize, from: usize, to: usize)
+    requires { ⌜ (to * w + w ≤ length (now store)) × (from * w + w ≤ length (now store)) ⌝ }
+    ensures { λ _. ⌜ at (now (store .exit)) ≡ rowChanged first w w to from from (at (now (store .entry))) ⌝ }
+{
+    let t = to * w;
+    let f = from * w;
+    let mut i = 0;
+    while i < w {
+        store[t + i] = store[f + i];
+        i += 1;
+    }
+}
+
+// The `count` numbers from `start` on to the front of `out`.
+pub fn hand_out(store: &[i32], start: usize, count: usize, out: &mut [i32])
+    requires { ⌜ (start + count ≤ length (now store)) × (count ≤ length (now out)) ⌝ }
+    ensures { λ _. ⌜ at (now (out .exit)) ≡ fronted count (λ j. at (now (store .entry)) (start + j)) (at (now (out .entry))) ⌝ }
+{
+    let mut j = 0;
+    while j < count {
+        out[j] = store[start + j];
+        j += 1;
+    }
+}
+
+// Zeros in the first `count` numbers.
+pub fn clear(store: &mut [i32], count: usize)
+    requires { ⌜ count ≤ length (now store) ⌝ }
+    ensures { λ _. ⌜ at (now (store .exit)) ≡ fronted count (λ _. pos 0) (at (now (store .entry))) ⌝ }
+{
+    let mut j = 0;
+    while j < count {
+        store[j] = 0;
+        j += 1;
+    }
+}

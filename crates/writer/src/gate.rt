@@ -1,0 +1,113 @@
+// The gate questions of the writer's calls, in order: 0, or the number of the first that says no.
+use crate::Writer;
+use wavelet::limits;
+use wavelet::store;
+ghost use mathlib.Core.Path.{_≡_};
+ghost use Rattle.writer.specs.Questions.{inRanges, setUpQuestion, offerQuestion, finishQuestion};
+ghost use Rattle.writer.specs.Gate.{stateQuestion, openQuestion};
+
+// Question 1: each count by itself.
+fn in_ranges(s: Writer) -> bool
+    ensures { λ r. ⌜ r ≡ inRanges s ⌝ }
+{
+    if !limits::is_within(s.width, Writer::MAX_WIDTH) {
+        return false;
+    }
+    if !limits::is_within(s.levels, Writer::MAX_LEVELS) {
+        return false;
+    }
+    if Writer::MAX_HEIGHT < s.rows {
+        return false;
+    }
+    if s.width <= s.column {
+        return false;
+    }
+    if s.levels < s.closed {
+        return false;
+    }
+    if s.levels < s.level {
+        return false;
+    }
+    s.left <= 4
+}
+
+// Questions 1 and 5, n being the length of the store.
+pub fn state_question(s: Writer, n: usize) -> u8
+    ensures { λ r. ⌜ r ≡ stateQuestion s n ⌝ }
+{
+    if !in_ranges(s) {
+        return 1;
+    }
+    if n < store::store_length(s.width, s.levels) {
+        return 5;
+    }
+    0
+}
+
+// Questions 9 and 8.
+fn open_question(s: Writer) -> u8
+    ensures { λ r. ⌜ r ≡ openQuestion s ⌝ }
+{
+    if s.finished {
+        return 9;
+    }
+    if 0 < s.level {
+        return 8;
+    }
+    0
+}
+
+pub fn set_up_question(width: usize, levels: usize, n: usize) -> u8
+    ensures { λ r. ⌜ r ≡ setUpQuestion width levels n ⌝ }
+{
+    if !limits::is_within(width, Writer::MAX_WIDTH) {
+        return 2;
+    }
+    if !limits::is_within(levels, Writer::MAX_LEVELS) {
+        return 4;
+    }
+    if n < store::store_length(width, levels) {
+        return 5;
+    }
+    0
+}
+
+// An offer of k heights.
+pub fn offer_question(s: Writer, n: usize, k: usize) -> u8
+    ensures { λ r. ⌜ r ≡ offerQuestion s n k ⌝ }
+{
+    let no = state_question(s, n);
+    if 0 < no {
+        return no;
+    }
+    let shut = open_question(s);
+    if 0 < shut {
+        return shut;
+    }
+    if 0 < k {
+        if Writer::MAX_HEIGHT <= s.rows {
+            return 10;
+        }
+    }
+    0
+}
+
+pub fn finish_question(s: Writer, n: usize) -> u8
+    ensures { λ r. ⌜ r ≡ finishQuestion s n ⌝ }
+{
+    let no = state_question(s, n);
+    if 0 < no {
+        return no;
+    }
+    let shut = open_question(s);
+    if 0 < shut {
+        return shut;
+    }
+    if s.rows == 0 {
+        return 11;
+    }
+    if 0 < s.column {
+        return 11;
+    }
+    0
+}

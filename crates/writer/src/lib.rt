@@ -1,0 +1,172 @@
+// The row-by-row writer: heights in, band rows out, in the order of document 01.
+mod after;
+mod cascade;
+mod closing;
+mod copies;
+mod counts;
+mod draws;
+mod gate;
+mod sets;
+
+use wavelet::store;
+ghost use mathlib.Core.Path.{_≡_};
+ghost use lib.ListN.{length};
+ghost use Rattle.numbers.specs.Signal.{at};
+ghost use Rattle.wavelet.specs.Limits.{maxWidth, maxHeight, maxLevels};
+ghost use Rattle.writer.specs.Answers.{ofSetUp, ofOffered, ofDrawn, ofFinished};
+ghost use Rattle.writer.specs.Calls.{setUpReply, setUpStore, drawReply, drawStore, drawArea, finishReply, finishStore};
+
+// The counts of a writer; docs/STATE.md gives their ranges.
+pub struct Writer {
+    pub width: usize,
+    pub levels: usize,
+    // rows taken whole
+    pub rows: usize,
+    // heights taken of the row begun
+    pub column: usize,
+    pub finished: bool,
+    // levels that the finish has closed
+    pub closed: usize,
+    // the level, from 1, whose set is being handed out; 0: nothing waits
+    pub level: usize,
+    // the bands of that set that are left
+    pub left: usize,
+}
+
+// A band row that was drawn: its values stand at the front of the output area.
+pub struct BandRow {
+    pub level: usize,
+    pub band: usize,
+    pub row: usize,
+    pub length: usize,
+}
+
+pub enum SetUp {
+    Ready(Writer),
+    Refused(u8),
+}
+
+pub enum Offered {
+    Taken(usize, Writer),
+    Refused(u8),
+}
+
+pub enum Drawn {
+    Row(BandRow, Writer),
+    Nothing,
+    Refused(u8),
+}
+
+pub enum Finished {
+    Closed(Writer),
+    Refused(u8),
+}
+
+impl Writer {
+    pub const MAX_WIDTH: usize = 2049;
+
+    pub const MAX_HEIGHT: usize = 65535;
+
+    pub const MAX_LEVELS: usize = 5;
+
+    // The constants, each pinned to the definition's number.
+    pub fn max_width() -> usize
+        ensures { λ r. ⌜ r ≡ maxWidth ⌝ }
+    {
+        Writer::MAX_WIDTH
+    }
+
+    pub fn max_height() -> usize
+        ensures { λ r. ⌜ r ≡ maxHeight ⌝ }
+    {
+        Writer::MAX_HEIGHT
+    }
+
+    pub fn max_levels() -> usize
+        ensures { λ r. ⌜ r ≡ maxLevels ⌝ }
+    {
+        Writer::MAX_LEVELS
+    }
+
+    // A fresh writer, and zeros in the part of the store that it needs.
+    pub fn set_up(width: usize, levels: usize, store: &mut [i32]) -> SetUp
+        ensures { λ r. ⌜ ofSetUp r ≡ setUpReply width levels (length (now (store .entry))) ⌝ }
+        ensures { λ r. ⌜ at (now (store .exit)) ≡ setUpStore width levels (length (now (store .entry))) (at (now (store .entry))) ⌝ }
+    {
+        let no = gate::set_up_question(width, levels, store.len());
+        if 0 < no {
+            return SetUp::Refused(no);
+        }
+        let n = store::store_length(width, levels);
+        copies::clear(store, n);
+        SetUp::Ready(Writer {
+            width,
+            levels,
+            rows: 0,
+            column: 0,
+            finished: false,
+            closed: 0,
+            level: 0,
+            left: 0,
+        })
+    }
+
+    // The row that waits, its values at the front of `out`, or Nothing.
+    pub fn draw(self, store: &mut [i32], out: &mut [i32]) -> Drawn
+        ensures { λ r. ⌜ ofDrawn r ≡ drawReply self (length (now (store .entry))) (length (now (out .entry))) (at (now (store .entry))) ⌝ }
+        ensures { λ r. ⌜ at (now (store .exit)) ≡ drawStore self (length (now (store .entry))) (length (now (out .entry))) (at (now (store .entry))) ⌝ }
+        ensures { λ r. ⌜ at (now (out .exit)) ≡ drawArea self (length (now (store .entry))) (length (now (out .entry))) (at (now (store .entry))) (at (now (out .entry))) ⌝ }
+    {
+        let no = gate::state_question(self, store.len());
+        if 0 < no {
+            return Drawn::Refused(no);
+        }
+        if self.level == 0 {
+            return Drawn::Nothing;
+        }
+        let spot = draws::waiting(
+            self.levels,
+            self.width,
+            self.closed,
+            self.level,
+            self.left,
+            self.rows,
+        );
+        if out.len() < spot.length {
+            return Drawn::Refused(12);
+        }
+        copies::hand_out(store, spot.start, spot.length, out);
+        let next = after::draw_on(self, store);
+        Drawn::Row(
+            BandRow {
+                level: spot.level,
+                band: spot.band,
+                row: spot.row,
+                length: spot.length,
+            },
+            next,
+        )
+    }
+
+    // No more rows: the levels close in turn, until a row waits.
+    pub fn finish(self, store: &mut [i32]) -> Finished
+        ensures { λ r. ⌜ ofFinished r ≡ finishReply self (length (now (store .entry))) (at (now (store .entry))) ⌝ }
+        ensures { λ r. ⌜ at (now (store .exit)) ≡ finishStore self (length (now (store .entry))) (at (now (store .entry))) ⌝ }
+    {
+        let no = gate::finish_question(self, store.len());
+        if 0 < no {
+            return Finished::Refused(no);
+        }
+        let r = closing::shut(store, self.levels, self.width, 0, self.rows);
+        Finished::Closed(Writer {
+            width: self.width,
+            levels: self.levels,
+            rows: self.rows,
+            column: self.column,
+            finished: true,
+            closed: r.closed,
+            level: r.level,
+            left: r.left,
+        })
+    }
+}

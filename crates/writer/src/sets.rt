@@ -1,0 +1,62 @@
+// The sets of a level: four rows of w numbers in the level's stretch, row r in slot r mod 4, each in halves.
+use crate::copies;
+use crate::counts;
+use lifting::line;
+use lifting::rows;
+use wavelet::sizes;
+ghost use mathlib.Core.Path.{_≡_};
+ghost use Prim.Native.Nat.{ℕ, _<_, _≤_, _+_, _*_};
+ghost use lib.ListN.{length};
+ghost use Rattle.numbers.specs.Signal.{at};
+ghost use Rattle.writer.specs.FiveThreeLevel.{rowLifted, setWith, lowAlone, lastSet};
+
+// Row r lifted along the row.
+fn lift_row(store: &mut [i32], w: usize, r: usize)
+    requires { ⌜ (4 * w ≤ length (now store)) × (w < 4294967296) ⌝ }
+    ensures { λ _. ⌜ at (now (store .exit)) ≡ rowLifted w r (at (now (store .entry))) ⌝ }
+{
+    let a = counts::slot(w, r);
+    line::lift(&mut store[a..a + w]);
+}
+
+// Set n, r being the even row after it.
+pub fn make_with(store: &mut [i32], w: usize, n: usize, r: usize)
+    requires { ⌜ (4 * w ≤ length (now store)) × (w < 4294967296) × (n < 4294967296) ⌝ }
+    ensures { λ _. ⌜ at (now (store .exit)) ≡ setWith w n r (at (now (store .entry))) ⌝ }
+{
+    let low = 2 * n % 4;
+    let high = (2 * n + 1) % 4;
+    let free = (2 * n + 3) % 4;
+    rows::predict_row(store, w, w, high, low, r % 4);
+    rows::update_row(store, w, w, low, counts::before(n) % 4, high);
+    copies::copy_row(store, w, high, free);
+    lift_row(store, w, 2 * n);
+    lift_row(store, w, 2 * n + 3);
+}
+
+// Set n without a high row.
+fn low_alone(store: &mut [i32], w: usize, n: usize)
+    requires { ⌜ (4 * w ≤ length (now store)) × (w < 4294967296) × (n < 4294967296) ⌝ }
+    ensures { λ _. ⌜ at (now (store .exit)) ≡ lowAlone w n (at (now (store .entry))) ⌝ }
+{
+    if 0 < n {
+        let d = counts::before(n) % 4;
+        rows::update_row(store, w, w, 2 * n % 4, d, d);
+        lift_row(store, w, 2 * n);
+    } else {
+        lift_row(store, w, 0);
+    }
+}
+
+// The last set of m rows.
+pub fn close_set(store: &mut [i32], w: usize, m: usize)
+    requires { ⌜ (4 * w ≤ length (now store)) × (w < 4294967296) × (m < 4294967296) ⌝ }
+    ensures { λ _. ⌜ at (now (store .exit)) ≡ lastSet w m (at (now (store .entry))) ⌝ }
+{
+    let n = counts::prev(sizes::half(m));
+    if m % 2 == 0 {
+        make_with(store, w, n, 2 * n);
+    } else {
+        low_alone(store, w, n);
+    }
+}
