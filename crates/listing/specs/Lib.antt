@@ -1,2 +1,4 @@
 pub mod Decimal
 pub mod Text
+pub mod Lines
+pub mod Listing
