@@ -1,3 +1,4 @@
 pub mod DecimalLaws
 pub mod TextLaws
 pub mod ListingSample
+pub mod HearingCases

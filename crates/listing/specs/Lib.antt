@@ -2,3 +2,4 @@ pub mod Decimal
 pub mod Text
 pub mod Lines
 pub mod Listing
+pub mod Hearing

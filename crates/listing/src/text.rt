@@ -16,15 +16,15 @@ pub fn put_byte(byte: u8, text: &mut [u8], at: usize) -> usize
     place
 }
 
-pub fn last_digit(n: u32) -> u8
+pub fn last_digit(n: usize) -> u8
     ensures { λ r. ⌜ r ≡ 48 + n % 10 ⌝ }
 {
     b'0' + (n % 10) as u8
 }
 
-// A number has at most ten digits.
-pub fn put_number(n: u32, text: &mut [u8], at: usize) -> usize
-    requires { ⌜ (10 ≤ at) × (at ≤ length (now text)) ⌝ }
+// A number has at most twenty digits.
+pub fn put_number(n: usize, text: &mut [u8], at: usize) -> usize
+    requires { ⌜ (20 ≤ at) × (at ≤ length (now text)) ⌝ }
     ensures { λ r. ⌜ Put (numeral n) at r (now (text .entry)) (now (text .exit)) ⌝ }
 {
     let mut rest = n;
@@ -36,18 +36,18 @@ pub fn put_number(n: u32, text: &mut [u8], at: usize) -> usize
     put_byte(last_digit(rest), text, place)
 }
 
-fn magnitude(v: i32) -> u32
+fn magnitude(v: i32) -> usize
     ensures { λ r. ⌜ r ≡ natAbs v ⌝ }
 {
     if v < 0 {
-        (0 - (v as i64)) as u32
+        (0 - (v as i64)) as usize
     } else {
-        v as u32
+        v as usize
     }
 }
 
 pub fn put_integer(v: i32, text: &mut [u8], at: usize) -> usize
-    requires { ⌜ (11 ≤ at) × (at ≤ length (now text)) ⌝ }
+    requires { ⌜ (21 ≤ at) × (at ≤ length (now text)) ⌝ }
     ensures { λ r. ⌜ Put (integer v) at r (now (text .entry)) (now (text .exit)) ⌝ }
 {
     let place = put_number(magnitude(v), text, at);

@@ -46,7 +46,7 @@ put-byte-requires : tie.Need-put-byte-requires
 put-byte-requires c κs =
     let n = c .before .before .before .before in
     let p = n .put-number .ensures in (
-      omega (arith, p .place, at-most 9 (n .before .before .magnitude .result) (omega (arith, n .before .before .magnitude .ok))),
+      omega (arith, p .place, at-most 19 (n .before .before .magnitude .result) (omega (arith, n .before .before .magnitude .ok))),
       omega (arith, p .place, p .room, same-size p),
     )
 

@@ -17,22 +17,22 @@ record Shown (n at rest place : ℕ) (l m : List ℕ) : Type 0 where
   pub some : List ℕ
   pub put : Put some at place l m
   pub digits : numeral n ≡ numeral rest ++ some
-  pub free : at - 10 < place
-  pub few : rest < 10 ^ (place - (at - 10))
+  pub free : at - 20 < place
+  pub few : rest < 10 ^ (place - (at - 20))
 
-start : (n at : ℕ) (l : List ℕ) → n < 2 ^ 32 → 10 ≤ at → at ≤ length l → Shown n at n at l l
+start : (n at : ℕ) (l : List ℕ) → n < 2 ^ 64 → 20 ≤ at → at ≤ length l → Shown n at n at l l
 start n at l f g h =
     record {
       some = [];
       put = nothing l at h;
       digits = sym (append-nil (numeral n));
       free = omega arith;
-      few = let e : at - (at - 10) ≡ 10 = omega arith in rw e (omega arith);
+      few = let e : at - (at - 20) ≡ 20 = omega arith in rw e (omega arith);
     }
 
 next : {n at rest place p b : ℕ} {l m k : List ℕ} → Shown n at rest place l m → 10 ≤ rest → b ≡ 48 + rest % 10 → Put (b ∷ []) place p m k → Shown n at (rest / 10) p l k
 next {n} {at} {rest} {place} {p} {b} {l} {m} {k} s g e q =
-    let f = fewer rest (place - (at - 10)) g (s .few) in
+    let f = fewer rest (place - (at - 20)) g (s .few) in
     record {
       some = b ∷ s .some;
       put = before (s .put) q;
@@ -42,7 +42,7 @@ next {n} {at} {rest} {place} {p} {b} {l} {m} {k} s g e q =
           ∙ append-assoc (numeral (rest / 10)) _ (s .some)
           ∙ ap (λ x. numeral (rest / 10) ++ (x ∷ s .some)) (sym e);
       free = omega (arith, q .place);
-      few = let h : p ≡ place - 1 = omega (arith, q .place) in rw h (let i : place - 1 - (at - 10) ≡ place - (at - 10) - 1 = omega arith in rw i (f .1));
+      few = let h : p ≡ place - 1 = omega (arith, q .place) in rw h (let i : place - 1 - (at - 20) ≡ place - (at - 20) - 1 = omega arith in rw i (f .1));
     }
 
 last : {n at rest place p b : ℕ} {l m k : List ℕ} → Shown n at rest place l m → rest < 10 → b ≡ 48 + rest % 10 → Put (b ∷ []) place p m k → Put (numeral n) at p l k
