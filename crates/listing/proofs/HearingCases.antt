@@ -12,7 +12,7 @@ use Rattle.pgm.specs.Steps.{stepOf}
 use Rattle.pgm.specs.declared.header.Next.{Next}
 use Rattle.pgm.specs.declared.samples.Sample.{Sample}
 use Rattle.listing.specs.Listing.{levelDigit, maxListedWidth, shapeFits}
-use Rattle.listing.specs.Hearing.{phased, no, levelsHeard, lineFeedHeard, shapeHeard, nextHeard, headerHeard, sampleHeard, heightHeard, hears, endHeard}
+use Rattle.listing.specs.Hearing.{phased, nay, levelsHeard, lineFeedHeard, shapeHeard, nextHeard, headerHeard, sampleHeard, heightHeard, hears, endHeard}
 use Rattle.listing.specs.declared.input.Input.{Input}
 use Rattle.listing.specs.declared.input.Heard.{Heard}
 use Rattle.listing.specs.declared.input.Heard.the-variants as heard
@@ -20,11 +20,11 @@ use Rattle.listing.specs.declared.input.Ended.{Ended}
 use Rattle.listing.specs.declared.input.Ended.the-variants as ended
 
 module _ (i : Input) (b : ℕ) where
-  pub levels-below : b < 49 → no i ≡ levelsHeard i b
+  pub levels-below : b < 49 → nay i ≡ levelsHeard i b
   unfolding levelsHeard levelDigit within
   levels-below h = rw (lt-leb 49 b h)
 
-  pub levels-above : 49 ≤ b → 53 < b → no i ≡ levelsHeard i b
+  pub levels-above : 49 ≤ b → 53 < b → nay i ≡ levelsHeard i b
   unfolding levelsHeard levelDigit within
   levels-above h g = rw (le-leb 49 b h, lt-leb b 53 g)
 
@@ -36,7 +36,7 @@ module _ (i : Input) (b : ℕ) where
   unfolding lineFeedHeard
   feed-yes e = rw (eq-eqb b 10 e)
 
-  pub feed-no : (b ≡ 10 → ⊥) → no i ≡ lineFeedHeard i b
+  pub feed-no : (b ≡ 10 → ⊥) → nay i ≡ lineFeedHeard i b
   unfolding lineFeedHeard
   feed-no d = rw (ne-eqb b 10 d)
 
@@ -44,7 +44,7 @@ module _ (i : Input) (b : ℕ) where
   unfolding headerHeard
   header-case x e = ap (nextHeard i) e
 
-  pub height-none : i .left ≡ 0 → no i ≡ heightHeard i b
+  pub height-none : i .left ≡ 0 → nay i ≡ heightHeard i b
   unfolding heightHeard
   height-none e = rw (eq-eqb (i .left) 0 e)
 
@@ -73,11 +73,11 @@ module _ (i : Input) (b : ℕ) where
   hears-on p q r t = rw (ne-eqb (i .phase) 0 p, ne-eqb (i .phase) 1 q, ne-eqb (i .phase) 2 r, ne-eqb (i .phase) 3 t)
 
 module _ (i : Input) (w h : ℕ) where
-  pub shape-wide : within 1 1025 w ≡ false → no i ≡ shapeHeard i w h
+  pub shape-wide : within 1 1025 w ≡ false → nay i ≡ shapeHeard i w h
   unfolding shapeHeard shapeFits maxListedWidth
   shape-wide e = rw e
 
-  pub shape-high : within 1 1025 w ≡ true → within 1 65535 h ≡ false → no i ≡ shapeHeard i w h
+  pub shape-high : within 1 1025 w ≡ true → within 1 65535 h ≡ false → nay i ≡ shapeHeard i w h
   unfolding shapeHeard shapeFits maxListedWidth
   shape-high e f = rw (e, f)
 

@@ -2,3 +2,4 @@ pub mod DecimalLaws
 pub mod TextLaws
 pub mod ListingSample
 pub mod HearingCases
+pub mod HearingLaws

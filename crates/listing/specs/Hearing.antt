@@ -23,28 +23,28 @@ silent = record { phase = 0; levels = 0; header = begun 0; left = 0; samples = n
 abbrev pub phased : ℕ → Input → Input
 phased p i = record { phase = p; levels = i .levels; header = i .header; left = i .left; samples = i .samples }
 
-abbrev pub no : Input → Heard
-no i = heard.Refused (phased 4 i)
+abbrev pub nay : Input → Heard
+nay i = heard.Refused (phased 4 i)
 
 unfoldable pub levelsHeard : Input → ℕ → Heard
 levelsHeard i b =
     pick (levelDigit b)
     (heard.More (record { phase = 1; levels = b - 48; header = i .header; left = i .left; samples = i .samples }))
-    (no i)
+    (nay i)
 
 unfoldable pub lineFeedHeard : Input → ℕ → Heard
-lineFeedHeard i b = pick (eqb b 10) (heard.More (phased 2 i)) (no i)
+lineFeedHeard i b = pick (eqb b 10) (heard.More (phased 2 i)) (nay i)
 
 unfoldable pub shapeHeard : Input → ℕ → ℕ → Heard
 shapeHeard i w h =
     pick (shapeFits w h)
     (heard.Begun (record { phase = 3; levels = i .levels; header = i .header; left = w * h; samples = i .samples }) w h)
-    (no i)
+    (nay i)
 
 abbrev pub nextHeard : Input → Next → Heard
 nextHeard i (next.More k) = heard.More (record { phase = 2; levels = i .levels; header = k; left = i .left; samples = i .samples })
 nextHeard i (next.Done w h) = shapeHeard i w h
-nextHeard i next.Refused = no i
+nextHeard i next.Refused = nay i
 
 unfoldable pub headerHeard : Input → ℕ → Heard
 headerHeard i b = nextHeard i (stepOf (i .header) b)
@@ -54,7 +54,7 @@ sampleHeard i (sample.Half x) = heard.More (record { phase = 3; levels = i .leve
 sampleHeard i (sample.Height v) = heard.Height (record { phase = 3; levels = i .levels; header = i .header; left = i .left - 1; samples = noByte }) v
 
 unfoldable pub heightHeard : Input → ℕ → Heard
-heightHeard i b = pick (eqb (i .left) 0) (no i) (sampleHeard i (sampleOf (i .samples) b))
+heightHeard i b = pick (eqb (i .left) 0) (nay i) (sampleHeard i (sampleOf (i .samples) b))
 
 unfoldable pub hears : Input → ℕ → Heard
 hears i b =

@@ -3,3 +3,4 @@ pub mod Text
 pub mod Lines
 pub mod Listing
 pub mod Hearing
+pub mod Telling
