@@ -19,6 +19,9 @@ pub same-size : {s l m : List ℕ} {at r : ℕ} → Put s at r l m → length m 
 same-size {s} {l} {m} {at} {r} a =
     ap length (a .text) ∙ simp (length-append, length-take, length-drop) (omega (arith, a .place, a .room))
 
+pub fits-after : {s l m : List ℕ} {at r : ℕ} → Put s at r l m → r ≤ length m
+fits-after a = omega (arith, a .place, a .room, same-size a)
+
 -- t before s
 pub before : {s t l m n : List ℕ} {at p r : ℕ} → Put s at p l m → Put t p r m n → Put (t ++ s) at r l n
 before {s} {t} {l} {m} {n} {at} {p} {r} a b =

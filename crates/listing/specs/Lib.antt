@@ -4,3 +4,4 @@ pub mod Lines
 pub mod Listing
 pub mod Hearing
 pub mod Telling
+pub mod Parts

@@ -16,6 +16,16 @@ pub fn put_byte(byte: u8, text: &mut [u8], at: usize) -> usize
     place
 }
 
+pub fn put_four(a: u8, b: u8, c: u8, d: u8, text: &mut [u8], at: usize) -> usize
+    requires { ⌜ (4 ≤ at) × (at ≤ length (now text)) ⌝ }
+    ensures { λ r. ⌜ Put (a ∷ b ∷ c ∷ d ∷ []) at r (now (text .entry)) (now (text .exit)) ⌝ }
+{
+    let fourth = put_byte(d, text, at);
+    let third = put_byte(c, text, fourth);
+    let second = put_byte(b, text, third);
+    put_byte(a, text, second)
+}
+
 pub fn last_digit(n: usize) -> u8
     ensures { λ r. ⌜ r ≡ 48 + n % 10 ⌝ }
 {
@@ -26,6 +36,7 @@ pub fn last_digit(n: usize) -> u8
 pub fn put_number(n: usize, text: &mut [u8], at: usize) -> usize
     requires { ⌜ (20 ≤ at) × (at ≤ length (now text)) ⌝ }
     ensures { λ r. ⌜ Put (numeral n) at r (now (text .entry)) (now (text .exit)) ⌝ }
+    ensures { λ r. ⌜ at ≤ r + 20 ⌝ }
 {
     let mut rest = n;
     let mut place = at;
@@ -49,6 +60,7 @@ fn magnitude(v: i32) -> usize
 pub fn put_integer(v: i32, text: &mut [u8], at: usize) -> usize
     requires { ⌜ (21 ≤ at) × (at ≤ length (now text)) ⌝ }
     ensures { λ r. ⌜ Put (integer v) at r (now (text .entry)) (now (text .exit)) ⌝ }
+    ensures { λ r. ⌜ at ≤ r + 21 ⌝ }
 {
     let place = put_number(magnitude(v), text, at);
     if v < 0 {

@@ -14,8 +14,7 @@ use borrow.Author.Needs.{needs}
 use borrow.Author.Tests.{ltb-true}
 use Rattle.listing.specs.Decimal.{numeral, integer}
 use Rattle.listing.specs.Text.{Put}
-use Rattle.listing.proofs.DecimalLaws.{at-most}
-use Rattle.listing.proofs.TextLaws.{before, same-size}
+use Rattle.listing.proofs.TextLaws.{before, same-size, fits-after}
 use Rattle.listing.proofs.text.put_integer.Statement.{statement}
 use Rattle.listing.proofs.text.put_integer.Tie as tie
 
@@ -44,16 +43,13 @@ put-number-requires c κs = search needs
 
 put-byte-requires : tie.Need-put-byte-requires
 put-byte-requires c κs =
-    let n = c .before .before .before .before in
-    let p = n .put-number .ensures in (
-      omega (arith, p .place, at-most 19 (n .before .before .magnitude .result) (omega (arith, n .before .before .magnitude .ok))),
-      omega (arith, p .place, p .room, same-size p),
-    )
+    let p = c .before .before .before .before .put-number .ensures in
+    (omega (arith, p .1), fits-after (p .0))
 
 same-length : tie.Need-same-length
 same-length c =
     let b = c .before .before in
-    same-size (b .put-byte .ensures) ∙ same-size (b .before .before .before .before .before .put-number .ensures)
+    same-size (b .put-byte .ensures) ∙ same-size (b .before .before .before .before .before .put-number .ensures .0)
 
 returns : tie.Need-returns
 returns c =
@@ -61,18 +57,22 @@ returns c =
     let t = b .before .before in
     let n = t .before .before .before in
     let m = n .before .before in
-    let a = m .before .before in
-    rw (← below (a .args .v) _ _ (toZ-ofZ w32 _ (a .fits .v)) (t .if1 .taken) (m .magnitude .ensures)) (before (n .put-number .ensures) (b .put-byte .ensures))
+    let a = m .before .before in (
+      rw (← below (a .args .v) _ _ (toZ-ofZ w32 _ (a .fits .v)) (t .if1 .taken) (m .magnitude .ensures)) (before (n .put-number .ensures .0) (b .put-byte .ensures)),
+      omega (arith, n .put-number .ensures .1, b .put-byte .ensures .place),
+    )
 
 same-length-2 : tie.Need-same-length-2
-same-length-2 c = same-size (c .before .before .before .put-number .ensures)
+same-length-2 c = same-size (c .before .before .before .put-number .ensures .0)
 
 returns-2 : tie.Need-returns-2
 returns-2 c =
     let n = c .before .before .before in
     let m = n .before .before in
-    let a = m .before .before in
-    rw (← above (a .args .v) _ _ (toZ-ofZ w32 _ (a .fits .v)) (c .if1 .left) (m .magnitude .ensures)) (n .put-number .ensures)
+    let a = m .before .before in (
+      rw (← above (a .args .v) _ _ (toZ-ofZ w32 _ (a .fits .v)) (c .if1 .left) (m .magnitude .ensures)) (n .put-number .ensures .0),
+      omega (arith, n .put-number .ensures .1),
+    )
 
 pub put-integer-spec : {M : Type 1} → statement M
 put-integer-spec =

@@ -7,7 +7,7 @@ use lib.ListN.{length}
 use borrow.Author.Needs.{needs}
 use Rattle.listing.specs.Decimal.{numeral}
 use Rattle.listing.specs.Text.{Put}
-use Rattle.listing.proofs.DecimalLaws.{one-digit, last-digit, fewer}
+use Rattle.listing.proofs.DecimalLaws.{one-digit, last-digit, fewer, at-most}
 use Rattle.listing.proofs.TextLaws.{nothing, before, same-size}
 use Rattle.listing.proofs.text.put_number.Statement.{statement}
 use Rattle.listing.proofs.text.put_number.Tie as tie
@@ -95,7 +95,9 @@ returns : tie.Need-returns Inv-loop μ-loop
 returns c =
     let p = c .before .before in
     let d = p .before .before in
-    last (d .before .before .loop .inv) (omega arith) (d .last-digit2 .ensures) (p .put-byte2 .ensures)
+    let a = d .before .before .before .before in
+    let r = last (d .before .before .loop .inv) (omega arith) (d .last-digit2 .ensures) (p .put-byte2 .ensures) in
+    (r, omega (arith, r .place, at-most 19 (a .args .n) (omega (arith, a .fits .n .fits))))
 
 pub put-number-spec : {M : Type 1} → statement M
 put-number-spec =

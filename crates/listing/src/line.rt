@@ -1,0 +1,162 @@
+// The line that is being written, part by part. A part is a few bytes that are written one after the other.
+use crate::text;
+ghost use mathlib.Core.Path.{_≡_};
+ghost use mathlib.Core.List.{[], _∷_};
+ghost use lib.ListN.{length};
+ghost use Rattle.numbers.specs.Signal.{at};
+ghost use Rattle.listing.specs.Parts.{letter, first, second, headText, sizeText, refusedText, valueText, partText, noLine, sizePart, refusedPart, headPart};
+ghost use Rattle.listing.specs.Text.{Put};
+
+pub struct Line {
+    // 0 nothing, 1 the line of W, H and L (length, row, level), 2 a refusal (its number in row), 3 level, band and row of a band row, 4 a value or the line's end
+    pub part: usize,
+    pub level: usize,
+    pub band: usize,
+    pub row: usize,
+    pub length: usize,
+    // the value that is next
+    pub value: usize,
+    // bytes of the part that are written
+    pub done: usize,
+}
+
+fn first_letter(band: usize) -> u8
+    ensures { λ r. ⌜ r ≡ first band ⌝ }
+{
+    if band % 2 == 1 { b'H' } else { b'L' }
+}
+
+fn second_letter(band: usize) -> u8
+    ensures { λ r. ⌜ r ≡ second band ⌝ }
+{
+    if 1 < band { b'H' } else { b'L' }
+}
+
+fn put_size(line: Line, text: &mut [u8]) -> usize
+    requires { ⌜ length (now text) ≡ 64 ⌝ }
+    ensures { λ r. ⌜ Put (sizeText line) 64 r (now (text .entry)) (now (text .exit)) ⌝ }
+{
+    let end = text::put_byte(b'\n', text, 64);
+    let levels = text::put_number(line.level, text, end);
+    let gap = text::put_byte(b' ', text, levels);
+    let height = text::put_number(line.row, text, gap);
+    let before = text::put_byte(b' ', text, height);
+    text::put_number(line.length, text, before)
+}
+
+fn put_refused(line: Line, text: &mut [u8]) -> usize
+    requires { ⌜ length (now text) ≡ 64 ⌝ }
+    ensures { λ r. ⌜ Put (refusedText line) 64 r (now (text .entry)) (now (text .exit)) ⌝ }
+{
+    let end = text::put_byte(b'\n', text, 64);
+    let number = text::put_number(line.row, text, end);
+    let rest = text::put_four(b's', b'e', b'd', b' ', text, number);
+    text::put_four(b'r', b'e', b'f', b'u', text, rest)
+}
+
+fn put_head(line: Line, text: &mut [u8]) -> usize
+    requires { ⌜ length (now text) ≡ 64 ⌝ }
+    ensures { λ r. ⌜ Put (headText line) 64 r (now (text .entry)) (now (text .exit)) ⌝ }
+{
+    let row = text::put_number(line.row, text, 64);
+    let band = text::put_four(
+        b' ',
+        first_letter(line.band),
+        second_letter(line.band),
+        b' ',
+        text,
+        row,
+    );
+    text::put_number(line.level, text, band)
+}
+
+fn put_value(line: Line, row: &[i32], text: &mut [u8]) -> usize
+    requires { ⌜ length (now text) ≡ 64 ⌝ }
+    ensures { λ r. ⌜ Put (valueText (length (now (row .entry))) (at (now (row .entry))) line) 64 r (now (text .entry)) (now (text .exit)) ⌝ }
+{
+    let value = line.value;
+    if line.length <= value {
+        return text::put_byte(b'\n', text, 64);
+    }
+    if row.len() <= value {
+        return text::put_byte(b'\n', text, 64);
+    }
+    let place = text::put_integer(row[value], text, 64);
+    text::put_byte(b' ', text, place)
+}
+
+impl Line {
+    pub fn none() -> Self
+        ensures { λ r. ⌜ r ≡ noLine ⌝ }
+    {
+        Line {
+            part: 0,
+            level: 0,
+            band: 0,
+            row: 0,
+            length: 0,
+            value: 0,
+            done: 0,
+        }
+    }
+
+    pub fn size(width: usize, height: usize, levels: usize) -> Self
+        ensures { λ r. ⌜ r ≡ sizePart width height levels ⌝ }
+    {
+        Line {
+            part: 1,
+            level: levels,
+            band: 0,
+            row: height,
+            length: width,
+            value: 0,
+            done: 0,
+        }
+    }
+
+    pub fn refused(number: usize) -> Self
+        ensures { λ r. ⌜ r ≡ refusedPart number ⌝ }
+    {
+        Line {
+            part: 2,
+            level: 0,
+            band: 0,
+            row: number,
+            length: 0,
+            value: 0,
+            done: 0,
+        }
+    }
+
+    pub fn band_row(level: usize, band: usize, row: usize, length: usize) -> Self
+        ensures { λ r. ⌜ r ≡ headPart level band row length ⌝ }
+    {
+        Line {
+            part: 3,
+            level,
+            band,
+            row,
+            length,
+            value: 0,
+            done: 0,
+        }
+    }
+}
+
+// The part's bytes, at the end of the text; answers where they begin.
+fn put_part(line: Line, row: &[i32], text: &mut [u8]) -> usize
+    requires { ⌜ length (now text) ≡ 64 ⌝ }
+    ensures { λ r. ⌜ Put (partText (length (now (row .entry))) (at (now (row .entry))) line) 64 r (now (text .entry)) (now (text .exit)) ⌝ }
+{
+    let part = line.part;
+    if part == 1 {
+        return put_size(line, text);
+    }
+    if part == 2 {
+        return put_refused(line, text);
+    }
+    if part == 3 {
+        return put_head(line, text);
+    }
+    put_value(line, row, text)
+}
