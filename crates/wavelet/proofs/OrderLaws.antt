@@ -1,16 +1,15 @@
 -- The laws of the order: what each row makes, by parity; the sets of a level one after the other; the rows of a map and its finish together.
 -- Assumes nothing.
-use mathlib.Core.Bool.{Bool, true, false}
-use mathlib.Core.Path.{_≡_, refl, sym, ap, ap₂, subst, _∙_}
+use mathlib.Core.Path.{_≡_, refl, sym, ap, ap₂, _∙_}
 use mathlib.Core.List.{List, [], _∷_, _++_, append-nil, append-assoc}
 use Prim.Native.Nat.{ℕ, zero, suc, _+_, _-_, _*_, _/_, _%_, _≤_, _<_}
 use native.Mathlib.Decide.{decLt}
 use native.Mathlib.Omega.{arith}
-use borrow.Author.Tests.{lt-ltb, le-ltb, eq-eqb, ne-eqb}
+use borrow.Author.Tests.{lt-ltb}
 use Rattle.lifting.specs.Line.{Half, lo, hi, count}
 use Rattle.lifting.proofs.Filter.{place, by-place}
-use Rattle.wavelet.specs.Bands.{Band, across, down}
-use Rattle.wavelet.specs.Order.{RowName, rowName, handedOut, hasRow, rowsOf, setRows, madeBy, closing, inTurn, made}
+use Rattle.wavelet.specs.Bands.{Band, down}
+use Rattle.wavelet.specs.Order.{RowName, handedOut, hasRow, rowsOf, setRows, madeBy, closing, inTurn}
 use Rattle.wavelet.proofs.SizeLaws.{count-lo, count-hi}
 
 -- set n of level k with what its LL row makes below

@@ -2,11 +2,11 @@
 -- By weights: whatever the names weigh, the order weighs what the levels, one after the other, weigh; then each name is weighed. Assumes nothing.
 use mathlib.Core.Bool.{Bool, true, false}
 use mathlib.Core.Path.{_≡_, refl, sym, ap, ap₂, _∙_}
-use mathlib.Core.List.{List, [], _∷_, _++_, append-nil}
-use Prim.Native.Nat.{ℕ, zero, suc, _+_, _-_, _*_, _≤_, _<_}
+use mathlib.Core.List.{List, [], _∷_, _++_}
+use Prim.Native.Nat.{ℕ, zero, suc, _+_, _-_, _≤_, _<_}
 use native.Mathlib.Decide.{decLt, ℕ-discrete}
 use native.Mathlib.Omega.{arith}
-use lib.Dec.{leb, ltb, eqb, leb·suc-suc, eqb·suc-suc, leb·suc-zero, leb·zero}
+use lib.Dec.{ltb, eqb, leb·suc-suc, eqb·suc-suc}
 use borrow.Author.Tests.{lt-ltb, le-ltb, eq-eqb, ne-eqb}
 use Rattle.numbers.specs.Signal.{pick, both}
 use Rattle.lifting.specs.Line.{Half, lo, hi, count}
@@ -17,7 +17,7 @@ use Rattle.wavelet.specs.View.{bandRows, bandColumns}
 use Rattle.wavelet.specs.ViewCall.{keptAt, bandRowExists}
 use Rattle.wavelet.specs.Order.{RowName, rowName, handedOut, hasRow, rowsOf, setRows, madeBy, closing, inTurn, made, sameName, times}
 use Rattle.wavelet.proofs.SizeLaws.{count-lo, count-hi, count-positive, size-inner}
-use Rattle.wavelet.proofs.OrderLaws.{makes, turn-none, map-made}
+use Rattle.wavelet.proofs.OrderLaws.{turn-none, map-made}
 
 -- ---- weights
 module _ {A : Type 0} (f : A → ℕ) where

@@ -1,6 +1,6 @@
 -- The order in which the band rows of a map are made as its rows come in. Document 01, "The writer".
 -- A level k has w columns and l levels below it; L counts the levels from level k on, 0: none.
-use mathlib.Core.Bool.{Bool, true, false}
+use mathlib.Core.Bool.{Bool}
 use mathlib.Core.List.{List, [], _∷_, _++_}
 use Prim.Native.Nat.{ℕ, zero, suc, _+_, _-_, _/_, _%_}
 use lib.Dec.{ltb, eqb}

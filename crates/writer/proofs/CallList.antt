@@ -3,8 +3,8 @@
 --     draw-good       a row is drawn
 --     finish-good     the finish
 -- Assumes nothing.
-use mathlib.Core.Bool.{Bool, true, false, not}
-use mathlib.Core.Path.{_≡_, refl, sym, ap, ap₂, subst, subst₂, _∙_}
+use mathlib.Core.Bool.{Bool, true, false}
+use mathlib.Core.Path.{_≡_, refl, sym, ap, ap₂, subst, _∙_}
 use mathlib.Core.List.{List, [], _∷_, _++_, map, append-nil, append-assoc}
 use Prim.Native.Nat.{ℕ, zero, suc, _+_, _-_, _*_, _/_, _%_, _≤_, _<_}
 use native.Mathlib.Nat.{mul-comm, mul-le-mul-right, mul-add-div-right, div-eq-of-lt, mul-add-mod-self-right, mod-eq-of-lt, mul-div-cancel, mul-div-cancel-left, suc-mul, mul-suc}
@@ -12,43 +12,46 @@ use native.Mathlib.Decide.{decLt}
 use native.Mathlib.Omega.{arith}
 use lib.IntN.{ℤ, pos}
 use lib.ListN.{length, take, drop, getD, length-append, length-map, List·getD-append}
-use lib.Seq.{getD-at, drop-at}
-use lib.Dec.{leb, ltb, eqb}
-use borrow.Author.Tests.{lt-ltb, le-ltb, le-leb, lt-leb, eq-eqb, ne-eqb, ltb-true, ltb-false, eqb-true}
+use lib.Seq.{getD-at, drop-at, take-all, take-append-le}
+use lib.Dec.{ltb, eqb}
+use borrow.Author.Tests.{lt-ltb, le-leb, eq-eqb, ne-eqb, ltb-true, ltb-false, eqb-true}
 use Rattle.numbers.specs.Signal.{pick, both}
 use Rattle.numbers.specs.Word.{wrap32}
 use Rattle.numbers.proofs.Sweep.{both as split-both}
-use Rattle.lifting.specs.Line.{lo, count}
-use Rattle.lifting.specs.Halves.{fronted}
+use Rattle.lifting.specs.Line.{count}
 use Rattle.wavelet.specs.Limits.{maxWidth, maxHeight, maxLevels}
 use Rattle.wavelet.specs.Bands.{Grid, Band, code, across, down}
 use Rattle.wavelet.specs.Levels.{size, levelBand}
 use Rattle.wavelet.specs.View.{bandColumns}
 use Rattle.wavelet.specs.Questions.{within}
-use Rattle.wavelet.specs.Store.{storeLength}
 use Rattle.wavelet.specs.Order.{RowName, rowName, madeBy, closing, inTurn, made}
-use Rattle.wavelet.proofs.OrderLaws.{turn-zero, turn-suc}
-use Rattle.writer.specs.declared.Writer.{Writer}
-use Rattle.writer.specs.declared.BandRow.{BandRow}
+use Rattle.wavelet.proofs.OrderLaws.{turn-suc}
 use Rattle.writer.specs.Level.{Memory, LevelKind}
 use Rattle.writer.specs.FiveThreeLevel.{cellOf, fiveThree}
-use Rattle.writer.specs.Machine.{Out, rest, arrive}
+use Rattle.writer.specs.Machine.{Out, arrive}
 use Rattle.writer.specs.Draws.{Waiting, waiting, pull}
 use Rattle.writer.specs.Closing.{Shut, shut}
 use Rattle.writer.specs.Taking.{stored, Taking, takes, offering}
-use Rattle.writer.specs.Questions.{inRanges, longEnough}
+use Rattle.writer.specs.Questions.{inRanges}
 use Rattle.writer.specs.Calls.{resumed, bandRow}
-use Rattle.writer.specs.Holds.{Kept, LevelsHold}
-use Rattle.writer.specs.Demand3.{DrawnRow, answered, All, all-none, all-more, isNone}
-use Rattle.writer.proofs.LevelLaws.{LevelLaws, five-three-laws}
+use Rattle.writer.specs.Holds.{Kept, Holds}
+use Rattle.writer.specs.History.{DrawnRow}
+use Rattle.writer.specs.Demand3.{answered, All, all-none, all-more, isNone}
+use Rattle.writer.proofs.LevelLaws.{five-three-laws}
 use Rattle.writer.proofs.Waiting.{pend, later, pend-none, later-all, later-none}
-use Rattle.writer.proofs.Cascade.{IsRow, Good, Pulled, Closed, cell-good, arrive-good, pull-good, shut-good, fresh-good, level-le, closed-le, inv-left}
+use Rattle.writer.proofs.CascadeHolds.{Good, Pulled, level-le, closed-le}
+use Rattle.writer.proofs.StateHolds.{differ, st, fresh-holds, pulled-by, shut-on, draw-holds, shut-first, finish-holds, begun-holds, arrived-by, complete-holds}
 
 -- ---- lists
 module _ {A : Type 0} {P : A → Type 0} where
   pub all-append : {s t : List A} → All P s → All P t → All P (s ++ t)
   all-append all-none q = q
   all-append (all-more p ps) q = all-more p (all-append ps q)
+
+  pub all-take : (n : ℕ) {s : List A} → All P s → All P (take n s)
+  all-take zero a = all-none
+  all-take (suc n) all-none = all-none
+  all-take (suc n) (all-more p ps) = all-more p (all-take n ps)
 
   pub all-map : {Q : A → Type 0} {s : List A} → ((x : A) → P x → Q x) → All P s → All Q s
   all-map f all-none = all-none
@@ -76,13 +79,7 @@ column-of W r c h = mul-add-mod-self-right r W c ∙ mod-eq-of-lt h
 pub rows-all : (W H r c : ℕ) → 0 < W → c ≡ 0 → r * W + c ≡ W * H → r ≡ H
 rows-all W H r c p z e = sym (mul-div-cancel r p) ∙ ap (λ a. a / W) (omega arith) ∙ mul-div-cancel-left H p
 
-differ : false ≡ true → ⊥
-differ e = let z : _≡_ {A = ℕ} 0 1 = ap (λ t. pick t 1 0) e in omega arith
-
--- ---- the writer by its numbers
-abbrev pub st : (W L r c : ℕ) → Bool → (cl v i : ℕ) → Writer
-st W L r c f cl v i = record { width = W; levels = L; rows = r; column = c; finished = f; closed = cl; level = v; left = i }
-
+-- ---- histories and grids
 -- a grid of H rows begins with the heights taken; once finished it is they
 pub record Fits (W H : ℕ) (g : Grid) (ts : List ℕ) (f : Bool) : Type 0 where
   pub within : length ts ≤ W * H
@@ -101,22 +98,10 @@ fits-height W H g ts h us f r c e p t =
     let len : length (ts ++ h ∷ us) ≡ length ts + suc (length us) = length-append ts (h ∷ us) in
     (t .heights r c p (omega arith) ∙ ap pos (getD-at ts h us 0 (r * W + c) e), rows-below W H r c (omega (arith, t .within)))
 
--- ---- what is to come without a further row, and how far the levels are closed
+-- ---- what is to come without a further row
 unfoldable pub coming : (L W : ℕ) → Bool → (cl v i r : ℕ) → List RowName
 coming L W false cl v i r = pend L 1 W cl v i r
 coming L W true cl v i r = pend L 1 W cl v i r ++ later L 1 W r cl
-
-unfoldable pub Ready : ℕ → Bool → ℕ → ℕ → Type 0
-Ready L false cl v = cl ≡ 0
-Ready L true cl v = v ≡ 0 → cl ≡ L
-
-open-ready : (L cl v : ℕ) → cl ≡ 0 → Ready L false cl v
-unfolding Ready
-open-ready L cl v q = q
-
-closed-ready : (L cl v : ℕ) → (v ≡ 0 → cl ≡ L) → Ready L true cl v
-unfolding Ready
-closed-ready L cl v q = q
 
 coming-open : (L W cl v i r : ℕ) → coming L W false cl v i r ≡ pend L 1 W cl v i r
 unfolding coming
@@ -125,10 +110,6 @@ coming-open L W cl v i r = refl
 coming-closed : (L W cl v i r : ℕ) → coming L W true cl v i r ≡ pend L 1 W cl v i r ++ later L 1 W r cl
 unfolding coming
 coming-closed L W cl v i r = refl
-
-ready-open : (L cl v : ℕ) → Ready L false cl v → cl ≡ 0
-unfolding Ready
-ready-open L cl v q = q
 
 -- a drawn row is the row of the grid's word transform that its answer names
 pub record Right (L W H : ℕ) (g : Grid) (d : DrawnRow) : Type 0 where
@@ -142,21 +123,25 @@ pub record Right (L W H : ℕ) (g : Grid) (d : DrawnRow) : Type 0 where
   pub values : (i : ℕ) → i < d .row .length → d .values i ≡ levelBand wrap32 W H g (suc depth) band (d .row .row) i
 
 pub record Sound (L W H : ℕ) (g : Grid) (f : Bool) (ds : List DrawnRow) (r c cl v i : ℕ) (x : Memory) : Type 0 where
-  pub inv : LevelsHold fiveThree Kept L W H g cl v i r c x
-  pub few : i ≤ 4
-  pub idle : 0 < v → c ≡ 0
-  pub ready : Ready L f cl v
+  pub holds : Holds H g (st W L r c f cl v i) x
   pub names : List RowName
   pub named : map (λ d. d .row) ds ≡ map (answered W) names
   pub order : names ++ coming L W f cl v i r ≡ made W L r f
   pub values : All (Right L W H g) ds
 
+pub record Early (L W : ℕ) (ts : List ℕ) (ds : List DrawnRow) (r : ℕ) : Type 0 where
+  pub drawn : length (made W L r false) ≤ length ds
+  pub right : (H : ℕ) (g : Grid) → Fits W H g ts false → All (Right L W H g) (take (length (made W L r false)) ds)
+
 pub record At (L W : ℕ) (ts : List ℕ) (f : Bool) (ds : List DrawnRow) (r c cl v i : ℕ) (x : Memory) : Type 0 where
   pub counted : length ts ≡ r * W + c
   pub column-in : c < W
   pub rows-in : r ≤ maxHeight
+  pub room : 0 < c → r < maxHeight
   pub ended : f ≡ true → (0 < r) × (c ≡ 0)
   pub sound : (H : ℕ) (g : Grid) → Fits W H g ts f → Sound L W H g f ds r c cl v i x
+  -- the rows made before the finish are drawn, and right for every grid that begins with the heights
+  pub early : f ≡ true → Early L W ts ds r
 
 -- ---- there is such a grid: the heights taken themselves
 abbrev pub own : ℕ → List ℕ → Grid
@@ -192,7 +177,7 @@ module _ {L W : ℕ} {ts : List ℕ} {f : Bool} {ds : List DrawnRow} {r c cl v i
   unfolding inRanges
   in-ranges p q =
       let s = own-sound in
-      simp (p, q, le-leb r maxHeight (a .rows-in), lt-ltb c W (a .column-in), le-leb cl L (closed-le fiveThree Kept five-three-laws L _ _ _ _ _ _ _ _ _ (s .inv)), le-leb v L (level-le fiveThree Kept five-three-laws L _ _ _ _ _ _ _ _ _ (s .inv)), le-leb i 4 (s .few))
+      simp (p, q, le-leb r maxHeight (a .rows-in), lt-ltb c W (a .column-in), le-leb cl L (closed-le fiveThree Kept five-three-laws L _ _ _ _ _ _ _ _ _ (s .holds .levels)), le-leb v L (level-le fiveThree Kept five-three-laws L _ _ _ _ _ _ _ _ _ (s .holds .levels)), le-leb i 4 (s .holds .few))
 
   -- what waits, by the history: made and not drawn
   pub waiting-is : drop (length ds) (made W L r f) ≡ coming L W f cl v i r
@@ -204,14 +189,14 @@ module _ {L W : ℕ} {ts : List ℕ} {f : Bool} {ds : List DrawnRow} {r c cl v i
 
   -- nothing waits exactly at level 0
   pub none-waits : v ≡ 0 → coming L W f cl v i r ≡ []
-  none-waits z = go f (own-sound .ready)
+  none-waits z = go f (λ e. own-sound .holds .ended e .2 z)
     where
       none : pend L 1 W cl v i r ≡ []
       none = ap (λ a. pend L 1 W cl a i r) z ∙ pend-none L 1 W cl i r
 
-      go : (t : Bool) → Ready L t cl v → coming L W t cl v i r ≡ []
-      go false q = unfold coming in none
-      go true q = unfold coming Ready in (ap₂ _++_ none (ap (later L 1 W r) (q z) ∙ later-all L 1 W r))
+      go : (t : Bool) → (t ≡ true → cl ≡ L) → coming L W t cl v i r ≡ []
+      go false q = coming-open L W cl v i r ∙ none
+      go true q = coming-closed L W cl v i r ∙ ap₂ _++_ none (ap (later L 1 W r) (q refl) ∙ later-all L 1 W r)
 
 -- ---- one height more
 module _ (l W : ℕ) (ds : List DrawnRow) where
@@ -221,54 +206,41 @@ module _ (l W : ℕ) (ds : List DrawnRow) where
   abbrev K : LevelKind
   K = fiveThree
 
-  abbrev Inv : (H : ℕ) → Grid → (cl v i r c : ℕ) → Memory → Type 0
-  Inv H g cl v i r c x = LevelsHold K Kept L W H g cl v i r c x
-
   module _ (ts : List ℕ) (r c cl v i : ℕ) (x : Memory) (a : At L W ts false ds r c cl v i x) (z : v ≡ 0) (h : ℕ) where
     abbrev x′ : Memory
     x′ = stored (cellOf W r c) (pos h) x
 
-    -- the store, for a grid that has the height too
-    cell-held : (H : ℕ) (g : Grid) → Fits W H g (ts ++ h ∷ []) false → Inv H g 0 0 i r (suc c) x′
-    cell-held H g t =
-        let q = fits-height W H g ts h [] false r c (a .counted) (a .column-in) t in
-        let s = a .sound H g (fits-back W H g ts (h ∷ []) false t) in
-        subst (λ w. Inv H g 0 0 i r (suc c) (stored (cellOf W r c) w x)) (q .0)
-        (cell-good K Kept five-three-laws l W H g i r c x (a .column-in)
-        (subst₂ (λ e b. Inv H g e b i r c x) (ready-open L cl v (s .ready)) z (s .inv)))
-
     longer : length (ts ++ h ∷ []) ≡ suc (length ts)
     longer = length-append ts (h ∷ []) ∙ omega arith
 
-    pub begun-at : c + 1 < W → At L W (ts ++ h ∷ []) false ds r (c + 1) cl v i x′
-    begun-at p = record {
+    -- what holds of a grid that has the height too
+    module _ (H : ℕ) (g : Grid) (t : Fits W H g (ts ++ h ∷ []) false) where
+      before : Sound L W H g false ds r c cl v i x
+      before = a .sound H g (fits-back W H g ts (h ∷ []) false t)
+
+      here : (g r c ≡ pos h) × (r < H)
+      here = fits-height W H g ts h [] false r c (a .counted) (a .column-in) t
+
+    pub begun-at : r < maxHeight → c + 1 < W → At L W (ts ++ h ∷ []) false ds r (c + 1) cl v i x′
+    begun-at q p = record {
       counted = omega (arith, longer, a .counted);
       column-in = p;
       rows-in = a .rows-in;
+      room = λ _. q;
       ended = λ e. absurd (differ e);
-      sound = λ H g t. let s = a .sound H g (fits-back W H g ts (h ∷ []) false t) in record {
-        inv = subst₂ (λ e b. Inv H g e b i r (c + 1) x′) (sym (ready-open L cl v (s .ready))) (sym z) (subst (λ b. Inv H g 0 0 i r b x′) (omega arith) (cell-held H g t));
-        few = s .few;
-        idle = λ e. absurd (omega arith);
-        ready = s .ready;
+      sound = λ H g t. let s = before H g t in record {
+        holds = subst (λ d. Holds H g (st W L r (c + 1) false cl v i) (stored (cellOf W r c) d x)) (here H g t .0) (begun-holds H g W l r c cl v i x (s .holds) z (a .column-in));
         names = s .names;
         named = s .named;
         order = s .order;
         values = s .values;
       };
+      early = λ e. absurd (differ e);
     }
 
     -- the row is complete: o is what it makes
     abbrev o : Out
     o = arrive K L W r x′
-
-    arrived-good : (H : ℕ) (g : Grid) → c + 1 ≡ W → Fits W H g (ts ++ h ∷ []) false → Good K Kept five-three-laws L 1 W H g 0 (suc r) o (madeBy L 1 W r)
-    arrived-good H g e t =
-        arrive-good K Kept five-three-laws L 1 W H g r x′ i (fits-height W H g ts h [] false r c (a .counted) (a .column-in) t .1)
-        (subst (λ b. Inv H g 0 0 i r b x′) (omega arith) (cell-held H g t))
-
-    next-row : suc r ≡ r + 1
-    next-row = omega arith
 
     made-next : (names : List RowName) → names ++ coming L W false cl v i r ≡ made W L r false → (todo : List RowName) → todo ≡ madeBy L 1 W r → names ++ todo ≡ made W L (r + 1) false
     unfolding made
@@ -276,30 +248,41 @@ module _ (l W : ℕ) (ds : List DrawnRow) where
         let n : names ≡ inTurn r (madeBy L 1 W) ++ [] = sym (append-nil names) ∙ ap (λ b. names ++ b) (sym (none-waits a z)) ∙ e in
         ap₂ _++_ (n ∙ append-nil (inTurn r (madeBy L 1 W))) q
         ∙ sym (turn-suc r (madeBy L 1 W))
-        ∙ ap (λ b. inTurn b (madeBy L 1 W)) next-row
+        ∙ ap (λ b. inTurn b (madeBy L 1 W)) (omega arith)
         ∙ sym (append-nil _)
 
+    complete-sound : (H : ℕ) (g : Grid) → Fits W H g (ts ++ h ∷ []) false → W ≤ c + 1 → Sound L W H g false ds (r + 1) 0 cl (o .level) (o .left) (o .store)
+    complete-sound H g t p =
+        let s = before H g t in
+        let q = here H g t in
+        let e : c + 1 ≡ W = omega (arith, a .column-in) in
+        let k =
+        subst (λ d. Good K Kept five-three-laws L 1 W H g 0 (suc r) (arrive K L W r (stored (cellOf W r c) d x)) (madeBy L 1 W r)) (q .0)
+        (arrived-by H g W l r c cl v i x (s .holds) z (a .column-in) e (q .1)) in
+        record {
+          holds =
+              subst (λ d. let b = arrive K L W r (stored (cellOf W r c) d x) in Holds H g (st W L (r + 1) 0 false cl (b .level) (b .left)) (b .store)) (q .0)
+              (complete-holds H g W l r c cl v i x (s .holds) z (a .column-in) e (q .1));
+          names = s .names;
+          named = s .named;
+          order =
+              made-next (s .names) (s .order) _
+              (coming-open L W cl (o .level) (o .left) (r + 1) ∙ ap₂ (λ b d. pend L 1 W b (o .level) (o .left) d) (s .holds .before refl) (omega arith) ∙ k .rows);
+          values = s .values;
+        }
+
     pub complete-at : r < maxHeight → W ≤ c + 1 → At L W (ts ++ h ∷ []) false ds (r + 1) 0 cl (o .level) (o .left) (o .store)
-    complete-at q p = record {
-      counted = longer ∙ omega (arith, a .counted, a .column-in, suc-mul r W, ap (λ b. b * W) next-row);
-      column-in = omega (arith, a .column-in);
-      rows-in = omega arith;
-      ended = λ e. absurd (differ e);
-      sound = λ H g t.
-          let s = a .sound H g (fits-back W H g ts (h ∷ []) false t) in
-          let k = arrived-good H g (omega (arith, a .column-in)) t in
-          let e : cl ≡ 0 = ready-open L cl v (s .ready) in
-          record {
-            inv = subst₂ (λ b d. Inv H g b (o .level) (o .left) d 0 (o .store)) (sym e) next-row (k .inv);
-            few = k .few;
-            idle = λ _. refl;
-            ready = open-ready L cl (o .level) e;
-            names = s .names;
-            named = s .named;
-            order = made-next (s .names) (s .order) _ (coming-open L W cl (o .level) (o .left) (r + 1) ∙ ap₂ (λ b d. pend L 1 W b (o .level) (o .left) d) e (sym next-row) ∙ k .rows);
-            values = s .values;
-          };
-    }
+    complete-at q p =
+        let next : r + 1 ≡ suc r = omega arith in
+        record {
+          counted = longer ∙ omega (arith, a .counted, a .column-in, suc-mul r W, ap (λ b. b * W) next);
+          column-in = omega (arith, a .column-in);
+          rows-in = omega arith;
+          room = λ e. absurd (omega arith);
+          ended = λ e. absurd (differ e);
+          sound = λ H g t. complete-sound H g t p;
+          early = λ e. absurd (differ e);
+        }
 
   -- ---- a row waits where a set is being handed out
   pub some-wait : (ts : List ℕ) (f : Bool) (r c cl v i : ℕ) (x : Memory) → At L W ts f ds r c cl (suc v) i x → isNone (coming L W f cl (suc v) i r) ≡ false
@@ -309,7 +292,7 @@ module _ (l W : ℕ) (ds : List DrawnRow) where
       s = own-sound a
 
       P : Pulled K Kept five-three-laws L 1 W (own-height f r) (own W ts) cl v i r x
-      P = pull-good K Kept five-three-laws L 1 W _ _ cl v i r c x (s .few) (s .idle (omega arith)) (s .inv)
+      P = pulled-by _ _ W L r c f cl v i x (s .holds)
 
       go : (t : Bool) → isNone (coming L W t cl (suc v) i r) ≡ false
       go false = ap isNone (coming-open L W cl (suc v) i r ∙ P .first)
@@ -414,7 +397,7 @@ module _ (l W : ℕ) (ds : List DrawnRow) where
           open-here = sym (takes-is ts r c cl v i x a) ∙ e
 
           inner : (t : Bool) → ltb (c + 1) W ≡ t → Offered (h ∷ run) ts (more (pick t b d))
-          inner true q = one-more h run ts b open-here (ih (ts ++ h ∷ []) r (c + 1) cl v i y (begun-at ts r c cl v i x a free h (ltb-true _ _ q)))
+          inner true q = one-more h run ts b open-here (ih (ts ++ h ∷ []) r (c + 1) cl v i y (begun-at ts r c cl v i x a free h low (ltb-true _ _ q)))
           inner false q = one-more h run ts d open-here (ih (ts ++ h ∷ []) (r + 1) 0 cl (o .level) (o .left) (o .store) (complete-at ts r c cl v i x a free h low (ltb-false _ _ q)))
 
   pub offering-good : (run : List ℕ) → Offers run
@@ -429,213 +412,148 @@ module _ (l W : ℕ) (ds : List DrawnRow) where
     abbrev out : Out
     out = pull K L W cl (suc v) i r x
 
+    abbrev left : Shut
+    left = resumed f (st W L r c f cl (suc v) i) out (out .level)
+
     module _ (H : ℕ) (g : Grid) (t : Fits W H g ts f) where
       abbrev s : Sound L W H g f ds r c cl (suc v) i x
       s = a .sound H g t
 
-      pub pulled-by : Pulled K Kept five-three-laws L 1 W H g cl v i r x
-      pulled-by = pull-good K Kept five-three-laws L 1 W H g cl v i r c x (s .few) (s .idle (omega arith)) (s .inv)
+      P : Pulled K Kept five-three-laws L 1 W H g cl v i r x
+      P = pulled-by H g W L r c f cl v i x (s .holds)
 
       abbrev name : RowName
-      name = rowName (1 + pulled-by .depth) (q .band) (q .row)
+      name = rowName (1 + P .depth) (q .band) (q .row)
 
-      pub answer-is : bandRow q ≡ answered W name
+      answer-is : bandRow q ≡ answered W name
       unfolding bandColumns
       answer-is =
-          let e : 1 + pulled-by .depth - 1 ≡ pulled-by .depth = omega arith in
-          ap₂ (λ b d. record { level = b; band = code (q .band); row = q .row; length = d }) (pulled-by .is .level-is ∙ omega arith)
-          (pulled-by .is .length-is ∙ ap (λ k. count (across (q .band)) (size k W)) (sym e))
+          let e : 1 + P .depth - 1 ≡ P .depth = omega arith in
+          ap₂ (λ b d. record { level = b; band = code (q .band); row = q .row; length = d }) (P .is .level-is ∙ omega arith)
+          (P .is .length-is ∙ ap (λ k. count (across (q .band)) (size k W)) (sym e))
 
-      named-more : (z : ℕ → ℤ) → map (λ d. d .row) (ds ++ (record { row = bandRow q; values = z } ∷ [])) ≡ map (answered W) (s .names ++ (name ∷ []))
-      named-more z = map-append (λ d. d .row) ds _ ∙ ap₂ (λ b d. b ++ (d ∷ [])) (s .named) answer-is ∙ sym (map-append (answered W) (s .names) _)
+      -- what is still to come after the draw
+      still : (b : Bool) → f ≡ b → (let k = resumed b (st W L r c b cl (suc v) i) out (out .level) in coming L W b cl (suc v) i r ≡ name ∷ coming L W b (k .closed) (k .out .level) (k .out .left) r)
+      still false e =
+          unfold resumed in
+          (coming-open L W cl (suc v) i r ∙ P .first ∙ ap (λ l. name ∷ l) (sym (coming-open L W cl (out .level) (out .left) r ∙ P .good .rows)))
+      still true e = coming-closed L W cl (suc v) i r ∙ ap (λ l. l ++ later L 1 W r cl) (P .first) ∙ ap (λ l. name ∷ l) (sym (go (out .level) refl))
+        where
+          h : Holds H g (st W L r c true cl (suc v) i) x
+          h = subst (λ b. Holds H g (st W L r c b cl (suc v) i) x) e (s .holds)
 
-      right : (z : ℕ → ℤ) → ((j : ℕ) → j < q .length → z j ≡ x (q .start + j)) → Right L W H g (record { row = bandRow q; values = z })
-      right z e = record {
-        depth = pulled-by .depth;
-        deep = pulled-by .deep;
-        band = q .band;
-        level-is = pulled-by .is .level-is;
-        band-is = refl;
-        length-is = pulled-by .is .length-is;
-        row-in = pulled-by .is .row-in;
-        values = λ j p. e j p ∙ pulled-by .is .values j p;
+          go : (b : ℕ) → out .level ≡ b → (let k = resumed true (st W L r c true cl (suc v) i) out b in coming L W true (k .closed) (k .out .level) (k .out .left) r ≡ P .todo ++ later L 1 W r cl)
+          go zero y =
+              unfold resumed in
+              (coming-closed L W _ _ _ r
+              ∙ shut-on H g W L r c cl v i x h y .rows
+              ∙ ap (λ l. l ++ later L 1 W r cl) (sym (sym (P .good .rows) ∙ ap (λ b. pend L 1 W cl b (out .left) r) y ∙ pend-none L 1 W cl (out .left) r)))
+          go (suc b) y = unfold resumed in (coming-closed L W cl (out .level) (out .left) r ∙ ap (λ l. l ++ later L 1 W r cl) (P .good .rows))
+
+      drawn-sound : (z : ℕ → ℤ) → ((j : ℕ) → j < q .length → z j ≡ x (q .start + j)) → Sound L W H g f (ds ++ (record { row = bandRow q; values = z } ∷ [])) r c (left .closed) (left .out .level) (left .out .left) (left .out .store)
+      drawn-sound z e = record {
+        holds = draw-holds H g W L r c f cl v i x (s .holds);
+        names = s .names ++ (name ∷ []);
+        named = map-append (λ d. d .row) ds _ ∙ ap₂ (λ b d. b ++ (d ∷ [])) (s .named) answer-is ∙ sym (map-append (answered W) (s .names) _);
+        order = append-assoc (s .names) (name ∷ []) _ ∙ ap (λ l. s .names ++ l) (sym (still f refl)) ∙ s .order;
+        values = all-append (s .values) (all-more right all-none);
       }
-
-      -- the rows left
-      one-less : (later′ : List RowName) → (s .names ++ (name ∷ [])) ++ (pulled-by .todo ++ later′) ≡ s .names ++ (pend L 1 W cl (suc v) i r ++ later′)
-      one-less later′ =
-          append-assoc (s .names) (name ∷ []) _ ∙ ap (λ l. s .names ++ (l ++ later′)) (sym (pulled-by .first))
+        where
+          right : Right L W H g (record { row = bandRow q; values = z })
+          right = record {
+            depth = P .depth;
+            deep = P .deep;
+            band = q .band;
+            level-is = P .is .level-is;
+            band-is = refl;
+            length-is = P .is .length-is;
+            row-in = P .is .row-in;
+            values = λ j p. e j p ∙ P .is .values j p;
+          }
 
     -- what waits is named by the answer
     pub head-is : (n : RowName) × (l : List RowName) × (coming L W f cl (suc v) i r ≡ n ∷ l) × (bandRow q ≡ answered W n)
-    head-is = let g = go f in (name _ _ (own-fits a), g .0, g .1, answer-is _ _ (own-fits a))
-      where
-        P : Pulled K Kept five-three-laws L 1 W (own-height f r) (own W ts) cl v i r x
-        P = pulled-by _ _ (own-fits a)
+    head-is = (name _ _ (own-fits a), _, still _ _ (own-fits a) f refl, answer-is _ _ (own-fits a))
 
-        go : (b : Bool) → (l : List RowName) × (coming L W b cl (suc v) i r ≡ name _ _ (own-fits a) ∷ l)
-        go false = (P .todo, coming-open L W cl (suc v) i r ∙ P .first)
-        go true = (P .todo ++ later L 1 W r cl, coming-closed L W cl (suc v) i r ∙ ap (λ l. l ++ later L 1 W r cl) (P .first))
-
-  -- before the finish
-  module _ (ts : List ℕ) (r c cl v i : ℕ) (x : Memory) (a : At L W ts false ds r c cl (suc v) i x) (z : ℕ → ℤ) (e : (j : ℕ) → j < q ts false r c cl v i x a .length → z j ≡ x (q ts false r c cl v i x a .start + j)) where
-    abbrev ds′ : List DrawnRow
-    ds′ = ds ++ (record { row = bandRow (q ts false r c cl v i x a); values = z } ∷ [])
-
-    abbrev o₁ : Out
-    o₁ = out ts false r c cl v i x a
-
-    draw-open : At L W ts false ds′ r c cl (o₁ .level) (o₁ .left) (o₁ .store)
-    draw-open = record {
+    pub draw-good : (z : ℕ → ℤ) → ((j : ℕ) → j < q .length → z j ≡ x (q .start + j)) → At L W ts f (ds ++ (record { row = bandRow q; values = z } ∷ [])) r c (left .closed) (left .out .level) (left .out .left) (left .out .store)
+    draw-good z e = record {
       counted = a .counted;
       column-in = a .column-in;
       rows-in = a .rows-in;
+      room = a .room;
       ended = a .ended;
-      sound = λ H g t.
-          let s = a .sound H g t in
-          let P = pulled-by ts false r c cl v i x a H g t in
-          let c0 : c ≡ 0 = s .idle (omega arith) in
-          record {
-            inv = subst (λ b. Inv H g cl (o₁ .level) (o₁ .left) r b (o₁ .store)) (sym c0) (P .good .inv);
-            few = P .good .few;
-            idle = λ _. c0;
-            ready = open-ready L cl (o₁ .level) (ready-open L cl (suc v) (s .ready));
-            names = s .names ++ (name ts false r c cl v i x a H g t ∷ []);
-            named = named-more ts false r c cl v i x a H g t z;
-            order =
-                ap (λ l. (s .names ++ (name ts false r c cl v i x a H g t ∷ [])) ++ l)
-                (coming-open L W cl (o₁ .level) (o₁ .left) r ∙ P .good .rows ∙ sym (append-nil _))
-                ∙ one-less ts false r c cl v i x a H g t []
-                ∙ ap (λ l. s .names ++ l) (append-nil _ ∙ sym (coming-open L W cl (suc v) i r))
-                ∙ s .order;
-            values = all-append (s .values) (all-more (right ts false r c cl v i x a H g t z e) all-none);
-          };
+      sound = λ H g t. drawn-sound H g t z e;
+      early = λ y. let k = a .early y in record {
+        drawn = omega (arith, k .drawn, length-append ds (record { row = bandRow q; values = z } ∷ []));
+        right = λ H g t. subst (All (Right L W H g)) (sym (take-append-le _ ds _ (k .drawn))) (k .right H g t);
+      };
     }
-
-  -- after it: once nothing waits, the levels close on
-  module _ (ts : List ℕ) (r c cl v i : ℕ) (x : Memory) (a : At L W ts true ds r c cl (suc v) i x) (z : ℕ → ℤ) (e : (j : ℕ) → j < q ts true r c cl v i x a .length → z j ≡ x (q ts true r c cl v i x a .start + j)) where
-    abbrev ds″ : List DrawnRow
-    ds″ = ds ++ (record { row = bandRow (q ts true r c cl v i x a); values = z } ∷ [])
-
-    abbrev o₂ : Out
-    o₂ = out ts true r c cl v i x a
-
-    -- what the draw leaves
-    abbrev R : ℕ → Shut
-    R b = resumed true (st W L r c true cl (suc v) i) o₂ b
-
-    module _ (H : ℕ) (g : Grid) (t : Fits W H g ts true) where
-      abbrev s₂ : Sound L W H g true ds r c cl (suc v) i x
-      s₂ = a .sound H g t
-
-      abbrev P₂ : Pulled K Kept five-three-laws L 1 W H g cl v i r x
-      P₂ = pulled-by ts true r c cl v i x a H g t
-
-      column-none : c ≡ 0
-      column-none = s₂ .idle (omega arith)
-
-      rows-are : r ≡ H
-      rows-are = rows-all W H r c (omega (arith, a .column-in)) column-none (sym (a .counted) ∙ t .whole refl)
-
-      -- with what is still to come after the draw
-      drawn-order : (l : List RowName) → l ≡ P₂ .todo ++ later L 1 W r cl → (s₂ .names ++ (name ts true r c cl v i x a H g t ∷ [])) ++ l ≡ made W L r true
-      drawn-order l q =
-          ap (λ k. (s₂ .names ++ (name ts true r c cl v i x a H g t ∷ [])) ++ k) q
-          ∙ one-less ts true r c cl v i x a H g t (later L 1 W r cl)
-          ∙ ap (λ k. s₂ .names ++ k) (sym (coming-closed L W cl (suc v) i r))
-          ∙ s₂ .order
-
-      drawn-sound : (cl′ v′ i′ : ℕ) (y : Memory) → Inv H g cl′ v′ i′ r 0 y → i′ ≤ 4 → (v′ ≡ 0 → cl′ ≡ L) → pend L 1 W cl′ v′ i′ r ++ later L 1 W r cl′ ≡ P₂ .todo ++ later L 1 W r cl → Sound L W H g true ds″ r c cl′ v′ i′ y
-      drawn-sound cl′ v′ i′ y inv few all rest = record {
-        inv = subst (λ b. Inv H g cl′ v′ i′ r b y) (sym column-none) inv;
-        few = few;
-        idle = λ _. column-none;
-        ready = closed-ready L cl′ v′ all;
-        names = s₂ .names ++ (name ts true r c cl v i x a H g t ∷ []);
-        named = named-more ts true r c cl v i x a H g t z;
-        order = drawn-order _ (coming-closed L W cl′ v′ i′ r ∙ rest);
-        values = all-append (s₂ .values) (all-more (right ts true r c cl v i x a H g t z e) all-none);
-      }
-
-      closed-sound : (b : ℕ) → o₂ .level ≡ b → Sound L W H g true ds″ r c (R b .closed) (R b .out .level) (R b .out .left) (R b .out .store)
-      unfolding resumed
-      closed-sound zero y =
-          let C = shut-good K Kept five-three-laws L 1 W H g cl r (o₂ .left) (o₂ .store) rows-are (a .ended refl .0) (subst (λ b. Inv H g cl b (o₂ .left) r 0 (o₂ .store)) y (P₂ .good .inv)) in
-          let none : P₂ .todo ≡ [] = sym (P₂ .good .rows) ∙ ap (λ b. pend L 1 W cl b (o₂ .left) r) y ∙ pend-none L 1 W cl (o₂ .left) r in
-          drawn-sound _ _ _ _ (C .inv) (C .few) (C .all) (C .rows ∙ ap (λ l. l ++ later L 1 W r cl) (sym none))
-      closed-sound (suc b) y = drawn-sound cl (o₂ .level) (o₂ .left) (o₂ .store) (P₂ .good .inv) (P₂ .good .few) (λ k. absurd (omega arith)) (ap (λ l. l ++ later L 1 W r cl) (P₂ .good .rows))
-
-    draw-closed : At L W ts true ds″ r c (R (o₂ .level) .closed) (R (o₂ .level) .out .level) (R (o₂ .level) .out .left) (R (o₂ .level) .out .store)
-    draw-closed = record {
-      counted = a .counted;
-      column-in = a .column-in;
-      rows-in = a .rows-in;
-      ended = a .ended;
-      sound = λ H g t. closed-sound H g t (o₂ .level) refl;
-    }
-
-  -- either
-  pub draw-good : (ts : List ℕ) (f : Bool) (r c cl v i : ℕ) (x : Memory) (a : At L W ts f ds r c cl (suc v) i x) (z : ℕ → ℤ) →
-      (let w = waiting K L W cl (suc v) i r in let o = pull K L W cl (suc v) i r x in let k = resumed f (st W L r c f cl (suc v) i) o (o .level) in
-      ((j : ℕ) → j < w .length → z j ≡ x (w .start + j)) → At L W ts f (ds ++ (record { row = bandRow w; values = z } ∷ [])) r c (k .closed) (k .out .level) (k .out .left) (k .out .store))
-  draw-good ts false r c cl v i x a z e = unfold resumed in draw-open ts r c cl v i x a z e
-  draw-good ts true r c cl v i x a z e = draw-closed ts r c cl v i x a z e
 
   -- ---- the finish
-  pub finish-good : (ts : List ℕ) (r c cl v i : ℕ) (x : Memory) → At L W ts false ds r c cl v i x → v ≡ 0 → 0 < r → c ≡ 0 →
-      (let k = shut K L W 0 r x in At L W ts true ds r c (k .closed) (k .out .level) (k .out .left) (k .out .store))
-  finish-good ts r c cl v i x a z p n = record {
-    counted = a .counted;
-    column-in = a .column-in;
-    rows-in = a .rows-in;
-    ended = λ _. (p, n);
-    sound = ended-sound;
-  }
-    where
-      k : Shut
-      k = shut K L W 0 r x
+  module _ (ts : List ℕ) (r c cl v i : ℕ) (x : Memory) (a : At L W ts false ds r c cl v i x) (z : v ≡ 0) (p : 0 < r) (n : c ≡ 0) where
+    abbrev k : Shut
+    k = shut K L W 0 r x
 
-      ended-sound : (H : ℕ) (g : Grid) → Fits W H g ts true → Sound L W H g true ds r c (k .closed) (k .out .level) (k .out .left) (k .out .store)
-      ended-sound H g t =
-          let s = a .sound H g (record { within = t .within; heights = t .heights; whole = λ e. absurd (differ e) }) in
-          let C =
-          shut-good K Kept five-three-laws L 1 W H g 0 r i x (rows-all W H r c (omega (arith, a .column-in)) n (sym (a .counted) ∙ t .whole refl)) p
-          (subst₂ (λ b d. Inv H g 0 b i r d x) z n (subst (λ b. Inv H g b v i r c x) (ready-open L cl v (s .ready)) (s .inv))) in
-          record {
-            inv = subst (λ b. Inv H g (k .closed) (k .out .level) (k .out .left) r b (k .out .store)) (sym n) (C .inv);
-            few = C .few;
-            idle = λ _. n;
-            ready = closed-ready L (k .closed) (k .out .level) (C .all);
-            names = s .names;
-            named = s .named;
-            order = made-whole (s .names) (s .order) _ (coming-closed L W (k .closed) (k .out .level) (k .out .left) r ∙ C .rows ∙ later-none L 1 W r);
-            values = s .values;
-          }
-        where
-          made-whole : (names : List RowName) → names ++ coming L W false cl v i r ≡ made W L r false → (l : List RowName) → l ≡ closing L 1 W r → names ++ l ≡ made W L r true
-          made-whole names e l q =
-              unfold made in
-              (let m : names ≡ inTurn r (madeBy L 1 W) ++ [] = sym (append-nil names) ∙ ap (λ b. names ++ b) (sym (none-waits a z)) ∙ e in
-              ap₂ _++_ (m ∙ append-nil (inTurn r (madeBy L 1 W))) q)
+    made-whole : (names : List RowName) → names ++ coming L W false cl v i r ≡ made W L r false → (l : List RowName) → l ≡ closing L 1 W r → names ++ l ≡ made W L r true
+    unfolding made
+    made-whole names e l q =
+        let m : names ≡ inTurn r (madeBy L 1 W) ++ [] = sym (append-nil names) ∙ ap (λ b. names ++ b) (sym (none-waits a z)) ∙ e in
+        ap₂ _++_ (m ∙ append-nil (inTurn r (madeBy L 1 W))) q
 
-  -- ---- at first
-  pub fresh-at : (x : Memory) → 0 < W → ds ≡ [] → At L W [] false ds 0 0 0 0 0 x
-  fresh-at x p e = record {
-    counted = omega arith;
-    column-in = p;
-    rows-in = omega arith;
-    ended = λ e. absurd (differ e);
-    sound = λ H g t. record {
-      inv = fresh-good K Kept five-three-laws L W H g x;
-      few = omega arith;
-      idle = λ _. refl;
-      ready = open-ready L 0 0 refl;
-      names = [];
-      named = ap (map (λ d. d .row)) e;
-      order = coming-open L W 0 0 0 0 ∙ pend-none L 1 W 0 0 0 ∙ sym (none-made W);
-      values = subst (All (Right L W H g)) (sym e) all-none;
-    };
-  }
-    where
-      none-made : (W : ℕ) → made W L 0 false ≡ []
-      none-made W = unfold made inTurn in refl
+    finish-sound : (H : ℕ) (g : Grid) → Fits W H g ts true → Sound L W H g true ds r c (k .closed) (k .out .level) (k .out .left) (k .out .store)
+    finish-sound H g t =
+        let s = a .sound H g (record { within = t .within; heights = t .heights; whole = λ e. absurd (differ e) }) in
+        let e : r ≡ H = rows-all W H r c (omega (arith, a .column-in)) n (sym (a .counted) ∙ t .whole refl) in
+        record {
+          holds = finish-holds H g W L r c cl v i x (s .holds) z p n e;
+          names = s .names;
+          named = s .named;
+          order =
+              made-whole (s .names) (s .order) _
+              (coming-closed L W (k .closed) (k .out .level) (k .out .left) r ∙ shut-first H g W L r c cl v i x (s .holds) z p n e .rows ∙ later-none L 1 W r);
+          values = s .values;
+        }
+
+    -- all rows made before the finish are drawn
+    all-early : Early L W ts ds r
+    all-early =
+        let s = own-sound a in
+        let e : length ds ≡ length (made W L r false) =
+        sym (length-map ds (λ d. d .row))
+        ∙ ap length (s .named)
+        ∙ length-map (s .names) (answered W)
+        ∙ ap length (sym (append-nil (s .names)) ∙ ap (λ b. s .names ++ b) (sym (none-waits a z)) ∙ s .order) in
+        record { drawn = omega arith; right = λ H g t. subst (All (Right L W H g)) (sym (take-all (length (made W L r false)) ds (omega arith))) (a .sound H g t .values) }
+
+    pub finish-good : At L W ts true ds r c (k .closed) (k .out .level) (k .out .left) (k .out .store)
+    finish-good = record {
+      counted = a .counted;
+      column-in = a .column-in;
+      rows-in = a .rows-in;
+      room = a .room;
+      ended = λ _. (p, n);
+      sound = finish-sound;
+      early = λ _. all-early;
+    }
+
+-- ---- at first
+none-made : (W L : ℕ) → made W L 0 false ≡ []
+unfolding made inTurn
+none-made W L = refl
+
+pub fresh-at : (L W : ℕ) (x : Memory) → 0 < W → At L W [] false [] 0 0 0 0 0 x
+fresh-at L W x p = record {
+  counted = omega arith;
+  column-in = p;
+  rows-in = omega arith;
+  room = λ e. absurd (omega arith);
+  ended = λ e. absurd (differ e);
+  sound = λ H g t. record {
+    holds = fresh-holds H g W L x;
+    names = [];
+    named = refl;
+    order = coming-open L W 0 0 0 0 ∙ pend-none L 1 W 0 0 0 ∙ sym (none-made W L);
+    values = all-none;
+  };
+  early = λ e. absurd (differ e);
+}

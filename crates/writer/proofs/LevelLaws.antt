@@ -1,27 +1,28 @@
 -- What the theorems above ask of a level, whatever it does: `LevelLaws`; and that the 5/3 level meets it: `five-three-laws`.
 -- Assumes nothing.
-use mathlib.Core.Path.{_≡_, refl, sym, ap, subst, _∙_}
+use mathlib.Core.Path.{_≡_, refl, ap, _∙_}
 use mathlib.Core.Bool.{Bool, true, false}
-use Prim.Native.Nat.{ℕ, zero, suc, _+_, _-_, _*_, _/_, _%_, _≤_, _<_}
-use native.Mathlib.Decide.{decLt, ℕ-discrete}
+use Prim.Native.Nat.{ℕ, suc, _+_, _-_, _*_, _/_, _%_, _≤_, _<_}
+use native.Mathlib.Decide.{ℕ-discrete}
 use native.Mathlib.Omega.{arith}
 use lib.IntN.{ℤ}
 use lib.Dec.{eqb}
 use borrow.Author.Tests.{eq-eqb, ne-eqb}
 use Rattle.numbers.specs.Signal.{pick}
 use Rattle.numbers.specs.Word.{wrap32}
-use Rattle.lifting.specs.Line.{Half, lo, hi, count, parted, predicted}
+use Rattle.lifting.specs.Line.{lo, hi, count, parted, predicted}
 use Rattle.lifting.specs.Halves.{partedInto}
 use Rattle.lifting.proofs.LineLaws.{halves-low, halves-high}
 use Rattle.lifting.proofs.LineTheorems.{high-mid, high-end}
-use Rattle.wavelet.specs.Bands.{Grid, Band, LL, HL, LH, HH, across, down, columnsLifted}
+use Rattle.wavelet.specs.Bands.{Grid, Band, LL, HL, LH, HH, across, columnsLifted}
+use Rattle.wavelet.proofs.SizeLaws.{count-lo, count-hi}
 use Rattle.writer.specs.Level.{Memory, LevelKind}
 use Rattle.writer.specs.Counts.{prev}
-use Rattle.writer.specs.FiveThreeLevel.{slot, cellOf, rowPut, setWith, setMade, lastSet, lowAlone, bandPlace, fiveThree}
+use Rattle.writer.specs.FiveThreeLevel.{cellOf, rowPut, setWith, setMade, lastSet, lowAlone, bandPlace, fiveThree}
 use Rattle.writer.specs.Taking.{stored}
 use Rattle.writer.specs.Holds.{RowStands, Kept, Meaning, SetStands}
 use Rattle.writer.proofs.CountLaws.{prev-is, slot-room}
-use Rattle.writer.proofs.Slots.{spot, cell-spot, spot-even, spot-odd, spot-in, spot-apart, slots-apart, slots-apart′, Only, only-cell, only-row, only-past, spliced-only, spliced-at, stored-at, stored-other, stored-only, next-stays, set-past, high-stays, set-stands, alone-stands, alone-past}
+use Rattle.writer.proofs.Slots.{spot, cell-spot, spot-even, spot-odd, spot-in, spot-apart, slots-apart′, Only, only-row, only-past, spliced-only, spliced-at, stored-at, stored-other, stored-only, next-stays, set-past, high-stays, set-stands, alone-stands, alone-past}
 
 -- Held w H g m c x: what a level holds after m rows of g and c columns of row m
 pub record LevelLaws (K : LevelKind) (Held : Meaning) : Type 0 where
@@ -46,14 +47,6 @@ pub record LevelLaws (K : LevelKind) (Held : Meaning) : Type 0 where
   pub close-past : (w m : ℕ) (x : Memory) (j : ℕ) → K .stretch w ≤ j → K .close w m x j ≡ x j
 
 -- ---- the 5/3 level
-count-lo : (N : ℕ) → count lo N ≡ (N + 1) / 2
-unfolding count
-count-lo N = refl
-
-count-hi : (N : ℕ) → count hi N ≡ N / 2
-unfolding count
-count-hi N = refl
-
 -- a number stored, or a row put, in the slot of row m, leaves the level's other rows
 module _ (w H : ℕ) (g : Grid) (m c c′ : ℕ) (x x′ : Memory) (o : Only w m x x′) (k : Kept w H g m c x) (b : RowStands w m c′ (g m) x′) where
   kept-only : Kept w H g m c′ x′

@@ -3,8 +3,11 @@ pub mod Filling
 pub mod Slots
 pub mod LevelLaws
 pub mod Waiting
-pub mod Cascade
+pub mod CascadeHolds
+pub mod StateHolds
 pub mod CallList
+pub mod CallsKeep
+pub mod Reached
 pub mod Demand3
 pub mod SetLaws
 pub mod RestLaws
@@ -14,3 +17,5 @@ pub mod DrawLaws
 pub mod ClosingLaws
 pub mod GateLaws
 pub mod CallLaws
+pub mod FillLaws
+pub mod OfferLaws

@@ -1,38 +1,29 @@
 -- One 5/3 level: what its row steps change and leave, and what the making and the closing of a set leave in the four slots.
 -- Assumes nothing.
-use mathlib.Core.Path.{_≡_, refl, sym, ap, ap₂, subst, _∙_}
-use mathlib.Core.Bool.{Bool, true, false}
+use mathlib.Core.Path.{_≡_, refl, sym, ap, subst, _∙_}
 use Prim.Native.Nat.{ℕ, zero, suc, _+_, _-_, _*_, _/_, _%_, _≤_, _<_}
 use native.Mathlib.Decide.{decLt, ℕ-discrete}
-use native.Mathlib.Nat.{add-assoc, add-sub-cancel-left}
+use native.Mathlib.Nat.{add-sub-cancel-left}
 use native.Mathlib.Omega.{arith}
 use lib.IntN.{ℤ}
 use lib.Dec.{eqb}
-use borrow.Author.Tests.{eq-eqb, ne-eqb, eqb-true, eqb-false}
+use borrow.Author.Tests.{eq-eqb, ne-eqb}
 use Rattle.numbers.specs.Signal.{pick, windowed, spliced}
 use Rattle.numbers.specs.Word.{wrap32}
 use Rattle.numbers.proofs.Parts.{window-in, splice-below, splice-in, splice-past}
-use Rattle.lifting.specs.Line.{Half, lo, hi, count, predicted, updated, parted, joined, lineForward}
-use Rattle.lifting.specs.Halves.{halvesOf, inHalves, liftedInPlace, partedInto}
+use Rattle.lifting.specs.Line.{lo, hi, count, predicted, updated, joined, lineForward}
+use Rattle.lifting.specs.Halves.{halvesOf, liftedInPlace}
 use Rattle.lifting.specs.Rows.{rowChanged}
 use Rattle.lifting.proofs.RowLaws.{row-order, row-at, row-before, row-past}
-use Rattle.lifting.proofs.LineLaws.{halves-low, halves-high, joined-parted}
-use Rattle.lifting.proofs.LineTheorems.{high-mid, high-end, low-mid, low-end, low-one, forward-reads}
-use Rattle.wavelet.specs.Bands.{Grid, Band, LL, HL, LH, HH, across, down, columnsLifted, subband}
+use Rattle.lifting.proofs.LineLaws.{halves-low, halves-high}
+use Rattle.lifting.proofs.LineTheorems.{low-mid, low-end, low-one, forward-reads}
+use Rattle.wavelet.specs.Bands.{Grid, LL, HL, LH, HH, across, down, columnsLifted, subband}
+use Rattle.wavelet.proofs.SizeLaws.{count-lo, count-hi}
 use Rattle.writer.specs.Level.{Memory}
-use Rattle.writer.specs.Counts.{prev}
-use Rattle.writer.specs.FiveThreeLevel.{slot, cellOf, rowPut, rowPredicted, rowUpdated, first, rowCopied, rowLifted, before, setWith, lowAlone, setMade, lastSet, bandPlace, fiveThree}
+use Rattle.writer.specs.FiveThreeLevel.{slot, cellOf, rowPredicted, rowUpdated, first, rowCopied, rowLifted, before, setWith, lowAlone, bandPlace, fiveThree}
 use Rattle.writer.specs.Taking.{stored}
-use Rattle.writer.specs.Holds.{RowStands, Kept, SetStands}
-use Rattle.writer.proofs.CountLaws.{prev-is, slot-room}
-
-count-lo : (N : ℕ) → count lo N ≡ (N + 1) / 2
-unfolding count
-count-lo N = refl
-
-count-hi : (N : ℕ) → count hi N ≡ N / 2
-unfolding count
-count-hi N = refl
+use Rattle.writer.specs.Holds.{RowStands, SetStands}
+use Rattle.writer.proofs.CountLaws.{slot-room}
 
 -- ---- where column i stands in a row in halves
 abbrev pub spot : ℕ → ℕ → ℕ

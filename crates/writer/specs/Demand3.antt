@@ -1,15 +1,14 @@
--- Demand 3 for the writer: document 01, "The lists of demand 3". One claim about a whole list of calls on a fresh writer and its line store.
--- "The words below go by the calls' arguments and answers, by nothing in the state.": taken, drawn, made and waiting are functions of the list of events alone.
+-- Demand 3 for the writer: document 01, "The lists of demand 3". One claim about a whole list of calls on a fresh writer and its line store, by the calls' arguments and answers alone.
 use mathlib.Core.Path.{_≡_}
 use mathlib.Core.Bool.{Bool, true, false, not}
 use mathlib.Core.List.{List, [], _∷_, _++_, map}
-use Prim.Native.Nat.{ℕ, zero, suc, _+_, _*_, _/_, _%_, _≤_, _<_}
-use lib.IntN.{ℤ, pos}
+use Prim.Native.Nat.{ℕ, suc, _+_, _*_, _/_, _%_, _≤_, _<_}
+use lib.IntN.{pos}
 use lib.ListN.{length, take, drop, getD}
 use lib.Dec.{leb, ltb, eqb}
 use Rattle.numbers.specs.Signal.{pick, both}
 use Rattle.numbers.specs.Word.{whole}
-use Rattle.wavelet.specs.Limits.{maxHeight}
+use Rattle.wavelet.specs.Limits.{maxHeight, maxSample}
 use Rattle.wavelet.specs.Bands.{Grid, Band, code}
 use Rattle.wavelet.specs.Levels.{levelBand}
 use Rattle.wavelet.specs.View.{bandColumns}
@@ -17,124 +16,10 @@ use Rattle.wavelet.specs.ViewCall.{bandRowExists}
 use Rattle.wavelet.specs.Maps.{IsMap}
 use Rattle.wavelet.specs.Questions.{ask}
 use Rattle.wavelet.specs.Order.{RowName, made, times}
-use Rattle.writer.specs.declared.Writer.{Writer}
 use Rattle.writer.specs.declared.BandRow.{BandRow}
-use Rattle.writer.specs.Level.{Memory}
 use Rattle.writer.specs.Questions.{either}
-use Rattle.writer.specs.Answers.{Reply, gives, refused, unless, Took, Handed, aRow, nothing}
-use Rattle.writer.specs.Calls.{fresh, setUpStore, offerReply, offerStore, drawReply, drawStore, drawArea, finishReply, finishStore}
-
--- ---- calls, and what is seen of them
--- an area that is lent: its length and its numbers
-pub record Area : Type 0 where
-  pub size : ℕ
-  pub numbers : ℕ → ℤ
-
--- a call with its arguments
-pub data Call : Type 0 where
-  offer : List ℕ → Call
-  draw : Area → Call
-  finish : Call
-
--- what a draw gives
-pub data Given : Type 0 where
-  row : BandRow → Given
-  none : Given
-
--- a call's arguments, its answer, and after a draw the output area
-pub data Event : Type 0 where
-  offered : List ℕ → Reply ℕ → Event
-  drew : Area → Reply Given → Area → Event
-  finished : Reply (Unit {0}) → Event
-
--- ---- each call is made on the state and store that the one before left
-pub record World : Type 0 where
-  pub writer : Writer
-  pub length : ℕ
-  pub store : Memory
-
--- an answer, less the state
-abbrev pub seen : {A B : Type 0} → (A → B) → Reply A → Reply B
-seen f (gives a) = gives (f a)
-seen f (refused q) = refused q
-
-abbrev pub given : Handed → Given
-given (aRow r s) = row r
-given nothing = none
-
--- the state that a call leaves: its own before where it was turned away or gave Nothing
-abbrev pub left : {A : Type 0} → (A → Writer) → Writer → Reply A → Writer
-left f s (gives a) = f a
-left f s (refused q) = s
-
-abbrev pub after : Writer → Handed → Writer
-after s (aRow r t) = t
-after s nothing = s
-
-unfoldable pub event : Call → World → Event
-event (offer run) w = offered run (seen (λ t. t .taken) (offerReply (w .writer) (w .length) run (w .store)))
-event (draw a) w =
-    drew a (seen given (drawReply (w .writer) (w .length) (a .size) (w .store)))
-    (record { size = a .size; numbers = drawArea (w .writer) (w .length) (a .size) (w .store) (a .numbers) })
-event finish w = finished (seen (λ _. tt) (finishReply (w .writer) (w .length) (w .store)))
-
-unfoldable pub next : Call → World → World
-next (offer run) w =
-    record { writer = left (λ t. t .writer) (w .writer) (offerReply (w .writer) (w .length) run (w .store)); length = w .length; store = offerStore (w .writer) (w .length) run (w .store) }
-next (draw a) w =
-    record { writer = left (after (w .writer)) (w .writer) (drawReply (w .writer) (w .length) (a .size) (w .store)); length = w .length; store = drawStore (w .writer) (w .length) (a .size) (w .store) }
-next finish w =
-    record { writer = left (λ s. s) (w .writer) (finishReply (w .writer) (w .length) (w .store)); length = w .length; store = finishStore (w .writer) (w .length) (w .store) }
-
-unfoldable pub events : List Call → World → List Event
-events [] w = []
-events (c ∷ cs) w = event c w ∷ events cs (next c w)
-
-unfoldable pub final : List Call → World → World
-final [] w = w
-final (c ∷ cs) w = final cs (next c w)
-
--- "Fresh means the state and line store of a set-up that passed": of width W and L levels, on a store of n numbers in which x stood
-abbrev pub freshWorld : ℕ → ℕ → ℕ → Memory → World
-freshWorld W L n x = record { writer = fresh W L; length = n; store = setUpStore W L n x }
-
--- ---- "Taken: of each passed offer's run the first heights, as many as its answer says, run after run."
-abbrev pub takenBy : Event → List ℕ
-takenBy (offered run (gives n)) = take n run
-takenBy (offered run (refused q)) = []
-takenBy (drew a r b) = []
-takenBy (finished r) = []
-
-unfoldable pub taken : List Event → List ℕ
-taken [] = []
-taken (e ∷ es) = takenBy e ++ taken es
-
--- "once a finish passed"
-abbrev pub finishes : Event → Bool
-finishes (offered run r) = false
-finishes (drew a r b) = false
-finishes (finished (gives u)) = true
-finishes (finished (refused q)) = false
-
-unfoldable pub finishedBy : List Event → Bool
-finishedBy [] = false
-finishedBy (e ∷ es) = either (finishes e) (finishedBy es)
-
--- "A drawn row is its level, band, number, length and values."
-pub record DrawnRow : Type 0 where
-  pub row : BandRow
-  pub values : ℕ → ℤ
-
-abbrev pub drawnBy : Event → List DrawnRow
-drawnBy (offered run r) = []
-drawnBy (drew a (gives (row r)) b) = record { row = r; values = b .numbers } ∷ []
-drawnBy (drew a (gives none) b) = []
-drawnBy (drew a (refused q) b) = []
-drawnBy (finished r) = []
-
-unfoldable pub drawn : List Event → List DrawnRow
-drawn [] = []
-drawn (e ∷ es) = drawnBy e ++ drawn es
+use Rattle.writer.specs.Answers.{Reply, gives, refused, unless}
+use Rattle.writer.specs.History.{Area, Call, offer, draw, finish, Given, row, none, Event, offered, drew, finished, taken, finishedBy, DrawnRow, drawn}
 
 -- "Made: the rows that the writer's rules make of the whole rows taken and, once a finish passed, of the finish, in the order of those rules."
 unfoldable pub wholeRows : ℕ → List Event → ℕ
@@ -151,13 +36,17 @@ waitingOf W L es = drop (length (drawn es)) (madeOf W L es)
 abbrev pub answered : ℕ → RowName → BandRow
 answered W x = record { level = x .level; band = code (x .band); row = x .row; length = bandColumns W (x .level) (x .band) }
 
--- ---- "A map begins with them if it fits the set-up, has H within the limit, and has these heights first"; once a finish passed, the map that they are
-pub record MapOf (W H : ℕ) (g : Grid) (es : List Event) : Type 0 where
+-- ---- "A map begins with them if it fits the set-up, has H within the limit, and has these heights first"
+pub record Begins (W H : ℕ) (g : Grid) (es : List Event) : Type 0 where
   pub some : 1 ≤ H
   pub limit : H ≤ maxHeight
   pub map : IsMap W H g
   pub within : length (taken es) ≤ W * H
   pub heights : (r c : ℕ) → c < W → r * W + c < length (taken es) → g r c ≡ pos (getD (taken es) (r * W + c) 0)
+
+-- and once a finish passed, it is they
+pub record MapOf (W H : ℕ) (g : Grid) (es : List Event) : Type 0 where
+  pub begins : Begins W H g es
   pub all : finishedBy es ≡ true → length (taken es) ≡ W * H
 
 -- the values of a drawn row are the map's, T.800's whole numbers
@@ -200,6 +89,7 @@ offerTurned W L es k =
 
 pub record Takes (W L : ℕ) (es : List Event) (k n : ℕ) : Type 0 where
   pub most : n ≤ k
+  pub some : 0 < k → 0 < n
   pub until : (j : ℕ) → j < n → takesOn W L es j ≡ true
   pub stop : n < k → takesOn W L es n ≡ false
 
@@ -215,9 +105,13 @@ finishTurned W L es =
 pub record Demand3 (W L : ℕ) (es : List Event) (then : Call → Event) : Type 0 where
   -- the rows drawn, then those waiting, are the rows made, in the order of the rules; each is answered with its level, band, number and length
   pub in-order : map (λ d. d .row) (drawn es) ++ map (answered W) (waitingOf W L es) ≡ map (answered W) (madeOf W L es)
-  -- they have the values of every map that begins with the heights taken, and are the first in that map's order
+  -- they have the values of every map that begins with the heights taken: until a finish passes all of them, then those made before it; of the map that was finished all of them
   pub values : (H : ℕ) (g : Grid) → MapOf W H g es → All (HasValues W H g) (drawn es)
+  pub early-values : (H : ℕ) (g : Grid) → Begins W H g es → All (HasValues W H g) (take (length (made W L (wholeRows W es) false)) (drawn es))
+  -- and are the first in that map's order
   pub first : (H : ℕ) (g : Grid) → MapOf W H g es → (r : List RowName) × (map (λ d. d .row) (drawn es) ++ map (answered W) r ≡ map (answered W) (made W L H true))
+  -- there is such a map, the heights taken being 16-bit numbers
+  pub some-map : All (λ h. h ≤ maxSample) (taken es) → (H : ℕ) × (g : Grid) × MapOf W H g es
   -- once finished, the heights taken are a map
   pub finished-map : finishedBy es ≡ true → (1 ≤ wholeRows W es) × (wholeRows W es ≤ maxHeight) × (length (taken es) ≡ W * wholeRows W es)
   -- and once none waits, the rows drawn are its plane's band rows, each once

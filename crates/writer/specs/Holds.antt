@@ -1,9 +1,11 @@
 -- What stands in the line store of a writer, for a map g of H rows: `Holds H g s x`. While a band row of any level waits, its values are the map's; that is in it too.
 -- The numbers are 32-bit words (`wrap32`); for a map they are T.800's whole numbers.
 use mathlib.Core.Path.{_≡_}
-use mathlib.Core.Bool.{Bool, true}
-use Prim.Native.Nat.{ℕ, zero, suc, _+_, _*_, _≤_, _<_}
-use lib.IntN.{ℤ}
+use mathlib.Core.Bool.{true, false}
+use mathlib.Core.List.{List}
+use Prim.Native.Nat.{ℕ, zero, suc, _+_, _*_, _/_, _%_, _≤_, _<_}
+use lib.IntN.{ℤ, pos}
+use lib.ListN.{getD}
 use Rattle.numbers.specs.Word.{wrap32}
 use Rattle.lifting.specs.Line.{lo, hi, count}
 use Rattle.wavelet.specs.Bands.{Grid, Band, LL, across, down, columnsLifted, subband}
@@ -12,6 +14,7 @@ use Rattle.writer.specs.Level.{Memory, LevelKind}
 use Rattle.writer.specs.Counts.{prev, made, bandAt, hasRow}
 use Rattle.writer.specs.FiveThreeLevel.{cellOf, fiveThree}
 use Rattle.writer.specs.Machine.{rest}
+use Rattle.writer.specs.Answers.{Reply, gives, refused, Took, Handed, aRow, nothing}
 
 -- ---- the 5/3 level
 -- the first c columns of row y stand in the slot of row r
@@ -72,3 +75,53 @@ LevelsHold K Held (suc l) w H g c v i m j x =
 -- ---- the writer's store
 pub record Holds (H : ℕ) (g : Grid) (s : Writer) (x : Memory) : Type 0 where
   pub levels : LevelsHold fiveThree Kept (s .levels) (s .width) H g (s .closed) (s .level) (s .left) (s .rows) (s .column) x
+  -- at most the four bands of a set are left
+  pub few : s .left ≤ 4
+  -- while a band row waits, no row is begun
+  pub idle : 0 < s .level → s .column ≡ 0
+  -- before the finish no level is closed
+  pub before : s .finished ≡ false → s .closed ≡ 0
+  -- after it the map has the rows taken, at least one, and once no band row waits all levels are closed
+  pub ended : s .finished ≡ true → (s .rows ≡ H) × (0 < s .rows) × (s .level ≡ 0 → s .closed ≡ s .levels)
+
+-- ---- what a call keeps: for every map of which Map says what the call asks of it
+pub record Keeps (Map : ℕ → Grid → Type 0) (s : Writer) (x : Memory) (s′ : Writer) (x′ : Memory) : Type 0 where
+  pub keeps : (H : ℕ) (g : Grid) → Map H g → Holds H g s x → Holds H g s′ x′
+
+-- a draw asks nothing; a finish that the map has the rows taken; an offer that the map goes on with the k heights taken of the run
+abbrev pub AnyMap : ℕ → Grid → Type 0
+AnyMap H g = Unit {0}
+
+abbrev pub AllRows : Writer → ℕ → Grid → Type 0
+AllRows s H g = s .rows ≡ H
+
+pub record GoesOn (s : Writer) (run : List ℕ) (k : ℕ) (H : ℕ) (g : Grid) : Type 0 where
+  pub within : s .rows * s .width + s .column + k ≤ s .width * H
+  pub heights : (j : ℕ) → j < k → g ((s .rows * s .width + s .column + j) / s .width) ((s .rows * s .width + s .column + j) % s .width) ≡ pos (getD run j 0)
+
+-- the state that a call leaves: the one before where it was turned away or gave Nothing; and how many heights it took
+abbrev pub left : {A : Type 0} → (A → Writer) → Writer → Reply A → Writer
+left f s (gives a) = f a
+left f s (refused q) = s
+
+abbrev pub after : Writer → Handed → Writer
+after s (aRow r t) = t
+after s nothing = s
+
+abbrev pub tookOf : Reply Took → ℕ
+tookOf (gives t) = t .taken
+tookOf (refused q) = 0
+
+-- what each call keeps, by its answer: s, x and x′ are the state and the store before, and the store after
+abbrev pub DrawKeeps : Writer → Memory → Reply Handed → Memory → Type 0
+DrawKeeps s x r x′ = Keeps AnyMap s x (left (after s) s r) x′
+
+abbrev pub FinishKeeps : Writer → Memory → Reply Writer → Memory → Type 0
+FinishKeeps s x r x′ = Keeps (AllRows s) s x (left (λ t. t) s r) x′
+
+abbrev pub OfferKeeps : Writer → List ℕ → Memory → Reply Took → Memory → Type 0
+OfferKeeps s run x r x′ = Keeps (GoesOn s run (tookOf r)) s x (left (λ t. t .writer) s r) x′
+
+-- the store that set-up leaves holds the beginning of every map
+pub record SetUpHolds (r : Reply Writer) (x : Memory) : Type 0 where
+  pub holds : (s : Writer) → r ≡ gives s → (H : ℕ) (g : Grid) → Holds H g s x

@@ -9,6 +9,8 @@ pub mod Questions
 pub mod Answers
 pub mod Calls
 pub mod Holds
+pub mod History
 pub mod Demand3
 pub mod Steps
 pub mod Gate
+pub mod Stretch

@@ -6,6 +6,7 @@ mod copies;
 mod counts;
 mod draws;
 mod gate;
+mod offers;
 mod sets;
 
 use wavelet::store;
@@ -14,7 +15,8 @@ ghost use lib.ListN.{length};
 ghost use Rattle.numbers.specs.Signal.{at};
 ghost use Rattle.wavelet.specs.Limits.{maxWidth, maxHeight, maxLevels};
 ghost use Rattle.writer.specs.Answers.{ofSetUp, ofOffered, ofDrawn, ofFinished};
-ghost use Rattle.writer.specs.Calls.{setUpReply, setUpStore, drawReply, drawStore, drawArea, finishReply, finishStore};
+ghost use Rattle.writer.specs.Calls.{setUpReply, setUpStore, offerReply, offerStore, drawReply, drawStore, drawArea, finishReply, finishStore};
+ghost use Rattle.writer.specs.Holds.{SetUpHolds, OfferKeeps, DrawKeeps, FinishKeeps};
 
 // The counts of a writer; docs/STATE.md gives their ranges.
 pub struct Writer {
@@ -92,6 +94,7 @@ impl Writer {
     pub fn set_up(width: usize, levels: usize, store: &mut [i32]) -> SetUp
         ensures { λ r. ⌜ ofSetUp r ≡ setUpReply width levels (length (now (store .entry))) ⌝ }
         ensures { λ r. ⌜ at (now (store .exit)) ≡ setUpStore width levels (length (now (store .entry))) (at (now (store .entry))) ⌝ }
+        ensures { λ r. ⌜ SetUpHolds (ofSetUp r) (at (now (store .exit))) ⌝ }
     {
         let no = gate::set_up_question(width, levels, store.len());
         if 0 < no {
@@ -111,11 +114,33 @@ impl Writer {
         })
     }
 
+    // Heights taken until a band row waits, the row limit is reached or the run is used up, and how many.
+    pub fn offer(self, store: &mut [i32], run: &[u16]) -> Offered
+        ensures { λ r. ⌜ ofOffered r ≡ offerReply self (length (now (store .entry))) (now (run .entry)) (at (now (store .entry))) ⌝ }
+        ensures { λ r. ⌜ at (now (store .exit)) ≡ offerStore self (length (now (store .entry))) (now (run .entry)) (at (now (store .entry))) ⌝ }
+        ensures { λ r. ⌜ OfferKeeps self (now (run .entry)) (at (now (store .entry))) (ofOffered r) (at (now (store .exit))) ⌝ }
+    {
+        let no = gate::offer_question(self, store.len(), run.len());
+        if 0 < no {
+            return Offered::Refused(no);
+        }
+        let mut s = self;
+        let mut taken = 0;
+        let mut n = offers::next(s, run.len());
+        while 0 < n {
+            s = offers::stretch(s, store, run, taken, n);
+            taken += n;
+            n = offers::next(s, run.len() - taken);
+        }
+        Offered::Taken(taken, s)
+    }
+
     // The row that waits, its values at the front of `out`, or Nothing.
     pub fn draw(self, store: &mut [i32], out: &mut [i32]) -> Drawn
         ensures { λ r. ⌜ ofDrawn r ≡ drawReply self (length (now (store .entry))) (length (now (out .entry))) (at (now (store .entry))) ⌝ }
         ensures { λ r. ⌜ at (now (store .exit)) ≡ drawStore self (length (now (store .entry))) (length (now (out .entry))) (at (now (store .entry))) ⌝ }
         ensures { λ r. ⌜ at (now (out .exit)) ≡ drawArea self (length (now (store .entry))) (length (now (out .entry))) (at (now (store .entry))) (at (now (out .entry))) ⌝ }
+        ensures { λ r. ⌜ DrawKeeps self (at (now (store .entry))) (ofDrawn r) (at (now (store .exit))) ⌝ }
     {
         let no = gate::state_question(self, store.len());
         if 0 < no {
@@ -152,6 +177,7 @@ impl Writer {
     pub fn finish(self, store: &mut [i32]) -> Finished
         ensures { λ r. ⌜ ofFinished r ≡ finishReply self (length (now (store .entry))) (at (now (store .entry))) ⌝ }
         ensures { λ r. ⌜ at (now (store .exit)) ≡ finishStore self (length (now (store .entry))) (at (now (store .entry))) ⌝ }
+        ensures { λ r. ⌜ FinishKeeps self (at (now (store .entry))) (ofFinished r) (at (now (store .exit))) ⌝ }
     {
         let no = gate::finish_question(self, store.len());
         if 0 < no {

@@ -5,6 +5,7 @@ use borrow.Author.Needs.{needs}
 use lib.ListN.{length}
 use Rattle.writer.specs.Questions.{finishQuestion}
 use Rattle.writer.proofs.CallLaws.{finish-sound, finish-no, finish-yes}
+use Rattle.writer.proofs.CallsKeep.{finish-kept}
 use Rattle.writer.proofs.Writer.finish.Statement.{statement}
 use Rattle.writer.proofs.Writer.finish.Tie as tie
 
@@ -12,7 +13,7 @@ finish-question-requires : tie.Need-finish-question-requires
 finish-question-requires c κs = search needs
 
 returns : tie.Need-returns
-returns c = finish-no _ _ _ _ (c .before .finish-question .ensures) (omega arith)
+returns c = let t = finish-no _ _ _ _ (c .before .finish-question .ensures) (omega arith) in (t .0, (t .1, finish-kept _ _ _ _ _ (t .0) (t .1)))
 
 shut-requires : tie.Need-shut-requires
 shut-requires c κs =
@@ -25,7 +26,7 @@ same-length : tie.Need-same-length
 same-length c = search needs
 
 returns-2 : tie.Need-returns-2
-returns-2 c = finish-yes _ _ _ _ (c .before .before .before .before .finish-question .ensures) _ _ (omega arith) (c .before .shut .ensures)
+returns-2 c = let t = finish-yes _ _ _ _ (c .before .before .before .before .finish-question .ensures) _ _ (omega arith) (c .before .shut .ensures) in (t .0, (t .1, finish-kept _ _ _ _ _ (t .0) (t .1)))
 
 pub finish-spec : {M : Type 1} → statement M
 finish-spec =

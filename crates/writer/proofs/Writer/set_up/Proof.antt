@@ -2,7 +2,7 @@
 use native.Mathlib.Omega.{arith}
 use borrow.Author.Needs.{needs}
 use Rattle.writer.proofs.CallLaws.{set-up-fits, set-up-no, set-up-yes}
-use Rattle.writer.proofs.Writer.set_up.Lts as lts
+use Rattle.writer.proofs.CallsKeep.{set-up-kept}
 use Rattle.writer.proofs.Writer.set_up.Statement.{statement}
 use Rattle.writer.proofs.Writer.set_up.Tie as tie
 
@@ -10,7 +10,7 @@ set-up-question-requires : tie.Need-set-up-question-requires
 set-up-question-requires c κs = search needs
 
 returns : tie.Need-returns
-returns c = set-up-no _ _ _ _ (c .before .set-up-question .ensures) _ (omega arith)
+returns c = let t = set-up-no _ _ _ _ (c .before .set-up-question .ensures) _ (omega arith) in (t .0, (t .1, set-up-kept _ _ _ _ _ (t .0)))
 
 store-length-requires : tie.Need-store-length-requires
 store-length-requires c κs = search needs
@@ -22,7 +22,9 @@ same-length : tie.Need-same-length
 same-length c = search needs
 
 returns-2 : tie.Need-returns-2
-returns-2 c = set-up-yes _ _ _ _ (c .before .before .before .before .before .set-up-question .ensures) _ _ _ (omega arith) (set-up-fits _ _ _ _ (c .before .before .before .before .before .set-up-question .ensures) _ (omega arith) (c .before .before .before .store-length .ensures)) (c .before .clear .ensures)
+returns-2 c =
+    let t = set-up-yes _ _ _ _ (c .before .before .before .before .before .set-up-question .ensures) _ _ _ (omega arith) (set-up-fits _ _ _ _ (c .before .before .before .before .before .set-up-question .ensures) _ (omega arith) (c .before .before .before .store-length .ensures)) (c .before .clear .ensures) in
+    (t .0, (t .1, set-up-kept _ _ _ _ _ (t .0)))
 
 pub set-up-spec : {M : Type 1} → statement M
 set-up-spec =

@@ -4,45 +4,37 @@
 --     pull-good     a row is drawn
 --     shut-good     levels are closed
 -- Assumes nothing.
-use mathlib.Core.Bool.{Bool, true, false}
+use mathlib.Core.Bool.{true}
 use mathlib.Core.Path.{_≡_, refl, sym, ap, ap₂, subst, subst₂, _∙_, fun-ext}
-use mathlib.Core.List.{List, [], _∷_, _++_, append-nil, append-assoc}
+use mathlib.Core.List.{List, [], _∷_, _++_}
 use Prim.Native.Nat.{ℕ, zero, suc, _+_, _-_, _*_, _/_, _%_, _≤_, _<_}
-use native.Mathlib.Nat.{add-sub-cancel-left, add-assoc}
+use native.Mathlib.Nat.{add-assoc}
 use native.Mathlib.Omega.{arith}
 use lib.IntN.{ℤ}
-use lib.Dec.{ltb, eqb}
-use borrow.Author.Tests.{lt-ltb, le-ltb, ltb-true}
-use Rattle.numbers.specs.Signal.{pick, both}
+use lib.Dec.{ltb}
+use borrow.Author.Tests.{lt-ltb, ltb-true}
 use Rattle.numbers.specs.Word.{wrap32}
 use Rattle.numbers.proofs.Sweep.{both as split-both}
 use Rattle.lifting.specs.Line.{Half, lo, hi, count}
 use Rattle.lifting.proofs.Filter.{place, by-place}
-use Rattle.wavelet.specs.Bands.{Grid, Band, LL, HL, LH, HH, across, down, subband}
+use Rattle.wavelet.specs.Bands.{Grid, Band, LL, across, down, subband}
 use Rattle.wavelet.specs.Levels.{size, approximation, levelBand}
-use Rattle.wavelet.specs.Order.{RowName, rowName, handedOut, rowsOf, setRows, madeBy, closing}
+use Rattle.wavelet.specs.Order.{RowName, rowName, rowsOf, setRows, madeBy}
 use Rattle.wavelet.proofs.SizeLaws.{count-lo, count-hi, size-inner}
 use Rattle.wavelet.proofs.OrderLaws.{made-first, made-odd, made-even}
 use Rattle.writer.specs.Level.{Memory, LevelKind}
 use Rattle.writer.specs.Counts.{prev, deeper, made, most, bandAt, hasRow, skip}
 use Rattle.writer.specs.Machine.{rest, joinAt, Out, still, under, passed, settled, arrived, arrive, passOn}
-use Rattle.writer.specs.Draws.{Waiting, nothing, lower, rowOf, waiting, pull}
+use Rattle.writer.specs.Draws.{Waiting, lower, waiting, pull}
 use Rattle.writer.specs.Closing.{Shut, onward, closeLevel, shut}
 use Rattle.writer.specs.Taking.{stored}
-use Rattle.writer.specs.Holds.{Meaning, SetStands, below, Waits, LevelHolds, SetWaits, LevelsHold}
+use Rattle.writer.specs.Holds.{Meaning, SetStands, below, LevelHolds, SetWaits, LevelsHold}
 use Rattle.writer.proofs.CountLaws.{prev-is}
+use Rattle.writer.proofs.RestLaws.{rest-join, join-below}
 use Rattle.writer.proofs.LevelLaws.{LevelLaws}
-use Rattle.writer.proofs.Waiting.{lasts, lasts-most, most-le, rows-yes, skip-rows, skip-has, skip-le, pend, later, pend-none, pend-under, later-all, later-none, later-first}
+use Rattle.writer.proofs.Waiting.{lasts, lasts-most, most-le, rows-yes, skip-rows, skip-has, skip-le, pend, later, pend-none, pend-under, later-first}
 
 -- ---- the store from a place on
-pub rest-join : (a : ℕ) (x t : Memory) → rest a (joinAt a x t) ≡ t
-unfolding rest joinAt
-rest-join a x t = fun-ext λ j. simp (le-ltb (a + j) a (omega arith)) (ap t (add-sub-cancel-left a j))
-
-pub join-front : (a : ℕ) (x t : Memory) (j : ℕ) → j < a → joinAt a x t j ≡ x j
-unfolding joinAt
-join-front a x t j h = simp (lt-ltb j a h)
-
 pub rest-same : (a : ℕ) (x y : Memory) → ((j : ℕ) → a ≤ j → y j ≡ x j) → rest a y ≡ rest a x
 unfolding rest
 rest-same a x y e = fun-ext λ j. e (a + j) (omega arith)
@@ -127,9 +119,9 @@ module _ (K : LevelKind) (Held : Meaning) (laws : LevelLaws K Held) where
   inv-under : (l w H : ℕ) (g : Grid) (c v i m : ℕ) (x t : Memory) → LevelHolds Held w H g c m 0 x → Inv l (count lo w) (count lo H) (lowMap w H g) (prev c) v i (made c m) 0 t → Inv (suc l) w H g c (deeper v) i m 0 (joinAt (K .stretch w) x t)
   unfolding LevelsHold SetWaits deeper below
   inv-under l w H g c zero i m x t h u =
-      (level-reads w H g x _ (join-front (K .stretch w) x t) c m 0 (omega arith) h, tt, subst (λ y. Inv l (count lo w) (count lo H) (lowMap w H g) (prev c) 0 i (made c m) 0 y) (sym (rest-join (K .stretch w) x t)) u)
+      (level-reads w H g x _ (join-below (K .stretch w) x t) c m 0 (omega arith) h, tt, subst (λ y. Inv l (count lo w) (count lo H) (lowMap w H g) (prev c) 0 i (made c m) 0 y) (sym (rest-join (K .stretch w) x t)) u)
   inv-under l w H g c (suc v) i m x t h u =
-      (level-reads w H g x _ (join-front (K .stretch w) x t) c m 0 (omega arith) h, tt, subst (λ y. Inv l (count lo w) (count lo H) (lowMap w H g) (prev c) (suc v) i (made c m) 0 y) (sym (rest-join (K .stretch w) x t)) u)
+      (level-reads w H g x _ (join-below (K .stretch w) x t) c m 0 (omega arith) h, tt, subst (λ y. Inv l (count lo w) (count lo H) (lowMap w H g) (prev c) (suc v) i (made c m) 0 y) (sym (rest-join (K .stretch w) x t)) u)
 
   -- ---- a machine in order, with these rows to draw
   pub record Good (L k w H : ℕ) (g : Grid) (c m : ℕ) (o : Out) (todo : List RowName) : Type 0 where

@@ -1,0 +1,310 @@
+-- What the two calls come to: their questions, and the areas that they leave. Assumes nothing.
+use mathlib.Core.Path.{_≡_, refl, sym, ap, _∙_, fun-ext}
+use mathlib.Core.Bool.{Bool, true, false}
+use mathlib.Core.List.{List}
+use Prim.Native.Nat.{ℕ, zero, suc, _+_, _-_, _*_, _/_, _%_, _^_, _≤_, _<_}
+use native.Mathlib.Nat.{mul-le-mul-left, pow-le-pow-right, mod-lt, mul-comm, suc-mul, div-add-mod'}
+use native.Mathlib.Decide.{decLt, ℕ-discrete}
+use native.Mathlib.Omega.{arith}
+use lib.IntN.{ℤ, pos, natAbs}
+use lib.Signed.{_≤ℤ_}
+use lib.ListN.{getD}
+use lib.Dec.{leb, le→leb}
+use borrow.Author.Tests.{le-leb, lt-leb, eq-eqb, ne-eqb}
+use Rattle.numbers.specs.Signal.{both}
+use Rattle.numbers.specs.Word.{wrap32, whole}
+use Rattle.lifting.specs.Line.{parted}
+use Rattle.lifting.specs.Halves.{inHalves, fronted}
+use Rattle.lifting.proofs.LineLaws.{joined-parted}
+use Rattle.wavelet.specs.Limits.{maxWidth, maxHeight, maxLevels, maxSample, range}
+use Rattle.wavelet.specs.Questions.{ask, within, sizeQuestion}
+use Rattle.wavelet.specs.Bands.{Grid}
+use Rattle.wavelet.specs.Plane.{cells, flat, planeCell, planeOf, mapBack}
+use Rattle.wavelet.specs.Maps.{IsMap, everyCell, inRange, valueFits, rebuiltFits}
+use Rattle.wavelet.proofs.GridLaws.{cells-flat, row-below}
+use Rattle.wavelet.proofs.QuestionLaws.{Sized, sized, size-no, size-yes}
+use Rattle.wavelet.proofs.LevelTheory.{plane-reads}
+use Rattle.wavelet.proofs.Bridge.{map-plane}
+use Rattle.wavelet.proofs.MapTheorems.{each-every, cells-same, rebuilt-fits}
+use Rattle.whole_map.specs.Rowwise.{heightsAt}
+use Rattle.whole_map.specs.Passes.{within as inside}
+use Rattle.whole_map.specs.Passes.{Rows, KeptFrom, rowsLoaded, rowsReturned}
+use Rattle.whole_map.specs.LevelPasses.{levelGrid, planeWritten, Rebuilt, regionInRange, Doubling}
+use Rattle.whole_map.specs.Calls.{sizeQuestions, planeQuestions, zeros, passed, rebuilt}
+use Rattle.whole_map.proofs.RowwiseLaws.{front-at, front-rest}
+use Rattle.whole_map.proofs.CellLaws.{past-rows, kept-flat, kept-then, grid-at, placed, placed-in, halves-at, within-in}
+use Rattle.whole_map.proofs.LevelsMath.{written-in, written-out}
+use Rattle.whole_map.proofs.TestLaws.{every-placed}
+
+-- ---- the questions of the sizes
+-- question 5
+unfoldable pub roomy : ℕ → ℕ → ℕ → ℕ → ℕ → Bool
+roomy W H a b c = both (leb (W * H) a) (both (leb (W * H) b) (leb (W * H) c))
+
+module _ (W H L a b c : ℕ) where
+  pub sizes-no : (rest : ℕ) → (sizeQuestion W H L ≡ 0 → ⊥) → sizeQuestions W H L a b c rest ≡ sizeQuestion W H L
+  unfolding sizeQuestions
+  sizes-no rest n = size-no W H L _ n
+
+  sizes-five : (rest : ℕ) → sizeQuestion W H L ≡ 0 → roomy W H a b c ≡ false → sizeQuestions W H L a b c rest ≡ 5
+  unfolding sizeQuestions roomy
+  sizes-five rest e f = size-yes W H L _ e ∙ simp f
+
+  sizes-yes : (rest : ℕ) → sizeQuestion W H L ≡ 0 → roomy W H a b c ≡ true → sizeQuestions W H L a b c rest ≡ rest
+  unfolding sizeQuestions roomy
+  sizes-yes rest e f = size-yes W H L _ e ∙ simp f
+
+  module _ (rest : ℕ) (e : sizeQuestion W H L ≡ 0) where
+    pub short-first : a < W * H → 5 ≡ sizeQuestions W H L a b c rest
+    unfolding roomy
+    short-first h = sym (sizes-five rest e (simp (lt-leb (W * H) a h)))
+
+    pub short-second : W * H ≤ a → b < W * H → 5 ≡ sizeQuestions W H L a b c rest
+    unfolding roomy
+    short-second h i = sym (sizes-five rest e (simp (le-leb (W * H) a h, lt-leb (W * H) b i)))
+
+    pub short-third : W * H ≤ a → W * H ≤ b → c < W * H → 5 ≡ sizeQuestions W H L a b c rest
+    unfolding roomy
+    short-third h i j = sym (sizes-five rest e (simp (le-leb (W * H) a h, le-leb (W * H) b i, lt-leb (W * H) c j)))
+
+    pub long-enough : W * H ≤ a → W * H ≤ b → W * H ≤ c → sizeQuestions W H L a b c rest ≡ rest
+    unfolding roomy
+    long-enough h i j = sizes-yes rest e (simp (le-leb (W * H) a h, le-leb (W * H) b i, le-leb (W * H) c j))
+
+-- all four answered yes
+pub record Roomy (W H L a b c : ℕ) : Type 0 where
+  pub size : Sized W H L
+  pub first : W * H ≤ a
+  pub second : W * H ≤ b
+  pub third : W * H ≤ c
+
+module _ (W H L a b c : ℕ) where
+  abbrev asked : ℕ → ℕ
+  asked = sizeQuestions W H L a b c
+
+  pub roomy-is : asked 0 ≡ 0 → Roomy W H L a b c
+  roomy-is e =
+      elim (ℕ-discrete (sizeQuestion W H L) 0) [
+        | no d ↦ absurd (d (sym (sizes-no W H L a b c 0 d) ∙ e))
+        | yes s ↦
+            elim (decLt a (W * H)) [
+              | yes h ↦ absurd (omega (arith, short-first W H L a b c 0 s h))
+              | no h ↦
+                  elim (decLt b (W * H)) [
+                    | yes i ↦ absurd (omega (arith, short-second W H L a b c 0 s (omega arith) i))
+                    | no i ↦
+                        elim (decLt c (W * H)) [
+                          | yes j ↦ absurd (omega (arith, short-third W H L a b c 0 s (omega arith) (omega arith) j))
+                          | no j ↦ record { size = sized W H L s; first = omega arith; second = omega arith; third = omega arith }
+                        ]
+                  ]
+            ]
+      ]
+
+  -- what follows is asked exactly where they are
+  pub asked-on : (rest : ℕ) → asked 0 ≡ 0 → asked rest ≡ rest
+  asked-on rest e =
+      let r = roomy-is e in
+      elim (ℕ-discrete (sizeQuestion W H L) 0) [
+        | no d ↦ absurd (d (sym (sizes-no W H L a b c 0 d) ∙ e))
+        | yes s ↦ long-enough W H L a b c rest s (r .first) (r .second) (r .third)
+      ]
+
+  pub asked-no : (rest : ℕ) → (asked 0 ≡ 0 → ⊥) → asked rest ≡ asked 0
+  asked-no rest n =
+      elim (ℕ-discrete (sizeQuestion W H L) 0) [
+        | no d ↦ sizes-no W H L a b c rest d ∙ sym (sizes-no W H L a b c 0 d)
+        | yes s ↦
+            elim (decLt a (W * H)) [
+              | yes h ↦ sym (short-first W H L a b c rest s h) ∙ short-first W H L a b c 0 s h
+              | no h ↦
+                  elim (decLt b (W * H)) [
+                    | yes i ↦ sym (short-second W H L a b c rest s (omega arith) i) ∙ short-second W H L a b c 0 s (omega arith) i
+                    | no i ↦
+                        elim (decLt c (W * H)) [
+                          | yes j ↦ sym (short-third W H L a b c rest s (omega arith) (omega arith) j) ∙ short-third W H L a b c 0 s (omega arith) (omega arith) j
+                          | no j ↦ absurd (n (long-enough W H L a b c 0 s (omega arith) (omega arith) (omega arith)))
+                        ]
+                  ]
+            ]
+      ]
+
+  pub asked-few : asked 0 ≤ 5
+  unfolding sizeQuestions
+  asked-few =
+      few (within 1 maxWidth W) (within 1 maxHeight H) (within 1 maxLevels L) (both (leb (W * H) a) (both (leb (W * H) b) (leb (W * H) c)))
+    where
+      few : (p q r s : Bool) → ask p 2 (ask q 3 (ask r 4 (ask s 5 0))) ≤ 5
+      few true true true true = omega arith
+      few true true true false = omega arith
+      few true true false s = omega arith
+      few true false r s = omega arith
+      few false q r s = omega arith
+
+-- ---- the areas by the answer
+module _ (n : ℕ) (y x : ℕ → ℤ) where
+  pub passed-no : (q : ℕ) → (q ≡ 0 → ⊥) → x ≡ passed q n y x
+  unfolding passed
+  passed-no q d = simp (ne-eqb q 0 d)
+
+  pub passed-yes : (q : ℕ) → q ≡ 0 → passed q n y x ≡ fronted n y x
+  unfolding passed
+  passed-yes q e = simp (eq-eqb q 0 e)
+
+  pub rebuilt-no : (q : ℕ) → (q ≡ 0 → ⊥) → (q ≡ 14 → ⊥) → x ≡ rebuilt q n y x
+  unfolding rebuilt
+  rebuilt-no q d e = simp (ne-eqb q 0 d, ne-eqb q 14 e)
+
+  pub rebuilt-yes : rebuilt 0 n y x ≡ fronted n y x
+  unfolding rebuilt
+  rebuilt-yes = refl
+
+  pub rebuilt-zero : rebuilt 14 n y x ≡ fronted n zeros x
+  unfolding rebuilt
+  rebuilt-zero = refl
+
+-- ---- sizes of a map
+whole-rows : (W H : ℕ) → 0 < H → (H - 1) * W + W ≡ W * H
+whole-rows W zero g = absurd (omega arith)
+whole-rows W (suc H) g = let k : suc H - 1 ≡ H = omega arith in rw k (sym (suc-mul H W) ∙ mul-comm (suc H) W)
+
+pub map-rows : (W H L n : ℕ) → Sized W H L → W * H ≤ n → Rows n W W H
+map-rows W H L n s b =
+    let w = s .width in
+    let h = s .height in
+    record { apart = w .0; wide = omega arith; some = h .0; room = omega (arith, whole-rows W H (h .0)) }
+
+pub map-doubling : (W H L : ℕ) → Sized W H L → Doubling L W W
+map-doubling W H L s =
+    let w = s .width in
+    let l = s .levels in
+    let p : 2 ^ L ≤ 32 = pow-le-pow-right (omega arith) (l .1) in
+    let a : W * 2 ^ L ≤ W * 32 = mul-le-mul-left W p in
+    record { some = l .0; small = omega arith; narrow = w .1 }
+
+-- ---- a place of the first W × H numbers is a cell of H rows of W, and any other place is none
+module _ (W H j : ℕ) (some : 0 < W) where
+  pub cell-of : j < W * H → (j / W < H) × (j % W < W)
+  cell-of b = (row-below W H j (rw (mul-comm H W) b) some, mod-lt j some)
+
+  pub none-of : W * H ≤ j → 0 < H → inside W H (j / W) (j % W) ≡ false
+  none-of b h = past-rows W W H j h (omega (arith, whole-rows W H h))
+
+pub map-places : (W H : ℕ) (P Q : Grid) (z : ℕ → ℤ) → 0 < W → 0 < H → ((r c : ℕ) → r < H → c < W → P r c ≡ Q r c) → ((r c : ℕ) → inside W H r c ≡ false → P r c ≡ cells W z r c) → flat W P ≡ fronted (W * H) (flat W Q) z
+unfolding flat cells
+map-places W H P Q z w h e o =
+    fun-ext λ j.
+    elim (decLt j (W * H)) [
+      | yes b ↦ let k = cell-of W H j w b in e (j / W) (j % W) (k .0) (k .1) ∙ sym (front-at (W * H) (flat W Q) z j b)
+      | no b ↦ o (j / W) (j % W) (none-of W H j w (omega arith) h) ∙ ap z (div-add-mod' j W) ∙ sym (front-rest (W * H) (flat W Q) z j (omega arith))
+    ]
+
+-- what is cleared: the first W × H numbers, after calls that leave all others
+pub cleared : (W H : ℕ) (x y z : ℕ → ℤ) → 0 < H → KeptFrom ((H - 1) * W + W) x y → z ≡ fronted (W * H) zeros y → z ≡ fronted (W * H) zeros x
+cleared W H x y z h k e =
+    fun-ext λ j.
+    ap (λ (f : ℕ → ℤ). f j) e
+    ∙ elim (decLt j (W * H)) [
+      | yes b ↦ front-at (W * H) zeros y j b ∙ sym (front-at (W * H) zeros x j b)
+      | no b ↦ front-rest (W * H) zeros y j (omega arith) ∙ k .kept j (omega (arith, whole-rows W H h)) ∙ sym (front-rest (W * H) zeros x j (omega arith))
+    ]
+
+-- ---- forward
+-- heights are a map
+pub heights-map : (W H : ℕ) (l : List ℕ) → ((i : ℕ) → getD l i 0 < 65536) → IsMap W H (cells W (heightsAt l))
+unfolding cells maxSample
+heights-map W H l f = record { heights = λ r c _ _. height (getD l (r * W + c) 0) (f (r * W + c)) }
+  where
+    height : (n : ℕ) → n < 65536 → (pos 0 ≤ℤ pos n) × (pos n ≤ℤ pos 65535)
+    height n b = (record { le = le→leb 0 n (omega arith) }, record { le = le→leb n 65535 (omega arith) })
+
+loaded-in : (W H : ℕ) (g X : Grid) (r c : ℕ) → r < H → c < W → rowsLoaded W H g X r c ≡ inHalves W (parted (g r)) (X r) c
+unfolding rowsLoaded
+loaded-in W H g X r c rh cw = simp (within-in W H r c rh cw)
+
+loaded-out : (W H : ℕ) (g X : Grid) (r c : ℕ) → inside W H r c ≡ false → rowsLoaded W H g X r c ≡ X r c
+unfolding rowsLoaded
+loaded-out W H g X r c e = simp e
+
+-- x₁ is the work area loaded with the heights l, z₁ the plane after the levels
+module _ (W H L : ℕ) (l : List ℕ) (x₀ x₁ : ℕ → ℤ) (s : Sized W H L) (e : x₁ ≡ flat W (rowsLoaded W H (cells W (heightsAt l)) (cells W x₀))) where
+  abbrev heights : Grid
+  heights = cells W (heightsAt l)
+
+  loaded-grid : (r c : ℕ) → r < H → c < W → levelGrid W (cells W x₁) r c ≡ heights r c
+  loaded-grid r c rh cw =
+      let m = placed-in W c cw in
+      grid-at W (cells W x₁) r c
+      ∙ ap (λ (x : ℕ → ℤ). cells W x r (placed W c)) e
+      ∙ cells-flat W (rowsLoaded W H heights (cells W x₀)) r (placed W c) m
+      ∙ loaded-in W H heights (cells W x₀) r (placed W c) rh m
+      ∙ halves-at W (parted (heights r)) (cells W x₀ r) c cw
+      ∙ joined-parted (heights r) c
+
+  pub plane-made : (z₀ z₁ : ℕ → ℤ) → ((i : ℕ) → getD l i 0 < 65536) → z₁ ≡ flat W (planeWritten L W H (levelGrid W (cells W x₁)) (cells W z₀)) → z₁ ≡ fronted (W * H) (planeOf whole L W H heights) z₀
+  unfolding planeOf
+  plane-made z₀ z₁ fits f =
+      f ∙ map-places W H _ (planeCell whole L W H heights) z₀ (s .width .0) (s .height .0)
+      (λ r c rh cw.
+      written-in L W H (levelGrid W (cells W x₁)) (cells W z₀) r c rh cw
+      ∙ plane-reads wrap32 L W H _ heights loaded-grid r c rh cw
+      ∙ map-plane W H heights (heights-map W H l fits) L (s .levels .1) r c rh cw)
+      (λ r c o. written-out L W H (levelGrid W (cells W x₁)) (cells W z₀) r c o)
+
+  -- x₂ is the work area after the levels, x₃ cleared
+  pub work-cleared : (n : ℕ) (x₂ x₃ : ℕ → ℤ) → Rows n W W H → KeptFrom ((H - 1) * W + W) x₁ x₂ → x₃ ≡ fronted (W * H) zeros x₂ → x₃ ≡ fronted (W * H) zeros x₀
+  work-cleared n x₂ x₃ R k f =
+      cleared W H x₀ x₂ x₃ (s .height .0)
+      (kept-then (kept-flat n W W H x₀ x₁ _ R e (loaded-out W H heights (cells W x₀))) k (omega arith)) f
+
+-- ---- backward
+pub region-one : (L W H : ℕ) (x : Grid) → regionInRange 1 L W H x ≡ inRange L W H x
+unfolding regionInRange inRange
+region-one L W H x =
+    cells-same W H _ _ (λ r c _ _. ap (λ (k : ℕ). leb (natAbs (x r c)) (range k)) (omega arith))
+
+module _ (W H L : ℕ) (x : Grid) (ok : Bool) (e : ok ≡ regionInRange 1 L W H x) where
+  pub out-of-range : ok ≡ false → 7 ≡ planeQuestions W H L x
+  unfolding planeQuestions
+  out-of-range f = let g = sym (region-one L W H x) ∙ sym e ∙ f in rw g
+
+  module _ (t : ok ≡ true) (ok′ : Bool) (e′ : ok′ ≡ rebuiltFits 0 L W H x) where
+    pub not-rebuilt : ok′ ≡ false → 14 ≡ planeQuestions W H L x
+    unfolding planeQuestions
+    not-rebuilt f =
+        let g = sym (region-one L W H x) ∙ sym e ∙ t in
+        let g′ = sym e′ ∙ f in
+        rw (g, g′)
+
+    pub all-rebuilt : ok′ ≡ true → 0 ≡ planeQuestions W H L x
+    unfolding planeQuestions
+    all-rebuilt f =
+        let g = sym (region-one L W H x) ∙ sym e ∙ t in
+        let g′ = sym e′ ∙ f in
+        rw (g, g′)
+
+returned-in : (W H : ℕ) (X Z : Grid) (r c : ℕ) → r < H → c < W → rowsReturned W H X Z r c ≡ levelGrid W X r c
+unfolding rowsReturned levelGrid
+returned-in W H X Z r c rh cw = simp (within-in W H r c rh cw)
+
+returned-out : (W H : ℕ) (X Z : Grid) (r c : ℕ) → inside W H r c ≡ false → rowsReturned W H X Z r c ≡ Z r c
+unfolding rowsReturned
+returned-out W H X Z r c e = simp e
+
+module _ (W H L : ℕ) (x X : Grid) (s : Sized W H L) (B : Rebuilt L W H x X) where
+  -- the rebuilt rows, returned
+  pub map-returned : (h h′ : ℕ → ℤ) → h′ ≡ flat W (rowsReturned W H X (cells W h)) → h′ ≡ fronted (W * H) (flat W (mapBack wrap32 L W H x)) h
+  map-returned h h′ e =
+      e ∙ map-places W H _ (mapBack wrap32 L W H x) h (s .width .0) (s .height .0)
+      (λ r c rh cw. returned-in W H X (cells W h) r c rh cw ∙ B .cell r c rh cw)
+      (returned-out W H X (cells W h))
+
+  -- the numbers that stand in the rows fit, in whatever order
+  pub rows-fit : rebuiltFits 0 L W H x ≡ true → everyCell W H (λ r c. valueFits 0 (X r c)) ≡ true
+  unfolding everyCell
+  rows-fit f =
+      each-every H _
+      (λ r rh.
+      sym (every-placed W (λ c. valueFits 0 (X r c)))
+      ∙ each-every W _
+      (λ c cw. ap (valueFits 0) (sym (grid-at W X r c) ∙ B .cell r c rh cw) ∙ rebuilt-fits 0 L W H x (s .levels .0) f r c rh cw))

@@ -1,0 +1,121 @@
+-- Demand 2 for the whole map, over the definitions that the contracts of `forward` and `backward` cite.
+--     forward-gives        the plane that forward leaves is the map's: T.800's whole numbers, at every place
+--     backward-gives       backward answers 0 and leaves this map exactly where the plane is this map's
+--     backward-passes      it answers 0 exactly where some map has the plane, and only one map has it (`one-map`)
+--     backward-refuses     it answers 7 or 14 exactly where no map has the plane
+--     there-and-back       from the plane that forward leaves of a map, backward gives this map
+-- Proved from the theorems of maps and planes (wavelet's MapTheorems). Assumes nothing.
+use mathlib.Core.Path.{_≡_, refl, sym, ap, _∙_}
+use mathlib.Core.Bool.{Bool, true, false}
+use mathlib.Core.Logic.{_↔_}
+use Prim.Native.Nat.{ℕ, _*_, _<_}
+use native.Mathlib.Nat.{mul-comm}
+use native.Mathlib.Omega.{arith}
+use lib.IntN.{ℤ}
+use Rattle.numbers.specs.Word.{wrap32, whole}
+use Rattle.lifting.specs.Halves.{fronted}
+use Rattle.wavelet.specs.Questions.{ask}
+use Rattle.wavelet.specs.Bands.{Grid}
+use Rattle.wavelet.specs.Plane.{cells, flat, planeCell, planeOf, mapBack}
+use Rattle.wavelet.specs.Maps.{IsMap, HasPlane, inRange, rebuiltFits}
+use Rattle.wavelet.proofs.GridLaws.{place-below, flat-at}
+use Rattle.wavelet.proofs.LevelTheory.{Same}
+use Rattle.wavelet.proofs.MapTheorems.{some-map, one-map, back-exactly}
+use Rattle.whole_map.specs.Calls.{sizeQuestions, forwardQuestion, planeQuestions, backwardQuestion, passed, rebuilt}
+use Rattle.whole_map.proofs.RowwiseLaws.{front-at}
+use Rattle.whole_map.proofs.TestLaws.{false-true}
+use Rattle.whole_map.proofs.CallLaws.{roomy-is, asked-on, passed-yes, rebuilt-yes}
+
+-- the cells of an area with a map or a plane at its front
+front-cells : (W H : ℕ) (Q : Grid) (h : ℕ → ℤ) (r c : ℕ) → r < H → c < W → cells W (fronted (W * H) (flat W Q) h) r c ≡ Q r c
+unfolding cells
+front-cells W H Q h r c rh cw =
+    front-at (W * H) (flat W Q) h _ (rw (mul-comm W H) (place-below W H r c rh cw)) ∙ flat-at W Q r c cw
+
+-- the answer to 7 and 14
+pub data SevenOrFourteen (q : ℕ) : Type 0 where
+  seven : q ≡ 7 → SevenOrFourteen q
+  fourteen : q ≡ 14 → SevenOrFourteen q
+
+passes : (p q : Bool) → ask p 7 (ask q 14 0) ≡ 0 ↔ (p ≡ true) × (q ≡ true)
+passes true true = (λ e. (refl, refl), λ e. refl)
+passes true false = (λ e. absurd (omega arith), λ e. absurd (false-true (e .1)))
+passes false q = (λ e. absurd (omega arith), λ e. absurd (false-true (e .0)))
+
+refuses : (p q : Bool) → SevenOrFourteen (ask p 7 (ask q 14 0)) ↔ (ask p 7 (ask q 14 0) ≡ 0 → ⊥)
+refuses true true = (λ s n. elim s [ seven e ↦ omega arith | fourteen e ↦ omega arith ], λ n. absurd (n refl))
+refuses true false = (λ s n. omega arith, λ n. fourteen refl)
+refuses false q = (λ s n. omega arith, λ n. seven refl)
+
+-- a map of W × H at L levels, in areas of a, b and c numbers that pass questions 2 to 5
+module _ (W H L a b c : ℕ) (pass : sizeQuestions W H L a b c 0 ≡ 0) where
+  pub forward-passes : forwardQuestion W H L a b c ≡ 0
+  unfolding forwardQuestion
+  forward-passes = pass
+
+  -- z is the plane's area before the call
+  pub forward-gives : (g : Grid) (z : ℕ → ℤ) → IsMap W H g → HasPlane L W H g (cells W (passed (forwardQuestion W H L a b c) (W * H) (planeOf whole L W H g) z))
+  unfolding planeOf
+  forward-gives g z m =
+      record {
+        map = m;
+        coefficients = λ r c rh cw.
+            ap (λ (y : ℕ → ℤ). cells W y r c) (passed-yes (W * H) (planeOf whole L W H g) z _ forward-passes)
+            ∙ front-cells W H (planeCell whole L W H g) z r c rh cw;
+      }
+
+  -- x is the plane, h the heights' area before the call
+  module _ (x : Grid) (h : ℕ → ℤ) where
+    abbrev answer : ℕ
+    answer = backwardQuestion W H L a b c x
+
+    abbrev heightsAfter : ℕ → ℤ
+    heightsAfter = rebuilt answer (W * H) (flat W (mapBack wrap32 L W H x)) h
+
+    answer-is : answer ≡ ask (inRange L W H x) 7 (ask (rebuiltFits 0 L W H x) 14 0)
+    unfolding backwardQuestion planeQuestions
+    answer-is = asked-on W H L a b c _ pass
+
+    asked : answer ≡ 0 ↔ (inRange L W H x ≡ true) × (rebuiltFits 0 L W H x ≡ true)
+    asked = let p = passes (inRange L W H x) (rebuiltFits 0 L W H x) in (λ e. p .0 (sym answer-is ∙ e), λ e. answer-is ∙ p .1 e)
+
+    -- what stands in the heights' area after a call that passes
+    left : answer ≡ 0 → Same W H (cells W heightsAfter) (mapBack wrap32 L W H x)
+    left e r c rh cw =
+        ap (λ (q : ℕ). cells W (rebuilt q (W * H) (flat W (mapBack wrap32 L W H x)) h) r c) e
+        ∙ ap (λ (y : ℕ → ℤ). cells W y r c) (rebuilt-yes (W * H) (flat W (mapBack wrap32 L W H x)) h)
+        ∙ front-cells W H (mapBack wrap32 L W H x) h r c rh cw
+
+    pub backward-gives : (g : Grid) → HasPlane L W H g x ↔ (answer ≡ 0) × Same W H (cells W heightsAfter) g
+    backward-gives g =
+        let s = roomy-is W H L a b c pass .size in
+        let m = back-exactly L W H g x (s .levels .0) (s .levels .1) in (
+          λ has.
+              let k = m .0 has in
+              let e = asked .1 (k .0, k .1) in
+              (e, λ r c rh cw. left e r c rh cw ∙ k .2 r c rh cw),
+          λ k.
+              let t = asked .0 (k .0) in
+              m .1 (t .0, t .1, λ r c rh cw. sym (left (k .0) r c rh cw) ∙ k .1 r c rh cw),
+        )
+
+    pub backward-passes : answer ≡ 0 ↔ (g : Grid) × HasPlane L W H g x
+    backward-passes =
+        let s = roomy-is W H L a b c pass .size in
+        let m = some-map L W H x (s .levels .0) (s .levels .1) in
+        (λ e. m .0 (asked .0 e), λ k. asked .1 (m .1 k))
+
+    pub one-map-only : (g g′ : Grid) → HasPlane L W H g x → HasPlane L W H g′ x → Same W H g g′
+    one-map-only g g′ = let s = roomy-is W H L a b c pass .size in one-map L W H g g′ x (s .levels .1)
+
+    pub backward-refuses : SevenOrFourteen answer ↔ ((g : Grid) → HasPlane L W H g x → ⊥)
+    backward-refuses =
+        let r = refuses (inRange L W H x) (rebuiltFits 0 L W H x) in (
+          λ s g has. r .0 (rw answer-is at s) (sym answer-is ∙ backward-passes .1 (g, has)),
+          λ n. rw answer-is (r .1 (λ e. let m = backward-passes .0 (answer-is ∙ e) in n (m .0) (m .1))),
+        )
+
+  pub there-and-back : (g : Grid) (z h : ℕ → ℤ) → IsMap W H g → let x = cells W (passed (forwardQuestion W H L a b c) (W * H) (planeOf whole L W H g) z) in (answer x h ≡ 0) × Same W H (cells W (heightsAfter x h)) g
+  there-and-back g z h m =
+      let x = cells W (passed (forwardQuestion W H L a b c) (W * H) (planeOf whole L W H g) z) in
+      backward-gives x h g .0 (forward-gives g z m)

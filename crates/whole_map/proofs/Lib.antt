@@ -1,0 +1,14 @@
+pub mod RowwiseLaws
+pub mod EveryLaws
+pub mod HeightLaws
+pub mod GridSweep
+pub mod ColumnPass
+pub mod HeightRows
+pub mod CellLaws
+pub mod LevelMath
+pub mod LevelsMath
+pub mod TestLaws
+pub mod LevelCalls
+pub mod LevelSteps
+pub mod CallLaws
+pub mod Demand2

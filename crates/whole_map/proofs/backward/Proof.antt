@@ -1,0 +1,49 @@
+-- `backward` meets its contract: the questions of the sizes, and then those of the plane. Assumes nothing.
+use mathlib.Core.Path.{sym, _∙_}
+use Prim.Native.Nat.{_≤_}
+use native.Mathlib.Omega.{arith}
+use lib.ListN.{length}
+use Rattle.whole_map.specs.Calls.{backwardQuestion}
+use Rattle.whole_map.proofs.CallLaws.{roomy-is, asked-on, asked-no, asked-few, rebuilt-no}
+use borrow.Author.Needs.{needs}
+use Rattle.whole_map.proofs.backward.Statement.{statement}
+use Rattle.whole_map.proofs.backward.Tie as tie
+
+size-question-requires : tie.Need-size-question-requires
+size-question-requires c κs = search needs
+
+returns : tie.Need-returns
+unfolding backwardQuestion
+returns c =
+    let a = c .before .before .before .args in
+    let q = c .before .size-question .ensures in
+    let few : c .before .size-question .result ≤ 5 = rw q (asked-few (a .width) (a .height) (a .levels) (length (a .plane .now)) (length (a .heights .now)) (length (a .work .now))) in (
+      q ∙ sym (asked-no (a .width) (a .height) (a .levels) _ _ _ _ (λ e. c .if1 .taken (q ∙ e))),
+      (rebuilt-no _ _ _ _ (c .if1 .taken) (λ e. omega arith), rebuilt-no _ _ _ _ (c .if1 .taken) (λ e. omega arith)),
+    )
+
+restore-requires : tie.Need-restore-requires
+restore-requires c κs =
+    let q = c .before .before in
+    let r = roomy-is _ _ _ _ _ _ (sym (q .before .size-question .ensures) ∙ q .if1 .left) in
+    (r .size, r .first, r .second, r .third)
+
+same-length : tie.Need-same-length
+same-length c = search needs
+
+same-length-2 : tie.Need-same-length-2
+same-length-2 c = search needs
+
+returns-2 : tie.Need-returns-2
+unfolding backwardQuestion
+returns-2 c =
+    let made = c .before .before .before in
+    let q = made .before .before .before in (
+      made .restore .ensures .0 ∙ sym (asked-on _ _ _ _ _ _ _ (sym (q .before .size-question .ensures) ∙ q .if1 .left)),
+      made .restore .ensures .1,
+    )
+
+pub backward-spec : {M : Type 1} → statement M
+backward-spec =
+    tie.close
+    (tie.spec size-question-requires returns restore-requires same-length same-length-2 returns-2)

@@ -1,0 +1,45 @@
+-- `size_question` meets its contract: the questions in their order. Assumes nothing.
+use mathlib.Core.Path.{sym, _∙_}
+use Prim.Native.Nat.{_*_, _≤_}
+use native.Mathlib.Nat.{mul-le-mul-left, mul-le-mul-right}
+use native.Mathlib.Omega.{arith}
+use Rattle.wavelet.proofs.QuestionLaws.{sized}
+use Rattle.whole_map.proofs.CallLaws.{sizes-no, short-first, short-second, short-third, long-enough}
+use borrow.Author.Needs.{needs}
+use Rattle.whole_map.proofs.size_question.Statement.{statement}
+use Rattle.whole_map.proofs.size_question.Tie as tie
+
+size-question-requires : tie.Need-size-question-requires
+size-question-requires c κs = search needs
+
+returns : tie.Need-returns
+returns c =
+    let q = c .before .size-question .ensures in
+    q ∙ sym (sizes-no _ _ _ _ _ _ 0 (λ e. c .if1 .taken (q ∙ e)))
+
+mul-n : tie.Need-mul-n
+mul-n c =
+    let a = c .before .before .args in
+    let s = sized (a .width) (a .height) (a .levels) (sym (c .before .size-question .ensures) ∙ c .if1 .left) in
+    let x : a .width * a .height ≤ 2049 * a .height = mul-le-mul-right (a .height) (s .width .1) in
+    let y : 2049 * a .height ≤ 2049 * 65535 = mul-le-mul-left 2049 (s .height .1) in
+    omega arith
+
+returns-2 : tie.Need-returns-2
+returns-2 c = let q = c .before in short-first _ _ _ _ _ _ 0 (sym (q .before .size-question .ensures) ∙ q .if1 .left) (c .if2 .taken)
+
+returns-3 : tie.Need-returns-3
+returns-3 c = let q = c .before .before in short-second _ _ _ _ _ _ 0 (sym (q .before .size-question .ensures) ∙ q .if1 .left) (c .before .if2 .left) (c .if3 .taken)
+
+returns-4 : tie.Need-returns-4
+returns-4 c = let q = c .before .before .before in short-third _ _ _ _ _ _ 0 (sym (q .before .size-question .ensures) ∙ q .if1 .left) (c .before .before .if2 .left) (c .before .if3 .left) (c .if4 .taken)
+
+returns-5 : tie.Need-returns-5
+returns-5 c =
+    let q = c .before .before .before in
+    sym (long-enough _ _ _ _ _ _ 0 (sym (q .before .size-question .ensures) ∙ q .if1 .left) (c .before .before .if2 .left) (c .before .if3 .left) (c .if4 .left))
+
+pub size-question-spec : {M : Type 1} → statement M
+size-question-spec =
+    tie.close
+    (tie.spec size-question-requires returns mul-n returns-2 returns-3 returns-4 returns-5)

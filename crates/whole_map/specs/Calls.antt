@@ -1,0 +1,40 @@
+-- What the two calls answer and leave: document 01, "The plane" and "The gate questions".
+use Prim.Native.Nat.{ℕ, _*_}
+use lib.IntN.{ℤ, pos}
+use lib.Dec.{leb, eqb}
+use Rattle.numbers.specs.Signal.{pick, both}
+use Rattle.lifting.specs.Halves.{fronted}
+use Rattle.wavelet.specs.Limits.{maxWidth, maxHeight, maxLevels}
+use Rattle.wavelet.specs.Questions.{ask, within}
+use Rattle.wavelet.specs.Bands.{Grid}
+use Rattle.wavelet.specs.Maps.{inRange, rebuiltFits}
+
+-- questions 2, 3, 4 and 5, of areas of a, b and c numbers, and then `rest`
+unfoldable pub sizeQuestions : ℕ → ℕ → ℕ → ℕ → ℕ → ℕ → ℕ → ℕ
+sizeQuestions W H L a b c rest =
+    ask (within 1 maxWidth W) 2
+    (ask (within 1 maxHeight H) 3
+    (ask (within 1 maxLevels L) 4
+    (ask (both (leb (W * H) a) (both (leb (W * H) b) (leb (W * H) c))) 5
+    rest)))
+
+unfoldable pub forwardQuestion : ℕ → ℕ → ℕ → ℕ → ℕ → ℕ → ℕ
+forwardQuestion W H L heights plane work = sizeQuestions W H L heights plane work 0
+
+-- 7 and 14, of the plane x
+unfoldable pub planeQuestions : ℕ → ℕ → ℕ → Grid → ℕ
+planeQuestions W H L x = ask (inRange L W H x) 7 (ask (rebuiltFits 0 L W H x) 14 0)
+
+unfoldable pub backwardQuestion : ℕ → ℕ → ℕ → ℕ → ℕ → ℕ → Grid → ℕ
+backwardQuestion W H L plane heights work x = sizeQuestions W H L plane heights work (planeQuestions W H L x)
+
+abbrev pub zeros : ℕ → ℤ
+zeros _ = pos 0
+
+-- the first n numbers replaced where question q is 0: the surplus is untouched
+unfoldable pub passed : ℕ → ℕ → (ℕ → ℤ) → (ℕ → ℤ) → ℕ → ℤ
+passed q n y x = pick (eqb q 0) (fronted n y x) x
+
+-- backward: y where it passes, zero where it gives 14
+unfoldable pub rebuilt : ℕ → ℕ → (ℕ → ℤ) → (ℕ → ℤ) → ℕ → ℤ
+rebuilt q n y x = pick (eqb q 0) (fronted n y x) (pick (eqb q 14) (fronted n zeros x) x)

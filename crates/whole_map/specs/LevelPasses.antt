@@ -1,0 +1,75 @@
+-- The levels as the private functions make them: a level's rows stand in an area, each in halves.
+use mathlib.Core.Bool.{Bool, true}
+use Prim.Native.Nat.{ℕ, zero, suc, _+_, _-_, _*_, _^_, _≤_, _<_}
+use mathlib.Core.Path.{_≡_}
+use lib.IntN.{ℤ, pos, negℤ, natAbs}
+use lib.Dec.{ltb, leb}
+use Rattle.numbers.specs.Signal.{pick}
+use Rattle.numbers.specs.Word.{wrap32}
+use Rattle.lifting.specs.Line.{predicted, updated, unupdated, unpredicted, joined}
+use Rattle.lifting.specs.Halves.{halvesOf, liftedInPlace, unliftedInPlace}
+use Rattle.wavelet.specs.Limits.{range}
+use Rattle.wavelet.specs.Bands.{Grid}
+use Rattle.wavelet.specs.Plane.{planeCell, levelAt, mapBack, cells, flat}
+use Rattle.wavelet.specs.Maps.{everyCell, rebuiltFits}
+use Rattle.whole_map.specs.Rowwise.{between}
+use Rattle.whole_map.specs.Passes.{within, oddRowsChanged, evenRowsChanged, rowsMapped, rowsFetched, KeptFrom}
+
+-- the grid of w columns whose rows stand in X, each in halves
+unfoldable pub levelGrid : ℕ → Grid → Grid
+levelGrid w X r = joined (halvesOf w (X r))
+
+-- all columns, then all rows, in place; a column of one number is its own
+unfoldable pub columnsLiftedInPlace : ℕ → ℕ → Grid → Grid
+columnsLiftedInPlace w h X =
+    pick (ltb 1 h) (evenRowsChanged (updated wrap32) w h (oddRowsChanged (predicted wrap32) w h X)) X
+
+unfoldable pub levelLifted : ℕ → ℕ → Grid → Grid
+levelLifted w h X = rowsMapped (liftedInPlace w) w h (columnsLiftedInPlace w h X)
+
+-- all rows, then all columns
+unfoldable pub columnsUnliftedInPlace : ℕ → ℕ → Grid → Grid
+columnsUnliftedInPlace w h X =
+    pick (ltb 1 h) (oddRowsChanged (unpredicted wrap32) w h (evenRowsChanged (unupdated wrap32) w h X)) X
+
+unfoldable pub levelUnlifted : ℕ → ℕ → Grid → Grid
+levelUnlifted w h X = columnsUnliftedInPlace w h (rowsMapped (unliftedInPlace w) w h X)
+
+-- the plane z with the plane of the w × h grid g, at L levels, in its corner
+unfoldable pub planeWritten : ℕ → ℕ → ℕ → Grid → Grid → Grid
+planeWritten L w h g z r c = pick (within w h r c) (planeCell wrap32 L w h g r c) (z r c)
+
+-- the rows X are those of the grid that the plane's corner x of w × h numbers gives back at L levels
+pub record Rebuilt (L w h : ℕ) (x X : Grid) : Type 0 where
+  pub cell : (r c : ℕ) → r < h → c < w → levelGrid w X r c ≡ mapBack wrap32 L w h x r c
+
+-- the least value that a rebuilt grid may have, k being the level that it is the low-low part of; the largest is `range k`
+unfoldable pub leastFit : ℕ → ℤ
+leastFit zero = pos 0
+leastFit (suc k) = negℤ (pos (range (suc k)))
+
+-- every number from low to high: of rows first up to last, columns from up to to
+unfoldable pub rowsBetween : ℕ → ℕ → ℕ → ℕ → ℤ → ℤ → Grid → Bool
+rowsBetween first last from to low high x =
+    everyCell (to - from) (last - first) (λ r c. between low high (x (first + r) (from + c)))
+
+-- question 7 of a region of w × h numbers, k being the level of its own bands
+unfoldable pub regionInRange : ℕ → ℕ → ℕ → ℕ → Grid → Bool
+regionInRange k L w h x = everyCell w h (λ r c. leb (natAbs (x r c)) (range (k - 1 + levelAt L w h r c)))
+
+-- L levels of rows of w numbers, s apart: strides double from level to level, and stay small
+pub record Doubling (L s w : ℕ) : Type 0 where
+  pub some : 0 < L
+  pub small : s * 2 ^ L ≤ 65568
+  pub narrow : w ≤ 2049
+
+-- what one level back leaves of the work area y₀, and its answer: z is the plane, k the level as in `leastFit`
+pub record LevelBack (ok : Bool) (k from s A w h : ℕ) (z y₀ y : ℕ → ℤ) : Type 0 where
+  pub lifted : y ≡ flat s (levelUnlifted w h (cells s (flat s (rowsFetched from w h (cells A z) (cells s y₀)))))
+  pub answer : ok ≡ rowsBetween 0 h 0 w (leastFit k) (pos (range k)) (cells s y)
+
+-- what all levels back leave, and their answer: question 14
+pub record LevelsBack (ok : Bool) (k L s A w h : ℕ) (z y₀ y : ℕ → ℤ) : Type 0 where
+  pub answer : ok ≡ rebuiltFits k L w h (cells A z)
+  pub grid : ok ≡ true → Rebuilt L w h (cells A z) (cells s y)
+  pub kept : KeptFrom ((h - 1) * s + w) y₀ y

@@ -1,0 +1,73 @@
+-- A pass over the rows of an area: rows of w numbers, h of them, cell (r, c) of the area being number c of row r (wavelet's `cells`, `flat`).
+-- Each pass leaves every other cell as it was.
+use mathlib.Core.Bool.{Bool, true, false}
+use Prim.Native.Nat.{ℕ, _+_, _-_, _*_, _/_, _%_, _<_, _≤_}
+use mathlib.Core.Path.{_≡_}
+use lib.IntN.{ℤ}
+use lib.Dec.{ltb, eqb}
+use Rattle.numbers.specs.Signal.{pick, both}
+use Rattle.lifting.specs.Line.{lo, count, parted, joined}
+use Rattle.lifting.specs.Halves.{halvesOf, inHalves}
+use Rattle.wavelet.specs.Bands.{Grid}
+use Rattle.whole_map.specs.Rowwise.{cut}
+
+-- h rows of w numbers, s apart, lie within n numbers
+pub record Rows (n s w h : ℕ) : Type 0 where
+  pub apart : 0 < s
+  pub wide : w ≤ s
+  pub some : 0 < h
+  pub room : (h - 1) * s + w ≤ n
+
+-- a cell among the h rows of w numbers
+unfoldable pub within : ℕ → ℕ → ℕ → ℕ → Bool
+within w h r c = both (ltb r h) (ltb c w)
+
+-- the rows next to row r, mirrored at the first and the last of h rows
+unfoldable pub after : ℕ → ℕ → ℕ
+after h r = pick (ltb (r + 1) h) (r + 1) (r - 1)
+
+unfoldable pub before : ℕ → ℕ
+before r = pick (ltb 0 r) (r - 1) 1
+
+unfoldable pub even : ℕ → Bool
+even r = eqb (r % 2) 0
+
+-- each odd row, or each even row, changed by f of its own number and those of the rows before and after
+unfoldable pub oddRowsChanged : (ℤ → ℤ → ℤ → ℤ) → ℕ → ℕ → Grid → Grid
+oddRowsChanged f w h x r c =
+    pick (both (within w h r c) (pick (even r) false true)) (f (x r c) (x (before r) c) (x (after h r) c)) (x r c)
+
+unfoldable pub evenRowsChanged : (ℤ → ℤ → ℤ → ℤ) → ℕ → ℕ → Grid → Grid
+evenRowsChanged f w h x r c =
+    pick (both (within w h r c) (even r)) (f (x r c) (x (before r) c) (x (after h r) c)) (x r c)
+
+-- each row changed as a line of w numbers by itself
+unfoldable pub rowsMapped : ((ℕ → ℤ) → ℕ → ℤ) → ℕ → ℕ → Grid → Grid
+rowsMapped f w h x r c = pick (within w h r c) (f (cut w (x r)) c) (x r c)
+
+-- the row of the plane that row r of a level goes to: the low rows come first, then the high ones; and the row that row r of the plane comes from
+unfoldable pub planeRow : ℕ → ℕ → ℕ
+planeRow h r = pick (even r) (r / 2) (count lo h + r / 2)
+
+unfoldable pub levelRow : ℕ → ℕ → ℕ
+levelRow h r = pick (ltb r (count lo h)) (2 * r) (2 * (r - count lo h) + 1)
+
+-- the level's rows x stored in the plane z, and the plane's rows z brought back to the level's x, an even row from column `from` on
+unfoldable pub rowsStored : ℕ → ℕ → Grid → Grid → Grid
+rowsStored w h x z r c = pick (within w h r c) (x (levelRow h r) c) (z r c)
+
+unfoldable pub rowsFetched : ℕ → ℕ → ℕ → Grid → Grid → Grid
+rowsFetched from w h z x r c =
+    pick (both (within w h r c) (pick (even r) (pick (ltb c from) false true) true)) (z (planeRow h r) c) (x r c)
+
+-- rows of heights g loaded, each in halves
+unfoldable pub rowsLoaded : ℕ → ℕ → Grid → Grid → Grid
+rowsLoaded w h g x r c = pick (within w h r c) (inHalves w (parted (g r)) (x r) c) (x r c)
+
+-- rows x in halves returned in their own order to the rows z
+unfoldable pub rowsReturned : ℕ → ℕ → Grid → Grid → Grid
+rowsReturned w h x z r c = pick (within w h r c) (joined (halvesOf w (x r)) c) (z r c)
+
+-- nothing changed from place n on
+pub record KeptFrom (n : ℕ) (x y : ℕ → ℤ) : Type 0 where
+  pub kept : (j : ℕ) → n ≤ j → y j ≡ x j

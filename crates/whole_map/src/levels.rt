@@ -1,0 +1,345 @@
+// The levels of a map. A level's rows stand in the work area, `height` rows of `width` numbers each in halves, `stride` apart: the rows of the
+// next level are every second one of them, so its stride is twice as long. The plane's rows are `across` apart at every level.
+// The module is private: only this crate, which meets what is required, can call it.
+use crate::passes;
+use crate::rowwise;
+use wavelet::sizes;
+ghost use mathlib.Core.Path.{_≡_};
+ghost use Prim.Native.Nat.{_+_, _-_, _*_, _<_, _≤_};
+ghost use lib.IntN.{pos, negℤ};
+ghost use lib.ListN.{length};
+ghost use Rattle.numbers.specs.Signal.{at, pick, windowed, spliced};
+ghost use Rattle.lifting.specs.Line.{lo, count};
+ghost use Rattle.wavelet.specs.Limits.{range};
+ghost use Rattle.wavelet.specs.Plane.{cells, flat};
+ghost use Rattle.whole_map.specs.Rowwise.{partedInPlace, wovenInPlace};
+ghost use Rattle.whole_map.specs.Passes.{Rows, KeptFrom, even, planeRow, levelRow, rowsMapped, rowsStored, rowsFetched};
+ghost use Rattle.whole_map.specs.LevelPasses.{levelGrid, columnsLiftedInPlace, levelLifted, columnsUnliftedInPlace, levelUnlifted, planeWritten, leastFit, rowsBetween, regionInRange, Doubling, LevelBack, LevelsBack};
+
+// The plane's row for row r of a level: the low rows come first.
+fn plane_row(height: usize, r: usize) -> usize
+    requires { ⌜ r < height ⌝ }
+    ensures { λ p. ⌜ (p ≡ planeRow height r) × (p < height) ⌝ }
+{
+    if r % 2 == 0 {
+        return r / 2;
+    }
+    sizes::half(height) + r / 2
+}
+
+// The level's row for row r of the plane.
+fn level_row(height: usize, r: usize) -> usize
+    requires { ⌜ r < height ⌝ }
+    ensures { λ l. ⌜ (l ≡ levelRow height r) × (l < height) ⌝ }
+{
+    let low = sizes::half(height);
+    if r < low {
+        return 2 * r;
+    }
+    2 * (r - low) + 1
+}
+
+// All columns forward, in place; a column of one number stays.
+fn lift_columns(work: &mut [i32], stride: usize, width: usize, height: usize)
+    requires { ⌜ Rows (length (now work)) stride width height ⌝ }
+    ensures { λ _. ⌜ at (now (work .exit)) ≡ flat stride (columnsLiftedInPlace width height (cells stride (at (now (work .entry))))) ⌝ }
+{
+    if height < 2 {
+        return;
+    }
+    passes::predict_odd_rows(work, stride, width, height);
+    passes::update_even_rows(work, stride, width, height);
+}
+
+// All columns back.
+fn unlift_columns(work: &mut [i32], stride: usize, width: usize, height: usize)
+    requires { ⌜ Rows (length (now work)) stride width height ⌝ }
+    ensures { λ _. ⌜ at (now (work .exit)) ≡ flat stride (columnsUnliftedInPlace width height (cells stride (at (now (work .entry))))) ⌝ }
+{
+    if height < 2 {
+        return;
+    }
+    passes::unupdate_even_rows(work, stride, width, height);
+    passes::unpredict_odd_rows(work, stride, width, height);
+}
+
+// One level forward, in place: all columns, then all rows.
+fn lift_level(work: &mut [i32], stride: usize, width: usize, height: usize)
+    requires { ⌜ Rows (length (now work)) stride width height ⌝ }
+    ensures { λ _. ⌜ at (now (work .exit)) ≡ flat stride (levelLifted width height (cells stride (at (now (work .entry))))) ⌝ }
+{
+    lift_columns(work, stride, width, height);
+    passes::lift_rows(work, stride, width, height);
+}
+
+// One level back, in place: all rows, then all columns.
+fn unlift_level(work: &mut [i32], stride: usize, width: usize, height: usize)
+    requires { ⌜ Rows (length (now work)) stride width height ⌝ }
+    ensures { λ _. ⌜ at (now (work .exit)) ≡ flat stride (levelUnlifted width height (cells stride (at (now (work .entry))))) ⌝ }
+{
+    passes::unlift_rows(work, stride, width, height);
+    unlift_columns(work, stride, width, height);
+}
+
+// n numbers from place a of one area to place b of another.
+fn copy_part(from: &[i32], a: usize, to: &mut [i32], b: usize, n: usize)
+    requires { ⌜ (a + n ≤ length (now from)) × (b + n ≤ length (now to)) ⌝ }
+    ensures { λ _. ⌜ at (now (to .exit)) ≡ spliced b n (windowed a n (at (now (from .entry)))) (at (now (to .entry))) ⌝ }
+{
+    let e = a + n;
+    let f = b + n;
+    rowwise::copy(&from[a..e], &mut to[b..f]);
+}
+
+// The rows of a level to the plane.
+fn store_level(
+    work: &[i32],
+    plane: &mut [i32],
+    stride: usize,
+    across: usize,
+    width: usize,
+    height: usize,
+)
+    requires { ⌜ Rows (length (now work)) stride width height × Rows (length (now plane)) across width height ⌝ }
+    ensures { λ _. ⌜ at (now (plane .exit)) ≡ flat across (rowsStored width height (cells stride (at (now (work .entry)))) (cells across (at (now (plane .entry))))) ⌝ }
+{
+    let mut r = 0;
+    while r < height {
+        let a = level_row(height, r) * stride;
+        copy_part(work, a, plane, r * across, width);
+        r += 1;
+    }
+}
+
+// How many numbers of row r are made already: of an even one, whose low half is the low-low part, `from`.
+fn made_of(r: usize, from: usize) -> usize
+    ensures { λ n. ⌜ n ≡ pick (even r) from 0 ⌝ }
+{
+    if r % 2 == 0 { from } else { 0 }
+}
+
+// The rows of a level from the plane, the even ones from column `from` on.
+fn fetch_level(
+    plane: &[i32],
+    work: &mut [i32],
+    across: usize,
+    stride: usize,
+    from: usize,
+    width: usize,
+    height: usize,
+)
+    requires { ⌜ Rows (length (now plane)) across width height × Rows (length (now work)) stride width height × (from ≤ width) ⌝ }
+    ensures { λ _. ⌜ at (now (work .exit)) ≡ flat stride (rowsFetched from width height (cells across (at (now (plane .entry)))) (cells stride (at (now (work .entry))))) ⌝ }
+{
+    let mut r = 0;
+    while r < height {
+        let made = made_of(r, from);
+        let a = plane_row(height, r) * across + made;
+        copy_part(plane, a, work, r * stride + made, width - made);
+        r += 1;
+    }
+}
+
+// The low-low part of a level into halves, for the next level, and from halves into its own order.
+fn part_low(work: &mut [i32], stride: usize, width: usize, height: usize)
+    requires { ⌜ Rows (length (now work)) stride width height × (width ≤ 2049) × (stride ≤ 65568) ⌝ }
+    ensures { λ _. ⌜ at (now (work .exit)) ≡ flat (2 * stride) (rowsMapped (partedInPlace (count lo width)) (count lo width) (count lo height) (cells (2 * stride) (at (now (work .entry))))) ⌝ }
+{
+    passes::part_rows(work, 2 * stride, sizes::half(width), sizes::half(height));
+}
+
+fn weave_low(work: &mut [i32], stride: usize, width: usize, height: usize)
+    requires { ⌜ Rows (length (now work)) stride width height × (width ≤ 2049) × (stride ≤ 65568) ⌝ }
+    ensures { λ _. ⌜ at (now (work .exit)) ≡ flat (2 * stride) (rowsMapped (wovenInPlace (count lo width)) (count lo width) (count lo height) (cells (2 * stride) (at (now (work .entry))))) ⌝ }
+{
+    passes::weave_rows(work, 2 * stride, sizes::half(width), sizes::half(height));
+}
+
+// All levels forward: this one, and then the same of its low-low part with the levels left.
+pub fn forward_levels(
+    plane: &mut [i32],
+    work: &mut [i32],
+    across: usize,
+    stride: usize,
+    width: usize,
+    height: usize,
+    levels: usize,
+)
+    requires { ⌜ Rows (length (now plane)) across width height × Rows (length (now work)) stride width height × Doubling levels stride width ⌝ }
+    ensures { λ _. ⌜ at (now (plane .exit)) ≡ flat across (planeWritten levels width height (levelGrid width (cells stride (at (now (work .entry))))) (cells across (at (now (plane .entry))))) ⌝ }
+    ensures { λ _. ⌜ KeptFrom ((height - 1) * stride + width) (at (now (work .entry))) (at (now (work .exit))) ⌝ }
+{
+    lift_level(work, stride, width, height);
+    store_level(work, plane, stride, across, width, height);
+    if levels < 2 {
+        return;
+    }
+    part_low(work, stride, width, height);
+    forward_levels(
+        plane,
+        work,
+        across,
+        2 * stride,
+        sizes::half(width),
+        sizes::half(height),
+        levels - 1,
+    );
+}
+
+// The largest magnitude of a level's numbers, as the least of them.
+fn lowest(level: usize) -> i32
+    requires { ⌜ level ≤ 5 ⌝ }
+    ensures { λ r. ⌜ r ≡ negℤ (pos (range level)) ⌝ }
+{
+    0 - sizes::range_of(level)
+}
+
+// The least value that a rebuilt grid may have, `level` being the level that it is the low-low part of, 0 for the map.
+fn least(level: usize) -> i32
+    requires { ⌜ level ≤ 5 ⌝ }
+    ensures { λ r. ⌜ r ≡ leastFit level ⌝ }
+{
+    if level == 0 {
+        return 0;
+    }
+    lowest(level)
+}
+
+// Whether the numbers of some rows lie from `low` to `high`: rows `first` up to `last`, columns `from` up to `to`.
+fn rows_between(
+    area: &[i32],
+    stride: usize,
+    first: usize,
+    last: usize,
+    from: usize,
+    to: usize,
+    low: i32,
+    high: i32,
+) -> bool
+    requires { ⌜ Rows (length (now area)) stride to last × (first ≤ last) × (from ≤ to) ⌝ }
+    ensures { λ r. ⌜ r ≡ rowsBetween first last from to low high (cells stride (at (now (area .entry)))) ⌝ }
+{
+    let mut r = first;
+    while r < last {
+        let a = r * stride + from;
+        let e = r * stride + to;
+        if !rowwise::all_between(&area[a..e], low, high) {
+            return false;
+        }
+        r += 1;
+    }
+    true
+}
+
+// A level back from its bands: the plane's rows fetched, the level lifted back, and its numbers tested.
+fn level_back(
+    plane: &[i32],
+    work: &mut [i32],
+    across: usize,
+    stride: usize,
+    from: usize,
+    width: usize,
+    height: usize,
+    level: usize,
+) -> bool
+    requires { ⌜ Rows (length (now plane)) across width height × Rows (length (now work)) stride width height × (from ≤ width) × (level ≤ 5) ⌝ }
+    ensures { λ ok. ⌜ LevelBack ok level from stride across width height (at (now (plane .entry))) (at (now (work .entry))) (at (now (work .exit))) ⌝ }
+{
+    fetch_level(plane, work, across, stride, from, width, height);
+    unlift_level(work, stride, width, height);
+    rows_between(
+        work,
+        stride,
+        0,
+        height,
+        0,
+        width,
+        least(level),
+        sizes::range_of(level),
+    )
+}
+
+// All levels back: first the low-low part with the levels left, then this level. False where a rebuilt value does not fit.
+pub fn back_levels(
+    plane: &[i32],
+    work: &mut [i32],
+    across: usize,
+    stride: usize,
+    width: usize,
+    height: usize,
+    levels: usize,
+    level: usize,
+) -> bool
+    requires { ⌜ Rows (length (now plane)) across width height × Rows (length (now work)) stride width height × Doubling levels stride width × (level + levels ≤ 5) ⌝ }
+    ensures { λ ok. ⌜ LevelsBack ok level levels stride across width height (at (now (plane .entry))) (at (now (work .entry))) (at (now (work .exit))) ⌝ }
+{
+    if levels < 2 {
+        return level_back(plane, work, across, stride, 0, width, height, level);
+    }
+    let w = sizes::half(width);
+    if !back_levels(
+        plane,
+        work,
+        across,
+        2 * stride,
+        w,
+        sizes::half(height),
+        levels - 1,
+        level + 1,
+    ) {
+        return false;
+    }
+    weave_low(work, stride, width, height);
+    level_back(plane, work, across, stride, w, width, height, level)
+}
+
+// Whether the numbers of some rows lie in a level's range.
+fn rows_in_range(
+    plane: &[i32],
+    across: usize,
+    first: usize,
+    last: usize,
+    from: usize,
+    to: usize,
+    level: usize,
+) -> bool
+    requires { ⌜ Rows (length (now plane)) across to last × (first ≤ last) × (from ≤ to) × (level ≤ 5) ⌝ }
+    ensures { λ r. ⌜ r ≡ rowsBetween first last from to (negℤ (pos (range level))) (pos (range level)) (cells across (at (now (plane .entry)))) ⌝ }
+{
+    rows_between(
+        plane,
+        across,
+        first,
+        last,
+        from,
+        to,
+        lowest(level),
+        sizes::range_of(level),
+    )
+}
+
+// Whether each coefficient of the plane lies in its level's range, `level` being that of this region's own bands.
+pub fn in_range(
+    plane: &[i32],
+    across: usize,
+    width: usize,
+    height: usize,
+    levels: usize,
+    level: usize,
+) -> bool
+    requires { ⌜ Rows (length (now plane)) across width height × (0 < levels) × (0 < level) × (level + levels ≤ 6) ⌝ }
+    ensures { λ r. ⌜ r ≡ regionInRange level levels width height (cells across (at (now (plane .entry)))) ⌝ }
+{
+    if levels < 2 {
+        return rows_in_range(plane, across, 0, height, 0, width, level);
+    }
+    let w = sizes::half(width);
+    let h = sizes::half(height);
+    if !in_range(plane, across, w, h, levels - 1, level + 1) {
+        return false;
+    }
+    if !rows_in_range(plane, across, 0, h, w, width, level) {
+        return false;
+    }
+    rows_in_range(plane, across, h, height, 0, width, level)
+}

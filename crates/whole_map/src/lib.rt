@@ -1,0 +1,138 @@
+// The whole-map engine: the transform of a whole height map to its plane and back, over areas that the caller lends.
+mod heights;
+mod levels;
+mod passes;
+mod rowwise;
+
+use wavelet::limits;
+ghost use mathlib.Core.Path.{_≡_};
+ghost use Prim.Native.Nat.{_*_, _≤_};
+ghost use lib.ListN.{length};
+ghost use Rattle.numbers.specs.Signal.{at};
+ghost use Rattle.numbers.specs.Word.{whole, wrap32};
+ghost use Rattle.lifting.specs.Halves.{fronted};
+ghost use Rattle.wavelet.specs.Plane.{planeOf, mapBack, cells, flat};
+ghost use Rattle.wavelet.proofs.QuestionLaws.{Sized};
+ghost use Rattle.whole_map.specs.Rowwise.{heightsAt};
+ghost use Rattle.whole_map.specs.Calls.{sizeQuestions, forwardQuestion, planeQuestions, backwardQuestion, zeros, passed, rebuilt};
+
+// Questions 2 to 5: 0, or the number of the first that says no. a, b and c are the lengths of the areas.
+fn size_question(width: usize, height: usize, levels: usize, a: usize, b: usize, c: usize) -> u8
+    ensures { λ r. ⌜ r ≡ sizeQuestions width height levels a b c 0 ⌝ }
+{
+    let q = limits::size_question(width, height, levels);
+    if q != 0 {
+        return q;
+    }
+    let n = width * height;
+    if a < n {
+        return 5;
+    }
+    if b < n {
+        return 5;
+    }
+    if c < n {
+        return 5;
+    }
+    0
+}
+
+// The map's plane, all questions passed.
+fn transform(
+    heights: &[u16],
+    width: usize,
+    height: usize,
+    levels: usize,
+    plane: &mut [i32],
+    work: &mut [i32],
+)
+    requires { ⌜ Sized width height levels × (width * height ≤ length (now heights)) × (width * height ≤ length (now plane)) × (width * height ≤ length (now work)) ⌝ }
+    ensures { λ _. ⌜ at (now (plane .exit)) ≡ fronted (width * height) (planeOf whole levels width height (cells width (heightsAt (now (heights .entry))))) (at (now (plane .entry))) ⌝ }
+    ensures { λ _. ⌜ at (now (work .exit)) ≡ fronted (width * height) zeros (at (now (work .entry))) ⌝ }
+{
+    heights::load_rows(heights, work, width, height);
+    levels::forward_levels(plane, work, width, width, width, height, levels);
+    rowwise::clear(work, width * height);
+}
+
+// The plane of a map of heights, by the levels of T.800. It answers 0, or the number of the question that turned it away.
+pub fn forward(
+    heights: &[u16],
+    width: usize,
+    height: usize,
+    levels: usize,
+    plane: &mut [i32],
+    work: &mut [i32],
+) -> u8
+    ensures { λ r. ⌜ r ≡ forwardQuestion width height levels (length (now (heights .entry))) (length (now (plane .entry))) (length (now (work .entry))) ⌝ }
+    ensures { λ r. ⌜ at (now (plane .exit)) ≡ passed r (width * height) (planeOf whole levels width height (cells width (heightsAt (now (heights .entry))))) (at (now (plane .entry))) ⌝ }
+    ensures { λ r. ⌜ at (now (work .exit)) ≡ passed r (width * height) zeros (at (now (work .entry))) ⌝ }
+{
+    let q = size_question(
+        width,
+        height,
+        levels,
+        heights.len(),
+        plane.len(),
+        work.len(),
+    );
+    if q != 0 {
+        return q;
+    }
+    transform(heights, width, height, levels, plane, work);
+    0
+}
+
+// The map of a plane in range, where its rebuilt values fit; else 14, and heights and work are zero.
+fn restore(
+    plane: &[i32],
+    width: usize,
+    height: usize,
+    levels: usize,
+    heights: &mut [u16],
+    work: &mut [i32],
+) -> u8
+    requires { ⌜ Sized width height levels × (width * height ≤ length (now plane)) × (width * height ≤ length (now heights)) × (width * height ≤ length (now work)) ⌝ }
+    ensures { λ r. ⌜ r ≡ planeQuestions width height levels (cells width (at (now (plane .entry)))) ⌝ }
+    ensures { λ r. ⌜ heightsAt (now (heights .exit)) ≡ rebuilt r (width * height) (flat width (mapBack wrap32 levels width height (cells width (at (now (plane .entry)))))) (heightsAt (now (heights .entry))) ⌝ }
+    ensures { λ r. ⌜ at (now (work .exit)) ≡ rebuilt r (width * height) zeros (at (now (work .entry))) ⌝ }
+{
+    if !levels::in_range(plane, width, width, height, levels, 1) {
+        return 7;
+    }
+    if !levels::back_levels(plane, work, width, width, width, height, levels, 0) {
+        heights::clear_heights(heights, width * height);
+        rowwise::clear(work, width * height);
+        return 14;
+    }
+    heights::store_rows(work, heights, width, height);
+    rowwise::clear(work, width * height);
+    0
+}
+
+// The map that has a plane. It answers 0, or the number of the question that turned it away: 7 or 14 where no map has it.
+pub fn backward(
+    plane: &[i32],
+    width: usize,
+    height: usize,
+    levels: usize,
+    heights: &mut [u16],
+    work: &mut [i32],
+) -> u8
+    ensures { λ r. ⌜ r ≡ backwardQuestion width height levels (length (now (plane .entry))) (length (now (heights .entry))) (length (now (work .entry))) (cells width (at (now (plane .entry)))) ⌝ }
+    ensures { λ r. ⌜ heightsAt (now (heights .exit)) ≡ rebuilt r (width * height) (flat width (mapBack wrap32 levels width height (cells width (at (now (plane .entry)))))) (heightsAt (now (heights .entry))) ⌝ }
+    ensures { λ r. ⌜ at (now (work .exit)) ≡ rebuilt r (width * height) zeros (at (now (work .entry))) ⌝ }
+{
+    let q = size_question(
+        width,
+        height,
+        levels,
+        plane.len(),
+        heights.len(),
+        work.len(),
+    );
+    if q != 0 {
+        return q;
+    }
+    restore(plane, width, height, levels, heights, work)
+}

@@ -1,0 +1,251 @@
+-- An offer taken a stretch at a time is the offer taken height by height. Assumes nothing.
+use mathlib.Core.Path.{_≡_, refl, sym, ap, _∙_, fun-ext}
+use mathlib.Core.Bool.{Bool, true, false}
+use mathlib.Core.List.{List, [], _∷_}
+use Prim.Native.Nat.{ℕ, zero, suc, _+_, _-_, _≤_, _<_, min}
+use native.Mathlib.Numerals.{add-one}
+use native.Mathlib.Decide.{decLt}
+use native.Mathlib.Omega.{arith}
+use lib.IntN.{ℤ, pos}
+use lib.ListN.{length, drop, getD, length-drop}
+use lib.Seq.{drop-cons, drop-drop, drop-length, getD-drop}
+use lib.Dec.{eqb, ltb}
+use borrow.Author.Tests.{eq-eqb, ne-eqb, lt-ltb, le-ltb, eqb-true, ltb-true}
+use Rattle.numbers.specs.Signal.{at, pick, both}
+use Rattle.numbers.proofs.Sweep as sweep
+use Rattle.wavelet.specs.Limits.{maxHeight}
+use Rattle.writer.specs.declared.Writer.{Writer}
+use Rattle.writer.specs.declared.cascade.Wait.{Wait}
+use Rattle.writer.specs.Level.{Memory}
+use Rattle.writer.specs.FiveThreeLevel.{fiveThree}
+use Rattle.writer.specs.Machine.{Out, arrive}
+use Rattle.writer.specs.Taking.{stored, heightAt, Taking, none, oneMore, takes, begun, complete, heightPut, rowMakes, offering}
+use Rattle.writer.specs.Questions.{offerQuestion}
+use Rattle.writer.specs.Answers.{gives, refused}
+use Rattle.writer.specs.Calls.{offerReply, offerStore}
+use Rattle.writer.specs.Steps.{Left}
+use Rattle.writer.proofs.GateLaws.{Sound}
+use Rattle.writer.proofs.CallLaws.{unless-no, unless-yes, changed-no, changed-yes}
+use Rattle.writer.specs.Stretch.{heightsPut, nextCount, atColumn, Taker, Stretched}
+
+-- n heights more
+abbrev pub plus : ℕ → Taking → Taking
+plus n t = record { taken = n + t .taken; writer = t .writer; store = t .store }
+
+plus-none : (t : Taking) → t ≡ plus 0 t
+plus-none t = ap (λ (k : ℕ). record { taken = k; writer = t .writer; store = t .store }) (omega arith)
+
+plus-plus : (a b : ℕ) (t : Taking) → plus a (plus b t) ≡ plus (a + b) t
+plus-plus a b t = ap (λ (k : ℕ). record { taken = k; writer = t .writer; store = t .store }) (omega arith)
+
+plus-more : (a : ℕ) (t : Taking) → plus a (oneMore t) ≡ plus (suc a) t
+plus-more a t = ap (λ (k : ℕ). record { taken = k; writer = t .writer; store = t .store }) (omega arith)
+
+-- ---- whether a height is taken
+module _ (s : Writer) where
+  pub takes-yes : s .level ≡ 0 → s .rows < 65535 → takes s ≡ true
+  unfolding takes maxHeight
+  takes-yes a b = simp (eq-eqb (s .level) 0 a, lt-ltb (s .rows) 65535 b)
+
+  pub takes-waits : 0 < s .level → takes s ≡ false
+  unfolding takes
+  takes-waits h = simp (ne-eqb (s .level) 0 (omega arith))
+
+  pub takes-full : 65535 ≤ s .rows → takes s ≡ false
+  unfolding takes maxHeight
+  takes-full h = simp (le-ltb (s .rows) 65535 h) (last (eqb (s .level) 0))
+    where
+      last : (a : Bool) → both a false ≡ false
+      last true = refl
+      last false = refl
+
+  pub takes-rows : takes s ≡ true → s .rows < 65535
+  unfolding takes maxHeight
+  takes-rows e = ltb-true (s .rows) 65535 (sweep.both (eqb (s .level) 0) _ e .1)
+
+  pub takes-at : (c : ℕ) → takes (atColumn s c) ≡ takes s
+  unfolding takes
+  takes-at c = refl
+
+  -- ---- the next stretch
+  pub next-none : (k : ℕ) → takes s ≡ false → 0 ≡ nextCount s k
+  unfolding nextCount
+  next-none k e = simp e
+
+  pub next-some : (k n : ℕ) → takes s ≡ true → n ≡ min (s .width - s .column) k → n ≡ nextCount s k
+  unfolding nextCount
+  next-some k n e h = h ∙ simp e
+
+  pub record Next (k n : ℕ) : Type 0 where
+    pub takes : takes s ≡ true
+    pub row : s .column + n ≤ s .width
+    pub run : n ≤ k
+
+  pub next-is : (k n : ℕ) → n ≡ nextCount s k → 0 < n → s .column < s .width → Next k n
+  unfolding nextCount
+  next-is k n e h g = go (takes s) refl
+    where
+      go : (b : Bool) → takes s ≡ b → Next k n
+      go true q = let f : n ≡ min (s .width - s .column) k = e ∙ simp q in record { takes = q; row = omega arith; run = omega arith }
+      go false q = let f : n ≡ 0 = e ∙ simp q in absurd (omega arith)
+
+-- ---- one height
+module _ (h : ℕ) (run : List ℕ) (s : Writer) (x : Memory) (t : takes s ≡ true) where
+  one-inside : s .column + 1 < s .width → offering fiveThree (h ∷ run) s x ≡ oneMore (offering fiveThree run (begun s) (heightPut fiveThree h s x))
+  unfolding offering
+  one-inside g = simp (t, lt-ltb (s .column + 1) (s .width) g)
+
+  one-whole : s .width ≤ s .column + 1 → offering fiveThree (h ∷ run) s x ≡ oneMore (offering fiveThree run (complete s (rowMakes fiveThree s (heightPut fiveThree h s x))) (rowMakes fiveThree s (heightPut fiveThree h s x) .store))
+  unfolding offering
+  one-whole g = simp (t, le-ltb (s .column + 1) (s .width) g)
+
+pub offer-end : (run : List ℕ) (s : Writer) (x : Memory) → takes s ≡ false → offering fiveThree run s x ≡ none s x
+unfolding offering
+offer-end [] s x e = refl
+offer-end (h ∷ run) s x e = simp e
+
+pub offer-used : (s : Writer) (x : Memory) → offering fiveThree [] s x ≡ none s x
+unfolding offering
+offer-used s x = refl
+
+-- ---- a stretch
+module _ (run : List ℕ) (s : Writer) (x : Memory) (t : takes s ≡ true) where
+  abbrev filled : ℕ → Memory
+  filled n = heightsPut (s .width) (s .rows) (s .column) n (heightAt run) x
+
+  abbrev moved : ℕ → Writer
+  moved n = atColumn s (s .column + n)
+
+  filled-more : (n : ℕ) → heightPut fiveThree (getD run n 0) (moved n) (filled n) ≡ filled (suc n)
+  unfolding heightsPut
+  filled-more n = refl
+
+  moved-more : (n : ℕ) → begun (moved n) ≡ moved (suc n)
+  moved-more n = ap (atColumn s) (omega arith)
+
+  inside : (n : ℕ) → n ≤ length run → s .column + n < s .width → offering fiveThree run s x ≡ plus n (offering fiveThree (drop n run) (moved n) (filled n))
+  unfolding heightsPut
+  inside zero a b = let k : s .column + 0 ≡ s .column = omega arith in rw k (plus-none (offering fiveThree run s x))
+  inside (suc n) a b =
+      inside n (omega arith) (omega arith)
+      ∙ ap (λ (l : List ℕ). plus n (offering fiveThree l (moved n) (filled n))) (drop-cons run n 0 (omega arith))
+      ∙ ap (plus n) (one-inside (getD run n 0) (drop (suc n) run) (moved n) (filled n) (takes-at s _ ∙ t) (omega arith))
+      ∙ plus-more n _
+      ∙ cc (filled-more n, moved-more n)
+
+  whole : (n : ℕ) → 0 < n → n ≤ length run → s .column + n ≡ s .width →
+      offering fiveThree run s x ≡ plus n (offering fiveThree (drop n run) (complete s (arrive fiveThree (s .levels) (s .width) (s .rows) (filled n))) (arrive fiveThree (s .levels) (s .width) (s .rows) (filled n) .store))
+  whole zero g a b = absurd (omega arith)
+  whole (suc n) g a b =
+      inside n (omega arith) (omega arith)
+      ∙ ap (λ (l : List ℕ). plus n (offering fiveThree l (moved n) (filled n))) (drop-cons run n 0 (omega arith))
+      ∙ ap (plus n) (one-whole (getD run n 0) (drop (suc n) run) (moved n) (filled n) (takes-at s _ ∙ t) (omega arith))
+      ∙ plus-more n _
+      ∙ ap (λ (y : Memory). plus (suc n) (offering fiveThree (drop (suc n) run) (complete s (arrive fiveThree (s .levels) (s .width) (s .rows) y)) (arrive fiveThree (s .levels) (s .width) (s .rows) y .store))) (filled-more n)
+
+-- ---- how far an offer of `run` to s₀ has gone: k heights taken, and the writer and the store then
+abbrev pub Gone : List ℕ → Writer → Memory → ℕ → Writer → Memory → Type 0
+Gone run s₀ x₀ k s x = offering fiveThree run s₀ x₀ ≡ plus k (offering fiveThree (drop k run) s x)
+
+module _ (run : List ℕ) (s₀ : Writer) (x₀ : Memory) (k : ℕ) (s : Writer) (x : Memory) (g : Gone run s₀ x₀ k s x) where
+  from : heightAt (drop k run) ≡ (λ j. heightAt run (k + j))
+  from = fun-ext λ j. ap pos (getD-drop k run j 0)
+
+  left-over : (n : ℕ) → k + n ≤ length run → n ≤ length (drop k run)
+  left-over n h = simp length-drop (omega arith)
+
+  -- a stretch goes n heights on
+  pub gone-on : (n l : ℕ) (r : Writer) (y : Memory) → takes s ≡ true → 0 < n → k + n ≤ length run → s .column + n ≤ s .width → Stretched s run k n x r y l → Gone run s₀ x₀ (k + n) r y
+  gone-on n l r y t h a b f =
+      elim (decLt (s .column + n) (s .width)) [
+        | yes d ↦
+            let q = f .inside d in
+            g
+            ∙ ap (plus k) (inside (drop k run) s x t n (left-over n a) d)
+            ∙ plus-plus k n _
+            ∙ cc (drop-drop n k run, from, q .0, q .1)
+        | no d ↦
+            let q = f .whole (omega (arith, d)) in
+            g
+            ∙ ap (plus k) (whole (drop k run) s x t n h (left-over n a) (omega (arith, d)))
+            ∙ plus-plus k n _
+            ∙ cc (drop-drop n k run, from, q .0, q .1)
+      ]
+
+  -- the end: the next stretch has no height
+  pub gone-all : (n : ℕ) → n ≡ nextCount s (length run - k) → n ≡ 0 → s .column < s .width → k ≤ length run → offering fiveThree run s₀ x₀ ≡ record { taken = k; writer = s; store = x }
+  unfolding nextCount
+  gone-all n e z h a = g ∙ ap (plus k) (go (takes s) refl) ∙ ap (λ (i : ℕ). record { taken = i; writer = s; store = x }) (omega arith)
+    where
+      go : (b : Bool) → takes s ≡ b → offering fiveThree (drop k run) s x ≡ none s x
+      go false q = offer-end (drop k run) s x q
+      go true q =
+          let f : n ≡ min (s .width - s .column) (length run - k) = e ∙ simp q in
+          let i : k ≡ length run = omega arith in
+          ap (λ (j : ℕ). offering fiveThree (drop j run) s x) i ∙ ap (λ (l : List ℕ). offering fiveThree l s x) (drop-length run) ∙ offer-used s x
+
+-- ---- before each turn of an offer's loop: m is the store, and m₀ the store at the start
+pub record Offering (run : List ℕ) (s₀ : Writer) (m₀ m : List ℤ) (s : Writer) (k n : ℕ) : Type 0 where
+  pub gone : Gone run s₀ (at m₀) k s (at m)
+  pub taker : Taker s (length m₀)
+  pub size : length m ≡ length m₀
+  pub within : k ≤ length run
+  pub next : n ≡ nextCount s (length run - k)
+
+pub offer-start : (run : List ℕ) (s : Writer) (m : List ℤ) (n : ℕ) → Taker s (length m) → n ≡ nextCount s (length run) → Offering run s m m s 0 n
+offer-start run s m n t e =
+    let k : length run - 0 ≡ length run = omega arith in
+    record { gone = plus-none _; taker = t; size = refl; within = omega arith; next = rw k e }
+
+pub offer-turn : (run : List ℕ) (s₀ : Writer) (m₀ m : List ℤ) (s : Writer) (k n : ℕ) (r : Writer) (m′ : List ℤ) (n′ : ℕ) → Offering run s₀ m₀ m s k n → 0 < n → Stretched s run k n (at m) r (at m′) (length m) → length m′ ≡ length m →
+    n′ ≡ nextCount r (length run - (k + n)) → Offering run s₀ m₀ m′ r (k + n) n′
+offer-turn run s₀ m₀ m s k n r m′ n′ o h f z e =
+    let q = next-is s (length run - k) n (o .next) h (o .taker .column) in
+    record {
+      gone = gone-on run s₀ (at m₀) k s (at m) (o .gone) n (length m) r (at m′) (q .takes) h (omega (arith, q .run, o .within)) (q .row) f;
+      taker = rw (o .size) at (f .taker);
+      size = z ∙ o .size;
+      within = omega (arith, q .run, o .within);
+      next = e;
+    }
+
+-- what `stretch` requires
+pub record Ready (s : Writer) (m : List ℤ) (run : List ℕ) (k n : ℕ) : Type 0 where
+  pub taker : Taker s (length m)
+  pub rows : s .rows < 65535
+  pub row : s .column + n ≤ s .width
+  pub heights : k + n ≤ length run
+
+pub offer-ready : (run : List ℕ) (s₀ : Writer) (m₀ m : List ℤ) (s : Writer) (k n : ℕ) → Offering run s₀ m₀ m s k n → 0 < n → Ready s m run k n
+offer-ready run s₀ m₀ m s k n o h =
+    let q = next-is s (length run - k) n (o .next) h (o .taker .column) in
+    record { taker = rw (o .size) (o .taker); rows = takes-rows s (q .takes); row = q .row; heights = omega (arith, q .run, o .within) }
+
+-- ---- the call
+module _ (s : Writer) (l q : ℕ) (run : List ℕ) (x : Memory) (e : q ≡ offerQuestion s l (length run)) where
+  pub offer-no : 0 < q → (refused q ≡ offerReply s l run x) × (x ≡ offerStore s l run x)
+  unfolding offerReply offerStore
+  offer-no h = rw (← e) (unless-no q _ h, changed-no q _ x h)
+
+  pub offer-yes : (k : ℕ) (r : Writer) (y : Memory) → q ≡ 0 → offering fiveThree run s x ≡ record { taken = k; writer = r; store = y } → (gives (record { taken = k; writer = r }) ≡ offerReply s l run x) × (y ≡ offerStore s l run x)
+  unfolding offerReply offerStore
+  offer-yes k r y z f = rw (← e, f) (unless-yes q _ z, changed-yes q _ x z)
+
+pub sound-taker : (s : Writer) (l : ℕ) → Sound s l → Taker s l
+sound-taker s l f =
+    record { room = record { room = f .room; wide = omega (arith, f .width); rows = omega (arith, f .rows); deep = omega (arith, f .levels) }; column = f .column; deep = omega (arith, f .levels) }
+
+-- ---- what a stretch leaves
+module _ (s : Writer) (run : List ℕ) (k n : ℕ) (x y : Memory) (l : ℕ) (t : Taker s l) (e : y ≡ heightsPut (s .width) (s .rows) (s .column) n (λ j. heightAt run (k + j)) x) where
+  pub stretched-inside : s .column + n < s .width → Stretched s run k n x (atColumn s (s .column + n)) y l
+  stretched-inside h = record { inside = λ g. (refl, e); whole = λ g. absurd (omega arith); taker = record { room = t .room; column = h; deep = t .deep } }
+
+  pub stretched-whole : (o : Wait) (z : Memory) → s .column + n ≡ s .width → s .rows < 65535 → Left (s .levels) (arrive fiveThree (s .levels) (s .width) (s .rows) y) o z →
+      Stretched s run k n x (record { width = s .width; levels = s .levels; rows = s .rows + 1; column = 0; finished = s .finished; closed = s .closed; level = o .level; left = o .left }) z l
+  stretched-whole o z h b f =
+      let g = rw e at f in
+      record {
+        inside = λ d. absurd (omega arith);
+        whole = λ d. (rw (g .level, g .left) refl, g .store);
+        taker = record { room = record { room = t .room .room; wide = t .room .wide; rows = omega arith; deep = t .room .deep }; column = omega arith; deep = t .deep };
+      }

@@ -1,0 +1,411 @@
+-- Every list of calls keeps `At` (CallList): `Reached`, with what each call then answers, by the history.
+-- Assumes nothing.
+use mathlib.Core.Bool.{Bool, true, false, not}
+use mathlib.Core.Path.{_≡_, refl, sym, ap, subst, subst₂, _∙_}
+use mathlib.Core.List.{List, [], _∷_, _++_, append-nil, append-assoc}
+use Prim.Native.Nat.{ℕ, zero, suc, _+_, _-_, _≤_, _<_}
+use native.Mathlib.Omega.{arith}
+use lib.IntN.{ℤ}
+use lib.ListN.{length, take, drop}
+use lib.Dec.{leb, ltb, eqb}
+use borrow.Author.Tests.{le-leb, lt-ltb, le-ltb, ne-eqb, eqb-true, ltb-true}
+use Rattle.numbers.specs.Signal.{pick, both}
+use Rattle.numbers.proofs.Sweep.{both as split-both}
+use Rattle.lifting.specs.Halves.{fronted}
+use Rattle.wavelet.specs.Limits.{maxWidth, maxHeight, maxLevels}
+use Rattle.wavelet.specs.Levels.{size}
+use Rattle.wavelet.specs.View.{bandColumns}
+use Rattle.wavelet.specs.Questions.{ask, within}
+use Rattle.wavelet.specs.Store.{storeLength}
+use Rattle.wavelet.specs.Order.{RowName, made}
+use Rattle.writer.specs.declared.Writer.{Writer}
+use Rattle.writer.specs.Level.{Memory}
+use Rattle.writer.specs.FiveThreeLevel.{fiveThree}
+use Rattle.writer.specs.Machine.{Out, rest}
+use Rattle.writer.specs.Draws.{Waiting, waiting, pull}
+use Rattle.writer.specs.Closing.{Shut, shut}
+use Rattle.writer.specs.Taking.{Taking, takes, offering}
+use Rattle.writer.specs.Questions.{either, inRanges, longEnough, offerQuestion, drawQuestion, finishQuestion}
+use Rattle.writer.specs.Answers.{Reply, gives, refused, unless}
+use Rattle.writer.specs.Calls.{fresh, offerReply, offerStore, waits, closing as closingOf, finishReply, finishStore, resumed, bandRow, drawReply, drawStore, drawArea}
+use Rattle.writer.specs.Holds.{left}
+use Rattle.writer.specs.History.{Area, Call, offer, draw, finish, row, none, Event, offered, drew, finished, World, seen, event, next, events, final, takenBy, taken, finishes, finishedBy, drawnBy, drawn}
+use Rattle.writer.specs.Demand3.{wholeRows, madeOf, waitingOf, answered, isNone, drawSays, written, takesOn, offerTurned, Takes, finishTurned}
+use Rattle.writer.proofs.StateHolds.{st}
+use Rattle.writer.proofs.CallList.{coming, At, whole-rows, begun-row, in-ranges, waiting-is, none-waits, none-eqb, Offered, offering-good, head-is, draw-good, finish-good, fresh-at}
+
+-- ---- histories
+pub taken-snoc : (es : List Event) (e : Event) → taken (es ++ e ∷ []) ≡ taken es ++ takenBy e
+unfolding taken
+taken-snoc [] e = append-nil (takenBy e)
+taken-snoc (d ∷ es) e = ap (λ l. takenBy d ++ l) (taken-snoc es e) ∙ sym (append-assoc (takenBy d) (taken es) (takenBy e))
+
+pub drawn-snoc : (es : List Event) (e : Event) → drawn (es ++ e ∷ []) ≡ drawn es ++ drawnBy e
+unfolding drawn
+drawn-snoc [] e = append-nil (drawnBy e)
+drawn-snoc (d ∷ es) e = ap (λ l. drawnBy d ++ l) (drawn-snoc es e) ∙ sym (append-assoc (drawnBy d) (drawn es) (drawnBy e))
+
+either-false : (t : Bool) → either t false ≡ t
+either-false true = refl
+either-false false = refl
+
+pub finished-snoc : (es : List Event) (e : Event) → finishedBy (es ++ e ∷ []) ≡ either (finishedBy es) (finishes e)
+unfolding finishedBy
+finished-snoc [] e = either-false (finishes e)
+finished-snoc (d ∷ es) e = ap (either (finishes d)) (finished-snoc es e) ∙ go (finishes d)
+  where
+    go : (t : Bool) → either t (either (finishedBy es) (finishes e)) ≡ either (either t (finishedBy es)) (finishes e)
+    go true = refl
+    go false = refl
+
+-- where it may take, an offer of one height or more takes one
+takes-one : (run : List ℕ) (s : Writer) (x : Memory) → takes s ≡ true → 0 < length run → 0 < offering fiveThree run s x .taken
+unfolding offering
+takes-one [] s x e p = absurd (omega arith)
+takes-one (h ∷ run) s x e p = rw e (omega arith)
+
+module _ (l W : ℕ) (wide : within 1 maxWidth W ≡ true) (deep : within 1 maxLevels (suc l) ≡ true) where
+  abbrev L : ℕ
+  L = suc l
+
+  abbrev State : List Event → (r c cl v i : ℕ) → Memory → Type 0
+  State es r c cl v i x = At L W (taken es) (finishedBy es) (drawn es) r c cl v i x
+
+  -- ---- what every list of calls reaches
+  pub record Reached (es : List Event) (w : World) : Type 0 where
+    pub long : storeLength W L ≤ w .length
+    pub rows : ℕ
+    pub column : ℕ
+    pub closed : ℕ
+    pub level : ℕ
+    pub rest : ℕ
+    pub writer-is : w .writer ≡ st W L rows column (finishedBy es) closed level rest
+    pub at : State es rows column closed level rest (w .store)
+
+  abbrev world : Writer → ℕ → Memory → World
+  world s n x = record { writer = s; length = n; store = x }
+
+  -- one event more
+  more : (es : List Event) (e : Event) (f : Bool) (n r c cl v i : ℕ) (x : Memory) → storeLength W L ≤ n → either (finishedBy es) (finishes e) ≡ f → At L W (taken es ++ takenBy e) f (drawn es ++ drawnBy e) r c cl v i x → Reached (es ++ e ∷ []) (world (st W L r c f cl v i) n x)
+  more es e f n r c cl v i x long z a =
+      let g : f ≡ finishedBy (es ++ e ∷ []) = sym (finished-snoc es e ∙ z) in
+      record {
+        long = long;
+        rows = r;
+        column = c;
+        closed = cl;
+        level = v;
+        rest = i;
+        writer-is = ap (λ b. st W L r c b cl v i) g;
+        at =
+            subst₂ (λ t d. At L W t (finishedBy (es ++ e ∷ [])) d r c cl v i x) (sym (taken-snoc es e)) (sym (drawn-snoc es e))
+            (subst (λ b. At L W (taken es ++ takenBy e) b (drawn es ++ drawnBy e) r c cl v i x) g a);
+      }
+
+  module _ (es : List Event) (n r c cl v i : ℕ) (x : Memory) (long : storeLength W L ≤ n) (a : State es r c cl v i x) where
+    abbrev f : Bool
+    f = finishedBy es
+
+    abbrev s : Writer
+    s = st W L r c f cl v i
+
+    abbrev w : World
+    w = world s n x
+
+    ranges : inRanges s ≡ true
+    ranges = in-ranges a wide deep
+
+    enough : longEnough n s ≡ true
+    unfolding longEnough
+    enough = le-leb (storeLength W L) n long
+
+    -- a call that changes nothing
+    unchanged : (e : Event) → takenBy e ≡ [] → finishes e ≡ false → drawnBy e ≡ [] → Reached (es ++ e ∷ []) w
+    unchanged e p q d =
+        more es e f n r c cl v i x long (ap (either f) q ∙ either-false f)
+        (subst₂ (λ t b. At L W t f b r c cl v i x) (sym (ap (λ b. taken es ++ b) p ∙ append-nil _)) (sym (ap (λ b. drawn es ++ b) d ∙ append-nil _)) a)
+
+    -- ---- by the history
+    pub rows-are : wholeRows W es ≡ r
+    unfolding wholeRows
+    rows-are = whole-rows a
+
+    pub waiting-coming : waitingOf W L es ≡ coming L W f cl v i r
+    unfolding waitingOf madeOf
+    waiting-coming = ap (λ m. drop (length (drawn es)) (made W L m f)) rows-are ∙ waiting-is a
+
+    pub none-is : isNone (waitingOf W L es) ≡ eqb v 0
+    none-is = ap isNone waiting-coming ∙ none-eqb l W (drawn es) (taken es) f r c cl v i x a
+
+    -- ---- an offer
+    offer-question : (k : ℕ) → offerQuestion s n k ≡ offerTurned W L es k
+    unfolding offerQuestion offerTurned
+    offer-question k = simp (ranges, enough, none-is, rows-are)
+
+    module _ (run : List ℕ) where
+      abbrev t : Taking
+      t = offering fiveThree run s x
+
+      offer-refused : (q : ℕ) → offerQuestion s n (length run) ≡ suc q → (event (offer run) w ≡ offered run (refused (suc q))) × (next (offer run) w ≡ w)
+      unfolding event next offerReply offerStore
+      offer-refused q e = (rw e refl, rw e refl)
+
+      offer-passed : offerQuestion s n (length run) ≡ 0 → (event (offer run) w ≡ offered run (gives (t .taken))) × (next (offer run) w ≡ world (t .writer) n (t .store))
+      unfolding event next offerReply offerStore
+      offer-passed e = (rw e refl, rw e refl)
+
+      -- it passed: not finished
+      not-finished : offerQuestion s n (length run) ≡ 0 → f ≡ false
+      unfolding offerQuestion
+      not-finished e = go f (sym (simp (ranges, enough) refl) ∙ e)
+        where
+          go : (b : Bool) → ask (not b) 9 (ask (eqb v 0) 8 (ask (either (eqb (length run) 0) (ltb r maxHeight)) 10 0)) ≡ 0 → b ≡ false
+          go true z = absurd (omega arith)
+          go false z = refl
+
+      -- and of one height or more it takes one
+      offer-open : offerQuestion s n (length run) ≡ 0 → 0 < length run → takes (st W L r c false cl v i) ≡ true
+      unfolding offerQuestion takes
+      offer-open e p = go (not f) (eqb v 0) (ltb r maxHeight) (sym (simp (ranges, enough, ne-eqb (length run) 0 (λ z. omega arith)) refl) ∙ e)
+        where
+          go : (b d t : Bool) → ask b 9 (ask d 8 (ask t 10 0)) ≡ 0 → both d t ≡ true
+          go false d t z = absurd (omega arith)
+          go true false t z = absurd (omega arith)
+          go true true false z = absurd (omega arith)
+          go true true true z = refl
+
+      abbrev T : Bool → Taking
+      T b = offering fiveThree run (st W L r c b cl v i) x
+
+      taking : f ≡ false → Offered l W (drawn es) run (taken es) (T false)
+      taking z = offering-good l W (drawn es) run (taken es) r c cl v i x (subst (λ b. At L W (taken es) b (drawn es) r c cl v i x) z a)
+
+      offer-went : f ≡ false → Reached (es ++ offered run (gives (t .taken)) ∷ []) (world (t .writer) n (t .store))
+      offer-went z =
+          subst (λ b. Reached (es ++ offered run (gives (T b .taken)) ∷ []) (world (T b .writer) n (T b .store))) (sym z)
+          (let o = taking z in
+          subst (λ k. Reached (es ++ offered run (gives (T false .taken)) ∷ []) (world k n (T false .store))) (sym (o .writer-is))
+          (more es (offered run (gives (T false .taken))) false n (o .rows) (o .column) (o .closed) (o .level) (o .left) (T false .store) long (either-false f ∙ z)
+          (subst (λ b. At L W (taken es ++ take (T false .taken) run) false b (o .rows) (o .column) (o .closed) (o .level) (o .left) (T false .store)) (sym (append-nil (drawn es))) (o .at))))
+
+      pub offer-reached : (b : ℕ) → offerQuestion s n (length run) ≡ b → Reached (es ++ event (offer run) w ∷ []) (next (offer run) w)
+      offer-reached zero e =
+          let p = offer-passed e in
+          subst₂ (λ d k. Reached (es ++ d ∷ []) k) (sym (p .0)) (sym (p .1)) (offer-went (not-finished e))
+      offer-reached (suc q) e =
+          let p = offer-refused q e in
+          subst₂ (λ d k. Reached (es ++ d ∷ []) k) (sym (p .0)) (sym (p .1)) (unchanged (offered run (refused (suc q))) refl refl refl)
+
+      pub offer-turned : (q : ℕ) → offerTurned W L es (length run) ≡ suc q → event (offer run) w ≡ offered run (refused (suc q))
+      offer-turned q e = offer-refused q (offer-question (length run) ∙ e) .0
+
+      pub offer-takes : offerTurned W L es (length run) ≡ 0 → (k : ℕ) × (event (offer run) w ≡ offered run (gives k)) × Takes W L es (length run) k
+      unfolding takesOn
+      offer-takes e =
+          let q = offer-question (length run) ∙ e in
+          let z = not-finished q in
+          let o = taking z in
+          (T false .taken, offer-passed q .0 ∙ ap (λ b. offered run (gives (T b .taken))) z, record { most = o .most; some = λ p. takes-one run (st W L r c false cl v i) x (offer-open q p) p; until = o .until; stop = o .stop })
+
+    -- ---- a finish
+    finish-question : finishQuestion s n ≡ finishTurned W L es
+    unfolding finishQuestion finishTurned
+    finish-question = simp (ranges, enough, none-is, rows-are, begun-row a)
+
+    pub finish-answer : event finish w ≡ finished (unless (finishTurned W L es) tt)
+    unfolding event finishReply
+    finish-answer = ap finished (go (finishQuestion s n) ∙ ap (λ b. unless b tt) finish-question)
+      where
+        go : (b : ℕ) → _≡_ {A = Reply (Unit {0})} (seen (λ _. tt) (unless b (waits true s (closingOf s x)))) (unless b tt)
+        go zero = refl
+        go (suc b) = refl
+
+    -- it passed
+    finish-may : finishQuestion s n ≡ 0 → (f ≡ false) × (v ≡ 0) × (0 < r) × (c ≡ 0)
+    unfolding finishQuestion
+    finish-may e = go f (eqb v 0) refl (both (ltb 0 r) (eqb c 0)) refl (sym (simp (ranges, enough) refl) ∙ e)
+      where
+        go : (b d : Bool) → eqb v 0 ≡ d → (g : Bool) → both (ltb 0 r) (eqb c 0) ≡ g → ask (not b) 9 (ask d 8 (ask g 11 0)) ≡ 0 → (b ≡ false) × (v ≡ 0) × (0 < r) × (c ≡ 0)
+        go true d p g q z = absurd (omega arith)
+        go false false p g q z = absurd (omega arith)
+        go false true p false q z = absurd (omega arith)
+        go false true p true q z = let h = split-both (ltb 0 r) (eqb c 0) q in (refl, eqb-true v 0 p, ltb-true 0 r (h .0), eqb-true c 0 (h .1))
+
+    abbrev k : Shut
+    k = shut fiveThree L W 0 r x
+
+    finish-passed : finishQuestion s n ≡ 0 → (event finish w ≡ finished (gives tt)) × (next finish w ≡ world (st W L r c true (k .closed) (k .out .level) (k .out .left)) n (k .out .store))
+    unfolding event next finishReply finishStore
+    finish-passed e = (rw e refl, rw e refl)
+
+    finish-refused : (q : ℕ) → finishQuestion s n ≡ suc q → (event finish w ≡ finished (refused (suc q))) × (next finish w ≡ w)
+    unfolding event next finishReply finishStore
+    finish-refused q e = (rw e refl, rw e refl)
+
+    pub finish-reached : (b : ℕ) → finishQuestion s n ≡ b → Reached (es ++ event finish w ∷ []) (next finish w)
+    finish-reached zero e =
+        let p = finish-passed e in
+        let m = finish-may e in
+        subst₂ (λ d g. Reached (es ++ d ∷ []) g) (sym (p .0)) (sym (p .1))
+        (more es (finished (gives tt)) true n r c (k .closed) (k .out .level) (k .out .left) (k .out .store) long (done f)
+        (subst₂ (λ d g. At L W d true g r c (k .closed) (k .out .level) (k .out .left) (k .out .store)) (sym (append-nil _)) (sym (append-nil _))
+        (finish-good l W (drawn es) (taken es) r c cl v i x (subst (λ b. At L W (taken es) b (drawn es) r c cl v i x) (m .0) a) (m .1) (m .2) (m .3))))
+      where
+        done : (b : Bool) → either b true ≡ true
+        done true = refl
+        done false = refl
+    finish-reached (suc q) e =
+        let p = finish-refused q e in
+        subst₂ (λ d g. Reached (es ++ d ∷ []) g) (sym (p .0)) (sym (p .1)) (unchanged (finished (refused (suc q))) refl refl refl)
+
+  -- ---- a draw
+  abbrev same : Area → Area
+  same b = record { size = b .size; numbers = b .numbers }
+
+  -- what a draw is to say and leave, of the rows that wait
+  pub record Draws (es : List Event) (e : Event) (b : Area) : Type 0 where
+    pub area : Area
+    pub says : e ≡ drew b (drawSays W (waitingOf W L es) (b .size)) area
+    pub size-is : area .size ≡ b .size
+    pub surplus : (j : ℕ) → written (drawSays W (waitingOf W L es) (b .size)) ≤ j → area .numbers j ≡ b .numbers j
+
+  -- nothing waits
+  module _ (es : List Event) (n r c cl i : ℕ) (x : Memory) (long : storeLength W L ≤ n) (a : State es r c cl 0 i x) (b : Area) where
+    abbrev s₀ : Writer
+    s₀ = st W L r c (finishedBy es) cl 0 i
+
+    question-none : drawQuestion s₀ n (b .size) ≡ 0
+    unfolding drawQuestion
+    question-none = simp (ranges es n r c cl 0 i x long a, enough es n r c cl 0 i x long a)
+
+    draw-none : (event (draw b) (world s₀ n x) ≡ drew b (gives none) (same b)) × (next (draw b) (world s₀ n x) ≡ world s₀ n x)
+    unfolding event next drawReply drawStore drawArea
+    draw-none = (rw question-none refl, rw question-none refl)
+
+    none-reached : Reached (es ++ event (draw b) (world s₀ n x) ∷ []) (next (draw b) (world s₀ n x))
+    none-reached =
+        subst₂ (λ d k. Reached (es ++ d ∷ []) k) (sym (draw-none .0)) (sym (draw-none .1))
+        (unchanged es n r c cl 0 i x long a (drew b (gives none) (same b)) refl refl refl)
+
+    none-says : Draws es (event (draw b) (world s₀ n x)) b
+    none-says =
+        let e : waitingOf W L es ≡ [] = waiting-coming es n r c cl 0 i x long a ∙ none-waits a refl in
+        record { area = same b; says = draw-none .0 ∙ ap (λ l. drew b (drawSays W l (b .size)) (same b)) (sym e); size-is = refl; surplus = λ j p. refl }
+
+  -- a row waits
+  module _ (es : List Event) (n r c cl u i : ℕ) (x : Memory) (long : storeLength W L ≤ n) (a : State es r c cl (suc u) i x) (b : Area) where
+    abbrev f₁ : Bool
+    f₁ = finishedBy es
+
+    abbrev s₁ : Writer
+    s₁ = st W L r c f₁ cl (suc u) i
+
+    abbrev q : Waiting
+    q = waiting fiveThree L W cl (suc u) i r
+
+    abbrev o : Out
+    o = pull fiveThree L W cl (suc u) i r x
+
+    abbrev R : Shut
+    R = resumed f₁ s₁ o (o .level)
+
+    -- the output area afterwards
+    abbrev z : ℕ → ℤ
+    z = fronted (q .length) (rest (q .start) x) (b .numbers)
+
+    question-some : drawQuestion s₁ n (b .size) ≡ ask (leb (q .length) (b .size)) 12 0
+    unfolding drawQuestion
+    question-some = simp (ranges es n r c cl (suc u) i x long a, enough es n r c cl (suc u) i x long a, ne-eqb (suc u) 0 (λ e. omega arith))
+
+    draw-short : leb (q .length) (b .size) ≡ false → (event (draw b) (world s₁ n x) ≡ drew b (refused 12) (same b)) × (next (draw b) (world s₁ n x) ≡ world s₁ n x)
+    unfolding event next drawReply drawStore drawArea
+    draw-short e = let p : drawQuestion s₁ n (b .size) ≡ 12 = question-some ∙ ap (λ t. ask t 12 0) e in (rw p refl, rw p refl)
+
+    draw-row : leb (q .length) (b .size) ≡ true → (event (draw b) (world s₁ n x) ≡ drew b (gives (row (bandRow q))) (record { size = b .size; numbers = z })) × (next (draw b) (world s₁ n x) ≡ world (st W L r c f₁ (R .closed) (R .out .level) (R .out .left)) n (R .out .store))
+    unfolding event next drawReply drawStore drawArea
+    draw-row e = let p : drawQuestion s₁ n (b .size) ≡ 0 = question-some ∙ ap (λ t. ask t 12 0) e in (rw p refl, rw p refl)
+
+    values-are : (j : ℕ) → j < q .length → z j ≡ x (q .start + j)
+    unfolding fronted rest
+    values-are j p = simp (lt-ltb j (q .length) p)
+
+    surplus-is : (j : ℕ) → q .length ≤ j → z j ≡ b .numbers j
+    unfolding fronted
+    surplus-is j p = simp (le-ltb j (q .length) p)
+
+    some-reached : (t : Bool) → leb (q .length) (b .size) ≡ t → Reached (es ++ event (draw b) (world s₁ n x) ∷ []) (next (draw b) (world s₁ n x))
+    some-reached false e =
+        let p = draw-short e in
+        subst₂ (λ d k. Reached (es ++ d ∷ []) k) (sym (p .0)) (sym (p .1))
+        (unchanged es n r c cl (suc u) i x long a (drew b (refused 12) (same b)) refl refl refl)
+    some-reached true e =
+        let p = draw-row e in
+        let d = drew b (gives (row (bandRow q))) (record { size = b .size; numbers = z }) in
+        subst₂ (λ d k. Reached (es ++ d ∷ []) k) (sym (p .0)) (sym (p .1))
+        (more es d f₁ n r c (R .closed) (R .out .level) (R .out .left) (R .out .store) long (either-false f₁)
+        (subst (λ t. At L W t f₁ (drawn es ++ drawnBy d) r c (R .closed) (R .out .level) (R .out .left) (R .out .store)) (sym (append-nil (taken es)))
+        (draw-good l W (drawn es) (taken es) f₁ r c cl u i x a z values-are)))
+
+    some-says : (t : Bool) → leb (q .length) (b .size) ≡ t → Draws es (event (draw b) (world s₁ n x)) b
+    some-says t e = go t e
+      where
+        h : (m : RowName) × (k : List RowName) × (coming L W f₁ cl (suc u) i r ≡ m ∷ k) × (bandRow q ≡ answered W m)
+        h = head-is l W (drawn es) (taken es) f₁ r c cl u i x a
+
+        m : RowName
+        m = h .0
+
+        long-is : q .length ≡ bandColumns W (m .level) (m .band)
+        long-is = ap (λ y. y .length) (h .3)
+
+        says-is : drawSays W (waitingOf W L es) (b .size) ≡ pick (leb (q .length) (b .size)) (gives (row (answered W m))) (refused 12)
+        says-is =
+            ap (λ y. drawSays W y (b .size)) (waiting-coming es n r c cl (suc u) i x long a ∙ h .2)
+            ∙ ap (λ y. pick (leb y (b .size)) (gives (row (answered W m))) (refused 12)) (sym long-is)
+
+        go : (t : Bool) → leb (q .length) (b .size) ≡ t → Draws es (event (draw b) (world s₁ n x)) b
+        go false e =
+            record {
+              area = same b;
+              says = draw-short e .0 ∙ ap (λ y. drew b y (same b)) (sym (says-is ∙ ap (λ y. pick y (gives (row (answered W m))) (refused 12)) e));
+              size-is = refl;
+              surplus = λ j p. refl;
+            }
+        go true e =
+            let y : drawSays W (waitingOf W L es) (b .size) ≡ gives (row (answered W m)) = says-is ∙ ap (λ y. pick y (gives (row (answered W m))) (refused 12)) e in
+            record {
+              area = record { size = b .size; numbers = z };
+              says = draw-row e .0 ∙ ap (λ k. drew b k (record { size = b .size; numbers = z })) (ap (λ k. gives (row k)) (h .3) ∙ sym y);
+              size-is = refl;
+              surplus = λ j p. surplus-is j (subst (λ k. k ≤ j) (ap written y ∙ sym long-is) p);
+            }
+
+  draw-reached : (es : List Event) (n r c cl v i : ℕ) (x : Memory) → storeLength W L ≤ n → State es r c cl v i x → (b : Area) → Reached (es ++ event (draw b) (world (st W L r c (finishedBy es) cl v i) n x) ∷ []) (next (draw b) (world (st W L r c (finishedBy es) cl v i) n x))
+  draw-reached es n r c cl zero i x long a b = none-reached es n r c cl i x long a b
+  draw-reached es n r c cl (suc u) i x long a b = some-reached es n r c cl u i x long a b _ refl
+
+  pub draw-says : (es : List Event) (n r c cl v i : ℕ) (x : Memory) → storeLength W L ≤ n → State es r c cl v i x → (b : Area) → Draws es (event (draw b) (world (st W L r c (finishedBy es) cl v i) n x)) b
+  draw-says es n r c cl zero i x long a b = none-says es n r c cl i x long a b
+  draw-says es n r c cl (suc u) i x long a b = some-says es n r c cl u i x long a b _ refl
+
+  -- ---- every call, and every list of calls
+  call-reached : (k : Call) (es : List Event) (n r c cl v i : ℕ) (x : Memory) → storeLength W L ≤ n → State es r c cl v i x → Reached (es ++ event k (world (st W L r c (finishedBy es) cl v i) n x) ∷ []) (next k (world (st W L r c (finishedBy es) cl v i) n x))
+  call-reached (offer run) es n r c cl v i x long a = offer-reached es n r c cl v i x long a run _ refl
+  call-reached (draw b) es n r c cl v i x long a = draw-reached es n r c cl v i x long a b
+  call-reached finish es n r c cl v i x long a = finish-reached es n r c cl v i x long a _ refl
+
+  pub step-reached : (k : Call) (es : List Event) (w : World) → Reached es w → Reached (es ++ event k w ∷ []) (next k w)
+  step-reached k es w m =
+      subst (λ s. Reached (es ++ event k (world s (w .length) (w .store)) ∷ []) (next k (world s (w .length) (w .store)))) (sym (m .writer-is))
+      (call-reached k es (w .length) (m .rows) (m .column) (m .closed) (m .level) (m .rest) (w .store) (m .long) (m .at))
+
+  pub list-reached : (cs : List Call) (es : List Event) (w : World) → Reached es w → Reached (es ++ events cs w) (final cs w)
+  unfolding events final
+  list-reached [] es w m = subst (λ l. Reached l w) (sym (append-nil es)) m
+  list-reached (k ∷ cs) es w m =
+      subst (λ l. Reached l (final cs (next k w))) (append-assoc es (event k w ∷ []) (events cs (next k w)))
+      (list-reached cs (es ++ event k w ∷ []) (next k w) (step-reached k es w m))
+
+  pub fresh-reached : (n : ℕ) (x : Memory) → 0 < W → storeLength W L ≤ n → Reached [] (world (fresh W L) n x)
+  unfolding taken finishedBy drawn
+  fresh-reached n x p long = record { long = long; rows = 0; column = 0; closed = 0; level = 0; rest = 0; writer-is = refl; at = fresh-at L W x p }

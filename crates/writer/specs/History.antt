@@ -1,0 +1,116 @@
+-- Lists of calls on a writer and what is seen of them: document 01, "The lists of demand 3". "The words below go by the calls' arguments and answers, by nothing in the state."
+use mathlib.Core.Bool.{Bool, true, false}
+use mathlib.Core.List.{List, [], _∷_, _++_}
+use Prim.Native.Nat.{ℕ}
+use lib.IntN.{ℤ}
+use lib.ListN.{take}
+use Rattle.writer.specs.declared.Writer.{Writer}
+use Rattle.writer.specs.declared.BandRow.{BandRow}
+use Rattle.writer.specs.Level.{Memory}
+use Rattle.writer.specs.Questions.{either}
+use Rattle.writer.specs.Answers.{Reply, gives, refused, Handed, aRow, nothing}
+use Rattle.writer.specs.Holds.{left, after}
+use Rattle.writer.specs.Calls.{fresh, setUpStore, offerReply, offerStore, drawReply, drawStore, drawArea, finishReply, finishStore}
+
+-- ---- calls, and what is seen of them
+-- an area that is lent: its length and its numbers
+pub record Area : Type 0 where
+  pub size : ℕ
+  pub numbers : ℕ → ℤ
+
+-- a call with its arguments
+pub data Call : Type 0 where
+  offer : List ℕ → Call
+  draw : Area → Call
+  finish : Call
+
+-- what a draw gives
+pub data Given : Type 0 where
+  row : BandRow → Given
+  none : Given
+
+-- a call's arguments, its answer, and after a draw the output area
+pub data Event : Type 0 where
+  offered : List ℕ → Reply ℕ → Event
+  drew : Area → Reply Given → Area → Event
+  finished : Reply (Unit {0}) → Event
+
+-- ---- each call is made on the state and store that the one before left
+pub record World : Type 0 where
+  pub writer : Writer
+  pub length : ℕ
+  pub store : Memory
+
+-- an answer, less the state
+abbrev pub seen : {A B : Type 0} → (A → B) → Reply A → Reply B
+seen f (gives a) = gives (f a)
+seen f (refused q) = refused q
+
+abbrev pub given : Handed → Given
+given (aRow r s) = row r
+given nothing = none
+
+unfoldable pub event : Call → World → Event
+event (offer run) w = offered run (seen (λ t. t .taken) (offerReply (w .writer) (w .length) run (w .store)))
+event (draw a) w =
+    drew a (seen given (drawReply (w .writer) (w .length) (a .size) (w .store)))
+    (record { size = a .size; numbers = drawArea (w .writer) (w .length) (a .size) (w .store) (a .numbers) })
+event finish w = finished (seen (λ _. tt) (finishReply (w .writer) (w .length) (w .store)))
+
+unfoldable pub next : Call → World → World
+next (offer run) w =
+    record { writer = left (λ t. t .writer) (w .writer) (offerReply (w .writer) (w .length) run (w .store)); length = w .length; store = offerStore (w .writer) (w .length) run (w .store) }
+next (draw a) w =
+    record { writer = left (after (w .writer)) (w .writer) (drawReply (w .writer) (w .length) (a .size) (w .store)); length = w .length; store = drawStore (w .writer) (w .length) (a .size) (w .store) }
+next finish w =
+    record { writer = left (λ s. s) (w .writer) (finishReply (w .writer) (w .length) (w .store)); length = w .length; store = finishStore (w .writer) (w .length) (w .store) }
+
+unfoldable pub events : List Call → World → List Event
+events [] w = []
+events (c ∷ cs) w = event c w ∷ events cs (next c w)
+
+unfoldable pub final : List Call → World → World
+final [] w = w
+final (c ∷ cs) w = final cs (next c w)
+
+-- "Fresh means the state and line store of a set-up that passed": of width W and L levels, on a store of n numbers in which x stood
+abbrev pub freshWorld : ℕ → ℕ → ℕ → Memory → World
+freshWorld W L n x = record { writer = fresh W L; length = n; store = setUpStore W L n x }
+
+-- ---- "Taken: of each passed offer's run the first heights, as many as its answer says, run after run."
+abbrev pub takenBy : Event → List ℕ
+takenBy (offered run (gives n)) = take n run
+takenBy (offered run (refused q)) = []
+takenBy (drew a r b) = []
+takenBy (finished r) = []
+
+unfoldable pub taken : List Event → List ℕ
+taken [] = []
+taken (e ∷ es) = takenBy e ++ taken es
+
+-- "once a finish passed"
+abbrev pub finishes : Event → Bool
+finishes (offered run r) = false
+finishes (drew a r b) = false
+finishes (finished (gives u)) = true
+finishes (finished (refused q)) = false
+
+unfoldable pub finishedBy : List Event → Bool
+finishedBy [] = false
+finishedBy (e ∷ es) = either (finishes e) (finishedBy es)
+
+-- "A drawn row is its level, band, number, length and values."
+pub record DrawnRow : Type 0 where
+  pub row : BandRow
+  pub values : ℕ → ℤ
+
+abbrev pub drawnBy : Event → List DrawnRow
+drawnBy (offered run r) = []
+drawnBy (drew a (gives (row r)) b) = record { row = r; values = b .numbers } ∷ []
+drawnBy (drew a (gives none) b) = []
+drawnBy (drew a (refused q) b) = []
+drawnBy (finished r) = []
+
+unfoldable pub drawn : List Event → List DrawnRow
+drawn [] = []
+drawn (e ∷ es) = drawnBy e ++ drawn es

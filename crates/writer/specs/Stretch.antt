@@ -1,0 +1,40 @@
+-- An offer as the code takes it: a stretch of a row at a time.
+use mathlib.Core.Path.{_≡_}
+use mathlib.Core.Bool.{Bool, true, false}
+use mathlib.Core.List.{List}
+use Prim.Native.Nat.{ℕ, zero, suc, _+_, _-_, _<_, _≤_, min}
+use lib.IntN.{ℤ}
+use Rattle.numbers.specs.Signal.{pick}
+use Rattle.writer.specs.declared.Writer.{Writer}
+use Rattle.writer.specs.Level.{Memory}
+use Rattle.writer.specs.FiveThreeLevel.{fiveThree, cellOf}
+use Rattle.writer.specs.Machine.{Out, arrive}
+use Rattle.writer.specs.Taking.{stored, heightAt, takes, complete}
+use Rattle.writer.specs.Steps.{Room}
+
+-- n heights h put into row m of w columns, from column c on
+unfoldable pub heightsPut : ℕ → ℕ → ℕ → ℕ → (ℕ → ℤ) → Memory → Memory
+heightsPut w m c zero h x = x
+heightsPut w m c (suc n) h x = stored (cellOf w m (c + n)) (h n) (heightsPut w m c n h x)
+
+-- how many heights the next stretch has, of k that are left: to the end of the row, 0 where the writer takes none
+unfoldable pub nextCount : Writer → ℕ → ℕ
+nextCount s k = pick (takes s) (min (s .width - s .column) k) 0
+
+-- the writer at column c of its row
+abbrev pub atColumn : Writer → ℕ → Writer
+atColumn s c = record { width = s .width; levels = s .levels; rows = s .rows; column = c; finished = s .finished; closed = s .closed; level = s .level; left = s .left }
+
+-- a writer that can take a height, with a store of n numbers
+pub record Taker (s : Writer) (n : ℕ) : Type 0 where
+  pub room : Room (s .levels) (s .width) (s .rows) n
+  pub column : s .column < s .width
+  pub deep : 0 < s .levels
+
+-- a stretch of n heights of a run, from height k on, was taken: the writer r and the store y, of l numbers
+pub record Stretched (s : Writer) (run : List ℕ) (k n : ℕ) (x : Memory) (r : Writer) (y : Memory) (l : ℕ) : Type 0 where
+  pub inside : s .column + n < s .width → (r ≡ atColumn s (s .column + n)) × (y ≡ heightsPut (s .width) (s .rows) (s .column) n (λ j. heightAt run (k + j)) x)
+  pub whole : s .column + n ≡ s .width →
+      (r ≡ complete s (arrive fiveThree (s .levels) (s .width) (s .rows) (heightsPut (s .width) (s .rows) (s .column) n (λ j. heightAt run (k + j)) x)))
+      × (y ≡ arrive fiveThree (s .levels) (s .width) (s .rows) (heightsPut (s .width) (s .rows) (s .column) n (λ j. heightAt run (k + j)) x) .store)
+  pub taker : Taker r l
