@@ -3,3 +3,4 @@ pub mod TextLaws
 pub mod ListingSample
 pub mod HearingCases
 pub mod HearingLaws
+pub mod SceneLaws

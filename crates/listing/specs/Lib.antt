@@ -5,3 +5,4 @@ pub mod Listing
 pub mod Hearing
 pub mod Telling
 pub mod Parts
+pub mod Scenes

@@ -144,7 +144,7 @@ impl Line {
 }
 
 // The part's bytes, at the end of the text; answers where they begin.
-fn put_part(line: Line, row: &[i32], text: &mut [u8]) -> usize
+pub fn put_part(line: Line, row: &[i32], text: &mut [u8]) -> usize
     requires { ⌜ length (now text) ≡ 64 ⌝ }
     ensures { λ r. ⌜ Put (partText (length (now (row .entry))) (at (now (row .entry))) line) 64 r (now (text .entry)) (now (text .exit)) ⌝ }
 {
