@@ -1,15 +1,20 @@
 -- What a step leaves, case by case of the writer's answer. Assumes nothing.
 use mathlib.Core.Path.{_≡_, refl, sym, ap, _∙_, subst}
 use mathlib.Core.List.{List, [], _∷_}
-use Prim.Native.Nat.{ℕ}
+use Prim.Native.Nat.{ℕ, _+_, _≤_, _<_}
+use native.Mathlib.Omega.{arith}
+use borrow.Author.Tests.{lt-ltb, le-ltb, eq-eqb, ne-eqb}
 use Rattle.writer.specs.Level.{Memory}
 use Rattle.writer.specs.Answers.{Reply, gives, refused, Took, Handed}
 use Rattle.writer.specs.Calls.{setUpReply, setUpStore, offerReply, offerStore, drawReply, drawStore, drawArea, finishReply, finishStore}
 use Rattle.writer.specs.declared.Writer.{Writer}
-use Rattle.listing.specs.Hearing.{hears}
-use Rattle.listing.specs.Scenes.{Scene, scene, Leaves, refusedTo, drawnTo, drawScene, begunTo, beginScene, tookTo, offerScene, closedTo, finishScene, heardTo, hearScene}
+use Rattle.listing.specs.Hearing.{hears, endHeard}
+use Rattle.listing.specs.Parts.{noLine}
+use Rattle.listing.specs.Scenes.{Scene, scene, Leaves, refusedTo, drawnTo, drawScene, begunTo, beginScene, tookTo, offerScene, closedTo, finishScene, heardTo, hearScene, endTo, endScene, listed, valuePart, advanceScene}
 use Rattle.listing.specs.declared.input.Input.{Input}
 use Rattle.listing.specs.declared.input.Heard.{Heard}
+use Rattle.listing.specs.declared.input.Ended.{Ended}
+use Rattle.listing.specs.declared.line.Line.{Line}
 use Rattle.listing.specs.declared.listing.Listing.{Listing}
 
 module _ (n k : ℕ) (i : Input) (w : Writer) (x z : Memory) where
@@ -51,3 +56,35 @@ pub heard-as : (n k b : ℕ) (s : Scene) (y : Heard) (l : Listing) {x′ z′ : 
     → Leaves (heardTo n k (s .listing .writer) (s .store) (s .row) y) l x′ z′ → Leaves (hearScene n k b s) l x′ z′
 unfolding hearScene
 heard-as n k b s y l {x′} {z′} e p = subst (λ y. Leaves (heardTo n k (s .listing .writer) (s .store) (s .row) y) l x′ z′) e p
+
+-- ---- a part written whole
+module _ (n k : ℕ) (s : Scene) (l : Listing) where
+  abbrev line : Line
+  line = s .listing .line
+
+  pub past-line : line .part < 3 → l ≡ listed (s .listing .input) (s .listing .writer) noLine → Leaves (advanceScene n k s) l (s .store) (s .row)
+  unfolding advanceScene
+  past-line h e = rw (lt-ltb (line .part) 3 h) (record { listing = e; store = refl; row = refl })
+
+  pub past-head : line .part ≡ 3 → l ≡ listed (s .listing .input) (s .listing .writer) (valuePart line 0) → Leaves (advanceScene n k s) l (s .store) (s .row)
+  unfolding advanceScene
+  past-head h e = rw (le-ltb (line .part) 3 (omega arith), eq-eqb (line .part) 3 h) (record { listing = e; store = refl; row = refl })
+
+  pub past-value : 3 ≤ line .part → (line .part ≡ 3 → ⊥) → line .value < line .length → l ≡ listed (s .listing .input) (s .listing .writer) (valuePart line (line .value + 1))
+      → Leaves (advanceScene n k s) l (s .store) (s .row)
+  unfolding advanceScene
+  past-value g d h e = rw (le-ltb (line .part) 3 g, ne-eqb (line .part) 3 d, lt-ltb (line .value) (line .length) h) (record { listing = e; store = refl; row = refl })
+
+  pub past-end : {x′ z′ : Memory} → 3 ≤ line .part → (line .part ≡ 3 → ⊥) → line .length ≤ line .value
+      → Leaves (drawScene n k (s .listing .input) (s .listing .writer) (s .store) (s .row)) l x′ z′ → Leaves (advanceScene n k s) l x′ z′
+  unfolding advanceScene
+  past-end g d h p = rw (le-ltb (line .part) 3 g, ne-eqb (line .part) 3 d, le-ltb (line .value) (line .length) h) p
+
+  -- ---- the end
+  pub end-in-line : 0 < line .part → l ≡ s .listing → Leaves (endScene n k s) l (s .store) (s .row)
+  unfolding endScene
+  end-in-line h e = rw (lt-ltb 0 (line .part) h) (record { listing = e; store = refl; row = refl })
+
+  pub ended-as : (y : Ended) {x′ z′ : Memory} → line .part ≤ 0 → y ≡ endHeard (s .listing .input) → Leaves (endTo n k s y) l x′ z′ → Leaves (endScene n k s) l x′ z′
+  unfolding endScene
+  ended-as y {x′} {z′} h e p = rw (le-ltb 0 (line .part) h) (subst (λ y. Leaves (endTo n k s y) l x′ z′) e p)

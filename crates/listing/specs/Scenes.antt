@@ -95,3 +95,14 @@ endTo n k s ended.Before = s
 
 unfoldable pub endScene : ℕ → ℕ → Scene → Scene
 endScene n k s = pick (ltb 0 (s .listing .line .part)) s (endTo n k s (endHeard (s .listing .input)))
+
+-- ---- a part of the line is written whole: what comes after it
+abbrev pub valuePart : Line → ℕ → Line
+valuePart l v = record { part = 4; level = l .level; band = l .band; row = l .row; length = l .length; value = v; done = 0 }
+
+unfoldable pub advanceScene : ℕ → ℕ → Scene → Scene
+advanceScene n k s =
+    pick (ltb (s .listing .line .part) 3) (scene (listed (s .listing .input) (s .listing .writer) noLine) (s .store) (s .row))
+    (pick (eqb (s .listing .line .part) 3) (scene (listed (s .listing .input) (s .listing .writer) (valuePart (s .listing .line) 0)) (s .store) (s .row))
+    (pick (ltb (s .listing .line .value) (s .listing .line .length)) (scene (listed (s .listing .input) (s .listing .writer) (valuePart (s .listing .line) (s .listing .line .value + 1))) (s .store) (s .row))
+    (drawScene n k (s .listing .input) (s .listing .writer) (s .store) (s .row))))

@@ -12,7 +12,7 @@ ghost use mathlib.Core.Path.{_≡_};
 ghost use lib.ListN.{length};
 ghost use Rattle.numbers.specs.Signal.{at};
 ghost use Rattle.writer.specs.Calls.{setUpReply, setUpStore};
-ghost use Rattle.listing.specs.Scenes.{scene, Leaves, started, refusedTo, drawScene, begunTo, offerScene, finishScene, hearScene, endScene};
+ghost use Rattle.listing.specs.Scenes.{scene, Leaves, started, refusedTo, drawScene, begunTo, offerScene, finishScene, hearScene, endScene, valuePart, advanceScene};
 
 pub struct Listing {
     pub input: Input,
@@ -120,5 +120,71 @@ fn hear(listing: Listing, byte: u8, store: &mut [i32], row: &mut [i32]) -> Listi
         Heard::Begun(next, width, height) => begin(next, writer, width, height, store),
         Heard::Height(next, height) => offer(next, writer, height, store, row),
         Heard::Refused(next) => refuse(next, writer, 15),
+    }
+}
+
+// The line with the value v next.
+fn at_value(line: Line, v: usize) -> Line
+    ensures { λ r. ⌜ r ≡ valuePart line v ⌝ }
+{
+    Line {
+        part: 4,
+        level: line.level,
+        band: line.band,
+        row: line.row,
+        length: line.length,
+        value: v,
+        done: 0,
+    }
+}
+
+// The line's part is written whole: what comes after it.
+fn advance(listing: Listing, store: &mut [i32], row: &mut [i32]) -> Listing
+    ensures { λ r. ⌜ Leaves (advanceScene (length (now (store .entry))) (length (now (row .entry))) (scene listing (at (now (store .entry))) (at (now (row .entry))))) r (at (now (store .exit))) (at (now (row .exit))) ⌝ }
+{
+    let input = listing.input;
+    let writer = listing.writer;
+    let line = listing.line;
+    let part = line.part;
+    let value = line.value;
+    if part < 3 {
+        return Listing {
+            input,
+            writer,
+            line: Line::none(),
+        };
+    }
+    if part == 3 {
+        return Listing {
+            input,
+            writer,
+            line: at_value(line, 0),
+        };
+    }
+    if value < line.length {
+        return Listing {
+            input,
+            writer,
+            line: at_value(line, value + 1),
+        };
+    }
+    draw(input, writer, store, row)
+}
+
+// The input has ended. To be called once no line is being written.
+pub fn end(listing: Listing, store: &mut [i32], row: &mut [i32]) -> Listing
+    ensures { λ r. ⌜ Leaves (endScene (length (now (store .entry))) (length (now (row .entry))) (scene listing (at (now (store .entry))) (at (now (row .entry))))) r (at (now (store .exit))) (at (now (row .exit))) ⌝ }
+{
+    let input = listing.input;
+    let writer = listing.writer;
+    let line = listing.line;
+    let part = line.part;
+    if 0 < part {
+        return listing;
+    }
+    match input.end() {
+        Ended::Whole(next) => finish(next, writer, store, row),
+        Ended::Short(next) => refuse(next, writer, 15),
+        Ended::Before => listing,
     }
 }
