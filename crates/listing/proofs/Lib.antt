@@ -4,3 +4,4 @@ pub mod ListingSample
 pub mod HearingCases
 pub mod HearingLaws
 pub mod SceneLaws
+pub mod SpellLaws

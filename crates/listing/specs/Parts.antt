@@ -1,13 +1,17 @@
 -- The parts of a line, as the code writes them: `partText`. proofs/PartLaws joins them to lines.
 use mathlib.Core.Bool.{Bool, true, false}
 use mathlib.Core.List.{List, [], _∷_, _++_}
-use Prim.Native.Nat.{ℕ, _%_}
+use mathlib.Core.Path.{_≡_}
+use Prim.Native.Nat.{ℕ, _+_, _-_, _%_, min}
 use lib.Dec.{leb, ltb, eqb}
 use lib.IntN.{ℤ}
+use lib.ListN.{length, drop}
+use lib.Seq.{paste}
 use Rattle.numbers.specs.Signal.{pick}
 use Rattle.listing.specs.Decimal.{numeral, integer}
 use Rattle.listing.specs.Lines.{sizeLine}
 use Rattle.listing.specs.declared.line.Line.{Line}
+use Rattle.listing.specs.declared.line.Spelt.{Spelt}
 
 -- the letters of a band by its code
 unfoldable pub letter : Bool → ℕ
@@ -53,3 +57,17 @@ refusedPart q = record { part = 2; level = 0; band = 0; row = q; length = 0; val
 
 abbrev pub headPart : ℕ → ℕ → ℕ → ℕ → Line
 headPart k b r n = record { part = 3; level = k; band = b; row = r; length = n; value = 0; done = 0 }
+
+-- ---- what is left of a part of text t, d bytes of which are written; past its end nothing is written yet
+unfoldable pub startOf : ℕ → ℕ → ℕ
+startOf t d = pick (ltb d t) d 0
+
+unfoldable pub leftOf : List ℕ → ℕ → List ℕ
+leftOf t d = drop (startOf (length t) d) t
+
+-- as much of it as there is room for is written to o from place a on, and o′ stands there then; r says how much, up to where, and how much is left
+pub record Spelled (t : List ℕ) (d a : ℕ) (o o′ : List ℕ) (r : Spelt) : Type 0 where
+  pub count : r .written ≡ min (length (leftOf t d)) (length o - a)
+  pub bytes : o′ ≡ paste o a (leftOf t d) (r .written)
+  pub done : r .done ≡ startOf (length t) d + r .written
+  pub rest : r .rest ≡ length (leftOf t d) - r .written

@@ -1,10 +1,12 @@
 // The line that is being written, part by part. A part is a few bytes that are written one after the other.
+use crate::copy;
 use crate::text;
 ghost use mathlib.Core.Path.{_≡_};
 ghost use mathlib.Core.List.{[], _∷_};
+ghost use Prim.Native.Nat.{_≤_, _+_, _-_};
 ghost use lib.ListN.{length};
 ghost use Rattle.numbers.specs.Signal.{at};
-ghost use Rattle.listing.specs.Parts.{letter, first, second, headText, sizeText, refusedText, valueText, partText, noLine, sizePart, refusedPart, headPart};
+ghost use Rattle.listing.specs.Parts.{letter, first, second, headText, sizeText, refusedText, valueText, partText, noLine, sizePart, refusedPart, headPart, startOf, Spelled};
 ghost use Rattle.listing.specs.Text.{Put};
 
 pub struct Line {
@@ -18,6 +20,13 @@ pub struct Line {
     pub value: usize,
     // bytes of the part that are written
     pub done: usize,
+}
+
+// How much of a part was written, up to where, and how much of it is left.
+pub struct Spelt {
+    pub written: usize,
+    pub done: usize,
+    pub rest: usize,
 }
 
 fn first_letter(band: usize) -> u8
@@ -159,4 +168,31 @@ pub fn put_part(line: Line, row: &[i32], text: &mut [u8]) -> usize
         return put_head(line, text);
     }
     put_value(line, row, text)
+}
+
+// Where the text goes on that begins at `start`, `done` bytes of it being written.
+fn resume(start: usize, done: usize) -> usize
+    requires { ⌜ start ≤ 64 ⌝ }
+    ensures { λ r. ⌜ r ≡ start + startOf (64 - start) done ⌝ }
+{
+    if done < 64 - start {
+        return start + done;
+    }
+    start
+}
+
+// Writes as much of the line's part as there is room for, from place `at` of out on.
+pub fn spell(line: Line, row: &[i32], out: &mut [u8], place: usize) -> Spelt
+    requires { ⌜ place ≤ length (now out) ⌝ }
+    ensures { λ r. ⌜ Spelled (partText (length (now (row .entry))) (at (now (row .entry))) line) (line .done) place (now (out .entry)) (now (out .exit)) r ⌝ }
+{
+    let mut text = [0u8; 64];
+    let start = put_part(line, row, &mut text);
+    let from = resume(start, line.done);
+    let n = copy::copy(&text, from, out, place);
+    Spelt {
+        written: n,
+        done: from - start + n,
+        rest: 64 - from - n,
+    }
 }
