@@ -9,7 +9,7 @@ use lib.Seq.{paste, drop-at, drop-drop, length-take-le}
 use borrow.Author.Tests.{lt-ltb, le-ltb}
 use Rattle.listing.specs.Text.{Put}
 use Rattle.listing.specs.Parts.{startOf, leftOf, Spelled}
-use Rattle.listing.specs.declared.line.Spelt.{Spelt}
+use Rattle.listing.specs.declared.spelling.Spelt.{Spelt}
 use Rattle.listing.proofs.TextLaws.{same-size}
 
 pub start-in : (t d : ℕ) → d < t → d ≡ startOf t d

@@ -11,7 +11,7 @@ use Rattle.numbers.specs.Signal.{pick}
 use Rattle.listing.specs.Decimal.{numeral, integer}
 use Rattle.listing.specs.Lines.{sizeLine}
 use Rattle.listing.specs.declared.line.Line.{Line}
-use Rattle.listing.specs.declared.line.Spelt.{Spelt}
+use Rattle.listing.specs.declared.spelling.Spelt.{Spelt}
 
 -- the letters of a band by its code
 unfoldable pub letter : Bool → ℕ

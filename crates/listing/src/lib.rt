@@ -3,4 +3,5 @@ mod copy;
 pub mod input;
 pub mod line;
 pub mod listing;
+mod spelling;
 mod text;

@@ -1,4 +1,4 @@
--- `line::put_part` meets its contract: each kind of part is the definition's. Assumes nothing.
+-- `spelling::put_part` meets its contract: each kind of part is the definition's. Assumes nothing.
 use mathlib.Core.Path.{_≡_, refl, sym, ap, _∙_}
 use native.Mathlib.Omega.{arith}
 use borrow.Author.Needs.{needs}
@@ -10,8 +10,8 @@ use Rattle.listing.specs.Text.{Put}
 use Rattle.listing.specs.Parts.{sizeText, refusedText, headText, valueText, partText}
 use Rattle.listing.specs.declared.line.Line.{Line}
 use Rattle.listing.proofs.TextLaws.{before, same-size, fits-after}
-use Rattle.listing.proofs.line.put_part.Statement.{statement}
-use Rattle.listing.proofs.line.put_part.Tie as tie
+use Rattle.listing.proofs.spelling.put_part.Statement.{statement}
+use Rattle.listing.proofs.spelling.put_part.Tie as tie
 
 module _ (k : ℕ) (y : ℕ → ℤ) (l : Line) {r : ℕ} {s t : List ℕ} where
   one : l .part ≡ 1 → Put (sizeText l) 64 r s t → Put (partText k y l) 64 r s t

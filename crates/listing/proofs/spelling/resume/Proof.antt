@@ -1,11 +1,11 @@
--- `line::resume` meets its contract: the definition's test. Assumes nothing.
+-- `spelling::resume` meets its contract: the definition's test. Assumes nothing.
 use mathlib.Core.Path.{_≡_, refl, sym, ap, _∙_}
 use Prim.Native.Nat.{_+_}
 use native.Mathlib.Omega.{arith}
 use borrow.Author.Needs.{needs}
 use Rattle.listing.proofs.SpellLaws.{start-in, start-anew}
-use Rattle.listing.proofs.line.resume.Statement.{statement}
-use Rattle.listing.proofs.line.resume.Tie as tie
+use Rattle.listing.proofs.spelling.resume.Statement.{statement}
+use Rattle.listing.proofs.spelling.resume.Tie as tie
 
 sub-if1 : tie.Need-sub-if1
 sub-if1 c = search needs

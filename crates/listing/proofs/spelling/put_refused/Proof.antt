@@ -1,11 +1,11 @@
--- `line::put_refused` meets its contract: line feed, number, word. Assumes nothing.
+-- `spelling::put_refused` meets its contract: line feed, number, word. Assumes nothing.
 use mathlib.Core.Path.{_≡_, refl, sym, ap, _∙_}
 use native.Mathlib.Omega.{arith}
 use borrow.Author.Needs.{needs}
 use Rattle.listing.specs.Parts.{refusedText}
 use Rattle.listing.proofs.TextLaws.{before, same-size, fits-after}
-use Rattle.listing.proofs.line.put_refused.Statement.{statement}
-use Rattle.listing.proofs.line.put_refused.Tie as tie
+use Rattle.listing.proofs.spelling.put_refused.Statement.{statement}
+use Rattle.listing.proofs.spelling.put_refused.Tie as tie
 
 put-byte-requires : tie.Need-put-byte-requires
 put-byte-requires c κs = search needs

@@ -1,11 +1,11 @@
--- `line::spell` meets its contract: the part's text stands at the end of a small area, and as much of it as there is room for is copied. Assumes nothing.
+-- `spelling::spell` meets its contract: the part's text stands at the end of a small area, and as much of it as there is room for is copied. Assumes nothing.
 use mathlib.Core.Path.{_≡_, refl, sym, ap, _∙_}
 use native.Mathlib.Omega.{arith}
 use borrow.Author.Needs.{needs}
 use Rattle.listing.proofs.TextLaws.{same-size}
 use Rattle.listing.proofs.SpellLaws.{from-bound, spelled}
-use Rattle.listing.proofs.line.spell.Statement.{statement}
-use Rattle.listing.proofs.line.spell.Tie as tie
+use Rattle.listing.proofs.spelling.spell.Statement.{statement}
+use Rattle.listing.proofs.spelling.spell.Tie as tie
 
 slice-aggregate-put-part : tie.Need-slice-aggregate-put-part
 slice-aggregate-put-part c = search needs
@@ -22,8 +22,7 @@ slice-aggregate-copy c = search needs
 copy-requires : tie.Need-copy-requires
 copy-requires c κs =
     let r = c .before .before in
-    let p = r .before .before in
-    (
+    let p = r .before .before in (
       omega (arith, from-bound (p .put-part .ensures) refl _ _ (r .resume .ensures), same-size (p .put-part .ensures)),
       p .before .before .before .pre,
     )

@@ -1,4 +1,4 @@
--- `line::put_head` meets its contract: number, letters, number. Assumes nothing.
+-- `spelling::put_head` meets its contract: number, letters, number. Assumes nothing.
 use mathlib.Core.Path.{_≡_, refl, sym, ap, _∙_}
 use native.Mathlib.Omega.{arith}
 use borrow.Author.Needs.{needs}
@@ -9,8 +9,8 @@ use Rattle.listing.specs.Text.{Put}
 use Rattle.listing.specs.Parts.{first, second, headText}
 use Rattle.listing.specs.declared.line.Line.{Line}
 use Rattle.listing.proofs.TextLaws.{before, same-size, fits-after}
-use Rattle.listing.proofs.line.put_head.Statement.{statement}
-use Rattle.listing.proofs.line.put_head.Tie as tie
+use Rattle.listing.proofs.spelling.put_head.Statement.{statement}
+use Rattle.listing.proofs.spelling.put_head.Tie as tie
 
 whole : (l : Line) (a b : ℕ) {r : ℕ} {x y : List ℕ} → a ≡ first (l .band) → b ≡ second (l .band)
     → Put (numeral (l .level) ++ (32 ∷ a ∷ b ∷ 32 ∷ numeral (l .row))) 64 r x y → Put (headText l) 64 r x y

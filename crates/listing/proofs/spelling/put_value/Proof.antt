@@ -1,4 +1,4 @@
--- `line::put_value` meets its contract: the definition's tests, and the number that was read. Assumes nothing.
+-- `spelling::put_value` meets its contract: the definition's tests, and the number that was read. Assumes nothing.
 use mathlib.Core.Path.{_≡_, refl, sym, ap, _∙_}
 use native.Mathlib.Omega.{arith}
 use borrow.Author.Needs.{needs}
@@ -12,8 +12,8 @@ use Rattle.listing.specs.Text.{Put}
 use Rattle.listing.specs.Parts.{valueText}
 use Rattle.listing.specs.declared.line.Line.{Line}
 use Rattle.listing.proofs.TextLaws.{before, same-size, fits-after}
-use Rattle.listing.proofs.line.put_value.Statement.{statement}
-use Rattle.listing.proofs.line.put_value.Tie as tie
+use Rattle.listing.proofs.spelling.put_value.Statement.{statement}
+use Rattle.listing.proofs.spelling.put_value.Tie as tie
 
 module _ (k : ℕ) (y : ℕ → ℤ) (l : Line) {r : ℕ} {s t : List ℕ} where
   passed : l .length ≤ l .value → Put (10 ∷ []) 64 r s t → Put (valueText k y l) 64 r s t

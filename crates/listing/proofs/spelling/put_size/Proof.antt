@@ -1,4 +1,4 @@
--- `line::put_size` meets its contract: numbers and what parts them, from the line feed back. Assumes nothing.
+-- `spelling::put_size` meets its contract: numbers and what parts them, from the line feed back. Assumes nothing.
 use mathlib.Core.Path.{_≡_, refl, sym, ap, _∙_}
 use native.Mathlib.Omega.{arith}
 use borrow.Author.Needs.{needs}
@@ -10,8 +10,8 @@ use Rattle.listing.specs.Text.{Put}
 use Rattle.listing.specs.Parts.{sizeText}
 use Rattle.listing.specs.declared.line.Line.{Line}
 use Rattle.listing.proofs.TextLaws.{before, same-size, fits-after}
-use Rattle.listing.proofs.line.put_size.Statement.{statement}
-use Rattle.listing.proofs.line.put_size.Tie as tie
+use Rattle.listing.proofs.spelling.put_size.Statement.{statement}
+use Rattle.listing.proofs.spelling.put_size.Tie as tie
 
 whole : (l : Line) {r : ℕ} {x y : List ℕ}
     → Put (numeral (l .length) ++ (32 ∷ (numeral (l .row) ++ (32 ∷ (numeral (l .level) ++ (10 ∷ [])))))) 64 r x y → Put (sizeText l) 64 r x y
