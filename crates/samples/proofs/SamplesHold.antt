@@ -6,10 +6,11 @@ use Rattle.wavelet.specs.Plane.{halfAt, placeIn, planeCell, cells, flat, planeO
 use Rattle.wavelet.specs.Levels.{size, approximation, levelBand}
 use Rattle.wavelet.specs.View.{bandColumns}
 use Rattle.wavelet.specs.Order.{handedOut, hasRow, rowsOf, setRows, madeBy, closing, inTurn, made}
-use Rattle.samples.specs.Samples.{listed, values, bandRow, holds-line, holds-map, holds-order, table, AllHold, none, also}
+use Rattle.wavelet.specs.Steps.{feedAll, opensSet, rowSteps, setSteps, steps, bandRowsOf}
+use Rattle.samples.specs.Samples.{listed, values, bandRow, holds-line, holds-map, holds-order, holds-wants, table, AllHold, none, also}
 
 pub samples-hold : AllHold table
-unfolding values listed lineForward low high highAt mirror predicted updated count planeOf planeCell flat cells subband columnsLifted across down bandOf halfAt placeIn bandRow bandColumns size approximation levelBand handedOut hasRow rowsOf setRows madeBy closing inTurn made
+unfolding values listed lineForward low high highAt mirror predicted updated count planeOf planeCell flat cells subband columnsLifted across down bandOf halfAt placeIn bandRow bandColumns size approximation levelBand handedOut hasRow rowsOf setRows madeBy closing inTurn made feedAll opensSet rowSteps setSteps steps bandRowsOf
 samples-hold =
     also (holds-line refl refl)
     (also (holds-line refl refl)
@@ -18,5 +19,6 @@ samples-hold =
     (also (holds-map refl)
     (also (holds-map refl)
     (also (holds-order refl)
+    (also (holds-wants refl)
     (also (holds-map refl)
-    none)))))))
+    none))))))))

@@ -13,6 +13,7 @@ use Rattle.wavelet.specs.Levels.{levelBand}
 use Rattle.wavelet.specs.Plane.{planeOf, cells}
 use Rattle.wavelet.specs.View.{bandColumns}
 use Rattle.wavelet.specs.Order.{RowName, rowName, made}
+use Rattle.wavelet.specs.Steps.{steps, bandRowsOf}
 
 -- the first n numbers of a signal
 unfoldable pub listed : ℕ → (ℕ → ℤ) → List ℤ
@@ -41,12 +42,15 @@ pub data Sample : Type 0 where
   map : ℕ → ℕ → ℕ → List ℤ → List ℤ → Sample
   -- levels, width, height, a map row by row, and its band rows in the writer's order
   order : ℕ → ℕ → ℕ → List ℤ → List BandRow → Sample
+  -- levels, width and height of a map, and the band rows that the reader wants for it, in their order
+  wants : ℕ → ℕ → ℕ → List RowName → Sample
 
 -- what makes a sample of each kind hold
 pub data Holds : Sample → Type 0 where
   holds-line : {l low high : List ℤ} → values lo l ≡ low → values hi l ≡ high → Holds (line l low high)
   holds-map : {L W H : ℕ} {g p : List ℤ} → listed (W * H) (planeOf whole L W H (cells W (at g))) ≡ p → Holds (map L W H g p)
   holds-order : {L W H : ℕ} {g : List ℤ} {l : List BandRow} → each (bandRow W H (cells W (at g))) (made W L H true) ≡ l → Holds (order L W H g l)
+  holds-wants : {L W H : ℕ} {l : List RowName} → bandRowsOf (steps W H L) ≡ l → Holds (wants L W H l)
 
 abbrev pub table : List Sample
 table =
@@ -64,6 +68,7 @@ table =
     ∷ record { name = rowName 2 LL 0; values = pos 4 ∷ [] }
     ∷ record { name = rowName 2 LH 0; values = pos 1 ∷ [] }
     ∷ [])
+    ∷ wants 2 1 4 (rowName 2 LL 0 ∷ rowName 2 LH 0 ∷ rowName 1 LH 0 ∷ rowName 1 LH 1 ∷ [])
     ∷ map 5 1 1 (pos 65535 ∷ []) (pos 65535 ∷ [])
     ∷ []
 

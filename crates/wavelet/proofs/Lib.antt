@@ -15,3 +15,4 @@ pub mod MapTheorems
 pub mod LevelReads
 pub mod OrderLaws
 pub mod OrderOnce
+pub mod StepLaws

@@ -9,3 +9,4 @@ pub mod Store
 pub mod ViewCall
 pub mod Span
 pub mod Order
+pub mod Steps

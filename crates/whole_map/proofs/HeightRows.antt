@@ -19,7 +19,7 @@ use Rattle.wavelet.specs.Maps.{every, everyCell, valueFits}
 use Rattle.whole_map.specs.Rowwise.{heightsAt, cut}
 use Rattle.whole_map.specs.Passes.{Rows, rowsLoaded, rowsReturned}
 use Rattle.whole_map.proofs.RowwiseLaws.{front-at, window-cut, cut-in, cut-parted, cut-woven}
-use Rattle.whole_map.proofs.EveryLaws.{every-holds, every-same}
+use Rattle.wavelet.proofs.MapTheorems.{every-each, every-same}
 use Rattle.whole_map.proofs.HeightLaws.{wholes, wholes-at, wholes-mid, wholes-put}
 use Rattle.whole_map.proofs.GridSweep.{Passed, row-room, within-in, within-past, within-wide, pass-room, pass-end, row-length, part-turn}
 
@@ -84,7 +84,7 @@ unfolding everyCell
 row-fits s w h i k x e lt r all =
     rw (numbers-length s w h i k e lt x r)
     (every-same w _ _ (λ j q. ap (valueFits 0) (ap (λ (f : ℕ → ℤ). f j) (numbers-row s w h i k e lt x) ∙ cut-in w (cells s (at x) i) j q))
-    ∙ every-holds h _ all i lt)
+    ∙ every-each h _ all i lt)
 
 pub store-turn : (w h : ℕ) (x : List ℤ) (g₀ : List ℕ) (i k : ℕ) (g z : List ℕ) → k ≡ w → i < h → Rows (length x) w w h → length z ≡ length (midOf (i * w) k g) → heightsAt z ≡ fronted (length (midOf (i * w) k x)) (joined (halvesOf (length (midOf (i * w) k x)) (at (midOf (i * w) k x)))) (heightsAt (midOf (i * w) k g)) → Passed w w h (rowsReturned w h (cells w (at x)) (cells w (at (wholes g₀)))) (wholes g₀) i (wholes g) → Passed w w h (rowsReturned w h (cells w (at x)) (cells w (at (wholes g₀)))) (wholes g₀) (i + 1) (wholes (putMid (i * w) k g z))
 unfolding rowsReturned

@@ -1,12 +1,8 @@
 -- The machine's steps at the 5/3 level, as the code's branches meet them. Assumes nothing.
-use mathlib.Core.Path.{_≡_, refl, sym, ap, subst, _∙_}
-use mathlib.Core.Bool.{true, false}
-use Prim.Native.Nat.{ℕ, zero, suc, _+_, _-_, _*_, _/_, _%_, _≤_, _<_}
+use mathlib.Core.Path.{_≡_, refl, sym, ap, _∙_}
+use Prim.Native.Nat.{ℕ, zero, suc, _+_, _-_, _*_, _/_, _%_, _<_}
 use native.Mathlib.Omega.{arith}
-use lib.IntN.{ℤ}
-use lib.Dec.{eqb, ltb}
 use borrow.Author.Tests.{eq-eqb, ne-eqb, lt-ltb, le-ltb}
-use Rattle.numbers.specs.Signal.{pick, both}
 use Rattle.lifting.specs.Line.{lo, count}
 use Rattle.writer.specs.declared.cascade.Wait.{Wait}
 use Rattle.writer.specs.Level.{Memory}

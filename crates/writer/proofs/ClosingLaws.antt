@@ -12,8 +12,8 @@ use Rattle.writer.specs.FiveThreeLevel.{fiveThree, lastSet}
 use Rattle.writer.specs.Machine.{Out, rest, joinAt, still, under, settled, passOn}
 use Rattle.writer.specs.Closing.{Shut, onward, closeLevel, shut}
 use Rattle.writer.specs.Steps.{Left, Closed}
-use Rattle.writer.proofs.CountLaws.{prev-is, deeper-le}
-use Rattle.writer.proofs.CascadeLaws.{left-still, left-waits, left-same, settled-waits, settled-goes}
+use Rattle.writer.proofs.CountLaws.{deeper-le}
+use Rattle.writer.proofs.CascadeLaws.{left-waits, left-same, settled-waits, settled-goes}
 
 -- ---- one level
 module _ (l w : ℕ) (x : Memory) where

@@ -1,16 +1,14 @@
 -- The LL row that goes to the next level, by two copies: its even numbers, then its odd ones. Assumes nothing.
 use mathlib.Core.Path.{_≡_, refl, sym, ap, _∙_}
-use Prim.Native.Nat.{ℕ, _+_, _-_, _*_, _≤_, _<_}
+use Prim.Native.Nat.{ℕ, _+_, _-_, _*_, _<_}
 use native.Mathlib.Omega.{arith}
 use lib.IntN.{ℤ}
 use Rattle.numbers.specs.Signal.{spliced}
 use Rattle.numbers.proofs.Parts.{splice-below}
 use Rattle.lifting.specs.Line.{lo, hi, count}
-use Rattle.lifting.specs.Halves.{partedInto}
 use Rattle.lifting.proofs.LineLaws.{counts}
 use Rattle.wavelet.proofs.SizeLaws.{count-lo, count-hi}
 use Rattle.writer.specs.FiveThreeLevel.{slot, rowPut, bandPlace}
-use Rattle.writer.specs.Machine.{rest, joinAt}
 use Rattle.writer.specs.Steps.{delivered}
 use Rattle.writer.proofs.CountLaws.{slot-room}
 use Rattle.writer.proofs.RestLaws.{join-splice, splice-halves, splice-same}

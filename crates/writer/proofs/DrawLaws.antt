@@ -4,19 +4,18 @@ use Prim.Native.Nat.{ℕ, zero, suc, _+_, _-_, _*_, _≤_, _<_}
 use native.Mathlib.Numerals.{add-one}
 use native.Mathlib.Decide.{decLt}
 use native.Mathlib.Omega.{arith}
-use Rattle.lifting.specs.Line.{lo, hi, count}
+use Rattle.lifting.specs.Line.{lo, count}
 use Rattle.lifting.proofs.LineLaws.{counts}
 use Rattle.wavelet.specs.Bands.{Band, LL, HL, LH, HH, across, code}
-use Rattle.wavelet.specs.Store.{storeLength}
 use Rattle.wavelet.proofs.StoreLaws.{store-back}
 use Rattle.writer.specs.declared.cascade.Wait.{Wait}
 use Rattle.writer.specs.declared.draws.Spot.{Spot}
 use Rattle.writer.specs.Level.{Memory}
 use Rattle.writer.specs.Counts.{prev, deeper, made, bandAt, skip}
 use Rattle.writer.specs.FiveThreeLevel.{fiveThree, bandPlace}
-use Rattle.writer.specs.Machine.{Out, rest, joinAt, under, settled, passOn}
-use Rattle.writer.specs.Draws.{Waiting, lower, rowOf, waiting, pull}
-use Rattle.writer.specs.Steps.{Left, Found, spotOf}
+use Rattle.writer.specs.Machine.{rest, joinAt, under, settled, passOn}
+use Rattle.writer.specs.Draws.{lower, rowOf, waiting, pull}
+use Rattle.writer.specs.Steps.{Left, Found}
 use Rattle.writer.proofs.CountLaws.{slot-room}
 use Rattle.writer.proofs.RestLaws.{rest-at, join-below, join-past}
 use Rattle.writer.proofs.CascadeLaws.{left-waits, left-same, left-under, settled-waits, settled-goes}

@@ -1,18 +1,18 @@
 -- What the gate questions say. Assumes nothing.
 use mathlib.Core.Path.{_≡_, refl, sym, _∙_}
 use mathlib.Core.Bool.{Bool, true, false, not}
-use Prim.Native.Nat.{ℕ, zero, suc, _≤_, _<_}
+use Prim.Native.Nat.{ℕ, suc, _≤_, _<_}
 use native.Mathlib.Omega.{arith}
 use lib.Dec.{leb, ltb, eqb}
-use borrow.Author.Tests.{leb-true, ltb-true, le-leb, lt-leb, lt-ltb, le-ltb, eq-eqb, ne-eqb, eqb-true}
-use Rattle.numbers.specs.Signal.{pick, both}
+use borrow.Author.Tests.{leb-true, ltb-true, le-leb, lt-ltb, le-ltb, eq-eqb, ne-eqb, eqb-true}
+use Rattle.numbers.specs.Signal.{both}
 use Rattle.numbers.proofs.Sweep as sweep
 use Rattle.wavelet.specs.Limits.{maxWidth, maxHeight, maxLevels}
 use Rattle.wavelet.specs.Questions.{ask, within}
 use Rattle.wavelet.specs.Store.{storeLength}
 use Rattle.wavelet.proofs.QuestionLaws.{within-true}
 use Rattle.writer.specs.declared.Writer.{Writer}
-use Rattle.writer.specs.Questions.{either, inRanges, longEnough, setUpQuestion, offerQuestion, drawQuestion, finishQuestion, waitingRow}
+use Rattle.writer.specs.Questions.{either, inRanges, longEnough, offerQuestion, finishQuestion}
 use Rattle.writer.specs.Gate.{stateQuestion, openQuestion}
 
 -- ---- two questions, and what follows them

@@ -1,8 +1,8 @@
 -- What each call of the writer answers, and what it leaves in the line store and the output area. s is the writer, x the store and n its length.
 use mathlib.Core.Bool.{Bool, true, false}
 use mathlib.Core.List.{List}
-use Prim.Native.Nat.{ℕ, zero, suc, _+_}
-use lib.IntN.{ℤ, pos}
+use Prim.Native.Nat.{ℕ, zero, suc}
+use lib.IntN.{pos}
 use lib.ListN.{length}
 use Rattle.lifting.specs.Halves.{fronted}
 use Rattle.wavelet.specs.Bands.{code}

@@ -1,7 +1,5 @@
 -- The finish: "level 1 closes first, then level 2, and so on", each once nothing waits at any level.
-use mathlib.Core.Bool.{Bool, true, false}
 use Prim.Native.Nat.{ℕ, zero, suc}
-use lib.IntN.{ℤ}
 use Rattle.lifting.specs.Line.{lo, count}
 use Rattle.writer.specs.Level.{Memory, LevelKind}
 use Rattle.writer.specs.Counts.{prev, most, skip}

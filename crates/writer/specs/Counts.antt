@@ -1,6 +1,6 @@
 -- The numbers that the writer derives on its way down the levels: nothing of them is kept.
-use mathlib.Core.Bool.{Bool, true, false}
-use Prim.Native.Nat.{ℕ, zero, suc, _+_, _-_, _*_, _/_}
+use mathlib.Core.Bool.{Bool}
+use Prim.Native.Nat.{ℕ, zero, suc, _-_, _/_}
 use lib.Dec.{ltb}
 use Rattle.numbers.specs.Signal.{pick, both}
 use Rattle.lifting.specs.Line.{lo, count}

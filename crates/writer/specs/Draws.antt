@@ -1,7 +1,5 @@
 -- The row that waits, and what a draw of it leaves.
-use mathlib.Core.Bool.{Bool, true, false}
 use Prim.Native.Nat.{ℕ, zero, suc, _+_}
-use lib.IntN.{ℤ}
 use Rattle.lifting.specs.Line.{lo, count}
 use Rattle.wavelet.specs.Bands.{Band, HH, across}
 use Rattle.writer.specs.Level.{Memory, LevelKind}

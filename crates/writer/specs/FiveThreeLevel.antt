@@ -2,7 +2,6 @@
 --     set n:  row 2n + 1 becomes d(n) by rows 2n and 2n + 2; row 2n becomes s(n) by d(n−1), which stands where row 2n − 1 stood, and d(n), of the first set d(0) twice;
 --             d(n) is copied to the slot of row 2n + 3 and stays itself for the next set; s(n) and the copy are lifted along the row: they are the rows that wait, LL|HL and LH|HH.
 --     last set of an even height: row 2n counts for row 2n + 2. Of an odd height: s(n) by d(n−1) twice; a single row stays; there is no high row.
-use mathlib.Core.Bool.{Bool, true, false}
 use Prim.Native.Nat.{ℕ, zero, suc, _+_, _*_, _/_, _%_}
 use lib.IntN.{ℤ}
 use lib.Dec.{eqb}

@@ -1,14 +1,12 @@
 -- The writer as a machine over its line store, by recursion over the levels: a machine of L levels is its first level, of w columns, and below it a machine of L − 1 levels, of ⌈w / 2⌉ columns, in the rest of the store.
 -- m is how many rows the first level has received, c how many levels the finish has closed. L = 0 is no level.
-use mathlib.Core.Bool.{Bool, true, false}
 use Prim.Native.Nat.{ℕ, zero, suc, _+_, _-_, _/_, _%_}
-use lib.IntN.{ℤ}
 use lib.Dec.{ltb, eqb}
 use Rattle.numbers.specs.Signal.{pick, both}
 use Rattle.lifting.specs.Line.{lo, count}
 use Rattle.wavelet.specs.Bands.{LL}
 use Rattle.writer.specs.Level.{Memory, LevelKind}
-use Rattle.writer.specs.Counts.{prev, deeper, made, most, skip}
+use Rattle.writer.specs.Counts.{prev, deeper, most, skip}
 
 -- the store from place a on, and the store with t from place a on
 unfoldable pub rest : ℕ → Memory → Memory

@@ -1,5 +1,5 @@
 -- The gate questions of the writer's calls, in the order of document 01: 0, or the number of the first that says no. n is the length of the line store.
-use mathlib.Core.Bool.{Bool, true, false, not}
+use mathlib.Core.Bool.{Bool, true, not}
 use Prim.Native.Nat.{ℕ}
 use lib.Dec.{leb, ltb, eqb}
 use Rattle.numbers.specs.Signal.{pick, both}

@@ -1,14 +1,13 @@
 -- An offer as the code takes it: a stretch of a row at a time.
 use mathlib.Core.Path.{_≡_}
-use mathlib.Core.Bool.{Bool, true, false}
 use mathlib.Core.List.{List}
-use Prim.Native.Nat.{ℕ, zero, suc, _+_, _-_, _<_, _≤_, min}
+use Prim.Native.Nat.{ℕ, zero, suc, _+_, _-_, _<_, min}
 use lib.IntN.{ℤ}
 use Rattle.numbers.specs.Signal.{pick}
 use Rattle.writer.specs.declared.Writer.{Writer}
 use Rattle.writer.specs.Level.{Memory}
 use Rattle.writer.specs.FiveThreeLevel.{fiveThree, cellOf}
-use Rattle.writer.specs.Machine.{Out, arrive}
+use Rattle.writer.specs.Machine.{arrive}
 use Rattle.writer.specs.Taking.{stored, heightAt, takes, complete}
 use Rattle.writer.specs.Steps.{Room}
 

@@ -1,7 +1,7 @@
 // The numbers that the writer derives on its way down the levels.
 use wavelet::sizes;
 ghost use mathlib.Core.Path.{_≡_};
-ghost use Prim.Native.Nat.{ℕ, _<_, _≤_, _+_, _*_};
+ghost use Prim.Native.Nat.{_<_, _+_, _*_};
 ghost use Rattle.lifting.specs.Line.{count};
 ghost use Rattle.wavelet.specs.Bands.{across, down, code};
 ghost use Rattle.writer.specs.Counts.{prev, deeper, made, most, bandAt, hasRow, skip};

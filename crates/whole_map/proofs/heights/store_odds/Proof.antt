@@ -12,7 +12,7 @@ use Rattle.lifting.specs.Halves.{halvesOf}
 use Rattle.lifting.proofs.LineLaws.{count-hi}
 use Rattle.whole_map.specs.Rowwise.{heightsAt, oddsLaid}
 use Rattle.whole_map.proofs.RowwiseLaws.{laid-past-odd, odds-turn, high-is, laid-first}
-use Rattle.whole_map.proofs.EveryLaws.{every-holds}
+use Rattle.wavelet.proofs.MapTheorems.{every-each}
 use Rattle.whole_map.proofs.HeightLaws.{wholes, wholes-set, start-heights, size-heights, finish-heights, IsHeight, is-height}
 use Rattle.whole_map.proofs.heights.store_odds.Statement.{statement}
 use Rattle.whole_map.proofs.heights.store_odds.Tie as tie
@@ -41,7 +41,7 @@ shared-slice-copy-out-heights c = omega arith
 
 -- what the turn reads is a height
 value : (c : tie.After-heights Inv-loop μ-loop) → IsHeight (at (c .before .before .before .args .row .now) (length (c .before .before .before .args .row .now) - length (c .before .before .before .args .row .now) / 2 + c .before .before .loop .j))
-value c = is-height _ (every-holds _ _ (c .before .before .before .pre .1) _ (omega arith))
+value c = is-height _ (every-each _ _ (c .before .before .before .pre .1) _ (omega arith))
 
 cast-heights : tie.Need-cast-heights Inv-loop μ-loop
 cast-heights c = let v = value c in rw (read-back _ (c .heights .given)) (v .sign, v .fits)

@@ -7,7 +7,7 @@ use borrow.Author.Needs.{needs}
 use Rattle.numbers.specs.Signal.{at}
 use Rattle.writer.specs.Questions.{offerQuestion}
 use Rattle.writer.proofs.CallLaws.{offer-sound}
-use Rattle.writer.proofs.OfferLaws.{Offering, offer-start, offer-turn, offer-ready, offer-no, offer-yes, gone-all, next-is, sound-taker}
+use Rattle.writer.proofs.OfferLaws.{Offering, offer-start, offer-turn, offer-ready, offer-no, offer-yes, gone-all, sound-taker}
 use Rattle.writer.proofs.CallsKeep.{offer-kept}
 use Rattle.writer.proofs.Writer.offer.Statement.{statement}
 use Rattle.writer.proofs.Writer.offer.Tie as tie

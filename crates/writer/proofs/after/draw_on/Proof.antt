@@ -1,5 +1,4 @@
 -- `after::draw_on` meets its contract: the row pulled, and the levels closed on where it is due. Assumes nothing.
-use mathlib.Core.Path.{refl}
 use native.Mathlib.Omega.{arith}
 use borrow.Author.Needs.{needs}
 use Rattle.writer.proofs.CallLaws.{drew-open, drew-waits, drew-closes}

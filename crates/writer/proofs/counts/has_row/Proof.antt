@@ -1,14 +1,14 @@
 -- `counts::has_row` meets its contract: the two tests are the definition's. Assumes nothing.
-use mathlib.Core.Path.{_≡_, refl, _∙_}
+use mathlib.Core.Path.{_≡_}
 use mathlib.Core.Bool.{false}
-use Prim.Native.Nat.{ℕ, _<_, _≤_}
+use Prim.Native.Nat.{ℕ, _<_}
 use native.Mathlib.Omega.{arith}
 use lib.Dec.{ltb}
 use borrow.Author.Needs.{needs}
 use borrow.Author.Tests.{lt-ltb, le-ltb}
 use Rattle.lifting.specs.Line.{count}
 use Rattle.wavelet.specs.Bands.{Band, across, down}
-use Rattle.writer.specs.Counts.{bandAt, hasRow}
+use Rattle.writer.specs.Counts.{hasRow}
 use Rattle.writer.proofs.counts.has_row.Statement.{statement}
 use Rattle.writer.proofs.counts.has_row.Tie as tie
 

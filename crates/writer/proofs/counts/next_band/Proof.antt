@@ -1,6 +1,5 @@
 -- `counts::next_band` meets its contract. The loop's invariant: what k bands come to is what i bands come to. Assumes nothing.
 use mathlib.Core.Path.{_≡_, refl, sym, ap, _∙_}
-use Prim.Native.Nat.{_≤_}
 use native.Mathlib.Omega.{arith}
 use borrow.Author.Needs.{needs}
 use Rattle.writer.specs.Counts.{skip}

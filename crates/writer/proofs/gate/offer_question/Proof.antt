@@ -1,5 +1,5 @@
 -- `gate::offer_question` meets its contract: the questions in the definition's order. Assumes nothing.
-use mathlib.Core.Path.{sym, _∙_}
+use mathlib.Core.Path.{_∙_}
 use native.Mathlib.Omega.{arith}
 use borrow.Author.Needs.{needs}
 use Rattle.writer.proofs.GateLaws.{offer-state, offer-open, offer-limit, offer-passes, offer-empty}

@@ -1,5 +1,4 @@
 -- `offers::fill` meets its contract: two copies of every second height. Assumes nothing.
-use Prim.Native.Nat.{_+_, _*_, _/_, _%_}
 use native.Mathlib.Omega.{arith}
 use borrow.Author.Needs.{needs}
 use Rattle.wavelet.proofs.SizeLaws.{count-lo}

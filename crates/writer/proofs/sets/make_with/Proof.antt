@@ -2,7 +2,6 @@
 use Prim.Native.Nat.{_+_, _*_, _%_}
 use native.Mathlib.Omega.{arith}
 use lib.ListN.{length}
-use Rattle.numbers.specs.Signal.{at}
 use Rattle.writer.proofs.CountLaws.{slot-index, row-room}
 use Rattle.writer.proofs.SetLaws.{set-made}
 use borrow.Author.Needs.{needs}

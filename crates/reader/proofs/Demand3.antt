@@ -1,0 +1,384 @@
+-- Demand 3 for the reader: the theorem. From a fresh reader and store, for every list of calls. Assumes nothing.
+use mathlib.Core.Bool.{Bool, true, false}
+use mathlib.Core.Path.{_≡_, refl, sym, ap, ap₂, subst, _∙_}
+use mathlib.Core.List.{List, [], _∷_, _++_, append-nil, append-assoc}
+use Prim.Native.Nat.{ℕ, zero, suc, _-_, _≤_, _<_}
+use native.Mathlib.Omega.{arith}
+use lib.IntN.{ℤ}
+use lib.ListN.{length}
+use lib.Dec.{T, eqb, ltb}
+use mir.Syntax.{w32}
+use mir.Val.{SFits}
+use borrow.Author.Tests.{le-ltb, ltb-true, eqb-true}
+use Rattle.numbers.specs.Signal.{pick}
+use Rattle.numbers.specs.Word.{wrap32, whole}
+use Rattle.numbers.proofs.Sweep.{both}
+use Rattle.lifting.specs.Line.{count}
+use Rattle.lifting.specs.Halves.{fronted}
+use Rattle.wavelet.specs.Limits.{maxWidth, maxHeight, maxLevels}
+use Rattle.wavelet.specs.Bands.{Grid, Band, LL, across, down}
+use Rattle.wavelet.specs.Levels.{size, approximation, levelBand}
+use Rattle.wavelet.specs.View.{bandColumns}
+use Rattle.wavelet.specs.ViewCall.{bandRowExists}
+use Rattle.wavelet.specs.Maps.{IsMap}
+use Rattle.wavelet.specs.Questions.{ask, within}
+use Rattle.wavelet.specs.Order.{rowName, times}
+use Rattle.wavelet.specs.Steps.{Step, steps, bandRowsOf}
+use Rattle.wavelet.specs.Steps as step
+use Rattle.wavelet.proofs.LevelTheory.{OnCells}
+use Rattle.wavelet.proofs.Bridge.{map-fits, map-band, map-approximation, map-approximation-range}
+use Rattle.wavelet.proofs.MapTheorems.{height-fits, low-fits}
+use Rattle.wavelet.proofs.StepLaws.{steps-once, steps-heights}
+use Rattle.reader.specs.declared.Reader.{Reader}
+use Rattle.reader.specs.Asked.{keptAt, asked}
+use Rattle.reader.specs.Tried.{fits}
+use Rattle.reader.specs.State.{drawDue, feeds, settles}
+use Rattle.reader.specs.Questions.{countsFit, setUpQuestion, feedQuestion, drawQuestion}
+use Rattle.reader.specs.Calls.{fresh, feedAnswer, drawAnswer, drawArea}
+use Rattle.reader.specs.Demand3.{Area, Call, want, feed, draw, Reply, gives, refused, row, done, Given, heights, nothing, Event, wanted, fed, drew, saidFeed, saidDraw, World, event, events, final, freshWorld, leftBy, left, ends, endedBy, FedRow, fedBy, fedRows, drawnBy, drawnRows, All, none, more, HasRow, FirstRows, wantSays, feedTurned, drawSays, OneOf, this, that, written, Draws, Demand3}
+use Rattle.reader.specs.Demand3 as demand
+use Rattle.reader.proofs.StepsLeft.{left-first}
+use Rattle.reader.proofs.Holds.{Fits, first-holds}
+use Rattle.reader.proofs.CallViews.{Limits, limits, within-both, here, View, at-end, at-height, at-row, view, counts, want-says, FeedView, feed-away, feed-onward, feed-view, DrawView, draw-away, draw-idle, draw-onward, draw-view}
+use Rattle.reader.proofs.Reached.{namesOf, Good, HasWords, Agrees, Kept, Reached, reached, world, call-reached}
+use Rattle.reader.proofs.Rebuilt.{lookup, lookup-words, found, all-in, in-all, rebuilt-words, back, back-has}
+
+-- ---- the list of calls
+endedFrom : Bool → List Event → Bool
+endedFrom e [] = e
+endedFrom e (ev ∷ es) = endedFrom (pick (ends ev) true e) es
+
+ended-from : (e : Bool) (es : List Event) → endedFrom e es ≡ pick e true (endedBy es)
+unfolding endedFrom endedBy
+ended-from e [] = go e
+  where
+    go : (e : Bool) → e ≡ pick e true false
+    go true = refl
+    go false = refl
+ended-from e (ev ∷ es) = ended-from (pick (ends ev) true e) es ∙ go (ends ev) e
+  where
+    go : (a e : Bool) → pick (pick a true e) true (endedBy es) ≡ pick e true (pick a true (endedBy es))
+    go true true = refl
+    go true false = refl
+    go false e = refl
+
+-- Done is said with no step left, and not after 14
+pub done-only : (W : ℕ) (u : Bool) (v : List Step) → wantSays W u v ≡ done → (u ≡ false) × (v ≡ [])
+unfolding wantSays
+done-only W true v z = absurd (let p : _≡_ {A = ℕ} 0 1 = cc in omega arith)
+done-only W false [] z = (refl, refl)
+done-only W false (step.feed y ∷ v) z = absurd (let p : _≡_ {A = ℕ} 0 1 = cc in omega arith)
+done-only W false (step.draw r ∷ v) z = absurd (let p : _≡_ {A = ℕ} 0 1 = cc in omega arith)
+
+-- a set-up of no levels does not pass
+no-levels : (W H n : ℕ) → setUpQuestion W H 0 n ≡ 0 → ⊥
+unfolding setUpQuestion within
+no-levels W H n = go (within 1 maxWidth W) (within 1 maxHeight H)
+  where
+    go : (s t : Bool) → ask s 2 (ask t 3 4) ≡ 0 → ⊥
+    go true true z = omega arith
+    go true false z = omega arith
+    go false t z = omega arith
+
+module _ (W H l n : ℕ) (lim : Limits W H l n) where
+  calls-reached : (cs : List Call) (w : World) (e : Bool) (t : List Step) (fs : List FedRow) (ds : List (ℕ → ℤ)) → Reached W H l n lim w e t fs ds → Reached W H l n lim (final cs w) (endedFrom e (events cs w)) (left t (events cs w)) (fs ++ fedRows t (events cs w)) (ds ++ drawnRows (events cs w))
+  unfolding final events endedFrom left fedRows drawnRows
+  calls-reached [] w e t fs ds r = rw (append-nil fs, append-nil ds) r
+  calls-reached (c ∷ cs) w e t fs ds r =
+      rw (← append-assoc fs (fedBy t (event c w)) (fedRows (leftBy t (event c w)) (events cs (demand.next c w))), ← append-assoc ds (drawnBy (event c w)) (drawnRows (events cs (demand.next c w))))
+      (calls-reached cs (demand.next c w) (pick (ends (event c w)) true e) (leftBy t (event c w)) (fs ++ fedBy t (event c w)) (ds ++ drawnBy (event c w)) (call-reached W H l n lim c w e t fs ds r))
+
+  tall : 0 < H
+  tall = within-both 1 maxHeight H (lim .high) .0
+
+  few : suc l ≤ 5
+  unfolding maxLevels
+  few = within-both 1 maxLevels (suc l) (lim .deep) .1
+
+  fresh-reached : (x : ℕ → ℤ) → Reached W H l n lim (freshWorld W H (suc l) n x) false (steps W H (suc l)) [] []
+  unfolding fresh namesOf
+  fresh-reached x = reached 0 (suc l) 0 false _ (steps W H (suc l)) [] [] (record {
+    drawn-le = omega arith;
+    level-le = omega arith;
+    band-le = omega arith;
+    left = left-first W H l tall;
+    drawn = refl;
+    good = none;
+    names = λ _. refl;
+    grids = λ g words _. record {
+      fit = λ r c p q. absurd (omega arith);
+      shows = λ r c p q. absurd (omega arith);
+      holds = λ _ _. first-holds W H l g words _;
+      refuses = λ z. absurd (subst T (sym z) tt);
+    };
+  })
+
+  then-reached : (x : ℕ → ℤ) (cs : List Call) → Reached W H l n lim (final cs (freshWorld W H (suc l) n x)) (endedBy (events cs (freshWorld W H (suc l) n x))) (left (steps W H (suc l)) (events cs (freshWorld W H (suc l) n x))) (fedRows (steps W H (suc l)) (events cs (freshWorld W H (suc l) n x))) (drawnRows (events cs (freshWorld W H (suc l) n x)))
+  then-reached x cs = subst (λ e. Reached W H l n lim (final cs (freshWorld W H (suc l) n x)) e (left (steps W H (suc l)) (events cs (freshWorld W H (suc l) n x))) (fedRows (steps W H (suc l)) (events cs (freshWorld W H (suc l) n x))) (drawnRows (events cs (freshWorld W H (suc l) n x)))) (ended-from false (events cs (freshWorld W H (suc l) n x))) (calls-reached cs _ false (steps W H (suc l)) [] [] (fresh-reached x))
+
+  -- ---- what a row fed says of a map, over words and over whole numbers
+  asked-row : (t : Bool) (w h r : ℕ) (b : Band) → asked t w h r b ≡ true → (keptAt t b ≡ true) × (r < count (down b) h)
+  unfolding asked
+  asked-row t w h r b e =
+      let a = both (keptAt t b) _ e in
+      let c = both (ltb 0 (count (across b) w)) _ (a .1) in
+      (a .0, ltb-true r (count (down b) h) (c .1))
+
+  -- the cells of a row fed are cells of its band
+  in-band : (f : FedRow) (P : ℕ → ℕ → Type 0) (good : Good W H l f) → ((i : ℕ) → i < count (across (f .row .band)) (size (good .k) W) → P (suc (good .k)) i) → (i : ℕ) → i < bandColumns W (f .row .level) (f .row .band) → P (f .row .level) i
+  unfolding bandColumns
+  in-band f P good h i p =
+      let z : suc (good .k) - 1 ≡ good .k = omega arith in
+      let q : i < count (across (f .row .band)) (size (suc (good .k) - 1) W) = subst (λ v. i < count (across (f .row .band)) (size (v - 1) W)) (good .level) p in
+      subst (λ v. P v i) (sym (good .level)) (h i (rw z at q))
+
+  exact : (g : Grid) → IsMap W H g → (f : FedRow) → Good W H l f → (i : ℕ) → i < bandColumns W (f .row .level) (f .row .band) → levelBand wrap32 W H g (f .row .level) (f .row .band) (f .row .row) i ≡ levelBand whole W H g (f .row .level) (f .row .band) (f .row .row) i
+  exact g m f good =
+      in-band f (λ v i. levelBand wrap32 W H g v (f .row .band) (f .row .row) i ≡ levelBand whole W H g v (f .row .band) (f .row .row) i) good
+      (λ i p. map-band W H g m (good .k) (omega (arith, good .inside, few)) (f .row .band) (f .row .row) i (asked-row _ _ _ _ _ (good .asks) .1) p)
+
+  words-of : (g : Grid) → IsMap W H g → (fs : List FedRow) → All (Good W H l) fs → All (HasRow W H g) fs → All (HasWords W H l g) fs
+  words-of g m [] none none = none
+  words-of g m (f ∷ fs) (more good gs) (more h hs) = more (λ i p. h .values i p ∙ sym (exact g m f good i p)) (words-of g m fs gs hs)
+
+  wholes-of : (g : Grid) → IsMap W H g → (fs : List FedRow) → All (Good W H l) fs → All (HasWords W H l g) fs → All (HasRow W H g) fs
+  wholes-of g m [] none none = none
+  wholes-of g m (f ∷ fs) (more good gs) (more h hs) = more (record { size = good .size; values = λ i p. h i p ∙ exact g m f good i p }) (wholes-of g m fs gs hs)
+
+  -- every value of a map and of its low-low parts fits
+  map-fitting : (g : Grid) (m : IsMap W H g) → Fits W H l g (map-fits W H g m)
+  unfolding approximation size
+  map-fitting g m zero r c h p q = height-fits (g r c) .1 (m .heights r c p q)
+  map-fitting g m (suc k) r c h p q = low-fits k _ .1 (rw (map-approximation W H g m (suc k) (omega (arith, few)) r c p q) (map-approximation-range W H g m (suc k) r c p q))
+
+  -- ---- each part of the claim, for a world that is reached
+  module _ (d lev b : ℕ) (e : Bool) (x : ℕ → ℤ) (t : List Step) (fs : List FedRow) (ds : List (ℕ → ℤ)) (kept : Kept W H l d lev b e x t fs ds) where
+    viewed : View W H l d lev b t
+    viewed = subst (View W H l d lev b) (kept .left) (view W H l d lev b)
+
+    want-is : event want (world W H l n lim d lev b e x) ≡ wanted (gives (wantSays W e t))
+    unfolding event
+    want-is = ap wanted (want-says W H l n lim d lev b (kept .drawn-le) (kept .level-le) (kept .band-le) e t viewed)
+
+    -- ---- feed
+    module _ (a : Area) where
+      abbrev seenFeed : ℕ → Event
+      seenFeed q = fed a (saidFeed (feedAnswer (here W H l d lev b e) q))
+
+      seen-away : (q : ℕ) → eqb q 0 ≡ false → eqb q 14 ≡ false → seenFeed q ≡ fed a (refused q)
+      unfolding feedAnswer
+      seen-away q z f = rw (z, f) refl
+
+      seen-goes : seenFeed 0 ≡ fed a (gives tt)
+      unfolding feedAnswer
+      seen-goes = refl
+
+      seen-stops : seenFeed 14 ≡ fed a (refused 14)
+      unfolding feedAnswer
+      seen-stops = refl
+
+      feed-turned : (q : ℕ) → feedTurned W e t a ≡ suc q → event (feed a) (world W H l n lim d lev b e x) ≡ fed a (refused (suc q))
+      unfolding event
+      feed-turned q h = go (feed-view W H l n lim d lev b (kept .drawn-le) (kept .level-le) (kept .band-le) e t x a viewed)
+        where
+          go : FeedView W H l n lim d lev b (kept .drawn-le) (kept .level-le) (kept .band-le) e t x a → seenFeed (feedQuestion (here W H l d lev b e) n x (a .size) (a .numbers)) ≡ fed a (refused (suc q))
+          go (feed-away p f z z′ at) = ap seenFeed at ∙ seen-away p z z′ ∙ ap (λ i. fed a (refused i)) (sym f ∙ h)
+          go (feed-onward k c live due below asks is-row head long in-range f at) = absurd (omega (arith, f, h))
+
+      feed-on : feedTurned W e t a ≡ 0 → OneOf (event (feed a) (world W H l n lim d lev b e x)) (fed a (gives tt)) (fed a (refused 14))
+      unfolding event
+      feed-on h = go (feed-view W H l n lim d lev b (kept .drawn-le) (kept .level-le) (kept .band-le) e t x a viewed)
+        where
+          zero-away : (q : ℕ) → q ≡ 0 → eqb q 0 ≡ false → ⊥
+          zero-away q f z = subst T (ap (λ i. eqb i 0) (sym f) ∙ z) tt
+
+          go : FeedView W H l n lim d lev b (kept .drawn-le) (kept .level-le) (kept .band-le) e t x a → OneOf (seenFeed (feedQuestion (here W H l d lev b e) n x (a .size) (a .numbers))) (fed a (gives tt)) (fed a (refused 14))
+          go (feed-away p f z z′ at) = absurd (zero-away p (sym f ∙ h) z)
+          go (feed-onward k c live due below asks is-row head long in-range f at) = tried (fits (feeds (here W H l d lev b e) (a .numbers) x)) at
+            where
+              tried : (u : Bool) → feedQuestion (here W H l d lev b e) n x (a .size) (a .numbers) ≡ ask u 14 0 → OneOf (seenFeed (feedQuestion (here W H l d lev b e) n x (a .size) (a .numbers))) (fed a (gives tt)) (fed a (refused 14))
+              tried true z = this (ap seenFeed z ∙ seen-goes)
+              tried false z = that (ap seenFeed z ∙ seen-stops)
+
+    -- ---- draw
+    module _ (a : Area) where
+      abbrev s : Reader
+      s = here W H l d lev b e
+
+      abbrev seenDraw : ℕ → Event
+      seenDraw q = drew a (saidDraw (drawAnswer s q)) (record { size = a .size; numbers = drawArea s q x (a .numbers) })
+
+      drawn-away : (q : ℕ) → eqb q 0 ≡ false → eqb q 14 ≡ false → drawSays W e t (a .size) ≡ refused q → Draws W e t a (seenDraw q)
+      unfolding drawAnswer drawArea
+      drawn-away q z f says = rw (z, f) (record {
+        answer = refused q;
+        after = a;
+        is = refl;
+        size = refl;
+        untouched = λ i p. refl;
+        says = this (sym says);
+        possible = λ r. absurd (no-fourteen r);
+      })
+        where
+          no-fourteen : _≡_ {A = Reply Given} (refused q) (refused 14) → ⊥
+          no-fourteen r = let p : q ≡ 14 = cc in subst T (ap (λ i. eqb i 14) (sym p) ∙ f) tt
+
+      drawn-idle : drawDue s ≡ false → drawSays W e t (a .size) ≡ gives nothing → Draws W e t a (seenDraw 0)
+      unfolding drawAnswer drawArea
+      drawn-idle z says = rw z (record {
+        answer = gives nothing;
+        after = a;
+        is = refl;
+        size = refl;
+        untouched = λ i p. refl;
+        says = this (sym says);
+        possible = λ r. absurd (let p : _≡_ {A = ℕ} 0 1 = cc in omega arith);
+      })
+
+      drawn-stops : drawSays W e t (a .size) ≡ gives (heights W) → Draws W e t a (seenDraw 14)
+      unfolding drawAnswer drawArea
+      drawn-stops says = record {
+        answer = refused 14;
+        after = a;
+        is = refl;
+        size = refl;
+        untouched = λ i p. refl;
+        says = that refl;
+        possible = λ _. says;
+      }
+
+      drawn-goes : drawDue s ≡ true → drawSays W e t (a .size) ≡ gives (heights W) → Draws W e t a (seenDraw 0)
+      unfolding drawAnswer drawArea written
+      drawn-goes z says = rw z (record {
+        answer = gives (heights W);
+        after = record { size = a .size; numbers = fronted W _ (a .numbers) };
+        is = refl;
+        size = refl;
+        untouched = λ i p. unfold fronted in rw (le-ltb i W p) refl;
+        says = this (sym says);
+        possible = λ r. absurd (let p : _≡_ {A = ℕ} 0 1 = cc in omega arith);
+      })
+
+      draw-is : Draws W e t a (event (draw a) (world W H l n lim d lev b e x))
+      unfolding event
+      draw-is = go (draw-view W H l n lim d lev b (kept .drawn-le) (kept .level-le) (kept .band-le) e t x a viewed)
+        where
+          go : DrawView W H l n lim d lev b (kept .drawn-le) (kept .level-le) (kept .band-le) e t x a → Draws W e t a (seenDraw (drawQuestion s n x (a .size)))
+          go (draw-away q z f says at) = subst (λ i. Draws W e t a (seenDraw i)) (sym at) (drawn-away q z f says)
+          go (draw-idle live z says at) = subst (λ i. Draws W e t a (seenDraw i)) (sym at) (drawn-idle z says)
+          go (draw-onward live due is-height head to-draw says at) = subst (λ i. Draws W e t a (seenDraw i)) (sym at) (tried (fits (settles s x)))
+            where
+              tried : (u : Bool) → Draws W e t a (seenDraw (ask u 14 0))
+              tried true = drawn-goes to-draw says
+              tried false = drawn-stops says
+
+    -- ---- maps that have the rows fed
+    agrees : (g : Grid) (m : IsMap W H g) → All (HasRow W H g) fs → Agrees W H l g (map-fits W H g m) d lev b e x ds
+    agrees g m has = kept .grids g (map-fits W H g m) (words-of g m fs (kept .good) has)
+
+    first-rows : (g : Grid) → IsMap W H g → All (HasRow W H g) fs → FirstRows W g ds
+    first-rows g m has = record { are = λ r c p q. agrees g m has .shows r c (omega (arith, kept .drawn)) q }
+
+    none-has : e ≡ true → (g : Grid) → IsMap W H g → All (HasRow W H g) fs → ⊥
+    none-has z g m has = agrees g m has .refuses z (map-fitting g m)
+
+    -- ---- Done
+    all-drawn : View W H l d lev b [] → H ≤ d
+    all-drawn (at-end h) = h
+
+    none-left : (v : List Step) → View W H l d lev b v → H ≤ d → v ≡ []
+    none-left _ (at-end h) p = refl
+    none-left _ (at-height due q) p = absurd (omega arith)
+    none-left _ (at-row k c due h i q) p = absurd (omega arith)
+
+    -- the grid that has the rows fed
+    module _ (live : e ≡ false) (over : t ≡ []) where
+      all-names : namesOf fs ≡ bandRowsOf (steps W H (suc l))
+      unfolding bandRowsOf
+      all-names = sym (append-nil (namesOf fs)) ∙ ap (λ v. namesOf fs ++ bandRowsOf v) (sym over) ∙ kept .names live
+
+      words-at : (k : ℕ) (c : Band) (r i : ℕ) → k ≤ l → r < count (down c) (size k H) → i < count (across c) (size k W) → SFits w32 (lookup fs (rowName (suc k) c r) i)
+      unfolding bandColumns
+      words-at k c r i h p q = let z : suc k - 1 ≡ k = omega arith in lookup-words W H l few fs (kept .good) (rowName (suc k) c r) i (rw z q)
+
+      abbrev grid : Grid
+      grid = back W H l (lookup fs) words-at
+
+      grid-words : OnCells (SFits w32) W H grid
+      unfolding size
+      grid-words = rebuilt-words W H l (lookup fs) words-at (suc l) 0 (omega arith)
+
+      once : (f : FedRow) → times (f .row) (namesOf fs) ≤ 1
+      once f = rw (all-names, steps-once W H (suc l) tall (omega arith) (f .row)) (go (bandRowExists W H (suc l) (f .row .level) (f .row .band) (f .row .row)))
+        where
+          go : (u : Bool) → pick u 1 0 ≤ 1
+          go true = omega arith
+          go false = omega arith
+
+      kept-last : (k : ℕ) (c : Band) → keptAt (eqb (suc k) (suc l)) c ≡ true → c ≡ LL → k ≡ l
+      unfolding keptAt
+      kept-last k c h z = let q : keptAt (eqb (suc k) (suc l)) LL ≡ true = subst (λ v. keptAt (eqb (suc k) (suc l)) v ≡ true) z h in let p = eqb-true (suc k) (suc l) q in omega arith
+
+      grid-has : All (HasWords W H l grid) fs
+      grid-has = all-in fs (λ f i. one f (in-all f fs i (kept .good)) (found f fs i (once f)))
+        where
+          one : (f : FedRow) → Good W H l f → lookup fs (f .row) ≡ f .run .numbers → HasWords W H l grid f
+          one f good eq i p =
+              sym (in-band f (λ v j. levelBand wrap32 W H grid v (f .row .band) (f .row .row) j ≡ lookup fs (rowName v (f .row .band) (f .row .row)) j) good
+              (λ j q. let a = asked-row _ _ _ _ _ (good .asks) in back-has W H l (lookup fs) words-at (good .k) (f .row .band) (good .inside) (kept-last (good .k) (f .row .band) (a .0)) (f .row .row) j (a .1) q) i p
+              ∙ ap (λ u. u i) eq)
+
+      grid-agrees : Agrees W H l grid grid-words d lev b e x ds
+      grid-agrees = kept .grids grid grid-words grid-has
+
+      d-is : d ≡ H
+      d-is = omega (arith, kept .drawn-le, all-drawn (subst (View W H l d lev b) over viewed))
+
+      grid-map : IsMap W H grid
+      grid-map = record { heights = λ r c p q. height-fits (grid r c) .0 (grid-agrees .fit r c (omega (arith, d-is)) q) }
+
+      grid-rows : All (HasRow W H grid) fs
+      grid-rows = wholes-of grid grid-map fs (kept .good) grid-has
+
+    finished-then : event want (world W H l n lim d lev b e x) ≡ wanted (gives done) → (g : Grid) × IsMap W H g × All (HasRow W H g) fs × (length ds ≡ H) × FirstRows W g ds
+    finished-then z =
+        let w : _≡_ {A = Event} (wanted (gives (wantSays W e t))) (wanted (gives done)) = sym want-is ∙ z in
+        let v : wantSays W e t ≡ done = cc in
+        let o = done-only W e t v in
+        (grid (o .0) (o .1), grid-map (o .0) (o .1), grid-rows (o .0) (o .1), kept .drawn ∙ d-is (o .0) (o .1), first-rows (grid (o .0) (o .1)) (grid-map (o .0) (o .1)) (grid-rows (o .0) (o .1)))
+
+    not-ended : (u : Bool) → (u ≡ true → ⊥) → u ≡ false
+    not-ended true h = absurd (h refl)
+    not-ended false h = refl
+
+    then-finished : (g : Grid) → IsMap W H g → All (HasRow W H g) fs → length ds ≡ H → event want (world W H l n lim d lev b e x) ≡ wanted (gives done)
+    unfolding wantSays
+    then-finished g m has all =
+        let live : e ≡ false = not-ended e (λ z. none-has z g m has) in
+        let over : t ≡ [] = none-left t viewed (omega (arith, kept .drawn, all)) in
+        want-is ∙ ap₂ (λ u v. wanted (gives (wantSays W u v))) live over
+
+  -- ---- the claim, for a world that is reached
+  claim : (w : World) (es : List Event) → Reached W H l n lim w (endedBy es) (left (steps W H (suc l)) es) (fedRows (steps W H (suc l)) es) (drawnRows es) → (countsFit (w .reader) ≡ true) × Demand3 W H (suc l) es (λ c. event c w)
+  claim _ es (reached d lev b e x t fs ds kept) = (
+    counts W H l n lim d lev b (kept .drawn-le) (kept .level-le) (kept .band-le) e,
+    record {
+      rows-once = steps-once W H (suc l) tall (omega arith);
+      heights-once = steps-heights W H (suc l);
+      wants = want-is d lev b e x t fs ds kept;
+      feeds-turned = feed-turned d lev b e x t fs ds kept;
+      feeds-on = feed-on d lev b e x t fs ds kept;
+      draws = draw-is d lev b e x t fs ds kept;
+      first = λ g has. first-rows d lev b e x t fs ds kept g (has .map) (has .rows);
+      impossible = λ z g has. none-has d lev b e x t fs ds kept z g (has .map) (has .rows);
+      finished = (
+        λ z. let f = finished-then d lev b e x t fs ds kept z in (f .0, record { map = f .1; rows = f .2 }, f .3, f .4),
+        λ f. then-finished d lev b e x t fs ds kept (f .0) (f .1 .map) (f .1 .rows) (f .2),
+      );
+    },
+  )
+
+-- ---- demand 3: a set-up that passes, on a store of n numbers in which x stood, then any calls. Every state that is reached passes question 1, and the claim holds.
+pub demand-3 : (W H L n : ℕ) → setUpQuestion W H L n ≡ 0 → (x : ℕ → ℤ) (cs : List Call) → (countsFit (final cs (freshWorld W H L n x) .reader) ≡ true) × Demand3 W H L (events cs (freshWorld W H L n x)) (λ c. event c (final cs (freshWorld W H L n x)))
+demand-3 W H zero n ok x cs = absurd (no-levels W H n ok)
+demand-3 W H (suc l) n ok x cs = claim W H l n (limits W H l n ok) _ _ (then-reached W H l n (limits W H l n ok) x cs)

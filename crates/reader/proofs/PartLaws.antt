@@ -1,0 +1,165 @@
+-- A level's stretch of the store, lent and come back: as signals, from place a on. Assumes nothing.
+use mathlib.Core.Path.{_≡_, refl, sym, ap, _∙_, fun-ext}
+use mathlib.Core.List.{List}
+use mathlib.Core.Bool.{Bool, true, false}
+use Prim.Native.Nat.{ℕ, zero, suc, _+_, _-_, _*_, _≤_, _<_}
+use native.Mathlib.Decide.{decLt, ℕ-discrete}
+use native.Mathlib.Omega.{arith}
+use native.Mathlib.Numerals.{add-one}
+use lib.IntN.{ℤ, pos}
+use lib.Dec.{eqb}
+use lib.ListN.{length, List·getD-eq-default}
+use borrow.Author.Tests.{lt-ltb, le-ltb, eq-eqb, ne-eqb}
+use borrow.Rule.Slice.PartMut.{midOf, putMid}
+use Rattle.numbers.specs.Signal.{at, pick, windowed, spliced}
+use Rattle.numbers.proofs.Parts.{window-in, window-past, splice-below, splice-in, splice-past, length-mid, at-mid, at-put}
+use Rattle.lifting.specs.Line.{Half, lo, hi, count}
+use Rattle.lifting.specs.Halves.{fronted}
+use Rattle.wavelet.specs.Bands.{across, down}
+use Rattle.wavelet.specs.Levels.{size}
+use Rattle.wavelet.specs.Store.{storeLength}
+use Rattle.wavelet.proofs.SizeLaws.{size-suc, size-le, count-le, count-sum}
+use Rattle.reader.specs.declared.walk.Level.{Level}
+use Rattle.reader.specs.Sets.{rowAt}
+use Rattle.reader.specs.Asked.{named}
+use Rattle.reader.specs.Tried.{Tried, failed, passed, outcome, onto}
+use Rattle.reader.specs.Slots.{rowPlace, setRow, halfPlace, bandFed}
+use Rattle.reader.specs.Work.{setWorked}
+use Rattle.reader.specs.Store.{stretchAt, from, behind, fedAt, workedAt}
+use Rattle.reader.specs.Inside.{IsLevel}
+use Rattle.reader.proofs.AreaLaws.{front-at}
+use Rattle.reader.proofs.StoreLaws.{stretch-suc, stretch-in, stretch-is, stretch-small}
+use Rattle.reader.proofs.SetLaws.{row-in}
+use Rattle.reader.proofs.SlotLaws.{slot-room, place-is}
+
+module _ (a : ℕ) (x y : ℕ → ℤ) (j : ℕ) where
+  pub behind-below : j < a → behind a x y j ≡ x j
+  unfolding behind
+  behind-below h = simp (lt-ltb j a h)
+
+  pub behind-past : a ≤ j → behind a x y j ≡ y (j - a)
+  unfolding behind
+  behind-past h = simp (le-ltb j a h)
+
+pub from-at : (a : ℕ) (x : ℕ → ℤ) (j : ℕ) → from a x j ≡ x (a + j)
+unfolding from
+from-at a x j = refl
+
+-- ---- a part that reaches to the end
+past-end : (l : List ℤ) (j : ℕ) → length l ≤ j → at l j ≡ pos 0
+past-end l j h = List·getD-eq-default l (pos 0) h
+
+module _ (a n : ℕ) (l : List ℤ) (whole : a + n ≡ length l) where
+  pub at-rest : at (midOf a n l) ≡ from a (at l)
+  at-rest = at-mid a n l ∙ fun-ext λ j. elim (decLt j n) [
+    | yes p ↦ window-in a n (at l) j p ∙ sym (from-at a (at l) j)
+    | no q ↦ window-past a n (at l) j (omega arith) ∙ sym (from-at a (at l) j ∙ past-end l (a + j) (omega arith))
+  ]
+
+  pub at-put-rest : (ys : List ℤ) → length ys ≡ n → at (putMid a n l ys) ≡ behind a (at l) (at ys)
+  at-put-rest ys e = at-put a n l ys e (omega arith) ∙ fun-ext λ j. elim (decLt j a) [
+    | yes p ↦ splice-below a n (at ys) (at l) j p ∙ sym (behind-below a (at l) (at ys) j p)
+    | no q ↦ elim (decLt j (a + n)) [
+      | yes r ↦ splice-in a n (at ys) (at l) j (omega arith) r ∙ sym (behind-past a (at l) (at ys) j (omega arith))
+      | no r ↦ splice-past a n (at ys) (at l) j (omega arith) ∙ past-end l j (omega arith) ∙ sym (behind-past a (at l) (at ys) j (omega arith) ∙ past-end ys (j - a) (omega arith))
+    ]
+  ]
+
+-- ---- numbers copied into a part
+copied : (a n : ℕ) (v z x : ℕ → ℤ) → spliced a n (fronted n v z) x ≡ spliced a n v x
+copied a n v z x = fun-ext λ j. elim (decLt j a) [
+  | yes p ↦ splice-below a n (fronted n v z) x j p ∙ sym (splice-below a n v x j p)
+  | no q ↦ elim (decLt j (a + n)) [
+    | yes r ↦ splice-in a n (fronted n v z) x j (omega arith) r ∙ front-at n v z (j - a) (omega arith) ∙ sym (splice-in a n v x j (omega arith) r)
+    | no r ↦ splice-past a n (fronted n v z) x j (omega arith) ∙ sym (splice-past a n v x j (omega arith))
+  ]
+]
+
+-- a splice within the rest of a store is a splice of the store
+behind-splice : (a p n : ℕ) (v x : ℕ → ℤ) → spliced (a + p) n v x ≡ behind a x (spliced p n v (from a x))
+behind-splice a p n v x = fun-ext λ j. elim (decLt j a) [
+  | yes r ↦ splice-below (a + p) n v x j (omega arith) ∙ sym (behind-below a x _ j r)
+  | no r ↦ inside j (omega arith) ∙ sym (behind-past a x _ j (omega arith))
+]
+  where
+    inside : (j : ℕ) → a ≤ j → spliced (a + p) n v x j ≡ spliced p n v (from a x) (j - a)
+    inside j h =
+        let back : a + (j - a) ≡ j = omega arith in
+        let here : from a x (j - a) ≡ x j = from-at a x (j - a) ∙ ap x back in
+        elim (decLt j (a + p)) [
+          | yes q ↦ splice-below (a + p) n v x j q ∙ sym (splice-below p n v (from a x) (j - a) (omega arith) ∙ here)
+          | no q ↦ elim (decLt j (a + p + n)) [
+            | yes s ↦
+                let same : j - (a + p) ≡ j - a - p = omega arith in
+                splice-in (a + p) n v x j (omega arith) s ∙ ap v same ∙ sym (splice-in p n v (from a x) (j - a) (omega arith) (omega arith))
+            | no s ↦ splice-past (a + p) n v x j (omega arith) ∙ sym (splice-past p n v (from a x) (j - a) (omega arith) ∙ here)
+          ]
+        ]
+
+-- ---- a band row put
+pub put-is : (W H d k c : ℕ) (l : Level) (a p m : ℕ) (v : List ℤ) (s ys : List ℤ) → IsLevel W H d k l → p ≡ rowPlace (l .width) (setRow (down (named c)) (l .set)) + halfPlace (across (named c)) (l .width) → a ≡ l .start + p → m ≡ length v → length v ≡ count (across (named c)) (size k W) → a + m ≤ length s → length ys ≡ m → at ys ≡ fronted (length v) (at v) (at (midOf a m s)) → at (putMid a m s ys) ≡ fedAt W H d k c (at v) (at s)
+unfolding fedAt bandFed
+put-is W H d k c l a p m v s ys is ep ea em en room long made =
+    let n = count (across (named c)) (size k W) in
+    let q = rowPlace (size k W) (setRow (down (named c)) (rowAt H d (suc k))) + halfPlace (across (named c)) (size k W) in
+    let place : a ≡ stretchAt W k + q = cc (ea, ep, is .start, is .width, is .set) in
+    let size : m ≡ n = em ∙ en in
+    let z = at (midOf a m s) in
+    let step : at ys ≡ fronted n (at v) z = cc (made, en) in
+    at-put a m s ys long room
+    ∙ ap (λ (y : ℕ → ℤ). spliced a m y (at s)) step
+    ∙ ap (λ (i : ℕ). spliced a i (fronted n (at v) z) (at s)) size
+    ∙ copied a n (at v) z (at s)
+    ∙ ap (λ (i : ℕ). spliced i n (at v) (at s)) place
+    ∙ behind-splice (stretchAt W k) q n (at v) (at s)
+
+-- a half lies within its row
+pub half-in : (b : Half) (w : ℕ) → halfPlace b w + count b w ≤ w
+unfolding halfPlace
+half-in lo w = omega (arith, count-le lo w)
+half-in hi w = omega (arith, count-sum w)
+
+-- ---- a set worked out in its level's stretch
+onto-outcome : (f : (ℕ → ℤ) → ℕ → ℤ) (ok : Bool) (y : ℕ → ℤ) → outcome ok (f y) ≡ onto f (outcome ok y)
+unfolding onto
+onto-outcome f true y = refl
+onto-outcome f false y = refl
+
+pub work-is : (W H L d k : ℕ) (l : Level) (a n : ℕ) (s ys : List ℤ) (ok : Bool) → IsLevel W H d k l → a ≡ l .start → a + n ≡ length s → length ys ≡ n → outcome ok (at ys) ≡ setWorked (eqb (k + 1) L) k (l .width) (l .height) (l .set) (at (midOf a n s)) → outcome ok (at (putMid a n s ys)) ≡ workedAt W H L d k (at s)
+unfolding workedAt
+work-is W H L d k l a n s ys ok is ea whole long made =
+    let place : a ≡ stretchAt W k = ea ∙ is .start in
+    ap (outcome ok) (at-put-rest a n s whole ys long)
+    ∙ onto-outcome (behind a (at s)) ok (at ys)
+    ∙ ap (onto (behind a (at s))) (made ∙ cc (is .width, is .height, is .set, add-one k, at-rest a n s whole))
+    ∙ ap (λ (i : ℕ). onto (behind i (at s)) (setWorked (eqb (suc k) L) k (size k W) (size k H) (rowAt H d (suc k)) (from i (at s)))) place
+
+-- the stretch, and below the last level the next one's, lie within the store
+pub stretch-room : (W k L : ℕ) → k < L → stretchAt W k + (4 * size k W + 4 * pick (eqb (k + 1) L) 0 (count lo (size k W))) ≤ stretchAt W L
+stretch-room W k L h = elim (ℕ-discrete (k + 1) L) [
+  | yes e ↦ rw (eq-eqb (k + 1) L e) (omega (arith, stretch-suc W k, stretch-in W (suc k) L (omega arith)))
+  | no d ↦ rw (ne-eqb (k + 1) L d) (omega (arith, stretch-suc W k, stretch-suc W (suc k), size-suc k W, stretch-in W (suc (suc k)) L (omega arith)))
+]
+
+-- ---- the same of a level
+module _ (W H d k : ℕ) (l : Level) (is : IsLevel W H d k l) where
+  pub level-in : 0 < H → W ≤ 65536 → H ≤ 4294967295 → (l .start ≤ 262144 * k) × (l .width ≤ 65536) × (l .height ≤ 4294967295) × (l .set < count lo (l .height)) × (l .set ≤ 4294967295)
+  level-in some wide high =
+      let set : l .set < count lo (l .height) = rw (is .set, is .height) (row-in H d k some) in (
+        rw (is .start) (stretch-small W k wide),
+        omega (arith, is .width, size-le k W),
+        omega (arith, is .height, size-le k H),
+        set,
+        omega (arith, set, is .height, size-le k H, count-le lo (l .height)),
+      )
+
+  pub work-room : (L : ℕ) → k < L → l .start + (4 * l .width + 4 * pick (eqb (k + 1) L) 0 (count lo (l .width))) ≤ storeLength W L
+  work-room L h = rw (is .start, is .width, ← stretch-is W L) (stretch-room W k L h)
+
+  pub put-room : (c p n : ℕ) → p ≡ rowPlace (l .width) (setRow (down (named c)) (l .set)) + halfPlace (across (named c)) (l .width) → n ≡ count (across (named c)) (size k W) → l .start + p + n ≤ storeLength W (k + 1)
+  put-room c p n ep en =
+      let w = l .width in
+      let r = setRow (down (named c)) (l .set) in
+      let half = half-in (across (named c)) w in
+      let columns : n ≡ count (across (named c)) w = rw (is .width) en in
+      rw (← stretch-is W (k + 1), add-one k, stretch-suc W k) (omega (arith, is .start, is .width, place-is w r, slot-room w r))

@@ -1,0 +1,201 @@
+-- The questions, one after another: what each no and each yes says. Assumes nothing.
+use mathlib.Core.Path.{_≡_, refl, sym, ap, _∙_}
+use mathlib.Core.Bool.{Bool, true, false}
+use Prim.Native.Nat.{ℕ, zero, suc, _≤_, _<_}
+use native.Mathlib.Omega.{arith}
+use lib.IntN.{ℤ}
+use lib.Dec.{leb, ltb, eqb}
+use borrow.Author.Tests.{le-leb, lt-leb, lt-ltb, le-ltb, eq-eqb, ne-eqb, leb-true, ltb-true, eqb-true}
+use Rattle.numbers.specs.Signal.{pick, both}
+use Rattle.numbers.proofs.Sweep.{both as halves}
+use Rattle.wavelet.specs.Limits.{maxWidth, maxHeight, maxLevels}
+use Rattle.wavelet.specs.Questions.{ask, within}
+use Rattle.wavelet.proofs.QuestionLaws.{within-true, within-yes}
+use Rattle.reader.proofs.StoreLaws.{length-is}
+use Rattle.reader.specs.declared.Reader.{Reader}
+use Rattle.reader.specs.declared.walk.Spot.{Spot}
+use Rattle.wavelet.specs.Store.{storeLength}
+use Rattle.reader.specs.Machine.{Place}
+use Rattle.reader.specs.State.{next, nextLength, unfinished, rowDue, drawDue}
+use Rattle.reader.specs.Questions.{not, countsFit, storeFits, runFits, setUpQuestion}
+use Rattle.reader.specs.Inside.{Counts, Shape, Is, storeQuestion, rowQuestion}
+
+-- the length that the code asks for, 0 outside the limits
+abbrev pub asked : ℕ → ℕ → ℕ
+asked W L = pick (both (within 1 maxWidth W) (within 1 maxLevels L)) (storeLength W L) 0
+
+-- ---- question 1
+module _ (s : Reader) where
+  pub counts-1 : within 1 2049 (s .width) ≡ false → false ≡ countsFit s
+  unfolding countsFit maxWidth
+  counts-1 a = rw a
+
+  module _ (one : within 1 2049 (s .width) ≡ true) where
+    pub counts-2 : within 1 65535 (s .height) ≡ false → false ≡ countsFit s
+    unfolding countsFit maxWidth maxHeight
+    counts-2 b = rw (one, b)
+
+    module _ (two : within 1 65535 (s .height) ≡ true) where
+      pub counts-3 : within 1 5 (s .levels) ≡ false → false ≡ countsFit s
+      unfolding countsFit maxWidth maxHeight maxLevels
+      counts-3 b = rw (one, two, b)
+
+      module _ (three : within 1 5 (s .levels) ≡ true) where
+        pub counts-4 : s .height < s .drawn → false ≡ countsFit s
+        unfolding countsFit maxWidth maxHeight maxLevels
+        counts-4 h = rw (one, two, three, lt-leb (s .drawn) (s .height) h)
+
+        pub counts-5 : s .drawn ≤ s .height → s .levels < s .level → false ≡ countsFit s
+        unfolding countsFit maxWidth maxHeight maxLevels
+        counts-5 g h = rw (one, two, three, le-leb (s .drawn) (s .height) g, lt-leb (s .level) (s .levels) h)
+
+        pub counts-6 : s .drawn ≤ s .height → s .level ≤ s .levels → leb (s .band) 4 ≡ countsFit s
+        unfolding countsFit maxWidth maxHeight maxLevels
+        counts-6 g h = rw (one, two, three, le-leb (s .drawn) (s .height) g, le-leb (s .level) (s .levels) h)
+
+  pub counts-in : countsFit s ≡ true → Counts s
+  unfolding countsFit
+  counts-in e =
+      let a = halves (within 1 maxWidth (s .width)) _ e in
+      let b = halves (within 1 maxHeight (s .height)) _ (a .1) in
+      let c = halves (within 1 maxLevels (s .levels)) _ (b .1) in
+      let f = halves (leb (s .drawn) (s .height)) _ (c .1) in
+      let g = halves (leb (s .level) (s .levels)) _ (f .1) in
+      record {
+        wide = within-true 1 maxWidth (s .width) (a .0);
+        high = within-true 1 maxHeight (s .height) (b .0);
+        deep = within-true 1 maxLevels (s .levels) (c .0);
+        drew = leb-true _ _ (f .0);
+        at = leb-true _ _ (g .0);
+        next = leb-true _ _ (g .1);
+      }
+
+  pub counts-length : Counts s → (m : ℕ) → m ≡ asked (s .width) (s .levels) → m ≡ storeLength (s .width) (s .levels)
+  counts-length c m e = e ∙ length-is (s .width) (s .levels) (within-yes 1 maxWidth (s .width) (c .wide .0) (c .wide .1)) (within-yes 1 maxLevels (s .levels) (c .deep .0) (c .deep .1))
+
+  pub counts-shape : Counts s → Shape (s .width) (s .height) (s .drawn)
+  unfolding maxWidth maxHeight
+  counts-shape c = let w = c .wide in let h = c .high in let d = c .drew in (omega arith, omega arith, omega arith, omega arith, omega arith)
+
+-- ---- the set-up
+module _ (W H L n : ℕ) where
+  pub up-2 : within 1 2049 W ≡ false → 2 ≡ setUpQuestion W H L n
+  unfolding setUpQuestion maxWidth
+  up-2 a = rw a
+
+  module _ (one : within 1 2049 W ≡ true) where
+    pub up-3 : within 1 65535 H ≡ false → 3 ≡ setUpQuestion W H L n
+    unfolding setUpQuestion maxWidth maxHeight
+    up-3 b = rw (one, b)
+
+    module _ (two : within 1 65535 H ≡ true) where
+      pub up-4 : within 1 5 L ≡ false → 4 ≡ setUpQuestion W H L n
+      unfolding setUpQuestion maxWidth maxHeight maxLevels
+      up-4 b = rw (one, two, b)
+
+      module _ (three : within 1 5 L ≡ true) where
+        -- m is the length that the code asks for
+        pub up-length : (m : ℕ) → m ≡ asked W L → m ≡ storeLength W L
+        unfolding maxWidth maxLevels
+        up-length m e = e ∙ length-is W L one three
+
+        pub up-5 : (m : ℕ) → m ≡ asked W L → n < m → 5 ≡ setUpQuestion W H L n
+        unfolding setUpQuestion storeFits maxWidth maxHeight maxLevels
+        up-5 m e h = rw (one, two, three, lt-leb (storeLength W L) n (omega (arith, up-length m e)))
+
+        pub up-0 : (m : ℕ) → m ≡ asked W L → m ≤ n → 0 ≡ setUpQuestion W H L n
+        unfolding setUpQuestion storeFits maxWidth maxHeight maxLevels
+        up-0 m e h = rw (one, two, three, le-leb (storeLength W L) n (omega (arith, up-length m e)))
+
+  -- a set-up that passes
+  pub up-in : setUpQuestion W H L n ≡ 0 → (within 1 maxWidth W ≡ true) × (within 1 maxLevels L ≡ true) × (storeLength W L ≤ n)
+  unfolding setUpQuestion storeFits
+  up-in e = go (within 1 maxWidth W) (within 1 maxHeight H) (within 1 maxLevels L) (leb (storeLength W L) n) refl refl refl refl e
+    where
+      go : (a b c d : Bool) → within 1 maxWidth W ≡ a → within 1 maxHeight H ≡ b → within 1 maxLevels L ≡ c → leb (storeLength W L) n ≡ d → ask a 2 (ask b 3 (ask c 4 (ask d 5 0))) ≡ 0 → (within 1 maxWidth W ≡ true) × (within 1 maxLevels L ≡ true) × (storeLength W L ≤ n)
+      go true true true true ea eb ec ed e = (ea, ec, leb-true _ _ ed)
+      go true true true false ea eb ec ed e = absurd (omega arith)
+      go true true false d ea eb ec ed e = absurd (omega arith)
+      go true false c d ea eb ec ed e = absurd (omega arith)
+      go false b c d ea eb ec ed e = absurd (omega arith)
+
+-- ---- questions 1, 5 and 9
+module _ (s : Reader) (n : ℕ) where
+  pub store-1 : countsFit s ≡ false → 1 ≡ storeQuestion s n
+  unfolding storeQuestion
+  store-1 a = rw a
+
+  module _ (one : countsFit s ≡ true) (m : ℕ) (e : m ≡ asked (s .width) (s .levels)) where
+    long : m ≡ storeLength (s .width) (s .levels)
+    long = counts-length s (counts-in s one) m e
+
+    pub store-5 : n < m → 5 ≡ storeQuestion s n
+    unfolding storeQuestion storeFits
+    store-5 h = rw (one, lt-leb (storeLength (s .width) (s .levels)) n (omega (arith, long)))
+
+    pub store-9 : m ≤ n → s .ended ≡ true → 9 ≡ storeQuestion s n
+    unfolding storeQuestion storeFits
+    store-9 h f = rw (one, le-leb (storeLength (s .width) (s .levels)) n (omega (arith, long)), f)
+
+    pub store-0 : m ≤ n → s .ended ≡ false → 0 ≡ storeQuestion s n
+    unfolding storeQuestion storeFits
+    store-0 h f = rw (one, le-leb (storeLength (s .width) (s .levels)) n (omega (arith, long)), f)
+
+  pub store-in : storeQuestion s n ≡ 0 → Counts s × (storeLength (s .width) (s .levels) ≤ n) × (s .ended ≡ false)
+  unfolding storeQuestion storeFits
+  store-in e = go (countsFit s) (leb (storeLength (s .width) (s .levels)) n) (s .ended) refl refl refl e
+    where
+      go : (a b c : Bool) → countsFit s ≡ a → leb (storeLength (s .width) (s .levels)) n ≡ b → s .ended ≡ c → ask a 1 (ask b 5 (ask (not c) 9 0)) ≡ 0 → Counts s × (storeLength (s .width) (s .levels) ≤ n) × (s .ended ≡ false)
+      go true true false ea eb ec e = (counts-in s ea, leb-true _ _ eb, ec)
+      go true true true ea eb ec e = absurd (omega arith)
+      go true false c ea eb ec e = absurd (omega arith)
+      go false b c ea eb ec e = absurd (omega arith)
+
+-- ---- questions 8, 13 and 7
+module _ (s : Reader) (m : ℕ) (v : ℕ → ℤ) where
+  pub row-done : s .height ≤ s .drawn → 8 ≡ rowQuestion s m v
+  unfolding rowQuestion rowDue unfinished
+  row-done h = rw (le-ltb (s .drawn) (s .height) h)
+
+  module _ (more : s .drawn < s .height) where
+    pub row-draw : next s .level ≡ 0 → 8 ≡ rowQuestion s m v
+    unfolding rowQuestion rowDue unfinished
+    row-draw e = rw (lt-ltb (s .drawn) (s .height) more, le-ltb 0 (next s .level) (omega arith))
+
+    module _ (some : 0 < next s .level) where
+      pub row-13 : (m ≡ nextLength s → ⊥) → 13 ≡ rowQuestion s m v
+      unfolding rowQuestion rowDue unfinished
+      row-13 e = rw (lt-ltb (s .drawn) (s .height) more, lt-ltb 0 (next s .level) some, ne-eqb m (nextLength s) e)
+
+      module _ (long : m ≡ nextLength s) where
+        pub row-7 : runFits (next s .level) m v ≡ false → 7 ≡ rowQuestion s m v
+        unfolding rowQuestion rowDue unfinished
+        row-7 e = rw (lt-ltb (s .drawn) (s .height) more, lt-ltb 0 (next s .level) some, eq-eqb m (nextLength s) long, e)
+
+        pub row-0 : runFits (next s .level) m v ≡ true → 0 ≡ rowQuestion s m v
+        unfolding rowQuestion rowDue unfinished
+        row-0 e = rw (lt-ltb (s .drawn) (s .height) more, lt-ltb 0 (next s .level) some, eq-eqb m (nextLength s) long, e)
+
+  pub row-asked : rowQuestion s m v ≡ 0 → (0 < next s .level) × (m ≡ nextLength s)
+  unfolding rowQuestion rowDue
+  row-asked e = go (unfinished s) (ltb 0 (next s .level)) (eqb m (nextLength s)) refl refl e
+    where
+      go : (a b c : Bool) → ltb 0 (next s .level) ≡ b → eqb m (nextLength s) ≡ c → ask (both a b) 8 (ask c 13 (ask (runFits (next s .level) m v) 7 0)) ≡ 0 → (0 < next s .level) × (m ≡ nextLength s)
+      go true true true eb ec e = (ltb-true _ _ eb, eqb-true _ _ ec)
+      go true true false eb ec e = absurd (omega arith)
+      go true false c eb ec e = absurd (omega arith)
+      go false b c eb ec e = absurd (omega arith)
+
+-- ---- whether a height row can be drawn
+module _ (s : Reader) where
+  pub due-done : s .height ≤ s .drawn → false ≡ drawDue s
+  unfolding drawDue unfinished
+  due-done h = rw (le-ltb (s .drawn) (s .height) h)
+
+  pub due-is : s .drawn < s .height → eqb (next s .level) 0 ≡ drawDue s
+  unfolding drawDue unfinished
+  due-is h = rw (lt-ltb (s .drawn) (s .height) h)
+
+  pub due-in : drawDue s ≡ true → (s .drawn < s .height) × (next s .level ≡ 0)
+  unfolding drawDue unfinished
+  due-in e = let a = halves (ltb (s .drawn) (s .height)) _ e in (ltb-true _ _ (a .0), eqb-true _ _ (a .1))

@@ -1,0 +1,285 @@
+-- `reader::Reader::draw` meets its contract: refused by a question, or nothing, or drawn, or ended. Assumes nothing.
+use mathlib.Core.Path.{_≡_, _∙_, sym, ap, refl}
+use native.Mathlib.Omega.{arith}
+use borrow.Author.Tests.{not-true, not-false}
+use Prim.Native.Nat.{ℕ, _+_, _-_}
+use lib.ListN.{length}
+use Rattle.numbers.specs.Signal.{at}
+use Rattle.numbers.proofs.Parts.{length-mid}
+use Rattle.reader.specs.Areas.{heightsAt}
+use Rattle.reader.proofs.WorkLaws.{told-no, told-yes}
+use Rattle.reader.proofs.StoreLaws.{first-room}
+use Rattle.reader.proofs.QuestionLaws.{counts-shape, counts-length, store-in, due-in}
+use Rattle.reader.proofs.CallLaws.{store-14, draw-early, draw-none, draw-12, draw-last, draw-no, draw-nothing, draw-yes, draw-end, fits-yes, fits-no, drawn-reader, drawn-row, zero-kept}
+use Rattle.reader.proofs.Reader.draw.Statement.{statement}
+use Rattle.reader.proofs.Reader.draw.Tie as tie
+
+store-question-requires : tie.Need-store-question-requires
+store-question-requires c κs = tt
+
+returns : tie.Need-returns
+returns c =
+    let q = c .before .store-question .ensures in
+    let a = c .before .before .before .args in
+    let n = length (a .store .now) in
+    let m = length (a .out .now) in
+    draw-no (a .self) _ _ _ _ (q ∙ draw-early (a .self) n m (at (a .store .now)) (λ e. c .if1 .taken (q ∙ e))) (c .if1 .taken) (λ e. store-14 (a .self) n m (at (a .store .now)) (at (a .store .now)) (sym q ∙ e))
+
+next-of-requires : tie.Need-next-of-requires
+next-of-requires c κs = store-in _ _ (sym (c .before .store-question .ensures) ∙ c .if1 .left) .0
+
+draw-due-requires : tie.Need-draw-due-requires
+draw-due-requires c κs = c .next-of .ensures
+
+returns-2 : tie.Need-returns-2
+returns-2 c =
+    let ok = c .before .before .before in
+    let a = ok .before .before .before .args in
+    let none = sym (c .before .draw-due .ensures) ∙ not-true _ (c .if2 .taken) in
+    let one = sym (ok .before .store-question .ensures) ∙ ok .if1 .left in
+    draw-nothing (a .self) _ _ _ (draw-none (a .self) (length (a .store .now)) (length (a .out .now)) (at (a .store .now)) one none) none
+
+returns-3 : tie.Need-returns-3
+returns-3 c =
+    let due = c .before in
+    let ok = due .before .before .before in
+    let a = ok .before .before .before .args in
+    let one = sym (ok .before .store-question .ensures) ∙ ok .if1 .left in
+    draw-no (a .self) _ _ _ 12 (draw-12 (a .self) (length (a .store .now)) (length (a .out .now)) (at (a .store .now)) one (sym (due .before .draw-due .ensures) ∙ not-false _ (due .if2 .left)) (omega arith)) (omega arith) (omega arith)
+
+settle-requires : tie.Need-settle-requires
+settle-requires c κs =
+    let next = c .before .before .before .before in
+    let ok = next .before in
+    let one = store-in _ _ (sym (ok .before .store-question .ensures) ∙ ok .if1 .left) in
+    (one .0, next .next-of .ensures, one .1)
+
+row-place-requires : tie.Need-row-place-requires
+row-place-requires c κs =
+    let call = c .before .before in
+    let fits = call .before .before in
+    let due = fits .before in
+    let next = due .before .before in
+    let ok = next .before in
+    let start = ok .before .before .before in
+    let a = start .args in
+    let s = a .self in
+    let one = store-in s _ (sym (ok .before .store-question .ensures) ∙ ok .if1 .left) in
+    counts-shape s (one .0) .1
+
+add-e : tie.Need-add-e
+add-e c =
+    let call = c .before .before .before in
+    let fits = call .before .before in
+    let due = fits .before in
+    let next = due .before .before in
+    let ok = next .before in
+    let start = ok .before .before .before in
+    let a = start .args in
+    let s = a .self in
+    let one = store-in s _ (sym (ok .before .store-question .ensures) ∙ ok .if1 .left) in
+    let shape = counts-shape s (one .0) in
+    omega (arith, shape .1, c .row-place .ensures .1)
+
+mul-draw-heights : tie.Need-mul-draw-heights
+mul-draw-heights c =
+    let call = c .before .before .before in
+    let fits = call .before .before in
+    let due = fits .before in
+    let next = due .before .before in
+    let ok = next .before in
+    let start = ok .before .before .before in
+    let a = start .args in
+    let s = a .self in
+    let one = store-in s _ (sym (ok .before .store-question .ensures) ∙ ok .if1 .left) in
+    let shape = counts-shape s (one .0) in
+    omega (arith, shape .1, c .row-place .ensures .1)
+
+sub-draw-heights : tie.Need-sub-draw-heights
+sub-draw-heights c = omega arith
+
+part-draw-heights-start : tie.Need-part-draw-heights-start
+part-draw-heights-start c =
+    let call = c .before .before .before .before in
+    let fits = call .before .before in
+    let due = fits .before in
+    let next = due .before .before in
+    let ok = next .before in
+    let start = ok .before .before .before in
+    let a = start .args in
+    let s = a .self in
+    let one = store-in s _ (sym (ok .before .store-question .ensures) ∙ ok .if1 .left) in
+    let shape = counts-shape s (one .0) in
+    omega (arith, shape .1, c .before .row-place .ensures .1, one .1, first-room (s .width) (s .levels) (one .0 .deep .0), call .settle .kept .1 .0)
+
+part-draw-heights-end : tie.Need-part-draw-heights-end
+part-draw-heights-end c =
+    let call = c .before .before .before .before in
+    let fits = call .before .before in
+    let due = fits .before in
+    let next = due .before .before in
+    let ok = next .before in
+    let start = ok .before .before .before in
+    let a = start .args in
+    let s = a .self in
+    let one = store-in s _ (sym (ok .before .store-question .ensures) ∙ ok .if1 .left) in
+    let shape = counts-shape s (one .0) in
+    omega (arith, shape .1, c .before .row-place .ensures .1, one .1, first-room (s .width) (s .levels) (one .0 .deep .0), call .settle .kept .1 .0)
+
+draw-heights-requires : tie.Need-draw-heights-requires
+draw-heights-requires c κs =
+    let call = c .before .before .before .before .before .before in
+    let fits = call .before .before in
+    let due = fits .before in
+    let next = due .before .before in
+    let ok = next .before in
+    let start = ok .before .before .before in
+    let a = start .args in
+    let s = a .self in
+    let one = store-in s _ (sym (ok .before .store-question .ensures) ∙ ok .if1 .left) in
+    let place = c .before .before .before in
+    let p = place .row-place .result in
+    let y = call .settle .last .1 .0 in
+    let room = first-room (s .width) (s .levels) (one .0 .deep .0) in
+    omega (arith, length-mid p (p + s .width - p) y (omega (arith, place .row-place .ensures .1, one .1, room, call .settle .kept .1 .0)))
+
+add-d : tie.Need-add-d
+add-d c =
+    let call = c .before .before .before .before .before .before .before .before .before .before in
+    let fits = call .before .before in
+    let due = fits .before in
+    let next = due .before .before in
+    let ok = next .before in
+    let start = ok .before .before .before in
+    let a = start .args in
+    let s = a .self in
+    let one = store-in s _ (sym (ok .before .store-question .ensures) ∙ ok .if1 .left) in
+    let shape = counts-shape s (one .0) in
+    omega (arith, shape .3, shape .4)
+
+enter-of-requires : tie.Need-enter-of-requires
+enter-of-requires c κs =
+    let call = c .before .before .before .before .before .before .before .before .before .before in
+    let fits = call .before .before in
+    let due = fits .before in
+    let next = due .before .before in
+    let ok = next .before in
+    let start = ok .before .before .before in
+    let a = start .args in
+    let s = a .self in
+    let one = store-in s _ (sym (ok .before .store-question .ensures) ∙ ok .if1 .left) in
+    let shape = counts-shape s (one .0) in
+    let draws = due-in s (sym (due .before .draw-due .ensures) ∙ not-false _ (due .if2 .left)) in
+    ((shape .0, shape .1, shape .2, shape .3, omega (arith, draws .0)), one .0 .deep .1)
+
+moved-requires : tie.Need-moved-requires
+moved-requires c κs = tt
+
+same-length : tie.Need-same-length
+same-length c = c .before .before .before .before .before .before .before .before .before .before .before .before .settle .kept .1 .0
+
+same-length-2 : tie.Need-same-length-2
+same-length-2 c = c .before .before .before .before .before .draw-heights .kept .1 .0
+
+returns-4 : tie.Need-returns-4
+returns-4 c =
+    let call = c .before .before .before .before .before .before .before .before .before .before .before .before in
+    let fits = call .before .before in
+    let due = fits .before in
+    let next = due .before .before in
+    let ok = next .before in
+    let start = ok .before .before .before in
+    let a = start .args in
+    let s = a .self in
+    let enter = c .before in
+    let drawing = c .before .before .before .before .before in
+    let place = drawing .before .before .before .before in
+    let settled = place .before in
+    let one = store-in s _ (sym (ok .before .store-question .ensures) ∙ ok .if1 .left) in
+    let n = length (a .store .now) in
+    let m = length (a .out .now) in
+    let p = place .row-place .result in
+    let y = call .settle .last .1 .0 in
+    let w = s .width in
+    let room = first-room w (s .levels) (one .0 .deep .0) in
+    let made = told-yes (call .settle .result) (at y) _ (call .settle .ensures .0) (settled .if4 .taken) in
+    let is-due = sym (due .before .draw-due .ensures) ∙ not-false _ (due .if2 .left) in
+    draw-yes s _ _ _ _ _ _
+    (fits-yes _ _ made ∙ draw-last s n m (at (a .store .now)) (sym (ok .before .store-question .ensures) ∙ ok .if1 .left) is-due (omega arith))
+    is-due
+    (drawn-reader s (c .moved .result) _ (enter .enter-of .result) refl (enter .enter-of .ensures) (c .moved .ensures))
+    made
+    (drawn-row w (s .drawn) p (p + w - p) y _ _ (place .row-place .ensures .0) (omega arith) (omega (arith, place .row-place .ensures .1, one .1, room, call .settle .kept .1 .0)) (drawing .draw-heights .ensures))
+
+store-length-requires : tie.Need-store-length-requires
+store-length-requires c κs = tt
+
+clear-requires : tie.Need-clear-requires
+clear-requires c κs =
+    let call = c .before .before .before .before in
+    let fits = call .before .before in
+    let due = fits .before in
+    let next = due .before .before in
+    let ok = next .before in
+    let start = ok .before .before .before in
+    let a = start .args in
+    let s = a .self in
+    let one = store-in s _ (sym (ok .before .store-question .ensures) ∙ ok .if1 .left) in
+    omega (arith, one .1, counts-length s (one .0) _ (c .before .store-length .ensures), call .settle .kept .1 .0)
+
+over-requires : tie.Need-over-requires
+over-requires c κs = tt
+
+same-length-3 : tie.Need-same-length-3
+same-length-3 c = c .before .before .clear .kept .0 ∙ c .before .before .before .before .before .before .before .settle .kept .1 .0
+
+returns-5 : tie.Need-returns-5
+returns-5 c =
+    let call = c .before .before .before .before .before .before .before in
+    let fits = call .before .before in
+    let due = fits .before in
+    let next = due .before .before in
+    let ok = next .before in
+    let start = ok .before .before .before in
+    let a = start .args in
+    let s = a .self in
+    let clear = c .before .before in
+    let long = clear .before .before in
+    let failed = long .before in
+    let n = length (a .store .now) in
+    let m = length (a .out .now) in
+    let made = told-no (call .settle .result) (at (call .settle .last .1 .0)) _ (call .settle .ensures .0) (failed .if4 .left) in
+    draw-end s _ _ _ _ _
+    (fits-no _ made ∙ draw-last s n m (at (a .store .now)) (sym (ok .before .store-question .ensures) ∙ ok .if1 .left) (sym (due .before .draw-due .ensures) ∙ not-false _ (due .if2 .left)) (omega arith))
+    (c .over .ensures)
+    (zero-kept (s .width) (s .levels) _ _ _ _ (counts-length s (store-in s _ (sym (ok .before .store-question .ensures) ∙ ok .if1 .left) .0) _ (long .store-length .ensures)) (call .settle .ensures .1) (clear .clear .ensures))
+
+pub draw-spec : {M : Type 1} → statement M
+draw-spec =
+    tie.close
+    (tie.spec
+    store-question-requires
+    returns
+    next-of-requires
+    draw-due-requires
+    returns-2
+    returns-3
+    settle-requires
+    row-place-requires
+    add-e
+    mul-draw-heights
+    sub-draw-heights
+    part-draw-heights-start
+    part-draw-heights-end
+    draw-heights-requires
+    add-d
+    enter-of-requires
+    moved-requires
+    same-length
+    same-length-2
+    returns-4
+    store-length-requires
+    clear-requires
+    over-requires
+    same-length-3
+    returns-5)

@@ -1,0 +1,138 @@
+-- `reader::Reader::feed` meets its contract: refused by a question, or fed, or ended. Assumes nothing.
+use mathlib.Core.Path.{_≡_, _∙_, sym, ap, refl}
+use native.Mathlib.Omega.{arith}
+use borrow.Author.Needs.{needs}
+use Prim.Native.Nat.{ℕ}
+use lib.ListN.{length}
+use Rattle.numbers.specs.Signal.{at}
+use Rattle.reader.proofs.WorkLaws.{told-no, told-yes}
+use Rattle.reader.proofs.QuestionLaws.{counts-length, store-in, row-asked}
+use Rattle.reader.proofs.CallLaws.{store-14, row-14, feed-early, feed-late, feed-last, feed-no, feed-yes, feed-end, fits-yes, fits-no, fed-reader, zero-kept}
+use Rattle.reader.proofs.Reader.feed.Statement.{statement}
+use Rattle.reader.proofs.Reader.feed.Tie as tie
+
+store-question-requires : tie.Need-store-question-requires
+store-question-requires c κs = tt
+
+returns : tie.Need-returns
+returns c =
+    let q = c .before .store-question .ensures in
+    let a = c .before .before .args in
+    let n = length (a .store .now) in
+    let m = length (a .run .now) in
+    feed-no (a .self) _ _ _ _ (q ∙ feed-early (a .self) n m (at (a .run .now)) (at (a .store .now)) (λ e. c .if1 .taken (q ∙ e))) (c .if1 .taken) (λ e. store-14 (a .self) n m (at (a .run .now)) (at (a .store .now)) (sym q ∙ e))
+
+next-of-requires : tie.Need-next-of-requires
+next-of-requires c κs = store-in _ _ (sym (c .before .store-question .ensures) ∙ c .if1 .left) .0
+
+row-question-requires : tie.Need-row-question-requires
+row-question-requires c κs =
+    let ok = c .before in
+    (store-in _ _ (sym (ok .before .store-question .ensures) ∙ ok .if1 .left) .0, c .next-of .ensures)
+
+returns-2 : tie.Need-returns-2
+returns-2 c =
+    let r = c .before .row-question .ensures in
+    let ok = c .before .before .before in
+    let a = ok .before .before .args in
+    let n = length (a .store .now) in
+    let m = length (a .run .now) in
+    let one = sym (ok .before .store-question .ensures) ∙ ok .if1 .left in
+    feed-no (a .self) _ _ _ _ (r ∙ feed-late (a .self) n m (at (a .run .now)) (at (a .store .now)) one (λ e. c .if2 .taken (r ∙ e))) (c .if2 .taken) (λ e. row-14 (a .self) n m (at (a .run .now)) (at (a .store .now)) (sym r ∙ e))
+
+feed-row-requires : tie.Need-feed-row-requires
+feed-row-requires c κs =
+    let asked = c .before in
+    let next = asked .before .before in
+    let ok = next .before in
+    let one = store-in _ _ (sym (ok .before .store-question .ensures) ∙ ok .if1 .left) in
+    let two = row-asked _ _ _ (sym (asked .before .row-question .ensures) ∙ asked .if2 .left) in
+    (one .0, next .next-of .ensures, omega (arith, next .next-of .ensures .level, two .0), one .1, two .1)
+
+place-fed-requires : tie.Need-place-fed-requires
+place-fed-requires c κs =
+    let asked = c .before .before .before .before in
+    let next = asked .before .before in
+    let ok = next .before in
+    let one = store-in _ _ (sym (ok .before .store-question .ensures) ∙ ok .if1 .left) in
+    let two = row-asked _ _ _ (sym (asked .before .row-question .ensures) ∙ asked .if2 .left) in
+    (one .0, next .next-of .ensures, omega (arith, next .next-of .ensures .level, two .0))
+
+moved-requires : tie.Need-moved-requires
+moved-requires c κs = tt
+
+same-length : tie.Need-same-length
+same-length c = c .before .before .before .before .feed-row .kept .1 .0
+
+returns-3 : tie.Need-returns-3
+returns-3 c =
+    let there = c .before in
+    let fed = there .before in
+    let call = fed .before .before in
+    let asked = call .before .before in
+    let ok = asked .before .before .before in
+    let a = ok .before .before .args in
+    let n = length (a .store .now) in
+    let m = length (a .run .now) in
+    let one = sym (ok .before .store-question .ensures) ∙ ok .if1 .left in
+    let two = sym (asked .before .row-question .ensures) ∙ asked .if2 .left in
+    let made = told-yes (call .feed-row .result) (at (call .feed-row .last .1 .0)) _ (call .feed-row .ensures .0) (fed .if3 .taken) in
+    feed-yes (a .self) _ _ _ _ _ (fits-yes _ _ made ∙ feed-last (a .self) n m (at (a .run .now)) (at (a .store .now)) one two) (fed-reader (a .self) (c .moved .result) (there .place-fed .result) (there .place-fed .ensures) (c .moved .ensures)) made
+
+store-length-requires : tie.Need-store-length-requires
+store-length-requires c κs = tt
+
+clear-requires : tie.Need-clear-requires
+clear-requires c κs =
+    let long = c .before in
+    let failed = long .before in
+    let call = failed .before .before in
+    let ok = call .before .before .before .before .before in
+    let one = store-in _ _ (sym (ok .before .store-question .ensures) ∙ ok .if1 .left) in
+    omega (arith, one .1, counts-length (ok .before .before .args .self) (one .0) _ (long .store-length .ensures), call .feed-row .kept .1 .0)
+
+over-requires : tie.Need-over-requires
+over-requires c κs = tt
+
+same-length-2 : tie.Need-same-length-2
+same-length-2 c =
+    let clear = c .before .before in
+    let call = clear .before .before .before .before .before in
+    clear .clear .kept .0 ∙ call .feed-row .kept .1 .0
+
+returns-4 : tie.Need-returns-4
+returns-4 c =
+    let clear = c .before .before in
+    let long = clear .before .before in
+    let failed = long .before in
+    let call = failed .before .before in
+    let asked = call .before .before in
+    let ok = asked .before .before .before in
+    let a = ok .before .before .args in
+    let s = a .self in
+    let n = length (a .store .now) in
+    let m = length (a .run .now) in
+    let one = sym (ok .before .store-question .ensures) ∙ ok .if1 .left in
+    let two = sym (asked .before .row-question .ensures) ∙ asked .if2 .left in
+    let made = told-no (call .feed-row .result) (at (call .feed-row .last .1 .0)) _ (call .feed-row .ensures .0) (failed .if3 .left) in
+    feed-end s _ _ _ _ _ (fits-no _ made ∙ feed-last s n m (at (a .run .now)) (at (a .store .now)) one two) (c .over .ensures) (zero-kept (s .width) (s .levels) _ _ _ _ (counts-length s (store-in s _ one .0) _ (long .store-length .ensures)) (call .feed-row .ensures .1) (clear .clear .ensures))
+
+pub feed-spec : {M : Type 1} → statement M
+feed-spec =
+    tie.close
+    (tie.spec
+    store-question-requires
+    returns
+    next-of-requires
+    row-question-requires
+    returns-2
+    feed-row-requires
+    place-fed-requires
+    moved-requires
+    same-length
+    returns-3
+    store-length-requires
+    clear-requires
+    over-requires
+    same-length-2
+    returns-4)

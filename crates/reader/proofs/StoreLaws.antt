@@ -1,0 +1,100 @@
+-- The laws of the line store: where the stretches of the levels stand. Assumes nothing.
+use mathlib.Core.Path.{_≡_, refl, sym, ap, _∙_}
+use Prim.Native.Nat.{ℕ, zero, suc, _+_, _-_, _*_, _≤_, _<_}
+use native.Mathlib.Decide.{ℕ-discrete}
+use native.Mathlib.Omega.{arith}
+use Rattle.lifting.specs.Line.{lo, count}
+use Rattle.wavelet.specs.Levels.{size}
+use Rattle.wavelet.proofs.SizeLaws.{count-lo, size-zero, size-suc, size-le, size-positive}
+use mathlib.Core.Bool.{true}
+use Rattle.numbers.specs.Signal.{pick, both}
+use Rattle.wavelet.specs.Limits.{maxWidth, maxLevels}
+use Rattle.wavelet.specs.Questions.{within}
+use Rattle.wavelet.specs.Store.{storeLength}
+use Rattle.wavelet.proofs.StoreLaws.{store-none, store-more}
+use Rattle.reader.specs.Sets.{setOf, rowAt}
+use Rattle.reader.specs.Store.{stretchAt}
+use Rattle.reader.proofs.SetLaws.{set-is, set-in, row-zero, row-suc}
+
+pub stretch-zero : (W : ℕ) → stretchAt W 0 ≡ 0
+unfolding stretchAt
+stretch-zero W = refl
+
+pub stretch-suc : (W k : ℕ) → stretchAt W (suc k) ≡ stretchAt W k + 4 * size k W
+unfolding stretchAt
+stretch-suc W k = refl
+
+pub stretch-small : (W k : ℕ) → W ≤ 65536 → stretchAt W k ≤ 262144 * k
+stretch-small W zero h = omega (arith, stretch-zero W)
+stretch-small W (suc k) h = omega (arith, stretch-suc W k, stretch-small W k h, size-le k W)
+
+-- the stretch of a level ends where the next begins, and the last within the whole
+pub stretch-in : (W k L : ℕ) → k ≤ L → stretchAt W k ≤ stretchAt W L
+stretch-in W k zero h = let e : k ≡ 0 = omega arith in rw e (omega arith)
+stretch-in W k (suc L) h = elim (ℕ-discrete k (suc L)) [
+  | yes e ↦ rw e (omega arith)
+  | no d ↦ omega (arith, stretch-suc W L, stretch-in W k L (omega arith))
+]
+
+-- what k levels need ends where the next begins
+pub stretch-is : (W k : ℕ) → stretchAt W k ≡ storeLength W k
+stretch-is W zero = stretch-zero W ∙ sym (store-none W)
+stretch-is W (suc k) = omega (arith, stretch-suc W k, store-more W k, stretch-is W k)
+
+pub store-small : (W k : ℕ) → W ≤ 65536 → storeLength W k ≤ 262144 * k
+store-small W k h = omega (arith, stretch-is W k, stretch-small W k h)
+
+pub store-in : (W k L : ℕ) → k ≤ L → storeLength W k ≤ storeLength W L
+store-in W k L h = omega (arith, stretch-is W k, stretch-is W L, stretch-in W k L h)
+
+-- level 1's stretch lies within the store
+pub first-room : (W L : ℕ) → 1 ≤ L → 4 * W ≤ storeLength W L
+first-room W L h = omega (arith, stretch-is W L, stretch-suc W 0, stretch-zero W, size-zero W, stretch-in W 1 L h)
+
+-- the length that the code asks for, within the limits
+pub length-is : (W L : ℕ) → within 1 maxWidth W ≡ true → within 1 maxLevels L ≡ true → pick (both (within 1 maxWidth W) (within 1 maxLevels L)) (storeLength W L) 0 ≡ storeLength W L
+length-is W L a b = rw (a, b)
+
+-- ---- a walk from level 1 on: after i levels, the start, the sizes and the set of level i + 1
+pub record Walked (W H d i start w h n : ℕ) : Type 0 where
+  pub begins : start ≡ stretchAt W i
+  pub wide : w ≡ size i W
+  pub high : h ≡ size i H
+  pub set : n ≡ rowAt H d (suc i)
+  pub some : 0 < h
+  pub most : h ≤ H
+  pub narrow : w ≤ W
+  pub near : n ≤ H
+
+pub walk-start : (W H d : ℕ) → 0 < H → Walked W H d 0 0 W H (setOf H d)
+walk-start W H d h =
+    record {
+      begins = sym (stretch-zero W);
+      wide = sym (size-zero W);
+      high = sym (size-zero H);
+      set = sym (row-suc H d 0 ∙ cc (size-zero H, row-zero H d));
+      some = h;
+      most = omega arith;
+      narrow = omega arith;
+      near = omega (arith, set-in H d h, count-lo H);
+    }
+
+pub walk-on : (W H d i start w h n w′ h′ n′ : ℕ) → Walked W H d i start w h n → w′ ≡ count lo w → h′ ≡ count lo h → n′ ≡ setOf h′ n → Walked W H d (i + 1) (start + 4 * w) w′ h′ n′
+walk-on W H d i start w h n w′ h′ n′ a ew eh en =
+    let s = size-suc i W in
+    let t = size-suc i H in
+    let next : i + 1 ≡ suc i = omega arith in
+    let some = a .some in
+    let most = a .most in
+    let narrow = a .narrow in
+    rw next
+    record {
+      begins = sym (stretch-suc W i ∙ cc (a .begins, a .wide));
+      wide = cc (ew, a .wide, s);
+      high = cc (eh, a .high, t);
+      set = cc (en, eh, a .high, t, a .set, row-suc H d (suc i));
+      some = omega (arith, count-lo h);
+      most = omega (arith, count-lo h);
+      narrow = omega (arith, count-lo w);
+      near = omega (arith, en, set-in h′ n (omega (arith, count-lo h)), count-lo h′, count-lo h);
+    }

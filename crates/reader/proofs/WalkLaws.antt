@@ -1,0 +1,91 @@
+-- The walk over the levels: the row wanted, the sets worked out on the way, the place after a row. Assumes nothing.
+use mathlib.Core.Path.{_≡_, refl, sym, ap, _∙_}
+use mathlib.Core.Bool.{Bool, true, false}
+use Prim.Native.Nat.{ℕ, zero, suc, _+_, _-_, _≤_, _<_}
+use native.Mathlib.Omega.{arith}
+use native.Mathlib.Numerals.{add-one}
+use lib.IntN.{ℤ}
+use lib.Dec.{eqb}
+use borrow.Author.Tests.{lt-ltb, le-ltb}
+use Rattle.numbers.specs.Signal.{pick}
+use Rattle.reader.specs.declared.walk.Level.{Level}
+use Rattle.reader.specs.declared.walk.Spot.{Spot}
+use Rattle.reader.specs.Asked.{nextBand}
+use Rattle.reader.specs.Tried.{Tried, failed, passed, bind}
+use Rattle.reader.specs.Store.{workedAt}
+use Rattle.reader.specs.Machine.{Place, place, bandAt, nextAt, settled, finished, beyond}
+use Rattle.reader.specs.Inside.{IsLevel, Is}
+use Rattle.reader.proofs.WorkLaws.{bind-failed, bind-passed}
+use Rattle.reader.proofs.SetLaws.{next-most}
+
+-- a place by its numbers
+pub is-place : (q : Place) (p : Spot) → place (p .level) (p .band) ≡ q → Is q p
+is-place q p e = record { level = ap (λ (r : Place). r .level) e; band = ap (λ (r : Place). r .band) e }
+
+module _ (W H L d : ℕ) where
+  pub band-is : (k b : ℕ) (l : Level) → IsLevel W H d k l → nextBand (eqb (k + 1) L) (l .width) (l .height) (l .set) b ≡ bandAt W H L d k b
+  unfolding bandAt
+  band-is k b l is = rw (is .width, is .height, is .set, add-one k)
+
+  pub band-most : (k b : ℕ) → bandAt W H L d k b ≤ 4
+  unfolding bandAt
+  band-most k b = next-most _ _ _ _ _
+
+  -- ---- the row wanted
+  pub next-here : (k b c : ℕ) → 0 < k → c ≡ bandAt W H L d (k - 1) b → c < 4 → place k c ≡ nextAt W H L d k b
+  unfolding nextAt
+  next-here zero b c some e h = absurd (omega arith)
+  next-here (suc k) b c some e h =
+      let i : suc k - 1 ≡ k = omega arith in
+      let is : c ≡ bandAt W H L d k b = e ∙ ap (λ (j : ℕ). bandAt W H L d j b) i in
+      rw (← is, lt-ltb c 4 h)
+
+  pub next-finer : (k b c : ℕ) → 0 < k → c ≡ bandAt W H L d (k - 1) b → 4 ≤ c → nextAt W H L d (k - 1) 1 ≡ nextAt W H L d k b
+  unfolding nextAt
+  next-finer zero b c some e h = absurd (omega arith)
+  next-finer (suc k) b c some e h =
+      let i : suc k - 1 ≡ k = omega arith in
+      let is : c ≡ bandAt W H L d k b = e ∙ ap (λ (j : ℕ). bandAt W H L d j b) i in
+      rw (← is, le-ltb c 4 h, i)
+
+  pub next-none : (k b : ℕ) → k ≡ 0 → place 0 4 ≡ nextAt W H L d k b
+  unfolding nextAt
+  next-none k b e = rw e
+
+  -- ---- the sets on the way
+  pub settle-none : (to k : ℕ) (x : ℕ → ℤ) → k ≤ to → passed x ≡ settled W H L d to k x
+  unfolding settled
+  settle-none to zero x h = refl
+  settle-none to (suc k) x h = rw (le-ltb to (suc k) h)
+
+  pub settle-failed : (to k : ℕ) (x : ℕ → ℤ) → to < k → failed ≡ workedAt W H L d (k - 1) x → failed ≡ settled W H L d to k x
+  unfolding settled
+  settle-failed to zero x h e = absurd (omega arith)
+  settle-failed to (suc k) x h e =
+      let i : suc k - 1 ≡ k = omega arith in
+      rw (lt-ltb to (suc k) h) (bind-failed _ _ (e ∙ ap (λ (j : ℕ). workedAt W H L d j x) i))
+
+  pub settle-on : (to k : ℕ) (x y : ℕ → ℤ) → to < k → passed y ≡ workedAt W H L d (k - 1) x → settled W H L d to (k - 1) y ≡ settled W H L d to k x
+  unfolding settled
+  settle-on to zero x y h e = absurd (omega arith)
+  settle-on to (suc k) x y h e =
+      let i : suc k - 1 ≡ k = omega arith in
+      rw (lt-ltb to (suc k) h, i) (bind-passed _ (settled W H L d to k) y (e ∙ ap (λ (j : ℕ). workedAt W H L d j x) i))
+
+  -- ---- the set that a row completes, and the place after it
+  module _ (k c b : ℕ) (is : b ≡ bandAt W H L d k (c + 1)) where
+    pub finish-more : (x : ℕ → ℤ) → b < 4 → passed x ≡ finished W H L d k c x
+    unfolding finished
+    finish-more x h = rw (← is, lt-ltb b 4 h)
+
+    pub finish-set : (x : ℕ → ℤ) → 4 ≤ b → workedAt W H L d k x ≡ finished W H L d k c x
+    unfolding finished
+    finish-set x h = rw (← is, le-ltb b 4 h)
+
+    pub beyond-more : b < 4 → place (k + 1) (c + 1) ≡ beyond W H L d k c
+    unfolding beyond
+    beyond-more h = rw (← is, lt-ltb b 4 h, add-one k)
+
+    pub beyond-set : 4 ≤ b → place k 1 ≡ beyond W H L d k c
+    unfolding beyond
+    beyond-set h = rw (← is, le-ltb b 4 h)

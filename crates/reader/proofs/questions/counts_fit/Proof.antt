@@ -1,0 +1,69 @@
+-- `reader::questions::counts_fit` meets its contract: the definition's tests, in its order. Assumes nothing.
+use mathlib.Core.Path.{_≡_, _∙_, sym, ap}
+use native.Mathlib.Omega.{arith}
+use borrow.Author.Needs.{needs}
+use borrow.Author.Tests.{not-true, not-false}
+use Rattle.reader.proofs.QuestionLaws.{counts-1, counts-2, counts-3, counts-4, counts-5, counts-6}
+use Rattle.reader.proofs.questions.counts_fit.Statement.{statement}
+use Rattle.reader.proofs.questions.counts_fit.Tie as tie
+
+is-within-requires : tie.Need-is-within-requires
+is-within-requires c κs = search needs
+
+returns : tie.Need-returns
+returns c = counts-1 _ (sym (c .before .is-within .ensures) ∙ not-true _ (c .if1 .taken))
+
+is-within-requires-2 : tie.Need-is-within-requires-2
+is-within-requires-2 c κs = search needs
+
+returns-2 : tie.Need-returns-2
+returns-2 c =
+    let a = c .before .before in
+    counts-2 _ (sym (a .before .is-within .ensures) ∙ not-false _ (a .if1 .left)) (sym (c .before .is-within2 .ensures) ∙ not-true _ (c .if2 .taken))
+
+is-within-requires-3 : tie.Need-is-within-requires-3
+is-within-requires-3 c κs = search needs
+
+returns-3 : tie.Need-returns-3
+returns-3 c =
+    let b = c .before .before in
+    let a = b .before .before in
+    counts-3 _ (sym (a .before .is-within .ensures) ∙ not-false _ (a .if1 .left)) (sym (b .before .is-within2 .ensures) ∙ not-false _ (b .if2 .left)) (sym (c .before .is-within3 .ensures) ∙ not-true _ (c .if3 .taken))
+
+returns-4 : tie.Need-returns-4
+returns-4 c =
+    let d = c .before .before in
+    let b = d .before .before in
+    let a = b .before .before in
+    counts-4 _ (sym (a .before .is-within .ensures) ∙ not-false _ (a .if1 .left)) (sym (b .before .is-within2 .ensures) ∙ not-false _ (b .if2 .left)) (sym (d .before .is-within3 .ensures) ∙ not-false _ (d .if3 .left)) (c .if4 .taken)
+
+returns-5 : tie.Need-returns-5
+returns-5 c =
+    let f = c .before .before in
+    let d = f .before .before in
+    let b = d .before .before in
+    let a = b .before .before in
+    counts-5 _ (sym (a .before .is-within .ensures) ∙ not-false _ (a .if1 .left)) (sym (b .before .is-within2 .ensures) ∙ not-false _ (b .if2 .left)) (sym (d .before .is-within3 .ensures) ∙ not-false _ (d .if3 .left)) (omega arith) (c .if5 .taken)
+
+returns-6 : tie.Need-returns-6
+returns-6 c =
+    let g = c .before in
+    let f = g .before .before in
+    let d = f .before .before in
+    let b = d .before .before in
+    let a = b .before .before in
+    counts-6 _ (sym (a .before .is-within .ensures) ∙ not-false _ (a .if1 .left)) (sym (b .before .is-within2 .ensures) ∙ not-false _ (b .if2 .left)) (sym (d .before .is-within3 .ensures) ∙ not-false _ (d .if3 .left)) (omega arith) (omega arith)
+
+pub counts-fit-spec : {M : Type 1} → statement M
+counts-fit-spec =
+    tie.close
+    (tie.spec
+    is-within-requires
+    returns
+    is-within-requires-2
+    returns-2
+    is-within-requires-3
+    returns-3
+    returns-4
+    returns-5
+    returns-6)

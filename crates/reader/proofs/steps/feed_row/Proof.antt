@@ -1,0 +1,82 @@
+-- `reader::steps::feed_row` meets its contract: the sets that wait, the run put, the set that it completes. Assumes nothing.
+use mathlib.Core.Path.{_≡_, _∙_, sym, ap}
+use native.Mathlib.Omega.{arith}
+use borrow.Author.Needs.{needs}
+use borrow.Author.Tests.{not-true, not-false}
+use Prim.Native.Nat.{_+_, _-_, _≤_}
+use Rattle.numbers.specs.Signal.{at}
+use Rattle.reader.specs.Machine.{finished}
+use Rattle.reader.proofs.WorkLaws.{told-no, told-yes}
+use Rattle.reader.proofs.StoreLaws.{store-in}
+use Rattle.reader.proofs.KeptLaws.{kept-both, kept-is, kept-more, fed-kept}
+use Rattle.reader.proofs.QuestionLaws.{counts-shape}
+use Rattle.reader.proofs.StepLaws.{spot-in, feed-failed, feed-on, length-back}
+use Rattle.reader.proofs.steps.feed_row.Statement.{statement}
+use Rattle.reader.proofs.steps.feed_row.Tie as tie
+
+settle-requires : tie.Need-settle-requires
+settle-requires c κs = let start = c .before in (start .pre .0, start .pre .1, start .pre .3)
+
+same-length : tie.Need-same-length
+same-length c = let call = c .before .before in call .settle .kept .1 .0
+
+returns : tie.Need-returns
+returns c =
+    let call = c .before .before in
+    let start = call .before .before in
+    (feed-failed (start .args .s) (start .args .p) (start .pre .1) _ _ (told-no (call .settle .result) (at (call .settle .last .1 .0)) _ (call .settle .ensures .0) (not-true _ (c .if1 .taken))), call .settle .ensures .1)
+
+sub-k : tie.Need-sub-k
+sub-k c = omega arith
+
+put-row-requires : tie.Need-put-row-requires
+put-row-requires c κs =
+    let start = c .before .before .before .before .before .before in
+    let s = start .args .s in
+    let near = spot-in _ _ (start .pre .1) (omega arith) in
+    let counts = start .pre .0 in
+    let call = c .before .before .before .before in (
+      counts-shape s counts,
+      omega (arith, near .0, counts .at, counts .deep .1),
+      near .1,
+      omega (arith, store-in (s .width) (start .args .p .level - 1 + 1) (s .levels) (omega (arith, near .0, counts .at)), call .settle .kept .1 .0),
+      start .pre .4 ∙ length-back s (start .args .p) (start .pre .1),
+    )
+
+finish-requires : tie.Need-finish-requires
+finish-requires c κs =
+    let put = c .before .before in
+    let call = put .before .before .before .before .before in
+    let start = call .before .before in
+    let near = spot-in _ _ (start .pre .1) (omega arith) in
+    let counts = start .pre .0 in
+    (counts-shape (start .args .s) counts, counts .deep .1, omega (arith, near .0, counts .at), near .1, omega (arith, put .put-row .kept .1 .1 .1 .0, call .settle .kept .1 .0))
+
+same-length-2 : tie.Need-same-length-2
+same-length-2 c = search needs
+
+returns-2 : tie.Need-returns-2
+returns-2 c =
+    let done = c .before in
+    let put = done .before .before .before in
+    let on = put .before .before .before in
+    let call = on .before .before in
+    let start = call .before .before in
+    let s = start .args .s in
+    let near = spot-in _ _ (start .pre .1) (omega arith) in (
+      done .finish .ensures .0 ∙ ap (λ y. finished (s .width) (s .height) (s .levels) (s .drawn) (start .args .p .level - 1) (start .args .p .band) y) (put .put-row .ensures) ∙ feed-on s (start .args .p) (start .pre .1) _ _ _ (omega arith) (told-yes (call .settle .result) (at (call .settle .last .1 .0)) _ (call .settle .ensures .0) (not-false _ (on .if1 .left))),
+      kept-both _ _ _ _ (kept-both _ _ _ _ (call .settle .ensures .1) (kept-is _ _ _ _ (kept-more _ _ _ _ (store-in (s .width) (start .args .p .level - 1 + 1) (s .levels) (omega (arith, near .0, start .pre .0 .at))) (fed-kept (s .width) (s .height) (s .drawn) (start .args .p .level - 1) (start .args .p .band) _ _)) (put .put-row .ensures))) (done .finish .ensures .1),
+    )
+
+pub feed-row-spec : {M : Type 1} → statement M
+feed-row-spec =
+    tie.close
+    (tie.spec
+    settle-requires
+    same-length
+    returns
+    sub-k
+    put-row-requires
+    finish-requires
+    same-length-2
+    returns-2)

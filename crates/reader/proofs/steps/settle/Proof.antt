@@ -1,0 +1,26 @@
+-- `reader::steps::settle` meets its contract: the walk down to the row wanted. Assumes nothing.
+use mathlib.Core.Path.{_≡_, _∙_, sym, ap}
+use native.Mathlib.Omega.{arith}
+use borrow.Author.Needs.{needs}
+use Rattle.reader.proofs.QuestionLaws.{counts-shape}
+use Rattle.reader.proofs.StepLaws.{settles-is}
+use Rattle.reader.proofs.steps.settle.Statement.{statement}
+use Rattle.reader.proofs.steps.settle.Tie as tie
+
+settle-requires : tie.Need-settle-requires
+settle-requires c κs =
+    let start = c .before in
+    let counts = start .pre .0 in
+    (counts-shape (start .args .s) counts, counts .deep .1, counts .at, omega arith)
+
+same-length : tie.Need-same-length
+same-length c = search needs
+
+returns : tie.Need-returns
+returns c =
+    let call = c .before in
+    let start = call .before .before in
+    (call .settle .ensures .0 ∙ settles-is (start .args .s) (start .args .p) (start .pre .1) _, call .settle .ensures .1)
+
+pub settle-spec : {M : Type 1} → statement M
+settle-spec = tie.close (tie.spec settle-requires same-length returns)

@@ -1,0 +1,52 @@
+-- `reader::walk::half_place` meets its contract: the slot, and the half of it. Assumes nothing.
+use mathlib.Core.Path.{_≡_, _∙_, sym, ap}
+use Prim.Native.Nat.{ℕ}
+use native.Mathlib.Omega.{arith}
+use borrow.Author.Needs.{needs}
+use Rattle.wavelet.proofs.SizeLaws.{count-lo}
+use Rattle.reader.specs.Slots.{rowPlace}
+use Rattle.reader.proofs.SetLaws.{set-row, half-even, half-odd}
+use Rattle.reader.proofs.walk.half_place.Statement.{statement}
+use Rattle.reader.proofs.walk.half_place.Tie as tie
+
+mul-row-place : tie.Need-mul-row-place
+mul-row-place c = search needs
+
+add-row-place : tie.Need-add-row-place
+add-row-place c = search needs
+
+row-place-requires : tie.Need-row-place-requires
+row-place-requires c κs = search needs
+
+half-requires : tie.Need-half-requires
+half-requires c κs = search needs
+
+add-result : tie.Need-add-result
+add-result c = omega (arith, count-lo (c .before .before .before .args .w), c .before .before .row-place .ensures .1)
+
+returns : tie.Need-returns
+returns c =
+    let start = c .before .before in
+    let a = start .args in
+    let place = c .before .row-place .ensures .0 ∙ ap (rowPlace (a .w)) (set-row (a .n) (a .band) (start .pre .0)) in
+    omega (arith, place, half-even (a .w) (a .band) (start .pre .0) (c .if1 .taken))
+
+returns-2 : tie.Need-returns-2
+returns-2 c =
+    let odd = c .before in
+    let start = odd .before .before in
+    let a = start .args in
+    let place = odd .before .row-place .ensures .0 ∙ ap (rowPlace (a .w)) (set-row (a .n) (a .band) (start .pre .0)) in
+    omega (arith, place, c .half .ensures, half-odd (a .w) (a .band) (start .pre .0) (odd .if1 .left))
+
+pub half-place-spec : {M : Type 1} → statement M
+half-place-spec =
+    tie.close
+    (tie.spec
+    mul-row-place
+    add-row-place
+    row-place-requires
+    half-requires
+    add-result
+    returns
+    returns-2)

@@ -1,0 +1,284 @@
+-- Demand 3 for the reader: document 01, "The lists of demand 3". One claim about a whole list of calls on a fresh reader and its line store.
+-- "The words below go by the calls' arguments and answers, by nothing in the state.": what was fed, what was drawn and how far the steps are gone are functions of the list of events alone.
+use mathlib.Core.Path.{_≡_}
+use mathlib.Core.Logic.{_↔_}
+use mathlib.Core.Bool.{Bool, true, false}
+use mathlib.Core.List.{List, [], _∷_, _++_}
+use Prim.Native.Nat.{ℕ, suc, _≤_, _<_}
+use lib.IntN.{ℤ, pos}
+use lib.ListN.{length, getD}
+use lib.Dec.{leb, eqb}
+use Rattle.numbers.specs.Signal.{pick}
+use Rattle.numbers.specs.Word.{whole}
+use Rattle.wavelet.specs.Bands.{Grid, code}
+use Rattle.wavelet.specs.Levels.{levelBand}
+use Rattle.wavelet.specs.View.{bandColumns}
+use Rattle.wavelet.specs.ViewCall.{bandRowExists}
+use Rattle.wavelet.specs.Maps.{IsMap}
+use Rattle.wavelet.specs.Questions.{ask}
+use Rattle.wavelet.specs.Order.{RowName, inTurn, times}
+use Rattle.wavelet.specs.Steps.{Step, steps, bandRowsOf, heightRowsOf}
+use Rattle.wavelet.specs.Steps as step
+use Rattle.reader.specs.declared.Reader.{Reader}
+use Rattle.reader.specs.declared.Wanted.{Wanted}
+use Rattle.reader.specs.declared.Wanted.the-variants as want-is
+use Rattle.reader.specs.declared.Fed.{Fed}
+use Rattle.reader.specs.declared.Fed.the-variants as feed-is
+use Rattle.reader.specs.declared.Drawn.{Drawn}
+use Rattle.reader.specs.declared.Drawn.the-variants as draw-is
+use Rattle.reader.specs.Questions.{runFits, wantQuestion, feedQuestion, drawQuestion}
+use Rattle.reader.specs.Calls.{fresh, setUpStore, wantAnswer, feedAnswer, feedStore, drawAnswer, drawStore, drawArea}
+
+-- ---- calls, and what is seen of them
+-- an area that is lent, a run or an output area: its length and its numbers
+pub record Area : Type 0 where
+  pub size : ℕ
+  pub numbers : ℕ → ℤ
+
+-- a call with its arguments
+pub data Call : Type 0 where
+  want : Call
+  feed : Area → Call
+  draw : Area → Call
+
+-- answers in document 01's terms, less the state: what a call gives, or the number of the question that turned it away, 14 too
+pub data Reply (A : Type 0) : Type 0 where
+  gives : A → Reply A
+  refused : ℕ → Reply A
+
+-- what is wanted. `row`: level, band's code, number and length of a band row
+pub data Want : Type 0 where
+  row : ℕ → ℕ → ℕ → ℕ → Want
+  drawNow done ended : Want
+
+-- what a draw gives: so many heights in the output area, or Nothing
+pub data Given : Type 0 where
+  heights : ℕ → Given
+  nothing : Given
+
+-- a call's arguments, its answer, and after a draw the output area
+pub data Event : Type 0 where
+  wanted : Reply Want → Event
+  fed : Area → Reply (Unit {0}) → Event
+  drew : Area → Reply Given → Area → Event
+
+abbrev pub saidWant : Wanted → Reply Want
+saidWant (want-is.Row k b r n) = gives (row k b r n)
+saidWant want-is.Draw = gives drawNow
+saidWant want-is.Done = gives done
+saidWant want-is.Ended = gives ended
+saidWant (want-is.Refused q) = refused q
+
+abbrev pub saidFeed : Fed → Reply (Unit {0})
+saidFeed (feed-is.Passed s) = gives tt
+saidFeed (feed-is.Impossible s) = refused 14
+saidFeed (feed-is.Refused q) = refused q
+
+abbrev pub saidDraw : Drawn → Reply Given
+saidDraw (draw-is.Heights n s) = gives (heights n)
+saidDraw draw-is.Nothing = gives nothing
+saidDraw (draw-is.Impossible s) = refused 14
+saidDraw (draw-is.Refused q) = refused q
+
+-- ---- each call is made on the state and store that the one before left
+pub record World : Type 0 where
+  pub reader : Reader
+  pub length : ℕ
+  pub store : ℕ → ℤ
+
+-- the state that a call leaves: its own before where it was turned away or gave Nothing
+abbrev pub leftByFeed : Reader → Fed → Reader
+leftByFeed s (feed-is.Passed t) = t
+leftByFeed s (feed-is.Impossible t) = t
+leftByFeed s (feed-is.Refused q) = s
+
+abbrev pub leftByDraw : Reader → Drawn → Reader
+leftByDraw s (draw-is.Heights n t) = t
+leftByDraw s draw-is.Nothing = s
+leftByDraw s (draw-is.Impossible t) = t
+leftByDraw s (draw-is.Refused q) = s
+
+module _ (w : World) where
+  -- the number of the question that turns a feed or a draw away
+  abbrev pub feedAsked : Area → ℕ
+  feedAsked a = feedQuestion (w .reader) (w .length) (w .store) (a .size) (a .numbers)
+
+  abbrev pub drawAsked : Area → ℕ
+  drawAsked a = drawQuestion (w .reader) (w .length) (w .store) (a .size)
+
+  abbrev pub areaAfter : Area → Area
+  areaAfter a = record { size = a .size; numbers = drawArea (w .reader) (drawAsked a) (w .store) (a .numbers) }
+
+unfoldable pub event : Call → World → Event
+event want w = wanted (saidWant (wantAnswer (w .reader) (wantQuestion (w .reader))))
+event (feed a) w = fed a (saidFeed (feedAnswer (w .reader) (feedAsked w a)))
+event (draw a) w = drew a (saidDraw (drawAnswer (w .reader) (drawAsked w a))) (areaAfter w a)
+
+unfoldable pub next : Call → World → World
+next want w = w
+next (feed a) w =
+    record { reader = leftByFeed (w .reader) (feedAnswer (w .reader) (feedAsked w a)); length = w .length; store = feedStore (w .reader) (feedAsked w a) (a .numbers) (w .store) }
+next (draw a) w =
+    record { reader = leftByDraw (w .reader) (drawAnswer (w .reader) (drawAsked w a)); length = w .length; store = drawStore (w .reader) (drawAsked w a) (w .store) }
+
+unfoldable pub events : List Call → World → List Event
+events [] w = []
+events (c ∷ cs) w = event c w ∷ events cs (next c w)
+
+unfoldable pub final : List Call → World → World
+final [] w = w
+final (c ∷ cs) w = final cs (next c w)
+
+-- "Fresh means the state and line store of a set-up that passed": of W × H at L levels, on a store of n numbers in which x stood
+abbrev pub freshWorld : ℕ → ℕ → ℕ → ℕ → (ℕ → ℤ) → World
+freshWorld W H L n x = record { reader = fresh W H L; length = n; store = setUpStore W L 0 x }
+
+-- ---- how far the steps are gone
+-- one step on: a feed that passed, a draw that gave a row
+unfoldable pub goesOn : Event → Bool
+goesOn (wanted v) = false
+goesOn (fed a (gives u)) = true
+goesOn (fed a (refused q)) = false
+goesOn (drew a (gives (heights n)) b) = true
+goesOn (drew a (gives nothing) b) = false
+goesOn (drew a (refused q) b) = false
+
+abbrev pub rest : List Step → List Step
+rest [] = []
+rest (x ∷ t) = t
+
+-- of the steps t those left after an event, and after some
+unfoldable pub leftBy : List Step → Event → List Step
+leftBy t e = pick (goesOn e) (rest t) t
+
+unfoldable pub left : List Step → List Event → List Step
+left t [] = t
+left t (e ∷ es) = left (leftBy t e) es
+
+-- 14 was given
+unfoldable pub ends : Event → Bool
+ends (wanted v) = false
+ends (fed a (gives u)) = false
+ends (fed a (refused q)) = eqb q 14
+ends (drew a (gives v) b) = false
+ends (drew a (refused q) b) = eqb q 14
+
+unfoldable pub endedBy : List Event → Bool
+endedBy [] = false
+endedBy (e ∷ es) = pick (ends e) true (endedBy es)
+
+-- ---- "Fed: the runs that no question before 14 turned away, each as the row then named."
+pub record FedRow : Type 0 where
+  pub row : RowName
+  pub run : Area
+
+-- as the row that the first of the steps left names
+abbrev pub fedAs : List Step → Area → List FedRow
+fedAs [] a = []
+fedAs (step.feed x ∷ t) a = record { row = x; run = a } ∷ []
+fedAs (step.draw r ∷ t) a = []
+
+unfoldable pub fedBy : List Step → Event → List FedRow
+fedBy t (wanted v) = []
+fedBy t (fed a (gives u)) = fedAs t a
+fedBy t (fed a (refused q)) = pick (eqb q 14) (fedAs t a) []
+fedBy t (drew a v b) = []
+
+unfoldable pub fedRows : List Step → List Event → List FedRow
+fedRows t [] = []
+fedRows t (e ∷ es) = fedBy t e ++ fedRows (leftBy t e) es
+
+-- ---- the height rows drawn, as they stand in the output areas
+unfoldable pub drawnBy : Event → List (ℕ → ℤ)
+drawnBy (wanted v) = []
+drawnBy (fed a v) = []
+drawnBy (drew a (gives (heights n)) b) = b .numbers ∷ []
+drawnBy (drew a (gives nothing) b) = []
+drawnBy (drew a (refused q) b) = []
+
+unfoldable pub drawnRows : List Event → List (ℕ → ℤ)
+drawnRows [] = []
+drawnRows (e ∷ es) = drawnBy e ++ drawnRows es
+
+-- ---- "A map has them if it fits the set-up, in H too, and its plane at the set-up's levels has them as these rows."
+pub data All {A : Type 0} (P : A → Type 0) : List A → Type 0 where
+  none : All P []
+  more : {x : A} {l : List A} → P x → All P l → All P (x ∷ l)
+
+pub record HasRow (W H : ℕ) (g : Grid) (f : FedRow) : Type 0 where
+  pub size : f .run .size ≡ bandColumns W (f .row .level) (f .row .band)
+  pub values : (i : ℕ) → i < bandColumns W (f .row .level) (f .row .band) → f .run .numbers i ≡ levelBand whole W H g (f .row .level) (f .row .band) (f .row .row) i
+
+pub record HasFed (W H L : ℕ) (g : Grid) (es : List Event) : Type 0 where
+  pub map : IsMap W H g
+  pub rows : All (HasRow W H g) (fedRows (steps W H L) es)
+
+-- the rows ys are the first rows of the map
+pub record FirstRows (W : ℕ) (g : Grid) (ys : List (ℕ → ℤ)) : Type 0 where
+  pub are : (r c : ℕ) → r < length ys → c < W → getD ys r (λ _. pos 0) c ≡ g r c
+
+-- ---- the next call, with these steps left; e: 14 was given
+-- "The want is the next step, Done after the last, Ended after 14."
+unfoldable pub wantSays : ℕ → Bool → List Step → Want
+wantSays W true t = ended
+wantSays W false [] = done
+wantSays W false (step.feed x ∷ t) = row (x .level) (code (x .band)) (x .row) (bandColumns W (x .level) (x .band))
+wantSays W false (step.draw r ∷ t) = drawNow
+
+-- the number of the question before 14 that turns a feed away: 9, 8, 13, 7, or 0
+unfoldable pub feedTurned : ℕ → Bool → List Step → Area → ℕ
+feedTurned W true t a = 9
+feedTurned W false [] a = 8
+feedTurned W false (step.draw r ∷ t) a = 8
+feedTurned W false (step.feed x ∷ t) a =
+    ask (eqb (a .size) (bandColumns W (x .level) (x .band))) 13
+    (ask (runFits (x .level) (a .size) (a .numbers)) 7
+    0)
+
+-- what a draw into an area of m heights gives, unless it gives 14: 9, 12, a row or Nothing
+unfoldable pub drawSays : ℕ → Bool → List Step → ℕ → Reply Given
+drawSays W true t m = refused 9
+drawSays W false [] m = gives nothing
+drawSays W false (step.feed x ∷ t) m = gives nothing
+drawSays W false (step.draw r ∷ t) m = pick (leb W m) (gives (heights W)) (refused 12)
+
+-- one of two answers
+pub data OneOf {A : Type 0} (x : A) (a b : A) : Type 0 where
+  this : x ≡ a → OneOf x a b
+  that : x ≡ b → OneOf x a b
+
+-- how many heights of the output area a draw writes
+unfoldable pub written : Reply Given → ℕ
+written (gives (heights n)) = n
+written (gives nothing) = 0
+written (refused q) = 0
+
+-- what is seen of a draw into a: its answer, or 14 in place of a row; the area past what was written is as it was
+pub record Draws (W : ℕ) (e : Bool) (t : List Step) (a : Area) (seen : Event) : Type 0 where
+  pub answer : Reply Given
+  pub after : Area
+  pub is : seen ≡ drew a answer after
+  pub size : after .size ≡ a .size
+  pub untouched : (i : ℕ) → written answer ≤ i → after .numbers i ≡ a .numbers i
+  pub says : OneOf answer (drawSays W e t (a .size)) (refused 14)
+  -- 14 only where a row would be given
+  pub possible : answer ≡ refused 14 → drawSays W e t (a .size) ≡ gives (heights W)
+
+-- ---- the claim, of the events es of any list of calls; `then` is what would be seen of a further call
+pub record Demand3 (W H L : ℕ) (es : List Event) (then : Call → Event) : Type 0 where
+  -- "one list of steps: each band row to feed, once, and each height row to draw, once"
+  pub rows-once : (x : RowName) → times x (bandRowsOf (steps W H L)) ≡ pick (bandRowExists W H L (x .level) (x .band) (x .row)) 1 0
+  pub heights-once : heightRowsOf (steps W H L) ≡ inTurn H (λ r. r ∷ [])
+  -- the want
+  pub wants : then want ≡ wanted (gives (wantSays W (endedBy es) (left (steps W H L) es)))
+  -- "A feed of the length that the want names goes one step on or gives 7 or 14"; any other is turned away
+  pub feeds-turned : (a : Area) (q : ℕ) → feedTurned W (endedBy es) (left (steps W H L) es) a ≡ suc q → then (feed a) ≡ fed a (refused (suc q))
+  pub feeds-on : (a : Area) → feedTurned W (endedBy es) (left (steps W H L) es) a ≡ 0 → OneOf (then (feed a)) (fed a (gives tt)) (fed a (refused 14))
+  -- "a draw at Draw goes one step on or gives 12 or 14; no other call goes on"
+  pub draws : (a : Area) → Draws W (endedBy es) (left (steps W H L) es) a (then (draw a))
+  -- the heights drawn are the first of every map that has the rows fed
+  pub first : (g : Grid) → HasFed W H L g es → FirstRows W g (drawnRows es)
+  -- "14 comes only if no map has them."
+  pub impossible : endedBy es ≡ true → (g : Grid) → HasFed W H L g es → ⊥
+  -- it says Done exactly when the heights drawn are all of such a map
+  pub finished : then want ≡ wanted (gives done) ↔ (g : Grid) × HasFed W H L g es × (length (drawnRows es) ≡ H) × FirstRows W g (drawnRows es)

@@ -1,0 +1,86 @@
+-- What stands in the line store of a reader, `Holds g s x`, for a grid g of 32-bit numbers that has the rows fed; and what each call keeps of it.
+-- The numbers are 32-bit words (`wrap32`); for a map they are T.800's whole numbers.
+use mathlib.Core.Path.{_≡_}
+use mathlib.Core.Bool.{true}
+use Prim.Native.Nat.{ℕ, suc, _+_, _*_, _≤_, _<_}
+use lib.IntN.{ℤ}
+use lib.Dec.{eqb}
+use mir.Syntax.{w32}
+use mir.Val.{SFits}
+use Rattle.numbers.specs.Word.{wrap32}
+use Rattle.lifting.specs.Line.{Half, hi, count, parted}
+use Rattle.wavelet.specs.Bands.{Grid, Band, code, across, down, columnsLifted, subband}
+use Rattle.wavelet.specs.Levels.{size, approximation, levelBand}
+use Rattle.wavelet.specs.Maps.{valueFits}
+use Rattle.wavelet.proofs.LevelTheory.{placed}
+use Rattle.reader.specs.declared.Reader.{Reader}
+use Rattle.reader.specs.declared.SetUp.{SetUp}
+use Rattle.reader.specs.declared.SetUp.the-variants as up
+use Rattle.reader.specs.declared.Fed.{Fed}
+use Rattle.reader.specs.declared.Fed.the-variants as fed
+use Rattle.reader.specs.declared.Drawn.{Drawn}
+use Rattle.reader.specs.declared.Drawn.the-variants as drawn
+use Rattle.reader.specs.Sets.{setOf, rowAt}
+use Rattle.reader.specs.Asked.{keptAt, named}
+use Rattle.reader.specs.Slots.{rowPlace, setRow}
+use Rattle.reader.specs.Store.{stretchAt, from}
+use Rattle.reader.specs.State.{next, nextRow, nextLength}
+
+-- ---- a level that splits the grid G of w columns and h rows, in the memory x
+-- in the slot of row r stands a row by its halves: two band rows, or the even and the odd places of a line
+abbrev pub RowStands : ℕ → (ℕ → ℤ) → ℕ → (Half → ℕ → ℤ) → Type 0
+RowStands w x r c = (h : Half) (i : ℕ) → i < count h w → x (rowPlace w r + placed h w i) ≡ c h i
+
+-- what set n leaves: the rows that it makes, which fit as low-low values of level k, and its high row of the columns for the next set
+pub record SetLeaves (k w h : ℕ) (G : Grid) (n : ℕ) (x : ℕ → ℤ) : Type 0 where
+  pub made : (r : ℕ) → r < h → setOf h r ≡ n → RowStands w x r (parted (G r))
+  pub fit : (r : ℕ) → r < h → setOf h r ≡ n → (c : ℕ) → c < w → valueFits k (G r c) ≡ true
+  pub high : 2 * n + 2 < h → RowStands w x (2 * n + 1) (parted (columnsLifted wrap32 h G hi n))
+
+-- what set n needs of the set before it: its even row, and its high row
+pub record SetBefore (w h : ℕ) (G : Grid) (n : ℕ) (x : ℕ → ℤ) : Type 0 where
+  pub even : (p : ℕ) → n ≡ suc p → RowStands w x (2 * p) (parted (G (2 * p)))
+  pub high : (p : ℕ) → n ≡ suc p → RowStands w x (2 * p + 1) (parted (columnsLifted wrap32 h G hi p))
+
+-- row n of band c, if there is one
+abbrev pub BandStands : ℕ → ℕ → Grid → ℕ → (ℕ → ℤ) → Band → Type 0
+BandStands w h G n x c =
+    n < count (down c) h → (i : ℕ) → i < count (across c) w → x (rowPlace w (setRow (down c) n) + placed (across c) w i) ≡ subband wrap32 w h G c n i
+
+-- ---- the reader's store, while row `drawn` is waited for: levels coarser than `level` have their set, it has the bands before `band`, finer ones wait
+module _ (g : Grid) (s : Reader) where
+  abbrev pub part : ℕ → Grid
+  part k = approximation wrap32 (s .width) (s .height) g k
+
+  abbrev pub set : ℕ → ℕ
+  set k = rowAt (s .height) (s .drawn) (suc k)
+
+  pub record Holds (x : ℕ → ℤ) : Type 0 where
+    pub below : s .drawn < s .height → (k : ℕ) → k < s .levels → s .level ≤ k → SetLeaves k (size k (s .width)) (size k (s .height)) (part k) (set k) (from (stretchAt (s .width) k) x)
+    pub before : s .drawn < s .height → (k : ℕ) → k < s .levels → k < s .level → SetBefore (size k (s .width)) (size k (s .height)) (part k) (set k) (from (stretchAt (s .width) k) x)
+    pub got : s .drawn < s .height → (k : ℕ) → k < s .levels → suc k ≡ s .level → (c : Band) → keptAt (eqb (suc k) (s .levels)) c ≡ true → code c < s .band → BandStands (size k (s .width)) (size k (s .height)) (part k) (set k) (from (stretchAt (s .width) k) x) c
+
+  -- g is a grid of 32-bit numbers; it and its low-low parts below level L fit
+  abbrev pub Words : Type 0
+  Words = (r c : ℕ) → r < s .height → c < s .width → SFits w32 (g r c)
+
+  abbrev pub AllFit : Type 0
+  AllFit = (k r c : ℕ) → k < s .levels → r < size k (s .height) → c < size k (s .width) → valueFits k (part k r c) ≡ true
+
+  -- v is the row of g that is wanted
+  abbrev pub IsWanted : (ℕ → ℤ) → Type 0
+  IsWanted v = (i : ℕ) → i < nextLength s → v i ≡ levelBand wrap32 (s .width) (s .height) g (next s .level) (named (next s .band)) (nextRow s) i
+
+-- ---- what each call keeps, by its answer, for every grid: x and x′ are the store before and after
+pub record SetUpHolds (r : SetUp) (x : ℕ → ℤ) : Type 0 where
+  pub ready : (s : Reader) → r ≡ up.Ready s → (g : Grid) → Holds g s x
+
+-- a feed of g's row goes on to hold g; it gives 14 only if g has a value that does not fit
+pub record FeedKeeps (s : Reader) (v x : ℕ → ℤ) (r : Fed) (x′ : ℕ → ℤ) : Type 0 where
+  pub passed : (t : Reader) → r ≡ fed.Passed t → (g : Grid) → Words g s → IsWanted g s v → Holds g s x → Holds g t x′
+  pub impossible : (t : Reader) → r ≡ fed.Impossible t → (g : Grid) → Words g s → IsWanted g s v → Holds g s x → AllFit g s → ⊥
+
+-- a draw gives g's row in the area z′, and goes on to hold g; 14 likewise
+pub record DrawKeeps (s : Reader) (x : ℕ → ℤ) (r : Drawn) (x′ z′ : ℕ → ℤ) : Type 0 where
+  pub passed : (n : ℕ) (t : Reader) → r ≡ drawn.Heights n t → (g : Grid) → Words g s → Holds g s x → Holds g t x′ × ((c : ℕ) → c < s .width → z′ c ≡ g (s .drawn) c)
+  pub impossible : (t : Reader) → r ≡ drawn.Impossible t → (g : Grid) → Words g s → Holds g s x → AllFit g s → ⊥

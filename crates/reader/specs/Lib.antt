@@ -1,0 +1,15 @@
+pub mod Areas
+pub mod Sets
+pub mod Asked
+pub mod Tried
+pub mod Slots
+pub mod Work
+pub mod Store
+pub mod Machine
+pub mod State
+pub mod Questions
+pub mod Calls
+pub mod Inside
+pub mod Holds
+pub mod Demand3
+pub mod Played

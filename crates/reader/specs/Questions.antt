@@ -1,0 +1,71 @@
+-- The gate questions of each call, in the order of document 01. "The first no gives its number, and nothing changes." 0: no question says no.
+use mathlib.Core.Bool.{Bool, true, false}
+use Prim.Native.Nat.{ℕ}
+use lib.IntN.{ℤ, natAbs}
+use lib.Dec.{leb, eqb}
+use Rattle.numbers.specs.Signal.{pick, both}
+use Rattle.wavelet.specs.Limits.{maxWidth, maxHeight, maxLevels, range}
+use Rattle.wavelet.specs.Maps.{every}
+use Rattle.wavelet.specs.Questions.{ask, within}
+use Rattle.wavelet.specs.Store.{storeLength}
+use Rattle.reader.specs.declared.Reader.{Reader}
+use Rattle.reader.specs.Tried.{fits}
+use Rattle.reader.specs.Machine.{Place}
+use Rattle.reader.specs.State.{next, nextLength, rowDue, drawDue, settles, feeds}
+
+abbrev pub not : Bool → Bool
+not b = pick b false true
+
+-- question 1: "Is every count in the state inside its range?"
+unfoldable pub countsFit : Reader → Bool
+countsFit s =
+    both (within 1 maxWidth (s .width))
+    (both (within 1 maxHeight (s .height))
+    (both (within 1 maxLevels (s .levels))
+    (both (leb (s .drawn) (s .height))
+    (both (leb (s .level) (s .levels))
+    (leb (s .band) 4)))))
+
+-- question 5: is a line store of n numbers long enough?
+unfoldable pub storeFits : ℕ → ℕ → ℕ → Bool
+storeFits W L n = leb (storeLength W L) n
+
+-- question 7: "Is each coefficient in its level's range?", of n numbers v for level k
+unfoldable pub runFits : ℕ → ℕ → (ℕ → ℤ) → Bool
+runFits k n v = every n (λ i. leb (natAbs (v i)) (range k))
+
+-- n is the length of the store
+unfoldable pub setUpQuestion : ℕ → ℕ → ℕ → ℕ → ℕ
+setUpQuestion W H L n =
+    ask (within 1 maxWidth W) 2
+    (ask (within 1 maxHeight H) 3
+    (ask (within 1 maxLevels L) 4
+    (ask (storeFits W L n) 5
+    0)))
+
+unfoldable pub wantQuestion : Reader → ℕ
+wantQuestion s = ask (countsFit s) 1 0
+
+-- the store x of n numbers; the run v of m numbers
+unfoldable pub feedQuestion : Reader → ℕ → (ℕ → ℤ) → ℕ → (ℕ → ℤ) → ℕ
+feedQuestion s n x m v =
+    ask (countsFit s) 1
+    (ask (storeFits (s .width) (s .levels) n) 5
+    (ask (not (s .ended)) 9
+    (ask (rowDue s) 8
+    (ask (eqb m (nextLength s)) 13
+    (ask (runFits (next s .level) m v) 7
+    (ask (fits (feeds s v x)) 14
+    0))))))
+
+-- the output area of m heights: 12 is asked of a draw with a row to give
+unfoldable pub drawQuestion : Reader → ℕ → (ℕ → ℤ) → ℕ → ℕ
+drawQuestion s n x m =
+    ask (countsFit s) 1
+    (ask (storeFits (s .width) (s .levels) n) 5
+    (ask (not (s .ended)) 9
+    (pick (drawDue s)
+    (ask (leb (s .width) m) 12
+    (ask (fits (settles s x)) 14
+    0))
+    0)))

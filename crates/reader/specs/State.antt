@@ -1,0 +1,66 @@
+-- What a reader's state says: the row that it wants, and what a feed or a draw makes of the store x.
+use mathlib.Core.Bool.{Bool, true, false}
+use Prim.Native.Nat.{ℕ, suc}
+use lib.IntN.{ℤ}
+use lib.Dec.{ltb, eqb}
+use Rattle.numbers.specs.Signal.{pick, both}
+use Rattle.wavelet.specs.View.{bandColumns}
+use Rattle.reader.specs.declared.Reader.{Reader}
+use Rattle.reader.specs.declared.Wanted.{Wanted}
+use Rattle.reader.specs.declared.Wanted.the-variants.{Row, Draw, Done, Ended, Refused}
+use Rattle.reader.specs.Sets.{rowAt}
+use Rattle.reader.specs.Asked.{named}
+use Rattle.reader.specs.Tried.{Tried, bind}
+use Rattle.reader.specs.Machine.{Place, nextAt, settled, fedOn, placeFed, enter}
+
+module _ (s : Reader) where
+  -- the place of the row wanted; level 0: there is none
+  unfoldable pub next : Place
+  next = nextAt (s .width) (s .height) (s .levels) (s .drawn) (s .level) (s .band)
+
+  -- its number, and its length
+  unfoldable pub nextRow : ℕ
+  nextRow = rowAt (s .height) (s .drawn) (next .level)
+
+  unfoldable pub nextLength : ℕ
+  nextLength = bandColumns (s .width) (next .level) (named (next .band))
+
+  -- a height row is left; a band row is wanted; a height row can be drawn
+  unfoldable pub unfinished : Bool
+  unfinished = ltb (s .drawn) (s .height)
+
+  unfoldable pub rowDue : Bool
+  rowDue = both unfinished (ltb 0 (next .level))
+
+  unfoldable pub drawDue : Bool
+  drawDue = both unfinished (eqb (next .level) 0)
+
+  -- "It names the band row it wants, or says Draw when a height row can be drawn, or Done when all are drawn, or Ended after 14."
+  unfoldable pub wants : Wanted
+  wants =
+      pick (s .ended) Ended
+      (pick unfinished
+      (pick (ltb 0 (next .level)) (Row (next .level) (next .band) nextRow nextLength) Draw)
+      Done)
+
+  -- the sets that wait, worked out
+  unfoldable pub settles : (ℕ → ℤ) → Tried
+  settles x = settled (s .width) (s .height) (s .levels) (s .drawn) (next .level) (s .level) x
+
+  -- "ahead of that call's own work": then the run v is fed
+  unfoldable pub feeds : (ℕ → ℤ) → (ℕ → ℤ) → Tried
+  feeds v x = bind (settles x) (fedOn (s .width) (s .height) (s .levels) (s .drawn) (next .level) (next .band) v)
+
+  -- ---- the reader after it
+  abbrev pub movedTo : ℕ → Place → Reader
+  movedTo d p = record { width = s .width; height = s .height; levels = s .levels; drawn = d; level = p .level; band = p .band; ended = false }
+
+  unfoldable pub fedReader : Reader
+  fedReader = movedTo (s .drawn) (placeFed (s .width) (s .height) (s .levels) (s .drawn) (next .level) (next .band))
+
+  unfoldable pub drawnReader : Reader
+  drawnReader = movedTo (suc (s .drawn)) (enter (s .width) (s .height) (s .levels) (suc (s .drawn)))
+
+  -- "a no ends the reader"; its other numbers stay
+  unfoldable pub endedReader : Reader
+  endedReader = record { width = s .width; height = s .height; levels = s .levels; drawn = s .drawn; level = s .level; band = s .band; ended = true }

@@ -1,0 +1,221 @@
+// The row-by-row reader: band rows in, in the order that it wants them, height rows out. A state of numbers by value; the line store is the caller's.
+mod areas;
+mod questions;
+mod sets;
+mod steps;
+mod walk;
+mod work;
+
+use walk::Spot;
+ghost use mathlib.Core.Path.{_≡_};
+ghost use lib.ListN.{length};
+ghost use Rattle.numbers.specs.Signal.{at};
+ghost use Rattle.wavelet.specs.Limits.{maxWidth, maxHeight, maxLevels};
+ghost use Rattle.reader.specs.Areas.{heightsAt};
+ghost use Rattle.reader.specs.Machine.{place};
+ghost use Rattle.reader.specs.State.{movedTo, endedReader};
+ghost use Rattle.reader.specs.Questions.{setUpQuestion, wantQuestion, feedQuestion, drawQuestion};
+ghost use Rattle.reader.specs.Calls.{setUpNumber, wantNumber, feedNumber, drawNumber, setUpAnswer, setUpStore, wantAnswer, feedAnswer, feedStore, drawAnswer, drawStore, drawArea};
+
+// A reader. `drawn` height rows are drawn; rows of `level` are collected (0: a height row can be drawn), and `band` is the code of the first band that may be next.
+pub struct Reader {
+    pub width: usize,
+    pub height: usize,
+    pub levels: usize,
+    pub drawn: usize,
+    pub level: usize,
+    pub band: usize,
+    pub ended: bool,
+}
+
+pub enum SetUp {
+    Ready(Reader),
+    Refused(u8),
+}
+
+// Row: level, band code, row number and length of the band row wanted.
+pub enum Wanted {
+    Row(usize, usize, usize, usize),
+    Draw,
+    Done,
+    Ended,
+    Refused(u8),
+}
+
+// Impossible is document 01's 14: no map has the rows fed. It holds the reader, ended. Refused never holds 14.
+pub enum Fed {
+    Passed(Reader),
+    Impossible(Reader),
+    Refused(u8),
+}
+
+// Heights: how many stand at the front of the output area.
+pub enum Drawn {
+    Heights(usize, Reader),
+    Nothing,
+    Impossible(Reader),
+    Refused(u8),
+}
+
+impl Reader {
+    pub const MAX_WIDTH: usize = 2049;
+
+    pub const MAX_HEIGHT: usize = 65535;
+
+    pub const MAX_LEVELS: usize = 5;
+
+    // A contract that names a constant follows an edit of it, so each is pinned to the definition's number.
+    pub fn max_width() -> usize
+        ensures { λ r. ⌜ r ≡ maxWidth ⌝ }
+    {
+        Reader::MAX_WIDTH
+    }
+
+    pub fn max_height() -> usize
+        ensures { λ r. ⌜ r ≡ maxHeight ⌝ }
+    {
+        Reader::MAX_HEIGHT
+    }
+
+    pub fn max_levels() -> usize
+        ensures { λ r. ⌜ r ≡ maxLevels ⌝ }
+    {
+        Reader::MAX_LEVELS
+    }
+
+    // A fresh reader; the needed part of the line store is zeroed. The questions are 2, 3, 4 and 5.
+    pub fn set_up(width: usize, height: usize, levels: usize, store: &mut [i32]) -> SetUp
+        ensures number { λ r. ⌜ setUpNumber r ≡ setUpQuestion width height levels (length (now (store .entry))) ⌝ }
+        ensures answer { λ r. ⌜ r ≡ setUpAnswer width height levels (setUpQuestion width height levels (length (now (store .entry)))) ⌝ }
+        ensures kept { λ _. ⌜ at (now (store .exit)) ≡ setUpStore width levels (setUpQuestion width height levels (length (now (store .entry)))) (at (now (store .entry))) ⌝ }
+    {
+        let q = questions::set_up_question(width, height, levels, store.len());
+        if q != 0 {
+            return SetUp::Refused(q);
+        }
+        let n = wavelet::store::store_length(width, levels);
+        areas::clear(store, n);
+        SetUp::Ready(Reader {
+            width,
+            height,
+            levels,
+            drawn: 0,
+            level: levels,
+            band: 0,
+            ended: false,
+        })
+    }
+
+    // The band row wanted, or Draw, Done or Ended. Question 1 is asked.
+    pub fn want(self) -> Wanted
+        ensures number { λ r. ⌜ wantNumber r ≡ wantQuestion self ⌝ }
+        ensures answer { λ r. ⌜ r ≡ wantAnswer self (wantQuestion self) ⌝ }
+    {
+        if !questions::counts_fit(self) {
+            return Wanted::Refused(1);
+        }
+        if self.ended {
+            return Wanted::Ended;
+        }
+        if self.height <= self.drawn {
+            return Wanted::Done;
+        }
+        let p = steps::next_of(self);
+        if p.level == 0 {
+            return Wanted::Draw;
+        }
+        Wanted::Row(
+            p.level,
+            p.band,
+            steps::row_number(self, p),
+            steps::row_length(self, p),
+        )
+    }
+
+    // The row wanted is fed. The questions are 1, 5, 9, 8, 13, 7 and 14.
+    pub fn feed(self, store: &mut [i32], run: &[i32]) -> Fed
+        ensures number { λ r. ⌜ feedNumber r ≡ feedQuestion self (length (now (store .entry))) (at (now (store .entry))) (length (now (run .entry))) (at (now (run .entry))) ⌝ }
+        ensures answer { λ r. ⌜ r ≡ feedAnswer self (feedQuestion self (length (now (store .entry))) (at (now (store .entry))) (length (now (run .entry))) (at (now (run .entry)))) ⌝ }
+        ensures kept { λ _. ⌜ at (now (store .exit)) ≡ feedStore self (feedQuestion self (length (now (store .entry))) (at (now (store .entry))) (length (now (run .entry))) (at (now (run .entry)))) (at (now (run .entry))) (at (now (store .entry))) ⌝ }
+    {
+        let q = questions::store_question(self, store.len());
+        if q != 0 {
+            return Fed::Refused(q);
+        }
+        let p = steps::next_of(self);
+        let r = questions::row_question(self, p, run);
+        if r != 0 {
+            return Fed::Refused(r);
+        }
+        if steps::feed_row(self, store, p, run) {
+            return Fed::Passed(self.moved(self.drawn, steps::place_fed(self, p)));
+        }
+        let n = wavelet::store::store_length(self.width, self.levels);
+        areas::clear(store, n);
+        Fed::Impossible(self.over())
+    }
+
+    // A height row is drawn, if one can be. The questions are 1, 5, 9 and, with a row to give, 12 and 14.
+    pub fn draw(self, store: &mut [i32], out: &mut [u16]) -> Drawn
+        ensures number { λ r. ⌜ drawNumber r ≡ drawQuestion self (length (now (store .entry))) (at (now (store .entry))) (length (now (out .entry))) ⌝ }
+        ensures answer { λ r. ⌜ r ≡ drawAnswer self (drawQuestion self (length (now (store .entry))) (at (now (store .entry))) (length (now (out .entry)))) ⌝ }
+        ensures kept { λ _. ⌜ at (now (store .exit)) ≡ drawStore self (drawQuestion self (length (now (store .entry))) (at (now (store .entry))) (length (now (out .entry)))) (at (now (store .entry))) ⌝ }
+        ensures heights { λ _. ⌜ heightsAt (now (out .exit)) ≡ drawArea self (drawQuestion self (length (now (store .entry))) (at (now (store .entry))) (length (now (out .entry)))) (at (now (store .entry))) (heightsAt (now (out .entry))) ⌝ }
+    {
+        let q = questions::store_question(self, store.len());
+        if q != 0 {
+            return Drawn::Refused(q);
+        }
+        let p = steps::next_of(self);
+        if !questions::draw_due(self, p) {
+            return Drawn::Nothing;
+        }
+        let w = self.width;
+        if out.len() < w {
+            return Drawn::Refused(12);
+        }
+        if steps::settle(self, store, p) {
+            let a = work::row_place(w, self.drawn);
+            let e = a + w;
+            areas::draw_heights(&store[a..e], out);
+            let d = self.drawn + 1;
+            return Drawn::Heights(
+                w,
+                self.moved(d, walk::enter_of(w, self.height, self.levels, d)),
+            );
+        }
+        let n = wavelet::store::store_length(w, self.levels);
+        areas::clear(store, n);
+        Drawn::Impossible(self.over())
+    }
+
+    // The reader at another place.
+    fn moved(self, drawn: usize, p: Spot) -> Reader
+        ensures { λ r. ⌜ r ≡ movedTo self drawn (place (p .level) (p .band)) ⌝ }
+    {
+        Reader {
+            width: self.width,
+            height: self.height,
+            levels: self.levels,
+            drawn,
+            level: p.level,
+            band: p.band,
+            ended: false,
+        }
+    }
+
+    // The reader ended by 14: its other numbers stay.
+    fn over(self) -> Reader
+        ensures { λ r. ⌜ r ≡ endedReader self ⌝ }
+    {
+        Reader {
+            width: self.width,
+            height: self.height,
+            levels: self.levels,
+            drawn: self.drawn,
+            level: self.level,
+            band: self.band,
+            ended: true,
+        }
+    }
+}

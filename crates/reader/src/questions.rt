@@ -1,0 +1,113 @@
+// The gate questions of the reader, in the order of document 01. The module is private, as `areas` is.
+use crate::Reader;
+use crate::areas;
+use crate::steps;
+use crate::walk::Spot;
+use wavelet::limits;
+use wavelet::sizes;
+use wavelet::store;
+ghost use mathlib.Core.Path.{_≡_};
+ghost use Prim.Native.Nat.{ℕ, _≤_};
+ghost use lib.ListN.{length};
+ghost use Rattle.wavelet.specs.Limits.{maxLevels};
+ghost use Rattle.numbers.specs.Signal.{at};
+ghost use Rattle.reader.specs.State.{next, drawDue};
+ghost use Rattle.reader.specs.Questions.{countsFit, runFits, setUpQuestion};
+ghost use Rattle.reader.specs.Inside.{Counts, Is, storeQuestion, rowQuestion};
+
+// Question 1: is every count inside its range?
+pub fn counts_fit(s: Reader) -> bool
+    ensures { λ r. ⌜ r ≡ countsFit s ⌝ }
+{
+    if !limits::is_within(s.width, Reader::MAX_WIDTH) {
+        return false;
+    }
+    if !limits::is_within(s.height, Reader::MAX_HEIGHT) {
+        return false;
+    }
+    if !limits::is_within(s.levels, Reader::MAX_LEVELS) {
+        return false;
+    }
+    if s.height < s.drawn {
+        return false;
+    }
+    if s.levels < s.level {
+        return false;
+    }
+    s.band <= 4
+}
+
+// Questions 2, 3, 4 and 5 of a set-up, whose line store has `length` numbers.
+pub fn set_up_question(width: usize, height: usize, levels: usize, length: usize) -> u8
+    ensures { λ r. ⌜ r ≡ setUpQuestion width height levels length ⌝ }
+{
+    if !limits::is_within(width, Reader::MAX_WIDTH) {
+        return 2;
+    }
+    if !limits::is_within(height, Reader::MAX_HEIGHT) {
+        return 3;
+    }
+    if !limits::is_within(levels, Reader::MAX_LEVELS) {
+        return 4;
+    }
+    if length < store::store_length(width, levels) {
+        return 5;
+    }
+    0
+}
+
+// Question 7: is each number of the run in its level's range?
+fn run_fits(run: &[i32], level: usize) -> bool
+    requires { ⌜ level ≤ maxLevels ⌝ }
+    ensures { λ r. ⌜ r ≡ runFits level (length (now (run .entry))) (at (now (run .entry))) ⌝ }
+{
+    let most = sizes::range_of(level);
+    areas::all_between(run, -most, most)
+}
+
+// Questions 1, 5 and 9 of a feed or a draw.
+pub fn store_question(s: Reader, length: usize) -> u8
+    ensures { λ r. ⌜ r ≡ storeQuestion s length ⌝ }
+{
+    if !counts_fit(s) {
+        return 1;
+    }
+    if length < store::store_length(s.width, s.levels) {
+        return 5;
+    }
+    if s.ended {
+        return 9;
+    }
+    0
+}
+
+// Questions 8, 13 and 7 of a feed, whose row wanted is p.
+pub fn row_question(s: Reader, p: Spot, run: &[i32]) -> u8
+    requires { ⌜ Counts s × Is (next s) p ⌝ }
+    ensures { λ r. ⌜ r ≡ rowQuestion s (length (now (run .entry))) (at (now (run .entry))) ⌝ }
+{
+    if s.height <= s.drawn {
+        return 8;
+    }
+    if p.level == 0 {
+        return 8;
+    }
+    if run.len() != steps::row_length(s, p) {
+        return 13;
+    }
+    if !run_fits(run, p.level) {
+        return 7;
+    }
+    0
+}
+
+// Whether a height row can be drawn, where p is the row wanted.
+pub fn draw_due(s: Reader, p: Spot) -> bool
+    requires { ⌜ Is (next s) p ⌝ }
+    ensures { λ r. ⌜ r ≡ drawDue s ⌝ }
+{
+    if s.height <= s.drawn {
+        return false;
+    }
+    p.level == 0
+}

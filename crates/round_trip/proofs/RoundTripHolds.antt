@@ -1,0 +1,217 @@
+-- The round trip. Proved from the two theorems of demand 3 and the reader fed as it wants; nothing here looks at a state or a store. Assumes nothing.
+use mathlib.Core.Bool.{Bool, true, false}
+use mathlib.Core.Path.{_≡_, refl, sym, ap, ap₂, subst, _∙_}
+use mathlib.Core.List.{List, [], _∷_, map}
+use Prim.Native.Nat.{ℕ, _+_, _*_, _≤_, _<_}
+use native.Mathlib.Nat.{mul-le-mul-right, mul-comm, eq-of-mul-eq-mul-left}
+use native.Mathlib.Omega.{arith}
+use lib.IntN.{ℤ}
+use lib.ListN.{length}
+use lib.Dec.{T, leb, ltb, eqb}
+use borrow.Author.Tests.{le-leb, lt-ltb, eq-eqb, leb-true, ltb-true, eqb-true}
+use Rattle.numbers.specs.Signal.{pick}
+use Rattle.numbers.specs.Word.{whole}
+use Rattle.numbers.proofs.Sweep.{both}
+use Rattle.wavelet.specs.Bands.{Grid, Band, LL, HL, LH, HH, code}
+use Rattle.wavelet.specs.Levels.{levelBand}
+use Rattle.wavelet.specs.Plane.{planeCell, cells}
+use Rattle.wavelet.specs.View.{bandRows, bandColumns}
+use Rattle.wavelet.specs.ViewCall.{keptAt, bandRowExists}
+use Rattle.wavelet.specs.Limits.{maxWidth, maxHeight, maxLevels}
+use Rattle.wavelet.specs.Questions.{within}
+use Rattle.wavelet.specs.Maps.{IsMap, HasPlane}
+use Rattle.wavelet.specs.Order.{RowName}
+use Rattle.wavelet.proofs.PlaneLayout.{Stands, place-is, row-in, column-in, cell-places}
+use Rattle.wavelet.proofs.PlanePlaces.{Found, found, found-place}
+use Rattle.writer.specs.declared.BandRow.{BandRow}
+use Rattle.writer.specs.History as writer
+use Rattle.writer.specs.Demand3.{All, all-more, HasValues, MapOf, answered}
+use Rattle.writer.specs.Questions as writer-asks
+use Rattle.writer.specs.Demand3 as writes
+use Rattle.writer.proofs.Demand3 as writer-holds
+use Rattle.reader.specs.Asked.{named}
+use Rattle.reader.specs.Questions as reader-asks
+use Rattle.reader.specs.Demand3 as reader
+use Rattle.reader.specs.Played.{HasAll}
+use Rattle.reader.proofs.CallViews.{within-both}
+use Rattle.reader.proofs.StepsLeft.{named-code}
+use Rattle.reader.proofs.Rebuilt.{In, first, later}
+use Rattle.reader.proofs.Played.{times-in, played-holds}
+use Rattle.round_trip.specs.RoundTrip.{isNamed, drawnAs, wrote, rowsWrote, Finished, HandsBack, SetUp, planeRows, FromPlane}
+
+-- ---- a row found by its name
+code-same : (b c : Band) → code b ≡ code c → b ≡ c
+code-same b c e = sym (named-code b) ∙ ap named e ∙ named-code c
+
+pub record Named (x : RowName) (d : BandRow) : Type 0 where
+  level : x .level ≡ d .level
+  band : code (x .band) ≡ d .band
+  row : x .row ≡ d .row
+
+named-is : (x : RowName) (d : BandRow) → isNamed x d ≡ true → Named x d
+unfolding isNamed
+named-is x d e =
+    let a = both (eqb (x .level) (d .level)) _ e in
+    let b = both (eqb (code (x .band)) (d .band)) _ (a .1) in
+    record { level = eqb-true _ _ (a .0); band = eqb-true _ _ (b .0); row = eqb-true _ _ (b .1) }
+
+named-self : (W : ℕ) (x : RowName) → isNamed x (answered W x) ≡ true
+unfolding isNamed
+named-self W x = rw (eq-eqb (x .level) (x .level) refl, eq-eqb (code (x .band)) (code (x .band)) refl, eq-eqb (x .row) (x .row) refl) refl
+
+in-split : {A C : Type 0} (x z : A) (xs : List A) → In x (z ∷ xs) → (x ≡ z → C) → (In x xs → C) → C
+in-split x _ xs first f g = f refl
+in-split x z xs (later i) f g = g i
+
+module _ (W H : ℕ) (g : Grid) where
+  abbrev Right : RowName → (ℕ → ℤ) → Type 0
+  Right x v = (i : ℕ) → i < bandColumns W (x .level) (x .band) → v i ≡ levelBand whole W H g (x .level) (x .band) (x .row) i
+
+  -- a drawn row of that name has its values
+  drawn-right : (x z : RowName) (d : writer.DrawnRow) → d .row ≡ answered W z → HasValues W H g d → isNamed x (d .row) ≡ true → Right x (d .values)
+  drawn-right x z d e has is i p =
+      let n = named-is x (d .row) is in
+      let b : x .band ≡ z .band = code-same (x .band) (z .band) (n .band ∙ ap (λ q. q .band) e) in
+      let k : x .level ≡ z .level = n .level ∙ ap (λ q. q .level) e in
+      let long : bandColumns W (x .level) (x .band) ≡ d .row .length = ap₂ (bandColumns W) k b ∙ ap (λ q. q .length) (sym e) in
+      has .are (x .band) (sym (n .band)) i (rw long at p)
+      ∙ ap₂ (λ q r. levelBand whole W H g q (x .band) r i) (sym (n .level)) (sym (n .row))
+
+  found-right : (ds : List writer.DrawnRow) (names : List RowName) → map (λ d. d .row) ds ≡ map (answered W) names → All (HasValues W H g) ds → (x : RowName) → In x names → Right x (drawnAs ds x)
+  unfolding drawnAs
+  found-right [] (z ∷ names) e a x i = absurd (let p : _≡_ {A = ℕ} 0 1 = cc in omega arith)
+  found-right (d ∷ ds) (z ∷ names) e (all-more h a) x i =
+      let q : d .row ≡ answered W z = cc in
+      let r : map (λ d. d .row) ds ≡ map (answered W) names = cc in
+      go (isNamed x (d .row)) refl q i (found-right ds names r a x)
+    where
+      go : (t : Bool) → isNamed x (d .row) ≡ t → d .row ≡ answered W z → In x (z ∷ names) → (In x names → Right x (drawnAs ds x)) → Right x (λ j. pick t (d .values j) (drawnAs ds x j))
+      go true is q i ih = drawn-right x z d q h is
+      go false is q i ih = in-split x z names i (λ same. absurd (subst T (sym (ap (isNamed x) q ∙ ap (λ v. isNamed x (answered W v)) (sym same) ∙ named-self W x) ∙ is) tt)) ih
+
+-- a passed set-up has a width
+first-yes : (t : Bool) (r : ℕ) → pick t r 2 ≡ 0 → t ≡ true
+first-yes true r e = refl
+first-yes false r e = absurd (omega arith)
+
+module _ (W L n : ℕ) (x : ℕ → ℤ) (cs : List writer.Call) (done : Finished W L n x cs) where
+  abbrev es : List writer.Event
+  es = wrote W L n x cs
+
+  claim : writes.Demand3 W L es (λ k. writer.event k (writer.final cs (writer.freshWorld W L n x)))
+  claim = writer-holds.demand-3 W L n x (done .set-up) cs .1
+
+  -- ---- the map that was written
+  width : 0 < W
+  unfolding writer-asks.setUpQuestion
+  width = within-both 1 maxWidth W (first-yes (within 1 maxWidth W) _ (done .set-up)) .0
+
+  written : (H : ℕ) × (g : Grid) × MapOf W H g es
+  written = claim .some-map (done .sixteen)
+
+  abbrev H : ℕ
+  H = written .0
+
+  abbrev g : Grid
+  g = written .1
+
+  whole-map : length (writer.taken es) ≡ W * rowsWrote W L n x cs
+  whole-map = claim .finished-map (done .finished) .2
+
+  height : H ≡ rowsWrote W L n x cs
+  height = eq-of-mul-eq-mul-left W width H (rowsWrote W L n x cs) (sym (written .2 .all (done .finished)) ∙ whole-map)
+
+  abbrev rows : RowName → ℕ → ℤ
+  rows = drawnAs (writer.drawn es)
+
+  -- it has all the rows drawn
+  has-all : HasAll W (rowsWrote W L n x cs) L g rows
+  has-all =
+      let a = claim .all-drawn (done .finished) (done .none-waits) in
+      record { values = λ y e i p. found-right W (rowsWrote W L n x cs) g (writer.drawn es) (a .0) (a .1) values y (times-in y (a .0) (omega (arith, a .2 y ∙ ap (λ t. pick t 1 0) e))) i p }
+    where
+      values : All (HasValues W (rowsWrote W L n x cs) g) (writer.drawn es)
+      values = subst (λ h. All (HasValues W h g) (writer.drawn es)) height (claim .values H g (written .2))
+
+  is-map : IsMap W (rowsWrote W L n x cs) g
+  is-map = subst (λ h. IsMap W h g) height (written .2 .begins .map)
+
+  -- ---- the theorem: a reader set up with that size, fed and drawn as it wants with the rows drawn, hands back every height in order and says Done
+  pub hands-back : (n′ : ℕ) (y : ℕ → ℤ) (out : reader.Area) → SetUp W L n x cs n′ y out → HandsBack W L n x cs n′ y out
+  hands-back n′ y out up =
+      let p = played-holds W (rowsWrote W L n x cs) L n′ (up .passed) rows out (up .room) y .map-back g is-map has-all in
+      record {
+        rows = p .0;
+        all = whole-map;
+        heights = λ r c h k. p .1 .are r c (omega (arith, p .0)) k ∙ written .2 .begins .heights r c k (place r c h k);
+        done = p .2;
+      }
+    where
+      place : (r c : ℕ) → r < rowsWrote W L n x cs → c < W → r * W + c < length (writer.taken es)
+      place r c h k = let m : (r + 1) * W ≤ rowsWrote W L n x cs * W = mul-le-mul-right W (omega arith) in omega (arith, whole-map, mul-comm W (rowsWrote W L n x cs))
+
+-- ---- from a plane: its band rows are a map's exactly where the plane is
+module _ (W H L : ℕ) (plane : ℕ → ℤ) (g : Grid) where
+  kept-if : (k : ℕ) (b : Band) → (b ≡ LL → k ≡ L) → keptAt L k b ≡ true
+  unfolding keptAt
+  kept-if k LL h = eq-eqb k L (h refl)
+  kept-if k HL h = refl
+  kept-if k LH h = refl
+  kept-if k HH h = refl
+
+  kept-last : (k : ℕ) (b : Band) → keptAt L k b ≡ true → b ≡ LL → k ≡ L
+  unfolding keptAt
+  kept-last k b h z = eqb-true k L (subst (λ v. keptAt L k v ≡ true) z h)
+
+  exists-if : (k : ℕ) (b : Band) (r c : ℕ) → Stands L W H k b r c → bandRowExists W H L k b r ≡ true
+  unfolding bandRowExists within
+  exists-if k b r c s = rw (le-leb 1 k (s .deep), le-leb k L (s .most), kept-if k b (s .last), lt-ltb 0 (bandColumns W k b) (omega (arith, s .column)), lt-ltb r (bandRows H k b) (s .row)) refl
+
+  stands-if : (k : ℕ) (b : Band) (r c : ℕ) → bandRowExists W H L k b r ≡ true → c < bandColumns W k b → Stands L W H k b r c
+  unfolding bandRowExists within
+  stands-if k b r c e p =
+      let a = both (pick (leb 1 k) (leb k L) false) _ e in
+      let d = both (leb 1 k) (leb k L) (a .0) in
+      let f = both (keptAt L k b) _ (a .1) in
+      let h = both (ltb 0 (bandColumns W k b)) _ (f .1) in
+      record { deep = leb-true 1 k (d .0); most = leb-true k L (d .1); last = kept-last k b (f .0); row = ltb-true r (bandRows H k b) (h .1); column = p }
+
+  rows-plane : 0 < L → IsMap W H g → HasAll W H L g (planeRows W H plane) → HasPlane L W H g (cells W plane)
+  unfolding planeRows cells
+  rows-plane some m h = record { map = m; coefficients = λ r c p q. at r c (found L W H r c some p q) }
+    where
+      at : (r c : ℕ) → Found L W H r c → plane (r * W + c) ≡ planeCell whole L W H g r c
+      at r c f =
+          ap plane (sym (found-place L W H r c f))
+          ∙ h .values (record { level = f .level; band = f .band; row = f .row }) (exists-if (f .level) (f .band) (f .row) (f .column) (f .stands)) (f .column) (f .stands .column)
+          ∙ sym (cell-places whole L W H g (f .level) (f .band) (f .row) (f .column) (f .stands))
+          ∙ ap₂ (planeCell whole L W H g) (f .row-is) (f .column-is)
+
+  plane-rows : HasPlane L W H g (cells W plane) → HasAll W H L g (planeRows W H plane)
+  unfolding planeRows cells
+  plane-rows has = record {
+    values = λ y e i p.
+        let s = stands-if (y .level) (y .band) (y .row) i e p in
+        ap plane (place-is W H (y .level) (y .band) (y .row) i)
+        ∙ has .coefficients _ _ (row-in L W H (y .level) (y .band) (y .row) i s) (column-in L W H (y .level) (y .band) (y .row) i s)
+        ∙ cell-places whole L W H g (y .level) (y .band) (y .row) i s;
+  }
+
+some-levels : (W H L n : ℕ) → reader-asks.setUpQuestion W H L n ≡ 0 → 0 < L
+unfolding reader-asks.setUpQuestion
+some-levels W H L n e = within-both 1 maxLevels L (go (within 1 maxWidth W) (within 1 maxHeight H) (within 1 maxLevels L) _ e) .0
+  where
+    go : (s t u : Bool) (r : ℕ) → pick s (pick t (pick u r 4) 3) 2 ≡ 0 → u ≡ true
+    go true true true r z = refl
+    go true true false r z = absurd (omega arith)
+    go true false u r z = absurd (omega arith)
+    go false t u r z = absurd (omega arith)
+
+-- ---- the theorem: of a map's plane the map and Done, of any other plane 7 or 14 and no Done
+pub from-plane : (W H L n : ℕ) (y plane : ℕ → ℤ) (out : reader.Area) → reader-asks.setUpQuestion W H L n ≡ 0 → W ≤ out .size → FromPlane W H L n y plane out
+from-plane W H L n y plane out ok room =
+    let p = played-holds W H L n ok (planeRows W H plane) out room y in
+    record {
+      map-back = λ g has. p .map-back g (has .map) (plane-rows W H L plane g has);
+      no-map = λ none-has. p .no-map (λ g m h. none-has g (rows-plane W H L plane g (some-levels W H L n ok) m h));
+    }

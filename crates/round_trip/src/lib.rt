@@ -1,0 +1,1 @@
+// Writer and reader joined: a theorem over the two promises, no code.
