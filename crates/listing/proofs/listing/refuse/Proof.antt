@@ -1,0 +1,14 @@
+-- `listing::refuse` meets its contract. Assumes nothing.
+use mathlib.Core.Path.{_≡_, refl, sym, ap, _∙_}
+use borrow.Author.Needs.{needs}
+use Rattle.listing.proofs.listing.refuse.Statement.{statement}
+use Rattle.listing.proofs.listing.refuse.Tie as tie
+
+refused-requires : tie.Need-refused-requires
+refused-requires c κs = search needs
+
+returns : tie.Need-returns
+returns c = cc
+
+pub refuse-spec : {M : Type 1} → statement M
+refuse-spec = tie.close (tie.spec refused-requires returns)

@@ -1,0 +1,8 @@
+pub mod Decimal
+pub mod Text
+pub mod Lines
+pub mod Listing
+pub mod Hearing
+pub mod Telling
+pub mod Parts
+pub mod Scenes

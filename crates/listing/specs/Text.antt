@@ -1,0 +1,11 @@
+-- Text in a lent area.
+use mathlib.Core.Path.{_≡_}
+use mathlib.Core.List.{List, _++_}
+use Prim.Native.Nat.{ℕ, _+_, _≤_}
+use lib.ListN.{length, take, drop}
+
+-- the bytes s stand right before place `at`, from place r on, and all else is as it was
+pub record Put (s : List ℕ) (at r : ℕ) (before after : List ℕ) : Type 0 where
+  pub place : r + length s ≡ at
+  pub room : at ≤ length before
+  pub text : after ≡ take r before ++ (s ++ drop at before)

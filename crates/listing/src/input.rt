@@ -1,0 +1,214 @@
+// The input of a listing, heard a byte at a time: a digit for the levels, a line feed, a header, and heights.
+use pgm::header::Header;
+use pgm::header::Next;
+use pgm::samples::Sample;
+use pgm::samples::Samples;
+use wavelet::limits;
+ghost use mathlib.Core.Path.{_≡_};
+ghost use Prim.Native.Nat.{_≤_, _*_};
+ghost use Rattle.listing.specs.Hearing.{silent, phased, levelsHeard, lineFeedHeard, shapeHeard, headerHeard, heightHeard, hears, endHeard};
+
+pub struct Input {
+    // 0 waits for the digit, 1 for the line feed, 2 reads the header, 3 the heights, 4 hears no more
+    pub phase: usize,
+    pub levels: usize,
+    pub header: Header,
+    // heights still to come
+    pub left: usize,
+    pub samples: Samples,
+}
+
+// What a byte tells.
+pub enum Heard {
+    More(Input),
+    // The header ended: width and height.
+    Begun(Input, usize, usize),
+    Height(Input, u16),
+    // Question 15 says no.
+    Refused(Input),
+}
+
+// What the end of the input tells.
+pub enum Ended {
+    // All heights came, and no more.
+    Whole(Input),
+    // Question 15 says no.
+    Short(Input),
+    // It said no before.
+    Before,
+}
+
+impl Input {
+    pub fn start() -> Self
+        ensures { λ r. ⌜ r ≡ silent ⌝ }
+    {
+        Input {
+            phase: 0,
+            levels: 0,
+            header: Header::start(),
+            left: 0,
+            samples: Samples::start(),
+        }
+    }
+
+    fn at_phase(self, phase: usize) -> Self
+        ensures { λ r. ⌜ r ≡ phased phase self ⌝ }
+    {
+        let header = self.header;
+        let samples = self.samples;
+        Input {
+            phase,
+            levels: self.levels,
+            header,
+            left: self.left,
+            samples,
+        }
+    }
+
+    fn hear_levels(self, byte: u8) -> Heard
+        ensures { λ r. ⌜ r ≡ levelsHeard self byte ⌝ }
+    {
+        if byte < b'1' {
+            return Heard::Refused(self.at_phase(4));
+        }
+        if b'5' < byte {
+            return Heard::Refused(self.at_phase(4));
+        }
+        let header = self.header;
+        let samples = self.samples;
+        Heard::More(Input {
+            phase: 1,
+            levels: (byte - b'0') as usize,
+            header,
+            left: self.left,
+            samples,
+        })
+    }
+
+    fn hear_line_feed(self, byte: u8) -> Heard
+        ensures { λ r. ⌜ r ≡ lineFeedHeard self byte ⌝ }
+    {
+        if byte == b'\n' {
+            Heard::More(self.at_phase(2))
+        } else {
+            Heard::Refused(self.at_phase(4))
+        }
+    }
+
+    fn begin(self, width: usize, height: usize) -> Heard
+        ensures { λ r. ⌜ r ≡ shapeHeard self width height ⌝ }
+    {
+        if !limits::is_within(width, 1025) {
+            return Heard::Refused(self.at_phase(4));
+        }
+        if !limits::is_within(height, 65535) {
+            return Heard::Refused(self.at_phase(4));
+        }
+        let header = self.header;
+        let samples = self.samples;
+        Heard::Begun(
+            Input {
+                phase: 3,
+                levels: self.levels,
+                header,
+                left: area(width, height),
+                samples,
+            },
+            width,
+            height,
+        )
+    }
+
+    fn hear_header(self, byte: u8) -> Heard
+        ensures { λ r. ⌜ r ≡ headerHeard self byte ⌝ }
+    {
+        let header = self.header;
+        match header.step(byte) {
+            Next::More(next) => {
+                let samples = self.samples;
+                Heard::More(Input {
+                    phase: 2,
+                    levels: self.levels,
+                    header: next,
+                    left: self.left,
+                    samples,
+                })
+            }
+            Next::Done(width, height) => self.begin(width, height),
+            Next::Refused => Heard::Refused(self.at_phase(4)),
+        }
+    }
+
+    fn hear_height(self, byte: u8) -> Heard
+        ensures { λ r. ⌜ r ≡ heightHeard self byte ⌝ }
+    {
+        if self.left == 0 {
+            return Heard::Refused(self.at_phase(4));
+        }
+        let header = self.header;
+        let samples = self.samples;
+        match samples.step(byte) {
+            Sample::Half(half) => Heard::More(Input {
+                phase: 3,
+                levels: self.levels,
+                header,
+                left: self.left,
+                samples: half,
+            }),
+            Sample::Height(height) => Heard::Height(
+                Input {
+                    phase: 3,
+                    levels: self.levels,
+                    header,
+                    left: self.left - 1,
+                    samples: Samples::start(),
+                },
+                height,
+            ),
+        }
+    }
+
+    // One byte more.
+    pub fn hear(self, byte: u8) -> Heard
+        ensures { λ r. ⌜ r ≡ hears self byte ⌝ }
+    {
+        let phase = self.phase;
+        if phase == 0 {
+            return self.hear_levels(byte);
+        }
+        if phase == 1 {
+            return self.hear_line_feed(byte);
+        }
+        if phase == 2 {
+            return self.hear_header(byte);
+        }
+        if phase == 3 {
+            return self.hear_height(byte);
+        }
+        Heard::More(self)
+    }
+
+    // No byte more.
+    pub fn end(self) -> Ended
+        ensures { λ r. ⌜ r ≡ endHeard self ⌝ }
+    {
+        let phase = self.phase;
+        if 3 < phase {
+            return Ended::Before;
+        }
+        if phase < 3 {
+            return Ended::Short(self.at_phase(4));
+        }
+        if 0 < self.left {
+            return Ended::Short(self.at_phase(4));
+        }
+        Ended::Whole(self.at_phase(4))
+    }
+}
+
+fn area(width: usize, height: usize) -> usize
+    requires { ⌜ (width ≤ 1025) × (height ≤ 65535) ⌝ }
+    ensures { λ r. ⌜ r ≡ width * height ⌝ }
+{
+    width * height
+}

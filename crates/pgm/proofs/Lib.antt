@@ -1,0 +1,2 @@
+pub mod HeaderReads
+pub mod SampleReads

@@ -1,0 +1,4 @@
+pub mod Characters
+pub mod Header
+pub mod Steps
+pub mod Samples

@@ -1,0 +1,49 @@
+// The bytes of a header: whitespace and digits.
+ghost use mathlib.Core.Path.{_≡_};
+ghost use Prim.Native.Nat.{_≤_, _+_, _*_, _-_, min};
+ghost use Rattle.pgm.specs.Characters.{space, digit, digitValue};
+
+pub fn is_space(byte: u8) -> bool
+    ensures { λ r. ⌜ r ≡ space byte ⌝ }
+{
+    if byte == b' ' {
+        return true;
+    }
+    if byte == b'\t' {
+        return true;
+    }
+    if byte == b'\r' {
+        return true;
+    }
+    byte == b'\n'
+}
+
+pub fn is_digit(byte: u8) -> bool
+    ensures { λ r. ⌜ r ≡ digit byte ⌝ }
+{
+    if byte < b'0' {
+        return false;
+    }
+    byte <= b'9'
+}
+
+// A number with one digit more; 65,536 stands for every larger number.
+pub fn with_digit(number: usize, byte: u8) -> usize
+    ensures { λ r. ⌜ r ≡ min (10 * number + digitValue byte) 65536 ⌝ }
+{
+    if number > 65536 {
+        return 65536;
+    }
+    let next = 10 * number + digit_value(byte);
+    if next > 65536 { 65536 } else { next }
+}
+
+// 0 of a byte below the digits.
+fn digit_value(byte: u8) -> usize
+    ensures { λ r. ⌜ r ≡ digitValue byte ⌝ }
+{
+    if byte < b'0' {
+        return 0;
+    }
+    (byte - b'0') as usize
+}
