@@ -105,37 +105,33 @@ static void plain_backward(const int32_t *plane, size_t W, size_t H, uint16_t *h
     for (size_t i = 0; i < W * H; i++) heights[i] = (uint16_t)work[i];
 }
 
-/* ---- naive: each column by itself, walking down the plane */
-static void naive_columns(int32_t *plane, size_t W, size_t w, size_t h, int back)
+/* ---- naive, as a textbook has it: one line at a time is lifted in place and then parted through a second line, columns by their stride */
+static void naive_lift(int32_t *x, size_t n, size_t stride)
 {
-    static int32_t column[70000];
-    for (size_t c = 0; c < w; c++) {
-        if (back)
-            for (size_t r = 0; r < h; r++) column[r] = plane[r * W + c];
-        else
-            for (size_t r = 0; r < h; r++) column[r] = plane[r * W + c];
-        size_t lows = h - h / 2, highs = h / 2;
-        if (!back) {
-            for (size_t i = 0; h > 1 && i < highs; i++) {
-                int32_t right = 2 * i + 2 < h ? column[2 * i + 2] : column[2 * i];
-                column[2 * i + 1] -= half(column[2 * i], right);
-            }
-            for (size_t i = 0; h > 1 && i < lows; i++) {
-                int32_t left = column[i ? 2 * i - 1 : 1], right = 2 * i + 1 < h ? column[2 * i + 1] : column[2 * i - 1];
-                column[2 * i] += quarter(left, right);
-            }
-            for (size_t i = 0; i < lows; i++) plane[i * W + c] = column[2 * i];
-            for (size_t i = 0; i < highs; i++) plane[(lows + i) * W + c] = column[2 * i + 1];
-        } else {
-            for (size_t i = 0; h > 1 && i < lows; i++) {
-                int32_t left = column[lows + (i ? i - 1 : 0)], right = column[lows + (i < highs ? i : highs - 1)];
-                column[i] -= quarter(left, right);
-            }
-            for (size_t i = 0; h > 1 && i < highs; i++) column[lows + i] += half(column[i], column[i + 1 < lows ? i + 1 : i]);
-            for (size_t i = 0; i < lows; i++) plane[2 * i * W + c] = column[i];
-            for (size_t i = 0; i < highs; i++) plane[(2 * i + 1) * W + c] = column[lows + i];
-        }
-    }
+    static int32_t parted[70000];
+    size_t lows = n - n / 2, highs = n / 2;
+    if (n < 2) return;
+    for (size_t i = 0; i < highs; i++)
+        x[(2 * i + 1) * stride] -= half(x[2 * i * stride], x[(2 * i + 2 < n ? 2 * i + 2 : 2 * i) * stride]);
+    for (size_t i = 0; i < lows; i++)
+        x[2 * i * stride] += quarter(x[(i ? 2 * i - 1 : 1) * stride], x[(2 * i + 1 < n ? 2 * i + 1 : 2 * i - 1) * stride]);
+    for (size_t i = 0; i < lows; i++) parted[i] = x[2 * i * stride];
+    for (size_t i = 0; i < highs; i++) parted[lows + i] = x[(2 * i + 1) * stride];
+    for (size_t i = 0; i < n; i++) x[i * stride] = parted[i];
+}
+
+static void naive_unlift(int32_t *x, size_t n, size_t stride)
+{
+    static int32_t parted[70000];
+    size_t lows = n - n / 2, highs = n / 2;
+    if (n < 2) return;
+    for (size_t i = 0; i < n; i++) parted[i] = x[i * stride];
+    for (size_t i = 0; i < lows; i++) x[2 * i * stride] = parted[i];
+    for (size_t i = 0; i < highs; i++) x[(2 * i + 1) * stride] = parted[lows + i];
+    for (size_t i = 0; i < lows; i++)
+        x[2 * i * stride] -= quarter(x[(i ? 2 * i - 1 : 1) * stride], x[(2 * i + 1 < n ? 2 * i + 1 : 2 * i - 1) * stride]);
+    for (size_t i = 0; i < highs; i++)
+        x[(2 * i + 1) * stride] += half(x[2 * i * stride], x[(2 * i + 2 < n ? 2 * i + 2 : 2 * i) * stride]);
 }
 
 static void naive_forward(const uint16_t *heights, size_t W, size_t H, int32_t *plane, int32_t *work)
@@ -144,8 +140,8 @@ static void naive_forward(const uint16_t *heights, size_t W, size_t H, int32_t *
     for (size_t i = 0; i < W * H; i++) plane[i] = heights[i];
     size_t w = W, h = H;
     for (int k = 0; k < LEVELS; k++) {
-        naive_columns(plane, W, w, h, 0);
-        for (size_t r = 0; r < h; r++) lift_row(plane + r * W, w);
+        for (size_t c = 0; c < w; c++) naive_lift(plane + c, h, W);
+        for (size_t r = 0; r < h; r++) naive_lift(plane + r * W, w, 1);
         w -= w / 2;
         h -= h / 2;
     }
@@ -157,8 +153,8 @@ static void naive_backward(const int32_t *plane, size_t W, size_t H, uint16_t *h
     for (int k = LEVELS; k-- > 0;) {
         size_t w = W, h = H;
         for (int j = 0; j < k; j++) w -= w / 2, h -= h / 2;
-        for (size_t r = 0; r < h; r++) unlift_row(work + r * W, w);
-        naive_columns(work, W, w, h, 1);
+        for (size_t r = 0; r < h; r++) naive_unlift(work + r * W, w, 1);
+        for (size_t c = 0; c < w; c++) naive_unlift(work + c, h, W);
     }
     for (size_t i = 0; i < W * H; i++) heights[i] = (uint16_t)work[i];
 }
