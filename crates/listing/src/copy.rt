@@ -1,4 +1,4 @@
-// Bytes copied as far as they and the room go.
+// Bytes copied as far as they and the room go. The module is private: only this crate, which meets what is required, can call it.
 ghost use mathlib.Core.Path.{_≡_};
 ghost use Prim.Native.Nat.{_≤_, _+_, _-_, min};
 ghost use lib.ListN.{length, drop};

@@ -1,4 +1,4 @@
-// The parts of a line as text, and as much of a part written as there is room for.
+// The parts of a line as text, and as much of a part written as there is room for. The module is private: only this crate, which meets what is required, can call it.
 use crate::copy;
 use crate::line::Line;
 use crate::text;

@@ -1,4 +1,4 @@
-// Text is built from the back of a small area: a call puts its bytes right before place `at` and answers where they begin.
+// Text is built from the back of a small area: a call puts its bytes right before place `at` and answers where they begin. The module is private: only this crate, which meets what is required, can call it.
 ghost use mathlib.Core.Path.{_≡_};
 ghost use mathlib.Core.List.{[], _∷_};
 ghost use Prim.Native.Nat.{_≤_, _<_, _+_, _%_};

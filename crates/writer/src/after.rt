@@ -1,4 +1,4 @@
-// What a draw leaves.
+// What a draw leaves. The module is private: only this crate, which meets what is required, can call it.
 use crate::Writer;
 use crate::closing;
 use crate::draws;

@@ -1,4 +1,4 @@
-// What a row makes, down the levels. Each level works in its own stretch of the store; the rest of the store is lent on to the levels below.
+// What a row makes, down the levels. Each level works in its own stretch of the store; the rest of the store is lent on to the levels below. The module is private: only this crate, which meets what is required, can call it.
 use crate::copies;
 use crate::counts;
 use crate::sets;

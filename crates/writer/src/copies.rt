@@ -1,4 +1,4 @@
-// The copies: rows within the store, and rows out of it. One pass over the numbers each.
+// The copies: rows within the store, and rows out of it. One pass over the numbers each. The module is private: only this crate, which meets what is required, can call it.
 ghost use mathlib.Core.Path.{_≡_};
 ghost use Prim.Native.Nat.{_<_, _≤_, _+_, _*_};
 ghost use lib.IntN.{pos};

@@ -1,4 +1,4 @@
-// The numbers that the writer derives on its way down the levels.
+// The numbers that the writer derives on its way down the levels. The module is private: only this crate, which meets what is required, can call it.
 use wavelet::sizes;
 ghost use mathlib.Core.Path.{_≡_};
 ghost use Prim.Native.Nat.{_<_, _+_, _*_};

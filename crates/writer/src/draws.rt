@@ -1,4 +1,4 @@
-// The row that waits, and the draw of it.
+// The row that waits, and the draw of it. The module is private: only this crate, which meets what is required, can call it.
 use crate::cascade;
 use crate::cascade::Wait;
 use crate::counts;

@@ -1,4 +1,4 @@
-// Heights into level 1, a stretch of a row at a time.
+// Heights into level 1, a stretch of a row at a time. The module is private: only this crate, which meets what is required, can call it.
 use crate::Writer;
 use crate::cascade;
 use crate::counts;

@@ -1,4 +1,4 @@
-// The sets of a level: four rows of w numbers in the level's stretch, row r in slot r mod 4, each in halves.
+// The sets of a level: four rows of w numbers in the level's stretch, row r in slot r mod 4, each in halves. The module is private: only this crate, which meets what is required, can call it.
 use crate::copies;
 use crate::counts;
 use lifting::line;
