@@ -5,3 +5,4 @@ pub mod HearingCases
 pub mod HearingLaws
 pub mod SceneLaws
 pub mod SpellLaws
+pub mod DrawnText

@@ -70,3 +70,7 @@ endHeard i =
     (pick (ltb (i .phase) 3) (ended.Short (phased 4 i))
     (pick (ltb 0 (i .left)) (ended.Short (phased 4 i))
     (ended.Whole (phased 4 i))))
+
+-- j heights more have come whole
+abbrev pub heightsCame : ℕ → Input → Input
+heightsCame j i = record { phase = i .phase; levels = i .levels; header = i .header; left = i .left - j; samples = noByte }

@@ -6,3 +6,4 @@ pub mod Hearing
 pub mod Telling
 pub mod Parts
 pub mod Scenes
+pub mod Moves

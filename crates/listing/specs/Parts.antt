@@ -58,6 +58,10 @@ refusedPart q = record { part = 2; level = 0; band = 0; row = q; length = 0; val
 abbrev pub headPart : ℕ → ℕ → ℕ → ℕ → Line
 headPart k b r n = record { part = 3; level = k; band = b; row = r; length = n; value = 0; done = 0 }
 
+-- d bytes of the part written
+abbrev pub donePart : Line → ℕ → Line
+donePart l d = record { part = l .part; level = l .level; band = l .band; row = l .row; length = l .length; value = l .value; done = d }
+
 -- ---- what is left of a part of text t, d bytes of which are written; past its end nothing is written yet
 unfoldable pub startOf : ℕ → ℕ → ℕ
 startOf t d = pick (ltb d t) d 0

@@ -9,3 +9,9 @@ pub record Put (s : List ℕ) (at r : ℕ) (before after : List ℕ) : Type 0 wh
   pub place : r + length s ≡ at
   pub room : at ≤ length before
   pub text : after ≡ take r before ++ (s ++ drop at before)
+
+-- the bytes s stand from place a on, up to place r, and all else is as it was
+pub record Wrote (s : List ℕ) (a r : ℕ) (before after : List ℕ) : Type 0 where
+  pub place : r ≡ a + length s
+  pub room : r ≤ length before
+  pub text : after ≡ take a before ++ (s ++ drop r before)

@@ -5,8 +5,8 @@ use pgm::samples::Sample;
 use pgm::samples::Samples;
 use wavelet::limits;
 ghost use mathlib.Core.Path.{_≡_};
-ghost use Prim.Native.Nat.{_≤_, _*_};
-ghost use Rattle.listing.specs.Hearing.{silent, phased, levelsHeard, lineFeedHeard, shapeHeard, headerHeard, heightHeard, hears, endHeard};
+ghost use Prim.Native.Nat.{_≤_, _-_, _*_};
+ghost use Rattle.listing.specs.Hearing.{silent, phased, levelsHeard, lineFeedHeard, shapeHeard, headerHeard, heightHeard, hears, endHeard, heightsCame};
 
 pub struct Input {
     // 0 waits for the digit, 1 for the line feed, 2 reads the header, 3 the heights, 4 hears no more
@@ -62,6 +62,21 @@ impl Input {
             header,
             left: self.left,
             samples,
+        }
+    }
+
+    // Some heights came whole.
+    pub fn took(self, count: usize) -> Self
+        ensures { λ r. ⌜ r ≡ heightsCame count self ⌝ }
+    {
+        let header = self.header;
+        let left = less(self.left, count);
+        Input {
+            phase: self.phase,
+            levels: self.levels,
+            header,
+            left,
+            samples: Samples::start(),
         }
     }
 
@@ -211,4 +226,11 @@ fn area(width: usize, height: usize) -> usize
     ensures { λ r. ⌜ r ≡ width * height ⌝ }
 {
     width * height
+}
+
+// What is left of a after b, if anything.
+fn less(a: usize, b: usize) -> usize
+    ensures { λ r. ⌜ r ≡ a - b ⌝ }
+{
+    if a < b { 0 } else { a - b }
 }

@@ -1,6 +1,6 @@
 // The line that is being written, part by part. A part is a few bytes that are written one after the other.
 ghost use mathlib.Core.Path.{_≡_};
-ghost use Rattle.listing.specs.Parts.{noLine, sizePart, refusedPart, headPart};
+ghost use Rattle.listing.specs.Parts.{noLine, sizePart, refusedPart, headPart, donePart};
 
 pub struct Line {
     // 0 nothing, 1 the line of W, H and L (length, row, level), 2 a refusal (its number in row), 3 level, band and row of a band row, 4 a value or the line's end
@@ -69,6 +69,21 @@ impl Line {
             length,
             value: 0,
             done: 0,
+        }
+    }
+
+    // With so many bytes of its part written.
+    pub fn with_done(self, done: usize) -> Self
+        ensures { λ r. ⌜ r ≡ donePart self done ⌝ }
+    {
+        Line {
+            part: self.part,
+            level: self.level,
+            band: self.band,
+            row: self.row,
+            length: self.length,
+            value: self.value,
+            done,
         }
     }
 }

@@ -1,18 +1,17 @@
-// The listing: what the input tells goes to the writer, and each band row that comes due is written as a line before more input is heard.
+// The listing: bytes of the input in, bytes of the lines out. Each band row that comes due is written as a line before more input is read.
 use crate::input::Ended;
-use crate::input::Heard;
 use crate::input::Input;
 use crate::line::Line;
-use writer::Drawn;
-use writer::Finished;
-use writer::Offered;
-use writer::SetUp;
+use crate::reading;
+use crate::scenes;
+use crate::writing;
 use writer::Writer;
 ghost use mathlib.Core.Path.{_≡_};
+ghost use Prim.Native.Nat.{_≤_};
 ghost use lib.ListN.{length};
 ghost use Rattle.numbers.specs.Signal.{at};
-ghost use Rattle.writer.specs.Calls.{setUpReply, setUpStore};
-ghost use Rattle.listing.specs.Scenes.{scene, Leaves, started, refusedTo, drawScene, begunTo, offerScene, finishScene, hearScene, endScene, valuePart, advanceScene};
+ghost use Rattle.listing.specs.Scenes.{scene, Leaves, started, endScene};
+ghost use Rattle.listing.specs.Moves.{Went, Stops, Onward};
 
 pub struct Listing {
     pub input: Input,
@@ -20,68 +19,12 @@ pub struct Listing {
     pub line: Line,
 }
 
-fn refuse(input: Input, writer: Writer, number: u8) -> Listing
-    ensures { λ r. ⌜ r ≡ refusedTo input writer number ⌝ }
-{
-    Listing {
-        input,
-        writer,
-        line: Line::refused(number as usize),
-    }
-}
-
-// The next band row that waits becomes the line.
-fn draw(input: Input, writer: Writer, store: &mut [i32], row: &mut [i32]) -> Listing
-    ensures { λ r. ⌜ Leaves (drawScene (length (now (store .entry))) (length (now (row .entry))) input writer (at (now (store .entry))) (at (now (row .entry)))) r (at (now (store .exit))) (at (now (row .exit))) ⌝ }
-{
-    match writer.draw(store, row) {
-        Drawn::Row(r, next) => Listing {
-            input,
-            writer: next,
-            line: Line::band_row(r.level, r.band, r.row, r.length),
-        },
-        Drawn::Nothing => Listing {
-            input,
-            writer,
-            line: Line::none(),
-        },
-        Drawn::Refused(q) => refuse(input, writer, q),
-    }
-}
-
-// The head is heard: a fresh writer, and the line of W, H and L.
-fn begin(input: Input, writer: Writer, width: usize, height: usize, store: &mut [i32]) -> Listing
-    ensures { λ r. ⌜ r ≡ begunTo input writer width height (setUpReply width (input .levels) (length (now (store .entry)))) ⌝ }
-    ensures { λ r. ⌜ at (now (store .exit)) ≡ setUpStore width (input .levels) (length (now (store .entry))) (at (now (store .entry))) ⌝ }
-{
-    let levels = input.levels;
-    match Writer::set_up(width, levels, store) {
-        SetUp::Ready(fresh) => Listing {
-            input,
-            writer: fresh,
-            line: Line::size(width, height, levels),
-        },
-        SetUp::Refused(q) => refuse(input, writer, q),
-    }
-}
-
-fn offer(input: Input, writer: Writer, height: u16, store: &mut [i32], row: &mut [i32]) -> Listing
-    ensures { λ r. ⌜ Leaves (offerScene (length (now (store .entry))) (length (now (row .entry))) input writer height (at (now (store .entry))) (at (now (row .entry)))) r (at (now (store .exit))) (at (now (row .exit))) ⌝ }
-{
-    let run = [height; 1];
-    match writer.offer(store, &run) {
-        Offered::Taken(_, next) => draw(input, next, store, row),
-        Offered::Refused(q) => refuse(input, writer, q),
-    }
-}
-
-fn finish(input: Input, writer: Writer, store: &mut [i32], row: &mut [i32]) -> Listing
-    ensures { λ r. ⌜ Leaves (finishScene (length (now (store .entry))) (length (now (row .entry))) input writer (at (now (store .entry))) (at (now (row .entry)))) r (at (now (store .exit))) (at (now (row .exit))) ⌝ }
-{
-    match writer.finish(store) {
-        Finished::Closed(next) => draw(input, next, store, row),
-        Finished::Refused(q) => refuse(input, writer, q),
-    }
+// What a call left: the listing, how many bytes of the piece it read, how many of the area it wrote, and whether it waits for input.
+pub struct Fed {
+    pub listing: Listing,
+    pub used: usize,
+    pub written: usize,
+    pub idle: bool,
 }
 
 impl Listing {
@@ -103,88 +46,99 @@ impl Listing {
             line: Line::none(),
         }
     }
-}
 
-// One byte of the input, while no line is being written.
-fn hear(listing: Listing, byte: u8, store: &mut [i32], row: &mut [i32]) -> Listing
-    ensures { λ r. ⌜ Leaves (hearScene (length (now (store .entry))) (length (now (row .entry))) byte (scene listing (at (now (store .entry))) (at (now (row .entry))))) r (at (now (store .exit))) (at (now (row .exit))) ⌝ }
-{
-    let input = listing.input;
-    let writer = listing.writer;
-    match input.hear(byte) {
-        Heard::More(next) => Listing {
-            input: next,
-            writer,
-            line: Line::none(),
-        },
-        Heard::Begun(next, width, height) => begin(next, writer, width, height, store),
-        Heard::Height(next, height) => offer(next, writer, height, store, row),
-        Heard::Refused(next) => refuse(next, writer, 15),
+    // Reads a piece of the input and writes lines, until the area is full, or the piece is used up and no line is left. The rest of a piece is lent again.
+    pub fn feed(self, piece: &[u8], store: &mut [i32], row: &mut [i32], out: &mut [u8]) -> Fed
+        ensures { λ r. ⌜ Went (length (now (store .entry))) (length (now (row .entry))) (scene self (at (now (store .entry))) (at (now (row .entry)))) (now (piece .entry)) 0 (r .used) (now (out .entry)) (now (out .exit)) 0 (r .written) (scene (r .listing) (at (now (store .exit))) (at (now (row .exit)))) ⌝ }
+        ensures { λ r. ⌜ Stops (scene (r .listing) (at (now (store .exit))) (at (now (row .exit)))) (now (piece .entry)) (r .used) (now (out .entry)) (r .written) (r .idle) ⌝ }
+    {
+        let mut state = self;
+        let mut used = 0;
+        let mut written = 0;
+        let mut going = true;
+        while going {
+            let t = turn(state, piece, used, store, row, out, written);
+            let next = t.listing;
+            state = next;
+            used = t.used;
+            written = t.written;
+            going = t.going;
+        }
+        let line = state.line;
+        Fed {
+            listing: state,
+            used,
+            written,
+            idle: line.part == 0,
+        }
+    }
+
+    // The input has ended. To be called once no line is being written.
+    pub fn end(self, store: &mut [i32], row: &mut [i32]) -> Listing
+        ensures { λ r. ⌜ Leaves (endScene (length (now (store .entry))) (length (now (row .entry))) (scene self (at (now (store .entry))) (at (now (row .entry))))) r (at (now (store .exit))) (at (now (row .exit))) ⌝ }
+    {
+        let input = self.input;
+        let writer = self.writer;
+        let line = self.line;
+        let part = line.part;
+        if 0 < part {
+            return self;
+        }
+        match input.end() {
+            Ended::Whole(next) => scenes::finish(next, writer, store, row),
+            Ended::Short(next) => scenes::refuse(next, writer, 15),
+            Ended::Before => self,
+        }
     }
 }
 
-// The line with the value v next.
-fn at_value(line: Line, v: usize) -> Line
-    ensures { λ r. ⌜ r ≡ valuePart line v ⌝ }
-{
-    Line {
-        part: 4,
-        level: line.level,
-        band: line.band,
-        row: line.row,
-        length: line.length,
-        value: v,
-        done: 0,
-    }
+// One turn: input is read while no line is being written, else the line is. `going` while there may be another turn.
+struct Turn {
+    listing: Listing,
+    used: usize,
+    written: usize,
+    going: bool,
 }
 
-// The line's part is written whole: what comes after it.
-fn advance(listing: Listing, store: &mut [i32], row: &mut [i32]) -> Listing
-    ensures { λ r. ⌜ Leaves (advanceScene (length (now (store .entry))) (length (now (row .entry))) (scene listing (at (now (store .entry))) (at (now (row .entry))))) r (at (now (store .exit))) (at (now (row .exit))) ⌝ }
+fn turn(
+    listing: Listing,
+    piece: &[u8],
+    used: usize,
+    store: &mut [i32],
+    row: &mut [i32],
+    out: &mut [u8],
+    written: usize,
+) -> Turn
+    requires { ⌜ (used ≤ length (now piece)) × (written ≤ length (now out)) ⌝ }
+    ensures { λ r. ⌜ Went (length (now (store .entry))) (length (now (row .entry))) (scene listing (at (now (store .entry))) (at (now (row .entry)))) (now (piece .entry)) used (r .used) (now (out .entry)) (now (out .exit)) written (r .written) (scene (r .listing) (at (now (store .exit))) (at (now (row .exit)))) ⌝ }
+    ensures { λ r. ⌜ Onward (scene (r .listing) (at (now (store .exit))) (at (now (row .exit)))) (now (piece .entry)) used (r .used) (now (out .entry)) written (r .written) (r .going) ⌝ }
 {
-    let input = listing.input;
-    let writer = listing.writer;
     let line = listing.line;
-    let part = line.part;
-    let value = line.value;
-    if part < 3 {
-        return Listing {
-            input,
-            writer,
-            line: Line::none(),
+    if line.part == 0 {
+        if used < piece.len() {
+            let r = reading::read_on(listing, piece, used, store, row);
+            let next = r.listing;
+            return Turn {
+                listing: next,
+                used: r.used,
+                written,
+                going: true,
+            };
+        }
+    } else if written < out.len() {
+        let w = writing::write_on(listing, store, row, out, written);
+        let next = w.listing;
+        return Turn {
+            listing: next,
+            used,
+            written: w.place,
+            going: true,
         };
     }
-    if part == 3 {
-        return Listing {
-            input,
-            writer,
-            line: at_value(line, 0),
-        };
-    }
-    if value < line.length {
-        return Listing {
-            input,
-            writer,
-            line: at_value(line, value + 1),
-        };
-    }
-    draw(input, writer, store, row)
-}
-
-// The input has ended. To be called once no line is being written.
-pub fn end(listing: Listing, store: &mut [i32], row: &mut [i32]) -> Listing
-    ensures { λ r. ⌜ Leaves (endScene (length (now (store .entry))) (length (now (row .entry))) (scene listing (at (now (store .entry))) (at (now (row .entry))))) r (at (now (store .exit))) (at (now (row .exit))) ⌝ }
-{
-    let input = listing.input;
-    let writer = listing.writer;
-    let line = listing.line;
-    let part = line.part;
-    if 0 < part {
-        return listing;
-    }
-    match input.end() {
-        Ended::Whole(next) => finish(next, writer, store, row),
-        Ended::Short(next) => refuse(next, writer, 15),
-        Ended::Before => listing,
+    Turn {
+        listing,
+        used,
+        written,
+        going: false,
     }
 }

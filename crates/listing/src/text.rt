@@ -47,7 +47,7 @@ pub fn put_number(n: usize, text: &mut [u8], at: usize) -> usize
     put_byte(last_digit(rest), text, place)
 }
 
-fn magnitude(v: i32) -> usize
+pub fn magnitude(v: i32) -> usize
     ensures { λ r. ⌜ r ≡ natAbs v ⌝ }
 {
     if v < 0 {

@@ -3,8 +3,8 @@ use mathlib.Core.Path.{_≡_, refl, sym, ap, _∙_}
 use Rattle.writer.specs.Answers.{ofSetUp, ofOffered, ofDrawn, ofFinished}
 use Rattle.listing.specs.Scenes.{listed, begunTo}
 use borrow.Author.Needs.{needs}
-use Rattle.listing.proofs.listing.begin.Statement.{statement}
-use Rattle.listing.proofs.listing.begin.Tie as tie
+use Rattle.listing.proofs.scenes.begin.Statement.{statement}
+use Rattle.listing.proofs.scenes.begin.Tie as tie
 
 set-up-requires : tie.Need-set-up-requires
 set-up-requires c κs = search needs

@@ -6,8 +6,8 @@ use Rattle.writer.specs.Answers.{ofSetUp, ofOffered, ofDrawn, ofFinished}
 use Rattle.listing.specs.Scenes.{listed, scene}
 use Rattle.listing.proofs.SceneLaws.{heard-as, began}
 use borrow.Author.Needs.{needs}
-use Rattle.listing.proofs.listing.hear.Statement.{statement}
-use Rattle.listing.proofs.listing.hear.Tie as tie
+use Rattle.listing.proofs.scenes.hear.Statement.{statement}
+use Rattle.listing.proofs.scenes.hear.Tie as tie
 
 hear-requires : tie.Need-hear-requires
 hear-requires c κs = search needs

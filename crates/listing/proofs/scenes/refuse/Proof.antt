@@ -1,8 +1,8 @@
 -- `listing::refuse` meets its contract. Assumes nothing.
 use mathlib.Core.Path.{_≡_, refl, sym, ap, _∙_}
 use borrow.Author.Needs.{needs}
-use Rattle.listing.proofs.listing.refuse.Statement.{statement}
-use Rattle.listing.proofs.listing.refuse.Tie as tie
+use Rattle.listing.proofs.scenes.refuse.Statement.{statement}
+use Rattle.listing.proofs.scenes.refuse.Tie as tie
 
 refused-requires : tie.Need-refused-requires
 refused-requires c κs = search needs

@@ -4,8 +4,8 @@ use Rattle.writer.specs.Answers.{ofSetUp, ofOffered, ofDrawn, ofFinished}
 use Rattle.listing.specs.Scenes.{listed}
 use Rattle.listing.proofs.SceneLaws.{closed, not-closed}
 use borrow.Author.Needs.{needs}
-use Rattle.listing.proofs.listing.finish.Statement.{statement}
-use Rattle.listing.proofs.listing.finish.Tie as tie
+use Rattle.listing.proofs.scenes.finish.Statement.{statement}
+use Rattle.listing.proofs.scenes.finish.Tie as tie
 
 finish-requires : tie.Need-finish-requires
 finish-requires c κs = search needs

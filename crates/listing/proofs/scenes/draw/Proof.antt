@@ -4,8 +4,8 @@ use Rattle.writer.specs.Answers.{ofSetUp, ofOffered, ofDrawn, ofFinished}
 use Rattle.listing.specs.Scenes.{listed}
 use Rattle.listing.proofs.SceneLaws.{drew}
 use borrow.Author.Needs.{needs}
-use Rattle.listing.proofs.listing.draw.Statement.{statement}
-use Rattle.listing.proofs.listing.draw.Tie as tie
+use Rattle.listing.proofs.scenes.draw.Statement.{statement}
+use Rattle.listing.proofs.scenes.draw.Tie as tie
 
 draw-requires : tie.Need-draw-requires
 draw-requires c κs = search needs

@@ -5,8 +5,8 @@ use Rattle.numbers.specs.Signal.{at}
 use Rattle.listing.specs.Scenes.{listed, scene}
 use Rattle.listing.proofs.SceneLaws.{past-line, past-head, past-value, past-end}
 use borrow.Author.Needs.{needs}
-use Rattle.listing.proofs.listing.advance.Statement.{statement}
-use Rattle.listing.proofs.listing.advance.Tie as tie
+use Rattle.listing.proofs.scenes.advance.Statement.{statement}
+use Rattle.listing.proofs.scenes.advance.Tie as tie
 
 none-requires : tie.Need-none-requires
 none-requires c κs = search needs

@@ -4,8 +4,8 @@ use Rattle.writer.specs.Answers.{ofSetUp, ofOffered, ofDrawn, ofFinished}
 use Rattle.listing.specs.Scenes.{listed}
 use Rattle.listing.proofs.SceneLaws.{took, not-taken}
 use borrow.Author.Needs.{needs}
-use Rattle.listing.proofs.listing.offer.Statement.{statement}
-use Rattle.listing.proofs.listing.offer.Tie as tie
+use Rattle.listing.proofs.scenes.offer.Statement.{statement}
+use Rattle.listing.proofs.scenes.offer.Tie as tie
 
 slice-aggregate-offer : tie.Need-slice-aggregate-offer
 slice-aggregate-offer c = search needs

@@ -5,8 +5,8 @@ use Rattle.numbers.specs.Signal.{at}
 use Rattle.listing.specs.Scenes.{listed, scene}
 use Rattle.listing.proofs.SceneLaws.{end-in-line, ended-as}
 use borrow.Author.Needs.{needs}
-use Rattle.listing.proofs.listing.end.Statement.{statement}
-use Rattle.listing.proofs.listing.end.Tie as tie
+use Rattle.listing.proofs.listing.Listing.end.Statement.{statement}
+use Rattle.listing.proofs.listing.Listing.end.Tie as tie
 
 returns : tie.Need-returns
 returns c =

@@ -1,0 +1,86 @@
+// What comes in while no line is being written: heights that came together are offered together, any other byte is heard by itself. The module is private: only this crate, which meets what is required, can call it.
+use crate::copy;
+use crate::listing::Listing;
+use crate::scenes;
+use pgm::samples;
+use writer::Offered;
+ghost use mathlib.Core.Path.{_≡_};
+ghost use mathlib.Core.Bool.{false};
+ghost use Prim.Native.Nat.{_+_, _<_, _≤_};
+ghost use lib.ListN.{length};
+ghost use Rattle.numbers.specs.Signal.{at};
+ghost use Rattle.listing.specs.Scenes.{scene};
+ghost use Rattle.listing.specs.Moves.{Reads};
+
+pub struct Read {
+    pub listing: Listing,
+    pub used: usize,
+}
+
+fn read_byte(
+    listing: Listing,
+    piece: &[u8],
+    used: usize,
+    store: &mut [i32],
+    row: &mut [i32],
+) -> Read
+    requires { ⌜ (listing .line .part ≡ 0) × (used < length (now piece)) ⌝ }
+    ensures { λ r. ⌜ Reads (length (now (store .entry))) (length (now (row .entry))) (scene listing (at (now (store .entry))) (at (now (row .entry)))) (now (piece .entry)) used (r .used) (scene (r .listing) (at (now (store .exit))) (at (now (row .exit)))) ⌝ }
+{
+    Read {
+        listing: scenes::hear(listing, piece[used], store, row),
+        used: used + 1,
+    }
+}
+
+// As many whole heights as there are, as are still to come and as fit a small area; the writer says how many of them it takes.
+fn read_heights(
+    listing: Listing,
+    piece: &[u8],
+    used: usize,
+    store: &mut [i32],
+    row: &mut [i32],
+) -> Read
+    requires { ⌜ (listing .line .part ≡ 0) × (listing .input .phase ≡ 3) × (listing .input .samples .half ≡ false) × (0 < listing .input .left) × (used + 2 ≤ length (now piece)) ⌝ }
+    ensures { λ r. ⌜ Reads (length (now (store .entry))) (length (now (row .entry))) (scene listing (at (now (store .entry))) (at (now (row .entry)))) (now (piece .entry)) used (r .used) (scene (r .listing) (at (now (store .exit))) (at (now (row .exit)))) ⌝ }
+{
+    let input = listing.input;
+    let writer = listing.writer;
+    let mut run = [0u16; 256];
+    let most = copy::least(input.left, 256);
+    let n = samples::read(piece, used, &mut run[..most]);
+    match writer.offer(store, &run[..n]) {
+        Offered::Taken(taken, next) => Read {
+            listing: scenes::draw(input.took(taken), next, store, row),
+            used: used + 2 * taken,
+        },
+        Offered::Refused(_) => read_byte(listing, piece, used, store, row),
+    }
+}
+
+pub fn read_on(
+    listing: Listing,
+    piece: &[u8],
+    used: usize,
+    store: &mut [i32],
+    row: &mut [i32],
+) -> Read
+    requires { ⌜ (listing .line .part ≡ 0) × (used < length (now piece)) ⌝ }
+    ensures { λ r. ⌜ Reads (length (now (store .entry))) (length (now (row .entry))) (scene listing (at (now (store .entry))) (at (now (row .entry)))) (now (piece .entry)) used (r .used) (scene (r .listing) (at (now (store .exit))) (at (now (row .exit)))) ⌝ }
+{
+    let input = listing.input;
+    let samples = input.samples;
+    if input.phase != 3 {
+        return read_byte(listing, piece, used, store, row);
+    }
+    if samples.half {
+        return read_byte(listing, piece, used, store, row);
+    }
+    if input.left == 0 {
+        return read_byte(listing, piece, used, store, row);
+    }
+    if piece.len() - used < 2 {
+        return read_byte(listing, piece, used, store, row);
+    }
+    read_heights(listing, piece, used, store, row)
+}

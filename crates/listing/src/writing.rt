@@ -1,0 +1,97 @@
+// What goes out while a line is being written: the values of a band row one after the other where there is room for the longest, else a part as far as there is room. The module is private: only this crate, which meets what is required, can call it.
+use crate::copy;
+use crate::line::Line;
+use crate::listing::Listing;
+use crate::scenes;
+use crate::spelling;
+use crate::values;
+ghost use mathlib.Core.Path.{_≡_};
+ghost use Prim.Native.Nat.{_+_, _<_, _≤_};
+ghost use lib.ListN.{length};
+ghost use Rattle.numbers.specs.Signal.{at};
+ghost use Rattle.listing.specs.Scenes.{scene, listed};
+ghost use Rattle.listing.specs.Moves.{Writes, WritesOnly};
+
+pub struct Written {
+    pub listing: Listing,
+    pub place: usize,
+}
+
+fn with_line(listing: Listing, line: Line) -> Listing
+    ensures { λ r. ⌜ r ≡ listed (listing .input) (listing .writer) line ⌝ }
+{
+    let input = listing.input;
+    let writer = listing.writer;
+    Listing {
+        input,
+        writer,
+        line,
+    }
+}
+
+// The store is not lent here, so it stays.
+fn write_values(listing: Listing, row: &[i32], out: &mut [u8], place: usize) -> Written
+    requires { ⌜ (3 < listing .line .part) × (listing .line .done ≡ 0) × (listing .line .value < listing .line .length) × (listing .line .value < length (now row)) × (place + 12 ≤ length (now out)) ⌝ }
+    ensures { λ r. ⌜ WritesOnly (length (now (row .entry))) listing (at (now (row .entry))) (now (out .entry)) (now (out .exit)) place (r .place) (r .listing) ⌝ }
+{
+    let line = listing.line;
+    let end = copy::least(line.length, row.len());
+    let v = values::put_values(row, line.value, end, out, place);
+    Written {
+        listing: with_line(listing, scenes::at_value(line, v.value)),
+        place: v.place,
+    }
+}
+
+fn write_part(
+    listing: Listing,
+    store: &mut [i32],
+    row: &mut [i32],
+    out: &mut [u8],
+    place: usize,
+) -> Written
+    requires { ⌜ (0 < listing .line .part) × (place < length (now out)) ⌝ }
+    ensures { λ r. ⌜ Writes (length (now (store .entry))) (length (now (row .entry))) (scene listing (at (now (store .entry))) (at (now (row .entry)))) (now (out .entry)) (now (out .exit)) place (r .place) (scene (r .listing) (at (now (store .exit))) (at (now (row .exit)))) ⌝ }
+{
+    let line = listing.line;
+    let s = spelling::spell(line, row, out, place);
+    if s.rest == 0 {
+        return Written {
+            listing: scenes::advance(listing, store, row),
+            place: place + s.written,
+        };
+    }
+    Written {
+        listing: with_line(listing, line.with_done(s.done)),
+        place: place + s.written,
+    }
+}
+
+pub fn write_on(
+    listing: Listing,
+    store: &mut [i32],
+    row: &mut [i32],
+    out: &mut [u8],
+    place: usize,
+) -> Written
+    requires { ⌜ (0 < listing .line .part) × (place < length (now out)) ⌝ }
+    ensures { λ r. ⌜ Writes (length (now (store .entry))) (length (now (row .entry))) (scene listing (at (now (store .entry))) (at (now (row .entry)))) (now (out .entry)) (now (out .exit)) place (r .place) (scene (r .listing) (at (now (store .exit))) (at (now (row .exit)))) ⌝ }
+{
+    let line = listing.line;
+    if line.part < 4 {
+        return write_part(listing, store, row, out, place);
+    }
+    if 0 < line.done {
+        return write_part(listing, store, row, out, place);
+    }
+    if line.length <= line.value {
+        return write_part(listing, store, row, out, place);
+    }
+    if row.len() <= line.value {
+        return write_part(listing, store, row, out, place);
+    }
+    if out.len() - place < values::LONGEST {
+        return write_part(listing, store, row, out, place);
+    }
+    write_values(listing, row, out, place)
+}
