@@ -76,14 +76,7 @@ fn feed_all(
 }
 
 // One chunk of the input; `idle` at its end. An error ends the input.
-fn read_once(
-    fd: i32,
-    listing: Listing,
-    store: &mut [i32],
-    row: &mut [i32],
-    out: &mut [u8],
-) -> Run
-{
+fn read_once(fd: i32, listing: Listing, store: &mut [i32], row: &mut [i32], out: &mut [u8]) -> Run {
     let mut chunk = [0u8; 65536];
     let got = libc::read(fd, &mut chunk);
     let n = io::count(got, &chunk);
