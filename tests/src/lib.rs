@@ -2,6 +2,7 @@
 //!
 //! Nothing checks a declaration here against the Rattle source, so each stands beside its wrapper and is driven by a test.
 pub mod areas;
+pub mod listing;
 pub mod maps;
 pub mod order;
 pub mod random;

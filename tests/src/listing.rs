@@ -1,0 +1,113 @@
+//! A second listing, straight from document 01, "The listing program": the whole input in, the whole output back. The order of the rows is
+//! `order`'s, their values the reference transform's.
+use crate::maps::{forward, MAX_HEIGHT};
+use crate::order::{place, BandRow, Writer};
+
+const MAX_WIDTH: usize = 1_025;
+const REFUSED: &str = "refused 15\n";
+
+struct Head<'a> {
+    levels: usize,
+    width: usize,
+    height: usize,
+    body: &'a [u8],
+}
+
+/// A whitespace byte and a number after it.
+fn number(s: &[u8]) -> Option<(usize, &[u8])> {
+    let s = space(s)?;
+    let digits = s.iter().take_while(|b| b.is_ascii_digit()).count();
+    if digits == 0 {
+        return None;
+    }
+    // a number too long for any limit is one that is above them all
+    let n = s[..digits].iter().fold(0usize, |n, &b| (10 * n + (b - b'0') as usize).min(1_000_000));
+    Some((n, &s[digits..]))
+}
+
+fn space(s: &[u8]) -> Option<&[u8]> {
+    match s.first() {
+        Some(b' ' | b'\t' | b'\r' | b'\n') => Some(&s[1..]),
+        _ => None,
+    }
+}
+
+fn head(s: &[u8]) -> Option<Head<'_>> {
+    let levels = match s.first() {
+        Some(&d @ b'1'..=b'5') => (d - b'0') as usize,
+        _ => return None,
+    };
+    let s = s[1..].strip_prefix(b"\nP5")?;
+    let (width, s) = number(s)?;
+    let (height, s) = number(s)?;
+    let (maximum, s) = number(s)?;
+    let body = space(s)?;
+    let fits = (1..=MAX_WIDTH).contains(&width) && (1..=MAX_HEIGHT).contains(&height) && maximum == 65_535;
+    fits.then_some(Head { levels, width, height, body })
+}
+
+/// The rows that the heights make due, and those of the finish.
+fn rows_due(h: &Head, heights: usize, finished: bool) -> Vec<BandRow> {
+    let mut writer = Writer::new(h.width, h.levels);
+    let mut rows = Vec::new();
+    let mut left = heights;
+    while left > 0 {
+        left -= writer.offer(left).expect("no row waits");
+        while let Ok(Some(row)) = writer.draw(h.width) {
+            rows.push(row);
+        }
+    }
+    if finished {
+        writer.finish().expect("the map is whole");
+        while let Ok(Some(row)) = writer.draw(h.width) {
+            rows.push(row);
+        }
+    }
+    rows
+}
+
+fn line(plane: &[i32], width: usize, height: usize, r: BandRow) -> String {
+    let values = plane[place(width, height, r)].iter().map(|v| format!(" {v}")).collect::<String>();
+    format!("{} {} {}{}\n", r.level, ["LL", "HL", "LH", "HH"][r.band], r.row, values)
+}
+
+pub fn listing(input: &[u8]) -> String {
+    let Some(h) = head(input) else {
+        return REFUSED.to_string();
+    };
+    let cells = h.width * h.height;
+    let mut heights: Vec<u16> = h.body.chunks_exact(2).map(|b| u16::from_be_bytes([b[0], b[1]])).take(cells).collect();
+    let taken = heights.len();
+    let finished = h.body.len() == 2 * cells;
+    // rows made so far have the values of every map that begins with the heights taken: of this one, too, a good deal longer
+    let rows = if finished { h.height } else { taken / h.width + 64 };
+    heights.resize(h.width * rows, 12_345);
+    let plane = forward(&heights, h.width, rows, h.levels);
+    let mut out = format!("{} {} {}\n", h.width, h.height, h.levels);
+    for r in rows_due(&h, taken, finished) {
+        out += &line(&plane, h.width, rows, r);
+    }
+    if !finished {
+        out += REFUSED;
+    }
+    out
+}
+
+#[cfg(test)]
+mod tests {
+    use super::listing;
+
+    #[test]
+    fn the_sample_of_the_scope() {
+        let input = b"2\nP5 1 4 65535\n\0\x01\0\x04\0\x02\0\x07";
+        assert_eq!(listing(input), "1 4 2\n1 LH 0 3\n1 LH 1 5\n2 LL 0 4\n2 LH 0 1\n");
+    }
+
+    #[test]
+    fn refusals() {
+        assert_eq!(listing(b""), "refused 15\n");
+        assert_eq!(listing(b"6\nP5 1 1 65535\n\0\0"), "refused 15\n");
+        assert_eq!(listing(b"1\nP5 1 1 65535\n\0"), "1 1 1\nrefused 15\n");
+        assert_eq!(listing(b"1\nP5 1 1 65535\n\0\x01\0"), "1 1 1\nrefused 15\n");
+    }
+}

@@ -1,0 +1,142 @@
+//! The built program `list`, run on inputs good and bad that reach it in pieces, beside a second listing.
+use std::io::{Read, Write};
+use std::path::{Path, PathBuf};
+use std::process::{Command, Stdio};
+use std::thread;
+use terrain_tests::listing::listing;
+use terrain_tests::random::Random;
+
+fn program() -> PathBuf {
+    let path = Path::new(env!("CARGO_MANIFEST_DIR")).join("../target/bin/list");
+    assert!(path.is_file(), "{} is missing: run `rt check list`", path.display());
+    path
+}
+
+/// What the program writes of an input whose pieces are written one by one.
+fn list(pieces: Vec<Vec<u8>>) -> Vec<u8> {
+    let mut child = Command::new(program()).stdin(Stdio::piped()).stdout(Stdio::piped()).spawn().expect("the program starts");
+    let mut input = child.stdin.take().expect("it has an input");
+    let writing = thread::spawn(move || {
+        for piece in pieces {
+            // the program hears to its input's end, so each piece is taken
+            input.write_all(&piece).expect("the input is read to its end");
+            thread::yield_now();
+        }
+    });
+    let mut out = Vec::new();
+    child.stdout.take().expect("it has an output").read_to_end(&mut out).expect("the output is read");
+    writing.join().expect("all was written");
+    assert!(child.wait().expect("it ends").success());
+    out
+}
+
+fn cut(input: &[u8], random: &mut Random) -> Vec<Vec<u8>> {
+    let longest = [1, 2, 3, 17, 1_000, 100_000][random.below(6)];
+    let mut pieces = Vec::new();
+    let mut rest = input;
+    while !rest.is_empty() {
+        let n = (1 + random.below(longest)).min(rest.len());
+        pieces.push(rest[..n].to_vec());
+        rest = &rest[n..];
+    }
+    pieces
+}
+
+fn agree(input: &[u8], random: &mut Random) {
+    let found = list(cut(input, random));
+    let wanted = listing(input);
+    assert!(
+        found == wanted.as_bytes(),
+        "input {:?}\nwanted {:.400}\nfound  {:.400}",
+        String::from_utf8_lossy(&input[..input.len().min(60)]),
+        wanted,
+        String::from_utf8_lossy(&found)
+    );
+}
+
+fn header(levels: usize, width: usize, height: usize, random: &mut Random) -> Vec<u8> {
+    let space = |random: &mut Random| [' ', '\t', '\r', '\n'][random.below(4)];
+    let zeros = "0".repeat(random.below(3));
+    let (a, b, c, d) = (space(random), space(random), space(random), space(random));
+    format!("{levels}\nP5{a}{zeros}{width}{b}{height}{c}{zeros}65535{d}").into_bytes()
+}
+
+fn map(width: usize, height: usize, random: &mut Random) -> Vec<u8> {
+    let kind = random.below(4);
+    let height_of = |random: &mut Random| match kind {
+        0 => 0,
+        1 => 65_535,
+        2 => 30_000 + random.below(40) as u16,
+        _ => random.below(65_536) as u16,
+    };
+    (0..width * height).flat_map(|_| height_of(random).to_be_bytes()).collect()
+}
+
+fn good(random: &mut Random, most: usize) -> Vec<u8> {
+    let (levels, width, height) = (1 + random.below(5), 1 + random.below(most), 1 + random.below(most));
+    let mut input = header(levels, width, height, random);
+    input.extend(map(width, height, random));
+    input
+}
+
+#[test]
+fn maps_of_many_sizes() {
+    let mut random = Random::new(61);
+    for _ in 0..150 {
+        let input = good(&mut random, 24);
+        agree(&input, &mut random);
+    }
+}
+
+#[test]
+fn too_few_bytes_and_too_many() {
+    let mut random = Random::new(62);
+    for _ in 0..100 {
+        let mut input = good(&mut random, 9);
+        if random.below(2) == 0 {
+            input.truncate(random.below(input.len() + 1));
+        } else {
+            input.extend((0..1 + random.below(40)).map(|i| i as u8));
+        }
+        agree(&input, &mut random);
+    }
+}
+
+#[test]
+fn headers_with_a_byte_changed() {
+    let mut random = Random::new(63);
+    for _ in 0..150 {
+        let mut input = good(&mut random, 5);
+        let at = random.below(input.len().min(24));
+        match random.below(3) {
+            0 => input[at] = [b'0', b'1', b'6', b'9', b' ', b'\n', b'#', b'P', 0, 255][random.below(10)],
+            1 => input.insert(at, [b'0', b' ', b'7', b'\t'][random.below(4)]),
+            _ => {
+                input.remove(at);
+            }
+        }
+        agree(&input, &mut random);
+    }
+}
+
+#[test]
+fn the_limits_of_the_header() {
+    let mut random = Random::new(64);
+    for (width, height) in [(1_025, 1), (1_026, 1), (0, 1), (1, 0), (1, 65_535), (1, 65_536), (65_536, 1), (1_025, 5)] {
+        for levels in [0, 1, 5, 6] {
+            let mut input = header(levels, width, height, &mut random);
+            input.extend(map(width, height.min(70), &mut random));
+            agree(&input, &mut random);
+        }
+    }
+}
+
+#[test]
+fn a_large_map() {
+    let mut random = Random::new(65);
+    let mut input = header(5, 1_025, 129, &mut random);
+    input.extend(map(1_025, 129, &mut random));
+    agree(&input, &mut random);
+    input.pop();
+    agree(&input, &mut random);
+}
