@@ -1,14 +1,18 @@
--- The digits of a number, one more or one less. Assumes nothing.
-use mathlib.Core.Path.{_≡_, refl, sym, ap, _∙_}
-use mathlib.Core.Bool.{Bool, true, false}
-use mathlib.Core.List.{List, [], _∷_, _++_}
-use Prim.Native.Nat.{ℕ, zero, suc, _+_, _*_, _-_, _/_, _%_, _^_, _≤_, _<_}
+-- The digits of a number: one more or one less, how many, and the sign before them. Assumes nothing.
+use mathlib.Core.Path.{_≡_, refl, ap, _∙_}
+use mathlib.Core.Bool.{true, false}
+use mathlib.Core.List.{[], _∷_, _++_}
+use Prim.Native.Nat.{ℕ, zero, suc, _+_, _/_, _%_, _^_, _≤_, _<_}
 use native.Mathlib.Omega.{arith}
 use native.Mathlib.Decide.{decLt}
-use lib.Dec.{ltb}
+use lib.IntN.{ℤ, pos, negsuc, natAbs}
 use lib.ListN.{length, length-append}
-use borrow.Author.Tests.{lt-ltb, le-ltb}
-use Rattle.listing.specs.Decimal.{digitsOf, numeral}
+use lib.Signed.{ltZ}
+use mir.Syntax.{w32}
+use mir.Val.{SFits}
+use borrow.Author.Tests.{lt-ltb, le-ltb, ltb-true}
+use Rattle.numbers.proofs.Integers.{each, lin}
+use Rattle.listing.specs.Decimal.{digitsOf, numeral, integer}
 
 -- room for more digits changes nothing
 enough : (f g n : ℕ) → n < f → n < g → digitsOf f n ≡ digitsOf g n
@@ -30,11 +34,12 @@ unfolding numeral digitsOf
 last-digit n h =
     rw (le-ltb n 10 h) (ap (λ l. l ++ ((48 + n % 10) ∷ [])) (enough n (suc (n / 10)) (n / 10) (omega arith) (omega arith)))
 
--- a number of at most k digits, one off
-pub fewer : (n k : ℕ) → 10 ≤ n → n < 10 ^ k → (1 < k) × (n / 10 < 10 ^ (k - 1))
-fewer n zero h g = absurd (omega arith)
-fewer n (suc zero) h g = absurd (omega arith)
-fewer n (suc (suc k)) h g = (omega arith, let e : suc (suc k) - 1 ≡ suc k = omega arith in rw e (omega arith))
+pub some-digit : (n : ℕ) → 0 < length (numeral n)
+some-digit n =
+    elim (decLt n 10) [
+      | yes p ↦ rw (one-digit n p) (omega arith)
+      | no d ↦ rw (last-digit n (omega arith)) (simp length-append (omega arith))
+    ]
 
 -- a number below 10 ^ k, k not 0, has at most k digits
 one-more : (k n : ℕ) → 10 ≤ n → length (numeral (n / 10)) ≤ k → length (numeral n) ≤ suc k
@@ -47,3 +52,43 @@ at-most (suc k) n h =
       | yes p ↦ rw (one-digit n p) (omega arith)
       | no d ↦ one-more (suc k) n (omega arith) (at-most k (n / 10) (omega arith))
     ]
+
+ten-pow : (k : ℕ) → 0 < 10 ^ k
+ten-pow zero = omega arith
+ten-pow (suc k) = omega (arith, ten-pow k)
+
+-- a number not below 10 ^ k has more than k
+pub at-least : (k n : ℕ) → 10 ^ k ≤ n → k < length (numeral n)
+at-least zero n h = some-digit n
+at-least (suc k) n h =
+    let g : 10 ≤ n = omega (arith, ten-pow k) in
+    let i = at-least k (n / 10) (omega arith) in
+    rw (last-digit n g) (simp length-append (omega arith))
+
+-- ---- with a sign
+signed : (v : ℤ) → ltZ v (pos 0) ≡ true → 45 ∷ numeral (natAbs v) ≡ integer v
+unfolding integer
+signed (pos n) t = let h = ltb-true n 0 t in absurd (omega arith)
+signed (negsuc n) t = refl
+
+unsigned : (v : ℤ) → ltZ v (pos 0) ≡ false → numeral (natAbs v) ≡ integer v
+unfolding integer
+unsigned (pos n) t = refl
+unsigned (negsuc n) t = let z : _≡_ {A = ℕ} 0 1 = cc in absurd (omega arith)
+
+pub bounded : (z : ℤ) → SFits w32 z → natAbs z ≤ 2147483648
+bounded = each _ λ p q. simp lin (omega arith)
+
+-- x is the number as it was read back, r its magnitude
+module _ (v x : ℤ) (r : ℕ) (p : x ≡ v) (e : r ≡ natAbs x) where
+  pub below : ltZ x (pos 0) ≡ true → 45 ∷ numeral r ≡ integer v
+  below t = ap (λ n. 45 ∷ numeral n) e ∙ signed x t ∙ ap integer p
+
+  pub above : ltZ x (pos 0) ≡ false → numeral r ≡ integer v
+  above t = ap numeral e ∙ unsigned x t ∙ ap integer p
+
+  pub within : SFits w32 v → r ≤ 2147483648
+  within f = rw (e, p) (bounded v f)
+
+  pub ten-digits : SFits w32 v → length (numeral r) ≤ 10
+  ten-digits f = at-most 9 r (omega (arith, within f))

@@ -32,11 +32,10 @@ pub fn last_digit(n: usize) -> u8
     b'0' + (n % 10) as u8
 }
 
-// A number has at most twenty digits.
-pub fn put_number(n: usize, text: &mut [u8], at: usize) -> usize
-    requires { ⌜ (20 ≤ at) × (at ≤ length (now text)) ⌝ }
+// The digits of a number, the last one right before place `at`.
+pub fn put_digits(n: usize, text: &mut [u8], at: usize) -> usize
+    requires { ⌜ (length (numeral n) ≤ at) × (at ≤ length (now text)) ⌝ }
     ensures { λ r. ⌜ Put (numeral n) at r (now (text .entry)) (now (text .exit)) ⌝ }
-    ensures { λ r. ⌜ at ≤ r + 20 ⌝ }
 {
     let mut rest = n;
     let mut place = at;
@@ -45,6 +44,15 @@ pub fn put_number(n: usize, text: &mut [u8], at: usize) -> usize
         rest = rest / 10;
     }
     put_byte(last_digit(rest), text, place)
+}
+
+// A number has at most twenty digits.
+pub fn put_number(n: usize, text: &mut [u8], at: usize) -> usize
+    requires { ⌜ (20 ≤ at) × (at ≤ length (now text)) ⌝ }
+    ensures { λ r. ⌜ Put (numeral n) at r (now (text .entry)) (now (text .exit)) ⌝ }
+    ensures { λ r. ⌜ at ≤ r + 20 ⌝ }
+{
+    put_digits(n, text, at)
 }
 
 pub fn magnitude(v: i32) -> usize

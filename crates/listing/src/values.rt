@@ -42,10 +42,10 @@ fn put_value(v: i32, out: &mut [u8], at: usize) -> usize
     out[at] = b' ';
     if v < 0 {
         out[at + 1] = b'-';
-        text::put_number(m, out, at + 2 + n);
+        text::put_digits(m, out, at + 2 + n);
         return at + 2 + n;
     }
-    text::put_number(m, out, at + 1 + n);
+    text::put_digits(m, out, at + 1 + n);
     at + 1 + n
 }
 
@@ -54,7 +54,7 @@ pub fn put_values(row: &[i32], from: usize, end: usize, out: &mut [u8], at: usiz
     requires { ⌜ (from ≤ end) × (end ≤ length (now row)) × (at ≤ length (now out)) ⌝ }
     ensures { λ r. ⌜ (from ≤ r .value) × (r .value ≤ end) ⌝ }
     ensures { λ r. ⌜ Wrote (spaced (r .value - from) (λ i. numberAt (now (row .entry)) (from + i))) at (r .place) (now (out .entry)) (now (out .exit)) ⌝ }
-    ensures { λ r. ⌜ from < end → at + 12 ≤ length (now (out .entry)) → from < r .value ⌝ }
+    ensures { λ r. ⌜ (from < end → at + 12 ≤ length (now (out .entry)) → from < r .value) ⌝ }
 {
     let mut value = from;
     let mut place = at;

@@ -1,2 +1,3 @@
 pub mod HeaderReads
+pub mod RunReads
 pub mod SampleReads

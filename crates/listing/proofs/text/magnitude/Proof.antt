@@ -1,17 +1,18 @@
 -- `text::magnitude` meets its contract: in 64 bits the opposite of every 32-bit number fits. Assumes nothing.
-use mathlib.Core.Path.{_≡_, refl, sym, ap, _∙_}
+use mathlib.Core.Path.{_≡_, sym, ap, _∙_}
 use mathlib.Core.Bool.{true, false}
-use Prim.Native.Nat.{ℕ, _+_, _≤_, _<_, _^_}
+use Prim.Native.Nat.{_+_, _≤_, _<_}
 use native.Mathlib.Omega.{arith}
 use lib.Dec.{T}
 use lib.IntN.{ℤ, pos, natAbs, _-ℤ_}
 use lib.Signed.{nonNeg, ltZ}
 use mir.Syntax.{w32, w64}
-use mir.Val.{SFits, Fits, toZ, ofZ}
+use mir.Val.{SFits, toZ, ofZ}
 use mir.ValLaws.{toZ-ofZ}
 use borrow.Author.Needs.{needs}
 use borrow.Author.Tests.{ltb-true, ltb-false}
 use Rattle.numbers.proofs.Integers.{each, lin, dif-natAbs}
+use Rattle.listing.proofs.DecimalLaws.{bounded}
 use Rattle.listing.proofs.text.magnitude.Statement.{statement}
 use Rattle.listing.proofs.text.magnitude.Tie as tie
 
@@ -23,9 +24,6 @@ opposite = each _ λ p q. simp lin (omega arith)
 
 above : (z : ℤ) → ltZ z (pos 0) ≡ true → T (nonNeg (pos 0 -ℤ z))
 above = each _ λ p q. simp lin (λ e. let h : p + 0 < 0 + q = ltb-true (p + 0) (0 + q) e in omega arith)
-
-bounded : (z : ℤ) → SFits w32 z → natAbs z ≤ 2147483648
-bounded = each _ λ p q. simp lin (omega arith)
 
 same : (z : ℤ) → natAbs (pos 0 -ℤ z) ≡ natAbs z
 same = each _ λ p q. simp (lin, dif-natAbs) (omega arith)

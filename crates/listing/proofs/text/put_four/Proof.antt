@@ -1,8 +1,6 @@
 -- `text::put_four` meets its contract: byte before byte. Assumes nothing.
-use mathlib.Core.Path.{_≡_, refl, sym, ap, _∙_}
-use native.Mathlib.Omega.{arith}
 use borrow.Author.Needs.{needs}
-use Rattle.listing.proofs.TextLaws.{before, same-size, fits-after}
+use Rattle.listing.proofs.TextLaws.{before}
 use Rattle.listing.proofs.text.put_four.Statement.{statement}
 use Rattle.listing.proofs.text.put_four.Tie as tie
 

@@ -1,116 +1,28 @@
--- `text::put_number` meets its contract: the digits already put and those of what is left are the digits of the number. Assumes nothing.
-use mathlib.Core.Path.{_≡_, refl, sym, ap, _∙_}
-use mathlib.Core.List.{List, [], _∷_, _++_, append-assoc, append-nil}
-use Prim.Native.Nat.{ℕ, _+_, _-_, _/_, _%_, _^_, _≤_, _<_}
+-- `text::put_number` meets its contract: there is room for twenty digits. Assumes nothing.
+use Prim.Native.Nat.{ℕ, _≤_, _<_, _^_}
 use native.Mathlib.Omega.{arith}
-use lib.ListN.{length}
 use borrow.Author.Needs.{needs}
+use lib.ListN.{length}
 use Rattle.listing.specs.Decimal.{numeral}
-use Rattle.listing.specs.Text.{Put}
-use Rattle.listing.proofs.DecimalLaws.{one-digit, last-digit, fewer, at-most}
-use Rattle.listing.proofs.TextLaws.{nothing, before, same-size}
+use Rattle.listing.proofs.DecimalLaws.{at-most}
 use Rattle.listing.proofs.text.put_number.Statement.{statement}
 use Rattle.listing.proofs.text.put_number.Tie as tie
 
--- the digits s of n are put, and those of rest are still to come: at most as many as there are places
-record Shown (n at rest place : ℕ) (l m : List ℕ) : Type 0 where
-  pub some : List ℕ
-  pub put : Put some at place l m
-  pub digits : numeral n ≡ numeral rest ++ some
-  pub free : at - 20 < place
-  pub few : rest < 10 ^ (place - (at - 20))
+twenty : (n : ℕ) → n < 2 ^ 64 → length (numeral n) ≤ 20
+twenty n h = at-most 19 n (omega arith)
 
-start : (n at : ℕ) (l : List ℕ) → n < 2 ^ 64 → 20 ≤ at → at ≤ length l → Shown n at n at l l
-start n at l f g h =
-    record {
-      some = [];
-      put = nothing l at h;
-      digits = sym (append-nil (numeral n));
-      free = omega arith;
-      few = let e : at - (at - 20) ≡ 20 = omega arith in rw e (omega arith);
-    }
+put-digits-requires : tie.Need-put-digits-requires
+put-digits-requires c κs =
+    let a = c .before .before in
+    (omega (arith, twenty _ (a .fits .n .fits)), a .pre .1)
 
-next : {n at rest place p b : ℕ} {l m k : List ℕ} → Shown n at rest place l m → 10 ≤ rest → b ≡ 48 + rest % 10 → Put (b ∷ []) place p m k → Shown n at (rest / 10) p l k
-next {n} {at} {rest} {place} {p} {b} {l} {m} {k} s g e q =
-    let f = fewer rest (place - (at - 20)) g (s .few) in
-    record {
-      some = b ∷ s .some;
-      put = before (s .put) q;
-      digits =
-          s .digits
-          ∙ ap (λ x. x ++ s .some) (last-digit rest g)
-          ∙ append-assoc (numeral (rest / 10)) _ (s .some)
-          ∙ ap (λ x. numeral (rest / 10) ++ (x ∷ s .some)) (sym e);
-      free = omega (arith, q .place);
-      few = let h : p ≡ place - 1 = omega (arith, q .place) in rw h (let i : place - 1 - (at - 20) ≡ place - (at - 20) - 1 = omega arith in rw i (f .1));
-    }
+same-length : tie.Need-same-length
+same-length c = search needs
 
-last : {n at rest place p b : ℕ} {l m k : List ℕ} → Shown n at rest place l m → rest < 10 → b ≡ 48 + rest % 10 → Put (b ∷ []) place p m k → Put (numeral n) at p l k
-last {n} {at} {rest} {place} {p} {b} {l} {m} {k} s g e q =
-    let d : numeral n ≡ b ∷ s .some = s .digits ∙ ap (λ x. x ++ s .some) (one-digit rest g) ∙ ap (λ x. x ∷ s .some) (omega arith) in
-    rw d (before (s .put) q)
-
-abbrev Inv-loop : tie.InvT-loop
-Inv-loop n text₀ at rest₀ place₀ text rest place = Shown n at rest place text₀ text
-
-abbrev μ-loop : tie.MeasureT-loop
-μ-loop n text₀ at rest₀ place₀ text rest place = rest
-
-loop-holds : tie.Need-loop-holds Inv-loop μ-loop
-loop-holds c =
-    let a = c .before in
-    start _ _ _ (a .fits .n .fits) (a .pre .0) (a .pre .1)
-
-last-digit-requires : tie.Need-last-digit-requires Inv-loop μ-loop
-last-digit-requires c κs = search needs
-
-put-byte-requires : tie.Need-put-byte-requires Inv-loop μ-loop
-put-byte-requires c κs =
-    let i = c .before .before .before .loop .inv in
-    (omega (arith, i .free), omega (arith, i .put .place, i .put .room, same-size (i .put)))
-
-loop-less : tie.Need-loop-less Inv-loop μ-loop
-loop-less c = omega arith
-
-loop-again : tie.Need-loop-again Inv-loop μ-loop
-loop-again c =
-    let p = c .before .before in
-    let d = p .before .before in
-    next (d .before .before .loop .inv) (omega arith) (d .last-digit .ensures) (p .put-byte .ensures)
-
-last-digit-requires-2 : tie.Need-last-digit-requires-2 Inv-loop μ-loop
-last-digit-requires-2 c κs = search needs
-
-put-byte-requires-2 : tie.Need-put-byte-requires-2 Inv-loop μ-loop
-put-byte-requires-2 c κs =
-    let i = c .before .before .before .loop .inv in
-    (omega (arith, i .free), omega (arith, i .put .place, i .put .room, same-size (i .put)))
-
-same-length : tie.Need-same-length Inv-loop μ-loop
-same-length c =
-    let p = c .before .before in
-    same-size (p .put-byte2 .ensures) ∙ same-size (p .before .before .before .before .loop .inv .put)
-
-returns : tie.Need-returns Inv-loop μ-loop
+returns : tie.Need-returns
 returns c =
-    let p = c .before .before in
-    let d = p .before .before in
-    let a = d .before .before .before .before in
-    let r = last (d .before .before .loop .inv) (omega arith) (d .last-digit2 .ensures) (p .put-byte2 .ensures) in
-    (r, omega (arith, r .place, at-most 19 (a .args .n) (omega (arith, a .fits .n .fits))))
+    let d = c .before .before in
+    (d .put-digits .ensures, omega (arith, d .put-digits .ensures .place, twenty _ (d .before .before .before .fits .n .fits)))
 
 pub put-number-spec : {M : Type 1} → statement M
-put-number-spec =
-    tie.close
-    (tie.spec
-    Inv-loop
-    μ-loop
-    loop-holds
-    last-digit-requires
-    put-byte-requires
-    loop-less
-    loop-again
-    last-digit-requires-2
-    put-byte-requires-2
-    same-length
-    returns)
+put-number-spec = tie.close (tie.spec put-digits-requires same-length returns)

@@ -1,75 +1,61 @@
+-- `samples::read` meets its contract: after i turns the first i heights stand in the run. Assumes nothing.
+use Prim.Native.Nat.{_-_}
+use native.Mathlib.Omega.{arith}
+use borrow.Author.Needs.{needs}
+use Rattle.pgm.proofs.RunReads.{Run, start, next, finish}
 use Rattle.pgm.proofs.samples.read.Statement.{statement}
 use Rattle.pgm.proofs.samples.read.Tie as tie
-use Rattle.pgm.proofs.samples.read.Reads as reads
-use Rattle.pgm.proofs.samples.read.Lts as lts
-use Rattle.pgm.proofs.samples.joined.Reads as joined-reads
-use Rattle.pgm.proofs.samples.whole.Reads as whole-reads
 
 abbrev Inv-loop : tie.InvT-loop
-Inv-loop bytes from run₀ n i₀ run i = ?
+Inv-loop bytes from run₀ n i₀ run i = Run bytes run₀ run from n i
 
 abbrev μ-loop : tie.MeasureT-loop
-μ-loop bytes from run₀ n i₀ run i = ?
+μ-loop bytes from run₀ n i₀ run i = n - i
 
--- src/samples.rt:42:9
 whole-requires : tie.Need-whole-requires Inv-loop μ-loop
-whole-requires c κs = ?
+whole-requires c κs = search needs
 
--- src/samples.rt:44:5
 loop-holds : tie.Need-loop-holds Inv-loop μ-loop
-loop-holds c = ?
+loop-holds c = start _ _ _ _ (omega (arith, c .whole .ensures)) (omega (arith, c .whole .ensures))
 
--- src/samples.rt:45:25
 mul-at : tie.Need-mul-at Inv-loop μ-loop
-mul-at c = ?
+mul-at c = omega (arith, c .before .loop .inv .bytes)
 
--- src/samples.rt:45:18
 add-at : tie.Need-add-at Inv-loop μ-loop
-add-at c = ?
+add-at c = omega (arith, c .before .loop .inv .bytes)
 
--- src/samples.rt:46:25
 shared-slice-read-joined : tie.Need-shared-slice-read-joined Inv-loop μ-loop
-shared-slice-read-joined c = ?
+shared-slice-read-joined c = omega (arith, c .before .before .loop .inv .bytes)
 
--- src/samples.rt:46:42
 add-joined : tie.Need-add-joined Inv-loop μ-loop
-add-joined c = ?
+add-joined c = omega (arith, c .before .before .loop .inv .bytes)
 
--- src/samples.rt:46:36
 shared-slice-read-joined-2 : tie.Need-shared-slice-read-joined-2 Inv-loop μ-loop
-shared-slice-read-joined-2 c = ?
+shared-slice-read-joined-2 c = omega (arith, c .before .before .before .loop .inv .bytes)
 
--- src/samples.rt:46:18
 joined-requires : tie.Need-joined-requires Inv-loop μ-loop
-joined-requires c κs = ?
+joined-requires c κs = search needs
 
--- src/samples.rt:46:9
 mul-run : tie.Need-mul-run Inv-loop μ-loop
-mul-run c = ?
+mul-run c = omega (arith, c .before .before .before .before .loop .inv .bytes)
 
--- src/samples.rt:46:9
 slice-write-run : tie.Need-slice-write-run Inv-loop μ-loop
-slice-write-run c = ?
+slice-write-run c = let v = c .before .before .before .before .loop .inv in omega (arith, v .room, v .size)
 
--- src/samples.rt:47:9
 add-i : tie.Need-add-i Inv-loop μ-loop
-add-i c = ?
+add-i c = omega arith
 
--- src/samples.rt:44:5
 loop-less : tie.Need-loop-less Inv-loop μ-loop
-loop-less c = ?
+loop-less c = omega arith
 
--- src/samples.rt:44:5
 loop-again : tie.Need-loop-again Inv-loop μ-loop
-loop-again c = ?
+loop-again c = next _ (c .before .before .before .before .loop .inv) (omega arith) (c .joined .ensures)
 
--- src/samples.rt:38:1
 same-length : tie.Need-same-length Inv-loop μ-loop
-same-length c = ?
+same-length c = c .before .loop .inv .size
 
--- src/samples.rt:38:1
 returns : tie.Need-returns Inv-loop μ-loop
-returns c = ?
+returns c = (c .before .before .whole .ensures, finish (c .before .loop .inv) (omega arith))
 
 pub read-spec : {M : Type 1} → statement M
 read-spec =
