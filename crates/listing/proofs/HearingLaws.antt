@@ -26,7 +26,7 @@ use Rattle.listing.specs.declared.input.Heard.{Heard}
 use Rattle.listing.specs.declared.input.Heard.the-variants as heard
 
 -- the input's state at a phase
-abbrev at : ℕ → ℕ → Header → ℕ → Bool → ℕ → Input
+abbrev pub at : ℕ → ℕ → Header → ℕ → Bool → ℕ → Input
 at p L h n half v = record { phase = p; levels = L; header = h; left = n; samples = record { half = half; high = v } }
 
 -- ---- nothing more is heard
@@ -76,11 +76,11 @@ unfolding heightsTell heightsOf
 all-there = refl
 
 module _ (L : ℕ) (h : Header) (n v b : ℕ) where
-  first-byte : hears (at 3 L h (suc n) false v) b ≡ heard.More (at 3 L h (suc n) true b)
+  pub first-byte : hears (at 3 L h (suc n) false v) b ≡ heard.More (at 3 L h (suc n) true b)
   unfolding hears heightHeard sampleOf
   first-byte = rw (ne-eqb (suc n) 0 (λ e. omega arith))
 
-  second-byte : hears (at 3 L h (suc n) true v) b ≡ heard.Height (at 3 L h n false 0) (256 * v + b)
+  pub second-byte : hears (at 3 L h (suc n) true v) b ≡ heard.Height (at 3 L h n false 0) (256 * v + b)
   unfolding hears heightHeard sampleOf
   second-byte = rw (ne-eqb (suc n) 0 (λ e. omega arith), sub-one (suc n))
 

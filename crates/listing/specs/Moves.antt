@@ -1,5 +1,5 @@
 -- What a listing does, move by move: the bytes that each move reads of the input and those it writes. n and k are the lengths of line store and row area.
--- proofs/ListingTheorem: whatever the moves, the bytes written are `dueOf` the bytes read, and after the end of the input `listingOf` them.
+-- proofs/ListingTheorem: whatever the calls, the bytes written are `dueOf` the bytes read, and after the end of the input `listingOf` them.
 use mathlib.Core.Bool.{Bool, true, false}
 use mathlib.Core.Path.{_≡_}
 use mathlib.Core.List.{List, [], _∷_, _++_}

@@ -1,0 +1,148 @@
+-- What a byte can tell in each phase of the input (`hears-how`), the input being sane. Assumes nothing.
+use mathlib.Core.Path.{_≡_, refl}
+use mathlib.Core.Bool.{Bool, true, false}
+use Prim.Native.Nat.{ℕ, zero, suc, _+_, _-_, _*_, _≤_, _<_}
+use native.Mathlib.Omega.{arith}
+use lib.Dec.{leb, eqb}
+use borrow.Author.Tests.{leb-true, eqb-true, eqb-false}
+use Rattle.numbers.specs.Signal.{pick, both}
+use Rattle.wavelet.specs.Questions.{within}
+use Rattle.pgm.specs.Steps.{stepOf}
+use Rattle.pgm.specs.Samples.{noByte, sampleOf}
+use Rattle.pgm.specs.declared.header.Next.{Next}
+use Rattle.pgm.specs.declared.header.Next.the-variants as next
+use Rattle.pgm.specs.declared.samples.Sample.the-variants as sample
+use Rattle.listing.specs.Listing.{levelDigit, shapeFits}
+use Rattle.listing.specs.Hearing.{silent, phased, nay, levelsHeard, lineFeedHeard, shapeHeard, nextHeard, headerHeard, sampleHeard, heightHeard, hears, heightsCame}
+use Rattle.listing.specs.declared.input.Input.{Input}
+use Rattle.listing.specs.declared.input.Heard.{Heard}
+use Rattle.listing.specs.declared.input.Heard.the-variants as heard
+
+-- the byte kept is a byte, and once the digit was heard it is one of the levels
+pub record Sane (i : Input) : Type 0 where
+  pub byte : i .samples .high ≤ 255
+  pub levels : 0 < i .phase → i .phase < 4 → (1 ≤ i .levels) × (i .levels ≤ 5)
+
+pub data Hears (i : Input) : Heard → Type 0 where
+  -- of the head
+  on : (j : Input) → i .phase < 3 → j .phase < 3 → Hears i (heard.More j)
+  begins : (j : Input) (W H : ℕ) → i .phase < 3 → j .phase ≡ 3 → j .left ≡ W * H → shapeFits W H ≡ true → Hears i (heard.Begun j W H)
+  -- of the heights
+  half : (j : Input) → i .phase ≡ 3 → j .phase ≡ 3 → j .left ≡ i .left → Hears i (heard.More j)
+  height : (j : Input) (v : ℕ) → i .phase ≡ 3 → j .phase ≡ 3 → 0 < i .left → j .left ≡ i .left - 1 → v ≤ 65535 → Hears i (heard.Height j v)
+  -- question 15 says no
+  turned : (j : Input) → i .phase ≤ 3 → j .phase ≡ 4 → Hears i (heard.Refused j)
+  -- it said no before
+  deaf : 3 < i .phase → Hears i (heard.More i)
+
+pub data SaneThen : Heard → Type 0 where
+  more : {j : Input} → Sane j → SaneThen (heard.More j)
+  begun : {j : Input} {W H : ℕ} → Sane j → SaneThen (heard.Begun j W H)
+  tall : {j : Input} {v : ℕ} → Sane j → SaneThen (heard.Height j v)
+  refused : {j : Input} → Sane j → SaneThen (heard.Refused j)
+
+abbrev pub How : Input → Heard → Type 0
+How i y = Hears i y × SaneThen y
+
+pub silent-sane : Sane silent
+silent-sane = record { byte = omega arith; levels = λ p q. absurd (omega arith) }
+
+pub came-sane : (j : ℕ) (i : Input) → Sane i → Sane (heightsCame j i)
+came-sane j i h = record { byte = omega arith; levels = h .levels }
+
+pub phased-sane : (i : Input) → Sane i → Sane (phased 4 i)
+phased-sane i h = record { byte = h .byte; levels = λ p q. absurd (omega arith) }
+
+module _ (i : Input) (s : Sane i) where
+  nay-how : i .phase ≤ 3 → How i (nay i)
+  nay-how p = (turned (phased 4 i) p refl, refused (phased-sane i s))
+
+  module _ (b : ℕ) (small : b ≤ 255) where
+    levels-how : i .phase ≡ 0 → How i (levelsHeard i b)
+    unfolding levelsHeard levelDigit within
+    levels-how e = go (leb 49 b) refl (leb b 53) refl
+      where
+        j : Input
+        j = record { phase = 1; levels = b - 48; header = i .header; left = i .left; samples = i .samples }
+
+        go : (x : Bool) → leb 49 b ≡ x → (y : Bool) → leb b 53 ≡ y → How i (pick (both x y) (heard.More j) (nay i))
+        go false p y q = nay-how (omega arith)
+        go true p false q = nay-how (omega arith)
+        go true p true q =
+            let f : 49 ≤ b = leb-true 49 b p in
+            let g : b ≤ 53 = leb-true b 53 q in
+            (on j (omega arith) (omega arith), more {j = j} (record { byte = s .byte; levels = λ _ _. (omega arith, omega arith) }))
+
+    feed-how : i .phase ≡ 1 → How i (lineFeedHeard i b)
+    unfolding lineFeedHeard
+    feed-how e = go (eqb b 10)
+      where
+        go : (x : Bool) → How i (pick x (heard.More (phased 2 i)) (nay i))
+        go true = (on (phased 2 i) (omega arith) (omega arith), more (record { byte = s .byte; levels = λ _ _. s .levels (omega arith) (omega arith) }))
+        go false = nay-how (omega arith)
+
+    shape-how : i .phase ≡ 2 → (W H : ℕ) → How i (shapeHeard i W H)
+    unfolding shapeHeard
+    shape-how e W H = go (shapeFits W H) refl
+      where
+        j : Input
+        j = record { phase = 3; levels = i .levels; header = i .header; left = W * H; samples = i .samples }
+
+        go : (x : Bool) → shapeFits W H ≡ x → How i (pick x (heard.Begun j W H) (nay i))
+        go true p = (begins j W H (omega arith) refl refl p, begun (record { byte = s .byte; levels = λ _ _. s .levels (omega arith) (omega arith) }))
+        go false p = nay-how (omega arith)
+
+    next-how : i .phase ≡ 2 → (x : Next) → How i (nextHeard i x)
+    next-how e (next.More k) =
+        (on (record { phase = 2; levels = i .levels; header = k; left = i .left; samples = i .samples }) (omega arith) (omega arith), more (record { byte = s .byte; levels = λ _ _. s .levels (omega arith) (omega arith) }))
+    next-how e (next.Done w h) = shape-how e w h
+    next-how e next.Refused = nay-how (omega arith)
+
+    header-how : i .phase ≡ 2 → How i (headerHeard i b)
+    unfolding headerHeard
+    header-how e = next-how e (stepOf (i .header) b)
+
+    height-how : i .phase ≡ 3 → How i (heightHeard i b)
+    unfolding heightHeard
+    height-how e = go (eqb (i .left) 0) refl
+      where
+        L : (1 ≤ i .levels) × (i .levels ≤ 5)
+        L = s .levels (omega arith) (omega arith)
+
+        gone : Input
+        gone = record { phase = 3; levels = i .levels; header = i .header; left = i .left - 1; samples = noByte }
+
+        some : 0 < i .left → (x : Bool) → How i (sampleHeard i (pick x (sample.Height (256 * i .samples .high + b)) (sample.Half (record { half = true; high = b }))))
+        some p true = (
+          height gone (256 * i .samples .high + b) e refl p refl (omega (arith, s .byte)),
+          tall {j = gone} (record { byte = omega arith; levels = λ _ _. L }),
+        )
+        some p false =
+            (half (record { phase = 3; levels = i .levels; header = i .header; left = i .left; samples = record { half = true; high = b } }) e refl refl, more (record { byte = small; levels = λ _ _. L }))
+
+        go : (x : Bool) → eqb (i .left) 0 ≡ x → How i (pick x (nay i) (sampleHeard i (sampleOf (i .samples) b)))
+        go true p = nay-how (omega arith)
+        go false p = unfold sampleOf in some (positive (i .left) (eqb-false (i .left) 0 p)) (i .samples .half)
+          where
+            positive : (m : ℕ) → (m ≡ 0 → ⊥) → 0 < m
+            positive zero d = absurd (d refl)
+            positive (suc m) d = omega arith
+
+    pub hears-how : How i (hears i b)
+    unfolding hears
+    hears-how = go (eqb (i .phase) 0) refl (eqb (i .phase) 1) refl (eqb (i .phase) 2) refl (eqb (i .phase) 3) refl
+      where
+        go : (x : Bool) → eqb (i .phase) 0 ≡ x → (y : Bool) → eqb (i .phase) 1 ≡ y → (z : Bool) → eqb (i .phase) 2 ≡ z → (w : Bool) → eqb (i .phase) 3 ≡ w
+            → How i (pick x (levelsHeard i b) (pick y (lineFeedHeard i b) (pick z (headerHeard i b) (pick w (heightHeard i b) (heard.More i)))))
+        go true p y q z r w t = levels-how (eqb-true (i .phase) 0 p)
+        go false p true q z r w t = feed-how (eqb-true (i .phase) 1 q)
+        go false p false q true r w t = header-how (eqb-true (i .phase) 2 r)
+        go false p false q false r true t = height-how (eqb-true (i .phase) 3 t)
+        go false p false q false r false t = (deaf (past (i .phase) (eqb-false (i .phase) 0 p) (eqb-false (i .phase) 1 q) (eqb-false (i .phase) 2 r) (eqb-false (i .phase) 3 t)), more s)
+          where
+            past : (m : ℕ) → (m ≡ 0 → ⊥) → (m ≡ 1 → ⊥) → (m ≡ 2 → ⊥) → (m ≡ 3 → ⊥) → 3 < m
+            past zero a b c d = absurd (a refl)
+            past (suc zero) a b c d = absurd (b refl)
+            past (suc (suc zero)) a b c d = absurd (c refl)
+            past (suc (suc (suc zero))) a b c d = absurd (d refl)
+            past (suc (suc (suc (suc m)))) a b c d = omega arith

@@ -1,0 +1,126 @@
+-- The end of the input, no line being written: what a listing has reached then (`end-told`). Assumes nothing.
+use mathlib.Core.Path.{_≡_, refl, sym, ap, subst, _∙_}
+use mathlib.Core.Bool.{true, false}
+use mathlib.Core.List.{List, [], _∷_, _++_, append-nil}
+use Prim.Native.Nat.{ℕ, _+_, _-_, _*_, _≤_, _<_}
+use native.Mathlib.Omega.{arith}
+use native.Mathlib.Decide.{decLt}
+use lib.ListN.{length}
+use borrow.Author.Tests.{le-ltb}
+use Rattle.wavelet.specs.Store.{storeLength}
+use Rattle.writer.specs.Calls.{finishStore}
+use Rattle.writer.specs.Demand3.{All}
+use Rattle.writer.specs.declared.Writer.{Writer}
+use Rattle.listing.specs.Lines.{refusedLine}
+use Rattle.listing.specs.Listing.{Shape, linesDue}
+use Rattle.listing.specs.Hearing.{phased, endHeard}
+use Rattle.listing.specs.Parts.{refusedPart}
+use Rattle.listing.specs.Scenes.{Scene, drawScene, finishScene, endTo, endScene}
+use Rattle.listing.specs.Moves.{lineOn, Idle}
+use Rattle.listing.specs.Telling.{Event, height, refusal, Ending, whole, few, over, endingOf}
+use Rattle.listing.specs.declared.input.Input.{Input}
+use Rattle.listing.specs.declared.input.Ended.{Ended}
+use Rattle.listing.specs.declared.input.Ended.the-variants as ended
+use Rattle.listing.proofs.HearingCases.{end-over, end-early, end-few, end-whole}
+use Rattle.listing.proofs.DrawnText.{textOf}
+use Rattle.listing.proofs.ToldText.{text-of}
+use Rattle.listing.proofs.LineLeft.{lineLeft, left-refused}
+use Rattle.listing.proofs.HearsHow.{Sane, phased-sane}
+use Rattle.listing.proofs.WriterTakes.{FinishOut, finish-out}
+use Rattle.listing.proofs.ListingReached.{ShapeIn, reads, shut, Begun, eventsOf, Told, quiet, refused, begun, set-up-in, drawn-input, draw-begun}
+use Rattle.listing.proofs.ListingOffers.{idle-text, then-refused, turned-begun}
+use Rattle.listing.proofs.ListingHears.{differ}
+
+-- E was told, and then the end: all heights came, too few did, or question 15 had said no
+pub data EndTold (n k : ℕ) (E : List Event) (o : List ℕ) (s : Scene) : Ending → Type 0 where
+  all-came : Told n k E true o s → EndTold n k E o s whole
+  few-came : Told n k (E ++ (refusal ∷ [])) false o s → textOf false (E ++ (refusal ∷ [])) ≡ textOf false E ++ refusedLine → EndTold n k E o s few
+  was-over : Told n k E false o s → EndTold n k E o s over
+
+pub record EndOut (n k : ℕ) (E : List Event) (o : List ℕ) (s : Scene) (y : Ending) : Type 0 where
+  pub told : EndTold n k E o s y
+  pub sane : Sane (s .listing .input)
+  pub deaf : 3 < s .listing .input .phase
+
+-- a refusal after heights, and before the head
+refusal-text : (W H L : ℕ) (hs : List ℕ) → textOf false (eventsOf W H L hs false ++ (refusal ∷ [])) ≡ textOf false (eventsOf W H L hs false) ++ refusedLine
+refusal-text W H L hs =
+    let q : Shape = record { width = W; height = H; levels = L } in
+    ap (textOf false) (then-refused W H L hs)
+    ∙ text-of false q hs true
+    ∙ ap (λ l. l ++ refusedLine) (sym (append-nil (linesDue q hs false)) ∙ sym (text-of false q hs false))
+
+refusal-first : textOf false (refusal ∷ []) ≡ textOf false [] ++ refusedLine
+unfolding textOf
+refusal-first = refl
+
+module _ (n k : ℕ) (store : storeLength 1025 5 ≤ n) (row : 1025 ≤ k) (s : Scene) (idle : Idle s) (sane : Sane (s .listing .input)) where
+  abbrev i : Input
+  i = s .listing .input
+
+  abbrev w : Writer
+  w = s .listing .writer
+
+  abbrev Ends : List Event → List ℕ → Type 0
+  Ends E o = EndOut n k E o (endScene n k s) (endingOf (endHeard i))
+
+  end-is : endScene n k s ≡ endTo n k s (endHeard i)
+  unfolding endScene
+  end-is = rw (le-ltb 0 (lineOn s .part) (omega arith))
+
+  by : (E : List Event) (o : List ℕ) (y : Ended) → y ≡ endHeard i → EndOut n k E o (endTo n k s y) (endingOf y) → Ends E o
+  by E o y e d = subst (λ t. EndOut n k E o t (endingOf (endHeard i))) (sym end-is) (subst (λ y. EndOut n k E o (endTo n k s y) (endingOf y)) e d)
+
+  -- ---- all heights came: the finish
+  module _ (W H L : ℕ) (hs : List ℕ) (o : List ℕ) (b : ShapeIn W H L) (e : Begun n k W H L hs false false o s) (whole : length hs ≡ W * H) (j : Input) where
+    out : FinishOut W L n (set-up-in n store b) hs (e .drawn) w (s .store) (e .ran) (e .idle (omega arith))
+    out = finish-out W L n (set-up-in n store b) hs (e .drawn) w (s .store) (e .ran) (e .idle (omega arith)) H (b .some-columns) (b .some-rows) whole
+
+    finish-is : finishScene n k j w (s .store) (s .row) ≡ drawScene n k j (out .writer) (finishStore w n (s .store)) (s .row)
+    unfolding finishScene
+    finish-is = rw (out .reply) refl
+
+    finish-begun : Begun n k W H L hs false true o (finishScene n k j w (s .store) (s .row))
+    finish-begun =
+        subst (Begun n k W H L hs false true o) (sym finish-is)
+        (draw-begun n k W H L (set-up-in n store b) (omega (arith, b .columns)) j (out .writer) (finishStore w n (s .store)) (s .row) hs true o (e .drawn) (out .ran)
+        (idle-text k s o _ idle (e .text) ∙ append-nil _))
+
+    finish-input : finishScene n k j w (s .store) (s .row) .listing .input ≡ j
+    finish-input = ap (λ t. t .listing .input) finish-is ∙ drawn-input n k j (out .writer) (finishStore w n (s .store)) (s .row)
+
+  -- ---- the cases
+  reads-end : (E : List Event) (W H L : ℕ) (hs : List ℕ) (o : List ℕ) → E ≡ eventsOf W H L hs false → ShapeIn W H L → All (λ h. h ≤ 65535) hs → Begun n k W H L hs false false o s
+      → i .phase ≡ 3 → i .left + length hs ≡ W * H → Ends E o
+  reads-end E W H L hs o a b c e p l =
+      elim (decLt 0 (i .left)) [
+        | yes q ↦
+            by E o (ended.Short (phased 4 i)) (end-few i (omega arith) (omega arith) q)
+            (record {
+              told = few-came (begun W H L hs true (ap (λ l. l ++ (refusal ∷ [])) a ∙ then-refused W H L hs) b c (shut (omega arith) (omega arith) (λ z. absurd (differ z))) (turned-begun n k W H L hs false o s (phased 4 i) idle e)) (rw a (refusal-text W H L hs));
+              sane = phased-sane i sane;
+              deaf = omega arith;
+            })
+        | no q ↦
+            let g : length hs ≡ W * H = omega arith in
+            let d = finish-input W H L hs o b e g (phased 4 i) in
+            by E o (ended.Whole (phased 4 i)) (end-whole i (omega arith) (omega arith) (omega arith))
+            (record {
+              told = all-came (begun W H L hs false a b c (shut (subst (λ j. 3 < j .phase) (sym d) (omega arith)) (omega arith) (λ _. g)) (finish-begun W H L hs o b e g (phased 4 i)));
+              sane = subst Sane (sym d) (phased-sane i sane);
+              deaf = subst (λ j. 3 < j .phase) (sym d) (omega arith);
+            })
+      ]
+
+  pub end-told : {E : List Event} {o : List ℕ} → Told n k E false o s → Ends E o
+  end-told {E} {o} (quiet a b c d e) =
+      by E o (ended.Short (phased 4 i)) (end-early i c)
+      (record {
+        told = few-came (refused (ap (λ l. l ++ (refusal ∷ [])) a) refl (omega arith) (omega arith) (ap (λ l. l ++ lineLeft k (s .row) (refusedPart 15)) e ∙ left-refused k (s .row))) (rw a refusal-first);
+        sane = phased-sane i sane;
+        deaf = omega arith;
+      })
+  end-told {E} {o} (refused a b c d e) = by E o ended.Before (end-over i c) (record { told = was-over (refused a b c d e); sane = sane; deaf = c })
+  end-told {E} {o} (begun W H L hs nay a b c (shut d g h) e) = by E o ended.Before (end-over i d) (record { told = was-over (begun W H L hs nay a b c (shut d g h) e); sane = sane; deaf = d })
+  end-told {E} {o} (begun W H L hs nay a b c (reads d g j l) e) =
+      reads-end E W H L hs o (a ∙ ap (eventsOf W H L hs) d) b c (subst (λ r. Begun n k W H L hs r false o s) d e) j l

@@ -1,0 +1,196 @@
+-- A byte heard, and heights taken together, keep what a listing has reached: `hear-told`, `take-told`. Assumes nothing.
+use mathlib.Core.Path.{_≡_, refl, sym, ap, subst, _∙_}
+use mathlib.Core.Bool.{Bool, true, false}
+use mathlib.Core.List.{List, [], _∷_, _++_, map, append-nil}
+use Prim.Native.Nat.{ℕ, _+_, _-_, _*_, _≤_, _<_}
+use native.Mathlib.Omega.{arith}
+use lib.ListN.{length, take, length-append}
+use lib.Seq.{length-take-le}
+use Rattle.wavelet.specs.Store.{storeLength}
+use Rattle.pgm.specs.Samples.{heightsOf}
+use Rattle.writer.specs.Answers.{gives, Took}
+use Rattle.writer.specs.Calls.{offerReply, offerStore}
+use Rattle.writer.specs.Demand3.{All, all-none, all-more}
+use Rattle.writer.specs.declared.Writer.{Writer}
+use Rattle.writer.proofs.CallList.{all-append}
+use Rattle.listing.specs.Lines.{refusedLine}
+use Rattle.listing.specs.Hearing.{hears, heightsCame}
+use Rattle.listing.specs.Parts.{noLine, refusedPart}
+use Rattle.listing.specs.Scenes.{Scene, drawScene, heardTo, hearScene}
+use Rattle.listing.specs.Moves.{Idle}
+use Rattle.listing.specs.Telling.{Event, height, refusal, Hearing, heardOn, listen}
+use Rattle.listing.specs.declared.input.Input.{Input}
+use Rattle.listing.specs.declared.input.Heard.{Heard}
+use Rattle.listing.proofs.LineLeft.{lineLeft, left-none, left-refused}
+use Rattle.listing.proofs.RunHeard.{take-heights, small-heights, run-heard}
+use Rattle.listing.proofs.HearsHow.{Sane, Hears, on, begins as begins-so, half, height as height-so, turned, deaf, SaneThen, more, begun as begun-sane, tall, refused as refused-sane, How, hears-how, came-sane}
+use Rattle.listing.proofs.ListingOffers.{shape-in, idle-text, more-heights, then-refused, still, turned-begun, begin-told, begin-input, out, offered-begun, offer-input, height-begun}
+use Rattle.listing.proofs.ListingReached.{ShapeIn, reads, shut, leftTo, Begun, eventsOf, Told, quiet, refused, begun, drawn-input}
+
+pub differ : false ≡ true → ⊥
+differ e = let z : _≡_ {A = ℕ} 0 1 = cc in omega arith
+
+-- what is told and reached after some bytes, heard as h
+pub record Heards (n k : ℕ) (E : List Event) (f : Bool) (o : List ℕ) (h : Hearing) (s : Scene) : Type 0 where
+  pub told : Told n k (E ++ h .events) f o s
+  pub input : s .listing .input ≡ h .input
+  pub sane : Sane (h .input)
+
+module _ (n k : ℕ) (store : storeLength 1025 5 ≤ n) (row : 1025 ≤ k) (s : Scene) (idle : Idle s) where
+  abbrev i : Input
+  i = s .listing .input
+
+  abbrev w : Writer
+  w = s .listing .writer
+
+  -- what a byte heard as y tells
+  abbrev tells : Heard → Hearing
+  tells y = heardOn (λ j. record { events = []; input = j }) y
+
+  abbrev HeardAs : List Event → Bool → List ℕ → Heard → Type 0
+  HeardAs E f o y = Heards n k E f o (tells y) (heardTo n k w (s .store) (s .row) y)
+
+  -- ---- before the head is there
+  quiet-hears : (E : List Event) (f : Bool) (o : List ℕ) (y : Heard) → E ≡ [] → f ≡ false → i .phase < 3 → o ≡ [] → Hears i y → SaneThen y → HeardAs E f o y
+  quiet-hears E f o y a b c d (on j p q) (more t) = record { told = quiet (append-nil E ∙ a) b q refl d; input = refl; sane = t }
+  quiet-hears E f o y a b c d (begins-so j W H p q r g) (begun-sane t) = record {
+    told =
+        rw (a, b, d)
+        (begin-told n k store row j w W H (s .store) (s .row) q r (let L = t .levels (omega arith) (omega arith) in shape-in W H (j .levels) g (L .0) (L .1)));
+    input = begin-input n k store row j w W H (s .store) (s .row);
+    sane = t;
+  }
+  quiet-hears E f o y a b c d (half j p q r) t = absurd (omega arith)
+  quiet-hears E f o y a b c d (height-so j v p q r g h) t = absurd (omega arith)
+  quiet-hears E f o y a b c d (turned j p q) (refused-sane t) = record {
+    told = refused (ap (λ l. l ++ (refusal ∷ [])) a) b (omega arith) (omega arith) (ap (λ l. l ++ lineLeft k (s .row) (refusedPart 15)) d ∙ left-refused k (s .row));
+    input = refl;
+    sane = t;
+  }
+  quiet-hears E f o y a b c d (deaf p) t = absurd (omega arith)
+
+  -- ---- after a refusal
+  refused-hears : (E : List Event) (f : Bool) (o : List ℕ) (y : Heard) → E ≡ refusal ∷ [] → f ≡ false → 3 < i .phase → o ++ leftTo k s ≡ refusedLine → Hears i y → SaneThen y → HeardAs E f o y
+  refused-hears E f o y a b c d (on j p q) t = absurd (omega arith)
+  refused-hears E f o y a b c d (begins-so j W H p q r g) t = absurd (omega arith)
+  refused-hears E f o y a b c d (half j p q r) t = absurd (omega arith)
+  refused-hears E f o y a b c d (height-so j v p q r g h) t = absurd (omega arith)
+  refused-hears E f o y a b c d (turned j p q) t = absurd (omega arith)
+  refused-hears E f o y a b c d (deaf p) (more t) = record {
+    told = refused (append-nil E ∙ a) b c (omega arith) (ap (λ l. o ++ l) (left-none k (s .row) noLine refl) ∙ append-nil o ∙ idle-text k s o _ idle d);
+    input = refl;
+    sane = t;
+  }
+
+  -- ---- once the head is there
+  module _ (W H L : ℕ) (hs : List ℕ) (b : ShapeIn W H L) (small : All (λ h. h ≤ 65535) hs) where
+    shut-hears : (E : List Event) (nay f : Bool) (o : List ℕ) (y : Heard) → E ≡ eventsOf W H L hs nay → Begun n k W H L hs nay f o s → 3 < i .phase → length hs ≤ W * H → (f ≡ true → length hs ≡ W * H)
+        → Hears i y → SaneThen y → HeardAs E f o y
+    shut-hears E nay f o y a e c d g (on j p q) t = absurd (omega arith)
+    shut-hears E nay f o y a e c d g (begins-so j W₁ H₁ p q r v) t = absurd (omega arith)
+    shut-hears E nay f o y a e c d g (half j p q r) t = absurd (omega arith)
+    shut-hears E nay f o y a e c d g (height-so j v p q r z h) t = absurd (omega arith)
+    shut-hears E nay f o y a e c d g (turned j p q) t = absurd (omega arith)
+    shut-hears E nay f o y a e c d g (deaf p) (more t) = record {
+      told = begun W H L hs nay (append-nil E ∙ a) b small (shut c d g) (still n k W H L hs nay f o s i idle e);
+      input = refl;
+      sane = t;
+    }
+
+    reads-hears : (E : List Event) (o : List ℕ) (y : Heard) → E ≡ eventsOf W H L hs false → Begun n k W H L hs false false o s → i .phase ≡ 3 → i .left + length hs ≡ W * H
+        → Hears i y → SaneThen y → HeardAs E false o y
+    reads-hears E o y a e c d (on j p q) t = absurd (omega arith)
+    reads-hears E o y a e c d (begins-so j W₁ H₁ p q r v) t = absurd (omega arith)
+    reads-hears E o y a e c d (half j p q r) (more t) = record {
+      told = begun W H L hs false (append-nil E ∙ a) b small (reads refl refl q (omega arith)) (still n k W H L hs false false o s j idle e);
+      input = refl;
+      sane = t;
+    }
+    reads-hears E o y a e c d (height-so j v p q r z h) (tall t) = record {
+      told =
+          begun W H L (hs ++ (v ∷ [])) false (ap (λ l. l ++ (height v ∷ [])) a ∙ more-heights W H L hs (v ∷ [])) b (all-append small (all-more h all-none))
+          (reads refl refl (ap (λ l. l .phase) (offer-input n k store row j w v (s .store) (s .row)) ∙ q) (ap (λ l. l .left + length (hs ++ (v ∷ []))) (offer-input n k store row j w v (s .store) (s .row)) ∙ counted v))
+          (height-begun n k store row W H L hs o s b e idle j v (omega arith));
+      input = offer-input n k store row j w v (s .store) (s .row);
+      sane = t;
+    }
+      where
+        counted : (v : ℕ) → j .left + length (hs ++ (v ∷ [])) ≡ W * H
+        counted v = omega (arith, length-append hs (v ∷ []))
+    reads-hears E o y a e c d (turned j p q) (refused-sane t) = record {
+      told = begun W H L hs true (ap (λ l. l ++ (refusal ∷ [])) a ∙ then-refused W H L hs) b small (shut (omega arith) (omega arith) (λ z. absurd (differ z))) (turned-begun n k W H L hs false o s j idle e);
+      input = refl;
+      sane = t;
+    }
+    reads-hears E o y a e c d (deaf p) t = absurd (omega arith)
+
+  -- ---- a byte
+  pub hear-as : {E : List Event} {f : Bool} {o : List ℕ} → Told n k E f o s → (y : Heard) → How i y → HeardAs E f o y
+  hear-as {E} {f} {o} (quiet a b c d e) y (h, t) = quiet-hears E f o y a b c e h t
+  hear-as {E} {f} {o} (refused a b c d e) y (h, t) = refused-hears E f o y a b c e h t
+  hear-as {E} {f} {o} (begun W H L hs nay a b c (shut d g j) e) y (h, t) = shut-hears W H L hs b c E nay f o y a e d g j h t
+  hear-as {E} {f} {o} (begun W H L hs nay a b c (reads d g j l) e) y (h, t) =
+      subst (λ f. HeardAs E f o y) (sym g)
+      (reads-hears W H L hs b c E o y (a ∙ ap (eventsOf W H L hs) d) (subst (λ r. Begun n k W H L hs r false o s) d (subst (λ f. Begun n k W H L hs nay f o s) g e)) j l h t)
+
+  pub hear-told : {E : List Event} {f : Bool} {o : List ℕ} → Told n k E f o s → Sane i → (b : ℕ) → b ≤ 255 → Heards n k E f o (listen i (b ∷ [])) (hearScene n k b s)
+  unfolding listen hearScene
+  hear-told t v b small = hear-as t (hears i b) (hears-how i v b small)
+
+  -- ---- heights that came together
+  module _ (bytes : List ℕ) (j : Took) where
+    abbrev run : List ℕ
+    run = heightsOf bytes
+
+    abbrev u : List ℕ
+    u = take (2 * j .taken) bytes
+
+    abbrev then : Scene
+    then = drawScene n k (heightsCame (j .taken) i) (j .writer) (offerStore w n run (s .store)) (s .row)
+
+    then-input : then .listing .input ≡ heightsCame (j .taken) i
+    then-input = drawn-input n k (heightsCame (j .taken) i) (j .writer) (offerStore w n run (s .store)) (s .row)
+
+    module _ (W H L : ℕ) (hs : List ℕ) (o : List ℕ) (b : ShapeIn W H L) (small : All (λ h. h ≤ 65535) hs) (E : List Event) (a : E ≡ eventsOf W H L hs false) (e : Begun n k W H L hs false false o s)
+        (c : i .phase ≡ 3) (d : i .left + length hs ≡ W * H) (x : i .samples .half ≡ false) (fits : length run ≤ i .left) (says : offerReply w n run (s .store) ≡ gives j) (some : 0 < j .taken) (bs : All (λ b. b ≤ 255) u) where
+      abbrev t : Took
+      t = out n k store row W H L hs o s b e idle run (omega arith) .took
+
+      same : t ≡ j
+      same = let q : gives t ≡ gives j = sym (out n k store row W H L hs o s b e idle run (omega arith) .reply) ∙ says in cc
+
+      most : j .taken ≤ length run
+      most = omega (arith, ap (λ m. m .taken) same, out n k store row W H L hs o s b e idle run (omega arith) .most)
+
+      told-run : listen i u ≡ record { events = map height (take (j .taken) run); input = heightsCame (j .taken) i }
+      told-run = run-heard i bytes (j .taken) c x fits some most
+
+      counted : i .left - j .taken + length (hs ++ take (j .taken) run) ≡ W * H
+      counted = omega (arith, most, length-append hs (take (j .taken) run), length-take-le (j .taken) run most)
+
+      run-begun : Begun n k W H L (hs ++ take (j .taken) run) false false o then
+      run-begun =
+          subst (λ m. Begun n k W H L (hs ++ take (m .taken) run) false false o (drawScene n k (heightsCame (j .taken) i) (m .writer) (offerStore w n run (s .store)) (s .row))) same
+          (offered-begun n k store row W H L hs o s b e idle run (omega arith) (heightsCame (j .taken) i))
+
+      run-told : Sane i → Heards n k E false o (listen i u) then
+      run-told v =
+          subst (λ h. Heards n k E false o h then) (sym told-run)
+          (record {
+            told =
+                begun W H L (hs ++ take (j .taken) run) false (ap (λ l. l ++ map height (take (j .taken) run)) a ∙ more-heights W H L hs (take (j .taken) run)) b
+                (all-append small (subst (All (λ h. h ≤ 65535)) (take-heights (j .taken) bytes) (small-heights u bs)))
+                (reads refl refl (ap (λ l. l .phase) then-input ∙ c) (ap (λ l. l .left + length (hs ++ take (j .taken) run)) then-input ∙ counted))
+                run-begun;
+            input = then-input;
+            sane = came-sane (j .taken) i v;
+          })
+
+    pub take-told : {E : List Event} {f : Bool} {o : List ℕ} → Told n k E f o s → Sane i → i .phase ≡ 3 → i .samples .half ≡ false → length run ≤ i .left → offerReply w n run (s .store) ≡ gives j → 0 < j .taken
+        → All (λ b. b ≤ 255) u → Heards n k E f o (listen i u) then
+    take-told (quiet a b c d e) v p q r g h bs = absurd (omega arith)
+    take-told (refused a b c d e) v p q r g h bs = absurd (omega arith)
+    take-told (begun W H L hs nay a b c (shut d z l) e) v p q r g h bs = absurd (omega arith)
+    take-told {E} {f} {o} (begun W H L hs nay a b c (reads d y z l) e) v p q r g h bs =
+        subst (λ f. Heards n k E f o (listen i u) then) (sym y)
+        (run-told W H L hs o b c E (a ∙ ap (eventsOf W H L hs) d) (subst (λ r. Begun n k W H L hs r false o s) d (subst (λ f. Begun n k W H L hs nay f o s) y e)) z l q r g h bs v)

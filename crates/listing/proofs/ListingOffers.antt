@@ -1,0 +1,138 @@
+-- The head is there (`begin-told`), heights are offered (`offered-begun`), question 15 says no (`turned-begun`): what a listing has reached then. Assumes nothing.
+use mathlib.Core.Path.{_≡_, refl, sym, ap, subst, _∙_}
+use mathlib.Core.Bool.{Bool, true, false}
+use mathlib.Core.List.{List, [], _∷_, _++_, map, append-nil}
+use Prim.Native.Nat.{ℕ, _+_, _-_, _*_, _≤_, _<_}
+use native.Mathlib.Omega.{arith}
+use lib.Dec.{leb}
+use lib.ListN.{length, take}
+use borrow.Author.Tests.{leb-true}
+use Rattle.numbers.specs.Signal.{both}
+use Rattle.numbers.proofs.Sweep.{both as split-both}
+use Rattle.wavelet.specs.Store.{storeLength}
+use Rattle.wavelet.specs.Questions.{within}
+use Rattle.writer.specs.Level.{Memory}
+use Rattle.writer.specs.Questions.{setUpQuestion}
+use Rattle.writer.specs.Answers.{Reply, gives, refused as not-so, Took}
+use Rattle.writer.specs.Calls.{fresh, setUpReply, setUpStore, offerReply, offerStore}
+use Rattle.writer.specs.Demand3.{all-none}
+use Rattle.writer.specs.declared.Writer.{Writer}
+use Rattle.writer.proofs.CallList.{map-append}
+use Rattle.listing.specs.Lines.{sizeLine, refusedLine}
+use Rattle.listing.specs.Listing.{maxListedWidth, shapeFits}
+use Rattle.listing.specs.Parts.{noLine, sizePart}
+use Rattle.listing.specs.Scenes.{Scene, scene, listed, refusedTo, drawScene, begunTo, beginScene, tookTo, offerScene}
+use Rattle.listing.specs.Moves.{lineOn, Idle}
+use Rattle.listing.specs.Telling.{begins, height, refusal}
+use Rattle.listing.specs.declared.input.Input.{Input}
+use Rattle.listing.proofs.DrawnText.{drawnText}
+use Rattle.listing.proofs.LineLeft.{left-none, left-size, left-refused}
+use Rattle.listing.proofs.WriterRan.{fresh-ran, fresh-waits}
+use Rattle.listing.proofs.WriterTakes.{OfferOut, offer-out}
+use Rattle.listing.proofs.ListingReached.{ShapeIn, reads, leftTo, Begun, eventsOf, Told, begun, set-up-in, drawn-input, draw-begun}
+
+-- ---- small facts
+pub shape-in : (W H L : ℕ) → shapeFits W H ≡ true → 1 ≤ L → L ≤ 5 → ShapeIn W H L
+unfolding shapeFits within maxListedWidth
+shape-in W H L e a b =
+    let p = split-both (both (leb 1 W) (leb W 1025)) (both (leb 1 H) (leb H 65535)) e in
+    let q = split-both (leb 1 W) (leb W 1025) (p .0) in
+    let r = split-both (leb 1 H) (leb H 65535) (p .1) in
+    record { some-columns = leb-true 1 W (q .0); columns = leb-true W 1025 (q .1); some-rows = leb-true 1 H (r .0); rows = leb-true H 65535 (r .1); some-levels = a; levels = b }
+
+pub idle-text : (k : ℕ) (s : Scene) (o t : List ℕ) → Idle s → o ++ leftTo k s ≡ t → o ≡ t
+idle-text k s o t i e = sym (append-nil o) ∙ ap (λ y. o ++ y) (sym (left-none k (s .row) (lineOn s) i)) ∙ e
+
+module _ (W H L : ℕ) (hs : List ℕ) where
+  pub more-heights : (vs : List ℕ) → eventsOf W H L hs false ++ map height vs ≡ eventsOf W H L (hs ++ vs) false
+  more-heights vs =
+      ap (λ l. begins (record { width = W; height = H; levels = L }) ∷ l)
+      (ap (λ l. l ++ map height vs) (append-nil (map height hs)) ∙ sym (map-append height hs vs) ∙ sym (append-nil (map height (hs ++ vs))))
+
+  pub then-refused : eventsOf W H L hs false ++ (refusal ∷ []) ≡ eventsOf W H L hs true
+  then-refused = ap (λ l. begins (record { width = W; height = H; levels = L }) ∷ (l ++ (refusal ∷ []))) (append-nil (map height hs))
+
+-- the same writer and store, no line
+pub still : (n k W H L : ℕ) (hs : List ℕ) (nay f : Bool) (o : List ℕ) (s : Scene) (i : Input) → Idle s → Begun n k W H L hs nay f o s → Begun n k W H L hs nay f o (scene (listed i (s .listing .writer) noLine) (s .store) (s .row))
+still n k W H L hs nay f o s i e b = record {
+  drawn = b .drawn;
+  ran = b .ran;
+  text = ap (λ y. o ++ y) (left-none k (s .row) noLine refl) ∙ append-nil o ∙ idle-text k s o _ e (b .text);
+  idle = λ _. b .idle (omega arith);
+  last = λ _. omega arith;
+  room = λ _. omega arith;
+}
+
+-- a refusal
+pub turned-begun : (n k W H L : ℕ) (hs : List ℕ) (f : Bool) (o : List ℕ) (s : Scene) (i : Input) → Idle s → Begun n k W H L hs false f o s
+    → Begun n k W H L hs true f o (scene (refusedTo i (s .listing .writer) 15) (s .store) (s .row))
+turned-begun n k W H L hs f o s i e b = record {
+  drawn = b .drawn;
+  ran = b .ran;
+  text = ap (λ y. o ++ y) (left-refused k (s .row)) ∙ ap (λ y. y ++ refusedLine) (idle-text k s o _ e (b .text) ∙ append-nil (sizeLine W H L ++ drawnText (b .drawn)));
+  idle = λ _. b .idle (omega arith);
+  last = λ _. omega arith;
+  room = λ h. absurd (omega arith);
+}
+
+module _ (n k : ℕ) (store : storeLength 1025 5 ≤ n) (row : 1025 ≤ k) where
+  -- ---- the head is there
+  begin-is : (i : Input) (w : Writer) (W H : ℕ) (x z : Memory) → setUpQuestion W (i .levels) n ≡ 0
+      → beginScene n i w W H x z ≡ scene (listed i (fresh W (i .levels)) (sizePart W H (i .levels))) (setUpStore W (i .levels) n x) z
+  unfolding beginScene setUpReply
+  begin-is i w W H x z e = rw e refl
+
+  pub begin-told : (i : Input) (w : Writer) (W H : ℕ) (x z : Memory) → i .phase ≡ 3 → i .left ≡ W * H → ShapeIn W H (i .levels)
+      → Told n k (begins (record { width = W; height = H; levels = i .levels }) ∷ []) false [] (beginScene n i w W H x z)
+  unfolding drawnText
+  begin-told i w W H x z p q b =
+      subst (Told n k _ false []) (sym (begin-is i w W H x z (set-up-in n store b)))
+      (begun W H (i .levels) [] false refl b all-none (reads refl refl p (omega arith))
+      (record {
+        drawn = [];
+        ran = fresh-ran W (i .levels) n x;
+        text = left-size k z W H (i .levels) ∙ sym (append-nil _) ∙ sym (append-nil _);
+        idle = λ _. fresh-waits W (i .levels) n;
+        last = λ _. omega arith;
+        room = λ h. absurd (omega arith);
+      }))
+
+  pub begin-input : (i : Input) (w : Writer) (W H : ℕ) (x z : Memory) → beginScene n i w W H x z .listing .input ≡ i
+  unfolding beginScene
+  begin-input i w W H x z = go (setUpReply W (i .levels) n)
+    where
+      go : (y : Reply Writer) → begunTo i w W H y .input ≡ i
+      go (gives u) = refl
+      go (not-so q) = refl
+
+  -- ---- heights are offered
+  module _ (W H L : ℕ) (hs : List ℕ) (o : List ℕ) (s : Scene) (b : ShapeIn W H L) (e : Begun n k W H L hs false false o s) (idle : Idle s) (run : List ℕ) (room : length hs + length run ≤ W * H) where
+    pub out : OfferOut W L n (set-up-in n store b) hs (e .drawn) (s .listing .writer) (s .store) (e .ran) (e .idle (omega arith)) run
+    out = offer-out W L n (set-up-in n store b) hs (e .drawn) (s .listing .writer) (s .store) (e .ran) (e .idle (omega arith)) run H (b .some-columns) (b .rows) room
+
+    pub offered-begun : (i : Input) → Begun n k W H L (hs ++ take (out .took .taken) run) false false o
+        (drawScene n k i (out .took .writer) (offerStore (s .listing .writer) n run (s .store)) (s .row))
+    offered-begun i =
+        draw-begun n k W H L (set-up-in n store b) (omega (arith, b .columns)) i (out .took .writer) _ (s .row) _ false o (e .drawn) (out .ran)
+        (idle-text k s o _ idle (e .text) ∙ append-nil _)
+
+  -- one height
+  offer-is : (i : Input) (w : Writer) (v : ℕ) (x z : Memory) (t : Took) → offerReply w n (v ∷ []) x ≡ gives t → offerScene n k i w v x z ≡ drawScene n k i (t .writer) (offerStore w n (v ∷ []) x) z
+  unfolding offerScene
+  offer-is i w v x z t e = rw e refl
+
+  pub offer-input : (i : Input) (w : Writer) (v : ℕ) (x z : Memory) → offerScene n k i w v x z .listing .input ≡ i
+  unfolding offerScene
+  offer-input i w v x z = go (offerReply w n (v ∷ []) x)
+    where
+      go : (y : Reply Took) → tookTo drawScene n k i w (offerStore w n (v ∷ []) x) z y .listing .input ≡ i
+      go (gives t) = drawn-input n k i (t .writer) (offerStore w n (v ∷ []) x) z
+      go (not-so q) = refl
+
+  pub height-begun : (W H L : ℕ) (hs : List ℕ) (o : List ℕ) (s : Scene) → ShapeIn W H L → Begun n k W H L hs false false o s → Idle s → (i : Input) (v : ℕ) → length hs < W * H
+      → Begun n k W H L (hs ++ (v ∷ [])) false false o (offerScene n k i (s .listing .writer) v (s .store) (s .row))
+  height-begun W H L hs o s b e idle i v h =
+      let t = out W H L hs o s b e idle (v ∷ []) (omega arith) in
+      let one : t .took .taken ≡ 1 = omega (arith, t .most, t .some (omega arith)) in
+      subst (Begun n k W H L (hs ++ (v ∷ [])) false false o) (sym (offer-is i (s .listing .writer) v (s .store) (s .row) (t .took) (t .reply)))
+      (subst (λ m. Begun n k W H L (hs ++ take m (v ∷ [])) false false o (drawScene n k i (t .took .writer) (offerStore (s .listing .writer) n (v ∷ []) (s .store)) (s .row))) one (offered-begun W H L hs o s b e idle (v ∷ []) (omega arith) i))

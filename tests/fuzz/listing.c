@@ -1,0 +1,148 @@
+/* The built program `list` under a fuzzer. The first byte of the input says where the rest is cut in two; the rest goes to the program in
+ * these two pieces and to a listing of its own (model.h), and the two outputs are compared. What guides the fuzzer is this second listing:
+ * the program runs as it was built, in a process of its own. tests/fuzz/run builds and runs it. */
+#define _GNU_SOURCE
+#include "model.h"
+#include <signal.h>
+#include <spawn.h>
+#include <stdio.h>
+#include <sys/wait.h>
+#include <unistd.h>
+
+enum { CELLS = 1 << 14, WIDEST = 1025, ROOM = 1 << 20 };
+
+static char wanted[ROOM], found[ROOM];
+static size_t wanted_len;
+
+static void put(const char *text)
+{
+    size_t n = strlen(text);
+    if (wanted_len + n > ROOM) abort();
+    memcpy(wanted + wanted_len, text, n);
+    wanted_len += n;
+}
+
+static void put_number(int64_t n)
+{
+    char text[24];
+    snprintf(text, sizeof text, "%lld", (long long)n);
+    put(text);
+}
+
+/* ---- the header: a whitespace byte and a number after it */
+static const uint8_t *at, *end;
+
+static int space(void)
+{
+    return at < end && (*at == ' ' || *at == '\t' || *at == '\r' || *at == '\n') ? at++, 1 : 0;
+}
+
+static int number_after_space(size_t *n)
+{
+    if (!space() || at == end || *at < '0' || *at > '9') return 0;
+    for (*n = 0; at < end && *at >= '0' && *at <= '9'; at++)
+        if ((*n = 10 * *n + (size_t)(*at - '0')) > 1000000) *n = 1000000;
+    return 1;
+}
+
+static int head(size_t *levels, size_t *w, size_t *h)
+{
+    size_t most;
+    if (at == end || *at < '1' || *at > '5') return 0;
+    *levels = (size_t)(*at++ - '0');
+    if (end - at < 3 || memcmp(at, "\nP5", 3)) return 0;
+    at += 3;
+    return number_after_space(w) && number_after_space(h) && number_after_space(&most) && space() && *w >= 1 && *w <= WIDEST && *h >= 1 &&
+           *h <= MOST_HEIGHT && most == 65535;
+}
+
+/* ---- the rows that wait, as lines */
+static void put_rows(Order *o, const int32_t *plane, size_t w, size_t h)
+{
+    static const char *const bands[] = { "LL", "HL", "LH", "HH" };
+    for (; order_waits(o); o->first++) {
+        Row r = o->waiting[o->first];
+        put_number((int64_t)r.level), put(" "), put(bands[r.band]), put(" "), put_number((int64_t)r.row);
+        for (size_t i = 0; i < r.length; i++) put(" "), put_number(plane[place(w, h, r.level, r.band, r.row) + i]);
+        put("\n");
+    }
+}
+
+static void put_map(size_t levels, size_t w, size_t h, const uint16_t *heights, size_t taken, int whole)
+{
+    static int32_t plane[2 * CELLS + 64 * WIDEST];
+    static Order o;
+    size_t rows = whole ? h : taken / w + 64, left = taken;
+    memset(&o, 0, sizeof o);
+    o.width = w, o.levels = levels;
+    model_forward(heights, w, rows, levels, plane);
+    while (left) {
+        size_t n;
+        if (order_offer(&o, left, &n)) abort();
+        left -= n;
+        put_rows(&o, plane, w, rows);
+    }
+    if (whole) {
+        if (order_finish(&o)) abort();
+        put_rows(&o, plane, w, rows);
+    }
+}
+
+/* 0: the map is larger than this harness likes */
+static int list(const uint8_t *data, size_t size)
+{
+    static uint16_t heights[2 * CELLS + 64 * WIDEST];
+    size_t levels, w, h, taken = 0;
+    wanted_len = 0;
+    at = data, end = data + size;
+    if (!head(&levels, &w, &h)) return put("refused 15\n"), 1;
+    size_t bytes = (size_t)(end - at);
+    if (bytes > 2 * CELLS) return 0;
+    memset(heights, 0, sizeof heights);
+    while (taken < bytes / 2 && taken < w * h) heights[taken] = (uint16_t)(at[2 * taken] << 8 | at[2 * taken + 1]), taken++;
+    put_number((int64_t)w), put(" "), put_number((int64_t)h), put(" "), put_number((int64_t)levels), put("\n");
+    put_map(levels, w, h, heights, taken, bytes == 2 * w * h);
+    if (bytes != 2 * w * h) put("refused 15\n");
+    return 1;
+}
+
+/* ---- the program */
+static size_t run(const uint8_t *data, size_t size, size_t cut)
+{
+    extern char **environ;
+    static char *const argv[] = { (char *)"list", 0 };
+    int in[2], out[2], status;
+    pid_t child;
+    posix_spawn_file_actions_t actions;
+    if (pipe2(in, 02000000) || pipe2(out, 02000000)) abort();
+    posix_spawn_file_actions_init(&actions);
+    posix_spawn_file_actions_adddup2(&actions, in[0], 0);
+    posix_spawn_file_actions_adddup2(&actions, out[1], 1);
+    if (posix_spawn(&child, "target/bin/list", &actions, 0, argv, environ)) abort();
+    posix_spawn_file_actions_destroy(&actions);
+    close(in[0]), close(out[1]);
+    /* a pipe holds 65,536 bytes, more than is written; the program reads to its input's end, so nothing blocks */
+    if (write(in[1], data, cut) != (ssize_t)cut || write(in[1], data + cut, size - cut) != (ssize_t)(size - cut)) abort();
+    close(in[1]);
+    size_t n = 0;
+    ssize_t got;
+    while (n < ROOM && (got = read(out[0], found + n, ROOM - n)) > 0) n += (size_t)got;
+    close(out[0]);
+    if (waitpid(child, &status, 0) < 0 || status) abort();
+    return n;
+}
+
+int LLVMFuzzerTestOneInput(const uint8_t *data, size_t size)
+{
+    if (!size || size > 60000) return 0;
+    size_t cut = data[0] % size;
+    data++, size--;
+    if (cut > size) cut = size;
+    if (!list(data, size)) return 0;
+    size_t n = run(data, size, cut);
+    if (n != wanted_len || memcmp(found, wanted, n)) {
+        fprintf(stderr, "the listings differ\nwanted: %.*s\nfound: %.*s\n", (int)wanted_len, wanted, (int)n, found);
+        abort();
+    }
+    return 0;
+}
