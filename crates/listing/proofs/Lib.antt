@@ -6,3 +6,7 @@ pub mod HearingLaws
 pub mod SceneLaws
 pub mod SpellLaws
 pub mod DrawnText
+pub mod MoveLaws
+pub mod WritingMoves
+pub mod ReadingMoves
+pub mod TurnLaws
