@@ -21,3 +21,7 @@ pub mod ListingGoes
 pub mod ListingEnds
 pub mod ListingDue
 pub mod ListingTheorem
+pub mod MoveLaws
+pub mod WritingMoves
+pub mod ReadingMoves
+pub mod TurnLaws

@@ -93,7 +93,7 @@ impl Listing {
 }
 
 // One turn: input is read while no line is being written, else the line is. `going` while there may be another turn.
-struct Turn {
+struct Turned {
     listing: Listing,
     used: usize,
     written: usize,
@@ -108,7 +108,7 @@ fn turn(
     row: &mut [i32],
     out: &mut [u8],
     written: usize,
-) -> Turn
+) -> Turned
     requires { ⌜ (used ≤ length (now piece)) × (written ≤ length (now out)) ⌝ }
     ensures { λ r. ⌜ Went (length (now (store .entry))) (length (now (row .entry))) (scene listing (at (now (store .entry))) (at (now (row .entry)))) (now (piece .entry)) used (r .used) (now (out .entry)) (now (out .exit)) written (r .written) (scene (r .listing) (at (now (store .exit))) (at (now (row .exit)))) ⌝ }
     ensures { λ r. ⌜ Onward (scene (r .listing) (at (now (store .exit))) (at (now (row .exit)))) (now (piece .entry)) used (r .used) (now (out .entry)) written (r .written) (r .going) ⌝ }
@@ -118,7 +118,7 @@ fn turn(
         if used < piece.len() {
             let r = reading::read_on(listing, piece, used, store, row);
             let next = r.listing;
-            return Turn {
+            return Turned {
                 listing: next,
                 used: r.used,
                 written,
@@ -128,14 +128,14 @@ fn turn(
     } else if written < out.len() {
         let w = writing::write_on(listing, store, row, out, written);
         let next = w.listing;
-        return Turn {
+        return Turned {
             listing: next,
             used,
             written: w.place,
             going: true,
         };
     }
-    Turn {
+    Turned {
         listing,
         used,
         written,

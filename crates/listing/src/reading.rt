@@ -33,7 +33,32 @@ fn read_byte(
     }
 }
 
-// As many whole heights as there are, as are still to come and as fit a small area; the writer says how many of them it takes.
+// As many whole heights as there are, as are still to come and as fit the run; the writer says how many of them it takes.
+fn read_run(
+    listing: Listing,
+    piece: &[u8],
+    used: usize,
+    store: &mut [i32],
+    row: &mut [i32],
+    run: &mut [u16],
+) -> Read
+    requires { ⌜ (listing .line .part ≡ 0) × (listing .input .phase ≡ 3) × (listing .input .samples .half ≡ false) × (0 < listing .input .left) × (used + 2 ≤ length (now piece)) × (0 < length (now run)) ⌝ }
+    ensures { λ r. ⌜ Reads (length (now (store .entry))) (length (now (row .entry))) (scene listing (at (now (store .entry))) (at (now (row .entry)))) (now (piece .entry)) used (r .used) (scene (r .listing) (at (now (store .exit))) (at (now (row .exit)))) ⌝ }
+{
+    let input = listing.input;
+    let writer = listing.writer;
+    let most = copy::least(input.left, run.len());
+    let n = samples::read(piece, used, &mut run[..most]);
+    match writer.offer(store, &run[..n]) {
+        Offered::Taken(taken, next) => Read {
+            listing: scenes::draw(input.took(taken), next, store, row),
+            used: used + 2 * taken,
+        },
+        Offered::Refused(_) => read_byte(listing, piece, used, store, row),
+    }
+}
+
+// Heights that came together, by way of a small area.
 fn read_heights(
     listing: Listing,
     piece: &[u8],
@@ -44,18 +69,8 @@ fn read_heights(
     requires { ⌜ (listing .line .part ≡ 0) × (listing .input .phase ≡ 3) × (listing .input .samples .half ≡ false) × (0 < listing .input .left) × (used + 2 ≤ length (now piece)) ⌝ }
     ensures { λ r. ⌜ Reads (length (now (store .entry))) (length (now (row .entry))) (scene listing (at (now (store .entry))) (at (now (row .entry)))) (now (piece .entry)) used (r .used) (scene (r .listing) (at (now (store .exit))) (at (now (row .exit)))) ⌝ }
 {
-    let input = listing.input;
-    let writer = listing.writer;
     let mut run = [0u16; 256];
-    let most = copy::least(input.left, 256);
-    let n = samples::read(piece, used, &mut run[..most]);
-    match writer.offer(store, &run[..n]) {
-        Offered::Taken(taken, next) => Read {
-            listing: scenes::draw(input.took(taken), next, store, row),
-            used: used + 2 * taken,
-        },
-        Offered::Refused(_) => read_byte(listing, piece, used, store, row),
-    }
+    read_run(listing, piece, used, store, row, &mut run)
 }
 
 pub fn read_on(

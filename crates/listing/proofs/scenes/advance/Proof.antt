@@ -1,5 +1,5 @@
--- `listing::advance` meets its contract: the parts of a line in turn, and then a draw. Assumes nothing.
-use mathlib.Core.Path.{_≡_, refl, sym, ap, _∙_}
+-- `scenes::advance` meets its contract: the parts of a line in turn, and then a draw. Assumes nothing.
+use mathlib.Core.Path.{ap}
 use lib.ListN.{length}
 use Rattle.numbers.specs.Signal.{at}
 use Rattle.listing.specs.Scenes.{listed, scene}

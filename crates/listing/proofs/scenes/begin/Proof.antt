@@ -1,6 +1,6 @@
--- `listing::begin` meets its contract: the cases of the set-up. Assumes nothing.
-use mathlib.Core.Path.{_≡_, refl, sym, ap, _∙_}
-use Rattle.writer.specs.Answers.{ofSetUp, ofOffered, ofDrawn, ofFinished}
+-- `scenes::begin` meets its contract: the cases of the set-up. Assumes nothing.
+use mathlib.Core.Path.{sym, ap, _∙_}
+use Rattle.writer.specs.Answers.{ofSetUp}
 use Rattle.listing.specs.Scenes.{listed, begunTo}
 use borrow.Author.Needs.{needs}
 use Rattle.listing.proofs.scenes.begin.Statement.{statement}

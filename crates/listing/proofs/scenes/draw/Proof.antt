@@ -1,6 +1,6 @@
--- `listing::draw` meets its contract: the cases of the draw. Assumes nothing.
-use mathlib.Core.Path.{_≡_, refl, sym, ap, _∙_}
-use Rattle.writer.specs.Answers.{ofSetUp, ofOffered, ofDrawn, ofFinished}
+-- `scenes::draw` meets its contract: the cases of the draw. Assumes nothing.
+use mathlib.Core.Path.{sym, ap, _∙_}
+use Rattle.writer.specs.Answers.{ofDrawn}
 use Rattle.listing.specs.Scenes.{listed}
 use Rattle.listing.proofs.SceneLaws.{drew}
 use borrow.Author.Needs.{needs}

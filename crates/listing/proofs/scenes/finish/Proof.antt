@@ -1,7 +1,6 @@
--- `listing::finish` meets its contract: the cases of the finish, and a draw. Assumes nothing.
-use mathlib.Core.Path.{_≡_, refl, sym, ap, _∙_}
-use Rattle.writer.specs.Answers.{ofSetUp, ofOffered, ofDrawn, ofFinished}
-use Rattle.listing.specs.Scenes.{listed}
+-- `scenes::finish` meets its contract: the cases of the finish, and a draw. Assumes nothing.
+use mathlib.Core.Path.{sym, ap, _∙_}
+use Rattle.writer.specs.Answers.{ofFinished}
 use Rattle.listing.proofs.SceneLaws.{closed, not-closed}
 use borrow.Author.Needs.{needs}
 use Rattle.listing.proofs.scenes.finish.Statement.{statement}

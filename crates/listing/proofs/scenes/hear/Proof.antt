@@ -1,8 +1,7 @@
--- `listing::hear` meets its contract: the cases of what was heard. Assumes nothing.
-use mathlib.Core.Path.{_≡_, refl, sym, ap, _∙_}
+-- `scenes::hear` meets its contract: the cases of what was heard. Assumes nothing.
+use mathlib.Core.Path.{refl, sym, ap, _∙_}
 use lib.ListN.{length}
 use Rattle.numbers.specs.Signal.{at}
-use Rattle.writer.specs.Answers.{ofSetUp, ofOffered, ofDrawn, ofFinished}
 use Rattle.listing.specs.Scenes.{listed, scene}
 use Rattle.listing.proofs.SceneLaws.{heard-as, began}
 use borrow.Author.Needs.{needs}

@@ -1,7 +1,6 @@
--- `listing::offer` meets its contract: the cases of the offer, and a draw. Assumes nothing.
-use mathlib.Core.Path.{_≡_, refl, sym, ap, _∙_}
-use Rattle.writer.specs.Answers.{ofSetUp, ofOffered, ofDrawn, ofFinished}
-use Rattle.listing.specs.Scenes.{listed}
+-- `scenes::offer` meets its contract: the cases of the offer, and a draw. Assumes nothing.
+use mathlib.Core.Path.{sym, ap, _∙_}
+use Rattle.writer.specs.Answers.{ofOffered}
 use Rattle.listing.proofs.SceneLaws.{took, not-taken}
 use borrow.Author.Needs.{needs}
 use Rattle.listing.proofs.scenes.offer.Statement.{statement}

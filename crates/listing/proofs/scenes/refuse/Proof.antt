@@ -1,5 +1,4 @@
--- `listing::refuse` meets its contract. Assumes nothing.
-use mathlib.Core.Path.{_≡_, refl, sym, ap, _∙_}
+-- `scenes::refuse` meets its contract. Assumes nothing.
 use borrow.Author.Needs.{needs}
 use Rattle.listing.proofs.scenes.refuse.Statement.{statement}
 use Rattle.listing.proofs.scenes.refuse.Tie as tie

@@ -1,5 +1,4 @@
 -- `Listing::start` meets its contract: the starts of its parts. Assumes nothing.
-use mathlib.Core.Path.{_≡_, refl, sym, ap, _∙_}
 use borrow.Author.Needs.{needs}
 use Rattle.listing.proofs.listing.Listing.start.Statement.{statement}
 use Rattle.listing.proofs.listing.Listing.start.Tie as tie

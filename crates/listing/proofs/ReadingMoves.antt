@@ -1,0 +1,175 @@
+-- A byte heard, or heights offered together: the moves. Assumes nothing.
+use mathlib.Core.Path.{_≡_, refl, sym, ap, _∙_, subst}
+use mathlib.Core.Bool.{Bool, true, false, not}
+use mathlib.Core.List.{List, [], _∷_, _++_, append-assoc}
+use Prim.Native.Nat.{ℕ, zero, suc, _+_, _-_, _*_, _/_, _≤_, _<_, min}
+use native.Mathlib.Omega.{arith}
+use native.Mathlib.Numerals.{add-one}
+use lib.Dec.{ltb, eqb}
+use lib.ListN.{length, take, drop, getD, length-append, length-drop, take-append-drop}
+use lib.Seq.{drop-cons, drop-drop, take-take, length-take-le, take-at}
+use borrow.Author.Tests.{ne-eqb}
+use Rattle.numbers.specs.Signal.{pick, both}
+use Rattle.wavelet.specs.Limits.{maxHeight}
+use Rattle.wavelet.specs.Questions.{ask}
+use Rattle.pgm.specs.Samples.{heightsOf}
+use Rattle.pgm.proofs.RunReads.{heights-count}
+use Rattle.writer.specs.Level.{Memory}
+use Rattle.writer.specs.FiveThreeLevel.{fiveThree}
+use Rattle.writer.specs.Taking.{Taking, oneMore, takes, begun, complete, heightPut, rowMakes, offering}
+use Rattle.writer.specs.Questions.{inRanges, longEnough, offerQuestion}
+use Rattle.writer.specs.Answers.{gives, refused, unless, changedUnless, Took}
+use Rattle.writer.specs.Calls.{took, offerReply, offerStore}
+use Rattle.writer.specs.declared.Writer.{Writer}
+use Rattle.listing.specs.Hearing.{heightsCame}
+use Rattle.listing.specs.Scenes.{Scene, scene, Leaves, drawScene, hearScene}
+use Rattle.listing.specs.Moves.{Idle, hears, takes as offers, Reads}
+use Rattle.listing.specs.declared.input.Input.{Input}
+use Rattle.listing.specs.declared.listing.Listing.{Listing}
+use Rattle.listing.proofs.MoveLaws.{one}
+use Rattle.listing.proofs.WritingMoves.{left-is}
+
+-- ---- a byte
+pub byte-on : (n k : ℕ) (s : Scene) (p : List ℕ) (a : ℕ) (l : Listing) {x z : Memory} → Idle s → a < length p → Leaves (hearScene n k (getD p a 0) s) l x z → Reads n k s p a (a + 1) (scene l x z)
+byte-on n k s p a l i h f =
+    record {
+      bytes = getD p a 0 ∷ [];
+      goes = one (hears (getD p a 0) i refl refl (left-is f));
+      read = drop-cons p a 0 h ∙ ap (λ m. getD p a 0 ∷ drop m p) (sym (add-one a));
+      used = refl;
+      part = omega arith;
+      some = omega arith;
+    }
+
+-- ---- how many heights an offer takes: at most those that there are, and one of them if it passes
+also : (b c : Bool) (t u v : Taking) (m : ℕ) → t .taken ≤ m → u .taken ≤ m → v .taken ≡ 0 → pick b (oneMore (pick c t u)) v .taken ≤ suc m
+also true true t u v m f g h = omega arith
+also true false t u v m f g h = omega arith
+also false c t u v m f g h = omega arith
+
+taken-most : (run : List ℕ) (s : Writer) (x : Memory) → offering fiveThree run s x .taken ≤ length run
+unfolding offering
+taken-most [] s x = omega arith
+taken-most (h ∷ run) s x =
+    also (takes s) (ltb (s .column + 1) (s .width)) _ _ _ (length run)
+    (taken-most run (begun s) (heightPut fiveThree h s x))
+    (taken-most run (complete s (rowMakes fiveThree s (heightPut fiveThree h s x))) (rowMakes fiveThree s (heightPut fiveThree h s x) .store))
+    refl
+
+last-two : (a b c d e : Bool) → ask a 1 (ask b 5 (ask c 9 (ask d 8 (ask e 10 0)))) ≡ 0 → both d e ≡ true
+last-two true true true true true h = refl
+last-two true true true true false h = absurd (omega arith)
+last-two true true true false e h = absurd (omega arith)
+last-two true true false d e h = absurd (omega arith)
+last-two true false c d e h = absurd (omega arith)
+last-two false b c d e h = absurd (omega arith)
+
+passes : (s : Writer) (n k : ℕ) → offerQuestion s n (suc k) ≡ 0 → takes s ≡ true
+unfolding offerQuestion takes
+passes s n k h =
+    let e : eqb (suc k) 0 ≡ false = ne-eqb (suc k) 0 (λ z. omega arith) in
+    last-two (inRanges s) (longEnough n s) (not (s .finished)) (eqb (s .level) 0) (ltb (s .rows) maxHeight) (rw e at h)
+
+taken-some : (run : List ℕ) (s : Writer) (n : ℕ) (x : Memory) → 0 < length run → offerQuestion s n (length run) ≡ 0 → 0 < offering fiveThree run s x .taken
+unfolding offering
+taken-some [] s n x h q = absurd (omega arith)
+taken-some (v ∷ run) s n x h q = rw (passes s n (length run) q) (omega arith)
+
+-- ---- the answer of an offer
+yes : {A : Type 0} (q : ℕ) (a b : A) → gives b ≡ unless q a → (q ≡ 0) × (b ≡ a)
+yes zero a b e = (refl, cc)
+yes (suc q) a b e = let z : _≡_ {A = ℕ} 0 1 = cc in absurd (omega arith)
+
+kept : {A : Type 0} (q r : ℕ) (a : A) (x y : Memory) → refused r ≡ unless q a → changedUnless q y x ≡ x
+kept zero r a x y e = let z : _≡_ {A = ℕ} 0 1 = cc in absurd (omega arith)
+kept (suc q) r a x y e = refl
+
+pub offer-kept : (s : Writer) (n r : ℕ) (run : List ℕ) (x : Memory) → refused r ≡ offerReply s n run x → offerStore s n run x ≡ x
+unfolding offerReply offerStore
+offer-kept s n r run x e = kept (offerQuestion s n (length run)) r (took (offering fiveThree run s x)) x (offering fiveThree run s x .store) e
+
+record Passed (run : List ℕ) (j : Took) : Type 0 where
+  pub most : j .taken ≤ length run
+  pub some : 0 < length run → 0 < j .taken
+
+passed : (s : Writer) (n : ℕ) (run : List ℕ) (x : Memory) (j : Took) → gives j ≡ offerReply s n run x → Passed run j
+unfolding offerReply
+passed s n run x j e =
+    let y = yes (offerQuestion s n (length run)) (took (offering fiveThree run s x)) j e in
+    rw (y .1) (record { most = taken-most run s x; some = λ h. taken-some run s n x h (y .0) })
+
+-- ---- heights together
+heights-size : (p : List ℕ) (a c : ℕ) → a + 2 * c ≤ length p → length (heightsOf (take (2 * c) (drop a p))) ≡ c
+heights-size p a c h =
+    let e : length (take (2 * c) (drop a p)) ≡ 2 * c = length-take-le (2 * c) (drop a p) (simp length-drop (omega arith)) in
+    heights-count (take (2 * c) (drop a p)) ∙ omega arith
+
+-- a run is c heights of the piece p from place a on, no more than are still to come
+pub record Run (s : Scene) (p : List ℕ) (a c : ℕ) (run : List ℕ) : Type 0 where
+  pub heights : run ≡ heightsOf (take (2 * c) (drop a p))
+  pub left : c ≤ s .listing .input .left
+  pub some : 0 < c
+  pub room : a + 2 * c ≤ length p
+
+-- a part of m places was lent to read n heights and came back
+module _ (run part : List ℕ) (m n : ℕ) (fits : m ≤ length run) (same : length part ≡ length (take m run)) where
+  pub back-size : length (part ++ drop m run) ≡ length run
+  back-size = length-append part (drop m run) ∙ simp length-drop (omega (arith, length-take-le m run fits))
+
+  pub back-room : n ≤ length (take m run) → n ≤ length (part ++ drop m run)
+  back-room h = omega (arith, back-size, length-take-le m run fits)
+
+pub run-read : (s : Scene) (p run part : List ℕ) (a m n : ℕ) → m ≡ min (s .listing .input .left) (length run) → 0 < s .listing .input .left → 0 < length run → a + 2 ≤ length p
+    → n ≡ min ((length p - a) / 2) (length (take m run)) → part ≡ heightsOf (take (2 * n) (drop a p)) ++ drop n (take m run) → Run s p a n (take n (part ++ drop m run))
+run-read s p run part a m n em hl hr hp en ep =
+    let size : length (take m run) ≡ m = length-take-le m run (omega arith) in
+    let room : a + 2 * n ≤ length p = omega arith in
+    record {
+      heights =
+          ap (λ x. take n (x ++ drop m run)) ep
+          ∙ ap (take n) (append-assoc (heightsOf (take (2 * n) (drop a p))) (drop n (take m run)) (drop m run))
+          ∙ take-at (heightsOf (take (2 * n) (drop a p))) (drop n (take m run) ++ drop m run) n (heights-size p a n room);
+      left = omega arith;
+      some = omega arith;
+      room = room;
+    }
+
+module _ (n k : ℕ) (s : Scene) (p : List ℕ) (a c : ℕ) (run : List ℕ) (j : Took) (r : Run s p a c run) (reply : gives j ≡ offerReply (s .listing .writer) n run (s .store)) where
+  abbrev bytes : List ℕ
+  bytes = take (2 * c) (drop a p)
+
+  count : length run ≡ c
+  count = ap length (r .heights) ∙ heights-size p a c (r .room)
+
+  pub taken-room : a + 2 * j .taken ≤ length p
+  taken-room = omega (arith, passed (s .listing .writer) n run (s .store) j reply .most, count, r .room)
+
+  pub heights-on : (m : ℕ) (i : Input) (x₁ : Memory) (l : Listing) {x′ z′ : Memory} → Idle s → s .listing .input .phase ≡ 3 → s .listing .input .samples .half ≡ false
+      → m ≡ n → i ≡ heightsCame (j .taken) (s .listing .input) → x₁ ≡ offerStore (s .listing .writer) n run (s .store)
+      → Leaves (drawScene m k i (j .writer) x₁ (s .row)) l x′ z′ → Reads n k s p a (a + 2 * j .taken) (scene l x′ z′)
+  heights-on m i x₁ l {x′} {z′} idle phase whole em ei ex f =
+      let y = passed (s .listing .writer) n run (s .store) j reply in
+      let some : 0 < j .taken = y .some (omega (arith, count, r .some)) in
+      let most : 2 * j .taken ≤ 2 * c = omega (arith, y .most, count) in
+      let cut : take (2 * j .taken) bytes ≡ take (2 * j .taken) (drop a p) = take-take (2 * j .taken) (2 * c) (drop a p) most in
+      let size : length (take (2 * j .taken) bytes) ≡ 2 * j .taken =
+      ap length cut ∙ length-take-le (2 * j .taken) (drop a p) (simp length-drop (omega (arith, taken-room))) in
+      record {
+        bytes = take (2 * j .taken) bytes;
+        goes =
+            one
+            (offers bytes j idle phase whole
+            (omega (arith, sym (ap length (r .heights)), count, r .left))
+            (ap (λ y. offerReply (s .listing .writer) n y (s .store)) (sym (r .heights)) ∙ sym reply)
+            some refl refl
+            (left-is f ∙ cc (em, ei, ex, r .heights)));
+        read = sym (ap (λ y. y ++ drop (a + 2 * j .taken) p) cut ∙ ap (λ y. take (2 * j .taken) (drop a p) ++ y) (sym (drop-drop (2 * j .taken) a p)) ∙ take-append-drop (2 * j .taken) (drop a p));
+        used = ap (λ y. a + y) (sym size);
+        part = taken-room;
+        some = omega arith;
+      }
+
+-- an offer that was turned away left the store as it was
+pub still-there : {n n′ k : ℕ} {l : Listing} {x x′ z : Memory} {p : List ℕ} {a a′ : ℕ} {s′ : Scene} → n′ ≡ n → x′ ≡ x → Reads n′ k (scene l x′ z) p a a′ s′ → Reads n k (scene l x z) p a a′ s′
+still-there {n} {n′} {k} {l} {x} {x′} {z} {p} {a} {a′} {s′} en ex r =
+    subst (λ y. Reads n k (scene l y z) p a a′ s′) ex (subst (λ y. Reads y k (scene l x′ z) p a a′ s′) en r)
