@@ -68,6 +68,47 @@ fn writer_reader_and_whole_map_agree() {
     }
 }
 
+/// Saved after every call, and on from the copy: the same rows and the same heights.
+#[test]
+fn a_stream_is_its_numbers_and_its_store() {
+    let s = Shape { width: 5, height: 9, levels: 2 };
+    let heights = map(s.width, s.height);
+    let mut store = vec![0; store_length(s.width, s.levels)];
+    let writer = Writer::new(s.width, s.levels, &mut store).unwrap();
+    let (mut state, mut saved) = (writer.state(), writer.store().to_vec());
+    let (mut line, mut rows, mut taken) = (vec![0; s.width], HashMap::new(), 0);
+    loop {
+        let mut copy = std::mem::take(&mut saved);
+        let mut writer = Writer::resume(state, &mut copy);
+        if let Some((row, values)) = writer.draw(&mut line).unwrap() {
+            rows.insert(row, values.to_vec());
+        } else if taken < heights.len() {
+            taken += writer.offer(&heights[taken..]).unwrap();
+        } else if writer.finish().is_err() {
+            break;
+        }
+        (state, saved) = (writer.state(), writer.store().to_vec());
+    }
+    assert_eq!(rows, rows_of(&heights, s, 1));
+
+    let reader = Reader::new(s.width, s.height, s.levels, &mut store).unwrap();
+    let (mut state, mut saved) = (reader.state(), reader.store().to_vec());
+    let (mut line, mut again) = (vec![0; s.width], Vec::new());
+    loop {
+        let mut copy = std::mem::take(&mut saved);
+        let mut reader = Reader::resume(state, &mut copy);
+        match reader.want().unwrap() {
+            Want::Row(row) => reader.feed(&rows[&row]).unwrap(),
+            Want::Draw => again.extend_from_slice(reader.draw(&mut line).unwrap().expect("a row to draw")),
+            _ => break,
+        }
+        (state, saved) = (reader.state(), reader.store().to_vec());
+    }
+    assert_eq!(again, heights);
+    assert_eq!(Writer::resume(state, &mut store).finish().unwrap_err().number, 1);
+    assert_eq!(Reader::resume([0; 16], &mut store).want().unwrap_err().number, 1);
+}
+
 #[test]
 fn a_line() {
     let (mut out, mut again) = ([0; 5], [0; 5]);
