@@ -129,6 +129,9 @@ static void set_up(Slot *s, int kind)
     size_t w = size(), h = size(), levels = below(8) ? 1 + below(5) : number(), needed = model_store(w, levels);
     if (kind == READER && h > MOST_HEIGHT) needed = 0;
     unsigned more = byte();
+    int32_t *old = s->store;
+    size_t old_len = s->store_len;
+    s->store = NULL;
     new_store(s, needed + (more < 200 ? more % 4 : 0) - (needed && more >= 240 ? 1 : 0));
     lend(s);
     uint32_t answer = kind == WRITER ? terrain_writer_set_up(lent_state, w, levels, lent_store, lent_len)
@@ -142,7 +145,12 @@ static void set_up(Slot *s, int kind)
                                                                        : 0;
     HOLDS(answer == first);
     HOLDS(!answer || (area_is(&state_area, s->state) && area_is(&store_area, s->store)));
-    if (answer) return;
+    if (answer) { /* the stream that is under way goes on */
+        free(s->store);
+        s->store = old, s->store_len = old_len;
+        return;
+    }
+    free(old);
     HOLDS(counts_fit(lent_state, kind));
     for (size_t i = 0; i < needed; i++) HOLDS(lent_store[i] == 0);
     if (lent_len > needed) HOLDS(memcmp(lent_store + needed, s->store + needed, (lent_len - needed) * sizeof *s->store) == 0);
