@@ -179,3 +179,30 @@ fn a_question_prints_a_sentence() {
     let e = reader.feed(&[1]).unwrap_err();
     assert!(e.to_string().starts_with("no band row is wanted now"));
 }
+
+/// docs/DECISIONS.md, "The questions, call by call".
+#[test]
+fn every_question_of_every_call_has_a_sentence() {
+    let questions: [(Call, &[u32]); 12] = [
+        (Call::Line, &[5]),
+        (Call::MapForward, &[2, 3, 4, 5]),
+        (Call::MapBackward, &[2, 3, 4, 5, 7, 14]),
+        (Call::View, &[2, 3, 4, 5, 6]),
+        (Call::WriterSetUp, &[2, 4, 5]),
+        (Call::Offer, &[1, 5, 9, 8, 10]),
+        (Call::WriterDraw, &[1, 5, 12]),
+        (Call::Finish, &[1, 5, 9, 8, 11]),
+        (Call::ReaderSetUp, &[2, 3, 4, 5]),
+        (Call::Want, &[1]),
+        (Call::Feed, &[1, 5, 9, 8, 13, 7, 14]),
+        (Call::ReaderDraw, &[1, 5, 9, 12, 14]),
+    ];
+    let none = Question { call: Call::Line, number: 0 }.sentence();
+    for (call, numbers) in questions {
+        for &number in numbers {
+            let question = Question { call, number };
+            assert_ne!(question.sentence(), none, "{question:?}");
+            assert_eq!(question.to_string(), format!("{} (question {number})", question.sentence()));
+        }
+    }
+}
