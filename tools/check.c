@@ -77,7 +77,7 @@ static int check(const char *path, const Pgm *map, int32_t *plane, int32_t *stor
         uint32_t no = write_cut(map, levels, plane, store, store_len, line, &runs);
         if (!no) no = read_back(map, levels, plane, store, store_len, heights, &row);
         if (no || row != map->height) {
-            fprintf(stderr, "%s: at %u levels: ", path, (unsigned)levels);
+            fprintf(stderr, "%s%s: at %u levels: ", map->width * map->height >= LARGE ? "\n" : "", path, (unsigned)levels);
             if (no) fprintf(stderr, "%s (question %u)\n", question_sentence(no), (unsigned)no);
             else fprintf(stderr, "DIFFERENT: height row %lu is not the map's\n", (unsigned long)row);
             return 1;

@@ -1,21 +1,23 @@
 //! The whole-map calls and the view against the reference.
+use terrain::Call::{MapBackward, MapForward, View};
+use terrain::{map_backward, map_forward, raw, view, Band, Question, Shape};
 use terrain_tests::areas::Guarded;
-use terrain_tests::map::{self, Shape};
 use terrain_tests::maps::{self, forward, in_range, level_at, map_of, range, side, MAX_HEIGHT, MAX_LEVELS, MAX_WIDTH};
 use terrain_tests::random::Random;
+use terrain_tests::{refusal, UNSET};
 
 /// There and back: the plane is the reference's, the map comes back, the work area is zero, every surplus and guard untouched.
 fn there_and_back(heights: &[u16], s: Shape) {
     let n = s.width * s.height;
     let mut plane = Guarded::unset(n + 3);
     let mut work = Guarded::unset(n + 2);
-    assert_eq!(map::forward(heights, s, plane.lent(), work.lent()), 0, "{s:?}");
+    assert_eq!(map_forward(heights, s, plane.lent(), work.lent()), Ok(()), "{s:?}");
     assert_eq!(plane.content()[..n], forward(heights, s.width, s.height, s.levels), "{s:?}");
     assert!(work.content()[..n].iter().all(|&v| v == 0), "{s:?}: the work area is not zero");
     assert!(plane.is_unset_from(n) && work.is_unset_from(n), "{s:?}: a surplus is touched");
     let mut back = Guarded::<u16>::unset(n + 1);
     let mut work = Guarded::unset(n + 2);
-    assert_eq!(map::backward(plane.content(), s, back.lent(), work.lent()), 0, "{s:?}");
+    assert_eq!(map_backward(plane.content(), s, back.lent(), work.lent()), Ok(()), "{s:?}");
     assert_eq!(&back.content()[..n], heights, "{s:?}");
     assert!(work.content()[..n].iter().all(|&v| v == 0), "{s:?}: the work area is not zero");
     assert!(back.is_unset_from(n) && work.is_unset_from(n), "{s:?}: a surplus is touched");
@@ -59,7 +61,7 @@ fn check_backward(plane: &[i32], s: Shape) -> u32 {
     let mut heights = Guarded::<u16>::unset(n + 1);
     let mut work = Guarded::unset(n + 1);
     let lent = Guarded::new(plane);
-    let answer = map::backward(lent.content(), s, heights.lent(), work.lent());
+    let answer = map_backward(lent.content(), s, heights.lent(), work.lent()).map_or_else(|q| q.number, |()| 0);
     assert_eq!(lent.content(), plane, "the plane is changed");
     assert!(heights.is_unset_from(n) && work.is_unset_from(n), "{s:?}: a surplus is touched");
     match map_of(&plane[..n], s.width, s.height, s.levels) {
@@ -116,13 +118,13 @@ fn damaged_planes_are_turned_away_exactly_when_no_map_has_them() {
 fn the_samples_of_the_scope() {
     let s = Shape { width: 2, height: 2, levels: 1 };
     let mut plane = [0; 4];
-    assert_eq!(map::forward(&[0, 2, 1, 1], s, &mut plane, &mut [0; 4]), 0);
+    assert_eq!(map_forward(&[0, 2, 1, 1], s, &mut plane, &mut [0; 4]), Ok(()));
     assert_eq!(plane, [2, 1, 0, -2], "LL, HL, LH, HH");
     let column = Shape { width: 1, height: 4, levels: 2 };
-    assert_eq!(map::forward(&[1, 4, 2, 7], column, &mut plane, &mut [0; 4]), 0);
+    assert_eq!(map_forward(&[1, 4, 2, 7], column, &mut plane, &mut [0; 4]), Ok(()));
     assert_eq!(plane, [4, 1, 3, 5], "2 LL 0, 2 LH 0, 1 LH 0, 1 LH 1");
     let one = Shape { width: 1, height: 1, levels: 5 };
-    assert_eq!(map::forward(&[65_535], one, &mut plane, &mut [0; 4]), 0);
+    assert_eq!(map_forward(&[65_535], one, &mut plane, &mut [0; 4]), Ok(()));
     assert_eq!(plane[0], 65_535);
     assert_eq!(check_backward(&[65_535], one), 0);
     assert_eq!(check_backward(&[65_536], one), 14);
@@ -133,18 +135,38 @@ fn the_samples_of_the_scope() {
     assert_eq!(check_backward(&[0, -262_141], flat), 7);
 }
 
+/// Start and length, or the number of the question that says no. The raw call takes any code of a band, and sets nothing where it is turned
+/// away; where there is such a band, the wrapper says the same.
+fn band_row(plane_len: usize, s: Shape, level: usize, band: usize, row: usize) -> Result<(usize, usize), u32> {
+    let (mut start, mut length) = (UNSET, UNSET);
+    let number = raw::band_row(plane_len, s.width, s.height, s.levels, level, band, row, &mut start, &mut length);
+    if number != 0 {
+        assert_eq!((start, length), (UNSET, UNSET), "a refusal changes nothing");
+    }
+    let answer = if number == 0 { Ok((start, length)) } else { Err(number) };
+    if let Some(&band) = [Band::Ll, Band::Hl, Band::Lh, Band::Hh].get(band) {
+        let wrapped: Result<_, Question> = terrain::band_row(plane_len, s, level, band, row);
+        assert_eq!(wrapped, answer.map(|(start, length)| start..start + length).or_else(|number| refusal(View, number)));
+        if plane_len < 100 {
+            let plane: Vec<i32> = (0..plane_len as i32).collect();
+            assert_eq!(view(&plane, s, level, band, row), wrapped.map(|place| &plane[place]));
+        }
+    }
+    answer
+}
+
 /// Both calls are turned away with `number`, and nothing lent has changed.
 fn refused(s: Shape, lens: [usize; 3], number: u32) {
     let mut a = Guarded::<u16>::unset(lens[0]);
     let mut b = Guarded::unset(lens[1]);
     let mut c = Guarded::unset(lens[2]);
     let heights = Guarded::<u16>::unset(lens[0]);
-    assert_eq!(map::forward(heights.content(), s, b.lent(), c.lent()), number, "{s:?} {lens:?}");
+    assert_eq!(map_forward(heights.content(), s, b.lent(), c.lent()), refusal(MapForward, number), "{s:?} {lens:?}");
     assert!(b.is_unset_from(0) && c.is_unset_from(0));
     let plane = Guarded::unset(lens[1]);
-    assert_eq!(map::backward(plane.content(), s, a.lent(), c.lent()), number, "{s:?} {lens:?}");
+    assert_eq!(map_backward(plane.content(), s, a.lent(), c.lent()), refusal(MapBackward, number), "{s:?} {lens:?}");
     assert!(a.is_unset_from(0) && c.is_unset_from(0));
-    assert_eq!(map::band_row(lens[1], s, 1, 3, 0), Err(number), "{s:?} {lens:?}");
+    assert_eq!(band_row(lens[1], s, 1, 3, 0), Err(number), "{s:?} {lens:?}");
 }
 
 #[test]
@@ -169,7 +191,7 @@ fn the_questions_in_their_order() {
     refused(ok, [0, 0, 0], 5);
     let mut plane = Guarded::unset(9);
     let mut work = Guarded::unset(8);
-    assert_eq!(map::forward(&[1; 9], ok, plane.lent(), work.lent()), 5);
+    assert_eq!(map_forward(&[1; 9], ok, plane.lent(), work.lent()), refusal(MapForward, 5));
     assert!(plane.is_unset_from(0) && work.is_unset_from(0));
     let wide = Shape { width: MAX_WIDTH, height: 1, levels: MAX_LEVELS };
     there_and_back(&vec![7; MAX_WIDTH], wide);
@@ -185,7 +207,7 @@ fn the_view_is_the_plane_s_band_row() {
                 for level in 0..=levels + 1 {
                     for band in [0, 1, 2, 3, 4, 255, 256, 257, usize::MAX] {
                         for row in (0..=height).chain([usize::MAX]) {
-                            let got = map::band_row(width * height + 2, s, level, band, row);
+                            let got = band_row(width * height + 2, s, level, band, row);
                             assert_eq!(got, expected(s, level, band, row).ok_or(6), "{s:?} {level} {band} {row}");
                             if let Ok((start, length)) = got {
                                 covered[start..start + length].iter_mut().for_each(|n| *n += 1);

@@ -1,12 +1,13 @@
 //! The reader against the independent transform and the independent steps, and round trips through writer and reader.
 use std::collections::HashMap;
+use terrain::raw::State;
+use terrain::{map_backward, Reader, Shape, Writer};
 use terrain_tests::areas::Guarded;
-use terrain_tests::map::{self, Shape};
 use terrain_tests::maps::{self, MAX_HEIGHT, MAX_LEVELS, MAX_WIDTH};
 use terrain_tests::order::{self, BandRow, Step, Turn};
 use terrain_tests::random::Random;
 use terrain_tests::reader::{self, Want};
-use terrain_tests::{writer, State};
+use terrain_tests::writer;
 
 /// Numbers lent beyond what a line store needs.
 const SURPLUS: usize = 5;
@@ -254,8 +255,8 @@ fn damaged(s: Shape, random: &mut Random) -> Vec<i32> {
 fn same_verdict(plane: &[i32], s: Shape, random: &mut Random) -> u32 {
     let number = Play::new(plane, s).run(random);
     let n = s.width * s.height;
-    let whole = map::backward(plane, s, &mut vec![0; n], &mut vec![0; n]);
-    assert_eq!(number == 0, whole == 0, "{s:?}: the reader gives {number}, the whole map {whole}");
+    let whole = map_backward(plane, s, &mut vec![0; n], &mut vec![0; n]);
+    assert_eq!(number == 0, whole.is_ok(), "{s:?}: the reader gives {number}, the whole map {whole:?}");
     assert_eq!(number == 0, maps::map_of(plane, s.width, s.height, s.levels).is_some(), "{s:?}");
     assert!([0, 7, 14].contains(&number), "{s:?}: {number}");
     number
@@ -313,36 +314,29 @@ fn the_samples_of_the_scope() {
 
 /// Through a writer and a reader, with nothing between them but the rows: the heights again.
 fn round_trip(heights: &[u16], s: Shape) {
-    let needed = order::store_length(s.width, s.levels);
-    let (mut state, mut store) = ([0; 16], Guarded::unset(needed));
-    assert_eq!(writer::set_up(&mut state, s.width, s.levels, store.lent()), Ok(()));
-    let mut rows: HashMap<(usize, usize, usize), Vec<i32>> = HashMap::new();
+    let mut store = Guarded::unset(order::store_length(s.width, s.levels));
+    let mut writer = Writer::new(s.width, s.levels, store.lent()).unwrap();
+    let mut rows: HashMap<terrain::BandRow, Vec<i32>> = HashMap::new();
     let mut out = vec![0; s.width];
-    let mut taken = 0;
+    let mut rest = heights;
     loop {
-        if let Some(r) = writer::draw(&mut state, store.lent(), &mut out).unwrap() {
-            assert!(rows.insert((r.level, r.band, r.row), out[..r.length].to_vec()).is_none(), "{s:?}: {r:?} twice");
-        } else if taken < heights.len() {
-            taken += writer::offer(&mut state, store.lent(), &heights[taken..]).unwrap();
-        } else if writer::finish(&mut state, store.lent()) == Err(9) {
+        if let Some((r, values)) = writer.draw(&mut out).unwrap() {
+            assert!(rows.insert(r, values.to_vec()).is_none(), "{s:?}: {r:?} twice");
+        } else if !rest.is_empty() {
+            rest = &rest[writer.offer(rest).unwrap()..];
+        } else if writer.finish().is_err_and(|q| q.number == 9) {
             break;
         }
     }
-    assert_eq!(reader::set_up(&mut state, s, store.lent()), Ok(()));
+    let mut reader = Reader::new(s.width, s.height, s.levels, store.lent()).unwrap();
     let mut drawn: Vec<u16> = Vec::new();
     let mut line = vec![0; s.width];
     loop {
-        match reader::want(&state).unwrap() {
-            Want::Row(r) => {
-                let run = rows.remove(&(r.level, r.band, r.row)).expect("a row that the writer made, once");
-                reader::feed(&mut state, store.lent(), &run).unwrap();
-            }
-            Want::Draw => {
-                assert_eq!(reader::draw(&mut state, store.lent(), &mut line), Ok(s.width));
-                drawn.extend_from_slice(&line);
-            }
-            Want::Done => break,
-            Want::Ended => panic!("{s:?}: a map's rows are refused"),
+        match reader.want().unwrap() {
+            terrain::Want::Row(r) => reader.feed(&rows.remove(&r).expect("a row that the writer made, once")).unwrap(),
+            terrain::Want::Draw => drawn.extend_from_slice(reader.draw(&mut line).unwrap().expect("a row to draw")),
+            terrain::Want::Done => break,
+            terrain::Want::Ended => panic!("{s:?}: a map's rows are refused"),
         }
     }
     store.content();

@@ -1,10 +1,11 @@
 //! The writer against the independent transform and the independent order.
+use terrain::raw::State;
+use terrain::{store_length, Band, Shape, Writer};
 use terrain_tests::areas::Guarded;
-use terrain_tests::map::Shape;
 use terrain_tests::maps::{self, MAX_HEIGHT, MAX_LEVELS, MAX_WIDTH};
-use terrain_tests::order::{self, BandRow};
+use terrain_tests::order;
 use terrain_tests::random::Random;
-use terrain_tests::{writer, State};
+use terrain_tests::writer;
 
 /// Numbers lent beyond what a line store needs.
 const SURPLUS: usize = 5;
@@ -197,23 +198,22 @@ fn a_run_is_taken_up_to_the_first_row_that_waits() {
 
 #[test]
 fn the_column_of_the_scope() {
-    let mut state = [0; 16];
-    let mut store = vec![9; order::store_length(1, 2)];
-    assert_eq!(writer::set_up(&mut state, 1, 2, &mut store), Ok(()));
-    let mut drawn = Vec::new();
-    let mut draw = |state: &mut State, store: &mut [i32]| {
-        let mut out = [0];
-        while let Some(BandRow { level, band, row, length: 1 }) = writer::draw(state, store, &mut out).unwrap() {
-            drawn.push((level, band, row, out[0]));
+    fn draw(writer: &mut Writer, drawn: &mut Vec<(usize, Band, usize, Vec<i32>)>) {
+        while let Some((r, values)) = writer.draw(&mut [0]).unwrap() {
+            drawn.push((r.level, r.band, r.row, values.to_vec()));
         }
-    };
-    for height in [1, 4, 2, 7] {
-        assert_eq!(writer::offer(&mut state, &mut store, &[height]), Ok(1));
-        draw(&mut state, &mut store);
     }
-    assert_eq!(writer::finish(&mut state, &mut store), Ok(()));
-    draw(&mut state, &mut store);
-    assert_eq!(drawn, [(1, order::LH, 0, 3), (1, order::LH, 1, 5), (2, order::LL, 0, 4), (2, order::LH, 0, 1)]);
+    let mut store = vec![9; store_length(1, 2)];
+    let mut writer = Writer::new(1, 2, &mut store).unwrap();
+    let mut drawn = Vec::new();
+    for height in [1, 4, 2, 7] {
+        assert_eq!(writer.offer(&[height]), Ok(1));
+        draw(&mut writer, &mut drawn);
+    }
+    assert_eq!(writer.finish(), Ok(()));
+    draw(&mut writer, &mut drawn);
+    let expected = [(1, Band::Lh, 0, 3), (1, Band::Lh, 1, 5), (2, Band::Ll, 0, 4), (2, Band::Lh, 0, 1)];
+    assert_eq!(drawn, expected.map(|(level, band, row, value)| (level, band, row, vec![value])));
 }
 
 #[test]
@@ -226,19 +226,19 @@ fn the_questions_of_set_up() {
     for width in [0, MAX_WIDTH + 1, 1 << 32, usize::MAX] {
         for levels in [0, 1, 6, usize::MAX] {
             refused(width, levels, 0, 2);
-            assert_eq!(writer::store_length(width, levels), 0);
+            assert_eq!(store_length(width, levels), 0);
         }
     }
     for width in [1, 9, MAX_WIDTH] {
         for levels in [0, MAX_LEVELS + 1, 1 << 32, usize::MAX] {
             refused(width, levels, 0, 4);
-            assert_eq!(writer::store_length(width, levels), 0);
+            assert_eq!(store_length(width, levels), 0);
         }
     }
     for width in (1..=40).chain([1_024, 1_025, MAX_WIDTH]) {
         for levels in 1..=MAX_LEVELS {
             let needed = order::store_length(width, levels);
-            assert_eq!(writer::store_length(width, levels), needed);
+            assert_eq!(store_length(width, levels), needed);
             refused(width, levels, needed - 1, 5);
             refused(width, levels, 0, 5);
             let mut store = Guarded::unset(needed);

@@ -41,10 +41,12 @@
 //! # Ok(())
 //! # }
 //! ```
+#![deny(unsafe_code)]
+
 mod line;
 mod map;
 mod question;
-mod raw;
+pub mod raw;
 mod reader;
 mod writer;
 
@@ -89,6 +91,5 @@ impl BandRow {
 
 /// How many numbers the line store of a writer or reader needs; 0 where no set-up passes.
 pub fn store_length(width: usize, levels: usize) -> usize {
-    // SAFETY: numbers only.
-    unsafe { raw::terrain_store_length(width, levels) }
+    raw::store_length(width, levels)
 }

@@ -1,6 +1,5 @@
 //! The whole map at once, and the band rows of its plane.
-use crate::raw;
-use crate::{Band, Call, Question};
+use crate::{raw, Band, Call, Question};
 use std::ops::Range;
 
 /// Width, height and levels of a map.
@@ -13,57 +12,20 @@ pub struct Shape {
 
 /// The plane of a map's coefficients. Each area has at least width times height numbers, and those of `work` are zero afterwards.
 pub fn map_forward(heights: &[u16], s: Shape, plane: &mut [i32], work: &mut [i32]) -> Result<(), Question> {
-    // SAFETY: every area is a whole slice, and one that is written overlaps no other.
-    Question::of(Call::MapForward, unsafe {
-        raw::terrain_map_forward(
-            heights.as_ptr(),
-            heights.len(),
-            s.width,
-            s.height,
-            s.levels,
-            plane.as_mut_ptr(),
-            plane.len(),
-            work.as_mut_ptr(),
-            work.len(),
-        )
-    })
+    Question::of(Call::MapForward, raw::map_forward(heights, s.width, s.height, s.levels, plane, work))
 }
 
 /// The one map that has this plane, or 7 or 14: none has it. 14 zeroes `heights` and `work`.
 pub fn map_backward(plane: &[i32], s: Shape, heights: &mut [u16], work: &mut [i32]) -> Result<(), Question> {
-    // SAFETY: as above.
-    Question::of(Call::MapBackward, unsafe {
-        raw::terrain_map_backward(
-            plane.as_ptr(),
-            plane.len(),
-            s.width,
-            s.height,
-            s.levels,
-            heights.as_mut_ptr(),
-            heights.len(),
-            work.as_mut_ptr(),
-            work.len(),
-        )
-    })
+    Question::of(Call::MapBackward, raw::map_backward(plane, s.width, s.height, s.levels, heights, work))
 }
 
 /// Where a band row stands in a plane of `plane_len` numbers.
 pub fn band_row(plane_len: usize, s: Shape, level: usize, band: Band, row: usize) -> Result<Range<usize>, Question> {
     let (mut start, mut length) = (0, 0);
-    // SAFETY: the two numbers that are written are ours alone.
-    Question::of(Call::View, unsafe {
-        raw::terrain_band_row(
-            plane_len,
-            s.width,
-            s.height,
-            s.levels,
-            level,
-            band as usize,
-            row,
-            &mut start,
-            &mut length,
-        )
-    })?;
+    let answer =
+        raw::band_row(plane_len, s.width, s.height, s.levels, level, band as usize, row, &mut start, &mut length);
+    Question::of(Call::View, answer)?;
     Ok(start..start + length)
 }
 

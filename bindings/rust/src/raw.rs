@@ -1,92 +1,189 @@
-//! `include/terrain.h`, call by call.
-extern "C" {
-    pub fn terrain_line_forward(line: *const i32, line_len: usize, out: *mut i32, out_len: usize) -> u32;
-    pub fn terrain_line_backward(
-        coefficients: *const i32,
-        coefficients_len: usize,
-        out: *mut i32,
-        out_len: usize,
-    ) -> u32;
-    pub fn terrain_map_forward(
-        heights: *const u16,
-        heights_len: usize,
-        width: usize,
-        height: usize,
-        levels: usize,
-        plane: *mut i32,
-        plane_len: usize,
-        work: *mut i32,
-        work_len: usize,
-    ) -> u32;
-    pub fn terrain_map_backward(
-        plane: *const i32,
-        plane_len: usize,
-        width: usize,
-        height: usize,
-        levels: usize,
-        heights: *mut u16,
-        heights_len: usize,
-        work: *mut i32,
-        work_len: usize,
-    ) -> u32;
-    pub fn terrain_band_row(
-        plane_len: usize,
-        width: usize,
-        height: usize,
-        levels: usize,
-        level: usize,
-        band: usize,
-        row: usize,
-        start: *mut usize,
-        length: *mut usize,
-    ) -> u32;
-    pub fn terrain_store_length(width: usize, levels: usize) -> usize;
-    pub fn terrain_writer_set_up(
-        state: *mut u64,
-        width: usize,
-        levels: usize,
-        store: *mut i32,
-        store_len: usize,
-    ) -> u32;
-    pub fn terrain_writer_offer(
-        state: *mut u64,
-        store: *mut i32,
-        store_len: usize,
-        run: *const u16,
-        run_len: usize,
-        taken: *mut usize,
-    ) -> u32;
-    pub fn terrain_writer_draw(
-        state: *mut u64,
-        store: *mut i32,
-        store_len: usize,
-        out: *mut i32,
-        out_len: usize,
-        row: *mut u64,
-    ) -> u32;
-    pub fn terrain_writer_finish(state: *mut u64, store: *mut i32, store_len: usize) -> u32;
-    pub fn terrain_reader_set_up(
-        state: *mut u64,
-        width: usize,
-        height: usize,
-        levels: usize,
-        store: *mut i32,
-        store_len: usize,
-    ) -> u32;
-    pub fn terrain_reader_want(state: *const u64, want: *mut u64) -> u32;
-    pub fn terrain_reader_feed(
-        state: *mut u64,
-        store: *mut i32,
-        store_len: usize,
-        run: *const i32,
-        run_len: usize,
-    ) -> u32;
-    pub fn terrain_reader_draw(
-        state: *mut u64,
-        store: *mut i32,
-        store_len: usize,
-        out: *mut u16,
-        out_len: usize,
-        drawn: *mut usize,
-    ) -> u32;
+//! `include/terrain.h`, call by call: slices for areas, the answer as its number, and the numbers that a call sets as it leaves them.
+//!
+//! It is for programs that keep states and stores in places of their own, and for tests that lend what no call has made; everything else in
+//! this crate stands on it. Each call is safe with every argument: the library is total, and slices keep the rules at the top of the header
+//! (areas are as long as they say, one that is written overlaps no other, no pointer is null). All unsafe code of the crate is in this file.
+#![allow(unsafe_code)]
+
+/// A writer or reader as the library keeps it. Any numbers may be lent: those that are no state of the call's kind are answered by 1.
+pub type State = [u64; 16];
+
+mod c {
+    extern "C" {
+        pub fn terrain_line_forward(line: *const i32, line_len: usize, out: *mut i32, out_len: usize) -> u32;
+        pub fn terrain_line_backward(
+            coefficients: *const i32,
+            coefficients_len: usize,
+            out: *mut i32,
+            out_len: usize,
+        ) -> u32;
+        pub fn terrain_map_forward(
+            heights: *const u16,
+            heights_len: usize,
+            width: usize,
+            height: usize,
+            levels: usize,
+            plane: *mut i32,
+            plane_len: usize,
+            work: *mut i32,
+            work_len: usize,
+        ) -> u32;
+        pub fn terrain_map_backward(
+            plane: *const i32,
+            plane_len: usize,
+            width: usize,
+            height: usize,
+            levels: usize,
+            heights: *mut u16,
+            heights_len: usize,
+            work: *mut i32,
+            work_len: usize,
+        ) -> u32;
+        pub fn terrain_band_row(
+            plane_len: usize,
+            width: usize,
+            height: usize,
+            levels: usize,
+            level: usize,
+            band: usize,
+            row: usize,
+            start: *mut usize,
+            length: *mut usize,
+        ) -> u32;
+        pub fn terrain_store_length(width: usize, levels: usize) -> usize;
+        pub fn terrain_writer_set_up(
+            state: *mut [u64; 16],
+            width: usize,
+            levels: usize,
+            store: *mut i32,
+            store_len: usize,
+        ) -> u32;
+        pub fn terrain_writer_offer(
+            state: *mut [u64; 16],
+            store: *mut i32,
+            store_len: usize,
+            run: *const u16,
+            run_len: usize,
+            taken: *mut usize,
+        ) -> u32;
+        pub fn terrain_writer_draw(
+            state: *mut [u64; 16],
+            store: *mut i32,
+            store_len: usize,
+            out: *mut i32,
+            out_len: usize,
+            row: *mut [u64; 4],
+        ) -> u32;
+        pub fn terrain_writer_finish(state: *mut [u64; 16], store: *mut i32, store_len: usize) -> u32;
+        pub fn terrain_reader_set_up(
+            state: *mut [u64; 16],
+            width: usize,
+            height: usize,
+            levels: usize,
+            store: *mut i32,
+            store_len: usize,
+        ) -> u32;
+        pub fn terrain_reader_want(state: *const [u64; 16], want: *mut [u64; 5]) -> u32;
+        pub fn terrain_reader_feed(
+            state: *mut [u64; 16],
+            store: *mut i32,
+            store_len: usize,
+            run: *const i32,
+            run_len: usize,
+        ) -> u32;
+        pub fn terrain_reader_draw(
+            state: *mut [u64; 16],
+            store: *mut i32,
+            store_len: usize,
+            out: *mut u16,
+            out_len: usize,
+            drawn: *mut usize,
+        ) -> u32;
+    }
+}
+
+// SAFETY, of every call below: each area is a whole slice with its own length, each number that is set a reference, and Rust lets none of
+// those that are written overlap another.
+
+pub fn line_forward(line: &[i32], out: &mut [i32]) -> u32 {
+    unsafe { c::terrain_line_forward(line.as_ptr(), line.len(), out.as_mut_ptr(), out.len()) }
+}
+
+pub fn line_backward(coefficients: &[i32], out: &mut [i32]) -> u32 {
+    unsafe { c::terrain_line_backward(coefficients.as_ptr(), coefficients.len(), out.as_mut_ptr(), out.len()) }
+}
+
+pub fn map_forward(
+    heights: &[u16],
+    width: usize,
+    height: usize,
+    levels: usize,
+    plane: &mut [i32],
+    work: &mut [i32],
+) -> u32 {
+    let (from, to, between) = (heights.as_ptr(), plane.as_mut_ptr(), work.as_mut_ptr());
+    unsafe { c::terrain_map_forward(from, heights.len(), width, height, levels, to, plane.len(), between, work.len()) }
+}
+
+pub fn map_backward(
+    plane: &[i32],
+    width: usize,
+    height: usize,
+    levels: usize,
+    heights: &mut [u16],
+    work: &mut [i32],
+) -> u32 {
+    let (from, to, between) = (plane.as_ptr(), heights.as_mut_ptr(), work.as_mut_ptr());
+    unsafe { c::terrain_map_backward(from, plane.len(), width, height, levels, to, heights.len(), between, work.len()) }
+}
+
+#[allow(clippy::too_many_arguments)]
+pub fn band_row(
+    plane_len: usize,
+    width: usize,
+    height: usize,
+    levels: usize,
+    level: usize,
+    band: usize,
+    row: usize,
+    start: &mut usize,
+    length: &mut usize,
+) -> u32 {
+    unsafe { c::terrain_band_row(plane_len, width, height, levels, level, band, row, start, length) }
+}
+
+pub fn store_length(width: usize, levels: usize) -> usize {
+    unsafe { c::terrain_store_length(width, levels) }
+}
+
+pub fn writer_set_up(state: &mut State, width: usize, levels: usize, store: &mut [i32]) -> u32 {
+    unsafe { c::terrain_writer_set_up(state, width, levels, store.as_mut_ptr(), store.len()) }
+}
+
+pub fn writer_offer(state: &mut State, store: &mut [i32], run: &[u16], taken: &mut usize) -> u32 {
+    unsafe { c::terrain_writer_offer(state, store.as_mut_ptr(), store.len(), run.as_ptr(), run.len(), taken) }
+}
+
+pub fn writer_draw(state: &mut State, store: &mut [i32], out: &mut [i32], row: &mut [u64; 4]) -> u32 {
+    unsafe { c::terrain_writer_draw(state, store.as_mut_ptr(), store.len(), out.as_mut_ptr(), out.len(), row) }
+}
+
+pub fn writer_finish(state: &mut State, store: &mut [i32]) -> u32 {
+    unsafe { c::terrain_writer_finish(state, store.as_mut_ptr(), store.len()) }
+}
+
+pub fn reader_set_up(state: &mut State, width: usize, height: usize, levels: usize, store: &mut [i32]) -> u32 {
+    unsafe { c::terrain_reader_set_up(state, width, height, levels, store.as_mut_ptr(), store.len()) }
+}
+
+pub fn reader_want(state: &State, want: &mut [u64; 5]) -> u32 {
+    unsafe { c::terrain_reader_want(state, want) }
+}
+
+pub fn reader_feed(state: &mut State, store: &mut [i32], run: &[i32]) -> u32 {
+    unsafe { c::terrain_reader_feed(state, store.as_mut_ptr(), store.len(), run.as_ptr(), run.len()) }
+}
+
+pub fn reader_draw(state: &mut State, store: &mut [i32], out: &mut [u16], drawn: &mut usize) -> u32 {
+    unsafe { c::terrain_reader_draw(state, store.as_mut_ptr(), store.len(), out.as_mut_ptr(), out.len(), drawn) }
 }

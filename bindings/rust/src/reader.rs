@@ -1,5 +1,5 @@
 //! Band rows in, heights out.
-use crate::raw;
+use crate::raw::{self, State};
 use crate::{BandRow, Call, Question};
 
 /// What a reader wants next.
@@ -18,7 +18,7 @@ pub enum Want {
 /// A reader and the line store lent to it.
 #[derive(Debug)]
 pub struct Reader<'s> {
-    state: [u64; 16],
+    state: State,
     store: &'s mut [i32],
 }
 
@@ -26,18 +26,30 @@ impl<'s> Reader<'s> {
     /// A reader of a map of that size. The store has at least [`crate::store_length`] numbers; what stood in them is lost.
     pub fn new(width: usize, height: usize, levels: usize, store: &'s mut [i32]) -> Result<Self, Question> {
         let mut state = [0; 16];
-        // SAFETY: the state has sixteen numbers, the store is a whole slice, and they do not overlap.
-        Question::of(Call::ReaderSetUp, unsafe {
-            raw::terrain_reader_set_up(state.as_mut_ptr(), width, height, levels, store.as_mut_ptr(), store.len())
-        })?;
+        Question::of(Call::ReaderSetUp, raw::reader_set_up(&mut state, width, height, levels, store))?;
         Ok(Reader { state, store })
+    }
+
+    /// A reader that goes on from a state and the store that belongs to it, as [`Reader::state`] and [`Reader::store`] gave them. Numbers
+    /// that are no reader's state are answered by question 1 in every call.
+    pub fn resume(state: State, store: &'s mut [i32]) -> Self {
+        Reader { state, store }
+    }
+
+    /// The reader's numbers: with what stands in its store they are the whole reader.
+    pub fn state(&self) -> State {
+        self.state
+    }
+
+    /// The line store as it stands.
+    pub fn store(&self) -> &[i32] {
+        self.store
     }
 
     /// What comes next. It depends on the map's size and the calls that passed, never on a coefficient, until 14 ends the reader.
     pub fn want(&self) -> Result<Want, Question> {
         let mut want = [0; 5];
-        // SAFETY: as above, and the want has five numbers.
-        Question::of(Call::Want, unsafe { raw::terrain_reader_want(self.state.as_ptr(), want.as_mut_ptr()) })?;
+        Question::of(Call::Want, raw::reader_want(&self.state, &mut want))?;
         let [kind, level, band, row, length] = want;
         Ok(match kind {
             0 => Want::Row(BandRow::of([level, band, row, length])),
@@ -49,32 +61,13 @@ impl<'s> Reader<'s> {
 
     /// The band row that is wanted, whole. 7 leaves the reader as it was; 14 ends it.
     pub fn feed(&mut self, run: &[i32]) -> Result<(), Question> {
-        // SAFETY: as above; the run is a whole slice, and it does not overlap the store, which is ours alone.
-        Question::of(Call::Feed, unsafe {
-            raw::terrain_reader_feed(
-                self.state.as_mut_ptr(),
-                self.store.as_mut_ptr(),
-                self.store.len(),
-                run.as_ptr(),
-                run.len(),
-            )
-        })
+        Question::of(Call::Feed, raw::reader_feed(&mut self.state, self.store, run))
     }
 
     /// The next height row, which stands at the front of `out`; `None`: none can be drawn now.
     pub fn draw<'o>(&mut self, out: &'o mut [u16]) -> Result<Option<&'o [u16]>, Question> {
         let mut drawn = 0;
-        // SAFETY: as above.
-        Question::of(Call::ReaderDraw, unsafe {
-            raw::terrain_reader_draw(
-                self.state.as_mut_ptr(),
-                self.store.as_mut_ptr(),
-                self.store.len(),
-                out.as_mut_ptr(),
-                out.len(),
-                &mut drawn,
-            )
-        })?;
+        Question::of(Call::ReaderDraw, raw::reader_draw(&mut self.state, self.store, out, &mut drawn))?;
         Ok((drawn > 0).then(|| &out[..drawn]))
     }
 }

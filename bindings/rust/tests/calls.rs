@@ -68,6 +68,47 @@ fn writer_reader_and_whole_map_agree() {
     }
 }
 
+/// Saved after every call, and on from the copy: the same rows and the same heights.
+#[test]
+fn a_stream_is_its_numbers_and_its_store() {
+    let s = Shape { width: 5, height: 9, levels: 2 };
+    let heights = map(s.width, s.height);
+    let mut store = vec![0; store_length(s.width, s.levels)];
+    let writer = Writer::new(s.width, s.levels, &mut store).unwrap();
+    let (mut state, mut saved) = (writer.state(), writer.store().to_vec());
+    let (mut line, mut rows, mut taken) = (vec![0; s.width], HashMap::new(), 0);
+    loop {
+        let mut copy = std::mem::take(&mut saved);
+        let mut writer = Writer::resume(state, &mut copy);
+        if let Some((row, values)) = writer.draw(&mut line).unwrap() {
+            rows.insert(row, values.to_vec());
+        } else if taken < heights.len() {
+            taken += writer.offer(&heights[taken..]).unwrap();
+        } else if writer.finish().is_err() {
+            break;
+        }
+        (state, saved) = (writer.state(), writer.store().to_vec());
+    }
+    assert_eq!(rows, rows_of(&heights, s, 1));
+
+    let reader = Reader::new(s.width, s.height, s.levels, &mut store).unwrap();
+    let (mut state, mut saved) = (reader.state(), reader.store().to_vec());
+    let (mut line, mut again) = (vec![0; s.width], Vec::new());
+    loop {
+        let mut copy = std::mem::take(&mut saved);
+        let mut reader = Reader::resume(state, &mut copy);
+        match reader.want().unwrap() {
+            Want::Row(row) => reader.feed(&rows[&row]).unwrap(),
+            Want::Draw => again.extend_from_slice(reader.draw(&mut line).unwrap().expect("a row to draw")),
+            _ => break,
+        }
+        (state, saved) = (reader.state(), reader.store().to_vec());
+    }
+    assert_eq!(again, heights);
+    assert_eq!(Writer::resume(state, &mut store).finish().unwrap_err().number, 1);
+    assert_eq!(Reader::resume([0; 16], &mut store).want().unwrap_err().number, 1);
+}
+
 #[test]
 fn a_line() {
     let (mut out, mut again) = ([0; 5], [0; 5]);
@@ -137,4 +178,31 @@ fn a_question_prints_a_sentence() {
     reader.feed(&[1]).unwrap();
     let e = reader.feed(&[1]).unwrap_err();
     assert!(e.to_string().starts_with("no band row is wanted now"));
+}
+
+/// docs/DECISIONS.md, "The questions, call by call".
+#[test]
+fn every_question_of_every_call_has_a_sentence() {
+    let questions: [(Call, &[u32]); 12] = [
+        (Call::Line, &[5]),
+        (Call::MapForward, &[2, 3, 4, 5]),
+        (Call::MapBackward, &[2, 3, 4, 5, 7, 14]),
+        (Call::View, &[2, 3, 4, 5, 6]),
+        (Call::WriterSetUp, &[2, 4, 5]),
+        (Call::Offer, &[1, 5, 9, 8, 10]),
+        (Call::WriterDraw, &[1, 5, 12]),
+        (Call::Finish, &[1, 5, 9, 8, 11]),
+        (Call::ReaderSetUp, &[2, 3, 4, 5]),
+        (Call::Want, &[1]),
+        (Call::Feed, &[1, 5, 9, 8, 13, 7, 14]),
+        (Call::ReaderDraw, &[1, 5, 9, 12, 14]),
+    ];
+    let none = Question { call: Call::Line, number: 0 }.sentence();
+    for (call, numbers) in questions {
+        for &number in numbers {
+            let question = Question { call, number };
+            assert_ne!(question.sentence(), none, "{question:?}");
+            assert_eq!(question.to_string(), format!("{} (question {number})", question.sentence()));
+        }
+    }
 }

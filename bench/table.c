@@ -1,0 +1,271 @@
+/* Whole maps and streams beside C, in one table. The ways of a kind take turns in each round, so that what disturbs the machine disturbs all of
+   them. The results are compared before any time is taken. Arguments: shared objects to measure with them (plugin.h).
+
+   What ran just before a way is worth up to a fifth of its time, by what it leaves in the caches. So each has a fixed one: the row-wise C, every
+   plug-in and the copy follow the proved calls, the naive C follows the row-wise, the proved calls follow the naive C. And the rounds of the
+   streams come after those of the whole maps: between planes the first of the streams, which is the C writer, would be a tenth slower, and
+   every ratio to it would look better than it is. */
+#define _POSIX_C_SOURCE 200809L
+#include "../include/terrain.h"
+#include "maps.h"
+#include "plugin.h"
+#include "streams.h"
+#include "timing.h"
+#include <dlfcn.h>
+#include <stdio.h>
+#include <stdlib.h>
+#include <string.h>
+
+enum { OURS = 3, MOST_PLUGINS = 8, MOST = OURS + MOST_PLUGINS, WRITERS = 4, READERS = 2 };
+
+/* ---- the ways of a whole map: the proved calls, two in C, the plug-ins */
+
+typedef struct {
+    const char *name;
+    Forward *forward;
+    Backward *backward;
+    const BenchPlugin *plugin;
+} Way;
+
+static Way ways[MOST] = {
+    { "proved", proved_forward, proved_backward, NULL },
+    { "row-wise C", plain_forward, plain_backward, NULL },
+    { "naive C", naive_forward, naive_backward, NULL },
+};
+static int count = OURS;
+enum { PROVED, PLAIN, NAIVE };
+
+static void load(const char *path)
+{
+    void *object = dlopen(path, RTLD_NOW | RTLD_LOCAL);
+    const BenchPlugin *plugin = object ? dlsym(object, "bench_plugin") : NULL;
+    if (!plugin) {
+        fprintf(stderr, "bench: %s\n", dlerror());
+        exit(2);
+    }
+    if (plugin->version != BENCH_PLUGIN_VERSION || !plugin->name || (!plugin->forward && !plugin->backward)) {
+        fprintf(stderr, "bench: %s: its bench_plugin is none of version %d, with a name and at least one call\n", path, BENCH_PLUGIN_VERSION);
+        exit(2);
+    }
+    if (count == MOST) {
+        fprintf(stderr, "bench: %s: at most %d plug-ins are measured at once\n", path, MOST_PLUGINS);
+        exit(2);
+    }
+    ways[count++] = (Way){ plugin->name, NULL, NULL, plugin };
+}
+
+/* ---- one size */
+
+/* What is told of a way: its times, and what is to be said beside them. NULL for a note: it is not done. */
+typedef struct {
+    double times[ROUNDS];
+    const char *note;
+} Result;
+
+static struct {
+    size_t side, n;
+    uint16_t *heights, *back;
+    int32_t *plane, *other, *work, *theirs[MOST]; /* the plane that a plug-in makes, where it is another */
+    Result forward[MOST], backward[MOST], writer[WRITERS], reader[READERS], copy;
+} at;
+
+static void *area(size_t bytes)
+{
+    void *made = calloc(bytes, 1);
+    if (!made) {
+        fprintf(stderr, "bench: there is not enough memory\n");
+        exit(1);
+    }
+    return made;
+}
+
+static int forward(int k)
+{
+    const BenchPlugin *p = ways[k].plugin;
+    if (p) return p->forward(at.heights, at.side, at.side, LEVELS, at.other, at.work);
+    ways[k].forward(at.heights, at.side, at.side, at.other, at.work);
+    return 0;
+}
+
+static int backward(int k)
+{
+    const BenchPlugin *p = ways[k].plugin;
+    const int32_t *from = at.theirs[k] ? at.theirs[k] : at.plane;
+    if (p) return p->backward(from, at.side, at.side, LEVELS, at.back, at.work);
+    ways[k].backward(from, at.side, at.side, at.back, at.work);
+    return 0;
+}
+
+static int plane_differs(void) { return memcmp(at.plane, at.other, at.n * sizeof *at.plane) != 0; }
+static int map_differs(void) { return memcmp(at.heights, at.back, at.n * sizeof *at.heights) != 0; }
+
+static void must_not(int differs, const char *name)
+{
+    if (!differs) return;
+    printf("%s: the results differ\n", name);
+    exit(1);
+}
+
+/* A plug-in for the first time: what it does not do, and where it differs. */
+static void try_out(int k)
+{
+    const BenchPlugin *p = ways[k].plugin;
+    at.forward[k].note = at.backward[k].note = NULL;
+    memset(at.other, 0, at.n * sizeof *at.other);
+    memset(at.back, 0, at.n * sizeof *at.back);
+    if (p->forward && forward(k) == 0) {
+        at.forward[k].note = plane_differs() ? "differs" : "";
+        if (plane_differs()) {
+            at.theirs[k] = area(at.n * sizeof *at.plane);
+            memcpy(at.theirs[k], at.other, at.n * sizeof *at.plane);
+        }
+    }
+    if (p->backward && backward(k) == 0) at.backward[k].note = map_differs() ? "differs" : "";
+}
+
+enum { UNTIMED = -1 };
+
+/* One way forward and back. */
+static void whole_map(int k, int round)
+{
+    double a = now();
+    if (at.forward[k].note) forward(k);
+    double b = now();
+    if (at.backward[k].note) backward(k);
+    double c = now();
+    int differs = plane_differs() | map_differs();
+    if (!ways[k].plugin) must_not(differs, ways[k].name);
+    if (round != UNTIMED) at.forward[k].times[round] = (b - a) / (double)at.n, at.backward[k].times[round] = (c - b) / (double)at.n;
+}
+
+static double timed(void (*run)(void))
+{
+    double from = now();
+    run();
+    return (now() - from) / (double)at.n;
+}
+
+/* What goes in and what comes out, copied once each: 2 and 4 bytes a height. */
+static void copy(void)
+{
+    memcpy(at.back, at.heights, at.n * sizeof *at.back);
+    memcpy(at.other, at.plane, at.n * sizeof *at.other);
+}
+
+static void whole_maps(int round)
+{
+    whole_map(NAIVE, UNTIMED);
+    for (int k = 0; k < OURS; k++) whole_map(k, round);
+    for (int k = OURS; k < count; k++) {
+        whole_map(PROVED, UNTIMED);
+        whole_map(k, round);
+    }
+    whole_map(PROVED, UNTIMED);
+    at.copy.times[round] = timed(copy);
+}
+
+/* Every stream gives the plane of the whole-map call, or the map again. */
+static void compare_streams(const Streams *s)
+{
+    void (*const writers[])(void) = { s->plain_write, s->proved_rows, s->proved_runs, s->proved_runs_on_8 };
+    void (*const readers[])(void) = { s->plain_read, s->proved_read };
+    for (int k = 0; k < WRITERS; k++) {
+        memset(at.other, 0, at.n * sizeof *at.other);
+        *s->kept = at.other;
+        writers[k]();
+        *s->kept = NULL;
+        must_not(plane_differs(), "a writer");
+    }
+    for (int k = 0; k < READERS; k++) {
+        memset(s->back, 0, at.n * sizeof *s->back);
+        readers[k]();
+        must_not(memcmp(s->heights, s->back, at.n * sizeof *s->back) != 0, "a reader");
+    }
+}
+
+static void streams(const Streams *s, int round)
+{
+    at.writer[0].times[round] = timed(s->plain_write);
+    at.writer[1].times[round] = timed(s->proved_rows);
+    at.writer[2].times[round] = timed(s->proved_runs);
+    at.writer[3].times[round] = timed(s->proved_runs_on_8);
+    at.reader[0].times[round] = timed(s->plain_read);
+    at.reader[1].times[round] = timed(s->proved_read);
+}
+
+static void measure(const Streams *s)
+{
+    uint32_t seed = 1;
+    at.side = s->side, at.n = s->side * s->side;
+    at.heights = area(at.n * sizeof *at.heights), at.back = area(at.n * sizeof *at.back);
+    at.plane = area(at.n * sizeof *at.plane), at.other = area(at.n * sizeof *at.other), at.work = area(at.n * sizeof *at.work);
+    for (size_t i = 0; i < at.n; i++) at.heights[i] = (uint16_t)((seed = seed * 1664525u + 1013904223u) >> 16);
+    proved_forward(at.heights, at.side, at.side, at.plane, at.work);
+    memcpy(s->heights, at.heights, at.n * sizeof *at.heights);
+    memcpy(s->plane, at.plane, at.n * sizeof *at.plane);
+    s->ready();
+    for (int k = 0; k < OURS; k++) at.forward[k].note = at.backward[k].note = "";
+    for (int k = 0; k < OURS; k++) whole_map(k, UNTIMED);
+    for (int k = OURS; k < count; k++) try_out(k);
+    for (int round = 0; round < ROUNDS; round++) whole_maps(round);
+    compare_streams(s);
+    for (int round = 0; round < ROUNDS; round++) streams(s, round);
+    for (int k = 0; k < count; k++) in_order(at.forward[k].times), in_order(at.backward[k].times);
+    for (int k = 0; k < WRITERS; k++) in_order(at.writer[k].times);
+    for (int k = 0; k < READERS; k++) in_order(at.reader[k].times);
+    in_order(at.copy.times);
+}
+
+static void clear(void)
+{
+    free(at.heights), free(at.back), free(at.plane), free(at.other), free(at.work);
+    for (int k = 0; k < MOST; k++) free(at.theirs[k]);
+    memset(&at, 0, sizeof at);
+}
+
+/* ---- printing */
+
+/* A line: the times, and how many times those of the row-wise C that does the same, of the naive C and of the copy. */
+static void line(const char *group, const char *name, const Result *r, const Result *plain, const Result *naive, double wanted)
+{
+    const double *t = r->times;
+    printf("%-9s %-28.28s %7.2f (%6.2f) %7.2f (%5.2f) %7.2f %8.2f", group, name, median(t), best(t), median(t) / median(plain->times),
+           best(t) / best(plain->times), median(t) / median(naive->times), median(t) / median(at.copy.times));
+    if (wanted > 0) printf("   at most %.1f times row-wise C is wanted", wanted);
+    if (r->note && *r->note) printf("   %s", r->note);
+    printf("\n");
+}
+
+static void lines_of_maps(const char *group, const Result *results)
+{
+    for (int k = 0; k < count; k++) {
+        if (results[k].note) line(group, ways[k].name, &results[k], &results[PLAIN], &results[NAIVE], 0);
+        else printf("%-9s %-28.28s it does not do such a map\n", group, ways[k].name);
+    }
+}
+
+static void print(void)
+{
+    static const char *const writers[] = { "row-wise C", "proved, a row at a time", "proved, runs of 64", "the same, drawn on 8" };
+    static const char *const readers[] = { "row-wise C", "proved" };
+    static const double wanted[] = { 0, 1.3, 1.5, 1.5 };
+    printf("\n%zu x %zu heights at %d levels, ns a height, %d rounds with all in turn: median (best)\n", at.side, at.side, LEVELS, ROUNDS);
+    printf("%-9s %-28s %16s %15s %7s %8s\n", "", "", "", "/ row-wise C", "/ naive", "/ memcpy");
+    lines_of_maps("forward", at.forward);
+    for (int k = 0; k < WRITERS; k++) line("writer", writers[k], &at.writer[k], &at.writer[0], &at.forward[NAIVE], wanted[k]);
+    lines_of_maps("backward", at.backward);
+    for (int k = 0; k < READERS; k++) line("reader", readers[k], &at.reader[k], &at.reader[0], &at.backward[NAIVE], k ? 1.3 : 0);
+    printf("%-9s %-28s %7.2f (%6.2f)\n", "memcpy", "heights and plane, once each", median(at.copy.times), best(at.copy.times));
+}
+
+int main(int argc, char **argv)
+{
+    const Streams *const sizes[] = { &streams_1025, &streams_2049 };
+    for (int i = 1; i < argc; i++) load(argv[i]);
+    for (size_t i = 0; i < sizeof sizes / sizeof *sizes; i++) {
+        measure(sizes[i]);
+        print();
+        clear();
+    }
+    return 0;
+}

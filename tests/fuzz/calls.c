@@ -1,0 +1,555 @@
+/* The C interface under a fuzzer. The input is a list of calls with their arguments, made on three streams and on maps and lines; states and
+ * stores are scribbled in between. After each call: nothing outside the lent areas is touched (areas.h), a call turned away has changed
+ * nothing, a number comes only where it may, 1 and 5 exactly where they must. Where a stream's calls went by the rules, its rows and heights
+ * are those of a transform of its own (model.h). tests/fuzz/run builds and runs it. */
+#define _DEFAULT_SOURCE
+#include "areas.h"
+#include "input.h"
+#include "model.h"
+#include "../../include/terrain.h"
+
+enum { CAP = 4096, SLOTS = 3, STEPS = 500, RUN = 600, WRITER = 1, READER = 2 };
+enum { ROW, DRAW, DONE, ENDED };
+
+/* The answers that a call may give beside 0, 1 and 5. */
+#define MAY(n) (1u << (n))
+
+typedef struct {
+    uint64_t state[16];
+    int32_t *store;
+    size_t store_len;
+    int kind; /* WRITER, READER: all calls went by the rules. 0: anything may stand in state and store */
+    size_t width, height, levels;
+    Order order;
+    uint16_t heights[CAP]; /* taken or drawn */
+    size_t count;
+    Row rows[CAP]; /* drawn of a writer, with their values */
+    size_t row_count, value_count;
+    int32_t values[CAP], plane[CAP]; /* a reader is fed from this plane, which holds what it was fed */
+    uint16_t map[CAP];
+    int pure; /* the plane is the map's */
+} Slot;
+
+static Slot slots[SLOTS];
+static Area state_area, store_area, run_area, out_area, small_area, more_area;
+static uint64_t *lent_state;
+static int32_t *lent_store;
+static size_t lent_len;
+
+static int at_end(void)
+{
+    return byte() & 1;
+}
+
+/* ---- state and store */
+
+/* Question 1, as docs/STATE.md has it. */
+static int counts_fit(const uint64_t *s, int kind)
+{
+    int rest = 1;
+    for (int i = kind == WRITER ? 9 : 8; i < 16; i++) rest &= s[i] == 0;
+    if (kind == WRITER)
+        return rest && s[0] == 1 && s[1] - 1 < MOST_WIDTH && s[2] - 1 < MOST_LEVELS && s[3] <= MOST_HEIGHT && s[4] < s[1] && s[5] <= 1 &&
+               s[6] <= s[2] && s[7] <= s[2] && s[8] <= 4;
+    return rest && s[0] == 2 && s[1] - 1 < MOST_WIDTH && s[2] - 1 < MOST_HEIGHT && s[3] - 1 < MOST_LEVELS && s[4] <= s[2] && s[5] <= s[3] &&
+           s[6] <= 4 && s[7] <= 1;
+}
+
+/* Lends state and store, every so often a store cut short. */
+static void lend(Slot *s)
+{
+    unsigned how = byte();
+    size_t cut = how >= 224 ? how % 32 : 0;
+    lent_len = s->store_len - (cut < s->store_len ? cut : s->store_len);
+    lent_state = area_lend(&state_area, s->state, sizeof s->state, how & 1);
+    lent_store = area_lend(&store_area, s->store, lent_len * sizeof *s->store, how & 2);
+}
+
+static void take_back(Slot *s)
+{
+    memcpy(s->state, lent_state, sizeof s->state);
+    if (lent_len) memcpy(s->store, lent_store, lent_len * sizeof *s->store);
+}
+
+/* After a call on a stream: what it may have answered, and what it must have left. */
+static void back(Slot *s, int kind, uint32_t answer, uint32_t may)
+{
+    int fit = counts_fit(s->state, kind);
+    size_t needed = fit ? model_store(s->state[1], s->state[kind == WRITER ? 2 : 3]) : 0;
+    area_back(&state_area);
+    area_back(&store_area);
+    HOLDS(answer < 16 && ((may | MAY(0) | MAY(1) | MAY(5)) >> answer & 1));
+    HOLDS((answer == 1) == !fit);
+    HOLDS((answer == 5) == (fit && lent_len < needed));
+    if (answer == 14) {
+        uint64_t ended[16];
+        memcpy(ended, s->state, sizeof ended);
+        HOLDS(ended[7] == 0);
+        ended[7] = 1;
+        HOLDS(area_is(&state_area, ended));
+        for (size_t i = 0; i < needed; i++) HOLDS(lent_store[i] == 0);
+    } else if (answer) {
+        HOLDS(area_is(&state_area, s->state) && area_is(&store_area, s->store));
+    }
+    if (lent_len > needed) HOLDS(memcmp(lent_store + needed, s->store + needed, (lent_len - needed) * sizeof *s->store) == 0);
+    take_back(s);
+}
+
+static void new_store(Slot *s, size_t len)
+{
+    free(s->store);
+    s->store_len = len;
+    s->store = malloc(len * sizeof *s->store + !len);
+    HOLDS(s->store);
+    int32_t v = word();
+    for (size_t i = 0; i < len; i++) s->store[i] = stored((int64_t)v + (int64_t)(i % 7));
+}
+
+/* The rows drawn are those of the map taken, or of any map that goes on from it. */
+static void check_rows(const Slot *s)
+{
+    static uint16_t map[CAP + MOST_WIDTH];
+    static int32_t plane[CAP + MOST_WIDTH];
+    if (s->kind != WRITER || !s->count) return;
+    size_t w = s->width, h = (s->count + w - 1) / w;
+    memset(map, 0x77, sizeof map);
+    memcpy(map, s->heights, s->count * sizeof *map);
+    model_forward(map, w, h, s->levels, plane);
+    const int32_t *values = s->values;
+    for (size_t i = 0; i < s->row_count; i++) {
+        Row r = s->rows[i];
+        HOLDS(memcmp(values, plane + place(w, h, r.level, r.band, r.row), r.length * sizeof *values) == 0);
+        values += r.length;
+    }
+}
+
+static void set_up(Slot *s, int kind)
+{
+    check_rows(s);
+    size_t w = size(), h = size(), levels = below(8) ? 1 + below(5) : number(), needed = model_store(w, levels);
+    if (kind == READER && h > MOST_HEIGHT) needed = 0;
+    unsigned more = byte();
+    int32_t *old = s->store;
+    size_t old_len = s->store_len;
+    s->store = NULL;
+    new_store(s, needed + (more < 200 ? more % 4 : 0) - (needed && more >= 240 ? 1 : 0));
+    lend(s);
+    uint32_t answer = kind == WRITER ? terrain_writer_set_up(lent_state, w, levels, lent_store, lent_len)
+                                     : terrain_reader_set_up(lent_state, w, h, levels, lent_store, lent_len);
+    area_back(&state_area);
+    area_back(&store_area);
+    uint32_t first = w < 1 || w > MOST_WIDTH                           ? 2
+                     : kind == READER && (h < 1 || h > MOST_HEIGHT)    ? 3
+                     : levels < 1 || levels > MOST_LEVELS              ? 4
+                     : lent_len < needed                               ? 5
+                                                                       : 0;
+    HOLDS(answer == first);
+    HOLDS(!answer || (area_is(&state_area, s->state) && area_is(&store_area, s->store)));
+    if (answer) { /* the stream that is under way goes on */
+        free(s->store);
+        s->store = old, s->store_len = old_len;
+        return;
+    }
+    free(old);
+    HOLDS(counts_fit(lent_state, kind));
+    for (size_t i = 0; i < needed; i++) HOLDS(lent_store[i] == 0);
+    if (lent_len > needed) HOLDS(memcmp(lent_store + needed, s->store + needed, (lent_len - needed) * sizeof *s->store) == 0);
+    take_back(s);
+    s->kind = kind, s->width = w, s->height = h, s->levels = levels, s->count = s->row_count = s->value_count = 0;
+    memset(&s->order, 0, sizeof s->order);
+    s->order.width = w, s->order.levels = levels;
+    if (kind == READER && w * h > CAP) s->kind = 0;
+    if (s->kind == READER) {
+        fill(s->map, w * h);
+        model_forward(s->map, w, h, levels, s->plane);
+        s->pure = 1;
+    }
+}
+
+/* ---- the writer */
+
+static void offer(Slot *s)
+{
+    static uint16_t heights[RUN];
+    size_t n = below(4) ? below(64) : (size_t)wide(2) % (RUN + 1), taken = 0;
+    fill(heights, n);
+    lend(s);
+    const uint16_t *run = area_lend(&run_area, heights, n * sizeof *heights, at_end());
+    size_t *said = area_lend(&small_area, NULL, sizeof *said, at_end());
+    uint32_t answer = terrain_writer_offer(lent_state, lent_store, lent_len, run, n, said);
+    area_back(&run_area);
+    area_back(&small_area);
+    HOLDS(area_is(&run_area, heights));
+    HOLDS(answer ? area_unset(&small_area, 0) : *said <= n);
+    back(s, WRITER, answer, MAY(8) | MAY(9) | MAY(10));
+    if (s->kind != WRITER || answer == 5) return;
+    HOLDS(answer == order_offer(&s->order, n, &taken));
+    HOLDS(answer || *said == taken);
+    if (s->count + taken > CAP) {
+        check_rows(s);
+        s->kind = 0;
+        return;
+    }
+    memcpy(s->heights + s->count, heights, taken * sizeof *heights);
+    s->count += taken;
+}
+
+static void draw_row(Slot *s)
+{
+    size_t room = below(4) ? (s->state[1] <= MOST_WIDTH ? s->state[1] / 2 + 1 : 20) : below(32), length = 0;
+    lend(s);
+    int32_t *out = area_lend(&out_area, NULL, room * sizeof *out, at_end());
+    uint64_t *row = area_lend(&small_area, NULL, 4 * sizeof *row, at_end());
+    uint64_t level_before = s->state[7], levels = s->state[2], width = s->state[1];
+    uint32_t answer = terrain_writer_draw(lent_state, lent_store, lent_len, out, room, row);
+    area_back(&out_area);
+    area_back(&small_area);
+    if (answer) {
+        HOLDS(area_unset(&small_area, 0));
+    } else {
+        HOLDS((row[0] > 0) == (level_before > 0));
+        HOLDS(row[0] <= levels && row[1] <= HH && row[3] <= width && row[3] <= room);
+        HOLDS(row[0] || (!row[1] && !row[2] && !row[3]));
+        length = row[3];
+    }
+    HOLDS(area_unset(&out_area, length * sizeof *out));
+    back(s, WRITER, answer, MAY(12));
+    if (s->kind != WRITER || answer == 5) return;
+    if (!order_waits(&s->order)) {
+        HOLDS(!answer && !row[0]);
+        return;
+    }
+    Row r = s->order.waiting[s->order.first];
+    HOLDS(answer == (r.length > room ? 12u : 0u));
+    if (answer) return;
+    HOLDS(row[0] == r.level && row[1] == r.band && row[2] == r.row && row[3] == r.length);
+    s->order.first++;
+    s->rows[s->row_count++] = r;
+    memcpy(s->values + s->value_count, out, r.length * sizeof *out);
+    s->value_count += r.length;
+    if (s->order.finished && !order_waits(&s->order)) HOLDS(s->value_count == s->count);
+}
+
+static void finish(Slot *s)
+{
+    lend(s);
+    uint32_t answer = terrain_writer_finish(lent_state, lent_store, lent_len);
+    back(s, WRITER, answer, MAY(8) | MAY(9) | MAY(11));
+    if (s->kind == WRITER && answer != 5) HOLDS(answer == order_finish(&s->order));
+}
+
+/* ---- the reader */
+
+static uint32_t want(Slot *s, uint64_t wanted[5])
+{
+    const uint64_t *state = area_lend(&state_area, s->state, sizeof s->state, at_end());
+    uint64_t *said = area_lend(&small_area, NULL, 5 * sizeof *said, at_end());
+    uint32_t answer = terrain_reader_want(state, said);
+    area_back(&state_area);
+    area_back(&small_area);
+    HOLDS(area_is(&state_area, s->state));
+    HOLDS(answer == (counts_fit(s->state, READER) ? 0u : 1u));
+    if (answer) {
+        HOLDS(area_unset(&small_area, 0));
+        memset(wanted, 0xff, 5 * sizeof *wanted);
+        return answer;
+    }
+    memcpy(wanted, said, 5 * sizeof *wanted);
+    HOLDS(said[0] <= ENDED && (said[0] == ENDED) == (s->state[7] == 1));
+    if (said[0] == ROW)
+        HOLDS(said[1] - 1 < s->state[3] && said[2] <= HH && said[4] >= 1 && said[4] == across(s->state[1], said[1], said[2]));
+    else
+        HOLDS(!said[1] && !said[2] && !said[3] && !said[4]);
+    if (s->kind == READER && said[0] == ROW) HOLDS(said[3] < down(s->height, said[1], said[2]) && (said[2] != LL || said[1] == s->levels));
+    if (s->kind == READER && said[0] == DONE) {
+        /* never Done but for a map: the one that has these rows */
+        static int32_t plane[CAP];
+        HOLDS(s->count == s->width * s->height);
+        model_forward(s->heights, s->width, s->height, s->levels, plane);
+        HOLDS(memcmp(plane, s->plane, s->count * sizeof *plane) == 0);
+        HOLDS(!s->pure || memcmp(s->heights, s->map, s->count * sizeof *s->map) == 0);
+    }
+    return 0;
+}
+
+/* 14: no map has the rows fed, whatever the rows are that are not fed yet. */
+static void ended(Slot *s)
+{
+    static uint16_t map[CAP];
+    if (s->kind != READER) return;
+    HOLDS(!s->pure);
+    HOLDS(model_backward(s->plane, s->width, s->height, s->levels, map) != 0);
+    s->kind = 0;
+}
+
+static void feed(Slot *s)
+{
+    static int32_t values[MOST_WIDTH + 8];
+    uint64_t wanted[5];
+    uint32_t no = want(s, wanted);
+    unsigned how = byte();
+    int out_of_range = 0, row = !no && wanted[0] == ROW;
+    size_t n = row ? wanted[4] : below(8), at = 0;
+    if (how % 16 == 1) n += 1 + below(4);
+    if (how % 16 == 2 && n) n -= 1;
+    if (s->kind == READER && row) at = place(s->width, s->height, wanted[1], wanted[2], wanted[3]);
+    for (size_t i = 0; i < n; i++)
+        values[i] = s->kind == READER && row && i < wanted[4] ? s->plane[at + i] : (int32_t)(how * i % 65536);
+    if (how >= 200 && n) {
+        size_t i = wide(1) % n;
+        values[i] = how & 1 ? word() : stored((int64_t)values[i] + below(9) - 4);
+    }
+    lend(s);
+    const int32_t *run = area_lend(&run_area, values, n * sizeof *values, at_end());
+    uint32_t answer = terrain_reader_feed(lent_state, lent_store, lent_len, run, n);
+    area_back(&run_area);
+    HOLDS(area_is(&run_area, values));
+    for (size_t i = 0; row && i < n; i++) out_of_range |= values[i] > range(wanted[1]) || values[i] < -range(wanted[1]);
+    back(s, READER, answer, MAY(7) | MAY(8) | MAY(9) | MAY(13) | MAY(14));
+    if (answer == 1 || answer == 5) return;
+    HOLDS((answer == 9) == (wanted[0] == ENDED));
+    HOLDS((answer == 8) == (wanted[0] == DRAW || wanted[0] == DONE));
+    HOLDS((answer == 13) == (row && n != wanted[4]));
+    HOLDS((answer == 7) == (row && n == wanted[4] && out_of_range));
+    if (s->kind != READER || (answer && answer != 14)) return;
+    if (memcmp(s->plane + at, values, n * sizeof *values)) s->pure = 0;
+    memcpy(s->plane + at, values, n * sizeof *values);
+    if (answer == 14) ended(s);
+}
+
+static void draw_heights(Slot *s)
+{
+    uint64_t wanted[5];
+    uint32_t no = want(s, wanted);
+    size_t width = s->state[1], length = 0, room = below(4) ? (width <= MOST_WIDTH ? width + below(3) : 20) : below(32);
+    lend(s);
+    uint16_t *out = area_lend(&out_area, NULL, room * sizeof *out, at_end());
+    size_t *said = area_lend(&small_area, NULL, sizeof *said, at_end());
+    uint32_t answer = terrain_reader_draw(lent_state, lent_store, lent_len, out, room, said);
+    area_back(&out_area);
+    area_back(&small_area);
+    if (answer) {
+        HOLDS(area_unset(&small_area, 0));
+    } else {
+        length = *said;
+        HOLDS(length == (wanted[0] == DRAW ? width : 0));
+    }
+    HOLDS(area_unset(&out_area, length * sizeof *out));
+    back(s, READER, answer, MAY(9) | MAY(12) | MAY(14));
+    if (no || answer == 5) return;
+    HOLDS((answer == 9) == (wanted[0] == ENDED));
+    HOLDS((answer == 12) == (wanted[0] == DRAW && room < width));
+    if (s->kind != READER) return;
+    if (answer == 14) ended(s);
+    if (answer || !length) return;
+    memcpy(s->heights + s->count, out, length * sizeof *out);
+    HOLDS(!s->pure || memcmp(out, s->map + s->count, length * sizeof *out) == 0);
+    s->count += length;
+}
+
+/* ---- lies */
+
+/* A state that no call made, its counts in their ranges or one of them anything; and any store. */
+static void foreign(Slot *s)
+{
+    size_t w = below(4) ? 1 + below(20) : MOST_WIDTH, levels = 1 + below(5);
+    uint64_t h = below(2) ? 1 + below(40) : MOST_HEIGHT;
+    check_rows(s);
+    s->kind = 0;
+    memset(s->state, 0, sizeof s->state);
+    if (below(2)) {
+        uint64_t counts[] = { 1, w, levels, wide(2), byte() % w, below(2), below(6), below(6), below(5) };
+        memcpy(s->state, counts, sizeof counts);
+    } else {
+        uint64_t counts[] = { 2, w, h, levels, below(2) ? below(40) : wide(2), below(6), below(5), below(8) == 7 };
+        memcpy(s->state, counts, sizeof counts);
+    }
+    new_store(s, model_store(w, levels) + below(4));
+}
+
+static void scribble(Slot *s)
+{
+    unsigned how = byte();
+    check_rows(s);
+    s->kind = 0;
+    if (how % 3 == 0) s->state[byte() % 16] = number();
+    if (how % 3 == 1 && s->store_len)
+        for (unsigned i = 0; i < 1 + how / 64; i++) s->store[wide(2) % s->store_len] = word();
+    if (how % 3 == 2) {
+        uint32_t seed = byte();
+        for (size_t i = 0; i < s->store_len; i++) s->store[i] = (int32_t)(seed = seed * 1664525u + 1013904223u);
+    }
+}
+
+/* ---- lines, maps, band rows */
+
+static void line(void)
+{
+    static int32_t values[RUN], expected[RUN];
+    size_t n = below(4) ? below(40) : (size_t)wide(2) % RUN, more = below(12), len = n + (more < 8 ? more % 4 : 0);
+    if (more >= 8) len = n ? byte() % n : 0;
+    int forward = byte() & 1;
+    uint32_t seed = byte();
+    for (size_t i = 0; i < n; i++) values[i] = below(8) ? (int32_t)(uint32_t)(seed * i * 2654435761u) >> (i & 16) : word();
+    memcpy(expected, values, n * sizeof *values);
+    model_line(expected, n, 1, forward);
+    const int32_t *lent = area_lend(&run_area, values, n * sizeof *values, at_end());
+    int32_t *out = area_lend(&out_area, NULL, len * sizeof *out, at_end());
+    uint32_t answer = (forward ? terrain_line_forward : terrain_line_backward)(lent, n, out, len);
+    area_back(&run_area);
+    area_back(&out_area);
+    HOLDS(area_is(&run_area, values));
+    HOLDS(answer == (len < n ? 5u : 0u));
+    HOLDS(area_unset(&out_area, answer ? 0 : n * sizeof *out));
+    HOLDS(answer || !n || memcmp(out, expected, n * sizeof *out) == 0);
+}
+
+/* What the questions before 6 and 7 say, areas of these lengths being lent. */
+static uint32_t shape(size_t w, size_t h, size_t levels, size_t shortest)
+{
+    if (w < 1 || w > MOST_WIDTH) return 2;
+    if (h < 1 || h > MOST_HEIGHT) return 3;
+    if (levels < 1 || levels > MOST_LEVELS) return 4;
+    return shortest < w * h ? 5 : 0;
+}
+
+static size_t least(size_t a, size_t b)
+{
+    return a < b ? a : b;
+}
+
+static size_t zeros(const Area *area)
+{
+    size_t n = 0;
+    while (n < area->bytes && area->at[n] == 0) n++;
+    return n;
+}
+
+static void map(void)
+{
+    static uint16_t heights[CAP + 8], again[CAP];
+    static int32_t plane[CAP + 8], expected[CAP];
+    size_t w = size(), h = size(), levels = below(8) ? 1 + below(5) : number();
+    size_t n = w <= MOST_WIDTH && h <= MOST_HEIGHT && w * h <= CAP ? w * h : 64;
+    size_t lens[3];
+    for (int i = 0; i < 3; i++) {
+        unsigned more = byte();
+        lens[i] = more >= 250 && n ? n - 1 : n + more % 3;
+    }
+    fill(heights, lens[0]);
+    uint32_t first = shape(w, h, levels, least(lens[0], least(lens[1], lens[2])));
+    const uint16_t *lent = area_lend(&run_area, heights, lens[0] * sizeof *heights, at_end());
+    int32_t *out = area_lend(&out_area, NULL, lens[1] * sizeof *out, at_end());
+    int32_t *work = area_lend(&more_area, NULL, lens[2] * sizeof *work, at_end());
+    uint32_t answer = terrain_map_forward(lent, lens[0], w, h, levels, out, lens[1], work, lens[2]);
+    area_back(&run_area);
+    area_back(&out_area);
+    area_back(&more_area);
+    HOLDS(answer == first && area_is(&run_area, heights));
+    HOLDS(area_unset(&out_area, answer ? 0 : n * sizeof *out) && area_unset(&more_area, answer ? 0 : n * sizeof *work));
+    if (!answer) {
+        HOLDS(zeros(&more_area) == n * sizeof *work);
+        model_forward(heights, w, h, levels, expected);
+        HOLDS(memcmp(out, expected, n * sizeof *out) == 0);
+    }
+    /* and back, with up to three numbers changed */
+    memset(plane, 0, sizeof plane);
+    memcpy(plane, out, lens[1] * sizeof *plane);
+    for (unsigned i = below(4); i-- > 0 && n;) {
+        size_t at = wide(2) % n;
+        plane[at] = byte() & 1 ? word() : stored((int64_t)plane[at] + below(9) - 4);
+    }
+    if (!first) first = model_backward(plane, w, h, levels, again);
+    const int32_t *lent_plane = area_lend(&out_area, plane, lens[1] * sizeof *plane, at_end());
+    uint16_t *drawn = area_lend(&run_area, NULL, lens[0] * sizeof *drawn, at_end());
+    work = area_lend(&more_area, NULL, lens[2] * sizeof *work, at_end());
+    answer = terrain_map_backward(lent_plane, lens[1], w, h, levels, drawn, lens[0], work, lens[2]);
+    area_back(&run_area);
+    area_back(&out_area);
+    area_back(&more_area);
+    HOLDS(answer == first && area_is(&out_area, plane));
+    int written = answer == 0 || answer == 14;
+    HOLDS(area_unset(&run_area, written ? n * sizeof *drawn : 0) && area_unset(&more_area, written ? n * sizeof *work : 0));
+    if (written) HOLDS(zeros(&more_area) == n * sizeof *work);
+    if (answer == 14) HOLDS(zeros(&run_area) == n * sizeof *drawn);
+    if (answer == 0) HOLDS(memcmp(drawn, again, n * sizeof *drawn) == 0);
+}
+
+static void band_row(void)
+{
+    size_t w = size(), h = size(), levels = below(8) ? 1 + below(5) : number();
+    size_t level = below(8) ? 1 + below(5) : number(), band = below(8) ? below(4) : number(), row = below(4) ? below(8) : number();
+    size_t len = below(8) ? (w <= MOST_WIDTH && h <= MOST_HEIGHT ? w * h : 0) : number();
+    size_t *start = area_lend(&small_area, NULL, sizeof *start, at_end()), *length = area_lend(&more_area, NULL, sizeof *length, at_end());
+    uint32_t answer = terrain_band_row(len, w, h, levels, level, band, row, start, length);
+    area_back(&small_area);
+    area_back(&more_area);
+    uint32_t first = shape(w, h, levels, len);
+    if (!first && (level < 1 || level > levels || band > HH || (band == LL && level < levels))) first = 6;
+    if (!first && (row >= down(h, level, band) || !across(w, level, band))) first = 6;
+    HOLDS(answer == first);
+    if (answer) HOLDS(area_unset(&small_area, 0) && area_unset(&more_area, 0));
+    else HOLDS(*start == place(w, h, level, band, row) && *length == across(w, level, band));
+}
+
+/* ---- as a program would */
+
+static void write_on(Slot *s)
+{
+    if (s->kind != WRITER) set_up(s, WRITER);
+    for (int i = 0; i < 80 && s->kind == WRITER; i++) {
+        if (order_waits(&s->order)) draw_row(s);
+        else if (s->order.finished) break;
+        else if (below(16) == 15) finish(s);
+        else offer(s);
+    }
+}
+
+static void read_on(Slot *s)
+{
+    if (s->kind != READER) set_up(s, READER);
+    for (int i = 0; i < 80 && s->kind == READER; i++) {
+        uint64_t wanted[5];
+        want(s, wanted);
+        if (wanted[0] == ROW) feed(s);
+        else if (wanted[0] == DRAW) draw_heights(s);
+        else break;
+    }
+}
+
+static void call(void)
+{
+    unsigned which = byte();
+    Slot *s = &slots[which / 32 % SLOTS];
+    switch (which % 32) {
+    case 0: case 1: set_up(s, WRITER); break;
+    case 2: case 3: set_up(s, READER); break;
+    case 4: case 5: case 6: case 7: offer(s); break;
+    case 8: case 9: case 10: case 11: case 12: draw_row(s); break;
+    case 13: finish(s); break;
+    case 14: case 15: case 16: case 17: case 18: case 19: feed(s); break;
+    case 20: case 21: case 22: draw_heights(s); break;
+    case 23: { uint64_t wanted[5]; want(s, wanted); break; }
+    case 24: foreign(s); break;
+    case 25: scribble(s); break;
+    case 26: line(); break;
+    case 27: map(); break;
+    case 28: band_row(); break;
+    case 29: { size_t w = number(), levels = number(); HOLDS(terrain_store_length(w, levels) == model_store(w, levels)); break; }
+    case 30: write_on(s); break;
+    default: read_on(s); break;
+    }
+}
+
+int LLVMFuzzerTestOneInput(const uint8_t *data, size_t size)
+{
+    input = data, input_end = data + size;
+    for (int i = 0; i < SLOTS; i++) {
+        slots[i].kind = 0;
+        memset(slots[i].state, 0, sizeof slots[i].state);
+        new_store(&slots[i], 8);
+    }
+    for (int i = 0; i < STEPS && input < input_end; i++) call();
+    for (int i = 0; i < SLOTS; i++) check_rows(&slots[i]);
+    return 0;
+}

@@ -1,0 +1,45 @@
+//! Crate `kernels`: the in-place line calls and the row calls, which the C interface leaves out. Nothing checks a declaration here against
+//! the Rattle source, so each stands beside its wrapper and is driven by a test.
+extern "C" {
+    fn kernel_lift(line: *mut i32, line_len: usize);
+    fn kernel_unlift(line: *mut i32, line_len: usize);
+}
+
+pub fn lift(line: &mut [i32]) {
+    // SAFETY: the area is a whole slice.
+    unsafe { kernel_lift(line.as_mut_ptr(), line.len()) }
+}
+
+pub fn unlift(line: &mut [i32]) {
+    // SAFETY: as above.
+    unsafe { kernel_unlift(line.as_mut_ptr(), line.len()) }
+}
+
+/// The rows of an area: which is changed, and by which two.
+#[derive(Clone, Copy, Debug)]
+pub struct Rows {
+    pub stride: usize,
+    pub width: usize,
+    pub target: usize,
+    pub left: usize,
+    pub right: usize,
+}
+
+macro_rules! row_calls {
+    ($($name:ident => $symbol:ident),+) => {
+        extern "C" {
+            $(fn $symbol(area: *mut i32, area_len: usize, stride: usize, width: usize, target: usize, left: usize, right: usize) -> u32;)+
+        }
+        $(pub fn $name(area: &mut [i32], r: Rows) -> u32 {
+            // SAFETY: the area is a whole slice.
+            unsafe { $symbol(area.as_mut_ptr(), area.len(), r.stride, r.width, r.target, r.left, r.right) }
+        })+
+    };
+}
+
+row_calls!(
+    predict_row => kernel_predict_row,
+    update_row => kernel_update_row,
+    unupdate_row => kernel_unupdate_row,
+    unpredict_row => kernel_unpredict_row
+);

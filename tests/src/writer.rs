@@ -1,0 +1,59 @@
+//! The calls of `terrain::Writer` on a state and a store that the test keeps, so that it can look at both between two calls, or lie. Where a
+//! call is turned away, or gives Nothing, it is made once more, raw: state and out-parameters stay.
+use crate::order::BandRow;
+use crate::{numbered, UNSET};
+use terrain::raw::{self, State};
+use terrain::{Call, Writer};
+
+pub fn set_up(state: &mut State, width: usize, levels: usize, store: &mut [i32]) -> Result<(), u32> {
+    let made = numbered(Writer::new(width, levels, store).map(|w| w.state()), Call::WriterSetUp);
+    // and over whatever stands in the array
+    let before = *state;
+    let number = raw::writer_set_up(state, width, levels, store);
+    assert_eq!(number, made.err().unwrap_or(0));
+    assert_eq!(*state, made.unwrap_or(before), "the whole array is set, or stays");
+    made.map(|_| ())
+}
+
+pub fn offer(state: &mut State, store: &mut [i32], run: &[u16]) -> Result<usize, u32> {
+    let before = *state;
+    let mut writer = Writer::resume(before, store);
+    let answer = numbered(writer.offer(run), Call::Offer);
+    *state = writer.state();
+    if let Err(number) = answer {
+        let mut taken = UNSET;
+        assert_eq!(*state, before, "{number}: a refusal changes nothing");
+        assert_eq!(raw::writer_offer(state, store, run, &mut taken), number);
+        assert_eq!((*state, taken), (before, UNSET), "{number}: a refusal changes nothing");
+    }
+    answer
+}
+
+pub fn draw(state: &mut State, store: &mut [i32], out: &mut [i32]) -> Result<Option<BandRow>, u32> {
+    let (before, place, room) = (*state, out.as_ptr(), out.len());
+    let mut writer = Writer::resume(before, store);
+    let answer = numbered(writer.draw(out), Call::WriterDraw).map(|drawn| {
+        drawn.map(|(r, values)| {
+            assert!(values.as_ptr() == place && values.len() == r.length && r.length <= room, "the front of the output area");
+            BandRow { level: r.level, band: r.band as usize, row: r.row, length: r.length }
+        })
+    });
+    *state = writer.state();
+    if !matches!(answer, Ok(Some(_))) {
+        let mut row = [UNSET as u64; 4];
+        assert_eq!(*state, before, "neither a refusal nor Nothing changes anything");
+        assert_eq!(raw::writer_draw(state, store, out, &mut row), answer.err().unwrap_or(0));
+        assert_eq!(*state, before, "neither a refusal nor Nothing changes anything");
+        assert_eq!(row, if answer.is_err() { [UNSET as u64; 4] } else { [0; 4] }, "Nothing is all zeros");
+    }
+    answer
+}
+
+pub fn finish(state: &mut State, store: &mut [i32]) -> Result<(), u32> {
+    let before = *state;
+    let mut writer = Writer::resume(before, store);
+    let answer = numbered(writer.finish(), Call::Finish);
+    *state = writer.state();
+    assert!(answer.is_ok() || *state == before, "a refusal changes nothing");
+    answer
+}
