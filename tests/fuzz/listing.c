@@ -3,7 +3,7 @@
  * the program runs as it was built, in a process of its own. tests/fuzz/run builds and runs it. */
 #define _GNU_SOURCE
 #include "model.h"
-#include <signal.h>
+#include <fcntl.h>
 #include <spawn.h>
 #include <stdio.h>
 #include <sys/wait.h>
@@ -114,7 +114,7 @@ static size_t run(const uint8_t *data, size_t size, size_t cut)
     int in[2], out[2], status;
     pid_t child;
     posix_spawn_file_actions_t actions;
-    if (pipe2(in, 02000000) || pipe2(out, 02000000)) abort();
+    if (pipe2(in, O_CLOEXEC) || pipe2(out, O_CLOEXEC)) abort();
     posix_spawn_file_actions_init(&actions);
     posix_spawn_file_actions_adddup2(&actions, in[0], 0);
     posix_spawn_file_actions_adddup2(&actions, out[1], 1);
