@@ -58,7 +58,10 @@ static double run(const char *program, const char *output)
         _exit(2);
     }
     int status;
-    if (waitpid(child, &status, 0) < 0 || status) fail(program);
+    if (waitpid(child, &status, 0) < 0 || status) {
+        fprintf(stderr, "programs: %s was not run to a good end\n", program);
+        exit(1);
+    }
     return now() - from;
 }
 
@@ -84,7 +87,9 @@ int main(int argc, char **argv)
     static double times[MOST][ROUNDS];
     int count = argc - 3;
     if (count < 1 || count > MOST) fail("usage: programs SIDE LEVELS PROGRAM..");
-    long bytes = write_map((unsigned)atoi(argv[1]), (unsigned)atoi(argv[2]));
+    unsigned long side = strtoul(argv[1], 0, 10), levels = strtoul(argv[2], 0, 10);
+    if (side < 1 || side > 1025 || levels < 1 || levels > 5) fail("a listing takes 1 to 1,025 columns and 1 to 5 levels");
+    long bytes = write_map((unsigned)side, (unsigned)levels);
     for (int p = 0; p < count; p++) {
         run(argv[3 + p], p ? "target/bench/listing.other" : "target/bench/listing.first");
         if (p && !same("target/bench/listing.first", "target/bench/listing.other")) fail("the listings differ");

@@ -1,5 +1,9 @@
-//! The built program `list`, run on inputs good and bad that reach it in pieces, beside a second listing.
-use std::io::{Read, Write};
+//! The built program `list`, run on inputs good and bad that reach it in pieces, beside a second listing. The input is a socket of datagrams:
+//! each read gives one piece, so the cuts are the test's own, and an empty one is the end.
+use std::fs::File;
+use std::io::Read;
+use std::os::fd::OwnedFd;
+use std::os::unix::net::UnixDatagram;
 use std::path::{Path, PathBuf};
 use std::process::{Command, Stdio};
 use std::thread;
@@ -12,26 +16,31 @@ fn program() -> PathBuf {
     path
 }
 
-/// What the program writes of an input whose pieces are written one by one.
-fn list(pieces: Vec<Vec<u8>>) -> Vec<u8> {
-    let mut child = Command::new(program()).stdin(Stdio::piped()).stdout(Stdio::piped()).spawn().expect("the program starts");
-    let mut input = child.stdin.take().expect("it has an input");
-    let writing = thread::spawn(move || {
-        for piece in pieces {
-            // the program hears to its input's end, so each piece is taken
-            input.write_all(&piece).expect("the input is read to its end");
-            thread::yield_now();
-        }
-    });
+fn output(input: Stdio) -> Vec<u8> {
+    let mut child = Command::new(program()).stdin(input).stdout(Stdio::piped()).spawn().expect("the program starts");
     let mut out = Vec::new();
     child.stdout.take().expect("it has an output").read_to_end(&mut out).expect("the output is read");
-    writing.join().expect("all was written");
     assert!(child.wait().expect("it ends").success());
     out
 }
 
+/// What the program writes of an input that comes in these pieces.
+fn list(pieces: Vec<Vec<u8>>) -> Vec<u8> {
+    let (ours, its) = UnixDatagram::pair().expect("a pair of sockets");
+    let writing = thread::spawn(move || {
+        for piece in pieces {
+            assert_eq!(ours.send(&piece).expect("the input is read to its end"), piece.len());
+        }
+        ours.send(&[]).expect("the end is read");
+        ours
+    });
+    let out = output(Stdio::from(OwnedFd::from(its)));
+    writing.join().expect("all was written");
+    out
+}
+
 fn cut(input: &[u8], random: &mut Random) -> Vec<Vec<u8>> {
-    let longest = [1, 2, 3, 17, 1_000, 100_000][random.below(6)];
+    let longest = [1, 2, 3, 17, 1_000, 65_536][random.below(6)];
     let mut pieces = Vec::new();
     let mut rest = input;
     while !rest.is_empty() {
@@ -44,14 +53,13 @@ fn cut(input: &[u8], random: &mut Random) -> Vec<Vec<u8>> {
 
 fn agree(input: &[u8], random: &mut Random) {
     let found = list(cut(input, random));
-    let wanted = listing(input);
-    assert!(
-        found == wanted.as_bytes(),
-        "input {:?}\nwanted {:.400}\nfound  {:.400}",
-        String::from_utf8_lossy(&input[..input.len().min(60)]),
-        wanted,
-        String::from_utf8_lossy(&found)
-    );
+    let wanted = listing(input).into_bytes();
+    if found != wanted {
+        let same = found.iter().zip(&wanted).take_while(|(a, b)| a == b).count();
+        let near = |text: &[u8]| String::from_utf8_lossy(&text[same.saturating_sub(40)..text.len().min(same + 40)]).into_owned();
+        let head = String::from_utf8_lossy(&input[..input.len().min(40)]);
+        panic!("input {head:?}: from byte {same} on\nwanted ...{:?}...\nfound  ...{:?}...", near(&wanted), near(&found));
+    }
 }
 
 fn header(levels: usize, width: usize, height: usize, random: &mut Random) -> Vec<u8> {
@@ -139,4 +147,10 @@ fn a_large_map() {
     agree(&input, &mut random);
     input.pop();
     agree(&input, &mut random);
+}
+
+#[test]
+fn an_input_that_cannot_be_read_is_one_that_ended() {
+    let folder = File::open(env!("CARGO_MANIFEST_DIR")).expect("the folder is there");
+    assert_eq!(output(Stdio::from(folder)), b"refused 15\n");
 }
