@@ -1,0 +1,57 @@
+-- `compare::order::push_wants` is safe and ends. In the loop the area keeps its length. Assumes nothing.
+use mathlib.Core.Path.{_≡_}
+use Prim.Native.Nat.{_≤_}
+use native.Mathlib.Omega.{arith}
+use borrow.Author.Needs.{needs}
+use lib.ListN.{length}
+use Rattle.compare.proofs.order.push_wants.Statement.{statement}
+use Rattle.compare.proofs.order.push_wants.Tie as tie
+
+abbrev Inv-loop : tie.InvT-loop
+Inv-loop list₀ n s row at₀ k₀ list at k = (0 ≤ k) × (length list ≡ length list₀)
+
+abbrev μ-loop : tie.MeasureT-loop
+μ-loop list₀ n s row at₀ k₀ list at k = k
+
+depth-requires : tie.Need-depth-requires Inv-loop μ-loop
+depth-requires c κs = search needs
+
+loop-holds : tie.Need-loop-holds Inv-loop μ-loop
+loop-holds c = search needs
+
+set-of-level-requires : tie.Need-set-of-level-requires Inv-loop μ-loop
+set-of-level-requires c κs = search needs
+
+push-set-requires : tie.Need-push-set-requires Inv-loop μ-loop
+push-set-requires c κs = search needs
+
+sub-k : tie.Need-sub-k Inv-loop μ-loop
+sub-k c = omega arith
+
+loop-less : tie.Need-loop-less Inv-loop μ-loop
+loop-less c = omega arith
+
+loop-again : tie.Need-loop-again Inv-loop μ-loop
+loop-again c = search needs
+
+same-length : tie.Need-same-length Inv-loop μ-loop
+same-length c = search needs
+
+returns : tie.Need-returns Inv-loop μ-loop
+returns c = search needs
+
+pub push-wants-spec : {M : Type 1} → statement M
+push-wants-spec =
+    tie.close
+    (tie.spec
+    Inv-loop
+    μ-loop
+    depth-requires
+    loop-holds
+    set-of-level-requires
+    push-set-requires
+    sub-k
+    loop-less
+    loop-again
+    same-length
+    returns)

@@ -1,0 +1,65 @@
+-- `compare::t800::transform` is safe and ends. In the loop the areas keep their lengths. Assumes nothing.
+use mathlib.Core.Path.{_≡_}
+use Prim.Native.Nat.{_≤_, _-_}
+use native.Mathlib.Omega.{arith}
+use borrow.Author.Needs.{needs}
+use lib.ListN.{length}
+use Rattle.compare.proofs.t800.transform.Statement.{statement}
+use Rattle.compare.proofs.t800.transform.Tie as tie
+
+abbrev Inv-loop : tie.InvT-loop
+Inv-loop plane₀ other₀ width height levels w₀ h₀ k₀ plane other w h k = (0 ≤ k) × (length plane ≡ length plane₀) × (length other ≡ length other₀)
+
+abbrev μ-loop : tie.MeasureT-loop
+μ-loop plane₀ other₀ width height levels w₀ h₀ k₀ plane other w h k = levels - k
+
+loop-holds : tie.Need-loop-holds Inv-loop μ-loop
+loop-holds c = search needs
+
+lift-columns-requires : tie.Need-lift-columns-requires Inv-loop μ-loop
+lift-columns-requires c κs = search needs
+
+lift-rows-requires : tie.Need-lift-rows-requires Inv-loop μ-loop
+lift-rows-requires c κs = search needs
+
+half-requires : tie.Need-half-requires Inv-loop μ-loop
+half-requires c κs = search needs
+
+half-requires-2 : tie.Need-half-requires-2 Inv-loop μ-loop
+half-requires-2 c κs = search needs
+
+add-k : tie.Need-add-k Inv-loop μ-loop
+add-k c = omega arith
+
+loop-less : tie.Need-loop-less Inv-loop μ-loop
+loop-less c = omega arith
+
+loop-again : tie.Need-loop-again Inv-loop μ-loop
+loop-again c = search needs
+
+same-length : tie.Need-same-length Inv-loop μ-loop
+same-length c = search needs
+
+same-length-2 : tie.Need-same-length-2 Inv-loop μ-loop
+same-length-2 c = search needs
+
+returns : tie.Need-returns Inv-loop μ-loop
+returns c = search needs
+
+pub transform-spec : {M : Type 1} → statement M
+transform-spec =
+    tie.close
+    (tie.spec
+    Inv-loop
+    μ-loop
+    loop-holds
+    lift-columns-requires
+    lift-rows-requires
+    half-requires
+    half-requires-2
+    add-k
+    loop-less
+    loop-again
+    same-length
+    same-length-2
+    returns)
