@@ -1,5 +1,4 @@
-// Numbers of an area, read and written at any place: nothing to show where they are called.
-
+// Numbers of an area, read and written at any place: nothing is to be shown where they are called.
 ghost use Prim.Native.Nat.{_≤_};
 
 // Larger than any side or place within a line that is compared here.

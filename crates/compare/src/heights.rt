@@ -7,12 +7,10 @@ pub struct Shape {
     pub levels: usize,
 }
 
-// How many sizes: 9 × 9 small ones and the larger ones of `large`.
-const SIZES: usize = 97;
-
+// Kinds of heights.
 const KINDS: usize = 6;
 
-// SIZES × KINDS × 5 levels
+// 97 sizes (9 × 9 small ones and the 16 of `large`), at 1 to 5 levels, with heights of 6 kinds.
 pub const MAPS: usize = 2910;
 
 fn shape_of(width: usize, height: usize, levels: usize) -> Shape {
@@ -64,7 +62,7 @@ pub fn next(seed: u64) -> u64 {
     (seed % 2147483647) * 48271 % 2147483647
 }
 
-// A number up to some times n, and so more than n at times.
+// A number from 0 to `times` × n.
 pub fn up_to(seed: u64, n: usize, times: usize) -> usize {
     (seed % (area::FAR as u64)) as usize % (area::cell(n, times, 0) + 1)
 }

@@ -23,7 +23,7 @@ fn differ(answer: u8, expected: u8) -> u64 {
     area::differ_count(answer as usize, expected as usize)
 }
 
-// A map of one row of zeros: W and L asked by the whole map, the view, and the set-ups.
+// A map of one row, there and back: W and L are asked by both calls.
 fn map_answer(
     width: usize,
     levels: usize,
@@ -43,6 +43,7 @@ fn stream_answer(width: usize, levels: usize, store: &mut [i32], expected: u8) -
     area::sum(differ(a, expected), differ(b, expected))
 }
 
+// One width and number of levels at every call that asks for them: the whole map, the view and the set-ups.
 fn size(
     t: Tally,
     width: usize,

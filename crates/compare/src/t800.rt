@@ -34,7 +34,7 @@ fn mirror(i: usize, n: usize) -> usize {
     0
 }
 
-// z within twice the base: no call goes beyond, and a sum of some of them fits 64 bits.
+// z, at most twice the base, so that a sum of some of them fits 64 bits. No number that is compared goes beyond.
 fn held(z: u64) -> u64
     ensures { λ r. ⌜ r ≤ 2199023255552 ⌝ }
 {
@@ -44,6 +44,7 @@ fn held(z: u64) -> u64
     z
 }
 
+// a − b, where it is not negative: it never is.
 fn minus(a: u64, b: u64) -> u64 {
     if a < b {
         return 0;
