@@ -10,8 +10,8 @@ use Rattle.writer.specs.declared.Writer.{Writer}
 use Rattle.writer.specs.declared.BandRow.{BandRow}
 use Rattle.writer.specs.Level.{Memory, LevelKind}
 use Rattle.writer.specs.FiveThreeLevel.{fiveThree}
-use Rattle.writer.specs.Taking.{Taking, offering, takes, none, oneMore, begun, complete, heightPut, rowMakes}
-use Rattle.writer.specs.Answers.{Reply, gives, refused, unless, Took, Handed, aRow, nothing}
+use Rattle.writer.specs.Taking.{Taking, offering, takes, none, begun, complete, heightPut, rowMakes}
+use Rattle.writer.specs.Answers.{gives, unless, Took, aRow}
 use Rattle.writer.specs.Questions.{offerQuestion, drawQuestion}
 use Rattle.writer.specs.Calls.{took, offerReply, waits, afterDraw, handed, drawReply}
 

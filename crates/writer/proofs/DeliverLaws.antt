@@ -1,12 +1,12 @@
 -- The LL row that goes to the next level, in pairs: its even numbers, and past them its odd ones. Assumes nothing.
-use mathlib.Core.Path.{_≡_, refl, sym, ap, _∙_}
+use mathlib.Core.Path.{_≡_, sym, ap, _∙_}
 use Prim.Native.Nat.{ℕ, _+_, _-_, _*_, _≤_, _<_}
 use native.Mathlib.Omega.{arith}
 use lib.IntN.{ℤ}
 use Rattle.numbers.specs.Signal.{spliced}
 use Rattle.lifting.specs.Line.{lo, hi, count}
 use Rattle.lifting.proofs.LineLaws.{counts}
-use Rattle.wavelet.proofs.SizeLaws.{count-lo, count-hi}
+use Rattle.wavelet.proofs.SizeLaws.{count-lo}
 use Rattle.writer.specs.FiveThreeLevel.{slot, rowPut, bandPlace}
 use Rattle.writer.specs.Taking.{stored}
 use Rattle.writer.specs.Columns.{separated}
@@ -30,9 +30,6 @@ module _ (w n : ℕ) (x : ℕ → ℤ) where
       ∙ splice-halves at (count lo w) row _ x
 
   module _ (v low k from to : ℕ) (ev : v ≡ count lo w) (el : low ≡ count lo v) (ek : k ≡ v - low) (ef : from ≡ slot w (2 * n)) (et : to ≡ 4 * w + slot v n) where
-    abbrev evens : ℕ → ℕ → ℤ
-    evens m = spliced at m (λ j. row (2 * j)) x
-
     halved : spliced (to + low) k (λ j. x (from + (2 * j + 1))) (spliced to low (λ j. x (from + 2 * j)) x) ≡ delivered w n x
     halved =
         let both = counts (count lo w) in
