@@ -1,2 +1,4 @@
 pub mod StateLaws
+pub mod Steady
+pub mod WordLaws
 pub mod StateTheorems

@@ -15,16 +15,27 @@ module _ (s : List ℕ) (i : ℕ) where
   unfolding zeroFrom zeroNext
   next h = let e : 16 - i ≡ suc (16 - (i + 1)) = omega arith in rw e refl
 
-  -- a 0 leaves the answer to the places after it; another number is a no
-  pub zero-on : i < 16 → getD s i 0 ≡ 0 → zeroFrom i s ≡ zeroFrom (i + 1) s
-  zero-on h e = next h ∙ simp (eq-eqb (getD s i 0) 0 e)
-
-  pub zero-no : i < 16 → (getD s i 0 ≡ 0 → ⊥) → zeroFrom i s ≡ false
-  zero-no h e = next h ∙ simp (ne-eqb (getD s i 0) 0 e)
-
-  pub zero-end : 16 ≤ i → zeroFrom i s ≡ true
+  none : 16 ≤ i → zeroFrom i s ≡ true
   unfolding zeroFrom zeroNext
-  zero-end h = let e : 16 - i ≡ 0 = omega arith in rw e refl
+  none h = let e : 16 - i ≡ 0 = omega arith in rw e refl
+
+  -- a 0 leaves the answer to the places after it; another number is a no. z is what was found before, y with place i
+  pub zero-same : (z y : Bool) → i < 16 → getD s i 0 ≡ 0 → y ≡ z → both z (zeroFrom i s) ≡ both y (zeroFrom (i + 1) s)
+  zero-same z y h e g = let k : zeroFrom i s ≡ zeroFrom (i + 1) s = next h ∙ simp (eq-eqb (getD s i 0) 0 e) in rw (k, g)
+
+  pub zero-lost : (z y : Bool) → i < 16 → (getD s i 0 ≡ 0 → ⊥) → y ≡ false → both z (zeroFrom i s) ≡ both y (zeroFrom (i + 1) s)
+  zero-lost z y h e g = let k : zeroFrom i s ≡ false = next h ∙ simp (ne-eqb (getD s i 0) 0 e) in rw (k, g) (no z)
+    where
+      no : (z : Bool) → both z false ≡ false
+      no true = refl
+      no false = refl
+
+  pub zero-end : (z : Bool) → 16 ≤ i → both z (zeroFrom i s) ≡ z
+  zero-end z h = rw (none h) (same z)
+    where
+      same : (z : Bool) → both z true ≡ z
+      same true = refl
+      same false = refl
 
 -- the tests of a state one after the other
 module _ (kind f k : ℕ) (s : List ℕ) where

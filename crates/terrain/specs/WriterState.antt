@@ -3,7 +3,7 @@ use mathlib.Core.Bool.{Bool}
 use mathlib.Core.List.{List, [], _∷_}
 use Prim.Native.Nat.{ℕ}
 use lib.Dec.{eqb}
-use lib.ListN.{getD}
+use lib.ListN.{getD, set}
 use Rattle.writer.specs.declared.Writer.{Writer}
 use Rattle.terrain.specs.States.{flag, isState}
 
@@ -22,6 +22,13 @@ writerOf s =
       level = getD s 7 0;
       left = getD s 8 0;
     }
+
+-- what an offer writes of the array, and what a draw: the other words stand there already
+abbrev pub offeredWords : Writer → List ℕ → List ℕ
+offeredWords w s = set (set (set (set s 3 (w .rows)) 4 (w .column)) 7 (w .level)) 8 (w .left)
+
+abbrev pub drawnWords : Writer → List ℕ → List ℕ
+drawnWords w s = set (set (set s 6 (w .closed)) 7 (w .level)) 8 (w .left)
 
 abbrev pub writerWords : Writer → List ℕ
 writerWords w =

@@ -63,7 +63,7 @@ pub extern "C" fn terrain_writer_offer(
     let w = writer_state::unpack_writer(state);
     match w.offer(store, run) {
         Offered::Taken(n, next) => {
-            writer_state::pack_writer(next, state);
+            writer_state::pack_offered(next, state);
             *taken = n;
             0
         }
@@ -91,7 +91,7 @@ pub extern "C" fn terrain_writer_draw(
     let w = writer_state::unpack_writer(state);
     match w.draw(store, out) {
         Drawn::Row(r, next) => {
-            writer_state::pack_writer(next, state);
+            writer_state::pack_drawn(next, state);
             *row = [r.level as u64, r.band as u64, r.row as u64, r.length as u64];
             0
         }

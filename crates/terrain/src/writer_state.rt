@@ -2,7 +2,8 @@
 use crate::states;
 use writer::Writer;
 ghost use mathlib.Core.Path.{_≡_};
-ghost use Rattle.terrain.specs.WriterState.{isWriter, writerOf, writerWords};
+ghost use lib.ListN.{length};
+ghost use Rattle.terrain.specs.WriterState.{isWriter, writerOf, writerWords, offeredWords, drawnWords};
 
 // Is this the state array of a writer?
 pub fn is_writer(s: &[u64; 16]) -> bool
@@ -56,4 +57,25 @@ pub fn pack_writer(w: Writer, s: &mut [u64; 16])
         0,
         0,
     ];
+}
+
+// Those of its words that an offer changes; the others stand there already.
+pub fn pack_offered(w: Writer, s: &mut [u64; 16])
+    ensures { λ _. ⌜ (now (s .exit) ≡ offeredWords w (now (s .entry))) × (length (now (s .entry)) ≡ 16) ⌝ }
+{
+    states::sized(*s);
+    s[3] = w.rows as u64;
+    s[4] = w.column as u64;
+    s[7] = w.level as u64;
+    s[8] = w.left as u64;
+}
+
+// Those that a draw changes.
+pub fn pack_drawn(w: Writer, s: &mut [u64; 16])
+    ensures { λ _. ⌜ (now (s .exit) ≡ drawnWords w (now (s .entry))) × (length (now (s .entry)) ≡ 16) ⌝ }
+{
+    states::sized(*s);
+    s[6] = w.closed as u64;
+    s[7] = w.level as u64;
+    s[8] = w.left as u64;
 }

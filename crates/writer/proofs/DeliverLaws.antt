@@ -1,17 +1,19 @@
--- The LL row that goes to the next level, by two copies: its even numbers, then its odd ones. Assumes nothing.
-use mathlib.Core.Path.{_≡_, refl, sym, ap, _∙_}
-use Prim.Native.Nat.{ℕ, _+_, _-_, _*_, _<_}
+-- The LL row that goes to the next level, in pairs: its even numbers, and past them its odd ones. Assumes nothing.
+use mathlib.Core.Path.{_≡_, sym, ap, _∙_}
+use Prim.Native.Nat.{ℕ, _+_, _-_, _*_, _≤_, _<_}
 use native.Mathlib.Omega.{arith}
 use lib.IntN.{ℤ}
 use Rattle.numbers.specs.Signal.{spliced}
-use Rattle.numbers.proofs.Parts.{splice-below}
 use Rattle.lifting.specs.Line.{lo, hi, count}
 use Rattle.lifting.proofs.LineLaws.{counts}
-use Rattle.wavelet.proofs.SizeLaws.{count-lo, count-hi}
+use Rattle.wavelet.proofs.SizeLaws.{count-lo}
 use Rattle.writer.specs.FiveThreeLevel.{slot, rowPut, bandPlace}
+use Rattle.writer.specs.Taking.{stored}
+use Rattle.writer.specs.Columns.{separated}
 use Rattle.writer.specs.Steps.{delivered}
 use Rattle.writer.proofs.CountLaws.{slot-room}
-use Rattle.writer.proofs.RestLaws.{join-splice, splice-halves, splice-same}
+use Rattle.writer.proofs.RestLaws.{join-splice, splice-halves}
+use Rattle.writer.proofs.PairLaws.{separated-below, separated-last}
 
 module _ (w n : ℕ) (x : ℕ → ℤ) where
   abbrev row : ℕ → ℤ
@@ -27,24 +29,32 @@ module _ (w n : ℕ) (x : ℕ → ℤ) where
       join-splice (4 * w) (slot (count lo w) n) (count lo w) _ x
       ∙ splice-halves at (count lo w) row _ x
 
-  -- what the second copy reads, the first has not written
-  second : (p : ℕ) → p < 4 * w → spliced at (count lo (count lo w)) (λ j. row (2 * j)) x p ≡ x p
-  second p h = splice-below at (count lo (count lo w)) _ x p (omega arith)
+  module _ (v low k from to : ℕ) (ev : v ≡ count lo w) (el : low ≡ count lo v) (ek : k ≡ v - low) (ef : from ≡ slot w (2 * n)) (et : to ≡ 4 * w + slot v n) where
+    halved : spliced (to + low) k (λ j. x (from + (2 * j + 1))) (spliced to low (λ j. x (from + 2 * j)) x) ≡ delivered w n x
+    halved =
+        let both = counts (count lo w) in
+        let kt : to ≡ at = et ∙ ap (λ (u : ℕ). 4 * w + slot u n) ev in
+        let kl : low ≡ count lo (count lo w) = el ∙ ap (count lo) ev in
+        let kk : k ≡ count hi (count lo w) = omega arith in
+        rw (kt, kl, kk, ef) (sym written)
 
-  pub two-copies : (v low h from to : ℕ) (x₁ x₂ : ℕ → ℤ) → v ≡ count lo w → low ≡ count lo v → h ≡ v - low → from ≡ slot w (2 * n) → to ≡ 4 * w + slot v n →
-      x₁ ≡ spliced to low (λ j. x (from + 2 * j)) x → x₂ ≡ spliced (to + low) h (λ j. x₁ (from + 1 + 2 * j)) x₁ → x₂ ≡ delivered w n x
-  two-copies v low h from to x₁ x₂ ev el eh ef et e₁ e₂ =
-      let room = slot-room w (2 * n) in
-      let both = counts (count lo w) in
-      let c₁ = count-lo w in
-      let c₂ = count-lo (count lo w) in
-      let c₃ = count-hi (count lo w) in
-      let kt : to ≡ at = et ∙ ap (λ (u : ℕ). 4 * w + slot u n) ev in
-      let kl : low ≡ count lo (count lo w) = el ∙ ap (count lo) ev in
-      let kh : h ≡ count hi (count lo w) = omega arith in
-      let y₁ : ℕ → ℤ = spliced at (count lo (count lo w)) (λ j. row (2 * j)) x in
-      let f₁ : x₁ ≡ y₁ = e₁ ∙ rw (kt, kl, ef) refl in
-      let f₂ : x₂ ≡ spliced (at + count lo (count lo w)) (count hi (count lo w)) (λ j. y₁ (slot w (2 * n) + 1 + 2 * j)) y₁ = e₂ ∙ rw (kt, kl, kh, ef, f₁) refl in
-      f₂
-      ∙ splice-same _ _ _ (λ j. row (2 * j + 1)) y₁ (λ j g. let k : slot w (2 * n) + 1 + 2 * j ≡ slot w (2 * n) + (2 * j + 1) = omega arith in second (slot w (2 * n) + 1 + 2 * j) (omega arith) ∙ ap x k)
-      ∙ sym written
+    -- an even number of columns is pairs, an odd one has another after them
+    pub delivered-even : (x₁ : ℕ → ℤ) → low ≤ k → x₁ ≡ separated from to (to + low) k x → x₁ ≡ delivered w n x
+    unfolding separated
+    delivered-even x₁ h e =
+        let c = count-lo v in
+        let m : k ≡ low = omega arith in
+        e ∙ ap (λ (z : ℕ). spliced (to + low) k (λ j. x (from + (2 * j + 1))) (spliced to z (λ j. x (from + 2 * j)) x)) m ∙ halved
+
+    pub delivered-odd : (x₁ x₂ : ℕ → ℤ) → k < low → x₁ ≡ separated from to (to + low) k x → x₂ ≡ stored (to + k) (x₁ (from + 2 * k)) x₁ → x₂ ≡ delivered w n x
+    delivered-odd x₁ x₂ h e e₂ =
+        let room = slot-room w (2 * n) in
+        let c₁ = count-lo w in
+        let c₂ = count-lo v in
+        let m : k + 1 ≡ low = omega arith in
+        let u : x₁ (from + 2 * k) ≡ x (from + 2 * k) = ap (λ (y : ℕ → ℤ). y (from + 2 * k)) e ∙ separated-below from to (to + low) k x (from + 2 * k) (omega arith) (omega arith) in
+        e₂
+        ∙ rw u (ap (stored (to + k) (x (from + 2 * k))) e)
+        ∙ separated-last from to (to + low) k x (omega arith)
+        ∙ ap (λ (z : ℕ). spliced (to + low) k (λ j. x (from + (2 * j + 1))) (spliced to z (λ j. x (from + 2 * j)) x)) m
+        ∙ halved

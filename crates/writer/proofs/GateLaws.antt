@@ -1,7 +1,7 @@
 -- What the gate questions say. Assumes nothing.
 use mathlib.Core.Path.{_≡_, refl, sym, _∙_}
 use mathlib.Core.Bool.{Bool, true, false, not}
-use Prim.Native.Nat.{ℕ, suc, _≤_, _<_}
+use Prim.Native.Nat.{ℕ, zero, suc, _+_, _*_, _/_, _≤_, _<_}
 use native.Mathlib.Omega.{arith}
 use lib.Dec.{leb, ltb, eqb}
 use borrow.Author.Tests.{leb-true, ltb-true, le-leb, lt-ltb, le-ltb, eq-eqb, ne-eqb, eqb-true}
@@ -10,7 +10,10 @@ use Rattle.numbers.proofs.Sweep as sweep
 use Rattle.wavelet.specs.Limits.{maxWidth, maxHeight, maxLevels}
 use Rattle.wavelet.specs.Questions.{ask, within}
 use Rattle.wavelet.specs.Store.{storeLength}
+use Rattle.lifting.specs.Line.{lo, count}
 use Rattle.wavelet.proofs.QuestionLaws.{within-true}
+use Rattle.wavelet.proofs.SizeLaws.{count-lo}
+use Rattle.wavelet.proofs.StoreLaws.{store-none, store-below}
 use Rattle.writer.specs.declared.Writer.{Writer}
 use Rattle.writer.specs.Questions.{either, inRanges, longEnough, offerQuestion, finishQuestion}
 use Rattle.writer.specs.Gate.{stateQuestion, openQuestion}
@@ -39,6 +42,32 @@ module _ (p q : ℕ) where
 pub ranges-last : (s : Writer) → within 1 2049 (s .width) ≡ true → within 1 5 (s .levels) ≡ true → s .rows ≤ 65535 → s .column < s .width → s .closed ≤ s .levels → s .level ≤ s .levels → leb (s .left) 4 ≡ inRanges s
 unfolding inRanges maxWidth maxHeight maxLevels
 ranges-last s a b d e f g = simp (a, b, le-leb _ _ d, lt-ltb _ _ e, le-leb _ _ f, le-leb _ _ g)
+
+-- ---- the most that a store needs, level by level
+one : (W : ℕ) → storeLength W 1 ≤ 4 * W
+one W = omega (arith, store-below W 0, store-none (count lo W))
+
+two : (W : ℕ) → 2 * storeLength W 2 ≤ 12 * W + 4
+two W = omega (arith, store-below W 1, count-lo W, one (count lo W))
+
+three : (W : ℕ) → 4 * storeLength W 3 ≤ 28 * W + 20
+three W = omega (arith, store-below W 2, count-lo W, two (count lo W))
+
+four : (W : ℕ) → 8 * storeLength W 4 ≤ 60 * W + 68
+four W = omega (arith, store-below W 3, count-lo W, three (count lo W))
+
+five : (W : ℕ) → 16 * storeLength W 5 ≤ 124 * W + 196
+five W = omega (arith, store-below W 4, count-lo W, four (count lo W))
+
+-- enough for every number of levels
+pub enough : (W L n : ℕ) → L ≤ 5 → (31 * W + 52) / 4 ≤ n → storeLength W L ≤ n
+enough W zero n h g = omega (arith, store-none W)
+enough W (suc zero) n h g = omega (arith, one W)
+enough W (suc (suc zero)) n h g = omega (arith, two W)
+enough W (suc (suc (suc zero))) n h g = omega (arith, three W)
+enough W (suc (suc (suc (suc zero)))) n h g = omega (arith, four W)
+enough W (suc (suc (suc (suc (suc zero))))) n h g = omega (arith, five W)
+enough W (suc (suc (suc (suc (suc (suc L)))))) n h g = absurd (omega arith)
 
 -- ---- a state that passes questions 1 and 5
 pub record Sound (s : Writer) (n : ℕ) : Type 0 where

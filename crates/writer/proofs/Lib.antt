@@ -18,4 +18,6 @@ pub mod ClosingLaws
 pub mod GateLaws
 pub mod CallLaws
 pub mod FillLaws
+pub mod ColumnLaws
+pub mod PairLaws
 pub mod OfferLaws

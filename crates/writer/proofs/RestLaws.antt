@@ -71,19 +71,6 @@ module _ (a : ℕ) (l : List ℤ) where
       ]
 
 -- ---- numbers written
--- only the numbers written count
-pub splice-same : (a n : ℕ) (y z x : ℕ → ℤ) → ((j : ℕ) → j < n → y j ≡ z j) → spliced a n y x ≡ spliced a n z x
-splice-same a n y z x e =
-    fun-ext λ j.
-    elim (decLt j a) [
-      | yes p ↦ splice-below a n y x j p ∙ sym (splice-below a n z x j p)
-      | no d ↦
-          elim (decLt j (a + n)) [
-            | yes q ↦ splice-in a n y x j (omega arith) q ∙ e (j - a) (omega arith) ∙ sym (splice-in a n z x j (omega arith) q)
-            | no q ↦ splice-past a n y x j (omega arith) ∙ sym (splice-past a n z x j (omega arith))
-          ]
-    ]
-
 -- written within the rest, or within the whole
 pub join-splice : (a b n : ℕ) (y x : ℕ → ℤ) → joinAt a x (spliced b n y (rest a x)) ≡ spliced (a + b) n y x
 join-splice a b n y x =

@@ -1,5 +1,5 @@
 -- The laws of the sets of a 5/3 level: what the calls on the store come to, over plain variables. Assumes nothing.
-use mathlib.Core.Path.{_≡_}
+use mathlib.Core.Path.{_≡_, ap, _∙_}
 use mathlib.Core.List.{List}
 use Prim.Native.Nat.{ℕ, zero, suc, _+_, _-_, _*_, _%_, _≤_, _<_}
 use native.Mathlib.Omega.{arith}
@@ -16,7 +16,9 @@ use Rattle.lifting.specs.Rows.{rowChanged, rowsChanged}
 use Rattle.lifting.proofs.RowLaws.{rows-fit, changed}
 use Rattle.writer.specs.Counts.{prev}
 use Rattle.writer.specs.FiveThreeLevel.{slot, first, before, rowPredicted, rowUpdated, rowCopied, rowLifted, setWith, lowAlone, lastSet}
-use Rattle.writer.proofs.CountLaws.{slot-index, row-room}
+use Rattle.writer.specs.Columns.{columnsLifted, ColumnRows, setColumns}
+use Rattle.writer.proofs.CountLaws.{slot-index, row-room, before-first, before-is}
+use Rattle.writer.proofs.Slots.{slots-apart, slots-apart′}
 
 -- a row lifted in a part of the store that is lent
 pub lift-part : (w r a k : ℕ) (l z : List ℤ) → a ≡ slot w r → k ≡ w → a + w ≤ length l → length z ≡ k → at z ≡ liftedInPlace (length (midOf a k l)) (at (midOf a k l)) → at (putMid a k l z) ≡ rowLifted w r (at l)
@@ -30,17 +32,45 @@ pub row-call : (f : ℤ → ℤ → ℤ → ℤ) (n w t l r : ℕ) (x : ℕ → 
 row-call f n w t l r x h a b d =
     changed f w w t l r x n (rows-fit n w w t l r (omega arith) (omega (arith, row-room w t a)) (omega (arith, row-room w l b)) (omega (arith, row-room w r d)))
 
--- set n, call by call
-pub set-made : (w n r b k k′ : ℕ) (x₀ x₁ x₂ x₃ x₄ x₅ : ℕ → ℤ) → 4 * w ≤ k → 4 * w ≤ k′ → b ≡ before n →
+-- the columns of set n: of the first call by call, of a later one in one pass
+pub columns-first : (w n r k k′ : ℕ) (x₀ x₁ x₂ x₃ : ℕ → ℤ) → 4 * w ≤ k → 4 * w ≤ k′ → n ≡ 0 →
     x₁ ≡ rowsChanged (predicted wrap32) k w w ((2 * n + 1) % 4) (2 * n % 4) (r % 4) x₀ →
-    x₂ ≡ rowsChanged (updated wrap32) k′ w w (2 * n % 4) (b % 4) ((2 * n + 1) % 4) x₁ →
-    x₃ ≡ rowChanged first w w ((2 * n + 3) % 4) ((2 * n + 1) % 4) ((2 * n + 1) % 4) x₂ →
-    x₄ ≡ rowLifted w (2 * n) x₃ → x₅ ≡ rowLifted w (2 * n + 3) x₄ → x₅ ≡ setWith w n r x₀
-unfolding setWith rowPredicted rowUpdated rowCopied
-set-made w n r b k k′ x₀ x₁ x₂ x₃ x₄ x₅ h h′ e e₁ e₂ e₃ e₄ e₅ =
+    x₂ ≡ rowsChanged (updated wrap32) k′ w w (2 * n % 4) ((2 * n + 1) % 4) ((2 * n + 1) % 4) x₁ →
+    x₃ ≡ rowChanged first w w ((2 * n + 3) % 4) ((2 * n + 1) % 4) ((2 * n + 1) % 4) x₂ → x₃ ≡ setColumns w n r x₀
+unfolding setColumns rowPredicted rowUpdated rowCopied
+columns-first w n r k k′ x₀ x₁ x₂ x₃ h h′ z e₁ e₂ e₃ =
     let a₁ = row-call (predicted wrap32) k w ((2 * n + 1) % 4) (2 * n % 4) (r % 4) x₀ h (slot-index _) (slot-index _) (slot-index _) in
-    let a₂ = row-call (updated wrap32) k′ w (2 * n % 4) (b % 4) ((2 * n + 1) % 4) x₁ h′ (slot-index _) (slot-index _) (slot-index _) in
-    cc (a₁, a₂)
+    let a₂ = row-call (updated wrap32) k′ w (2 * n % 4) ((2 * n + 1) % 4) ((2 * n + 1) % 4) x₁ h′ (slot-index _) (slot-index _) (slot-index _) in
+    let b : before n ≡ 2 * n + 1 = omega (arith, before-first n z) in
+    rw b (cc (a₁, a₂))
+
+pub columns-later : (w n r : ℕ) (x₀ x₁ : ℕ → ℤ) → 0 < n → x₁ ≡ columnsLifted w w ((2 * n + 1) % 4) (2 * n % 4) (r % 4) ((2 * n + 3) % 4) x₀ → x₁ ≡ setColumns w n r x₀
+unfolding setColumns columnsLifted rowPredicted rowUpdated rowCopied
+columns-later w n r x₀ x₁ z e =
+    let k : before n + 4 ≡ 2 * n + 3 = omega (arith, before-is n z) in
+    let b : before n % 4 ≡ (2 * n + 3) % 4 = round (before n) ∙ ap (λ (q : ℕ). q % 4) k in
+    rw b e
+  where
+    round : (a : ℕ) → a % 4 ≡ (a + 4) % 4
+    round a = omega arith
+
+pub column-rows : (w n r k : ℕ) → 4 * w ≤ k → w < 4294967296 → ColumnRows k w ((2 * n + 1) % 4) (2 * n % 4) (r % 4) ((2 * n + 3) % 4)
+column-rows w n r k a b =
+    record {
+      room = a;
+      wide = b;
+      high = slot-index _;
+      low = slot-index _;
+      right = slot-index _;
+      free = slot-index _;
+      other = slots-apart′ (2 * n) 1 (omega arith) (omega arith);
+      kept = λ e. slots-apart (2 * n + 1) 2 (omega arith) (omega arith) (ap (λ (k : ℕ). k % 4) (omega arith) ∙ e);
+    }
+
+-- set n: its columns, then its two rows along the row
+pub set-made : (w n r : ℕ) (x₀ x₁ x₂ x₃ : ℕ → ℤ) → x₁ ≡ setColumns w n r x₀ → x₂ ≡ rowLifted w (2 * n) x₁ → x₃ ≡ rowLifted w (2 * n + 3) x₂ → x₃ ≡ setWith w n r x₀
+unfolding setWith setColumns
+set-made w n r x₀ x₁ x₂ x₃ e₁ e₂ e₃ = cc
 
 -- set n without a high row
 pub low-first : (w n : ℕ) (x₀ x₁ : ℕ → ℤ) → n ≡ 0 → x₁ ≡ rowLifted w 0 x₀ → x₁ ≡ lowAlone w n x₀

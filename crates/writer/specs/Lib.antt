@@ -14,3 +14,4 @@ pub mod Demand3
 pub mod Steps
 pub mod Gate
 pub mod Stretch
+pub mod Columns

@@ -27,8 +27,11 @@ fn deliver(store: &mut [i32], w: usize, n: usize)
     let low = sizes::half(v);
     let from = counts::slot(w, 2 * n);
     let to = 4 * w + counts::slot(v, n);
-    copies::separate(store, from, to, low);
-    copies::separate(store, from + 1, to + low, v - low);
+    let pairs = v - low;
+    copies::separate(store, from, to, to + low, pairs);
+    if pairs < low {
+        store[to + pairs] = store[from + 2 * pairs];
+    }
 }
 
 // Row m of a level stands in its slot; the level and those below it are l.

@@ -3,19 +3,21 @@ ghost use mathlib.Core.Path.{_≡_};
 ghost use Prim.Native.Nat.{_<_, _≤_, _+_, _*_};
 ghost use lib.IntN.{pos};
 ghost use lib.ListN.{length};
-ghost use Rattle.numbers.specs.Signal.{at, spliced};
+ghost use Rattle.numbers.specs.Signal.{at};
 ghost use Rattle.lifting.specs.Halves.{fronted};
 ghost use Rattle.lifting.specs.Rows.{rowChanged};
+ghost use Rattle.writer.specs.Columns.{separated};
 ghost use Rattle.writer.specs.FiveThreeLevel.{first};
 
-// Every second number from `from` on, to the `count` places from `to` on, which lie past them.
-pub fn separate(store: &mut [i32], from: usize, to: usize, count: usize)
-    requires { ⌜ (from + 2 * count ≤ to + 1) × (to + count ≤ length (now store)) ⌝ }
-    ensures { λ _. ⌜ at (now (store .exit)) ≡ spliced to count (λ j. at (now (store .entry)) (from + 2 * j)) (at (now (store .entry))) ⌝ }
+// `count` pairs of numbers from `from` on: the first of each to the places from `evens` on, the second to those from `odds` on, past what is read. One loop stores both: the compiler then reads whole vectors.
+pub fn separate(store: &mut [i32], from: usize, evens: usize, odds: usize, count: usize)
+    requires { ⌜ (from + 2 * count ≤ evens) × (evens + count ≤ odds) × (odds + count ≤ length (now store)) ⌝ }
+    ensures { λ _. ⌜ at (now (store .exit)) ≡ separated from evens odds count (at (now (store .entry))) ⌝ }
 {
     let mut j = 0;
     while j < count {
-        store[to + j] = store[from + 2 * j];
+        store[evens + j] = store[from + 2 * j];
+        store[odds + j] = store[from + 2 * j + 1];
         j += 1;
     }
 }

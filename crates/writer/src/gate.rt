@@ -3,6 +3,8 @@ use crate::Writer;
 use wavelet::limits;
 use wavelet::store;
 ghost use mathlib.Core.Path.{_≡_};
+ghost use Prim.Native.Nat.{_+_, _*_, _/_, _<_};
+ghost use lib.Dec.{leb};
 ghost use Rattle.writer.specs.Questions.{inRanges, setUpQuestion, offerQuestion, finishQuestion};
 ghost use Rattle.writer.specs.Gate.{stateQuestion, openQuestion};
 
@@ -31,12 +33,23 @@ fn in_ranges(s: Writer) -> bool
     s.left <= 4
 }
 
+// Whether n numbers are enough for every number of levels. At the most levels a width of 2^k + 1 needs just as many, so the sizes are seldom added up.
+fn holds_any(width: usize, n: usize) -> bool
+    requires { ⌜ width < 65536 ⌝ }
+    ensures { λ r. ⌜ r ≡ leb ((31 * width + 52) / 4) n ⌝ }
+{
+    (31 * width + 52) / 4 <= n
+}
+
 // Questions 1 and 5, n being the length of the store.
 pub fn state_question(s: Writer, n: usize) -> u8
     ensures { λ r. ⌜ r ≡ stateQuestion s n ⌝ }
 {
     if !in_ranges(s) {
         return 1;
+    }
+    if holds_any(s.width, n) {
+        return 0;
     }
     if n < store::store_length(s.width, s.levels) {
         return 5;

@@ -10,6 +10,7 @@ use Rattle.writer.specs.Calls.{drawReply, drawStore, drawArea}
 use Rattle.terrain.specs.WriterState.{isWriter, writerOf}
 use Rattle.terrain.specs.WriterCalls.{number, drawn, stateHanded, rowOf}
 use Rattle.terrain.proofs.StateLaws.{turned, went}
+use Rattle.terrain.proofs.WordLaws.{drawn-words}
 use Rattle.terrain.proofs.writer_calls.terrain_writer_draw.Statement.{statement}
 use Rattle.terrain.proofs.writer_calls.terrain_writer_draw.Tie as tie
 
@@ -43,8 +44,8 @@ draw-requires c κs = search needs
 enum-known-r : tie.Need-enum-known-r
 enum-known-r c = search needs
 
-pack-writer-requires : tie.Need-pack-writer-requires
-pack-writer-requires c κs = search needs
+pack-drawn-requires : tie.Need-pack-drawn-requires
+pack-drawn-requires c κs = search needs
 
 enum-told : tie.Need-enum-told
 enum-told c = search needs
@@ -72,7 +73,7 @@ returns-2 c =
     ∙ ap ofDrawn (c .before .before .before .before .r .given .1) in (
       sym (ap number e),
       (
-        c .before .pack-writer .ensures ∙ sym (ap (λ (q : Reply Handed). stateHanded q (a .state .now)) e),
+        c .before .pack-drawn .ensures .0 ∙ drawn-words (a .state .now) (c .before .pack-drawn .ensures .1) _ _ _ _ _ e ∙ sym (ap (λ (q : Reply Handed). stateHanded q (a .state .now)) e),
         (
           sym (went (isWriter (a .state .now)) (i .is-writer .result) (i .is-writer .ensures) (λ (w : Writer). drawStore w (length (a .store .now)) (length (a .out .now)) (at (a .store .now))) (writerOf (a .state .now)) (u .unpack-writer .result) (at (a .store .now)) _ (u .before .before .if1 .left) (u .unpack-writer .ensures) (o .before .before .draw .ensures .1 .0)),
           (
@@ -148,7 +149,7 @@ terrain-writer-draw-spec =
     unpack-writer-requires
     draw-requires
     enum-known-r
-    pack-writer-requires
+    pack-drawn-requires
     enum-told
     enum-known-no
     cast-result

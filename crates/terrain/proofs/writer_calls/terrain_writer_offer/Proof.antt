@@ -11,6 +11,7 @@ use Rattle.writer.specs.Calls.{offerReply, offerStore}
 use Rattle.terrain.specs.WriterState.{isWriter, writerOf}
 use Rattle.terrain.specs.WriterCalls.{number, offered, stateTook, takenOf}
 use Rattle.terrain.proofs.StateLaws.{turned, went}
+use Rattle.terrain.proofs.WordLaws.{offered-words}
 use Rattle.terrain.proofs.writer_calls.terrain_writer_offer.Statement.{statement}
 use Rattle.terrain.proofs.writer_calls.terrain_writer_offer.Tie as tie
 
@@ -41,8 +42,8 @@ offer-requires c κs = search needs
 enum-known-n : tie.Need-enum-known-n
 enum-known-n c = search needs
 
-pack-writer-requires : tie.Need-pack-writer-requires
-pack-writer-requires c κs = search needs
+pack-offered-requires : tie.Need-pack-offered-requires
+pack-offered-requires c κs = search needs
 
 enum-known-no : tie.Need-enum-known-no
 enum-known-no c = search needs
@@ -64,7 +65,7 @@ returns-2 c =
     ∙ ap ofOffered (c .before .before .before .n .given .1) in (
       sym (ap number e),
       (
-        c .pack-writer .ensures ∙ sym (ap (λ (q : Reply Took). stateTook q (a .state .now)) e),
+        c .pack-offered .ensures .0 ∙ offered-words (a .state .now) (c .pack-offered .ensures .1) _ _ _ _ e ∙ sym (ap (λ (q : Reply Took). stateTook q (a .state .now)) e),
         (
           sym (went (isWriter (a .state .now)) (i .is-writer .result) (i .is-writer .ensures) (λ (w : Writer). offerStore w (length (a .store .now)) (a .run .now) (at (a .store .now))) (writerOf (a .state .now)) (u .unpack-writer .result) (at (a .store .now)) _ (u .before .before .if1 .left) (u .unpack-writer .ensures) (o .before .offer .ensures .1 .0)),
           sym (ap (λ (q : Reply Took). takenOf q (a .taken .now)) e),
@@ -103,7 +104,7 @@ terrain-writer-offer-spec =
     unpack-writer-requires
     offer-requires
     enum-known-n
-    pack-writer-requires
+    pack-offered-requires
     enum-known-no
     cast-result
     same-length
