@@ -128,7 +128,10 @@ static size_t run(const uint8_t *data, size_t size, size_t cut)
     ssize_t got;
     while (n < ROOM && (got = read(out[0], found + n, ROOM - n)) > 0) n += (size_t)got;
     close(out[0]);
-    if (waitpid(child, &status, 0) < 0 || status) abort();
+    if (waitpid(child, &status, 0) < 0 || status) {
+        fprintf(stderr, "the program ended with %s %d\n", WIFSIGNALED(status) ? "signal" : "status", WIFSIGNALED(status) ? WTERMSIG(status) : WEXITSTATUS(status));
+        abort();
+    }
     return n;
 }
 
