@@ -29,6 +29,10 @@ use Rattle.whole_map.proofs.RowwiseLaws.{window-cut}
 pub row-room : (n s w h r : ℕ) → Rows n s w h → r < h → r * s + w ≤ n
 row-room n s w h r g lt = let m : r * s ≤ (h - 1) * s = mul-le-mul-right s (omega arith) in omega (arith, g .room)
 
+-- an area that kept its length
+pub rows-kept : {n n′ s w h : ℕ} → n′ ≡ n → Rows n s w h → Rows n′ s w h
+rows-kept e g = rw e g
+
 pub few : (n s w h : ℕ) → Rows n s w h → h ≤ n + 1
 few n s w h g = let m : (h - 1) * 1 ≤ (h - 1) * s = mul-le-mul-left (h - 1) (g .apart) in omega (arith, g .room)
 

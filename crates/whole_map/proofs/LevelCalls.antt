@@ -61,19 +61,16 @@ module _ (s w h : ℕ) (x : ℕ → ℤ) (apart : 0 < s) where
   unfolding columnsUnliftedInPlace
   columns-alone-back b = simp (le-ltb 1 h (omega arith)) (sym (flat-cells s x))
 
-  module _ (y z : ℕ → ℤ) where
-    pub columns-both : 2 ≤ h → y ≡ flat s (oddRowsChanged (predicted wrap32) w h (cells s x)) → z ≡ flat s (evenRowsChanged (updated wrap32) w h (cells s y)) → z ≡ flat s (columnsLiftedInPlace w h (cells s x))
+  module _ (y : ℕ → ℤ) where
+    pub columns-both : 2 ≤ h → y ≡ flat s (evenRowsChanged (updated wrap32) w h (oddRowsChanged (predicted wrap32) w h (cells s x))) → y ≡ flat s (columnsLiftedInPlace w h (cells s x))
     unfolding columnsLiftedInPlace
-    columns-both b e f =
-        simp (lt-ltb 1 h (omega arith))
-        (f ∙ flat-same s _ _ apart (λ r c cs. even-same (updated wrap32) w h (cells s y) _ r c (λ i. left-cells s _ y e i c cs)))
+    columns-both b e = simp (lt-ltb 1 h (omega arith)) e
 
-    pub columns-both-back : 2 ≤ h → y ≡ flat s (evenRowsChanged (unupdated wrap32) w h (cells s x)) → z ≡ flat s (oddRowsChanged (unpredicted wrap32) w h (cells s y)) → z ≡ flat s (columnsUnliftedInPlace w h (cells s x))
+    pub columns-both-back : 2 ≤ h → y ≡ flat s (oddRowsChanged (unpredicted wrap32) w h (evenRowsChanged (unupdated wrap32) w h (cells s x))) → y ≡ flat s (columnsUnliftedInPlace w h (cells s x))
     unfolding columnsUnliftedInPlace
-    columns-both-back b e f =
-        simp (lt-ltb 1 h (omega arith))
-        (f ∙ flat-same s _ _ apart (λ r c cs. odd-same (unpredicted wrap32) w h (cells s y) _ r c (λ i. left-cells s _ y e i c cs)))
+    columns-both-back b e = simp (lt-ltb 1 h (omega arith)) e
 
+  module _ (y z : ℕ → ℤ) where
     pub level-both : w ≤ s → y ≡ flat s (columnsLiftedInPlace w h (cells s x)) → z ≡ flat s (rowsMapped (liftedInPlace w) w h (cells s y)) → z ≡ flat s (levelLifted w h (cells s x))
     unfolding levelLifted
     level-both ws e f =

@@ -47,8 +47,7 @@ fn lift_columns(work: &mut [i32], stride: usize, width: usize, height: usize)
     if height < 2 {
         return;
     }
-    passes::predict_odd_rows(work, stride, width, height);
-    passes::update_even_rows(work, stride, width, height);
+    passes::lift_pairs(work, stride, width, height);
 }
 
 // All columns back.
@@ -59,8 +58,7 @@ fn unlift_columns(work: &mut [i32], stride: usize, width: usize, height: usize)
     if height < 2 {
         return;
     }
-    passes::unupdate_even_rows(work, stride, width, height);
-    passes::unpredict_odd_rows(work, stride, width, height);
+    passes::unlift_pairs(work, stride, width, height);
 }
 
 // One level forward, in place: all columns, then all rows.

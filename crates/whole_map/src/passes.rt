@@ -11,7 +11,7 @@ ghost use Rattle.lifting.specs.Line.{predicted, updated, unupdated, unpredicted
 ghost use Rattle.lifting.specs.Halves.{liftedInPlace, unliftedInPlace};
 ghost use Rattle.wavelet.specs.Plane.{cells, flat};
 ghost use Rattle.whole_map.specs.Rowwise.{partedInPlace, wovenInPlace};
-ghost use Rattle.whole_map.specs.Passes.{after, before, oddRowsChanged, evenRowsChanged, rowsMapped, Rows};
+ghost use Rattle.whole_map.specs.Passes.{after, before, oddRowsChanged, evenRowsChanged, nextChanged, rowsMapped, Rows};
 
 // The row after row r of `height` rows, and the row before: mirrored at the ends.
 fn row_after(height: usize, r: usize) -> usize
@@ -27,25 +27,27 @@ fn row_before(r: usize) -> usize
     if 0 < r { r - 1 } else { 1 }
 }
 
-// Columns forward: each odd row predicted by the even rows next to it.
-pub fn predict_odd_rows(area: &mut [i32], stride: usize, width: usize, height: usize)
-    requires { ⌜ Rows (length (now area)) stride width height ⌝ }
-    ensures { λ _. ⌜ at (now (area .exit)) ≡ flat stride (oddRowsChanged (predicted wrap32) width height (cells stride (at (now (area .entry))))) ⌝ }
+// The row after row r predicted, where there is one, by row r and the row after it.
+fn predict_next(area: &mut [i32], stride: usize, width: usize, height: usize, r: usize)
+    requires { ⌜ (r < height) × (1 < height) ⌝ }
+    ensures { λ _. ⌜ at (now (area .exit)) ≡ nextChanged (predicted wrap32) (length (now (area .entry))) stride width height r (at (now (area .entry))) ⌝ }
 {
-    let mut r = 1;
-    while r < height {
-        rows::predict_row(area, stride, width, r, row_before(r), row_after(height, r));
-        r += 2;
+    let next = r + 1;
+    if height <= next {
+        return;
     }
+    rows::predict_row(area, stride, width, next, r, row_after(height, next));
 }
 
-// Then each even row updated by the odd rows next to it.
-pub fn update_even_rows(area: &mut [i32], stride: usize, width: usize, height: usize)
+// Columns forward: each odd row predicted by the even rows next to it, each even row updated by the odd rows next to it. Row by row, so
+// that a row is still near when it is used again: an even row changes once the odd row after it is predicted and is read no more.
+pub fn lift_pairs(area: &mut [i32], stride: usize, width: usize, height: usize)
     requires { ⌜ Rows (length (now area)) stride width height × (1 < height) ⌝ }
-    ensures { λ _. ⌜ at (now (area .exit)) ≡ flat stride (evenRowsChanged (updated wrap32) width height (cells stride (at (now (area .entry))))) ⌝ }
+    ensures { λ _. ⌜ at (now (area .exit)) ≡ flat stride (evenRowsChanged (updated wrap32) width height (oddRowsChanged (predicted wrap32) width height (cells stride (at (now (area .entry)))))) ⌝ }
 {
     let mut r = 0;
     while r < height {
+        predict_next(area, stride, width, height, r);
         rows::update_row(area, stride, width, r, row_before(r), row_after(height, r));
         r += 2;
     }
@@ -65,25 +67,27 @@ pub fn lift_rows(area: &mut [i32], stride: usize, width: usize, height: usize)
     }
 }
 
-// Columns back: each even row first.
-pub fn unupdate_even_rows(area: &mut [i32], stride: usize, width: usize, height: usize)
-    requires { ⌜ Rows (length (now area)) stride width height × (1 < height) ⌝ }
-    ensures { λ _. ⌜ at (now (area .exit)) ≡ flat stride (evenRowsChanged (unupdated wrap32) width height (cells stride (at (now (area .entry))))) ⌝ }
+// The row after row r lifted back by the update, where there is one.
+fn unupdate_next(area: &mut [i32], stride: usize, width: usize, height: usize, r: usize)
+    requires { ⌜ (r < height) × (1 < height) ⌝ }
+    ensures { λ _. ⌜ at (now (area .exit)) ≡ nextChanged (unupdated wrap32) (length (now (area .entry))) stride width height r (at (now (area .entry))) ⌝ }
 {
-    let mut r = 0;
-    while r < height {
-        rows::unupdate_row(area, stride, width, r, row_before(r), row_after(height, r));
-        r += 2;
+    let next = r + 1;
+    if height <= next {
+        return;
     }
+    rows::unupdate_row(area, stride, width, next, r, row_after(height, next));
 }
 
-// Then each odd row.
-pub fn unpredict_odd_rows(area: &mut [i32], stride: usize, width: usize, height: usize)
-    requires { ⌜ Rows (length (now area)) stride width height ⌝ }
-    ensures { λ _. ⌜ at (now (area .exit)) ≡ flat stride (oddRowsChanged (unpredicted wrap32) width height (cells stride (at (now (area .entry))))) ⌝ }
+// Columns back: each even row first, and each odd row once the even rows next to it are done.
+pub fn unlift_pairs(area: &mut [i32], stride: usize, width: usize, height: usize)
+    requires { ⌜ Rows (length (now area)) stride width height × (1 < height) ⌝ }
+    ensures { λ _. ⌜ at (now (area .exit)) ≡ flat stride (oddRowsChanged (unpredicted wrap32) width height (evenRowsChanged (unupdated wrap32) width height (cells stride (at (now (area .entry)))))) ⌝ }
 {
+    rows::unupdate_row(area, stride, width, 0, 1, 1);
     let mut r = 1;
     while r < height {
+        unupdate_next(area, stride, width, height, r);
         rows::unpredict_row(area, stride, width, r, row_before(r), row_after(height, r));
         r += 2;
     }
