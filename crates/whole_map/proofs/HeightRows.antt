@@ -43,7 +43,7 @@ module _ (s w h i k : ℕ) (e : k ≡ w) (lt : i < h) where
 
 -- ---- loaded
 -- within the halves, memory does not count
-halves-inside : (w : ℕ) (p : Half → ℕ → ℤ) (y z : ℕ → ℤ) (c : ℕ) → c < w → inHalves w p y c ≡ inHalves w p z c
+pub halves-inside : (w : ℕ) (p : Half → ℕ → ℤ) (y z : ℕ → ℤ) (c : ℕ) → c < w → inHalves w p y c ≡ inHalves w p z c
 halves-inside w p y z c h =
     elim (decLt c (count lo w)) [
       | yes a ↦ halves-low w p y c a ∙ sym (halves-low w p z c a)

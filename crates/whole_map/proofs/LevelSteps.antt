@@ -10,15 +10,17 @@ use mir.Val.{SFits}
 use Rattle.numbers.specs.Word.{wrap32}
 use Rattle.numbers.proofs.Integers.{each, lin}
 use Rattle.lifting.specs.Line.{lo, count}
+use Rattle.lifting.specs.Halves.{liftedInPlace}
 use Rattle.lifting.proofs.LineLaws.{count-lo}
 use Rattle.wavelet.specs.Limits.{maxLevels, range}
 use Rattle.wavelet.specs.Bands.{Grid}
 use Rattle.wavelet.specs.Plane.{cells, flat, mapBack}
 use Rattle.wavelet.specs.Maps.{everyCell, valueFits}
-use Rattle.whole_map.specs.Rowwise.{partedInPlace, wovenInPlace}
-use Rattle.whole_map.specs.Passes.{Rows, KeptFrom, rowsMapped, rowsStored, rowsFetched}
-use Rattle.whole_map.specs.LevelPasses.{levelGrid, levelLifted, planeWritten, Rebuilt, rowsBetween, regionInRange, Doubling, LevelBack, LevelsBack}
-use Rattle.whole_map.proofs.CellLaws.{mapped-out, fetched-out, lifted-out, unlifted-out, kept-flat, kept-then, next-end, next-rows, fewer-rows, fewer-columns}
+use Rattle.whole_map.specs.Rowwise.{wovenInPlace}
+use Rattle.whole_map.specs.Passes.{Rows, KeptFrom, rowsMapped, rowsStored, rowsFetched, rowsLoaded}
+use Rattle.whole_map.specs.LevelPasses.{levelGrid, columnsLiftedInPlace, levelLifted, planeWritten, Rebuilt, rowsBetween, regionInRange, Doubling, LevelBack, LevelsBack}
+use Rattle.whole_map.proofs.CellLaws.{loaded-out, mapped-out, fetched-out, columns-out, unlifted-out, kept-flat, kept-then, next-end, next-rows, fewer-rows, fewer-columns}
+use Rattle.whole_map.proofs.LevelCalls.{level-both}
 use Rattle.whole_map.proofs.LevelsMath.{forward-last, forward-more, back-last, back-more}
 use Rattle.whole_map.proofs.TestLaws.{false-true, rebuilt-test, fits-more, fits-last, region-more, region-last}
 
@@ -52,27 +54,31 @@ module _ (n n′ s w h w′ h′ : ℕ) (size : n′ ≡ n) (ew : w′ ≡ count
       let lh = count-lo h in
       rw (size, ew, eh) (fewer-columns n s w (count lo h) (count lo w) (fewer-rows n s w h (count lo h) R (omega (arith, R .some)) (omega arith)) (omega arith))
 
--- ---- forward
-module _ (n s A w h : ℕ) (x₀ z₀ x₁ z₁ : ℕ → ℤ) (R : Rows n s w h) (some : 0 < A)
-    (e₁ : x₁ ≡ flat s (levelLifted w h (cells s x₀))) (f₁ : z₁ ≡ flat A (rowsStored w h (cells s x₁) (cells A z₀))) where
-  lift-kept : KeptFrom ((h - 1) * s + w) x₀ x₁
-  lift-kept = kept-flat n s w h x₀ x₁ (levelLifted w h (cells s x₀)) R e₁ (lifted-out w h (cells s x₀))
+-- ---- forward: x₁ is the area with the columns lifted, z₁ the plane with the level's rows
+module _ (n s A w h : ℕ) (x₀ z₀ x₁ z₁ : ℕ → ℤ) (R : Rows n s w h) (wa : w ≤ A) (some : 0 < A)
+    (e₁ : x₁ ≡ flat s (columnsLiftedInPlace w h (cells s x₀))) (f₁ : z₁ ≡ flat A (rowsStored w h (rowsMapped (liftedInPlace w) w h (cells s x₁)) (cells A z₀))) where
+  columns-kept : KeptFrom ((h - 1) * s + w) x₀ x₁
+  columns-kept = kept-flat n s w h x₀ x₁ (columnsLiftedInPlace w h (cells s x₀)) R e₁ (columns-out w h (cells s x₀))
+
+  stored : z₁ ≡ flat A (rowsStored w h (levelLifted w h (cells s x₀)) (cells A z₀))
+  stored = level-both s w h x₀ (R .apart) x₁ x₁ A z₀ z₁ (R .wide) some e₁ f₁
 
   pub forward-end : (L : ℕ) → 0 < L → L < 2 → (z₁ ≡ flat A (planeWritten L w h (levelGrid w (cells s x₀)) (cells A z₀))) × KeptFrom ((h - 1) * s + w) x₀ x₁
   forward-end L a b =
       let k : L ≡ 1 = omega arith in
-      (rw k (forward-last s A w h x₀ z₀ x₁ z₁ (R .wide) some e₁ f₁), lift-kept)
+      (rw k (forward-last s A w h x₀ z₀ z₁ wa some stored), columns-kept)
 
-  pub forward-step : (L w′ h′ : ℕ) (x₂ x₃ z₂ : ℕ → ℤ) → 2 ≤ L → w′ ≡ count lo w → h′ ≡ count lo h → x₂ ≡ flat (2 * s) (rowsMapped (partedInPlace (count lo w)) (count lo w) (count lo h) (cells (2 * s) x₁)) → z₂ ≡ flat A (planeWritten (L - 1) w′ h′ (levelGrid w′ (cells (2 * s) x₂)) (cells A z₁)) → KeptFrom ((h′ - 1) * (2 * s) + w′) x₂ x₃ → (z₂ ≡ flat A (planeWritten L w h (levelGrid w (cells s x₀)) (cells A z₀))) × KeptFrom ((h - 1) * s + w) x₀ x₃
-  forward-step L w′ h′ x₂ x₃ z₂ b ew eh e₂ f₂ k₂ =
+  pub forward-step : (L w′ h′ : ℕ) (x₂ x₃ z₂ : ℕ → ℤ) → 2 ≤ L → w′ ≡ count lo w → h′ ≡ count lo h → x₂ ≡ flat (2 * s) (rowsLoaded w′ h′ (cells A z₁) (cells (2 * s) x₁)) → z₂ ≡ flat A (planeWritten (L - 1) w′ h′ (levelGrid w′ (cells (2 * s) x₂)) (cells A z₁)) → KeptFrom ((h′ - 1) * (2 * s) + w′) x₂ x₃ → (z₂ ≡ flat A (planeWritten L w h (levelGrid w (cells s x₀)) (cells A z₀))) × KeptFrom ((h - 1) * s + w) x₀ x₃
+  forward-step L w′ h′ x₂ x₃ z₂ b ew eh e f₂ k₂ =
       let end = next-end s w h (R .some) in
+      let e₂ : x₂ ≡ flat (2 * s) (rowsLoaded (count lo w) (count lo h) (cells A z₁) (cells (2 * s) x₁)) = rw (ew, eh) at e in
       let f : z₂ ≡ flat A (planeWritten (L - 1) (count lo w) (count lo h) (levelGrid (count lo w) (cells (2 * s) x₂)) (cells A z₁)) = rw (ew, eh) at f₂ in
       let k : KeptFrom ((count lo h - 1) * (2 * s) + count lo w) x₂ x₃ = rw (ew, eh) at k₂ in
       let part : KeptFrom ((count lo h - 1) * (2 * s) + count lo w) x₁ x₂ =
       kept-flat n (2 * s) (count lo w) (count lo h) x₁ x₂ _ (next-rows n s w h R) e₂
-      (λ r c o. mapped-out (count lo w) (count lo h) (cells (2 * s) x₁) r c o (partedInPlace (count lo w))) in (
-        forward-more s A w h x₀ z₀ x₁ z₁ (R .wide) some e₁ f₁ x₂ e₂ L z₂ b f,
-        kept-then lift-kept (kept-then part k (omega arith)) end,
+      (loaded-out (count lo w) (count lo h) (cells A z₁) (cells (2 * s) x₁)) in (
+        forward-more s A w h x₀ z₀ z₁ wa some stored (R .wide) x₁ x₂ e₂ L z₂ b f,
+        kept-then columns-kept (kept-then part k (omega arith)) end,
       )
 
 -- ---- back: y₀ is the work area before the level's rows are fetched

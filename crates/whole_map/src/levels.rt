@@ -10,11 +10,12 @@ ghost use lib.IntN.{pos, negℤ};
 ghost use lib.ListN.{length};
 ghost use Rattle.numbers.specs.Signal.{at, pick, windowed, spliced};
 ghost use Rattle.lifting.specs.Line.{lo, count};
+ghost use Rattle.lifting.specs.Halves.{liftedInPlace};
 ghost use Rattle.wavelet.specs.Limits.{range};
 ghost use Rattle.wavelet.specs.Plane.{cells, flat};
 ghost use Rattle.whole_map.specs.Rowwise.{partedInPlace, wovenInPlace};
-ghost use Rattle.whole_map.specs.Passes.{Rows, KeptFrom, even, planeRow, levelRow, rowsMapped, rowsStored, rowsFetched};
-ghost use Rattle.whole_map.specs.LevelPasses.{levelGrid, columnsLiftedInPlace, levelLifted, columnsUnliftedInPlace, levelUnlifted, planeWritten, leastFit, rowsBetween, regionInRange, Doubling, LevelBack, LevelsBack};
+ghost use Rattle.whole_map.specs.Passes.{Rows, KeptFrom, even, planeRow, levelRow, rowsMapped, rowsStored, rowsFetched, rowsLoaded};
+ghost use Rattle.whole_map.specs.LevelPasses.{levelGrid, columnsLiftedInPlace, columnsUnliftedInPlace, levelUnlifted, planeWritten, leastFit, rowsBetween, regionInRange, Doubling, LevelBack, LevelsBack};
 
 // The plane's row for row r of a level: the low rows come first.
 fn plane_row(height: usize, r: usize) -> usize
@@ -61,15 +62,6 @@ fn unlift_columns(work: &mut [i32], stride: usize, width: usize, height: usize)
     passes::unlift_pairs(work, stride, width, height);
 }
 
-// One level forward, in place: all columns, then all rows.
-fn lift_level(work: &mut [i32], stride: usize, width: usize, height: usize)
-    requires { ⌜ Rows (length (now work)) stride width height ⌝ }
-    ensures { λ _. ⌜ at (now (work .exit)) ≡ flat stride (levelLifted width height (cells stride (at (now (work .entry))))) ⌝ }
-{
-    lift_columns(work, stride, width, height);
-    passes::lift_rows(work, stride, width, height);
-}
-
 // One level back, in place: all rows, then all columns.
 fn unlift_level(work: &mut [i32], stride: usize, width: usize, height: usize)
     requires { ⌜ Rows (length (now work)) stride width height ⌝ }
@@ -89,7 +81,27 @@ fn copy_part(from: &[i32], a: usize, to: &mut [i32], b: usize, n: usize)
     rowwise::copy(&from[a..e], &mut to[b..f]);
 }
 
-// The rows of a level to the plane.
+// The same, a row in halves that is lifted on the way.
+fn lift_part(from: &[i32], a: usize, to: &mut [i32], b: usize, n: usize)
+    requires { ⌜ (a + n ≤ length (now from)) × (b + n ≤ length (now to)) ⌝ }
+    ensures { λ _. ⌜ at (now (to .exit)) ≡ spliced b n (liftedInPlace n (windowed a n (at (now (from .entry))))) (at (now (to .entry))) ⌝ }
+{
+    let e = a + n;
+    let f = b + n;
+    rowwise::lift_to(&from[a..e], &mut to[b..f]);
+}
+
+// The same, a row that goes from its own order into halves.
+fn halve_part(from: &[i32], a: usize, to: &mut [i32], b: usize, n: usize)
+    requires { ⌜ (a + n ≤ length (now from)) × (b + n ≤ length (now to)) ⌝ }
+    ensures { λ _. ⌜ at (now (to .exit)) ≡ spliced b n (partedInPlace n (windowed a n (at (now (from .entry))))) (at (now (to .entry))) ⌝ }
+{
+    let e = a + n;
+    let f = b + n;
+    rowwise::part_line(&from[a..e], &mut to[b..f]);
+}
+
+// The rows of a level, lifted, to the plane.
 fn store_level(
     work: &[i32],
     plane: &mut [i32],
@@ -99,12 +111,31 @@ fn store_level(
     height: usize,
 )
     requires { ⌜ Rows (length (now work)) stride width height × Rows (length (now plane)) across width height ⌝ }
-    ensures { λ _. ⌜ at (now (plane .exit)) ≡ flat across (rowsStored width height (cells stride (at (now (work .entry)))) (cells across (at (now (plane .entry))))) ⌝ }
+    ensures { λ _. ⌜ at (now (plane .exit)) ≡ flat across (rowsStored width height (rowsMapped (liftedInPlace width) width height (cells stride (at (now (work .entry))))) (cells across (at (now (plane .entry))))) ⌝ }
 {
     let mut r = 0;
     while r < height {
         let a = level_row(height, r) * stride;
-        copy_part(work, a, plane, r * across, width);
+        lift_part(work, a, plane, r * across, width);
+        r += 1;
+    }
+}
+
+// The low-low part of a level, from the plane's corner to the rows of the next level, each in halves.
+fn load_low(
+    plane: &[i32],
+    work: &mut [i32],
+    across: usize,
+    stride: usize,
+    width: usize,
+    height: usize,
+)
+    requires { ⌜ Rows (length (now plane)) across width height × Rows (length (now work)) stride width height ⌝ }
+    ensures { λ _. ⌜ at (now (work .exit)) ≡ flat stride (rowsLoaded width height (cells across (at (now (plane .entry)))) (cells stride (at (now (work .entry))))) ⌝ }
+{
+    let mut r = 0;
+    while r < height {
+        halve_part(plane, r * across, work, r * stride, width);
         r += 1;
     }
 }
@@ -138,14 +169,7 @@ fn fetch_level(
     }
 }
 
-// The low-low part of a level into halves, for the next level, and from halves into its own order.
-fn part_low(work: &mut [i32], stride: usize, width: usize, height: usize)
-    requires { ⌜ Rows (length (now work)) stride width height × (width ≤ 2049) × (stride ≤ 65568) ⌝ }
-    ensures { λ _. ⌜ at (now (work .exit)) ≡ flat (2 * stride) (rowsMapped (partedInPlace (count lo width)) (count lo width) (count lo height) (cells (2 * stride) (at (now (work .entry))))) ⌝ }
-{
-    passes::part_rows(work, 2 * stride, sizes::half(width), sizes::half(height));
-}
-
+// The low-low part of a level from halves into its own order.
 fn weave_low(work: &mut [i32], stride: usize, width: usize, height: usize)
     requires { ⌜ Rows (length (now work)) stride width height × (width ≤ 2049) × (stride ≤ 65568) ⌝ }
     ensures { λ _. ⌜ at (now (work .exit)) ≡ flat (2 * stride) (rowsMapped (wovenInPlace (count lo width)) (count lo width) (count lo height) (cells (2 * stride) (at (now (work .entry))))) ⌝ }
@@ -167,21 +191,15 @@ pub fn forward_levels(
     ensures { λ _. ⌜ at (now (plane .exit)) ≡ flat across (planeWritten levels width height (levelGrid width (cells stride (at (now (work .entry))))) (cells across (at (now (plane .entry))))) ⌝ }
     ensures { λ _. ⌜ KeptFrom ((height - 1) * stride + width) (at (now (work .entry))) (at (now (work .exit))) ⌝ }
 {
-    lift_level(work, stride, width, height);
+    lift_columns(work, stride, width, height);
     store_level(work, plane, stride, across, width, height);
     if levels < 2 {
         return;
     }
-    part_low(work, stride, width, height);
-    forward_levels(
-        plane,
-        work,
-        across,
-        2 * stride,
-        sizes::half(width),
-        sizes::half(height),
-        levels - 1,
-    );
+    let w = sizes::half(width);
+    let h = sizes::half(height);
+    load_low(plane, work, across, 2 * stride, w, h);
+    forward_levels(plane, work, across, 2 * stride, w, h, levels - 1);
 }
 
 // The largest magnitude of a level's numbers, as the least of them.

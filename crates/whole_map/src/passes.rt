@@ -8,9 +8,9 @@ ghost use lib.ListN.{length};
 ghost use Rattle.numbers.specs.Signal.{at};
 ghost use Rattle.numbers.specs.Word.{wrap32};
 ghost use Rattle.lifting.specs.Line.{predicted, updated, unupdated, unpredicted};
-ghost use Rattle.lifting.specs.Halves.{liftedInPlace, unliftedInPlace};
+ghost use Rattle.lifting.specs.Halves.{unliftedInPlace};
 ghost use Rattle.wavelet.specs.Plane.{cells, flat};
-ghost use Rattle.whole_map.specs.Rowwise.{partedInPlace, wovenInPlace};
+ghost use Rattle.whole_map.specs.Rowwise.{wovenInPlace};
 ghost use Rattle.whole_map.specs.Passes.{after, before, oddRowsChanged, evenRowsChanged, nextChanged, rowsMapped, Rows};
 
 // The row after row r of `height` rows, and the row before: mirrored at the ends.
@@ -53,20 +53,6 @@ pub fn lift_pairs(area: &mut [i32], stride: usize, width: usize, height: usize)
     }
 }
 
-// Each row lifted as a line.
-pub fn lift_rows(area: &mut [i32], stride: usize, width: usize, height: usize)
-    requires { ⌜ Rows (length (now area)) stride width height ⌝ }
-    ensures { λ _. ⌜ at (now (area .exit)) ≡ flat stride (rowsMapped (liftedInPlace width) width height (cells stride (at (now (area .entry))))) ⌝ }
-{
-    let mut r = 0;
-    while r < height {
-        let a = r * stride;
-        let e = a + width;
-        line::lift(&mut area[a..e]);
-        r += 1;
-    }
-}
-
 // The row after row r lifted back by the update, where there is one.
 fn unupdate_next(area: &mut [i32], stride: usize, width: usize, height: usize, r: usize)
     requires { ⌜ (r < height) × (1 < height) ⌝ }
@@ -103,20 +89,6 @@ pub fn unlift_rows(area: &mut [i32], stride: usize, width: usize, height: usize)
         let a = r * stride;
         let e = a + width;
         line::unlift(&mut area[a..e]);
-        r += 1;
-    }
-}
-
-// Each row from its own order into halves.
-pub fn part_rows(area: &mut [i32], stride: usize, width: usize, height: usize)
-    requires { ⌜ Rows (length (now area)) stride width height × (width ≤ 1025) ⌝ }
-    ensures { λ _. ⌜ at (now (area .exit)) ≡ flat stride (rowsMapped (partedInPlace width) width height (cells stride (at (now (area .entry))))) ⌝ }
-{
-    let mut r = 0;
-    while r < height {
-        let a = r * stride;
-        let e = a + width;
-        rowwise::part(&mut area[a..e]);
         r += 1;
     }
 }

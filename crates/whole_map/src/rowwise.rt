@@ -1,16 +1,17 @@
 // What is done to one row of numbers. The module is private: only this crate, which meets what is required, can call it.
+use lifting::line;
 ghost use mathlib.Core.Path.{_≡_};
 ghost use Prim.Native.Nat.{_+_, _*_, _<_, _≤_};
 ghost use lib.IntN.{pos};
 ghost use lib.ListN.{length};
 ghost use Rattle.numbers.specs.Signal.{at};
 ghost use Rattle.lifting.specs.Line.{lo, hi, parted, joined};
-ghost use Rattle.lifting.specs.Halves.{halvesOf, inHalves, fronted};
+ghost use Rattle.lifting.specs.Halves.{halvesOf, inHalves, fronted, liftedInPlace};
 ghost use Rattle.lifting.specs.Passes.{evensCopied, oddsCopied};
 ghost use Rattle.wavelet.specs.Maps.{every};
-ghost use Rattle.whole_map.specs.Rowwise.{partedInPlace, wovenInPlace, evensLaid, oddsLaid, between};
+ghost use Rattle.whole_map.specs.Rowwise.{wovenInPlace, evensLaid, oddsLaid, between};
 
-// The longest row that is parted or woven in place: half the largest width, rounded up.
+// The longest row that is woven in place: half the largest width, rounded up.
 pub const LONGEST: usize = 1025;
 
 // Numbers copied to the front of `to`.
@@ -24,6 +25,15 @@ pub fn copy(from: &[i32], to: &mut [i32])
         to[i] = from[i];
         i += 1;
     }
+}
+
+// A row in halves, lifted, to a row as long.
+pub fn lift_to(row: &[i32], out: &mut [i32])
+    requires { ⌜ length (now row) ≡ length (now out) ⌝ }
+    ensures { λ _. ⌜ at (now (out .exit)) ≡ liftedInPlace (length (now (row .entry))) (at (now (row .entry))) ⌝ }
+{
+    copy(row, out);
+    line::lift(out);
 }
 
 // The first n numbers of an area set to 0.
@@ -52,7 +62,7 @@ pub fn all_between(row: &[i32], low: i32, high: i32) -> bool
 }
 
 // The even places of a line, and after them its odd places, to a row as long.
-fn part_line(line: &[i32], row: &mut [i32])
+pub fn part_line(line: &[i32], row: &mut [i32])
     requires { ⌜ length (now line) ≡ length (now row) ⌝ }
     ensures { λ _. ⌜ at (now (row .exit)) ≡ inHalves (length (now (line .entry))) (parted (at (now (line .entry)))) (at (now (row .entry))) ⌝ }
 {
@@ -125,17 +135,6 @@ fn weave_odds(row: &[i32], line: &mut [i32])
         line[2 * j + 1] = row[low + j];
         j += 1;
     }
-}
-
-// A row from its own order into halves, in place, through a local line.
-pub fn part(row: &mut [i32])
-    requires { ⌜ length (now row) ≤ 1025 ⌝ }
-    ensures { λ _. ⌜ at (now (row .exit)) ≡ partedInPlace (length (now (row .entry))) (at (now (row .entry))) ⌝ }
-{
-    let mut line = [0; LONGEST];
-    let n = row.len();
-    copy(row, &mut line);
-    part_line(&line[0..n], row);
 }
 
 // A row from halves into its own order, in place, through a local line.
