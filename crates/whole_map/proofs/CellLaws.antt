@@ -16,7 +16,7 @@ use Rattle.lifting.proofs.LineLaws.{counts, count-lo, halves-low, halves-high}
 use Rattle.wavelet.specs.Bands.{Grid}
 use Rattle.wavelet.specs.Plane.{cells, flat, halfAt, placeIn}
 use Rattle.whole_map.specs.Rowwise.{cut}
-use Rattle.whole_map.specs.Passes.{Rows, KeptFrom, within, after, before, even, oddRowsChanged, evenRowsChanged, rowsMapped, planeRow, levelRow, rowsStored, rowsFetched, rowsLoaded}
+use Rattle.whole_map.specs.Passes.{Rows, KeptFrom, within, after, before, even, oddRowsChanged, evenRowsChanged, rowsMapped, planeRow, levelRow, rowsStored, rowsFetched, rowsLoaded, rowsReturned}
 use Rattle.whole_map.proofs.GridSweep.{row-room}
 use Rattle.whole_map.specs.LevelPasses.{levelGrid, columnsLiftedInPlace, columnsUnliftedInPlace, levelUnlifted}
 
@@ -264,6 +264,14 @@ loaded-in w h G X r c rh cw = simp (within-in w h r c rh cw)
 pub loaded-out : (w h : ℕ) (G X : Grid) (r c : ℕ) → within w h r c ≡ false → rowsLoaded w h G X r c ≡ X r c
 unfolding rowsLoaded
 loaded-out w h G X r c e = simp e
+
+pub returned-in : (w h : ℕ) (X Z : Grid) (r c : ℕ) → r < h → c < w → rowsReturned w h X Z r c ≡ levelGrid w X r c
+unfolding rowsReturned levelGrid
+returned-in w h X Z r c rh cw = simp (within-in w h r c rh cw)
+
+pub returned-out : (w h : ℕ) (X Z : Grid) (r c : ℕ) → within w h r c ≡ false → rowsReturned w h X Z r c ≡ Z r c
+unfolding rowsReturned
+returned-out w h X Z r c e = simp e
 
 pub columns-out : (w h : ℕ) (X : Grid) (r c : ℕ) → within w h r c ≡ false → columnsLiftedInPlace w h X r c ≡ X r c
 unfolding columnsLiftedInPlace

@@ -15,7 +15,7 @@ use Rattle.lifting.specs.Rows.{rowChanged, rowsChanged}
 use Rattle.lifting.proofs.RowLaws.{rows-fit, changed, row-at, row-other, row-past}
 use Rattle.wavelet.specs.Bands.{Grid}
 use Rattle.wavelet.specs.Plane.{cells}
-use Rattle.whole_map.specs.Passes.{Rows, within, even, before, after, oddRowsChanged, evenRowsChanged, nextChanged}
+use Rattle.whole_map.specs.Passes.{Rows, within, even, before, after, oddRowsChanged, evenRowsChanged, nextChanged, pairChanged}
 use Rattle.whole_map.proofs.GridSweep.{RowSwept, row-room, store-row}
 
 -- ---- the neighbours
@@ -117,19 +117,20 @@ before-next r = simp (lt-ltb 0 (r + 1) (omega arith)) (omega arith)
 -- ---- a turn of the loop: row i + 1 changed by f, then row i by g. M is the grid once all the rows like i + 1 are changed, and Y once
 -- those like i are too. Below row i all is done; from row i on nothing is.
 module _ (f g : ℤ → ℤ → ℤ → ℤ) (p q s w h : ℕ) (X M Y : Grid) (first : Column f p w h M X) (second : Column g q w h Y M)
-    (i : ℕ) (o : i % 2 ≡ q) (two : p + q ≡ 1) (more : 1 < h) (lt : i < h) (n : ℕ) (R : Rows n s w h) (x x₁ : ℕ → ℤ)
-    (e₁ : x₁ ≡ nextChanged f n s w h i x) (sw : RowSwept s Y X i x) where
+    (i : ℕ) (o : i % 2 ≡ q) (two : p + q ≡ 1) (more : 1 < h) (lt : i < h) (n : ℕ) (R : Rows n s w h) (x : ℕ → ℤ) (sw : RowSwept s Y X i x) where
+  abbrev x₁ : ℕ → ℤ
+  x₁ = nextChanged f n s w h i x
+
   next-made : i + 1 < h → x₁ ≡ rowChanged f s w (i + 1) i (after h (i + 1)) x
   unfolding nextChanged
   next-made b =
-      let e = e₁ in
       let far = after-is h (i + 1) more b in
       let fit = rows-fit n s w (i + 1) i (after h (i + 1)) (R .wide) (row-room n s w h (i + 1) R b) (row-room n s w h i R lt) (row-room n s w h (after h (i + 1)) R (far .0)) in
-      (simp (lt-ltb (i + 1) h b) at e) ∙ changed f s w (i + 1) i (after h (i + 1)) x n fit
+      simp (lt-ltb (i + 1) h b) (changed f s w (i + 1) i (after h (i + 1)) x n fit)
 
   next-none : h ≤ i + 1 → x₁ ≡ x
   unfolding nextChanged
-  next-none b = let e = e₁ in simp (le-ltb (i + 1) h b) at e
+  next-none b = simp (le-ltb (i + 1) h b)
 
   next-other : (r c : ℕ) → c < s → r ≢ i + 1 → x₁ (r * s + c) ≡ x (r * s + c)
   next-other r c cs d =
@@ -163,22 +164,22 @@ module _ (f g : ℤ → ℤ → ℤ → ℤ) (p q s w h : ℕ) (X M Y : Grid) (f
         | no a ↦ let k : r ≡ i + 1 = omega arith in rw k (next-row c cs)
       ]
 
-  pub pair-turn : (a b n₂ : ℕ) (x₂ : ℕ → ℤ) → a ≡ before i → b ≡ after h i → n₂ ≡ n → x₂ ≡ rowsChanged g n₂ s w i a b x₁ → RowSwept s Y X (i + 2) x₂
-  pair-turn a b n₂ x₂ ea eb en e₂ =
+  pub pair-turn : (x₂ : ℕ → ℤ) → x₂ ≡ pairChanged f g n s w h i x → RowSwept s Y X (i + 2) x₂
+  unfolding pairChanged
+  pair-turn x₂ e₂ =
+      let a = before i in
+      let b = after h i in
       let near = before-is h i more lt in
       let far = after-is h i more lt in
       let wide = R .wide in
-      let fit = rows-fit n₂ s w i a b wide
-      (rw en (row-room n s w h i R lt))
-      (rw (en, ea) (row-room n s w h (before i) R (near .0)))
-      (rw (en, eb) (row-room n s w h (after h i) R (far .0))) in
-      let made : (j : ℕ) → x₂ j ≡ rowChanged g s w i a b x₁ j = λ j. ap (λ (y : ℕ → ℤ). y j) (e₂ ∙ changed g s w i a b x₁ n₂ fit) in
+      let fit = rows-fit n s w i a b wide (row-room n s w h i R lt) (row-room n s w h a R (near .0)) (row-room n s w h b R (far .0)) in
+      let made : (j : ℕ) → x₂ j ≡ rowChanged g s w i a b x₁ j = λ j. ap (λ (y : ℕ → ℤ). y j) (e₂ ∙ changed g s w i a b x₁ n fit) in
       let other : (r c : ℕ) → c < s → r ≢ i → x₂ (r * s + c) ≡ x₁ (r * s + c) = λ r c cs d. made (r * s + c) ∙ row-other g s w i a b x₁ r c d wide cs in
       let here : (c : ℕ) → c < s → x₂ (i * s + c) ≡ Y i c =
       λ c cs.
       elim (decLt c w) [
         | yes l ↦
-            cc (made (i * s + c), row-at g s w i a b x₁ c l, ea, eb, second .hit i c lt l o, same-row c cs, near-row (before i) c cs (before-near i) (λ e. near .1 (e ∙ sym o)), near-row (after h i) c cs (after-near h i) (λ e. far .1 (e ∙ sym o)))
+            cc (made (i * s + c), row-at g s w i a b x₁ c l, second .hit i c lt l o, same-row c cs, near-row (before i) c cs (before-near i) (λ e. near .1 (e ∙ sym o)), near-row (after h i) c cs (after-near h i) (λ e. far .1 (e ∙ sym o)))
         | no l ↦ made (i * s + c) ∙ row-past g s w i a b x₁ (i * s + c) (omega arith) ∙ same-row c cs ∙ sym (second .wide i c (omega arith))
       ] in
       record {

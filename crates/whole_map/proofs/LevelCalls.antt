@@ -27,7 +27,7 @@ use Rattle.whole_map.proofs.GridSweep.{RowSwept, store-row, mapped-in}
 use Rattle.whole_map.proofs.RowwiseLaws.{front-at, window-cut, cut-parted}
 use Rattle.whole_map.proofs.HeightRows.{halves-inside}
 use Rattle.whole_map.proofs.CellLaws.{flat-same, by-within, level-in, loaded-in, loaded-out, stored-in, stored-out, fetched-new, fetched-made, fetched-out, outside-columns}
-use Rattle.whole_map.proofs.TestLaws.{false-true, bool-same}
+use Rattle.whole_map.proofs.TestLaws.{not-every}
 
 -- ---- a pass reads the cells that stand in the area alone
 module _ (f : ℤ → ℤ → ℤ → ℤ) (w h : ℕ) (X Y : Grid) (r c : ℕ) (same : (i : ℕ) → X i c ≡ Y i c) where
@@ -229,10 +229,6 @@ fetched-turn s A from w h i l made z x₀ x x′ ws ih m few e is sw =
     (λ c b. fetched-made from w h (cells A z) (cells s x₀) i c ih (omega arith) (omega arith))
     (λ c b. fetched-out w h (cells s x₀) i c (outside-columns w h i c b) from (cells A z))
     sw
-
--- one no is enough
-not-every : (n : ℕ) (p : ℕ → Bool) (i : ℕ) → i < n → p i ≡ false → every n p ≡ false
-not-every n p i h e = bool-same (every n p) false (λ a. sym e ∙ every-each n p a i h) (λ a. absurd (false-true a))
 
 -- ---- rows tested: those from `first` up to r are between low and high
 module _ (s first last from to : ℕ) (low high : ℤ) (l : List ℤ) where

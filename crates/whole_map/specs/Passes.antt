@@ -46,6 +46,10 @@ evenRowsChanged f w h x r c =
 unfoldable pub nextChanged : (ℤ → ℤ → ℤ → ℤ) → ℕ → ℕ → ℕ → ℕ → ℕ → (ℕ → ℤ) → ℕ → ℤ
 nextChanged f n s w h r x = pick (ltb (r + 1) h) (rowsChanged f n s w (r + 1) r (after h (r + 1)) x) x
 
+-- and then row r by g
+unfoldable pub pairChanged : (ℤ → ℤ → ℤ → ℤ) → (ℤ → ℤ → ℤ → ℤ) → ℕ → ℕ → ℕ → ℕ → ℕ → (ℕ → ℤ) → ℕ → ℤ
+pairChanged f g n s w h r x = rowsChanged g n s w r (before r) (after h r) (nextChanged f n s w h r x)
+
 -- each row changed as a line of w numbers by itself
 unfoldable pub rowsMapped : ((ℕ → ℤ) → ℕ → ℤ) → ℕ → ℕ → Grid → Grid
 rowsMapped f w h x r c = pick (within w h r c) (f (cut w (x r)) c) (x r c)

@@ -15,7 +15,7 @@ ghost use Rattle.wavelet.specs.Limits.{range};
 ghost use Rattle.wavelet.specs.Plane.{cells, flat};
 ghost use Rattle.whole_map.specs.Rowwise.{partedInPlace, wovenInPlace};
 ghost use Rattle.whole_map.specs.Passes.{Rows, KeptFrom, even, planeRow, levelRow, rowsMapped, rowsStored, rowsFetched, rowsLoaded};
-ghost use Rattle.whole_map.specs.LevelPasses.{levelGrid, columnsLiftedInPlace, columnsUnliftedInPlace, levelUnlifted, planeWritten, leastFit, rowsBetween, regionInRange, Doubling, LevelBack, LevelsBack};
+ghost use Rattle.whole_map.specs.LevelPasses.{levelGrid, columnsLiftedInPlace, columnsUnliftedInPlace, levelUnlifted, planeWritten, rowsBetween, regionInRange, Doubling, LevelsBack};
 
 // The plane's row for row r of a level: the low rows come first.
 fn plane_row(height: usize, r: usize) -> usize
@@ -210,17 +210,6 @@ fn lowest(level: usize) -> i32
     0 - sizes::range_of(level)
 }
 
-// The least value that a rebuilt grid may have, `level` being the level that it is the low-low part of, 0 for the map.
-fn least(level: usize) -> i32
-    requires { ⌜ level ≤ 5 ⌝ }
-    ensures { λ r. ⌜ r ≡ leastFit level ⌝ }
-{
-    if level == 0 {
-        return 0;
-    }
-    lowest(level)
-}
-
 // Whether the numbers of some rows lie from `low` to `high`: rows `first` up to `last`, columns `from` up to `to`.
 fn rows_between(
     area: &[i32],
@@ -247,68 +236,6 @@ fn rows_between(
     true
 }
 
-// A level back from its bands: the plane's rows fetched, the level lifted back, and its numbers tested.
-fn level_back(
-    plane: &[i32],
-    work: &mut [i32],
-    across: usize,
-    stride: usize,
-    from: usize,
-    width: usize,
-    height: usize,
-    level: usize,
-) -> bool
-    requires { ⌜ Rows (length (now plane)) across width height × Rows (length (now work)) stride width height × (from ≤ width) × (level ≤ 5) ⌝ }
-    ensures { λ ok. ⌜ LevelBack ok level from stride across width height (at (now (plane .entry))) (at (now (work .entry))) (at (now (work .exit))) ⌝ }
-{
-    fetch_level(plane, work, across, stride, from, width, height);
-    unlift_level(work, stride, width, height);
-    rows_between(
-        work,
-        stride,
-        0,
-        height,
-        0,
-        width,
-        least(level),
-        sizes::range_of(level),
-    )
-}
-
-// All levels back: first the low-low part with the levels left, then this level. False where a rebuilt value does not fit.
-pub fn back_levels(
-    plane: &[i32],
-    work: &mut [i32],
-    across: usize,
-    stride: usize,
-    width: usize,
-    height: usize,
-    levels: usize,
-    level: usize,
-) -> bool
-    requires { ⌜ Rows (length (now plane)) across width height × Rows (length (now work)) stride width height × Doubling levels stride width × (level + levels ≤ 5) ⌝ }
-    ensures { λ ok. ⌜ LevelsBack ok level levels stride across width height (at (now (plane .entry))) (at (now (work .entry))) (at (now (work .exit))) ⌝ }
-{
-    if levels < 2 {
-        return level_back(plane, work, across, stride, 0, width, height, level);
-    }
-    let w = sizes::half(width);
-    if !back_levels(
-        plane,
-        work,
-        across,
-        2 * stride,
-        w,
-        sizes::half(height),
-        levels - 1,
-        level + 1,
-    ) {
-        return false;
-    }
-    weave_low(work, stride, width, height);
-    level_back(plane, work, across, stride, w, width, height, level)
-}
-
 // Whether the numbers of some rows lie in a level's range.
 fn rows_in_range(
     plane: &[i32],
@@ -332,6 +259,56 @@ fn rows_in_range(
         lowest(level),
         sizes::range_of(level),
     )
+}
+
+// A level back from its bands: the plane's rows fetched, and the level lifted back.
+fn level_back(
+    plane: &[i32],
+    work: &mut [i32],
+    across: usize,
+    stride: usize,
+    from: usize,
+    width: usize,
+    height: usize,
+)
+    requires { ⌜ Rows (length (now plane)) across width height × Rows (length (now work)) stride width height × (from ≤ width) ⌝ }
+    ensures { λ _. ⌜ at (now (work .exit)) ≡ flat stride (levelUnlifted width height (cells stride (flat stride (rowsFetched from width height (cells across (at (now (plane .entry)))) (cells stride (at (now (work .entry)))))))) ⌝ }
+{
+    fetch_level(plane, work, across, stride, from, width, height);
+    unlift_level(work, stride, width, height);
+}
+
+// All levels back: first the low-low part with the levels left, whose numbers are tested, then this level. False where one does not fit.
+// The numbers of this level itself are for the caller to test.
+pub fn back_levels(
+    plane: &[i32],
+    work: &mut [i32],
+    across: usize,
+    stride: usize,
+    width: usize,
+    height: usize,
+    levels: usize,
+    level: usize,
+) -> bool
+    requires { ⌜ Rows (length (now plane)) across width height × Rows (length (now work)) stride width height × Doubling levels stride width × (level + levels ≤ 5) ⌝ }
+    ensures { λ ok. ⌜ LevelsBack ok level levels stride across width height (at (now (plane .entry))) (at (now (work .entry))) (at (now (work .exit))) ⌝ }
+{
+    if levels < 2 {
+        level_back(plane, work, across, stride, 0, width, height);
+        return true;
+    }
+    let w = sizes::half(width);
+    let h = sizes::half(height);
+    let next = 2 * stride;
+    if !back_levels(plane, work, across, next, w, h, levels - 1, level + 1) {
+        return false;
+    }
+    if !rows_in_range(work, next, 0, h, 0, w, level + 1) {
+        return false;
+    }
+    weave_low(work, stride, width, height);
+    level_back(plane, work, across, stride, w, width, height);
+    true
 }
 
 // Whether each coefficient of the plane lies in its level's range, `level` being that of this region's own bands.

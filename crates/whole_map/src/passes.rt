@@ -11,7 +11,7 @@ ghost use Rattle.lifting.specs.Line.{predicted, updated, unupdated, unpredicted
 ghost use Rattle.lifting.specs.Halves.{unliftedInPlace};
 ghost use Rattle.wavelet.specs.Plane.{cells, flat};
 ghost use Rattle.whole_map.specs.Rowwise.{wovenInPlace};
-ghost use Rattle.whole_map.specs.Passes.{after, before, oddRowsChanged, evenRowsChanged, nextChanged, rowsMapped, Rows};
+ghost use Rattle.whole_map.specs.Passes.{after, before, oddRowsChanged, evenRowsChanged, nextChanged, pairChanged, rowsMapped, Rows};
 
 // The row after row r of `height` rows, and the row before: mirrored at the ends.
 fn row_after(height: usize, r: usize) -> usize
@@ -39,6 +39,15 @@ fn predict_next(area: &mut [i32], stride: usize, width: usize, height: usize, r:
     rows::predict_row(area, stride, width, next, r, row_after(height, next));
 }
 
+// One turn of the columns forward: the odd row after row r predicted, and row r updated.
+fn lift_pair(area: &mut [i32], stride: usize, width: usize, height: usize, r: usize)
+    requires { ⌜ (r < height) × (1 < height) ⌝ }
+    ensures { λ _. ⌜ at (now (area .exit)) ≡ pairChanged (predicted wrap32) (updated wrap32) (length (now (area .entry))) stride width height r (at (now (area .entry))) ⌝ }
+{
+    predict_next(area, stride, width, height, r);
+    rows::update_row(area, stride, width, r, row_before(r), row_after(height, r));
+}
+
 // Columns forward: each odd row predicted by the even rows next to it, each even row updated by the odd rows next to it. Row by row, so
 // that a row is still near when it is used again: an even row changes once the odd row after it is predicted and is read no more.
 pub fn lift_pairs(area: &mut [i32], stride: usize, width: usize, height: usize)
@@ -46,11 +55,11 @@ pub fn lift_pairs(area: &mut [i32], stride: usize, width: usize, height: usize)
     ensures { λ _. ⌜ at (now (area .exit)) ≡ flat stride (evenRowsChanged (updated wrap32) width height (oddRowsChanged (predicted wrap32) width height (cells stride (at (now (area .entry)))))) ⌝ }
 {
     let mut r = 0;
-    while r < height {
-        predict_next(area, stride, width, height, r);
-        rows::update_row(area, stride, width, r, row_before(r), row_after(height, r));
+    while r + 2 < height {
+        lift_pair(area, stride, width, height, r);
         r += 2;
     }
+    lift_pair(area, stride, width, height, r);
 }
 
 // The row after row r lifted back by the update, where there is one.
@@ -65,6 +74,15 @@ fn unupdate_next(area: &mut [i32], stride: usize, width: usize, height: usize, r
     rows::unupdate_row(area, stride, width, next, r, row_after(height, next));
 }
 
+// One turn of the columns back: the even row after row r first, and then row r.
+fn unlift_pair(area: &mut [i32], stride: usize, width: usize, height: usize, r: usize)
+    requires { ⌜ (r < height) × (1 < height) ⌝ }
+    ensures { λ _. ⌜ at (now (area .exit)) ≡ pairChanged (unupdated wrap32) (unpredicted wrap32) (length (now (area .entry))) stride width height r (at (now (area .entry))) ⌝ }
+{
+    unupdate_next(area, stride, width, height, r);
+    rows::unpredict_row(area, stride, width, r, row_before(r), row_after(height, r));
+}
+
 // Columns back: each even row first, and each odd row once the even rows next to it are done.
 pub fn unlift_pairs(area: &mut [i32], stride: usize, width: usize, height: usize)
     requires { ⌜ Rows (length (now area)) stride width height × (1 < height) ⌝ }
@@ -72,11 +90,11 @@ pub fn unlift_pairs(area: &mut [i32], stride: usize, width: usize, height: usize
 {
     rows::unupdate_row(area, stride, width, 0, 1, 1);
     let mut r = 1;
-    while r < height {
-        unupdate_next(area, stride, width, height, r);
-        rows::unpredict_row(area, stride, width, r, row_before(r), row_after(height, r));
+    while r + 2 < height {
+        unlift_pair(area, stride, width, height, r);
         r += 2;
     }
+    unlift_pair(area, stride, width, height, r);
 }
 
 // Each row lifted back.

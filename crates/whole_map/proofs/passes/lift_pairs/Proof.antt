@@ -1,4 +1,4 @@
--- `whole_map::passes::lift_pairs` meets its contract: a pass over the rows, two at a turn. Assumes nothing.
+-- `whole_map::passes::lift_pairs` meets its contract: a pass over the rows, two at a turn, the last turn after the loop. Assumes nothing.
 use mathlib.Core.Path.{_≡_, refl, _∙_}
 use Prim.Native.Nat.{_+_, _-_, _%_, _≤_, _<_}
 use native.Mathlib.Omega.{arith}
@@ -17,7 +17,7 @@ use Rattle.whole_map.proofs.passes.lift_pairs.Tie as tie
 abbrev Inv-loop : tie.InvT-loop
 Inv-loop area₀ stride width height r₀ area r =
     (r % 2 ≡ 0)
-    × (r ≤ height + 1)
+    × (r < height)
     × (1 < height)
     × (height ≤ length area₀ + 1)
     × (length area ≡ length area₀)
@@ -25,22 +25,16 @@ Inv-loop area₀ stride width height r₀ area r =
     × RowSwept stride (evenRowsChanged (updated wrap32) width height (oddRowsChanged (predicted wrap32) width height (cells stride (at area₀)))) (cells stride (at area₀)) r (at area)
 
 abbrev μ-loop : tie.MeasureT-loop
-μ-loop area₀ stride width height r₀ area r = height + 1 - r
+μ-loop area₀ stride width height r₀ area r = height - r
 
 loop-holds : tie.Need-loop-holds Inv-loop μ-loop
 loop-holds c = (refl, omega arith, c .pre .1, few _ _ _ _ (c .pre .0), refl, c .pre .0, start _ _ 0 _ (λ r k lt. absurd (omega arith)))
 
-predict-next-requires : tie.Need-predict-next-requires Inv-loop μ-loop
-predict-next-requires c κs = omega arith
+add-loop : tie.Need-add-loop Inv-loop μ-loop
+add-loop c = omega arith
 
-row-before-requires : tie.Need-row-before-requires Inv-loop μ-loop
-row-before-requires c κs = search needs
-
-row-after-requires : tie.Need-row-after-requires Inv-loop μ-loop
-row-after-requires c κs = omega arith
-
-update-row-requires : tie.Need-update-row-requires Inv-loop μ-loop
-update-row-requires c κs = search needs
+lift-pair-requires : tie.Need-lift-pair-requires Inv-loop μ-loop
+lift-pair-requires c κs = omega arith
 
 add-r : tie.Need-add-r Inv-loop μ-loop
 add-r c = omega arith
@@ -51,27 +45,29 @@ loop-less c = omega arith
 loop-again : tie.Need-loop-again Inv-loop μ-loop
 loop-again c =
     let called = c .before in
-    let far = called .before in
-    let near = far .before in
-    let next = near .before .before .before in
-    let head = next .before .before .before in
-    let inv = head .loop .inv in (
+    let inv = called .before .before .before .loop .inv in (
       omega arith,
       omega arith,
       inv .2,
       inv .3,
-      called .update-row .kept .0 ∙ next .predict-next .kept .0 ∙ inv .4,
+      called .lift-pair .kept .0 ∙ inv .4,
       inv .5,
-      pair-turn _ _ 1 0 _ _ _ _ _ _ (odd-column _ _ _ _) (even-column _ _ _ _) _ (inv .0) refl (inv .2) (next .before .before .loop-test .taken) _ (rows-kept (inv .4) (inv .5)) _ _ (next .predict-next .ensures) (inv .6) _ _ _ _ (near .row-before .ensures) (far .row-after .ensures .0) (next .predict-next .kept .0) (called .update-row .ensures .1),
+      pair-turn _ _ 1 0 _ _ _ _ _ _ (odd-column _ _ _ _) (even-column _ _ _ _) _ (inv .0) refl (inv .2) (inv .1) _ (rows-kept (inv .4) (inv .5)) _ (inv .6) _ (called .lift-pair .ensures),
     )
 
+lift-pair-requires-2 : tie.Need-lift-pair-requires-2 Inv-loop μ-loop
+lift-pair-requires-2 c κs = omega arith
+
 same-length : tie.Need-same-length Inv-loop μ-loop
-same-length c = c .before .loop .inv .4
+same-length c = let called = c .before in called .lift-pair2 .kept .0 ∙ called .before .before .before .loop .inv .4
 
 returns : tie.Need-returns Inv-loop μ-loop
 returns c =
-    let inv = c .before .loop .inv in
-    finish (inv .5 .apart) (inv .6) (λ r k le. even-column _ _ _ _ .past r k (omega arith) ∙ odd-column _ _ _ _ .past r k (omega arith))
+    let called = c .before in
+    let inv = called .before .before .before .loop .inv in
+    finish (inv .5 .apart)
+    (pair-turn _ _ 1 0 _ _ _ _ _ _ (odd-column _ _ _ _) (even-column _ _ _ _) _ (inv .0) refl (inv .2) (inv .1) _ (rows-kept (inv .4) (inv .5)) _ (inv .6) _ (called .lift-pair2 .ensures))
+    (λ r k le. even-column _ _ _ _ .past r k (omega arith) ∙ odd-column _ _ _ _ .past r k (omega arith))
 
 pub lift-pairs-spec : {M : Type 1} → statement M
 lift-pairs-spec =
@@ -80,12 +76,11 @@ lift-pairs-spec =
     Inv-loop
     μ-loop
     loop-holds
-    predict-next-requires
-    row-before-requires
-    row-after-requires
-    update-row-requires
+    add-loop
+    lift-pair-requires
     add-r
     loop-less
     loop-again
+    lift-pair-requires-2
     same-length
     returns)

@@ -1,4 +1,4 @@
--- `whole_map::passes::unlift_pairs` meets its contract: a pass over the rows, the first before the loop and two at a turn. Assumes nothing.
+-- `whole_map::passes::unlift_pairs` meets its contract: a pass over the rows, the first before the loop, two at a turn, the last turn after it. Assumes nothing.
 use mathlib.Core.Path.{_≡_, refl, _∙_}
 use Prim.Native.Nat.{_+_, _-_, _%_, _≤_, _<_}
 use native.Mathlib.Omega.{arith}
@@ -18,7 +18,7 @@ use Rattle.whole_map.proofs.passes.unlift_pairs.Tie as tie
 abbrev Inv-loop : tie.InvT-loop
 Inv-loop area₀ stride width height r₀ area r =
     (r % 2 ≡ 1)
-    × (r ≤ height + 1)
+    × (r < height)
     × (1 < height)
     × (height ≤ length area₀ + 1)
     × (length area ≡ length area₀)
@@ -26,7 +26,7 @@ Inv-loop area₀ stride width height r₀ area r =
     × ((X : Grid) → RowSwept stride (oddRowsChanged (unpredicted wrap32) width height (evenRowsChanged (unupdated wrap32) width height X)) X 1 (at area₀) → RowSwept stride (oddRowsChanged (unpredicted wrap32) width height (evenRowsChanged (unupdated wrap32) width height X)) X r (at area))
 
 abbrev μ-loop : tie.MeasureT-loop
-μ-loop area₀ stride width height r₀ area r = height + 1 - r
+μ-loop area₀ stride width height r₀ area r = height - r
 
 unupdate-row-requires : tie.Need-unupdate-row-requires Inv-loop μ-loop
 unupdate-row-requires c κs = search needs
@@ -38,17 +38,11 @@ loop-holds c =
     let rows = rows-kept (called .unupdate-row .kept .0) (pre .0) in
     (refl, omega arith, pre .1, few _ _ _ _ rows, refl, rows, λ X s. s)
 
-unupdate-next-requires : tie.Need-unupdate-next-requires Inv-loop μ-loop
-unupdate-next-requires c κs = omega arith
+add-loop : tie.Need-add-loop Inv-loop μ-loop
+add-loop c = omega arith
 
-row-before-requires : tie.Need-row-before-requires Inv-loop μ-loop
-row-before-requires c κs = search needs
-
-row-after-requires : tie.Need-row-after-requires Inv-loop μ-loop
-row-after-requires c κs = omega arith
-
-unpredict-row-requires : tie.Need-unpredict-row-requires Inv-loop μ-loop
-unpredict-row-requires c κs = search needs
+unlift-pair-requires : tie.Need-unlift-pair-requires Inv-loop μ-loop
+unlift-pair-requires c κs = omega arith
 
 add-r : tie.Need-add-r Inv-loop μ-loop
 add-r c = omega arith
@@ -59,32 +53,36 @@ loop-less c = omega arith
 loop-again : tie.Need-loop-again Inv-loop μ-loop
 loop-again c =
     let called = c .before in
-    let far = called .before in
-    let near = far .before in
-    let next = near .before .before .before in
-    let head = next .before .before .before in
-    let inv = head .loop .inv in (
+    let inv = called .before .before .before .loop .inv in (
       omega arith,
       omega arith,
       inv .2,
       inv .3,
-      called .unpredict-row .kept .0 ∙ next .unupdate-next .kept .0 ∙ inv .4,
+      called .unlift-pair .kept .0 ∙ inv .4,
       inv .5,
       λ X s.
-          pair-turn _ _ 0 1 _ _ _ X _ _ (even-column _ _ _ _) (odd-column _ _ _ _) _ (inv .0) refl (inv .2) (next .before .before .loop-test .taken) _ (rows-kept (inv .4) (inv .5)) _ _ (next .unupdate-next .ensures) (inv .6 X s) _ _ _ _ (near .row-before .ensures) (far .row-after .ensures .0) (next .unupdate-next .kept .0) (called .unpredict-row .ensures .1),
+          pair-turn _ _ 0 1 _ _ _ X _ _ (even-column _ _ _ _) (odd-column _ _ _ _) _ (inv .0) refl (inv .2) (inv .1) _ (rows-kept (inv .4) (inv .5)) _ (inv .6 X s) _ (called .unlift-pair .ensures),
     )
 
+unlift-pair-requires-2 : tie.Need-unlift-pair-requires-2 Inv-loop μ-loop
+unlift-pair-requires-2 c κs = omega arith
+
 same-length : tie.Need-same-length Inv-loop μ-loop
-same-length c = let head = c .before in head .loop .inv .4 ∙ head .before .before .unupdate-row .kept .0
+same-length c =
+    let called = c .before in
+    let head = called .before .before .before in
+    called .unlift-pair2 .kept .0 ∙ head .loop .inv .4 ∙ head .before .before .unupdate-row .kept .0
 
 returns : tie.Need-returns Inv-loop μ-loop
 returns c =
-    let head = c .before in
-    let called = head .before .before in
-    let pre = called .before .before .pre in
+    let called = c .before in
+    let head = called .before .before .before in
+    let first = head .before .before in
+    let pre = first .before .before .pre in
     let inv = head .loop .inv in
+    let swept = inv .6 _ (first-turn _ _ _ _ _ _ _ _ _ _ _ (even-column _ _ _ _) (odd-column _ _ _ _) (pre .1) (pre .0) (first .unupdate-row .ensures .1) (start _ _ 0 _ (λ r k lt. absurd (omega arith)))) in
     finish (inv .5 .apart)
-    (inv .6 _ (first-turn _ _ _ _ _ _ _ _ _ _ _ (even-column _ _ _ _) (odd-column _ _ _ _) (pre .1) (pre .0) (called .unupdate-row .ensures .1) (start _ _ 0 _ (λ r k lt. absurd (omega arith)))))
+    (pair-turn _ _ 0 1 _ _ _ _ _ _ (even-column _ _ _ _) (odd-column _ _ _ _) _ (inv .0) refl (inv .2) (inv .1) _ (rows-kept (inv .4) (inv .5)) _ swept _ (called .unlift-pair2 .ensures))
     (λ r k le. odd-column _ _ _ _ .past r k (omega arith) ∙ even-column _ _ _ _ .past r k (omega arith))
 
 pub unlift-pairs-spec : {M : Type 1} → statement M
@@ -95,12 +93,11 @@ unlift-pairs-spec =
     μ-loop
     unupdate-row-requires
     loop-holds
-    unupdate-next-requires
-    row-before-requires
-    row-after-requires
-    unpredict-row-requires
+    add-loop
+    unlift-pair-requires
     add-r
     loop-less
     loop-again
+    unlift-pair-requires-2
     same-length
     returns)
