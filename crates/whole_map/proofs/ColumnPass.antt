@@ -98,7 +98,7 @@ module _ (f : ℤ → ℤ → ℤ → ℤ) (w h : ℕ) (X : Grid) where
   even-column = record { hit = even-hit; wide = even-wide; past = even-past; other = even-other }
 
 -- the neighbours are near
-after-near : (h r : ℕ) → after h r ≤ r + 1
+pub after-near : (h r : ℕ) → after h r ≤ r + 1
 unfolding after
 after-near h r = elim (decLt (r + 1) h) [ yes p ↦ simp (lt-ltb (r + 1) h p) (omega arith) | no d ↦ simp (le-ltb (r + 1) h (omega arith)) (omega arith) ]
 
@@ -106,7 +106,7 @@ after-next : (h r : ℕ) → r ≤ after h (r + 1)
 unfolding after
 after-next h r = elim (decLt (r + 1 + 1) h) [ yes p ↦ simp (lt-ltb (r + 1 + 1) h p) (omega arith) | no d ↦ simp (le-ltb (r + 1 + 1) h (omega arith)) (omega arith) ]
 
-before-near : (r : ℕ) → before r ≤ r + 1
+pub before-near : (r : ℕ) → before r ≤ r + 1
 unfolding before
 before-near r = elim (decLt 0 r) [ yes p ↦ simp (lt-ltb 0 r p) (omega arith) | no d ↦ simp (le-ltb 0 r (omega arith)) (omega arith) ]
 

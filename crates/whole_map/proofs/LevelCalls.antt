@@ -13,7 +13,7 @@ use Rattle.numbers.specs.Signal.{at, pick, windowed, spliced}
 use Rattle.numbers.specs.Word.{wrap32}
 use Rattle.numbers.proofs.Parts.{window-in, splice-below, splice-in, splice-past, length-mid, at-mid, at-put}
 use Rattle.lifting.specs.Line.{predicted, updated, unupdated, unpredicted, parted}
-use Rattle.lifting.specs.Halves.{fronted, inHalves, liftedInPlace, unliftedInPlace}
+use Rattle.lifting.specs.Halves.{fronted, inHalves, liftedInPlace}
 use Rattle.lifting.proofs.RowLaws.{row-order}
 use Rattle.wavelet.specs.Bands.{Grid}
 use Rattle.wavelet.specs.Plane.{cells, flat}
@@ -21,12 +21,12 @@ use Rattle.wavelet.specs.Maps.{every, everyCell}
 use Rattle.wavelet.proofs.GridLaws.{cells-flat, flat-cells}
 use Rattle.wavelet.proofs.MapTheorems.{every-each, each-every, every-same}
 use Rattle.whole_map.specs.Rowwise.{cut, partedInPlace, between}
-use Rattle.whole_map.specs.Passes.{even, before, after, oddRowsChanged, evenRowsChanged, rowsMapped, planeRow, levelRow, rowsStored, rowsFetched, rowsLoaded}
-use Rattle.whole_map.specs.LevelPasses.{columnsLiftedInPlace, levelLifted, columnsUnliftedInPlace, levelUnlifted, rowsBetween}
+use Rattle.whole_map.specs.Passes.{even, before, after, oddRowsChanged, evenRowsChanged, rowsMapped, levelRow, rowsStored, rowsLoaded}
+use Rattle.whole_map.specs.LevelPasses.{columnsLiftedInPlace, levelLifted, columnsUnliftedInPlace, rowsBetween}
 use Rattle.whole_map.proofs.GridSweep.{RowSwept, store-row, mapped-in}
 use Rattle.whole_map.proofs.RowwiseLaws.{front-at, window-cut, cut-parted}
 use Rattle.whole_map.proofs.HeightRows.{halves-inside}
-use Rattle.whole_map.proofs.CellLaws.{flat-same, by-within, level-in, loaded-in, loaded-out, stored-in, stored-out, fetched-new, fetched-made, fetched-out, outside-columns}
+use Rattle.whole_map.proofs.CellLaws.{flat-same, by-within, level-in, loaded-in, loaded-out, stored-in, stored-out, outside-columns}
 use Rattle.whole_map.proofs.TestLaws.{not-every}
 
 -- ---- a pass reads the cells that stand in the area alone
@@ -39,14 +39,22 @@ module _ (f : ℤ → ℤ → ℤ → ℤ) (w h : ℕ) (X Y : Grid) (r c : ℕ) 
   unfolding evenRowsChanged
   even-same = rw (same r, same (before r), same (after h r))
 
-cut-same : (w : ℕ) (x y : ℕ → ℤ) → ((j : ℕ) → j < w → x j ≡ y j) → cut w x ≡ cut w y
+pub cut-same : (w : ℕ) (x y : ℕ → ℤ) → ((j : ℕ) → j < w → x j ≡ y j) → cut w x ≡ cut w y
 unfolding cut
 cut-same w x y e =
     fun-ext λ j. elim (decLt j w) [ yes a ↦ simp (lt-ltb j w a) (e j a) | no a ↦ simp (le-ltb j w (omega arith)) ]
 
-mapped-same : (f : (ℕ → ℤ) → ℕ → ℤ) (w h : ℕ) (X Y : Grid) (r c : ℕ) → X r c ≡ Y r c → ((j : ℕ) → j < w → X r j ≡ Y r j) → rowsMapped f w h X r c ≡ rowsMapped f w h Y r c
+pub mapped-same : (f : (ℕ → ℤ) → ℕ → ℤ) (w h : ℕ) (X Y : Grid) (r c : ℕ) → X r c ≡ Y r c → ((j : ℕ) → j < w → X r j ≡ Y r j) → rowsMapped f w h X r c ≡ rowsMapped f w h Y r c
 unfolding rowsMapped
 mapped-same f w h X Y r c e es = rw (e, cut-same w (X r) (Y r) es)
+
+pub unlifted-same : (w h : ℕ) (X Y : Grid) (r c : ℕ) → ((i : ℕ) → X i c ≡ Y i c) → columnsUnliftedInPlace w h X r c ≡ columnsUnliftedInPlace w h Y r c
+unfolding columnsUnliftedInPlace
+unlifted-same w h X Y r c e =
+    elim (decLt 1 h) [
+      | yes g ↦ simp (lt-ltb 1 h g) (odd-same (unpredicted wrap32) w h _ _ r c (λ i. even-same (unupdated wrap32) w h X Y i c e))
+      | no g ↦ simp (le-ltb 1 h (omega arith)) (e r)
+    ]
 
 -- what a pass left, as cells
 module _ (s : ℕ) (F : Grid) (y : ℕ → ℤ) (e : y ≡ flat s F) where
@@ -58,18 +66,10 @@ module _ (s w h : ℕ) (x : ℕ → ℤ) (apart : 0 < s) where
   unfolding columnsLiftedInPlace
   columns-alone b = simp (le-ltb 1 h (omega arith)) (sym (flat-cells s x))
 
-  pub columns-alone-back : h < 2 → x ≡ flat s (columnsUnliftedInPlace w h (cells s x))
-  unfolding columnsUnliftedInPlace
-  columns-alone-back b = simp (le-ltb 1 h (omega arith)) (sym (flat-cells s x))
-
   module _ (y : ℕ → ℤ) where
     pub columns-both : 2 ≤ h → y ≡ flat s (evenRowsChanged (updated wrap32) w h (oddRowsChanged (predicted wrap32) w h (cells s x))) → y ≡ flat s (columnsLiftedInPlace w h (cells s x))
     unfolding columnsLiftedInPlace
     columns-both b e = simp (lt-ltb 1 h (omega arith)) e
-
-    pub columns-both-back : 2 ≤ h → y ≡ flat s (oddRowsChanged (unpredicted wrap32) w h (evenRowsChanged (unupdated wrap32) w h (cells s x))) → y ≡ flat s (columnsUnliftedInPlace w h (cells s x))
-    unfolding columnsUnliftedInPlace
-    columns-both-back b e = simp (lt-ltb 1 h (omega arith)) e
 
   module _ (y z : ℕ → ℤ) where
     pub level-both : (A : ℕ) (u v : ℕ → ℤ) → w ≤ s → 0 < A → y ≡ flat s (columnsLiftedInPlace w h (cells s x)) → v ≡ flat A (rowsStored w h (rowsMapped (liftedInPlace w) w h (cells s y)) (cells A u)) → v ≡ flat A (rowsStored w h (levelLifted w h (cells s x)) (cells A u))
@@ -84,21 +84,8 @@ module _ (s w h : ℕ) (x : ℕ → ℤ) (apart : 0 < s) where
         ∙ sym (stored-in w h _ (cells A u) r c rh cw))
         (λ o. stored-out w h _ (cells A u) r c o ∙ sym (stored-out w h _ (cells A u) r c o)))
 
-    unlifted-same : (X Y : Grid) (r c : ℕ) → ((i : ℕ) → X i c ≡ Y i c) → columnsUnliftedInPlace w h X r c ≡ columnsUnliftedInPlace w h Y r c
-    unfolding columnsUnliftedInPlace
-    unlifted-same X Y r c e =
-        elim (decLt 1 h) [
-          | yes g ↦ simp (lt-ltb 1 h g) (odd-same (unpredicted wrap32) w h _ _ r c (λ i. even-same (unupdated wrap32) w h X Y i c e))
-          | no g ↦ simp (le-ltb 1 h (omega arith)) (e r)
-        ]
-
-    pub level-both-back : y ≡ flat s (rowsMapped (unliftedInPlace w) w h (cells s x)) → z ≡ flat s (columnsUnliftedInPlace w h (cells s y)) → z ≡ flat s (levelUnlifted w h (cells s x))
-    unfolding levelUnlifted
-    level-both-back e f =
-        f ∙ flat-same s _ _ apart (λ r c cs. unlifted-same (cells s y) _ r c (λ i. left-cells s _ y e i c cs))
-
 -- ---- a part copied
-splice-same : (b n : ℕ) (u v x : ℕ → ℤ) → ((i : ℕ) → i < n → u i ≡ v i) → spliced b n u x ≡ spliced b n v x
+pub splice-same : (b n : ℕ) (u v x : ℕ → ℤ) → ((i : ℕ) → i < n → u i ≡ v i) → spliced b n u x ≡ spliced b n v x
 splice-same b n u v x e =
     fun-ext λ j.
     elim (decLt j b) [
@@ -181,7 +168,7 @@ unfolding cells
 row-lent s w r x = window-cut (r * s) w x (λ c. x (r * s + c)) (λ c q. refl)
 
 -- row i of an area filled with a row of w numbers y
-fill-turn : (A w h i : ℕ) (Y Z : Grid) (y z z′ : ℕ → ℤ) → w ≤ A → z′ ≡ spliced (i * A) w y z → ((c : ℕ) → c < w → y c ≡ Y i c) → ((c : ℕ) → w ≤ c → Y i c ≡ Z i c) → RowSwept A Y Z i z → RowSwept A Y Z (i + 1) z′
+pub fill-turn : (A w h i : ℕ) (Y Z : Grid) (y z z′ : ℕ → ℤ) → w ≤ A → z′ ≡ spliced (i * A) w y z → ((c : ℕ) → c < w → y c ≡ Y i c) → ((c : ℕ) → w ≤ c → Y i c ≡ Z i c) → RowSwept A Y Z i z → RowSwept A Y Z (i + 1) z′
 fill-turn A w h i Y Z y z z′ wa is new past sw =
     copy-turn A w 0 w i (i * A) Y Z y z z′ wa (omega arith) (omega arith) is
     (λ c cw. let k : 0 + c ≡ c = omega arith in rw k (new c cw)) (λ c b. absurd (omega arith)) past sw
@@ -215,20 +202,6 @@ loaded-turn A s w h i z x₀ x x′ ws ih is sw =
 pub made-few : (r from w : ℕ) → from ≤ w → pick (even r) from 0 ≤ w
 unfolding even
 made-few r from w b = elim (ℕ-discrete (r % 2) 0) [ yes e ↦ simp (eq-eqb (r % 2) 0 e) b | no d ↦ simp (ne-eqb (r % 2) 0 d) (omega arith) ]
-
-pub fetched-turn : (s A from w h i l made : ℕ) (z x₀ x x′ : ℕ → ℤ) → w ≤ s → i < h → made ≡ pick (even i) from 0 → made ≤ w → l ≡ planeRow h i → x′ ≡ spliced (i * s + made) (w - made) (windowed (l * A + made) (w - made) z) x → RowSwept s (rowsFetched from w h (cells A z) (cells s x₀)) (cells s x₀) i x → RowSwept s (rowsFetched from w h (cells A z) (cells s x₀)) (cells s x₀) (i + 1) x′
-unfolding cells
-fetched-turn s A from w h i l made z x₀ x x′ ws ih m few e is sw =
-    copy-turn s w made (w - made) i (i * s + made) _ _ (windowed (l * A + made) (w - made) z) x x′ ws (omega arith) refl is
-    (λ c cw.
-    let k : l * A + made + c ≡ l * A + (made + c) = omega arith in
-    window-in (l * A + made) (w - made) z c cw
-    ∙ ap z k
-    ∙ ap (λ (j : ℕ). z (j * A + (made + c))) e
-    ∙ sym (fetched-new from w h (cells A z) (cells s x₀) i (made + c) ih (omega arith) (omega arith)))
-    (λ c b. fetched-made from w h (cells A z) (cells s x₀) i c ih (omega arith) (omega arith))
-    (λ c b. fetched-out w h (cells s x₀) i c (outside-columns w h i c b) from (cells A z))
-    sw
 
 -- ---- rows tested: those from `first` up to r are between low and high
 module _ (s first last from to : ℕ) (low high : ℤ) (l : List ℤ) where

@@ -8,6 +8,7 @@ pub mod LevelMath
 pub mod LevelsMath
 pub mod TestLaws
 pub mod LevelCalls
+pub mod BackPass
 pub mod LevelSteps
 pub mod CallLaws
 pub mod Demand2

@@ -4,7 +4,7 @@ use Prim.Native.Nat.{ℕ, zero, suc, _+_, _-_, _*_, _^_, _≤_, _<_}
 use mathlib.Core.Path.{_≡_}
 use lib.IntN.{ℤ, pos, negℤ, natAbs}
 use lib.Dec.{ltb, leb}
-use Rattle.numbers.specs.Signal.{pick}
+use Rattle.numbers.specs.Signal.{pick, spliced}
 use Rattle.numbers.specs.Word.{wrap32}
 use Rattle.lifting.specs.Line.{lo, count, predicted, updated, unupdated, unpredicted, joined}
 use Rattle.lifting.specs.Halves.{halvesOf, fronted, liftedInPlace, unliftedInPlace}
@@ -12,8 +12,8 @@ use Rattle.wavelet.specs.Limits.{range}
 use Rattle.wavelet.specs.Bands.{Grid}
 use Rattle.wavelet.specs.Plane.{planeCell, levelAt, mapBack, cells, flat}
 use Rattle.wavelet.specs.Maps.{everyCell, valueFits, rebuiltFits}
-use Rattle.whole_map.specs.Rowwise.{between}
-use Rattle.whole_map.specs.Passes.{within, oddRowsChanged, evenRowsChanged, rowsMapped, rowsReturned, KeptFrom}
+use Rattle.whole_map.specs.Rowwise.{cut, between}
+use Rattle.whole_map.specs.Passes.{within, oddRowsChanged, evenRowsChanged, rowsMapped, rowsFetched, rowsReturned, KeptFrom}
 
 -- the grid of w columns whose rows stand in X, each in halves
 unfoldable pub levelGrid : ℕ → Grid → Grid
@@ -34,6 +34,10 @@ columnsUnliftedInPlace w h X =
 
 unfoldable pub levelUnlifted : ℕ → ℕ → Grid → Grid
 levelUnlifted w h X = columnsUnliftedInPlace w h (rowsMapped (unliftedInPlace w) w h X)
+
+-- row r of a level in the area x, its rows s apart: from the plane z, an even one from column `from` on, and lifted back
+unfoldable pub rowBack : ℕ → ℕ → ℕ → ℕ → Grid → (ℕ → ℤ) → ℕ → ℕ → ℤ
+rowBack from w h s z x r = spliced (r * s) w (unliftedInPlace w (cut w (rowsFetched from w h z (cells s x) r))) x
 
 -- the plane z with the plane of the w × h grid g, at L levels, in its corner
 unfoldable pub planeWritten : ℕ → ℕ → ℕ → Grid → Grid → Grid

@@ -3,10 +3,13 @@
 // The module is private: only this crate, which meets what is required, can call it.
 use crate::passes;
 use crate::rowwise;
+use lifting::line;
+use lifting::rows;
 use wavelet::sizes;
 ghost use mathlib.Core.Path.{_≡_};
 ghost use Prim.Native.Nat.{_+_, _-_, _*_, _<_, _≤_};
 ghost use lib.IntN.{pos, negℤ};
+ghost use lib.Dec.{ltb};
 ghost use lib.ListN.{length};
 ghost use Rattle.numbers.specs.Signal.{at, pick, windowed, spliced};
 ghost use Rattle.lifting.specs.Line.{lo, count};
@@ -15,7 +18,7 @@ ghost use Rattle.wavelet.specs.Limits.{range};
 ghost use Rattle.wavelet.specs.Plane.{cells, flat};
 ghost use Rattle.whole_map.specs.Rowwise.{partedInPlace, wovenInPlace};
 ghost use Rattle.whole_map.specs.Passes.{Rows, KeptFrom, even, planeRow, levelRow, rowsMapped, rowsStored, rowsFetched, rowsLoaded};
-ghost use Rattle.whole_map.specs.LevelPasses.{levelGrid, columnsLiftedInPlace, columnsUnliftedInPlace, levelUnlifted, planeWritten, rowsBetween, regionInRange, Doubling, LevelsBack};
+ghost use Rattle.whole_map.specs.LevelPasses.{levelGrid, columnsLiftedInPlace, levelUnlifted, rowBack, planeWritten, rowsBetween, regionInRange, Doubling, LevelsBack};
 
 // The plane's row for row r of a level: the low rows come first.
 fn plane_row(height: usize, r: usize) -> usize
@@ -49,26 +52,6 @@ fn lift_columns(work: &mut [i32], stride: usize, width: usize, height: usize)
         return;
     }
     passes::lift_pairs(work, stride, width, height);
-}
-
-// All columns back.
-fn unlift_columns(work: &mut [i32], stride: usize, width: usize, height: usize)
-    requires { ⌜ Rows (length (now work)) stride width height ⌝ }
-    ensures { λ _. ⌜ at (now (work .exit)) ≡ flat stride (columnsUnliftedInPlace width height (cells stride (at (now (work .entry))))) ⌝ }
-{
-    if height < 2 {
-        return;
-    }
-    passes::unlift_pairs(work, stride, width, height);
-}
-
-// One level back, in place: all rows, then all columns.
-fn unlift_level(work: &mut [i32], stride: usize, width: usize, height: usize)
-    requires { ⌜ Rows (length (now work)) stride width height ⌝ }
-    ensures { λ _. ⌜ at (now (work .exit)) ≡ flat stride (levelUnlifted width height (cells stride (at (now (work .entry))))) ⌝ }
-{
-    passes::unlift_rows(work, stride, width, height);
-    unlift_columns(work, stride, width, height);
 }
 
 // n numbers from place a of one area to place b of another.
@@ -147,8 +130,8 @@ fn made_of(r: usize, from: usize) -> usize
     if r % 2 == 0 { from } else { 0 }
 }
 
-// The rows of a level from the plane, the even ones from column `from` on.
-fn fetch_level(
+// Row r of a level from the plane, an even one from column `from` on, and lifted back.
+fn fetch_row(
     plane: &[i32],
     work: &mut [i32],
     across: usize,
@@ -156,17 +139,37 @@ fn fetch_level(
     from: usize,
     width: usize,
     height: usize,
+    r: usize,
+)
+    requires { ⌜ Rows (length (now plane)) across width height × Rows (length (now work)) stride width height × (from ≤ width) × (r < height) ⌝ }
+    ensures { λ _. ⌜ at (now (work .exit)) ≡ rowBack from width height stride (cells across (at (now (plane .entry)))) (at (now (work .entry))) r ⌝ }
+{
+    let made = made_of(r, from);
+    let a = plane_row(height, r) * across + made;
+    let b = r * stride;
+    let e = b + width;
+    copy_part(plane, a, work, b + made, width - made);
+    line::unlift(&mut work[b..e]);
+}
+
+// The same, where there is a row r.
+fn fetch_last(
+    plane: &[i32],
+    work: &mut [i32],
+    across: usize,
+    stride: usize,
+    from: usize,
+    width: usize,
+    height: usize,
+    r: usize,
 )
     requires { ⌜ Rows (length (now plane)) across width height × Rows (length (now work)) stride width height × (from ≤ width) ⌝ }
-    ensures { λ _. ⌜ at (now (work .exit)) ≡ flat stride (rowsFetched from width height (cells across (at (now (plane .entry)))) (cells stride (at (now (work .entry))))) ⌝ }
+    ensures { λ _. ⌜ at (now (work .exit)) ≡ pick (ltb r height) (rowBack from width height stride (cells across (at (now (plane .entry)))) (at (now (work .entry))) r) (at (now (work .entry))) ⌝ }
 {
-    let mut r = 0;
-    while r < height {
-        let made = made_of(r, from);
-        let a = plane_row(height, r) * across + made;
-        copy_part(plane, a, work, r * stride + made, width - made);
-        r += 1;
+    if height <= r {
+        return;
     }
+    fetch_row(plane, work, across, stride, from, width, height, r);
 }
 
 // The low-low part of a level from halves into its own order.
@@ -261,7 +264,35 @@ fn rows_in_range(
     )
 }
 
-// A level back from its bands: the plane's rows fetched, and the level lifted back.
+// A level of more than one row back from its bands. Row by row, so that a row is still near when it is used again: a pair of rows is
+// fetched, and then the columns of the rows before it are lifted back.
+fn rows_back(
+    plane: &[i32],
+    work: &mut [i32],
+    across: usize,
+    stride: usize,
+    from: usize,
+    width: usize,
+    height: usize,
+)
+    requires { ⌜ Rows (length (now plane)) across width height × Rows (length (now work)) stride width height × (from ≤ width) × (1 < height) ⌝ }
+    ensures { λ _. ⌜ at (now (work .exit)) ≡ flat stride (levelUnlifted width height (cells stride (flat stride (rowsFetched from width height (cells across (at (now (plane .entry)))) (cells stride (at (now (work .entry)))))))) ⌝ }
+{
+    fetch_row(plane, work, across, stride, from, width, height, 0);
+    fetch_row(plane, work, across, stride, from, width, height, 1);
+    rows::unupdate_row(work, stride, width, 0, 1, 1);
+    let mut r = 1;
+    while r + 2 < height {
+        fetch_row(plane, work, across, stride, from, width, height, r + 1);
+        fetch_row(plane, work, across, stride, from, width, height, r + 2);
+        passes::unlift_pair(work, stride, width, height, r);
+        r += 2;
+    }
+    fetch_last(plane, work, across, stride, from, width, height, r + 1);
+    passes::unlift_pair(work, stride, width, height, r);
+}
+
+// A level back from its bands: the plane's rows fetched, all rows lifted back, and all columns.
 fn level_back(
     plane: &[i32],
     work: &mut [i32],
@@ -274,8 +305,11 @@ fn level_back(
     requires { ⌜ Rows (length (now plane)) across width height × Rows (length (now work)) stride width height × (from ≤ width) ⌝ }
     ensures { λ _. ⌜ at (now (work .exit)) ≡ flat stride (levelUnlifted width height (cells stride (flat stride (rowsFetched from width height (cells across (at (now (plane .entry)))) (cells stride (at (now (work .entry)))))))) ⌝ }
 {
-    fetch_level(plane, work, across, stride, from, width, height);
-    unlift_level(work, stride, width, height);
+    if height < 2 {
+        fetch_row(plane, work, across, stride, from, width, height, 0);
+        return;
+    }
+    rows_back(plane, work, across, stride, from, width, height);
 }
 
 // All levels back: first the low-low part with the levels left, whose numbers are tested, then this level. False where one does not fit.

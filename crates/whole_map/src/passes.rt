@@ -1,6 +1,5 @@
 // Passes over the rows of one area: `height` rows of `width` numbers, `stride` apart. The module is private, as `rowwise` is.
 use crate::rowwise;
-use lifting::line;
 use lifting::rows;
 ghost use mathlib.Core.Path.{_≡_};
 ghost use Prim.Native.Nat.{_+_, _-_, _*_, _<_, _≤_};
@@ -8,7 +7,6 @@ ghost use lib.ListN.{length};
 ghost use Rattle.numbers.specs.Signal.{at};
 ghost use Rattle.numbers.specs.Word.{wrap32};
 ghost use Rattle.lifting.specs.Line.{predicted, updated, unupdated, unpredicted};
-ghost use Rattle.lifting.specs.Halves.{unliftedInPlace};
 ghost use Rattle.wavelet.specs.Plane.{cells, flat};
 ghost use Rattle.whole_map.specs.Rowwise.{wovenInPlace};
 ghost use Rattle.whole_map.specs.Passes.{after, before, oddRowsChanged, evenRowsChanged, nextChanged, pairChanged, rowsMapped, Rows};
@@ -75,40 +73,12 @@ fn unupdate_next(area: &mut [i32], stride: usize, width: usize, height: usize, r
 }
 
 // One turn of the columns back: the even row after row r first, and then row r.
-fn unlift_pair(area: &mut [i32], stride: usize, width: usize, height: usize, r: usize)
+pub fn unlift_pair(area: &mut [i32], stride: usize, width: usize, height: usize, r: usize)
     requires { ⌜ (r < height) × (1 < height) ⌝ }
     ensures { λ _. ⌜ at (now (area .exit)) ≡ pairChanged (unupdated wrap32) (unpredicted wrap32) (length (now (area .entry))) stride width height r (at (now (area .entry))) ⌝ }
 {
     unupdate_next(area, stride, width, height, r);
     rows::unpredict_row(area, stride, width, r, row_before(r), row_after(height, r));
-}
-
-// Columns back: each even row first, and each odd row once the even rows next to it are done.
-pub fn unlift_pairs(area: &mut [i32], stride: usize, width: usize, height: usize)
-    requires { ⌜ Rows (length (now area)) stride width height × (1 < height) ⌝ }
-    ensures { λ _. ⌜ at (now (area .exit)) ≡ flat stride (oddRowsChanged (unpredicted wrap32) width height (evenRowsChanged (unupdated wrap32) width height (cells stride (at (now (area .entry)))))) ⌝ }
-{
-    rows::unupdate_row(area, stride, width, 0, 1, 1);
-    let mut r = 1;
-    while r + 2 < height {
-        unlift_pair(area, stride, width, height, r);
-        r += 2;
-    }
-    unlift_pair(area, stride, width, height, r);
-}
-
-// Each row lifted back.
-pub fn unlift_rows(area: &mut [i32], stride: usize, width: usize, height: usize)
-    requires { ⌜ Rows (length (now area)) stride width height ⌝ }
-    ensures { λ _. ⌜ at (now (area .exit)) ≡ flat stride (rowsMapped (unliftedInPlace width) width height (cells stride (at (now (area .entry))))) ⌝ }
-{
-    let mut r = 0;
-    while r < height {
-        let a = r * stride;
-        let e = a + width;
-        line::unlift(&mut area[a..e]);
-        r += 1;
-    }
 }
 
 // Each row from halves into its own order.
