@@ -1,7 +1,6 @@
 -- A level back row by row. P is the level with all rows fetched and lifted back, Y the same with the columns lifted back too. Halfway, the
 -- rows below k are fetched, and of them the rows below i are Y's: `zone`. Assumes nothing.
 use mathlib.Core.Path.{_≡_, refl, sym, ap, _∙_, fun-ext}
-use mathlib.Core.Logic.{_≢_}
 use mathlib.Core.Bool.{true}
 use mathlib.Core.List.{List}
 use Prim.Native.Nat.{ℕ, _+_, _-_, _*_, _%_, _≤_, _<_}
@@ -27,9 +26,9 @@ use Rattle.whole_map.specs.Passes.{Rows, even, before, after, oddRowsCha
 use Rattle.whole_map.specs.LevelPasses.{columnsUnliftedInPlace, levelUnlifted, rowBack}
 use Rattle.whole_map.proofs.GridSweep.{RowSwept, row-room, start, finish, mapped-in, mapped-wide, mapped-past}
 use Rattle.whole_map.proofs.RowwiseLaws.{window-cut}
-use Rattle.whole_map.proofs.ColumnPass.{Column, odd-column, even-column, after-is, before-is, after-near, before-near, first-turn, pair-turn}
+use Rattle.whole_map.proofs.ColumnPass.{odd-column, even-column, after-is, before-is, after-near, before-near, first-turn, pair-turn}
 use Rattle.whole_map.proofs.CellLaws.{flat-same, fetched-new, fetched-made, fetched-out, outside-columns, outside-rows, unlifted-out}
-use Rattle.whole_map.proofs.LevelCalls.{cut-same, mapped-same, unlifted-same, splice-same, fill-turn}
+use Rattle.whole_map.proofs.LevelCalls.{cut-same, mapped-same, unlifted-same, fill-turn}
 
 splice-over : (b n : ℕ) (u y x : ℕ → ℤ) → ((j : ℕ) → j < b → y j ≡ x j) → ((j : ℕ) → b + n ≤ j → y j ≡ x j) → spliced b n u y ≡ spliced b n u x
 splice-over b n u y x below past =

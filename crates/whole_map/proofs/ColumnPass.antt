@@ -3,18 +3,15 @@
 -- forward f predicts and g updates, back f takes the update away and g the prediction. Assumes nothing.
 use mathlib.Core.Path.{_≡_, sym, ap, _∙_}
 use mathlib.Core.Logic.{_≢_}
-use mathlib.Core.List.{List}
 use Prim.Native.Nat.{ℕ, _+_, _*_, _%_, _≤_, _<_}
 use native.Mathlib.Decide.{decLt, ℕ-discrete}
 use native.Mathlib.Omega.{arith}
 use lib.IntN.{ℤ}
-use lib.ListN.{length}
 use borrow.Author.Tests.{lt-ltb, le-ltb, eq-eqb, ne-eqb}
 use Rattle.numbers.specs.Signal.{at}
 use Rattle.lifting.specs.Rows.{rowChanged, rowsChanged}
 use Rattle.lifting.proofs.RowLaws.{rows-fit, changed, row-at, row-other, row-past}
 use Rattle.wavelet.specs.Bands.{Grid}
-use Rattle.wavelet.specs.Plane.{cells}
 use Rattle.whole_map.specs.Passes.{Rows, within, even, before, after, oddRowsChanged, evenRowsChanged, nextChanged, pairChanged}
 use Rattle.whole_map.proofs.GridSweep.{RowSwept, row-room, store-row}
 

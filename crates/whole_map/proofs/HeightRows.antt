@@ -17,7 +17,7 @@ use Rattle.wavelet.specs.Bands.{Grid}
 use Rattle.wavelet.specs.Plane.{cells, flat}
 use Rattle.wavelet.specs.Maps.{every, everyCell, valueFits}
 use Rattle.whole_map.specs.Rowwise.{heightsAt, cut, between}
-use Rattle.whole_map.specs.Passes.{Rows, KeptFrom, within, rowsMapped, rowsLoaded, rowsReturned}
+use Rattle.whole_map.specs.Passes.{Rows, KeptFrom, rowsMapped, rowsLoaded, rowsReturned}
 use Rattle.whole_map.specs.LevelPasses.{Finished}
 use Rattle.whole_map.proofs.RowwiseLaws.{front-at, window-cut, cut-in, cut-parted, cut-woven}
 use Rattle.wavelet.proofs.MapTheorems.{every-each, each-every, every-same}

@@ -71,7 +71,7 @@ module _ (s w h : ℕ) (x : ℕ → ℤ) (apart : 0 < s) where
     unfolding columnsLiftedInPlace
     columns-both b e = simp (lt-ltb 1 h (omega arith)) e
 
-  module _ (y z : ℕ → ℤ) where
+    -- and then all rows, on the way to the plane
     pub level-both : (A : ℕ) (u v : ℕ → ℤ) → w ≤ s → 0 < A → y ≡ flat s (columnsLiftedInPlace w h (cells s x)) → v ≡ flat A (rowsStored w h (rowsMapped (liftedInPlace w) w h (cells s y)) (cells A u)) → v ≡ flat A (rowsStored w h (levelLifted w h (cells s x)) (cells A u))
     unfolding levelLifted
     level-both A u v ws some e f =

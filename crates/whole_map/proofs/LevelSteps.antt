@@ -62,7 +62,7 @@ module _ (n s A w h : ℕ) (x₀ z₀ x₁ z₁ : ℕ → ℤ) (R : Rows n s w h
   columns-kept = kept-flat n s w h x₀ x₁ (columnsLiftedInPlace w h (cells s x₀)) R e₁ (columns-out w h (cells s x₀))
 
   stored : z₁ ≡ flat A (rowsStored w h (levelLifted w h (cells s x₀)) (cells A z₀))
-  stored = level-both s w h x₀ (R .apart) x₁ x₁ A z₀ z₁ (R .wide) some e₁ f₁
+  stored = level-both s w h x₀ (R .apart) x₁ A z₀ z₁ (R .wide) some e₁ f₁
 
   pub forward-end : (L : ℕ) → 0 < L → L < 2 → (z₁ ≡ flat A (planeWritten L w h (levelGrid w (cells s x₀)) (cells A z₀))) × KeptFrom ((h - 1) * s + w) x₀ x₁
   forward-end L a b =

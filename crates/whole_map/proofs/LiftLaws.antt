@@ -1,5 +1,5 @@
 -- A row in halves lifted on the way to another row: a turn of each of its two loops, and what both come to. Assumes nothing.
-use mathlib.Core.Path.{_≡_, refl, sym, ap, _∙_, fun-ext}
+use mathlib.Core.Path.{_≡_, sym, ap, _∙_, fun-ext}
 use mathlib.Core.List.{List}
 use Prim.Native.Nat.{ℕ, _+_, _-_, _≤_, _<_, min}
 use native.Mathlib.Decide.{decLt}
@@ -9,7 +9,7 @@ use lib.ListN.{length, set, List·getD-eq-default}
 use borrow.Author.Tests.{lt-ltb, le-ltb}
 use Rattle.numbers.specs.Signal.{at}
 use Rattle.numbers.specs.Word.{wrap32}
-use Rattle.numbers.proofs.Sweep.{Swept, start, store, finish}
+use Rattle.numbers.proofs.Sweep.{Swept, store}
 use Rattle.lifting.specs.Line.{lo, hi, count, predicted, updated}
 use Rattle.lifting.specs.Halves.{liftedInPlace}
 use Rattle.lifting.specs.Passes.{highsChanged, lowsChanged}

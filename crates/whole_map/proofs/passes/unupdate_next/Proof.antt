@@ -1,6 +1,5 @@
 -- `whole_map::passes::unupdate_next` meets its contract: the definition by the test. Assumes nothing.
-use mathlib.Core.Path.{_≡_, _∙_, sym, ap}
-use native.Mathlib.Omega.{arith}
+use mathlib.Core.Path.{_∙_}
 use borrow.Author.Tests.{lt-ltb, le-ltb}
 use borrow.Author.Needs.{needs}
 use Rattle.whole_map.specs.Passes.{nextChanged}
