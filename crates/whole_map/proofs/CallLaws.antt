@@ -14,27 +14,28 @@ use borrow.Author.Tests.{le-leb, lt-leb, eq-eqb, ne-eqb}
 use Rattle.numbers.specs.Signal.{both}
 use Rattle.numbers.specs.Word.{wrap32, whole}
 use Rattle.lifting.specs.Line.{parted}
-use Rattle.lifting.specs.Halves.{inHalves, fronted}
+use Rattle.lifting.specs.Halves.{fronted}
 use Rattle.lifting.proofs.LineLaws.{joined-parted}
 use Rattle.wavelet.specs.Limits.{maxWidth, maxHeight, maxLevels, maxSample, range}
 use Rattle.wavelet.specs.Questions.{ask, within, sizeQuestion}
 use Rattle.wavelet.specs.Bands.{Grid}
 use Rattle.wavelet.specs.Plane.{cells, flat, planeCell, planeOf, mapBack}
-use Rattle.wavelet.specs.Maps.{IsMap, everyCell, inRange, valueFits, rebuiltFits}
+use Rattle.wavelet.specs.Maps.{IsMap, inRange, rebuiltFits}
 use Rattle.wavelet.proofs.GridLaws.{cells-flat, row-below}
 use Rattle.wavelet.proofs.QuestionLaws.{Sized, sized, size-no, size-yes}
 use Rattle.wavelet.proofs.LevelTheory.{plane-reads}
 use Rattle.wavelet.proofs.Bridge.{map-plane}
-use Rattle.wavelet.proofs.MapTheorems.{each-every, cells-same, rebuilt-fits}
+use Rattle.wavelet.proofs.MapTheorems.{cells-same}
 use Rattle.whole_map.specs.Rowwise.{heightsAt}
 use Rattle.whole_map.specs.Passes.{within as inside}
-use Rattle.whole_map.specs.Passes.{Rows, KeptFrom, rowsLoaded, rowsReturned}
-use Rattle.whole_map.specs.LevelPasses.{levelGrid, planeWritten, Rebuilt, regionInRange, Doubling}
+use Rattle.whole_map.specs.Passes.{Rows, KeptFrom, rowsMapped, rowsLoaded, rowsReturned}
+use Rattle.whole_map.specs.LevelPasses.{levelGrid, planeWritten, Rebuilt, regionInRange, Doubling, LevelsBack, Finished, MapRebuilt}
 use Rattle.whole_map.specs.Calls.{sizeQuestions, planeQuestions, zeros, passed, rebuilt}
 use Rattle.whole_map.proofs.RowwiseLaws.{front-at, front-rest}
-use Rattle.whole_map.proofs.CellLaws.{past-rows, kept-flat, kept-then, grid-at, placed, placed-in, halves-at, within-in}
+use Rattle.whole_map.proofs.CellLaws.{past-rows, kept-flat, kept-then, grid-at, placed, placed-in, halves-at, loaded-in, loaded-out, returned-in, returned-out, mapped-out}
+use Rattle.whole_map.proofs.GridSweep.{mapped-in}
 use Rattle.whole_map.proofs.LevelsMath.{written-in, written-out}
-use Rattle.whole_map.proofs.TestLaws.{every-placed}
+use Rattle.whole_map.proofs.TestLaws.{false-true, rebuilt-cells, fits-more}
 
 -- ---- the questions of the sizes
 -- question 5
@@ -218,14 +219,6 @@ heights-map W H l f = record { heights = λ r c _ _. height (getD l (r * W + c) 
     height : (n : ℕ) → n < 65536 → (pos 0 ≤ℤ pos n) × (pos n ≤ℤ pos 65535)
     height n b = (record { le = le→leb 0 n (omega arith) }, record { le = le→leb n 65535 (omega arith) })
 
-loaded-in : (W H : ℕ) (g X : Grid) (r c : ℕ) → r < H → c < W → rowsLoaded W H g X r c ≡ inHalves W (parted (g r)) (X r) c
-unfolding rowsLoaded
-loaded-in W H g X r c rh cw = simp (within-in W H r c rh cw)
-
-loaded-out : (W H : ℕ) (g X : Grid) (r c : ℕ) → inside W H r c ≡ false → rowsLoaded W H g X r c ≡ X r c
-unfolding rowsLoaded
-loaded-out W H g X r c e = simp e
-
 -- x₁ is the work area loaded with the heights l, z₁ the plane after the levels
 module _ (W H L : ℕ) (l : List ℕ) (x₀ x₁ : ℕ → ℤ) (s : Sized W H L) (e : x₁ ≡ flat W (rowsLoaded W H (cells W (heightsAt l)) (cells W x₀))) where
   abbrev heights : Grid
@@ -283,14 +276,6 @@ module _ (W H L : ℕ) (x : Grid) (ok : Bool) (e : ok ≡ regionInRange 1 L W H 
         let g′ = sym e′ ∙ f in
         rw (g, g′)
 
-returned-in : (W H : ℕ) (X Z : Grid) (r c : ℕ) → r < H → c < W → rowsReturned W H X Z r c ≡ levelGrid W X r c
-unfolding rowsReturned levelGrid
-returned-in W H X Z r c rh cw = simp (within-in W H r c rh cw)
-
-returned-out : (W H : ℕ) (X Z : Grid) (r c : ℕ) → inside W H r c ≡ false → rowsReturned W H X Z r c ≡ Z r c
-unfolding rowsReturned
-returned-out W H X Z r c e = simp e
-
 module _ (W H L : ℕ) (x X : Grid) (s : Sized W H L) (B : Rebuilt L W H x X) where
   -- the rebuilt rows, returned
   pub map-returned : (h h′ : ℕ → ℤ) → h′ ≡ flat W (rowsReturned W H X (cells W h)) → h′ ≡ fronted (W * H) (flat W (mapBack wrap32 L W H x)) h
@@ -299,12 +284,39 @@ module _ (W H L : ℕ) (x X : Grid) (s : Sized W H L) (B : Rebuilt L W H x X) wh
       (λ r c rh cw. returned-in W H X (cells W h) r c rh cw ∙ B .cell r c rh cw)
       (returned-out W H X (cells W h))
 
-  -- the numbers that stand in the rows fit, in whatever order
-  pub rows-fit : rebuiltFits 0 L W H x ≡ true → everyCell W H (λ r c. valueFits 0 (X r c)) ≡ true
-  unfolding everyCell
-  rows-fit f =
-      each-every H _
-      (λ r rh.
-      sym (every-placed W (λ c. valueFits 0 (X r c)))
-      ∙ each-every W _
-      (λ c cw. ap (valueFits 0) (sym (grid-at W X r c) ∙ B .cell r c rh cw) ∙ rebuilt-fits 0 L W H x (s .levels .0) f r c rh cw))
+-- the rows cleared, each by itself
+map-cleared : (W H : ℕ) (x : ℕ → ℤ) → 0 < W → 0 < H → flat W (rowsMapped (fronted W zeros) W H (cells W x)) ≡ fronted (W * H) zeros x
+unfolding flat
+map-cleared W H x w h =
+    map-places W H _ (λ _ _. pos 0) x w h
+    (λ r c rh cw. mapped-in (fronted W zeros) W H (cells W x) r c rh cw ∙ front-at W zeros _ c cw)
+    (λ r c o. mapped-out W H (cells W x) r c o (fronted W zeros))
+
+-- what the levels and the last test come to: z is the plane, y₁ the work area that the levels left
+module _ (W H L : ℕ) (z g₀ y₀ y₁ : ℕ → ℤ) (s : Sized W H L) where
+  pub map-no : (done : Bool) → done ≡ false → LevelsBack done 0 L W W W H z y₀ y₁ → MapRebuilt false W H L z g₀ g₀ y₀ y₁
+  map-no done it b =
+      let l = s .levels in
+      let e = sym (b .answer) ∙ it in
+      record {
+        answer = sym (fits-more 0 L W H (cells W z) (l .0) ∙ rw e);
+        heights = λ t. absurd (false-true t);
+        cleared = λ t. absurd (false-true t);
+        kept = b .kept;
+        keptHeights = record { kept = λ j q. refl };
+      }
+
+  pub map-yes : (ok done : Bool) (g y : ℕ → ℤ) → done ≡ true → LevelsBack done 0 L W W W H z y₀ y₁ → Finished ok W H y₁ y g₀ g → MapRebuilt ok W H L z g₀ g y₀ y
+  map-yes ok done g y it b f =
+      let l = s .levels in
+      let B = b .grid it in
+      let e = sym (b .answer) ∙ it in
+      let w = s .width .0 in
+      let h = s .height .0 in
+      record {
+        answer = f .answer ∙ rebuilt-cells 0 L W H (cells W z) (cells W y₁) B ∙ sym (fits-more 0 L W H (cells W z) (l .0) ∙ rw e);
+        heights = λ t. map-returned W H L (cells W z) (cells W y₁) s B g₀ g (f .heights t);
+        cleared = λ t. cleared W H y₀ y₁ y h (b .kept) (f .cleared t ∙ map-cleared W H y₁ w h);
+        kept = kept-then (b .kept) (f .kept) (omega arith);
+        keptHeights = f .keptHeights;
+      }

@@ -11,14 +11,14 @@ use borrow.Author.Tests.{lt-ltb, le-ltb, eq-eqb, ne-eqb}
 use Rattle.numbers.specs.Signal.{pick}
 use Rattle.numbers.specs.Word.{wrap32}
 use Rattle.lifting.specs.Line.{predicted, updated, unupdated, unpredicted, Half, lo, hi, count, parted, joined}
-use Rattle.lifting.specs.Halves.{halvesOf, inHalves, liftedInPlace, unliftedInPlace}
+use Rattle.lifting.specs.Halves.{halvesOf, inHalves, unliftedInPlace}
 use Rattle.lifting.proofs.LineLaws.{counts, count-lo, halves-low, halves-high}
 use Rattle.wavelet.specs.Bands.{Grid}
 use Rattle.wavelet.specs.Plane.{cells, flat, halfAt, placeIn}
 use Rattle.whole_map.specs.Rowwise.{cut}
-use Rattle.whole_map.specs.Passes.{Rows, KeptFrom, within, after, before, even, oddRowsChanged, evenRowsChanged, rowsMapped, planeRow, levelRow, rowsStored, rowsFetched}
+use Rattle.whole_map.specs.Passes.{Rows, KeptFrom, within, after, before, even, oddRowsChanged, evenRowsChanged, rowsMapped, planeRow, levelRow, rowsStored, rowsFetched, rowsLoaded, rowsReturned}
 use Rattle.whole_map.proofs.GridSweep.{row-room}
-use Rattle.whole_map.specs.LevelPasses.{levelGrid, columnsLiftedInPlace, levelLifted, columnsUnliftedInPlace, levelUnlifted}
+use Rattle.whole_map.specs.LevelPasses.{levelGrid, columnsLiftedInPlace, columnsUnliftedInPlace, levelUnlifted}
 
 -- ---- cells
 pub flat-same : (s : ℕ) (X Y : Grid) → 0 < s → ((r c : ℕ) → c < s → X r c ≡ Y r c) → flat s X ≡ flat s Y
@@ -257,11 +257,26 @@ module _ (w h : ℕ) (X : Grid) (r c : ℕ) (e : within w h r c ≡ false) where
   unfolding rowsFetched
   fetched-out from z = simp e
 
-pub lifted-out : (w h : ℕ) (X : Grid) (r c : ℕ) → within w h r c ≡ false → levelLifted w h X r c ≡ X r c
-unfolding levelLifted columnsLiftedInPlace
-lifted-out w h X r c e =
-    mapped-out w h (columnsLiftedInPlace w h X) r c e (liftedInPlace w)
-    ∙ elim (decLt 1 h) [
+pub loaded-in : (w h : ℕ) (G X : Grid) (r c : ℕ) → r < h → c < w → rowsLoaded w h G X r c ≡ inHalves w (parted (G r)) (X r) c
+unfolding rowsLoaded
+loaded-in w h G X r c rh cw = simp (within-in w h r c rh cw)
+
+pub loaded-out : (w h : ℕ) (G X : Grid) (r c : ℕ) → within w h r c ≡ false → rowsLoaded w h G X r c ≡ X r c
+unfolding rowsLoaded
+loaded-out w h G X r c e = simp e
+
+pub returned-in : (w h : ℕ) (X Z : Grid) (r c : ℕ) → r < h → c < w → rowsReturned w h X Z r c ≡ levelGrid w X r c
+unfolding rowsReturned levelGrid
+returned-in w h X Z r c rh cw = simp (within-in w h r c rh cw)
+
+pub returned-out : (w h : ℕ) (X Z : Grid) (r c : ℕ) → within w h r c ≡ false → rowsReturned w h X Z r c ≡ Z r c
+unfolding rowsReturned
+returned-out w h X Z r c e = simp e
+
+pub columns-out : (w h : ℕ) (X : Grid) (r c : ℕ) → within w h r c ≡ false → columnsLiftedInPlace w h X r c ≡ X r c
+unfolding columnsLiftedInPlace
+columns-out w h X r c e =
+    elim (decLt 1 h) [
       | yes g ↦ simp (lt-ltb 1 h g) (even-out w h (oddRowsChanged (predicted wrap32) w h X) r c e (updated wrap32) ∙ odd-out w h X r c e (predicted wrap32))
       | no g ↦ simp (le-ltb 1 h (omega arith))
     ]

@@ -22,12 +22,16 @@ use Rattle.lifting.proofs.RowLaws.{row-order}
 use Rattle.wavelet.specs.Bands.{Grid}
 use Rattle.wavelet.specs.Plane.{cells, flat}
 use Rattle.whole_map.specs.Rowwise.{cut}
-use Rattle.whole_map.specs.Passes.{Rows, within, rowsMapped}
+use Rattle.whole_map.specs.Passes.{Rows, KeptFrom, within, rowsMapped}
 use Rattle.whole_map.proofs.RowwiseLaws.{window-cut}
 
 -- ---- rows in an area
 pub row-room : (n s w h r : ℕ) → Rows n s w h → r < h → r * s + w ≤ n
 row-room n s w h r g lt = let m : r * s ≤ (h - 1) * s = mul-le-mul-right s (omega arith) in omega (arith, g .room)
+
+-- an area that kept its length
+pub rows-kept : {n n′ s w h : ℕ} → n′ ≡ n → Rows n s w h → Rows n′ s w h
+rows-kept e g = rw e g
 
 pub few : (n s w h : ℕ) → Rows n s w h → h ≤ n + 1
 few n s w h g = let m : (h - 1) * 1 ≤ (h - 1) * s = mul-le-mul-left (h - 1) (g .apart) in omega (arith, g .room)
@@ -185,3 +189,25 @@ map-turn G s w h l₀ i k l z e lt ez is p =
     (λ c q. ap (λ (f : ℕ → ℤ). f c) is′ ∙ sym (mapped-in (G w) w h X i c lt q))
     (λ c q. mapped-wide (G w) w h X i c q)
     p
+
+-- a pass that leaves what is not in its rows leaves all past them
+pub pass-kept : {s w h : ℕ} {Y : Grid} {l₀ : List ℤ} {k : ℕ} {l : List ℤ} → Passed s w h Y l₀ k l → ((r c : ℕ) → within w h r c ≡ false → Y r c ≡ cells s (at l₀) r c) → KeptFrom ((h - 1) * s + w) (at l₀) (at l)
+unfolding cells
+pass-kept {s} {w} {h} {Y} {l₀} {k} {l} p e =
+    record {
+      kept = λ j b.
+          let apart = p .rows .apart in
+          let some = p .rows .some in
+          let lt : j % s < s = mod-lt j apart in
+          let k′ = div-add-mod' j s in
+          let out : within w h (j / s) (j % s) ≡ false =
+          elim (decLt (j / s) h) [
+            | yes a ↦
+                elim (decLt (j % s) w) [
+                  | yes c ↦ let m : j / s * s ≤ (h - 1) * s = mul-le-mul-right s (omega arith) in absurd (omega arith)
+                  | no c ↦ within-wide w h (j / s) (j % s) (omega arith)
+                ]
+            | no a ↦ within-past w h (j / s) (j % s) (omega arith)
+          ] in
+          ap (at l) (sym k′) ∙ left-row (j / s) (j % s) (p .swept) lt (e (j / s) (j % s) out) ∙ ap (at l₀) k′;
+    }

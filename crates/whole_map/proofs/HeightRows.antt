@@ -1,9 +1,9 @@
 -- The rows of heights loaded and stored: a turn of each loop. Assumes nothing.
 use mathlib.Core.Path.{_≡_, refl, sym, ap, _∙_}
 use mathlib.Core.List.{List}
-use mathlib.Core.Bool.{true}
-use Prim.Native.Nat.{ℕ, _+_, _*_, _≤_, _<_}
-use native.Mathlib.Decide.{decLt}
+use mathlib.Core.Bool.{Bool, true, false}
+use Prim.Native.Nat.{ℕ, _+_, _-_, _*_, _≤_, _<_}
+use native.Mathlib.Decide.{decLt, ℕ-discrete}
 use native.Mathlib.Omega.{arith}
 use lib.IntN.{ℤ, pos}
 use lib.ListN.{length, length-map}
@@ -16,12 +16,15 @@ use Rattle.lifting.proofs.LineLaws.{halves-low, halves-high}
 use Rattle.wavelet.specs.Bands.{Grid}
 use Rattle.wavelet.specs.Plane.{cells, flat}
 use Rattle.wavelet.specs.Maps.{every, everyCell, valueFits}
-use Rattle.whole_map.specs.Rowwise.{heightsAt, cut}
-use Rattle.whole_map.specs.Passes.{Rows, rowsLoaded, rowsReturned}
+use Rattle.whole_map.specs.Rowwise.{heightsAt, cut, between}
+use Rattle.whole_map.specs.Passes.{Rows, KeptFrom, rowsMapped, rowsLoaded, rowsReturned}
+use Rattle.whole_map.specs.LevelPasses.{Finished}
 use Rattle.whole_map.proofs.RowwiseLaws.{front-at, window-cut, cut-in, cut-parted, cut-woven}
-use Rattle.wavelet.proofs.MapTheorems.{every-each, every-same}
+use Rattle.wavelet.proofs.MapTheorems.{every-each, each-every, every-same}
 use Rattle.whole_map.proofs.HeightLaws.{wholes, wholes-at, wholes-mid, wholes-put}
-use Rattle.whole_map.proofs.GridSweep.{Passed, row-room, within-in, within-past, within-wide, pass-room, pass-end, row-length, part-turn}
+use Rattle.whole_map.proofs.GridSweep.{Passed, row-room, within-in, within-past, within-wide, pass-start, pass-room, pass-end, pass-kept, row-length, lent-row, part-turn, map-turn, mapped-past}
+use Rattle.whole_map.proofs.TestLaws.{false-true, not-every, height-fits}
+use Rattle.whole_map.proofs.CellLaws.{mapped-out, returned-out}
 
 -- ---- a row lent as `&`: its length, and its numbers
 module _ (s w h i k : ℕ) (e : k ≡ w) (lt : i < h) where
@@ -43,7 +46,7 @@ module _ (s w h i k : ℕ) (e : k ≡ w) (lt : i < h) where
 
 -- ---- loaded
 -- within the halves, memory does not count
-halves-inside : (w : ℕ) (p : Half → ℕ → ℤ) (y z : ℕ → ℤ) (c : ℕ) → c < w → inHalves w p y c ≡ inHalves w p z c
+pub halves-inside : (w : ℕ) (p : Half → ℕ → ℤ) (y z : ℕ → ℤ) (c : ℕ) → c < w → inHalves w p y c ≡ inHalves w p z c
 halves-inside w p y z c h =
     elim (decLt c (count lo w)) [
       | yes a ↦ halves-low w p y c a ∙ sym (halves-low w p z c a)
@@ -79,25 +82,26 @@ module _ {s w h : ℕ} {Y : Grid} {l₀ : List ℤ} {i : ℕ} (g : List ℕ) (p 
   pub swept-size : (g₀ : List ℕ) → l₀ ≡ wholes g₀ → length g ≡ length g₀
   swept-size g₀ e = sym (length-map g pos) ∙ p .size ∙ ap length e ∙ length-map g₀ pos
 
-pub row-fits : (s w h i k : ℕ) (x : List ℤ) → k ≡ w → i < h → Rows (length x) s w h → everyCell w h (λ r c. valueFits 0 (cells s (at x) r c)) ≡ true → every (length (midOf (i * s) k x)) (λ j. valueFits 0 (at (midOf (i * s) k x) j)) ≡ true
-unfolding everyCell
-row-fits s w h i k x e lt r all =
-    rw (numbers-length s w h i k e lt x r)
-    (every-same w _ _ (λ j q. ap (valueFits 0) (ap (λ (f : ℕ → ℤ). f j) (numbers-row s w h i k e lt x) ∙ cut-in w (cells s (at x) i) j q))
-    ∙ every-each h _ all i lt)
+-- row i, lent as a part of n numbers y, its numbers being those of X: the test
+pub row-fits : (w i n : ℕ) (X : Grid) (y : ℕ → ℤ) → n ≡ w → y ≡ cut w (X i) → every n (λ j. between (pos 0) (pos 65535) (y j)) ≡ every w (λ c. valueFits 0 (X i c))
+row-fits w i n X y en ey =
+    ap (λ (m : ℕ). every m (λ j. between (pos 0) (pos 65535) (y j))) en
+    ∙ every-same w _ _ (λ j q. ap (between (pos 0) (pos 65535)) (ap (λ (f : ℕ → ℤ). f j) ey ∙ cut-in w (X i) j q) ∙ height-fits (X i j))
 
-pub store-turn : (w h : ℕ) (x : List ℤ) (g₀ : List ℕ) (i k : ℕ) (g z : List ℕ) → k ≡ w → i < h → Rows (length x) w w h → length z ≡ length (midOf (i * w) k g) → heightsAt z ≡ fronted (length (midOf (i * w) k x)) (joined (halvesOf (length (midOf (i * w) k x)) (at (midOf (i * w) k x)))) (heightsAt (midOf (i * w) k g)) → Passed w w h (rowsReturned w h (cells w (at x)) (cells w (at (wholes g₀)))) (wholes g₀) i (wholes g) → Passed w w h (rowsReturned w h (cells w (at x)) (cells w (at (wholes g₀)))) (wholes g₀) (i + 1) (wholes (putMid (i * w) k g z))
+pub row-heights : (n : ℕ) (y : ℕ → ℤ) → every n (λ j. between (pos 0) (pos 65535) (y j)) ≡ true → every n (λ j. valueFits 0 (y j)) ≡ true
+row-heights n y e = sym (every-same n _ _ (λ j q. height-fits (y j))) ∙ e
+
+-- and its heights z
+pub store-turn : (w h : ℕ) (X : Grid) (g₀ : List ℕ) (i k n : ℕ) (y : ℕ → ℤ) (g z : List ℕ) → k ≡ w → i < h → n ≡ w → y ≡ cut w (X i) → length z ≡ length (midOf (i * w) k g) → heightsAt z ≡ fronted n (joined (halvesOf n y)) (heightsAt (midOf (i * w) k g)) → Passed w w h (rowsReturned w h X (cells w (at (wholes g₀)))) (wholes g₀) i (wholes g) → Passed w w h (rowsReturned w h X (cells w (at (wholes g₀)))) (wholes g₀) (i + 1) (wholes (putMid (i * w) k g z))
 unfolding rowsReturned
-store-turn w h x g₀ i k g z e lt r ez is p =
-    let X = cells w (at x) i in
-    let y = heightsAt (midOf (i * w) k g) in
-    let is′ : at (wholes z) ≡ fronted w (joined (halvesOf w X)) y =
-    wholes-at z ∙ cc (is, numbers-length w w h i k e lt x r, numbers-row w w h i k e lt x, cut-woven w X y) in
+store-turn w h X g₀ i k n y g z e lt en ey ez is p =
+    let u = heightsAt (midOf (i * w) k g) in
+    let is′ : at (wholes z) ≡ fronted w (joined (halvesOf w (X i))) u = wholes-at z ∙ cc (is, en, ey, cut-woven w (X i) u) in
     let ez′ : length (wholes z) ≡ length (midOf (i * w) k (wholes g)) =
     length-map z pos ∙ ez ∙ sym (length-map (midOf (i * w) k g) pos) ∙ ap length (wholes-mid (i * w) k g) in
     rw (wholes-put (i * w) k g z)
     (part-turn w w h _ (wholes g₀) i k (wholes g) (wholes z) e lt ez′
-    (λ c q. ap (λ (f : ℕ → ℤ). f c) is′ ∙ front-at w (joined (halvesOf w X)) y c q ∙ simp (within-in w h i c lt q))
+    (λ c q. ap (λ (f : ℕ → ℤ). f c) is′ ∙ front-at w (joined (halvesOf w (X i))) u c q ∙ simp (within-in w h i c lt q))
     (λ c q. simp (within-wide w h i c q))
     p)
 
@@ -107,3 +111,68 @@ store-end w h X g₀ i g p le =
     sym (wholes-at g)
     ∙ pass-end p (λ r c q. simp (within-past w h r c (omega arith)))
     ∙ ap (λ (x : ℕ → ℤ). flat w (rowsReturned w h X (cells w x))) (wholes-at g₀)
+
+-- ---- the loop that tests, stores and clears: work₀ and heights₀ are the areas at its start
+pub record Finishing (w h : ℕ) (l₀ : List ℤ) (g₀ : List ℕ) (i : ℕ) (l : List ℤ) (g : List ℕ) : Type 0 where
+  pub most : i ≤ h
+  pub rows : Passed w w h (rowsMapped (fronted w (λ _. pos 0)) w h (cells w (at l₀))) l₀ i l
+  pub heights : Passed w w h (rowsReturned w h (cells w (at l₀)) (cells w (at (wholes g₀)))) (wholes g₀) i (wholes g)
+  pub tested : every i (λ r. every w (λ c. valueFits 0 (cells w (at l₀) r c))) ≡ true
+
+module _ (w h : ℕ) (l₀ : List ℤ) (g₀ : List ℕ) where
+  pub finish-start : Rows (length l₀) w w h → Rows (length g₀) w w h → Finishing w h l₀ g₀ 0 l₀ g₀
+  finish-start R S =
+      let same = length-map g₀ pos in
+      record {
+        most = omega arith;
+        rows = pass-start w w h _ l₀ 0 R (λ r c lt. absurd (omega arith));
+        heights = pass-start w w h _ (wholes g₀) 0 (rw same S) (λ r c lt. absurd (omega arith));
+        tested = each-every 0 _ (λ j q. absurd (omega arith));
+      }
+
+  module _ (i : ℕ) (l : List ℤ) (g : List ℕ) (f : Finishing w h l₀ g₀ i l g) where
+    pub finish-kept : KeptFrom ((h - 1) * w + w) (at l₀) (at l)
+    finish-kept = pass-kept (f .rows) (λ r c o. mapped-out w h (cells w (at l₀)) r c o (fronted w (λ _. pos 0)))
+
+    pub finish-kept-heights : KeptFrom ((h - 1) * w + w) (heightsAt g₀) (heightsAt g)
+    finish-kept-heights =
+        let k = pass-kept (f .heights) (λ r c o. returned-out w h (cells w (at l₀)) (cells w (at (wholes g₀))) r c o) in
+        record { kept = λ j b. ap (λ (x : ℕ → ℤ). x j) (sym (wholes-at g)) ∙ k .kept j b ∙ ap (λ (x : ℕ → ℤ). x j) (wholes-at g₀) }
+
+    -- the test of row i, lent as a part of k numbers
+    module _ (k : ℕ) (e : k ≡ w) (lt : i < h) (ok : Bool) (is : ok ≡ every (length (midOf (i * w) k l)) (λ j. between (pos 0) (pos 65535) (at (midOf (i * w) k l) j))) where
+      row-test : ok ≡ every w (λ c. valueFits 0 (cells w (at l₀) i c))
+      row-test = is ∙ row-fits w i _ (cells w (at l₀)) _ (row-length w w h _ l₀ i k l e lt (f .rows)) (lent-row w w h _ l₀ i k l e (f .rows))
+
+      pub finish-no : ok ≡ false → Finished false w h (at l₀) (at l) (heightsAt g₀) (heightsAt g)
+      unfolding everyCell
+      finish-no no′ =
+          record {
+            answer = sym (not-every h _ i lt (sym row-test ∙ no′));
+            heights = λ t. absurd (false-true t);
+            cleared = λ t. absurd (false-true t);
+            kept = finish-kept;
+            keptHeights = finish-kept-heights;
+          }
+
+      pub finish-turn : (z : List ℤ) (v : List ℕ) → ok ≡ true → length z ≡ length (midOf (i * w) k l) → length v ≡ length (midOf (i * w) k g) → heightsAt v ≡ fronted (length (midOf (i * w) k l)) (joined (halvesOf (length (midOf (i * w) k l)) (at (midOf (i * w) k l)))) (heightsAt (midOf (i * w) k g)) → at z ≡ fronted (length (midOf (i * w) k l)) (λ _. pos 0) (at (midOf (i * w) k l)) → Finishing w h l₀ g₀ (i + 1) (putMid (i * w) k l z) (putMid (i * w) k g v)
+      finish-turn z v yes′ ez ev hs cs =
+          record {
+            most = omega arith;
+            rows = map-turn (λ n. fronted n (λ _. pos 0)) w w h l₀ i k l z e lt ez cs (f .rows);
+            heights = store-turn w h (cells w (at l₀)) g₀ i k _ _ g v e lt (row-length w w h _ l₀ i k l e lt (f .rows)) (lent-row w w h _ l₀ i k l e (f .rows)) ev hs (f .heights);
+            tested = each-every (i + 1) _
+                (λ j q. elim (ℕ-discrete j i) [ yes m ↦ rw m (sym row-test ∙ yes′) | no m ↦ every-each i _ (f .tested) j (omega arith) ]);
+          }
+
+    pub finish-yes : h ≤ i → Finished true w h (at l₀) (at l) (heightsAt g₀) (heightsAt g)
+    unfolding everyCell
+    finish-yes le =
+        let m : h ≡ i = omega (arith, f .most) in
+        record {
+          answer = sym (each-every h _ (λ j q. every-each i _ (f .tested) j (omega arith)));
+          heights = λ _. store-end w h (cells w (at l₀)) g₀ i g (f .heights) le;
+          cleared = λ _. pass-end (f .rows) (λ r c q. mapped-past (fronted w (λ _. pos 0)) w h (cells w (at l₀)) r c (omega arith));
+          kept = finish-kept;
+          keptHeights = finish-kept-heights;
+        }

@@ -12,21 +12,22 @@ use borrow.Author.Tests.{lt-ltb, le-ltb, eq-eqb, ne-eqb}
 use Rattle.numbers.specs.Signal.{at, pick, windowed, spliced}
 use Rattle.numbers.specs.Word.{wrap32}
 use Rattle.numbers.proofs.Parts.{window-in, splice-below, splice-in, splice-past, length-mid, at-mid, at-put}
-use Rattle.lifting.specs.Line.{predicted, updated, unupdated, unpredicted}
-use Rattle.lifting.specs.Halves.{fronted, liftedInPlace, unliftedInPlace}
+use Rattle.lifting.specs.Line.{predicted, updated, unupdated, unpredicted, parted}
+use Rattle.lifting.specs.Halves.{fronted, inHalves, liftedInPlace}
 use Rattle.lifting.proofs.RowLaws.{row-order}
 use Rattle.wavelet.specs.Bands.{Grid}
 use Rattle.wavelet.specs.Plane.{cells, flat}
 use Rattle.wavelet.specs.Maps.{every, everyCell}
 use Rattle.wavelet.proofs.GridLaws.{cells-flat, flat-cells}
 use Rattle.wavelet.proofs.MapTheorems.{every-each, each-every, every-same}
-use Rattle.whole_map.specs.Rowwise.{cut, between}
-use Rattle.whole_map.specs.Passes.{even, before, after, oddRowsChanged, evenRowsChanged, rowsMapped, planeRow, levelRow, rowsStored, rowsFetched}
-use Rattle.whole_map.specs.LevelPasses.{columnsLiftedInPlace, levelLifted, columnsUnliftedInPlace, levelUnlifted, rowsBetween}
-use Rattle.whole_map.proofs.GridSweep.{RowSwept, store-row}
-use Rattle.whole_map.proofs.RowwiseLaws.{front-at}
-use Rattle.whole_map.proofs.CellLaws.{flat-same, stored-in, stored-out, fetched-new, fetched-made, fetched-out, outside-columns}
-use Rattle.whole_map.proofs.TestLaws.{false-true, bool-same}
+use Rattle.whole_map.specs.Rowwise.{cut, partedInPlace, between}
+use Rattle.whole_map.specs.Passes.{even, before, after, oddRowsChanged, evenRowsChanged, rowsMapped, levelRow, rowsStored, rowsLoaded}
+use Rattle.whole_map.specs.LevelPasses.{columnsLiftedInPlace, levelLifted, columnsUnliftedInPlace, rowsBetween}
+use Rattle.whole_map.proofs.GridSweep.{RowSwept, store-row, mapped-in}
+use Rattle.whole_map.proofs.RowwiseLaws.{front-at, window-cut, cut-parted}
+use Rattle.whole_map.proofs.HeightRows.{halves-inside}
+use Rattle.whole_map.proofs.CellLaws.{flat-same, by-within, level-in, loaded-in, loaded-out, stored-in, stored-out, outside-columns}
+use Rattle.whole_map.proofs.TestLaws.{not-every}
 
 -- ---- a pass reads the cells that stand in the area alone
 module _ (f : ℤ → ℤ → ℤ → ℤ) (w h : ℕ) (X Y : Grid) (r c : ℕ) (same : (i : ℕ) → X i c ≡ Y i c) where
@@ -38,14 +39,22 @@ module _ (f : ℤ → ℤ → ℤ → ℤ) (w h : ℕ) (X Y : Grid) (r c : ℕ) 
   unfolding evenRowsChanged
   even-same = rw (same r, same (before r), same (after h r))
 
-cut-same : (w : ℕ) (x y : ℕ → ℤ) → ((j : ℕ) → j < w → x j ≡ y j) → cut w x ≡ cut w y
+pub cut-same : (w : ℕ) (x y : ℕ → ℤ) → ((j : ℕ) → j < w → x j ≡ y j) → cut w x ≡ cut w y
 unfolding cut
 cut-same w x y e =
     fun-ext λ j. elim (decLt j w) [ yes a ↦ simp (lt-ltb j w a) (e j a) | no a ↦ simp (le-ltb j w (omega arith)) ]
 
-mapped-same : (f : (ℕ → ℤ) → ℕ → ℤ) (w h : ℕ) (X Y : Grid) (r c : ℕ) → X r c ≡ Y r c → ((j : ℕ) → j < w → X r j ≡ Y r j) → rowsMapped f w h X r c ≡ rowsMapped f w h Y r c
+pub mapped-same : (f : (ℕ → ℤ) → ℕ → ℤ) (w h : ℕ) (X Y : Grid) (r c : ℕ) → X r c ≡ Y r c → ((j : ℕ) → j < w → X r j ≡ Y r j) → rowsMapped f w h X r c ≡ rowsMapped f w h Y r c
 unfolding rowsMapped
 mapped-same f w h X Y r c e es = rw (e, cut-same w (X r) (Y r) es)
+
+pub unlifted-same : (w h : ℕ) (X Y : Grid) (r c : ℕ) → ((i : ℕ) → X i c ≡ Y i c) → columnsUnliftedInPlace w h X r c ≡ columnsUnliftedInPlace w h Y r c
+unfolding columnsUnliftedInPlace
+unlifted-same w h X Y r c e =
+    elim (decLt 1 h) [
+      | yes g ↦ simp (lt-ltb 1 h g) (odd-same (unpredicted wrap32) w h _ _ r c (λ i. even-same (unupdated wrap32) w h X Y i c e))
+      | no g ↦ simp (le-ltb 1 h (omega arith)) (e r)
+    ]
 
 -- what a pass left, as cells
 module _ (s : ℕ) (F : Grid) (y : ℕ → ℤ) (e : y ≡ flat s F) where
@@ -57,44 +66,26 @@ module _ (s w h : ℕ) (x : ℕ → ℤ) (apart : 0 < s) where
   unfolding columnsLiftedInPlace
   columns-alone b = simp (le-ltb 1 h (omega arith)) (sym (flat-cells s x))
 
-  pub columns-alone-back : h < 2 → x ≡ flat s (columnsUnliftedInPlace w h (cells s x))
-  unfolding columnsUnliftedInPlace
-  columns-alone-back b = simp (le-ltb 1 h (omega arith)) (sym (flat-cells s x))
-
-  module _ (y z : ℕ → ℤ) where
-    pub columns-both : 2 ≤ h → y ≡ flat s (oddRowsChanged (predicted wrap32) w h (cells s x)) → z ≡ flat s (evenRowsChanged (updated wrap32) w h (cells s y)) → z ≡ flat s (columnsLiftedInPlace w h (cells s x))
+  module _ (y : ℕ → ℤ) where
+    pub columns-both : 2 ≤ h → y ≡ flat s (evenRowsChanged (updated wrap32) w h (oddRowsChanged (predicted wrap32) w h (cells s x))) → y ≡ flat s (columnsLiftedInPlace w h (cells s x))
     unfolding columnsLiftedInPlace
-    columns-both b e f =
-        simp (lt-ltb 1 h (omega arith))
-        (f ∙ flat-same s _ _ apart (λ r c cs. even-same (updated wrap32) w h (cells s y) _ r c (λ i. left-cells s _ y e i c cs)))
+    columns-both b e = simp (lt-ltb 1 h (omega arith)) e
 
-    pub columns-both-back : 2 ≤ h → y ≡ flat s (evenRowsChanged (unupdated wrap32) w h (cells s x)) → z ≡ flat s (oddRowsChanged (unpredicted wrap32) w h (cells s y)) → z ≡ flat s (columnsUnliftedInPlace w h (cells s x))
-    unfolding columnsUnliftedInPlace
-    columns-both-back b e f =
-        simp (lt-ltb 1 h (omega arith))
-        (f ∙ flat-same s _ _ apart (λ r c cs. odd-same (unpredicted wrap32) w h (cells s y) _ r c (λ i. left-cells s _ y e i c cs)))
-
-    pub level-both : w ≤ s → y ≡ flat s (columnsLiftedInPlace w h (cells s x)) → z ≡ flat s (rowsMapped (liftedInPlace w) w h (cells s y)) → z ≡ flat s (levelLifted w h (cells s x))
+    -- and then all rows, on the way to the plane
+    pub level-both : (A : ℕ) (u v : ℕ → ℤ) → w ≤ s → 0 < A → y ≡ flat s (columnsLiftedInPlace w h (cells s x)) → v ≡ flat A (rowsStored w h (rowsMapped (liftedInPlace w) w h (cells s y)) (cells A u)) → v ≡ flat A (rowsStored w h (levelLifted w h (cells s x)) (cells A u))
     unfolding levelLifted
-    level-both ws e f =
-        f ∙ flat-same s _ _ apart
-        (λ r c cs. mapped-same (liftedInPlace w) w h (cells s y) _ r c (left-cells s _ y e r c cs) (λ j jw. left-cells s _ y e r j (omega arith)))
-
-    unlifted-same : (X Y : Grid) (r c : ℕ) → ((i : ℕ) → X i c ≡ Y i c) → columnsUnliftedInPlace w h X r c ≡ columnsUnliftedInPlace w h Y r c
-    unfolding columnsUnliftedInPlace
-    unlifted-same X Y r c e =
-        elim (decLt 1 h) [
-          | yes g ↦ simp (lt-ltb 1 h g) (odd-same (unpredicted wrap32) w h _ _ r c (λ i. even-same (unupdated wrap32) w h X Y i c e))
-          | no g ↦ simp (le-ltb 1 h (omega arith)) (e r)
-        ]
-
-    pub level-both-back : y ≡ flat s (rowsMapped (unliftedInPlace w) w h (cells s x)) → z ≡ flat s (columnsUnliftedInPlace w h (cells s y)) → z ≡ flat s (levelUnlifted w h (cells s x))
-    unfolding levelUnlifted
-    level-both-back e f =
-        f ∙ flat-same s _ _ apart (λ r c cs. unlifted-same (cells s y) _ r c (λ i. left-cells s _ y e i c cs))
+    level-both A u v ws some e f =
+        f ∙ flat-same A _ _ some
+        (λ r c ca.
+        by-within w h r c
+        (λ rh cw.
+        stored-in w h _ (cells A u) r c rh cw
+        ∙ mapped-same (liftedInPlace w) w h (cells s y) _ (levelRow h r) c (left-cells s _ y e (levelRow h r) c (omega arith)) (λ j jw. left-cells s _ y e (levelRow h r) j (omega arith))
+        ∙ sym (stored-in w h _ (cells A u) r c rh cw))
+        (λ o. stored-out w h _ (cells A u) r c o ∙ sym (stored-out w h _ (cells A u) r c o)))
 
 -- ---- a part copied
-splice-same : (b n : ℕ) (u v x : ℕ → ℤ) → ((i : ℕ) → i < n → u i ≡ v i) → spliced b n u x ≡ spliced b n v x
+pub splice-same : (b n : ℕ) (u v x : ℕ → ℤ) → ((i : ℕ) → i < n → u i ≡ v i) → spliced b n u x ≡ spliced b n v x
 splice-same b n u v x e =
     fun-ext λ j.
     elim (decLt j b) [
@@ -106,18 +97,42 @@ splice-same b n u v x e =
           ]
     ]
 
-pub copied-part : (a b n k k′ : ℕ) (from to z : List ℤ) → k ≡ n → k′ ≡ n → a + n ≤ length from → b + n ≤ length to → length z ≡ length (midOf b k to) → at z ≡ fronted (length (midOf a k′ from)) (at (midOf a k′ from)) (at (midOf b k to)) → at (putMid b k to z) ≡ spliced b n (windowed a n (at from)) (at to)
-copied-part a b n k k′ from to z e e′ fa fb size is =
+-- what came back as z is y
+moved-part : (b n k : ℕ) (to z : List ℤ) (y : ℕ → ℤ) → k ≡ n → b + n ≤ length to → length z ≡ length (midOf b k to) → ((i : ℕ) → i < n → at z i ≡ y i) → at (putMid b k to z) ≡ spliced b n y (at to)
+moved-part b n k to z y e fb size is =
     let mid = length-mid b k to (omega arith) in
-    let mid′ : length (midOf a k′ from) ≡ n = length-mid a k′ from (omega arith) ∙ e′ in
     at-put b k to z (omega arith) (omega arith)
     ∙ ap (λ (m : ℕ). spliced b m (at z) (at to)) e
-    ∙ splice-same b n (at z) (windowed a n (at from)) (at to)
-    (λ i h.
-    ap (λ (y : ℕ → ℤ). y i) is
-    ∙ front-at _ _ _ i (omega arith)
-    ∙ ap (λ (y : ℕ → ℤ). y i) (at-mid a k′ from)
-    ∙ ap (λ (m : ℕ). windowed a m (at from) i) e′)
+    ∙ splice-same b n (at z) y (at to) is
+
+-- what was lent
+lent-part : (a n k : ℕ) (from : List ℤ) → k ≡ n → at (midOf a k from) ≡ windowed a n (at from)
+lent-part a n k from e = at-mid a k from ∙ ap (λ (m : ℕ). windowed a m (at from)) e
+
+module _ (a b n k k′ : ℕ) (from to z : List ℤ) (e : k ≡ n) (e′ : k′ ≡ n) (fa : a + n ≤ length from) (fb : b + n ≤ length to) (size : length z ≡ length (midOf b k to)) where
+  mid-length : length (midOf a k′ from) ≡ n
+  mid-length = length-mid a k′ from (omega arith) ∙ e′
+
+  pub same-parts : length (midOf a k′ from) ≡ length (midOf b k to)
+  same-parts = mid-length ∙ sym (length-mid b k to (omega arith) ∙ e)
+
+  pub copied-part : at z ≡ fronted (length (midOf a k′ from)) (at (midOf a k′ from)) (at (midOf b k to)) → at (putMid b k to z) ≡ spliced b n (windowed a n (at from)) (at to)
+  copied-part is =
+      let mid = mid-length in
+      moved-part b n k to z _ e fb size
+      (λ i h. ap (λ (y : ℕ → ℤ). y i) is ∙ front-at _ _ _ i (omega arith) ∙ ap (λ (y : ℕ → ℤ). y i) (lent-part a n k′ from e′))
+
+  pub lifted-part : at z ≡ liftedInPlace (length (midOf a k′ from)) (at (midOf a k′ from)) → at (putMid b k to z) ≡ spliced b n (liftedInPlace n (windowed a n (at from))) (at to)
+  lifted-part is =
+      let is′ : at z ≡ liftedInPlace n (windowed a n (at from)) = cc (is, mid-length, lent-part a n k′ from e′) in
+      moved-part b n k to z _ e fb size (λ i h. ap (λ (y : ℕ → ℤ). y i) is′)
+
+  pub halved-part : at z ≡ inHalves (length (midOf a k′ from)) (parted (at (midOf a k′ from))) (at (midOf b k to)) → at (putMid b k to z) ≡ spliced b n (partedInPlace n (windowed a n (at from))) (at to)
+  unfolding partedInPlace
+  halved-part is =
+      let y = windowed a n (at from) in
+      let is′ : at z ≡ inHalves n (parted y) (at (midOf b k to)) = cc (is, mid-length, lent-part a n k′ from e′) in
+      moved-part b n k to z _ e fb size (λ i h. ap (λ (x : ℕ → ℤ). x i) is′ ∙ halves-inside n (parted y) _ y i h)
 
 -- ---- row i of an area: n numbers y put in from column `made` on, where the pass leaves those before and those past
 pub copy-turn : (s w made n i p : ℕ) (Y Z : Grid) (y x x′ : ℕ → ℤ) → w ≤ s → made + n ≡ w → p ≡ i * s + made → x′ ≡ spliced p n y x → ((c : ℕ) → c < n → y c ≡ Y i (made + c)) → ((c : ℕ) → c < made → Y i c ≡ Z i c) → ((c : ℕ) → w ≤ c → Y i c ≡ Z i c) → RowSwept s Y Z i x → RowSwept s Y Z (i + 1) x′
@@ -147,40 +162,46 @@ copy-turn s w made n i p Y Z y x x′ ws all e is new left past sw =
           ]
     ])
 
--- the rows of a level to the plane
-pub stored-turn : (s A w h i l : ℕ) (x z₀ z z′ : ℕ → ℤ) → w ≤ A → i < h → l ≡ levelRow h i → z′ ≡ spliced (i * A) w (windowed (l * s) w x) z → RowSwept A (rowsStored w h (cells s x) (cells A z₀)) (cells A z₀) i z → RowSwept A (rowsStored w h (cells s x) (cells A z₀)) (cells A z₀) (i + 1) z′
+-- a row of an area, as the n numbers lent
+row-lent : (s w r : ℕ) (x : ℕ → ℤ) → windowed (r * s) w x ≡ cut w (cells s x r)
 unfolding cells
+row-lent s w r x = window-cut (r * s) w x (λ c. x (r * s + c)) (λ c q. refl)
+
+-- row i of an area filled with a row of w numbers y
+pub fill-turn : (A w h i : ℕ) (Y Z : Grid) (y z z′ : ℕ → ℤ) → w ≤ A → z′ ≡ spliced (i * A) w y z → ((c : ℕ) → c < w → y c ≡ Y i c) → ((c : ℕ) → w ≤ c → Y i c ≡ Z i c) → RowSwept A Y Z i z → RowSwept A Y Z (i + 1) z′
+fill-turn A w h i Y Z y z z′ wa is new past sw =
+    copy-turn A w 0 w i (i * A) Y Z y z z′ wa (omega arith) (omega arith) is
+    (λ c cw. let k : 0 + c ≡ c = omega arith in rw k (new c cw)) (λ c b. absurd (omega arith)) past sw
+
+-- the rows of a level, lifted, to the plane
+pub stored-turn : (s A w h i l : ℕ) (x z₀ z z′ : ℕ → ℤ) → w ≤ A → i < h → l ≡ levelRow h i → z′ ≡ spliced (i * A) w (liftedInPlace w (windowed (l * s) w x)) z → RowSwept A (rowsStored w h (rowsMapped (liftedInPlace w) w h (cells s x)) (cells A z₀)) (cells A z₀) i z → RowSwept A (rowsStored w h (rowsMapped (liftedInPlace w) w h (cells s x)) (cells A z₀)) (cells A z₀) (i + 1) z′
 stored-turn s A w h i l x z₀ z z′ wa ih e is sw =
-    copy-turn A w 0 w i (i * A) _ _ (windowed (l * s) w x) z z′ wa (omega arith) (omega arith) is
+    let L = rowsMapped (liftedInPlace w) w h (cells s x) in
+    fill-turn A w h i _ _ (liftedInPlace w (windowed (l * s) w x)) z z′ wa is
     (λ c cw.
-    let k : 0 + c ≡ c = omega arith in
-    rw k (window-in (l * s) w x c cw ∙ ap (λ (m : ℕ). x (m * s + c)) e ∙ sym (stored-in w h (cells s x) (cells A z₀) i c ih cw)))
-    (λ c b. absurd (omega arith))
-    (λ c b. stored-out w h (cells s x) (cells A z₀) i c (outside-columns w h i c b))
+    ap (λ (y : ℕ → ℤ). liftedInPlace w y c) (row-lent s w l x ∙ ap (λ (m : ℕ). cut w (cells s x m)) e)
+    ∙ sym (stored-in w h L (cells A z₀) i c ih cw ∙ mapped-in (liftedInPlace w) w h (cells s x) (levelRow h i) c (level-in h i ih) cw))
+    (λ c b. stored-out w h L (cells A z₀) i c (outside-columns w h i c b))
+    sw
+
+-- the low-low part to the rows of the next level
+pub loaded-turn : (A s w h i : ℕ) (z x₀ x x′ : ℕ → ℤ) → w ≤ s → i < h → x′ ≡ spliced (i * s) w (partedInPlace w (windowed (i * A) w z)) x → RowSwept s (rowsLoaded w h (cells A z) (cells s x₀)) (cells s x₀) i x → RowSwept s (rowsLoaded w h (cells A z) (cells s x₀)) (cells s x₀) (i + 1) x′
+unfolding partedInPlace
+loaded-turn A s w h i z x₀ x x′ ws ih is sw =
+    let y = windowed (i * A) w z in
+    fill-turn s w h i _ _ (inHalves w (parted y) y) x x′ ws is
+    (λ c cw.
+    ap (λ (u : ℕ → ℤ). inHalves w (parted u) y c) (row-lent A w i z)
+    ∙ ap (λ (u : ℕ → ℤ). u c) (cut-parted w (cells A z i) y)
+    ∙ halves-inside w (parted (cells A z i)) y (cells s x₀ i) c cw
+    ∙ sym (loaded-in w h (cells A z) (cells s x₀) i c ih cw))
+    (λ c b. loaded-out w h (cells A z) (cells s x₀) i c (outside-columns w h i c b))
     sw
 
 -- the rows of a level from the plane
 pub made-few : (r from w : ℕ) → from ≤ w → pick (even r) from 0 ≤ w
 unfolding even
 made-few r from w b = elim (ℕ-discrete (r % 2) 0) [ yes e ↦ simp (eq-eqb (r % 2) 0 e) b | no d ↦ simp (ne-eqb (r % 2) 0 d) (omega arith) ]
-
-pub fetched-turn : (s A from w h i l made : ℕ) (z x₀ x x′ : ℕ → ℤ) → w ≤ s → i < h → made ≡ pick (even i) from 0 → made ≤ w → l ≡ planeRow h i → x′ ≡ spliced (i * s + made) (w - made) (windowed (l * A + made) (w - made) z) x → RowSwept s (rowsFetched from w h (cells A z) (cells s x₀)) (cells s x₀) i x → RowSwept s (rowsFetched from w h (cells A z) (cells s x₀)) (cells s x₀) (i + 1) x′
-unfolding cells
-fetched-turn s A from w h i l made z x₀ x x′ ws ih m few e is sw =
-    copy-turn s w made (w - made) i (i * s + made) _ _ (windowed (l * A + made) (w - made) z) x x′ ws (omega arith) refl is
-    (λ c cw.
-    let k : l * A + made + c ≡ l * A + (made + c) = omega arith in
-    window-in (l * A + made) (w - made) z c cw
-    ∙ ap z k
-    ∙ ap (λ (j : ℕ). z (j * A + (made + c))) e
-    ∙ sym (fetched-new from w h (cells A z) (cells s x₀) i (made + c) ih (omega arith) (omega arith)))
-    (λ c b. fetched-made from w h (cells A z) (cells s x₀) i c ih (omega arith) (omega arith))
-    (λ c b. fetched-out w h (cells s x₀) i c (outside-columns w h i c b) from (cells A z))
-    sw
-
--- one no is enough
-not-every : (n : ℕ) (p : ℕ → Bool) (i : ℕ) → i < n → p i ≡ false → every n p ≡ false
-not-every n p i h e = bool-same (every n p) false (λ a. sym e ∙ every-each n p a i h) (λ a. absurd (false-true a))
 
 -- ---- rows tested: those from `first` up to r are between low and high
 module _ (s first last from to : ℕ) (low high : ℤ) (l : List ℤ) where

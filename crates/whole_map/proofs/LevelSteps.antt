@@ -7,20 +7,23 @@ use native.Mathlib.Omega.{arith}
 use lib.IntN.{ℤ, pos, negℤ, _-ℤ_}
 use mir.Syntax.{w32}
 use mir.Val.{SFits}
+use Rattle.numbers.specs.Signal.{pick}
 use Rattle.numbers.specs.Word.{wrap32}
 use Rattle.numbers.proofs.Integers.{each, lin}
 use Rattle.lifting.specs.Line.{lo, count}
+use Rattle.lifting.specs.Halves.{liftedInPlace}
 use Rattle.lifting.proofs.LineLaws.{count-lo}
 use Rattle.wavelet.specs.Limits.{maxLevels, range}
 use Rattle.wavelet.specs.Bands.{Grid}
 use Rattle.wavelet.specs.Plane.{cells, flat, mapBack}
-use Rattle.wavelet.specs.Maps.{everyCell, valueFits}
-use Rattle.whole_map.specs.Rowwise.{partedInPlace, wovenInPlace}
-use Rattle.whole_map.specs.Passes.{Rows, KeptFrom, rowsMapped, rowsStored, rowsFetched}
-use Rattle.whole_map.specs.LevelPasses.{levelGrid, levelLifted, planeWritten, Rebuilt, rowsBetween, regionInRange, Doubling, LevelBack, LevelsBack}
-use Rattle.whole_map.proofs.CellLaws.{mapped-out, fetched-out, lifted-out, unlifted-out, kept-flat, kept-then, next-end, next-rows, fewer-rows, fewer-columns}
+use Rattle.wavelet.specs.Maps.{everyCell, valueFits, rebuiltFits}
+use Rattle.whole_map.specs.Rowwise.{wovenInPlace}
+use Rattle.whole_map.specs.Passes.{Rows, KeptFrom, rowsMapped, rowsStored, rowsFetched, rowsLoaded}
+use Rattle.whole_map.specs.LevelPasses.{levelGrid, columnsLiftedInPlace, levelLifted, levelUnlifted, planeWritten, Rebuilt, rowsBetween, regionInRange, Doubling, LevelsBack}
+use Rattle.whole_map.proofs.CellLaws.{loaded-out, mapped-out, fetched-out, columns-out, unlifted-out, kept-flat, kept-then, next-end, next-rows, fewer-rows, fewer-columns}
+use Rattle.whole_map.proofs.LevelCalls.{level-both}
 use Rattle.whole_map.proofs.LevelsMath.{forward-last, forward-more, back-last, back-more}
-use Rattle.whole_map.proofs.TestLaws.{false-true, rebuilt-test, fits-more, fits-last, region-more, region-last}
+use Rattle.whole_map.proofs.TestLaws.{false-true, rebuilt-test, fits-more, fits-none, region-more, region-last}
 
 -- ---- sizes
 pub stride-small : (L s w : ℕ) → Doubling L s w → 2 * s ≤ 65568
@@ -52,31 +55,35 @@ module _ (n n′ s w h w′ h′ : ℕ) (size : n′ ≡ n) (ew : w′ ≡ count
       let lh = count-lo h in
       rw (size, ew, eh) (fewer-columns n s w (count lo h) (count lo w) (fewer-rows n s w h (count lo h) R (omega (arith, R .some)) (omega arith)) (omega arith))
 
--- ---- forward
-module _ (n s A w h : ℕ) (x₀ z₀ x₁ z₁ : ℕ → ℤ) (R : Rows n s w h) (some : 0 < A)
-    (e₁ : x₁ ≡ flat s (levelLifted w h (cells s x₀))) (f₁ : z₁ ≡ flat A (rowsStored w h (cells s x₁) (cells A z₀))) where
-  lift-kept : KeptFrom ((h - 1) * s + w) x₀ x₁
-  lift-kept = kept-flat n s w h x₀ x₁ (levelLifted w h (cells s x₀)) R e₁ (lifted-out w h (cells s x₀))
+-- ---- forward: x₁ is the area with the columns lifted, z₁ the plane with the level's rows
+module _ (n s A w h : ℕ) (x₀ z₀ x₁ z₁ : ℕ → ℤ) (R : Rows n s w h) (wa : w ≤ A) (some : 0 < A)
+    (e₁ : x₁ ≡ flat s (columnsLiftedInPlace w h (cells s x₀))) (f₁ : z₁ ≡ flat A (rowsStored w h (rowsMapped (liftedInPlace w) w h (cells s x₁)) (cells A z₀))) where
+  columns-kept : KeptFrom ((h - 1) * s + w) x₀ x₁
+  columns-kept = kept-flat n s w h x₀ x₁ (columnsLiftedInPlace w h (cells s x₀)) R e₁ (columns-out w h (cells s x₀))
+
+  stored : z₁ ≡ flat A (rowsStored w h (levelLifted w h (cells s x₀)) (cells A z₀))
+  stored = level-both s w h x₀ (R .apart) x₁ A z₀ z₁ (R .wide) some e₁ f₁
 
   pub forward-end : (L : ℕ) → 0 < L → L < 2 → (z₁ ≡ flat A (planeWritten L w h (levelGrid w (cells s x₀)) (cells A z₀))) × KeptFrom ((h - 1) * s + w) x₀ x₁
   forward-end L a b =
       let k : L ≡ 1 = omega arith in
-      (rw k (forward-last s A w h x₀ z₀ x₁ z₁ (R .wide) some e₁ f₁), lift-kept)
+      (rw k (forward-last s A w h x₀ z₀ z₁ wa some stored), columns-kept)
 
-  pub forward-step : (L w′ h′ : ℕ) (x₂ x₃ z₂ : ℕ → ℤ) → 2 ≤ L → w′ ≡ count lo w → h′ ≡ count lo h → x₂ ≡ flat (2 * s) (rowsMapped (partedInPlace (count lo w)) (count lo w) (count lo h) (cells (2 * s) x₁)) → z₂ ≡ flat A (planeWritten (L - 1) w′ h′ (levelGrid w′ (cells (2 * s) x₂)) (cells A z₁)) → KeptFrom ((h′ - 1) * (2 * s) + w′) x₂ x₃ → (z₂ ≡ flat A (planeWritten L w h (levelGrid w (cells s x₀)) (cells A z₀))) × KeptFrom ((h - 1) * s + w) x₀ x₃
-  forward-step L w′ h′ x₂ x₃ z₂ b ew eh e₂ f₂ k₂ =
+  pub forward-step : (L w′ h′ : ℕ) (x₂ x₃ z₂ : ℕ → ℤ) → 2 ≤ L → w′ ≡ count lo w → h′ ≡ count lo h → x₂ ≡ flat (2 * s) (rowsLoaded w′ h′ (cells A z₁) (cells (2 * s) x₁)) → z₂ ≡ flat A (planeWritten (L - 1) w′ h′ (levelGrid w′ (cells (2 * s) x₂)) (cells A z₁)) → KeptFrom ((h′ - 1) * (2 * s) + w′) x₂ x₃ → (z₂ ≡ flat A (planeWritten L w h (levelGrid w (cells s x₀)) (cells A z₀))) × KeptFrom ((h - 1) * s + w) x₀ x₃
+  forward-step L w′ h′ x₂ x₃ z₂ b ew eh e f₂ k₂ =
       let end = next-end s w h (R .some) in
+      let e₂ : x₂ ≡ flat (2 * s) (rowsLoaded (count lo w) (count lo h) (cells A z₁) (cells (2 * s) x₁)) = rw (ew, eh) at e in
       let f : z₂ ≡ flat A (planeWritten (L - 1) (count lo w) (count lo h) (levelGrid (count lo w) (cells (2 * s) x₂)) (cells A z₁)) = rw (ew, eh) at f₂ in
       let k : KeptFrom ((count lo h - 1) * (2 * s) + count lo w) x₂ x₃ = rw (ew, eh) at k₂ in
       let part : KeptFrom ((count lo h - 1) * (2 * s) + count lo w) x₁ x₂ =
       kept-flat n (2 * s) (count lo w) (count lo h) x₁ x₂ _ (next-rows n s w h R) e₂
-      (λ r c o. mapped-out (count lo w) (count lo h) (cells (2 * s) x₁) r c o (partedInPlace (count lo w))) in (
-        forward-more s A w h x₀ z₀ x₁ z₁ (R .wide) some e₁ f₁ x₂ e₂ L z₂ b f,
-        kept-then lift-kept (kept-then part k (omega arith)) end,
+      (loaded-out (count lo w) (count lo h) (cells A z₁) (cells (2 * s) x₁)) in (
+        forward-more s A w h x₀ z₀ z₁ wa some stored (R .wide) x₁ x₂ e₂ L z₂ b f,
+        kept-then columns-kept (kept-then part k (omega arith)) end,
       )
 
 -- ---- back: y₀ is the work area before the level's rows are fetched
-module _ (n s A w h k from : ℕ) (ok : Bool) (z y₀ y : ℕ → ℤ) (R : Rows n s w h) (b : LevelBack ok k from s A w h z y₀ y) where
+module _ (n s A w h from : ℕ) (z y₀ y : ℕ → ℤ) (R : Rows n s w h) (b : y ≡ flat s (levelUnlifted w h (cells s (flat s (rowsFetched from w h (cells A z) (cells s y₀)))))) where
   abbrev fetchedRows : ℕ → ℤ
   fetchedRows = flat s (rowsFetched from w h (cells A z) (cells s y₀))
 
@@ -84,51 +91,69 @@ module _ (n s A w h k from : ℕ) (ok : Bool) (z y₀ y : ℕ → ℤ) (R : Rows
   back-kept =
       kept-then
       (kept-flat n s w h y₀ fetchedRows _ R refl (λ r c o. fetched-out w h (cells s y₀) r c o from (cells A z)))
-      (kept-flat n s w h fetchedRows y _ R (b .lifted) (unlifted-out w h (cells s fetchedRows)))
+      (kept-flat n s w h fetchedRows y _ R b (unlifted-out w h (cells s fetchedRows)))
       (omega arith)
 
-  back-answer : (L : ℕ) → Rebuilt L w h (cells A z) (cells s y) → ok ≡ everyCell w h (λ r c. valueFits k (mapBack wrap32 L w h (cells A z) r c))
-  back-answer L B = b .answer ∙ rebuilt-test k L w h (cells A z) (cells s y) B
-
-pub back-end : (n s A w h k L : ℕ) (ok : Bool) (z y₀ y : ℕ → ℤ) → Rows n s w h → 0 < L → L < 2 → LevelBack ok k 0 s A w h z y₀ y → LevelsBack ok k L s A w h z y₀ y
-back-end n s A w h k L ok z y₀ y R a c b =
+pub back-end : (n s A w h k L : ℕ) (z y₀ y : ℕ → ℤ) → Rows n s w h → 0 < L → L < 2 → y ≡ flat s (levelUnlifted w h (cells s (flat s (rowsFetched 0 w h (cells A z) (cells s y₀))))) → LevelsBack true k L s A w h z y₀ y
+back-end n s A w h k L z y₀ y R a c b =
     let e : L ≡ 1 = omega arith in
-    let B : Rebuilt 1 w h (cells A z) (cells s y) = back-last s w h (cells A z) y₀ _ y (R .wide) refl (b .lifted) in
+    let B : Rebuilt 1 w h (cells A z) (cells s y) = back-last s w h (cells A z) y₀ _ y (R .wide) refl b in
     rw e (record {
-      answer = back-answer n s A w h k 0 ok z y₀ y R b 1 B ∙ sym (fits-last k w h (cells A z));
+      answer = sym (fits-none (k + 1) (count lo w) (count lo h) (cells A z));
       grid = λ _. B;
-      kept = back-kept n s A w h k 0 ok z y₀ y R b;
+      kept = back-kept n s A w h 0 z y₀ y R b;
     })
 
--- the low-low part does not fit
-pub back-no : (n s A w h k L w′ h′ : ℕ) (ok : Bool) (z y₀ y : ℕ → ℤ) → Rows n s w h → 2 ≤ L → w′ ≡ count lo w → h′ ≡ count lo h → ok ≡ false → LevelsBack ok (k + 1) (L - 1) (2 * s) A w′ h′ z y₀ y → LevelsBack false k L s A w h z y₀ y
-back-no n s A w h k L w′ h′ ok z y₀ y R a ew eh it b =
-    let end = next-end s w h (R .some) in
-    let b′ : LevelsBack false (k + 1) (L - 1) (2 * s) A (count lo w) (count lo h) z y₀ y = rw (ew, eh, it) at b in
-    let inner = b′ .answer in
-    record {
-      answer = sym (fits-more k L w h (cells A z) (omega arith) ∙ rw (← inner));
-      grid = λ e. absurd (false-true e);
-      kept = record { kept = λ j h. b′ .kept .kept j (omega arith) };
-    }
+-- the low-low part: y₁ is the work area that its levels left, `done` their answer
+module _ (n s A w h k L w′ h′ : ℕ) (done : Bool) (z y₀ y₁ : ℕ → ℤ) (R : Rows n s w h) (a : 2 ≤ L) (ew : w′ ≡ count lo w) (eh : h′ ≡ count lo h)
+    (b : LevelsBack done (k + 1) (L - 1) (2 * s) A w′ h′ z y₀ y₁) where
+  abbrev lowBack : Type 0
+  lowBack = LevelsBack done (k + 1) (L - 1) (2 * s) A (count lo w) (count lo h) z y₀ y₁
 
--- it fits: y₁ is the work area with it, y₂ the same with its rows in their own order
-pub back-step : (n s A w h k L w′ h′ : ℕ) (done ok : Bool) (z y₀ y₁ y₂ y : ℕ → ℤ) → Rows n s w h → 2 ≤ L → w′ ≡ count lo w → h′ ≡ count lo h → done ≡ true → LevelsBack done (k + 1) (L - 1) (2 * s) A w′ h′ z y₀ y₁ → y₂ ≡ flat (2 * s) (rowsMapped (wovenInPlace (count lo w)) (count lo w) (count lo h) (cells (2 * s) y₁)) → LevelBack ok k w′ s A w h z y₂ y → LevelsBack ok k L s A w h z y₀ y
-back-step n s A w h k L w′ h′ done ok z y₀ y₁ y₂ y R a ew eh it b e₂ c =
-    let end = next-end s w h (R .some) in
-    let b′ : LevelsBack true (k + 1) (L - 1) (2 * s) A (count lo w) (count lo h) z y₀ y₁ = rw (ew, eh, it) at b in
-    let c′ : LevelBack ok k (count lo w) s A w h z y₂ y = rw ew at c in
-    let inner = b′ .answer in
-    let B : Rebuilt L w h (cells A z) (cells s y) = back-more s w h (cells A z) y₁ y₂ _ y L (R .wide) a (b′ .grid refl) e₂ refl (c′ .lifted) in
-    let woven : KeptFrom ((count lo h - 1) * (2 * s) + count lo w) y₁ y₂ =
-    kept-flat n (2 * s) (count lo w) (count lo h) y₁ y₂ _ (next-rows n s w h R) e₂
-    (λ r c o. mapped-out (count lo w) (count lo h) (cells (2 * s) y₁) r c o (wovenInPlace (count lo w))) in
-    let first : KeptFrom ((h - 1) * s + w) y₀ y₂ = record { kept = λ j g. woven .kept j (omega arith) ∙ b′ .kept .kept j (omega arith) } in
-    record {
-      answer = back-answer n s A w h k (count lo w) ok z y₂ y R c′ L B ∙ sym (fits-more k L w h (cells A z) (omega arith) ∙ rw (← inner));
-      grid = λ _. B;
-      kept = kept-then first (back-kept n s A w h k (count lo w) ok z y₂ y R c′) (omega arith);
-    }
+  low-back : lowBack
+  low-back = rw (ew, eh) at b
+
+  abbrev lowFits : Bool
+  lowFits = rebuiltFits (k + 1) (L - 1) (count lo w) (count lo h) (cells A z)
+
+  low-fits : lowFits ≡ pick done (everyCell (count lo w) (count lo h) (λ r c. valueFits (k + 1) (mapBack wrap32 (L - 1) (count lo w) (count lo h) (cells A z) r c))) false
+  low-fits = let e = low-back .answer in fits-more (k + 1) (L - 1) (count lo w) (count lo h) (cells A z) (omega arith) ∙ rw (← e)
+
+  low-kept : KeptFrom ((h - 1) * s + w) y₀ y₁
+  low-kept = let end = next-end s w h (R .some) in record { kept = λ j g. low-back .kept .kept j (omega arith) }
+
+  no-answer : lowFits ≡ false → LevelsBack false k L s A w h z y₀ y₁
+  no-answer e = record { answer = sym e; grid = λ f. absurd (false-true f); kept = low-kept }
+
+  -- a level of it does not fit
+  pub back-no : done ≡ false → LevelsBack false k L s A w h z y₀ y₁
+  back-no it = no-answer (low-fits ∙ rw it)
+
+  -- its levels fit; `ok` is the test of its own numbers
+  module _ (it : done ≡ true) (ok : Bool) (t : ok ≡ rowsBetween 0 h′ 0 w′ (negℤ (pos (range (k + 1)))) (pos (range (k + 1))) (cells (2 * s) y₁)) where
+    tested : ok ≡ lowFits
+    tested =
+        let t′ : ok ≡ rowsBetween 0 (count lo h) 0 (count lo w) (negℤ (pos (range (k + 1)))) (pos (range (k + 1))) (cells (2 * s) y₁) = rw (ew, eh) at t in
+        t′ ∙ rebuilt-test k (L - 1) (count lo w) (count lo h) (cells A z) (cells (2 * s) y₁) (low-back .grid it) ∙ sym (low-fits ∙ rw it)
+
+    pub back-low : ok ≡ false → LevelsBack false k L s A w h z y₀ y₁
+    back-low no′ = no-answer (sym tested ∙ no′)
+
+    -- they fit too: y₂ is the work area with its rows in their own order
+    pub back-step : (y₂ y : ℕ → ℤ) → ok ≡ true → y₂ ≡ flat (2 * s) (rowsMapped (wovenInPlace (count lo w)) (count lo w) (count lo h) (cells (2 * s) y₁)) → y ≡ flat s (levelUnlifted w h (cells s (flat s (rowsFetched w′ w h (cells A z) (cells s y₂))))) → LevelsBack true k L s A w h z y₀ y
+    back-step y₂ y yes′ e₂ c =
+        let c′ : y ≡ flat s (levelUnlifted w h (cells s (flat s (rowsFetched (count lo w) w h (cells A z) (cells s y₂))))) = rw ew at c in
+        let B : Rebuilt L w h (cells A z) (cells s y) = back-more s w h (cells A z) y₁ y₂ _ y L (R .wide) a (low-back .grid it) e₂ refl c′ in
+        let end = next-end s w h (R .some) in
+        let woven : KeptFrom ((count lo h - 1) * (2 * s) + count lo w) y₁ y₂ =
+        kept-flat n (2 * s) (count lo w) (count lo h) y₁ y₂ _ (next-rows n s w h R) e₂
+        (λ r c o. mapped-out (count lo w) (count lo h) (cells (2 * s) y₁) r c o (wovenInPlace (count lo w))) in
+        let first : KeptFrom ((h - 1) * s + w) y₀ y₂ = kept-then low-kept woven end in
+        record {
+          answer = sym (sym tested ∙ yes′);
+          grid = λ _. B;
+          kept = kept-then first (back-kept n s A w h (count lo w) z y₂ y R c′) (omega arith);
+        }
 
 -- ---- ranges
 pub between-by : (first last from to : ℕ) (X : Grid) {low low′ high high′ : ℤ} → low ≡ low′ → high ≡ high′ → rowsBetween first last from to low high X ≡ rowsBetween first last from to low′ high′ X

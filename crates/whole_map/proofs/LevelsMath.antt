@@ -11,13 +11,13 @@ use Rattle.lifting.specs.Halves.{halvesOf}
 use Rattle.lifting.proofs.LineLaws.{counts, count-lo, count-hi, joined-parted, front-in}
 use Rattle.wavelet.specs.Bands.{Grid, Band, LL, HL, LH, HH, bandOf, subband, levelBack}
 use Rattle.wavelet.specs.Plane.{cells, flat, halfAt, placeIn, planeCell, mapBack}
-use Rattle.whole_map.specs.Rowwise.{cut, partedInPlace, wovenInPlace}
-use Rattle.whole_map.specs.Passes.{within, rowsMapped, levelRow, rowsStored, rowsFetched}
+use Rattle.whole_map.specs.Rowwise.{cut, wovenInPlace}
+use Rattle.whole_map.specs.Passes.{within, rowsMapped, rowsStored, rowsFetched, rowsLoaded}
 use Rattle.whole_map.specs.LevelPasses.{levelGrid, levelLifted, levelUnlifted, planeWritten, Rebuilt}
 use Rattle.wavelet.proofs.GridLaws.{cells-flat}
 use Rattle.wavelet.proofs.LevelTheory.{plane-reads}
 use Rattle.whole_map.proofs.GridSweep.{mapped-in}
-use Rattle.whole_map.proofs.CellLaws.{stored-in, stored-out, fetched-new, fetched-made, made-even, made-odd, plane-even, plane-odd, flat-same, placed, placed-in, joined-at, grid-at, halves-at, half-low, cut-in, level-low, within-in, by-within}
+use Rattle.whole_map.proofs.CellLaws.{loaded-in, stored-in, stored-out, fetched-new, fetched-made, made-even, made-odd, plane-even, plane-odd, flat-same, placed, placed-in, joined-at, grid-at, halves-at, half-low, cut-in, within-in, by-within}
 use Rattle.whole_map.proofs.LevelMath.{BandsIn, level-forward, level-back}
 
 -- ---- the plane, by cells
@@ -49,25 +49,16 @@ module _ (L w h : ℕ) (g z : Grid) (r c : ℕ) where
   unfolding planeWritten
   written-out e = simp e
 
--- ---- forward: x₀ and z₀ are the area and the plane at the start, x₁ the level lifted, z₁ the plane with its rows
--- every second row of an area is a row at twice the stride
-pub twice : (s : ℕ) (x : ℕ → ℤ) (r c : ℕ) → cells (2 * s) x r c ≡ cells s x (2 * r) c
-unfolding cells
-twice s x r c = let k : r * (2 * s) ≡ 2 * r * s = omega arith in rw k
-
-module _ (s A w h : ℕ) (x₀ z₀ x₁ z₁ : ℕ → ℤ) (ws : w ≤ s) (some : 0 < A)
-    (e₁ : x₁ ≡ flat s (levelLifted w h (cells s x₀))) (f₁ : z₁ ≡ flat A (rowsStored w h (cells s x₁) (cells A z₀))) where
+-- ---- forward: x₀ and z₀ are the area and the plane at the start, z₁ the plane with the level's rows
+module _ (s A w h : ℕ) (x₀ z₀ z₁ : ℕ → ℤ) (wa : w ≤ A) (some : 0 < A) (f₁ : z₁ ≡ flat A (rowsStored w h (levelLifted w h (cells s x₀)) (cells A z₀))) where
   abbrev g : Grid
   g = levelGrid w (cells s x₀)
 
-  lifted-cell : (r c : ℕ) → r < h → c < w → cells s x₁ (levelRow h r) c ≡ subband wrap32 w h g (bandOf (halfAt w c) (halfAt h r)) (placeIn h r) (placeIn w c)
-  lifted-cell r c rh cw =
-      ap (λ (x : ℕ → ℤ). cells s x (levelRow h r) c) e₁
-      ∙ cells-flat s (levelLifted w h (cells s x₀)) (levelRow h r) c (omega arith)
-      ∙ level-forward w h (cells s x₀) r c rh cw
+  abbrev lifted : Grid
+  lifted = levelLifted w h (cells s x₀)
 
-  stored-cell : (r c : ℕ) → r < h → c < w → rowsStored w h (cells s x₁) (cells A z₀) r c ≡ subband wrap32 w h g (bandOf (halfAt w c) (halfAt h r)) (placeIn h r) (placeIn w c)
-  stored-cell r c rh cw = stored-in w h (cells s x₁) (cells A z₀) r c rh cw ∙ lifted-cell r c rh cw
+  stored-cell : (r c : ℕ) → r < h → c < w → rowsStored w h lifted (cells A z₀) r c ≡ subband wrap32 w h g (bandOf (halfAt w c) (halfAt h r)) (placeIn h r) (placeIn w c)
+  stored-cell r c rh cw = stored-in w h lifted (cells A z₀) r c rh cw ∙ level-forward w h (cells s x₀) r c rh cw
 
   pub forward-last : z₁ ≡ flat A (planeWritten 1 w h g (cells A z₀))
   forward-last =
@@ -75,30 +66,27 @@ module _ (s A w h : ℕ) (x₀ z₀ x₁ z₁ : ℕ → ℤ) (ws : w ≤ s) (som
       (λ r c _.
       by-within w h r c
       (λ rh cw. stored-cell r c rh cw ∙ sym (written-in 1 w h g (cells A z₀) r c rh cw ∙ plane-last wrap32 w h g r c))
-      (λ e. stored-out w h (cells s x₁) (cells A z₀) r c e ∙ sym (written-out 1 w h g (cells A z₀) r c e)))
+      (λ e. stored-out w h lifted (cells A z₀) r c e ∙ sym (written-out 1 w h g (cells A z₀) r c e)))
 
-  -- the low-low part, brought into halves at twice the stride
-  module _ (x₂ : ℕ → ℤ) (e₂ : x₂ ≡ flat (2 * s) (rowsMapped (partedInPlace (count lo w)) (count lo w) (count lo h) (cells (2 * s) x₁))) where
+  -- the low-low part, brought from the plane into halves at twice the stride
+  module _ (ws : w ≤ s) (x₁ x₂ : ℕ → ℤ) (e₂ : x₂ ≡ flat (2 * s) (rowsLoaded (count lo w) (count lo h) (cells A z₁) (cells (2 * s) x₁))) where
     pub next-grid : (r c : ℕ) → r < count lo h → c < count lo w → levelGrid (count lo w) (cells (2 * s) x₂) r c ≡ subband wrap32 w h g LL r c
-    unfolding partedInPlace bandOf
+    unfolding bandOf
     next-grid r c rb cb =
         let both = counts w in
         let l = count-lo h in
         let w′ = count lo w in
         let m = placed w′ c in
         let mb = placed-in w′ c cb in
-        let y = cut w′ (cells (2 * s) x₁ r) in
-        let k : levelRow h r ≡ 2 * r = level-low h r rb in
         grid-at w′ (cells (2 * s) x₂) r c
         ∙ ap (λ (x : ℕ → ℤ). cells (2 * s) x r m) e₂
         ∙ cells-flat (2 * s) _ r m (omega arith)
-        ∙ mapped-in (partedInPlace w′) w′ (count lo h) (cells (2 * s) x₁) r m rb mb
-        ∙ halves-at w′ (parted y) y c cb
-        ∙ joined-parted y c
-        ∙ cut-in w′ (cells (2 * s) x₁ r) c cb
-        ∙ twice s x₁ r c
-        ∙ ap (λ (i : ℕ). cells s x₁ i c) (sym k)
-        ∙ lifted-cell r c (omega arith) (omega arith)
+        ∙ loaded-in w′ (count lo h) (cells A z₁) (cells (2 * s) x₁) r m rb mb
+        ∙ halves-at w′ (parted (cells A z₁ r)) (cells (2 * s) x₁ r) c cb
+        ∙ joined-parted (cells A z₁ r) c
+        ∙ ap (λ (z : ℕ → ℤ). cells A z r c) f₁
+        ∙ cells-flat A _ r c (omega arith)
+        ∙ stored-cell r c (omega arith) (omega arith)
         ∙ rw (half-low w c cb .0, half-low h r rb .0, half-low w c cb .1, half-low h r rb .1)
 
     pub forward-more : (L : ℕ) (z₂ : ℕ → ℤ) → 1 < L → z₂ ≡ flat A (planeWritten (L - 1) (count lo w) (count lo h) (levelGrid (count lo w) (cells (2 * s) x₂)) (cells A z₁)) → z₂ ≡ flat A (planeWritten L w h g (cells A z₀))
@@ -120,12 +108,17 @@ module _ (s A w h : ℕ) (x₀ z₀ x₁ z₁ : ℕ → ℤ) (ws : w ≤ s) (som
         (λ e.
         written-out L w′ h′ g′ (cells A z₁) r c e
         ∙ ap (λ (z : ℕ → ℤ). cells A z r c) f₁
-        ∙ cells-flat A (rowsStored w h (cells s x₁) (cells A z₀)) r c ca
+        ∙ cells-flat A (rowsStored w h lifted (cells A z₀)) r c ca
         ∙ by-within w h r c
         (λ rh cw. stored-cell r c rh cw ∙ sym (written-in (suc L) w h g (cells A z₀) r c rh cw ∙ plane-rest wrap32 L w h g r c e))
-        (λ o. stored-out w h (cells s x₁) (cells A z₀) r c o ∙ sym (written-out (suc L) w h g (cells A z₀) r c o))))
+        (λ o. stored-out w h lifted (cells A z₀) r c o ∙ sym (written-out (suc L) w h g (cells A z₀) r c o))))
 
 -- ---- back
+-- every second row of an area is a row at twice the stride
+pub twice : (s : ℕ) (x : ℕ → ℤ) (r c : ℕ) → cells (2 * s) x r c ≡ cells s x (2 * r) c
+unfolding cells
+twice s x r c = let k : r * (2 * s) ≡ 2 * r * s = omega arith in rw k
+
 -- the bands that the plane x and the levels left give
 unfoldable pub bandsBack : ℕ → ℕ → ℕ → Grid → Band → Grid
 bandsBack L w h x LL = mapBack wrap32 L (count lo w) (count lo h) x

@@ -1,4 +1,5 @@
 pub mod RowwiseLaws
+pub mod LiftLaws
 pub mod HeightLaws
 pub mod GridSweep
 pub mod ColumnPass
@@ -8,6 +9,7 @@ pub mod LevelMath
 pub mod LevelsMath
 pub mod TestLaws
 pub mod LevelCalls
+pub mod BackPass
 pub mod LevelSteps
 pub mod CallLaws
 pub mod Demand2

@@ -7,7 +7,7 @@ use native.Mathlib.Decide.{decLt}
 use native.Mathlib.Omega.{arith}
 use lib.IntN.{ℤ, pos}
 use lib.Signed.{leZ}
-use lib.ListN.{length, set}
+use lib.ListN.{length, set, List·getD-eq-default}
 use borrow.Author.Tests.{lt-ltb, le-ltb, eq-eqb, ne-eqb}
 use Rattle.numbers.specs.Signal.{at, windowed, both}
 use Rattle.numbers.proofs.Sweep.{Swept, store2}
@@ -19,7 +19,7 @@ use Rattle.lifting.specs.Passes.{evensCopied, oddsCopied}
 use Rattle.lifting.proofs.LineLaws.{counts, count-lo, count-hi, joined-even, joined-odd, halves-low, halves-high, halves-past, halves-are, front-in, front-past, front-are}
 use Rattle.lifting.proofs.AreaLaws.{evens-in, evens-past, odds-low, odds-high, odds-past}
 use Rattle.wavelet.specs.Maps.{every}
-use Rattle.whole_map.specs.Rowwise.{cut, evensLaid, oddsLaid, partedInPlace, wovenInPlace, between}
+use Rattle.whole_map.specs.Rowwise.{cut, evensLaid, oddsLaid, wovenInPlace, between}
 
 -- ---- numbers x at the front of memory z
 pub front-at : (N : ℕ) (x z : ℕ → ℤ) (j : ℕ) → j < N → fronted N x z j ≡ x j
@@ -162,15 +162,19 @@ cut-woven n x z =
     (λ j h. sym (front-past n p z (joined p) j h))
 
 module _ (n k : ℕ) (y x z : ℕ → ℤ) (l : List ℤ) (e : k ≡ n) (h : n ≤ length l) (is : at l ≡ fronted n x z) where
-  pub part-through : y ≡ inHalves (length (midOf 0 k l)) (parted (at (midOf 0 k l))) x → y ≡ partedInPlace n x
-  unfolding partedInPlace
-  part-through made =
-      cc (made, length-mid 0 k l (omega arith) ∙ e, lent-front n k x z l e h is, cut-parted n x x)
-
   pub weave-through : y ≡ fronted (length (midOf 0 k l)) (joined (halvesOf (length (midOf 0 k l)) (at (midOf 0 k l)))) x → y ≡ wovenInPlace n x
   unfolding wovenInPlace
   weave-through made =
       cc (made, length-mid 0 k l (omega arith) ∙ e, lent-front n k x z l e h is, cut-woven n x x)
+
+-- a row copied over one as long
+pub front-whole : (l z : List ℤ) → length l ≡ length z → fronted (length l) (at l) (at z) ≡ at l
+front-whole l z e =
+    fun-ext λ j.
+    elim (decLt j (length l)) [
+      | yes p ↦ front-at (length l) (at l) (at z) j p
+      | no d ↦ front-rest (length l) (at l) (at z) j (omega arith) ∙ List·getD-eq-default z (pos 0) (omega arith) ∙ sym (List·getD-eq-default l (pos 0) (omega arith))
+    ]
 
 -- ---- a test of every number, gathered number by number
 all-three : (a b d : Bool) → (a && b) && d ≡ both a (both b d)

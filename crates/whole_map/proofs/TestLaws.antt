@@ -20,7 +20,7 @@ use Rattle.wavelet.specs.Plane.{levelAt, mapBack}
 use Rattle.wavelet.specs.Maps.{every, everyCell, valueFits, rebuiltFits}
 use Rattle.whole_map.specs.Rowwise.{between}
 use Rattle.whole_map.specs.Passes.{within}
-use Rattle.whole_map.specs.LevelPasses.{Rebuilt, leastFit, rowsBetween, regionInRange}
+use Rattle.whole_map.specs.LevelPasses.{Rebuilt, rowsBetween, regionInRange}
 use Rattle.wavelet.proofs.MapTheorems.{every-each, each-every, every-same, cells-each, each-cells}
 use Rattle.whole_map.proofs.CellLaws.{placed, placed-in, placed-even, placed-odd, grid-at, by-within}
 
@@ -34,6 +34,10 @@ bool-same false false f g = refl
 
 pub both-is : (a b : Bool) → a ≡ true → b ≡ true → pick a b false ≡ true
 both-is a b e f = rw (e, f)
+
+-- one no is enough
+pub not-every : (n : ℕ) (p : ℕ → Bool) (i : ℕ) → i < n → p i ≡ false → every n p ≡ false
+not-every n p i h e = bool-same (every n p) false (λ a. sym e ∙ every-each n p a i h) (λ a. absurd (false-true a))
 
 -- in whatever order they stand: every number of a row, and every number of the row in halves
 pub every-placed : (w : ℕ) (p : ℕ → Bool) → every w (λ c. p (placed w c)) ≡ every w p
@@ -66,22 +70,36 @@ between-is N v =
     (λ e. let b = both (leZ (negℤ (pos N)) v) _ e in le-leb _ _ (abs-between N (pos N) v refl (b .0) (b .1)))
     (λ e. let a = leb-true _ _ e in both-is _ _ (between-low N (pos N) v refl a) (between-high N (pos N) v refl a))
 
-pub between-fits : (k : ℕ) (v : ℤ) → between (leastFit k) (pos (range k)) v ≡ valueFits k v
-unfolding leastFit valueFits between range maxSample
-between-fits zero v = refl
-between-fits (suc k) v = between-is (range (suc k)) v
+-- ---- question 14
+pub height-fits : (v : ℤ) → between (pos 0) (pos 65535) v ≡ valueFits 0 v
+unfolding valueFits between maxSample
+height-fits v = refl
 
--- ---- question 14: the numbers of a rebuilt level, in halves, are the grid's
-pub rebuilt-test : (k L w h : ℕ) (x X : Grid) → Rebuilt L w h x X → rowsBetween 0 h 0 w (leastFit k) (pos (range k)) X ≡ everyCell w h (λ r c. valueFits k (mapBack wrap32 L w h x r c))
+level-fits : (k : ℕ) (v : ℤ) → between (negℤ (pos (range (suc k)))) (pos (range (suc k))) v ≡ valueFits (suc k) v
+unfolding valueFits
+level-fits k v = between-is (range (suc k)) v
+
+pub between-fits : (k : ℕ) (v : ℤ) → between (negℤ (pos (range (k + 1)))) (pos (range (k + 1))) v ≡ valueFits (k + 1) v
+between-fits k v = let e : k + 1 ≡ suc k = omega arith in rw e (level-fits k v)
+
+-- the numbers of a rebuilt level, in halves, are the grid's
+module _ (k L w h : ℕ) (x X : Grid) (R : Rebuilt L w h x X) where
+  pub rebuilt-cells : everyCell w h (λ r c. valueFits k (X r c)) ≡ everyCell w h (λ r c. valueFits k (mapBack wrap32 L w h x r c))
+  unfolding everyCell
+  rebuilt-cells =
+      every-same h _ _ (λ r rh.
+      sym (every-placed w (λ c. valueFits k (X r c)))
+      ∙ every-same w _ _ (λ c cw. ap (valueFits k) (sym (grid-at w X r c) ∙ R .cell r c rh cw)))
+
+pub rebuilt-test : (k L w h : ℕ) (x X : Grid) → Rebuilt L w h x X → rowsBetween 0 h 0 w (negℤ (pos (range (k + 1)))) (pos (range (k + 1))) X ≡ everyCell w h (λ r c. valueFits (k + 1) (mapBack wrap32 L w h x r c))
 unfolding rowsBetween everyCell
 rebuilt-test k L w h x X R =
     let kw : w - 0 ≡ w = omega arith in
     let kh : h - 0 ≡ h = omega arith in
     rw (kw, kh)
     (every-same h _ _ (λ r rh.
-    every-same w _ (λ c. between (leastFit k) (pos (range k)) (X r c)) (λ c cw. let a : 0 + r ≡ r = omega arith in let b : 0 + c ≡ c = omega arith in rw (a, b))
-    ∙ sym (every-placed w (λ c. between (leastFit k) (pos (range k)) (X r c)))
-    ∙ every-same w _ _ (λ c cw. between-fits k (X r (placed w c)) ∙ ap (valueFits k) (sym (grid-at w X r c) ∙ R .cell r c rh cw))))
+    every-same w _ _ (λ c cw. let a : 0 + r ≡ r = omega arith in let b : 0 + c ≡ c = omega arith in rw (a, b) (between-fits k (X r c))))
+    ∙ rebuilt-cells (k + 1) L w h x X R)
 
 -- 14 at every level: first of the low-low part, then of this level
 pub fits-more : (k L w h : ℕ) (x : Grid) → 0 < L → rebuiltFits k L w h x ≡ pick (rebuiltFits (k + 1) (L - 1) (count lo w) (count lo h) x) (everyCell w h (λ r c. valueFits k (mapBack wrap32 L w h x r c))) false
@@ -89,9 +107,9 @@ unfolding rebuiltFits
 fits-more k zero w h x b = absurd (omega arith)
 fits-more k (suc L) w h x b = let a : suc L - 1 ≡ L = omega arith in let e : k + 1 ≡ suc k = omega arith in rw (a, e)
 
-pub fits-last : (k w h : ℕ) (x : Grid) → rebuiltFits k 1 w h x ≡ everyCell w h (λ r c. valueFits k (mapBack wrap32 1 w h x r c))
+pub fits-none : (k w h : ℕ) (x : Grid) → rebuiltFits k (1 - 1) w h x ≡ true
 unfolding rebuiltFits
-fits-last k w h x = refl
+fits-none k w h x = refl
 
 -- ---- question 7
 -- rows of a region within ±N

@@ -8,6 +8,7 @@ use lib.Dec.{ltb, eqb}
 use Rattle.numbers.specs.Signal.{pick, both}
 use Rattle.lifting.specs.Line.{lo, count, parted, joined}
 use Rattle.lifting.specs.Halves.{halvesOf, inHalves}
+use Rattle.lifting.specs.Rows.{rowsChanged}
 use Rattle.wavelet.specs.Bands.{Grid}
 use Rattle.whole_map.specs.Rowwise.{cut}
 
@@ -40,6 +41,14 @@ oddRowsChanged f w h x r c =
 unfoldable pub evenRowsChanged : (ℤ → ℤ → ℤ → ℤ) → ℕ → ℕ → Grid → Grid
 evenRowsChanged f w h x r c =
     pick (both (within w h r c) (even r)) (f (x r c) (x (before r) c) (x (after h r) c)) (x r c)
+
+-- the row after row r, where there is one, changed so, in an area of n numbers whose rows are s apart
+unfoldable pub nextChanged : (ℤ → ℤ → ℤ → ℤ) → ℕ → ℕ → ℕ → ℕ → ℕ → (ℕ → ℤ) → ℕ → ℤ
+nextChanged f n s w h r x = pick (ltb (r + 1) h) (rowsChanged f n s w (r + 1) r (after h (r + 1)) x) x
+
+-- and then row r by g
+unfoldable pub pairChanged : (ℤ → ℤ → ℤ → ℤ) → (ℤ → ℤ → ℤ → ℤ) → ℕ → ℕ → ℕ → ℕ → ℕ → (ℕ → ℤ) → ℕ → ℤ
+pairChanged f g n s w h r x = rowsChanged g n s w r (before r) (after h r) (nextChanged f n s w h r x)
 
 -- each row changed as a line of w numbers by itself
 unfoldable pub rowsMapped : ((ℕ → ℤ) → ℕ → ℤ) → ℕ → ℕ → Grid → Grid

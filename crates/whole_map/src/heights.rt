@@ -1,4 +1,5 @@
 // Rows of heights loaded into the work area, each in halves, and stored from it. The module is private, as `rowwise` is.
+use crate::rowwise;
 ghost use mathlib.Core.Path.{_≡_};
 ghost use Prim.Native.Nat.{_+_, _-_, _*_, _<_, _≤_};
 ghost use lib.IntN.{pos};
@@ -9,9 +10,10 @@ ghost use Rattle.lifting.specs.Halves.{halvesOf, inHalves, fronted};
 ghost use Rattle.lifting.specs.Passes.{evensCopied, oddsCopied};
 ghost use Rattle.wavelet.specs.Plane.{cells, flat};
 ghost use Rattle.whole_map.specs.Rowwise.{heightsAt, evensLaid, oddsLaid};
-ghost use Rattle.whole_map.specs.Passes.{rowsLoaded, rowsReturned, Rows};
+ghost use Rattle.whole_map.specs.Passes.{rowsLoaded, Rows};
+ghost use Rattle.whole_map.specs.LevelPasses.{Finished};
 ghost use mathlib.Core.Bool.{true};
-ghost use Rattle.wavelet.specs.Maps.{every, everyCell, valueFits};
+ghost use Rattle.wavelet.specs.Maps.{every, valueFits};
 
 // The even places of a row of heights to the front of a row as long.
 fn load_evens(heights: &[u16], row: &mut [i32])
@@ -103,18 +105,33 @@ fn store_row(row: &[i32], heights: &mut [u16])
     store_odds(row, heights);
 }
 
-// The work area's rows in halves to heights, which they fit.
-pub fn store_rows(work: &[i32], heights: &mut [u16], width: usize, height: usize)
-    requires { ⌜ Rows (length (now work)) width width height × Rows (length (now heights)) width width height × (everyCell width height (λ r c. valueFits 0 (cells width (at (now work)) r c)) ≡ true) ⌝ }
-    ensures { λ _. ⌜ heightsAt (now (heights .exit)) ≡ flat width (rowsReturned width height (cells width (at (now (work .entry)))) (cells width (heightsAt (now (heights .entry))))) ⌝ }
+// A row in halves, whose numbers fit, to a row of heights as long, and cleared.
+fn finish_row(row: &mut [i32], heights: &mut [u16])
+    requires { ⌜ (length (now row) ≡ length (now heights)) × (every (length (now row)) (λ i. valueFits 0 (at (now row) i)) ≡ true) ⌝ }
+    ensures { λ _. ⌜ heightsAt (now (heights .exit)) ≡ fronted (length (now (row .entry))) (joined (halvesOf (length (now (row .entry))) (at (now (row .entry))))) (heightsAt (now (heights .entry))) ⌝ }
+    ensures { λ _. ⌜ at (now (row .exit)) ≡ fronted (length (now (row .entry))) (λ _. pos 0) (at (now (row .entry))) ⌝ }
+{
+    store_row(row, heights);
+    let n = row.len();
+    rowwise::clear(row, n);
+}
+
+// The work area's rows in halves to heights, each tested, stored and cleared while it is near. False at the first number that is no height.
+pub fn finish_rows(work: &mut [i32], heights: &mut [u16], width: usize, height: usize) -> bool
+    requires { ⌜ Rows (length (now work)) width width height × Rows (length (now heights)) width width height ⌝ }
+    ensures { λ ok. ⌜ Finished ok width height (at (now (work .entry))) (at (now (work .exit))) (heightsAt (now (heights .entry))) (heightsAt (now (heights .exit))) ⌝ }
 {
     let mut r = 0;
     while r < height {
         let a = r * width;
         let e = a + width;
-        store_row(&work[a..e], &mut heights[a..e]);
+        if !rowwise::all_between(&work[a..e], 0, 65535) {
+            return false;
+        }
+        finish_row(&mut work[a..e], &mut heights[a..e]);
         r += 1;
     }
+    true
 }
 
 // The first n heights set to 0.

@@ -3,18 +3,22 @@
 // The module is private: only this crate, which meets what is required, can call it.
 use crate::passes;
 use crate::rowwise;
+use lifting::line;
+use lifting::rows;
 use wavelet::sizes;
 ghost use mathlib.Core.Path.{_≡_};
 ghost use Prim.Native.Nat.{_+_, _-_, _*_, _<_, _≤_};
 ghost use lib.IntN.{pos, negℤ};
+ghost use lib.Dec.{ltb};
 ghost use lib.ListN.{length};
 ghost use Rattle.numbers.specs.Signal.{at, pick, windowed, spliced};
 ghost use Rattle.lifting.specs.Line.{lo, count};
+ghost use Rattle.lifting.specs.Halves.{liftedInPlace};
 ghost use Rattle.wavelet.specs.Limits.{range};
 ghost use Rattle.wavelet.specs.Plane.{cells, flat};
 ghost use Rattle.whole_map.specs.Rowwise.{partedInPlace, wovenInPlace};
-ghost use Rattle.whole_map.specs.Passes.{Rows, KeptFrom, even, planeRow, levelRow, rowsMapped, rowsStored, rowsFetched};
-ghost use Rattle.whole_map.specs.LevelPasses.{levelGrid, columnsLiftedInPlace, levelLifted, columnsUnliftedInPlace, levelUnlifted, planeWritten, leastFit, rowsBetween, regionInRange, Doubling, LevelBack, LevelsBack};
+ghost use Rattle.whole_map.specs.Passes.{Rows, KeptFrom, even, planeRow, levelRow, rowsMapped, rowsStored, rowsFetched, rowsLoaded};
+ghost use Rattle.whole_map.specs.LevelPasses.{levelGrid, columnsLiftedInPlace, levelUnlifted, rowBack, planeWritten, rowsBetween, regionInRange, Doubling, LevelsBack};
 
 // The plane's row for row r of a level: the low rows come first.
 fn plane_row(height: usize, r: usize) -> usize
@@ -47,38 +51,7 @@ fn lift_columns(work: &mut [i32], stride: usize, width: usize, height: usize)
     if height < 2 {
         return;
     }
-    passes::predict_odd_rows(work, stride, width, height);
-    passes::update_even_rows(work, stride, width, height);
-}
-
-// All columns back.
-fn unlift_columns(work: &mut [i32], stride: usize, width: usize, height: usize)
-    requires { ⌜ Rows (length (now work)) stride width height ⌝ }
-    ensures { λ _. ⌜ at (now (work .exit)) ≡ flat stride (columnsUnliftedInPlace width height (cells stride (at (now (work .entry))))) ⌝ }
-{
-    if height < 2 {
-        return;
-    }
-    passes::unupdate_even_rows(work, stride, width, height);
-    passes::unpredict_odd_rows(work, stride, width, height);
-}
-
-// One level forward, in place: all columns, then all rows.
-fn lift_level(work: &mut [i32], stride: usize, width: usize, height: usize)
-    requires { ⌜ Rows (length (now work)) stride width height ⌝ }
-    ensures { λ _. ⌜ at (now (work .exit)) ≡ flat stride (levelLifted width height (cells stride (at (now (work .entry))))) ⌝ }
-{
-    lift_columns(work, stride, width, height);
-    passes::lift_rows(work, stride, width, height);
-}
-
-// One level back, in place: all rows, then all columns.
-fn unlift_level(work: &mut [i32], stride: usize, width: usize, height: usize)
-    requires { ⌜ Rows (length (now work)) stride width height ⌝ }
-    ensures { λ _. ⌜ at (now (work .exit)) ≡ flat stride (levelUnlifted width height (cells stride (at (now (work .entry))))) ⌝ }
-{
-    passes::unlift_rows(work, stride, width, height);
-    unlift_columns(work, stride, width, height);
+    passes::lift_pairs(work, stride, width, height);
 }
 
 // n numbers from place a of one area to place b of another.
@@ -91,7 +64,27 @@ fn copy_part(from: &[i32], a: usize, to: &mut [i32], b: usize, n: usize)
     rowwise::copy(&from[a..e], &mut to[b..f]);
 }
 
-// The rows of a level to the plane.
+// The same, a row in halves that is lifted on the way.
+fn lift_part(from: &[i32], a: usize, to: &mut [i32], b: usize, n: usize)
+    requires { ⌜ (a + n ≤ length (now from)) × (b + n ≤ length (now to)) ⌝ }
+    ensures { λ _. ⌜ at (now (to .exit)) ≡ spliced b n (liftedInPlace n (windowed a n (at (now (from .entry))))) (at (now (to .entry))) ⌝ }
+{
+    let e = a + n;
+    let f = b + n;
+    rowwise::lift_to(&from[a..e], &mut to[b..f]);
+}
+
+// The same, a row that goes from its own order into halves.
+fn halve_part(from: &[i32], a: usize, to: &mut [i32], b: usize, n: usize)
+    requires { ⌜ (a + n ≤ length (now from)) × (b + n ≤ length (now to)) ⌝ }
+    ensures { λ _. ⌜ at (now (to .exit)) ≡ spliced b n (partedInPlace n (windowed a n (at (now (from .entry))))) (at (now (to .entry))) ⌝ }
+{
+    let e = a + n;
+    let f = b + n;
+    rowwise::part_line(&from[a..e], &mut to[b..f]);
+}
+
+// The rows of a level, lifted, to the plane.
 fn store_level(
     work: &[i32],
     plane: &mut [i32],
@@ -101,12 +94,31 @@ fn store_level(
     height: usize,
 )
     requires { ⌜ Rows (length (now work)) stride width height × Rows (length (now plane)) across width height ⌝ }
-    ensures { λ _. ⌜ at (now (plane .exit)) ≡ flat across (rowsStored width height (cells stride (at (now (work .entry)))) (cells across (at (now (plane .entry))))) ⌝ }
+    ensures { λ _. ⌜ at (now (plane .exit)) ≡ flat across (rowsStored width height (rowsMapped (liftedInPlace width) width height (cells stride (at (now (work .entry))))) (cells across (at (now (plane .entry))))) ⌝ }
 {
     let mut r = 0;
     while r < height {
         let a = level_row(height, r) * stride;
-        copy_part(work, a, plane, r * across, width);
+        lift_part(work, a, plane, r * across, width);
+        r += 1;
+    }
+}
+
+// The low-low part of a level, from the plane's corner to the rows of the next level, each in halves.
+fn load_low(
+    plane: &[i32],
+    work: &mut [i32],
+    across: usize,
+    stride: usize,
+    width: usize,
+    height: usize,
+)
+    requires { ⌜ Rows (length (now plane)) across width height × Rows (length (now work)) stride width height ⌝ }
+    ensures { λ _. ⌜ at (now (work .exit)) ≡ flat stride (rowsLoaded width height (cells across (at (now (plane .entry)))) (cells stride (at (now (work .entry))))) ⌝ }
+{
+    let mut r = 0;
+    while r < height {
+        halve_part(plane, r * across, work, r * stride, width);
         r += 1;
     }
 }
@@ -118,8 +130,8 @@ fn made_of(r: usize, from: usize) -> usize
     if r % 2 == 0 { from } else { 0 }
 }
 
-// The rows of a level from the plane, the even ones from column `from` on.
-fn fetch_level(
+// Row r of a level from the plane, an even one from column `from` on, and lifted back.
+fn fetch_row(
     plane: &[i32],
     work: &mut [i32],
     across: usize,
@@ -127,27 +139,40 @@ fn fetch_level(
     from: usize,
     width: usize,
     height: usize,
+    r: usize,
+)
+    requires { ⌜ Rows (length (now plane)) across width height × Rows (length (now work)) stride width height × (from ≤ width) × (r < height) ⌝ }
+    ensures { λ _. ⌜ at (now (work .exit)) ≡ rowBack from width height stride (cells across (at (now (plane .entry)))) (at (now (work .entry))) r ⌝ }
+{
+    let made = made_of(r, from);
+    let a = plane_row(height, r) * across + made;
+    let b = r * stride;
+    let e = b + width;
+    copy_part(plane, a, work, b + made, width - made);
+    line::unlift(&mut work[b..e]);
+}
+
+// The same, where there is a row r.
+fn fetch_last(
+    plane: &[i32],
+    work: &mut [i32],
+    across: usize,
+    stride: usize,
+    from: usize,
+    width: usize,
+    height: usize,
+    r: usize,
 )
     requires { ⌜ Rows (length (now plane)) across width height × Rows (length (now work)) stride width height × (from ≤ width) ⌝ }
-    ensures { λ _. ⌜ at (now (work .exit)) ≡ flat stride (rowsFetched from width height (cells across (at (now (plane .entry)))) (cells stride (at (now (work .entry))))) ⌝ }
+    ensures { λ _. ⌜ at (now (work .exit)) ≡ pick (ltb r height) (rowBack from width height stride (cells across (at (now (plane .entry)))) (at (now (work .entry))) r) (at (now (work .entry))) ⌝ }
 {
-    let mut r = 0;
-    while r < height {
-        let made = made_of(r, from);
-        let a = plane_row(height, r) * across + made;
-        copy_part(plane, a, work, r * stride + made, width - made);
-        r += 1;
+    if height <= r {
+        return;
     }
+    fetch_row(plane, work, across, stride, from, width, height, r);
 }
 
-// The low-low part of a level into halves, for the next level, and from halves into its own order.
-fn part_low(work: &mut [i32], stride: usize, width: usize, height: usize)
-    requires { ⌜ Rows (length (now work)) stride width height × (width ≤ 2049) × (stride ≤ 65568) ⌝ }
-    ensures { λ _. ⌜ at (now (work .exit)) ≡ flat (2 * stride) (rowsMapped (partedInPlace (count lo width)) (count lo width) (count lo height) (cells (2 * stride) (at (now (work .entry))))) ⌝ }
-{
-    passes::part_rows(work, 2 * stride, sizes::half(width), sizes::half(height));
-}
-
+// The low-low part of a level from halves into its own order.
 fn weave_low(work: &mut [i32], stride: usize, width: usize, height: usize)
     requires { ⌜ Rows (length (now work)) stride width height × (width ≤ 2049) × (stride ≤ 65568) ⌝ }
     ensures { λ _. ⌜ at (now (work .exit)) ≡ flat (2 * stride) (rowsMapped (wovenInPlace (count lo width)) (count lo width) (count lo height) (cells (2 * stride) (at (now (work .entry))))) ⌝ }
@@ -169,21 +194,15 @@ pub fn forward_levels(
     ensures { λ _. ⌜ at (now (plane .exit)) ≡ flat across (planeWritten levels width height (levelGrid width (cells stride (at (now (work .entry))))) (cells across (at (now (plane .entry))))) ⌝ }
     ensures { λ _. ⌜ KeptFrom ((height - 1) * stride + width) (at (now (work .entry))) (at (now (work .exit))) ⌝ }
 {
-    lift_level(work, stride, width, height);
+    lift_columns(work, stride, width, height);
     store_level(work, plane, stride, across, width, height);
     if levels < 2 {
         return;
     }
-    part_low(work, stride, width, height);
-    forward_levels(
-        plane,
-        work,
-        across,
-        2 * stride,
-        sizes::half(width),
-        sizes::half(height),
-        levels - 1,
-    );
+    let w = sizes::half(width);
+    let h = sizes::half(height);
+    load_low(plane, work, across, 2 * stride, w, h);
+    forward_levels(plane, work, across, 2 * stride, w, h, levels - 1);
 }
 
 // The largest magnitude of a level's numbers, as the least of them.
@@ -192,17 +211,6 @@ fn lowest(level: usize) -> i32
     ensures { λ r. ⌜ r ≡ negℤ (pos (range level)) ⌝ }
 {
     0 - sizes::range_of(level)
-}
-
-// The least value that a rebuilt grid may have, `level` being the level that it is the low-low part of, 0 for the map.
-fn least(level: usize) -> i32
-    requires { ⌜ level ≤ 5 ⌝ }
-    ensures { λ r. ⌜ r ≡ leastFit level ⌝ }
-{
-    if level == 0 {
-        return 0;
-    }
-    lowest(level)
 }
 
 // Whether the numbers of some rows lie from `low` to `high`: rows `first` up to `last`, columns `from` up to `to`.
@@ -231,68 +239,6 @@ fn rows_between(
     true
 }
 
-// A level back from its bands: the plane's rows fetched, the level lifted back, and its numbers tested.
-fn level_back(
-    plane: &[i32],
-    work: &mut [i32],
-    across: usize,
-    stride: usize,
-    from: usize,
-    width: usize,
-    height: usize,
-    level: usize,
-) -> bool
-    requires { ⌜ Rows (length (now plane)) across width height × Rows (length (now work)) stride width height × (from ≤ width) × (level ≤ 5) ⌝ }
-    ensures { λ ok. ⌜ LevelBack ok level from stride across width height (at (now (plane .entry))) (at (now (work .entry))) (at (now (work .exit))) ⌝ }
-{
-    fetch_level(plane, work, across, stride, from, width, height);
-    unlift_level(work, stride, width, height);
-    rows_between(
-        work,
-        stride,
-        0,
-        height,
-        0,
-        width,
-        least(level),
-        sizes::range_of(level),
-    )
-}
-
-// All levels back: first the low-low part with the levels left, then this level. False where a rebuilt value does not fit.
-pub fn back_levels(
-    plane: &[i32],
-    work: &mut [i32],
-    across: usize,
-    stride: usize,
-    width: usize,
-    height: usize,
-    levels: usize,
-    level: usize,
-) -> bool
-    requires { ⌜ Rows (length (now plane)) across width height × Rows (length (now work)) stride width height × Doubling levels stride width × (level + levels ≤ 5) ⌝ }
-    ensures { λ ok. ⌜ LevelsBack ok level levels stride across width height (at (now (plane .entry))) (at (now (work .entry))) (at (now (work .exit))) ⌝ }
-{
-    if levels < 2 {
-        return level_back(plane, work, across, stride, 0, width, height, level);
-    }
-    let w = sizes::half(width);
-    if !back_levels(
-        plane,
-        work,
-        across,
-        2 * stride,
-        w,
-        sizes::half(height),
-        levels - 1,
-        level + 1,
-    ) {
-        return false;
-    }
-    weave_low(work, stride, width, height);
-    level_back(plane, work, across, stride, w, width, height, level)
-}
-
 // Whether the numbers of some rows lie in a level's range.
 fn rows_in_range(
     plane: &[i32],
@@ -316,6 +262,87 @@ fn rows_in_range(
         lowest(level),
         sizes::range_of(level),
     )
+}
+
+// A level of more than one row back from its bands. Row by row, so that a row is still near when it is used again: a pair of rows is
+// fetched, and then the columns of the rows before it are lifted back.
+fn rows_back(
+    plane: &[i32],
+    work: &mut [i32],
+    across: usize,
+    stride: usize,
+    from: usize,
+    width: usize,
+    height: usize,
+)
+    requires { ⌜ Rows (length (now plane)) across width height × Rows (length (now work)) stride width height × (from ≤ width) × (1 < height) ⌝ }
+    ensures { λ _. ⌜ at (now (work .exit)) ≡ flat stride (levelUnlifted width height (cells stride (flat stride (rowsFetched from width height (cells across (at (now (plane .entry)))) (cells stride (at (now (work .entry)))))))) ⌝ }
+{
+    fetch_row(plane, work, across, stride, from, width, height, 0);
+    fetch_row(plane, work, across, stride, from, width, height, 1);
+    rows::unupdate_row(work, stride, width, 0, 1, 1);
+    let mut r = 1;
+    while r + 2 < height {
+        fetch_row(plane, work, across, stride, from, width, height, r + 1);
+        fetch_row(plane, work, across, stride, from, width, height, r + 2);
+        passes::unlift_pair(work, stride, width, height, r);
+        r += 2;
+    }
+    fetch_last(plane, work, across, stride, from, width, height, r + 1);
+    passes::unlift_pair(work, stride, width, height, r);
+}
+
+// A level back from its bands: the plane's rows fetched, all rows lifted back, and all columns.
+fn level_back(
+    plane: &[i32],
+    work: &mut [i32],
+    across: usize,
+    stride: usize,
+    from: usize,
+    width: usize,
+    height: usize,
+)
+    requires { ⌜ Rows (length (now plane)) across width height × Rows (length (now work)) stride width height × (from ≤ width) ⌝ }
+    ensures { λ _. ⌜ at (now (work .exit)) ≡ flat stride (levelUnlifted width height (cells stride (flat stride (rowsFetched from width height (cells across (at (now (plane .entry)))) (cells stride (at (now (work .entry)))))))) ⌝ }
+{
+    if height < 2 {
+        fetch_row(plane, work, across, stride, from, width, height, 0);
+        return;
+    }
+    rows_back(plane, work, across, stride, from, width, height);
+}
+
+// All levels back: first the low-low part with the levels left, whose numbers are tested, then this level. False where one does not fit.
+// The numbers of this level itself are for the caller to test.
+pub fn back_levels(
+    plane: &[i32],
+    work: &mut [i32],
+    across: usize,
+    stride: usize,
+    width: usize,
+    height: usize,
+    levels: usize,
+    level: usize,
+) -> bool
+    requires { ⌜ Rows (length (now plane)) across width height × Rows (length (now work)) stride width height × Doubling levels stride width × (level + levels ≤ 5) ⌝ }
+    ensures { λ ok. ⌜ LevelsBack ok level levels stride across width height (at (now (plane .entry))) (at (now (work .entry))) (at (now (work .exit))) ⌝ }
+{
+    if levels < 2 {
+        level_back(plane, work, across, stride, 0, width, height);
+        return true;
+    }
+    let w = sizes::half(width);
+    let h = sizes::half(height);
+    let next = 2 * stride;
+    if !back_levels(plane, work, across, next, w, h, levels - 1, level + 1) {
+        return false;
+    }
+    if !rows_in_range(work, next, 0, h, 0, w, level + 1) {
+        return false;
+    }
+    weave_low(work, stride, width, height);
+    level_back(plane, work, across, stride, w, width, height);
+    true
 }
 
 // Whether each coefficient of the plane lies in its level's range, `level` being that of this region's own bands.

@@ -14,6 +14,7 @@ ghost use Rattle.lifting.specs.Halves.{fronted};
 ghost use Rattle.wavelet.specs.Plane.{planeOf, mapBack, cells, flat};
 ghost use Rattle.wavelet.proofs.QuestionLaws.{Sized};
 ghost use Rattle.whole_map.specs.Rowwise.{heightsAt};
+ghost use Rattle.whole_map.specs.LevelPasses.{MapRebuilt};
 ghost use Rattle.whole_map.specs.Calls.{sizeQuestions, forwardQuestion, planeQuestions, backwardQuestion, zeros, passed, rebuilt};
 
 // Questions 2 to 5: 0, or the number of the first that says no. a, b and c are the lengths of the areas.
@@ -83,6 +84,24 @@ pub fn forward(
     0
 }
 
+// The map of a plane, where its rebuilt values fit, and work zero; else false, and what stands in both areas is for the caller to clear.
+fn rebuild(
+    plane: &[i32],
+    width: usize,
+    height: usize,
+    levels: usize,
+    heights: &mut [u16],
+    work: &mut [i32],
+) -> bool
+    requires { ⌜ Sized width height levels × (width * height ≤ length (now plane)) × (width * height ≤ length (now heights)) × (width * height ≤ length (now work)) ⌝ }
+    ensures { λ ok. ⌜ MapRebuilt ok width height levels (at (now (plane .entry))) (heightsAt (now (heights .entry))) (heightsAt (now (heights .exit))) (at (now (work .entry))) (at (now (work .exit))) ⌝ }
+{
+    if !levels::back_levels(plane, work, width, width, width, height, levels, 0) {
+        return false;
+    }
+    heights::finish_rows(work, heights, width, height)
+}
+
 // The map of a plane in range, where its rebuilt values fit; else 14, and heights and work are zero.
 fn restore(
     plane: &[i32],
@@ -100,13 +119,11 @@ fn restore(
     if !levels::in_range(plane, width, width, height, levels, 1) {
         return 7;
     }
-    if !levels::back_levels(plane, work, width, width, width, height, levels, 0) {
+    if !rebuild(plane, width, height, levels, heights, work) {
         heights::clear_heights(heights, width * height);
         rowwise::clear(work, width * height);
         return 14;
     }
-    heights::store_rows(work, heights, width, height);
-    rowwise::clear(work, width * height);
     0
 }
 

@@ -1,16 +1,18 @@
 // What is done to one row of numbers. The module is private: only this crate, which meets what is required, can call it.
+use lifting::sample;
 ghost use mathlib.Core.Path.{_≡_};
 ghost use Prim.Native.Nat.{_+_, _*_, _<_, _≤_};
 ghost use lib.IntN.{pos};
-ghost use lib.ListN.{length};
+ghost use lib.ListN.{length, set};
 ghost use Rattle.numbers.specs.Signal.{at};
-ghost use Rattle.lifting.specs.Line.{lo, hi, parted, joined};
-ghost use Rattle.lifting.specs.Halves.{halvesOf, inHalves, fronted};
-ghost use Rattle.lifting.specs.Passes.{evensCopied, oddsCopied};
+ghost use Rattle.numbers.specs.Word.{wrap32};
+ghost use Rattle.lifting.specs.Line.{lo, hi, count, predicted, updated, parted, joined};
+ghost use Rattle.lifting.specs.Halves.{halvesOf, inHalves, fronted, liftedInPlace};
+ghost use Rattle.lifting.specs.Passes.{highsChanged, lowsChanged, evensCopied, oddsCopied};
 ghost use Rattle.wavelet.specs.Maps.{every};
-ghost use Rattle.whole_map.specs.Rowwise.{partedInPlace, wovenInPlace, evensLaid, oddsLaid, between};
+ghost use Rattle.whole_map.specs.Rowwise.{wovenInPlace, evensLaid, oddsLaid, highsLaid, between};
 
-// The longest row that is parted or woven in place: half the largest width, rounded up.
+// The longest row that is woven in place: half the largest width, rounded up.
 pub const LONGEST: usize = 1025;
 
 // Numbers copied to the front of `to`.
@@ -24,6 +26,69 @@ pub fn copy(from: &[i32], to: &mut [i32])
         to[i] = from[i];
         i += 1;
     }
+}
+
+// Place p of `out` from place p of a row, predicted by two other places of it.
+fn predict_to(row: &[i32], out: &mut [i32], p: usize, a: usize, b: usize)
+    requires { ⌜ (p < length (now row)) × (a < length (now row)) × (b < length (now row)) × (p < length (now out)) ⌝ }
+    ensures { λ _. ⌜ now (out .exit) ≡ set (now (out .entry)) p (predicted wrap32 (at (now (row .entry)) p) (at (now (row .entry)) a) (at (now (row .entry)) b)) ⌝ }
+{
+    out[p] = sample::predict(row[p], row[a], row[b]);
+}
+
+// Place p of `out` from place p of a row, updated by two other places of `out`.
+fn update_to(row: &[i32], out: &mut [i32], p: usize, a: usize, b: usize)
+    requires { ⌜ (p < length (now row)) × (a < length (now out)) × (b < length (now out)) × (p < length (now out)) ⌝ }
+    ensures { λ _. ⌜ now (out .exit) ≡ set (now (out .entry)) p (updated wrap32 (at (now (row .entry)) p) (at (now (out .entry)) a) (at (now (out .entry)) b)) ⌝ }
+{
+    out[p] = sample::update(row[p], out[a], out[b]);
+}
+
+// The high numbers of a row, predicted, to a row as long: each by its two low neighbours; the last of an even row has one, which counts twice.
+fn lift_highs(row: &[i32], out: &mut [i32], low: usize)
+    requires { ⌜ (low ≡ count lo (length (now row))) × (1 < length (now row)) × (length (now row) ≡ length (now out)) ⌝ }
+    ensures { λ _. ⌜ at (now (out .exit)) ≡ highsLaid (length (now (row .entry))) (highsChanged (predicted wrap32) (length (now (row .entry))) (at (now (row .entry)))) (at (now (out .entry))) ⌝ }
+{
+    let mut n = 0;
+    while n + 1 < low {
+        predict_to(row, out, low + n, n, n + 1);
+        n += 1;
+    }
+    if low + n < row.len() {
+        predict_to(row, out, low + n, n, n);
+    }
+}
+
+// Then its low numbers, updated, each by its two high neighbours there; the first has one, and so has the last of an odd row.
+fn lift_lows(row: &[i32], out: &mut [i32], low: usize)
+    requires { ⌜ (low ≡ count lo (length (now row))) × (1 < length (now row)) × (length (now row) ≡ length (now out)) ⌝ }
+    ensures { λ _. ⌜ at (now (out .exit)) ≡ lowsChanged (updated wrap32) (length (now (row .entry))) (highsLaid (length (now (row .entry))) (at (now (out .entry))) (at (now (row .entry)))) ⌝ }
+{
+    let high = row.len() - low;
+    update_to(row, out, 0, low, low);
+    let mut n = 1;
+    while n < high {
+        update_to(row, out, n, low + n - 1, low + n);
+        n += 1;
+    }
+    if n < low {
+        update_to(row, out, n, low + n - 1, low + n - 1);
+    }
+}
+
+// A row in halves, lifted, to a row as long.
+pub fn lift_to(row: &[i32], out: &mut [i32])
+    requires { ⌜ length (now row) ≡ length (now out) ⌝ }
+    ensures { λ _. ⌜ at (now (out .exit)) ≡ liftedInPlace (length (now (row .entry))) (at (now (row .entry))) ⌝ }
+{
+    let n = row.len();
+    if n < 2 {
+        copy(row, out);
+        return;
+    }
+    let low = n - n / 2;
+    lift_highs(row, out, low);
+    lift_lows(row, out, low);
 }
 
 // The first n numbers of an area set to 0.
@@ -52,7 +117,7 @@ pub fn all_between(row: &[i32], low: i32, high: i32) -> bool
 }
 
 // The even places of a line, and after them its odd places, to a row as long.
-fn part_line(line: &[i32], row: &mut [i32])
+pub fn part_line(line: &[i32], row: &mut [i32])
     requires { ⌜ length (now line) ≡ length (now row) ⌝ }
     ensures { λ _. ⌜ at (now (row .exit)) ≡ inHalves (length (now (line .entry))) (parted (at (now (line .entry)))) (at (now (row .entry))) ⌝ }
 {
@@ -125,17 +190,6 @@ fn weave_odds(row: &[i32], line: &mut [i32])
         line[2 * j + 1] = row[low + j];
         j += 1;
     }
-}
-
-// A row from its own order into halves, in place, through a local line.
-pub fn part(row: &mut [i32])
-    requires { ⌜ length (now row) ≤ 1025 ⌝ }
-    ensures { λ _. ⌜ at (now (row .exit)) ≡ partedInPlace (length (now (row .entry))) (at (now (row .entry))) ⌝ }
-{
-    let mut line = [0; LONGEST];
-    let n = row.len();
-    copy(row, &mut line);
-    part_line(&line[0..n], row);
 }
 
 // A row from halves into its own order, in place, through a local line.

@@ -1,10 +1,11 @@
--- `levels::back_levels` meets its contract: the low-low part by the levels left, which fall, and then this level. Assumes nothing.
+-- `levels::back_levels` meets its contract: the low-low part by the levels left, which fall, its test, and then this level. Assumes nothing.
 use mathlib.Core.Path.{refl, _∙_}
 use native.Mathlib.Omega.{arith}
 use borrow.Author.Needs.{needs}
 use borrow.Author.Tests.{not-true, not-false}
 use Rattle.lifting.proofs.LineLaws.{count-lo}
-use Rattle.whole_map.proofs.LevelSteps.{stride-small, doubled, rows-next, rows-corner, back-end, back-no, back-step}
+use Rattle.whole_map.proofs.GridSweep.{rows-kept}
+use Rattle.whole_map.proofs.LevelSteps.{stride-small, doubled, rows-next, rows-corner, back-end, back-no, back-low, back-step}
 use Prim.Native.Nat.{ℕ, _<_}
 use borrow.Fn.Kinds.{In}
 use borrow.Fn.PlainCycle.{Measures, is, falls, and}
@@ -13,6 +14,7 @@ use Rattle.whole_map.proofs.levels.back_levels.Kinds as back-levels-kin
 use Rattle.whole_map.proofs.levels.+back_levels.Lts-back_levels as back-levels-lts
 use Rattle.wavelet.proofs.sizes.half.Reads as half-reads
 use Rattle.whole_map.proofs.levels.level_back.Reads as level-back-reads
+use Rattle.whole_map.proofs.levels.rows_in_range.Reads as rows-in-range-reads
 use Rattle.whole_map.proofs.levels.weave_low.Reads as weave-low-reads
 use Rattle.whole_map.proofs.levels.+back_levels.{statement}
 use Rattle.whole_map.proofs.levels.+back_levels.Tie.{close}
@@ -35,10 +37,12 @@ back-levels-level-back-requires : (t : ℕ) → back-levels-lts.Need-level-back-
   half-reads.Learnt,
   back-levels-below t,
   back-levels.Post,
+  rows-in-range-reads.Asked,
+  rows-in-range-reads.Learnt,
   weave-low-reads.Asked,
   weave-low-reads.Learnt,
 ) (back-levels-at t) back-levels.Post
-back-levels-level-back-requires t c κs = let start = c .before .before in (start .pre .1 .0, start .pre .1 .1, omega arith, omega arith)
+back-levels-level-back-requires t c κs = let start = c .before .before in (start .pre .1 .0, start .pre .1 .1, omega arith)
 
 back-levels-same-length : (t : ℕ) → back-levels-lts.Need-same-length (
   level-back-reads.Asked,
@@ -47,6 +51,8 @@ back-levels-same-length : (t : ℕ) → back-levels-lts.Need-same-length (
   half-reads.Learnt,
   back-levels-below t,
   back-levels.Post,
+  rows-in-range-reads.Asked,
+  rows-in-range-reads.Learnt,
   weave-low-reads.Asked,
   weave-low-reads.Learnt,
 ) (back-levels-at t) back-levels.Post
@@ -59,12 +65,14 @@ back-levels-returns : (t : ℕ) → back-levels-lts.Need-returns (
   half-reads.Learnt,
   back-levels-below t,
   back-levels.Post,
+  rows-in-range-reads.Asked,
+  rows-in-range-reads.Learnt,
   weave-low-reads.Asked,
   weave-low-reads.Learnt,
 ) (back-levels-at t) back-levels.Post
 back-levels-returns t c =
     let start = c .before .before .before .before in
-    back-end _ _ _ _ _ _ _ _ _ _ _ (start .pre .1 .1) (start .pre .1 .2 .some) (c .before .before .before .if1 .taken) (c .before .level-back .ensures)
+    back-end _ _ _ _ _ _ _ _ _ _ (start .pre .1 .1) (start .pre .1 .2 .some) (c .before .before .before .if1 .taken) (c .before .level-back .ensures)
 
 back-levels-half-requires : (t : ℕ) → back-levels-lts.Need-half-requires (
   level-back-reads.Asked,
@@ -73,22 +81,12 @@ back-levels-half-requires : (t : ℕ) → back-levels-lts.Need-half-requires (
   half-reads.Learnt,
   back-levels-below t,
   back-levels.Post,
+  rows-in-range-reads.Asked,
+  rows-in-range-reads.Learnt,
   weave-low-reads.Asked,
   weave-low-reads.Learnt,
 ) (back-levels-at t) back-levels.Post
 back-levels-half-requires t c κs = search needs
-
-back-levels-mul-back-levels : (t : ℕ) → back-levels-lts.Need-mul-back-levels (
-  level-back-reads.Asked,
-  level-back-reads.Learnt,
-  half-reads.Asked,
-  half-reads.Learnt,
-  back-levels-below t,
-  back-levels.Post,
-  weave-low-reads.Asked,
-  weave-low-reads.Learnt,
-) (back-levels-at t) back-levels.Post
-back-levels-mul-back-levels t c = omega (arith, stride-small _ _ _ (c .before .before .before .pre .1 .2))
 
 back-levels-half-requires-2 : (t : ℕ) → back-levels-lts.Need-half-requires-2 (
   level-back-reads.Asked,
@@ -97,10 +95,26 @@ back-levels-half-requires-2 : (t : ℕ) → back-levels-lts.Need-half-requires-2
   half-reads.Learnt,
   back-levels-below t,
   back-levels.Post,
+  rows-in-range-reads.Asked,
+  rows-in-range-reads.Learnt,
   weave-low-reads.Asked,
   weave-low-reads.Learnt,
 ) (back-levels-at t) back-levels.Post
 back-levels-half-requires-2 t c κs = search needs
+
+back-levels-mul-next : (t : ℕ) → back-levels-lts.Need-mul-next (
+  level-back-reads.Asked,
+  level-back-reads.Learnt,
+  half-reads.Asked,
+  half-reads.Learnt,
+  back-levels-below t,
+  back-levels.Post,
+  rows-in-range-reads.Asked,
+  rows-in-range-reads.Learnt,
+  weave-low-reads.Asked,
+  weave-low-reads.Learnt,
+) (back-levels-at t) back-levels.Post
+back-levels-mul-next t c = omega (arith, stride-small _ _ _ (c .before .before .before .pre .1 .2))
 
 back-levels-sub-back-levels : (t : ℕ) → back-levels-lts.Need-sub-back-levels (
   level-back-reads.Asked,
@@ -109,6 +123,8 @@ back-levels-sub-back-levels : (t : ℕ) → back-levels-lts.Need-sub-back-levels
   half-reads.Learnt,
   back-levels-below t,
   back-levels.Post,
+  rows-in-range-reads.Asked,
+  rows-in-range-reads.Learnt,
   weave-low-reads.Asked,
   weave-low-reads.Learnt,
 ) (back-levels-at t) back-levels.Post
@@ -121,6 +137,8 @@ back-levels-add-back-levels : (t : ℕ) → back-levels-lts.Need-add-back-levels
   half-reads.Learnt,
   back-levels-below t,
   back-levels.Post,
+  rows-in-range-reads.Asked,
+  rows-in-range-reads.Learnt,
   weave-low-reads.Asked,
   weave-low-reads.Learnt,
 ) (back-levels-at t) back-levels.Post
@@ -133,16 +151,19 @@ back-levels-back-levels-requires : (t : ℕ) → back-levels-lts.Need-back-level
   half-reads.Learnt,
   back-levels-below t,
   back-levels.Post,
+  rows-in-range-reads.Asked,
+  rows-in-range-reads.Learnt,
   weave-low-reads.Asked,
   weave-low-reads.Learnt,
 ) (back-levels-at t) back-levels.Post
 back-levels-back-levels-requires t c κs =
-    let half = c .before .before in
+    let half2 = c .before in
+    let half = half2 .before in
     let start = half .before .before in (
       omega arith,
       (
-        rows-corner _ _ _ _ _ _ _ refl (half .half .ensures) (c .half2 .ensures) (start .pre .1 .0),
-        rows-next _ _ _ _ _ _ _ refl (half .half .ensures) (c .half2 .ensures) (start .pre .1 .1),
+        rows-corner _ _ _ _ _ _ _ refl (half .half .ensures) (half2 .half2 .ensures) (start .pre .1 .0),
+        rows-next _ _ _ _ _ _ _ refl (half .half .ensures) (half2 .half2 .ensures) (start .pre .1 .1),
         doubled _ _ _ _ (start .pre .1 .2) (half .before .if1 .left) (half .half .ensures),
         omega arith,
       ),
@@ -155,6 +176,8 @@ back-levels-same-length-2 : (t : ℕ) → back-levels-lts.Need-same-length-2 (
   half-reads.Learnt,
   back-levels-below t,
   back-levels.Post,
+  rows-in-range-reads.Asked,
+  rows-in-range-reads.Learnt,
   weave-low-reads.Asked,
   weave-low-reads.Learnt,
 ) (back-levels-at t) back-levels.Post
@@ -167,48 +190,50 @@ back-levels-returns-2 : (t : ℕ) → back-levels-lts.Need-returns-2 (
   half-reads.Learnt,
   back-levels-below t,
   back-levels.Post,
+  rows-in-range-reads.Asked,
+  rows-in-range-reads.Learnt,
   weave-low-reads.Asked,
   weave-low-reads.Learnt,
 ) (back-levels-at t) back-levels.Post
 back-levels-returns-2 t c =
     let again = c .before .before in
-    let half2 = again .before in
-    let half = half2 .before .before in
+    let half2 = again .before .before in
+    let half = half2 .before in
     let start = half .before .before in
-    back-no _ _ _ _ _ _ _ _ _ _ _ _ _ (start .pre .1 .1) (half .before .if1 .left) (half .half .ensures) (half2 .half2 .ensures) (not-true _ (c .if2 .taken)) (again .back-levels .ensures)
+    back-no _ _ _ _ _ _ _ _ _ _ _ _ _ (start .pre .1 .1) (half .before .if1 .left) (half .half .ensures) (half2 .half2 .ensures) (again .back-levels .ensures) (not-true _ (c .if2 .taken))
 
-back-levels-weave-low-requires : (t : ℕ) → back-levels-lts.Need-weave-low-requires (
+back-levels-add-rows-in-range : (t : ℕ) → back-levels-lts.Need-add-rows-in-range (
   level-back-reads.Asked,
   level-back-reads.Learnt,
   half-reads.Asked,
   half-reads.Learnt,
   back-levels-below t,
   back-levels.Post,
+  rows-in-range-reads.Asked,
+  rows-in-range-reads.Learnt,
   weave-low-reads.Asked,
   weave-low-reads.Learnt,
 ) (back-levels-at t) back-levels.Post
-back-levels-weave-low-requires t c κs =
+back-levels-add-rows-in-range t c = search needs
+
+back-levels-rows-in-range-requires : (t : ℕ) → back-levels-lts.Need-rows-in-range-requires (
+  level-back-reads.Asked,
+  level-back-reads.Learnt,
+  half-reads.Asked,
+  half-reads.Learnt,
+  back-levels-below t,
+  back-levels.Post,
+  rows-in-range-reads.Asked,
+  rows-in-range-reads.Learnt,
+  weave-low-reads.Asked,
+  weave-low-reads.Learnt,
+) (back-levels-at t) back-levels.Post
+back-levels-rows-in-range-requires t c κs =
     let again = c .before .before .before in
-    let start = again .before .before .before .before .before in
-    (rw (again .back-levels .kept .1 .0) (start .pre .1 .1), start .pre .1 .2 .narrow, omega (arith, stride-small _ _ _ (start .pre .1 .2)))
-
-back-levels-level-back-requires-2 : (t : ℕ) → back-levels-lts.Need-level-back-requires-2 (
-  level-back-reads.Asked,
-  level-back-reads.Learnt,
-  half-reads.Asked,
-  half-reads.Learnt,
-  back-levels-below t,
-  back-levels.Post,
-  weave-low-reads.Asked,
-  weave-low-reads.Learnt,
-) (back-levels-at t) back-levels.Post
-back-levels-level-back-requires-2 t c κs =
-    let weave = c .before .before in
-    let again = weave .before .before .before .before in
-    let half = again .before .before .before in
+    let half2 = again .before .before in
+    let half = half2 .before in
     let start = half .before .before in
-    let l = count-lo (start .args .width) in
-    (start .pre .1 .0, rw (weave .weave-low .kept .0 ∙ again .back-levels .kept .1 .0) (start .pre .1 .1), omega (arith, half .half .ensures), omega arith)
+    (rows-next _ _ _ _ _ _ _ (again .back-levels .kept .1 .0) (half .half .ensures) (half2 .half2 .ensures) (start .pre .1 .1), omega arith, omega arith, omega arith)
 
 back-levels-same-length-3 : (t : ℕ) → back-levels-lts.Need-same-length-3 (
   level-back-reads.Asked,
@@ -217,6 +242,8 @@ back-levels-same-length-3 : (t : ℕ) → back-levels-lts.Need-same-length-3 (
   half-reads.Learnt,
   back-levels-below t,
   back-levels.Post,
+  rows-in-range-reads.Asked,
+  rows-in-range-reads.Learnt,
   weave-low-reads.Asked,
   weave-low-reads.Learnt,
 ) (back-levels-at t) back-levels.Post
@@ -229,16 +256,97 @@ back-levels-returns-3 : (t : ℕ) → back-levels-lts.Need-returns-3 (
   half-reads.Learnt,
   back-levels-below t,
   back-levels.Post,
+  rows-in-range-reads.Asked,
+  rows-in-range-reads.Learnt,
   weave-low-reads.Asked,
   weave-low-reads.Learnt,
 ) (back-levels-at t) back-levels.Post
 back-levels-returns-3 t c =
-    let weave = c .before .before .before .before in
-    let again = weave .before .before .before .before in
-    let half2 = again .before in
-    let half = half2 .before .before in
+    let test = c .before in
+    let fits = test .before .before in
+    let again = fits .before .before in
+    let half2 = again .before .before in
+    let half = half2 .before in
     let start = half .before .before in
-    back-step _ _ _ _ _ _ _ _ _ _ _ _ _ _ _ _ (start .pre .1 .1) (half .before .if1 .left) (half .half .ensures) (half2 .half2 .ensures) (not-false _ (weave .before .before .if2 .left)) (again .back-levels .ensures) (weave .weave-low .ensures) (c .before .level-back2 .ensures)
+    back-low _ _ _ _ _ _ _ _ _ _ _ _ _ (start .pre .1 .1) (half .before .if1 .left) (half .half .ensures) (half2 .half2 .ensures) (again .back-levels .ensures) (not-false _ (fits .if2 .left)) _ (test .rows-in-range .ensures) (not-true _ (c .if3 .taken))
+
+back-levels-weave-low-requires : (t : ℕ) → back-levels-lts.Need-weave-low-requires (
+  level-back-reads.Asked,
+  level-back-reads.Learnt,
+  half-reads.Asked,
+  half-reads.Learnt,
+  back-levels-below t,
+  back-levels.Post,
+  rows-in-range-reads.Asked,
+  rows-in-range-reads.Learnt,
+  weave-low-reads.Asked,
+  weave-low-reads.Learnt,
+) (back-levels-at t) back-levels.Post
+back-levels-weave-low-requires t c κs =
+    let again = c .before .before .before .before .before .before in
+    let half2 = again .before .before in
+    let half = half2 .before in
+    let start = half .before .before in
+    (rows-kept (again .back-levels .kept .1 .0) (start .pre .1 .1), start .pre .1 .2 .narrow, omega (arith, stride-small _ _ _ (start .pre .1 .2)))
+
+back-levels-level-back-requires-2 : (t : ℕ) → back-levels-lts.Need-level-back-requires-2 (
+  level-back-reads.Asked,
+  level-back-reads.Learnt,
+  half-reads.Asked,
+  half-reads.Learnt,
+  back-levels-below t,
+  back-levels.Post,
+  rows-in-range-reads.Asked,
+  rows-in-range-reads.Learnt,
+  weave-low-reads.Asked,
+  weave-low-reads.Learnt,
+) (back-levels-at t) back-levels.Post
+back-levels-level-back-requires-2 t c κs =
+    let weave = c .before .before in
+    let again = weave .before .before .before .before .before .before .before in
+    let half2 = again .before .before in
+    let half = half2 .before in
+    let start = half .before .before in
+    let l = count-lo (start .args .width) in
+    (start .pre .1 .0, rows-kept (weave .weave-low .kept .0 ∙ again .back-levels .kept .1 .0) (start .pre .1 .1), omega (arith, half .half .ensures))
+
+back-levels-same-length-4 : (t : ℕ) → back-levels-lts.Need-same-length-4 (
+  level-back-reads.Asked,
+  level-back-reads.Learnt,
+  half-reads.Asked,
+  half-reads.Learnt,
+  back-levels-below t,
+  back-levels.Post,
+  rows-in-range-reads.Asked,
+  rows-in-range-reads.Learnt,
+  weave-low-reads.Asked,
+  weave-low-reads.Learnt,
+) (back-levels-at t) back-levels.Post
+back-levels-same-length-4 t c = search needs
+
+back-levels-returns-4 : (t : ℕ) → back-levels-lts.Need-returns-4 (
+  level-back-reads.Asked,
+  level-back-reads.Learnt,
+  half-reads.Asked,
+  half-reads.Learnt,
+  back-levels-below t,
+  back-levels.Post,
+  rows-in-range-reads.Asked,
+  rows-in-range-reads.Learnt,
+  weave-low-reads.Asked,
+  weave-low-reads.Learnt,
+) (back-levels-at t) back-levels.Post
+back-levels-returns-4 t c =
+    let weave = c .before .before .before .before in
+    let good = weave .before .before in
+    let test = good .before in
+    let fits = test .before .before in
+    let again = fits .before .before in
+    let half2 = again .before .before in
+    let half = half2 .before in
+    let start = half .before .before in
+    back-step _ _ _ _ _ _ _ _ _ _ _ _ _ (start .pre .1 .1) (half .before .if1 .left) (half .half .ensures) (half2 .half2 .ensures) (again .back-levels .ensures) (not-false _ (fits .if2 .left)) _ (test .rows-in-range .ensures)
+    _ _ (not-false _ (good .if3 .left)) (weave .weave-low .ensures) (c .before .level-back2 .ensures)
 
 pub +back-levels-spec : {M : Type 1} → statement M
 +back-levels-spec = close μ-back-levels λ t. back-levels-lts.spec (
@@ -248,6 +356,8 @@ pub +back-levels-spec : {M : Type 1} → statement M
   half-reads.Learnt,
   back-levels-below t,
   back-levels.Post,
+  rows-in-range-reads.Asked,
+  rows-in-range-reads.Learnt,
   weave-low-reads.Asked,
   weave-low-reads.Learnt,
 )
@@ -257,14 +367,18 @@ pub +back-levels-spec : {M : Type 1} → statement M
     (back-levels-same-length t)
     (back-levels-returns t)
     (back-levels-half-requires t)
-    (back-levels-mul-back-levels t)
     (back-levels-half-requires-2 t)
+    (back-levels-mul-next t)
     (back-levels-sub-back-levels t)
     (back-levels-add-back-levels t)
     (back-levels-back-levels-requires t)
     (back-levels-same-length-2 t)
     (back-levels-returns-2 t)
-    (back-levels-weave-low-requires t)
-    (back-levels-level-back-requires-2 t)
+    (back-levels-add-rows-in-range t)
+    (back-levels-rows-in-range-requires t)
     (back-levels-same-length-3 t)
     (back-levels-returns-3 t)
+    (back-levels-weave-low-requires t)
+    (back-levels-level-back-requires-2 t)
+    (back-levels-same-length-4 t)
+    (back-levels-returns-4 t)

@@ -10,8 +10,8 @@ use Rattle.whole_map.proofs.levels.forward_levels.Reads as forward-leve
 use Rattle.whole_map.proofs.levels.forward_levels.Kinds as forward-levels-kinds
 use Rattle.whole_map.proofs.levels.+forward_levels.Lts-forward_levels as forward-levels-lts
 use Rattle.wavelet.proofs.sizes.half.Reads as half-reads
-use Rattle.whole_map.proofs.levels.lift_level.Reads as lift-level-reads
-use Rattle.whole_map.proofs.levels.part_low.Reads as part-low-reads
+use Rattle.whole_map.proofs.levels.lift_columns.Reads as lift-columns-reads
+use Rattle.whole_map.proofs.levels.load_low.Reads as load-low-reads
 use Rattle.whole_map.proofs.levels.store_level.Reads as store-level-reads
 use Rattle.whole_map.proofs.levels.+forward_levels.{statement}
 use Rattle.whole_map.proofs.levels.+forward_levels.Tie.{close}
@@ -35,71 +35,71 @@ forward-levels-below t =
     (falls 2 forward-levels-kinds.ps _<_ μ-forward-levels t)
     forward-levels.Pre
 
-forward-levels-lift-level-requires : (t : ℕ) → forward-levels-lts.Need-lift-level-requires (
-  lift-level-reads.Asked,
-  lift-level-reads.Learnt,
+forward-levels-lift-columns-requires : (t : ℕ) → forward-levels-lts.Need-lift-columns-requires (
+  lift-columns-reads.Asked,
+  lift-columns-reads.Learnt,
   store-level-reads.Asked,
   store-level-reads.Learnt,
-  part-low-reads.Asked,
-  part-low-reads.Learnt,
   half-reads.Asked,
   half-reads.Learnt,
+  load-low-reads.Asked,
+  load-low-reads.Learnt,
   forward-levels-below t,
   forward-levels.Post,
 ) (forward-levels-at t) forward-levels.Post
-forward-levels-lift-level-requires t c κs = search needs
+forward-levels-lift-columns-requires t c κs = search needs
 
 forward-levels-store-level-requires : (t : ℕ) → forward-levels-lts.Need-store-level-requires (
-  lift-level-reads.Asked,
-  lift-level-reads.Learnt,
+  lift-columns-reads.Asked,
+  lift-columns-reads.Learnt,
   store-level-reads.Asked,
   store-level-reads.Learnt,
-  part-low-reads.Asked,
-  part-low-reads.Learnt,
   half-reads.Asked,
   half-reads.Learnt,
+  load-low-reads.Asked,
+  load-low-reads.Learnt,
   forward-levels-below t,
   forward-levels.Post,
 ) (forward-levels-at t) forward-levels.Post
 forward-levels-store-level-requires t c κs = search needs
 
 forward-levels-same-length : (t : ℕ) → forward-levels-lts.Need-same-length (
-  lift-level-reads.Asked,
-  lift-level-reads.Learnt,
+  lift-columns-reads.Asked,
+  lift-columns-reads.Learnt,
   store-level-reads.Asked,
   store-level-reads.Learnt,
-  part-low-reads.Asked,
-  part-low-reads.Learnt,
   half-reads.Asked,
   half-reads.Learnt,
+  load-low-reads.Asked,
+  load-low-reads.Learnt,
   forward-levels-below t,
   forward-levels.Post,
 ) (forward-levels-at t) forward-levels.Post
 forward-levels-same-length t c = search needs
 
 forward-levels-same-length-2 : (t : ℕ) → forward-levels-lts.Need-same-length-2 (
-  lift-level-reads.Asked,
-  lift-level-reads.Learnt,
+  lift-columns-reads.Asked,
+  lift-columns-reads.Learnt,
   store-level-reads.Asked,
   store-level-reads.Learnt,
-  part-low-reads.Asked,
-  part-low-reads.Learnt,
   half-reads.Asked,
   half-reads.Learnt,
+  load-low-reads.Asked,
+  load-low-reads.Learnt,
   forward-levels-below t,
   forward-levels.Post,
 ) (forward-levels-at t) forward-levels.Post
 forward-levels-same-length-2 t c = search needs
 
 forward-levels-returns : (t : ℕ) → forward-levels-lts.Need-returns (
-  lift-level-reads.Asked,
-  lift-level-reads.Learnt,
+  lift-columns-reads.Asked,
+  lift-columns-reads.Learnt,
   store-level-reads.Asked,
   store-level-reads.Learnt,
-  part-low-reads.Asked,
-  part-low-reads.Learnt,
   half-reads.Asked,
   half-reads.Learnt,
+  load-low-reads.Asked,
+  load-low-reads.Learnt,
   forward-levels-below t,
   forward-levels.Post,
 ) (forward-levels-at t) forward-levels.Post
@@ -107,184 +107,211 @@ forward-levels-returns t c =
     let store = c .before .before in
     let lift = store .before .before .before .before in
     let start = lift .before .before in
-    forward-end _ _ _ _ _ _ _ _ _ (start .pre .1 .1) (start .pre .1 .0 .apart) (lift .lift-level .ensures) (store .store-level .ensures) _ (start .pre .1 .2 .some) (c .if1 .taken)
-
-forward-levels-part-low-requires : (t : ℕ) → forward-levels-lts.Need-part-low-requires (
-  lift-level-reads.Asked,
-  lift-level-reads.Learnt,
-  store-level-reads.Asked,
-  store-level-reads.Learnt,
-  part-low-reads.Asked,
-  part-low-reads.Learnt,
-  half-reads.Asked,
-  half-reads.Learnt,
-  forward-levels-below t,
-  forward-levels.Post,
-) (forward-levels-at t) forward-levels.Post
-forward-levels-part-low-requires t c κs =
-    let store = c .before .before .before in
-    let lift = store .before .before .before .before in
-    let start = lift .before .before in
-    (rw (lift .lift-level .kept .0) (start .pre .1 .1), start .pre .1 .2 .narrow, omega (arith, stride-small _ _ _ (start .pre .1 .2)))
-
-forward-levels-mul-forward-levels : (t : ℕ) → forward-levels-lts.Need-mul-forward-levels (
-  lift-level-reads.Asked,
-  lift-level-reads.Learnt,
-  store-level-reads.Asked,
-  store-level-reads.Learnt,
-  part-low-reads.Asked,
-  part-low-reads.Learnt,
-  half-reads.Asked,
-  half-reads.Learnt,
-  forward-levels-below t,
-  forward-levels.Post,
-) (forward-levels-at t) forward-levels.Post
-forward-levels-mul-forward-levels t c =
-    let store = c .before .before .before .before .before .before .before in
-    let start = store .before .before .before .before .before .before in
-    omega (arith, stride-small _ _ _ (start .pre .1 .2))
+    forward-end _ _ _ _ _ _ _ _ _ (start .pre .1 .1) (start .pre .1 .0 .wide) (start .pre .1 .0 .apart) (lift .lift-columns .ensures) (store .store-level .ensures) _ (start .pre .1 .2 .some) (c .if1 .taken)
 
 forward-levels-half-requires : (t : ℕ) → forward-levels-lts.Need-half-requires (
-  lift-level-reads.Asked,
-  lift-level-reads.Learnt,
+  lift-columns-reads.Asked,
+  lift-columns-reads.Learnt,
   store-level-reads.Asked,
   store-level-reads.Learnt,
-  part-low-reads.Asked,
-  part-low-reads.Learnt,
   half-reads.Asked,
   half-reads.Learnt,
+  load-low-reads.Asked,
+  load-low-reads.Learnt,
   forward-levels-below t,
   forward-levels.Post,
 ) (forward-levels-at t) forward-levels.Post
 forward-levels-half-requires t c κs = search needs
 
 forward-levels-half-requires-2 : (t : ℕ) → forward-levels-lts.Need-half-requires-2 (
-  lift-level-reads.Asked,
-  lift-level-reads.Learnt,
+  lift-columns-reads.Asked,
+  lift-columns-reads.Learnt,
   store-level-reads.Asked,
   store-level-reads.Learnt,
-  part-low-reads.Asked,
-  part-low-reads.Learnt,
   half-reads.Asked,
   half-reads.Learnt,
+  load-low-reads.Asked,
+  load-low-reads.Learnt,
   forward-levels-below t,
   forward-levels.Post,
 ) (forward-levels-at t) forward-levels.Post
 forward-levels-half-requires-2 t c κs = search needs
 
-forward-levels-sub-forward-levels : (t : ℕ) → forward-levels-lts.Need-sub-forward-levels (
-  lift-level-reads.Asked,
-  lift-level-reads.Learnt,
+forward-levels-mul-load-low : (t : ℕ) → forward-levels-lts.Need-mul-load-low (
+  lift-columns-reads.Asked,
+  lift-columns-reads.Learnt,
   store-level-reads.Asked,
   store-level-reads.Learnt,
-  part-low-reads.Asked,
-  part-low-reads.Learnt,
   half-reads.Asked,
   half-reads.Learnt,
+  load-low-reads.Asked,
+  load-low-reads.Learnt,
+  forward-levels-below t,
+  forward-levels.Post,
+) (forward-levels-at t) forward-levels.Post
+forward-levels-mul-load-low t c =
+    let half2 = c .before .before in
+    let store = half2 .before .before .before .before in
+    let lift = store .before .before .before .before in
+    let start = lift .before .before in
+    omega (arith, stride-small _ _ _ (start .pre .1 .2))
+
+forward-levels-load-low-requires : (t : ℕ) → forward-levels-lts.Need-load-low-requires (
+  lift-columns-reads.Asked,
+  lift-columns-reads.Learnt,
+  store-level-reads.Asked,
+  store-level-reads.Learnt,
+  half-reads.Asked,
+  half-reads.Learnt,
+  load-low-reads.Asked,
+  load-low-reads.Learnt,
+  forward-levels-below t,
+  forward-levels.Post,
+) (forward-levels-at t) forward-levels.Post
+forward-levels-load-low-requires t c κs =
+    let half2 = c .before .before in
+    let store = half2 .before .before .before .before in
+    let lift = store .before .before .before .before in
+    let start = lift .before .before in (
+      rows-corner _ _ _ _ _ _ _ (store .store-level .kept .1 .0) (half2 .before .half .ensures) (half2 .half2 .ensures) (start .pre .1 .0),
+      rows-next _ _ _ _ _ _ _ (lift .lift-columns .kept .0) (half2 .before .half .ensures) (half2 .half2 .ensures) (start .pre .1 .1),
+    )
+
+forward-levels-mul-forward-levels : (t : ℕ) → forward-levels-lts.Need-mul-forward-levels (
+  lift-columns-reads.Asked,
+  lift-columns-reads.Learnt,
+  store-level-reads.Asked,
+  store-level-reads.Learnt,
+  half-reads.Asked,
+  half-reads.Learnt,
+  load-low-reads.Asked,
+  load-low-reads.Learnt,
+  forward-levels-below t,
+  forward-levels.Post,
+) (forward-levels-at t) forward-levels.Post
+forward-levels-mul-forward-levels t c =
+    let load = c .before .before .before in
+    let half2 = load .before .before .before in
+    let store = half2 .before .before .before .before in
+    let lift = store .before .before .before .before in
+    let start = lift .before .before in
+    omega (arith, stride-small _ _ _ (start .pre .1 .2))
+
+forward-levels-sub-forward-levels : (t : ℕ) → forward-levels-lts.Need-sub-forward-levels (
+  lift-columns-reads.Asked,
+  lift-columns-reads.Learnt,
+  store-level-reads.Asked,
+  store-level-reads.Learnt,
+  half-reads.Asked,
+  half-reads.Learnt,
+  load-low-reads.Asked,
+  load-low-reads.Learnt,
   forward-levels-below t,
   forward-levels.Post,
 ) (forward-levels-at t) forward-levels.Post
 forward-levels-sub-forward-levels t c = search needs
 
 forward-levels-forward-levels-requires : (t : ℕ) → forward-levels-lts.Need-forward-levels-requires (
-  lift-level-reads.Asked,
-  lift-level-reads.Learnt,
+  lift-columns-reads.Asked,
+  lift-columns-reads.Learnt,
   store-level-reads.Asked,
   store-level-reads.Learnt,
-  part-low-reads.Asked,
-  part-low-reads.Learnt,
   half-reads.Asked,
   half-reads.Learnt,
+  load-low-reads.Asked,
+  load-low-reads.Learnt,
   forward-levels-below t,
   forward-levels.Post,
 ) (forward-levels-at t) forward-levels.Post
 forward-levels-forward-levels-requires t c κs =
-    let part = c .before .before .before .before .before in
-    let store = part .before .before .before .before in
+    let load = c .before .before .before in
+    let half2 = load .before .before .before in
+    let store = half2 .before .before .before .before in
     let lift = store .before .before .before .before in
     let start = lift .before .before in (
       omega arith,
       (
-        rows-corner _ _ _ _ _ _ _ (store .store-level .kept .1 .0) (c .before .half .ensures) (c .half2 .ensures) (start .pre .1 .0),
-        rows-next _ _ _ _ _ _ _ (part .part-low .kept .0 ∙ lift .lift-level .kept .0) (c .before .half .ensures) (c .half2 .ensures) (start .pre .1 .1),
-        doubled _ _ _ _ (start .pre .1 .2) (part .before .before .if1 .left) (c .before .half .ensures),
+        rows-corner _ _ _ _ _ _ _ (store .store-level .kept .1 .0) (half2 .before .half .ensures) (half2 .half2 .ensures) (start .pre .1 .0),
+        rows-next _ _ _ _ _ _ _ (load .load-low .kept .1 .0 ∙ lift .lift-columns .kept .0) (half2 .before .half .ensures) (half2 .half2 .ensures) (start .pre .1 .1),
+        doubled _ _ _ _ (start .pre .1 .2) (half2 .before .before .if1 .left) (half2 .before .half .ensures),
       ),
     )
 
 forward-levels-same-length-3 : (t : ℕ) → forward-levels-lts.Need-same-length-3 (
-  lift-level-reads.Asked,
-  lift-level-reads.Learnt,
+  lift-columns-reads.Asked,
+  lift-columns-reads.Learnt,
   store-level-reads.Asked,
   store-level-reads.Learnt,
-  part-low-reads.Asked,
-  part-low-reads.Learnt,
   half-reads.Asked,
   half-reads.Learnt,
+  load-low-reads.Asked,
+  load-low-reads.Learnt,
   forward-levels-below t,
   forward-levels.Post,
 ) (forward-levels-at t) forward-levels.Post
 forward-levels-same-length-3 t c = search needs
 
 forward-levels-same-length-4 : (t : ℕ) → forward-levels-lts.Need-same-length-4 (
-  lift-level-reads.Asked,
-  lift-level-reads.Learnt,
+  lift-columns-reads.Asked,
+  lift-columns-reads.Learnt,
   store-level-reads.Asked,
   store-level-reads.Learnt,
-  part-low-reads.Asked,
-  part-low-reads.Learnt,
   half-reads.Asked,
   half-reads.Learnt,
+  load-low-reads.Asked,
+  load-low-reads.Learnt,
   forward-levels-below t,
   forward-levels.Post,
 ) (forward-levels-at t) forward-levels.Post
 forward-levels-same-length-4 t c = search needs
 
 forward-levels-returns-2 : (t : ℕ) → forward-levels-lts.Need-returns-2 (
-  lift-level-reads.Asked,
-  lift-level-reads.Learnt,
+  lift-columns-reads.Asked,
+  lift-columns-reads.Learnt,
   store-level-reads.Asked,
   store-level-reads.Learnt,
-  part-low-reads.Asked,
-  part-low-reads.Learnt,
   half-reads.Asked,
   half-reads.Learnt,
+  load-low-reads.Asked,
+  load-low-reads.Learnt,
   forward-levels-below t,
   forward-levels.Post,
 ) (forward-levels-at t) forward-levels.Post
 forward-levels-returns-2 t c =
     let again = c .before .before in
-    let half2 = again .before in
-    let part = half2 .before .before .before .before .before in
-    let store = part .before .before .before .before in
+    let load = again .before .before .before .before in
+    let half2 = load .before .before .before in
+    let store = half2 .before .before .before .before in
     let lift = store .before .before .before .before in
     let start = lift .before .before in
-    forward-step _ _ _ _ _ _ _ _ _ (start .pre .1 .1) (start .pre .1 .0 .apart) (lift .lift-level .ensures) (store .store-level .ensures)
-    _ _ _ _ _ _ (part .before .before .if1 .left) (half2 .before .half .ensures) (half2 .half2 .ensures) (part .part-low .ensures) (again .forward-levels .ensures .0) (again .forward-levels .ensures .1)
+    forward-step _ _ _ _ _ _ _ _ _ (start .pre .1 .1) (start .pre .1 .0 .wide) (start .pre .1 .0 .apart) (lift .lift-columns .ensures) (store .store-level .ensures)
+    _ _ _ _ _ _ (half2 .before .before .if1 .left) (half2 .before .half .ensures) (half2 .half2 .ensures) (load .load-low .ensures) (again .forward-levels .ensures .0) (again .forward-levels .ensures .1)
 
 pub +forward-levels-spec : {M : Type 1} → statement M
 +forward-levels-spec = close μ-forward-levels λ t. forward-levels-lts.spec (
-  lift-level-reads.Asked,
-  lift-level-reads.Learnt,
+  lift-columns-reads.Asked,
+  lift-columns-reads.Learnt,
   store-level-reads.Asked,
   store-level-reads.Learnt,
-  part-low-reads.Asked,
-  part-low-reads.Learnt,
   half-reads.Asked,
   half-reads.Learnt,
+  load-low-reads.Asked,
+  load-low-reads.Learnt,
   forward-levels-below t,
   forward-levels.Post,
 )
     (forward-levels-at t)
     forward-levels.Post
-    (forward-levels-lift-level-requires t)
+    (forward-levels-lift-columns-requires t)
     (forward-levels-store-level-requires t)
     (forward-levels-same-length t)
     (forward-levels-same-length-2 t)
     (forward-levels-returns t)
-    (forward-levels-part-low-requires t)
-    (forward-levels-mul-forward-levels t)
     (forward-levels-half-requires t)
     (forward-levels-half-requires-2 t)
+    (forward-levels-mul-load-low t)
+    (forward-levels-load-low-requires t)
+    (forward-levels-mul-forward-levels t)
     (forward-levels-sub-forward-levels t)
     (forward-levels-forward-levels-requires t)
     (forward-levels-same-length-3 t)

@@ -1,12 +1,13 @@
--- `levels::store_level` meets its contract: a pass over the plane's rows, each copied from its row of the level. Assumes nothing.
+-- `levels::store_level` meets its contract: a pass over the plane's rows, each lifted from its row of the level. Assumes nothing.
 use mathlib.Core.Path.{_≡_, refl, _∙_}
 use Prim.Native.Nat.{_≤_, _-_}
 use native.Mathlib.Omega.{arith}
 use lib.ListN.{length}
 use borrow.Author.Needs.{needs}
 use Rattle.numbers.specs.Signal.{at}
+use Rattle.lifting.specs.Halves.{liftedInPlace}
 use Rattle.wavelet.specs.Plane.{cells}
-use Rattle.whole_map.specs.Passes.{Rows, rowsStored}
+use Rattle.whole_map.specs.Passes.{Rows, rowsMapped, rowsStored}
 use Rattle.whole_map.proofs.GridSweep.{RowSwept, row-room, start, finish}
 use Rattle.whole_map.proofs.CellLaws.{stored-out, outside-rows}
 use Rattle.whole_map.proofs.LevelCalls.{stored-turn}
@@ -19,7 +20,7 @@ Inv-loop work plane₀ stride across width height r₀ plane r =
     × (length plane ≡ length plane₀)
     × Rows (length work) stride width height
     × Rows (length plane₀) across width height
-    × RowSwept across (rowsStored width height (cells stride (at work)) (cells across (at plane₀))) (cells across (at plane₀)) r (at plane)
+    × RowSwept across (rowsStored width height (rowsMapped (liftedInPlace width) width height (cells stride (at work))) (cells across (at plane₀))) (cells across (at plane₀)) r (at plane)
 
 abbrev μ-loop : tie.MeasureT-loop
 μ-loop work plane₀ stride across width height r₀ plane r = height - r
@@ -33,11 +34,11 @@ level-row-requires c κs = search needs
 mul-a : tie.Need-mul-a Inv-loop μ-loop
 mul-a c = omega (arith, row-room _ _ _ _ _ (c .before .before .loop .inv .2) (c .level-row .ensures .1))
 
-mul-copy-part : tie.Need-mul-copy-part Inv-loop μ-loop
-mul-copy-part c = let head = c .before .before .before in omega (arith, row-room _ _ _ _ _ (head .loop .inv .3) (c .before .before .loop-test .taken))
+mul-lift-part : tie.Need-mul-lift-part Inv-loop μ-loop
+mul-lift-part c = let head = c .before .before .before in omega (arith, row-room _ _ _ _ _ (head .loop .inv .3) (c .before .before .loop-test .taken))
 
-copy-part-requires : tie.Need-copy-part-requires Inv-loop μ-loop
-copy-part-requires c κs =
+lift-part-requires : tie.Need-lift-part-requires Inv-loop μ-loop
+lift-part-requires c κs =
     let head = c .before .before .before in
     let inv = head .loop .inv in (
       row-room _ _ _ _ _ (inv .2) (c .before .level-row .ensures .1),
@@ -52,15 +53,15 @@ loop-less c = omega arith
 
 loop-again : tie.Need-loop-again Inv-loop μ-loop
 loop-again c =
-    let copy = c .before in
-    let row = copy .before .before in
+    let lift = c .before in
+    let row = lift .before .before in
     let head = row .before .before in
     let inv = head .loop .inv in (
       omega arith,
-      copy .copy-part .kept .1 .1 .0 ∙ inv .1,
+      lift .lift-part .kept .1 .1 .0 ∙ inv .1,
       inv .2,
       inv .3,
-      stored-turn _ _ _ _ _ _ _ _ _ _ (inv .3 .wide) (row .before .loop-test .taken) (row .level-row .ensures .0) (copy .copy-part .ensures) (inv .4),
+      stored-turn _ _ _ _ _ _ _ _ _ _ (inv .3 .wide) (row .before .loop-test .taken) (row .level-row .ensures .0) (lift .lift-part .ensures) (inv .4),
     )
 
 same-length : tie.Need-same-length Inv-loop μ-loop
@@ -78,8 +79,8 @@ store-level-spec =
     loop-holds
     level-row-requires
     mul-a
-    mul-copy-part
-    copy-part-requires
+    mul-lift-part
+    lift-part-requires
     add-r
     loop-less
     loop-again

@@ -1,0 +1,92 @@
+-- A row in halves lifted on the way to another row: a turn of each of its two loops, and what both come to. Assumes nothing.
+use mathlib.Core.Path.{_≡_, sym, ap, _∙_, fun-ext}
+use mathlib.Core.List.{List}
+use Prim.Native.Nat.{ℕ, _+_, _-_, _≤_, _<_, min}
+use native.Mathlib.Decide.{decLt}
+use native.Mathlib.Omega.{arith}
+use lib.IntN.{ℤ, pos}
+use lib.ListN.{length, set, List·getD-eq-default}
+use borrow.Author.Tests.{lt-ltb, le-ltb}
+use Rattle.numbers.specs.Signal.{at}
+use Rattle.numbers.specs.Word.{wrap32}
+use Rattle.numbers.proofs.Sweep.{Swept, store}
+use Rattle.lifting.specs.Line.{lo, hi, count, predicted, updated}
+use Rattle.lifting.specs.Halves.{liftedInPlace}
+use Rattle.lifting.specs.Passes.{highsChanged, lowsChanged}
+use Rattle.lifting.proofs.LineLaws.{counts, count-lo}
+use Rattle.lifting.proofs.PassLaws.{highs-low, highs-high, highs-past, lows-low, lows-past, lifted-is}
+use Rattle.whole_map.specs.Rowwise.{highsLaid}
+
+past-end : (l : List ℤ) (j : ℕ) → length l ≤ j → at l j ≡ pos 0
+past-end l j h = List·getD-eq-default l (pos 0) h
+
+module _ (N : ℕ) (y z : ℕ → ℤ) (j : ℕ) where
+  laid-low : j < count lo N → highsLaid N y z j ≡ z j
+  unfolding highsLaid
+  laid-low b = simp (lt-ltb j (count lo N) b)
+
+  laid-high : count lo N ≤ j → highsLaid N y z j ≡ y j
+  unfolding highsLaid
+  laid-high b = simp (le-ltb j (count lo N) b)
+
+-- ---- the high numbers of the row l, to the row whose numbers were z
+module _ (f : ℤ → ℤ → ℤ → ℤ) (l : List ℤ) (z : ℕ → ℤ) where
+  abbrev highsTo : ℕ → ℤ
+  highsTo = highsLaid (length l) (highsChanged f (length l) (at l)) z
+
+  pub to-turn : (low n b : ℕ) (o : List ℤ) → low ≡ count lo (length l) → n < count hi (length l) → b ≡ min (n + 1) (count lo (length l) - 1) → Swept (length l) highsTo z (low + n) o → Swept (length l) highsTo z (low + (n + 1)) (set o (low + n) (f (at l (low + n)) (at l n) (at l b)))
+  to-turn low n b o e h eb sw =
+      let c = counts (length l) in
+      let k : low + n + 1 ≡ low + (n + 1) = omega arith in
+      rw (← k) (store _ sw (omega arith) (rw (e, eb) (sym (laid-high (length l) _ z (count lo (length l) + n) (omega arith) ∙ highs-high f (length l) (at l) n h))))
+
+  pub to-start : (o : List ℤ) (k : ℕ) → z ≡ at o → length l ≡ length o → k ≤ count lo (length l) → Swept (length l) highsTo z k o
+  to-start o k ez size b =
+      record {
+        size = sym size;
+        done = λ j lt. ap (λ (y : ℕ → ℤ). y j) (sym ez) ∙ sym (laid-low (length l) _ z j (omega arith));
+        rest = λ j le. ap (λ (y : ℕ → ℤ). y j) (sym ez);
+      }
+
+  pub to-past : (o : List ℤ) (j : ℕ) → z ≡ at o → length o ≡ length l → length l ≤ j → highsTo j ≡ z j
+  to-past o j ez size b =
+      let c = count-lo (length l) in
+      laid-high (length l) _ z j (omega arith)
+      ∙ highs-past f (length l) (at l) j b
+      ∙ past-end l j b
+      ∙ sym (ap (λ (y : ℕ → ℤ). y j) ez ∙ past-end o j (omega arith))
+
+-- ---- its low numbers, by what stands in the other row
+module _ (f : ℤ → ℤ → ℤ → ℤ) (l : List ℤ) (z : ℕ → ℤ) where
+  abbrev lowsTo : ℕ → ℤ
+  lowsTo = lowsChanged f (length l) (highsLaid (length l) z (at l))
+
+  pub low-turn : (n a b : ℕ) (o : List ℤ) → 1 < length l → n < count lo (length l) → a ≡ count lo (length l) + (n - 1) → b ≡ count lo (length l) + min n (count hi (length l) - 1) → Swept (length l) lowsTo z n o → Swept (length l) lowsTo z (n + 1) (set o n (f (at l n) (at o a) (at o b)))
+  low-turn n a b o more h ea eb sw =
+      let N = length l in
+      let c = counts N in
+      let u = highsLaid N z (at l) in
+      store _ sw (omega arith)
+      (cc (lows-low f N u n h, laid-low N z (at l) n h, ea, eb, sw .rest a (omega arith), sw .rest b (omega arith), laid-high N z (at l) (count lo N + (n - 1)) (omega arith), laid-high N z (at l) (count lo N + min n (count hi N - 1)) (omega arith)))
+
+  pub low-first : (low : ℕ) (o o′ : List ℤ) → z ≡ at o → length l ≡ length o → low ≡ count lo (length l) → 1 < length l → o′ ≡ set o 0 (f (at l 0) (at o low) (at o low)) → Swept (length l) lowsTo z 1 o′
+  low-first low o o′ ez size el more is =
+      let half = count-lo (length l) in
+      let sw : Swept (length l) lowsTo z 0 o = record { size = sym size; done = λ j b. absurd (omega arith); rest = λ j b. ap (λ (y : ℕ → ℤ). y j) (sym ez) } in
+      rw is (low-turn 0 low low o more (omega arith) (omega arith) (omega arith) sw)
+
+  pub low-past : (j : ℕ) → count lo (length l) ≤ j → lowsTo j ≡ z j
+  low-past j b = lows-past f (length l) _ j b ∙ laid-high (length l) z (at l) j b
+
+-- ---- both
+pub both-are : (l : List ℤ) (z o : ℕ → ℤ) → 1 < length l → o ≡ highsLaid (length l) (highsChanged (predicted wrap32) (length l) (at l)) z → lowsChanged (updated wrap32) (length l) (highsLaid (length l) o (at l)) ≡ liftedInPlace (length l) (at l)
+both-are l z o more e =
+    let N = length l in
+    let H = highsChanged (predicted wrap32) N (at l) in
+    let u : highsLaid N o (at l) ≡ H =
+    fun-ext λ j.
+    elim (decLt j (count lo N)) [
+      | yes b ↦ laid-low N o (at l) j b ∙ sym (highs-low (predicted wrap32) N (at l) j b)
+      | no b ↦ laid-high N o (at l) j (omega arith) ∙ ap (λ (y : ℕ → ℤ). y j) e ∙ laid-high N H z j (omega arith)
+    ] in
+    ap (lowsChanged (updated wrap32) N) u ∙ sym (lifted-is N (at l) more)

@@ -1,0 +1,140 @@
+-- `whole_map::rowwise::lift_lows` meets its contract: a sweep over the low numbers, the first before the loop and the last of an odd row after it. Assumes nothing.
+use mathlib.Core.Path.{_≡_, refl, sym, _∙_}
+use Prim.Native.Nat.{ℕ, _-_, _/_, _≤_, _<_}
+use native.Mathlib.Omega.{arith}
+use lib.IntN.{ℤ}
+use lib.ListN.{length}
+use Rattle.numbers.specs.Signal.{at}
+use Rattle.numbers.specs.Word.{wrap32}
+use Rattle.numbers.proofs.Sweep.{Swept, finish}
+use Rattle.lifting.specs.Line.{lo, count, updated}
+use Rattle.lifting.specs.Passes.{lowsChanged}
+use Rattle.lifting.proofs.LineLaws.{counts, count-lo}
+use Rattle.whole_map.specs.Rowwise.{highsLaid}
+use Rattle.whole_map.proofs.LiftLaws.{low-first, low-turn, low-past}
+use Rattle.whole_map.proofs.rowwise.lift_lows.Statement.{statement}
+use Rattle.whole_map.proofs.rowwise.lift_lows.Tie as tie
+
+abbrev Inv-loop : tie.InvT-loop
+Inv-loop row out₀ low high n₀ out n =
+    (low ≡ count lo (length row)) × (low ≡ length row - length row / 2) × (high ≡ length row - low) × (1 < length row) × (1 ≤ n) × (n ≤ high)
+    × (length out ≡ length row)
+    × ((z : ℕ → ℤ) → Swept (length row) (lowsChanged (updated wrap32) (length row) (highsLaid (length row) z (at row))) z 1 out₀ → Swept (length row) (lowsChanged (updated wrap32) (length row) (highsLaid (length row) z (at row))) z n out)
+
+abbrev μ-loop : tie.MeasureT-loop
+μ-loop row out₀ low high n₀ out n = high - n
+
+sub-high : tie.Need-sub-high Inv-loop μ-loop
+sub-high c = omega (arith, counts (length (c .args .row .now)))
+
+update-to-requires : tie.Need-update-to-requires Inv-loop μ-loop
+update-to-requires c κs = omega (arith, count-lo (length (c .before .args .row .now)))
+
+loop-holds : tie.Need-loop-holds Inv-loop μ-loop
+loop-holds c =
+    let entry = c .before .before .before in
+    let half = count-lo (length (entry .args .row .now)) in
+    (entry .pre .0, omega arith, omega arith, entry .pre .1, omega arith, omega arith, c .before .update-to .kept .1 .0 ∙ sym (entry .pre .2), λ z s. s)
+
+add-update-to : tie.Need-add-update-to Inv-loop μ-loop
+add-update-to c = omega arith
+
+sub-update-to : tie.Need-sub-update-to Inv-loop μ-loop
+sub-update-to c = omega arith
+
+add-update-to-2 : tie.Need-add-update-to-2 Inv-loop μ-loop
+add-update-to-2 c = omega arith
+
+update-to-requires-2 : tie.Need-update-to-requires-2 Inv-loop μ-loop
+update-to-requires-2 c κs = omega arith
+
+add-n : tie.Need-add-n Inv-loop μ-loop
+add-n c = omega arith
+
+loop-less : tie.Need-loop-less Inv-loop μ-loop
+loop-less c = omega arith
+
+loop-again : tie.Need-loop-again Inv-loop μ-loop
+loop-again c =
+    let head = c .before .before .before .before in
+    let row = head .before .before .before .before .args .row .now in
+    let inv = head .loop .inv in (
+      inv .0,
+      inv .1,
+      inv .2,
+      inv .3,
+      omega arith,
+      omega arith,
+      c .before .update-to2 .kept .1 .0 ∙ inv .6,
+      λ z s. rw (c .before .update-to2 .ensures) (low-turn _ row z (head .loop .n) _ _ _ (inv .3) (omega arith) (omega arith) (omega (arith, counts (length row))) (inv .7 z s)),
+    )
+
+add-update-to-3 : tie.Need-add-update-to-3 Inv-loop μ-loop
+add-update-to-3 c = omega arith
+
+sub-update-to-2 : tie.Need-sub-update-to-2 Inv-loop μ-loop
+sub-update-to-2 c = omega arith
+
+add-update-to-4 : tie.Need-add-update-to-4 Inv-loop μ-loop
+add-update-to-4 c = omega arith
+
+sub-update-to-3 : tie.Need-sub-update-to-3 Inv-loop μ-loop
+sub-update-to-3 c = omega arith
+
+update-to-requires-3 : tie.Need-update-to-requires-3 Inv-loop μ-loop
+update-to-requires-3 c κs = omega arith
+
+same-length : tie.Need-same-length Inv-loop μ-loop
+same-length c =
+    let head = c .before .before .before .before .before in
+    c .before .update-to3 .kept .1 .0 ∙ head .loop .inv .6 ∙ head .before .before .before .before .pre .2
+
+returns : tie.Need-returns Inv-loop μ-loop
+returns c =
+    let head = c .before .before .before .before .before in
+    let first = head .before .before in
+    let entry = first .before .before in
+    let row = entry .args .row .now in
+    let inv = head .loop .inv in
+    let sw = inv .7 _ (low-first (updated wrap32) row _ (entry .args .low) (entry .args .out .now) (first .update-to .last .1 .0) refl (entry .pre .2) (entry .pre .0) (entry .pre .1) (first .update-to .ensures)) in
+    rw (c .before .update-to3 .ensures)
+    (finish (low-turn _ row _ (head .loop .n) _ _ _ (inv .3) (omega arith) (omega arith) (omega (arith, counts (length row))) sw) (λ j le. low-past _ row _ j (omega arith)))
+
+same-length-2 : tie.Need-same-length-2 Inv-loop μ-loop
+same-length-2 c = let head = c .before .before in head .loop .inv .6 ∙ head .before .before .before .before .pre .2
+
+returns-2 : tie.Need-returns-2 Inv-loop μ-loop
+returns-2 c =
+    let head = c .before .before in
+    let first = head .before .before in
+    let entry = first .before .before in
+    let row = entry .args .row .now in
+    let inv = head .loop .inv in
+    let sw = inv .7 _ (low-first (updated wrap32) row _ (entry .args .low) (entry .args .out .now) (first .update-to .last .1 .0) refl (entry .pre .2) (entry .pre .0) (entry .pre .1) (first .update-to .ensures)) in
+    finish sw (λ j le. low-past _ row _ j (omega arith))
+
+pub lift-lows-spec : {M : Type 1} → statement M
+lift-lows-spec =
+    tie.close
+    (tie.spec
+    Inv-loop
+    μ-loop
+    sub-high
+    update-to-requires
+    loop-holds
+    add-update-to
+    sub-update-to
+    add-update-to-2
+    update-to-requires-2
+    add-n
+    loop-less
+    loop-again
+    add-update-to-3
+    sub-update-to-2
+    add-update-to-4
+    sub-update-to-3
+    update-to-requires-3
+    same-length
+    returns
+    same-length-2
+    returns-2)

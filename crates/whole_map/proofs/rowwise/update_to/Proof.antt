@@ -1,0 +1,59 @@
+-- `whole_map::rowwise::update_to` meets its contract: what is read and stored are 32-bit numbers read back. Assumes nothing.
+use Rattle.numbers.specs.Signal.{at}
+use Rattle.numbers.proofs.Words.{read-back}
+use borrow.Author.Needs.{needs}
+use Rattle.whole_map.proofs.rowwise.update_to.Statement.{statement}
+use Rattle.whole_map.proofs.rowwise.update_to.Tie as tie
+
+mul-update : tie.Need-mul-update
+mul-update c = search needs
+
+shared-slice-copy-out-update : tie.Need-shared-slice-copy-out-update
+shared-slice-copy-out-update c = search needs
+
+mul-update-2 : tie.Need-mul-update-2
+mul-update-2 c = search needs
+
+slice-copy-out-update : tie.Need-slice-copy-out-update
+slice-copy-out-update c = search needs
+
+mul-update-3 : tie.Need-mul-update-3
+mul-update-3 c = search needs
+
+slice-copy-out-update-2 : tie.Need-slice-copy-out-update-2
+slice-copy-out-update-2 c = search needs
+
+update-requires : tie.Need-update-requires
+update-requires c κs = search needs
+
+mul-t16 : tie.Need-mul-t16
+mul-t16 c = search needs
+
+slice-set-from-out : tie.Need-slice-set-from-out
+slice-set-from-out c = search needs
+
+same-length : tie.Need-same-length
+same-length c = search needs
+
+returns : tie.Need-returns
+returns c =
+    let a = c .before .before .before .before .args in
+    let l = a .row .now in
+    let o = a .out .now in
+    rw (read-back _ (c .update .ok), c .update .ensures, read-back (at l (a .p)) (c .before .before .before .update-arg .given), read-back (at o (a .a)) (c .before .before .update-arg2 .given), read-back (at o (a .b)) (c .before .update-arg3 .given))
+
+pub update-to-spec : {M : Type 1} → statement M
+update-to-spec =
+    tie.close
+    (tie.spec
+    mul-update
+    shared-slice-copy-out-update
+    mul-update-2
+    slice-copy-out-update
+    mul-update-3
+    slice-copy-out-update-2
+    update-requires
+    mul-t16
+    slice-set-from-out
+    same-length
+    returns)
