@@ -20,8 +20,9 @@ pub mod ToldText
 pub mod ListingGoes
 pub mod ListingEnds
 pub mod ListingDue
-pub mod ListingTheorem
 pub mod MoveLaws
+pub mod ListingTheorem
+pub mod ListingPieces
 pub mod WritingMoves
 pub mod ReadingMoves
 pub mod TurnLaws
