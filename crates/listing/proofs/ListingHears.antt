@@ -8,6 +8,7 @@ use lib.ListN.{length, take, length-append}
 use lib.Seq.{length-take-le}
 use Rattle.wavelet.specs.Store.{storeLength}
 use Rattle.pgm.specs.Samples.{heightsOf}
+use Rattle.pgm.proofs.RunReads.{heights-first}
 use Rattle.writer.specs.Answers.{gives, Took}
 use Rattle.writer.specs.Calls.{offerReply, offerStore}
 use Rattle.writer.specs.Demand3.{All, all-none, all-more}
@@ -22,7 +23,7 @@ use Rattle.listing.specs.Telling.{Event, height, refusal, Hearing, heard
 use Rattle.listing.specs.declared.input.Input.{Input}
 use Rattle.listing.specs.declared.input.Heard.{Heard}
 use Rattle.listing.proofs.LineLeft.{lineLeft, left-none, left-refused}
-use Rattle.listing.proofs.RunHeard.{take-heights, small-heights, run-heard}
+use Rattle.listing.proofs.RunHeard.{small-heights, run-heard}
 use Rattle.listing.proofs.HearsHow.{Sane, Hears, on, begins as begins-so, half, height as height-so, turned, deaf, SaneThen, more, begun as begun-sane, tall, refused as refused-sane, How, hears-how, came-sane, shut-phase}
 use Rattle.listing.proofs.ListingOffers.{shape-in, idle-text, more-heights, then-refused, still, turned-begun, begin-told, begin-input, out, offered-begun, offered-input, height-begun, height-input}
 use Rattle.listing.proofs.ListingReached.{ShapeIn, reads, shut, leftTo, Begun, eventsOf, Told, quiet, refused, begun}
@@ -185,7 +186,7 @@ module _ (n k : ℕ) (store : storeLength 1025 5 ≤ n) (row : 1025 ≤ k) (s : 
           (record {
             told =
                 begun W H L (hs ++ take (j .taken) run) false (ap (λ l. l ++ map height (take (j .taken) run)) a ∙ more-heights W H L hs (take (j .taken) run)) b
-                (all-append small (subst (All (λ h. h ≤ 65535)) (take-heights (j .taken) bytes) (small-heights u bs)))
+                (all-append small (subst (All (λ h. h ≤ 65535)) (heights-first bytes (j .taken)) (small-heights u bs)))
                 (reads refl refl (ap (λ l. l .phase) then-input ∙ c) (ap (λ l. l .left + length (hs ++ take (j .taken) run)) then-input ∙ counted))
                 run-begun;
             input = then-input;
