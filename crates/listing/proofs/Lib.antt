@@ -20,9 +20,9 @@ pub mod ToldText
 pub mod ListingGoes
 pub mod ListingEnds
 pub mod ListingDue
-pub mod MoveLaws
 pub mod ListingTheorem
-pub mod ListingPieces
+pub mod MoveLaws
 pub mod WritingMoves
 pub mod ReadingMoves
 pub mod TurnLaws
+pub mod ListingPieces
