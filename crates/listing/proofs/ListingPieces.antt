@@ -1,4 +1,4 @@
--- The listing program by its calls alone: pieces fed one after the other, what is left of each being fed again until a call answers that it is idle. Document 01, "The listing program": "however its input is cut into pieces".
+-- The listing program by its calls alone: pieces fed one after the other, what is left of each being fed again until a call answers that it is idle.
 -- Store and row area are those of ListingTheorem.
 --     pieces-due      what is written is `dueOf` the pieces joined
 --     pieces-whole    with what is written after the end of the input, `listingOf` them
