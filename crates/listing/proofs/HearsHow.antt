@@ -1,5 +1,5 @@
 -- What a byte can tell in each phase of the input (`hears-how`), the input being sane. Assumes nothing.
-use mathlib.Core.Path.{_≡_, refl}
+use mathlib.Core.Path.{_≡_, refl, sym, ap}
 use mathlib.Core.Bool.{Bool, true, false}
 use Prim.Native.Nat.{ℕ, zero, suc, _+_, _-_, _*_, _≤_, _<_}
 use native.Mathlib.Omega.{arith}
@@ -52,6 +52,9 @@ came-sane j i h = record { byte = omega arith; levels = h .levels }
 
 pub phased-sane : (i : Input) → Sane i → Sane (phased 4 i)
 phased-sane i h = record { byte = h .byte; levels = λ p q. absurd (omega arith) }
+
+pub shut-phase : (i : Input) → i .phase ≡ 4 → phased 4 i ≡ i
+shut-phase i e = ap (λ p. phased p i) (sym e)
 
 module _ (i : Input) (s : Sane i) where
   nay-how : i .phase ≤ 3 → How i (nay i)

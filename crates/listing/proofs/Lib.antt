@@ -25,3 +25,4 @@ pub mod MoveLaws
 pub mod WritingMoves
 pub mod ReadingMoves
 pub mod TurnLaws
+pub mod ListingPieces

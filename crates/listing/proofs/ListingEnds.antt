@@ -87,7 +87,7 @@ module _ (n k : ℕ) (store : storeLength 1025 5 ≤ n) (row : 1025 ≤ k) (s : 
         (idle-text k s o _ idle (e .text) ∙ append-nil _))
 
     finish-input : finishScene n k j w (s .store) (s .row) .listing .input ≡ j
-    finish-input = ap (λ t. t .listing .input) finish-is ∙ drawn-input n k j (out .writer) (finishStore w n (s .store)) (s .row)
+    finish-input = ap (λ t. t .listing .input) finish-is ∙ drawn-input n k W H L (set-up-in n store b) (omega (arith, b .columns)) j (out .writer) (finishStore w n (s .store)) (s .row) hs true (e .drawn) (out .ran)
 
   -- ---- the cases
   reads-end : (E : List Event) (W H L : ℕ) (hs : List ℕ) (o : List ℕ) → E ≡ eventsOf W H L hs false → ShapeIn W H L → All (λ h. h ≤ 65535) hs → Begun n k W H L hs false false o s

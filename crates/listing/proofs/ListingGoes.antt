@@ -15,7 +15,7 @@ use Rattle.listing.specs.declared.input.Input.{Input}
 use Rattle.listing.proofs.HearingLaws.{cut-events, cut-input}
 use Rattle.listing.proofs.HearsHow.{Sane, silent-sane}
 use Rattle.listing.proofs.ListingReached.{Told, quiet, partly-told}
-use Rattle.listing.proofs.ListingWrites.{wholly-input, wholly-told}
+use Rattle.listing.proofs.ListingWrites.{wholly-told, told-input}
 use Rattle.listing.proofs.ListingHears.{Heards, hear-told, take-told}
 
 abbrev Bytes : List ℕ → Type 0
@@ -42,7 +42,7 @@ module _ (n k : ℕ) (store : storeLength 1025 5 ≤ n) (row : 1025 ≤ k) where
   move-told : {E : List Event} {f : Bool} {o : List ℕ} {s s′ : Scene} {u t : List ℕ} → Told n k E f o s → Sane (s .listing .input) → Bytes u → Move n k s u t s′
       → Heards n k E f (o ++ t) (listen (s .listing .input) u) s′
   move-told {E} {f} {o} {s} a v bs (partly m p h e g d) = rw (e, g, d) (silently (s .listing .input) (partly-told n k s m p h a) refl v)
-  move-told {E} {f} {o} {s} a v bs (wholly p e g d) = rw (e, g, d) (silently (s .listing .input) (wholly-told n k s store row p a) (wholly-input n k s) v)
+  move-told {E} {f} {o} {s} a v bs (wholly p e g d) = rw (e, g, d) (silently (s .listing .input) (wholly-told n k s store row p a) (told-input n k s store row p a) v)
   move-told {E} {f} {o} {s} a v bs (hears b i e g d) =
       rw (e, g, d, append-nil o) (hear-told n k store row s i a v b (all-first b [] (subst Bytes e bs)))
   move-told {E} {f} {o} {s} a v bs (takes bytes j i p h r q z e g d) =

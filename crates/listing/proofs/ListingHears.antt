@@ -8,6 +8,7 @@ use lib.ListN.{length, take, length-append}
 use lib.Seq.{length-take-le}
 use Rattle.wavelet.specs.Store.{storeLength}
 use Rattle.pgm.specs.Samples.{heightsOf}
+use Rattle.pgm.proofs.RunReads.{heights-first}
 use Rattle.writer.specs.Answers.{gives, Took}
 use Rattle.writer.specs.Calls.{offerReply, offerStore}
 use Rattle.writer.specs.Demand3.{All, all-none, all-more}
@@ -16,16 +17,16 @@ use Rattle.writer.proofs.CallList.{all-append}
 use Rattle.listing.specs.Lines.{refusedLine}
 use Rattle.listing.specs.Hearing.{hears, heightsCame}
 use Rattle.listing.specs.Parts.{noLine, refusedPart}
-use Rattle.listing.specs.Scenes.{Scene, drawScene, heardTo, hearScene}
+use Rattle.listing.specs.Scenes.{Scene, drawScene, offerScene, heardTo, hearScene}
 use Rattle.listing.specs.Moves.{Idle}
 use Rattle.listing.specs.Telling.{Event, height, refusal, Hearing, heardOn, listen}
 use Rattle.listing.specs.declared.input.Input.{Input}
 use Rattle.listing.specs.declared.input.Heard.{Heard}
 use Rattle.listing.proofs.LineLeft.{lineLeft, left-none, left-refused}
-use Rattle.listing.proofs.RunHeard.{take-heights, small-heights, run-heard}
-use Rattle.listing.proofs.HearsHow.{Sane, Hears, on, begins as begins-so, half, height as height-so, turned, deaf, SaneThen, more, begun as begun-sane, tall, refused as refused-sane, How, hears-how, came-sane}
-use Rattle.listing.proofs.ListingOffers.{shape-in, idle-text, more-heights, then-refused, still, turned-begun, begin-told, begin-input, out, offered-begun, offer-input, height-begun}
-use Rattle.listing.proofs.ListingReached.{ShapeIn, reads, shut, leftTo, Begun, eventsOf, Told, quiet, refused, begun, drawn-input}
+use Rattle.listing.proofs.RunHeard.{small-heights, run-heard}
+use Rattle.listing.proofs.HearsHow.{Sane, Hears, on, begins as begins-so, half, height as height-so, turned, deaf, SaneThen, more, begun as begun-sane, tall, refused as refused-sane, How, hears-how, came-sane, shut-phase}
+use Rattle.listing.proofs.ListingOffers.{shape-in, idle-text, more-heights, then-refused, still, turned-begun, begin-told, begin-input, out, offered-begun, offered-input, height-begun, height-input}
+use Rattle.listing.proofs.ListingReached.{ShapeIn, reads, shut, leftTo, Begun, eventsOf, Told, quiet, refused, begun}
 
 pub differ : false ≡ true → ⊥
 differ e = let z : _≡_ {A = ℕ} 0 1 = cc in omega arith
@@ -54,17 +55,18 @@ module _ (n k : ℕ) (store : storeLength 1025 5 ≤ n) (row : 1025 ≤ k) (s : 
   quiet-hears : (E : List Event) (f : Bool) (o : List ℕ) (y : Heard) → E ≡ [] → f ≡ false → i .phase < 3 → o ≡ [] → Hears i y → SaneThen y → HeardAs E f o y
   quiet-hears E f o y a b c d (on j p q) (more t) = record { told = quiet (append-nil E ∙ a) b q refl d; input = refl; sane = t }
   quiet-hears E f o y a b c d (begins-so j W H p q r g) (begun-sane t) = record {
-    told =
-        rw (a, b, d)
-        (begin-told n k store row j w W H (s .store) (s .row) q r (let L = t .levels (omega arith) (omega arith) in shape-in W H (j .levels) g (L .0) (L .1)));
-    input = begin-input n k store row j w W H (s .store) (s .row);
+    told = rw (a, b, d) (begin-told n k store row j w W H (s .store) (s .row) q r shape);
+    input = begin-input n k store row j w W H (s .store) (s .row) shape;
     sane = t;
   }
+    where
+      shape : ShapeIn W H (j .levels)
+      shape = let L = t .levels (omega arith) (omega arith) in shape-in W H (j .levels) g (L .0) (L .1)
   quiet-hears E f o y a b c d (half j p q r) t = absurd (omega arith)
   quiet-hears E f o y a b c d (height-so j v p q r g h) t = absurd (omega arith)
   quiet-hears E f o y a b c d (turned j p q) (refused-sane t) = record {
     told = refused (ap (λ l. l ++ (refusal ∷ [])) a) b (omega arith) (omega arith) (ap (λ l. l ++ lineLeft k (s .row) (refusedPart 15)) d ∙ left-refused k (s .row));
-    input = refl;
+    input = shut-phase j q;
     sane = t;
   }
   quiet-hears E f o y a b c d (deaf p) t = absurd (omega arith)
@@ -109,17 +111,20 @@ module _ (n k : ℕ) (store : storeLength 1025 5 ≤ n) (row : 1025 ≤ k) (s : 
     reads-hears E o y a e c d (height-so j v p q r z h) (tall t) = record {
       told =
           begun W H L (hs ++ (v ∷ [])) false (ap (λ l. l ++ (height v ∷ [])) a ∙ more-heights W H L hs (v ∷ [])) b (all-append small (all-more h all-none))
-          (reads refl refl (ap (λ l. l .phase) (offer-input n k store row j w v (s .store) (s .row)) ∙ q) (ap (λ l. l .left + length (hs ++ (v ∷ []))) (offer-input n k store row j w v (s .store) (s .row)) ∙ counted v))
+          (reads refl refl (ap (λ l. l .phase) kept ∙ q) (ap (λ l. l .left + length (hs ++ (v ∷ []))) kept ∙ counted v))
           (height-begun n k store row W H L hs o s b e idle j v (omega arith));
-      input = offer-input n k store row j w v (s .store) (s .row);
+      input = kept;
       sane = t;
     }
       where
+        kept : offerScene n k j w v (s .store) (s .row) .listing .input ≡ j
+        kept = height-input n k store row W H L hs o s b e idle j v (omega arith)
+
         counted : (v : ℕ) → j .left + length (hs ++ (v ∷ [])) ≡ W * H
         counted v = omega (arith, length-append hs (v ∷ []))
     reads-hears E o y a e c d (turned j p q) (refused-sane t) = record {
       told = begun W H L hs true (ap (λ l. l ++ (refusal ∷ [])) a ∙ then-refused W H L hs) b small (shut (omega arith) (omega arith) (λ z. absurd (differ z))) (turned-begun n k W H L hs false o s j idle e);
-      input = refl;
+      input = shut-phase j q;
       sane = t;
     }
     reads-hears E o y a e c d (deaf p) t = absurd (omega arith)
@@ -148,9 +153,6 @@ module _ (n k : ℕ) (store : storeLength 1025 5 ≤ n) (row : 1025 ≤ k) (s : 
     abbrev then : Scene
     then = drawScene n k (heightsCame (j .taken) i) (j .writer) (offerStore w n run (s .store)) (s .row)
 
-    then-input : then .listing .input ≡ heightsCame (j .taken) i
-    then-input = drawn-input n k (heightsCame (j .taken) i) (j .writer) (offerStore w n run (s .store)) (s .row)
-
     module _ (W H L : ℕ) (hs : List ℕ) (o : List ℕ) (b : ShapeIn W H L) (small : All (λ h. h ≤ 65535) hs) (E : List Event) (a : E ≡ eventsOf W H L hs false) (e : Begun n k W H L hs false false o s)
         (c : i .phase ≡ 3) (d : i .left + length hs ≡ W * H) (x : i .samples .half ≡ false) (fits : length run ≤ i .left) (says : offerReply w n run (s .store) ≡ gives j) (some : 0 < j .taken) (bs : All (λ b. b ≤ 255) u) where
       abbrev t : Took
@@ -173,13 +175,18 @@ module _ (n k : ℕ) (store : storeLength 1025 5 ≤ n) (row : 1025 ≤ k) (s : 
           subst (λ m. Begun n k W H L (hs ++ take (m .taken) run) false false o (drawScene n k (heightsCame (j .taken) i) (m .writer) (offerStore w n run (s .store)) (s .row))) same
           (offered-begun n k store row W H L hs o s b e idle run (omega arith) (heightsCame (j .taken) i))
 
+      then-input : then .listing .input ≡ heightsCame (j .taken) i
+      then-input =
+          subst (λ m. drawScene n k (heightsCame (j .taken) i) (m .writer) (offerStore w n run (s .store)) (s .row) .listing .input ≡ heightsCame (j .taken) i) same
+          (offered-input n k store row W H L hs o s b e idle run (omega arith) (heightsCame (j .taken) i))
+
       run-told : Sane i → Heards n k E false o (listen i u) then
       run-told v =
           subst (λ h. Heards n k E false o h then) (sym told-run)
           (record {
             told =
                 begun W H L (hs ++ take (j .taken) run) false (ap (λ l. l ++ map height (take (j .taken) run)) a ∙ more-heights W H L hs (take (j .taken) run)) b
-                (all-append small (subst (All (λ h. h ≤ 65535)) (take-heights (j .taken) bytes) (small-heights u bs)))
+                (all-append small (subst (All (λ h. h ≤ 65535)) (heights-first bytes (j .taken)) (small-heights u bs)))
                 (reads refl refl (ap (λ l. l .phase) then-input ∙ c) (ap (λ l. l .left + length (hs ++ take (j .taken) run)) then-input ∙ counted))
                 run-begun;
             input = then-input;

@@ -13,7 +13,7 @@ use Rattle.wavelet.specs.Store.{storeLength}
 use Rattle.wavelet.specs.Questions.{within}
 use Rattle.writer.specs.Level.{Memory}
 use Rattle.writer.specs.Questions.{setUpQuestion}
-use Rattle.writer.specs.Answers.{Reply, gives, refused as not-so, Took}
+use Rattle.writer.specs.Answers.{gives, Took}
 use Rattle.writer.specs.Calls.{fresh, setUpReply, setUpStore, offerReply, offerStore}
 use Rattle.writer.specs.Demand3.{all-none}
 use Rattle.writer.specs.declared.Writer.{Writer}
@@ -21,7 +21,7 @@ use Rattle.writer.proofs.CallList.{map-append}
 use Rattle.listing.specs.Lines.{sizeLine, refusedLine}
 use Rattle.listing.specs.Listing.{maxListedWidth, shapeFits}
 use Rattle.listing.specs.Parts.{noLine, sizePart}
-use Rattle.listing.specs.Scenes.{Scene, scene, listed, refusedTo, drawScene, begunTo, beginScene, tookTo, offerScene}
+use Rattle.listing.specs.Scenes.{Scene, scene, listed, refusedTo, drawScene, beginScene, offerScene}
 use Rattle.listing.specs.Moves.{lineOn, Idle}
 use Rattle.listing.specs.Telling.{begins, height, refusal}
 use Rattle.listing.specs.declared.input.Input.{Input}
@@ -97,13 +97,8 @@ module _ (n k : ℕ) (store : storeLength 1025 5 ≤ n) (row : 1025 ≤ k) where
         room = λ h. absurd (omega arith);
       }))
 
-  pub begin-input : (i : Input) (w : Writer) (W H : ℕ) (x z : Memory) → beginScene n i w W H x z .listing .input ≡ i
-  unfolding beginScene
-  begin-input i w W H x z = go (setUpReply W (i .levels) n)
-    where
-      go : (y : Reply Writer) → begunTo i w W H y .input ≡ i
-      go (gives u) = refl
-      go (not-so q) = refl
+  pub begin-input : (i : Input) (w : Writer) (W H : ℕ) (x z : Memory) → ShapeIn W H (i .levels) → beginScene n i w W H x z .listing .input ≡ i
+  begin-input i w W H x z b = ap (λ t. t .listing .input) (begin-is i w W H x z (set-up-in n store b))
 
   -- ---- heights are offered
   module _ (W H L : ℕ) (hs : List ℕ) (o : List ℕ) (s : Scene) (b : ShapeIn W H L) (e : Begun n k W H L hs false false o s) (idle : Idle s) (run : List ℕ) (room : length hs + length run ≤ W * H) where
@@ -116,18 +111,19 @@ module _ (n k : ℕ) (store : storeLength 1025 5 ≤ n) (row : 1025 ≤ k) where
         draw-begun n k W H L (set-up-in n store b) (omega (arith, b .columns)) i (out .took .writer) _ (s .row) _ false o (e .drawn) (out .ran)
         (idle-text k s o _ idle (e .text) ∙ append-nil _)
 
+    pub offered-input : (i : Input) → drawScene n k i (out .took .writer) (offerStore (s .listing .writer) n run (s .store)) (s .row) .listing .input ≡ i
+    offered-input i = drawn-input n k W H L (set-up-in n store b) (omega (arith, b .columns)) i (out .took .writer) _ (s .row) _ false (e .drawn) (out .ran)
+
   -- one height
   offer-is : (i : Input) (w : Writer) (v : ℕ) (x z : Memory) (t : Took) → offerReply w n (v ∷ []) x ≡ gives t → offerScene n k i w v x z ≡ drawScene n k i (t .writer) (offerStore w n (v ∷ []) x) z
   unfolding offerScene
   offer-is i w v x z t e = rw e refl
 
-  pub offer-input : (i : Input) (w : Writer) (v : ℕ) (x z : Memory) → offerScene n k i w v x z .listing .input ≡ i
-  unfolding offerScene
-  offer-input i w v x z = go (offerReply w n (v ∷ []) x)
-    where
-      go : (y : Reply Took) → tookTo drawScene n k i w (offerStore w n (v ∷ []) x) z y .listing .input ≡ i
-      go (gives t) = drawn-input n k i (t .writer) (offerStore w n (v ∷ []) x) z
-      go (not-so q) = refl
+  pub height-input : (W H L : ℕ) (hs : List ℕ) (o : List ℕ) (s : Scene) → ShapeIn W H L → Begun n k W H L hs false false o s → Idle s → (i : Input) (v : ℕ) → length hs < W * H
+      → offerScene n k i (s .listing .writer) v (s .store) (s .row) .listing .input ≡ i
+  height-input W H L hs o s b e idle i v h =
+      let t = out W H L hs o s b e idle (v ∷ []) (omega arith) in
+      ap (λ y. y .listing .input) (offer-is i (s .listing .writer) v (s .store) (s .row) (t .took) (t .reply)) ∙ offered-input W H L hs o s b e idle (v ∷ []) (omega arith) i
 
   pub height-begun : (W H L : ℕ) (hs : List ℕ) (o : List ℕ) (s : Scene) → ShapeIn W H L → Begun n k W H L hs false false o s → Idle s → (i : Input) (v : ℕ) → length hs < W * H
       → Begun n k W H L (hs ++ (v ∷ [])) false false o (offerScene n k i (s .listing .writer) v (s .store) (s .row))

@@ -9,7 +9,7 @@ use Rattle.numbers.specs.Signal.{pick}
 use Rattle.wavelet.specs.Store.{storeLength}
 use Rattle.writer.specs.Level.{Memory}
 use Rattle.writer.specs.Questions.{setUpQuestion}
-use Rattle.writer.specs.Answers.{Reply, gives, refused as turned, Handed, aRow, nothing}
+use Rattle.writer.specs.Answers.{Reply, Handed}
 use Rattle.writer.specs.Calls.{drawReply, drawStore, drawArea}
 use Rattle.writer.specs.History.{DrawnRow}
 use Rattle.writer.specs.Demand3.{All}
@@ -88,17 +88,16 @@ row-line : (k : ℕ) (y : Memory) (b : BandRow) → lineLeft k y (headPart (b .l
 unfolding drawnLine
 row-line k y b = left-head k y (b .level) (b .band) (b .row) (b .length)
 
-module _ (n k : ℕ) (i : Input) (w : Writer) (x z : Memory) where
-  pub drawn-input : drawScene n k i w x z .listing .input ≡ i
-  unfolding drawScene
-  drawn-input = go (drawReply w n k x)
-    where
-      go : (y : Reply Handed) → drawnTo i w y .input ≡ i
-      go (gives (aRow r u)) = refl
-      go (gives nothing) = refl
-      go (turned q) = refl
-
 module _ (n k W H L : ℕ) (s : setUpQuestion W L n ≡ 0) (wide : W ≤ k) (i : Input) (w : Writer) (x z : Memory) where
+  -- the input stays: the writer does not refuse
+  pub drawn-input : (hs : List ℕ) (f : Bool) (ds : List DrawnRow) → Ran W L n hs f ds w x → drawScene n k i w x z .listing .input ≡ i
+  unfolding drawScene
+  drawn-input hs f ds r = go (drawReply w n k x) (draw-out W L n hs f ds w x r k z s wide)
+    where
+      go : (a : Reply Handed) → DrawOut W L n hs f ds w x r k z a → drawnTo i w a .input ≡ i
+      go a (all-out p q) = refl
+      go a (one-out b u p q) = refl
+
   pub draw-begun : (hs : List ℕ) (f : Bool) (o : List ℕ) (ds : List DrawnRow) → Ran W L n hs f ds w x → o ≡ sizeLine W H L ++ drawnText ds
       → Begun n k W H L hs false f o (drawScene n k i w x z)
   unfolding drawScene

@@ -7,7 +7,7 @@
 -- Assumes nothing.
 use mathlib.Core.Path.{_≡_, refl, sym, ap, subst, subst₂, _∙_}
 use mathlib.Core.Bool.{Bool, false}
-use mathlib.Core.List.{List, [], _∷_, _++_, append-assoc, append-nil}
+use mathlib.Core.List.{List, [], _∷_, _++_, append-nil}
 use Prim.Native.Nat.{ℕ, _+_, _≤_, _<_}
 use native.Mathlib.Omega.{arith}
 use lib.ListN.{take, drop}
@@ -15,10 +15,10 @@ use lib.Seq.{take-at}
 use Rattle.wavelet.specs.Store.{storeLength}
 use Rattle.writer.specs.Level.{Memory}
 use Rattle.writer.specs.Demand3.{All}
-use Rattle.listing.specs.Listing.{listingOf, dueOf}
+use Rattle.listing.specs.Listing.{maxListedWidth, listingOf, dueOf}
 use Rattle.listing.specs.Hearing.{silent, endHeard}
 use Rattle.listing.specs.Scenes.{Scene, scene, started, endScene}
-use Rattle.listing.specs.Moves.{Idle, Goes, stays, then, Session, begun, call}
+use Rattle.listing.specs.Moves.{Idle, Goes, stays, Went, Session, begun, call}
 use Rattle.listing.specs.Telling.{Event, Ending, heardOn, listen, endingOf}
 use Rattle.listing.specs.declared.input.Input.{Input}
 use Rattle.listing.proofs.HearingLaws.{heard-all}
@@ -28,6 +28,7 @@ use Rattle.listing.proofs.ToldText.{due-told, listing-told}
 use Rattle.listing.proofs.HearsHow.{Sane}
 use Rattle.listing.proofs.ListingReached.{Told}
 use Rattle.listing.proofs.ListingHears.{Heards}
+use Rattle.listing.proofs.MoveLaws.{goes-on}
 use Rattle.listing.proofs.ListingGoes.{goes-told, begun-told}
 use Rattle.listing.proofs.ListingEnds.{EndTold, all-came, few-came, was-over, EndOut, end-told}
 use Rattle.listing.proofs.ListingDue.{told-due, told-prefix}
@@ -86,34 +87,34 @@ module _ (n k : ℕ) (store : storeLength 1025 5 ≤ n) (row : 1025 ≤ k) (x z 
         go (was-over t) = told-prefix n k store s₂ (on t)
 
 -- ---- calls are moves
-joined : {n k : ℕ} {s s₁ s₂ : Scene} {u v t w : List ℕ} → Goes n k s u t s₁ → Goes n k s₁ v w s₂ → Goes n k s (u ++ v) (t ++ w) s₂
-joined {n} {k} {s} {u = u} {t = t} g (stays s₁) = subst₂ (λ a b. Goes n k s a b s₁) (sym (append-nil u)) (sym (append-nil t)) g
-joined {n} {k} {s} {u = u} {t = t} g (then {s₂ = s₂} {u = u₁} {v = v} {t = t₁} {w = w} h m) =
-    subst₂ (λ a b. Goes n k s a b s₂) (append-assoc u u₁ v) (append-assoc t t₁ w) (then (joined g h) m)
+module _ {n k : ℕ} {s s′ : Scene} {p o o′ : List ℕ} {a b : ℕ} (c : Went n k s p 0 a o o′ 0 b s′) where
+  call-read : take a p ≡ c .bytes
+  call-read = ap (take a) (c .read) ∙ take-at (c .bytes) (drop a p) a (omega (arith, c .used))
+
+  pub call-wrote : take b o′ ≡ c .text
+  call-wrote = ap (take b) (c .wrote .text) ∙ take-at (c .text) (drop b o) b (omega (arith, c .wrote .place))
 
 pub session-goes : {n k : ℕ} {s s′ : Scene} {u t : List ℕ} → Session n k s u t s′ → Goes n k s u t s′
 session-goes (begun s) = stays s
-session-goes {n} {k} {s} (call {s₂ = s₂} {u = u} {t = t} {p = p} {o = o} {o′ = o′} {a = a} {b = b} g c) =
-    subst₂ (λ v w. Goes n k s (u ++ v) (t ++ w) s₂) (sym read) (sym wrote) (joined (session-goes g) (c .goes))
-  where
-    read : take a p ≡ c .bytes
-    read = ap (take a) (c .read) ∙ take-at (c .bytes) (drop a p) a (omega (arith, c .used))
-
-    wrote : take b o′ ≡ c .text
-    wrote = ap (take b) (c .wrote .text) ∙ take-at (c .text) (drop b o) b (omega (arith, c .wrote .place))
+session-goes {n} {k} {s} (call {s₂ = s₂} {u = u} {t = t} g c) =
+    subst₂ (λ v w. Goes n k s (u ++ v) (t ++ w) s₂) (sym (call-read c)) (sym (call-wrote c)) (goes-on (session-goes g) (c .goes))
 
 -- ---- whatever the calls
-module _ (n k : ℕ) (store : storeLength 1025 5 ≤ n) (row : 1025 ≤ k) (x z : Memory) {u o : List ℕ} {s : Scene} (bytes : All (λ b. b ≤ 255) u) (reads : Session n k (scene started x z) u o s) where
+module _ (n k : ℕ) (store : storeLength maxListedWidth 5 ≤ n) (row : maxListedWidth ≤ k) (x z : Memory) {u o : List ℕ} {s : Scene} (bytes : All (λ b. b ≤ 255) u) (reads : Session n k (scene started x z) u o s) where
   pub due : Idle s → o ≡ dueOf u
+  unfolding maxListedWidth
   due = moves-due n k store row x z bytes (session-goes reads)
 
   pub prefix : (r : List ℕ) × (o ++ r ≡ dueOf u)
+  unfolding maxListedWidth
   prefix = moves-prefix n k store row x z bytes (session-goes reads)
 
   -- after the end of the input; a listing that is fed after it (v) takes no notice
   module _ (idle : Idle s) {v o₂ : List ℕ} {s₂ : Scene} (more : All (λ b. b ≤ 255) v) (writes : Session n k (endScene n k s) v o₂ s₂) where
     pub whole : Idle s₂ → o ++ o₂ ≡ listingOf u
+    unfolding maxListedWidth
     whole = moves-whole n k store row x z bytes (session-goes reads) idle more (session-goes writes)
 
     pub partly : (r : List ℕ) × ((o ++ o₂) ++ r ≡ listingOf u)
+    unfolding maxListedWidth
     partly = moves-partly n k store row x z bytes (session-goes reads) idle more (session-goes writes)

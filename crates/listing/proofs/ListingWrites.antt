@@ -94,21 +94,26 @@ module _ (n k : ℕ) (s : Scene) where
           ]
         ]
 
-  pub wholly-input : advanceScene n k s .listing .input ≡ s .listing .input
-  wholly-input =
-      elim (decLt (l .part) 3) [
-        | yes h ↦ ap (λ y. y .listing .input) (to-none h)
-        | no g ↦ elim (ℕ-discrete (l .part) 3) [
-          | yes h ↦ ap (λ y. y .listing .input) (to-values h)
-          | no d ↦ elim (decLt (l .value) (l .length)) [
-            | yes h ↦ ap (λ y. y .listing .input) (to-next (omega arith) d h)
-            | no h ↦ ap (λ y. y .listing .input) (to-draw (omega arith) d (omega arith)) ∙ drawn-input n k (s .listing .input) (s .listing .writer) (s .store) (s .row)
+    wholly-input : advanceScene n k s .listing .input ≡ s .listing .input
+    wholly-input =
+        elim (decLt (l .part) 3) [
+          | yes h ↦ ap (λ y. y .listing .input) (to-none h)
+          | no g ↦ elim (ℕ-discrete (l .part) 3) [
+            | yes h ↦ ap (λ y. y .listing .input) (to-values h)
+            | no d ↦ elim (decLt (l .value) (l .length)) [
+              | yes h ↦ ap (λ y. y .listing .input) (to-next (omega arith) d h)
+              | no h ↦ ap (λ y. y .listing .input) (to-draw (omega arith) d (omega arith)) ∙ drawn-input n k W H L q wide (s .listing .input) (s .listing .writer) (s .store) (s .row) hs f (e .drawn) (e .ran)
+            ]
           ]
         ]
-      ]
 
   pub wholly-told : storeLength 1025 5 ≤ n → 1025 ≤ k → 0 < l .part → {E : List Event} {f : Bool} {o : List ℕ} → Told n k E f o s → Told n k E f (o ++ leftOn k s) (advanceScene n k s)
   wholly-told store row p (quiet a b c d e) = absurd (omega arith)
   wholly-told store row p {E} {f} {o} (refused a b c d e) = subst (Told n k E f (o ++ leftOn k s)) (sym (to-none d)) (refused a b c (omega arith) (short-moved o p d e))
   wholly-told store row p {E} {f} {o} (begun W H L hs nay a b c d e) =
-      begun W H L hs nay a b c (subst (λ y. InputAt y (W * H) hs nay f) (sym wholly-input) d) (wholly-begun (set-up-in n store b) (omega (arith, b .columns)) e p)
+      begun W H L hs nay a b c (subst (λ y. InputAt y (W * H) hs nay f) (sym (wholly-input (set-up-in n store b) (omega (arith, b .columns)) e p)) d) (wholly-begun (set-up-in n store b) (omega (arith, b .columns)) e p)
+
+  pub told-input : storeLength 1025 5 ≤ n → 1025 ≤ k → 0 < l .part → {E : List Event} {f : Bool} {o : List ℕ} → Told n k E f o s → advanceScene n k s .listing .input ≡ s .listing .input
+  told-input store row p (quiet a b c d e) = absurd (omega arith)
+  told-input store row p (refused a b c d e) = ap (λ y. y .listing .input) (to-none d)
+  told-input store row p (begun W H L hs nay a b c d e) = wholly-input (set-up-in n store b) (omega (arith, b .columns)) e p

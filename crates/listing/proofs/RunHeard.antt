@@ -5,7 +5,6 @@ use mathlib.Core.List.{List, [], _∷_, map}
 use Prim.Native.Nat.{ℕ, zero, suc, _+_, _-_, _*_, _≤_, _<_}
 use native.Mathlib.Omega.{arith}
 use lib.ListN.{length, take}
-use lib.Seq.{take-nil}
 use Rattle.pgm.specs.Samples.{heightsOf}
 use Rattle.pgm.specs.declared.header.Header.{Header}
 use Rattle.writer.specs.Demand3.{All, all-none, all-more}
@@ -17,13 +16,6 @@ use Rattle.listing.proofs.HearingLaws.{at, first-byte, second-byte}
 -- ---- bytes and heights
 twice : (j : ℕ) → 2 * suc j ≡ suc (suc (2 * j))
 twice j = omega arith
-
-pub take-heights : (j : ℕ) (s : List ℕ) → heightsOf (take (2 * j) s) ≡ take j (heightsOf s)
-unfolding heightsOf
-take-heights zero s = refl
-take-heights (suc j) [] = rw (twice j) refl
-take-heights (suc j) (a ∷ []) = rw (twice j) (ap (λ l. heightsOf (a ∷ l)) (take-nil (suc (2 * j))))
-take-heights (suc j) (a ∷ b ∷ s) = rw (twice j) (ap (λ l. (256 * a + b) ∷ l) (take-heights j s))
 
 pub small-heights : (s : List ℕ) → All (λ b. b ≤ 255) s → All (λ h. h ≤ 65535) (heightsOf s)
 unfolding heightsOf

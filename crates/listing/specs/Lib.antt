@@ -7,3 +7,4 @@ pub mod Telling
 pub mod Parts
 pub mod Scenes
 pub mod Moves
+pub mod Pieces

@@ -1,4 +1,4 @@
--- The parts of a line, as the code writes them: `partText`. proofs/PartLaws joins them to lines.
+-- The parts of a line, as the code writes them: `partText`. proofs/LineLeft joins them to lines.
 use mathlib.Core.Bool.{Bool, true, false}
 use mathlib.Core.List.{List, [], _∷_, _++_}
 use mathlib.Core.Path.{_≡_}

@@ -11,7 +11,7 @@ use Rattle.writer.specs.Level.{Memory}
 use Rattle.writer.specs.Answers.{Reply, gives, refused, Took, Handed, aRow, nothing}
 use Rattle.writer.specs.Calls.{fresh, setUpReply, setUpStore, offerReply, offerStore, drawReply, drawStore, drawArea, finishReply, finishStore}
 use Rattle.writer.specs.declared.Writer.{Writer}
-use Rattle.listing.specs.Hearing.{silent, hears, endHeard}
+use Rattle.listing.specs.Hearing.{silent, phased, hears, endHeard}
 use Rattle.listing.specs.Parts.{noLine, sizePart, refusedPart, headPart, partText}
 use Rattle.listing.specs.declared.input.Input.{Input}
 use Rattle.listing.specs.declared.input.Heard.{Heard}
@@ -42,8 +42,9 @@ listed i w l = record { input = i; writer = w; line = l }
 abbrev pub started : Listing
 started = listed silent (fresh 1 1) noLine
 
+-- a refusal, whatever its number: no more is heard
 abbrev pub refusedTo : Input → Writer → ℕ → Listing
-refusedTo i w q = listed i w (refusedPart q)
+refusedTo i w q = listed (phased 4 i) w (refusedPart q)
 
 -- ---- a draw: the row that waits becomes the line
 abbrev pub drawnTo : Input → Writer → Reply Handed → Listing

@@ -51,7 +51,7 @@ impl Input {
         }
     }
 
-    fn at_phase(self, phase: usize) -> Self
+    pub fn at_phase(self, phase: usize) -> Self
         ensures { λ r. ⌜ r ≡ phased phase self ⌝ }
     {
         let header = self.header;

@@ -10,6 +10,8 @@ ghost use mathlib.Core.Path.{_≡_};
 ghost use Prim.Native.Nat.{_≤_};
 ghost use lib.ListN.{length};
 ghost use Rattle.numbers.specs.Signal.{at};
+ghost use Rattle.wavelet.specs.Store.{storeLength};
+ghost use Rattle.listing.specs.Listing.{maxListedWidth};
 ghost use Rattle.listing.specs.Scenes.{scene, Leaves, started, endScene};
 ghost use Rattle.listing.specs.Moves.{Went, Stops, Onward};
 
@@ -28,6 +30,24 @@ pub struct Fed {
 }
 
 impl Listing {
+    // How many numbers the lent areas have to hold so that no map listed is refused: the line store of the largest width and five levels, and the longest band row.
+    pub const STORE: usize = 7956;
+
+    pub const ROW: usize = 1025;
+
+    // The constants, each pinned to the definition's number.
+    pub fn store_length() -> usize
+        ensures { λ r. ⌜ r ≡ storeLength maxListedWidth 5 ⌝ }
+    {
+        Listing::STORE
+    }
+
+    pub fn row_length() -> usize
+        ensures { λ r. ⌜ r ≡ maxListedWidth ⌝ }
+    {
+        Listing::ROW
+    }
+
     pub fn start() -> Self
         ensures { λ r. ⌜ r ≡ started ⌝ }
     {

@@ -14,11 +14,12 @@ ghost use Rattle.numbers.specs.Signal.{at};
 ghost use Rattle.writer.specs.Calls.{setUpReply, setUpStore};
 ghost use Rattle.listing.specs.Scenes.{scene, Leaves, refusedTo, drawScene, begunTo, offerScene, finishScene, hearScene, valuePart, advanceScene};
 
+// A refusal, whatever its number: no more is heard.
 pub fn refuse(input: Input, writer: Writer, number: u8) -> Listing
     ensures { λ r. ⌜ r ≡ refusedTo input writer number ⌝ }
 {
     Listing {
-        input,
+        input: input.at_phase(4),
         writer,
         line: Line::refused(number as usize),
     }

@@ -111,7 +111,7 @@ fn resume(start: usize, done: usize) -> usize
     start
 }
 
-// Writes as much of the line's part as there is room for, from place `at` of out on.
+// Writes as much of the line's part as there is room for, from `place` of out on.
 pub fn spell(line: Line, row: &[i32], out: &mut [u8], place: usize) -> Spelt
     requires { ⌜ place ≤ length (now out) ⌝ }
     ensures { λ r. ⌜ Spelled (partText (length (now (row .entry))) (at (now (row .entry))) line) (line .done) place (now (out .entry)) (now (out .exit)) r ⌝ }

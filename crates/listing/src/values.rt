@@ -33,7 +33,7 @@ fn digits(n: usize) -> usize
 }
 
 // One value from place `at` on; answers the place after it.
-fn put_value(v: i32, out: &mut [u8], at: usize) -> usize
+fn write_value(v: i32, out: &mut [u8], at: usize) -> usize
     requires { ⌜ at + 12 ≤ length (now out) ⌝ }
     ensures { λ r. ⌜ Wrote (32 ∷ integer v) at r (now (out .entry)) (now (out .exit)) ⌝ }
 {
@@ -59,7 +59,7 @@ pub fn put_values(row: &[i32], from: usize, end: usize, out: &mut [u8], at: usiz
     let mut value = from;
     let mut place = at;
     while value < end && LONGEST <= out.len() - place {
-        place = put_value(row[value], out, place);
+        place = write_value(row[value], out, place);
         value += 1;
     }
     Values { value, place }

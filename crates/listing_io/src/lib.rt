@@ -6,11 +6,18 @@ use listing::listing::Listing;
 ghost use Prim.Native.Nat.{_+_, _≤_};
 ghost use lib.ListN.{length};
 
-// A listing, up to where a piece is read, whether that is all of it, and whether standard output takes what is written.
+// A piece being fed: the listing, up to where the piece is read, whether that is all of it and no line is left, and whether standard output takes what is written.
 struct Run {
     listing: Listing,
     used: usize,
     idle: bool,
+    open: bool,
+}
+
+// The input being read: the listing, whether the input has ended, and whether standard output takes what is written.
+struct Reading {
+    listing: Listing,
+    ended: bool,
     open: bool,
 }
 
@@ -75,30 +82,34 @@ fn feed_all(
     now
 }
 
-// One chunk of the input; `idle` at its end. An error ends the input.
-fn read_once(fd: i32, listing: Listing, store: &mut [i32], row: &mut [i32], out: &mut [u8]) -> Run {
+// One chunk of the input. An error ends the input.
+fn read_once(
+    fd: i32,
+    listing: Listing,
+    store: &mut [i32],
+    row: &mut [i32],
+    out: &mut [u8],
+) -> Reading {
     let mut chunk = [0u8; 65536];
     let got = libc::read(fd, &mut chunk);
     let n = io::count(got, &chunk);
     let fed = feed_all(listing, &chunk[..n], store, row, out);
     let next = fed.listing;
-    Run {
+    Reading {
         listing: next,
-        used: n,
-        idle: n == 0,
+        ended: n == 0,
         open: fed.open,
     }
 }
 
-fn read_all(fd: i32, store: &mut [i32], row: &mut [i32], out: &mut [u8]) -> Run {
-    let mut now = Run {
+fn read_all(fd: i32, store: &mut [i32], row: &mut [i32], out: &mut [u8]) -> Reading {
+    let mut now = Reading {
         listing: Listing::start(),
-        used: 0,
-        idle: false,
+        ended: false,
         open: true,
     };
     let mut turns = u64::MAX;
-    while turns > 0 && !now.idle && now.open {
+    while turns > 0 && !now.ended && now.open {
         let state = now.listing;
         now = read_once(fd, state, store, row, out);
         turns -= 1;
@@ -106,16 +117,16 @@ fn read_all(fd: i32, store: &mut [i32], row: &mut [i32], out: &mut [u8]) -> Run 
     now
 }
 
-// Lists the map that the descriptor gives. The store is that of a writer of the largest width listed, 1,025, and five levels.
+// Lists the map that the descriptor gives, whatever map it is that a listing takes.
 pub fn list(fd: i32) {
-    let mut store = [0i32; 7956];
-    let mut row = [0i32; 1025];
+    let mut store = [0i32; Listing::STORE];
+    let mut row = [0i32; Listing::ROW];
     let mut out = [0u8; 65536];
-    let run = read_all(fd, &mut store, &mut row, &mut out);
-    if !run.open {
+    let read = read_all(fd, &mut store, &mut row, &mut out);
+    if !read.open {
         return;
     }
-    let heard = run.listing;
+    let heard = read.listing;
     let ended = heard.end(&mut store, &mut row);
     let nothing = [0u8; 1];
     feed_all(ended, &nothing[..0], &mut store, &mut row, &mut out);

@@ -3,6 +3,9 @@ use borrow.Author.Needs.{needs}
 use Rattle.listing.proofs.scenes.refuse.Statement.{statement}
 use Rattle.listing.proofs.scenes.refuse.Tie as tie
 
+at-phase-requires : tie.Need-at-phase-requires
+at-phase-requires c κs = search needs
+
 refused-requires : tie.Need-refused-requires
 refused-requires c κs = search needs
 
@@ -10,4 +13,4 @@ returns : tie.Need-returns
 returns c = cc
 
 pub refuse-spec : {M : Type 1} → statement M
-refuse-spec = tie.close (tie.spec refused-requires returns)
+refuse-spec = tie.close (tie.spec at-phase-requires refused-requires returns)

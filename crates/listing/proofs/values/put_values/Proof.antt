@@ -73,14 +73,14 @@ loop-holds c =
 sub-if1 : tie.Need-sub-if1 Inv-loop μ-loop
 sub-if1 c = fits (c .before .loop .inv)
 
-mul-put-value : tie.Need-mul-put-value Inv-loop μ-loop
-mul-put-value c = omega (arith, c .before .before .loop .inv .long)
+mul-write-value : tie.Need-mul-write-value Inv-loop μ-loop
+mul-write-value c = omega (arith, c .before .before .loop .inv .long)
 
-shared-slice-copy-out-put-value : tie.Need-shared-slice-copy-out-put-value Inv-loop μ-loop
-shared-slice-copy-out-put-value c = omega (arith, c .before .before .loop .inv .long)
+shared-slice-copy-out-write-value : tie.Need-shared-slice-copy-out-write-value Inv-loop μ-loop
+shared-slice-copy-out-write-value c = omega (arith, c .before .before .loop .inv .long)
 
-put-value-requires : tie.Need-put-value-requires Inv-loop μ-loop
-put-value-requires c κs = room _ _ (leb-true _ _ (c .before .before .if1 .taken))
+write-value-requires : tie.Need-write-value-requires Inv-loop μ-loop
+write-value-requires c κs = room _ _ (leb-true _ _ (c .before .before .if1 .taken))
 
 add-value : tie.Need-add-value Inv-loop μ-loop
 add-value c = omega arith
@@ -89,7 +89,7 @@ loop-less : tie.Need-loop-less Inv-loop μ-loop
 loop-less c = omega arith
 
 loop-again : tie.Need-loop-again Inv-loop μ-loop
-loop-again c = next _ (c .before .before .before .before .before .before .before .loop .inv) (omega arith) (read-back _ (c .before .before .before .before .put-value-arg .given)) (c .before .before .put-value .ensures)
+loop-again c = next _ (c .before .before .before .before .before .before .before .loop .inv) (omega arith) (read-back _ (c .before .before .before .before .write-value-arg .given)) (c .before .before .write-value .ensures)
 
 same-length : tie.Need-same-length Inv-loop μ-loop
 same-length c = wrote-size (c .before .before .loop .inv .wrote)
@@ -115,9 +115,9 @@ put-values-spec =
     μ-loop
     loop-holds
     sub-if1
-    mul-put-value
-    shared-slice-copy-out-put-value
-    put-value-requires
+    mul-write-value
+    shared-slice-copy-out-write-value
+    write-value-requires
     add-value
     loop-less
     loop-again

@@ -1,4 +1,4 @@
--- `values::put_value` meets its contract: a space, the sign and at most ten digits. Assumes nothing.
+-- `values::write_value` meets its contract: a space, the sign and at most ten digits. Assumes nothing.
 use mathlib.Core.Path.{_≡_, _∙_}
 use mathlib.Core.List.{List, _∷_}
 use Prim.Native.Nat.{ℕ, _+_, _≤_, _<_}
@@ -13,8 +13,8 @@ use Rattle.listing.specs.Text.{Put, Wrote}
 use Rattle.listing.proofs.DecimalLaws.{below, above, within, ten-digits}
 use Rattle.listing.proofs.TextLaws.{same-size, wrote-byte, wrote-on, put-wrote}
 use borrow.Author.Needs.{needs}
-use Rattle.listing.proofs.values.put_value.Statement.{statement}
-use Rattle.listing.proofs.values.put_value.Tie as tie
+use Rattle.listing.proofs.values.write_value.Statement.{statement}
+use Rattle.listing.proofs.values.write_value.Tie as tie
 
 few : {v : ℤ} {r n : ℕ} → SFits w32 v → r ≡ natAbs (toZ w32 (ofZ w32 v)) → n ≡ length (numeral r) → n ≤ 10
 few {v} {r} {n} f e g = omega (arith, ten-digits v _ r (toZ-ofZ w32 v f) e f)
@@ -125,8 +125,8 @@ returns-2 c =
     rw (← above (a .args .v) _ _ (toZ-ofZ w32 _ (a .fits .v)) (m .magnitude .ensures) (c .before .before .before .before .if1 .left))
     (plain _ _ _ _ (omega arith) (d .digits .ensures) (c .before .before .put-digits2 .ensures))
 
-pub put-value-spec : {M : Type 1} → statement M
-put-value-spec =
+pub write-value-spec : {M : Type 1} → statement M
+write-value-spec =
     tie.close
     (tie.spec
     magnitude-requires

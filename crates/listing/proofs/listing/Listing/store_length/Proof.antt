@@ -1,0 +1,15 @@
+-- `Listing::store_length` meets its contract: the definition's number. Assumes nothing.
+use mathlib.Core.Path.{refl}
+use Rattle.lifting.specs.Line.{count}
+use Rattle.wavelet.specs.Levels.{size}
+use Rattle.wavelet.specs.Store.{widths, storeLength}
+use Rattle.listing.specs.Listing.{maxListedWidth}
+use Rattle.listing.proofs.listing.Listing.store_length.Statement.{statement}
+use Rattle.listing.proofs.listing.Listing.store_length.Tie as tie
+
+returns : tie.Need-returns
+unfolding maxListedWidth storeLength widths size count
+returns c = refl
+
+pub store-length-spec : {M : Type 1} → statement M
+store-length-spec = tie.close (tie.spec returns)
