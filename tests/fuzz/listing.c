@@ -3,6 +3,7 @@
  * the program runs as it was built, in a process of its own. tests/fuzz/run builds and runs it. */
 #define _GNU_SOURCE
 #include "model.h"
+#include <errno.h>
 #include <fcntl.h>
 #include <spawn.h>
 #include <stdio.h>
@@ -126,9 +127,12 @@ static size_t run(const uint8_t *data, size_t size, size_t cut)
     close(in[1]);
     size_t n = 0;
     ssize_t got;
-    while (n < ROOM && (got = read(out[0], found + n, ROOM - n)) > 0) n += (size_t)got;
+    /* the fuzzer's own alarm interrupts a read now and then */
+    while (n < ROOM && ((got = read(out[0], found + n, ROOM - n)) > 0 || (got < 0 && errno == EINTR))) n += got > 0 ? (size_t)got : 0;
     close(out[0]);
-    if (waitpid(child, &status, 0) < 0 || status) {
+    while (waitpid(child, &status, 0) < 0)
+        if (errno != EINTR) abort();
+    if (status) {
         fprintf(stderr, "the program ended with %s %d\n", WIFSIGNALED(status) ? "signal" : "status", WIFSIGNALED(status) ? WTERMSIG(status) : WEXITSTATUS(status));
         abort();
     }
