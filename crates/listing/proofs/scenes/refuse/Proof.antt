@@ -1,13 +1,14 @@
 -- `scenes::refuse` meets its contract. Assumes nothing.
-use borrow.Author.Needs.{needs}
+use mathlib.Core.Path.{ap}
+use Rattle.listing.specs.Scenes.{listed}
 use Rattle.listing.proofs.scenes.refuse.Statement.{statement}
 use Rattle.listing.proofs.scenes.refuse.Tie as tie
 
 refused-requires : tie.Need-refused-requires
-refused-requires c κs = search needs
+refused-requires c κs = tt
 
 returns : tie.Need-returns
-returns c = cc
+returns c = ap (listed _ _) (c .refused .ensures)
 
 pub refuse-spec : {M : Type 1} → statement M
 refuse-spec = tie.close (tie.spec refused-requires returns)
