@@ -22,6 +22,7 @@ pub mod ListingEnds
 pub mod ListingDue
 pub mod ListingTheorem
 pub mod MoveLaws
+pub mod NextLaws
 pub mod WritingMoves
 pub mod ReadingMoves
 pub mod TurnLaws

@@ -1,11 +1,12 @@
 // What comes in while no line is being written: heights that came together are offered together, any other byte is heard by itself. The module is private: only this crate, which meets what is required, can call it.
 use crate::copy;
+use crate::input::Input;
 use crate::listing::Listing;
 use crate::scenes;
 use pgm::samples;
 use writer::Offered;
 ghost use mathlib.Core.Path.{_≡_};
-ghost use mathlib.Core.Bool.{false};
+ghost use mathlib.Core.Bool.{true, false};
 ghost use Prim.Native.Nat.{_+_, _<_, _≤_};
 ghost use lib.ListN.{length};
 ghost use Rattle.numbers.specs.Signal.{at};
@@ -73,6 +74,23 @@ fn read_heights(
     read_run(listing, piece, used, store, row, &mut run)
 }
 
+// Whether a whole height is next. Where it says no, the next byte is heard, which is right for any input.
+fn are_next(input: Input, bytes: usize) -> bool
+    ensures { λ r. ⌜ (r ≡ true → (input .phase ≡ 3) × (input .samples .half ≡ false) × (0 < input .left) × (2 ≤ bytes)) ⌝ }
+{
+    let samples = input.samples;
+    if input.phase != 3 {
+        return false;
+    }
+    if samples.half {
+        return false;
+    }
+    if input.left == 0 {
+        return false;
+    }
+    2 <= bytes
+}
+
 pub fn read_on(
     listing: Listing,
     piece: &[u8],
@@ -83,19 +101,8 @@ pub fn read_on(
     requires { ⌜ (listing .line .part ≡ 0) × (used < length (now piece)) ⌝ }
     ensures { λ r. ⌜ Reads (length (now (store .entry))) (length (now (row .entry))) (scene listing (at (now (store .entry))) (at (now (row .entry)))) (now (piece .entry)) used (r .used) (scene (r .listing) (at (now (store .exit))) (at (now (row .exit)))) ⌝ }
 {
-    let input = listing.input;
-    let samples = input.samples;
-    if input.phase != 3 {
-        return read_byte(listing, piece, used, store, row);
+    if are_next(listing.input, piece.len() - used) {
+        return read_heights(listing, piece, used, store, row);
     }
-    if samples.half {
-        return read_byte(listing, piece, used, store, row);
-    }
-    if input.left == 0 {
-        return read_byte(listing, piece, used, store, row);
-    }
-    if piece.len() - used < 2 {
-        return read_byte(listing, piece, used, store, row);
-    }
-    read_heights(listing, piece, used, store, row)
+    read_byte(listing, piece, used, store, row)
 }

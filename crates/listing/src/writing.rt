@@ -6,6 +6,7 @@ use crate::scenes;
 use crate::spelling;
 use crate::values;
 ghost use mathlib.Core.Path.{_≡_};
+ghost use mathlib.Core.Bool.{true};
 ghost use Prim.Native.Nat.{_+_, _<_, _≤_};
 ghost use lib.ListN.{length};
 ghost use Rattle.numbers.specs.Signal.{at};
@@ -67,6 +68,25 @@ fn write_part(
     }
 }
 
+// Whether a whole value is next and there is room for the longest. Where it says no, the part is written as far as there is room, which is right for any line.
+fn are_next(line: Line, row: usize, room: usize) -> bool
+    ensures { λ r. ⌜ (r ≡ true → (3 < line .part) × (line .done ≡ 0) × (line .value < line .length) × (line .value < row) × (12 ≤ room)) ⌝ }
+{
+    if line.part < 4 {
+        return false;
+    }
+    if 0 < line.done {
+        return false;
+    }
+    if line.length <= line.value {
+        return false;
+    }
+    if row <= line.value {
+        return false;
+    }
+    values::LONGEST <= room
+}
+
 pub fn write_on(
     listing: Listing,
     store: &mut [i32],
@@ -78,20 +98,8 @@ pub fn write_on(
     ensures { λ r. ⌜ Writes (length (now (store .entry))) (length (now (row .entry))) (scene listing (at (now (store .entry))) (at (now (row .entry)))) (now (out .entry)) (now (out .exit)) place (r .place) (scene (r .listing) (at (now (store .exit))) (at (now (row .exit)))) ⌝ }
 {
     let line = listing.line;
-    if line.part < 4 {
-        return write_part(listing, store, row, out, place);
+    if are_next(line, row.len(), out.len() - place) {
+        return write_values(listing, row, out, place);
     }
-    if 0 < line.done {
-        return write_part(listing, store, row, out, place);
-    }
-    if line.length <= line.value {
-        return write_part(listing, store, row, out, place);
-    }
-    if row.len() <= line.value {
-        return write_part(listing, store, row, out, place);
-    }
-    if out.len() - place < values::LONGEST {
-        return write_part(listing, store, row, out, place);
-    }
-    write_values(listing, row, out, place)
+    write_part(listing, store, row, out, place)
 }

@@ -14,7 +14,7 @@ part-feed-end : tie.Need-part-feed-end
 part-feed-end c = search needs
 
 feed-requires : tie.Need-feed-requires
-feed-requires c κs = search needs
+feed-requires c κs = tt
 
 write-out-requires : tie.Need-write-out-requires
 write-out-requires c κs = search needs
@@ -23,13 +23,13 @@ run-on-requires : tie.Need-run-on-requires
 run-on-requires c κs = search needs
 
 same-length : tie.Need-same-length
-same-length c = search needs
+same-length c = c .before .before .before .before .before .before .before .feed .kept .1 .1 .0
 
 same-length-2 : tie.Need-same-length-2
-same-length-2 c = search needs
+same-length-2 c = c .before .before .before .before .before .before .before .feed .kept .1 .1 .1 .0
 
 same-length-3 : tie.Need-same-length-3
-same-length-3 c = search needs
+same-length-3 c = c .before .before .before .before .before .before .before .feed .kept .1 .1 .1 .1 .0
 
 returns : tie.Need-returns
 returns c =

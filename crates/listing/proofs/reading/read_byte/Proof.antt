@@ -11,16 +11,16 @@ shared-slice-read-hear : tie.Need-shared-slice-read-hear
 shared-slice-read-hear c = search needs
 
 hear-requires : tie.Need-hear-requires
-hear-requires c κs = search needs
+hear-requires c κs = tt
 
 add-t13 : tie.Need-add-t13
 add-t13 c = search needs
 
 same-length : tie.Need-same-length
-same-length c = search needs
+same-length c = c .before .before .hear .kept .1 .1 .0
 
 same-length-2 : tie.Need-same-length-2
-same-length-2 c = search needs
+same-length-2 c = c .before .before .hear .kept .1 .1 .1 .0
 
 returns : tie.Need-returns
 returns c =

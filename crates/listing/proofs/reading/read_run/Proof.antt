@@ -12,7 +12,7 @@ use Rattle.listing.proofs.reading.read_run.Statement.{statement}
 use Rattle.listing.proofs.reading.read_run.Tie as tie
 
 least-requires : tie.Need-least-requires
-least-requires c κs = search needs
+least-requires c κs = tt
 
 slice-relend-prefix-read : tie.Need-slice-relend-prefix-read
 slice-relend-prefix-read c = search needs
@@ -22,7 +22,7 @@ slice-aggregate-read c =
     sym (length-take-le _ _ (omega (arith, c .before .least .ensures)))
 
 read-requires : tie.Need-read-requires
-read-requires c κs = search needs
+read-requires c κs = tt
 
 slice-reshare-prefix-offer : tie.Need-slice-reshare-prefix-offer
 slice-reshare-prefix-offer c =
@@ -37,16 +37,16 @@ slice-aggregate-offer c =
     sym (length-take-le _ _ (back-room (l .before .before .before .before .before .args .run .now) (r .read .last .1 .1 .0) (l .least .result) (r .read .result) (omega (arith, l .least .ensures)) (r .read .kept .1 .1 .0) (omega (arith, r .read .ensures .0))))
 
 offer-requires : tie.Need-offer-requires
-offer-requires c κs = search needs
+offer-requires c κs = tt
 
 enum-known-taken : tie.Need-enum-known-taken
 enum-known-taken c = search needs
 
 took-requires : tie.Need-took-requires
-took-requires c κs = search needs
+took-requires c κs = tt
 
 draw-requires : tie.Need-draw-requires
-draw-requires c κs = search needs
+draw-requires c κs = tt
 
 mul-t28 : tie.Need-mul-t28
 mul-t28 c =
@@ -83,10 +83,12 @@ read-byte-requires : tie.Need-read-byte-requires
 read-byte-requires c κs = search needs
 
 same-length : tie.Need-same-length
-same-length c = search needs
+same-length c =
+    let d = c .before .before in
+    d .draw .kept .1 .1 .0 ∙ d .before .before .before .before .before .before .before .before .offer .kept .1 .0
 
 same-length-2 : tie.Need-same-length-2
-same-length-2 c = search needs
+same-length-2 c = c .before .before .draw .kept .1 .1 .1 .0
 
 same-length-3 : tie.Need-same-length-3
 same-length-3 c =
@@ -109,13 +111,18 @@ returns c =
     heights-on (length (a .store .now)) (length (a .row .now)) s _ _ _ _ _ run reply _ _ _ _ (st .pre .0) (st .pre .1) (st .pre .2) (o .offer .kept .1 .0) (k .took .ensures) (o .offer .ensures .1 .0) (c .before .before .draw .ensures)
 
 same-length-4 : tie.Need-same-length-4
-same-length-4 c = search needs
+same-length-4 c =
+    let b = c .before .before in
+    b .read-byte .kept .1 .1 .1 .0 ∙ b .before .before .before .before .before .before .offer .kept .1 .0
 
 same-length-5 : tie.Need-same-length-5
-same-length-5 c = search needs
+same-length-5 c = c .before .before .read-byte .kept .1 .1 .1 .1 .0
 
 same-length-6 : tie.Need-same-length-6
-same-length-6 c = search needs
+same-length-6 c =
+    let r = c .before .before .before .before .before .before .before .before .before .before .before .before .before in
+    let l = r .before .before in
+    back-size (l .before .before .before .before .before .args .run .now) (r .read .last .1 .1 .0) (l .least .result) (r .read .result) (omega (arith, l .least .ensures)) (r .read .kept .1 .1 .0)
 
 returns-2 : tie.Need-returns-2
 returns-2 c =

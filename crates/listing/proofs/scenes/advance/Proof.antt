@@ -9,7 +9,7 @@ use Rattle.listing.proofs.scenes.advance.Statement.{statement}
 use Rattle.listing.proofs.scenes.advance.Tie as tie
 
 none-requires : tie.Need-none-requires
-none-requires c κs = search needs
+none-requires c κs = tt
 
 returns : tie.Need-returns
 returns c =
@@ -18,7 +18,7 @@ returns c =
     past-line (length (a .store .now)) (length (a .row .now)) (scene (a .listing) (at (a .store .now)) (at (a .row .now))) _ (t .if1 .taken) (ap (listed _ _) (c .none .ensures))
 
 at-value-requires : tie.Need-at-value-requires
-at-value-requires c κs = search needs
+at-value-requires c κs = tt
 
 returns-2 : tie.Need-returns-2
 returns-2 c =
@@ -30,7 +30,7 @@ add-at-value : tie.Need-add-at-value
 add-at-value c = search needs
 
 at-value-requires-2 : tie.Need-at-value-requires-2
-at-value-requires-2 c κs = search needs
+at-value-requires-2 c κs = tt
 
 returns-3 : tie.Need-returns-3
 returns-3 c =
@@ -40,13 +40,13 @@ returns-3 c =
     past-value (length (a .store .now)) (length (a .row .now)) (scene (a .listing) (at (a .store .now)) (at (a .row .now))) _ (e .before .if1 .left) (e .if2 .left) (t .if3 .taken) (ap (listed _ _) (c .at-value2 .ensures))
 
 draw-requires : tie.Need-draw-requires
-draw-requires c κs = search needs
+draw-requires c κs = tt
 
 same-length : tie.Need-same-length
-same-length c = search needs
+same-length c = c .before .before .draw .kept .1 .1 .0
 
 same-length-2 : tie.Need-same-length-2
-same-length-2 c = search needs
+same-length-2 c = c .before .before .draw .kept .1 .1 .1 .0
 
 returns-4 : tie.Need-returns-4
 returns-4 c =

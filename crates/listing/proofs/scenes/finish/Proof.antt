@@ -7,19 +7,19 @@ use Rattle.listing.proofs.scenes.finish.Statement.{statement}
 use Rattle.listing.proofs.scenes.finish.Tie as tie
 
 finish-requires : tie.Need-finish-requires
-finish-requires c κs = search needs
+finish-requires c κs = tt
 
 enum-known-next : tie.Need-enum-known-next
 enum-known-next c = search needs
 
 draw-requires : tie.Need-draw-requires
-draw-requires c κs = search needs
+draw-requires c κs = tt
 
 enum-known-q : tie.Need-enum-known-q
 enum-known-q c = search needs
 
 refuse-requires : tie.Need-refuse-requires
-refuse-requires c κs = search needs
+refuse-requires c κs = tt
 
 same-length : tie.Need-same-length
 same-length c = search needs

@@ -21,10 +21,10 @@ put-number-requires : tie.Need-put-number-requires
 put-number-requires c κs = search needs
 
 first-letter-requires : tie.Need-first-letter-requires
-first-letter-requires c κs = search needs
+first-letter-requires c κs = tt
 
 second-letter-requires : tie.Need-second-letter-requires
-second-letter-requires c κs = search needs
+second-letter-requires c κs = tt
 
 put-four-requires : tie.Need-put-four-requires
 put-four-requires c κs =

@@ -42,7 +42,7 @@ sub-t18 : tie.Need-sub-t18
 sub-t18 c = search needs
 
 same-length : tie.Need-same-length
-same-length c = search needs
+same-length c = c .before .before .copy .kept .1 .1 .0
 
 returns : tie.Need-returns
 returns c =

@@ -4,7 +4,6 @@ use mathlib.Core.List.{List, [], _∷_, _++_, append-assoc, append-nil}
 use Prim.Native.Nat.{ℕ, _+_, _/_, _%_, _≤_, _<_}
 use native.Mathlib.Omega.{arith}
 use lib.ListN.{length, length-append}
-use borrow.Author.Needs.{needs}
 use Rattle.listing.specs.Decimal.{numeral}
 use Rattle.listing.specs.Text.{Put}
 use Rattle.listing.proofs.DecimalLaws.{one-digit, last-digit, some-digit}
@@ -56,7 +55,7 @@ loop-holds : tie.Need-loop-holds Inv-loop μ-loop
 loop-holds c = start _ _ _ (c .before .pre .0) (c .before .pre .1)
 
 last-digit-requires : tie.Need-last-digit-requires Inv-loop μ-loop
-last-digit-requires c κs = search needs
+last-digit-requires c κs = tt
 
 put-byte-requires : tie.Need-put-byte-requires Inv-loop μ-loop
 put-byte-requires c κs = room (c .before .before .before .loop .inv)
@@ -71,7 +70,7 @@ loop-again c =
     next (d .before .before .loop .inv) (omega arith) (d .last-digit .ensures) (p .put-byte .ensures)
 
 last-digit-requires-2 : tie.Need-last-digit-requires-2 Inv-loop μ-loop
-last-digit-requires-2 c κs = search needs
+last-digit-requires-2 c κs = tt
 
 put-byte-requires-2 : tie.Need-put-byte-requires-2 Inv-loop μ-loop
 put-byte-requires-2 c κs = room (c .before .before .before .loop .inv)

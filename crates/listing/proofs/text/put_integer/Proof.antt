@@ -10,7 +10,7 @@ use Rattle.listing.proofs.text.put_integer.Statement.{statement}
 use Rattle.listing.proofs.text.put_integer.Tie as tie
 
 magnitude-requires : tie.Need-magnitude-requires
-magnitude-requires c κs = search needs
+magnitude-requires c κs = tt
 
 put-number-requires : tie.Need-put-number-requires
 put-number-requires c κs = search needs

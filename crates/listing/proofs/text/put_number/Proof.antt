@@ -1,7 +1,6 @@
 -- `text::put_number` meets its contract: there is room for twenty digits. Assumes nothing.
 use Prim.Native.Nat.{ℕ, _≤_, _<_, _^_}
 use native.Mathlib.Omega.{arith}
-use borrow.Author.Needs.{needs}
 use lib.ListN.{length}
 use Rattle.listing.specs.Decimal.{numeral}
 use Rattle.listing.proofs.DecimalLaws.{at-most}
@@ -17,7 +16,7 @@ put-digits-requires c κs =
     (omega (arith, twenty _ (a .fits .n .fits)), a .pre .1)
 
 same-length : tie.Need-same-length
-same-length c = search needs
+same-length c = c .before .before .put-digits .kept .1 .0
 
 returns : tie.Need-returns
 returns c =

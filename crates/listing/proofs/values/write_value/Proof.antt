@@ -33,7 +33,7 @@ module _ (k n a : ℕ) (o : List ℕ) (h : a + 12 ≤ length o) (e : n ≡ lengt
       wrote-on (wrote-byte 32 o a (omega arith)) (wrote-on (wrote-byte 45 (set o a 32) (a + 1) s) (rw b at (put-wrote p)))
 
 magnitude-requires : tie.Need-magnitude-requires
-magnitude-requires c κs = search needs
+magnitude-requires c κs = tt
 
 digits-requires : tie.Need-digits-requires
 digits-requires c κs =

@@ -1,5 +1,5 @@
 -- `writing::write_part` meets its contract: the part is written to its end, or as far as there is room. Assumes nothing.
-use mathlib.Core.Path.{ap, _∙_}
+use mathlib.Core.Path.{refl, ap, _∙_}
 use native.Mathlib.Omega.{arith}
 use lib.ListN.{length}
 use Rattle.numbers.specs.Signal.{at}
@@ -13,7 +13,7 @@ spell-requires : tie.Need-spell-requires
 spell-requires c κs = search needs
 
 advance-requires : tie.Need-advance-requires
-advance-requires c κs = search needs
+advance-requires c κs = tt
 
 add-t18 : tie.Need-add-t18
 add-t18 c =
@@ -22,13 +22,13 @@ add-t18 c =
     omega (arith, p .spell .ensures .count, s .pre)
 
 same-length : tie.Need-same-length
-same-length c = search needs
+same-length c = c .before .before .before .advance .kept .1 .0
 
 same-length-2 : tie.Need-same-length-2
-same-length-2 c = search needs
+same-length-2 c = c .before .before .before .advance .kept .1 .1 .0
 
 same-length-3 : tie.Need-same-length-3
-same-length-3 c = search needs
+same-length-3 c = c .before .before .before .before .before .before .before .before .before .before .spell .kept .1 .1 .0
 
 returns : tie.Need-returns
 returns c =
@@ -40,10 +40,10 @@ returns c =
     part-whole (length (a .store .now)) (length (a .row .now)) (scene (a .listing) (at (a .store .now)) (at (a .row .now))) (s .pre .0) _ _ _ (s .pre .1) _ (p .spell .ensures) _ (t .if1 .taken) (d .advance .ensures)
 
 with-done-requires : tie.Need-with-done-requires
-with-done-requires c κs = search needs
+with-done-requires c κs = tt
 
 with-line-requires : tie.Need-with-line-requires
-with-line-requires c κs = search needs
+with-line-requires c κs = tt
 
 add-t21 : tie.Need-add-t21
 add-t21 c =
@@ -52,10 +52,10 @@ add-t21 c =
     omega (arith, p .spell .ensures .count, s .pre)
 
 same-length-4 : tie.Need-same-length-4
-same-length-4 c = search needs
+same-length-4 c = refl
 
 same-length-5 : tie.Need-same-length-5
-same-length-5 c = search needs
+same-length-5 c = c .before .before .before .before .before .before .before .spell .kept .1 .1 .0
 
 returns-2 : tie.Need-returns-2
 returns-2 c =

@@ -16,7 +16,7 @@ shared-slice-copy-out-height-of : tie.Need-shared-slice-copy-out-height-of
 shared-slice-copy-out-height-of c = search needs
 
 height-of-requires : tie.Need-height-of-requires
-height-of-requires c κs = search needs
+height-of-requires c κs = tt
 
 mul-out : tie.Need-mul-out
 mul-out c = search needs

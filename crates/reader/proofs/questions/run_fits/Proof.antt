@@ -10,13 +10,13 @@ use Rattle.reader.proofs.questions.run_fits.Statement.{statement}
 use Rattle.reader.proofs.questions.run_fits.Tie as tie
 
 range-of-requires : tie.Need-range-of-requires
-range-of-requires c κs = search needs
+range-of-requires c κs = tt
 
 sub-all-between : tie.Need-sub-all-between
 sub-all-between c = rw (read-back (c .range-of .result) (c .range-of .ok)) (neg-fits _ _ (c .range-of .ensures) (sfits-of (c .range-of .ok)))
 
 all-between-requires : tie.Need-all-between-requires
-all-between-requires c κs = search needs
+all-between-requires c κs = tt
 
 returns : tie.Need-returns
 returns c =

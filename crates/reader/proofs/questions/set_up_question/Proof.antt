@@ -1,20 +1,19 @@
 -- `reader::questions::set_up_question` meets its contract: the definition's tests, in its order. Assumes nothing.
 use mathlib.Core.Path.{_∙_, sym}
 use native.Mathlib.Omega.{arith}
-use borrow.Author.Needs.{needs}
 use borrow.Author.Tests.{not-true, not-false}
 use Rattle.reader.proofs.QuestionLaws.{up-2, up-3, up-4, up-5, up-0}
 use Rattle.reader.proofs.questions.set_up_question.Statement.{statement}
 use Rattle.reader.proofs.questions.set_up_question.Tie as tie
 
 is-within-requires : tie.Need-is-within-requires
-is-within-requires c κs = search needs
+is-within-requires c κs = tt
 
 returns : tie.Need-returns
 returns c = up-2 _ _ _ _ (sym (c .before .is-within .ensures) ∙ not-true _ (c .if1 .taken))
 
 is-within-requires-2 : tie.Need-is-within-requires-2
-is-within-requires-2 c κs = search needs
+is-within-requires-2 c κs = tt
 
 returns-2 : tie.Need-returns-2
 returns-2 c =
@@ -22,7 +21,7 @@ returns-2 c =
     up-3 _ _ _ _ (sym (a .before .is-within .ensures) ∙ not-false _ (a .if1 .left)) (sym (c .before .is-within2 .ensures) ∙ not-true _ (c .if2 .taken))
 
 is-within-requires-3 : tie.Need-is-within-requires-3
-is-within-requires-3 c κs = search needs
+is-within-requires-3 c κs = tt
 
 returns-3 : tie.Need-returns-3
 returns-3 c =

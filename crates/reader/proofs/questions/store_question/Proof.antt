@@ -1,14 +1,13 @@
 -- `reader::questions::store_question` meets its contract: the definition's tests, in its order. Assumes nothing.
 use mathlib.Core.Path.{_∙_, sym}
 use native.Mathlib.Omega.{arith}
-use borrow.Author.Needs.{needs}
 use borrow.Author.Tests.{not-true, not-false}
 use Rattle.reader.proofs.QuestionLaws.{store-1, store-5, store-9, store-0}
 use Rattle.reader.proofs.questions.store_question.Statement.{statement}
 use Rattle.reader.proofs.questions.store_question.Tie as tie
 
 counts-fit-requires : tie.Need-counts-fit-requires
-counts-fit-requires c κs = search needs
+counts-fit-requires c κs = tt
 
 returns : tie.Need-returns
 returns c = store-1 _ _ (sym (c .before .counts-fit .ensures) ∙ not-true _ (c .if1 .taken))

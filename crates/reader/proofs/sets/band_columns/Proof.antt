@@ -1,13 +1,12 @@
 -- `reader::sets::band_columns` meets its contract: half of the side, by the band's code. Assumes nothing.
 use mathlib.Core.Path.{sym, _∙_}
-use borrow.Author.Needs.{needs}
 use Rattle.wavelet.proofs.SizeLaws.{count-hi}
 use Rattle.reader.proofs.SetLaws.{across-even, across-odd}
 use Rattle.reader.proofs.sets.band_columns.Statement.{statement}
 use Rattle.reader.proofs.sets.band_columns.Tie as tie
 
 half-requires : tie.Need-half-requires
-half-requires c κs = search needs
+half-requires c κs = tt
 
 returns : tie.Need-returns
 returns c = c .half .ensures ∙ sym (across-even _ _ (c .before .before .pre) (c .before .if1 .taken))

@@ -1,13 +1,12 @@
 -- `reader::sets::band_rows` meets its contract: half of the side, by the band's code. Assumes nothing.
 use mathlib.Core.Path.{sym, _∙_}
-use borrow.Author.Needs.{needs}
 use Rattle.wavelet.proofs.SizeLaws.{count-hi}
 use Rattle.reader.proofs.SetLaws.{down-low, down-high}
 use Rattle.reader.proofs.sets.band_rows.Statement.{statement}
 use Rattle.reader.proofs.sets.band_rows.Tie as tie
 
 half-requires : tie.Need-half-requires
-half-requires c κs = search needs
+half-requires c κs = tt
 
 returns : tie.Need-returns
 returns c = c .half .ensures ∙ sym (down-low _ _ (c .before .if1 .taken))

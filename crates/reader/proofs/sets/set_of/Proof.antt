@@ -10,7 +10,7 @@ add-a : tie.Need-add-a
 add-a c = search needs
 
 half-requires : tie.Need-half-requires
-half-requires c κs = search needs
+half-requires c κs = tt
 
 sub-b : tie.Need-sub-b
 sub-b c = omega (arith, count-lo (c .before .args .h))

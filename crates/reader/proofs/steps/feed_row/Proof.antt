@@ -1,7 +1,6 @@
 -- `reader::steps::feed_row` meets its contract: the sets that wait, the run put, the set that it completes. Assumes nothing.
 use mathlib.Core.Path.{_∙_, ap}
 use native.Mathlib.Omega.{arith}
-use borrow.Author.Needs.{needs}
 use borrow.Author.Tests.{not-true, not-false}
 use Prim.Native.Nat.{_+_, _-_}
 use Rattle.numbers.specs.Signal.{at}
@@ -53,7 +52,7 @@ finish-requires c κs =
     (counts-shape (start .args .s) counts, counts .deep .1, omega (arith, near .0, counts .at), near .1, omega (arith, put .put-row .kept .1 .1 .1 .0, call .settle .kept .1 .0))
 
 same-length-2 : tie.Need-same-length-2
-same-length-2 c = search needs
+same-length-2 c = c .before .finish .kept .1 .1 .1 .1 .0 ∙ c .before .before .before .before .put-row .kept .1 .1 .1 .0 ∙ c .before .before .before .before .before .before .before .before .before .settle .kept .1 .0
 
 returns-2 : tie.Need-returns-2
 returns-2 c =

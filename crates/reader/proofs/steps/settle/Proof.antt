@@ -1,7 +1,6 @@
 -- `reader::steps::settle` meets its contract: the walk down to the row wanted. Assumes nothing.
 use mathlib.Core.Path.{_∙_}
 use native.Mathlib.Omega.{arith}
-use borrow.Author.Needs.{needs}
 use Rattle.reader.proofs.QuestionLaws.{counts-shape}
 use Rattle.reader.proofs.StepLaws.{settles-is}
 use Rattle.reader.proofs.steps.settle.Statement.{statement}
@@ -14,7 +13,7 @@ settle-requires c κs =
     (counts-shape (start .args .s) counts, counts .deep .1, counts .at, omega arith)
 
 same-length : tie.Need-same-length
-same-length c = search needs
+same-length c = c .before .settle .kept .1 .1 .1 .1 .0
 
 returns : tie.Need-returns
 returns c =

@@ -15,7 +15,7 @@ unfolding maxLevels
 add-next-band c = omega arith
 
 next-band-requires : tie.Need-next-band-requires
-next-band-requires c κs = search needs
+next-band-requires c κs = tt
 
 returns : tie.Need-returns
 returns c =

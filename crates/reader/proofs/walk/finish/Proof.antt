@@ -20,7 +20,7 @@ work-at-requires : tie.Need-work-at-requires
 work-at-requires c κs = search needs
 
 same-length : tie.Need-same-length
-same-length c = search needs
+same-length c = c .before .work-at .kept .1 .1 .1 .1 .0
 
 returns-2 : tie.Need-returns-2
 returns-2 c =

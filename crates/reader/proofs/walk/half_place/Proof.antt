@@ -18,7 +18,7 @@ row-place-requires : tie.Need-row-place-requires
 row-place-requires c κs = search needs
 
 half-requires : tie.Need-half-requires
-half-requires c κs = search needs
+half-requires c κs = tt
 
 add-result : tie.Need-add-result
 add-result c = omega (arith, count-lo (c .before .before .before .args .w), c .before .before .row-place .ensures .1)

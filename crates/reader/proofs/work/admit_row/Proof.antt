@@ -30,10 +30,10 @@ lowest-of-requires : tie.Need-lowest-of-requires
 lowest-of-requires c κs = search needs
 
 range-of-requires : tie.Need-range-of-requires
-range-of-requires c κs = search needs
+range-of-requires c κs = tt
 
 all-between-requires : tie.Need-all-between-requires
-all-between-requires c κs = search needs
+all-between-requires c κs = tt
 
 returns : tie.Need-returns
 returns c =

@@ -10,7 +10,7 @@ use Rattle.reader.proofs.work.lowest_of.Statement.{statement}
 use Rattle.reader.proofs.work.lowest_of.Tie as tie
 
 range-of-requires : tie.Need-range-of-requires
-range-of-requires c κs = search needs
+range-of-requires c κs = tt
 
 sub-result : tie.Need-sub-result
 sub-result c = rw (read-back (c .range-of .result) (c .range-of .ok)) (neg-fits _ _ (c .range-of .ensures) (sfits-of (c .range-of .ok)))

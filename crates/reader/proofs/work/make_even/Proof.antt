@@ -1,4 +1,5 @@
 -- `reader::work::make_even` meets its contract: the rows lifted back, the even row, its test. Assumes nothing.
+use mathlib.Core.Path.{_∙_}
 use native.Mathlib.Omega.{arith}
 use borrow.Author.Needs.{needs}
 use Rattle.wavelet.proofs.SizeLaws.{count-lo}
@@ -20,7 +21,7 @@ admit-row-requires : tie.Need-admit-row-requires
 admit-row-requires c κs = search needs
 
 same-length : tie.Need-same-length
-same-length c = search needs
+same-length c = c .before .before .before .undo-even .kept .0 ∙ c .before .before .before .before .before .before .unlift-set .kept .0
 
 returns : tie.Need-returns
 returns c =

@@ -29,7 +29,7 @@ admit-row-requires : tie.Need-admit-row-requires
 admit-row-requires c κs = search needs
 
 same-length : tie.Need-same-length
-same-length c = search needs
+same-length c = c .before .before .before .undo-odd .kept .0
 
 returns-2 : tie.Need-returns-2
 returns-2 c =

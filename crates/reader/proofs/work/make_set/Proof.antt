@@ -12,7 +12,7 @@ make-even-requires : tie.Need-make-even-requires
 make-even-requires c κs = search needs
 
 same-length : tie.Need-same-length
-same-length c = search needs
+same-length c = c .before .before .make-even .kept .0
 
 returns : tie.Need-returns
 returns c =
@@ -24,7 +24,7 @@ make-odd-requires : tie.Need-make-odd-requires
 make-odd-requires c κs = search needs
 
 same-length-2 : tie.Need-same-length-2
-same-length-2 c = search needs
+same-length-2 c = c .before .before .make-odd .kept .0 ∙ c .before .before .before .before .before .before .make-even .kept .0
 
 returns-2 : tie.Need-returns-2
 returns-2 c =
@@ -38,7 +38,7 @@ make-last-requires : tie.Need-make-last-requires
 make-last-requires c κs = search needs
 
 same-length-3 : tie.Need-same-length-3
-same-length-3 c = search needs
+same-length-3 c = c .before .make-last .kept .0 ∙ c .before .before .before .before .before .make-odd .kept .0 ∙ c .before .before .before .before .before .before .before .before .before .make-even .kept .0
 
 returns-3 : tie.Need-returns-3
 returns-3 c =

@@ -8,7 +8,7 @@ use Rattle.reader.proofs.work.take_low_row.Statement.{statement}
 use Rattle.reader.proofs.work.take_low_row.Tie as tie
 
 half-requires : tie.Need-half-requires
-half-requires c κs = search needs
+half-requires c κs = tt
 
 mul-from : tie.Need-mul-from
 mul-from c = omega arith

@@ -9,7 +9,7 @@ use Rattle.reader.proofs.work.undo_even.Statement.{statement}
 use Rattle.reader.proofs.work.undo_even.Tie as tie
 
 before-requires : tie.Need-before-requires
-before-requires c κs = search needs
+before-requires c κs = tt
 
 mul-l : tie.Need-mul-l
 mul-l c = omega (arith, count-lo (c .before .before .args .h))
@@ -21,7 +21,7 @@ sub-least : tie.Need-sub-least
 sub-least c = search needs
 
 least-requires : tie.Need-least-requires
-least-requires c κs = search needs
+least-requires c κs = tt
 
 mul-r : tie.Need-mul-r
 mul-r c = search needs
@@ -33,7 +33,7 @@ mul-unupdate-row : tie.Need-mul-unupdate-row
 mul-unupdate-row c = omega (arith, count-lo (c .before .before .before .before .args .h))
 
 unupdate-row-requires : tie.Need-unupdate-row-requires
-unupdate-row-requires c κs = search needs
+unupdate-row-requires c κs = tt
 
 same-length : tie.Need-same-length
 same-length c = search needs

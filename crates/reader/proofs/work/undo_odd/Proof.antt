@@ -12,13 +12,13 @@ add-least : tie.Need-add-least
 add-least c = omega (arith, count-lo (c .args .h))
 
 half-requires : tie.Need-half-requires
-half-requires c κs = search needs
+half-requires c κs = tt
 
 sub-least : tie.Need-sub-least
 sub-least c = search needs
 
 least-requires : tie.Need-least-requires
-least-requires c κs = search needs
+least-requires c κs = tt
 
 mul-r : tie.Need-mul-r
 mul-r c = omega (arith, count-lo (c .before .before .args .h))
@@ -33,7 +33,7 @@ mul-unpredict-row-2 : tie.Need-mul-unpredict-row-2
 mul-unpredict-row-2 c = omega (arith, count-lo (c .before .before .before .args .h))
 
 unpredict-row-requires : tie.Need-unpredict-row-requires
-unpredict-row-requires c κs = search needs
+unpredict-row-requires c κs = tt
 
 same-length : tie.Need-same-length
 same-length c = search needs

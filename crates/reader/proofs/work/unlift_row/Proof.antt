@@ -25,7 +25,7 @@ part-unlift-end : tie.Need-part-unlift-end
 part-unlift-end c = search needs
 
 unlift-requires : tie.Need-unlift-requires
-unlift-requires c κs = search needs
+unlift-requires c κs = tt
 
 same-length : tie.Need-same-length
 same-length c = search needs

@@ -1,5 +1,9 @@
 -- `reader::work::unlift_set` meets its contract: one row, and the other where there is one. Assumes nothing.
+use mathlib.Core.Path.{sym, ap, _∙_}
+use Prim.Native.Nat.{_+_, _*_}
+use Rattle.numbers.specs.Signal.{at}
 use borrow.Author.Needs.{needs}
+use Rattle.reader.specs.Slots.{rowUnlifted}
 use Rattle.reader.proofs.SlotLaws.{unlifted-both, unlifted-one}
 use Rattle.reader.proofs.work.unlift_set.Statement.{statement}
 use Rattle.reader.proofs.work.unlift_set.Tie as tie
@@ -26,7 +30,7 @@ unlift-row-requires-2 : tie.Need-unlift-row-requires-2
 unlift-row-requires-2 c κs = search needs
 
 same-length : tie.Need-same-length
-same-length c = search needs
+same-length c = c .before .unlift-row2 .kept .0 ∙ c .before .before .before .before .before .unlift-row .kept .0
 
 returns : tie.Need-returns
 returns c =
@@ -34,16 +38,16 @@ returns c =
     let taken = two .before .before in
     let one = taken .before .before in
     let a = one .before .before .args in
-    cc (two .unlift-row2 .ensures, one .unlift-row .ensures, unlifted-both (a .w) (a .h) (a .n) _ (taken .if1 .taken))
+    two .unlift-row2 .ensures ∙ ap (rowUnlifted (a .w) (2 * a .n + 1)) (one .unlift-row .ensures) ∙ sym (unlifted-both (a .w) (a .h) (a .n) (at (a .stretch .now)) (taken .if1 .taken))
 
 same-length-2 : tie.Need-same-length-2
-same-length-2 c = search needs
+same-length-2 c = c .before .before .unlift-row .kept .0
 
 returns-2 : tie.Need-returns-2
 returns-2 c =
     let one = c .before .before in
     let a = one .before .before .args in
-    cc (one .unlift-row .ensures, unlifted-one (a .w) (a .h) (a .n) _ (c .if1 .left))
+    one .unlift-row .ensures ∙ sym (unlifted-one (a .w) (a .h) (a .n) (at (a .stretch .now)) (c .if1 .left))
 
 pub unlift-set-spec : {M : Type 1} → statement M
 unlift-set-spec =

@@ -1,7 +1,6 @@
 -- `reader::work::work_set` meets its contract: the low-low row first, below the last level. Assumes nothing.
 use mathlib.Core.Path.{_∙_}
 use native.Mathlib.Omega.{arith}
-use borrow.Author.Needs.{needs}
 use Rattle.wavelet.proofs.SizeLaws.{count-lo}
 use Rattle.reader.proofs.WorkLaws.{worked-last, worked-on}
 use Rattle.reader.proofs.KeptLaws.{kept-both, kept-is, low-kept}
@@ -12,7 +11,7 @@ make-set-requires : tie.Need-make-set-requires
 make-set-requires c κs = omega arith
 
 same-length : tie.Need-same-length
-same-length c = search needs
+same-length c = c .before .make-set .kept .0
 
 returns : tie.Need-returns
 returns c =
@@ -30,7 +29,7 @@ make-set-requires-2 : tie.Need-make-set-requires-2
 make-set-requires-2 c κs = omega arith
 
 same-length-2 : tie.Need-same-length-2
-same-length-2 c = search needs
+same-length-2 c = c .before .make-set2 .kept .0 ∙ c .before .before .before .before .take-low-row .kept .0
 
 returns-2 : tie.Need-returns-2
 returns-2 c =

@@ -1,6 +1,5 @@
 -- `Input::begin` meets its contract: the definition's two tests. Assumes nothing.
 use mathlib.Core.Path.{_≡_, refl, sym, ap, _∙_}
-use borrow.Author.Needs.{needs}
 use borrow.Author.Tests.{not-true, not-false}
 use Rattle.listing.specs.declared.input.Heard.the-variants as heard
 use Rattle.listing.proofs.HearingCases.{shape-wide, shape-high, shape-yes, most}
@@ -8,10 +7,10 @@ use Rattle.listing.proofs.input.Input.begin.Statement.{statement}
 use Rattle.listing.proofs.input.Input.begin.Tie as tie
 
 is-within-requires : tie.Need-is-within-requires
-is-within-requires c κs = search needs
+is-within-requires c κs = tt
 
 at-phase-requires : tie.Need-at-phase-requires
-at-phase-requires c κs = search needs
+at-phase-requires c κs = tt
 
 returns : tie.Need-returns
 returns c =
@@ -19,10 +18,10 @@ returns c =
     ap heard.Refused (c .at-phase .ensures) ∙ shape-wide _ _ _ (sym (d .before .is-within .ensures) ∙ not-true _ (d .if1 .taken))
 
 is-within-requires-2 : tie.Need-is-within-requires-2
-is-within-requires-2 c κs = search needs
+is-within-requires-2 c κs = tt
 
 at-phase-requires-2 : tie.Need-at-phase-requires-2
-at-phase-requires-2 c κs = search needs
+at-phase-requires-2 c κs = tt
 
 returns-2 : tie.Need-returns-2
 returns-2 c =

@@ -1,6 +1,5 @@
 -- `Input::end` meets its contract: its tests are the definition's. Assumes nothing.
 use mathlib.Core.Path.{_≡_, refl, sym, ap, _∙_}
-use borrow.Author.Needs.{needs}
 use Rattle.listing.specs.declared.input.Ended.the-variants as ended
 use Rattle.listing.proofs.HearingCases.{end-over, end-early, end-few, end-whole}
 use Rattle.listing.proofs.input.Input.end.Statement.{statement}
@@ -10,13 +9,13 @@ returns : tie.Need-returns
 returns c = end-over _ (c .if1 .taken)
 
 at-phase-requires : tie.Need-at-phase-requires
-at-phase-requires c κs = search needs
+at-phase-requires c κs = tt
 
 returns-2 : tie.Need-returns-2
 returns-2 c = ap ended.Short (c .at-phase .ensures) ∙ end-early _ (c .before .if2 .taken)
 
 at-phase-requires-2 : tie.Need-at-phase-requires-2
-at-phase-requires-2 c κs = search needs
+at-phase-requires-2 c κs = tt
 
 returns-3 : tie.Need-returns-3
 returns-3 c =
@@ -25,7 +24,7 @@ returns-3 c =
     ap ended.Short (c .at-phase2 .ensures) ∙ end-few _ (e .before .if1 .left) (e .if2 .left) (d .if3 .taken)
 
 at-phase-requires-3 : tie.Need-at-phase-requires-3
-at-phase-requires-3 c κs = search needs
+at-phase-requires-3 c κs = tt
 
 returns-4 : tie.Need-returns-4
 returns-4 c =

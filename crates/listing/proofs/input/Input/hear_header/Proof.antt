@@ -7,7 +7,7 @@ use Rattle.listing.proofs.input.Input.hear_header.Statement.{statement}
 use Rattle.listing.proofs.input.Input.hear_header.Tie as tie
 
 step-requires : tie.Need-step-requires
-step-requires c κs = search needs
+step-requires c κs = tt
 
 enum-known-next : tie.Need-enum-known-next
 enum-known-next c = search needs
@@ -16,13 +16,13 @@ enum-known-width : tie.Need-enum-known-width
 enum-known-width c = search needs
 
 begin-requires : tie.Need-begin-requires
-begin-requires c κs = search needs
+begin-requires c κs = tt
 
 enum-told : tie.Need-enum-told
 enum-told c = search needs
 
 at-phase-requires : tie.Need-at-phase-requires
-at-phase-requires c κs = search needs
+at-phase-requires c κs = tt
 
 returns : tie.Need-returns
 returns c =

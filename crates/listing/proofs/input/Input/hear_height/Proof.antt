@@ -8,13 +8,13 @@ use Rattle.listing.proofs.input.Input.hear_height.Statement.{statement}
 use Rattle.listing.proofs.input.Input.hear_height.Tie as tie
 
 at-phase-requires : tie.Need-at-phase-requires
-at-phase-requires c κs = search needs
+at-phase-requires c κs = tt
 
 returns : tie.Need-returns
 returns c = ap heard.Refused (c .at-phase .ensures) ∙ height-none _ _ (c .before .if1 .taken)
 
 step-requires : tie.Need-step-requires
-step-requires c κs = search needs
+step-requires c κs = tt
 
 enum-known-half : tie.Need-enum-known-half
 enum-known-half c = search needs
@@ -26,7 +26,7 @@ sub-t12 : tie.Need-sub-t12
 sub-t12 c = search needs
 
 start-requires : tie.Need-start-requires
-start-requires c κs = search needs
+start-requires c κs = tt
 
 returns-2 : tie.Need-returns-2
 returns-2 c =

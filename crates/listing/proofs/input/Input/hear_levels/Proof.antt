@@ -7,13 +7,13 @@ use Rattle.listing.proofs.input.Input.hear_levels.Statement.{statement}
 use Rattle.listing.proofs.input.Input.hear_levels.Tie as tie
 
 at-phase-requires : tie.Need-at-phase-requires
-at-phase-requires c κs = search needs
+at-phase-requires c κs = tt
 
 returns : tie.Need-returns
 returns c = ap heard.Refused (c .at-phase .ensures) ∙ levels-below _ _ (c .before .if1 .taken)
 
 at-phase-requires-2 : tie.Need-at-phase-requires-2
-at-phase-requires-2 c κs = search needs
+at-phase-requires-2 c κs = tt
 
 returns-2 : tie.Need-returns-2
 returns-2 c = ap heard.Refused (c .at-phase2 .ensures) ∙ levels-above _ _ (c .before .before .if1 .left) (c .before .if2 .taken)

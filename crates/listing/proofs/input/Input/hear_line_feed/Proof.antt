@@ -1,16 +1,15 @@
 -- `Input::hear_line_feed` meets its contract: the definition's test. Assumes nothing.
 use mathlib.Core.Path.{_≡_, refl, sym, ap, _∙_}
-use borrow.Author.Needs.{needs}
 use Rattle.listing.specs.declared.input.Heard.the-variants as heard
 use Rattle.listing.proofs.HearingCases.{feed-yes, feed-no}
 use Rattle.listing.proofs.input.Input.hear_line_feed.Statement.{statement}
 use Rattle.listing.proofs.input.Input.hear_line_feed.Tie as tie
 
 at-phase-requires : tie.Need-at-phase-requires
-at-phase-requires c κs = search needs
+at-phase-requires c κs = tt
 
 at-phase-requires-2 : tie.Need-at-phase-requires-2
-at-phase-requires-2 c κs = search needs
+at-phase-requires-2 c κs = tt
 
 returns : tie.Need-returns
 returns c = ap heard.More (c .at-phase .ensures) ∙ feed-yes _ _ (c .before .if1 .taken)

@@ -1,15 +1,14 @@
 -- `Input::start` meets its contract: the starts of its parts. Assumes nothing.
 use mathlib.Core.Path.{_≡_, refl, sym, ap, _∙_}
-use borrow.Author.Needs.{needs}
 use Rattle.listing.specs.Hearing.{silent}
 use Rattle.listing.proofs.input.Input.start.Statement.{statement}
 use Rattle.listing.proofs.input.Input.start.Tie as tie
 
 start-requires : tie.Need-start-requires
-start-requires c κs = search needs
+start-requires c κs = tt
 
 start-requires-2 : tie.Need-start-requires-2
-start-requires-2 c κs = search needs
+start-requires-2 c κs = tt
 
 returns : tie.Need-returns
 returns c = cc

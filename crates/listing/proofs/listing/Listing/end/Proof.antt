@@ -14,19 +14,19 @@ returns c =
     end-in-line (length (a .store .now)) (length (a .row .now)) (scene (a .self) (at (a .store .now)) (at (a .row .now))) _ (c .if1 .taken) refl
 
 end-requires : tie.Need-end-requires
-end-requires c κs = search needs
+end-requires c κs = tt
 
 enum-known-next : tie.Need-enum-known-next
 enum-known-next c = search needs
 
 finish-requires : tie.Need-finish-requires
-finish-requires c κs = search needs
+finish-requires c κs = tt
 
 enum-known-next-2 : tie.Need-enum-known-next-2
 enum-known-next-2 c = search needs
 
 refuse-requires : tie.Need-refuse-requires
-refuse-requires c κs = search needs
+refuse-requires c κs = tt
 
 enum-told : tie.Need-enum-told
 enum-told c = search needs

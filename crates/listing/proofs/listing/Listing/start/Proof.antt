@@ -1,16 +1,19 @@
 -- `Listing::start` meets its contract: the starts of its parts. Assumes nothing.
-use borrow.Author.Needs.{needs}
+use mathlib.Core.Path.{ap, _∙_}
+use Rattle.writer.specs.Calls.{fresh}
+use Rattle.listing.specs.Hearing.{silent}
+use Rattle.listing.specs.Scenes.{listed}
 use Rattle.listing.proofs.listing.Listing.start.Statement.{statement}
 use Rattle.listing.proofs.listing.Listing.start.Tie as tie
 
 start-requires : tie.Need-start-requires
-start-requires c κs = search needs
+start-requires c κs = tt
 
 none-requires : tie.Need-none-requires
-none-requires c κs = search needs
+none-requires c κs = tt
 
 returns : tie.Need-returns
-returns c = cc
+returns c = ap (λ i. listed i (fresh 1 1) (c .none .result)) (c .before .start .ensures) ∙ ap (listed silent (fresh 1 1)) (c .none .ensures)
 
 pub start-spec : {M : Type 1} → statement M
 start-spec = tie.close (tie.spec start-requires none-requires returns)
