@@ -1,6 +1,5 @@
 -- `scenes::refuse` meets its contract. Assumes nothing.
-use mathlib.Core.Path.{ap}
-use Rattle.listing.specs.Scenes.{listed}
+use borrow.Author.Needs.{needs}
 use Rattle.listing.proofs.scenes.refuse.Statement.{statement}
 use Rattle.listing.proofs.scenes.refuse.Tie as tie
 
@@ -8,10 +7,10 @@ at-phase-requires : tie.Need-at-phase-requires
 at-phase-requires c κs = search needs
 
 refused-requires : tie.Need-refused-requires
-refused-requires c κs = tt
+refused-requires c κs = search needs
 
 returns : tie.Need-returns
-returns c = ap (listed _ _) (c .refused .ensures)
+returns c = cc
 
 pub refuse-spec : {M : Type 1} → statement M
 refuse-spec = tie.close (tie.spec at-phase-requires refused-requires returns)
