@@ -13,19 +13,21 @@ use borrow.Rule.Slice.PartMut.{midOf, putMid}
 use borrow.Author.Tests.{lt-ltb, le-ltb}
 use Rattle.numbers.specs.Signal.{at, pick, windowed, spliced}
 use Rattle.numbers.specs.Word.{wrap32}
-use Rattle.numbers.proofs.Parts.{window-in, splice-below, splice-in, splice-past, length-mid, at-mid, at-put}
-use Rattle.lifting.specs.Line.{unupdated, unpredicted}
+use Rattle.numbers.proofs.Parts.{window-in, window-past, splice-below, splice-in, splice-past}
+use Rattle.lifting.specs.Line.{lo, count, unupdated, unpredicted}
 use Rattle.lifting.specs.Halves.{unliftedInPlace}
 use Rattle.lifting.specs.Rows.{rowChanged, rowsChanged, rowsFit}
+use Rattle.lifting.proofs.LineLaws.{count-lo}
 use Rattle.lifting.proofs.RowLaws.{rows-fit, changed, row-at, row-other, row-past}
 use Rattle.wavelet.specs.Bands.{Grid}
 use Rattle.wavelet.specs.Plane.{cells, flat}
 use Rattle.wavelet.proofs.GridLaws.{flat-at, cells-flat}
-use Rattle.whole_map.specs.Rowwise.{cut}
+use Rattle.whole_map.specs.Rowwise.{cut, highsLaid}
 use Rattle.whole_map.specs.Passes.{Rows, even, before, after, oddRowsChanged, evenRowsChanged, nextChanged, pairChanged, rowsMapped, planeRow, rowsFetched}
 use Rattle.whole_map.specs.LevelPasses.{columnsUnliftedInPlace, levelUnlifted, rowBack}
 use Rattle.whole_map.proofs.GridSweep.{RowSwept, row-room, start, finish, mapped-in, mapped-wide, mapped-past}
-use Rattle.whole_map.proofs.RowwiseLaws.{window-cut}
+use Rattle.whole_map.proofs.RowwiseLaws.{cut-in, cut-past}
+use Rattle.whole_map.proofs.LiftLaws.{laid-low, laid-high}
 use Rattle.whole_map.proofs.ColumnPass.{odd-column, even-column, after-is, before-is, after-near, before-near, first-turn, pair-turn}
 use Rattle.whole_map.proofs.CellLaws.{flat-same, fetched-new, fetched-made, fetched-out, outside-columns, outside-rows, unlifted-out}
 use Rattle.whole_map.proofs.LevelCalls.{cut-same, mapped-same, unlifted-same, fill-turn}
@@ -42,36 +44,44 @@ splice-over b n u y x below past =
           ]
     ]
 
--- ---- a row fetched and lifted back: the part is copied, and then the row lent out comes back as z
-pub row-fetched : (s A from w h r l made k : ℕ) (p : ℕ → ℤ) (x : ℕ → ℤ) (y z : List ℤ) → w ≤ s → r < h → made ≡ pick (even r) from 0 → made ≤ w → l ≡ planeRow h r → k ≡ w → r * s + w ≤ length y → at y ≡ spliced (r * s + made) (w - made) (windowed (l * A + made) (w - made) p) x → length z ≡ length (midOf (r * s) k y) → at z ≡ unliftedInPlace (length (midOf (r * s) k y)) (at (midOf (r * s) k y)) → at (putMid (r * s) k y z) ≡ rowBack from w h s (cells A p) x r
+-- ---- a row fetched and lifted back: what is left of its low half is copied, and its high half read from the plane
+pub row-fetched : (s A from w h r l made : ℕ) (p x y z : ℕ → ℤ) → w ≤ s → r < h → made ≡ pick (even r) from 0 → made ≤ count lo w → l ≡ planeRow h r → y ≡ spliced (r * s + made) (count lo w - made) (windowed (l * A + made) (count lo w - made) p) x → z ≡ spliced (r * s) w (unliftedInPlace w (highsLaid w (windowed (l * A) w p) (windowed (r * s) w y))) y → z ≡ rowBack from w h s (cells A p) x r
 unfolding rowBack cells
-row-fetched s A from w h r l made k p x y z ws rh em few el ek room ey ez is =
+row-fetched s A from w h r l made p x y z ws rh em few el ey ez =
     let F = rowsFetched from w h (λ i c. p (i * A + c)) (λ i c. x (i * s + c)) in
-    let mid : length (midOf (r * s) k y) ≡ w = length-mid (r * s) k y (omega arith) ∙ ek in
-    let now′ : (j : ℕ) → at y j ≡ spliced (r * s + made) (w - made) (windowed (l * A + made) (w - made) p) x j = λ j. ap (λ (u : ℕ → ℤ). u j) ey in
-    let row : (c : ℕ) → c < w → at y (r * s + c) ≡ F r c =
-    λ c cw.
+    let half = count-lo w in
+    let now′ : (j : ℕ) → y j ≡ spliced (r * s + made) (count lo w - made) (windowed (l * A + made) (count lo w - made) p) x j = λ j. ap (λ (u : ℕ → ℤ). u j) ey in
+    let new : (c : ℕ) → c < w → made ≤ c → p (l * A + c) ≡ F r c = λ c cw b. ap (λ (i : ℕ). p (i * A + c)) el ∙ sym (fetched-new from w h _ _ r c rh cw (omega arith)) in
+    let low : (c : ℕ) → c < count lo w → y (r * s + c) ≡ F r c =
+    λ c cl.
     now′ (r * s + c)
     ∙ elim (decLt c made) [
-      | yes b ↦ splice-below (r * s + made) (w - made) _ x (r * s + c) (omega arith) ∙ sym (fetched-made from w h _ _ r c rh cw (omega arith))
+      | yes b ↦ splice-below (r * s + made) (count lo w - made) _ x (r * s + c) (omega arith) ∙ sym (fetched-made from w h _ _ r c rh (omega arith) (omega arith))
       | no b ↦
           let e : r * s + c - (r * s + made) ≡ c - made = omega arith in
           let d : l * A + made + (c - made) ≡ l * A + c = omega arith in
-          splice-in (r * s + made) (w - made) _ x (r * s + c) (omega arith) (omega arith)
-          ∙ ap (windowed (l * A + made) (w - made) p) e
-          ∙ window-in (l * A + made) (w - made) p (c - made) (omega arith)
+          splice-in (r * s + made) (count lo w - made) _ x (r * s + c) (omega arith) (omega arith)
+          ∙ ap (windowed (l * A + made) (count lo w - made) p) e
+          ∙ window-in (l * A + made) (count lo w - made) p (c - made) (omega arith)
           ∙ ap p d
-          ∙ ap (λ (i : ℕ). p (i * A + c)) el
-          ∙ sym (fetched-new from w h _ _ r c rh cw (omega arith))
+          ∙ new c (omega arith) (omega arith)
     ] in
-    let lent : at (midOf (r * s) k y) ≡ cut w (F r) = at-mid (r * s) k y ∙ ap (λ (m : ℕ). windowed (r * s) m (at y)) ek ∙ window-cut (r * s) w (at y) (F r) row in
-    let is′ : at z ≡ unliftedInPlace w (cut w (F r)) = cc (is, mid, lent) in
-    at-put (r * s) k y z (omega arith) (omega arith)
-    ∙ ap (λ (m : ℕ). spliced (r * s) m (at z) (at y)) ek
-    ∙ ap (λ (u : ℕ → ℤ). spliced (r * s) w u (at y)) is′
-    ∙ splice-over (r * s) w _ (at y) x
-    (λ j b. now′ j ∙ splice-below (r * s + made) (w - made) _ x j (omega arith))
-    (λ j b. now′ j ∙ splice-past (r * s + made) (w - made) _ x j (omega arith))
+    let row : highsLaid w (windowed (l * A) w p) (windowed (r * s) w y) ≡ cut w (F r) =
+    fun-ext λ j.
+    elim (decLt j (count lo w)) [
+      | yes b ↦ laid-low w _ _ j b ∙ window-in (r * s) w y j (omega arith) ∙ low j b ∙ sym (cut-in w (F r) j (omega arith))
+      | no b ↦
+          laid-high w _ _ j (omega arith)
+          ∙ elim (decLt j w) [
+            | yes q ↦ window-in (l * A) w p j q ∙ new j q (omega arith) ∙ sym (cut-in w (F r) j q)
+            | no q ↦ window-past (l * A) w p j (omega arith) ∙ sym (cut-past w (F r) j (omega arith))
+          ]
+    ] in
+    ez
+    ∙ ap (λ (u : ℕ → ℤ). spliced (r * s) w (unliftedInPlace w u) y) row
+    ∙ splice-over (r * s) w _ y x
+    (λ j b. now′ j ∙ splice-below (r * s + made) (count lo w - made) _ x j (omega arith))
+    (λ j b. now′ j ∙ splice-past (r * s + made) (count lo w - made) _ x j (omega arith))
 
 -- ---- two areas with the same rows below m
 abbrev Agree : ℕ → ℕ → (ℕ → ℤ) → (ℕ → ℤ) → Type 0

@@ -1,4 +1,4 @@
--- A row in halves lifted on the way to another row: a turn of each of its two loops, and what both come to. Assumes nothing.
+-- A row in halves lifted on the way to another row, and the way back: a turn of each of the two loops, and what both come to. Assumes nothing.
 use mathlib.Core.Path.{_≡_, sym, ap, _∙_, fun-ext}
 use mathlib.Core.List.{List}
 use Prim.Native.Nat.{ℕ, _+_, _-_, _≤_, _<_, min}
@@ -10,22 +10,22 @@ use borrow.Author.Tests.{lt-ltb, le-ltb}
 use Rattle.numbers.specs.Signal.{at}
 use Rattle.numbers.specs.Word.{wrap32}
 use Rattle.numbers.proofs.Sweep.{Swept, store}
-use Rattle.lifting.specs.Line.{lo, hi, count, predicted, updated}
-use Rattle.lifting.specs.Halves.{liftedInPlace}
+use Rattle.lifting.specs.Line.{lo, hi, count, predicted, updated, unupdated, unpredicted}
+use Rattle.lifting.specs.Halves.{liftedInPlace, unliftedInPlace}
 use Rattle.lifting.specs.Passes.{highsChanged, lowsChanged}
 use Rattle.lifting.proofs.LineLaws.{counts, count-lo}
-use Rattle.lifting.proofs.PassLaws.{highs-low, highs-high, highs-past, lows-low, lows-past, lifted-is}
+use Rattle.lifting.proofs.PassLaws.{highs-low, highs-high, highs-past, lows-low, lows-past, lifted-is, unlifted-is, unlifted-one}
 use Rattle.whole_map.specs.Rowwise.{highsLaid}
 
 past-end : (l : List ℤ) (j : ℕ) → length l ≤ j → at l j ≡ pos 0
 past-end l j h = List·getD-eq-default l (pos 0) h
 
 module _ (N : ℕ) (y z : ℕ → ℤ) (j : ℕ) where
-  laid-low : j < count lo N → highsLaid N y z j ≡ z j
+  pub laid-low : j < count lo N → highsLaid N y z j ≡ z j
   unfolding highsLaid
   laid-low b = simp (lt-ltb j (count lo N) b)
 
-  laid-high : count lo N ≤ j → highsLaid N y z j ≡ y j
+  pub laid-high : count lo N ≤ j → highsLaid N y z j ≡ y j
   unfolding highsLaid
   laid-high b = simp (le-ltb j (count lo N) b)
 
@@ -90,3 +90,88 @@ both-are l z o more e =
       | no b ↦ laid-high N o (at l) j (omega arith) ∙ ap (λ (y : ℕ → ℤ). y j) e ∙ laid-high N H z j (omega arith)
     ] in
     ap (lowsChanged (updated wrap32) N) u ∙ sym (lifted-is N (at l) more)
+
+-- ---- back: the low numbers z of the other row, by the high numbers of the row l
+module _ (f : ℤ → ℤ → ℤ → ℤ) (l : List ℤ) (z : ℕ → ℤ) where
+  abbrev lowsBack : ℕ → ℤ
+  lowsBack = highsLaid (length l) z (lowsChanged f (length l) (highsLaid (length l) (at l) z))
+
+  pub back-turn : (n a b : ℕ) (o : List ℤ) → 1 < length l → n < count lo (length l) → a ≡ count lo (length l) + (n - 1) → b ≡ count lo (length l) + min n (count hi (length l) - 1) → Swept (length l) lowsBack z n o → Swept (length l) lowsBack z (n + 1) (set o n (f (at o n) (at l a) (at l b)))
+  back-turn n a b o more h ea eb sw =
+      let N = length l in
+      let c = counts N in
+      let u = highsLaid N (at l) z in
+      store _ sw (omega arith)
+      (cc (laid-low N z (lowsChanged f N u) n h, lows-low f N u n h, laid-low N (at l) z n h, ea, eb, sw .rest n (omega arith), laid-high N (at l) z (count lo N + (n - 1)) (omega arith), laid-high N (at l) z (count lo N + min n (count hi N - 1)) (omega arith)))
+
+  pub back-first : (low : ℕ) (o o′ : List ℤ) → z ≡ at o → length l ≡ length o → low ≡ count lo (length l) → 1 < length l → o′ ≡ set o 0 (f (at o 0) (at l low) (at l low)) → Swept (length l) lowsBack z 1 o′
+  back-first low o o′ ez size el more is =
+      let half = count-lo (length l) in
+      let sw : Swept (length l) lowsBack z 0 o = record { size = sym size; done = λ j b. absurd (omega arith); rest = λ j b. ap (λ (y : ℕ → ℤ). y j) (sym ez) } in
+      rw is (back-turn 0 low low o more (omega arith) (omega arith) (omega arith) sw)
+
+  pub back-past : (j : ℕ) → count lo (length l) ≤ j → lowsBack j ≡ z j
+  back-past j b = laid-high (length l) z _ j b
+
+-- ---- the high numbers of the row l, by the low numbers z of the other row
+module _ (f : ℤ → ℤ → ℤ → ℤ) (l : List ℤ) (z : ℕ → ℤ) where
+  abbrev highsBack : ℕ → ℤ
+  highsBack = highsChanged f (length l) (highsLaid (length l) (at l) z)
+
+  back-low : (j : ℕ) → j < count lo (length l) → highsBack j ≡ z j
+  back-low j b = highs-low f (length l) _ j b ∙ laid-low (length l) (at l) z j b
+
+  pub high-turn : (low n b : ℕ) (o : List ℤ) → low ≡ count lo (length l) → n < count hi (length l) → b ≡ min (n + 1) (count lo (length l) - 1) → Swept (length l) highsBack z (low + n) o → Swept (length l) highsBack z (low + (n + 1)) (set o (low + n) (f (at l (low + n)) (at o n) (at o b)))
+  high-turn low n b o e h eb sw =
+      let N = length l in
+      let c = counts N in
+      let half = count-lo N in
+      let u = highsLaid N (at l) z in
+      let k : low + n + 1 ≡ low + (n + 1) = omega arith in
+      let m = min (n + 1) (count lo N - 1) in
+      rw (← k)
+      (store _ sw (omega arith)
+      (cc (e, eb, highs-high f N u n h, laid-high N (at l) z (count lo N + n) (omega arith), laid-low N (at l) z n (omega arith), laid-low N (at l) z m (omega arith), sw .done n (omega arith), sw .done b (omega arith), back-low n (omega arith), back-low m (omega arith))))
+
+  pub high-start : (o : List ℤ) (k : ℕ) → z ≡ at o → length l ≡ length o → k ≤ count lo (length l) → Swept (length l) highsBack z k o
+  high-start o k ez size b =
+      record {
+        size = sym size;
+        done = λ j lt. ap (λ (y : ℕ → ℤ). y j) (sym ez) ∙ sym (back-low j (omega arith));
+        rest = λ j le. ap (λ (y : ℕ → ℤ). y j) (sym ez);
+      }
+
+  pub high-past : (o : List ℤ) (j : ℕ) → z ≡ at o → length o ≡ length l → length l ≤ j → highsBack j ≡ z j
+  high-past o j ez size b =
+      let c = count-lo (length l) in
+      highs-past f (length l) _ j b
+      ∙ laid-high (length l) (at l) z j (omega arith)
+      ∙ past-end l j b
+      ∙ sym (ap (λ (y : ℕ → ℤ). y j) ez ∙ past-end o j (omega arith))
+
+-- ---- both
+pub back-are : (l : List ℤ) (z o : ℕ → ℤ) → 1 < length l → o ≡ highsLaid (length l) z (lowsChanged (unupdated wrap32) (length l) (highsLaid (length l) (at l) z)) → highsChanged (unpredicted wrap32) (length l) (highsLaid (length l) (at l) o) ≡ unliftedInPlace (length l) (highsLaid (length l) (at l) z)
+back-are l z o more e =
+    let N = length l in
+    let u = highsLaid N (at l) z in
+    let L = lowsChanged (unupdated wrap32) N u in
+    let same : highsLaid N (at l) o ≡ L =
+    fun-ext λ j.
+    elim (decLt j (count lo N)) [
+      | yes b ↦ laid-low N (at l) o j b ∙ ap (λ (y : ℕ → ℤ). y j) e ∙ laid-low N z L j b
+      | no b ↦ laid-high N (at l) o j (omega arith) ∙ sym (lows-past (unupdated wrap32) N u j (omega arith) ∙ laid-high N (at l) z j (omega arith))
+    ] in
+    ap (highsChanged (unpredicted wrap32) N) same ∙ sym (unlifted-is N u more)
+
+-- a row of one number or none has no high half
+pub back-one : (l o : List ℤ) → length l ≡ length o → length l < 2 → at o ≡ unliftedInPlace (length l) (highsLaid (length l) (at l) (at o))
+back-one l o size few =
+    let N = length l in
+    let half = count-lo N in
+    let same : highsLaid N (at l) (at o) ≡ at o =
+    fun-ext λ j.
+    elim (decLt j (count lo N)) [
+      | yes b ↦ laid-low N (at l) (at o) j b
+      | no b ↦ laid-high N (at l) (at o) j (omega arith) ∙ past-end l j (omega arith) ∙ sym (past-end o j (omega arith))
+    ] in
+    sym (unlifted-one N _ (omega arith) ∙ same)

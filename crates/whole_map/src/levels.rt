@@ -3,7 +3,6 @@
 // The module is private: only this crate, which meets what is required, can call it.
 use crate::passes;
 use crate::rowwise;
-use lifting::line;
 use lifting::rows;
 use wavelet::sizes;
 ghost use mathlib.Core.Path.{_≡_};
@@ -13,10 +12,10 @@ ghost use lib.Dec.{ltb};
 ghost use lib.ListN.{length};
 ghost use Rattle.numbers.specs.Signal.{at, pick, windowed, spliced};
 ghost use Rattle.lifting.specs.Line.{lo, count};
-ghost use Rattle.lifting.specs.Halves.{liftedInPlace};
+ghost use Rattle.lifting.specs.Halves.{liftedInPlace, unliftedInPlace};
 ghost use Rattle.wavelet.specs.Limits.{range};
 ghost use Rattle.wavelet.specs.Plane.{cells, flat};
-ghost use Rattle.whole_map.specs.Rowwise.{partedInPlace, wovenInPlace};
+ghost use Rattle.whole_map.specs.Rowwise.{partedInPlace, wovenInPlace, highsLaid};
 ghost use Rattle.whole_map.specs.Passes.{Rows, KeptFrom, even, planeRow, levelRow, rowsMapped, rowsStored, rowsFetched, rowsLoaded};
 ghost use Rattle.whole_map.specs.LevelPasses.{levelGrid, columnsLiftedInPlace, levelUnlifted, rowBack, planeWritten, rowsBetween, regionInRange, Doubling, LevelsBack};
 
@@ -130,7 +129,18 @@ fn made_of(r: usize, from: usize) -> usize
     if r % 2 == 0 { from } else { 0 }
 }
 
-// Row r of a level from the plane, an even one from column `from` on, and lifted back.
+// n numbers at place b of an area lifted back: a row in halves whose high half stands in the row at place a of another area.
+fn unlift_part(from: &[i32], a: usize, to: &mut [i32], b: usize, n: usize)
+    requires { ⌜ (a + n ≤ length (now from)) × (b + n ≤ length (now to)) ⌝ }
+    ensures { λ _. ⌜ at (now (to .exit)) ≡ spliced b n (unliftedInPlace n (highsLaid n (windowed a n (at (now (from .entry)))) (windowed b n (at (now (to .entry)))))) (at (now (to .entry))) ⌝ }
+{
+    let e = a + n;
+    let f = b + n;
+    rowwise::unlift_by(&from[a..e], &mut to[b..f]);
+}
+
+// Row r of a level from the plane, an even one from column `from` on, and lifted back. Only what is left of its low half is copied first: the
+// high half is read from the plane while it is lifted back.
 fn fetch_row(
     plane: &[i32],
     work: &mut [i32],
@@ -141,15 +151,15 @@ fn fetch_row(
     height: usize,
     r: usize,
 )
-    requires { ⌜ Rows (length (now plane)) across width height × Rows (length (now work)) stride width height × (from ≤ width) × (r < height) ⌝ }
+    requires { ⌜ Rows (length (now plane)) across width height × Rows (length (now work)) stride width height × (from ≤ count lo width) × (r < height) ⌝ }
     ensures { λ _. ⌜ at (now (work .exit)) ≡ rowBack from width height stride (cells across (at (now (plane .entry)))) (at (now (work .entry))) r ⌝ }
 {
     let made = made_of(r, from);
-    let a = plane_row(height, r) * across + made;
+    let low = sizes::half(width);
+    let a = plane_row(height, r) * across;
     let b = r * stride;
-    let e = b + width;
-    copy_part(plane, a, work, b + made, width - made);
-    line::unlift(&mut work[b..e]);
+    copy_part(plane, a + made, work, b + made, low - made);
+    unlift_part(plane, a, work, b, width);
 }
 
 // The same, where there is a row r.
@@ -163,7 +173,7 @@ fn fetch_last(
     height: usize,
     r: usize,
 )
-    requires { ⌜ Rows (length (now plane)) across width height × Rows (length (now work)) stride width height × (from ≤ width) ⌝ }
+    requires { ⌜ Rows (length (now plane)) across width height × Rows (length (now work)) stride width height × (from ≤ count lo width) ⌝ }
     ensures { λ _. ⌜ at (now (work .exit)) ≡ pick (ltb r height) (rowBack from width height stride (cells across (at (now (plane .entry)))) (at (now (work .entry))) r) (at (now (work .entry))) ⌝ }
 {
     if height <= r {
@@ -275,7 +285,7 @@ fn rows_back(
     width: usize,
     height: usize,
 )
-    requires { ⌜ Rows (length (now plane)) across width height × Rows (length (now work)) stride width height × (from ≤ width) × (1 < height) ⌝ }
+    requires { ⌜ Rows (length (now plane)) across width height × Rows (length (now work)) stride width height × (from ≤ count lo width) × (1 < height) ⌝ }
     ensures { λ _. ⌜ at (now (work .exit)) ≡ flat stride (levelUnlifted width height (cells stride (flat stride (rowsFetched from width height (cells across (at (now (plane .entry)))) (cells stride (at (now (work .entry)))))))) ⌝ }
 {
     fetch_row(plane, work, across, stride, from, width, height, 0);
@@ -302,7 +312,7 @@ fn level_back(
     width: usize,
     height: usize,
 )
-    requires { ⌜ Rows (length (now plane)) across width height × Rows (length (now work)) stride width height × (from ≤ width) ⌝ }
+    requires { ⌜ Rows (length (now plane)) across width height × Rows (length (now work)) stride width height × (from ≤ count lo width) ⌝ }
     ensures { λ _. ⌜ at (now (work .exit)) ≡ flat stride (levelUnlifted width height (cells stride (flat stride (rowsFetched from width height (cells across (at (now (plane .entry)))) (cells stride (at (now (work .entry)))))))) ⌝ }
 {
     if height < 2 {

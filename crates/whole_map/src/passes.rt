@@ -37,7 +37,9 @@ fn predict_next(area: &mut [i32], stride: usize, width: usize, height: usize, r:
     rows::predict_row(area, stride, width, next, r, row_after(height, next));
 }
 
-// One turn of the columns forward: the odd row after row r predicted, and row r updated.
+// One turn of the columns forward: the odd row after row r predicted, and row r updated. That it is called twice, in the loop and once
+// after it, keeps it from being inlined: in one loop over rows of one area the compiler asks once for all rows whether they overlap, and
+// then leaves vector code (docs/PROVING.md).
 fn lift_pair(area: &mut [i32], stride: usize, width: usize, height: usize, r: usize)
     requires { ⌜ (r < height) × (1 < height) ⌝ }
     ensures { λ _. ⌜ at (now (area .exit)) ≡ pairChanged (predicted wrap32) (updated wrap32) (length (now (area .entry))) stride width height r (at (now (area .entry))) ⌝ }
@@ -72,7 +74,8 @@ fn unupdate_next(area: &mut [i32], stride: usize, width: usize, height: usize, r
     rows::unupdate_row(area, stride, width, next, r, row_after(height, next));
 }
 
-// One turn of the columns back: the even row after row r first, and then row r.
+// One turn of the columns back: the even row after row r first, and then row r. It is called twice for the same reason as `lift_pair`: a
+// call that is inlined into the loop over the rows leaves vector code.
 pub fn unlift_pair(area: &mut [i32], stride: usize, width: usize, height: usize, r: usize)
     requires { ⌜ (r < height) × (1 < height) ⌝ }
     ensures { λ _. ⌜ at (now (area .exit)) ≡ pairChanged (unupdated wrap32) (unpredicted wrap32) (length (now (area .entry))) stride width height r (at (now (area .entry))) ⌝ }

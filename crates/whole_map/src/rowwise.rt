@@ -6,8 +6,8 @@ ghost use lib.IntN.{pos};
 ghost use lib.ListN.{length, set};
 ghost use Rattle.numbers.specs.Signal.{at};
 ghost use Rattle.numbers.specs.Word.{wrap32};
-ghost use Rattle.lifting.specs.Line.{lo, hi, count, predicted, updated, parted, joined};
-ghost use Rattle.lifting.specs.Halves.{halvesOf, inHalves, fronted, liftedInPlace};
+ghost use Rattle.lifting.specs.Line.{lo, hi, count, predicted, updated, unupdated, unpredicted, parted, joined};
+ghost use Rattle.lifting.specs.Halves.{halvesOf, inHalves, fronted, liftedInPlace, unliftedInPlace};
 ghost use Rattle.lifting.specs.Passes.{highsChanged, lowsChanged, evensCopied, oddsCopied};
 ghost use Rattle.wavelet.specs.Maps.{every};
 ghost use Rattle.whole_map.specs.Rowwise.{wovenInPlace, evensLaid, oddsLaid, highsLaid, between};
@@ -89,6 +89,68 @@ pub fn lift_to(row: &[i32], out: &mut [i32])
     let low = n - n / 2;
     lift_highs(row, out, low);
     lift_lows(row, out, low);
+}
+
+// Place p of `out` without its update by two places of a row.
+fn unupdate_by(row: &[i32], out: &mut [i32], p: usize, a: usize, b: usize)
+    requires { ⌜ (p < length (now out)) × (a < length (now row)) × (b < length (now row)) ⌝ }
+    ensures { λ _. ⌜ now (out .exit) ≡ set (now (out .entry)) p (unupdated wrap32 (at (now (out .entry)) p) (at (now (row .entry)) a) (at (now (row .entry)) b)) ⌝ }
+{
+    out[p] = sample::unupdate(out[p], row[a], row[b]);
+}
+
+// Place p of `out` from place p of a row, without its prediction by two other places of `out`.
+fn unpredict_to(row: &[i32], out: &mut [i32], p: usize, a: usize, b: usize)
+    requires { ⌜ (p < length (now row)) × (a < length (now out)) × (b < length (now out)) × (p < length (now out)) ⌝ }
+    ensures { λ _. ⌜ now (out .exit) ≡ set (now (out .entry)) p (unpredicted wrap32 (at (now (row .entry)) p) (at (now (out .entry)) a) (at (now (out .entry)) b)) ⌝ }
+{
+    out[p] = sample::unpredict(row[p], out[a], out[b]);
+}
+
+// The low numbers of `out` lifted back, each by its two high neighbours in a row as long; the first has one, and so has the last of an odd row.
+fn unlift_lows(row: &[i32], out: &mut [i32], low: usize)
+    requires { ⌜ (low ≡ count lo (length (now row))) × (1 < length (now row)) × (length (now row) ≡ length (now out)) ⌝ }
+    ensures { λ _. ⌜ at (now (out .exit)) ≡ highsLaid (length (now (row .entry))) (at (now (out .entry))) (lowsChanged (unupdated wrap32) (length (now (row .entry))) (highsLaid (length (now (row .entry))) (at (now (row .entry))) (at (now (out .entry))))) ⌝ }
+{
+    let high = row.len() - low;
+    unupdate_by(row, out, 0, low, low);
+    let mut n = 1;
+    while n < high {
+        unupdate_by(row, out, n, low + n - 1, low + n);
+        n += 1;
+    }
+    if n < low {
+        unupdate_by(row, out, n, low + n - 1, low + n - 1);
+    }
+}
+
+// Then the high numbers of the row, lifted back on the way to `out`, each by its two low neighbours there; the last of an even row has one.
+fn unlift_highs(row: &[i32], out: &mut [i32], low: usize)
+    requires { ⌜ (low ≡ count lo (length (now row))) × (1 < length (now row)) × (length (now row) ≡ length (now out)) ⌝ }
+    ensures { λ _. ⌜ at (now (out .exit)) ≡ highsChanged (unpredicted wrap32) (length (now (row .entry))) (highsLaid (length (now (row .entry))) (at (now (row .entry))) (at (now (out .entry)))) ⌝ }
+{
+    let mut n = 0;
+    while n + 1 < low {
+        unpredict_to(row, out, low + n, n, n + 1);
+        n += 1;
+    }
+    if low + n < row.len() {
+        unpredict_to(row, out, low + n, n, n);
+    }
+}
+
+// A row in halves lifted back in `out`, which has its low half; its high half is read from a row as long.
+pub fn unlift_by(row: &[i32], out: &mut [i32])
+    requires { ⌜ length (now row) ≡ length (now out) ⌝ }
+    ensures { λ _. ⌜ at (now (out .exit)) ≡ unliftedInPlace (length (now (row .entry))) (highsLaid (length (now (row .entry))) (at (now (row .entry))) (at (now (out .entry)))) ⌝ }
+{
+    let n = row.len();
+    if n < 2 {
+        return;
+    }
+    let low = n - n / 2;
+    unlift_lows(row, out, low);
+    unlift_highs(row, out, low);
 }
 
 // The first n numbers of an area set to 0.

@@ -6,6 +6,7 @@ use lib.IntN.{ℤ}
 use lib.ListN.{length}
 use borrow.Author.Needs.{needs}
 use Rattle.numbers.specs.Signal.{at}
+use Rattle.lifting.specs.Line.{lo, count}
 use Rattle.wavelet.specs.Plane.{cells}
 use Rattle.whole_map.specs.Passes.{Rows}
 use Rattle.whole_map.proofs.GridSweep.{rows-kept, few}
@@ -22,7 +23,7 @@ Inv-loop plane work₀ across stride from width height r₀ work r =
     × (length work ≡ length work₀)
     × Rows (length plane) across width height
     × Rows (length work₀) stride width height
-    × (from ≤ width)
+    × (from ≤ count lo width)
     × ((x₀ : ℕ → ℤ) → Zoned stride width height from (cells across (at plane)) x₀ 1 2 (at work₀) → Zoned stride width height from (cells across (at plane)) x₀ r (r + 1) (at work))
 
 abbrev μ-loop : tie.MeasureT-loop
