@@ -206,7 +206,7 @@ pub fn forward_levels(
 {
     lift_columns(work, stride, width, height);
     store_level(work, plane, stride, across, width, height);
-    if levels < 2 {
+    if levels <= 1 {
         return;
     }
     let w = sizes::half(width);
