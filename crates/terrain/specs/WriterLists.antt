@@ -57,12 +57,12 @@ seenAll (d ∷ ds) m = seenOf m (d .call) (d .taken) (d .row) ∷ seenAll ds (le
 -- ---- the same told of a list of Rattle's calls: an answer by its number, what it gives by the out-parameter, which a refusal leaves
 unfoldable pub told : ℕ → List ℕ → Event → Seen
 told z q (rattle.offered run (gives k)) = offered run 0 k
-told z q (rattle.offered run (refused no)) = offered run no z
+told z q (rattle.offered run (refused k)) = offered run k z
 told z q (rattle.drew a (gives (row r)) b) = drew a 0 (r .level ∷ r .band ∷ r .row ∷ r .length ∷ []) b
 told z q (rattle.drew a (gives none) b) = drew a 0 (0 ∷ 0 ∷ 0 ∷ 0 ∷ []) b
-told z q (rattle.drew a (refused no) b) = drew a no q b
+told z q (rattle.drew a (refused k) b) = drew a k q b
 told z q (rattle.finished (gives u)) = finished 0
-told z q (rattle.finished (refused no)) = finished no
+told z q (rattle.finished (refused k)) = finished k
 
 unfoldable pub toldAll : List CCall → List Event → List Seen
 toldAll [] es = []
