@@ -24,8 +24,8 @@ use Rattle.reader.specs.Tried.{fits}
 use Rattle.reader.specs.Machine.{Place, place, nextAt, beyond, enter}
 use Rattle.reader.specs.State.{next, nextRow, nextLength, unfinished, rowDue, drawDue, wants, settles, feeds}
 use Rattle.reader.specs.Questions.{countsFit, storeFits, runFits, setUpQuestion, wantQuestion, feedQuestion, drawQuestion}
-use Rattle.reader.specs.Calls.{wantAnswer}
-use Rattle.reader.specs.Demand3.{Area, saidWant, gives, refused, heights, nothing, wantSays, feedTurned, drawSays}
+use Rattle.reader.specs.Calls.{wantReply}
+use Rattle.reader.specs.Demand3.{Area, said, gives, refused, heights, nothing, wantSays, feedTurned, drawSays}
 use Rattle.reader.proofs.StepsLeft.{named-code, stepsLeft, Ahead, height, row, ahead, left-row, left-height, left-done}
 
 -- ---- a set-up that passed
@@ -79,16 +79,16 @@ module _ (W H l : ℕ) where
     counts e = rw (lim .wide, lim .high, lim .deep, le-leb d H drawn-le, le-leb lev (suc l) level-le, le-leb b 4 band-le) refl
 
     -- ---- want
-    wants-are : (e : Bool) (t : List Step) → View d lev b t → saidWant (wants (here d lev b e)) ≡ gives (wantSays W e t)
+    wants-are : (e : Bool) (t : List Step) → View d lev b t → wants (here d lev b e) ≡ wantSays W e t
     unfolding wants next nextRow nextLength unfinished wantSays
     wants-are true _ v = refl
     wants-are false _ (at-end h) = rw (le-ltb d H h) refl
     wants-are false _ (at-height due q) = rw (lt-ltb d H due, q) refl
     wants-are false _ (at-row k c due h a q) = rw (lt-ltb d H due, q, lt-ltb 0 (suc k) (omega arith), named-code c) refl
 
-    pub want-says : (e : Bool) (t : List Step) → View d lev b t → saidWant (wantAnswer (here d lev b e) (wantQuestion (here d lev b e))) ≡ gives (wantSays W e t)
-    unfolding wantAnswer wantQuestion
-    want-says e t v = rw (counts e) (wants-are e t v)
+    pub want-says : (e : Bool) (t : List Step) → View d lev b t → said (λ v. v) (wantReply (here d lev b e) (wantQuestion (here d lev b e))) ≡ gives (wantSays W e t)
+    unfolding wantReply wantQuestion
+    want-says e t v = rw (counts e) (ap gives (wants-are e t v))
 
     -- ---- feed
     row-due : (k : ℕ) (c : Band) → d < H → nextAt W H (suc l) d lev b ≡ place (suc k) (code c) → rowDue (here d lev b false) ≡ true

@@ -31,11 +31,12 @@ use Rattle.wavelet.proofs.MapTheorems.{height-fits, low-fits}
 use Rattle.wavelet.proofs.StepLaws.{steps-once, steps-heights}
 use Rattle.reader.specs.declared.Reader.{Reader}
 use Rattle.reader.specs.Asked.{keptAt, asked}
+use Rattle.reader.specs.Answers.{done}
 use Rattle.reader.specs.Tried.{fits}
 use Rattle.reader.specs.State.{drawDue, feeds, settles}
 use Rattle.reader.specs.Questions.{countsFit, setUpQuestion, feedQuestion, drawQuestion}
-use Rattle.reader.specs.Calls.{fresh, feedAnswer, drawAnswer, drawArea}
-use Rattle.reader.specs.Demand3.{Area, Call, want, feed, draw, Reply, gives, refused, row, done, Given, heights, nothing, Event, wanted, fed, drew, saidFeed, saidDraw, World, event, events, final, freshWorld, leftBy, left, ends, endedBy, FedRow, fedBy, fedRows, drawnBy, drawnRows, All, none, more, HasRow, FirstRows, wantSays, feedTurned, drawSays, OneOf, this, that, written, Draws, Demand3}
+use Rattle.reader.specs.Calls.{fresh, feedReply, drawReply, drawArea}
+use Rattle.reader.specs.Demand3.{Area, Call, want, feed, draw, Reply, gives, refused, Given, heights, nothing, Event, wanted, fed, drew, said, given, World, event, events, final, freshWorld, leftBy, left, ends, endedBy, FedRow, fedBy, fedRows, drawnBy, drawnRows, All, none, more, HasRow, FirstRows, AllDrawn, wantSays, feedTurned, drawSays, OneOf, this, that, written, Draws, Demand3, OfCalls}
 use Rattle.reader.specs.Demand3 as demand
 use Rattle.reader.proofs.StepsLeft.{left-first}
 use Rattle.reader.proofs.Holds.{Fits, first-holds}
@@ -163,18 +164,18 @@ module _ (W H l n : ℕ) (lim : Limits W H l n) where
     -- ---- feed
     module _ (a : Area) where
       abbrev seenFeed : ℕ → Event
-      seenFeed q = fed a (saidFeed (feedAnswer (here W H l d lev b e) q))
+      seenFeed q = fed a (said (λ _. tt) (feedReply (here W H l d lev b e) q))
 
       seen-away : (q : ℕ) → eqb q 0 ≡ false → eqb q 14 ≡ false → seenFeed q ≡ fed a (refused q)
-      unfolding feedAnswer
+      unfolding feedReply
       seen-away q z f = rw (z, f) refl
 
       seen-goes : seenFeed 0 ≡ fed a (gives tt)
-      unfolding feedAnswer
+      unfolding feedReply
       seen-goes = refl
 
       seen-stops : seenFeed 14 ≡ fed a (refused 14)
-      unfolding feedAnswer
+      unfolding feedReply
       seen-stops = refl
 
       feed-turned : (q : ℕ) → feedTurned W e t a ≡ suc q → event (feed a) (world W H l n lim d lev b e x) ≡ fed a (refused (suc q))
@@ -206,10 +207,10 @@ module _ (W H l n : ℕ) (lim : Limits W H l n) where
       s = here W H l d lev b e
 
       abbrev seenDraw : ℕ → Event
-      seenDraw q = drew a (saidDraw (drawAnswer s q)) (record { size = a .size; numbers = drawArea s q x (a .numbers) })
+      seenDraw q = drew a (said given (drawReply s q)) (record { size = a .size; numbers = drawArea s q x (a .numbers) })
 
       drawn-away : (q : ℕ) → eqb q 0 ≡ false → eqb q 14 ≡ false → drawSays W e t (a .size) ≡ refused q → Draws W e t a (seenDraw q)
-      unfolding drawAnswer drawArea
+      unfolding drawReply drawArea
       drawn-away q z f says = rw (z, f) (record {
         answer = refused q;
         after = a;
@@ -224,7 +225,7 @@ module _ (W H l n : ℕ) (lim : Limits W H l n) where
           no-fourteen r = let p : q ≡ 14 = cc in subst T (ap (λ i. eqb i 14) (sym p) ∙ f) tt
 
       drawn-idle : drawDue s ≡ false → drawSays W e t (a .size) ≡ gives nothing → Draws W e t a (seenDraw 0)
-      unfolding drawAnswer drawArea
+      unfolding drawReply drawArea
       drawn-idle z says = rw z (record {
         answer = gives nothing;
         after = a;
@@ -236,7 +237,7 @@ module _ (W H l n : ℕ) (lim : Limits W H l n) where
       })
 
       drawn-stops : drawSays W e t (a .size) ≡ gives (heights W) → Draws W e t a (seenDraw 14)
-      unfolding drawAnswer drawArea
+      unfolding drawReply drawArea
       drawn-stops says = record {
         answer = refused 14;
         after = a;
@@ -248,7 +249,7 @@ module _ (W H l n : ℕ) (lim : Limits W H l n) where
       }
 
       drawn-goes : drawDue s ≡ true → drawSays W e t (a .size) ≡ gives (heights W) → Draws W e t a (seenDraw 0)
-      unfolding drawAnswer drawArea written
+      unfolding drawReply drawArea written
       drawn-goes z says = rw z (record {
         answer = gives (heights W);
         after = record { size = a .size; numbers = fronted W _ (a .numbers) };
@@ -372,13 +373,15 @@ module _ (W H l n : ℕ) (lim : Limits W H l n) where
       first = λ g has. first-rows d lev b e x t fs ds kept g (has .map) (has .rows);
       impossible = λ z g has. none-has d lev b e x t fs ds kept z g (has .map) (has .rows);
       finished = (
-        λ z. let f = finished-then d lev b e x t fs ds kept z in (f .0, record { map = f .1; rows = f .2 }, f .3, f .4),
-        λ f. then-finished d lev b e x t fs ds kept (f .0) (f .1 .map) (f .1 .rows) (f .2),
+        λ z. let f = finished-then d lev b e x t fs ds kept z in record { map = f .0; has = record { map = f .1; rows = f .2 }; all = f .3; first = f .4 },
+        λ f. then-finished d lev b e x t fs ds kept (f .map) (f .has .map) (f .has .rows) (f .all),
       );
     },
   )
 
--- ---- demand 3: a set-up that passes, on a store of n numbers in which x stood, then any calls. Every state that is reached passes question 1, and the claim holds.
-pub demand-3 : (W H L n : ℕ) → setUpQuestion W H L n ≡ 0 → (x : ℕ → ℤ) (cs : List Call) → (countsFit (final cs (freshWorld W H L n x) .reader) ≡ true) × Demand3 W H L (events cs (freshWorld W H L n x)) (λ c. event c (final cs (freshWorld W H L n x)))
+-- ---- demand 3: a set-up that passes, on a store of n numbers in which x stood, then any calls
+pub demand-3 : (W H L n : ℕ) → setUpQuestion W H L n ≡ 0 → (x : ℕ → ℤ) (cs : List Call) → OfCalls W H L n x cs
 demand-3 W H zero n ok x cs = absurd (no-levels W H n ok)
-demand-3 W H (suc l) n ok x cs = claim W H l n (limits W H l n ok) _ _ (then-reached W H l n (limits W H l n ok) x cs)
+demand-3 W H (suc l) n ok x cs =
+    let c = claim W H l n (limits W H l n ok) _ _ (then-reached W H l n (limits W H l n ok) x cs) in
+    record { in-range = c .0; claim = c .1 }

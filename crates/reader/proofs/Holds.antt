@@ -20,18 +20,18 @@ use Rattle.wavelet.specs.Levels.{size, approximation}
 use Rattle.wavelet.specs.Maps.{valueFits}
 use Rattle.wavelet.proofs.SizeLaws.{count-lo}
 use Rattle.wavelet.proofs.BandPlaces.{band-of}
-use Rattle.wavelet.proofs.LevelTheory.{OnCells, low-all, subband-fits, placed, placed-in}
+use Rattle.wavelet.proofs.LevelTheory.{OnCells, low-all, subband-fits}
 use Rattle.reader.specs.Sets.{setOf, opens, rowAt}
 use Rattle.reader.specs.Asked.{keptAt, asked, bandsFrom, those, look, firstCode, nextBand, named}
 use Rattle.reader.specs.Tried.{Tried, passed, bind, onto}
-use Rattle.reader.specs.Slots.{slot, rowPlace, setRow, bandFed, lowRowTaken}
+use Rattle.reader.specs.Slots.{slot, rowPlace, setRow, halfPlace, bandFed, lowRowTaken}
 use Rattle.reader.specs.Work.{setMade, setWorked}
 use Rattle.reader.specs.Holds.{SetBefore, BandStands}
 use Rattle.reader.specs.Store.{stretchAt, from, behind, fedAt, workedAt}
 use Rattle.reader.specs.Machine.{Place, place, bandAt, nextAt, settled, finished, beyond, fedOn, dive, enter}
 use Rattle.reader.proofs.OpenedSets.{opens-next, same-set, setOf-there, rowAt-next, rowAt-there, rowAt-first}
 use Rattle.reader.proofs.StepsLeft.{named-code, code-lt, first-le}
-use Rattle.reader.proofs.RowsIn.{apart, parity, Is, Only, is-old, only-fed, fed-here, fed-beside, only-taken, taken-is, taken-beside}
+use Rattle.reader.proofs.RowsIn.{apart, parity, Is, Only, is-old, only-fed, fed-here, fed-beside, only-taken, taken-is, taken-beside, half-inside}
 use Rattle.reader.proofs.SetMade.{Outcome, stops, goes, bind-outcome, Needs, Leaves, set-made}
 
 -- ---- memory: two that agree in a level's four rows
@@ -43,7 +43,7 @@ unfolding rowPlace
 four w r = row-order w (slot r) 4 (omega arith)
 
 is-same : (w : ℕ) (x y : ℕ → ℤ) (r : ℕ) (c : Half → ℕ → ℤ) → SameMem w x y → Is w x r c → Is w y r c
-is-same w x y r c e s h i b = e (rowPlace w r + placed h w i) (omega (arith, placed-in h w i b, four w r)) ∙ s h i b
+is-same w x y r c e s h i b = e (rowPlace w r + (halfPlace h w + i)) (omega (arith, half-inside h w i b, four w r)) ∙ s h i b
 
 -- ---- the stretches of the store
 module _ (W : ℕ) where
@@ -182,11 +182,11 @@ module _ (W H l : ℕ) (g : Grid) (words : OnCells (SFits w32) W H g) where
   -- ---- a band row fed
   got-old : (k n : ℕ) (m : ℕ → ℤ) (v : ℕ → ℤ) (c e : Band) → (c ≡ e → ⊥) → Got k n m e → Got k n (bandFed (size k W) c n v m) e
   got-old k n m v c e d s p i q = elim (Half-discrete (down c) (down e)) [
-    | yes z ↦ ap (λ (a : Half). bandFed (size k W) c n v m (rowPlace (size k W) (setRow a n) + placed (across e) (size k W) i)) (sym z)
+    | yes z ↦ ap (λ (a : Half). bandFed (size k W) c n v m (rowPlace (size k W) (setRow a n) + (halfPlace (across e) (size k W) + i))) (sym z)
         ∙ fed-beside (size k W) c n v m (across e) (λ y. d (sym (band-of c) ∙ ap₂ bandOf y z ∙ band-of e)) i q
-        ∙ ap (λ (a : Half). m (rowPlace (size k W) (setRow a n) + placed (across e) (size k W) i)) z
+        ∙ ap (λ (a : Half). m (rowPlace (size k W) (setRow a n) + (halfPlace (across e) (size k W) + i))) z
         ∙ s p i q
-    | no z ↦ only-fed (size k W) c n v m .row (setRow (down e) n) (placed (across e) (size k W) i) (set-rows (down c) (down e) n z) (placed-in (across e) (size k W) i q) ∙ s p i q
+    | no z ↦ only-fed (size k W) c n v m .row (setRow (down e) n) (halfPlace (across e) (size k W) + i) (set-rows (down c) (down e) n z) (half-inside (across e) (size k W) i q) ∙ s p i q
   ]
 
   got-new : (k n : ℕ) (m : ℕ → ℤ) (v : ℕ → ℤ) (c : Band) → ((i : ℕ) → i < count (across c) (size k W) → v i ≡ subband wrap32 (size k W) (size k H) (G k) c n i) → Got k n (bandFed (size k W) c n v m) c
@@ -249,11 +249,11 @@ module _ (W H l : ℕ) (g : Grid) (words : OnCells (SFits w32) W H g) where
       high-before = b .high;
     }
       where
-        low : (a : Half) (i : ℕ) → i < count a (size k W) → y (rowPlace (size k W) (2 * n) + placed a (size k W) i) ≡ lineForward wrap32 (size k W) (columnsLifted wrap32 (size k H) (G k) lo n) a i
+        low : (a : Half) (i : ℕ) → i < count a (size k W) → y (rowPlace (size k W) (2 * n) + (halfPlace a (size k W) + i)) ≡ lineForward wrap32 (size k W) (columnsLifted wrap32 (size k H) (G k) lo n) a i
         low lo i q = got LL (omega (arith, count-lo (size k H), n-there)) i q
         low hi i q = got HL (omega (arith, count-lo (size k H), n-there)) i q
 
-        high : n < count hi (size k H) → (a : Half) (i : ℕ) → i < count a (size k W) → y (rowPlace (size k W) (2 * n + 1) + placed a (size k W) i) ≡ lineForward wrap32 (size k W) (columnsLifted wrap32 (size k H) (G k) hi n) a i
+        high : n < count hi (size k H) → (a : Half) (i : ℕ) → i < count a (size k W) → y (rowPlace (size k W) (2 * n + 1) + (halfPlace a (size k W) + i)) ≡ lineForward wrap32 (size k W) (columnsLifted wrap32 (size k H) (G k) hi n) a i
         high p lo i q = got LH p i q
         high p hi i q = got HH p i q
 
@@ -274,10 +274,10 @@ module _ (W H l : ℕ) (g : Grid) (words : OnCells (SFits w32) W H g) where
         all HH = unfold keptAt in refl
 
     -- else the low-low row comes from the next level
-    low-row : k < l → (h : Half) (i : ℕ) → i < count h (count lo (size k W)) → m (4 * size k W + (rowPlace (count lo (size k W)) n + placed h (count lo (size k W)) i)) ≡ parted (G (suc k) n) h i
+    low-row : k < l → (h : Half) (i : ℕ) → i < count h (count lo (size k W)) → m (4 * size k W + (rowPlace (count lo (size k W)) n + (halfPlace h (count lo (size k W)) + i))) ≡ parted (G (suc k) n) h i
     unfolding from stretchAt size rowAt
     low-row q h i p =
-        let e : stretchAt W k + (4 * size k W + (rowPlace (count lo (size k W)) n + placed h (count lo (size k W)) i)) ≡ stretchAt W k + 4 * size k W + (rowPlace (count lo (size k W)) n + placed h (count lo (size k W)) i) = omega arith in
+        let e : stretchAt W k + (4 * size k W + (rowPlace (count lo (size k W)) n + (halfPlace h (count lo (size k W)) + i))) ≡ stretchAt W k + 4 * size k W + (rowPlace (count lo (size k W)) n + (halfPlace h (count lo (size k W)) + i)) = omega arith in
         ap x e ∙ s .below (suc k) q (omega arith) .made n (rowAt-there H d due (suc k)) refl h i p
 
     abbrev taken : ℕ → ℤ
@@ -294,8 +294,8 @@ module _ (W H l : ℕ) (g : Grid) (words : OnCells (SFits w32) W H g) where
     unfolding across down setRow approximation
     got-taken q LL = λ p i b. taken-is (size k W) n m (G (suc k) n) (low-row q) i b
     got-taken q HL = λ p i b. taken-beside (size k W) n m i b ∙ got-kept HL (unfold keptAt in refl) p i b
-    got-taken q LH = λ p i b. only-taken (size k W) n m .row (2 * n + 1) (placed lo (size k W) i) (parity (2 * n) (2 * n + 1) n n (omega arith) (omega arith)) (placed-in lo (size k W) i b) ∙ got-kept LH (unfold keptAt in refl) p i b
-    got-taken q HH = λ p i b. only-taken (size k W) n m .row (2 * n + 1) (placed hi (size k W) i) (parity (2 * n) (2 * n + 1) n n (omega arith) (omega arith)) (placed-in hi (size k W) i b) ∙ got-kept HH (unfold keptAt in refl) p i b
+    got-taken q LH = λ p i b. only-taken (size k W) n m .row (2 * n + 1) (halfPlace lo (size k W) + i) (parity (2 * n) (2 * n + 1) n n (omega arith) (omega arith)) (half-inside lo (size k W) i b) ∙ got-kept LH (unfold keptAt in refl) p i b
+    got-taken q HH = λ p i b. only-taken (size k W) n m .row (2 * n + 1) (halfPlace hi (size k W) + i) (parity (2 * n) (2 * n + 1) n n (omega arith) (omega arith)) (half-inside hi (size k W) i b) ∙ got-kept HH (unfold keptAt in refl) p i b
 
     before-taken : Before k n taken
     unfolding setRow
@@ -459,7 +459,7 @@ module _ (W H l : ℕ) (g : Grid) (words : OnCells (SFits w32) W H g) where
   -- ---- the row that can be drawn
   pub height-made : (d : ℕ) (x : ℕ → ℤ) → d < H → Held d 0 4 x → Is W x d (parted (g d))
   unfolding from stretchAt size approximation rowAt
-  height-made d x due s h i b = let e : 0 + (rowPlace W d + placed h W i) ≡ rowPlace W d + placed h W i = omega arith in ap x (sym e) ∙ s .below 0 (omega arith) (omega arith) .made d due refl h i b
+  height-made d x due s h i b = let e : 0 + (rowPlace W d + (halfPlace h W + i)) ≡ rowPlace W d + (halfPlace h W + i) = omega arith in ap x (sym e) ∙ s .below 0 (omega arith) (omega arith) .made d due refl h i b
 
   pub height-fit : (d : ℕ) (x : ℕ → ℤ) → d < H → Held d 0 4 x → (c : ℕ) → c < W → valueFits 0 (g d c) ≡ true
   unfolding size approximation rowAt

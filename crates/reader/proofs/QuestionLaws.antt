@@ -1,6 +1,6 @@
 -- The questions, one after another: what each no and each yes says. Assumes nothing.
 use mathlib.Core.Path.{_≡_, refl, _∙_}
-use mathlib.Core.Bool.{Bool, true, false}
+use mathlib.Core.Bool.{Bool, true, false, not}
 use Prim.Native.Nat.{ℕ, _≤_, _<_}
 use native.Mathlib.Omega.{arith}
 use lib.IntN.{ℤ}
@@ -15,7 +15,7 @@ use Rattle.reader.proofs.StoreLaws.{length-is}
 use Rattle.reader.specs.declared.Reader.{Reader}
 use Rattle.wavelet.specs.Store.{storeLength}
 use Rattle.reader.specs.State.{next, nextLength, unfinished, rowDue, drawDue}
-use Rattle.reader.specs.Questions.{not, countsFit, storeFits, runFits, setUpQuestion}
+use Rattle.reader.specs.Questions.{countsFit, storeFits, runFits, setUpQuestion}
 use Rattle.reader.specs.Inside.{Counts, Shape, storeQuestion, rowQuestion}
 
 -- the length that the code asks for, 0 outside the limits

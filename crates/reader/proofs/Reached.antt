@@ -34,8 +34,8 @@ use Rattle.reader.specs.Tried.{Tried, failed, passed, fits, memory}
 use Rattle.reader.specs.Machine.{Place, place, bandAt, nextAt, placeFed, beyond, dive, enter}
 use Rattle.reader.specs.State.{next, settles, feeds, drawDue, fedReader, drawnReader, endedReader}
 use Rattle.reader.specs.Questions.{runFits, feedQuestion, drawQuestion}
-use Rattle.reader.specs.Calls.{feedAnswer, feedStore, storeAfter, drawAnswer, drawStore, drawArea, heightRow}
-use Rattle.reader.specs.Demand3.{Area, Call, want, feed, draw, Event, fed, drew, World, event, goesOn, leftBy, ends, FedRow, fedAs, fedBy, drawnBy, saidFeed, saidDraw, leftByFeed, leftByDraw, All, none, more}
+use Rattle.reader.specs.Calls.{feedReply, feedStore, storeAfter, drawReply, drawStore, drawArea, heightRow}
+use Rattle.reader.specs.Demand3.{Area, Call, want, feed, draw, Event, fed, drew, World, event, goesOn, leftBy, ends, FedRow, fedAs, fedBy, drawnBy, said, given, leaves, drawnTo, All, none, more}
 use Rattle.reader.specs.Demand3 as demand
 use Rattle.reader.proofs.StepsLeft.{code-lt, stepsLeft}
 use Rattle.reader.proofs.SetMade.{Outcome}
@@ -131,13 +131,13 @@ module _ (W H l : ℕ) where
       -- ---- a feed
       module _ (a : Area) where
         abbrev fedEvent : ℕ → Event
-        fedEvent q = fed a (saidFeed (feedAnswer s q))
+        fedEvent q = fed a (said (λ _. tt) (feedReply s q))
 
         abbrev FedTo : ℕ → Type 0
-        FedTo q = Reached (record { reader = leftByFeed s (feedAnswer s q); length = n; store = feedStore s q (a .numbers) x }) (pick (ends (fedEvent q)) true e) (leftBy t (fedEvent q)) (fs ++ fedBy t (fedEvent q)) (ds ++ drawnBy (fedEvent q))
+        FedTo q = Reached (record { reader = leaves (λ t. t) s (feedReply s q); length = n; store = feedStore s q (a .numbers) x }) (pick (ends (fedEvent q)) true e) (leftBy t (fedEvent q)) (fs ++ fedBy t (fedEvent q)) (ds ++ drawnBy (fedEvent q))
 
         fed-away : (q : ℕ) → eqb q 0 ≡ false → eqb q 14 ≡ false → FedTo q
-        unfolding feedAnswer feedStore storeAfter ends leftBy goesOn fedBy drawnBy
+        unfolding feedReply feedStore storeAfter ends leftBy goesOn fedBy drawnBy
         fed-away q z f = rw (z, f) (rw f stays)
 
         -- the row that is fed
@@ -185,7 +185,7 @@ module _ (W H l : ℕ) where
           }
 
           fed-stops : feeds s (a .numbers) x ≡ failed → FedTo 14
-          unfolding feedAnswer ends leftBy goesOn fedBy drawnBy endedReader
+          unfolding feedReply ends leftBy goesOn fedBy drawnBy endedReader
           fed-stops z₁ = rw (append-nil ds) (subst (λ u. Reached (world d lev b true zeros) true t (fs ++ fedAs u a) ds) (sym head) (reached d lev b true zeros t (fs ++ (f ∷ [])) ds (ended-kept z₁)))
 
           -- it goes on
@@ -224,7 +224,7 @@ module _ (W H l : ℕ) where
               rename = ap (λ u. u ++ bandRowsOf (stepsLeft W H l d to)) (names-append fs (f ∷ [])) ∙ append-assoc (namesOf fs) (namesOf (f ∷ [])) _ ∙ ap (λ u. namesOf fs ++ bandRowsOf u) (sym head)
 
           fed-goes : (y : ℕ → ℤ) → feeds s (a .numbers) x ≡ passed y → FedTo 0
-          unfolding feedAnswer feedStore storeAfter ends leftBy goesOn fedBy drawnBy fedReader next placeFed
+          unfolding feedReply feedStore storeAfter ends leftBy goesOn fedBy drawnBy fedReader next placeFed
           fed-goes y z₁ =
               rw (append-nil ds, z₁, at-row, head, live) (unfold memory in reached d (to .level) (to .band) false y (stepsLeft W H l d to) (fs ++ (f ∷ [])) ds (on-kept y z₁))
 
@@ -242,17 +242,17 @@ module _ (W H l : ℕ) where
       -- ---- a draw
       module _ (a : Area) where
         abbrev drawnEvent : ℕ → Event
-        drawnEvent q = drew a (saidDraw (drawAnswer s q)) (record { size = a .size; numbers = drawArea s q x (a .numbers) })
+        drawnEvent q = drew a (said given (drawReply s q)) (record { size = a .size; numbers = drawArea s q x (a .numbers) })
 
         abbrev DrawnTo : ℕ → Type 0
-        DrawnTo q = Reached (record { reader = leftByDraw s (drawAnswer s q); length = n; store = drawStore s q x }) (pick (ends (drawnEvent q)) true e) (leftBy t (drawnEvent q)) (fs ++ fedBy t (drawnEvent q)) (ds ++ drawnBy (drawnEvent q))
+        DrawnTo q = Reached (record { reader = leaves (drawnTo s) s (drawReply s q); length = n; store = drawStore s q x }) (pick (ends (drawnEvent q)) true e) (leftBy t (drawnEvent q)) (fs ++ fedBy t (drawnEvent q)) (ds ++ drawnBy (drawnEvent q))
 
         drawn-away : (q : ℕ) → eqb q 0 ≡ false → eqb q 14 ≡ false → DrawnTo q
-        unfolding drawAnswer drawStore storeAfter ends leftBy goesOn fedBy drawnBy
+        unfolding drawReply drawStore storeAfter ends leftBy goesOn fedBy drawnBy
         drawn-away q z f = rw (z, f) (rw f stays)
 
         drawn-idle : drawDue s ≡ false → DrawnTo 0
-        unfolding drawAnswer drawStore storeAfter ends leftBy goesOn fedBy drawnBy
+        unfolding drawReply drawStore storeAfter ends leftBy goesOn fedBy drawnBy
         drawn-idle z = rw z stays
 
         module _ (live : e ≡ false) (due : d < H) (at-height : nextAt W H (suc l) d lev b ≡ place 0 4) (head : t ≡ step.draw d ∷ stepsLeft W H l (suc d) (enter W H (suc l) (suc d))) (to-draw : drawDue s ≡ true) where
@@ -284,7 +284,7 @@ module _ (W H l : ℕ) where
           }
 
           drawn-stops : settles s x ≡ failed → DrawnTo 14
-          unfolding drawAnswer ends leftBy goesOn fedBy drawnBy endedReader
+          unfolding drawReply ends leftBy goesOn fedBy drawnBy endedReader
           drawn-stops z₁ = rw (append-nil ds, append-nil fs) (reached d lev b true zeros-drawn t fs ds (stopped z₁))
 
           -- the row is given
@@ -310,8 +310,8 @@ module _ (W H l : ℕ) where
             unfolding enter
             enter-le = dive-le W H l (suc d) (suc l) 0 (omega arith)
 
-            given : Kept (suc d) (into .level) (into .band) false y (stepsLeft W H l (suc d) into) fs (ds ++ (out ∷ []))
-            given = record {
+            given-kept : Kept (suc d) (into .level) (into .band) false y (stepsLeft W H l (suc d) into) fs (ds ++ (out ∷ []))
+            given-kept = record {
               drawn-le = due;
               level-le = enter-le .0;
               band-le = enter-le .1;
@@ -334,8 +334,8 @@ module _ (W H l : ℕ) where
                 names-same = ap (λ u. namesOf fs ++ u) (sym (ap bandRowsOf head ∙ unfold bandRowsOf in refl))
 
             drawn-goes : DrawnTo 0
-            unfolding drawAnswer drawStore storeAfter drawArea ends leftBy goesOn fedBy drawnBy drawnReader memory
-            drawn-goes = rw (to-draw, made, head, live, append-nil fs) (reached (suc d) (into .level) (into .band) false y (stepsLeft W H l (suc d) into) fs (ds ++ (out ∷ [])) given)
+            unfolding drawReply drawStore storeAfter drawArea ends leftBy goesOn fedBy drawnBy drawnReader memory
+            drawn-goes = rw (to-draw, made, head, live, append-nil fs) (reached (suc d) (into .level) (into .band) false y (stepsLeft W H l (suc d) into) fs (ds ++ (out ∷ [])) given-kept)
 
         draw-reached : DrawnTo (drawQuestion s n x (a .size))
         draw-reached = go (draw-view W H l n lim d lev b (kept .drawn-le) (kept .level-le) (kept .band-le) e t x a viewed)

@@ -18,14 +18,14 @@ use Rattle.lifting.proofs.LineTheorems.{forward-fits}
 use Rattle.lifting.proofs.LineLaws.{even-is, odd-is, low-one}
 use Rattle.wavelet.specs.Bands.{Grid, columnsLifted}
 use Rattle.wavelet.specs.Maps.{valueFits}
-use Rattle.wavelet.proofs.LevelTheory.{OnCells, by-half, placed}
+use Rattle.wavelet.proofs.LevelTheory.{OnCells}
 use Rattle.wavelet.proofs.MapTheorems.{every-each, each-every}
 use Rattle.reader.specs.Sets.{setOf}
 use Rattle.reader.specs.Tried.{Tried, failed, passed, bind}
-use Rattle.reader.specs.Slots.{slot, rowPlace, rowUnlifted, rowBy}
+use Rattle.reader.specs.Slots.{slot, rowPlace, rowUnlifted, rowBy, halfPlace}
 use Rattle.reader.specs.Holds.{SetLeaves}
 use Rattle.reader.specs.Work.{rowFits, admitted, setUnlifted, evenRow, oddRow, evenMade, oddMade, lastMade, setMade}
-use Rattle.reader.proofs.RowsIn.{apart, parity, Is, only-by, is-old, only-unlifted, unlifted-is, by-is, halves-back-forward}
+use Rattle.reader.proofs.RowsIn.{apart, parity, Is, only-by, is-old, only-unlifted, unlifted-is, by-is, halves-back-forward, half-inside, by-halves}
 
 -- ---- what trying comes to: a memory with a property, or a value that does not fit where N says that all do
 pub data Outcome (N : Type 0) (P : (ℕ → ℤ) → Type 0) : Tried → Type 0 where
@@ -105,12 +105,8 @@ module _ (k w h : ℕ) (G : Grid) (good : OnCells (SFits w32) w h G) where
   admit P r x b s f = go (rowFits k w r x) refl
     where
       go : (t : Bool) → rowFits k w r x ≡ t → Outcome FitAll P (pick t (passed x) failed)
-      go true e = goes x (f (fits-parted r (λ a i p. subst (λ v. valueFits k v ≡ true) (s a i p) (every-each w _ e (placed a w i) (in-row a i p)))))
-        where
-          in-row : (a : Half) (i : ℕ) → i < count a w → placed a w i < w
-          in-row lo i p = unfold placed count in omega arith
-          in-row hi i p = unfold placed count in omega arith
-      go false e = stops (λ all. not-false (rowFits k w r x) (each-every w _ (by-half w (λ j. valueFits k (x (rowPlace w r + j)) ≡ true) (λ a i p. subst (λ v. valueFits k v ≡ true) (sym (s a i p)) (parted-fits r a i p (λ c q. all r c b q))))) e)
+      go true e = goes x (f (fits-parted r (λ a i p. subst (λ v. valueFits k v ≡ true) (s a i p) (every-each w _ e (halfPlace a w + i) (half-inside a w i p)))))
+      go false e = stops (λ all. not-false (rowFits k w r x) (each-every w _ (by-halves w (λ j. valueFits k (x (rowPlace w r + j)) ≡ true) (λ a i p. subst (λ v. valueFits k v ≡ true) (sym (s a i p)) (parted-fits r a i p (λ c q. all r c b q))))) e)
 
   -- ---- what a set needs
   pub record Needs (n : ℕ) (x : ℕ → ℤ) : Type 0 where

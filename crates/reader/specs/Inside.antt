@@ -1,5 +1,6 @@
 -- What the private functions of the reader require and ensure of each other.
 use mathlib.Core.Path.{_≡_}
+use mathlib.Core.Bool.{not}
 use Prim.Native.Nat.{ℕ, suc, _≤_, _<_}
 use lib.IntN.{ℤ}
 use lib.Dec.{eqb}
@@ -13,7 +14,7 @@ use Rattle.reader.specs.Sets.{rowAt}
 use Rattle.reader.specs.Store.{stretchAt}
 use Rattle.reader.specs.Machine.{Place}
 use Rattle.reader.specs.State.{next, nextLength, rowDue}
-use Rattle.reader.specs.Questions.{not, countsFit, storeFits, runFits}
+use Rattle.reader.specs.Questions.{countsFit, storeFits, runFits}
 
 -- every count is inside its range
 pub record Counts (s : Reader) : Type 0 where
