@@ -283,11 +283,11 @@ no-levels W H d lev b e h =
     let c = both (within 1 maxHeight H) _ (a .1) in
     subst T (sym (c .1)) tt
 
-feed-counts : (s : Reader) (n m : ℕ) (x v : ℕ → ℤ) → (feedQuestion s n x m v ≡ 1 → ⊥) → (feedQuestion s n x m v ≡ 5 → ⊥) → countsFit s ≡ true
+pub feed-counts : (s : Reader) (n m : ℕ) (x v : ℕ → ℤ) → (feedQuestion s n x m v ≡ 1 → ⊥) → (feedQuestion s n x m v ≡ 5 → ⊥) → countsFit s ≡ true
 unfolding feedQuestion
 feed-counts s n m x v f g = two-yes (countsFit s) (storeFits (s .width) (s .levels) n) _ (feedQuestion s n x m v) refl f g .0
 
-draw-counts : (s : Reader) (n m : ℕ) (x : ℕ → ℤ) → (drawQuestion s n x m ≡ 1 → ⊥) → (drawQuestion s n x m ≡ 5 → ⊥) → countsFit s ≡ true
+pub draw-counts : (s : Reader) (n m : ℕ) (x : ℕ → ℤ) → (drawQuestion s n x m ≡ 1 → ⊥) → (drawQuestion s n x m ≡ 5 → ⊥) → countsFit s ≡ true
 unfolding drawQuestion
 draw-counts s n m x f g = two-yes (countsFit s) (storeFits (s .width) (s .levels) n) _ (drawQuestion s n x m) refl f g .0
 
