@@ -2,27 +2,27 @@
 use mathlib.Core.Bool.{Bool, true, false}
 use mathlib.Core.Path.{_≡_, refl, sym, ap, ap₂, subst, _∙_}
 use mathlib.Core.List.{List, [], _∷_, _++_, append-nil, append-assoc}
-use Prim.Native.Nat.{ℕ, zero, suc, _-_, _≤_, _<_}
+use Prim.Native.Nat.{ℕ, zero, suc, _+_, _-_, _≤_, _<_}
 use native.Mathlib.Omega.{arith}
 use lib.IntN.{ℤ}
 use lib.ListN.{length}
-use lib.Dec.{T, eqb, ltb}
+use lib.Dec.{T, eqb, leb, ltb}
 use mir.Syntax.{w32}
 use mir.Val.{SFits}
-use borrow.Author.Tests.{le-ltb, ltb-true, eqb-true}
+use borrow.Author.Tests.{le-ltb, lt-ltb, eq-eqb, ltb-true, leb-false, eqb-true}
 use Rattle.numbers.specs.Signal.{pick}
 use Rattle.numbers.specs.Word.{wrap32, whole}
 use Rattle.numbers.proofs.Sweep.{both}
 use Rattle.lifting.specs.Line.{count}
 use Rattle.lifting.specs.Halves.{fronted}
 use Rattle.wavelet.specs.Limits.{maxWidth, maxHeight, maxLevels}
-use Rattle.wavelet.specs.Bands.{Grid, Band, LL, across, down}
+use Rattle.wavelet.specs.Bands.{Grid, Band, LL, code, across, down}
 use Rattle.wavelet.specs.Levels.{size, approximation, levelBand}
 use Rattle.wavelet.specs.View.{bandColumns}
 use Rattle.wavelet.specs.ViewCall.{bandRowExists}
 use Rattle.wavelet.specs.Maps.{IsMap}
 use Rattle.wavelet.specs.Questions.{ask, within}
-use Rattle.wavelet.specs.Order.{rowName, times}
+use Rattle.wavelet.specs.Order.{RowName, rowName, times}
 use Rattle.wavelet.specs.Steps.{Step, steps, bandRowsOf}
 use Rattle.wavelet.specs.Steps as step
 use Rattle.wavelet.proofs.LevelTheory.{OnCells}
@@ -32,16 +32,21 @@ use Rattle.wavelet.proofs.StepLaws.{steps-once, steps-heights}
 use Rattle.reader.specs.declared.Reader.{Reader}
 use Rattle.reader.specs.Asked.{keptAt, asked}
 use Rattle.reader.specs.Answers.{done}
-use Rattle.reader.specs.Tried.{fits}
+use Rattle.reader.specs.Sets.{rowAt}
+use Rattle.reader.specs.Tried.{Tried, failed, passed, fits}
+use Rattle.reader.specs.Machine.{place, bandAt, lastOfSet, nextAt, beyond}
 use Rattle.reader.specs.State.{drawDue, feeds, settles}
 use Rattle.reader.specs.Questions.{countsFit, setUpQuestion, feedQuestion, drawQuestion}
 use Rattle.reader.specs.Calls.{fresh, feedReply, drawReply, drawArea}
-use Rattle.reader.specs.Demand3.{Area, Call, want, feed, draw, Reply, gives, refused, Given, heights, nothing, Event, wanted, fed, drew, said, given, World, event, events, final, freshWorld, leftBy, left, ends, endedBy, FedRow, fedBy, fedRows, drawnBy, drawnRows, All, none, more, HasRow, FirstRows, AllDrawn, wantSays, feedTurned, drawSays, OneOf, this, that, written, Draws, Demand3, OfCalls}
+use Rattle.reader.specs.Demand3.{Area, Call, want, feed, draw, Reply, gives, refused, Given, heights, nothing, Event, wanted, fed, drew, said, given, World, event, events, final, freshWorld, leftBy, left, ends, endedBy, FedRow, fedBy, fedRows, drawnBy, drawnRows, All, none, more, HasRow, FirstRows, AllDrawn, IsWordRow, SetsFit, goesOnSet, workedAbove, wantSays, feedTurned, drawSays, OneOf, this, that, written, Draws, Demand3, OfCalls}
 use Rattle.reader.specs.Demand3 as demand
-use Rattle.reader.proofs.StepsLeft.{left-first}
-use Rattle.reader.proofs.Holds.{Fits, first-holds}
+use Rattle.reader.proofs.StepsLeft.{stepsLeft, left-first}
+use Rattle.reader.proofs.SetMade.{Outcome}
+use Rattle.reader.proofs.CallLaws.{fits-no}
+use Rattle.reader.proofs.Outcomes.{outcome-passed, settles-outcome, feeds-outcome}
+use Rattle.reader.proofs.Holds.{Fits, Held, first-holds}
 use Rattle.reader.proofs.CallViews.{Limits, limits, within-both, here, View, at-end, at-height, at-row, view, counts, want-says, FeedView, feed-away, feed-onward, feed-view, DrawView, draw-away, draw-idle, draw-onward, draw-view}
-use Rattle.reader.proofs.Reached.{namesOf, Good, HasWords, Agrees, Kept, Reached, reached, world, call-reached}
+use Rattle.reader.proofs.Reached.{all-left, all-last, namesOf, Good, HasWords, Agrees, Kept, Reached, reached, world, call-reached}
 use Rattle.reader.proofs.Rebuilt.{lookup, lookup-words, found, all-in, in-all, rebuilt-words, back, back-has}
 
 -- ---- the list of calls
@@ -283,6 +288,109 @@ module _ (W H l n : ℕ) (lim : Limits W H l n) where
     none-has : e ≡ true → (g : Grid) → IsMap W H g → All (HasRow W H g) fs → ⊥
     none-has z g m has = agrees g m has .refuses z (map-fitting g m)
 
+    -- ---- what a call that goes on has worked out
+    -- where row c does not complete its set, the next step is a row of it
+    set-goes-on : (k : ℕ) (c : Band) → d < H → lastOfSet W H (suc l) d k (code c) ≡ false →
+        goesOnSet (rowName (suc k) c (rowAt H d (suc k))) (stepsLeft W H l d (place (suc k) (code c + 1))) ≡ true
+    unfolding lastOfSet nextAt goesOnSet
+    set-goes-on k c due more-left = go _ (view W H l d (suc k) (code c + 1))
+      where
+        under : (m i : ℕ) → m ≤ 4 → leb m i ≡ false → i < 4
+        under m i p z = omega (arith, leb-false m i z)
+
+        small : bandAt W H (suc l) d k (code c + 1) < 4
+        small = under _ _ (omega arith) more-left
+
+        next-is : nextAt W H (suc l) d (suc k) (code c + 1) ≡ place (suc k) (bandAt W H (suc l) d k (code c + 1))
+        next-is = rw (lt-ltb (bandAt W H (suc l) d k (code c + 1)) 4 small) refl
+
+        go : (v : List Step) → View W H l d (suc k) (code c + 1) v → goesOnSet (rowName (suc k) c (rowAt H d (suc k))) v ≡ true
+        go _ (at-end h) = absurd (omega arith)
+        go _ (at-height _ q) = let z : suc k ≡ 0 = ap (λ p. p .level) (sym next-is ∙ q) in absurd (omega arith)
+        go _ (at-row j b _ h i q) =
+            let z : suc k ≡ suc j = ap (λ p. p .level) (sym next-is ∙ q) in
+            rw (eq-eqb (suc j) (suc k) (sym z), eq-eqb (rowAt H d (suc j)) (rowAt H d (suc k)) (ap (rowAt H d) (sym z))) refl
+
+    -- the sets of the levels that a store is past
+    sets-fit : (g : Grid) (words : OnCells (SFits w32) W H g) (lev′ b′ k : ℕ) (y : ℕ → ℤ) → lev′ ≤ k → Held W H l g words d lev′ b′ y → SetsFit W H (suc l) g d k
+    sets-fit g words lev′ b′ k y h held = record { fit = λ j r c p q i m n. held .below j (omega arith) (omega arith) .fit r i m c n }
+
+    fed-fits : (k : ℕ) (c : Band) → d < H → (g : Grid) (words : OnCells (SFits w32) W H g) (y : ℕ → ℤ) →
+        Held W H l g words d (beyond W H (suc l) d k (code c) .level) (beyond W H (suc l) d k (code c) .band) y →
+        SetsFit W H (suc l) g d (workedAbove (rowName (suc k) c (rowAt H d (suc k))) (stepsLeft W H l d (beyond W H (suc l) d k (code c))))
+    unfolding beyond workedAbove
+    fed-fits k c due g words y = go (lastOfSet W H (suc l) d k (code c)) refl
+      where
+        go : (u : Bool) → lastOfSet W H (suc l) d k (code c) ≡ u → Held W H l g words d (pick u (place k 1) (place (suc k) (code c + 1)) .level) (pick u (place k 1) (place (suc k) (code c + 1)) .band) y →
+            SetsFit W H (suc l) g d (pick (goesOnSet (rowName (suc k) c (rowAt H d (suc k))) (stepsLeft W H l d (pick u (place k 1) (place (suc k) (code c + 1))))) (suc k) (suc k - 1))
+        go true e held = sets-fit g words k 1 _ y (low (goesOnSet _ _)) held
+          where
+            low : (v : Bool) → k ≤ pick v (suc k) (suc k - 1)
+            low true = omega arith
+            low false = omega arith
+        go false e held = rw (set-goes-on k c due e) (sets-fit g words (suc k) (code c + 1) (suc k) y (omega arith) held)
+
+    feed-works-here : (a : Area) (y : RowName) (t′ : List Step) → t ≡ step.feed y ∷ t′ → event (feed a) (world W H l n lim d lev b e x) ≡ fed a (gives tt) →
+        (g : Grid) → demand.HasWords W H g (fs ++ (record { row = y; run = a } ∷ [])) → SetsFit W H (suc l) g d (workedAbove y t′)
+    unfolding event
+    feed-works-here a y t′ first passes g has = go (feed-view W H l n lim d lev b (kept .drawn-le) (kept .level-le) (kept .band-le) e t x a viewed)
+      where
+        s′ : Reader
+        s′ = here W H l d lev b e
+
+        differ : (q : ℕ) → _≡_ {A = Event} (fed a (refused q)) (fed a (gives tt)) → ⊥
+        differ q z = let p : _≡_ {A = ℕ} 0 1 = cc in omega arith
+
+        go : FeedView W H l n lim d lev b (kept .drawn-le) (kept .level-le) (kept .band-le) e t x a → SetsFit W H (suc l) g d (workedAbove y t′)
+        go (feed-away p f z z′ at) = absurd (differ p (sym (ap (seenFeed a) at ∙ seen-away a p z z′) ∙ passes))
+        go (feed-onward k c live due below asks is-row head long in-range f at) = tried (feeds s′ (a .numbers) x) refl
+          where
+            named-same : _≡_ {A = List Step} (step.feed (rowName (suc k) c (rowAt H d (suc k))) ∷ stepsLeft W H l d (beyond W H (suc l) d k (code c))) (step.feed y ∷ t′)
+            named-same = sym head ∙ first
+
+            name-is : rowName (suc k) c (rowAt H d (suc k)) ≡ y
+            name-is = cc
+
+            rest-is : stepsLeft W H l d (beyond W H (suc l) d k (code c)) ≡ t′
+            rest-is = cc
+
+            held : Outcome (Fits W H l g (has .words)) (Held W H l g (has .words) d (beyond W H (suc l) d k (code c) .level) (beyond W H (suc l) d k (code c) .band)) (feeds s′ (a .numbers) x)
+            held =
+                feeds-outcome W H l d lev b due (kept .level-le) g (has .words) x (kept .grids g (has .words) (all-left fs _ (has .rows)) .holds live due) e k c below is-row (a .numbers)
+                (subst (λ v. IsWordRow W H g (record { row = v; run = a })) (sym name-is) (all-last fs _ (has .rows)))
+
+            tried : (o : Tried) → feeds s′ (a .numbers) x ≡ o → SetsFit W H (suc l) g d (workedAbove y t′)
+            tried failed z = absurd (differ 14 (sym (ap (seenFeed a) (at ∙ sym (fits-no _ (sym z))) ∙ seen-stops a) ∙ passes))
+            tried (passed m) z =
+                subst (SetsFit W H (suc l) g d) (ap₂ workedAbove name-is rest-is)
+                (fed-fits k c due g (has .words) m (outcome-passed m (subst (Outcome (Fits W H l g (has .words)) _) z held)))
+
+    draw-works-here : (a z : Area) → event (draw a) (world W H l n lim d lev b e x) ≡ drew a (gives (heights W)) z →
+        (g : Grid) → demand.HasWords W H g fs → SetsFit W H (suc l) g d 0
+    unfolding event
+    draw-works-here a after passes g has = go (draw-view W H l n lim d lev b (kept .drawn-le) (kept .level-le) (kept .band-le) e t x a viewed)
+      where
+        s′ : Reader
+        s′ = here W H l d lev b e
+
+        given-is : (q : ℕ) → drawQuestion s′ n x (a .size) ≡ q → said given (drawReply s′ q) ≡ gives (heights W)
+        given-is q at = let z : seenDraw a q ≡ drew a (gives (heights W)) after = sym (ap (seenDraw a) at) ∙ passes in cc
+
+        no-row : (v : Reply Given) → ((v ≡ gives (heights W)) → ⊥) → (q : ℕ) → said given (drawReply s′ q) ≡ v → drawQuestion s′ n x (a .size) ≡ q → ⊥
+        no-row v not-this q says at = not-this (sym says ∙ given-is q at)
+
+        go : DrawView W H l n lim d lev b (kept .drawn-le) (kept .level-le) (kept .band-le) e t x a → SetsFit W H (suc l) g d 0
+        go (draw-away q z f says at) = absurd (no-row (refused q) (λ r. let p : _≡_ {A = ℕ} 0 1 = cc in omega arith) q (unfold drawReply in rw (z, f) refl) at)
+        go (draw-idle live z says at) = absurd (no-row (gives nothing) (λ r. let p : _≡_ {A = ℕ} 0 1 = cc in omega arith) 0 (unfold drawReply in rw z refl) at)
+        go (draw-onward live due is-height head to-draw says at) = tried (settles s′ x) refl
+          where
+            held : Outcome (Fits W H l g (has .words)) (Held W H l g (has .words) d 0 4) (settles s′ x)
+            held = settles-outcome W H l d lev b due (kept .level-le) g (has .words) x (kept .grids g (has .words) (has .rows) .holds live due) e (place 0 4) is-height
+
+            tried : (o : Tried) → settles s′ x ≡ o → SetsFit W H (suc l) g d 0
+            tried failed z = absurd (no-row (refused 14) (λ r. let p : _≡_ {A = ℕ} 0 1 = cc in omega arith) 14 (unfold drawReply in refl) (at ∙ sym (fits-no _ (sym z))))
+            tried (passed m) z = sets-fit g (has .words) 0 4 0 m (omega arith) (outcome-passed m (subst (Outcome (Fits W H l g (has .words)) _) z held))
+
     -- ---- Done
     all-drawn : View W H l d lev b [] → H ≤ d
     all-drawn (at-end h) = h
@@ -371,6 +479,8 @@ module _ (W H l n : ℕ) (lim : Limits W H l n) where
       feeds-on = feed-on d lev b e x t fs ds kept;
       draws = draw-is d lev b e x t fs ds kept;
       first = λ g has. first-rows d lev b e x t fs ds kept g (has .map) (has .rows);
+      feed-works = λ a y t′ first passes g has. subst (λ i. SetsFit W H (suc l) g i (workedAbove y t′)) (sym (kept .drawn)) (feed-works-here d lev b e x t fs ds kept a y t′ first passes g has);
+      draw-works = λ a z passes g has. subst (λ i. SetsFit W H (suc l) g i 0) (sym (kept .drawn)) (draw-works-here d lev b e x t fs ds kept a z passes g has);
       impossible = λ z g has. none-has d lev b e x t fs ds kept z g (has .map) (has .rows);
       finished = (
         λ z. let f = finished-then d lev b e x t fs ds kept z in record { map = f .0; has = record { map = f .1; rows = f .2 }; all = f .3; first = f .4 },

@@ -28,9 +28,9 @@ use Rattle.reader.specs.Slots.{slot, rowPlace, setRow, halfPlace, bandFe
 use Rattle.reader.specs.Work.{setMade, setWorked}
 use Rattle.reader.specs.Holds.{SetBefore, BandStands}
 use Rattle.reader.specs.Store.{stretchAt, from, behind, fedAt, workedAt}
-use Rattle.reader.specs.Machine.{Place, place, bandAt, nextAt, settled, finished, beyond, fedOn, dive, enter}
+use Rattle.reader.specs.Machine.{Place, place, bandAt, lastOfSet, nextAt, settled, finished, beyond, fedOn, dive, enter}
 use Rattle.reader.proofs.OpenedSets.{opens-next, same-set, setOf-there, rowAt-next, rowAt-there, rowAt-first}
-use Rattle.reader.proofs.StepsLeft.{named-code, code-lt, first-le}
+use Rattle.reader.proofs.StepsLeft.{named-code, code-lt, first-le, last-none}
 use Rattle.reader.proofs.RowsIn.{apart, parity, Is, Only, is-old, only-fed, fed-here, fed-beside, only-taken, taken-is, taken-beside, half-inside}
 use Rattle.reader.proofs.SetMade.{Outcome, stops, goes, bind-outcome, Needs, Leaves, set-made}
 
@@ -378,15 +378,16 @@ module _ (W H l : ℕ) (g : Grid) (words : OnCells (SFits w32) W H g) where
 
   -- ---- a row that is wanted, fed
   pub fed-holds : (d k : ℕ) (c : Band) (v x : ℕ → ℤ) → d < H → k ≤ l → ((i : ℕ) → i < count (across c) (size k W) → v i ≡ subband wrap32 (size k W) (size k H) (G k) c (rowAt H d (suc k)) i) → Held d (suc k) (code c) x → Outcome Fits (HeldAt d (beyond W H (suc l) d k (code c))) (fedOn W H (suc l) d (suc k) (code c) v x)
-  unfolding fedOn finished beyond bandAt nextBand
-  fed-holds d k c v x due inside row s = go (look (eqb (suc k) (suc l)) (size k W) (size k H) (rowAt H d (suc k)) (code c + 1)) refl
+  unfolding fedOn finished beyond
+  fed-holds d k c v x due inside row s = go (lastOfSet W H (suc l) d k (code c)) refl
     where
       y : ℕ → ℤ
       y = fedAt W H d k (code c) v x
 
-      go : (xs : List Band) → look (eqb (suc k) (suc l)) (size k W) (size k H) (rowAt H d (suc k)) (code c + 1) ≡ xs → Outcome Fits (HeldAt d (pick (ltb (firstCode xs) 4) (place (suc k) (code c + 1)) (place k 1))) (pick (ltb (firstCode xs) 4) (passed y) (workedAt W H (suc l) d k y))
-      go [] e = unfold firstCode in work-holds d k y inside due (holds-all d k (code c + 1) y e (feed-holds d k c v x inside row s))
-      go (b ∷ bs) e = unfold firstCode in rw (lt-ltb (code b) 4 (code-lt b)) (goes y (feed-holds d k c v x inside row s))
+      go : (t : Bool) → lastOfSet W H (suc l) d k (code c) ≡ t →
+          Outcome Fits (HeldAt d (pick t (place k 1) (place (suc k) (code c + 1)))) (pick t (workedAt W H (suc l) d k y) (passed y))
+      go true e = work-holds d k y inside due (holds-all d k (code c + 1) y (last-none W H l d k (code c) e) (feed-holds d k c v x inside row s))
+      go false e = goes y (feed-holds d k c v x inside row s)
 
   -- ---- a row drawn: the next one begins
   leaves-before : (k n : ℕ) (m : ℕ → ℤ) → 2 * suc n < size k H → LeavesAt k n m → Before k (suc n) m

@@ -223,7 +223,7 @@ module _ (W H L n : ℕ) (ok : setUpQuestion W H L n ≡ 0) (rows : RowName → 
   unfolding runFits
   run-fits y e g m h =
       each-every (rows y .size) _ (λ i p. let q : i < bandColumns W (y .level) (y .band) = rw (h .are y e .size) at p in
-        le-leb (natAbs (rows y .numbers i)) (range (y .level)) (rw (h .are y e .values i q) (row-in-range W H L g m y e i q)))
+      le-leb (natAbs (rows y .numbers i)) (range (y .level)) (rw (h .are y e .values i q) (row-in-range W H L g m y e i q)))
 
   module _ (cs : List Call) (fair : Fair (events cs w₀)) where
     abbrev es : List Event

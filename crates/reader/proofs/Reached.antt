@@ -31,7 +31,7 @@ use Rattle.reader.specs.declared.Reader.{Reader}
 use Rattle.reader.specs.Sets.{opens, rowAt}
 use Rattle.reader.specs.Asked.{asked}
 use Rattle.reader.specs.Tried.{Tried, failed, passed, fits, memory}
-use Rattle.reader.specs.Machine.{Place, place, bandAt, nextAt, placeFed, beyond, dive, enter}
+use Rattle.reader.specs.Machine.{Place, place, lastOfSet, nextAt, placeFed, beyond, dive, enter}
 use Rattle.reader.specs.State.{next, settles, feeds, drawDue, fedReader, drawnReader, endedReader}
 use Rattle.reader.specs.Questions.{runFits, feedQuestion, drawQuestion}
 use Rattle.reader.specs.Calls.{feedReply, feedStore, storeAfter, drawReply, drawStore, drawArea, heightRow}
@@ -194,11 +194,11 @@ module _ (W H l : ℕ) where
 
           beyond-le : (to .level ≤ suc l) × (to .band ≤ 4)
           unfolding beyond
-          beyond-le = go (ltb (bandAt W H (suc l) d k (code c + 1)) 4)
+          beyond-le = go (lastOfSet W H (suc l) d k (code c))
             where
-              go : (u : Bool) → (pick u (place (suc k) (code c + 1)) (place k 1) .level ≤ suc l) × (pick u (place (suc k) (code c + 1)) (place k 1) .band ≤ 4)
-              go true = (omega (arith, inside), omega (arith, code-lt c))
-              go false = (omega (arith, inside), omega arith)
+              go : (u : Bool) → (pick u (place k 1) (place (suc k) (code c + 1)) .level ≤ suc l) × (pick u (place k 1) (place (suc k) (code c + 1)) .band ≤ 4)
+              go true = (omega (arith, inside), omega arith)
+              go false = (omega (arith, inside), omega (arith, code-lt c))
 
           on-kept : (y : ℕ → ℤ) → feeds s (a .numbers) x ≡ passed y → Kept d (to .level) (to .band) false y (stepsLeft W H l d to) (fs ++ (f ∷ [])) ds
           unfolding namesOf bandRowsOf

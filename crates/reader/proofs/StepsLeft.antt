@@ -5,8 +5,8 @@ use mathlib.Core.Path.{_≡_, refl, sym, ap, subst, _∙_}
 use mathlib.Core.List.{List, [], _∷_, _++_, append-nil, append-assoc}
 use Prim.Native.Nat.{ℕ, zero, suc, _+_, _-_, _≤_, _<_}
 use native.Mathlib.Omega.{arith}
-use lib.Dec.{T, ltb, eqb}
-use borrow.Author.Tests.{lt-ltb, eq-eqb, ne-eqb}
+use lib.Dec.{T, leb, ltb, eqb}
+use borrow.Author.Tests.{lt-ltb, eq-eqb, ne-eqb, leb-true}
 use Rattle.numbers.specs.Signal.{pick}
 use Rattle.lifting.specs.Line.{lo, count}
 use Rattle.wavelet.specs.Bands.{Band, LL, HL, LH, HH, code}
@@ -15,7 +15,7 @@ use Rattle.wavelet.specs.Order.{RowName, rowName, handedOut, hasRow, rowsOf, se
 use Rattle.wavelet.specs.Steps.{Step, feed, draw, feedAll, rowSteps, setSteps, steps}
 use Rattle.reader.specs.Sets.{setOf, opens, rowAt}
 use Rattle.reader.specs.Asked.{keptAt, asked, bandsFrom, those, look, firstCode, nextBand, named}
-use Rattle.reader.specs.Machine.{Place, place, bandAt, nextAt, beyond, dive, enter}
+use Rattle.reader.specs.Machine.{Place, place, bandAt, lastOfSet, nextAt, beyond, dive, enter}
 use Rattle.reader.proofs.OpenedSets.{opens-row, opens-set, opens-first, rowAt-next, rowAt-there, rowAt-first}
 
 -- ---- the bands that a set still asks for
@@ -186,14 +186,23 @@ module _ (W H l : ℕ) where
   unfolding tail names feedAll
   tail-some d k b c cs e f = ap (λ xs. feedAll (names (suc k) (rowAt H d (suc k)) xs) ++ tail d k 1) (e ∙ ap (λ r. c ∷ r) f)
 
+  -- a row that completes its set leaves none of it
+  pub last-none : (d k c : ℕ) → lastOfSet W H (suc l) d k c ≡ true → look (eqb (suc k) (suc l)) (size k W) (size k H) (rowAt H d (suc k)) (c + 1) ≡ []
+  unfolding lastOfSet bandAt nextBand
+  last-none d k c e = no-more _ (omega arith) _ e
+    where
+      no-more : (m : ℕ) → 4 ≤ m → (xs : List Band) → leb m (firstCode xs) ≡ true → xs ≡ []
+      no-more m h [] e = refl
+      no-more m h (b ∷ bs) e = let p : m ≤ code b = unfold firstCode in leb-true _ _ e in absurd (omega (arith, code-lt b))
+
   -- past a set that asks for nothing more the same is left at the next finer level
   beyond-tail : (d k c : ℕ) → tail d (suc k) (c + 1) ≡ tailAt d (beyond W H (suc l) d k c)
-  unfolding beyond bandAt nextBand
-  beyond-tail d k c = go (look (eqb (suc k) (suc l)) (size k W) (size k H) (rowAt H d (suc k)) (c + 1)) refl
+  unfolding beyond
+  beyond-tail d k c = go (lastOfSet W H (suc l) d k c) refl
     where
-      go : (xs : List Band) → look (eqb (suc k) (suc l)) (size k W) (size k H) (rowAt H d (suc k)) (c + 1) ≡ xs → tail d (suc k) (c + 1) ≡ tailAt d (pick (ltb (firstCode xs) 4) (place (suc k) (c + 1)) (place k 1))
-      go [] e = unfold firstCode in tail-none d k (c + 1) e
-      go (b ∷ bs) e = unfold firstCode in rw (lt-ltb (code b) 4 (code-lt b)) refl
+      go : (t : Bool) → lastOfSet W H (suc l) d k c ≡ t → tail d (suc k) (c + 1) ≡ tailAt d (pick t (place k 1) (place (suc k) (c + 1)))
+      go true e = tail-none d k (c + 1) (last-none d k c e)
+      go false e = refl
 
   pub ahead : (d lev b : ℕ) → Ahead d lev b (nextAt W H (suc l) d lev b)
   unfolding nextAt bandAt nextBand look

@@ -16,7 +16,7 @@ use Rattle.reader.specs.Tried.{Tried, failed, passed, bind, onto, memory
 use Rattle.reader.specs.Work.{rowFits, admitted, setUnlifted, evenRow, oddRow, evenMade, oddMade, lastMade, setMade, setWorked}
 use Rattle.reader.specs.Slots.{lowRowTaken}
 use Rattle.reader.specs.Store.{stretchAt, from, behind, zeroed, fedAt, workedAt}
-use Rattle.reader.specs.Machine.{bandAt, settled, finished, fedOn}
+use Rattle.reader.specs.Machine.{lastOfSet, settled, finished, fedOn}
 use Rattle.reader.specs.State.{next, settles, feeds, drawDue}
 use Rattle.reader.specs.Questions.{setUpQuestion, feedQuestion, drawQuestion}
 use Rattle.reader.specs.Inside.{Kept}
@@ -117,11 +117,11 @@ module _ (W H L d : ℕ) where
 
   finished-past : (k c : ℕ) (x : ℕ → ℤ) → k < L → Keeps N x (finished W H L d k c x)
   unfolding finished
-  finished-past k c x h = go (ltb (bandAt W H L d k (c + 1)) 4)
+  finished-past k c x h = go (lastOfSet W H L d k c)
     where
-      go : (t : Bool) → Keeps N x (pick t (passed x) (workedAt W H L d k x))
-      go true = goes (kept-none N x)
-      go false = worked-at-past k x h
+      go : (t : Bool) → Keeps N x (pick t (workedAt W H L d k x) (passed x))
+      go true = worked-at-past k x h
+      go false = goes (kept-none N x)
 
   fed-past : (k c : ℕ) (v x : ℕ → ℤ) → k ≤ L → Keeps N x (fedOn W H L d k c v x)
   unfolding fedOn

@@ -4,22 +4,25 @@ use mathlib.Core.Path.{_≡_}
 use mathlib.Core.Logic.{_↔_}
 use mathlib.Core.Bool.{Bool, true, false}
 use mathlib.Core.List.{List, [], _∷_, _++_}
-use Prim.Native.Nat.{ℕ, suc, _≤_, _<_}
+use Prim.Native.Nat.{ℕ, suc, _-_, _≤_, _<_}
 use lib.IntN.{ℤ, pos}
 use lib.ListN.{length, getD}
 use lib.Dec.{leb, eqb}
-use Rattle.numbers.specs.Signal.{pick}
-use Rattle.numbers.specs.Word.{whole}
+use mir.Syntax.{w32}
+use mir.Val.{SFits}
+use Rattle.numbers.specs.Signal.{pick, both}
+use Rattle.numbers.specs.Word.{wrap32, whole}
 use Rattle.wavelet.specs.Bands.{Grid, code}
-use Rattle.wavelet.specs.Levels.{levelBand}
+use Rattle.wavelet.specs.Levels.{size, approximation, levelBand}
 use Rattle.wavelet.specs.View.{bandColumns}
 use Rattle.wavelet.specs.ViewCall.{bandRowExists}
-use Rattle.wavelet.specs.Maps.{IsMap}
+use Rattle.wavelet.specs.Maps.{IsMap, valueFits}
 use Rattle.wavelet.specs.Questions.{ask}
 use Rattle.wavelet.specs.Order.{RowName, inTurn, times}
 use Rattle.wavelet.specs.Steps.{Step, steps, bandRowsOf, heightRowsOf}
 use Rattle.wavelet.specs.Steps as step
 use Rattle.reader.specs.declared.Reader.{Reader}
+use Rattle.reader.specs.Sets.{setOf, rowAt}
 use Rattle.reader.specs.Answers.{Want, row, drawNow, done, ended, Handed, aRow}
 use Rattle.reader.specs.Answers as answer
 use Rattle.reader.specs.Questions.{runFits, countsFit, wantQuestion, feedQuestion, drawQuestion}
@@ -263,6 +266,31 @@ pub record Draws (W : ℕ) (e : Bool) (t : List Step) (a : Area) (seen : Event) 
   -- 14 only where a row would be given
   pub possible : answer ≡ refused 14 → drawSays W e t (a .size) ≡ gives (heights W)
 
+-- ---- "A set completed by a fed row is worked out in that feed", one without a fed row of its own in the next call that goes on
+-- a grid of 32-bit numbers has these rows, in the arithmetic of words
+abbrev pub IsWordRow : ℕ → ℕ → Grid → FedRow → Type 0
+IsWordRow W H g f =
+    (i : ℕ) → i < bandColumns W (f .row .level) (f .row .band) → f .run .numbers i ≡ levelBand wrap32 W H g (f .row .level) (f .row .band) (f .row .row) i
+
+pub record HasWords (W H : ℕ) (g : Grid) (fs : List FedRow) : Type 0 where
+  pub words : (r c : ℕ) → r < H → c < W → SFits w32 (g r c)
+  pub rows : All (IsWordRow W H g) fs
+
+-- while row d is waited for, the sets of the levels above k have made rows that fit
+pub record SetsFit (W H L : ℕ) (g : Grid) (d k : ℕ) : Type 0 where
+  pub fit : (j r c : ℕ) → k ≤ j → j < L → r < size j H → setOf (size j H) r ≡ rowAt H d (suc j) → c < size j W →
+      valueFits j (approximation wrap32 W H g j r c) ≡ true
+
+-- the next of the steps t is a row of the same set as x
+unfoldable pub goesOnSet : RowName → List Step → Bool
+goesOnSet x [] = false
+goesOnSet x (step.feed y ∷ t) = both (eqb (y .level) (x .level)) (eqb (y .row) (x .row))
+goesOnSet x (step.draw r ∷ t) = false
+
+-- a feed of row x, with the steps t after it: its own set is worked out with it if x is the last of it
+unfoldable pub workedAbove : RowName → List Step → ℕ
+workedAbove x t = pick (goesOnSet x t) (x .level) (x .level - 1)
+
 -- ---- the claim, of the events es of any list of calls; `then` is what would be seen of a further call
 pub record Demand3 (W H L : ℕ) (es : List Event) (then : Call → Event) : Type 0 where
   -- "one list of steps: each band row to feed, once, and each height row to draw, once"
@@ -279,6 +307,12 @@ pub record Demand3 (W H L : ℕ) (es : List Event) (then : Call → Event) : Typ
   pub first : (g : Grid) → HasFed W H L g es → FirstRows W g (drawnRows es)
   -- "14 comes only if no map has them."
   pub impossible : endedBy es ≡ true → (g : Grid) → HasFed W H L g es → ⊥
+  -- a call that goes on has worked out what is due, and it fits: 14 comes no later
+  pub feed-works : (a : Area) (x : RowName) (t : List Step) → left (steps W H L) es ≡ step.feed x ∷ t → then (feed a) ≡ fed a (gives tt) →
+      (g : Grid) → HasWords W H g (fedRows (steps W H L) es ++ (record { row = x; run = a } ∷ [])) →
+      SetsFit W H L g (length (drawnRows es)) (workedAbove x t)
+  pub draw-works : (a b : Area) → then (draw a) ≡ drew a (gives (heights W)) b →
+      (g : Grid) → HasWords W H g (fedRows (steps W H L) es) → SetsFit W H L g (length (drawnRows es)) 0
   -- it says Done exactly when the heights drawn are all of such a map
   pub finished : then want ≡ wanted (gives done) ↔ AllDrawn W H L es
 
