@@ -9,7 +9,7 @@ use borrow.Author.Tests.{lt-ltb, le-ltb}
 use Rattle.numbers.specs.Signal.{both}
 use Rattle.lifting.specs.Halves.{fronted}
 use Rattle.wavelet.specs.Maps.{every}
-use Rattle.reader.specs.Areas.{between}
+use Rattle.reader.specs.Inside.{between}
 
 module _ (N : ℕ) (x z : ℕ → ℤ) (j : ℕ) where
   pub front-at : j < N → fronted N x z j ≡ x j

@@ -16,7 +16,7 @@ use Rattle.numbers.proofs.Integers.{each, lin, dif, dif-pos, dif-natAbs, dif-le
 use Rattle.numbers.proofs.Parts.{length-mid, at-mid, window-in}
 use Rattle.wavelet.specs.Limits.{maxSample, maxLevels, range}
 use Rattle.wavelet.specs.Maps.{every, valueFits}
-use Rattle.reader.specs.Areas.{between, lowestOf}
+use Rattle.reader.specs.Inside.{between, lowestOf}
 use Rattle.reader.specs.Slots.{rowPlace}
 use Rattle.reader.specs.Work.{rowFits}
 use Rattle.reader.specs.Questions.{runFits}

@@ -14,7 +14,8 @@ use Rattle.lifting.specs.Halves.{halvesOf, fronted}
 use Rattle.lifting.proofs.LineLaws.{joined-even, joined-odd, count-lo}
 use Rattle.reader.proofs.AreaLaws.{front-at, front-rest}
 use Rattle.reader.proofs.HeightLaws.{finish-heights}
-use Rattle.reader.specs.Areas.{heightsAt, wholes}
+use Rattle.reader.specs.Areas.{heightsAt}
+use Rattle.reader.specs.Inside.{wholes}
 
 -- two places stored
 pub store-pair : (L : ℕ) (y x : ℕ → ℤ) (q : ℕ) (l : List ℤ) (a b : ℤ) → Swept L y x q l → q + 1 < L → a ≡ y q → b ≡ y (q + 1) → Swept L y x (q + 1 + 1) (set (set l q a) (q + 1) b)

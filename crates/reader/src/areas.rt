@@ -7,7 +7,8 @@ ghost use Rattle.numbers.specs.Signal.{at, windowed, spliced};
 ghost use Rattle.lifting.specs.Line.{joined};
 ghost use Rattle.lifting.specs.Halves.{halvesOf, fronted};
 ghost use Rattle.wavelet.specs.Maps.{every};
-ghost use Rattle.reader.specs.Areas.{between, height16, heightsAt, wholes};
+ghost use Rattle.reader.specs.Areas.{height16, heightsAt};
+ghost use Rattle.reader.specs.Inside.{between, wholes};
 
 // Numbers copied to the front of `to`.
 pub fn copy(from: &[i32], to: &mut [i32])

@@ -13,8 +13,7 @@ ghost use Rattle.wavelet.specs.Limits.{maxLevels};
 ghost use Rattle.reader.specs.Tried.{outcome};
 ghost use Rattle.reader.specs.Slots.{rowPlace, rowUnlifted, lowRowTaken};
 ghost use Rattle.reader.specs.Work.{rowFits, setUnlifted, evenRow, oddRow, evenMade, oddMade, lastMade, setMade, setWorked};
-ghost use Rattle.reader.specs.Areas.{lowestOf};
-ghost use Rattle.reader.specs.Inside.{Kept};
+ghost use Rattle.reader.specs.Inside.{Kept, lowestOf};
 
 // Where row r begins.
 pub fn row_place(w: usize, r: usize) -> usize

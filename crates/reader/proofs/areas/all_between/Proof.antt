@@ -9,7 +9,7 @@ use mir.Val.{toZ}
 use mir.ValLaws.{toZ-ofZ}
 use Rattle.numbers.proofs.Words.{read-back}
 use Rattle.wavelet.specs.Maps.{every}
-use Rattle.reader.specs.Areas.{between}
+use Rattle.reader.specs.Inside.{between}
 use Rattle.reader.proofs.AreaLaws.{between-start, between-turn, between-end}
 use Rattle.reader.proofs.areas.all_between.Statement.{statement}
 use Rattle.reader.proofs.areas.all_between.Tie as tie

@@ -5,7 +5,8 @@ use native.Mathlib.Omega.{arith}
 use lib.ListN.{length}
 use Rattle.numbers.specs.Signal.{at}
 use Rattle.numbers.proofs.Sweep.{Swept}
-use Rattle.reader.specs.Areas.{heightsAt, wholes, height16}
+use Rattle.reader.specs.Areas.{heightsAt, height16}
+use Rattle.reader.specs.Inside.{wholes}
 use Rattle.reader.proofs.AreaLaws.{front-rest}
 use Rattle.reader.proofs.HeightLaws.{start-heights, finish-heights}
 use Rattle.reader.proofs.WeaveLaws.{laid, lay-turn, lay-last, finish-drawn}
