@@ -25,7 +25,8 @@ use Rattle.reader.specs.Slots.{rowPlace, rowIn}
 use Rattle.wavelet.specs.Store.{storeLength}
 use Rattle.reader.specs.Store.{zeroed}
 use Rattle.reader.specs.Machine.{place, enter, placeFed}
-use Rattle.reader.specs.State.{next, nextRow, nextLength, unfinished, rowDue, drawDue, wants, settles, feeds, movedTo, fedReader, drawnReader, endedReader}
+use Rattle.reader.specs.State.{next, nextRow, nextLength, unfinished, rowDue, drawDue, wants, settles, feeds, movedTo, fedReader, drawnReader}
+use Rattle.reader.specs.State.{endedReader}
 use Rattle.reader.specs.Questions.{countsFit, storeFits, runFits, wantQuestion, feedQuestion, drawQuestion}
 use Rattle.reader.specs.Calls.{fresh, setUpReply, setUpStore, wantReply, feedReply, storeAfter, feedStore, drawReply, drawStore, heightRow, drawArea}
 use Rattle.reader.specs.Inside.{Is, Kept, storeQuestion, rowQuestion}
@@ -48,7 +49,8 @@ module _ (W H L Q : ℕ) (x : ℕ → ℤ) where
   unfolding setUpReply setUpStore
   set-up-no r e n = let f = ne-eqb r 0 n in (rw (← e, f), rw (← e, f))
 
-  pub set-up-yes : (y : ℕ → ℤ) (n : ℕ) → Q ≡ 0 → n ≡ storeLength W L → y ≡ fronted n (λ _. pos 0) x → (gives (fresh W H L) ≡ setUpReply W H L Q) × (y ≡ setUpStore W L Q x)
+  pub set-up-yes : (y : ℕ → ℤ) (n : ℕ) → Q ≡ 0 → n ≡ storeLength W L → y ≡ fronted n (λ _. pos 0) x →
+      (gives (fresh W H L) ≡ setUpReply W H L Q) × (y ≡ setUpStore W L Q x)
   unfolding setUpReply setUpStore zeroed
   set-up-yes y n e en ey = let t = eq-eqb Q 0 e in (rw t, rw t (ey ∙ ap (λ (i : ℕ). fronted i (λ _. pos 0) x) en))
 
@@ -204,15 +206,18 @@ module _ (s : Reader) (Q : ℕ) (v x : ℕ → ℤ) where
   unfolding feedReply feedStore storeAfter
   feed-yes t y e et is = (rw (← e) (ap gives et), rw (← e) (memory-is (feeds s v x) x y is))
 
-  pub feed-end : (t : Reader) (z : ℕ → ℤ) → 14 ≡ Q → t ≡ endedReader s → z ≡ zeroed (s .width) (s .levels) x → (impossible t ≡ feedReply s Q) × (z ≡ feedStore s Q v x)
+  pub feed-end : (t : Reader) (z : ℕ → ℤ) → 14 ≡ Q → t ≡ endedReader s → z ≡ zeroed (s .width) (s .levels) x →
+      (impossible t ≡ feedReply s Q) × (z ≡ feedStore s Q v x)
   unfolding feedReply feedStore storeAfter
   feed-end t z e et is = (rw (← e) (ap impossible et), rw (← e) is)
 
-pub fed-reader : (s t : Reader) (p : Spot) → Is (placeFed (s .width) (s .height) (s .levels) (s .drawn) (next s .level) (next s .band)) p → t ≡ movedTo s (s .drawn) (place (p .level) (p .band)) → t ≡ fedReader s
+pub fed-reader : (s t : Reader) (p : Spot) → Is (placeFed (s .width) (s .height) (s .levels) (s .drawn) (next s .level) (next s .band)) p →
+    t ≡ movedTo s (s .drawn) (place (p .level) (p .band)) → t ≡ fedReader s
 unfolding fedReader
 fed-reader s t p is e = e ∙ ap (movedTo s (s .drawn)) (place-of _ p is)
 
-pub drawn-reader : (s t : Reader) (d : ℕ) (p : Spot) → d ≡ s .drawn + 1 → Is (enter (s .width) (s .height) (s .levels) d) p → t ≡ movedTo s d (place (p .level) (p .band)) → t ≡ drawnReader s
+pub drawn-reader : (s t : Reader) (d : ℕ) (p : Spot) → d ≡ s .drawn + 1 → Is (enter (s .width) (s .height) (s .levels) d) p →
+    t ≡ movedTo s d (place (p .level) (p .band)) → t ≡ drawnReader s
 unfolding drawnReader
 drawn-reader s t d p ed is e =
     let n : d ≡ suc (s .drawn) = ed ∙ add-one (s .drawn) in
@@ -229,7 +234,8 @@ module _ (s : Reader) (Q : ℕ) (x z : ℕ → ℤ) where
   draw-nothing e d = (rw (← e, d), (rw (← e, d), rw (← e, d)))
 
   pub draw-yes : (t : Reader) (y u : ℕ → ℤ) → 0 ≡ Q → drawDue s ≡ true → t ≡ drawnReader s → passed y ≡ settles s x →
-      u ≡ fronted (s .width) (heightRow (s .width) (s .drawn) y) z → (gives (aRow (s .width) t) ≡ drawReply s Q) × ((y ≡ drawStore s Q x) × (u ≡ drawArea s Q x z))
+      u ≡ fronted (s .width) (heightRow (s .width) (s .drawn) y) z →
+      (gives (aRow (s .width) t) ≡ drawReply s Q) × ((y ≡ drawStore s Q x) × (u ≡ drawArea s Q x z))
   unfolding drawReply drawStore storeAfter drawArea
   draw-yes t y u e d et is made =
       let m = memory-is (settles s x) x y is in
@@ -242,9 +248,12 @@ module _ (s : Reader) (Q : ℕ) (x z : ℕ → ℤ) where
   draw-end t y e et is = (rw (← e) (ap impossible et), (rw (← e) is, rw (← e)))
 
 -- the heights of the row that is lent
-pub drawn-row : (W d a k : ℕ) (l : List ℤ) (z u : ℕ → ℤ) → a ≡ rowPlace W d → k ≡ W → a + k ≤ length l → u ≡ fronted (length (midOf a k l)) (λ c. height16 (joined (halvesOf (length (midOf a k l)) (at (midOf a k l))) c)) z → u ≡ fronted W (heightRow W d (at l)) z
+pub drawn-row : (W d a k : ℕ) (l : List ℤ) (z u : ℕ → ℤ) → a ≡ rowPlace W d → k ≡ W → a + k ≤ length l →
+    u ≡ fronted (length (midOf a k l)) (λ c. height16 (joined (halvesOf (length (midOf a k l)) (at (midOf a k l))) c)) z →
+    u ≡ fronted W (heightRow W d (at l)) z
 unfolding heightRow rowIn
 drawn-row W d a k l z u ea ek room made =
     made
     ∙ ap (λ (i : ℕ). fronted i (λ c. height16 (joined (halvesOf i (at (midOf a k l))) c)) z) (length-mid a k l room ∙ ek)
-    ∙ ap (λ (f : ℕ → ℤ). fronted W (λ c. height16 (joined (halvesOf W f) c)) z) (at-mid a k l ∙ ap (λ (i : ℕ). windowed i k (at l)) ea ∙ ap (λ (i : ℕ). windowed (rowPlace W d) i (at l)) ek)
+    ∙ ap (λ (f : ℕ → ℤ). fronted W (λ c. height16 (joined (halvesOf W f) c)) z) (at-mid a k l ∙ ap (λ (i : ℕ). windowed i k (at l)) ea
+    ∙ ap (λ (i : ℕ). windowed (rowPlace W d) i (at l)) ek)

@@ -30,7 +30,8 @@ use Rattle.reader.proofs.OpenedSets.{rowAt-first}
 use Rattle.reader.proofs.StepsLeft.{named-code, stepsLeft}
 use Rattle.reader.proofs.SetMade.{Outcome}
 use Rattle.reader.proofs.Holds.{Fits, Held, enter-holds}
-use Rattle.reader.proofs.CallViews.{Limits, here, view, FeedView, feed-away, feed-onward, feed-view, DrawView, draw-away, draw-idle, draw-onward, draw-view}
+use Rattle.reader.proofs.CallViews.{Limits, here, view, FeedView, feed-away, feed-onward, feed-view, DrawView, draw-away, draw-idle, draw-onward}
+use Rattle.reader.proofs.CallViews.{draw-view}
 use Rattle.reader.proofs.Outcomes.{outcome-failed, outcome-passed, settles-outcome, feeds-outcome, row-out}
 
 -- ---- question 1, part by part
@@ -71,7 +72,8 @@ feed-passed : (s : Reader) (r : ℕ) (t : Reader) → feedReply s r ≡ gives t 
 unfolding feedReply
 feed-passed s r t = go (eqb r 0) refl (eqb r 14)
   where
-    go : (y : Bool) → eqb r 0 ≡ y → (z : Bool) → pick y (gives (fedReader s)) (pick z (impossible (endedReader s)) (refused r)) ≡ gives t → (r ≡ 0) × (t ≡ fedReader s)
+    go : (y : Bool) → eqb r 0 ≡ y → (z : Bool) → pick y (gives (fedReader s)) (pick z (impossible (endedReader s)) (refused r)) ≡ gives t →
+        (r ≡ 0) × (t ≡ fedReader s)
     go true h z p = (eqb-true r 0 h, cc)
     go false h true p = absurd (let o : _≡_ {A = ℕ} 0 1 = cc in omega arith)
     go false h false p = absurd (let o : _≡_ {A = ℕ} 0 1 = cc in omega arith)
@@ -89,7 +91,9 @@ heights-only : (s : Reader) (r m : ℕ) (t : Reader) → drawReply s r ≡ gives
 unfolding drawReply
 heights-only s r m t = go (eqb r 0) refl (drawDue s) (eqb r 14)
   where
-    go : (y : Bool) → eqb r 0 ≡ y → (u z : Bool) → pick y (gives (pick u (aRow (s .width) (drawnReader s)) nothing)) (pick z (impossible (endedReader s)) (refused r)) ≡ gives (aRow m t) → (r ≡ 0) × (t ≡ drawnReader s) × (u ≡ false → ⊥)
+    go : (y : Bool) → eqb r 0 ≡ y → (u z : Bool) →
+        pick y (gives (pick u (aRow (s .width) (drawnReader s)) nothing)) (pick z (impossible (endedReader s)) (refused r)) ≡ gives (aRow m t) →
+        (r ≡ 0) × (t ≡ drawnReader s) × (u ≡ false → ⊥)
     go true h true z k = (eqb-true r 0 h, cc, λ f. subst T f tt)
     go true h false z k = absurd (let o : _≡_ {A = ℕ} 0 1 = cc in omega arith)
     go false h u true k = absurd (let o : _≡_ {A = ℕ} 0 1 = cc in omega arith)
@@ -99,7 +103,8 @@ drawn-fourteen : (s : Reader) (r : ℕ) (t : Reader) → drawReply s r ≡ impos
 unfolding drawReply
 drawn-fourteen s r t = go (eqb r 0) (drawDue s) (eqb r 14) refl
   where
-    go : (y u z : Bool) → eqb r 14 ≡ z → pick y (gives (pick u (aRow (s .width) (drawnReader s)) nothing)) (pick z (impossible (endedReader s)) (refused r)) ≡ impossible t → r ≡ 14
+    go : (y u z : Bool) → eqb r 14 ≡ z → pick y (gives (pick u (aRow (s .width) (drawnReader s)) nothing)) (pick z (impossible (endedReader s)) (refused r))
+        ≡ impossible t → r ≡ 14
     go true true z h k = absurd (let o : _≡_ {A = ℕ} 0 1 = cc in omega arith)
     go true false z h k = absurd (let o : _≡_ {A = ℕ} 0 1 = cc in omega arith)
     go false u true h k = eqb-true r 14 h
@@ -117,7 +122,8 @@ module _ (W H l d lev b : ℕ) (e : Bool) where
     got = λ k p q c kept less. h .got due k (omega arith) q c kept less;
   }
 
-holds : (W H l d lev b : ℕ) (e : Bool) (g : Grid) (words : Words g (here W H l d lev b e)) (x : ℕ → ℤ) → (d < H → Held W H l g words d lev b x) → Holds g (here W H l d lev b e) x
+holds : (W H l d lev b : ℕ) (e : Bool) (g : Grid) (words : Words g (here W H l d lev b e)) (x : ℕ → ℤ) → (d < H → Held W H l g words d lev b x) →
+    Holds g (here W H l d lev b e) x
 holds W H l d lev b e g words x h = record {
   below = λ due k p q. h due .below k (omega arith) q;
   before = λ due k p q. h due .before k (omega arith) q;
@@ -151,14 +157,18 @@ module _ (W H l d lev b : ℕ) (e : Bool) (n : ℕ) (x : ℕ → ℤ) where
     onward never f g =
         let t = two-yes (countsFit (s W H l d lev b e)) (storeFits W (suc l) n) _ q refl f g in
         let i = inside W H l d lev b e (t .0) in
-        go i (feed-view W H l n (limits-of i (t .1)) d lev b (i .drawn-le) (i .level-le) (i .band-le) e (stepsLeft W H l d (place lev b)) x a (view W H l d lev b))
+        go i (feed-view W H l n (limits-of i (t .1)) d lev b (i .drawn-le) (i .level-le) (i .band-le) e (stepsLeft W H l d (place lev b)) x a
+        (view W H l d lev b))
       where
-        go : (i : Inside W H l d lev b) {lim : Limits W H l n} → FeedView W H l n lim d lev b (i .drawn-le) (i .level-le) (i .band-le) e (stepsLeft W H l d (place lev b)) x a → Onward
+        go : (i : Inside W H l d lev b) {lim : Limits W H l n} →
+            FeedView W H l n lim d lev b (i .drawn-le) (i .level-le) (i .band-le) e (stepsLeft W H l d (place lev b)) x a → Onward
         go i (feed-away p _ z y at) = absurd (never (ap (λ j. eqb j 0) at ∙ z) (ap (λ j. eqb j 14) at ∙ y))
-        go i (feed-onward k c live due below asks at-row head long in-range _ at) = record { k = k; c = c; due = due; level-le = i .level-le; below = below; at-row = at-row; asks = at }
+        go i (feed-onward k c live due below asks at-row head long in-range _ at) =
+            record { k = k; c = c; due = due; level-le = i .level-le; below = below; at-row = at-row; asks = at }
 
     -- the run is the row that is named
-    wanted-row : (g : Grid) (o : Onward) → IsWanted g (s W H l d lev b e) v → (i : ℕ) → i < bandColumns W (suc (o .k)) (o .c) → v i ≡ levelBand wrap32 W H g (suc (o .k)) (o .c) (rowAt H d (suc (o .k))) i
+    wanted-row : (g : Grid) (o : Onward) → IsWanted g (s W H l d lev b e) v → (i : ℕ) → i < bandColumns W (suc (o .k)) (o .c) →
+        v i ≡ levelBand wrap32 W H g (suc (o .k)) (o .c) (rowAt H d (suc (o .k))) i
     unfolding next nextRow nextLength
     wanted-row g o h = rw (o .at-row, named-code (o .c)) at h
 
@@ -167,7 +177,8 @@ module _ (W H l d lev b : ℕ) (e : Bool) (n : ℕ) (x : ℕ → ℤ) where
     unfolding feedStore storeAfter memory
     store-is y p = ap (memory x) p
 
-    reader-is : (o : Onward) → fedReader (s W H l d lev b e) ≡ here W H l d (beyond W H (suc l) d (o .k) (code (o .c)) .level) (beyond W H (suc l) d (o .k) (code (o .c)) .band) false
+    reader-is : (o : Onward) → fedReader (s W H l d lev b e) ≡ here W H l d (beyond W H (suc l) d (o .k) (code (o .c)) .level)
+        (beyond W H (suc l) d (o .k) (code (o .c)) .band) false
     unfolding fedReader next placeFed
     reader-is o = rw (o .at-row) refl
 
@@ -178,26 +189,37 @@ module _ (W H l d lev b : ℕ) (e : Bool) (n : ℕ) (x : ℕ → ℤ) where
     feed-at : FeedKeeps (s W H l d lev b e) v x (feedReply (s W H l d lev b e) q) (feedStore (s W H l d lev b e) q v x)
     feed-at = record { passed = on; ended = stopped }
       where
-        outcome-of : (o : Onward) (g : Grid) (words : Words g (s W H l d lev b e)) → IsWanted g (s W H l d lev b e) v → Holds g (s W H l d lev b e) x → (u : Tried) → feeds (s W H l d lev b e) v x ≡ u → Outcome (Fits W H l g words) (Held W H l g words d (beyond W H (suc l) d (o .k) (code (o .c)) .level) (beyond W H (suc l) d (o .k) (code (o .c)) .band)) u
-        outcome-of o g words row h u z = subst (Outcome (Fits W H l g words) _) z (feeds-outcome W H l d lev b (o .due) (o .level-le) g words x (held W H l d lev b e g words x (o .due) h) e (o .k) (o .c) (o .below) (o .at-row) v (wanted-row g o row))
+        outcome-of : (o : Onward) (g : Grid) (words : Words g (s W H l d lev b e)) → IsWanted g (s W H l d lev b e) v → Holds g (s W H l d lev b e) x →
+            (u : Tried) → feeds (s W H l d lev b e) v x ≡ u →
+            Outcome (Fits W H l g words) (Held W H l g words d (beyond W H (suc l) d (o .k) (code (o .c)) .level)
+            (beyond W H (suc l) d (o .k) (code (o .c)) .band)) u
+        outcome-of o g words row h u z = subst (Outcome (Fits W H l g words) _) z
+            (feeds-outcome W H l d lev b (o .due) (o .level-le) g words x (held W H l d lev b e g words x (o .due) h) e (o .k) (o .c) (o .below) (o .at-row) v
+            (wanted-row g o row))
 
-        tried : (o : Onward) → q ≡ 0 → (t : Reader) → t ≡ fedReader (s W H l d lev b e) → (g : Grid) → Words g (s W H l d lev b e) → IsWanted g (s W H l d lev b e) v → Holds g (s W H l d lev b e) x → (u : Tried) → feeds (s W H l d lev b e) v x ≡ u → Holds g t (feedStore (s W H l d lev b e) q v x)
+        tried : (o : Onward) → q ≡ 0 → (t : Reader) → t ≡ fedReader (s W H l d lev b e) → (g : Grid) → Words g (s W H l d lev b e) →
+            IsWanted g (s W H l d lev b e) v → Holds g (s W H l d lev b e) x → (u : Tried) → feeds (s W H l d lev b e) v x ≡ u →
+            Holds g t (feedStore (s W H l d lev b e) q v x)
         tried o z t same g words row h failed p = absurd (omega (arith, no-mix failed 0 z (o .asks) p, ask-failed))
         tried o z t same g words row h (passed y) p =
             subst (λ r. Holds g r (feedStore (s W H l d lev b e) q v x)) (sym (same ∙ reader-is o))
-            (subst (Holds g _) (sym (ap (λ r. feedStore (s W H l d lev b e) r v x) z ∙ store-is y p)) (holds W H l d _ _ false g words y (λ _. outcome-passed y (outcome-of o g words row h (passed y) p))))
+            (subst (Holds g _) (sym (ap (λ r. feedStore (s W H l d lev b e) r v x) z ∙ store-is y p))
+            (holds W H l d _ _ false g words y (λ _. outcome-passed y (outcome-of o g words row h (passed y) p))))
 
-        on : (t : Reader) → feedReply (s W H l d lev b e) q ≡ gives t → (g : Grid) → Words g (s W H l d lev b e) → IsWanted g (s W H l d lev b e) v → Holds g (s W H l d lev b e) x → Holds g t (feedStore (s W H l d lev b e) q v x)
+        on : (t : Reader) → feedReply (s W H l d lev b e) q ≡ gives t → (g : Grid) → Words g (s W H l d lev b e) → IsWanted g (s W H l d lev b e) v →
+            Holds g (s W H l d lev b e) x → Holds g t (feedStore (s W H l d lev b e) q v x)
         on t r g words row h =
             let p = feed-passed (s W H l d lev b e) q t r in
             let o = onward (λ z _. subst T (sym (ap (λ j. eqb j 0) (p .0)) ∙ z) tt) (λ z. omega (arith, p .0)) (λ z. omega (arith, p .0)) in
             tried o (p .0) t (p .1) g words row h (feeds (s W H l d lev b e) v x) refl
 
-        not-fit : (o : Onward) → q ≡ 14 → (g : Grid) (words : Words g (s W H l d lev b e)) → IsWanted g (s W H l d lev b e) v → Holds g (s W H l d lev b e) x → AllFit g (s W H l d lev b e) → (u : Tried) → feeds (s W H l d lev b e) v x ≡ u → ⊥
+        not-fit : (o : Onward) → q ≡ 14 → (g : Grid) (words : Words g (s W H l d lev b e)) → IsWanted g (s W H l d lev b e) v → Holds g (s W H l d lev b e) x →
+            AllFit g (s W H l d lev b e) → (u : Tried) → feeds (s W H l d lev b e) v x ≡ u → ⊥
         not-fit o z g words row h all failed p = outcome-failed (outcome-of o g words row h failed p) (λ k r c i. all k r c (omega arith))
         not-fit o z g words row h all (passed y) p = omega (arith, no-mix (passed y) 14 z (o .asks) p, ask-passed y)
 
-        stopped : (t : Reader) → feedReply (s W H l d lev b e) q ≡ impossible t → (g : Grid) → Words g (s W H l d lev b e) → IsWanted g (s W H l d lev b e) v → Holds g (s W H l d lev b e) x → AllFit g (s W H l d lev b e) → ⊥
+        stopped : (t : Reader) → feedReply (s W H l d lev b e) q ≡ impossible t → (g : Grid) → Words g (s W H l d lev b e) → IsWanted g (s W H l d lev b e) v →
+            Holds g (s W H l d lev b e) x → AllFit g (s W H l d lev b e) → ⊥
         stopped t r g words row h all =
             let z = feed-fourteen (s W H l d lev b e) q t r in
             let o = onward (λ _ y. subst T (sym (ap (λ j. eqb j 14) z) ∙ y) tt) (λ y. omega (arith, z)) (λ y. omega (arith, z)) in
@@ -221,19 +243,23 @@ module _ (W H l d lev b : ℕ) (e : Bool) (n : ℕ) (x : ℕ → ℤ) where
     drawing never f g idle =
         let t = two-yes (countsFit (s W H l d lev b e)) (storeFits W (suc l) n) _ p refl f g in
         let i = inside W H l d lev b e (t .0) in
-        go i (draw-view W H l n (limits-of i (t .1)) d lev b (i .drawn-le) (i .level-le) (i .band-le) e (stepsLeft W H l d (place lev b)) x a (view W H l d lev b))
+        go i (draw-view W H l n (limits-of i (t .1)) d lev b (i .drawn-le) (i .level-le) (i .band-le) e (stepsLeft W H l d (place lev b)) x a
+        (view W H l d lev b))
       where
-        go : (i : Inside W H l d lev b) {lim : Limits W H l n} → DrawView W H l n lim d lev b (i .drawn-le) (i .level-le) (i .band-le) e (stepsLeft W H l d (place lev b)) x a → Drawing
+        go : (i : Inside W H l d lev b) {lim : Limits W H l n} →
+            DrawView W H l n lim d lev b (i .drawn-le) (i .level-le) (i .band-le) e (stepsLeft W H l d (place lev b)) x a → Drawing
         go i (draw-away r z y _ at) = absurd (never (ap (λ j. eqb j 0) at ∙ z) (ap (λ j. eqb j 14) at ∙ y))
         go i (draw-idle live z _ at) = absurd (idle z at)
-        go i (draw-onward live due at-height head to-draw _ at) = record { due = due; level-le = i .level-le; at-height = at-height; to-draw = to-draw; asks = at }
+        go i (draw-onward live due at-height head to-draw _ at) =
+            record { due = due; level-le = i .level-le; at-height = at-height; to-draw = to-draw; asks = at }
 
     -- the store, the area and the reader that a draw of a row leaves
     drawn-store : (y : ℕ → ℤ) → drawDue (s W H l d lev b e) ≡ true → settles (s W H l d lev b e) x ≡ passed y → drawStore (s W H l d lev b e) 0 x ≡ y
     unfolding drawStore storeAfter memory
     drawn-store y u k = rw (u, k) refl
 
-    drawn-area : (y : ℕ → ℤ) → drawDue (s W H l d lev b e) ≡ true → settles (s W H l d lev b e) x ≡ passed y → drawArea (s W H l d lev b e) 0 x (a .numbers) ≡ fronted W (heightRow W d y) (a .numbers)
+    drawn-area : (y : ℕ → ℤ) → drawDue (s W H l d lev b e) ≡ true → settles (s W H l d lev b e) x ≡ passed y →
+        drawArea (s W H l d lev b e) 0 x (a .numbers) ≡ fronted W (heightRow W d y) (a .numbers)
     unfolding drawArea memory
     drawn-area y u k = rw (u, k) refl
 
@@ -244,32 +270,43 @@ module _ (W H l d lev b : ℕ) (e : Bool) (n : ℕ) (x : ℕ → ℤ) where
     same-test : (u : Tried) (r : ℕ) → p ≡ r → p ≡ ask (fits (settles (s W H l d lev b e) x)) 14 0 → settles (s W H l d lev b e) x ≡ u → ask (fits u) 14 0 ≡ r
     same-test u r z k h = sym (ap (λ w. ask (fits w) 14 0) h) ∙ sym k ∙ z
 
-    draw-at : DrawKeeps (s W H l d lev b e) x (drawReply (s W H l d lev b e) p) (drawStore (s W H l d lev b e) p x) (drawArea (s W H l d lev b e) p x (a .numbers))
+    draw-at : DrawKeeps (s W H l d lev b e) x (drawReply (s W H l d lev b e) p) (drawStore (s W H l d lev b e) p x)
+        (drawArea (s W H l d lev b e) p x (a .numbers))
     draw-at = record { passed = on; ended = stopped }
       where
-        outcome-of : (o : Drawing) (g : Grid) (words : Words g (s W H l d lev b e)) → Holds g (s W H l d lev b e) x → (u : Tried) → settles (s W H l d lev b e) x ≡ u → Outcome (Fits W H l g words) (Held W H l g words d 0 4) u
-        outcome-of o g words h u z = subst (Outcome (Fits W H l g words) _) z (settles-outcome W H l d lev b (o .due) (o .level-le) g words x (held W H l d lev b e g words x (o .due) h) e (place 0 4) (o .at-height))
+        outcome-of : (o : Drawing) (g : Grid) (words : Words g (s W H l d lev b e)) → Holds g (s W H l d lev b e) x → (u : Tried) →
+            settles (s W H l d lev b e) x ≡ u → Outcome (Fits W H l g words) (Held W H l g words d 0 4) u
+        outcome-of o g words h u z = subst (Outcome (Fits W H l g words) _) z
+            (settles-outcome W H l d lev b (o .due) (o .level-le) g words x (held W H l d lev b e g words x (o .due) h) e (place 0 4) (o .at-height))
 
-        tried : (o : Drawing) → p ≡ 0 → (t : Reader) → t ≡ drawnReader (s W H l d lev b e) → (g : Grid) → Words g (s W H l d lev b e) → Holds g (s W H l d lev b e) x → (u : Tried) → settles (s W H l d lev b e) x ≡ u → Holds g t (drawStore (s W H l d lev b e) p x) × ((c : ℕ) → c < W → drawArea (s W H l d lev b e) p x (a .numbers) c ≡ g d c)
+        tried : (o : Drawing) → p ≡ 0 → (t : Reader) → t ≡ drawnReader (s W H l d lev b e) → (g : Grid) → Words g (s W H l d lev b e) →
+            Holds g (s W H l d lev b e) x → (u : Tried) → settles (s W H l d lev b e) x ≡ u →
+            Holds g t (drawStore (s W H l d lev b e) p x) × ((c : ℕ) → c < W → drawArea (s W H l d lev b e) p x (a .numbers) c ≡ g d c)
         tried o z t same g words h failed k = absurd (omega (arith, same-test failed 0 z (o .asks) k, ask-failed))
         tried o z t same g words h (passed y) k =
             let is : Held W H l g words d 0 4 y = outcome-passed y (outcome-of o g words h (passed y) k) in (
               subst (λ r. Holds g r (drawStore (s W H l d lev b e) p x)) (sym (same ∙ drawn-reader))
-                  (subst (Holds g _) (sym (ap (λ r. drawStore (s W H l d lev b e) r x) z ∙ drawn-store y (o .to-draw) k)) (holds W H l (suc d) _ _ false g words y (λ more. enter-holds W H l g words d more y is))),
-              λ c i. ap (λ r. drawArea (s W H l d lev b e) r x (a .numbers) c) z ∙ ap (λ f. f c) (drawn-area y (o .to-draw) k) ∙ row-out W H l d (o .due) g words y is (a .numbers) c i,
+                  (subst (Holds g _) (sym (ap (λ r. drawStore (s W H l d lev b e) r x) z ∙ drawn-store y (o .to-draw) k))
+                  (holds W H l (suc d) _ _ false g words y (λ more. enter-holds W H l g words d more y is))),
+              λ c i. ap (λ r. drawArea (s W H l d lev b e) r x (a .numbers) c) z ∙ ap (λ f. f c) (drawn-area y (o .to-draw) k)
+                  ∙ row-out W H l d (o .due) g words y is (a .numbers) c i,
             )
 
-        on : (m : ℕ) (t : Reader) → drawReply (s W H l d lev b e) p ≡ gives (aRow m t) → (g : Grid) → Words g (s W H l d lev b e) → Holds g (s W H l d lev b e) x → Holds g t (drawStore (s W H l d lev b e) p x) × ((c : ℕ) → c < W → drawArea (s W H l d lev b e) p x (a .numbers) c ≡ g d c)
+        on : (m : ℕ) (t : Reader) → drawReply (s W H l d lev b e) p ≡ gives (aRow m t) → (g : Grid) → Words g (s W H l d lev b e) →
+            Holds g (s W H l d lev b e) x → Holds g t (drawStore (s W H l d lev b e) p x) × ((c : ℕ) → c < W →
+            drawArea (s W H l d lev b e) p x (a .numbers) c ≡ g d c)
         on m t r g words h =
             let k = heights-only (s W H l d lev b e) p m t r in
             let o = drawing (λ z _. subst T (sym (ap (λ j. eqb j 0) (k .0)) ∙ z) tt) (λ z. omega (arith, k .0)) (λ z. omega (arith, k .0)) (λ z _. k .2 z) in
             tried o (k .0) t (k .1) g words h (settles (s W H l d lev b e) x) refl
 
-        not-fit : (o : Drawing) → p ≡ 14 → (g : Grid) (words : Words g (s W H l d lev b e)) → Holds g (s W H l d lev b e) x → AllFit g (s W H l d lev b e) → (u : Tried) → settles (s W H l d lev b e) x ≡ u → ⊥
+        not-fit : (o : Drawing) → p ≡ 14 → (g : Grid) (words : Words g (s W H l d lev b e)) → Holds g (s W H l d lev b e) x → AllFit g (s W H l d lev b e) →
+            (u : Tried) → settles (s W H l d lev b e) x ≡ u → ⊥
         not-fit o z g words h all failed k = outcome-failed (outcome-of o g words h failed k) (λ j r c i. all j r c (omega arith))
         not-fit o z g words h all (passed y) k = omega (arith, same-test (passed y) 14 z (o .asks) k, ask-passed y)
 
-        stopped : (t : Reader) → drawReply (s W H l d lev b e) p ≡ impossible t → (g : Grid) → Words g (s W H l d lev b e) → Holds g (s W H l d lev b e) x → AllFit g (s W H l d lev b e) → ⊥
+        stopped : (t : Reader) → drawReply (s W H l d lev b e) p ≡ impossible t → (g : Grid) → Words g (s W H l d lev b e) → Holds g (s W H l d lev b e) x →
+            AllFit g (s W H l d lev b e) → ⊥
         stopped t r g words h all =
             let z = drawn-fourteen (s W H l d lev b e) p t r in
             let o = drawing (λ _ y. subst T (sym (ap (λ j. eqb j 14) z) ∙ y) tt) (λ y. omega (arith, z)) (λ y. omega (arith, z)) (λ _ y. omega (arith, z, y)) in
@@ -313,32 +350,42 @@ ready-only W H L q s = go (eqb q 0)
 
 -- ---- the theorems
 pub set-up-holds : (W H L n : ℕ) (x : ℕ → ℤ) → SetUpHolds (setUpReply W H L (setUpQuestion W H L n)) (setUpStore W L (setUpQuestion W H L n) x)
-set-up-holds W H L n x = record { ready = λ s r g. subst (λ t. Holds g t (setUpStore W L (setUpQuestion W H L n) x)) (sym (ready-only W H L _ s r)) (fresh-holds W H L g _) }
+set-up-holds W H L n x = record {
+  ready = λ s r g. subst (λ t. Holds g t (setUpStore W L (setUpQuestion W H L n) x)) (sym (ready-only W H L _ s r))
+      (fresh-holds W H L g _);
+}
 
 -- a feed of m numbers v on a store of n numbers
 pub feed-keeps : (s : Reader) (n m : ℕ) (x v : ℕ → ℤ) → FeedKeeps s v x (feedReply s (feedQuestion s n x m v)) (feedStore s (feedQuestion s n x m v) v x)
 feed-keeps s n m x v = at (s .width) (s .height) (s .levels) (s .drawn) (s .level) (s .band) (s .ended)
   where
-    at : (W H L d lev b : ℕ) (e : Bool) → (let u : Reader = record { width = W; height = H; levels = L; drawn = d; level = lev; band = b; ended = e } in FeedKeeps u v x (feedReply u (feedQuestion u n x m v)) (feedStore u (feedQuestion u n x m v) v x))
+    at : (W H L d lev b : ℕ) (e : Bool) → (let u : Reader = record { width = W; height = H; levels = L; drawn = d; level = lev; band = b; ended = e } in
+        FeedKeeps u v x (feedReply u (feedQuestion u n x m v)) (feedStore u (feedQuestion u n x m v) v x))
     at W H (suc l) d lev b e = feed-at W H l d lev b e n x (record { size = m; numbers = v })
     at W H zero d lev b e =
         let u : Reader = record { width = W; height = H; levels = 0; drawn = d; level = lev; band = b; ended = e } in
         record {
-          passed = λ t r. let z = feed-passed u (feedQuestion u n x m v) t r .0 in absurd (no-levels W H d lev b e (feed-counts u n m x v (λ y. omega (arith, y, z)) (λ y. omega (arith, y, z))));
-          ended = λ t r. let z = feed-fourteen u (feedQuestion u n x m v) t r in absurd (no-levels W H d lev b e (feed-counts u n m x v (λ y. omega (arith, y, z)) (λ y. omega (arith, y, z))));
+          passed = λ t r. let z = feed-passed u (feedQuestion u n x m v) t r .0 in
+              absurd (no-levels W H d lev b e (feed-counts u n m x v (λ y. omega (arith, y, z)) (λ y. omega (arith, y, z))));
+          ended = λ t r. let z = feed-fourteen u (feedQuestion u n x m v) t r in
+              absurd (no-levels W H d lev b e (feed-counts u n m x v (λ y. omega (arith, y, z)) (λ y. omega (arith, y, z))));
         }
 
 -- a draw into the area z of m heights
-pub draw-keeps : (s : Reader) (n m : ℕ) (x z : ℕ → ℤ) → DrawKeeps s x (drawReply s (drawQuestion s n x m)) (drawStore s (drawQuestion s n x m) x) (drawArea s (drawQuestion s n x m) x z)
+pub draw-keeps : (s : Reader) (n m : ℕ) (x z : ℕ → ℤ) →
+    DrawKeeps s x (drawReply s (drawQuestion s n x m)) (drawStore s (drawQuestion s n x m) x) (drawArea s (drawQuestion s n x m) x z)
 draw-keeps s n m x z = at (s .width) (s .height) (s .levels) (s .drawn) (s .level) (s .band) (s .ended)
   where
-    at : (W H L d lev b : ℕ) (e : Bool) → (let u : Reader = record { width = W; height = H; levels = L; drawn = d; level = lev; band = b; ended = e } in DrawKeeps u x (drawReply u (drawQuestion u n x m)) (drawStore u (drawQuestion u n x m) x) (drawArea u (drawQuestion u n x m) x z))
+    at : (W H L d lev b : ℕ) (e : Bool) → (let u : Reader = record { width = W; height = H; levels = L; drawn = d; level = lev; band = b; ended = e } in
+        DrawKeeps u x (drawReply u (drawQuestion u n x m)) (drawStore u (drawQuestion u n x m) x) (drawArea u (drawQuestion u n x m) x z))
     at W H (suc l) d lev b e = draw-at W H l d lev b e n x (record { size = m; numbers = z })
     at W H zero d lev b e =
         let u : Reader = record { width = W; height = H; levels = 0; drawn = d; level = lev; band = b; ended = e } in
         record {
-          passed = λ k t r. let q = heights-only u (drawQuestion u n x m) k t r .0 in absurd (no-levels W H d lev b e (draw-counts u n m x (λ y. omega (arith, y, q)) (λ y. omega (arith, y, q))));
-          ended = λ t r. let q = drawn-fourteen u (drawQuestion u n x m) t r in absurd (no-levels W H d lev b e (draw-counts u n m x (λ y. omega (arith, y, q)) (λ y. omega (arith, y, q))));
+          passed = λ k t r. let q = heights-only u (drawQuestion u n x m) k t r .0 in
+              absurd (no-levels W H d lev b e (draw-counts u n m x (λ y. omega (arith, y, q)) (λ y. omega (arith, y, q))));
+          ended = λ t r. let q = drawn-fourteen u (drawQuestion u n x m) t r in
+              absurd (no-levels W H d lev b e (draw-counts u n m x (λ y. omega (arith, y, q)) (λ y. omega (arith, y, q))));
         }
 
 -- ---- the clauses of a call's contract, and then that it keeps what the store holds

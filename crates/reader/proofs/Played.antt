@@ -25,7 +25,9 @@ use Rattle.wavelet.specs.Steps.{Step, steps, bandRowsOf}
 use Rattle.wavelet.specs.Steps as step
 use Rattle.reader.specs.Answers.{row, drawNow, done, ended}
 use Rattle.reader.specs.Questions.{runFits, setUpQuestion}
-use Rattle.reader.specs.Demand3.{Area, Call, want, feed, draw, Reply, gives, refused, Given, heights, Event, wanted, fed, drew, World, event, events, final, freshWorld, goesOn, rest, leftBy, left, ends, endedBy, FedRow, fedBy, fedRows, drawnRows, All, none, more, HasRow, IsRow, HasFed, AllDrawn, wantSays, feedTurned, drawSays, OneOf, this, that, Draws, Demand3}
+use Rattle.reader.specs.Demand3.{Area, Call, want, feed, draw, Reply, gives, refused, Given, heights, Event, wanted, fed, drew, World, event, events}
+use Rattle.reader.specs.Demand3.{final, freshWorld, goesOn, rest, leftBy, left, ends, endedBy, FedRow, fedBy, fedRows, drawnRows, All, none, more, HasRow}
+use Rattle.reader.specs.Demand3.{IsRow, HasFed, AllDrawn, wantSays, feedTurned, drawSays, OneOf, this, that, Draws, Demand3}
 use Rattle.reader.specs.Demand3 as demand
 use Rattle.reader.specs.Played.{asWanted, answering, played, Sized, HasAll, Back, Stopped, Refusal, seven, fed-fourteen, drawn-fourteen, after, Played}
 use Rattle.reader.proofs.StepsLeft.{named-code}
@@ -106,7 +108,8 @@ unfolding left leftBy
 left-length t [] = omega arith
 left-length t (e ∷ es) = go (goesOn e) (left-length (rest t) es) (left-length t es)
   where
-    go : (u : Bool) → length (rest t) ≤ length (left (rest t) es) + length es → length t ≤ length (left t es) + length es → length t ≤ length (left (pick u (rest t) t) es) + length (e ∷ es)
+    go : (u : Bool) → length (rest t) ≤ length (left (rest t) es) + length es → length t ≤ length (left t es) + length es →
+        length t ≤ length (left (pick u (rest t) t) es) + length (e ∷ es)
     go true a b = omega (arith, rest-length t)
     go false a b = omega arith
 
@@ -146,11 +149,13 @@ exists-parts W H L k b r e =
     let f = both (ltb 0 (bandColumns W k b)) _ (d .1) in
     (leb-true 1 k (c .0), ltb-true r (bandRows H k b) (f .1))
 
-row-in-range : (W H L : ℕ) (g : Grid) → IsMap W H g → (y : RowName) → bandRowExists W H L (y .level) (y .band) (y .row) ≡ true → (i : ℕ) → i < bandColumns W (y .level) (y .band) → natAbs (levelBand whole W H g (y .level) (y .band) (y .row) i) ≤ range (y .level)
+row-in-range : (W H L : ℕ) (g : Grid) → IsMap W H g → (y : RowName) → bandRowExists W H L (y .level) (y .band) (y .row) ≡ true → (i : ℕ) →
+    i < bandColumns W (y .level) (y .band) → natAbs (levelBand whole W H g (y .level) (y .band) (y .row) i) ≤ range (y .level)
 unfolding bandRows bandColumns
 row-in-range W H L g m y e = let p = exists-parts W H L (y .level) (y .band) (y .row) e in at (y .level) (p .0) (p .1)
   where
-    at : (v : ℕ) → 1 ≤ v → y .row < bandRows H v (y .band) → (i : ℕ) → i < bandColumns W v (y .band) → natAbs (levelBand whole W H g v (y .band) (y .row) i) ≤ range v
+    at : (v : ℕ) → 1 ≤ v → y .row < bandRows H v (y .band) → (i : ℕ) → i < bandColumns W v (y .band) →
+        natAbs (levelBand whole W H g v (y .band) (y .row) i) ≤ range v
     at zero h r i p = absurd (omega arith)
     at (suc k) h r i p =
         let z : suc k - 1 ≡ k = omega arith in
@@ -182,20 +187,25 @@ module _ (W H L n : ℕ) (ok : setUpQuestion W H L n ≡ 0) (rows : RowName → 
       go false e h = absurd (omega arith)
 
   fed-exists : (es : List Event) → Fair es → (f : FedRow) → In f (fedRows T₀ es) → bandRowExists W H L (f .row .level) (f .row .band) (f .row .row) ≡ true
-  fed-exists es fair f i = step-exists (f .row) (subst (In (f .row)) (fair .names) (in-left (f .row) (namesOf (fedRows T₀ es)) _ (in-names f (fedRows T₀ es) i)))
+  fed-exists es fair f i = step-exists (f .row) (subst (In (f .row)) (fair .names)
+      (in-left (f .row) (namesOf (fedRows T₀ es)) _ (in-names f (fedRows T₀ es) i)))
 
-  next-exists : (es : List Event) → Fair es → (y : RowName) (t : List Step) → left T₀ es ≡ step.feed y ∷ t → bandRowExists W H L (y .level) (y .band) (y .row) ≡ true
+  next-exists : (es : List Event) → Fair es → (y : RowName) (t : List Step) → left T₀ es ≡ step.feed y ∷ t →
+      bandRowExists W H L (y .level) (y .band) (y .row) ≡ true
   unfolding bandRowsOf
-  next-exists es fair y t e = step-exists y (subst (In y) (fair .names) (in-right y (namesOf (fedRows T₀ es)) _ (subst (λ v. In y (bandRowsOf v)) (sym e) first)))
+  next-exists es fair y t e = step-exists y (subst (In y) (fair .names)
+      (in-right y (namesOf (fedRows T₀ es)) _ (subst (λ v. In y (bandRowsOf v)) (sym e) first)))
 
   -- a map that has all the rows has those fed
   has-fed : (es : List Event) → Fair es → (g : Grid) → IsMap W H g → HasAll W H L g rows → All (HasRow W H g) (fedRows T₀ es)
   has-fed es fair g m h =
-      all-in (fedRows T₀ es) (λ f i. subst (IsRow W H g (f .row)) (sym (in-all f (fedRows T₀ es) i (fair .from-rows))) (h .are (f .row) (fed-exists es fair f i)))
+      all-in (fedRows T₀ es) (λ f i. subst (IsRow W H g (f .row)) (sym (in-all f (fedRows T₀ es) i (fair .from-rows)))
+      (h .are (f .row) (fed-exists es fair f i)))
 
   -- ---- one turn
   -- no map has all rows where 14 comes
-  none-fourteen : (cs : List Call) (c : Call) → endedBy (events (cs ++ (c ∷ [])) w₀) ≡ true → (g : Grid) → IsMap W H g → All (HasRow W H g) (fedRows T₀ (events (cs ++ (c ∷ [])) w₀)) → ⊥
+  none-fourteen : (cs : List Call) (c : Call) → endedBy (events (cs ++ (c ∷ [])) w₀) ≡ true → (g : Grid) → IsMap W H g →
+      All (HasRow W H g) (fedRows T₀ (events (cs ++ (c ∷ [])) w₀)) → ⊥
   none-fourteen cs c e g m h = claim (cs ++ (c ∷ [])) .impossible e g (record { map = m; rows = h })
 
   data Verdict (cs : List Call) : Type 0 where
@@ -204,22 +214,27 @@ module _ (W H L n : ℕ) (ok : setUpQuestion W H L n ≡ 0) (rows : RowName → 
 
   said-done : (cs : List Call) → event want (final cs w₀) ≡ wanted (gives done) → left T₀ (events cs w₀) ≡ []
   said-done cs z =
-      let w : _≡_ {A = Event} (wanted (gives (wantSays W (endedBy (events cs w₀)) (left T₀ (events cs w₀))))) (wanted (gives done)) = sym (claim cs .wants) ∙ z in
+      let w : _≡_ {A = Event} (wanted (gives (wantSays W (endedBy (events cs w₀)) (left T₀ (events cs w₀))))) (wanted (gives done)) = sym (claim cs .wants)
+      ∙ z in
       let v : wantSays W (endedBy (events cs w₀)) (left T₀ (events cs w₀)) ≡ done = cc in
       done-only W _ _ v .1
 
   -- a call that is refused leaves too few turns
-  too-few : (m : ℕ) (cs : List Call) (c : Call) (ps : List Call) → length (left T₀ (events cs w₀)) ≡ suc m → goesOn (event c (final cs w₀)) ≡ false → length ps ≤ m → event want (final (cs ++ (c ∷ ps)) w₀) ≡ wanted (gives done) → ⊥
+  too-few : (m : ℕ) (cs : List Call) (c : Call) (ps : List Call) → length (left T₀ (events cs w₀)) ≡ suc m → goesOn (event c (final cs w₀)) ≡ false →
+      length ps ≤ m → event want (final (cs ++ (c ∷ ps)) w₀) ≡ wanted (gives done) → ⊥
   unfolding left leftBy events final
   too-few m cs c ps len off few z =
-      let e : left T₀ (events (cs ++ (c ∷ ps)) w₀) ≡ left (left T₀ (events cs w₀)) (events (c ∷ ps) (final cs w₀)) = ap (left T₀) (events-append cs (c ∷ ps) w₀) ∙ left-append T₀ (events cs w₀) _ in
-      let f : left (pick (goesOn (event c (final cs w₀))) (rest (left T₀ (events cs w₀))) (left T₀ (events cs w₀))) (events ps (demand.next c (final cs w₀))) ≡ [] = sym e ∙ said-done (cs ++ (c ∷ ps)) z in
+      let e : left T₀ (events (cs ++ (c ∷ ps)) w₀) ≡ left (left T₀ (events cs w₀)) (events (c ∷ ps) (final cs w₀)) =
+      ap (left T₀) (events-append cs (c ∷ ps) w₀) ∙ left-append T₀ (events cs w₀) _ in
+      let f : left (pick (goesOn (event c (final cs w₀))) (rest (left T₀ (events cs w₀))) (left T₀ (events cs w₀))) (events ps (demand.next c (final cs w₀)))
+      ≡ [] = sym e ∙ said-done (cs ++ (c ∷ ps)) z in
       let h : left (left T₀ (events cs w₀)) (events ps (demand.next c (final cs w₀))) ≡ [] = rw off at f in
       let a = left-length (left T₀ (events cs w₀)) (events ps (demand.next c (final cs w₀))) in
       omega (arith, ap length h, events-length ps (demand.next c (final cs w₀)))
 
   -- a row of a map is not refused by 7
-  run-fits : (y : RowName) → bandRowExists W H L (y .level) (y .band) (y .row) ≡ true → (g : Grid) → IsMap W H g → HasAll W H L g rows → runFits (y .level) (rows y .size) (rows y .numbers) ≡ true
+  run-fits : (y : RowName) → bandRowExists W H L (y .level) (y .band) (y .row) ≡ true → (g : Grid) → IsMap W H g → HasAll W H L g rows →
+      runFits (y .level) (rows y .size) (rows y .numbers) ≡ true
   unfolding runFits
   run-fits y e g m h =
       each-every (rows y .size) _ (λ i p. let q : i < bandColumns W (y .level) (y .band) = rw (h .are y e .size) at p in
@@ -238,7 +253,8 @@ module _ (W H L n : ℕ) (ok : setUpQuestion W H L n ≡ 0) (rows : RowName → 
 
     refused-in : (c : Call) (v : Event) (ps : List Call) → event c w ≡ v → ((vs : List Event) → Refusal (v ∷ vs)) → Refusal (events (cs ++ (c ∷ ps)) w₀)
     unfolding events
-    refused-in c v ps e r = subst Refusal (sym (events-append cs (c ∷ ps) w₀)) (refusal-after es _ (subst (λ u. Refusal (u ∷ events ps (demand.next c w))) (sym e) (r _)))
+    refused-in c v ps e r = subst Refusal (sym (events-append cs (c ∷ ps) w₀))
+        (refusal-after es _ (subst (λ u. Refusal (u ∷ events ps (demand.next c w))) (sym e) (r _)))
 
     -- what a fed row adds
     module _ (y : RowName) (t : List Step) (head : left T₀ es ≡ step.feed y ∷ t) where
@@ -250,7 +266,8 @@ module _ (W H L n : ℕ) (ok : setUpQuestion W H L n ≡ 0) (rows : RowName → 
         record {
           live = ended-append es _ ∙ rw (fair .live) (unfold endedBy ends in refl);
           from-rows = subst (All _) (sym rows-are) (all-append (fedRows T₀ es) (f ∷ []) (fair .from-rows) (more refl none));
-          names = ap₂ (λ u v. namesOf u ++ bandRowsOf v) rows-are left-is ∙ ap (λ u. u ++ bandRowsOf t) (names-append (fedRows T₀ es) (f ∷ [])) ∙ append-assoc (namesOf (fedRows T₀ es)) (namesOf (f ∷ [])) (bandRowsOf t) ∙ names-more ∙ fair .names;
+          names = ap₂ (λ u v. namesOf u ++ bandRowsOf v) rows-are left-is ∙ ap (λ u. u ++ bandRowsOf t) (names-append (fedRows T₀ es) (f ∷ []))
+              ∙ append-assoc (namesOf (fedRows T₀ es)) (namesOf (f ∷ [])) (bandRowsOf t) ∙ names-more ∙ fair .names;
         },
         left-is,
       )
@@ -268,7 +285,8 @@ module _ (W H L n : ℕ) (ok : setUpQuestion W H L n ≡ 0) (rows : RowName → 
       fed-none : event (feed (rows y)) w ≡ fed (rows y) (refused 14) → (g : Grid) → IsMap W H g → HasAll W H L g rows → ⊥
       fed-none e g m h =
           none-fourteen cs (feed (rows y)) (ap endedBy on ∙ ended-append es _ ∙ rw (fair .live) (unfold endedBy ends in refl)) g m
-          (subst (All (HasRow W H g)) (sym (ap (fedRows T₀) on ∙ rows-are)) (all-append (fedRows T₀ es) (f ∷ []) (has-fed es fair g m h) (more (h .are y (next-exists es fair y t head)) none)))
+          (subst (All (HasRow W H g)) (sym (ap (fedRows T₀) on ∙ rows-are))
+          (all-append (fedRows T₀ es) (f ∷ []) (has-fed es fair g m h) (more (h .are y (next-exists es fair y t head)) none)))
         where
           on : events (cs ++ (feed (rows y) ∷ [])) w₀ ≡ es ++ (fed (rows y) (refused 14) ∷ [])
           on = events-on (feed (rows y)) _ e
@@ -321,7 +339,8 @@ module _ (W H L n : ℕ) (ok : setUpQuestion W H L n ≡ 0) (rows : RowName → 
     unfolding played final
     played-on m c e = ap (λ u. u ++ played rows outs m (final u w)) e
 
-    later-calls : (m : ℕ) (c : Call) → answering rows (outs m) (event want w) ≡ c ∷ [] → cs ++ played rows outs (suc m) w ≡ (cs ++ (c ∷ [])) ++ played rows outs m (final (cs ++ (c ∷ [])) w₀)
+    later-calls : (m : ℕ) (c : Call) → answering rows (outs m) (event want w) ≡ c ∷ [] →
+        cs ++ played rows outs (suc m) w ≡ (cs ++ (c ∷ [])) ++ played rows outs m (final (cs ++ (c ∷ [])) w₀)
     unfolding final
     later-calls m c e =
         ap (λ u. cs ++ u) (played-on m c e)
@@ -329,49 +348,69 @@ module _ (W H L n : ℕ) (ok : setUpQuestion W H L n ≡ 0) (rows : RowName → 
         ∙ ap (λ v. (cs ++ (c ∷ [])) ++ played rows outs m v) (sym (final-append cs (c ∷ []) w₀))
 
     -- a call that goes on, and one that is refused
-    goes : (m : ℕ) (c : Call) (v : Event) (t : List Step) → answering rows (outs m) (event want w) ≡ c ∷ [] → event c w ≡ v → Fair (es ++ (v ∷ [])) → left T₀ (es ++ (v ∷ [])) ≡ t → length t ≡ m →
-        ((ds : List Call) → length (left T₀ (events ds w₀)) ≡ m → Fair (events ds w₀) → Verdict (ds ++ played rows outs m (final ds w₀))) → Verdict (cs ++ played rows outs (suc m) w)
+    goes : (m : ℕ) (c : Call) (v : Event) (t : List Step) → answering rows (outs m) (event want w) ≡ c ∷ [] → event c w ≡ v → Fair (es ++ (v ∷ [])) →
+        left T₀ (es ++ (v ∷ [])) ≡ t → length t ≡ m →
+        ((ds : List Call) → length (left T₀ (events ds w₀)) ≡ m → Fair (events ds w₀) → Verdict (ds ++ played rows outs m (final ds w₀))) →
+        Verdict (cs ++ played rows outs (suc m) w)
     goes m c v t a e on is len ih =
         let z = events-on c v e in
         subst Verdict (sym (later-calls m c a)) (ih (cs ++ (c ∷ [])) (ap (λ u. length (left T₀ u)) z ∙ ap length is ∙ len) (subst Fair (sym z) on))
 
-    refuses : (m : ℕ) (c : Call) (v : Event) → answering rows (outs m) (event want w) ≡ c ∷ [] → event c w ≡ v → length (left T₀ es) ≡ suc m → goesOn v ≡ false → ((vs : List Event) → Refusal (v ∷ vs)) → ((g : Grid) → IsMap W H g → HasAll W H L g rows → ⊥) → Verdict (cs ++ played rows outs (suc m) w)
+    refuses : (m : ℕ) (c : Call) (v : Event) → answering rows (outs m) (event want w) ≡ c ∷ [] → event c w ≡ v → length (left T₀ es) ≡ suc m →
+        goesOn v ≡ false → ((vs : List Event) → Refusal (v ∷ vs)) → ((g : Grid) → IsMap W H g → HasAll W H L g rows → ⊥) →
+        Verdict (cs ++ played rows outs (suc m) w)
     refuses m c v a e len off r no-g =
         subst Verdict (ap (λ u. cs ++ u) (sym (played-on m c a)))
         (bad (refused-in c v _ e r) (too-few m cs c _ len (ap goesOn e ∙ off) (played-length rows outs m (demand.next c w))) no-g)
 
   -- ---- turn after turn
-  turn : (m : ℕ) (cs : List Call) → length (left T₀ (events cs w₀)) ≡ suc m → Fair (events cs w₀) → ((ds : List Call) → length (left T₀ (events ds w₀)) ≡ m → Fair (events ds w₀) → Verdict (ds ++ played rows outs m (final ds w₀))) → Verdict (cs ++ played rows outs (suc m) (final cs w₀))
+  turn : (m : ℕ) (cs : List Call) → length (left T₀ (events cs w₀)) ≡ suc m → Fair (events cs w₀) →
+      ((ds : List Call) → length (left T₀ (events ds w₀)) ≡ m → Fair (events ds w₀) → Verdict (ds ++ played rows outs m (final ds w₀))) →
+      Verdict (cs ++ played rows outs (suc m) (final cs w₀))
   turn m cs len fair ih = go (left T₀ (events cs w₀)) refl
     where
-      at-draw : (r : ℕ) (t : List Step) → left T₀ (events cs w₀) ≡ step.draw r ∷ t → Draws W (endedBy (events cs w₀)) (left T₀ (events cs w₀)) (outs m) (event (draw (outs m)) (final cs w₀)) → Verdict (cs ++ played rows outs (suc m) (final cs w₀))
+      at-draw : (r : ℕ) (t : List Step) → left T₀ (events cs w₀) ≡ step.draw r ∷ t →
+          Draws W (endedBy (events cs w₀)) (left T₀ (events cs w₀)) (outs m) (event (draw (outs m)) (final cs w₀)) →
+          Verdict (cs ++ played rows outs (suc m) (final cs w₀))
       at-draw r t head d = says (d .says)
         where
           gave : drawSays W (endedBy (events cs w₀)) (left T₀ (events cs w₀)) (outs m .size) ≡ gives (heights W)
           gave = ap₂ (λ u v. drawSays W u v (outs m .size)) (fair .live) head ∙ (unfold drawSays in rw (le-leb W (outs m .size) (room m)) refl)
 
-          says : OneOf (d .answer) (drawSays W (endedBy (events cs w₀)) (left T₀ (events cs w₀)) (outs m .size)) (refused 14) → Verdict (cs ++ played rows outs (suc m) (final cs w₀))
+          says : OneOf (d .answer) (drawSays W (endedBy (events cs w₀)) (left T₀ (events cs w₀)) (outs m .size)) (refused 14) →
+              Verdict (cs ++ played rows outs (suc m) (final cs w₀))
           says (this e) =
               let on = drawn-goes cs fair (outs m) (d .after) r t head in
-              goes cs fair m (draw (outs m)) (drew (outs m) (gives (heights W)) (d .after)) t (wanted-draw cs fair (outs m) r t head) (d .is ∙ ap (λ u. drew (outs m) u (d .after)) (e ∙ gave)) (on .0) (on .1) (omega (arith, ap length head)) ih
+              goes cs fair m (draw (outs m)) (drew (outs m) (gives (heights W)) (d .after)) t (wanted-draw cs fair (outs m) r t head) (d .is
+              ∙ ap (λ u. drew (outs m) u (d .after)) (e ∙ gave)) (on .0) (on .1) (omega (arith, ap length head)) ih
           says (that e) =
               let is : event (draw (outs m)) (final cs w₀) ≡ drew (outs m) (refused 14) (d .after) = d .is ∙ ap (λ u. drew (outs m) u (d .after)) e in
-              refuses cs fair m (draw (outs m)) (drew (outs m) (refused 14) (d .after)) (wanted-draw cs fair (outs m) r t head) is len (unfold goesOn in refl) (λ vs. drawn-fourteen) (drawn-none cs fair (outs m) (d .after) r t head is)
+              refuses cs fair m (draw (outs m)) (drew (outs m) (refused 14) (d .after)) (wanted-draw cs fair (outs m) r t head) is len (unfold goesOn in
+              refl) (λ vs. drawn-fourteen) (drawn-none cs fair (outs m) (d .after) r t head is)
 
-      at-feed : (y : RowName) (t : List Step) → left T₀ (events cs w₀) ≡ step.feed y ∷ t → (u : Bool) → runFits (y .level) (rows y .size) (rows y .numbers) ≡ u → Verdict (cs ++ played rows outs (suc m) (final cs w₀))
+      at-feed : (y : RowName) (t : List Step) → left T₀ (events cs w₀) ≡ step.feed y ∷ t → (u : Bool) →
+          runFits (y .level) (rows y .size) (rows y .numbers) ≡ u → Verdict (cs ++ played rows outs (suc m) (final cs w₀))
       at-feed y t head false z =
-          let is : event (feed (rows y)) (final cs w₀) ≡ fed (rows y) (refused 7) = claim cs .feeds-turned (rows y) 6 (turned 7 (unfold feedTurned in rw (eq-eqb (rows y .size) (bandColumns W (y .level) (y .band)) (sized .size y (next-exists (events cs w₀) fair y t head)), z) refl)) in
-          refuses cs fair m (feed (rows y)) (fed (rows y) (refused 7)) (wanted-row cs fair (outs m) y t head) is len (unfold goesOn in refl) (λ vs. seven) (λ g mp h. subst T (sym (run-fits y (next-exists (events cs w₀) fair y t head) g mp h) ∙ z) tt)
+          let is : event (feed (rows y)) (final cs w₀) ≡ fed (rows y) (refused 7) =
+          claim cs .feeds-turned (rows y) 6 (turned 7 (unfold feedTurned in
+          rw (eq-eqb (rows y .size) (bandColumns W (y .level) (y .band)) (sized .size y (next-exists (events cs w₀) fair y t head)), z) refl)) in
+          refuses cs fair m (feed (rows y)) (fed (rows y) (refused 7)) (wanted-row cs fair (outs m) y t head) is len (unfold goesOn in
+          refl) (λ vs. seven) (λ g mp h. subst T (sym (run-fits y (next-exists (events cs w₀) fair y t head) g mp h) ∙ z) tt)
         where
           turned : (q : ℕ) → feedTurned W false (step.feed y ∷ t) (rows y) ≡ q → feedTurned W (endedBy (events cs w₀)) (left T₀ (events cs w₀)) (rows y) ≡ q
           turned q e = ap₂ (λ u v. feedTurned W u v (rows y)) (fair .live) head ∙ e
-      at-feed y t head true z = says (claim cs .feeds-on (rows y) (ap₂ (λ u v. feedTurned W u v (rows y)) (fair .live) head ∙ (unfold feedTurned in rw (eq-eqb (rows y .size) (bandColumns W (y .level) (y .band)) (sized .size y (next-exists (events cs w₀) fair y t head)), z) refl)))
+      at-feed y t head true z = says (claim cs .feeds-on (rows y) (ap₂ (λ u v. feedTurned W u v (rows y)) (fair .live) head
+          ∙ (unfold feedTurned in rw (eq-eqb (rows y .size) (bandColumns W (y .level) (y .band)) (sized .size y (next-exists (events cs w₀) fair y t head)), z)
+          refl)))
         where
-          says : OneOf (event (feed (rows y)) (final cs w₀)) (fed (rows y) (gives tt)) (fed (rows y) (refused 14)) → Verdict (cs ++ played rows outs (suc m) (final cs w₀))
+          says : OneOf (event (feed (rows y)) (final cs w₀)) (fed (rows y) (gives tt)) (fed (rows y) (refused 14)) →
+              Verdict (cs ++ played rows outs (suc m) (final cs w₀))
           says (this e) =
               let on = fed-goes cs fair y t head in
-              goes cs fair m (feed (rows y)) (fed (rows y) (gives tt)) t (wanted-row cs fair (outs m) y t head) e (on .0) (on .1) (omega (arith, ap length head)) ih
-          says (that e) = refuses cs fair m (feed (rows y)) (fed (rows y) (refused 14)) (wanted-row cs fair (outs m) y t head) e len (unfold goesOn in refl) (λ vs. fed-fourteen) (fed-none cs fair y t head e)
+              goes cs fair m (feed (rows y)) (fed (rows y) (gives tt)) t (wanted-row cs fair (outs m) y t head) e (on .0) (on .1)
+              (omega (arith, ap length head)) ih
+          says (that e) = refuses cs fair m (feed (rows y)) (fed (rows y) (refused 14)) (wanted-row cs fair (outs m) y t head) e len (unfold goesOn in
+              refl) (λ vs. fed-fourteen) (fed-none cs fair y t head e)
 
       go : (t : List Step) → left T₀ (events cs w₀) ≡ t → Verdict (cs ++ played rows outs (suc m) (final cs w₀))
       go [] e = absurd (omega (arith, ap length e))
@@ -417,7 +456,8 @@ module _ (W H L n : ℕ) (ok : setUpQuestion W H L n ≡ 0) (rows : RowName → 
       at : (y : RowName) → (f : FedRow) × In f (fedRows T₀ (events all w₀)) × (f .row ≡ y) → IsRow W H g y (rows y)
       at y r =
           let fs = fedRows T₀ (events all w₀) in
-          subst (λ v. IsRow W H g v (rows v)) (r .2) (subst (IsRow W H g (r .0 .row)) (in-all (r .0) fs (r .1) (fair .from-rows)) (in-all (r .0) fs (r .1) (has .rows)))
+          subst (λ v. IsRow W H g v (rows v)) (r .2)
+          (subst (IsRow W H g (r .0 .row)) (in-all (r .0) fs (r .1) (fair .from-rows)) (in-all (r .0) fs (r .1) (has .rows)))
 
   handed-back : (g : Grid) → IsMap W H g → HasAll W H L g rows → Verdict all → Back W H g (events all w₀) (λ c. event c (final all w₀))
   handed-back g m h (fine fair over) =

@@ -65,7 +65,8 @@ pub record Only (w t : ℕ) (x y : ℕ → ℤ) : Type 0 where
 
 module _ (w t : ℕ) where
   -- a place of another row, and one past the four, is before row t or past it
-  beside : (q i : ℕ) → (slot t ≡ slot q → ⊥) → i < w → (p n : ℕ) → rowPlace w t ≤ p → p + n ≤ rowPlace w t + w → (v x : ℕ → ℤ) → spliced p n v x (rowPlace w q + i) ≡ x (rowPlace w q + i)
+  beside : (q i : ℕ) → (slot t ≡ slot q → ⊥) → i < w → (p n : ℕ) → rowPlace w t ≤ p → p + n ≤ rowPlace w t + w → (v x : ℕ → ℤ) →
+      spliced p n v x (rowPlace w q + i) ≡ x (rowPlace w q + i)
   unfolding rowPlace
   beside q i d h p n a b v x =
       elim (decLt (slot q) (slot t)) [
@@ -102,16 +103,20 @@ module _ (w : ℕ) (b : Band) (n : ℕ) (v x : ℕ → ℤ) where
   pub fed-here : (h : Half) → across b ≡ h → (i : ℕ) → i < count h w → bandFed w b n v x (rowPlace w (setRow (down b) n) + (halfPlace h w + i)) ≡ v i
   unfolding bandFed
   fed-here h e i p =
-      let f : rowPlace w (setRow (down b) n) + (halfPlace h w + i) ≡ rowPlace w (setRow (down b) n) + halfPlace (across b) w + i = omega (arith, ap (λ (u : Half). halfPlace u w) e) in
+      let f : rowPlace w (setRow (down b) n) + (halfPlace h w + i) ≡ rowPlace w (setRow (down b) n) + halfPlace (across b) w + i =
+      omega (arith, ap (λ (u : Half). halfPlace u w) e) in
       let q : i < count (across b) w = rw e p in
       let g : rowPlace w (setRow (down b) n) + halfPlace (across b) w + i - (rowPlace w (setRow (down b) n) + halfPlace (across b) w) ≡ i = omega arith in
       ap (spliced _ _ v x) f ∙ splice-in _ _ v x _ (omega arith) (omega arith) ∙ ap v g
 
-  pub fed-beside : (h : Half) → (across b ≡ h → ⊥) → (i : ℕ) → i < count h w → bandFed w b n v x (rowPlace w (setRow (down b) n) + (halfPlace h w + i)) ≡ x (rowPlace w (setRow (down b) n) + (halfPlace h w + i))
+  pub fed-beside : (h : Half) → (across b ≡ h → ⊥) → (i : ℕ) → i < count h w →
+      bandFed w b n v x (rowPlace w (setRow (down b) n) + (halfPlace h w + i)) ≡ x (rowPlace w (setRow (down b) n) + (halfPlace h w + i))
   unfolding bandFed
   fed-beside h d i p = go (across b) h d p
     where
-      go : (a h : Half) → (a ≡ h → ⊥) → i < count h w → spliced (rowPlace w (setRow (down b) n) + halfPlace a w) (count a w) v x (rowPlace w (setRow (down b) n) + (halfPlace h w + i)) ≡ x (rowPlace w (setRow (down b) n) + (halfPlace h w + i))
+      go : (a h : Half) → (a ≡ h → ⊥) → i < count h w →
+          spliced (rowPlace w (setRow (down b) n) + halfPlace a w) (count a w) v x (rowPlace w (setRow (down b) n) + (halfPlace h w + i)) ≡ x
+          (rowPlace w (setRow (down b) n) + (halfPlace h w + i))
       go lo lo d p = absurd (d refl)
       go lo hi d p = splice-past _ _ v x _ (unfold halfPlace in omega arith)
       go hi lo d p = splice-below _ _ v x _ (unfold halfPlace in omega arith)
@@ -135,10 +140,13 @@ pub row-halves : (w : ℕ) (x : ℕ → ℤ) (r : ℕ) (c : Half → ℕ → ℤ
 unfolding rowIn
 row-halves w x r c e h i b = halves-at w _ h i ∙ window-in (rowPlace w r) w x (halfPlace h w + i) (half-inside h w i b) ∙ e h i b
 
-pub halves-back-forward : (N : ℕ) (x : ℕ → ℤ) → ((i : ℕ) → i < N → SFits w32 (x i)) → (h : Half) (n : ℕ) → n < count h N → lineHalvesBack wrap32 N (lineForward wrap32 N x) h n ≡ parted x h n
+pub halves-back-forward : (N : ℕ) (x : ℕ → ℤ) → ((i : ℕ) → i < N → SFits w32 (x i)) → (h : Half) (n : ℕ) → n < count h N →
+    lineHalvesBack wrap32 N (lineForward wrap32 N x) h n ≡ parted x h n
 unfolding lineBack parted
-halves-back-forward N x fits lo n b = sym (joined-place (lineHalvesBack wrap32 N (lineForward wrap32 N x)) lo n) ∙ back-forward N x fits (2 * n) (place-in lo lo N n b)
-halves-back-forward N x fits hi n b = sym (joined-place (lineHalvesBack wrap32 N (lineForward wrap32 N x)) hi n) ∙ back-forward N x fits (2 * n + 1) (place-in lo hi N n b)
+halves-back-forward N x fits lo n b = sym (joined-place (lineHalvesBack wrap32 N (lineForward wrap32 N x)) lo n)
+    ∙ back-forward N x fits (2 * n) (place-in lo lo N n b)
+halves-back-forward N x fits hi n b = sym (joined-place (lineHalvesBack wrap32 N (lineForward wrap32 N x)) hi n)
+    ∙ back-forward N x fits (2 * n + 1) (place-in lo hi N n b)
 
 module _ (w r : ℕ) (x : ℕ → ℤ) where
   pub only-unlifted : Only w r x (rowUnlifted w r x)
@@ -157,7 +165,8 @@ module _ (w r : ℕ) (x : ℕ → ℤ) where
       ∙ halves-back-forward w row fits h i b
 
 -- ---- a row changed by two others
-pub by-is : (f : ℤ → ℤ → ℤ → ℤ) (w t l r : ℕ) (x : ℕ → ℤ) (a b c : Half → ℕ → ℤ) → Is w x t a → Is w x l b → Is w x r c → Is w (rowBy f w t l r x) t (λ h i. f (a h i) (b h i) (c h i))
+pub by-is : (f : ℤ → ℤ → ℤ → ℤ) (w t l r : ℕ) (x : ℕ → ℤ) (a b c : Half → ℕ → ℤ) → Is w x t a → Is w x l b → Is w x r c →
+    Is w (rowBy f w t l r x) t (λ h i. f (a h i) (b h i) (c h i))
 unfolding rowBy rowPlace
 by-is f w t l r x a b c p q s h i z =
     row-at f w w (slot t) (slot l) (slot r) x (halfPlace h w + i) (half-inside h w i z)
@@ -169,7 +178,8 @@ unfolding parted
 part-place x lo n = refl
 part-place x hi n = refl
 
-pub joined-reads : (N : ℕ) (p : Half → ℕ → ℤ) (row : ℕ → ℤ) → ((h : Half) (i : ℕ) → i < count h N → p h i ≡ parted row h i) → (i : ℕ) → i < N → joined p i ≡ row i
+pub joined-reads : (N : ℕ) (p : Half → ℕ → ℤ) (row : ℕ → ℤ) → ((h : Half) (i : ℕ) → i < count h N → p h i ≡ parted row h i) → (i : ℕ) → i < N →
+    joined p i ≡ row i
 joined-reads N p row e =
     by-place lo (λ i. i < N → joined p i ≡ row i)
     (λ h n b. joined-place p h n ∙ e h n (in-place lo h N n b) ∙ part-place row h n)
@@ -180,7 +190,9 @@ module _ (w n : ℕ) (x : ℕ → ℤ) where
   unfolding lowRowTaken
   only-taken = only-splice w (2 * n) _ _ (omega arith) (omega (arith, count-lo w)) _ x
 
-  pub taken-is : (row : ℕ → ℤ) → ((h : Half) (i : ℕ) → i < count h (count lo w) → x (4 * w + (rowPlace (count lo w) n + (halfPlace h (count lo w) + i))) ≡ parted row h i) → (i : ℕ) → i < count lo w → lowRowTaken w n x (rowPlace w (2 * n) + (halfPlace lo w + i)) ≡ row i
+  pub taken-is : (row : ℕ → ℤ) → ((h : Half) (i : ℕ) → i < count h (count lo w) →
+      x (4 * w + (rowPlace (count lo w) n + (halfPlace h (count lo w) + i))) ≡ parted row h i) → (i : ℕ) → i < count lo w →
+      lowRowTaken w n x (rowPlace w (2 * n) + (halfPlace lo w + i)) ≡ row i
   unfolding lowRowTaken halfPlace
   taken-is row e i b =
       let f : rowPlace w (2 * n) + (0 + i) - rowPlace w (2 * n) ≡ i = omega arith in
@@ -188,9 +200,11 @@ module _ (w n : ℕ) (x : ℕ → ℤ) where
       ∙ ap (joined _) f
       ∙ joined-reads (count lo w) _ row read i b
     where
-      read : (h : Half) (i : ℕ) → i < count h (count lo w) → halvesOf (count lo w) (windowed (4 * w + rowPlace (count lo w) n) (count lo w) x) h i ≡ parted row h i
+      read : (h : Half) (i : ℕ) → i < count h (count lo w) →
+          halvesOf (count lo w) (windowed (4 * w + rowPlace (count lo w) n) (count lo w) x) h i ≡ parted row h i
       read h i b =
-          let g : 4 * w + rowPlace (count lo w) n + (halfPlace h (count lo w) + i) ≡ 4 * w + (rowPlace (count lo w) n + (halfPlace h (count lo w) + i)) = omega arith in
+          let g : 4 * w + rowPlace (count lo w) n + (halfPlace h (count lo w) + i) ≡ 4 * w + (rowPlace (count lo w) n + (halfPlace h (count lo w) + i)) =
+          omega arith in
           halves-at (count lo w) _ h i ∙ window-in _ (count lo w) x (halfPlace h (count lo w) + i) (half-inside h (count lo w) i b) ∙ ap x g ∙ e h i b
 
   pub taken-beside : (i : ℕ) → i < count hi w → lowRowTaken w n x (rowPlace w (2 * n) + (halfPlace hi w + i)) ≡ x (rowPlace w (2 * n) + (halfPlace hi w + i))

@@ -1,4 +1,5 @@
--- No call on a reader touches the surplus of its line store, whatever its state and store: `set-up-surplus`, `feed-surplus`, `draw-surplus`. A want has no store. Assumes nothing.
+-- No call on a reader touches the surplus of its line store, whatever its state and store: `set-up-surplus`, `feed-surplus`, `draw-surplus`. A want has no
+-- store. Assumes nothing.
 use mathlib.Core.Bool.{Bool, true, false}
 use mathlib.Core.Path.{_≡_, refl, sym, ap, subst, _∙_}
 use Prim.Native.Nat.{ℕ, zero, suc, _+_, _-_, _*_, _≤_, _<_}

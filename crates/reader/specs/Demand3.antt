@@ -1,5 +1,6 @@
 -- Demand 3 for the reader: document 01, "The lists of demand 3". One claim about a whole list of calls on a fresh reader and its line store.
--- "The words below go by the calls' arguments and answers, by nothing in the state.": what was fed, what was drawn and how far the steps are gone are functions of the list of events alone.
+-- "The words below go by the calls' arguments and answers, by nothing in the state.": what was fed, what was drawn and how far the steps are gone are functions
+-- of the list of events alone.
 use mathlib.Core.Path.{_≡_}
 use mathlib.Core.Logic.{_↔_}
 use mathlib.Core.Bool.{Bool, true, false}

@@ -50,9 +50,12 @@ module _ (g : Grid) (s : Reader) where
   set k = rowAt (s .height) (s .drawn) (suc k)
 
   pub record Holds (x : ℕ → ℤ) : Type 0 where
-    pub below : s .drawn < s .height → (k : ℕ) → k < s .levels → s .level ≤ k → SetLeaves k (size k (s .width)) (size k (s .height)) (part k) (set k) (from (stretchAt (s .width) k) x)
-    pub before : s .drawn < s .height → (k : ℕ) → k < s .levels → k < s .level → SetBefore (size k (s .width)) (size k (s .height)) (part k) (set k) (from (stretchAt (s .width) k) x)
-    pub got : s .drawn < s .height → (k : ℕ) → k < s .levels → suc k ≡ s .level → (c : Band) → keptAt (eqb (suc k) (s .levels)) c ≡ true → code c < s .band → BandStands (size k (s .width)) (size k (s .height)) (part k) (set k) (from (stretchAt (s .width) k) x) c
+    pub below : s .drawn < s .height → (k : ℕ) → k < s .levels → s .level ≤ k →
+        SetLeaves k (size k (s .width)) (size k (s .height)) (part k) (set k) (from (stretchAt (s .width) k) x)
+    pub before : s .drawn < s .height → (k : ℕ) → k < s .levels → k < s .level →
+        SetBefore (size k (s .width)) (size k (s .height)) (part k) (set k) (from (stretchAt (s .width) k) x)
+    pub got : s .drawn < s .height → (k : ℕ) → k < s .levels → suc k ≡ s .level → (c : Band) → keptAt (eqb (suc k) (s .levels)) c ≡ true → code c < s .band →
+        BandStands (size k (s .width)) (size k (s .height)) (part k) (set k) (from (stretchAt (s .width) k) x) c
 
   -- g is a grid of 32-bit numbers; it and its low-low parts below level L fit
   abbrev pub Words : Type 0
@@ -76,5 +79,6 @@ pub record FeedKeeps (s : Reader) (v x : ℕ → ℤ) (r : Reply Reader) (x′ :
 
 -- a draw gives g's row in the area z′, and goes on to hold g; 14 likewise
 pub record DrawKeeps (s : Reader) (x : ℕ → ℤ) (r : Reply Handed) (x′ z′ : ℕ → ℤ) : Type 0 where
-  pub passed : (n : ℕ) (t : Reader) → r ≡ gives (aRow n t) → (g : Grid) → Words g s → Holds g s x → Holds g t x′ × ((c : ℕ) → c < s .width → z′ c ≡ g (s .drawn) c)
+  pub passed : (n : ℕ) (t : Reader) → r ≡ gives (aRow n t) → (g : Grid) → Words g s → Holds g s x →
+      Holds g t x′ × ((c : ℕ) → c < s .width → z′ c ≡ g (s .drawn) c)
   pub ended : (t : Reader) → r ≡ impossible t → (g : Grid) → Words g s → Holds g s x → AllFit g s → ⊥

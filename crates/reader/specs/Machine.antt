@@ -1,5 +1,6 @@
 -- The reader's machine: which row is wanted, which sets are worked out on the way, and where the reader is after a row fed or drawn.
--- Where it is: `drawn` height rows are drawn; rows of `level` are collected (0: a height row can be drawn), and `band` is the code of the first band that may be next.
+-- Where it is: `drawn` height rows are drawn; rows of `level` are collected (0: a height row can be drawn), and `band` is the code of the first band that may
+-- be next.
 use mathlib.Core.Bool.{Bool}
 use Prim.Native.Nat.{ℕ, zero, suc, _+_}
 use lib.IntN.{ℤ}

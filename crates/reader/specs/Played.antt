@@ -1,5 +1,6 @@
 -- The reader fed and drawn as it wants, for the theorem that joins writer and reader.
--- Each band row that it names is fed as the run that `rows` has under that name, with that run's own length; each height row is drawn into an area of its own turn.
+-- Each band row that it names is fed as the run that `rows` has under that name, with that run's own length; each height row is drawn into an area of its own
+-- turn.
 -- `want` may be asked at any time and changes nothing, so it is no call of the list.
 use mathlib.Core.Path.{_≡_}
 use mathlib.Core.Bool.{true}

@@ -148,7 +148,10 @@ module _ (W L n : ℕ) (x : ℕ → ℤ) (cs : List writer.Call) (done : Finishe
   has-all : HasAll W (rowsWrote W L n x cs) L g rows
   has-all =
       let a = claim .all-drawn (done .finished) (done .none-waits) in
-      record { are = λ y e. found-right W (rowsWrote W L n x cs) g (writer.drawn es) (a .0) (a .1) values y (times-in y (a .0) (omega (arith, a .2 y ∙ ap (λ t. pick t 1 0) e))) }
+      record {
+        are = λ y e. found-right W (rowsWrote W L n x cs) g (writer.drawn es) (a .0) (a .1) values y
+            (times-in y (a .0) (omega (arith, a .2 y ∙ ap (λ t. pick t 1 0) e)));
+      }
     where
       values : All (HasValues W (rowsWrote W L n x cs) g) (writer.drawn es)
       values = subst (λ h. All (HasValues W h g) (writer.drawn es)) height (claim .values H g (written .2))
@@ -175,7 +178,8 @@ module _ (W L n : ℕ) (x : ℕ → ℤ) (cs : List writer.Call) (done : Finishe
       }
     where
       place : (r c : ℕ) → r < rowsWrote W L n x cs → c < W → r * W + c < length (writer.taken es)
-      place r c h k = let m : (r + 1) * W ≤ rowsWrote W L n x cs * W = mul-le-mul-right W (omega arith) in omega (arith, whole-map, mul-comm W (rowsWrote W L n x cs))
+      place r c h k = let m : (r + 1) * W ≤ rowsWrote W L n x cs * W = mul-le-mul-right W (omega arith) in
+          omega (arith, whole-map, mul-comm W (rowsWrote W L n x cs))
 
 -- ---- from a plane: its band rows are a map's exactly where the plane is
 module _ (W H L : ℕ) (plane : ℕ → ℤ) (g : Grid) where
@@ -192,7 +196,13 @@ module _ (W H L : ℕ) (plane : ℕ → ℤ) (g : Grid) where
 
   exists-if : (k : ℕ) (b : Band) (r c : ℕ) → Stands L W H k b r c → bandRowExists W H L k b r ≡ true
   unfolding bandRowExists within
-  exists-if k b r c s = rw (le-leb 1 k (s .deep), le-leb k L (s .most), kept-if k b (s .last), lt-ltb 0 (bandColumns W k b) (omega (arith, s .column)), lt-ltb r (bandRows H k b) (s .row)) refl
+  exists-if k b r c s = rw (
+    le-leb 1 k (s .deep),
+    le-leb k L (s .most),
+    kept-if k b (s .last),
+    lt-ltb 0 (bandColumns W k b) (omega (arith, s .column)),
+    lt-ltb r (bandRows H k b) (s .row),
+  ) refl
 
   stands-if : (k : ℕ) (b : Band) (r c : ℕ) → bandRowExists W H L k b r ≡ true → c < bandColumns W k b → Stands L W H k b r c
   unfolding bandRowExists within
@@ -210,7 +220,8 @@ module _ (W H L : ℕ) (plane : ℕ → ℤ) (g : Grid) where
       at : (r c : ℕ) → Found L W H r c → plane (r * W + c) ≡ planeCell whole L W H g r c
       at r c f =
           ap plane (sym (found-place L W H r c f))
-          ∙ h .are (record { level = f .level; band = f .band; row = f .row }) (exists-if (f .level) (f .band) (f .row) (f .column) (f .stands)) .values (f .column) (f .stands .column)
+          ∙ h .are (record { level = f .level; band = f .band; row = f .row }) (exists-if (f .level) (f .band) (f .row) (f .column) (f .stands)) .values
+          (f .column) (f .stands .column)
           ∙ sym (cell-places whole L W H g (f .level) (f .band) (f .row) (f .column) (f .stands))
           ∙ ap₂ (planeCell whole L W H g) (f .row-is) (f .column-is)
 

@@ -35,7 +35,8 @@ returns-4 c =
     let more = next .before in
     let live = more .before .before in
     let fit = live .before in
-    want-yes _ _ (sym (fit .before .counts-fit .ensures) ∙ not-false _ (fit .if1 .left)) (wants-draw _ (next .next-of .result) (next .next-of .ensures) (live .if2 .left) (omega arith) (c .if4 .taken))
+    want-yes _ _ (sym (fit .before .counts-fit .ensures) ∙ not-false _ (fit .if1 .left))
+    (wants-draw _ (next .next-of .result) (next .next-of .ensures) (live .if2 .left) (omega arith) (c .if4 .taken))
 
 row-number-requires : tie.Need-row-number-requires
 row-number-requires c κs =
@@ -56,7 +57,9 @@ returns-5 c =
     let more = next .before in
     let live = more .before .before in
     let fit = live .before in
-    want-yes _ _ (sym (fit .before .counts-fit .ensures) ∙ not-false _ (fit .if1 .left)) (wants-row _ (next .next-of .result) (next .next-of .ensures) (live .if2 .left) (omega arith) _ _ (omega arith) (number .row-number .ensures) (c .row-length .ensures))
+    want-yes _ _ (sym (fit .before .counts-fit .ensures) ∙ not-false _ (fit .if1 .left))
+    (wants-row _ (next .next-of .result) (next .next-of .ensures) (live .if2 .left) (omega arith) _ _ (omega arith) (number .row-number .ensures)
+    (c .row-length .ensures))
 
 pub want-spec : {M : Type 1} → statement M
 want-spec =

@@ -52,7 +52,8 @@ loop-again c =
 returns : tie.Need-returns Inv-loop μ-loop
 returns c =
     let fits = c .before .before .fits in
-    between-end _ _ _ _ _ _ _ _ (toZ-ofZ w32 _ (fits .low)) (toZ-ofZ w32 _ (fits .high)) (c .before .loop .inv .0) (c .loop-test .left) (c .before .loop .inv .1)
+    between-end _ _ _ _ _ _ _ _ (toZ-ofZ w32 _ (fits .low)) (toZ-ofZ w32 _ (fits .high)) (c .before .loop .inv .0) (c .loop-test .left)
+    (c .before .loop .inv .1)
 
 pub all-between-spec : {M : Type 1} → statement M
 all-between-spec =
