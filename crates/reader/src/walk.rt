@@ -1,4 +1,5 @@
-// The walk over the levels of a map of `width` × `height`, while row `drawn` is waited for: the stretch and the set of each level, the row wanted, the sets worked out on the way. The module is private, as `areas` is.
+// The walk over the levels of a map of `width` × `height`, while row `drawn` is waited for: the stretch and the set of each level, the row wanted, the sets
+// worked out on the way. The module is private, as `areas` is.
 use crate::areas;
 use crate::sets;
 use crate::work;
@@ -118,7 +119,8 @@ pub fn put_row(
     band: usize,
     run: &[i32],
 )
-    requires { ⌜ Shape width height drawn × (k < maxLevels) × (band < 4) × (storeLength width (k + 1) ≤ length (now store)) × (length (now run) ≡ count (across (named band)) (size k width)) ⌝ }
+    requires { ⌜ Shape width height drawn × (k < maxLevels) × (band < 4) × (storeLength width (k + 1) ≤ length (now store)) ×
+        (length (now run) ≡ count (across (named band)) (size k width)) ⌝ }
     ensures { λ _. ⌜ at (now (store .exit)) ≡ fedAt width height drawn k band (at (now (run .entry))) (at (now (store .entry))) ⌝ }
 {
     let l = level_at(width, height, drawn, k);

@@ -1,4 +1,5 @@
-// A set worked out in its level's stretch of the line store: four rows of w numbers, each in halves, row r in slot r mod 4. The module is private, as `areas` is.
+// A set worked out in its level's stretch of the line store: four rows of w numbers, each in halves, row r in slot r mod 4. The module is private, as `areas`
+// is.
 use crate::areas;
 use lifting::line;
 use lifting::rows;

@@ -24,8 +24,10 @@ pub extern "C" fn terrain_reader_set_up(
     store: &mut [i32],
 ) -> u32
     ensures { λ r. ⌜ r ≡ number (setUpReply width height levels (setUpQuestion width height levels (length (now (store .entry))))) ⌝ }
-    ensures { λ _. ⌜ now (state .exit) ≡ stateOf (setUpReply width height levels (setUpQuestion width height levels (length (now (store .entry))))) (now (state .entry)) ⌝ }
-    ensures { λ _. ⌜ at (now (store .exit)) ≡ setUpStore width levels (setUpQuestion width height levels (length (now (store .entry)))) (at (now (store .entry))) ⌝ }
+    ensures { λ _. ⌜ now (state .exit) ≡
+        stateOf (setUpReply width height levels (setUpQuestion width height levels (length (now (store .entry))))) (now (state .entry)) ⌝ }
+    ensures { λ _. ⌜ at (now (store .exit)) ≡
+        setUpStore width levels (setUpQuestion width height levels (length (now (store .entry)))) (at (now (store .entry))) ⌝ }
 {
     match Reader::set_up(width, height, levels, store) {
         SetUp::Ready(r) => {
@@ -70,9 +72,15 @@ pub extern "C" fn terrain_reader_want(state: &[u64; 16], want: &mut [u64; 5]) ->
 // A band row fed. The questions are 1, 5, 9, 8, 13, 7 and 14; 14 leaves the ended reader.
 #[no_mangle]
 pub extern "C" fn terrain_reader_feed(state: &mut [u64; 16], store: &mut [i32], run: &[i32]) -> u32
-    ensures { λ r. ⌜ r ≡ number (feeding (now (state .entry)) (length (now (store .entry))) (at (now (store .entry))) (length (now (run .entry))) (at (now (run .entry)))) ⌝ }
-    ensures { λ _. ⌜ now (state .exit) ≡ stateOf (feeding (now (state .entry)) (length (now (store .entry))) (at (now (store .entry))) (length (now (run .entry))) (at (now (run .entry)))) (now (state .entry)) ⌝ }
-    ensures { λ _. ⌜ at (now (store .exit)) ≡ feedingStore (now (state .entry)) (length (now (store .entry))) (at (now (store .entry))) (length (now (run .entry))) (at (now (run .entry))) ⌝ }
+    ensures { λ r. ⌜ r ≡
+        number
+        (feeding (now (state .entry)) (length (now (store .entry))) (at (now (store .entry))) (length (now (run .entry))) (at (now (run .entry)))) ⌝ }
+    ensures { λ _. ⌜ now (state .exit) ≡
+        stateOf
+        (feeding (now (state .entry)) (length (now (store .entry))) (at (now (store .entry))) (length (now (run .entry)))
+        (at (now (run .entry)))) (now (state .entry)) ⌝ }
+    ensures { λ _. ⌜ at (now (store .exit)) ≡
+        feedingStore (now (state .entry)) (length (now (store .entry))) (at (now (store .entry))) (length (now (run .entry))) (at (now (run .entry))) ⌝ }
 {
     if !reader_state::is_reader(state) {
         return 1;
@@ -100,10 +108,16 @@ pub extern "C" fn terrain_reader_draw(
     drawn: &mut usize,
 ) -> u32
     ensures { λ r. ⌜ r ≡ number (drawing (now (state .entry)) (length (now (store .entry))) (at (now (store .entry))) (length (now (out .entry)))) ⌝ }
-    ensures { λ _. ⌜ now (state .exit) ≡ stateDrawn (drawing (now (state .entry)) (length (now (store .entry))) (at (now (store .entry))) (length (now (out .entry)))) (now (state .entry)) ⌝ }
-    ensures { λ _. ⌜ at (now (store .exit)) ≡ drawingStore (now (state .entry)) (length (now (store .entry))) (at (now (store .entry))) (length (now (out .entry))) ⌝ }
-    ensures { λ _. ⌜ heightsAt (now (out .exit)) ≡ drawingArea (now (state .entry)) (length (now (store .entry))) (at (now (store .entry))) (length (now (out .entry))) (heightsAt (now (out .entry))) ⌝ }
-    ensures { λ _. ⌜ now (drawn .exit) ≡ countOf (drawing (now (state .entry)) (length (now (store .entry))) (at (now (store .entry))) (length (now (out .entry)))) (now (drawn .entry)) ⌝ }
+    ensures { λ _. ⌜ now (state .exit) ≡
+        stateDrawn (drawing (now (state .entry)) (length (now (store .entry))) (at (now (store .entry))) (length (now (out .entry))))
+        (now (state .entry)) ⌝ }
+    ensures { λ _. ⌜ at (now (store .exit)) ≡
+        drawingStore (now (state .entry)) (length (now (store .entry))) (at (now (store .entry))) (length (now (out .entry))) ⌝ }
+    ensures { λ _. ⌜ heightsAt (now (out .exit)) ≡
+        drawingArea (now (state .entry)) (length (now (store .entry))) (at (now (store .entry))) (length (now (out .entry)))
+        (heightsAt (now (out .entry))) ⌝ }
+    ensures { λ _. ⌜ now (drawn .exit) ≡
+        countOf (drawing (now (state .entry)) (length (now (store .entry))) (at (now (store .entry))) (length (now (out .entry)))) (now (drawn .entry)) ⌝ }
 {
     if !reader_state::is_reader(state) {
         return 1;

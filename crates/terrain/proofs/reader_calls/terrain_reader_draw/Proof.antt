@@ -21,7 +21,8 @@ returns : tie.Need-returns
 returns c =
     let i = c .before in
     let a = i .before .before .before .args in
-    let e : drawing (a .state .now) (length (a .store .now)) (at (a .store .now)) (length (a .out .now)) ≡ refused 1 = turned (isReader (a .state .now)) (i .is-reader .result) (i .is-reader .ensures) _ _ (c .if1 .taken) in (
+    let e : drawing (a .state .now) (length (a .store .now)) (at (a .store .now)) (length (a .out .now)) ≡ refused 1 =
+    turned (isReader (a .state .now)) (i .is-reader .result) (i .is-reader .ensures) _ _ (c .if1 .taken) in (
       sym (ap number e),
       (
         sym (ap (λ (q : Reply Handed). stateDrawn q (a .state .now)) e),
@@ -74,14 +75,23 @@ returns-2 c =
     let u = o .before .before .before .before .before in
     let i = u .before .before .before in
     let a = i .before .before .before .args in
-    let e = went (isReader (a .state .now)) (i .is-reader .result) (i .is-reader .ensures) (λ (r : Reader). drawReply r (drawQuestion r (length (a .store .now)) (at (a .store .now)) (length (a .out .now)))) (readerOf (a .state .now)) (u .unpack-reader .result) (refused 1) _ (u .before .before .if1 .left) (u .unpack-reader .ensures) (o .before .before .draw .ensures .0) ∙ ap ofDrawn (c .before .before .before .n .given .1) in (
+    let e = went (isReader (a .state .now)) (i .is-reader .result) (i .is-reader .ensures)
+    (λ (r : Reader). drawReply r (drawQuestion r (length (a .store .now)) (at (a .store .now)) (length (a .out .now)))) (readerOf (a .state .now))
+    (u .unpack-reader .result) (refused 1) _ (u .before .before .if1 .left) (u .unpack-reader .ensures) (o .before .before .draw .ensures .0)
+    ∙ ap ofDrawn (c .before .before .before .n .given .1) in (
       sym (ap number e),
       (
         c .pack-reader .ensures ∙ sym (ap (λ (q : Reply Handed). stateDrawn q (a .state .now)) e),
         (
-          sym (went (isReader (a .state .now)) (i .is-reader .result) (i .is-reader .ensures) (λ (r : Reader). drawStore r (drawQuestion r (length (a .store .now)) (at (a .store .now)) (length (a .out .now))) (at (a .store .now))) (readerOf (a .state .now)) (u .unpack-reader .result) (at (a .store .now)) _ (u .before .before .if1 .left) (u .unpack-reader .ensures) (o .before .before .draw .ensures .1 .0)),
+          sym (went (isReader (a .state .now)) (i .is-reader .result) (i .is-reader .ensures)
+              (λ (r : Reader). drawStore r (drawQuestion r (length (a .store .now)) (at (a .store .now)) (length (a .out .now))) (at (a .store .now)))
+              (readerOf (a .state .now)) (u .unpack-reader .result) (at (a .store .now)) _ (u .before .before .if1 .left) (u .unpack-reader .ensures)
+              (o .before .before .draw .ensures .1 .0)),
           (
-            sym (went (isReader (a .state .now)) (i .is-reader .result) (i .is-reader .ensures) (λ (r : Reader). drawArea r (drawQuestion r (length (a .store .now)) (at (a .store .now)) (length (a .out .now))) (at (a .store .now)) (heightsAt (a .out .now))) (readerOf (a .state .now)) (u .unpack-reader .result) (heightsAt (a .out .now)) _ (u .before .before .if1 .left) (u .unpack-reader .ensures) (o .before .before .draw .ensures .1 .1 .0)),
+            sym (went (isReader (a .state .now)) (i .is-reader .result) (i .is-reader .ensures)
+                (λ (r : Reader). drawArea r (drawQuestion r (length (a .store .now)) (at (a .store .now)) (length (a .out .now))) (at (a .store .now))
+                (heightsAt (a .out .now))) (readerOf (a .state .now)) (u .unpack-reader .result) (heightsAt (a .out .now)) _ (u .before .before .if1 .left)
+                (u .unpack-reader .ensures) (o .before .before .draw .ensures .1 .1 .0)),
             sym (ap (λ (q : Reply Handed). countOf q (a .drawn .now)) e),
           ),
         ),
@@ -100,14 +110,23 @@ returns-3 c =
     let u = o .before .before .before .before .before in
     let i = u .before .before .before in
     let a = i .before .before .before .args in
-    let e = went (isReader (a .state .now)) (i .is-reader .result) (i .is-reader .ensures) (λ (r : Reader). drawReply r (drawQuestion r (length (a .store .now)) (at (a .store .now)) (length (a .out .now)))) (readerOf (a .state .now)) (u .unpack-reader .result) (refused 1) _ (u .before .before .if1 .left) (u .unpack-reader .ensures) (o .before .before .draw .ensures .0) ∙ ap ofDrawn (c .enum-told .given .1) in (
+    let e = went (isReader (a .state .now)) (i .is-reader .result) (i .is-reader .ensures)
+    (λ (r : Reader). drawReply r (drawQuestion r (length (a .store .now)) (at (a .store .now)) (length (a .out .now)))) (readerOf (a .state .now))
+    (u .unpack-reader .result) (refused 1) _ (u .before .before .if1 .left) (u .unpack-reader .ensures) (o .before .before .draw .ensures .0)
+    ∙ ap ofDrawn (c .enum-told .given .1) in (
       sym (ap number e),
       (
         sym (ap (λ (q : Reply Handed). stateDrawn q (a .state .now)) e),
         (
-          sym (went (isReader (a .state .now)) (i .is-reader .result) (i .is-reader .ensures) (λ (r : Reader). drawStore r (drawQuestion r (length (a .store .now)) (at (a .store .now)) (length (a .out .now))) (at (a .store .now))) (readerOf (a .state .now)) (u .unpack-reader .result) (at (a .store .now)) _ (u .before .before .if1 .left) (u .unpack-reader .ensures) (o .before .before .draw .ensures .1 .0)),
+          sym (went (isReader (a .state .now)) (i .is-reader .result) (i .is-reader .ensures)
+              (λ (r : Reader). drawStore r (drawQuestion r (length (a .store .now)) (at (a .store .now)) (length (a .out .now))) (at (a .store .now)))
+              (readerOf (a .state .now)) (u .unpack-reader .result) (at (a .store .now)) _ (u .before .before .if1 .left) (u .unpack-reader .ensures)
+              (o .before .before .draw .ensures .1 .0)),
           (
-            sym (went (isReader (a .state .now)) (i .is-reader .result) (i .is-reader .ensures) (λ (r : Reader). drawArea r (drawQuestion r (length (a .store .now)) (at (a .store .now)) (length (a .out .now))) (at (a .store .now)) (heightsAt (a .out .now))) (readerOf (a .state .now)) (u .unpack-reader .result) (heightsAt (a .out .now)) _ (u .before .before .if1 .left) (u .unpack-reader .ensures) (o .before .before .draw .ensures .1 .1 .0)),
+            sym (went (isReader (a .state .now)) (i .is-reader .result) (i .is-reader .ensures)
+                (λ (r : Reader). drawArea r (drawQuestion r (length (a .store .now)) (at (a .store .now)) (length (a .out .now))) (at (a .store .now))
+                (heightsAt (a .out .now))) (readerOf (a .state .now)) (u .unpack-reader .result) (heightsAt (a .out .now)) _ (u .before .before .if1 .left)
+                (u .unpack-reader .ensures) (o .before .before .draw .ensures .1 .1 .0)),
             sym (ap (λ (q : Reply Handed). countOf q (a .drawn .now)) e),
           ),
         ),
@@ -126,14 +145,23 @@ returns-4 c =
     let u = o .before .before .before .before .before in
     let i = u .before .before .before in
     let a = i .before .before .before .args in
-    let e = went (isReader (a .state .now)) (i .is-reader .result) (i .is-reader .ensures) (λ (r : Reader). drawReply r (drawQuestion r (length (a .store .now)) (at (a .store .now)) (length (a .out .now)))) (readerOf (a .state .now)) (u .unpack-reader .result) (refused 1) _ (u .before .before .if1 .left) (u .unpack-reader .ensures) (o .before .before .draw .ensures .0) ∙ ap ofDrawn (c .before .before .before .next .given .1) in (
+    let e = went (isReader (a .state .now)) (i .is-reader .result) (i .is-reader .ensures)
+    (λ (r : Reader). drawReply r (drawQuestion r (length (a .store .now)) (at (a .store .now)) (length (a .out .now)))) (readerOf (a .state .now))
+    (u .unpack-reader .result) (refused 1) _ (u .before .before .if1 .left) (u .unpack-reader .ensures) (o .before .before .draw .ensures .0)
+    ∙ ap ofDrawn (c .before .before .before .next .given .1) in (
       sym (ap number e),
       (
         c .pack-reader2 .ensures ∙ sym (ap (λ (q : Reply Handed). stateDrawn q (a .state .now)) e),
         (
-          sym (went (isReader (a .state .now)) (i .is-reader .result) (i .is-reader .ensures) (λ (r : Reader). drawStore r (drawQuestion r (length (a .store .now)) (at (a .store .now)) (length (a .out .now))) (at (a .store .now))) (readerOf (a .state .now)) (u .unpack-reader .result) (at (a .store .now)) _ (u .before .before .if1 .left) (u .unpack-reader .ensures) (o .before .before .draw .ensures .1 .0)),
+          sym (went (isReader (a .state .now)) (i .is-reader .result) (i .is-reader .ensures)
+              (λ (r : Reader). drawStore r (drawQuestion r (length (a .store .now)) (at (a .store .now)) (length (a .out .now))) (at (a .store .now)))
+              (readerOf (a .state .now)) (u .unpack-reader .result) (at (a .store .now)) _ (u .before .before .if1 .left) (u .unpack-reader .ensures)
+              (o .before .before .draw .ensures .1 .0)),
           (
-            sym (went (isReader (a .state .now)) (i .is-reader .result) (i .is-reader .ensures) (λ (r : Reader). drawArea r (drawQuestion r (length (a .store .now)) (at (a .store .now)) (length (a .out .now))) (at (a .store .now)) (heightsAt (a .out .now))) (readerOf (a .state .now)) (u .unpack-reader .result) (heightsAt (a .out .now)) _ (u .before .before .if1 .left) (u .unpack-reader .ensures) (o .before .before .draw .ensures .1 .1 .0)),
+            sym (went (isReader (a .state .now)) (i .is-reader .result) (i .is-reader .ensures)
+                (λ (r : Reader). drawArea r (drawQuestion r (length (a .store .now)) (at (a .store .now)) (length (a .out .now))) (at (a .store .now))
+                (heightsAt (a .out .now))) (readerOf (a .state .now)) (u .unpack-reader .result) (heightsAt (a .out .now)) _ (u .before .before .if1 .left)
+                (u .unpack-reader .ensures) (o .before .before .draw .ensures .1 .1 .0)),
             sym (ap (λ (q : Reply Handed). countOf q (a .drawn .now)) e),
           ),
         ),
@@ -152,14 +180,23 @@ returns-5 c =
     let u = o .before .before .before .before .before in
     let i = u .before .before .before in
     let a = i .before .before .before .args in
-    let e = went (isReader (a .state .now)) (i .is-reader .result) (i .is-reader .ensures) (λ (r : Reader). drawReply r (drawQuestion r (length (a .store .now)) (at (a .store .now)) (length (a .out .now)))) (readerOf (a .state .now)) (u .unpack-reader .result) (refused 1) _ (u .before .before .if1 .left) (u .unpack-reader .ensures) (o .before .before .draw .ensures .0) ∙ ap ofDrawn (c .before .no .given .1) in (
+    let e = went (isReader (a .state .now)) (i .is-reader .result) (i .is-reader .ensures)
+    (λ (r : Reader). drawReply r (drawQuestion r (length (a .store .now)) (at (a .store .now)) (length (a .out .now)))) (readerOf (a .state .now))
+    (u .unpack-reader .result) (refused 1) _ (u .before .before .if1 .left) (u .unpack-reader .ensures) (o .before .before .draw .ensures .0)
+    ∙ ap ofDrawn (c .before .no .given .1) in (
       sym (ap number e),
       (
         sym (ap (λ (q : Reply Handed). stateDrawn q (a .state .now)) e),
         (
-          sym (went (isReader (a .state .now)) (i .is-reader .result) (i .is-reader .ensures) (λ (r : Reader). drawStore r (drawQuestion r (length (a .store .now)) (at (a .store .now)) (length (a .out .now))) (at (a .store .now))) (readerOf (a .state .now)) (u .unpack-reader .result) (at (a .store .now)) _ (u .before .before .if1 .left) (u .unpack-reader .ensures) (o .before .before .draw .ensures .1 .0)),
+          sym (went (isReader (a .state .now)) (i .is-reader .result) (i .is-reader .ensures)
+              (λ (r : Reader). drawStore r (drawQuestion r (length (a .store .now)) (at (a .store .now)) (length (a .out .now))) (at (a .store .now)))
+              (readerOf (a .state .now)) (u .unpack-reader .result) (at (a .store .now)) _ (u .before .before .if1 .left) (u .unpack-reader .ensures)
+              (o .before .before .draw .ensures .1 .0)),
           (
-            sym (went (isReader (a .state .now)) (i .is-reader .result) (i .is-reader .ensures) (λ (r : Reader). drawArea r (drawQuestion r (length (a .store .now)) (at (a .store .now)) (length (a .out .now))) (at (a .store .now)) (heightsAt (a .out .now))) (readerOf (a .state .now)) (u .unpack-reader .result) (heightsAt (a .out .now)) _ (u .before .before .if1 .left) (u .unpack-reader .ensures) (o .before .before .draw .ensures .1 .1 .0)),
+            sym (went (isReader (a .state .now)) (i .is-reader .result) (i .is-reader .ensures)
+                (λ (r : Reader). drawArea r (drawQuestion r (length (a .store .now)) (at (a .store .now)) (length (a .out .now))) (at (a .store .now))
+                (heightsAt (a .out .now))) (readerOf (a .state .now)) (u .unpack-reader .result) (heightsAt (a .out .now)) _ (u .before .before .if1 .left)
+                (u .unpack-reader .ensures) (o .before .before .draw .ensures .1 .1 .0)),
             sym (ap (λ (q : Reply Handed). countOf q (a .drawn .now)) e),
           ),
         ),

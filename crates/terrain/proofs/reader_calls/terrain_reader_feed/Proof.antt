@@ -20,7 +20,8 @@ returns : tie.Need-returns
 returns c =
     let i = c .before in
     let a = i .before .before .args in
-    let e : feeding (a .state .now) (length (a .store .now)) (at (a .store .now)) (length (a .run .now)) (at (a .run .now)) ≡ refused 1 = turned (isReader (a .state .now)) (i .is-reader .result) (i .is-reader .ensures) _ _ (c .if1 .taken) in (
+    let e : feeding (a .state .now) (length (a .store .now)) (at (a .store .now)) (length (a .run .now)) (at (a .run .now)) ≡ refused 1 =
+    turned (isReader (a .state .now)) (i .is-reader .result) (i .is-reader .ensures) _ _ (c .if1 .taken) in (
       sym (ap number e),
       (
         sym (ap (λ (q : Reply Reader). stateOf q (a .state .now)) e),
@@ -61,11 +62,17 @@ returns-2 c =
     let u = o .before .before .before in
     let i = u .before .before .before in
     let a = i .before .before .args in
-    let e = went (isReader (a .state .now)) (i .is-reader .result) (i .is-reader .ensures) (λ (r : Reader). feedReply r (feedQuestion r (length (a .store .now)) (at (a .store .now)) (length (a .run .now)) (at (a .run .now)))) (readerOf (a .state .now)) (u .unpack-reader .result) (refused 1) _ (u .before .before .if1 .left) (u .unpack-reader .ensures) (o .before .feed .ensures .0) ∙ ap ofFed (c .before .before .before .next .given .1) in (
+    let e = went (isReader (a .state .now)) (i .is-reader .result) (i .is-reader .ensures)
+    (λ (r : Reader). feedReply r (feedQuestion r (length (a .store .now)) (at (a .store .now)) (length (a .run .now)) (at (a .run .now))))
+    (readerOf (a .state .now)) (u .unpack-reader .result) (refused 1) _ (u .before .before .if1 .left) (u .unpack-reader .ensures)
+    (o .before .feed .ensures .0) ∙ ap ofFed (c .before .before .before .next .given .1) in (
       sym (ap number e),
       (
         c .pack-reader .ensures ∙ sym (ap (λ (q : Reply Reader). stateOf q (a .state .now)) e),
-        sym (went (isReader (a .state .now)) (i .is-reader .result) (i .is-reader .ensures) (λ (r : Reader). feedStore r (feedQuestion r (length (a .store .now)) (at (a .store .now)) (length (a .run .now)) (at (a .run .now))) (at (a .run .now)) (at (a .store .now))) (readerOf (a .state .now)) (u .unpack-reader .result) (at (a .store .now)) _ (u .before .before .if1 .left) (u .unpack-reader .ensures) (o .before .feed .ensures .1 .0)),
+        sym (went (isReader (a .state .now)) (i .is-reader .result) (i .is-reader .ensures)
+            (λ (r : Reader). feedStore r (feedQuestion r (length (a .store .now)) (at (a .store .now)) (length (a .run .now)) (at (a .run .now)))
+            (at (a .run .now)) (at (a .store .now))) (readerOf (a .state .now)) (u .unpack-reader .result) (at (a .store .now)) _
+            (u .before .before .if1 .left) (u .unpack-reader .ensures) (o .before .feed .ensures .1 .0)),
       ),
     )
 
@@ -78,11 +85,17 @@ returns-3 c =
     let u = o .before .before .before in
     let i = u .before .before .before in
     let a = i .before .before .args in
-    let e = went (isReader (a .state .now)) (i .is-reader .result) (i .is-reader .ensures) (λ (r : Reader). feedReply r (feedQuestion r (length (a .store .now)) (at (a .store .now)) (length (a .run .now)) (at (a .run .now)))) (readerOf (a .state .now)) (u .unpack-reader .result) (refused 1) _ (u .before .before .if1 .left) (u .unpack-reader .ensures) (o .before .feed .ensures .0) ∙ ap ofFed (c .before .before .before .next2 .given .1) in (
+    let e = went (isReader (a .state .now)) (i .is-reader .result) (i .is-reader .ensures)
+    (λ (r : Reader). feedReply r (feedQuestion r (length (a .store .now)) (at (a .store .now)) (length (a .run .now)) (at (a .run .now))))
+    (readerOf (a .state .now)) (u .unpack-reader .result) (refused 1) _ (u .before .before .if1 .left) (u .unpack-reader .ensures)
+    (o .before .feed .ensures .0) ∙ ap ofFed (c .before .before .before .next2 .given .1) in (
       sym (ap number e),
       (
         c .pack-reader2 .ensures ∙ sym (ap (λ (q : Reply Reader). stateOf q (a .state .now)) e),
-        sym (went (isReader (a .state .now)) (i .is-reader .result) (i .is-reader .ensures) (λ (r : Reader). feedStore r (feedQuestion r (length (a .store .now)) (at (a .store .now)) (length (a .run .now)) (at (a .run .now))) (at (a .run .now)) (at (a .store .now))) (readerOf (a .state .now)) (u .unpack-reader .result) (at (a .store .now)) _ (u .before .before .if1 .left) (u .unpack-reader .ensures) (o .before .feed .ensures .1 .0)),
+        sym (went (isReader (a .state .now)) (i .is-reader .result) (i .is-reader .ensures)
+            (λ (r : Reader). feedStore r (feedQuestion r (length (a .store .now)) (at (a .store .now)) (length (a .run .now)) (at (a .run .now)))
+            (at (a .run .now)) (at (a .store .now))) (readerOf (a .state .now)) (u .unpack-reader .result) (at (a .store .now)) _
+            (u .before .before .if1 .left) (u .unpack-reader .ensures) (o .before .feed .ensures .1 .0)),
       ),
     )
 
@@ -95,11 +108,17 @@ returns-4 c =
     let u = o .before .before .before in
     let i = u .before .before .before in
     let a = i .before .before .args in
-    let e = went (isReader (a .state .now)) (i .is-reader .result) (i .is-reader .ensures) (λ (r : Reader). feedReply r (feedQuestion r (length (a .store .now)) (at (a .store .now)) (length (a .run .now)) (at (a .run .now)))) (readerOf (a .state .now)) (u .unpack-reader .result) (refused 1) _ (u .before .before .if1 .left) (u .unpack-reader .ensures) (o .before .feed .ensures .0) ∙ ap ofFed (c .before .no .given .1) in (
+    let e = went (isReader (a .state .now)) (i .is-reader .result) (i .is-reader .ensures)
+    (λ (r : Reader). feedReply r (feedQuestion r (length (a .store .now)) (at (a .store .now)) (length (a .run .now)) (at (a .run .now))))
+    (readerOf (a .state .now)) (u .unpack-reader .result) (refused 1) _ (u .before .before .if1 .left) (u .unpack-reader .ensures)
+    (o .before .feed .ensures .0) ∙ ap ofFed (c .before .no .given .1) in (
       sym (ap number e),
       (
         sym (ap (λ (q : Reply Reader). stateOf q (a .state .now)) e),
-        sym (went (isReader (a .state .now)) (i .is-reader .result) (i .is-reader .ensures) (λ (r : Reader). feedStore r (feedQuestion r (length (a .store .now)) (at (a .store .now)) (length (a .run .now)) (at (a .run .now))) (at (a .run .now)) (at (a .store .now))) (readerOf (a .state .now)) (u .unpack-reader .result) (at (a .store .now)) _ (u .before .before .if1 .left) (u .unpack-reader .ensures) (o .before .feed .ensures .1 .0)),
+        sym (went (isReader (a .state .now)) (i .is-reader .result) (i .is-reader .ensures)
+            (λ (r : Reader). feedStore r (feedQuestion r (length (a .store .now)) (at (a .store .now)) (length (a .run .now)) (at (a .run .now)))
+            (at (a .run .now)) (at (a .store .now))) (readerOf (a .state .now)) (u .unpack-reader .result) (at (a .store .now)) _
+            (u .before .before .if1 .left) (u .unpack-reader .ensures) (o .before .feed .ensures .1 .0)),
       ),
     )
 

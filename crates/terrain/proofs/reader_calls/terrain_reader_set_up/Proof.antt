@@ -33,7 +33,8 @@ returns : tie.Need-returns
 returns c =
     let o = c .before .before .before .before .before in
     let a = o .before .before .before .args in
-    let e : setUpReply (a .width) (a .height) (a .levels) (setUpQuestion (a .width) (a .height) (a .levels) (length (a .store .now))) ≡ _ = sym (o .before .set-up .ensures .0) ∙ ap ofSetUp (c .before .before .before .r .given .1) in (
+    let e : setUpReply (a .width) (a .height) (a .levels) (setUpQuestion (a .width) (a .height) (a .levels) (length (a .store .now))) ≡ _ =
+    sym (o .before .set-up .ensures .0) ∙ ap ofSetUp (c .before .before .before .r .given .1) in (
       sym (ap number e),
       (
         c .pack-reader .ensures ∙ sym (ap (λ (q : Reply Reader). stateOf q (a .state .now)) e),
@@ -48,7 +49,8 @@ returns-2 : tie.Need-returns-2
 returns-2 c =
     let o = c .before .before .before in
     let a = o .before .before .before .args in
-    let e : setUpReply (a .width) (a .height) (a .levels) (setUpQuestion (a .width) (a .height) (a .levels) (length (a .store .now))) ≡ _ = sym (o .before .set-up .ensures .0) ∙ ap ofSetUp (c .before .no .given .1) in (
+    let e : setUpReply (a .width) (a .height) (a .levels) (setUpQuestion (a .width) (a .height) (a .levels) (length (a .store .now))) ≡ _ =
+    sym (o .before .set-up .ensures .0) ∙ ap ofSetUp (c .before .no .given .1) in (
       sym (ap number e),
       (
         sym (ap (λ (q : Reply Reader). stateOf q (a .state .now)) e),

@@ -55,7 +55,9 @@ returns-2 c =
     let u = o .before in
     let i = u .before .before in
     let a = i .before .args in
-    let e = went (isReader (a .state .now)) (i .is-reader .result) (i .is-reader .ensures) (λ (r : Reader). wantReply r (wantQuestion r)) (readerOf (a .state .now)) (u .unpack-reader .result) (refused 1) _ (u .before .if1 .left) (u .unpack-reader .ensures) (o .want .ensures) ∙ ap ofWanted (c .before .before .level .given .1) in (
+    let e = went (isReader (a .state .now)) (i .is-reader .result) (i .is-reader .ensures) (λ (r : Reader). wantReply r (wantQuestion r))
+    (readerOf (a .state .now)) (u .unpack-reader .result) (refused 1) _ (u .before .if1 .left) (u .unpack-reader .ensures) (o .want .ensures)
+    ∙ ap ofWanted (c .before .before .level .given .1) in (
       sym (ap number e),
       sym (ap (λ (q : Reply Want). wantOf q (a .want .now)) e),
     )
@@ -66,7 +68,9 @@ returns-3 c =
     let u = o .before in
     let i = u .before .before in
     let a = i .before .args in
-    let e = went (isReader (a .state .now)) (i .is-reader .result) (i .is-reader .ensures) (λ (r : Reader). wantReply r (wantQuestion r)) (readerOf (a .state .now)) (u .unpack-reader .result) (refused 1) _ (u .before .if1 .left) (u .unpack-reader .ensures) (o .want .ensures) ∙ ap ofWanted (c .before .enum-told .given .1) in (
+    let e = went (isReader (a .state .now)) (i .is-reader .result) (i .is-reader .ensures) (λ (r : Reader). wantReply r (wantQuestion r))
+    (readerOf (a .state .now)) (u .unpack-reader .result) (refused 1) _ (u .before .if1 .left) (u .unpack-reader .ensures) (o .want .ensures)
+    ∙ ap ofWanted (c .before .enum-told .given .1) in (
       sym (ap number e),
       sym (ap (λ (q : Reply Want). wantOf q (a .want .now)) e),
     )
@@ -77,7 +81,9 @@ returns-4 c =
     let u = o .before in
     let i = u .before .before in
     let a = i .before .args in
-    let e = went (isReader (a .state .now)) (i .is-reader .result) (i .is-reader .ensures) (λ (r : Reader). wantReply r (wantQuestion r)) (readerOf (a .state .now)) (u .unpack-reader .result) (refused 1) _ (u .before .if1 .left) (u .unpack-reader .ensures) (o .want .ensures) ∙ ap ofWanted (c .before .enum-told2 .given .1) in (
+    let e = went (isReader (a .state .now)) (i .is-reader .result) (i .is-reader .ensures) (λ (r : Reader). wantReply r (wantQuestion r))
+    (readerOf (a .state .now)) (u .unpack-reader .result) (refused 1) _ (u .before .if1 .left) (u .unpack-reader .ensures) (o .want .ensures)
+    ∙ ap ofWanted (c .before .enum-told2 .given .1) in (
       sym (ap number e),
       sym (ap (λ (q : Reply Want). wantOf q (a .want .now)) e),
     )
@@ -88,7 +94,9 @@ returns-5 c =
     let u = o .before in
     let i = u .before .before in
     let a = i .before .args in
-    let e = went (isReader (a .state .now)) (i .is-reader .result) (i .is-reader .ensures) (λ (r : Reader). wantReply r (wantQuestion r)) (readerOf (a .state .now)) (u .unpack-reader .result) (refused 1) _ (u .before .if1 .left) (u .unpack-reader .ensures) (o .want .ensures) ∙ ap ofWanted (c .before .enum-told3 .given .1) in (
+    let e = went (isReader (a .state .now)) (i .is-reader .result) (i .is-reader .ensures) (λ (r : Reader). wantReply r (wantQuestion r))
+    (readerOf (a .state .now)) (u .unpack-reader .result) (refused 1) _ (u .before .if1 .left) (u .unpack-reader .ensures) (o .want .ensures)
+    ∙ ap ofWanted (c .before .enum-told3 .given .1) in (
       sym (ap number e),
       sym (ap (λ (q : Reply Want). wantOf q (a .want .now)) e),
     )
@@ -99,7 +107,9 @@ returns-6 c =
     let u = o .before in
     let i = u .before .before in
     let a = i .before .args in
-    let e = went (isReader (a .state .now)) (i .is-reader .result) (i .is-reader .ensures) (λ (r : Reader). wantReply r (wantQuestion r)) (readerOf (a .state .now)) (u .unpack-reader .result) (refused 1) _ (u .before .if1 .left) (u .unpack-reader .ensures) (o .want .ensures) ∙ ap ofWanted (c .before .no .given .1) in (
+    let e = went (isReader (a .state .now)) (i .is-reader .result) (i .is-reader .ensures) (λ (r : Reader). wantReply r (wantQuestion r))
+    (readerOf (a .state .now)) (u .unpack-reader .result) (refused 1) _ (u .before .if1 .left) (u .unpack-reader .ensures) (o .want .ensures)
+    ∙ ap ofWanted (c .before .no .given .1) in (
       sym (ap number e),
       sym (ap (λ (q : Reply Want). wantOf q (a .want .now)) e),
     )
