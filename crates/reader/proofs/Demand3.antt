@@ -40,7 +40,7 @@ use Rattle.reader.specs.Questions.{countsFit, setUpQuestion, feedQuestio
 use Rattle.reader.specs.Calls.{fresh, feedReply, drawReply, drawArea}
 use Rattle.reader.specs.Demand3.{Area, Call, want, feed, draw, Reply, gives, refused, Given, heights, nothing, Event, wanted, fed, drew, said, given}
 use Rattle.reader.specs.Demand3.{World, event, events, final, freshWorld, leftBy, left, ends, endedBy, FedRow, fedBy, fedRows, drawnBy, drawnRows, All}
-use Rattle.reader.specs.Demand3.{none, more, HasRow, FirstRows, AllDrawn, IsWordRow, SetsFit, goesOnSet, workedAbove, wantSays, feedTurned, drawSays}
+use Rattle.reader.specs.Demand3.{none, more, HasRow, FirstRows, IsWordRow, SetsFit, goesOnSet, workedAbove, wantSays, feedTurned, drawSays}
 use Rattle.reader.specs.Demand3.{OneOf, this, that, written, Draws, Demand3, OfCalls}
 use Rattle.reader.specs.Demand3 as demand
 use Rattle.reader.proofs.StepsLeft.{stepsLeft, left-first}
@@ -520,9 +520,11 @@ module _ (W H l n : ℕ) (lim : Limits W H l n) where
       feeds-on = feed-on d lev b e x t fs ds kept;
       draws = draw-is d lev b e x t fs ds kept;
       first = λ g has. first-rows d lev b e x t fs ds kept g (has .map) (has .rows);
-      feed-works = λ a y t′ first passes g has. subst (λ i. SetsFit W H (suc l) g i (workedAbove y t′)) (sym (kept .drawn))
-          (feed-works-here d lev b e x t fs ds kept a y t′ first passes g has);
-      draw-works = λ a z passes g has. subst (λ i. SetsFit W H (suc l) g i 0) (sym (kept .drawn)) (draw-works-here d lev b e x t fs ds kept a z passes g has);
+      feed-works = λ a y t′ goes g has.
+          subst (λ i. SetsFit W H (suc l) g i (workedAbove y t′)) (sym (kept .drawn))
+          (feed-works-here d lev b e x t fs ds kept a y t′ (goes .next) (goes .passes) g has);
+      draw-works = λ a z passes g has.
+          subst (λ i. SetsFit W H (suc l) g i 0) (sym (kept .drawn)) (draw-works-here d lev b e x t fs ds kept a z passes g has);
       impossible = λ z g has. none-has d lev b e x t fs ds kept z g (has .map) (has .rows);
       finished = (
         λ z. let f = finished-then d lev b e x t fs ds kept z in record { map = f .0; has = record { map = f .1; rows = f .2 }; all = f .3; first = f .4 },

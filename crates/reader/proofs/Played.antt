@@ -26,8 +26,8 @@ use Rattle.wavelet.specs.Steps as step
 use Rattle.reader.specs.Answers.{row, drawNow, done, ended}
 use Rattle.reader.specs.Questions.{runFits, setUpQuestion}
 use Rattle.reader.specs.Demand3.{Area, Call, want, feed, draw, Reply, gives, refused, Given, heights, Event, wanted, fed, drew, World, event, events}
-use Rattle.reader.specs.Demand3.{final, freshWorld, goesOn, rest, leftBy, left, ends, endedBy, FedRow, fedBy, fedRows, drawnRows, All, none, more, HasRow}
-use Rattle.reader.specs.Demand3.{IsRow, HasFed, AllDrawn, wantSays, feedTurned, drawSays, OneOf, this, that, Draws, Demand3}
+use Rattle.reader.specs.Demand3.{final, freshWorld, goesOn, rest, leftBy, left, ends, endedBy, FedRow, fedBy, fedRows, All, none, more, HasRow}
+use Rattle.reader.specs.Demand3.{IsRow, HasFed, wantSays, feedTurned, drawSays, OneOf, this, that, Draws, Demand3}
 use Rattle.reader.specs.Demand3 as demand
 use Rattle.reader.specs.Played.{asWanted, answering, played, Sized, HasAll, Back, Stopped, Refusal, seven, fed-fourteen, drawn-fourteen, after, Played}
 use Rattle.reader.proofs.StepsLeft.{named-code}

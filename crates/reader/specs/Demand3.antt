@@ -277,10 +277,14 @@ pub record HasWords (W H : ℕ) (g : Grid) (fs : List FedRow) : Type 0 where
   pub words : (r c : ℕ) → r < H → c < W → SFits w32 (g r c)
   pub rows : All (IsWordRow W H g) fs
 
--- while row d is waited for, the sets of the levels above k have made rows that fit
+-- while row d is waited for, the rows that the sets of the levels above k make fit (`rowAt`: the set that each level is at; `setOf`: the set that makes a row)
 pub record SetsFit (W H L : ℕ) (g : Grid) (d k : ℕ) : Type 0 where
   pub fit : (j r c : ℕ) → k ≤ j → j < L → r < size j H → setOf (size j H) r ≡ rowAt H d (suc j) → c < size j W →
       valueFits j (approximation wrap32 W H g j r c) ≡ true
+
+-- of every grid that has the rows fs
+abbrev pub Worked : ℕ → ℕ → ℕ → List FedRow → ℕ → ℕ → Type 0
+Worked W H L fs d k = (g : Grid) → HasWords W H g fs → SetsFit W H L g d k
 
 -- the next of the steps t is a row of the same set as x
 unfoldable pub goesOnSet : RowName → List Step → Bool
@@ -291,6 +295,11 @@ goesOnSet x (step.draw r ∷ t) = false
 -- a feed of row x, with the steps t after it: its own set is worked out with it if x is the last of it
 unfoldable pub workedAbove : RowName → List Step → ℕ
 workedAbove x t = pick (goesOnSet x t) (x .level) (x .level - 1)
+
+-- a feed of the run a as row x goes on, with the steps t after it
+pub record FeedGoes (W H L : ℕ) (es : List Event) (then : Call → Event) (a : Area) (x : RowName) (t : List Step) : Type 0 where
+  pub next : left (steps W H L) es ≡ step.feed x ∷ t
+  pub passes : then (feed a) ≡ fed a (gives tt)
 
 -- ---- the claim, of the events es of any list of calls; `then` is what would be seen of a further call
 pub record Demand3 (W H L : ℕ) (es : List Event) (then : Call → Event) : Type 0 where
@@ -309,11 +318,9 @@ pub record Demand3 (W H L : ℕ) (es : List Event) (then : Call → Event) : Typ
   -- "14 comes only if no map has them."
   pub impossible : endedBy es ≡ true → (g : Grid) → HasFed W H L g es → ⊥
   -- a call that goes on has worked out what is due, and it fits: 14 comes no later
-  pub feed-works : (a : Area) (x : RowName) (t : List Step) → left (steps W H L) es ≡ step.feed x ∷ t → then (feed a) ≡ fed a (gives tt) →
-      (g : Grid) → HasWords W H g (fedRows (steps W H L) es ++ (record { row = x; run = a } ∷ [])) →
-      SetsFit W H L g (length (drawnRows es)) (workedAbove x t)
-  pub draw-works : (a b : Area) → then (draw a) ≡ drew a (gives (heights W)) b →
-      (g : Grid) → HasWords W H g (fedRows (steps W H L) es) → SetsFit W H L g (length (drawnRows es)) 0
+  pub feed-works : (a : Area) (x : RowName) (t : List Step) → FeedGoes W H L es then a x t →
+      Worked W H L (fedRows (steps W H L) es ++ (record { row = x; run = a } ∷ [])) (length (drawnRows es)) (workedAbove x t)
+  pub draw-works : (a b : Area) → then (draw a) ≡ drew a (gives (heights W)) b → Worked W H L (fedRows (steps W H L) es) (length (drawnRows es)) 0
   -- it says Done exactly when the heights drawn are all of such a map
   pub finished : then want ≡ wanted (gives done) ↔ AllDrawn W H L es
 

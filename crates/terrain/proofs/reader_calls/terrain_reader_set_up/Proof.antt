@@ -1,10 +1,9 @@
 -- `terrain_reader_set_up` meets its contract: what the set-up answers, in its two cases. Assumes nothing.
-use mathlib.Core.Path.{_≡_, refl, sym, ap, _∙_}
+use mathlib.Core.Path.{_≡_, sym, ap, _∙_}
 use lib.ListN.{length}
 use borrow.Author.Needs.{needs}
-use Rattle.numbers.specs.Signal.{at}
 use Rattle.reader.specs.declared.Reader.{Reader}
-use Rattle.reader.specs.Answers.{Reply, refused, number, ofSetUp}
+use Rattle.reader.specs.Answers.{Reply, number, ofSetUp}
 use Rattle.reader.specs.Questions.{setUpQuestion}
 use Rattle.reader.specs.Calls.{setUpReply}
 use Rattle.terrain.specs.ReaderCalls.{stateOf}

@@ -1,8 +1,6 @@
 -- `terrain_reader_want` meets its contract: what the call on the unpacked reader answers, in its five cases, and 1 where the array is none. Assumes nothing.
-use mathlib.Core.Path.{_≡_, refl, sym, ap, _∙_}
-use lib.ListN.{length}
+use mathlib.Core.Path.{_≡_, sym, ap, _∙_}
 use borrow.Author.Needs.{needs}
-use Rattle.numbers.specs.Signal.{at}
 use Rattle.reader.specs.declared.Reader.{Reader}
 use Rattle.reader.specs.Answers.{Reply, refused, number, Want, ofWanted}
 use Rattle.reader.specs.Questions.{wantQuestion}
