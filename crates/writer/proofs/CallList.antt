@@ -27,6 +27,7 @@ use Rattle.wavelet.specs.Questions.{within}
 use Rattle.wavelet.specs.Order.{RowName, rowName, madeBy, closing, inTurn, made}
 use Rattle.wavelet.proofs.OrderLaws.{turn-suc}
 use Rattle.writer.specs.Level.{Memory, LevelKind}
+use Rattle.writer.specs.Counts.{mostLeft}
 use Rattle.writer.specs.FiveThreeLevel.{cellOf, fiveThree}
 use Rattle.writer.specs.Machine.{Out, arrive}
 use Rattle.writer.specs.Draws.{Waiting, waiting, pull}
@@ -177,7 +178,7 @@ module _ {L W : ℕ} {ts : List ℕ} {f : Bool} {ds : List DrawnRow} {r c cl v i
   unfolding inRanges
   in-ranges p q =
       let s = own-sound in
-      simp (p, q, le-leb r maxHeight (a .rows-in), lt-ltb c W (a .column-in), le-leb cl L (closed-le fiveThree Kept five-three-laws L _ _ _ _ _ _ _ _ _ (s .holds .levels)), le-leb v L (level-le fiveThree Kept five-three-laws L _ _ _ _ _ _ _ _ _ (s .holds .levels)), le-leb i 4 (s .holds .few))
+      simp (p, q, le-leb r maxHeight (a .rows-in), lt-ltb c W (a .column-in), le-leb cl L (closed-le fiveThree Kept five-three-laws L _ _ _ _ _ _ _ _ _ (s .holds .levels)), le-leb v L (level-le fiveThree Kept five-three-laws L _ _ _ _ _ _ _ _ _ (s .holds .levels)), le-leb i (mostLeft L v) (s .holds .few))
 
   -- what waits, by the history: made and not drawn
   pub waiting-is : drop (length ds) (made W L r f) ≡ coming L W f cl v i r

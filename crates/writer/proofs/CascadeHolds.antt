@@ -19,20 +19,20 @@ use Rattle.lifting.specs.Line.{Half, lo, hi, count}
 use Rattle.lifting.proofs.Filter.{place, by-place}
 use Rattle.wavelet.specs.Bands.{Grid, Band, LL, across, down, subband}
 use Rattle.wavelet.specs.Levels.{size, approximation, levelBand}
-use Rattle.wavelet.specs.Order.{RowName, rowName, rowsOf, setRows, madeBy}
+use Rattle.wavelet.specs.Order.{RowName, rowName, hasRow, rowsOf, setRows, madeBy}
 use Rattle.wavelet.proofs.SizeLaws.{count-lo, count-hi, size-inner}
 use Rattle.wavelet.proofs.OrderLaws.{made-first, made-odd, made-even}
 use Rattle.writer.specs.Level.{Memory, LevelKind}
-use Rattle.writer.specs.Counts.{prev, deeper, made, most, bandAt, hasRow, skip}
+use Rattle.writer.specs.Counts.{prev, deeper, made, most, mostLeft, bandAt, skip}
 use Rattle.writer.specs.Machine.{rest, joinAt, Out, still, under, passed, settled, arrived, arrive, passOn}
 use Rattle.writer.specs.Draws.{Waiting, lower, waiting, pull}
 use Rattle.writer.specs.Closing.{Shut, onward, closeLevel, shut}
 use Rattle.writer.specs.Taking.{stored}
 use Rattle.writer.specs.Holds.{Meaning, SetStands, below, LevelHolds, SetWaits, LevelsHold}
-use Rattle.writer.proofs.CountLaws.{prev-is}
+use Rattle.writer.proofs.CountLaws.{prev-is, left-first, left-under, left-next}
 use Rattle.writer.proofs.RestLaws.{rest-join, join-below}
 use Rattle.writer.proofs.LevelLaws.{LevelLaws}
-use Rattle.writer.proofs.Waiting.{lasts, lasts-most, most-le, rows-yes, skip-rows, skip-has, skip-le, pend, later, pend-none, pend-under, later-first}
+use Rattle.writer.proofs.Waiting.{lasts, lasts-most, rows-yes, skip-rows, skip-has, skip-le, pend, later, pend-none, pend-under, later-first}
 
 -- ---- the store from a place on
 pub rest-same : (a : ℕ) (x y : Memory) → ((j : ℕ) → a ≤ j → y j ≡ x j) → rest a y ≡ rest a x
@@ -127,13 +127,13 @@ module _ (K : LevelKind) (Held : Meaning) (laws : LevelLaws K Held) where
   pub record Good (L k w H : ℕ) (g : Grid) (c m : ℕ) (o : Out) (todo : List RowName) : Type 0 where
     pub inv : Inv L w H g c (o .level) (o .left) m 0 (o .store)
     pub rows : pend L k w c (o .level) (o .left) m ≡ todo
-    pub few : o .left ≤ 4
+    pub few : o .left ≤ mostLeft L (o .level)
 
   good-under : (l k w H : ℕ) (g : Grid) (c m : ℕ) (x : Memory) (o : Out) (todo : List RowName) → LevelHolds Held w H g c m 0 x → Good l (suc k) (count lo w) (count lo H) (lowMap w H g) (prev c) (made c m) o todo → Good (suc l) k w H g c m (under (K .stretch w) x o) todo
   good-under l k w H g c m x o todo v d = record {
     inv = inv-under l w H g c (o .level) (o .left) m x (o .store) v (d .inv);
     rows = pend-under l k w c (o .level) (o .left) m ∙ d .rows;
-    few = d .few;
+    few = omega (arith, d .few, left-under l (o .level));
   }
 
   abbrev Receives : ℕ → Type 0
@@ -181,7 +181,7 @@ module _ (K : LevelKind) (Held : Meaning) (laws : LevelLaws K Held) where
       agree i h = s LL i (unfold down in low) (unfold across in h)
 
   -- ---- a set is made, its last i bands are to be handed out
-  module _ (l : ℕ) (ih : Receives l) (k w H : ℕ) (g : Grid) (c m i : ℕ) (few : i ≤ 4) (x : Memory) (v : LevelHolds Held w H g c m 0 x) (one : 1 ≤ made c m) where
+  module _ (l : ℕ) (ih : Receives l) (k w H : ℕ) (g : Grid) (c m i : ℕ) (few : i ≤ most l) (x : Memory) (v : LevelHolds Held w H g c m 0 x) (one : 1 ≤ made c m) where
     abbrev Settled : ℕ → Type 0
     Settled n = SetStands K w H g n x → Inv l (count lo w) (count lo H) (lowMap w H g) (prev c) 0 0 n 0 (rest (K .stretch w) x) →
         Good (suc l) k w H g c m (settled (passOn K l w) n x (skip w m n i)) (rowsOf k w m n (lasts i) ++ madeBy l (suc k) (count lo w) n)
@@ -208,7 +208,7 @@ module _ (K : LevelKind) (Held : Meaning) (laws : LevelLaws K Held) where
             unfold settled LevelsHold SetWaits below pend in record {
               inv = (v, record { some-left = omega arith; has = skip-has w m n i j z; one = one; stands = s }, inv-left l _ _ _ (prev c) 0 (suc j) n 0 _ u);
               rows = left (suc j) z;
-              few = omega (arith, skip-le w m n i);
+              few = omega (arith, skip-le w m n i, left-first l);
             }
 
     settle-good : (n : ℕ) → n ≡ prev (made c m) → Settled n
@@ -259,7 +259,7 @@ module _ (K : LevelKind) (Held : Meaning) (laws : LevelLaws K Held) where
     got-even n h v =
         rw (arrive-even, made-even, e3)
         (subst (λ r. Good (suc l) k w H g 0 (2 * n + 3) (settled (passOn K l w) n y (skip w (2 * n + 3) n (most l))) (r ++ madeBy l (suc k) (count lo w) n)) todo
-        (settle-good l ih k w H g 0 (2 * n + 3) (most l) (most-le l) y here (unfold made in omega arith) n
+        (settle-good l ih k w H g 0 (2 * n + 3) (most l) (omega arith) y here (unfold made in omega arith) n
         (unfold made in sym (prev-is ((2 * n + 3 - 1) / 2) ∙ omega arith))
         (make-stands w H g n x h held) sub))
       where
@@ -330,7 +330,7 @@ module _ (K : LevelKind) (Held : Meaning) (laws : LevelLaws K Held) where
     pub first : pend L k w c (suc v) i m ≡ rowName (k + depth) (waiting K L w c (suc v) i m .band) (waiting K L w c (suc v) i m .row) ∷ todo
     pub good : Good L k w H g c m (pull K L w c (suc v) i m x) todo
 
-  pull-here : (l k w H : ℕ) (g : Grid) (c i m j : ℕ) (x : Memory) → i ≤ 4 → j ≡ 0 → Inv (suc l) w H g c 1 i m j x → Pulled (suc l) k w H g c 0 i m x
+  pull-here : (l k w H : ℕ) (g : Grid) (c i m j : ℕ) (x : Memory) → i ≤ mostLeft (suc l) 1 → j ≡ 0 → Inv (suc l) w H g c 1 i m j x → Pulled (suc l) k w H g c 0 i m x
   unfolding LevelsHold SetWaits waiting pull pend below
   pull-here l k w H g c zero m j x f z v = let e : 1 ≤ 0 = v .1 .some-left in absurd (omega arith)
   pull-here l k w H g c (suc i) m j x f z v = record {
@@ -344,7 +344,7 @@ module _ (K : LevelKind) (Held : Meaning) (laws : LevelLaws K Held) where
       values = λ a h. unfold levelBand size approximation in v .1 .stands b a row-there h;
     };
     first = unfold lasts in (ap (λ r. r ++ next) (rows-yes k w m n b (lasts i) (v .1 .has)) ∙ ap (λ a. rowName a b n ∷ (rowsOf k w m n (lasts i) ++ next)) (omega arith));
-    good = settle-good l (arrive-good l) k w H g c m i (omega arith) x here (v .1 .one) n refl (v .1 .stands) (inv-left l _ _ _ (prev c) (suc i) 0 n 0 _ (v .2));
+    good = settle-good l (arrive-good l) k w H g c m i (omega (arith, left-first l)) x here (v .1 .one) n refl (v .1 .stands) (inv-left l _ _ _ (prev c) (suc i) 0 n 0 _ (v .2));
   }
     where
       n : ℕ
@@ -362,12 +362,12 @@ module _ (K : LevelKind) (Held : Meaning) (laws : LevelLaws K Held) where
       row-there : n < count (down b) H
       row-there = omega (arith, has-down w m b n (v .1 .has), count-up (down b) m H (here-le w H g c m j x (v .0)))
 
-  pub pull-good : (L k w H : ℕ) (g : Grid) (c v i m j : ℕ) (x : Memory) → i ≤ 4 → j ≡ 0 → Inv L w H g c (suc v) i m j x → Pulled L k w H g c v i m x
+  pub pull-good : (L k w H : ℕ) (g : Grid) (c v i m j : ℕ) (x : Memory) → i ≤ mostLeft L (suc v) → j ≡ 0 → Inv L w H g c (suc v) i m j x → Pulled L k w H g c v i m x
   unfolding LevelsHold waiting pull pend below
   pull-good zero k w H g c v i m j x f z s = let e : suc v ≡ 0 = s .1 in absurd (omega arith)
   pull-good (suc l) k w H g c zero i m j x f z s = pull-here l k w H g c i m j x f z s
   pull-good (suc l) k w H g c (suc v) i m j x f z s =
-      let r = pull-good l (suc k) (count lo w) (count lo H) (lowMap w H g) (prev c) v i (made c m) 0 (rest (K .stretch w) x) f refl (s .2) in
+      let r = pull-good l (suc k) (count lo w) (count lo H) (lowMap w H g) (prev c) v i (made c m) 0 (rest (K .stretch w) x) (omega (arith, left-next l v)) refl (s .2) in
       record {
         depth = suc (r .depth);
         deep = omega (arith, r .deep);
@@ -382,7 +382,7 @@ module _ (K : LevelKind) (Held : Meaning) (laws : LevelLaws K Held) where
     pub inv : Inv L w H g (r .closed) (r .out .level) (r .out .left) m 0 (r .out .store)
     pub rows : pend L k w (r .closed) (r .out .level) (r .out .left) m ++ later L k w m (r .closed) ≡ later L k w m c
     pub all : r .out .level ≡ 0 → r .closed ≡ L
-    pub few : r .out .left ≤ 4
+    pub few : r .out .left ≤ mostLeft L (r .out .level)
 
   deeper-zero : (v : ℕ) → deeper v ≡ 0 → v ≡ 0
   unfolding deeper
@@ -397,7 +397,7 @@ module _ (K : LevelKind) (Held : Meaning) (laws : LevelLaws K Held) where
         inv = inv-under l w H g (suc (r .closed)) (r .out .level) (r .out .left) m (o .store) (r .out .store) (unfold LevelHolds in (e, refl)) (unfold made in d .inv);
         rows = ap (λ a. a ++ later (suc l) k w m (suc (r .closed))) (pend-under l k w (suc (r .closed)) (r .out .level) (r .out .left) m) ∙ unfold later made in d .rows;
         all = λ z. ap suc (d .all (deeper-zero (r .out .level) z));
-        few = d .few;
+        few = omega (arith, d .few, left-under l (r .out .level));
       }
 
   closed-from : (L k w H : ℕ) (g : Grid) (c c′ m : ℕ) (r : Shut) → later L k w m c ≡ later L k w m c′ → Closed L k w H g c m r → Closed L k w H g c′ m r
@@ -437,7 +437,7 @@ module _ (K : LevelKind) (Held : Meaning) (laws : LevelLaws K Held) where
 
     good : Good (suc l) k w H g 1 M o (rowsOf k w M n (lasts (most l)) ++ madeBy l (suc k) (count lo w) n)
     good =
-        settle-good l (arrive-good l) k w H g 1 M (most l) (most-le l) y (unfold LevelHolds in (e, refl)) (unfold made in omega (arith, count-lo M)) n (unfold made in refl) stands sub
+        settle-good l (arrive-good l) k w H g 1 M (most l) (omega arith) y (unfold LevelHolds in (e, refl)) (unfold made in omega (arith, count-lo M)) n (unfold made in refl) stands sub
 
     set-is : rowsOf k w M n (lasts (most l)) ++ madeBy l (suc k) (count lo w) n ≡ setRows l k w M (count lo M - 1) ++ madeBy l (suc k) (count lo w) (count lo M - 1)
     unfolding setRows

@@ -9,6 +9,7 @@ use Rattle.wavelet.specs.Bands.{Grid}
 use Rattle.wavelet.specs.Order.{madeBy}
 use Rattle.writer.specs.declared.Writer.{Writer}
 use Rattle.writer.specs.Level.{Memory, LevelKind}
+use Rattle.writer.specs.Counts.{mostLeft}
 use Rattle.writer.specs.FiveThreeLevel.{cellOf, fiveThree}
 use Rattle.writer.specs.Machine.{Out, arrive}
 use Rattle.writer.specs.Draws.{pull}
@@ -37,11 +38,11 @@ module _ (H : ℕ) (g : Grid) (W L : ℕ) where
   Has r c f cl v i x = Holds H g (st W L r c f cl v i) x
 
   -- before the finish
-  open-holds : (r c cl v i : ℕ) (x : Memory) → Inv cl v i r c x → i ≤ 4 → (0 < v → c ≡ 0) → cl ≡ 0 → Has r c false cl v i x
+  open-holds : (r c cl v i : ℕ) (x : Memory) → Inv cl v i r c x → i ≤ mostLeft L v → (0 < v → c ≡ 0) → cl ≡ 0 → Has r c false cl v i x
   open-holds r c cl v i x inv few idle z = record { levels = inv; few = few; idle = idle; before = λ _. z; ended = λ e. absurd (differ e) }
 
   -- after it
-  closed-holds : (r c cl v i : ℕ) (x : Memory) → Inv cl v i r c x → i ≤ 4 → (0 < v → c ≡ 0) → r ≡ H → 0 < r → (v ≡ 0 → cl ≡ L) → Has r c true cl v i x
+  closed-holds : (r c cl v i : ℕ) (x : Memory) → Inv cl v i r c x → i ≤ mostLeft L v → (0 < v → c ≡ 0) → r ≡ H → 0 < r → (v ≡ 0 → cl ≡ L) → Has r c true cl v i x
   closed-holds r c cl v i x inv few idle e p all = record { levels = inv; few = few; idle = idle; before = λ z. absurd (differ (sym z)); ended = λ _. (e, p, all) }
 
   pub fresh-holds : (x : Memory) → Has 0 0 false 0 0 0 x

@@ -8,9 +8,8 @@ use native.Mathlib.Omega.{arith}
 use Rattle.numbers.specs.Signal.{pick}
 use Rattle.lifting.specs.Line.{lo, count}
 use Rattle.wavelet.specs.Bands.{Band}
-use Rattle.wavelet.specs.Order.{RowName, rowName, handedOut, rowsOf, setRows, madeBy, closing}
-use Rattle.wavelet.specs.Order.{hasRow as inOrder}
-use Rattle.writer.specs.Counts.{prev, deeper, made, most, bandAt, hasRow, skip}
+use Rattle.wavelet.specs.Order.{RowName, rowName, handedOut, hasRow, rowsOf, setRows, madeBy, closing}
+use Rattle.writer.specs.Counts.{prev, deeper, made, most, bandAt, skip}
 
 -- the last i bands of a set
 unfoldable pub lasts : ℕ → List Band
@@ -22,25 +21,15 @@ unfolding lasts bandAt most handedOut
 lasts-most zero = refl
 lasts-most (suc l) = refl
 
-pub most-le : (l : ℕ) → most l ≤ 4
-unfolding most
-most-le zero = omega arith
-most-le (suc l) = omega arith
-
--- the two tests are one
-pub has-same : (w m : ℕ) (b : Band) (n : ℕ) → hasRow w m b n ≡ inOrder w m b n
-unfolding hasRow inOrder
-has-same w m b n = refl
-
 -- ---- of a set, what is left from the first band that has the row
 module _ (k w m n : ℕ) where
   pub rows-yes : (b : Band) (bs : List Band) → hasRow w m b n ≡ true → rowsOf k w m n (b ∷ bs) ≡ rowName k b n ∷ rowsOf k w m n bs
   unfolding rowsOf
-  rows-yes b bs e = rw (sym (has-same w m b n) ∙ e) refl
+  rows-yes b bs e = rw e refl
 
   pub rows-no : (b : Band) (bs : List Band) → hasRow w m b n ≡ false → rowsOf k w m n (b ∷ bs) ≡ rowsOf k w m n bs
   unfolding rowsOf
-  rows-no b bs e = rw (sym (has-same w m b n) ∙ e) refl
+  rows-no b bs e = rw e refl
 
   pub skip-rows : (i : ℕ) → rowsOf k w m n (lasts (skip w m n i)) ≡ rowsOf k w m n (lasts i)
   unfolding skip

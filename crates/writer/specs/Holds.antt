@@ -9,9 +9,10 @@ use lib.ListN.{getD}
 use Rattle.numbers.specs.Word.{wrap32}
 use Rattle.lifting.specs.Line.{lo, hi, count}
 use Rattle.wavelet.specs.Bands.{Grid, Band, LL, across, down, columnsLifted, subband}
+use Rattle.wavelet.specs.Order.{hasRow}
 use Rattle.writer.specs.declared.Writer.{Writer}
 use Rattle.writer.specs.Level.{Memory, LevelKind}
-use Rattle.writer.specs.Counts.{prev, made, bandAt, hasRow}
+use Rattle.writer.specs.Counts.{prev, made, mostLeft, bandAt}
 use Rattle.writer.specs.FiveThreeLevel.{cellOf, fiveThree}
 use Rattle.writer.specs.Machine.{rest}
 use Rattle.writer.specs.Answers.{Reply, gives, refused, Took, Handed, aRow, nothing}
@@ -75,8 +76,8 @@ LevelsHold K Held (suc l) w H g c v i m j x =
 -- ---- the writer's store
 pub record Holds (H : ℕ) (g : Grid) (s : Writer) (x : Memory) : Type 0 where
   pub levels : LevelsHold fiveThree Kept (s .levels) (s .width) H g (s .closed) (s .level) (s .left) (s .rows) (s .column) x
-  -- at most the four bands of a set are left
-  pub few : s .left ≤ 4
+  -- at most the bands of a set are left that are handed out at its level
+  pub few : s .left ≤ mostLeft (s .levels) (s .level)
   -- while a band row waits, no row is begun
   pub idle : 0 < s .level → s .column ≡ 0
   -- before the finish no level is closed
