@@ -1,4 +1,4 @@
--- Every call keeps what the store holds, on every state and store: `set-up-holds`, `draw-keeps`, `finish-keeps`, `offer-keeps`; and a drawn row has the map's values: `draw-values`.
+-- Every call keeps what the store holds, on every state and store: `set-up-holds`, `draw-keeps`, `finish-keeps`, `offer-keeps`; and a drawn row has the map's values: `area-values`.
 -- Assumes nothing.
 use mathlib.Core.Bool.{Bool, true, false, not}
 use mathlib.Core.Path.{_≡_, refl, sym, ap, subst, subst₂, _∙_}
@@ -9,24 +9,27 @@ use native.Mathlib.Omega.{arith}
 use lib.IntN.{pos}
 use lib.ListN.{length, getD}
 use lib.Dec.{leb, ltb, eqb}
-use borrow.Author.Tests.{eqb-true, ltb-true, ltb-false, leb-true}
+use borrow.Author.Tests.{eqb-true, lt-ltb, ltb-true, ltb-false, leb-true}
 use Rattle.numbers.specs.Signal.{pick, both}
 use Rattle.numbers.specs.Word.{wrap32}
 use Rattle.numbers.proofs.Sweep.{both as split-both}
+use Rattle.lifting.specs.Halves.{fronted}
 use Rattle.wavelet.specs.Limits.{maxWidth, maxHeight, maxLevels}
 use Rattle.wavelet.specs.Bands.{Grid}
 use Rattle.wavelet.specs.Levels.{levelBand}
 use Rattle.wavelet.specs.Questions.{ask, within}
 use Rattle.writer.specs.declared.Writer.{Writer}
+use Rattle.writer.specs.declared.BandRow.{BandRow}
 use Rattle.writer.specs.Level.{Memory}
 use Rattle.writer.specs.FiveThreeLevel.{cellOf, fiveThree}
-use Rattle.writer.specs.Machine.{Out, arrive}
+use Rattle.writer.specs.Machine.{Out, rest, arrive}
 use Rattle.writer.specs.Draws.{Waiting}
 use Rattle.writer.specs.Taking.{stored, Taking, takes, offering}
 use Rattle.writer.specs.Questions.{setUpQuestion, either, inRanges, longEnough, waitingRow, offerQuestion, drawQuestion, finishQuestion}
-use Rattle.writer.specs.Answers.{Reply, gives, refused, unless, changedUnless, Took, Handed}
-use Rattle.writer.specs.Calls.{fresh, setUpReply, took, offerReply, offerStore, waits, closing, finishReply, finishStore, handed, handedStore, drawReply, drawStore}
-use Rattle.writer.specs.Holds.{Holds, Keeps, AnyMap, AllRows, GoesOn, left, after, tookOf, DrawKeeps, FinishKeeps, OfferKeeps, SetUpHolds}
+use Rattle.writer.specs.Answers.{Reply, gives, refused, unless, changedUnless, Took, Handed, aRow}
+use Rattle.writer.specs.Calls.{fresh, setUpReply, took, offerReply, offerStore, waits, closing, finishReply, finishStore, bandRow, handed, handedStore, handedArea, drawReply, drawStore, drawArea}
+use Rattle.writer.specs.Holds.{Holds, Keeps, AnyMap, AllRows, GoesOn, MapRow, left, after, tookOf, DrawKeeps, FinishKeeps, OfferKeeps, SetUpHolds}
+use Rattle.writer.proofs.CountLaws.{code-one}
 use Rattle.writer.proofs.StateHolds.{st, fresh-holds, pulled-by, draw-holds, finish-holds, begun-holds, complete-holds}
 use Rattle.writer.proofs.CallList.{rows-of, column-of, rows-below}
 
@@ -39,7 +42,7 @@ handed-holds : (H : ℕ) (g : Grid) (W L r c : ℕ) (f : Bool) (cl v i : ℕ) (x
 handed-holds H g W L r c f cl zero i x h = h
 handed-holds H g W L r c f cl (suc v) i x h = draw-holds H g W L r c f cl v i x h
 
-pub draw-keeps : (s : Writer) (n k : ℕ) (x : Memory) → DrawKeeps s x (drawReply s n k x) (drawStore s n k x)
+draw-keeps : (s : Writer) (n k : ℕ) (x : Memory) → Keeps AnyMap s x (left (after s) s (drawReply s n k x)) (drawStore s n k x)
 unfolding drawReply drawStore
 draw-keeps s n k x = record { keeps = λ H g _ h. go H g h (drawQuestion s n k) }
   where
@@ -48,7 +51,7 @@ draw-keeps s n k x = record { keeps = λ H g _ h. go H g h (drawQuestion s n k) 
     go H g h (suc q) = h
 
 -- the row that waits has the map's values
-pub draw-values : (s : Writer) (x : Memory) (H : ℕ) (g : Grid) → Holds H g s x → 0 < s .level → (i : ℕ) → i < waitingRow s .length → x (waitingRow s .start + i) ≡ levelBand wrap32 (s .width) H g (waitingRow s .level) (waitingRow s .band) (waitingRow s .row) i
+draw-values : (s : Writer) (x : Memory) (H : ℕ) (g : Grid) → Holds H g s x → 0 < s .level → (i : ℕ) → i < waitingRow s .length → x (waitingRow s .start + i) ≡ levelBand wrap32 (s .width) H g (waitingRow s .level) (waitingRow s .band) (waitingRow s .row) i
 draw-values s x H g h p = go (s .level) h p
   where
     go : (v : ℕ) → (let s′ = st (s .width) (s .levels) (s .rows) (s .column) (s .finished) (s .closed) v (s .left) in
@@ -58,6 +61,31 @@ draw-values s x H g h p = go (s .level) h p
         let P = pulled-by H g (s .width) (s .levels) (s .rows) (s .column) (s .finished) (s .closed) v (s .left) x h in
         let q : Waiting = waitingRow (st (s .width) (s .levels) (s .rows) (s .column) (s .finished) (s .closed) (suc v) (s .left)) in
         P .is .values i b ∙ ap (λ k. levelBand wrap32 (s .width) H g k (q .band) (q .row) i) (sym (P .is .level-is))
+
+-- and so has the row that is answered, in the output area, where z stood before
+area-values : (s : Writer) (n k : ℕ) (x z : Memory) (H : ℕ) (g : Grid) → Holds H g s x → (b : BandRow) (t : Writer) → drawReply s n k x ≡ gives (aRow b t) → MapRow (s .width) H g b (drawArea s n k x z)
+unfolding drawReply drawArea
+area-values s n k x z H g h b t e = go (drawQuestion s n k) (s .level) refl e
+  where
+    q : Waiting
+    q = waitingRow s
+
+    y : Memory
+    y = fronted (q .length) (rest (q .start) x) z
+
+    front : (i : ℕ) → i < q .length → y i ≡ x (q .start + i)
+    front i p = unfold fronted rest in simp (lt-ltb i (q .length) p)
+
+    here : 0 < s .level → MapRow (s .width) H g (bandRow q) y
+    here p = record {
+      are = λ c f i l.
+          front i l ∙ draw-values s x H g h p i l ∙ ap (λ d. levelBand wrap32 (s .width) H g (q .level) d (q .row) i) (code-one (q .band) c f);
+    }
+
+    go : (a v : ℕ) → s .level ≡ v → unless a (handed v s x) ≡ gives (aRow b t) → MapRow (s .width) H g b (changedUnless a (handedArea v s x z) z)
+    go zero zero l f = let o : _≡_ {A = ℕ} 0 1 = cc in absurd (omega arith)
+    go zero (suc v) l f = let r : bandRow q ≡ b = cc in subst (λ d. MapRow (s .width) H g d y) r (here (omega arith))
+    go (suc a) v l f = let o : _≡_ {A = ℕ} 0 1 = cc in absurd (omega arith)
 
 -- ---- finish
 finish-may : (s : Writer) (n : ℕ) → finishQuestion s n ≡ 0 → (s .finished ≡ false) × (s .level ≡ 0) × (0 < s .rows) × (s .column ≡ 0)
@@ -200,8 +228,11 @@ set-up-kept W L n a y e = record { holds = λ s z H g. go H g s (setUpQuestion W
     go H g s zero z = subst (λ t. Holds H g t y) (ap (given s) z) (set-up-holds W L H g y)
     go H g s (suc q) z = let b : _≡_ {A = ℕ} 0 1 = ap (λ r. elim r [ gives t ↦ 1 | refused k ↦ 0 ]) z in absurd (omega arith)
 
-pub draw-kept : (s : Writer) (n k : ℕ) (x : Memory) (a : Reply Handed) (y : Memory) → a ≡ drawReply s n k x → y ≡ drawStore s n k x → DrawKeeps s x a y
-draw-kept s n k x a y e f = subst₂ (DrawKeeps s x) (sym e) (sym f) (draw-keeps s n k x)
+pub draw-kept : (s : Writer) (n k : ℕ) (x z : Memory) (a : Reply Handed) (x′ y : Memory) → a ≡ drawReply s n k x → x′ ≡ drawStore s n k x → y ≡ drawArea s n k x z → DrawKeeps s x a x′ y
+draw-kept s n k x z a x′ y e f d = record {
+  store = subst₂ (λ r t. Keeps AnyMap s x (left (after s) s r) t) (sym e) (sym f) (draw-keeps s n k x);
+  values = λ H g h b t r. subst (MapRow (s .width) H g b) (sym d) (area-values s n k x z H g h b t (sym e ∙ r));
+}
 
 pub finish-kept : (s : Writer) (n : ℕ) (x : Memory) (a : Reply Writer) (y : Memory) → a ≡ finishReply s n x → y ≡ finishStore s n x → FinishKeeps s x a y
 finish-kept s n x a y e f = subst₂ (FinishKeeps s x) (sym e) (sym f) (finish-keeps s n x)

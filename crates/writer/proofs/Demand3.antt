@@ -16,7 +16,7 @@ use Rattle.numbers.specs.Signal.{pick}
 use Rattle.numbers.specs.Word.{whole}
 use Rattle.numbers.proofs.Sweep.{both as split-both}
 use Rattle.wavelet.specs.Limits.{maxWidth, maxHeight, maxLevels, maxSample}
-use Rattle.wavelet.specs.Bands.{Grid, Band, LL, HL, LH, HH, code}
+use Rattle.wavelet.specs.Bands.{Grid}
 use Rattle.wavelet.specs.Levels.{levelBand}
 use Rattle.wavelet.specs.ViewCall.{bandRowExists}
 use Rattle.wavelet.specs.Questions.{ask, within}
@@ -29,27 +29,11 @@ use Rattle.writer.specs.Level.{Memory}
 use Rattle.writer.specs.Machine.{rest}
 use Rattle.writer.specs.Questions.{inRanges, setUpQuestion}
 use Rattle.writer.specs.History.{Call, row, Event, World, event, events, final, freshWorld, taken, finishes, finishedBy, DrawnRow, drawn}
-use Rattle.writer.specs.Demand3.{wholeRows, madeOf, waitingOf, answered, Begins, MapOf, HasValues, All, all-more, Demand3}
+use Rattle.writer.specs.Demand3.{wholeRows, madeOf, waitingOf, answered, Begins, MapOf, HasValues, All, all-more, PlaneDrawn, Demand3}
+use Rattle.writer.proofs.CountLaws.{code-one}
 use Rattle.writer.proofs.StateHolds.{differ, st}
 use Rattle.writer.proofs.CallList.{Fits, coming, Right, At, own-sound, in-ranges, all-map, all-take, map-append, rows-all}
 use Rattle.writer.proofs.Reached.{rows-are, waiting-coming, offer-turned, offer-takes, finish-answer, draw-says, list-reached, fresh-reached}
-
--- codes tell bands apart
-uncode : ℕ → Band
-uncode zero = LL
-uncode (suc zero) = HL
-uncode (suc (suc zero)) = LH
-uncode (suc (suc (suc c))) = HH
-
-code-back : (b : Band) → uncode (code b) ≡ b
-unfolding uncode code
-code-back LL = refl
-code-back HL = refl
-code-back LH = refl
-code-back HH = refl
-
-code-one : (b d : Band) → code b ≡ code d → b ≡ d
-code-one b d e = sym (code-back b) ∙ ap uncode e ∙ code-back d
 
 five-levels : (l : ℕ) → within 1 maxLevels (suc l) ≡ true → suc l ≤ 5
 unfolding within maxLevels
@@ -208,12 +192,15 @@ module _ (l W : ℕ) (wide : within 1 maxWidth W ≡ true) (deep : within 1 maxL
       let p = a .ended e in
       (omega (arith, rows-here, p .0), omega (arith, rows-here, a .rows-in), a .counted ∙ omega (arith, p .1, mul-comm r W) ∙ ap (λ b. W * b) (sym rows-here))
 
-  drew-all : g₀ ≡ true → waitingOf W M es ≡ [] → (names : List RowName) × (map (λ d. d .row) (drawn es) ≡ map (answered W) names) × ((y : RowName) → times y names ≡ pick (bandRowExists W (wholeRows W es) M (y .level) (y .band) (y .row)) 1 0)
-  drew-all e z = (
-    madeOf W M es,
-    sym (append-nil _) ∙ ap (λ b. map (λ d. d .row) (drawn es) ++ map (answered W) b) (sym z) ∙ ordered,
-    λ y. ap (times y) (made-here ∙ ap (made W M r) e) ∙ made-once W M r (a .ended e .0) y ∙ ap (λ b. pick (bandRowExists W b M (y .level) (y .band) (y .row)) 1 0) (sym rows-here),
-  )
+  drew-all : g₀ ≡ true → waitingOf W M es ≡ [] → PlaneDrawn W M es
+  drew-all e z = record {
+    names = madeOf W M es;
+    answers = sym (append-nil _) ∙ ap (λ b. map (λ d. d .row) (drawn es) ++ map (answered W) b) (sym z) ∙ ordered;
+    once = λ y.
+        ap (times y) (made-here ∙ ap (made W M r) e)
+        ∙ made-once W M r (a .ended e .0) y
+        ∙ ap (λ b. pick (bandRowExists W b M (y .level) (y .band) (y .row)) 1 0) (sym rows-here);
+  }
 
   claim : Demand3 W M es (λ k. event k w₀)
   claim = record {
@@ -224,7 +211,7 @@ module _ (l W : ℕ) (wide : within 1 maxWidth W ≡ true) (deep : within 1 maxL
     some-map = map-there;
     finished-map = whole-map;
     all-drawn = drew-all;
-    draws = λ b. let d = draw-says l W wide deep es n r c cl v i x long a b in (d .area, d .says, d .size-is, d .surplus);
+    draws = draw-says l W wide deep es n r c cl v i x long a;
     offers-turned = λ run. offer-turned l W wide deep es n r c cl v i x long a run;
     offers-taken = λ run. offer-takes l W wide deep es n r c cl v i x long a run;
     finishes = finish-answer l W wide deep es n r c cl v i x long a;

@@ -30,7 +30,7 @@ use Rattle.writer.specs.Answers.{Reply, gives, refused, unless}
 use Rattle.writer.specs.Calls.{fresh, offerReply, offerStore, waits, closing as closingOf, finishReply, finishStore, resumed, bandRow, drawReply, drawStore, drawArea}
 use Rattle.writer.specs.Holds.{left}
 use Rattle.writer.specs.History.{Area, Call, offer, draw, finish, row, none, Event, offered, drew, finished, World, seen, event, next, events, final, takenBy, taken, finishes, finishedBy, drawnBy, drawn}
-use Rattle.writer.specs.Demand3.{wholeRows, madeOf, waitingOf, answered, isNone, drawSays, written, takesOn, offerTurned, Takes, finishTurned}
+use Rattle.writer.specs.Demand3.{wholeRows, madeOf, waitingOf, answered, isNone, drawSays, written, DrawSeen, takesOn, offerTurned, Takes, finishTurned}
 use Rattle.writer.proofs.StateHolds.{st}
 use Rattle.writer.proofs.CallList.{coming, At, whole-rows, begun-row, in-ranges, waiting-is, none-waits, none-eqb, Offered, offering-good, head-is, draw-good, finish-good, fresh-at}
 
@@ -57,6 +57,17 @@ finished-snoc (d ∷ es) e = ap (either (finishes d)) (finished-snoc es e) ∙ g
     go : (t : Bool) → either t (either (finishedBy es) (finishes e)) ≡ either (either t (finishedBy es)) (finishes e)
     go true = refl
     go false = refl
+
+-- one call more at the end of a list
+pub events-snoc : (cs : List Call) (c : Call) (w : World) → events (cs ++ c ∷ []) w ≡ events cs w ++ (event c (final cs w) ∷ [])
+unfolding events final
+events-snoc [] c w = refl
+events-snoc (d ∷ cs) c w = ap (λ l. event d w ∷ l) (events-snoc cs c (next d w))
+
+pub final-snoc : (cs : List Call) (c : Call) (w : World) → final (cs ++ c ∷ []) w ≡ next c (final cs w)
+unfolding final
+final-snoc [] c w = refl
+final-snoc (d ∷ cs) c w = final-snoc cs c (next d w)
 
 -- where it may take, an offer of one height or more takes one
 takes-one : (run : List ℕ) (s : Writer) (x : Memory) → takes s ≡ true → 0 < length run → 0 < offering fiveThree run s x .taken
@@ -262,13 +273,6 @@ module _ (l W : ℕ) (wide : within 1 maxWidth W ≡ true) (deep : within 1 maxL
   abbrev same : Area → Area
   same b = record { size = b .size; numbers = b .numbers }
 
-  -- what a draw is to say and leave, of the rows that wait
-  pub record Draws (es : List Event) (e : Event) (b : Area) : Type 0 where
-    pub area : Area
-    pub says : e ≡ drew b (drawSays W (waitingOf W L es) (b .size)) area
-    pub size-is : area .size ≡ b .size
-    pub surplus : (j : ℕ) → written (drawSays W (waitingOf W L es) (b .size)) ≤ j → area .numbers j ≡ b .numbers j
-
   -- nothing waits
   module _ (es : List Event) (n r c cl i : ℕ) (x : Memory) (long : storeLength W L ≤ n) (a : State es r c cl 0 i x) (b : Area) where
     abbrev s₀ : Writer
@@ -287,7 +291,7 @@ module _ (l W : ℕ) (wide : within 1 maxWidth W ≡ true) (deep : within 1 maxL
         subst₂ (λ d k. Reached (es ++ d ∷ []) k) (sym (draw-none .0)) (sym (draw-none .1))
         (unchanged es n r c cl 0 i x long a (drew b (gives none) (same b)) refl refl refl)
 
-    none-says : Draws es (event (draw b) (world s₀ n x)) b
+    none-says : DrawSeen W L es b (event (draw b) (world s₀ n x))
     none-says =
         let e : waitingOf W L es ≡ [] = waiting-coming es n r c cl 0 i x long a ∙ none-waits a refl in
         record { area = same b; says = draw-none .0 ∙ ap (λ l. drew b (drawSays W l (b .size)) (same b)) (sym e); size-is = refl; surplus = λ j p. refl }
@@ -346,7 +350,7 @@ module _ (l W : ℕ) (wide : within 1 maxWidth W ≡ true) (deep : within 1 maxL
         (subst (λ t. At L W t f₁ (drawn es ++ drawnBy d) r c (R .closed) (R .out .level) (R .out .left) (R .out .store)) (sym (append-nil (taken es)))
         (draw-good l W (drawn es) (taken es) f₁ r c cl u i x a z values-are)))
 
-    some-says : (t : Bool) → leb (q .length) (b .size) ≡ t → Draws es (event (draw b) (world s₁ n x)) b
+    some-says : (t : Bool) → leb (q .length) (b .size) ≡ t → DrawSeen W L es b (event (draw b) (world s₁ n x))
     some-says t e = go t e
       where
         h : (m : RowName) × (k : List RowName) × (coming L W f₁ cl (suc u) i r ≡ m ∷ k) × (bandRow q ≡ answered W m)
@@ -363,7 +367,7 @@ module _ (l W : ℕ) (wide : within 1 maxWidth W ≡ true) (deep : within 1 maxL
             ap (λ y. drawSays W y (b .size)) (waiting-coming es n r c cl (suc u) i x long a ∙ h .2)
             ∙ ap (λ y. pick (leb y (b .size)) (gives (row (answered W m))) (refused 12)) (sym long-is)
 
-        go : (t : Bool) → leb (q .length) (b .size) ≡ t → Draws es (event (draw b) (world s₁ n x)) b
+        go : (t : Bool) → leb (q .length) (b .size) ≡ t → DrawSeen W L es b (event (draw b) (world s₁ n x))
         go false e =
             record {
               area = same b;
@@ -384,7 +388,7 @@ module _ (l W : ℕ) (wide : within 1 maxWidth W ≡ true) (deep : within 1 maxL
   draw-reached es n r c cl zero i x long a b = none-reached es n r c cl i x long a b
   draw-reached es n r c cl (suc u) i x long a b = some-reached es n r c cl u i x long a b _ refl
 
-  pub draw-says : (es : List Event) (n r c cl v i : ℕ) (x : Memory) → storeLength W L ≤ n → State es r c cl v i x → (b : Area) → Draws es (event (draw b) (world (st W L r c (finishedBy es) cl v i) n x)) b
+  pub draw-says : (es : List Event) (n r c cl v i : ℕ) (x : Memory) → storeLength W L ≤ n → State es r c cl v i x → (b : Area) → DrawSeen W L es b (event (draw b) (world (st W L r c (finishedBy es) cl v i) n x))
   draw-says es n r c cl zero i x long a b = none-says es n r c cl i x long a b
   draw-says es n r c cl (suc u) i x long a b = some-says es n r c cl u i x long a b _ refl
 

@@ -1,4 +1,4 @@
--- An offer as the code takes it: a stretch of a row at a time.
+-- An offer as the code takes it: a stretch of a row at a time. Private functions alone cite this.
 use mathlib.Core.Path.{_≡_}
 use mathlib.Core.List.{List}
 use Prim.Native.Nat.{ℕ, zero, suc, _+_, _-_, _<_, min}
