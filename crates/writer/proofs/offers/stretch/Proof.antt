@@ -2,7 +2,8 @@
 use native.Mathlib.Omega.{arith}
 use lib.ListN.{length}
 use borrow.Author.Needs.{needs}
-use Rattle.wavelet.proofs.StoreLaws.{store-back}
+use Rattle.lifting.specs.Line.{lo, count}
+use Rattle.wavelet.proofs.StoreLaws.{store-none, store-below, store-back}
 use Rattle.writer.proofs.OfferLaws.{stretched-inside, stretched-whole}
 use Rattle.writer.proofs.offers.stretch.Statement.{statement}
 use Rattle.writer.proofs.offers.stretch.Tie as tie
@@ -19,8 +20,11 @@ same-length c = search needs
 returns : tie.Need-returns
 returns c = let a = c .before .before .before .before .before .before .before .args in stretched-inside (a .s) (a .run .now) (a .from) (a .n) _ _ (length (a .store .now)) (c .before .before .before .before .before .before .before .pre .0) (c .before .before .before .before .fill .ensures) (omega arith)
 
+-- the store has room for every level, and so for level 1 alone
 arrive-requires : tie.Need-arrive-requires
-arrive-requires c κs = search needs
+arrive-requires c κs =
+    let s = c .before .before .before .before .before .before .before .before .args .s in
+    omega (arith, store-back (s .width) (s .levels) (omega arith), store-below (s .width) 0, store-none (count lo (s .width)))
 
 add-t14 : tie.Need-add-t14
 add-t14 c = search needs
