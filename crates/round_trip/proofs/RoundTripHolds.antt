@@ -148,9 +148,11 @@ module _ (W L n : ℕ) (x : ℕ → ℤ) (cs : List writer.Call) (done : Finishe
   has-all : HasAll W (rowsWrote W L n x cs) L g rows
   has-all =
       let a = claim .all-drawn (done .finished) (done .none-waits) in
+      let R = rowsWrote W L n x cs in
       record {
-        are = λ y e. found-right W (rowsWrote W L n x cs) g (writer.drawn es) (a .0) (a .1) values y
-            (times-in y (a .0) (omega (arith, a .2 y ∙ ap (λ t. pick t 1 0) e)));
+        are = λ y e.
+            found-right W R g (writer.drawn es) (a .names) (a .answers) values y
+            (times-in y (a .names) (omega (arith, a .once y ∙ ap (λ t. pick t 1 0) e)));
       }
     where
       values : All (HasValues W (rowsWrote W L n x cs) g) (writer.drawn es)
