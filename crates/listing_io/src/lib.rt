@@ -1,133 +1,164 @@
-// The listing program over descriptors: it reads an input to its end in chunks and writes the lines to standard output in large writes, within a constant memory.
-// No contract can say what is read or written; what becomes of the bytes is the promise of crate `listing`.
+// The listing program over descriptors: rounds of read, turn and write, within a constant memory.
+// No contract can say what is read or written; what becomes of the bytes between is said of each round, and by a theorem of all of them (proofs/ListedTheorem.antt).
+use descriptors::input;
+use descriptors::input::Filled;
+use descriptors::input::Left;
+use descriptors::output;
+use descriptors::output::Sent;
 use libc::STDOUT_FILENO;
 use listing::listing::Fed;
 use listing::listing::Listing;
-ghost use Prim.Native.Nat.{_+_, _≤_};
-ghost use lib.ListN.{length};
 
-// A piece being fed: the listing, up to where the piece is read, whether that is all of it and no line is left, and whether standard output takes what is written.
+// The listing after a round, what is left of the chunk, and of that round: what was read, how many bytes of the area were written and how many of those were sent,
+// and whether nothing is left to feed or to write.
 struct Run {
     listing: Listing,
-    used: usize,
+    left: Left,
+    filled: Filled,
+    written: usize,
+    sent: Sent,
     idle: bool,
-    open: bool,
 }
 
-// The input being read: the listing, whether the input has ended, and whether standard output takes what is written.
-struct Reading {
-    listing: Listing,
-    ended: bool,
-    open: bool,
+// Whether the listing waits for input: no line is being written, and neither a refusal nor the end of the input came.
+fn waits(listing: Listing) -> bool {
+    let line = listing.line;
+    let input = listing.input;
+    line.part == 0 && input.phase < 4
 }
 
-// What a call wrote goes out; answers whether it was taken.
-fn write_out(out: &[u8], written: usize) -> bool
-    requires { ⌜ written ≤ length (now out) ⌝ }
-{
-    io::write_all(STDOUT_FILENO, &out[..written])
+// Whether the listing is over.
+fn is_over(listing: Listing) -> bool {
+    let line = listing.line;
+    let input = listing.input;
+    line.part == 0 && 3 < input.phase
 }
 
-fn run_on(fed: Fed, from: usize, open: bool) -> Run
-    requires { ⌜ from + fed .used ≤ 65536 ⌝ }
-    ensures { λ r. ⌜ r .used ≤ from + fed .used ⌝ }
-{
-    let listing = fed.listing;
+fn start(listing: Listing) -> Run {
     Run {
         listing,
-        used: from + fed.used,
-        idle: fed.idle,
-        open,
-    }
-}
-
-fn feed_once(
-    listing: Listing,
-    piece: &[u8],
-    from: usize,
-    store: &mut [i32],
-    row: &mut [i32],
-    out: &mut [u8],
-) -> Run
-    requires { ⌜ (from ≤ length (now piece)) × (length (now piece) ≤ 65536) ⌝ }
-    ensures { λ r. ⌜ r .used ≤ length (now (piece .entry)) ⌝ }
-{
-    let fed = listing.feed(&piece[from..], store, row, out);
-    let open = write_out(out, fed.written);
-    run_on(fed, from, open)
-}
-
-// A piece to its end, while what is written is taken. A proved loop has to end, so it counts its turns down from a number that no run uses up.
-fn feed_all(
-    listing: Listing,
-    piece: &[u8],
-    store: &mut [i32],
-    row: &mut [i32],
-    out: &mut [u8],
-) -> Run
-    requires { ⌜ length (now piece) ≤ 65536 ⌝ }
-{
-    let mut now = Run {
-        listing,
-        used: 0,
+        left: Left { from: 0, to: 0 },
+        filled: Filled {
+            left: Left { from: 0, to: 0 },
+            read: 0,
+            ended: false,
+            failed: false,
+        },
+        written: 0,
+        sent: Sent {
+            count: 0,
+            whole: true,
+        },
         idle: false,
-        open: true,
-    };
-    let mut turns = u64::MAX;
-    while turns > 0 && !now.idle && now.open {
-        let state = now.listing;
-        now = feed_once(state, piece, now.used, store, row, out);
-        turns -= 1;
     }
-    now
 }
 
-// One chunk of the input. An error ends the input.
-fn read_once(
-    fd: i32,
+// What is left of the chunk is fed.
+fn turn(
     listing: Listing,
+    left: Left,
+    chunk: &[u8],
     store: &mut [i32],
     row: &mut [i32],
     out: &mut [u8],
-) -> Reading {
-    let mut chunk = [0u8; 65536];
-    let got = libc::read(fd, &mut chunk);
-    let n = io::count(got, &chunk);
-    let fed = feed_all(listing, &chunk[..n], store, row, out);
-    let next = fed.listing;
-    Reading {
-        listing: next,
-        ended: n == 0,
-        open: fed.open,
+) -> Fed {
+    listing.feed(&chunk[left.from..left.to], store, row, out)
+}
+
+fn send(out: &[u8], written: usize) -> Sent {
+    output::send(STDOUT_FILENO, b"standard output", &out[..written])
+}
+
+fn run_on(fed: Fed, filled: Filled, sent: Sent) -> Run {
+    let listing = fed.listing;
+    let left = filled.left;
+    Run {
+        listing,
+        left: Left {
+            from: left.from + fed.used,
+            to: left.to,
+        },
+        filled,
+        written: fed.written,
+        sent,
+        idle: fed.idle,
     }
 }
 
-fn read_all(fd: i32, store: &mut [i32], row: &mut [i32], out: &mut [u8]) -> Reading {
-    let mut now = Reading {
-        listing: Listing::start(),
-        ended: false,
-        open: true,
-    };
+fn round(
+    run: Run,
+    fd: i32,
+    name: &[u8],
+    chunk: &mut [u8],
+    store: &mut [i32],
+    row: &mut [i32],
+    out: &mut [u8],
+) -> Run {
+    let listing = run.listing;
+    let filled = input::fill(run.left, waits(listing), fd, name, chunk);
+    let fed = turn(listing, filled.left, chunk, store, row, out);
+    let sent = send(out, fed.written);
+    run_on(fed, filled, sent)
+}
+
+fn has_failed(run: Run) -> bool {
+    let filled = run.filled;
+    let sent = run.sent;
+    filled.failed || !sent.whole
+}
+
+fn has_ended(run: Run) -> bool {
+    let filled = run.filled;
+    filled.ended && run.idle
+}
+
+fn goes_on(run: Run) -> bool {
+    let listing = run.listing;
+    !has_failed(run) && !has_ended(run) && !is_over(listing)
+}
+
+// A proved loop has to end, so it counts its turns down from a number that no run uses up.
+fn rounds(
+    listing: Listing,
+    fd: i32,
+    name: &[u8],
+    chunk: &mut [u8],
+    store: &mut [i32],
+    row: &mut [i32],
+    out: &mut [u8],
+) -> Run {
+    let mut now = start(listing);
     let mut turns = u64::MAX;
-    while turns > 0 && !now.ended && now.open {
-        let state = now.listing;
-        now = read_once(fd, state, store, row, out);
+    while turns > 0 && goes_on(now) {
+        now = round(now, fd, name, chunk, store, row, out);
         turns -= 1;
     }
     now
 }
 
-// Lists the map that the descriptor gives, whatever map it is that a listing takes.
-pub fn list(fd: i32) {
+// Lists the map that the descriptor gives, whatever map it is that a listing takes. What fails is told on standard error, by the name of the input; answers whether nothing did.
+pub fn list(fd: i32, name: &[u8]) -> bool {
+    let mut chunk = [0u8; 65536];
     let mut store = [0i32; Listing::STORE];
     let mut row = [0i32; Listing::ROW];
     let mut out = [0u8; 65536];
-    let read = read_all(fd, &mut store, &mut row, &mut out);
-    if !read.open {
-        return;
+    let read = rounds(
+        Listing::start(),
+        fd,
+        name,
+        &mut chunk,
+        &mut store,
+        &mut row,
+        &mut out,
+    );
+    if has_failed(read) {
+        return false;
+    }
+    if !has_ended(read) {
+        return true;
     }
     let heard = read.listing;
     let ended = heard.end(&mut store, &mut row);
-    let nothing = [0u8; 1];
-    feed_all(ended, &nothing[..0], &mut store, &mut row, &mut out);
+    let told = rounds(ended, fd, name, &mut chunk, &mut store, &mut row, &mut out);
+    !has_failed(told)
 }
