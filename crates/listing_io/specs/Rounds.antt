@@ -1,0 +1,77 @@
+-- The listing over descriptors, round by round: read, turn, write. n and k are the lengths of line store and row area.
+-- proofs/ListedTheorem: whatever the rounds, once the listing is over all that was written is `listingOf` all that was read, however much more would have come.
+use mathlib.Core.Path.{_≡_}
+use mathlib.Core.Bool.{Bool, true, false, not}
+use mathlib.Core.List.{List, [], _++_}
+use Prim.Native.Nat.{ℕ, suc}
+use lib.Dec.{ltb, eqb}
+use lib.ListN.{take}
+use Rattle.numbers.specs.Signal.{pick, both}
+use Rattle.descriptors.specs.Left.{leftIn, Within, usedOf, Fills}
+use Rattle.descriptors.specs.declared.input.Left.{Left}
+use Rattle.writer.specs.Level.{Memory}
+use Rattle.listing.specs.Scenes.{Scene, scene, started, endScene}
+use Rattle.listing.specs.Moves.{Idle, Went, Stops}
+use Rattle.listing.specs.declared.listing.Listing.{Listing}
+use Rattle.listing_io.specs.declared.Run.{Run}
+
+-- no line is being written, and the listing hears: it waits for input
+unfoldable pub waiting : Listing → Bool
+waiting l = both (eqb (l .line .part) 0) (ltb (l .input .phase) 4)
+
+-- no line is being written, and it hears no more
+unfoldable pub over : Listing → Bool
+over l = both (eqb (l .line .part) 0) (ltb 3 (l .input .phase))
+
+-- input or output has failed
+unfoldable pub failed : Run → Bool
+failed r = pick (r .filled .failed) true (not (r .sent .whole))
+
+-- the input has ended, and all of it is fed
+unfoldable pub ended : Run → Bool
+ended r = both (r .filled .ended) (r .idle)
+
+-- its end is to be told
+unfoldable pub ends : Run → Bool
+ends r = both (ended r) (not (failed r))
+
+-- all is written that there is to write
+unfoldable pub whole : Run → Bool
+whole r = pick (failed r) false (over (r .listing))
+
+-- there is another round
+unfoldable pub going : Run → Bool
+going r = pick (failed r) false (pick (ended r) false (not (over (r .listing))))
+
+-- a round from scene s to s′, where l was left of the chunk c. c′ stands there then, and o′ in the area o
+pub record Round (n k : ℕ) (s : Scene) (l : Left) (c c′ o o′ : List ℕ) (s′ : Scene) (r : Run) : Type 0 where
+  pub within : Within c l
+  -- read: only if nothing is left, and the listing waits
+  pub fills : Fills (waiting (s .listing)) l c c′ (r .filled)
+  -- turn: what stands in the chunk then is fed, as far as the area has room
+  pub used : ℕ
+  pub went : Went n k s (leftIn c′ (r .filled .left)) 0 used o o′ 0 (r .written) s′
+  pub stops : Stops s′ (leftIn c′ (r .filled .left)) used o (r .written) (r .idle)
+  pub left : r .left ≡ usedOf (r .filled .left) used
+  -- write: as many bytes were taken as the turn wrote, or it failed
+  pub sent : r .sent .whole ≡ eqb (r .sent .count) (r .written)
+
+-- m rounds. p is left at first and p′ then, u is all that was read, t all that was written
+pub data Rounds (n k : ℕ) : ℕ → Scene → List ℕ → List ℕ → List ℕ → Scene → List ℕ → Type 0 where
+  begun : (s : Scene) (p : List ℕ) → Rounds n k 0 s p [] [] s p
+  then : {m : ℕ} {s s₁ s₂ : Scene} {p u t c c′ o o′ : List ℕ} {l : Left} {r : Run} → Rounds n k m s p u t s₁ (leftIn c l) → Round n k s₁ l c c′ o o′ s₂ r
+      → Rounds n k (suc m) s p (u ++ take (r .filled .read) c′) (t ++ take (r .written) o′) s₂ (leftIn c′ (r .left))
+
+-- rounds from scene s to s′, where p′ is left. r is what the last one left; there is no other, or they are as many as 64 bits count
+pub record Ran (n k : ℕ) (s s′ : Scene) (p′ : List ℕ) (r : Run) : Type 0 where
+  pub count : ℕ
+  pub read : List ℕ
+  pub written : List ℕ
+  pub rounds : Rounds n k count s [] read written s′ p′
+  pub stopped : going r ≡ true → count ≡ 18446744073709551615
+  pub idle : r .idle ≡ true → Idle s′ × (p′ ≡ [])
+
+-- all of an input, with x and z in line store and row area at first: rounds until it ends, and on with what its end makes due
+pub data Listed (n k : ℕ) (x z : Memory) (s′ : Scene) (p′ : List ℕ) (r : Run) : Type 0 where
+  before : Ran n k (scene started x z) s′ p′ r → ends r ≡ false → Listed n k x z s′ p′ r
+  after : {s₁ : Scene} {p₁ : List ℕ} {r₁ : Run} → Ran n k (scene started x z) s₁ p₁ r₁ → ends r₁ ≡ true → Ran n k (endScene n k s₁) s′ p′ r → Listed n k x z s′ p′ r
