@@ -12,7 +12,8 @@ use Rattle.descriptors.specs.Left.{leftIn, Within, usedOf, readsNow, cam
 use Rattle.descriptors.specs.declared.input.Left.{Left}
 use Rattle.descriptors.specs.declared.input.Filled.{Filled}
 
-pub fills-read : {w : Bool} {l : Left} {c c′ : List ℕ} {r : Filled} (n : ℕ) (f : Bool) → readsNow w l ≡ true → r ≡ came n f → n ≤ length c′ → (f ≡ true → n ≡ 0) → Fills w l c c′ r
+pub fills-read : {w : Bool} {l : Left} {c c′ : List ℕ} {r : Filled} (n : ℕ) (f : Bool) → readsNow w l ≡ true → r ≡ came n f → n ≤ length c′
+    → (f ≡ true → n ≡ 0) → Fills w l c c′ r
 fills-read {w} {l} {c} {c′} n f e q h z = subst (λ r. Fills w l c c′ r) (sym q) (reads e refl h z)
 
 -- nothing is left where the end is not after the start
@@ -32,7 +33,8 @@ from-start c n = let e : n - 0 ≡ n = omega arith in rw e refl
 -- what is left after a fill is what was left, and what was read
 pub fills-left : {w : Bool} {l : Left} {c c′ : List ℕ} {r : Filled} → Fills w l c c′ r → leftIn c′ (r .left) ≡ leftIn c l ++ take (r .read) c′
 fills-left {c = c} (keeps e q k) = rw (q, k) (sym (append-nil (leftIn c _)))
-fills-left {w} {l} {c} {c′} {r} (reads e q h z) = rw (ap (λ x. x .left) q) (from-start c′ (r .read)) ∙ sym (ap (λ x. x ++ take (r .read) c′) (none-left c l (reads-none w l e)))
+fills-left {w} {l} {c} {c′} {r} (reads e q h z) = rw (ap (λ x. x .left) q) (from-start c′ (r .read))
+    ∙ sym (ap (λ x. x ++ take (r .read) c′) (none-left c l (reads-none w l e)))
 
 pub fills-within : {w : Bool} {l : Left} {c c′ : List ℕ} {r : Filled} → Within c l → Fills w l c c′ r → Within c′ (r .left)
 fills-within i (keeps e q k) = rw (q, k) i

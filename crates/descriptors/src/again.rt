@@ -1,4 +1,5 @@
-// Whether a call that has just failed is to be made again: a signal came between, or the descriptor does not wait and has nothing yet. Then another process may run first.
+// Whether a call that has just failed is to be made again: a signal came between, or the descriptor does not wait and has nothing yet. Then another
+// process may run first.
 use libc::EAGAIN;
 use libc::EINTR;
 

@@ -1,5 +1,7 @@
--- The listing over descriptors: whatever was read in whatever rounds, what was written is what the definition makes of it. Line store and row area are those of ListingTheorem.
---     over-listed     where a refusal ended the listing, all that was written is `listingOf` all that was read, and of any input that begins so: nothing more need be read
+-- The listing over descriptors: whatever was read in whatever rounds, what was written is what the definition makes of it. Line store and row area are
+-- those of ListingTheorem.
+-- over-listed     where a refusal ended the listing, all that was written is `listingOf` all that was read, and of any input that begins so: nothing
+-- more need be read
 --     ended-listed    where the input ended, it is `listingOf` all that was read
 --     partly-listed   before the end, at any time, it is a beginning of `dueOf` what was read and is not left in the chunk
 -- Assumes nothing.
@@ -28,7 +30,7 @@ use Rattle.listing.proofs.MoveLaws.{goes-on}
 use Rattle.listing.proofs.ListingTheorem.{call-wrote, moves-due, moves-prefix, moves-whole}
 use Rattle.listing_io.specs.Rounds.{over, ends, Round, Rounds, Ran}
 use Rattle.listing_io.specs.Rounds as rounds
-use Rattle.listing_io.specs.declared.Run.{Run}
+use Rattle.listing_io.specs.declared.run.Run.{Run}
 use Rattle.listing_io.proofs.RoundLaws.{both-true, ends-idle}
 
 -- ---- rounds are moves
@@ -95,7 +97,8 @@ all-front [] t a = all-none
 all-front (x ∷ s) t (all-more p a) = all-more p (all-front s t a)
 
 -- ---- the theorem
-module _ (n k : ℕ) (store : storeLength maxListedWidth 5 ≤ n) (row : maxListedWidth ≤ k) (x z : Memory) {s : Scene} {p : List ℕ} {r : Run} (ran : Ran n k (scene started x z) s p r) where
+module _ (n k : ℕ) (store : storeLength maxListedWidth 5 ≤ n) (row : maxListedWidth ≤ k) (x z : Memory) {s : Scene} {p : List ℕ} {r : Run}
+    (ran : Ran n k (scene started x z) s p r) where
   told : Heard n k (scene started x z) [] (ran .read) (ran .written) s p
   told = rounds-go (ran .rounds)
 
@@ -103,7 +106,8 @@ module _ (n k : ℕ) (store : storeLength maxListedWidth 5 ≤ n) (row : maxList
   unfolding maxListedWidth
   over-listed v bytes e =
       sym (append-nil _) ∙ sym (append-nil _)
-      ∙ moves-whole n k store row x z (subst (All (λ b. b ≤ 255)) same bytes) (goes-on (told .goes) (d .goes)) (d .idle) all-none (stays _) (subst Idle (sym (end-over n k (d .scene) (d .idle) (d .deaf))) (d .idle))
+      ∙ moves-whole n k store row x z (subst (All (λ b. b ≤ 255)) same bytes) (goes-on (told .goes) (d .goes)) (d .idle) all-none (stays _)
+      (subst Idle (sym (end-over n k (d .scene) (d .idle) (d .deaf))) (d .idle))
       ∙ ap listingOf (sym same)
     where
       o : (s .listing .line .part ≡ 0) × (3 < s .listing .input .phase)
@@ -122,11 +126,13 @@ module _ (n k : ℕ) (store : storeLength maxListedWidth 5 ≤ n) (row : maxList
       (told .heard, m .0, told .left, m .1)
 
   -- the end of the input, and rounds after it
-  pub ended-listed : {s₂ : Scene} {p₂ : List ℕ} {r₂ : Run} (more : Ran n k (endScene n k s) s₂ p₂ r₂) → ends r ≡ true → All (λ b. b ≤ 255) (ran .read) → All (λ b. b ≤ 255) (more .read)
+  pub ended-listed : {s₂ : Scene} {p₂ : List ℕ} {r₂ : Run} (more : Ran n k (endScene n k s) s₂ p₂ r₂) → ends r ≡ true → All (λ b. b ≤ 255) (ran .read)
+      → All (λ b. b ≤ 255) (more .read)
       → over (s₂ .listing) ≡ true → ran .written ++ more .written ≡ listingOf (ran .read)
   unfolding maxListedWidth
   ended-listed {s₂} {p₂} more e bytes bytes₂ o =
-      moves-whole n k store row x z (subst (All (λ b. b ≤ 255)) same bytes) (told .goes) (i .0) (all-front (g .heard) p₂ (subst (All (λ b. b ≤ 255)) (g .left) bytes₂)) (g .goes)
+      moves-whole n k store row x z (subst (All (λ b. b ≤ 255)) same bytes) (told .goes) (i .0)
+      (all-front (g .heard) p₂ (subst (All (λ b. b ≤ 255)) (g .left) bytes₂)) (g .goes)
       (over-idle (s₂ .listing) o .0)
       ∙ ap listingOf (sym same)
     where

@@ -18,16 +18,13 @@ use Rattle.listing.specs.declared.listing.Listing.{Listing}
 use Rattle.listing.specs.declared.listing.Fed.{Fed}
 use Rattle.listing.specs.Scenes.{Scene, scene, Leaves, started, endScene}
 use Rattle.listing.specs.Moves.{Idle, Went, Stops, full, idle}
-use Rattle.listing_io.specs.Rounds.{waiting, failed, ended, ends, going, Round, Rounds, begun, then, Ran, Listed, before, after}
-use Rattle.listing_io.specs.declared.Run.{Run}
-
--- what a round leaves of its read, turn and write
-abbrev pub runOf : Fed → Filled → Sent → Run
-runOf f g q = record { listing = f .listing; left = usedOf (g .left) (f .used); filled = g; written = f .written; sent = q; idle = f .idle }
+use Rattle.listing_io.specs.Rounds.{runOf, waiting, failed, ended, ends, going, Round, Rounds, begun, then, Ran, Listed, before, after}
+use Rattle.listing_io.specs.declared.run.Run.{Run}
 
 pub round-is : {n k : ℕ} {s : Scene} {l : Left} {c c′ o o′ : List ℕ} {x z : Memory} (w : Bool) (f : Fed) (g : Filled) (q : Sent) {r : Run}
     → Within c l → w ≡ waiting (s .listing) → Fills w l c c′ g
-    → Went n k s (leftIn c′ (g .left)) 0 (f .used) o o′ 0 (f .written) (scene (f .listing) x z) → Stops (scene (f .listing) x z) (leftIn c′ (g .left)) (f .used) o (f .written) (f .idle)
+    → Went n k s (leftIn c′ (g .left)) 0 (f .used) o o′ 0 (f .written) (scene (f .listing) x z)
+    → Stops (scene (f .listing) x z) (leftIn c′ (g .left)) (f .used) o (f .written) (f .idle)
     → q .whole ≡ eqb (q .count) (f .written) → r ≡ runOf f g q
     → Round n k s l c c′ o o′ (scene (r .listing) x z) r
 round-is {n} {k} {s} {l} {c} {c′} {o} {o′} {x} {z} w f g q m e i t h y d =
@@ -47,7 +44,8 @@ pub record Looped (n k : ℕ) (s s′ : Scene) (c : List ℕ) (turns : ℕ) (r :
 pub false-true : {A : Type 0} {b : Bool} → b ≡ false → b ≡ true → A
 false-true e d = absurd (let z : _≡_ {A = ℕ} 0 1 = cc in omega arith)
 
-pub looped-start : (n k : ℕ) (s : Scene) (c : List ℕ) (r : Run) → r .left ≡ record { from = 0; to = 0 } → r .idle ≡ false → Looped n k s s c 18446744073709551615 r
+pub looped-start : (n k : ℕ) (s : Scene) (c : List ℕ) (r : Run) → r .left ≡ record { from = 0; to = 0 } → r .idle ≡ false
+    → Looped n k s s c 18446744073709551615 r
 looped-start n k s c r e i =
     record {
       count = 0;
@@ -80,10 +78,14 @@ looped-on {n} {k} {n′} {k′} {s} {s₁} {s₂} {c} {c′} {o} {o′} turns {r
 
     stopped : {i : Bool} → Stops s₂ (leftIn c′ (r₂ .filled .left)) (d .used) o (r₂ .written) i → i ≡ true → Idle s₂ × (leftIn c′ (r₂ .left) ≡ [])
     stopped (full x e) z = false-true refl z
-    stopped (idle x e) z =
-        (x, ap (leftIn c′) (d .left) ∙ used-left (d .used) room (d .went .part) ∙ ap (λ m. drop m (leftIn c′ (r₂ .filled .left))) e ∙ drop-length (leftIn c′ (r₂ .filled .left)))
+    stopped (idle x e) z = (
+      x,
+      ap (leftIn c′) (d .left) ∙ used-left (d .used) room (d .went .part) ∙ ap (λ m. drop m (leftIn c′ (r₂ .filled .left))) e
+          ∙ drop-length (leftIn c′ (r₂ .filled .left)),
+    )
 
-pub looped-stop : {n k : ℕ} {x z : Memory} {l l₀ : Listing} {s′ : Scene} {c : List ℕ} {turns : ℕ} {r : Run} → l₀ ≡ l → Looped n k (scene l₀ x z) s′ c turns r → (going r ≡ true → turns ≡ 0)
+pub looped-stop : {n k : ℕ} {x z : Memory} {l l₀ : Listing} {s′ : Scene} {c : List ℕ} {turns : ℕ} {r : Run} → l₀ ≡ l → Looped n k (scene l₀ x z) s′ c turns r
+    → (going r ≡ true → turns ≡ 0)
     → Ran n k (scene l x z) s′ (leftIn c (r .left)) r
 looped-stop {n} {k} {x} {z} {s′ = s′} {c = c} {turns = turns} {r = r} e g h =
     record {
@@ -109,12 +111,15 @@ ends-idle r e = ended-idle r (both-true (ended r) (not (failed r)) e .0)
 
 -- ---- all of an input
 leaves-is : {s : Scene} {l : Listing} {x z : Memory} → Leaves s l x z → scene l x z ≡ s
-leaves-is {s} {l} {x} {z} h = ap (λ y. scene y x z) (h .listing) ∙ ap (λ y. scene (s .listing) y z) (h .store) ∙ ap (λ y. scene (s .listing) (s .store) y) (h .row)
+leaves-is {s} {l} {x} {z} h = ap (λ y. scene y x z) (h .listing) ∙ ap (λ y. scene (s .listing) y z) (h .store)
+    ∙ ap (λ y. scene (s .listing) (s .store) y) (h .row)
 
-pub listed-before : {n k : ℕ} {x z : Memory} {l : Listing} {s′ : Scene} {p′ : List ℕ} {r : Run} → l ≡ started → Ran n k (scene l x z) s′ p′ r → ends r ≡ false → Listed n k x z s′ p′ r
+pub listed-before : {n k : ℕ} {x z : Memory} {l : Listing} {s′ : Scene} {p′ : List ℕ} {r : Run} → l ≡ started → Ran n k (scene l x z) s′ p′ r
+    → ends r ≡ false → Listed n k x z s′ p′ r
 listed-before {n} {k} {x} {z} {s′ = s′} {p′ = p′} {r = r} e g h = before (subst (λ y. Ran n k (scene y x z) s′ p′ r) e g) h
 
-pub listed-after : {n k n₁ k₁ n₂ k₂ : ℕ} {x z x₂ z₂ : Memory} {l l₂ : Listing} {s₁ s′ : Scene} {p₁ p′ : List ℕ} {r₁ r : Run} → l ≡ started → n₁ ≡ n → k₁ ≡ k → n₂ ≡ n → k₂ ≡ k
+pub listed-after : {n k n₁ k₁ n₂ k₂ : ℕ} {x z x₂ z₂ : Memory} {l l₂ : Listing} {s₁ s′ : Scene} {p₁ p′ : List ℕ} {r₁ r : Run} → l ≡ started → n₁ ≡ n → k₁ ≡ k
+    → n₂ ≡ n → k₂ ≡ k
     → Ran n k (scene l x z) s₁ p₁ r₁ → ends r₁ ≡ true → Leaves (endScene n₁ k₁ s₁) l₂ x₂ z₂ → Ran n₂ k₂ (scene l₂ x₂ z₂) s′ p′ r → Listed n k x z s′ p′ r
 listed-after {n} {k} {n₁} {k₁} {n₂} {k₂} {x} {z} {x₂} {z₂} {l₂ = l₂} {s₁ = s₁} {s′ = s′} {p₁ = p₁} {p′ = p′} {r₁ = r₁} {r = r} e en ek en′ ek′ g h i d =
     after (subst (λ y. Ran n k (scene y x z) s₁ p₁ r₁) e g) h

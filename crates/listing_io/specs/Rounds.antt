@@ -9,11 +9,14 @@ use lib.ListN.{take}
 use Rattle.numbers.specs.Signal.{pick, both}
 use Rattle.descriptors.specs.Left.{leftIn, Within, usedOf, Fills}
 use Rattle.descriptors.specs.declared.input.Left.{Left}
+use Rattle.descriptors.specs.declared.input.Filled.{Filled}
+use Rattle.descriptors.specs.declared.output.Sent.{Sent}
 use Rattle.writer.specs.Level.{Memory}
 use Rattle.listing.specs.Scenes.{Scene, scene, started, endScene}
 use Rattle.listing.specs.Moves.{Idle, Went, Stops}
 use Rattle.listing.specs.declared.listing.Listing.{Listing}
-use Rattle.listing_io.specs.declared.Run.{Run}
+use Rattle.listing.specs.declared.listing.Fed.{Fed}
+use Rattle.listing_io.specs.declared.run.Run.{Run}
 
 -- no line is being written, and the listing hears: it waits for input
 unfoldable pub waiting : Listing → Bool
@@ -42,6 +45,18 @@ whole r = pick (failed r) false (over (r .listing))
 -- there is another round
 unfoldable pub going : Run → Bool
 going r = pick (failed r) false (pick (ended r) false (not (over (r .listing))))
+
+-- what a round leaves of its read (g), its turn (f) and its write (q)
+abbrev pub runOf : Fed → Filled → Sent → Run
+runOf f g q =
+    record {
+      listing = f .listing;
+      left = usedOf (g .left) (f .used);
+      filled = g;
+      written = f .written;
+      sent = q;
+      idle = f .idle;
+    }
 
 -- a round from scene s to s′, where l was left of the chunk c. c′ stands there then, and o′ in the area o
 pub record Round (n k : ℕ) (s : Scene) (l : Left) (c c′ o o′ : List ℕ) (s′ : Scene) (r : Run) : Type 0 where
@@ -74,4 +89,5 @@ pub record Ran (n k : ℕ) (s s′ : Scene) (p′ : List ℕ) (r : Run) : Type 0
 -- all of an input, with x and z in line store and row area at first: rounds until it ends, and on with what its end makes due
 pub data Listed (n k : ℕ) (x z : Memory) (s′ : Scene) (p′ : List ℕ) (r : Run) : Type 0 where
   before : Ran n k (scene started x z) s′ p′ r → ends r ≡ false → Listed n k x z s′ p′ r
-  after : {s₁ : Scene} {p₁ : List ℕ} {r₁ : Run} → Ran n k (scene started x z) s₁ p₁ r₁ → ends r₁ ≡ true → Ran n k (endScene n k s₁) s′ p′ r → Listed n k x z s′ p′ r
+  after : {s₁ : Scene} {p₁ : List ℕ} {r₁ : Run} → Ran n k (scene started x z) s₁ p₁ r₁ → ends r₁ ≡ true → Ran n k (endScene n k s₁) s′ p′ r
+      → Listed n k x z s′ p′ r

@@ -1,83 +1,25 @@
 // The listing program over descriptors: rounds of read, turn and write, within a constant memory.
-// No contract can say what is read or written; what becomes of the bytes between is said of each round, and by a theorem of all of them (proofs/ListedTheorem.antt).
+// No contract can say what is read or written; what becomes of the bytes between is said of each round, and by a theorem of all of them
+// (proofs/ListedTheorem.antt).
+mod run;
+
 use descriptors::input;
-use descriptors::input::Filled;
 use descriptors::input::Left;
 use descriptors::output;
 use descriptors::output::Sent;
 use libc::STDOUT_FILENO;
 use listing::listing::Fed;
 use listing::listing::Listing;
+use run::Run;
 ghost use mathlib.Core.Path.{_≡_};
-ghost use mathlib.Core.Bool.{false};
 ghost use Prim.Native.Nat.{_≤_};
 ghost use lib.Dec.{eqb};
 ghost use lib.ListN.{length};
 ghost use Rattle.numbers.specs.Signal.{at};
-ghost use Rattle.descriptors.specs.Left.{leftIn, Within, usedOf};
+ghost use Rattle.descriptors.specs.Left.{leftIn, Within};
 ghost use Rattle.listing.specs.Scenes.{scene, Leaves, endScene};
 ghost use Rattle.listing.specs.Moves.{Went, Stops};
-ghost use Rattle.listing_io.specs.Rounds.{waiting, over, failed, ended, ends, whole, going, Round, Ran, Listed};
-
-// The listing after a round, what is left of the chunk, and of that round: what was read, how many bytes of the area were written and how many of those were sent,
-// and whether nothing is left to feed or to write.
-struct Run {
-    listing: Listing,
-    left: Left,
-    filled: Filled,
-    written: usize,
-    sent: Sent,
-    idle: bool,
-}
-
-// Whether the listing waits for input: no line is being written, and neither a refusal nor the end of the input came.
-fn waits(listing: Listing) -> bool
-    ensures { λ r. ⌜ r ≡ waiting listing ⌝ }
-{
-    let line = listing.line;
-    let input = listing.input;
-    if line.part == 0 {
-        return input.phase < 4;
-    }
-    false
-}
-
-// Whether the listing is over: no line is being written, and a refusal or the end of the input came.
-fn is_over(listing: Listing) -> bool
-    ensures { λ r. ⌜ r ≡ over listing ⌝ }
-{
-    let line = listing.line;
-    let input = listing.input;
-    if line.part == 0 {
-        return 3 < input.phase;
-    }
-    false
-}
-
-// Before the first round.
-fn start(listing: Listing) -> Run
-    ensures { λ r. ⌜ r .listing ≡ listing ⌝ }
-    ensures { λ r. ⌜ r .left ≡ record { from = 0; to = 0 } ⌝ }
-    ensures { λ r. ⌜ r .idle ≡ false ⌝ }
-{
-    let none = Left { from: 0, to: 0 };
-    Run {
-        listing,
-        left: none,
-        filled: Filled {
-            left: none,
-            read: 0,
-            ended: false,
-            failed: false,
-        },
-        written: 0,
-        sent: Sent {
-            count: 0,
-            whole: true,
-        },
-        idle: false,
-    }
-}
+ghost use Rattle.listing_io.specs.Rounds.{Round, Ran, Listed};
 
 // What is left of the chunk is fed.
 fn turn(
@@ -89,8 +31,15 @@ fn turn(
     out: &mut [u8],
 ) -> Fed
     requires { ⌜ Within (now chunk) left ⌝ }
-    ensures { λ r. ⌜ Went (length (now (store .entry))) (length (now (row .entry))) (scene listing (at (now (store .entry))) (at (now (row .entry)))) (leftIn (now (chunk .entry)) left) 0 (r .used) (now (out .entry)) (now (out .exit)) 0 (r .written) (scene (r .listing) (at (now (store .exit))) (at (now (row .exit)))) ⌝ }
-    ensures { λ r. ⌜ Stops (scene (r .listing) (at (now (store .exit))) (at (now (row .exit)))) (leftIn (now (chunk .entry)) left) (r .used) (now (out .entry)) (r .written) (r .idle) ⌝ }
+    ensures { λ r. ⌜
+        Went (length (now (store .entry))) (length (now (row .entry))) (scene listing (at (now (store .entry))) (at (now (row .entry))))
+        (leftIn (now (chunk .entry)) left) 0 (r .used) (now (out .entry)) (now (out .exit)) 0 (r .written)
+        (scene (r .listing) (at (now (store .exit))) (at (now (row .exit))))
+        ⌝ }
+    ensures { λ r. ⌜
+        Stops (scene (r .listing) (at (now (store .exit))) (at (now (row .exit))))
+        (leftIn (now (chunk .entry)) left) (r .used) (now (out .entry)) (r .written) (r .idle)
+        ⌝ }
 {
     let from = left.from;
     let to = left.to;
@@ -105,20 +54,7 @@ fn send(out: &[u8], written: usize) -> Sent
     output::send(STDOUT_FILENO, b"standard output", &out[..written])
 }
 
-fn run_on(fed: Fed, filled: Filled, sent: Sent) -> Run
-    ensures { λ r. ⌜ r ≡ record { listing = fed .listing; left = usedOf (filled .left) (fed .used); filled = filled; written = fed .written; sent = sent; idle = fed .idle } ⌝ }
-{
-    let listing = fed.listing;
-    Run {
-        listing,
-        left: input::used(filled.left, fed.used),
-        filled,
-        written: fed.written,
-        sent,
-        idle: fed.idle,
-    }
-}
-
+// Read, turn, write.
 fn round(
     run: Run,
     fd: i32,
@@ -129,60 +65,17 @@ fn round(
     out: &mut [u8],
 ) -> Run
     requires { ⌜ Within (now chunk) (run .left) ⌝ }
-    ensures { λ r. ⌜ Round (length (now (store .entry))) (length (now (row .entry))) (scene (run .listing) (at (now (store .entry))) (at (now (row .entry)))) (run .left) (now (chunk .entry)) (now (chunk .exit)) (now (out .entry)) (now (out .exit)) (scene (r .listing) (at (now (store .exit))) (at (now (row .exit)))) r ⌝ }
+    ensures { λ r. ⌜
+        Round (length (now (store .entry))) (length (now (row .entry))) (scene (run .listing) (at (now (store .entry))) (at (now (row .entry))))
+        (run .left) (now (chunk .entry)) (now (chunk .exit)) (now (out .entry)) (now (out .exit))
+        (scene (r .listing) (at (now (store .exit))) (at (now (row .exit)))) r
+        ⌝ }
 {
     let listing = run.listing;
-    let filled = input::fill(run.left, waits(listing), fd, name, chunk);
+    let filled = input::fill(run.left, run::waits(listing), fd, name, chunk);
     let fed = turn(listing, filled.left, chunk, store, row, out);
     let sent = send(out, fed.written);
-    run_on(fed, filled, sent)
-}
-
-// Whether input or output has failed.
-fn has_failed(run: Run) -> bool
-    ensures { λ r. ⌜ r ≡ failed run ⌝ }
-{
-    let filled = run.filled;
-    let sent = run.sent;
-    if filled.failed {
-        return true;
-    }
-    !sent.whole
-}
-
-// Whether the input has ended, and all of it is fed.
-fn has_ended(run: Run) -> bool
-    ensures { λ r. ⌜ r ≡ ended run ⌝ }
-{
-    let filled = run.filled;
-    if filled.ended {
-        return run.idle;
-    }
-    false
-}
-
-// Whether all was written that there is to write.
-fn is_whole(run: Run) -> bool
-    ensures { λ r. ⌜ r ≡ whole run ⌝ }
-{
-    let listing = run.listing;
-    if has_failed(run) {
-        return false;
-    }
-    is_over(listing)
-}
-
-fn goes_on(run: Run) -> bool
-    ensures { λ r. ⌜ r ≡ going run ⌝ }
-{
-    let listing = run.listing;
-    if has_failed(run) {
-        return false;
-    }
-    if has_ended(run) {
-        return false;
-    }
-    !is_over(listing)
+    run::run_on(fed, filled, sent)
 }
 
 // A proved loop has to end, so it counts its turns down from a number that no run uses up.
@@ -195,31 +88,28 @@ fn rounds(
     row: &mut [i32],
     out: &mut [u8],
 ) -> Run
-    ensures { λ r. ⌜ Ran (length (now (store .entry))) (length (now (row .entry))) (scene listing (at (now (store .entry))) (at (now (row .entry)))) (scene (r .listing) (at (now (store .exit))) (at (now (row .exit)))) (leftIn (now (chunk .exit)) (r .left)) r ⌝ }
+    ensures { λ r. ⌜
+        Ran (length (now (store .entry))) (length (now (row .entry))) (scene listing (at (now (store .entry))) (at (now (row .entry))))
+        (scene (r .listing) (at (now (store .exit))) (at (now (row .exit)))) (leftIn (now (chunk .exit)) (r .left)) r
+        ⌝ }
 {
-    let mut now = start(listing);
+    let mut now = run::start(listing);
     let mut turns = u64::MAX;
-    while turns > 0 && goes_on(now) {
+    while turns > 0 && run::goes_on(now) {
         now = round(now, fd, name, chunk, store, row, out);
         turns -= 1;
     }
     now
 }
 
-// Whether the end of the input is to be told.
-fn ends(run: Run) -> bool
-    ensures { λ r. ⌜ r ≡ ends run ⌝ }
-{
-    if has_ended(run) {
-        return !has_failed(run);
-    }
-    false
-}
-
 // The end of the input is told while no line is being written.
 fn end(listing: Listing, store: &mut [i32], row: &mut [i32]) -> Listing
     requires { ⌜ listing .line .part ≡ 0 ⌝ }
-    ensures { λ r. ⌜ Leaves (endScene (length (now (store .entry))) (length (now (row .entry))) (scene listing (at (now (store .entry))) (at (now (row .entry))))) r (at (now (store .exit))) (at (now (row .exit))) ⌝ }
+    ensures { λ r. ⌜
+        Leaves
+        (endScene (length (now (store .entry))) (length (now (row .entry))) (scene listing (at (now (store .entry))) (at (now (row .entry)))))
+        r (at (now (store .exit))) (at (now (row .exit)))
+        ⌝ }
 {
     listing.end(store, row)
 }
@@ -233,23 +123,27 @@ fn list_all(
     row: &mut [i32],
     out: &mut [u8],
 ) -> Run
-    ensures { λ r. ⌜ Listed (length (now (store .entry))) (length (now (row .entry))) (at (now (store .entry))) (at (now (row .entry))) (scene (r .listing) (at (now (store .exit))) (at (now (row .exit)))) (leftIn (now (chunk .exit)) (r .left)) r ⌝ }
+    ensures { λ r. ⌜
+        Listed (length (now (store .entry))) (length (now (row .entry))) (at (now (store .entry))) (at (now (row .entry)))
+        (scene (r .listing) (at (now (store .exit))) (at (now (row .exit)))) (leftIn (now (chunk .exit)) (r .left)) r
+        ⌝ }
 {
     let listing = Listing::start();
     let run = rounds(listing, fd, name, chunk, store, row, out);
-    if ends(run) {
+    if run::ends(run) {
         let ended = end(run.listing, store, row);
         return rounds(ended, fd, name, chunk, store, row, out);
     }
     run
 }
 
-// Lists the map that the descriptor gives, whatever map it is that a listing takes. What fails is told on standard error. Answers whether the listing is written whole.
+// Lists the map that the descriptor gives, whatever map it is that a listing takes. What fails is told on standard error. Answers whether the listing is
+// written whole.
 pub fn list(fd: i32, name: &[u8]) -> bool {
     let mut chunk = [0u8; 65536];
     let mut store = [0i32; Listing::STORE];
     let mut row = [0i32; Listing::ROW];
     let mut out = [0u8; 65536];
     let run = list_all(fd, name, &mut chunk, &mut store, &mut row, &mut out);
-    is_whole(run)
+    run::is_whole(run)
 }

@@ -22,16 +22,26 @@ rounds-requires-2 : tie.Need-rounds-requires-2
 rounds-requires-2 c κs = tt
 
 same-length : tie.Need-same-length
-same-length c = c .before .before .before .before .before .before .rounds2 .kept .1 .1 .1 .0 ∙ c .before .before .before .before .before .before .before .before .before .before .before .before .before .before .before .before .before .before .before .before .before .before .before .before .rounds .kept .1 .1 .1 .0
+same-length c = c .before .before .before .before .before .before .rounds2 .kept .1 .1 .1 .0
+    ∙ c .before .before .before .before .before .before .before .before .before .before .before .before .before .before .before .before .before .before
+    .before .before .before .before .before .before .rounds .kept .1 .1 .1 .0
 
 same-length-2 : tie.Need-same-length-2
-same-length-2 c = c .before .before .before .before .before .before .rounds2 .kept .1 .1 .1 .1 .0 ∙ c .before .before .before .before .before .before .before .before .before .before .before .before .before .end .kept .1 .0 ∙ c .before .before .before .before .before .before .before .before .before .before .before .before .before .before .before .before .before .before .before .before .before .before .before .before .rounds .kept .1 .1 .1 .1 .0
+same-length-2 c = c .before .before .before .before .before .before .rounds2 .kept .1 .1 .1 .1 .0
+    ∙ c .before .before .before .before .before .before .before .before .before .before .before .before .before .end .kept .1 .0
+    ∙ c .before .before .before .before .before .before .before .before .before .before .before .before .before .before .before .before .before .before
+    .before .before .before .before .before .before .rounds .kept .1 .1 .1 .1 .0
 
 same-length-3 : tie.Need-same-length-3
-same-length-3 c = c .before .before .before .before .before .before .rounds2 .kept .1 .1 .1 .1 .1 .0 ∙ c .before .before .before .before .before .before .before .before .before .before .before .before .before .end .kept .1 .1 .0 ∙ c .before .before .before .before .before .before .before .before .before .before .before .before .before .before .before .before .before .before .before .before .before .before .before .before .rounds .kept .1 .1 .1 .1 .1 .0
+same-length-3 c = c .before .before .before .before .before .before .rounds2 .kept .1 .1 .1 .1 .1 .0
+    ∙ c .before .before .before .before .before .before .before .before .before .before .before .before .before .end .kept .1 .1 .0
+    ∙ c .before .before .before .before .before .before .before .before .before .before .before .before .before .before .before .before .before .before
+    .before .before .before .before .before .before .rounds .kept .1 .1 .1 .1 .1 .0
 
 same-length-4 : tie.Need-same-length-4
-same-length-4 c = c .before .before .before .before .before .before .rounds2 .kept .1 .1 .1 .1 .1 .1 .0 ∙ c .before .before .before .before .before .before .before .before .before .before .before .before .before .before .before .before .before .before .before .before .before .before .before .before .rounds .kept .1 .1 .1 .1 .1 .1 .0
+same-length-4 c = c .before .before .before .before .before .before .rounds2 .kept .1 .1 .1 .1 .1 .1 .0
+    ∙ c .before .before .before .before .before .before .before .before .before .before .before .before .before .before .before .before .before .before
+    .before .before .before .before .before .before .rounds .kept .1 .1 .1 .1 .1 .1 .0
 
 returns : tie.Need-returns
 returns c =
@@ -40,7 +50,8 @@ returns c =
     let t = e .before .before .before in
     let f = t .before .before .before .before .before .before .before .before in
     let k = f .rounds .kept .1 .1 .1 in
-    listed-after (f .before .before .before .before .before .start .ensures) (k .1 .0) (k .1 .1 .0) (e .end .kept .1 .0 ∙ k .1 .0) (e .end .kept .1 .1 .0 ∙ k .1 .1 .0)
+    listed-after (f .before .before .before .before .before .start .ensures) (k .1 .0) (k .1 .1 .0) (e .end .kept .1 .0 ∙ k .1 .0)
+    (e .end .kept .1 .1 .0 ∙ k .1 .1 .0)
     (f .rounds .ensures) (sym (t .before .ends .ensures) ∙ t .if1 .taken) (e .end .ensures) (d .rounds2 .ensures)
 
 same-length-5 : tie.Need-same-length-5

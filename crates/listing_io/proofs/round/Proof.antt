@@ -12,7 +12,8 @@ fill-requires : tie.Need-fill-requires
 fill-requires c κs = tt
 
 turn-requires : tie.Need-turn-requires
-turn-requires c κs = fills-within (c .before .before .before .before .before .before .before .before .before .before .before .before .before .pre) (c .before .before .before .before .before .before .fill .ensures)
+turn-requires c κs = fills-within (c .before .before .before .before .before .before .before .before .before .before .before .before .before .pre)
+    (c .before .before .before .before .before .before .fill .ensures)
 
 send-requires : tie.Need-send-requires
 send-requires c κs = search needs
@@ -38,7 +39,8 @@ returns c =
     let t = s .before .before .before .before .before .before in
     let f = t .before .before .before .before .before .before .before in
     let e = t .turn .ensures in
-    round-is _ _ _ _ (f .before .before .before .before .before .before .before .pre) (f .before .before .waits .ensures) (f .fill .ensures) (e .0) (e .1) (s .send .ensures) (c .run-on .ensures)
+    round-is _ _ _ _ (f .before .before .before .before .before .before .before .pre) (f .before .before .waits .ensures) (f .fill .ensures) (e .0) (e .1)
+    (s .send .ensures) (c .run-on .ensures)
 
 pub round-spec : {M : Type 1} → statement M
 round-spec =

@@ -1,9 +1,9 @@
--- `listing_io::ends` is the test of the definition. Assumes nothing.
+-- `listing_io::run::ends` is the test of the definition. Assumes nothing.
 use mathlib.Core.Path.{sym, ap, _∙_}
 use mathlib.Core.Bool.{not}
 use Rattle.listing_io.specs.Rounds.{ends}
-use Rattle.listing_io.proofs.ends.Statement.{statement}
-use Rattle.listing_io.proofs.ends.Tie as tie
+use Rattle.listing_io.proofs.run.ends.Statement.{statement}
+use Rattle.listing_io.proofs.run.ends.Tie as tie
 
 has-ended-requires : tie.Need-has-ended-requires
 has-ended-requires c κs = tt

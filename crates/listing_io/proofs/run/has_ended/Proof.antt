@@ -1,8 +1,8 @@
--- `listing_io::has_ended` is the test of the definition. Assumes nothing.
+-- `listing_io::run::has_ended` is the test of the definition. Assumes nothing.
 use borrow.Author.Needs.{needs}
 use Rattle.listing_io.specs.Rounds.{ended}
-use Rattle.listing_io.proofs.has_ended.Statement.{statement}
-use Rattle.listing_io.proofs.has_ended.Tie as tie
+use Rattle.listing_io.proofs.run.has_ended.Statement.{statement}
+use Rattle.listing_io.proofs.run.has_ended.Tie as tie
 
 returns : tie.Need-returns
 unfolding ended

@@ -1,8 +1,8 @@
--- `listing_io::has_failed` is the test of the definition. Assumes nothing.
+-- `listing_io::run::has_failed` is the test of the definition. Assumes nothing.
 use borrow.Author.Needs.{needs}
 use Rattle.listing_io.specs.Rounds.{failed}
-use Rattle.listing_io.proofs.has_failed.Statement.{statement}
-use Rattle.listing_io.proofs.has_failed.Tie as tie
+use Rattle.listing_io.proofs.run.has_failed.Statement.{statement}
+use Rattle.listing_io.proofs.run.has_failed.Tie as tie
 
 returns : tie.Need-returns
 unfolding failed

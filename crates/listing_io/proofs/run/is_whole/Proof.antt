@@ -1,8 +1,8 @@
--- `listing_io::is_whole` is the test of the definition. Assumes nothing.
+-- `listing_io::run::is_whole` is the test of the definition. Assumes nothing.
 use mathlib.Core.Path.{sym, ap, _∙_}
 use Rattle.listing_io.specs.Rounds.{whole}
-use Rattle.listing_io.proofs.is_whole.Statement.{statement}
-use Rattle.listing_io.proofs.is_whole.Tie as tie
+use Rattle.listing_io.proofs.run.is_whole.Statement.{statement}
+use Rattle.listing_io.proofs.run.is_whole.Tie as tie
 
 has-failed-requires : tie.Need-has-failed-requires
 has-failed-requires c κs = tt
