@@ -140,7 +140,8 @@ static size_t run(const uint8_t *data, size_t size, size_t cut)
     while (waitpid(child, &status, 0) < 0)
         if (errno != EINTR) abort();
     if (status) {
-        fprintf(stderr, "the program ended with %s %d\n", WIFSIGNALED(status) ? "signal" : "status", WIFSIGNALED(status) ? WTERMSIG(status) : WEXITSTATUS(status));
+        int signalled = WIFSIGNALED(status);
+        fprintf(stderr, "the program ended with %s %d\n", signalled ? "signal" : "status", signalled ? WTERMSIG(status) : WEXITSTATUS(status));
         abort();
     }
     return n;

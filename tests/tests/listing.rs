@@ -176,7 +176,8 @@ fn the_stored_inputs() {
         let input = fs::read(folder.join("data").join(name)).expect("the input is there");
         wanted += &format!("{name}:\n{}", listing(&input));
     }
-    assert!(fs::read_to_string(folder.join("stdout")).expect("the expected output is there") == wanted, "list_files/stdout is not what the second listing gives");
+    let stored = fs::read_to_string(folder.join("stdout")).expect("the expected output is there");
+    assert!(stored == wanted, "list_files/stdout is not what the second listing gives");
 }
 
 fn map_of(width: usize, height: usize, seed: u64) -> Vec<u8> {

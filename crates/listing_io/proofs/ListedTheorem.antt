@@ -1,7 +1,7 @@
--- The listing over descriptors: whatever was read in whatever rounds, what was written is what the definition makes of it. Line store and row area are
--- those of ListingTheorem.
--- over-listed     where a refusal ended the listing, all that was written is `listingOf` all that was read, and of any input that begins so: nothing
--- more need be read
+-- The listing over descriptors: whatever was read in whatever rounds, what was written is what the definition makes of it.
+-- Line store and row area are those of ListingTheorem.
+--     over-listed     where a refusal ended the listing, all that was written is `listingOf` all that was read, and `listingOf` any input that begins so:
+--                     nothing more need be read
 --     ended-listed    where the input ended, it is `listingOf` all that was read
 --     partly-listed   before the end, at any time, it is a beginning of `dueOf` what was read and is not left in the chunk
 -- Assumes nothing.
@@ -19,7 +19,7 @@ use Rattle.writer.specs.Level.{Memory}
 use Rattle.writer.specs.Demand3.{All, all-none, all-more}
 use Rattle.descriptors.specs.Left.{leftIn}
 use Rattle.descriptors.specs.declared.input.Left.{Left}
-use Rattle.descriptors.proofs.LeftLaws.{fills-left, fills-within, used-left}
+use Rattle.descriptors.proofs.LeftLaws.{none-left, fills-left, fills-within, used-left}
 use Rattle.listing.specs.Listing.{maxListedWidth, listingOf, dueOf}
 use Rattle.listing.specs.Hearing.{endHeard}
 use Rattle.listing.specs.Scenes.{Scene, scene, started, hearScene, endScene}
@@ -34,20 +34,20 @@ use Rattle.listing_io.specs.declared.run.Run.{Run}
 use Rattle.listing_io.proofs.RoundLaws.{both-true, ends-idle}
 
 -- ---- rounds are moves
--- from scene s, with p left, u was read and t written; q is what was heard of p and u, and p′ is left
-pub record Heard (n k : ℕ) (s : Scene) (p u t : List ℕ) (s′ : Scene) (p′ : List ℕ) : Type 0 where
+-- from scene s, u was read and t written, which left s′: what was heard, and p′, which is left of what was read
+pub record Heard (n k : ℕ) (s : Scene) (u t : List ℕ) (s′ : Scene) (p′ : List ℕ) : Type 0 where
   pub heard : List ℕ
   pub goes : Goes n k s heard t s′
-  pub left : p ++ u ≡ heard ++ p′
+  pub left : u ≡ heard ++ p′
 
-heard-on : {n k : ℕ} {s s₁ s₂ : Scene} {p u t c c′ o o′ : List ℕ} {l : Left} {r : Run} → Heard n k s p u t s₁ (leftIn c l) → Round n k s₁ l c c′ o o′ s₂ r
-    → Heard n k s p (u ++ take (r .filled .read) c′) (t ++ take (r .written) o′) s₂ (leftIn c′ (r .left))
-heard-on {n} {k} {s} {s₂ = s₂} {p = p} {u = u} {t = t} {c = c} {c′ = c′} {l = l} {r = r} h d =
+heard-on : {n k : ℕ} {s s₁ s₂ : Scene} {u t c c′ o o′ : List ℕ} {l : Left} {r : Run} → Heard n k s u t s₁ (leftIn c l) → Round n k s₁ l c c′ o o′ s₂ r
+    → Heard n k s (u ++ take (r .filled .read) c′) (t ++ take (r .written) o′) s₂ (leftIn c′ (r .left))
+heard-on {n} {k} {s} {s₂ = s₂} {u = u} {t = t} {c = c} {c′ = c′} {l = l} {r = r} h d =
     record {
       heard = q ++ d .went .bytes;
       goes = subst (λ y. Goes n k s (q ++ d .went .bytes) (t ++ y) s₂) (sym (call-wrote (d .went))) (goes-on (h .goes) (d .went .goes));
       left =
-          sym (append-assoc p u new) ∙ ap (λ y. y ++ new) (h .left) ∙ append-assoc q (leftIn c l) new ∙ ap (λ y. q ++ y) (sym (fills-left (d .fills)) ∙ fed)
+          ap (λ y. y ++ new) (h .left) ∙ append-assoc q (leftIn c l) new ∙ ap (λ y. q ++ y) (sym (fills-left (d .fills)) ∙ fed)
           ∙ sym (append-assoc q (d .went .bytes) (leftIn c′ (r .left)));
     }
   where
@@ -62,9 +62,9 @@ heard-on {n} {k} {s} {s₂ = s₂} {p = p} {u = u} {t = t} {c = c} {c′ = c′}
         d .went .read
         ∙ ap (λ y. d .went .bytes ++ y) (sym (ap (leftIn c′) (d .left) ∙ used-left (d .used) (fills-within (d .within) (d .fills)) (d .went .part)))
 
-rounds-go : {n k m : ℕ} {s s′ : Scene} {p u t p′ : List ℕ} → Rounds n k m s p u t s′ p′ → Heard n k s p u t s′ p′
-rounds-go (rounds.begun s p) = record { heard = []; goes = stays s; left = append-nil p }
-rounds-go (rounds.then g d) = heard-on (rounds-go g) d
+rounds-go : {n k m : ℕ} {s s′ : Scene} {u t c : List ℕ} {r : Run} → Rounds n k s m u t s′ c r → Heard n k s u t s′ (leftIn c (r .left))
+rounds-go {s = s} {c = c} {r = r} (rounds.begun e) = record { heard = []; goes = stays s; left = sym (none-left c (r .left) (rw e (omega arith))) }
+rounds-go (rounds.then g e d) = heard-on (rounds-go g) d
 
 -- ---- a listing that is over hears no more
 over-idle : (l : Listing) → over l ≡ true → (l .line .part ≡ 0) × (3 < l .input .phase)
@@ -97,16 +97,22 @@ all-front [] t a = all-none
 all-front (x ∷ s) t (all-more p a) = all-more p (all-front s t a)
 
 -- ---- the theorem
-module _ (n k : ℕ) (store : storeLength maxListedWidth 5 ≤ n) (row : maxListedWidth ≤ k) (x z : Memory) {s : Scene} {p : List ℕ} {r : Run}
-    (ran : Ran n k (scene started x z) s p r) where
-  told : Heard n k (scene started x z) [] (ran .read) (ran .written) s p
+abbrev Bytes : List ℕ → Type 0
+Bytes = All (λ b. b ≤ 255)
+
+module _ (n k : ℕ) (store : storeLength maxListedWidth 5 ≤ n) (row : maxListedWidth ≤ k) (x z : Memory) {s : Scene} {c : List ℕ} {r : Run}
+    (ran : Ran n k (scene started x z) s c r) where
+  abbrev p : List ℕ
+  p = leftIn c (r .left)
+
+  told : Heard n k (scene started x z) (ran .read) (ran .written) s p
   told = rounds-go (ran .rounds)
 
-  pub over-listed : (v : List ℕ) → All (λ b. b ≤ 255) (ran .read ++ v) → over (s .listing) ≡ true → ran .written ≡ listingOf (ran .read ++ v)
+  pub over-listed : (v : List ℕ) → Bytes (ran .read ++ v) → over (s .listing) ≡ true → ran .written ≡ listingOf (ran .read ++ v)
   unfolding maxListedWidth
   over-listed v bytes e =
       sym (append-nil _) ∙ sym (append-nil _)
-      ∙ moves-whole n k store row x z (subst (All (λ b. b ≤ 255)) same bytes) (goes-on (told .goes) (d .goes)) (d .idle) all-none (stays _)
+      ∙ moves-whole n k store row x z (subst Bytes same bytes) (goes-on (told .goes) (d .goes)) (d .idle) all-none (stays _)
       (subst Idle (sym (end-over n k (d .scene) (d .idle) (d .deaf))) (d .idle))
       ∙ ap listingOf (sym same)
     where
@@ -119,27 +125,25 @@ module _ (n k : ℕ) (store : storeLength maxListedWidth 5 ≤ n) (row : maxList
       same : ran .read ++ v ≡ told .heard ++ (p ++ v)
       same = ap (λ y. y ++ v) (told .left) ∙ append-assoc (told .heard) p v
 
-  pub partly-listed : All (λ b. b ≤ 255) (ran .read) → (u t : List ℕ) × (ran .read ≡ u ++ p) × (ran .written ++ t ≡ dueOf u)
+  pub partly-listed : Bytes (ran .read) → (u t : List ℕ) × (ran .read ≡ u ++ leftIn c (r .left)) × (ran .written ++ t ≡ dueOf u)
   unfolding maxListedWidth
   partly-listed bytes =
-      let m = moves-prefix n k store row x z (all-front (told .heard) p (subst (All (λ b. b ≤ 255)) (told .left) bytes)) (told .goes) in
+      let m = moves-prefix n k store row x z (all-front (told .heard) p (subst Bytes (told .left) bytes)) (told .goes) in
       (told .heard, m .0, told .left, m .1)
 
   -- the end of the input, and rounds after it
-  pub ended-listed : {s₂ : Scene} {p₂ : List ℕ} {r₂ : Run} (more : Ran n k (endScene n k s) s₂ p₂ r₂) → ends r ≡ true → All (λ b. b ≤ 255) (ran .read)
-      → All (λ b. b ≤ 255) (more .read)
-      → over (s₂ .listing) ≡ true → ran .written ++ more .written ≡ listingOf (ran .read)
+  pub ended-listed : {s₂ : Scene} {c₂ : List ℕ} {r₂ : Run} (more : Ran n k (endScene n k s) s₂ c₂ r₂) → ends r ≡ true → Bytes (ran .read)
+      → Bytes (more .read) → over (s₂ .listing) ≡ true → ran .written ++ more .written ≡ listingOf (ran .read)
   unfolding maxListedWidth
-  ended-listed {s₂} {p₂} more e bytes bytes₂ o =
-      moves-whole n k store row x z (subst (All (λ b. b ≤ 255)) same bytes) (told .goes) (i .0)
-      (all-front (g .heard) p₂ (subst (All (λ b. b ≤ 255)) (g .left) bytes₂)) (g .goes)
-      (over-idle (s₂ .listing) o .0)
+  ended-listed {s₂} {c₂} {r₂} more e bytes bytes₂ o =
+      moves-whole n k store row x z (subst Bytes same bytes) (told .goes) (i .0) (all-front (g .heard) (leftIn c₂ (r₂ .left)) (subst Bytes (g .left) bytes₂))
+      (g .goes) (over-idle (s₂ .listing) o .0)
       ∙ ap listingOf (sym same)
     where
       i : Idle s × (p ≡ [])
       i = ran .idle (ends-idle r e)
 
-      g : Heard n k (endScene n k s) [] (more .read) (more .written) s₂ p₂
+      g : Heard n k (endScene n k s) (more .read) (more .written) s₂ (leftIn c₂ (r₂ .left))
       g = rounds-go (more .rounds)
 
       same : ran .read ≡ told .heard

@@ -36,7 +36,7 @@ pub record Looped (n k : ℕ) (s s′ : Scene) (c : List ℕ) (turns : ℕ) (r :
   pub count : ℕ
   pub read : List ℕ
   pub written : List ℕ
-  pub rounds : Rounds n k count s [] read written s′ (leftIn c (r .left))
+  pub rounds : Rounds n k s count read written s′ c r
   pub within : Within c (r .left)
   pub counted : count + turns ≡ 18446744073709551615
   pub idle : r .idle ≡ true → Idle s′ × (leftIn c (r .left) ≡ [])
@@ -51,51 +51,54 @@ looped-start n k s c r e i =
       count = 0;
       read = [];
       written = [];
-      rounds = subst (λ p. Rounds n k 0 s [] [] [] s p) (sym (nothing e)) (begun s []);
+      rounds = begun e;
       within = rw e (record { start = omega arith; end = omega arith });
       counted = refl;
       idle = false-true i;
     }
-  where
-    nothing : {l : Left} → l ≡ record { from = 0; to = 0 } → leftIn c l ≡ []
-    nothing e = none-left c _ (rw e (omega arith))
 
-pub looped-on : {n k n′ k′ : ℕ} {s s₁ s₂ : Scene} {c c′ o o′ : List ℕ} (turns : ℕ) {r₁ r₂ : Run} → n′ ≡ n → k′ ≡ k → 0 < turns
+module _ {n k : ℕ} {s s₁ s₂ : Scene} {c c′ o o′ : List ℕ} (turns : ℕ) {r₁ r₂ : Run} (g : Looped n k s s₁ c turns r₁)
+    (d : Round n k s₁ (r₁ .left) c c′ o o′ s₂ r₂) where
+  room : Within c′ (r₂ .filled .left)
+  room = fills-within (g .within) (d .fills)
+
+  all-used : {i : Bool} → Stops s₂ (leftIn c′ (r₂ .filled .left)) (d .used) o (r₂ .written) i → i ≡ true → Idle s₂ × (leftIn c′ (r₂ .left) ≡ [])
+  all-used (full x e) z = false-true refl z
+  all-used (idle x e) z = (
+    x,
+    ap (leftIn c′) (d .left) ∙ used-left (d .used) room (d .went .part) ∙ ap (λ m. drop m (leftIn c′ (r₂ .filled .left))) e
+        ∙ drop-length (leftIn c′ (r₂ .filled .left)),
+  )
+
+  looped-then : 0 < turns → going r₁ ≡ true → Looped n k s s₂ c′ (turns - 1) r₂
+  looped-then h e =
+      record {
+        count = suc (g .count);
+        read = g .read ++ take (r₂ .filled .read) c′;
+        written = g .written ++ take (r₂ .written) o′;
+        rounds = then (g .rounds) e d;
+        within = rw (d .left) (used-within (d .used) room (d .went .part));
+        counted = omega (arith, g .counted);
+        idle = all-used (d .stops);
+      }
+
+pub looped-on : {n k n′ k′ : ℕ} {s s₁ s₂ : Scene} {c c′ o o′ : List ℕ} (turns : ℕ) {r₁ r₂ : Run} → n′ ≡ n → k′ ≡ k → 0 < turns → going r₁ ≡ true
     → Looped n k s s₁ c turns r₁ → Round n′ k′ s₁ (r₁ .left) c c′ o o′ s₂ r₂ → Looped n k s s₂ c′ (turns - 1) r₂
-looped-on {n} {k} {n′} {k′} {s} {s₁} {s₂} {c} {c′} {o} {o′} turns {r₁} {r₂} en ek h g d =
-    record {
-      count = suc (g .count);
-      read = g .read ++ take (r₂ .filled .read) c′;
-      written = g .written ++ take (r₂ .written) o′;
-      rounds = then (g .rounds) (subst (λ y. Round n y s₁ (r₁ .left) c c′ o o′ s₂ r₂) ek (subst (λ y. Round y k′ s₁ (r₁ .left) c c′ o o′ s₂ r₂) en d));
-      within = rw (d .left) (used-within (d .used) room (d .went .part));
-      counted = omega (arith, g .counted);
-      idle = stopped (d .stops);
-    }
-  where
-    room : Within c′ (r₂ .filled .left)
-    room = fills-within (g .within) (d .fills)
+looped-on {n} {k} {n′} {k′} {s₁ = s₁} {s₂ = s₂} {c = c} {c′ = c′} {o = o} {o′ = o′} turns {r₁} {r₂} en ek h e g d =
+    looped-then turns g (subst (λ y. Round n y s₁ (r₁ .left) c c′ o o′ s₂ r₂) ek (subst (λ y. Round y k′ s₁ (r₁ .left) c c′ o o′ s₂ r₂) en d)) h e
 
-    stopped : {i : Bool} → Stops s₂ (leftIn c′ (r₂ .filled .left)) (d .used) o (r₂ .written) i → i ≡ true → Idle s₂ × (leftIn c′ (r₂ .left) ≡ [])
-    stopped (full x e) z = false-true refl z
-    stopped (idle x e) z = (
-      x,
-      ap (leftIn c′) (d .left) ∙ used-left (d .used) room (d .went .part) ∙ ap (λ m. drop m (leftIn c′ (r₂ .filled .left))) e
-          ∙ drop-length (leftIn c′ (r₂ .filled .left)),
-    )
-
-pub looped-stop : {n k : ℕ} {x z : Memory} {l l₀ : Listing} {s′ : Scene} {c : List ℕ} {turns : ℕ} {r : Run} → l₀ ≡ l → Looped n k (scene l₀ x z) s′ c turns r
-    → (going r ≡ true → turns ≡ 0)
-    → Ran n k (scene l x z) s′ (leftIn c (r .left)) r
-looped-stop {n} {k} {x} {z} {s′ = s′} {c = c} {turns = turns} {r = r} e g h =
-    record {
+pub looped-stop : {n k : ℕ} {x z : Memory} {l l₀ : Listing} {s′ : Scene} {c : List ℕ} {turns : ℕ} {r : Run} → l₀ ≡ l
+    → Looped n k (scene l₀ x z) s′ c turns r → (going r ≡ true → turns ≡ 0) → Ran n k (scene l x z) s′ c r
+looped-stop {n} {k} {x} {z} {s′ = s′} {c = c} {r = r} e g h =
+    subst (λ l. Ran n k (scene l x z) s′ c r) e
+    (record {
       count = g .count;
       read = g .read;
       written = g .written;
-      rounds = subst (λ l. Rounds n k (g .count) (scene l x z) [] (g .read) (g .written) s′ (leftIn c (r .left))) e (g .rounds);
+      rounds = g .rounds;
       stopped = λ y. omega (arith, g .counted, h y);
       idle = g .idle;
-    }
+    })
 
 pub both-true : (a b : Bool) → both a b ≡ true → (a ≡ true) × (b ≡ true)
 both-true true b e = (refl, e)
@@ -114,14 +117,14 @@ leaves-is : {s : Scene} {l : Listing} {x z : Memory} → Leaves s l x z → scen
 leaves-is {s} {l} {x} {z} h = ap (λ y. scene y x z) (h .listing) ∙ ap (λ y. scene (s .listing) y z) (h .store)
     ∙ ap (λ y. scene (s .listing) (s .store) y) (h .row)
 
-pub listed-before : {n k : ℕ} {x z : Memory} {l : Listing} {s′ : Scene} {p′ : List ℕ} {r : Run} → l ≡ started → Ran n k (scene l x z) s′ p′ r
-    → ends r ≡ false → Listed n k x z s′ p′ r
-listed-before {n} {k} {x} {z} {s′ = s′} {p′ = p′} {r = r} e g h = before (subst (λ y. Ran n k (scene y x z) s′ p′ r) e g) h
+pub listed-before : {n k : ℕ} {x z : Memory} {l : Listing} {s′ : Scene} {c : List ℕ} {r : Run} → l ≡ started
+    → Ran n k (scene l x z) s′ c r → ends r ≡ false → Listed n k x z s′ c r
+listed-before {n} {k} {x} {z} {s′ = s′} {c = c} {r = r} e g h = before (subst (λ y. Ran n k (scene y x z) s′ c r) e g) h
 
-pub listed-after : {n k n₁ k₁ n₂ k₂ : ℕ} {x z x₂ z₂ : Memory} {l l₂ : Listing} {s₁ s′ : Scene} {p₁ p′ : List ℕ} {r₁ r : Run} → l ≡ started → n₁ ≡ n → k₁ ≡ k
-    → n₂ ≡ n → k₂ ≡ k
-    → Ran n k (scene l x z) s₁ p₁ r₁ → ends r₁ ≡ true → Leaves (endScene n₁ k₁ s₁) l₂ x₂ z₂ → Ran n₂ k₂ (scene l₂ x₂ z₂) s′ p′ r → Listed n k x z s′ p′ r
-listed-after {n} {k} {n₁} {k₁} {n₂} {k₂} {x} {z} {x₂} {z₂} {l₂ = l₂} {s₁ = s₁} {s′ = s′} {p₁ = p₁} {p′ = p′} {r₁ = r₁} {r = r} e en ek en′ ek′ g h i d =
-    after (subst (λ y. Ran n k (scene y x z) s₁ p₁ r₁) e g) h
-    (subst (λ y. Ran n k y s′ p′ r) (leaves-is i ∙ ap (λ m. endScene m k₁ s₁) en ∙ ap (λ m. endScene n m s₁) ek)
-    (subst (λ y. Ran n y (scene l₂ x₂ z₂) s′ p′ r) ek′ (subst (λ y. Ran y k₂ (scene l₂ x₂ z₂) s′ p′ r) en′ d)))
+pub listed-after : {n k n₁ k₁ n₂ k₂ : ℕ} {x z x₂ z₂ : Memory} {l l₂ : Listing} {s₁ s′ : Scene} {c₁ c : List ℕ} {r₁ r : Run} → l ≡ started
+    → n₁ ≡ n → k₁ ≡ k → n₂ ≡ n → k₂ ≡ k → Ran n k (scene l x z) s₁ c₁ r₁ → ends r₁ ≡ true → Leaves (endScene n₁ k₁ s₁) l₂ x₂ z₂
+    → Ran n₂ k₂ (scene l₂ x₂ z₂) s′ c r → Listed n k x z s′ c r
+listed-after {n} {k} {n₁} {k₁} {n₂} {k₂} {x} {z} {x₂} {z₂} {l₂ = l₂} {s₁ = s₁} {s′ = s′} {c₁ = c₁} {c = c} {r₁ = r₁} {r = r} e en ek en′ ek′ g h i d =
+    after (subst (λ y. Ran n k (scene y x z) s₁ c₁ r₁) e g) h
+    (subst (λ y. Ran n k y s′ c r) (leaves-is i ∙ ap (λ m. endScene m k₁ s₁) en ∙ ap (λ m. endScene n m s₁) ek)
+    (subst (λ y. Ran n y (scene l₂ x₂ z₂) s′ c r) ek′ (subst (λ y. Ran y k₂ (scene l₂ x₂ z₂) s′ c r) en′ d)))

@@ -71,23 +71,24 @@ pub record Round (n k : ℕ) (s : Scene) (l : Left) (c c′ o o′ : List ℕ) (
   -- write: as many bytes were taken as the turn wrote, or it failed
   pub sent : r .sent .whole ≡ eqb (r .sent .count) (r .written)
 
--- m rounds. p is left at first and p′ then, u is all that was read, t all that was written
-pub data Rounds (n k : ℕ) : ℕ → Scene → List ℕ → List ℕ → List ℕ → Scene → List ℕ → Type 0 where
-  begun : (s : Scene) (p : List ℕ) → Rounds n k 0 s p [] [] s p
-  then : {m : ℕ} {s s₁ s₂ : Scene} {p u t c c′ o o′ : List ℕ} {l : Left} {r : Run} → Rounds n k m s p u t s₁ (leftIn c l) → Round n k s₁ l c c′ o o′ s₂ r
-      → Rounds n k (suc m) s p (u ++ take (r .filled .read) c′) (t ++ take (r .written) o′) s₂ (leftIn c′ (r .left))
+-- m rounds from scene s to s′, none after one that failed: u is all that was read, t all that was written. c stands in the chunk then, and r is what the
+-- last one left
+pub data Rounds (n k : ℕ) (s : Scene) : ℕ → List ℕ → List ℕ → Scene → List ℕ → Run → Type 0 where
+  begun : {c : List ℕ} {r : Run} → r .left ≡ record { from = 0; to = 0 } → Rounds n k s 0 [] [] s c r
+  then : {m : ℕ} {s₁ s₂ : Scene} {u t c c′ o o′ : List ℕ} {r r′ : Run} → Rounds n k s m u t s₁ c r → going r ≡ true → Round n k s₁ (r .left) c c′ o o′ s₂ r′
+      → Rounds n k s (suc m) (u ++ take (r′ .filled .read) c′) (t ++ take (r′ .written) o′) s₂ c′ r′
 
--- rounds from scene s to s′, where p′ is left. r is what the last one left; there is no other, or they are as many as 64 bits count
-pub record Ran (n k : ℕ) (s s′ : Scene) (p′ : List ℕ) (r : Run) : Type 0 where
+-- as many rounds as there are: after the last there is no other, or they are as many as 64 bits count
+pub record Ran (n k : ℕ) (s s′ : Scene) (c : List ℕ) (r : Run) : Type 0 where
   pub count : ℕ
   pub read : List ℕ
   pub written : List ℕ
-  pub rounds : Rounds n k count s [] read written s′ p′
+  pub rounds : Rounds n k s count read written s′ c r
   pub stopped : going r ≡ true → count ≡ 18446744073709551615
-  pub idle : r .idle ≡ true → Idle s′ × (p′ ≡ [])
+  pub idle : r .idle ≡ true → Idle s′ × (leftIn c (r .left) ≡ [])
 
 -- all of an input, with x and z in line store and row area at first: rounds until it ends, and on with what its end makes due
-pub data Listed (n k : ℕ) (x z : Memory) (s′ : Scene) (p′ : List ℕ) (r : Run) : Type 0 where
-  before : Ran n k (scene started x z) s′ p′ r → ends r ≡ false → Listed n k x z s′ p′ r
-  after : {s₁ : Scene} {p₁ : List ℕ} {r₁ : Run} → Ran n k (scene started x z) s₁ p₁ r₁ → ends r₁ ≡ true → Ran n k (endScene n k s₁) s′ p′ r
-      → Listed n k x z s′ p′ r
+pub data Listed (n k : ℕ) (x z : Memory) (s′ : Scene) (c : List ℕ) (r : Run) : Type 0 where
+  before : Ran n k (scene started x z) s′ c r → ends r ≡ false → Listed n k x z s′ c r
+  after : {s₁ : Scene} {c₁ : List ℕ} {r₁ : Run} → Ran n k (scene started x z) s₁ c₁ r₁ → ends r₁ ≡ true → Ran n k (endScene n k s₁) s′ c r
+      → Listed n k x z s′ c r

@@ -90,7 +90,7 @@ fn rounds(
 ) -> Run
     ensures { λ r. ⌜
         Ran (length (now (store .entry))) (length (now (row .entry))) (scene listing (at (now (store .entry))) (at (now (row .entry))))
-        (scene (r .listing) (at (now (store .exit))) (at (now (row .exit)))) (leftIn (now (chunk .exit)) (r .left)) r
+        (scene (r .listing) (at (now (store .exit))) (at (now (row .exit)))) (now (chunk .exit)) r
         ⌝ }
 {
     let mut now = run::start(listing);
@@ -125,7 +125,7 @@ fn list_all(
 ) -> Run
     ensures { λ r. ⌜
         Listed (length (now (store .entry))) (length (now (row .entry))) (at (now (store .entry))) (at (now (row .entry)))
-        (scene (r .listing) (at (now (store .exit))) (at (now (row .exit)))) (leftIn (now (chunk .exit)) (r .left)) r
+        (scene (r .listing) (at (now (store .exit))) (at (now (row .exit)))) (now (chunk .exit)) r
         ⌝ }
 {
     let listing = Listing::start();
