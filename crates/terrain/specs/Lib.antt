@@ -3,3 +3,4 @@ pub mod WriterState
 pub mod WriterCalls
 pub mod ReaderState
 pub mod ReaderCalls
+pub mod Version
