@@ -140,7 +140,7 @@ static int draw(const Plane *p, const char *path, Write *write)
     int written = 0;
     canvas.greys = (uint16_t *)malloc(canvas.width * canvas.height * sizeof *canvas.greys);
     if (!canvas.greys) {
-        fprintf(stderr, "%s: there is not enough memory for the picture\n", path);
+        fprintf(stderr, "terrain: %s: there is not enough memory for the picture\n", path);
         return STATUS_UNABLE;
     }
     for (size_t level = 1; level <= p->levels; level++) {
@@ -151,7 +151,7 @@ static int draw(const Plane *p, const char *path, Write *write)
     errno = 0;
     written = write(path, canvas.width, canvas.height, canvas.greys);
     progress_end(&line);
-    if (!written) fprintf(stderr, "%s: it cannot be written: %s\n", path, errno ? strerror(errno) : "not all of it");
+    if (!written) fprintf(stderr, "terrain: %s: it cannot be written: %s\n", path, errno ? strerror(errno) : "not all of it");
     free(canvas.greys);
     return written ? STATUS_DONE : STATUS_UNWRITTEN;
 }
@@ -164,11 +164,11 @@ static int bands(const char *name, const Pgm *map, size_t levels, const char *pa
     int32_t *numbers = (int32_t *)malloc(n * sizeof *numbers), *work = (int32_t *)malloc(n * sizeof *work);
     int status = STATUS_UNABLE;
     if (!numbers || !work) {
-        fprintf(stderr, "%s: there is not enough memory for it\n", name);
+        fprintf(stderr, "terrain: %s: there is not enough memory for it\n", name);
     } else {
         uint32_t no = terrain_map_forward(map->heights, n, map->width, map->height, levels, numbers, n, work, n);
         Plane plane = {numbers, map->width, map->height, levels, pixels};
-        if (no) fprintf(stderr, "%s: %s, and the map has %lu columns and %lu rows (question %u)\n", name, terrain_sentence(no),
+        if (no) fprintf(stderr, "terrain: %s: %s, and the map has %lu columns and %lu rows (question %u)\n", name, terrain_sentence(no),
                         (unsigned long)map->width, (unsigned long)map->height, (unsigned)no);
         status = no ? STATUS_REFUSED : draw(&plane, path, write);
     }
@@ -183,16 +183,16 @@ int main(int argc, char **argv)
     Write *write;
     int status;
     if (argc != 4 || strlen(argv[1]) != 1 || argv[1][0] < '1' || argv[1][0] > '5') {
-        fprintf(stderr, "usage: bands LEVELS FILE.pgm OUT.png, with 1 to 5 levels\n");
+        fprintf(stderr, "terrain: usage: bands LEVELS FILE.pgm OUT.png, with 1 to 5 levels\n");
         return STATUS_USAGE;
     }
     if ((write = writer_of(argv[3])) == NULL) {
-        fprintf(stderr, "%s: a picture is written as .png or .pgm, and the name ends in neither\n", argv[3]);
+        fprintf(stderr, "terrain: %s: a picture is written as .png or .pgm, and the name ends in neither\n", argv[3]);
         return STATUS_USAGE;
     }
     if (!same_version()) return STATUS_UNABLE;
     if ((status = read_map(argv[2], &map)) != STATUS_DONE) return status;
     status = bands(input_name(argv[2]), &map, (size_t)(argv[1][0] - '0'), argv[3], write);
     free(map.heights);
-    return status;
+    return finished(status);
 }

@@ -81,10 +81,10 @@ static uint32_t read_back(Check *c, size_t levels, const int32_t *plane, int32_t
 static int different(Check *c, size_t levels, uint32_t no, size_t row)
 {
     progress_end(&c->line);
-    fprintf(stderr, "%s: at %u levels: ", input_name(c->path), (unsigned)levels);
+    fprintf(stderr, "terrain: %s: at %u levels: ", input_name(c->path), (unsigned)levels);
     if (no) fprintf(stderr, "%s (question %u)\n", terrain_sentence(no), (unsigned)no);
     else fprintf(stderr, "DIFFERENT: height row %lu is not the map's\n", (unsigned long)row);
-    fprintf(stderr, "the same cuts again: ./terrain check --seed %llu %s\n", (unsigned long long)c->seed, c->path);
+    fprintf(stderr, "terrain: the same cuts again: ./terrain check --seed %llu %s\n", (unsigned long long)c->seed, c->path);
     return STATUS_DIFFERENT;
 }
 
@@ -101,7 +101,7 @@ static int check(Check *c, int32_t *plane, int32_t *store, int32_t *line, uint16
     progress_end(&c->line);
     printf("identical: %lu x %lu heights, 1 to %d levels, %lu runs, seed %llu\n", (unsigned long)c->map->width, (unsigned long)c->map->height,
            TERRAIN_MAX_LEVELS, (unsigned long)c->runs, (unsigned long long)c->seed);
-    return fflush(stdout) == 0 ? STATUS_DONE : STATUS_UNWRITTEN;
+    return STATUS_DONE;
 }
 
 /* In areas of the map's size. */
@@ -111,7 +111,7 @@ static int check_map(const char *path, const Pgm *map, uint64_t seed)
     Check c = {path, map, seed, 0, 0, progress_begin()};
     int status = STATUS_UNABLE;
     if (map->width > TERRAIN_MAX_WIDTH || map->height > TERRAIN_MAX_HEIGHT) {
-        fprintf(stderr, "%s: %lu x %lu heights, and a map has at most 2,049 columns and 65,535 rows\n", name, (unsigned long)map->width,
+        fprintf(stderr, "terrain: %s: %lu x %lu heights, and a map has at most 2,049 columns and 65,535 rows\n", name, (unsigned long)map->width,
                 (unsigned long)map->height);
         return STATUS_REFUSED;
     }
@@ -121,7 +121,7 @@ static int check_map(const char *path, const Pgm *map, uint64_t seed)
     int32_t *line = (int32_t *)malloc(map->width * sizeof *line);
     uint16_t *heights = (uint16_t *)malloc(map->width * sizeof *heights);
     if (plane && store && line && heights) status = check(&c, plane, store, line, heights);
-    else fprintf(stderr, "%s: there is not enough memory for it\n", name);
+    else fprintf(stderr, "terrain: %s: there is not enough memory for it\n", name);
     free(heights);
     free(line);
     free(store);
@@ -134,12 +134,12 @@ int main(int argc, char **argv)
     Pgm map;
     int status;
     if (argc != 2 && argc != 3) {
-        fprintf(stderr, "usage: check FILE.pgm [SEED]\n");
+        fprintf(stderr, "terrain: usage: check FILE.pgm [SEED]\n");
         return STATUS_USAGE;
     }
     if (!same_version()) return STATUS_UNABLE;
     if ((status = read_map(argv[1], &map)) != STATUS_DONE) return status;
     status = check_map(argv[1], &map, argc == 3 ? strtoull(argv[2], NULL, 10) : (uint64_t)time(NULL));
     free(map.heights);
-    return status;
+    return finished(status);
 }

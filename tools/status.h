@@ -22,9 +22,17 @@ enum {
 static inline int same_version(void)
 {
     if (terrain_version() == TERRAIN_VERSION) return 1;
-    fprintf(stderr, "the archive's version is %u and the header's %u: they do not belong together\n", (unsigned)terrain_version(),
+    fprintf(stderr, "terrain: the archive's version is %u and the header's %u: they do not belong together\n", (unsigned)terrain_version(),
             (unsigned)TERRAIN_VERSION);
     return 0;
+}
+
+/* The status of a program that has come to this one, once its standard output is written too. */
+static inline int finished(int status)
+{
+    if (status != STATUS_DONE || (fflush(stdout) == 0 && !ferror(stdout))) return status;
+    fprintf(stderr, "terrain: standard output: it cannot be written: %s\n", strerror(errno));
+    return STATUS_UNWRITTEN;
 }
 
 /* What people call the input. */
@@ -37,7 +45,7 @@ static inline const char *input_name(const char *path)
 static inline int read_map(const char *path, Pgm *map)
 {
     const char *wrong = pgm_read(path, map);
-    if (wrong) fprintf(stderr, "%s: %s\n", input_name(path), wrong);
+    if (wrong) fprintf(stderr, "terrain: %s: %s\n", input_name(path), wrong);
     switch (map->trouble) {
     case PGM_FINE: return STATUS_DONE;
     case PGM_NO_MAP: return STATUS_REFUSED;
