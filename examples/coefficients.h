@@ -15,11 +15,13 @@
 enum { LEVEL = 1, BAND, ROW, LENGTH }; /* the places of want */
 #define NO_FILE 100u
 #define NO_MEMORY 101u
+#define DAMAGED 102u
 
 static inline const char *sentence(uint32_t number)
 {
     return number == NO_FILE ? "the file cannot be opened, written or read to its end"
-        : number == NO_MEMORY ? "there is not enough memory" : terrain_sentence(number);
+        : number == NO_MEMORY ? "there is not enough memory"
+        : number == DAMAGED ? "the file is damaged, or something else" : terrain_sentence(number);
 }
 
 /* Where rows go, and where they come from, whole: first the map's width, height and levels, then its band rows. 0: it was not written, or
