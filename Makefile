@@ -20,8 +20,8 @@ ARCHIVE := $(or $(TERRAIN_LIB),target/staticlib)/libterrain.a
 VERSION := $(shell sed -n 's/^\#define TERRAIN_VERSION_TEXT "\(.*\)"$$/\1/p' include/terrain.h)
 
 # What is written into the files of packaging/: an installed tree may be moved as a whole, so they name folders from where they stand.
-FILL = sed -e 's|@VERSION@|$(VERSION)|' -e 's|@INCLUDE@|$(shell realpath -m --relative-to=$(1) $(INCLUDEDIR))|' \
-	-e 's|@LIB@|$(shell realpath -m --relative-to=$(1) $(LIBDIR))|'
+FILL = sed -e 's|@VERSION@|$(VERSION)|' -e 's|@INCLUDE@|$(shell realpath -m --relative-to='$(1)' '$(INCLUDEDIR)')|' \
+	-e 's|@LIB@|$(shell realpath -m --relative-to='$(1)' '$(LIBDIR)')|'
 
 .PHONY: all install install-library install-command uninstall
 all:

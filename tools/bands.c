@@ -24,6 +24,10 @@ typedef struct {
     int64_t least, most;
 } Scale;
 
+/* How many numbers are painted, of twice as many as there are: writing the picture takes about as long. */
+static Progress line;
+static uint64_t painted, total;
+
 typedef void Paint(Canvas *canvas, const Plane *plane, size_t start, size_t length, Scale scale);
 
 static int next_row(const Plane *p, size_t level, size_t band, size_t row, size_t *start, size_t *length)
@@ -75,7 +79,10 @@ static void paint_coarse(Canvas *canvas, const Plane *p, size_t start, size_t le
 static void paint(Canvas *canvas, const Plane *p, size_t level, size_t band, Paint *row_of, Scale scale)
 {
     size_t start, length;
-    for (size_t row = 0; next_row(p, level, band, row, &start, &length); row++) row_of(canvas, p, start, length, scale);
+    for (size_t row = 0; next_row(p, level, band, row, &start, &length); row++) {
+        row_of(canvas, p, start, length, scale);
+        progress(&line, "painting", painted += length, total);
+    }
 }
 
 /* The bands of a level in their scale, which is written down. */
@@ -85,6 +92,7 @@ static void paint_level(Canvas *canvas, const Plane *p, size_t level)
     for (size_t band = TERRAIN_HL; band <= TERRAIN_HH; band++) widen(&detail, p, level, band);
     if (-detail.least > detail.most) detail.most = -detail.least;
     for (size_t band = TERRAIN_HL; band <= TERRAIN_HH; band++) paint(canvas, p, level, band, paint_detail, detail);
+    progress_end(&line);
     printf("HL%d, LH%d and HH%d: middle grey is 0, black is -%ld and white %ld, by the logarithm\n", (int)level, (int)level, (int)level,
            (long)detail.most, (long)detail.most);
     if (level == p->levels) {
@@ -135,7 +143,6 @@ static Write *writer_of(const char *path)
 
 static int draw(const Plane *p, const char *path, Write *write)
 {
-    Progress line = progress_begin();
     Canvas canvas = {p->width * p->pixels, p->height * p->pixels, NULL};
     int written = 0;
     canvas.greys = (uint16_t *)malloc(canvas.width * canvas.height * sizeof *canvas.greys);
@@ -143,10 +150,9 @@ static int draw(const Plane *p, const char *path, Write *write)
         fprintf(stderr, "terrain: %s: there is not enough memory for the picture\n", path);
         return STATUS_UNABLE;
     }
-    for (size_t level = 1; level <= p->levels; level++) {
-        paint_level(&canvas, p, level);
-        progress(&line, "painting", level, p->levels + 1);
-    }
+    line = progress_begin();
+    total = 2 * (uint64_t)p->width * p->height;
+    for (size_t level = 1; level <= p->levels; level++) paint_level(&canvas, p, level);
     border_level(&canvas, p, 1, p->width, p->height);
     errno = 0;
     written = write(path, canvas.width, canvas.height, canvas.greys);

@@ -8,13 +8,18 @@ use crate::{store_length, BandRow, Question, Reader, Want, Writer, MAX_WIDTH};
 /// # fn main() -> Result<(), terrain::Question> {
 /// let mut writer = terrain::OwnedWriter::new(1, 2)?;
 /// let mut heights: &[u16] = &[1, 4, 2, 7];
-/// while !heights.is_empty() {
-///     heights = &heights[writer.offer(heights)?..];
+/// let mut finished = false;
+/// while !finished {
+///     if heights.is_empty() {
+///         writer.finish()?;
+///         finished = true;
+///     } else {
+///         heights = &heights[writer.offer(heights)?..];
+///     }
 ///     while let Some((row, values)) = writer.draw()? {
 ///         println!("{row:?}: {values:?}");
 ///     }
 /// }
-/// writer.finish()?;
 /// # Ok(())
 /// # }
 /// ```
