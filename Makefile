@@ -17,6 +17,7 @@ PKGCONFIGDIR := $(LIBDIR)/pkgconfig
 CMAKEDIR := $(LIBDIR)/cmake/Terrain
 
 ARCHIVE := $(or $(TERRAIN_LIB),target/staticlib)/libterrain.a
+TOOLS := target/tools$(if $(TERRAIN_LIB),/own)
 VERSION := $(shell sed -n 's/^\#define TERRAIN_VERSION_TEXT "\(.*\)"$$/\1/p' include/terrain.h)
 
 # What is written into the files of packaging/: an installed tree may be moved as a whole, so they name folders from where they stand.
@@ -45,7 +46,7 @@ install-library: $(ARCHIVE)
 install-command: all
 	install -d '$(DESTDIR)$(BINDIR)' '$(DESTDIR)$(PROGRAMDIR)' '$(DESTDIR)$(MANDIR)/man1'
 	install -m 755 terrain '$(DESTDIR)$(BINDIR)'
-	install -m 755 target/tools/check target/tools/bands target/bin/list '$(DESTDIR)$(PROGRAMDIR)'
+	install -m 755 $(TOOLS)/check $(TOOLS)/bands target/bin/list '$(DESTDIR)$(PROGRAMDIR)'
 	install -m 644 docs/terrain.1 '$(DESTDIR)$(MANDIR)/man1'
 
 uninstall:
