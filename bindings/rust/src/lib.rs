@@ -47,18 +47,20 @@
 
 mod line;
 mod map;
-mod owned;
 mod question;
 pub mod raw;
 mod reader;
 mod writer;
 
+mod owned;
+
 pub use line::{line_backward, line_forward};
 pub use map::{band_row, map_backward, map_forward, view, Shape};
-pub use owned::{OwnedReader, OwnedWriter};
 pub use question::{Call, Question};
 pub use reader::{Reader, Want};
 pub use writer::Writer;
+
+pub use owned::{OwnedReader, OwnedWriter};
 
 /// The version of the interface that this crate was written for: 10,000 for each major number, 100 for each minor one, and the patch.
 pub const VERSION: u32 = 200;
