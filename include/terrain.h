@@ -1,4 +1,4 @@
-/* The terrain streamer's C interface: link target/staticlib/libterrain.a.
+/* The terrain streamer's C interface, for x86-64 Linux: link libterrain.a (from target/staticlib, or from where it is installed).
  *
  * Each call answers 0, or the number of the question that turned it away; a call turned away changes nothing that was lent to it, the
  * numbers it would have set included. (14 is the one exception, and the calls that give it say what it changes.)
