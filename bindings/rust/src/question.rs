@@ -1,7 +1,8 @@
 //! The question that turned a call away.
 use std::fmt;
 
-/// A call of the library.
+/// A call of the library. More of them will come.
+#[non_exhaustive]
 #[derive(Clone, Copy, Debug, PartialEq, Eq, Hash)]
 pub enum Call {
     Line,

@@ -4,3 +4,4 @@ pub mod WriterCalls
 pub mod WriterLists
 pub mod ReaderState
 pub mod ReaderCalls
+pub mod Version

@@ -4,5 +4,6 @@ mod map;
 mod reader_calls;
 mod reader_state;
 mod states;
+mod version;
 mod writer_calls;
 mod writer_state;
