@@ -1,0 +1,5 @@
+pub mod Filled
+pub mod PassLaws
+pub mod OnePassLaws
+pub mod EndLaws
+pub mod TurnLaws

@@ -1,0 +1,29 @@
+// The smooth profile of one row: the 9/7 lifting of ITU-T T.800 without its scaling, in 32-bit floats, in one pass over the row.
+mod carry;
+mod ends;
+mod pairs;
+use wavelet::limits;
+ghost use mathlib.Core.Path.{_≡_};
+ghost use lib.ListN.{length};
+ghost use Rattle.profile.specs.Profile.{profile};
+ghost use Rattle.profile.specs.Calls.{heights, floats, profileQuestion, profiled};
+
+// A row's profile at the front of `out`. 2: the row has no height or more than the largest width; 5: `out` is shorter than the row.
+pub fn smooth(row: &[u16], out: &mut [f32]) -> u8
+    ensures { λ r. ⌜ r ≡ profileQuestion (length (now (row .entry))) (length (now (out .entry))) ⌝ }
+    ensures { λ r. ⌜ floats (now (out .exit)) ≡ profiled r (length (now (row .entry))) (profile (length (now (row .entry))) (heights (now (row .entry)))) (floats (now (out .entry))) ⌝ }
+{
+    let n = row.len();
+    if !limits::is_within(n, limits::max_width()) {
+        return 2;
+    }
+    if out.len() < n {
+        return 5;
+    }
+    if n == 1 {
+        out[0] = row[0] as f32;
+        return 0;
+    }
+    pairs::one_pass(row, out);
+    0
+}
