@@ -3,3 +3,5 @@ pub mod PassLaws
 pub mod OnePassLaws
 pub mod EndLaws
 pub mod TurnLaws
+pub mod CallLaws
+pub mod Nearest

@@ -8,22 +8,32 @@ ghost use lib.ListN.{length};
 ghost use Rattle.profile.specs.Profile.{profile};
 ghost use Rattle.profile.specs.Calls.{heights, floats, profileQuestion, profiled};
 
-// A row's profile at the front of `out`. 2: the row has no height or more than the largest width; 5: `out` is shorter than the row.
+// Questions 2 and 5, of a row of n heights and an area of m floats: 0, or the number of the first that says no.
+fn question(n: usize, m: usize) -> u8
+    ensures { λ r. ⌜ r ≡ profileQuestion n m ⌝ }
+{
+    if !limits::is_within(n, limits::max_width()) {
+        return 2;
+    }
+    if m < n {
+        return 5;
+    }
+    0
+}
+
+// A row's profile at the front of `out`, in the samples' own order. 2: the row has no height or more than the largest width; 5: `out` is shorter than the row.
 pub fn smooth(row: &[u16], out: &mut [f32]) -> u8
     ensures { λ r. ⌜ r ≡ profileQuestion (length (now (row .entry))) (length (now (out .entry))) ⌝ }
     ensures { λ r. ⌜ floats (now (out .exit)) ≡ profiled r (length (now (row .entry))) (profile (length (now (row .entry))) (heights (now (row .entry)))) (floats (now (out .entry))) ⌝ }
 {
-    let n = row.len();
-    if !limits::is_within(n, limits::max_width()) {
-        return 2;
+    let no = question(row.len(), out.len());
+    if no != 0 {
+        return no;
     }
-    if out.len() < n {
-        return 5;
-    }
-    if n == 1 {
-        out[0] = row[0] as f32;
-        return 0;
+    if row.len() == 1 {
+        out[0] = ends::height(row, 0);
+        return no;
     }
     pairs::one_pass(row, out);
-    0
+    no
 }
