@@ -62,4 +62,4 @@ single n x l {v = v} h e r f =
     let y : profile n x ≡ x = same n 1 _ _ e in
     finish (store v (start nan l (fronted n (profile n x) (floats l))) (omega arith) (f ∙ sym (front n _ _ 0 (omega arith) ∙ ap (λ (y : ℕ → Float). y 0) y)))
     (λ j le. surplus n _ _ j (omega arith))
-        ∙ done n x (floats l) h
+    ∙ done n x (floats l) h

@@ -53,8 +53,8 @@ module _ (n : ℕ) (x : ℕ → Float) where
     first-inside : p + 3 < n → next .first ≡ one (p + 3)
     first-inside g =
         below (p + 3) n _ _ g
-            ∙ lifted-of alpha (even-inside (omega arith) ∙ ap x (sym (before-is (p + 3) (p + 2) (omega arith)))) refl (next-even g)
-            ∙ sym (lifts 1 alpha n x (p + 3) (omega arith))
+        ∙ lifted-of alpha (even-inside (omega arith) ∙ ap x (sym (before-is (p + 3) (p + 2) (omega arith)))) refl (next-even g)
+        ∙ sym (lifts 1 alpha n x (p + 3) (omega arith))
 
     first-next : p + 2 < n → next .first ≡ one (after n (p + 2))
     first-next g =
@@ -66,8 +66,8 @@ module _ (n : ℕ) (x : ℕ → Float) where
     second-inside : p + 2 < n → next .second ≡ two (p + 2)
     second-inside g =
         below (p + 2) n _ _ g
-            ∙ lifted-of beta (h .first-is ∙ ap one (sym (before-is (p + 2) (p + 1) (omega arith)))) (even-inside g ∙ sym (leaves 1 alpha n x (p + 2) (omega arith))) (first-next g)
-            ∙ sym (lifts 0 beta n one (p + 2) (omega arith))
+        ∙ lifted-of beta (h .first-is ∙ ap one (sym (before-is (p + 2) (p + 1) (omega arith)))) (even-inside g ∙ sym (leaves 1 alpha n x (p + 2) (omega arith))) (first-next g)
+        ∙ sym (lifts 0 beta n one (p + 2) (omega arith))
 
     second-next : next .second ≡ two (after n (p + 1))
     second-next =
@@ -79,7 +79,7 @@ module _ (n : ℕ) (x : ℕ → Float) where
     pub third-next : next .third ≡ three (p + 1)
     third-next =
         lifted-of gamma (h .second-is ∙ ap two (sym (before-is (p + 1) p refl))) (h .first-is ∙ sym (leaves 0 beta n one (p + 1) (omega arith))) second-next
-            ∙ sym (lifts 1 gamma n two (p + 1) (omega arith))
+        ∙ sym (lifts 1 gamma n two (p + 1) (omega arith))
 
     -- the next pair is in the row
     pub half-next : p + 3 < n → Half (p + 2) next
@@ -98,7 +98,7 @@ module _ (n : ℕ) (x : ℕ → Float) where
         (third-next ∙ ap three (sym (before-is (p + 2) (p + 1) (omega arith))))
         (second-inside (omega arith) ∙ sym (leaves 1 gamma n two (p + 2) (omega arith)))
         (third-next ∙ ap three (sym (after-last n (p + 2) (p + 1) (omega arith) (omega arith))))
-            ∙ sym (lifts 0 delta n three (p + 2) (omega arith))
+        ∙ sym (lifts 0 delta n three (p + 2) (omega arith))
 
   -- the turn with all it carries
   module _ (p : ℕ) (s : Carried) (parity : p % 2 ≡ 0) (inside : p + 1 < n) (h : Carries p s) where
@@ -117,7 +117,7 @@ module _ (n : ℕ) (x : ℕ → Float) where
         (h .third-is)
         (h .half .second-is ∙ sym (leaves 1 gamma n two p (omega arith)))
         (third-next p s parity inside (h .half) ∙ ap three (sym (after-is n p (p + 1) refl inside)))
-            ∙ sym (lifts 0 delta n three p parity)
+        ∙ sym (lifts 0 delta n three p parity)
 
     pub high-done : turnedAt n x p s .third ≡ fourPasses n x (p + 1)
     unfolding fourPasses
@@ -149,7 +149,7 @@ module _ (n : ℕ) (x : ℕ → Float) where
         (opened-first ∙ ap one (sym before-first))
         (sym (leaves 1 alpha n x 0 (omega arith)))
         (opened-first ∙ ap one (sym (after-is n 0 1 refl g)))
-            ∙ sym (lifts 0 beta n one 0 refl)
+        ∙ sym (lifts 0 beta n one 0 refl)
 
     opened-half : Half 0 (opened n x)
     opened-half = record { even-is = opened-even; first-is = opened-first; second-is = opened-second }

@@ -76,13 +76,13 @@ module _ (n : ℕ) (x : ℕ → Float) (l₀ : List Float) where
       elim (ℕ-discrete (p + 2) n) [
         | yes e ↦ ap floats (same (p + 2) n _ _ e) ∙ whole (omega arith) (pair-filled h)
         | no d ↦
-          elim (decLt (p + 2 + 1) n) [
-            | yes q ↦ ap floats (differs (p + 2) n _ _ d ∙ below (p + 2 + 1) n _ _ q) ∙ whole (omega arith) (pair-filled (next h (omega arith)))
-            | no q ↦
-              ap floats (differs (p + 2) n _ _ d ∙ not-below (p + 2 + 1) n _ _ (omega arith))
+            elim (decLt (p + 2 + 1) n) [
+              | yes q ↦ ap floats (differs (p + 2) n _ _ d ∙ below (p + 2 + 1) n _ _ q) ∙ whole (omega arith) (pair-filled (next h (omega arith)))
+              | no q ↦
+                  ap floats (differs (p + 2) n _ _ d ∙ not-below (p + 2 + 1) n _ _ (omega arith))
                   ∙ whole (omega arith)
                   (store _ (pair-filled h) (omega arith) (last-low n x p s (h .parity) b (h .carries .half) (omega arith) ∙ sym (front n _ _ (p + 2) (omega arith))))
-          ]
+            ]
       ]
 
   pub end : {p : ℕ} {s t : Carried} {v : Float} {l m r : List Float} → Turned p s l → n ≤ p + 4 → t ≡ turnedAt n x p s → v ≡ low s (t .third) → m ≡ paired l p v (t .third)

@@ -58,7 +58,12 @@ pub fn carry_on(s: Carried, even: f32, first: f32, second: f32) -> Carried
     ensures { λ r. ⌜ r ≡ carriedOn s even first second ⌝ }
 {
     let third = lift_third(s.second, s.first, second);
-    Carried { even, first, second, third }
+    Carried {
+        even,
+        first,
+        second,
+        third,
+    }
 }
 
 // One turn: the row's next odd and even sample.

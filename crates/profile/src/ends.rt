@@ -23,7 +23,11 @@ fn next_even(row: &[u16], p: usize, s: Carried) -> f32
     requires { ⌜ p < length (now row) ⌝ }
     ensures { λ r. ⌜ r ≡ nextEven (length (now (row .entry))) (heights (now (row .entry))) p s ⌝ }
 {
-    if p + 4 < row.len() { height(row, p + 4) } else { s.even }
+    if p + 4 < row.len() {
+        height(row, p + 4)
+    } else {
+        s.even
+    }
 }
 
 // Sample p + 3 after the first pass.
@@ -65,7 +69,11 @@ fn third_sample(row: &[u16]) -> f32
     requires { ⌜ 1 < length (now row) ⌝ }
     ensures { λ r. ⌜ r ≡ pick (ltb 2 (length (now (row .entry)))) (heights (now (row .entry)) 2) (heights (now (row .entry)) 0) ⌝ }
 {
-    if 2 < row.len() { height(row, 2) } else { height(row, 0) }
+    if 2 < row.len() {
+        height(row, 2)
+    } else {
+        height(row, 0)
+    }
 }
 
 // What the first pair is given: the third value before it is the one after it, mirrored.
@@ -78,8 +86,22 @@ pub fn open(row: &[u16]) -> Carried
     let first = carry::lift_first(x, height(row, 1), even);
     let second = carry::lift_second(first, x, first);
     let third = first;
-    let t = turn_at(row, 0, Carried { even, first, second, third });
-    Carried { even, first, second, third: t.third }
+    let t = turn_at(
+        row,
+        0,
+        Carried {
+            even,
+            first,
+            second,
+            third,
+        },
+    );
+    Carried {
+        even,
+        first,
+        second,
+        third: t.third,
+    }
 }
 
 // A pair is stored.
@@ -102,7 +124,12 @@ pub fn close(row: &[u16], out: &mut [f32], p: usize, s: Carried)
     }
     if p + 1 < n {
         let t = turn_at(row, p, s);
-        store_pair(out, p, carry::lift_fourth(s.third, s.second, t.third), t.third);
+        store_pair(
+            out,
+            p,
+            carry::lift_fourth(s.third, s.second, t.third),
+            t.third,
+        );
         return;
     }
     out[p] = carry::lift_fourth(s.third, s.second, s.third);

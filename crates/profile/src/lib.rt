@@ -2,6 +2,7 @@
 mod carry;
 mod ends;
 mod pairs;
+
 use wavelet::limits;
 ghost use mathlib.Core.Path.{_≡_};
 ghost use lib.ListN.{length};

@@ -15,11 +15,21 @@ pub fn one_pass(row: &[u16], out: &mut [f32])
     let mut p = 0;
     while p + 4 < row.len() {
         let t = carry::turn(s, ends::height(row, p + 3), ends::height(row, p + 4));
-        ends::store_pair(out, p, carry::lift_fourth(s.third, s.second, t.third), t.third);
+        ends::store_pair(
+            out,
+            p,
+            carry::lift_fourth(s.third, s.second, t.third),
+            t.third,
+        );
         s = t;
         p += 2;
     }
     let t = ends::turn_at(row, p, s);
-    ends::store_pair(out, p, carry::lift_fourth(s.third, s.second, t.third), t.third);
+    ends::store_pair(
+        out,
+        p,
+        carry::lift_fourth(s.third, s.second, t.third),
+        t.third,
+    );
     ends::close(row, out, p + 2, t);
 }

@@ -18,7 +18,7 @@ open-requires : tie.Need-open-requires Inv-loop μ-loop
 open-requires c κs = c .before .before .pre .0
 
 loop-holds : tie.Need-loop-holds Inv-loop μ-loop
-loop-holds c = 
+loop-holds c =
     let a = c .before .before .before in
     begun (length (a .args .row .now)) (heights (a .args .row .now)) (a .args .out .now) (a .pre .0) (a .pre .1) (c .«open» .ensures)
 
@@ -53,7 +53,7 @@ loop-less : tie.Need-loop-less Inv-loop μ-loop
 loop-less c = omega arith
 
 loop-again : tie.Need-loop-again Inv-loop μ-loop
-loop-again c = 
+loop-again c =
     let l = c .before .before .before .before .before .before .before .before .before .loop in
     turn _ _ _ (l .inv) (c .before .before .before .before .before .before .before .before .loop-test .taken) (c .before .before .before .before .before .before .before .height .ensures) (c .before .before .before .before .before .before .height2 .ensures) (c .before .before .before .before .before .turn .ensures) (c .before .before .before .lift-fourth .ensures) (c .before .before .store-pair .ensures)
 
@@ -76,7 +76,7 @@ same-length : tie.Need-same-length Inv-loop μ-loop
 same-length c = c .before .before .close .kept .1 .0 ∙ c .before .before .before .before .before .before .store-pair2 .kept .0 ∙ c .before .before .before .before .before .before .before .before .before .before .before .loop .inv .filled .size
 
 returns : tie.Need-returns Inv-loop μ-loop
-returns c = 
+returns c =
     let l = c .before .before .before .before .before .before .before .before .before .before .before .loop in
     end _ _ _ (l .inv) (c .before .before .before .before .before .before .before .before .before .before .loop-test .left) (c .before .before .before .before .before .before .before .before .before .turn-at .ensures) (c .before .before .before .before .before .before .before .lift-fourth2 .ensures) (c .before .before .before .before .before .before .store-pair2 .ensures) (c .before .before .close .ensures)
 
