@@ -5,3 +5,4 @@ pub mod EndLaws
 pub mod TurnLaws
 pub mod CallLaws
 pub mod Nearest
+pub mod Finite
