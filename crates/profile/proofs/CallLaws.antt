@@ -3,7 +3,7 @@ use mathlib.Core.Path.{_≡_, refl, sym, ap, _∙_}
 use mathlib.Core.List.{List}
 use mathlib.Core.Bool.{Bool, true, false}
 use mathlib.Core.Logic.{_≢_}
-use Prim.Native.Nat.{ℕ, _+_, _≤_, _<_}
+use Prim.Native.Nat.{ℕ, _≤_, _<_}
 use native.Mathlib.Omega.{arith}
 use borrow.Author.Tests.{leb-true, le-leb, lt-leb}
 use lib.Dec.{leb}
@@ -56,7 +56,8 @@ module _ (n : ℕ) (x z : ℕ → Float) {q : ℕ} where
   several h d e = e ∙ ap (λ (y : ℕ → Float). fronted n y z) (sym (differs n 1 _ _ d)) ∙ done h
 
 -- one sample stays as it is
-pub single : (n : ℕ) (x : ℕ → Float) (l : List Float) {q : ℕ} {v : Float} → q ≡ 0 → n ≡ 1 → n ≤ length l → v ≡ x 0 → floats (set l 0 v) ≡ profiled q n (profile n x) (floats l)
+pub single : (n : ℕ) (x : ℕ → Float) (l : List Float) {q : ℕ} {v : Float} → q ≡ 0 → n ≡ 1 → n ≤ length l → v ≡ x 0
+    → floats (set l 0 v) ≡ profiled q n (profile n x) (floats l)
 unfolding profile
 single n x l {v = v} h e r f =
     let y : profile n x ≡ x = same n 1 _ _ e in

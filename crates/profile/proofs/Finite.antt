@@ -1,10 +1,12 @@
--- Every value of a profile is a number: no NaN and no infinity, so that equal floats are equal bits. Heights are below 2^16; a pass makes values at most 2^6 times as large,
--- since each of its three roundings at most doubles. The bounds are crude: nothing here needs to be sharp. Assumes nothing.
+-- Every value of a profile is a number: no NaN and no infinity, so that equal floats are equal bits. Heights are below 2^16; a pass makes
+-- values at most 2^6 times as large, since each of its three roundings at most doubles. The bounds are crude: nothing needs them sharp.
+-- Assumes nothing.
 use mathlib.Core.Path.{_≡_, sym, ap, _∙_, subst}
 use mathlib.Core.List.{List}
 use mathlib.Core.Bool.{Bool, true, false, _&&_, Bool·beq, cond}
 use Prim.Native.Nat.{ℕ, _+_, _-_, _*_, _/_, _%_, _^_, _≤_, _<_, compare}
-use native.Mathlib.Nat.{le-trans, le-of-eq, lt-of-le-of-lt, mul-comm, mul-assoc, mul-right-comm, mul-mul-mul-comm, mul-le-mul, mul-le-mul-right, le-of-mul-le-mul-right, div-div-eq-div-mul, div-le-of-le-mul, mul-pos}
+use native.Mathlib.Nat.{le-trans, le-of-eq, lt-of-le-of-lt, mul-comm, mul-assoc, mul-right-comm, mul-mul-mul-comm}
+use native.Mathlib.Nat.{mul-le-mul, mul-le-mul-right, le-of-mul-le-mul-right, div-div-eq-div-mul, div-le-of-le-mul, mul-pos}
 use native.Mathlib.Omega.{arith}
 use lib.Dec.{T, ltb, eqb}
 use lib.IntN.{pos}
@@ -38,7 +40,9 @@ of-value j nan s a h v = v
 of-value j (inf t) s a h v = v
 of-value j (fin t m e) s a h v =
     le-of-mul-le-mul-right {k = 2 ^ 149}
-    (le-trans (le-of-eq (v .1)) (le-trans (mul-le-mul-right (down e) h) (le-of-eq (ap (λ (z : ℕ). z * down e) (pow-add 2 j 149) ∙ mul-right-comm (2 ^ j) (2 ^ 149) (down e)))))
+    (le-trans (le-of-eq (v .1))
+    (le-trans (mul-le-mul-right (down e) h)
+    (le-of-eq (ap (λ (z : ℕ). z * down e) (pow-add 2 j 149) ∙ mul-right-comm (2 ^ j) (2 ^ 149) (down e)))))
     (pow-pos 149)
 
 round-below : (j : ℕ) (s : Bool) (a b : ℕ) → j < 127 → 0 < b → a ≤ 2 ^ j * b → Below (j + 1) (round binary32 s a b)
@@ -49,13 +53,16 @@ round-below j s a b g B h =
     let u = b * 2 ^ k in
     let q = nearest (n / u) (compare (n % u * 2) u) in
     let n-le : n ≤ b * 2 ^ (j + 149) =
-    le-trans (mul-le-mul-right (2 ^ 149) h) (le-of-eq (mul-right-comm (2 ^ j) b (2 ^ 149) ∙ ap (λ (z : ℕ). z * b) (sym (pow-add 2 j 149)) ∙ mul-comm (2 ^ (j + 149)) b)) in
+    le-trans (mul-le-mul-right (2 ^ 149) h)
+    (le-of-eq (mul-right-comm (2 ^ j) b (2 ^ 149) ∙ ap (λ (z : ℕ). z * b) (sym (pow-add 2 j 149)) ∙ mul-comm (2 ^ (j + 149)) b)) in
     let w-le : w ≤ 2 ^ (j + 149) = div-le-of-le-mul b n-le in
     let size-is : size w ≤ j + 150 = size-le w (j + 150) (lt-of-le-of-lt w-le (pow-lt (omega arith))) in
-    let q-le : q ≤ 2 ^ 24 = le-trans (nearest-le (n / u) (compare (n % u * 2) u)) (subst (λ (z : ℕ). z < 2 ^ 24) (div-div-eq-div-mul n b (2 ^ k)) (kept-lt 24 w)) in
+    let q-le : q ≤ 2 ^ 24 =
+    le-trans (nearest-le (n / u) (compare (n % u * 2) u)) (subst (λ (z : ℕ). z < 2 ^ 24) (div-div-eq-div-mul n b (2 ^ k)) (kept-lt 24 w)) in
     let all : q * 2 ^ k ≤ 2 ^ (j + 1 + 149) = le-trans (mul-le-mul-right (2 ^ k) q-le) (le-trans (le-of-eq (sym (pow-add 2 24 k))) (pow-mono (omega arith))) in
     subst (Below (j + 1)) (sym (round-is binary32 s a b))
-    (of-value (j + 1) (units binary32 s q k) s (q * 2 ^ k) all (units-val binary32 s q k (lt-of-le-of-lt all (pow-lt {i = j + 1 + 149} {j = 277} (omega arith)))))
+    (of-value (j + 1) (units binary32 s q k) s (q * 2 ^ k) all
+    (units-val binary32 s q k (lt-of-le-of-lt all (pow-lt {i = j + 1 + 149} {j = 277} (omega arith)))))
 
 -- ---- the operations
 twice : (j c : ℕ) → 2 ^ (j + 1) * c ≡ 2 ^ j * c + 2 ^ j * c

@@ -2,7 +2,7 @@
 use mathlib.Core.Path.{_≡_, refl}
 use mathlib.Core.Logic.{_≢_}
 use mathlib.Core.Bool.{Bool, true, false}
-use Prim.Native.Nat.{ℕ, _+_, _-_, _*_, _^_, _≤_, _<_}
+use Prim.Native.Nat.{ℕ, _+_, _-_, _*_, _^_, _<_}
 use native.Mathlib.Omega.{arith}
 use lib.Ieee.{Float, binary32, ofBits, odd, round}
 use Rattle.profile.specs.Profile.{alpha, beta, gamma, delta}
@@ -11,8 +11,9 @@ use Rattle.profile.specs.Profile.{alpha, beta, gamma, delta}
 abbrev apart : ℕ → ℕ → ℕ
 apart a b = (a - b) + (b - a)
 
--- c is the 32-bit float nearest to num / 10^9, negative where s is true: it is what the language's rounding makes of that fraction. And in plain numbers:
--- c is m / 2^k, with m of 24 digits, so that its neighbours among the 32-bit floats are (m − 1) / 2^k and (m + 1) / 2^k, and no other q / 2^k is as near to num / 10^9.
+-- c is the 32-bit float nearest to num / 10^9, negative where s is true: it is what the language's rounding makes of that fraction.
+-- And in plain numbers: c is m / 2^k, with m of 24 digits, so that its neighbours among the 32-bit floats are (m − 1) / 2^k and
+-- (m + 1) / 2^k, and no other q / 2^k is as near to num / 10^9.
 pub record NearestTo (s : Bool) (num k m : ℕ) (c : Float) : Type 0 where
   pub rounded : c ≡ round binary32 s num 1000000000
   pub value : c ≡ odd 24 s m 0 k

@@ -1,12 +1,12 @@
 -- The values carried are the four passes' own: one turn makes those of the next pair, and with them the pair's samples are done.
 -- Assumes nothing.
 use mathlib.Core.Path.{_≡_, refl, sym, ap, _∙_}
-use Prim.Native.Nat.{ℕ, _+_, _%_, _≤_, _<_}
+use Prim.Native.Nat.{ℕ, _+_, _%_, _<_}
 use native.Mathlib.Omega.{arith}
 use native.Mathlib.Decide.{decLt}
 use lib.Ieee.{Float}
 use Rattle.profile.specs.Profile.{before, after, pass, lifted, alpha, beta, gamma, delta, fourPasses}
-use Rattle.profile.specs.OnePass.{nextEven, nextFirst, nextSecond, turned, turnedAt, opened, low}
+use Rattle.profile.specs.OnePass.{nextEven, nextFirst, turned, turnedAt, opened, low}
 use Rattle.profile.specs.declared.carry.Carried.{Carried}
 use Rattle.profile.proofs.PassLaws.{below, not-below, before-is, before-first, after-is, after-last, lifts, leaves}
 
@@ -66,7 +66,10 @@ module _ (n : ℕ) (x : ℕ → Float) where
     second-inside : p + 2 < n → next .second ≡ two (p + 2)
     second-inside g =
         below (p + 2) n _ _ g
-        ∙ lifted-of beta (h .first-is ∙ ap one (sym (before-is (p + 2) (p + 1) (omega arith)))) (even-inside g ∙ sym (leaves 1 alpha n x (p + 2) (omega arith))) (first-next g)
+        ∙ lifted-of beta
+        (h .first-is ∙ ap one (sym (before-is (p + 2) (p + 1) (omega arith))))
+        (even-inside g ∙ sym (leaves 1 alpha n x (p + 2) (omega arith)))
+        (first-next g)
         ∙ sym (lifts 0 beta n one (p + 2) (omega arith))
 
     second-next : next .second ≡ two (after n (p + 1))

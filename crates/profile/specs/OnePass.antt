@@ -1,11 +1,13 @@
--- What the steps of the one pass compute, each by itself: the private functions' contracts. That together they give the four passes is proved in proofs/OnePassLaws.antt.
+-- What the steps of the one pass compute, each by itself: the private functions' contracts cite it. That together they give the four
+-- passes is proved in proofs/OnePassLaws.antt.
 use mathlib.Core.List.{List}
 use Prim.Native.Nat.{ℕ, _+_}
-use lib.ListN.{set}
+use lib.ListN.{length, set}
 use lib.Dec.{ltb, eqb}
 use lib.Ieee.{Float}
 use Rattle.numbers.specs.Signal.{pick}
-use Rattle.profile.specs.Profile.{alpha, beta, gamma, delta, lifted}
+use Rattle.profile.specs.Profile.{alpha, beta, gamma, delta, lifted, fourPasses}
+use Rattle.profile.specs.Calls.{heights, floats, fronted}
 use Rattle.profile.specs.declared.carry.Carried.{Carried}
 
 -- carried on, with the third value that is due
@@ -19,6 +21,10 @@ turned s o e = carriedOn s e (lifted alpha (s .even) o e) (lifted beta (s .first
 -- the even sample that is done with the new third value
 abbrev pub low : Carried → Float → Float
 low s third = lifted delta (s .third) (s .second) third
+
+-- the whole of it: the four passes at the front of the area
+abbrev pub passed : List ℕ → List Float → ℕ → Float
+passed row out = fronted (length row) (fourPasses (length row) (heights row)) (floats out)
 
 -- the turn at place p of a row x of n samples, where what is outside the row is mirrored: it is one of the values carried
 abbrev pub nextEven : ℕ → (ℕ → Float) → ℕ → Carried → Float

@@ -1,12 +1,12 @@
 -- The smooth profile of one row. Document 02, Q-13: the 9/7 lifting of T.800, without its scaling, in 32-bit floats.
 -- A row is a signal of floats. `add` and `mul` are the language's `+` and `*` on f32: each rounds once, and none is fused with another.
-use mathlib.Core.Bool.{Bool}
-use Prim.Native.Nat.{ℕ, zero, suc, _+_, _-_, _%_}
-use lib.Dec.{leb, ltb, eqb}
+use Prim.Native.Nat.{ℕ, zero, suc, _+_, _%_}
+use lib.Dec.{ltb, eqb}
 use lib.Ieee.{Float, binary32, add, mul, ofBits}
 use Rattle.numbers.specs.Signal.{pick}
 
--- "c = −1.586134342, −0.052980118, 0.882911075, 0.443506852, each the nearest 32-bit float": by its bits; that it is the nearest is shown in proofs/Nearest.antt
+-- "c = −1.586134342, −0.052980118, 0.882911075, 0.443506852, each the nearest 32-bit float": by its bits. That each is the nearest is
+-- proved in proofs/Nearest.antt.
 unfoldable pub alpha : Float
 alpha = ofBits binary32 0xbfcb_0673
 

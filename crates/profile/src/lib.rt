@@ -6,8 +6,7 @@ mod pairs;
 use wavelet::limits;
 ghost use mathlib.Core.Path.{_≡_};
 ghost use lib.ListN.{length};
-ghost use Rattle.profile.specs.Profile.{profile};
-ghost use Rattle.profile.specs.Calls.{heights, floats, profileQuestion, profiled};
+ghost use Rattle.profile.specs.Calls.{floats, profileQuestion, smoothed};
 
 // Questions 2 and 5, of a row of n heights and an area of m floats: 0, or the number of the first that says no.
 fn question(n: usize, m: usize) -> u8
@@ -25,7 +24,7 @@ fn question(n: usize, m: usize) -> u8
 // A row's profile at the front of `out`, in the samples' own order. 2: the row has no height or more than the largest width; 5: `out` is shorter than the row.
 pub fn smooth(row: &[u16], out: &mut [f32]) -> u8
     ensures { λ r. ⌜ r ≡ profileQuestion (length (now (row .entry))) (length (now (out .entry))) ⌝ }
-    ensures { λ r. ⌜ floats (now (out .exit)) ≡ profiled r (length (now (row .entry))) (profile (length (now (row .entry))) (heights (now (row .entry)))) (floats (now (out .entry))) ⌝ }
+    ensures { λ r. ⌜ floats (now (out .exit)) ≡ smoothed r (now (row .entry)) (now (out .entry)) ⌝ }
 {
     let no = question(row.len(), out.len());
     if no != 0 {

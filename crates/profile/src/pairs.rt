@@ -4,12 +4,12 @@ use crate::ends;
 ghost use mathlib.Core.Path.{_≡_};
 ghost use Prim.Native.Nat.{_<_, _≤_};
 ghost use lib.ListN.{length};
-ghost use Rattle.profile.specs.Profile.{fourPasses};
-ghost use Rattle.profile.specs.Calls.{heights, floats, fronted};
+ghost use Rattle.profile.specs.Calls.{floats};
+ghost use Rattle.profile.specs.OnePass.{passed};
 
 pub fn one_pass(row: &[u16], out: &mut [f32])
     requires { ⌜ (1 < length (now row)) × (length (now row) ≤ length (now out)) ⌝ }
-    ensures { λ _. ⌜ floats (now (out .exit)) ≡ fronted (length (now (row .entry))) (fourPasses (length (now (row .entry))) (heights (now (row .entry)))) (floats (now (out .entry))) ⌝ }
+    ensures { λ _. ⌜ floats (now (out .exit)) ≡ passed (now (row .entry)) (now (out .entry)) ⌝ }
 {
     let mut s = ends::open(row);
     let mut p = 0;

@@ -1,15 +1,10 @@
-use borrow.Author.Needs.{needs}
+-- `carry_on`: the third value is the call's. Assumes nothing.
 use Rattle.profile.proofs.carry.carry_on.Statement.{statement}
 use Rattle.profile.proofs.carry.carry_on.Tie as tie
-use Rattle.profile.proofs.carry.carry_on.Reads as reads
-use Rattle.profile.proofs.carry.carry_on.Lts as lts
-use Rattle.profile.proofs.carry.lift_third.Reads as lift-third-reads
 
--- src/carry.rt:60:9
 lift-third-requires : tie.Need-lift-third-requires
 lift-third-requires c κs = tt
 
--- src/carry.rt:57:1
 returns : tie.Need-returns
 returns c = cc
 

@@ -1,6 +1,6 @@
 -- `one_pass`: before the pair at p the four values carried are the four passes' own, and the area holds the profile below p (`Turned`). Assumes nothing.
 use mathlib.Core.Path.{_∙_}
-use Prim.Native.Nat.{_-_, _<_, _≤_}
+use Prim.Native.Nat.{_-_}
 use native.Mathlib.Omega.{arith}
 use lib.ListN.{length}
 use Rattle.profile.specs.Calls.{heights}
@@ -54,8 +54,16 @@ loop-less c = omega arith
 
 loop-again : tie.Need-loop-again Inv-loop μ-loop
 loop-again c =
-    let l = c .before .before .before .before .before .before .before .before .before .loop in
-    turn _ _ _ (l .inv) (c .before .before .before .before .before .before .before .before .loop-test .taken) (c .before .before .before .before .before .before .before .height .ensures) (c .before .before .before .before .before .before .height2 .ensures) (c .before .before .before .before .before .turn .ensures) (c .before .before .before .lift-fourth .ensures) (c .before .before .store-pair .ensures)
+    let d = c .before .before .before in
+    let t = d .before .before in
+    let h = t .before .before in
+    turn _ _ _ (h .before .before .loop .inv)
+    (h .before .loop-test .taken)
+    (h .height .ensures)
+    (t .before .height2 .ensures)
+    (t .turn .ensures)
+    (d .lift-fourth .ensures)
+    (c .before .before .store-pair .ensures)
 
 turn-at-requires : tie.Need-turn-at-requires Inv-loop μ-loop
 turn-at-requires c κs = omega (arith, c .before .loop .inv .inside)
@@ -70,15 +78,25 @@ add-close : tie.Need-add-close Inv-loop μ-loop
 add-close c = omega (arith, c .before .before .before .before .before .before .before .before .loop .inv .inside)
 
 close-requires : tie.Need-close-requires Inv-loop μ-loop
-close-requires c κs = let i = c .before .before .before .before .before .before .before .before .loop .inv in (omega (arith, i .inside), omega (arith, i .room, i .filled .size))
+close-requires c κs =
+    let i = c .before .before .before .before .before .before .before .before .loop .inv in
+    (omega (arith, i .inside), omega (arith, i .room, i .filled .size))
 
 same-length : tie.Need-same-length Inv-loop μ-loop
-same-length c = c .before .before .close .kept .1 .0 ∙ c .before .before .before .before .before .before .store-pair2 .kept .0 ∙ c .before .before .before .before .before .before .before .before .before .before .before .loop .inv .filled .size
+same-length c =
+    let p = c .before .before .before .before .before .before in
+    c .before .before .close .kept .1 .0 ∙ p .store-pair2 .kept .0 ∙ p .before .before .before .before .before .loop .inv .filled .size
 
 returns : tie.Need-returns Inv-loop μ-loop
 returns c =
-    let l = c .before .before .before .before .before .before .before .before .before .before .before .loop in
-    end _ _ _ (l .inv) (c .before .before .before .before .before .before .before .before .before .before .loop-test .left) (c .before .before .before .before .before .before .before .before .before .turn-at .ensures) (c .before .before .before .before .before .before .before .lift-fourth2 .ensures) (c .before .before .before .before .before .before .store-pair2 .ensures) (c .before .before .close .ensures)
+    let p = c .before .before .before .before .before .before in
+    let t = p .before .before .before in
+    end _ _ _ (t .before .before .loop .inv)
+    (t .before .loop-test .left)
+    (t .turn-at .ensures)
+    (p .before .lift-fourth2 .ensures)
+    (p .store-pair2 .ensures)
+    (c .before .before .close .ensures)
 
 pub one-pass-spec : {M : Type 1} → statement M
 one-pass-spec =
