@@ -42,16 +42,13 @@ turnedAt n x p s =
     let f = nextFirst n x p s e in
     carriedOn s e f (nextSecond n p s f)
 
--- before the first pair: c is the third value, which is mirrored
-abbrev pub openedWith : ℕ → (ℕ → Float) → (Carried → Float) → Carried
-openedWith n x c =
+-- before the first pair: the third value is the one that the turn at 0 makes, since it is its own mirror; that turn reads no third value
+abbrev pub opened : ℕ → (ℕ → Float) → Carried
+opened n x =
     let e = pick (ltb 2 n) (x 2) (x 0) in
     let f = lifted alpha (x 0) (x 1) e in
     let g = lifted beta f (x 0) f in
-    record { even = e; first = f; second = g; third = c (record { even = e; first = f; second = g; third = f }) }
-
-abbrev pub opened : ℕ → (ℕ → Float) → Carried
-opened n x = openedWith n x (λ s. turnedAt n x 0 s .third)
+    record { even = e; first = f; second = g; third = turnedAt n x 0 (record { even = e; first = f; second = g; third = f }) .third }
 
 -- a pair stored, and the last samples of the row
 abbrev pub paired : List Float → ℕ → Float → Float → List Float

@@ -3,10 +3,9 @@ use crate::carry;
 use crate::carry::Carried;
 ghost use mathlib.Core.Path.{_≡_};
 ghost use Prim.Native.Nat.{_+_, _<_, _≤_};
-ghost use lib.ListN.{length, set};
+ghost use lib.ListN.{length};
 ghost use lib.Dec.{ltb};
 ghost use Rattle.numbers.specs.Signal.{pick};
-ghost use Rattle.profile.specs.Profile.{lifted};
 ghost use Rattle.profile.specs.Calls.{heights};
 ghost use Rattle.profile.specs.OnePass.{nextEven, nextFirst, nextSecond, turnedAt, opened, paired, closed};
 

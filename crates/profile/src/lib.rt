@@ -21,7 +21,8 @@ fn question(n: usize, m: usize) -> u8
     0
 }
 
-// A row's profile at the front of `out`, in the samples' own order. 2: the row has no height or more than the largest width; 5: `out` is shorter than the row.
+// A row's profile at the front of `out`, in the samples' own order.
+// 2: the row has no height, or more than the largest width; 5: `out` is shorter than the row.
 pub fn smooth(row: &[u16], out: &mut [f32]) -> u8
     ensures { λ r. ⌜ r ≡ profileQuestion (length (now (row .entry))) (length (now (out .entry))) ⌝ }
     ensures { λ r. ⌜ floats (now (out .exit)) ≡ smoothed r (now (row .entry)) (now (out .entry)) ⌝ }
