@@ -87,6 +87,14 @@ uint32_t terrain_line_forward(const int32_t *line, size_t line_len, int32_t *out
 TERRAIN_CHECKED
 uint32_t terrain_line_backward(const int32_t *coefficients, size_t coefficients_len, int32_t *out, size_t out_len);
 
+/* The smooth profile of one row of 1 to 2,049 heights, at the front of `out`, in the samples' own order: the 9/7 lifting of ITU-T T.800
+ * without its scaling, in 32-bit floats. Four passes add c * (left + right), the bracket first, to the odd, even, odd and even samples, with
+ * c = -1.586134342, -0.052980118, 0.882911075 and 0.443506852, each the nearest 32-bit float; the row is mirrored at both ends, and one
+ * height alone stays as it is. Every operation rounds once and none is fused, so every machine gives the same bits.
+ * 2: the row has no height or more than 2,049; 5: `out` is shorter than the row. */
+TERRAIN_CHECKED
+uint32_t terrain_profile(const uint16_t *row, size_t row_len, float *out, size_t out_len);
+
 /* The whole map: `height` rows of `width` heights to the plane of its coefficients at `levels` levels, and back. Width 1 to 2,049,
  * height 1 to 65,535, levels 1 to 5; heights, plane and work area each have at least width * height elements, and where a call passes
  * (or gives 14) the first width * height elements of the work area are zero afterwards.

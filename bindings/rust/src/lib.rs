@@ -47,6 +47,7 @@
 
 mod line;
 mod map;
+mod profile;
 mod question;
 pub mod raw;
 mod reader;
@@ -56,6 +57,7 @@ mod owned;
 
 pub use line::{line_backward, line_forward};
 pub use map::{band_row, map_backward, map_forward, view, Shape};
+pub use profile::profile;
 pub use question::{Call, Question};
 pub use reader::{Reader, Want};
 pub use writer::Writer;

@@ -18,6 +18,7 @@ mod c {
             out: *mut i32,
             out_len: usize,
         ) -> u32;
+        pub fn terrain_profile(row: *const u16, row_len: usize, out: *mut f32, out_len: usize) -> u32;
         pub fn terrain_map_forward(
             heights: *const u16,
             heights_len: usize,
@@ -116,6 +117,10 @@ pub fn line_forward(line: &[i32], out: &mut [i32]) -> u32 {
 
 pub fn line_backward(coefficients: &[i32], out: &mut [i32]) -> u32 {
     unsafe { c::terrain_line_backward(coefficients.as_ptr(), coefficients.len(), out.as_mut_ptr(), out.len()) }
+}
+
+pub fn profile(row: &[u16], out: &mut [f32]) -> u32 {
+    unsafe { c::terrain_profile(row.as_ptr(), row.len(), out.as_mut_ptr(), out.len()) }
 }
 
 pub fn map_forward(

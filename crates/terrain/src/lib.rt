@@ -3,6 +3,7 @@ mod line;
 mod map;
 mod reader_calls;
 mod reader_state;
+mod smooth;
 mod states;
 mod version;
 mod writer_calls;
