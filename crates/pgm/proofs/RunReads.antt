@@ -124,13 +124,22 @@ pub heights-first : (m : ℕ) (s : List ℕ) (n : ℕ) → heightsOf m (take (sa
 unfolding heightsOf
 heights-first m s n = ap (fitting m) (samples-first m s n) ∙ fitting-first m (samplesOf m s) n
 
-pub heights-most : (m : ℕ) (s : List ℕ) → sampleSize m * length (heightsOf m s) ≤ length s
+-- the bytes of n of them
+pub bytes-room : (m : ℕ) (s : List ℕ) (n : ℕ) → n ≤ length (heightsOf m s) → sampleSize m * n ≤ length s
 unfolding heightsOf samplesOf sampleSize
-heights-most m s = go (wide m)
+bytes-room m s n = go (wide m)
   where
-    go : (w : Bool) → pick w 2 1 * length (fitting m (pick w (pairsOf s) s)) ≤ length s
-    go true = omega (arith, fitting-most m (pairsOf s), pairs-count s)
-    go false = omega (arith, fitting-most m s)
+    go : (w : Bool) → n ≤ length (fitting m (pick w (pairsOf s) s)) → pick w 2 1 * n ≤ length s
+    go true h = omega (arith, fitting-most m (pairsOf s), pairs-count s)
+    go false h = omega (arith, fitting-most m s)
+
+pub bytes-more : (m j n : ℕ) → j ≤ n → (sampleSize m * j ≤ sampleSize m * n) × (j ≤ sampleSize m * j)
+unfolding sampleSize
+bytes-more m j n h = go (wide m)
+  where
+    go : (w : Bool) → (pick w 2 1 * j ≤ pick w 2 1 * n) × (j ≤ pick w 2 1 * j)
+    go true = (omega arith, omega arith)
+    go false = (omega arith, omega arith)
 
 -- ---- i heights of the bytes t from place f on stand in the run
 pub record Run (t d o : List ℕ) (m f n i : ℕ) : Type 0 where

@@ -12,10 +12,7 @@ pub fn is_space(byte: u8) -> bool
     if byte == b'\t' {
         return true;
     }
-    if byte == b'\r' {
-        return true;
-    }
-    byte == b'\n'
+    is_line_end(byte)
 }
 
 // CR or LF: a comment ends with it.
