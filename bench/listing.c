@@ -115,14 +115,18 @@ static void transform(void)
 
 int main(void)
 {
-    if (scanf("%zu P5 %zu %zu 65535", &levels, &W, &H) != 3 || levels > 5 || W > 4096) return 1;
+    size_t most;
+    if (scanf("%zu P5 %zu %zu %zu", &levels, &W, &H, &most) != 4 || levels > 5 || W > 4096) return 1;
     getchar();
-    size_t n = W * H;
-    unsigned char *bytes = malloc(2 * n);
+    size_t n = W * H, size = most < 256 ? 1 : 2;
+    unsigned char *bytes = malloc(size * n);
     plane = malloc(n * sizeof *plane);
     work = malloc(n * sizeof *work);
-    if (!bytes || !plane || !work || fread(bytes, 2, n, stdin) != n) return 1;
-    for (size_t i = 0; i < n; i++) work[i] = 256 * bytes[2 * i] + bytes[2 * i + 1];
+    if (!bytes || !plane || !work || fread(bytes, size, n, stdin) != n) return 1;
+    if (size == 1)
+        for (size_t i = 0; i < n; i++) work[i] = bytes[i];
+    else
+        for (size_t i = 0; i < n; i++) work[i] = 256 * bytes[2 * i] + bytes[2 * i + 1];
     ws[0] = W, hs[0] = H;
     for (size_t k = 0; k < levels; k++) ws[k + 1] = ws[k] - ws[k] / 2, hs[k + 1] = hs[k] - hs[k] / 2;
     transform();

@@ -23,17 +23,21 @@ static inline int pgm_space(int c)
     return c == ' ' || c == '\t' || c == '\r' || c == '\n';
 }
 
-/* The next number of the header, or 0: none stands there. Comments are passed over. */
+/* Whether c begins a gap, which is read to its end: one whitespace byte, or a comment with the CR or LF that ends it. */
+static inline int pgm_gap(FILE *file, int c)
+{
+    if (c == '#') while (c != '\n' && c != '\r' && c != EOF) c = getc(file);
+    return pgm_space(c);
+}
+
+/* The next number of the header and the gap after it, or 0: none stands there. A number too large for any limit is read as a large one. */
 static inline size_t pgm_number(FILE *file)
 {
     size_t n = 0;
-    int c = getc(file), digits = 0;
-    while (pgm_space(c) || c == '#') {
-        if (c == '#') while (c != '\n' && c != EOF) c = getc(file);
-        if (c != EOF) c = getc(file);
-    }
-    for (; c >= '0' && c <= '9' && digits < 9; c = getc(file), digits++) n = 10 * n + (size_t)(c - '0');
-    return pgm_space(c) ? n : 0; /* this one byte is used up with the number */
+    int c = getc(file);
+    while (pgm_gap(file, c)) c = getc(file);
+    for (; c >= '0' && c <= '9'; c = getc(file)) n = n < 100000000 ? 10 * n + (size_t)(c - '0') : n;
+    return pgm_gap(file, c) ? n : 0;
 }
 
 /* What keeps the samples from being read, or NULL: all are there and nothing follows. */
@@ -66,7 +70,7 @@ static inline const char *pgm_map(FILE *file, Pgm *map)
     size_t most;
     int first = getc(file);
     if (first == EOF) return "it is empty";
-    if (first != 'P' || getc(file) != '5' || !pgm_space(getc(file))) return "it is not a binary PGM (P5)";
+    if (first != 'P' || getc(file) != '5' || !pgm_gap(file, getc(file))) return "it is not a binary PGM (P5)";
     map->width = pgm_number(file);
     map->height = pgm_number(file);
     most = pgm_number(file);

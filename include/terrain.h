@@ -198,7 +198,8 @@ TERRAIN_INLINE const char *terrain_sentence(uint32_t number)
         "the output area is too short for the row",                                    /* 12 */
         "the run has not the length of the band row that is wanted",                   /* 13 */
         "no map has these coefficients",                                               /* 14 */
-        "the input is not in the form that the listing reads"                          /* 15 */
+        "the input is not in the form that the listing reads",                         /* 15 */
+        "a sample exceeds the largest value that the picture's header names"           /* 16 */
     };
     return number < sizeof sentences / sizeof *sentences ? sentences[number] : "no question has this number";
 }

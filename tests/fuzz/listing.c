@@ -31,31 +31,34 @@ static void put_number(int64_t n)
     put(text);
 }
 
-/* ---- the header: a whitespace byte and a number after it */
+/* ---- the header: gaps (a whitespace byte, or a comment with the CR or LF that ends it) and a number after them */
 static const uint8_t *at, *end;
 
-static int space(void)
+static int gap(void)
 {
+    if (at < end && *at == '#')
+        while (at < end && *at != '\r' && *at != '\n') at++;
     return at < end && (*at == ' ' || *at == '\t' || *at == '\r' || *at == '\n') ? at++, 1 : 0;
 }
 
-static int number_after_space(size_t *n)
+static int number_after_gaps(size_t *n)
 {
-    if (!space() || at == end || *at < '0' || *at > '9') return 0;
+    if (!gap()) return 0;
+    while (gap()) continue;
+    if (at == end || *at < '0' || *at > '9') return 0;
     for (*n = 0; at < end && *at >= '0' && *at <= '9'; at++)
         if ((*n = 10 * *n + (size_t)(*at - '0')) > 1000000) *n = 1000000;
     return 1;
 }
 
-static int head(size_t *levels, size_t *w, size_t *h)
+static int head(size_t *levels, size_t *w, size_t *h, size_t *most)
 {
-    size_t most;
     if (at == end || *at < '1' || *at > '5') return 0;
     *levels = (size_t)(*at++ - '0');
     if (end - at < 3 || memcmp(at, "\nP5", 3)) return 0;
     at += 3;
-    return number_after_space(w) && number_after_space(h) && number_after_space(&most) && space() && *w >= 1 && *w <= WIDEST && *h >= 1 &&
-           *h <= MOST_HEIGHT && most == 65535;
+    return number_after_gaps(w) && number_after_gaps(h) && number_after_gaps(most) && gap() && *w >= 1 && *w <= WIDEST && *h >= 1 &&
+           *h <= MOST_HEIGHT && *most >= 1 && *most <= 65535;
 }
 
 /* ---- the rows that wait, as lines */
@@ -94,17 +97,26 @@ static void put_map(size_t levels, size_t w, size_t h, const uint16_t *heights, 
 static int list(const uint8_t *data, size_t size)
 {
     static uint16_t heights[2 * CELLS + 64 * WIDEST];
-    size_t levels, w, h, taken = 0;
+    size_t levels, w, h, most, taken = 0, refused = 0;
     wanted_len = 0;
     at = data, end = data + size;
-    if (!head(&levels, &w, &h)) return put("refused 15\n"), 1;
-    size_t bytes = (size_t)(end - at);
+    if (!head(&levels, &w, &h, &most)) return put("refused 15\n"), 1;
+    size_t bytes = (size_t)(end - at), each = most < 256 ? 1 : 2;
     if (bytes > 2 * CELLS) return 0;
     memset(heights, 0, sizeof heights);
-    while (taken < bytes / 2 && taken < w * h) heights[taken] = (uint16_t)(at[2 * taken] << 8 | at[2 * taken + 1]), taken++;
+    for (; taken < bytes / each && taken < w * h; taken++) {
+        const uint8_t *s = at + each * taken;
+        size_t v = each == 1 ? s[0] : (size_t)s[0] << 8 | s[1];
+        if (v > most) {
+            refused = 16;
+            break;
+        }
+        heights[taken] = (uint16_t)v;
+    }
+    if (!refused && bytes != each * w * h) refused = 15;
     put_number((int64_t)w), put(" "), put_number((int64_t)h), put(" "), put_number((int64_t)levels), put("\n");
-    put_map(levels, w, h, heights, taken, bytes == 2 * w * h);
-    if (bytes != 2 * w * h) put("refused 15\n");
+    put_map(levels, w, h, heights, taken, !refused);
+    if (refused) put("refused "), put_number((int64_t)refused), put("\n");
     return 1;
 }
 

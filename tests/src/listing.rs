@@ -1,21 +1,32 @@
-//! A second listing, straight from document 01, "The listing program": the whole input in, the whole output back. The order of the rows is
+//! A second listing, straight from document 01, "The listing program", and 02, Q-1: the whole input in, the whole output back. The order of the rows is
 //! `order`'s, their values the reference transform's.
 use crate::maps::{forward, MAX_HEIGHT};
 use crate::order::{place, BandRow, Writer};
 
 const MAX_WIDTH: usize = 1_025;
-const REFUSED: &str = "refused 15\n";
-
 struct Head<'a> {
     levels: usize,
     width: usize,
     height: usize,
+    largest: usize,
     body: &'a [u8],
 }
 
-/// A whitespace byte and a number after it.
+/// A gap: one whitespace byte, or a comment with the CR or LF that ends it.
+fn gap(s: &[u8]) -> Option<&[u8]> {
+    match s.first()? {
+        b' ' | b'\t' | b'\r' | b'\n' => Some(&s[1..]),
+        b'#' => s.iter().position(|b| matches!(b, b'\r' | b'\n')).map(|end| &s[end + 1..]),
+        _ => None,
+    }
+}
+
+/// Gaps, one or more, and a number after them.
 fn number(s: &[u8]) -> Option<(usize, &[u8])> {
-    let s = space(s)?;
+    let mut s = gap(s)?;
+    while let Some(rest) = gap(s) {
+        s = rest;
+    }
     let digits = s.iter().take_while(|b| b.is_ascii_digit()).count();
     if digits == 0 {
         return None;
@@ -23,13 +34,6 @@ fn number(s: &[u8]) -> Option<(usize, &[u8])> {
     // a number too long for any limit is one that is above them all
     let n = s[..digits].iter().fold(0usize, |n, &b| (10 * n + (b - b'0') as usize).min(1_000_000));
     Some((n, &s[digits..]))
-}
-
-fn space(s: &[u8]) -> Option<&[u8]> {
-    match s.first() {
-        Some(b' ' | b'\t' | b'\r' | b'\n') => Some(&s[1..]),
-        _ => None,
-    }
 }
 
 fn head(s: &[u8]) -> Option<Head<'_>> {
@@ -40,10 +44,33 @@ fn head(s: &[u8]) -> Option<Head<'_>> {
     let s = s[1..].strip_prefix(b"\nP5")?;
     let (width, s) = number(s)?;
     let (height, s) = number(s)?;
-    let (maximum, s) = number(s)?;
-    let body = space(s)?;
-    let fits = (1..=MAX_WIDTH).contains(&width) && (1..=MAX_HEIGHT).contains(&height) && maximum == 65_535;
-    fits.then_some(Head { levels, width, height, body })
+    let (largest, s) = number(s)?;
+    let body = gap(s)?;
+    let fits = (1..=MAX_WIDTH).contains(&width) && (1..=MAX_HEIGHT).contains(&height) && (1..=65_535).contains(&largest);
+    fits.then_some(Head { levels, width, height, largest, body })
+}
+
+impl Head<'_> {
+    /// One byte a sample below 256, two from 256 on.
+    fn size(&self) -> usize {
+        if self.largest < 256 { 1 } else { 2 }
+    }
+
+    /// The heights, and the question that turns the input away after them, if one does: 16 goes by the first sample that is too large.
+    fn heights(&self) -> (Vec<u16>, Option<u8>) {
+        let cells = self.width * self.height;
+        let samples = self.body.chunks_exact(self.size()).map(|b| b.iter().fold(0, |v, &b| 256 * v + u16::from(b)));
+        let mut heights: Vec<u16> = samples.take(cells).collect();
+        if let Some(first) = heights.iter().position(|&v| usize::from(v) > self.largest) {
+            heights.truncate(first);
+            return (heights, Some(16));
+        }
+        (heights, (self.body.len() != self.size() * cells).then_some(15))
+    }
+}
+
+fn refused(question: u8) -> String {
+    format!("refused {question}\n")
 }
 
 /// The rows that the heights make due, and those of the finish.
@@ -71,14 +98,22 @@ fn line(plane: &[i32], width: usize, height: usize, r: BandRow) -> String {
     format!("{} {} {}{}\n", r.level, ["LL", "HL", "LH", "HH"][r.band], r.row, values)
 }
 
+/// Width, height and heights, if the input is accepted.
+pub fn accepted(input: &[u8]) -> Option<(usize, usize, Vec<u16>)> {
+    let h = head(input)?;
+    match h.heights() {
+        (heights, None) => Some((h.width, h.height, heights)),
+        _ => None,
+    }
+}
+
 pub fn listing(input: &[u8]) -> String {
     let Some(h) = head(input) else {
-        return REFUSED.to_string();
+        return refused(15);
     };
-    let cells = h.width * h.height;
-    let mut heights: Vec<u16> = h.body.chunks_exact(2).map(|b| u16::from_be_bytes([b[0], b[1]])).take(cells).collect();
+    let (mut heights, refusal) = h.heights();
     let taken = heights.len();
-    let finished = h.body.len() == 2 * cells;
+    let finished = refusal.is_none();
     // rows made so far have the values of every map that begins with the heights taken: of this one, too, a good deal longer
     let rows = if finished { h.height } else { taken / h.width + 64 };
     heights.resize(h.width * rows, 12_345);
@@ -87,10 +122,7 @@ pub fn listing(input: &[u8]) -> String {
     for r in rows_due(&h, taken, finished) {
         out += &line(&plane, h.width, rows, r);
     }
-    if !finished {
-        out += REFUSED;
-    }
-    out
+    refusal.map_or(out.clone(), |q| out + &refused(q))
 }
 
 #[cfg(test)]
@@ -109,5 +141,7 @@ mod tests {
         assert_eq!(listing(b"6\nP5 1 1 65535\n\0\0"), "refused 15\n");
         assert_eq!(listing(b"1\nP5 1 1 65535\n\0"), "1 1 1\nrefused 15\n");
         assert_eq!(listing(b"1\nP5 1 1 65535\n\0\x01\0"), "1 1 1\nrefused 15\n");
+        assert_eq!(listing(b"1\nP5 1 1 7\n\x08"), "1 1 1\nrefused 16\n");
+        assert_eq!(listing(b"1\nP5 1 1 7\n\x07\x08"), "1 1 1\nrefused 15\n");
     }
 }

@@ -79,28 +79,49 @@ fn agree(input: &[u8], random: &mut Random) {
     }
 }
 
-fn header(levels: usize, width: usize, height: usize, random: &mut Random) -> Vec<u8> {
-    let space = |random: &mut Random| [' ', '\t', '\r', '\n'][random.below(4)];
-    let zeros = "0".repeat(random.below(3));
-    let (a, b, c, d) = (space(random), space(random), space(random), space(random));
-    format!("{levels}\nP5{a}{zeros}{width}{b}{height}{c}{zeros}65535{d}").into_bytes()
+fn pick<'a>(random: &mut Random, all: &[&'a str]) -> &'a str {
+    all[random.below(all.len())]
 }
 
-fn map(width: usize, height: usize, random: &mut Random) -> Vec<u8> {
+/// One gap, and gaps as paint tools write them.
+fn gap(random: &mut Random) -> &'static str {
+    pick(random, &[" ", "\t", "\r", "\n", "# made by hand\n", "#\r", "#1 2 3 # \n"])
+}
+
+fn gaps(random: &mut Random) -> String {
+    (0..1 + random.below(3)).map(|_| gap(random)).collect()
+}
+
+fn header(levels: usize, width: usize, height: usize, largest: usize, random: &mut Random) -> Vec<u8> {
+    let zeros = "0".repeat(random.below(3));
+    let (a, b, c, d) = (gaps(random), gaps(random), gaps(random), gap(random));
+    format!("{levels}\nP5{a}{zeros}{width}{b}{height}{c}{zeros}{largest}{d}").into_bytes()
+}
+
+fn largest(random: &mut Random) -> usize {
+    [65_535, 255, 1, 254, 256, 257, 40_000, 1 + random.below(65_535)][random.below(8)]
+}
+
+fn bytes(sample: usize, largest: usize) -> Vec<u8> {
+    let two = (sample as u16).to_be_bytes();
+    two[usize::from(largest < 256)..].to_vec()
+}
+
+fn map(width: usize, height: usize, largest: usize, random: &mut Random) -> Vec<u8> {
     let kind = random.below(4);
     let height_of = |random: &mut Random| match kind {
         0 => 0,
-        1 => 65_535,
-        2 => 30_000 + random.below(40) as u16,
-        _ => random.below(65_536) as u16,
+        1 => largest,
+        2 => largest / 2 + random.below(40.min(largest - largest / 2)),
+        _ => random.below(largest + 1),
     };
-    (0..width * height).flat_map(|_| height_of(random).to_be_bytes()).collect()
+    (0..width * height).flat_map(|_| bytes(height_of(random), largest)).collect()
 }
 
 fn good(random: &mut Random, most: usize) -> Vec<u8> {
-    let (levels, width, height) = (1 + random.below(5), 1 + random.below(most), 1 + random.below(most));
-    let mut input = header(levels, width, height, random);
-    input.extend(map(width, height, random));
+    let (levels, width, height, largest) = (1 + random.below(5), 1 + random.below(most), 1 + random.below(most), largest(random));
+    let mut input = header(levels, width, height, largest, random);
+    input.extend(map(width, height, largest, random));
     input
 }
 
@@ -128,14 +149,57 @@ fn too_few_bytes_and_too_many() {
 }
 
 #[test]
+fn a_sample_too_large() {
+    let mut random = Random::new(66);
+    for _ in 0..100 {
+        let (levels, width, height) = (1 + random.below(5), 1 + random.below(9), 1 + random.below(9));
+        let largest = [1, 200, 254, 256, 300, 65_534][random.below(6)];
+        let mut input = header(levels, width, height, largest, &mut random);
+        let (head, size) = (input.len(), bytes(0, largest).len());
+        input.extend(map(width, height, largest, &mut random));
+        // the first, the last or any other; now and then two, and the input may go on or end too soon
+        for _ in 0..1 + random.below(2) {
+            let at = [0, width * height - 1, random.below(width * height)][random.below(3)];
+            let sample = largest + 1 + random.below([3, 65_536][usize::from(size == 2)].min(if size == 1 { 255 } else { 65_535 } - largest));
+            input[head + size * at..head + size * (at + 1)].copy_from_slice(&bytes(sample, largest));
+        }
+        match random.below(4) {
+            0 => input.truncate(head + random.below(input.len() - head + 1)),
+            1 => input.extend([255; 3]),
+            _ => (),
+        }
+        agree(&input, &mut random);
+    }
+}
+
+#[test]
+fn a_map_listed_from_either_header() {
+    let mut random = Random::new(67);
+    for _ in 0..20 {
+        let (levels, width, height) = (1 + random.below(5), 1 + random.below(9), 1 + random.below(9));
+        let heights: Vec<usize> = (0..width * height).map(|_| random.below(200)).collect();
+        let mut from = |largest: usize| {
+            let mut input = header(levels, width, height, largest, &mut random);
+            input.extend(heights.iter().flat_map(|&h| bytes(h, largest)));
+            list(vec![input])
+        };
+        let one = from(65_535);
+        assert!(!String::from_utf8_lossy(&one).contains("refused"));
+        assert_eq!(one, from(200));
+        assert_eq!(one, from(255));
+        assert_eq!(one, from(256));
+    }
+}
+
+#[test]
 fn headers_with_a_byte_changed() {
     let mut random = Random::new(63);
-    for _ in 0..150 {
+    for _ in 0..200 {
         let mut input = good(&mut random, 5);
         let at = random.below(input.len().min(24));
         match random.below(3) {
-            0 => input[at] = [b'0', b'1', b'6', b'9', b' ', b'\n', b'#', b'P', 0, 255][random.below(10)],
-            1 => input.insert(at, [b'0', b' ', b'7', b'\t'][random.below(4)]),
+            0 => input[at] = [b'0', b'1', b'6', b'9', b' ', b'\n', b'\r', b'#', b'P', b'x', 0, 255][random.below(12)],
+            1 => input.insert(at, [b'0', b' ', b'7', b'\t', b'#', b'x'][random.below(6)]),
             _ => {
                 input.remove(at);
             }
@@ -149,21 +213,30 @@ fn the_limits_of_the_header() {
     let mut random = Random::new(64);
     for (width, height) in [(1_025, 1), (1_026, 1), (0, 1), (1, 0), (1, 65_535), (1, 65_536), (65_536, 1), (1_025, 5)] {
         for levels in [0, 1, 5, 6] {
-            let mut input = header(levels, width, height, &mut random);
-            input.extend(map(width, height.min(70), &mut random));
+            let mut input = header(levels, width, height, 65_535, &mut random);
+            input.extend(map(width, height.min(70), 65_535, &mut random));
             agree(&input, &mut random);
         }
+    }
+    for largest in [0, 1, 255, 256, 65_535, 65_536] {
+        let mut input = header(1, 2, 2, largest, &mut random);
+        input.extend([0; 8]);
+        agree(&input, &mut random);
+        input.truncate(input.len() - 4);
+        agree(&input, &mut random);
     }
 }
 
 #[test]
 fn a_large_map() {
     let mut random = Random::new(65);
-    let mut input = header(5, 1_025, 129, &mut random);
-    input.extend(map(1_025, 129, &mut random));
-    agree(&input, &mut random);
-    input.pop();
-    agree(&input, &mut random);
+    for largest in [65_535, 255] {
+        let mut input = header(5, 1_025, 129, largest, &mut random);
+        input.extend(map(1_025, 129, largest, &mut random));
+        agree(&input, &mut random);
+        input.pop();
+        agree(&input, &mut random);
+    }
 }
 
 /// The stored inputs of the program `list_files`: what they must give is what the second listing gives.
@@ -182,8 +255,8 @@ fn the_stored_inputs() {
 
 fn map_of(width: usize, height: usize, seed: u64) -> Vec<u8> {
     let mut random = Random::new(seed);
-    let mut input = header(3, width, height, &mut random);
-    input.extend(map(width, height, &mut random));
+    let mut input = header(3, width, height, 65535, &mut random);
+    input.extend(map(width, height, 65535, &mut random));
     input
 }
 

@@ -2,9 +2,8 @@
 use mathlib.Core.Bool.{Bool, true, false}
 use mathlib.Core.List.{List, [], _∷_, _++_}
 use Prim.Native.Nat.{ℕ}
-use Rattle.numbers.specs.Signal.{pick}
 use Rattle.writer.specs.History.{DrawnRow}
-use Rattle.listing.specs.Lines.{spaced, refusedLine}
+use Rattle.listing.specs.Lines.{spaced, refusedLine, answerLine}
 use Rattle.listing.specs.Listing.{Shape, linesDue}
 use Rattle.listing.specs.Parts.{headText, headPart}
 use Rattle.listing.specs.Telling.{Event, begins, height, refusal, Ending, whole, few, over, Telling}
@@ -17,26 +16,26 @@ unfoldable pub drawnText : List DrawnRow → List ℕ
 drawnText [] = []
 drawnText (d ∷ l) = drawnLine d ++ drawnText l
 
--- the heights among some events, and whether a refusal is among them
+-- the heights among some events, and the number of the refusal among them, 0 for none
 unfoldable pub heightsIn : List Event → List ℕ
 heightsIn [] = []
 heightsIn (begins q ∷ es) = heightsIn es
 heightsIn (height v ∷ es) = v ∷ heightsIn es
-heightsIn (refusal ∷ es) = heightsIn es
+heightsIn (refusal q ∷ es) = heightsIn es
 
-unfoldable pub refusedIn : List Event → Bool
-refusedIn [] = false
+unfoldable pub refusedIn : List Event → ℕ
+refusedIn [] = 0
 refusedIn (begins q ∷ es) = refusedIn es
 refusedIn (height v ∷ es) = refusedIn es
-refusedIn (refusal ∷ es) = true
+refusedIn (refusal q ∷ es) = q
 
 -- what is due of them while more may come, f being whether the map was finished
 unfoldable pub textOf : Bool → List Event → List ℕ
 textOf f [] = []
-textOf f (begins q ∷ es) = linesDue q (heightsIn es) f ++ pick (refusedIn es) refusedLine []
+textOf f (begins q ∷ es) = linesDue q (heightsIn es) f ++ answerLine (refusedIn es)
 textOf f (height v ∷ es) = []
-textOf f (refusal ∷ es) = refusedLine
+textOf f (refusal q ∷ es) = refusedLine q
 
 -- and with the end of the input
 abbrev pub endText : Telling → List ℕ
-endText t = elim (t .ending) [ whole ↦ textOf true (t .events) | few ↦ textOf false (t .events) ++ refusedLine | over ↦ textOf false (t .events) ]
+endText t = elim (t .ending) [ whole ↦ textOf true (t .events) | few ↦ textOf false (t .events) ++ refusedLine 15 | over ↦ textOf false (t .events) ]

@@ -10,6 +10,7 @@ use Rattle.wavelet.specs.Questions.{within}
 use Rattle.pgm.specs.Samples.{noByte, sampleOf}
 use Rattle.pgm.specs.Steps.{stepOf}
 use Rattle.pgm.specs.declared.header.Next.{Next}
+use Rattle.pgm.specs.declared.samples.Samples.{Samples}
 use Rattle.pgm.specs.declared.samples.Sample.{Sample}
 use Rattle.listing.specs.Listing.{levelDigit, maxListedWidth, shapeFits}
 use Rattle.listing.specs.Hearing.{phased, nay, levelsHeard, lineFeedHeard, shapeHeard, nextHeard, headerHeard, sampleHeard, heightHeard, hears, endHeard}
@@ -72,19 +73,19 @@ module _ (i : Input) (b : ℕ) where
   unfolding hears
   hears-on p q r t = rw (ne-eqb (i .phase) 0 p, ne-eqb (i .phase) 1 q, ne-eqb (i .phase) 2 r, ne-eqb (i .phase) 3 t)
 
-module _ (i : Input) (w h : ℕ) where
-  pub shape-wide : within 1 1025 w ≡ false → nay i ≡ shapeHeard i w h
+module _ (i : Input) (w h m : ℕ) where
+  pub shape-wide : within 1 1025 w ≡ false → nay i ≡ shapeHeard i w h m
   unfolding shapeHeard shapeFits maxListedWidth
   shape-wide e = rw e
 
-  pub shape-high : within 1 1025 w ≡ true → within 1 65535 h ≡ false → nay i ≡ shapeHeard i w h
+  pub shape-high : within 1 1025 w ≡ true → within 1 65535 h ≡ false → nay i ≡ shapeHeard i w h m
   unfolding shapeHeard shapeFits maxListedWidth
   shape-high e f = rw (e, f)
 
-  pub shape-yes : (n : ℕ) → within 1 1025 w ≡ true → within 1 65535 h ≡ true → n ≡ w * h
-      → heard.Begun (record { phase = 3; levels = i .levels; header = i .header; left = n; samples = i .samples }) w h ≡ shapeHeard i w h
+  pub shape-yes : (n : ℕ) (x : Samples) → within 1 1025 w ≡ true → within 1 65535 h ≡ true → n ≡ w * h → x ≡ noByte m
+      → heard.Begun (record { phase = 3; levels = i .levels; header = i .header; left = n; samples = x }) w h ≡ shapeHeard i w h m
   unfolding shapeHeard shapeFits maxListedWidth
-  shape-yes n e f g = rw (e, f, g)
+  shape-yes n x e f g d = rw (e, f, g, d)
 
 pub most : (m n : ℕ) → within 1 m n ≡ true → n ≤ m
 unfolding within

@@ -6,148 +6,235 @@ use Prim.Native.Nat.{ℕ, zero, suc, _+_, _-_, _*_, _≤_, _<_}
 use native.Mathlib.Omega.{arith}
 use native.Mathlib.Decide.{ℕ-discrete, decLt}
 use native.Mathlib.Numerals.{sub-one}
-use lib.Dec.{ltb, eqb}
+use lib.Dec.{leb, ltb, eqb}
 use lib.ListN.{length, take}
 use borrow.Author.Tests.{lt-ltb, le-ltb, eq-eqb, ne-eqb}
 use Rattle.numbers.specs.Signal.{pick}
 use Rattle.pgm.specs.Characters.{digitValue}
 use Rattle.pgm.specs.Header.{Read, found, short, wrong, andThen, is, one, Size, headerOf}
 use Rattle.pgm.specs.Steps.{begun, stepOf, feed, stepped, readBy}
-use Rattle.pgm.specs.Samples.{heightsOf, noByte, sampleOf}
+use Rattle.pgm.specs.Samples.{wide, sampleSize, pairsOf, samplesOf, fitting, exceeds, heightsOf, noByte, sampled, sampleOf}
 use Rattle.pgm.specs.declared.header.Header.{Header}
 use Rattle.pgm.specs.declared.header.Next.{Next}
 use Rattle.pgm.specs.declared.header.Next.the-variants as next
 use Rattle.pgm.proofs.HeaderReads.{reads}
-use Rattle.listing.specs.Listing.{Shape, levelDigit, shapeFits, headEnd, headOf, cells}
+use Rattle.listing.specs.Listing.{Shape, Head, levelDigit, shapeFits, headEnd, headOf, cells, heightsTaken, tooLarge, bytesOf, refusalIn}
 use Rattle.listing.specs.Hearing.{silent, phased, nay, levelsHeard, lineFeedHeard, shapeHeard, nextHeard, headerHeard, sampleHeard, heightHeard, hears, endHeard}
-use Rattle.listing.specs.Telling.{Event, begins, height, refusal, Ending, whole, few, over, Telling, told, heightsTell, nothingYet, refusedTelling, headTells, tellingOf, Hearing, andOn, heardOn, listen, endingOf, sum}
+use Rattle.listing.specs.Telling.{Event, begins, height, refusal, answerEvents, Ending, whole, few, over, Telling, told, heightsTell, nothingYet, refusedTelling, headTells, tellingOf, Hearing, andOn, heardOn, listen, endingOf, sum}
 use Rattle.listing.specs.declared.input.Input.{Input}
 use Rattle.listing.specs.declared.input.Heard.{Heard}
 use Rattle.listing.specs.declared.input.Heard.the-variants as heard
 
 -- the input's state at a phase
-abbrev pub at : ℕ → ℕ → Header → ℕ → Bool → ℕ → Input
-at p L h n half v = record { phase = p; levels = L; header = h; left = n; samples = record { half = half; high = v } }
+abbrev pub at : ℕ → ℕ → Header → ℕ → ℕ → Bool → ℕ → Input
+at p L h n m half v = record { phase = p; levels = L; header = h; left = n; samples = record { largest = m; half = half; high = v } }
 
 -- ---- nothing more is heard
-deaf : (L : ℕ) (h : Header) (n : ℕ) (x : Bool) (v : ℕ) (s : List ℕ) → sum (listen (at 4 L h n x v) s) ≡ record { events = []; ending = over }
+deaf : (L : ℕ) (h : Header) (n m : ℕ) (x : Bool) (v : ℕ) (s : List ℕ) → sum (listen (at 4 L h n m x v) s) ≡ record { events = []; ending = over }
 unfolding listen hears endHeard
-deaf L h n x v [] = refl
-deaf L h n x v (b ∷ s) = deaf L h n x v s
+deaf L h n m x v [] = refl
+deaf L h n m x v (b ∷ s) = deaf L h n m x v s
 
 -- a refusal, and nothing more
-refused : (L : ℕ) (h : Header) (n : ℕ) (x : Bool) (v : ℕ) (s : List ℕ) → sum (andOn refusal (listen (at 4 L h n x v) s)) ≡ refusedTelling
-refused L h n x v s = ap (told refusal) (deaf L h n x v s)
+refused : (q L : ℕ) (h : Header) (n m : ℕ) (x : Bool) (v : ℕ) (s : List ℕ) → sum (andOn (refusal q) (listen (at 4 L h n m x v) s)) ≡ record { events = refusal q ∷ []; ending = over }
+refused q L h n m x v s = ap (told (refusal q)) (deaf L h n m x v s)
 
--- ---- heights
-two-more : (n k : ℕ) → ltb (2 * suc n) (suc (suc k)) ≡ ltb (2 * n) k
-two-more n k =
+-- ---- heights, as the definition tells them
+-- one sample more, of two bytes (w) or one
+more-lt : (w : Bool) (n k l : ℕ) → l ≡ pick w 2 1 + k → ltb (pick w 2 1 * suc n) l ≡ ltb (pick w 2 1 * n) k
+more-lt true n k l e =
     elim (decLt (2 * n) k) [
-      | yes p ↦ lt-ltb (2 * suc n) (suc (suc k)) (omega arith) ∙ sym (lt-ltb (2 * n) k p)
-      | no d ↦ le-ltb (2 * suc n) (suc (suc k)) (omega arith) ∙ sym (le-ltb (2 * n) k (omega arith))
+      | yes p ↦ lt-ltb (2 * suc n) l (omega arith) ∙ sym (lt-ltb (2 * n) k p)
+      | no d ↦ le-ltb (2 * suc n) l (omega arith) ∙ sym (le-ltb (2 * n) k (omega arith))
+    ]
+more-lt false n k l e =
+    elim (decLt (1 * n) k) [
+      | yes p ↦ lt-ltb (1 * suc n) l (omega arith) ∙ sym (lt-ltb (1 * n) k p)
+      | no d ↦ le-ltb (1 * suc n) l (omega arith) ∙ sym (le-ltb (1 * n) k (omega arith))
     ]
 
-two-more-eq : (n k : ℕ) → eqb (suc (suc k)) (2 * suc n) ≡ eqb k (2 * n)
-two-more-eq n k =
+more-eq : (w : Bool) (n k l : ℕ) → l ≡ pick w 2 1 + k → eqb l (pick w 2 1 * suc n) ≡ eqb k (pick w 2 1 * n)
+more-eq true n k l e =
     elim (ℕ-discrete k (2 * n)) [
-      | yes p ↦ eq-eqb (suc (suc k)) (2 * suc n) (omega arith) ∙ sym (eq-eqb k (2 * n) p)
-      | no d ↦ ne-eqb (suc (suc k)) (2 * suc n) (λ e. d (omega arith)) ∙ sym (ne-eqb k (2 * n) d)
+      | yes p ↦ eq-eqb l (2 * suc n) (omega arith) ∙ sym (eq-eqb k (2 * n) p)
+      | no d ↦ ne-eqb l (2 * suc n) (λ z. d (omega arith)) ∙ sym (ne-eqb k (2 * n) d)
+    ]
+more-eq false n k l e =
+    elim (ℕ-discrete k (1 * n)) [
+      | yes p ↦ eq-eqb l (1 * suc n) (omega arith) ∙ sym (eq-eqb k (1 * n) p)
+      | no d ↦ ne-eqb l (1 * suc n) (λ z. d (omega arith)) ∙ sym (ne-eqb k (1 * n) d)
     ]
 
--- one height more
-one-more : (n a b : ℕ) (r : List ℕ) → told (height (256 * a + b)) (heightsTell n r) ≡ heightsTell (suc n) (a ∷ b ∷ r)
-unfolding heightsTell heightsOf
-one-more n a b r = rw (two-more n (length r), two-more-eq n (length r))
+-- the bytes s are a sample v and then r
+pub record Leads (m v : ℕ) (s r : List ℕ) : Type 0 where
+  pub samples : samplesOf m s ≡ v ∷ samplesOf m r
+  pub bytes : length s ≡ sampleSize m + length r
 
-none-short : (n : ℕ) → record { events = []; ending = few } ≡ heightsTell (suc n) []
-unfolding heightsTell heightsOf
-none-short n = rw (le-ltb (2 * suc n) 0 (omega arith), ne-eqb 0 (2 * suc n) (λ e. omega arith))
+pub leads-two : (m a b : ℕ) (r : List ℕ) → wide m ≡ true → Leads m (256 * a + b) (a ∷ b ∷ r) r
+unfolding samplesOf pairsOf sampleSize
+leads-two m a b r e = record { samples = rw e; bytes = rw e (omega arith) }
 
-half-short : (n a : ℕ) → record { events = []; ending = few } ≡ heightsTell (suc n) (a ∷ [])
-unfolding heightsTell heightsOf
-half-short n a = rw (le-ltb (2 * suc n) 1 (omega arith), ne-eqb 1 (2 * suc n) (λ e. omega arith))
+pub leads-one : (m b : ℕ) (r : List ℕ) → wide m ≡ false → Leads m b (b ∷ r) r
+unfolding samplesOf sampleSize
+leads-one m b r e = record { samples = rw e; bytes = rw e (omega arith) }
 
-surplus : (b : ℕ) (r : List ℕ) → refusedTelling ≡ heightsTell 0 (b ∷ r)
-unfolding heightsTell
-surplus b r = rw (lt-ltb 0 (suc (length r)) (omega arith), ne-eqb (suc (length r)) 0 (λ e. omega arith))
+module _ (m n : ℕ) where
+  one-more : (v : ℕ) (s r : List ℕ) → Leads m v s r → leb v m ≡ true → told (height v) (heightsTell m n r) ≡ heightsTell m (suc n) s
+  unfolding heightsTell heightsTaken tooLarge refusalIn heightsOf fitting exceeds sampleSize
+  one-more v s r l e = rw (l .samples, e, more-lt (wide m) n (length r) (length s) (l .bytes), more-eq (wide m) n (length r) (length s) (l .bytes))
 
-all-there : record { events = []; ending = whole } ≡ heightsTell 0 []
-unfolding heightsTell heightsOf
-all-there = refl
+  too-large : (v : ℕ) (s r : List ℕ) → Leads m v s r → leb v m ≡ false → record { events = refusal 16 ∷ []; ending = over } ≡ heightsTell m (suc n) s
+  unfolding heightsTell heightsTaken tooLarge refusalIn heightsOf fitting exceeds
+  too-large v s r l e = rw (l .samples, e)
 
-module _ (L : ℕ) (h : Header) (n v b : ℕ) where
-  pub first-byte : hears (at 3 L h (suc n) false v) b ≡ heard.More (at 3 L h (suc n) true b)
+  -- no whole sample, and fewer bytes than the next has
+  short-of : (s : List ℕ) → samplesOf m s ≡ [] → length s < sampleSize m → nothingYet ≡ heightsTell m (suc n) s
+  unfolding heightsTell heightsTaken tooLarge refusalIn heightsOf fitting exceeds sampleSize
+  short-of s e h = rw (e, below (wide m) h .0, below (wide m) h .1)
+    where
+      below : (w : Bool) → length s < pick w 2 1 → (ltb (pick w 2 1 * suc n) (length s) ≡ false) × (eqb (length s) (pick w 2 1 * suc n) ≡ false)
+      below true h = (le-ltb (2 * suc n) (length s) (omega arith), ne-eqb (length s) (2 * suc n) (λ z. omega arith))
+      below false h = (le-ltb (1 * suc n) (length s) (omega arith), ne-eqb (length s) (1 * suc n) (λ z. omega arith))
+
+pub no-sample : (m : ℕ) → samplesOf m [] ≡ []
+unfolding samplesOf pairsOf
+no-sample m = go (wide m)
+  where
+    go : (w : Bool) → pick {A = List ℕ} w [] [] ≡ []
+    go true = refl
+    go false = refl
+
+some-byte : (m : ℕ) → 0 < sampleSize m
+unfolding sampleSize
+some-byte m = go (wide m)
+  where
+    go : (w : Bool) → 0 < pick w 2 1
+    go true = omega arith
+    go false = omega arith
+
+none-short : (m n : ℕ) → nothingYet ≡ heightsTell m (suc n) []
+none-short m n = short-of m n [] (no-sample m) (some-byte m)
+
+half-short : (m n a : ℕ) → wide m ≡ true → nothingYet ≡ heightsTell m (suc n) (a ∷ [])
+unfolding samplesOf pairsOf sampleSize
+half-short m n a e = short-of m n (a ∷ []) (rw e refl) (rw e (omega arith))
+
+bytes-none : (m : ℕ) → bytesOf m 0 ≡ 0
+bytes-none m = omega arith
+
+surplus : (m b : ℕ) (r : List ℕ) → refusedTelling ≡ heightsTell m 0 (b ∷ r)
+unfolding heightsTell heightsTaken tooLarge refusalIn exceeds
+surplus m b r = rw (bytes-none m, lt-ltb 0 (suc (length r)) (omega arith), ne-eqb (suc (length r)) 0 (λ e. omega arith))
+
+all-there : (m : ℕ) → record { events = []; ending = whole } ≡ heightsTell m 0 []
+unfolding heightsTell heightsTaken tooLarge refusalIn exceeds
+all-there m = rw (bytes-none m)
+
+-- ---- and byte by byte
+module _ (L : ℕ) (h : Header) (n m : ℕ) where
+  pub first-byte : (v b : ℕ) → wide m ≡ true → hears (at 3 L h (suc n) m false v) b ≡ heard.More (at 3 L h (suc n) m true b)
   unfolding hears heightHeard sampleOf
-  first-byte = rw (ne-eqb (suc n) 0 (λ e. omega arith))
+  first-byte v b e = rw (ne-eqb (suc n) 0 (λ z. omega arith), e)
 
-  pub second-byte : hears (at 3 L h (suc n) true v) b ≡ heard.Height (at 3 L h n false 0) (256 * v + b)
-  unfolding hears heightHeard sampleOf
-  second-byte = rw (ne-eqb (suc n) 0 (λ e. omega arith), sub-one (suc n))
+  -- the last byte of a sample u
+  abbrev pub Lasts : Bool → ℕ → ℕ → ℕ → Type 0
+  Lasts x v b u = (leb u m ≡ true → hears (at 3 L h (suc n) m x v) b ≡ heard.Height (at 3 L h n m false 0) u)
+      × (leb u m ≡ false → hears (at 3 L h (suc n) m x v) b ≡ heard.Refused (at 4 L h (suc n) m x v) 16)
+
+  pub second-byte : (v b : ℕ) → wide m ≡ true → Lasts true v b (256 * v + b)
+  unfolding hears heightHeard sampleOf sampled
+  second-byte v b e = (λ f. rw (ne-eqb (suc n) 0 (λ z. omega arith), e, f, sub-one (suc n)), λ f. rw (ne-eqb (suc n) 0 (λ z. omega arith), e, f))
+
+  pub lone-byte : (x : Bool) (v b : ℕ) → wide m ≡ false → Lasts x v b b
+  unfolding hears heightHeard sampleOf sampled
+  lone-byte x v b e = (λ f. rw (ne-eqb (suc n) 0 (λ z. omega arith), e, f, sub-one (suc n)), λ f. rw (ne-eqb (suc n) 0 (λ z. omega arith), e, f))
 
 -- the end, with heights still to come
-too-few : (L : ℕ) (h : Header) (n : ℕ) (x : Bool) (v : ℕ) → sum (listen (at 3 L h (suc n) x v) []) ≡ nothingYet
+too-few : (L : ℕ) (h : Header) (n m : ℕ) (x : Bool) (v : ℕ) → sum (listen (at 3 L h (suc n) m x v) []) ≡ nothingYet
 unfolding listen endHeard
-too-few L h n x v = rw (lt-ltb 0 (suc n) (omega arith))
+too-few L h n m x v = rw (lt-ltb 0 (suc n) (omega arith))
 
 -- what is told of the bytes s after a byte
 abbrev then : List ℕ → Heard → Telling
 then s x = sum (heardOn (λ j. listen j s) x)
 
-heights : (r : List ℕ) (L : ℕ) (h : Header) (n v : ℕ) → sum (listen (at 3 L h n false v) r) ≡ heightsTell n r
+-- after the last byte of a sample
+lasts : (L : ℕ) (h : Header) (n m : ℕ) (x : Bool) (v b u : ℕ) (s r : List ℕ) (f : Bool) → leb u m ≡ f → Lasts L h n m x v b u → Leads m u s r
+    → sum (listen (at 3 L h n m false 0) r) ≡ heightsTell m n r → then r (hears (at 3 L h (suc n) m x v) b) ≡ heightsTell m (suc n) s
+lasts L h n m x v b u s r true e d l g = ap (then r) (d .0 e) ∙ ap (told (height u)) g ∙ one-more m n u s r l e
+lasts L h n m x v b u s r false e d l g = ap (then r) (d .1 e) ∙ refused 16 L h (suc n) m x v r ∙ too-large m n u s r l e
+
+pairs : (L : ℕ) (h : Header) (m : ℕ) → wide m ≡ true → (r : List ℕ) (n v : ℕ) → sum (listen (at 3 L h n m false v) r) ≡ heightsTell m n r
 unfolding listen hears heightHeard endHeard
-heights [] L h zero v = all-there
-heights [] L h (suc n) v = too-few L h n false v ∙ none-short n
-heights (b ∷ r) L h zero v = refused L h zero false v r ∙ surplus b r
-heights (b ∷ []) L h (suc n) v = ap (then []) (first-byte L h n v b) ∙ too-few L h n true b ∙ half-short n b
-heights (b ∷ c ∷ r) L h (suc n) v =
-    ap (then (c ∷ r)) (first-byte L h n v b)
-    ∙ ap (then r) (second-byte L h n b c)
-    ∙ ap (told (height (256 * b + c))) (heights r L h n 0)
-    ∙ one-more n b c r
+pairs L h m w [] zero v = all-there m
+pairs L h m w [] (suc n) v = too-few L h n m false v ∙ none-short m n
+pairs L h m w (b ∷ r) zero v = refused 15 L h zero m false v r ∙ surplus m b r
+pairs L h m w (b ∷ []) (suc n) v = ap (then []) (first-byte L h n m v b w) ∙ too-few L h n m true b ∙ half-short m n b w
+pairs L h m w (b ∷ c ∷ r) (suc n) v =
+    ap (then (c ∷ r)) (first-byte L h n m v b w)
+    ∙ lasts L h n m true b c (256 * b + c) (b ∷ c ∷ r) r (leb (256 * b + c) m) refl (second-byte L h n m b c w) (leads-two m b c r w) (pairs L h m w r n 0)
+
+singles : (L : ℕ) (h : Header) (m : ℕ) → wide m ≡ false → (r : List ℕ) (n v : ℕ) → sum (listen (at 3 L h n m false v) r) ≡ heightsTell m n r
+unfolding listen hears heightHeard endHeard
+singles L h m w [] zero v = all-there m
+singles L h m w [] (suc n) v = too-few L h n m false v ∙ none-short m n
+singles L h m w (b ∷ r) zero v = refused 15 L h zero m false v r ∙ surplus m b r
+singles L h m w (b ∷ r) (suc n) v = lasts L h n m false v b b (b ∷ r) r (leb b m) refl (lone-byte L h n m false v b w) (leads-one m b r w) (singles L h m w r n 0)
+
+heights : (r : List ℕ) (L : ℕ) (h : Header) (n m v : ℕ) → sum (listen (at 3 L h n m false v) r) ≡ heightsTell m n r
+heights r L h n m v = go (wide m) refl
+  where
+    go : (w : Bool) → wide m ≡ w → sum (listen (at 3 L h n m false v) r) ≡ heightsTell m n r
+    go true e = pairs L h m e r n v
+    go false e = singles L h m e r n v
 
 -- ---- the head
--- what comes after a header of w × h, L being the levels
-abbrev shapeTells : ℕ → ℕ → ℕ → List ℕ → Telling
-shapeTells L w h r = headTells (headEnd L w h r)
+-- what comes after a header of w × h and largest value m, L being the levels
+abbrev shapeTells : ℕ → ℕ → ℕ → ℕ → List ℕ → Telling
+shapeTells L w h m r = headTells (headEnd L w h m r)
 
-shape : (L : ℕ) (k : Header) (w h : ℕ) (r : List ℕ) (t : Bool) → shapeFits w h ≡ t
-    → sum (heardOn (λ j. listen j r) (shapeHeard (at 2 L k 0 false 0) w h)) ≡ shapeTells L w h r
+-- the input's state before the heights
+abbrev early : ℕ → ℕ → Header → Input
+early p L k = at p L k 0 0 false 0
+
+shape : (L : ℕ) (k : Header) (w h m : ℕ) (r : List ℕ) (t : Bool) → shapeFits w h ≡ t
+    → sum (heardOn (λ j. listen j r) (shapeHeard (early 2 L k) w h m)) ≡ shapeTells L w h m r
 unfolding shapeHeard headEnd
-shape L k w h r true e = rw e (ap (told (begins (record { width = w; height = h; levels = L }))) (heights r L k (w * h) 0))
-shape L k w h r false e = rw e (refused L k 0 false 0 r)
+shape L k w h m r true e = rw e (ap (told (begins (record { width = w; height = h; levels = L }))) (heights r L k (w * h) m 0))
+shape L k w h m r false e = rw e (refused 15 L k 0 0 false 0 r)
 
 abbrev sizeTells : ℕ → Read Size → Telling
-sizeTells L (found z r) = shapeTells L (z .width) (z .height) r
+sizeTells L (found z r) = shapeTells L (z .width) (z .height) (z .largest) r
 sizeTells L short = nothingYet
 sizeTells L wrong = refusedTelling
 
-stepTells : (L : ℕ) (k : Header) (x : Next) (s : List ℕ) → ((k : Header) → sum (listen (at 2 L k 0 false 0) s) ≡ sizeTells L (readBy (feed k s)))
-    → sum (heardOn (λ j. listen j s) (nextHeard (at 2 L k 0 false 0) x)) ≡ sizeTells L (readBy (stepped (λ y. feed y s) s x))
+stepTells : (L : ℕ) (k : Header) (x : Next) (s : List ℕ) → ((k : Header) → sum (listen (early 2 L k) s) ≡ sizeTells L (readBy (feed k s)))
+    → sum (heardOn (λ j. listen j s) (nextHeard (early 2 L k) x)) ≡ sizeTells L (readBy (stepped (λ y. feed y s) s x))
 stepTells L k (next.More y) s e = e y
-stepTells L k (next.Done w h) s e = shape L k w h s (shapeFits w h) refl
-stepTells L k next.Refused s e = refused L k 0 false 0 s
+stepTells L k (next.Done w h m) s e = shape L k w h m s (shapeFits w h) refl
+stepTells L k next.Refused s e = refused 15 L k 0 0 false 0 s
 
-header : (s : List ℕ) (L : ℕ) (k : Header) → sum (listen (at 2 L k 0 false 0) s) ≡ sizeTells L (readBy (feed k s))
+header : (s : List ℕ) (L : ℕ) (k : Header) → sum (listen (early 2 L k) s) ≡ sizeTells L (readBy (feed k s))
 unfolding listen hears headerHeard endHeard feed
 header [] L k = refl
 header (b ∷ s) L k = stepTells L k (stepOf k b) s (λ y. header s L y)
 
 -- the definition's head, from its header
-from-size : (L : ℕ) (x : Read Size) → sizeTells L x ≡ headTells (andThen x λ z r. headEnd L (z .width) (z .height) r)
+from-size : (L : ℕ) (x : Read Size) → sizeTells L x ≡ headTells (andThen x λ z r. headEnd L (z .width) (z .height) (z .largest) r)
 from-size L (found z r) = refl
 from-size L short = refl
 from-size L wrong = refl
 
-abbrev afterDigit : ℕ → List ℕ → Read Shape
-afterDigit L s = andThen (one (is 10) s) λ _ s. andThen (headerOf s) λ z r. headEnd L (z .width) (z .height) r
+abbrev afterDigit : ℕ → List ℕ → Read Head
+afterDigit L s = andThen (one (is 10) s) λ _ s. andThen (headerOf s) λ z r. headEnd L (z .width) (z .height) (z .largest) r
 
 feeds : (L b : ℕ) (s : List ℕ) (t : Bool) → eqb b 10 ≡ t
-    → sum (heardOn (λ j. listen j s) (lineFeedHeard (at 1 L (begun 0) 0 false 0) b)) ≡ headTells (afterDigit L (b ∷ s))
+    → sum (heardOn (λ j. listen j s) (lineFeedHeard (early 1 L (begun 0)) b)) ≡ headTells (afterDigit L (b ∷ s))
 unfolding lineFeedHeard one
 feeds L b s true e = rw e (header s L (begun 0) ∙ ap (sizeTells L) (reads s) ∙ from-size L (headerOf s))
-feeds L b s false e = rw e (refused L (begun 0) 0 false 0 s)
+feeds L b s false e = rw e (refused 15 L (begun 0) 0 0 false 0 s)
 
-line-feed : (s : List ℕ) (L : ℕ) → sum (listen (at 1 L (begun 0) 0 false 0) s) ≡ headTells (afterDigit L s)
+line-feed : (s : List ℕ) (L : ℕ) → sum (listen (early 1 L (begun 0)) s) ≡ headTells (afterDigit L s)
 unfolding listen hears endHeard one
 line-feed [] L = refl
 line-feed (b ∷ s) L = feeds L b s (eqb b 10) refl
@@ -156,7 +243,7 @@ digits : (b : ℕ) (s : List ℕ) (t : Bool) → levelDigit b ≡ t
     → sum (heardOn (λ j. listen j s) (levelsHeard silent b)) ≡ tellingOf (b ∷ s)
 unfolding levelsHeard tellingOf headOf one
 digits b s true e = rw e (line-feed s (digitValue b))
-digits b s false e = rw e (refused 0 (begun 0) 0 false 0 s)
+digits b s false e = rw e (refused 15 0 (begun 0) 0 0 false 0 s)
 
 pub heard-all : (s : List ℕ) → sum (listen silent s) ≡ tellingOf s
 unfolding listen hears endHeard tellingOf headOf one
@@ -169,14 +256,14 @@ events-step : (x : Heard) (s t : List ℕ) → ((i : Input) → listen i (s ++ t
 events-step (heard.More i) s t e = e i
 events-step (heard.Begun i w h) s t e = ap (λ l. begins (record { width = w; height = h; levels = i .levels }) ∷ l) (e i)
 events-step (heard.Height i v) s t e = ap (λ l. height v ∷ l) (e i)
-events-step (heard.Refused i) s t e = ap (λ l. refusal ∷ l) (e i)
+events-step (heard.Refused i q) s t e = ap (λ l. refusal q ∷ l) (e i)
 
 input-step : (x : Heard) (s t : List ℕ) → ((i : Input) → listen i (s ++ t) .input ≡ listen (listen i s .input) t .input)
     → heardOn (λ i. listen i (s ++ t)) x .input ≡ listen (heardOn (λ i. listen i s) x .input) t .input
 input-step (heard.More i) s t e = e i
 input-step (heard.Begun i w h) s t e = e i
 input-step (heard.Height i v) s t e = e i
-input-step (heard.Refused i) s t e = e i
+input-step (heard.Refused i q) s t e = e i
 
 pub cut-events : (s t : List ℕ) (i : Input) → listen i (s ++ t) .events ≡ listen i s .events ++ listen (listen i s .input) t .events
 unfolding listen

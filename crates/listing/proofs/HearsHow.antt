@@ -8,7 +8,7 @@ use borrow.Author.Tests.{leb-true, eqb-true, eqb-false}
 use Rattle.numbers.specs.Signal.{pick, both}
 use Rattle.wavelet.specs.Questions.{within}
 use Rattle.pgm.specs.Steps.{stepOf}
-use Rattle.pgm.specs.Samples.{noByte, sampleOf}
+use Rattle.pgm.specs.Samples.{wide, noByte, sampled, sampleOf}
 use Rattle.pgm.specs.declared.header.Next.{Next}
 use Rattle.pgm.specs.declared.header.Next.the-variants as next
 use Rattle.pgm.specs.declared.samples.Sample.the-variants as sample
@@ -30,16 +30,16 @@ pub data Hears (i : Input) : Heard → Type 0 where
   -- of the heights
   half : (j : Input) → i .phase ≡ 3 → j .phase ≡ 3 → j .left ≡ i .left → Hears i (heard.More j)
   height : (j : Input) (v : ℕ) → i .phase ≡ 3 → j .phase ≡ 3 → 0 < i .left → j .left ≡ i .left - 1 → v ≤ 65535 → Hears i (heard.Height j v)
-  -- question 15 says no
-  turned : (j : Input) → i .phase ≤ 3 → j .phase ≡ 4 → Hears i (heard.Refused j)
-  -- it said no before
+  -- a question says no
+  turned : (j : Input) (q : ℕ) → i .phase ≤ 3 → j .phase ≡ 4 → 0 < q → Hears i (heard.Refused j q)
+  -- one said no before
   deaf : 3 < i .phase → Hears i (heard.More i)
 
 pub data SaneThen : Heard → Type 0 where
   more : {j : Input} → Sane j → SaneThen (heard.More j)
   begun : {j : Input} {W H : ℕ} → Sane j → SaneThen (heard.Begun j W H)
   tall : {j : Input} {v : ℕ} → Sane j → SaneThen (heard.Height j v)
-  refused : {j : Input} → Sane j → SaneThen (heard.Refused j)
+  refused : {j : Input} {q : ℕ} → Sane j → SaneThen (heard.Refused j q)
 
 abbrev pub How : Input → Heard → Type 0
 How i y = Hears i y × SaneThen y
@@ -58,7 +58,7 @@ shut-phase i e = ap (λ p. phased p i) (sym e)
 
 module _ (i : Input) (s : Sane i) where
   nay-how : i .phase ≤ 3 → How i (nay i)
-  nay-how p = (turned (phased 4 i) p refl, refused (phased-sane i s))
+  nay-how p = (turned (phased 4 i) 15 p refl (omega arith), refused (phased-sane i s))
 
   module _ (b : ℕ) (small : b ≤ 255) where
     levels-how : i .phase ≡ 0 → How i (levelsHeard i b)
@@ -84,21 +84,21 @@ module _ (i : Input) (s : Sane i) where
         go true = (on (phased 2 i) (omega arith) (omega arith), more (record { byte = s .byte; levels = λ _ _. s .levels (omega arith) (omega arith) }))
         go false = nay-how (omega arith)
 
-    shape-how : i .phase ≡ 2 → (W H : ℕ) → How i (shapeHeard i W H)
+    shape-how : i .phase ≡ 2 → (W H m : ℕ) → How i (shapeHeard i W H m)
     unfolding shapeHeard
-    shape-how e W H = go (shapeFits W H) refl
+    shape-how e W H m = go (shapeFits W H) refl
       where
         j : Input
-        j = record { phase = 3; levels = i .levels; header = i .header; left = W * H; samples = i .samples }
+        j = record { phase = 3; levels = i .levels; header = i .header; left = W * H; samples = noByte m }
 
         go : (x : Bool) → shapeFits W H ≡ x → How i (pick x (heard.Begun j W H) (nay i))
-        go true p = (begins j W H (omega arith) refl refl p, begun (record { byte = s .byte; levels = λ _ _. s .levels (omega arith) (omega arith) }))
+        go true p = (begins j W H (omega arith) refl refl p, begun {j = j} (record { byte = omega arith; levels = λ _ _. s .levels (omega arith) (omega arith) }))
         go false p = nay-how (omega arith)
 
     next-how : i .phase ≡ 2 → (x : Next) → How i (nextHeard i x)
     next-how e (next.More k) =
         (on (record { phase = 2; levels = i .levels; header = k; left = i .left; samples = i .samples }) (omega arith) (omega arith), more (record { byte = s .byte; levels = λ _ _. s .levels (omega arith) (omega arith) }))
-    next-how e (next.Done w h) = shape-how e w h
+    next-how e (next.Done w h m) = shape-how e w h m
     next-how e next.Refused = nay-how (omega arith)
 
     header-how : i .phase ≡ 2 → How i (headerHeard i b)
@@ -109,23 +109,29 @@ module _ (i : Input) (s : Sane i) where
     unfolding heightHeard
     height-how e = go (eqb (i .left) 0) refl
       where
+        m : ℕ
+        m = i .samples .largest
+
         L : (1 ≤ i .levels) × (i .levels ≤ 5)
         L = s .levels (omega arith) (omega arith)
 
         gone : Input
-        gone = record { phase = 3; levels = i .levels; header = i .header; left = i .left - 1; samples = noByte }
+        gone = record { phase = 3; levels = i .levels; header = i .header; left = i .left - 1; samples = noByte m }
 
-        some : 0 < i .left → (x : Bool) → How i (sampleHeard i (pick x (sample.Height (256 * i .samples .high + b)) (sample.Half (record { half = true; high = b }))))
-        some p true = (
-          height gone (256 * i .samples .high + b) e refl p refl (omega (arith, s .byte)),
-          tall {j = gone} (record { byte = omega arith; levels = λ _ _. L }),
-        )
-        some p false =
-            (half (record { phase = 3; levels = i .levels; header = i .header; left = i .left; samples = record { half = true; high = b } }) e refl refl, more (record { byte = small; levels = λ _ _. L }))
+        -- a whole sample v
+        full : 0 < i .left → (v : ℕ) → v ≤ 65535 → (x : Bool) → How i (sampleHeard i (pick x (sample.Height v) sample.TooLarge))
+        full p v l true = (height gone v e refl p refl l, tall {j = gone} (record { byte = omega arith; levels = λ _ _. L }))
+        full p v l false = (turned (phased 4 i) 16 (omega arith) refl (omega arith), refused (phased-sane i s))
+
+        some : 0 < i .left → (w x : Bool) → How i (sampleHeard i (pick w (pick x (sampled m (256 * i .samples .high + b)) (sample.Half (record { largest = m; half = true; high = b }))) (sampled m b)))
+        some p true true = unfold sampled in full p (256 * i .samples .high + b) (omega (arith, s .byte)) (leb (256 * i .samples .high + b) m)
+        some p true false =
+            (half (record { phase = 3; levels = i .levels; header = i .header; left = i .left; samples = record { largest = m; half = true; high = b } }) e refl refl, more (record { byte = small; levels = λ _ _. L }))
+        some p false x = unfold sampled in full p b (omega arith) (leb b m)
 
         go : (x : Bool) → eqb (i .left) 0 ≡ x → How i (pick x (nay i) (sampleHeard i (sampleOf (i .samples) b)))
         go true p = nay-how (omega arith)
-        go false p = unfold sampleOf in some (positive (i .left) (eqb-false (i .left) 0 p)) (i .samples .half)
+        go false p = unfold sampleOf in some (positive (i .left) (eqb-false (i .left) 0 p)) (wide m) (i .samples .half)
           where
             positive : (m : ℕ) → (m ≡ 0 → ⊥) → 0 < m
             positive zero d = absurd (d refl)

@@ -27,3 +27,4 @@ pub mod WritingMoves
 pub mod ReadingMoves
 pub mod TurnLaws
 pub mod ListingPieces
+pub mod ListingSame

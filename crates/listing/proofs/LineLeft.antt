@@ -10,7 +10,7 @@ use lib.ListN.{length, take, drop, length-drop, take-append-drop}
 use lib.Seq.{drop-drop}
 use borrow.Author.Tests.{lt-ltb, le-ltb, lt-leb, le-leb, eq-eqb, ne-eqb}
 use Rattle.numbers.specs.Signal.{pick}
-use Rattle.listing.specs.Decimal.{digitsOf, numeral, integer}
+use Rattle.listing.specs.Decimal.{integer}
 use Rattle.listing.specs.Lines.{spaced, sizeLine, refusedLine}
 use Rattle.listing.specs.Parts.{sizeText, refusedText, headText, valueText, partText, sizePart, refusedPart, headPart, donePart, startOf, leftOf}
 use Rattle.listing.specs.Scenes.{valuePart}
@@ -70,9 +70,9 @@ module _ (k : ℕ) (z : ℕ → ℤ) where
   unfolding lineLeft lineTail partText sizeText
   left-size W H L = append-nil _ ∙ left-all (sizeLine W H L)
 
-  pub left-refused : lineLeft k z (refusedPart 15) ≡ refusedLine
-  unfolding lineLeft lineTail partText refusedText numeral digitsOf leftOf startOf
-  left-refused = refl
+  pub left-refused : (q : ℕ) → lineLeft k z (refusedPart q) ≡ refusedLine q
+  unfolding lineLeft lineTail partText refusedText refusedLine
+  left-refused q = append-nil _ ∙ left-all (refusedLine q)
 
   pub left-head : (a b c n : ℕ) → lineLeft k z (headPart a b c n) ≡ headText (headPart a b c n) ++ (spaced n z ++ (10 ∷ []))
   unfolding lineLeft lineTail partText

@@ -2,16 +2,15 @@
 use mathlib.Core.Path.{_≡_, refl, sym, ap, subst, _∙_}
 use mathlib.Core.Bool.{Bool, true, false}
 use mathlib.Core.List.{List, [], _++_, append-assoc, append-nil}
-use Prim.Native.Nat.{ℕ, _+_, _*_, _≤_, _<_}
+use Prim.Native.Nat.{ℕ, zero, suc, _+_, _*_, _≤_, _<_}
 use native.Mathlib.Omega.{arith}
 use lib.ListN.{length}
-use Rattle.numbers.specs.Signal.{pick}
 use Rattle.wavelet.specs.Store.{storeLength}
 use Rattle.writer.specs.Level.{Memory}
 use Rattle.writer.specs.History.{DrawnRow, events, freshWorld, finishedBy, drawn}
 use Rattle.writer.specs.Demand3.{All}
 use Rattle.writer.specs.declared.Writer.{Writer}
-use Rattle.listing.specs.Lines.{sizeLine, refusedLine}
+use Rattle.listing.specs.Lines.{sizeLine, answerLine}
 use Rattle.listing.specs.Listing.{Shape, linesDue}
 use Rattle.listing.specs.Scenes.{Scene}
 use Rattle.listing.specs.Moves.{lineOn, Idle}
@@ -26,7 +25,7 @@ use Rattle.listing.proofs.ListingOffers.{idle-text}
 use Rattle.listing.proofs.ListingHears.{differ}
 
 -- as many heights as the map has at most, and once finished as many
-module _ {i : Input} {c : ℕ} {hs : List ℕ} {nay f : Bool} where
+module _ {i : Input} {c : ℕ} {hs : List ℕ} {nay : ℕ} {f : Bool} where
   heights-in : InputAt i c hs nay f → length hs ≤ c
   heights-in (reads a b p e) = omega arith
   heights-in (shut p h g) = h
@@ -60,27 +59,27 @@ module _ (n : ℕ) (store : storeLength 1025 5 ≤ n) (W H L : ℕ) (hs : List �
 
 module _ (n k : ℕ) (store : storeLength 1025 5 ≤ n) (s : Scene) where
   -- nothing waits
-  begun-due : (W H L : ℕ) (hs : List ℕ) (nay f : Bool) (o : List ℕ) → ShapeIn W H L → All (λ h. h ≤ 65535) hs → InputAt (s .listing .input) (W * H) hs nay f → Begun n k W H L hs nay f o s → lineOn s .part < 3
-      → o ++ leftTo k s ≡ linesDue (record { width = W; height = H; levels = L }) hs f ++ pick nay refusedLine []
+  begun-due : (W H L : ℕ) (hs : List ℕ) (nay : ℕ) (f : Bool) (o : List ℕ) → ShapeIn W H L → All (λ h. h ≤ 65535) hs → InputAt (s .listing .input) (W * H) hs nay f → Begun n k W H L hs nay f o s → lineOn s .part < 3
+      → o ++ leftTo k s ≡ linesDue (record { width = W; height = H; levels = L }) hs f ++ answerLine nay
   begun-due W H L hs nay f o b c d e p =
-      e .text ∙ ap (λ l. l ++ pick nay refusedLine []) (ran-due n store W H L hs f (e .drawn) (s .listing .writer) (s .store) b c (heights-in d) (heights-all d) (e .ran) (e .idle p))
+      e .text ∙ ap (λ l. l ++ answerLine nay) (ran-due n store W H L hs f (e .drawn) (s .listing .writer) (s .store) b c (heights-in d) (heights-all d) (e .ran) (e .idle p))
 
-  begun-prefix : (W H L : ℕ) (hs : List ℕ) (nay f : Bool) (o : List ℕ) → ShapeIn W H L → All (λ h. h ≤ 65535) hs → InputAt (s .listing .input) (W * H) hs nay f → Begun n k W H L hs nay f o s
-      → (r : List ℕ) × (o ++ r ≡ linesDue (record { width = W; height = H; levels = L }) hs f ++ pick nay refusedLine [])
-  begun-prefix W H L hs true f o b c d e = (leftTo k s, begun-due W H L hs true f o b c d e (e .last refl))
-  begun-prefix W H L hs false f o b c d e =
+  begun-prefix : (W H L : ℕ) (hs : List ℕ) (nay : ℕ) (f : Bool) (o : List ℕ) → ShapeIn W H L → All (λ h. h ≤ 65535) hs → InputAt (s .listing .input) (W * H) hs nay f → Begun n k W H L hs nay f o s
+      → (r : List ℕ) × (o ++ r ≡ linesDue (record { width = W; height = H; levels = L }) hs f ++ answerLine nay)
+  begun-prefix W H L hs (suc q) f o b c d e = (leftTo k s, begun-due W H L hs (suc q) f o b c d e (e .last (omega arith)))
+  begun-prefix W H L hs zero f o b c d e =
       let p = ran-prefix n store W H L hs f (e .drawn) (s .listing .writer) (s .store) b c (heights-in d) (heights-all d) (e .ran) in
       (leftTo k s ++ p .0, sym (append-assoc o (leftTo k s) (p .0)) ∙ ap (λ l. l ++ p .0) (e .text ∙ append-nil (sizeLine W H L ++ drawnText (e .drawn))) ∙ p .1 ∙ sym (append-nil _))
 
   pub told-due : {E : List Event} {f : Bool} {o : List ℕ} → Told n k E f o s → Idle s → o ≡ textOf f E
   unfolding textOf
   told-due {E} {f} {o} (quiet a b c d e) i = rw a e
-  told-due {E} {f} {o} (refused a b c d e) i = rw a (idle-text k s o _ i e)
+  told-due {E} {f} {o} (refused q a b c d e) i = rw a (idle-text k s o _ i e)
   told-due {E} {f} {o} (begun W H L hs nay a b c d e) i =
       rw a (idle-text k s o _ i (begun-due W H L hs nay f o b c d e (omega arith)) ∙ sym (text-of f (record { width = W; height = H; levels = L }) hs nay))
 
   pub told-prefix : {E : List Event} {f : Bool} {o : List ℕ} → Told n k E f o s → (r : List ℕ) × (o ++ r ≡ textOf f E)
   unfolding textOf
   told-prefix {E} {f} {o} (quiet a b c d e) = ([], rw a (append-nil o ∙ e))
-  told-prefix {E} {f} {o} (refused a b c d e) = (leftTo k s, rw a e)
+  told-prefix {E} {f} {o} (refused q a b c d e) = (leftTo k s, rw a e)
   told-prefix {E} {f} {o} (begun W H L hs nay a b c d e) = rw a (let p = begun-prefix W H L hs nay f o b c d e in (p .0, p .1 ∙ sym (text-of f (record { width = W; height = H; levels = L }) hs nay)))

@@ -31,10 +31,10 @@ use Rattle.listing.proofs.ListingReached.{ShapeIn, reads, shut, Begun, 
 use Rattle.listing.proofs.ListingOffers.{idle-text, then-refused, turned-begun}
 use Rattle.listing.proofs.ListingHears.{differ}
 
--- E was told, and then the end: all heights came, too few did, or question 15 had said no
+-- E was told, and then the end: all heights came, too few did, or a question had said no
 pub data EndTold (n k : ℕ) (E : List Event) (o : List ℕ) (s : Scene) : Ending → Type 0 where
   all-came : Told n k E true o s → EndTold n k E o s whole
-  few-came : Told n k (E ++ (refusal ∷ [])) false o s → textOf false (E ++ (refusal ∷ [])) ≡ textOf false E ++ refusedLine → EndTold n k E o s few
+  few-came : Told n k (E ++ (refusal 15 ∷ [])) false o s → textOf false (E ++ (refusal 15 ∷ [])) ≡ textOf false E ++ refusedLine 15 → EndTold n k E o s few
   was-over : Told n k E false o s → EndTold n k E o s over
 
 pub record EndOut (n k : ℕ) (E : List Event) (o : List ℕ) (s : Scene) (y : Ending) : Type 0 where
@@ -43,14 +43,14 @@ pub record EndOut (n k : ℕ) (E : List Event) (o : List ℕ) (s : Scene) (y : E
   pub deaf : 3 < s .listing .input .phase
 
 -- a refusal after heights, and before the head
-refusal-text : (W H L : ℕ) (hs : List ℕ) → textOf false (eventsOf W H L hs false ++ (refusal ∷ [])) ≡ textOf false (eventsOf W H L hs false) ++ refusedLine
+refusal-text : (W H L : ℕ) (hs : List ℕ) → textOf false (eventsOf W H L hs 0 ++ (refusal 15 ∷ [])) ≡ textOf false (eventsOf W H L hs 0) ++ refusedLine 15
 refusal-text W H L hs =
     let q : Shape = record { width = W; height = H; levels = L } in
-    ap (textOf false) (then-refused W H L hs)
-    ∙ text-of false q hs true
-    ∙ ap (λ l. l ++ refusedLine) (sym (append-nil (linesDue q hs false)) ∙ sym (text-of false q hs false))
+    ap (textOf false) (then-refused W H L hs 15 (omega arith))
+    ∙ text-of false q hs 15
+    ∙ ap (λ l. l ++ refusedLine 15) (sym (append-nil (linesDue q hs false)) ∙ sym (text-of false q hs 0))
 
-refusal-first : textOf false (refusal ∷ []) ≡ textOf false [] ++ refusedLine
+refusal-first : textOf false (refusal 15 ∷ []) ≡ textOf false [] ++ refusedLine 15
 unfolding textOf
 refusal-first = refl
 
@@ -72,7 +72,7 @@ module _ (n k : ℕ) (store : storeLength 1025 5 ≤ n) (row : 1025 ≤ k) (s : 
   by E o y e d = subst (λ t. EndOut n k E o t (endingOf (endHeard i))) (sym end-is) (subst (λ y. EndOut n k E o (endTo n k s y) (endingOf y)) e d)
 
   -- ---- all heights came: the finish
-  module _ (W H L : ℕ) (hs : List ℕ) (o : List ℕ) (b : ShapeIn W H L) (e : Begun n k W H L hs false false o s) (whole : length hs ≡ W * H) (j : Input) where
+  module _ (W H L : ℕ) (hs : List ℕ) (o : List ℕ) (b : ShapeIn W H L) (e : Begun n k W H L hs 0 false o s) (whole : length hs ≡ W * H) (j : Input) where
     out : FinishOut W L n (set-up-in n store b) hs (e .drawn) w (s .store) (e .ran) (e .idle (omega arith))
     out = finish-out W L n (set-up-in n store b) hs (e .drawn) w (s .store) (e .ran) (e .idle (omega arith)) H (b .some-columns) (b .some-rows) whole
 
@@ -80,9 +80,9 @@ module _ (n k : ℕ) (store : storeLength 1025 5 ≤ n) (row : 1025 ≤ k) (s : 
     unfolding finishScene
     finish-is = rw (out .reply) refl
 
-    finish-begun : Begun n k W H L hs false true o (finishScene n k j w (s .store) (s .row))
+    finish-begun : Begun n k W H L hs 0 true o (finishScene n k j w (s .store) (s .row))
     finish-begun =
-        subst (Begun n k W H L hs false true o) (sym finish-is)
+        subst (Begun n k W H L hs 0 true o) (sym finish-is)
         (draw-begun n k W H L (set-up-in n store b) (omega (arith, b .columns)) j (out .writer) (finishStore w n (s .store)) (s .row) hs true o (e .drawn) (out .ran)
         (idle-text k s o _ idle (e .text) ∙ append-nil _))
 
@@ -90,14 +90,14 @@ module _ (n k : ℕ) (store : storeLength 1025 5 ≤ n) (row : 1025 ≤ k) (s : 
     finish-input = ap (λ t. t .listing .input) finish-is ∙ drawn-input n k W H L (set-up-in n store b) (omega (arith, b .columns)) j (out .writer) (finishStore w n (s .store)) (s .row) hs true (e .drawn) (out .ran)
 
   -- ---- the cases
-  reads-end : (E : List Event) (W H L : ℕ) (hs : List ℕ) (o : List ℕ) → E ≡ eventsOf W H L hs false → ShapeIn W H L → All (λ h. h ≤ 65535) hs → Begun n k W H L hs false false o s
+  reads-end : (E : List Event) (W H L : ℕ) (hs : List ℕ) (o : List ℕ) → E ≡ eventsOf W H L hs 0 → ShapeIn W H L → All (λ h. h ≤ 65535) hs → Begun n k W H L hs 0 false o s
       → i .phase ≡ 3 → i .left + length hs ≡ W * H → Ends E o
   reads-end E W H L hs o a b c e p l =
       elim (decLt 0 (i .left)) [
         | yes q ↦
             by E o (ended.Short (phased 4 i)) (end-few i (omega arith) (omega arith) q)
             (record {
-              told = few-came (begun W H L hs true (ap (λ l. l ++ (refusal ∷ [])) a ∙ then-refused W H L hs) b c (shut (omega arith) (omega arith) (λ z. absurd (differ z))) (turned-begun n k W H L hs false o s (phased 4 i) idle e)) (rw a (refusal-text W H L hs));
+              told = few-came (begun W H L hs 15 (ap (λ l. l ++ (refusal 15 ∷ [])) a ∙ then-refused W H L hs 15 (omega arith)) b c (shut (omega arith) (omega arith) (λ z. absurd (differ z))) (turned-begun n k W H L hs false o s (phased 4 i) 15 (omega arith) idle e)) (rw a (refusal-text W H L hs));
               sane = phased-sane i sane;
               deaf = omega arith;
             })
@@ -106,7 +106,7 @@ module _ (n k : ℕ) (store : storeLength 1025 5 ≤ n) (row : 1025 ≤ k) (s : 
             let d = finish-input W H L hs o b e g (phased 4 i) in
             by E o (ended.Whole (phased 4 i)) (end-whole i (omega arith) (omega arith) (omega arith))
             (record {
-              told = all-came (begun W H L hs false a b c (shut (subst (λ j. 3 < j .phase) (sym d) (omega arith)) (omega arith) (λ _. g)) (finish-begun W H L hs o b e g (phased 4 i)));
+              told = all-came (begun W H L hs 0 a b c (shut (subst (λ j. 3 < j .phase) (sym d) (omega arith)) (omega arith) (λ _. g)) (finish-begun W H L hs o b e g (phased 4 i)));
               sane = subst Sane (sym d) (phased-sane i sane);
               deaf = subst (λ j. 3 < j .phase) (sym d) (omega arith);
             })
@@ -116,11 +116,11 @@ module _ (n k : ℕ) (store : storeLength 1025 5 ≤ n) (row : 1025 ≤ k) (s : 
   end-told {E} {o} (quiet a b c d e) =
       by E o (ended.Short (phased 4 i)) (end-early i c)
       (record {
-        told = few-came (refused (ap (λ l. l ++ (refusal ∷ [])) a) refl (omega arith) (omega arith) (ap (λ l. l ++ lineLeft k (s .row) (refusedPart 15)) e ∙ left-refused k (s .row))) (rw a refusal-first);
+        told = few-came (refused 15 (ap (λ l. l ++ (refusal 15 ∷ [])) a) refl (omega arith) (omega arith) (ap (λ l. l ++ lineLeft k (s .row) (refusedPart 15)) e ∙ left-refused k (s .row) 15)) (rw a refusal-first);
         sane = phased-sane i sane;
         deaf = omega arith;
       })
-  end-told {E} {o} (refused a b c d e) = by E o ended.Before (end-over i c) (record { told = was-over (refused a b c d e); sane = sane; deaf = c })
+  end-told {E} {o} (refused q a b c d e) = by E o ended.Before (end-over i c) (record { told = was-over (refused q a b c d e); sane = sane; deaf = c })
   end-told {E} {o} (begun W H L hs nay a b c (shut d g h) e) = by E o ended.Before (end-over i d) (record { told = was-over (begun W H L hs nay a b c (shut d g h) e); sane = sane; deaf = d })
   end-told {E} {o} (begun W H L hs nay a b c (reads d g j l) e) =
       reads-end E W H L hs o (a ∙ ap (eventsOf W H L hs) d) b c (subst (λ r. Begun n k W H L hs r false o s) d e) j l

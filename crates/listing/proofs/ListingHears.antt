@@ -7,7 +7,7 @@ use native.Mathlib.Omega.{arith}
 use lib.ListN.{length, take, length-append}
 use lib.Seq.{length-take-le}
 use Rattle.wavelet.specs.Store.{storeLength}
-use Rattle.pgm.specs.Samples.{heightsOf}
+use Rattle.pgm.specs.Samples.{sampleSize, heightsOf}
 use Rattle.pgm.proofs.RunReads.{heights-first}
 use Rattle.writer.specs.Answers.{gives, Took}
 use Rattle.writer.specs.Calls.{offerReply, offerStore}
@@ -64,53 +64,53 @@ module _ (n k : ℕ) (store : storeLength 1025 5 ≤ n) (row : 1025 ≤ k) (s : 
       shape = let L = t .levels (omega arith) (omega arith) in shape-in W H (j .levels) g (L .0) (L .1)
   quiet-hears E f o y a b c d (half j p q r) t = absurd (omega arith)
   quiet-hears E f o y a b c d (height-so j v p q r g h) t = absurd (omega arith)
-  quiet-hears E f o y a b c d (turned j p q) (refused-sane t) = record {
-    told = refused (ap (λ l. l ++ (refusal ∷ [])) a) b (omega arith) (omega arith) (ap (λ l. l ++ lineLeft k (s .row) (refusedPart 15)) d ∙ left-refused k (s .row));
+  quiet-hears E f o y a b c d (turned j u p q z) (refused-sane t) = record {
+    told = refused u (ap (λ l. l ++ (refusal u ∷ [])) a) b (omega arith) (omega arith) (ap (λ l. l ++ lineLeft k (s .row) (refusedPart u)) d ∙ left-refused k (s .row) u);
     input = shut-phase j q;
     sane = t;
   }
   quiet-hears E f o y a b c d (deaf p) t = absurd (omega arith)
 
   -- ---- after a refusal
-  refused-hears : (E : List Event) (f : Bool) (o : List ℕ) (y : Heard) → E ≡ refusal ∷ [] → f ≡ false → 3 < i .phase → o ++ leftTo k s ≡ refusedLine → Hears i y → SaneThen y → HeardAs E f o y
-  refused-hears E f o y a b c d (on j p q) t = absurd (omega arith)
-  refused-hears E f o y a b c d (begins-so j W H p q r g) t = absurd (omega arith)
-  refused-hears E f o y a b c d (half j p q r) t = absurd (omega arith)
-  refused-hears E f o y a b c d (height-so j v p q r g h) t = absurd (omega arith)
-  refused-hears E f o y a b c d (turned j p q) t = absurd (omega arith)
-  refused-hears E f o y a b c d (deaf p) (more t) = record {
-    told = refused (append-nil E ∙ a) b c (omega arith) (ap (λ l. o ++ l) (left-none k (s .row) noLine refl) ∙ append-nil o ∙ idle-text k s o _ idle d);
+  refused-hears : (n₀ : ℕ) (E : List Event) (f : Bool) (o : List ℕ) (y : Heard) → E ≡ refusal n₀ ∷ [] → f ≡ false → 3 < i .phase → o ++ leftTo k s ≡ refusedLine n₀ → Hears i y → SaneThen y → HeardAs E f o y
+  refused-hears n₀ E f o y a b c d (on j p q) t = absurd (omega arith)
+  refused-hears n₀ E f o y a b c d (begins-so j W H p q r g) t = absurd (omega arith)
+  refused-hears n₀ E f o y a b c d (half j p q r) t = absurd (omega arith)
+  refused-hears n₀ E f o y a b c d (height-so j v p q r g h) t = absurd (omega arith)
+  refused-hears n₀ E f o y a b c d (turned j u p q z) t = absurd (omega arith)
+  refused-hears n₀ E f o y a b c d (deaf p) (more t) = record {
+    told = refused n₀ (append-nil E ∙ a) b c (omega arith) (ap (λ l. o ++ l) (left-none k (s .row) noLine refl) ∙ append-nil o ∙ idle-text k s o _ idle d);
     input = refl;
     sane = t;
   }
 
   -- ---- once the head is there
   module _ (W H L : ℕ) (hs : List ℕ) (b : ShapeIn W H L) (small : All (λ h. h ≤ 65535) hs) where
-    shut-hears : (E : List Event) (nay f : Bool) (o : List ℕ) (y : Heard) → E ≡ eventsOf W H L hs nay → Begun n k W H L hs nay f o s → 3 < i .phase → length hs ≤ W * H → (f ≡ true → length hs ≡ W * H)
+    shut-hears : (E : List Event) (nay : ℕ) (f : Bool) (o : List ℕ) (y : Heard) → E ≡ eventsOf W H L hs nay → Begun n k W H L hs nay f o s → 3 < i .phase → length hs ≤ W * H → (f ≡ true → length hs ≡ W * H)
         → Hears i y → SaneThen y → HeardAs E f o y
     shut-hears E nay f o y a e c d g (on j p q) t = absurd (omega arith)
     shut-hears E nay f o y a e c d g (begins-so j W₁ H₁ p q r v) t = absurd (omega arith)
     shut-hears E nay f o y a e c d g (half j p q r) t = absurd (omega arith)
     shut-hears E nay f o y a e c d g (height-so j v p q r z h) t = absurd (omega arith)
-    shut-hears E nay f o y a e c d g (turned j p q) t = absurd (omega arith)
+    shut-hears E nay f o y a e c d g (turned j u p q z) t = absurd (omega arith)
     shut-hears E nay f o y a e c d g (deaf p) (more t) = record {
       told = begun W H L hs nay (append-nil E ∙ a) b small (shut c d g) (still n k W H L hs nay f o s i idle e);
       input = refl;
       sane = t;
     }
 
-    reads-hears : (E : List Event) (o : List ℕ) (y : Heard) → E ≡ eventsOf W H L hs false → Begun n k W H L hs false false o s → i .phase ≡ 3 → i .left + length hs ≡ W * H
+    reads-hears : (E : List Event) (o : List ℕ) (y : Heard) → E ≡ eventsOf W H L hs 0 → Begun n k W H L hs 0 false o s → i .phase ≡ 3 → i .left + length hs ≡ W * H
         → Hears i y → SaneThen y → HeardAs E false o y
     reads-hears E o y a e c d (on j p q) t = absurd (omega arith)
     reads-hears E o y a e c d (begins-so j W₁ H₁ p q r v) t = absurd (omega arith)
     reads-hears E o y a e c d (half j p q r) (more t) = record {
-      told = begun W H L hs false (append-nil E ∙ a) b small (reads refl refl q (omega arith)) (still n k W H L hs false false o s j idle e);
+      told = begun W H L hs 0 (append-nil E ∙ a) b small (reads refl refl q (omega arith)) (still n k W H L hs 0 false o s j idle e);
       input = refl;
       sane = t;
     }
     reads-hears E o y a e c d (height-so j v p q r z h) (tall t) = record {
       told =
-          begun W H L (hs ++ (v ∷ [])) false (ap (λ l. l ++ (height v ∷ [])) a ∙ more-heights W H L hs (v ∷ [])) b (all-append small (all-more h all-none))
+          begun W H L (hs ++ (v ∷ [])) 0 (ap (λ l. l ++ (height v ∷ [])) a ∙ more-heights W H L hs (v ∷ [])) b (all-append small (all-more h all-none))
           (reads refl refl (ap (λ l. l .phase) kept ∙ q) (ap (λ l. l .left + length (hs ++ (v ∷ []))) kept ∙ counted v))
           (height-begun n k store row W H L hs o s b e idle j v (omega arith));
       input = kept;
@@ -122,8 +122,8 @@ module _ (n k : ℕ) (store : storeLength 1025 5 ≤ n) (row : 1025 ≤ k) (s : 
 
         counted : (v : ℕ) → j .left + length (hs ++ (v ∷ [])) ≡ W * H
         counted v = omega (arith, length-append hs (v ∷ []))
-    reads-hears E o y a e c d (turned j p q) (refused-sane t) = record {
-      told = begun W H L hs true (ap (λ l. l ++ (refusal ∷ [])) a ∙ then-refused W H L hs) b small (shut (omega arith) (omega arith) (λ z. absurd (differ z))) (turned-begun n k W H L hs false o s j idle e);
+    reads-hears E o y a e c d (turned j u p q r) (refused-sane t) = record {
+      told = begun W H L hs u (ap (λ l. l ++ (refusal u ∷ [])) a ∙ then-refused W H L hs u r) b small (shut (omega arith) (omega arith) (λ z. absurd (differ z))) (turned-begun n k W H L hs false o s j u r idle e);
       input = shut-phase j q;
       sane = t;
     }
@@ -132,7 +132,7 @@ module _ (n k : ℕ) (store : storeLength 1025 5 ≤ n) (row : 1025 ≤ k) (s : 
   -- ---- a byte
   pub hear-as : {E : List Event} {f : Bool} {o : List ℕ} → Told n k E f o s → (y : Heard) → How i y → HeardAs E f o y
   hear-as {E} {f} {o} (quiet a b c d e) y (h, t) = quiet-hears E f o y a b c e h t
-  hear-as {E} {f} {o} (refused a b c d e) y (h, t) = refused-hears E f o y a b c e h t
+  hear-as {E} {f} {o} (refused q a b c d e) y (h, t) = refused-hears q E f o y a b c e h t
   hear-as {E} {f} {o} (begun W H L hs nay a b c (shut d g j) e) y (h, t) = shut-hears W H L hs b c E nay f o y a e d g j h t
   hear-as {E} {f} {o} (begun W H L hs nay a b c (reads d g j l) e) y (h, t) =
       subst (λ f. HeardAs E f o y) (sym g)
@@ -144,16 +144,19 @@ module _ (n k : ℕ) (store : storeLength 1025 5 ≤ n) (row : 1025 ≤ k) (s : 
 
   -- ---- heights that came together
   module _ (bytes : List ℕ) (j : Took) where
+    abbrev m : ℕ
+    m = i .samples .largest
+
     abbrev run : List ℕ
-    run = heightsOf bytes
+    run = heightsOf m bytes
 
     abbrev u : List ℕ
-    u = take (2 * j .taken) bytes
+    u = take (sampleSize m * j .taken) bytes
 
     abbrev then : Scene
     then = drawScene n k (heightsCame (j .taken) i) (j .writer) (offerStore w n run (s .store)) (s .row)
 
-    module _ (W H L : ℕ) (hs : List ℕ) (o : List ℕ) (b : ShapeIn W H L) (small : All (λ h. h ≤ 65535) hs) (E : List Event) (a : E ≡ eventsOf W H L hs false) (e : Begun n k W H L hs false false o s)
+    module _ (W H L : ℕ) (hs : List ℕ) (o : List ℕ) (b : ShapeIn W H L) (small : All (λ h. h ≤ 65535) hs) (E : List Event) (a : E ≡ eventsOf W H L hs 0) (e : Begun n k W H L hs 0 false o s)
         (c : i .phase ≡ 3) (d : i .left + length hs ≡ W * H) (x : i .samples .half ≡ false) (fits : length run ≤ i .left) (says : offerReply w n run (s .store) ≡ gives j) (some : 0 < j .taken) (bs : All (λ b. b ≤ 255) u) where
       abbrev t : Took
       t = out n k store row W H L hs o s b e idle run (omega arith) .took
@@ -170,14 +173,14 @@ module _ (n k : ℕ) (store : storeLength 1025 5 ≤ n) (row : 1025 ≤ k) (s : 
       counted : i .left - j .taken + length (hs ++ take (j .taken) run) ≡ W * H
       counted = omega (arith, most, length-append hs (take (j .taken) run), length-take-le (j .taken) run most)
 
-      run-begun : Begun n k W H L (hs ++ take (j .taken) run) false false o then
+      run-begun : Begun n k W H L (hs ++ take (j .taken) run) 0 false o then
       run-begun =
-          subst (λ m. Begun n k W H L (hs ++ take (m .taken) run) false false o (drawScene n k (heightsCame (j .taken) i) (m .writer) (offerStore w n run (s .store)) (s .row))) same
+          subst (λ t. Begun n k W H L (hs ++ take (t .taken) run) 0 false o (drawScene n k (heightsCame (j .taken) i) (t .writer) (offerStore w n run (s .store)) (s .row))) same
           (offered-begun n k store row W H L hs o s b e idle run (omega arith) (heightsCame (j .taken) i))
 
       then-input : then .listing .input ≡ heightsCame (j .taken) i
       then-input =
-          subst (λ m. drawScene n k (heightsCame (j .taken) i) (m .writer) (offerStore w n run (s .store)) (s .row) .listing .input ≡ heightsCame (j .taken) i) same
+          subst (λ t. drawScene n k (heightsCame (j .taken) i) (t .writer) (offerStore w n run (s .store)) (s .row) .listing .input ≡ heightsCame (j .taken) i) same
           (offered-input n k store row W H L hs o s b e idle run (omega arith) (heightsCame (j .taken) i))
 
       run-told : Sane i → Heards n k E false o (listen i u) then
@@ -185,8 +188,8 @@ module _ (n k : ℕ) (store : storeLength 1025 5 ≤ n) (row : 1025 ≤ k) (s : 
           subst (λ h. Heards n k E false o h then) (sym told-run)
           (record {
             told =
-                begun W H L (hs ++ take (j .taken) run) false (ap (λ l. l ++ map height (take (j .taken) run)) a ∙ more-heights W H L hs (take (j .taken) run)) b
-                (all-append small (subst (All (λ h. h ≤ 65535)) (heights-first bytes (j .taken)) (small-heights u bs)))
+                begun W H L (hs ++ take (j .taken) run) 0 (ap (λ l. l ++ map height (take (j .taken) run)) a ∙ more-heights W H L hs (take (j .taken) run)) b
+                (all-append small (subst (All (λ h. h ≤ 65535)) (heights-first m bytes (j .taken)) (small-heights m u bs)))
                 (reads refl refl (ap (λ l. l .phase) then-input ∙ c) (ap (λ l. l .left + length (hs ++ take (j .taken) run)) then-input ∙ counted))
                 run-begun;
             input = then-input;
@@ -196,7 +199,7 @@ module _ (n k : ℕ) (store : storeLength 1025 5 ≤ n) (row : 1025 ≤ k) (s : 
     pub take-told : {E : List Event} {f : Bool} {o : List ℕ} → Told n k E f o s → Sane i → i .phase ≡ 3 → i .samples .half ≡ false → length run ≤ i .left → offerReply w n run (s .store) ≡ gives j → 0 < j .taken
         → All (λ b. b ≤ 255) u → Heards n k E f o (listen i u) then
     take-told (quiet a b c d e) v p q r g h bs = absurd (omega arith)
-    take-told (refused a b c d e) v p q r g h bs = absurd (omega arith)
+    take-told (refused y a b c d e) v p q r g h bs = absurd (omega arith)
     take-told (begun W H L hs nay a b c (shut d z l) e) v p q r g h bs = absurd (omega arith)
     take-told {E} {f} {o} (begun W H L hs nay a b c (reads d y z l) e) v p q r g h bs =
         subst (λ f. Heards n k E f o (listen i u) then) (sym y)

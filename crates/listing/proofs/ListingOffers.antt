@@ -1,8 +1,8 @@
--- The head is there (`begin-told`), heights are offered (`offered-begun`), question 15 says no (`turned-begun`): what a listing has reached then. Assumes nothing.
+-- The head is there (`begin-told`), heights are offered (`offered-begun`), a question says no (`turned-begun`): what a listing has reached then. Assumes nothing.
 use mathlib.Core.Path.{_≡_, refl, sym, ap, subst, _∙_}
 use mathlib.Core.Bool.{Bool, true, false}
 use mathlib.Core.List.{List, [], _∷_, _++_, map, append-nil}
-use Prim.Native.Nat.{ℕ, _+_, _-_, _*_, _≤_, _<_}
+use Prim.Native.Nat.{ℕ, zero, suc, _+_, _-_, _*_, _≤_, _<_}
 use native.Mathlib.Omega.{arith}
 use lib.Dec.{leb}
 use lib.ListN.{length, take}
@@ -18,7 +18,7 @@ use Rattle.writer.specs.Calls.{fresh, setUpReply, setUpStore, offerReply, offer
 use Rattle.writer.specs.Demand3.{all-none}
 use Rattle.writer.specs.declared.Writer.{Writer}
 use Rattle.writer.proofs.CallList.{map-append}
-use Rattle.listing.specs.Lines.{sizeLine, refusedLine}
+use Rattle.listing.specs.Lines.{sizeLine, refusedLine, answerLine}
 use Rattle.listing.specs.Listing.{maxListedWidth, shapeFits}
 use Rattle.listing.specs.Parts.{noLine, sizePart}
 use Rattle.listing.specs.Scenes.{Scene, scene, listed, refusedTo, drawScene, beginScene, offerScene}
@@ -44,16 +44,17 @@ pub idle-text : (k : ℕ) (s : Scene) (o t : List ℕ) → Idle s → o ++ leftT
 idle-text k s o t i e = sym (append-nil o) ∙ ap (λ y. o ++ y) (sym (left-none k (s .row) (lineOn s) i)) ∙ e
 
 module _ (W H L : ℕ) (hs : List ℕ) where
-  pub more-heights : (vs : List ℕ) → eventsOf W H L hs false ++ map height vs ≡ eventsOf W H L (hs ++ vs) false
+  pub more-heights : (vs : List ℕ) → eventsOf W H L hs 0 ++ map height vs ≡ eventsOf W H L (hs ++ vs) 0
   more-heights vs =
       ap (λ l. begins (record { width = W; height = H; levels = L }) ∷ l)
       (ap (λ l. l ++ map height vs) (append-nil (map height hs)) ∙ sym (map-append height hs vs) ∙ sym (append-nil (map height (hs ++ vs))))
 
-  pub then-refused : eventsOf W H L hs false ++ (refusal ∷ []) ≡ eventsOf W H L hs true
-  then-refused = ap (λ l. begins (record { width = W; height = H; levels = L }) ∷ (l ++ (refusal ∷ []))) (append-nil (map height hs))
+  pub then-refused : (q : ℕ) → 0 < q → eventsOf W H L hs 0 ++ (refusal q ∷ []) ≡ eventsOf W H L hs q
+  then-refused zero h = absurd (omega arith)
+  then-refused (suc q) h = ap (λ l. begins (record { width = W; height = H; levels = L }) ∷ (l ++ (refusal (suc q) ∷ []))) (append-nil (map height hs))
 
 -- the same writer and store, no line
-pub still : (n k W H L : ℕ) (hs : List ℕ) (nay f : Bool) (o : List ℕ) (s : Scene) (i : Input) → Idle s → Begun n k W H L hs nay f o s → Begun n k W H L hs nay f o (scene (listed i (s .listing .writer) noLine) (s .store) (s .row))
+pub still : (n k W H L : ℕ) (hs : List ℕ) (nay : ℕ) (f : Bool) (o : List ℕ) (s : Scene) (i : Input) → Idle s → Begun n k W H L hs nay f o s → Begun n k W H L hs nay f o (scene (listed i (s .listing .writer) noLine) (s .store) (s .row))
 still n k W H L hs nay f o s i e b = record {
   drawn = b .drawn;
   ran = b .ran;
@@ -64,12 +65,16 @@ still n k W H L hs nay f o s i e b = record {
 }
 
 -- a refusal
-pub turned-begun : (n k W H L : ℕ) (hs : List ℕ) (f : Bool) (o : List ℕ) (s : Scene) (i : Input) → Idle s → Begun n k W H L hs false f o s
-    → Begun n k W H L hs true f o (scene (refusedTo i (s .listing .writer) 15) (s .store) (s .row))
-turned-begun n k W H L hs f o s i e b = record {
+said : (q : ℕ) → 0 < q → refusedLine q ≡ answerLine q
+said zero h = absurd (omega arith)
+said (suc q) h = refl
+
+pub turned-begun : (n k W H L : ℕ) (hs : List ℕ) (f : Bool) (o : List ℕ) (s : Scene) (i : Input) (q : ℕ) → 0 < q → Idle s → Begun n k W H L hs 0 f o s
+    → Begun n k W H L hs q f o (scene (refusedTo i (s .listing .writer) q) (s .store) (s .row))
+turned-begun n k W H L hs f o s i q some e b = record {
   drawn = b .drawn;
   ran = b .ran;
-  text = ap (λ y. o ++ y) (left-refused k (s .row)) ∙ ap (λ y. y ++ refusedLine) (idle-text k s o _ e (b .text) ∙ append-nil (sizeLine W H L ++ drawnText (b .drawn)));
+  text = ap (λ y. o ++ y) (left-refused k (s .row) q ∙ said q some) ∙ ap (λ y. y ++ answerLine q) (idle-text k s o _ e (b .text) ∙ append-nil (sizeLine W H L ++ drawnText (b .drawn)));
   idle = λ _. b .idle (omega arith);
   last = λ _. omega arith;
   room = λ h. absurd (omega arith);
@@ -87,7 +92,7 @@ module _ (n k : ℕ) (store : storeLength 1025 5 ≤ n) (row : 1025 ≤ k) where
   unfolding drawnText
   begin-told i w W H x z p q b =
       subst (Told n k _ false []) (sym (begin-is i w W H x z (set-up-in n store b)))
-      (begun W H (i .levels) [] false refl b all-none (reads refl refl p (omega arith))
+      (begun W H (i .levels) [] 0 refl b all-none (reads refl refl p (omega arith))
       (record {
         drawn = [];
         ran = fresh-ran W (i .levels) n x;
@@ -101,11 +106,11 @@ module _ (n k : ℕ) (store : storeLength 1025 5 ≤ n) (row : 1025 ≤ k) where
   begin-input i w W H x z b = ap (λ t. t .listing .input) (begin-is i w W H x z (set-up-in n store b))
 
   -- ---- heights are offered
-  module _ (W H L : ℕ) (hs : List ℕ) (o : List ℕ) (s : Scene) (b : ShapeIn W H L) (e : Begun n k W H L hs false false o s) (idle : Idle s) (run : List ℕ) (room : length hs + length run ≤ W * H) where
+  module _ (W H L : ℕ) (hs : List ℕ) (o : List ℕ) (s : Scene) (b : ShapeIn W H L) (e : Begun n k W H L hs 0 false o s) (idle : Idle s) (run : List ℕ) (room : length hs + length run ≤ W * H) where
     pub out : OfferOut W L n (set-up-in n store b) hs (e .drawn) (s .listing .writer) (s .store) (e .ran) (e .idle (omega arith)) run
     out = offer-out W L n (set-up-in n store b) hs (e .drawn) (s .listing .writer) (s .store) (e .ran) (e .idle (omega arith)) run H (b .some-columns) (b .rows) room
 
-    pub offered-begun : (i : Input) → Begun n k W H L (hs ++ take (out .took .taken) run) false false o
+    pub offered-begun : (i : Input) → Begun n k W H L (hs ++ take (out .took .taken) run) 0 false o
         (drawScene n k i (out .took .writer) (offerStore (s .listing .writer) n run (s .store)) (s .row))
     offered-begun i =
         draw-begun n k W H L (set-up-in n store b) (omega (arith, b .columns)) i (out .took .writer) _ (s .row) _ false o (e .drawn) (out .ran)
@@ -119,16 +124,16 @@ module _ (n k : ℕ) (store : storeLength 1025 5 ≤ n) (row : 1025 ≤ k) where
   unfolding offerScene
   offer-is i w v x z t e = rw e refl
 
-  pub height-input : (W H L : ℕ) (hs : List ℕ) (o : List ℕ) (s : Scene) → ShapeIn W H L → Begun n k W H L hs false false o s → Idle s → (i : Input) (v : ℕ) → length hs < W * H
+  pub height-input : (W H L : ℕ) (hs : List ℕ) (o : List ℕ) (s : Scene) → ShapeIn W H L → Begun n k W H L hs 0 false o s → Idle s → (i : Input) (v : ℕ) → length hs < W * H
       → offerScene n k i (s .listing .writer) v (s .store) (s .row) .listing .input ≡ i
   height-input W H L hs o s b e idle i v h =
       let t = out W H L hs o s b e idle (v ∷ []) (omega arith) in
       ap (λ y. y .listing .input) (offer-is i (s .listing .writer) v (s .store) (s .row) (t .took) (t .reply)) ∙ offered-input W H L hs o s b e idle (v ∷ []) (omega arith) i
 
-  pub height-begun : (W H L : ℕ) (hs : List ℕ) (o : List ℕ) (s : Scene) → ShapeIn W H L → Begun n k W H L hs false false o s → Idle s → (i : Input) (v : ℕ) → length hs < W * H
-      → Begun n k W H L (hs ++ (v ∷ [])) false false o (offerScene n k i (s .listing .writer) v (s .store) (s .row))
+  pub height-begun : (W H L : ℕ) (hs : List ℕ) (o : List ℕ) (s : Scene) → ShapeIn W H L → Begun n k W H L hs 0 false o s → Idle s → (i : Input) (v : ℕ) → length hs < W * H
+      → Begun n k W H L (hs ++ (v ∷ [])) 0 false o (offerScene n k i (s .listing .writer) v (s .store) (s .row))
   height-begun W H L hs o s b e idle i v h =
       let t = out W H L hs o s b e idle (v ∷ []) (omega arith) in
       let one : t .took .taken ≡ 1 = omega (arith, t .most, t .some (omega arith)) in
-      subst (Begun n k W H L (hs ++ (v ∷ [])) false false o) (sym (offer-is i (s .listing .writer) v (s .store) (s .row) (t .took) (t .reply)))
-      (subst (λ m. Begun n k W H L (hs ++ take m (v ∷ [])) false false o (drawScene n k i (t .took .writer) (offerStore (s .listing .writer) n (v ∷ []) (s .store)) (s .row))) one (offered-begun W H L hs o s b e idle (v ∷ []) (omega arith) i))
+      subst (Begun n k W H L (hs ++ (v ∷ [])) 0 false o) (sym (offer-is i (s .listing .writer) v (s .store) (s .row) (t .took) (t .reply)))
+      (subst (λ m. Begun n k W H L (hs ++ take m (v ∷ [])) 0 false o (drawScene n k i (t .took .writer) (offerStore (s .listing .writer) n (v ∷ []) (s .store)) (s .row))) one (offered-begun W H L hs o s b e idle (v ∷ []) (omega arith) i))

@@ -15,11 +15,11 @@ use Rattle.writer.specs.History.{DrawnRow}
 use Rattle.writer.specs.Demand3.{All}
 use Rattle.writer.specs.declared.Writer.{Writer}
 use Rattle.writer.specs.declared.BandRow.{BandRow}
-use Rattle.listing.specs.Lines.{sizeLine, refusedLine}
+use Rattle.listing.specs.Lines.{sizeLine, refusedLine, answerLine}
 use Rattle.listing.specs.Parts.{noLine, headPart}
 use Rattle.listing.specs.Scenes.{Scene, scene, drawnTo, drawScene}
 use Rattle.listing.specs.Moves.{lineOn, Idle, leftOn, writtenOn}
-use Rattle.listing.specs.Telling.{Event, begins, height, refusal}
+use Rattle.listing.specs.Telling.{Event, begins, height, refusal, answerEvents}
 use Rattle.listing.specs.declared.input.Input.{Input}
 use Rattle.listing.proofs.DrawnText.{drawnLine, drawnText}
 use Rattle.listing.proofs.LineLeft.{lineLeft, left-none, left-head, left-partly}
@@ -39,9 +39,9 @@ pub record ShapeIn (W H L : ℕ) : Type 0 where
 pub set-up-in : (n : ℕ) {W H L : ℕ} → storeLength 1025 5 ≤ n → ShapeIn W H L → setUpQuestion W L n ≡ 0
 set-up-in n {W} {H} {L} h b = set-up-passes W L n h (b .some-columns) (b .columns) (b .some-levels) (b .levels)
 
--- the input after hs of c heights, and a refusal (nay) or the finish (f)
-pub data InputAt (i : Input) (c : ℕ) (hs : List ℕ) (nay f : Bool) : Type 0 where
-  reads : nay ≡ false → f ≡ false → i .phase ≡ 3 → i .left + length hs ≡ c → InputAt i c hs nay f
+-- the input after hs of c heights, and a refusal (nay, its number) or the finish (f)
+pub data InputAt (i : Input) (c : ℕ) (hs : List ℕ) (nay : ℕ) (f : Bool) : Type 0 where
+  reads : nay ≡ 0 → f ≡ false → i .phase ≡ 3 → i .left + length hs ≡ c → InputAt i c hs nay f
   shut : 3 < i .phase → length hs ≤ c → (f ≡ true → length hs ≡ c) → InputAt i c hs nay f
 
 -- what is left of the line
@@ -49,22 +49,22 @@ abbrev pub leftTo : ℕ → Scene → List ℕ
 leftTo k s = lineLeft k (s .row) (lineOn s)
 
 -- writer, store and line: what is written and what is left of the line are the lines of the rows drawn
-pub record Begun (n k W H L : ℕ) (hs : List ℕ) (nay f : Bool) (o : List ℕ) (s : Scene) : Type 0 where
+pub record Begun (n k W H L : ℕ) (hs : List ℕ) (nay : ℕ) (f : Bool) (o : List ℕ) (s : Scene) : Type 0 where
   pub drawn : List DrawnRow
   pub ran : Ran W L n hs f drawn (s .listing .writer) (s .store)
-  pub text : o ++ leftTo k s ≡ (sizeLine W H L ++ drawnText drawn) ++ pick nay refusedLine []
+  pub text : o ++ leftTo k s ≡ (sizeLine W H L ++ drawnText drawn) ++ answerLine nay
   -- a row is drawn once the row before it is written
   pub idle : lineOn s .part < 3 → waits W L hs f drawn ≡ []
-  pub last : nay ≡ true → lineOn s .part < 3
+  pub last : 0 < nay → lineOn s .part < 3
   pub room : 3 ≤ lineOn s .part → lineOn s .length ≤ k
 
-abbrev pub eventsOf : ℕ → ℕ → ℕ → List ℕ → Bool → List Event
-eventsOf W H L hs nay = begins (record { width = W; height = H; levels = L }) ∷ (map height hs ++ pick nay (refusal ∷ []) [])
+abbrev pub eventsOf : ℕ → ℕ → ℕ → List ℕ → ℕ → List Event
+eventsOf W H L hs nay = begins (record { width = W; height = H; levels = L }) ∷ (map height hs ++ answerEvents nay)
 
 pub data Told (n k : ℕ) (E : List Event) (f : Bool) (o : List ℕ) (s : Scene) : Type 0 where
   quiet : E ≡ [] → f ≡ false → s .listing .input .phase < 3 → Idle s → o ≡ [] → Told n k E f o s
-  refused : E ≡ refusal ∷ [] → f ≡ false → 3 < s .listing .input .phase → lineOn s .part < 3 → o ++ leftTo k s ≡ refusedLine → Told n k E f o s
-  begun : (W H L : ℕ) (hs : List ℕ) (nay : Bool) → E ≡ eventsOf W H L hs nay → ShapeIn W H L → All (λ h. h ≤ 65535) hs
+  refused : (q : ℕ) → E ≡ refusal q ∷ [] → f ≡ false → 3 < s .listing .input .phase → lineOn s .part < 3 → o ++ leftTo k s ≡ refusedLine q → Told n k E f o s
+  begun : (W H L : ℕ) (hs : List ℕ) (nay : ℕ) → E ≡ eventsOf W H L hs nay → ShapeIn W H L → All (λ h. h ≤ 65535) hs
       → InputAt (s .listing .input) (W * H) hs nay f → Begun n k W H L hs nay f o s → Told n k E f o s
 
 -- ---- a part of the line is written, not to its end
@@ -74,7 +74,7 @@ module _ (n k : ℕ) (s : Scene) (m : ℕ) (p : 0 < lineOn s .part) (h : m < len
 
   pub partly-told : {E : List Event} {f : Bool} {o : List ℕ} → Told n k E f o s → Told n k E f (o ++ take m (leftOn k s)) (writtenOn k m s)
   partly-told (quiet a b c d e) = absurd (omega arith)
-  partly-told {o = o} (refused a b c d e) = refused a b c d (partly-text o ∙ e)
+  partly-told {o = o} (refused q a b c d e) = refused q a b c d (partly-text o ∙ e)
   partly-told {o = o} (begun W H L hs nay a b c d e) =
       begun W H L hs nay a b c d (record { drawn = e .drawn; ran = e .ran; text = partly-text o ∙ e .text; idle = e .idle; last = e .last; room = e .room })
 
@@ -99,14 +99,14 @@ module _ (n k W H L : ℕ) (s : setUpQuestion W L n ≡ 0) (wide : W ≤ k) (i :
       go a (one-out b u p q) = refl
 
   pub draw-begun : (hs : List ℕ) (f : Bool) (o : List ℕ) (ds : List DrawnRow) → Ran W L n hs f ds w x → o ≡ sizeLine W H L ++ drawnText ds
-      → Begun n k W H L hs false f o (drawScene n k i w x z)
+      → Begun n k W H L hs 0 f o (drawScene n k i w x z)
   unfolding drawScene
   draw-begun hs f o ds r e = go (drawReply w n k x) (draw-out W L n hs f ds w x r k z s wide)
     where
       y : Memory
       y = drawArea w n k x z
 
-      go : (a : Reply Handed) → DrawOut W L n hs f ds w x r k z a → Begun n k W H L hs false f o (scene (drawnTo i w a) (drawStore w n k x) y)
+      go : (a : Reply Handed) → DrawOut W L n hs f ds w x r k z a → Begun n k W H L hs 0 f o (scene (drawnTo i w a) (drawStore w n k x) y)
       go a (all-out p q) = record {
         drawn = ds;
         ran = q;
@@ -124,7 +124,7 @@ module _ (n k W H L : ℕ) (s : setUpQuestion W L n ≡ 0) (wide : W ≤ k) (i :
             ∙ ap (λ l. sizeLine W H L ++ l) (sym (drawn-more ds d))
             ∙ sym (append-nil _);
         idle = λ h. absurd (omega arith);
-        last = λ h. let z : _≡_ {A = ℕ} 0 1 = cc in absurd (omega arith);
+        last = λ h. absurd (omega arith);
         room = λ _. p;
       }
         where

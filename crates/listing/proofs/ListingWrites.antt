@@ -1,16 +1,15 @@
 -- A part of a line is written to its end, and what comes after it: `wholly-told`. Assumes nothing.
 use mathlib.Core.Path.{_≡_, refl, sym, ap, subst, _∙_}
-use mathlib.Core.Bool.{Bool, true, false}
+use mathlib.Core.Bool.{Bool}
 use mathlib.Core.List.{List, [], _++_, append-assoc, append-nil}
-use Prim.Native.Nat.{ℕ, _+_, _-_, _*_, _≤_, _<_}
+use Prim.Native.Nat.{ℕ, zero, suc, _+_, _-_, _*_, _≤_, _<_}
 use native.Mathlib.Omega.{arith}
 use native.Mathlib.Decide.{decLt, ℕ-discrete}
 use lib.ListN.{length}
 use borrow.Author.Tests.{lt-ltb, le-ltb, eq-eqb, ne-eqb}
-use Rattle.numbers.specs.Signal.{pick}
 use Rattle.wavelet.specs.Store.{storeLength}
 use Rattle.writer.specs.Questions.{setUpQuestion}
-use Rattle.listing.specs.Lines.{sizeLine, refusedLine}
+use Rattle.listing.specs.Lines.{sizeLine, answerLine}
 use Rattle.listing.specs.Parts.{noLine}
 use Rattle.listing.specs.Scenes.{Scene, scene, listed, drawScene, valuePart, advanceScene}
 use Rattle.listing.specs.Moves.{lineOn, leftOn}
@@ -54,7 +53,7 @@ module _ (n k : ℕ) (s : Scene) where
     short-moved : 0 < l .part → l .part < 3 → o ++ leftTo k s ≡ t → (o ++ leftOn k s) ++ leftTo k (onLine noLine) ≡ t
     short-moved p h = moved noLine (left-short k (s .row) l p h ∙ sym (append-nil (leftOn k s)) ∙ ap (λ y. leftOn k s ++ y) (sym (left-none k (s .row) noLine refl)))
 
-  values-begun : {W H L : ℕ} {hs : List ℕ} {nay f : Bool} {o : List ℕ} → Begun n k W H L hs nay f o s → 3 ≤ l .part → (v : ℕ) → leftTo k s ≡ leftOn k s ++ leftTo k (onLine (valuePart l v))
+  values-begun : {W H L : ℕ} {hs : List ℕ} {nay : ℕ} {f : Bool} {o : List ℕ} → Begun n k W H L hs nay f o s → 3 ≤ l .part → (v : ℕ) → leftTo k s ≡ leftOn k s ++ leftTo k (onLine (valuePart l v))
       → Begun n k W H L hs nay f (o ++ leftOn k s) (onLine (valuePart l v))
   values-begun {o = o} e g v q = record {
     drawn = e .drawn;
@@ -65,19 +64,19 @@ module _ (n k : ℕ) (s : Scene) where
     room = λ _. e .room g;
   }
 
-  module _ {W H L : ℕ} {hs : List ℕ} {nay f : Bool} {o : List ℕ} (q : setUpQuestion W L n ≡ 0) (wide : W ≤ k) (e : Begun n k W H L hs nay f o s) (p : 0 < l .part) where
-    not-nay : 3 ≤ l .part → nay ≡ false
+  module _ {W H L : ℕ} {hs : List ℕ} {nay : ℕ} {f : Bool} {o : List ℕ} (q : setUpQuestion W L n ≡ 0) (wide : W ≤ k) (e : Begun n k W H L hs nay f o s) (p : 0 < l .part) where
+    not-nay : 3 ≤ l .part → nay ≡ 0
     not-nay g = go nay (e .last)
       where
-        go : (b : Bool) → (b ≡ true → l .part < 3) → b ≡ false
-        go false h = refl
-        go true h = absurd (omega (arith, h refl))
+        go : (b : ℕ) → (0 < b → l .part < 3) → b ≡ 0
+        go zero h = refl
+        go (suc b) h = absurd (omega (arith, h (omega arith)))
 
     ended-begun : 3 ≤ l .part → (l .part ≡ 3 → ⊥) → l .length ≤ l .value → Begun n k W H L hs nay f (o ++ leftOn k s) (drawScene n k (s .listing .input) (s .listing .writer) (s .store) (s .row))
     ended-begun g d h =
         subst (λ b. Begun n k W H L hs b f (o ++ leftOn k s) (drawScene n k (s .listing .input) (s .listing .writer) (s .store) (s .row))) (sym (not-nay g))
         (draw-begun n k W H L q wide (s .listing .input) (s .listing .writer) (s .store) (s .row) hs f (o ++ leftOn k s) (e .drawn) (e .ran)
-        (ap (λ y. o ++ y) (sym (left-past-end k (s .row) l g d h)) ∙ e .text ∙ ap (λ b. (sizeLine W H L ++ drawnText (e .drawn)) ++ pick b refusedLine []) (not-nay g) ∙ append-nil _))
+        (ap (λ y. o ++ y) (sym (left-past-end k (s .row) l g d h)) ∙ e .text ∙ ap (λ b. (sizeLine W H L ++ drawnText (e .drawn)) ++ answerLine b) (not-nay g) ∙ append-nil _))
 
     wholly-begun : Begun n k W H L hs nay f (o ++ leftOn k s) (advanceScene n k s)
     wholly-begun =
@@ -109,11 +108,11 @@ module _ (n k : ℕ) (s : Scene) where
 
   pub wholly-told : storeLength 1025 5 ≤ n → 1025 ≤ k → 0 < l .part → {E : List Event} {f : Bool} {o : List ℕ} → Told n k E f o s → Told n k E f (o ++ leftOn k s) (advanceScene n k s)
   wholly-told store row p (quiet a b c d e) = absurd (omega arith)
-  wholly-told store row p {E} {f} {o} (refused a b c d e) = subst (Told n k E f (o ++ leftOn k s)) (sym (to-none d)) (refused a b c (omega arith) (short-moved o p d e))
+  wholly-told store row p {E} {f} {o} (refused q a b c d e) = subst (Told n k E f (o ++ leftOn k s)) (sym (to-none d)) (refused q a b c (omega arith) (short-moved o p d e))
   wholly-told store row p {E} {f} {o} (begun W H L hs nay a b c d e) =
       begun W H L hs nay a b c (subst (λ y. InputAt y (W * H) hs nay f) (sym (wholly-input (set-up-in n store b) (omega (arith, b .columns)) e p)) d) (wholly-begun (set-up-in n store b) (omega (arith, b .columns)) e p)
 
   pub told-input : storeLength 1025 5 ≤ n → 1025 ≤ k → 0 < l .part → {E : List Event} {f : Bool} {o : List ℕ} → Told n k E f o s → advanceScene n k s .listing .input ≡ s .listing .input
   told-input store row p (quiet a b c d e) = absurd (omega arith)
-  told-input store row p (refused a b c d e) = ap (λ y. y .listing .input) (to-none d)
+  told-input store row p (refused q a b c d e) = ap (λ y. y .listing .input) (to-none d)
   told-input store row p (begun W H L hs nay a b c d e) = wholly-input (set-up-in n store b) (omega (arith, b .columns)) e p

@@ -12,8 +12,8 @@ use borrow.Author.Tests.{ne-eqb}
 use Rattle.numbers.specs.Signal.{pick, both}
 use Rattle.wavelet.specs.Limits.{maxHeight}
 use Rattle.wavelet.specs.Questions.{ask}
-use Rattle.pgm.specs.Samples.{heightsOf}
-use Rattle.pgm.proofs.RunReads.{heights-count}
+use Rattle.pgm.specs.Samples.{sampleSize, heightsOf}
+use Rattle.pgm.proofs.RunReads.{heights-first, bytes-room, bytes-more}
 use Rattle.writer.specs.Level.{Memory}
 use Rattle.writer.specs.FiveThreeLevel.{fiveThree}
 use Rattle.writer.specs.Taking.{Taking, oneMore, takes, begun, complete, heightPut, rowMakes, offering}
@@ -23,10 +23,11 @@ use Rattle.writer.specs.Calls.{took, offerReply, offerStore}
 use Rattle.writer.specs.declared.Writer.{Writer}
 use Rattle.listing.specs.Hearing.{heightsCame}
 use Rattle.listing.specs.Scenes.{Scene, scene, Leaves, drawScene, hearScene}
-use Rattle.listing.specs.Moves.{Idle, hears, takes as offers, Reads}
+use Rattle.listing.specs.Moves.{Idle, largestOn, hears, takes as offers, Reads}
 use Rattle.listing.specs.declared.input.Input.{Input}
 use Rattle.listing.specs.declared.listing.Listing.{Listing}
 use Rattle.listing.proofs.MoveLaws.{one}
+use Rattle.listing.proofs.NextLaws.{is-some}
 use Rattle.listing.proofs.WritingMoves.{left-is}
 
 -- ---- a byte
@@ -99,17 +100,16 @@ passed s n run x j e =
     rw (y .1) (record { most = taken-most run s x; some = λ h. taken-some run s n x h (y .0) })
 
 -- ---- heights together
-heights-size : (p : List ℕ) (a c : ℕ) → a + 2 * c ≤ length p → length (heightsOf (take (2 * c) (drop a p))) ≡ c
-heights-size p a c h =
-    let e : length (take (2 * c) (drop a p)) ≡ 2 * c = length-take-le (2 * c) (drop a p) (simp length-drop (omega arith)) in
-    heights-count (take (2 * c) (drop a p)) ∙ omega arith
+heights-size : (m : ℕ) (s : List ℕ) (c : ℕ) → c ≤ length (heightsOf m s) → length (heightsOf m (take (sampleSize m * c) s)) ≡ c
+heights-size m s c h = ap length (heights-first m s c) ∙ length-take-le c (heightsOf m s) h
 
 -- a run is c heights of the piece p from place a on, no more than are still to come
 pub record Run (s : Scene) (p : List ℕ) (a c : ℕ) (run : List ℕ) : Type 0 where
-  pub heights : run ≡ heightsOf (take (2 * c) (drop a p))
+  pub heights : run ≡ heightsOf (largestOn s) (take (sampleSize (largestOn s) * c) (drop a p))
   pub left : c ≤ s .listing .input .left
   pub some : 0 < c
-  pub room : a + 2 * c ≤ length p
+  pub there : c ≤ length (heightsOf (largestOn s) (drop a p))
+  pub place : a ≤ length p
 
 -- a part of m places was lent to read n heights and came back
 module _ (run part : List ℕ) (m n : ℕ) (fits : m ≤ length run) (same : length part ≡ length (take m run)) where
@@ -119,43 +119,61 @@ module _ (run part : List ℕ) (m n : ℕ) (fits : m ≤ length run) (same : len
   pub back-room : n ≤ length (take m run) → n ≤ length (part ++ drop m run)
   back-room h = omega (arith, back-size, length-take-le m run fits)
 
-pub run-read : (s : Scene) (p run part : List ℕ) (a m n : ℕ) → m ≡ min (s .listing .input .left) (length run) → 0 < s .listing .input .left → 0 < length run → a + 2 ≤ length p
-    → n ≡ min ((length p - a) / 2) (length (take m run)) → part ≡ heightsOf (take (2 * n) (drop a p)) ++ drop n (take m run) → Run s p a n (take n (part ++ drop m run))
-run-read s p run part a m n em hl hr hp en ep =
+pub run-read : (s : Scene) (p run part : List ℕ) (a m n : ℕ) → m ≡ min (s .listing .input .left) (length run) → (n ≡ 0 → ⊥) → a + 2 ≤ length p
+    → n ≡ min (length (heightsOf (largestOn s) (drop a p))) (length (take m run)) → part ≡ take n (heightsOf (largestOn s) (drop a p)) ++ drop n (take m run)
+    → Run s p a n (take n (part ++ drop m run))
+run-read s p run part a m n em some hp en ep =
+    let hs : List ℕ = heightsOf (largestOn s) (drop a p) in
     let size : length (take m run) ≡ m = length-take-le m run (omega arith) in
-    let room : a + 2 * n ≤ length p = omega arith in
+    let there : n ≤ length (heightsOf (largestOn s) (drop a p)) = omega arith in
     record {
       heights =
           ap (λ x. take n (x ++ drop m run)) ep
-          ∙ ap (take n) (append-assoc (heightsOf (take (2 * n) (drop a p))) (drop n (take m run)) (drop m run))
-          ∙ take-at (heightsOf (take (2 * n) (drop a p))) (drop n (take m run) ++ drop m run) n (heights-size p a n room);
+          ∙ ap (take n) (append-assoc (take n hs) (drop n (take m run)) (drop m run))
+          ∙ take-at (take n hs) (drop n (take m run) ++ drop m run) n (length-take-le n hs there)
+          ∙ sym (heights-first (largestOn s) (drop a p) n);
       left = omega arith;
-      some = omega arith;
-      room = room;
+      some = is-some some;
+      there = there;
+      place = omega arith;
     }
 
 module _ (n k : ℕ) (s : Scene) (p : List ℕ) (a c : ℕ) (run : List ℕ) (j : Took) (r : Run s p a c run) (reply : gives j ≡ offerReply (s .listing .writer) n run (s .store)) where
+  abbrev m₀ : ℕ
+  m₀ = largestOn s
+
   abbrev bytes : List ℕ
-  bytes = take (2 * c) (drop a p)
+  bytes = take (sampleSize m₀ * c) (drop a p)
 
   count : length run ≡ c
-  count = ap length (r .heights) ∙ heights-size p a c (r .room)
+  count = ap length (r .heights) ∙ heights-size m₀ (drop a p) c (r .there)
 
-  pub taken-room : a + 2 * j .taken ≤ length p
-  taken-room = omega (arith, passed (s .listing .writer) n run (s .store) j reply .most, count, r .room)
+  -- the bytes of the heights taken
+  abbrev used : ℕ
+  used = sampleSize m₀ * j .taken
+
+  most : j .taken ≤ c
+  most = omega (arith, passed (s .listing .writer) n run (s .store) j reply .most, count)
+
+  in-drop : used ≤ length (drop a p)
+  in-drop = bytes-room m₀ (drop a p) (j .taken) (omega (arith, most, r .there))
+
+  pub taken-room : a + used ≤ length p
+  taken-room = in-piece used in-drop
+    where
+      in-piece : (z : ℕ) → z ≤ length (drop a p) → a + z ≤ length p
+      in-piece z h = omega (arith, length-drop a p, r .place)
 
   pub heights-on : (m : ℕ) (i : Input) (x₁ : Memory) (l : Listing) {x′ z′ : Memory} → Idle s → s .listing .input .phase ≡ 3 → s .listing .input .samples .half ≡ false
       → m ≡ n → i ≡ heightsCame (j .taken) (s .listing .input) → x₁ ≡ offerStore (s .listing .writer) n run (s .store)
-      → Leaves (drawScene m k i (j .writer) x₁ (s .row)) l x′ z′ → Reads n k s p a (a + 2 * j .taken) (scene l x′ z′)
+      → Leaves (drawScene m k i (j .writer) x₁ (s .row)) l x′ z′ → Reads n k s p a (a + used) (scene l x′ z′)
   heights-on m i x₁ l {x′} {z′} idle phase whole em ei ex f =
       let y = passed (s .listing .writer) n run (s .store) j reply in
       let some : 0 < j .taken = y .some (omega (arith, count, r .some)) in
-      let most : 2 * j .taken ≤ 2 * c = omega (arith, y .most, count) in
-      let cut : take (2 * j .taken) bytes ≡ take (2 * j .taken) (drop a p) = take-take (2 * j .taken) (2 * c) (drop a p) most in
-      let size : length (take (2 * j .taken) bytes) ≡ 2 * j .taken =
-      ap length cut ∙ length-take-le (2 * j .taken) (drop a p) (simp length-drop (omega (arith, taken-room))) in
+      let cut : take used bytes ≡ take used (drop a p) = take-take used (sampleSize m₀ * c) (drop a p) (bytes-more m₀ (j .taken) c most .0) in
+      let size : length (take used bytes) ≡ used = ap length cut ∙ length-take-le used (drop a p) in-drop in
       record {
-        bytes = take (2 * j .taken) bytes;
+        bytes = take used bytes;
         goes =
             one
             (offers bytes j idle phase whole
@@ -163,11 +181,14 @@ module _ (n k : ℕ) (s : Scene) (p : List ℕ) (a c : ℕ) (run : List ℕ) (j 
             (ap (λ y. offerReply (s .listing .writer) n y (s .store)) (sym (r .heights)) ∙ sym reply)
             some refl refl
             (left-is f ∙ cc (em, ei, ex, r .heights)));
-        read = sym (ap (λ y. y ++ drop (a + 2 * j .taken) p) cut ∙ ap (λ y. take (2 * j .taken) (drop a p) ++ y) (sym (drop-drop (2 * j .taken) a p)) ∙ take-append-drop (2 * j .taken) (drop a p));
+        read = sym (ap (λ y. y ++ drop (a + used) p) cut ∙ ap (λ y. take used (drop a p) ++ y) (sym (drop-drop used a p)) ∙ take-append-drop used (drop a p));
         used = ap (λ y. a + y) (sym size);
         part = taken-room;
-        some = omega arith;
+        some = past used (bytes-more m₀ (j .taken) c most .1) some;
       }
+    where
+      past : (z : ℕ) → j .taken ≤ z → 0 < j .taken → a < a + z
+      past z h g = omega arith
 
 -- an offer that was turned away left the store as it was
 pub still-there : {n n′ k : ℕ} {l : Listing} {x x′ z : Memory} {p : List ℕ} {a a′ : ℕ} {s′ : Scene} → n′ ≡ n → x′ ≡ x → Reads n′ k (scene l x′ z) p a a′ s′ → Reads n k (scene l x z) p a a′ s′

@@ -2,17 +2,16 @@
 use mathlib.Core.Bool.{Bool, true, false}
 use mathlib.Core.Path.{_≡_, refl, sym, ap, ap₂, _∙_}
 use mathlib.Core.List.{List, [], _∷_, _++_, map, append-nil}
-use Prim.Native.Nat.{ℕ, _*_}
+use Prim.Native.Nat.{ℕ, zero, suc}
 use native.Mathlib.Omega.{arith}
 use lib.Dec.{ltb, eqb}
-use lib.ListN.{length, take}
+use lib.ListN.{length}
 use borrow.Author.Tests.{le-ltb, eqb-true}
 use Rattle.numbers.specs.Signal.{pick}
 use Rattle.pgm.specs.Header.{Read, found, short, wrong}
-use Rattle.pgm.specs.Samples.{heightsOf}
-use Rattle.listing.specs.Lines.{refusedLine}
-use Rattle.listing.specs.Listing.{Shape, cells, headOf, heightsTaken, linesDue, bodyOf, bodyDue, listingOf, dueOf}
-use Rattle.listing.specs.Telling.{Event, begins, height, refusal, Ending, whole, few, over, Telling, told, heightsTell, headTells, tellingOf}
+use Rattle.listing.specs.Lines.{refusedLine, answerLine}
+use Rattle.listing.specs.Listing.{Shape, Head, cells, headOf, heightsTaken, tooLarge, bytesOf, refusalIn, linesDue, bodyOf, bodyDue, listingOf, dueOf}
+use Rattle.listing.specs.Telling.{Event, begins, height, refusal, answerEvents, Ending, whole, few, over, Telling, told, heightsTell, headTells, tellingOf}
 use Rattle.listing.proofs.DrawnText.{heightsIn, refusedIn, textOf, endText}
 
 -- ---- the events of some heights, and then some more
@@ -26,69 +25,71 @@ unfolding refusedIn
 refused-in [] es = refl
 refused-in (v ∷ l) es = refused-in l es
 
-abbrev lastly : Bool → List Event
-lastly t = pick t (refusal ∷ []) []
-
 -- a refusal after them is no height
-last-heights : (t : Bool) → heightsIn (lastly t) ≡ []
+last-heights : (t : ℕ) → heightsIn (answerEvents t) ≡ []
 unfolding heightsIn
-last-heights true = refl
-last-heights false = refl
+last-heights zero = refl
+last-heights (suc t) = refl
 
-last-refused : (t : Bool) → refusedIn (lastly t) ≡ t
+last-refused : (t : ℕ) → refusedIn (answerEvents t) ≡ t
 unfolding refusedIn
-last-refused true = refl
-last-refused false = refl
+last-refused zero = refl
+last-refused (suc t) = refl
 
 -- what is due of the head, some heights, and perhaps a refusal
-pub text-of : (f : Bool) (q : Shape) (l : List ℕ) (t : Bool) → textOf f (begins q ∷ (map height l ++ pick t (refusal ∷ []) [])) ≡ linesDue q l f ++ pick t refusedLine []
+pub text-of : (f : Bool) (q : Shape) (l : List ℕ) (t : ℕ) → textOf f (begins q ∷ (map height l ++ answerEvents t)) ≡ linesDue q l f ++ answerLine t
 unfolding textOf
 text-of f q l t =
-    ap₂ (λ a b. linesDue q a f ++ pick b refusedLine [])
-    (heights-in l (lastly t) ∙ ap (λ k. l ++ k) (last-heights t) ∙ append-nil l)
-    (refused-in l (lastly t) ∙ last-refused t)
+    ap₂ (λ a b. linesDue q a f ++ answerLine b)
+    (heights-in l (answerEvents t) ∙ ap (λ k. l ++ k) (last-heights t) ∙ append-nil l)
+    (refused-in l (answerEvents t) ∙ last-refused t)
 
 -- ---- while more may come
-due-body : (q : Shape) (r : List ℕ) → bodyDue q r ≡ textOf false (begins q ∷ heightsTell (cells q) r .events)
-unfolding bodyDue heightsTell heightsTaken
-due-body q r = sym (text-of false q (take (cells q) (heightsOf r)) (ltb (2 * cells q) (length r)))
+due-body : (q : Shape) (m : ℕ) (r : List ℕ) → bodyDue q m r ≡ textOf false (begins q ∷ heightsTell m (cells q) r .events)
+unfolding bodyDue heightsTell
+due-body q m r = sym (text-of false q (heightsTaken m (cells q) r) (refusalIn m (cells q) r))
 
 pub due-told : (u : List ℕ) → dueOf u ≡ textOf false (tellingOf u .events)
 unfolding dueOf tellingOf textOf
 due-told u = go (headOf u)
   where
-    go : (x : Read Shape) → elim x [ found q r ↦ bodyDue q r | short ↦ [] | wrong ↦ refusedLine ] ≡ textOf false (headTells x .events)
-    go (found q r) = due-body q r
+    go : (x : Read Head) → elim x [ found h r ↦ bodyDue (h .shape) (h .largest) r | short ↦ [] | wrong ↦ refusedLine 15 ] ≡ textOf false (headTells x .events)
+    go (found h r) = due-body (h .shape) (h .largest) r
     go short = refl
     go wrong = refl
 
 -- ---- with the end of the input
--- the ending, as the two tests of the definition tell it: s, are the bytes as many as the heights want; t, are they more
-abbrev endAs : Bool → Bool → Ending
-endAs s t = pick s whole (pick t over few)
+-- the ending, as the three tests of the definition tell it: u, is a sample too large; s, are the bytes as many as the samples want; t, are they more
+abbrev endAs : Bool → Bool → Bool → Ending
+endAs u s t = pick u over (pick s whole (pick t over few))
 
-abbrev tells : Shape → List ℕ → Bool → Bool → Telling
-tells q l s t = record { events = begins q ∷ (map height l ++ pick t (refusal ∷ []) []); ending = endAs s t }
+abbrev answer : Bool → Bool → ℕ
+answer u t = pick u 16 (pick t 15 0)
 
-end-body : (q : Shape) (l : List ℕ) (s t : Bool) → (s ≡ true → t ≡ false)
-    → pick s (linesDue q l true) (linesDue q l false ++ refusedLine) ≡ endText (tells q l s t)
-end-body q l true t h = sym (append-nil (linesDue q l true)) ∙ ap (λ b. linesDue q l true ++ pick b refusedLine []) (sym (h refl)) ∙ sym (text-of true q l t)
-end-body q l false true h = sym (text-of false q l true)
-end-body q l false false h = ap (λ k. k ++ refusedLine) (sym (append-nil (linesDue q l false)) ∙ sym (text-of false q l false))
+abbrev tells : Shape → List ℕ → Bool → Bool → Bool → Telling
+tells q l u s t = record { events = begins q ∷ (map height l ++ answerEvents (answer u t)); ending = endAs u s t }
+
+end-body : (q : Shape) (l : List ℕ) (u s t : Bool) → (s ≡ true → t ≡ false)
+    → pick u (linesDue q l false ++ refusedLine 16) (pick s (linesDue q l true) (linesDue q l false ++ refusedLine 15)) ≡ endText (tells q l u s t)
+end-body q l true s t h = sym (text-of false q l 16)
+end-body q l false true t h = sym (append-nil (linesDue q l true)) ∙ ap (λ b. linesDue q l true ++ answerLine (answer false b)) (sym (h refl)) ∙ sym (text-of true q l (answer false t))
+end-body q l false false true h = sym (text-of false q l 15)
+end-body q l false false false h = ap (λ k. k ++ refusedLine 15) (sym (append-nil (linesDue q l false)) ∙ sym (text-of false q l 0))
 
 same-not-more : (n k : ℕ) → eqb k n ≡ true → ltb n k ≡ false
 same-not-more n k e = le-ltb n k (omega (arith, eqb-true k n e))
 
-listing-body : (q : Shape) (r : List ℕ) → bodyOf q r ≡ endText (told (begins q) (heightsTell (cells q) r))
-unfolding bodyOf heightsTell heightsTaken
-listing-body q r =
-    end-body q (take (cells q) (heightsOf r)) (eqb (length r) (2 * cells q)) (ltb (2 * cells q) (length r)) (same-not-more (2 * cells q) (length r))
+listing-body : (q : Shape) (m : ℕ) (r : List ℕ) → bodyOf q m r ≡ endText (told (begins q) (heightsTell m (cells q) r))
+unfolding bodyOf heightsTell refusalIn
+listing-body q m r =
+    let n : ℕ = bytesOf m (cells q) in
+    end-body q (heightsTaken m (cells q) r) (tooLarge m (cells q) r) (eqb (length r) n) (ltb n (length r)) (same-not-more n (length r))
 
 pub listing-told : (u : List ℕ) → listingOf u ≡ endText (tellingOf u)
 unfolding listingOf tellingOf textOf
 listing-told u = go (headOf u)
   where
-    go : (x : Read Shape) → elim x [ found q r ↦ bodyOf q r | short ↦ refusedLine | wrong ↦ refusedLine ] ≡ endText (headTells x)
-    go (found q r) = listing-body q r
+    go : (x : Read Head) → elim x [ found h r ↦ bodyOf (h .shape) (h .largest) r | short ↦ refusedLine 15 | wrong ↦ refusedLine 15 ] ≡ endText (headTells x)
+    go (found h r) = listing-body (h .shape) (h .largest) r
     go short = refl
     go wrong = refl

@@ -18,13 +18,13 @@ use Rattle.listing.specs.declared.input.Ended.{Ended}
 use Rattle.listing.specs.declared.input.Ended.the-variants as ended
 
 abbrev pub silent : Input
-silent = record { phase = 0; levels = 0; header = begun 0; left = 0; samples = noByte }
+silent = record { phase = 0; levels = 0; header = begun 0; left = 0; samples = noByte 0 }
 
 abbrev pub phased : ℕ → Input → Input
 phased p i = record { phase = p; levels = i .levels; header = i .header; left = i .left; samples = i .samples }
 
 abbrev pub nay : Input → Heard
-nay i = heard.Refused (phased 4 i)
+nay i = heard.Refused (phased 4 i) 15
 
 unfoldable pub levelsHeard : Input → ℕ → Heard
 levelsHeard i b =
@@ -35,15 +35,15 @@ levelsHeard i b =
 unfoldable pub lineFeedHeard : Input → ℕ → Heard
 lineFeedHeard i b = pick (eqb b 10) (heard.More (phased 2 i)) (nay i)
 
-unfoldable pub shapeHeard : Input → ℕ → ℕ → Heard
-shapeHeard i w h =
+unfoldable pub shapeHeard : Input → ℕ → ℕ → ℕ → Heard
+shapeHeard i w h m =
     pick (shapeFits w h)
-    (heard.Begun (record { phase = 3; levels = i .levels; header = i .header; left = w * h; samples = i .samples }) w h)
+    (heard.Begun (record { phase = 3; levels = i .levels; header = i .header; left = w * h; samples = noByte m }) w h)
     (nay i)
 
 abbrev pub nextHeard : Input → Next → Heard
 nextHeard i (next.More k) = heard.More (record { phase = 2; levels = i .levels; header = k; left = i .left; samples = i .samples })
-nextHeard i (next.Done w h) = shapeHeard i w h
+nextHeard i (next.Done w h m) = shapeHeard i w h m
 nextHeard i next.Refused = nay i
 
 unfoldable pub headerHeard : Input → ℕ → Heard
@@ -51,7 +51,8 @@ headerHeard i b = nextHeard i (stepOf (i .header) b)
 
 abbrev pub sampleHeard : Input → Sample → Heard
 sampleHeard i (sample.Half x) = heard.More (record { phase = 3; levels = i .levels; header = i .header; left = i .left; samples = x })
-sampleHeard i (sample.Height v) = heard.Height (record { phase = 3; levels = i .levels; header = i .header; left = i .left - 1; samples = noByte }) v
+sampleHeard i (sample.Height v) = heard.Height (record { phase = 3; levels = i .levels; header = i .header; left = i .left - 1; samples = noByte (i .samples .largest) }) v
+sampleHeard i sample.TooLarge = heard.Refused (phased 4 i) 16
 
 unfoldable pub heightHeard : Input → ℕ → Heard
 heightHeard i b = pick (eqb (i .left) 0) (nay i) (sampleHeard i (sampleOf (i .samples) b))
@@ -73,4 +74,4 @@ endHeard i =
 
 -- j heights more have come whole
 abbrev pub heightsCame : ℕ → Input → Input
-heightsCame j i = record { phase = i .phase; levels = i .levels; header = i .header; left = i .left - j; samples = noByte }
+heightsCame j i = record { phase = i .phase; levels = i .levels; header = i .header; left = i .left - j; samples = noByte (i .samples .largest) }

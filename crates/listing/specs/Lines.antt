@@ -43,5 +43,10 @@ unfoldable pub sizeLine : ℕ → ℕ → ℕ → List ℕ
 sizeLine W H L = numeral W ++ (32 ∷ numeral H) ++ (32 ∷ numeral L) ++ (10 ∷ [])
 
 -- "A refusal prints "refused", one space and the number, on a line"
-abbrev pub refusedLine : List ℕ
-refusedLine = 114 ∷ 101 ∷ 102 ∷ 117 ∷ 115 ∷ 101 ∷ 100 ∷ 32 ∷ 49 ∷ 53 ∷ 10 ∷ []
+unfoldable pub refusedLine : ℕ → List ℕ
+refusedLine q = 114 ∷ 101 ∷ 102 ∷ 117 ∷ 115 ∷ 101 ∷ 100 ∷ 32 ∷ (numeral q ++ (10 ∷ []))
+
+-- the line of an answer: none of 0, which is no refusal
+abbrev pub answerLine : ℕ → List ℕ
+answerLine zero = []
+answerLine (suc q) = refusedLine (suc q)

@@ -1,5 +1,6 @@
--- What the listing program writes, as a definition on the bytes of its input. Document 01, "The listing program" and question 15.
+-- What the listing program writes, as a definition on the bytes of its input. Document 01, "The listing program" and question 15; document 02, Q-1.
 use mathlib.Core.Bool.{Bool, true, false}
+use mathlib.Core.Path.{_≡_}
 use mathlib.Core.List.{List, [], _∷_, _++_}
 use Prim.Native.Nat.{ℕ, _+_, _*_, _/_}
 use lib.IntN.{pos}
@@ -11,8 +12,8 @@ use Rattle.wavelet.specs.Order.{made}
 use Rattle.wavelet.specs.Questions.{within}
 use Rattle.pgm.specs.Characters.{digitValue}
 use Rattle.pgm.specs.Header.{Read, found, short, wrong, andThen, is, one, headerOf}
-use Rattle.pgm.specs.Samples.{heightsOf}
-use Rattle.listing.specs.Lines.{linesOf, sizeLine, refusedLine}
+use Rattle.pgm.specs.Samples.{sampleSize, samplesOf, exceeds, heightsOf}
+use Rattle.listing.specs.Lines.{linesOf, sizeLine, refusedLine, answerLine}
 
 -- ---- the head: "one digit for L, a newline, then a binary PGM"
 -- question 15: "is the header as below, with L 1 to 5, width 1 to 1,025, height 1 to 65,535?"
@@ -30,23 +31,40 @@ maxListedWidth = 1025
 unfoldable pub shapeFits : ℕ → ℕ → Bool
 shapeFits W H = both (within 1 maxListedWidth W) (within 1 65535 H)
 
-unfoldable pub headEnd : ℕ → ℕ → ℕ → List ℕ → Read Shape
-headEnd L W H s = pick (shapeFits W H) (found (record { width = W; height = H; levels = L }) s) wrong
+-- the map's shape and the largest value of a sample
+pub record Head : Type 0 where
+  pub shape : Shape
+  pub largest : ℕ
 
-unfoldable pub headOf : List ℕ → Read Shape
+unfoldable pub headEnd : ℕ → ℕ → ℕ → ℕ → List ℕ → Read Head
+headEnd L W H m s = pick (shapeFits W H) (found (record { shape = record { width = W; height = H; levels = L }; largest = m }) s) wrong
+
+unfoldable pub headOf : List ℕ → Read Head
 headOf s =
     andThen (one levelDigit s) λ d s.
     andThen (one (is 10) s) λ _ s.
     andThen (headerOf s) λ z s.
-    headEnd (digitValue d) (z .width) (z .height) s
+    headEnd (digitValue d) (z .width) (z .height) (z .largest) s
 
--- ---- the heights: r is the bytes after the head
+-- ---- the heights: r is the bytes after the head, m the largest value, n how many heights the map has
 abbrev pub cells : Shape → ℕ
 cells q = q .width * q .height
 
--- at most W × H heights are taken
-unfoldable pub heightsTaken : Shape → List ℕ → List ℕ
-heightsTaken q r = take (cells q) (heightsOf r)
+-- at most n heights are taken, and none from a sample on that exceeds the largest value
+unfoldable pub heightsTaken : ℕ → ℕ → List ℕ → List ℕ
+heightsTaken m n r = take n (heightsOf m r)
+
+-- question 16: "asked of each sample as it is read, if the sample exceeds the largest value"
+unfoldable pub tooLarge : ℕ → ℕ → List ℕ → Bool
+tooLarge m n r = exceeds m (take n (samplesOf m r))
+
+-- the bytes of n samples
+abbrev pub bytesOf : ℕ → ℕ → ℕ
+bytesOf m n = sampleSize m * n
+
+-- the refusal that the bytes so far bring, 0 for none: 16 for a sample, 15 for a byte after the last sample
+unfoldable pub refusalIn : ℕ → ℕ → List ℕ → ℕ
+refusalIn m n r = pick (tooLarge m n r) 16 (pick (ltb (bytesOf m n) (length r)) 15 0)
 
 -- the map that begins with some heights, row by row
 unfoldable pub gridOf : ℕ → List ℕ → Grid
@@ -59,19 +77,30 @@ linesDue q hs finished =
     ++ linesOf (q .width) (q .height) (gridOf (q .width) hs) (made (q .width) (q .levels) (length hs / q .width) finished)
 
 -- "Asked again before the finish: are the height bytes neither too few nor too many?" A refusal comes "on a line after all lines that the heights before it made due".
-unfoldable pub bodyOf : Shape → List ℕ → List ℕ
-bodyOf q r =
-    pick (eqb (length r) (2 * cells q))
-    (linesDue q (heightsTaken q r) true)
-    (linesDue q (heightsTaken q r) false ++ refusedLine)
+unfoldable pub bodyOf : Shape → ℕ → List ℕ → List ℕ
+bodyOf q m r =
+    pick (tooLarge m (cells q) r)
+    (linesDue q (heightsTaken m (cells q) r) false ++ refusedLine 16)
+    (pick (eqb (length r) (bytesOf m (cells q)))
+    (linesDue q (heightsTaken m (cells q) r) true)
+    (linesDue q (heightsTaken m (cells q) r) false ++ refusedLine 15))
 
 -- ---- all that is written, once the input has ended
 unfoldable pub listingOf : List ℕ → List ℕ
-listingOf s = elim (headOf s) [ found q r ↦ bodyOf q r | short ↦ refusedLine | wrong ↦ refusedLine ]
+listingOf s = elim (headOf s) [ found h r ↦ bodyOf (h .shape) (h .largest) r | short ↦ refusedLine 15 | wrong ↦ refusedLine 15 ]
 
 -- ---- what is due while more input may come: no finish, no refusal for a want of bytes
-unfoldable pub bodyDue : Shape → List ℕ → List ℕ
-bodyDue q r = linesDue q (heightsTaken q r) false ++ pick (ltb (2 * cells q) (length r)) refusedLine []
+unfoldable pub bodyDue : Shape → ℕ → List ℕ → List ℕ
+bodyDue q m r = linesDue q (heightsTaken m (cells q) r) false ++ answerLine (refusalIn m (cells q) r)
 
 unfoldable pub dueOf : List ℕ → List ℕ
-dueOf s = elim (headOf s) [ found q r ↦ bodyDue q r | short ↦ [] | wrong ↦ refusedLine ]
+dueOf s = elim (headOf s) [ found h r ↦ bodyDue (h .shape) (h .largest) r | short ↦ [] | wrong ↦ refusedLine 15 ]
+
+-- ---- an input that is accepted: no question says no. L, size and heights are all that its listing shows (proofs/ListingSame)
+pub record Accepted (s : List ℕ) (q : Shape) (hs : List ℕ) : Type 0 where
+  pub largest : ℕ
+  pub rest : List ℕ
+  pub head : headOf s ≡ found (record { shape = q; largest = largest }) rest
+  pub within : tooLarge largest (cells q) rest ≡ false
+  pub bytes : length rest ≡ bytesOf largest (cells q)
+  pub heights : hs ≡ heightsTaken largest (cells q) rest

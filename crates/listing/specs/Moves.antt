@@ -5,7 +5,7 @@ use mathlib.Core.Path.{_≡_}
 use mathlib.Core.List.{List, [], _∷_, _++_}
 use Prim.Native.Nat.{ℕ, _+_, _-_, _*_, _≤_, _<_}
 use lib.ListN.{length, take, drop}
-use Rattle.pgm.specs.Samples.{heightsOf}
+use Rattle.pgm.specs.Samples.{sampleSize, heightsOf}
 use Rattle.writer.specs.Level.{Memory}
 use Rattle.writer.specs.Answers.{gives, Took}
 use Rattle.writer.specs.Calls.{offerReply, offerStore}
@@ -18,6 +18,10 @@ use Rattle.listing.specs.declared.listing.Listing.{Listing}
 
 abbrev pub lineOn : Scene → Line
 lineOn s = s .listing .line
+
+-- the largest value of a sample
+abbrev pub largestOn : Scene → ℕ
+largestOn s = s .listing .input .samples .largest
 
 -- no line is being written
 abbrev pub Idle : Scene → Type 0
@@ -43,10 +47,10 @@ pub data Move (n k : ℕ) (s : Scene) (u t : List ℕ) (s′ : Scene) : Type 0 w
   -- a byte is heard
   hears : (b : ℕ) → Idle s → u ≡ b ∷ [] → t ≡ [] → s′ ≡ hearScene n k b s → Move n k s u t s′
   -- heights that came together are offered together, and the writer takes some of them
-  takes : (bytes : List ℕ) (j : Took) → Idle s → s .listing .input .phase ≡ 3 → s .listing .input .samples .half ≡ false → length (heightsOf bytes) ≤ s .listing .input .left
-      → offerReply (s .listing .writer) n (heightsOf bytes) (s .store) ≡ gives j → 0 < j .taken
-      → u ≡ take (2 * j .taken) bytes → t ≡ []
-      → s′ ≡ drawScene n k (heightsCame (j .taken) (s .listing .input)) (j .writer) (offerStore (s .listing .writer) n (heightsOf bytes) (s .store)) (s .row)
+  takes : (bytes : List ℕ) (j : Took) → Idle s → s .listing .input .phase ≡ 3 → s .listing .input .samples .half ≡ false → length (heightsOf (largestOn s) bytes) ≤ s .listing .input .left
+      → offerReply (s .listing .writer) n (heightsOf (largestOn s) bytes) (s .store) ≡ gives j → 0 < j .taken
+      → u ≡ take (sampleSize (largestOn s) * j .taken) bytes → t ≡ []
+      → s′ ≡ drawScene n k (heightsCame (j .taken) (s .listing .input)) (j .writer) (offerStore (s .listing .writer) n (heightsOf (largestOn s) bytes) (s .store)) (s .row)
       → Move n k s u t s′
 
 -- any number of moves, one after the other

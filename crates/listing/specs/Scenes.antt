@@ -83,7 +83,7 @@ abbrev pub heardTo : ℕ → ℕ → Writer → Memory → Memory → Heard → 
 heardTo n k w x z (heard.More i) = scene (listed i w noLine) x z
 heardTo n k w x z (heard.Begun i W H) = beginScene n i w W H x z
 heardTo n k w x z (heard.Height i v) = offerScene n k i w v x z
-heardTo n k w x z (heard.Refused i) = scene (refusedTo i w 15) x z
+heardTo n k w x z (heard.Refused i q) = scene (refusedTo i w q) x z
 
 unfoldable pub hearScene : ℕ → ℕ → ℕ → Scene → Scene
 hearScene n k b s = heardTo n k (s .listing .writer) (s .store) (s .row) (hears (s .listing .input) b)

@@ -24,8 +24,8 @@ pub enum Heard {
     // The header ended: width and height.
     Begun(Input, usize, usize),
     Height(Input, u16),
-    // Question 15 says no.
-    Refused(Input),
+    // A question says no: 15 or 16.
+    Refused(Input, u8),
 }
 
 // What the end of the input tells.
@@ -34,7 +34,7 @@ pub enum Ended {
     Whole(Input),
     // Question 15 says no.
     Short(Input),
-    // It said no before.
+    // A question said no before.
     Before,
 }
 
@@ -47,7 +47,7 @@ impl Input {
             levels: 0,
             header: Header::start(),
             left: 0,
-            samples: Samples::start(),
+            samples: Samples::start(0),
         }
     }
 
@@ -70,13 +70,14 @@ impl Input {
         ensures { λ r. ⌜ r ≡ heightsCame count self ⌝ }
     {
         let header = self.header;
+        let samples = self.samples;
         let left = less(self.left, count);
         Input {
             phase: self.phase,
             levels: self.levels,
             header,
             left,
-            samples: Samples::start(),
+            samples: Samples::start(samples.largest),
         }
     }
 
@@ -84,10 +85,10 @@ impl Input {
         ensures { λ r. ⌜ r ≡ levelsHeard self byte ⌝ }
     {
         if byte < b'1' {
-            return Heard::Refused(self.at_phase(4));
+            return Heard::Refused(self.at_phase(4), 15);
         }
         if b'5' < byte {
-            return Heard::Refused(self.at_phase(4));
+            return Heard::Refused(self.at_phase(4), 15);
         }
         let header = self.header;
         let samples = self.samples;
@@ -106,28 +107,27 @@ impl Input {
         if byte == b'\n' {
             Heard::More(self.at_phase(2))
         } else {
-            Heard::Refused(self.at_phase(4))
+            Heard::Refused(self.at_phase(4), 15)
         }
     }
 
-    fn begin(self, width: usize, height: usize) -> Heard
-        ensures { λ r. ⌜ r ≡ shapeHeard self width height ⌝ }
+    fn begin(self, width: usize, height: usize, largest: usize) -> Heard
+        ensures { λ r. ⌜ r ≡ shapeHeard self width height largest ⌝ }
     {
         if !limits::is_within(width, 1025) {
-            return Heard::Refused(self.at_phase(4));
+            return Heard::Refused(self.at_phase(4), 15);
         }
         if !limits::is_within(height, 65535) {
-            return Heard::Refused(self.at_phase(4));
+            return Heard::Refused(self.at_phase(4), 15);
         }
         let header = self.header;
-        let samples = self.samples;
         Heard::Begun(
             Input {
                 phase: 3,
                 levels: self.levels,
                 header,
                 left: area(width, height),
-                samples,
+                samples: Samples::start(largest),
             },
             width,
             height,
@@ -149,8 +149,8 @@ impl Input {
                     samples,
                 })
             }
-            Next::Done(width, height) => self.begin(width, height),
-            Next::Refused => Heard::Refused(self.at_phase(4)),
+            Next::Done(width, height, largest) => self.begin(width, height, largest),
+            Next::Refused => Heard::Refused(self.at_phase(4), 15),
         }
     }
 
@@ -158,7 +158,7 @@ impl Input {
         ensures { λ r. ⌜ r ≡ heightHeard self byte ⌝ }
     {
         if self.left == 0 {
-            return Heard::Refused(self.at_phase(4));
+            return Heard::Refused(self.at_phase(4), 15);
         }
         let header = self.header;
         let samples = self.samples;
@@ -176,10 +176,11 @@ impl Input {
                     levels: self.levels,
                     header,
                     left: self.left - 1,
-                    samples: Samples::start(),
+                    samples: Samples::start(samples.largest),
                 },
                 height,
             ),
+            Sample::TooLarge => Heard::Refused(self.at_phase(4), 16),
         }
     }
 

@@ -34,7 +34,7 @@ fn read_byte(
     }
 }
 
-// As many whole heights as there are, as are still to come and as fit the run; the writer says how many of them it takes.
+// As many whole heights as there are, as are still to come and as fit the run; the writer says how many of them it takes. Where the next sample is no height, its byte is heard.
 fn read_run(
     listing: Listing,
     piece: &[u8],
@@ -48,12 +48,17 @@ fn read_run(
 {
     let input = listing.input;
     let writer = listing.writer;
+    let state = input.samples;
+    let largest = state.largest;
     let most = copy::least(input.left, run.len());
-    let n = samples::read(piece, used, &mut run[..most]);
+    let n = samples::read(piece, used, largest, &mut run[..most]);
+    if n == 0 {
+        return read_byte(listing, piece, used, store, row);
+    }
     match writer.offer(store, &run[..n]) {
         Offered::Taken(taken, next) => Read {
             listing: scenes::draw(input.took(taken), next, store, row),
-            used: used + 2 * taken,
+            used: used + samples::size(largest) * taken,
         },
         Offered::Refused(_) => read_byte(listing, piece, used, store, row),
     }

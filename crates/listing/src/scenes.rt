@@ -93,7 +93,7 @@ pub fn hear(listing: Listing, byte: u8, store: &mut [i32], row: &mut [i32]) -> L
         },
         Heard::Begun(next, width, height) => begin(next, writer, width, height, store),
         Heard::Height(next, height) => offer(next, writer, height, store, row),
-        Heard::Refused(next) => refuse(next, writer, 15),
+        Heard::Refused(next, number) => refuse(next, writer, number),
     }
 }
 

@@ -9,9 +9,9 @@ use native.Mathlib.Decide.{decLt}
 use lib.Dec.{leb, eqb}
 use borrow.Author.Tests.{lt-leb, le-leb, leb-true, ne-eqb}
 use Rattle.numbers.specs.Signal.{pick, both}
-use Rattle.pgm.specs.Characters.{space, digit, digitValue}
-use Rattle.pgm.specs.Header.{Read, found, short, wrong, andThen, is, one, numberFrom, number, Size, side, sized, headerEnd, headerOf}
-use Rattle.pgm.specs.Steps.{begun, expected, numberEnded, inNumber, stepOf, Fed, still, ended, bad, stepped, feed, feedOn, joined, feedPieces, readBy}
+use Rattle.pgm.specs.Characters.{space, lineEnd, digit, digitValue}
+use Rattle.pgm.specs.Header.{Read, found, short, wrong, andThen, is, one, comment, gap, afterGaps, numberFrom, number, field, Size, side, sized, headerEnd, headerOf}
+use Rattle.pgm.specs.Steps.{staged, begun, expected, commented, gapEnded, gapRead, commentRead, numberEnded, inNumber, stepOf, Fed, still, ended, bad, stepped, feed, feedOn, joined, feedPieces, readBy}
 use Rattle.pgm.specs.declared.header.Header.{Header}
 use Rattle.pgm.specs.declared.header.Next.{Next}
 use Rattle.pgm.specs.declared.header.Next.the-variants.{More, Done, Refused}
@@ -39,15 +39,6 @@ side-cap n =
           rw (cap-large n h, le-leb 1 n (omega arith), lt-leb n 65535 (omega arith))
     ]
 
-largest-cap : (n : ℕ) → eqb (cap n) 65535 ≡ eqb n 65535
-largest-cap n =
-    elim (decLt n 65536) [
-      | yes p ↦ rw (cap-small n p)
-      | no d ↦
-          let h : 65536 ≤ n = omega arith in
-          rw (cap-large n h, ne-eqb n 65535 (λ e. omega arith))
-    ]
-
 side-kept : (n : ℕ) → side n ≡ true → cap n ≡ n
 unfolding side
 side-kept n e = small (leb 1 n) e
@@ -56,58 +47,156 @@ side-kept n e = small (leb 1 n) e
     small true h = let l = leb-true n 65535 h in omega arith
     small false h = let z : _≡_ {A = ℕ} 0 1 = cc in absurd (omega arith)
 
--- ---- a number
--- the state that has read v of the number of stage k, after a width w and a height h
-abbrev kept : ℕ → Bool → ℕ → ℕ → ℕ → Header
-kept k any v w h = record { stage = k; any = any; number = cap v; width = cap w; height = cap h }
+-- ---- a digit is no byte of a gap
+from-digit : (b : ℕ) → digit b ≡ true → 48 ≤ b
+unfolding digit
+from-digit b e = go (leb 48 b) refl e
+  where
+    go : (a : Bool) → leb 48 b ≡ a → both a (leb b 57) ≡ true → 48 ≤ b
+    go true p h = leb-true 48 b p
+    go false p h = let z : _≡_ {A = ℕ} 0 1 = cc in absurd (omega arith)
+
+no-space : (b : ℕ) → 48 ≤ b → space b ≡ false
+unfolding space
+no-space b h = rw (ne-eqb b 32 (λ e. omega arith), ne-eqb b 9 (λ e. omega arith), ne-eqb b 13 (λ e. omega arith), ne-eqb b 10 (λ e. omega arith))
+
+no-mark : (b : ℕ) → 48 ≤ b → eqb b 35 ≡ false
+no-mark b h = ne-eqb b 35 (λ e. omega arith)
+
+-- ---- states and answers
+-- the state that has read v of the number of stage k
+abbrev kept : ℕ → Bool → ℕ → ℕ → ℕ → ℕ → Header
+kept k any v w h m = record { stage = k; comment = false; any = any; number = cap v; width = cap w; height = cap h; largest = cap m }
 
 -- what a step's answer and the bytes s after it come to
 abbrev onward : Next → List ℕ → Read Size
 onward x s = readBy (stepped (λ y. feed y s) s x)
 
--- At a stage whose number's end goes on as f, reading goes by the definition's number and then f.
-module _ (k w h : ℕ) (f : ℕ → List ℕ → Read Size)
-    (late : (any : Bool) (v b : ℕ) → stepOf (kept k any v w h) b ≡ inNumber (kept k any v w h) b)
-    (goes : (any : Bool) (v : ℕ) (s : List ℕ) → onward (numberEnded (kept k any v w h)) s ≡ f v s) where
-  turn : (any d p : Bool) (v b : ℕ) (s : List ℕ) → digit b ≡ d → space b ≡ p
-      → readBy (feed (kept k true (10 * v + digitValue b) w h) s) ≡ andThen (numberFrom true (10 * v + digitValue b) s) f
-      → onward (inNumber (kept k any v w h) b) s ≡ andThen (numberFrom any v (b ∷ s)) f
-  unfolding inNumber numberFrom
-  turn any true p v b s e q r = rw (e, cap-digit) r
-  turn true false true v b s e q r = rw (e, q) (goes true v s)
-  turn true false false v b s e q r = rw (e, q)
-  turn false false p v b s e q r = rw e
+-- first a gap, then more: a comment is read to its end
+after-comment : (f : List ℕ → Read Size) → f [] ≡ short → (s : List ℕ) → andThen (comment s) (λ _ s. f (afterGaps false s)) ≡ f (afterGaps true s)
+unfolding comment afterGaps
+after-comment f e [] = sym e
+after-comment f e (b ∷ s) = go (lineEnd b) (after-comment f e s)
+  where
+    go : (t : Bool) → andThen (comment s) (λ _ s. f (afterGaps false s)) ≡ f (afterGaps true s)
+        → andThen (pick t (found b s) (comment s)) (λ _ s. f (afterGaps false s)) ≡ f (pick t (afterGaps false s) (afterGaps true s))
+    go true h = refl
+    go false h = h
 
-  numbers : (any : Bool) (v : ℕ) (s : List ℕ) → readBy (feed (kept k any v w h) s) ≡ andThen (numberFrom any v s) f
+-- ---- a number
+-- At a stage whose number's end goes on as f, reading goes by the definition's number and then f.
+module _ (k w h m : ℕ) (f : ℕ → List ℕ → Read Size)
+    (late : (any : Bool) (v b : ℕ) → stepOf (kept k any v w h m) b ≡ inNumber (kept k any v w h m) b)
+    (talks : (b : ℕ) → stepOf (staged k true (cap w) (cap h) (cap m)) b ≡ commentRead (staged k true (cap w) (cap h) (cap m)) b)
+    (stays : (c : Bool) → gapEnded (staged k c (cap w) (cap h) (cap m)) ≡ More (kept k false 0 w h m))
+    (goes : (v b : ℕ) (s : List ℕ) → onward (gapRead (numberEnded (kept k true v w h m)) b) s ≡ f v (b ∷ s)) where
+  -- its digits
+  digit-turn : (d : Bool) (v b : ℕ) (s : List ℕ) → digit b ≡ d
+      → readBy (feed (kept k true (10 * v + digitValue b) w h m) s) ≡ andThen (numberFrom true (10 * v + digitValue b) s) f
+      → onward (inNumber (kept k true v w h m) b) s ≡ andThen (numberFrom true v (b ∷ s)) f
+  unfolding inNumber numberFrom
+  digit-turn true v b s e r = rw (e, cap-digit) r
+  digit-turn false v b s e r = rw e (goes v b s)
+
+  digits : (v : ℕ) (s : List ℕ) → readBy (feed (kept k true v w h m) s) ≡ andThen (numberFrom true v s) f
   unfolding feed numberFrom
-  numbers any v [] = refl
-  numbers any v (b ∷ s) =
-      ap (λ x. onward x s) (late any v b)
-      ∙ turn any (digit b) (space b) v b s refl refl (numbers true (10 * v + digitValue b) s)
+  digits v [] = refl
+  digits v (b ∷ s) =
+      ap (λ x. onward x s) (late true v b)
+      ∙ digit-turn (digit b) v b s refl (digits (10 * v + digitValue b) s)
+
+  -- the gaps before it
+  abbrev Gaps : Bool → List ℕ → Type 0
+  Gaps c s = readBy (feed (staged k c (cap w) (cap h) (cap m)) s) ≡ andThen (number (afterGaps c s)) f
+
+  gap-turn : (d p q : Bool) (b : ℕ) (s : List ℕ) → digit b ≡ d → space b ≡ p → eqb b 35 ≡ q → Gaps true s → Gaps false s
+      → onward (inNumber (kept k false 0 w h m) b) s ≡ andThen (number (afterGaps false (b ∷ s))) f
+  unfolding inNumber afterGaps numberFrom gapRead
+  gap-turn true p q b s e x y t u =
+      let l = from-digit b e in
+      rw (no-space b l, no-mark b l, e) (ap (λ n. readBy (feed (record { stage = k; comment = false; any = true; number = n; width = cap w; height = cap h; largest = cap m }) s)) (cap-digit 0 (digitValue b)) ∙ digits (10 * 0 + digitValue b) s)
+  gap-turn false true q b s e x y t u = rw (e, x) (ap (λ z. onward z s) (stays false) ∙ u)
+  gap-turn false false true b s e x y t u = rw (e, x, y) t
+  gap-turn false false false b s e x y t u = rw (e, x, y, e)
+
+  talk-turn : (t : Bool) (b : ℕ) (s : List ℕ) → lineEnd b ≡ t → Gaps true s → Gaps false s
+      → onward (commentRead (staged k true (cap w) (cap h) (cap m)) b) s ≡ andThen (number (afterGaps true (b ∷ s))) f
+  unfolding commentRead afterGaps
+  talk-turn true b s e t u = rw e (ap (λ z. onward z s) (stays true) ∙ u)
+  talk-turn false b s e t u = rw e t
+
+  gaps : (c : Bool) (s : List ℕ) → Gaps c s
+  unfolding feed numberFrom afterGaps
+  gaps c [] = refl
+  gaps true (b ∷ s) = ap (λ x. onward x s) (talks b) ∙ talk-turn (lineEnd b) b s refl (gaps true s) (gaps false s)
+  gaps false (b ∷ s) =
+      ap (λ x. onward x s) (late false 0 b)
+      ∙ gap-turn (digit b) (space b) (eqb b 35) b s refl refl refl (gaps true s) (gaps false s)
+
+  -- the first gap, the gaps after it, and the number
+  entered : (p q : Bool) (b : ℕ) (s : List ℕ) → space b ≡ p → eqb b 35 ≡ q → onward (gapRead (kept k false 0 w h m) b) s ≡ andThen (field (b ∷ s)) f
+  unfolding gapRead field gap numberFrom
+  entered true q b s x y = rw x (ap (λ z. onward z s) (stays false) ∙ gaps false s)
+  entered false true b s x y = rw (x, y) (gaps true s ∙ sym (after-comment (λ s. andThen (number s) f) refl s) ∙ sym (then-on (comment s)))
+    where
+      then-on : (r : Read ℕ) → andThen (andThen r (λ _ s. number (afterGaps false s))) f ≡ andThen r (λ _ s. andThen (number (afterGaps false s)) f)
+      then-on (found a s) = refl
+      then-on short = refl
+      then-on wrong = refl
+  entered false false b s x y = rw (x, y)
+
+  enters : (b : ℕ) (s : List ℕ) → onward (gapRead (kept k false 0 w h m) b) s ≡ andThen (field (b ∷ s)) f
+  enters b s = entered (space b) (eqb b 35) b s refl refl
 
 -- ---- the header's end
-last : (w h m : ℕ) (a b c : Bool) (s : List ℕ) → side w ≡ a → side h ≡ b → eqb m 65535 ≡ c
-    → onward (numberEnded (kept 5 true m w h)) s ≡ headerEnd w h m s
-unfolding numberEnded headerEnd sized
-last w h m true true true s p q r = rw (side-cap w, side-cap h, largest-cap, p, q, r, side-kept w p, side-kept h q)
-last w h m true true false s p q r = rw (side-cap w, side-cap h, largest-cap, p, q, r)
-last w h m true false c s p q r = rw (side-cap w, side-cap h, p, q)
-last w h m false b c s p q r = rw (side-cap w, p)
+module _ (w h m : ℕ) where
+  last : (c a b d : Bool) (s : List ℕ) → side w ≡ a → side h ≡ b → side m ≡ d → onward (gapEnded (staged 6 c (cap w) (cap h) (cap m))) s ≡ headerEnd w h m s
+  unfolding gapEnded headerEnd sized
+  last c true true true s p q r = rw (side-cap w, side-cap h, side-cap m, p, q, r, side-kept w p, side-kept h q, side-kept m r)
+  last c true true false s p q r = rw (side-cap w, side-cap h, side-cap m, p, q, r)
+  last c true false d s p q r = rw (side-cap w, side-cap h, p, q)
+  last c false b d s p q r = rw (side-cap w, p)
 
-largest : (w h : ℕ) (any : Bool) (v : ℕ) (s : List ℕ)
-    → readBy (feed (kept 5 any v w h) s) ≡ andThen (numberFrom any v s) (headerEnd w h)
-unfolding stepOf numberEnded
-largest w h = numbers 5 w h (headerEnd w h) (λ any v b. refl) (λ any v s. last w h v (side w) (side h) (eqb v 65535) s refl refl refl)
+  lastly : (c : Bool) (s : List ℕ) → onward (gapEnded (staged 6 c (cap w) (cap h) (cap m))) s ≡ headerEnd w h m s
+  lastly c s = last c (side w) (side h) (side m) s refl refl refl
 
-height : (w h : ℕ) (any : Bool) (v : ℕ) (s : List ℕ)
-    → readBy (feed (kept 4 any v w h) s) ≡ andThen (numberFrom any v s) λ h s. andThen (number s) (headerEnd w h)
-unfolding stepOf numberEnded
-height w h = numbers 4 w h _ (λ any v b. refl) (λ any v s. largest w v false 0 s)
+  abbrev ends : Read ℕ → Read Size
+  ends r = andThen r λ _ s. headerEnd w h m s
 
-width : (any : Bool) (v : ℕ) (s : List ℕ)
-    → readBy (feed (kept 3 any v 0 0) s) ≡ andThen (numberFrom any v s) λ w s. andThen (number s) λ h s. andThen (number s) (headerEnd w h)
-unfolding stepOf numberEnded
-width = numbers 3 0 0 _ (λ any v b. refl) (λ any v s. height v 0 false 0 s)
+  last-turn : (t : Bool) (b : ℕ) (s : List ℕ) → lineEnd b ≡ t → readBy (feed (staged 6 true (cap w) (cap h) (cap m)) s) ≡ ends (comment s)
+      → onward (commentRead (staged 6 true (cap w) (cap h) (cap m)) b) s ≡ ends (comment (b ∷ s))
+  unfolding commentRead comment
+  last-turn true b s e u = rw e (lastly true s)
+  last-turn false b s e u = rw e u
+
+  last-comment : (s : List ℕ) → readBy (feed (staged 6 true (cap w) (cap h) (cap m)) s) ≡ ends (comment s)
+  unfolding feed comment stepOf
+  last-comment [] = refl
+  last-comment (b ∷ s) = last-turn (lineEnd b) b s refl (last-comment s)
+
+  last-entered : (p q : Bool) (b : ℕ) (s : List ℕ) → space b ≡ p → eqb b 35 ≡ q → onward (gapRead (staged 6 false (cap w) (cap h) (cap m)) b) s ≡ ends (gap (b ∷ s))
+  unfolding gapRead gap
+  last-entered true q b s x y = rw x (lastly false s)
+  last-entered false true b s x y = rw (x, y) (last-comment s)
+  last-entered false false b s x y = rw (x, y)
+
+  last-gap : (b : ℕ) (s : List ℕ) → onward (gapRead (staged 6 false (cap w) (cap h) (cap m)) b) s ≡ ends (gap (b ∷ s))
+  last-gap b s = last-entered (space b) (eqb b 35) b s refl refl
+
+-- ---- the three numbers
+largest : (w h : ℕ) (b : ℕ) (s : List ℕ) → onward (gapRead (kept 5 false 0 w h 0) b) s ≡ andThen (field (b ∷ s)) λ m s. andThen (gap s) λ _ s. headerEnd w h m s
+unfolding stepOf gapEnded numberEnded
+largest w h = enters 5 w h 0 _ (λ any v b. refl) (λ b. refl) (λ c. refl) (λ v b s. last-gap w h v b s)
+
+height : (w : ℕ) (b : ℕ) (s : List ℕ) → onward (gapRead (kept 4 false 0 w 0 0) b) s
+    ≡ andThen (field (b ∷ s)) λ h s. andThen (field s) λ m s. andThen (gap s) λ _ s. headerEnd w h m s
+unfolding stepOf gapEnded numberEnded
+height w = enters 4 w 0 0 _ (λ any v b. refl) (λ b. refl) (λ c. refl) (λ v b s. largest w v b s)
+
+width : (b : ℕ) (s : List ℕ) → onward (gapRead (begun 3) b) s
+    ≡ andThen (field (b ∷ s)) λ w s. andThen (field s) λ h s. andThen (field s) λ m s. andThen (gap s) λ _ s. headerEnd w h m s
+unfolding stepOf gapEnded numberEnded
+width = enters 3 0 0 0 _ (λ any v b. refl) (λ b. refl) (λ c. refl) (λ v b s. height v b s)
 
 -- ---- before the numbers
 module _ (k : ℕ) (p : ℕ → Bool) (f : List ℕ → Read Size)
@@ -123,17 +212,23 @@ module _ (k : ℕ) (p : ℕ → Bool) (f : List ℕ → Read Size)
   mark [] = refl
   mark (b ∷ s) = ap (λ x. onward x s) (early b) ∙ marked (p b) b s refl
 
+first-gap : (s : List ℕ) → readBy (feed (begun 2) s)
+    ≡ andThen (field s) λ w s. andThen (field s) λ h s. andThen (field s) λ m s. andThen (gap s) λ _ s. headerEnd w h m s
+unfolding feed stepOf field gap
+first-gap [] = refl
+first-gap (b ∷ s) = width b s
+
 -- a byte at a time, as the definition
 pub reads : (s : List ℕ) → readBy (feed (begun 0) s) ≡ headerOf s
 unfolding stepOf headerOf
-reads = mark 0 (is 80) _ (λ b. refl) (mark 1 (is 53) _ (λ b. refl) (mark 2 space _ (λ b. refl) (width false 0)))
+reads = mark 0 (is 80) _ (λ b. refl) (mark 1 (is 53) _ (λ b. refl) first-gap)
 
 -- ---- cut anywhere
 cut-step : (x : Next) (s t : List ℕ) → ((h : Header) → feed h (s ++ t) ≡ feedOn (feed h s) t)
     → stepped (λ h. feed h (s ++ t)) (s ++ t) x ≡ feedOn (stepped (λ h. feed h s) s x) t
 unfolding feedOn
 cut-step (More h) s t e = e h
-cut-step (Done w n) s t e = refl
+cut-step (Done w n m) s t e = refl
 cut-step Refused s t e = refl
 
 pub cut : (s t : List ℕ) (h : Header) → feed h (s ++ t) ≡ feedOn (feed h s) t
@@ -144,13 +239,13 @@ cut (b ∷ s) t h = cut-step (stepOf h b) s t (cut s t)
 pub cut-on : (f : Fed) (s t : List ℕ) → feedOn f (s ++ t) ≡ feedOn (feedOn f s) t
 unfolding feedOn
 cut-on (still h) s t = cut s t h
-cut-on (ended w n r) s t = ap (ended w n) (sym (append-assoc r s t))
+cut-on (ended w n m r) s t = ap (ended w n m) (sym (append-assoc r s t))
 cut-on bad s t = refl
 
 none : (f : Fed) → feedOn f [] ≡ f
 unfolding feedOn feed
 none (still h) = refl
-none (ended w n r) = ap (ended w n) (append-nil r)
+none (ended w n m r) = ap (ended w n m) (append-nil r)
 none bad = refl
 
 in-pieces : (ps : List (List ℕ)) (f : Fed) → feedPieces f ps ≡ feedOn f (joined ps)

@@ -1,64 +1,72 @@
--- Samples taken a byte at a time are the heights of the bytes (`taken-heights`), the state holds the byte left over (`taken-rest`), and a cut anywhere changes nothing (`cut-heights`, `cut-state`).
+-- Samples taken a byte at a time are the heights of the bytes (`taken-heights`), one is too large where the definition says so (`taken-over`), and a cut anywhere changes nothing (`cut-heights`).
 -- Assumes nothing.
 use mathlib.Core.Path.{_≡_, refl, sym, ap, _∙_}
 use mathlib.Core.Bool.{Bool, true, false}
 use mathlib.Core.List.{List, [], _∷_, _++_}
 use Prim.Native.Nat.{ℕ, _+_, _*_}
-use Rattle.pgm.specs.Samples.{heightsOf, leftOver, noByte, held, sampleOf, Taken, sampled, take}
+use lib.Dec.{leb}
+use Rattle.numbers.specs.Signal.{pick}
+use Rattle.pgm.specs.Samples.{wide, pairsOf, samplesOf, fitting, exceeds, heightsOf, noByte, sampled, sampleOf, Taken, takenOn, takes}
 use Rattle.pgm.specs.declared.samples.Samples.{Samples}
 use Rattle.pgm.specs.declared.samples.Sample.{Sample}
-use Rattle.pgm.specs.declared.samples.Sample.the-variants.{Half, Height}
+use Rattle.pgm.specs.declared.samples.Sample.the-variants.{Half, Height, TooLarge}
 
-abbrev with : Bool → ℕ → Samples
-with h v = record { half = h; high = v }
+abbrev state : ℕ → Bool → ℕ → Samples
+state m h v = record { largest = m; half = h; high = v }
 
-heights-whole : (v : ℕ) (s : List ℕ) → take (with false v) s .heights ≡ heightsOf s
-unfolding take sampleOf heightsOf
-heights-whole v [] = refl
-heights-whole v (b ∷ []) = refl
-heights-whole v (b ∷ c ∷ s) = ap (λ l. (256 * b + c) ∷ l) (heights-whole 0 s)
+-- what is taken of the samples l
+record Takes (m : ℕ) (l : List ℕ) (t : Taken) : Type 0 where
+  pub heights : t .heights ≡ fitting m l
+  pub over : t .over ≡ exceeds m l
 
-rest-whole : (v : ℕ) (s : List ℕ) → held (take (with false v) s .state) ≡ leftOver s
-unfolding take sampleOf leftOver
-rest-whole v [] = refl
-rest-whole v (b ∷ []) = refl
-rest-whole v (b ∷ c ∷ s) = rest-whole 0 s
+module _ (m : ℕ) where
+  none : {x : Samples} → Takes m [] (record { heights = []; over = false; state = x })
+  unfolding fitting exceeds
+  none = record { heights = refl; over = refl }
 
-by-half : (h : Bool) (v : ℕ) (s : List ℕ) → take (with h v) s .heights ≡ heightsOf (held (with h v) ++ s)
-unfolding take sampleOf heightsOf
-by-half true v [] = refl
-by-half true v (b ∷ s) = ap (λ l. (256 * v + b) ∷ l) (heights-whole 0 s)
-by-half false v s = heights-whole v s
+  one-more : (v : ℕ) (l : List ℕ) (f : Samples → Taken) (h : Bool) (u : ℕ) (b : Bool) → leb v m ≡ b → Takes m l (f (noByte m))
+      → Takes m (v ∷ l) (takenOn f (state m h u) (sampled m v))
+  unfolding fitting exceeds sampled
+  one-more v l f h u true e t = record { heights = rw e (ap (λ k. v ∷ k) (t .heights)); over = rw e (t .over) }
+  one-more v l f h u false e t = record { heights = rw e refl; over = rw e refl }
 
-rest-by-half : (h : Bool) (v : ℕ) (s : List ℕ) → held (take (with h v) s .state) ≡ leftOver (held (with h v) ++ s)
-unfolding take sampleOf leftOver
-rest-by-half true v [] = refl
-rest-by-half true v (b ∷ s) = rest-whole 0 s
-rest-by-half false v s = rest-whole v s
+  pairs : wide m ≡ true → (u : ℕ) (s : List ℕ) → Takes m (pairsOf s) (takes (state m false u) s)
+  unfolding takes sampleOf pairsOf
+  pairs e u [] = none
+  pairs e u (b ∷ []) = rw e none
+  pairs e u (b ∷ c ∷ s) = rw (e, e) (one-more (256 * b + c) (pairsOf s) (λ y. takes y s) true b (leb (256 * b + c) m) refl (pairs e 0 s))
 
-pub taken-heights : (x : Samples) (s : List ℕ) → take x s .heights ≡ heightsOf (held x ++ s)
-taken-heights x s = by-half (x .half) (x .high) s
+  singles : wide m ≡ false → (u : ℕ) (s : List ℕ) → Takes m s (takes (state m false u) s)
+  unfolding takes sampleOf
+  singles e u [] = none
+  singles e u (b ∷ s) = rw e (one-more b s (λ y. takes y s) false u (leb b m) refl (singles e 0 s))
 
-pub taken-rest : (x : Samples) (s : List ℕ) → held (take x s .state) ≡ leftOver (held x ++ s)
-taken-rest x s = rest-by-half (x .half) (x .high) s
+  taken : (s : List ℕ) → Takes m (samplesOf m s) (takes (noByte m) s)
+  unfolding samplesOf
+  taken s = go (wide m) refl
+    where
+      go : (w : Bool) → wide m ≡ w → Takes m (pick w (pairsOf s) s) (takes (noByte m) s)
+      go true e = pairs e 0 s
+      go false e = singles e 0 s
 
--- ---- cut anywhere
-heights-step : (y : Sample) (s t : List ℕ) → ((x : Samples) → take x (s ++ t) .heights ≡ take x s .heights ++ take (take x s .state) t .heights)
-    → sampled (λ x. take x (s ++ t)) y .heights ≡ sampled (λ x. take x s) y .heights ++ take (sampled (λ x. take x s) y .state) t .heights
-heights-step (Half x) s t e = e x
-heights-step (Height v) s t e = ap (λ l. v ∷ l) (e noByte)
+  pub taken-heights : (s : List ℕ) → takes (noByte m) s .heights ≡ heightsOf m s
+  unfolding heightsOf
+  taken-heights s = taken s .heights
 
-state-step : (y : Sample) (s t : List ℕ) → ((x : Samples) → take x (s ++ t) .state ≡ take (take x s .state) t .state)
-    → sampled (λ x. take x (s ++ t)) y .state ≡ take (sampled (λ x. take x s) y .state) t .state
-state-step (Half x) s t e = e x
-state-step (Height v) s t e = e noByte
+  pub taken-over : (s : List ℕ) → takes (noByte m) s .over ≡ exceeds m (samplesOf m s)
+  taken-over s = taken s .over
 
-pub cut-heights : (s t : List ℕ) (x : Samples) → take x (s ++ t) .heights ≡ take x s .heights ++ take (take x s .state) t .heights
-unfolding take
+-- ---- cut anywhere: more bytes, after what came before
+abbrev pub takesOn : Taken → List ℕ → List ℕ
+takesOn t s = t .heights ++ pick (t .over) [] (takes (t .state) s .heights)
+
+cut-step : (x : Samples) (y : Sample) (s t : List ℕ) → ((x : Samples) → takes x (s ++ t) .heights ≡ takesOn (takes x s) t)
+    → takenOn (λ y. takes y (s ++ t)) x y .heights ≡ takesOn (takenOn (λ y. takes y s) x y) t
+cut-step x (Half y) s t e = e y
+cut-step x (Height v) s t e = ap (λ l. v ∷ l) (e (noByte (x .largest)))
+cut-step x TooLarge s t e = refl
+
+pub cut-heights : (s t : List ℕ) (x : Samples) → takes x (s ++ t) .heights ≡ takesOn (takes x s) t
+unfolding takes
 cut-heights [] t x = refl
-cut-heights (b ∷ s) t x = heights-step (sampleOf x b) s t (cut-heights s t)
-
-pub cut-state : (s t : List ℕ) (x : Samples) → take x (s ++ t) .state ≡ take (take x s .state) t .state
-unfolding take
-cut-state [] t x = refl
-cut-state (b ∷ s) t x = state-step (sampleOf x b) s t (cut-state s t)
+cut-heights (b ∷ s) t x = cut-step x (sampleOf x b) s t (cut-heights s t)

@@ -1,10 +1,10 @@
--- A header, as a definition on the bytes of an input. Document 01, "The listing program": "P5, width, height, 65535, each parted by one whitespace byte, one more".
+-- A header, as a definition on the bytes of an input: Netpbm's grammar of a binary PGM. P5, width, height and largest value, gaps before each number, one gap after the last.
 use mathlib.Core.Bool.{Bool, true, false}
 use mathlib.Core.List.{List, [], _∷_}
 use Prim.Native.Nat.{ℕ, _+_, _*_}
 use lib.Dec.{leb, eqb}
 use Rattle.numbers.specs.Signal.{pick, both}
-use Rattle.pgm.specs.Characters.{space, digit, digitValue}
+use Rattle.pgm.specs.Characters.{space, lineEnd, digit, digitValue}
 
 -- what an input begins with: this, and the bytes after it; the input ends too soon; or, whatever follows, it is wrong
 pub data Read (A : Type 0) : Type 0 where
@@ -26,39 +26,61 @@ unfoldable pub one : (ℕ → Bool) → List ℕ → Read ℕ
 one p [] = short
 one p (b ∷ s) = pick (p b) (found b s) wrong
 
--- a number and the whitespace byte after it: "a header number may have leading zeros"; it has at least one digit.
--- v is the value of the digits so far, any: there was one
+-- ---- gaps
+-- a comment after its "#": up to and with the first CR or LF
+unfoldable pub comment : List ℕ → Read ℕ
+comment [] = short
+comment (b ∷ s) = pick (lineEnd b) (found b s) (comment s)
+
+-- a gap is one whitespace byte or a comment (35 is #)
+unfoldable pub gap : List ℕ → Read ℕ
+gap [] = short
+gap (b ∷ s) = pick (space b) (found b s) (pick (eqb b 35) (comment s) wrong)
+
+-- the bytes after as many gaps as an input begins with; c: it begins inside a comment
+unfoldable pub afterGaps : Bool → List ℕ → List ℕ
+afterGaps c [] = []
+afterGaps true (b ∷ s) = pick (lineEnd b) (afterGaps false s) (afterGaps true s)
+afterGaps false (b ∷ s) = pick (space b) (afterGaps false s) (pick (eqb b 35) (afterGaps true s) (b ∷ s))
+
+-- ---- numbers
+-- a number has one digit or more, of which leading zeros are some; v is the value of the digits so far, any: there was one
 unfoldable pub numberFrom : Bool → ℕ → List ℕ → Read ℕ
 numberFrom any v [] = short
 numberFrom any v (b ∷ s) =
     pick (digit b) (numberFrom true (10 * v + digitValue b) s)
-    (pick (both any (space b)) (found v s) wrong)
+    (pick any (found v (b ∷ s)) wrong)
 
 abbrev pub number : List ℕ → Read ℕ
 number = numberFrom false 0
 
+-- gaps, one or more, and then a number
+unfoldable pub field : List ℕ → Read ℕ
+field s = andThen (gap s) λ _ s. number (afterGaps false s)
+
+-- ---- the header
 pub record Size : Type 0 where
   pub width : ℕ
   pub height : ℕ
+  pub largest : ℕ
 
--- a width or a height is from 1 to 65,535
+-- a width, a height or a largest value is from 1 to 65,535
 unfoldable pub side : ℕ → Bool
 side n = both (leb 1 n) (leb n 65535)
 
--- the largest value is 65535
 unfoldable pub sized : ℕ → ℕ → ℕ → Bool
-sized w h m = both (side w) (both (side h) (eqb m 65535))
+sized w h m = both (side w) (both (side h) (side m))
 
 unfoldable pub headerEnd : ℕ → ℕ → ℕ → List ℕ → Read Size
-headerEnd w h m s = pick (sized w h m) (found (record { width = w; height = h }) s) wrong
+headerEnd w h m s = pick (sized w h m) (found (record { width = w; height = h; largest = m }) s) wrong
 
 -- the header that an input begins with (80 53 is P5): its size, and the bytes after it
 unfoldable pub headerOf : List ℕ → Read Size
 headerOf s =
     andThen (one (is 80) s) λ _ s.
     andThen (one (is 53) s) λ _ s.
-    andThen (one space s) λ _ s.
-    andThen (number s) λ w s.
-    andThen (number s) λ h s.
-    andThen (number s) λ m s.
+    andThen (field s) λ w s.
+    andThen (field s) λ h s.
+    andThen (field s) λ m s.
+    andThen (gap s) λ _ s.
     headerEnd w h m s

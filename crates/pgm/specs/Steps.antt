@@ -4,52 +4,74 @@ use mathlib.Core.List.{List, [], _∷_, _++_}
 use Prim.Native.Nat.{ℕ, _+_, _*_, min}
 use lib.Dec.{eqb}
 use Rattle.numbers.specs.Signal.{pick, both}
-use Rattle.pgm.specs.Characters.{space, digit, digitValue}
+use Rattle.pgm.specs.Characters.{space, lineEnd, digit, digitValue}
 use Rattle.pgm.specs.Header.{Read, found, short, wrong, Size, sized}
 use Rattle.pgm.specs.declared.header.Header.{Header}
 use Rattle.pgm.specs.declared.header.Next.{Next}
 use Rattle.pgm.specs.declared.header.Next.the-variants.{More, Done, Refused}
 
--- a header at a stage, with no number yet
+-- at a stage, no digit of its number read yet: c, inside a comment
+abbrev pub staged : ℕ → Bool → ℕ → ℕ → ℕ → Header
+staged k c w h m = record { stage = k; comment = c; any = false; number = 0; width = w; height = h; largest = m }
+
 abbrev pub begun : ℕ → Header
-begun stage = record { stage = stage; any = false; number = 0; width = 0; height = 0 }
+begun k = staged k false 0 0 0
 
--- before the numbers
+-- before the gaps
 unfoldable pub expected : Bool → ℕ → Next
-expected right stage = pick right (More (begun stage)) Refused
+expected right k = pick right (More (begun k)) Refused
 
--- the whitespace byte after a number
-unfoldable pub numberEnded : Header → Next
+-- inside a comment, or after it
+abbrev pub commented : Bool → Header → Header
+commented c h = record { stage = h .stage; comment = c; any = h .any; number = h .number; width = h .width; height = h .height; largest = h .largest }
+
+-- a gap's last byte: the one after the largest value ends the header
+unfoldable pub gapEnded : Header → Next
+gapEnded h =
+    pick (eqb (h .stage) 6)
+    (pick (sized (h .width) (h .height) (h .largest)) (Done (h .width) (h .height) (h .largest)) Refused)
+    (More (commented false h))
+
+-- a gap's first byte, and a byte of a comment
+unfoldable pub gapRead : Header → ℕ → Next
+gapRead h b = pick (space b) (gapEnded h) (pick (eqb b 35) (More (commented true h)) Refused)
+
+unfoldable pub commentRead : Header → ℕ → Next
+commentRead h b = pick (lineEnd b) (gapEnded h) (More h)
+
+-- the number of a stage is read
+unfoldable pub numberEnded : Header → Header
 numberEnded h =
-    pick (eqb (h .stage) 3) (More (record { stage = 4; any = false; number = 0; width = h .number; height = h .height }))
-    (pick (eqb (h .stage) 4) (More (record { stage = 5; any = false; number = 0; width = h .width; height = h .number }))
-    (pick (sized (h .width) (h .height) (h .number)) (Done (h .width) (h .height)) Refused))
+    pick (eqb (h .stage) 3) (staged 4 false (h .number) (h .height) (h .largest))
+    (pick (eqb (h .stage) 4) (staged 5 false (h .width) (h .number) (h .largest))
+    (staged 6 false (h .width) (h .height) (h .number)))
 
--- a byte of a number, or after it
+-- a byte of a number, of the gaps before it, or of the gap after it
 unfoldable pub inNumber : Header → ℕ → Next
 inNumber h b =
     pick (digit b)
-    (More (record { stage = h .stage; any = true; number = min (10 * h .number + digitValue b) 65536; width = h .width; height = h .height }))
-    (pick (both (h .any) (space b)) (numberEnded h) Refused)
+    (More (record { stage = h .stage; comment = false; any = true; number = min (10 * h .number + digitValue b) 65536; width = h .width; height = h .height; largest = h .largest }))
+    (gapRead (pick (h .any) (numberEnded h) h) b)
 
 unfoldable pub stepOf : Header → ℕ → Next
 stepOf h b =
     pick (eqb (h .stage) 0) (expected (eqb b 80) 1)
     (pick (eqb (h .stage) 1) (expected (eqb b 53) 2)
-    (pick (eqb (h .stage) 2) (expected (space b) 3)
-    (inNumber h b)))
+    (pick (eqb (h .stage) 2) (gapRead (begun 3) b)
+    (pick (h .comment) (commentRead h b)
+    (inNumber h b))))
 
 -- ---- bytes after bytes
 -- what the steps have come to: a header still being read, or a size and the bytes left over, or a refusal
 pub data Fed : Type 0 where
   still : Header → Fed
-  ended : ℕ → ℕ → List ℕ → Fed
+  ended : ℕ → ℕ → ℕ → List ℕ → Fed
   bad : Fed
 
 -- after a step: f reads on, s is left over
 abbrev pub stepped : (Header → Fed) → List ℕ → Next → Fed
 stepped f s (More h) = f h
-stepped f s (Done w n) = ended w n s
+stepped f s (Done w n m) = ended w n m s
 stepped f s Refused = bad
 
 unfoldable pub feed : Header → List ℕ → Fed
@@ -59,7 +81,7 @@ feed h (b ∷ s) = stepped (λ k. feed k s) s (stepOf h b)
 -- more bytes, after what came before
 unfoldable pub feedOn : Fed → List ℕ → Fed
 feedOn (still h) s = feed h s
-feedOn (ended w n r) s = ended w n (r ++ s)
+feedOn (ended w n m r) s = ended w n m (r ++ s)
 feedOn bad s = bad
 
 -- the bytes of all pieces
@@ -75,5 +97,5 @@ feedPieces f (p ∷ ps) = feedPieces (feedOn f p) ps
 -- what it says of the input so far
 abbrev pub readBy : Fed → Read Size
 readBy (still h) = short
-readBy (ended w n r) = found (record { width = w; height = n }) r
+readBy (ended w n m r) = found (record { width = w; height = n; largest = m }) r
 readBy bad = wrong

@@ -1,7 +1,7 @@
-// The bytes of a header: whitespace and digits.
+// The bytes of a header: whitespace, ends of lines and digits.
 ghost use mathlib.Core.Path.{_≡_};
 ghost use Prim.Native.Nat.{_≤_, _+_, _*_, _-_, min};
-ghost use Rattle.pgm.specs.Characters.{space, digit, digitValue};
+ghost use Rattle.pgm.specs.Characters.{space, lineEnd, digit, digitValue};
 
 pub fn is_space(byte: u8) -> bool
     ensures { λ r. ⌜ r ≡ space byte ⌝ }
@@ -12,6 +12,13 @@ pub fn is_space(byte: u8) -> bool
     if byte == b'\t' {
         return true;
     }
+    is_line_end(byte)
+}
+
+// CR or LF: a comment ends with it.
+pub fn is_line_end(byte: u8) -> bool
+    ensures { λ r. ⌜ r ≡ lineEnd byte ⌝ }
+{
     if byte == b'\r' {
         return true;
     }

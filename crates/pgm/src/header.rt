@@ -1,27 +1,31 @@
 // A header, read a byte at a time. A number may have any number of digits: 65,536 stands for every number above 65,535, and such a header is refused.
 use crate::characters;
 ghost use mathlib.Core.Path.{_≡_};
-ghost use Rattle.pgm.specs.Header.{side};
-ghost use Rattle.pgm.specs.Steps.{begun, expected, numberEnded, inNumber, stepOf};
+ghost use mathlib.Core.Bool.{true, false};
+ghost use Rattle.pgm.specs.Header.{side, sized};
+ghost use Rattle.pgm.specs.Steps.{staged, begun, expected, commented, gapEnded, gapRead, commentRead, numberEnded, inNumber, stepOf};
 
-// What the bytes so far have told. Stage 0 waits for P, 1 for 5, 2 for the whitespace byte, 3 reads the width, 4 the height, 5 the largest value.
+// What the bytes so far have told. Stage 0 waits for P, 1 for 5, 2 for the first gap, 3 reads the width, 4 the height, 5 the largest value, 6 the comment that ends the header.
 pub struct Header {
     pub stage: usize,
+    // Inside a comment?
+    pub comment: bool,
     // Has the number that is being read a digit yet, and its value so far?
     pub any: bool,
     pub number: usize,
     pub width: usize,
     pub height: usize,
+    pub largest: usize,
 }
 
 pub enum Next {
     More(Header),
-    // The byte was the header's last: width and height.
-    Done(usize, usize),
+    // The byte was the header's last: width, height and largest value.
+    Done(usize, usize, usize),
     Refused,
 }
 
-// Is a side from 1 to 65,535?
+// Is a width, a height or a largest value from 1 to 65,535?
 fn is_side(n: usize) -> bool
     ensures { λ r. ⌜ r ≡ side n ⌝ }
 {
@@ -31,18 +35,39 @@ fn is_side(n: usize) -> bool
     n <= 65535
 }
 
-// Before the numbers: a byte that is right leads to the next stage.
+fn is_sized(width: usize, height: usize, largest: usize) -> bool
+    ensures { λ r. ⌜ r ≡ sized width height largest ⌝ }
+{
+    if !is_side(width) {
+        return false;
+    }
+    if !is_side(height) {
+        return false;
+    }
+    is_side(largest)
+}
+
+// At a stage, no digit of its number read yet.
+fn at_stage(stage: usize, width: usize, height: usize, largest: usize) -> Header
+    ensures { λ r. ⌜ r ≡ staged stage false width height largest ⌝ }
+{
+    Header {
+        stage,
+        comment: false,
+        any: false,
+        number: 0,
+        width,
+        height,
+        largest,
+    }
+}
+
+// Before the gaps: a byte that is right leads to the next stage.
 fn expect(right: bool, stage: usize) -> Next
     ensures { λ r. ⌜ r ≡ expected right stage ⌝ }
 {
     if right {
-        Next::More(Header {
-            stage,
-            any: false,
-            number: 0,
-            width: 0,
-            height: 0,
-        })
+        Next::More(at_stage(stage, 0, 0, 0))
     } else {
         Next::Refused
     }
@@ -52,51 +77,70 @@ impl Header {
     pub fn start() -> Self
         ensures { λ r. ⌜ r ≡ begun 0 ⌝ }
     {
+        at_stage(0, 0, 0, 0)
+    }
+
+    fn with_comment(self, comment: bool) -> Header
+        ensures { λ r. ⌜ r ≡ commented comment self ⌝ }
+    {
         Header {
-            stage: 0,
-            any: false,
-            number: 0,
-            width: 0,
-            height: 0,
+            stage: self.stage,
+            comment,
+            any: self.any,
+            number: self.number,
+            width: self.width,
+            height: self.height,
+            largest: self.largest,
         }
     }
 
-    // The whitespace byte after a number.
-    fn end_number(self) -> Next
+    // The last byte of a gap.
+    fn end_gap(self) -> Next
+        ensures { λ r. ⌜ r ≡ gapEnded self ⌝ }
+    {
+        if self.stage != 6 {
+            return Next::More(self.with_comment(false));
+        }
+        if is_sized(self.width, self.height, self.largest) {
+            return Next::Done(self.width, self.height, self.largest);
+        }
+        Next::Refused
+    }
+
+    // The first byte of a gap.
+    fn step_gap(self, byte: u8) -> Next
+        ensures { λ r. ⌜ r ≡ gapRead self byte ⌝ }
+    {
+        if characters::is_space(byte) {
+            return self.end_gap();
+        }
+        if byte == b'#' {
+            return Next::More(self.with_comment(true));
+        }
+        Next::Refused
+    }
+
+    fn step_comment(self, byte: u8) -> Next
+        ensures { λ r. ⌜ r ≡ commentRead self byte ⌝ }
+    {
+        if characters::is_line_end(byte) {
+            return self.end_gap();
+        }
+        Next::More(self)
+    }
+
+    // The number of the stage is read.
+    fn end_number(self) -> Header
         ensures { λ r. ⌜ r ≡ numberEnded self ⌝ }
     {
         let stage = self.stage;
-        let number = self.number;
-        let width = self.width;
-        let height = self.height;
         if stage == 3 {
-            return Next::More(Header {
-                stage: 4,
-                any: false,
-                number: 0,
-                width: number,
-                height,
-            });
+            return at_stage(4, self.number, self.height, self.largest);
         }
         if stage == 4 {
-            return Next::More(Header {
-                stage: 5,
-                any: false,
-                number: 0,
-                width,
-                height: number,
-            });
+            return at_stage(5, self.width, self.number, self.largest);
         }
-        if !is_side(width) {
-            return Next::Refused;
-        }
-        if !is_side(height) {
-            return Next::Refused;
-        }
-        if number != 65535 {
-            return Next::Refused;
-        }
-        Next::Done(width, height)
+        at_stage(6, self.width, self.height, self.number)
     }
 
     fn step_number(self, byte: u8) -> Next
@@ -105,19 +149,18 @@ impl Header {
         if characters::is_digit(byte) {
             return Next::More(Header {
                 stage: self.stage,
+                comment: false,
                 any: true,
                 number: characters::with_digit(self.number, byte),
                 width: self.width,
                 height: self.height,
+                largest: self.largest,
             });
         }
-        if !self.any {
-            return Next::Refused;
+        if self.any {
+            return self.end_number().step_gap(byte);
         }
-        if !characters::is_space(byte) {
-            return Next::Refused;
-        }
-        self.end_number()
+        self.step_gap(byte)
     }
 
     // The header with one byte more.
@@ -132,7 +175,10 @@ impl Header {
             return expect(byte == b'5', 2);
         }
         if stage == 2 {
-            return expect(characters::is_space(byte), 3);
+            return at_stage(3, 0, 0, 0).step_gap(byte);
+        }
+        if self.comment {
+            return self.step_comment(byte);
         }
         self.step_number(byte)
     }

@@ -1,46 +1,47 @@
 -- `samples::read` meets its contract: after i turns the first i heights stand in the run. Assumes nothing.
+use mathlib.Core.Path.{sym, _∙_}
 use Prim.Native.Nat.{_-_}
 use native.Mathlib.Omega.{arith}
 use borrow.Author.Needs.{needs}
-use Rattle.pgm.proofs.RunReads.{Run, start, next, finish}
+use borrow.Author.Tests.{not-true, not-false}
+use Rattle.pgm.proofs.RunReads.{Run, start, room, next, stop, stands, end, finish}
 use Rattle.pgm.proofs.samples.read.Statement.{statement}
 use Rattle.pgm.proofs.samples.read.Tie as tie
 
 abbrev Inv-loop : tie.InvT-loop
-Inv-loop bytes from run₀ n i₀ run i = Run bytes run₀ run from n i
+Inv-loop bytes from largest run₀ wide n i₀ run i = Run bytes run₀ run largest from n i
 
 abbrev μ-loop : tie.MeasureT-loop
-μ-loop bytes from run₀ n i₀ run i = n - i
+μ-loop bytes from largest run₀ wide n i₀ run i = n - i
+
+is-wide-requires : tie.Need-is-wide-requires Inv-loop μ-loop
+is-wide-requires c κs = tt
 
 whole-requires : tie.Need-whole-requires Inv-loop μ-loop
-whole-requires c κs = search needs
+whole-requires c κs = tt
 
 loop-holds : tie.Need-loop-holds Inv-loop μ-loop
-loop-holds c = start _ _ _ _ (omega (arith, c .whole .ensures)) (omega (arith, c .whole .ensures))
+loop-holds c = start _ _ _ _ _ _ (c .before .is-wide .ensures) (c .whole .ensures)
 
-mul-at : tie.Need-mul-at Inv-loop μ-loop
-mul-at c = omega (arith, c .before .loop .inv .bytes)
+sample-at-requires : tie.Need-sample-at-requires Inv-loop μ-loop
+sample-at-requires c κs = room _ (c .before .loop .inv) (omega arith) (c .before .before .before .is-wide .ensures)
 
-add-at : tie.Need-add-at Inv-loop μ-loop
-add-at c = omega (arith, c .before .loop .inv .bytes)
+is-within-requires : tie.Need-is-within-requires Inv-loop μ-loop
+is-within-requires c κs = tt
 
-shared-slice-read-joined : tie.Need-shared-slice-read-joined Inv-loop μ-loop
-shared-slice-read-joined c = omega (arith, c .before .before .loop .inv .bytes)
+same-length : tie.Need-same-length Inv-loop μ-loop
+same-length c = c .before .before .before .before .loop .inv .size
 
-add-joined : tie.Need-add-joined Inv-loop μ-loop
-add-joined c = omega (arith, c .before .before .loop .inv .bytes)
-
-shared-slice-read-joined-2 : tie.Need-shared-slice-read-joined-2 Inv-loop μ-loop
-shared-slice-read-joined-2 c = omega (arith, c .before .before .before .loop .inv .bytes)
-
-joined-requires : tie.Need-joined-requires Inv-loop μ-loop
-joined-requires c κs = search needs
+returns : tie.Need-returns Inv-loop μ-loop
+returns c =
+    let l = c .before .before .before .before in
+    (stop _ _ (l .loop .inv) (omega arith) (l .before .before .is-wide .ensures) (c .before .before .sample-at .ensures) (sym (c .before .is-within .ensures) ∙ not-true _ (c .if1 .taken)), stands (l .loop .inv))
 
 mul-run : tie.Need-mul-run Inv-loop μ-loop
-mul-run c = omega (arith, c .before .before .before .before .loop .inv .bytes)
+mul-run c = search needs
 
 slice-write-run : tie.Need-slice-write-run Inv-loop μ-loop
-slice-write-run c = let v = c .before .before .before .before .loop .inv in omega (arith, v .room, v .size)
+slice-write-run c = let v = c .before .before .before .before .loop .inv in omega (arith, v .count, v .size)
 
 add-i : tie.Need-add-i Inv-loop μ-loop
 add-i c = omega arith
@@ -49,13 +50,15 @@ loop-less : tie.Need-loop-less Inv-loop μ-loop
 loop-less c = omega arith
 
 loop-again : tie.Need-loop-again Inv-loop μ-loop
-loop-again c = next _ (c .before .before .before .before .loop .inv) (omega arith) (c .joined .ensures)
+loop-again c =
+    let l = c .before .before .before .before in
+    next _ _ (l .loop .inv) (omega arith) (l .before .before .is-wide .ensures) (c .before .before .sample-at .ensures) (sym (c .before .is-within .ensures) ∙ not-false _ (c .if1 .left))
 
-same-length : tie.Need-same-length Inv-loop μ-loop
-same-length c = c .before .loop .inv .size
+same-length-2 : tie.Need-same-length-2 Inv-loop μ-loop
+same-length-2 c = c .before .loop .inv .size
 
-returns : tie.Need-returns Inv-loop μ-loop
-returns c = (c .before .before .whole .ensures, finish (c .before .loop .inv) (omega arith))
+returns-2 : tie.Need-returns-2 Inv-loop μ-loop
+returns-2 c = (end (c .before .loop .inv) (omega arith), finish (c .before .loop .inv) (omega arith))
 
 pub read-spec : {M : Type 1} → statement M
 read-spec =
@@ -63,18 +66,17 @@ read-spec =
     (tie.spec
     Inv-loop
     μ-loop
+    is-wide-requires
     whole-requires
     loop-holds
-    mul-at
-    add-at
-    shared-slice-read-joined
-    add-joined
-    shared-slice-read-joined-2
-    joined-requires
+    sample-at-requires
+    is-within-requires
+    same-length
+    returns
     mul-run
     slice-write-run
     add-i
     loop-less
     loop-again
-    same-length
-    returns)
+    same-length-2
+    returns-2)

@@ -37,7 +37,7 @@ returns-2 c =
 returns-3 : tie.Need-returns-3
 returns-3 c =
     let h = c .before in
-    ap heard.Refused (c .at-phase .ensures) ∙ header-case _ _ _ (sym (h .enum-told .given .1) ∙ h .before .before .step .ensures)
+    ap (λ x. heard.Refused x 15) (c .at-phase .ensures) ∙ header-case _ _ _ (sym (h .enum-told .given .1) ∙ h .before .before .step .ensures)
 
 pub hear-header-spec : {M : Type 1} → statement M
 hear-header-spec = tie.close (tie.spec step-requires enum-known-next enum-known-width begin-requires enum-told at-phase-requires returns returns-2 returns-3)

@@ -11,7 +11,7 @@ at-phase-requires : tie.Need-at-phase-requires
 at-phase-requires c κs = tt
 
 returns : tie.Need-returns
-returns c = ap heard.Refused (c .at-phase .ensures) ∙ height-none _ _ (c .before .if1 .taken)
+returns c = ap (λ x. heard.Refused x 15) (c .at-phase .ensures) ∙ height-none _ _ (c .before .if1 .taken)
 
 step-requires : tie.Need-step-requires
 step-requires c κs = tt
@@ -28,6 +28,12 @@ sub-t12 c = search needs
 start-requires : tie.Need-start-requires
 start-requires c κs = tt
 
+enum-told : tie.Need-enum-told
+enum-told c = search needs
+
+at-phase-requires-2 : tie.Need-at-phase-requires-2
+at-phase-requires-2 c κs = tt
+
 returns-2 : tie.Need-returns-2
 returns-2 c =
     let h = c .before in
@@ -43,5 +49,12 @@ returns-3 c =
     ap (λ x. heard.Height (record { phase = 3; levels = d .before .before .args .self .levels; header = d .before .before .args .self .header; left = d .before .before .args .self .left - 1; samples = x }) (h .height .given .0 .0)) (c .start .ensures)
     ∙ height-some _ _ _ (d .if1 .left) (sym (h .height .given .1) ∙ s .step .ensures)
 
+returns-4 : tie.Need-returns-4
+returns-4 c =
+    let h = c .before in
+    let s = h .before .before in
+    let d = s .before .before .before in
+    ap (λ x. heard.Refused x 16) (c .at-phase2 .ensures) ∙ height-some _ _ _ (d .if1 .left) (sym (h .enum-told .given .1) ∙ s .step .ensures)
+
 pub hear-height-spec : {M : Type 1} → statement M
-hear-height-spec = tie.close (tie.spec at-phase-requires returns step-requires enum-known-half enum-known-height sub-t12 start-requires returns-2 returns-3)
+hear-height-spec = tie.close (tie.spec at-phase-requires returns step-requires enum-known-half enum-known-height sub-t12 start-requires enum-told at-phase-requires-2 returns-2 returns-3 returns-4)

@@ -10,13 +10,13 @@ at-phase-requires : tie.Need-at-phase-requires
 at-phase-requires c κs = tt
 
 returns : tie.Need-returns
-returns c = ap heard.Refused (c .at-phase .ensures) ∙ levels-below _ _ (c .before .if1 .taken)
+returns c = ap (λ x. heard.Refused x 15) (c .at-phase .ensures) ∙ levels-below _ _ (c .before .if1 .taken)
 
 at-phase-requires-2 : tie.Need-at-phase-requires-2
 at-phase-requires-2 c κs = tt
 
 returns-2 : tie.Need-returns-2
-returns-2 c = ap heard.Refused (c .at-phase2 .ensures) ∙ levels-above _ _ (c .before .before .if1 .left) (c .before .if2 .taken)
+returns-2 c = ap (λ x. heard.Refused x 15) (c .at-phase2 .ensures) ∙ levels-above _ _ (c .before .before .if1 .left) (c .before .if2 .taken)
 
 sub-t8 : tie.Need-sub-t8
 sub-t8 c = search needs

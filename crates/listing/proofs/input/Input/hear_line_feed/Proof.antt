@@ -15,7 +15,7 @@ returns : tie.Need-returns
 returns c = ap heard.More (c .at-phase .ensures) ∙ feed-yes _ _ (c .before .if1 .taken)
 
 returns-2 : tie.Need-returns-2
-returns-2 c = ap heard.Refused (c .at-phase2 .ensures) ∙ feed-no _ _ (c .before .if1 .left)
+returns-2 c = ap (λ x. heard.Refused x 15) (c .at-phase2 .ensures) ∙ feed-no _ _ (c .before .if1 .left)
 
 pub hear-line-feed-spec : {M : Type 1} → statement M
 hear-line-feed-spec = tie.close (tie.spec at-phase-requires at-phase-requires-2 returns returns-2)

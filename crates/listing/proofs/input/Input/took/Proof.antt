@@ -11,7 +11,7 @@ use Rattle.listing.proofs.input.Input.took.Tie as tie
 abbrev with : Input → ℕ → Samples → Input
 with i l s = record { phase = i .phase; levels = i .levels; header = i .header; left = l; samples = s }
 
-came : (i : Input) (j l : ℕ) (s : Samples) → l ≡ i .left - j → s ≡ noByte → with i l s ≡ heightsCame j i
+came : (i : Input) (j l : ℕ) (s : Samples) → l ≡ i .left - j → s ≡ noByte (i .samples .largest) → with i l s ≡ heightsCame j i
 came i j l s e f = cc
 
 less-requires : tie.Need-less-requires
@@ -22,7 +22,7 @@ start-requires c κs = tt
 
 returns : tie.Need-returns
 returns c =
-    let a = c .before .before .before .args in
+    let a = c .before .before .before .before .args in
     came (a .self) (a .count) _ _ (c .before .less .ensures) (c .start .ensures)
 
 pub took-spec : {M : Type 1} → statement M

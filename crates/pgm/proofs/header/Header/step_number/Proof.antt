@@ -1,58 +1,41 @@
 -- `Header::step_number` meets its contract: its tests are the definition's. Assumes nothing.
-use mathlib.Core.Path.{_≡_, sym, ap, _∙_}
-use borrow.Author.Needs.{needs}
-use borrow.Author.Tests.{not-true, not-false}
-use Rattle.pgm.specs.Steps.{inNumber}
+use mathlib.Core.Path.{sym, ap, _∙_}
+use Rattle.pgm.specs.Steps.{gapRead, inNumber}
 use Rattle.pgm.proofs.header.Header.step_number.Statement.{statement}
 use Rattle.pgm.proofs.header.Header.step_number.Tie as tie
 
 is-digit-requires : tie.Need-is-digit-requires
-is-digit-requires c κs = search needs
+is-digit-requires c κs = tt
 
 with-digit-requires : tie.Need-with-digit-requires
-with-digit-requires c κs = search needs
+with-digit-requires c κs = tt
 
 returns : tie.Need-returns
 unfolding inNumber
-returns c =
-    let b = c .before in
-    simp (sym (b .before .is-digit .ensures) ∙ b .if1 .taken, c .with-digit .ensures)
+returns c = let b = c .before in simp (sym (b .before .is-digit .ensures) ∙ b .if1 .taken, c .with-digit .ensures)
+
+end-number-requires : tie.Need-end-number-requires
+end-number-requires c κs = tt
+
+step-gap-requires : tie.Need-step-gap-requires
+step-gap-requires c κs = tt
 
 returns-2 : tie.Need-returns-2
 unfolding inNumber
 returns-2 c =
-    let b = c .before .before in
-    simp (sym (b .before .is-digit .ensures) ∙ b .if1 .left, not-true (b .before .before .args .self .any) (c .if2 .taken))
+    let d = c .before .before in
+    let b = d .before in
+    simp (sym (b .before .is-digit .ensures) ∙ b .if1 .left, d .if2 .taken) (c .step-gap .ensures ∙ ap (λ h. gapRead h (b .before .before .args .byte)) (c .before .end-number .ensures))
 
-is-space-requires : tie.Need-is-space-requires
-is-space-requires c κs = search needs
+step-gap-requires-2 : tie.Need-step-gap-requires-2
+step-gap-requires-2 c κs = tt
 
 returns-3 : tie.Need-returns-3
 unfolding inNumber
 returns-3 c =
-    let d = c .before .before in
-    let b = d .before .before in
-    simp (
-      sym (b .before .is-digit .ensures) ∙ b .if1 .left,
-      not-false (b .before .before .args .self .any) (d .if2 .left),
-      sym (c .before .is-space .ensures) ∙ not-true _ (c .if3 .taken),
-    )
-
-end-number-requires : tie.Need-end-number-requires
-end-number-requires c κs = search needs
-
-returns-4 : tie.Need-returns-4
-unfolding inNumber
-returns-4 c =
-    let e = c .before in
-    let d = e .before .before in
-    let b = d .before .before in
-    simp (
-      sym (b .before .is-digit .ensures) ∙ b .if1 .left,
-      not-false (b .before .before .args .self .any) (d .if2 .left),
-      sym (e .before .is-space .ensures) ∙ not-false _ (e .if3 .left),
-    )
-    (c .end-number .ensures)
+    let d = c .before in
+    let b = d .before in
+    simp (sym (b .before .is-digit .ensures) ∙ b .if1 .left, d .if2 .left) (c .step-gap2 .ensures)
 
 pub step-number-spec : {M : Type 1} → statement M
 step-number-spec =
@@ -61,8 +44,8 @@ step-number-spec =
     is-digit-requires
     with-digit-requires
     returns
-    returns-2
-    is-space-requires
-    returns-3
     end-number-requires
-    returns-4)
+    step-gap-requires
+    returns-2
+    step-gap-requires-2
+    returns-3)

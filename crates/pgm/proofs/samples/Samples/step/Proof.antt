@@ -1,20 +1,49 @@
--- `Samples::step` meets its contract: the definition's choice. Assumes nothing.
-use mathlib.Core.Path.{ap}
-use borrow.Author.Needs.{needs}
-use Rattle.pgm.specs.Samples.{sampleOf}
+-- `Samples::step` meets its contract: the definition's choices. Assumes nothing.
+use mathlib.Core.Path.{sym, ap, _∙_}
+use borrow.Author.Tests.{not-true, not-false}
+use Rattle.pgm.specs.Samples.{sampled, sampleOf}
 use Rattle.pgm.proofs.samples.Samples.step.Statement.{statement}
 use Rattle.pgm.proofs.samples.Samples.step.Tie as tie
 
-joined-requires : tie.Need-joined-requires
-joined-requires c κs = search needs
+is-wide-requires : tie.Need-is-wide-requires
+is-wide-requires c κs = tt
+
+single-requires : tie.Need-single-requires
+single-requires c κs = tt
+
+heard-requires : tie.Need-heard-requires
+heard-requires c κs = tt
 
 returns : tie.Need-returns
 unfolding sampleOf
-returns c = simp (c .before .if1 .taken, c .joined .ensures)
+returns c = let b = c .before .before in simp (sym (b .before .is-wide .ensures) ∙ not-true _ (b .if1 .taken)) (c .heard .ensures ∙ ap (sampled (b .before .before .args .self .largest)) (c .before .single .ensures))
+
+joined-requires : tie.Need-joined-requires
+joined-requires c κs = tt
+
+heard-requires-2 : tie.Need-heard-requires-2
+heard-requires-2 c κs = tt
 
 returns-2 : tie.Need-returns-2
 unfolding sampleOf
-returns-2 c = simp (c .if1 .left)
+returns-2 c =
+    let d = c .before .before in
+    let b = d .before in
+    simp (sym (b .before .is-wide .ensures) ∙ not-false _ (b .if1 .left), d .if2 .taken) (c .heard2 .ensures ∙ ap (sampled (b .before .before .args .self .largest)) (c .before .joined .ensures))
+
+returns-3 : tie.Need-returns-3
+unfolding sampleOf
+returns-3 c = let b = c .before in simp (sym (b .before .is-wide .ensures) ∙ not-false _ (b .if1 .left), c .if2 .left)
 
 pub step-spec : {M : Type 1} → statement M
-step-spec = tie.close (tie.spec joined-requires returns returns-2)
+step-spec =
+    tie.close
+    (tie.spec
+    is-wide-requires
+    single-requires
+    heard-requires
+    returns
+    joined-requires
+    heard-requires-2
+    returns-2
+    returns-3)
