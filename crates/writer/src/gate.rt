@@ -1,5 +1,6 @@
 // The gate questions of the writer's calls, in order: 0, or the number of the first that says no.
 use crate::Writer;
+use crate::counts;
 use wavelet::limits;
 use wavelet::store;
 ghost use mathlib.Core.Path.{_≡_};
@@ -30,7 +31,10 @@ fn in_ranges(s: Writer) -> bool
     if s.levels < s.level {
         return false;
     }
-    s.left <= 4
+    if 4 < s.left {
+        return false;
+    }
+    s.offset == store::store_length(s.width, counts::prev(s.level))
 }
 
 // Whether n numbers are enough for every number of levels. At the most levels a width of 2^k + 1 needs just as many, so the sizes are seldom added up.
