@@ -20,6 +20,7 @@ use Rattle.writer.specs.Level.{Memory}
 use Rattle.writer.specs.FiveThreeLevel.{fiveThree}
 use Rattle.writer.specs.Machine.{rest}
 use Rattle.writer.specs.Closing.{Shut, shut}
+use Rattle.writer.specs.Counts.{startOf}
 use Rattle.writer.specs.Questions.{either, inRanges, longEnough, waitingRow, setUpQuestion, offerQuestion, drawQuestion, finishQuestion}
 use Rattle.writer.specs.Gate.{stateQuestion}
 use Rattle.writer.specs.Answers.{gives, refused, unless, changedUnless, Handed, aRow, nothing}
@@ -87,23 +88,23 @@ module _ (s : Writer) (n : ℕ) where
   offer-sound k h = sound s n (front (inRanges s) (longEnough n s) _ h)
 
 -- ---- finish
-pub waits-same : (f : Bool) (s : Writer) (r : Shut) (c v i : ℕ) → c ≡ r .closed → v ≡ r .out .level → i ≡ r .out .left →
-    record { width = s .width; levels = s .levels; rows = s .rows; column = s .column; finished = f; closed = c; level = v; left = i } ≡ waits f s r
-waits-same f s r c v i a b d = rw (a, b, d) refl
+pub waits-same : (f : Bool) (s : Writer) (r : Shut) (c v i o : ℕ) → c ≡ r .closed → v ≡ r .out .level → i ≡ r .out .left → o ≡ startOf (s .width) (r .out .level) →
+    record { width = s .width; levels = s .levels; rows = s .rows; column = s .column; finished = f; closed = c; level = v; left = i; offset = o } ≡ waits f s r
+waits-same f s r c v i o a b d e = rw (a, b, d, e) refl
 
 module _ (s : Writer) (n q : ℕ) (x : Memory) (e : q ≡ finishQuestion s n) where
   pub finish-no : 0 < q → (refused q ≡ finishReply s n x) × (x ≡ finishStore s n x)
   unfolding finishReply finishStore
   finish-no h = rw (← e) (unless-no q _ h, changed-no q _ x h)
 
-  pub finish-yes : (r : Closure) (y : Memory) → q ≡ 0 → Closed (s .levels) (shut fiveThree (s .levels) (s .width) 0 (s .rows) x) r y →
-      (gives (record { width = s .width; levels = s .levels; rows = s .rows; column = s .column; finished = true; closed = r .closed; level = r .level; left = r .left }) ≡ finishReply s n x) × (y ≡ finishStore s n x)
+  pub finish-yes : (r : Closure) (y : Memory) → q ≡ 0 → Closed (s .levels) (s .width) (shut fiveThree (s .levels) (s .width) 0 (s .rows) x) r y →
+      (gives (record { width = s .width; levels = s .levels; rows = s .rows; column = s .column; finished = true; closed = r .closed; level = r .level; left = r .left; offset = r .offset }) ≡ finishReply s n x) × (y ≡ finishStore s n x)
   unfolding finishReply finishStore
   finish-yes r y z f =
-      rw (← e) (ap gives (waits-same true s (closing s x) (r .closed) (r .level) (r .left) (f .closed) (f .level) (f .left)) ∙ unless-yes q _ z, f .store ∙ changed-yes q _ x z)
+      rw (← e) (ap gives (waits-same true s (closing s x) (r .closed) (r .level) (r .left) (r .offset) (f .closed) (f .level) (f .left) (f .offset)) ∙ unless-yes q _ z, f .store ∙ changed-yes q _ x z)
 
 -- ---- what a draw leaves
-module _ (s : Writer) (x y : Memory) (r : Wait) (l : Left (s .levels) (pulled s x) r y) where
+module _ (s : Writer) (x y : Memory) (r : Wait) (l : Left (s .levels) (s .width) (pulled s x) r y) where
   resumed-open : (f : Bool) (v : ℕ) → f ≡ false → resumed f s (pulled s x) v ≡ record { closed = s .closed; out = pulled s x }
   unfolding resumed
   resumed-open false v e = refl
@@ -121,21 +122,21 @@ module _ (s : Writer) (x y : Memory) (r : Wait) (l : Left (s .levels) (pulled s 
   resumed-closes true zero e h = refl
   resumed-closes true (suc v) e h = absurd (omega arith)
 
-  drew : (c v i : ℕ) (z : Memory) (q : Shut) → afterDraw s x ≡ q → c ≡ q .closed → v ≡ q .out .level → i ≡ q .out .left → z ≡ q .out .store →
-      Drew s x (record { width = s .width; levels = s .levels; rows = s .rows; column = s .column; finished = s .finished; closed = c; level = v; left = i }) z
-  drew c v i z q e a b d g = record { writer = waits-same (s .finished) s q c v i a b d ∙ ap (waits (s .finished) s) (sym e); store = g ∙ ap (λ (q : Shut). q .out .store) (sym e) }
+  drew : (c v i o : ℕ) (z : Memory) (q : Shut) → afterDraw s x ≡ q → c ≡ q .closed → v ≡ q .out .level → i ≡ q .out .left → o ≡ startOf (s .width) (q .out .level) → z ≡ q .out .store →
+      Drew s x (record { width = s .width; levels = s .levels; rows = s .rows; column = s .column; finished = s .finished; closed = c; level = v; left = i; offset = o }) z
+  drew c v i o z q e a b d k g = record { writer = waits-same (s .finished) s q c v i o a b d k ∙ ap (waits (s .finished) s) (sym e); store = g ∙ ap (λ (q : Shut). q .out .store) (sym e) }
 
-  pub drew-open : s .finished ≡ false → Drew s x (record { width = s .width; levels = s .levels; rows = s .rows; column = s .column; finished = s .finished; closed = s .closed; level = r .level; left = r .left }) y
-  drew-open e = drew (s .closed) (r .level) (r .left) y _ (resumed-open (s .finished) (pulled s x .level) e) refl (l .level) (l .left) (l .store)
+  pub drew-open : s .finished ≡ false → Drew s x (record { width = s .width; levels = s .levels; rows = s .rows; column = s .column; finished = s .finished; closed = s .closed; level = r .level; left = r .left; offset = r .offset }) y
+  drew-open e = drew (s .closed) (r .level) (r .left) (r .offset) y _ (resumed-open (s .finished) (pulled s x .level) e) refl (l .level) (l .left) (l .offset) (l .store)
 
-  pub drew-waits : s .finished ≡ true → 0 < r .level → Drew s x (record { width = s .width; levels = s .levels; rows = s .rows; column = s .column; finished = s .finished; closed = s .closed; level = r .level; left = r .left }) y
-  drew-waits e h = drew (s .closed) (r .level) (r .left) y _ (resumed-waits (s .finished) (pulled s x .level) e (omega (arith, l .level))) refl (l .level) (l .left) (l .store)
+  pub drew-waits : s .finished ≡ true → 0 < r .level → Drew s x (record { width = s .width; levels = s .levels; rows = s .rows; column = s .column; finished = s .finished; closed = s .closed; level = r .level; left = r .left; offset = r .offset }) y
+  drew-waits e h = drew (s .closed) (r .level) (r .left) (r .offset) y _ (resumed-waits (s .finished) (pulled s x .level) e (omega (arith, l .level))) refl (l .level) (l .left) (l .offset) (l .store)
 
-  pub drew-closes : (q : Closure) (z : Memory) → s .finished ≡ true → r .level ≡ 0 → Closed (s .levels) (shut fiveThree (s .levels) (s .width) (s .closed) (s .rows) y) q z →
-      Drew s x (record { width = s .width; levels = s .levels; rows = s .rows; column = s .column; finished = s .finished; closed = q .closed; level = q .level; left = q .left }) z
+  pub drew-closes : (q : Closure) (z : Memory) → s .finished ≡ true → r .level ≡ 0 → Closed (s .levels) (s .width) (shut fiveThree (s .levels) (s .width) (s .closed) (s .rows) y) q z →
+      Drew s x (record { width = s .width; levels = s .levels; rows = s .rows; column = s .column; finished = s .finished; closed = q .closed; level = q .level; left = q .left; offset = q .offset }) z
   drew-closes q z e h f =
       let g = rw (l .store) at f in
-      drew (q .closed) (q .level) (q .left) z _ (resumed-closes (s .finished) (pulled s x .level) e (sym (l .level) ∙ h)) (g .closed) (g .level) (g .left) (g .store)
+      drew (q .closed) (q .level) (q .left) (q .offset) z _ (resumed-closes (s .finished) (pulled s x .level) e (sym (l .level) ∙ h)) (g .closed) (g .level) (g .left) (g .offset) (g .store)
 
 -- ---- draw
 module _ (s : Writer) (n k : ℕ) where

@@ -33,6 +33,7 @@ use Rattle.writer.specs.Machine.{Out, arrive}
 use Rattle.writer.specs.Draws.{Waiting, waiting, pull}
 use Rattle.writer.specs.Closing.{Shut, shut}
 use Rattle.writer.specs.Taking.{stored, Taking, takes, offering}
+use Rattle.writer.specs.Counts.{startOf}
 use Rattle.writer.specs.Questions.{inRanges}
 use Rattle.writer.specs.Calls.{resumed, bandRow}
 use Rattle.writer.specs.Holds.{Kept, Holds}
@@ -178,7 +179,7 @@ module _ {L W : ℕ} {ts : List ℕ} {f : Bool} {ds : List DrawnRow} {r c cl v i
   unfolding inRanges
   in-ranges p q =
       let s = own-sound in
-      simp (p, q, le-leb r maxHeight (a .rows-in), lt-ltb c W (a .column-in), le-leb cl L (closed-le fiveThree Kept five-three-laws L _ _ _ _ _ _ _ _ _ (s .holds .levels)), le-leb v L (level-le fiveThree Kept five-three-laws L _ _ _ _ _ _ _ _ _ (s .holds .levels)), le-leb i (mostLeft L v) (s .holds .few))
+      simp (p, q, le-leb r maxHeight (a .rows-in), lt-ltb c W (a .column-in), le-leb cl L (closed-le fiveThree Kept five-three-laws L _ _ _ _ _ _ _ _ _ (s .holds .levels)), le-leb v L (level-le fiveThree Kept five-three-laws L _ _ _ _ _ _ _ _ _ (s .holds .levels)), le-leb i (mostLeft L v) (s .holds .few), eq-eqb (startOf W v) (startOf W v) refl)
 
   -- what waits, by the history: made and not drawn
   pub waiting-is : drop (length ds) (made W L r f) ≡ coming L W f cl v i r

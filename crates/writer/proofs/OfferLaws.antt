@@ -239,12 +239,12 @@ module _ (s : Writer) (run : List ℕ) (k n : ℕ) (x y : Memory) (l : ℕ) (t :
   pub stretched-inside : s .column + n < s .width → Stretched s run k n x (atColumn s (s .column + n)) y l
   stretched-inside h = record { inside = λ g. (refl, e); whole = λ g. absurd (omega arith); taker = record { room = t .room; column = h; deep = t .deep } }
 
-  pub stretched-whole : (o : Wait) (z : Memory) → s .column + n ≡ s .width → s .rows < 65535 → Left (s .levels) (arrive fiveThree (s .levels) (s .width) (s .rows) y) o z →
-      Stretched s run k n x (record { width = s .width; levels = s .levels; rows = s .rows + 1; column = 0; finished = s .finished; closed = s .closed; level = o .level; left = o .left }) z l
+  pub stretched-whole : (o : Wait) (z : Memory) → s .column + n ≡ s .width → s .rows < 65535 → Left (s .levels) (s .width) (arrive fiveThree (s .levels) (s .width) (s .rows) y) o z →
+      Stretched s run k n x (record { width = s .width; levels = s .levels; rows = s .rows + 1; column = 0; finished = s .finished; closed = s .closed; level = o .level; left = o .left; offset = o .offset }) z l
   stretched-whole o z h b f =
       let g = rw e at f in
       record {
         inside = λ d. absurd (omega arith);
-        whole = λ d. (rw (g .level, g .left) refl, g .store);
+        whole = λ d. (rw (g .level, g .left, g .offset) refl, g .store);
         taker = record { room = record { room = t .room .room; wide = t .room .wide; rows = omega arith; deep = t .room .deep }; column = omega arith; deep = t .deep };
       }

@@ -10,6 +10,7 @@ use Rattle.wavelet.specs.Store.{storeLength}
 use Rattle.writer.specs.declared.Writer.{Writer}
 use Rattle.writer.specs.declared.BandRow.{BandRow}
 use Rattle.writer.specs.Level.{Memory}
+use Rattle.writer.specs.Counts.{startOf}
 use Rattle.writer.specs.FiveThreeLevel.{fiveThree}
 use Rattle.writer.specs.Machine.{Out, rest}
 use Rattle.writer.specs.Draws.{Waiting, pull}
@@ -20,7 +21,7 @@ use Rattle.writer.specs.Answers.{Reply, unless, changedUnless, Took, Han
 
 -- ---- set-up: "Set-up zeroes the needed part."
 abbrev pub fresh : ℕ → ℕ → Writer
-fresh W L = record { width = W; levels = L; rows = 0; column = 0; finished = false; closed = 0; level = 0; left = 0 }
+fresh W L = record { width = W; levels = L; rows = 0; column = 0; finished = false; closed = 0; level = 0; left = 0; offset = 0 }
 
 unfoldable pub setUpReply : ℕ → ℕ → ℕ → Reply Writer
 setUpReply W L n = unless (setUpQuestion W L n) (fresh W L)
@@ -41,7 +42,7 @@ offerStore s n run x = changedUnless (offerQuestion s n (length run)) (offering 
 -- ---- finish: "At the finish level 1 closes first, then level 2, and so on."
 -- the writer with what waits, f: finished
 abbrev pub waits : Bool → Writer → Shut → Writer
-waits f s r = record { width = s .width; levels = s .levels; rows = s .rows; column = s .column; finished = f; closed = r .closed; level = r .out .level; left = r .out .left }
+waits f s r = record { width = s .width; levels = s .levels; rows = s .rows; column = s .column; finished = f; closed = r .closed; level = r .out .level; left = r .out .left; offset = startOf (s .width) (r .out .level) }
 
 abbrev pub closing : Writer → Memory → Shut
 closing s x = shut fiveThree (s .levels) (s .width) 0 (s .rows) x

@@ -7,7 +7,7 @@ use Rattle.wavelet.specs.Limits.{maxWidth, maxHeight, maxLevels}
 use Rattle.wavelet.specs.Questions.{ask, within}
 use Rattle.wavelet.specs.Store.{storeLength}
 use Rattle.writer.specs.declared.Writer.{Writer}
-use Rattle.writer.specs.Counts.{mostLeft}
+use Rattle.writer.specs.Counts.{mostLeft, startOf}
 use Rattle.writer.specs.FiveThreeLevel.{fiveThree}
 use Rattle.writer.specs.Draws.{Waiting, waiting}
 
@@ -23,7 +23,8 @@ inRanges s =
     (both (ltb (s .column) (s .width))
     (both (leb (s .closed) (s .levels))
     (both (leb (s .level) (s .levels))
-    (leb (s .left) (mostLeft (s .levels) (s .level))))))))
+    (both (leb (s .left) (mostLeft (s .levels) (s .level)))
+    (eqb (s .offset) (startOf (s .width) (s .level)))))))))
 
 -- question 5
 unfoldable pub longEnough : ℕ → Writer → Bool

@@ -31,7 +31,10 @@ fn in_ranges(s: Writer) -> bool
     if s.levels < s.level {
         return false;
     }
-    s.left <= counts::most_left(s.levels, s.level)
+    if counts::most_left(s.levels, s.level) < s.left {
+        return false;
+    }
+    s.offset == store::store_length(s.width, counts::prev(s.level))
 }
 
 // Whether n numbers are enough for every number of levels. At the most levels a width of 2^k + 1 needs just as many, so the sizes are seldom added up.

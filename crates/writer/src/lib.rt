@@ -33,6 +33,8 @@ pub struct Writer {
     pub level: usize,
     // the bands of that set that are left
     pub left: usize,
+    // where that level's stretch of the line store begins; 0: nothing waits
+    pub offset: usize,
 }
 
 // A band row that was drawn: its values stand at the front of the output area.
@@ -111,6 +113,7 @@ impl Writer {
             closed: 0,
             level: 0,
             left: 0,
+            offset: 0,
         })
     }
 
@@ -149,14 +152,7 @@ impl Writer {
         if self.level == 0 {
             return Drawn::Nothing;
         }
-        let spot = draws::waiting(
-            self.levels,
-            self.width,
-            self.closed,
-            self.level,
-            self.left,
-            self.rows,
-        );
+        let spot = draws::waiting(self);
         if out.len() < spot.length {
             return Drawn::Refused(12);
         }
@@ -193,6 +189,7 @@ impl Writer {
             closed: r.closed,
             level: r.level,
             left: r.left,
+            offset: r.offset,
         })
     }
 }

@@ -81,6 +81,7 @@ pub fn stretch(s: Writer, store: &mut [i32], run: &[u16], from: usize, n: usize)
             closed: s.closed,
             level: s.level,
             left: s.left,
+            offset: s.offset,
         };
     }
     let r = cascade::arrive(store, s.levels, s.width, s.rows);
@@ -93,5 +94,6 @@ pub fn stretch(s: Writer, store: &mut [i32], run: &[u16], from: usize, n: usize)
         closed: s.closed,
         level: r.level,
         left: r.left,
+        offset: r.offset,
     }
 }

@@ -11,10 +11,10 @@ use Rattle.writer.proofs.closing.close_level.Statement.{statement}
 use Rattle.writer.proofs.closing.close_level.Tie as tie
 
 returns : tie.Need-returns
-returns c = let a = c .before .args in left-still (a .l + 1) _ _ (level-closed (a .l) (a .w) _ (a .c) (a .m) (omega arith))
+returns c = let a = c .before .args in left-still (a .l + 1) (a .w) _ _ (level-closed (a .l) (a .w) _ (a .c) (a .m) (omega arith))
 
 returns-2 : tie.Need-returns-2
-returns-2 c = let a = c .before .before .args in left-still (a .l + 1) _ _ (level-empty (a .l) (a .w) _ (a .c) (a .m) (omega arith) (omega arith))
+returns-2 c = let a = c .before .before .args in left-still (a .l + 1) (a .w) _ _ (level-empty (a .l) (a .w) _ (a .c) (a .m) (omega arith) (omega arith))
 
 half-requires : tie.Need-half-requires
 half-requires c κs = search needs
