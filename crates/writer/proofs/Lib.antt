@@ -9,6 +9,7 @@ pub mod CallList
 pub mod CallsKeep
 pub mod Reached
 pub mod Demand3
+pub mod Offset
 pub mod SetLaws
 pub mod RestLaws
 pub mod DeliverLaws
