@@ -16,7 +16,7 @@ use Rattle.writer.specs.Machine.{Out, rest}
 use Rattle.writer.specs.Draws.{Waiting, pull}
 use Rattle.writer.specs.Closing.{Shut, shut}
 use Rattle.writer.specs.Taking.{Taking, offering}
-use Rattle.writer.specs.Questions.{waitingRow, setUpQuestion, offerQuestion, drawQuestion, finishQuestion}
+use Rattle.writer.specs.Questions.{waitingRow, setUpQuestion, offerQuestion, drawQuestion, waitsQuestion, finishQuestion}
 use Rattle.writer.specs.Answers.{Reply, unless, changedUnless, Took, Handed, aRow, nothing}
 
 -- ---- set-up: "Set-up zeroes the needed part."
@@ -90,3 +90,19 @@ drawStore s n k x = changedUnless (drawQuestion s n k) (handedStore (s .level) s
 
 unfoldable pub drawArea : Writer → ℕ → ℕ → Memory → Memory → Memory
 drawArea s n k x z = changedUnless (drawQuestion s n k) (handedArea (s .level) s x z) z
+
+-- ---- a look at what waits: the row that the next draw hands out, or level 0 where nothing waits
+abbrev pub noRow : BandRow
+noRow = record { level = 0; band = 0; row = 0; length = 0 }
+
+abbrev pub awaited : ℕ → Writer → BandRow
+awaited zero s = noRow
+awaited (suc v) s = bandRow (waitingRow s)
+
+-- the row that a draw hands out, as the look before it says it
+abbrev pub rowHanded : Handed → BandRow
+rowHanded (aRow r w) = r
+rowHanded nothing = noRow
+
+unfoldable pub waitsReply : Writer → Reply BandRow
+waitsReply s = unless (waitsQuestion s) (awaited (s .level) s)

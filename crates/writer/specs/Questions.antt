@@ -59,6 +59,10 @@ drawQuestion s n k =
     (ask (either (eqb (s .level) 0) (leb (waitingRow s .length) k)) 12
     0))
 
+-- a look at what waits
+unfoldable pub waitsQuestion : Writer → ℕ
+waitsQuestion s = ask (inRanges s) 1 0
+
 unfoldable pub finishQuestion : Writer → ℕ → ℕ
 finishQuestion s n =
     ask (inRanges s) 1

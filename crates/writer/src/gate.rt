@@ -10,7 +10,7 @@ ghost use Rattle.writer.specs.Questions.{inRanges, setUpQuestion, offerQ
 ghost use Rattle.writer.specs.Gate.{stateQuestion, openQuestion};
 
 // Question 1: the counts' ranges.
-fn in_ranges(s: Writer) -> bool
+pub fn in_ranges(s: Writer) -> bool
     ensures { λ r. ⌜ r ≡ inRanges s ⌝ }
 {
     if !limits::is_within(s.width, Writer::MAX_WIDTH) {

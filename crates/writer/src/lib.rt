@@ -14,8 +14,8 @@ ghost use mathlib.Core.Path.{_≡_};
 ghost use lib.ListN.{length};
 ghost use Rattle.numbers.specs.Signal.{at};
 ghost use Rattle.wavelet.specs.Limits.{maxWidth, maxHeight, maxLevels};
-ghost use Rattle.writer.specs.Answers.{ofSetUp, ofOffered, ofDrawn, ofFinished};
-ghost use Rattle.writer.specs.Calls.{setUpReply, setUpStore, offerReply, offerStore, drawReply, drawStore, drawArea, finishReply, finishStore};
+ghost use Rattle.writer.specs.Answers.{ofSetUp, ofOffered, ofDrawn, ofLook, ofFinished};
+ghost use Rattle.writer.specs.Calls.{setUpReply, setUpStore, offerReply, offerStore, drawReply, drawStore, drawArea, waitsReply, finishReply, finishStore};
 ghost use Rattle.writer.specs.Holds.{SetUpHolds, OfferKeeps, DrawKeeps, FinishKeeps};
 
 // The counts of a writer; docs/STATE.md gives their ranges.
@@ -58,6 +58,11 @@ pub enum Offered {
 pub enum Drawn {
     Row(BandRow, Writer),
     Nothing,
+    Refused(u8),
+}
+
+pub enum Look {
+    Row(BandRow),
     Refused(u8),
 }
 
@@ -167,6 +172,30 @@ impl Writer {
             },
             next,
         )
+    }
+
+    // The row that the next draw hands out; its level is 0 where nothing waits.
+    pub fn waits(self) -> Look
+        ensures { λ r. ⌜ ofLook r ≡ waitsReply self ⌝ }
+    {
+        if !gate::in_ranges(self) {
+            return Look::Refused(1);
+        }
+        if self.level == 0 {
+            return Look::Row(BandRow {
+                level: 0,
+                band: 0,
+                row: 0,
+                length: 0,
+            });
+        }
+        let spot = draws::waiting(self);
+        Look::Row(BandRow {
+            level: spot.level,
+            band: spot.band,
+            row: spot.row,
+            length: spot.length,
+        })
     }
 
     // No more rows: the levels close in turn, until a row waits.
