@@ -11,6 +11,7 @@ pub enum Call {
     WriterSetUp,
     Offer,
     WriterDraw,
+    WriterWaits,
     Finish,
     ReaderSetUp,
     Want,

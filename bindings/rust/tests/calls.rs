@@ -183,7 +183,7 @@ fn a_question_prints_a_sentence() {
 /// docs/DECISIONS.md, "The questions, call by call".
 #[test]
 fn every_question_of_every_call_has_a_sentence() {
-    let questions: [(Call, &[u32]); 12] = [
+    let questions: [(Call, &[u32]); 13] = [
         (Call::Line, &[5]),
         (Call::MapForward, &[2, 3, 4, 5]),
         (Call::MapBackward, &[2, 3, 4, 5, 7, 14]),
@@ -191,6 +191,7 @@ fn every_question_of_every_call_has_a_sentence() {
         (Call::WriterSetUp, &[2, 4, 5]),
         (Call::Offer, &[1, 5, 9, 8, 10]),
         (Call::WriterDraw, &[1, 5, 12]),
+        (Call::WriterWaits, &[1]),
         (Call::Finish, &[1, 5, 9, 8, 11]),
         (Call::ReaderSetUp, &[2, 3, 4, 5]),
         (Call::Want, &[1]),

@@ -5,7 +5,8 @@ use lib.IntN.{ℤ}
 use Rattle.numbers.specs.Signal.{pick}
 use Rattle.writer.specs.declared.Writer.{Writer}
 use Rattle.writer.specs.Answers.{Reply, gives, refused, Took, Handed, aRow, nothing}
-use Rattle.writer.specs.Calls.{offerReply, offerStore, drawReply, drawStore, drawArea, finishReply, finishStore}
+use Rattle.writer.specs.declared.BandRow.{BandRow}
+use Rattle.writer.specs.Calls.{offerReply, offerStore, drawReply, drawStore, drawArea, waitsReply, finishReply, finishStore}
 use Rattle.terrain.specs.WriterState.{isWriter, writerOf, writerWords}
 
 -- 0, or the number of the question that turned the call away
@@ -53,6 +54,14 @@ abbrev pub rowOf : Reply Handed → List ℕ → List ℕ
 rowOf (gives (aRow r w)) z = r .level ∷ r .band ∷ r .row ∷ r .length ∷ []
 rowOf (gives nothing) z = 0 ∷ 0 ∷ 0 ∷ 0 ∷ []
 rowOf (refused q) z = z
+
+-- ---- a look at what waits; z is what the out-parameter held
+abbrev pub waiting : List ℕ → Reply BandRow
+waiting s = pick (isWriter s) (waitsReply (writerOf s)) (refused 1)
+
+abbrev pub lookOf : Reply BandRow → List ℕ → List ℕ
+lookOf (gives r) z = r .level ∷ r .band ∷ r .row ∷ r .length ∷ []
+lookOf (refused q) z = z
 
 -- ---- finish
 abbrev pub finished : List ℕ → ℕ → (ℕ → ℤ) → Reply Writer
