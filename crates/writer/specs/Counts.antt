@@ -1,4 +1,4 @@
--- The numbers that the writer derives on its way down the levels: nothing of them is kept.
+-- The numbers that the writer derives on its way down the levels. Of them the state keeps where the stretch of its level begins (`startOf`).
 use Prim.Native.Nat.{ℕ, zero, suc, _+_, _-_, _/_}
 use Rattle.numbers.specs.Signal.{pick}
 use Rattle.lifting.specs.Line.{lo, count}
