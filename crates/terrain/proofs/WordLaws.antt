@@ -28,7 +28,28 @@ spelt : (s : List ℕ) → length s ≡ 16 →
 spelt s h =
     let e : drop 16 s ≡ [] = ap (λ (k : ℕ). drop k s) (sym h) ∙ drop-length s in
     let o : drop 0 s ≡ s = refl in
-    cc (o, e, drop-cons s 0 0 (omega arith), drop-cons s 1 0 (omega arith), drop-cons s 2 0 (omega arith), drop-cons s 3 0 (omega arith), drop-cons s 4 0 (omega arith), drop-cons s 5 0 (omega arith), drop-cons s 6 0 (omega arith), drop-cons s 7 0 (omega arith), drop-cons s 8 0 (omega arith), drop-cons s 9 0 (omega arith), drop-cons s 10 0 (omega arith), drop-cons s 11 0 (omega arith), drop-cons s 12 0 (omega arith), drop-cons s 13 0 (omega arith), drop-cons s 14 0 (omega arith), drop-cons s 15 0 (omega arith))
+    cc (
+      o,
+      e,
+      drop-cons s 0 0 (omega arith),
+      drop-cons s 1 0 (omega arith),
+      drop-cons s 2 0 (omega arith),
+      drop-cons s 3 0 (omega arith),
+      drop-cons s 4 0 (omega arith),
+      drop-cons s 5 0 (omega arith),
+      drop-cons s 6 0 (omega arith),
+      drop-cons s 7 0 (omega arith),
+      drop-cons s 8 0
+          (omega arith),
+      drop-cons s 9 0 (omega arith),
+      drop-cons s 10 0 (omega arith),
+      drop-cons s 11 0 (omega arith),
+      drop-cons s 12 0
+          (omega arith),
+      drop-cons s 13 0 (omega arith),
+      drop-cons s 14 0 (omega arith),
+      drop-cons s 15 0 (omega arith),
+    )
 
 flag-back : (n : ℕ) → n ≤ 1 → flag (eqb n 1) ≡ n
 flag-back zero h = refl

@@ -1,4 +1,5 @@
--- What the C calls on a writer answer, and what they leave: what `writer` says of the call on the writer that the state array holds, and 1 where it holds none. s is the state array, n the length of the line store and x what stands in it.
+-- What the C calls on a writer answer, and what they leave: what `writer` says of the call on the writer that the state array holds, and 1 where it
+-- holds none. s is the state array, n the length of the line store and x what stands in it.
 use mathlib.Core.List.{List, [], _∷_}
 use Prim.Native.Nat.{ℕ}
 use lib.IntN.{ℤ}

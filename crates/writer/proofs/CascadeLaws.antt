@@ -17,7 +17,8 @@ use Rattle.writer.proofs.RestLaws.{rest-join, join-again}
 pub left-still : (l w : ℕ) (o : Out) (x : Memory) → o ≡ still x → Left l w o (record { level = 0; left = 0; offset = 0 }) x
 left-still l w o x e = rw e (record { level = refl; left = refl; offset = sym (start-first w 0 (omega arith)); store = refl; within = omega arith })
 
-pub left-waits : (l w i : ℕ) (o : Out) (x : Memory) → 0 < l → o ≡ record { store = x; level = 1; left = i } → Left l w o (record { level = 1; left = i; offset = 0 }) x
+pub left-waits : (l w i : ℕ) (o : Out) (x : Memory) → 0 < l → o ≡ record { store = x; level = 1; left = i } →
+    Left l w o (record { level = 1; left = i; offset = 0 }) x
 left-waits l w i o x h e = rw e (record { level = refl; left = refl; offset = sym (start-first w 1 (omega arith)); store = refl; within = omega arith })
 
 pub left-same : (l w : ℕ) (o o′ : Out) (r : Wait) (x : Memory) → o ≡ o′ → Left l w o′ r x → Left l w o r x
@@ -32,7 +33,8 @@ pub under-offset : (w : ℕ) (o r v : ℕ) → r ≡ v → o ≡ startOf (count 
 under-offset w o r v e f = ap (λ (r : ℕ). further r (4 * w) o) e ∙ ap (further v (4 * w)) f ∙ sym (start-deeper w v)
 
 -- the levels below, from the end of the first one's stretch on: y is the store with the row that went there, t what they leave
-pub left-under : (l k w d b : ℕ) (x y u t z : Memory) (o : Out) (r : Wait) → l ≡ k + 1 → y ≡ joinAt (4 * w) x u → z ≡ joinAt (4 * w) y t → d ≡ deeper (r .level) →
+pub left-under : (l k w d b : ℕ) (x y u t z : Memory) (o : Out) (r : Wait) → l ≡ k + 1 → y ≡ joinAt (4 * w) x u → z ≡ joinAt (4 * w) y t →
+    d ≡ deeper (r .level) →
     b ≡ further (r .level) (4 * w) (r .offset) → Left k (count lo w) o r t → Left l w (under (4 * w) x o) (record { level = d; left = r .left; offset = b }) z
 left-under l k w d b x y u t z o r el ey ez ed eb f =
     record {
@@ -72,8 +74,10 @@ module _ (w n : ℕ) (x : Memory) where
   pass-goes (suc l) h = ap (λ (t : Memory). under (4 * w) x (arrive fiveThree (suc l) (count lo w) n t)) (sym (rest-join (4 * w) x _))
 
 -- the LL row has gone on to the levels below, which leave t
-pub passed-goes : (l w n v d b : ℕ) (x y t z : Memory) (r : Wait) → 0 < l → v ≡ count lo w → y ≡ delivered w n x → Left l v (arrive fiveThree l v n (rest (4 * w) y)) r t →
-    z ≡ joinAt (4 * w) y t → d ≡ deeper (r .level) → b ≡ further (r .level) (4 * w) (r .offset) → Left (l + 1) w (passOn fiveThree l w n x) (record { level = d; left = r .left; offset = b }) z
+pub passed-goes : (l w n v d b : ℕ) (x y t z : Memory) (r : Wait) → 0 < l → v ≡ count lo w → y ≡ delivered w n x →
+    Left l v (arrive fiveThree l v n (rest (4 * w) y)) r t →
+    z ≡ joinAt (4 * w) y t → d ≡ deeper (r .level) → b ≡ further (r .level) (4 * w) (r .offset) → Left (l + 1) w (passOn fiveThree l w n x)
+    (record { level = d; left = r .left; offset = b }) z
 passed-goes l w n v d b x y t z r h ev e f ez ed eb =
     left-same (l + 1) w _ _ _ z (pass-goes w n x l h)
     (left-under (l + 1) l w d b x y _ t z _ r refl (e ∙ delivered-join w n x) ez ed eb (rw (ev, e) at f))
@@ -98,7 +102,8 @@ module _ (l w m : ℕ) (x : Memory) where
       go zero = unfold arrive in refl
       go (suc l) = unfold arrive arrived in simp (eq-eqb (m % 2) 0 (omega arith), le-ltb 0 m (omega arith))
 
-  pub arrive-even : (n : ℕ) → 0 < l → m ≡ 2 * n + 2 → arrive fiveThree l w m x ≡ settled (passOn fiveThree (l - 1) w) n (setWith w n m x) (skip w (m + 1) n (most (l - 1)))
+  pub arrive-even : (n : ℕ) → 0 < l → m ≡ 2 * n + 2 → arrive fiveThree l w m x ≡ settled (passOn fiveThree (l - 1) w) n (setWith w n m x)
+      (skip w (m + 1) n (most (l - 1)))
   arrive-even n h e = go l h
     where
       p : prev (m / 2) ≡ n

@@ -28,13 +28,15 @@ module _ (l w : ℕ) (x : Memory) where
   level-empty zero (suc m) e h = absurd (omega arith)
   level-empty (suc c) m e h = absurd (omega arith)
 
-  pub level-closes : (c m : ℕ) → c ≡ 0 → 0 < m → closeLevel fiveThree l w c m x ≡ settled (passOn fiveThree l w) (prev (count lo m)) (lastSet w m x) (skip w m (prev (count lo m)) (most l))
+  pub level-closes : (c m : ℕ) → c ≡ 0 → 0 < m → closeLevel fiveThree l w c m x ≡ settled (passOn fiveThree l w) (prev (count lo m)) (lastSet w m x)
+      (skip w m (prev (count lo m)) (most l))
   unfolding closeLevel
   level-closes zero zero e h = absurd (omega arith)
   level-closes zero (suc m) e h = refl
   level-closes (suc c) m e h = absurd (omega arith)
 
-module _ (l w c m k n q i : ℕ) (x x₁ : Memory) (e : c ≡ 0) (h : 0 < m) (ek : k ≡ count lo m) (en : n ≡ prev k) (e₁ : x₁ ≡ lastSet w m x) (eq : q ≡ most l) (ei : i ≡ skip w m n q) where
+module _ (l w c m k n q i : ℕ) (x x₁ : Memory) (e : c ≡ 0) (h : 0 < m) (ek : k ≡ count lo m) (en : n ≡ prev k) (e₁ : x₁ ≡ lastSet w m x)
+    (eq : q ≡ most l) (ei : i ≡ skip w m n q) where
   closes : closeLevel fiveThree l w c m x ≡ settled (passOn fiveThree l w) n x₁ i
   closes = level-closes l w x c m e h ∙ cc
 
@@ -50,14 +52,25 @@ closed-small l w o r x h g f = omega (arith, f .offset, f .level, f .within, sta
 
 pub shut-none : (l w c m : ℕ) (x : Memory) → l ≡ 0 → c ≤ l → Closed l w (shut fiveThree l w c m x) (record { closed = c; level = 0; left = 0; offset = 0 }) x
 unfolding shut
-shut-none zero w c m x e h = record { closed = refl; level = refl; left = refl; offset = sym (start-first w 0 (omega arith)); store = refl; within = omega arith; all = h }
+shut-none zero w c m x e h = record {
+  closed = refl;
+  level = refl;
+  left = refl;
+  offset = sym
+      (start-first w 0 (omega arith));
+  store = refl;
+  within = omega arith;
+  all = h;
+}
 shut-none (suc l) w c m x e h = absurd (omega arith)
 
-shut-more : (l w c m : ℕ) (x : Memory) → shut fiveThree (suc l) w c m x ≡ onward (4 * w) (shut fiveThree l (count lo w) (prev c) (count lo m)) (closeLevel fiveThree l w c m x) (closeLevel fiveThree l w c m x .level)
+shut-more : (l w c m : ℕ) (x : Memory) → shut fiveThree (suc l) w c m x ≡ onward (4 * w) (shut fiveThree l (count lo w) (prev c) (count lo m))
+    (closeLevel fiveThree l w c m x) (closeLevel fiveThree l w c m x .level)
 unfolding shut
 shut-more l w c m x = refl
 
-shut-is : (l w c m : ℕ) (x : Memory) → 0 < l → shut fiveThree l w c m x ≡ onward (4 * w) (shut fiveThree (l - 1) (count lo w) (prev c) (count lo m)) (closeLevel fiveThree (l - 1) w c m x) (closeLevel fiveThree (l - 1) w c m x .level)
+shut-is : (l w c m : ℕ) (x : Memory) → 0 < l → shut fiveThree l w c m x ≡ onward (4 * w) (shut fiveThree (l - 1) (count lo w) (prev c) (count lo m))
+    (closeLevel fiveThree (l - 1) w c m x) (closeLevel fiveThree (l - 1) w c m x .level)
 shut-is zero w c m x h = absurd (omega arith)
 shut-is (suc l) w c m x h = let p : suc l - 1 ≡ l = omega arith in rw p (shut-more l w c m x)
 
@@ -66,7 +79,8 @@ unfolding onward
 onward-waits a f o zero h = absurd (omega arith)
 onward-waits a f o (suc v) h = refl
 
-onward-goes : (a : ℕ) (f : Memory → Shut) (o : Out) (v : ℕ) → v ≡ 0 → onward a f o v ≡ record { closed = suc (f (rest a (o .store)) .closed); out = under a (o .store) (f (rest a (o .store)) .out) }
+onward-goes : (a : ℕ) (f : Memory → Shut) (o : Out) (v : ℕ) → v ≡ 0 →
+    onward a f o v ≡ record { closed = suc (f (rest a (o .store)) .closed); out = under a (o .store) (f (rest a (o .store)) .out) }
 unfolding onward
 onward-goes a f o zero h = refl
 onward-goes a f o (suc v) h = absurd (omega arith)
@@ -78,13 +92,24 @@ module _ (l w c m : ℕ) (x y : Memory) (r : Wait) (h : 0 < l) (f : Left (l - 1 
   pub shut-waits : 0 < r .level → Closed l w (shut fiveThree l w c m x) (record { closed = 1; level = r .level; left = r .left; offset = r .offset }) y
   shut-waits g =
       let e : shut fiveThree l w c m x ≡ record { closed = 1; out = o } = shut-is l w c m x h ∙ onward-waits _ _ o (o .level) (omega (arith, f .level)) in
-      rw e (record { closed = refl; level = f .level; left = f .left; offset = f .offset; store = f .store; within = omega (arith, f .within); all = omega arith })
+      rw e (record {
+        closed = refl;
+        level = f .level;
+        left = f .left;
+        offset = f .offset;
+        store = f .store;
+        within = omega
+            (arith, f .within);
+        all = omega arith;
+      })
 
   pub shut-goes : (v p k d b : ℕ) (t z : Memory) (q : Closure) → r .level ≡ 0 → v ≡ count lo w → p ≡ prev c → k ≡ count lo m →
       Closed (l - 1) v (shut fiveThree (l - 1) v p k (rest (4 * w) y)) q t → z ≡ joinAt (4 * w) y t → d ≡ deeper (q .level) →
-      b ≡ further (q .level) (4 * w) (q .offset) → Closed l w (shut fiveThree l w c m x) (record { closed = q .closed + 1; level = d; left = q .left; offset = b }) z
+      b ≡ further (q .level) (4 * w) (q .offset) → Closed l w (shut fiveThree l w c m x)
+      (record { closed = q .closed + 1; level = d; left = q .left; offset = b }) z
   shut-goes v p k d b t z q g ev ep ek s ez ed eb =
-      let below : Closed (l - 1) (count lo w) (shut fiveThree (l - 1) (count lo w) (prev c) (count lo m) (rest (4 * w) (o .store))) q t = rw (ev, ep, ek, f .store) at s in
+      let below : Closed (l - 1) (count lo w) (shut fiveThree (l - 1) (count lo w) (prev c) (count lo m) (rest (4 * w) (o .store))) q t = rw
+      (ev, ep, ek, f .store) at s in
       let e = shut-is l w c m x h ∙ onward-goes _ _ o (o .level) (sym (f .level) ∙ g) in
       rw e (record {
         closed = add-one (q .closed) ∙ ap suc (below .closed);

@@ -110,10 +110,14 @@ height-range h p = (record { le = le→leb 0 h (omega arith) }, record { le = le
 made-prefix : (W L H r : ℕ) → r ≤ H → (k : List RowName) × (made W L r false ++ k ≡ made W L H true)
 unfolding made
 made-prefix W L H r h =
-    let q = turn-prefix H r (madeBy L 1 W) h in
-    (q .0 ++ closing L 1 W H, ap (λ b. b ++ (q .0 ++ closing L 1 W H)) (append-nil (inTurn r (madeBy L 1 W))) ∙ sym (append-assoc (inTurn r (madeBy L 1 W)) (q .0) (closing L 1 W H)) ∙ ap (λ b. b ++ closing L 1 W H) (q .1))
+    let q = turn-prefix H r (madeBy L 1 W) h in (
+      q .0 ++ closing L 1 W H,
+      ap (λ b. b ++ (q .0 ++ closing L 1 W H)) (append-nil (inTurn r (madeBy L 1 W)))
+          ∙ sym (append-assoc (inTurn r (madeBy L 1 W)) (q .0) (closing L 1 W H)) ∙ ap (λ b. b ++ closing L 1 W H) (q .1),
+    )
 
-module _ (l W : ℕ) (wide : within 1 maxWidth W ≡ true) (deep : within 1 maxLevels (suc l) ≡ true) (es : List Event) (n r c cl v i : ℕ) (x : Memory) (long : storeLength W (suc l) ≤ n) (a : At (suc l) W (taken es) (finishedBy es) (drawn es) r c cl v i x) where
+module _ (l W : ℕ) (wide : within 1 maxWidth W ≡ true) (deep : within 1 maxLevels (suc l) ≡ true) (es : List Event) (n r c cl v i : ℕ) (x : Memory)
+    (long : storeLength W (suc l) ≤ n) (a : At (suc l) W (taken es) (finishedBy es) (drawn es) r c cl v i x) where
   abbrev M : ℕ
   M = suc l
 
@@ -152,7 +156,8 @@ module _ (l W : ℕ) (wide : within 1 maxWidth W ≡ true) (deep : within 1 maxL
           let z : r ≡ H = rows-all W H r c (some-width W wide) (a .ended e .1) (sym (a .counted) ∙ t .whole e) in
           ([], append-nil _ ∙ ap (λ b. made W M b true) z)
 
-  is-first : (H : ℕ) (g : Grid) → MapOf W H g es → (k : List RowName) × (map (λ d. d .row) (drawn es) ++ map (answered W) k ≡ map (answered W) (made W M H true))
+  is-first : (H : ℕ) (g : Grid) → MapOf W H g es → (k : List RowName) × (map (λ d. d .row) (drawn es) ++ map (answered W) k ≡ map (answered W)
+      (made W M H true))
   is-first H g m =
       let s = own-sound a in
       let p = firsts H g m in (
@@ -184,7 +189,8 @@ module _ (l W : ℕ) (wide : within 1 maxWidth W ≡ true) (deep : within 1 maxL
       (all-map (right-values M W H g (five-levels l deep) es m) (go g₀ refl a))
     where
       go : (b : Bool) → g₀ ≡ b → At M W (taken es) g₀ (drawn es) r c cl v i x → All (Right M W H g) (take (length (made W M r false)) (drawn es))
-      go false e h = all-take (length (made W M r false)) (subst (λ b. At M W (taken es) b (drawn es) r c cl v i x) e h .sound H g (begins-fits W H g es m) .values)
+      go false e h = all-take (length (made W M r false)) (subst (λ b. At M W (taken es) b (drawn es) r c cl v i x) e h .sound H g
+          (begins-fits W H g es m) .values)
       go true e h = h .early e .right H g (begins-fits W H g es m)
 
   whole-map : g₀ ≡ true → (1 ≤ wholeRows W es) × (wholeRows W es ≤ maxHeight) × (length (taken es) ≡ W * wholeRows W es)
@@ -222,7 +228,8 @@ set-up-passed : (W L n : ℕ) → setUpQuestion W L n ≡ 0 → (within 1 maxWid
 unfolding setUpQuestion
 set-up-passed W L n e = go (within 1 maxWidth W) refl (within 1 maxLevels L) refl (leb (storeLength W L) n) refl e
   where
-    go : (p : Bool) → within 1 maxWidth W ≡ p → (q : Bool) → within 1 maxLevels L ≡ q → (t : Bool) → leb (storeLength W L) n ≡ t → ask p 2 (ask q 4 (ask t 5 0)) ≡ 0 → (within 1 maxWidth W ≡ true) × (within 1 maxLevels L ≡ true) × (storeLength W L ≤ n)
+    go : (p : Bool) → within 1 maxWidth W ≡ p → (q : Bool) → within 1 maxLevels L ≡ q → (t : Bool) → leb (storeLength W L) n ≡ t →
+        ask p 2 (ask q 4 (ask t 5 0)) ≡ 0 → (within 1 maxWidth W ≡ true) × (within 1 maxLevels L ≡ true) × (storeLength W L ≤ n)
     go false a q b t c z = absurd (omega arith)
     go true a false b t c z = absurd (omega arith)
     go true a true b false c z = absurd (omega arith)
@@ -241,5 +248,9 @@ demand-3 W (suc l) n x h cs =
     let w = freshWorld W (suc l) n x in
     let m = list-reached l W (p .0) (p .1) cs [] w (fresh-reached l W (p .0) (p .1) n (w .store) (some-width W (p .0)) (p .2)) in
     let e = final cs w in
-    subst (λ s. (inRanges s ≡ true) × Demand3 W (suc l) (events cs w) (λ k. event k (record { writer = s; length = e .length; store = e .store }))) (sym (m .writer-is))
-    (in-ranges (m .at) (p .0) (p .1), claim l W (p .0) (p .1) (events cs w) (e .length) (m .rows) (m .column) (m .closed) (m .level) (m .rest) (e .store) (m .long) (m .at))
+    subst (λ s. (inRanges s ≡ true) × Demand3 W (suc l) (events cs w) (λ k. event k (record { writer = s; length = e .length; store = e .store })))
+    (sym (m .writer-is)) (
+      in-ranges (m .at) (p .0) (p .1),
+      claim l W (p .0) (p .1) (events cs w) (e .length) (m .rows) (m .column) (m .closed) (m .level) (m .rest)
+          (e .store) (m .long) (m .at),
+    )

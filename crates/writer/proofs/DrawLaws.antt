@@ -20,7 +20,8 @@ use Rattle.writer.specs.Draws.{lower, rowOf, waiting, pull}
 use Rattle.writer.specs.Questions.{waitingRow}
 use Rattle.writer.specs.Calls.{pulled}
 use Rattle.writer.specs.Steps.{Left, Found, Reaches, waitingAt, pullAt, from, lastSetOf, spotOf}
-use Rattle.writer.proofs.CountLaws.{slot-room, prev-is, start-first, start-deeper, further-none, further-some, deeper-by-same, deeper-by-more, deeper-by-none, deeper-by-some, deeper-by-le}
+use Rattle.writer.proofs.CountLaws.{slot-room, prev-is, start-first, start-deeper, further-none, further-some, deeper-by-same, deeper-by-more}
+use Rattle.writer.proofs.CountLaws.{deeper-by-none, deeper-by-some, deeper-by-le}
 use Rattle.writer.proofs.RestLaws.{rest-at, join-below, join-past}
 use Rattle.writer.proofs.CascadeLaws.{left-waits, left-same, left-under, settled-waits, settled-goes}
 
@@ -40,7 +41,8 @@ module _ (w c i m : ℕ) where
   waiting-here (suc l) (suc zero) h e = refl
   waiting-here (suc l) (suc (suc v)) h e = absurd (omega arith)
 
-  pub waiting-below : (l v : ℕ) → 0 < l → 1 < v → waiting fiveThree l w c v i m ≡ lower (4 * w) (waiting fiveThree (l - 1) (count lo w) (prev c) (v - 1) i (made c m))
+  pub waiting-below : (l v : ℕ) → 0 < l → 1 < v → waiting fiveThree l w c v i m ≡ lower (4 * w) (waiting fiveThree (l - 1) (count lo w) (prev c)
+      (v - 1) i (made c m))
   unfolding waiting
   waiting-below zero v h e = absurd (omega arith)
   waiting-below (suc l) zero h e = absurd (omega arith)
@@ -50,14 +52,16 @@ module _ (w c i m : ℕ) where
       let q : suc (suc v) - 1 ≡ suc v = omega arith in
       rw (p, q) refl
 
-  pub pull-here : (l v : ℕ) (x : Memory) → 0 < l → v ≡ 1 → pull fiveThree l w c v i m x ≡ settled (passOn fiveThree (l - 1) w) (prev (made c m)) x (skip w m (prev (made c m)) (prev i))
+  pub pull-here : (l v : ℕ) (x : Memory) → 0 < l → v ≡ 1 → pull fiveThree l w c v i m x ≡ settled (passOn fiveThree (l - 1) w) (prev (made c m)) x
+      (skip w m (prev (made c m)) (prev i))
   unfolding pull
   pull-here zero v x h e = absurd (omega arith)
   pull-here (suc l) zero x h e = absurd (omega arith)
   pull-here (suc l) (suc zero) x h e = let p : suc l - 1 ≡ l = omega arith in rw p refl
   pull-here (suc l) (suc (suc v)) x h e = absurd (omega arith)
 
-  pub pull-below : (l v : ℕ) (x : Memory) → 0 < l → 1 < v → pull fiveThree l w c v i m x ≡ under (4 * w) x (pull fiveThree (l - 1) (count lo w) (prev c) (v - 1) i (made c m) (rest (4 * w) x))
+  pub pull-below : (l v : ℕ) (x : Memory) → 0 < l → 1 < v → pull fiveThree l w c v i m x ≡ under (4 * w) x (pull fiveThree (l - 1) (count lo w)
+      (prev c) (v - 1) i (made c m) (rest (4 * w) x))
   unfolding pull
   pull-below zero v x h e = absurd (omega arith)
   pull-below (suc l) zero x h e = absurd (omega arith)
@@ -69,7 +73,8 @@ module _ (w c i m : ℕ) where
 
 -- ---- the store from a place on, in two steps
 pub rest-rest : (a b : ℕ) (x : Memory) → rest b (rest a x) ≡ rest (a + b) x
-rest-rest a b x = fun-ext λ j. let k : a + (b + j) ≡ a + b + j = omega arith in rest-at b (rest a x) j ∙ rest-at a x (b + j) ∙ ap x k ∙ sym (rest-at (a + b) x j)
+rest-rest a b x = fun-ext λ j. let k : a + (b + j) ≡ a + b + j = omega arith in rest-at b (rest a x) j ∙ rest-at a x (b + j) ∙ ap x k
+    ∙ sym (rest-at (a + b) x j)
 
 pub join-join : (a b : ℕ) (x t : Memory) → joinAt a x (joinAt b (rest a x) t) ≡ joinAt (a + b) x t
 join-join a b x t =
@@ -114,7 +119,8 @@ module _ (w c m l v a i : ℕ) (e : v ≡ 1) (z : a ≡ 0) where
       let k : 0 + bandPlace w (prev (made c m)) (bandAt (prev i)) ≡ bandPlace w (prev (made c m)) (bandAt (prev i)) = omega arith in
       rw (z, e, k) refl
 
-  pull-first : (x : Memory) → pullAt v a (record { below = l; width = w; closed = c; rows = m }) i x ≡ settled (passOn fiveThree l w) (prev (made c m)) x (skip w m (prev (made c m)) (prev i))
+  pull-first : (x : Memory) → pullAt v a (record { below = l; width = w; closed = c; rows = m }) i x ≡ settled (passOn fiveThree l w)
+      (prev (made c m)) x (skip w m (prev (made c m)) (prev i))
   unfolding pullAt
   pull-first x = rw (z, e, rest-first x) (from-first x _)
 
@@ -188,7 +194,8 @@ starts-below w v h (suc u) g f =
     ∙ sum
     ∙ further-some (suc u) (startOf w v) _ (omega arith)
 
-pub reaches-below : (l w c v m h p k : ℕ) (r : Level) → 1 < v → v ≤ l → h ≡ count lo w → p ≡ prev c → k ≡ made c m → Reaches (l - 1) h p (v - 1) k r → Reaches l w c v m r
+pub reaches-below : (l w c v m h p k : ℕ) (r : Level) → 1 < v → v ≤ l → h ≡ count lo w → p ≡ prev c → k ≡ made c m → Reaches (l - 1) h p (v - 1) k r →
+    Reaches l w c v m r
 reaches-below l w c v m h p k r g g′ eh ep ek f =
     let below : Reaches (l - 1) (count lo w) (prev c) (v - 1) (made c m) r = rw (eh, ep, ek) at f in
     record {
@@ -213,12 +220,15 @@ module _ (v a : ℕ) (r : Level) (i : ℕ) where
   unfolding pullAt
   pull-is x k n p j ek en ep ej = cc
 
-module _ (s : Writer) (r : Level) (f : Reaches (s .levels) (s .width) (s .closed) (s .level) (s .rows) r) (placed : s .offset ≡ startOf (s .width) (s .level)) where
+module _ (s : Writer) (r : Level) (f : Reaches (s .levels) (s .width) (s .closed) (s .level) (s .rows) r) (placed : s .offset ≡ startOf (s .width)
+    (s .level)) where
   row-is : waitingRow s ≡ waitingAt (s .level) (s .offset) r (s .left)
   row-is = f .waits (s .left) ∙ ap (λ (a : ℕ). waitingAt (s .level) a r (s .left)) (sym placed)
 
-  pub found : (k n i b d p : ℕ) → 0 < s .level → k ≡ made (r .closed) (r .rows) → n ≡ prev k → i ≡ prev (s .left) → b ≡ code (bandAt i) → d ≡ count (across (bandAt i)) (r .width) →
-      p ≡ bandPlace (r .width) n (bandAt i) → Found (s .levels) (s .width) (waitingRow s) (record { level = s .level; band = b; row = n; length = d; start = s .offset + p })
+  pub found : (k n i b d p : ℕ) → 0 < s .level → k ≡ made (r .closed) (r .rows) → n ≡ prev k → i ≡ prev (s .left) → b ≡ code (bandAt i) →
+      d ≡ count (across (bandAt i)) (r .width) →
+      p ≡ bandPlace (r .width) n (bandAt i) → Found (s .levels) (s .width) (waitingRow s)
+      (record { level = s .level; band = b; row = n; length = d; start = s .offset + p })
   found k n i b d p h ek en ei eb ed ep =
       let q = place-room (r .width) n (bandAt i) in
       let g = store-next (r .width) (r .below) in
@@ -228,9 +238,11 @@ module _ (s : Writer) (r : Level) (f : Reaches (s .levels) (s .width) (s .closed
         within = omega (arith, f .deep);
       }
 
-  module _ (x : Memory) (k n p i : ℕ) (ek : k ≡ made (r .closed) (r .rows)) (en : n ≡ prev k) (ep : p ≡ prev (s .left)) (ei : i ≡ skip (r .width) (r .rows) n p) where
+  module _ (x : Memory) (k n p i : ℕ) (ek : k ≡ made (r .closed) (r .rows)) (en : n ≡ prev k) (ep : p ≡ prev (s .left)) (ei : i ≡ skip (r .width)
+      (r .rows) n p) where
     draw-is : pulled s x ≡ from (prev (s .level)) (s .offset) x (settled (passOn fiveThree (r .below) (r .width)) n (rest (s .offset) x) i)
-    draw-is = f .pulls (s .left) x ∙ ap (λ (a : ℕ). pullAt (s .level) a r (s .left) x) (sym placed) ∙ pull-is (s .level) (s .offset) r (s .left) x k n p i ek en ep ei
+    draw-is = f .pulls (s .left) x ∙ ap (λ (a : ℕ). pullAt (s .level) a r (s .left) x) (sym placed) ∙ pull-is (s .level) (s .offset) r
+        (s .left) x k n p i ek en ep ei
 
     -- the next band of the set waits
     pub pull-waits : 0 < s .level → 0 < i → Left (s .levels) (s .width) (pulled s x) (record { level = s .level; left = i; offset = s .offset }) x
@@ -239,10 +251,18 @@ module _ (s : Writer) (r : Level) (f : Reaches (s .levels) (s .width) (s .closed
         let v : 1 + prev (s .level) ≡ s .level = omega (arith, prev-is (s .level)) in
         let d : deeperBy (prev (s .level)) 1 ≡ s .level = sym (deeper-by-some (prev (s .level)) 1 (omega arith)) ∙ v in
         left-same (s .levels) (s .width) _ _ _ x (draw-is ∙ ap (from (prev (s .level)) (s .offset) x) q)
-        (record { level = sym d; left = refl; offset = placed ∙ ap (startOf (s .width)) (sym d); store = join-rest (s .offset) x; within = omega (arith, f .deep) })
+        (record {
+          level = sym d;
+          left = refl;
+          offset = placed ∙ ap (startOf (s .width)) (sym d);
+          store = join-rest (s .offset) x;
+          within = omega
+              (arith, f .deep);
+        })
 
     -- its LL row goes on
-    pub pull-goes : (o : Wait) (t z : Memory) (d b : ℕ) → 0 < s .level → i ≡ 0 → Left (r .below + 1) (r .width) (passOn fiveThree (r .below) (r .width) n (rest (s .offset) x)) o t →
+    pub pull-goes : (o : Wait) (t z : Memory) (d b : ℕ) → 0 < s .level → i ≡ 0 →
+        Left (r .below + 1) (r .width) (passOn fiveThree (r .below) (r .width) n (rest (s .offset) x)) o t →
         z ≡ joinAt (s .offset) x t → d ≡ deeperBy (s .level - 1) (o .level) → b ≡ further (o .level) (s .offset) (o .offset) →
         Left (s .levels) (s .width) (pulled s x) (record { level = d; left = o .left; offset = b }) z
     pull-goes o t z d b h g a ez ed eb =

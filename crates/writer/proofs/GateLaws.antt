@@ -41,7 +41,9 @@ module _ (p q : ℕ) where
   asked-all false b h = absurd (omega arith)
 
 -- ---- question 1, the tests but the last passed
-pub ranges-last : (s : Writer) → within 1 2049 (s .width) ≡ true → within 1 5 (s .levels) ≡ true → s .rows ≤ 65535 → s .column < s .width → s .closed ≤ s .levels → s .level ≤ s .levels → s .left ≤ mostLeft (s .levels) (s .level) → (b : Bool) → eqb (s .offset) (startOf (s .width) (s .level)) ≡ b → b ≡ inRanges s
+pub ranges-last : (s : Writer) → within 1 2049 (s .width) ≡ true → within 1 5 (s .levels) ≡ true → s .rows ≤ 65535 → s .column < s .width →
+    s .closed ≤ s .levels → s .level ≤ s .levels → s .left ≤ mostLeft (s .levels) (s .level) → (b : Bool) → eqb (s .offset)
+    (startOf (s .width) (s .level)) ≡ b → b ≡ inRanges s
 unfolding inRanges maxWidth maxHeight maxLevels
 ranges-last s a b d e f g h t is = simp (a, b, le-leb _ _ d, lt-ltb _ _ e, le-leb _ _ f, le-leb _ _ g, le-leb _ _ h) (sym is)
 

@@ -1,4 +1,5 @@
--- A look at what waits: as the code's branches meet it, and that it says what the next draw gives (`look-says`, `look-room`), by the history too (`look-waits`).
+-- A look at what waits: as the code's branches meet it, and that it says what the next draw gives (`look-says`, `look-room`), by the history too
+-- (`look-waits`).
 -- Assumes nothing.
 use mathlib.Core.Bool.{Bool, true, false, not}
 use mathlib.Core.Path.{_≡_, refl, sym, ap, _∙_}
@@ -112,7 +113,8 @@ look-waits W L n x s cs = go (waitingOf W L (events cs w)) refl
     area : ℕ → Area
     area k = record { size = k; numbers = λ _. pos 0 }
 
-    drawn-as : (k : ℕ) (g : Given) → drawSays W (waitingOf W L (events cs w)) k ≡ gives g → seen given (drawReply (e .writer) (e .length) k (e .store)) ≡ gives g
+    drawn-as : (k : ℕ) (g : Given) → drawSays W (waitingOf W L (events cs w)) k ≡ gives g →
+        seen given (drawReply (e .writer) (e .length) k (e .store)) ≡ gives g
     drawn-as k g z = let d = demand-3 W L n x s cs .1 .draws (area k) .says in cc (d, z)
 
     go : (l : List RowName) → waitingOf W L (events cs w) ≡ l → waitsReply (e .writer) ≡ gives (nextRow W l)

@@ -19,7 +19,8 @@ use Rattle.writer.specs.Taking.{Taking, takes, offering}
 use Rattle.writer.specs.Questions.{inRanges, longEnough, offerQuestion, drawQuestion, finishQuestion}
 use Rattle.writer.specs.Answers.{gives, unless, changedUnless}
 use Rattle.writer.specs.Holds.{left, after}
-use Rattle.writer.specs.Calls.{setUpStore, took, waits, closing, resumed, handed, handedStore, handedArea, offerReply, offerStore, drawReply, drawStore, drawArea, finishReply, finishStore}
+use Rattle.writer.specs.Calls.{setUpStore, took, waits, closing, resumed, handed, handedStore, handedArea, offerReply, offerStore, drawReply}
+use Rattle.writer.specs.Calls.{drawStore, drawArea, finishReply, finishStore}
 use Rattle.writer.specs.History.{Area, Call, offer, draw, finish, offered, drew, finished, World, seen, given, event, next, events, final, freshWorld}
 use Rattle.writer.specs.Before as before
 use Rattle.writer.specs.Before.{Before}
@@ -98,13 +99,18 @@ module _ (b : Before) (n : ℕ) (x : Memory) where
   offer-event run (suc q) t e = refl
 
   offer-next : (run : List ℕ) (q : ℕ) (t : Taking) → t ≡ taking (before.offering run b x) →
-      record { writer = left (λ k. k .writer) (carry b) (unless q (took t)); length = n; store = changedUnless q (t .store) x } ≡ carries (before.offerNext w run q)
+      record { writer = left (λ k. k .writer) (carry b) (unless q (took t)); length = n; store = changedUnless q (t .store) x } ≡ carries
+      (before.offerNext w run q)
   unfolding before.offerNext
   offer-next run zero t e = ap (λ k. record { writer = k .writer; length = n; store = k .store }) e
   offer-next run (suc q) t e = refl
 
   draw-event : (a : Area) (q v : ℕ) →
-      drew a (seen given (unless q (handed v (carry b) x))) (record { size = a .size; numbers = changedUnless q (handedArea v (carry b) x (a .numbers)) (a .numbers) })
+      drew a (seen given (unless q (handed v (carry b) x))) (record {
+        size = a .size;
+        numbers = changedUnless q (handedArea v (carry b) x
+            (a .numbers)) (a .numbers);
+      })
       ≡ drew a (unless q (before.handed v b)) (record { size = a .size; numbers = changedUnless q (before.handedArea v b x (a .numbers)) (a .numbers) })
   draw-event a zero zero = refl
   draw-event a zero (suc v) = refl
@@ -115,7 +121,8 @@ module _ (b : Before) (n : ℕ) (x : Memory) where
       ≡ carries (before.world (changedUnless q (before.handedWriter v b x) b) n (changedUnless q (before.handedStore v b x) x))
   draw-next zero zero = refl
   draw-next zero (suc v) =
-      ap (λ r. record { writer = waits (b .finished) (carry b) r; length = n; store = r .out .store }) (same-resumed b (b .finished) (before.pulled b x) (before.pulled b x .level))
+      ap (λ r. record { writer = waits (b .finished) (carry b) r; length = n; store = r .out .store }) (same-resumed b (b .finished)
+      (before.pulled b x) (before.pulled b x .level))
   draw-next (suc q) v = refl
 
   finish-event : (q : ℕ) → finished (seen (λ _. tt) (unless q (waits true (carry b) (closing (carry b) x)))) ≡ before.finishEvent w q
@@ -124,7 +131,12 @@ module _ (b : Before) (n : ℕ) (x : Memory) where
   finish-event (suc q) = refl
 
   finish-next : (q : ℕ) →
-      record { writer = left (λ s. s) (carry b) (unless q (waits true (carry b) (closing (carry b) x))); length = n; store = changedUnless q (closing (carry b) x .out .store) x }
+      record {
+        writer = left (λ s. s) (carry b) (unless q (waits true (carry b) (closing (carry b) x)));
+        length = n;
+        store = changedUnless q
+            (closing (carry b) x .out .store) x;
+      }
       ≡ carries (before.finishNext w q)
   unfolding before.finishNext
   finish-next zero = refl

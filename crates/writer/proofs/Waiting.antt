@@ -36,7 +36,8 @@ module _ (k w m n : ℕ) where
   skip-rows zero = refl
   skip-rows (suc i) = go (hasRow w m (bandAt i) n) refl (skip-rows i)
     where
-      go : (t : Bool) → hasRow w m (bandAt i) n ≡ t → rowsOf k w m n (lasts (skip w m n i)) ≡ rowsOf k w m n (lasts i) → rowsOf k w m n (lasts (pick t (suc i) (skip w m n i))) ≡ rowsOf k w m n (lasts (suc i))
+      go : (t : Bool) → hasRow w m (bandAt i) n ≡ t → rowsOf k w m n (lasts (skip w m n i)) ≡ rowsOf k w m n (lasts i) →
+          rowsOf k w m n (lasts (pick t (suc i) (skip w m n i))) ≡ rowsOf k w m n (lasts (suc i))
       go true e h = refl
       go false e h = h ∙ sym (unfold lasts in rows-no (bandAt i) (lasts i) e)
 
@@ -45,7 +46,8 @@ unfolding skip
 skip-has w m n zero j e = absurd (omega arith)
 skip-has w m n (suc i) j e = go (hasRow w m (bandAt i) n) refl (skip-has w m n i j) e
   where
-    go : (t : Bool) → hasRow w m (bandAt i) n ≡ t → (skip w m n i ≡ suc j → hasRow w m (bandAt j) n ≡ true) → pick t (suc i) (skip w m n i) ≡ suc j → hasRow w m (bandAt j) n ≡ true
+    go : (t : Bool) → hasRow w m (bandAt i) n ≡ t → (skip w m n i ≡ suc j → hasRow w m (bandAt j) n ≡ true) → pick t (suc i) (skip w m n i) ≡ suc j →
+        hasRow w m (bandAt j) n ≡ true
     go true h ih z = let q : i ≡ j = omega arith in ap (λ a. hasRow w m (bandAt a) n) (sym q) ∙ h
     go false h ih z = ih z
 
@@ -92,7 +94,8 @@ later-none zero k w m = refl
 later-none (suc l) k w m = refl
 
 -- the last set of the first level, then the levels below it
-pub later-first : (l k w m : ℕ) → later (suc l) k w m 0 ≡ (setRows l k w m (count lo m - 1) ++ madeBy l (suc k) (count lo w) (count lo m - 1)) ++ later (suc l) k w m 1
+pub later-first : (l k w m : ℕ) → later (suc l) k w m 0 ≡ (setRows l k w m (count lo m - 1) ++ madeBy l (suc k) (count lo w)
+    (count lo m - 1)) ++ later (suc l) k w m 1
 unfolding later closing
 later-first l k w m =
     ap (λ r. (setRows l k w m (count lo m - 1) ++ madeBy l (suc k) (count lo w) (count lo m - 1)) ++ r)

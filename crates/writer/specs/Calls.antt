@@ -42,7 +42,17 @@ offerStore s n run x = changedUnless (offerQuestion s n (length run)) (offering 
 -- ---- finish: "At the finish level 1 closes first, then level 2, and so on."
 -- the writer with what waits, f: finished
 abbrev pub waits : Bool → Writer → Shut → Writer
-waits f s r = record { width = s .width; levels = s .levels; rows = s .rows; column = s .column; finished = f; closed = r .closed; level = r .out .level; left = r .out .left; offset = startOf (s .width) (r .out .level) }
+waits f s r = record {
+  width = s .width;
+  levels = s .levels;
+  rows = s .rows;
+  column = s .column;
+  finished = f;
+  closed = r .closed;
+  level = r .out .level;
+  left = r .out .left;
+  offset = startOf (s .width) (r .out .level);
+}
 
 abbrev pub closing : Writer → Memory → Shut
 closing s x = shut fiveThree (s .levels) (s .width) 0 (s .rows) x

@@ -25,7 +25,8 @@ unfoldable pub further : ℕ → ℕ → ℕ → ℕ
 further zero a o = 0
 further (suc v) a o = a + o
 
--- How many sets a level has made that has received m rows; c = 0: and that is not closed. "Set n of a level is made when its row 2n+2 is complete, or when the map is finished."
+-- How many sets a level has made that has received m rows; c = 0: and that is not closed. "Set n of a level is made when its row 2n+2 is complete, or
+-- when the map is finished."
 unfoldable pub made : ℕ → ℕ → ℕ
 made zero m = (m - 1) / 2
 made (suc c) m = count lo m

@@ -1,4 +1,5 @@
--- What stands in the line store of a writer, for a map g of H rows: `Holds H g s x`. While a band row of any level waits, its values are the map's; that is in it too.
+-- What stands in the line store of a writer, for a map g of H rows: `Holds H g s x`. While a band row of any level waits, its values are the map's;
+-- that is in it too.
 -- The numbers are 32-bit words (`wrap32`); for a map they are T.800's whole numbers.
 use mathlib.Core.Path.{_≡_}
 use mathlib.Core.Bool.{true, false}

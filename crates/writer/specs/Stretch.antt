@@ -22,7 +22,17 @@ nextCount s k = pick (takes s) (min (s .width - s .column) k) 0
 
 -- the writer at column c of its row
 abbrev pub atColumn : Writer → ℕ → Writer
-atColumn s c = record { width = s .width; levels = s .levels; rows = s .rows; column = c; finished = s .finished; closed = s .closed; level = s .level; left = s .left; offset = s .offset }
+atColumn s c = record {
+  width = s .width;
+  levels = s .levels;
+  rows = s .rows;
+  column = c;
+  finished = s .finished;
+  closed = s .closed;
+  level = s .level;
+  left = s .left;
+  offset = s .offset;
+}
 
 -- a writer that can take a height, with a store of n numbers
 pub record Taker (s : Writer) (n : ℕ) : Type 0 where

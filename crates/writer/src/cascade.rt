@@ -1,4 +1,5 @@
-// What a row makes, down the levels. Each level works in its own stretch of the store; the rest of the store is lent on to the levels below. The module is private: only this crate, which meets what is required, can call it.
+// What a row makes, down the levels. Each level works in its own stretch of the store; the rest of the store is lent on to the levels below.
+// The module is private: only this crate, which meets what is required, can call it.
 use crate::copies;
 use crate::counts;
 use crate::sets;
@@ -12,7 +13,8 @@ ghost use Rattle.writer.specs.FiveThreeLevel.{fiveThree};
 ghost use Rattle.writer.specs.Machine.{arrive, passOn};
 ghost use Rattle.writer.specs.Steps.{Left, Room, delivered};
 
-// What waits: the level, from 1, of the set that is being handed out (0: nothing), the bands of it that are left, and where that level's stretch begins, counted as the level is.
+// What waits: the level, from 1, of the set that is being handed out (0: nothing), the bands of it that are left, and where that level's stretch begins,
+// counted as the level is.
 pub struct Wait {
     pub level: usize,
     pub left: usize,

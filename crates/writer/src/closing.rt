@@ -1,4 +1,5 @@
-// The finish: the levels close in turn, each once nothing waits at any level. The module is private: only this crate, which meets what is required, can call it.
+// The finish: the levels close in turn, each once nothing waits at any level.
+// The module is private: only this crate, which meets what is required, can call it.
 use crate::cascade;
 use crate::cascade::Wait;
 use crate::counts;

@@ -9,7 +9,8 @@ ghost use Rattle.numbers.specs.Signal.{at};
 ghost use Rattle.writer.specs.Taking.{heightAt};
 ghost use Rattle.writer.specs.Stretch.{heightsPut, nextCount, Taker, Stretched};
 
-// Pairs of heights of a run, from height `from` on, to the columns of row m from `column` on. One loop stores both of a pair: the compiler then reads whole vectors.
+// Pairs of heights of a run, from height `from` on, to the columns of row m from `column` on. One loop stores both of a pair: the compiler then reads
+// whole vectors.
 fn fill_pairs(
     store: &mut [i32],
     w: usize,

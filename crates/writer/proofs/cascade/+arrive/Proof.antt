@@ -69,7 +69,11 @@ arrive-sub-n : (t : ℕ) → arrive-lts.Need-sub-n (claims t) (arrive-at t) arri
 arrive-sub-n t c = search needs
 
 arrive-make-with-requires : (t : ℕ) → arrive-lts.Need-make-with-requires (claims t) (arrive-at t) arrive.Post
-arrive-make-with-requires t c κs = omega (arith, store-back (c .before .before .before .before .args .w) (c .before .before .before .before .args .l) (omega arith))
+arrive-make-with-requires t c κs = omega (
+  arith,
+  store-back (c .before .before .before .before .args .w) (c .before .before .before .before .args .l)
+      (omega arith),
+)
 
 arrive-add-next-band : (t : ℕ) → arrive-lts.Need-add-next-band (claims t) (arrive-at t) arrive.Post
 arrive-add-next-band t c = search needs
@@ -89,7 +93,8 @@ arrive-same-length t c = search needs
 arrive-returns-4 : (t : ℕ) → arrive-lts.Need-returns-4 (claims t) (arrive-at t) arrive.Post
 arrive-returns-4 t c =
     let a = c .before .before .before .before .before .before .before .before .before .args in
-    came-waits (a .l) (a .w) (a .m) (a .m / 2 - 1) _ _ _ (omega arith) (omega arith) (c .before .before .before .before .make-with .ensures) (c .before .next-band .ensures ∙ ap (skip (a .w) (a .m + 1) (a .m / 2 - 1)) (c .before .before .most .ensures)) (omega arith)
+    came-waits (a .l) (a .w) (a .m) (a .m / 2 - 1) _ _ _ (omega arith) (omega arith) (c .before .before .before .before .make-with .ensures)
+    (c .before .next-band .ensures ∙ ap (skip (a .w) (a .m + 1) (a .m / 2 - 1)) (c .before .before .most .ensures)) (omega arith)
 
 arrive-same-length-2 : (t : ℕ) → arrive-lts.Need-same-length-2 (claims t) (arrive-at t) arrive.Post
 arrive-same-length-2 t c = search needs
@@ -97,7 +102,9 @@ arrive-same-length-2 t c = search needs
 arrive-returns-5 : (t : ℕ) → arrive-lts.Need-returns-5 (claims t) (arrive-at t) arrive.Post
 arrive-returns-5 t c =
     let a = c .before .before .before .before .before .before .before .before .before .before .args in
-    came-last (a .l) (a .w) (a .m) (a .m / 2 - 1) _ _ _ (omega arith) (omega arith) (c .before .before .before .before .before .make-with .ensures) (c .before .before .next-band .ensures ∙ ap (skip (a .w) (a .m + 1) (a .m / 2 - 1)) (c .before .before .before .most .ensures)) (omega arith) (omega arith)
+    came-last (a .l) (a .w) (a .m) (a .m / 2 - 1) _ _ _ (omega arith) (omega arith) (c .before .before .before .before .before .make-with .ensures)
+    (c .before .before .next-band .ensures ∙ ap (skip (a .w) (a .m + 1) (a .m / 2 - 1)) (c .before .before .before .most .ensures)) (omega arith)
+    (omega arith)
 
 arrive-deliver-requires : (t : ℕ) → arrive-lts.Need-deliver-requires (claims t) (arrive-at t) arrive.Post
 arrive-deliver-requires t c κs =
@@ -111,10 +118,18 @@ arrive-mul-arrive : (t : ℕ) → arrive-lts.Need-mul-arrive (claims t) (arrive-
 arrive-mul-arrive t c = search needs
 
 arrive-sub-arrive : (t : ℕ) → arrive-lts.Need-sub-arrive (claims t) (arrive-at t) arrive.Post
-arrive-sub-arrive t c = omega (arith, store-back (c .before .before .before .before .before .before .before .before .before .before .before .before .before .args .w) (c .before .before .before .before .before .before .before .before .before .before .before .before .before .args .l) (omega arith))
+arrive-sub-arrive t c = omega (
+  arith,
+  store-back (c .before .before .before .before .before .before .before .before .before .before .before .before .before .args .w)
+      (c .before .before .before .before .before .before .before .before .before .before .before .before .before .args .l) (omega arith),
+)
 
 arrive-part-arrive-start : (t : ℕ) → arrive-lts.Need-part-arrive-start (claims t) (arrive-at t) arrive.Post
-arrive-part-arrive-start t c = omega (arith, store-back (c .before .before .before .before .before .before .before .before .before .before .before .before .before .args .w) (c .before .before .before .before .before .before .before .before .before .before .before .before .before .args .l) (omega arith))
+arrive-part-arrive-start t c = omega (
+  arith,
+  store-back (c .before .before .before .before .before .before .before .before .before .before .before .before .before .args .w)
+      (c .before .before .before .before .before .before .before .before .before .before .before .before .before .args .l) (omega arith),
+)
 
 arrive-part-arrive-end : (t : ℕ) → arrive-lts.Need-part-arrive-end (claims t) (arrive-at t) arrive.Post
 arrive-part-arrive-end t c = search needs
@@ -149,9 +164,16 @@ arrive-returns-6 t c =
     let a = e .before .before .before .before .before .before .before .before .before .before .before .before .before .before .before .before .before .before .args in
     let l = e .before .before .before .before .before .before .deliver .last .0 in
     let s = store-back (a .w) (a .l) (omega (arith, e .before)) in
-    came-goes (a .l) (a .w) (a .m) (a .m / 2 - 1) _ _ _ (omega (arith, e .before)) (omega (arith, e .before)) (e .before .before .before .before .before .before .before .before .before .before .before .before .before .make-with .ensures) (e .before .before .before .before .before .before .before .before .before .before .next-band .ensures ∙ ap (skip (a .w) (a .m + 1) (a .m / 2 - 1)) (e .before .before .before .before .before .before .before .before .before .before .before .most .ensures)) (omega (arith, e .before)) (omega (arith, e .before))
-    _ _ _ (at l) (at (e .before .before .arrive .last .0)) _ _ (e .before .before .before .half .ensures) (e .before .before .before .before .before .before .deliver .ensures)
-    (rw (at-rest (4 * a .w) l) at (e .before .before .arrive .ensures)) (at-join (4 * a .w) l (e .before .before .arrive .last .0) (omega (arith, e .before))) (e .deeper .ensures) (c .further .ensures)
+    came-goes (a .l) (a .w) (a .m) (a .m / 2 - 1) _ _ _ (omega (arith, e .before)) (omega (arith, e .before))
+    (e .before .before .before .before .before .before .before .before .before .before .before .before .before .make-with .ensures)
+    (e .before .before .before .before .before .before .before .before .before .before .next-band .ensures
+    ∙ ap (skip (a .w) (a .m + 1) (a .m / 2 - 1))
+    (e .before .before .before .before .before .before .before .before .before .before .before .most .ensures))
+    (omega (arith, e .before)) (omega (arith, e .before))
+    _ _ _ (at l) (at (e .before .before .arrive .last .0)) _ _ (e .before .before .before .half .ensures)
+    (e .before .before .before .before .before .before .deliver .ensures)
+    (rw (at-rest (4 * a .w) l) at (e .before .before .arrive .ensures)) (at-join (4 * a .w) l (e .before .before .arrive .last .0)
+    (omega (arith, e .before))) (e .deeper .ensures) (c .further .ensures)
 
 pub +arrive-spec : {M : Type 1} → statement M
 +arrive-spec =

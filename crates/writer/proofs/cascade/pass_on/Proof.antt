@@ -63,8 +63,10 @@ returns-2 c =
     let a = e .before .before .before .before .before .before .before .before .before .args in
     let l = e .before .before .before .before .before .before .deliver .last .0 in
     let s = store-next (a .w) (a .l) in
-    passed-goes (a .l) (a .w) (a .n) _ _ _ _ (at l) (at (e .before .before .arrive .last .0)) _ _ (omega arith) (e .before .before .before .half .ensures) (e .before .before .before .before .before .before .deliver .ensures)
-    (rw (at-rest (4 * a .w) l) at (e .before .before .arrive .ensures)) (at-join (4 * a .w) l (e .before .before .arrive .last .0) (omega arith)) (e .deeper .ensures) (c .further .ensures)
+    passed-goes (a .l) (a .w) (a .n) _ _ _ _ (at l) (at (e .before .before .arrive .last .0)) _ _ (omega arith)
+    (e .before .before .before .half .ensures) (e .before .before .before .before .before .before .deliver .ensures)
+    (rw (at-rest (4 * a .w) l) at (e .before .before .arrive .ensures)) (at-join (4 * a .w) l (e .before .before .arrive .last .0) (omega arith))
+    (e .deeper .ensures) (c .further .ensures)
 
 pub pass-on-spec : {M : Type 1} → statement M
 pass-on-spec =

@@ -32,7 +32,8 @@ returns c =
     let a = b .before .before .before .before .before .args in
     let q = b .before .before .before .before .level-of in
     pull-waits (a .s) (q .result) (q .ensures) (b .before .before .before .before .before .pre .placed) (at (a .store .now)) _ _ _ _
-    (b .before .before .before .made .ensures) (b .before .before .prev .ensures) (b .before .prev2 .ensures) (b .next-band .ensures) (omega arith) (omega arith)
+    (b .before .before .before .made .ensures) (b .before .before .prev .ensures) (b .before .prev2 .ensures) (b .next-band .ensures) (omega arith)
+    (omega arith)
 
 mul-pass-on : tie.Need-mul-pass-on
 mul-pass-on c = search needs
@@ -51,7 +52,15 @@ pass-on-requires c κs =
     let b = c .before .before in
     let q = b .before .before .before .before .level-of in
     let s = b .before .before .before .before .before .args .s in
-    omega (arith, q .ensures .room, q .ensures .deep, b .before .before .before .before .before .pre .placed, prev-is (b .before .before .before .made .result), made-le (q .result .closed) (q .result .rows))
+    omega (
+      arith,
+      q .ensures .room,
+      q .ensures .deep,
+      b .before .before .before .before .before .pre .placed,
+      prev-is
+          (b .before .before .before .made .result),
+      made-le (q .result .closed) (q .result .rows),
+    )
 
 sub-deeper-by : tie.Need-sub-deeper-by
 sub-deeper-by c = search needs
@@ -65,7 +74,8 @@ further-requires c κs =
     let b = p .before .before .before in
     let q = b .before .before .before .before .level-of in
     let s = b .before .before .before .before .before .args .s in
-    let o = left-small (q .result .below + 1) (q .result .width) _ _ _ (q .ensures .wide) (omega (arith, q .ensures .deep, b .before .before .before .before .before .pre .walk)) (p .pass-on .ensures) in
+    let o = left-small (q .result .below + 1) (q .result .width) _ _ _ (q .ensures .wide)
+    (omega (arith, q .ensures .deep, b .before .before .before .before .before .pre .walk)) (p .pass-on .ensures) in
     let d = b .before .before .before .before .before .pre in
     omega (arith, store-le (s .width) (s .levels), q .ensures .room, d .placed, d .walk .wide, d .walk .deep)
 

@@ -37,7 +37,11 @@ add-t8 c =
     let e = c .before in
     let s = e .before .before .before .before .before .before .before .args .s in
     let q = e .before .before .before .before .before .before .level-of in
-    omega (arith, place-room (q .result .width) (e .before .before .before .before .prev .result) (bandAt (e .before .before .before .prev2 .result)), store-le (s .width) (s .levels))
+    omega (
+      arith,
+      place-room (q .result .width) (e .before .before .before .before .prev .result) (bandAt (e .before .before .before .prev2 .result)),
+      store-le (s .width) (s .levels),
+    )
 
 returns : tie.Need-returns
 returns c =

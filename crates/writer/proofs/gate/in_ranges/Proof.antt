@@ -23,23 +23,59 @@ is-within-requires-2 c κs = search needs
 
 returns-2 : tie.Need-returns-2
 unfolding inRanges maxWidth maxHeight maxLevels
-returns-2 c = simp (sym (c .before .before .before .is-within .ensures) ∙ not-false _ (c .before .before .if1 .left), sym (c .before .is-within2 .ensures) ∙ not-true _ (c .if2 .taken))
+returns-2 c = simp (
+  sym (c .before .before .before .is-within .ensures) ∙ not-false _ (c .before .before .if1 .left),
+  sym
+      (c .before .is-within2 .ensures) ∙ not-true _ (c .if2 .taken),
+)
 
 returns-3 : tie.Need-returns-3
 unfolding inRanges maxWidth maxHeight maxLevels
-returns-3 c = simp (sym (c .before .before .before .before .before .is-within .ensures) ∙ not-false _ (c .before .before .before .before .if1 .left), sym (c .before .before .before .is-within2 .ensures) ∙ not-false _ (c .before .before .if2 .left), lt-leb _ _ (c .if3 .taken))
+returns-3 c = simp (
+  sym (c .before .before .before .before .before .is-within .ensures) ∙ not-false _ (c .before .before .before .before .if1 .left),
+  sym (c .before .before .before .is-within2 .ensures) ∙ not-false _ (c .before .before .if2 .left),
+  lt-leb _ _ (c .if3 .taken),
+)
 
 returns-4 : tie.Need-returns-4
 unfolding inRanges maxWidth maxHeight maxLevels
-returns-4 c = simp (sym (c .before .before .before .before .before .before .before .is-within .ensures) ∙ not-false _ (c .before .before .before .before .before .before .if1 .left), sym (c .before .before .before .before .before .is-within2 .ensures) ∙ not-false _ (c .before .before .before .before .if2 .left), le-leb _ _ (c .before .before .if3 .left), le-ltb _ _ (c .if4 .taken))
+returns-4 c = simp (
+  sym (c .before .before .before .before .before .before .before .is-within .ensures)
+      ∙ not-false _ (c .before .before .before .before .before .before .if1 .left),
+  sym (c .before .before .before .before .before .is-within2 .ensures)
+      ∙ not-false _ (c .before .before .before .before .if2 .left),
+  le-leb _ _ (c .before .before .if3 .left),
+  le-ltb _ _ (c .if4 .taken),
+)
 
 returns-5 : tie.Need-returns-5
 unfolding inRanges maxWidth maxHeight maxLevels
-returns-5 c = simp (sym (c .before .before .before .before .before .before .before .before .before .is-within .ensures) ∙ not-false _ (c .before .before .before .before .before .before .before .before .if1 .left), sym (c .before .before .before .before .before .before .before .is-within2 .ensures) ∙ not-false _ (c .before .before .before .before .before .before .if2 .left), le-leb _ _ (c .before .before .before .before .if3 .left), lt-ltb _ _ (c .before .before .if4 .left), lt-leb _ _ (c .if5 .taken))
+returns-5 c = simp (
+  sym (c .before .before .before .before .before .before .before .before .before .is-within .ensures)
+      ∙ not-false _ (c .before .before .before .before .before .before .before .before .if1 .left),
+  sym
+      (c .before .before .before .before .before .before .before .is-within2 .ensures)
+      ∙ not-false _ (c .before .before .before .before .before .before .if2 .left),
+  le-leb _ _ (c .before .before .before .before .if3 .left),
+  lt-ltb _ _ (c .before .before .if4 .left),
+  lt-leb _ _ (c .if5 .taken),
+)
 
 returns-6 : tie.Need-returns-6
 unfolding inRanges maxWidth maxHeight maxLevels
-returns-6 c = simp (sym (c .before .before .before .before .before .before .before .before .before .before .before .is-within .ensures) ∙ not-false _ (c .before .before .before .before .before .before .before .before .before .before .if1 .left), sym (c .before .before .before .before .before .before .before .before .before .is-within2 .ensures) ∙ not-false _ (c .before .before .before .before .before .before .before .before .if2 .left), le-leb _ _ (c .before .before .before .before .before .before .if3 .left), lt-ltb _ _ (c .before .before .before .before .if4 .left), le-leb _ _ (c .before .before .if5 .left), lt-leb _ _ (c .if6 .taken))
+returns-6 c = simp (
+  sym (c .before .before .before .before .before .before .before .before .before .before .before .is-within .ensures)
+      ∙ not-false _ (c .before .before .before .before .before .before .before .before .before .before .if1 .left),
+  sym
+      (c .before .before .before .before .before .before .before .before .before .is-within2 .ensures)
+      ∙ not-false _ (c .before .before .before .before .before .before .before .before .if2 .left),
+  le-leb _ _
+      (c .before .before .before .before .before .before .if3 .left),
+  lt-ltb _ _ (c .before .before .before .before .if4 .left),
+  le-leb _ _
+      (c .before .before .if5 .left),
+  lt-leb _ _ (c .if6 .taken),
+)
 
 most-left-requires : tie.Need-most-left-requires
 most-left-requires c κs = omega arith
@@ -49,8 +85,10 @@ unfolding inRanges maxWidth maxHeight maxLevels
 returns-7 c =
     let s = c .before .before .before .before .before .before .before .before .before .before .before .before .before .before .before .args .s in
     simp (
-      sym (c .before .before .before .before .before .before .before .before .before .before .before .before .before .before .is-within .ensures) ∙ not-false _ (c .before .before .before .before .before .before .before .before .before .before .before .before .before .if1 .left),
-      sym (c .before .before .before .before .before .before .before .before .before .before .before .before .is-within2 .ensures) ∙ not-false _ (c .before .before .before .before .before .before .before .before .before .before .before .if2 .left),
+      sym (c .before .before .before .before .before .before .before .before .before .before .before .before .before .before .is-within .ensures)
+          ∙ not-false _ (c .before .before .before .before .before .before .before .before .before .before .before .before .before .if1 .left),
+      sym (c .before .before .before .before .before .before .before .before .before .before .before .before .is-within2 .ensures)
+          ∙ not-false _ (c .before .before .before .before .before .before .before .before .before .before .before .if2 .left),
       le-leb _ _ (c .before .before .before .before .before .before .before .before .before .if3 .left),
       lt-ltb _ _ (c .before .before .before .before .before .before .before .if4 .left),
       le-leb _ _ (c .before .before .before .before .before .if5 .left),
@@ -71,7 +109,8 @@ returns-8 c =
     let w = sym (c .before .before .before .before .before .before .before .before .before .before .before .before .before .before .before .before .before .is-within .ensures) ∙ not-false _ (c .before .before .before .before .before .before .before .before .before .before .before .before .before .before .before .before .if1 .left) in
     let l = sym (c .before .before .before .before .before .before .before .before .before .before .before .before .before .before .before .is-within2 .ensures) ∙ not-false _ (c .before .before .before .before .before .before .before .before .before .before .before .before .before .before .if2 .left) in
     let is = start-stored (s .width) (s .levels) (s .level) _ _ w l (omega arith) (c .before .before .prev .ensures) (c .before .store-length .ensures) in
-    ranges-last s w l (omega arith) (omega arith) (omega arith) (omega arith) (omega (arith, c .before .before .before .before .before .most-left .ensures)) _ (ap (eqb (s .offset)) is)
+    ranges-last s w l (omega arith) (omega arith) (omega arith) (omega arith)
+    (omega (arith, c .before .before .before .before .before .most-left .ensures)) _ (ap (eqb (s .offset)) is)
 
 pub in-ranges-spec : {M : Type 1} → statement M
 in-ranges-spec =

@@ -18,7 +18,9 @@ same-length : tie.Need-same-length
 same-length c = search needs
 
 returns : tie.Need-returns
-returns c = let a = c .before .before .before .before .before .before .before .args in stretched-inside (a .s) (a .run .now) (a .from) (a .n) _ _ (length (a .store .now)) (c .before .before .before .before .before .before .before .pre .0) (c .before .before .before .before .fill .ensures) (omega arith)
+returns c = let a = c .before .before .before .before .before .before .before .args in stretched-inside (a .s) (a .run .now) (a .from) (a .n) _ _
+    (length (a .store .now)) (c .before .before .before .before .before .before .before .pre .0) (c .before .before .before .before .fill .ensures)
+    (omega arith)
 
 -- the store has room for every level, and so for level 1 alone
 arrive-requires : tie.Need-arrive-requires
@@ -33,7 +35,11 @@ same-length-2 : tie.Need-same-length-2
 same-length-2 c = search needs
 
 returns-2 : tie.Need-returns-2
-returns-2 c = let a = c .before .before .before .before .before .before .before .before .before .before .before .args in stretched-whole (a .s) (a .run .now) (a .from) (a .n) _ _ (length (a .store .now)) (c .before .before .before .before .before .before .before .before .before .before .before .pre .0) (c .before .before .before .before .before .before .before .before .fill .ensures) _ _ (omega arith) (omega arith) (c .before .before .arrive .ensures)
+returns-2 c = let a = c .before .before .before .before .before .before .before .before .before .before .before .args in stretched-whole (a .s)
+    (a .run .now) (a .from) (a .n) _ _ (length (a .store .now))
+    (c .before .before .before .before .before .before .before .before .before .before .before .pre .0)
+    (c .before .before .before .before .before .before .before .before .fill .ensures) _ _ (omega arith) (omega arith)
+    (c .before .before .arrive .ensures)
 
 pub stretch-spec : {M : Type 1} → statement M
 stretch-spec =
