@@ -16,7 +16,7 @@ use Rattle.writer.specs.Counts.{startOf}
 use Rattle.writer.specs.FiveThreeLevel.{fiveThree}
 use Rattle.writer.specs.Machine.{Out}
 use Rattle.writer.specs.Taking.{Taking, takes, offering}
-use Rattle.writer.specs.Questions.{inRanges, longEnough, offerQuestion, drawQuestion, finishQuestion}
+use Rattle.writer.specs.Questions.{inRanges, longEnough, setUpQuestion, offerQuestion, drawQuestion, finishQuestion}
 use Rattle.writer.specs.Answers.{gives, unless, changedUnless}
 use Rattle.writer.specs.Holds.{left, after}
 use Rattle.writer.specs.Calls.{setUpStore, took, waits, closing, resumed, handed, handedStore, handedArea, offerReply, offerStore, drawReply}
@@ -25,6 +25,7 @@ use Rattle.writer.specs.History.{Area, Call, offer, draw, finish, offere
 use Rattle.writer.specs.Before as before
 use Rattle.writer.specs.Before.{Before}
 use Rattle.writer.proofs.StateHolds.{st, fresh-st}
+use Rattle.writer.proofs.Demand3.{width-kept}
 
 -- the writer before, with its offset
 abbrev carry : Before → Writer
@@ -180,7 +181,11 @@ same-final W L n x cs = ap (final cs) (fresh-carries W L n x) ∙ list-final cs 
 pub same-store : (W L n : ℕ) (x : Memory) (cs : List Call) → final cs (freshWorld W L n x) .store ≡ before.final cs (before.freshWorld W L n x) .store
 same-store W L n x cs = ap (λ w. w .store) (same-final W L n x cs)
 
-pub offset-is : (W L n : ℕ) (x : Memory) (cs : List Call) → (let s = final cs (freshWorld W L n x) .writer in s .offset ≡ startOf (s .width) (s .level))
-offset-is W L n x cs =
+-- of a set-up that passed
+pub offset-is : (W L n : ℕ) (x : Memory) → setUpQuestion W L n ≡ 0 → (cs : List Call) →
+    (let s = final cs (freshWorld W L n x) .writer in s .offset ≡ startOf W (s .level))
+offset-is W L n x h cs =
     let e = same-final W L n x cs in
-    ap (λ w. w .writer .offset) e ∙ sym (ap (λ w. startOf (w .writer .width) (w .writer .level)) e)
+    ap (λ w. w .writer .offset) e
+    ∙ sym (ap (λ w. startOf (w .writer .width) (w .writer .level)) e)
+    ∙ ap (λ k. startOf k (final cs (freshWorld W L n x) .writer .level)) (width-kept W L n x h cs)
