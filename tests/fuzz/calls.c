@@ -47,10 +47,10 @@ static int at_end(void)
 static int counts_fit(const uint64_t *s, int kind)
 {
     int rest = 1;
-    for (int i = kind == WRITER ? 9 : 8; i < 16; i++) rest &= s[i] == 0;
+    for (int i = kind == WRITER ? 10 : 8; i < 16; i++) rest &= s[i] == 0;
     if (kind == WRITER)
         return rest && s[0] == 1 && s[1] - 1 < MOST_WIDTH && s[2] - 1 < MOST_LEVELS && s[3] <= MOST_HEIGHT && s[4] < s[1] && s[5] <= 1 &&
-               s[6] <= s[2] && s[7] <= s[2] && s[8] <= 4;
+               s[6] <= s[2] && s[7] <= s[2] && s[8] <= (!s[7] ? 0u : s[7] < s[2] ? 3u : 4u) && s[9] == (s[7] ? model_store(s[1], s[7] - 1) : 0);
     return rest && s[0] == 2 && s[1] - 1 < MOST_WIDTH && s[2] - 1 < MOST_HEIGHT && s[3] - 1 < MOST_LEVELS && s[4] <= s[2] && s[5] <= s[3] &&
            s[6] <= 4 && s[7] <= 1;
 }
@@ -364,7 +364,7 @@ static void foreign(Slot *s)
     s->kind = 0;
     memset(s->state, 0, sizeof s->state);
     if (below(2)) {
-        uint64_t level = below(6), start = level < 2 ? 0 : model_store(w, level - 1);
+        uint64_t level = below(6), start = level ? model_store(w, level - 1) : 0;
         uint64_t counts[] = { 1, w, levels, wide(2), byte() % w, below(2), below(6), level, below(level ? 5 : 1), below(8) ? start : wide(2) };
         memcpy(s->state, counts, sizeof counts);
     } else {
