@@ -50,7 +50,7 @@ static int counts_fit(const uint64_t *s, int kind)
     for (int i = kind == WRITER ? 9 : 8; i < 16; i++) rest &= s[i] == 0;
     if (kind == WRITER)
         return rest && s[0] == 1 && s[1] - 1 < MOST_WIDTH && s[2] - 1 < MOST_LEVELS && s[3] <= MOST_HEIGHT && s[4] < s[1] && s[5] <= 1 &&
-               s[6] <= s[2] && s[7] <= s[2] && s[8] <= 4;
+               s[6] <= s[2] && s[7] <= s[2] && s[8] <= (!s[7] ? 0u : s[7] < s[2] ? 3u : 4u);
     return rest && s[0] == 2 && s[1] - 1 < MOST_WIDTH && s[2] - 1 < MOST_HEIGHT && s[3] - 1 < MOST_LEVELS && s[4] <= s[2] && s[5] <= s[3] &&
            s[6] <= 4 && s[7] <= 1;
 }
