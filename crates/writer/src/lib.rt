@@ -181,20 +181,20 @@ impl Writer {
         if !gate::in_ranges(self) {
             return Look::Refused(1);
         }
-        if self.level == 0 {
+        if 0 < self.level {
+            let spot = draws::waiting(self);
             return Look::Row(BandRow {
-                level: 0,
-                band: 0,
-                row: 0,
-                length: 0,
+                level: spot.level,
+                band: spot.band,
+                row: spot.row,
+                length: spot.length,
             });
         }
-        let spot = draws::waiting(self);
         Look::Row(BandRow {
-            level: spot.level,
-            band: spot.band,
-            row: spot.row,
-            length: spot.length,
+            level: 0,
+            band: 0,
+            row: 0,
+            length: 0,
         })
     }
 

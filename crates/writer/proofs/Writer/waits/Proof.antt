@@ -10,14 +10,15 @@ in-ranges-requires c κs = tt
 returns : tie.Need-returns
 returns c = look-no _ _ (c .before .in-ranges .ensures) (c .if1 .taken)
 
-returns-2 : tie.Need-returns-2
-returns-2 c = look-none _ _ (c .before .before .before .in-ranges .ensures) (c .before .before .if1 .left) (omega arith)
-
 waiting-requires : tie.Need-waiting-requires
 waiting-requires c κs = let f = look-sound _ _ (c .before .before .before .in-ranges .ensures) (c .before .before .if1 .left) in omega arith
 
+returns-2 : tie.Need-returns-2
+returns-2 c =
+    look-row _ _ (c .before .before .before .before .in-ranges .ensures) _ (c .waiting .ensures) (c .before .before .before .if1 .left) (omega arith)
+
 returns-3 : tie.Need-returns-3
-returns-3 c = look-row _ _ (c .before .before .before .before .in-ranges .ensures) _ (c .waiting .ensures) (c .before .before .before .if1 .left) (omega arith)
+returns-3 c = look-none _ _ (c .before .before .before .in-ranges .ensures) (c .before .before .if1 .left) (omega arith)
 
 pub waits-spec : {M : Type 1} → statement M
-waits-spec = tie.close (tie.spec in-ranges-requires returns returns-2 waiting-requires returns-3)
+waits-spec = tie.close (tie.spec in-ranges-requires returns waiting-requires returns-2 returns-3)
