@@ -19,13 +19,15 @@ static void check(uint32_t answer)
     }
 }
 
+/* every row that waits, into its own place in the plane where one is kept */
 static void draw_all(void)
 {
     uint64_t row[4];
     for (;;) {
-        check(terrain_writer_draw(state, store, store_len, out, W, row));
+        check(terrain_writer_waits(state, row));
         if (!row[0]) return;
-        come(row[0], row[1], row[2], out, row[3]);
+        int32_t *to = kept ? kept + place(row[0], row[1], row[2]) : out;
+        check(terrain_writer_draw(state, store, store_len, to, row[3], row));
     }
 }
 

@@ -148,6 +148,12 @@ uint32_t terrain_writer_offer(uint64_t state[16], int32_t *store, size_t store_l
 TERRAIN_CHECKED
 uint32_t terrain_writer_draw(uint64_t state[16], int32_t *store, size_t store_len, int32_t *out, size_t out_len, uint64_t row[4]);
 
+/* A look at the band row that waits, before it is drawn: level, band, number and length in row[0] to row[3], as the next draw will give them;
+ * four zeros where nothing waits. With it the row's own place in a plane or file can be lent to the draw. Nothing is changed but row.
+ * 1. */
+TERRAIN_CHECKED
+uint32_t terrain_writer_waits(const uint64_t state[16], uint64_t row[4]);
+
 /* The map ends with the last row taken. Draw the rows that are left until nothing waits: then every band row of the plane was drawn, once.
  * 1; 5; 9 (finished already); 8 (a row waits); 11 (no row is complete, or one is begun). */
 TERRAIN_CHECKED

@@ -47,10 +47,10 @@ static int at_end(void)
 static int counts_fit(const uint64_t *s, int kind)
 {
     int rest = 1;
-    for (int i = kind == WRITER ? 9 : 8; i < 16; i++) rest &= s[i] == 0;
+    for (int i = kind == WRITER ? 10 : 8; i < 16; i++) rest &= s[i] == 0;
     if (kind == WRITER)
         return rest && s[0] == 1 && s[1] - 1 < MOST_WIDTH && s[2] - 1 < MOST_LEVELS && s[3] <= MOST_HEIGHT && s[4] < s[1] && s[5] <= 1 &&
-               s[6] <= s[2] && s[7] <= s[2] && s[8] <= 4;
+               s[6] <= s[2] && s[7] <= s[2] && s[8] <= (!s[7] ? 0u : s[7] < s[2] ? 3u : 4u) && s[9] == (s[7] ? model_store(s[1], s[7] - 1) : 0);
     return rest && s[0] == 2 && s[1] - 1 < MOST_WIDTH && s[2] - 1 < MOST_HEIGHT && s[3] - 1 < MOST_LEVELS && s[4] <= s[2] && s[5] <= s[3] &&
            s[6] <= 4 && s[7] <= 1;
 }
@@ -200,7 +200,8 @@ static void draw_row(Slot *s)
     lend(s);
     int32_t *out = area_lend(&out_area, NULL, room * sizeof *out, at_end());
     uint64_t *row = area_lend(&small_area, NULL, 4 * sizeof *row, at_end());
-    uint64_t level_before = s->state[7], levels = s->state[2], width = s->state[1];
+    uint64_t level_before = s->state[7], levels = s->state[2], width = s->state[1], ahead[4] = { 7, 7, 7, 7 }, unset[4] = { 7, 7, 7, 7 };
+    uint32_t looked = terrain_writer_waits(lent_state, ahead);
     uint32_t answer = terrain_writer_draw(lent_state, lent_store, lent_len, out, room, row);
     area_back(&out_area);
     area_back(&small_area);
@@ -212,6 +213,11 @@ static void draw_row(Slot *s)
         HOLDS(row[0] || (!row[1] && !row[2] && !row[3]));
         length = row[3];
     }
+    /* the look says what the draw gives; it asks 1 alone */
+    HOLDS(looked == (answer == 1 ? 1u : 0u));
+    if (looked) HOLDS(memcmp(ahead, unset, sizeof ahead) == 0);
+    if (!answer) HOLDS(memcmp(ahead, row, sizeof ahead) == 0);
+    if (answer == 12) HOLDS(ahead[0] && ahead[3] > room);
     HOLDS(area_unset(&out_area, length * sizeof *out));
     back(s, WRITER, answer, MAY(12));
     if (s->kind != WRITER || answer == 5) return;
@@ -358,7 +364,8 @@ static void foreign(Slot *s)
     s->kind = 0;
     memset(s->state, 0, sizeof s->state);
     if (below(2)) {
-        uint64_t counts[] = { 1, w, levels, wide(2), byte() % w, below(2), below(6), below(6), below(5) };
+        uint64_t level = below(6), start = level ? model_store(w, level - 1) : 0;
+        uint64_t counts[] = { 1, w, levels, wide(2), byte() % w, below(2), below(6), level, below(level ? 5 : 1), below(8) ? start : wide(2) };
         memcpy(s->state, counts, sizeof counts);
     } else {
         uint64_t counts[] = { 2, w, h, levels, below(2) ? below(40) : wide(2), below(6), below(5), below(8) == 7 };

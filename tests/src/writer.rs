@@ -29,8 +29,21 @@ pub fn offer(state: &mut State, store: &mut [i32], run: &[u16]) -> Result<usize,
     answer
 }
 
+/// A look at what waits. Where it is turned away it is made once more, raw: the out-parameter stays.
+pub fn waits(state: &State) -> Result<Option<BandRow>, u32> {
+    let answer = numbered(Writer::resume(*state, &mut []).waits(), Call::WriterWaits);
+    if let Err(number) = answer {
+        let mut row = [UNSET as u64; 4];
+        assert_eq!(raw::writer_waits(state, &mut row), number);
+        assert_eq!(row, [UNSET as u64; 4], "{number}: a refusal changes nothing");
+    }
+    answer.map(|row| row.map(|r| BandRow { level: r.level, band: r.band as usize, row: r.row, length: r.length }))
+}
+
+/// A draw, and the look before it, which must have said what the draw gives.
 pub fn draw(state: &mut State, store: &mut [i32], out: &mut [i32]) -> Result<Option<BandRow>, u32> {
     let (before, place, room) = (*state, out.as_ptr(), out.len());
+    let ahead = waits(state);
     let mut writer = Writer::resume(before, store);
     let answer = numbered(writer.draw(out), Call::WriterDraw).map(|drawn| {
         drawn.map(|(r, values)| {
@@ -39,6 +52,12 @@ pub fn draw(state: &mut State, store: &mut [i32], out: &mut [i32]) -> Result<Opt
         })
     });
     *state = writer.state();
+    match answer {
+        Ok(row) => assert_eq!(ahead, Ok(row), "the look says what the draw gives"),
+        Err(1) => assert_eq!(ahead, Err(1)),
+        Err(12) => assert!(ahead.is_ok_and(|row| row.is_some_and(|r| r.length > room))),
+        Err(_) => {}
+    }
     if !matches!(answer, Ok(Some(_))) {
         let mut row = [UNSET as u64; 4];
         assert_eq!(*state, before, "neither a refusal nor Nothing changes anything");

@@ -248,9 +248,23 @@ fn the_questions_of_set_up() {
     }
 }
 
+/// How many bands can be left of a set of that level.
+fn most_left(levels: u64, level: u64) -> u64 {
+    match level {
+        0 => 0,
+        level if level < levels => 3,
+        _ => 4,
+    }
+}
+
+/// Where the stretch of a level begins in the line store; 0 where there is no level.
+fn start_of(width: u64, level: u64) -> u64 {
+    if level < 2 { 0 } else { order::store_length(width as usize, level as usize - 1) as u64 }
+}
+
 /// The counts of a writer, as docs/STATE.md lists them: whether question 1 passes.
 fn counts_fit(s: &State) -> bool {
-    let [kind, width, levels, rows, column, finished, closed, level, left, ..] = *s;
+    let [kind, width, levels, rows, column, finished, closed, level, left, offset, ..] = *s;
     kind == 1
         && (1..=2_049).contains(&width)
         && (1..=5).contains(&levels)
@@ -259,8 +273,9 @@ fn counts_fit(s: &State) -> bool {
         && finished <= 1
         && closed <= levels
         && level <= levels
-        && left <= if level == 0 { 0 } else if level < levels { 3 } else { 4 }
-        && s[9..].iter().all(|&n| n == 0)
+        && left <= most_left(levels, level)
+        && offset == start_of(width, level)
+        && s[10..].iter().all(|&n| n == 0)
 }
 
 /// All calls on a state and a store, whatever they hold: each returns, answers 1 or 5 exactly where it must, and stays in its areas.
@@ -312,8 +327,10 @@ fn states_nobody_reached_and_scribbled_stores() {
         let levels = 1 + random.below(5) as u64;
         let rows = [random.below(12), random.below(65_536), 65_535][random.below(3)] as u64;
         let up_to = |random: &mut Random, n: u64| random.below(n as usize + 1) as u64;
+        let level = up_to(&mut random, levels);
+        let most = if random.below(6) == 0 { 4 } else { most_left(levels, level) };
         let mut state = [0; 16];
-        state[..9].copy_from_slice(&[
+        state[..10].copy_from_slice(&[
             1,
             width,
             levels,
@@ -321,8 +338,9 @@ fn states_nobody_reached_and_scribbled_stores() {
             up_to(&mut random, width - 1),
             up_to(&mut random, 1),
             up_to(&mut random, levels),
-            up_to(&mut random, levels),
-            up_to(&mut random, 4),
+            level,
+            up_to(&mut random, most),
+            if random.below(6) == 0 { up_to(&mut random, 8 * width) } else { start_of(width, level) },
         ]);
         if random.below(3) == 0 {
             let i = random.below(16);

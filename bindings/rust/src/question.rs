@@ -13,6 +13,7 @@ pub enum Call {
     WriterSetUp,
     Offer,
     WriterDraw,
+    WriterWaits,
     Finish,
     ReaderSetUp,
     Want,

@@ -76,6 +76,7 @@ mod c {
             out_len: usize,
             row: *mut [u64; 4],
         ) -> u32;
+        pub fn terrain_writer_waits(state: *const [u64; 16], row: *mut [u64; 4]) -> u32;
         pub fn terrain_writer_finish(state: *mut [u64; 16], store: *mut i32, store_len: usize) -> u32;
         pub fn terrain_reader_set_up(
             state: *mut [u64; 16],
@@ -176,6 +177,10 @@ pub fn writer_offer(state: &mut State, store: &mut [i32], run: &[u16], taken: &m
 
 pub fn writer_draw(state: &mut State, store: &mut [i32], out: &mut [i32], row: &mut [u64; 4]) -> u32 {
     unsafe { c::terrain_writer_draw(state, store.as_mut_ptr(), store.len(), out.as_mut_ptr(), out.len(), row) }
+}
+
+pub fn writer_waits(state: &State, row: &mut [u64; 4]) -> u32 {
+    unsafe { c::terrain_writer_waits(state, row) }
 }
 
 pub fn writer_finish(state: &mut State, store: &mut [i32]) -> u32 {

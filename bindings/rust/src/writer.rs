@@ -49,6 +49,14 @@ impl<'s> Writer<'s> {
         Ok((row.level > 0).then(|| (row, &out[..row.length])))
     }
 
+    /// The band row that the next draw gives, so that its own place in a plane or file can be lent to that draw; `None`: nothing waits.
+    pub fn waits(&self) -> Result<Option<BandRow>, Question> {
+        let mut row = [0; 4];
+        Question::of(Call::WriterWaits, raw::writer_waits(&self.state, &mut row))?;
+        let row = BandRow::of(row);
+        Ok((row.level > 0).then_some(row))
+    }
+
     /// The map ends here: the rows that this makes wait to be drawn.
     pub fn finish(&mut self) -> Result<(), Question> {
         Question::of(Call::Finish, raw::writer_finish(&mut self.state, self.store))

@@ -201,6 +201,7 @@ fn every_question_of_every_call_has_a_sentence() {
         (Call::WriterSetUp, &[2, 4, 5]),
         (Call::Offer, &[1, 5, 9, 8, 10]),
         (Call::WriterDraw, &[1, 5, 12]),
+        (Call::WriterWaits, &[1]),
         (Call::Finish, &[1, 5, 9, 8, 11]),
         (Call::ReaderSetUp, &[2, 3, 4, 5]),
         (Call::Want, &[1]),

@@ -62,6 +62,7 @@ impl Listing {
                 closed: 0,
                 level: 0,
                 left: 0,
+                offset: 0,
             },
             line: Line::none(),
         }

@@ -16,7 +16,17 @@ flag-back false = refl
 pub writer-back : (w : Writer) → writerOf (writerWords w) ≡ w
 writer-back w =
     ap
-    (λ (b : Bool). record { width = w .width; levels = w .levels; rows = w .rows; column = w .column; finished = b; closed = w .closed; level = w .level; left = w .left })
+    (λ (b : Bool). record {
+      width = w .width;
+      levels = w .levels;
+      rows = w .rows;
+      column = w .column;
+      finished = b;
+      closed = w .closed;
+      level = w .level;
+      left = w .left;
+      offset = w .offset;
+    })
     (flag-back (w .finished))
 
 pub writer-is : (w : Writer) → isWriter (writerWords w) ≡ true

@@ -1,11 +1,13 @@
--- What the C calls on a writer answer, and what they leave: what `writer` says of the call on the writer that the state array holds, and 1 where it holds none. s is the state array, n the length of the line store and x what stands in it.
+-- What the C calls on a writer answer, and what they leave: what `writer` says of the call on the writer that the state array holds, and 1 where it
+-- holds none. s is the state array, n the length of the line store and x what stands in it.
 use mathlib.Core.List.{List, [], _∷_}
 use Prim.Native.Nat.{ℕ}
 use lib.IntN.{ℤ}
 use Rattle.numbers.specs.Signal.{pick}
 use Rattle.writer.specs.declared.Writer.{Writer}
 use Rattle.writer.specs.Answers.{Reply, gives, refused, Took, Handed, aRow, nothing}
-use Rattle.writer.specs.Calls.{offerReply, offerStore, drawReply, drawStore, drawArea, finishReply, finishStore}
+use Rattle.writer.specs.declared.BandRow.{BandRow}
+use Rattle.writer.specs.Calls.{offerReply, offerStore, drawReply, drawStore, drawArea, waitsReply, finishReply, finishStore}
 use Rattle.terrain.specs.WriterState.{isWriter, writerOf, writerWords}
 
 -- 0, or the number of the question that turned the call away
@@ -53,6 +55,14 @@ abbrev pub rowOf : Reply Handed → List ℕ → List ℕ
 rowOf (gives (aRow r w)) z = r .level ∷ r .band ∷ r .row ∷ r .length ∷ []
 rowOf (gives nothing) z = 0 ∷ 0 ∷ 0 ∷ 0 ∷ []
 rowOf (refused q) z = z
+
+-- ---- a look at what waits; z is what the out-parameter held
+abbrev pub waiting : List ℕ → Reply BandRow
+waiting s = pick (isWriter s) (waitsReply (writerOf s)) (refused 1)
+
+abbrev pub lookOf : Reply BandRow → List ℕ → List ℕ
+lookOf (gives r) z = r .level ∷ r .band ∷ r .row ∷ r .length ∷ []
+lookOf (refused q) z = z
 
 -- ---- finish
 abbrev pub finished : List ℕ → ℕ → (ℕ → ℤ) → Reply Writer

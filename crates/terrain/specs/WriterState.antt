@@ -8,7 +8,7 @@ use Rattle.writer.specs.declared.Writer.{Writer}
 use Rattle.terrain.specs.States.{flag, isState}
 
 abbrev pub isWriter : List ℕ → Bool
-isWriter s = isState 1 5 9 s
+isWriter s = isState 1 5 10 s
 
 abbrev pub writerOf : List ℕ → Writer
 writerOf s =
@@ -21,16 +21,17 @@ writerOf s =
       closed = getD s 6 0;
       level = getD s 7 0;
       left = getD s 8 0;
+      offset = getD s 9 0;
     }
 
 -- what an offer writes of the array, and what a draw: the other words stand there already
 abbrev pub offeredWords : Writer → List ℕ → List ℕ
-offeredWords w s = set (set (set (set s 3 (w .rows)) 4 (w .column)) 7 (w .level)) 8 (w .left)
+offeredWords w s = set (set (set (set (set s 3 (w .rows)) 4 (w .column)) 7 (w .level)) 8 (w .left)) 9 (w .offset)
 
 abbrev pub drawnWords : Writer → List ℕ → List ℕ
-drawnWords w s = set (set (set s 6 (w .closed)) 7 (w .level)) 8 (w .left)
+drawnWords w s = set (set (set (set s 6 (w .closed)) 7 (w .level)) 8 (w .left)) 9 (w .offset)
 
 abbrev pub writerWords : Writer → List ℕ
 writerWords w =
-    1 ∷ w .width ∷ w .levels ∷ w .rows ∷ w .column ∷ flag (w .finished) ∷ w .closed ∷ w .level ∷ w .left
-    ∷ 0 ∷ 0 ∷ 0 ∷ 0 ∷ 0 ∷ 0 ∷ 0 ∷ []
+    1 ∷ w .width ∷ w .levels ∷ w .rows ∷ w .column ∷ flag (w .finished) ∷ w .closed ∷ w .level ∷ w .left ∷ w .offset
+    ∷ 0 ∷ 0 ∷ 0 ∷ 0 ∷ 0 ∷ 0 ∷ []

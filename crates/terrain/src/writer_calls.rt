@@ -3,6 +3,7 @@ use crate::writer_state;
 use wavelet::store;
 use writer::Drawn;
 use writer::Finished;
+use writer::Look;
 use writer::Offered;
 use writer::SetUp;
 use writer::Writer;
@@ -13,7 +14,7 @@ ghost use Rattle.wavelet.specs.Limits.{maxWidth, maxLevels};
 ghost use Rattle.wavelet.specs.Questions.{within};
 ghost use Rattle.wavelet.specs.Store.{storeLength};
 ghost use Rattle.writer.specs.Calls.{setUpReply, setUpStore};
-ghost use Rattle.terrain.specs.WriterCalls.{number, stateOf, offered, offeredStore, stateTook, takenOf, drawn, drawnStore, drawnArea, stateHanded, rowOf, finished, finishedStore};
+ghost use Rattle.terrain.specs.WriterCalls.{number, stateOf, offered, offeredStore, stateTook, takenOf, drawn, drawnStore, drawnArea, stateHanded, rowOf, waiting, lookOf, finished, finishedStore};
 
 // The numbers that the line store of a writer or a reader needs; 0 where set-up would give 2 or 4.
 #[no_mangle]
@@ -100,6 +101,25 @@ pub extern "C" fn terrain_writer_draw(
             0
         }
         Drawn::Refused(no) => no as u32,
+    }
+}
+
+// A look at the band row that waits, for the next draw; level 0 where none does. The question is 1.
+#[no_mangle]
+pub extern "C" fn terrain_writer_waits(state: &[u64; 16], row: &mut [u64; 4]) -> u32
+    ensures { λ r. ⌜ r ≡ number (waiting (now (state .entry))) ⌝ }
+    ensures { λ _. ⌜ now (row .exit) ≡ lookOf (waiting (now (state .entry))) (now (row .entry)) ⌝ }
+{
+    if !writer_state::is_writer(state) {
+        return 1;
+    }
+    let w = writer_state::unpack_writer(state);
+    match w.waits() {
+        Look::Row(r) => {
+            *row = [r.level as u64, r.band as u64, r.row as u64, r.length as u64];
+            0
+        }
+        Look::Refused(no) => no as u32,
     }
 }
 

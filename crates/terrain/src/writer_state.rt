@@ -15,7 +15,7 @@ pub fn is_writer(s: &[u64; 16]) -> bool
     if 1 < s[5] {
         return false;
     }
-    states::zero_from(s, 9)
+    states::zero_from(s, 10)
 }
 
 // The writer that the array holds.
@@ -31,6 +31,7 @@ pub fn unpack_writer(s: &[u64; 16]) -> Writer
         closed: s[6] as usize,
         level: s[7] as usize,
         left: s[8] as usize,
+        offset: s[9] as usize,
     }
 }
 
@@ -49,7 +50,7 @@ pub fn pack_writer(w: Writer, s: &mut [u64; 16])
         w.closed as u64,
         w.level as u64,
         w.left as u64,
-        0,
+        w.offset as u64,
         0,
         0,
         0,
@@ -68,6 +69,7 @@ pub fn pack_offered(w: Writer, s: &mut [u64; 16])
     s[4] = w.column as u64;
     s[7] = w.level as u64;
     s[8] = w.left as u64;
+    s[9] = w.offset as u64;
 }
 
 // Those that a draw changes.
@@ -78,4 +80,5 @@ pub fn pack_drawn(w: Writer, s: &mut [u64; 16])
     s[6] = w.closed as u64;
     s[7] = w.level as u64;
     s[8] = w.left as u64;
+    s[9] = w.offset as u64;
 }

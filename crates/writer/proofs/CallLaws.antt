@@ -20,10 +20,12 @@ use Rattle.writer.specs.Level.{Memory}
 use Rattle.writer.specs.FiveThreeLevel.{fiveThree}
 use Rattle.writer.specs.Machine.{rest}
 use Rattle.writer.specs.Closing.{Shut, shut}
+use Rattle.writer.specs.Counts.{startOf}
 use Rattle.writer.specs.Questions.{either, inRanges, longEnough, waitingRow, setUpQuestion, offerQuestion, drawQuestion, finishQuestion}
 use Rattle.writer.specs.Gate.{stateQuestion}
 use Rattle.writer.specs.Answers.{gives, refused, unless, changedUnless, Handed, aRow, nothing}
-use Rattle.writer.specs.Calls.{fresh, setUpReply, setUpStore, waits, closing, finishReply, finishStore, resumed, pulled, afterDraw, bandRow, handed, handedStore, handedArea, drawReply, drawStore, drawArea}
+use Rattle.writer.specs.Calls.{fresh, setUpReply, setUpStore, waits, closing, finishReply, finishStore, resumed, pulled, afterDraw, bandRow}
+use Rattle.writer.specs.Calls.{handed, handedStore, handedArea, drawReply, drawStore, drawArea}
 use Rattle.writer.specs.Steps.{Left, Found, Closed, Drew}
 use Rattle.writer.proofs.GateLaws.{Sound, sound, state-no, state-yes}
 
@@ -67,7 +69,8 @@ module _ (W L n q : ℕ) (e : q ≡ setUpQuestion W L n) where
   unfolding setUpReply setUpStore
   set-up-no x h = rw (← e) (unless-no q _ h, changed-no q _ x h)
 
-  pub set-up-yes : (k : ℕ) (x y : Memory) → q ≡ 0 → Fits W L n k → y ≡ fronted k (λ _. pos 0) x → (gives (fresh W L) ≡ setUpReply W L n) × (y ≡ setUpStore W L n x)
+  pub set-up-yes : (k : ℕ) (x y : Memory) → q ≡ 0 → Fits W L n k → y ≡ fronted k (λ _. pos 0) x →
+      (gives (fresh W L) ≡ setUpReply W L n) × (y ≡ setUpStore W L n x)
   unfolding setUpReply setUpStore
   set-up-yes k x y z f g = rw (← e) (unless-yes q _ z, g ∙ ap (λ (k : ℕ). fronted k (λ _. pos 0) x) (f .needed) ∙ changed-yes q _ x z)
 
@@ -87,23 +90,38 @@ module _ (s : Writer) (n : ℕ) where
   offer-sound k h = sound s n (front (inRanges s) (longEnough n s) _ h)
 
 -- ---- finish
-pub waits-same : (f : Bool) (s : Writer) (r : Shut) (c v i : ℕ) → c ≡ r .closed → v ≡ r .out .level → i ≡ r .out .left →
-    record { width = s .width; levels = s .levels; rows = s .rows; column = s .column; finished = f; closed = c; level = v; left = i } ≡ waits f s r
-waits-same f s r c v i a b d = rw (a, b, d) refl
+pub waits-same : (f : Bool) (s : Writer) (r : Shut) (c v i o : ℕ) → c ≡ r .closed → v ≡ r .out .level → i ≡ r .out .left →
+    o ≡ startOf (s .width) (r .out .level) →
+    record { width = s .width; levels = s .levels; rows = s .rows; column = s .column; finished = f; closed = c; level = v; left = i; offset = o } ≡ waits f s r
+waits-same f s r c v i o a b d e = rw (a, b, d, e) refl
 
 module _ (s : Writer) (n q : ℕ) (x : Memory) (e : q ≡ finishQuestion s n) where
   pub finish-no : 0 < q → (refused q ≡ finishReply s n x) × (x ≡ finishStore s n x)
   unfolding finishReply finishStore
   finish-no h = rw (← e) (unless-no q _ h, changed-no q _ x h)
 
-  pub finish-yes : (r : Closure) (y : Memory) → q ≡ 0 → Closed (s .levels) (shut fiveThree (s .levels) (s .width) 0 (s .rows) x) r y →
-      (gives (record { width = s .width; levels = s .levels; rows = s .rows; column = s .column; finished = true; closed = r .closed; level = r .level; left = r .left }) ≡ finishReply s n x) × (y ≡ finishStore s n x)
+  pub finish-yes : (r : Closure) (y : Memory) → q ≡ 0 → Closed (s .levels) (s .width) (shut fiveThree (s .levels) (s .width) 0 (s .rows) x) r y →
+      (gives (record {
+        width = s .width;
+        levels = s .levels;
+        rows = s .rows;
+        column = s .column;
+        finished = true;
+        closed = r .closed;
+        level = r .level;
+        left = r .left;
+        offset = r .offset;
+      }) ≡ finishReply s n x) × (y ≡ finishStore s n x)
   unfolding finishReply finishStore
   finish-yes r y z f =
-      rw (← e) (ap gives (waits-same true s (closing s x) (r .closed) (r .level) (r .left) (f .closed) (f .level) (f .left)) ∙ unless-yes q _ z, f .store ∙ changed-yes q _ x z)
+      rw (← e) (
+        ap gives (waits-same true s (closing s x) (r .closed) (r .level) (r .left) (r .offset) (f .closed) (f .level) (f .left) (f .offset))
+            ∙ unless-yes q _ z,
+        f .store ∙ changed-yes q _ x z,
+      )
 
 -- ---- what a draw leaves
-module _ (s : Writer) (x y : Memory) (r : Wait) (l : Left (s .levels) (pulled s x) r y) where
+module _ (s : Writer) (x y : Memory) (r : Wait) (l : Left (s .levels) (s .width) (pulled s x) r y) where
   resumed-open : (f : Bool) (v : ℕ) → f ≡ false → resumed f s (pulled s x) v ≡ record { closed = s .closed; out = pulled s x }
   unfolding resumed
   resumed-open false v e = refl
@@ -115,27 +133,79 @@ module _ (s : Writer) (x y : Memory) (r : Wait) (l : Left (s .levels) (pulled s 
   resumed-waits true zero e h = absurd (omega arith)
   resumed-waits true (suc v) e h = refl
 
-  resumed-closes : (f : Bool) (v : ℕ) → f ≡ true → v ≡ 0 → resumed f s (pulled s x) v ≡ shut fiveThree (s .levels) (s .width) (s .closed) (s .rows) (pulled s x .store)
+  resumed-closes : (f : Bool) (v : ℕ) → f ≡ true → v ≡ 0 → resumed f s (pulled s x) v ≡ shut fiveThree (s .levels) (s .width) (s .closed) (s .rows)
+      (pulled s x .store)
   unfolding resumed
   resumed-closes false v e h = let z : _≡_ {A = ℕ} 0 1 = cc in absurd (omega arith)
   resumed-closes true zero e h = refl
   resumed-closes true (suc v) e h = absurd (omega arith)
 
-  drew : (c v i : ℕ) (z : Memory) (q : Shut) → afterDraw s x ≡ q → c ≡ q .closed → v ≡ q .out .level → i ≡ q .out .left → z ≡ q .out .store →
-      Drew s x (record { width = s .width; levels = s .levels; rows = s .rows; column = s .column; finished = s .finished; closed = c; level = v; left = i }) z
-  drew c v i z q e a b d g = record { writer = waits-same (s .finished) s q c v i a b d ∙ ap (waits (s .finished) s) (sym e); store = g ∙ ap (λ (q : Shut). q .out .store) (sym e) }
+  drew : (c v i o : ℕ) (z : Memory) (q : Shut) → afterDraw s x ≡ q → c ≡ q .closed → v ≡ q .out .level → i ≡ q .out .left →
+      o ≡ startOf (s .width) (q .out .level) → z ≡ q .out .store →
+      Drew s x (record {
+        width = s .width;
+        levels = s .levels;
+        rows = s .rows;
+        column = s .column;
+        finished = s .finished;
+        closed = c;
+        level = v;
+        left = i;
+        offset = o;
+      }) z
+  drew c v i o z q e a b d k g = record {
+    writer = waits-same (s .finished) s q c v i o a b d k ∙ ap (waits (s .finished) s) (sym e);
+    store = g
+        ∙ ap (λ (q : Shut). q .out .store) (sym e);
+  }
 
-  pub drew-open : s .finished ≡ false → Drew s x (record { width = s .width; levels = s .levels; rows = s .rows; column = s .column; finished = s .finished; closed = s .closed; level = r .level; left = r .left }) y
-  drew-open e = drew (s .closed) (r .level) (r .left) y _ (resumed-open (s .finished) (pulled s x .level) e) refl (l .level) (l .left) (l .store)
+  pub drew-open : s .finished ≡ false →
+      Drew s x (record {
+        width = s .width;
+        levels = s .levels;
+        rows = s .rows;
+        column = s .column;
+        finished = s .finished;
+        closed = s .closed;
+        level = r .level;
+        left = r .left;
+        offset = r .offset;
+      }) y
+  drew-open e = drew (s .closed) (r .level) (r .left) (r .offset) y _ (resumed-open (s .finished) (pulled s x .level) e) refl (l .level) (l .left)
+      (l .offset) (l .store)
 
-  pub drew-waits : s .finished ≡ true → 0 < r .level → Drew s x (record { width = s .width; levels = s .levels; rows = s .rows; column = s .column; finished = s .finished; closed = s .closed; level = r .level; left = r .left }) y
-  drew-waits e h = drew (s .closed) (r .level) (r .left) y _ (resumed-waits (s .finished) (pulled s x .level) e (omega (arith, l .level))) refl (l .level) (l .left) (l .store)
+  pub drew-waits : s .finished ≡ true → 0 < r .level →
+      Drew s x (record {
+        width = s .width;
+        levels = s .levels;
+        rows = s .rows;
+        column = s .column;
+        finished = s .finished;
+        closed = s .closed;
+        level = r .level;
+        left = r .left;
+        offset = r .offset;
+      }) y
+  drew-waits e h = drew (s .closed) (r .level) (r .left) (r .offset) y _ (resumed-waits (s .finished) (pulled s x .level) e
+      (omega (arith, l .level))) refl (l .level) (l .left) (l .offset) (l .store)
 
-  pub drew-closes : (q : Closure) (z : Memory) → s .finished ≡ true → r .level ≡ 0 → Closed (s .levels) (shut fiveThree (s .levels) (s .width) (s .closed) (s .rows) y) q z →
-      Drew s x (record { width = s .width; levels = s .levels; rows = s .rows; column = s .column; finished = s .finished; closed = q .closed; level = q .level; left = q .left }) z
+  pub drew-closes : (q : Closure) (z : Memory) → s .finished ≡ true → r .level ≡ 0 →
+      Closed (s .levels) (s .width) (shut fiveThree (s .levels) (s .width) (s .closed) (s .rows) y) q z →
+      Drew s x (record {
+        width = s .width;
+        levels = s .levels;
+        rows = s .rows;
+        column = s .column;
+        finished = s .finished;
+        closed = q .closed;
+        level = q .level;
+        left = q .left;
+        offset = q .offset;
+      }) z
   drew-closes q z e h f =
       let g = rw (l .store) at f in
-      drew (q .closed) (q .level) (q .left) z _ (resumed-closes (s .finished) (pulled s x .level) e (sym (l .level) ∙ h)) (g .closed) (g .level) (g .left) (g .store)
+      drew (q .closed) (q .level) (q .left) (q .offset) z _ (resumed-closes (s .finished) (pulled s x .level) e (sym (l .level) ∙ h)) (g .closed)
+      (g .level) (g .left) (g .offset) (g .store)
 
 -- ---- draw
 module _ (s : Writer) (n k : ℕ) where
@@ -161,7 +231,8 @@ module _ (s : Writer) (x z : Memory) where
   handed-none zero e = (refl, refl, refl)
   handed-none (suc v) e = absurd (omega arith)
 
-  handed-row : (v : ℕ) → 0 < v → (aRow (bandRow (waitingRow s)) (waits (s .finished) s (afterDraw s x)) ≡ handed v s x) × (afterDraw s x .out .store ≡ handedStore v s x) × (fronted (waitingRow s .length) (rest (waitingRow s .start) x) z ≡ handedArea v s x z)
+  handed-row : (v : ℕ) → 0 < v → (aRow (bandRow (waitingRow s)) (waits (s .finished) s (afterDraw s x)) ≡ handed v s x) ×
+      (afterDraw s x .out .store ≡ handedStore v s x) × (fronted (waitingRow s .length) (rest (waitingRow s .start) x) z ≡ handedArea v s x z)
   handed-row zero h = absurd (omega arith)
   handed-row (suc v) h = (refl, refl, refl)
 
@@ -170,7 +241,8 @@ module _ (s : Writer) (n k q : ℕ) (x z : Memory) (e : q ≡ stateQuestion s n)
   unfolding drawReply drawStore drawArea
   refuses p f h = rw f (unless-no p _ h, changed-no p _ x h, changed-no p _ z h)
 
-  passes : (a : Handed) (y w : Memory) → drawQuestion s n k ≡ 0 → a ≡ handed (s .level) s x → y ≡ handedStore (s .level) s x → w ≡ handedArea (s .level) s x z → (gives a ≡ drawReply s n k x) × (y ≡ drawStore s n k x) × (w ≡ drawArea s n k x z)
+  passes : (a : Handed) (y w : Memory) → drawQuestion s n k ≡ 0 → a ≡ handed (s .level) s x → y ≡ handedStore (s .level) s x →
+      w ≡ handedArea (s .level) s x z → (gives a ≡ drawReply s n k x) × (y ≡ drawStore s n k x) × (w ≡ drawArea s n k x z)
   unfolding drawReply drawStore drawArea
   passes a y w f ea ey ew = rw f (ap gives ea, ey, ew)
 
@@ -188,10 +260,13 @@ module _ (s : Writer) (n k q : ℕ) (x z : Memory) (e : q ≡ stateQuestion s n)
     draw-no-room g = refuses 12 (draw-short s n k (sym e ∙ y) h (omega (arith, long))) (omega arith)
 
     pub draw-row : (v : Writer) (x′ z′ : Memory) → r .length ≤ k → z′ ≡ fronted (r .length) (rest (r .start) x) z → Drew s x v x′ →
-        (gives (aRow (record { level = r .level; band = r .band; row = r .row; length = r .length }) v) ≡ drawReply s n k x) × (x′ ≡ drawStore s n k x) × (z′ ≡ drawArea s n k x z)
+        (gives (aRow (record { level = r .level; band = r .band; row = r .row; length = r .length }) v) ≡ drawReply s n k x) ×
+        (x′ ≡ drawStore s n k x) × (z′ ≡ drawArea s n k x z)
     draw-row v x′ z′ g ez d =
         let t = handed-row s x z (s .level) h in
-        let b : _≡_ {A = BandRow} (record { level = r .level; band = r .band; row = r .row; length = r .length }) (bandRow (waitingRow s)) = ap (λ (r : Spot). record { level = r .level; band = r .band; row = r .row; length = r .length }) (f .spot) in
-        let a : fronted (r .length) (rest (r .start) x) z ≡ fronted (waitingRow s .length) (rest (waitingRow s .start) x) z = ap (λ (r : Spot). fronted (r .length) (rest (r .start) x) z) (f .spot) in
+        let b : _≡_ {A = BandRow} (record { level = r .level; band = r .band; row = r .row; length = r .length }) (bandRow (waitingRow s)) = ap
+        (λ (r : Spot). record { level = r .level; band = r .band; row = r .row; length = r .length }) (f .spot) in
+        let a : fronted (r .length) (rest (r .start) x) z ≡ fronted (waitingRow s .length) (rest (waitingRow s .start) x) z = ap
+        (λ (r : Spot). fronted (r .length) (rest (r .start) x) z) (f .spot) in
         passes _ x′ z′ (draw-long s n k (sym e ∙ y) h (omega (arith, long)))
         (ap (λ (b : BandRow). aRow b v) b ∙ ap (aRow (bandRow (waitingRow s))) (d .writer) ∙ t .0) (d .store ∙ t .1) (ez ∙ a ∙ t .2)

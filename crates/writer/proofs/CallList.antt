@@ -35,6 +35,7 @@ use Rattle.writer.specs.Machine.{Out, arrive}
 use Rattle.writer.specs.Draws.{Waiting, waiting, pull}
 use Rattle.writer.specs.Closing.{Shut, shut}
 use Rattle.writer.specs.Taking.{stored, Taking, takes, offering}
+use Rattle.writer.specs.Counts.{startOf}
 use Rattle.writer.specs.Questions.{inRanges}
 use Rattle.writer.specs.Calls.{resumed, bandRow}
 use Rattle.writer.specs.Holds.{Kept, Holds}
@@ -192,6 +193,8 @@ module _ {L W : ℕ} {ts : List ℕ} {f : Bool} {ds : List DrawnRow} {r c cl v i
         le-leb v L
             (level-le fiveThree Kept five-three-laws L _ _ _ _ _ _ _ _ _ (s .holds .levels)),
         le-leb i (mostLeft L v) (s .holds .few),
+        eq-eqb
+            (startOf W v) (startOf W v) refl,
       )
 
   -- what waits, by the history: made and not drawn

@@ -32,12 +32,12 @@ use Rattle.writer.specs.Calls.{fresh, setUpReply, took, offerReply, offe
 use Rattle.writer.specs.Calls.{handedStore, handedArea, drawReply, drawStore, drawArea}
 use Rattle.writer.specs.Holds.{Holds, Keeps, AnyMap, AllRows, GoesOn, MapRow, left, after, tookOf, DrawKeeps, FinishKeeps, OfferKeeps, SetUpHolds}
 use Rattle.writer.proofs.CountLaws.{code-one}
-use Rattle.writer.proofs.StateHolds.{st, fresh-holds, pulled-by, draw-holds, finish-holds, begun-holds, complete-holds}
+use Rattle.writer.proofs.StateHolds.{st, placed-st, fresh-st, fresh-holds, pulled-by, draw-holds, finish-holds, begun-holds, complete-holds}
 use Rattle.writer.proofs.CallList.{rows-of, column-of, rows-below}
 
 -- ---- set-up
 pub set-up-holds : (W L H : ℕ) (g : Grid) (x : Memory) → Holds H g (fresh W L) x
-set-up-holds W L H g x = fresh-holds H g W L x
+set-up-holds W L H g x = subst (λ s. Holds H g s x) (sym (fresh-st W L)) (fresh-holds H g W L x)
 
 -- ---- draw
 handed-holds : (H : ℕ) (g : Grid) (W L r c : ℕ) (f : Bool) (cl v i : ℕ) (x : Memory) → (let s = st W L r c f cl v i in Holds H g s x →
@@ -51,13 +51,15 @@ draw-keeps s n k x = record { keeps = λ H g _ h. go H g h (drawQuestion s n k) 
   where
     go : (H : ℕ) (g : Grid) → Holds H g s x → (q : ℕ) → Holds H g (left (after s) s (unless q (handed (s .level) s x)))
         (changedUnless q (handedStore (s .level) s x) x)
-    go H g h zero = handed-holds H g (s .width) (s .levels) (s .rows) (s .column) (s .finished) (s .closed) (s .level) (s .left) x h
+    go H g h zero =
+        subst (λ t. Holds H g t x → Holds H g (after t (handed (t .level) t x)) (handedStore (t .level) t x)) (sym (placed-st s (h .placed)))
+        (handed-holds H g (s .width) (s .levels) (s .rows) (s .column) (s .finished) (s .closed) (s .level) (s .left) x) h
     go H g h (suc q) = h
 
 -- the row that waits has the map's values
 draw-values : (s : Writer) (x : Memory) (H : ℕ) (g : Grid) → Holds H g s x → 0 < s .level → (i : ℕ) → i < waitingRow s .length →
     x (waitingRow s .start + i) ≡ levelBand wrap32 (s .width) H g (waitingRow s .level) (waitingRow s .band) (waitingRow s .row) i
-draw-values s x H g h p = go (s .level) h p
+draw-values s x H g h p = go (s .level) (subst (λ t. Holds H g t x) (placed-st s (h .placed)) h) p
   where
     go : (v : ℕ) → (let s′ = st (s .width) (s .levels) (s .rows) (s .column) (s .finished) (s .closed) v (s .left) in
         Holds H g s′ x → 0 < v → (i : ℕ) → i < waitingRow s′ .length → x (waitingRow s′ .start + i) ≡ levelBand wrap32 (s .width) H g
@@ -117,7 +119,8 @@ finish-keeps s n x = record { keeps = λ H g e h. go H g e h (finishQuestion s n
     go H g e h zero z =
         let m = finish-may s n z in
         finish-holds H g (s .width) (s .levels) (s .rows) (s .column) (s .closed) (s .level) (s .left) x
-        (subst (λ f. Holds H g (st (s .width) (s .levels) (s .rows) (s .column) f (s .closed) (s .level) (s .left)) x) (m .0) h) (m .1) (m .2) (m .3) e
+        (subst (λ f. Holds H g (st (s .width) (s .levels) (s .rows) (s .column) f (s .closed) (s .level) (s .left)) x) (m .0)
+        (subst (λ t. Holds H g t x) (placed-st s (h .placed)) h)) (m .1) (m .2) (m .3) e
     go H g e h (suc q) z = h
 
 -- ---- offer: one height after the other
@@ -228,7 +231,10 @@ offer-keeps s n run x = record { keeps = λ H g t h. go H g h (offerQuestion s n
         GoesOn s run (tookOf a) H g → Holds H g (left (λ t. t .writer) s a) (changedUnless q (offering fiveThree run s x .store) x))
     go H g h zero z m =
         let y = offer-may s n (length run) z in
-        passed H g (s .width) (s .levels) (s .rows) (s .column) (s .finished) (s .closed) (s .level) (s .left) (y .0) (y .1) (y .2) m h
+        subst (λ t. GoesOn t run (offering fiveThree run t x .taken) H g → Holds H g t x → Holds H g (offering fiveThree run t x .writer)
+        (offering fiveThree run t x .store))
+        (sym (placed-st s (h .placed)))
+        (passed H g (s .width) (s .levels) (s .rows) (s .column) (s .finished) (s .closed) (s .level) (s .left) (y .0) (y .1) (y .2)) m h
     go H g h (suc q) z m = h
 
 -- ---- the same of an answer and a store that are the definitions', as a contract says it

@@ -6,31 +6,42 @@ use borrow.Author.Tests.{eq-eqb, ne-eqb, lt-ltb, le-ltb}
 use Rattle.lifting.specs.Line.{lo, count}
 use Rattle.writer.specs.declared.cascade.Wait.{Wait}
 use Rattle.writer.specs.Level.{Memory}
-use Rattle.writer.specs.Counts.{prev, deeper, most, skip}
+use Rattle.writer.specs.Counts.{prev, deeper, further, most, skip, startOf}
 use Rattle.writer.specs.FiveThreeLevel.{fiveThree, setWith, setMade}
 use Rattle.writer.specs.Machine.{Out, rest, joinAt, still, under, passed, settled, arrived, arrive, passOn}
 use Rattle.writer.specs.Steps.{Left, delivered}
-use Rattle.writer.proofs.CountLaws.{prev-is, deeper-le}
+use Rattle.writer.proofs.CountLaws.{prev-is, deeper-le, start-first, start-deeper, start-le}
 use Rattle.writer.proofs.RestLaws.{rest-join, join-again}
 
 -- ---- what a step leaves
-pub left-still : (l : ℕ) (o : Out) (x : Memory) → o ≡ still x → Left l o (record { level = 0; left = 0 }) x
-left-still l o x e = rw e (record { level = refl; left = refl; store = refl; within = omega arith })
+pub left-still : (l w : ℕ) (o : Out) (x : Memory) → o ≡ still x → Left l w o (record { level = 0; left = 0; offset = 0 }) x
+left-still l w o x e = rw e (record { level = refl; left = refl; offset = sym (start-first w 0 (omega arith)); store = refl; within = omega arith })
 
-pub left-waits : (l i : ℕ) (o : Out) (x : Memory) → 0 < l → o ≡ record { store = x; level = 1; left = i } → Left l o (record { level = 1; left = i }) x
-left-waits l i o x h e = rw e (record { level = refl; left = refl; store = refl; within = omega arith })
+pub left-waits : (l w i : ℕ) (o : Out) (x : Memory) → 0 < l → o ≡ record { store = x; level = 1; left = i } →
+    Left l w o (record { level = 1; left = i; offset = 0 }) x
+left-waits l w i o x h e = rw e (record { level = refl; left = refl; offset = sym (start-first w 1 (omega arith)); store = refl; within = omega arith })
 
-pub left-same : (l : ℕ) (o o′ : Out) (r : Wait) (x : Memory) → o ≡ o′ → Left l o′ r x → Left l o r x
-left-same l o o′ r x e f = rw e f
+pub left-same : (l w : ℕ) (o o′ : Out) (r : Wait) (x : Memory) → o ≡ o′ → Left l w o′ r x → Left l w o r x
+left-same l w o o′ r x e f = rw e f
 
--- the levels below, from place a on: y is the store with the row that went there, t what they leave
-pub left-under : (l k a d : ℕ) (x y u t z : Memory) (o : Out) (r : Wait) → l ≡ k + 1 → y ≡ joinAt a x u → z ≡ joinAt a y t → d ≡ deeper (r .level) → Left k o r t →
-    Left l (under a x o) (record { level = d; left = r .left }) z
-left-under l k a d x y u t z o r el ey ez ed f =
+-- an offset is far from what a number holds
+pub left-small : (l w : ℕ) (o : Out) (r : Wait) (x : Memory) → w < 65536 → l < 65536 → Left l w o r x → r .offset < 4294967296
+left-small l w o r x h g f = omega (arith, f .offset, f .level, f .within, start-le w (o .level))
+
+-- what waits of the level above: seen from there
+pub under-offset : (w : ℕ) (o r v : ℕ) → r ≡ v → o ≡ startOf (count lo w) v → further r (4 * w) o ≡ startOf w (deeper v)
+under-offset w o r v e f = ap (λ (r : ℕ). further r (4 * w) o) e ∙ ap (further v (4 * w)) f ∙ sym (start-deeper w v)
+
+-- the levels below, from the end of the first one's stretch on: y is the store with the row that went there, t what they leave
+pub left-under : (l k w d b : ℕ) (x y u t z : Memory) (o : Out) (r : Wait) → l ≡ k + 1 → y ≡ joinAt (4 * w) x u → z ≡ joinAt (4 * w) y t →
+    d ≡ deeper (r .level) →
+    b ≡ further (r .level) (4 * w) (r .offset) → Left k (count lo w) o r t → Left l w (under (4 * w) x o) (record { level = d; left = r .left; offset = b }) z
+left-under l k w d b x y u t z o r el ey ez ed eb f =
     record {
       level = ed ∙ ap deeper (f .level);
       left = f .left;
-      store = ez ∙ ap (λ (m : Memory). joinAt a m t) ey ∙ join-again a x u t ∙ ap (joinAt a x) (f .store);
+      offset = eb ∙ under-offset w (r .offset) (r .level) (o .level) (f .level) (f .offset);
+      store = ez ∙ ap (λ (m : Memory). joinAt (4 * w) m t) ey ∙ join-again (4 * w) x u t ∙ ap (joinAt (4 * w) x) (f .store);
       within = omega (arith, deeper-le (r .level) k (f .within));
     }
 
@@ -63,11 +74,13 @@ module _ (w n : ℕ) (x : Memory) where
   pass-goes (suc l) h = ap (λ (t : Memory). under (4 * w) x (arrive fiveThree (suc l) (count lo w) n t)) (sym (rest-join (4 * w) x _))
 
 -- the LL row has gone on to the levels below, which leave t
-pub passed-goes : (l w n v d : ℕ) (x y t z : Memory) (r : Wait) → 0 < l → v ≡ count lo w → y ≡ delivered w n x → Left l (arrive fiveThree l v n (rest (4 * w) y)) r t → z ≡ joinAt (4 * w) y t → d ≡ deeper (r .level) →
-    Left (l + 1) (passOn fiveThree l w n x) (record { level = d; left = r .left }) z
-passed-goes l w n v d x y t z r h ev e f ez ed =
-    left-same (l + 1) _ _ _ z (pass-goes w n x l h)
-    (left-under (l + 1) l (4 * w) d x y _ t z _ r refl (e ∙ delivered-join w n x) ez ed (rw (ev, e) at f))
+pub passed-goes : (l w n v d b : ℕ) (x y t z : Memory) (r : Wait) → 0 < l → v ≡ count lo w → y ≡ delivered w n x →
+    Left l v (arrive fiveThree l v n (rest (4 * w) y)) r t →
+    z ≡ joinAt (4 * w) y t → d ≡ deeper (r .level) → b ≡ further (r .level) (4 * w) (r .offset) → Left (l + 1) w (passOn fiveThree l w n x)
+    (record { level = d; left = r .left; offset = b }) z
+passed-goes l w n v d b x y t z r h ev e f ez ed eb =
+    left-same (l + 1) w _ _ _ z (pass-goes w n x l h)
+    (left-under (l + 1) l w d b x y _ t z _ r refl (e ∙ delivered-join w n x) ez ed eb (rw (ev, e) at f))
 
 -- ---- a row that comes
 module _ (l w m : ℕ) (x : Memory) where
@@ -89,7 +102,8 @@ module _ (l w m : ℕ) (x : Memory) where
       go zero = unfold arrive in refl
       go (suc l) = unfold arrive arrived in simp (eq-eqb (m % 2) 0 (omega arith), le-ltb 0 m (omega arith))
 
-  pub arrive-even : (n : ℕ) → 0 < l → m ≡ 2 * n + 2 → arrive fiveThree l w m x ≡ settled (passOn fiveThree (l - 1) w) n (setWith w n m x) (skip w (m + 1) n (most (l - 1)))
+  pub arrive-even : (n : ℕ) → 0 < l → m ≡ 2 * n + 2 → arrive fiveThree l w m x ≡ settled (passOn fiveThree (l - 1) w) n (setWith w n m x)
+      (skip w (m + 1) n (most (l - 1)))
   arrive-even n h e = go l h
     where
       p : prev (m / 2) ≡ n
@@ -108,18 +122,18 @@ module _ (l w m n : ℕ) (x x₁ : Memory) (i : ℕ) (hl : 0 < l) (e : m ≡ 2 *
   came : arrive fiveThree l w m x ≡ settled (passOn fiveThree (l - 1) w) n x₁ (skip w (m + 1) n (most (l - 1)))
   came = arrive-even l w m x n hl e ∙ ap (λ (y : Memory). settled (passOn fiveThree (l - 1) w) n y (skip w (m + 1) n (most (l - 1)))) (sym e₁)
 
-  pub came-waits : i ≡ skip w (m + 1) n (most (l - 1)) → 0 < i → Left l (arrive fiveThree l w m x) (record { level = 1; left = i }) x₁
-  came-waits q h = left-waits l i _ x₁ hl (came ∙ ap (settled (passOn fiveThree (l - 1) w) n x₁) (sym q) ∙ settled-waits _ n i x₁ h)
+  pub came-waits : i ≡ skip w (m + 1) n (most (l - 1)) → 0 < i → Left l w (arrive fiveThree l w m x) (record { level = 1; left = i; offset = 0 }) x₁
+  came-waits q h = left-waits l w i _ x₁ hl (came ∙ ap (settled (passOn fiveThree (l - 1) w) n x₁) (sym q) ∙ settled-waits _ n i x₁ h)
 
   goes : i ≡ skip w (m + 1) n (most (l - 1)) → i ≡ 0 → arrive fiveThree l w m x ≡ passOn fiveThree (l - 1) w n x₁
   goes q h = came ∙ ap (settled (passOn fiveThree (l - 1) w) n x₁) (sym q) ∙ settled-goes _ n i x₁ h
 
-  pub came-last : i ≡ skip w (m + 1) n (most (l - 1)) → i ≡ 0 → l ≡ 1 → Left l (arrive fiveThree l w m x) (record { level = 0; left = 0 }) x₁
-  came-last q h z = left-still l _ x₁ (goes q h ∙ pass-none w n x₁ (l - 1) (omega arith))
+  pub came-last : i ≡ skip w (m + 1) n (most (l - 1)) → i ≡ 0 → l ≡ 1 → Left l w (arrive fiveThree l w m x) (record { level = 0; left = 0; offset = 0 }) x₁
+  came-last q h z = left-still l w _ x₁ (goes q h ∙ pass-none w n x₁ (l - 1) (omega arith))
 
-  pub came-goes : i ≡ skip w (m + 1) n (most (l - 1)) → i ≡ 0 → 1 < l → (v d : ℕ) (x₂ t z : Memory) (r : Wait) → v ≡ count lo w → x₂ ≡ delivered w n x₁ →
-      Left (l - 1) (arrive fiveThree (l - 1) v n (rest (4 * w) x₂)) r t → z ≡ joinAt (4 * w) x₂ t → d ≡ deeper (r .level) →
-      Left l (arrive fiveThree l w m x) (record { level = d; left = r .left }) z
-  came-goes q h g v d x₂ t z r ev e₂ f ez ed =
+  pub came-goes : i ≡ skip w (m + 1) n (most (l - 1)) → i ≡ 0 → 1 < l → (v d b : ℕ) (x₂ t z : Memory) (r : Wait) → v ≡ count lo w → x₂ ≡ delivered w n x₁ →
+      Left (l - 1) v (arrive fiveThree (l - 1) v n (rest (4 * w) x₂)) r t → z ≡ joinAt (4 * w) x₂ t → d ≡ deeper (r .level) →
+      b ≡ further (r .level) (4 * w) (r .offset) → Left l w (arrive fiveThree l w m x) (record { level = d; left = r .left; offset = b }) z
+  came-goes q h g v d b x₂ t z r ev e₂ f ez ed eb =
       let k : l - 1 + 1 ≡ l = omega arith in
-      rw k at (left-same (l - 1 + 1) _ _ _ z (goes q h) (passed-goes (l - 1) w n v d x₁ x₂ t z r (omega arith) ev e₂ f ez ed))
+      rw k at (left-same (l - 1 + 1) w _ _ _ z (goes q h) (passed-goes (l - 1) w n v d b x₁ x₂ t z r (omega arith) ev e₂ f ez ed eb))

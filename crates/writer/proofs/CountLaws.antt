@@ -2,12 +2,14 @@
 use mathlib.Core.Path.{_≡_, refl, sym, ap, _∙_}
 use mathlib.Core.Bool.{true, false}
 use Prim.Native.Nat.{ℕ, zero, suc, _+_, _-_, _*_, _/_, _%_, _<_, _≤_, min}
+use native.Mathlib.Decide.{decLt}
 use native.Mathlib.Omega.{arith}
 use native.Mathlib.Nat.{mul-le-mul-right}
 use Rattle.lifting.specs.Line.{lo, count}
 use Rattle.wavelet.specs.Bands.{Band, LL, HL, LH, HH, code}
 use Rattle.wavelet.specs.Order.{hasRow}
-use Rattle.writer.specs.Counts.{prev, deeper, made, most, mostLeft, bandAt, skip}
+use Rattle.wavelet.proofs.StoreLaws.{store-none, store-below, store-le}
+use Rattle.writer.specs.Counts.{prev, deeper, deeperBy, further, made, most, mostLeft, bandAt, skip, startOf}
 use Rattle.writer.specs.FiveThreeLevel.{slot, before}
 
 pub prev-is : (n : ℕ) → prev n ≡ n - 1
@@ -69,6 +71,61 @@ left-under l (suc v) = ap most (omega arith)
 pub left-next : (l v : ℕ) → mostLeft (suc l) (suc (suc v)) ≡ mostLeft l (suc v)
 unfolding mostLeft
 left-next l v = ap most (omega arith)
+
+pub deeper-by-none : (k v : ℕ) → v ≡ 0 → 0 ≡ deeperBy k v
+unfolding deeperBy
+deeper-by-none k zero e = refl
+deeper-by-none k (suc v) e = absurd (omega arith)
+
+pub deeper-by-some : (k v : ℕ) → 0 < v → v + k ≡ deeperBy k v
+unfolding deeperBy
+deeper-by-some k zero h = absurd (omega arith)
+deeper-by-some k (suc v) h = refl
+
+pub deeper-by-le : (k v : ℕ) → deeperBy k v ≤ v + k
+unfolding deeperBy
+deeper-by-le k zero = omega arith
+deeper-by-le k (suc v) = omega arith
+
+pub deeper-by-same : (v : ℕ) → deeperBy 0 v ≡ v
+unfolding deeperBy
+deeper-by-same zero = refl
+deeper-by-same (suc v) = omega arith
+
+pub deeper-by-more : (k v : ℕ) → deeper (deeperBy k v) ≡ deeperBy (suc k) v
+deeper-by-more k v =
+    elim (decLt 0 v) [
+      | yes h ↦
+          let a = deeper-by-some k v h in
+          let b = deeper-by-some (suc k) v h in
+          sym (ap deeper a) ∙ sym (deeper-some (v + k) (omega arith)) ∙ omega arith
+      | no d ↦ sym (ap deeper (deeper-by-none k v (omega arith))) ∙ sym (deeper-none 0 refl) ∙ deeper-by-none (suc k) v (omega arith)
+    ]
+
+-- ---- where a stretch begins
+pub further-none : (v a o : ℕ) → v ≡ 0 → 0 ≡ further v a o
+unfolding further
+further-none zero a o e = refl
+further-none (suc v) a o e = absurd (omega arith)
+
+pub further-some : (v a o : ℕ) → 0 < v → a + o ≡ further v a o
+unfolding further
+further-some zero a o h = absurd (omega arith)
+further-some (suc v) a o h = refl
+
+pub start-first : (w v : ℕ) → v ≤ 1 → startOf w v ≡ 0
+start-first w zero h = store-none w
+start-first w (suc zero) h = store-none w
+start-first w (suc (suc v)) h = absurd (omega arith)
+
+-- seen from the level above
+pub start-deeper : (w v : ℕ) → startOf w (deeper v) ≡ further v (4 * w) (startOf (count lo w) v)
+unfolding deeper further
+start-deeper w zero = store-none w
+start-deeper w (suc v) = store-below w v
+
+pub start-le : (w v : ℕ) → startOf w v ≤ 8 * w + 4 * v
+start-le w v = omega (arith, store-le w (prev v), prev-is v)
 
 pub made-open : (c m : ℕ) → c ≡ 0 → made c m ≡ (m - 1) / 2
 unfolding made

@@ -254,3 +254,12 @@ demand-3 W (suc l) n x h cs =
       claim l W (p .0) (p .1) (events cs w) (e .length) (m .rows) (m .column) (m .closed) (m .level) (m .rest)
           (e .store) (m .long) (m .at),
     )
+
+-- and it is still a writer of the set-up's width
+pub width-kept : (W L n : ℕ) (x : Memory) → setUpQuestion W L n ≡ 0 → (cs : List Call) → final cs (freshWorld W L n x) .writer .width ≡ W
+width-kept W zero n x h cs = absurd (some-level (set-up-passed W 0 n h .1))
+width-kept W (suc l) n x h cs =
+    let p = set-up-passed W (suc l) n h in
+    let w = freshWorld W (suc l) n x in
+    let m = list-reached l W (p .0) (p .1) cs [] w (fresh-reached l W (p .0) (p .1) n (w .store) (some-width W (p .0)) (p .2)) in
+    ap (λ s. s .width) (m .writer-is)

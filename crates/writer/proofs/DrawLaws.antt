@@ -7,16 +7,21 @@ use native.Mathlib.Omega.{arith}
 use Rattle.lifting.specs.Line.{lo, count}
 use Rattle.lifting.proofs.LineLaws.{counts}
 use Rattle.wavelet.specs.Bands.{Band, LL, HL, LH, HH, across, code}
-use Rattle.wavelet.proofs.StoreLaws.{store-back}
+use Rattle.wavelet.proofs.StoreLaws.{store-back, store-below, store-next}
+use Rattle.writer.specs.declared.Writer.{Writer}
 use Rattle.writer.specs.declared.cascade.Wait.{Wait}
 use Rattle.writer.specs.declared.draws.Spot.{Spot}
+use Rattle.writer.specs.declared.draws.Level.{Level}
 use Rattle.writer.specs.Level.{Memory}
-use Rattle.writer.specs.Counts.{prev, deeper, made, bandAt, skip}
+use Rattle.writer.specs.Counts.{prev, deeper, deeperBy, further, made, bandAt, skip, startOf}
 use Rattle.writer.specs.FiveThreeLevel.{fiveThree, bandPlace}
-use Rattle.writer.specs.Machine.{rest, joinAt, under, settled, passOn}
+use Rattle.writer.specs.Machine.{Out, rest, joinAt, under, settled, passOn}
 use Rattle.writer.specs.Draws.{lower, rowOf, waiting, pull}
-use Rattle.writer.specs.Steps.{Left, Found}
-use Rattle.writer.proofs.CountLaws.{slot-room}
+use Rattle.writer.specs.Questions.{waitingRow}
+use Rattle.writer.specs.Calls.{pulled}
+use Rattle.writer.specs.Steps.{Left, Found, Reaches, waitingAt, pullAt, from, lastSetOf, spotOf}
+use Rattle.writer.proofs.CountLaws.{slot-room, prev-is, start-first, start-deeper, further-none, further-some, deeper-by-same, deeper-by-more}
+use Rattle.writer.proofs.CountLaws.{deeper-by-none, deeper-by-some, deeper-by-le}
 use Rattle.writer.proofs.RestLaws.{rest-at, join-below, join-past}
 use Rattle.writer.proofs.CascadeLaws.{left-waits, left-same, left-under, settled-waits, settled-goes}
 
@@ -36,7 +41,8 @@ module _ (w c i m : ℕ) where
   waiting-here (suc l) (suc zero) h e = refl
   waiting-here (suc l) (suc (suc v)) h e = absurd (omega arith)
 
-  pub waiting-below : (l v : ℕ) → 0 < l → 1 < v → waiting fiveThree l w c v i m ≡ lower (4 * w) (waiting fiveThree (l - 1) (count lo w) (prev c) (v - 1) i (made c m))
+  pub waiting-below : (l v : ℕ) → 0 < l → 1 < v → waiting fiveThree l w c v i m ≡ lower (4 * w) (waiting fiveThree (l - 1) (count lo w) (prev c)
+      (v - 1) i (made c m))
   unfolding waiting
   waiting-below zero v h e = absurd (omega arith)
   waiting-below (suc l) zero h e = absurd (omega arith)
@@ -46,14 +52,16 @@ module _ (w c i m : ℕ) where
       let q : suc (suc v) - 1 ≡ suc v = omega arith in
       rw (p, q) refl
 
-  pub pull-here : (l v : ℕ) (x : Memory) → 0 < l → v ≡ 1 → pull fiveThree l w c v i m x ≡ settled (passOn fiveThree (l - 1) w) (prev (made c m)) x (skip w m (prev (made c m)) (prev i))
+  pub pull-here : (l v : ℕ) (x : Memory) → 0 < l → v ≡ 1 → pull fiveThree l w c v i m x ≡ settled (passOn fiveThree (l - 1) w) (prev (made c m)) x
+      (skip w m (prev (made c m)) (prev i))
   unfolding pull
   pull-here zero v x h e = absurd (omega arith)
   pull-here (suc l) zero x h e = absurd (omega arith)
   pull-here (suc l) (suc zero) x h e = let p : suc l - 1 ≡ l = omega arith in rw p refl
   pull-here (suc l) (suc (suc v)) x h e = absurd (omega arith)
 
-  pub pull-below : (l v : ℕ) (x : Memory) → 0 < l → 1 < v → pull fiveThree l w c v i m x ≡ under (4 * w) x (pull fiveThree (l - 1) (count lo w) (prev c) (v - 1) i (made c m) (rest (4 * w) x))
+  pub pull-below : (l v : ℕ) (x : Memory) → 0 < l → 1 < v → pull fiveThree l w c v i m x ≡ under (4 * w) x (pull fiveThree (l - 1) (count lo w)
+      (prev c) (v - 1) i (made c m) (rest (4 * w) x))
   unfolding pull
   pull-below zero v x h e = absurd (omega arith)
   pull-below (suc l) zero x h e = absurd (omega arith)
@@ -63,26 +71,28 @@ module _ (w c i m : ℕ) where
       let q : suc (suc v) - 1 ≡ suc v = omega arith in
       rw (p, q) refl
 
--- ---- the row that waits
-pub found-here : (l w c v left m k n i b d s : ℕ) → 0 < l → v ≡ 1 → k ≡ made c m → n ≡ prev k → i ≡ prev left → b ≡ code (bandAt i) → d ≡ count (across (bandAt i)) w → s ≡ bandPlace w n (bandAt i) →
-    Found l w (waiting fiveThree l w c v left m) (record { level = 1; band = b; row = n; length = d; start = s })
-found-here l w c v left m k n i b d s h e ek en ei eb ed es =
-    let q = place-room w n (bandAt i) in
-    let r = store-back w l h in
-    record { spot = rw (waiting-here w c left m l v h e) (cc); room = omega arith; within = omega arith }
+-- ---- the store from a place on, in two steps
+pub rest-rest : (a b : ℕ) (x : Memory) → rest b (rest a x) ≡ rest (a + b) x
+rest-rest a b x = fun-ext λ j. let k : a + (b + j) ≡ a + b + j = omega arith in rest-at b (rest a x) j ∙ rest-at a x (b + j) ∙ ap x k
+    ∙ sym (rest-at (a + b) x j)
 
-pub found-below : (l w c v left m h p k : ℕ) (r : Spot) → 1 < v → v ≤ l → h ≡ count lo w → p ≡ prev c → k ≡ made c m → Found (l - 1) h (waiting fiveThree (l - 1) h p (v - 1) left k) r →
-    Found l w (waiting fiveThree l w c v left m) (record { level = r .level + 1; band = r .band; row = r .row; length = r .length; start = 4 * w + r .start })
-found-below l w c v left m h p k r g g′ eh ep ek f =
-    let below : Found (l - 1) (count lo w) (waiting fiveThree (l - 1) (count lo w) (prev c) (v - 1) left (made c m)) r = rw (eh, ep, ek) at f in
-    let room = store-back w l (omega arith) in
-    record {
-      spot = rw (waiting-below w c left m l v (omega arith) g, add-one) (cc);
-      room = omega arith;
-      within = omega arith;
-    }
+pub join-join : (a b : ℕ) (x t : Memory) → joinAt a x (joinAt b (rest a x) t) ≡ joinAt (a + b) x t
+join-join a b x t =
+    fun-ext λ j.
+    elim (decLt j a) [
+      | yes h ↦ join-below a x _ j h ∙ sym (join-below (a + b) x t j (omega arith))
+      | no d ↦
+          join-past a x _ j (omega arith)
+          ∙ elim (decLt (j - a) b) [
+            | yes h ↦
+                let k : a + (j - a) ≡ j = omega arith in
+                join-below b (rest a x) t (j - a) h ∙ rest-at a x (j - a) ∙ ap x k ∙ sym (join-below (a + b) x t j (omega arith))
+            | no g ↦
+                let k : j - a - b ≡ j - (a + b) = omega arith in
+                join-past b (rest a x) t (j - a) (omega arith) ∙ ap t k ∙ sym (join-past (a + b) x t j (omega arith))
+          ]
+    ]
 
--- ---- what the draw leaves
 pub join-rest : (a : ℕ) (x : Memory) → x ≡ joinAt a x (rest a x)
 join-rest a x =
     fun-ext λ j.
@@ -91,19 +101,181 @@ join-rest a x =
       | no d ↦ let k : a + (j - a) ≡ j = omega arith in sym (join-past a x (rest a x) j (omega arith) ∙ rest-at a x (j - a) ∙ ap x k)
     ]
 
-module _ (l w c v left m k n p i : ℕ) (x : Memory) (h : 0 < l) (e : v ≡ 1) (ek : k ≡ made c m) (en : n ≡ prev k) (ep : p ≡ prev left) (ei : i ≡ skip w m n p) where
-  here : pull fiveThree l w c v left m x ≡ settled (passOn fiveThree (l - 1) w) n x i
-  here = pull-here w c left m l v x h e ∙ cc
+join-first : (x t : Memory) → joinAt 0 x t ≡ t
+join-first x t = fun-ext λ j. let k : j - 0 ≡ j = omega arith in join-past 0 x t j (omega arith) ∙ ap t k
 
-  pub pull-waits : 0 < i → Left l (pull fiveThree l w c v left m x) (record { level = 1; left = i }) x
-  pull-waits g = left-waits l i _ x h (here ∙ settled-waits _ n i x g)
+rest-first : (x : Memory) → rest 0 x ≡ x
+rest-first x = fun-ext λ j. let k : 0 + j ≡ j = omega arith in rest-at 0 x j ∙ ap x k
 
-  pub pull-goes : (r : Wait) (y : Memory) → i ≡ 0 → Left (l - 1 + 1) (passOn fiveThree (l - 1) w n x) r y → Left l (pull fiveThree l w c v left m x) r y
-  pull-goes r y g f = let q : l - 1 + 1 ≡ l = omega arith in left-same l _ _ r y (here ∙ settled-goes _ n i x g) (rw q at f)
+-- ---- a level found from where its stretch begins
+-- the first level is where it is
+from-first : (x : Memory) (o : Out) → from 0 0 x o ≡ o
+from-first x o = rw (join-first x (o .store), deeper-by-same (o .level)) refl
 
-pub pull-deep : (l w c v left m h p k d : ℕ) (x t z : Memory) (r : Wait) → 1 < v → v ≤ l → h ≡ count lo w → p ≡ prev c → k ≡ made c m →
-    Left (l - 1) (pull fiveThree (l - 1) h p (v - 1) left k (rest (4 * w) x)) r t → z ≡ joinAt (4 * w) x t → d ≡ deeper (r .level) →
-    Left l (pull fiveThree l w c v left m x) (record { level = d; left = r .left }) z
-pull-deep l w c v left m h p k d x t z r g g′ eh ep ek f ez ed =
-    left-same l _ _ _ z (pull-below w c left m l v x (omega arith) g)
-    (left-under l (l - 1) (4 * w) d x x _ t z _ r (omega arith) (join-rest (4 * w) x) ez ed (rw (eh, ep, ek) at f))
+module _ (w c m l v a i : ℕ) (e : v ≡ 1) (z : a ≡ 0) where
+  at-first : waitingAt v a (record { below = l; width = w; closed = c; rows = m }) i ≡ rowOf fiveThree w (prev (made c m)) (bandAt (prev i))
+  unfolding waitingAt
+  at-first =
+      let k : 0 + bandPlace w (prev (made c m)) (bandAt (prev i)) ≡ bandPlace w (prev (made c m)) (bandAt (prev i)) = omega arith in
+      rw (z, e, k) refl
+
+  pull-first : (x : Memory) → pullAt v a (record { below = l; width = w; closed = c; rows = m }) i x ≡ settled (passOn fiveThree l w)
+      (prev (made c m)) x (skip w m (prev (made c m)) (prev i))
+  unfolding pullAt
+  pull-first x = rw (z, e, rest-first x) (from-first x _)
+
+starts-here : (w v u : ℕ) → v ≡ 1 → startOf w (deeperBy (prev v) u) ≡ further u (startOf w v) (startOf w u)
+starts-here w v zero e =
+    sym (ap (startOf w) (deeper-by-none (prev v) 0 refl)) ∙ start-first w 0 (omega arith) ∙ further-none 0 (startOf w v) (startOf w 0) refl
+starts-here w v (suc u) e =
+    let k : prev v ≡ 0 = omega (arith, prev-is v) in
+    let z = start-first w v (omega arith) in
+    let q : startOf w (suc u) ≡ startOf w v + startOf w (suc u) = omega (arith, z) in
+    ap (λ (k : ℕ). startOf w (deeperBy k (suc u))) k ∙ ap (startOf w) (deeper-by-same (suc u)) ∙ q ∙ further-some (suc u) (startOf w v) _ (omega arith)
+
+pub reaches-here : (l w c v m : ℕ) → 0 < l → v ≡ 1 → w < 65536 → m < 65536 → Reaches l w c v m (record { below = l - 1; width = w; closed = c; rows = m })
+reaches-here l w c v m h e g g′ =
+    let z = start-first w v (omega arith) in
+    let k : l - 1 + 1 ≡ l = omega arith in
+    record {
+      waits = λ i. waiting-here w c i m l v h e ∙ sym (at-first w c m (l - 1) v (startOf w v) i e z);
+      pulls = λ i x. pull-here w c i m l v x h e ∙ sym (pull-first w c m (l - 1) v (startOf w v) i e z x);
+      starts = λ u. starts-here w v u e;
+      room = rw (z, k) (omega arith);
+      wide = g;
+      rows = g′;
+      deep = omega arith;
+    }
+
+-- one level deeper
+start-more : (w v : ℕ) → 1 < v → 4 * w + startOf (count lo w) (v - 1) ≡ startOf w v
+start-more w zero h = absurd (omega arith)
+start-more w (suc zero) h = absurd (omega arith)
+start-more w (suc (suc v)) h = let e : suc (suc v) - 1 ≡ suc v = omega arith in rw e (sym (store-below w v))
+
+-- the level before v
+prev-more : (v : ℕ) → 1 < v → suc (prev (v - 1)) ≡ prev v
+prev-more v h = omega (arith, prev-is v, prev-is (v - 1))
+
+from-under : (k a b : ℕ) (x : Memory) (o : Out) → under a x (from k b (rest a x) o) ≡ from (suc k) (a + b) x o
+from-under k a b x o = rw (join-join a b x (o .store), deeper-by-more k (o .level)) refl
+
+module _ (w v : ℕ) (r : Level) (i : ℕ) (g : 1 < v) where
+  at-below : lower (4 * w) (waitingAt (v - 1) (startOf (count lo w) (v - 1)) r i) ≡ waitingAt v (startOf w v) r i
+  unfolding waitingAt
+  at-below =
+      let a = startOf (count lo w) (v - 1) in
+      let d = bandPlace (r .width) (lastSetOf r) (bandAt (prev i)) in
+      let e : suc (v - 1) ≡ v = omega arith in
+      let q : 4 * w + (a + d) ≡ startOf w v + d = omega (arith, start-more w v g) in
+      rw (e, q) refl
+
+  pull-more : (x : Memory) → under (4 * w) x (pullAt (v - 1) (startOf (count lo w) (v - 1)) r i (rest (4 * w) x)) ≡ pullAt v (startOf w v) r i x
+  unfolding pullAt
+  pull-more x =
+      from-under (prev (v - 1)) (4 * w) (startOf (count lo w) (v - 1)) x _
+      ∙ rw (rest-rest (4 * w) (startOf (count lo w) (v - 1)) x, start-more w v g, prev-more v g) refl
+
+starts-below : (w v h u : ℕ) → 1 < v → startOf (count lo w) (deeperBy (prev (v - 1)) u) ≡ further u (startOf (count lo w) (v - 1)) (startOf h u) →
+    startOf w (deeperBy (prev v) u) ≡ further u (startOf w v) (startOf h u)
+starts-below w v h zero g f =
+    sym (ap (startOf w) (deeper-by-none (prev v) 0 refl)) ∙ start-first w 0 (omega arith) ∙ further-none 0 (startOf w v) (startOf h 0) refl
+starts-below w v h (suc u) g f =
+    let k = prev (v - 1) in
+    let a = startOf (count lo w) (v - 1) in
+    let e : prev v ≡ suc k = sym (prev-more v g) in
+    let more : 0 < deeperBy k (suc u) = omega (arith, deeper-by-some k (suc u) (omega arith)) in
+    let sum : 4 * w + (a + startOf h (suc u)) ≡ startOf w v + startOf h (suc u) = omega (arith, start-more w v g) in
+    ap (λ (k : ℕ). startOf w (deeperBy k (suc u))) e
+    ∙ sym (ap (startOf w) (deeper-by-more k (suc u)))
+    ∙ start-deeper w (deeperBy k (suc u))
+    ∙ sym (further-some (deeperBy k (suc u)) (4 * w) _ more)
+    ∙ ap (_+_ (4 * w)) (f ∙ sym (further-some (suc u) a (startOf h (suc u)) (omega arith)))
+    ∙ sum
+    ∙ further-some (suc u) (startOf w v) _ (omega arith)
+
+pub reaches-below : (l w c v m h p k : ℕ) (r : Level) → 1 < v → v ≤ l → h ≡ count lo w → p ≡ prev c → k ≡ made c m → Reaches (l - 1) h p (v - 1) k r →
+    Reaches l w c v m r
+reaches-below l w c v m h p k r g g′ eh ep ek f =
+    let below : Reaches (l - 1) (count lo w) (prev c) (v - 1) (made c m) r = rw (eh, ep, ek) at f in
+    record {
+      waits = λ i. waiting-below w c i m l v (omega arith) g ∙ ap (lower (4 * w)) (below .waits i) ∙ at-below w v r i g;
+      pulls = λ i x. pull-below w c i m l v x (omega arith) g ∙ ap (under (4 * w) x) (below .pulls i (rest (4 * w) x)) ∙ pull-more w v r i g x;
+      starts = λ u. starts-below w v (r .width) u g (below .starts u);
+      room = omega (arith, below .room, start-more w v g, store-back w l (omega arith));
+      wide = f .wide;
+      rows = f .rows;
+      deep = omega (arith, f .deep);
+    }
+
+-- ---- the row that waits, and what the draw of it leaves
+module _ (v a : ℕ) (r : Level) (i : ℕ) where
+  at-is : (k n j b d p : ℕ) → k ≡ made (r .closed) (r .rows) → n ≡ prev k → j ≡ prev i → b ≡ code (bandAt j) → d ≡ count (across (bandAt j)) (r .width) →
+      p ≡ bandPlace (r .width) n (bandAt j) → record { level = v; band = b; row = n; length = d; start = a + p } ≡ spotOf (waitingAt v a r i)
+  unfolding waitingAt
+  at-is k n j b d p ek en ej eb ed ep = cc
+
+  pull-is : (x : Memory) (k n p j : ℕ) → k ≡ made (r .closed) (r .rows) → n ≡ prev k → p ≡ prev i → j ≡ skip (r .width) (r .rows) n p →
+      pullAt v a r i x ≡ from (prev v) a x (settled (passOn fiveThree (r .below) (r .width)) n (rest a x) j)
+  unfolding pullAt
+  pull-is x k n p j ek en ep ej = cc
+
+module _ (s : Writer) (r : Level) (f : Reaches (s .levels) (s .width) (s .closed) (s .level) (s .rows) r) (placed : s .offset ≡ startOf (s .width)
+    (s .level)) where
+  row-is : waitingRow s ≡ waitingAt (s .level) (s .offset) r (s .left)
+  row-is = f .waits (s .left) ∙ ap (λ (a : ℕ). waitingAt (s .level) a r (s .left)) (sym placed)
+
+  pub found : (k n i b d p : ℕ) → 0 < s .level → k ≡ made (r .closed) (r .rows) → n ≡ prev k → i ≡ prev (s .left) → b ≡ code (bandAt i) →
+      d ≡ count (across (bandAt i)) (r .width) →
+      p ≡ bandPlace (r .width) n (bandAt i) → Found (s .levels) (s .width) (waitingRow s)
+      (record { level = s .level; band = b; row = n; length = d; start = s .offset + p })
+  found k n i b d p h ek en ei eb ed ep =
+      let q = place-room (r .width) n (bandAt i) in
+      let g = store-next (r .width) (r .below) in
+      record {
+        spot = at-is (s .level) (s .offset) r (s .left) k n i b d p ek en ei eb ed ep ∙ ap spotOf (sym row-is);
+        room = omega (arith, placed, f .room);
+        within = omega (arith, f .deep);
+      }
+
+  module _ (x : Memory) (k n p i : ℕ) (ek : k ≡ made (r .closed) (r .rows)) (en : n ≡ prev k) (ep : p ≡ prev (s .left)) (ei : i ≡ skip (r .width)
+      (r .rows) n p) where
+    draw-is : pulled s x ≡ from (prev (s .level)) (s .offset) x (settled (passOn fiveThree (r .below) (r .width)) n (rest (s .offset) x) i)
+    draw-is = f .pulls (s .left) x ∙ ap (λ (a : ℕ). pullAt (s .level) a r (s .left) x) (sym placed) ∙ pull-is (s .level) (s .offset) r
+        (s .left) x k n p i ek en ep ei
+
+    -- the next band of the set waits
+    pub pull-waits : 0 < s .level → 0 < i → Left (s .levels) (s .width) (pulled s x) (record { level = s .level; left = i; offset = s .offset }) x
+    pull-waits h g =
+        let q = settled-waits (passOn fiveThree (r .below) (r .width)) n i (rest (s .offset) x) g in
+        let v : 1 + prev (s .level) ≡ s .level = omega (arith, prev-is (s .level)) in
+        let d : deeperBy (prev (s .level)) 1 ≡ s .level = sym (deeper-by-some (prev (s .level)) 1 (omega arith)) ∙ v in
+        left-same (s .levels) (s .width) _ _ _ x (draw-is ∙ ap (from (prev (s .level)) (s .offset) x) q)
+        (record {
+          level = sym d;
+          left = refl;
+          offset = placed ∙ ap (startOf (s .width)) (sym d);
+          store = join-rest (s .offset) x;
+          within = omega
+              (arith, f .deep);
+        })
+
+    -- its LL row goes on
+    pub pull-goes : (o : Wait) (t z : Memory) (d b : ℕ) → 0 < s .level → i ≡ 0 →
+        Left (r .below + 1) (r .width) (passOn fiveThree (r .below) (r .width) n (rest (s .offset) x)) o t →
+        z ≡ joinAt (s .offset) x t → d ≡ deeperBy (s .level - 1) (o .level) → b ≡ further (o .level) (s .offset) (o .offset) →
+        Left (s .levels) (s .width) (pulled s x) (record { level = d; left = o .left; offset = b }) z
+    pull-goes o t z d b h g a ez ed eb =
+        let q = settled-goes (passOn fiveThree (r .below) (r .width)) n i (rest (s .offset) x) g in
+        let k : s .level - 1 ≡ prev (s .level) = omega (arith, prev-is (s .level)) in
+        let u : Out = passOn fiveThree (r .below) (r .width) n (rest (s .offset) x) in
+        left-same (s .levels) (s .width) _ _ _ z (draw-is ∙ ap (from (prev (s .level)) (s .offset) x) q)
+        (record {
+          level = ed ∙ ap (λ (k : ℕ). deeperBy k (o .level)) k ∙ ap (deeperBy (prev (s .level))) (a .level);
+          left = a .left;
+          offset =
+              eb ∙ ap (λ (v : ℕ). further v (s .offset) (o .offset)) (a .level) ∙ ap (further (u .level) (s .offset)) (a .offset)
+              ∙ ap (λ (p : ℕ). further (u .level) p (startOf (r .width) (u .level))) placed ∙ sym (f .starts (u .level));
+          store = ez ∙ ap (joinAt (s .offset) x) (a .store);
+          within = omega (arith, ed, deeper-by-le (s .level - 1) (o .level), a .within, f .deep);
+        })

@@ -1,11 +1,11 @@
 -- What the gate questions say. Assumes nothing.
-use mathlib.Core.Path.{_≡_, refl, sym, _∙_}
+use mathlib.Core.Path.{_≡_, refl, sym, ap, _∙_}
 use mathlib.Core.Bool.{Bool, true, false, not}
 use Prim.Native.Nat.{ℕ, zero, suc, _+_, _*_, _/_, _≤_, _<_}
 use native.Mathlib.Omega.{arith}
 use lib.Dec.{leb, ltb, eqb}
-use borrow.Author.Tests.{leb-true, ltb-true, le-leb, lt-ltb, le-ltb, eq-eqb, ne-eqb, eqb-true}
-use Rattle.numbers.specs.Signal.{both}
+use borrow.Author.Tests.{leb-true, ltb-true, le-leb, lt-leb, lt-ltb, le-ltb, eq-eqb, ne-eqb, eqb-true}
+use Rattle.numbers.specs.Signal.{pick, both}
 use Rattle.numbers.proofs.Sweep as sweep
 use Rattle.wavelet.specs.Limits.{maxWidth, maxHeight, maxLevels}
 use Rattle.wavelet.specs.Questions.{ask, within}
@@ -15,9 +15,10 @@ use Rattle.wavelet.proofs.QuestionLaws.{within-true}
 use Rattle.wavelet.proofs.SizeLaws.{count-lo}
 use Rattle.wavelet.proofs.StoreLaws.{store-none, store-below}
 use Rattle.writer.specs.declared.Writer.{Writer}
-use Rattle.writer.specs.Counts.{mostLeft}
+use Rattle.writer.specs.Counts.{prev, mostLeft, startOf}
 use Rattle.writer.specs.Questions.{either, inRanges, longEnough, offerQuestion, finishQuestion}
 use Rattle.writer.specs.Gate.{stateQuestion, openQuestion}
+use Rattle.writer.proofs.CountLaws.{prev-is}
 
 -- ---- two questions, and what follows them
 module _ (p q : ℕ) where
@@ -41,9 +42,26 @@ module _ (p q : ℕ) where
 
 -- ---- question 1, the tests but the last passed
 pub ranges-last : (s : Writer) → within 1 2049 (s .width) ≡ true → within 1 5 (s .levels) ≡ true → s .rows ≤ 65535 → s .column < s .width →
-    s .closed ≤ s .levels → s .level ≤ s .levels → (k : ℕ) → k ≡ mostLeft (s .levels) (s .level) → leb (s .left) k ≡ inRanges s
+    s .closed ≤ s .levels → s .level ≤ s .levels → s .left ≤ mostLeft (s .levels) (s .level) → (b : Bool) → eqb (s .offset)
+    (startOf (s .width) (s .level)) ≡ b → b ≡ inRanges s
 unfolding inRanges maxWidth maxHeight maxLevels
-ranges-last s a b d e f g k h = simp (a, b, le-leb _ _ d, lt-ltb _ _ e, le-leb _ _ f, le-leb _ _ g, h)
+ranges-last s a b d e f g h t is = simp (a, b, le-leb _ _ d, lt-ltb _ _ e, le-leb _ _ f, le-leb _ _ g, le-leb _ _ h) (sym is)
+
+-- where a level's stretch begins, as `store_length` of the levels before it says it
+not-within : (m : ℕ) → within 1 m 0 ≡ false
+unfolding within
+not-within m = simp (lt-leb 1 0 (omega arith))
+
+is-within : (m k : ℕ) → 0 < k → k ≤ m → within 1 m k ≡ true
+unfolding within
+is-within m k h g = simp (le-leb 1 k (omega arith), le-leb k m g)
+
+pub start-stored : (W L v k n : ℕ) → within 1 maxWidth W ≡ true → within 1 maxLevels L ≡ true → v ≤ L → k ≡ prev v →
+    n ≡ pick (both (within 1 maxWidth W) (within 1 maxLevels k)) (storeLength W k) 0 → startOf W v ≡ n
+start-stored W L v zero n w l h e f = ap (storeLength W) (sym e) ∙ store-none W ∙ sym (f ∙ rw (w, not-within maxLevels) refl)
+start-stored W L v (suc k) n w l h e f =
+    let d = within-true 1 maxLevels L l in
+    ap (storeLength W) (sym e) ∙ sym (f ∙ rw (w, is-within maxLevels (suc k) (omega arith) (omega (arith, prev-is v))) refl)
 
 -- ---- the most that a store needs, level by level
 one : (W : ℕ) → storeLength W 1 ≤ 4 * W
@@ -80,6 +98,7 @@ pub record Sound (s : Writer) (n : ℕ) : Type 0 where
   pub closed : s .closed ≤ s .levels
   pub level : s .level ≤ s .levels
   pub left : s .left ≤ mostLeft (s .levels) (s .level)
+  pub placed : s .offset ≡ startOf (s .width) (s .level)
   pub room : storeLength (s .width) (s .levels) ≤ n
 
 module _ (s : Writer) (n : ℕ) where
@@ -101,6 +120,7 @@ module _ (s : Writer) (n : ℕ) where
       let f = sweep.both _ _ (d .1) in
       let g = sweep.both _ _ (f .1) in
       let i = sweep.both _ _ (g .1) in
+      let j = sweep.both _ _ (i .1) in
       record {
         width = within-true 1 2049 _ (a .0);
         levels = within-true 1 5 _ (b .0);
@@ -108,7 +128,8 @@ module _ (s : Writer) (n : ℕ) where
         column = ltb-true _ _ (f .0);
         closed = leb-true _ _ (g .0);
         level = leb-true _ _ (i .0);
-        left = leb-true _ _ (i .1);
+        left = leb-true _ _ (j .0);
+        placed = eqb-true _ _ (j .1);
         room = leb-true _ _ (e .1);
       }
 

@@ -9,6 +9,8 @@ pub mod CallList
 pub mod CallsKeep
 pub mod Reached
 pub mod Demand3
+pub mod Offset
+pub mod LookLaws
 pub mod SetLaws
 pub mod RestLaws
 pub mod DeliverLaws

@@ -94,7 +94,9 @@ module _ (h : ℕ) (run : List ℕ) (s : Writer) (x : Memory) (t : takes s ≡ t
   unfolding offering
   one-inside g = simp (t, lt-ltb (s .column + 1) (s .width) g)
 
-  one-whole : s .width ≤ s .column + 1 → offering fiveThree (h ∷ run) s x ≡ oneMore (offering fiveThree run (complete s (rowMakes fiveThree s (heightPut fiveThree h s x))) (rowMakes fiveThree s (heightPut fiveThree h s x) .store))
+  one-whole : s .width ≤ s .column + 1 →
+      offering fiveThree (h ∷ run) s x ≡ oneMore (offering fiveThree run (complete s (rowMakes fiveThree s (heightPut fiveThree h s x)))
+      (rowMakes fiveThree s (heightPut fiveThree h s x) .store))
   unfolding offering
   one-whole g = simp (t, le-ltb (s .column + 1) (s .width) g)
 
@@ -133,14 +135,16 @@ module _ (run : List ℕ) (s : Writer) (x : Memory) (t : takes s ≡ true) where
       ∙ cc (filled-more n, moved-more n)
 
   whole : (n : ℕ) → 0 < n → n ≤ length run → s .column + n ≡ s .width →
-      offering fiveThree run s x ≡ plus n (offering fiveThree (drop n run) (complete s (arrive fiveThree (s .levels) (s .width) (s .rows) (filled n))) (arrive fiveThree (s .levels) (s .width) (s .rows) (filled n) .store))
+      offering fiveThree run s x ≡ plus n (offering fiveThree (drop n run) (complete s (arrive fiveThree (s .levels) (s .width) (s .rows) (filled n)))
+      (arrive fiveThree (s .levels) (s .width) (s .rows) (filled n) .store))
   whole zero g a b = absurd (omega arith)
   whole (suc n) g a b =
       inside n (omega arith) (omega arith)
       ∙ ap (λ (l : List ℕ). plus n (offering fiveThree l (moved n) (filled n))) (drop-cons run n 0 (omega arith))
       ∙ ap (plus n) (one-whole (getD run n 0) (drop (suc n) run) (moved n) (filled n) (takes-at s _ ∙ t) (omega arith))
       ∙ plus-more n _
-      ∙ ap (λ (y : Memory). plus (suc n) (offering fiveThree (drop (suc n) run) (complete s (arrive fiveThree (s .levels) (s .width) (s .rows) y)) (arrive fiveThree (s .levels) (s .width) (s .rows) y .store))) (filled-more n)
+      ∙ ap (λ (y : Memory). plus (suc n) (offering fiveThree (drop (suc n) run) (complete s (arrive fiveThree (s .levels) (s .width) (s .rows) y))
+      (arrive fiveThree (s .levels) (s .width) (s .rows) y .store))) (filled-more n)
 
 -- ---- how far an offer of `run` to s₀ has gone: k heights taken, and the writer and the store then
 abbrev pub Gone : List ℕ → Writer → Memory → ℕ → Writer → Memory → Type 0
@@ -154,7 +158,8 @@ module _ (run : List ℕ) (s₀ : Writer) (x₀ : Memory) (k : ℕ) (s : Writer)
   left-over n h = simp length-drop (omega arith)
 
   -- a stretch goes n heights on
-  pub gone-on : (n l : ℕ) (r : Writer) (y : Memory) → takes s ≡ true → 0 < n → k + n ≤ length run → s .column + n ≤ s .width → Stretched s run k n x r y l → Gone run s₀ x₀ (k + n) r y
+  pub gone-on : (n l : ℕ) (r : Writer) (y : Memory) → takes s ≡ true → 0 < n → k + n ≤ length run → s .column + n ≤ s .width →
+      Stretched s run k n x r y l → Gone run s₀ x₀ (k + n) r y
   gone-on n l r y t h a b f =
       elim (decLt (s .column + n) (s .width)) [
         | yes d ↦
@@ -172,7 +177,8 @@ module _ (run : List ℕ) (s₀ : Writer) (x₀ : Memory) (k : ℕ) (s : Writer)
       ]
 
   -- the end: the next stretch has no height
-  pub gone-all : (n : ℕ) → n ≡ nextCount s (length run - k) → n ≡ 0 → s .column < s .width → k ≤ length run → offering fiveThree run s₀ x₀ ≡ record { taken = k; writer = s; store = x }
+  pub gone-all : (n : ℕ) → n ≡ nextCount s (length run - k) → n ≡ 0 → s .column < s .width → k ≤ length run →
+      offering fiveThree run s₀ x₀ ≡ record { taken = k; writer = s; store = x }
   unfolding nextCount
   gone-all n e z h a = g ∙ ap (plus k) (go (takes s) refl) ∙ ap (λ (i : ℕ). record { taken = i; writer = s; store = x }) (omega arith)
     where
@@ -196,7 +202,8 @@ offer-start run s m n t e =
     let k : length run - 0 ≡ length run = omega arith in
     record { gone = plus-none _; taker = t; size = refl; within = omega arith; next = rw k e }
 
-pub offer-turn : (run : List ℕ) (s₀ : Writer) (m₀ m : List ℤ) (s : Writer) (k n : ℕ) (r : Writer) (m′ : List ℤ) (n′ : ℕ) → Offering run s₀ m₀ m s k n → 0 < n → Stretched s run k n (at m) r (at m′) (length m) → length m′ ≡ length m →
+pub offer-turn : (run : List ℕ) (s₀ : Writer) (m₀ m : List ℤ) (s : Writer) (k n : ℕ) (r : Writer) (m′ : List ℤ) (n′ : ℕ) →
+    Offering run s₀ m₀ m s k n → 0 < n → Stretched s run k n (at m) r (at m′) (length m) → length m′ ≡ length m →
     n′ ≡ nextCount r (length run - (k + n)) → Offering run s₀ m₀ m′ r (k + n) n′
 offer-turn run s₀ m₀ m s k n r m′ n′ o h f z e =
     let q = next-is s (length run - k) n (o .next) h (o .taker .column) in
@@ -226,25 +233,53 @@ module _ (s : Writer) (l q : ℕ) (run : List ℕ) (x : Memory) (e : q ≡ offer
   unfolding offerReply offerStore
   offer-no h = rw (← e) (unless-no q _ h, changed-no q _ x h)
 
-  pub offer-yes : (k : ℕ) (r : Writer) (y : Memory) → q ≡ 0 → offering fiveThree run s x ≡ record { taken = k; writer = r; store = y } → (gives (record { taken = k; writer = r }) ≡ offerReply s l run x) × (y ≡ offerStore s l run x)
+  pub offer-yes : (k : ℕ) (r : Writer) (y : Memory) → q ≡ 0 → offering fiveThree run s x ≡ record { taken = k; writer = r; store = y } →
+      (gives (record { taken = k; writer = r }) ≡ offerReply s l run x) × (y ≡ offerStore s l run x)
   unfolding offerReply offerStore
   offer-yes k r y z f = rw (← e, f) (unless-yes q _ z, changed-yes q _ x z)
 
 pub sound-taker : (s : Writer) (l : ℕ) → Sound s l → Taker s l
 sound-taker s l f =
-    record { room = record { room = f .room; wide = omega (arith, f .width); rows = omega (arith, f .rows); deep = omega (arith, f .levels) }; column = f .column; deep = omega (arith, f .levels) }
+    record {
+      room = record {
+        room = f .room;
+        wide = omega (arith, f .width);
+        rows = omega (arith, f .rows);
+        deep = omega
+            (arith, f .levels);
+      };
+      column = f .column;
+      deep = omega (arith, f .levels);
+    }
 
 -- ---- what a stretch leaves
-module _ (s : Writer) (run : List ℕ) (k n : ℕ) (x y : Memory) (l : ℕ) (t : Taker s l) (e : y ≡ heightsPut (s .width) (s .rows) (s .column) n (λ j. heightAt run (k + j)) x) where
+module _ (s : Writer) (run : List ℕ) (k n : ℕ) (x y : Memory) (l : ℕ) (t : Taker s l) (e : y ≡ heightsPut (s .width) (s .rows) (s .column) n
+    (λ j. heightAt run (k + j)) x) where
   pub stretched-inside : s .column + n < s .width → Stretched s run k n x (atColumn s (s .column + n)) y l
   stretched-inside h = record { inside = λ g. (refl, e); whole = λ g. absurd (omega arith); taker = record { room = t .room; column = h; deep = t .deep } }
 
-  pub stretched-whole : (o : Wait) (z : Memory) → s .column + n ≡ s .width → s .rows < 65535 → Left (s .levels) (arrive fiveThree (s .levels) (s .width) (s .rows) y) o z →
-      Stretched s run k n x (record { width = s .width; levels = s .levels; rows = s .rows + 1; column = 0; finished = s .finished; closed = s .closed; level = o .level; left = o .left }) z l
+  pub stretched-whole : (o : Wait) (z : Memory) → s .column + n ≡ s .width → s .rows < 65535 →
+      Left (s .levels) (s .width) (arrive fiveThree (s .levels) (s .width) (s .rows) y) o z →
+      Stretched s run k n x
+      (record {
+        width = s .width;
+        levels = s .levels;
+        rows = s .rows + 1;
+        column = 0;
+        finished = s .finished;
+        closed = s .closed;
+        level = o .level;
+        left = o .left;
+        offset = o .offset;
+      }) z l
   stretched-whole o z h b f =
       let g = rw e at f in
       record {
         inside = λ d. absurd (omega arith);
-        whole = λ d. (rw (g .level, g .left) refl, g .store);
-        taker = record { room = record { room = t .room .room; wide = t .room .wide; rows = omega arith; deep = t .room .deep }; column = omega arith; deep = t .deep };
+        whole = λ d. (rw (g .level, g .left, g .offset) refl, g .store);
+        taker = record {
+          room = record { room = t .room .room; wide = t .room .wide; rows = omega arith; deep = t .room .deep };
+          column = omega arith;
+          deep = t .deep;
+        };
       }

@@ -33,7 +33,7 @@ use Rattle.writer.specs.Holds.{left}
 use Rattle.writer.specs.History.{Area, Call, offer, draw, finish, row, none, Event, offered, drew, finished, World, seen, event, next, events}
 use Rattle.writer.specs.History.{final, takenBy, taken, finishes, finishedBy, drawnBy, drawn}
 use Rattle.writer.specs.Demand3.{wholeRows, madeOf, waitingOf, answered, isNone, drawSays, written, DrawSeen, takesOn, offerTurned, Takes, finishTurned}
-use Rattle.writer.proofs.StateHolds.{st}
+use Rattle.writer.proofs.StateHolds.{st, fresh-st}
 use Rattle.writer.proofs.CallList.{coming, At, whole-rows, begun-row, in-ranges, waiting-is, none-waits, none-eqb, Offered, offering-good}
 use Rattle.writer.proofs.CallList.{head-is, draw-good, finish-good, fresh-at}
 
@@ -437,4 +437,4 @@ module _ (l W : ℕ) (wide : within 1 maxWidth W ≡ true) (deep : within 1 maxL
 
   pub fresh-reached : (n : ℕ) (x : Memory) → 0 < W → storeLength W L ≤ n → Reached [] (world (fresh W L) n x)
   unfolding taken finishedBy drawn
-  fresh-reached n x p long = record { long = long; rows = 0; column = 0; closed = 0; level = 0; rest = 0; writer-is = refl; at = fresh-at L W x p }
+  fresh-reached n x p long = record { long = long; rows = 0; column = 0; closed = 0; level = 0; rest = 0; writer-is = fresh-st W L; at = fresh-at L W x p }

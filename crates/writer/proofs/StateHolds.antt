@@ -7,15 +7,17 @@ use native.Mathlib.Omega.{arith}
 use Rattle.numbers.specs.Signal.{pick}
 use Rattle.wavelet.specs.Bands.{Grid}
 use Rattle.wavelet.specs.Order.{madeBy}
+use Rattle.wavelet.proofs.StoreLaws.{store-none}
 use Rattle.writer.specs.declared.Writer.{Writer}
 use Rattle.writer.specs.Level.{Memory, LevelKind}
 use Rattle.writer.specs.Counts.{mostLeft}
 use Rattle.writer.specs.FiveThreeLevel.{cellOf, fiveThree}
+use Rattle.writer.specs.Counts.{startOf}
 use Rattle.writer.specs.Machine.{Out, arrive}
 use Rattle.writer.specs.Draws.{pull}
 use Rattle.writer.specs.Closing.{Shut, shut}
 use Rattle.writer.specs.Taking.{stored}
-use Rattle.writer.specs.Calls.{resumed}
+use Rattle.writer.specs.Calls.{fresh, resumed}
 use Rattle.writer.specs.Holds.{Kept, LevelsHold, Holds}
 use Rattle.writer.proofs.LevelLaws.{five-three-laws}
 use Rattle.writer.proofs.CascadeHolds.{Good, Pulled, Closed, cell-good, arrive-good, pull-good, shut-good, fresh-good}
@@ -23,9 +25,29 @@ use Rattle.writer.proofs.CascadeHolds.{Good, Pulled, Closed, cell-good,
 pub differ : false ≡ true → ⊥
 differ e = let z : _≡_ {A = ℕ} 0 1 = ap (λ t. pick t 1 0) e in omega arith
 
--- the writer by its numbers
+-- the writer by its numbers; its offset is where the level's stretch begins
 abbrev pub st : (W L r c : ℕ) → Bool → (cl v i : ℕ) → Writer
-st W L r c f cl v i = record { width = W; levels = L; rows = r; column = c; finished = f; closed = cl; level = v; left = i }
+st W L r c f cl v i = record { width = W; levels = L; rows = r; column = c; finished = f; closed = cl; level = v; left = i; offset = startOf W v }
+
+pub placed-st : (s : Writer) → s .offset ≡ startOf (s .width) (s .level) → s ≡ st (s .width) (s .levels) (s .rows) (s .column) (s .finished)
+    (s .closed) (s .level) (s .left)
+placed-st s e =
+    ap
+    (λ (o : ℕ). record {
+      width = s .width;
+      levels = s .levels;
+      rows = s .rows;
+      column = s .column;
+      finished = s .finished;
+      closed = s .closed;
+      level = s .level;
+      left = s .left;
+      offset = o;
+    })
+    e
+
+pub fresh-st : (W L : ℕ) → fresh W L ≡ st W L 0 0 false 0 0 0
+fresh-st W L = placed-st (fresh W L) (sym (store-none W))
 
 abbrev K : LevelKind
 K = fiveThree
@@ -39,18 +61,19 @@ module _ (H : ℕ) (g : Grid) (W L : ℕ) where
 
   -- before the finish
   open-holds : (r c cl v i : ℕ) (x : Memory) → Inv cl v i r c x → i ≤ mostLeft L v → (0 < v → c ≡ 0) → cl ≡ 0 → Has r c false cl v i x
-  open-holds r c cl v i x inv few idle z = record { levels = inv; few = few; idle = idle; before = λ _. z; ended = λ e. absurd (differ e) }
+  open-holds r c cl v i x inv few idle z = record { levels = inv; placed = refl; few = few; idle = idle; before = λ _. z; ended = λ e. absurd (differ e) }
 
   -- after it
   closed-holds : (r c cl v i : ℕ) (x : Memory) → Inv cl v i r c x → i ≤ mostLeft L v → (0 < v → c ≡ 0) → r ≡ H → 0 < r → (v ≡ 0 → cl ≡ L) →
       Has r c true cl v i x
   closed-holds r c cl v i x inv few idle e p all = record {
     levels = inv;
+    placed = refl;
     few = few;
     idle = idle;
-    before = λ z. absurd (differ (sym z));
-    ended = λ _.
-        (e, p, all);
+    before = λ z. absurd
+        (differ (sym z));
+    ended = λ _. (e, p, all);
   }
 
   pub fresh-holds : (x : Memory) → Has 0 0 false 0 0 0 x

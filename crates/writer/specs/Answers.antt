@@ -8,6 +8,8 @@ use Rattle.writer.specs.declared.Offered.{Offered}
 use Rattle.writer.specs.declared.Offered.the-variants as offered
 use Rattle.writer.specs.declared.Drawn.{Drawn}
 use Rattle.writer.specs.declared.Drawn.the-variants as drawn
+use Rattle.writer.specs.declared.Look.{Look}
+use Rattle.writer.specs.declared.Look.the-variants as look
 use Rattle.writer.specs.declared.Finished.{Finished}
 use Rattle.writer.specs.declared.Finished.the-variants as finished
 
@@ -47,6 +49,10 @@ abbrev pub ofDrawn : Drawn → Reply Handed
 ofDrawn (drawn.Row r w) = gives (aRow r w)
 ofDrawn drawn.Nothing = gives nothing
 ofDrawn (drawn.Refused q) = refused q
+
+abbrev pub ofLook : Look → Reply BandRow
+ofLook (look.Row r) = gives r
+ofLook (look.Refused q) = refused q
 
 abbrev pub ofFinished : Finished → Reply Writer
 ofFinished (finished.Closed w) = gives w

@@ -10,17 +10,18 @@ use Rattle.wavelet.specs.Store.{storeLength}
 use Rattle.writer.specs.declared.Writer.{Writer}
 use Rattle.writer.specs.declared.BandRow.{BandRow}
 use Rattle.writer.specs.Level.{Memory}
+use Rattle.writer.specs.Counts.{startOf}
 use Rattle.writer.specs.FiveThreeLevel.{fiveThree}
 use Rattle.writer.specs.Machine.{Out, rest}
 use Rattle.writer.specs.Draws.{Waiting, pull}
 use Rattle.writer.specs.Closing.{Shut, shut}
 use Rattle.writer.specs.Taking.{Taking, offering}
-use Rattle.writer.specs.Questions.{waitingRow, setUpQuestion, offerQuestion, drawQuestion, finishQuestion}
+use Rattle.writer.specs.Questions.{waitingRow, setUpQuestion, offerQuestion, drawQuestion, waitsQuestion, finishQuestion}
 use Rattle.writer.specs.Answers.{Reply, unless, changedUnless, Took, Handed, aRow, nothing}
 
 -- ---- set-up: "Set-up zeroes the needed part."
 abbrev pub fresh : ℕ → ℕ → Writer
-fresh W L = record { width = W; levels = L; rows = 0; column = 0; finished = false; closed = 0; level = 0; left = 0 }
+fresh W L = record { width = W; levels = L; rows = 0; column = 0; finished = false; closed = 0; level = 0; left = 0; offset = 0 }
 
 unfoldable pub setUpReply : ℕ → ℕ → ℕ → Reply Writer
 setUpReply W L n = unless (setUpQuestion W L n) (fresh W L)
@@ -41,7 +42,17 @@ offerStore s n run x = changedUnless (offerQuestion s n (length run)) (offering 
 -- ---- finish: "At the finish level 1 closes first, then level 2, and so on."
 -- the writer with what waits, f: finished
 abbrev pub waits : Bool → Writer → Shut → Writer
-waits f s r = record { width = s .width; levels = s .levels; rows = s .rows; column = s .column; finished = f; closed = r .closed; level = r .out .level; left = r .out .left }
+waits f s r = record {
+  width = s .width;
+  levels = s .levels;
+  rows = s .rows;
+  column = s .column;
+  finished = f;
+  closed = r .closed;
+  level = r .out .level;
+  left = r .out .left;
+  offset = startOf (s .width) (r .out .level);
+}
 
 abbrev pub closing : Writer → Memory → Shut
 closing s x = shut fiveThree (s .levels) (s .width) 0 (s .rows) x
@@ -89,3 +100,19 @@ drawStore s n k x = changedUnless (drawQuestion s n k) (handedStore (s .level) s
 
 unfoldable pub drawArea : Writer → ℕ → ℕ → Memory → Memory → Memory
 drawArea s n k x z = changedUnless (drawQuestion s n k) (handedArea (s .level) s x z) z
+
+-- ---- a look at what waits: the row that the next draw hands out, or level 0 where nothing waits
+abbrev pub noRow : BandRow
+noRow = record { level = 0; band = 0; row = 0; length = 0 }
+
+abbrev pub awaited : ℕ → Writer → BandRow
+awaited zero s = noRow
+awaited (suc v) s = bandRow (waitingRow s)
+
+-- the row that a draw hands out, as the look before it says it
+abbrev pub rowHanded : Handed → BandRow
+rowHanded (aRow r w) = r
+rowHanded nothing = noRow
+
+unfoldable pub waitsReply : Writer → Reply BandRow
+waitsReply s = unless (waitsQuestion s) (awaited (s .level) s)

@@ -1,8 +1,9 @@
--- The numbers that the writer derives on its way down the levels: nothing of them is kept.
-use Prim.Native.Nat.{ℕ, zero, suc, _-_, _/_}
+-- The numbers that the writer derives on its way down the levels. Of them the state keeps where the stretch of its level begins (`startOf`).
+use Prim.Native.Nat.{ℕ, zero, suc, _+_, _-_, _/_}
 use Rattle.numbers.specs.Signal.{pick}
 use Rattle.lifting.specs.Line.{lo, count}
 use Rattle.wavelet.specs.Bands.{Band, LL, HL, LH, HH}
+use Rattle.wavelet.specs.Store.{storeLength}
 use Rattle.wavelet.specs.Order.{hasRow}
 
 -- one less, and 0 of 0
@@ -10,10 +11,19 @@ abbrev pub prev : ℕ → ℕ
 prev zero = zero
 prev (suc n) = n
 
--- A level's number seen from the level above it; 0 is no level.
+-- A level's number seen from the level above it, and from k levels above it; 0 is no level.
 unfoldable pub deeper : ℕ → ℕ
 deeper zero = zero
 deeper (suc v) = suc (suc v)
+
+unfoldable pub deeperBy : ℕ → ℕ → ℕ
+deeperBy k zero = zero
+deeperBy k (suc v) = suc v + k
+
+-- Where level v's stretch begins, o being counted from place a; 0 where v is no level.
+unfoldable pub further : ℕ → ℕ → ℕ → ℕ
+further zero a o = 0
+further (suc v) a o = a + o
 
 -- How many sets a level has made that has received m rows; c = 0: and that is not closed. "Set n of a level is made when its row 2n+2 is complete, or
 -- when the map is finished."
@@ -42,3 +52,7 @@ mostLeft L (suc v) = most (L - suc v)
 unfoldable pub skip : ℕ → ℕ → ℕ → ℕ → ℕ
 skip w m n zero = zero
 skip w m n (suc i) = pick (hasRow w m (bandAt i) n) (suc i) (skip w m n i)
+
+-- Where the stretch of level v begins, v from 1: the store of the levels before it ends there. 0 where v is no level.
+abbrev pub startOf : ℕ → ℕ → ℕ
+startOf W v = storeLength W (prev v)

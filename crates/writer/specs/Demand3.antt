@@ -38,6 +38,11 @@ waitingOf W L es = drop (length (drawn es)) (madeOf W L es)
 abbrev pub answered : ℕ → RowName → BandRow
 answered W x = record { level = x .level; band = code (x .band); row = x .row; length = bandColumns W (x .level) (x .band) }
 
+-- what a look at the rows that wait answers: the first of them, or level 0
+abbrev pub nextRow : ℕ → List RowName → BandRow
+nextRow W [] = record { level = 0; band = 0; row = 0; length = 0 }
+nextRow W (x ∷ l) = answered W x
+
 -- ---- "A map begins with them if it fits the set-up, has H within the limit, and has these heights first"
 pub record Begins (W H : ℕ) (g : Grid) (es : List Event) : Type 0 where
   pub some : 1 ≤ H

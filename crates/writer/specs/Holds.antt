@@ -15,7 +15,7 @@ use Rattle.wavelet.specs.Order.{hasRow}
 use Rattle.writer.specs.declared.Writer.{Writer}
 use Rattle.writer.specs.declared.BandRow.{BandRow}
 use Rattle.writer.specs.Level.{Memory, LevelKind}
-use Rattle.writer.specs.Counts.{prev, made, mostLeft, bandAt}
+use Rattle.writer.specs.Counts.{prev, made, mostLeft, bandAt, startOf}
 use Rattle.writer.specs.FiveThreeLevel.{cellOf, fiveThree}
 use Rattle.writer.specs.Machine.{rest}
 use Rattle.writer.specs.Answers.{Reply, gives, refused, Took, Handed, aRow, nothing}
@@ -79,6 +79,8 @@ LevelsHold K Held (suc l) w H g c v i m j x =
 -- ---- the writer's store
 pub record Holds (H : ℕ) (g : Grid) (s : Writer) (x : Memory) : Type 0 where
   pub levels : LevelsHold fiveThree Kept (s .levels) (s .width) H g (s .closed) (s .level) (s .left) (s .rows) (s .column) x
+  -- the offset is where the stretch of the level being handed out begins
+  pub placed : s .offset ≡ startOf (s .width) (s .level)
   -- at most the bands of a set are left that are handed out at its level
   pub few : s .left ≤ mostLeft (s .levels) (s .level)
   -- while a band row waits, no row is begun

@@ -13,6 +13,8 @@ pub mod Machine
 pub mod Draws
 pub mod Closing
 pub mod Taking
+-- The writer before it carried an offset: the reference of a theorem.
+pub mod Before
 -- Cited by private functions alone: how the code goes about it. Nothing here needs to be believed.
 pub mod Steps
 pub mod Gate

@@ -7,7 +7,7 @@ use Rattle.wavelet.specs.Limits.{maxWidth, maxHeight, maxLevels}
 use Rattle.wavelet.specs.Questions.{ask, within}
 use Rattle.wavelet.specs.Store.{storeLength}
 use Rattle.writer.specs.declared.Writer.{Writer}
-use Rattle.writer.specs.Counts.{mostLeft}
+use Rattle.writer.specs.Counts.{mostLeft, startOf}
 use Rattle.writer.specs.FiveThreeLevel.{fiveThree}
 use Rattle.writer.specs.Draws.{Waiting, waiting}
 
@@ -23,7 +23,8 @@ inRanges s =
     (both (ltb (s .column) (s .width))
     (both (leb (s .closed) (s .levels))
     (both (leb (s .level) (s .levels))
-    (leb (s .left) (mostLeft (s .levels) (s .level))))))))
+    (both (leb (s .left) (mostLeft (s .levels) (s .level)))
+    (eqb (s .offset) (startOf (s .width) (s .level)))))))))
 
 -- question 5
 unfoldable pub longEnough : ℕ → Writer → Bool
@@ -57,6 +58,10 @@ drawQuestion s n k =
     (ask (longEnough n s) 5
     (ask (either (eqb (s .level) 0) (leb (waitingRow s .length) k)) 12
     0))
+
+-- a look at what waits
+unfoldable pub waitsQuestion : Writer → ℕ
+waitsQuestion s = ask (inRanges s) 1 0
 
 unfoldable pub finishQuestion : Writer → ℕ → ℕ
 finishQuestion s n =

@@ -2,16 +2,18 @@
 use mathlib.Core.Path.{_≡_}
 use Prim.Native.Nat.{ℕ, _+_, _*_, _<_, _≤_}
 use Rattle.lifting.specs.Line.{lo, count}
-use Rattle.wavelet.specs.Bands.{LL, code}
+use Rattle.wavelet.specs.Bands.{LL, across, code}
 use Rattle.wavelet.specs.Store.{storeLength}
 use Rattle.writer.specs.declared.Writer.{Writer}
 use Rattle.writer.specs.declared.cascade.Wait.{Wait}
 use Rattle.writer.specs.declared.draws.Spot.{Spot}
+use Rattle.writer.specs.declared.draws.Level.{Level}
 use Rattle.writer.specs.declared.closing.Closure.{Closure}
 use Rattle.writer.specs.Level.{Memory}
-use Rattle.writer.specs.FiveThreeLevel.{rowPut, bandPlace}
-use Rattle.writer.specs.Machine.{Out, rest, joinAt}
-use Rattle.writer.specs.Draws.{Waiting}
+use Rattle.writer.specs.Counts.{prev, deeperBy, further, made, bandAt, skip, startOf}
+use Rattle.writer.specs.FiveThreeLevel.{fiveThree, rowPut, bandPlace}
+use Rattle.writer.specs.Machine.{Out, rest, joinAt, settled, passOn}
+use Rattle.writer.specs.Draws.{Waiting, waiting, pull}
 use Rattle.writer.specs.Closing.{Shut}
 use Rattle.writer.specs.Calls.{waits, afterDraw}
 
@@ -22,10 +24,11 @@ pub record Room (l w m n : ℕ) : Type 0 where
   pub rows : m < 65536
   pub deep : l < 65536
 
--- what a step of l levels leaves: what waits, r, and the store x, as the machine's o
-pub record Left (l : ℕ) (o : Out) (r : Wait) (x : Memory) : Type 0 where
+-- what a step of l levels leaves, the first of w columns: what waits, r, and the store x, as the machine's o; and where the stretch of its level begins
+pub record Left (l w : ℕ) (o : Out) (r : Wait) (x : Memory) : Type 0 where
   pub level : r .level ≡ o .level
   pub left : r .left ≡ o .left
+  pub offset : r .offset ≡ startOf w (o .level)
   pub store : x ≡ o .store
   pub within : r .level ≤ l
 
@@ -41,6 +44,42 @@ pub record Walk (l w v m : ℕ) : Type 0 where
   pub rows : m < 65536
   pub deep : l < 65536
 
+-- the row that waits at level v, r, whose stretch begins at a: i bands of its last set are left
+abbrev pub lastSetOf : Level → ℕ
+lastSetOf r = prev (made (r .closed) (r .rows))
+
+unfoldable pub waitingAt : ℕ → ℕ → Level → ℕ → Waiting
+waitingAt v a r i =
+    record {
+      level = v;
+      band = bandAt (prev i);
+      row = lastSetOf r;
+      length = count (across (bandAt (prev i))) (r .width);
+      start = a + bandPlace (r .width) (lastSetOf r) (bandAt (prev i));
+    }
+
+-- what a draw of it leaves
+abbrev pub from : ℕ → ℕ → Memory → Out → Out
+from k a x o = record { store = joinAt a x (o .store); level = deeperBy k (o .level); left = o .left }
+
+unfoldable pub pullAt : ℕ → ℕ → Level → ℕ → Memory → Out
+pullAt v a r i x =
+    from (prev v) a x (settled (passOn fiveThree (r .below) (r .width)) (lastSetOf r) (rest a x) (skip (r .width) (r .rows) (lastSetOf r) (prev i)))
+
+-- level v of them, r: what waits there, what a draw of it leaves, and where deeper stretches begin, all from where its stretch begins
+pub record Reaches (l w c v m : ℕ) (r : Level) : Type 0 where
+  pub waits : (i : ℕ) → waiting fiveThree l w c v i m ≡ waitingAt v (startOf w v) r i
+  pub pulls : (i : ℕ) (x : Memory) → pull fiveThree l w c v i m x ≡ pullAt v (startOf w v) r i x
+  pub starts : (u : ℕ) → startOf w (deeperBy (prev v) u) ≡ further u (startOf w v) (startOf (r .width) u)
+  pub room : startOf w v + storeLength (r .width) (r .below + 1) ≡ storeLength w l
+  pub wide : r .width < 65536
+  pub rows : r .rows < 65536
+  pub deep : r .below + v ≡ l
+
+-- the offset of a writer is where its level's stretch begins
+abbrev pub Placed : Writer → Type 0
+Placed s = s .offset ≡ startOf (s .width) (s .level)
+
 abbrev pub spotOf : Waiting → Spot
 spotOf o = record { level = o .level; band = code (o .band); row = o .row; length = o .length; start = o .start }
 
@@ -50,11 +89,12 @@ pub record Found (l w : ℕ) (o : Waiting) (r : Spot) : Type 0 where
   pub room : r .start + r .length ≤ storeLength w l
   pub within : r .level ≤ l
 
--- what the finish of l levels leaves
-pub record Closed (l : ℕ) (o : Shut) (r : Closure) (x : Memory) : Type 0 where
+-- what the finish of l levels leaves, the first of w columns
+pub record Closed (l w : ℕ) (o : Shut) (r : Closure) (x : Memory) : Type 0 where
   pub closed : r .closed ≡ o .closed
   pub level : r .level ≡ o .out .level
   pub left : r .left ≡ o .out .left
+  pub offset : r .offset ≡ startOf w (o .out .level)
   pub store : x ≡ o .out .store
   pub within : r .level ≤ l
   pub all : r .closed ≤ l
@@ -63,6 +103,7 @@ pub record Closed (l : ℕ) (o : Shut) (r : Closure) (x : Memory) : Type 0 where
 pub record Drawable (s : Writer) (n : ℕ) : Type 0 where
   pub room : Room (s .levels) (s .width) (s .rows) n
   pub walk : Walk (s .levels) (s .width) (s .level) (s .rows)
+  pub placed : Placed s
   pub closed : s .closed ≤ s .levels
 
 -- what the draw leaves: the writer r and the store y

@@ -31,6 +31,7 @@ atColumn s c = record {
   closed = s .closed;
   level = s .level;
   left = s .left;
+  offset = s .offset;
 }
 
 -- a writer that can take a height, with a store of n numbers

@@ -9,6 +9,7 @@ use Rattle.numbers.specs.Signal.{pick, both}
 use Rattle.wavelet.specs.Limits.{maxHeight}
 use Rattle.writer.specs.declared.Writer.{Writer}
 use Rattle.writer.specs.Level.{Memory, LevelKind}
+use Rattle.writer.specs.Counts.{startOf}
 use Rattle.writer.specs.Machine.{Out, arrive}
 
 -- a number stored at place a
@@ -37,10 +38,30 @@ takes s = both (eqb (s .level) 0) (ltb (s .rows) maxHeight)
 
 -- the row begun has a height more; the row is complete, and o is what it makes
 abbrev pub begun : Writer → Writer
-begun s = record { width = s .width; levels = s .levels; rows = s .rows; column = s .column + 1; finished = s .finished; closed = s .closed; level = s .level; left = s .left }
+begun s = record {
+  width = s .width;
+  levels = s .levels;
+  rows = s .rows;
+  column = s .column + 1;
+  finished = s .finished;
+  closed = s .closed;
+  level = s .level;
+  left = s .left;
+  offset = s .offset;
+}
 
 abbrev pub complete : Writer → Out → Writer
-complete s o = record { width = s .width; levels = s .levels; rows = s .rows + 1; column = 0; finished = s .finished; closed = s .closed; level = o .level; left = o .left }
+complete s o = record {
+  width = s .width;
+  levels = s .levels;
+  rows = s .rows + 1;
+  column = 0;
+  finished = s .finished;
+  closed = s .closed;
+  level = o .level;
+  left = o .left;
+  offset = startOf (s .width) (o .level);
+}
 
 module _ (K : LevelKind) where
   -- height h is put into its place

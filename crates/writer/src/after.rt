@@ -11,7 +11,7 @@ pub fn draw_on(s: Writer, store: &mut [i32]) -> Writer
     requires { ⌜ Drawable s (length (now store)) ⌝ }
     ensures { λ r. ⌜ Drew s (at (now (store .entry))) r (at (now (store .exit))) ⌝ }
 {
-    let r = draws::pull(store, s.levels, s.width, s.closed, s.level, s.left, s.rows);
+    let r = draws::pull(s, store);
     if s.finished {
         if r.level == 0 {
             let q = closing::shut(store, s.levels, s.width, s.closed, s.rows);
@@ -24,6 +24,7 @@ pub fn draw_on(s: Writer, store: &mut [i32]) -> Writer
                 closed: q.closed,
                 level: q.level,
                 left: q.left,
+                offset: q.offset,
             };
         }
     }
@@ -36,5 +37,6 @@ pub fn draw_on(s: Writer, store: &mut [i32]) -> Writer
         closed: s.closed,
         level: r.level,
         left: r.left,
+        offset: r.offset,
     }
 }

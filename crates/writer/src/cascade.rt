@@ -1,4 +1,5 @@
-// What a row makes, down the levels. Each level works in its own stretch of the store; the rest of the store is lent on to the levels below. The module is private: only this crate, which meets what is required, can call it.
+// What a row makes, down the levels. Each level works in its own stretch of the store; the rest of the store is lent on to the levels below.
+// The module is private: only this crate, which meets what is required, can call it.
 use crate::copies;
 use crate::counts;
 use crate::sets;
@@ -12,10 +13,12 @@ ghost use Rattle.writer.specs.FiveThreeLevel.{fiveThree};
 ghost use Rattle.writer.specs.Machine.{arrive, passOn};
 ghost use Rattle.writer.specs.Steps.{Left, Room, delivered};
 
-// What waits: the level, from 1, of the set that is being handed out (0: nothing), and the bands of it that are left.
+// What waits: the level, from 1, of the set that is being handed out (0: nothing), the bands of it that are left, and where that level's stretch begins,
+// counted as the level is.
 pub struct Wait {
     pub level: usize,
     pub left: usize,
+    pub offset: usize,
 }
 
 // The LL row of set n becomes row n of the next level.
@@ -37,25 +40,45 @@ fn deliver(store: &mut [i32], w: usize, n: usize)
 // Row m of a level stands in its slot; the level and those below it are l.
 pub fn arrive(store: &mut [i32], l: usize, w: usize, m: usize) -> Wait
     requires { ⌜ Room l w m (length (now store)) ⌝ }
-    ensures { λ r. ⌜ Left l (arrive fiveThree l w m (at (now (store .entry)))) r (at (now (store .exit))) ⌝ }
+    ensures { λ r. ⌜ Left l w (arrive fiveThree l w m (at (now (store .entry)))) r (at (now (store .exit))) ⌝ }
 {
     if l == 0 {
-        return Wait { level: 0, left: 0 };
+        return Wait {
+            level: 0,
+            left: 0,
+            offset: 0,
+        };
     }
     if m % 2 == 1 {
-        return Wait { level: 0, left: 0 };
+        return Wait {
+            level: 0,
+            left: 0,
+            offset: 0,
+        };
     }
     if m == 0 {
-        return Wait { level: 0, left: 0 };
+        return Wait {
+            level: 0,
+            left: 0,
+            offset: 0,
+        };
     }
     let n = m / 2 - 1;
     sets::make_with(store, w, n, m);
     let i = counts::next_band(w, m + 1, n, counts::most(l - 1));
     if 0 < i {
-        return Wait { level: 1, left: i };
+        return Wait {
+            level: 1,
+            left: i,
+            offset: 0,
+        };
     }
     if l == 1 {
-        return Wait { level: 0, left: 0 };
+        return Wait {
+            level: 0,
+            left: 0,
+            offset: 0,
+        };
     }
     deliver(store, w, n);
     let a = 4 * w;
@@ -63,16 +86,21 @@ pub fn arrive(store: &mut [i32], l: usize, w: usize, m: usize) -> Wait
     Wait {
         level: counts::deeper(r.level),
         left: r.left,
+        offset: counts::further(r.level, a, r.offset),
     }
 }
 
 // The LL row of set n goes to the l levels below.
 pub fn pass_on(store: &mut [i32], l: usize, w: usize, n: usize) -> Wait
     requires { ⌜ Room (l + 1) w n (length (now store)) ⌝ }
-    ensures { λ r. ⌜ Left (l + 1) (passOn fiveThree l w n (at (now (store .entry)))) r (at (now (store .exit))) ⌝ }
+    ensures { λ r. ⌜ Left (l + 1) w (passOn fiveThree l w n (at (now (store .entry)))) r (at (now (store .exit))) ⌝ }
 {
     if l == 0 {
-        return Wait { level: 0, left: 0 };
+        return Wait {
+            level: 0,
+            left: 0,
+            offset: 0,
+        };
     }
     deliver(store, w, n);
     let a = 4 * w;
@@ -80,5 +108,6 @@ pub fn pass_on(store: &mut [i32], l: usize, w: usize, n: usize) -> Wait
     Wait {
         level: counts::deeper(r.level),
         left: r.left,
+        offset: counts::further(r.level, a, r.offset),
     }
 }

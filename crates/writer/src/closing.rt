@@ -1,4 +1,5 @@
-// The finish: the levels close in turn, each once nothing waits at any level. The module is private: only this crate, which meets what is required, can call it.
+// The finish: the levels close in turn, each once nothing waits at any level.
+// The module is private: only this crate, which meets what is required, can call it.
 use crate::cascade;
 use crate::cascade::Wait;
 use crate::counts;
@@ -16,24 +17,37 @@ pub struct Closure {
     pub closed: usize,
     pub level: usize,
     pub left: usize,
+    pub offset: usize,
 }
 
 // The level's last set is made, if it is not closed yet; l levels are below.
 fn close_level(store: &mut [i32], l: usize, w: usize, c: usize, m: usize) -> Wait
     requires { ⌜ Room (l + 1) w m (length (now store)) ⌝ }
-    ensures { λ r. ⌜ Left (l + 1) (closeLevel fiveThree l w c m (at (now (store .entry)))) r (at (now (store .exit))) ⌝ }
+    ensures { λ r. ⌜ Left (l + 1) w (closeLevel fiveThree l w c m (at (now (store .entry)))) r (at (now (store .exit))) ⌝ }
 {
     if 0 < c {
-        return Wait { level: 0, left: 0 };
+        return Wait {
+            level: 0,
+            left: 0,
+            offset: 0,
+        };
     }
     if m == 0 {
-        return Wait { level: 0, left: 0 };
+        return Wait {
+            level: 0,
+            left: 0,
+            offset: 0,
+        };
     }
     let n = counts::prev(sizes::half(m));
     sets::close_set(store, w, m);
     let i = counts::next_band(w, m, n, counts::most(l));
     if 0 < i {
-        return Wait { level: 1, left: i };
+        return Wait {
+            level: 1,
+            left: i,
+            offset: 0,
+        };
     }
     cascade::pass_on(store, l, w, n)
 }
@@ -41,13 +55,14 @@ fn close_level(store: &mut [i32], l: usize, w: usize, c: usize, m: usize) -> Wai
 // The l levels close, of which c are closed, until a row waits.
 pub fn shut(store: &mut [i32], l: usize, w: usize, c: usize, m: usize) -> Closure
     requires { ⌜ Room l w m (length (now store)) × (c ≤ l) ⌝ }
-    ensures { λ r. ⌜ Closed l (shut fiveThree l w c m (at (now (store .entry)))) r (at (now (store .exit))) ⌝ }
+    ensures { λ r. ⌜ Closed l w (shut fiveThree l w c m (at (now (store .entry)))) r (at (now (store .exit))) ⌝ }
 {
     if l == 0 {
         return Closure {
             closed: c,
             level: 0,
             left: 0,
+            offset: 0,
         };
     }
     let o = close_level(store, l - 1, w, c, m);
@@ -56,6 +71,7 @@ pub fn shut(store: &mut [i32], l: usize, w: usize, c: usize, m: usize) -> Closur
             closed: 1,
             level: o.level,
             left: o.left,
+            offset: o.offset,
         };
     }
     let a = 4 * w;
@@ -70,5 +86,6 @@ pub fn shut(store: &mut [i32], l: usize, w: usize, c: usize, m: usize) -> Closur
         closed: r.closed + 1,
         level: counts::deeper(r.level),
         left: r.left,
+        offset: counts::further(r.level, a, r.offset),
     }
 }

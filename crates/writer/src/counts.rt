@@ -5,7 +5,7 @@ ghost use Prim.Native.Nat.{_<_, _≤_, _+_, _*_};
 ghost use Rattle.lifting.specs.Line.{count};
 ghost use Rattle.wavelet.specs.Bands.{across, down, code};
 ghost use Rattle.wavelet.specs.Order.{hasRow};
-ghost use Rattle.writer.specs.Counts.{prev, deeper, made, most, mostLeft, bandAt, skip};
+ghost use Rattle.writer.specs.Counts.{prev, deeper, deeperBy, further, made, most, mostLeft, bandAt, skip};
 ghost use Rattle.writer.specs.FiveThreeLevel.{slot, cellOf, before};
 
 // One less, and 0 of 0.
@@ -21,6 +21,22 @@ pub fn deeper(v: usize) -> usize
     ensures { λ r. ⌜ r ≡ deeper v ⌝ }
 {
     if 0 < v { v + 1 } else { 0 }
+}
+
+// The same, from k levels above it.
+pub fn deeper_by(k: usize, v: usize) -> usize
+    requires { ⌜ (v < 4294967296) × (k < 4294967296) ⌝ }
+    ensures { λ r. ⌜ r ≡ deeperBy k v ⌝ }
+{
+    if 0 < v { v + k } else { 0 }
+}
+
+// Where level v's stretch begins, o being counted from place a; 0 where v is no level.
+pub fn further(v: usize, a: usize, o: usize) -> usize
+    requires { ⌜ (a < 4294967296) × (o < 4294967296) ⌝ }
+    ensures { λ r. ⌜ r ≡ further v a o ⌝ }
+{
+    if 0 < v { a + o } else { 0 }
 }
 
 // How many sets a level has made that has received m rows; c = 0: and is not closed.

@@ -1,4 +1,5 @@
 // The row that waits, and the draw of it. The module is private: only this crate, which meets what is required, can call it.
+use crate::Writer;
 use crate::cascade;
 use crate::cascade::Wait;
 use crate::counts;
@@ -8,9 +9,10 @@ ghost use Prim.Native.Nat.{_<_, _+_, _*_};
 ghost use lib.ListN.{length};
 ghost use Rattle.numbers.specs.Signal.{at};
 ghost use Rattle.writer.specs.Counts.{bandAt};
-ghost use Rattle.writer.specs.FiveThreeLevel.{fiveThree, bandPlace};
-ghost use Rattle.writer.specs.Draws.{waiting, pull};
-ghost use Rattle.writer.specs.Steps.{Room, Left, Walk, Found};
+ghost use Rattle.writer.specs.FiveThreeLevel.{bandPlace};
+ghost use Rattle.writer.specs.Questions.{waitingRow};
+ghost use Rattle.writer.specs.Calls.{pulled};
+ghost use Rattle.writer.specs.Steps.{Left, Walk, Reaches, Placed, Found, Drawable};
 
 // A band row that waits, and where in the store its numbers begin.
 pub struct Spot {
@@ -34,72 +36,73 @@ fn place(w: usize, n: usize, i: usize) -> usize
     }
 }
 
-// The row that waits at level v of l, of whose set `left` bands are left.
-pub fn waiting(l: usize, w: usize, c: usize, v: usize, left: usize, m: usize) -> Spot
+// A level that a set is handed out of: the levels below it, its columns, how many levels the finish has closed from it on, and the rows that it has received.
+pub struct Level {
+    pub below: usize,
+    pub width: usize,
+    pub closed: usize,
+    pub rows: usize,
+}
+
+// Level v of l levels, the first of w columns and m rows, of which c are closed. Numbers alone: where it stands in the store, the writer carries.
+pub fn level_of(l: usize, w: usize, c: usize, v: usize, m: usize) -> Level
     requires { ⌜ Walk l w v m ⌝ }
-    ensures { λ r. ⌜ Found l w (waiting fiveThree l w c v left m) r ⌝ }
+    ensures { λ r. ⌜ Reaches l w c v m r ⌝ }
 {
     if v == 1 {
-        let n = counts::prev(counts::made(c, m));
-        let i = counts::prev(left);
-        return Spot {
-            level: 1,
-            band: counts::code(i),
-            row: n,
-            length: counts::columns(w, i),
-            start: place(w, n, i),
+        return Level {
+            below: l - 1,
+            width: w,
+            closed: c,
+            rows: m,
         };
     }
-    let r = waiting(
+    level_of(
         l - 1,
         sizes::half(w),
         counts::prev(c),
         v - 1,
-        left,
         counts::made(c, m),
-    );
+    )
+}
+
+// The row that waits.
+pub fn waiting(s: Writer) -> Spot
+    requires { ⌜ Walk (s .levels) (s .width) (s .level) (s .rows) × Placed s ⌝ }
+    ensures { λ r. ⌜ Found (s .levels) (s .width) (waitingRow s) r ⌝ }
+{
+    let q = level_of(s.levels, s.width, s.closed, s.level, s.rows);
+    let n = counts::prev(counts::made(q.closed, q.rows));
+    let i = counts::prev(s.left);
     Spot {
-        level: r.level + 1,
-        band: r.band,
-        row: r.row,
-        length: r.length,
-        start: 4 * w + r.start,
+        level: s.level,
+        band: counts::code(i),
+        row: n,
+        length: counts::columns(q.width, i),
+        start: s.offset + place(q.width, n, i),
     }
 }
 
 // It is drawn: the next band of the set that has such a row waits, or the set's LL row goes on.
-pub fn pull(
-    store: &mut [i32],
-    l: usize,
-    w: usize,
-    c: usize,
-    v: usize,
-    left: usize,
-    m: usize,
-) -> Wait
-    requires { ⌜ Room l w m (length (now store)) × Walk l w v m ⌝ }
-    ensures { λ r. ⌜ Left l (pull fiveThree l w c v left m (at (now (store .entry)))) r (at (now (store .exit))) ⌝ }
+pub fn pull(s: Writer, store: &mut [i32]) -> Wait
+    requires { ⌜ Drawable s (length (now store)) ⌝ }
+    ensures { λ r. ⌜ Left (s .levels) (s .width) (pulled s (at (now (store .entry)))) r (at (now (store .exit))) ⌝ }
 {
-    if v == 1 {
-        let n = counts::prev(counts::made(c, m));
-        let i = counts::next_band(w, m, n, counts::prev(left));
-        if 0 < i {
-            return Wait { level: 1, left: i };
-        }
-        return cascade::pass_on(store, l - 1, w, n);
+    let q = level_of(s.levels, s.width, s.closed, s.level, s.rows);
+    let n = counts::prev(counts::made(q.closed, q.rows));
+    let i = counts::next_band(q.width, q.rows, n, counts::prev(s.left));
+    let a = s.offset;
+    if 0 < i {
+        return Wait {
+            level: s.level,
+            left: i,
+            offset: a,
+        };
     }
-    let a = 4 * w;
-    let r = pull(
-        &mut store[a..],
-        l - 1,
-        sizes::half(w),
-        counts::prev(c),
-        v - 1,
-        left,
-        counts::made(c, m),
-    );
+    let r = cascade::pass_on(&mut store[a..], q.below, q.width, n);
     Wait {
-        level: counts::deeper(r.level),
+        level: counts::deeper_by(s.level - 1, r.level),
         left: r.left,
+        offset: counts::further(r.level, a, r.offset),
     }
 }

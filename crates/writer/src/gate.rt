@@ -10,7 +10,7 @@ ghost use Rattle.writer.specs.Questions.{inRanges, setUpQuestion, offerQ
 ghost use Rattle.writer.specs.Gate.{stateQuestion, openQuestion};
 
 // Question 1: the counts' ranges.
-fn in_ranges(s: Writer) -> bool
+pub fn in_ranges(s: Writer) -> bool
     ensures { λ r. ⌜ r ≡ inRanges s ⌝ }
 {
     if !limits::is_within(s.width, Writer::MAX_WIDTH) {
@@ -31,7 +31,10 @@ fn in_ranges(s: Writer) -> bool
     if s.levels < s.level {
         return false;
     }
-    s.left <= counts::most_left(s.levels, s.level)
+    if counts::most_left(s.levels, s.level) < s.left {
+        return false;
+    }
+    s.offset == store::store_length(s.width, counts::prev(s.level))
 }
 
 // Whether n numbers are enough for every number of levels. At the most levels a width of 2^k + 1 needs just as many, so the sizes are seldom added up.

@@ -14,8 +14,8 @@ ghost use mathlib.Core.Path.{_≡_};
 ghost use lib.ListN.{length};
 ghost use Rattle.numbers.specs.Signal.{at};
 ghost use Rattle.wavelet.specs.Limits.{maxWidth, maxHeight, maxLevels};
-ghost use Rattle.writer.specs.Answers.{ofSetUp, ofOffered, ofDrawn, ofFinished};
-ghost use Rattle.writer.specs.Calls.{setUpReply, setUpStore, offerReply, offerStore, drawReply, drawStore, drawArea, finishReply, finishStore};
+ghost use Rattle.writer.specs.Answers.{ofSetUp, ofOffered, ofDrawn, ofLook, ofFinished};
+ghost use Rattle.writer.specs.Calls.{setUpReply, setUpStore, offerReply, offerStore, drawReply, drawStore, drawArea, waitsReply, finishReply, finishStore};
 ghost use Rattle.writer.specs.Holds.{SetUpHolds, OfferKeeps, DrawKeeps, FinishKeeps};
 
 // The counts of a writer; docs/STATE.md gives their ranges.
@@ -33,6 +33,8 @@ pub struct Writer {
     pub level: usize,
     // the bands of that set that are left
     pub left: usize,
+    // where that level's stretch of the line store begins; 0: nothing waits
+    pub offset: usize,
 }
 
 // A band row that was drawn: its values stand at the front of the output area.
@@ -56,6 +58,11 @@ pub enum Offered {
 pub enum Drawn {
     Row(BandRow, Writer),
     Nothing,
+    Refused(u8),
+}
+
+pub enum Look {
+    Row(BandRow),
     Refused(u8),
 }
 
@@ -111,6 +118,7 @@ impl Writer {
             closed: 0,
             level: 0,
             left: 0,
+            offset: 0,
         })
     }
 
@@ -149,14 +157,7 @@ impl Writer {
         if self.level == 0 {
             return Drawn::Nothing;
         }
-        let spot = draws::waiting(
-            self.levels,
-            self.width,
-            self.closed,
-            self.level,
-            self.left,
-            self.rows,
-        );
+        let spot = draws::waiting(self);
         if out.len() < spot.length {
             return Drawn::Refused(12);
         }
@@ -171,6 +172,30 @@ impl Writer {
             },
             next,
         )
+    }
+
+    // The row that the next draw hands out; its level is 0 where nothing waits.
+    pub fn waits(self) -> Look
+        ensures { λ r. ⌜ ofLook r ≡ waitsReply self ⌝ }
+    {
+        if !gate::in_ranges(self) {
+            return Look::Refused(1);
+        }
+        if 0 < self.level {
+            let spot = draws::waiting(self);
+            return Look::Row(BandRow {
+                level: spot.level,
+                band: spot.band,
+                row: spot.row,
+                length: spot.length,
+            });
+        }
+        Look::Row(BandRow {
+            level: 0,
+            band: 0,
+            row: 0,
+            length: 0,
+        })
     }
 
     // No more rows: the levels close in turn, until a row waits.
@@ -193,6 +218,7 @@ impl Writer {
             closed: r.closed,
             level: r.level,
             left: r.left,
+            offset: r.offset,
         })
     }
 }

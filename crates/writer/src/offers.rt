@@ -9,7 +9,8 @@ ghost use Rattle.numbers.specs.Signal.{at};
 ghost use Rattle.writer.specs.Taking.{heightAt};
 ghost use Rattle.writer.specs.Stretch.{heightsPut, nextCount, Taker, Stretched};
 
-// Pairs of heights of a run, from height `from` on, to the columns of row m from `column` on. One loop stores both of a pair: the compiler then reads whole vectors.
+// Pairs of heights of a run, from height `from` on, to the columns of row m from `column` on. One loop stores both of a pair: the compiler then reads
+// whole vectors.
 fn fill_pairs(
     store: &mut [i32],
     w: usize,
@@ -81,6 +82,7 @@ pub fn stretch(s: Writer, store: &mut [i32], run: &[u16], from: usize, n: usize)
             closed: s.closed,
             level: s.level,
             left: s.left,
+            offset: s.offset,
         };
     }
     let r = cascade::arrive(store, s.levels, s.width, s.rows);
@@ -93,5 +95,6 @@ pub fn stretch(s: Writer, store: &mut [i32], run: &[u16], from: usize, n: usize)
         closed: s.closed,
         level: r.level,
         left: r.left,
+        offset: r.offset,
     }
 }

@@ -12,13 +12,14 @@ use Rattle.wavelet.proofs.SizeLaws.{count-lo}
 use Rattle.wavelet.proofs.StoreLaws.{store-back}
 use Rattle.writer.specs.Counts.{skip}
 use Rattle.writer.proofs.RestLaws.{at-rest, at-join}
-use Rattle.writer.proofs.CascadeLaws.{left-still, arrive-none, arrive-odd, arrive-first, came-waits, came-last, came-goes}
+use Rattle.writer.proofs.CascadeLaws.{left-still, left-small, arrive-none, arrive-odd, arrive-first, came-waits, came-last, came-goes}
 use Rattle.writer.proofs.cascade.arrive.Reads as arrive
 use Rattle.writer.proofs.cascade.arrive.Kinds as arrive-kinds
 use Rattle.writer.proofs.cascade.+arrive.Lts-arrive as arrive-lts
 use Rattle.wavelet.proofs.sizes.half.Reads as half-reads
 use Rattle.writer.proofs.cascade.deliver.Reads as deliver-reads
 use Rattle.writer.proofs.counts.deeper.Reads as deeper-reads
+use Rattle.writer.proofs.counts.further.Reads as further-reads
 use Rattle.writer.proofs.counts.most.Reads as most-reads
 use Rattle.writer.proofs.counts.next_band.Reads as next-band-reads
 use Rattle.writer.proofs.sets.make_with.Reads as make-with-reads
@@ -51,22 +52,28 @@ claims t = (
   arrive.Post,
   deeper-reads.Asked,
   deeper-reads.Learnt,
+  further-reads.Asked,
+  further-reads.Learnt,
 )
 
 arrive-returns : (t : ℕ) → arrive-lts.Need-returns (claims t) (arrive-at t) arrive.Post
-arrive-returns t c = let a = c .before .args in left-still (a .l) _ _ (arrive-none (a .l) (a .w) (a .m) _ (omega arith))
+arrive-returns t c = let a = c .before .args in left-still (a .l) (a .w) _ _ (arrive-none (a .l) (a .w) (a .m) _ (omega arith))
 
 arrive-returns-2 : (t : ℕ) → arrive-lts.Need-returns-2 (claims t) (arrive-at t) arrive.Post
-arrive-returns-2 t c = let a = c .before .before .args in left-still (a .l) _ _ (arrive-odd (a .l) (a .w) (a .m) _ (omega arith))
+arrive-returns-2 t c = let a = c .before .before .args in left-still (a .l) (a .w) _ _ (arrive-odd (a .l) (a .w) (a .m) _ (omega arith))
 
 arrive-returns-3 : (t : ℕ) → arrive-lts.Need-returns-3 (claims t) (arrive-at t) arrive.Post
-arrive-returns-3 t c = let a = c .before .before .before .args in left-still (a .l) _ _ (arrive-first (a .l) (a .w) (a .m) _ (omega arith))
+arrive-returns-3 t c = let a = c .before .before .before .args in left-still (a .l) (a .w) _ _ (arrive-first (a .l) (a .w) (a .m) _ (omega arith))
 
 arrive-sub-n : (t : ℕ) → arrive-lts.Need-sub-n (claims t) (arrive-at t) arrive.Post
 arrive-sub-n t c = search needs
 
 arrive-make-with-requires : (t : ℕ) → arrive-lts.Need-make-with-requires (claims t) (arrive-at t) arrive.Post
-arrive-make-with-requires t c κs = omega (arith, store-back (c .before .before .before .before .args .w) (c .before .before .before .before .args .l) (omega arith))
+arrive-make-with-requires t c κs = omega (
+  arith,
+  store-back (c .before .before .before .before .args .w) (c .before .before .before .before .args .l)
+      (omega arith),
+)
 
 arrive-add-next-band : (t : ℕ) → arrive-lts.Need-add-next-band (claims t) (arrive-at t) arrive.Post
 arrive-add-next-band t c = search needs
@@ -86,7 +93,8 @@ arrive-same-length t c = search needs
 arrive-returns-4 : (t : ℕ) → arrive-lts.Need-returns-4 (claims t) (arrive-at t) arrive.Post
 arrive-returns-4 t c =
     let a = c .before .before .before .before .before .before .before .before .before .args in
-    came-waits (a .l) (a .w) (a .m) (a .m / 2 - 1) _ _ _ (omega arith) (omega arith) (c .before .before .before .before .make-with .ensures) (c .before .next-band .ensures ∙ ap (skip (a .w) (a .m + 1) (a .m / 2 - 1)) (c .before .before .most .ensures)) (omega arith)
+    came-waits (a .l) (a .w) (a .m) (a .m / 2 - 1) _ _ _ (omega arith) (omega arith) (c .before .before .before .before .make-with .ensures)
+    (c .before .next-band .ensures ∙ ap (skip (a .w) (a .m + 1) (a .m / 2 - 1)) (c .before .before .most .ensures)) (omega arith)
 
 arrive-same-length-2 : (t : ℕ) → arrive-lts.Need-same-length-2 (claims t) (arrive-at t) arrive.Post
 arrive-same-length-2 t c = search needs
@@ -94,7 +102,9 @@ arrive-same-length-2 t c = search needs
 arrive-returns-5 : (t : ℕ) → arrive-lts.Need-returns-5 (claims t) (arrive-at t) arrive.Post
 arrive-returns-5 t c =
     let a = c .before .before .before .before .before .before .before .before .before .before .args in
-    came-last (a .l) (a .w) (a .m) (a .m / 2 - 1) _ _ _ (omega arith) (omega arith) (c .before .before .before .before .before .make-with .ensures) (c .before .before .next-band .ensures ∙ ap (skip (a .w) (a .m + 1) (a .m / 2 - 1)) (c .before .before .before .most .ensures)) (omega arith) (omega arith)
+    came-last (a .l) (a .w) (a .m) (a .m / 2 - 1) _ _ _ (omega arith) (omega arith) (c .before .before .before .before .before .make-with .ensures)
+    (c .before .before .next-band .ensures ∙ ap (skip (a .w) (a .m + 1) (a .m / 2 - 1)) (c .before .before .before .most .ensures)) (omega arith)
+    (omega arith)
 
 arrive-deliver-requires : (t : ℕ) → arrive-lts.Need-deliver-requires (claims t) (arrive-at t) arrive.Post
 arrive-deliver-requires t c κs =
@@ -108,10 +118,18 @@ arrive-mul-arrive : (t : ℕ) → arrive-lts.Need-mul-arrive (claims t) (arrive-
 arrive-mul-arrive t c = search needs
 
 arrive-sub-arrive : (t : ℕ) → arrive-lts.Need-sub-arrive (claims t) (arrive-at t) arrive.Post
-arrive-sub-arrive t c = omega (arith, store-back (c .before .before .before .before .before .before .before .before .before .before .before .before .before .args .w) (c .before .before .before .before .before .before .before .before .before .before .before .before .before .args .l) (omega arith))
+arrive-sub-arrive t c = omega (
+  arith,
+  store-back (c .before .before .before .before .before .before .before .before .before .before .before .before .before .args .w)
+      (c .before .before .before .before .before .before .before .before .before .before .before .before .before .args .l) (omega arith),
+)
 
 arrive-part-arrive-start : (t : ℕ) → arrive-lts.Need-part-arrive-start (claims t) (arrive-at t) arrive.Post
-arrive-part-arrive-start t c = omega (arith, store-back (c .before .before .before .before .before .before .before .before .before .before .before .before .before .args .w) (c .before .before .before .before .before .before .before .before .before .before .before .before .before .args .l) (omega arith))
+arrive-part-arrive-start t c = omega (
+  arith,
+  store-back (c .before .before .before .before .before .before .before .before .before .before .before .before .before .args .w)
+      (c .before .before .before .before .before .before .before .before .before .before .before .before .before .args .l) (omega arith),
+)
 
 arrive-part-arrive-end : (t : ℕ) → arrive-lts.Need-part-arrive-end (claims t) (arrive-at t) arrive.Post
 arrive-part-arrive-end t c = search needs
@@ -130,17 +148,32 @@ arrive-arrive-requires t c κs =
 arrive-deeper-requires : (t : ℕ) → arrive-lts.Need-deeper-requires (claims t) (arrive-at t) arrive.Post
 arrive-deeper-requires t c κs = search needs
 
+arrive-further-requires : (t : ℕ) → arrive-lts.Need-further-requires (claims t) (arrive-at t) arrive.Post
+arrive-further-requires t c κs =
+    let a = c .before .before .before .before .before .before .before .before .before .before .before .before .before .before .before .before .before .before .args in
+    let w = c .before .before .before .half in
+    let b = left-small (a .l - 1) (w .result) _ _ _ (omega (arith, w .ensures, count-lo (a .w))) (omega arith) (c .before .before .arrive .ensures) in
+    omega arith
+
 arrive-same-length-3 : (t : ℕ) → arrive-lts.Need-same-length-3 (claims t) (arrive-at t) arrive.Post
 arrive-same-length-3 t c = search needs
 
 arrive-returns-6 : (t : ℕ) → arrive-lts.Need-returns-6 (claims t) (arrive-at t) arrive.Post
 arrive-returns-6 t c =
-    let a = c .before .before .before .before .before .before .before .before .before .before .before .before .before .before .before .before .before .before .args in
-    let l = c .before .before .before .before .before .before .deliver .last .0 in
-    let s = store-back (a .w) (a .l) (omega arith) in
-    came-goes (a .l) (a .w) (a .m) (a .m / 2 - 1) _ _ _ (omega arith) (omega arith) (c .before .before .before .before .before .before .before .before .before .before .before .before .before .make-with .ensures) (c .before .before .before .before .before .before .before .before .before .before .next-band .ensures ∙ ap (skip (a .w) (a .m + 1) (a .m / 2 - 1)) (c .before .before .before .before .before .before .before .before .before .before .before .most .ensures)) (omega arith) (omega arith)
-    _ _ (at l) (at (c .before .before .arrive .last .0)) _ _ (c .before .before .before .half .ensures) (c .before .before .before .before .before .before .deliver .ensures)
-    (rw (at-rest (4 * a .w) l) at (c .before .before .arrive .ensures)) (at-join (4 * a .w) l (c .before .before .arrive .last .0) (omega arith)) (c .deeper .ensures)
+    let e = c .before in
+    let a = e .before .before .before .before .before .before .before .before .before .before .before .before .before .before .before .before .before .before .args in
+    let l = e .before .before .before .before .before .before .deliver .last .0 in
+    let s = store-back (a .w) (a .l) (omega (arith, e .before)) in
+    came-goes (a .l) (a .w) (a .m) (a .m / 2 - 1) _ _ _ (omega (arith, e .before)) (omega (arith, e .before))
+    (e .before .before .before .before .before .before .before .before .before .before .before .before .before .make-with .ensures)
+    (e .before .before .before .before .before .before .before .before .before .before .next-band .ensures
+    ∙ ap (skip (a .w) (a .m + 1) (a .m / 2 - 1))
+    (e .before .before .before .before .before .before .before .before .before .before .before .most .ensures))
+    (omega (arith, e .before)) (omega (arith, e .before))
+    _ _ _ (at l) (at (e .before .before .arrive .last .0)) _ _ (e .before .before .before .half .ensures)
+    (e .before .before .before .before .before .before .deliver .ensures)
+    (rw (at-rest (4 * a .w) l) at (e .before .before .arrive .ensures)) (at-join (4 * a .w) l (e .before .before .arrive .last .0)
+    (omega (arith, e .before))) (e .deeper .ensures) (c .further .ensures)
 
 pub +arrive-spec : {M : Type 1} → statement M
 +arrive-spec =
@@ -173,5 +206,6 @@ pub +arrive-spec : {M : Type 1} → statement M
     (arrive-half-requires t)
     (arrive-arrive-requires t)
     (arrive-deeper-requires t)
+    (arrive-further-requires t)
     (arrive-same-length-3 t)
     (arrive-returns-6 t)

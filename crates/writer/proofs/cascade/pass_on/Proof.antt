@@ -8,13 +8,13 @@ use Rattle.wavelet.specs.Store.{storeLength}
 use Rattle.wavelet.proofs.SizeLaws.{count-lo}
 use Rattle.wavelet.proofs.StoreLaws.{store-next, store-back}
 use Rattle.writer.proofs.RestLaws.{at-rest, at-join}
-use Rattle.writer.proofs.CascadeLaws.{left-still, pass-none, passed-goes}
+use Rattle.writer.proofs.CascadeLaws.{left-still, left-small, pass-none, passed-goes}
 use borrow.Author.Needs.{needs}
 use Rattle.writer.proofs.cascade.pass_on.Statement.{statement}
 use Rattle.writer.proofs.cascade.pass_on.Tie as tie
 
 returns : tie.Need-returns
-returns c = let a = c .before .args in left-still (a .l + 1) _ _ (pass-none (a .w) (a .n) _ (a .l) (omega arith))
+returns c = let a = c .before .args in left-still (a .l + 1) (a .w) _ _ (pass-none (a .w) (a .n) _ (a .l) (omega arith))
 
 deliver-requires : tie.Need-deliver-requires
 deliver-requires c κs =
@@ -47,16 +47,26 @@ arrive-requires c κs =
 deeper-requires : tie.Need-deeper-requires
 deeper-requires c κs = search needs
 
+further-requires : tie.Need-further-requires
+further-requires c κs =
+    let a = c .before .before .before .before .before .before .before .before .before .args in
+    let w = c .before .before .before .half in
+    let b = left-small (a .l) (w .result) _ _ _ (omega (arith, w .ensures, count-lo (a .w))) (omega arith) (c .before .before .arrive .ensures) in
+    omega arith
+
 same-length : tie.Need-same-length
 same-length c = search needs
 
 returns-2 : tie.Need-returns-2
 returns-2 c =
-    let a = c .before .before .before .before .before .before .before .before .before .args in
-    let l = c .before .before .before .before .before .before .deliver .last .0 in
+    let e = c .before in
+    let a = e .before .before .before .before .before .before .before .before .before .args in
+    let l = e .before .before .before .before .before .before .deliver .last .0 in
     let s = store-next (a .w) (a .l) in
-    passed-goes (a .l) (a .w) (a .n) _ _ _ (at l) (at (c .before .before .arrive .last .0)) _ _ (omega arith) (c .before .before .before .half .ensures) (c .before .before .before .before .before .before .deliver .ensures)
-    (rw (at-rest (4 * a .w) l) at (c .before .before .arrive .ensures)) (at-join (4 * a .w) l (c .before .before .arrive .last .0) (omega arith)) (c .deeper .ensures)
+    passed-goes (a .l) (a .w) (a .n) _ _ _ _ (at l) (at (e .before .before .arrive .last .0)) _ _ (omega arith)
+    (e .before .before .before .half .ensures) (e .before .before .before .before .before .before .deliver .ensures)
+    (rw (at-rest (4 * a .w) l) at (e .before .before .arrive .ensures)) (at-join (4 * a .w) l (e .before .before .arrive .last .0) (omega arith))
+    (e .deeper .ensures) (c .further .ensures)
 
 pub pass-on-spec : {M : Type 1} → statement M
 pass-on-spec =
@@ -72,5 +82,6 @@ pass-on-spec =
     half-requires
     arrive-requires
     deeper-requires
+    further-requires
     same-length
     returns-2)

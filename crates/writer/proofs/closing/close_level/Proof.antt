@@ -11,10 +11,10 @@ use Rattle.writer.proofs.closing.close_level.Statement.{statement}
 use Rattle.writer.proofs.closing.close_level.Tie as tie
 
 returns : tie.Need-returns
-returns c = let a = c .before .args in left-still (a .l + 1) _ _ (level-closed (a .l) (a .w) _ (a .c) (a .m) (omega arith))
+returns c = let a = c .before .args in left-still (a .l + 1) (a .w) _ _ (level-closed (a .l) (a .w) _ (a .c) (a .m) (omega arith))
 
 returns-2 : tie.Need-returns-2
-returns-2 c = let a = c .before .before .args in left-still (a .l + 1) _ _ (level-empty (a .l) (a .w) _ (a .c) (a .m) (omega arith) (omega arith))
+returns-2 c = let a = c .before .before .args in left-still (a .l + 1) (a .w) _ _ (level-empty (a .l) (a .w) _ (a .c) (a .m) (omega arith) (omega arith))
 
 half-requires : tie.Need-half-requires
 half-requires c κs = search needs
@@ -35,16 +35,26 @@ same-length : tie.Need-same-length
 same-length c = search needs
 
 returns-3 : tie.Need-returns-3
-returns-3 c = let a = c .before .before .before .before .before .before .before .before .before .before .args in close-waits (a .l) (a .w) (a .c) (a .m) _ _ _ _ _ _ (omega arith) (omega arith) (c .before .before .before .before .before .before .before .half .ensures) (c .before .before .before .before .before .before .prev .ensures) (c .before .before .before .before .close-set .ensures) (c .before .before .most .ensures) (c .before .next-band .ensures) (omega arith)
+returns-3 c = let a = c .before .before .before .before .before .before .before .before .before .before .args in close-waits (a .l) (a .w) (a .c)
+    (a .m) _ _ _ _ _ _ (omega arith) (omega arith) (c .before .before .before .before .before .before .before .half .ensures)
+    (c .before .before .before .before .before .before .prev .ensures) (c .before .before .before .before .close-set .ensures)
+    (c .before .before .most .ensures) (c .before .next-band .ensures) (omega arith)
 
 pass-on-requires : tie.Need-pass-on-requires
-pass-on-requires c κs = let a = c .before .before .before .before .before .before .before .before .before .before .before .args in omega (arith, prev-is (c .before .before .before .before .before .before .before .before .half .result), count-lo (a .m))
+pass-on-requires c κs = let a = c .before .before .before .before .before .before .before .before .before .before .before .args in
+    omega (arith, prev-is (c .before .before .before .before .before .before .before .before .half .result), count-lo (a .m))
 
 same-length-2 : tie.Need-same-length-2
 same-length-2 c = search needs
 
 returns-4 : tie.Need-returns-4
-returns-4 c = let a = c .before .before .before .before .before .before .before .before .before .before .before .before .before .args in close-goes (a .l) (a .w) (a .c) (a .m) _ _ _ _ _ _ (omega arith) (omega arith) (c .before .before .before .before .before .before .before .before .before .before .half .ensures) (c .before .before .before .before .before .before .before .before .before .prev .ensures) (c .before .before .before .before .before .before .before .close-set .ensures) (c .before .before .before .before .before .most .ensures) (c .before .before .before .before .next-band .ensures) _ _ (omega arith) (c .before .pass-on .ensures)
+returns-4 c = let a = c .before .before .before .before .before .before .before .before .before .before .before .before .before .args in
+    close-goes (a .l) (a .w) (a .c) (a .m) _ _ _ _ _ _ (omega arith) (omega arith)
+    (c .before .before .before .before .before .before .before .before .before .before .half .ensures)
+    (c .before .before .before .before .before .before .before .before .before .prev .ensures)
+    (c .before .before .before .before .before .before .before .close-set .ensures)
+    (c .before .before .before .before .before .most .ensures) (c .before .before .before .before .next-band .ensures) _ _
+    (omega arith) (c .before .pass-on .ensures)
 
 pub close-level-spec : {M : Type 1} → statement M
 close-level-spec =

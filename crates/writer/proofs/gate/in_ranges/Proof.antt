@@ -1,11 +1,13 @@
 -- `gate::in_ranges` meets its contract: each test is the definition's, in its order. Assumes nothing.
-use mathlib.Core.Path.{sym, _∙_}
+use mathlib.Core.Path.{sym, ap, _∙_}
+use lib.Dec.{eqb}
 use native.Mathlib.Omega.{arith}
 use borrow.Author.Needs.{needs}
 use borrow.Author.Tests.{not-true, not-false, le-leb, lt-leb, lt-ltb, le-ltb}
 use Rattle.wavelet.specs.Limits.{maxWidth, maxHeight, maxLevels}
+use Rattle.writer.specs.Counts.{mostLeft}
 use Rattle.writer.specs.Questions.{inRanges}
-use Rattle.writer.proofs.GateLaws.{ranges-last}
+use Rattle.writer.proofs.GateLaws.{ranges-last, start-stored}
 use Rattle.writer.proofs.gate.in_ranges.Statement.{statement}
 use Rattle.writer.proofs.gate.in_ranges.Tie as tie
 
@@ -79,13 +81,36 @@ most-left-requires : tie.Need-most-left-requires
 most-left-requires c κs = omega arith
 
 returns-7 : tie.Need-returns-7
+unfolding inRanges maxWidth maxHeight maxLevels
 returns-7 c =
-    ranges-last (c .before .before .before .before .before .before .before .before .before .before .before .before .before .before .args .s)
-    (sym (c .before .before .before .before .before .before .before .before .before .before .before .before .before .is-within .ensures)
-    ∙ not-false _ (c .before .before .before .before .before .before .before .before .before .before .before .before .if1 .left))
-    (sym (c .before .before .before .before .before .before .before .before .before .before .before .is-within2 .ensures)
-    ∙ not-false _ (c .before .before .before .before .before .before .before .before .before .before .if2 .left))
-    (omega arith) (omega arith) (omega arith) (omega arith) _ (c .before .most-left .ensures)
+    let s = c .before .before .before .before .before .before .before .before .before .before .before .before .before .before .before .args .s in
+    simp (
+      sym (c .before .before .before .before .before .before .before .before .before .before .before .before .before .before .is-within .ensures)
+          ∙ not-false _ (c .before .before .before .before .before .before .before .before .before .before .before .before .before .if1 .left),
+      sym (c .before .before .before .before .before .before .before .before .before .before .before .before .is-within2 .ensures)
+          ∙ not-false _ (c .before .before .before .before .before .before .before .before .before .before .before .if2 .left),
+      le-leb _ _ (c .before .before .before .before .before .before .before .before .before .if3 .left),
+      lt-ltb _ _ (c .before .before .before .before .before .before .before .if4 .left),
+      le-leb _ _ (c .before .before .before .before .before .if5 .left),
+      le-leb _ _ (c .before .before .before .if6 .left),
+      lt-leb (s .left) (mostLeft (s .levels) (s .level)) (omega (arith, c .before .before .most-left .ensures)),
+    )
+
+prev-requires : tie.Need-prev-requires
+prev-requires c κs = tt
+
+store-length-requires : tie.Need-store-length-requires
+store-length-requires c κs = tt
+
+returns-8 : tie.Need-returns-8
+unfolding maxWidth maxLevels
+returns-8 c =
+    let s = c .before .before .before .before .before .before .before .before .before .before .before .before .before .before .before .before .before .before .args .s in
+    let w = sym (c .before .before .before .before .before .before .before .before .before .before .before .before .before .before .before .before .before .is-within .ensures) ∙ not-false _ (c .before .before .before .before .before .before .before .before .before .before .before .before .before .before .before .before .if1 .left) in
+    let l = sym (c .before .before .before .before .before .before .before .before .before .before .before .before .before .before .before .is-within2 .ensures) ∙ not-false _ (c .before .before .before .before .before .before .before .before .before .before .before .before .before .before .if2 .left) in
+    let is = start-stored (s .width) (s .levels) (s .level) _ _ w l (omega arith) (c .before .before .prev .ensures) (c .before .store-length .ensures) in
+    ranges-last s w l (omega arith) (omega arith) (omega arith) (omega arith)
+    (omega (arith, c .before .before .before .before .before .most-left .ensures)) _ (ap (eqb (s .offset)) is)
 
 pub in-ranges-spec : {M : Type 1} → statement M
 in-ranges-spec =
@@ -100,4 +125,7 @@ in-ranges-spec =
     returns-5
     returns-6
     most-left-requires
-    returns-7)
+    returns-7
+    prev-requires
+    store-length-requires
+    returns-8)

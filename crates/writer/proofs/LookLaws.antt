@@ -1,0 +1,127 @@
+-- A look at what waits: as the code's branches meet it, and that it says what the next draw gives (`look-says`, `look-room`), by the history too
+-- (`look-waits`).
+-- Assumes nothing.
+use mathlib.Core.Bool.{Bool, true, false, not}
+use mathlib.Core.Path.{_≡_, refl, sym, ap, _∙_}
+use mathlib.Core.List.{List, [], _∷_}
+use Prim.Native.Nat.{ℕ, zero, suc, _≤_, _<_}
+use native.Mathlib.Omega.{arith}
+use lib.IntN.{pos}
+use lib.Dec.{leb, eqb}
+use borrow.Author.Tests.{not-true, not-false, le-leb, ne-eqb}
+use Rattle.numbers.specs.Signal.{pick}
+use Rattle.wavelet.specs.Questions.{ask}
+use Rattle.wavelet.specs.Store.{storeLength}
+use Rattle.wavelet.specs.View.{bandColumns}
+use Rattle.wavelet.specs.Order.{RowName}
+use Rattle.writer.specs.declared.Writer.{Writer}
+use Rattle.writer.specs.declared.BandRow.{BandRow}
+use Rattle.writer.specs.declared.draws.Spot.{Spot}
+use Rattle.writer.specs.Level.{Memory}
+use Rattle.writer.specs.Questions.{either, inRanges, longEnough, waitingRow, setUpQuestion, drawQuestion, waitsQuestion}
+use Rattle.writer.specs.Answers.{Reply, gives, refused, unless, Handed, aRow, nothing}
+use Rattle.writer.specs.Gate.{stateQuestion}
+use Rattle.writer.specs.Calls.{handed, drawReply, bandRow, noRow, awaited, waitsReply, rowHanded}
+use Rattle.writer.specs.History.{Area, Call, draw, Given, row, none, Event, drew, World, seen, given, event, events, final, freshWorld}
+use Rattle.writer.specs.Demand3.{waitingOf, answered, drawSays, nextRow}
+use Rattle.writer.specs.Steps.{Found}
+use Rattle.writer.proofs.GateLaws.{Sound, sound}
+use Rattle.writer.proofs.Demand3.{demand-3}
+
+-- ---- the call
+module _ (s : Writer) (t : Bool) (e : t ≡ inRanges s) where
+  pub look-no : not t ≡ true → refused 1 ≡ waitsReply s
+  unfolding waitsReply waitsQuestion
+  look-no h = rw (sym e ∙ not-true t h) refl
+
+  yes : not t ≡ false → inRanges s ≡ true
+  yes h = sym e ∙ not-false t h
+
+  look-passes : (b : BandRow) → not t ≡ false → b ≡ awaited (s .level) s → gives b ≡ waitsReply s
+  unfolding waitsReply waitsQuestion
+  look-passes b h f = rw (yes h) (ap gives f)
+
+  pub look-sound : not t ≡ false → Sound s (storeLength (s .width) (s .levels))
+  look-sound h =
+      let k = storeLength (s .width) (s .levels) in
+      sound s k (unfold stateQuestion longEnough in rw (yes h, le-leb k k (omega arith)) refl)
+
+  none-awaited : (v : ℕ) → v ≡ 0 → noRow ≡ awaited v s
+  none-awaited zero f = refl
+  none-awaited (suc v) f = absurd (omega arith)
+
+  row-awaited : (v : ℕ) → 0 < v → bandRow (waitingRow s) ≡ awaited v s
+  row-awaited zero f = absurd (omega arith)
+  row-awaited (suc v) f = refl
+
+  pub look-none : not t ≡ false → s .level ≡ 0 → gives noRow ≡ waitsReply s
+  look-none h f = look-passes noRow h (none-awaited (s .level) f)
+
+  pub look-row : (r : Spot) → Found (s .levels) (s .width) (waitingRow s) r → not t ≡ false → 0 < s .level →
+      gives (record { level = r .level; band = r .band; row = r .row; length = r .length }) ≡ waitsReply s
+  look-row r f h p =
+      look-passes _ h
+      (ap (λ (r : Spot). record { level = r .level; band = r .band; row = r .row; length = r .length }) (f .spot) ∙ row-awaited (s .level) p)
+
+-- ---- it says what the next draw gives
+module _ (s : Writer) (n k : ℕ) (x : Memory) where
+  pub look-says : (h : Handed) → drawReply s n k x ≡ gives h → waitsReply s ≡ gives (rowHanded h)
+  unfolding drawReply waitsReply waitsQuestion drawQuestion
+  look-says h e = go (inRanges s) (ask (longEnough n s) 5 (ask (either (eqb (s .level) 0) (leb (waitingRow s .length) k)) 12 0)) (s .level) e
+    where
+      go : (a : Bool) (q v : ℕ) → unless (ask a 1 q) (handed v s x) ≡ gives h → unless (ask a 1 0) (awaited v s) ≡ gives (rowHanded h)
+      go true zero zero e = let z : nothing ≡ h = cc in ap (λ (d : Handed). gives (rowHanded d)) z
+      go true zero (suc v) e = let z : handed (suc v) s x ≡ h = cc in ap (λ (d : Handed). gives (rowHanded d)) z
+      go true (suc q) v e = let z : _≡_ {A = ℕ} 0 1 = cc in absurd (omega arith)
+      go false q v e = let z : _≡_ {A = ℕ} 0 1 = cc in absurd (omega arith)
+
+  -- and how much room it asks for
+  pub look-room : (b : BandRow) → waitsReply s ≡ gives b → longEnough n s ≡ true → drawQuestion s n k ≡ pick (leb (b .length) k) 0 12
+  unfolding waitsReply waitsQuestion drawQuestion
+  look-room b e f = rw f (go (inRanges s) (s .level) refl e)
+    where
+      go : (a : Bool) (v : ℕ) → s .level ≡ v → unless (ask a 1 0) (awaited v s) ≡ gives b →
+          ask a 1 (ask (either (eqb v 0) (leb (waitingRow s .length) k)) 12 0) ≡ pick (leb (b .length) k) 0 12
+      go true zero l e = let z : noRow ≡ b = cc in rw (← z) (simp (le-leb 0 k (omega arith)))
+      go true (suc v) l e = let z : bandRow (waitingRow s) ≡ b = cc in rw (← z) (simp (ne-eqb (suc v) 0 (λ d. omega arith)))
+      go false v l e = let z : _≡_ {A = ℕ} 0 1 = cc in absurd (omega arith)
+
+-- ---- by the history: of the rows that wait the first
+named : (r : Reply Handed) (g : Given) → seen given r ≡ gives g → (h : Handed) × (r ≡ gives h) × (given h ≡ g)
+named (gives h) g e = (h, refl, cc)
+named (refused q) g e = let z : _≡_ {A = ℕ} 0 1 = cc in absurd (omega arith)
+
+row-is : (h : Handed) (b : BandRow) → given h ≡ row b → rowHanded h ≡ b
+row-is (aRow c t) b e = cc
+row-is nothing b e = let z : _≡_ {A = ℕ} 0 1 = cc in absurd (omega arith)
+
+none-is : (h : Handed) → given h ≡ none → rowHanded h ≡ noRow
+none-is (aRow c t) e = let z : _≡_ {A = ℕ} 0 1 = cc in absurd (omega arith)
+none-is nothing e = refl
+
+pub look-waits : (W L n : ℕ) (x : Memory) → setUpQuestion W L n ≡ 0 → (cs : List Call) →
+    (let w = freshWorld W L n x in waitsReply (final cs w .writer) ≡ gives (nextRow W (waitingOf W L (events cs w))))
+unfolding event
+look-waits W L n x s cs = go (waitingOf W L (events cs w)) refl
+  where
+    w : World
+    w = freshWorld W L n x
+
+    e : World
+    e = final cs w
+
+    area : ℕ → Area
+    area k = record { size = k; numbers = λ _. pos 0 }
+
+    drawn-as : (k : ℕ) (g : Given) → drawSays W (waitingOf W L (events cs w)) k ≡ gives g →
+        seen given (drawReply (e .writer) (e .length) k (e .store)) ≡ gives g
+    drawn-as k g z = let d = demand-3 W L n x s cs .1 .draws (area k) .says in cc (d, z)
+
+    go : (l : List RowName) → waitingOf W L (events cs w) ≡ l → waitsReply (e .writer) ≡ gives (nextRow W l)
+    go [] z =
+        let h = named _ none (drawn-as 0 none (ap (λ l. drawSays W l 0) z)) in
+        look-says (e .writer) (e .length) 0 (e .store) (h .0) (h .1) ∙ ap gives (none-is (h .0) (h .2))
+    go (y ∷ l) z =
+        let k = bandColumns W (y .level) (y .band) in
+        let h = named _ (row (answered W y)) (drawn-as k _ (ap (λ l. drawSays W l k) z ∙ simp (le-leb k k (omega arith)))) in
+        look-says (e .writer) (e .length) k (e .store) (h .0) (h .1) ∙ ap gives (row-is (h .0) (answered W y) (h .2))

@@ -1,0 +1,117 @@
+-- `draws::pull` meets its contract: from the offset on, the next band of the set, or its LL row gone on. Assumes nothing.
+use Prim.Native.Nat.{_+_, _-_}
+use native.Mathlib.Omega.{arith}
+use borrow.Author.Needs.{needs}
+use Rattle.numbers.specs.Signal.{at}
+use Rattle.wavelet.proofs.StoreLaws.{store-le}
+use Rattle.writer.proofs.CountLaws.{prev-is, made-le}
+use Rattle.writer.proofs.RestLaws.{at-rest, at-join}
+use Rattle.writer.proofs.CascadeLaws.{left-small}
+use Rattle.writer.proofs.DrawLaws.{pull-waits, pull-goes}
+use Rattle.writer.proofs.draws.pull.Statement.{statement}
+use Rattle.writer.proofs.draws.pull.Tie as tie
+
+level-of-requires : tie.Need-level-of-requires
+level-of-requires c κs = c .pre .walk
+
+made-requires : tie.Need-made-requires
+made-requires c κs = tt
+
+prev-requires : tie.Need-prev-requires
+prev-requires c κs = tt
+
+prev-requires-2 : tie.Need-prev-requires-2
+prev-requires-2 c κs = tt
+
+next-band-requires : tie.Need-next-band-requires
+next-band-requires c κs = tt
+
+returns : tie.Need-returns
+returns c =
+    let b = c .before in
+    let a = b .before .before .before .before .before .args in
+    let q = b .before .before .before .before .level-of in
+    pull-waits (a .s) (q .result) (q .ensures) (b .before .before .before .before .before .pre .placed) (at (a .store .now)) _ _ _ _
+    (b .before .before .before .made .ensures) (b .before .before .prev .ensures) (b .before .prev2 .ensures) (b .next-band .ensures) (omega arith)
+    (omega arith)
+
+mul-pass-on : tie.Need-mul-pass-on
+mul-pass-on c = search needs
+
+sub-pass-on : tie.Need-sub-pass-on
+sub-pass-on c = search needs
+
+part-pass-on-start : tie.Need-part-pass-on-start
+part-pass-on-start c = search needs
+
+part-pass-on-end : tie.Need-part-pass-on-end
+part-pass-on-end c = search needs
+
+pass-on-requires : tie.Need-pass-on-requires
+pass-on-requires c κs =
+    let b = c .before .before in
+    let q = b .before .before .before .before .level-of in
+    let s = b .before .before .before .before .before .args .s in
+    omega (
+      arith,
+      q .ensures .room,
+      q .ensures .deep,
+      b .before .before .before .before .before .pre .placed,
+      prev-is
+          (b .before .before .before .made .result),
+      made-le (q .result .closed) (q .result .rows),
+    )
+
+sub-deeper-by : tie.Need-sub-deeper-by
+sub-deeper-by c = search needs
+
+deeper-by-requires : tie.Need-deeper-by-requires
+deeper-by-requires c κs = search needs
+
+further-requires : tie.Need-further-requires
+further-requires c κs =
+    let p = c .before .before .before in
+    let b = p .before .before .before in
+    let q = b .before .before .before .before .level-of in
+    let s = b .before .before .before .before .before .args .s in
+    let o = left-small (q .result .below + 1) (q .result .width) _ _ _ (q .ensures .wide)
+    (omega (arith, q .ensures .deep, b .before .before .before .before .before .pre .walk)) (p .pass-on .ensures) in
+    let d = b .before .before .before .before .before .pre in
+    omega (arith, store-le (s .width) (s .levels), q .ensures .room, d .placed, d .walk .wide, d .walk .deep)
+
+same-length : tie.Need-same-length
+same-length c = search needs
+
+returns-2 : tie.Need-returns-2
+returns-2 c =
+    let p = c .before .before .before .before in
+    let b = p .before .before .before in
+    let a = b .before .before .before .before .before .args in
+    let q = b .before .before .before .before .level-of in
+    let l = a .store .now in
+    let e = b .before .before .before .before .before .pre in
+    pull-goes (a .s) (q .result) (q .ensures) (e .placed) (at l) _ _ _ _
+    (b .before .before .before .made .ensures) (b .before .before .prev .ensures) (b .before .prev2 .ensures) (b .next-band .ensures)
+    _ (at (p .pass-on .last .0)) _ _ _ (omega arith) (omega arith) (rw (at-rest (a .s .offset) l) at (p .pass-on .ensures))
+    (at-join (a .s .offset) l (p .pass-on .last .0) (omega (arith, q .ensures .room, e .placed))) (c .before .deeper-by .ensures) (c .further .ensures)
+
+pub pull-spec : {M : Type 1} → statement M
+pull-spec =
+    tie.close
+    (tie.spec
+    level-of-requires
+    made-requires
+    prev-requires
+    prev-requires-2
+    next-band-requires
+    returns
+    mul-pass-on
+    sub-pass-on
+    part-pass-on-start
+    part-pass-on-end
+    pass-on-requires
+    sub-deeper-by
+    deeper-by-requires
+    further-requires
+    same-length
+    returns-2)

@@ -1,0 +1,210 @@
+-- The writer as it was before it carried an offset: eight counts, and the walk down the levels (`waiting`, `pull`) finds the level's stretch for every row.
+-- It is the reference of `same-events` and `same-store` (proofs/Offset.antt); no contract cites it.
+use mathlib.Core.Bool.{Bool, true, false, not}
+use mathlib.Core.List.{List, [], _∷_}
+use Prim.Native.Nat.{ℕ, zero, suc, _+_}
+use lib.IntN.{pos}
+use lib.ListN.{length}
+use lib.Dec.{leb, ltb, eqb}
+use Rattle.numbers.specs.Signal.{pick, both}
+use Rattle.lifting.specs.Halves.{fronted}
+use Rattle.wavelet.specs.Limits.{maxWidth, maxHeight, maxLevels}
+use Rattle.wavelet.specs.Questions.{ask, within}
+use Rattle.wavelet.specs.Store.{storeLength}
+use Rattle.writer.specs.Level.{Memory}
+use Rattle.writer.specs.Counts.{mostLeft}
+use Rattle.writer.specs.FiveThreeLevel.{fiveThree, cellOf}
+use Rattle.writer.specs.Machine.{Out, rest, arrive}
+use Rattle.writer.specs.Draws.{Waiting, waiting, pull}
+use Rattle.writer.specs.Closing.{Shut, shut}
+use Rattle.writer.specs.Taking.{stored}
+use Rattle.writer.specs.Questions.{either}
+use Rattle.writer.specs.Answers.{unless, changedUnless}
+use Rattle.writer.specs.Calls.{setUpStore, bandRow}
+use Rattle.writer.specs.History.{Area, Call, offer, draw, finish, Given, row, none, Event, offered, drew, finished}
+
+pub record Before : Type 0 where
+  pub width : ℕ
+  pub levels : ℕ
+  pub rows : ℕ
+  pub column : ℕ
+  pub finished : Bool
+  pub closed : ℕ
+  pub level : ℕ
+  pub left : ℕ
+
+abbrev pub at : (W L r c : ℕ) → Bool → (cl v i : ℕ) → Before
+at W L r c f cl v i = record { width = W; levels = L; rows = r; column = c; finished = f; closed = cl; level = v; left = i }
+
+-- ---- heights taken
+pub record Taking : Type 0 where
+  pub taken : ℕ
+  pub writer : Before
+  pub store : Memory
+
+unfoldable pub takes : Before → Bool
+takes s = both (eqb (s .level) 0) (ltb (s .rows) maxHeight)
+
+abbrev pub begun : Before → Before
+begun s = at (s .width) (s .levels) (s .rows) (s .column + 1) (s .finished) (s .closed) (s .level) (s .left)
+
+abbrev pub complete : Before → Out → Before
+complete s o = at (s .width) (s .levels) (s .rows + 1) 0 (s .finished) (s .closed) (o .level) (o .left)
+
+abbrev pub untaken : Before → Memory → Taking
+untaken s x = record { taken = 0; writer = s; store = x }
+
+abbrev pub oneMore : Taking → Taking
+oneMore t = record { taken = suc (t .taken); writer = t .writer; store = t .store }
+
+abbrev pub heightPut : ℕ → Before → Memory → Memory
+heightPut h s x = stored (cellOf (s .width) (s .rows) (s .column)) (pos h) x
+
+abbrev pub rowMakes : Before → Memory → Out
+rowMakes s x = arrive fiveThree (s .levels) (s .width) (s .rows) x
+
+unfoldable pub offering : List ℕ → Before → Memory → Taking
+offering [] s x = untaken s x
+offering (h ∷ run) s x =
+    pick (takes s)
+    (oneMore
+    (pick (ltb (s .column + 1) (s .width))
+    (offering run (begun s) (heightPut h s x))
+    (offering run (complete s (rowMakes s (heightPut h s x))) (rowMakes s (heightPut h s x) .store))))
+    (untaken s x)
+
+-- ---- the questions
+unfoldable pub inRanges : Before → Bool
+inRanges s =
+    both (within 1 maxWidth (s .width))
+    (both (within 1 maxLevels (s .levels))
+    (both (leb (s .rows) maxHeight)
+    (both (ltb (s .column) (s .width))
+    (both (leb (s .closed) (s .levels))
+    (both (leb (s .level) (s .levels))
+    (leb (s .left) (mostLeft (s .levels) (s .level))))))))
+
+unfoldable pub longEnough : ℕ → Before → Bool
+longEnough n s = leb (storeLength (s .width) (s .levels)) n
+
+abbrev pub waitingRow : Before → Waiting
+waitingRow s = waiting fiveThree (s .levels) (s .width) (s .closed) (s .level) (s .left) (s .rows)
+
+unfoldable pub offerQuestion : Before → ℕ → ℕ → ℕ
+offerQuestion s n k =
+    ask (inRanges s) 1
+    (ask (longEnough n s) 5
+    (ask (not (s .finished)) 9
+    (ask (eqb (s .level) 0) 8
+    (ask (either (eqb k 0) (ltb (s .rows) maxHeight)) 10
+    0))))
+
+unfoldable pub drawQuestion : Before → ℕ → ℕ → ℕ
+drawQuestion s n k =
+    ask (inRanges s) 1
+    (ask (longEnough n s) 5
+    (ask (either (eqb (s .level) 0) (leb (waitingRow s .length) k)) 12
+    0))
+
+unfoldable pub finishQuestion : Before → ℕ → ℕ
+finishQuestion s n =
+    ask (inRanges s) 1
+    (ask (longEnough n s) 5
+    (ask (not (s .finished)) 9
+    (ask (eqb (s .level) 0) 8
+    (ask (both (ltb 0 (s .rows)) (eqb (s .column) 0)) 11
+    0))))
+
+-- ---- what a finish and a draw leave
+abbrev pub waits : Bool → Before → Shut → Before
+waits f s r = at (s .width) (s .levels) (s .rows) (s .column) f (r .closed) (r .out .level) (r .out .left)
+
+abbrev pub closing : Before → Memory → Shut
+closing s x = shut fiveThree (s .levels) (s .width) 0 (s .rows) x
+
+unfoldable pub resumed : Bool → Before → Out → ℕ → Shut
+resumed false s o v = record { closed = s .closed; out = o }
+resumed true s o zero = shut fiveThree (s .levels) (s .width) (s .closed) (s .rows) (o .store)
+resumed true s o (suc v) = record { closed = s .closed; out = o }
+
+abbrev pub pulled : Before → Memory → Out
+pulled s x = pull fiveThree (s .levels) (s .width) (s .closed) (s .level) (s .left) (s .rows) x
+
+abbrev pub afterDraw : Before → Memory → Shut
+afterDraw s x = resumed (s .finished) s (pulled s x) (pulled s x .level)
+
+-- v is the writer's level: 0, and nothing waits
+abbrev pub handed : ℕ → Before → Given
+handed zero s = none
+handed (suc v) s = row (bandRow (waitingRow s))
+
+abbrev pub handedWriter : ℕ → Before → Memory → Before
+handedWriter zero s x = s
+handedWriter (suc v) s x = waits (s .finished) s (afterDraw s x)
+
+abbrev pub handedStore : ℕ → Before → Memory → Memory
+handedStore zero s x = x
+handedStore (suc v) s x = afterDraw s x .out .store
+
+abbrev pub handedArea : ℕ → Before → Memory → Memory → Memory
+handedArea zero s x z = z
+handedArea (suc v) s x z = fronted (waitingRow s .length) (rest (waitingRow s .start) x) z
+
+-- ---- each call is made on the state and store that the one before left
+pub record World : Type 0 where
+  pub writer : Before
+  pub length : ℕ
+  pub store : Memory
+
+abbrev pub world : Before → ℕ → Memory → World
+world s n x = record { writer = s; length = n; store = x }
+
+-- what is seen of a call, and what it leaves; q is the number of the question that turns it away, or 0
+module _ (w : World) where
+  abbrev s : Before
+  s = w .writer
+
+  abbrev x : Memory
+  x = w .store
+
+  unfoldable pub offerEvent : List ℕ → ℕ → Event
+  offerEvent run q = offered run (unless q (offering run s x .taken))
+
+  unfoldable pub offerNext : List ℕ → ℕ → World
+  offerNext run q = world (changedUnless q (offering run s x .writer) s) (w .length) (changedUnless q (offering run s x .store) x)
+
+  unfoldable pub drawEvent : Area → ℕ → Event
+  drawEvent a q =
+      drew a (unless q (handed (s .level) s))
+      (record { size = a .size; numbers = changedUnless q (handedArea (s .level) s x (a .numbers)) (a .numbers) })
+
+  unfoldable pub drawNext : ℕ → World
+  drawNext q = world (changedUnless q (handedWriter (s .level) s x) s) (w .length) (changedUnless q (handedStore (s .level) s x) x)
+
+  unfoldable pub finishEvent : ℕ → Event
+  finishEvent q = finished (unless q tt)
+
+  unfoldable pub finishNext : ℕ → World
+  finishNext q = world (changedUnless q (waits true s (closing s x)) s) (w .length) (changedUnless q (closing s x .out .store) x)
+
+unfoldable pub event : Call → World → Event
+event (offer run) w = offerEvent w run (offerQuestion (w .writer) (w .length) (length run))
+event (draw a) w = drawEvent w a (drawQuestion (w .writer) (w .length) (a .size))
+event finish w = finishEvent w (finishQuestion (w .writer) (w .length))
+
+unfoldable pub next : Call → World → World
+next (offer run) w = offerNext w run (offerQuestion (w .writer) (w .length) (length run))
+next (draw a) w = drawNext w (drawQuestion (w .writer) (w .length) (a .size))
+next finish w = finishNext w (finishQuestion (w .writer) (w .length))
+
+unfoldable pub events : List Call → World → List Event
+events [] w = []
+events (c ∷ cs) w = event c w ∷ events cs (next c w)
+
+unfoldable pub final : List Call → World → World
+final [] w = w
+final (c ∷ cs) w = final cs (next c w)
+
+-- a set-up that passed
+abbrev pub freshWorld : ℕ → ℕ → ℕ → Memory → World
+freshWorld W L n x = world (at W L 0 0 false 0 0 0) n (setUpStore W L n x)
