@@ -3,3 +3,4 @@ pub mod Steady
 pub mod WordLaws
 pub mod StateTheorems
 pub mod WriterListsHold
+pub mod ReaderListsHold

@@ -4,4 +4,5 @@ pub mod WriterCalls
 pub mod WriterLists
 pub mod ReaderState
 pub mod ReaderCalls
+pub mod ReaderLists
 pub mod Version
