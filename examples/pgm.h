@@ -59,8 +59,8 @@ static inline const char *pgm_read(const char *path, Pgm *map)
         most = pgm_number(file);
         if (map->width < 1 || map->height < 1 || most < 1 || most > 65535)
             wrong = "its header is not: P5, width, height, largest height (at most 65535)";
-        else if (map->width > 1000000 || map->height > 1000000)
-            wrong = "it is too large: a map has at most 2,049 columns and 65,535 rows";
+        else if (map->width > 1000000)
+            wrong = "it is too large: a map has at most 2,049 columns";
         else
             wrong = pgm_samples(file, map, most);
     }

@@ -28,8 +28,8 @@ uint32_t terrain_line_forward(const int32_t *line, size_t line_len, int32_t *out
 uint32_t terrain_line_backward(const int32_t *coefficients, size_t coefficients_len, int32_t *out, size_t out_len);
 
 /* The whole map: `height` rows of `width` heights to the plane of its coefficients at `levels` levels, and back. Width 1 to 2,049,
- * height 1 to 65,535, levels 1 to 5; heights, plane and work area each have at least width * height elements, and where a call passes
- * (or gives 14) the first width * height elements of the work area are zero afterwards.
+ * height 1 to 4,294,967,295, levels 1 to 5; heights, plane and work area each have at least width * height elements, and where a call
+ * passes (or gives 14) the first width * height elements of the work area are zero afterwards.
  *
  * The plane, row by row: at level k the rows of LL (kept at the last level only) stand at the left of the first rows, HL to the right of
  * them, LH below them, HH below HL; `terrain_band_row` says where each one is.
@@ -63,9 +63,10 @@ size_t terrain_store_length(size_t width, size_t levels);
 /* A fresh writer of maps of that width: the needed part of the store is zeroed. 2 (width), 4 (levels), 5 (the store is too short). */
 uint32_t terrain_writer_set_up(uint64_t state[16], size_t width, size_t levels, int32_t *store, size_t store_len);
 
-/* The next heights of the map, row by row; a run may begin and end anywhere. It takes heights until a band row waits, 65,535 rows are
- * complete or the run is used up, and says in *taken how many: offer the others again once every row that waits is drawn.
- * 1; 5 (the store is too short); 9 (finished already); 8 (a row waits: draw first); 10 (65,535 rows are complete; an empty run passes). */
+/* The next heights of the map, row by row; a run may begin and end anywhere. It takes heights until a band row waits, 4,294,967,295
+ * rows are complete or the run is used up, and says in *taken how many: offer the others again once every row that waits is drawn.
+ * 1; 5 (the store is too short); 9 (finished already); 8 (a row waits: draw first); 10 (4,294,967,295 rows are complete; an empty run
+ * passes). */
 uint32_t terrain_writer_offer(uint64_t state[16], int32_t *store, size_t store_len, const uint16_t *run, size_t run_len, size_t *taken);
 
 /* The band row that waits: its level (1 the finest), band (0 LL, 1 HL, 2 LH, 3 HH), number and length in row[0] to row[3], its values at

@@ -102,8 +102,8 @@ int main(int argc, char **argv)
         fprintf(stderr, "%s: %s\n", argv[1], wrong);
         return 1;
     }
-    if (map.width > 2049 || map.height > 65535) {
-        fprintf(stderr, "%s: %lu x %lu heights, and a map has at most 2,049 columns and 65,535 rows\n", argv[1], (unsigned long)map.width,
+    if (map.width > 2049) {
+        fprintf(stderr, "%s: %lu x %lu heights, and a map has at most 2,049 columns\n", argv[1], (unsigned long)map.width,
                 (unsigned long)map.height);
         free(map.heights);
         return 1;

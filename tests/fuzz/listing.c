@@ -10,7 +10,7 @@
 #include <sys/wait.h>
 #include <unistd.h>
 
-enum { CELLS = 1 << 14, WIDEST = 1025, ROOM = 1 << 20 };
+enum { CELLS = 1 << 14, WIDEST = 1025, HIGHEST = 65535, ROOM = 1 << 20 };
 
 static char wanted[ROOM], found[ROOM];
 static size_t wanted_len;
@@ -54,7 +54,7 @@ static int head(size_t *levels, size_t *w, size_t *h)
     if (end - at < 3 || memcmp(at, "\nP5", 3)) return 0;
     at += 3;
     return number_after_space(w) && number_after_space(h) && number_after_space(&most) && space() && *w >= 1 && *w <= WIDEST && *h >= 1 &&
-           *h <= MOST_HEIGHT && most == 65535;
+           *h <= HIGHEST && most == 65535;
 }
 
 /* ---- the rows that wait, as lines */

@@ -42,7 +42,7 @@ impl Question {
         match (self.number, self.call) {
             (1, _) => "the state is none that its calls made: a count is outside its range",
             (2, _) => "the width is not 1 to 2,049",
-            (3, _) => "the height is not 1 to 65,535",
+            (3, _) => "the height is not 1 to 4,294,967,295",
             (4, _) => "the number of levels is not 1 to 5",
             (5, Call::Line) => "the output is shorter than the line",
             (5, Call::WriterSetUp | Call::ReaderSetUp) => {
@@ -61,7 +61,7 @@ impl Question {
             (8, _) => "a band row waits: draw until nothing is left, then call again",
             (9, Call::Feed | Call::ReaderDraw) => "the reader has ended: no map has the rows that were fed",
             (9, _) => "the writer is finished",
-            (10, _) => "the map already has 65,535 rows, the most that it can have",
+            (10, _) => "the map already has 4,294,967,295 rows, the most that it can have",
             (11, _) => "the map has no row yet, or its last row is not complete",
             (12, Call::ReaderDraw) => "the output is shorter than a height row, which is as long as the map is wide",
             (12, _) => "the output is shorter than the band row that waits",

@@ -11,7 +11,7 @@ use Rattle.pgm.specs.Samples.{noByte, sampleOf}
 use Rattle.pgm.specs.Steps.{stepOf}
 use Rattle.pgm.specs.declared.header.Next.{Next}
 use Rattle.pgm.specs.declared.samples.Sample.{Sample}
-use Rattle.listing.specs.Listing.{levelDigit, maxListedWidth, shapeFits}
+use Rattle.listing.specs.Listing.{levelDigit, maxListedWidth, maxListedHeight, shapeFits}
 use Rattle.listing.specs.Hearing.{phased, nay, levelsHeard, lineFeedHeard, shapeHeard, nextHeard, headerHeard, sampleHeard, heightHeard, hears, endHeard}
 use Rattle.listing.specs.declared.input.Input.{Input}
 use Rattle.listing.specs.declared.input.Heard.{Heard}
@@ -77,11 +77,11 @@ module _ (i : Input) (w h : ℕ) where
   unfolding shapeHeard shapeFits maxListedWidth
   shape-wide e = rw e
 
-  pub shape-high : within 1 1025 w ≡ true → within 1 65535 h ≡ false → nay i ≡ shapeHeard i w h
+  pub shape-high : within 1 1025 w ≡ true → within 1 maxListedHeight h ≡ false → nay i ≡ shapeHeard i w h
   unfolding shapeHeard shapeFits maxListedWidth
   shape-high e f = rw (e, f)
 
-  pub shape-yes : (n : ℕ) → within 1 1025 w ≡ true → within 1 65535 h ≡ true → n ≡ w * h
+  pub shape-yes : (n : ℕ) → within 1 1025 w ≡ true → within 1 maxListedHeight h ≡ true → n ≡ w * h
       → heard.Begun (record { phase = 3; levels = i .levels; header = i .header; left = n; samples = i .samples }) w h ≡ shapeHeard i w h
   unfolding shapeHeard shapeFits maxListedWidth
   shape-yes n e f g = rw (e, f, g)

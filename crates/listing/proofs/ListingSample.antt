@@ -13,17 +13,17 @@ use Rattle.pgm.specs.Header.{one, numberFrom, side, sized, headerEnd, headerOf}
 use Rattle.pgm.specs.Samples.{heightsOf}
 use Rattle.listing.specs.Decimal.{digitsOf, numeral, integer}
 use Rattle.listing.specs.Lines.{spaced, rowHead, rowLine, lineOf, linesOf, sizeLine}
-use Rattle.listing.specs.Listing.{levelDigit, maxListedWidth, shapeFits, headEnd, headOf, heightsTaken, gridOf, linesDue, bodyOf, listingOf}
+use Rattle.listing.specs.Listing.{levelDigit, maxListedWidth, maxListedHeight, shapeFits, headEnd, headOf, heightsTaken, gridOf, linesDue, bodyOf, listingOf}
 
 -- 2, P5 1 4 65535, and the heights 1, 4, 2 and the first byte of 7
 abbrev input : List ℕ
 input = 50 ∷ 10 ∷ 80 ∷ 53 ∷ 32 ∷ 49 ∷ 32 ∷ 52 ∷ 32 ∷ 54 ∷ 53 ∷ 53 ∷ 51 ∷ 53 ∷ 10 ∷ 0 ∷ 1 ∷ 0 ∷ 4 ∷ 0 ∷ 2 ∷ 0 ∷ []
 
 whole : listingOf (input ++ (7 ∷ [])) ≡ 49 ∷ 32 ∷ 52 ∷ 32 ∷ 50 ∷ 10 ∷ 49 ∷ 32 ∷ 76 ∷ 72 ∷ 32 ∷ 48 ∷ 32 ∷ 51 ∷ 10 ∷ 49 ∷ 32 ∷ 76 ∷ 72 ∷ 32 ∷ 49 ∷ 32 ∷ 53 ∷ 10 ∷ 50 ∷ 32 ∷ 76 ∷ 76 ∷ 32 ∷ 48 ∷ 32 ∷ 52 ∷ 10 ∷ 50 ∷ 32 ∷ 76 ∷ 72 ∷ 32 ∷ 48 ∷ 32 ∷ 49 ∷ 10 ∷ []
-unfolding listingOf headOf levelDigit maxListedWidth shapeFits headEnd heightsTaken gridOf linesDue bodyOf one numberFrom side sized headerEnd headerOf space digit heightsOf within made inTurn closing madeBy setRows rowsOf hasRow handedOut linesOf lineOf rowLine rowHead spaced sizeLine integer numeral digitsOf levelBand approximation size bandColumns subband columnsLifted across down lineForward low high highAt mirror predicted updated count
+unfolding listingOf headOf levelDigit maxListedWidth maxListedHeight shapeFits headEnd heightsTaken gridOf linesDue bodyOf one numberFrom side sized headerEnd headerOf space digit heightsOf within made inTurn closing madeBy setRows rowsOf hasRow handedOut linesOf lineOf rowLine rowHead spaced sizeLine integer numeral digitsOf levelBand approximation size bandColumns subband columnsLifted across down lineForward low high highAt mirror predicted updated count
 whole = refl
 
 -- the lines that three rows make due, then the refusal
 short : listingOf input ≡ 49 ∷ 32 ∷ 52 ∷ 32 ∷ 50 ∷ 10 ∷ 49 ∷ 32 ∷ 76 ∷ 72 ∷ 32 ∷ 48 ∷ 32 ∷ 51 ∷ 10 ∷ 114 ∷ 101 ∷ 102 ∷ 117 ∷ 115 ∷ 101 ∷ 100 ∷ 32 ∷ 49 ∷ 53 ∷ 10 ∷ []
-unfolding listingOf headOf levelDigit maxListedWidth shapeFits headEnd heightsTaken gridOf linesDue bodyOf one numberFrom side sized headerEnd headerOf space digit heightsOf within made inTurn closing madeBy setRows rowsOf hasRow handedOut linesOf lineOf rowLine rowHead spaced sizeLine integer numeral digitsOf levelBand approximation size bandColumns subband columnsLifted across down lineForward low high highAt mirror predicted updated count
+unfolding listingOf headOf levelDigit maxListedWidth maxListedHeight shapeFits headEnd heightsTaken gridOf linesDue bodyOf one numberFrom side sized headerEnd headerOf space digit heightsOf within made inTurn closing madeBy setRows rowsOf hasRow handedOut linesOf lineOf rowLine rowHead spaced sizeLine integer numeral digitsOf levelBand approximation size bandColumns subband columnsLifted across down lineForward low high highAt mirror predicted updated count
 short = refl

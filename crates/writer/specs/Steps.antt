@@ -1,6 +1,6 @@
 -- What the private functions require and leave: the machine's steps at the 5/3 level.
 use mathlib.Core.Path.{_≡_}
-use Prim.Native.Nat.{ℕ, _+_, _*_, _<_, _≤_}
+use Prim.Native.Nat.{ℕ, _+_, _*_, _^_, _<_, _≤_}
 use Rattle.lifting.specs.Line.{lo, count}
 use Rattle.wavelet.specs.Bands.{LL, code}
 use Rattle.wavelet.specs.Store.{storeLength}
@@ -18,9 +18,9 @@ use Rattle.writer.specs.Calls.{waits, afterDraw}
 -- l levels, the first of w columns, in a store of n numbers; m is a number of rows
 pub record Room (l w m n : ℕ) : Type 0 where
   pub room : storeLength w l ≤ n
-  pub wide : w < 65536
-  pub rows : m < 65536
-  pub deep : l < 65536
+  pub wide : w < 2 ^ 16
+  pub rows : m < 2 ^ 32
+  pub deep : l < 2 ^ 16
 
 -- what a step of l levels leaves: what waits, r, and the store x, as the machine's o
 pub record Left (l : ℕ) (o : Out) (r : Wait) (x : Memory) : Type 0 where
@@ -37,9 +37,9 @@ delivered w n x = joinAt (4 * w) x (rowPut (count lo w) n (λ i. x (bandPlace w 
 pub record Walk (l w v m : ℕ) : Type 0 where
   pub first : 0 < v
   pub last : v ≤ l
-  pub wide : w < 65536
-  pub rows : m < 65536
-  pub deep : l < 65536
+  pub wide : w < 2 ^ 16
+  pub rows : m < 2 ^ 32
+  pub deep : l < 2 ^ 16
 
 abbrev pub spotOf : Waiting → Spot
 spotOf o = record { level = o .level; band = code (o .band); row = o .row; length = o .length; start = o .start }

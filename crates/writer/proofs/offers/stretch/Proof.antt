@@ -2,6 +2,7 @@
 use native.Mathlib.Omega.{arith}
 use lib.ListN.{length}
 use borrow.Author.Needs.{needs}
+use Rattle.wavelet.proofs.LimitLaws.{height-small}
 use Rattle.wavelet.proofs.StoreLaws.{store-back}
 use Rattle.writer.proofs.OfferLaws.{stretched-inside, stretched-whole}
 use Rattle.writer.proofs.offers.stretch.Statement.{statement}
@@ -23,7 +24,7 @@ arrive-requires : tie.Need-arrive-requires
 arrive-requires c κs = search needs
 
 add-t14 : tie.Need-add-t14
-add-t14 c = search needs
+add-t14 c = omega (arith, height-small)
 
 same-length-2 : tie.Need-same-length-2
 same-length-2 c = search needs
