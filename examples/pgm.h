@@ -76,7 +76,7 @@ static inline const char *pgm_map(FILE *file, Pgm *map)
     most = pgm_number(file);
     if (map->width < 1 || map->height < 1 || most < 1 || most > 65535)
         return "its header is not: P5, width, height, largest height (at most 65535)";
-    if (map->width > 1000000 || map->height > 1000000) return "it is too large: a map has at most 2,049 columns and 65,535 rows";
+    if (map->width > 1000000) return "it is too large: a map has at most 2,049 columns";
     return pgm_samples(file, map, most);
 }
 

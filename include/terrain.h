@@ -21,7 +21,7 @@
 
 /* The limits of a map. */
 #define TERRAIN_MAX_WIDTH 2049
-#define TERRAIN_MAX_HEIGHT 65535
+#define TERRAIN_MAX_HEIGHT 4294967295
 #define TERRAIN_MAX_LEVELS 5
 
 /* How many numbers a state has, the row that a draw names, and a want; and the longest line store that any map needs. */
@@ -96,8 +96,8 @@ TERRAIN_CHECKED
 uint32_t terrain_profile(const uint16_t *row, size_t row_len, float *out, size_t out_len);
 
 /* The whole map: `height` rows of `width` heights to the plane of its coefficients at `levels` levels, and back. Width 1 to 2,049,
- * height 1 to 65,535, levels 1 to 5; heights, plane and work area each have at least width * height elements, and where a call passes
- * (or gives 14) the first width * height elements of the work area are zero afterwards.
+ * height 1 to 4,294,967,295, levels 1 to 5; heights, plane and work area each have at least width * height elements, and where a call
+ * passes (or gives 14) the first width * height elements of the work area are zero afterwards.
  *
  * The plane, row by row: at level k the rows of LL (kept at the last level only) stand at the left of the first rows, HL to the right of
  * them, LH below them, HH below HL; `terrain_band_row` says where each one is.
@@ -136,9 +136,10 @@ size_t terrain_store_length(size_t width, size_t levels);
 TERRAIN_CHECKED
 uint32_t terrain_writer_set_up(uint64_t state[16], size_t width, size_t levels, int32_t *store, size_t store_len);
 
-/* The next heights of the map, row by row; a run may begin and end anywhere. It takes heights until a band row waits, 65,535 rows are
- * complete or the run is used up, and says in *taken how many: offer the others again once every row that waits is drawn.
- * 1; 5 (the store is too short); 9 (finished already); 8 (a row waits: draw first); 10 (65,535 rows are complete; an empty run passes). */
+/* The next heights of the map, row by row; a run may begin and end anywhere. It takes heights until a band row waits, 4,294,967,295
+ * rows are complete or the run is used up, and says in *taken how many: offer the others again once every row that waits is drawn.
+ * 1; 5 (the store is too short); 9 (finished already); 8 (a row waits: draw first); 10 (4,294,967,295 rows are complete; an empty run
+ * passes). */
 TERRAIN_CHECKED
 uint32_t terrain_writer_offer(uint64_t state[16], int32_t *store, size_t store_len, const uint16_t *run, size_t run_len, size_t *taken);
 
@@ -192,14 +193,14 @@ TERRAIN_INLINE const char *terrain_sentence(uint32_t number)
         "nothing is wrong",                                                            /* 0 */
         "the state is none that its calls made: a count is outside its range",         /* 1 */
         "the width is not 1 to 2,049",                                                 /* 2 */
-        "the height is not 1 to 65,535",                                               /* 3 */
+        "the height is not 1 to 4,294,967,295",                                        /* 3 */
         "the number of levels is not 1 to 5",                                          /* 4 */
         "an area that was lent is too short",                                          /* 5 */
         "there is no such band row",                                                   /* 6 */
         "a coefficient is outside its level's range",                                  /* 7 */
         "it is not this call's turn: a band row waits to be drawn, or none is wanted", /* 8 */
         "it is over: the writer is finished, or the reader ended after 14",            /* 9 */
-        "the map already has 65,535 rows",                                             /* 10 */
+        "the map already has 4,294,967,295 rows",                                      /* 10 */
         "the map has no row yet, or its last row is not complete",                     /* 11 */
         "the output area is too short for the row",                                    /* 12 */
         "the run has not the length of the band row that is wanted",                   /* 13 */

@@ -110,8 +110,8 @@ static int check_map(const char *path, const Pgm *map, uint64_t seed)
     const char *name = input_name(path);
     Check c = {path, map, seed, 0, 0, progress_begin()};
     int status = STATUS_UNABLE;
-    if (map->width > TERRAIN_MAX_WIDTH || map->height > TERRAIN_MAX_HEIGHT) {
-        fprintf(stderr, "terrain: %s: %lu x %lu heights, and a map has at most 2,049 columns and 65,535 rows\n", name, (unsigned long)map->width,
+    if (map->width > TERRAIN_MAX_WIDTH) {
+        fprintf(stderr, "terrain: %s: %lu x %lu heights, and a map has at most 2,049 columns\n", name, (unsigned long)map->width,
                 (unsigned long)map->height);
         return STATUS_REFUSED;
     }

@@ -11,7 +11,7 @@
 #include <sys/wait.h>
 #include <unistd.h>
 
-enum { CELLS = 1 << 14, WIDEST = 1025, ROOM = 1 << 20 };
+enum { CELLS = 1 << 14, WIDEST = 1025, HIGHEST = 65535, ROOM = 1 << 20 };
 
 static char wanted[ROOM], found[ROOM];
 static size_t wanted_len;
@@ -58,7 +58,7 @@ static int head(size_t *levels, size_t *w, size_t *h, size_t *most)
     if (end - at < 3 || memcmp(at, "\nP5", 3)) return 0;
     at += 3;
     return number_after_gaps(w) && number_after_gaps(h) && number_after_gaps(most) && gap() && *w >= 1 && *w <= WIDEST && *h >= 1 &&
-           *h <= MOST_HEIGHT && *most >= 1 && *most <= 65535;
+           *h <= HIGHEST && *most >= 1 && *most <= 65535;
 }
 
 /* ---- the rows that wait, as lines */

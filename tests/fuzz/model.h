@@ -7,7 +7,9 @@
 #include <stdlib.h>
 #include <string.h>
 
-enum { LL, HL, LH, HH, MOST_WIDTH = 2049, MOST_HEIGHT = 65535, MOST_LEVELS = 5 };
+enum { LL, HL, LH, HH, MOST_WIDTH = 2049, MOST_LEVELS = 5 };
+
+static const uint64_t MOST_HEIGHT = 4294967295;
 
 static inline size_t side(size_t n, size_t level)
 {

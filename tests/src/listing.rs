@@ -1,9 +1,11 @@
 //! A second listing, straight from document 01, "The listing program", and 02, Q-1: the whole input in, the whole output back. The order of the rows is
 //! `order`'s, their values the reference transform's.
-use crate::maps::{forward, MAX_HEIGHT};
+use crate::maps::forward;
 use crate::order::{place, BandRow, Writer};
 
 const MAX_WIDTH: usize = 1_025;
+const MAX_HEIGHT: usize = 65_535;
+
 struct Head<'a> {
     levels: usize,
     width: usize,

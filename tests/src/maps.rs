@@ -5,7 +5,7 @@ use crate::reference;
 
 /// The limits of document 01.
 pub const MAX_WIDTH: usize = 2_049;
-pub const MAX_HEIGHT: usize = 65_535;
+pub const MAX_HEIGHT: usize = 4_294_967_295;
 pub const MAX_LEVELS: usize = 5;
 
 /// Largest magnitude of a coefficient of a level; of level 0, the largest height.

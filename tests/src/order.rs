@@ -50,11 +50,13 @@ pub struct Writer {
     complete: Vec<usize>,
     finished: bool,
     waiting: VecDeque<BandRow>,
+    /// the row limit
+    pub limit: usize,
 }
 
 impl Writer {
     pub fn new(width: usize, levels: usize) -> Self {
-        Writer { width, levels, begun: 0, complete: vec![0; levels + 1], finished: false, waiting: VecDeque::new() }
+        Writer { width, levels, begun: 0, complete: vec![0; levels + 1], finished: false, waiting: VecDeque::new(), limit: MAX_HEIGHT }
     }
 
     pub fn rows(&self) -> usize {
@@ -104,11 +106,11 @@ impl Writer {
         if !self.waiting.is_empty() {
             return Err(8);
         }
-        if run > 0 && self.rows() >= MAX_HEIGHT {
+        if run > 0 && self.rows() >= self.limit {
             return Err(10);
         }
         let mut taken = 0;
-        while taken < run && self.waiting.is_empty() && self.rows() < MAX_HEIGHT {
+        while taken < run && self.waiting.is_empty() && self.rows() < self.limit {
             taken += 1;
             self.begun += 1;
             if self.begun == self.width {

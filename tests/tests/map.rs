@@ -221,6 +221,26 @@ fn the_view_is_the_plane_s_band_row() {
     }
 }
 
+#[test]
+fn the_view_of_the_longest_maps() {
+    for width in [1, 2, 3, 1_000, MAX_WIDTH] {
+        for height in [MAX_HEIGHT - 1, MAX_HEIGHT] {
+            for levels in 1..=MAX_LEVELS {
+                let s = Shape { width, height, levels };
+                for (level, band) in (1..=levels).flat_map(|k| (0..4).map(move |b| (k, b))) {
+                    let (low, high) = (side(height, level), side(height, level - 1) / 2);
+                    for row in [0, 1, 65_535, 65_536, high - 1, high, low - 1, low, height - 1, height, 1 << 32] {
+                        let got = band_row(width * height, s, level, band, row);
+                        assert_eq!(got, expected(s, level, band, row).ok_or(6), "{s:?} {level} {band} {row}");
+                    }
+                }
+                assert_eq!(band_row(width * height - 1, s, 1, 2, 0), Err(5), "{s:?}");
+            }
+        }
+    }
+    assert_eq!(band_row(usize::MAX, Shape { width: 1, height: MAX_HEIGHT + 1, levels: 1 }, 1, 2, 0), Err(3));
+}
+
 /// Start and length by document 01, "The plane".
 fn expected(s: Shape, level: usize, band: usize, row: usize) -> Option<(usize, usize)> {
     if level < 1 || level > s.levels || band > 3 || (band == 0 && level < s.levels) {

@@ -15,6 +15,10 @@ const SURPLUS: usize = 5;
 /// Where docs/STATE.md has the flag of a reader that 14 ended.
 const ENDED: usize = 7;
 
+/// And the height and the number of rows drawn.
+const HEIGHT: usize = 2;
+const DRAWN: usize = 4;
+
 /// A reader beside what it must answer, over one plane, a map's or not.
 struct Play<'a> {
     shape: Shape,
@@ -24,6 +28,8 @@ struct Play<'a> {
     turns: Vec<Turn>,
     at: usize,
     ended: bool,
+    /// rows that the state says were drawn before the map's own
+    skipped: usize,
     state: State,
     store: Guarded,
 }
@@ -37,7 +43,7 @@ impl<'a> Play<'a> {
         assert_eq!(reader::set_up(&mut state, shape, store.lent()), Ok(()), "{shape:?}");
         assert!(store.content()[..needed].iter().all(|&v| v == 0), "set-up zeroes the needed part");
         let (grids, turns) = (maps::rebuilt(plane, width, height, levels), order::steps(width, height, levels));
-        Play { shape, plane, grids, turns, at: 0, ended: false, state, store }
+        Play { shape, plane, grids, turns, at: 0, ended: false, skipped: 0, state, store }
     }
 
     fn step(&self) -> Option<Step> {
@@ -59,7 +65,7 @@ impl<'a> Play<'a> {
     fn want(&self) {
         let wanted = match self.step() {
             _ if self.ended => Want::Ended,
-            Some(Step::Feed(r)) => Want::Row(r),
+            Some(Step::Feed(r)) => Want::Row(BandRow { row: r.row + (self.skipped >> r.level), ..r }),
             Some(Step::Draw(_)) => Want::Draw,
             None => Want::Done,
         };
@@ -221,12 +227,63 @@ fn larger_and_odd_sizes() {
     let mut random = Random::new(23);
     let mut shapes: Vec<(usize, usize)> = (0..80).map(|_| (1 + random.below(130), 1 + random.below(70))).collect();
     shapes.extend((0..20).map(|_| (1 + random.below(MAX_WIDTH), 1 + random.below(12))));
-    shapes.extend([(2_049, 1), (2_049, 2), (2_049, 9), (2_048, 6), (2_047, 5), (1_025, 34), (1, MAX_HEIGHT), (2, 40_001)]);
+    shapes.extend([(2_049, 1), (2_049, 2), (2_049, 9), (2_048, 6), (2_047, 5), (1_025, 34), (1, 65_535), (2, 40_001)]);
     for (width, height) in shapes {
         for levels in [1, 2 + random.below(3), MAX_LEVELS] {
             let mut all = maps::maps(width, height);
             let plane = maps::forward(&all.swap_remove(random.below(all.len())), width, height, levels);
             assert_eq!(Play::new(&plane, Shape { width, height, levels }).run(&mut random), 0);
+        }
+    }
+}
+
+/// A reader a few rows below the limit: one in the middle of a map, whose state is told that the map is the longest there is and that as many
+/// more rows are drawn. What it answers then is what it answers without, but for the row numbers.
+fn near_the_limit<'a>(plane: &'a [i32], shape: Shape) -> Play<'a> {
+    let period = 4 << shape.levels;
+    let mut play = Play::new(plane, shape);
+    while play.state[DRAWN] < period {
+        match play.step() {
+            Some(Step::Feed(r)) => assert_eq!(play.feed(&play.row(r)), Ok(())),
+            _ => assert_eq!(play.draw(shape.width), Ok(shape.width)),
+        }
+    }
+    play.skipped = MAX_HEIGHT - shape.height;
+    assert_eq!(play.skipped as u64 % period, 0);
+    play.state[HEIGHT] += play.skipped as u64;
+    play.state[DRAWN] += play.skipped as u64;
+    play
+}
+
+#[test]
+fn the_row_limit() {
+    let mut random = Random::new(27);
+    for (width, levels) in [(1, 1), (1, 5), (2, 3), (5, 2), (9, 5)] {
+        let shape = Shape { width, height: 3 * (4 << levels) - 1, levels };
+        for heights in maps::maps(width, shape.height) {
+            let plane = maps::forward(&heights, width, shape.height, levels);
+            let mut play = near_the_limit(&plane, shape);
+            assert_eq!(play.run(&mut random), 0);
+            assert_eq!(play.state[HEIGHT..=DRAWN], [MAX_HEIGHT as u64, levels as u64, MAX_HEIGHT as u64]);
+        }
+    }
+}
+
+#[test]
+fn past_the_row_limit() {
+    let shape = Shape { width: 3, height: 47, levels: 2 };
+    let plane = maps::forward(&[5; 3 * 47], 3, 47, 2);
+    let play = near_the_limit(&plane, shape);
+    let most = MAX_HEIGHT as u64;
+    for (height, drawn, fits) in [(most - 1, most - 1, true), (most, most - 1, true), (most, most, true), (most + 1, 0, false), (most, most + 1, false)] {
+        let (mut state, mut store) = (play.state, play.store.content().to_vec());
+        (state[HEIGHT], state[DRAWN]) = (height, drawn);
+        assert_eq!(reader::want(&state).is_ok(), fits, "{drawn} of {height} rows");
+        if !fits {
+            assert_eq!(reader::want(&state), Err(1));
+            assert_eq!(reader::feed(&mut state, &mut store, &[0, 0]), Err(1));
+            assert_eq!(reader::draw(&mut state, &mut store, &mut [0; 3]), Err(1));
+            assert_eq!(store, play.store.content());
         }
     }
 }
@@ -432,7 +489,7 @@ fn counts_fit(s: &State) -> bool {
     let [kind, width, height, levels, drawn, level, band, ended, ..] = *s;
     kind == 2
         && (1..=2_049).contains(&width)
-        && (1..=65_535).contains(&height)
+        && (1..=MAX_HEIGHT as u64).contains(&height)
         && (1..=5).contains(&levels)
         && drawn <= height
         && level <= levels
@@ -495,7 +552,7 @@ fn states_nobody_reached_and_scribbled_stores() {
     let mut passed = 0;
     for _ in 0..60_000 {
         let width = [1, 1, 2, 3, 5, 8, 17, 2_049][random.below(8)] as u64;
-        let height = [1 + random.below(12), 1 + random.below(65_535), 65_535][random.below(3)] as u64;
+        let height = [1 + random.below(12), 1 + random.below(MAX_HEIGHT), MAX_HEIGHT][random.below(3)] as u64;
         let levels = 1 + random.below(5) as u64;
         let up_to = |random: &mut Random, n: u64| random.below(n as usize + 1) as u64;
         let mut state = [0; 16];

@@ -3,12 +3,15 @@ use terrain::raw::State;
 use terrain::{store_length, Band, Shape, Writer};
 use terrain_tests::areas::Guarded;
 use terrain_tests::maps::{self, MAX_HEIGHT, MAX_LEVELS, MAX_WIDTH};
-use terrain_tests::order;
+use terrain_tests::order::{self, BandRow};
 use terrain_tests::random::Random;
 use terrain_tests::writer;
 
 /// Numbers lent beyond what a line store needs.
 const SURPLUS: usize = 5;
+
+/// Where docs/STATE.md has the number of rows taken.
+const ROWS: usize = 3;
 
 /// A writer beside what it must answer, over the heights of one map.
 struct Play<'a> {
@@ -20,6 +23,8 @@ struct Play<'a> {
     model: order::Writer,
     taken: usize,
     drawn: usize,
+    /// rows that the state says were taken before the map's own
+    skipped: usize,
 }
 
 impl<'a> Play<'a> {
@@ -31,7 +36,7 @@ impl<'a> Play<'a> {
         assert_eq!(writer::set_up(&mut state, shape.width, shape.levels, store.lent()), Ok(()), "{shape:?}");
         assert!(store.content()[..needed].iter().all(|&v| v == 0), "set-up zeroes the needed part");
         let model = order::Writer::new(shape.width, shape.levels);
-        Play { shape, heights, plane, state, store, model, taken: 0, drawn: 0 }
+        Play { shape, heights, plane, state, store, model, taken: 0, drawn: 0, skipped: 0 }
     }
 
     /// Makes a call that must be answered by `answer`: the surplus stays, and where it is turned away the whole store.
@@ -54,8 +59,9 @@ impl<'a> Play<'a> {
     fn draw(&mut self, room: usize) {
         let answer = self.model.draw(room);
         let mut out = Guarded::unset(room);
-        self.call(answer, |state, store| writer::draw(state, store, out.lent()));
         let row = answer.ok().flatten();
+        let later = answer.map(|r| r.map(|r| BandRow { row: r.row + (self.skipped >> r.level), ..r }));
+        self.call(later, |state, store| writer::draw(state, store, out.lent()));
         if let Some(r) = row {
             let place = order::place(self.shape.width, self.shape.height, r);
             assert_eq!(out.content()[..r.length], self.plane[place], "{:?} {r:?}", self.shape);
@@ -153,30 +159,74 @@ fn larger_and_odd_sizes() {
     }
 }
 
+/// Rows in which every level's slots and sets come round again.
+fn period(levels: usize) -> usize {
+    4 << levels
+}
+
+/// A writer a few rows below the limit: one in the middle of a map, whose state is told that it has taken many more rows. What it answers
+/// then is what it answers without, but for the row numbers, up to the limit.
+fn near_the_limit<'a>(heights: &'a [u16], width: usize, levels: usize, random: &mut Random) -> Play<'a> {
+    let height = heights.len() / width;
+    let mut play = Play::new(heights, Shape { width, height, levels });
+    while play.model.rows() < period(levels) {
+        play.offer(1 + random.below(3 * width));
+        while play.model.waits().is_some() {
+            play.draw(width);
+        }
+    }
+    play.skipped = MAX_HEIGHT - height;
+    assert_eq!(play.skipped % period(levels), 0);
+    play.state[ROWS] += play.skipped as u64;
+    play.model.limit = height;
+    play
+}
+
 #[test]
 fn the_row_limit() {
-    for (width, levels) in [(1, 1), (1, 5), (2, 3)] {
-        let height = MAX_HEIGHT;
-        let mut random = Random::new(width as u64);
-        let heights: Vec<u16> = (0..width * height).map(|_| random.below(65_536) as u16).collect();
-        let mut play = Play::new(&heights, Shape { width, height, levels });
+    let mut random = Random::new(13);
+    for (width, levels) in [(1, 1), (1, 5), (2, 3), (5, 2), (9, 5)] {
+        let height = 3 * period(levels) - 1;
+        let heights: Vec<u16> = (0..width * height + 1).map(|_| random.below(65_536) as u16).collect();
+        let mut play = near_the_limit(&heights[..width * height], width, levels, &mut random);
         while play.model.rows() < height {
-            play.offer(2 * width + 1);
+            // one height more than the map has: the limit stops the offer before it
+            play.heights = &heights;
+            play.offer(2 * width + 1 + random.below(3));
             while play.model.waits().is_some() {
                 play.draw(width);
             }
         }
-        let mut taken = play.model.offer(1);
-        assert_eq!(taken, Err(10));
-        play.call(taken, |state, store| writer::offer(state, store, &[7]));
-        taken = play.model.offer(0);
-        assert_eq!(taken, Ok(0));
-        play.call(taken, |state, store| writer::offer(state, store, &[]));
+        play.heights = &heights[..width * height];
+        assert_eq!((play.taken, play.state[ROWS]), (width * height, MAX_HEIGHT as u64));
+        for (run, answer) in [(&[7][..], Err(10)), (&[], Ok(0))] {
+            assert_eq!(play.model.offer(run.len()), answer);
+            play.call(answer, |state, store| writer::offer(state, store, run));
+        }
         play.finish();
         while play.model.waits().is_some() {
             play.draw(width);
         }
         play.after();
+    }
+}
+
+#[test]
+fn past_the_row_limit() {
+    let mut random = Random::new(14);
+    let heights: Vec<u16> = (0..3 * (3 * period(2) - 1)).map(|i| i as u16).collect();
+    let mut play = near_the_limit(&heights, 3, 2, &mut random);
+    for (rows, answers) in [(MAX_HEIGHT - 1, [0, 0, 0]), (MAX_HEIGHT, [10, 0, 0]), (MAX_HEIGHT + 1, [1, 1, 1]), (usize::MAX, [1, 1, 1])] {
+        play.state[ROWS] = rows as u64;
+        play.state[4] = 0;
+        let state = play.state;
+        let (mut store, mut out) = (play.store.content().to_vec(), [0; 3]);
+        let given = [
+            writer::offer(&mut state.clone(), &mut store.clone(), &[1, 2, 3]).err().unwrap_or(0),
+            writer::draw(&mut state.clone(), &mut store.clone(), &mut out).err().unwrap_or(0),
+            writer::finish(&mut state.clone(), &mut store).err().unwrap_or(0),
+        ];
+        assert_eq!(given, answers, "{rows} rows");
     }
 }
 
@@ -268,7 +318,7 @@ fn counts_fit(s: &State) -> bool {
     kind == 1
         && (1..=2_049).contains(&width)
         && (1..=5).contains(&levels)
-        && rows <= 65_535
+        && rows <= MAX_HEIGHT as u64
         && column < width
         && finished <= 1
         && closed <= levels
@@ -325,7 +375,7 @@ fn states_nobody_reached_and_scribbled_stores() {
     for _ in 0..60_000 {
         let width = [1, 1, 2, 3, 5, 8, 17, 2_049][random.below(8)] as u64;
         let levels = 1 + random.below(5) as u64;
-        let rows = [random.below(12), random.below(65_536), 65_535][random.below(3)] as u64;
+        let rows = [random.below(12), random.below(MAX_HEIGHT), MAX_HEIGHT][random.below(3)] as u64;
         let up_to = |random: &mut Random, n: u64| random.below(n as usize + 1) as u64;
         let level = up_to(&mut random, levels);
         let most = if random.below(6) == 0 { 4 } else { most_left(levels, level) };

@@ -69,7 +69,7 @@ pub const VERSION: u32 = 200;
 /// The largest width of a map.
 pub const MAX_WIDTH: usize = 2_049;
 /// The largest height of a map.
-pub const MAX_HEIGHT: usize = 65_535;
+pub const MAX_HEIGHT: usize = 4_294_967_295;
 /// The largest number of levels.
 pub const MAX_LEVELS: usize = 5;
 

@@ -133,7 +133,7 @@ fn the_questions() {
     let number = |e: Question| e.number;
     let mut store = [0; 40];
     assert_eq!(Writer::new(0, 1, &mut store).unwrap_err().number, 2);
-    assert_eq!(Reader::new(1, 65_536, 1, &mut store).unwrap_err().number, 3);
+    assert_eq!(Reader::new(1, MAX_HEIGHT + 1, 1, &mut store).unwrap_err().number, 3);
     assert_eq!(Writer::new(1, 6, &mut store).unwrap_err().number, 4);
     assert_eq!(Writer::new(3, 2, &mut store[..19]).unwrap_err().number, 5);
     assert_eq!((store_length(3, 2), store_length(2_050, 1), store_length(3, 0)), (20, 0, 0));

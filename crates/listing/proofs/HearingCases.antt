@@ -12,7 +12,7 @@ use Rattle.pgm.specs.Steps.{stepOf}
 use Rattle.pgm.specs.declared.header.Next.{Next}
 use Rattle.pgm.specs.declared.samples.Samples.{Samples}
 use Rattle.pgm.specs.declared.samples.Sample.{Sample}
-use Rattle.listing.specs.Listing.{levelDigit, maxListedWidth, shapeFits}
+use Rattle.listing.specs.Listing.{levelDigit, maxListedWidth, maxListedHeight, shapeFits}
 use Rattle.listing.specs.Hearing.{phased, nay, levelsHeard, lineFeedHeard, shapeHeard, nextHeard, headerHeard, sampleHeard, heightHeard, hears, endHeard}
 use Rattle.listing.specs.declared.input.Input.{Input}
 use Rattle.listing.specs.declared.input.Heard.{Heard}
@@ -78,11 +78,11 @@ module _ (i : Input) (w h m : ℕ) where
   unfolding shapeHeard shapeFits maxListedWidth
   shape-wide e = rw e
 
-  pub shape-high : within 1 1025 w ≡ true → within 1 65535 h ≡ false → nay i ≡ shapeHeard i w h m
+  pub shape-high : within 1 1025 w ≡ true → within 1 maxListedHeight h ≡ false → nay i ≡ shapeHeard i w h m
   unfolding shapeHeard shapeFits maxListedWidth
   shape-high e f = rw (e, f)
 
-  pub shape-yes : (n : ℕ) (x : Samples) → within 1 1025 w ≡ true → within 1 65535 h ≡ true → n ≡ w * h → x ≡ noByte m
+  pub shape-yes : (n : ℕ) (x : Samples) → within 1 1025 w ≡ true → within 1 maxListedHeight h ≡ true → n ≡ w * h → x ≡ noByte m
       → heard.Begun (record { phase = 3; levels = i .levels; header = i .header; left = n; samples = x }) w h ≡ shapeHeard i w h m
   unfolding shapeHeard shapeFits maxListedWidth
   shape-yes n x e f g d = rw (e, f, g, d)

@@ -9,6 +9,7 @@ use lib.ListN.{length, take}
 use borrow.Author.Tests.{leb-true}
 use Rattle.numbers.specs.Signal.{both}
 use Rattle.numbers.proofs.Sweep.{both as split-both}
+use Rattle.wavelet.specs.Limits.{maxHeight}
 use Rattle.wavelet.specs.Store.{storeLength}
 use Rattle.wavelet.specs.Questions.{within}
 use Rattle.writer.specs.Level.{Memory}
@@ -19,7 +20,7 @@ use Rattle.writer.specs.Demand3.{all-none}
 use Rattle.writer.specs.declared.Writer.{Writer}
 use Rattle.writer.proofs.CallList.{map-append}
 use Rattle.listing.specs.Lines.{sizeLine, refusedLine, answerLine}
-use Rattle.listing.specs.Listing.{maxListedWidth, shapeFits}
+use Rattle.listing.specs.Listing.{maxListedWidth, maxListedHeight, shapeFits}
 use Rattle.listing.specs.Parts.{noLine, sizePart}
 use Rattle.listing.specs.Scenes.{Scene, scene, listed, refusedTo, drawScene, beginScene, offerScene}
 use Rattle.listing.specs.Moves.{lineOn, Idle}
@@ -32,13 +33,18 @@ use Rattle.listing.proofs.WriterTakes.{OfferOut, offer-out}
 use Rattle.listing.proofs.ListingReached.{ShapeIn, reads, leftTo, Begun, eventsOf, Told, begun, set-up-in, drawn-input, draw-begun}
 
 -- ---- small facts
+-- the writer takes what the listing takes
+listed-low : maxListedHeight ≤ maxHeight
+unfolding maxListedHeight maxHeight
+listed-low = omega arith
+
 pub shape-in : (W H L : ℕ) → shapeFits W H ≡ true → 1 ≤ L → L ≤ 5 → ShapeIn W H L
 unfolding shapeFits within maxListedWidth
 shape-in W H L e a b =
-    let p = split-both (both (leb 1 W) (leb W 1025)) (both (leb 1 H) (leb H 65535)) e in
+    let p = split-both (both (leb 1 W) (leb W 1025)) (both (leb 1 H) (leb H maxListedHeight)) e in
     let q = split-both (leb 1 W) (leb W 1025) (p .0) in
-    let r = split-both (leb 1 H) (leb H 65535) (p .1) in
-    record { some-columns = leb-true 1 W (q .0); columns = leb-true W 1025 (q .1); some-rows = leb-true 1 H (r .0); rows = leb-true H 65535 (r .1); some-levels = a; levels = b }
+    let r = split-both (leb 1 H) (leb H maxListedHeight) (p .1) in
+    record { some-columns = leb-true 1 W (q .0); columns = leb-true W 1025 (q .1); some-rows = leb-true 1 H (r .0); rows = omega (arith, leb-true H maxListedHeight (r .1), listed-low); some-levels = a; levels = b }
 
 pub idle-text : (k : ℕ) (s : Scene) (o t : List ℕ) → Idle s → o ++ leftTo k s ≡ t → o ≡ t
 idle-text k s o t i e = sym (append-nil o) ∙ ap (λ y. o ++ y) (sym (left-none k (s .row) (lineOn s) i)) ∙ e

@@ -6,6 +6,7 @@ use Prim.Native.Nat.{ℕ, _+_, _-_, _*_, _≤_, _<_}
 use native.Mathlib.Omega.{arith}
 use lib.ListN.{length, take}
 use Rattle.numbers.specs.Signal.{pick}
+use Rattle.wavelet.specs.Limits.{maxHeight}
 use Rattle.wavelet.specs.Store.{storeLength}
 use Rattle.writer.specs.Level.{Memory}
 use Rattle.writer.specs.Questions.{setUpQuestion}
@@ -32,7 +33,7 @@ pub record ShapeIn (W H L : ℕ) : Type 0 where
   pub some-columns : 1 ≤ W
   pub columns : W ≤ 1025
   pub some-rows : 1 ≤ H
-  pub rows : H ≤ 65535
+  pub rows : H ≤ maxHeight
   pub some-levels : 1 ≤ L
   pub levels : L ≤ 5
 

@@ -43,7 +43,7 @@ unfolding setUpQuestion within maxWidth maxLevels
 set-up-passes W L n h a b c d =
     let e : L + (5 - L) ≡ 5 = omega arith in
     let f : storeLength W L ≤ n = omega (arith, rw e at (store-deep (5 - L) L W), store-wide 5 W 1025 b) in
-    rw (le-leb 1 W a, le-leb W 2049 (omega arith), le-leb 1 L c, le-leb L 5 d, le-leb (storeLength W L) n f)
+    rw (le-leb 1 W a, le-leb W maxWidth (omega arith), le-leb 1 L c, le-leb L 5 d, le-leb (storeLength W L) n f)
 
 module _ (W L n : ℕ) (s : setUpQuestion W L n ≡ 0) (hs : List ℕ) (ds : List DrawnRow) (w : Writer) (x : Memory) (r : Ran W L n hs false ds w x) (idle : waits W L hs false ds ≡ []) where
   abbrev es : List Event
@@ -70,15 +70,14 @@ module _ (W L n : ℕ) (s : setUpQuestion W L n ≡ 0) (hs : List ℕ) (ds : Lis
         subst (λ d. Ran W L n (hs ++ take (t .taken) run) false d (t .writer) (offerStore w n run x)) (append-nil ds)
         (ran-next W L n hs false ds w x r (offer run) (offered run (gives (t .taken))) (t .writer) (offerStore w n run x) (unfold event in rw e refl) (unfold next in rw e refl))
 
-    module _ (H : ℕ) (wide : 0 < W) (high : H ≤ 65535) (room : length hs + length run ≤ W * H) where
+    module _ (H : ℕ) (wide : 0 < W) (high : H ≤ maxHeight) (room : length hs + length run ≤ W * H) where
       low : either (eqb (length run) 0) (ltb (wholeRows W es) maxHeight) ≡ true
-      unfolding maxHeight
       low =
           elim (ℕ-discrete (length run) 0) [
             | yes p ↦ rw (eq-eqb (length run) 0 p) refl
             | no p ↦
                 let e : length hs / W < H = div-lt-iff-lt-mul {k = W} {x = length hs} {y = H} wide .1 (omega (arith, p, mul-comm W H)) in
-                rw (ne-eqb (length run) 0 p, lt-ltb (wholeRows W es) 65535 (omega (arith, rows-are))) refl
+                rw (ne-eqb (length run) 0 p, lt-ltb (wholeRows W es) maxHeight (omega (arith, rows-are))) refl
           ]
 
       not-turned : offerTurned W L es (length run) ≡ 0

@@ -28,8 +28,12 @@ levelDigit b = within 49 53 b
 unfoldable pub maxListedWidth : ℕ
 maxListedWidth = 1025
 
+-- the picture's own limit, below the writer's
+unfoldable pub maxListedHeight : ℕ
+maxListedHeight = 65535
+
 unfoldable pub shapeFits : ℕ → ℕ → Bool
-shapeFits W H = both (within 1 maxListedWidth W) (within 1 65535 H)
+shapeFits W H = both (within 1 maxListedWidth W) (within 1 maxListedHeight H)
 
 -- the map's shape and the largest value of a sample
 pub record Head : Type 0 where

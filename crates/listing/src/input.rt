@@ -6,6 +6,7 @@ use pgm::samples::Samples;
 use wavelet::limits;
 ghost use mathlib.Core.Path.{_≡_};
 ghost use Prim.Native.Nat.{_≤_, _-_, _*_};
+ghost use Rattle.listing.specs.Listing.{maxListedHeight};
 ghost use Rattle.listing.specs.Hearing.{silent, phased, levelsHeard, lineFeedHeard, shapeHeard, headerHeard, heightHeard, hears, endHeard, heightsCame};
 
 pub struct Input {
@@ -223,7 +224,7 @@ impl Input {
 }
 
 fn area(width: usize, height: usize) -> usize
-    requires { ⌜ (width ≤ 1025) × (height ≤ 65535) ⌝ }
+    requires { ⌜ (width ≤ 1025) × (height ≤ maxListedHeight) ⌝ }
     ensures { λ r. ⌜ r ≡ width * height ⌝ }
 {
     width * height

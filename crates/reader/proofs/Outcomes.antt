@@ -36,8 +36,8 @@ pub outcome-passed : {N : Type 0} {P : (ℕ → ℤ) → Type 0} (y : ℕ → �
 outcome-passed _ (goes _ p) = p
 
 -- a height is its own remainder
-height-kept : (v : ℤ) → pos 0 ≤ℤ v → v ≤ℤ pos 65535 → height16 v ≡ v
-unfolding height16
+height-kept : (v : ℤ) → pos 0 ≤ℤ v → v ≤ℤ pos maxSample → height16 v ≡ v
+unfolding height16 maxSample
 height-kept = each _ λ p q. simp lin (omega arith)
 
 -- the height row that is drawn

@@ -2,7 +2,7 @@
 use mathlib.Core.Path.{_≡_, refl, sym, ap, _∙_, fun-ext}
 use mathlib.Core.List.{List}
 use mathlib.Core.Bool.{Bool, true, false}
-use Prim.Native.Nat.{ℕ, suc, _+_, _-_, _*_, _≤_, _<_}
+use Prim.Native.Nat.{ℕ, suc, _+_, _-_, _*_, _≤_, _<_, _^_}
 use native.Mathlib.Decide.{decLt, ℕ-discrete}
 use native.Mathlib.Omega.{arith}
 use native.Mathlib.Numerals.{add-one}
@@ -143,7 +143,7 @@ stretch-room W k L h = elim (ℕ-discrete (k + 1) L) [
 
 -- ---- the same of a level
 module _ (W H d k : ℕ) (l : Level) (is : IsLevel W H d k l) where
-  pub level-in : 0 < H → W ≤ 65536 → H ≤ 4294967295 → (l .start ≤ 262144 * k) × (l .width ≤ 65536) × (l .height ≤ 4294967295) × (l .set < count lo (l .height)) × (l .set ≤ 4294967295)
+  pub level-in : 0 < H → W ≤ 2 ^ 16 → H < 2 ^ 32 → (l .start ≤ 2 ^ 18 * k) × (l .width ≤ 2 ^ 16) × (l .height < 2 ^ 32) × (l .set < count lo (l .height)) × (l .set < 2 ^ 32)
   level-in some wide high =
       let set : l .set < count lo (l .height) = rw (is .set, is .height) (row-in H d k some) in (
         rw (is .start) (stretch-small W k wide),

@@ -10,6 +10,7 @@ use Rattle.numbers.specs.Signal.{pick, both}
 use Rattle.numbers.proofs.Sweep.{both as halves}
 use Rattle.wavelet.specs.Limits.{maxWidth, maxHeight, maxLevels}
 use Rattle.wavelet.specs.Questions.{ask, within}
+use Rattle.wavelet.proofs.LimitLaws.{width-small, height-small}
 use Rattle.wavelet.proofs.QuestionLaws.{within-true, within-yes}
 use Rattle.reader.proofs.StoreLaws.{length-is}
 use Rattle.reader.specs.declared.Reader.{Reader}
@@ -24,31 +25,31 @@ asked W L = pick (both (within 1 maxWidth W) (within 1 maxLevels L)) (storeLengt
 
 -- ---- question 1
 module _ (s : Reader) where
-  pub counts-1 : within 1 2049 (s .width) ≡ false → false ≡ countsFit s
-  unfolding countsFit maxWidth
+  pub counts-1 : within 1 maxWidth (s .width) ≡ false → false ≡ countsFit s
+  unfolding countsFit
   counts-1 a = rw a
 
-  module _ (one : within 1 2049 (s .width) ≡ true) where
-    pub counts-2 : within 1 65535 (s .height) ≡ false → false ≡ countsFit s
-    unfolding countsFit maxWidth maxHeight
+  module _ (one : within 1 maxWidth (s .width) ≡ true) where
+    pub counts-2 : within 1 maxHeight (s .height) ≡ false → false ≡ countsFit s
+    unfolding countsFit
     counts-2 b = rw (one, b)
 
-    module _ (two : within 1 65535 (s .height) ≡ true) where
-      pub counts-3 : within 1 5 (s .levels) ≡ false → false ≡ countsFit s
-      unfolding countsFit maxWidth maxHeight maxLevels
+    module _ (two : within 1 maxHeight (s .height) ≡ true) where
+      pub counts-3 : within 1 maxLevels (s .levels) ≡ false → false ≡ countsFit s
+      unfolding countsFit
       counts-3 b = rw (one, two, b)
 
-      module _ (three : within 1 5 (s .levels) ≡ true) where
+      module _ (three : within 1 maxLevels (s .levels) ≡ true) where
         pub counts-4 : s .height < s .drawn → false ≡ countsFit s
-        unfolding countsFit maxWidth maxHeight maxLevels
+        unfolding countsFit
         counts-4 h = rw (one, two, three, lt-leb (s .drawn) (s .height) h)
 
         pub counts-5 : s .drawn ≤ s .height → s .levels < s .level → false ≡ countsFit s
-        unfolding countsFit maxWidth maxHeight maxLevels
+        unfolding countsFit
         counts-5 g h = rw (one, two, three, le-leb (s .drawn) (s .height) g, lt-leb (s .level) (s .levels) h)
 
         pub counts-6 : s .drawn ≤ s .height → s .level ≤ s .levels → leb (s .band) 4 ≡ countsFit s
-        unfolding countsFit maxWidth maxHeight maxLevels
+        unfolding countsFit
         counts-6 g h = rw (one, two, three, le-leb (s .drawn) (s .height) g, le-leb (s .level) (s .levels) h)
 
   pub counts-in : countsFit s ≡ true → Counts s
@@ -73,37 +74,35 @@ module _ (s : Reader) where
       (within-yes 1 maxLevels (s .levels) (c .deep .0) (c .deep .1))
 
   pub counts-shape : Counts s → Shape (s .width) (s .height) (s .drawn)
-  unfolding maxWidth maxHeight
-  counts-shape c = let w = c .wide in let h = c .high in let d = c .drew in (omega arith, omega arith, omega arith, omega arith, omega arith)
+  counts-shape c = let w = c .wide in let h = c .high in let d = c .drew in (omega arith, omega (arith, width-small), omega arith, omega (arith, height-small), omega arith)
 
 -- ---- the set-up
 module _ (W H L n : ℕ) where
-  pub up-2 : within 1 2049 W ≡ false → 2 ≡ setUpQuestion W H L n
-  unfolding setUpQuestion maxWidth
+  pub up-2 : within 1 maxWidth W ≡ false → 2 ≡ setUpQuestion W H L n
+  unfolding setUpQuestion
   up-2 a = rw a
 
-  module _ (one : within 1 2049 W ≡ true) where
-    pub up-3 : within 1 65535 H ≡ false → 3 ≡ setUpQuestion W H L n
-    unfolding setUpQuestion maxWidth maxHeight
+  module _ (one : within 1 maxWidth W ≡ true) where
+    pub up-3 : within 1 maxHeight H ≡ false → 3 ≡ setUpQuestion W H L n
+    unfolding setUpQuestion
     up-3 b = rw (one, b)
 
-    module _ (two : within 1 65535 H ≡ true) where
-      pub up-4 : within 1 5 L ≡ false → 4 ≡ setUpQuestion W H L n
-      unfolding setUpQuestion maxWidth maxHeight maxLevels
+    module _ (two : within 1 maxHeight H ≡ true) where
+      pub up-4 : within 1 maxLevels L ≡ false → 4 ≡ setUpQuestion W H L n
+      unfolding setUpQuestion
       up-4 b = rw (one, two, b)
 
-      module _ (three : within 1 5 L ≡ true) where
+      module _ (three : within 1 maxLevels L ≡ true) where
         -- m is the length that the code asks for
         pub up-length : (m : ℕ) → m ≡ asked W L → m ≡ storeLength W L
-        unfolding maxWidth maxLevels
         up-length m e = e ∙ length-is W L one three
 
         pub up-5 : (m : ℕ) → m ≡ asked W L → n < m → 5 ≡ setUpQuestion W H L n
-        unfolding setUpQuestion storeFits maxWidth maxHeight maxLevels
+        unfolding setUpQuestion storeFits
         up-5 m e h = rw (one, two, three, lt-leb (storeLength W L) n (omega (arith, up-length m e)))
 
         pub up-0 : (m : ℕ) → m ≡ asked W L → m ≤ n → 0 ≡ setUpQuestion W H L n
-        unfolding setUpQuestion storeFits maxWidth maxHeight maxLevels
+        unfolding setUpQuestion storeFits
         up-0 m e h = rw (one, two, three, le-leb (storeLength W L) n (omega (arith, up-length m e)))
 
   -- a set-up that passes

@@ -1,6 +1,6 @@
 -- The laws of the line store: where the stretches of the levels stand. Assumes nothing.
 use mathlib.Core.Path.{_≡_, refl, sym, _∙_}
-use Prim.Native.Nat.{ℕ, zero, suc, _+_, _*_, _≤_, _<_}
+use Prim.Native.Nat.{ℕ, zero, suc, _+_, _*_, _≤_, _<_, _^_}
 use native.Mathlib.Decide.{ℕ-discrete}
 use native.Mathlib.Omega.{arith}
 use Rattle.lifting.specs.Line.{lo, count}
@@ -24,7 +24,7 @@ pub stretch-suc : (W k : ℕ) → stretchAt W (suc k) ≡ stretchAt W k + 4 * si
 unfolding stretchAt
 stretch-suc W k = refl
 
-pub stretch-small : (W k : ℕ) → W ≤ 65536 → stretchAt W k ≤ 262144 * k
+pub stretch-small : (W k : ℕ) → W ≤ 2 ^ 16 → stretchAt W k ≤ 2 ^ 18 * k
 stretch-small W zero h = omega (arith, stretch-zero W)
 stretch-small W (suc k) h = omega (arith, stretch-suc W k, stretch-small W k h, size-le k W)
 
@@ -41,7 +41,7 @@ pub stretch-is : (W k : ℕ) → stretchAt W k ≡ storeLength W k
 stretch-is W zero = stretch-zero W ∙ sym (store-none W)
 stretch-is W (suc k) = omega (arith, stretch-suc W k, store-more W k, stretch-is W k)
 
-pub store-small : (W k : ℕ) → W ≤ 65536 → storeLength W k ≤ 262144 * k
+pub store-small : (W k : ℕ) → W ≤ 2 ^ 16 → storeLength W k ≤ 2 ^ 18 * k
 store-small W k h = omega (arith, stretch-is W k, stretch-small W k h)
 
 pub store-in : (W k L : ℕ) → k ≤ L → storeLength W k ≤ storeLength W L

@@ -2,7 +2,7 @@
 use mathlib.Core.Path.{_≡_}
 use mathlib.Core.Bool.{Bool, not}
 use mathlib.Core.List.{List, map}
-use Prim.Native.Nat.{ℕ, zero, suc, _≤_, _<_}
+use Prim.Native.Nat.{ℕ, zero, suc, _≤_, _<_, _^_}
 use lib.IntN.{ℤ, pos, _-ℤ_}
 use lib.Signed.{leZ}
 use lib.Dec.{eqb}
@@ -44,7 +44,7 @@ pub record Counts (s : Reader) : Type 0 where
 
 -- a map of W × H while row d is waited for: sizes so small that no place in memory overflows
 abbrev pub Shape : ℕ → ℕ → ℕ → Type 0
-Shape W H d = (0 < W) × (W ≤ 65536) × (0 < H) × (H ≤ 4294967295) × (d ≤ H)
+Shape W H d = (0 < W) × (W ≤ 2 ^ 16) × (0 < H) × (H < 2 ^ 32) × (d ≤ H)
 
 -- l is level k + 1 of that map
 pub record IsLevel (W H d k : ℕ) (l : Level) : Type 0 where

@@ -63,7 +63,7 @@ pub enum Drawn {
 impl Reader {
     pub const MAX_WIDTH: usize = 2049;
 
-    pub const MAX_HEIGHT: usize = 65535;
+    pub const MAX_HEIGHT: usize = 4294967295;
 
     pub const MAX_LEVELS: usize = 5;
 

@@ -1,7 +1,7 @@
 // Sets of rows, and the bands that a set asks for: numbers alone. The module is private, as `areas` is.
 use wavelet::sizes;
 ghost use mathlib.Core.Path.{_≡_};
-ghost use Prim.Native.Nat.{_-_, _*_, _<_, _≤_};
+ghost use Prim.Native.Nat.{_-_, _*_, _<_, _≤_, _^_};
 ghost use lib.Dec.{leb};
 ghost use Rattle.numbers.specs.Signal.{both};
 ghost use Rattle.lifting.specs.Line.{count};
@@ -11,7 +11,7 @@ ghost use Rattle.reader.specs.Asked.{asked, named, nextBand};
 
 // The set that makes row r of h rows.
 pub fn set_of(h: usize, r: usize) -> usize
-    requires { ⌜ (0 < h) × (r ≤ 4294967296) ⌝ }
+    requires { ⌜ (0 < h) × (r ≤ 2 ^ 32) ⌝ }
     ensures { λ n. ⌜ n ≡ setOf h r ⌝ }
 {
     let a = (r + 1) / 2;
@@ -21,7 +21,7 @@ pub fn set_of(h: usize, r: usize) -> usize
 
 // The first row that set n makes.
 pub fn first_of(n: usize) -> usize
-    requires { ⌜ n ≤ 4294967296 ⌝ }
+    requires { ⌜ n ≤ 2 ^ 32 ⌝ }
     ensures { λ r. ⌜ r ≡ 2 * n - 1 ⌝ }
 {
     if n == 0 { 0 } else { 2 * n - 1 }

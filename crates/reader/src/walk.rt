@@ -5,7 +5,7 @@ use crate::sets;
 use crate::work;
 use wavelet::sizes;
 ghost use mathlib.Core.Path.{_≡_};
-ghost use Prim.Native.Nat.{_+_, _<_, _≤_};
+ghost use Prim.Native.Nat.{_+_, _<_, _≤_, _^_};
 ghost use lib.ListN.{length};
 ghost use Rattle.numbers.specs.Signal.{at};
 ghost use Rattle.lifting.specs.Line.{count};
@@ -102,7 +102,7 @@ pub fn next_at(
 
 // Where the half row of a band of set n begins, in its level's stretch.
 fn half_place(w: usize, n: usize, band: usize) -> usize
-    requires { ⌜ (band < 4) × (w ≤ 65536) × (n ≤ 4294967296) ⌝ }
+    requires { ⌜ (band < 4) × (w ≤ 2 ^ 16) × (n ≤ 2 ^ 32) ⌝ }
     ensures { λ a. ⌜ a ≡ rowPlace w (setRow (down (named band)) n) + halfPlace (across (named band)) w ⌝ }
 {
     let a = work::row_place(w, 2 * n + band / 2);

@@ -6,7 +6,7 @@ use lifting::rows;
 use wavelet::sizes;
 ghost use mathlib.Core.Path.{_≡_};
 ghost use mathlib.Core.Bool.{true, false};
-ghost use Prim.Native.Nat.{_+_, _-_, _*_, _<_, _≤_, min};
+ghost use Prim.Native.Nat.{_+_, _-_, _*_, _<_, _≤_, min, _^_};
 ghost use lib.ListN.{length};
 ghost use Rattle.numbers.specs.Signal.{at, pick};
 ghost use Rattle.lifting.specs.Line.{lo, count};
@@ -18,7 +18,7 @@ ghost use Rattle.reader.specs.Inside.{Kept, lowestOf};
 
 // Where row r begins.
 pub fn row_place(w: usize, r: usize) -> usize
-    requires { ⌜ w ≤ 65536 ⌝ }
+    requires { ⌜ w ≤ 2 ^ 16 ⌝ }
     ensures { λ a. ⌜ (a ≡ rowPlace w r) × (a + w ≤ 4 * w) ⌝ }
 {
     r % 4 * w
@@ -26,7 +26,7 @@ pub fn row_place(w: usize, r: usize) -> usize
 
 // Row r lifted back along the row.
 fn unlift_row(stretch: &mut [i32], w: usize, r: usize)
-    requires { ⌜ (w ≤ 65536) × (4 * w ≤ length (now stretch)) ⌝ }
+    requires { ⌜ (w ≤ 2 ^ 16) × (4 * w ≤ length (now stretch)) ⌝ }
     ensures { λ _. ⌜ at (now (stretch .exit)) ≡ rowUnlifted w r (at (now (stretch .entry))) ⌝ }
 {
     let a = row_place(w, r);
@@ -36,7 +36,7 @@ fn unlift_row(stretch: &mut [i32], w: usize, r: usize)
 
 // The rows of set n lifted back along the row: the low one, and the high one if there is one.
 fn unlift_set(stretch: &mut [i32], w: usize, h: usize, n: usize)
-    requires { ⌜ (w ≤ 65536) × (4 * w ≤ length (now stretch)) × (n ≤ 4294967296) ⌝ }
+    requires { ⌜ (w ≤ 2 ^ 16) × (4 * w ≤ length (now stretch)) × (n ≤ 2 ^ 32) ⌝ }
     ensures { λ _. ⌜ at (now (stretch .exit)) ≡ setUnlifted w h n (at (now (stretch .entry))) ⌝ }
 {
     unlift_row(stretch, w, 2 * n);
@@ -54,7 +54,7 @@ fn before(n: usize) -> usize
 
 // Row 2n by the high rows next to it, the nearest one twice at an end.
 fn undo_even(stretch: &mut [i32], w: usize, h: usize, n: usize)
-    requires { ⌜ (w ≤ 65536) × (4 * w ≤ length (now stretch)) × (n < count lo h) × (h ≤ 4294967295) ⌝ }
+    requires { ⌜ (w ≤ 2 ^ 16) × (4 * w ≤ length (now stretch)) × (n < count lo h) × (h < 2 ^ 32) ⌝ }
     ensures { λ _. ⌜ at (now (stretch .exit)) ≡ evenRow w h n (at (now (stretch .entry))) ⌝ }
 {
     if 1 < h {
@@ -66,7 +66,7 @@ fn undo_even(stretch: &mut [i32], w: usize, h: usize, n: usize)
 
 // Row 2m + 1 by the even rows next to it, the nearest one twice at the end.
 fn undo_odd(stretch: &mut [i32], w: usize, h: usize, m: usize)
-    requires { ⌜ (w ≤ 65536) × (4 * w ≤ length (now stretch)) × (m < count lo h) × (h ≤ 4294967295) ⌝ }
+    requires { ⌜ (w ≤ 2 ^ 16) × (4 * w ≤ length (now stretch)) × (m < count lo h) × (h < 2 ^ 32) ⌝ }
     ensures { λ _. ⌜ at (now (stretch .exit)) ≡ oddRow w h m (at (now (stretch .entry))) ⌝ }
 {
     let r = 2 * least(m + 1, sizes::half(h) - 1);
@@ -90,7 +90,7 @@ fn lowest_of(k: usize) -> i32
 
 // The test of 14, which every row made passes before it is used.
 fn admit_row(stretch: &[i32], k: usize, w: usize, r: usize) -> bool
-    requires { ⌜ (w ≤ 65536) × (4 * w ≤ length (now stretch)) × (k ≤ maxLevels) ⌝ }
+    requires { ⌜ (w ≤ 2 ^ 16) × (4 * w ≤ length (now stretch)) × (k ≤ maxLevels) ⌝ }
     ensures { λ ok. ⌜ ok ≡ rowFits k w r (at (now (stretch .entry))) ⌝ }
 {
     let a = row_place(w, r);
@@ -100,7 +100,7 @@ fn admit_row(stretch: &[i32], k: usize, w: usize, r: usize) -> bool
 
 // Row 2n of set n made.
 fn make_even(stretch: &mut [i32], k: usize, w: usize, h: usize, n: usize) -> bool
-    requires { ⌜ (w ≤ 65536) × (4 * w ≤ length (now stretch)) × (n < count lo h) × (h ≤ 4294967295) × (k ≤ maxLevels) ⌝ }
+    requires { ⌜ (w ≤ 2 ^ 16) × (4 * w ≤ length (now stretch)) × (n < count lo h) × (h < 2 ^ 32) × (k ≤ maxLevels) ⌝ }
     ensures { λ ok. ⌜ outcome ok (at (now (stretch .exit))) ≡ evenMade k w h n (at (now (stretch .entry))) ⌝ }
     ensures { λ _. ⌜ Kept (4 * w) (at (now (stretch .entry))) (at (now (stretch .exit))) ⌝ }
 {
@@ -111,7 +111,7 @@ fn make_even(stretch: &mut [i32], k: usize, w: usize, h: usize, n: usize) -> boo
 
 // Row 2n − 1 made, if there is one.
 fn make_odd(stretch: &mut [i32], k: usize, w: usize, h: usize, n: usize) -> bool
-    requires { ⌜ (w ≤ 65536) × (4 * w ≤ length (now stretch)) × (n < count lo h) × (h ≤ 4294967295) × (k ≤ maxLevels) ⌝ }
+    requires { ⌜ (w ≤ 2 ^ 16) × (4 * w ≤ length (now stretch)) × (n < count lo h) × (h < 2 ^ 32) × (k ≤ maxLevels) ⌝ }
     ensures { λ ok. ⌜ outcome ok (at (now (stretch .exit))) ≡ oddMade k w h n (at (now (stretch .entry))) ⌝ }
     ensures { λ _. ⌜ Kept (4 * w) (at (now (stretch .entry))) (at (now (stretch .exit))) ⌝ }
 {
@@ -124,7 +124,7 @@ fn make_odd(stretch: &mut [i32], k: usize, w: usize, h: usize, n: usize) -> bool
 
 // Row 2n + 1 made, if it is the last of an even height.
 fn make_last(stretch: &mut [i32], k: usize, w: usize, h: usize, n: usize) -> bool
-    requires { ⌜ (w ≤ 65536) × (4 * w ≤ length (now stretch)) × (n < count lo h) × (h ≤ 4294967295) × (k ≤ maxLevels) ⌝ }
+    requires { ⌜ (w ≤ 2 ^ 16) × (4 * w ≤ length (now stretch)) × (n < count lo h) × (h < 2 ^ 32) × (k ≤ maxLevels) ⌝ }
     ensures { λ ok. ⌜ outcome ok (at (now (stretch .exit))) ≡ lastMade k w h n (at (now (stretch .entry))) ⌝ }
     ensures { λ _. ⌜ Kept (4 * w) (at (now (stretch .entry))) (at (now (stretch .exit))) ⌝ }
 {
@@ -137,7 +137,7 @@ fn make_last(stretch: &mut [i32], k: usize, w: usize, h: usize, n: usize) -> boo
 
 // The rows of set n made, one after another as long as they fit.
 fn make_set(stretch: &mut [i32], k: usize, w: usize, h: usize, n: usize) -> bool
-    requires { ⌜ (w ≤ 65536) × (4 * w ≤ length (now stretch)) × (n < count lo h) × (h ≤ 4294967295) × (k ≤ maxLevels) ⌝ }
+    requires { ⌜ (w ≤ 2 ^ 16) × (4 * w ≤ length (now stretch)) × (n < count lo h) × (h < 2 ^ 32) × (k ≤ maxLevels) ⌝ }
     ensures { λ ok. ⌜ outcome ok (at (now (stretch .exit))) ≡ setMade k w h n (at (now (stretch .entry))) ⌝ }
     ensures { λ _. ⌜ Kept (4 * w) (at (now (stretch .entry))) (at (now (stretch .exit))) ⌝ }
 {
@@ -152,7 +152,7 @@ fn make_set(stretch: &mut [i32], k: usize, w: usize, h: usize, n: usize) -> bool
 
 // Below the last level: the low-low row of set n from the next level's memory, which follows this one's.
 fn take_low_row(stretch: &mut [i32], w: usize, n: usize)
-    requires { ⌜ (w ≤ 65536) × (4 * w + 4 * count lo w ≤ length (now stretch)) × (n ≤ 4294967296) ⌝ }
+    requires { ⌜ (w ≤ 2 ^ 16) × (4 * w + 4 * count lo w ≤ length (now stretch)) × (n ≤ 2 ^ 32) ⌝ }
     ensures { λ _. ⌜ at (now (stretch .exit)) ≡ lowRowTaken w n (at (now (stretch .entry))) ⌝ }
 {
     let low = sizes::half(w);
@@ -163,7 +163,7 @@ fn take_low_row(stretch: &mut [i32], w: usize, n: usize)
 
 // Set n of level k + 1 worked out.
 pub fn work_set(stretch: &mut [i32], last: bool, k: usize, w: usize, h: usize, n: usize) -> bool
-    requires { ⌜ (w ≤ 65536) × (4 * w + 4 * pick last 0 (count lo w) ≤ length (now stretch)) × (n < count lo h) × (h ≤ 4294967295) × (k ≤ maxLevels) ⌝ }
+    requires { ⌜ (w ≤ 2 ^ 16) × (4 * w + 4 * pick last 0 (count lo w) ≤ length (now stretch)) × (n < count lo h) × (h < 2 ^ 32) × (k ≤ maxLevels) ⌝ }
     ensures { λ ok. ⌜ outcome ok (at (now (stretch .exit))) ≡ setWorked last k w h n (at (now (stretch .entry))) ⌝ }
     ensures { λ _. ⌜ Kept (4 * w) (at (now (stretch .entry))) (at (now (stretch .exit))) ⌝ }
 {

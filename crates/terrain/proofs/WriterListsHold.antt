@@ -1,5 +1,4 @@
--- A list of C calls on a state array shows what the list of Rattle's calls shows, told in C's numbers: so what is proved of the lists
--- of a writer (demand 3) holds of them. Assumes nothing.
+-- A list of C calls on a state array shows what the list of Rattle's calls shows, told in C's numbers: so what is proved of the lists of a writer (demand 3) holds of them. Assumes nothing.
 use mathlib.Core.Path.{_≡_, refl, ap, ap₂, _∙_}
 use mathlib.Core.List.{List, [], _∷_}
 use Prim.Native.Nat.{ℕ}
@@ -16,8 +15,7 @@ use Rattle.terrain.specs.WriterLists.{CCall, Seen, offered, drew, finish
 use Rattle.terrain.proofs.StateTheorems.{writer-back, writer-is}
 
 -- an answer told, and the state array that it leaves
-offer-told : (run : List ℕ) (z : ℕ) (q : List ℕ) (r : Reply Took)
-    → offered run (c.number r) (c.takenOf r z) ≡ told z q (rattle.offered run (rattle.seen (λ t. t .taken) r))
+offer-told : (run : List ℕ) (z : ℕ) (q : List ℕ) (r : Reply Took) → offered run (c.number r) (c.takenOf r z) ≡ told z q (rattle.offered run (rattle.seen (λ t. t .taken) r))
 unfolding told
 offer-told run z q (gives t) = refl
 offer-told run z q (refused k) = refl

@@ -147,16 +147,15 @@ pub range-small : (k : ℕ) → k ≤ 5 → range k < 2 ^ 31
 unfolding range maxSample
 range-small k h = let a = range-le k 5 h in omega arith
 
-pub map-height : (v : ℤ) → pos 0 ≤ℤ v → v ≤ℤ pos 65535 → natAbs v ≤ 65535
+pub map-height : (v : ℤ) → pos 0 ≤ℤ v → v ≤ℤ pos maxSample → natAbs v ≤ maxSample
 map-height = each _ λ p q. simp lin (omega arith)
 
 pub map-within : (W H : ℕ) (g : Grid) → IsMap W H g → OnCells (Within maxSample) W H g
-unfolding maxSample
 map-within W H g m r c p q = let a = m .heights r c p q in map-height (g r c) (a .0) (a .1)
 
 pub map-fits : (W H : ℕ) (g : Grid) → IsMap W H g → OnCells (SFits w32) W H g
 unfolding maxSample
-map-fits W H g m r c p q = abs-fits (g r c) 65535 (omega arith) (map-within W H g m r c p q)
+map-fits W H g m r c p q = abs-fits (g r c) maxSample (omega arith) (map-within W H g m r c p q)
 
 module _ (W H : ℕ) (g : Grid) (m : IsMap W H g) where
   -- "Range: every level-k coefficient of a map lies within ±65,535 × 4^k"

@@ -1,11 +1,11 @@
--- The limits of document 01, "Ground covered", each said once.
+-- The limits of document 01, "Ground covered", and of document 02, Q-5, each said once.
 use Prim.Native.Nat.{ℕ, _*_, _^_}
 
 unfoldable pub maxWidth : ℕ
 maxWidth = 2049
 
 unfoldable pub maxHeight : ℕ
-maxHeight = 65535
+maxHeight = 4294967295
 
 unfoldable pub maxLevels : ℕ
 maxLevels = 5

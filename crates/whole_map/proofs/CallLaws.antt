@@ -217,8 +217,8 @@ pub heights-map : (W H : ℕ) (l : List ℕ) → ((i : ℕ) → getD l i 0 < 655
 unfolding cells maxSample
 heights-map W H l f = record { heights = λ r c _ _. height (getD l (r * W + c) 0) (f (r * W + c)) }
   where
-    height : (n : ℕ) → n < 65536 → (pos 0 ≤ℤ pos n) × (pos n ≤ℤ pos 65535)
-    height n b = (record { le = le→leb 0 n (omega arith) }, record { le = le→leb n 65535 (omega arith) })
+    height : (n : ℕ) → n < 65536 → (pos 0 ≤ℤ pos n) × (pos n ≤ℤ pos maxSample)
+    height n b = (record { le = le→leb 0 n (omega arith) }, record { le = le→leb n maxSample (omega arith) })
 
 -- x₁ is the work area loaded with the heights l, z₁ the plane after the levels
 module _ (W H L : ℕ) (l : List ℕ) (x₀ x₁ : ℕ → ℤ) (s : Sized W H L) (e : x₁ ≡ flat W (rowsLoaded W H (cells W (heightsAt l)) (cells W x₀))) where

@@ -80,5 +80,5 @@ pub record IsHeight (v : ℤ) : Type 0 where
 
 pub is-height : (v : ℤ) → valueFits 0 v ≡ true → IsHeight v
 unfolding valueFits maxSample
-is-height (pos n) h = let b = leb-true n 65535 (both (leZ (pos 0) (pos n)) (leZ (pos n) (pos 65535)) h .1) in record { sign = tt; fits = record { fits = omega arith }; same = refl }
+is-height (pos n) h = let b = leb-true n maxSample (both (leZ (pos 0) (pos n)) (leZ (pos n) (pos maxSample)) h .1) in record { sign = tt; fits = record { fits = omega arith }; same = refl }
 is-height (negsuc n) h = let z : _≡_ {A = ℕ} 0 1 = cc in absurd (omega arith)

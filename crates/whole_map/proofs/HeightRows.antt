@@ -13,6 +13,7 @@ use Rattle.numbers.proofs.Parts.{length-mid, at-mid}
 use Rattle.lifting.specs.Line.{Half, lo, count, parted, joined}
 use Rattle.lifting.specs.Halves.{halvesOf, inHalves, fronted}
 use Rattle.lifting.proofs.LineLaws.{halves-low, halves-high}
+use Rattle.wavelet.specs.Limits.{maxSample}
 use Rattle.wavelet.specs.Bands.{Grid}
 use Rattle.wavelet.specs.Plane.{cells, flat}
 use Rattle.wavelet.specs.Maps.{every, everyCell, valueFits}
@@ -83,12 +84,12 @@ module _ {s w h : ℕ} {Y : Grid} {l₀ : List ℤ} {i : ℕ} (g : List ℕ) (p 
   swept-size g₀ e = sym (length-map g pos) ∙ p .size ∙ ap length e ∙ length-map g₀ pos
 
 -- row i, lent as a part of n numbers y, its numbers being those of X: the test
-pub row-fits : (w i n : ℕ) (X : Grid) (y : ℕ → ℤ) → n ≡ w → y ≡ cut w (X i) → every n (λ j. between (pos 0) (pos 65535) (y j)) ≡ every w (λ c. valueFits 0 (X i c))
+pub row-fits : (w i n : ℕ) (X : Grid) (y : ℕ → ℤ) → n ≡ w → y ≡ cut w (X i) → every n (λ j. between (pos 0) (pos maxSample) (y j)) ≡ every w (λ c. valueFits 0 (X i c))
 row-fits w i n X y en ey =
-    ap (λ (m : ℕ). every m (λ j. between (pos 0) (pos 65535) (y j))) en
-    ∙ every-same w _ _ (λ j q. ap (between (pos 0) (pos 65535)) (ap (λ (f : ℕ → ℤ). f j) ey ∙ cut-in w (X i) j q) ∙ height-fits (X i j))
+    ap (λ (m : ℕ). every m (λ j. between (pos 0) (pos maxSample) (y j))) en
+    ∙ every-same w _ _ (λ j q. ap (between (pos 0) (pos maxSample)) (ap (λ (f : ℕ → ℤ). f j) ey ∙ cut-in w (X i) j q) ∙ height-fits (X i j))
 
-pub row-heights : (n : ℕ) (y : ℕ → ℤ) → every n (λ j. between (pos 0) (pos 65535) (y j)) ≡ true → every n (λ j. valueFits 0 (y j)) ≡ true
+pub row-heights : (n : ℕ) (y : ℕ → ℤ) → every n (λ j. between (pos 0) (pos maxSample) (y j)) ≡ true → every n (λ j. valueFits 0 (y j)) ≡ true
 row-heights n y e = sym (every-same n _ _ (λ j q. height-fits (y j))) ∙ e
 
 -- and its heights z
@@ -140,7 +141,7 @@ module _ (w h : ℕ) (l₀ : List ℤ) (g₀ : List ℕ) where
         record { kept = λ j b. ap (λ (x : ℕ → ℤ). x j) (sym (wholes-at g)) ∙ k .kept j b ∙ ap (λ (x : ℕ → ℤ). x j) (wholes-at g₀) }
 
     -- the test of row i, lent as a part of k numbers
-    module _ (k : ℕ) (e : k ≡ w) (lt : i < h) (ok : Bool) (is : ok ≡ every (length (midOf (i * w) k l)) (λ j. between (pos 0) (pos 65535) (at (midOf (i * w) k l) j))) where
+    module _ (k : ℕ) (e : k ≡ w) (lt : i < h) (ok : Bool) (is : ok ≡ every (length (midOf (i * w) k l)) (λ j. between (pos 0) (pos maxSample) (at (midOf (i * w) k l) j))) where
       row-test : ok ≡ every w (λ c. valueFits 0 (cells w (at l₀) i c))
       row-test = is ∙ row-fits w i _ (cells w (at l₀)) _ (row-length w w h _ l₀ i k l e lt (f .rows)) (lent-row w w h _ l₀ i k l e (f .rows))
 

@@ -71,8 +71,8 @@ between-is N v =
     (λ e. let a = leb-true _ _ e in both-is _ _ (between-low N (pos N) v refl a) (between-high N (pos N) v refl a))
 
 -- ---- question 14
-pub height-fits : (v : ℤ) → between (pos 0) (pos 65535) v ≡ valueFits 0 v
-unfolding valueFits between maxSample
+pub height-fits : (v : ℤ) → between (pos 0) (pos maxSample) v ≡ valueFits 0 v
+unfolding valueFits between
 height-fits v = refl
 
 level-fits : (k : ℕ) (v : ℤ) → between (negℤ (pos (range (suc k)))) (pos (range (suc k))) v ≡ valueFits (suc k) v

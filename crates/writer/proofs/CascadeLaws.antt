@@ -1,6 +1,6 @@
 -- The machine's steps at the 5/3 level, as the code's branches meet them. Assumes nothing.
 use mathlib.Core.Path.{_≡_, refl, sym, ap, _∙_}
-use Prim.Native.Nat.{ℕ, zero, suc, _+_, _-_, _*_, _/_, _%_, _<_}
+use Prim.Native.Nat.{ℕ, zero, suc, _+_, _-_, _*_, _/_, _%_, _<_, _^_}
 use native.Mathlib.Omega.{arith}
 use borrow.Author.Tests.{eq-eqb, ne-eqb, lt-ltb, le-ltb}
 use Rattle.lifting.specs.Line.{lo, count}
@@ -25,7 +25,7 @@ pub left-same : (l w : ℕ) (o o′ : Out) (r : Wait) (x : Memory) → o ≡ o�
 left-same l w o o′ r x e f = rw e f
 
 -- an offset is far from what a number holds
-pub left-small : (l w : ℕ) (o : Out) (r : Wait) (x : Memory) → w < 65536 → l < 65536 → Left l w o r x → r .offset < 4294967296
+pub left-small : (l w : ℕ) (o : Out) (r : Wait) (x : Memory) → w < 2 ^ 16 → l < 2 ^ 16 → Left l w o r x → r .offset < 4294967296
 left-small l w o r x h g f = omega (arith, f .offset, f .level, f .within, start-le w (o .level))
 
 -- what waits of the level above: seen from there

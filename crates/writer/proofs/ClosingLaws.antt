@@ -1,6 +1,6 @@
 -- The closing of the levels, as the code's branches meet it. Assumes nothing.
 use mathlib.Core.Path.{_≡_, refl, sym, ap, _∙_}
-use Prim.Native.Nat.{ℕ, zero, suc, _+_, _-_, _*_, _≤_, _<_}
+use Prim.Native.Nat.{ℕ, zero, suc, _+_, _-_, _*_, _≤_, _<_, _^_}
 use native.Mathlib.Numerals.{add-one}
 use native.Mathlib.Omega.{arith}
 use Rattle.lifting.specs.Line.{lo, count}
@@ -47,7 +47,7 @@ module _ (l w c m k n q i : ℕ) (x x₁ : Memory) (e : c ≡ 0) (h : 0 < m) (ek
   close-goes r y g f = left-same (l + 1) w _ _ r y (closes ∙ settled-goes _ n i x₁ g) f
 
 -- ---- all of them
-pub closed-small : (l w : ℕ) (o : Shut) (r : Closure) (x : Memory) → w < 65536 → l < 65536 → Closed l w o r x → r .offset < 4294967296
+pub closed-small : (l w : ℕ) (o : Shut) (r : Closure) (x : Memory) → w < 2 ^ 16 → l < 2 ^ 16 → Closed l w o r x → r .offset < 4294967296
 closed-small l w o r x h g f = omega (arith, f .offset, f .level, f .within, start-le w (o .out .level))
 
 pub shut-none : (l w c m : ℕ) (x : Memory) → l ≡ 0 → c ≤ l → Closed l w (shut fiveThree l w c m x) (record { closed = c; level = 0; left = 0; offset = 0 }) x

@@ -1,6 +1,6 @@
 -- The row that waits and its draw, as the code's branches meet them. Assumes nothing.
 use mathlib.Core.Path.{_≡_, refl, sym, ap, _∙_, fun-ext}
-use Prim.Native.Nat.{ℕ, zero, suc, _+_, _-_, _*_, _≤_, _<_}
+use Prim.Native.Nat.{ℕ, zero, suc, _+_, _-_, _*_, _≤_, _<_, _^_}
 use native.Mathlib.Numerals.{add-one}
 use native.Mathlib.Decide.{decLt}
 use native.Mathlib.Omega.{arith}
@@ -133,7 +133,7 @@ starts-here w v (suc u) e =
     let q : startOf w (suc u) ≡ startOf w v + startOf w (suc u) = omega (arith, z) in
     ap (λ (k : ℕ). startOf w (deeperBy k (suc u))) k ∙ ap (startOf w) (deeper-by-same (suc u)) ∙ q ∙ further-some (suc u) (startOf w v) _ (omega arith)
 
-pub reaches-here : (l w c v m : ℕ) → 0 < l → v ≡ 1 → w < 65536 → m < 65536 → Reaches l w c v m (record { below = l - 1; width = w; closed = c; rows = m })
+pub reaches-here : (l w c v m : ℕ) → 0 < l → v ≡ 1 → w < 2 ^ 16 → m < 2 ^ 32 → Reaches l w c v m (record { below = l - 1; width = w; closed = c; rows = m })
 reaches-here l w c v m h e g g′ =
     let z = start-first w v (omega arith) in
     let k : l - 1 + 1 ≡ l = omega arith in

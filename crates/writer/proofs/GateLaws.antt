@@ -41,10 +41,10 @@ module _ (p q : ℕ) where
   asked-all false b h = absurd (omega arith)
 
 -- ---- question 1, the tests but the last passed
-pub ranges-last : (s : Writer) → within 1 2049 (s .width) ≡ true → within 1 5 (s .levels) ≡ true → s .rows ≤ 65535 → s .column < s .width →
+pub ranges-last : (s : Writer) → within 1 maxWidth (s .width) ≡ true → within 1 maxLevels (s .levels) ≡ true → s .rows ≤ maxHeight → s .column < s .width →
     s .closed ≤ s .levels → s .level ≤ s .levels → s .left ≤ mostLeft (s .levels) (s .level) → (b : Bool) → eqb (s .offset)
     (startOf (s .width) (s .level)) ≡ b → b ≡ inRanges s
-unfolding inRanges maxWidth maxHeight maxLevels
+unfolding inRanges
 ranges-last s a b d e f g h t is = simp (a, b, le-leb _ _ d, lt-ltb _ _ e, le-leb _ _ f, le-leb _ _ g, le-leb _ _ h) (sym is)
 
 -- where a level's stretch begins, as `store_length` of the levels before it says it
@@ -91,9 +91,9 @@ enough W (suc (suc (suc (suc (suc (suc L)))))) n h g = absurd (omega arith)
 
 -- ---- a state that passes questions 1 and 5
 pub record Sound (s : Writer) (n : ℕ) : Type 0 where
-  pub width : (1 ≤ s .width) × (s .width ≤ 2049)
+  pub width : (1 ≤ s .width) × (s .width ≤ maxWidth)
   pub levels : (1 ≤ s .levels) × (s .levels ≤ 5)
-  pub rows : s .rows ≤ 65535
+  pub rows : s .rows ≤ maxHeight
   pub column : s .column < s .width
   pub closed : s .closed ≤ s .levels
   pub level : s .level ≤ s .levels
@@ -111,7 +111,7 @@ module _ (s : Writer) (n : ℕ) where
   state-yes x h = asked-yes 0 4 (inRanges s) (longEnough n s) x h
 
   pub sound : stateQuestion s n ≡ 0 → Sound s n
-  unfolding stateQuestion inRanges longEnough maxWidth maxHeight maxLevels
+  unfolding stateQuestion inRanges longEnough maxLevels
   sound h =
       let e = asked-all 0 4 (inRanges s) (longEnough n s) h in
       let a = sweep.both _ _ (e .0) in
@@ -122,7 +122,7 @@ module _ (s : Writer) (n : ℕ) where
       let i = sweep.both _ _ (g .1) in
       let j = sweep.both _ _ (i .1) in
       record {
-        width = within-true 1 2049 _ (a .0);
+        width = within-true 1 maxWidth _ (a .0);
         levels = within-true 1 5 _ (b .0);
         rows = leb-true _ _ (d .0);
         column = ltb-true _ _ (f .0);
@@ -160,13 +160,11 @@ module _ (s : Writer) (n k : ℕ) where
   unfolding offerQuestion
   offer-rest x h g e = sym (state-yes s n _ h ∙ open-yes s _ g ∙ e)
 
-  pub offer-limit : stateQuestion s n ≡ 0 → openQuestion s ≡ 0 → 0 < k → 65535 ≤ s .rows → 10 ≡ offerQuestion s n k
-  unfolding maxHeight
-  offer-limit h g a b = offer-rest 10 h g (simp (ne-eqb k 0 (omega arith), le-ltb (s .rows) 65535 b))
+  pub offer-limit : stateQuestion s n ≡ 0 → openQuestion s ≡ 0 → 0 < k → maxHeight ≤ s .rows → 10 ≡ offerQuestion s n k
+  offer-limit h g a b = offer-rest 10 h g (simp (ne-eqb k 0 (omega arith), le-ltb (s .rows) maxHeight b))
 
-  pub offer-passes : stateQuestion s n ≡ 0 → openQuestion s ≡ 0 → s .rows < 65535 → 0 ≡ offerQuestion s n k
-  unfolding maxHeight
-  offer-passes h g b = offer-rest 0 h g (simp (lt-ltb (s .rows) 65535 b) (any (eqb k 0)))
+  pub offer-passes : stateQuestion s n ≡ 0 → openQuestion s ≡ 0 → s .rows < maxHeight → 0 ≡ offerQuestion s n k
+  offer-passes h g b = offer-rest 0 h g (simp (lt-ltb (s .rows) maxHeight b) (any (eqb k 0)))
     where
       any : (a : Bool) → ask (either a true) 10 0 ≡ 0
       any true = refl

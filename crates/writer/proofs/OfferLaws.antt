@@ -13,6 +13,7 @@ use borrow.Author.Tests.{eq-eqb, ne-eqb, lt-ltb, le-ltb, ltb-true}
 use Rattle.numbers.specs.Signal.{at, both}
 use Rattle.numbers.proofs.Sweep as sweep
 use Rattle.wavelet.specs.Limits.{maxHeight}
+use Rattle.wavelet.proofs.LimitLaws.{width-small, height-small}
 use Rattle.writer.specs.declared.Writer.{Writer}
 use Rattle.writer.specs.declared.cascade.Wait.{Wait}
 use Rattle.writer.specs.Level.{Memory}
@@ -42,25 +43,25 @@ plus-more a t = ap (λ (k : ℕ). record { taken = k; writer = t .writer; store 
 
 -- ---- whether a height is taken
 module _ (s : Writer) where
-  pub takes-yes : s .level ≡ 0 → s .rows < 65535 → takes s ≡ true
-  unfolding takes maxHeight
-  takes-yes a b = simp (eq-eqb (s .level) 0 a, lt-ltb (s .rows) 65535 b)
+  pub takes-yes : s .level ≡ 0 → s .rows < maxHeight → takes s ≡ true
+  unfolding takes
+  takes-yes a b = simp (eq-eqb (s .level) 0 a, lt-ltb (s .rows) maxHeight b)
 
   pub takes-waits : 0 < s .level → takes s ≡ false
   unfolding takes
   takes-waits h = simp (ne-eqb (s .level) 0 (omega arith))
 
-  pub takes-full : 65535 ≤ s .rows → takes s ≡ false
-  unfolding takes maxHeight
-  takes-full h = simp (le-ltb (s .rows) 65535 h) (last (eqb (s .level) 0))
+  pub takes-full : maxHeight ≤ s .rows → takes s ≡ false
+  unfolding takes
+  takes-full h = simp (le-ltb (s .rows) maxHeight h) (last (eqb (s .level) 0))
     where
       last : (a : Bool) → both a false ≡ false
       last true = refl
       last false = refl
 
-  pub takes-rows : takes s ≡ true → s .rows < 65535
-  unfolding takes maxHeight
-  takes-rows e = ltb-true (s .rows) 65535 (sweep.both (eqb (s .level) 0) _ e .1)
+  pub takes-rows : takes s ≡ true → s .rows < maxHeight
+  unfolding takes
+  takes-rows e = ltb-true (s .rows) maxHeight (sweep.both (eqb (s .level) 0) _ e .1)
 
   pub takes-at : (c : ℕ) → takes (atColumn s c) ≡ takes s
   unfolding takes
@@ -218,7 +219,7 @@ offer-turn run s₀ m₀ m s k n r m′ n′ o h f z e =
 -- what `stretch` requires
 pub record Ready (s : Writer) (m : List ℤ) (run : List ℕ) (k n : ℕ) : Type 0 where
   pub taker : Taker s (length m)
-  pub rows : s .rows < 65535
+  pub rows : s .rows < maxHeight
   pub row : s .column + n ≤ s .width
   pub heights : k + n ≤ length run
 
@@ -243,8 +244,8 @@ sound-taker s l f =
     record {
       room = record {
         room = f .room;
-        wide = omega (arith, f .width);
-        rows = omega (arith, f .rows);
+        wide = omega (arith, f .width, width-small);
+        rows = omega (arith, f .rows, height-small);
         deep = omega
             (arith, f .levels);
       };
@@ -258,7 +259,7 @@ module _ (s : Writer) (run : List ℕ) (k n : ℕ) (x y : Memory) (l : ℕ) (t :
   pub stretched-inside : s .column + n < s .width → Stretched s run k n x (atColumn s (s .column + n)) y l
   stretched-inside h = record { inside = λ g. (refl, e); whole = λ g. absurd (omega arith); taker = record { room = t .room; column = h; deep = t .deep } }
 
-  pub stretched-whole : (o : Wait) (z : Memory) → s .column + n ≡ s .width → s .rows < 65535 →
+  pub stretched-whole : (o : Wait) (z : Memory) → s .column + n ≡ s .width → s .rows < maxHeight →
       Left (s .levels) (s .width) (arrive fiveThree (s .levels) (s .width) (s .rows) y) o z →
       Stretched s run k n x
       (record {
@@ -278,7 +279,7 @@ module _ (s : Writer) (run : List ℕ) (k n : ℕ) (x y : Memory) (l : ℕ) (t :
         inside = λ d. absurd (omega arith);
         whole = λ d. (rw (g .level, g .left, g .offset) refl, g .store);
         taker = record {
-          room = record { room = t .room .room; wide = t .room .wide; rows = omega arith; deep = t .room .deep };
+          room = record { room = t .room .room; wide = t .room .wide; rows = omega (arith, height-small); deep = t .room .deep };
           column = omega arith;
           deep = t .deep;
         };

@@ -1,6 +1,6 @@
 -- What the private functions require and leave: the machine's steps at the 5/3 level. Nothing here needs to be believed.
 use mathlib.Core.Path.{_≡_}
-use Prim.Native.Nat.{ℕ, _+_, _*_, _<_, _≤_}
+use Prim.Native.Nat.{ℕ, _+_, _*_, _^_, _<_, _≤_}
 use Rattle.lifting.specs.Line.{lo, count}
 use Rattle.wavelet.specs.Bands.{LL, across, code}
 use Rattle.wavelet.specs.Store.{storeLength}
@@ -20,9 +20,9 @@ use Rattle.writer.specs.Calls.{waits, afterDraw}
 -- l levels, the first of w columns, in a store of n numbers; m is a number of rows
 pub record Room (l w m n : ℕ) : Type 0 where
   pub room : storeLength w l ≤ n
-  pub wide : w < 65536
-  pub rows : m < 65536
-  pub deep : l < 65536
+  pub wide : w < 2 ^ 16
+  pub rows : m < 2 ^ 32
+  pub deep : l < 2 ^ 16
 
 -- what a step of l levels leaves, the first of w columns: what waits, r, and the store x, as the machine's o; and where the stretch of its level begins
 pub record Left (l w : ℕ) (o : Out) (r : Wait) (x : Memory) : Type 0 where
@@ -40,9 +40,9 @@ delivered w n x = joinAt (4 * w) x (rowPut (count lo w) n (λ i. x (bandPlace w 
 pub record Walk (l w v m : ℕ) : Type 0 where
   pub first : 0 < v
   pub last : v ≤ l
-  pub wide : w < 65536
-  pub rows : m < 65536
-  pub deep : l < 65536
+  pub wide : w < 2 ^ 16
+  pub rows : m < 2 ^ 32
+  pub deep : l < 2 ^ 16
 
 -- the row that waits at level v, r, whose stretch begins at a: i bands of its last set are left
 abbrev pub lastSetOf : Level → ℕ
@@ -72,8 +72,8 @@ pub record Reaches (l w c v m : ℕ) (r : Level) : Type 0 where
   pub pulls : (i : ℕ) (x : Memory) → pull fiveThree l w c v i m x ≡ pullAt v (startOf w v) r i x
   pub starts : (u : ℕ) → startOf w (deeperBy (prev v) u) ≡ further u (startOf w v) (startOf (r .width) u)
   pub room : startOf w v + storeLength (r .width) (r .below + 1) ≡ storeLength w l
-  pub wide : r .width < 65536
-  pub rows : r .rows < 65536
+  pub wide : r .width < 2 ^ 16
+  pub rows : r .rows < 2 ^ 32
   pub deep : r .below + v ≡ l
 
 -- the offset of a writer is where its level's stretch begins

@@ -5,7 +5,7 @@ use crate::cascade::Wait;
 use crate::counts;
 use wavelet::sizes;
 ghost use mathlib.Core.Path.{_≡_};
-ghost use Prim.Native.Nat.{_<_, _+_, _*_};
+ghost use Prim.Native.Nat.{_<_, _+_, _*_, _^_};
 ghost use lib.ListN.{length};
 ghost use Rattle.numbers.specs.Signal.{at};
 ghost use Rattle.writer.specs.Counts.{bandAt};
@@ -25,7 +25,7 @@ pub struct Spot {
 
 // Where the row of the band that i bands come after stands, of set n of a level of w columns.
 fn place(w: usize, n: usize, i: usize) -> usize
-    requires { ⌜ (w < 65536) × (n < 65536) ⌝ }
+    requires { ⌜ (w < 2 ^ 16) × (n < 2 ^ 32) ⌝ }
     ensures { λ r. ⌜ r ≡ bandPlace w n (bandAt i) ⌝ }
 {
     match i {

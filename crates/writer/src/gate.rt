@@ -4,7 +4,7 @@ use crate::counts;
 use wavelet::limits;
 use wavelet::store;
 ghost use mathlib.Core.Path.{_≡_};
-ghost use Prim.Native.Nat.{_+_, _*_, _/_, _<_};
+ghost use Prim.Native.Nat.{_+_, _*_, _/_, _^_, _<_};
 ghost use lib.Dec.{leb};
 ghost use Rattle.writer.specs.Questions.{inRanges, setUpQuestion, offerQuestion, finishQuestion};
 ghost use Rattle.writer.specs.Gate.{stateQuestion, openQuestion};
@@ -39,7 +39,7 @@ pub fn in_ranges(s: Writer) -> bool
 
 // Whether n numbers are enough for every number of levels. At the most levels a width of 2^k + 1 needs just as many, so the sizes are seldom added up.
 fn holds_any(width: usize, n: usize) -> bool
-    requires { ⌜ width < 65536 ⌝ }
+    requires { ⌜ width < 2 ^ 16 ⌝ }
     ensures { λ r. ⌜ r ≡ leb ((31 * width + 52) / 4) n ⌝ }
 {
     (31 * width + 52) / 4 <= n

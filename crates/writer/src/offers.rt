@@ -3,9 +3,10 @@ use crate::Writer;
 use crate::cascade;
 use crate::counts;
 ghost use mathlib.Core.Path.{_≡_};
-ghost use Prim.Native.Nat.{_+_, _*_, _<_, _≤_};
+ghost use Prim.Native.Nat.{_+_, _*_, _^_, _<_, _≤_};
 ghost use lib.ListN.{length};
 ghost use Rattle.numbers.specs.Signal.{at};
+ghost use Rattle.wavelet.specs.Limits.{maxHeight};
 ghost use Rattle.writer.specs.Taking.{heightAt};
 ghost use Rattle.writer.specs.Stretch.{heightsPut, nextCount, Taker, Stretched};
 
@@ -20,7 +21,7 @@ fn fill_pairs(
     from: usize,
     pairs: usize,
 )
-    requires { ⌜ (4 * w ≤ length (now store)) × (w < 65536) × (column + 2 * pairs ≤ w) × (from + 2 * pairs ≤ length (now run)) ⌝ }
+    requires { ⌜ (4 * w ≤ length (now store)) × (w < 2 ^ 16) × (column + 2 * pairs ≤ w) × (from + 2 * pairs ≤ length (now run)) ⌝ }
     ensures { λ _. ⌜ at (now (store .exit)) ≡ heightsPut w m column (2 * pairs) (λ j. heightAt (now (run .entry)) (from + j)) (at (now (store .entry))) ⌝ }
 {
     let first = counts::cell(w, m, column);
@@ -35,7 +36,7 @@ fn fill_pairs(
 
 // Heights `from` to `from + n` of a run, to the columns of row m from `column` on: pairs, and the last by itself where n is odd.
 fn fill(store: &mut [i32], w: usize, m: usize, column: usize, run: &[u16], from: usize, n: usize)
-    requires { ⌜ (4 * w ≤ length (now store)) × (w < 65536) × (column + n ≤ w) × (from + n ≤ length (now run)) ⌝ }
+    requires { ⌜ (4 * w ≤ length (now store)) × (w < 2 ^ 16) × (column + n ≤ w) × (from + n ≤ length (now run)) ⌝ }
     ensures { λ _. ⌜ at (now (store .exit)) ≡ heightsPut w m column n (λ j. heightAt (now (run .entry)) (from + j)) (at (now (store .entry))) ⌝ }
 {
     let pairs = n / 2;
@@ -67,7 +68,7 @@ pub fn next(s: Writer, k: usize) -> usize
 
 // A stretch of n heights of a run, from height `from` on; where it completes the row, what that makes.
 pub fn stretch(s: Writer, store: &mut [i32], run: &[u16], from: usize, n: usize) -> Writer
-    requires { ⌜ Taker s (length (now store)) × (s .rows < 65535) × (s .column + n ≤ s .width) × (from + n ≤ length (now run)) ⌝ }
+    requires { ⌜ Taker s (length (now store)) × (s .rows < maxHeight) × (s .column + n ≤ s .width) × (from + n ≤ length (now run)) ⌝ }
     ensures { λ r. ⌜ Stretched s (now (run .entry)) from n (at (now (store .entry))) r (at (now (store .exit))) (length (now (store .entry))) ⌝ }
 {
     fill(store, s.width, s.rows, s.column, run, from, n);

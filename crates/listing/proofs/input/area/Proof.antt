@@ -3,10 +3,12 @@ use mathlib.Core.Path.{_≡_, refl, sym, ap, _∙_}
 use borrow.Author.Needs.{needs}
 use native.Mathlib.Omega.{arith}
 use native.Mathlib.Nat.{mul-le-mul}
+use Rattle.listing.specs.Listing.{maxListedHeight}
 use Rattle.listing.proofs.input.area.Statement.{statement}
 use Rattle.listing.proofs.input.area.Tie as tie
 
 mul-result : tie.Need-mul-result
+unfolding maxListedHeight
 mul-result c = omega (arith, mul-le-mul (c .pre .0) (c .pre .1))
 
 returns : tie.Need-returns

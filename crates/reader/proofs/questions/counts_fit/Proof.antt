@@ -2,6 +2,7 @@
 use mathlib.Core.Path.{_∙_, sym}
 use native.Mathlib.Omega.{arith}
 use borrow.Author.Tests.{not-true, not-false}
+use Rattle.wavelet.specs.Limits.{maxWidth, maxHeight, maxLevels}
 use Rattle.reader.proofs.QuestionLaws.{counts-1, counts-2, counts-3, counts-4, counts-5, counts-6}
 use Rattle.reader.proofs.questions.counts_fit.Statement.{statement}
 use Rattle.reader.proofs.questions.counts_fit.Tie as tie
@@ -10,12 +11,14 @@ is-within-requires : tie.Need-is-within-requires
 is-within-requires c κs = tt
 
 returns : tie.Need-returns
+unfolding maxWidth maxHeight maxLevels
 returns c = counts-1 _ (sym (c .before .is-within .ensures) ∙ not-true _ (c .if1 .taken))
 
 is-within-requires-2 : tie.Need-is-within-requires-2
 is-within-requires-2 c κs = tt
 
 returns-2 : tie.Need-returns-2
+unfolding maxWidth maxHeight maxLevels
 returns-2 c =
     let a = c .before .before in
     counts-2 _ (sym (a .before .is-within .ensures) ∙ not-false _ (a .if1 .left)) (sym (c .before .is-within2 .ensures) ∙ not-true _ (c .if2 .taken))
@@ -24,12 +27,14 @@ is-within-requires-3 : tie.Need-is-within-requires-3
 is-within-requires-3 c κs = tt
 
 returns-3 : tie.Need-returns-3
+unfolding maxWidth maxHeight maxLevels
 returns-3 c =
     let b = c .before .before in
     let a = b .before .before in
     counts-3 _ (sym (a .before .is-within .ensures) ∙ not-false _ (a .if1 .left)) (sym (b .before .is-within2 .ensures) ∙ not-false _ (b .if2 .left)) (sym (c .before .is-within3 .ensures) ∙ not-true _ (c .if3 .taken))
 
 returns-4 : tie.Need-returns-4
+unfolding maxWidth maxHeight maxLevels
 returns-4 c =
     let d = c .before .before in
     let b = d .before .before in
@@ -37,6 +42,7 @@ returns-4 c =
     counts-4 _ (sym (a .before .is-within .ensures) ∙ not-false _ (a .if1 .left)) (sym (b .before .is-within2 .ensures) ∙ not-false _ (b .if2 .left)) (sym (d .before .is-within3 .ensures) ∙ not-false _ (d .if3 .left)) (c .if4 .taken)
 
 returns-5 : tie.Need-returns-5
+unfolding maxWidth maxHeight maxLevels
 returns-5 c =
     let f = c .before .before in
     let d = f .before .before in
@@ -45,6 +51,7 @@ returns-5 c =
     counts-5 _ (sym (a .before .is-within .ensures) ∙ not-false _ (a .if1 .left)) (sym (b .before .is-within2 .ensures) ∙ not-false _ (b .if2 .left)) (sym (d .before .is-within3 .ensures) ∙ not-false _ (d .if3 .left)) (omega arith) (c .if5 .taken)
 
 returns-6 : tie.Need-returns-6
+unfolding maxWidth maxHeight maxLevels
 returns-6 c =
     let g = c .before in
     let f = g .before .before in

@@ -2,6 +2,7 @@
 use mathlib.Core.Path.{_∙_, sym}
 use native.Mathlib.Omega.{arith}
 use borrow.Author.Tests.{not-true, not-false}
+use Rattle.wavelet.specs.Limits.{maxWidth, maxHeight, maxLevels}
 use Rattle.reader.proofs.QuestionLaws.{up-2, up-3, up-4, up-5, up-0}
 use Rattle.reader.proofs.questions.set_up_question.Statement.{statement}
 use Rattle.reader.proofs.questions.set_up_question.Tie as tie
@@ -10,12 +11,14 @@ is-within-requires : tie.Need-is-within-requires
 is-within-requires c κs = tt
 
 returns : tie.Need-returns
+unfolding maxWidth maxHeight maxLevels
 returns c = up-2 _ _ _ _ (sym (c .before .is-within .ensures) ∙ not-true _ (c .if1 .taken))
 
 is-within-requires-2 : tie.Need-is-within-requires-2
 is-within-requires-2 c κs = tt
 
 returns-2 : tie.Need-returns-2
+unfolding maxWidth maxHeight maxLevels
 returns-2 c =
     let a = c .before .before in
     up-3 _ _ _ _ (sym (a .before .is-within .ensures) ∙ not-false _ (a .if1 .left)) (sym (c .before .is-within2 .ensures) ∙ not-true _ (c .if2 .taken))
@@ -24,6 +27,7 @@ is-within-requires-3 : tie.Need-is-within-requires-3
 is-within-requires-3 c κs = tt
 
 returns-3 : tie.Need-returns-3
+unfolding maxWidth maxHeight maxLevels
 returns-3 c =
     let b = c .before .before in
     let a = b .before .before in
@@ -33,6 +37,7 @@ store-length-requires : tie.Need-store-length-requires
 store-length-requires c κs = tt
 
 returns-4 : tie.Need-returns-4
+unfolding maxWidth maxHeight maxLevels
 returns-4 c =
     let d = c .before .before in
     let b = d .before .before in
@@ -40,6 +45,7 @@ returns-4 c =
     up-5 _ _ _ _ (sym (a .before .is-within .ensures) ∙ not-false _ (a .if1 .left)) (sym (b .before .is-within2 .ensures) ∙ not-false _ (b .if2 .left)) (sym (d .before .is-within3 .ensures) ∙ not-false _ (d .if3 .left)) (c .before .store-length .result) (c .before .store-length .ensures) (omega arith)
 
 returns-5 : tie.Need-returns-5
+unfolding maxWidth maxHeight maxLevels
 returns-5 c =
     let d = c .before .before in
     let b = d .before .before in

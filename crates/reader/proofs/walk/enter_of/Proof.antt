@@ -1,6 +1,6 @@
 -- `reader::walk::enter_of` meets its contract: the search of the definition, from level 0 on. Assumes nothing.
 use mathlib.Core.Path.{_∙_, sym, ap}
-use Prim.Native.Nat.{_-_, _≤_}
+use Prim.Native.Nat.{_-_, _≤_, _<_, _^_}
 use native.Mathlib.Omega.{arith}
 use Rattle.wavelet.specs.Limits.{maxLevels}
 use Rattle.wavelet.proofs.SizeLaws.{count-lo}
@@ -12,7 +12,7 @@ use Rattle.reader.proofs.walk.enter_of.Tie as tie
 
 abbrev Inv-loop : tie.InvT-loop
 Inv-loop width height levels d k₀ r₀ h₀ k r h =
-    (height ≤ 4294967295) × (levels ≤ maxLevels) × Down width height levels d k r h
+    (height < 2 ^ 32) × (levels ≤ maxLevels) × Down width height levels d k r h
 
 abbrev μ-loop : tie.MeasureT-loop
 μ-loop width height levels d k₀ r₀ h₀ k r h = levels - k

@@ -1,6 +1,6 @@
 -- `reader::walk::level_at` meets its contract: a walk from level 1 on. Assumes nothing.
 use mathlib.Core.Path.{_≡_, _∙_, ap}
-use Prim.Native.Nat.{ℕ, suc, _-_, _≤_}
+use Prim.Native.Nat.{ℕ, suc, _-_, _≤_, _<_, _^_}
 use native.Mathlib.Omega.{arith}
 use Rattle.wavelet.specs.Limits.{maxLevels}
 use Rattle.wavelet.specs.Levels.{size}
@@ -13,7 +13,7 @@ use Rattle.reader.proofs.walk.level_at.Tie as tie
 
 abbrev Inv-loop : tie.InvT-loop
 Inv-loop width height drawn k start₀ w₀ h₀ n₀ i₀ start w h n i =
-    (i ≤ k) × (k ≤ maxLevels) × (width ≤ 65536) × (height ≤ 4294967295) × Walked width height drawn i start w h n
+    (i ≤ k) × (k ≤ maxLevels) × (width ≤ 2 ^ 16) × (height < 2 ^ 32) × Walked width height drawn i start w h n
 
 abbrev μ-loop : tie.MeasureT-loop
 μ-loop width height drawn k start₀ w₀ h₀ n₀ i₀ start w h n i = k - i

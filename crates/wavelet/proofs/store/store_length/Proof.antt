@@ -13,28 +13,27 @@ use Rattle.wavelet.proofs.store.store_length.Statement.{statement}
 use Rattle.wavelet.proofs.store.store_length.Tie as tie
 
 module _ (W L : ℕ) where
-  wide : within 1 2049 W ≡ false → 0 ≡ pick (both (within 1 maxWidth W) (within 1 maxLevels L)) (storeLength W L) 0
-  unfolding maxWidth
+  wide : within 1 maxWidth W ≡ false → 0 ≡ pick (both (within 1 maxWidth W) (within 1 maxLevels L)) (storeLength W L) 0
   wide a = rw a
 
-  deep : within 1 2049 W ≡ true → within 1 5 L ≡ false → 0 ≡ pick (both (within 1 maxWidth W) (within 1 maxLevels L)) (storeLength W L) 0
-  unfolding maxWidth maxLevels
+  deep : within 1 maxWidth W ≡ true → within 1 maxLevels L ≡ false → 0 ≡ pick (both (within 1 maxWidth W) (within 1 maxLevels L)) (storeLength W L) 0
   deep a b = rw (a, b)
 
-  fits : within 1 2049 W ≡ true → within 1 5 L ≡ true → storeLength W L ≡ pick (both (within 1 maxWidth W) (within 1 maxLevels L)) (storeLength W L) 0
-  unfolding maxWidth maxLevels
+  fits : within 1 maxWidth W ≡ true → within 1 maxLevels L ≡ true → storeLength W L ≡ pick (both (within 1 maxWidth W) (within 1 maxLevels L)) (storeLength W L) 0
   fits a b = rw (a, b)
 
 is-within-requires : tie.Need-is-within-requires
 is-within-requires c κs = search needs
 
 returns : tie.Need-returns
+unfolding maxWidth maxLevels
 returns c = wide _ _ (sym (c .before .is-within .ensures) ∙ not-true _ (c .if1 .taken))
 
 is-within-requires-2 : tie.Need-is-within-requires-2
 is-within-requires-2 c κs = search needs
 
 returns-2 : tie.Need-returns-2
+unfolding maxWidth maxLevels
 returns-2 c =
     let b = c .before .before in
     deep _ _ (sym (b .before .is-within .ensures) ∙ not-false _ (b .if1 .left)) (sym (c .before .is-within2 .ensures) ∙ not-true _ (c .if2 .taken))
@@ -43,11 +42,12 @@ needed-requires : tie.Need-needed-requires
 unfolding maxWidth maxLevels
 needed-requires c κs =
     let b = c .before .before in
-    let w = within-true 1 2049 _ (sym (b .before .is-within .ensures) ∙ not-false _ (b .if1 .left)) in
-    let l = within-true 1 5 _ (sym (c .before .is-within2 .ensures) ∙ not-false _ (c .if2 .left)) in
+    let w = within-true 1 maxWidth _ (sym (b .before .is-within .ensures) ∙ not-false _ (b .if1 .left)) in
+    let l = within-true 1 maxLevels _ (sym (c .before .is-within2 .ensures) ∙ not-false _ (c .if2 .left)) in
     (w .1, l .1)
 
 returns-3 : tie.Need-returns-3
+unfolding maxWidth maxLevels
 returns-3 c =
     let d = c .before in
     let b = d .before .before in

@@ -5,6 +5,7 @@ use native.Mathlib.Omega.{arith}
 use lib.ListN.{length}
 use borrow.Author.Needs.{needs}
 use borrow.Author.Tests.{not-true, not-false}
+use Rattle.wavelet.specs.Limits.{maxSample}
 use Rattle.whole_map.proofs.GridSweep.{pass-room, row-length}
 use Rattle.whole_map.proofs.HeightRows.{swept-room, swept-length, swept-size, row-heights, Finishing, finish-start, finish-no, finish-turn, finish-yes}
 use Rattle.whole_map.proofs.heights.finish_rows.Statement.{statement}
@@ -55,6 +56,7 @@ same-length-2 : tie.Need-same-length-2 Inv-loop μ-loop
 same-length-2 c = let head = c .before .before .before .before .before in swept-size (head .loop .heights) (head .loop .inv .heights) (head .before .before .args .heights .now) refl
 
 returns : tie.Need-returns Inv-loop μ-loop
+unfolding maxSample
 returns c =
     let test = c .before in
     let row = test .before .before .before in
@@ -88,6 +90,7 @@ part-finish-row-end-2 : tie.Need-part-finish-row-end-2 Inv-loop μ-loop
 part-finish-row-end-2 c = omega (arith, room (c .before .before .before .before .before))
 
 finish-row-requires : tie.Need-finish-row-requires Inv-loop μ-loop
+unfolding maxSample
 finish-row-requires c κs =
     let good = c .before .before in
     let test = good .before in
@@ -110,6 +113,7 @@ loop-less : tie.Need-loop-less Inv-loop μ-loop
 loop-less c = omega arith
 
 loop-again : tie.Need-loop-again Inv-loop μ-loop
+unfolding maxSample
 loop-again c =
     let done = c .before .before .before in
     let good = done .before .before .before in

@@ -4,6 +4,7 @@ use native.Mathlib.Omega.{arith}
 use borrow.Author.Needs.{needs}
 use lib.ListN.{length}
 use Rattle.numbers.specs.Signal.{at}
+use Rattle.wavelet.proofs.LimitLaws.{width-small, height-small}
 use Rattle.writer.specs.Machine.{rest}
 use Rattle.writer.specs.Gate.{stateQuestion}
 use Rattle.writer.proofs.GateLaws.{sound}
@@ -28,7 +29,7 @@ waiting-requires c κs =
     let a = c .before .before .before .before .args in
     let q : stateQuestion (a .self) (length (a .store .now)) ≡ 0 = omega arith in
     let f = sound (a .self) (length (a .store .now)) q in
-    omega arith
+    omega (arith, width-small, height-small)
 
 returns-3 : tie.Need-returns-3
 returns-3 c =
@@ -50,7 +51,7 @@ draw-on-requires c κs =
     let a = c .before .before .before .before .before .before .before .before .before .before .before .before .args in
     let q : stateQuestion (a .self) (length (a .store .now)) ≡ 0 = omega arith in
     let f = sound (a .self) (length (a .store .now)) q in
-    omega arith
+    omega (arith, width-small, height-small)
 
 same-length : tie.Need-same-length
 same-length c = search needs

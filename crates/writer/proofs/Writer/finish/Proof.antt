@@ -3,6 +3,7 @@ use mathlib.Core.Path.{_≡_}
 use native.Mathlib.Omega.{arith}
 use borrow.Author.Needs.{needs}
 use lib.ListN.{length}
+use Rattle.wavelet.proofs.LimitLaws.{width-small, height-small}
 use Rattle.writer.specs.Questions.{finishQuestion}
 use Rattle.writer.proofs.CallLaws.{finish-sound, finish-no, finish-yes}
 use Rattle.writer.proofs.CallsKeep.{finish-kept}
@@ -20,7 +21,7 @@ shut-requires c κs =
     let a = c .before .before .before .args in
     let q : finishQuestion (a .self) (length (a .store .now)) ≡ 0 = omega arith in
     let f = finish-sound (a .self) (length (a .store .now)) q in
-    omega arith
+    omega (arith, width-small, height-small)
 
 same-length : tie.Need-same-length
 same-length c = search needs

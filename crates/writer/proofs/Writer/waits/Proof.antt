@@ -1,5 +1,6 @@
 -- `Writer::waits` meets its contract. Assumes nothing.
 use native.Mathlib.Omega.{arith}
+use Rattle.wavelet.proofs.LimitLaws.{width-small, height-small}
 use Rattle.writer.proofs.LookLaws.{look-no, look-none, look-sound, look-row}
 use Rattle.writer.proofs.Writer.waits.Statement.{statement}
 use Rattle.writer.proofs.Writer.waits.Tie as tie
@@ -11,7 +12,7 @@ returns : tie.Need-returns
 returns c = look-no _ _ (c .before .in-ranges .ensures) (c .if1 .taken)
 
 waiting-requires : tie.Need-waiting-requires
-waiting-requires c κs = let f = look-sound _ _ (c .before .before .before .in-ranges .ensures) (c .before .before .if1 .left) in omega arith
+waiting-requires c κs = let f = look-sound _ _ (c .before .before .before .in-ranges .ensures) (c .before .before .if1 .left) in omega (arith, width-small, height-small)
 
 returns-2 : tie.Need-returns-2
 returns-2 c =

@@ -103,7 +103,7 @@ store-length-requires : tie.Need-store-length-requires
 store-length-requires c κs = tt
 
 returns-8 : tie.Need-returns-8
-unfolding maxWidth maxLevels
+unfolding maxWidth maxHeight maxLevels
 returns-8 c =
     let s = c .before .before .before .before .before .before .before .before .before .before .before .before .before .before .before .before .before .before .args .s in
     let w = sym (c .before .before .before .before .before .before .before .before .before .before .before .before .before .before .before .before .before .is-within .ensures) ∙ not-false _ (c .before .before .before .before .before .before .before .before .before .before .before .before .before .before .before .before .if1 .left) in

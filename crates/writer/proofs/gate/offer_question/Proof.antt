@@ -2,6 +2,7 @@
 use mathlib.Core.Path.{_∙_}
 use native.Mathlib.Omega.{arith}
 use borrow.Author.Needs.{needs}
+use Rattle.wavelet.specs.Limits.{maxHeight}
 use Rattle.writer.proofs.GateLaws.{offer-state, offer-open, offer-limit, offer-passes, offer-empty}
 use Rattle.writer.proofs.gate.offer_question.Statement.{statement}
 use Rattle.writer.proofs.gate.offer_question.Tie as tie
@@ -19,9 +20,11 @@ returns-2 : tie.Need-returns-2
 returns-2 c = c .before .open-question .ensures ∙ offer-open _ _ _ (omega arith) (λ z. omega arith)
 
 returns-3 : tie.Need-returns-3
+unfolding maxHeight
 returns-3 c = offer-limit _ _ _ (omega arith) (omega arith) (omega arith) (omega arith)
 
 returns-4 : tie.Need-returns-4
+unfolding maxHeight
 returns-4 c = offer-passes _ _ _ (omega arith) (omega arith) (omega arith)
 
 returns-5 : tie.Need-returns-5

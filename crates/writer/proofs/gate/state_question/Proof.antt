@@ -3,7 +3,7 @@ use mathlib.Core.Path.{_≡_, sym, _∙_}
 use mathlib.Core.Bool.{true}
 use native.Mathlib.Omega.{arith}
 use borrow.Author.Needs.{needs}
-use Prim.Native.Nat.{ℕ, _+_, _*_, _/_, _<_, _≤_}
+use Prim.Native.Nat.{ℕ, _+_, _*_, _/_, _^_, _<_, _≤_}
 use lib.Dec.{leb}
 use borrow.Author.Tests.{not-true, not-false, le-leb, lt-leb, leb-true}
 use Rattle.numbers.specs.Signal.{pick, both}
@@ -11,6 +11,7 @@ use Rattle.numbers.proofs.Sweep as sweep
 use Rattle.wavelet.specs.Limits.{maxWidth, maxLevels}
 use Rattle.wavelet.specs.Questions.{within}
 use Rattle.wavelet.specs.Store.{storeLength}
+use Rattle.wavelet.proofs.LimitLaws.{width-small}
 use Rattle.wavelet.proofs.QuestionLaws.{within-true}
 use Rattle.writer.specs.declared.Writer.{Writer}
 use Rattle.writer.specs.Questions.{inRanges, longEnough}
@@ -20,9 +21,9 @@ use Rattle.writer.proofs.gate.state_question.Statement.{statement}
 use Rattle.writer.proofs.gate.state_question.Tie as tie
 
 module _ (s : Writer) (n : ℕ) (h : inRanges s ≡ true) where
-  wide : s .width < 65536
-  unfolding inRanges maxWidth
-  wide = let a = sweep.both (within 1 maxWidth (s .width)) _ h in omega (arith, within-true 1 2049 _ (a .0))
+  wide : s .width < 2 ^ 16
+  unfolding inRanges
+  wide = let a = sweep.both (within 1 maxWidth (s .width)) _ h in omega (arith, within-true 1 maxWidth _ (a .0), width-small)
 
   any : leb ((31 * s .width + 52) / 4) n ≡ true → 0 ≡ stateQuestion s n
   unfolding stateQuestion longEnough inRanges maxLevels

@@ -1,6 +1,6 @@
 -- `offers::fill_pairs` meets its contract: after j turns 2j heights are put. Assumes nothing.
 use mathlib.Core.Path.{_≡_, refl, sym, ap, _∙_}
-use Prim.Native.Nat.{ℕ, _+_, _*_, _-_, _≤_, _<_}
+use Prim.Native.Nat.{ℕ, _+_, _*_, _-_, _^_, _≤_, _<_}
 use native.Mathlib.Omega.{arith}
 use lib.ListN.{length, getD, length-set}
 use Rattle.numbers.specs.Signal.{at}
@@ -15,7 +15,7 @@ use Rattle.writer.proofs.offers.fill_pairs.Tie as tie
 -- the bounds, the two places, and the heights put
 abbrev Inv-loop : tie.InvT-loop
 Inv-loop store₀ w m column run from pairs first second j₀ store j =
-    (j ≤ pairs) × (w < 65536) × (column + 2 * pairs ≤ w) × (from + 2 * pairs ≤ length run)
+    (j ≤ pairs) × (w < 2 ^ 16) × (column + 2 * pairs ≤ w) × (from + 2 * pairs ≤ length run)
     × (first ≡ cellOf w m column) × (second ≡ cellOf w m (column + 1))
     × Put w m column (2 * j) (λ i. heightAt run (from + i)) store₀ store
 

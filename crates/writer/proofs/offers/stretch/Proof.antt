@@ -3,6 +3,7 @@ use native.Mathlib.Omega.{arith}
 use lib.ListN.{length}
 use borrow.Author.Needs.{needs}
 use Rattle.lifting.specs.Line.{lo, count}
+use Rattle.wavelet.proofs.LimitLaws.{height-small}
 use Rattle.wavelet.proofs.StoreLaws.{store-none, store-below, store-back}
 use Rattle.writer.proofs.OfferLaws.{stretched-inside, stretched-whole}
 use Rattle.writer.proofs.offers.stretch.Statement.{statement}
@@ -29,7 +30,7 @@ arrive-requires c κs =
     omega (arith, store-back (s .width) (s .levels) (omega arith), store-below (s .width) 0, store-none (count lo (s .width)))
 
 add-t14 : tie.Need-add-t14
-add-t14 c = search needs
+add-t14 c = omega (arith, height-small)
 
 same-length-2 : tie.Need-same-length-2
 same-length-2 c = search needs
