@@ -24,39 +24,27 @@ fn differ(answer: u8, expected: u8) -> u64 {
 }
 
 // A map of one row, there and back: W and L are asked by both calls.
-fn map_answer(
-    width: usize,
-    levels: usize,
-    heights: &mut [u16],
-    plane: &mut [i32],
-    work: &mut [i32],
-    expected: u8,
-) -> u64 {
-    let a = whole_map::forward(heights, width, 1, levels, plane, work);
-    let b = whole_map::backward(plane, width, 1, levels, heights, work);
+fn map_answer(width: usize, levels: usize, plane: &mut [i32], expected: u8) -> u64 {
+    let mut heights = [0u16; 2100];
+    let mut work = [0i32; 2100];
+    let a = whole_map::forward(&heights, width, 1, levels, plane, &mut work);
+    let b = whole_map::backward(plane, width, 1, levels, &mut heights, &mut work);
     area::sum(differ(a, expected), differ(b, expected))
 }
 
-fn stream_answer(width: usize, levels: usize, store: &mut [i32], expected: u8) -> u64 {
-    let a = writer_answer(width, levels, store);
-    let b = reader_answer(width, levels, store);
+fn stream_answer(width: usize, levels: usize, expected: u8) -> u64 {
+    let mut store = [0i32; 16400];
+    let a = writer_answer(width, levels, &mut store);
+    let b = reader_answer(width, levels, &mut store);
     area::sum(differ(a, expected), differ(b, expected))
 }
 
 // One width and number of levels at every call that asks for them: the whole map, the view and the set-ups.
-fn size(
-    t: Tally,
-    width: usize,
-    levels: usize,
-    expected: u8,
-    heights: &mut [u16],
-    plane: &mut [i32],
-    work: &mut [i32],
-    store: &mut [i32],
-) -> Tally {
-    let a = map_answer(width, levels, heights, plane, work, expected);
-    let b = stream_answer(width, levels, store, expected);
-    let c = wavelet::view::band_row_question(plane, width, 1, levels, levels, 0, 0);
+fn size(t: Tally, width: usize, levels: usize, expected: u8) -> Tally {
+    let mut plane = [0i32; 2100];
+    let a = map_answer(width, levels, &mut plane, expected);
+    let b = stream_answer(width, levels, expected);
+    let c = wavelet::view::band_row_question(&plane, width, 1, levels, levels, 0, 0);
     t.more(5, area::sum(differ(c, expected), area::sum(a, b)))
 }
 
@@ -95,9 +83,10 @@ fn feeds(r: Reader, store: &mut [i32], plane: &[i32]) -> u8 {
     0
 }
 
-fn feed_answer(store: &mut [i32], plane: &[i32]) -> u8 {
-    match Reader::set_up(2, 2, 1, store) {
-        reader::SetUp::Ready(r) => feeds(r, store, plane),
+fn feed_answer(plane: &[i32]) -> u8 {
+    let mut store = [0i32; 16];
+    match Reader::set_up(2, 2, 1, &mut store) {
+        reader::SetUp::Ready(r) => feeds(r, &mut store, plane),
         reader::SetUp::Refused(no) => no,
     }
 }
@@ -107,14 +96,7 @@ fn at_band(band: usize, i: usize, v: i32) -> i32 {
 }
 
 // A plane of 2 × 2 with one coefficient that is not 0: back by the whole map and by the reader.
-fn coefficient(
-    t: Tally,
-    band: usize,
-    v: i32,
-    expected: u8,
-    work: &mut [i32],
-    store: &mut [i32],
-) -> Tally {
+fn coefficient(t: Tally, band: usize, v: i32, expected: u8) -> Tally {
     let plane = [
         at_band(band, 0, v),
         at_band(band, 1, v),
@@ -122,56 +104,40 @@ fn coefficient(
         at_band(band, 3, v),
     ];
     let mut heights = [0u16; 4];
-    let a = whole_map::backward(&plane, 2, 2, 1, &mut heights, work);
-    let b = feed_answer(store, &plane);
+    let mut work = [0i32; 4];
+    let a = whole_map::backward(&plane, 2, 2, 1, &mut heights, &mut work);
+    let b = feed_answer(&plane);
     t.more(2, area::sum(differ(a, expected), differ(b, expected)))
 }
 
-fn either_side(t: Tally, band: usize, work: &mut [i32], store: &mut [i32]) -> Tally {
-    let a = coefficient(t, band, 262140, 14, work, store);
-    let b = coefficient(a, band, 262141, 7, work, store);
-    let c = coefficient(b, band, -262140, 14, work, store);
-    coefficient(c, band, -262141, 7, work, store)
+fn either_side(t: Tally, band: usize) -> Tally {
+    let a = coefficient(t, band, 262140, 14);
+    let b = coefficient(a, band, 262141, 7);
+    let c = coefficient(b, band, -262140, 14);
+    coefficient(c, band, -262141, 7)
 }
 
 // Just inside its range a coefficient passes question 7; no map has it, so the answer is 14.
-fn coefficients(start: Tally, work: &mut [i32], store: &mut [i32]) -> Tally {
-    let mut t = start;
-    let mut band = 0;
-    while band < 4 {
-        t = either_side(t, band, work, store);
-        band += 1;
-    }
-    t
+fn coefficients(t: Tally) -> Tally {
+    let a = either_side(t, 0);
+    let b = either_side(a, 1);
+    let c = either_side(b, 2);
+    either_side(c, 3)
 }
 
 // W on either side of its limits.
-fn widths(
-    start: Tally,
-    heights: &mut [u16],
-    plane: &mut [i32],
-    work: &mut [i32],
-    store: &mut [i32],
-) -> Tally {
-    let a = size(start, 2049, 5, 0, heights, plane, work, store);
-    let b = size(a, 2050, 5, 2, heights, plane, work, store);
-    size(b, 0, 5, 2, heights, plane, work, store)
+fn widths(t: Tally) -> Tally {
+    let a = size(t, 2049, 5, 0);
+    let b = size(a, 2050, 5, 2);
+    size(b, 0, 5, 2)
 }
 
 // L on either side of its limit.
-fn levels(
-    start: Tally,
-    heights: &mut [u16],
-    plane: &mut [i32],
-    work: &mut [i32],
-    store: &mut [i32],
-) -> Tally {
-    let a = size(start, 1, 5, 0, heights, plane, work, store);
-    size(a, 1, 6, 4, heights, plane, work, store)
+fn levels(t: Tally) -> Tally {
+    let a = size(t, 1, 5, 0);
+    size(a, 1, 6, 4)
 }
 
-pub fn run(heights: &mut [u16], plane: &mut [i32], work: &mut [i32], store: &mut [i32]) -> Tally {
-    let a = widths(Tally::new(), heights, plane, work, store);
-    let b = levels(a, heights, plane, work, store);
-    coefficients(b, work, store)
+pub fn run() -> Tally {
+    coefficients(levels(widths(Tally::new())))
 }

@@ -61,50 +61,36 @@ fn there_and_back(
     t.more(area::sum(n as u64, n as u64), area::sum(a, b))
 }
 
-// One map, its areas a little longer than needed.
-fn compare(
-    t: Tally,
-    s: Shape,
-    map: &[u16],
-    book: &[u64],
-    plane: &mut [i32],
-    work: &mut [i32],
-    heights: &mut [u16],
-) -> Tally {
+// Map number i, its areas a little longer than needed.
+fn one_map(t: Tally, i: usize) -> Tally {
+    let s = heights::shape_at(i);
     let m = std::num::wrapping_add_usize(heights::count(s), SURPLUS);
-    if plane.len() < m {
-        return t.failed();
-    }
-    if work.len() < m {
-        return t.failed();
-    }
-    if heights.len() < m {
+    let mut map = [0u16; 6160];
+    let mut book = [0u64; area::BOOK];
+    let mut plane = [0i32; 6160];
+    let mut work = [0i32; 6160];
+    let mut back = [0u16; 6160];
+    t800::prepare(i, &mut map, &mut book);
+    if 6160 < m {
         return t.failed();
     }
     there_and_back(
         t,
-        map,
-        book,
+        &map,
+        &book,
         s,
         &mut plane[0..m],
         &mut work[0..m],
-        &mut heights[0..m],
+        &mut back[0..m],
     )
 }
 
 // All maps.
-pub fn run(
-    map: &mut [u16],
-    book: &mut [u64],
-    plane: &mut [i32],
-    work: &mut [i32],
-    heights: &mut [u16],
-) -> Tally {
+pub fn run() -> Tally {
     let mut t = Tally::new();
     let mut i = 0;
     while i < heights::MAPS {
-        t800::prepare(i, map, book);
-        t = compare(t, heights::shape_at(i), map, book, plane, work, heights);
+        t = one_map(t, i);
         i += 1;
     }
     t

@@ -3,19 +3,6 @@
 mod reading;
 
 fn main() {
-    let mut map = [0u16; 6160];
-    let mut book = [0u64; second::area::BOOK];
-    let mut plane = [0i32; 6160];
-    let mut work = [0i32; 6160];
-    let mut store = [0i32; 16400];
-    let mut out = [0u16; 6160];
-    let t = reading::run(
-        &mut map,
-        &mut book,
-        &mut plane,
-        &mut work,
-        &mut store,
-        &mut out,
-    );
+    let t = reading::run();
     t.print(b"reader");
 }

@@ -342,71 +342,51 @@ fn read(
     book: &[u64],
     plane: &[i32],
     store: &mut [i32],
-    out: &mut [u16],
 ) -> Tally {
     match Reader::set_up(s.width, s.height, s.levels, store) {
         SetUp::Ready(reader) => {
             let start = fresh(reader, s, i, total);
-            let end = turns(start, map, book, plane, store, out);
+            let mut out = [0u16; 6160];
+            let end = turns(start, map, book, plane, store, &mut out);
             tallied(t, s, end)
         }
         SetUp::Refused(_) => t.failed(),
     }
 }
 
-// One map; the line store has no number more than it needs.
-fn compare(
-    t: Tally,
-    s: Shape,
-    i: usize,
-    total: usize,
-    map: &[u16],
-    book: &[u64],
-    plane: &[i32],
-    store: &mut [i32],
-    out: &mut [u16],
-) -> Tally {
-    let m = heights::store_length(s);
-    if store.len() < m {
-        return t.failed();
-    }
-    read(t, s, i, total, map, book, plane, &mut store[0..m], out)
+// The rows that are fed are those of the whole map's plane; the second plane is what they are held against.
+fn prepare(i: usize, s: Shape, map: &mut [u16], book: &mut [u64], plane: &mut [i32]) -> u8 {
+    let mut work = [0i32; 6160];
+    t800::prepare(i, map, book);
+    whole_map::forward(map, s.width, s.height, s.levels, plane, &mut work)
 }
 
-// The rows that are fed are those of the whole map's plane; the second plane is what they are held against.
-fn one_map(
-    t: Tally,
-    i: usize,
-    map: &[u16],
-    book: &mut [u64],
-    plane: &mut [i32],
-    work: &mut [i32],
-    store: &mut [i32],
-    out: &mut [u16],
-) -> Tally {
+// Map number i; the line store has no number more than it needs, and begins with marks in it.
+fn one_map(t: Tally, i: usize) -> Tally {
     let s = heights::shape_at(i);
-    let total = order::reader_steps(book, s);
-    let no = whole_map::forward(map, s.width, s.height, s.levels, plane, work);
+    let m = heights::store_length(s);
+    if 16400 < m {
+        return t.failed();
+    }
+    let mut map = [0u16; 6160];
+    let mut book = [0u64; area::BOOK];
+    let mut plane = [0i32; 6160];
+    let mut store = [0i32; 16400];
+    let no = prepare(i, s, &mut map, &mut book, &mut plane);
     if 0 < no {
         return t.failed();
     }
-    compare(t, s, i, total, map, book, plane, store, out)
+    let total = order::reader_steps(&mut book, s);
+    area::mark(&mut store);
+    read(t, s, i, total, &map, &book, &plane, &mut store[0..m])
 }
 
 // All maps.
-pub fn run(
-    map: &mut [u16],
-    book: &mut [u64],
-    plane: &mut [i32],
-    work: &mut [i32],
-    store: &mut [i32],
-    out: &mut [u16],
-) -> Tally {
+pub fn run() -> Tally {
     let mut t = Tally::new();
     let mut i = 0;
     while i < heights::MAPS {
-        t800::prepare(i, map, book);
-        t = one_map(t, i, map, book, plane, work, store, out);
+        t = one_map(t, i);
         i += 1;
     }
     t

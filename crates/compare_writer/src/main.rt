@@ -3,10 +3,6 @@
 mod writing;
 
 fn main() {
-    let mut map = [0u16; 6160];
-    let mut book = [0u64; second::area::BOOK];
-    let mut store = [0i32; 16400];
-    let mut out = [0i32; 6160];
-    let t = writing::run(&mut map, &mut book, &mut store, &mut out);
+    let t = writing::run();
     t.print(b"writer");
 }

@@ -371,28 +371,6 @@ fn write(
     }
 }
 
-// One map, cut in one way; the line store has no number more than it needs.
-fn compare(
-    t: Tally,
-    s: Shape,
-    cut: usize,
-    total: usize,
-    map: &[u16],
-    book: &[u64],
-    store: &mut [i32],
-    out: &mut [i32],
-) -> Tally {
-    let n = heights::count(s);
-    let m = heights::store_length(s);
-    if map.len() < n {
-        return t.failed();
-    }
-    if store.len() < m {
-        return t.failed();
-    }
-    write(t, s, cut, total, &map[0..n], book, &mut store[0..m], out)
-}
-
 // One map, cut in all ways.
 fn cuts(
     start: Tally,
@@ -406,31 +384,39 @@ fn cuts(
     let mut t = start;
     let mut cut = 0;
     while cut < CUTS {
-        t = compare(t, s, cut, total, map, book, store, out);
+        t = write(t, s, cut, total, map, book, store, out);
         cut += 1;
     }
     t
 }
 
-fn one_map(
-    t: Tally,
-    s: Shape,
-    map: &[u16],
-    book: &mut [u64],
-    store: &mut [i32],
-    out: &mut [i32],
-) -> Tally {
-    let total = order::writer_rows(book, s);
-    cuts(t, s, total, map, book, store, out)
+// Map number i; the line store has no number more than it needs, and begins with marks in it.
+fn one_map(t: Tally, i: usize) -> Tally {
+    let s = heights::shape_at(i);
+    let n = heights::count(s);
+    let m = heights::store_length(s);
+    if 6160 < n {
+        return t.failed();
+    }
+    if 16400 < m {
+        return t.failed();
+    }
+    let mut map = [0u16; 6160];
+    let mut book = [0u64; area::BOOK];
+    let mut store = [0i32; 16400];
+    let mut out = [0i32; 6160];
+    t800::prepare(i, &mut map, &mut book);
+    let total = order::writer_rows(&mut book, s);
+    area::mark(&mut store);
+    cuts(t, s, total, &map[0..n], &book, &mut store[0..m], &mut out)
 }
 
 // All maps.
-pub fn run(map: &mut [u16], book: &mut [u64], store: &mut [i32], out: &mut [i32]) -> Tally {
+pub fn run() -> Tally {
     let mut t = Tally::new();
     let mut i = 0;
     while i < heights::MAPS {
-        t800::prepare(i, map, book);
-        t = one_map(t, heights::shape_at(i), map, book, store, out);
+        t = one_map(t, i);
         i += 1;
     }
     t

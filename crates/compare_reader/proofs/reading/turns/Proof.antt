@@ -25,8 +25,8 @@ same-length-2 c = search needs
 returns : tie.Need-returns Inv-loop μ-loop
 returns c = tt
 
-read-count-requires : tie.Need-read-count-requires Inv-loop μ-loop
-read-count-requires c κs = tt
+step-at-requires : tie.Need-step-at-requires Inv-loop μ-loop
+step-at-requires c κs = tt
 
 sown-requires : tie.Need-sown-requires Inv-loop μ-loop
 sown-requires c κs = tt
@@ -65,7 +65,7 @@ turns-spec =
     same-length
     same-length-2
     returns
-    read-count-requires
+    step-at-requires
     sown-requires
     step-requires
     sub-left

@@ -16,8 +16,8 @@ abbrev μ-loop : tie.MeasureT-loop
 loop-holds : tie.Need-loop-holds Inv-loop μ-loop
 loop-holds c = search needs
 
-compare-requires : tie.Need-compare-requires Inv-loop μ-loop
-compare-requires c κs = tt
+write-requires : tie.Need-write-requires Inv-loop μ-loop
+write-requires c κs = tt
 
 add-cut : tie.Need-add-cut Inv-loop μ-loop
 add-cut c = omega arith
@@ -44,7 +44,7 @@ cuts-spec =
     Inv-loop
     μ-loop
     loop-holds
-    compare-requires
+    write-requires
     add-cut
     loop-less
     loop-again
