@@ -67,58 +67,69 @@ impl Turn {
     }
 }
 
-fn feed_refused(r: Reader, store: &mut [i32], run: &[i32], no: u8) -> u64 {
+// What a draw gave where no row can be drawn yet.
+const NOTHING: u8 = 100;
+
+// A call's answer as a number: 0 where it passed, NOTHING, 14, or the question that refused it. With it the heights drawn, and the reader after the call.
+struct Answer {
+    no: u8,
+    count: usize,
+    reader: Reader,
+}
+
+fn gives(no: u8, count: usize, reader: Reader) -> Answer {
+    Answer { no, count, reader }
+}
+
+fn fed(r: Reader, store: &mut [i32], run: &[i32]) -> Answer {
     match r.feed(store, run) {
-        Fed::Passed(_) => 1,
-        Fed::Impossible(_) => 1,
-        Fed::Refused(q) => area::differ_count(q as usize, no as usize),
+        Fed::Passed(next) => gives(0, 0, next),
+        Fed::Impossible(next) => gives(14, 0, next),
+        Fed::Refused(no) => gives(no, 0, r),
     }
 }
 
-// A draw into marks that is refused, with the area untouched.
+fn drawn(r: Reader, store: &mut [i32], out: &mut [u16]) -> Answer {
+    match r.draw(store, out) {
+        Drawn::Heights(n, next) => gives(0, n, next),
+        Drawn::Nothing => gives(NOTHING, 0, r),
+        Drawn::Impossible(next) => gives(14, 0, next),
+        Drawn::Refused(no) => gives(no, 0, r),
+    }
+}
+
+fn differ_no(a: Answer, no: u8) -> u64 {
+    area::differ_count(a.no as usize, no as usize)
+}
+
+fn feed_refused(r: Reader, store: &mut [i32], run: &[i32], no: u8) -> u64 {
+    differ_no(fed(r, store, run), no)
+}
+
+// A draw into marks that gives no row, with the area untouched.
 fn draw_refused(r: Reader, store: &mut [i32], out: &mut [u16], no: u8) -> u64 {
-    match r.draw(store, out) {
-        Drawn::Heights(_, _) => 1,
-        Drawn::Nothing => 1,
-        Drawn::Impossible(_) => 1,
-        Drawn::Refused(q) => area::sum(
-            area::differ_count(q as usize, no as usize),
-            area::unmarked_heights(out, 0),
-        ),
-    }
-}
-
-fn draw_short(r: Reader, store: &mut [i32], out: &mut [u16]) -> u64 {
     area::mark_heights(out);
-    draw_refused(r, store, out, 12)
-}
-
-// A draw that gives Nothing, with the area untouched.
-fn draw_none(r: Reader, store: &mut [i32], out: &mut [u16]) -> u64 {
-    match r.draw(store, out) {
-        Drawn::Heights(_, _) => 1,
-        Drawn::Nothing => area::unmarked_heights(out, 0),
-        Drawn::Impossible(_) => 1,
-        Drawn::Refused(_) => 1,
-    }
+    let a = drawn(r, store, out);
+    area::sum(differ_no(a, no), area::unmarked_heights(out, 0))
 }
 
 fn draw_nothing(r: Reader, store: &mut [i32], out: &mut [u16]) -> u64 {
     if out.len() < 4 {
         return 1;
     }
-    let few = &mut out[0..4];
-    area::mark_heights(few);
-    draw_none(r, store, few)
+    draw_refused(r, store, &mut out[0..4], NOTHING)
+}
+
+// What the answer to a feed of n numbers makes of a turn.
+fn row_fed(t: Turn, a: Answer, n: usize) -> Turn {
+    if 0 < a.no {
+        return t.stopped();
+    }
+    t.moved(a.reader, n)
 }
 
 fn feed_row(t: Turn, store: &mut [i32], run: &[i32]) -> Turn {
-    let r = t.reader;
-    match r.feed(store, run) {
-        Fed::Passed(next) => t.moved(next, run.len()),
-        Fed::Impossible(_) => t.stopped(),
-        Fed::Refused(_) => t.stopped(),
-    }
+    row_fed(t, fed(t.reader, store, run), run.len())
 }
 
 // The view of a band row against its place in the second plane; then it is fed.
@@ -168,19 +179,18 @@ fn row_differences(t: Turn, n: usize, map: &[u16], out: &[u16]) -> u64 {
     area::sum(a, area::sum(b, c))
 }
 
-fn draw_row(t: Turn, map: &[u16], store: &mut [i32], out: &mut [u16]) -> Turn {
-    let r = t.reader;
-    match r.draw(store, out) {
-        Drawn::Heights(n, next) => t.drew(next, n, row_differences(t, n, map, out)),
-        Drawn::Nothing => t.stopped(),
-        Drawn::Impossible(_) => t.stopped(),
-        Drawn::Refused(_) => t.stopped(),
+// What the answer to a draw makes of a turn.
+fn row_drawn(t: Turn, a: Answer, map: &[u16], out: &[u16]) -> Turn {
+    if 0 < a.no {
+        return t.stopped();
     }
+    t.drew(a.reader, a.count, row_differences(t, a.count, map, out))
 }
 
 fn draw_marked(t: Turn, map: &[u16], store: &mut [i32], out: &mut [u16]) -> Turn {
     area::mark_heights(out);
-    draw_row(t, map, store, out)
+    let a = drawn(t.reader, store, out);
+    row_drawn(t, a, map, out)
 }
 
 // A draw into an area of any length up to two rows: one that is too short is refused by 12.
@@ -191,7 +201,7 @@ fn draw_room(t: Turn, map: &[u16], store: &mut [i32], out: &mut [u16]) -> Turn {
         return t.stopped();
     }
     if room < t.shape.width {
-        let a = draw_short(r, store, &mut out[0..room]);
+        let a = draw_refused(r, store, &mut out[0..room], 12);
         return t.found(a);
     }
     draw_marked(t, map, store, &mut out[0..room])
@@ -222,6 +232,30 @@ fn differ(t: Turn, code: usize, level: usize, band: usize, row: usize, length: u
     )
 }
 
+const FEED: usize = 0;
+
+const TAKE: usize = 1;
+
+const LAST: usize = 2;
+
+const STOP: usize = 3;
+
+// What is to be done: the want's words, where the list agrees.
+struct Doing {
+    what: usize,
+    differences: u64,
+}
+
+fn doing_if(fits: bool, what: usize, differences: u64) -> Doing {
+    if fits {
+        return Doing { what, differences };
+    }
+    Doing {
+        what: STOP,
+        differences,
+    }
+}
+
 // Is this step of the list a draw?
 fn is_draw(t: Turn, code: usize) -> bool {
     if code == order::DRAW {
@@ -230,41 +264,19 @@ fn is_draw(t: Turn, code: usize) -> bool {
     false
 }
 
-// The row wanted is held against the step of the list, and fed.
-fn wanted_row(
-    t: Turn,
-    code: usize,
-    differences: u64,
-    book: &[u64],
-    plane: &[i32],
-    store: &mut [i32],
-    out: &mut [u16],
-) -> Turn {
-    if t.steps < t.total {
-        return feed_step(t.found(differences), code, book, plane, store, out);
+fn wanted(t: Turn, code: usize) -> Doing {
+    let r = t.reader;
+    match r.want() {
+        Wanted::Row(level, band, row, length) => doing_if(
+            t.steps < t.total,
+            FEED,
+            differ(t, code, level, band, row, length),
+        ),
+        Wanted::Draw => doing_if(is_draw(t, code), TAKE, 0),
+        Wanted::Done => doing_if(t.steps == t.total, LAST, 0),
+        Wanted::Ended => doing_if(false, STOP, 0),
+        Wanted::Refused(_) => doing_if(false, STOP, 0),
     }
-    t.stopped()
-}
-
-fn wanted_draw(
-    t: Turn,
-    code: usize,
-    map: &[u16],
-    plane: &[i32],
-    store: &mut [i32],
-    out: &mut [u16],
-) -> Turn {
-    if is_draw(t, code) {
-        return draw_step(t, map, plane, store, out);
-    }
-    t.stopped()
-}
-
-fn wanted_done(t: Turn, plane: &[i32], store: &mut [i32], out: &mut [u16]) -> Turn {
-    if t.steps == t.total {
-        return last_step(t, plane, store, out);
-    }
-    t.stopped()
 }
 
 fn step(
@@ -276,17 +288,19 @@ fn step(
     store: &mut [i32],
     out: &mut [u16],
 ) -> Turn {
-    let r = t.reader;
-    match r.want() {
-        Wanted::Row(level, band, row, length) => {
-            let a = differ(t, code, level, band, row, length);
-            wanted_row(t, code, a, book, plane, store, out)
-        }
-        Wanted::Draw => wanted_draw(t, code, map, plane, store, out),
-        Wanted::Done => wanted_done(t, plane, store, out),
-        Wanted::Ended => t.stopped(),
-        Wanted::Refused(_) => t.stopped(),
+    let d = wanted(t, code);
+    let u = t.found(d.differences);
+    let what = d.what;
+    if what == FEED {
+        return feed_step(u, code, book, plane, store, out);
     }
+    if what == LAST {
+        return last_step(u, plane, store, out);
+    }
+    if what == STOP {
+        return u.stopped();
+    }
+    draw_step(u, map, plane, store, out)
 }
 
 // All turns of one reader.

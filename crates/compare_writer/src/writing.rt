@@ -116,37 +116,83 @@ fn expected_take(t: Turn, book: &[u64], run: usize) -> usize {
     k
 }
 
-// Does the offer's refusal have this number?
-fn offer_refused(w: Writer, store: &mut [i32], run: &[u16], no: u8) -> u64 {
+// What a draw gave where no row waits.
+const NOTHING: u8 = 100;
+
+// A call's answer as a number: 0 where it passed, NOTHING, or the question that refused it. With it the heights taken, and the writer after the call.
+struct Answer {
+    no: u8,
+    count: usize,
+    writer: Writer,
+}
+
+fn gives(no: u8, count: usize, writer: Writer) -> Answer {
+    Answer { no, count, writer }
+}
+
+fn offered(w: Writer, store: &mut [i32], run: &[u16]) -> Answer {
     match w.offer(store, run) {
-        Offered::Taken(_, _) => 1,
-        Offered::Refused(q) => area::differ_count(q as usize, no as usize),
+        Offered::Taken(n, next) => gives(0, n, next),
+        Offered::Refused(no) => gives(no, 0, w),
     }
+}
+
+fn finished(w: Writer, store: &mut [i32]) -> Answer {
+    match w.finish(store) {
+        Finished::Closed(next) => gives(0, 0, next),
+        Finished::Refused(no) => gives(no, 0, w),
+    }
+}
+
+// The answer to a draw, and the row that was drawn.
+struct Drew {
+    answer: Answer,
+    row: BandRow,
+}
+
+fn no_row() -> BandRow {
+    BandRow {
+        level: 0,
+        band: 0,
+        row: 0,
+        length: 0,
+    }
+}
+
+fn drew_row(answer: Answer, row: BandRow) -> Drew {
+    Drew { answer, row }
+}
+
+fn drawn(w: Writer, store: &mut [i32], out: &mut [i32]) -> Drew {
+    match w.draw(store, out) {
+        Drawn::Row(row, next) => drew_row(gives(0, 0, next), row),
+        Drawn::Nothing => drew_row(gives(NOTHING, 0, w), no_row()),
+        Drawn::Refused(no) => drew_row(gives(no, 0, w), no_row()),
+    }
+}
+
+fn differ_no(a: Answer, no: u8) -> u64 {
+    area::differ_count(a.no as usize, no as usize)
+}
+
+fn offer_refused(w: Writer, store: &mut [i32], run: &[u16], no: u8) -> u64 {
+    differ_no(offered(w, store, run), no)
 }
 
 fn finish_refused(w: Writer, store: &mut [i32], no: u8) -> u64 {
-    match w.finish(store) {
-        Finished::Closed(_) => 1,
-        Finished::Refused(q) => area::differ_count(q as usize, no as usize),
-    }
+    differ_no(finished(w, store), no)
 }
 
 fn draw_refused(w: Writer, store: &mut [i32], out: &mut [i32], no: u8) -> u64 {
-    match w.draw(store, out) {
-        Drawn::Row(_, _) => 1,
-        Drawn::Nothing => 1,
-        Drawn::Refused(q) => area::differ_count(q as usize, no as usize),
-    }
+    let d = drawn(w, store, out);
+    differ_no(d.answer, no)
 }
 
 // A draw when no row waits, with the area untouched.
 fn draw_nothing(w: Writer, store: &mut [i32], out: &mut [i32]) -> u64 {
     area::mark(out);
-    match w.draw(store, out) {
-        Drawn::Row(_, _) => 1,
-        Drawn::Nothing => area::unmarked(out, 0),
-        Drawn::Refused(_) => 1,
-    }
+    let a = draw_refused(w, store, out, NOTHING);
+    area::sum(a, area::unmarked(out, 0))
 }
 
 // A row that was drawn: its level, band, number, length and values, and no number after them.
@@ -159,17 +205,18 @@ fn row_differences(row: BandRow, s: Shape, book: &[u64], code: usize, out: &[i32
     area::sum(area::sum(a, b), area::sum(c, d))
 }
 
-fn draw_row(t: Turn, book: &[u64], code: usize, store: &mut [i32], out: &mut [i32]) -> Turn {
-    let w = t.writer;
-    match w.draw(store, out) {
-        Drawn::Row(row, next) => t.drew(
-            next,
-            row.length,
-            row_differences(row, t.shape, book, code, out),
-        ),
-        Drawn::Nothing => t.stopped(),
-        Drawn::Refused(_) => t.stopped(),
+// What the answer to a draw makes of a turn.
+fn row_drawn(t: Turn, d: Drew, book: &[u64], code: usize, out: &[i32]) -> Turn {
+    let a = d.answer;
+    let row = d.row;
+    if 0 < a.no {
+        return t.stopped();
     }
+    t.drew(
+        a.writer,
+        row.length,
+        row_differences(row, t.shape, book, code, out),
+    )
 }
 
 // A row waits: offer and finish are refused by 8, or by 9 after the finish.
@@ -200,7 +247,8 @@ fn draw_short(t: Turn, length: usize, store: &mut [i32], out: &mut [i32]) -> u64
 
 fn draw_marked(t: Turn, book: &[u64], code: usize, store: &mut [i32], out: &mut [i32]) -> Turn {
     area::mark(out);
-    draw_row(t, book, code, store, out)
+    let d = drawn(t.writer, store, out);
+    row_drawn(t, d, book, code, out)
 }
 
 // A draw with room for two numbers more.
@@ -226,14 +274,18 @@ fn draw_step(t: Turn, map: &[u16], book: &[u64], store: &mut [i32], out: &mut [i
     draw_long(t.found(a), book, code, store, out)
 }
 
+// What the answer to an offer makes of a turn.
+fn run_offered(t: Turn, a: Answer, expected: usize) -> Turn {
+    if 0 < a.no {
+        return t.stopped();
+    }
+    t.took(a.writer, expected, area::differ_count(a.count, expected))
+}
+
 // The next run; it begins at place `taken`.
 fn offer_run(t: Turn, run: &[u16], book: &[u64], store: &mut [i32]) -> Turn {
-    let w = t.writer;
     let expected = expected_take(t, book, run.len());
-    match w.offer(store, run) {
-        Offered::Taken(n, next) => t.took(next, expected, area::differ_count(n, expected)),
-        Offered::Refused(_) => t.stopped(),
-    }
+    run_offered(t, offered(t.writer, store, run), expected)
 }
 
 // Is a finish refused now? There is no row yet, or one is begun.
@@ -286,11 +338,11 @@ fn offer_step(t: Turn, map: &[u16], book: &[u64], store: &mut [i32], out: &mut [
 
 // All heights are taken and no row waits: the finish.
 fn finish_step(t: Turn, store: &mut [i32]) -> Turn {
-    let w = t.writer;
-    match w.finish(store) {
-        Finished::Closed(next) => t.closed(next),
-        Finished::Refused(_) => t.stopped(),
+    let a = finished(t.writer, store);
+    if 0 < a.no {
+        return t.stopped();
     }
+    t.closed(a.writer)
 }
 
 // All rows are drawn: Nothing, and offer and finish are refused by 9.
