@@ -7,8 +7,8 @@ pub const FAR: usize = 1048576;
 // A number z of the second arithmetic is held as BASE + z.
 pub const BASE: u64 = 1099511627776;
 
-// The book is one area for all that is expected: the second plane from place 0 on, a second area to lift it by, how many rows are due (DUE), and the list of rows
-// or steps (LIST).
+// The book is one area for all that is expected: the second plane from place 0 on, an area to lift it by (OTHER), how many rows are due (DUE),
+// and the list of rows or steps (LIST).
 pub const OTHER: usize = 6160;
 
 pub const DUE: usize = 12320;
