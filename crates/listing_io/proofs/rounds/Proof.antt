@@ -44,8 +44,14 @@ loop-again c =
     let t₂ = f .before .before .before .before .before in
     let t₁ = t₂ .before in
     let i = t .before .loop .inv in
-    let k = f .round .kept .1 .1 .1 in
-    (looped-on _ (i .2) (i .3) (t .loop-test .taken) (sym (t₁ .goes-on .ensures) ∙ t₂ .if1 .taken) (i .0) (f .round .ensures), k .0 ∙ i .1, k .1 .0 ∙ i .2, k .1 .1 .0 ∙ i .3, k .1 .1 .1 .0 ∙ i .4)
+    let k = f .round .kept .1 .1 .1 in (
+      looped-on _ (i .2) (i .3) (t .loop-test .taken) (sym (t₁ .goes-on .ensures) ∙ t₂ .if1 .taken) (i .0)
+          (f .round .ensures),
+      k .0 ∙ i .1,
+      k .1 .0 ∙ i .2,
+      k .1 .1 .0 ∙ i .3,
+      k .1 .1 .1 .0 ∙ i .4,
+    )
 
 same-length : tie.Need-same-length Inv-loop μ-loop
 same-length c = c .before .before .before .loop .inv .1
