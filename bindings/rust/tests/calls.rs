@@ -192,7 +192,7 @@ fn a_question_prints_a_sentence() {
 /// docs/DECISIONS.md, "The questions, call by call".
 #[test]
 fn every_question_of_every_call_has_a_sentence() {
-    let questions: [(Call, &[u32]); 13] = [
+    let questions: [(Call, &[u32]); 14] = [
         (Call::Line, &[5]),
         (Call::Profile, &[2, 5]),
         (Call::MapForward, &[2, 3, 4, 5]),
