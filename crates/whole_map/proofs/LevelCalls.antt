@@ -13,14 +13,14 @@ use Rattle.numbers.specs.Signal.{at, pick, windowed, spliced}
 use Rattle.numbers.specs.Word.{wrap32}
 use Rattle.numbers.proofs.Parts.{window-in, splice-below, splice-in, splice-past, length-mid, at-mid, at-put}
 use Rattle.lifting.specs.Line.{predicted, updated, unupdated, unpredicted, parted}
-use Rattle.lifting.specs.Halves.{fronted, inHalves, liftedInPlace, unliftedInPlace}
+use Rattle.lifting.specs.Halves.{fronted, inHalves, liftedInPlace, unliftedInPlace, highsLaid}
 use Rattle.lifting.proofs.RowLaws.{row-order}
 use Rattle.wavelet.specs.Bands.{Grid}
 use Rattle.wavelet.specs.Plane.{cells, flat}
 use Rattle.wavelet.specs.Maps.{every, everyCell}
 use Rattle.wavelet.proofs.GridLaws.{cells-flat, flat-cells}
 use Rattle.wavelet.proofs.MapTheorems.{every-each, each-every, every-same}
-use Rattle.whole_map.specs.Rowwise.{cut, partedInPlace, between, highsLaid}
+use Rattle.whole_map.specs.Rowwise.{cut, partedInPlace, between}
 use Rattle.whole_map.specs.Passes.{even, before, after, oddRowsChanged, evenRowsChanged, rowsMapped, levelRow, rowsStored, rowsLoaded}
 use Rattle.whole_map.specs.LevelPasses.{columnsLiftedInPlace, levelLifted, columnsUnliftedInPlace, rowsBetween}
 use Rattle.whole_map.proofs.GridSweep.{RowSwept, store-row, mapped-in}
@@ -122,15 +122,19 @@ module _ (a b n k k′ : ℕ) (from to z : List ℤ) (e : k ≡ n) (e′ : k′ 
       moved-part b n k to z _ e fb size
       (λ i h. ap (λ (y : ℕ → ℤ). y i) is ∙ front-at _ _ _ i (omega arith) ∙ ap (λ (y : ℕ → ℤ). y i) (lent-part a n k′ from e′))
 
-  pub lifted-part : at z ≡ liftedInPlace (length (midOf a k′ from)) (at (midOf a k′ from)) → at (putMid b k to z) ≡ spliced b n (liftedInPlace n (windowed a n (at from))) (at to)
-  lifted-part is =
-      let is′ : at z ≡ liftedInPlace n (windowed a n (at from)) = cc (is, mid-length, lent-part a n k′ from e′) in
-      moved-part b n k to z _ e fb size (λ i h. ap (λ (y : ℕ → ℤ). y i) is′)
+  -- what came back has y at its front
+  fronted-part : (y : ℕ → ℤ) → at z ≡ pick (leb (length (midOf a k′ from)) (length (midOf b k to))) (fronted (length (midOf a k′ from)) y (at (midOf b k to))) (at (midOf b k to)) → at (putMid b k to z) ≡ spliced b n y (at to)
+  fronted-part y is =
+      let mid = mid-length in
+      let ok = le-leb (length (midOf a k′ from)) (length (midOf b k to)) (omega (arith, same-parts)) in
+      let is′ : at z ≡ fronted (length (midOf a k′ from)) y (at (midOf b k to)) = simp ok at is in
+      moved-part b n k to z y e fb size (λ i h. ap (λ (u : ℕ → ℤ). u i) is′ ∙ front-at _ y _ i (omega arith))
 
-  pub unlifted-part : at z ≡ unliftedInPlace (length (midOf a k′ from)) (highsLaid (length (midOf a k′ from)) (at (midOf a k′ from)) (at (midOf b k to))) → at (putMid b k to z) ≡ spliced b n (unliftedInPlace n (highsLaid n (windowed a n (at from)) (windowed b n (at to)))) (at to)
-  unlifted-part is =
-      let is′ : at z ≡ unliftedInPlace n (highsLaid n (windowed a n (at from)) (windowed b n (at to))) = cc (is, mid-length, lent-part a n k′ from e′, lent-part b n k to e) in
-      moved-part b n k to z _ e fb size (λ i h. ap (λ (y : ℕ → ℤ). y i) is′)
+  pub lifted-part : at z ≡ pick (leb (length (midOf a k′ from)) (length (midOf b k to))) (fronted (length (midOf a k′ from)) (liftedInPlace (length (midOf a k′ from)) (at (midOf a k′ from))) (at (midOf b k to))) (at (midOf b k to)) → at (putMid b k to z) ≡ spliced b n (liftedInPlace n (windowed a n (at from))) (at to)
+  lifted-part is = fronted-part _ is ∙ cc (mid-length, lent-part a n k′ from e′)
+
+  pub unlifted-part : at z ≡ pick (leb (length (midOf a k′ from)) (length (midOf b k to))) (fronted (length (midOf a k′ from)) (unliftedInPlace (length (midOf a k′ from)) (highsLaid (length (midOf a k′ from)) (at (midOf a k′ from)) (at (midOf b k to)))) (at (midOf b k to))) (at (midOf b k to)) → at (putMid b k to z) ≡ spliced b n (unliftedInPlace n (highsLaid n (windowed a n (at from)) (windowed b n (at to)))) (at to)
+  unlifted-part is = fronted-part _ is ∙ cc (mid-length, lent-part a n k′ from e′, lent-part b n k to e)
 
   pub halved-part : at z ≡ inHalves (length (midOf a k′ from)) (parted (at (midOf a k′ from))) (at (midOf b k to)) → at (putMid b k to z) ≡ spliced b n (partedInPlace n (windowed a n (at from))) (at to)
   unfolding partedInPlace

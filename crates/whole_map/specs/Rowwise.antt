@@ -7,7 +7,7 @@ use lib.ListN.{getD}
 use lib.Signed.{leZ}
 use lib.Dec.{ltb, eqb}
 use Rattle.numbers.specs.Signal.{pick, both}
-use Rattle.lifting.specs.Line.{lo, count, parted, joined}
+use Rattle.lifting.specs.Line.{parted, joined}
 use Rattle.lifting.specs.Halves.{halvesOf, inHalves, fronted}
 
 -- a slice of u16 heights as a signal of whole numbers
@@ -35,7 +35,3 @@ oddsLaid n p z i = pick (ltb i n) (pick (eqb (i % 2) 0) (z i) (p (i / 2))) (z i)
 -- a number from low to high
 unfoldable pub between : ℤ → ℤ → ℤ → Bool
 between low high v = both (leZ low v) (leZ v high)
-
--- the low half of n numbers z, and what y has past it
-unfoldable pub highsLaid : ℕ → (ℕ → ℤ) → (ℕ → ℤ) → ℕ → ℤ
-highsLaid n y z j = pick (ltb j (count lo n)) (z j) (y j)

@@ -3,6 +3,7 @@
 // The module is private: only this crate, which meets what is required, can call it.
 use crate::passes;
 use crate::rowwise;
+use lifting::halves;
 use lifting::rows;
 use wavelet::sizes;
 ghost use mathlib.Core.Path.{_≡_};
@@ -12,10 +13,10 @@ ghost use lib.Dec.{ltb};
 ghost use lib.ListN.{length};
 ghost use Rattle.numbers.specs.Signal.{at, pick, windowed, spliced};
 ghost use Rattle.lifting.specs.Line.{lo, count};
-ghost use Rattle.lifting.specs.Halves.{liftedInPlace, unliftedInPlace};
+ghost use Rattle.lifting.specs.Halves.{liftedInPlace, unliftedInPlace, highsLaid};
 ghost use Rattle.wavelet.specs.Limits.{range};
 ghost use Rattle.wavelet.specs.Plane.{cells, flat};
-ghost use Rattle.whole_map.specs.Rowwise.{partedInPlace, wovenInPlace, highsLaid};
+ghost use Rattle.whole_map.specs.Rowwise.{partedInPlace, wovenInPlace};
 ghost use Rattle.whole_map.specs.Passes.{Rows, KeptFrom, even, planeRow, levelRow, rowsMapped, rowsStored, rowsFetched, rowsLoaded};
 ghost use Rattle.whole_map.specs.LevelPasses.{levelGrid, columnsLiftedInPlace, levelUnlifted, rowBack, planeWritten, rowsBetween, regionInRange, Doubling, LevelsBack};
 
@@ -70,7 +71,7 @@ fn lift_part(from: &[i32], a: usize, to: &mut [i32], b: usize, n: usize)
 {
     let e = a + n;
     let f = b + n;
-    rowwise::lift_to(&from[a..e], &mut to[b..f]);
+    halves::lift_to(&from[a..e], &mut to[b..f]);
 }
 
 // The same, a row that goes from its own order into halves.
@@ -136,7 +137,7 @@ fn unlift_part(from: &[i32], a: usize, to: &mut [i32], b: usize, n: usize)
 {
     let e = a + n;
     let f = b + n;
-    rowwise::unlift_by(&from[a..e], &mut to[b..f]);
+    halves::unlift_by(&from[a..e], &mut to[b..f]);
 }
 
 // Row r of a level from the plane, an even one from column `from` on, and lifted back. Only what is left of its low half is copied first: the

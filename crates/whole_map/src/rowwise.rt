@@ -1,16 +1,14 @@
 // What is done to one row of numbers. The module is private: only this crate, which meets what is required, can call it.
-use lifting::sample;
 ghost use mathlib.Core.Path.{_≡_};
 ghost use Prim.Native.Nat.{_+_, _*_, _<_, _≤_};
 ghost use lib.IntN.{pos};
-ghost use lib.ListN.{length, set};
+ghost use lib.ListN.{length};
 ghost use Rattle.numbers.specs.Signal.{at};
-ghost use Rattle.numbers.specs.Word.{wrap32};
-ghost use Rattle.lifting.specs.Line.{lo, hi, count, predicted, updated, unupdated, unpredicted, parted, joined};
-ghost use Rattle.lifting.specs.Halves.{halvesOf, inHalves, fronted, liftedInPlace, unliftedInPlace};
-ghost use Rattle.lifting.specs.Passes.{highsChanged, lowsChanged, evensCopied, oddsCopied};
+ghost use Rattle.lifting.specs.Line.{lo, hi, parted, joined};
+ghost use Rattle.lifting.specs.Halves.{halvesOf, inHalves, fronted};
+ghost use Rattle.lifting.specs.Passes.{evensCopied, oddsCopied};
 ghost use Rattle.wavelet.specs.Maps.{every};
-ghost use Rattle.whole_map.specs.Rowwise.{wovenInPlace, evensLaid, oddsLaid, highsLaid, between};
+ghost use Rattle.whole_map.specs.Rowwise.{wovenInPlace, evensLaid, oddsLaid, between};
 
 // The longest row that is woven in place: half the largest width, rounded up.
 pub const LONGEST: usize = 1025;
@@ -26,131 +24,6 @@ pub fn copy(from: &[i32], to: &mut [i32])
         to[i] = from[i];
         i += 1;
     }
-}
-
-// Place p of `out` from place p of a row, predicted by two other places of it.
-fn predict_to(row: &[i32], out: &mut [i32], p: usize, a: usize, b: usize)
-    requires { ⌜ (p < length (now row)) × (a < length (now row)) × (b < length (now row)) × (p < length (now out)) ⌝ }
-    ensures { λ _. ⌜ now (out .exit) ≡ set (now (out .entry)) p (predicted wrap32 (at (now (row .entry)) p) (at (now (row .entry)) a) (at (now (row .entry)) b)) ⌝ }
-{
-    out[p] = sample::predict(row[p], row[a], row[b]);
-}
-
-// Place p of `out` from place p of a row, updated by two other places of `out`.
-fn update_to(row: &[i32], out: &mut [i32], p: usize, a: usize, b: usize)
-    requires { ⌜ (p < length (now row)) × (a < length (now out)) × (b < length (now out)) × (p < length (now out)) ⌝ }
-    ensures { λ _. ⌜ now (out .exit) ≡ set (now (out .entry)) p (updated wrap32 (at (now (row .entry)) p) (at (now (out .entry)) a) (at (now (out .entry)) b)) ⌝ }
-{
-    out[p] = sample::update(row[p], out[a], out[b]);
-}
-
-// The high numbers of a row, predicted, to a row as long: each by its two low neighbours; the last of an even row has one, which counts twice.
-fn lift_highs(row: &[i32], out: &mut [i32], low: usize)
-    requires { ⌜ (low ≡ count lo (length (now row))) × (1 < length (now row)) × (length (now row) ≡ length (now out)) ⌝ }
-    ensures { λ _. ⌜ at (now (out .exit)) ≡ highsLaid (length (now (row .entry))) (highsChanged (predicted wrap32) (length (now (row .entry))) (at (now (row .entry)))) (at (now (out .entry))) ⌝ }
-{
-    let mut n = 0;
-    while n + 1 < low {
-        predict_to(row, out, low + n, n, n + 1);
-        n += 1;
-    }
-    if low + n < row.len() {
-        predict_to(row, out, low + n, n, n);
-    }
-}
-
-// Then its low numbers, updated, each by its two high neighbours there; the first has one, and so has the last of an odd row.
-fn lift_lows(row: &[i32], out: &mut [i32], low: usize)
-    requires { ⌜ (low ≡ count lo (length (now row))) × (1 < length (now row)) × (length (now row) ≡ length (now out)) ⌝ }
-    ensures { λ _. ⌜ at (now (out .exit)) ≡ lowsChanged (updated wrap32) (length (now (row .entry))) (highsLaid (length (now (row .entry))) (at (now (out .entry))) (at (now (row .entry)))) ⌝ }
-{
-    let high = row.len() - low;
-    update_to(row, out, 0, low, low);
-    let mut n = 1;
-    while n < high {
-        update_to(row, out, n, low + n - 1, low + n);
-        n += 1;
-    }
-    if n < low {
-        update_to(row, out, n, low + n - 1, low + n - 1);
-    }
-}
-
-// A row in halves, lifted, to a row as long.
-pub fn lift_to(row: &[i32], out: &mut [i32])
-    requires { ⌜ length (now row) ≡ length (now out) ⌝ }
-    ensures { λ _. ⌜ at (now (out .exit)) ≡ liftedInPlace (length (now (row .entry))) (at (now (row .entry))) ⌝ }
-{
-    let n = row.len();
-    if n < 2 {
-        copy(row, out);
-        return;
-    }
-    let low = n - n / 2;
-    lift_highs(row, out, low);
-    lift_lows(row, out, low);
-}
-
-// Place p of `out` without its update by two places of a row.
-fn unupdate_by(row: &[i32], out: &mut [i32], p: usize, a: usize, b: usize)
-    requires { ⌜ (p < length (now out)) × (a < length (now row)) × (b < length (now row)) ⌝ }
-    ensures { λ _. ⌜ now (out .exit) ≡ set (now (out .entry)) p (unupdated wrap32 (at (now (out .entry)) p) (at (now (row .entry)) a) (at (now (row .entry)) b)) ⌝ }
-{
-    out[p] = sample::unupdate(out[p], row[a], row[b]);
-}
-
-// Place p of `out` from place p of a row, without its prediction by two other places of `out`.
-fn unpredict_to(row: &[i32], out: &mut [i32], p: usize, a: usize, b: usize)
-    requires { ⌜ (p < length (now row)) × (a < length (now out)) × (b < length (now out)) × (p < length (now out)) ⌝ }
-    ensures { λ _. ⌜ now (out .exit) ≡ set (now (out .entry)) p (unpredicted wrap32 (at (now (row .entry)) p) (at (now (out .entry)) a) (at (now (out .entry)) b)) ⌝ }
-{
-    out[p] = sample::unpredict(row[p], out[a], out[b]);
-}
-
-// The low numbers of `out` lifted back, each by its two high neighbours in a row as long; the first has one, and so has the last of an odd row.
-fn unlift_lows(row: &[i32], out: &mut [i32], low: usize)
-    requires { ⌜ (low ≡ count lo (length (now row))) × (1 < length (now row)) × (length (now row) ≡ length (now out)) ⌝ }
-    ensures { λ _. ⌜ at (now (out .exit)) ≡ highsLaid (length (now (row .entry))) (at (now (out .entry))) (lowsChanged (unupdated wrap32) (length (now (row .entry))) (highsLaid (length (now (row .entry))) (at (now (row .entry))) (at (now (out .entry))))) ⌝ }
-{
-    let high = row.len() - low;
-    unupdate_by(row, out, 0, low, low);
-    let mut n = 1;
-    while n < high {
-        unupdate_by(row, out, n, low + n - 1, low + n);
-        n += 1;
-    }
-    if n < low {
-        unupdate_by(row, out, n, low + n - 1, low + n - 1);
-    }
-}
-
-// Then the high numbers of the row, lifted back on the way to `out`, each by its two low neighbours there; the last of an even row has one.
-fn unlift_highs(row: &[i32], out: &mut [i32], low: usize)
-    requires { ⌜ (low ≡ count lo (length (now row))) × (1 < length (now row)) × (length (now row) ≡ length (now out)) ⌝ }
-    ensures { λ _. ⌜ at (now (out .exit)) ≡ highsChanged (unpredicted wrap32) (length (now (row .entry))) (highsLaid (length (now (row .entry))) (at (now (row .entry))) (at (now (out .entry)))) ⌝ }
-{
-    let mut n = 0;
-    while n + 1 < low {
-        unpredict_to(row, out, low + n, n, n + 1);
-        n += 1;
-    }
-    if low + n < row.len() {
-        unpredict_to(row, out, low + n, n, n);
-    }
-}
-
-// A row in halves lifted back in `out`, which has its low half; its high half is read from a row as long.
-pub fn unlift_by(row: &[i32], out: &mut [i32])
-    requires { ⌜ length (now row) ≡ length (now out) ⌝ }
-    ensures { λ _. ⌜ at (now (out .exit)) ≡ unliftedInPlace (length (now (row .entry))) (highsLaid (length (now (row .entry))) (at (now (row .entry))) (at (now (out .entry)))) ⌝ }
-{
-    let n = row.len();
-    if n < 2 {
-        return;
-    }
-    let low = n - n / 2;
-    unlift_lows(row, out, low);
-    unlift_highs(row, out, low);
 }
 
 // The first n numbers of an area set to 0.

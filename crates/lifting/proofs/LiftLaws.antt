@@ -1,21 +1,22 @@
 -- A row in halves lifted on the way to another row, and the way back: a turn of each of the two loops, and what both come to. Assumes nothing.
 use mathlib.Core.Path.{_≡_, sym, ap, _∙_, fun-ext}
 use mathlib.Core.List.{List}
-use Prim.Native.Nat.{ℕ, _+_, _-_, _≤_, _<_, min}
+use Prim.Native.Nat.{ℕ, _+_, _-_, _*_, _≤_, _<_, min}
 use native.Mathlib.Decide.{decLt}
 use native.Mathlib.Omega.{arith}
 use lib.IntN.{ℤ, pos}
 use lib.ListN.{length, set, List·getD-eq-default}
 use borrow.Author.Tests.{lt-ltb, le-ltb}
-use Rattle.numbers.specs.Signal.{at}
+use borrow.Rule.Slice.PartMut.{midOf, putMid}
+use Rattle.numbers.specs.Signal.{at, windowed, spliced}
 use Rattle.numbers.specs.Word.{wrap32}
 use Rattle.numbers.proofs.Sweep.{Swept, store}
-use Rattle.lifting.specs.Line.{lo, hi, count, predicted, updated, unupdated, unpredicted}
-use Rattle.lifting.specs.Halves.{liftedInPlace, unliftedInPlace}
+use Rattle.numbers.proofs.Parts.{window-in, splice-in, splice-past, length-mid, at-mid, at-put}
+use Rattle.lifting.specs.Line.{lo, hi, count, predicted, updated, unupdated, unpredicted, lineForward}
+use Rattle.lifting.specs.Halves.{halvesOf, fronted, liftedInPlace, unliftedInPlace, forwardInto, highsLaid}
 use Rattle.lifting.specs.Passes.{highsChanged, lowsChanged}
-use Rattle.lifting.proofs.LineLaws.{counts, count-lo}
-use Rattle.lifting.proofs.PassLaws.{highs-low, highs-high, highs-past, lows-low, lows-past, lifted-is, unlifted-is, unlifted-one}
-use Rattle.whole_map.specs.Rowwise.{highsLaid}
+use Rattle.lifting.proofs.LineLaws.{counts, count-lo, low-one, halves-low, halves-past, front-in, front-past}
+use Rattle.lifting.proofs.PassLaws.{highs-low, highs-high, highs-past, lows-low, lows-past, lifted-is, unlifted-is, lifted-one, unlifted-one}
 
 past-end : (l : List ℤ) (j : ℕ) → length l ≤ j → at l j ≡ pos 0
 past-end l j h = List·getD-eq-default l (pos 0) h
@@ -163,15 +164,68 @@ back-are l z o more e =
     ] in
     ap (highsChanged (unpredicted wrap32) N) same ∙ sym (unlifted-is N u more)
 
--- a row of one number or none has no high half
-pub back-one : (l o : List ℤ) → length l ≡ length o → length l < 2 → at o ≡ unliftedInPlace (length l) (highsLaid (length l) (at l) (at o))
-back-one l o size few =
-    let N = length l in
-    let half = count-lo N in
-    let same : highsLaid N (at l) (at o) ≡ at o =
-    fun-ext λ j.
-    elim (decLt j (count lo N)) [
-      | yes b ↦ laid-low N (at l) (at o) j b
-      | no b ↦ laid-high N (at l) (at o) j (omega arith) ∙ past-end l j (omega arith) ∙ sym (past-end o j (omega arith))
-    ] in
-    sym (unlifted-one N _ (omega arith) ∙ same)
+-- ---- at the front of an area
+module _ (N : ℕ) (y z : ℕ → ℤ) where
+  front-is : (u : ℕ → ℤ) → fronted N u z ≡ spliced 0 N u z
+  front-is u =
+      fun-ext λ j.
+      elim (decLt j N) [
+        | yes b ↦ let k : j - 0 ≡ j = omega arith in front-in N (halvesOf N z) z u j b ∙ sym (splice-in 0 N u z j (omega arith) (omega arith) ∙ ap u k)
+        | no b ↦ front-past N (halvesOf N z) z u j (omega arith) ∙ sym (splice-past 0 N u z j (omega arith))
+      ]
+
+  -- the low half of a part that is lent is the area's
+  pub lent-low : highsLaid N y (windowed 0 N z) ≡ highsLaid N y z
+  lent-low =
+      let half = count-lo N in
+      fun-ext λ j.
+      elim (decLt j (count lo N)) [
+        | yes b ↦ let k : 0 + j ≡ j = omega arith in laid-low N y (windowed 0 N z) j b ∙ window-in 0 N z j (omega arith) ∙ ap z k ∙ sym (laid-low N y z j b)
+        | no b ↦ laid-high N y (windowed 0 N z) j (omega arith) ∙ sym (laid-high N y z j (omega arith))
+      ]
+
+  -- a line of one number or none is copied, and has no high half
+  pub lifted-short : N < 2 → forwardInto N y z ≡ fronted N (liftedInPlace N y) z
+  unfolding forwardInto lineForward
+  lifted-short few =
+      let half = count-lo N in
+      let c = counts N in
+      fun-ext λ j.
+      elim (decLt j N) [
+        | yes b ↦
+            let k : 2 * j ≡ j = omega arith in
+            halves-low N _ z j (omega arith)
+            ∙ low-one wrap32 N (omega arith) y j
+            ∙ ap y k
+            ∙ sym (front-in N (halvesOf N z) z _ j b ∙ ap (λ (u : ℕ → ℤ). u j) (lifted-one N y (omega arith)))
+        | no b ↦ halves-past N _ z j (omega arith) ∙ sym (front-past N (halvesOf N z) z _ j (omega arith))
+      ]
+
+  pub unlifted-short : N < 2 → z ≡ fronted N (unliftedInPlace N (highsLaid N y z)) z
+  unlifted-short few =
+      let half = count-lo N in
+      fun-ext λ j.
+      elim (decLt j N) [
+        | yes b ↦ sym (front-in N (halvesOf N z) z _ j b ∙ ap (λ (u : ℕ → ℤ). u j) (unlifted-one N (highsLaid N y z) (omega arith)) ∙ laid-low N y z j (omega arith))
+        | no b ↦ sym (front-past N (halvesOf N z) z _ j (omega arith))
+      ]
+
+-- a part of N numbers at the front of an area, lent, and come back as o
+module _ (N k : ℕ) (l to o : List ℤ) (e : k ≡ N) (room : N ≤ length to) (size : length o ≡ length (midOf 0 k to)) where
+  front-part : (u : ℕ → ℤ) → at o ≡ u → at (putMid 0 k to o) ≡ fronted N u (at to)
+  front-part u is =
+      let mid = length-mid 0 k to (omega arith) in
+      at-put 0 k to o (omega arith) (omega arith)
+      ∙ ap (λ (m : ℕ). spliced 0 m (at o) (at to)) e
+      ∙ ap (λ (v : ℕ → ℤ). spliced 0 N v (at to)) is
+      ∙ sym (front-is N u (at to) u)
+
+  pub lifted-front : at o ≡ liftedInPlace N (at l) → at (putMid 0 k to o) ≡ fronted N (liftedInPlace N (at l)) (at to)
+  lifted-front = front-part (liftedInPlace N (at l))
+
+  pub unlifted-front : at o ≡ unliftedInPlace N (highsLaid N (at l) (at (midOf 0 k to))) → at (putMid 0 k to o) ≡ fronted N (unliftedInPlace N (highsLaid N (at l) (at to))) (at to)
+  unlifted-front is =
+      front-part _
+      (is
+      ∙ ap (λ (v : ℕ → ℤ). unliftedInPlace N (highsLaid N (at l) v)) (at-mid 0 k to ∙ ap (λ (m : ℕ). windowed 0 m (at to)) e)
+      ∙ ap (unliftedInPlace N) (lent-low N (at l) (at to)))

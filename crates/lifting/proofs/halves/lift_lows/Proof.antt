@@ -1,4 +1,4 @@
--- `whole_map::rowwise::lift_lows` meets its contract: a sweep over the low numbers, the first before the loop and the last of an odd row after it. Assumes nothing.
+-- `lifting::halves::lift_lows` meets its contract: a sweep over the low numbers, the first before the loop and the last of an odd row after it. Assumes nothing.
 use mathlib.Core.Path.{_≡_, refl, sym, _∙_}
 use Prim.Native.Nat.{ℕ, _-_, _/_, _≤_, _<_}
 use native.Mathlib.Omega.{arith}
@@ -7,13 +7,13 @@ use lib.ListN.{length}
 use Rattle.numbers.specs.Signal.{at}
 use Rattle.numbers.specs.Word.{wrap32}
 use Rattle.numbers.proofs.Sweep.{Swept, finish}
 use Rattle.lifting.specs.Line.{lo, count, updated}
 use Rattle.lifting.specs.Passes.{lowsChanged}
 use Rattle.lifting.proofs.LineLaws.{counts, count-lo}
-use Rattle.whole_map.specs.Rowwise.{highsLaid}
-use Rattle.whole_map.proofs.LiftLaws.{low-first, low-turn, low-past}
-use Rattle.whole_map.proofs.rowwise.lift_lows.Statement.{statement}
-use Rattle.whole_map.proofs.rowwise.lift_lows.Tie as tie
+use Rattle.lifting.specs.Halves.{highsLaid}
+use Rattle.lifting.proofs.LiftLaws.{low-first, low-turn, low-past}
+use Rattle.lifting.proofs.halves.lift_lows.Statement.{statement}
+use Rattle.lifting.proofs.halves.lift_lows.Tie as tie
 
 abbrev Inv-loop : tie.InvT-loop
 Inv-loop row out₀ low high n₀ out n =

@@ -1,9 +1,9 @@
--- `whole_map::rowwise::unpredict_to` meets its contract: what is read and stored are 32-bit numbers read back. Assumes nothing.
+-- `lifting::halves::unpredict_to` meets its contract: what is read and stored are 32-bit numbers read back. Assumes nothing.
 use Rattle.numbers.specs.Signal.{at}
 use Rattle.numbers.proofs.Words.{read-back}
 use borrow.Author.Needs.{needs}
-use Rattle.whole_map.proofs.rowwise.unpredict_to.Statement.{statement}
-use Rattle.whole_map.proofs.rowwise.unpredict_to.Tie as tie
+use Rattle.lifting.proofs.halves.unpredict_to.Statement.{statement}
+use Rattle.lifting.proofs.halves.unpredict_to.Tie as tie
 
 mul-unpredict : tie.Need-mul-unpredict
 mul-unpredict c = search needs

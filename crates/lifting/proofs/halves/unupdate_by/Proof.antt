@@ -1,9 +1,9 @@
--- `whole_map::rowwise::unupdate_by` meets its contract: what is read and stored are 32-bit numbers read back. Assumes nothing.
+-- `lifting::halves::unupdate_by` meets its contract: what is read and stored are 32-bit numbers read back. Assumes nothing.
 use Rattle.numbers.specs.Signal.{at}
 use Rattle.numbers.proofs.Words.{read-back}
 use borrow.Author.Needs.{needs}
-use Rattle.whole_map.proofs.rowwise.unupdate_by.Statement.{statement}
-use Rattle.whole_map.proofs.rowwise.unupdate_by.Tie as tie
+use Rattle.lifting.proofs.halves.unupdate_by.Statement.{statement}
+use Rattle.lifting.proofs.halves.unupdate_by.Tie as tie
 
 mul-unupdate : tie.Need-mul-unupdate
 mul-unupdate c = search needs

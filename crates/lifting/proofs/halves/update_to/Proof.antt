@@ -1,9 +1,9 @@
--- `whole_map::rowwise::update_to` meets its contract: what is read and stored are 32-bit numbers read back. Assumes nothing.
+-- `lifting::halves::update_to` meets its contract: what is read and stored are 32-bit numbers read back. Assumes nothing.
 use Rattle.numbers.specs.Signal.{at}
 use Rattle.numbers.proofs.Words.{read-back}
 use borrow.Author.Needs.{needs}
-use Rattle.whole_map.proofs.rowwise.update_to.Statement.{statement}
-use Rattle.whole_map.proofs.rowwise.update_to.Tie as tie
+use Rattle.lifting.proofs.halves.update_to.Statement.{statement}
+use Rattle.lifting.proofs.halves.update_to.Tie as tie
 
 mul-update : tie.Need-mul-update
 mul-update c = search needs

@@ -1,4 +1,4 @@
--- `whole_map::rowwise::lift_highs` meets its contract: a sweep over the high numbers, the last of an even row after the loop. Assumes nothing.
+-- `lifting::halves::lift_highs` meets its contract: a sweep over the high numbers, the last of an even row after the loop. Assumes nothing.
 use mathlib.Core.Path.{_≡_, refl, sym, _∙_}
 use Prim.Native.Nat.{_+_, _-_, _/_, _≤_}
 use native.Mathlib.Omega.{arith}
@@ -6,13 +6,13 @@ use lib.ListN.{length}
 use Rattle.numbers.specs.Signal.{at}
 use Rattle.numbers.specs.Word.{wrap32}
 use Rattle.numbers.proofs.Sweep.{Swept, finish}
 use Rattle.lifting.specs.Line.{lo, count, predicted}
 use Rattle.lifting.specs.Passes.{highsChanged}
 use Rattle.lifting.proofs.LineLaws.{counts, count-lo}
-use Rattle.whole_map.specs.Rowwise.{highsLaid}
-use Rattle.whole_map.proofs.LiftLaws.{to-start, to-turn, to-past}
-use Rattle.whole_map.proofs.rowwise.lift_highs.Statement.{statement}
-use Rattle.whole_map.proofs.rowwise.lift_highs.Tie as tie
+use Rattle.lifting.specs.Halves.{highsLaid}
+use Rattle.lifting.proofs.LiftLaws.{to-start, to-turn, to-past}
+use Rattle.lifting.proofs.halves.lift_highs.Statement.{statement}
+use Rattle.lifting.proofs.halves.lift_highs.Tie as tie
 
 abbrev Inv-loop : tie.InvT-loop
 Inv-loop row out₀ low n₀ out n =
