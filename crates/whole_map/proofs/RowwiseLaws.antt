@@ -2,24 +2,23 @@
 use mathlib.Core.Path.{_≡_, refl, sym, ap, _∙_, subst, fun-ext}
 use mathlib.Core.List.{List}
 use mathlib.Core.Bool.{Bool, true, false, _&&_}
-use Prim.Native.Nat.{ℕ, suc, _+_, _-_, _*_, _/_, _%_, _≤_, _<_}
-use native.Mathlib.Decide.{decLt}
+use Prim.Native.Nat.{ℕ, suc, _+_, _-_, _*_, _/_, _≤_, _<_}
+use native.Mathlib.Decide.{decLt, ℕ-discrete}
 use native.Mathlib.Omega.{arith}
 use lib.IntN.{ℤ, pos}
 use lib.Signed.{leZ}
-use lib.ListN.{length, set, List·getD-eq-default}
-use borrow.Author.Tests.{lt-ltb, le-ltb, eq-eqb, ne-eqb}
+use lib.ListN.{length, set, length-set}
+use lib.Seq.{getD-set-same, getD-set-other}
+use borrow.Author.Tests.{lt-ltb, le-ltb}
 use Rattle.numbers.specs.Signal.{at, windowed, both}
-use Rattle.numbers.proofs.Sweep.{Swept, store2}
+use Rattle.numbers.proofs.Sweep.{Swept, store}
 use borrow.Rule.Slice.PartMut.{midOf}
 use Rattle.numbers.proofs.Parts.{window-in, window-past, length-mid, at-mid}
-use Rattle.lifting.specs.Line.{Half, lo, hi, count, parted, joined}
+use Rattle.lifting.specs.Line.{lo, hi, count, parted, joined}
 use Rattle.lifting.specs.Halves.{halvesOf, inHalves, fronted}
-use Rattle.lifting.specs.Passes.{evensCopied, oddsCopied}
 use Rattle.lifting.proofs.LineLaws.{counts, count-lo, count-hi, joined-even, joined-odd, halves-low, halves-high, halves-past, halves-are, front-in, front-past, front-are}
-use Rattle.lifting.proofs.AreaLaws.{evens-in, evens-past, odds-low, odds-high, odds-past}
 use Rattle.wavelet.specs.Maps.{every}
-use Rattle.whole_map.specs.Rowwise.{cut, evensLaid, oddsLaid, wovenInPlace, between}
+use Rattle.whole_map.specs.Rowwise.{cut, wovenInPlace, between}
 
 -- ---- numbers x at the front of memory z
 pub front-at : (N : ℕ) (x z : ℕ → ℤ) (j : ℕ) → j < N → fronted N x z j ≡ x j
@@ -28,91 +27,107 @@ front-at N x z j h = front-in N (parted x) z x j h
 pub front-rest : (N : ℕ) (x z : ℕ → ℤ) (j : ℕ) → N ≤ j → fronted N x z j ≡ z j
 front-rest N x z j h = front-past N (parted x) z x j h
 
--- ---- places laid from a half
-module _ (N : ℕ) (p z : ℕ → ℤ) where
-  pub laid-even : (n : ℕ) → n < count lo N → evensLaid N p z (2 * n) ≡ p n
-  unfolding evensLaid
-  laid-even n h =
+-- ---- a row y in halves laid as a line of N numbers, two places a turn
+module _ (N : ℕ) (y z : ℕ → ℤ) where
+  abbrev woven : ℕ → ℤ
+  woven = fronted N (joined (halvesOf N y)) z
+
+  woven-even : (n : ℕ) → n < count lo N → y n ≡ woven (2 * n)
+  unfolding halvesOf
+  woven-even n h = let c = count-lo N in sym (front-at N (joined (halvesOf N y)) z (2 * n) (omega arith) ∙ joined-even (halvesOf N y) n)
+
+  woven-odd : (n : ℕ) → n < count hi N → y (N - N / 2 + n) ≡ woven (2 * n + 1)
+  unfolding halvesOf
+  woven-odd n h =
       let c = count-lo N in
-      let k : 2 * n / 2 ≡ n = omega arith in
-      simp (lt-ltb (2 * n) N (omega arith), eq-eqb (2 * n % 2) 0 (omega arith), k)
+      let b = counts N in
+      rw (← c) (sym (front-at N (joined (halvesOf N y)) z (2 * n + 1) (omega arith) ∙ joined-odd (halvesOf N y) n))
 
-  pub laid-between : (n : ℕ) → evensLaid N p z (2 * n + 1) ≡ z (2 * n + 1)
-  unfolding evensLaid
-  laid-between n =
-      elim (decLt (2 * n + 1) N) [
-        | yes a ↦ simp (lt-ltb (2 * n + 1) N a, ne-eqb ((2 * n + 1) % 2) 0 (omega arith))
-        | no d ↦ simp (le-ltb (2 * n + 1) N (omega arith))
-      ]
-
-  pub laid-past : (i : ℕ) → N ≤ i → evensLaid N p z i ≡ z i
-  unfolding evensLaid
-  laid-past i h = simp (le-ltb i N h)
-
-  pub laid-odd : (n : ℕ) → n < count hi N → oddsLaid N p z (2 * n + 1) ≡ p n
-  unfolding oddsLaid
-  laid-odd n h =
+  pub weave-turn : (L n : ℕ) (a b : ℤ) (l : List ℤ) → n < N / 2 → N ≤ L → a ≡ y n → b ≡ y (N - N / 2 + n) → Swept L woven z (2 * n) l → Swept L woven z (2 * (n + 1)) (set (set l (2 * n) a) (2 * n + 1) b)
+  weave-turn L n a b l h fit ea eb sw =
       let c = count-hi N in
-      let k : (2 * n + 1) / 2 ≡ n = omega arith in
-      simp (lt-ltb (2 * n + 1) N (omega arith), ne-eqb ((2 * n + 1) % 2) 0 (omega arith), k)
-
-  pub laid-between-odd : (n : ℕ) → oddsLaid N p z (2 * n) ≡ z (2 * n)
-  unfolding oddsLaid
-  laid-between-odd n =
-      elim (decLt (2 * n) N) [
-        | yes a ↦ simp (lt-ltb (2 * n) N a, eq-eqb (2 * n % 2) 0 (omega arith))
-        | no d ↦ simp (le-ltb (2 * n) N (omega arith))
-      ]
-
-  pub laid-past-odd : (i : ℕ) → N ≤ i → oddsLaid N p z i ≡ z i
-  unfolding oddsLaid
-  laid-past-odd i h = simp (le-ltb i N h)
-
-  -- a turn of each loop: the place stored, and the next left
-  pub evens-turn : (L n : ℕ) (v : ℤ) (l : List ℤ) → n < count lo N → N ≤ L → v ≡ p n → Swept L (evensLaid N p z) z (2 * n) l → Swept L (evensLaid N p z) z (2 * (n + 1)) (set l (2 * n) v)
-  evens-turn L n v l h fit e sw =
-      let c = count-lo N in
-      subst (λ (m : ℕ). Swept L (evensLaid N p z) z m (set l (2 * n) v)) (omega arith)
-      (store2 v sw (omega arith) (e ∙ sym (laid-even n h)) (laid-between n))
-
-  pub odds-turn : (L n : ℕ) (v : ℤ) (l : List ℤ) → n < count hi N → N ≤ L → v ≡ p n → Swept L (oddsLaid N p z) z (2 * n + 1) l → Swept L (oddsLaid N p z) z (2 * (n + 1) + 1) (set l (2 * n + 1) v)
-  odds-turn L n v l h fit e sw =
-      let c = count-hi N in
+      let d = counts N in
       let k : 2 * n + 1 + 1 ≡ 2 * (n + 1) = omega arith in
-      subst (λ (m : ℕ). Swept L (oddsLaid N p z) z m (set l (2 * n + 1) v)) (omega arith)
-      (store2 v sw (omega arith) (e ∙ sym (laid-odd n h)) (rw k (laid-between-odd (n + 1))))
+      rw k at (store b (store a sw (omega arith) (ea ∙ woven-even n (omega arith))) (omega arith) (eb ∙ woven-odd n (omega arith)))
 
-  -- place 0 is left by the second
-  pub laid-first : (j : ℕ) → j < 1 → oddsLaid N p z j ≡ z j
-  laid-first j h = let k : j ≡ 2 * 0 = omega arith in rw k (laid-between-odd 0)
+  -- the last place of an odd line, and the end of an even one
+  pub weave-last : (L n : ℕ) (a : ℤ) (l : List ℤ) → N / 2 ≤ n → n < N - N / 2 → N ≤ L → a ≡ y n → Swept L woven z (2 * n) l → Swept L woven z N (set l (2 * n) a)
+  weave-last L n a l g h fit ea sw =
+      let c = count-lo N in
+      let k : 2 * n + 1 ≡ N = omega arith in
+      rw k at (store a sw (omega arith) (ea ∙ woven-even n (omega arith)))
 
--- what stands in memory y as the halves of N numbers
-pub low-is : (N : ℕ) (y : ℕ → ℤ) (n : ℕ) → y n ≡ halvesOf N y lo n
-unfolding halvesOf
-low-is N y n = refl
+  pub weave-end : (n : ℕ) → N / 2 ≤ n → N - N / 2 ≤ n → (j : ℕ) → 2 * n ≤ j → woven j ≡ z j
+  weave-end n g h j b = front-rest N (joined (halvesOf N y)) z j (omega arith)
 
-pub high-is : (N : ℕ) (y : ℕ → ℤ) (n : ℕ) → y (N - N / 2 + n) ≡ halvesOf N y hi n
-unfolding halvesOf
-high-is N y n = rw (count-lo N)
+  pub weave-done : (j : ℕ) → N ≤ j → woven j ≡ z j
+  weave-done j b = front-rest N (joined (halvesOf N y)) z j b
 
--- ---- both passes together
-pub parted-is : (N : ℕ) (x z : ℕ → ℤ) → inHalves N (parted x) z ≡ oddsCopied N x (evensCopied N x z)
-unfolding parted
-parted-is N x z =
-    let sum = counts N in
-    let w = evensCopied N x z in
-    halves-are N (parted x) z _
-    (λ n h. sym (odds-low N x w n h ∙ evens-in N x z n h))
-    (λ n h. sym (odds-high N x w n h))
-    (λ j h. sym (odds-past N x w j h ∙ evens-past N x z j (omega arith)))
+-- ---- a line x of N numbers laid in halves, a place of each half a turn: what stands in the row l, as long, where the line begins at z
+pub record Halved (N : ℕ) (x z : ℕ → ℤ) (n : ℕ) (l : List ℤ) : Type 0 where
+  pub size : length l ≡ N
+  pub within : n ≤ N / 2
+  pub lows : (i : ℕ) → i < n → at l i ≡ x (2 * i)
+  pub highs : (i : ℕ) → i < n → at l (N - N / 2 + i) ≡ x (2 * i + 1)
+  pub rest : (j : ℕ) → N ≤ j → at l j ≡ z j
 
-pub woven-is : (N : ℕ) (p : Half → ℕ → ℤ) (z : ℕ → ℤ) → fronted N (joined p) z ≡ oddsLaid N (p hi) (evensLaid N (p lo) z)
-woven-is N p z =
-    let w = evensLaid N (p lo) z in
-    front-are N p z _
-    (λ n h. sym (laid-between-odd N (p hi) w n ∙ laid-even N (p lo) z n h))
-    (λ n h. sym (laid-odd N (p hi) w n h))
-    (λ j h. sym (laid-past-odd N (p hi) w j h ∙ laid-past N (p lo) z j h))
+module _ (N : ℕ) (x z : ℕ → ℤ) where
+  pub halve-start : (l : List ℤ) → length l ≡ N → z ≡ at l → Halved N x z 0 l
+  halve-start l e is =
+      record {
+        size = e;
+        within = omega arith;
+        lows = λ i b. absurd (omega arith);
+        highs = λ i b. absurd (omega arith);
+        rest = λ j b. ap (λ (u : ℕ → ℤ). u j) (sym is);
+      }
+
+  pub halve-turn : (n : ℕ) (a b : ℤ) (l : List ℤ) → n < N / 2 → a ≡ x (2 * n) → b ≡ x (2 * n + 1) → Halved N x z n l → Halved N x z (n + 1) (set (set l n a) (N - N / 2 + n) b)
+  halve-turn n a b l h ea eb r =
+      let size = r .size in
+      let first = set l n a in
+      let long : length first ≡ N = length-set l n a ∙ size in
+      let p = N - N / 2 + n in
+      record {
+        size = length-set first p b ∙ long;
+        within = omega arith;
+        lows = λ i d.
+            getD-set-other first p i b (pos 0) (omega arith)
+            ∙ elim (ℕ-discrete i n) [
+              | yes e ↦ rw e (getD-set-same l n a (pos 0) (omega arith) ∙ ea)
+              | no e ↦ getD-set-other l n i a (pos 0) e ∙ r .lows i (omega arith)
+            ];
+        highs = λ i d.
+            elim (ℕ-discrete i n) [
+              | yes e ↦ rw e (getD-set-same first p b (pos 0) (omega arith) ∙ eb)
+              | no e ↦ getD-set-other first p (N - N / 2 + i) b (pos 0) (omega arith) ∙ getD-set-other l n (N - N / 2 + i) a (pos 0) (omega arith) ∙ r .highs i (omega arith)
+            ];
+        rest = λ j d. getD-set-other first p j b (pos 0) (omega arith) ∙ getD-set-other l n j a (pos 0) (omega arith) ∙ r .rest j d;
+      }
+
+  -- all places of an even line; and the last of an odd one
+  pub halve-end : (n : ℕ) (l : List ℤ) → N / 2 ≤ n → N - N / 2 ≤ n → Halved N x z n l → at l ≡ inHalves N (parted x) z
+  unfolding parted
+  halve-end n l g h r =
+      let c = count-lo N in
+      let d = counts N in
+      sym (halves-are N (parted x) z (at l) (λ i b. sym (r .lows i (omega (arith, r .within)))) (λ i b. rw c (sym (r .highs i (omega (arith, r .within))))) (λ j b. sym (r .rest j b)))
+
+  pub halve-last : (n : ℕ) (a : ℤ) (l : List ℤ) → N / 2 ≤ n → n < N - N / 2 → a ≡ x (2 * n) → Halved N x z n l → at (set l n a) ≡ inHalves N (parted x) z
+  unfolding parted
+  halve-last n a l g h ea r =
+      let c = count-lo N in
+      let d = counts N in
+      let size = r .size in
+      let few = r .within in
+      sym (halves-are N (parted x) z (at (set l n a))
+      (λ i b.
+      elim (ℕ-discrete i n) [
+        | yes e ↦ rw e (sym (getD-set-same l n a (pos 0) (omega arith) ∙ ea))
+        | no e ↦ sym (getD-set-other l n i a (pos 0) e ∙ r .lows i (omega arith))
+      ])
+      (λ i b. rw c (sym (getD-set-other l n (N - N / 2 + i) a (pos 0) (omega arith) ∙ r .highs i (omega arith))))
+      (λ j b. sym (getD-set-other l n j a (pos 0) (omega arith) ∙ r .rest j b)))
 
 -- ---- a part of n numbers as a signal
 pub cut-in : (n : ℕ) (x : ℕ → ℤ) (j : ℕ) → j < n → cut n x j ≡ x j
@@ -166,15 +181,6 @@ module _ (n k : ℕ) (y x z : ℕ → ℤ) (l : List ℤ) (e : k ≡ n) (h : n �
   unfolding wovenInPlace
   weave-through made =
       cc (made, length-mid 0 k l (omega arith) ∙ e, lent-front n k x z l e h is, cut-woven n x x)
-
--- a row copied over one as long
-pub front-whole : (l z : List ℤ) → length l ≡ length z → fronted (length l) (at l) (at z) ≡ at l
-front-whole l z e =
-    fun-ext λ j.
-    elim (decLt j (length l)) [
-      | yes p ↦ front-at (length l) (at l) (at z) j p
-      | no d ↦ front-rest (length l) (at l) (at z) j (omega arith) ∙ List·getD-eq-default z (pos 0) (omega arith) ∙ sym (List·getD-eq-default l (pos 0) (omega arith))
-    ]
 
 -- ---- a test of every number, gathered number by number
 all-three : (a b d : Bool) → (a && b) && d ≡ both a (both b d)

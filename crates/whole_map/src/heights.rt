@@ -5,52 +5,31 @@ ghost use Prim.Native.Nat.{_+_, _-_, _*_, _<_, _≤_};
 ghost use lib.IntN.{pos};
 ghost use lib.ListN.{length};
 ghost use Rattle.numbers.specs.Signal.{at};
-ghost use Rattle.lifting.specs.Line.{lo, hi, parted, joined};
+ghost use Rattle.lifting.specs.Line.{parted, joined};
 ghost use Rattle.lifting.specs.Halves.{halvesOf, inHalves, fronted};
-ghost use Rattle.lifting.specs.Passes.{evensCopied, oddsCopied};
 ghost use Rattle.wavelet.specs.Plane.{cells, flat};
-ghost use Rattle.whole_map.specs.Rowwise.{heightsAt, evensLaid, oddsLaid};
+ghost use Rattle.whole_map.specs.Rowwise.{heightsAt};
 ghost use Rattle.whole_map.specs.Passes.{rowsLoaded, Rows};
 ghost use Rattle.whole_map.specs.LevelPasses.{Finished};
 ghost use mathlib.Core.Bool.{true};
 ghost use Rattle.wavelet.specs.Maps.{every, valueFits};
-
-// The even places of a row of heights to the front of a row as long.
-fn load_evens(heights: &[u16], row: &mut [i32])
-    requires { ⌜ length (now heights) ≡ length (now row) ⌝ }
-    ensures { λ _. ⌜ at (now (row .exit)) ≡ evensCopied (length (now (heights .entry))) (heightsAt (now (heights .entry))) (at (now (row .entry))) ⌝ }
-{
-    let n = heights.len();
-    let low = n - n / 2;
-    let mut j = 0;
-    while j < low {
-        row[j] = heights[2 * j] as i32;
-        j += 1;
-    }
-}
-
-// The odd places after them.
-fn load_odds(heights: &[u16], row: &mut [i32])
-    requires { ⌜ length (now heights) ≡ length (now row) ⌝ }
-    ensures { λ _. ⌜ at (now (row .exit)) ≡ oddsCopied (length (now (heights .entry))) (heightsAt (now (heights .entry))) (at (now (row .entry))) ⌝ }
-{
-    let n = heights.len();
-    let high = n / 2;
-    let low = n - high;
-    let mut j = 0;
-    while j < high {
-        row[low + j] = heights[2 * j + 1] as i32;
-        j += 1;
-    }
-}
 
 // A row of heights to a row in halves, as long.
 fn load_row(heights: &[u16], row: &mut [i32])
     requires { ⌜ length (now heights) ≡ length (now row) ⌝ }
     ensures { λ _. ⌜ at (now (row .exit)) ≡ inHalves (length (now (heights .entry))) (parted (heightsAt (now (heights .entry)))) (at (now (row .entry))) ⌝ }
 {
-    load_evens(heights, row);
-    load_odds(heights, row);
+    let high = heights.len() / 2;
+    let low = heights.len() - high;
+    let mut j = 0;
+    while j < high {
+        row[j] = heights[2 * j] as i32;
+        row[low + j] = heights[2 * j + 1] as i32;
+        j += 1;
+    }
+    if j < low {
+        row[j] = heights[2 * j] as i32;
+    }
 }
 
 // The heights of a map to the work area, each row in halves.
@@ -67,42 +46,22 @@ pub fn load_rows(heights: &[u16], work: &mut [i32], width: usize, height: usize)
     }
 }
 
-// The first half of a row, whose numbers fit, to the even places of a row of heights as long.
-fn store_evens(row: &[i32], heights: &mut [u16])
-    requires { ⌜ (length (now row) ≡ length (now heights)) × (every (length (now row)) (λ i. valueFits 0 (at (now row) i)) ≡ true) ⌝ }
-    ensures { λ _. ⌜ heightsAt (now (heights .exit)) ≡ evensLaid (length (now (row .entry))) (halvesOf (length (now (row .entry))) (at (now (row .entry))) lo) (heightsAt (now (heights .entry))) ⌝ }
-{
-    let n = row.len();
-    let low = n - n / 2;
-    let mut j = 0;
-    while j < low {
-        heights[2 * j] = row[j] as u16;
-        j += 1;
-    }
-}
-
-// The second half to the odd places.
-fn store_odds(row: &[i32], heights: &mut [u16])
-    requires { ⌜ (length (now row) ≡ length (now heights)) × (every (length (now row)) (λ i. valueFits 0 (at (now row) i)) ≡ true) ⌝ }
-    ensures { λ _. ⌜ heightsAt (now (heights .exit)) ≡ oddsLaid (length (now (row .entry))) (halvesOf (length (now (row .entry))) (at (now (row .entry))) hi) (heightsAt (now (heights .entry))) ⌝ }
-{
-    let n = row.len();
-    let high = n / 2;
-    let low = n - high;
-    let mut j = 0;
-    while j < high {
-        heights[2 * j + 1] = row[low + j] as u16;
-        j += 1;
-    }
-}
-
 // A row in halves, whose numbers fit, to a row of heights as long.
 fn store_row(row: &[i32], heights: &mut [u16])
     requires { ⌜ (length (now row) ≡ length (now heights)) × (every (length (now row)) (λ i. valueFits 0 (at (now row) i)) ≡ true) ⌝ }
     ensures { λ _. ⌜ heightsAt (now (heights .exit)) ≡ fronted (length (now (row .entry))) (joined (halvesOf (length (now (row .entry))) (at (now (row .entry))))) (heightsAt (now (heights .entry))) ⌝ }
 {
-    store_evens(row, heights);
-    store_odds(row, heights);
+    let high = row.len() / 2;
+    let low = row.len() - high;
+    let mut j = 0;
+    while j < high {
+        heights[2 * j] = row[j] as u16;
+        heights[2 * j + 1] = row[low + j] as u16;
+        j += 1;
+    }
+    if j < low {
+        heights[2 * j] = row[j] as u16;
+    }
 }
 
 // A row in halves, whose numbers fit, to a row of heights as long, and cleared.

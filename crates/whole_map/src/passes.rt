@@ -84,16 +84,17 @@ pub fn unlift_pair(area: &mut [i32], stride: usize, width: usize, height: usize,
     rows::unpredict_row(area, stride, width, r, row_before(r), row_after(height, r));
 }
 
-// Each row from halves into its own order.
+// Each row from halves into its own order, through one line for all of them.
 pub fn weave_rows(area: &mut [i32], stride: usize, width: usize, height: usize)
     requires { ⌜ Rows (length (now area)) stride width height × (width ≤ 1025) ⌝ }
     ensures { λ _. ⌜ at (now (area .exit)) ≡ flat stride (rowsMapped (wovenInPlace width) width height (cells stride (at (now (area .entry))))) ⌝ }
 {
+    let mut line = [0; rowwise::LONGEST];
     let mut r = 0;
     while r < height {
         let a = r * stride;
         let e = a + width;
-        rowwise::weave(&mut area[a..e]);
+        rowwise::weave(&mut area[a..e], &mut line);
         r += 1;
     }
 }

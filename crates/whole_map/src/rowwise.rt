@@ -1,14 +1,13 @@
 // What is done to one row of numbers. The module is private: only this crate, which meets what is required, can call it.
 ghost use mathlib.Core.Path.{_≡_};
-ghost use Prim.Native.Nat.{_+_, _*_, _<_, _≤_};
+ghost use Prim.Native.Nat.{_≤_};
 ghost use lib.IntN.{pos};
 ghost use lib.ListN.{length};
 ghost use Rattle.numbers.specs.Signal.{at};
-ghost use Rattle.lifting.specs.Line.{lo, hi, parted, joined};
+ghost use Rattle.lifting.specs.Line.{parted, joined};
 ghost use Rattle.lifting.specs.Halves.{halvesOf, inHalves, fronted};
-ghost use Rattle.lifting.specs.Passes.{evensCopied, oddsCopied};
 ghost use Rattle.wavelet.specs.Maps.{every};
-ghost use Rattle.whole_map.specs.Rowwise.{wovenInPlace, evensLaid, oddsLaid, between};
+ghost use Rattle.whole_map.specs.Rowwise.{wovenInPlace, between};
 
 // The longest row that is woven in place: half the largest width, rounded up.
 pub const LONGEST: usize = 1025;
@@ -51,13 +50,23 @@ pub fn all_between(row: &[i32], low: i32, high: i32) -> bool
     ok
 }
 
-// The even places of a line, and after them its odd places, to a row as long.
+// The even places of a line, and after them its odd places, to a row as long. Here and below one loop stores both of a pair: the compiler
+// then makes whole vectors of it.
 pub fn part_line(line: &[i32], row: &mut [i32])
     requires { ⌜ length (now line) ≡ length (now row) ⌝ }
     ensures { λ _. ⌜ at (now (row .exit)) ≡ inHalves (length (now (line .entry))) (parted (at (now (line .entry)))) (at (now (row .entry))) ⌝ }
 {
-    part_evens(line, row);
-    part_odds(line, row);
+    let high = line.len() / 2;
+    let low = line.len() - high;
+    let mut j = 0;
+    while j < high {
+        row[j] = line[2 * j];
+        row[low + j] = line[2 * j + 1];
+        j += 1;
+    }
+    if j < low {
+        row[j] = line[2 * j];
+    }
 }
 
 // A row in halves to the line itself, as long.
@@ -65,75 +74,25 @@ fn weave_line(row: &[i32], line: &mut [i32])
     requires { ⌜ length (now row) ≡ length (now line) ⌝ }
     ensures { λ _. ⌜ at (now (line .exit)) ≡ fronted (length (now (row .entry))) (joined (halvesOf (length (now (row .entry))) (at (now (row .entry))))) (at (now (line .entry))) ⌝ }
 {
-    weave_evens(row, line);
-    weave_odds(row, line);
-}
-
-// The even places of a line to the front of a row as long.
-fn part_evens(line: &[i32], row: &mut [i32])
-    requires { ⌜ length (now line) ≡ length (now row) ⌝ }
-    ensures { λ _. ⌜ at (now (row .exit)) ≡ evensCopied (length (now (line .entry))) (at (now (line .entry))) (at (now (row .entry))) ⌝ }
-{
-    let n = line.len();
-    let low = n - n / 2;
-    let mut j = 0;
-    while j < low {
-        row[j] = line[2 * j];
-        j += 1;
-    }
-}
-
-// The odd places after them.
-fn part_odds(line: &[i32], row: &mut [i32])
-    requires { ⌜ length (now line) ≡ length (now row) ⌝ }
-    ensures { λ _. ⌜ at (now (row .exit)) ≡ oddsCopied (length (now (line .entry))) (at (now (line .entry))) (at (now (row .entry))) ⌝ }
-{
-    let n = line.len();
-    let high = n / 2;
-    let low = n - high;
+    let high = row.len() / 2;
+    let low = row.len() - high;
     let mut j = 0;
     while j < high {
-        row[low + j] = line[2 * j + 1];
-        j += 1;
-    }
-}
-
-// The first half of a row to the even places of a line as long.
-fn weave_evens(row: &[i32], line: &mut [i32])
-    requires { ⌜ length (now row) ≡ length (now line) ⌝ }
-    ensures { λ _. ⌜ at (now (line .exit)) ≡ evensLaid (length (now (row .entry))) (halvesOf (length (now (row .entry))) (at (now (row .entry))) lo) (at (now (line .entry))) ⌝ }
-{
-    let n = row.len();
-    let low = n - n / 2;
-    let mut j = 0;
-    while j < low {
         line[2 * j] = row[j];
-        j += 1;
-    }
-}
-
-// The second half to the odd places.
-fn weave_odds(row: &[i32], line: &mut [i32])
-    requires { ⌜ length (now row) ≡ length (now line) ⌝ }
-    ensures { λ _. ⌜ at (now (line .exit)) ≡ oddsLaid (length (now (row .entry))) (halvesOf (length (now (row .entry))) (at (now (row .entry))) hi) (at (now (line .entry))) ⌝ }
-{
-    let n = row.len();
-    let high = n / 2;
-    let low = n - high;
-    let mut j = 0;
-    while j < high {
         line[2 * j + 1] = row[low + j];
         j += 1;
     }
+    if j < low {
+        line[2 * j] = row[j];
+    }
 }
 
-// A row from halves into its own order, in place, through a local line.
-pub fn weave(row: &mut [i32])
-    requires { ⌜ length (now row) ≤ 1025 ⌝ }
+// A row from halves into its own order, in place, through a line that is lent.
+pub fn weave(row: &mut [i32], line: &mut [i32])
+    requires { ⌜ length (now row) ≤ length (now line) ⌝ }
     ensures { λ _. ⌜ at (now (row .exit)) ≡ wovenInPlace (length (now (row .entry))) (at (now (row .entry))) ⌝ }
 {
-    let mut line = [0; LONGEST];
     let n = row.len();
-    copy(row, &mut line);
+    copy(row, line);
     weave_line(&line[0..n], row);
 }

@@ -1,4 +1,4 @@
--- `whole_map::rowwise::weave` meets its contract: the row stands at the front of the local line, and its numbers are woven from there. Assumes nothing.
+-- `whole_map::rowwise::weave` meets its contract: the row stands at the front of the line, and its numbers are woven from there. Assumes nothing.
 use native.Mathlib.Omega.{arith}
 use Prim.Native.Nat.{_-_}
 use lib.ListN.{length}
@@ -7,9 +7,6 @@ use Rattle.whole_map.proofs.RowwiseLaws.{weave-through}
 use borrow.Author.Needs.{needs}
 use Rattle.whole_map.proofs.rowwise.weave.Statement.{statement}
 use Rattle.whole_map.proofs.rowwise.weave.Tie as tie
-
-slice-aggregate-copy : tie.Need-slice-aggregate-copy
-slice-aggregate-copy c = search needs
 
 copy-requires : tie.Need-copy-requires
 copy-requires c κs = search needs
@@ -29,6 +26,9 @@ weave-line-requires c κs = search needs
 same-length : tie.Need-same-length
 same-length c = search needs
 
+same-length-2 : tie.Need-same-length-2
+same-length-2 c = search needs
+
 returns : tie.Need-returns
 returns c =
     let copied = c .before .before .before .before .before .before .copy in
@@ -40,11 +40,11 @@ pub weave-spec : {M : Type 1} → statement M
 weave-spec =
     tie.close
     (tie.spec
-    slice-aggregate-copy
     copy-requires
     sub-weave-line
     part-weave-line-start
     part-weave-line-end
     weave-line-requires
     same-length
+    same-length-2
     returns)
