@@ -13,21 +13,21 @@ use borrow.Author.Tests.{lt-ltb, le-ltb, eq-eqb, ne-eqb, le-leb}
 use Rattle.numbers.specs.Signal.{at, pick, windowed, spliced}
 use Rattle.numbers.specs.Word.{wrap32}
 use Rattle.numbers.proofs.Parts.{window-in, splice-below, splice-in, splice-past, length-mid, at-mid, at-put}
-use Rattle.lifting.specs.Line.{predicted, updated, unupdated, unpredicted, parted}
+use Rattle.lifting.specs.Line.{unupdated, unpredicted, parted}
 use Rattle.lifting.specs.Halves.{fronted, inHalves, liftedInPlace, unliftedInPlace, highsLaid}
 use Rattle.lifting.proofs.RowLaws.{row-order}
 use Rattle.wavelet.specs.Bands.{Grid}
 use Rattle.wavelet.specs.Plane.{cells, flat}
 use Rattle.wavelet.specs.Maps.{every, everyCell}
-use Rattle.wavelet.proofs.GridLaws.{cells-flat, flat-cells}
+use Rattle.wavelet.proofs.GridLaws.{cells-flat}
 use Rattle.wavelet.proofs.MapTheorems.{every-each, each-every, every-same}
 use Rattle.whole_map.specs.Rowwise.{cut, partedInPlace, between}
-use Rattle.whole_map.specs.Passes.{even, before, after, oddRowsChanged, evenRowsChanged, rowsMapped, levelRow, rowsStored, rowsLoaded}
+use Rattle.whole_map.specs.Passes.{even, before, after, oddRowsChanged, evenRowsChanged, rowsMapped, levelRow, gridHalved, gridCopied}
 use Rattle.whole_map.specs.LevelPasses.{columnsLiftedInPlace, levelLifted, columnsUnliftedInPlace, rowsBetween}
-use Rattle.whole_map.proofs.GridSweep.{RowSwept, store-row, mapped-in}
-use Rattle.whole_map.proofs.RowwiseLaws.{front-at, window-cut, cut-parted}
+use Rattle.whole_map.proofs.GridSweep.{RowSwept, store-row}
+use Rattle.whole_map.proofs.RowwiseLaws.{front-at, cut-in, window-cut, cut-parted}
 use Rattle.whole_map.proofs.HeightRows.{halves-inside}
-use Rattle.whole_map.proofs.CellLaws.{flat-same, by-within, level-in, loaded-in, loaded-out, stored-in, stored-out, outside-columns}
+use Rattle.whole_map.proofs.CellLaws.{flat-same, halved-in, halved-out, copied-in, copied-out, outside-columns}
 use Rattle.whole_map.proofs.TestLaws.{not-every}
 
 -- ---- a pass reads the cells that stand in the area alone
@@ -62,28 +62,11 @@ module _ (s : ℕ) (F : Grid) (y : ℕ → ℤ) (e : y ≡ flat s F) where
   pub left-cells : (r c : ℕ) → c < s → cells s y r c ≡ F r c
   left-cells r c cs = ap (λ (z : ℕ → ℤ). cells s z r c) e ∙ cells-flat s F r c cs
 
-module _ (s w h : ℕ) (x : ℕ → ℤ) (apart : 0 < s) where
-  pub columns-alone : h < 2 → x ≡ flat s (columnsLiftedInPlace w h (cells s x))
-  unfolding columnsLiftedInPlace
-  columns-alone b = simp (le-ltb 1 h (omega arith)) (sym (flat-cells s x))
-
-  module _ (y : ℕ → ℤ) where
-    pub columns-both : 2 ≤ h → y ≡ flat s (evenRowsChanged (updated wrap32) w h (oddRowsChanged (predicted wrap32) w h (cells s x))) → y ≡ flat s (columnsLiftedInPlace w h (cells s x))
-    unfolding columnsLiftedInPlace
-    columns-both b e = simp (lt-ltb 1 h (omega arith)) e
-
-    -- and then all rows, on the way to the plane
-    pub level-both : (A : ℕ) (u v : ℕ → ℤ) → w ≤ s → 0 < A → y ≡ flat s (columnsLiftedInPlace w h (cells s x)) → v ≡ flat A (rowsStored w h (rowsMapped (liftedInPlace w) w h (cells s y)) (cells A u)) → v ≡ flat A (rowsStored w h (levelLifted w h (cells s x)) (cells A u))
-    unfolding levelLifted
-    level-both A u v ws some e f =
-        f ∙ flat-same A _ _ some
-        (λ r c ca.
-        by-within w h r c
-        (λ rh cw.
-        stored-in w h _ (cells A u) r c rh cw
-        ∙ mapped-same (liftedInPlace w) w h (cells s y) _ (levelRow h r) c (left-cells s _ y e (levelRow h r) c (omega arith)) (λ j jw. left-cells s _ y e (levelRow h r) j (omega arith))
-        ∙ sym (stored-in w h _ (cells A u) r c rh cw))
-        (λ o. stored-out w h _ (cells A u) r c o ∙ sym (stored-out w h _ (cells A u) r c o)))
+-- all columns, then all rows
+pub level-both : (A w h : ℕ) (z z₁ z₂ : ℕ → ℤ) → w ≤ A → 0 < A → z₁ ≡ flat A (columnsLiftedInPlace w h (cells A z)) → z₂ ≡ flat A (rowsMapped (liftedInPlace w) w h (cells A z₁)) → z₂ ≡ flat A (levelLifted w h (cells A z))
+unfolding levelLifted
+level-both A w h z z₁ z₂ wa some e f =
+    f ∙ flat-same A _ _ some (λ r c ca. mapped-same (liftedInPlace w) w h (cells A z₁) _ r c (left-cells A _ z₁ e r c ca) (λ j jw. left-cells A _ z₁ e r j (omega arith)))
 
 -- ---- a part copied
 pub splice-same : (b n : ℕ) (u v x : ℕ → ℤ) → ((i : ℕ) → i < n → u i ≡ v i) → spliced b n u x ≡ spliced b n v x
@@ -130,9 +113,6 @@ module _ (a b n k k′ : ℕ) (from to z : List ℤ) (e : k ≡ n) (e′ : k′ 
       let ok = le-leb (length (midOf a k′ from)) (length (midOf b k to)) (omega (arith, same-parts)) in
       let is′ : at z ≡ fronted (length (midOf a k′ from)) y (at (midOf b k to)) = simp ok at is in
       moved-part b n k to z y e fb size (λ i h. ap (λ (u : ℕ → ℤ). u i) is′ ∙ front-at _ y _ i (omega arith))
-
-  pub lifted-part : at z ≡ pick (leb (length (midOf a k′ from)) (length (midOf b k to))) (fronted (length (midOf a k′ from)) (liftedInPlace (length (midOf a k′ from)) (at (midOf a k′ from))) (at (midOf b k to))) (at (midOf b k to)) → at (putMid b k to z) ≡ spliced b n (liftedInPlace n (windowed a n (at from))) (at to)
-  lifted-part is = fronted-part _ is ∙ cc (mid-length, lent-part a n k′ from e′)
 
   pub unlifted-part : at z ≡ pick (leb (length (midOf a k′ from)) (length (midOf b k to))) (fronted (length (midOf a k′ from)) (unliftedInPlace (length (midOf a k′ from)) (highsLaid (length (midOf a k′ from)) (at (midOf a k′ from)) (at (midOf b k to)))) (at (midOf b k to))) (at (midOf b k to)) → at (putMid b k to z) ≡ spliced b n (unliftedInPlace n (highsLaid n (windowed a n (at from)) (windowed b n (at to)))) (at to)
   unlifted-part is = fronted-part _ is ∙ cc (mid-length, lent-part a n k′ from e′, lent-part b n k to e)
@@ -183,29 +163,26 @@ fill-turn A w h i Y Z y z z′ wa is new past sw =
     copy-turn A w 0 w i (i * A) Y Z y z z′ wa (omega arith) (omega arith) is
     (λ c cw. let k : 0 + c ≡ c = omega arith in rw k (new c cw)) (λ c b. absurd (omega arith)) past sw
 
--- the rows of a level, lifted, to the plane
-pub stored-turn : (s A w h i l : ℕ) (x z₀ z z′ : ℕ → ℤ) → w ≤ A → i < h → l ≡ levelRow h i → z′ ≡ spliced (i * A) w (liftedInPlace w (windowed (l * s) w x)) z → RowSwept A (rowsStored w h (rowsMapped (liftedInPlace w) w h (cells s x)) (cells A z₀)) (cells A z₀) i z → RowSwept A (rowsStored w h (rowsMapped (liftedInPlace w) w h (cells s x)) (cells A z₀)) (cells A z₀) (i + 1) z′
-stored-turn s A w h i l x z₀ z z′ wa ih e is sw =
-    let L = rowsMapped (liftedInPlace w) w h (cells s x) in
-    fill-turn A w h i _ _ (liftedInPlace w (windowed (l * s) w x)) z z′ wa is
-    (λ c cw.
-    ap (λ (y : ℕ → ℤ). liftedInPlace w y c) (row-lent s w l x ∙ ap (λ (m : ℕ). cut w (cells s x m)) e)
-    ∙ sym (stored-in w h L (cells A z₀) i c ih cw ∙ mapped-in (liftedInPlace w) w h (cells s x) (levelRow h i) c (level-in h i ih) cw))
-    (λ c b. stored-out w h L (cells A z₀) i c (outside-columns w h i c b))
+-- a grid copied, and laid in halves
+pub copied-turn : (A s w h i : ℕ) (z x₀ x x′ : ℕ → ℤ) → w ≤ s → i < h → x′ ≡ spliced (i * s) w (windowed (i * A) w z) x → RowSwept s (gridCopied w h (cells A z) (cells s x₀)) (cells s x₀) i x → RowSwept s (gridCopied w h (cells A z) (cells s x₀)) (cells s x₀) (i + 1) x′
+copied-turn A s w h i z x₀ x x′ ws ih is sw =
+    fill-turn s w h i _ _ (windowed (i * A) w z) x x′ ws is
+    (λ c cw. ap (λ (u : ℕ → ℤ). u c) (row-lent A w i z) ∙ cut-in w (cells A z i) c cw ∙ sym (copied-in w h (cells A z) (cells s x₀) i c ih cw))
+    (λ c b. copied-out w h (cells A z) (cells s x₀) i c (outside-columns w h i c b))
     sw
 
--- the low-low part to the rows of the next level
-pub loaded-turn : (A s w h i : ℕ) (z x₀ x x′ : ℕ → ℤ) → w ≤ s → i < h → x′ ≡ spliced (i * s) w (partedInPlace w (windowed (i * A) w z)) x → RowSwept s (rowsLoaded w h (cells A z) (cells s x₀)) (cells s x₀) i x → RowSwept s (rowsLoaded w h (cells A z) (cells s x₀)) (cells s x₀) (i + 1) x′
+pub halved-turn : (s A w h i l : ℕ) (x z₀ z z′ : ℕ → ℤ) → w ≤ A → i < h → l ≡ levelRow h i → z′ ≡ spliced (i * A) w (partedInPlace w (windowed (l * s) w x)) z → RowSwept A (gridHalved w h (cells s x) (cells A z₀)) (cells A z₀) i z → RowSwept A (gridHalved w h (cells s x) (cells A z₀)) (cells A z₀) (i + 1) z′
 unfolding partedInPlace
-loaded-turn A s w h i z x₀ x x′ ws ih is sw =
-    let y = windowed (i * A) w z in
-    fill-turn s w h i _ _ (inHalves w (parted y) y) x x′ ws is
+halved-turn s A w h i l x z₀ z z′ wa ih e is sw =
+    let y = windowed (l * s) w x in
+    let g = cells s x (levelRow h i) in
+    fill-turn A w h i _ _ (inHalves w (parted y) y) z z′ wa is
     (λ c cw.
-    ap (λ (u : ℕ → ℤ). inHalves w (parted u) y c) (row-lent A w i z)
-    ∙ ap (λ (u : ℕ → ℤ). u c) (cut-parted w (cells A z i) y)
-    ∙ halves-inside w (parted (cells A z i)) y (cells s x₀ i) c cw
-    ∙ sym (loaded-in w h (cells A z) (cells s x₀) i c ih cw))
-    (λ c b. loaded-out w h (cells A z) (cells s x₀) i c (outside-columns w h i c b))
+    ap (λ (u : ℕ → ℤ). inHalves w (parted u) y c) (row-lent s w l x ∙ ap (λ (m : ℕ). cut w (cells s x m)) e)
+    ∙ ap (λ (u : ℕ → ℤ). u c) (cut-parted w g y)
+    ∙ halves-inside w (parted g) y g c cw
+    ∙ sym (halved-in w h (cells s x) (cells A z₀) i c ih cw))
+    (λ c b. halved-out w h (cells s x) (cells A z₀) i c (outside-columns w h i c b))
     sw
 
 -- the rows of a level from the plane

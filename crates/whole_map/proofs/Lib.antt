@@ -4,6 +4,7 @@ pub mod GridSweep
 pub mod ColumnPass
 pub mod HeightRows
 pub mod CellLaws
+pub mod ColumnLift
 pub mod LevelMath
 pub mod LevelsMath
 pub mod TestLaws

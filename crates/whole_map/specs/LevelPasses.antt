@@ -6,7 +6,7 @@ use lib.IntN.{ℤ, pos, negℤ, natAbs}
 use lib.Dec.{ltb, leb}
 use Rattle.numbers.specs.Signal.{pick, spliced}
 use Rattle.numbers.specs.Word.{wrap32}
-use Rattle.lifting.specs.Line.{lo, count, predicted, updated, unupdated, unpredicted, joined}
+use Rattle.lifting.specs.Line.{lo, count, unupdated, unpredicted, joined}
 use Rattle.lifting.specs.Halves.{halvesOf, fronted, liftedInPlace, unliftedInPlace}
 use Rattle.wavelet.specs.Limits.{range}
 use Rattle.wavelet.specs.Bands.{Grid}
@@ -19,10 +19,13 @@ use Rattle.whole_map.specs.Passes.{within, oddRowsChanged, evenRowsChang
 unfoldable pub levelGrid : ℕ → Grid → Grid
 levelGrid w X r = joined (halvesOf w (X r))
 
--- all columns, then all rows, in place; a column of one number is its own
+-- the grid of w columns and h rows that stands in X, its rows in halves and each of them in halves
+unfoldable pub cornerGrid : ℕ → ℕ → Grid → Grid
+cornerGrid w h X r c = joined (halvesOf h (λ i. levelGrid w X i c)) r
+
+-- all columns, in halves, then all rows, in halves, lifted in place
 unfoldable pub columnsLiftedInPlace : ℕ → ℕ → Grid → Grid
-columnsLiftedInPlace w h X =
-    pick (ltb 1 h) (evenRowsChanged (updated wrap32) w h (oddRowsChanged (predicted wrap32) w h X)) X
+columnsLiftedInPlace w h X r c = pick (within w h r c) (liftedInPlace h (λ i. X i c) r) (X r c)
 
 unfoldable pub levelLifted : ℕ → ℕ → Grid → Grid
 levelLifted w h X = rowsMapped (liftedInPlace w) w h (columnsLiftedInPlace w h X)

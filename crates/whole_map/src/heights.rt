@@ -1,4 +1,5 @@
-// Rows of heights loaded into the work area, each in halves, and stored from it. The module is private, as `rowwise` is.
+// Rows of heights loaded into the plane, each in halves, and stored from the work area. The module is private, as `rowwise` is.
+use crate::levels;
 use crate::rowwise;
 ghost use mathlib.Core.Path.{_≡_};
 ghost use Prim.Native.Nat.{_+_, _-_, _*_, _<_, _≤_};
@@ -9,7 +10,7 @@ ghost use Rattle.lifting.specs.Line.{parted, joined};
 ghost use Rattle.lifting.specs.Halves.{halvesOf, inHalves, fronted};
 ghost use Rattle.wavelet.specs.Plane.{cells, flat};
 ghost use Rattle.whole_map.specs.Rowwise.{heightsAt};
-ghost use Rattle.whole_map.specs.Passes.{rowsLoaded, Rows};
+ghost use Rattle.whole_map.specs.Passes.{gridHalved, Rows};
 ghost use Rattle.whole_map.specs.LevelPasses.{Finished};
 ghost use mathlib.Core.Bool.{true};
 ghost use Rattle.wavelet.specs.Maps.{every, valueFits};
@@ -32,16 +33,18 @@ fn load_row(heights: &[u16], row: &mut [i32])
     }
 }
 
-// The heights of a map to the work area, each row in halves.
-pub fn load_rows(heights: &[u16], work: &mut [i32], width: usize, height: usize)
-    requires { ⌜ Rows (length (now heights)) width width height × Rows (length (now work)) width width height ⌝ }
-    ensures { λ _. ⌜ at (now (work .exit)) ≡ flat width (rowsLoaded width height (cells width (heightsAt (now (heights .entry)))) (cells width (at (now (work .entry))))) ⌝ }
+// The heights of a map to the plane as a level takes them: the even rows first, each row in halves.
+pub fn load_rows(heights: &[u16], plane: &mut [i32], width: usize, height: usize)
+    requires { ⌜ Rows (length (now heights)) width width height × Rows (length (now plane)) width width height ⌝ }
+    ensures { λ _. ⌜ at (now (plane .exit)) ≡ flat width (gridHalved width height (cells width (heightsAt (now (heights .entry)))) (cells width (at (now (plane .entry))))) ⌝ }
 {
     let mut r = 0;
     while r < height {
-        let a = r * width;
+        let a = levels::level_row(height, r) * width;
         let e = a + width;
-        load_row(&heights[a..e], &mut work[a..e]);
+        let b = r * width;
+        let f = b + width;
+        load_row(&heights[a..e], &mut plane[b..f]);
         r += 1;
     }
 }

@@ -1,15 +1,19 @@
 // Passes over the rows of one area: `height` rows of `width` numbers, `stride` apart. The module is private, as `rowwise` is.
 use crate::rowwise;
+use lifting::line;
 use lifting::rows;
 ghost use mathlib.Core.Path.{_≡_};
-ghost use Prim.Native.Nat.{_+_, _-_, _*_, _<_, _≤_};
+ghost use Prim.Native.Nat.{_+_, _-_, _*_, _<_, _≤_, min};
 ghost use lib.ListN.{length};
 ghost use Rattle.numbers.specs.Signal.{at};
 ghost use Rattle.numbers.specs.Word.{wrap32};
 ghost use Rattle.lifting.specs.Line.{predicted, updated, unupdated, unpredicted};
+ghost use Rattle.lifting.specs.Halves.{liftedInPlace};
+ghost use Rattle.lifting.specs.Rows.{rowsChanged};
 ghost use Rattle.wavelet.specs.Plane.{cells, flat};
 ghost use Rattle.whole_map.specs.Rowwise.{wovenInPlace};
-ghost use Rattle.whole_map.specs.Passes.{after, before, oddRowsChanged, evenRowsChanged, nextChanged, pairChanged, rowsMapped, Rows};
+ghost use Rattle.whole_map.specs.Passes.{after, before, nextChanged, pairChanged, rowsMapped, Rows};
+ghost use Rattle.whole_map.specs.LevelPasses.{columnsLiftedInPlace};
 
 // The row after row r of `height` rows, and the row before: mirrored at the ends.
 fn row_after(height: usize, r: usize) -> usize
@@ -25,41 +29,73 @@ fn row_before(r: usize) -> usize
     if 0 < r { r - 1 } else { 1 }
 }
 
-// The row after row r predicted, where there is one, by row r and the row after it.
-fn predict_next(area: &mut [i32], stride: usize, width: usize, height: usize, r: usize)
-    requires { ⌜ (r < height) × (1 < height) ⌝ }
-    ensures { λ _. ⌜ at (now (area .exit)) ≡ nextChanged (predicted wrap32) (length (now (area .entry))) stride width height r (at (now (area .entry))) ⌝ }
+// The low row after low row n of `low`, the last one again after the last; and the high row before high row n, the first one again.
+fn next_low(low: usize, n: usize) -> usize
+    requires { ⌜ n < low ⌝ }
+    ensures { λ r. ⌜ r ≡ min (n + 1) (low - 1) ⌝ }
 {
-    let next = r + 1;
-    if height <= next {
+    if n + 1 < low { n + 1 } else { n }
+}
+
+fn high_before(n: usize) -> usize
+    ensures { λ r. ⌜ r ≡ n - 1 ⌝ }
+{
+    if 0 < n { n - 1 } else { 0 }
+}
+
+// One turn of the columns forward: high row n predicted, and low row n updated. That it is called twice, in the loop and once after it,
+// keeps it from being inlined: in one loop over rows of one area the compiler asks once for all rows whether they overlap, and then leaves
+// vector code (docs/PROVING.md).
+fn lift_pair(area: &mut [i32], stride: usize, width: usize, low: usize, n: usize)
+    requires { ⌜ (n < low) × (low + n ≤ length (now area)) ⌝ }
+    ensures { λ _. ⌜ at (now (area .exit)) ≡ rowsChanged (updated wrap32) (length (now (area .entry))) stride width n (low + (n - 1)) (low + n) (rowsChanged (predicted wrap32) (length (now (area .entry))) stride width (low + n) n (min (n + 1) (low - 1)) (at (now (area .entry)))) ⌝ }
+{
+    rows::predict_row(area, stride, width, low + n, n, next_low(low, n));
+    rows::update_row(area, stride, width, n, low + high_before(n), low + n);
+}
+
+// Columns forward, in place. The rows stand as the numbers of a column do, in halves: the low rows first. Row by row, so that a row is
+// still near when it is used again: a low row changes once the high row beside it is predicted and it is read no more.
+fn lift_pairs(area: &mut [i32], stride: usize, width: usize, height: usize)
+    requires { ⌜ Rows (length (now area)) stride width height × (1 < height) ⌝ }
+    ensures { λ _. ⌜ at (now (area .exit)) ≡ flat stride (columnsLiftedInPlace width height (cells stride (at (now (area .entry))))) ⌝ }
+{
+    let high = height / 2;
+    let low = height - high;
+    let mut n = 0;
+    while n + 1 < high {
+        lift_pair(area, stride, width, low, n);
+        n += 1;
+    }
+    lift_pair(area, stride, width, low, n);
+    if high < low {
+        rows::update_row(area, stride, width, low - 1, height - 1, height - 1);
+    }
+}
+
+// The same, where a level of one row stays.
+pub fn lift_columns(area: &mut [i32], stride: usize, width: usize, height: usize)
+    requires { ⌜ Rows (length (now area)) stride width height ⌝ }
+    ensures { λ _. ⌜ at (now (area .exit)) ≡ flat stride (columnsLiftedInPlace width height (cells stride (at (now (area .entry))))) ⌝ }
+{
+    if height < 2 {
         return;
     }
-    rows::predict_row(area, stride, width, next, r, row_after(height, next));
+    lift_pairs(area, stride, width, height);
 }
 
-// One turn of the columns forward: the odd row after row r predicted, and row r updated. That it is called twice, in the loop and once
-// after it, keeps it from being inlined: in one loop over rows of one area the compiler asks once for all rows whether they overlap, and
-// then leaves vector code (docs/PROVING.md).
-fn lift_pair(area: &mut [i32], stride: usize, width: usize, height: usize, r: usize)
-    requires { ⌜ (r < height) × (1 < height) ⌝ }
-    ensures { λ _. ⌜ at (now (area .exit)) ≡ pairChanged (predicted wrap32) (updated wrap32) (length (now (area .entry))) stride width height r (at (now (area .entry))) ⌝ }
-{
-    predict_next(area, stride, width, height, r);
-    rows::update_row(area, stride, width, r, row_before(r), row_after(height, r));
-}
-
-// Columns forward: each odd row predicted by the even rows next to it, each even row updated by the odd rows next to it. Row by row, so
-// that a row is still near when it is used again: an even row changes once the odd row after it is predicted and is read no more.
-pub fn lift_pairs(area: &mut [i32], stride: usize, width: usize, height: usize)
-    requires { ⌜ Rows (length (now area)) stride width height × (1 < height) ⌝ }
-    ensures { λ _. ⌜ at (now (area .exit)) ≡ flat stride (evenRowsChanged (updated wrap32) width height (oddRowsChanged (predicted wrap32) width height (cells stride (at (now (area .entry)))))) ⌝ }
+// Rows forward: each row, in halves, lifted in place.
+pub fn lift_rows(area: &mut [i32], stride: usize, width: usize, height: usize)
+    requires { ⌜ Rows (length (now area)) stride width height ⌝ }
+    ensures { λ _. ⌜ at (now (area .exit)) ≡ flat stride (rowsMapped (liftedInPlace width) width height (cells stride (at (now (area .entry))))) ⌝ }
 {
     let mut r = 0;
-    while r + 2 < height {
-        lift_pair(area, stride, width, height, r);
-        r += 2;
+    while r < height {
+        let a = r * stride;
+        let e = a + width;
+        line::lift(&mut area[a..e]);
+        r += 1;
     }
-    lift_pair(area, stride, width, height, r);
 }
 
 // The row after row r lifted back by the update, where there is one.
@@ -74,8 +110,7 @@ fn unupdate_next(area: &mut [i32], stride: usize, width: usize, height: usize, r
     rows::unupdate_row(area, stride, width, next, r, row_after(height, next));
 }
 
-// One turn of the columns back: the even row after row r first, and then row r. It is called twice for the same reason as `lift_pair`: a
-// call that is inlined into the loop over the rows leaves vector code.
+// One turn of the columns back: the even row after row r first, and then row r. It is called twice for the same reason as `lift_pair`.
 pub fn unlift_pair(area: &mut [i32], stride: usize, width: usize, height: usize, r: usize)
     requires { ⌜ (r < height) × (1 < height) ⌝ }
     ensures { λ _. ⌜ at (now (area .exit)) ≡ pairChanged (unupdated wrap32) (unpredicted wrap32) (length (now (area .entry))) stride width height r (at (now (area .entry))) ⌝ }
