@@ -3,17 +3,16 @@ use mathlib.Core.Path.{_≡_, refl, sym, ap, _∙_, subst, fun-ext}
 use mathlib.Core.List.{List}
 use mathlib.Core.Bool.{Bool, true, false, _&&_}
 use Prim.Native.Nat.{ℕ, suc, _+_, _-_, _*_, _/_, _≤_, _<_}
-use native.Mathlib.Decide.{decLt, ℕ-discrete}
+use native.Mathlib.Decide.{decLt}
 use native.Mathlib.Omega.{arith}
 use lib.IntN.{ℤ, pos}
 use lib.Signed.{leZ}
-use lib.ListN.{length, set, length-set}
-use lib.Seq.{getD-set-same, getD-set-other}
+use lib.ListN.{length, set}
 use borrow.Author.Tests.{lt-ltb, le-ltb}
-use Rattle.numbers.specs.Signal.{at, windowed, both}
+use Rattle.numbers.specs.Signal.{at, windowed, spliced, both}
 use Rattle.numbers.proofs.Sweep.{Swept, store}
-use borrow.Rule.Slice.PartMut.{midOf}
-use Rattle.numbers.proofs.Parts.{window-in, window-past, length-mid, at-mid}
+use borrow.Rule.Slice.PartMut.{midOf, putMid, same-len-mid}
+use Rattle.numbers.proofs.Parts.{window-in, window-past, splice-below, splice-in, splice-past, length-mid, at-mid, at-put}
 use Rattle.lifting.specs.Line.{lo, hi, count, parted, joined}
 use Rattle.lifting.specs.Halves.{halvesOf, inHalves, fronted}
 use Rattle.lifting.proofs.LineLaws.{counts, count-lo, count-hi, joined-even, joined-odd, halves-low, halves-high, halves-past, halves-are, front-in, front-past, front-are}
@@ -63,71 +62,40 @@ module _ (N : ℕ) (y z : ℕ → ℤ) where
   pub weave-done : (j : ℕ) → N ≤ j → woven j ≡ z j
   weave-done j b = front-rest N (joined (halvesOf N y)) z j b
 
--- ---- a line x of N numbers laid in halves, a place of each half a turn: what stands in the row l, as long, where the line begins at z
-pub record Halved (N : ℕ) (x z : ℕ → ℤ) (n : ℕ) (l : List ℤ) : Type 0 where
-  pub size : length l ≡ N
-  pub within : n ≤ N / 2
-  pub lows : (i : ℕ) → i < n → at l i ≡ x (2 * i)
-  pub highs : (i : ℕ) → i < n → at l (N - N / 2 + i) ≡ x (2 * i + 1)
-  pub rest : (j : ℕ) → N ≤ j → at l j ≡ z j
-
-module _ (N : ℕ) (x z : ℕ → ℤ) where
-  pub halve-start : (l : List ℤ) → length l ≡ N → z ≡ at l → Halved N x z 0 l
-  halve-start l e is =
-      record {
-        size = e;
-        within = omega arith;
-        lows = λ i b. absurd (omega arith);
-        highs = λ i b. absurd (omega arith);
-        rest = λ j b. ap (λ (u : ℕ → ℤ). u j) (sym is);
-      }
-
-  pub halve-turn : (n : ℕ) (a b : ℤ) (l : List ℤ) → n < N / 2 → a ≡ x (2 * n) → b ≡ x (2 * n + 1) → Halved N x z n l → Halved N x z (n + 1) (set (set l n a) (N - N / 2 + n) b)
-  halve-turn n a b l h ea eb r =
-      let size = r .size in
-      let first = set l n a in
-      let long : length first ≡ N = length-set l n a ∙ size in
-      let p = N - N / 2 + n in
-      record {
-        size = length-set first p b ∙ long;
-        within = omega arith;
-        lows = λ i d.
-            getD-set-other first p i b (pos 0) (omega arith)
-            ∙ elim (ℕ-discrete i n) [
-              | yes e ↦ rw e (getD-set-same l n a (pos 0) (omega arith) ∙ ea)
-              | no e ↦ getD-set-other l n i a (pos 0) e ∙ r .lows i (omega arith)
-            ];
-        highs = λ i d.
-            elim (ℕ-discrete i n) [
-              | yes e ↦ rw e (getD-set-same first p b (pos 0) (omega arith) ∙ eb)
-              | no e ↦ getD-set-other first p (N - N / 2 + i) b (pos 0) (omega arith) ∙ getD-set-other l n (N - N / 2 + i) a (pos 0) (omega arith) ∙ r .highs i (omega arith)
-            ];
-        rest = λ j d. getD-set-other first p j b (pos 0) (omega arith) ∙ getD-set-other l n j a (pos 0) (omega arith) ∙ r .rest j d;
-      }
-
-  -- all places of an even line; and the last of an odd one
-  pub halve-end : (n : ℕ) (l : List ℤ) → N / 2 ≤ n → N - N / 2 ≤ n → Halved N x z n l → at l ≡ inHalves N (parted x) z
-  unfolding parted
-  halve-end n l g h r =
-      let c = count-lo N in
-      let d = counts N in
-      sym (halves-are N (parted x) z (at l) (λ i b. sym (r .lows i (omega (arith, r .within)))) (λ i b. rw c (sym (r .highs i (omega (arith, r .within))))) (λ j b. sym (r .rest j b)))
-
-  pub halve-last : (n : ℕ) (a : ℤ) (l : List ℤ) → N / 2 ≤ n → n < N - N / 2 → a ≡ x (2 * n) → Halved N x z n l → at (set l n a) ≡ inHalves N (parted x) z
-  unfolding parted
-  halve-last n a l g h ea r =
-      let c = count-lo N in
-      let d = counts N in
-      let size = r .size in
-      let few = r .within in
-      sym (halves-are N (parted x) z (at (set l n a))
-      (λ i b.
-      elim (ℕ-discrete i n) [
-        | yes e ↦ rw e (sym (getD-set-same l n a (pos 0) (omega arith) ∙ ea))
-        | no e ↦ sym (getD-set-other l n i a (pos 0) e ∙ r .lows i (omega arith))
-      ])
-      (λ i b. rw c (sym (getD-set-other l n (N - N / 2 + i) a (pos 0) (omega arith) ∙ r .highs i (omega arith))))
-      (λ j b. sym (getD-set-other l n j a (pos 0) (omega arith) ∙ r .rest j b)))
+-- ---- a line x of N numbers laid in halves: its even places come back as a in the first part of l, its odd places as b in the second
+pub halve-both : (N k k′ : ℕ) (x w₁ w₂ : ℕ → ℤ) (l a b : List ℤ) → length l ≡ N → k ≡ N - N / 2 → k′ ≡ N / 2 → length a ≡ length (midOf 0 k l) → at a ≡ fronted (length (midOf 0 k l)) (λ j. x (2 * j + 0)) w₁ → length b ≡ length (midOf (N - N / 2) k′ (putMid 0 k l a)) → at b ≡ fronted (length (midOf (N - N / 2) k′ (putMid 0 k l a))) (λ j. x (2 * j + 1)) w₂ → at (putMid (N - N / 2) k′ (putMid 0 k l a) b) ≡ inHalves N (parted x) (at l)
+unfolding parted
+halve-both N k k′ x w₁ w₂ l a b size ek ek′ la ea lb eb =
+    let c = count-lo N in
+    let d = counts N in
+    let low = N - N / 2 in
+    let l₁ = putMid 0 k l a in
+    let m₁ = length-mid 0 k l (omega arith) in
+    let s₁ : length l₁ ≡ N = same-len-mid 0 k l a la ∙ size in
+    let m₂ = length-mid low k′ l₁ (omega arith) in
+    let u₁ : (j : ℕ) → at l₁ j ≡ spliced 0 k (at a) (at l) j = λ j. ap (λ (f : ℕ → ℤ). f j) (at-put 0 k l a (omega arith) (omega arith)) in
+    let u₂ : (j : ℕ) → at (putMid low k′ l₁ b) j ≡ spliced low k′ (at b) (at l₁) j = λ j. ap (λ (f : ℕ → ℤ). f j) (at-put low k′ l₁ b (omega arith) (omega arith)) in
+    sym (halves-are N (parted x) (at l) _
+    (λ n h.
+    let e : 2 * (n - 0) + 0 ≡ 2 * n = omega arith in
+    sym (u₂ n
+    ∙ splice-below low k′ (at b) (at l₁) n (omega arith)
+    ∙ u₁ n
+    ∙ splice-in 0 k (at a) (at l) n (omega arith) (omega arith)
+    ∙ ap (λ (f : ℕ → ℤ). f (n - 0)) ea
+    ∙ front-at _ (λ j. x (2 * j + 0)) w₁ (n - 0) (omega arith)
+    ∙ ap x e))
+    (λ n h.
+    let e : count lo N + n ≡ low + n = omega arith in
+    let f : 2 * (low + n - low) + 1 ≡ 2 * n + 1 = omega arith in
+    sym (ap (at (putMid low k′ l₁ b)) e
+    ∙ u₂ (low + n)
+    ∙ splice-in low k′ (at b) (at l₁) (low + n) (omega arith) (omega arith)
+    ∙ ap (λ (g : ℕ → ℤ). g (low + n - low)) eb
+    ∙ front-at _ (λ j. x (2 * j + 1)) w₂ (low + n - low) (omega arith)
+    ∙ ap x f))
+    (λ j h.
+    sym (u₂ j ∙ splice-past low k′ (at b) (at l₁) j (omega arith) ∙ u₁ j ∙ splice-past 0 k (at a) (at l) j (omega arith))))
 
 -- ---- a part of n numbers as a signal
 pub cut-in : (n : ℕ) (x : ℕ → ℤ) (j : ℕ) → j < n → cut n x j ≡ x j

@@ -15,22 +15,27 @@ ghost use Rattle.whole_map.specs.LevelPasses.{Finished};
 ghost use mathlib.Core.Bool.{true};
 ghost use Rattle.wavelet.specs.Maps.{every, valueFits};
 
+// Every second height of a row, from place `first` on, to a row of numbers.
+fn load_second(heights: &[u16], first: usize, row: &mut [i32])
+    requires { ⌜ (first ≤ 1) × (2 * length (now row) + first ≤ length (now heights) + 1) ⌝ }
+    ensures { λ _. ⌜ at (now (row .exit)) ≡ fronted (length (now (row .entry))) (λ j. heightsAt (now (heights .entry)) (2 * j + first)) (at (now (row .entry))) ⌝ }
+{
+    let mut j = 0;
+    while j < row.len() {
+        row[j] = heights[2 * j + first] as i32;
+        j += 1;
+    }
+}
+
 // A row of heights to a row in halves, as long.
 fn load_row(heights: &[u16], row: &mut [i32])
     requires { ⌜ length (now heights) ≡ length (now row) ⌝ }
     ensures { λ _. ⌜ at (now (row .exit)) ≡ inHalves (length (now (heights .entry))) (parted (heightsAt (now (heights .entry)))) (at (now (row .entry))) ⌝ }
 {
-    let high = heights.len() / 2;
-    let low = heights.len() - high;
-    let mut j = 0;
-    while j < high {
-        row[j] = heights[2 * j] as i32;
-        row[low + j] = heights[2 * j + 1] as i32;
-        j += 1;
-    }
-    if j < low {
-        row[j] = heights[2 * j] as i32;
-    }
+    let n = heights.len();
+    let low = n - n / 2;
+    load_second(heights, 0, &mut row[0..low]);
+    load_second(heights, 1, &mut row[low..n]);
 }
 
 // The heights of a map to the plane as a level takes them: the even rows first, each row in halves.

@@ -1,6 +1,6 @@
 // What is done to one row of numbers. The module is private: only this crate, which meets what is required, can call it.
 ghost use mathlib.Core.Path.{_≡_};
-ghost use Prim.Native.Nat.{_≤_};
+ghost use Prim.Native.Nat.{_+_, _*_, _≤_};
 ghost use lib.IntN.{pos};
 ghost use lib.ListN.{length};
 ghost use Rattle.numbers.specs.Signal.{at};
@@ -50,26 +50,30 @@ pub fn all_between(row: &[i32], low: i32, high: i32) -> bool
     ok
 }
 
-// The even places of a line, and after them its odd places, to a row as long. Here and below one loop stores both of a pair: the compiler
-// then makes whole vectors of it.
+// Every second number of a line, from place `first` on, to a row.
+fn take_second(line: &[i32], first: usize, row: &mut [i32])
+    requires { ⌜ (first ≤ 1) × (2 * length (now row) + first ≤ length (now line) + 1) ⌝ }
+    ensures { λ _. ⌜ at (now (row .exit)) ≡ fronted (length (now (row .entry))) (λ j. at (now (line .entry)) (2 * j + first)) (at (now (row .entry))) ⌝ }
+{
+    let mut j = 0;
+    while j < row.len() {
+        row[j] = line[2 * j + first];
+        j += 1;
+    }
+}
+
+// The even places of a line, and after them its odd places, to a row as long.
 pub fn part_line(line: &[i32], row: &mut [i32])
     requires { ⌜ length (now line) ≡ length (now row) ⌝ }
     ensures { λ _. ⌜ at (now (row .exit)) ≡ inHalves (length (now (line .entry))) (parted (at (now (line .entry)))) (at (now (row .entry))) ⌝ }
 {
-    let high = line.len() / 2;
-    let low = line.len() - high;
-    let mut j = 0;
-    while j < high {
-        row[j] = line[2 * j];
-        row[low + j] = line[2 * j + 1];
-        j += 1;
-    }
-    if j < low {
-        row[j] = line[2 * j];
-    }
+    let n = line.len();
+    let low = n - n / 2;
+    take_second(line, 0, &mut row[0..low]);
+    take_second(line, 1, &mut row[low..n]);
 }
 
-// A row in halves to the line itself, as long.
+// A row in halves to the line itself, as long. One loop stores both of a pair: the compiler then makes whole vectors of it.
 fn weave_line(row: &[i32], line: &mut [i32])
     requires { ⌜ length (now row) ≡ length (now line) ⌝ }
     ensures { λ _. ⌜ at (now (line .exit)) ≡ fronted (length (now (row .entry))) (joined (halvesOf (length (now (row .entry))) (at (now (row .entry))))) (at (now (line .entry))) ⌝ }
