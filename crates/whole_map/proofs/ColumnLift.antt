@@ -19,7 +19,7 @@ use Rattle.wavelet.specs.Plane.{cells, flat}
 use Rattle.wavelet.proofs.GridLaws.{flat-cells}
 use Rattle.whole_map.specs.Passes.{Rows, within}
 use Rattle.whole_map.specs.LevelPasses.{columnsLiftedInPlace}
-use Rattle.whole_map.proofs.GridSweep.{RowSwept, row-room, finish, within-in, within-past, within-wide}
+use Rattle.whole_map.proofs.GridSweep.{row-room, finish, within-in, within-past, within-wide}
 use Rattle.whole_map.proofs.CellLaws.{flat-same, by-within}
 
 -- ---- what a row call leaves, rows t, a and b being among the rows

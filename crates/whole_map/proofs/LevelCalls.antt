@@ -24,7 +24,7 @@ use Rattle.wavelet.proofs.MapTheorems.{every-each, each-every, every-same}
 use Rattle.whole_map.specs.Rowwise.{cut, partedInPlace, between}
 use Rattle.whole_map.specs.Passes.{even, before, after, oddRowsChanged, evenRowsChanged, rowsMapped, levelRow, gridHalved, gridCopied}
 use Rattle.whole_map.specs.LevelPasses.{columnsLiftedInPlace, levelLifted, columnsUnliftedInPlace, rowsBetween}
-use Rattle.whole_map.proofs.GridSweep.{RowSwept, store-row}
+use Rattle.whole_map.proofs.GridSweep.{RowSwept, store-row, mapped-in, mapped-wide}
 use Rattle.whole_map.proofs.RowwiseLaws.{front-at, cut-in, window-cut, cut-parted}
 use Rattle.whole_map.proofs.HeightRows.{halves-inside}
 use Rattle.whole_map.proofs.CellLaws.{flat-same, halved-in, halved-out, copied-in, copied-out, outside-columns}
@@ -162,6 +162,22 @@ pub fill-turn : (A w h i : ℕ) (Y Z : Grid) (y z z′ : ℕ → ℤ) → w ≤ 
 fill-turn A w h i Y Z y z z′ wa is new past sw =
     copy-turn A w 0 w i (i * A) Y Z y z z′ wa (omega arith) (omega arith) is
     (λ c cw. let k : 0 + c ≡ c = omega arith in rw k (new c cw)) (λ c b. absurd (omega arith)) past sw
+
+-- a row lifted in place
+pub lifted-turn : (s w h i : ℕ) (x₀ x x′ : ℕ → ℤ) → w ≤ s → i < h → x′ ≡ spliced (i * s) w (liftedInPlace w (windowed (i * s) w x)) x → RowSwept s (rowsMapped (liftedInPlace w) w h (cells s x₀)) (cells s x₀) i x → RowSwept s (rowsMapped (liftedInPlace w) w h (cells s x₀)) (cells s x₀) (i + 1) x′
+lifted-turn s w h i x₀ x x′ ws ih is sw =
+    let same : (c : ℕ) → c < w → x (i * s + c) ≡ cells s x₀ i c = λ c cw. sw .rest i c (omega arith) (omega arith) in
+    fill-turn s w h i _ _ (liftedInPlace w (windowed (i * s) w x)) x x′ ws is
+    (λ c cw. ap (λ (y : ℕ → ℤ). liftedInPlace w y c) (window-cut (i * s) w x (cells s x₀ i) same) ∙ sym (mapped-in (liftedInPlace w) w h (cells s x₀) i c ih cw))
+    (λ c b. mapped-wide (liftedInPlace w) w h (cells s x₀) i c b)
+    sw
+
+-- a part lifted in place
+pub lifted-part : (a n k : ℕ) (l z : List ℤ) → k ≡ n → a + n ≤ length l → length z ≡ length (midOf a k l) → at z ≡ liftedInPlace (length (midOf a k l)) (at (midOf a k l)) → at (putMid a k l z) ≡ spliced a n (liftedInPlace n (windowed a n (at l))) (at l)
+lifted-part a n k l z e room size is =
+    let mid : length (midOf a k l) ≡ n = length-mid a k l (omega arith) ∙ e in
+    let is′ : at z ≡ liftedInPlace n (windowed a n (at l)) = cc (is, mid, lent-part a n k l e) in
+    moved-part a n k l z _ e room size (λ i h. ap (λ (y : ℕ → ℤ). y i) is′)
 
 -- a grid copied, and laid in halves
 pub copied-turn : (A s w h i : ℕ) (z x₀ x x′ : ℕ → ℤ) → w ≤ s → i < h → x′ ≡ spliced (i * s) w (windowed (i * A) w z) x → RowSwept s (gridCopied w h (cells A z) (cells s x₀)) (cells s x₀) i x → RowSwept s (gridCopied w h (cells A z) (cells s x₀)) (cells s x₀) (i + 1) x′

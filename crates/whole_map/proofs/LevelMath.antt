@@ -13,7 +13,7 @@ use Rattle.lifting.proofs.LineTheorems.{forward-reads, back-reads}
 use Rattle.wavelet.specs.Bands.{Grid, Band, bandOf, columnsLifted, subband, rowsUnlifted, levelBack}
 use Rattle.wavelet.specs.Plane.{halfAt, placeIn}
 use Rattle.whole_map.specs.Rowwise.{cut}
-use Rattle.whole_map.specs.Passes.{oddRowsChanged, evenRowsChanged, rowsMapped}
+use Rattle.whole_map.specs.Passes.{evenRowsChanged, rowsMapped}
 use Rattle.whole_map.specs.LevelPasses.{levelGrid, cornerGrid, columnsLiftedInPlace, levelLifted, columnsUnliftedInPlace, levelUnlifted}
 use Rattle.wavelet.proofs.LevelTheory.{across-of, down-of}
 use Rattle.whole_map.proofs.GridSweep.{mapped-in}

@@ -17,7 +17,7 @@ use Rattle.whole_map.specs.LevelPasses.{levelGrid, cornerGrid, levelLift
 use Rattle.wavelet.proofs.GridLaws.{cells-flat}
 use Rattle.wavelet.proofs.LevelTheory.{plane-reads}
 use Rattle.whole_map.proofs.GridSweep.{mapped-in}
-use Rattle.whole_map.proofs.CellLaws.{halved-out, halved-grid, copied-in, mapped-out, fetched-new, fetched-made, made-even, made-odd, plane-even, plane-odd, flat-same, placed, placed-in, joined-at, grid-at, halves-at, half-low, cut-in, within-in, by-within}
+use Rattle.whole_map.proofs.CellLaws.{halved-out, halved-grid, copied-in, mapped-out, fetched-new, fetched-made, made-even, made-odd, plane-even, plane-odd, flat-same, placed, placed-in, joined-at, grid-at, half-low, cut-in, within-in, by-within}
 use Rattle.whole_map.proofs.ColumnLift.{column-out}
 use Rattle.whole_map.proofs.LevelMath.{BandsIn, level-forward, level-back}
 

@@ -1,5 +1,5 @@
 -- The laws of what is done to one row: what each pass leaves at a place, a turn of its loop, and what two passes come to together. Assumes nothing.
-use mathlib.Core.Path.{_≡_, refl, sym, ap, _∙_, subst, fun-ext}
+use mathlib.Core.Path.{_≡_, refl, sym, ap, _∙_, fun-ext}
 use mathlib.Core.List.{List}
 use mathlib.Core.Bool.{Bool, true, false, _&&_}
 use Prim.Native.Nat.{ℕ, suc, _+_, _-_, _*_, _/_, _≤_, _<_}
@@ -11,8 +11,8 @@ use lib.ListN.{length, set}
 use borrow.Author.Tests.{lt-ltb, le-ltb}
 use Rattle.numbers.specs.Signal.{at, windowed, spliced, both}
 use Rattle.numbers.proofs.Sweep.{Swept, store}
-use borrow.Rule.Slice.PartMut.{midOf, putMid, same-len-mid}
-use Rattle.numbers.proofs.Parts.{window-in, window-past, splice-below, splice-in, splice-past, length-mid, at-mid, at-put}
+use borrow.Rule.Slice.PartMut.{midOf}
+use Rattle.numbers.proofs.Parts.{window-in, window-past, splice-below, splice-in, splice-past, length-mid, at-mid}
 use Rattle.lifting.specs.Line.{lo, hi, count, parted, joined}
 use Rattle.lifting.specs.Halves.{halvesOf, inHalves, fronted}
 use Rattle.lifting.proofs.LineLaws.{counts, count-lo, count-hi, joined-even, joined-odd, halves-low, halves-high, halves-past, halves-are, front-in, front-past, front-are}
@@ -62,40 +62,46 @@ module _ (N : ℕ) (y z : ℕ → ℤ) where
   pub weave-done : (j : ℕ) → N ≤ j → woven j ≡ z j
   weave-done j b = front-rest N (joined (halvesOf N y)) z j b
 
--- ---- a line x of N numbers laid in halves: its even places come back as a in the first part of l, its odd places as b in the second
-pub halve-both : (N k k′ : ℕ) (x w₁ w₂ : ℕ → ℤ) (l a b : List ℤ) → length l ≡ N → k ≡ N - N / 2 → k′ ≡ N / 2 → length a ≡ length (midOf 0 k l) → at a ≡ fronted (length (midOf 0 k l)) (λ j. x (2 * j + 0)) w₁ → length b ≡ length (midOf (N - N / 2) k′ (putMid 0 k l a)) → at b ≡ fronted (length (midOf (N - N / 2) k′ (putMid 0 k l a))) (λ j. x (2 * j + 1)) w₂ → at (putMid (N - N / 2) k′ (putMid 0 k l a) b) ≡ inHalves N (parted x) (at l)
+-- ---- a line x of N numbers laid in halves in memory z: its even places at the front, and its odd places after them
+module _ (N : ℕ) (x z : ℕ → ℤ) where
+  abbrev evensLaid : ℕ → ℤ
+  evensLaid = fronted (count lo N) (parted x lo) z
+
+  abbrev oddsLaid : ℕ → ℤ
+  oddsLaid = spliced (count lo N) (count hi N) (parted x hi) z
+
+  pub evens-in : (j : ℕ) → j < count lo N → evensLaid j ≡ x (2 * j)
+  unfolding parted
+  evens-in j h = front-at (count lo N) (parted x lo) z j h
+
+  pub odds-low : (j : ℕ) → j < count lo N → oddsLaid j ≡ z j
+  odds-low j h = splice-below (count lo N) (count hi N) (parted x hi) z j h
+
+  odds-high : (n : ℕ) → n < count hi N → oddsLaid (count lo N + n) ≡ x (2 * n + 1)
+  unfolding parted
+  odds-high n h =
+      let k : count lo N + n - count lo N ≡ n = omega arith in
+      splice-in (count lo N) (count hi N) (parted x hi) z (count lo N + n) (omega arith) (omega arith) ∙ ap (parted x hi) k
+
+  pub odds-past : (j : ℕ) → N ≤ j → oddsLaid j ≡ z j
+  odds-past j h = let both = counts N in splice-past (count lo N) (count hi N) (parted x hi) z j (omega arith)
+
+  -- a turn of the second loop, whose places begin at low
+  pub odds-turn : (L low n : ℕ) (l : List ℤ) → low ≡ count lo N → n < count hi N → N ≤ L → Swept L oddsLaid z (low + n) l → Swept L oddsLaid z (low + (n + 1)) (set l (low + n) (x (2 * n + 1)))
+  odds-turn L low n l e h fit sw =
+      let both = counts N in
+      let k : low + n + 1 ≡ low + (n + 1) = omega arith in
+      rw k at (store (x (2 * n + 1)) sw (omega arith) (rw e (sym (odds-high n h))))
+
+pub parted-is : (N : ℕ) (x z : ℕ → ℤ) → inHalves N (parted x) z ≡ spliced (count lo N) (count hi N) (parted x hi) (fronted (count lo N) (parted x lo) z)
 unfolding parted
-halve-both N k k′ x w₁ w₂ l a b size ek ek′ la ea lb eb =
-    let c = count-lo N in
-    let d = counts N in
-    let low = N - N / 2 in
-    let l₁ = putMid 0 k l a in
-    let m₁ = length-mid 0 k l (omega arith) in
-    let s₁ : length l₁ ≡ N = same-len-mid 0 k l a la ∙ size in
-    let m₂ = length-mid low k′ l₁ (omega arith) in
-    let u₁ : (j : ℕ) → at l₁ j ≡ spliced 0 k (at a) (at l) j = λ j. ap (λ (f : ℕ → ℤ). f j) (at-put 0 k l a (omega arith) (omega arith)) in
-    let u₂ : (j : ℕ) → at (putMid low k′ l₁ b) j ≡ spliced low k′ (at b) (at l₁) j = λ j. ap (λ (f : ℕ → ℤ). f j) (at-put low k′ l₁ b (omega arith) (omega arith)) in
-    sym (halves-are N (parted x) (at l) _
-    (λ n h.
-    let e : 2 * (n - 0) + 0 ≡ 2 * n = omega arith in
-    sym (u₂ n
-    ∙ splice-below low k′ (at b) (at l₁) n (omega arith)
-    ∙ u₁ n
-    ∙ splice-in 0 k (at a) (at l) n (omega arith) (omega arith)
-    ∙ ap (λ (f : ℕ → ℤ). f (n - 0)) ea
-    ∙ front-at _ (λ j. x (2 * j + 0)) w₁ (n - 0) (omega arith)
-    ∙ ap x e))
-    (λ n h.
-    let e : count lo N + n ≡ low + n = omega arith in
-    let f : 2 * (low + n - low) + 1 ≡ 2 * n + 1 = omega arith in
-    sym (ap (at (putMid low k′ l₁ b)) e
-    ∙ u₂ (low + n)
-    ∙ splice-in low k′ (at b) (at l₁) (low + n) (omega arith) (omega arith)
-    ∙ ap (λ (g : ℕ → ℤ). g (low + n - low)) eb
-    ∙ front-at _ (λ j. x (2 * j + 1)) w₂ (low + n - low) (omega arith)
-    ∙ ap x f))
-    (λ j h.
-    sym (u₂ j ∙ splice-past low k′ (at b) (at l₁) j (omega arith) ∙ u₁ j ∙ splice-past 0 k (at a) (at l) j (omega arith))))
+parted-is N x z =
+    let sum = counts N in
+    let w = fronted (count lo N) (parted x lo) z in
+    halves-are N (parted x) z _
+    (λ n h. sym (odds-low N x w n h ∙ evens-in N x z n h))
+    (λ n h. sym (odds-high N x w n h))
+    (λ j h. sym (odds-past N x w j h ∙ front-rest (count lo N) (parted x lo) z j (omega arith)))
 
 -- ---- a part of n numbers as a signal
 pub cut-in : (n : ℕ) (x : ℕ → ℤ) (j : ℕ) → j < n → cut n x j ≡ x j

@@ -2,7 +2,7 @@
 use mathlib.Core.Bool.{Bool, true}
 use Prim.Native.Nat.{ℕ, _+_, _-_, _*_, _^_, _≤_, _<_}
 use mathlib.Core.Path.{_≡_}
-use lib.IntN.{ℤ, pos, negℤ, natAbs}
+use lib.IntN.{ℤ, pos, natAbs}
 use lib.Dec.{ltb, leb}
 use Rattle.numbers.specs.Signal.{pick, spliced}
 use Rattle.numbers.specs.Word.{wrap32}

@@ -5,8 +5,8 @@ ghost use mathlib.Core.Path.{_≡_};
 ghost use Prim.Native.Nat.{_+_, _-_, _*_, _<_, _≤_};
 ghost use lib.IntN.{pos};
 ghost use lib.ListN.{length};
-ghost use Rattle.numbers.specs.Signal.{at};
-ghost use Rattle.lifting.specs.Line.{parted, joined};
+ghost use Rattle.numbers.specs.Signal.{at, spliced};
+ghost use Rattle.lifting.specs.Line.{lo, hi, count, parted, joined};
 ghost use Rattle.lifting.specs.Halves.{halvesOf, inHalves, fronted};
 ghost use Rattle.wavelet.specs.Plane.{cells, flat};
 ghost use Rattle.whole_map.specs.Rowwise.{heightsAt};
@@ -15,14 +15,31 @@ ghost use Rattle.whole_map.specs.LevelPasses.{Finished};
 ghost use mathlib.Core.Bool.{true};
 ghost use Rattle.wavelet.specs.Maps.{every, valueFits};
 
-// Every second height of a row, from place `first` on, to a row of numbers.
-fn load_second(heights: &[u16], first: usize, row: &mut [i32])
-    requires { ⌜ (first ≤ 1) × (2 * length (now row) + first ≤ length (now heights) + 1) ⌝ }
-    ensures { λ _. ⌜ at (now (row .exit)) ≡ fronted (length (now (row .entry))) (λ j. heightsAt (now (heights .entry)) (2 * j + first)) (at (now (row .entry))) ⌝ }
+// The even places of a row of heights to the front of a row as long.
+fn load_evens(heights: &[u16], row: &mut [i32])
+    requires { ⌜ length (now heights) ≡ length (now row) ⌝ }
+    ensures { λ _. ⌜ at (now (row .exit)) ≡ fronted (count lo (length (now (heights .entry)))) (parted (heightsAt (now (heights .entry))) lo) (at (now (row .entry))) ⌝ }
 {
+    let n = heights.len();
+    let low = n - n / 2;
     let mut j = 0;
-    while j < row.len() {
-        row[j] = heights[2 * j + first] as i32;
+    while j < low {
+        row[j] = heights[2 * j] as i32;
+        j += 1;
+    }
+}
+
+// The odd places after them.
+fn load_odds(heights: &[u16], row: &mut [i32])
+    requires { ⌜ length (now heights) ≡ length (now row) ⌝ }
+    ensures { λ _. ⌜ at (now (row .exit)) ≡ spliced (count lo (length (now (heights .entry)))) (count hi (length (now (heights .entry)))) (parted (heightsAt (now (heights .entry))) hi) (at (now (row .entry))) ⌝ }
+{
+    let n = heights.len();
+    let high = n / 2;
+    let low = n - high;
+    let mut j = 0;
+    while j < high {
+        row[low + j] = heights[2 * j + 1] as i32;
         j += 1;
     }
 }
@@ -32,10 +49,8 @@ fn load_row(heights: &[u16], row: &mut [i32])
     requires { ⌜ length (now heights) ≡ length (now row) ⌝ }
     ensures { λ _. ⌜ at (now (row .exit)) ≡ inHalves (length (now (heights .entry))) (parted (heightsAt (now (heights .entry)))) (at (now (row .entry))) ⌝ }
 {
-    let n = heights.len();
-    let low = n - n / 2;
-    load_second(heights, 0, &mut row[0..low]);
-    load_second(heights, 1, &mut row[low..n]);
+    load_evens(heights, row);
+    load_odds(heights, row);
 }
 
 // The heights of a map to the plane as a level takes them: the even rows first, each row in halves.

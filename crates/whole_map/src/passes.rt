@@ -5,7 +5,7 @@ use lifting::rows;
 ghost use mathlib.Core.Path.{_≡_};
 ghost use Prim.Native.Nat.{_+_, _-_, _*_, _<_, _≤_, min};
 ghost use lib.ListN.{length};
-ghost use Rattle.numbers.specs.Signal.{at};
+ghost use Rattle.numbers.specs.Signal.{at, windowed, spliced};
 ghost use Rattle.numbers.specs.Word.{wrap32};
 ghost use Rattle.lifting.specs.Line.{predicted, updated, unupdated, unpredicted};
 ghost use Rattle.lifting.specs.Halves.{liftedInPlace};
@@ -84,18 +84,27 @@ pub fn lift_columns(area: &mut [i32], stride: usize, width: usize, height: usize
     lift_pairs(area, stride, width, height);
 }
 
+// Row r, in halves, lifted in place. It is called twice for the same reason as `lift_pair`.
+fn lift_row(area: &mut [i32], stride: usize, width: usize, r: usize)
+    requires { ⌜ (width ≤ stride) × (r * stride + width ≤ length (now area)) ⌝ }
+    ensures { λ _. ⌜ at (now (area .exit)) ≡ spliced (r * stride) width (liftedInPlace width (windowed (r * stride) width (at (now (area .entry))))) (at (now (area .entry))) ⌝ }
+{
+    let a = r * stride;
+    let e = a + width;
+    line::lift(&mut area[a..e]);
+}
+
 // Rows forward: each row, in halves, lifted in place.
 pub fn lift_rows(area: &mut [i32], stride: usize, width: usize, height: usize)
     requires { ⌜ Rows (length (now area)) stride width height ⌝ }
     ensures { λ _. ⌜ at (now (area .exit)) ≡ flat stride (rowsMapped (liftedInPlace width) width height (cells stride (at (now (area .entry))))) ⌝ }
 {
     let mut r = 0;
-    while r < height {
-        let a = r * stride;
-        let e = a + width;
-        line::lift(&mut area[a..e]);
+    while r + 1 < height {
+        lift_row(area, stride, width, r);
         r += 1;
     }
+    lift_row(area, stride, width, r);
 }
 
 // The row after row r lifted back by the update, where there is one.

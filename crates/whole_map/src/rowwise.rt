@@ -1,10 +1,10 @@
 // What is done to one row of numbers. The module is private: only this crate, which meets what is required, can call it.
 ghost use mathlib.Core.Path.{_≡_};
-ghost use Prim.Native.Nat.{_+_, _*_, _≤_};
+ghost use Prim.Native.Nat.{_≤_};
 ghost use lib.IntN.{pos};
 ghost use lib.ListN.{length};
-ghost use Rattle.numbers.specs.Signal.{at};
-ghost use Rattle.lifting.specs.Line.{parted, joined};
+ghost use Rattle.numbers.specs.Signal.{at, spliced};
+ghost use Rattle.lifting.specs.Line.{lo, hi, count, parted, joined};
 ghost use Rattle.lifting.specs.Halves.{halvesOf, inHalves, fronted};
 ghost use Rattle.wavelet.specs.Maps.{every};
 ghost use Rattle.whole_map.specs.Rowwise.{wovenInPlace, between};
@@ -50,14 +50,31 @@ pub fn all_between(row: &[i32], low: i32, high: i32) -> bool
     ok
 }
 
-// Every second number of a line, from place `first` on, to a row.
-fn take_second(line: &[i32], first: usize, row: &mut [i32])
-    requires { ⌜ (first ≤ 1) × (2 * length (now row) + first ≤ length (now line) + 1) ⌝ }
-    ensures { λ _. ⌜ at (now (row .exit)) ≡ fronted (length (now (row .entry))) (λ j. at (now (line .entry)) (2 * j + first)) (at (now (row .entry))) ⌝ }
+// The even places of a line to the front of a row as long.
+fn part_evens(line: &[i32], row: &mut [i32])
+    requires { ⌜ length (now line) ≡ length (now row) ⌝ }
+    ensures { λ _. ⌜ at (now (row .exit)) ≡ fronted (count lo (length (now (line .entry)))) (parted (at (now (line .entry))) lo) (at (now (row .entry))) ⌝ }
 {
+    let n = line.len();
+    let low = n - n / 2;
     let mut j = 0;
-    while j < row.len() {
-        row[j] = line[2 * j + first];
+    while j < low {
+        row[j] = line[2 * j];
+        j += 1;
+    }
+}
+
+// The odd places after them.
+fn part_odds(line: &[i32], row: &mut [i32])
+    requires { ⌜ length (now line) ≡ length (now row) ⌝ }
+    ensures { λ _. ⌜ at (now (row .exit)) ≡ spliced (count lo (length (now (line .entry)))) (count hi (length (now (line .entry)))) (parted (at (now (line .entry))) hi) (at (now (row .entry))) ⌝ }
+{
+    let n = line.len();
+    let high = n / 2;
+    let low = n - high;
+    let mut j = 0;
+    while j < high {
+        row[low + j] = line[2 * j + 1];
         j += 1;
     }
 }
@@ -67,10 +84,8 @@ pub fn part_line(line: &[i32], row: &mut [i32])
     requires { ⌜ length (now line) ≡ length (now row) ⌝ }
     ensures { λ _. ⌜ at (now (row .exit)) ≡ inHalves (length (now (line .entry))) (parted (at (now (line .entry)))) (at (now (row .entry))) ⌝ }
 {
-    let n = line.len();
-    let low = n - n / 2;
-    take_second(line, 0, &mut row[0..low]);
-    take_second(line, 1, &mut row[low..n]);
+    part_evens(line, row);
+    part_odds(line, row);
 }
 
 // A row in halves to the line itself, as long. One loop stores both of a pair: the compiler then makes whole vectors of it.

@@ -1,18 +1,18 @@
 -- `whole_map::heights::store_row` meets its contract: a sweep over the heights, two places a turn, the last of an odd row after the loop. Assumes nothing.
-use mathlib.Core.Path.{_≡_, refl, sym, ap, _∙_}
+use mathlib.Core.Path.{_≡_, sym, _∙_}
 use Prim.Native.Nat.{_+_, _-_, _*_, _/_, _≤_}
 use native.Mathlib.Omega.{arith}
 use lib.ListN.{length, set, length-set}
 use Rattle.numbers.specs.Signal.{at}
 use Rattle.numbers.proofs.Words.{read-back}
-use lib.IntN.{pos, natAbs}
+use lib.IntN.{natAbs}
 use Rattle.numbers.proofs.Sweep.{Swept}
 use Rattle.lifting.specs.Line.{joined}
 use Rattle.lifting.specs.Halves.{halvesOf, fronted}
 use Rattle.wavelet.proofs.MapTheorems.{every-each}
 use Rattle.whole_map.specs.Rowwise.{heightsAt}
 use Rattle.whole_map.proofs.RowwiseLaws.{weave-turn, weave-last, weave-end, weave-done}
-use Rattle.whole_map.proofs.HeightLaws.{wholes, wholes-set, start-heights, size-heights, finish-heights, IsHeight, is-height}
+use Rattle.whole_map.proofs.HeightLaws.{wholes, wholes-set, start-heights, size-heights, finish-heights, is-height}
 use Rattle.whole_map.proofs.heights.store_row.Statement.{statement}
 use Rattle.whole_map.proofs.heights.store_row.Tie as tie
 

@@ -1,5 +1,4 @@
 -- `passes::lift_pair` meets its contract: one row, then the other. Assumes nothing.
-use mathlib.Core.Path.{_∙_}
 use native.Mathlib.Omega.{arith}
 use borrow.Author.Needs.{needs}
 use Rattle.whole_map.proofs.passes.lift_pair.Statement.{statement}
