@@ -19,7 +19,7 @@ use Rattle.wavelet.specs.Plane.{cells, flat}
 use Rattle.wavelet.proofs.GridLaws.{flat-cells}
 use Rattle.whole_map.specs.Passes.{Rows, within}
 use Rattle.whole_map.specs.LevelPasses.{columnsLiftedInPlace}
-use Rattle.whole_map.proofs.GridSweep.{row-room, finish, within-in, within-past, within-wide}
+use Rattle.whole_map.proofs.GridSweep.{Fronts, fronts-start, fronts-end, row-room, within-in, within-past, within-wide}
 use Rattle.whole_map.proofs.CellLaws.{flat-same, by-within}
 
 -- ---- what a row call leaves, rows t, a and b being among the rows
@@ -84,21 +84,11 @@ module _ (w h : ℕ) (X : Grid) where
       ∙ rw (joined-even p i, ← high-of (i - 1) c (omega arith) cw, ← high-of (min i (count hi h - 1)) c (omega arith) cw))
 
 -- ---- before turn k
-pub record Lifted (s w h : ℕ) (X : Grid) (k : ℕ) (x : ℕ → ℤ) : Type 0 where
-  pub lows : (r c : ℕ) → c < s → r < k → x (r * s + c) ≡ columnsLiftedInPlace w h X r c
-  pub highs : (r c : ℕ) → c < s → r < k → x ((count lo h + r) * s + c) ≡ columnsLiftedInPlace w h X (count lo h + r) c
-  pub restLows : (r c : ℕ) → c < s → k ≤ r → r < count lo h → x (r * s + c) ≡ X r c
-  pub restHighs : (r c : ℕ) → c < s → k ≤ r → x ((count lo h + r) * s + c) ≡ X (count lo h + r) c
+abbrev pub Lifted : ℕ → ℕ → ℕ → Grid → ℕ → (ℕ → ℤ) → Type 0
+Lifted s w h X k x = Fronts s (count lo h) (columnsLiftedInPlace w h X) X k x
 
 pub lift-start : (s w h : ℕ) (x : ℕ → ℤ) → Lifted s w h (cells s x) 0 x
-unfolding cells
-lift-start s w h x =
-    record {
-      lows = λ r c cs b. absurd (omega arith);
-      highs = λ r c cs b. absurd (omega arith);
-      restLows = λ r c cs b l. refl;
-      restHighs = λ r c cs b. refl;
-    }
+lift-start s w h x = fronts-start s (count lo h) (columnsLiftedInPlace w h (cells s x)) x
 
 module _ (n s w h : ℕ) (X : Grid) (R : Rows n s w h) (more : 1 < h) where
   -- high row k predicted, low row k updated
@@ -162,22 +152,7 @@ module _ (n s w h : ℕ) (X : Grid) (R : Rows n s w h) (more : 1 < h) where
   unfolding count
   lift-even k x a b sw =
       let both = counts h in
-      let low = count lo h in
-      finish (R .apart)
-      (record {
-        done = λ r c cs (rh : r < h).
-            elim (decLt r low) [
-              | yes l ↦ sw .lows r c cs (omega arith)
-              | no l ↦ let e : low + (r - low) ≡ r = omega arith in rw e at (sw .highs (r - low) c cs (omega arith))
-            ];
-        rest = λ r c cs (hr : h ≤ r).
-            let e : low + (r - low) ≡ r = omega arith in
-            elim (decLt (r - low) k) [
-              | yes l ↦ (rw e at (sw .highs (r - low) c cs l)) ∙ column-out w h X r c (within-past w h r c hr)
-              | no l ↦ rw e at (sw .restHighs (r - low) c cs (omega arith))
-            ];
-      })
-      (λ r c hr. column-out w h X r c (within-past w h r c hr))
+      fronts-end s (count lo h) (columnsLiftedInPlace w h X) X h k x (R .apart) b (omega arith) (λ r c hr. column-out w h X r c (within-past w h r c hr)) sw (omega arith)
 
   -- the last low row, where there is one more
   lift-odd : (k : ℕ) (x x′ : ℕ → ℤ) → k ≡ count hi h → count hi h < count lo h → x′ ≡ rowsChanged (updated wrap32) n s w (count lo h - 1) (h - 1) (h - 1) x → Lifted s w h X k x → x′ ≡ flat s (columnsLiftedInPlace w h X)

@@ -16,15 +16,15 @@ use Rattle.lifting.proofs.LineLaws.{halves-low, halves-high}
 use Rattle.wavelet.specs.Bands.{Grid}
 use Rattle.wavelet.specs.Plane.{cells, flat}
 use Rattle.wavelet.specs.Maps.{every, everyCell, valueFits}
-use Rattle.whole_map.specs.Rowwise.{heightsAt, cut, partedInPlace, between}
-use Rattle.whole_map.specs.Passes.{Rows, KeptFrom, rowsMapped, levelRow, gridHalved, rowsReturned}
+use Rattle.whole_map.specs.Rowwise.{heightsAt, cut, between}
+use Rattle.whole_map.specs.Passes.{Rows, KeptFrom, rowsMapped, rowsReturned}
 use Rattle.whole_map.specs.LevelPasses.{Finished}
 use Rattle.whole_map.proofs.RowwiseLaws.{front-at, window-cut, cut-in, cut-parted, cut-woven}
 use Rattle.wavelet.proofs.MapTheorems.{every-each, each-every, every-same}
 use Rattle.whole_map.proofs.HeightLaws.{wholes, wholes-at, wholes-mid, wholes-put}
 use Rattle.whole_map.proofs.GridSweep.{Passed, row-room, within-in, within-past, within-wide, pass-start, pass-room, pass-end, pass-kept, row-length, lent-row, part-turn, map-turn, mapped-past}
 use Rattle.whole_map.proofs.TestLaws.{false-true, not-every, height-fits}
-use Rattle.whole_map.proofs.CellLaws.{halved-in, halved-out, mapped-out, returned-out}
+use Rattle.whole_map.proofs.CellLaws.{mapped-out, returned-out}
 
 -- ---- a row lent as `&`: its length, and its numbers
 module _ (s w h i k : ℕ) (e : k ≡ w) (lt : i < h) where
@@ -52,22 +52,6 @@ halves-inside w p y z c h =
       | yes a ↦ halves-low w p y c a ∙ sym (halves-low w p z c a)
       | no d ↦ halves-high w p y c (omega arith) h ∙ sym (halves-high w p z c (omega arith) h)
     ]
-
--- row i of the plane from row m of the heights g
-pub load-turn : (w h : ℕ) (g : List ℕ) (l₀ : List ℤ) (i m k k′ : ℕ) (l z : List ℤ) → k ≡ w → k′ ≡ w → i < h → m ≡ levelRow h i → m < h → Rows (length g) w w h → length z ≡ length (midOf (i * w) k l) → at z ≡ inHalves (length (midOf (m * w) k′ g)) (parted (heightsAt (midOf (m * w) k′ g))) (at (midOf (i * w) k l)) → Passed w w h (gridHalved w h (cells w (heightsAt g)) (cells w (at l₀))) l₀ i l → Passed w w h (gridHalved w h (cells w (heightsAt g)) (cells w (at l₀))) l₀ (i + 1) (putMid (i * w) k l z)
-unfolding partedInPlace
-load-turn w h g l₀ i m k k′ l z e e′ lt em mh r ez is p =
-    let G = cells w (heightsAt g) in
-    let is′ : at z ≡ inHalves w (parted (G m)) (at (midOf (i * w) k l)) =
-    cc (is, heights-length w w h m k′ e′ mh g r, heights-row w w h m k′ e′ mh g, cut-parted w (G m) (at (midOf (i * w) k l))) in
-    part-turn w w h _ l₀ i k l z e lt ez
-    (λ c q.
-    ap (λ (f : ℕ → ℤ). f c) is′
-    ∙ halves-inside w (parted (G m)) _ (G m) c q
-    ∙ ap (λ (n : ℕ). inHalves w (parted (G n)) (G n) c) em
-    ∙ sym (halved-in w h G (cells w (at l₀)) i c lt q))
-    (λ c q. halved-out w h G (cells w (at l₀)) i c (within-wide w h i c q))
-    p
 
 -- ---- stored
 -- heights swept as whole numbers: their room, a row's length, and their length

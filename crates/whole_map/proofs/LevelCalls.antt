@@ -13,21 +13,22 @@ use borrow.Author.Tests.{lt-ltb, le-ltb, eq-eqb, ne-eqb, le-leb}
 use Rattle.numbers.specs.Signal.{at, pick, windowed, spliced}
 use Rattle.numbers.specs.Word.{wrap32}
 use Rattle.numbers.proofs.Parts.{window-in, splice-below, splice-in, splice-past, length-mid, at-mid, at-put}
-use Rattle.lifting.specs.Line.{unupdated, unpredicted, parted}
+use Rattle.lifting.specs.Line.{lo, hi, count, unupdated, unpredicted, parted}
 use Rattle.lifting.specs.Halves.{fronted, inHalves, liftedInPlace, unliftedInPlace, highsLaid}
+use Rattle.lifting.proofs.LineLaws.{counts, count-lo, count-hi}
 use Rattle.lifting.proofs.RowLaws.{row-order}
 use Rattle.wavelet.specs.Bands.{Grid}
 use Rattle.wavelet.specs.Plane.{cells, flat}
 use Rattle.wavelet.specs.Maps.{every, everyCell}
 use Rattle.wavelet.proofs.GridLaws.{cells-flat}
 use Rattle.wavelet.proofs.MapTheorems.{every-each, each-every, every-same}
-use Rattle.whole_map.specs.Rowwise.{cut, partedInPlace, between}
-use Rattle.whole_map.specs.Passes.{even, before, after, oddRowsChanged, evenRowsChanged, rowsMapped, levelRow, gridHalved, gridCopied}
+use Rattle.whole_map.specs.Rowwise.{heightsAt, cut, partedInPlace, between}
+use Rattle.whole_map.specs.Passes.{Rows, even, before, after, oddRowsChanged, evenRowsChanged, rowsMapped, levelRow, gridHalved, gridCopied}
 use Rattle.whole_map.specs.LevelPasses.{columnsLiftedInPlace, levelLifted, columnsUnliftedInPlace, rowsBetween}
-use Rattle.whole_map.proofs.GridSweep.{RowSwept, store-row, mapped-in, mapped-wide}
+use Rattle.whole_map.proofs.GridSweep.{RowSwept, store-row, Fronts, fronts-turn, fronts-end, fronts-last, mapped-in, mapped-wide}
 use Rattle.whole_map.proofs.RowwiseLaws.{front-at, cut-in, window-cut, cut-parted}
-use Rattle.whole_map.proofs.HeightRows.{halves-inside}
-use Rattle.whole_map.proofs.CellLaws.{flat-same, halved-in, halved-out, copied-in, copied-out, outside-columns}
+use Rattle.whole_map.proofs.HeightRows.{halves-inside, heights-length, heights-row}
+use Rattle.whole_map.proofs.CellLaws.{flat-same, level-low, level-high, outside-rows, halved-in, halved-out, copied-in, copied-out, outside-columns}
 use Rattle.whole_map.proofs.TestLaws.{not-every}
 
 -- ---- a pass reads the cells that stand in the area alone
@@ -178,6 +179,60 @@ lifted-part a n k l z e room size is =
     let mid : length (midOf a k l) ≡ n = length-mid a k l (omega arith) ∙ e in
     let is′ : at z ≡ liftedInPlace n (windowed a n (at l)) = cc (is, mid, lent-part a n k l e) in
     moved-part a n k l z _ e room size (λ i h. ap (λ (y : ℕ → ℤ). y i) is′)
+
+-- ---- heights g, row m of them laid in halves in row i of the plane
+pub height-part : (w m i k k′ : ℕ) (g : List ℕ) (l z : List ℤ) → 0 < w → k ≡ w → k′ ≡ w → m * w + w ≤ length g → i * w + w ≤ length l → length z ≡ length (midOf (i * w) k l) → at z ≡ inHalves (length (midOf (m * w) k′ g)) (parted (heightsAt (midOf (m * w) k′ g))) (at (midOf (i * w) k l)) → at (putMid (i * w) k l z) ≡ spliced (i * w) w (partedInPlace w (cells w (heightsAt g) m)) (at l)
+unfolding partedInPlace
+height-part w m i k k′ g l z some e e′ fg fl size is =
+    let G = cells w (heightsAt g) m in
+    let t : m + 1 - 1 ≡ m = omega arith in
+    let R : Rows (length g) w w (m + 1) = record { apart = some; wide = omega arith; some = omega arith; room = rw t fg } in
+    let is′ : at z ≡ inHalves w (parted G) (at (midOf (i * w) k l)) =
+    cc (is, heights-length w w (m + 1) m k′ e′ (omega arith) g R, heights-row w w (m + 1) m k′ e′ (omega arith) g, cut-parted w G (at (midOf (i * w) k l))) in
+    moved-part (i * w) w k l z _ e fl size (λ c h. ap (λ (x : ℕ → ℤ). x c) is′ ∙ halves-inside w (parted G) _ G c h)
+
+-- the grid of them, two rows a turn
+module _ (w h : ℕ) (G : Grid) (x₀ : ℕ → ℤ) where
+  abbrev pub Laid : ℕ → (ℕ → ℤ) → Type 0
+  Laid k x = Fronts w (count lo h) (gridHalved w h G (cells w x₀)) (cells w x₀) k x
+
+  laid-past : (r c : ℕ) → h ≤ r → gridHalved w h G (cells w x₀) r c ≡ cells w x₀ r c
+  laid-past r c b = halved-out w h G (cells w x₀) r c (outside-rows w h r c b)
+
+  laid-wide : (r c : ℕ) → w ≤ c → gridHalved w h G (cells w x₀) r c ≡ cells w x₀ r c
+  laid-wide r c b = halved-out w h G (cells w x₀) r c (outside-columns w h r c b)
+
+  low-laid : (k : ℕ) → k < count lo h → (c : ℕ) → c < w → partedInPlace w (G (2 * k)) c ≡ gridHalved w h G (cells w x₀) k c
+  low-laid k kl c cw =
+      let l = count-lo h in
+      sym (halved-in w h G (cells w x₀) k c (omega arith) cw ∙ ap (λ (r : ℕ). partedInPlace w (G r) c) (level-low h k kl))
+
+  high-laid : (k : ℕ) → k < count hi h → (c : ℕ) → c < w → partedInPlace w (G (2 * k + 1)) c ≡ gridHalved w h G (cells w x₀) (count lo h + k) c
+  high-laid k kh c cw =
+      let both = counts h in
+      let t : count lo h + k - count lo h ≡ k = omega arith in
+      sym (halved-in w h G (cells w x₀) (count lo h + k) c (omega arith) cw ∙ ap (λ (r : ℕ). partedInPlace w (G r) c) (level-high h (count lo h + k) (omega arith) ∙ ap (λ (i : ℕ). 2 * i + 1) t))
+
+  pub laid-turn : (low k : ℕ) (x x₁ x₂ : ℕ → ℤ) → low ≡ count lo h → k < count hi h → x₁ ≡ spliced (k * w) w (partedInPlace w (G (2 * k))) x → x₂ ≡ spliced ((low + k) * w) w (partedInPlace w (G (2 * k + 1))) x₁ → Laid k x → Laid (k + 1) x₂
+  laid-turn low k x x₁ x₂ e kh e₁ e₂ sw =
+      let both = counts h in
+      let half = count-lo h in
+      let half′ = count-hi h in
+      fronts-turn w (count lo h) _ _ w k (omega arith) (omega arith) _ x x₁ e₁ (low-laid k (omega arith)) (laid-wide k) sw _ x₂ (rw e at e₂) (high-laid k kh) (laid-wide (count lo h + k))
+
+  pub laid-even : (k : ℕ) (x : ℕ → ℤ) → 0 < w → count lo h ≤ k → Laid k x → x ≡ flat w (gridHalved w h G (cells w x₀))
+  laid-even k x some b sw =
+      let both = counts h in
+      let half = count-lo h in
+      let half′ = count-hi h in
+      fronts-end w (count lo h) _ _ h k x some b (omega arith) laid-past sw (omega arith)
+
+  pub laid-odd : (k : ℕ) (x x₁ : ℕ → ℤ) → 0 < w → k ≡ count hi h → k < count lo h → x₁ ≡ spliced (k * w) w (partedInPlace w (G (2 * k))) x → Laid k x → x₁ ≡ flat w (gridHalved w h G (cells w x₀))
+  laid-odd k x x₁ some ek b e₁ sw =
+      let both = counts h in
+      let half = count-lo h in
+      let half′ = count-hi h in
+      fronts-last w (count lo h) _ _ w k (omega arith) b _ x x₁ e₁ (low-laid k b) (laid-wide k) sw h some (omega arith) (omega arith) laid-past
 
 -- a grid copied, and laid in halves
 pub copied-turn : (A s w h i : ℕ) (z x₀ x x′ : ℕ → ℤ) → w ≤ s → i < h → x′ ≡ spliced (i * s) w (windowed (i * A) w z) x → RowSwept s (gridCopied w h (cells A z) (cells s x₀)) (cells s x₀) i x → RowSwept s (gridCopied w h (cells A z) (cells s x₀)) (cells s x₀) (i + 1) x′

@@ -1,5 +1,4 @@
 // Rows of heights loaded into the plane, each in halves, and stored from the work area. The module is private, as `rowwise` is.
-use crate::levels;
 use crate::rowwise;
 ghost use mathlib.Core.Path.{_≡_};
 ghost use Prim.Native.Nat.{_+_, _-_, _*_, _<_, _≤_};
@@ -9,7 +8,7 @@ ghost use Rattle.numbers.specs.Signal.{at, spliced};
 ghost use Rattle.lifting.specs.Line.{lo, hi, count, parted, joined};
 ghost use Rattle.lifting.specs.Halves.{halvesOf, inHalves, fronted};
 ghost use Rattle.wavelet.specs.Plane.{cells, flat};
-ghost use Rattle.whole_map.specs.Rowwise.{heightsAt};
+ghost use Rattle.whole_map.specs.Rowwise.{heightsAt, partedInPlace};
 ghost use Rattle.whole_map.specs.Passes.{gridHalved, Rows};
 ghost use Rattle.whole_map.specs.LevelPasses.{Finished};
 ghost use mathlib.Core.Bool.{true};
@@ -53,19 +52,33 @@ fn load_row(heights: &[u16], row: &mut [i32])
     load_odds(heights, row);
 }
 
-// The heights of a map to the plane as a level takes them: the even rows first, each row in halves.
+// Row m of the heights to row r of the plane, in halves.
+fn load_to(heights: &[u16], m: usize, plane: &mut [i32], r: usize, width: usize)
+    requires { ⌜ (0 < width) × (m * width + width ≤ length (now heights)) × (r * width + width ≤ length (now plane)) ⌝ }
+    ensures { λ _. ⌜ at (now (plane .exit)) ≡ spliced (r * width) width (partedInPlace width (cells width (heightsAt (now (heights .entry))) m)) (at (now (plane .entry))) ⌝ }
+{
+    let a = m * width;
+    let e = a + width;
+    let b = r * width;
+    let f = b + width;
+    load_row(&heights[a..e], &mut plane[b..f]);
+}
+
+// The heights of a map to the plane as a level takes them: the even rows first, each row in halves. They are read one after the other.
 pub fn load_rows(heights: &[u16], plane: &mut [i32], width: usize, height: usize)
     requires { ⌜ Rows (length (now heights)) width width height × Rows (length (now plane)) width width height ⌝ }
     ensures { λ _. ⌜ at (now (plane .exit)) ≡ flat width (gridHalved width height (cells width (heightsAt (now (heights .entry)))) (cells width (at (now (plane .entry))))) ⌝ }
 {
-    let mut r = 0;
-    while r < height {
-        let a = levels::level_row(height, r) * width;
-        let e = a + width;
-        let b = r * width;
-        let f = b + width;
-        load_row(&heights[a..e], &mut plane[b..f]);
-        r += 1;
+    let high = height / 2;
+    let low = height - high;
+    let mut n = 0;
+    while n < high {
+        load_to(heights, 2 * n, plane, n, width);
+        load_to(heights, 2 * n + 1, plane, low + n, width);
+        n += 1;
+    }
+    if n < low {
+        load_to(heights, 2 * n, plane, n, width);
     }
 }
 

@@ -33,7 +33,7 @@ fn plane_row(height: usize, r: usize) -> usize
 }
 
 // The level's row for row r of the plane.
-pub fn level_row(height: usize, r: usize) -> usize
+fn level_row(height: usize, r: usize) -> usize
     requires { ⌜ r < height ⌝ }
     ensures { λ l. ⌜ (l ≡ levelRow height r) × (l < height) ⌝ }
 {
