@@ -24,8 +24,8 @@ use Rattle.wavelet.proofs.GridLaws.{cells-flat}
 use Rattle.wavelet.proofs.MapTheorems.{every-each, each-every, every-same}
 use Rattle.whole_map.specs.Rowwise.{heightsAt, cut, partedInPlace, between}
 use Rattle.whole_map.specs.Passes.{Rows, even, before, after, oddRowsChanged, evenRowsChanged, rowsMapped, levelRow, gridHalved, gridCopied}
-use Rattle.whole_map.specs.LevelPasses.{columnsLiftedInPlace, levelLifted, columnsUnliftedInPlace, rowsBetween}
-use Rattle.whole_map.proofs.GridSweep.{RowSwept, store-row, Fronts, fronts-turn, fronts-end, fronts-last, mapped-in, mapped-wide}
+use Rattle.whole_map.specs.LevelPasses.{columnsUnliftedInPlace, rowsBetween}
+use Rattle.whole_map.proofs.GridSweep.{RowSwept, store-row, Fronts, fronts-turn, fronts-end, fronts-last}
 use Rattle.whole_map.proofs.RowwiseLaws.{front-at, cut-in, window-cut, cut-parted}
 use Rattle.whole_map.proofs.HeightRows.{halves-inside, heights-length, heights-row}
 use Rattle.whole_map.proofs.CellLaws.{flat-same, level-low, level-high, outside-rows, halved-in, halved-out, copied-in, copied-out, outside-columns}
@@ -62,12 +62,6 @@ unlifted-same w h X Y r c e =
 module _ (s : ℕ) (F : Grid) (y : ℕ → ℤ) (e : y ≡ flat s F) where
   pub left-cells : (r c : ℕ) → c < s → cells s y r c ≡ F r c
   left-cells r c cs = ap (λ (z : ℕ → ℤ). cells s z r c) e ∙ cells-flat s F r c cs
-
--- all columns, then all rows
-pub level-both : (A w h : ℕ) (z z₁ z₂ : ℕ → ℤ) → w ≤ A → 0 < A → z₁ ≡ flat A (columnsLiftedInPlace w h (cells A z)) → z₂ ≡ flat A (rowsMapped (liftedInPlace w) w h (cells A z₁)) → z₂ ≡ flat A (levelLifted w h (cells A z))
-unfolding levelLifted
-level-both A w h z z₁ z₂ wa some e f =
-    f ∙ flat-same A _ _ some (λ r c ca. mapped-same (liftedInPlace w) w h (cells A z₁) _ r c (left-cells A _ z₁ e r c ca) (λ j jw. left-cells A _ z₁ e r j (omega arith)))
 
 -- ---- a part copied
 pub splice-same : (b n : ℕ) (u v x : ℕ → ℤ) → ((i : ℕ) → i < n → u i ≡ v i) → spliced b n u x ≡ spliced b n v x
@@ -163,15 +157,6 @@ pub fill-turn : (A w h i : ℕ) (Y Z : Grid) (y z z′ : ℕ → ℤ) → w ≤ 
 fill-turn A w h i Y Z y z z′ wa is new past sw =
     copy-turn A w 0 w i (i * A) Y Z y z z′ wa (omega arith) (omega arith) is
     (λ c cw. let k : 0 + c ≡ c = omega arith in rw k (new c cw)) (λ c b. absurd (omega arith)) past sw
-
--- a row lifted in place
-pub lifted-turn : (s w h i : ℕ) (x₀ x x′ : ℕ → ℤ) → w ≤ s → i < h → x′ ≡ spliced (i * s) w (liftedInPlace w (windowed (i * s) w x)) x → RowSwept s (rowsMapped (liftedInPlace w) w h (cells s x₀)) (cells s x₀) i x → RowSwept s (rowsMapped (liftedInPlace w) w h (cells s x₀)) (cells s x₀) (i + 1) x′
-lifted-turn s w h i x₀ x x′ ws ih is sw =
-    let same : (c : ℕ) → c < w → x (i * s + c) ≡ cells s x₀ i c = λ c cw. sw .rest i c (omega arith) (omega arith) in
-    fill-turn s w h i _ _ (liftedInPlace w (windowed (i * s) w x)) x x′ ws is
-    (λ c cw. ap (λ (y : ℕ → ℤ). liftedInPlace w y c) (window-cut (i * s) w x (cells s x₀ i) same) ∙ sym (mapped-in (liftedInPlace w) w h (cells s x₀) i c ih cw))
-    (λ c b. mapped-wide (liftedInPlace w) w h (cells s x₀) i c b)
-    sw
 
 -- a part lifted in place
 pub lifted-part : (a n k : ℕ) (l z : List ℤ) → k ≡ n → a + n ≤ length l → length z ≡ length (midOf a k l) → at z ≡ liftedInPlace (length (midOf a k l)) (at (midOf a k l)) → at (putMid a k l z) ≡ spliced a n (liftedInPlace n (windowed a n (at l))) (at l)

@@ -19,7 +19,7 @@ ghost use Rattle.wavelet.specs.Limits.{range};
 ghost use Rattle.wavelet.specs.Plane.{cells, flat};
 ghost use Rattle.whole_map.specs.Rowwise.{partedInPlace, wovenInPlace};
 ghost use Rattle.whole_map.specs.Passes.{Rows, KeptFrom, even, planeRow, levelRow, rowsMapped, rowsFetched, gridHalved, gridCopied};
-ghost use Rattle.whole_map.specs.LevelPasses.{cornerGrid, levelLifted, levelUnlifted, rowBack, planeWritten, rowsBetween, regionInRange, Doubling, LevelsBack};
+ghost use Rattle.whole_map.specs.LevelPasses.{cornerGrid, levelUnlifted, rowBack, planeWritten, rowsBetween, regionInRange, Doubling, LevelsBack};
 
 // The plane's row for row r of a level: the low rows come first.
 fn plane_row(height: usize, r: usize) -> usize
@@ -87,15 +87,6 @@ fn spread(work: &[i32], plane: &mut [i32], across: usize, width: usize, height: 
         halve_part(work, a, plane, r * across, width);
         r += 1;
     }
-}
-
-// One level forward in the plane's corner: all columns, then all rows.
-fn lift_level(plane: &mut [i32], across: usize, width: usize, height: usize)
-    requires { ⌜ Rows (length (now plane)) across width height ⌝ }
-    ensures { λ _. ⌜ at (now (plane .exit)) ≡ flat across (levelLifted width height (cells across (at (now (plane .entry))))) ⌝ }
-{
-    passes::lift_columns(plane, across, width, height);
-    passes::lift_rows(plane, across, width, height);
 }
 
 // How many numbers of row r are made already: of an even one, whose low half is the low-low part, `from`.
@@ -180,7 +171,7 @@ pub fn forward_levels(
     ensures { λ _. ⌜ at (now (plane .exit)) ≡ flat across (planeWritten levels width height (cornerGrid width height (cells across (at (now (plane .entry))))) (cells across (at (now (plane .entry))))) ⌝ }
     ensures { λ _. ⌜ KeptFrom ((height - 1) * width + width) (at (now (work .entry))) (at (now (work .exit))) ⌝ }
 {
-    lift_level(plane, across, width, height);
+    passes::lift_level(plane, across, width, height);
     if levels < 2 {
         return;
     }

@@ -4,16 +4,16 @@ use lifting::line;
 use lifting::rows;
 ghost use mathlib.Core.Path.{_≡_};
 ghost use Prim.Native.Nat.{_+_, _-_, _*_, _<_, _≤_, min};
+ghost use lib.Dec.{ltb};
 ghost use lib.ListN.{length};
-ghost use Rattle.numbers.specs.Signal.{at, windowed, spliced};
+ghost use Rattle.numbers.specs.Signal.{at, pick};
 ghost use Rattle.numbers.specs.Word.{wrap32};
 ghost use Rattle.lifting.specs.Line.{predicted, updated, unupdated, unpredicted};
-ghost use Rattle.lifting.specs.Halves.{liftedInPlace};
 ghost use Rattle.lifting.specs.Rows.{rowsChanged};
 ghost use Rattle.wavelet.specs.Plane.{cells, flat};
 ghost use Rattle.whole_map.specs.Rowwise.{wovenInPlace};
 ghost use Rattle.whole_map.specs.Passes.{after, before, nextChanged, pairChanged, rowsMapped, Rows};
-ghost use Rattle.whole_map.specs.LevelPasses.{columnsLiftedInPlace};
+ghost use Rattle.whole_map.specs.LevelPasses.{rowLifted, pairLifted, levelLifted};
 
 // The row after row r of `height` rows, and the row before: mirrored at the ends.
 fn row_after(height: usize, r: usize) -> usize
@@ -43,68 +43,85 @@ fn high_before(n: usize) -> usize
     if 0 < n { n - 1 } else { 0 }
 }
 
-// One turn of the columns forward: high row n predicted, and low row n updated. That it is called twice, in the loop and once after it,
+// One turn of the columns forward: high row n predicted, and low row n updated. That it is called twice, in the loop and once before it,
 // keeps it from being inlined: in one loop over rows of one area the compiler asks once for all rows whether they overlap, and then leaves
 // vector code (docs/PROVING.md).
 fn lift_pair(area: &mut [i32], stride: usize, width: usize, low: usize, n: usize)
     requires { ⌜ (n < low) × (low + n ≤ length (now area)) ⌝ }
-    ensures { λ _. ⌜ at (now (area .exit)) ≡ rowsChanged (updated wrap32) (length (now (area .entry))) stride width n (low + (n - 1)) (low + n) (rowsChanged (predicted wrap32) (length (now (area .entry))) stride width (low + n) n (min (n + 1) (low - 1)) (at (now (area .entry)))) ⌝ }
+    ensures { λ _. ⌜ at (now (area .exit)) ≡ pairLifted (length (now (area .entry))) stride width low n (at (now (area .entry))) ⌝ }
 {
     rows::predict_row(area, stride, width, low + n, n, next_low(low, n));
     rows::update_row(area, stride, width, n, low + high_before(n), low + n);
 }
 
-// Columns forward, in place. The rows stand as the numbers of a column do, in halves: the low rows first. Row by row, so that a row is
-// still near when it is used again: a low row changes once the high row beside it is predicted and it is read no more.
-fn lift_pairs(area: &mut [i32], stride: usize, width: usize, height: usize)
-    requires { ⌜ Rows (length (now area)) stride width height × (1 < height) ⌝ }
-    ensures { λ _. ⌜ at (now (area .exit)) ≡ flat stride (columnsLiftedInPlace width height (cells stride (at (now (area .entry))))) ⌝ }
-{
-    let high = height / 2;
-    let low = height - high;
-    let mut n = 0;
-    while n + 1 < high {
-        lift_pair(area, stride, width, low, n);
-        n += 1;
-    }
-    lift_pair(area, stride, width, low, n);
-    if high < low {
-        rows::update_row(area, stride, width, low - 1, height - 1, height - 1);
-    }
-}
-
-// The same, where a level of one row stays.
-pub fn lift_columns(area: &mut [i32], stride: usize, width: usize, height: usize)
-    requires { ⌜ Rows (length (now area)) stride width height ⌝ }
-    ensures { λ _. ⌜ at (now (area .exit)) ≡ flat stride (columnsLiftedInPlace width height (cells stride (at (now (area .entry))))) ⌝ }
-{
-    if height < 2 {
-        return;
-    }
-    lift_pairs(area, stride, width, height);
-}
-
-// Row r, in halves, lifted in place. It is called twice for the same reason as `lift_pair`.
+// Row r, in halves, lifted in place. It is called more than once for the same reason.
 fn lift_row(area: &mut [i32], stride: usize, width: usize, r: usize)
     requires { ⌜ (width ≤ stride) × (r * stride + width ≤ length (now area)) ⌝ }
-    ensures { λ _. ⌜ at (now (area .exit)) ≡ spliced (r * stride) width (liftedInPlace width (windowed (r * stride) width (at (now (area .entry))))) (at (now (area .entry))) ⌝ }
+    ensures { λ _. ⌜ at (now (area .exit)) ≡ rowLifted stride width r (at (now (area .entry))) ⌝ }
 {
     let a = r * stride;
     let e = a + width;
     line::lift(&mut area[a..e]);
 }
 
-// Rows forward: each row, in halves, lifted in place.
-pub fn lift_rows(area: &mut [i32], stride: usize, width: usize, height: usize)
-    requires { ⌜ Rows (length (now area)) stride width height ⌝ }
-    ensures { λ _. ⌜ at (now (area .exit)) ≡ flat stride (rowsMapped (liftedInPlace width) width height (cells stride (at (now (area .entry))))) ⌝ }
+// A pair of rows, and then the low one, which is read no more, lifted itself.
+fn lift_both(area: &mut [i32], stride: usize, width: usize, low: usize, n: usize)
+    requires { ⌜ (n < low) × (low + n ≤ length (now area)) × (width ≤ stride) × (n * stride + width ≤ length (now area)) ⌝ }
+    ensures { λ _. ⌜ at (now (area .exit)) ≡ rowLifted stride width n (pairLifted (length (now (area .entry))) stride width low n (at (now (area .entry)))) ⌝ }
 {
-    let mut r = 0;
-    while r + 1 < height {
-        lift_row(area, stride, width, r);
-        r += 1;
+    lift_pair(area, stride, width, low, n);
+    lift_row(area, stride, width, n);
+}
+
+// One turn: a pair, the low row and the high row before it, which is read no more either.
+fn lift_turn(area: &mut [i32], stride: usize, width: usize, low: usize, n: usize)
+    requires { ⌜ (0 < n) × (n < low) × (low + n ≤ length (now area)) × (width ≤ stride) × (n * stride + width ≤ length (now area)) × ((low + (n - 1)) * stride + width ≤ length (now area)) ⌝ }
+    ensures { λ _. ⌜ at (now (area .exit)) ≡ rowLifted stride width (low + (n - 1)) (rowLifted stride width n (pairLifted (length (now (area .entry))) stride width low n (at (now (area .entry))))) ⌝ }
+{
+    lift_both(area, stride, width, low, n);
+    lift_row(area, stride, width, low + (n - 1));
+}
+
+// The last low row, n, where there is one more than high ones.
+fn lift_odd(area: &mut [i32], stride: usize, width: usize, height: usize, low: usize, n: usize)
+    requires { ⌜ (0 < height) × (width ≤ stride) × (n * stride + width ≤ length (now area)) ⌝ }
+    ensures { λ _. ⌜ at (now (area .exit)) ≡ pick (ltb n low) (rowLifted stride width n (rowsChanged (updated wrap32) (length (now (area .entry))) stride width n (height - 1) (height - 1) (at (now (area .entry))))) (at (now (area .entry))) ⌝ }
+{
+    if low <= n {
+        return;
     }
-    lift_row(area, stride, width, r);
+    rows::update_row(area, stride, width, n, height - 1, height - 1);
+    lift_row(area, stride, width, n);
+}
+
+// A level of more than one row forward, in place. The rows stand as the numbers of a column do, in halves: the low rows first; and each row
+// is in halves. Row by row, so that a row is still near when it is used again.
+fn lift_sweep(area: &mut [i32], stride: usize, width: usize, height: usize)
+    requires { ⌜ Rows (length (now area)) stride width height × (1 < height) ⌝ }
+    ensures { λ _. ⌜ at (now (area .exit)) ≡ flat stride (levelLifted width height (cells stride (at (now (area .entry))))) ⌝ }
+{
+    let high = height / 2;
+    let low = height - high;
+    lift_both(area, stride, width, low, 0);
+    let mut n = 1;
+    while n < high {
+        lift_turn(area, stride, width, low, n);
+        n += 1;
+    }
+    lift_odd(area, stride, width, height, low, n);
+    lift_row(area, stride, width, height - 1);
+}
+
+// The same, where the one row of a level has only itself.
+pub fn lift_level(area: &mut [i32], stride: usize, width: usize, height: usize)
+    requires { ⌜ Rows (length (now area)) stride width height ⌝ }
+    ensures { λ _. ⌜ at (now (area .exit)) ≡ flat stride (levelLifted width height (cells stride (at (now (area .entry))))) ⌝ }
+{
+    if height < 2 {
+        lift_row(area, stride, width, 0);
+        return;
+    }
+    lift_sweep(area, stride, width, height);
 }
 
 // The row after row r lifted back by the update, where there is one.

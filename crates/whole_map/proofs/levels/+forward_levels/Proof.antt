@@ -10,7 +10,7 @@ use Rattle.whole_map.proofs.levels.forward_levels.Reads as forward-leve
 use Rattle.whole_map.proofs.levels.forward_levels.Kinds as forward-levels-kinds
 use Rattle.whole_map.proofs.levels.+forward_levels.Lts-forward_levels as forward-levels-lts
 use Rattle.wavelet.proofs.sizes.half.Reads as half-reads
-use Rattle.whole_map.proofs.levels.lift_level.Reads as lift-level-reads
+use Rattle.whole_map.proofs.passes.lift_level.Reads as lift-level-reads
 use Rattle.whole_map.proofs.levels.save.Reads as save-reads
 use Rattle.whole_map.proofs.levels.spread.Reads as spread-reads
 use Rattle.whole_map.proofs.levels.+forward_levels.{statement}
