@@ -17,7 +17,7 @@ forward-levels-requires c κs =
     let load = c .before .before .before in
     let start = load .before .before .before in
     let s = start .pre .0 in
-    (rw (load .load-rows .kept .1 .0) (map-rows _ _ _ _ s (start .pre .2)), map-rows _ _ _ _ s (start .pre .3), s .levels .0)
+    (rw (load .load-rows .kept .1 .0) (map-rows _ _ _ _ s (start .pre .2)), map-rows _ _ _ _ s (start .pre .3), omega (arith, s .levels .0))
 
 mul-clear : tie.Need-mul-clear
 mul-clear c = search needs
