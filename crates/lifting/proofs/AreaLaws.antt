@@ -1,20 +1,20 @@
 -- The laws of the passes from one area to another: what each leaves at a place, a turn of its loop, and what the passes come to together. Assumes nothing.
-use mathlib.Core.Path.{_≡_, sym, ap, _∙_, subst}
+use mathlib.Core.Path.{_≡_, sym, ap, _∙_, subst, fun-ext}
 use mathlib.Core.List.{List}
 use Prim.Native.Nat.{ℕ, _+_, _-_, _*_, _/_, _%_, _≤_, _<_, min}
 use native.Mathlib.Decide.{decLt, ℕ-discrete}
 use native.Mathlib.Omega.{arith}
 use lib.IntN.{ℤ}
-use lib.ListN.{set}
-use borrow.Author.Tests.{lt-ltb, le-ltb, eq-eqb, ne-eqb}
+use lib.ListN.{length, set}
+use borrow.Author.Tests.{lt-ltb, le-ltb}
 use Rattle.numbers.specs.Signal.{at, windowed, spliced}
 use Rattle.numbers.specs.Word.{wrap32}
-use Rattle.numbers.proofs.Sweep.{Swept, store, store2, left}
+use Rattle.numbers.proofs.Sweep.{Swept, start, store, finish}
 use Rattle.numbers.proofs.Parts.{window-in, splice-in, splice-past}
-use Rattle.lifting.specs.Line.{lo, hi, count, unupdated, joined, backEven, lineForward, lineHalvesBack, lineBack}
+use Rattle.lifting.specs.Line.{lo, hi, count, unupdated, unpredicted, joined, backEven, lineForward, lineHalvesBack, lineBack}
 use Rattle.lifting.specs.Halves.{halvesOf, liftedInPlace, forwardInto, backwardInto}
-use Rattle.lifting.specs.Passes.{evensCopied, oddsCopied, evenBack, evensBack, oddBack, oddsBack}
-use Rattle.lifting.proofs.LineLaws.{counts, count-lo, count-hi, joined-even, joined-odd, even-is, even-one, odd-is, high-same, low-same, halves-low, halves-high, halves-are, front-are}
+use Rattle.lifting.specs.Passes.{evensCopied, oddsCopied}
+use Rattle.lifting.proofs.LineLaws.{counts, count-lo, count-hi, joined-even, joined-odd, even-is, even-one, odd-is, high-same, low-same, halves-low, halves-high, halves-are, front-in, front-past}
 
 -- ---- a line copied into its halves
 module _ (N : ℕ) (x z : ℕ → ℤ) where
@@ -91,85 +91,108 @@ module _ (N : ℕ) (x z : ℕ → ℤ) where
       ∙ sym (back-in (count lo N + n) (omega arith) ∙ halves-high N p lent (count lo N + n) (omega arith) (omega arith) ∙ ap (p hi) k))
       (λ j h. sym (splice-past 0 N (liftedInPlace N lent) copied j (omega arith) ∙ odds-past N x (evensCopied N x z) j h ∙ evens-past N x z j (omega arith)))
 
--- ---- a line made of its coefficients
-module _ (N : ℕ) (y : ℕ → ℤ) (n : ℕ) where
-  pub evenBack-is : (a b : ℕ) → 1 < N → n < count lo N → a ≡ count lo N + (n - 1) → b ≡ count lo N + min n (count hi N - 1) → evenBack N y n ≡ unupdated wrap32 (y n) (y a) (y b)
-  unfolding evenBack lineHalvesBack halvesOf
-  evenBack-is a b g h ea eb = rw (ea, eb) (even-is wrap32 N g (halvesOf N y lo) (halvesOf N y hi) n h)
+-- ---- a line made of its coefficients y, in memory z
+abbrev pub evenBack : ℕ → (ℕ → ℤ) → ℕ → ℤ
+evenBack N y n = backEven wrap32 N (halvesOf N y lo) (halvesOf N y hi) n
 
-  pub evenBack-one : N ≤ 1 → evenBack N y n ≡ y n
-  unfolding evenBack lineHalvesBack halvesOf
-  evenBack-one g = even-one wrap32 N g (halvesOf N y lo) (halvesOf N y hi) n
+-- its even place n goes by the high values at places a and b
+pub evenBack-is : (N : ℕ) (y : ℕ → ℤ) (n a b : ℕ) → 1 < N → n < count lo N → a ≡ count lo N + (n - 1) → b ≡ count lo N + min n (count hi N - 1) → unupdated wrap32 (y n) (y a) (y b) ≡ evenBack N y n
+unfolding halvesOf
+evenBack-is N y n a b g h ea eb = sym (rw (ea, eb) (even-is wrap32 N g (halvesOf N y lo) (halvesOf N y hi) n h))
 
 module _ (N : ℕ) (y z : ℕ → ℤ) where
-  pub evensBack-even : (n : ℕ) → n < count lo N → evensBack N y z (2 * n) ≡ evenBack N y n
-  unfolding evensBack
-  evensBack-even n h =
+  back-even : (n : ℕ) → n < count lo N → backwardInto N y z (2 * n) ≡ evenBack N y n
+  unfolding backwardInto lineBack lineHalvesBack
+  back-even n h =
       let c = count-lo N in
-      let k : 2 * n / 2 ≡ n = omega arith in
-      simp (lt-ltb (2 * n) N (omega arith), eq-eqb (2 * n % 2) 0 (omega arith), k)
+      let p = lineHalvesBack wrap32 N (halvesOf N y) in
+      front-in N p z (joined p) (2 * n) (omega arith) ∙ joined-even p n
 
-  pub evensBack-odd : (n : ℕ) → evensBack N y z (2 * n + 1) ≡ z (2 * n + 1)
-  unfolding evensBack
-  evensBack-odd n =
-      elim (decLt (2 * n + 1) N) [
-        | yes p ↦ simp (lt-ltb (2 * n + 1) N p, ne-eqb ((2 * n + 1) % 2) 0 (omega arith))
-        | no d ↦ simp (le-ltb (2 * n + 1) N (omega arith))
+  back-odd : (n : ℕ) → n < count hi N → backwardInto N y z (2 * n + 1) ≡ unpredicted wrap32 (y (count lo N + n)) (evenBack N y n) (evenBack N y (min (n + 1) (count lo N - 1)))
+  unfolding backwardInto lineBack lineHalvesBack halvesOf
+  back-odd n h =
+      let c = count-hi N in
+      let p = lineHalvesBack wrap32 N (halvesOf N y) in
+      front-in N p z (joined p) (2 * n + 1) (omega arith) ∙ joined-odd p n ∙ odd-is wrap32 N (omega arith) (halvesOf N y lo) (halvesOf N y hi) n h
+
+  back-past : (j : ℕ) → N ≤ j → backwardInto N y z j ≡ z j
+  unfolding backwardInto
+  back-past j h = front-past N (halvesOf N y) z (lineBack wrap32 N (halvesOf N y)) j h
+
+  -- a line of one number or none is copied
+  pub back-one : N ≤ 1 → backwardInto N y z ≡ evensCopied N y z
+  unfolding halvesOf
+  back-one g =
+      let c = count-lo N in
+      fun-ext λ j.
+      elim (decLt j N) [
+        | yes b ↦
+            let k : j ≡ 2 * 0 = omega arith in
+            rw k (back-even 0 (omega arith) ∙ even-one wrap32 N g (halvesOf N y lo) (halvesOf N y hi) 0 ∙ sym (evens-in N y z 0 (omega arith)))
+        | no b ↦ back-past j (omega arith) ∙ sym (evens-past N y z j (omega arith))
       ]
 
-  pub evensBack-past : (i : ℕ) → N ≤ i → evensBack N y z i ≡ z i
-  unfolding evensBack
-  evensBack-past i h = simp (le-ltb i N h)
+  -- before turn n: two places are stored a turn, and the next even place, which is not the last, is worked out
+  pub record Carried (L low high n : ℕ) (even : ℤ) (l : List ℤ) : Type 0 where
+    pub lows : low ≡ count lo N
+    pub highs : high ≡ count hi N
+    pub halves : low ≡ N - N / 2
+    pub all : low + high ≡ N
+    pub room : N ≤ L
+    pub more : n < high
+    pub carried : even ≡ evenBack N y n
+    pub swept : Swept L (backwardInto N y z) z (2 * n) l
 
-  pub oddsBack-odd : (n : ℕ) → n < count hi N → oddsBack N y z (2 * n + 1) ≡ oddBack N y z n
-  unfolding oddsBack
-  oddsBack-odd n h =
-      let c = count-hi N in
-      let k : (2 * n + 1) / 2 ≡ n = omega arith in
-      simp (lt-ltb (2 * n + 1) N (omega arith), ne-eqb ((2 * n + 1) % 2) 0 (omega arith), k)
-
-  pub oddsBack-even : (n : ℕ) → oddsBack N y z (2 * n) ≡ z (2 * n)
-  unfolding oddsBack
-  oddsBack-even n =
-      elim (decLt (2 * n) N) [
-        | yes p ↦ simp (lt-ltb (2 * n) N p, eq-eqb (2 * n % 2) 0 (omega arith))
-        | no d ↦ simp (le-ltb (2 * n) N (omega arith))
-      ]
-
-  pub oddsBack-first : (i : ℕ) → i < 1 → oddsBack N y z i ≡ z i
-  oddsBack-first i h = let k : i ≡ 2 * 0 = omega arith in rw k (oddsBack-even 0)
-
-  pub oddsBack-past : (i : ℕ) → N ≤ i → oddsBack N y z i ≡ z i
-  unfolding oddsBack
-  oddsBack-past i h = simp (le-ltb i N h)
-
-  -- a turn of each loop: the place stored, and the next left
-  pub evensBack-turn : (L n : ℕ) (v : ℤ) (l : List ℤ) → n < count lo N → N ≤ L → v ≡ evenBack N y n → Swept L (evensBack N y z) z (2 * n) l → Swept L (evensBack N y z) z (2 * (n + 1)) (set l (2 * n) v)
-  evensBack-turn L n v l h fit e sw =
+  pub line-start : (low high : ℕ) (even : ℤ) (l : List ℤ) → low ≡ count lo N → high ≡ N - low → 1 < N → N ≤ length l → z ≡ at l → even ≡ unupdated wrap32 (y 0) (y low) (y low) → Carried (length l) low high 0 even l
+  line-start low high even l el eh g room ez e =
       let c = count-lo N in
-      subst (λ (m : ℕ). Swept L (evensBack N y z) z m (set l (2 * n) v)) (omega arith)
-      (store2 _ sw (omega arith) (e ∙ sym (evensBack-even n h)) (evensBack-odd n))
+      let d = counts N in
+      record {
+        lows = el;
+        highs = omega arith;
+        halves = omega arith;
+        all = omega arith;
+        room = room;
+        more = omega arith;
+        carried = e ∙ evenBack-is N y 0 low low g (omega arith) (omega arith) (omega arith);
+        swept = rw ez (start l _ 0 (λ j lt. absurd (omega arith)));
+      }
 
-  pub oddsBack-turn : (L n : ℕ) (l : List ℤ) → n < count hi N → N ≤ L → Swept L (oddsBack N y z) z (2 * n + 1) l → Swept L (oddsBack N y z) z (2 * (n + 1) + 1) (set l (2 * n + 1) (oddBack N y (at l) n))
-  unfolding oddBack
-  oddsBack-turn L n l h fit sw =
-      let c = count-hi N in
-      let m = min (n + 1) (count lo N - 1) in
+  pair-stored : (L low high n : ℕ) (even next : ℤ) (l : List ℤ) → Carried L low high n even l → next ≡ evenBack N y (min (n + 1) (count lo N - 1)) → Swept L (backwardInto N y z) z (2 * n + 1 + 1) (set (set l (2 * n) even) (2 * n + 1) (unpredicted wrap32 (y (low + n)) even next))
+  pair-stored L low high n even next l c e =
+      let lows = c .lows in
+      let here = c .carried in
+      store _ (store even (c .swept) (omega arith) (here ∙ sym (back-even n (omega arith)))) (omega arith)
+      (cc (lows, here, e, back-odd n (omega arith)))
+
+  pub line-turn : (L low high n : ℕ) (even next : ℤ) (l : List ℤ) → Carried L low high n even l → n + 1 < high → next ≡ unupdated wrap32 (y (n + 1)) (y (low + n)) (y (low + n + 1)) → Carried L low high (n + 1) next (set (set l (2 * n) even) (2 * n + 1) (unpredicted wrap32 (y (low + n)) even next))
+  line-turn L low high n even next l c b e =
+      let i : n + 1 ≡ min (n + 1) (count lo N - 1) = omega (arith, c .lows) in
       let k : 2 * n + 1 + 1 ≡ 2 * (n + 1) = omega arith in
-      subst (λ (m : ℕ). Swept L (oddsBack N y z) z m (set l (2 * n + 1) (oddBack N y (at l) n))) (omega arith)
-      (store2 _ sw (omega arith)
-      (cc (left (2 * n) sw (oddsBack-even n), left (2 * m) sw (oddsBack-even m), oddsBack-odd n h))
-      (rw k (oddsBack-even (n + 1))))
+      let new : next ≡ evenBack N y (n + 1) = e ∙ evenBack-is N y (n + 1) (low + n) (low + n + 1) (omega arith) (omega arith) (omega arith) (omega arith) in
+      record {
+        lows = c .lows;
+        highs = c .highs;
+        halves = c .halves;
+        all = c .all;
+        room = c .room;
+        more = b;
+        carried = new;
+        swept = rw k at (pair-stored L low high n even next l c (new ∙ ap (evenBack N y) i));
+      }
 
-pub backward-is : (N : ℕ) (y z : ℕ → ℤ) → backwardInto N y z ≡ oddsBack N y (evensBack N y z)
-unfolding backwardInto lineBack lineHalvesBack evenBack oddBack halvesOf
-backward-is N y z =
-    let both = counts N in
-    let c = count-lo N in
-    let p = halvesOf N y in
-    let w = evensBack N y z in
-    let even : (n : ℕ) → n < count lo N → backEven wrap32 N (p lo) (p hi) n ≡ w (2 * n) = λ n h. sym (evensBack-even N y z n h) in
-    front-are N (lineHalvesBack wrap32 N p) z _
-    (λ n h. even n h ∙ sym (oddsBack-even N y w n))
-    (λ n h. cc (odd-is wrap32 N (omega arith) (p lo) (p hi) n h, oddsBack-odd N y w n h, even n (omega arith), even (min (n + 1) (count lo N - 1)) (omega arith)))
-    (λ j h. sym (oddsBack-past N y w j h ∙ evensBack-past N y z j h))
+  -- the last pair of an even line
+  pub even-end : (L low high n : ℕ) (even : ℤ) (l l′ : List ℤ) → Carried L low high n even l → high ≤ n + 1 → low ≤ high → l′ ≡ set (set l (2 * n) even) (2 * n + 1) (unpredicted wrap32 (y (low + n)) even even) → at l′ ≡ backwardInto N y z
+  even-end L low high n even l l′ c b d is =
+      let i : n ≡ min (n + 1) (count lo N - 1) = omega (arith, c .lows) in
+      rw is (finish (pair-stored L low high n even even l c (c .carried ∙ ap (evenBack N y) i)) (λ j le. back-past j (omega arith)))
+
+  -- the last pair of an odd line, and the even place after it
+  pub odd-end : (L low high n : ℕ) (even last : ℤ) (l l′ : List ℤ) → Carried L low high n even l → high ≤ n + 1 → high < low → last ≡ unupdated wrap32 (y (n + 1)) (y (low + n)) (y (low + n)) → l′ ≡ set (set l (2 * n) even) (2 * n + 1) (unpredicted wrap32 (y (low + n)) even last) → at (set l′ (2 * n + 2) last) ≡ backwardInto N y z
+  odd-end L low high n even last l l′ c b d e is =
+      let i : n + 1 ≡ min (n + 1) (count lo N - 1) = omega (arith, c .lows) in
+      let k : 2 * n + 1 + 1 ≡ 2 * n + 2 = omega arith in
+      let m : 2 * n + 2 ≡ 2 * (n + 1) = omega arith in
+      let new : last ≡ evenBack N y (n + 1) = e ∙ evenBack-is N y (n + 1) (low + n) (low + n) (omega arith) (omega arith) (omega arith) (omega arith) in
+      let pair : Swept L (backwardInto N y z) z (2 * n + 2) l′ = rw is (rw k at (pair-stored L low high n even last l c (new ∙ ap (evenBack N y) i))) in
+      finish (store last pair (omega arith) (new ∙ sym (ap (backwardInto N y z) m ∙ back-even (n + 1) (omega arith)))) (λ j le. back-past j (omega arith))

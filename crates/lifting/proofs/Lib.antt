@@ -7,4 +7,5 @@ pub mod RowSweep
 pub mod LineLaws
 pub mod PassLaws
 pub mod AreaLaws
+pub mod LiftLaws
 pub mod ThereAndBack

@@ -38,3 +38,7 @@ backwardInto N y z = fronted N (lineBack wrap32 N (halvesOf N y)) z
 -- A line x parted into its halves at the front of memory z:
 unfoldable pub partedInto : ℕ → (ℕ → ℤ) → (ℕ → ℤ) → ℕ → ℤ
 partedInto N x z = inHalves N (parted x) z
+
+-- the low half of N numbers z, and what y has past it
+unfoldable pub highsLaid : ℕ → (ℕ → ℤ) → (ℕ → ℤ) → ℕ → ℤ
+highsLaid N y z j = pick (ltb j (count lo N)) (z j) (y j)

@@ -2,14 +2,14 @@
 use crate::place;
 use crate::sample;
 ghost use mathlib.Core.Path.{_≡_};
-ghost use Prim.Native.Nat.{ℕ, _+_, _-_, _*_, _<_, _≤_, min};
+ghost use Prim.Native.Nat.{ℕ, _+_, _-_, _*_, _<_, _≤_};
 ghost use lib.ListN.{length, set};
 ghost use lib.Dec.{leb};
 ghost use Rattle.numbers.specs.Signal.{at, pick};
 ghost use Rattle.numbers.specs.Word.{wrap32};
 ghost use Rattle.lifting.specs.Line.{lo, hi, count, predicted, unpredicted, updated, unupdated};
 ghost use Rattle.lifting.specs.Halves.{liftedInPlace, unliftedInPlace, forwardInto, backwardInto};
-ghost use Rattle.lifting.specs.Passes.{highsChanged, lowsChanged, evensCopied, oddsCopied, evenBack, evensBack, oddBack, oddsBack};
+ghost use Rattle.lifting.specs.Passes.{highsChanged, lowsChanged, evensCopied, oddsCopied};
 
 // ---- a line in halves, in place
 
@@ -147,70 +147,44 @@ pub fn forward(line: &[i32], out: &mut [i32]) -> u8
     5
 }
 
-// n − 1, and 0 where n is 0.
-fn before(n: usize) -> usize
-    ensures { λ r. ⌜ r ≡ n - 1 ⌝ }
+// The even place of a line that has the low value n, its high neighbours at places a and b.
+fn even_of(coefficients: &[i32], n: usize, a: usize, b: usize) -> i32
+    requires { ⌜ (n < length (now coefficients)) × (a < length (now coefficients)) × (b < length (now coefficients)) ⌝ }
+    ensures { λ r. ⌜ r ≡ unupdated wrap32 (at (now (coefficients .entry)) n) (at (now (coefficients .entry)) a) (at (now (coefficients .entry)) b) ⌝ }
 {
-    if 0 < n { n - 1 } else { 0 }
+    sample::unupdate(coefficients[n], coefficients[a], coefficients[b])
 }
 
-// The lesser of two numbers.
-fn least(a: usize, b: usize) -> usize
-    ensures { λ r. ⌜ r ≡ min a b ⌝ }
+// Places 2n and 2n + 1 of a line: an even place, and the high value at place p with that and the next even place.
+fn put_pair(coefficients: &[i32], out: &mut [i32], p: usize, n: usize, even: i32, next: i32)
+    requires { ⌜ (p < length (now coefficients)) × (2 * n + 1 < length (now out)) ⌝ }
+    ensures { λ _. ⌜ now (out .exit) ≡ set (set (now (out .entry)) (2 * n) even) (2 * n + 1) (unpredicted wrap32 (at (now (coefficients .entry)) p) even next) ⌝ }
 {
-    if a < b { a } else { b }
+    out[2 * n] = even;
+    out[2 * n + 1] = sample::unpredict(coefficients[p], even, next);
 }
 
-// Place 2n of the line that has these coefficients: a low value with the high values before and after it, the nearest one twice at an end.
-fn back_even(coefficients: &[i32], n: usize) -> i32
-    requires { ⌜ n < count lo (length (now coefficients)) ⌝ }
-    ensures { λ r. ⌜ r ≡ evenBack (length (now (coefficients .entry))) (at (now (coefficients .entry))) n ⌝ }
+// A line of more than one number, two places a turn: an even place is worked out once and carried to the next turn. The ends stand outside the loop.
+fn put_line(coefficients: &[i32], out: &mut [i32], low: usize)
+    requires { ⌜ (low ≡ count lo (length (now coefficients))) × (1 < length (now coefficients)) × (length (now coefficients) ≤ length (now out)) ⌝ }
+    ensures { λ _. ⌜ at (now (out .exit)) ≡ backwardInto (length (now (coefficients .entry))) (at (now (coefficients .entry))) (at (now (out .entry))) ⌝ }
 {
-    let high = coefficients.len() / 2;
-    if 0 < high {
-        let low = coefficients.len() - high;
-        let a = low + before(n);
-        let b = low + least(n, high - 1);
-        return sample::unupdate(coefficients[n], coefficients[a], coefficients[b]);
+    let high = coefficients.len() - low;
+    let mut even = even_of(coefficients, 0, low, low);
+    let mut n = 0;
+    while n + 1 < high {
+        let next = even_of(coefficients, n + 1, low + n, low + n + 1);
+        put_pair(coefficients, out, low + n, n, even, next);
+        even = next;
+        n += 1;
     }
-    coefficients[n]
-}
-
-// Its even places, put into `out`.
-fn back_evens(coefficients: &[i32], out: &mut [i32])
-    requires { ⌜ length (now coefficients) ≤ length (now out) ⌝ }
-    ensures { λ _. ⌜ at (now (out .exit)) ≡ evensBack (length (now (coefficients .entry))) (at (now (coefficients .entry))) (at (now (out .entry))) ⌝ }
-{
-    let n = coefficients.len();
-    let low = n - n / 2;
-    let mut j = 0;
-    while j < low {
-        out[2 * j] = back_even(coefficients, j);
-        j += 1;
+    if low <= high {
+        put_pair(coefficients, out, low + n, n, even, even);
+        return;
     }
-}
-
-// Its place 2n + 1: a high value with the even places before and after it, which stand in `out` already.
-fn back_odd(coefficients: &[i32], out: &mut [i32], n: usize)
-    requires { ⌜ (length (now coefficients) ≤ length (now out)) × (n < count hi (length (now coefficients))) ⌝ }
-    ensures { λ _. ⌜ now (out .exit) ≡ set (now (out .entry)) (2 * n + 1) (oddBack (length (now (coefficients .entry))) (at (now (coefficients .entry))) (at (now (out .entry))) n) ⌝ }
-{
-    let low = coefficients.len() - coefficients.len() / 2;
-    let next = 2 * least(n + 1, low - 1);
-    out[2 * n + 1] = sample::unpredict(coefficients[low + n], out[2 * n], out[next]);
-}
-
-// Its odd places, from the even ones.
-fn back_odds(coefficients: &[i32], out: &mut [i32])
-    requires { ⌜ length (now coefficients) ≤ length (now out) ⌝ }
-    ensures { λ _. ⌜ at (now (out .exit)) ≡ oddsBack (length (now (coefficients .entry))) (at (now (coefficients .entry))) (at (now (out .entry))) ⌝ }
-{
-    let high = coefficients.len() / 2;
-    let mut j = 0;
-    while j < high {
-        back_odd(coefficients, out, j);
-        j += 1;
-    }
+    let last = even_of(coefficients, n + 1, low + n, low + n);
+    put_pair(coefficients, out, low + n, n, even, last);
+    out[2 * n + 2] = last;
 }
 
 // Low values, then high values, to the line that has them, at the front of `out`. 5, and nothing changed, where `out` is shorter.
@@ -218,10 +192,14 @@ pub fn backward(coefficients: &[i32], out: &mut [i32]) -> u8
     ensures { λ r. ⌜ r ≡ pick (leb (length (now (coefficients .entry))) (length (now (out .entry)))) 0 5 ⌝ }
     ensures { λ r. ⌜ at (now (out .exit)) ≡ pick (leb (length (now (coefficients .entry))) (length (now (out .entry)))) (backwardInto (length (now (coefficients .entry))) (at (now (coefficients .entry))) (at (now (out .entry)))) (at (now (out .entry))) ⌝ }
 {
-    if coefficients.len() <= out.len() {
-        back_evens(coefficients, out);
-        back_odds(coefficients, out);
+    let n = coefficients.len();
+    if out.len() < n {
+        return 5;
+    }
+    if n < 2 {
+        copy_evens(coefficients, out);
         return 0;
     }
-    5
+    put_line(coefficients, out, n - n / 2);
+    0
 }

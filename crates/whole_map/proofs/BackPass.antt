@@ -2,32 +2,29 @@
 -- rows below k are fetched, and of them the rows below i are Y's: `zone`. Assumes nothing.
 use mathlib.Core.Path.{_≡_, refl, sym, ap, _∙_, fun-ext}
 use mathlib.Core.Bool.{true}
-use mathlib.Core.List.{List}
 use Prim.Native.Nat.{ℕ, _+_, _-_, _*_, _%_, _≤_, _<_}
 use native.Mathlib.Decide.{decLt, ℕ-discrete}
 use native.Mathlib.Omega.{arith}
 use lib.IntN.{ℤ}
 use lib.Dec.{ltb}
-use lib.ListN.{length}
-use borrow.Rule.Slice.PartMut.{midOf, putMid}
 use borrow.Author.Tests.{lt-ltb, le-ltb}
 use Rattle.numbers.specs.Signal.{at, pick, windowed, spliced}
 use Rattle.numbers.specs.Word.{wrap32}
 use Rattle.numbers.proofs.Parts.{window-in, window-past, splice-below, splice-in, splice-past}
 use Rattle.lifting.specs.Line.{lo, count, unupdated, unpredicted}
-use Rattle.lifting.specs.Halves.{unliftedInPlace}
+use Rattle.lifting.specs.Halves.{unliftedInPlace, highsLaid}
 use Rattle.lifting.specs.Rows.{rowChanged, rowsChanged, rowsFit}
 use Rattle.lifting.proofs.LineLaws.{count-lo}
+use Rattle.lifting.proofs.LiftLaws.{laid-low, laid-high}
 use Rattle.lifting.proofs.RowLaws.{rows-fit, changed, row-at, row-other, row-past}
 use Rattle.wavelet.specs.Bands.{Grid}
 use Rattle.wavelet.specs.Plane.{cells, flat}
 use Rattle.wavelet.proofs.GridLaws.{flat-at, cells-flat}
-use Rattle.whole_map.specs.Rowwise.{cut, highsLaid}
+use Rattle.whole_map.specs.Rowwise.{cut}
 use Rattle.whole_map.specs.Passes.{Rows, even, before, after, oddRowsChanged, evenRowsChanged, nextChanged, pairChanged, rowsMapped, planeRow, rowsFetched}
 use Rattle.whole_map.specs.LevelPasses.{columnsUnliftedInPlace, levelUnlifted, rowBack}
 use Rattle.whole_map.proofs.GridSweep.{RowSwept, row-room, start, finish, mapped-in, mapped-wide, mapped-past}
 use Rattle.whole_map.proofs.RowwiseLaws.{cut-in, cut-past}
-use Rattle.whole_map.proofs.LiftLaws.{laid-low, laid-high}
 use Rattle.whole_map.proofs.ColumnPass.{odd-column, even-column, after-is, before-is, after-near, before-near, first-turn, pair-turn}
 use Rattle.whole_map.proofs.CellLaws.{flat-same, fetched-new, fetched-made, fetched-out, outside-columns, outside-rows, unlifted-out}
 use Rattle.whole_map.proofs.LevelCalls.{cut-same, mapped-same, unlifted-same, fill-turn}

@@ -13,9 +13,7 @@ use lib.Dec.{leb, le→leb}
 use borrow.Author.Tests.{le-leb, lt-leb, eq-eqb, ne-eqb}
 use Rattle.numbers.specs.Signal.{both}
 use Rattle.numbers.specs.Word.{wrap32, whole}
-use Rattle.lifting.specs.Line.{parted}
 use Rattle.lifting.specs.Halves.{fronted}
-use Rattle.lifting.proofs.LineLaws.{joined-parted}
 use Rattle.wavelet.specs.Limits.{maxWidth, maxHeight, maxLevels, maxSample, range}
 use Rattle.wavelet.specs.Questions.{ask, within, sizeQuestion, Sized}
 use Rattle.wavelet.specs.Bands.{Grid}
@@ -29,11 +27,11 @@ use Rattle.wavelet.proofs.Bridge.{map-plane}
 use Rattle.wavelet.proofs.MapTheorems.{cells-same}
 use Rattle.whole_map.specs.Rowwise.{heightsAt}
 use Rattle.whole_map.specs.Passes.{within as inside}
-use Rattle.whole_map.specs.Passes.{Rows, KeptFrom, rowsMapped, rowsLoaded, rowsReturned}
-use Rattle.whole_map.specs.LevelPasses.{levelGrid, planeWritten, Rebuilt, regionInRange, Doubling, LevelsBack, Finished, MapRebuilt}
+use Rattle.whole_map.specs.Passes.{Rows, KeptFrom, rowsMapped, gridHalved, rowsReturned}
+use Rattle.whole_map.specs.LevelPasses.{cornerGrid, planeWritten, Rebuilt, regionInRange, Doubling, LevelsBack, Finished, MapRebuilt}
 use Rattle.whole_map.specs.Calls.{sizeQuestions, planeQuestions, zeros, passed, rebuilt}
 use Rattle.whole_map.proofs.RowwiseLaws.{front-at, front-rest}
-use Rattle.whole_map.proofs.CellLaws.{past-rows, kept-flat, kept-then, grid-at, placed, placed-in, halves-at, loaded-in, loaded-out, returned-in, returned-out, mapped-out}
+use Rattle.whole_map.proofs.CellLaws.{flat-same, by-within, past-rows, kept-then, halved-grid, halved-out, returned-in, returned-out, mapped-out}
 use Rattle.whole_map.proofs.GridSweep.{mapped-in}
 use Rattle.whole_map.proofs.LevelsMath.{written-in, written-out}
 use Rattle.whole_map.proofs.TestLaws.{false-true, rebuilt-cells, fits-more}
@@ -220,36 +218,35 @@ heights-map W H l f = record { heights = λ r c _ _. height (getD l (r * W + c) 
     height : (n : ℕ) → n < 65536 → (pos 0 ≤ℤ pos n) × (pos n ≤ℤ pos maxSample)
     height n b = (record { le = le→leb 0 n (omega arith) }, record { le = le→leb n maxSample (omega arith) })
 
--- x₁ is the work area loaded with the heights l, z₁ the plane after the levels
-module _ (W H L : ℕ) (l : List ℕ) (x₀ x₁ : ℕ → ℤ) (s : Sized W H L) (e : x₁ ≡ flat W (rowsLoaded W H (cells W (heightsAt l)) (cells W x₀))) where
+-- z₁ is the plane loaded with the heights l, z₂ the plane after the levels
+module _ (W H L : ℕ) (l : List ℕ) (z₀ z₁ : ℕ → ℤ) (s : Sized W H L) (e : z₁ ≡ flat W (gridHalved W H (cells W (heightsAt l)) (cells W z₀))) where
   abbrev heights : Grid
   heights = cells W (heightsAt l)
 
-  loaded-grid : (r c : ℕ) → r < H → c < W → levelGrid W (cells W x₁) r c ≡ heights r c
-  loaded-grid r c rh cw =
-      let m = placed-in W c cw in
-      grid-at W (cells W x₁) r c
-      ∙ ap (λ (x : ℕ → ℤ). cells W x r (placed W c)) e
-      ∙ cells-flat W (rowsLoaded W H heights (cells W x₀)) r (placed W c) m
-      ∙ loaded-in W H heights (cells W x₀) r (placed W c) rh m
-      ∙ halves-at W (parted (heights r)) (cells W x₀ r) c cw
-      ∙ joined-parted (heights r) c
+  -- what stood past the map still does
+  over : (g : Grid) → flat W (planeWritten L W H g (cells W z₁)) ≡ flat W (planeWritten L W H g (cells W z₀))
+  over g =
+      flat-same W _ _ (s .width .0)
+      (λ r c cw.
+      by-within W H r c
+      (λ rh cv. written-in L W H g (cells W z₁) r c rh cv ∙ sym (written-in L W H g (cells W z₀) r c rh cv))
+      (λ o.
+      written-out L W H g (cells W z₁) r c o
+      ∙ ap (λ (z : ℕ → ℤ). cells W z r c) e
+      ∙ cells-flat W _ r c cw
+      ∙ halved-out W H heights (cells W z₀) r c o
+      ∙ sym (written-out L W H g (cells W z₀) r c o)))
 
-  pub plane-made : (z₀ z₁ : ℕ → ℤ) → ((i : ℕ) → getD l i 0 < 65536) → z₁ ≡ flat W (planeWritten L W H (levelGrid W (cells W x₁)) (cells W z₀)) → z₁ ≡ fronted (W * H) (planeOf whole L W H heights) z₀
+  pub plane-made : (z₂ : ℕ → ℤ) → ((i : ℕ) → getD l i 0 < 65536) → z₂ ≡ flat W (planeWritten L W H (cornerGrid W H (cells W z₁)) (cells W z₁)) → z₂ ≡ fronted (W * H) (planeOf whole L W H heights) z₀
   unfolding planeOf maxLevels
-  plane-made z₀ z₁ fits f =
-      f ∙ map-places W H _ (planeCell whole L W H heights) z₀ (s .width .0) (s .height .0)
+  plane-made z₂ fits f =
+      let g = cornerGrid W H (cells W z₁) in
+      f ∙ over g ∙ map-places W H _ (planeCell whole L W H heights) z₀ (s .width .0) (s .height .0)
       (λ r c rh cw.
-      written-in L W H (levelGrid W (cells W x₁)) (cells W z₀) r c rh cw
-      ∙ plane-reads wrap32 L W H _ heights loaded-grid r c rh cw
+      written-in L W H g (cells W z₀) r c rh cw
+      ∙ plane-reads wrap32 L W H g heights (halved-grid W W H heights (cells W z₀) z₁ (omega arith) e) r c rh cw
       ∙ map-plane W H heights (heights-map W H l fits) L (s .levels .1) r c rh cw)
-      (λ r c o. written-out L W H (levelGrid W (cells W x₁)) (cells W z₀) r c o)
-
-  -- x₂ is the work area after the levels, x₃ cleared
-  pub work-cleared : (n : ℕ) (x₂ x₃ : ℕ → ℤ) → Rows n W W H → KeptFrom ((H - 1) * W + W) x₁ x₂ → x₃ ≡ fronted (W * H) zeros x₂ → x₃ ≡ fronted (W * H) zeros x₀
-  work-cleared n x₂ x₃ R k f =
-      cleared W H x₀ x₂ x₃ (s .height .0)
-      (kept-then (kept-flat n W W H x₀ x₁ _ R e (loaded-out W H heights (cells W x₀))) k (omega arith)) f
+      (λ r c o. written-out L W H g (cells W z₀) r c o)
 
 -- ---- backward
 pub region-one : (L W H : ℕ) (x : Grid) → regionInRange 1 L W H x ≡ inRange L W H x

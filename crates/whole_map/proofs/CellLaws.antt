@@ -1,5 +1,5 @@
 -- The laws of cells in an area, of rows in halves, and of the passes over rows at one cell. Assumes nothing.
-use mathlib.Core.Path.{_≡_, refl, ap, _∙_, fun-ext}
+use mathlib.Core.Path.{_≡_, refl, sym, ap, _∙_, fun-ext}
 use mathlib.Core.Bool.{Bool, true, false}
 use Prim.Native.Nat.{ℕ, _+_, _-_, _*_, _/_, _%_, _≤_, _<_, min}
 use native.Mathlib.Nat.{div-add-mod', mod-lt, mul-le-mul-right}
@@ -10,15 +10,16 @@ use lib.Dec.{eqb}
 use borrow.Author.Tests.{lt-ltb, le-ltb, eq-eqb, ne-eqb}
 use Rattle.numbers.specs.Signal.{pick}
 use Rattle.numbers.specs.Word.{wrap32}
-use Rattle.lifting.specs.Line.{predicted, updated, unupdated, unpredicted, Half, lo, hi, count, parted, joined}
+use Rattle.lifting.specs.Line.{unupdated, unpredicted, Half, lo, hi, count, parted, joined}
 use Rattle.lifting.specs.Halves.{halvesOf, inHalves, unliftedInPlace}
-use Rattle.lifting.proofs.LineLaws.{counts, count-lo, halves-low, halves-high}
+use Rattle.lifting.proofs.LineLaws.{counts, count-lo, joined-parted, halves-low, halves-high}
 use Rattle.wavelet.specs.Bands.{Grid}
 use Rattle.wavelet.specs.Plane.{cells, flat, halfAt, placeIn}
-use Rattle.whole_map.specs.Rowwise.{cut}
-use Rattle.whole_map.specs.Passes.{Rows, KeptFrom, within, after, before, even, oddRowsChanged, evenRowsChanged, rowsMapped, planeRow, levelRow, rowsStored, rowsFetched, rowsLoaded, rowsReturned}
+use Rattle.wavelet.proofs.GridLaws.{cells-flat}
+use Rattle.whole_map.specs.Rowwise.{cut, partedInPlace}
+use Rattle.whole_map.specs.Passes.{Rows, KeptFrom, within, after, before, even, oddRowsChanged, evenRowsChanged, rowsMapped, planeRow, levelRow, rowsFetched, gridHalved, gridCopied, rowsReturned}
 use Rattle.whole_map.proofs.GridSweep.{row-room}
-use Rattle.whole_map.specs.LevelPasses.{levelGrid, columnsLiftedInPlace, columnsUnliftedInPlace, levelUnlifted}
+use Rattle.whole_map.specs.LevelPasses.{levelGrid, cornerGrid, columnsUnliftedInPlace, levelUnlifted}
 
 -- ---- cells
 pub flat-same : (s : ℕ) (X Y : Grid) → 0 < s → ((r c : ℕ) → c < s → X r c ≡ Y r c) → flat s X ≡ flat s Y
@@ -187,15 +188,7 @@ after-even h n g b =
       | no a ↦ simp (le-ltb (2 * n + 1) h (omega arith)) (omega arith)
     ]
 
--- ---- rows stored in the plane, and fetched from it, at one cell
-pub stored-in : (w h : ℕ) (X Z : Grid) (r c : ℕ) → r < h → c < w → rowsStored w h X Z r c ≡ X (levelRow h r) c
-unfolding rowsStored
-stored-in w h X Z r c rh cw = simp (within-in w h r c rh cw)
-
-pub stored-out : (w h : ℕ) (X Z : Grid) (r c : ℕ) → within w h r c ≡ false → rowsStored w h X Z r c ≡ Z r c
-unfolding rowsStored
-stored-out w h X Z r c e = simp e
-
+-- ---- rows fetched from the plane, at one cell
 module _ (from w h : ℕ) (P X : Grid) (r c : ℕ) (rh : r < h) (cw : c < w) where
   pub fetched-new : pick (even r) from 0 ≤ c → rowsFetched from w h P X r c ≡ P (planeRow h r) c
   unfolding rowsFetched even
@@ -257,13 +250,45 @@ module _ (w h : ℕ) (X : Grid) (r c : ℕ) (e : within w h r c ≡ false) where
   unfolding rowsFetched
   fetched-out from z = simp e
 
-pub loaded-in : (w h : ℕ) (G X : Grid) (r c : ℕ) → r < h → c < w → rowsLoaded w h G X r c ≡ inHalves w (parted (G r)) (X r) c
-unfolding rowsLoaded
-loaded-in w h G X r c rh cw = simp (within-in w h r c rh cw)
+pub halved-in : (w h : ℕ) (G Z : Grid) (r c : ℕ) → r < h → c < w → gridHalved w h G Z r c ≡ partedInPlace w (G (levelRow h r)) c
+unfolding gridHalved
+halved-in w h G Z r c rh cw = simp (within-in w h r c rh cw)
 
-pub loaded-out : (w h : ℕ) (G X : Grid) (r c : ℕ) → within w h r c ≡ false → rowsLoaded w h G X r c ≡ X r c
-unfolding rowsLoaded
-loaded-out w h G X r c e = simp e
+pub halved-out : (w h : ℕ) (G Z : Grid) (r c : ℕ) → within w h r c ≡ false → gridHalved w h G Z r c ≡ Z r c
+unfolding gridHalved
+halved-out w h G Z r c e = simp e
+
+pub copied-in : (w h : ℕ) (G Z : Grid) (r c : ℕ) → r < h → c < w → gridCopied w h G Z r c ≡ G r c
+unfolding gridCopied
+copied-in w h G Z r c rh cw = simp (within-in w h r c rh cw)
+
+pub copied-out : (w h : ℕ) (G Z : Grid) (r c : ℕ) → within w h r c ≡ false → gridCopied w h G Z r c ≡ Z r c
+unfolding gridCopied
+copied-out w h G Z r c e = simp e
+
+-- a grid laid in halves is the grid that stands there
+pub corner-at : (w h : ℕ) (X : Grid) (r c : ℕ) → cornerGrid w h X r c ≡ X (placed h r) (placed w c)
+unfolding cornerGrid
+corner-at w h X r c = joined-at h (λ i. levelGrid w X i c) r ∙ grid-at w X (placed h r) c
+
+pub halved-grid : (A w h : ℕ) (G Z : Grid) (z : ℕ → ℤ) → w ≤ A → z ≡ flat A (gridHalved w h G Z) → (r c : ℕ) → r < h → c < w → cornerGrid w h (cells A z) r c ≡ G r c
+unfolding partedInPlace
+halved-grid A w h G Z z wa e r c rh cw =
+    let p = placed h r in
+    let q = placed w c in
+    let pb = placed-in h r rh in
+    let qb = placed-in w c cw in
+    let col : ℕ → ℤ = λ i. G i c in
+    corner-at w h (cells A z) r c
+    ∙ ap (λ (u : ℕ → ℤ). cells A u p q) e
+    ∙ cells-flat A (gridHalved w h G Z) p q (omega arith)
+    ∙ halved-in w h G Z p q pb qb
+    ∙ halves-at w (parted (G (levelRow h p))) (G (levelRow h p)) c cw
+    ∙ joined-parted (G (levelRow h p)) c
+    ∙ level-at h p col
+    ∙ sym (halves-half h (parted col) col p pb)
+    ∙ halves-at h (parted col) col r rh
+    ∙ joined-parted col r
 
 pub returned-in : (w h : ℕ) (X Z : Grid) (r c : ℕ) → r < h → c < w → rowsReturned w h X Z r c ≡ levelGrid w X r c
 unfolding rowsReturned levelGrid
@@ -272,14 +297,6 @@ returned-in w h X Z r c rh cw = simp (within-in w h r c rh cw)
 pub returned-out : (w h : ℕ) (X Z : Grid) (r c : ℕ) → within w h r c ≡ false → rowsReturned w h X Z r c ≡ Z r c
 unfolding rowsReturned
 returned-out w h X Z r c e = simp e
-
-pub columns-out : (w h : ℕ) (X : Grid) (r c : ℕ) → within w h r c ≡ false → columnsLiftedInPlace w h X r c ≡ X r c
-unfolding columnsLiftedInPlace
-columns-out w h X r c e =
-    elim (decLt 1 h) [
-      | yes g ↦ simp (lt-ltb 1 h g) (even-out w h (oddRowsChanged (predicted wrap32) w h X) r c e (updated wrap32) ∙ odd-out w h X r c e (predicted wrap32))
-      | no g ↦ simp (le-ltb 1 h (omega arith))
-    ]
 
 pub unlifted-out : (w h : ℕ) (X : Grid) (r c : ℕ) → within w h r c ≡ false → levelUnlifted w h X r c ≡ X r c
 unfolding levelUnlifted columnsUnliftedInPlace

@@ -113,6 +113,93 @@ skip-row {s} {Y} {X} {k} {x} sw e =
 pub left-row : {s : ℕ} {Y X : Grid} {k : ℕ} {x : ℕ → ℤ} (r c : ℕ) → RowSwept s Y X k x → c < s → Y r c ≡ X r c → x (r * s + c) ≡ X r c
 left-row {k = k} r c sw lt e = elim (decLt r k) [ yes p ↦ sw .done r c lt p ∙ e | no d ↦ sw .rest r c lt (omega arith) ]
 
+-- ---- a sweep over rows of two halves, a row of each a turn: row k, and row low + k
+pub record Fronts (s low : ℕ) (Y X : Grid) (k : ℕ) (x : ℕ → ℤ) : Type 0 where
+  pub lows : (r c : ℕ) → c < s → r < k → x (r * s + c) ≡ Y r c
+  pub highs : (r c : ℕ) → c < s → r < k → x ((low + r) * s + c) ≡ Y (low + r) c
+  pub restLows : (r c : ℕ) → c < s → k ≤ r → r < low → x (r * s + c) ≡ X r c
+  pub restHighs : (r c : ℕ) → c < s → k ≤ r → x ((low + r) * s + c) ≡ X (low + r) c
+
+pub fronts-start : (s low : ℕ) (Y : Grid) (x : ℕ → ℤ) → Fronts s low Y (cells s x) 0 x
+unfolding cells
+fronts-start s low Y x =
+    record {
+      lows = λ r c cs b. absurd (omega arith);
+      highs = λ r c cs b. absurd (omega arith);
+      restLows = λ r c cs b l. refl;
+      restHighs = λ r c cs b. refl;
+    }
+
+module _ (s low : ℕ) (Y X : Grid) where
+  pub fronts-end : (h k : ℕ) (x : ℕ → ℤ) → 0 < s → low ≤ k → h ≤ low + k → ((r c : ℕ) → h ≤ r → Y r c ≡ X r c) → Fronts s low Y X k x → low ≤ h → x ≡ flat s Y
+  fronts-end h k x apart a b past sw lh =
+      let swept : RowSwept s Y X h x = record {
+        done = λ r c cs rh.
+            elim (decLt r low) [
+              | yes l ↦ sw .lows r c cs (omega arith)
+              | no l ↦ let e : low + (r - low) ≡ r = omega arith in rw e at (sw .highs (r - low) c cs (omega arith))
+            ];
+        rest = λ r c cs hr.
+            let e : low + (r - low) ≡ r = omega arith in
+            elim (decLt (r - low) k) [
+              | yes l ↦ (rw e at (sw .highs (r - low) c cs l)) ∙ past r c hr
+              | no l ↦ rw e at (sw .restHighs (r - low) c cs (omega arith))
+            ];
+      } in
+      finish apart swept past
+
+  module _ (w k : ℕ) (ws : w ≤ s) (kl : k < low) (y x x₁ : ℕ → ℤ) (e₁ : x₁ ≡ spliced (k * s) w y x) (in₁ : (c : ℕ) → c < w → y c ≡ Y k c) (out₁ : (c : ℕ) → w ≤ c → Y k c ≡ X k c) (sw : Fronts s low Y X k x) where
+    put₁ : (j : ℕ) → x₁ j ≡ spliced (k * s) w y x j
+    put₁ j = ap (λ (u : ℕ → ℤ). u j) e₁
+
+    low-put : (c : ℕ) → c < s → x₁ (k * s + c) ≡ Y k c
+    low-put c cs =
+        put₁ (k * s + c)
+        ∙ elim (decLt c w) [
+          | yes l ↦ put-in s w k y x ws c l ∙ in₁ c l
+          | no l ↦ put-wide s w k y x ws c (omega arith) ∙ sw .restLows k c cs (omega arith) kl ∙ sym (out₁ c (omega arith))
+        ]
+
+    low-other : (r c : ℕ) → c < s → r ≢ k → x₁ (r * s + c) ≡ x (r * s + c)
+    low-other r c cs d = put₁ (r * s + c) ∙ put-other s w k y x ws r c cs d
+
+    -- the last low row, where there is one more; the high rows past it are none
+    pub fronts-last : (h : ℕ) → 0 < s → k + 1 ≡ low → h ≡ low + k → ((r c : ℕ) → h ≤ r → Y r c ≡ X r c) → x₁ ≡ flat s Y
+    fronts-last h apart el eh past =
+        fronts-end h (k + 1) x₁ apart (omega arith) (omega arith) past
+        (record {
+          lows = λ r c cs b. elim (ℕ-discrete r k) [ yes e ↦ rw e (low-put c cs) | no d ↦ low-other r c cs d ∙ sw .lows r c cs (omega arith) ];
+          highs = λ r c cs b.
+              low-other (low + r) c cs (omega arith)
+              ∙ elim (decLt r k) [
+                | yes l ↦ sw .highs r c cs l
+                | no l ↦ sw .restHighs r c cs (omega arith) ∙ sym (past (low + r) c (omega arith))
+              ];
+          restLows = λ r c cs b l. absurd (omega arith);
+          restHighs = λ r c cs b. low-other (low + r) c cs (omega arith) ∙ sw .restHighs r c cs (omega arith);
+        })
+        (omega arith)
+
+    -- and the high row
+    pub fronts-turn : (u x₂ : ℕ → ℤ) → x₂ ≡ spliced ((low + k) * s) w u x₁ → ((c : ℕ) → c < w → u c ≡ Y (low + k) c) → ((c : ℕ) → w ≤ c → Y (low + k) c ≡ X (low + k) c) → Fronts s low Y X (k + 1) x₂
+    fronts-turn u x₂ e₂ in₂ out₂ =
+        let t = low + k in
+        let put₂ : (j : ℕ) → x₂ j ≡ spliced (t * s) w u x₁ j = λ j. ap (λ (v : ℕ → ℤ). v j) e₂ in
+        let other : (r c : ℕ) → c < s → r ≢ t → x₂ (r * s + c) ≡ x₁ (r * s + c) = λ r c cs d. put₂ (r * s + c) ∙ put-other s w t u x₁ ws r c cs d in
+        let high : (c : ℕ) → c < s → x₂ (t * s + c) ≡ Y t c =
+        λ c cs.
+        put₂ (t * s + c)
+        ∙ elim (decLt c w) [
+          | yes l ↦ put-in s w t u x₁ ws c l ∙ in₂ c l
+          | no l ↦ put-wide s w t u x₁ ws c (omega arith) ∙ low-other t c cs (omega arith) ∙ sw .restHighs k c cs (omega arith) ∙ sym (out₂ c (omega arith))
+        ] in
+        record {
+          lows = λ r c cs b. other r c cs (omega arith) ∙ elim (ℕ-discrete r k) [ yes e ↦ rw e (low-put c cs) | no d ↦ low-other r c cs d ∙ sw .lows r c cs (omega arith) ];
+          highs = λ r c cs b. elim (ℕ-discrete r k) [ yes e ↦ rw e (high c cs) | no d ↦ other (low + r) c cs (omega arith) ∙ low-other (low + r) c cs (omega arith) ∙ sw .highs r c cs (omega arith) ];
+          restLows = λ r c cs b l. other r c cs (omega arith) ∙ low-other r c cs (omega arith) ∙ sw .restLows r c cs (omega arith) l;
+          restHighs = λ r c cs b. other (low + r) c cs (omega arith) ∙ low-other (low + r) c cs (omega arith) ∙ sw .restHighs r c cs (omega arith);
+        }
+
 -- ---- the loop over an area, l₀ being the area at its start and l the area before row k
 pub record Passed (s w h : ℕ) (Y : Grid) (l₀ : List ℤ) (k : ℕ) (l : List ℤ) : Type 0 where
   pub rows : Rows (length l₀) s w h

@@ -18,7 +18,7 @@ use Rattle.wavelet.specs.Bands.{Grid}
 use Rattle.wavelet.specs.Plane.{cells, flat}
 use Rattle.wavelet.specs.Maps.{every, everyCell, valueFits}
 use Rattle.whole_map.specs.Rowwise.{heightsAt, cut, between}
-use Rattle.whole_map.specs.Passes.{Rows, KeptFrom, rowsMapped, rowsLoaded, rowsReturned}
+use Rattle.whole_map.specs.Passes.{Rows, KeptFrom, rowsMapped, rowsReturned}
 use Rattle.whole_map.specs.LevelPasses.{Finished}
 use Rattle.whole_map.proofs.RowwiseLaws.{front-at, window-cut, cut-in, cut-parted, cut-woven}
 use Rattle.wavelet.proofs.MapTheorems.{every-each, each-every, every-same}
@@ -53,22 +53,6 @@ halves-inside w p y z c h =
       | yes a ↦ halves-low w p y c a ∙ sym (halves-low w p z c a)
       | no d ↦ halves-high w p y c (omega arith) h ∙ sym (halves-high w p z c (omega arith) h)
     ]
-
-pub loaded-past : (w h : ℕ) (G X : Grid) (r c : ℕ) → h ≤ r → rowsLoaded w h G X r c ≡ X r c
-unfolding rowsLoaded
-loaded-past w h G X r c p = simp (within-past w h r c p)
-
-pub load-turn : (w h : ℕ) (g : List ℕ) (l₀ : List ℤ) (i k : ℕ) (l z : List ℤ) → k ≡ w → i < h → Rows (length g) w w h → length z ≡ length (midOf (i * w) k l) → at z ≡ inHalves (length (midOf (i * w) k g)) (parted (heightsAt (midOf (i * w) k g))) (at (midOf (i * w) k l)) → Passed w w h (rowsLoaded w h (cells w (heightsAt g)) (cells w (at l₀))) l₀ i l → Passed w w h (rowsLoaded w h (cells w (heightsAt g)) (cells w (at l₀))) l₀ (i + 1) (putMid (i * w) k l z)
-unfolding rowsLoaded
-load-turn w h g l₀ i k l z e lt r ez is p =
-    let G = cells w (heightsAt g) i in
-    let X = cells w (at l₀) i in
-    let is′ : at z ≡ inHalves w (parted G) (at (midOf (i * w) k l)) =
-    cc (is, heights-length w w h i k e lt g r, heights-row w w h i k e lt g, cut-parted w G (at (midOf (i * w) k l))) in
-    part-turn w w h _ l₀ i k l z e lt ez
-    (λ c q. ap (λ (f : ℕ → ℤ). f c) is′ ∙ halves-inside w (parted G) _ X c q ∙ simp (within-in w h i c lt q))
-    (λ c q. simp (within-wide w h i c q))
-    p
 
 -- ---- stored
 -- heights swept as whole numbers: their room, a row's length, and their length

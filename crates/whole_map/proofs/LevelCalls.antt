@@ -6,28 +6,29 @@ use Prim.Native.Nat.{ℕ, _+_, _-_, _*_, _%_, _≤_, _<_}
 use native.Mathlib.Decide.{decLt, ℕ-discrete}
 use native.Mathlib.Omega.{arith}
 use lib.IntN.{ℤ}
+use lib.Dec.{leb}
 use lib.ListN.{length}
 use borrow.Rule.Slice.PartMut.{midOf, putMid}
-use borrow.Author.Tests.{lt-ltb, le-ltb, eq-eqb, ne-eqb}
+use borrow.Author.Tests.{lt-ltb, le-ltb, eq-eqb, ne-eqb, le-leb}
 use Rattle.numbers.specs.Signal.{at, pick, windowed, spliced}
 use Rattle.numbers.specs.Word.{wrap32}
 use Rattle.numbers.proofs.Parts.{window-in, splice-below, splice-in, splice-past, length-mid, at-mid, at-put}
-use Rattle.lifting.specs.Line.{predicted, updated, unupdated, unpredicted, parted}
-use Rattle.lifting.specs.Halves.{fronted, inHalves, liftedInPlace, unliftedInPlace}
+use Rattle.lifting.specs.Line.{lo, hi, count, unupdated, unpredicted, parted}
+use Rattle.lifting.specs.Halves.{fronted, inHalves, liftedInPlace, unliftedInPlace, highsLaid}
+use Rattle.lifting.proofs.LineLaws.{counts, count-lo, count-hi}
 use Rattle.lifting.proofs.RowLaws.{row-order}
 use Rattle.wavelet.specs.Bands.{Grid}
 use Rattle.wavelet.specs.Plane.{cells, flat}
 use Rattle.wavelet.specs.Maps.{every, everyCell}
-use Rattle.wavelet.proofs.GridLaws.{cells-flat, flat-cells}
+use Rattle.wavelet.proofs.GridLaws.{cells-flat}
 use Rattle.wavelet.proofs.MapTheorems.{every-each, each-every, every-same}
-use Rattle.whole_map.specs.Rowwise.{cut, partedInPlace, between, highsLaid}
-use Rattle.whole_map.specs.Passes.{even, before, after, oddRowsChanged, evenRowsChanged, rowsMapped, levelRow, rowsStored, rowsLoaded}
-use Rattle.whole_map.specs.LevelPasses.{columnsLiftedInPlace, columnsUnliftedInPlace, rowsBetween}
-use Rattle.whole_map.proofs.LevelMath.{levelLifted}
-use Rattle.whole_map.proofs.GridSweep.{RowSwept, store-row, mapped-in}
-use Rattle.whole_map.proofs.RowwiseLaws.{front-at, window-cut, cut-parted}
-use Rattle.whole_map.proofs.HeightRows.{halves-inside}
-use Rattle.whole_map.proofs.CellLaws.{flat-same, by-within, level-in, loaded-in, loaded-out, stored-in, stored-out, outside-columns}
+use Rattle.whole_map.specs.Rowwise.{heightsAt, cut, partedInPlace, between}
+use Rattle.whole_map.specs.Passes.{Rows, even, before, after, oddRowsChanged, evenRowsChanged, rowsMapped, levelRow, gridHalved, gridCopied}
+use Rattle.whole_map.specs.LevelPasses.{columnsUnliftedInPlace, rowsBetween}
+use Rattle.whole_map.proofs.GridSweep.{RowSwept, store-row, Fronts, fronts-turn, fronts-end, fronts-last}
+use Rattle.whole_map.proofs.RowwiseLaws.{front-at, cut-in, window-cut, cut-parted}
+use Rattle.whole_map.proofs.HeightRows.{halves-inside, heights-length, heights-row}
+use Rattle.whole_map.proofs.CellLaws.{flat-same, level-low, level-high, outside-rows, halved-in, halved-out, copied-in, copied-out, outside-columns}
 use Rattle.whole_map.proofs.TestLaws.{not-every}
 
 -- ---- a pass reads the cells that stand in the area alone
@@ -61,29 +62,6 @@ unlifted-same w h X Y r c e =
 module _ (s : ℕ) (F : Grid) (y : ℕ → ℤ) (e : y ≡ flat s F) where
   pub left-cells : (r c : ℕ) → c < s → cells s y r c ≡ F r c
   left-cells r c cs = ap (λ (z : ℕ → ℤ). cells s z r c) e ∙ cells-flat s F r c cs
-
-module _ (s w h : ℕ) (x : ℕ → ℤ) (apart : 0 < s) where
-  pub columns-alone : h < 2 → x ≡ flat s (columnsLiftedInPlace w h (cells s x))
-  unfolding columnsLiftedInPlace
-  columns-alone b = simp (le-ltb 1 h (omega arith)) (sym (flat-cells s x))
-
-  module _ (y : ℕ → ℤ) where
-    pub columns-both : 2 ≤ h → y ≡ flat s (evenRowsChanged (updated wrap32) w h (oddRowsChanged (predicted wrap32) w h (cells s x))) → y ≡ flat s (columnsLiftedInPlace w h (cells s x))
-    unfolding columnsLiftedInPlace
-    columns-both b e = simp (lt-ltb 1 h (omega arith)) e
-
-    -- and then all rows, on the way to the plane
-    pub level-both : (A : ℕ) (u v : ℕ → ℤ) → w ≤ s → 0 < A → y ≡ flat s (columnsLiftedInPlace w h (cells s x)) → v ≡ flat A (rowsStored w h (rowsMapped (liftedInPlace w) w h (cells s y)) (cells A u)) → v ≡ flat A (rowsStored w h (levelLifted w h (cells s x)) (cells A u))
-    unfolding levelLifted
-    level-both A u v ws some e f =
-        f ∙ flat-same A _ _ some
-        (λ r c ca.
-        by-within w h r c
-        (λ rh cw.
-        stored-in w h _ (cells A u) r c rh cw
-        ∙ mapped-same (liftedInPlace w) w h (cells s y) _ (levelRow h r) c (left-cells s _ y e (levelRow h r) c (omega arith)) (λ j jw. left-cells s _ y e (levelRow h r) j (omega arith))
-        ∙ sym (stored-in w h _ (cells A u) r c rh cw))
-        (λ o. stored-out w h _ (cells A u) r c o ∙ sym (stored-out w h _ (cells A u) r c o)))
 
 -- ---- a part copied
 pub splice-same : (b n : ℕ) (u v x : ℕ → ℤ) → ((i : ℕ) → i < n → u i ≡ v i) → spliced b n u x ≡ spliced b n v x
@@ -123,15 +101,16 @@ module _ (a b n k k′ : ℕ) (from to z : List ℤ) (e : k ≡ n) (e′ : k′ 
       moved-part b n k to z _ e fb size
       (λ i h. ap (λ (y : ℕ → ℤ). y i) is ∙ front-at _ _ _ i (omega arith) ∙ ap (λ (y : ℕ → ℤ). y i) (lent-part a n k′ from e′))
 
-  pub lifted-part : at z ≡ liftedInPlace (length (midOf a k′ from)) (at (midOf a k′ from)) → at (putMid b k to z) ≡ spliced b n (liftedInPlace n (windowed a n (at from))) (at to)
-  lifted-part is =
-      let is′ : at z ≡ liftedInPlace n (windowed a n (at from)) = cc (is, mid-length, lent-part a n k′ from e′) in
-      moved-part b n k to z _ e fb size (λ i h. ap (λ (y : ℕ → ℤ). y i) is′)
+  -- what came back has y at its front
+  fronted-part : (y : ℕ → ℤ) → at z ≡ pick (leb (length (midOf a k′ from)) (length (midOf b k to))) (fronted (length (midOf a k′ from)) y (at (midOf b k to))) (at (midOf b k to)) → at (putMid b k to z) ≡ spliced b n y (at to)
+  fronted-part y is =
+      let mid = mid-length in
+      let ok = le-leb (length (midOf a k′ from)) (length (midOf b k to)) (omega (arith, same-parts)) in
+      let is′ : at z ≡ fronted (length (midOf a k′ from)) y (at (midOf b k to)) = simp ok at is in
+      moved-part b n k to z y e fb size (λ i h. ap (λ (u : ℕ → ℤ). u i) is′ ∙ front-at _ y _ i (omega arith))
 
-  pub unlifted-part : at z ≡ unliftedInPlace (length (midOf a k′ from)) (highsLaid (length (midOf a k′ from)) (at (midOf a k′ from)) (at (midOf b k to))) → at (putMid b k to z) ≡ spliced b n (unliftedInPlace n (highsLaid n (windowed a n (at from)) (windowed b n (at to)))) (at to)
-  unlifted-part is =
-      let is′ : at z ≡ unliftedInPlace n (highsLaid n (windowed a n (at from)) (windowed b n (at to))) = cc (is, mid-length, lent-part a n k′ from e′, lent-part b n k to e) in
-      moved-part b n k to z _ e fb size (λ i h. ap (λ (y : ℕ → ℤ). y i) is′)
+  pub unlifted-part : at z ≡ pick (leb (length (midOf a k′ from)) (length (midOf b k to))) (fronted (length (midOf a k′ from)) (unliftedInPlace (length (midOf a k′ from)) (highsLaid (length (midOf a k′ from)) (at (midOf a k′ from)) (at (midOf b k to)))) (at (midOf b k to))) (at (midOf b k to)) → at (putMid b k to z) ≡ spliced b n (unliftedInPlace n (highsLaid n (windowed a n (at from)) (windowed b n (at to)))) (at to)
+  unlifted-part is = fronted-part _ is ∙ cc (mid-length, lent-part a n k′ from e′, lent-part b n k to e)
 
   pub halved-part : at z ≡ inHalves (length (midOf a k′ from)) (parted (at (midOf a k′ from))) (at (midOf b k to)) → at (putMid b k to z) ≡ spliced b n (partedInPlace n (windowed a n (at from))) (at to)
   unfolding partedInPlace
@@ -179,29 +158,87 @@ fill-turn A w h i Y Z y z z′ wa is new past sw =
     copy-turn A w 0 w i (i * A) Y Z y z z′ wa (omega arith) (omega arith) is
     (λ c cw. let k : 0 + c ≡ c = omega arith in rw k (new c cw)) (λ c b. absurd (omega arith)) past sw
 
--- the rows of a level, lifted, to the plane
-pub stored-turn : (s A w h i l : ℕ) (x z₀ z z′ : ℕ → ℤ) → w ≤ A → i < h → l ≡ levelRow h i → z′ ≡ spliced (i * A) w (liftedInPlace w (windowed (l * s) w x)) z → RowSwept A (rowsStored w h (rowsMapped (liftedInPlace w) w h (cells s x)) (cells A z₀)) (cells A z₀) i z → RowSwept A (rowsStored w h (rowsMapped (liftedInPlace w) w h (cells s x)) (cells A z₀)) (cells A z₀) (i + 1) z′
-stored-turn s A w h i l x z₀ z z′ wa ih e is sw =
-    let L = rowsMapped (liftedInPlace w) w h (cells s x) in
-    fill-turn A w h i _ _ (liftedInPlace w (windowed (l * s) w x)) z z′ wa is
-    (λ c cw.
-    ap (λ (y : ℕ → ℤ). liftedInPlace w y c) (row-lent s w l x ∙ ap (λ (m : ℕ). cut w (cells s x m)) e)
-    ∙ sym (stored-in w h L (cells A z₀) i c ih cw ∙ mapped-in (liftedInPlace w) w h (cells s x) (levelRow h i) c (level-in h i ih) cw))
-    (λ c b. stored-out w h L (cells A z₀) i c (outside-columns w h i c b))
+-- a part lifted in place
+pub lifted-part : (a n k : ℕ) (l z : List ℤ) → k ≡ n → a + n ≤ length l → length z ≡ length (midOf a k l) → at z ≡ liftedInPlace (length (midOf a k l)) (at (midOf a k l)) → at (putMid a k l z) ≡ spliced a n (liftedInPlace n (windowed a n (at l))) (at l)
+lifted-part a n k l z e room size is =
+    let mid : length (midOf a k l) ≡ n = length-mid a k l (omega arith) ∙ e in
+    let is′ : at z ≡ liftedInPlace n (windowed a n (at l)) = cc (is, mid, lent-part a n k l e) in
+    moved-part a n k l z _ e room size (λ i h. ap (λ (y : ℕ → ℤ). y i) is′)
+
+-- ---- heights g, row m of them laid in halves in row i of the plane
+pub height-part : (w m i k k′ : ℕ) (g : List ℕ) (l z : List ℤ) → 0 < w → k ≡ w → k′ ≡ w → m * w + w ≤ length g → i * w + w ≤ length l → length z ≡ length (midOf (i * w) k l) → at z ≡ inHalves (length (midOf (m * w) k′ g)) (parted (heightsAt (midOf (m * w) k′ g))) (at (midOf (i * w) k l)) → at (putMid (i * w) k l z) ≡ spliced (i * w) w (partedInPlace w (cells w (heightsAt g) m)) (at l)
+unfolding partedInPlace
+height-part w m i k k′ g l z some e e′ fg fl size is =
+    let G = cells w (heightsAt g) m in
+    let t : m + 1 - 1 ≡ m = omega arith in
+    let R : Rows (length g) w w (m + 1) = record { apart = some; wide = omega arith; some = omega arith; room = rw t fg } in
+    let is′ : at z ≡ inHalves w (parted G) (at (midOf (i * w) k l)) =
+    cc (is, heights-length w w (m + 1) m k′ e′ (omega arith) g R, heights-row w w (m + 1) m k′ e′ (omega arith) g, cut-parted w G (at (midOf (i * w) k l))) in
+    moved-part (i * w) w k l z _ e fl size (λ c h. ap (λ (x : ℕ → ℤ). x c) is′ ∙ halves-inside w (parted G) _ G c h)
+
+-- the grid of them, two rows a turn
+module _ (w h : ℕ) (G : Grid) (x₀ : ℕ → ℤ) where
+  abbrev pub Laid : ℕ → (ℕ → ℤ) → Type 0
+  Laid k x = Fronts w (count lo h) (gridHalved w h G (cells w x₀)) (cells w x₀) k x
+
+  laid-past : (r c : ℕ) → h ≤ r → gridHalved w h G (cells w x₀) r c ≡ cells w x₀ r c
+  laid-past r c b = halved-out w h G (cells w x₀) r c (outside-rows w h r c b)
+
+  laid-wide : (r c : ℕ) → w ≤ c → gridHalved w h G (cells w x₀) r c ≡ cells w x₀ r c
+  laid-wide r c b = halved-out w h G (cells w x₀) r c (outside-columns w h r c b)
+
+  low-laid : (k : ℕ) → k < count lo h → (c : ℕ) → c < w → partedInPlace w (G (2 * k)) c ≡ gridHalved w h G (cells w x₀) k c
+  low-laid k kl c cw =
+      let l = count-lo h in
+      sym (halved-in w h G (cells w x₀) k c (omega arith) cw ∙ ap (λ (r : ℕ). partedInPlace w (G r) c) (level-low h k kl))
+
+  high-laid : (k : ℕ) → k < count hi h → (c : ℕ) → c < w → partedInPlace w (G (2 * k + 1)) c ≡ gridHalved w h G (cells w x₀) (count lo h + k) c
+  high-laid k kh c cw =
+      let both = counts h in
+      let t : count lo h + k - count lo h ≡ k = omega arith in
+      sym (halved-in w h G (cells w x₀) (count lo h + k) c (omega arith) cw ∙ ap (λ (r : ℕ). partedInPlace w (G r) c) (level-high h (count lo h + k) (omega arith) ∙ ap (λ (i : ℕ). 2 * i + 1) t))
+
+  pub laid-turn : (low k : ℕ) (x x₁ x₂ : ℕ → ℤ) → low ≡ count lo h → k < count hi h → x₁ ≡ spliced (k * w) w (partedInPlace w (G (2 * k))) x → x₂ ≡ spliced ((low + k) * w) w (partedInPlace w (G (2 * k + 1))) x₁ → Laid k x → Laid (k + 1) x₂
+  laid-turn low k x x₁ x₂ e kh e₁ e₂ sw =
+      let both = counts h in
+      let half = count-lo h in
+      let half′ = count-hi h in
+      fronts-turn w (count lo h) _ _ w k (omega arith) (omega arith) _ x x₁ e₁ (low-laid k (omega arith)) (laid-wide k) sw _ x₂ (rw e at e₂) (high-laid k kh) (laid-wide (count lo h + k))
+
+  pub laid-even : (k : ℕ) (x : ℕ → ℤ) → 0 < w → count lo h ≤ k → Laid k x → x ≡ flat w (gridHalved w h G (cells w x₀))
+  laid-even k x some b sw =
+      let both = counts h in
+      let half = count-lo h in
+      let half′ = count-hi h in
+      fronts-end w (count lo h) _ _ h k x some b (omega arith) laid-past sw (omega arith)
+
+  pub laid-odd : (k : ℕ) (x x₁ : ℕ → ℤ) → 0 < w → k ≡ count hi h → k < count lo h → x₁ ≡ spliced (k * w) w (partedInPlace w (G (2 * k))) x → Laid k x → x₁ ≡ flat w (gridHalved w h G (cells w x₀))
+  laid-odd k x x₁ some ek b e₁ sw =
+      let both = counts h in
+      let half = count-lo h in
+      let half′ = count-hi h in
+      fronts-last w (count lo h) _ _ w k (omega arith) b _ x x₁ e₁ (low-laid k b) (laid-wide k) sw h some (omega arith) (omega arith) laid-past
+
+-- a grid copied, and laid in halves
+pub copied-turn : (A s w h i : ℕ) (z x₀ x x′ : ℕ → ℤ) → w ≤ s → i < h → x′ ≡ spliced (i * s) w (windowed (i * A) w z) x → RowSwept s (gridCopied w h (cells A z) (cells s x₀)) (cells s x₀) i x → RowSwept s (gridCopied w h (cells A z) (cells s x₀)) (cells s x₀) (i + 1) x′
+copied-turn A s w h i z x₀ x x′ ws ih is sw =
+    fill-turn s w h i _ _ (windowed (i * A) w z) x x′ ws is
+    (λ c cw. ap (λ (u : ℕ → ℤ). u c) (row-lent A w i z) ∙ cut-in w (cells A z i) c cw ∙ sym (copied-in w h (cells A z) (cells s x₀) i c ih cw))
+    (λ c b. copied-out w h (cells A z) (cells s x₀) i c (outside-columns w h i c b))
     sw
 
--- the low-low part to the rows of the next level
-pub loaded-turn : (A s w h i : ℕ) (z x₀ x x′ : ℕ → ℤ) → w ≤ s → i < h → x′ ≡ spliced (i * s) w (partedInPlace w (windowed (i * A) w z)) x → RowSwept s (rowsLoaded w h (cells A z) (cells s x₀)) (cells s x₀) i x → RowSwept s (rowsLoaded w h (cells A z) (cells s x₀)) (cells s x₀) (i + 1) x′
+pub halved-turn : (s A w h i l : ℕ) (x z₀ z z′ : ℕ → ℤ) → w ≤ A → i < h → l ≡ levelRow h i → z′ ≡ spliced (i * A) w (partedInPlace w (windowed (l * s) w x)) z → RowSwept A (gridHalved w h (cells s x) (cells A z₀)) (cells A z₀) i z → RowSwept A (gridHalved w h (cells s x) (cells A z₀)) (cells A z₀) (i + 1) z′
 unfolding partedInPlace
-loaded-turn A s w h i z x₀ x x′ ws ih is sw =
-    let y = windowed (i * A) w z in
-    fill-turn s w h i _ _ (inHalves w (parted y) y) x x′ ws is
+halved-turn s A w h i l x z₀ z z′ wa ih e is sw =
+    let y = windowed (l * s) w x in
+    let g = cells s x (levelRow h i) in
+    fill-turn A w h i _ _ (inHalves w (parted y) y) z z′ wa is
     (λ c cw.
-    ap (λ (u : ℕ → ℤ). inHalves w (parted u) y c) (row-lent A w i z)
-    ∙ ap (λ (u : ℕ → ℤ). u c) (cut-parted w (cells A z i) y)
-    ∙ halves-inside w (parted (cells A z i)) y (cells s x₀ i) c cw
-    ∙ sym (loaded-in w h (cells A z) (cells s x₀) i c ih cw))
-    (λ c b. loaded-out w h (cells A z) (cells s x₀) i c (outside-columns w h i c b))
+    ap (λ (u : ℕ → ℤ). inHalves w (parted u) y c) (row-lent s w l x ∙ ap (λ (m : ℕ). cut w (cells s x m)) e)
+    ∙ ap (λ (u : ℕ → ℤ). u c) (cut-parted w g y)
+    ∙ halves-inside w (parted g) y g c cw
+    ∙ sym (halved-in w h (cells s x) (cells A z₀) i c ih cw))
+    (λ c b. halved-out w h (cells s x) (cells A z₀) i c (outside-columns w h i c b))
     sw
 
 -- the rows of a level from the plane

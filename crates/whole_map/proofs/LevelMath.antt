@@ -6,47 +6,23 @@ use native.Mathlib.Omega.{arith}
 use lib.IntN.{ℤ}
 use borrow.Author.Tests.{lt-ltb, le-ltb}
 use Rattle.numbers.specs.Word.{wrap32}
-use Rattle.lifting.specs.Line.{Half, lo, hi, count, predicted, updated, unupdated, unpredicted, high, backEven, parted, joined, lineForward, lineHalvesBack, lineBack}
+use Rattle.lifting.specs.Line.{Half, lo, hi, count, unupdated, unpredicted, backEven, parted, joined, lineForward, lineHalvesBack, lineBack}
 use Rattle.lifting.specs.Halves.{halvesOf, liftedInPlace, unliftedInPlace}
-use Rattle.lifting.proofs.LineLaws.{counts, count-lo, count-hi, joined-even, joined-odd, high-is, low-is, even-is, odd-is, low-one, even-one}
+use Rattle.lifting.proofs.LineLaws.{counts, count-lo, count-hi, joined-even, joined-odd, even-is, odd-is, even-one}
 use Rattle.lifting.proofs.LineTheorems.{forward-reads, back-reads}
 use Rattle.wavelet.specs.Bands.{Grid, Band, bandOf, columnsLifted, subband, rowsUnlifted, levelBack}
 use Rattle.wavelet.specs.Plane.{halfAt, placeIn}
 use Rattle.whole_map.specs.Rowwise.{cut}
-use Rattle.whole_map.specs.Passes.{oddRowsChanged, evenRowsChanged, rowsMapped, levelRow}
-use Rattle.whole_map.specs.LevelPasses.{levelGrid, columnsLiftedInPlace, columnsUnliftedInPlace, levelUnlifted}
+use Rattle.whole_map.specs.Passes.{evenRowsChanged, rowsMapped}
+use Rattle.whole_map.specs.LevelPasses.{levelGrid, cornerGrid, columnsLiftedInPlace, levelLifted, columnsUnliftedInPlace, levelUnlifted}
 use Rattle.wavelet.proofs.LevelTheory.{across-of, down-of}
 use Rattle.whole_map.proofs.GridSweep.{mapped-in}
-use Rattle.whole_map.proofs.CellLaws.{placed, placed-in, joined-at, grid-at, halves-at, halves-half, place-in, level-at, level-in, odd-in, odd-even, even-in, even-odd, cut-in, before-odd, before-even, after-odd, after-even}
+use Rattle.whole_map.proofs.CellLaws.{placed, placed-in, joined-at, grid-at, halves-at, halves-half, place-in, within-in, odd-in, odd-even, even-in, even-odd, cut-in, before-odd, before-even, after-odd, after-even}
 
 -- ---- columns: each is a line of h numbers, its even rows the low half and its odd rows the high half
 module _ (w h : ℕ) (X : Grid) (c : ℕ) (cw : c < w) where
   abbrev column : Grid → ℕ → ℤ
   column Z i = Z i c
-
-  predicted-row : 1 < h → (n : ℕ) → n < count hi h → oddRowsChanged (predicted wrap32) w h X (2 * n + 1) c ≡ high wrap32 h (column X) n
-  predicted-row g n b =
-      let l = count-hi h in
-      cc (odd-in (predicted wrap32) w h X c cw (2 * n + 1) (omega arith) (omega arith), before-odd n, after-odd h n b, high-is wrap32 h g (column X) n b)
-
-  pub columns-forward : (d : Half) (n : ℕ) → n < count d h → parted (column (columnsLiftedInPlace w h X)) d n ≡ lineForward wrap32 h (column X) d n
-  unfolding parted columnsLiftedInPlace lineForward
-  columns-forward lo n b =
-      let both = counts h in
-      let l = count-hi h in
-      let Z = oddRowsChanged (predicted wrap32) w h X in
-      elim (decLt 1 h) [
-        | yes g ↦
-            simp (lt-ltb 1 h g)
-            (cc (even-in (updated wrap32) w h Z c cw (2 * n) (omega arith) (omega arith), before-even n, after-even h n g b, odd-even (predicted wrap32) w h X c cw (2 * n) (omega arith) (omega arith), predicted-row g (n - 1) (omega arith), predicted-row g (min n (count hi h - 1)) (omega arith), low-is wrap32 h g (column X) n b))
-        | no g ↦ simp (le-ltb 1 h (omega arith)) (sym (low-one wrap32 h (omega arith) (column X) n))
-      ]
-  columns-forward hi n b =
-      let both = counts h in
-      let l = count-hi h in
-      let Z = oddRowsChanged (predicted wrap32) w h X in
-      let g : 1 < h = omega arith in
-      simp (lt-ltb 1 h g) (even-odd (updated wrap32) w h Z c cw (2 * n + 1) (omega arith) (omega arith) ∙ predicted-row g n b)
 
   unupdated-row : 1 < h → (n : ℕ) → n < count lo h → evenRowsChanged (unupdated wrap32) w h X (2 * n) c ≡ backEven wrap32 h (parted (column X) lo) (parted (column X) hi) n
   unfolding parted
@@ -105,25 +81,24 @@ module _ (w h : ℕ) (X : Grid) (r : ℕ) (rh : r < h) where
       mapped-in (unliftedInPlace w) w h X r (placed w c) rh (placed-in w c cw)
       ∙ halves-at w (lineHalvesBack wrap32 w (halvesOf w (cut w (X r)))) (cut w (X r)) c cw
 
--- all columns, then all rows, in place
-unfoldable pub levelLifted : ℕ → ℕ → Grid → Grid
-levelLifted w h X = rowsMapped (liftedInPlace w) w h (columnsLiftedInPlace w h X)
-
--- ---- one level forward: row `levelRow` of the area is row R of the plane
+-- ---- one level forward, where it stands
 module _ (w h : ℕ) (X : Grid) where
-  pub level-forward : (R C : ℕ) → R < h → C < w → levelLifted w h X (levelRow h R) C ≡ subband wrap32 w h (levelGrid w X) (bandOf (halfAt w C) (halfAt h R)) (placeIn h R) (placeIn w C)
-  unfolding levelLifted subband columnsLifted
+  columns-forward : (R c : ℕ) → R < h → c < w → columnsLiftedInPlace w h X R c ≡ lineForward wrap32 h (joined (halvesOf h (λ i. X i c))) (halfAt h R) (placeIn h R)
+  unfolding columnsLiftedInPlace liftedInPlace
+  columns-forward R c rh cw = simp (within-in w h R c rh cw) (halves-half h (lineForward wrap32 h (joined (halvesOf h (λ i. X i c)))) (λ i. X i c) R rh)
+
+  pub level-forward : (R C : ℕ) → R < h → C < w → levelLifted w h X R C ≡ subband wrap32 w h (cornerGrid w h X) (bandOf (halfAt w C) (halfAt h R)) (placeIn h R) (placeIn w C)
+  unfolding levelLifted subband columnsLifted cornerGrid
   level-forward R C rh cw =
       let Z = columnsLiftedInPlace w h X in
       let d = halfAt h R in
       let i = placeIn h R in
-      rows-forward w h Z (levelRow h R) (level-in h R rh) C cw
+      rows-forward w h Z R rh C cw
       ∙ forward-reads wrap32 w _ _ (halfAt w C) (placeIn w C) (place-in w C cw)
       (λ c b _.
-      grid-at w Z (levelRow h R) c
-      ∙ level-at h R (λ (j : ℕ). Z j (placed w c))
-      ∙ columns-forward w h X (placed w c) (placed-in w c b) d i (place-in h R rh)
-      ∙ ap (λ (y : ℕ → ℤ). lineForward wrap32 h y d i) (fun-ext λ j. sym (grid-at w X j c)))
+      grid-at w Z R c
+      ∙ columns-forward R (placed w c) rh (placed-in w c b)
+      ∙ ap (λ (y : ℕ → ℤ). lineForward wrap32 h (joined (halvesOf h y)) d i) (fun-ext λ j. sym (grid-at w X j c)))
       ∙ rw (across-of (halfAt w C) (halfAt h R), down-of (halfAt w C) (halfAt h R))
 
 -- ---- one level back, where the area has the bands p: the low ones in its even rows, the high ones in its odd rows

@@ -2,7 +2,7 @@
 use mathlib.Core.Path.{_≡_, refl, sym, ap, _∙_}
 use mathlib.Core.Bool.{Bool, true, false}
 use Prim.Native.Nat.{ℕ, zero, suc, _+_, _-_, _*_, _^_, _≤_, _<_, min}
-use native.Mathlib.Nat.{pow-suc, mul-le-mul-left, one-le-pow}
+use native.Mathlib.Nat.{pow-suc, mul-le-mul-left, mul-le-mul-right, one-le-pow}
 use native.Mathlib.Omega.{arith}
 use lib.IntN.{ℤ, pos, negℤ, _-ℤ_}
 use mir.Syntax.{w32}
@@ -11,18 +11,15 @@ use Rattle.numbers.specs.Signal.{pick}
 use Rattle.numbers.specs.Word.{wrap32}
 use Rattle.numbers.proofs.Integers.{each, lin}
 use Rattle.lifting.specs.Line.{lo, count}
-use Rattle.lifting.specs.Halves.{liftedInPlace}
 use Rattle.lifting.proofs.LineLaws.{count-lo}
 use Rattle.wavelet.specs.Limits.{maxLevels, range}
 use Rattle.wavelet.specs.Bands.{Grid}
 use Rattle.wavelet.specs.Plane.{cells, flat, mapBack}
 use Rattle.wavelet.specs.Maps.{everyCell, valueFits, rebuiltFits}
 use Rattle.whole_map.specs.Rowwise.{wovenInPlace}
-use Rattle.whole_map.specs.Passes.{Rows, KeptFrom, rowsMapped, rowsStored, rowsFetched, rowsLoaded}
-use Rattle.whole_map.specs.LevelPasses.{levelGrid, columnsLiftedInPlace, levelUnlifted, planeWritten, Rebuilt, rowsBetween, regionInRange, Doubling, LevelsBack}
-use Rattle.whole_map.proofs.CellLaws.{loaded-out, mapped-out, fetched-out, columns-out, unlifted-out, kept-flat, kept-then, next-end, next-rows, fewer-rows, fewer-columns}
-use Rattle.whole_map.proofs.LevelMath.{levelLifted}
-use Rattle.whole_map.proofs.LevelCalls.{level-both}
+use Rattle.whole_map.specs.Passes.{Rows, KeptFrom, rowsMapped, rowsFetched, gridHalved, gridCopied}
+use Rattle.whole_map.specs.LevelPasses.{cornerGrid, levelLifted, levelUnlifted, planeWritten, Rebuilt, rowsBetween, regionInRange, Doubling, LevelsBack}
+use Rattle.whole_map.proofs.CellLaws.{copied-out, mapped-out, fetched-out, unlifted-out, kept-flat, kept-then, next-end, next-rows, fewer-rows, fewer-columns}
 use Rattle.whole_map.proofs.LevelsMath.{forward-last, forward-more, back-last, back-more}
 use Rattle.whole_map.proofs.TestLaws.{false-true, rebuilt-test, fits-more, fits-none, region-more, region-last}
 
@@ -56,31 +53,38 @@ module _ (n n′ s w h w′ h′ : ℕ) (size : n′ ≡ n) (ew : w′ ≡ count
       let lh = count-lo h in
       rw (size, ew, eh) (fewer-columns n s w (count lo h) (count lo w) (fewer-rows n s w h (count lo h) R (omega (arith, R .some)) (omega arith)) (omega arith))
 
--- ---- forward: x₁ is the area with the columns lifted, z₁ the plane with the level's rows
-module _ (n s A w h : ℕ) (x₀ z₀ x₁ z₁ : ℕ → ℤ) (R : Rows n s w h) (wa : w ≤ A) (some : 0 < A)
-    (e₁ : x₁ ≡ flat s (columnsLiftedInPlace w h (cells s x₀))) (f₁ : z₁ ≡ flat A (rowsStored w h (rowsMapped (liftedInPlace w) w h (cells s x₁)) (cells A z₀))) where
-  columns-kept : KeptFrom ((h - 1) * s + w) x₀ x₁
-  columns-kept = kept-flat n s w h x₀ x₁ (columnsLiftedInPlace w h (cells s x₀)) R e₁ (columns-out w h (cells s x₀))
+-- rows of its own width, and those of the low-low part: no more of them, and no longer
+pub own-end : (w h : ℕ) → 0 < h → (count lo h - 1) * count lo w + count lo w ≤ (h - 1) * w + w
+own-end w h some =
+    let l = count-lo h in
+    let k = count-lo w in
+    let a : (count lo h - 1) * count lo w ≤ (h - 1) * count lo w = mul-le-mul-right (count lo w) (omega arith) in
+    let b : (h - 1) * count lo w ≤ (h - 1) * w = mul-le-mul-left (h - 1) (omega arith) in
+    omega arith
 
-  stored : z₁ ≡ flat A (rowsStored w h (levelLifted w h (cells s x₀)) (cells A z₀))
-  stored = level-both s w h x₀ (R .apart) x₁ A z₀ z₁ (R .wide) some e₁ f₁
+pub own-rows : (n n′ w h w′ h′ : ℕ) → n′ ≡ n → w′ ≡ count lo w → h′ ≡ count lo h → Rows n w w h → Rows n′ w′ w′ h′
+own-rows n n′ w h w′ h′ size ew eh R =
+    let l = count-lo h in
+    let k = count-lo w in
+    rw (size, ew, eh) (record { apart = omega (arith, R .apart); wide = omega arith; some = omega (arith, R .some); room = omega (arith, own-end w h (R .some), R .room) })
 
-  pub forward-end : (L : ℕ) → 0 < L → L < 2 → (z₁ ≡ flat A (planeWritten L w h (levelGrid w (cells s x₀)) (cells A z₀))) × KeptFrom ((h - 1) * s + w) x₀ x₁
-  forward-end L a b =
-      let k : L ≡ 1 = omega arith in
-      (rw k (forward-last s A w h x₀ z₀ z₁ wa some stored), columns-kept)
+-- ---- forward: z₁ is the plane with the level lifted
+module _ (A w h : ℕ) (z₀ z₁ : ℕ → ℤ) (wa : w ≤ A) (some : 0 < A) (f₁ : z₁ ≡ flat A (levelLifted w h (cells A z₀))) where
+  pub forward-end : (L : ℕ) → 0 < L → L < 2 → z₁ ≡ flat A (planeWritten L w h (cornerGrid w h (cells A z₀)) (cells A z₀))
+  forward-end L a b = let k : L ≡ 1 = omega arith in rw k (forward-last A w h z₀ z₁ wa some f₁)
 
-  pub forward-step : (L w′ h′ : ℕ) (x₂ x₃ z₂ : ℕ → ℤ) → 2 ≤ L → w′ ≡ count lo w → h′ ≡ count lo h → x₂ ≡ flat (2 * s) (rowsLoaded w′ h′ (cells A z₁) (cells (2 * s) x₁)) → z₂ ≡ flat A (planeWritten (L - 1) w′ h′ (levelGrid w′ (cells (2 * s) x₂)) (cells A z₁)) → KeptFrom ((h′ - 1) * (2 * s) + w′) x₂ x₃ → (z₂ ≡ flat A (planeWritten L w h (levelGrid w (cells s x₀)) (cells A z₀))) × KeptFrom ((h - 1) * s + w) x₀ x₃
-  forward-step L w′ h′ x₂ x₃ z₂ b ew eh e f₂ k₂ =
-      let end = next-end s w h (R .some) in
-      let e₂ : x₂ ≡ flat (2 * s) (rowsLoaded (count lo w) (count lo h) (cells A z₁) (cells (2 * s) x₁)) = rw (ew, eh) at e in
-      let f : z₂ ≡ flat A (planeWritten (L - 1) (count lo w) (count lo h) (levelGrid (count lo w) (cells (2 * s) x₂)) (cells A z₁)) = rw (ew, eh) at f₂ in
-      let k : KeptFrom ((count lo h - 1) * (2 * s) + count lo w) x₂ x₃ = rw (ew, eh) at k₂ in
-      let part : KeptFrom ((count lo h - 1) * (2 * s) + count lo w) x₁ x₂ =
-      kept-flat n (2 * s) (count lo w) (count lo h) x₁ x₂ _ (next-rows n s w h R) e₂
-      (loaded-out (count lo w) (count lo h) (cells A z₁) (cells (2 * s) x₁)) in (
-        forward-more s A w h x₀ z₀ z₁ wa some stored (R .wide) x₁ x₂ e₂ L z₂ b f,
-        kept-then columns-kept (kept-then part k (omega arith)) end,
+  -- x₁ is the work area with the low-low part, z₂ the plane with it in halves, z₃ and x₃ what the levels left leave
+  pub forward-step : (n L w′ h′ : ℕ) (x₀ x₁ x₃ z₂ z₃ : ℕ → ℤ) → Rows n w w h → 2 ≤ L → w′ ≡ count lo w → h′ ≡ count lo h → x₁ ≡ flat w′ (gridCopied w′ h′ (cells A z₁) (cells w′ x₀)) → z₂ ≡ flat A (gridHalved w′ h′ (cells w′ x₁) (cells A z₁)) → z₃ ≡ flat A (planeWritten (L - 1) w′ h′ (cornerGrid w′ h′ (cells A z₂)) (cells A z₂)) → KeptFrom ((h′ - 1) * w′ + w′) x₁ x₃ → (z₃ ≡ flat A (planeWritten L w h (cornerGrid w h (cells A z₀)) (cells A z₀))) × KeptFrom ((h - 1) * w + w) x₀ x₃
+  forward-step n L w′ h′ x₀ x₁ x₃ z₂ z₃ R b ew eh e₁ f₂ f₃ k₃ =
+      let end = own-end w h (R .some) in
+      let R′ = own-rows n n w h w′ h′ refl ew eh R in
+      let k = kept-flat n w′ w′ h′ x₀ x₁ _ R′ e₁ (copied-out w′ h′ (cells A z₁) (cells w′ x₀)) in
+      let e : x₁ ≡ flat (count lo w) (gridCopied (count lo w) (count lo h) (cells A z₁) (cells (count lo w) x₀)) = rw (ew, eh) at e₁ in
+      let f : z₂ ≡ flat A (gridHalved (count lo w) (count lo h) (cells (count lo w) x₁) (cells A z₁)) = rw (ew, eh) at f₂ in
+      let f′ : z₃ ≡ flat A (planeWritten (L - 1) (count lo w) (count lo h) (cornerGrid (count lo w) (count lo h) (cells A z₂)) (cells A z₂)) = rw (ew, eh) at f₃ in
+      let all : KeptFrom ((count lo h - 1) * count lo w + count lo w) x₀ x₃ = rw (ew, eh) at (kept-then k k₃ (omega arith)) in (
+        forward-more A w h z₀ z₁ wa some f₁ x₀ x₁ z₂ e f L z₃ b f′,
+        record { kept = λ j g. all .kept j (omega arith) },
       )
 
 -- ---- back: y₀ is the work area before the level's rows are fetched

@@ -6,19 +6,20 @@ use native.Mathlib.Omega.{arith}
 use lib.IntN.{ℤ}
 use borrow.Author.Tests.{lt-ltb}
 use Rattle.numbers.specs.Word.{wrap32}
-use Rattle.lifting.specs.Line.{lo, hi, count, parted, joined}
-use Rattle.lifting.specs.Halves.{halvesOf}
-use Rattle.lifting.proofs.LineLaws.{counts, count-lo, count-hi, joined-parted, front-in}
+use Rattle.lifting.specs.Line.{lo, hi, count, joined}
+use Rattle.lifting.specs.Halves.{halvesOf, liftedInPlace}
+use Rattle.lifting.proofs.LineLaws.{counts, count-lo, count-hi, front-in}
 use Rattle.wavelet.specs.Bands.{Grid, Band, LL, HL, LH, HH, bandOf, subband, levelBack}
 use Rattle.wavelet.specs.Plane.{cells, flat, halfAt, placeIn, planeCell, mapBack}
 use Rattle.whole_map.specs.Rowwise.{cut, wovenInPlace}
-use Rattle.whole_map.specs.Passes.{within, rowsMapped, rowsStored, rowsFetched, rowsLoaded}
-use Rattle.whole_map.specs.LevelPasses.{levelGrid, levelUnlifted, planeWritten, Rebuilt}
+use Rattle.whole_map.specs.Passes.{within, rowsMapped, rowsFetched, gridHalved, gridCopied}
+use Rattle.whole_map.specs.LevelPasses.{levelGrid, cornerGrid, levelLifted, levelUnlifted, planeWritten, Rebuilt}
 use Rattle.wavelet.proofs.GridLaws.{cells-flat}
 use Rattle.wavelet.proofs.LevelTheory.{plane-reads}
 use Rattle.whole_map.proofs.GridSweep.{mapped-in}
-use Rattle.whole_map.proofs.CellLaws.{loaded-in, stored-in, stored-out, fetched-new, fetched-made, made-even, made-odd, plane-even, plane-odd, flat-same, placed, placed-in, joined-at, grid-at, halves-at, half-low, cut-in, within-in, by-within}
-use Rattle.whole_map.proofs.LevelMath.{levelLifted, BandsIn, level-forward, level-back}
+use Rattle.whole_map.proofs.CellLaws.{halved-out, halved-grid, copied-in, mapped-out, fetched-new, fetched-made, made-even, made-odd, plane-even, plane-odd, flat-same, placed, placed-in, joined-at, grid-at, half-low, cut-in, within-in, by-within}
+use Rattle.whole_map.proofs.ColumnLift.{column-out}
+use Rattle.whole_map.proofs.LevelMath.{BandsIn, level-forward, level-back}
 
 -- ---- the plane, by cells
 module _ (keep : ℤ → ℤ) where
@@ -49,69 +50,68 @@ module _ (L w h : ℕ) (g z : Grid) (r c : ℕ) where
   unfolding planeWritten
   written-out e = simp e
 
--- ---- forward: x₀ and z₀ are the area and the plane at the start, z₁ the plane with the level's rows
-module _ (s A w h : ℕ) (x₀ z₀ z₁ : ℕ → ℤ) (wa : w ≤ A) (some : 0 < A) (f₁ : z₁ ≡ flat A (rowsStored w h (levelLifted w h (cells s x₀)) (cells A z₀))) where
+-- ---- forward: z₀ is the plane at the start, z₁ the plane with the level lifted
+module _ (A w h : ℕ) (z₀ z₁ : ℕ → ℤ) (wa : w ≤ A) (some : 0 < A) (f₁ : z₁ ≡ flat A (levelLifted w h (cells A z₀))) where
   abbrev g : Grid
-  g = levelGrid w (cells s x₀)
+  g = cornerGrid w h (cells A z₀)
 
-  abbrev lifted : Grid
-  lifted = levelLifted w h (cells s x₀)
+  level-cell : (r c : ℕ) → c < A → cells A z₁ r c ≡ levelLifted w h (cells A z₀) r c
+  level-cell r c ca = ap (λ (z : ℕ → ℤ). cells A z r c) f₁ ∙ cells-flat A (levelLifted w h (cells A z₀)) r c ca
 
-  stored-cell : (r c : ℕ) → r < h → c < w → rowsStored w h lifted (cells A z₀) r c ≡ subband wrap32 w h g (bandOf (halfAt w c) (halfAt h r)) (placeIn h r) (placeIn w c)
-  stored-cell r c rh cw = stored-in w h lifted (cells A z₀) r c rh cw ∙ level-forward w h (cells s x₀) r c rh cw
+  level-out : (r c : ℕ) → within w h r c ≡ false → levelLifted w h (cells A z₀) r c ≡ cells A z₀ r c
+  unfolding levelLifted
+  level-out r c o = mapped-out w h _ r c o (liftedInPlace w) ∙ column-out w h (cells A z₀) r c o
 
   pub forward-last : z₁ ≡ flat A (planeWritten 1 w h g (cells A z₀))
   forward-last =
       f₁ ∙ flat-same A _ _ some
       (λ r c _.
       by-within w h r c
-      (λ rh cw. stored-cell r c rh cw ∙ sym (written-in 1 w h g (cells A z₀) r c rh cw ∙ plane-last wrap32 w h g r c))
-      (λ e. stored-out w h lifted (cells A z₀) r c e ∙ sym (written-out 1 w h g (cells A z₀) r c e)))
+      (λ rh cw. level-forward w h (cells A z₀) r c rh cw ∙ sym (written-in 1 w h g (cells A z₀) r c rh cw ∙ plane-last wrap32 w h g r c))
+      (λ o. level-out r c o ∙ sym (written-out 1 w h g (cells A z₀) r c o)))
 
-  -- the low-low part, brought from the plane into halves at twice the stride
-  module _ (ws : w ≤ s) (x₁ x₂ : ℕ → ℤ) (e₂ : x₂ ≡ flat (2 * s) (rowsLoaded (count lo w) (count lo h) (cells A z₁) (cells (2 * s) x₁))) where
-    pub next-grid : (r c : ℕ) → r < count lo h → c < count lo w → levelGrid (count lo w) (cells (2 * s) x₂) r c ≡ subband wrap32 w h g LL r c
+  -- the low-low part copied to the rows x₁ of its own width, and laid in the corner again, in halves: z₂
+  module _ (x₀ x₁ z₂ : ℕ → ℤ) (e₁ : x₁ ≡ flat (count lo w) (gridCopied (count lo w) (count lo h) (cells A z₁) (cells (count lo w) x₀))) (f₂ : z₂ ≡ flat A (gridHalved (count lo w) (count lo h) (cells (count lo w) x₁) (cells A z₁))) where
+    next-grid : (r c : ℕ) → r < count lo h → c < count lo w → cornerGrid (count lo w) (count lo h) (cells A z₂) r c ≡ subband wrap32 w h g LL r c
     unfolding bandOf
     next-grid r c rb cb =
         let both = counts w in
         let l = count-lo h in
         let w′ = count lo w in
-        let m = placed w′ c in
-        let mb = placed-in w′ c cb in
-        grid-at w′ (cells (2 * s) x₂) r c
-        ∙ ap (λ (x : ℕ → ℤ). cells (2 * s) x r m) e₂
-        ∙ cells-flat (2 * s) _ r m (omega arith)
-        ∙ loaded-in w′ (count lo h) (cells A z₁) (cells (2 * s) x₁) r m rb mb
-        ∙ halves-at w′ (parted (cells A z₁ r)) (cells (2 * s) x₁ r) c cb
-        ∙ joined-parted (cells A z₁ r) c
-        ∙ ap (λ (z : ℕ → ℤ). cells A z r c) f₁
-        ∙ cells-flat A _ r c (omega arith)
-        ∙ stored-cell r c (omega arith) (omega arith)
+        let h′ = count lo h in
+        halved-grid A w′ h′ (cells w′ x₁) (cells A z₁) z₂ (omega arith) f₂ r c rb cb
+        ∙ ap (λ (x : ℕ → ℤ). cells w′ x r c) e₁
+        ∙ cells-flat w′ _ r c cb
+        ∙ copied-in w′ h′ (cells A z₁) (cells w′ x₀) r c rb cb
+        ∙ level-cell r c (omega arith)
+        ∙ level-forward w h (cells A z₀) r c (omega arith) (omega arith)
         ∙ rw (half-low w c cb .0, half-low h r rb .0, half-low w c cb .1, half-low h r rb .1)
 
-    pub forward-more : (L : ℕ) (z₂ : ℕ → ℤ) → 1 < L → z₂ ≡ flat A (planeWritten (L - 1) (count lo w) (count lo h) (levelGrid (count lo w) (cells (2 * s) x₂)) (cells A z₁)) → z₂ ≡ flat A (planeWritten L w h g (cells A z₀))
-    forward-more zero z₂ b f₂ = absurd (omega arith)
-    forward-more (suc L) z₂ b f₂ =
+    pub forward-more : (L : ℕ) (z₃ : ℕ → ℤ) → 1 < L → z₃ ≡ flat A (planeWritten (L - 1) (count lo w) (count lo h) (cornerGrid (count lo w) (count lo h) (cells A z₂)) (cells A z₂)) → z₃ ≡ flat A (planeWritten L w h g (cells A z₀))
+    forward-more zero z₃ b f₃ = absurd (omega arith)
+    forward-more (suc L) z₃ b f₃ =
         let both = counts w in
         let l = count-lo h in
         let w′ = count lo w in
         let h′ = count lo h in
-        let g′ = levelGrid w′ (cells (2 * s) x₂) in
+        let g′ = cornerGrid w′ h′ (cells A z₂) in
         let k : suc L - 1 ≡ L = omega arith in
-        f₂ ∙ rw k refl ∙ flat-same A _ _ some
+        f₃ ∙ rw k refl ∙ flat-same A _ _ some
         (λ r c ca.
         by-within w′ h′ r c
         (λ rb cb.
-        written-in L w′ h′ g′ (cells A z₁) r c rb cb
+        written-in L w′ h′ g′ (cells A z₂) r c rb cb
         ∙ plane-reads wrap32 L w′ h′ g′ (subband wrap32 w h g LL) next-grid r c rb cb
         ∙ sym (written-in (suc L) w h g (cells A z₀) r c (omega arith) (omega arith) ∙ plane-corner wrap32 L w h g r c rb cb))
         (λ e.
-        written-out L w′ h′ g′ (cells A z₁) r c e
-        ∙ ap (λ (z : ℕ → ℤ). cells A z r c) f₁
-        ∙ cells-flat A (rowsStored w h lifted (cells A z₀)) r c ca
+        written-out L w′ h′ g′ (cells A z₂) r c e
+        ∙ ap (λ (z : ℕ → ℤ). cells A z r c) f₂
+        ∙ cells-flat A _ r c ca
+        ∙ halved-out w′ h′ (cells w′ x₁) (cells A z₁) r c e
+        ∙ level-cell r c ca
         ∙ by-within w h r c
-        (λ rh cw. stored-cell r c rh cw ∙ sym (written-in (suc L) w h g (cells A z₀) r c rh cw ∙ plane-rest wrap32 L w h g r c e))
-        (λ o. stored-out w h lifted (cells A z₀) r c o ∙ sym (written-out (suc L) w h g (cells A z₀) r c o))))
+        (λ rh cw. level-forward w h (cells A z₀) r c rh cw ∙ sym (written-in (suc L) w h g (cells A z₀) r c rh cw ∙ plane-rest wrap32 L w h g r c e))
+        (λ o. level-out r c o ∙ sym (written-out (suc L) w h g (cells A z₀) r c o))))
 
 -- ---- back
 -- every second row of an area is a row at twice the stride

@@ -1,10 +1,10 @@
 pub mod RowwiseLaws
-pub mod LiftLaws
 pub mod HeightLaws
 pub mod GridSweep
 pub mod ColumnPass
 pub mod HeightRows
 pub mod CellLaws
+pub mod ColumnLift
 pub mod LevelMath
 pub mod LevelsMath
 pub mod TestLaws

@@ -1,25 +1,23 @@
 -- The laws of what is done to one row: what each pass leaves at a place, a turn of its loop, and what two passes come to together. Assumes nothing.
-use mathlib.Core.Path.{_≡_, refl, sym, ap, _∙_, subst, fun-ext}
+use mathlib.Core.Path.{_≡_, refl, sym, ap, _∙_, fun-ext}
 use mathlib.Core.List.{List}
 use mathlib.Core.Bool.{Bool, true, false, _&&_}
-use Prim.Native.Nat.{ℕ, suc, _+_, _-_, _*_, _/_, _%_, _≤_, _<_}
+use Prim.Native.Nat.{ℕ, suc, _+_, _-_, _*_, _/_, _≤_, _<_}
 use native.Mathlib.Decide.{decLt}
 use native.Mathlib.Omega.{arith}
 use lib.IntN.{ℤ, pos}
 use lib.Signed.{leZ}
-use lib.ListN.{length, set, List·getD-eq-default}
-use borrow.Author.Tests.{lt-ltb, le-ltb, eq-eqb, ne-eqb}
-use Rattle.numbers.specs.Signal.{at, windowed, both}
-use Rattle.numbers.proofs.Sweep.{Swept, store2}
+use lib.ListN.{length, set}
+use borrow.Author.Tests.{lt-ltb, le-ltb}
+use Rattle.numbers.specs.Signal.{at, windowed, spliced, both}
+use Rattle.numbers.proofs.Sweep.{Swept, store}
 use borrow.Rule.Slice.PartMut.{midOf}
-use Rattle.numbers.proofs.Parts.{window-in, window-past, length-mid, at-mid}
-use Rattle.lifting.specs.Line.{Half, lo, hi, count, parted, joined}
+use Rattle.numbers.proofs.Parts.{window-in, window-past, splice-below, splice-in, splice-past, length-mid, at-mid}
+use Rattle.lifting.specs.Line.{lo, hi, count, parted, joined}
 use Rattle.lifting.specs.Halves.{halvesOf, inHalves, fronted}
-use Rattle.lifting.specs.Passes.{evensCopied, oddsCopied}
 use Rattle.lifting.proofs.LineLaws.{counts, count-lo, count-hi, joined-even, joined-odd, halves-low, halves-high, halves-past, halves-are, front-in, front-past, front-are}
-use Rattle.lifting.proofs.AreaLaws.{evens-in, evens-past, odds-low, odds-high, odds-past}
 use Rattle.wavelet.specs.Maps.{every}
-use Rattle.whole_map.specs.Rowwise.{cut, evensLaid, oddsLaid, wovenInPlace, between}
+use Rattle.whole_map.specs.Rowwise.{cut, wovenInPlace, between}
 
 -- ---- numbers x at the front of memory z
 pub front-at : (N : ℕ) (x z : ℕ → ℤ) (j : ℕ) → j < N → fronted N x z j ≡ x j
@@ -28,91 +26,82 @@ front-at N x z j h = front-in N (parted x) z x j h
 pub front-rest : (N : ℕ) (x z : ℕ → ℤ) (j : ℕ) → N ≤ j → fronted N x z j ≡ z j
 front-rest N x z j h = front-past N (parted x) z x j h
 
--- ---- places laid from a half
-module _ (N : ℕ) (p z : ℕ → ℤ) where
-  pub laid-even : (n : ℕ) → n < count lo N → evensLaid N p z (2 * n) ≡ p n
-  unfolding evensLaid
-  laid-even n h =
+-- ---- a row y in halves laid as a line of N numbers, two places a turn
+module _ (N : ℕ) (y z : ℕ → ℤ) where
+  abbrev woven : ℕ → ℤ
+  woven = fronted N (joined (halvesOf N y)) z
+
+  woven-even : (n : ℕ) → n < count lo N → y n ≡ woven (2 * n)
+  unfolding halvesOf
+  woven-even n h = let c = count-lo N in sym (front-at N (joined (halvesOf N y)) z (2 * n) (omega arith) ∙ joined-even (halvesOf N y) n)
+
+  woven-odd : (n : ℕ) → n < count hi N → y (N - N / 2 + n) ≡ woven (2 * n + 1)
+  unfolding halvesOf
+  woven-odd n h =
       let c = count-lo N in
-      let k : 2 * n / 2 ≡ n = omega arith in
-      simp (lt-ltb (2 * n) N (omega arith), eq-eqb (2 * n % 2) 0 (omega arith), k)
+      let b = counts N in
+      rw (← c) (sym (front-at N (joined (halvesOf N y)) z (2 * n + 1) (omega arith) ∙ joined-odd (halvesOf N y) n))
 
-  pub laid-between : (n : ℕ) → evensLaid N p z (2 * n + 1) ≡ z (2 * n + 1)
-  unfolding evensLaid
-  laid-between n =
-      elim (decLt (2 * n + 1) N) [
-        | yes a ↦ simp (lt-ltb (2 * n + 1) N a, ne-eqb ((2 * n + 1) % 2) 0 (omega arith))
-        | no d ↦ simp (le-ltb (2 * n + 1) N (omega arith))
-      ]
-
-  pub laid-past : (i : ℕ) → N ≤ i → evensLaid N p z i ≡ z i
-  unfolding evensLaid
-  laid-past i h = simp (le-ltb i N h)
-
-  pub laid-odd : (n : ℕ) → n < count hi N → oddsLaid N p z (2 * n + 1) ≡ p n
-  unfolding oddsLaid
-  laid-odd n h =
+  pub weave-turn : (L n : ℕ) (a b : ℤ) (l : List ℤ) → n < N / 2 → N ≤ L → a ≡ y n → b ≡ y (N - N / 2 + n) → Swept L woven z (2 * n) l → Swept L woven z (2 * (n + 1)) (set (set l (2 * n) a) (2 * n + 1) b)
+  weave-turn L n a b l h fit ea eb sw =
       let c = count-hi N in
-      let k : (2 * n + 1) / 2 ≡ n = omega arith in
-      simp (lt-ltb (2 * n + 1) N (omega arith), ne-eqb ((2 * n + 1) % 2) 0 (omega arith), k)
-
-  pub laid-between-odd : (n : ℕ) → oddsLaid N p z (2 * n) ≡ z (2 * n)
-  unfolding oddsLaid
-  laid-between-odd n =
-      elim (decLt (2 * n) N) [
-        | yes a ↦ simp (lt-ltb (2 * n) N a, eq-eqb (2 * n % 2) 0 (omega arith))
-        | no d ↦ simp (le-ltb (2 * n) N (omega arith))
-      ]
-
-  pub laid-past-odd : (i : ℕ) → N ≤ i → oddsLaid N p z i ≡ z i
-  unfolding oddsLaid
-  laid-past-odd i h = simp (le-ltb i N h)
-
-  -- a turn of each loop: the place stored, and the next left
-  pub evens-turn : (L n : ℕ) (v : ℤ) (l : List ℤ) → n < count lo N → N ≤ L → v ≡ p n → Swept L (evensLaid N p z) z (2 * n) l → Swept L (evensLaid N p z) z (2 * (n + 1)) (set l (2 * n) v)
-  evens-turn L n v l h fit e sw =
-      let c = count-lo N in
-      subst (λ (m : ℕ). Swept L (evensLaid N p z) z m (set l (2 * n) v)) (omega arith)
-      (store2 v sw (omega arith) (e ∙ sym (laid-even n h)) (laid-between n))
-
-  pub odds-turn : (L n : ℕ) (v : ℤ) (l : List ℤ) → n < count hi N → N ≤ L → v ≡ p n → Swept L (oddsLaid N p z) z (2 * n + 1) l → Swept L (oddsLaid N p z) z (2 * (n + 1) + 1) (set l (2 * n + 1) v)
-  odds-turn L n v l h fit e sw =
-      let c = count-hi N in
+      let d = counts N in
       let k : 2 * n + 1 + 1 ≡ 2 * (n + 1) = omega arith in
-      subst (λ (m : ℕ). Swept L (oddsLaid N p z) z m (set l (2 * n + 1) v)) (omega arith)
-      (store2 v sw (omega arith) (e ∙ sym (laid-odd n h)) (rw k (laid-between-odd (n + 1))))
+      rw k at (store b (store a sw (omega arith) (ea ∙ woven-even n (omega arith))) (omega arith) (eb ∙ woven-odd n (omega arith)))
 
-  -- place 0 is left by the second
-  pub laid-first : (j : ℕ) → j < 1 → oddsLaid N p z j ≡ z j
-  laid-first j h = let k : j ≡ 2 * 0 = omega arith in rw k (laid-between-odd 0)
+  -- the last place of an odd line, and the end of an even one
+  pub weave-last : (L n : ℕ) (a : ℤ) (l : List ℤ) → N / 2 ≤ n → n < N - N / 2 → N ≤ L → a ≡ y n → Swept L woven z (2 * n) l → Swept L woven z N (set l (2 * n) a)
+  weave-last L n a l g h fit ea sw =
+      let c = count-lo N in
+      let k : 2 * n + 1 ≡ N = omega arith in
+      rw k at (store a sw (omega arith) (ea ∙ woven-even n (omega arith)))
 
--- what stands in memory y as the halves of N numbers
-pub low-is : (N : ℕ) (y : ℕ → ℤ) (n : ℕ) → y n ≡ halvesOf N y lo n
-unfolding halvesOf
-low-is N y n = refl
+  pub weave-end : (n : ℕ) → N / 2 ≤ n → N - N / 2 ≤ n → (j : ℕ) → 2 * n ≤ j → woven j ≡ z j
+  weave-end n g h j b = front-rest N (joined (halvesOf N y)) z j (omega arith)
 
-pub high-is : (N : ℕ) (y : ℕ → ℤ) (n : ℕ) → y (N - N / 2 + n) ≡ halvesOf N y hi n
-unfolding halvesOf
-high-is N y n = rw (count-lo N)
+  pub weave-done : (j : ℕ) → N ≤ j → woven j ≡ z j
+  weave-done j b = front-rest N (joined (halvesOf N y)) z j b
 
--- ---- both passes together
-pub parted-is : (N : ℕ) (x z : ℕ → ℤ) → inHalves N (parted x) z ≡ oddsCopied N x (evensCopied N x z)
+-- ---- a line x of N numbers laid in halves in memory z: its even places at the front, and its odd places after them
+module _ (N : ℕ) (x z : ℕ → ℤ) where
+  abbrev evensLaid : ℕ → ℤ
+  evensLaid = fronted (count lo N) (parted x lo) z
+
+  abbrev oddsLaid : ℕ → ℤ
+  oddsLaid = spliced (count lo N) (count hi N) (parted x hi) z
+
+  pub evens-in : (j : ℕ) → j < count lo N → evensLaid j ≡ x (2 * j)
+  unfolding parted
+  evens-in j h = front-at (count lo N) (parted x lo) z j h
+
+  pub odds-low : (j : ℕ) → j < count lo N → oddsLaid j ≡ z j
+  odds-low j h = splice-below (count lo N) (count hi N) (parted x hi) z j h
+
+  odds-high : (n : ℕ) → n < count hi N → oddsLaid (count lo N + n) ≡ x (2 * n + 1)
+  unfolding parted
+  odds-high n h =
+      let k : count lo N + n - count lo N ≡ n = omega arith in
+      splice-in (count lo N) (count hi N) (parted x hi) z (count lo N + n) (omega arith) (omega arith) ∙ ap (parted x hi) k
+
+  pub odds-past : (j : ℕ) → N ≤ j → oddsLaid j ≡ z j
+  odds-past j h = let both = counts N in splice-past (count lo N) (count hi N) (parted x hi) z j (omega arith)
+
+  -- a turn of the second loop, whose places begin at low
+  pub odds-turn : (L low n : ℕ) (l : List ℤ) → low ≡ count lo N → n < count hi N → N ≤ L → Swept L oddsLaid z (low + n) l → Swept L oddsLaid z (low + (n + 1)) (set l (low + n) (x (2 * n + 1)))
+  odds-turn L low n l e h fit sw =
+      let both = counts N in
+      let k : low + n + 1 ≡ low + (n + 1) = omega arith in
+      rw k at (store (x (2 * n + 1)) sw (omega arith) (rw e (sym (odds-high n h))))
+
+pub parted-is : (N : ℕ) (x z : ℕ → ℤ) → inHalves N (parted x) z ≡ spliced (count lo N) (count hi N) (parted x hi) (fronted (count lo N) (parted x lo) z)
 unfolding parted
 parted-is N x z =
     let sum = counts N in
-    let w = evensCopied N x z in
+    let w = fronted (count lo N) (parted x lo) z in
     halves-are N (parted x) z _
     (λ n h. sym (odds-low N x w n h ∙ evens-in N x z n h))
     (λ n h. sym (odds-high N x w n h))
-    (λ j h. sym (odds-past N x w j h ∙ evens-past N x z j (omega arith)))
-
-pub woven-is : (N : ℕ) (p : Half → ℕ → ℤ) (z : ℕ → ℤ) → fronted N (joined p) z ≡ oddsLaid N (p hi) (evensLaid N (p lo) z)
-woven-is N p z =
-    let w = evensLaid N (p lo) z in
-    front-are N p z _
-    (λ n h. sym (laid-between-odd N (p hi) w n ∙ laid-even N (p lo) z n h))
-    (λ n h. sym (laid-odd N (p hi) w n h))
-    (λ j h. sym (laid-past-odd N (p hi) w j h ∙ laid-past N (p lo) z j h))
+    (λ j h. sym (odds-past N x w j h ∙ front-rest (count lo N) (parted x lo) z j (omega arith)))
 
 -- ---- a part of n numbers as a signal
 pub cut-in : (n : ℕ) (x : ℕ → ℤ) (j : ℕ) → j < n → cut n x j ≡ x j
@@ -166,15 +155,6 @@ module _ (n k : ℕ) (y x z : ℕ → ℤ) (l : List ℤ) (e : k ≡ n) (h : n �
   unfolding wovenInPlace
   weave-through made =
       cc (made, length-mid 0 k l (omega arith) ∙ e, lent-front n k x z l e h is, cut-woven n x x)
-
--- a row copied over one as long
-pub front-whole : (l z : List ℤ) → length l ≡ length z → fronted (length l) (at l) (at z) ≡ at l
-front-whole l z e =
-    fun-ext λ j.
-    elim (decLt j (length l)) [
-      | yes p ↦ front-at (length l) (at l) (at z) j p
-      | no d ↦ front-rest (length l) (at l) (at z) j (omega arith) ∙ List·getD-eq-default z (pos 0) (omega arith) ∙ sym (List·getD-eq-default l (pos 0) (omega arith))
-    ]
 
 -- ---- a test of every number, gathered number by number
 all-three : (a b d : Bool) → (a && b) && d ≡ both a (both b d)

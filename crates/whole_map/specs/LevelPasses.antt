@@ -1,13 +1,14 @@
 -- The levels as the private functions make them: a level's rows stand in an area, each in halves.
 use mathlib.Core.Bool.{Bool, true}
-use Prim.Native.Nat.{ℕ, _+_, _-_, _*_, _^_, _≤_, _<_}
+use Prim.Native.Nat.{ℕ, _+_, _-_, _*_, _^_, _≤_, _<_, min}
 use mathlib.Core.Path.{_≡_}
-use lib.IntN.{ℤ, pos, negℤ, natAbs}
+use lib.IntN.{ℤ, pos, natAbs}
 use lib.Dec.{ltb, leb}
-use Rattle.numbers.specs.Signal.{pick, spliced}
+use Rattle.numbers.specs.Signal.{pick, windowed, spliced}
 use Rattle.numbers.specs.Word.{wrap32}
 use Rattle.lifting.specs.Line.{lo, count, predicted, updated, unupdated, unpredicted, joined}
-use Rattle.lifting.specs.Halves.{halvesOf, fronted, unliftedInPlace}
+use Rattle.lifting.specs.Halves.{halvesOf, fronted, liftedInPlace, unliftedInPlace}
+use Rattle.lifting.specs.Rows.{rowsChanged}
 use Rattle.wavelet.specs.Limits.{maxWidth, range}
 use Rattle.wavelet.specs.Bands.{Grid}
 use Rattle.wavelet.specs.Plane.{planeCell, levelAt, mapBack, cells, flat}
@@ -19,10 +20,25 @@ use Rattle.whole_map.specs.Passes.{within, oddRowsChanged, evenRowsChang
 unfoldable pub levelGrid : ℕ → Grid → Grid
 levelGrid w X r = joined (halvesOf w (X r))
 
--- all columns in place; a column of one number is its own
+-- the grid of w columns and h rows that stands in X, its rows in halves and each of them in halves
+unfoldable pub cornerGrid : ℕ → ℕ → Grid → Grid
+cornerGrid w h X r c = joined (halvesOf h (λ i. levelGrid w X i c)) r
+
+-- all columns, in halves, then all rows, in halves, lifted in place
 unfoldable pub columnsLiftedInPlace : ℕ → ℕ → Grid → Grid
-columnsLiftedInPlace w h X =
-    pick (ltb 1 h) (evenRowsChanged (updated wrap32) w h (oddRowsChanged (predicted wrap32) w h X)) X
+columnsLiftedInPlace w h X r c = pick (within w h r c) (liftedInPlace h (λ i. X i c) r) (X r c)
+
+unfoldable pub levelLifted : ℕ → ℕ → Grid → Grid
+levelLifted w h X = rowsMapped (liftedInPlace w) w h (columnsLiftedInPlace w h X)
+
+-- row r of an area, in halves, lifted in place; and high row k predicted and low row k updated, of `low` low rows in an area of n numbers
+abbrev pub rowLifted : ℕ → ℕ → ℕ → (ℕ → ℤ) → ℕ → ℤ
+rowLifted s w r x = spliced (r * s) w (liftedInPlace w (windowed (r * s) w x)) x
+
+abbrev pub pairLifted : ℕ → ℕ → ℕ → ℕ → ℕ → (ℕ → ℤ) → ℕ → ℤ
+pairLifted n s w low k x =
+    rowsChanged (updated wrap32) n s w k (low + (k - 1)) (low + k)
+    (rowsChanged (predicted wrap32) n s w (low + k) k (min (k + 1) (low - 1)) x)
 
 -- all rows, then all columns
 unfoldable pub columnsUnliftedInPlace : ℕ → ℕ → Grid → Grid

@@ -6,11 +6,11 @@ use mathlib.Core.Path.{_≡_}
 use lib.IntN.{ℤ}
 use lib.Dec.{ltb, eqb}
 use Rattle.numbers.specs.Signal.{pick, both}
-use Rattle.lifting.specs.Line.{lo, count, parted, joined}
-use Rattle.lifting.specs.Halves.{halvesOf, inHalves}
+use Rattle.lifting.specs.Line.{lo, count, joined}
+use Rattle.lifting.specs.Halves.{halvesOf}
 use Rattle.lifting.specs.Rows.{rowsChanged}
 use Rattle.wavelet.specs.Bands.{Grid}
-use Rattle.whole_map.specs.Rowwise.{cut}
+use Rattle.whole_map.specs.Rowwise.{cut, partedInPlace}
 
 -- h rows of w numbers, s apart, lie within n numbers
 pub record Rows (n s w h : ℕ) : Type 0 where
@@ -61,17 +61,17 @@ planeRow h r = pick (even r) (r / 2) (count lo h + r / 2)
 unfoldable pub levelRow : ℕ → ℕ → ℕ
 levelRow h r = pick (ltb r (count lo h)) (2 * r) (2 * (r - count lo h) + 1)
 
--- the level's rows x stored in the plane z, and the plane's rows z brought back to the level's x, an even row from column `from` on
-unfoldable pub rowsStored : ℕ → ℕ → Grid → Grid → Grid
-rowsStored w h x z r c = pick (within w h r c) (x (levelRow h r) c) (z r c)
-
+-- the plane's rows z brought back to the level's x, an even row from column `from` on
 unfoldable pub rowsFetched : ℕ → ℕ → ℕ → Grid → Grid → Grid
 rowsFetched from w h z x r c =
     pick (both (within w h r c) (pick (even r) (pick (ltb c from) false true) true)) (z (planeRow h r) c) (x r c)
 
--- rows of heights g loaded, each in halves
-unfoldable pub rowsLoaded : ℕ → ℕ → Grid → Grid → Grid
-rowsLoaded w h g x r c = pick (within w h r c) (inHalves w (parted (g r)) (x r) c) (x r c)
+-- a grid g of w columns and h rows in the corner of the plane z, its rows in halves and each of them in halves; and as it is
+unfoldable pub gridHalved : ℕ → ℕ → Grid → Grid → Grid
+gridHalved w h g z r c = pick (within w h r c) (partedInPlace w (g (levelRow h r)) c) (z r c)
+
+unfoldable pub gridCopied : ℕ → ℕ → Grid → Grid → Grid
+gridCopied w h g z r c = pick (within w h r c) (g r c) (z r c)
 
 -- rows x in halves returned in their own order to the rows z
 unfoldable pub rowsReturned : ℕ → ℕ → Grid → Grid → Grid

@@ -1,13 +1,13 @@
 -- What is done to one row of numbers.
 use mathlib.Core.Bool.{Bool}
 use mathlib.Core.List.{List}
-use Prim.Native.Nat.{ℕ, _/_, _%_}
+use Prim.Native.Nat.{ℕ}
 use lib.IntN.{ℤ, pos}
 use lib.ListN.{getD}
 use lib.Signed.{leZ}
-use lib.Dec.{ltb, eqb}
+use lib.Dec.{ltb}
 use Rattle.numbers.specs.Signal.{pick, both}
-use Rattle.lifting.specs.Line.{lo, count, parted, joined}
+use Rattle.lifting.specs.Line.{parted, joined}
 use Rattle.lifting.specs.Halves.{halvesOf, inHalves, fronted}
 
 -- a slice of u16 heights as a signal of whole numbers
@@ -25,17 +25,6 @@ partedInPlace n y = inHalves n (parted y) y
 unfoldable pub wovenInPlace : ℕ → (ℕ → ℤ) → ℕ → ℤ
 wovenInPlace n y = fronted n (joined (halvesOf n y)) y
 
--- the even places of n numbers z laid from a half p, and the odd ones
-unfoldable pub evensLaid : ℕ → (ℕ → ℤ) → (ℕ → ℤ) → ℕ → ℤ
-evensLaid n p z i = pick (ltb i n) (pick (eqb (i % 2) 0) (p (i / 2)) (z i)) (z i)
-
-unfoldable pub oddsLaid : ℕ → (ℕ → ℤ) → (ℕ → ℤ) → ℕ → ℤ
-oddsLaid n p z i = pick (ltb i n) (pick (eqb (i % 2) 0) (z i) (p (i / 2))) (z i)
-
 -- a number from low to high
 unfoldable pub between : ℤ → ℤ → ℤ → Bool
 between low high v = both (leZ low v) (leZ v high)
-
--- the low half of n numbers z, and what y has past it
-unfoldable pub highsLaid : ℕ → (ℕ → ℤ) → (ℕ → ℤ) → ℕ → ℤ
-highsLaid n y z j = pick (ltb j (count lo n)) (z j) (y j)

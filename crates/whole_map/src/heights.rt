@@ -1,16 +1,15 @@
-// Rows of heights loaded into the work area, each in halves, and stored from it. The module is private, as `rowwise` is.
+// Rows of heights loaded into the plane, each in halves, and stored from the work area. The module is private, as `rowwise` is.
 use crate::rowwise;
 ghost use mathlib.Core.Path.{_≡_};
 ghost use Prim.Native.Nat.{_+_, _-_, _*_, _<_, _≤_};
 ghost use lib.IntN.{pos};
 ghost use lib.ListN.{length};
-ghost use Rattle.numbers.specs.Signal.{at};
-ghost use Rattle.lifting.specs.Line.{lo, hi, parted, joined};
+ghost use Rattle.numbers.specs.Signal.{at, spliced};
+ghost use Rattle.lifting.specs.Line.{lo, hi, count, parted, joined};
 ghost use Rattle.lifting.specs.Halves.{halvesOf, inHalves, fronted};
-ghost use Rattle.lifting.specs.Passes.{evensCopied, oddsCopied};
 ghost use Rattle.wavelet.specs.Plane.{cells, flat};
-ghost use Rattle.whole_map.specs.Rowwise.{heightsAt, evensLaid, oddsLaid};
-ghost use Rattle.whole_map.specs.Passes.{rowsLoaded, Rows};
+ghost use Rattle.whole_map.specs.Rowwise.{heightsAt, partedInPlace};
+ghost use Rattle.whole_map.specs.Passes.{gridHalved, Rows};
 ghost use Rattle.whole_map.specs.LevelPasses.{Finished};
 ghost use mathlib.Core.Bool.{true};
 ghost use Rattle.wavelet.specs.Maps.{every, valueFits};
@@ -18,7 +17,7 @@ ghost use Rattle.wavelet.specs.Maps.{every, valueFits};
 // The even places of a row of heights to the front of a row as long.
 fn load_evens(heights: &[u16], row: &mut [i32])
     requires { ⌜ length (now heights) ≡ length (now row) ⌝ }
-    ensures { λ _. ⌜ at (now (row .exit)) ≡ evensCopied (length (now (heights .entry))) (heightsAt (now (heights .entry))) (at (now (row .entry))) ⌝ }
+    ensures { λ _. ⌜ at (now (row .exit)) ≡ fronted (count lo (length (now (heights .entry)))) (parted (heightsAt (now (heights .entry))) lo) (at (now (row .entry))) ⌝ }
 {
     let n = heights.len();
     let low = n - n / 2;
@@ -32,7 +31,7 @@ fn load_evens(heights: &[u16], row: &mut [i32])
 // The odd places after them.
 fn load_odds(heights: &[u16], row: &mut [i32])
     requires { ⌜ length (now heights) ≡ length (now row) ⌝ }
-    ensures { λ _. ⌜ at (now (row .exit)) ≡ oddsCopied (length (now (heights .entry))) (heightsAt (now (heights .entry))) (at (now (row .entry))) ⌝ }
+    ensures { λ _. ⌜ at (now (row .exit)) ≡ spliced (count lo (length (now (heights .entry)))) (count hi (length (now (heights .entry)))) (parted (heightsAt (now (heights .entry))) hi) (at (now (row .entry))) ⌝ }
 {
     let n = heights.len();
     let high = n / 2;
@@ -53,46 +52,33 @@ fn load_row(heights: &[u16], row: &mut [i32])
     load_odds(heights, row);
 }
 
-// The heights of a map to the work area, each row in halves.
-pub fn load_rows(heights: &[u16], work: &mut [i32], width: usize, height: usize)
-    requires { ⌜ Rows (length (now heights)) width width height × Rows (length (now work)) width width height ⌝ }
-    ensures { λ _. ⌜ at (now (work .exit)) ≡ flat width (rowsLoaded width height (cells width (heightsAt (now (heights .entry)))) (cells width (at (now (work .entry))))) ⌝ }
+// Row m of the heights to row r of the plane, in halves.
+fn load_to(heights: &[u16], m: usize, plane: &mut [i32], r: usize, width: usize)
+    requires { ⌜ (0 < width) × (m * width + width ≤ length (now heights)) × (r * width + width ≤ length (now plane)) ⌝ }
+    ensures { λ _. ⌜ at (now (plane .exit)) ≡ spliced (r * width) width (partedInPlace width (cells width (heightsAt (now (heights .entry))) m)) (at (now (plane .entry))) ⌝ }
 {
-    let mut r = 0;
-    while r < height {
-        let a = r * width;
-        let e = a + width;
-        load_row(&heights[a..e], &mut work[a..e]);
-        r += 1;
-    }
+    let a = m * width;
+    let e = a + width;
+    let b = r * width;
+    let f = b + width;
+    load_row(&heights[a..e], &mut plane[b..f]);
 }
 
-// The first half of a row, whose numbers fit, to the even places of a row of heights as long.
-fn store_evens(row: &[i32], heights: &mut [u16])
-    requires { ⌜ (length (now row) ≡ length (now heights)) × (every (length (now row)) (λ i. valueFits 0 (at (now row) i)) ≡ true) ⌝ }
-    ensures { λ _. ⌜ heightsAt (now (heights .exit)) ≡ evensLaid (length (now (row .entry))) (halvesOf (length (now (row .entry))) (at (now (row .entry))) lo) (heightsAt (now (heights .entry))) ⌝ }
+// The heights of a map to the plane as a level takes them: the even rows first, each row in halves. They are read one after the other.
+pub fn load_rows(heights: &[u16], plane: &mut [i32], width: usize, height: usize)
+    requires { ⌜ Rows (length (now heights)) width width height × Rows (length (now plane)) width width height ⌝ }
+    ensures { λ _. ⌜ at (now (plane .exit)) ≡ flat width (gridHalved width height (cells width (heightsAt (now (heights .entry)))) (cells width (at (now (plane .entry))))) ⌝ }
 {
-    let n = row.len();
-    let low = n - n / 2;
-    let mut j = 0;
-    while j < low {
-        heights[2 * j] = row[j] as u16;
-        j += 1;
+    let high = height / 2;
+    let low = height - high;
+    let mut n = 0;
+    while n < high {
+        load_to(heights, 2 * n, plane, n, width);
+        load_to(heights, 2 * n + 1, plane, low + n, width);
+        n += 1;
     }
-}
-
-// The second half to the odd places.
-fn store_odds(row: &[i32], heights: &mut [u16])
-    requires { ⌜ (length (now row) ≡ length (now heights)) × (every (length (now row)) (λ i. valueFits 0 (at (now row) i)) ≡ true) ⌝ }
-    ensures { λ _. ⌜ heightsAt (now (heights .exit)) ≡ oddsLaid (length (now (row .entry))) (halvesOf (length (now (row .entry))) (at (now (row .entry))) hi) (heightsAt (now (heights .entry))) ⌝ }
-{
-    let n = row.len();
-    let high = n / 2;
-    let low = n - high;
-    let mut j = 0;
-    while j < high {
-        heights[2 * j + 1] = row[low + j] as u16;
-        j += 1;
+    if n < low {
+        load_to(heights, 2 * n, plane, n, width);
     }
 }
 
@@ -101,8 +87,17 @@ fn store_row(row: &[i32], heights: &mut [u16])
     requires { ⌜ (length (now row) ≡ length (now heights)) × (every (length (now row)) (λ i. valueFits 0 (at (now row) i)) ≡ true) ⌝ }
     ensures { λ _. ⌜ heightsAt (now (heights .exit)) ≡ fronted (length (now (row .entry))) (joined (halvesOf (length (now (row .entry))) (at (now (row .entry))))) (heightsAt (now (heights .entry))) ⌝ }
 {
-    store_evens(row, heights);
-    store_odds(row, heights);
+    let high = row.len() / 2;
+    let low = row.len() - high;
+    let mut j = 0;
+    while j < high {
+        heights[2 * j] = row[j] as u16;
+        heights[2 * j + 1] = row[low + j] as u16;
+        j += 1;
+    }
+    if j < low {
+        heights[2 * j] = row[j] as u16;
+    }
 }
 
 // A row in halves, whose numbers fit, to a row of heights as long, and cleared.

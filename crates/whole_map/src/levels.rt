@@ -1,8 +1,10 @@
-// The levels of a map. A level's rows stand in the work area, `height` rows of `width` numbers each in halves, `stride` apart: the rows of the
-// next level are every second one of them, so its stride is twice as long. The plane's rows are `across` apart at every level.
+// The levels of a map. Forward a level is lifted where it stands, in the plane's corner. Back its rows stand in the work area, `height` rows of
+// `width` numbers each in halves, `stride` apart: the rows of the next level are every second one of them, so its stride is twice as long.
+// The plane's rows are `across` apart at every level.
 // The module is private: only this crate, which meets what is required, can call it.
 use crate::passes;
 use crate::rowwise;
+use lifting::halves;
 use lifting::rows;
 use wavelet::sizes;
 ghost use mathlib.Core.Path.{_≡_};
@@ -12,12 +14,12 @@ ghost use lib.Dec.{ltb};
 ghost use lib.ListN.{length};
 ghost use Rattle.numbers.specs.Signal.{at, pick, windowed, spliced};
 ghost use Rattle.lifting.specs.Line.{lo, count};
-ghost use Rattle.lifting.specs.Halves.{liftedInPlace, unliftedInPlace};
+ghost use Rattle.lifting.specs.Halves.{unliftedInPlace, highsLaid};
 ghost use Rattle.wavelet.specs.Limits.{maxWidth, range};
 ghost use Rattle.wavelet.specs.Plane.{cells, flat};
-ghost use Rattle.whole_map.specs.Rowwise.{partedInPlace, wovenInPlace, highsLaid};
-ghost use Rattle.whole_map.specs.Passes.{Rows, KeptFrom, even, planeRow, levelRow, rowsMapped, rowsStored, rowsFetched, rowsLoaded};
-ghost use Rattle.whole_map.specs.LevelPasses.{levelGrid, columnsLiftedInPlace, levelUnlifted, rowBack, planeWritten, rowsBetween, regionInRange, Doubling, LevelsBack};
+ghost use Rattle.whole_map.specs.Rowwise.{partedInPlace, wovenInPlace};
+ghost use Rattle.whole_map.specs.Passes.{Rows, KeptFrom, even, planeRow, levelRow, rowsMapped, rowsFetched, gridHalved, gridCopied};
+ghost use Rattle.whole_map.specs.LevelPasses.{cornerGrid, levelUnlifted, rowBack, planeWritten, rowsBetween, regionInRange, Doubling, LevelsBack};
 
 // The plane's row for row r of a level: the low rows come first.
 fn plane_row(height: usize, r: usize) -> usize
@@ -42,17 +44,6 @@ fn level_row(height: usize, r: usize) -> usize
     2 * (r - low) + 1
 }
 
-// All columns forward, in place; a column of one number stays.
-fn lift_columns(work: &mut [i32], stride: usize, width: usize, height: usize)
-    requires { ⌜ Rows (length (now work)) stride width height ⌝ }
-    ensures { λ _. ⌜ at (now (work .exit)) ≡ flat stride (columnsLiftedInPlace width height (cells stride (at (now (work .entry))))) ⌝ }
-{
-    if height < 2 {
-        return;
-    }
-    passes::lift_pairs(work, stride, width, height);
-}
-
 // n numbers from place a of one area to place b of another.
 fn copy_part(from: &[i32], a: usize, to: &mut [i32], b: usize, n: usize)
     requires { ⌜ (a + n ≤ length (now from)) × (b + n ≤ length (now to)) ⌝ }
@@ -61,16 +52,6 @@ fn copy_part(from: &[i32], a: usize, to: &mut [i32], b: usize, n: usize)
     let e = a + n;
     let f = b + n;
     rowwise::copy(&from[a..e], &mut to[b..f]);
-}
-
-// The same, a row in halves that is lifted on the way.
-fn lift_part(from: &[i32], a: usize, to: &mut [i32], b: usize, n: usize)
-    requires { ⌜ (a + n ≤ length (now from)) × (b + n ≤ length (now to)) ⌝ }
-    ensures { λ _. ⌜ at (now (to .exit)) ≡ spliced b n (liftedInPlace n (windowed a n (at (now (from .entry))))) (at (now (to .entry))) ⌝ }
-{
-    let e = a + n;
-    let f = b + n;
-    rowwise::lift_to(&from[a..e], &mut to[b..f]);
 }
 
 // The same, a row that goes from its own order into halves.
@@ -83,41 +64,27 @@ fn halve_part(from: &[i32], a: usize, to: &mut [i32], b: usize, n: usize)
     rowwise::part_line(&from[a..e], &mut to[b..f]);
 }
 
-// The rows of a level, lifted, to the plane.
-fn store_level(
-    work: &[i32],
-    plane: &mut [i32],
-    stride: usize,
-    across: usize,
-    width: usize,
-    height: usize,
-)
-    requires { ⌜ Rows (length (now work)) stride width height × Rows (length (now plane)) across width height ⌝ }
-    ensures { λ _. ⌜ at (now (plane .exit)) ≡ flat across (rowsStored width height (rowsMapped (liftedInPlace width) width height (cells stride (at (now (work .entry))))) (cells across (at (now (plane .entry))))) ⌝ }
+// A grid from the plane's corner to the work area, its rows one after the other.
+fn save(plane: &[i32], work: &mut [i32], across: usize, width: usize, height: usize)
+    requires { ⌜ Rows (length (now plane)) across width height × Rows (length (now work)) width width height ⌝ }
+    ensures { λ _. ⌜ at (now (work .exit)) ≡ flat width (gridCopied width height (cells across (at (now (plane .entry)))) (cells width (at (now (work .entry))))) ⌝ }
 {
     let mut r = 0;
     while r < height {
-        let a = level_row(height, r) * stride;
-        lift_part(work, a, plane, r * across, width);
+        copy_part(plane, r * across, work, r * width, width);
         r += 1;
     }
 }
 
-// The low-low part of a level, from the plane's corner to the rows of the next level, each in halves.
-fn load_low(
-    plane: &[i32],
-    work: &mut [i32],
-    across: usize,
-    stride: usize,
-    width: usize,
-    height: usize,
-)
-    requires { ⌜ Rows (length (now plane)) across width height × Rows (length (now work)) stride width height ⌝ }
-    ensures { λ _. ⌜ at (now (work .exit)) ≡ flat stride (rowsLoaded width height (cells across (at (now (plane .entry)))) (cells stride (at (now (work .entry))))) ⌝ }
+// And back to the corner as the level takes it: the low rows first, each row in halves.
+fn spread(work: &[i32], plane: &mut [i32], across: usize, width: usize, height: usize)
+    requires { ⌜ Rows (length (now work)) width width height × Rows (length (now plane)) across width height ⌝ }
+    ensures { λ _. ⌜ at (now (plane .exit)) ≡ flat across (gridHalved width height (cells width (at (now (work .entry)))) (cells across (at (now (plane .entry))))) ⌝ }
 {
     let mut r = 0;
     while r < height {
-        halve_part(plane, r * across, work, r * stride, width);
+        let a = level_row(height, r) * width;
+        halve_part(work, a, plane, r * across, width);
         r += 1;
     }
 }
@@ -136,7 +103,7 @@ fn unlift_part(from: &[i32], a: usize, to: &mut [i32], b: usize, n: usize)
 {
     let e = a + n;
     let f = b + n;
-    rowwise::unlift_by(&from[a..e], &mut to[b..f]);
+    halves::unlift_by(&from[a..e], &mut to[b..f]);
 }
 
 // Row r of a level from the plane, an even one from column `from` on, and lifted back. Only what is left of its low half is copied first: the
@@ -190,29 +157,29 @@ fn weave_low(work: &mut [i32], stride: usize, width: usize, height: usize)
     passes::weave_rows(work, 2 * stride, sizes::half(width), sizes::half(height));
 }
 
-// All levels forward: this one, and then the same of its low-low part with the levels left.
+// All levels forward, in the plane's corner: this one, and then the same of its low-low part with the levels left, which goes through the
+// work area into the order that a level takes.
 pub fn forward_levels(
     plane: &mut [i32],
     work: &mut [i32],
     across: usize,
-    stride: usize,
     width: usize,
     height: usize,
     levels: usize,
 )
-    requires { ⌜ Rows (length (now plane)) across width height × Rows (length (now work)) stride width height × Doubling levels stride width ⌝ }
-    ensures { λ _. ⌜ at (now (plane .exit)) ≡ flat across (planeWritten levels width height (levelGrid width (cells stride (at (now (work .entry))))) (cells across (at (now (plane .entry))))) ⌝ }
-    ensures { λ _. ⌜ KeptFrom ((height - 1) * stride + width) (at (now (work .entry))) (at (now (work .exit))) ⌝ }
+    requires { ⌜ Rows (length (now plane)) across width height × Rows (length (now work)) width width height × (0 < levels) ⌝ }
+    ensures { λ _. ⌜ at (now (plane .exit)) ≡ flat across (planeWritten levels width height (cornerGrid width height (cells across (at (now (plane .entry))))) (cells across (at (now (plane .entry))))) ⌝ }
+    ensures { λ _. ⌜ KeptFrom ((height - 1) * width + width) (at (now (work .entry))) (at (now (work .exit))) ⌝ }
 {
-    lift_columns(work, stride, width, height);
-    store_level(work, plane, stride, across, width, height);
-    if levels <= 1 {
+    passes::lift_level(plane, across, width, height);
+    if levels < 2 {
         return;
     }
     let w = sizes::half(width);
     let h = sizes::half(height);
-    load_low(plane, work, across, 2 * stride, w, h);
-    forward_levels(plane, work, across, 2 * stride, w, h, levels - 1);
+    save(plane, work, across, w, h);
+    spread(work, plane, across, w, h);
+    forward_levels(plane, work, across, w, h, levels - 1);
 }
 
 // The largest magnitude of a level's numbers, as the least of them.

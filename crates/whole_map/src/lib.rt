@@ -51,8 +51,8 @@ fn transform(
     ensures { λ _. ⌜ at (now (plane .exit)) ≡ fronted (width * height) (planeOf whole levels width height (cells width (heightsAt (now (heights .entry))))) (at (now (plane .entry))) ⌝ }
     ensures { λ _. ⌜ at (now (work .exit)) ≡ fronted (width * height) zeros (at (now (work .entry))) ⌝ }
 {
-    heights::load_rows(heights, work, width, height);
-    levels::forward_levels(plane, work, width, width, width, height, levels);
+    heights::load_rows(heights, plane, width, height);
+    levels::forward_levels(plane, work, width, width, height, levels);
     rowwise::clear(work, width * height);
 }
 

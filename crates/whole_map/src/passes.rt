@@ -1,16 +1,20 @@
 // Passes over the rows of one area: `height` rows of `width` numbers, `stride` apart. The module is private, as `rowwise` is.
 use crate::rowwise;
+use lifting::line;
 use lifting::rows;
 ghost use mathlib.Core.Path.{_≡_};
-ghost use Prim.Native.Nat.{_+_, _-_, _*_, _<_, _≤_};
+ghost use Prim.Native.Nat.{_+_, _-_, _*_, _<_, _≤_, min};
+ghost use lib.Dec.{ltb};
 ghost use lib.ListN.{length};
-ghost use Rattle.numbers.specs.Signal.{at};
+ghost use Rattle.numbers.specs.Signal.{at, pick};
 ghost use Rattle.numbers.specs.Word.{wrap32};
 ghost use Rattle.lifting.specs.Line.{lo, count, predicted, updated, unupdated, unpredicted};
+ghost use Rattle.lifting.specs.Rows.{rowsChanged};
 ghost use Rattle.wavelet.specs.Limits.{maxWidth};
 ghost use Rattle.wavelet.specs.Plane.{cells, flat};
 ghost use Rattle.whole_map.specs.Rowwise.{wovenInPlace};
-ghost use Rattle.whole_map.specs.Passes.{after, before, oddRowsChanged, evenRowsChanged, nextChanged, pairChanged, rowsMapped, Rows};
+ghost use Rattle.whole_map.specs.Passes.{after, before, nextChanged, pairChanged, rowsMapped, Rows};
+ghost use Rattle.whole_map.specs.LevelPasses.{rowLifted, pairLifted, levelLifted};
 
 // The row after row r of `height` rows, and the row before: mirrored at the ends.
 fn row_after(height: usize, r: usize) -> usize
@@ -26,41 +30,99 @@ fn row_before(r: usize) -> usize
     if 0 < r { r - 1 } else { 1 }
 }
 
-// The row after row r predicted, where there is one, by row r and the row after it.
-fn predict_next(area: &mut [i32], stride: usize, width: usize, height: usize, r: usize)
-    requires { ⌜ (r < height) × (1 < height) ⌝ }
-    ensures { λ _. ⌜ at (now (area .exit)) ≡ nextChanged (predicted wrap32) (length (now (area .entry))) stride width height r (at (now (area .entry))) ⌝ }
+// The low row after low row n of `low`, the last one again after the last; and the high row before high row n, the first one again.
+fn next_low(low: usize, n: usize) -> usize
+    requires { ⌜ n < low ⌝ }
+    ensures { λ r. ⌜ r ≡ min (n + 1) (low - 1) ⌝ }
 {
-    let next = r + 1;
-    if height <= next {
+    if n + 1 < low { n + 1 } else { n }
+}
+
+fn high_before(n: usize) -> usize
+    ensures { λ r. ⌜ r ≡ n - 1 ⌝ }
+{
+    if 0 < n { n - 1 } else { 0 }
+}
+
+// One turn of the columns forward: high row n predicted, and low row n updated. That it is called twice, in the loop and once before it,
+// keeps it from being inlined: in one loop over rows of one area the compiler asks once for all rows whether they overlap, and then leaves
+// vector code (docs/PROVING.md).
+fn lift_pair(area: &mut [i32], stride: usize, width: usize, low: usize, n: usize)
+    requires { ⌜ (n < low) × (low + n ≤ length (now area)) ⌝ }
+    ensures { λ _. ⌜ at (now (area .exit)) ≡ pairLifted (length (now (area .entry))) stride width low n (at (now (area .entry))) ⌝ }
+{
+    rows::predict_row(area, stride, width, low + n, n, next_low(low, n));
+    rows::update_row(area, stride, width, n, low + high_before(n), low + n);
+}
+
+// Row r, in halves, lifted in place. It is called more than once for the same reason.
+fn lift_row(area: &mut [i32], stride: usize, width: usize, r: usize)
+    requires { ⌜ (width ≤ stride) × (r * stride + width ≤ length (now area)) ⌝ }
+    ensures { λ _. ⌜ at (now (area .exit)) ≡ rowLifted stride width r (at (now (area .entry))) ⌝ }
+{
+    let a = r * stride;
+    let e = a + width;
+    line::lift(&mut area[a..e]);
+}
+
+// A pair of rows, and then the low one, which is read no more, lifted itself.
+fn lift_both(area: &mut [i32], stride: usize, width: usize, low: usize, n: usize)
+    requires { ⌜ (n < low) × (low + n ≤ length (now area)) × (width ≤ stride) × (n * stride + width ≤ length (now area)) ⌝ }
+    ensures { λ _. ⌜ at (now (area .exit)) ≡ rowLifted stride width n (pairLifted (length (now (area .entry))) stride width low n (at (now (area .entry)))) ⌝ }
+{
+    lift_pair(area, stride, width, low, n);
+    lift_row(area, stride, width, n);
+}
+
+// One turn: a pair, the low row and the high row before it, which is read no more either.
+fn lift_turn(area: &mut [i32], stride: usize, width: usize, low: usize, n: usize)
+    requires { ⌜ (0 < n) × (n < low) × (low + n ≤ length (now area)) × (width ≤ stride) × (n * stride + width ≤ length (now area)) × ((low + (n - 1)) * stride + width ≤ length (now area)) ⌝ }
+    ensures { λ _. ⌜ at (now (area .exit)) ≡ rowLifted stride width (low + (n - 1)) (rowLifted stride width n (pairLifted (length (now (area .entry))) stride width low n (at (now (area .entry))))) ⌝ }
+{
+    lift_both(area, stride, width, low, n);
+    lift_row(area, stride, width, low + (n - 1));
+}
+
+// The last low row, n, where there is one more than high ones.
+fn lift_odd(area: &mut [i32], stride: usize, width: usize, height: usize, low: usize, n: usize)
+    requires { ⌜ (0 < height) × (width ≤ stride) × (n * stride + width ≤ length (now area)) ⌝ }
+    ensures { λ _. ⌜ at (now (area .exit)) ≡ pick (ltb n low) (rowLifted stride width n (rowsChanged (updated wrap32) (length (now (area .entry))) stride width n (height - 1) (height - 1) (at (now (area .entry))))) (at (now (area .entry))) ⌝ }
+{
+    if low <= n {
         return;
     }
-    rows::predict_row(area, stride, width, next, r, row_after(height, next));
+    rows::update_row(area, stride, width, n, height - 1, height - 1);
+    lift_row(area, stride, width, n);
 }
 
-// One turn of the columns forward: the odd row after row r predicted, and row r updated. That it is called twice, in the loop and once
-// after it, keeps it from being inlined: in one loop over rows of one area the compiler asks once for all rows whether they overlap, and
-// then leaves vector code (docs/PROVING.md).
-fn lift_pair(area: &mut [i32], stride: usize, width: usize, height: usize, r: usize)
-    requires { ⌜ (r < height) × (1 < height) ⌝ }
-    ensures { λ _. ⌜ at (now (area .exit)) ≡ pairChanged (predicted wrap32) (updated wrap32) (length (now (area .entry))) stride width height r (at (now (area .entry))) ⌝ }
-{
-    predict_next(area, stride, width, height, r);
-    rows::update_row(area, stride, width, r, row_before(r), row_after(height, r));
-}
-
-// Columns forward: each odd row predicted by the even rows next to it, each even row updated by the odd rows next to it. Row by row, so
-// that a row is still near when it is used again: an even row changes once the odd row after it is predicted and is read no more.
-pub fn lift_pairs(area: &mut [i32], stride: usize, width: usize, height: usize)
+// A level of more than one row forward, in place. The rows stand as the numbers of a column do, in halves: the low rows first; and each row
+// is in halves. Row by row, so that a row is still near when it is used again.
+fn lift_sweep(area: &mut [i32], stride: usize, width: usize, height: usize)
     requires { ⌜ Rows (length (now area)) stride width height × (1 < height) ⌝ }
-    ensures { λ _. ⌜ at (now (area .exit)) ≡ flat stride (evenRowsChanged (updated wrap32) width height (oddRowsChanged (predicted wrap32) width height (cells stride (at (now (area .entry)))))) ⌝ }
+    ensures { λ _. ⌜ at (now (area .exit)) ≡ flat stride (levelLifted width height (cells stride (at (now (area .entry))))) ⌝ }
 {
-    let mut r = 0;
-    while r + 2 < height {
-        lift_pair(area, stride, width, height, r);
-        r += 2;
+    let high = height / 2;
+    let low = height - high;
+    lift_both(area, stride, width, low, 0);
+    let mut n = 1;
+    while n < high {
+        lift_turn(area, stride, width, low, n);
+        n += 1;
     }
-    lift_pair(area, stride, width, height, r);
+    lift_odd(area, stride, width, height, low, n);
+    lift_row(area, stride, width, height - 1);
+}
+
+// The same, where the one row of a level has only itself.
+pub fn lift_level(area: &mut [i32], stride: usize, width: usize, height: usize)
+    requires { ⌜ Rows (length (now area)) stride width height ⌝ }
+    ensures { λ _. ⌜ at (now (area .exit)) ≡ flat stride (levelLifted width height (cells stride (at (now (area .entry))))) ⌝ }
+{
+    if height < 2 {
+        lift_row(area, stride, width, 0);
+        return;
+    }
+    lift_sweep(area, stride, width, height);
 }
 
 // The row after row r lifted back by the update, where there is one.
@@ -75,8 +137,7 @@ fn unupdate_next(area: &mut [i32], stride: usize, width: usize, height: usize, r
     rows::unupdate_row(area, stride, width, next, r, row_after(height, next));
 }
 
-// One turn of the columns back: the even row after row r first, and then row r. It is called twice for the same reason as `lift_pair`: a
-// call that is inlined into the loop over the rows leaves vector code.
+// One turn of the columns back: the even row after row r first, and then row r. It is called twice for the same reason as `lift_pair`.
 pub fn unlift_pair(area: &mut [i32], stride: usize, width: usize, height: usize, r: usize)
     requires { ⌜ (r < height) × (1 < height) ⌝ }
     ensures { λ _. ⌜ at (now (area .exit)) ≡ pairChanged (unupdated wrap32) (unpredicted wrap32) (length (now (area .entry))) stride width height r (at (now (area .entry))) ⌝ }
@@ -85,16 +146,17 @@ pub fn unlift_pair(area: &mut [i32], stride: usize, width: usize, height: usize,
     rows::unpredict_row(area, stride, width, r, row_before(r), row_after(height, r));
 }
 
-// Each row from halves into its own order.
+// Each row from halves into its own order, through one line for all of them.
 pub fn weave_rows(area: &mut [i32], stride: usize, width: usize, height: usize)
     requires { ⌜ Rows (length (now area)) stride width height × (width ≤ count lo maxWidth) ⌝ }
     ensures { λ _. ⌜ at (now (area .exit)) ≡ flat stride (rowsMapped (wovenInPlace width) width height (cells stride (at (now (area .entry))))) ⌝ }
 {
+    let mut line = [0; rowwise::LONGEST];
     let mut r = 0;
     while r < height {
         let a = r * stride;
         let e = a + width;
-        rowwise::weave(&mut area[a..e]);
+        rowwise::weave(&mut area[a..e], &mut line);
         r += 1;
     }
 }

@@ -2,7 +2,7 @@
 use Prim.Native.Nat.{ℕ, _<_}
 use native.Mathlib.Omega.{arith}
 use lib.ListN.{getD}
-use Rattle.whole_map.proofs.CallLaws.{map-rows, map-doubling, plane-made, work-cleared}
+use Rattle.whole_map.proofs.CallLaws.{map-rows, plane-made, cleared}
 use borrow.Author.Needs.{needs}
 use Rattle.whole_map.proofs.transform.Statement.{statement}
 use Rattle.whole_map.proofs.transform.Tie as tie
@@ -10,14 +10,14 @@ use Rattle.whole_map.proofs.transform.Tie as tie
 load-rows-requires : tie.Need-load-rows-requires
 load-rows-requires c κs =
     let start = c .before .before in
-    (map-rows _ _ _ _ (start .pre .0) (start .pre .1), map-rows _ _ _ _ (start .pre .0) (start .pre .3))
+    (map-rows _ _ _ _ (start .pre .0) (start .pre .1), map-rows _ _ _ _ (start .pre .0) (start .pre .2))
 
 forward-levels-requires : tie.Need-forward-levels-requires
 forward-levels-requires c κs =
     let load = c .before .before .before in
     let start = load .before .before .before in
     let s = start .pre .0 in
-    (map-rows _ _ _ _ s (start .pre .2), rw (load .load-rows .kept .1 .0) (map-rows _ _ _ _ s (start .pre .3)), map-doubling _ _ _ s)
+    (rw (load .load-rows .kept .1 .0) (map-rows _ _ _ _ s (start .pre .2)), map-rows _ _ _ _ s (start .pre .3), omega (arith, s .levels .0))
 
 mul-clear : tie.Need-mul-clear
 mul-clear c = search needs
@@ -37,11 +37,10 @@ returns c =
     let load = levels .before .before .before .before in
     let start = load .before .before .before in
     let s = start .pre .0 in
-    let R = map-rows _ _ _ _ s (start .pre .3) in
     let fits : (i : ℕ) → getD (start .args .heights .now) i 0 < 65536 =
     λ i. omega (arith, load .before .before .shared-slice-known .given i) in (
-      plane-made _ _ _ (start .args .heights .now) _ _ s (load .load-rows .ensures) _ _ fits (levels .forward-levels .ensures .0),
-      work-cleared _ _ _ (start .args .heights .now) _ _ s (load .load-rows .ensures) _ _ _ R (levels .forward-levels .ensures .1) (c .before .clear .ensures),
+      plane-made _ _ _ (start .args .heights .now) _ _ s (load .load-rows .ensures) _ fits (levels .forward-levels .ensures .0),
+      cleared _ _ _ _ _ (s .height .0) (levels .forward-levels .ensures .1) (c .before .clear .ensures),
     )
 
 pub transform-spec : {M : Type 1} → statement M

@@ -7,15 +7,16 @@ use Rattle.numbers.specs.Signal.{at}
 use Rattle.numbers.proofs.Sweep.{Swept, start, store, finish}
 use Rattle.whole_map.specs.Rowwise.{heightsAt}
 use Rattle.whole_map.proofs.HeightLaws.{height-fits, height-read}
-use Rattle.lifting.specs.Passes.{evensCopied}
+use Rattle.lifting.specs.Line.{lo, count, parted}
+use Rattle.lifting.specs.Halves.{fronted}
 use Rattle.lifting.proofs.LineLaws.{count-lo}
-use Rattle.lifting.proofs.AreaLaws.{evens-in, evens-past}
+use Rattle.whole_map.proofs.RowwiseLaws.{front-rest, evens-in}
 use Rattle.whole_map.proofs.heights.load_evens.Statement.{statement}
 use Rattle.whole_map.proofs.heights.load_evens.Tie as tie
 
 abbrev Inv-loop : tie.InvT-loop
 Inv-loop heights row₀ n low j₀ row j =
-    (j ≤ low) × Swept (length row₀) (evensCopied (length heights) (heightsAt heights) (at row₀)) (at row₀) j row
+    (j ≤ low) × Swept (length row₀) (fronted (count lo (length heights)) (parted (heightsAt heights) lo) (at row₀)) (at row₀) j row
 
 abbrev μ-loop : tie.MeasureT-loop
 μ-loop heights row₀ n low j₀ row j = low - j
@@ -66,7 +67,7 @@ same-length c = c .before .loop .inv .1 .size
 returns : tie.Need-returns Inv-loop μ-loop
 returns c =
     let N = length (c .before .before .args .heights .now) in
-    finish (c .before .loop .inv .1) (λ j le. evens-past N _ _ j (omega (arith, count-lo N)))
+    finish (c .before .loop .inv .1) (λ j le. front-rest (count lo N) _ _ j (omega (arith, count-lo N)))
 
 pub load-evens-spec : {M : Type 1} → statement M
 load-evens-spec =

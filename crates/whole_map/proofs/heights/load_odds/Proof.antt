@@ -3,19 +3,19 @@ use mathlib.Core.Path.{sym}
 use Prim.Native.Nat.{_+_, _-_, _*_, _≤_}
 use native.Mathlib.Omega.{arith}
 use lib.ListN.{length, getD}
-use Rattle.numbers.specs.Signal.{at}
+use Rattle.numbers.specs.Signal.{at, spliced}
 use Rattle.numbers.proofs.Sweep.{Swept, start, finish}
 use Rattle.whole_map.specs.Rowwise.{heightsAt}
 use Rattle.whole_map.proofs.HeightLaws.{height-fits, height-read}
-use Rattle.lifting.specs.Passes.{oddsCopied}
+use Rattle.lifting.specs.Line.{lo, hi, count, parted}
 use Rattle.lifting.proofs.LineLaws.{count-lo, count-hi}
-use Rattle.lifting.proofs.AreaLaws.{odds-low, odds-past, odds-turn}
+use Rattle.whole_map.proofs.RowwiseLaws.{odds-low, odds-past, odds-turn}
 use Rattle.whole_map.proofs.heights.load_odds.Statement.{statement}
 use Rattle.whole_map.proofs.heights.load_odds.Tie as tie
 
 abbrev Inv-loop : tie.InvT-loop
 Inv-loop heights row₀ n high low j₀ row j =
-    (j ≤ high) × Swept (length row₀) (oddsCopied (length heights) (heightsAt heights) (at row₀)) (at row₀) (low + j) row
+    (j ≤ high) × Swept (length row₀) (spliced (count lo (length heights)) (count hi (length heights)) (parted (heightsAt heights) hi) (at row₀)) (at row₀) (low + j) row
 
 abbrev μ-loop : tie.MeasureT-loop
 μ-loop heights row₀ n high low j₀ row j = high - j

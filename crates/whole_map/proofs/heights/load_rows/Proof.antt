@@ -1,94 +1,114 @@
--- `whole_map::heights::load_rows` meets its contract: a pass over all rows of the work area, each lent as a part. Assumes nothing.
-use Prim.Native.Nat.{_+_, _-_, _*_, _≤_}
+-- `whole_map::heights::load_rows` meets its contract: two rows a turn, and the last of an odd number. Assumes nothing.
+use mathlib.Core.Path.{_≡_, refl, sym, _∙_}
+use Prim.Native.Nat.{_+_, _-_, _/_, _≤_}
 use native.Mathlib.Omega.{arith}
 use lib.ListN.{length}
 use Rattle.numbers.specs.Signal.{at}
+use Rattle.lifting.specs.Line.{lo, hi, count}
+use Rattle.lifting.proofs.LineLaws.{count-lo}
 use Rattle.wavelet.specs.Plane.{cells}
 use Rattle.whole_map.specs.Rowwise.{heightsAt}
-use Rattle.whole_map.specs.Passes.{rowsLoaded}
-use Rattle.whole_map.proofs.GridSweep.{Passed, pass-start, pass-room, pass-end, row-room, row-length}
-use Rattle.whole_map.proofs.HeightRows.{heights-length, loaded-past, load-turn}
+use Rattle.whole_map.specs.Passes.{Rows}
+use Rattle.whole_map.proofs.GridSweep.{row-room, few, fronts-start}
+use Rattle.whole_map.proofs.LevelCalls.{Laid, laid-turn, laid-even, laid-odd}
 use Rattle.whole_map.proofs.heights.load_rows.Statement.{statement}
 use Rattle.whole_map.proofs.heights.load_rows.Tie as tie
 
 abbrev Inv-loop : tie.InvT-loop
-Inv-loop heights work₀ width height r₀ work r =
-    (r ≤ height) × Passed width width height (rowsLoaded width height (cells width (heightsAt heights)) (cells width (at work₀))) work₀ r work
+Inv-loop heights plane₀ width height high low n₀ plane n =
+    (n ≤ high)
+    × (high ≡ count hi height)
+    × (low ≡ count lo height)
+    × (low + high ≡ height)
+    × (height ≤ length plane₀ + 1)
+    × (length plane ≡ length plane₀)
+    × Rows (length heights) width width height
+    × Rows (length plane₀) width width height
+    × Laid width height (cells width (heightsAt heights)) (at plane₀) n (at plane)
 
 abbrev μ-loop : tie.MeasureT-loop
-μ-loop heights work₀ width height r₀ work r = height - r
+μ-loop heights plane₀ width height high low n₀ plane n = high - n
+
+sub-low : tie.Need-sub-low Inv-loop μ-loop
+sub-low c = omega arith
 
 loop-holds : tie.Need-loop-holds Inv-loop μ-loop
-loop-holds c = (omega arith, pass-start _ _ _ _ _ 0 (c .before .pre .1) (λ r k lt. absurd (omega arith)))
+unfolding count
+loop-holds c =
+    let start = c .before in
+    (omega arith, refl, sym (count-lo (start .args .height)), omega arith, few _ _ _ _ (start .pre .1), refl, start .pre .0, start .pre .1, fronts-start _ _ _ _)
 
-room : (c : tie.In-loop Inv-loop μ-loop) → (c .before .loop .r * c .before .before .before .args .width + c .before .before .before .args .width ≤ length (c .before .loop .work)) × (c .before .loop .r * c .before .before .before .args .width + c .before .before .before .args .width ≤ length (c .before .before .before .args .heights .now))
-room c =
-    (pass-room (c .before .loop .inv .1) (c .loop-test .taken), row-room _ _ _ _ _ (c .before .before .before .pre .0) (c .loop-test .taken))
+mul-load-to : tie.Need-mul-load-to Inv-loop μ-loop
+mul-load-to c = omega arith
 
-mul-a : tie.Need-mul-a Inv-loop μ-loop
-mul-a c = omega (arith, room c)
+load-to-requires : tie.Need-load-to-requires Inv-loop μ-loop
+load-to-requires c κs =
+    let inv = c .before .before .loop .inv in
+    (inv .6 .apart, row-room _ _ _ _ _ (inv .6) (omega arith), omega (arith, row-room _ _ _ _ (c .before .before .loop .n) (inv .7) (omega arith), inv .5))
 
-add-e : tie.Need-add-e Inv-loop μ-loop
-add-e c = omega (arith, room c)
+mul-load-to-2 : tie.Need-mul-load-to-2 Inv-loop μ-loop
+mul-load-to-2 c = omega arith
 
-mul-load-row : tie.Need-mul-load-row Inv-loop μ-loop
-mul-load-row c = omega (arith, room c)
+add-load-to : tie.Need-add-load-to Inv-loop μ-loop
+add-load-to c = omega arith
 
-sub-load-row : tie.Need-sub-load-row Inv-loop μ-loop
-sub-load-row c = omega arith
+add-load-to-2 : tie.Need-add-load-to-2 Inv-loop μ-loop
+add-load-to-2 c = omega arith
 
-part-load-row-start : tie.Need-part-load-row-start Inv-loop μ-loop
-part-load-row-start c = omega arith
+load-to-requires-2 : tie.Need-load-to-requires-2 Inv-loop μ-loop
+load-to-requires-2 c κs =
+    let first = c .before .before in
+    let head = first .before .before .before in
+    let inv = head .loop .inv in
+    let size : length (first .load-to .last .1 .1 .0) ≡ length (head .before .before .args .plane .now) = first .load-to .kept .1 .1 .0 ∙ inv .5 in
+    let h = head .before .before .args .height in
+    (inv .6 .apart, row-room _ _ _ _ _ (inv .6) (omega arith), omega (arith, row-room _ _ _ _ (h - h / 2 + head .loop .n) (inv .7) (omega arith), size))
 
-part-load-row-end : tie.Need-part-load-row-end Inv-loop μ-loop
-part-load-row-end c = omega (arith, room c)
-
-mul-load-row-2 : tie.Need-mul-load-row-2 Inv-loop μ-loop
-mul-load-row-2 c = omega (arith, room (c .before))
-
-sub-load-row-2 : tie.Need-sub-load-row-2 Inv-loop μ-loop
-sub-load-row-2 c = omega arith
-
-part-load-row-start-2 : tie.Need-part-load-row-start-2 Inv-loop μ-loop
-part-load-row-start-2 c = omega arith
-
-part-load-row-end-2 : tie.Need-part-load-row-end-2 Inv-loop μ-loop
-part-load-row-end-2 c = omega (arith, room (c .before))
-
-load-row-requires : tie.Need-load-row-requires Inv-loop μ-loop
-load-row-requires c κs =
-    let row = c .before .before in
-    let args = row .before .before .before .args in
-    let w = args .width in
-    let i = row .before .loop .r in
-    let a = i * w in
-    let n = heights-length w w (args .height) i (a + w - a) (omega arith) (row .loop-test .taken) (args .heights .now) (row .before .before .before .pre .0) in
-    let m = row-length w w _ _ _ i (a + w - a) _ (omega arith) (row .loop-test .taken) (row .before .loop .inv .1) in
-    omega arith
-
-add-r : tie.Need-add-r Inv-loop μ-loop
-add-r c = omega arith
+add-n : tie.Need-add-n Inv-loop μ-loop
+add-n c = omega arith
 
 loop-less : tie.Need-loop-less Inv-loop μ-loop
 loop-less c = omega arith
 
 loop-again : tie.Need-loop-again Inv-loop μ-loop
 loop-again c =
-    let part = c .before .load-row in
-    let row = c .before .before .before .before in
-    let head = row .before in
-    let start = head .before .before in
-    let w = start .args .width in
-    let a = head .loop .r * w in (
+    let second = c .before in
+    let first = second .before .before .before in
+    let head = first .before .before .before in
+    let inv = head .loop .inv in (
       omega arith,
-      load-turn w _ (start .args .heights .now) _ _ (a + w - a) _ (part .last .1 .0) (omega arith) (row .loop-test .taken) (start .pre .0) (part .kept .1 .0) (part .ensures) (head .loop .inv .1),
+      inv .1,
+      inv .2,
+      inv .3,
+      inv .4,
+      second .load-to2 .kept .1 .1 .0 ∙ first .load-to .kept .1 .1 .0 ∙ inv .5,
+      inv .6,
+      inv .7,
+      laid-turn _ _ _ _ _ _ _ _ _ (inv .2) (omega arith) (first .load-to .ensures) (second .load-to2 .ensures) (inv .8),
     )
 
+mul-load-to-3 : tie.Need-mul-load-to-3 Inv-loop μ-loop
+mul-load-to-3 c = omega arith
+
+load-to-requires-3 : tie.Need-load-to-requires-3 Inv-loop μ-loop
+load-to-requires-3 c κs =
+    let inv = c .before .before .before .loop .inv in
+    (inv .6 .apart, row-room _ _ _ _ _ (inv .6) (omega arith), omega (arith, row-room _ _ _ _ (c .before .before .before .loop .n) (inv .7) (omega arith), inv .5))
+
 same-length : tie.Need-same-length Inv-loop μ-loop
-same-length c = c .before .loop .inv .1 .size
+same-length c = let called = c .before in called .load-to3 .kept .1 .1 .0 ∙ called .before .before .before .before .loop .inv .5
 
 returns : tie.Need-returns Inv-loop μ-loop
-returns c = pass-end (c .before .loop .inv .1) (λ r k le. loaded-past _ _ _ _ r k (omega arith))
+returns c =
+    let called = c .before in
+    let inv = called .before .before .before .before .loop .inv in
+    laid-odd _ _ _ _ _ _ _ (inv .6 .apart) (omega arith) (omega arith) (called .load-to3 .ensures) (inv .8)
+
+same-length-2 : tie.Need-same-length-2 Inv-loop μ-loop
+same-length-2 c = c .before .before .loop .inv .5
+
+returns-2 : tie.Need-returns-2 Inv-loop μ-loop
+returns-2 c = let inv = c .before .before .loop .inv in laid-even _ _ _ _ _ _ (inv .6 .apart) (omega arith) (inv .8)
 
 pub load-rows-spec : {M : Type 1} → statement M
 load-rows-spec =
@@ -96,20 +116,20 @@ load-rows-spec =
     (tie.spec
     Inv-loop
     μ-loop
+    sub-low
     loop-holds
-    mul-a
-    add-e
-    mul-load-row
-    sub-load-row
-    part-load-row-start
-    part-load-row-end
-    mul-load-row-2
-    sub-load-row-2
-    part-load-row-start-2
-    part-load-row-end-2
-    load-row-requires
-    add-r
+    mul-load-to
+    load-to-requires
+    mul-load-to-2
+    add-load-to
+    add-load-to-2
+    load-to-requires-2
+    add-n
     loop-less
     loop-again
+    mul-load-to-3
+    load-to-requires-3
     same-length
-    returns)
+    returns
+    same-length-2
+    returns-2)

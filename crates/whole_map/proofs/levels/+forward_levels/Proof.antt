@@ -1,8 +1,8 @@
 -- `levels::forward_levels` meets its contract: this level, and then the low-low part by the levels left, which fall. Assumes nothing.
-use mathlib.Core.Path.{_∙_}
+use mathlib.Core.Path.{refl, _∙_}
 use native.Mathlib.Omega.{arith}
 use borrow.Author.Needs.{needs}
-use Rattle.whole_map.proofs.LevelSteps.{stride-small, doubled, rows-next, rows-corner, forward-end, forward-step}
+use Rattle.whole_map.proofs.LevelSteps.{own-rows, rows-corner, forward-end, forward-step}
 use Prim.Native.Nat.{ℕ, _<_}
 use borrow.Fn.Kinds.{In}
 use borrow.Fn.PlainCycle.{Measures, is, falls, and}
@@ -10,14 +10,14 @@ use Rattle.whole_map.proofs.levels.forward_levels.Reads as forward-leve
 use Rattle.whole_map.proofs.levels.forward_levels.Kinds as forward-levels-kinds
 use Rattle.whole_map.proofs.levels.+forward_levels.Lts-forward_levels as forward-levels-lts
 use Rattle.wavelet.proofs.sizes.half.Reads as half-reads
-use Rattle.whole_map.proofs.levels.lift_columns.Reads as lift-columns-reads
-use Rattle.whole_map.proofs.levels.load_low.Reads as load-low-reads
-use Rattle.whole_map.proofs.levels.store_level.Reads as store-level-reads
+use Rattle.whole_map.proofs.passes.lift_level.Reads as lift-level-reads
+use Rattle.whole_map.proofs.levels.save.Reads as save-reads
+use Rattle.whole_map.proofs.levels.spread.Reads as spread-reads
 use Rattle.whole_map.proofs.levels.+forward_levels.{statement}
 use Rattle.whole_map.proofs.levels.+forward_levels.Tie.{close}
 
 abbrev μ-forward-levels : Measures 2 forward-levels-kinds.ps ℕ
-μ-forward-levels κs a = a .1 .1 .1 .1 .1 .1 .0
+μ-forward-levels κs a = a .1 .1 .1 .1 .1 .0
 
 abbrev forward-levels-at : ℕ → In 2 forward-levels-kinds.ps
 forward-levels-at t =
@@ -35,285 +35,236 @@ forward-levels-below t =
     (falls 2 forward-levels-kinds.ps _<_ μ-forward-levels t)
     forward-levels.Pre
 
-forward-levels-lift-columns-requires : (t : ℕ) → forward-levels-lts.Need-lift-columns-requires (
-  lift-columns-reads.Asked,
-  lift-columns-reads.Learnt,
-  store-level-reads.Asked,
-  store-level-reads.Learnt,
+forward-levels-lift-level-requires : (t : ℕ) → forward-levels-lts.Need-lift-level-requires (
+  lift-level-reads.Asked,
+  lift-level-reads.Learnt,
   half-reads.Asked,
   half-reads.Learnt,
-  load-low-reads.Asked,
-  load-low-reads.Learnt,
+  save-reads.Asked,
+  save-reads.Learnt,
+  spread-reads.Asked,
+  spread-reads.Learnt,
   forward-levels-below t,
   forward-levels.Post,
 ) (forward-levels-at t) forward-levels.Post
-forward-levels-lift-columns-requires t c κs = search needs
-
-forward-levels-store-level-requires : (t : ℕ) → forward-levels-lts.Need-store-level-requires (
-  lift-columns-reads.Asked,
-  lift-columns-reads.Learnt,
-  store-level-reads.Asked,
-  store-level-reads.Learnt,
-  half-reads.Asked,
-  half-reads.Learnt,
-  load-low-reads.Asked,
-  load-low-reads.Learnt,
-  forward-levels-below t,
-  forward-levels.Post,
-) (forward-levels-at t) forward-levels.Post
-forward-levels-store-level-requires t c κs = search needs
+forward-levels-lift-level-requires t c κs = c .before .pre .1 .0
 
 forward-levels-same-length : (t : ℕ) → forward-levels-lts.Need-same-length (
-  lift-columns-reads.Asked,
-  lift-columns-reads.Learnt,
-  store-level-reads.Asked,
-  store-level-reads.Learnt,
+  lift-level-reads.Asked,
+  lift-level-reads.Learnt,
   half-reads.Asked,
   half-reads.Learnt,
-  load-low-reads.Asked,
-  load-low-reads.Learnt,
+  save-reads.Asked,
+  save-reads.Learnt,
+  spread-reads.Asked,
+  spread-reads.Learnt,
   forward-levels-below t,
   forward-levels.Post,
 ) (forward-levels-at t) forward-levels.Post
 forward-levels-same-length t c = search needs
 
-forward-levels-same-length-2 : (t : ℕ) → forward-levels-lts.Need-same-length-2 (
-  lift-columns-reads.Asked,
-  lift-columns-reads.Learnt,
-  store-level-reads.Asked,
-  store-level-reads.Learnt,
-  half-reads.Asked,
-  half-reads.Learnt,
-  load-low-reads.Asked,
-  load-low-reads.Learnt,
-  forward-levels-below t,
-  forward-levels.Post,
-) (forward-levels-at t) forward-levels.Post
-forward-levels-same-length-2 t c = search needs
-
 forward-levels-returns : (t : ℕ) → forward-levels-lts.Need-returns (
-  lift-columns-reads.Asked,
-  lift-columns-reads.Learnt,
-  store-level-reads.Asked,
-  store-level-reads.Learnt,
+  lift-level-reads.Asked,
+  lift-level-reads.Learnt,
   half-reads.Asked,
   half-reads.Learnt,
-  load-low-reads.Asked,
-  load-low-reads.Learnt,
+  save-reads.Asked,
+  save-reads.Learnt,
+  spread-reads.Asked,
+  spread-reads.Learnt,
   forward-levels-below t,
   forward-levels.Post,
 ) (forward-levels-at t) forward-levels.Post
 forward-levels-returns t c =
-    let store = c .before .before in
-    let lift = store .before .before .before .before in
+    let lift = c .before .before in
     let start = lift .before .before in
-    forward-end _ _ _ _ _ _ _ _ _ (start .pre .1 .1) (start .pre .1 .0 .wide) (start .pre .1 .0 .apart) (lift .lift-columns .ensures) (store .store-level .ensures) _ (start .pre .1 .2 .some) (omega (arith, c .if1 .taken))
+    let R = start .pre .1 .0 in
+    (forward-end _ _ _ _ _ (R .wide) (R .apart) (lift .lift-level .ensures) _ (start .pre .1 .2) (c .if1 .taken), record { kept = λ j b. refl })
 
 forward-levels-half-requires : (t : ℕ) → forward-levels-lts.Need-half-requires (
-  lift-columns-reads.Asked,
-  lift-columns-reads.Learnt,
-  store-level-reads.Asked,
-  store-level-reads.Learnt,
+  lift-level-reads.Asked,
+  lift-level-reads.Learnt,
   half-reads.Asked,
   half-reads.Learnt,
-  load-low-reads.Asked,
-  load-low-reads.Learnt,
+  save-reads.Asked,
+  save-reads.Learnt,
+  spread-reads.Asked,
+  spread-reads.Learnt,
   forward-levels-below t,
   forward-levels.Post,
 ) (forward-levels-at t) forward-levels.Post
 forward-levels-half-requires t c κs = search needs
 
 forward-levels-half-requires-2 : (t : ℕ) → forward-levels-lts.Need-half-requires-2 (
-  lift-columns-reads.Asked,
-  lift-columns-reads.Learnt,
-  store-level-reads.Asked,
-  store-level-reads.Learnt,
+  lift-level-reads.Asked,
+  lift-level-reads.Learnt,
   half-reads.Asked,
   half-reads.Learnt,
-  load-low-reads.Asked,
-  load-low-reads.Learnt,
+  save-reads.Asked,
+  save-reads.Learnt,
+  spread-reads.Asked,
+  spread-reads.Learnt,
   forward-levels-below t,
   forward-levels.Post,
 ) (forward-levels-at t) forward-levels.Post
 forward-levels-half-requires-2 t c κs = search needs
 
-forward-levels-mul-load-low : (t : ℕ) → forward-levels-lts.Need-mul-load-low (
-  lift-columns-reads.Asked,
-  lift-columns-reads.Learnt,
-  store-level-reads.Asked,
-  store-level-reads.Learnt,
+forward-levels-save-requires : (t : ℕ) → forward-levels-lts.Need-save-requires (
+  lift-level-reads.Asked,
+  lift-level-reads.Learnt,
   half-reads.Asked,
   half-reads.Learnt,
-  load-low-reads.Asked,
-  load-low-reads.Learnt,
+  save-reads.Asked,
+  save-reads.Learnt,
+  spread-reads.Asked,
+  spread-reads.Learnt,
   forward-levels-below t,
   forward-levels.Post,
 ) (forward-levels-at t) forward-levels.Post
-forward-levels-mul-load-low t c =
+forward-levels-save-requires t c κs =
     let half2 = c .before .before in
-    let store = half2 .before .before .before .before in
-    let lift = store .before .before .before .before in
-    let start = lift .before .before in
-    omega (arith, stride-small _ _ _ (start .pre .1 .2))
-
-forward-levels-load-low-requires : (t : ℕ) → forward-levels-lts.Need-load-low-requires (
-  lift-columns-reads.Asked,
-  lift-columns-reads.Learnt,
-  store-level-reads.Asked,
-  store-level-reads.Learnt,
-  half-reads.Asked,
-  half-reads.Learnt,
-  load-low-reads.Asked,
-  load-low-reads.Learnt,
-  forward-levels-below t,
-  forward-levels.Post,
-) (forward-levels-at t) forward-levels.Post
-forward-levels-load-low-requires t c κs =
-    let half2 = c .before .before in
-    let store = half2 .before .before .before .before in
-    let lift = store .before .before .before .before in
+    let lift = half2 .before .before .before .before in
     let start = lift .before .before in (
-      rows-corner _ _ _ _ _ _ _ (store .store-level .kept .1 .0) (half2 .before .half .ensures) (half2 .half2 .ensures) (start .pre .1 .0),
-      rows-next _ _ _ _ _ _ _ (lift .lift-columns .kept .0) (half2 .before .half .ensures) (half2 .half2 .ensures) (start .pre .1 .1),
+      rows-corner _ _ _ _ _ _ _ (lift .lift-level .kept .0) (half2 .before .half .ensures) (half2 .half2 .ensures) (start .pre .1 .0),
+      own-rows _ _ _ _ _ _ refl (half2 .before .half .ensures) (half2 .half2 .ensures) (start .pre .1 .1),
     )
 
-forward-levels-mul-forward-levels : (t : ℕ) → forward-levels-lts.Need-mul-forward-levels (
-  lift-columns-reads.Asked,
-  lift-columns-reads.Learnt,
-  store-level-reads.Asked,
-  store-level-reads.Learnt,
+forward-levels-spread-requires : (t : ℕ) → forward-levels-lts.Need-spread-requires (
+  lift-level-reads.Asked,
+  lift-level-reads.Learnt,
   half-reads.Asked,
   half-reads.Learnt,
-  load-low-reads.Asked,
-  load-low-reads.Learnt,
+  save-reads.Asked,
+  save-reads.Learnt,
+  spread-reads.Asked,
+  spread-reads.Learnt,
   forward-levels-below t,
   forward-levels.Post,
 ) (forward-levels-at t) forward-levels.Post
-forward-levels-mul-forward-levels t c =
-    let load = c .before .before .before in
-    let half2 = load .before .before .before in
-    let store = half2 .before .before .before .before in
-    let lift = store .before .before .before .before in
-    let start = lift .before .before in
-    omega (arith, stride-small _ _ _ (start .pre .1 .2))
+forward-levels-spread-requires t c κs =
+    let save = c .before .before .before in
+    let half2 = save .before .before .before in
+    let lift = half2 .before .before .before .before in
+    let start = lift .before .before in (
+      own-rows _ _ _ _ _ _ (save .save .kept .1 .0) (half2 .before .half .ensures) (half2 .half2 .ensures) (start .pre .1 .1),
+      rows-corner _ _ _ _ _ _ _ (lift .lift-level .kept .0) (half2 .before .half .ensures) (half2 .half2 .ensures) (start .pre .1 .0),
+    )
 
 forward-levels-sub-forward-levels : (t : ℕ) → forward-levels-lts.Need-sub-forward-levels (
-  lift-columns-reads.Asked,
-  lift-columns-reads.Learnt,
-  store-level-reads.Asked,
-  store-level-reads.Learnt,
+  lift-level-reads.Asked,
+  lift-level-reads.Learnt,
   half-reads.Asked,
   half-reads.Learnt,
-  load-low-reads.Asked,
-  load-low-reads.Learnt,
+  save-reads.Asked,
+  save-reads.Learnt,
+  spread-reads.Asked,
+  spread-reads.Learnt,
   forward-levels-below t,
   forward-levels.Post,
 ) (forward-levels-at t) forward-levels.Post
-forward-levels-sub-forward-levels t c = search needs
+forward-levels-sub-forward-levels t c = omega arith
 
 forward-levels-forward-levels-requires : (t : ℕ) → forward-levels-lts.Need-forward-levels-requires (
-  lift-columns-reads.Asked,
-  lift-columns-reads.Learnt,
-  store-level-reads.Asked,
-  store-level-reads.Learnt,
+  lift-level-reads.Asked,
+  lift-level-reads.Learnt,
   half-reads.Asked,
   half-reads.Learnt,
-  load-low-reads.Asked,
-  load-low-reads.Learnt,
+  save-reads.Asked,
+  save-reads.Learnt,
+  spread-reads.Asked,
+  spread-reads.Learnt,
   forward-levels-below t,
   forward-levels.Post,
 ) (forward-levels-at t) forward-levels.Post
 forward-levels-forward-levels-requires t c κs =
-    let load = c .before .before .before in
-    let half2 = load .before .before .before in
-    let store = half2 .before .before .before .before in
-    let lift = store .before .before .before .before in
+    let spread = c .before .before .before in
+    let save = spread .before .before .before .before in
+    let half2 = save .before .before .before in
+    let lift = half2 .before .before .before .before in
     let start = lift .before .before in (
       omega arith,
       (
-        rows-corner _ _ _ _ _ _ _ (store .store-level .kept .1 .0) (half2 .before .half .ensures) (half2 .half2 .ensures) (start .pre .1 .0),
-        rows-next _ _ _ _ _ _ _ (load .load-low .kept .1 .0 ∙ lift .lift-columns .kept .0) (half2 .before .half .ensures) (half2 .half2 .ensures) (start .pre .1 .1),
-        doubled _ _ _ _ (start .pre .1 .2) (half2 .before .before .if1 .left) (half2 .before .half .ensures),
+        rows-corner _ _ _ _ _ _ _ (spread .spread .kept .1 .0 ∙ lift .lift-level .kept .0) (half2 .before .half .ensures) (half2 .half2 .ensures) (start .pre .1 .0),
+        own-rows _ _ _ _ _ _ (save .save .kept .1 .0) (half2 .before .half .ensures) (half2 .half2 .ensures) (start .pre .1 .1),
+        omega (arith, half2 .before .before .if1 .left),
       ),
     )
 
-forward-levels-same-length-3 : (t : ℕ) → forward-levels-lts.Need-same-length-3 (
-  lift-columns-reads.Asked,
-  lift-columns-reads.Learnt,
-  store-level-reads.Asked,
-  store-level-reads.Learnt,
+forward-levels-same-length-2 : (t : ℕ) → forward-levels-lts.Need-same-length-2 (
+  lift-level-reads.Asked,
+  lift-level-reads.Learnt,
   half-reads.Asked,
   half-reads.Learnt,
-  load-low-reads.Asked,
-  load-low-reads.Learnt,
+  save-reads.Asked,
+  save-reads.Learnt,
+  spread-reads.Asked,
+  spread-reads.Learnt,
+  forward-levels-below t,
+  forward-levels.Post,
+) (forward-levels-at t) forward-levels.Post
+forward-levels-same-length-2 t c = search needs
+
+forward-levels-same-length-3 : (t : ℕ) → forward-levels-lts.Need-same-length-3 (
+  lift-level-reads.Asked,
+  lift-level-reads.Learnt,
+  half-reads.Asked,
+  half-reads.Learnt,
+  save-reads.Asked,
+  save-reads.Learnt,
+  spread-reads.Asked,
+  spread-reads.Learnt,
   forward-levels-below t,
   forward-levels.Post,
 ) (forward-levels-at t) forward-levels.Post
 forward-levels-same-length-3 t c = search needs
 
-forward-levels-same-length-4 : (t : ℕ) → forward-levels-lts.Need-same-length-4 (
-  lift-columns-reads.Asked,
-  lift-columns-reads.Learnt,
-  store-level-reads.Asked,
-  store-level-reads.Learnt,
-  half-reads.Asked,
-  half-reads.Learnt,
-  load-low-reads.Asked,
-  load-low-reads.Learnt,
-  forward-levels-below t,
-  forward-levels.Post,
-) (forward-levels-at t) forward-levels.Post
-forward-levels-same-length-4 t c = search needs
-
 forward-levels-returns-2 : (t : ℕ) → forward-levels-lts.Need-returns-2 (
-  lift-columns-reads.Asked,
-  lift-columns-reads.Learnt,
-  store-level-reads.Asked,
-  store-level-reads.Learnt,
+  lift-level-reads.Asked,
+  lift-level-reads.Learnt,
   half-reads.Asked,
   half-reads.Learnt,
-  load-low-reads.Asked,
-  load-low-reads.Learnt,
+  save-reads.Asked,
+  save-reads.Learnt,
+  spread-reads.Asked,
+  spread-reads.Learnt,
   forward-levels-below t,
   forward-levels.Post,
 ) (forward-levels-at t) forward-levels.Post
 forward-levels-returns-2 t c =
     let again = c .before .before in
-    let load = again .before .before .before .before in
-    let half2 = load .before .before .before in
-    let store = half2 .before .before .before .before in
-    let lift = store .before .before .before .before in
+    let spread = again .before .before .before .before in
+    let save = spread .before .before .before .before in
+    let half2 = save .before .before .before in
+    let lift = half2 .before .before .before .before in
     let start = lift .before .before in
-    forward-step _ _ _ _ _ _ _ _ _ (start .pre .1 .1) (start .pre .1 .0 .wide) (start .pre .1 .0 .apart) (lift .lift-columns .ensures) (store .store-level .ensures)
-    _ _ _ _ _ _ (half2 .before .before .if1 .left) (half2 .before .half .ensures) (half2 .half2 .ensures) (load .load-low .ensures) (again .forward-levels .ensures .0) (again .forward-levels .ensures .1)
+    let R = start .pre .1 .0 in
+    forward-step _ _ _ _ _ (R .wide) (R .apart) (lift .lift-level .ensures) _ _ _ _ _ _ _ _ _ (start .pre .1 .1) (half2 .before .before .if1 .left) (half2 .before .half .ensures) (half2 .half2 .ensures)
+    (save .save .ensures) (spread .spread .ensures) (again .forward-levels .ensures .0) (again .forward-levels .ensures .1)
 
 pub +forward-levels-spec : {M : Type 1} → statement M
 +forward-levels-spec = close μ-forward-levels λ t. forward-levels-lts.spec (
-  lift-columns-reads.Asked,
-  lift-columns-reads.Learnt,
-  store-level-reads.Asked,
-  store-level-reads.Learnt,
+  lift-level-reads.Asked,
+  lift-level-reads.Learnt,
   half-reads.Asked,
   half-reads.Learnt,
-  load-low-reads.Asked,
-  load-low-reads.Learnt,
+  save-reads.Asked,
+  save-reads.Learnt,
+  spread-reads.Asked,
+  spread-reads.Learnt,
   forward-levels-below t,
   forward-levels.Post,
 )
     (forward-levels-at t)
     forward-levels.Post
-    (forward-levels-lift-columns-requires t)
-    (forward-levels-store-level-requires t)
+    (forward-levels-lift-level-requires t)
     (forward-levels-same-length t)
-    (forward-levels-same-length-2 t)
     (forward-levels-returns t)
     (forward-levels-half-requires t)
     (forward-levels-half-requires-2 t)
-    (forward-levels-mul-load-low t)
-    (forward-levels-load-low-requires t)
-    (forward-levels-mul-forward-levels t)
+    (forward-levels-save-requires t)
+    (forward-levels-spread-requires t)
     (forward-levels-sub-forward-levels t)
     (forward-levels-forward-levels-requires t)
+    (forward-levels-same-length-2 t)
     (forward-levels-same-length-3 t)
-    (forward-levels-same-length-4 t)
     (forward-levels-returns-2 t)

@@ -46,7 +46,7 @@ returns : tie.Need-returns
 returns c =
     let start = c .before .before .before .before in
     let a = start .args in
-    unlifted-part (a .a) (a .b) (a .n) (a .b + a .n - a .b) (a .a + a .n - a .a) (a .from .now) (a .to .now) (c .before .unlift-by .last .1 .0) (omega arith) (omega arith) (start .pre .0) (start .pre .1) (c .before .unlift-by .kept .1 .0) (c .before .unlift-by .ensures)
+    unlifted-part (a .a) (a .b) (a .n) (a .b + a .n - a .b) (a .a + a .n - a .a) (a .from .now) (a .to .now) (c .before .unlift-by .last .1 .0) (omega arith) (omega arith) (start .pre .0) (start .pre .1) (c .before .unlift-by .kept .1 .0) (c .before .unlift-by .ensures .1)
 
 pub unlift-part-spec : {M : Type 1} → statement M
 unlift-part-spec =

@@ -1,17 +1,26 @@
--- `whole_map::passes::lift_pair` meets its contract: one row, then the other. Assumes nothing.
+-- `passes::lift_pair` meets its contract: one row, then the other. Assumes nothing.
+use native.Mathlib.Omega.{arith}
 use borrow.Author.Needs.{needs}
-use Rattle.whole_map.specs.Passes.{pairChanged}
 use Rattle.whole_map.proofs.passes.lift_pair.Statement.{statement}
 use Rattle.whole_map.proofs.passes.lift_pair.Tie as tie
 
-predict-next-requires : tie.Need-predict-next-requires
-predict-next-requires c κs = search needs
+add-predict-row : tie.Need-add-predict-row
+add-predict-row c = omega arith
 
-row-before-requires : tie.Need-row-before-requires
-row-before-requires c κs = search needs
+next-low-requires : tie.Need-next-low-requires
+next-low-requires c κs = search needs
 
-row-after-requires : tie.Need-row-after-requires
-row-after-requires c κs = search needs
+predict-row-requires : tie.Need-predict-row-requires
+predict-row-requires c κs = search needs
+
+high-before-requires : tie.Need-high-before-requires
+high-before-requires c κs = search needs
+
+add-update-row : tie.Need-add-update-row
+add-update-row c = omega arith
+
+add-update-row-2 : tie.Need-add-update-row-2
+add-update-row-2 c = omega arith
 
 update-row-requires : tie.Need-update-row-requires
 update-row-requires c κs = search needs
@@ -20,13 +29,23 @@ same-length : tie.Need-same-length
 same-length c = search needs
 
 returns : tie.Need-returns
-unfolding pairChanged
 returns c =
-    let called = c .before in
-    let far = called .before in
-    let near = far .before in
-    let next = near .before .before .before in
-    cc (called .update-row .ensures .1, near .row-before .ensures, far .row-after .ensures .0, next .predict-next .ensures, next .predict-next .kept .0)
+    let second = c .before in
+    let near = second .before in
+    let first = near .before .before .before in
+    let far = first .before in
+    cc (second .update-row .ensures .1, near .high-before .ensures, first .predict-row .ensures .1, far .next-low .ensures, first .predict-row .kept .0)
 
 pub lift-pair-spec : {M : Type 1} → statement M
-lift-pair-spec = tie.close (tie.spec predict-next-requires row-before-requires row-after-requires update-row-requires same-length returns)
+lift-pair-spec =
+    tie.close
+    (tie.spec
+    add-predict-row
+    next-low-requires
+    predict-row-requires
+    high-before-requires
+    add-update-row
+    add-update-row-2
+    update-row-requires
+    same-length
+    returns)

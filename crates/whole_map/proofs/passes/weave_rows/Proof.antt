@@ -1,8 +1,11 @@
 -- `whole_map::passes::weave_rows` meets its contract: a pass over all rows, each lent as a part. Assumes nothing.
+use mathlib.Core.Path.{_≡_, refl, sym, _∙_}
 use Prim.Native.Nat.{_+_, _-_, _*_, _≤_}
 use native.Mathlib.Omega.{arith}
 use lib.ListN.{length}
 use Rattle.numbers.specs.Signal.{at}
+use Rattle.lifting.specs.Line.{lo, count}
+use Rattle.wavelet.specs.Limits.{maxWidth}
 use Rattle.whole_map.specs.Rowwise.{wovenInPlace}
 use Rattle.wavelet.specs.Plane.{cells}
 use Rattle.whole_map.specs.Passes.{rowsMapped}
@@ -11,17 +14,18 @@ use Rattle.whole_map.proofs.passes.weave_rows.Statement.{statement}
 use Rattle.whole_map.proofs.passes.weave_rows.Tie as tie
 
 abbrev Inv-loop : tie.InvT-loop
-Inv-loop area₀ stride width height r₀ area r =
-    (r ≤ height) × Passed stride width height (rowsMapped (wovenInPlace width) width height (cells stride (at area₀))) area₀ r area
+Inv-loop area₀ stride width height line₀ r₀ area line r =
+    (r ≤ height) × (length line ≡ count lo maxWidth) × Passed stride width height (rowsMapped (wovenInPlace width) width height (cells stride (at area₀))) area₀ r area
 
 abbrev μ-loop : tie.MeasureT-loop
-μ-loop area₀ stride width height r₀ area r = height - r
+μ-loop area₀ stride width height line₀ r₀ area line r = height - r
 
 loop-holds : tie.Need-loop-holds Inv-loop μ-loop
-loop-holds c = (omega arith, pass-start _ _ _ _ _ 0 (c .pre .0) (λ r k lt. absurd (omega arith)))
+unfolding maxWidth count
+loop-holds c = (omega arith, refl, pass-start _ _ _ _ _ 0 (c .pre .0) (λ r k lt. absurd (omega arith)))
 
 room : (c : tie.In-loop Inv-loop μ-loop) → c .before .loop .r * c .before .before .args .stride + c .before .before .args .width ≤ length (c .before .loop .area)
-room c = pass-room (c .before .loop .inv .1) (c .loop-test .taken)
+room c = pass-room (c .before .loop .inv .2) (c .loop-test .taken)
 
 mul-a : tie.Need-mul-a Inv-loop μ-loop
 mul-a c = omega (arith, room c)
@@ -41,11 +45,16 @@ part-weave-start c = omega arith
 part-weave-end : tie.Need-part-weave-end Inv-loop μ-loop
 part-weave-end c = omega (arith, room c)
 
+slice-aggregate-weave : tie.Need-slice-aggregate-weave Inv-loop μ-loop
+unfolding maxWidth count
+slice-aggregate-weave c = sym (c .before .before .before .loop .inv .1)
+
 weave-requires : tie.Need-weave-requires Inv-loop μ-loop
 weave-requires c κs =
-    let row = c .before in
-    let a = row .before .loop .r * row .before .before .args .stride in
-    omega (arith, row-length _ _ _ _ _ _ (a + row .before .before .args .width - a) _ (omega arith) (row .loop-test .taken) (row .before .loop .inv .1))
+    let head = c .before .before .before in
+    let a = head .loop .r * head .before .args .stride in
+    let few = head .before .pre .1 in
+    omega (arith, row-length _ _ _ _ _ _ (a + head .before .args .width - a) _ (omega arith) (c .before .before .loop-test .taken) (head .loop .inv .2), head .loop .inv .1)
 
 add-r : tie.Need-add-r Inv-loop μ-loop
 add-r c = omega arith
@@ -55,20 +64,21 @@ loop-less c = omega arith
 
 loop-again : tie.Need-loop-again Inv-loop μ-loop
 loop-again c =
-    let part = c .before .weave in
-    let row = c .before .before .before in
+    let part = c .before .before .weave in
+    let row = c .before .before .before .before .before in
     let head = row .before in
     let args = head .before .args in
     let a = head .loop .r * args .stride in (
       omega arith,
-      map-turn wovenInPlace _ _ _ _ _ (a + args .width - a) _ (part .last .0) (omega arith) (row .loop-test .taken) (part .kept .0) (part .ensures) (head .loop .inv .1),
+      part .kept .1 .0 ∙ head .loop .inv .1,
+      map-turn wovenInPlace _ _ _ _ _ (a + args .width - a) _ (part .last .0) (omega arith) (row .loop-test .taken) (part .kept .0) (part .ensures) (head .loop .inv .2),
     )
 
 same-length : tie.Need-same-length Inv-loop μ-loop
-same-length c = c .before .loop .inv .1 .size
+same-length c = c .before .loop .inv .2 .size
 
 returns : tie.Need-returns Inv-loop μ-loop
-returns c = pass-end (c .before .loop .inv .1) (λ r k le. mapped-past _ _ _ _ r k (omega arith))
+returns c = pass-end (c .before .loop .inv .2) (λ r k le. mapped-past _ _ _ _ r k (omega arith))
 
 pub weave-rows-spec : {M : Type 1} → statement M
 weave-rows-spec =
@@ -83,6 +93,7 @@ weave-rows-spec =
     sub-weave
     part-weave-start
     part-weave-end
+    slice-aggregate-weave
     weave-requires
     add-r
     loop-less

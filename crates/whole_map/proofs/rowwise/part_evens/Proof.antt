@@ -6,15 +6,16 @@ use lib.ListN.{length}
 use Rattle.numbers.specs.Signal.{at}
 use Rattle.numbers.proofs.Words.{read-back}
 use Rattle.numbers.proofs.Sweep.{Swept, start, store, finish}
-use Rattle.lifting.specs.Passes.{evensCopied}
+use Rattle.lifting.specs.Line.{lo, count, parted}
+use Rattle.lifting.specs.Halves.{fronted}
 use Rattle.lifting.proofs.LineLaws.{count-lo}
-use Rattle.lifting.proofs.AreaLaws.{evens-in, evens-past}
+use Rattle.whole_map.proofs.RowwiseLaws.{front-rest, evens-in}
 use Rattle.whole_map.proofs.rowwise.part_evens.Statement.{statement}
 use Rattle.whole_map.proofs.rowwise.part_evens.Tie as tie
 
 abbrev Inv-loop : tie.InvT-loop
 Inv-loop line row₀ n low j₀ row j =
-    (j ≤ low) × Swept (length row₀) (evensCopied (length line) (at line) (at row₀)) (at row₀) j row
+    (j ≤ low) × Swept (length row₀) (fronted (count lo (length line)) (parted (at line) lo) (at row₀)) (at row₀) j row
 
 abbrev μ-loop : tie.MeasureT-loop
 μ-loop line row₀ n low j₀ row j = low - j
@@ -62,7 +63,7 @@ same-length c = c .before .loop .inv .1 .size
 returns : tie.Need-returns Inv-loop μ-loop
 returns c =
     let N = length (c .before .before .args .line .now) in
-    finish (c .before .loop .inv .1) (λ j le. evens-past N _ _ j (omega (arith, count-lo N)))
+    finish (c .before .loop .inv .1) (λ j le. front-rest (count lo N) _ _ j (omega (arith, count-lo N)))
 
 pub part-evens-spec : {M : Type 1} → statement M
 part-evens-spec =
