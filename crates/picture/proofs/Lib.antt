@@ -1,0 +1,7 @@
+pub mod FormLaws
+pub mod FormReads
+pub mod RewritingSame
+pub mod InputCases
+pub mod MachineLaws
+pub mod PartLaws
+pub mod GoneLaws
