@@ -2,23 +2,25 @@
    them. The results are compared before any time is taken. Arguments: shared objects to measure with them (plugin.h).
 
    What ran just before a way is worth up to a fifth of its time, by what it leaves in the caches. So each has a fixed one: the row-wise C, every
-   plug-in and the copy follow the proved calls, the naive C follows the row-wise, the proved calls follow the naive C. And the rounds of the
-   streams come after those of the whole maps: between planes the first of the streams, which is the C writer, would be a tenth slower, and
-   every ratio to it would look better than it is. */
+   plug-in and the copy follow the proved calls, the fused C follows the row-wise, the naive C the fused, the proved calls the naive C. And the
+   rounds of the streams come after those of the whole maps: between planes the first of the streams, which is the C writer, would be a tenth
+   slower, and every ratio to it would look better than it is. A writer's rows go into a plane, as the whole maps' do, and a reader's come from one,
+   so that streams too are told as times of the fused C. Last come narrow maps, down to one column. */
 #define _POSIX_C_SOURCE 200809L
 #include "../include/terrain.h"
 #include "maps.h"
 #include "plugin.h"
 #include "streams.h"
+#include "strips.h"
 #include "timing.h"
 #include <dlfcn.h>
 #include <stdio.h>
 #include <stdlib.h>
 #include <string.h>
 
-enum { OURS = 3, MOST_PLUGINS = 8, MOST = OURS + MOST_PLUGINS, WRITERS = 4, READERS = 2 };
+enum { OURS = 4, MOST_PLUGINS = 8, MOST = OURS + MOST_PLUGINS, WRITERS = 4, READERS = 2 };
 
-/* ---- the ways of a whole map: the proved calls, two in C, the plug-ins */
+/* ---- the ways of a whole map: the proved calls, three in C, the plug-ins */
 
 typedef struct {
     const char *name;
@@ -30,10 +32,11 @@ typedef struct {
 static Way ways[MOST] = {
     { "proved", proved_forward, proved_backward, NULL },
     { "row-wise C", plain_forward, plain_backward, NULL },
+    { "fused C", fused_forward, fused_backward, NULL },
     { "naive C", naive_forward, naive_backward, NULL },
 };
 static int count = OURS;
-enum { PROVED, PLAIN, NAIVE };
+enum { PROVED, PLAIN, FUSED, NAIVE };
 
 static void load(const char *path)
 {
@@ -63,7 +66,7 @@ typedef struct {
 } Result;
 
 static struct {
-    size_t side, n;
+    size_t width, height, n;
     uint16_t *heights, *back;
     int32_t *plane, *other, *work, *theirs[MOST]; /* the plane that a plug-in makes, where it is another */
     Result forward[MOST], backward[MOST], writer[WRITERS], reader[READERS], copy;
@@ -82,8 +85,8 @@ static void *area(size_t bytes)
 static int forward(int k)
 {
     const BenchPlugin *p = ways[k].plugin;
-    if (p) return p->forward(at.heights, at.side, at.side, LEVELS, at.other, at.work);
-    ways[k].forward(at.heights, at.side, at.side, at.other, at.work);
+    if (p) return p->forward(at.heights, at.width, at.height, LEVELS, at.other, at.work);
+    ways[k].forward(at.heights, at.width, at.height, at.other, at.work);
     return 0;
 }
 
@@ -91,8 +94,8 @@ static int backward(int k)
 {
     const BenchPlugin *p = ways[k].plugin;
     const int32_t *from = at.theirs[k] ? at.theirs[k] : at.plane;
-    if (p) return p->backward(from, at.side, at.side, LEVELS, at.back, at.work);
-    ways[k].backward(from, at.side, at.side, at.back, at.work);
+    if (p) return p->backward(from, at.width, at.height, LEVELS, at.back, at.work);
+    ways[k].backward(from, at.width, at.height, at.back, at.work);
     return 0;
 }
 
@@ -193,23 +196,31 @@ static void streams(const Streams *s, int round)
     at.reader[1].times[round] = timed(s->proved_read);
 }
 
-static void measure(const Streams *s)
+/* A map of random heights, its plane, and the areas to work in. */
+static void prepare(size_t width, size_t height)
 {
     uint32_t seed = 1;
-    at.side = s->side, at.n = s->side * s->side;
+    at.width = width, at.height = height, at.n = width * height;
     at.heights = area(at.n * sizeof *at.heights), at.back = area(at.n * sizeof *at.back);
     at.plane = area(at.n * sizeof *at.plane), at.other = area(at.n * sizeof *at.other), at.work = area(at.n * sizeof *at.work);
     for (size_t i = 0; i < at.n; i++) at.heights[i] = (uint16_t)((seed = seed * 1664525u + 1013904223u) >> 16);
-    proved_forward(at.heights, at.side, at.side, at.plane, at.work);
+    proved_forward(at.heights, at.width, at.height, at.plane, at.work);
+    for (int k = 0; k < OURS; k++) at.forward[k].note = at.backward[k].note = "";
+}
+
+static void measure(const Streams *s)
+{
+    prepare(s->side, s->side);
     memcpy(s->heights, at.heights, at.n * sizeof *at.heights);
     memcpy(s->plane, at.plane, at.n * sizeof *at.plane);
     s->ready();
-    for (int k = 0; k < OURS; k++) at.forward[k].note = at.backward[k].note = "";
     for (int k = 0; k < OURS; k++) whole_map(k, UNTIMED);
     for (int k = OURS; k < count; k++) try_out(k);
     for (int round = 0; round < ROUNDS; round++) whole_maps(round);
     compare_streams(s);
+    *s->kept = at.other;
     for (int round = 0; round < ROUNDS; round++) streams(s, round);
+    *s->kept = NULL;
     for (int k = 0; k < count; k++) in_order(at.forward[k].times), in_order(at.backward[k].times);
     for (int k = 0; k < WRITERS; k++) in_order(at.writer[k].times);
     for (int k = 0; k < READERS; k++) in_order(at.reader[k].times);
@@ -225,21 +236,22 @@ static void clear(void)
 
 /* ---- printing */
 
-/* A line: the times, and how many times those of the row-wise C that does the same, of the naive C and of the copy. */
-static void line(const char *group, const char *name, const Result *r, const Result *plain, const Result *naive, double wanted)
+/* A line: the times, and how many times those of the fused C, of the row-wise C that does the same, of the naive C and of the copy. */
+static void line(const char *group, const char *name, const Result *r, const Result *maps, const Result *plain, double wanted)
 {
     const double *t = r->times;
-    printf("%-9s %-28.28s %7.2f (%6.2f) %7.2f (%5.2f) %7.2f %8.2f", group, name, median(t), best(t), median(t) / median(plain->times),
-           best(t) / best(plain->times), median(t) / median(naive->times), median(t) / median(at.copy.times));
-    if (wanted > 0) printf("   at most %.1f times row-wise C is wanted", wanted);
+    printf("%-9s %-28.28s %7.2f (%6.2f) %7.2f (%5.2f) %10.2f %7.2f %8.2f", group, name, median(t), best(t), median(t) / median(maps[FUSED].times),
+           best(t) / best(maps[FUSED].times), median(t) / median(plain->times), median(t) / median(maps[NAIVE].times),
+           median(t) / median(at.copy.times));
+    if (wanted > 0) printf("   at most %.1f times fused C is wanted", wanted);
     if (r->note && *r->note) printf("   %s", r->note);
     printf("\n");
 }
 
-static void lines_of_maps(const char *group, const Result *results)
+static void lines_of_maps(const char *group, const Result *results, double wanted)
 {
     for (int k = 0; k < count; k++) {
-        if (results[k].note) line(group, ways[k].name, &results[k], &results[PLAIN], &results[NAIVE], 0);
+        if (results[k].note) line(group, ways[k].name, &results[k], results, &results[PLAIN], k == PROVED ? wanted : 0);
         else printf("%-9s %-28.28s it does not do such a map\n", group, ways[k].name);
     }
 }
@@ -248,14 +260,55 @@ static void print(void)
 {
     static const char *const writers[] = { "row-wise C", "proved, a row at a time", "proved, runs of 64", "the same, drawn on 8" };
     static const char *const readers[] = { "row-wise C", "proved" };
-    static const double wanted[] = { 0, 1.3, 1.5, 1.5 };
-    printf("\n%zu x %zu heights at %d levels, ns a height, %d rounds with all in turn: median (best)\n", at.side, at.side, LEVELS, ROUNDS);
-    printf("%-9s %-28s %16s %15s %7s %8s\n", "", "", "", "/ row-wise C", "/ naive", "/ memcpy");
-    lines_of_maps("forward", at.forward);
-    for (int k = 0; k < WRITERS; k++) line("writer", writers[k], &at.writer[k], &at.writer[0], &at.forward[NAIVE], wanted[k]);
-    lines_of_maps("backward", at.backward);
-    for (int k = 0; k < READERS; k++) line("reader", readers[k], &at.reader[k], &at.reader[0], &at.backward[NAIVE], k ? 1.3 : 0);
+    static const double wanted[] = { 0, 1.3, 1.6, 1.6 };
+    printf("\n%zu x %zu heights at %d levels, ns a height, %d rounds with all in turn: median (best)\n", at.width, at.height, LEVELS, ROUNDS);
+    printf("%-9s %-28s %16s %15s %10s %7s %8s\n", "", "", "", "/ fused C", "/ row-wise", "/ naive", "/ memcpy");
+    lines_of_maps("forward", at.forward, 1.4);
+    for (int k = 0; k < WRITERS; k++) line("writer", writers[k], &at.writer[k], at.forward, &at.writer[0], wanted[k]);
+    lines_of_maps("backward", at.backward, 1.6);
+    for (int k = 0; k < READERS; k++) line("reader", readers[k], &at.reader[k], at.backward, &at.reader[0], k ? 1.4 : 0);
     printf("%-9s %-28s %7.2f (%6.2f)\n", "memcpy", "heights and plane, once each", median(at.copy.times), best(at.copy.times));
+}
+
+/* ---- narrow maps: the proved calls and the fused C, and the proved streams, a row at a time into and from a plane */
+
+enum { NARROW_HEIGHTS = 1 << 20, MOST_ROWS = 65535 };
+
+static void write_strip(void) { strip_write(at.heights, at.width, at.height, at.other); }
+static void read_strip(void) { strip_read(at.plane, at.width, at.height, at.back); }
+
+static void narrow_round(int round)
+{
+    whole_map(FUSED, UNTIMED);
+    whole_map(PROVED, round);
+    whole_map(FUSED, round);
+    at.writer[1].times[round] = timed(write_strip);
+    must_not(plane_differs(), "a writer");
+    at.reader[1].times[round] = timed(read_strip);
+    must_not(map_differs(), "a reader");
+}
+
+static void narrow(size_t width)
+{
+    size_t rows = NARROW_HEIGHTS / width;
+    prepare(width, rows < MOST_ROWS ? rows : MOST_ROWS);
+    for (int round = 0; round < ROUNDS; round++) narrow_round(round);
+    Result *const results[] = { &at.forward[PROVED], &at.forward[FUSED], &at.writer[1], &at.backward[PROVED], &at.backward[FUSED], &at.reader[1] };
+    printf("%5zu x %5zu", at.width, at.height);
+    for (size_t k = 0; k < sizeof results / sizeof *results; k++) {
+        in_order(results[k]->times);
+        printf(" %9.2f", median(results[k]->times));
+    }
+    printf("\n");
+    clear();
+}
+
+static void narrow_maps(void)
+{
+    static const size_t widths[] = { 1, 2, 3, 17, 64, 257 };
+    printf("\nnarrow maps at %d levels, ns a height, median of %d rounds\n", LEVELS, ROUNDS);
+    printf("%13s %9s %9s %9s %9s %9s %9s\n", "", "forward", "fused C", "writer", "backward", "fused C", "reader");
+    for (size_t i = 0; i < sizeof widths / sizeof *widths; i++) narrow(widths[i]);
 }
 
 int main(int argc, char **argv)
@@ -267,5 +320,6 @@ int main(int argc, char **argv)
         print();
         clear();
     }
+    narrow_maps();
     return 0;
 }

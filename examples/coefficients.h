@@ -1,7 +1,7 @@
 /* A file of a map's coefficients: written through the writer, loaded through the reader in reads of any size. C and C++.
  *
  * The file: width, height and levels, then every band row in the order in which the reader wants them, so that it is loaded from front to
- * back. All numbers are 32 bits, the least significant byte first.
+ * back. All numbers are 32 bits, the least significant byte first. `examples/compressed.h` writes and reads the same rows in another form.
  *
  * Each function answers 0, or the number of the question that turned a call away (terrain.h), or NO_FILE or NO_MEMORY. */
 #ifndef COEFFICIENTS_H
@@ -12,18 +12,22 @@
 #include <string.h>
 #include <terrain.h>
 
-#include "questions.h"
-
-enum { BAND_ROW, DRAW, DONE, ENDED };  /* want[0] */
 enum { LEVEL = 1, BAND, ROW, LENGTH }; /* the places of want */
 #define NO_FILE 100u
 #define NO_MEMORY 101u
+#define DAMAGED 102u
 
 static inline const char *sentence(uint32_t number)
 {
     return number == NO_FILE ? "the file cannot be opened, written or read to its end"
-        : number == NO_MEMORY ? "there is not enough memory" : question_sentence(number);
+        : number == NO_MEMORY ? "there is not enough memory"
+        : number == DAMAGED ? "the file is damaged, or something else" : terrain_sentence(number);
 }
+
+/* Where rows go, and where they come from, whole: first the map's width, height and levels, then its band rows. 0: it was not written, or
+ * there is none. */
+typedef int PutRow(void *to, const int32_t *row, size_t length);
+typedef int GetRow(void *from, int32_t *row, size_t length);
 
 /* ---- writing */
 
@@ -32,7 +36,7 @@ static inline uint32_t draw_rows(uint64_t state[16], int32_t *store, size_t stor
                                  int32_t *plane, size_t width, size_t height, size_t levels)
 {
     for (;;) {
-        uint64_t row[4];
+        uint64_t row[TERRAIN_ROW_LENGTH];
         size_t start, length;
         uint32_t no = terrain_writer_draw(state, store, store_len, line, width, row);
         if (no || row[0] == 0) return no;
@@ -45,7 +49,7 @@ static inline uint32_t draw_rows(uint64_t state[16], int32_t *store, size_t stor
 /* The heights through a writer, into a plane of width * height numbers. */
 static inline uint32_t write_plane(const uint16_t *heights, size_t width, size_t height, size_t levels, int32_t *plane)
 {
-    uint64_t state[16];
+    uint64_t state[TERRAIN_STATE_LENGTH];
     size_t store_len = terrain_store_length(width, levels), offered = 0, taken;
     int32_t *store = (int32_t *)malloc((store_len + width + 1) * sizeof *store), *line = store + store_len;
     uint32_t no = store ? terrain_writer_set_up(state, width, levels, store, store_len) : NO_MEMORY;
@@ -60,48 +64,48 @@ static inline uint32_t write_plane(const uint16_t *heights, size_t width, size_t
     return no;
 }
 
-static inline void put_number(FILE *file, uint32_t number)
-{
-    for (int shift = 0; shift < 32; shift += 8) putc((int)(number >> shift & 255), file);
-}
-
 /* The plane's band rows, in the order in which a reader wants them: the reader itself says it. `line` has `width` heights. */
-static inline uint32_t save_rows(FILE *file, const int32_t *plane, size_t width, size_t height, size_t levels,
+static inline uint32_t save_rows(PutRow *put, void *to, const int32_t *plane, size_t width, size_t height, size_t levels,
                                  uint64_t state[16], int32_t *store, size_t store_len, uint16_t *line)
 {
     for (;;) {
-        uint64_t want[5];
+        uint64_t want[TERRAIN_WANT_LENGTH];
         size_t start, length;
         uint32_t no = terrain_reader_want(state, want);
-        if (no || want[0] == DONE) return no;
-        if (want[0] == ENDED) return 14;
-        if (want[0] == DRAW) {
+        if (no || want[0] == TERRAIN_WANT_DONE) return no;
+        if (want[0] == TERRAIN_WANT_ENDED) return 14;
+        if (want[0] == TERRAIN_WANT_DRAW) {
             no = terrain_reader_draw(state, store, store_len, line, width, &length);
         } else {
             no = terrain_band_row(width * height, width, height, levels, want[LEVEL], want[BAND], want[ROW], &start, &length);
-            for (size_t i = 0; !no && i < length; i++) put_number(file, (uint32_t)plane[start + i]);
+            if (!no && !put(to, plane + start, length)) no = NO_FILE;
             if (!no) no = terrain_reader_feed(state, store, store_len, plane + start, length);
         }
         if (no) return no;
     }
 }
 
-static inline uint32_t save_plane(FILE *file, const int32_t *plane, size_t width, size_t height, size_t levels)
+static inline uint32_t save_plane(PutRow *put, void *to, const int32_t *plane, size_t width, size_t height, size_t levels)
 {
-    uint64_t state[16];
+    uint64_t state[TERRAIN_STATE_LENGTH];
     size_t store_len = terrain_store_length(width, levels);
     int32_t *store = (int32_t *)malloc((store_len + 1) * sizeof *store);
     uint16_t *line = (uint16_t *)malloc(width * sizeof *line);
     uint32_t no = store && line ? terrain_reader_set_up(state, width, height, levels, store, store_len) : NO_MEMORY;
-    if (!no) {
-        put_number(file, (uint32_t)width);
-        put_number(file, (uint32_t)height);
-        put_number(file, (uint32_t)levels);
-        no = save_rows(file, plane, width, height, levels, state, store, store_len, line);
-    }
+    const int32_t size[3] = {(int32_t)width, (int32_t)height, (int32_t)levels};
+    if (!no && !put(to, size, 3)) no = NO_FILE;
+    if (!no) no = save_rows(put, to, plane, width, height, levels, state, store, store_len, line);
     free(line);
     free(store);
     return no;
+}
+
+static inline int put_numbers(void *to, const int32_t *row, size_t length)
+{
+    FILE *file = (FILE *)to;
+    for (size_t i = 0; i < length; i++)
+        for (int shift = 0; shift < 32; shift += 8) putc((int)((uint32_t)row[i] >> shift & 255), file);
+    return !ferror(file);
 }
 
 static inline uint32_t write_coefficients(const char *path, const uint16_t *heights, size_t width, size_t height, size_t levels)
@@ -109,7 +113,7 @@ static inline uint32_t write_coefficients(const char *path, const uint16_t *heig
     int32_t *plane = (int32_t *)malloc(width * height * sizeof *plane);
     uint32_t no = plane ? write_plane(heights, width, height, levels, plane) : NO_MEMORY;
     FILE *file = no ? NULL : fopen(path, "wb");
-    if (!no) no = file ? save_plane(file, plane, width, height, levels) : NO_FILE;
+    if (!no) no = file ? save_plane(put_numbers, file, plane, width, height, levels) : NO_FILE;
     if (file) {
         int lost = ferror(file);
         if (fclose(file) != 0) lost = 1;
@@ -128,37 +132,38 @@ typedef struct {
     size_t read_size, at, end;
 } Source;
 
-/* 0: the file has no number left. */
-static inline int get_number(Source *from, int32_t *number)
+static inline int get_numbers(void *source, int32_t *row, size_t length)
 {
-    uint32_t n = 0;
-    for (int shift = 0; shift < 32; shift += 8) {
-        if (from->at == from->end) {
-            from->at = 0;
-            from->end = fread(from->bytes, 1, from->read_size, from->file);
-            if (from->end == 0) return 0;
+    Source *from = (Source *)source;
+    for (size_t i = 0; i < length; i++) {
+        uint32_t n = 0;
+        for (int shift = 0; shift < 32; shift += 8) {
+            if (from->at == from->end) {
+                from->at = 0;
+                from->end = fread(from->bytes, 1, from->read_size, from->file);
+                if (from->end == 0) return 0;
+            }
+            n |= (uint32_t)from->bytes[from->at++] << shift;
         }
-        n |= (uint32_t)from->bytes[from->at++] << shift;
+        row[i] = (int32_t)n;
     }
-    *number = (int32_t)n;
     return 1;
 }
 
-static inline uint32_t load_rows(Source *from, size_t width, uint64_t state[16], int32_t *store, size_t store_len, int32_t *run,
+static inline uint32_t load_rows(GetRow *get, void *from, size_t width, uint64_t state[16], int32_t *store, size_t store_len, int32_t *run,
                                  uint16_t *heights)
 {
     for (;;) {
-        uint64_t want[5];
+        uint64_t want[TERRAIN_WANT_LENGTH];
         size_t drawn;
         uint32_t no = terrain_reader_want(state, want);
-        if (no || want[0] == DONE) return no;
-        if (want[0] == ENDED) return 14;
-        if (want[0] == DRAW) {
+        if (no || want[0] == TERRAIN_WANT_DONE) return no;
+        if (want[0] == TERRAIN_WANT_ENDED) return 14;
+        if (want[0] == TERRAIN_WANT_DRAW) {
             no = terrain_reader_draw(state, store, store_len, heights, width, &drawn);
             if (!no) heights += drawn;
         } else {
-            for (size_t i = 0; i < want[LENGTH]; i++)
-                if (!get_number(from, &run[i])) return NO_FILE;
+            if (!get(from, run, want[LENGTH])) return NO_FILE;
             no = terrain_reader_feed(state, store, store_len, run, want[LENGTH]);
         }
         if (no) return no;
@@ -166,12 +171,11 @@ static inline uint32_t load_rows(Source *from, size_t width, uint64_t state[16],
 }
 
 /* The map's size and its heights; the caller frees them. */
-static inline uint32_t load_map(Source *from, size_t *width, size_t *height, uint16_t **heights)
+static inline uint32_t load_map(GetRow *get, void *from, size_t *width, size_t *height, uint16_t **heights)
 {
-    uint64_t state[16];
+    uint64_t state[TERRAIN_STATE_LENGTH];
     int32_t size[3];
-    for (int i = 0; i < 3; i++)
-        if (!get_number(from, &size[i])) return NO_FILE;
+    if (!get(from, size, 3)) return NO_FILE;
     *width = (uint32_t)size[0];
     *height = (uint32_t)size[1];
     size_t levels = (uint32_t)size[2], store_len = terrain_store_length(*width, levels);
@@ -182,7 +186,7 @@ static inline uint32_t load_map(Source *from, size_t *width, size_t *height, uin
     if (!no) {
         int32_t *run = (int32_t *)malloc(*width * sizeof *run);
         *heights = (uint16_t *)malloc(*width * *height * sizeof **heights);
-        no = run && *heights ? load_rows(from, *width, state, store, store_len, run, *heights) : NO_MEMORY;
+        no = run && *heights ? load_rows(get, from, *width, state, store, store_len, run, *heights) : NO_MEMORY;
         free(run);
     }
     free(store);
@@ -193,7 +197,7 @@ static inline uint32_t load_coefficients(const char *path, size_t read_size, siz
 {
     Source from = {fopen(path, "rb"), (unsigned char *)malloc(read_size), read_size, 0, 0};
     *heights = NULL;
-    uint32_t no = !from.file ? NO_FILE : !from.bytes ? NO_MEMORY : load_map(&from, width, height, heights);
+    uint32_t no = !from.file ? NO_FILE : !from.bytes ? NO_MEMORY : load_map(get_numbers, &from, width, height, heights);
     if (from.file) fclose(from.file);
     free(from.bytes);
     if (no) {

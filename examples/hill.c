@@ -1,27 +1,41 @@
-/* Makes examples/hill.pgm: a hill in a bowl with some ripples, in whole numbers, so that every machine makes the same file.
+/* Makes examples/hill.pgm: a small landscape in whole numbers, so that every machine makes the same file. Each part shows in a band of its
+   own: the dike runs down the map (HL), the terraces across it (LH), the orchard is planted crosswise (HH), and the lake is flat (nothing).
    From the top of the repository: cc examples/hill.c -o target/hill && target/hill examples/hill.pgm */
+#include "fractal.h"
 #include "pgm.h"
 
-enum { WIDTH = 65, HEIGHT = 49 };
+enum { WIDTH = 129, HEIGHT = 97 };
+enum { SEA = 9000 };
 
-/* A round bump of that height and radius about a point, 0 outside. */
-static long bump(long x, long y, long cx, long cy, long radius, long height)
+/* 0 where a place is further than the radius from the centre, and 65,536 in it. */
+static int64_t near(int64_t x, int64_t y, int64_t cx, int64_t cy, int64_t radius)
 {
-    long far = (x - cx) * (x - cx) + (y - cy) * (y - cy), rest = radius * radius - far;
-    return rest > 0 ? height * rest / (radius * radius) * rest / (radius * radius) : 0;
+    int64_t far = (x - cx) * (x - cx) + (y - cy) * (y - cy), rest = radius * radius - far;
+    return rest > 0 ? FRACTAL_ONE * rest / (radius * radius) : 0;
+}
+
+static int within(int64_t x, int64_t y, int64_t left, int64_t top, int64_t right, int64_t bottom)
+{
+    return left <= x && x < right && top <= y && y < bottom;
+}
+
+static uint16_t height_at(uint32_t x, uint32_t y)
+{
+    int64_t mountain = near(x, y, 34, 30, 46), lake = near(x, y, 103, 66, 24);
+    int64_t h = 15000 + fractal_rolling(x, y, 64, 64, 5) / 16;
+    h += mountain * (fractal_ridged(x, y, 32, 64, 11) / 3) / FRACTAL_ONE;
+    h -= lake * 20000 / FRACTAL_ONE;
+    if (within(x, y, 12, 66, 60, 92)) h = 14000 + ((int64_t)y - 66) / 5 * 1500; /* terraces, five rows each */
+    if (within(x, y, 88, 10, 118, 40)) h += (x + y) % 2 * 1200;                  /* the orchard */
+    if (within(x, y, 76, 0, 79, HEIGHT)) h = 19000;                              /* the dike */
+    return fractal_height(h < SEA ? SEA : h);
 }
 
 int main(int argc, char **argv)
 {
     static uint16_t heights[WIDTH * HEIGHT];
-    for (long y = 0; y < HEIGHT; y++)
-        for (long x = 0; x < WIDTH; x++) {
-            long dx = 2 * x - (WIDTH - 1), dy = 2 * y - (HEIGHT - 1);
-            long bowl = 12000 + 7 * dx * dx / 2 + 6 * dy * dy;
-            long hills = bump(x, y, 40, 20, 18, 21000) + bump(x, y, 14, 34, 11, 9000);
-            long ripples = (x * 7 + y * 13) % 17 * 25 + (x * x + 3 * y * y) % 31 * 9;
-            heights[y * WIDTH + x] = (uint16_t)(bowl + hills + ripples);
-        }
+    for (uint32_t y = 0; y < HEIGHT; y++)
+        for (uint32_t x = 0; x < WIDTH; x++) heights[y * WIDTH + x] = height_at(x, y);
     if (argc != 2 || !pgm_write(argv[1], WIDTH, HEIGHT, heights)) {
         fprintf(stderr, "usage: hill OUT.pgm\n");
         return 1;

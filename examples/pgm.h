@@ -1,14 +1,21 @@
-/* Height maps as binary PGM pictures (Netpbm, P5) of 8 or 16 bits: read whole, written whole. For the examples and tools; C and C++. */
+/* Height maps as binary PGM pictures (Netpbm, P5) of 8 or 16 bits: read whole, written whole; `-` is standard input. For the examples and
+ * tools; C and C++. */
 #ifndef PGM_H
 #define PGM_H
 
+#include <errno.h>
 #include <stdint.h>
 #include <stdio.h>
 #include <stdlib.h>
+#include <string.h>
+
+/* Why there is no map: what the file holds, the file itself, or the memory. */
+typedef enum { PGM_FINE, PGM_NO_MAP, PGM_UNREADABLE, PGM_NO_MEMORY } PgmTrouble;
 
 typedef struct {
     size_t width, height;
     uint16_t *heights; /* row by row; the caller frees it */
+    PgmTrouble trouble;
 } Pgm;
 
 static inline int pgm_space(int c)
@@ -36,42 +43,65 @@ static inline size_t pgm_number(FILE *file)
 /* What keeps the samples from being read, or NULL: all are there and nothing follows. */
 static inline const char *pgm_samples(FILE *file, Pgm *map, size_t most)
 {
-    size_t n = map->width * map->height;
-    map->heights = (uint16_t *)malloc(n * sizeof *map->heights);
-    if (!map->heights) return "there is not enough memory for it";
-    for (size_t i = 0; i < n; i++) {
-        int high = most > 255 ? getc(file) : 0, low = getc(file);
-        if (high == EOF || low == EOF) return "it ends before its last height";
-        map->heights[i] = (uint16_t)(high << 8 | low);
-        if (map->heights[i] > most) return "a height is above the largest that its header names";
+    size_t wide = most > 255 ? 2 : 1, row = map->width * wide;
+    const char *wrong = NULL;
+    unsigned char *bytes = (unsigned char *)malloc(row);
+    map->heights = (uint16_t *)malloc(map->width * map->height * sizeof *map->heights);
+    if (!bytes || !map->heights) {
+        map->trouble = PGM_NO_MEMORY;
+        wrong = "there is not enough memory for it";
     }
-    return getc(file) == EOF ? NULL : "bytes follow its last height";
+    for (size_t y = 0; !wrong && y < map->height; y++) {
+        uint16_t *heights = map->heights + y * map->width;
+        if (fread(bytes, 1, row, file) < row) wrong = "it ends before its last height";
+        for (size_t x = 0; !wrong && x < map->width; x++) {
+            heights[x] = (uint16_t)(wide == 2 ? bytes[2 * x] << 8 | bytes[2 * x + 1] : bytes[x]);
+            if (heights[x] > most) wrong = "a height is above the largest that its header names";
+        }
+    }
+    free(bytes);
+    if (!wrong && getc(file) != EOF) wrong = "bytes follow its last height";
+    return wrong;
+}
+
+/* What keeps a map from being read from the file, or NULL. */
+static inline const char *pgm_map(FILE *file, Pgm *map)
+{
+    size_t most;
+    int first = getc(file);
+    if (first == EOF) return "it is empty";
+    if (first != 'P' || getc(file) != '5' || !pgm_gap(file, getc(file))) return "it is not a binary PGM (P5)";
+    map->width = pgm_number(file);
+    map->height = pgm_number(file);
+    most = pgm_number(file);
+    if (map->width < 1 || map->height < 1 || most < 1 || most > 65535)
+        return "its header is not: P5, width, height, largest height (at most 65535)";
+    if (map->width > 1000000 || map->height > 1000000) return "it is too large: a map has at most 2,049 columns and 65,535 rows";
+    return pgm_samples(file, map, most);
 }
 
 /* NULL and the map, or a sentence that says why there is none. */
 static inline const char *pgm_read(const char *path, Pgm *map)
 {
-    const char *wrong = NULL;
-    FILE *file = fopen(path, "rb");
+    int standard = strcmp(path, "-") == 0;
+    const char *wrong;
+    FILE *file = standard ? stdin : fopen(path, "rb");
+    map->width = map->height = 0;
     map->heights = NULL;
-    if (!file) return "it cannot be opened";
-    if (getc(file) != 'P' || getc(file) != '5' || !pgm_gap(file, getc(file))) wrong = "it is not a binary PGM (P5)";
-    if (!wrong) {
-        size_t most;
-        map->width = pgm_number(file);
-        map->height = pgm_number(file);
-        most = pgm_number(file);
-        if (map->width < 1 || map->height < 1 || most < 1 || most > 65535)
-            wrong = "its header is not: P5, width, height, largest height (at most 65535)";
-        else if (map->width > 1000000 || map->height > 1000000)
-            wrong = "it is too large: a map has at most 2,049 columns and 65,535 rows";
-        else
-            wrong = pgm_samples(file, map, most);
+    map->trouble = PGM_UNREADABLE;
+    if (!file) return strerror(errno);
+    map->trouble = PGM_NO_MAP;
+    wrong = pgm_map(file, map);
+    if (ferror(file)) {
+        map->trouble = PGM_UNREADABLE;
+        wrong = strerror(errno);
     }
-    fclose(file);
+    if (!standard) fclose(file);
     if (wrong) {
         free(map->heights);
         map->heights = NULL;
+    } else {
+        map->trouble = PGM_FINE;
     }
     return wrong;
 }

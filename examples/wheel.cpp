@@ -19,7 +19,7 @@ namespace {
 constexpr int steps = 6000;
 constexpr btScalar seconds_a_step = btScalar(1) / 240;
 constexpr float metres_a_height = 1.0f / 4096; // heights 0 to 65,535 are 0 to 16 m, a column or row is 1 m
-constexpr int start_column = 30, start_row = 20;
+constexpr int start_column = 95, start_row = 64; // in the lake, whose shore keeps it on the map
 
 struct Ground {
     size_t width = 0, height = 0;

@@ -1,4 +1,4 @@
-/* The terrain streamer's C interface: link target/staticlib/libterrain.a.
+/* The terrain streamer's C interface, for x86-64 Linux: link libterrain.a (from target/staticlib, or from where it is installed).
  *
  * Each call answers 0, or the number of the question that turned it away; a call turned away changes nothing that was lent to it, the
  * numbers it would have set included. (14 is the one exception, and the calls that give it say what it changes.)
@@ -12,20 +12,88 @@
 #include <stddef.h>
 #include <stdint.h>
 
+/* ---- Names. */
+
+/* The version of this interface: 10,000 for each major number, 100 for each minor one, and the patch. CHANGELOG.md says what each brings;
+ * `terrain_version` answers the archive's. */
+#define TERRAIN_VERSION 200
+#define TERRAIN_VERSION_TEXT "0.2.0"
+
+/* The limits of a map. */
+#define TERRAIN_MAX_WIDTH 2049
+#define TERRAIN_MAX_HEIGHT 65535
+#define TERRAIN_MAX_LEVELS 5
+
+/* How many numbers a state has, the row that a draw names, and a want; and the longest line store that any map needs. */
+#define TERRAIN_STATE_LENGTH 16
+#define TERRAIN_ROW_LENGTH 4
+#define TERRAIN_WANT_LENGTH 5
+#define TERRAIN_MAX_STORE_LENGTH 15892
+
+/* The bands: row[1], want[2] and the `band` of `terrain_band_row`. The first letter is horizontal: HL is high along rows. */
+#define TERRAIN_LL 0
+#define TERRAIN_HL 1
+#define TERRAIN_LH 2
+#define TERRAIN_HH 3
+
+/* What a reader wants: want[0]. */
+#define TERRAIN_WANT_ROW 0
+#define TERRAIN_WANT_DRAW 1
+#define TERRAIN_WANT_DONE 2
+#define TERRAIN_WANT_ENDED 3
+
+/* A compiler that can warns where a call's answer is not looked at. */
+#if defined(__cplusplus) && __cplusplus >= 201703L
+#define TERRAIN_CHECKED [[nodiscard]]
+#elif defined(__STDC_VERSION__) && __STDC_VERSION__ >= 202311L
+#define TERRAIN_CHECKED [[nodiscard]]
+#elif defined(__GNUC__)
+#define TERRAIN_CHECKED __attribute__((warn_unused_result))
+#else
+#define TERRAIN_CHECKED
+#endif
+
+/* A function that stands in this header, from C89 on. */
+#if defined(__cplusplus)
+#define TERRAIN_INLINE inline
+#elif defined(__STDC_VERSION__) && __STDC_VERSION__ >= 199901L
+#define TERRAIN_INLINE static inline
+#elif defined(__GNUC__)
+#define TERRAIN_INLINE static __inline__
+#else
+#define TERRAIN_INLINE static
+#endif
+
 #ifdef __cplusplus
 extern "C" {
 #endif
+
+/* ---- Calls. */
+
+/* TERRAIN_VERSION, as the archive was built: where the two differ, header and archive are of different versions. */
+TERRAIN_CHECKED
+uint32_t terrain_version(void);
 
 /* The lifting of one line: the reversible 5/3 transform of ITU-T T.800. Any numbers may stand in the line: sums are taken whole and
  * stored modulo 2^32 as signed, and going there and back gives the line again, whatever it holds. */
 
 /* The line's low values, then its high values, at the front of `out`: (line_len + 1) / 2 low and line_len / 2 high ones.
  * 5: `out` is shorter than the line. No other number comes back but 0. */
+TERRAIN_CHECKED
 uint32_t terrain_line_forward(const int32_t *line, size_t line_len, int32_t *out, size_t out_len);
 
 /* Low values, then high values, back to their line, at the front of `out`.
  * 5: `out` is shorter than the coefficients. No other number comes back but 0. */
+TERRAIN_CHECKED
 uint32_t terrain_line_backward(const int32_t *coefficients, size_t coefficients_len, int32_t *out, size_t out_len);
+
+/* The smooth profile of one row of 1 to 2,049 heights, at the front of `out`, in the samples' own order: the 9/7 lifting of ITU-T T.800
+ * without its scaling, in 32-bit floats. Four passes add c * (left + right), the bracket first, to the odd, even, odd and even samples, with
+ * c = -1.586134342, -0.052980118, 0.882911075 and 0.443506852, each the nearest 32-bit float; the row is mirrored at both ends, and one
+ * height alone stays as it is. Every operation rounds once and none is fused, so every machine gives the same bits.
+ * 2: the row has no height or more than 2,049; 5: `out` is shorter than the row. */
+TERRAIN_CHECKED
+uint32_t terrain_profile(const uint16_t *row, size_t row_len, float *out, size_t out_len);
 
 /* The whole map: `height` rows of `width` heights to the plane of its coefficients at `levels` levels, and back. Width 1 to 2,049,
  * height 1 to 65,535, levels 1 to 5; heights, plane and work area each have at least width * height elements, and where a call passes
@@ -35,16 +103,19 @@ uint32_t terrain_line_backward(const int32_t *coefficients, size_t coefficients_
  * them, LH below them, HH below HL; `terrain_band_row` says where each one is.
  *
  * Both answer, in this order: 2 (width), 3 (height), 4 (levels), 5 (an area is too short). */
+TERRAIN_CHECKED
 uint32_t terrain_map_forward(const uint16_t *heights, size_t heights_len, size_t width, size_t height, size_t levels,
                              int32_t *plane, size_t plane_len, int32_t *work, size_t work_len);
 
 /* And also: 7 (a coefficient is out of its level's range, +-65,535 * 4^level; nothing is changed), 14 (no map has this plane; the heights
  * and the work area are zeroed). 0 means that the heights are the one map that has this plane. */
+TERRAIN_CHECKED
 uint32_t terrain_map_backward(const int32_t *plane, size_t plane_len, size_t width, size_t height, size_t levels,
                               uint16_t *heights, size_t heights_len, int32_t *work, size_t work_len);
 
 /* Where row `row` of a band (0 LL, 1 HL, 2 LH, 3 HH) of a level (1 the finest) stands in a plane of `plane_len` elements: its first
  * element and how many there are. 2, 3, 4, 5 as above; 6: there is no such band row. Where a question says no, *start and *length stay. */
+TERRAIN_CHECKED
 uint32_t terrain_band_row(size_t plane_len, size_t width, size_t height, size_t levels, size_t level, size_t band, size_t row,
                           size_t *start, size_t *length);
 
@@ -58,43 +129,79 @@ uint32_t terrain_band_row(size_t plane_len, size_t width, size_t height, size_t 
 
 /* The numbers that the line store of a writer or reader needs: 4 * (W(0) + ... + W(levels - 1)), W(0) being the width and each further
  * one half the one before, rounded up. 0 where the width is not 1 to 2,049 or levels not 1 to 5. */
+TERRAIN_CHECKED
 size_t terrain_store_length(size_t width, size_t levels);
 
 /* A fresh writer of maps of that width: the needed part of the store is zeroed. 2 (width), 4 (levels), 5 (the store is too short). */
+TERRAIN_CHECKED
 uint32_t terrain_writer_set_up(uint64_t state[16], size_t width, size_t levels, int32_t *store, size_t store_len);
 
 /* The next heights of the map, row by row; a run may begin and end anywhere. It takes heights until a band row waits, 65,535 rows are
  * complete or the run is used up, and says in *taken how many: offer the others again once every row that waits is drawn.
  * 1; 5 (the store is too short); 9 (finished already); 8 (a row waits: draw first); 10 (65,535 rows are complete; an empty run passes). */
+TERRAIN_CHECKED
 uint32_t terrain_writer_offer(uint64_t state[16], int32_t *store, size_t store_len, const uint16_t *run, size_t run_len, size_t *taken);
 
 /* The band row that waits: its level (1 the finest), band (0 LL, 1 HL, 2 LH, 3 HH), number and length in row[0] to row[3], its values at
  * the front of `out`. Nothing waits: four zeros, and `out` is untouched. No row is longer than (width + 1) / 2.
  * 1; 5; 12 (`out` is shorter than the row). */
+TERRAIN_CHECKED
 uint32_t terrain_writer_draw(uint64_t state[16], int32_t *store, size_t store_len, int32_t *out, size_t out_len, uint64_t row[4]);
 
 /* The map ends with the last row taken. Draw the rows that are left until nothing waits: then every band row of the plane was drawn, once.
  * 1; 5; 9 (finished already); 8 (a row waits); 11 (no row is complete, or one is begun). */
+TERRAIN_CHECKED
 uint32_t terrain_writer_finish(uint64_t state[16], int32_t *store, size_t store_len);
 
 /* A fresh reader of a map of that size: the needed part of the store is zeroed. 2, 3 (height), 4, 5. */
+TERRAIN_CHECKED
 uint32_t terrain_reader_set_up(uint64_t state[16], size_t width, size_t height, size_t levels, int32_t *store, size_t store_len);
 
 /* What the reader wants: want[0] is 0 for a band row, whose level, band, number and length follow, 1 for a draw, 2 when all height rows
  * are drawn (Done), 3 after a 14 (Ended). Where no band row is wanted the last four numbers are 0. 1. */
+TERRAIN_CHECKED
 uint32_t terrain_reader_want(const uint64_t state[16], uint64_t want[5]);
 
 /* The band row that is wanted.
  * 1; 5; 9 (ended by 14); 8 (no band row is wanted); 13 (the run has not the wanted length); 7 (a coefficient is out of its level's range);
  * 14 (no map has the rows fed). 14 alone changes what was lent: the needed part of the store is zeroed and the reader is ended. */
+TERRAIN_CHECKED
 uint32_t terrain_reader_feed(uint64_t state[16], int32_t *store, size_t store_len, const int32_t *run, size_t run_len);
 
 /* The next height row, at the front of `out`, and the width in *drawn; where none can be drawn, 0, and `out` is untouched.
  * 1; 5; 9 (ended by 14); 12 (`out` is shorter than the row); 14 as in a feed, with `out` and *drawn untouched. */
+TERRAIN_CHECKED
 uint32_t terrain_reader_draw(uint64_t state[16], int32_t *store, size_t store_len, uint16_t *out, size_t out_len, size_t *drawn);
 
 #ifdef __cplusplus
 }
 #endif
+
+/* ---- Sentences. */
+
+/* What the question of that number says; docs/STUDIOS.md says what to do about each. It is this header's own and not in the archive. */
+TERRAIN_INLINE const char *terrain_sentence(uint32_t number)
+{
+    static const char *const sentences[] = {
+        "nothing is wrong",                                                            /* 0 */
+        "the state is none that its calls made: a count is outside its range",         /* 1 */
+        "the width is not 1 to 2,049",                                                 /* 2 */
+        "the height is not 1 to 65,535",                                               /* 3 */
+        "the number of levels is not 1 to 5",                                          /* 4 */
+        "an area that was lent is too short",                                          /* 5 */
+        "there is no such band row",                                                   /* 6 */
+        "a coefficient is outside its level's range",                                  /* 7 */
+        "it is not this call's turn: a band row waits to be drawn, or none is wanted", /* 8 */
+        "it is over: the writer is finished, or the reader ended after 14",            /* 9 */
+        "the map already has 65,535 rows",                                             /* 10 */
+        "the map has no row yet, or its last row is not complete",                     /* 11 */
+        "the output area is too short for the row",                                    /* 12 */
+        "the run has not the length of the band row that is wanted",                   /* 13 */
+        "no map has these coefficients",                                               /* 14 */
+        "the input is not in the form that the listing reads",                         /* 15 */
+        "a sample exceeds the largest value that the picture's header names"           /* 16 */
+    };
+    return number < sizeof sentences / sizeof *sentences ? sentences[number] : "no question has this number";
+}
 
 #endif

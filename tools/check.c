@@ -1,36 +1,44 @@
-/* A map through the writer and the reader and back, cut at random, at every number of levels. `./terrain check` builds and runs it. */
-#include <time.h>
-
+/* A map through the writer and the reader and back, cut at random, at every number of levels. `./terrain check` builds and runs it.
+ * The seed alone says how the map is cut: the same seed, the same cuts. */
 #include "../examples/coefficients.h"
-#include "../examples/pgm.h"
+#include "progress.h"
+#include "status.h"
 
-enum { LARGE = 2000000, MAX_LEVELS = 5 };
-
-static uint64_t seed;
+/* Where random numbers come from (splitmix64): any seed is as good as another. */
+static uint64_t random_state;
 
 /* 0 to n - 1. */
 static size_t below(size_t n)
 {
-    seed ^= seed << 13;
-    seed ^= seed >> 7;
-    seed ^= seed << 17;
-    return (size_t)(seed % n);
+    uint64_t z = random_state += 0x9e3779b97f4a7c15u;
+    z = (z ^ z >> 30) * 0xbf58476d1ce4e5b9u;
+    z = (z ^ z >> 27) * 0x94d049bb133111ebu;
+    return (size_t)((z ^ z >> 31) % n);
 }
 
-/* A line on standard error, for large maps only: what is done of how much. */
-static void progress(const Pgm *map, size_t levels, const char *what, size_t row)
+/* What is checked, and how far: the rows written and read, of all levels together. */
+typedef struct {
+    const char *path;
+    const Pgm *map;
+    uint64_t seed;
+    size_t runs, rows;
+    Progress line;
+} Check;
+
+/* `row` rows of this direction are done. */
+static void so_far(Check *c, size_t levels, int reading, size_t row)
 {
-    static time_t last;
-    if (map->width * map->height < LARGE || time(NULL) == last) return;
-    last = time(NULL);
-    fprintf(stderr, "\r%u of %d levels: %s row %lu of %lu   ", (unsigned)levels, MAX_LEVELS, what, (unsigned long)row,
-            (unsigned long)map->height);
+    size_t height = c->map->height, done = ((levels - 1) * 2 + (size_t)reading) * height + row;
+    if (done == c->rows) return;
+    c->rows = done;
+    progress(&c->line, "checking", done, 2 * TERRAIN_MAX_LEVELS * (uint64_t)height);
 }
 
-/* The heights in runs of random lengths through a writer, into the plane; how many runs it took. */
-static uint32_t write_cut(const Pgm *map, size_t levels, int32_t *plane, int32_t *store, size_t store_len, int32_t *line, size_t *runs)
+/* The heights in runs of random lengths through a writer, into the plane. */
+static uint32_t write_cut(Check *c, size_t levels, int32_t *plane, int32_t *store, size_t store_len, int32_t *line)
 {
-    uint64_t state[16];
+    const Pgm *map = c->map;
+    uint64_t state[TERRAIN_STATE_LENGTH];
     size_t n = map->width * map->height, offered = 0;
     uint32_t no = terrain_writer_set_up(state, map->width, levels, store, store_len);
     while (!no && offered < n) {
@@ -38,28 +46,29 @@ static uint32_t write_cut(const Pgm *map, size_t levels, int32_t *plane, int32_t
         if (run > n - offered) run = n - offered;
         no = terrain_writer_offer(state, store, store_len, map->heights + offered, run, &taken);
         offered += taken;
-        ++*runs;
+        c->runs++;
         if (!no) no = draw_rows(state, store, store_len, line, plane, map->width, map->height, levels);
-        progress(map, levels, "writing", offered / map->width);
+        so_far(c, levels, 0, offered / map->width);
     }
     if (!no) no = terrain_writer_finish(state, store, store_len);
     return no ? no : draw_rows(state, store, store_len, line, plane, map->width, map->height, levels);
 }
 
 /* The plane's rows through a reader: *row is the first height row that comes back different, or the height. */
-static uint32_t read_back(const Pgm *map, size_t levels, const int32_t *plane, int32_t *store, size_t store_len, uint16_t *line, size_t *row)
+static uint32_t read_back(Check *c, size_t levels, const int32_t *plane, int32_t *store, size_t store_len, uint16_t *line, size_t *row)
 {
-    uint64_t state[16], want[5];
+    const Pgm *map = c->map;
+    uint64_t state[TERRAIN_STATE_LENGTH], want[TERRAIN_WANT_LENGTH];
     size_t n = map->width * map->height, start, length;
     uint32_t no = terrain_reader_set_up(state, map->width, map->height, levels, store, store_len);
     for (*row = 0; !no;) {
         no = terrain_reader_want(state, want);
-        if (no || want[0] == DONE) break;
-        if (want[0] == ENDED) return 14;
-        if (want[0] == DRAW) {
+        if (no || want[0] == TERRAIN_WANT_DONE) break;
+        if (want[0] == TERRAIN_WANT_ENDED) return 14;
+        if (want[0] == TERRAIN_WANT_DRAW) {
             no = terrain_reader_draw(state, store, store_len, line, map->width, &length);
             if (!no && memcmp(line, map->heights + *row * map->width, map->width * sizeof *line) != 0) break;
-            if (!no) progress(map, levels, "reading", ++*row);
+            if (!no) so_far(c, levels, 1, ++*row);
         } else {
             no = terrain_band_row(n, map->width, map->height, levels, want[LEVEL], want[BAND], want[ROW], &start, &length);
             if (!no) no = terrain_reader_feed(state, store, store_len, plane + start, length);
@@ -68,57 +77,69 @@ static uint32_t read_back(const Pgm *map, size_t levels, const int32_t *plane, i
     return no;
 }
 
-/* 0: identical at every number of levels. */
-static int check(const char *path, const Pgm *map, int32_t *plane, int32_t *store, int32_t *line, uint16_t *heights)
+/* What is not as it should be, with the command that shows it again. */
+static int different(Check *c, size_t levels, uint32_t no, size_t row)
 {
-    size_t runs = 0, row = 0;
-    for (size_t levels = 1; levels <= MAX_LEVELS; levels++) {
-        size_t store_len = terrain_store_length(map->width, levels);
-        uint32_t no = write_cut(map, levels, plane, store, store_len, line, &runs);
-        if (!no) no = read_back(map, levels, plane, store, store_len, heights, &row);
-        if (no || row != map->height) {
-            fprintf(stderr, "%s%s: at %u levels: ", map->width * map->height >= LARGE ? "\n" : "", path, (unsigned)levels);
-            if (no) fprintf(stderr, "%s (question %u)\n", question_sentence(no), (unsigned)no);
-            else fprintf(stderr, "DIFFERENT: height row %lu is not the map's\n", (unsigned long)row);
-            return 1;
-        }
+    progress_end(&c->line);
+    fprintf(stderr, "terrain: %s: at %u levels: ", input_name(c->path), (unsigned)levels);
+    if (no) fprintf(stderr, "%s (question %u)\n", terrain_sentence(no), (unsigned)no);
+    else fprintf(stderr, "DIFFERENT: height row %lu is not the map's\n", (unsigned long)row);
+    fprintf(stderr, "terrain: the same cuts again: ./terrain check --seed %llu %s\n", (unsigned long long)c->seed, c->path);
+    return STATUS_DIFFERENT;
+}
+
+/* STATUS_DONE: identical at every number of levels. */
+static int check(Check *c, int32_t *plane, int32_t *store, int32_t *line, uint16_t *heights)
+{
+    size_t row = 0;
+    for (size_t levels = 1; levels <= TERRAIN_MAX_LEVELS; levels++) {
+        size_t store_len = terrain_store_length(c->map->width, levels);
+        uint32_t no = write_cut(c, levels, plane, store, store_len, line);
+        if (!no) no = read_back(c, levels, plane, store, store_len, heights, &row);
+        if (no || row != c->map->height) return different(c, levels, no, row);
     }
-    if (map->width * map->height >= LARGE) fprintf(stderr, "\n");
-    printf("identical: %lu x %lu heights, 1 to %d levels, %lu runs\n", (unsigned long)map->width, (unsigned long)map->height, MAX_LEVELS,
-           (unsigned long)runs);
-    return 0;
+    progress_end(&c->line);
+    printf("identical: %lu x %lu heights, 1 to %d levels, %lu runs, seed %llu\n", (unsigned long)c->map->width, (unsigned long)c->map->height,
+           TERRAIN_MAX_LEVELS, (unsigned long)c->runs, (unsigned long long)c->seed);
+    return STATUS_DONE;
+}
+
+/* In areas of the map's size. */
+static int check_map(const char *path, const Pgm *map, uint64_t seed)
+{
+    const char *name = input_name(path);
+    Check c = {path, map, seed, 0, 0, progress_begin()};
+    int status = STATUS_UNABLE;
+    if (map->width > TERRAIN_MAX_WIDTH || map->height > TERRAIN_MAX_HEIGHT) {
+        fprintf(stderr, "terrain: %s: %lu x %lu heights, and a map has at most 2,049 columns and 65,535 rows\n", name, (unsigned long)map->width,
+                (unsigned long)map->height);
+        return STATUS_REFUSED;
+    }
+    random_state = seed;
+    int32_t *plane = (int32_t *)malloc(map->width * map->height * sizeof *plane);
+    int32_t *store = (int32_t *)malloc(TERRAIN_MAX_STORE_LENGTH * sizeof *store);
+    int32_t *line = (int32_t *)malloc(map->width * sizeof *line);
+    uint16_t *heights = (uint16_t *)malloc(map->width * sizeof *heights);
+    if (plane && store && line && heights) status = check(&c, plane, store, line, heights);
+    else fprintf(stderr, "terrain: %s: there is not enough memory for it\n", name);
+    free(heights);
+    free(line);
+    free(store);
+    free(plane);
+    return status;
 }
 
 int main(int argc, char **argv)
 {
     Pgm map;
-    const char *wrong;
-    int status = 1;
-    if (argc != 2) {
-        fprintf(stderr, "usage: check FILE.pgm\n");
-        return 2;
+    int status;
+    if (argc != 2 && argc != 3) {
+        fprintf(stderr, "terrain: usage: check FILE.pgm [SEED]\n");
+        return STATUS_USAGE;
     }
-    if ((wrong = pgm_read(argv[1], &map)) != NULL) {
-        fprintf(stderr, "%s: %s\n", argv[1], wrong);
-        return 1;
-    }
-    if (map.width > 2049 || map.height > 65535) {
-        fprintf(stderr, "%s: %lu x %lu heights, and a map has at most 2,049 columns and 65,535 rows\n", argv[1], (unsigned long)map.width,
-                (unsigned long)map.height);
-        free(map.heights);
-        return 1;
-    }
-    seed = (uint64_t)time(NULL) << 20 | 1;
-    int32_t *plane = (int32_t *)malloc(map.width * map.height * sizeof *plane);
-    int32_t *store = (int32_t *)malloc(terrain_store_length(map.width, MAX_LEVELS) * sizeof *store);
-    int32_t *line = (int32_t *)malloc(map.width * sizeof *line);
-    uint16_t *heights = (uint16_t *)malloc(map.width * sizeof *heights);
-    if (plane && store && line && heights) status = check(argv[1], &map, plane, store, line, heights);
-    else fprintf(stderr, "%s: there is not enough memory for it\n", argv[1]);
-    free(heights);
-    free(line);
-    free(store);
-    free(plane);
+    if (!same_version()) return STATUS_UNABLE;
+    if ((status = read_map(argv[1], &map)) != STATUS_DONE) return status;
+    status = check_map(argv[1], &map, argc == 3 ? strtoull(argv[2], NULL, 10) : (uint64_t)time(NULL));
     free(map.heights);
-    return status;
+    return finished(status);
 }

@@ -14,11 +14,23 @@ typedef struct {
     uint32_t crc, a, b;
 } Png;
 
+/* What a byte makes of a sum that was 0. */
+static inline uint32_t png_crc(uint32_t byte)
+{
+    static uint32_t table[256];
+    if (table[1] == 0)
+        for (uint32_t n = 0; n < 256; n++) {
+            uint32_t crc = n;
+            for (int i = 0; i < 8; i++) crc = crc >> 1 ^ (crc & 1 ? 0xedb88320u : 0);
+            table[n] = crc;
+        }
+    return table[byte];
+}
+
 static inline void png_byte(Png *p, uint32_t byte)
 {
     putc((int)byte, p->file);
-    p->crc ^= byte;
-    for (int i = 0; i < 8; i++) p->crc = p->crc >> 1 ^ (p->crc & 1 ? 0xedb88320u : 0);
+    p->crc = p->crc >> 8 ^ png_crc((p->crc ^ byte) & 255);
 }
 
 static inline void png_number(Png *p, uint32_t n)

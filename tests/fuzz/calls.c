@@ -1,4 +1,4 @@
-/* The C interface under a fuzzer. The input is a list of calls with their arguments, made on three streams and on maps and lines; states and
+/* The C interface under a fuzzer. The input is a list of calls with their arguments, made on three streams, on maps, lines and rows; states and
  * stores are scribbled in between. After each call: nothing outside the lent areas is touched (areas.h), a call turned away has changed
  * nothing, a number comes only where it may, 1 and 5 exactly where they must. Where a stream's calls went by the rules, its rows and heights
  * are those of a transform of its own (model.h). tests/fuzz/run builds and runs it. */
@@ -404,6 +404,36 @@ static void line(void)
     HOLDS(answer || !n || memcmp(out, expected, n * sizeof *out) == 0);
 }
 
+/* One pass of the 9/7 lifting over the odd or even samples; run compiles without contraction, so that nothing is fused. */
+static void pass(float *x, size_t n, size_t first, float c)
+{
+    for (size_t i = first; i < n; i += 2) {
+        float left = x[i ? i - 1 : 1], right = x[i + 1 < n ? i + 1 : i - 1];
+        x[i] = x[i] + c * (left + right);
+    }
+}
+
+static void profile(void)
+{
+    static uint16_t heights[MOST_WIDTH + 8];
+    static float expected[MOST_WIDTH + 8];
+    static const float factors[4] = { -1.586134342f, -0.052980118f, 0.882911075f, 0.443506852f };
+    size_t n = below(4) ? below(40) : (size_t)wide(2) % (MOST_WIDTH + 8), more = below(12), len = n + (more < 8 ? more % 4 : 0);
+    if (more >= 8) len = n ? byte() % n : 0;
+    fill(heights, n);
+    for (size_t i = 0; i < n; i++) expected[i] = heights[i];
+    for (size_t k = 0; k < 4 && n > 1; k++) pass(expected, n, (k + 1) % 2, factors[k]);
+    const uint16_t *lent = area_lend(&run_area, heights, n * sizeof *heights, at_end());
+    float *out = area_lend(&out_area, NULL, len * sizeof *out, at_end());
+    uint32_t answer = terrain_profile(lent, n, out, len);
+    area_back(&run_area);
+    area_back(&out_area);
+    HOLDS(area_is(&run_area, heights));
+    HOLDS(answer == (n < 1 || n > MOST_WIDTH ? 2u : len < n ? 5u : 0u));
+    HOLDS(area_unset(&out_area, answer ? 0 : n * sizeof *out));
+    HOLDS(answer || memcmp(out, expected, n * sizeof *out) == 0);
+}
+
 /* What the questions before 6 and 7 say, areas of these lengths being lent. */
 static uint32_t shape(size_t w, size_t h, size_t levels, size_t shortest)
 {
@@ -525,7 +555,8 @@ static void call(void)
     case 0: case 1: set_up(s, WRITER); break;
     case 2: case 3: set_up(s, READER); break;
     case 4: case 5: case 6: case 7: offer(s); break;
-    case 8: case 9: case 10: case 11: case 12: draw_row(s); break;
+    case 8: case 9: case 10: case 11: draw_row(s); break;
+    case 12: profile(); break;
     case 13: finish(s); break;
     case 14: case 15: case 16: case 17: case 18: case 19: feed(s); break;
     case 20: case 21: case 22: draw_heights(s); break;

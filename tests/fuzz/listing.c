@@ -5,6 +5,7 @@
 #include "model.h"
 #include <errno.h>
 #include <fcntl.h>
+#include <signal.h>
 #include <spawn.h>
 #include <stdio.h>
 #include <sys/wait.h>
@@ -120,6 +121,11 @@ static int list(const uint8_t *data, size_t size)
 }
 
 /* ---- the program */
+static void send(int fd, const uint8_t *data, size_t size)
+{
+    if (write(fd, data, size) != (ssize_t)size && errno != EPIPE) abort();
+}
+
 static size_t run(const uint8_t *data, size_t size, size_t cut)
 {
     extern char **environ;
@@ -134,8 +140,9 @@ static size_t run(const uint8_t *data, size_t size, size_t cut)
     if (posix_spawn(&child, "target/bin/list", &actions, 0, argv, environ)) abort();
     posix_spawn_file_actions_destroy(&actions);
     close(in[0]), close(out[1]);
-    /* a pipe holds 65,536 bytes, more than is written; the program reads to its input's end, so nothing blocks */
-    if (write(in[1], data, cut) != (ssize_t)cut || write(in[1], data + cut, size - cut) != (ssize_t)(size - cut)) abort();
+    /* a pipe holds 65,536 bytes, more than is written, so nothing blocks; after a refusal the program reads no more */
+    signal(SIGPIPE, SIG_IGN);
+    send(in[1], data, cut), send(in[1], data + cut, size - cut);
     close(in[1]);
     size_t n = 0;
     ssize_t got;
@@ -145,7 +152,8 @@ static size_t run(const uint8_t *data, size_t size, size_t cut)
     while (waitpid(child, &status, 0) < 0)
         if (errno != EINTR) abort();
     if (status) {
-        fprintf(stderr, "the program ended with %s %d\n", WIFSIGNALED(status) ? "signal" : "status", WIFSIGNALED(status) ? WTERMSIG(status) : WEXITSTATUS(status));
+        int signalled = WIFSIGNALED(status);
+        fprintf(stderr, "the program ended with %s %d\n", signalled ? "signal" : "status", signalled ? WTERMSIG(status) : WEXITSTATUS(status));
         abort();
     }
     return n;

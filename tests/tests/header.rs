@@ -43,6 +43,7 @@ fn parts(declaration: &str) -> (&str, Vec<&str>, &str) {
 fn in_rust(c_type: &str) -> String {
     match c_type {
         "size_t" => "usize",
+        "float" => "f32",
         "int32_t" => "i32",
         "uint16_t" => "u16",
         "uint32_t" => "u32",
@@ -75,11 +76,14 @@ fn header() -> Calls {
         rest = after.split_once("*/").expect("a comment ends").1;
     }
     plain.push_str(rest);
+    let plain = plain.split_once("TERRAIN_INLINE const").expect("the function that stands in the header comes last").0;
     let lines: Vec<&str> = plain.lines().filter(|l| !l.starts_with('#') && !l.starts_with("extern") && !l.starts_with('}')).collect();
     let mut calls = Calls::new();
     for declaration in lines.join(" ").split(';').map(str::trim).filter(|d| !d.is_empty()) {
-        let (name, arguments, after) = parts(declaration);
+        let declaration = declaration.strip_prefix("TERRAIN_CHECKED ").unwrap_or_else(|| panic!("an answer to look at: {declaration}"));
+        let (name, mut arguments, after) = parts(declaration);
         assert!(after.is_empty(), "{declaration}");
+        arguments.retain(|a| *a != "void");
         let answer = in_rust(declaration.split_whitespace().next().expect("a type"));
         let signature = (arguments.into_iter().map(c_argument).collect(), answer);
         assert!(calls.insert(name.to_string(), signature).is_none(), "{name} is declared twice");
@@ -154,7 +158,7 @@ fn the_archive_exports_what_the_header_declares_and_nothing_else() {
     let exported: BTreeSet<String> = symbols().into_iter().filter(|(l, _)| l.is_ascii_uppercase() && *l != 'U').map(|(_, n)| n).collect();
     assert_eq!(exported, declared);
     assert!(symbols().iter().all(|(l, n)| !declared.contains(n) || *l == 'T'), "each is a function");
-    assert_eq!(declared.len(), 14);
+    assert_eq!(declared.len(), 16);
 }
 
 /// No heap, no file, no thread: it calls nothing but the C library's copies. No state: no data that can be written.

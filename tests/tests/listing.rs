@@ -1,12 +1,13 @@
 //! The built program `list`, run on inputs good and bad that reach it in pieces, beside a second listing. The input is a socket of datagrams:
-//! each read gives one piece, so the cuts are the test's own, and an empty one is the end.
-use std::fs::File;
-use std::io::Read;
+//! each read gives one piece, so the cuts are the test's own, and an empty one is the end. Then inputs and outputs that fail or do not wait.
+use std::fs::{self, File};
+use std::io::{Read, Write};
 use std::os::fd::OwnedFd;
-use std::os::unix::net::UnixDatagram;
+use std::os::unix::net::{UnixDatagram, UnixStream};
 use std::path::{Path, PathBuf};
-use std::process::{Command, Stdio};
+use std::process::{Child, Command, Stdio};
 use std::thread;
+use std::time::{Duration, Instant};
 use terrain_tests::listing::listing;
 use terrain_tests::random::Random;
 
@@ -16,27 +17,43 @@ fn program() -> PathBuf {
     path
 }
 
-fn output(input: Stdio) -> Vec<u8> {
-    let mut child = Command::new(program()).stdin(input).stdout(Stdio::piped()).spawn().expect("the program starts");
-    let mut out = Vec::new();
-    child.stdout.take().expect("it has an output").read_to_end(&mut out).expect("the output is read");
-    assert!(child.wait().expect("it ends").success());
-    out
+/// What the program wrote, and what it said on standard error.
+struct Said {
+    out: Vec<u8>,
+    error: String,
 }
 
-/// What the program writes of an input that comes in these pieces.
+fn said(mut child: Child) -> Said {
+    let mut error = child.stderr.take().expect("it has a standard error");
+    let telling = thread::spawn(move || {
+        let mut text = String::new();
+        error.read_to_string(&mut text).expect("the errors are read");
+        text
+    });
+    let mut out = Vec::new();
+    if let Some(mut output) = child.stdout.take() {
+        output.read_to_end(&mut out).expect("the output is read");
+    }
+    assert!(child.wait().expect("it ends").success());
+    Said { out, error: telling.join().expect("the errors are read") }
+}
+
+fn start(input: Stdio, output: Stdio) -> Child {
+    Command::new(program()).stdin(input).stdout(output).stderr(Stdio::piped()).spawn().expect("the program starts")
+}
+
+fn run(input: Stdio) -> Said {
+    said(start(input, Stdio::piped()))
+}
+
+/// What the program writes of an input that comes in these pieces. After a refusal it reads no more of them.
 fn list(pieces: Vec<Vec<u8>>) -> Vec<u8> {
     let (ours, its) = UnixDatagram::pair().expect("a pair of sockets");
-    let writing = thread::spawn(move || {
-        for piece in pieces {
-            assert_eq!(ours.send(&piece).expect("the input is read to its end"), piece.len());
-        }
-        ours.send(&[]).expect("the end is read");
-        ours
-    });
-    let out = output(Stdio::from(OwnedFd::from(its)));
-    writing.join().expect("all was written");
-    out
+    let writing = thread::spawn(move || pieces.iter().chain([&Vec::new()]).take_while(|piece| ours.send(piece).is_ok()).count());
+    let found = run(Stdio::from(OwnedFd::from(its)));
+    writing.join().expect("all was written that is read");
+    assert_eq!(found.error, "");
+    found.out
 }
 
 fn cut(input: &[u8], random: &mut Random) -> Vec<Vec<u8>> {
@@ -222,8 +239,141 @@ fn a_large_map() {
     }
 }
 
+/// The stored inputs of the program `list_files`: what they must give is what the second listing gives.
 #[test]
-fn an_input_that_cannot_be_read_is_one_that_ended() {
+fn the_stored_inputs() {
+    let folder = Path::new(env!("CARGO_MANIFEST_DIR")).join("../crates/list_files");
+    let names = fs::read_to_string(folder.join("args")).expect("the names are there");
+    let mut wanted = String::new();
+    for name in names.lines() {
+        let input = fs::read(folder.join("data").join(name)).expect("the input is there");
+        wanted += &format!("{name}:\n{}", listing(&input));
+    }
+    let stored = fs::read_to_string(folder.join("stdout")).expect("the expected output is there");
+    assert!(stored == wanted, "list_files/stdout is not what the second listing gives");
+}
+
+fn map_of(width: usize, height: usize, seed: u64) -> Vec<u8> {
+    let mut random = Random::new(seed);
+    let mut input = header(3, width, height, 65535, &mut random);
+    input.extend(map(width, height, 65535, &mut random));
+    input
+}
+
+#[test]
+fn a_directory_is_no_map() {
     let folder = File::open(env!("CARGO_MANIFEST_DIR")).expect("the folder is there");
-    assert_eq!(output(Stdio::from(folder)), b"refused 15\n");
+    let found = run(Stdio::from(folder));
+    assert_eq!((found.out.as_slice(), found.error.as_str()), (&b""[..], "standard input: Is a directory\n"));
+}
+
+/// A socket whose other end is closed with bytes unread is reset: the lines due stay, no refusal blames the picture, and an error says so.
+#[test]
+fn an_input_that_is_reset_is_not_one_that_ended() {
+    let input = map_of(4, 9, 66);
+    let (mut ours, its) = UnixStream::pair().expect("a pair of sockets");
+    (&its).write_all(b"unread").expect("it is written");
+    ours.write_all(&input[..input.len() - 3]).expect("it is written");
+    let mut child = start(Stdio::from(OwnedFd::from(its)), Stdio::piped());
+    let mut first = [0; 6];
+    child.stdout.as_mut().expect("it has an output").read_exact(&mut first).expect("lines are due");
+    drop(ours);
+    let found = said(child);
+    let wanted = listing(&input[..input.len() - 3]);
+    let due = wanted.strip_suffix("refused 15\n").expect("bytes are missing");
+    assert_eq!(String::from_utf8([&first[..], &found.out].concat()).expect("text"), due);
+    assert_eq!(found.error, "standard input: Connection reset by peer\n");
+}
+
+#[test]
+fn an_output_that_is_full() {
+    let full = File::create("/dev/full").expect("the device is there");
+    let (mut ours, its) = UnixStream::pair().expect("a pair of sockets");
+    ours.write_all(&map_of(4, 4, 67)).expect("it is written");
+    let found = said(start(Stdio::from(OwnedFd::from(its)), Stdio::from(full)));
+    assert_eq!(found.error, "standard output: No space left on device\n");
+}
+
+#[test]
+fn descriptors_that_are_closed() {
+    let closed = |which: &str, name: &str| {
+        let line = format!("exec \"$0\" {which}");
+        let child = Command::new("sh").args(["-c", &line]).arg(program()).stdin(Stdio::null()).stdout(Stdio::piped()).stderr(Stdio::piped()).spawn();
+        let found = said(child.expect("the program starts"));
+        assert_eq!((found.out.as_slice(), found.error), (&b""[..], format!("{name}: Bad file descriptor\n")));
+    };
+    closed("<&-", "standard input");
+    closed(">&-", "standard output");
+}
+
+/// The input stays open and says no more: a program that read on would wait for ever.
+#[test]
+fn after_a_refusal_nothing_is_read() {
+    let mut surplus = map_of(3, 3, 68);
+    surplus.push(0);
+    for input in [b"6\nP5".to_vec(), b"3\nP6 ".to_vec(), surplus] {
+        let (mut ours, its) = UnixStream::pair().expect("a pair of sockets");
+        ours.write_all(&input).expect("it is written");
+        let mut child = start(Stdio::from(OwnedFd::from(its)), Stdio::piped());
+        let begun = Instant::now();
+        while child.try_wait().expect("it is there").is_none() {
+            if begun.elapsed() > Duration::from_secs(20) {
+                child.kill().expect("it is there");
+                panic!("the program reads on");
+            }
+            thread::sleep(Duration::from_millis(5));
+        }
+        let found = said(child);
+        assert_eq!((String::from_utf8(found.out).expect("text"), found.error), (listing(&input), String::new()));
+    }
+}
+
+/// Neither end waits: a read and a write that would have to wait are made again, and no byte is lost or doubled.
+#[test]
+fn descriptors_that_do_not_wait() {
+    let input = map_of(61, 200, 69);
+    let (mut ours, its) = UnixStream::pair().expect("a pair of sockets");
+    let (mut outs, theirs) = UnixStream::pair().expect("a pair of sockets");
+    its.set_nonblocking(true).expect("it is set");
+    theirs.set_nonblocking(true).expect("it is set");
+    let child = start(Stdio::from(OwnedFd::from(its)), Stdio::from(OwnedFd::from(theirs)));
+    let pieces = input.clone();
+    let writing = thread::spawn(move || {
+        for piece in pieces.chunks(3_000) {
+            thread::sleep(Duration::from_millis(5));
+            ours.write_all(piece).expect("it is written");
+        }
+    });
+    thread::sleep(Duration::from_millis(100));
+    let mut out: Vec<u8> = Vec::new();
+    let mut piece = [0; 2_000];
+    loop {
+        let n = outs.read(&mut piece).expect("it is read");
+        if n == 0 {
+            break;
+        }
+        out.extend(&piece[..n]);
+    }
+    writing.join().expect("all was written");
+    assert_eq!((out == listing(&input).into_bytes(), said(child).error), (true, String::new()));
+}
+
+/// A socket with a time limit gives up a read after it, and at a signal that stops and resumes the program.
+#[test]
+fn a_read_that_is_interrupted() {
+    let input = map_of(5, 5, 70);
+    let (mut ours, its) = UnixStream::pair().expect("a pair of sockets");
+    its.set_read_timeout(Some(Duration::from_millis(200))).expect("it is set");
+    let child = start(Stdio::from(OwnedFd::from(its)), Stdio::piped());
+    let (half, rest) = input.split_at(input.len() / 2);
+    ours.write_all(half).expect("it is written");
+    for signal in ["-STOP", "-CONT", "-STOP", "-CONT"] {
+        thread::sleep(Duration::from_millis(70));
+        assert!(Command::new("sh").args(["-c", "kill \"$0\" \"$1\"", signal, &child.id().to_string()]).status().expect("it runs").success());
+    }
+    thread::sleep(Duration::from_millis(300));
+    ours.write_all(rest).expect("it is written");
+    drop(ours);
+    let found = said(child);
+    assert_eq!((String::from_utf8(found.out).expect("text"), found.error), (listing(&input), String::new()));
 }

@@ -1,6 +1,8 @@
-//! The pictures of tools/bands.c: its PNG, read by the standard's rules, has the samples of its PGM, at every number of levels.
+//! The pictures of tools/bands.c: its PNG, read by the standard's rules, has the samples of its PGM, at every number of levels; and each
+//! coefficient of the independent transform has the grey that the scale of its level gives it.
 use std::path::{Path, PathBuf};
 use std::process::Command;
+use terrain_tests::maps::forward;
 
 fn root() -> PathBuf {
     Path::new(env!("CARGO_MANIFEST_DIR")).parent().expect("tests/ stands in the repository").to_path_buf()
@@ -71,11 +73,11 @@ fn png_samples(png: &[u8]) -> (usize, usize, Vec<u8>) {
     (width, height, rows.chunks(1 + 2 * width).flat_map(|row| row[1..].to_vec()).collect())
 }
 
-#[test]
-fn a_png_has_the_samples_of_the_pgm() {
-    let program = made("bands");
+/// The program, compiled without a warning.
+fn program(name: &str) -> PathBuf {
+    let program = made(name);
     let compiled = Command::new("cc")
-        .args(["-std=c11", "-O2", "-Wall", "-Wextra", "-Werror", "-I"])
+        .args(["-std=gnu11", "-O2", "-Wall", "-Wextra", "-Werror", "-I"])
         .arg(root().join("include"))
         .arg(root().join("tools/bands.c"))
         .arg(root().join("target/staticlib/libterrain.a"))
@@ -84,20 +86,65 @@ fn a_png_has_the_samples_of_the_pgm() {
         .status()
         .expect("cc runs");
     assert!(compiled.success());
+    program
+}
+
+/// The picture of a map, and what was written with it.
+fn picture(program: &Path, levels: usize, map: &Path, name: &str) -> (Vec<u8>, String) {
+    let picture = made(name);
+    let ran = Command::new(program).arg(levels.to_string()).arg(map).arg(&picture).output().expect("bands runs");
+    assert!(ran.status.success());
+    (std::fs::read(picture).expect("a picture"), String::from_utf8(ran.stdout).expect("text"))
+}
+
+#[test]
+fn a_png_has_the_samples_of_the_pgm() {
+    let program = program("bands");
     let (one, wide) = (made("one.pgm"), made("wide.pgm"));
     std::fs::write(&one, b"P5\n1 1\n65535\n\x12\x34").expect("written");
     let samples: Vec<u8> = (0..2 * 3 * 2_049u32).map(|i| (i * i % 251) as u8).collect();
     std::fs::write(&wide, [b"P5\n2049 3\n65535\n", &samples[..]].concat()).expect("written");
     for map in [root().join("examples/hill.pgm"), one, wide] {
-        for levels in ["1", "3", "5"] {
-            let [png, pgm] = ["picture.png", "picture.pgm"].map(|name| {
-                let picture = made(name);
-                let ran = Command::new(&program).arg(levels).arg(&map).arg(&picture).status().expect("bands runs");
-                assert!(ran.success());
-                std::fs::read(picture).expect("a picture")
-            });
+        for levels in [1, 3, 5] {
+            let [png, pgm] = ["picture.png", "picture.pgm"].map(|name| picture(&program, levels, &map, name).0);
             let (width, height, samples) = png_samples(&png);
             assert_eq!(pgm, [format!("P5\n{width} {height}\n65535\n").as_bytes(), &samples].concat());
         }
+    }
+}
+
+/// The hill: seven pixels a number, of which the first three of a band's box may be its border or its name.
+#[test]
+fn each_number_has_its_grey() {
+    let (width, height, levels, side) = (129, 97, 3, 7);
+    let map = std::fs::read(root().join("examples/hill.pgm")).expect("the map");
+    let samples = map.strip_prefix(b"P5\n129 97\n65535\n").expect("its header");
+    let heights: Vec<u16> = samples.chunks_exact(2).map(|b| u16::from_be_bytes([b[0], b[1]])).collect();
+    let plane = forward(&heights, width, height, levels);
+    let (pgm, said) = picture(&program("bands-of-the-hill"), levels, &root().join("examples/hill.pgm"), "greys.pgm");
+    let pixels = pgm.strip_prefix(format!("P5\n{} {}\n65535\n", width * side, height * side).as_bytes()).expect("its header");
+    let pixel = |x: usize, y: usize| i64::from(u16::from_be_bytes([pixels[2 * (y * width * side + x)], pixels[2 * (y * width * side + x) + 1]]));
+
+    let (mut w, mut h) = (width, height);
+    for level in 1..=levels {
+        let (low_w, low_h) = (w.div_ceil(2), h.div_ceil(2));
+        let detail: Vec<(usize, usize)> = (0..h).flat_map(|y| (0..w).map(move |x| (x, y))).filter(|&(x, y)| x >= low_w || y >= low_h).collect();
+        let most = detail.iter().map(|&(x, y)| plane[y * width + x].abs()).max().expect("a number");
+        let line = format!("HL{level}, LH{level} and HH{level}: middle grey is 0, black is -{most} and white {most}, by the logarithm");
+        assert!(said.lines().any(|l| l == line), "{line}: {said}");
+        for (x, y) in detail {
+            let name = 6; // numbers that a name may hide
+            if (x < name || (low_w..low_w + name).contains(&x)) && (y < name || (low_h..low_h + name).contains(&y)) {
+                continue;
+            }
+            let n = plane[y * width + x];
+            let part = f64::from(n.abs() + 1).ln() / f64::from(most + 1).ln() * 32_767.0;
+            let grey = 32_768.0 + part * f64::from(n.signum());
+            let got = pixel(x * side + side - 1, y * side + side - 1);
+            assert!((got as f64 - grey).abs() < 40.0, "level {level}, column {x}, row {y}: {n} is {got} and not {grey}");
+        }
+        // the border stands between the bands
+        assert_eq!([pixel(low_w * side, 60), pixel(60, low_h * side)], [65_535; 2]);
+        (w, h) = (low_w, low_h);
     }
 }

@@ -259,7 +259,7 @@ fn counts_fit(s: &State) -> bool {
         && finished <= 1
         && closed <= levels
         && level <= levels
-        && left <= 4
+        && left <= if level == 0 { 0 } else if level < levels { 3 } else { 4 }
         && s[9..].iter().all(|&n| n == 0)
 }
 

@@ -1,7 +1,9 @@
 //! Height maps to wavelet coefficients and back, exactly: safe Rust over the proved library (`include/terrain.h`).
 //!
-//! Nothing is allocated: the caller lends slices. Every call is a `Result`; its error is the [`Question`] that turned the call away, and it
-//! prints a sentence. A call turned away has changed nothing that was lent to it, but for question 14, which ends a [`Reader`].
+//! [`Writer`] and [`Reader`] allocate nothing: the caller lends slices. [`OwnedWriter`] and [`OwnedReader`] own what they work in.
+//!
+//! Every call is a `Result`; its error is the [`Question`] that turned the call away, and it prints a sentence. A call turned away has
+//! changed nothing that was lent to it, but for question 14, which ends a [`Reader`].
 //!
 //! ```
 //! use terrain::{store_length, Reader, Want, Writer};
@@ -45,17 +47,25 @@
 
 mod line;
 mod map;
+mod profile;
 mod question;
 pub mod raw;
 mod reader;
 mod writer;
 
+mod owned;
+
 pub use line::{line_backward, line_forward};
 pub use map::{band_row, map_backward, map_forward, view, Shape};
+pub use profile::profile;
 pub use question::{Call, Question};
 pub use reader::{Reader, Want};
 pub use writer::Writer;
 
+pub use owned::{OwnedReader, OwnedWriter};
+
+/// The version of the interface that this crate was written for: 10,000 for each major number, 100 for each minor one, and the patch.
+pub const VERSION: u32 = 200;
 /// The largest width of a map.
 pub const MAX_WIDTH: usize = 2_049;
 /// The largest height of a map.
@@ -87,6 +97,11 @@ impl BandRow {
         let band = [Band::Ll, Band::Hl, Band::Lh, Band::Hh][band as usize];
         BandRow { level: level as usize, band, row: row as usize, length: length as usize }
     }
+}
+
+/// The version of the archive that is linked; [`VERSION`], if they belong together.
+pub fn version() -> u32 {
+    raw::version()
 }
 
 /// How many numbers the line store of a writer or reader needs; 0 where no set-up passes.

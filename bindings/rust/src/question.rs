@@ -1,10 +1,12 @@
 //! The question that turned a call away.
 use std::fmt;
 
-/// A call of the library.
+/// A call of the library. More of them will come.
+#[non_exhaustive]
 #[derive(Clone, Copy, Debug, PartialEq, Eq, Hash)]
 pub enum Call {
     Line,
+    Profile,
     MapForward,
     MapBackward,
     View,
@@ -41,10 +43,12 @@ impl Question {
     pub fn sentence(&self) -> &'static str {
         match (self.number, self.call) {
             (1, _) => "the state is none that its calls made: a count is outside its range",
+            (2, Call::Profile) => "the row has no height, or more than 2,049",
             (2, _) => "the width is not 1 to 2,049",
             (3, _) => "the height is not 1 to 65,535",
             (4, _) => "the number of levels is not 1 to 5",
             (5, Call::Line) => "the output is shorter than the line",
+            (5, Call::Profile) => "the output is shorter than the row",
             (5, Call::WriterSetUp | Call::ReaderSetUp) => {
                 "the line store is too short: lend it store_length(width, levels) numbers"
             }

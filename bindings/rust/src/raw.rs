@@ -10,6 +10,7 @@ pub type State = [u64; 16];
 
 mod c {
     extern "C" {
+        pub fn terrain_version() -> u32;
         pub fn terrain_line_forward(line: *const i32, line_len: usize, out: *mut i32, out_len: usize) -> u32;
         pub fn terrain_line_backward(
             coefficients: *const i32,
@@ -17,6 +18,7 @@ mod c {
             out: *mut i32,
             out_len: usize,
         ) -> u32;
+        pub fn terrain_profile(row: *const u16, row_len: usize, out: *mut f32, out_len: usize) -> u32;
         pub fn terrain_map_forward(
             heights: *const u16,
             heights_len: usize,
@@ -105,12 +107,20 @@ mod c {
 // SAFETY, of every call below: each area is a whole slice with its own length, each number that is set a reference, and Rust lets none of
 // those that are written overlap another.
 
+pub fn version() -> u32 {
+    unsafe { c::terrain_version() }
+}
+
 pub fn line_forward(line: &[i32], out: &mut [i32]) -> u32 {
     unsafe { c::terrain_line_forward(line.as_ptr(), line.len(), out.as_mut_ptr(), out.len()) }
 }
 
 pub fn line_backward(coefficients: &[i32], out: &mut [i32]) -> u32 {
     unsafe { c::terrain_line_backward(coefficients.as_ptr(), coefficients.len(), out.as_mut_ptr(), out.len()) }
+}
+
+pub fn profile(row: &[u16], out: &mut [f32]) -> u32 {
+    unsafe { c::terrain_profile(row.as_ptr(), row.len(), out.as_mut_ptr(), out.len()) }
 }
 
 pub fn map_forward(

@@ -120,6 +120,15 @@ fn a_line() {
 }
 
 #[test]
+fn a_profile() {
+    let mut out = [7.0; 3];
+    profile(&[100, 200], &mut out).unwrap();
+    assert_eq!(out.map(f32::to_bits), [0x4338_86b0, 0x42a2_9420, 7f32.to_bits()]);
+    assert_eq!(profile(&[], &mut out), Err(Question { call: Call::Profile, number: 2 }));
+    assert_eq!(profile(&[1; 4], &mut out), Err(Question { call: Call::Profile, number: 5 }));
+}
+
+#[test]
 fn the_questions() {
     let number = |e: Question| e.number;
     let mut store = [0; 40];
@@ -183,8 +192,9 @@ fn a_question_prints_a_sentence() {
 /// docs/DECISIONS.md, "The questions, call by call".
 #[test]
 fn every_question_of_every_call_has_a_sentence() {
-    let questions: [(Call, &[u32]); 12] = [
+    let questions: [(Call, &[u32]); 13] = [
         (Call::Line, &[5]),
+        (Call::Profile, &[2, 5]),
         (Call::MapForward, &[2, 3, 4, 5]),
         (Call::MapBackward, &[2, 3, 4, 5, 7, 14]),
         (Call::View, &[2, 3, 4, 5, 6]),

@@ -7,3 +7,4 @@ pub mod RowSweep
 pub mod LineLaws
 pub mod PassLaws
 pub mod AreaLaws
+pub mod ThereAndBack

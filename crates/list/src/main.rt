@@ -2,5 +2,5 @@
 use libc::STDIN_FILENO;
 
 fn main() {
-    listing_io::list(STDIN_FILENO);
+    listing_io::list(STDIN_FILENO, b"standard input");
 }

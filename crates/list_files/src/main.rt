@@ -1,22 +1,34 @@
 // Lists each file that its arguments name, after a line with the name: the stored inputs of the listing, held to their expected output by the gate.
+use descriptors::output;
 use libc::STDOUT_FILENO;
 
-// Answers whether there was such an argument.
+fn write(text: &[u8]) -> bool {
+    let sent = output::send(STDOUT_FILENO, b"standard output", text);
+    sent.whole
+}
+
+// A file that is there is listed; one that fails is told on standard error.
+fn list_named(path: &[u8]) {
+    let fd = os::open_read(path);
+    if fd < 0 {
+        os::fail(path);
+        return;
+    }
+    listing_io::list(fd, path);
+    libc::close(fd);
+}
+
+// Answers whether there was such an argument, and its name was written.
 fn list_file(i: usize) -> bool {
     let mut path = io::buffer();
     let length = os::arg(i, &mut path);
     if length == 0 {
         return false;
     }
-    io::write_all(STDOUT_FILENO, &path[..length]);
-    io::write_all(STDOUT_FILENO, b":\n");
-    let fd = os::open_read(&path[..length]);
-    if fd < 0 {
-        os::fail(&path[..length]);
-        return true;
+    if !write(&path[..length]) || !write(b":\n") {
+        return false;
     }
-    listing_io::list(fd);
-    libc::close(fd);
+    list_named(&path[..length]);
     true
 }
 

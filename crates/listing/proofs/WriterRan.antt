@@ -21,19 +21,8 @@ use Rattle.writer.specs.History.{Area, Call, draw, row, Event, drew, World, see
 use Rattle.writer.specs.Demand3.{wholeRows, madeOf, waitingOf, answered, drawSays}
 use Rattle.writer.specs.declared.Writer.{Writer}
 use Rattle.writer.specs.declared.BandRow.{BandRow}
-use Rattle.writer.proofs.Reached.{taken-snoc, drawn-snoc, finished-snoc}
+use Rattle.writer.proofs.Reached.{taken-snoc, drawn-snoc, finished-snoc, events-snoc, final-snoc}
 use Rattle.writer.proofs.Demand3.{demand-3}
-
--- ---- one call more
-events-snoc : (cs : List Call) (c : Call) (w : World) → events (cs ++ c ∷ []) w ≡ events cs w ++ (event c (final cs w) ∷ [])
-unfolding events final
-events-snoc [] c w = refl
-events-snoc (d ∷ cs) c w = ap (λ l. event d w ∷ l) (events-snoc cs c (next d w))
-
-final-snoc : (cs : List Call) (c : Call) (w : World) → final (cs ++ c ∷ []) w ≡ next c (final cs w)
-unfolding final
-final-snoc [] c w = refl
-final-snoc (d ∷ cs) c w = final-snoc cs c (next d w)
 
 abbrev pub worldOf : ℕ → Writer → Memory → World
 worldOf n w x = record { writer = w; length = n; store = x }
@@ -130,8 +119,8 @@ module _ (W L n : ℕ) where
       says : setUpQuestion W L n ≡ 0 → seen given (drawReply w n k x) ≡ drawSays W (waits W L hs f ds) k
       says s =
           let d = demand-3 W L n (r .before) s (r .calls) .1 .draws (area z) in
-          let e : drew (area z) (seen given (drawReply w n k x)) (area after) ≡ drew (area z) (drawSays W (waitingOf W L es) k) (d .0) =
-          sym (drew-is (drawReply w n k x) refl) ∙ ap (event (draw (area z))) (sym (r .world)) ∙ d .1 in
+          let e : drew (area z) (seen given (drawReply w n k x)) (area after) ≡ drew (area z) (drawSays W (waitingOf W L es) k) (d .area) =
+          sym (drew-is (drawReply w n k x) refl) ∙ ap (event (draw (area z))) (sym (r .world)) ∙ d .says in
           cc (e, ap (λ l. drawSays W l k) waiting-is)
 
       pub draw-out : setUpQuestion W L n ≡ 0 → W ≤ k → DrawOut (drawReply w n k x)

@@ -1,133 +1,149 @@
-// The listing program over descriptors: it reads an input to its end in chunks and writes the lines to standard output in large writes, within a constant memory.
-// No contract can say what is read or written; what becomes of the bytes is the promise of crate `listing`.
+// The listing program over descriptors: rounds of read, turn and write, within a constant memory.
+// No contract can say what is read or written; what becomes of the bytes between is said of each round, and by a theorem of all of them
+// (proofs/ListedTheorem.antt).
+mod run;
+
+use descriptors::input;
+use descriptors::input::Left;
+use descriptors::output;
+use descriptors::output::Sent;
 use libc::STDOUT_FILENO;
 use listing::listing::Fed;
 use listing::listing::Listing;
-ghost use Prim.Native.Nat.{_+_, _≤_};
+use run::Run;
+ghost use mathlib.Core.Path.{_≡_};
+ghost use Prim.Native.Nat.{_≤_};
+ghost use lib.Dec.{eqb};
 ghost use lib.ListN.{length};
+ghost use Rattle.numbers.specs.Signal.{at};
+ghost use Rattle.descriptors.specs.Left.{leftIn, Within};
+ghost use Rattle.listing.specs.Scenes.{scene, Leaves, endScene};
+ghost use Rattle.listing.specs.Moves.{Went, Stops};
+ghost use Rattle.listing_io.specs.Rounds.{Round, Ran, Listed};
 
-// A piece being fed: the listing, up to where the piece is read, whether that is all of it and no line is left, and whether standard output takes what is written.
-struct Run {
+// What is left of the chunk is fed.
+fn turn(
     listing: Listing,
-    used: usize,
-    idle: bool,
-    open: bool,
+    left: Left,
+    chunk: &[u8],
+    store: &mut [i32],
+    row: &mut [i32],
+    out: &mut [u8],
+) -> Fed
+    requires { ⌜ Within (now chunk) left ⌝ }
+    ensures { λ r. ⌜
+        Went (length (now (store .entry))) (length (now (row .entry))) (scene listing (at (now (store .entry))) (at (now (row .entry))))
+        (leftIn (now (chunk .entry)) left) 0 (r .used) (now (out .entry)) (now (out .exit)) 0 (r .written)
+        (scene (r .listing) (at (now (store .exit))) (at (now (row .exit))))
+        ⌝ }
+    ensures { λ r. ⌜
+        Stops (scene (r .listing) (at (now (store .exit))) (at (now (row .exit))))
+        (leftIn (now (chunk .entry)) left) (r .used) (now (out .entry)) (r .written) (r .idle)
+        ⌝ }
+{
+    let from = left.from;
+    let to = left.to;
+    listing.feed(&chunk[from..to], store, row, out)
 }
 
-// The input being read: the listing, whether the input has ended, and whether standard output takes what is written.
-struct Reading {
-    listing: Listing,
-    ended: bool,
-    open: bool,
-}
-
-// What a call wrote goes out; answers whether it was taken.
-fn write_out(out: &[u8], written: usize) -> bool
+// What was written goes to standard output.
+fn send(out: &[u8], written: usize) -> Sent
     requires { ⌜ written ≤ length (now out) ⌝ }
+    ensures { λ r. ⌜ r .whole ≡ eqb (r .count) written ⌝ }
 {
-    io::write_all(STDOUT_FILENO, &out[..written])
+    output::send(STDOUT_FILENO, b"standard output", &out[..written])
 }
 
-fn run_on(fed: Fed, from: usize, open: bool) -> Run
-    requires { ⌜ from + fed .used ≤ 65536 ⌝ }
-    ensures { λ r. ⌜ r .used ≤ from + fed .used ⌝ }
-{
-    let listing = fed.listing;
-    Run {
-        listing,
-        used: from + fed.used,
-        idle: fed.idle,
-        open,
-    }
-}
-
-fn feed_once(
-    listing: Listing,
-    piece: &[u8],
-    from: usize,
-    store: &mut [i32],
-    row: &mut [i32],
-    out: &mut [u8],
-) -> Run
-    requires { ⌜ (from ≤ length (now piece)) × (length (now piece) ≤ 65536) ⌝ }
-    ensures { λ r. ⌜ r .used ≤ length (now (piece .entry)) ⌝ }
-{
-    let fed = listing.feed(&piece[from..], store, row, out);
-    let open = write_out(out, fed.written);
-    run_on(fed, from, open)
-}
-
-// A piece to its end, while what is written is taken. A proved loop has to end, so it counts its turns down from a number that no run uses up.
-fn feed_all(
-    listing: Listing,
-    piece: &[u8],
-    store: &mut [i32],
-    row: &mut [i32],
-    out: &mut [u8],
-) -> Run
-    requires { ⌜ length (now piece) ≤ 65536 ⌝ }
-{
-    let mut now = Run {
-        listing,
-        used: 0,
-        idle: false,
-        open: true,
-    };
-    let mut turns = u64::MAX;
-    while turns > 0 && !now.idle && now.open {
-        let state = now.listing;
-        now = feed_once(state, piece, now.used, store, row, out);
-        turns -= 1;
-    }
-    now
-}
-
-// One chunk of the input. An error ends the input.
-fn read_once(
+// Read, turn, write.
+fn round(
+    run: Run,
     fd: i32,
-    listing: Listing,
+    name: &[u8],
+    chunk: &mut [u8],
     store: &mut [i32],
     row: &mut [i32],
     out: &mut [u8],
-) -> Reading {
-    let mut chunk = [0u8; 65536];
-    let got = libc::read(fd, &mut chunk);
-    let n = io::count(got, &chunk);
-    let fed = feed_all(listing, &chunk[..n], store, row, out);
-    let next = fed.listing;
-    Reading {
-        listing: next,
-        ended: n == 0,
-        open: fed.open,
-    }
+) -> Run
+    requires { ⌜ Within (now chunk) (run .left) ⌝ }
+    ensures { λ r. ⌜
+        Round (length (now (store .entry))) (length (now (row .entry))) (scene (run .listing) (at (now (store .entry))) (at (now (row .entry))))
+        (run .left) (now (chunk .entry)) (now (chunk .exit)) (now (out .entry)) (now (out .exit))
+        (scene (r .listing) (at (now (store .exit))) (at (now (row .exit)))) r
+        ⌝ }
+{
+    let listing = run.listing;
+    let filled = input::fill(run.left, run::waits(listing), fd, name, chunk);
+    let fed = turn(listing, filled.left, chunk, store, row, out);
+    let sent = send(out, fed.written);
+    run::run_on(fed, filled, sent)
 }
 
-fn read_all(fd: i32, store: &mut [i32], row: &mut [i32], out: &mut [u8]) -> Reading {
-    let mut now = Reading {
-        listing: Listing::start(),
-        ended: false,
-        open: true,
-    };
+// A proved loop has to end, so it counts its turns down from a number that no run uses up.
+fn rounds(
+    listing: Listing,
+    fd: i32,
+    name: &[u8],
+    chunk: &mut [u8],
+    store: &mut [i32],
+    row: &mut [i32],
+    out: &mut [u8],
+) -> Run
+    ensures { λ r. ⌜
+        Ran (length (now (store .entry))) (length (now (row .entry))) (scene listing (at (now (store .entry))) (at (now (row .entry))))
+        (scene (r .listing) (at (now (store .exit))) (at (now (row .exit)))) (now (chunk .exit)) r
+        ⌝ }
+{
+    let mut now = run::start(listing);
     let mut turns = u64::MAX;
-    while turns > 0 && !now.ended && now.open {
-        let state = now.listing;
-        now = read_once(fd, state, store, row, out);
+    while turns > 0 && run::goes_on(now) {
+        now = round(now, fd, name, chunk, store, row, out);
         turns -= 1;
     }
     now
 }
 
-// Lists the map that the descriptor gives, whatever map it is that a listing takes.
-pub fn list(fd: i32) {
+// The end of the input is told while no line is being written.
+fn end(listing: Listing, store: &mut [i32], row: &mut [i32]) -> Listing
+    requires { ⌜ listing .line .part ≡ 0 ⌝ }
+    ensures { λ r. ⌜
+        Leaves
+        (endScene (length (now (store .entry))) (length (now (row .entry))) (scene listing (at (now (store .entry))) (at (now (row .entry)))))
+        r (at (now (store .exit))) (at (now (row .exit)))
+        ⌝ }
+{
+    listing.end(store, row)
+}
+
+// All of an input: rounds until it ends, and on with what its end makes due.
+fn list_all(
+    fd: i32,
+    name: &[u8],
+    chunk: &mut [u8],
+    store: &mut [i32],
+    row: &mut [i32],
+    out: &mut [u8],
+) -> Run
+    ensures { λ r. ⌜
+        Listed (length (now (store .entry))) (length (now (row .entry))) (at (now (store .entry))) (at (now (row .entry)))
+        (scene (r .listing) (at (now (store .exit))) (at (now (row .exit)))) (now (chunk .exit)) r
+        ⌝ }
+{
+    let listing = Listing::start();
+    let run = rounds(listing, fd, name, chunk, store, row, out);
+    if run::ends(run) {
+        let ended = end(run.listing, store, row);
+        return rounds(ended, fd, name, chunk, store, row, out);
+    }
+    run
+}
+
+// Lists the map that the descriptor gives, whatever map it is that a listing takes. What fails is told on standard error. Answers whether the listing is
+// written whole.
+pub fn list(fd: i32, name: &[u8]) -> bool {
+    let mut chunk = [0u8; 65536];
     let mut store = [0i32; Listing::STORE];
     let mut row = [0i32; Listing::ROW];
     let mut out = [0u8; 65536];
-    let read = read_all(fd, &mut store, &mut row, &mut out);
-    if !read.open {
-        return;
-    }
-    let heard = read.listing;
-    let ended = heard.end(&mut store, &mut row);
-    let nothing = [0u8; 1];
-    feed_all(ended, &nothing[..0], &mut store, &mut row, &mut out);
+    let run = list_all(fd, name, &mut chunk, &mut store, &mut row, &mut out);
+    run::is_whole(run)
 }

@@ -1,7 +1,7 @@
 -- The calls, case by case: the number, the answer and what stands in each area. Assumes nothing.
 use mathlib.Core.Path.{_≡_, refl, sym, ap, _∙_, fun-ext}
 use mathlib.Core.List.{List}
-use mathlib.Core.Bool.{Bool, true, false}
+use mathlib.Core.Bool.{Bool, true, false, not}
 use Prim.Native.Nat.{ℕ, suc, _+_, _≤_, _<_}
 use native.Mathlib.Decide.{decLt}
 use native.Mathlib.Omega.{arith}
@@ -18,20 +18,17 @@ use Rattle.lifting.specs.Halves.{halvesOf, fronted}
 use Rattle.wavelet.specs.Questions.{ask}
 use Rattle.reader.specs.declared.Reader.{Reader}
 use Rattle.reader.specs.declared.walk.Spot.{Spot}
-use Rattle.reader.specs.declared.SetUp.the-variants as up
-use Rattle.reader.specs.declared.Wanted.{Wanted}
-use Rattle.reader.specs.declared.Wanted.the-variants as wanted
-use Rattle.reader.specs.declared.Fed.the-variants as fed
-use Rattle.reader.specs.declared.Drawn.the-variants as drawn
 use Rattle.reader.specs.Areas.{height16}
+use Rattle.reader.specs.Answers.{gives, refused, impossible, Want, row, drawNow, done, ended, aRow, nothing}
 use Rattle.reader.specs.Tried.{Tried, failed, passed, fits, memory}
 use Rattle.reader.specs.Slots.{rowPlace, rowIn}
 use Rattle.wavelet.specs.Store.{storeLength}
 use Rattle.reader.specs.Store.{zeroed}
 use Rattle.reader.specs.Machine.{place, enter, placeFed}
-use Rattle.reader.specs.State.{next, nextRow, nextLength, unfinished, rowDue, drawDue, wants, settles, feeds, movedTo, fedReader, drawnReader, endedReader}
-use Rattle.reader.specs.Questions.{not, countsFit, storeFits, runFits, wantQuestion, feedQuestion, drawQuestion}
-use Rattle.reader.specs.Calls.{setUpNumber, wantNumber, feedNumber, drawNumber, fresh, setUpAnswer, setUpStore, wantAnswer, feedAnswer, storeAfter, feedStore, drawAnswer, drawStore, heightRow, drawArea}
+use Rattle.reader.specs.State.{next, nextRow, nextLength, unfinished, rowDue, drawDue, wants, settles, feeds, movedTo, fedReader, drawnReader}
+use Rattle.reader.specs.State.{endedReader}
+use Rattle.reader.specs.Questions.{countsFit, storeFits, runFits, wantQuestion, feedQuestion, drawQuestion}
+use Rattle.reader.specs.Calls.{fresh, setUpReply, setUpStore, wantReply, feedReply, storeAfter, feedStore, drawReply, drawStore, heightRow, drawArea}
 use Rattle.reader.specs.Inside.{Is, Kept, storeQuestion, rowQuestion}
 use Rattle.reader.proofs.AreaLaws.{front-at, front-rest}
 use Rattle.reader.proofs.StepLaws.{place-of}
@@ -48,52 +45,53 @@ zero-kept W L n x y z e a is =
 
 -- ---- set-up
 module _ (W H L Q : ℕ) (x : ℕ → ℤ) where
-  pub set-up-no : (r : ℕ) → r ≡ Q → (r ≡ 0 → ⊥) → (setUpNumber (up.Refused r) ≡ Q) × ((up.Refused r ≡ setUpAnswer W H L Q) × ((x ≡ setUpStore W L Q x)))
-  unfolding setUpNumber setUpAnswer setUpStore
-  set-up-no r e n = let f = ne-eqb r 0 n in (e, (rw (← e, f), rw (← e, f)))
+  pub set-up-no : (r : ℕ) → r ≡ Q → (r ≡ 0 → ⊥) → (refused r ≡ setUpReply W H L Q) × (x ≡ setUpStore W L Q x)
+  unfolding setUpReply setUpStore
+  set-up-no r e n = let f = ne-eqb r 0 n in (rw (← e, f), rw (← e, f))
 
-  pub set-up-yes : (y : ℕ → ℤ) (n : ℕ) → Q ≡ 0 → n ≡ storeLength W L → y ≡ fronted n (λ _. pos 0) x → (setUpNumber (up.Ready (fresh W H L)) ≡ Q) × ((up.Ready (fresh W H L) ≡ setUpAnswer W H L Q) × ((y ≡ setUpStore W L Q x)))
-  unfolding setUpNumber setUpAnswer setUpStore zeroed
-  set-up-yes y n e en ey = let t = eq-eqb Q 0 e in (sym e, (rw t, rw t (ey ∙ ap (λ (i : ℕ). fronted i (λ _. pos 0) x) en)))
+  pub set-up-yes : (y : ℕ → ℤ) (n : ℕ) → Q ≡ 0 → n ≡ storeLength W L → y ≡ fronted n (λ _. pos 0) x →
+      (gives (fresh W H L) ≡ setUpReply W H L Q) × (y ≡ setUpStore W L Q x)
+  unfolding setUpReply setUpStore zeroed
+  set-up-yes y n e en ey = let t = eq-eqb Q 0 e in (rw t, rw t (ey ∙ ap (λ (i : ℕ). fronted i (λ _. pos 0) x) en))
 
 -- ---- want
 module _ (s : Reader) where
-  pub want-no : countsFit s ≡ false → (wantNumber (wanted.Refused 1) ≡ wantQuestion s) × (wanted.Refused 1 ≡ wantAnswer s (wantQuestion s))
-  unfolding wantNumber wantAnswer wantQuestion
-  want-no e = (rw e, rw e)
+  pub want-no : countsFit s ≡ false → refused 1 ≡ wantReply s (wantQuestion s)
+  unfolding wantReply wantQuestion
+  want-no e = rw e
 
-  pub want-yes : (w : Wanted) → countsFit s ≡ true → wantNumber w ≡ 0 → w ≡ wants s → (wantNumber w ≡ wantQuestion s) × (w ≡ wantAnswer s (wantQuestion s))
-  unfolding wantAnswer wantQuestion
-  want-yes w e n is = (rw e n, rw e is)
+  pub want-yes : (w : Want) → countsFit s ≡ true → w ≡ wants s → gives w ≡ wantReply s (wantQuestion s)
+  unfolding wantReply wantQuestion
+  want-yes w e is = rw e (ap gives is)
 
-  pub wants-ended : s .ended ≡ true → wanted.Ended ≡ wants s
+  pub wants-ended : s .ended ≡ true → ended ≡ wants s
   unfolding wants
   wants-ended e = rw e
 
-  pub wants-done : s .ended ≡ false → s .height ≤ s .drawn → wanted.Done ≡ wants s
+  pub wants-done : s .ended ≡ false → s .height ≤ s .drawn → done ≡ wants s
   unfolding wants unfinished
   wants-done e h = rw (e, le-ltb (s .drawn) (s .height) h)
 
   module _ (p : Spot) (is : Is (next s) p) (live : s .ended ≡ false) (more : s .drawn < s .height) where
-    abbrev row : Wanted
-    row = wanted.Row (next s .level) (next s .band) (nextRow s) (nextLength s)
+    abbrev named-row : Want
+    named-row = row (next s .level) (next s .band) (nextRow s) (nextLength s)
 
-    wants-live : pick (ltb 0 (next s .level)) row wanted.Draw ≡ wants s
+    wants-live : pick (ltb 0 (next s .level)) named-row drawNow ≡ wants s
     unfolding wants unfinished
     wants-live = rw (live, lt-ltb (s .drawn) (s .height) more)
 
-    pub wants-draw : p .level ≡ 0 → wanted.Draw ≡ wants s
+    pub wants-draw : p .level ≡ 0 → drawNow ≡ wants s
     wants-draw z =
         let e = is .level in
         let t : ltb 0 (next s .level) ≡ false = le-ltb 0 (next s .level) (omega arith) in
-        ap (λ (b : Bool). pick b row wanted.Draw) (sym t) ∙ wants-live
+        ap (λ (b : Bool). pick b named-row drawNow) (sym t) ∙ wants-live
 
-    pub wants-row : (r n : ℕ) → 0 < p .level → r ≡ nextRow s → n ≡ nextLength s → wanted.Row (p .level) (p .band) r n ≡ wants s
+    pub wants-row : (r n : ℕ) → 0 < p .level → r ≡ nextRow s → n ≡ nextLength s → row (p .level) (p .band) r n ≡ wants s
     wants-row r n h er en =
         let e = is .level in
         let t : ltb 0 (next s .level) ≡ true = lt-ltb 0 (next s .level) (omega arith) in
-        let same : wanted.Row (p .level) (p .band) r n ≡ row = cc (is .level, is .band, er, en) in
-        same ∙ ap (λ (b : Bool). pick b row wanted.Draw) (sym t) ∙ wants-live
+        let same : row (p .level) (p .band) r n ≡ named-row = cc (is .level, is .band, er, en) in
+        same ∙ ap (λ (b : Bool). pick b named-row drawNow) (sym t) ∙ wants-live
 
 -- ---- the number of the question that says no, of a feed
 module _ (s : Reader) (n m : ℕ) (v x : ℕ → ℤ) where
@@ -200,23 +198,26 @@ memory-is t x y e = ap (memory x) e
 
 -- ---- feed
 module _ (s : Reader) (Q : ℕ) (v x : ℕ → ℤ) where
-  pub feed-no : (r : ℕ) → r ≡ Q → (r ≡ 0 → ⊥) → (r ≡ 14 → ⊥) → (feedNumber (fed.Refused r) ≡ Q) × ((fed.Refused r ≡ feedAnswer s Q) × ((x ≡ feedStore s Q v x)))
-  unfolding feedNumber feedAnswer feedStore storeAfter
-  feed-no r e n f = let a = ne-eqb r 0 n in let b = ne-eqb r 14 f in (e, (rw (← e, a, b), rw (← e, a, b)))
+  pub feed-no : (r : ℕ) → r ≡ Q → (r ≡ 0 → ⊥) → (r ≡ 14 → ⊥) → (refused r ≡ feedReply s Q) × (x ≡ feedStore s Q v x)
+  unfolding feedReply feedStore storeAfter
+  feed-no r e n f = let a = ne-eqb r 0 n in let b = ne-eqb r 14 f in (rw (← e, a, b), rw (← e, a, b))
 
-  pub feed-yes : (t : Reader) (y : ℕ → ℤ) → 0 ≡ Q → t ≡ fedReader s → passed y ≡ feeds s v x → (feedNumber (fed.Passed t) ≡ Q) × ((fed.Passed t ≡ feedAnswer s Q) × ((y ≡ feedStore s Q v x)))
-  unfolding feedNumber feedAnswer feedStore storeAfter
-  feed-yes t y e et is = (e, (rw (← e) (ap fed.Passed et), rw (← e) (memory-is (feeds s v x) x y is)))
+  pub feed-yes : (t : Reader) (y : ℕ → ℤ) → 0 ≡ Q → t ≡ fedReader s → passed y ≡ feeds s v x → (gives t ≡ feedReply s Q) × (y ≡ feedStore s Q v x)
+  unfolding feedReply feedStore storeAfter
+  feed-yes t y e et is = (rw (← e) (ap gives et), rw (← e) (memory-is (feeds s v x) x y is))
 
-  pub feed-end : (t : Reader) (z : ℕ → ℤ) → 14 ≡ Q → t ≡ endedReader s → z ≡ zeroed (s .width) (s .levels) x → (feedNumber (fed.Impossible t) ≡ Q) × ((fed.Impossible t ≡ feedAnswer s Q) × ((z ≡ feedStore s Q v x)))
-  unfolding feedNumber feedAnswer feedStore storeAfter
-  feed-end t z e et is = (e, (rw (← e) (ap fed.Impossible et), rw (← e) is))
+  pub feed-end : (t : Reader) (z : ℕ → ℤ) → 14 ≡ Q → t ≡ endedReader s → z ≡ zeroed (s .width) (s .levels) x →
+      (impossible t ≡ feedReply s Q) × (z ≡ feedStore s Q v x)
+  unfolding feedReply feedStore storeAfter
+  feed-end t z e et is = (rw (← e) (ap impossible et), rw (← e) is)
 
-pub fed-reader : (s t : Reader) (p : Spot) → Is (placeFed (s .width) (s .height) (s .levels) (s .drawn) (next s .level) (next s .band)) p → t ≡ movedTo s (s .drawn) (place (p .level) (p .band)) → t ≡ fedReader s
+pub fed-reader : (s t : Reader) (p : Spot) → Is (placeFed (s .width) (s .height) (s .levels) (s .drawn) (next s .level) (next s .band)) p →
+    t ≡ movedTo s (s .drawn) (place (p .level) (p .band)) → t ≡ fedReader s
 unfolding fedReader
 fed-reader s t p is e = e ∙ ap (movedTo s (s .drawn)) (place-of _ p is)
 
-pub drawn-reader : (s t : Reader) (d : ℕ) (p : Spot) → d ≡ s .drawn + 1 → Is (enter (s .width) (s .height) (s .levels) d) p → t ≡ movedTo s d (place (p .level) (p .band)) → t ≡ drawnReader s
+pub drawn-reader : (s t : Reader) (d : ℕ) (p : Spot) → d ≡ s .drawn + 1 → Is (enter (s .width) (s .height) (s .levels) d) p →
+    t ≡ movedTo s d (place (p .level) (p .band)) → t ≡ drawnReader s
 unfolding drawnReader
 drawn-reader s t d p ed is e =
     let n : d ≡ suc (s .drawn) = ed ∙ add-one (s .drawn) in
@@ -224,28 +225,35 @@ drawn-reader s t d p ed is e =
 
 -- ---- draw
 module _ (s : Reader) (Q : ℕ) (x z : ℕ → ℤ) where
-  pub draw-no : (r : ℕ) → r ≡ Q → (r ≡ 0 → ⊥) → (r ≡ 14 → ⊥) → (drawNumber (drawn.Refused r) ≡ Q) × ((drawn.Refused r ≡ drawAnswer s Q) × ((x ≡ drawStore s Q x) × ((z ≡ drawArea s Q x z))))
-  unfolding drawNumber drawAnswer drawStore storeAfter drawArea
-  draw-no r e n f = let a = ne-eqb r 0 n in let b = ne-eqb r 14 f in (e, (rw (← e, a, b), (rw (← e, a, b), rw (← e, a))))
+  pub draw-no : (r : ℕ) → r ≡ Q → (r ≡ 0 → ⊥) → (r ≡ 14 → ⊥) → (refused r ≡ drawReply s Q) × ((x ≡ drawStore s Q x) × (z ≡ drawArea s Q x z))
+  unfolding drawReply drawStore storeAfter drawArea
+  draw-no r e n f = let a = ne-eqb r 0 n in let b = ne-eqb r 14 f in (rw (← e, a, b), (rw (← e, a, b), rw (← e, a)))
 
-  pub draw-nothing : 0 ≡ Q → drawDue s ≡ false → (drawNumber drawn.Nothing ≡ Q) × ((drawn.Nothing ≡ drawAnswer s Q) × ((x ≡ drawStore s Q x) × ((z ≡ drawArea s Q x z))))
-  unfolding drawNumber drawAnswer drawStore storeAfter drawArea
-  draw-nothing e d = (e, (rw (← e, d), (rw (← e, d), rw (← e, d))))
+  pub draw-nothing : 0 ≡ Q → drawDue s ≡ false → (gives nothing ≡ drawReply s Q) × ((x ≡ drawStore s Q x) × (z ≡ drawArea s Q x z))
+  unfolding drawReply drawStore storeAfter drawArea
+  draw-nothing e d = (rw (← e, d), (rw (← e, d), rw (← e, d)))
 
-  pub draw-yes : (t : Reader) (y u : ℕ → ℤ) → 0 ≡ Q → drawDue s ≡ true → t ≡ drawnReader s → passed y ≡ settles s x → u ≡ fronted (s .width) (heightRow (s .width) (s .drawn) y) z → (drawNumber (drawn.Heights (s .width) t) ≡ Q) × ((drawn.Heights (s .width) t ≡ drawAnswer s Q) × ((y ≡ drawStore s Q x) × ((u ≡ drawArea s Q x z))))
-  unfolding drawNumber drawAnswer drawStore storeAfter drawArea
+  pub draw-yes : (t : Reader) (y u : ℕ → ℤ) → 0 ≡ Q → drawDue s ≡ true → t ≡ drawnReader s → passed y ≡ settles s x →
+      u ≡ fronted (s .width) (heightRow (s .width) (s .drawn) y) z →
+      (gives (aRow (s .width) t) ≡ drawReply s Q) × ((y ≡ drawStore s Q x) × (u ≡ drawArea s Q x z))
+  unfolding drawReply drawStore storeAfter drawArea
   draw-yes t y u e d et is made =
       let m = memory-is (settles s x) x y is in
-      (e, (rw (← e, d) (ap (drawn.Heights (s .width)) et), (rw (← e, d) m, rw (← e, d) (made ∙ ap (λ (f : ℕ → ℤ). fronted (s .width) (heightRow (s .width) (s .drawn) f) z) m))))
+      let area = made ∙ ap (λ (f : ℕ → ℤ). fronted (s .width) (heightRow (s .width) (s .drawn) f) z) m in
+      (rw (← e, d) (ap (λ (r : Reader). gives (aRow (s .width) r)) et), (rw (← e, d) m, rw (← e, d) area))
 
-  pub draw-end : (t : Reader) (y : ℕ → ℤ) → 14 ≡ Q → t ≡ endedReader s → y ≡ zeroed (s .width) (s .levels) x → (drawNumber (drawn.Impossible t) ≡ Q) × ((drawn.Impossible t ≡ drawAnswer s Q) × ((y ≡ drawStore s Q x) × ((z ≡ drawArea s Q x z))))
-  unfolding drawNumber drawAnswer drawStore storeAfter drawArea
-  draw-end t y e et is = (e, (rw (← e) (ap drawn.Impossible et), (rw (← e) is, rw (← e))))
+  pub draw-end : (t : Reader) (y : ℕ → ℤ) → 14 ≡ Q → t ≡ endedReader s → y ≡ zeroed (s .width) (s .levels) x →
+      (impossible t ≡ drawReply s Q) × ((y ≡ drawStore s Q x) × (z ≡ drawArea s Q x z))
+  unfolding drawReply drawStore storeAfter drawArea
+  draw-end t y e et is = (rw (← e) (ap impossible et), (rw (← e) is, rw (← e)))
 
 -- the heights of the row that is lent
-pub drawn-row : (W d a k : ℕ) (l : List ℤ) (z u : ℕ → ℤ) → a ≡ rowPlace W d → k ≡ W → a + k ≤ length l → u ≡ fronted (length (midOf a k l)) (λ c. height16 (joined (halvesOf (length (midOf a k l)) (at (midOf a k l))) c)) z → u ≡ fronted W (heightRow W d (at l)) z
+pub drawn-row : (W d a k : ℕ) (l : List ℤ) (z u : ℕ → ℤ) → a ≡ rowPlace W d → k ≡ W → a + k ≤ length l →
+    u ≡ fronted (length (midOf a k l)) (λ c. height16 (joined (halvesOf (length (midOf a k l)) (at (midOf a k l))) c)) z →
+    u ≡ fronted W (heightRow W d (at l)) z
 unfolding heightRow rowIn
 drawn-row W d a k l z u ea ek room made =
     made
     ∙ ap (λ (i : ℕ). fronted i (λ c. height16 (joined (halvesOf i (at (midOf a k l))) c)) z) (length-mid a k l room ∙ ek)
-    ∙ ap (λ (f : ℕ → ℤ). fronted W (λ c. height16 (joined (halvesOf W f) c)) z) (at-mid a k l ∙ ap (λ (i : ℕ). windowed i k (at l)) ea ∙ ap (λ (i : ℕ). windowed (rowPlace W d) i (at l)) ek)
+    ∙ ap (λ (f : ℕ → ℤ). fronted W (λ c. height16 (joined (halvesOf W f) c)) z) (at-mid a k l ∙ ap (λ (i : ℕ). windowed i k (at l)) ea
+    ∙ ap (λ (i : ℕ). windowed (rowPlace W d) i (at l)) ek)

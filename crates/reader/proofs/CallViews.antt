@@ -24,8 +24,8 @@ use Rattle.reader.specs.Tried.{fits}
 use Rattle.reader.specs.Machine.{Place, place, nextAt, beyond, enter}
 use Rattle.reader.specs.State.{next, nextRow, nextLength, unfinished, rowDue, drawDue, wants, settles, feeds}
 use Rattle.reader.specs.Questions.{countsFit, storeFits, runFits, setUpQuestion, wantQuestion, feedQuestion, drawQuestion}
-use Rattle.reader.specs.Calls.{wantAnswer}
-use Rattle.reader.specs.Demand3.{Area, saidWant, gives, refused, heights, nothing, wantSays, feedTurned, drawSays}
+use Rattle.reader.specs.Calls.{wantReply}
+use Rattle.reader.specs.Demand3.{Area, said, gives, refused, heights, nothing, wantSays, feedTurned, drawSays}
 use Rattle.reader.proofs.StepsLeft.{named-code, stepsLeft, Ahead, height, row, ahead, left-row, left-height, left-done}
 
 -- ---- a set-up that passed
@@ -61,7 +61,9 @@ module _ (W H l : ℕ) where
   pub data View (d lev b : ℕ) : List Step → Type 0 where
     at-end : H ≤ d → View d lev b []
     at-height : d < H → nextAt W H (suc l) d lev b ≡ place 0 4 → View d lev b (draw d ∷ stepsLeft W H l (suc d) (enter W H (suc l) (suc d)))
-    at-row : (k : ℕ) (c : Band) → d < H → k < lev → asked (eqb (suc k) (suc l)) (size k W) (size k H) (rowAt H d (suc k)) c ≡ true → nextAt W H (suc l) d lev b ≡ place (suc k) (code c) → View d lev b (feed (rowName (suc k) c (rowAt H d (suc k))) ∷ stepsLeft W H l d (beyond W H (suc l) d k (code c)))
+    at-row : (k : ℕ) (c : Band) → d < H → k < lev → asked (eqb (suc k) (suc l)) (size k W) (size k H) (rowAt H d (suc k)) c ≡ true →
+        nextAt W H (suc l) d lev b ≡ place (suc k) (code c) →
+        View d lev b (feed (rowName (suc k) c (rowAt H d (suc k))) ∷ stepsLeft W H l d (beyond W H (suc l) d k (code c)))
 
   pub view : (d lev b : ℕ) → View d lev b (stepsLeft W H l d (place lev b))
   view d lev b = elim (decLt d H) [
@@ -79,16 +81,17 @@ module _ (W H l : ℕ) where
     counts e = rw (lim .wide, lim .high, lim .deep, le-leb d H drawn-le, le-leb lev (suc l) level-le, le-leb b 4 band-le) refl
 
     -- ---- want
-    wants-are : (e : Bool) (t : List Step) → View d lev b t → saidWant (wants (here d lev b e)) ≡ gives (wantSays W e t)
+    wants-are : (e : Bool) (t : List Step) → View d lev b t → wants (here d lev b e) ≡ wantSays W e t
     unfolding wants next nextRow nextLength unfinished wantSays
     wants-are true _ v = refl
     wants-are false _ (at-end h) = rw (le-ltb d H h) refl
     wants-are false _ (at-height due q) = rw (lt-ltb d H due, q) refl
     wants-are false _ (at-row k c due h a q) = rw (lt-ltb d H due, q, lt-ltb 0 (suc k) (omega arith), named-code c) refl
 
-    pub want-says : (e : Bool) (t : List Step) → View d lev b t → saidWant (wantAnswer (here d lev b e) (wantQuestion (here d lev b e))) ≡ gives (wantSays W e t)
-    unfolding wantAnswer wantQuestion
-    want-says e t v = rw (counts e) (wants-are e t v)
+    pub want-says : (e : Bool) (t : List Step) → View d lev b t →
+        said (λ v. v) (wantReply (here d lev b e) (wantQuestion (here d lev b e))) ≡ gives (wantSays W e t)
+    unfolding wantReply wantQuestion
+    want-says e t v = rw (counts e) (ap gives (wants-are e t v))
 
     -- ---- feed
     row-due : (k : ℕ) (c : Band) → d < H → nextAt W H (suc l) d lev b ≡ place (suc k) (code c) → rowDue (here d lev b false) ≡ true
@@ -111,7 +114,9 @@ module _ (W H l : ℕ) where
     unfolding next
     level-is k c q = rw q refl
 
-    pub feed-asked : (e : Bool) (t : List Step) (x : ℕ → ℤ) (a : Area) → View d lev b t → feedQuestion (here d lev b e) n x (a .size) (a .numbers) ≡ pick (eqb (feedTurned W e t a) 0) (ask (fits (feeds (here d lev b e) (a .numbers) x)) 14 0) (feedTurned W e t a)
+    pub feed-asked : (e : Bool) (t : List Step) (x : ℕ → ℤ) (a : Area) → View d lev b t →
+        feedQuestion (here d lev b e) n x (a .size) (a .numbers) ≡ pick (eqb (feedTurned W e t a) 0) (ask (fits (feeds (here d lev b e) (a .numbers) x)) 14 0)
+        (feedTurned W e t a)
     unfolding feedQuestion feedTurned
     feed-asked true t x a v = rw (counts true, lim .room) refl
     feed-asked false _ x a (at-end h) = rw (counts false, lim .room, no-row-end h) refl
@@ -140,13 +145,19 @@ module _ (W H l : ℕ) where
 
     -- ---- a feed: turned away by a question before 14, or not
     pub data FeedView (e : Bool) (t : List Step) (x : ℕ → ℤ) (a : Area) : Type 0 where
-      feed-away : (q : ℕ) → feedTurned W e t a ≡ q → eqb q 0 ≡ false → eqb q 14 ≡ false → feedQuestion (here d lev b e) n x (a .size) (a .numbers) ≡ q → FeedView e t x a
-      feed-onward : (k : ℕ) (c : Band) → e ≡ false → d < H → k < lev → asked (eqb (suc k) (suc l)) (size k W) (size k H) (rowAt H d (suc k)) c ≡ true → nextAt W H (suc l) d lev b ≡ place (suc k) (code c) →
-          t ≡ feed (rowName (suc k) c (rowAt H d (suc k))) ∷ stepsLeft W H l d (beyond W H (suc l) d k (code c)) → a .size ≡ bandColumns W (suc k) c → runFits (suc k) (a .size) (a .numbers) ≡ true →
-          feedTurned W e t a ≡ 0 → feedQuestion (here d lev b e) n x (a .size) (a .numbers) ≡ ask (fits (feeds (here d lev b e) (a .numbers) x)) 14 0 → FeedView e t x a
+      feed-away : (q : ℕ) → feedTurned W e t a ≡ q → eqb q 0 ≡ false → eqb q 14 ≡ false → feedQuestion (here d lev b e) n x (a .size) (a .numbers) ≡ q →
+          FeedView e t x a
+      feed-onward : (k : ℕ) (c : Band) → e ≡ false → d < H → k < lev → asked (eqb (suc k) (suc l)) (size k W) (size k H) (rowAt H d (suc k)) c ≡ true →
+          nextAt W H (suc l) d lev b ≡ place (suc k) (code c) →
+          t ≡ feed (rowName (suc k) c (rowAt H d (suc k))) ∷ stepsLeft W H l d (beyond W H (suc l) d k (code c)) → a .size ≡ bandColumns W (suc k) c →
+          runFits (suc k) (a .size) (a .numbers) ≡ true →
+          feedTurned W e t a ≡ 0 → feedQuestion (here d lev b e) n x (a .size) (a .numbers) ≡ ask (fits (feeds (here d lev b e) (a .numbers) x)) 14 0 →
+          FeedView e t x a
 
-    asked-away : (e : Bool) (t : List Step) (x : ℕ → ℤ) (a : Area) (q : ℕ) → View d lev b t → feedTurned W e t a ≡ q → eqb q 0 ≡ false → eqb q 14 ≡ false → FeedView e t x a
-    asked-away e t x a q v f g h = feed-away q f g h (feed-asked e t x a v ∙ ap (λ i. pick (eqb i 0) (ask (fits (feeds (here d lev b e) (a .numbers) x)) 14 0) i) f ∙ go (eqb q 0) g)
+    asked-away : (e : Bool) (t : List Step) (x : ℕ → ℤ) (a : Area) (q : ℕ) → View d lev b t → feedTurned W e t a ≡ q → eqb q 0 ≡ false → eqb q 14 ≡ false →
+        FeedView e t x a
+    asked-away e t x a q v f g h = feed-away q f g h (feed-asked e t x a v
+        ∙ ap (λ i. pick (eqb i 0) (ask (fits (feeds (here d lev b e) (a .numbers) x)) 14 0) i) f ∙ go (eqb q 0) g)
       where
         go : (s : Bool) → s ≡ false → pick s (ask (fits (feeds (here d lev b e) (a .numbers) x)) 14 0) q ≡ q
         go s z = rw z refl
@@ -158,16 +169,21 @@ module _ (W H l : ℕ) where
     feed-view false _ x a (at-height due q) = asked-away false _ x a 8 (at-height due q) refl refl refl
     feed-view false _ x a (at-row k c due h i q) = go (eqb (a .size) (bandColumns W (suc k) c)) refl (runFits (suc k) (a .size) (a .numbers)) refl
       where
-        go : (t₁ : Bool) → eqb (a .size) (bandColumns W (suc k) c) ≡ t₁ → (t₂ : Bool) → runFits (suc k) (a .size) (a .numbers) ≡ t₂ → FeedView false (feed (rowName (suc k) c (rowAt H d (suc k))) ∷ stepsLeft W H l d (beyond W H (suc l) d k (code c))) x a
+        go : (t₁ : Bool) → eqb (a .size) (bandColumns W (suc k) c) ≡ t₁ → (t₂ : Bool) → runFits (suc k) (a .size) (a .numbers) ≡ t₂ →
+            FeedView false (feed (rowName (suc k) c (rowAt H d (suc k))) ∷ stepsLeft W H l d (beyond W H (suc l) d k (code c))) x a
         go false y t₂ z = asked-away false _ x a 13 (at-row k c due h i q) (rw y refl) refl refl
         go true y false z = asked-away false _ x a 7 (at-row k c due h i q) (rw (y, z) refl) refl refl
-        go true y true z = feed-onward k c refl due h i q refl (eqb-true _ _ y) z (rw (y, z) refl) (feed-asked false _ x a (at-row k c due h i q) ∙ rw (y, z) refl)
+        go true y true z = feed-onward k c refl due h i q refl (eqb-true _ _ y) z (rw (y, z) refl) (feed-asked false _ x a (at-row k c due h i q)
+            ∙ rw (y, z) refl)
 
     -- ---- a draw: turned away, with no row to give, or with one
     pub data DrawView (e : Bool) (t : List Step) (x : ℕ → ℤ) (a : Area) : Type 0 where
-      draw-away : (q : ℕ) → eqb q 0 ≡ false → eqb q 14 ≡ false → drawSays W e t (a .size) ≡ refused q → drawQuestion (here d lev b e) n x (a .size) ≡ q → DrawView e t x a
-      draw-idle : e ≡ false → drawDue (here d lev b e) ≡ false → drawSays W e t (a .size) ≡ gives nothing → drawQuestion (here d lev b e) n x (a .size) ≡ 0 → DrawView e t x a
-      draw-onward : e ≡ false → d < H → nextAt W H (suc l) d lev b ≡ place 0 4 → t ≡ draw d ∷ stepsLeft W H l (suc d) (enter W H (suc l) (suc d)) → drawDue (here d lev b e) ≡ true → drawSays W e t (a .size) ≡ gives (heights W) →
+      draw-away : (q : ℕ) → eqb q 0 ≡ false → eqb q 14 ≡ false → drawSays W e t (a .size) ≡ refused q → drawQuestion (here d lev b e) n x (a .size) ≡ q →
+          DrawView e t x a
+      draw-idle : e ≡ false → drawDue (here d lev b e) ≡ false → drawSays W e t (a .size) ≡ gives nothing → drawQuestion (here d lev b e) n x (a .size) ≡ 0 →
+          DrawView e t x a
+      draw-onward : e ≡ false → d < H → nextAt W H (suc l) d lev b ≡ place 0 4 → t ≡ draw d ∷ stepsLeft W H l (suc d) (enter W H (suc l) (suc d)) →
+          drawDue (here d lev b e) ≡ true → drawSays W e t (a .size) ≡ gives (heights W) →
           drawQuestion (here d lev b e) n x (a .size) ≡ ask (fits (settles (here d lev b e) x)) 14 0 → DrawView e t x a
 
     pub draw-view : (e : Bool) (t : List Step) (x : ℕ → ℤ) (a : Area) → View d lev b t → DrawView e t x a
@@ -176,6 +192,8 @@ module _ (W H l : ℕ) where
     draw-view false _ x a (at-end h) = draw-idle refl (no-draw-end h) refl (rw (counts false, lim .room, no-draw-end h) refl)
     draw-view false _ x a (at-row k c due h i q) = draw-idle refl (no-draw-row k c due q) refl (rw (counts false, lim .room, no-draw-row k c due q) refl)
     draw-view false _ x a (at-height due q) = elim (decLe W (a .size)) [
-      | yes m ↦ draw-onward refl due q refl (draw-due due q) (rw (le-leb W (a .size) m) refl) (rw (counts false, lim .room, draw-due due q, le-leb W (a .size) m) refl)
-      | no m ↦ draw-away 12 refl refl (rw (lt-leb W (a .size) (omega arith)) refl) (rw (counts false, lim .room, draw-due due q, lt-leb W (a .size) (omega arith)) refl)
+      | yes m ↦ draw-onward refl due q refl (draw-due due q) (rw (le-leb W (a .size) m) refl)
+          (rw (counts false, lim .room, draw-due due q, le-leb W (a .size) m) refl)
+      | no m ↦ draw-away 12 refl refl (rw (lt-leb W (a .size) (omega arith)) refl)
+          (rw (counts false, lim .room, draw-due due q, lt-leb W (a .size) (omega arith)) refl)
     ]

@@ -13,7 +13,8 @@ use mir.ValLaws.{sfits-le}
 use Rattle.numbers.specs.Signal.{at}
 use Rattle.numbers.proofs.Integers.{each, lin}
 use Rattle.numbers.proofs.Sweep.{Swept, finish}
-use Rattle.reader.specs.Areas.{heightsAt, wholes}
+use Rattle.reader.specs.Areas.{heightsAt}
+use Rattle.reader.specs.Inside.{wholes}
 
 pub wholes-at : (l : List ℕ) → at (wholes l) ≡ heightsAt l
 wholes-at l = fun-ext λ i. List·getD-map pos l i 0

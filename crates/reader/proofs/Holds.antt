@@ -1,4 +1,5 @@
--- What the store holds of a grid g of 32-bit numbers while the reader is at a place, and that each thing the machine does keeps it: rows of g's plane fed, sets worked out, height rows passed.
+-- What the store holds of a grid g of 32-bit numbers while the reader is at a place, and that each thing the machine does keeps it: rows of g's plane fed, sets
+-- worked out, height rows passed.
 -- Over words, no range is asked. Where the machine refuses a value, g or a low-low part of it has a value that does not fit. Assumes nothing.
 use mathlib.Core.Bool.{Bool, true, false}
 use mathlib.Core.Path.{_≡_, refl, sym, ap, ap₂, subst, _∙_}
@@ -20,18 +21,18 @@ use Rattle.wavelet.specs.Levels.{size, approximation}
 use Rattle.wavelet.specs.Maps.{valueFits}
 use Rattle.wavelet.proofs.SizeLaws.{count-lo}
 use Rattle.wavelet.proofs.BandPlaces.{band-of}
-use Rattle.wavelet.proofs.LevelTheory.{OnCells, low-all, subband-fits, placed, placed-in}
+use Rattle.wavelet.proofs.LevelTheory.{OnCells, low-all, subband-fits}
 use Rattle.reader.specs.Sets.{setOf, opens, rowAt}
 use Rattle.reader.specs.Asked.{keptAt, asked, bandsFrom, those, look, firstCode, nextBand, named}
 use Rattle.reader.specs.Tried.{Tried, passed, bind, onto}
-use Rattle.reader.specs.Slots.{slot, rowPlace, setRow, bandFed, lowRowTaken}
+use Rattle.reader.specs.Slots.{slot, rowPlace, setRow, halfPlace, bandFed, lowRowTaken}
 use Rattle.reader.specs.Work.{setMade, setWorked}
 use Rattle.reader.specs.Holds.{SetBefore, BandStands}
 use Rattle.reader.specs.Store.{stretchAt, from, behind, fedAt, workedAt}
-use Rattle.reader.specs.Machine.{Place, place, bandAt, nextAt, settled, finished, beyond, fedOn, dive, enter}
+use Rattle.reader.specs.Machine.{Place, place, bandAt, lastOfSet, nextAt, settled, finished, beyond, fedOn, dive, enter}
 use Rattle.reader.proofs.OpenedSets.{opens-next, same-set, setOf-there, rowAt-next, rowAt-there, rowAt-first}
-use Rattle.reader.proofs.StepsLeft.{named-code, code-lt, first-le}
-use Rattle.reader.proofs.RowsIn.{apart, parity, Is, Only, is-old, only-fed, fed-here, fed-beside, only-taken, taken-is, taken-beside}
+use Rattle.reader.proofs.StepsLeft.{named-code, code-lt, first-le, last-none}
+use Rattle.reader.proofs.RowsIn.{apart, parity, Is, Only, is-old, only-fed, fed-here, fed-beside, only-taken, taken-is, taken-beside, half-inside}
 use Rattle.reader.proofs.SetMade.{Outcome, stops, goes, bind-outcome, Needs, Leaves, set-made}
 
 -- ---- memory: two that agree in a level's four rows
@@ -43,7 +44,7 @@ unfolding rowPlace
 four w r = row-order w (slot r) 4 (omega arith)
 
 is-same : (w : ℕ) (x y : ℕ → ℤ) (r : ℕ) (c : Half → ℕ → ℤ) → SameMem w x y → Is w x r c → Is w y r c
-is-same w x y r c e s h i b = e (rowPlace w r + placed h w i) (omega (arith, placed-in h w i b, four w r)) ∙ s h i b
+is-same w x y r c e s h i b = e (rowPlace w r + (halfPlace h w + i)) (omega (arith, half-inside h w i b, four w r)) ∙ s h i b
 
 -- ---- the stretches of the store
 module _ (W : ℕ) where
@@ -117,7 +118,8 @@ module _ (W H l : ℕ) (g : Grid) (words : OnCells (SFits w32) W H g) where
   pub words-at : (k : ℕ) → OnCells (SFits w32) (size k W) (size k H) (G k)
   unfolding approximation size
   words-at zero = words
-  words-at (suc k) = low-all (SFits w32) (size k W) (size k H) (subband wrap32 (size k W) (size k H) (G k)) (subband-fits (size k W) (size k H) (G k) (words-at k))
+  words-at (suc k) = low-all (SFits w32) (size k W) (size k H) (subband wrap32 (size k W) (size k H) (G k))
+      (subband-fits (size k W) (size k H) (G k) (words-at k))
 
   -- every value of g, and of its low-low parts below level L, fits
   abbrev pub Fits : Type 0
@@ -166,7 +168,8 @@ module _ (W H l : ℕ) (g : Grid) (words : OnCells (SFits w32) W H g) where
   got-none k n m t c e f p i q = absurd (f (rw (e, lt-ltb 0 (count (across c) (size k W)) (omega arith), lt-ltb n (count (down c) (size k H)) p) refl))
 
   -- so the band that may be next may be any up to the next that is asked for
-  holds-more : (d k b b′ : ℕ) (x : ℕ → ℤ) → ((c : Band) → asked (eqb (suc k) (suc l)) (size k W) (size k H) (rowAt H d (suc k)) c ≡ true → code c < b′ → code c < b) → Held d (suc k) b x → Held d (suc k) b′ x
+  holds-more : (d k b b′ : ℕ) (x : ℕ → ℤ) → ((c : Band) → asked (eqb (suc k) (suc l)) (size k W) (size k H) (rowAt H d (suc k)) c ≡ true → code c < b′ →
+      code c < b) → Held d (suc k) b x → Held d (suc k) b′ x
   holds-more d k b b′ x f s = record {
     below = s .below;
     before = s .before;
@@ -176,35 +179,42 @@ module _ (W H l : ℕ) (g : Grid) (words : OnCells (SFits w32) W H g) where
       at : (j : ℕ) → j ≤ l → suc j ≡ suc k → (c : Band) → keptAt (eqb (suc j) (suc l)) c ≡ true → code c < b′ → Got j (rowAt H d (suc j)) (mem W j x) c
       at j h e c kept less = elim (decLt (code c) b) [
         | yes q ↦ s .got j h e c kept q
-        | no q ↦ let z : j ≡ k = omega arith in got-none j (rowAt H d (suc j)) (mem W j x) (eqb (suc j) (suc l)) c kept (λ a. q (f c (subst (λ i. asked (eqb (suc i) (suc l)) (size i W) (size i H) (rowAt H d (suc i)) c ≡ true) z a) less))
+        | no q ↦ let z : j ≡ k = omega arith in got-none j (rowAt H d (suc j)) (mem W j x) (eqb (suc j) (suc l)) c kept
+            (λ a. q (f c (subst (λ i. asked (eqb (suc i) (suc l)) (size i W) (size i H) (rowAt H d (suc i)) c ≡ true) z a) less))
       ]
 
   -- ---- a band row fed
   got-old : (k n : ℕ) (m : ℕ → ℤ) (v : ℕ → ℤ) (c e : Band) → (c ≡ e → ⊥) → Got k n m e → Got k n (bandFed (size k W) c n v m) e
   got-old k n m v c e d s p i q = elim (Half-discrete (down c) (down e)) [
-    | yes z ↦ ap (λ (a : Half). bandFed (size k W) c n v m (rowPlace (size k W) (setRow a n) + placed (across e) (size k W) i)) (sym z)
+    | yes z ↦ ap (λ (a : Half). bandFed (size k W) c n v m (rowPlace (size k W) (setRow a n) + (halfPlace (across e) (size k W) + i))) (sym z)
         ∙ fed-beside (size k W) c n v m (across e) (λ y. d (sym (band-of c) ∙ ap₂ bandOf y z ∙ band-of e)) i q
-        ∙ ap (λ (a : Half). m (rowPlace (size k W) (setRow a n) + placed (across e) (size k W) i)) z
+        ∙ ap (λ (a : Half). m (rowPlace (size k W) (setRow a n) + (halfPlace (across e) (size k W) + i))) z
         ∙ s p i q
-    | no z ↦ only-fed (size k W) c n v m .row (setRow (down e) n) (placed (across e) (size k W) i) (set-rows (down c) (down e) n z) (placed-in (across e) (size k W) i q) ∙ s p i q
+    | no z ↦ only-fed (size k W) c n v m .row (setRow (down e) n) (halfPlace (across e) (size k W) + i) (set-rows (down c) (down e) n z)
+        (half-inside (across e) (size k W) i q) ∙ s p i q
   ]
 
-  got-new : (k n : ℕ) (m : ℕ → ℤ) (v : ℕ → ℤ) (c : Band) → ((i : ℕ) → i < count (across c) (size k W) → v i ≡ subband wrap32 (size k W) (size k H) (G k) c n i) → Got k n (bandFed (size k W) c n v m) c
+  got-new : (k n : ℕ) (m : ℕ → ℤ) (v : ℕ → ℤ) (c : Band) →
+      ((i : ℕ) → i < count (across c) (size k W) → v i ≡ subband wrap32 (size k W) (size k H) (G k) c n i) → Got k n (bandFed (size k W) c n v m) c
   got-new k n m v c e p i q = fed-here (size k W) c n v m (across c) refl i q ∙ e i q
 
   code-same : (c e : Band) → code c ≡ code e → c ≡ e
   code-same c e z = sym (named-code c) ∙ ap named z ∙ named-code e
 
-  pub feed-holds : (d k : ℕ) (c : Band) (v x : ℕ → ℤ) → k ≤ l → ((i : ℕ) → i < count (across c) (size k W) → v i ≡ subband wrap32 (size k W) (size k H) (G k) c (rowAt H d (suc k)) i) → Held d (suc k) (code c) x → Held d (suc k) (code c + 1) (fedAt W H d k (code c) v x)
+  pub feed-holds : (d k : ℕ) (c : Band) (v x : ℕ → ℤ) → k ≤ l →
+      ((i : ℕ) → i < count (across c) (size k W) → v i ≡ subband wrap32 (size k W) (size k H) (G k) c (rowAt H d (suc k)) i) → Held d (suc k) (code c) x →
+      Held d (suc k) (code c + 1) (fedAt W H d k (code c) v x)
   unfolding fedAt
   feed-holds d k c v x inside row s =
       rw (named-code c) (record {
         below = λ j h e. leaves-same j _ _ _ (coarser W k x y past j (omega arith)) (s .below j h e);
         before = λ j h e. elim (ℕ-discrete j k) [
-          | yes z ↦ rw z (before-same k n y _ (λ i _. here W k x y past i) (before-only k n (down c) (mem W k x) y (only-fed (size k W) c n v (mem W k x)) (s .before k inside (omega arith))))
+          | yes z ↦ rw z (before-same k n y _ (λ i _. here W k x y past i)
+              (before-only k n (down c) (mem W k x) y (only-fed (size k W) c n v (mem W k x)) (s .before k inside (omega arith))))
           | no z ↦ before-same j _ _ _ (finer W k x y past j (omega (arith, z))) (s .before j h e)
         ];
-        got = λ j h e b kept less. let z : j ≡ k = omega arith in subst (λ i. keptAt (eqb (suc i) (suc l)) b ≡ true → Got i (rowAt H d (suc i)) (mem W i (behind (stretchAt W k) x y)) b) (sym z) (at b less) kept;
+        got = λ j h e b kept less. let z : j ≡ k = omega arith in
+            subst (λ i. keptAt (eqb (suc i) (suc l)) b ≡ true → Got i (rowAt H d (suc i)) (mem W i (behind (stretchAt W k) x y)) b) (sym z) (at b less) kept;
       })
     where
       n : ℕ
@@ -249,11 +259,13 @@ module _ (W H l : ℕ) (g : Grid) (words : OnCells (SFits w32) W H g) where
       high-before = b .high;
     }
       where
-        low : (a : Half) (i : ℕ) → i < count a (size k W) → y (rowPlace (size k W) (2 * n) + placed a (size k W) i) ≡ lineForward wrap32 (size k W) (columnsLifted wrap32 (size k H) (G k) lo n) a i
+        low : (a : Half) (i : ℕ) → i < count a (size k W) →
+            y (rowPlace (size k W) (2 * n) + (halfPlace a (size k W) + i)) ≡ lineForward wrap32 (size k W) (columnsLifted wrap32 (size k H) (G k) lo n) a i
         low lo i q = got LL (omega (arith, count-lo (size k H), n-there)) i q
         low hi i q = got HL (omega (arith, count-lo (size k H), n-there)) i q
 
-        high : n < count hi (size k H) → (a : Half) (i : ℕ) → i < count a (size k W) → y (rowPlace (size k W) (2 * n + 1) + placed a (size k W) i) ≡ lineForward wrap32 (size k W) (columnsLifted wrap32 (size k H) (G k) hi n) a i
+        high : n < count hi (size k H) → (a : Half) (i : ℕ) → i < count a (size k W) →
+            y (rowPlace (size k W) (2 * n + 1) + (halfPlace a (size k W) + i)) ≡ lineForward wrap32 (size k W) (columnsLifted wrap32 (size k H) (G k) hi n) a i
         high p lo i q = got LH p i q
         high p hi i q = got HH p i q
 
@@ -274,10 +286,12 @@ module _ (W H l : ℕ) (g : Grid) (words : OnCells (SFits w32) W H g) where
         all HH = unfold keptAt in refl
 
     -- else the low-low row comes from the next level
-    low-row : k < l → (h : Half) (i : ℕ) → i < count h (count lo (size k W)) → m (4 * size k W + (rowPlace (count lo (size k W)) n + placed h (count lo (size k W)) i)) ≡ parted (G (suc k) n) h i
+    low-row : k < l → (h : Half) (i : ℕ) → i < count h (count lo (size k W)) →
+        m (4 * size k W + (rowPlace (count lo (size k W)) n + (halfPlace h (count lo (size k W)) + i))) ≡ parted (G (suc k) n) h i
     unfolding from stretchAt size rowAt
     low-row q h i p =
-        let e : stretchAt W k + (4 * size k W + (rowPlace (count lo (size k W)) n + placed h (count lo (size k W)) i)) ≡ stretchAt W k + 4 * size k W + (rowPlace (count lo (size k W)) n + placed h (count lo (size k W)) i) = omega arith in
+        let e : stretchAt W k + (4 * size k W + (rowPlace (count lo (size k W)) n + (halfPlace h (count lo (size k W)) + i))) ≡ stretchAt W k + 4 * size k W +
+        (rowPlace (count lo (size k W)) n + (halfPlace h (count lo (size k W)) + i)) = omega arith in
         ap x e ∙ s .below (suc k) q (omega arith) .made n (rowAt-there H d due (suc k)) refl h i p
 
     abbrev taken : ℕ → ℤ
@@ -294,8 +308,10 @@ module _ (W H l : ℕ) (g : Grid) (words : OnCells (SFits w32) W H g) where
     unfolding across down setRow approximation
     got-taken q LL = λ p i b. taken-is (size k W) n m (G (suc k) n) (low-row q) i b
     got-taken q HL = λ p i b. taken-beside (size k W) n m i b ∙ got-kept HL (unfold keptAt in refl) p i b
-    got-taken q LH = λ p i b. only-taken (size k W) n m .row (2 * n + 1) (placed lo (size k W) i) (parity (2 * n) (2 * n + 1) n n (omega arith) (omega arith)) (placed-in lo (size k W) i b) ∙ got-kept LH (unfold keptAt in refl) p i b
-    got-taken q HH = λ p i b. only-taken (size k W) n m .row (2 * n + 1) (placed hi (size k W) i) (parity (2 * n) (2 * n + 1) n n (omega arith) (omega arith)) (placed-in hi (size k W) i b) ∙ got-kept HH (unfold keptAt in refl) p i b
+    got-taken q LH = λ p i b. only-taken (size k W) n m .row (2 * n + 1) (halfPlace lo (size k W) + i)
+        (parity (2 * n) (2 * n + 1) n n (omega arith) (omega arith)) (half-inside lo (size k W) i b) ∙ got-kept LH (unfold keptAt in refl) p i b
+    got-taken q HH = λ p i b. only-taken (size k W) n m .row (2 * n + 1) (halfPlace hi (size k W) + i)
+        (parity (2 * n) (2 * n + 1) n n (omega arith) (omega arith)) (half-inside hi (size k W) i b) ∙ got-kept HH (unfold keptAt in refl) p i b
 
     before-taken : Before k n taken
     unfolding setRow
@@ -315,7 +331,8 @@ module _ (W H l : ℕ) (g : Grid) (words : OnCells (SFits w32) W H g) where
         no-first : (j : ℕ) → j < l → (c : Band) → keptAt (eqb (suc j) (suc l)) c ≡ true → code c < 1 → ⊥
         no-first j h c kept less = let e = eqb-true (suc j) (suc l) (kept-first (eqb (suc j) (suc l)) c kept less) in omega arith
 
-    onto-outcome : (Q P : (ℕ → ℤ) → Type 0) (N N′ : Type 0) (f : (ℕ → ℤ) → ℕ → ℤ) (t : Tried) → (N → N′) → ((y : ℕ → ℤ) → Q y → P (f y)) → Outcome N′ Q t → Outcome N P (onto f t)
+    onto-outcome : (Q P : (ℕ → ℤ) → Type 0) (N N′ : Type 0) (f : (ℕ → ℤ) → ℕ → ℤ) (t : Tried) → (N → N′) → ((y : ℕ → ℤ) → Q y → P (f y)) → Outcome N′ Q t →
+        Outcome N P (onto f t)
     unfolding onto
     onto-outcome Q P N N′ f _ a b (stops z) = stops (λ p. z (a p))
     onto-outcome Q P N N′ f _ a b (goes y q) = goes (f y) (b y q)
@@ -324,9 +341,12 @@ module _ (W H l : ℕ) (g : Grid) (words : OnCells (SFits w32) W H g) where
     unfolding workedAt setWorked
     work-holds = onto-outcome _ _ _ _ (behind (stretchAt W k) x) _ (λ a r c p q. a k r c inside p q) worked (go (ℕ-discrete k l))
       where
-        go : Dec (k ≡ l) → Outcome ((r c : ℕ) → r < size k H → c < size k W → valueFits k (G k r c) ≡ true) (λ y. LeavesAt k n y × ((j : ℕ) → 4 * size k W ≤ j → y j ≡ m j)) (setMade k (size k W) (size k H) n (pick (eqb (suc k) (suc l)) m taken))
+        go : Dec (k ≡ l) → Outcome ((r c : ℕ) → r < size k H → c < size k W → valueFits k (G k r c) ≡ true)
+            (λ y. LeavesAt k n y × ((j : ℕ) → 4 * size k W ≤ j → y j ≡ m j)) (setMade k (size k W) (size k H) n (pick (eqb (suc k) (suc l)) m taken))
         go (yes e) = rw (eq-eqb (suc k) (suc l) (omega arith)) (set-made k (size k W) (size k H) (G k) (words-at k) m n m n-there (λ j _. refl) (needs-last e))
-        go (no e) = rw (ne-eqb (suc k) (suc l) (λ z. e (omega arith))) (set-made k (size k W) (size k H) (G k) (words-at k) m n taken n-there (only-taken (size k W) n m .past) (needs-of taken before-taken (got-taken (omega (arith, e)))))
+        go (no e) = rw (ne-eqb (suc k) (suc l) (λ z. e (omega arith)))
+            (set-made k (size k W) (size k H) (G k) (words-at k) m n taken n-there (only-taken (size k W) n m .past)
+            (needs-of taken before-taken (got-taken (omega (arith, e)))))
 
   -- ---- the sets that wait
   -- a set of which no band from b on is asked for has all of them
@@ -334,11 +354,17 @@ module _ (W H l : ℕ) (g : Grid) (words : OnCells (SFits w32) W H g) where
   unfolding look firstCode
   holds-all d k b x e s = holds-more d k b 4 x (λ c a _. elim (decLt (code c) b) [
     | yes q ↦ q
-    | no q ↦ absurd (omega (arith, first-le (asked (eqb (suc k) (suc l)) (size k W) (size k H) (rowAt H d (suc k))) b c a (omega arith), ap firstCode e, code-lt c))
+    | no q ↦ absurd (omega (
+      arith,
+      first-le (asked (eqb (suc k) (suc l)) (size k W) (size k H) (rowAt H d (suc k))) b c a (omega arith),
+      ap firstCode e,
+      code-lt c,
+    ))
   ]) s
 
   -- and one of which c is the first has those before c
-  holds-up : (d k b : ℕ) (x : ℕ → ℤ) (c : Band) (cs : List Band) → look (eqb (suc k) (suc l)) (size k W) (size k H) (rowAt H d (suc k)) b ≡ c ∷ cs → Held d (suc k) b x → Held d (suc k) (code c) x
+  holds-up : (d k b : ℕ) (x : ℕ → ℤ) (c : Band) (cs : List Band) → look (eqb (suc k) (suc l)) (size k W) (size k H) (rowAt H d (suc k)) b ≡ c ∷ cs →
+      Held d (suc k) b x → Held d (suc k) (code c) x
   unfolding look firstCode
   holds-up d k b x c cs e s = holds-more d k b (code c) x (λ f a less. elim (decLt (code f) b) [
     | yes q ↦ q
@@ -357,7 +383,8 @@ module _ (W H l : ℕ) (g : Grid) (words : OnCells (SFits w32) W H g) where
       go true h = omega arith
       go false h = omega arith
 
-  pub settle-holds : (d lev b : ℕ) (x : ℕ → ℤ) → d < H → lev ≤ suc l → Held d lev b x → Outcome Fits (HeldAt d (nextAt W H (suc l) d lev b)) (settled W H (suc l) d (nextAt W H (suc l) d lev b .level) lev x)
+  pub settle-holds : (d lev b : ℕ) (x : ℕ → ℤ) → d < H → lev ≤ suc l → Held d lev b x →
+      Outcome Fits (HeldAt d (nextAt W H (suc l) d lev b)) (settled W H (suc l) d (nextAt W H (suc l) d lev b .level) lev x)
   unfolding nextAt settled bandAt nextBand look
   settle-holds d zero b x due h s = goes x (record { below = s .below; before = s .before; got = λ k _ e c _ _. absurd (omega arith) })
   settle-holds d (suc k) b x due h s = go (those p (bandsFrom b)) refl (λ y. settle-holds d k 1 y due (omega arith))
@@ -368,25 +395,33 @@ module _ (W H l : ℕ) (g : Grid) (words : OnCells (SFits w32) W H g) where
       to : Place
       to = nextAt W H (suc l) d k 1
 
-      on : those p (bandsFrom b) ≡ [] → ((y : ℕ → ℤ) → Held d k 1 y → Outcome Fits (HeldAt d to) (settled W H (suc l) d (to .level) k y)) → Outcome Fits (HeldAt d to) (pick (ltb (to .level) (suc k)) (bind (workedAt W H (suc l) d k x) (settled W H (suc l) d (to .level) k)) (passed x))
-      on e ih = rw (lt-ltb (to .level) (suc k) (omega (arith, next-le d k 1))) (bind-outcome (workedAt W H (suc l) d k x) _ (work-holds d k x (omega arith) due (holds-all d k b x (unfold look in e) s)) ih)
+      on : those p (bandsFrom b) ≡ [] → ((y : ℕ → ℤ) → Held d k 1 y → Outcome Fits (HeldAt d to) (settled W H (suc l) d (to .level) k y)) →
+          Outcome Fits (HeldAt d to) (pick (ltb (to .level) (suc k)) (bind (workedAt W H (suc l) d k x) (settled W H (suc l) d (to .level) k)) (passed x))
+      on e ih = rw (lt-ltb (to .level) (suc k) (omega (arith, next-le d k 1)))
+          (bind-outcome (workedAt W H (suc l) d k x) _ (work-holds d k x (omega arith) due (holds-all d k b x (unfold look in e) s)) ih)
 
       go : (xs : List Band) → those p (bandsFrom b) ≡ xs → ((y : ℕ → ℤ) → Held d k 1 y → Outcome Fits (HeldAt d to) (settled W H (suc l) d (to .level) k y)) →
-          Outcome Fits (HeldAt d (pick (ltb (firstCode xs) 4) (place (suc k) (firstCode xs)) to)) (pick (ltb (pick (ltb (firstCode xs) 4) (place (suc k) (firstCode xs)) to .level) (suc k)) (bind (workedAt W H (suc l) d k x) (settled W H (suc l) d (pick (ltb (firstCode xs) 4) (place (suc k) (firstCode xs)) to .level) k)) (passed x))
+          Outcome Fits (HeldAt d (pick (ltb (firstCode xs) 4) (place (suc k) (firstCode xs)) to))
+          (pick (ltb (pick (ltb (firstCode xs) 4) (place (suc k) (firstCode xs)) to .level) (suc k))
+          (bind (workedAt W H (suc l) d k x) (settled W H (suc l) d (pick (ltb (firstCode xs) 4) (place (suc k) (firstCode xs)) to .level) k)) (passed x))
       go [] e ih = unfold firstCode in on e ih
-      go (c ∷ cs) e ih = unfold firstCode in rw (lt-ltb (code c) 4 (code-lt c), le-ltb (suc k) (suc k) (omega arith)) (goes x (holds-up d k b x c cs (unfold look in e) s))
+      go (c ∷ cs) e ih = unfold firstCode in rw (lt-ltb (code c) 4 (code-lt c), le-ltb (suc k) (suc k) (omega arith))
+          (goes x (holds-up d k b x c cs (unfold look in e) s))
 
   -- ---- a row that is wanted, fed
-  pub fed-holds : (d k : ℕ) (c : Band) (v x : ℕ → ℤ) → d < H → k ≤ l → ((i : ℕ) → i < count (across c) (size k W) → v i ≡ subband wrap32 (size k W) (size k H) (G k) c (rowAt H d (suc k)) i) → Held d (suc k) (code c) x → Outcome Fits (HeldAt d (beyond W H (suc l) d k (code c))) (fedOn W H (suc l) d (suc k) (code c) v x)
-  unfolding fedOn finished beyond bandAt nextBand
-  fed-holds d k c v x due inside row s = go (look (eqb (suc k) (suc l)) (size k W) (size k H) (rowAt H d (suc k)) (code c + 1)) refl
+  pub fed-holds : (d k : ℕ) (c : Band) (v x : ℕ → ℤ) → d < H → k ≤ l →
+      ((i : ℕ) → i < count (across c) (size k W) → v i ≡ subband wrap32 (size k W) (size k H) (G k) c (rowAt H d (suc k)) i) → Held d (suc k) (code c) x →
+      Outcome Fits (HeldAt d (beyond W H (suc l) d k (code c))) (fedOn W H (suc l) d (suc k) (code c) v x)
+  unfolding fedOn finished beyond
+  fed-holds d k c v x due inside row s = go (lastOfSet W H (suc l) d k (code c)) refl
     where
       y : ℕ → ℤ
       y = fedAt W H d k (code c) v x
 
-      go : (xs : List Band) → look (eqb (suc k) (suc l)) (size k W) (size k H) (rowAt H d (suc k)) (code c + 1) ≡ xs → Outcome Fits (HeldAt d (pick (ltb (firstCode xs) 4) (place (suc k) (code c + 1)) (place k 1))) (pick (ltb (firstCode xs) 4) (passed y) (workedAt W H (suc l) d k y))
-      go [] e = unfold firstCode in work-holds d k y inside due (holds-all d k (code c + 1) y e (feed-holds d k c v x inside row s))
-      go (b ∷ bs) e = unfold firstCode in rw (lt-ltb (code b) 4 (code-lt b)) (goes y (feed-holds d k c v x inside row s))
+      go : (t : Bool) → lastOfSet W H (suc l) d k (code c) ≡ t →
+          Outcome Fits (HeldAt d (pick t (place k 1) (place (suc k) (code c + 1)))) (pick t (workedAt W H (suc l) d k y) (passed y))
+      go true e = work-holds d k y inside due (holds-all d k (code c + 1) y (last-none W H l d k (code c) e) (feed-holds d k c v x inside row s))
+      go false e = goes y (feed-holds d k c v x inside row s)
 
   -- ---- a row drawn: the next one begins
   leaves-before : (k n : ℕ) (m : ℕ → ℤ) → 2 * suc n < size k H → LeavesAt k n m → Before k (suc n) m
@@ -410,7 +445,8 @@ module _ (W H l : ℕ) (g : Grid) (words : OnCells (SFits w32) W H g) where
         let f : rowAt H (suc d) (suc j) ≡ rowAt H d (suc j) = rw z at (rows-stay k e (j - k)) in
         subst (λ i. LeavesAt j i (mem W j x)) (sym f) (s .below j h (omega arith))
 
-    dive-holds : (m k : ℕ) → k + m ≡ suc l → rowAt H (suc d) k ≡ suc (rowAt H d k) → ((j : ℕ) → j ≤ l → j < k → Before j (rowAt H (suc d) (suc j)) (mem W j x)) → HeldAt (suc d) (dive W H (suc l) (suc d) m k) x
+    dive-holds : (m k : ℕ) → k + m ≡ suc l → rowAt H (suc d) k ≡ suc (rowAt H d k) →
+        ((j : ℕ) → j ≤ l → j < k → Before j (rowAt H (suc d) (suc j)) (mem W j x)) → HeldAt (suc d) (dive W H (suc l) (suc d) m k) x
     unfolding dive
     dive-holds zero k e new f = record {
       below = λ j h q. absurd (omega arith);
@@ -425,16 +461,22 @@ module _ (W H l : ℕ) (g : Grid) (words : OnCells (SFits w32) W H g) where
         no-first : (j : ℕ) → j < l → (c : Band) → keptAt (eqb (suc j) (suc l)) c ≡ true → code c < 1 → ⊥
         no-first j h c kept less = let z = eqb-true (suc j) (suc l) (kept-first (eqb (suc j) (suc l)) c kept less) in omega arith
 
-        go : (t : Bool) → opens (size k H) (rowAt H (suc d) k) ≡ t → (suc k + m ≡ suc l → rowAt H (suc d) (suc k) ≡ suc (rowAt H d (suc k)) → ((j : ℕ) → j ≤ l → j < suc k → Before j (rowAt H (suc d) (suc j)) (mem W j x)) → HeldAt (suc d) (dive W H (suc l) (suc d) m (suc k)) x) → HeldAt (suc d) (pick t (dive W H (suc l) (suc d) m (suc k)) (place k 1)) x
+        go : (t : Bool) → opens (size k H) (rowAt H (suc d) k) ≡ t →
+            (suc k + m ≡ suc l → rowAt H (suc d) (suc k) ≡ suc (rowAt H d (suc k)) →
+            ((j : ℕ) → j ≤ l → j < suc k → Before j (rowAt H (suc d) (suc j)) (mem W j x)) → HeldAt (suc d) (dive W H (suc l) (suc d) m (suc k)) x) →
+            HeldAt (suc d) (pick t (dive W H (suc l) (suc d) m (suc k)) (place k 1)) x
         go true o ih =
-            let next : rowAt H (suc d) (suc k) ≡ suc (rowAt H d (suc k)) = rowAt-next H (suc d) k ∙ ap (setOf (size k H)) new ∙ opens-next (size k H) (rowAt H d k) there (rw new at o) ∙ ap suc (sym (rowAt-next H d k)) in
+            let next : rowAt H (suc d) (suc k) ≡ suc (rowAt H d (suc k)) = rowAt-next H (suc d) k ∙ ap (setOf (size k H)) new
+            ∙ opens-next (size k H) (rowAt H d k) there (rw new at o) ∙ ap suc (sym (rowAt-next H d k)) in
             let top : suc (rowAt H d (suc k)) < count lo (size k H) = rw (← next) (unfold size in rowAt-there H (suc d) more (suc k)) in
             ih (omega arith) next (λ j h q. elim (ℕ-discrete j k) [
-              | yes z ↦ rw (z, next) (leaves-before k (rowAt H d (suc k)) (mem W k x) (omega (arith, count-lo (size k H))) (s .below k (omega arith) (omega arith)))
+              | yes z ↦ rw (z, next) (leaves-before k (rowAt H d (suc k)) (mem W k x) (omega (arith, count-lo (size k H)))
+                  (s .below k (omega arith) (omega arith)))
               | no z ↦ f j h (omega (arith, z))
             ])
         go false o ih =
-            let next : rowAt H (suc d) (suc k) ≡ rowAt H d (suc k) = rowAt-next H (suc d) k ∙ ap (setOf (size k H)) new ∙ same-set (size k H) (rowAt H d k) there (rw new at o) ∙ sym (rowAt-next H d k) in
+            let next : rowAt H (suc d) (suc k) ≡ rowAt H d (suc k) = rowAt-next H (suc d) k ∙ ap (setOf (size k H)) new
+            ∙ same-set (size k H) (rowAt H d k) there (rw new at o) ∙ sym (rowAt-next H d k) in
             record {
               below = λ j h q. stay-below k next j h q;
               before = λ j h q. f j h q;
@@ -459,7 +501,8 @@ module _ (W H l : ℕ) (g : Grid) (words : OnCells (SFits w32) W H g) where
   -- ---- the row that can be drawn
   pub height-made : (d : ℕ) (x : ℕ → ℤ) → d < H → Held d 0 4 x → Is W x d (parted (g d))
   unfolding from stretchAt size approximation rowAt
-  height-made d x due s h i b = let e : 0 + (rowPlace W d + placed h W i) ≡ rowPlace W d + placed h W i = omega arith in ap x (sym e) ∙ s .below 0 (omega arith) (omega arith) .made d due refl h i b
+  height-made d x due s h i b = let e : 0 + (rowPlace W d + (halfPlace h W + i)) ≡ rowPlace W d + (halfPlace h W + i) = omega arith in
+      ap x (sym e) ∙ s .below 0 (omega arith) (omega arith) .made d due refl h i b
 
   pub height-fit : (d : ℕ) (x : ℕ → ℤ) → d < H → Held d 0 4 x → (c : ℕ) → c < W → valueFits 0 (g d c) ≡ true
   unfolding size approximation rowAt

@@ -16,26 +16,22 @@ use Rattle.wavelet.specs.Levels.{levelBand}
 use Rattle.wavelet.specs.View.{bandColumns}
 use Rattle.wavelet.specs.Questions.{ask, within}
 use Rattle.reader.specs.declared.Reader.{Reader}
-use Rattle.reader.specs.declared.SetUp.{SetUp}
-use Rattle.reader.specs.declared.SetUp.the-variants as up
-use Rattle.reader.specs.declared.Fed.{Fed}
-use Rattle.reader.specs.declared.Fed.the-variants as fed
-use Rattle.reader.specs.declared.Drawn.{Drawn}
-use Rattle.reader.specs.declared.Drawn.the-variants as drawn
+use Rattle.reader.specs.Answers.{Reply, gives, refused, impossible, Handed, aRow, nothing}
 use Rattle.reader.specs.Sets.{rowAt}
 use Rattle.reader.specs.Tried.{Tried, failed, passed, fits, memory}
 use Rattle.reader.specs.Machine.{place, nextAt, placeFed, beyond, enter}
 use Rattle.reader.specs.State.{next, nextRow, nextLength, settles, feeds, drawDue, fedReader, drawnReader, endedReader}
 use Rattle.reader.specs.Questions.{countsFit, storeFits, setUpQuestion, feedQuestion, drawQuestion}
 use Rattle.lifting.specs.Halves.{fronted}
-use Rattle.reader.specs.Calls.{fresh, setUpAnswer, setUpStore, feedAnswer, feedStore, storeAfter, drawAnswer, drawStore, drawArea, heightRow}
+use Rattle.reader.specs.Calls.{fresh, setUpReply, setUpStore, feedReply, feedStore, storeAfter, drawReply, drawStore, drawArea, heightRow}
 use Rattle.reader.specs.Holds.{Holds, Words, AllFit, IsWanted, SetUpHolds, FeedKeeps, DrawKeeps}
 use Rattle.reader.specs.Demand3.{Area}
 use Rattle.reader.proofs.OpenedSets.{rowAt-first}
 use Rattle.reader.proofs.StepsLeft.{named-code, stepsLeft}
 use Rattle.reader.proofs.SetMade.{Outcome}
 use Rattle.reader.proofs.Holds.{Fits, Held, enter-holds}
-use Rattle.reader.proofs.CallViews.{Limits, here, view, FeedView, feed-away, feed-onward, feed-view, DrawView, draw-away, draw-idle, draw-onward, draw-view}
+use Rattle.reader.proofs.CallViews.{Limits, here, view, FeedView, feed-away, feed-onward, feed-view, DrawView, draw-away, draw-idle, draw-onward}
+use Rattle.reader.proofs.CallViews.{draw-view}
 use Rattle.reader.proofs.Outcomes.{outcome-failed, outcome-passed, settles-outcome, feeds-outcome, row-out}
 
 -- ---- question 1, part by part
@@ -72,39 +68,43 @@ unfolding fits
 ask-passed y = refl
 
 -- ---- which answer comes of which number
-feed-passed : (s : Reader) (r : ℕ) (t : Reader) → feedAnswer s r ≡ fed.Passed t → (r ≡ 0) × (t ≡ fedReader s)
-unfolding feedAnswer
+feed-passed : (s : Reader) (r : ℕ) (t : Reader) → feedReply s r ≡ gives t → (r ≡ 0) × (t ≡ fedReader s)
+unfolding feedReply
 feed-passed s r t = go (eqb r 0) refl (eqb r 14)
   where
-    go : (y : Bool) → eqb r 0 ≡ y → (z : Bool) → pick y (fed.Passed (fedReader s)) (pick z (fed.Impossible (endedReader s)) (fed.Refused r)) ≡ fed.Passed t → (r ≡ 0) × (t ≡ fedReader s)
+    go : (y : Bool) → eqb r 0 ≡ y → (z : Bool) → pick y (gives (fedReader s)) (pick z (impossible (endedReader s)) (refused r)) ≡ gives t →
+        (r ≡ 0) × (t ≡ fedReader s)
     go true h z p = (eqb-true r 0 h, cc)
     go false h true p = absurd (let o : _≡_ {A = ℕ} 0 1 = cc in omega arith)
     go false h false p = absurd (let o : _≡_ {A = ℕ} 0 1 = cc in omega arith)
 
-feed-fourteen : (s : Reader) (r : ℕ) (t : Reader) → feedAnswer s r ≡ fed.Impossible t → r ≡ 14
-unfolding feedAnswer
+feed-fourteen : (s : Reader) (r : ℕ) (t : Reader) → feedReply s r ≡ impossible t → r ≡ 14
+unfolding feedReply
 feed-fourteen s r t = go (eqb r 0) (eqb r 14) refl
   where
-    go : (y z : Bool) → eqb r 14 ≡ z → pick y (fed.Passed (fedReader s)) (pick z (fed.Impossible (endedReader s)) (fed.Refused r)) ≡ fed.Impossible t → r ≡ 14
+    go : (y z : Bool) → eqb r 14 ≡ z → pick y (gives (fedReader s)) (pick z (impossible (endedReader s)) (refused r)) ≡ impossible t → r ≡ 14
     go true z h p = absurd (let o : _≡_ {A = ℕ} 0 1 = cc in omega arith)
     go false true h p = eqb-true r 14 h
     go false false h p = absurd (let o : _≡_ {A = ℕ} 0 1 = cc in omega arith)
 
-heights-only : (s : Reader) (r m : ℕ) (t : Reader) → drawAnswer s r ≡ drawn.Heights m t → (r ≡ 0) × (t ≡ drawnReader s) × (drawDue s ≡ false → ⊥)
-unfolding drawAnswer
+heights-only : (s : Reader) (r m : ℕ) (t : Reader) → drawReply s r ≡ gives (aRow m t) → (r ≡ 0) × (t ≡ drawnReader s) × (drawDue s ≡ false → ⊥)
+unfolding drawReply
 heights-only s r m t = go (eqb r 0) refl (drawDue s) (eqb r 14)
   where
-    go : (y : Bool) → eqb r 0 ≡ y → (u z : Bool) → pick y (pick u (drawn.Heights (s .width) (drawnReader s)) drawn.Nothing) (pick z (drawn.Impossible (endedReader s)) (drawn.Refused r)) ≡ drawn.Heights m t → (r ≡ 0) × (t ≡ drawnReader s) × (u ≡ false → ⊥)
+    go : (y : Bool) → eqb r 0 ≡ y → (u z : Bool) →
+        pick y (gives (pick u (aRow (s .width) (drawnReader s)) nothing)) (pick z (impossible (endedReader s)) (refused r)) ≡ gives (aRow m t) →
+        (r ≡ 0) × (t ≡ drawnReader s) × (u ≡ false → ⊥)
     go true h true z k = (eqb-true r 0 h, cc, λ f. subst T f tt)
     go true h false z k = absurd (let o : _≡_ {A = ℕ} 0 1 = cc in omega arith)
     go false h u true k = absurd (let o : _≡_ {A = ℕ} 0 1 = cc in omega arith)
     go false h u false k = absurd (let o : _≡_ {A = ℕ} 0 1 = cc in omega arith)
 
-drawn-fourteen : (s : Reader) (r : ℕ) (t : Reader) → drawAnswer s r ≡ drawn.Impossible t → r ≡ 14
-unfolding drawAnswer
+drawn-fourteen : (s : Reader) (r : ℕ) (t : Reader) → drawReply s r ≡ impossible t → r ≡ 14
+unfolding drawReply
 drawn-fourteen s r t = go (eqb r 0) (drawDue s) (eqb r 14) refl
   where
-    go : (y u z : Bool) → eqb r 14 ≡ z → pick y (pick u (drawn.Heights (s .width) (drawnReader s)) drawn.Nothing) (pick z (drawn.Impossible (endedReader s)) (drawn.Refused r)) ≡ drawn.Impossible t → r ≡ 14
+    go : (y u z : Bool) → eqb r 14 ≡ z → pick y (gives (pick u (aRow (s .width) (drawnReader s)) nothing)) (pick z (impossible (endedReader s)) (refused r))
+        ≡ impossible t → r ≡ 14
     go true true z h k = absurd (let o : _≡_ {A = ℕ} 0 1 = cc in omega arith)
     go true false z h k = absurd (let o : _≡_ {A = ℕ} 0 1 = cc in omega arith)
     go false u true h k = eqb-true r 14 h
@@ -122,7 +122,8 @@ module _ (W H l d lev b : ℕ) (e : Bool) where
     got = λ k p q c kept less. h .got due k (omega arith) q c kept less;
   }
 
-holds : (W H l d lev b : ℕ) (e : Bool) (g : Grid) (words : Words g (here W H l d lev b e)) (x : ℕ → ℤ) → (d < H → Held W H l g words d lev b x) → Holds g (here W H l d lev b e) x
+holds : (W H l d lev b : ℕ) (e : Bool) (g : Grid) (words : Words g (here W H l d lev b e)) (x : ℕ → ℤ) → (d < H → Held W H l g words d lev b x) →
+    Holds g (here W H l d lev b e) x
 holds W H l d lev b e g words x h = record {
   below = λ due k p q. h due .below k (omega arith) q;
   before = λ due k p q. h due .before k (omega arith) q;
@@ -156,14 +157,18 @@ module _ (W H l d lev b : ℕ) (e : Bool) (n : ℕ) (x : ℕ → ℤ) where
     onward never f g =
         let t = two-yes (countsFit (s W H l d lev b e)) (storeFits W (suc l) n) _ q refl f g in
         let i = inside W H l d lev b e (t .0) in
-        go i (feed-view W H l n (limits-of i (t .1)) d lev b (i .drawn-le) (i .level-le) (i .band-le) e (stepsLeft W H l d (place lev b)) x a (view W H l d lev b))
+        go i (feed-view W H l n (limits-of i (t .1)) d lev b (i .drawn-le) (i .level-le) (i .band-le) e (stepsLeft W H l d (place lev b)) x a
+        (view W H l d lev b))
       where
-        go : (i : Inside W H l d lev b) {lim : Limits W H l n} → FeedView W H l n lim d lev b (i .drawn-le) (i .level-le) (i .band-le) e (stepsLeft W H l d (place lev b)) x a → Onward
+        go : (i : Inside W H l d lev b) {lim : Limits W H l n} →
+            FeedView W H l n lim d lev b (i .drawn-le) (i .level-le) (i .band-le) e (stepsLeft W H l d (place lev b)) x a → Onward
         go i (feed-away p _ z y at) = absurd (never (ap (λ j. eqb j 0) at ∙ z) (ap (λ j. eqb j 14) at ∙ y))
-        go i (feed-onward k c live due below asks at-row head long in-range _ at) = record { k = k; c = c; due = due; level-le = i .level-le; below = below; at-row = at-row; asks = at }
+        go i (feed-onward k c live due below asks at-row head long in-range _ at) =
+            record { k = k; c = c; due = due; level-le = i .level-le; below = below; at-row = at-row; asks = at }
 
     -- the run is the row that is named
-    wanted-row : (g : Grid) (o : Onward) → IsWanted g (s W H l d lev b e) v → (i : ℕ) → i < bandColumns W (suc (o .k)) (o .c) → v i ≡ levelBand wrap32 W H g (suc (o .k)) (o .c) (rowAt H d (suc (o .k))) i
+    wanted-row : (g : Grid) (o : Onward) → IsWanted g (s W H l d lev b e) v → (i : ℕ) → i < bandColumns W (suc (o .k)) (o .c) →
+        v i ≡ levelBand wrap32 W H g (suc (o .k)) (o .c) (rowAt H d (suc (o .k))) i
     unfolding next nextRow nextLength
     wanted-row g o h = rw (o .at-row, named-code (o .c)) at h
 
@@ -172,7 +177,8 @@ module _ (W H l d lev b : ℕ) (e : Bool) (n : ℕ) (x : ℕ → ℤ) where
     unfolding feedStore storeAfter memory
     store-is y p = ap (memory x) p
 
-    reader-is : (o : Onward) → fedReader (s W H l d lev b e) ≡ here W H l d (beyond W H (suc l) d (o .k) (code (o .c)) .level) (beyond W H (suc l) d (o .k) (code (o .c)) .band) false
+    reader-is : (o : Onward) → fedReader (s W H l d lev b e) ≡ here W H l d (beyond W H (suc l) d (o .k) (code (o .c)) .level)
+        (beyond W H (suc l) d (o .k) (code (o .c)) .band) false
     unfolding fedReader next placeFed
     reader-is o = rw (o .at-row) refl
 
@@ -180,29 +186,40 @@ module _ (W H l d lev b : ℕ) (e : Bool) (n : ℕ) (x : ℕ → ℤ) where
     no-mix : (u : Tried) (r : ℕ) → q ≡ r → q ≡ ask (fits (feeds (s W H l d lev b e) v x)) 14 0 → feeds (s W H l d lev b e) v x ≡ u → ask (fits u) 14 0 ≡ r
     no-mix u r z a p = sym (ap (λ w. ask (fits w) 14 0) p) ∙ sym a ∙ z
 
-    feed-at : FeedKeeps (s W H l d lev b e) v x (feedAnswer (s W H l d lev b e) q) (feedStore (s W H l d lev b e) q v x)
-    feed-at = record { passed = on; impossible = stopped }
+    feed-at : FeedKeeps (s W H l d lev b e) v x (feedReply (s W H l d lev b e) q) (feedStore (s W H l d lev b e) q v x)
+    feed-at = record { passed = on; ended = stopped }
       where
-        outcome-of : (o : Onward) (g : Grid) (words : Words g (s W H l d lev b e)) → IsWanted g (s W H l d lev b e) v → Holds g (s W H l d lev b e) x → (u : Tried) → feeds (s W H l d lev b e) v x ≡ u → Outcome (Fits W H l g words) (Held W H l g words d (beyond W H (suc l) d (o .k) (code (o .c)) .level) (beyond W H (suc l) d (o .k) (code (o .c)) .band)) u
-        outcome-of o g words row h u z = subst (Outcome (Fits W H l g words) _) z (feeds-outcome W H l d lev b (o .due) (o .level-le) g words x (held W H l d lev b e g words x (o .due) h) e (o .k) (o .c) (o .below) (o .at-row) v (wanted-row g o row))
+        outcome-of : (o : Onward) (g : Grid) (words : Words g (s W H l d lev b e)) → IsWanted g (s W H l d lev b e) v → Holds g (s W H l d lev b e) x →
+            (u : Tried) → feeds (s W H l d lev b e) v x ≡ u →
+            Outcome (Fits W H l g words) (Held W H l g words d (beyond W H (suc l) d (o .k) (code (o .c)) .level)
+            (beyond W H (suc l) d (o .k) (code (o .c)) .band)) u
+        outcome-of o g words row h u z = subst (Outcome (Fits W H l g words) _) z
+            (feeds-outcome W H l d lev b (o .due) (o .level-le) g words x (held W H l d lev b e g words x (o .due) h) e (o .k) (o .c) (o .below) (o .at-row) v
+            (wanted-row g o row))
 
-        tried : (o : Onward) → q ≡ 0 → (t : Reader) → t ≡ fedReader (s W H l d lev b e) → (g : Grid) → Words g (s W H l d lev b e) → IsWanted g (s W H l d lev b e) v → Holds g (s W H l d lev b e) x → (u : Tried) → feeds (s W H l d lev b e) v x ≡ u → Holds g t (feedStore (s W H l d lev b e) q v x)
+        tried : (o : Onward) → q ≡ 0 → (t : Reader) → t ≡ fedReader (s W H l d lev b e) → (g : Grid) → Words g (s W H l d lev b e) →
+            IsWanted g (s W H l d lev b e) v → Holds g (s W H l d lev b e) x → (u : Tried) → feeds (s W H l d lev b e) v x ≡ u →
+            Holds g t (feedStore (s W H l d lev b e) q v x)
         tried o z t same g words row h failed p = absurd (omega (arith, no-mix failed 0 z (o .asks) p, ask-failed))
         tried o z t same g words row h (passed y) p =
             subst (λ r. Holds g r (feedStore (s W H l d lev b e) q v x)) (sym (same ∙ reader-is o))
-            (subst (Holds g _) (sym (ap (λ r. feedStore (s W H l d lev b e) r v x) z ∙ store-is y p)) (holds W H l d _ _ false g words y (λ _. outcome-passed y (outcome-of o g words row h (passed y) p))))
+            (subst (Holds g _) (sym (ap (λ r. feedStore (s W H l d lev b e) r v x) z ∙ store-is y p))
+            (holds W H l d _ _ false g words y (λ _. outcome-passed y (outcome-of o g words row h (passed y) p))))
 
-        on : (t : Reader) → feedAnswer (s W H l d lev b e) q ≡ fed.Passed t → (g : Grid) → Words g (s W H l d lev b e) → IsWanted g (s W H l d lev b e) v → Holds g (s W H l d lev b e) x → Holds g t (feedStore (s W H l d lev b e) q v x)
+        on : (t : Reader) → feedReply (s W H l d lev b e) q ≡ gives t → (g : Grid) → Words g (s W H l d lev b e) → IsWanted g (s W H l d lev b e) v →
+            Holds g (s W H l d lev b e) x → Holds g t (feedStore (s W H l d lev b e) q v x)
         on t r g words row h =
             let p = feed-passed (s W H l d lev b e) q t r in
             let o = onward (λ z _. subst T (sym (ap (λ j. eqb j 0) (p .0)) ∙ z) tt) (λ z. omega (arith, p .0)) (λ z. omega (arith, p .0)) in
             tried o (p .0) t (p .1) g words row h (feeds (s W H l d lev b e) v x) refl
 
-        not-fit : (o : Onward) → q ≡ 14 → (g : Grid) (words : Words g (s W H l d lev b e)) → IsWanted g (s W H l d lev b e) v → Holds g (s W H l d lev b e) x → AllFit g (s W H l d lev b e) → (u : Tried) → feeds (s W H l d lev b e) v x ≡ u → ⊥
+        not-fit : (o : Onward) → q ≡ 14 → (g : Grid) (words : Words g (s W H l d lev b e)) → IsWanted g (s W H l d lev b e) v → Holds g (s W H l d lev b e) x →
+            AllFit g (s W H l d lev b e) → (u : Tried) → feeds (s W H l d lev b e) v x ≡ u → ⊥
         not-fit o z g words row h all failed p = outcome-failed (outcome-of o g words row h failed p) (λ k r c i. all k r c (omega arith))
         not-fit o z g words row h all (passed y) p = omega (arith, no-mix (passed y) 14 z (o .asks) p, ask-passed y)
 
-        stopped : (t : Reader) → feedAnswer (s W H l d lev b e) q ≡ fed.Impossible t → (g : Grid) → Words g (s W H l d lev b e) → IsWanted g (s W H l d lev b e) v → Holds g (s W H l d lev b e) x → AllFit g (s W H l d lev b e) → ⊥
+        stopped : (t : Reader) → feedReply (s W H l d lev b e) q ≡ impossible t → (g : Grid) → Words g (s W H l d lev b e) → IsWanted g (s W H l d lev b e) v →
+            Holds g (s W H l d lev b e) x → AllFit g (s W H l d lev b e) → ⊥
         stopped t r g words row h all =
             let z = feed-fourteen (s W H l d lev b e) q t r in
             let o = onward (λ _ y. subst T (sym (ap (λ j. eqb j 14) z) ∙ y) tt) (λ y. omega (arith, z)) (λ y. omega (arith, z)) in
@@ -226,19 +243,23 @@ module _ (W H l d lev b : ℕ) (e : Bool) (n : ℕ) (x : ℕ → ℤ) where
     drawing never f g idle =
         let t = two-yes (countsFit (s W H l d lev b e)) (storeFits W (suc l) n) _ p refl f g in
         let i = inside W H l d lev b e (t .0) in
-        go i (draw-view W H l n (limits-of i (t .1)) d lev b (i .drawn-le) (i .level-le) (i .band-le) e (stepsLeft W H l d (place lev b)) x a (view W H l d lev b))
+        go i (draw-view W H l n (limits-of i (t .1)) d lev b (i .drawn-le) (i .level-le) (i .band-le) e (stepsLeft W H l d (place lev b)) x a
+        (view W H l d lev b))
       where
-        go : (i : Inside W H l d lev b) {lim : Limits W H l n} → DrawView W H l n lim d lev b (i .drawn-le) (i .level-le) (i .band-le) e (stepsLeft W H l d (place lev b)) x a → Drawing
+        go : (i : Inside W H l d lev b) {lim : Limits W H l n} →
+            DrawView W H l n lim d lev b (i .drawn-le) (i .level-le) (i .band-le) e (stepsLeft W H l d (place lev b)) x a → Drawing
         go i (draw-away r z y _ at) = absurd (never (ap (λ j. eqb j 0) at ∙ z) (ap (λ j. eqb j 14) at ∙ y))
         go i (draw-idle live z _ at) = absurd (idle z at)
-        go i (draw-onward live due at-height head to-draw _ at) = record { due = due; level-le = i .level-le; at-height = at-height; to-draw = to-draw; asks = at }
+        go i (draw-onward live due at-height head to-draw _ at) =
+            record { due = due; level-le = i .level-le; at-height = at-height; to-draw = to-draw; asks = at }
 
     -- the store, the area and the reader that a draw of a row leaves
     drawn-store : (y : ℕ → ℤ) → drawDue (s W H l d lev b e) ≡ true → settles (s W H l d lev b e) x ≡ passed y → drawStore (s W H l d lev b e) 0 x ≡ y
     unfolding drawStore storeAfter memory
     drawn-store y u k = rw (u, k) refl
 
-    drawn-area : (y : ℕ → ℤ) → drawDue (s W H l d lev b e) ≡ true → settles (s W H l d lev b e) x ≡ passed y → drawArea (s W H l d lev b e) 0 x (a .numbers) ≡ fronted W (heightRow W d y) (a .numbers)
+    drawn-area : (y : ℕ → ℤ) → drawDue (s W H l d lev b e) ≡ true → settles (s W H l d lev b e) x ≡ passed y →
+        drawArea (s W H l d lev b e) 0 x (a .numbers) ≡ fronted W (heightRow W d y) (a .numbers)
     unfolding drawArea memory
     drawn-area y u k = rw (u, k) refl
 
@@ -249,32 +270,43 @@ module _ (W H l d lev b : ℕ) (e : Bool) (n : ℕ) (x : ℕ → ℤ) where
     same-test : (u : Tried) (r : ℕ) → p ≡ r → p ≡ ask (fits (settles (s W H l d lev b e) x)) 14 0 → settles (s W H l d lev b e) x ≡ u → ask (fits u) 14 0 ≡ r
     same-test u r z k h = sym (ap (λ w. ask (fits w) 14 0) h) ∙ sym k ∙ z
 
-    draw-at : DrawKeeps (s W H l d lev b e) x (drawAnswer (s W H l d lev b e) p) (drawStore (s W H l d lev b e) p x) (drawArea (s W H l d lev b e) p x (a .numbers))
-    draw-at = record { passed = on; impossible = stopped }
+    draw-at : DrawKeeps (s W H l d lev b e) x (drawReply (s W H l d lev b e) p) (drawStore (s W H l d lev b e) p x)
+        (drawArea (s W H l d lev b e) p x (a .numbers))
+    draw-at = record { passed = on; ended = stopped }
       where
-        outcome-of : (o : Drawing) (g : Grid) (words : Words g (s W H l d lev b e)) → Holds g (s W H l d lev b e) x → (u : Tried) → settles (s W H l d lev b e) x ≡ u → Outcome (Fits W H l g words) (Held W H l g words d 0 4) u
-        outcome-of o g words h u z = subst (Outcome (Fits W H l g words) _) z (settles-outcome W H l d lev b (o .due) (o .level-le) g words x (held W H l d lev b e g words x (o .due) h) e (place 0 4) (o .at-height))
+        outcome-of : (o : Drawing) (g : Grid) (words : Words g (s W H l d lev b e)) → Holds g (s W H l d lev b e) x → (u : Tried) →
+            settles (s W H l d lev b e) x ≡ u → Outcome (Fits W H l g words) (Held W H l g words d 0 4) u
+        outcome-of o g words h u z = subst (Outcome (Fits W H l g words) _) z
+            (settles-outcome W H l d lev b (o .due) (o .level-le) g words x (held W H l d lev b e g words x (o .due) h) e (place 0 4) (o .at-height))
 
-        tried : (o : Drawing) → p ≡ 0 → (t : Reader) → t ≡ drawnReader (s W H l d lev b e) → (g : Grid) → Words g (s W H l d lev b e) → Holds g (s W H l d lev b e) x → (u : Tried) → settles (s W H l d lev b e) x ≡ u → Holds g t (drawStore (s W H l d lev b e) p x) × ((c : ℕ) → c < W → drawArea (s W H l d lev b e) p x (a .numbers) c ≡ g d c)
+        tried : (o : Drawing) → p ≡ 0 → (t : Reader) → t ≡ drawnReader (s W H l d lev b e) → (g : Grid) → Words g (s W H l d lev b e) →
+            Holds g (s W H l d lev b e) x → (u : Tried) → settles (s W H l d lev b e) x ≡ u →
+            Holds g t (drawStore (s W H l d lev b e) p x) × ((c : ℕ) → c < W → drawArea (s W H l d lev b e) p x (a .numbers) c ≡ g d c)
         tried o z t same g words h failed k = absurd (omega (arith, same-test failed 0 z (o .asks) k, ask-failed))
         tried o z t same g words h (passed y) k =
             let is : Held W H l g words d 0 4 y = outcome-passed y (outcome-of o g words h (passed y) k) in (
               subst (λ r. Holds g r (drawStore (s W H l d lev b e) p x)) (sym (same ∙ drawn-reader))
-                  (subst (Holds g _) (sym (ap (λ r. drawStore (s W H l d lev b e) r x) z ∙ drawn-store y (o .to-draw) k)) (holds W H l (suc d) _ _ false g words y (λ more. enter-holds W H l g words d more y is))),
-              λ c i. ap (λ r. drawArea (s W H l d lev b e) r x (a .numbers) c) z ∙ ap (λ f. f c) (drawn-area y (o .to-draw) k) ∙ row-out W H l d (o .due) g words y is (a .numbers) c i,
+                  (subst (Holds g _) (sym (ap (λ r. drawStore (s W H l d lev b e) r x) z ∙ drawn-store y (o .to-draw) k))
+                  (holds W H l (suc d) _ _ false g words y (λ more. enter-holds W H l g words d more y is))),
+              λ c i. ap (λ r. drawArea (s W H l d lev b e) r x (a .numbers) c) z ∙ ap (λ f. f c) (drawn-area y (o .to-draw) k)
+                  ∙ row-out W H l d (o .due) g words y is (a .numbers) c i,
             )
 
-        on : (m : ℕ) (t : Reader) → drawAnswer (s W H l d lev b e) p ≡ drawn.Heights m t → (g : Grid) → Words g (s W H l d lev b e) → Holds g (s W H l d lev b e) x → Holds g t (drawStore (s W H l d lev b e) p x) × ((c : ℕ) → c < W → drawArea (s W H l d lev b e) p x (a .numbers) c ≡ g d c)
+        on : (m : ℕ) (t : Reader) → drawReply (s W H l d lev b e) p ≡ gives (aRow m t) → (g : Grid) → Words g (s W H l d lev b e) →
+            Holds g (s W H l d lev b e) x → Holds g t (drawStore (s W H l d lev b e) p x) × ((c : ℕ) → c < W →
+            drawArea (s W H l d lev b e) p x (a .numbers) c ≡ g d c)
         on m t r g words h =
             let k = heights-only (s W H l d lev b e) p m t r in
             let o = drawing (λ z _. subst T (sym (ap (λ j. eqb j 0) (k .0)) ∙ z) tt) (λ z. omega (arith, k .0)) (λ z. omega (arith, k .0)) (λ z _. k .2 z) in
             tried o (k .0) t (k .1) g words h (settles (s W H l d lev b e) x) refl
 
-        not-fit : (o : Drawing) → p ≡ 14 → (g : Grid) (words : Words g (s W H l d lev b e)) → Holds g (s W H l d lev b e) x → AllFit g (s W H l d lev b e) → (u : Tried) → settles (s W H l d lev b e) x ≡ u → ⊥
+        not-fit : (o : Drawing) → p ≡ 14 → (g : Grid) (words : Words g (s W H l d lev b e)) → Holds g (s W H l d lev b e) x → AllFit g (s W H l d lev b e) →
+            (u : Tried) → settles (s W H l d lev b e) x ≡ u → ⊥
         not-fit o z g words h all failed k = outcome-failed (outcome-of o g words h failed k) (λ j r c i. all j r c (omega arith))
         not-fit o z g words h all (passed y) k = omega (arith, same-test (passed y) 14 z (o .asks) k, ask-passed y)
 
-        stopped : (t : Reader) → drawAnswer (s W H l d lev b e) p ≡ drawn.Impossible t → (g : Grid) → Words g (s W H l d lev b e) → Holds g (s W H l d lev b e) x → AllFit g (s W H l d lev b e) → ⊥
+        stopped : (t : Reader) → drawReply (s W H l d lev b e) p ≡ impossible t → (g : Grid) → Words g (s W H l d lev b e) → Holds g (s W H l d lev b e) x →
+            AllFit g (s W H l d lev b e) → ⊥
         stopped t r g words h all =
             let z = drawn-fourteen (s W H l d lev b e) p t r in
             let o = drawing (λ _ y. subst T (sym (ap (λ j. eqb j 14) z) ∙ y) tt) (λ y. omega (arith, z)) (λ y. omega (arith, z)) (λ _ y. omega (arith, z, y)) in
@@ -288,11 +320,11 @@ no-levels W H d lev b e h =
     let c = both (within 1 maxHeight H) _ (a .1) in
     subst T (sym (c .1)) tt
 
-feed-counts : (s : Reader) (n m : ℕ) (x v : ℕ → ℤ) → (feedQuestion s n x m v ≡ 1 → ⊥) → (feedQuestion s n x m v ≡ 5 → ⊥) → countsFit s ≡ true
+pub feed-counts : (s : Reader) (n m : ℕ) (x v : ℕ → ℤ) → (feedQuestion s n x m v ≡ 1 → ⊥) → (feedQuestion s n x m v ≡ 5 → ⊥) → countsFit s ≡ true
 unfolding feedQuestion
 feed-counts s n m x v f g = two-yes (countsFit s) (storeFits (s .width) (s .levels) n) _ (feedQuestion s n x m v) refl f g .0
 
-draw-counts : (s : Reader) (n m : ℕ) (x : ℕ → ℤ) → (drawQuestion s n x m ≡ 1 → ⊥) → (drawQuestion s n x m ≡ 5 → ⊥) → countsFit s ≡ true
+pub draw-counts : (s : Reader) (n m : ℕ) (x : ℕ → ℤ) → (drawQuestion s n x m ≡ 1 → ⊥) → (drawQuestion s n x m ≡ 5 → ⊥) → countsFit s ≡ true
 unfolding drawQuestion
 draw-counts s n m x f g = two-yes (countsFit s) (storeFits (s .width) (s .levels) n) _ (drawQuestion s n x m) refl f g .0
 
@@ -308,60 +340,67 @@ fresh-holds W H L g y = record {
   got = λ _ k p q c kept less. absurd (omega arith);
 }
 
-ready-only : (W H L q : ℕ) (s : Reader) → setUpAnswer W H L q ≡ up.Ready s → s ≡ fresh W H L
-unfolding setUpAnswer
+ready-only : (W H L q : ℕ) (s : Reader) → setUpReply W H L q ≡ gives s → s ≡ fresh W H L
+unfolding setUpReply
 ready-only W H L q s = go (eqb q 0)
   where
-    go : (t : Bool) → pick t (up.Ready (fresh W H L)) (up.Refused q) ≡ up.Ready s → s ≡ fresh W H L
+    go : (t : Bool) → pick t (gives (fresh W H L)) (refused q) ≡ gives s → s ≡ fresh W H L
     go true e = cc
     go false e = absurd (let o : _≡_ {A = ℕ} 0 1 = cc in omega arith)
 
 -- ---- the theorems
-pub set-up-holds : (W H L n : ℕ) (x : ℕ → ℤ) → SetUpHolds (setUpAnswer W H L (setUpQuestion W H L n)) (setUpStore W L (setUpQuestion W H L n) x)
-set-up-holds W H L n x = record { ready = λ s r g. subst (λ t. Holds g t (setUpStore W L (setUpQuestion W H L n) x)) (sym (ready-only W H L _ s r)) (fresh-holds W H L g _) }
+pub set-up-holds : (W H L n : ℕ) (x : ℕ → ℤ) → SetUpHolds (setUpReply W H L (setUpQuestion W H L n)) (setUpStore W L (setUpQuestion W H L n) x)
+set-up-holds W H L n x = record {
+  ready = λ s r g. subst (λ t. Holds g t (setUpStore W L (setUpQuestion W H L n) x)) (sym (ready-only W H L _ s r))
+      (fresh-holds W H L g _);
+}
 
 -- a feed of m numbers v on a store of n numbers
-pub feed-keeps : (s : Reader) (n m : ℕ) (x v : ℕ → ℤ) → FeedKeeps s v x (feedAnswer s (feedQuestion s n x m v)) (feedStore s (feedQuestion s n x m v) v x)
+pub feed-keeps : (s : Reader) (n m : ℕ) (x v : ℕ → ℤ) → FeedKeeps s v x (feedReply s (feedQuestion s n x m v)) (feedStore s (feedQuestion s n x m v) v x)
 feed-keeps s n m x v = at (s .width) (s .height) (s .levels) (s .drawn) (s .level) (s .band) (s .ended)
   where
-    at : (W H L d lev b : ℕ) (e : Bool) → (let u : Reader = record { width = W; height = H; levels = L; drawn = d; level = lev; band = b; ended = e } in FeedKeeps u v x (feedAnswer u (feedQuestion u n x m v)) (feedStore u (feedQuestion u n x m v) v x))
+    at : (W H L d lev b : ℕ) (e : Bool) → (let u : Reader = record { width = W; height = H; levels = L; drawn = d; level = lev; band = b; ended = e } in
+        FeedKeeps u v x (feedReply u (feedQuestion u n x m v)) (feedStore u (feedQuestion u n x m v) v x))
     at W H (suc l) d lev b e = feed-at W H l d lev b e n x (record { size = m; numbers = v })
     at W H zero d lev b e =
         let u : Reader = record { width = W; height = H; levels = 0; drawn = d; level = lev; band = b; ended = e } in
         record {
-          passed = λ t r. let z = feed-passed u (feedQuestion u n x m v) t r .0 in absurd (no-levels W H d lev b e (feed-counts u n m x v (λ y. omega (arith, y, z)) (λ y. omega (arith, y, z))));
-          impossible = λ t r. let z = feed-fourteen u (feedQuestion u n x m v) t r in absurd (no-levels W H d lev b e (feed-counts u n m x v (λ y. omega (arith, y, z)) (λ y. omega (arith, y, z))));
+          passed = λ t r. let z = feed-passed u (feedQuestion u n x m v) t r .0 in
+              absurd (no-levels W H d lev b e (feed-counts u n m x v (λ y. omega (arith, y, z)) (λ y. omega (arith, y, z))));
+          ended = λ t r. let z = feed-fourteen u (feedQuestion u n x m v) t r in
+              absurd (no-levels W H d lev b e (feed-counts u n m x v (λ y. omega (arith, y, z)) (λ y. omega (arith, y, z))));
         }
 
 -- a draw into the area z of m heights
-pub draw-keeps : (s : Reader) (n m : ℕ) (x z : ℕ → ℤ) → DrawKeeps s x (drawAnswer s (drawQuestion s n x m)) (drawStore s (drawQuestion s n x m) x) (drawArea s (drawQuestion s n x m) x z)
+pub draw-keeps : (s : Reader) (n m : ℕ) (x z : ℕ → ℤ) →
+    DrawKeeps s x (drawReply s (drawQuestion s n x m)) (drawStore s (drawQuestion s n x m) x) (drawArea s (drawQuestion s n x m) x z)
 draw-keeps s n m x z = at (s .width) (s .height) (s .levels) (s .drawn) (s .level) (s .band) (s .ended)
   where
-    at : (W H L d lev b : ℕ) (e : Bool) → (let u : Reader = record { width = W; height = H; levels = L; drawn = d; level = lev; band = b; ended = e } in DrawKeeps u x (drawAnswer u (drawQuestion u n x m)) (drawStore u (drawQuestion u n x m) x) (drawArea u (drawQuestion u n x m) x z))
+    at : (W H L d lev b : ℕ) (e : Bool) → (let u : Reader = record { width = W; height = H; levels = L; drawn = d; level = lev; band = b; ended = e } in
+        DrawKeeps u x (drawReply u (drawQuestion u n x m)) (drawStore u (drawQuestion u n x m) x) (drawArea u (drawQuestion u n x m) x z))
     at W H (suc l) d lev b e = draw-at W H l d lev b e n x (record { size = m; numbers = z })
     at W H zero d lev b e =
         let u : Reader = record { width = W; height = H; levels = 0; drawn = d; level = lev; band = b; ended = e } in
         record {
-          passed = λ k t r. let q = heights-only u (drawQuestion u n x m) k t r .0 in absurd (no-levels W H d lev b e (draw-counts u n m x (λ y. omega (arith, y, q)) (λ y. omega (arith, y, q))));
-          impossible = λ t r. let q = drawn-fourteen u (drawQuestion u n x m) t r in absurd (no-levels W H d lev b e (draw-counts u n m x (λ y. omega (arith, y, q)) (λ y. omega (arith, y, q))));
+          passed = λ k t r. let q = heights-only u (drawQuestion u n x m) k t r .0 in
+              absurd (no-levels W H d lev b e (draw-counts u n m x (λ y. omega (arith, y, q)) (λ y. omega (arith, y, q))));
+          ended = λ t r. let q = drawn-fourteen u (drawQuestion u n x m) t r in
+              absurd (no-levels W H d lev b e (draw-counts u n m x (λ y. omega (arith, y, q)) (λ y. omega (arith, y, q))));
         }
 
--- ---- the same for an answer and a store that are the model's, as a contract has them
-pub set-up-said : (W H L n : ℕ) (x : ℕ → ℤ) (r : SetUp) (x′ : ℕ → ℤ) → r ≡ setUpAnswer W H L (setUpQuestion W H L n) → x′ ≡ setUpStore W L (setUpQuestion W H L n) x → SetUpHolds r x′
-set-up-said W H L n x r x′ p q = rw (p, q) (set-up-holds W H L n x)
-
-pub feed-said : (s : Reader) (n m : ℕ) (x v : ℕ → ℤ) (r : Fed) (x′ : ℕ → ℤ) → r ≡ feedAnswer s (feedQuestion s n x m v) → x′ ≡ feedStore s (feedQuestion s n x m v) v x → FeedKeeps s v x r x′
-feed-said s n m x v r x′ p q = rw (p, q) (feed-keeps s n m x v)
-
-pub draw-said : (s : Reader) (n m : ℕ) (x z : ℕ → ℤ) (r : Drawn) (x′ z′ : ℕ → ℤ) → r ≡ drawAnswer s (drawQuestion s n x m) → x′ ≡ drawStore s (drawQuestion s n x m) x → z′ ≡ drawArea s (drawQuestion s n x m) x z → DrawKeeps s x r x′ z′
-draw-said s n m x z r x′ z′ p q t = rw (p, q, t) (draw-keeps s n m x z)
-
 -- ---- the clauses of a call's contract, and then that it keeps what the store holds
-pub set-up-also : {P : Type 0} (W H L n : ℕ) (x : ℕ → ℤ) {r : SetUp} {x′ : ℕ → ℤ} → P × ((r ≡ setUpAnswer W H L (setUpQuestion W H L n)) × (x′ ≡ setUpStore W L (setUpQuestion W H L n) x)) → P × ((r ≡ setUpAnswer W H L (setUpQuestion W H L n)) × ((x′ ≡ setUpStore W L (setUpQuestion W H L n) x) × SetUpHolds r x′))
-set-up-also W H L n x t = (t .0, (t .1 .0, (t .1 .1, set-up-said W H L n x _ _ (t .1 .0) (t .1 .1))))
+pub set-up-also : (W H L n : ℕ) (x : ℕ → ℤ) {r : Reply Reader} {x′ : ℕ → ℤ} →
+    (r ≡ setUpReply W H L (setUpQuestion W H L n)) × (x′ ≡ setUpStore W L (setUpQuestion W H L n) x) →
+    (r ≡ setUpReply W H L (setUpQuestion W H L n)) × ((x′ ≡ setUpStore W L (setUpQuestion W H L n) x) × SetUpHolds r x′)
+set-up-also W H L n x t = (t .0, (t .1, rw (t .0, t .1) (set-up-holds W H L n x)))
 
-pub feed-also : {P : Type 0} (s : Reader) (n m : ℕ) (x v : ℕ → ℤ) {r : Fed} {x′ : ℕ → ℤ} → P × ((r ≡ feedAnswer s (feedQuestion s n x m v)) × (x′ ≡ feedStore s (feedQuestion s n x m v) v x)) → P × ((r ≡ feedAnswer s (feedQuestion s n x m v)) × ((x′ ≡ feedStore s (feedQuestion s n x m v) v x) × FeedKeeps s v x r x′))
-feed-also s n m x v t = (t .0, (t .1 .0, (t .1 .1, feed-said s n m x v _ _ (t .1 .0) (t .1 .1))))
+pub feed-also : (s : Reader) (n m : ℕ) (x v : ℕ → ℤ) {r : Reply Reader} {x′ : ℕ → ℤ} →
+    (r ≡ feedReply s (feedQuestion s n x m v)) × (x′ ≡ feedStore s (feedQuestion s n x m v) v x) →
+    (r ≡ feedReply s (feedQuestion s n x m v)) × ((x′ ≡ feedStore s (feedQuestion s n x m v) v x) × FeedKeeps s v x r x′)
+feed-also s n m x v t = (t .0, (t .1, rw (t .0, t .1) (feed-keeps s n m x v)))
 
-pub draw-also : {P : Type 0} (s : Reader) (n m : ℕ) (x z : ℕ → ℤ) {r : Drawn} {x′ z′ : ℕ → ℤ} → P × ((r ≡ drawAnswer s (drawQuestion s n x m)) × ((x′ ≡ drawStore s (drawQuestion s n x m) x) × (z′ ≡ drawArea s (drawQuestion s n x m) x z))) → P × ((r ≡ drawAnswer s (drawQuestion s n x m)) × ((x′ ≡ drawStore s (drawQuestion s n x m) x) × ((z′ ≡ drawArea s (drawQuestion s n x m) x z) × DrawKeeps s x r x′ z′)))
-draw-also s n m x z t = (t .0, (t .1 .0, (t .1 .1 .0, (t .1 .1 .1, draw-said s n m x z _ _ _ (t .1 .0) (t .1 .1 .0) (t .1 .1 .1)))))
+pub draw-also : (s : Reader) (n m : ℕ) (x z : ℕ → ℤ) {r : Reply Handed} {x′ z′ : ℕ → ℤ} →
+    (r ≡ drawReply s (drawQuestion s n x m)) × ((x′ ≡ drawStore s (drawQuestion s n x m) x) × (z′ ≡ drawArea s (drawQuestion s n x m) x z)) →
+    (r ≡ drawReply s (drawQuestion s n x m)) ×
+    ((x′ ≡ drawStore s (drawQuestion s n x m) x) × ((z′ ≡ drawArea s (drawQuestion s n x m) x z) × DrawKeeps s x r x′ z′))
+draw-also s n m x z t = (t .0, (t .1 .0, (t .1 .1, rw (t .0, t .1 .0, t .1 .1) (draw-keeps s n m x z))))

@@ -25,3 +25,4 @@ pub mod PartLaws
 pub mod KeptLaws
 pub mod QuestionLaws
 pub mod StepLaws
+pub mod Surplus

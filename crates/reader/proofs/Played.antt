@@ -23,10 +23,13 @@ use Rattle.wavelet.specs.Maps.{IsMap}
 use Rattle.wavelet.specs.Order.{RowName, rowName, sameName, times}
 use Rattle.wavelet.specs.Steps.{Step, steps, bandRowsOf}
 use Rattle.wavelet.specs.Steps as step
+use Rattle.reader.specs.Answers.{row, drawNow, done, ended}
 use Rattle.reader.specs.Questions.{runFits, setUpQuestion}
-use Rattle.reader.specs.Demand3.{Area, Call, want, feed, draw, Reply, gives, refused, row, drawNow, done, ended, Given, heights, Event, wanted, fed, drew, World, event, events, final, freshWorld, goesOn, rest, leftBy, left, ends, endedBy, FedRow, fedBy, fedRows, drawnRows, All, none, more, HasRow, HasFed, FirstRows, wantSays, feedTurned, drawSays, OneOf, this, that, Draws, Demand3}
+use Rattle.reader.specs.Demand3.{Area, Call, want, feed, draw, Reply, gives, refused, Given, heights, Event, wanted, fed, drew, World, event, events}
+use Rattle.reader.specs.Demand3.{final, freshWorld, goesOn, rest, leftBy, left, ends, endedBy, FedRow, fedBy, fedRows, All, none, more, HasRow}
+use Rattle.reader.specs.Demand3.{IsRow, HasFed, wantSays, feedTurned, drawSays, OneOf, this, that, Draws, Demand3}
 use Rattle.reader.specs.Demand3 as demand
-use Rattle.reader.specs.Played.{asWanted, answering, played, HasAll, Refusal, seven, fed-fourteen, drawn-fourteen, after, Played}
+use Rattle.reader.specs.Played.{asWanted, answering, played, Sized, HasAll, Back, Stopped, Refusal, seven, fed-fourteen, drawn-fourteen, after, Played}
 use Rattle.reader.proofs.StepsLeft.{named-code}
 use Rattle.reader.proofs.Reached.{namesOf, names-append, all-append}
 use Rattle.reader.proofs.Rebuilt.{same-name, same-self, In, first, later, all-in, in-all}
@@ -105,16 +108,20 @@ unfolding left leftBy
 left-length t [] = omega arith
 left-length t (e ∷ es) = go (goesOn e) (left-length (rest t) es) (left-length t es)
   where
-    go : (u : Bool) → length (rest t) ≤ length (left (rest t) es) + length es → length t ≤ length (left t es) + length es → length t ≤ length (left (pick u (rest t) t) es) + length (e ∷ es)
+    go : (u : Bool) → length (rest t) ≤ length (left (rest t) es) + length es → length t ≤ length (left t es) + length es →
+        length t ≤ length (left (pick u (rest t) t) es) + length (e ∷ es)
     go true a b = omega (arith, rest-length t)
     go false a b = omega arith
 
-played-length : (rows : RowName → ℕ → ℤ) (out : Area) (m : ℕ) (w : World) → length (played rows out m w) ≤ m
+played-length : (rows : RowName → Area) (outs : ℕ → Area) (m : ℕ) (w : World) → length (played rows outs m w) ≤ m
 unfolding played
-played-length rows out zero w = omega arith
-played-length rows out (suc m) w = let a = played-length rows out m (final (answering rows out (event want w)) w) in omega (arith, length-append (answering rows out (event want w)) (played rows out m (final (answering rows out (event want w)) w)), one (event want w))
+played-length rows outs zero w = omega arith
+played-length rows outs (suc m) w =
+    let now = answering rows (outs m) (event want w) in
+    let then = played rows outs m (final now w) in
+    omega (arith, played-length rows outs m (final now w), length-append now then, one (event want w))
   where
-    one : (e : Event) → length (answering rows out e) ≤ 1
+    one : (e : Event) → length (answering rows (outs m) e) ≤ 1
     one (wanted (gives (row k c r n))) = unfold answering asWanted in omega arith
     one (wanted (gives drawNow)) = unfold answering asWanted in omega arith
     one (wanted (gives done)) = unfold answering asWanted in omega arith
@@ -142,17 +149,20 @@ exists-parts W H L k b r e =
     let f = both (ltb 0 (bandColumns W k b)) _ (d .1) in
     (leb-true 1 k (c .0), ltb-true r (bandRows H k b) (f .1))
 
-row-in-range : (W H L : ℕ) (g : Grid) → IsMap W H g → (y : RowName) → bandRowExists W H L (y .level) (y .band) (y .row) ≡ true → (i : ℕ) → i < bandColumns W (y .level) (y .band) → natAbs (levelBand whole W H g (y .level) (y .band) (y .row) i) ≤ range (y .level)
+row-in-range : (W H L : ℕ) (g : Grid) → IsMap W H g → (y : RowName) → bandRowExists W H L (y .level) (y .band) (y .row) ≡ true → (i : ℕ) →
+    i < bandColumns W (y .level) (y .band) → natAbs (levelBand whole W H g (y .level) (y .band) (y .row) i) ≤ range (y .level)
 unfolding bandRows bandColumns
 row-in-range W H L g m y e = let p = exists-parts W H L (y .level) (y .band) (y .row) e in at (y .level) (p .0) (p .1)
   where
-    at : (v : ℕ) → 1 ≤ v → y .row < bandRows H v (y .band) → (i : ℕ) → i < bandColumns W v (y .band) → natAbs (levelBand whole W H g v (y .band) (y .row) i) ≤ range v
+    at : (v : ℕ) → 1 ≤ v → y .row < bandRows H v (y .band) → (i : ℕ) → i < bandColumns W v (y .band) →
+        natAbs (levelBand whole W H g v (y .band) (y .row) i) ≤ range v
     at zero h r i p = absurd (omega arith)
     at (suc k) h r i p =
         let z : suc k - 1 ≡ k = omega arith in
         map-band-range W H g m k (y .band) (y .row) i (rw z at r) (rw z at p)
 
-module _ (W H L n : ℕ) (ok : setUpQuestion W H L n ≡ 0) (rows : RowName → ℕ → ℤ) (out : Area) (room : W ≤ out .size) (x : ℕ → ℤ) where
+module _ (W H L n : ℕ) (ok : setUpQuestion W H L n ≡ 0) (rows : RowName → Area) (sized : Sized W H L rows) (outs : ℕ → Area)
+    (room : (i : ℕ) → W ≤ outs i .size) (x : ℕ → ℤ) where
   abbrev w₀ : World
   w₀ = freshWorld W H L n x
 
@@ -160,13 +170,12 @@ module _ (W H L n : ℕ) (ok : setUpQuestion W H L n ≡ 0) (rows : RowName → 
   T₀ = steps W H L
 
   claim : (cs : List Call) → Demand3 W H L (events cs w₀) (λ c. event c (final cs w₀))
-  claim cs = demand-3 W H L n ok x cs .1
+  claim cs = demand-3 W H L n ok x cs .claim
 
   -- all went on so far, and each row fed is the one of that name
   record Fair (es : List Event) : Type 0 where
     live : endedBy es ≡ false
-    from-rows : All (λ f. f .run .numbers ≡ rows (f .row)) (fedRows T₀ es)
-    sizes : All (λ f. f .run .size ≡ bandColumns W (f .row .level) (f .row .band)) (fedRows T₀ es)
+    from-rows : All (λ f. f .run ≡ rows (f .row)) (fedRows T₀ es)
     names : namesOf (fedRows T₀ es) ++ bandRowsOf (left T₀ es) ≡ bandRowsOf T₀
 
   -- the rows of the steps are the plane's
@@ -178,26 +187,25 @@ module _ (W H L n : ℕ) (ok : setUpQuestion W H L n ≡ 0) (rows : RowName → 
       go false e h = absurd (omega arith)
 
   fed-exists : (es : List Event) → Fair es → (f : FedRow) → In f (fedRows T₀ es) → bandRowExists W H L (f .row .level) (f .row .band) (f .row .row) ≡ true
-  fed-exists es fair f i = step-exists (f .row) (subst (In (f .row)) (fair .names) (in-left (f .row) (namesOf (fedRows T₀ es)) _ (in-names f (fedRows T₀ es) i)))
+  fed-exists es fair f i = step-exists (f .row) (subst (In (f .row)) (fair .names)
+      (in-left (f .row) (namesOf (fedRows T₀ es)) _ (in-names f (fedRows T₀ es) i)))
 
-  next-exists : (es : List Event) → Fair es → (y : RowName) (t : List Step) → left T₀ es ≡ step.feed y ∷ t → bandRowExists W H L (y .level) (y .band) (y .row) ≡ true
+  next-exists : (es : List Event) → Fair es → (y : RowName) (t : List Step) → left T₀ es ≡ step.feed y ∷ t →
+      bandRowExists W H L (y .level) (y .band) (y .row) ≡ true
   unfolding bandRowsOf
-  next-exists es fair y t e = step-exists y (subst (In y) (fair .names) (in-right y (namesOf (fedRows T₀ es)) _ (subst (λ v. In y (bandRowsOf v)) (sym e) first)))
+  next-exists es fair y t e = step-exists y (subst (In y) (fair .names)
+      (in-right y (namesOf (fedRows T₀ es)) _ (subst (λ v. In y (bandRowsOf v)) (sym e) first)))
 
   -- a map that has all the rows has those fed
   has-fed : (es : List Event) → Fair es → (g : Grid) → IsMap W H g → HasAll W H L g rows → All (HasRow W H g) (fedRows T₀ es)
-  has-fed es fair g m h = all-in (fedRows T₀ es) (λ f i. record {
-    size = in-all f (fedRows T₀ es) i (fair .sizes);
-    values = λ j p. ap (λ u. u j) (in-all f (fedRows T₀ es) i (fair .from-rows)) ∙ h .values (f .row) (fed-exists es fair f i) j p;
-  })
-
-  -- the run for a row that is named
-  abbrev runOf : RowName → Area
-  runOf y = record { size = bandColumns W (y .level) (y .band); numbers = rows y }
+  has-fed es fair g m h =
+      all-in (fedRows T₀ es) (λ f i. subst (IsRow W H g (f .row)) (sym (in-all f (fedRows T₀ es) i (fair .from-rows)))
+      (h .are (f .row) (fed-exists es fair f i)))
 
   -- ---- one turn
   -- no map has all rows where 14 comes
-  none-fourteen : (cs : List Call) (c : Call) → endedBy (events (cs ++ (c ∷ [])) w₀) ≡ true → (g : Grid) → IsMap W H g → All (HasRow W H g) (fedRows T₀ (events (cs ++ (c ∷ [])) w₀)) → ⊥
+  none-fourteen : (cs : List Call) (c : Call) → endedBy (events (cs ++ (c ∷ [])) w₀) ≡ true → (g : Grid) → IsMap W H g →
+      All (HasRow W H g) (fedRows T₀ (events (cs ++ (c ∷ [])) w₀)) → ⊥
   none-fourteen cs c e g m h = claim (cs ++ (c ∷ [])) .impossible e g (record { map = m; rows = h })
 
   data Verdict (cs : List Call) : Type 0 where
@@ -206,24 +214,31 @@ module _ (W H L n : ℕ) (ok : setUpQuestion W H L n ≡ 0) (rows : RowName → 
 
   said-done : (cs : List Call) → event want (final cs w₀) ≡ wanted (gives done) → left T₀ (events cs w₀) ≡ []
   said-done cs z =
-      let w : _≡_ {A = Event} (wanted (gives (wantSays W (endedBy (events cs w₀)) (left T₀ (events cs w₀))))) (wanted (gives done)) = sym (claim cs .wants) ∙ z in
+      let w : _≡_ {A = Event} (wanted (gives (wantSays W (endedBy (events cs w₀)) (left T₀ (events cs w₀))))) (wanted (gives done)) = sym (claim cs .wants)
+      ∙ z in
       let v : wantSays W (endedBy (events cs w₀)) (left T₀ (events cs w₀)) ≡ done = cc in
       done-only W _ _ v .1
 
   -- a call that is refused leaves too few turns
-  too-few : (m : ℕ) (cs : List Call) (c : Call) (ps : List Call) → length (left T₀ (events cs w₀)) ≡ suc m → goesOn (event c (final cs w₀)) ≡ false → length ps ≤ m → event want (final (cs ++ (c ∷ ps)) w₀) ≡ wanted (gives done) → ⊥
+  too-few : (m : ℕ) (cs : List Call) (c : Call) (ps : List Call) → length (left T₀ (events cs w₀)) ≡ suc m → goesOn (event c (final cs w₀)) ≡ false →
+      length ps ≤ m → event want (final (cs ++ (c ∷ ps)) w₀) ≡ wanted (gives done) → ⊥
   unfolding left leftBy events final
   too-few m cs c ps len off few z =
-      let e : left T₀ (events (cs ++ (c ∷ ps)) w₀) ≡ left (left T₀ (events cs w₀)) (events (c ∷ ps) (final cs w₀)) = ap (left T₀) (events-append cs (c ∷ ps) w₀) ∙ left-append T₀ (events cs w₀) _ in
-      let f : left (pick (goesOn (event c (final cs w₀))) (rest (left T₀ (events cs w₀))) (left T₀ (events cs w₀))) (events ps (demand.next c (final cs w₀))) ≡ [] = sym e ∙ said-done (cs ++ (c ∷ ps)) z in
+      let e : left T₀ (events (cs ++ (c ∷ ps)) w₀) ≡ left (left T₀ (events cs w₀)) (events (c ∷ ps) (final cs w₀)) =
+      ap (left T₀) (events-append cs (c ∷ ps) w₀) ∙ left-append T₀ (events cs w₀) _ in
+      let f : left (pick (goesOn (event c (final cs w₀))) (rest (left T₀ (events cs w₀))) (left T₀ (events cs w₀))) (events ps (demand.next c (final cs w₀)))
+      ≡ [] = sym e ∙ said-done (cs ++ (c ∷ ps)) z in
       let h : left (left T₀ (events cs w₀)) (events ps (demand.next c (final cs w₀))) ≡ [] = rw off at f in
       let a = left-length (left T₀ (events cs w₀)) (events ps (demand.next c (final cs w₀))) in
       omega (arith, ap length h, events-length ps (demand.next c (final cs w₀)))
 
   -- a row of a map is not refused by 7
-  run-fits : (y : RowName) → bandRowExists W H L (y .level) (y .band) (y .row) ≡ true → (g : Grid) → IsMap W H g → HasAll W H L g rows → runFits (y .level) (bandColumns W (y .level) (y .band)) (rows y) ≡ true
+  run-fits : (y : RowName) → bandRowExists W H L (y .level) (y .band) (y .row) ≡ true → (g : Grid) → IsMap W H g → HasAll W H L g rows →
+      runFits (y .level) (rows y .size) (rows y .numbers) ≡ true
   unfolding runFits
-  run-fits y e g m h = each-every (bandColumns W (y .level) (y .band)) _ (λ i p. le-leb (natAbs (rows y i)) (range (y .level)) (rw (h .values y e i p) (row-in-range W H L g m y e i p)))
+  run-fits y e g m h =
+      each-every (rows y .size) _ (λ i p. let q : i < bandColumns W (y .level) (y .band) = rw (h .are y e .size) at p in
+      le-leb (natAbs (rows y .numbers i)) (range (y .level)) (rw (h .are y e .values i q) (row-in-range W H L g m y e i q)))
 
   module _ (cs : List Call) (fair : Fair (events cs w₀)) where
     abbrev es : List Event
@@ -238,163 +253,185 @@ module _ (W H L n : ℕ) (ok : setUpQuestion W H L n ≡ 0) (rows : RowName → 
 
     refused-in : (c : Call) (v : Event) (ps : List Call) → event c w ≡ v → ((vs : List Event) → Refusal (v ∷ vs)) → Refusal (events (cs ++ (c ∷ ps)) w₀)
     unfolding events
-    refused-in c v ps e r = subst Refusal (sym (events-append cs (c ∷ ps) w₀)) (refusal-after es _ (subst (λ u. Refusal (u ∷ events ps (demand.next c w))) (sym e) (r _)))
+    refused-in c v ps e r = subst Refusal (sym (events-append cs (c ∷ ps) w₀))
+        (refusal-after es _ (subst (λ u. Refusal (u ∷ events ps (demand.next c w))) (sym e) (r _)))
 
     -- what a fed row adds
     module _ (y : RowName) (t : List Step) (head : left T₀ es ≡ step.feed y ∷ t) where
       abbrev f : FedRow
-      f = record { row = y; run = runOf y }
+      f = record { row = y; run = rows y }
 
-      fed-goes : Fair (es ++ (fed (runOf y) (gives tt) ∷ [])) × (left T₀ (es ++ (fed (runOf y) (gives tt) ∷ [])) ≡ t)
+      fed-goes : Fair (es ++ (fed (rows y) (gives tt) ∷ [])) × (left T₀ (es ++ (fed (rows y) (gives tt) ∷ [])) ≡ t)
       fed-goes = (
         record {
           live = ended-append es _ ∙ rw (fair .live) (unfold endedBy ends in refl);
           from-rows = subst (All _) (sym rows-are) (all-append (fedRows T₀ es) (f ∷ []) (fair .from-rows) (more refl none));
-          sizes = subst (All _) (sym rows-are) (all-append (fedRows T₀ es) (f ∷ []) (fair .sizes) (more refl none));
-          names = ap₂ (λ u v. namesOf u ++ bandRowsOf v) rows-are left-is ∙ ap (λ u. u ++ bandRowsOf t) (names-append (fedRows T₀ es) (f ∷ [])) ∙ append-assoc (namesOf (fedRows T₀ es)) (namesOf (f ∷ [])) (bandRowsOf t) ∙ names-more ∙ fair .names;
+          names = ap₂ (λ u v. namesOf u ++ bandRowsOf v) rows-are left-is ∙ ap (λ u. u ++ bandRowsOf t) (names-append (fedRows T₀ es) (f ∷ []))
+              ∙ append-assoc (namesOf (fedRows T₀ es)) (namesOf (f ∷ [])) (bandRowsOf t) ∙ names-more ∙ fair .names;
         },
         left-is,
       )
         where
-          left-is : left T₀ (es ++ (fed (runOf y) (gives tt) ∷ [])) ≡ t
-          left-is = left-append T₀ es _ ∙ ap (λ u. left u (fed (runOf y) (gives tt) ∷ [])) head ∙ unfold left leftBy goesOn in refl
+          left-is : left T₀ (es ++ (fed (rows y) (gives tt) ∷ [])) ≡ t
+          left-is = left-append T₀ es _ ∙ ap (λ u. left u (fed (rows y) (gives tt) ∷ [])) head ∙ unfold left leftBy goesOn in refl
 
-          rows-are : fedRows T₀ (es ++ (fed (runOf y) (gives tt) ∷ [])) ≡ fedRows T₀ es ++ (f ∷ [])
-          rows-are = fed-append T₀ es _ ∙ ap (λ u. fedRows T₀ es ++ fedRows u (fed (runOf y) (gives tt) ∷ [])) head ∙ unfold fedRows fedBy in refl
+          rows-are : fedRows T₀ (es ++ (fed (rows y) (gives tt) ∷ [])) ≡ fedRows T₀ es ++ (f ∷ [])
+          rows-are = fed-append T₀ es _ ∙ ap (λ u. fedRows T₀ es ++ fedRows u (fed (rows y) (gives tt) ∷ [])) head ∙ unfold fedRows fedBy in refl
 
           names-more : namesOf (fedRows T₀ es) ++ (namesOf (f ∷ []) ++ bandRowsOf t) ≡ namesOf (fedRows T₀ es) ++ bandRowsOf (left T₀ es)
           names-more = ap (λ u. namesOf (fedRows T₀ es) ++ u) (sym (ap bandRowsOf head ∙ unfold bandRowsOf namesOf in refl))
 
       -- where 14 comes no map has all rows
-      fed-none : event (feed (runOf y)) w ≡ fed (runOf y) (refused 14) → (g : Grid) → IsMap W H g → HasAll W H L g rows → ⊥
+      fed-none : event (feed (rows y)) w ≡ fed (rows y) (refused 14) → (g : Grid) → IsMap W H g → HasAll W H L g rows → ⊥
       fed-none e g m h =
-          none-fourteen cs (feed (runOf y)) (ap endedBy on ∙ ended-append es _ ∙ rw (fair .live) (unfold endedBy ends in refl)) g m
-          (subst (All (HasRow W H g)) (sym (ap (fedRows T₀) on ∙ rows-are)) (all-append (fedRows T₀ es) (f ∷ []) (has-fed es fair g m h) (more (record { size = refl; values = λ i p. h .values y (next-exists es fair y t head) i p }) none)))
+          none-fourteen cs (feed (rows y)) (ap endedBy on ∙ ended-append es _ ∙ rw (fair .live) (unfold endedBy ends in refl)) g m
+          (subst (All (HasRow W H g)) (sym (ap (fedRows T₀) on ∙ rows-are))
+          (all-append (fedRows T₀ es) (f ∷ []) (has-fed es fair g m h) (more (h .are y (next-exists es fair y t head)) none)))
         where
-          on : events (cs ++ (feed (runOf y) ∷ [])) w₀ ≡ es ++ (fed (runOf y) (refused 14) ∷ [])
-          on = events-on (feed (runOf y)) _ e
+          on : events (cs ++ (feed (rows y) ∷ [])) w₀ ≡ es ++ (fed (rows y) (refused 14) ∷ [])
+          on = events-on (feed (rows y)) _ e
 
-          rows-are : fedRows T₀ (es ++ (fed (runOf y) (refused 14) ∷ [])) ≡ fedRows T₀ es ++ (f ∷ [])
-          rows-are = fed-append T₀ es _ ∙ ap (λ u. fedRows T₀ es ++ fedRows u (fed (runOf y) (refused 14) ∷ [])) head ∙ unfold fedRows fedBy in refl
+          rows-are : fedRows T₀ (es ++ (fed (rows y) (refused 14) ∷ [])) ≡ fedRows T₀ es ++ (f ∷ [])
+          rows-are = fed-append T₀ es _ ∙ ap (λ u. fedRows T₀ es ++ fedRows u (fed (rows y) (refused 14) ∷ [])) head ∙ unfold fedRows fedBy in refl
 
     -- a height row drawn adds none
-    module _ (b : Area) (r : ℕ) (t : List Step) (head : left T₀ es ≡ step.draw r ∷ t) where
-      drawn-same : (v : Reply Given) → fedRows T₀ (es ++ (drew out v b ∷ [])) ≡ fedRows T₀ es
+    module _ (a b : Area) (r : ℕ) (t : List Step) (head : left T₀ es ≡ step.draw r ∷ t) where
+      drawn-same : (v : Reply Given) → fedRows T₀ (es ++ (drew a v b ∷ [])) ≡ fedRows T₀ es
       drawn-same v = fed-append T₀ es _ ∙ (unfold fedRows fedBy in append-nil (fedRows T₀ es))
 
-      drawn-goes : Fair (es ++ (drew out (gives (heights W)) b ∷ [])) × (left T₀ (es ++ (drew out (gives (heights W)) b ∷ [])) ≡ t)
+      drawn-goes : Fair (es ++ (drew a (gives (heights W)) b ∷ [])) × (left T₀ (es ++ (drew a (gives (heights W)) b ∷ [])) ≡ t)
       drawn-goes = (
         record {
           live = ended-append es _ ∙ rw (fair .live) (unfold endedBy ends in refl);
           from-rows = subst (All _) (sym (drawn-same _)) (fair .from-rows);
-          sizes = subst (All _) (sym (drawn-same _)) (fair .sizes);
           names = ap₂ (λ u v. namesOf u ++ bandRowsOf v) (drawn-same _) left-is ∙ names-same ∙ fair .names;
         },
         left-is,
       )
         where
-          left-is : left T₀ (es ++ (drew out (gives (heights W)) b ∷ [])) ≡ t
-          left-is = left-append T₀ es _ ∙ ap (λ u. left u (drew out (gives (heights W)) b ∷ [])) head ∙ unfold left leftBy goesOn in refl
+          left-is : left T₀ (es ++ (drew a (gives (heights W)) b ∷ [])) ≡ t
+          left-is = left-append T₀ es _ ∙ ap (λ u. left u (drew a (gives (heights W)) b ∷ [])) head ∙ unfold left leftBy goesOn in refl
 
           names-same : namesOf (fedRows T₀ es) ++ bandRowsOf t ≡ namesOf (fedRows T₀ es) ++ bandRowsOf (left T₀ es)
           names-same = ap (λ u. namesOf (fedRows T₀ es) ++ u) (sym (ap bandRowsOf head ∙ unfold bandRowsOf in refl))
 
-      drawn-none : event (draw out) w ≡ drew out (refused 14) b → (g : Grid) → IsMap W H g → HasAll W H L g rows → ⊥
+      drawn-none : event (draw a) w ≡ drew a (refused 14) b → (g : Grid) → IsMap W H g → HasAll W H L g rows → ⊥
       drawn-none e g m h =
-          none-fourteen cs (draw out) (ap endedBy on ∙ ended-append es _ ∙ rw (fair .live) (unfold endedBy ends in refl)) g m
+          none-fourteen cs (draw a) (ap endedBy on ∙ ended-append es _ ∙ rw (fair .live) (unfold endedBy ends in refl)) g m
           (subst (All (HasRow W H g)) (sym (ap (fedRows T₀) on ∙ drawn-same _)) (has-fed es fair g m h))
         where
-          on : events (cs ++ (draw out ∷ [])) w₀ ≡ es ++ (drew out (refused 14) b ∷ [])
-          on = events-on (draw out) _ e
+          on : events (cs ++ (draw a ∷ [])) w₀ ≡ es ++ (drew a (refused 14) b ∷ [])
+          on = events-on (draw a) _ e
 
     -- ---- the call that is wanted
-    wanted-row : (y : RowName) (t : List Step) → left T₀ es ≡ step.feed y ∷ t → answering rows out (event want w) ≡ feed (runOf y) ∷ []
+    wanted-row : (a : Area) (y : RowName) (t : List Step) → left T₀ es ≡ step.feed y ∷ t → answering rows a (event want w) ≡ feed (rows y) ∷ []
     unfolding answering asWanted wantSays
-    wanted-row y t head =
-        ap (answering rows out) (claim cs .wants ∙ ap₂ (λ u v. wanted (gives (wantSays W u v))) (fair .live) head)
-        ∙ ap (λ c. feed (record { size = bandColumns W (y .level) (y .band); numbers = rows (rowName (y .level) c (y .row)) }) ∷ []) (named-code (y .band))
+    wanted-row a y t head =
+        ap (answering rows a) (claim cs .wants ∙ ap₂ (λ u v. wanted (gives (wantSays W u v))) (fair .live) head)
+        ∙ ap (λ c. feed (rows (rowName (y .level) c (y .row))) ∷ []) (named-code (y .band))
 
-    wanted-draw : (r : ℕ) (t : List Step) → left T₀ es ≡ step.draw r ∷ t → answering rows out (event want w) ≡ draw out ∷ []
+    wanted-draw : (a : Area) (r : ℕ) (t : List Step) → left T₀ es ≡ step.draw r ∷ t → answering rows a (event want w) ≡ draw a ∷ []
     unfolding answering asWanted wantSays
-    wanted-draw r t head = ap (answering rows out) (claim cs .wants ∙ ap₂ (λ u v. wanted (gives (wantSays W u v))) (fair .live) head)
+    wanted-draw a r t head = ap (answering rows a) (claim cs .wants ∙ ap₂ (λ u v. wanted (gives (wantSays W u v))) (fair .live) head)
 
     -- the turn as a call more
-    played-on : (m : ℕ) (c : Call) → answering rows out (event want w) ≡ c ∷ [] → played rows out (suc m) w ≡ c ∷ played rows out m (demand.next c w)
+    played-on : (m : ℕ) (c : Call) → answering rows (outs m) (event want w) ≡ c ∷ [] → played rows outs (suc m) w ≡ c ∷ played rows outs m (demand.next c w)
     unfolding played final
-    played-on m c e = ap (λ u. u ++ played rows out m (final u w)) e
+    played-on m c e = ap (λ u. u ++ played rows outs m (final u w)) e
 
-    later-calls : (m : ℕ) (c : Call) → answering rows out (event want w) ≡ c ∷ [] → cs ++ played rows out (suc m) w ≡ (cs ++ (c ∷ [])) ++ played rows out m (final (cs ++ (c ∷ [])) w₀)
+    later-calls : (m : ℕ) (c : Call) → answering rows (outs m) (event want w) ≡ c ∷ [] →
+        cs ++ played rows outs (suc m) w ≡ (cs ++ (c ∷ [])) ++ played rows outs m (final (cs ++ (c ∷ [])) w₀)
     unfolding final
     later-calls m c e =
         ap (λ u. cs ++ u) (played-on m c e)
-        ∙ sym (append-assoc cs (c ∷ []) (played rows out m (demand.next c w)))
-        ∙ ap (λ v. (cs ++ (c ∷ [])) ++ played rows out m v) (sym (final-append cs (c ∷ []) w₀))
+        ∙ sym (append-assoc cs (c ∷ []) (played rows outs m (demand.next c w)))
+        ∙ ap (λ v. (cs ++ (c ∷ [])) ++ played rows outs m v) (sym (final-append cs (c ∷ []) w₀))
 
     -- a call that goes on, and one that is refused
-    goes : (m : ℕ) (c : Call) (v : Event) (t : List Step) → answering rows out (event want w) ≡ c ∷ [] → event c w ≡ v → Fair (es ++ (v ∷ [])) → left T₀ (es ++ (v ∷ [])) ≡ t → length t ≡ m →
-        ((ds : List Call) → length (left T₀ (events ds w₀)) ≡ m → Fair (events ds w₀) → Verdict (ds ++ played rows out m (final ds w₀))) → Verdict (cs ++ played rows out (suc m) w)
+    goes : (m : ℕ) (c : Call) (v : Event) (t : List Step) → answering rows (outs m) (event want w) ≡ c ∷ [] → event c w ≡ v → Fair (es ++ (v ∷ [])) →
+        left T₀ (es ++ (v ∷ [])) ≡ t → length t ≡ m →
+        ((ds : List Call) → length (left T₀ (events ds w₀)) ≡ m → Fair (events ds w₀) → Verdict (ds ++ played rows outs m (final ds w₀))) →
+        Verdict (cs ++ played rows outs (suc m) w)
     goes m c v t a e on is len ih =
         let z = events-on c v e in
         subst Verdict (sym (later-calls m c a)) (ih (cs ++ (c ∷ [])) (ap (λ u. length (left T₀ u)) z ∙ ap length is ∙ len) (subst Fair (sym z) on))
 
-    refuses : (m : ℕ) (c : Call) (v : Event) → answering rows out (event want w) ≡ c ∷ [] → event c w ≡ v → length (left T₀ es) ≡ suc m → goesOn v ≡ false → ((vs : List Event) → Refusal (v ∷ vs)) → ((g : Grid) → IsMap W H g → HasAll W H L g rows → ⊥) → Verdict (cs ++ played rows out (suc m) w)
+    refuses : (m : ℕ) (c : Call) (v : Event) → answering rows (outs m) (event want w) ≡ c ∷ [] → event c w ≡ v → length (left T₀ es) ≡ suc m →
+        goesOn v ≡ false → ((vs : List Event) → Refusal (v ∷ vs)) → ((g : Grid) → IsMap W H g → HasAll W H L g rows → ⊥) →
+        Verdict (cs ++ played rows outs (suc m) w)
     refuses m c v a e len off r no-g =
         subst Verdict (ap (λ u. cs ++ u) (sym (played-on m c a)))
-        (bad (refused-in c v _ e r) (too-few m cs c _ len (ap goesOn e ∙ off) (played-length rows out m (demand.next c w))) no-g)
+        (bad (refused-in c v _ e r) (too-few m cs c _ len (ap goesOn e ∙ off) (played-length rows outs m (demand.next c w))) no-g)
 
   -- ---- turn after turn
-  turn : (m : ℕ) (cs : List Call) → length (left T₀ (events cs w₀)) ≡ suc m → Fair (events cs w₀) → ((ds : List Call) → length (left T₀ (events ds w₀)) ≡ m → Fair (events ds w₀) → Verdict (ds ++ played rows out m (final ds w₀))) → Verdict (cs ++ played rows out (suc m) (final cs w₀))
+  turn : (m : ℕ) (cs : List Call) → length (left T₀ (events cs w₀)) ≡ suc m → Fair (events cs w₀) →
+      ((ds : List Call) → length (left T₀ (events ds w₀)) ≡ m → Fair (events ds w₀) → Verdict (ds ++ played rows outs m (final ds w₀))) →
+      Verdict (cs ++ played rows outs (suc m) (final cs w₀))
   turn m cs len fair ih = go (left T₀ (events cs w₀)) refl
     where
-      at-draw : (r : ℕ) (t : List Step) → left T₀ (events cs w₀) ≡ step.draw r ∷ t → Draws W (endedBy (events cs w₀)) (left T₀ (events cs w₀)) out (event (draw out) (final cs w₀)) → Verdict (cs ++ played rows out (suc m) (final cs w₀))
+      at-draw : (r : ℕ) (t : List Step) → left T₀ (events cs w₀) ≡ step.draw r ∷ t →
+          Draws W (endedBy (events cs w₀)) (left T₀ (events cs w₀)) (outs m) (event (draw (outs m)) (final cs w₀)) →
+          Verdict (cs ++ played rows outs (suc m) (final cs w₀))
       at-draw r t head d = says (d .says)
         where
-          gave : drawSays W (endedBy (events cs w₀)) (left T₀ (events cs w₀)) (out .size) ≡ gives (heights W)
-          gave = ap₂ (λ u v. drawSays W u v (out .size)) (fair .live) head ∙ (unfold drawSays in rw (le-leb W (out .size) room) refl)
+          gave : drawSays W (endedBy (events cs w₀)) (left T₀ (events cs w₀)) (outs m .size) ≡ gives (heights W)
+          gave = ap₂ (λ u v. drawSays W u v (outs m .size)) (fair .live) head ∙ (unfold drawSays in rw (le-leb W (outs m .size) (room m)) refl)
 
-          says : OneOf (d .answer) (drawSays W (endedBy (events cs w₀)) (left T₀ (events cs w₀)) (out .size)) (refused 14) → Verdict (cs ++ played rows out (suc m) (final cs w₀))
+          says : OneOf (d .answer) (drawSays W (endedBy (events cs w₀)) (left T₀ (events cs w₀)) (outs m .size)) (refused 14) →
+              Verdict (cs ++ played rows outs (suc m) (final cs w₀))
           says (this e) =
-              let on = drawn-goes cs fair (d .after) r t head in
-              goes cs fair m (draw out) (drew out (gives (heights W)) (d .after)) t (wanted-draw cs fair r t head) (d .is ∙ ap (λ u. drew out u (d .after)) (e ∙ gave)) (on .0) (on .1) (omega (arith, ap length head)) ih
+              let on = drawn-goes cs fair (outs m) (d .after) r t head in
+              goes cs fair m (draw (outs m)) (drew (outs m) (gives (heights W)) (d .after)) t (wanted-draw cs fair (outs m) r t head) (d .is
+              ∙ ap (λ u. drew (outs m) u (d .after)) (e ∙ gave)) (on .0) (on .1) (omega (arith, ap length head)) ih
           says (that e) =
-              let is : event (draw out) (final cs w₀) ≡ drew out (refused 14) (d .after) = d .is ∙ ap (λ u. drew out u (d .after)) e in
-              refuses cs fair m (draw out) (drew out (refused 14) (d .after)) (wanted-draw cs fair r t head) is len (unfold goesOn in refl) (λ vs. drawn-fourteen) (drawn-none cs fair (d .after) r t head is)
+              let is : event (draw (outs m)) (final cs w₀) ≡ drew (outs m) (refused 14) (d .after) = d .is ∙ ap (λ u. drew (outs m) u (d .after)) e in
+              refuses cs fair m (draw (outs m)) (drew (outs m) (refused 14) (d .after)) (wanted-draw cs fair (outs m) r t head) is len (unfold goesOn in
+              refl) (λ vs. drawn-fourteen) (drawn-none cs fair (outs m) (d .after) r t head is)
 
-      at-feed : (y : RowName) (t : List Step) → left T₀ (events cs w₀) ≡ step.feed y ∷ t → (u : Bool) → runFits (y .level) (bandColumns W (y .level) (y .band)) (rows y) ≡ u → Verdict (cs ++ played rows out (suc m) (final cs w₀))
+      at-feed : (y : RowName) (t : List Step) → left T₀ (events cs w₀) ≡ step.feed y ∷ t → (u : Bool) →
+          runFits (y .level) (rows y .size) (rows y .numbers) ≡ u → Verdict (cs ++ played rows outs (suc m) (final cs w₀))
       at-feed y t head false z =
-          let is : event (feed (runOf y)) (final cs w₀) ≡ fed (runOf y) (refused 7) = claim cs .feeds-turned (runOf y) 6 (turned 7 (unfold feedTurned in rw (eq-eqb (bandColumns W (y .level) (y .band)) (bandColumns W (y .level) (y .band)) refl, z) refl)) in
-          refuses cs fair m (feed (runOf y)) (fed (runOf y) (refused 7)) (wanted-row cs fair y t head) is len (unfold goesOn in refl) (λ vs. seven) (λ g mp h. subst T (sym (run-fits y (next-exists (events cs w₀) fair y t head) g mp h) ∙ z) tt)
+          let is : event (feed (rows y)) (final cs w₀) ≡ fed (rows y) (refused 7) =
+          claim cs .feeds-turned (rows y) 6 (turned 7 (unfold feedTurned in
+          rw (eq-eqb (rows y .size) (bandColumns W (y .level) (y .band)) (sized .size y (next-exists (events cs w₀) fair y t head)), z) refl)) in
+          refuses cs fair m (feed (rows y)) (fed (rows y) (refused 7)) (wanted-row cs fair (outs m) y t head) is len (unfold goesOn in
+          refl) (λ vs. seven) (λ g mp h. subst T (sym (run-fits y (next-exists (events cs w₀) fair y t head) g mp h) ∙ z) tt)
         where
-          turned : (q : ℕ) → feedTurned W false (step.feed y ∷ t) (runOf y) ≡ q → feedTurned W (endedBy (events cs w₀)) (left T₀ (events cs w₀)) (runOf y) ≡ q
-          turned q e = ap₂ (λ u v. feedTurned W u v (runOf y)) (fair .live) head ∙ e
-      at-feed y t head true z = says (claim cs .feeds-on (runOf y) (ap₂ (λ u v. feedTurned W u v (runOf y)) (fair .live) head ∙ (unfold feedTurned in rw (eq-eqb (bandColumns W (y .level) (y .band)) (bandColumns W (y .level) (y .band)) refl, z) refl)))
+          turned : (q : ℕ) → feedTurned W false (step.feed y ∷ t) (rows y) ≡ q → feedTurned W (endedBy (events cs w₀)) (left T₀ (events cs w₀)) (rows y) ≡ q
+          turned q e = ap₂ (λ u v. feedTurned W u v (rows y)) (fair .live) head ∙ e
+      at-feed y t head true z = says (claim cs .feeds-on (rows y) (ap₂ (λ u v. feedTurned W u v (rows y)) (fair .live) head
+          ∙ (unfold feedTurned in rw (eq-eqb (rows y .size) (bandColumns W (y .level) (y .band)) (sized .size y (next-exists (events cs w₀) fair y t head)), z)
+          refl)))
         where
-          says : OneOf (event (feed (runOf y)) (final cs w₀)) (fed (runOf y) (gives tt)) (fed (runOf y) (refused 14)) → Verdict (cs ++ played rows out (suc m) (final cs w₀))
+          says : OneOf (event (feed (rows y)) (final cs w₀)) (fed (rows y) (gives tt)) (fed (rows y) (refused 14)) →
+              Verdict (cs ++ played rows outs (suc m) (final cs w₀))
           says (this e) =
               let on = fed-goes cs fair y t head in
-              goes cs fair m (feed (runOf y)) (fed (runOf y) (gives tt)) t (wanted-row cs fair y t head) e (on .0) (on .1) (omega (arith, ap length head)) ih
-          says (that e) = refuses cs fair m (feed (runOf y)) (fed (runOf y) (refused 14)) (wanted-row cs fair y t head) e len (unfold goesOn in refl) (λ vs. fed-fourteen) (fed-none cs fair y t head e)
+              goes cs fair m (feed (rows y)) (fed (rows y) (gives tt)) t (wanted-row cs fair (outs m) y t head) e (on .0) (on .1)
+              (omega (arith, ap length head)) ih
+          says (that e) = refuses cs fair m (feed (rows y)) (fed (rows y) (refused 14)) (wanted-row cs fair (outs m) y t head) e len (unfold goesOn in
+              refl) (λ vs. fed-fourteen) (fed-none cs fair y t head e)
 
-      go : (t : List Step) → left T₀ (events cs w₀) ≡ t → Verdict (cs ++ played rows out (suc m) (final cs w₀))
+      go : (t : List Step) → left T₀ (events cs w₀) ≡ t → Verdict (cs ++ played rows outs (suc m) (final cs w₀))
       go [] e = absurd (omega (arith, ap length e))
-      go (step.feed y ∷ t) e = at-feed y t e (runFits (y .level) (bandColumns W (y .level) (y .band)) (rows y)) refl
-      go (step.draw r ∷ t) e = at-draw r t e (claim cs .draws out)
+      go (step.feed y ∷ t) e = at-feed y t e (runFits (y .level) (rows y .size) (rows y .numbers)) refl
+      go (step.draw r ∷ t) e = at-draw r t e (claim cs .draws (outs m))
 
   no-length : (t : List Step) → length t ≡ 0 → t ≡ []
   no-length [] e = refl
   no-length (y ∷ t) e = absurd (omega arith)
 
-  turns : (m : ℕ) (cs : List Call) → length (left T₀ (events cs w₀)) ≡ m → Fair (events cs w₀) → Verdict (cs ++ played rows out m (final cs w₀))
+  turns : (m : ℕ) (cs : List Call) → length (left T₀ (events cs w₀)) ≡ m → Fair (events cs w₀) → Verdict (cs ++ played rows outs m (final cs w₀))
   unfolding played
   turns zero cs len fair = subst Verdict (sym (append-nil cs)) (fine fair (no-length _ len))
   turns (suc m) cs len fair = turn m cs len fair (turns m)
 
   fair-first : Fair []
   unfolding endedBy fedRows left namesOf
-  fair-first = record { live = refl; from-rows = none; sizes = none; names = refl }
+  fair-first = record { live = refl; from-rows = none; names = refl }
 
   abbrev all : List Call
-  all = played rows out (length T₀) w₀
+  all = played rows outs (length T₀) w₀
 
   verdict : Verdict all
   unfolding events final left
@@ -407,31 +444,41 @@ module _ (W H L n : ℕ) (ok : setUpQuestion W H L n ≡ 0) (rows : RowName → 
 
   has-all : Fair (events all w₀) → left T₀ (events all w₀) ≡ [] → (g : Grid) → HasFed W H L g (events all w₀) → HasAll W H L g rows
   unfolding bandRowsOf
-  has-all fair over g has = record { values = λ y e i p. at y (names-in y (fedRows T₀ (events all w₀)) (in-fed y e)) i p }
+  has-all fair over g has = record { are = λ y e. at y (names-in y (fedRows T₀ (events all w₀)) (in-fed y e)) }
     where
       in-fed : (y : RowName) → bandRowExists W H L (y .level) (y .band) (y .row) ≡ true → In y (namesOf (fedRows T₀ (events all w₀)))
       in-fed y e =
-          let names : namesOf (fedRows T₀ (events all w₀)) ≡ bandRowsOf T₀ = sym (append-nil (namesOf (fedRows T₀ (events all w₀)))) ∙ ap (λ v. namesOf (fedRows T₀ (events all w₀)) ++ bandRowsOf v) (sym over) ∙ fair .names in
+          let fs = namesOf (fedRows T₀ (events all w₀)) in
+          let names : fs ≡ bandRowsOf T₀ = sym (append-nil fs) ∙ ap (λ v. fs ++ bandRowsOf v) (sym over) ∙ fair .names in
           let one : times y (bandRowsOf T₀) ≡ 1 = claim [] .rows-once y ∙ ap (λ u. pick u 1 0) e in
           subst (In y) (sym names) (times-in y (bandRowsOf T₀) (omega arith))
 
-      at : (y : RowName) → (f : FedRow) × In f (fedRows T₀ (events all w₀)) × (f .row ≡ y) → (i : ℕ) → i < bandColumns W (y .level) (y .band) → rows y i ≡ levelBand whole W H g (y .level) (y .band) (y .row) i
-      at y r = subst (λ v. (i : ℕ) → i < bandColumns W (v .level) (v .band) → rows v i ≡ levelBand whole W H g (v .level) (v .band) (v .row) i) (r .2)
-          (λ i p. sym (ap (λ u. u i) (in-all (r .0) (fedRows T₀ (events all w₀)) (r .1) (fair .from-rows))) ∙ in-all (r .0) (fedRows T₀ (events all w₀)) (r .1) (has .rows) .values i p)
+      at : (y : RowName) → (f : FedRow) × In f (fedRows T₀ (events all w₀)) × (f .row ≡ y) → IsRow W H g y (rows y)
+      at y r =
+          let fs = fedRows T₀ (events all w₀) in
+          subst (λ v. IsRow W H g v (rows v)) (r .2)
+          (subst (IsRow W H g (r .0 .row)) (in-all (r .0) fs (r .1) (fair .from-rows)) (in-all (r .0) fs (r .1) (has .rows)))
 
-  -- ---- the theorem
-  pub played-holds : Played W H L rows (events all w₀) (λ c. event c (final all w₀))
+  handed-back : (g : Grid) → IsMap W H g → HasAll W H L g rows → Verdict all → Back W H g (events all w₀) (λ c. event c (final all w₀))
+  handed-back g m h (fine fair over) =
+      let z = done-then fair over in
+      record { all = claim all .finished .0 z .all; heights = claim all .first g (record { map = m; rows = has-fed (events all w₀) fair g m h }); says = z }
+  handed-back g m h (bad _ _ no-g) = absurd (no-g g m h)
+
+  refused-by : ((g : Grid) → IsMap W H g → HasAll W H L g rows → ⊥) → Verdict all → Stopped (events all w₀) (λ c. event c (final all w₀))
+  refused-by none-has (bad r d _) = record { refusal = r; not-done = d }
+  refused-by none-has (fine fair over) =
+      let f = claim all .finished .0 (done-then fair over) in
+      absurd (none-has (f .map) (f .has .map) (has-all fair over (f .map) (f .has)))
+
+-- ---- the theorem
+module _ (W H L n : ℕ) (ok : setUpQuestion W H L n ≡ 0) (rows : RowName → Area) (outs : ℕ → Area) (room : (i : ℕ) → W ≤ outs i .size) (x : ℕ → ℤ) where
+  abbrev turnsOf : List Call
+  turnsOf = played rows outs (length (steps W H L)) (freshWorld W H L n x)
+
+  pub played-holds : Played W H L rows (events turnsOf (freshWorld W H L n x)) (λ c. event c (final turnsOf (freshWorld W H L n x)))
   played-holds = record {
-    map-back = λ g m h. back g m h verdict;
-    no-map = λ none-has. refused-by none-has verdict;
+    map-back = λ g m h. let sized : Sized W H L rows = record { size = λ y e. h .are y e .size } in
+        handed-back W H L n ok rows sized outs room x g m h (verdict W H L n ok rows sized outs room x);
+    no-map = λ sized none-has. refused-by W H L n ok rows sized outs room x none-has (verdict W H L n ok rows sized outs room x);
   }
-    where
-      back : (g : Grid) → IsMap W H g → HasAll W H L g rows → Verdict all → (length (drawnRows (events all w₀)) ≡ H) × FirstRows W g (drawnRows (events all w₀)) × (event want (final all w₀) ≡ wanted (gives done))
-      back g m h (fine fair over) =
-          let z = done-then fair over in
-          (claim all .finished .0 z .2, claim all .first g (record { map = m; rows = has-fed (events all w₀) fair g m h }), z)
-      back g m h (bad _ _ no-g) = absurd (no-g g m h)
-
-      refused-by : ((g : Grid) → IsMap W H g → HasAll W H L g rows → ⊥) → Verdict all → Refusal (events all w₀) × (event want (final all w₀) ≡ wanted (gives done) → ⊥)
-      refused-by none-has (bad r d _) = (r, d)
-      refused-by none-has (fine fair over) = let f = claim all .finished .0 (done-then fair over) in absurd (none-has (f .0) (f .1 .map) (has-all fair over (f .0) (f .1)))

@@ -1,6 +1,6 @@
 -- The questions, one after another: what each no and each yes says. Assumes nothing.
 use mathlib.Core.Path.{_≡_, refl, _∙_}
-use mathlib.Core.Bool.{Bool, true, false}
+use mathlib.Core.Bool.{Bool, true, false, not}
 use Prim.Native.Nat.{ℕ, _≤_, _<_}
 use native.Mathlib.Omega.{arith}
 use lib.IntN.{ℤ}
@@ -15,7 +15,7 @@ use Rattle.reader.proofs.StoreLaws.{length-is}
 use Rattle.reader.specs.declared.Reader.{Reader}
 use Rattle.wavelet.specs.Store.{storeLength}
 use Rattle.reader.specs.State.{next, nextLength, unfinished, rowDue, drawDue}
-use Rattle.reader.specs.Questions.{not, countsFit, storeFits, runFits, setUpQuestion}
+use Rattle.reader.specs.Questions.{countsFit, storeFits, runFits, setUpQuestion}
 use Rattle.reader.specs.Inside.{Counts, Shape, storeQuestion, rowQuestion}
 
 -- the length that the code asks for, 0 outside the limits
@@ -69,7 +69,8 @@ module _ (s : Reader) where
       }
 
   pub counts-length : Counts s → (m : ℕ) → m ≡ asked (s .width) (s .levels) → m ≡ storeLength (s .width) (s .levels)
-  counts-length c m e = e ∙ length-is (s .width) (s .levels) (within-yes 1 maxWidth (s .width) (c .wide .0) (c .wide .1)) (within-yes 1 maxLevels (s .levels) (c .deep .0) (c .deep .1))
+  counts-length c m e = e ∙ length-is (s .width) (s .levels) (within-yes 1 maxWidth (s .width) (c .wide .0) (c .wide .1))
+      (within-yes 1 maxLevels (s .levels) (c .deep .0) (c .deep .1))
 
   pub counts-shape : Counts s → Shape (s .width) (s .height) (s .drawn)
   unfolding maxWidth maxHeight
@@ -110,7 +111,8 @@ module _ (W H L n : ℕ) where
   unfolding setUpQuestion storeFits
   up-in e = go (within 1 maxWidth W) (within 1 maxHeight H) (within 1 maxLevels L) (leb (storeLength W L) n) refl refl refl refl e
     where
-      go : (a b c d : Bool) → within 1 maxWidth W ≡ a → within 1 maxHeight H ≡ b → within 1 maxLevels L ≡ c → leb (storeLength W L) n ≡ d → ask a 2 (ask b 3 (ask c 4 (ask d 5 0))) ≡ 0 → (within 1 maxWidth W ≡ true) × (within 1 maxLevels L ≡ true) × (storeLength W L ≤ n)
+      go : (a b c d : Bool) → within 1 maxWidth W ≡ a → within 1 maxHeight H ≡ b → within 1 maxLevels L ≡ c → leb (storeLength W L) n ≡ d →
+          ask a 2 (ask b 3 (ask c 4 (ask d 5 0))) ≡ 0 → (within 1 maxWidth W ≡ true) × (within 1 maxLevels L ≡ true) × (storeLength W L ≤ n)
       go true true true true ea eb ec ed e = (ea, ec, leb-true _ _ ed)
       go true true true false ea eb ec ed e = absurd (omega arith)
       go true true false d ea eb ec ed e = absurd (omega arith)
@@ -143,7 +145,8 @@ module _ (s : Reader) (n : ℕ) where
   unfolding storeQuestion storeFits
   store-in e = go (countsFit s) (leb (storeLength (s .width) (s .levels)) n) (s .ended) refl refl refl e
     where
-      go : (a b c : Bool) → countsFit s ≡ a → leb (storeLength (s .width) (s .levels)) n ≡ b → s .ended ≡ c → ask a 1 (ask b 5 (ask (not c) 9 0)) ≡ 0 → Counts s × (storeLength (s .width) (s .levels) ≤ n) × (s .ended ≡ false)
+      go : (a b c : Bool) → countsFit s ≡ a → leb (storeLength (s .width) (s .levels)) n ≡ b → s .ended ≡ c → ask a 1 (ask b 5 (ask (not c) 9 0)) ≡ 0 →
+          Counts s × (storeLength (s .width) (s .levels) ≤ n) × (s .ended ≡ false)
       go true true false ea eb ec e = (counts-in s ea, leb-true _ _ eb, ec)
       go true true true ea eb ec e = absurd (omega arith)
       go true false c ea eb ec e = absurd (omega arith)
@@ -178,7 +181,8 @@ module _ (s : Reader) (m : ℕ) (v : ℕ → ℤ) where
   unfolding rowQuestion rowDue
   row-asked e = go (unfinished s) (ltb 0 (next s .level)) (eqb m (nextLength s)) refl refl e
     where
-      go : (a b c : Bool) → ltb 0 (next s .level) ≡ b → eqb m (nextLength s) ≡ c → ask (both a b) 8 (ask c 13 (ask (runFits (next s .level) m v) 7 0)) ≡ 0 → (0 < next s .level) × (m ≡ nextLength s)
+      go : (a b c : Bool) → ltb 0 (next s .level) ≡ b → eqb m (nextLength s) ≡ c → ask (both a b) 8 (ask c 13 (ask (runFits (next s .level) m v) 7 0)) ≡ 0 →
+          (0 < next s .level) × (m ≡ nextLength s)
       go true true true eb ec e = (ltb-true _ _ eb, eqb-true _ _ ec)
       go true true false eb ec e = absurd (omega arith)
       go true false c eb ec e = absurd (omega arith)

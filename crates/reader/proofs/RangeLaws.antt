@@ -16,7 +16,7 @@ use Rattle.numbers.proofs.Integers.{each, lin, dif, dif-pos, dif-natAbs, dif-le
 use Rattle.numbers.proofs.Parts.{length-mid, at-mid, window-in}
 use Rattle.wavelet.specs.Limits.{maxSample, maxLevels, range}
 use Rattle.wavelet.specs.Maps.{every, valueFits}
-use Rattle.reader.specs.Areas.{between, lowestOf}
+use Rattle.reader.specs.Inside.{between, lowestOf}
 use Rattle.reader.specs.Slots.{rowPlace}
 use Rattle.reader.specs.Work.{rowFits}
 use Rattle.reader.specs.Questions.{runFits}
@@ -80,7 +80,8 @@ pub same-range : (k : ℕ) → k ≤ maxLevels → pos (range (min k maxLevels))
 same-range k h = let e : min k maxLevels ≡ k = omega arith in ap (λ (i : ℕ). pos (range i)) e
 
 -- ---- a row's test, made on the part that is lent
-pub admit-is : (k w r a m : ℕ) (l : List ℤ) (low high : ℤ) → a ≡ rowPlace w r → m ≡ w → a + m ≤ length l → low ≡ lowestOf k → high ≡ pos (range k) → every (length (midOf a m l)) (λ i. between low high (at (midOf a m l) i)) ≡ rowFits k w r (at l)
+pub admit-is : (k w r a m : ℕ) (l : List ℤ) (low high : ℤ) → a ≡ rowPlace w r → m ≡ w → a + m ≤ length l → low ≡ lowestOf k → high ≡ pos (range k) →
+    every (length (midOf a m l)) (λ i. between low high (at (midOf a m l) i)) ≡ rowFits k w r (at l)
 unfolding rowFits
 admit-is k w r a m l low high ea em room el eh =
     ap (λ (n : ℕ). every n (λ i. between low high (at (midOf a m l) i))) (length-mid a m l room ∙ em)

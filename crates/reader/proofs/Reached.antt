@@ -1,4 +1,5 @@
--- Every world that calls reach from a fresh one, and what is kept of it: the steps left, the rows fed and drawn, and what holds of every grid of 32-bit numbers that has the rows fed.
+-- Every world that calls reach from a fresh one, and what is kept of it: the steps left, the rows fed and drawn, and what holds of every grid of 32-bit numbers
+-- that has the rows fed.
 -- Assumes nothing.
 use mathlib.Core.Bool.{Bool, true, false}
 use mathlib.Core.Path.{_≡_, refl, sym, ap, subst, _∙_}
@@ -9,7 +10,7 @@ use native.Mathlib.Omega.{arith}
 use lib.IntN.{ℤ, pos, natAbs}
 use lib.ListN.{length, length-append, getD, List·getD-append}
 use lib.Seq.{getD-append-add}
-use lib.Dec.{T, ltb, eqb}
+use lib.Dec.{T, eqb}
 use mir.Syntax.{w32}
 use mir.Val.{SFits}
 use borrow.Author.Tests.{leb-true}
@@ -31,17 +32,19 @@ use Rattle.reader.specs.declared.Reader.{Reader}
 use Rattle.reader.specs.Sets.{opens, rowAt}
 use Rattle.reader.specs.Asked.{asked}
 use Rattle.reader.specs.Tried.{Tried, failed, passed, fits, memory}
-use Rattle.reader.specs.Machine.{Place, place, bandAt, nextAt, placeFed, beyond, dive, enter}
+use Rattle.reader.specs.Machine.{Place, place, lastOfSet, nextAt, placeFed, beyond, dive, enter}
 use Rattle.reader.specs.State.{next, settles, feeds, drawDue, fedReader, drawnReader, endedReader}
 use Rattle.reader.specs.Questions.{runFits, feedQuestion, drawQuestion}
-use Rattle.reader.specs.Calls.{feedAnswer, feedStore, storeAfter, drawAnswer, drawStore, drawArea, heightRow}
-use Rattle.reader.specs.Demand3.{Area, Call, want, feed, draw, Event, fed, drew, World, event, goesOn, leftBy, ends, FedRow, fedAs, fedBy, drawnBy, saidFeed, saidDraw, leftByFeed, leftByDraw, All, none, more}
+use Rattle.reader.specs.Calls.{feedReply, feedStore, storeAfter, drawReply, drawStore, drawArea, heightRow}
+use Rattle.reader.specs.Demand3.{Area, Call, want, feed, draw, Event, fed, drew, World, event, goesOn, leftBy, ends, FedRow, fedAs, fedBy, drawnBy, said}
+use Rattle.reader.specs.Demand3.{given, leaves, drawnTo, All, none, more}
 use Rattle.reader.specs.Demand3 as demand
 use Rattle.reader.proofs.StepsLeft.{code-lt, stepsLeft}
 use Rattle.reader.proofs.SetMade.{Outcome}
 use Rattle.reader.proofs.Holds.{Fits, Held, enter-holds, height-fit}
 use Rattle.reader.proofs.Outcomes.{outcome-failed, outcome-passed, settles-outcome, feeds-outcome, row-out}
-use Rattle.reader.proofs.CallViews.{Limits, here, View, view, FeedView, feed-away, feed-onward, feed-view, DrawView, draw-away, draw-idle, draw-onward, draw-view}
+use Rattle.reader.proofs.CallViews.{Limits, here, View, view, FeedView, feed-away, feed-onward, feed-view, DrawView, draw-away, draw-idle, draw-onward}
+use Rattle.reader.proofs.CallViews.{draw-view}
 
 module _ {A : Type 0} {P : A → Type 0} where
   pub all-append : (s t : List A) → All P s → All P t → All P (s ++ t)
@@ -75,7 +78,8 @@ unfolding dive
 dive-le W H l d zero k e = (omega arith, omega arith)
 dive-le W H l d (suc m) k e = go (opens (size k H) (rowAt H d k)) (dive-le W H l d m (suc k) (omega arith))
   where
-    go : (t : Bool) → (dive W H (suc l) d m (suc k) .level ≤ suc l) × (dive W H (suc l) d m (suc k) .band ≤ 4) → (pick t (dive W H (suc l) d m (suc k)) (place k 1) .level ≤ suc l) × (pick t (dive W H (suc l) d m (suc k)) (place k 1) .band ≤ 4)
+    go : (t : Bool) → (dive W H (suc l) d m (suc k) .level ≤ suc l) × (dive W H (suc l) d m (suc k) .band ≤ 4) →
+        (pick t (dive W H (suc l) d m (suc k)) (place k 1) .level ≤ suc l) × (pick t (dive W H (suc l) d m (suc k)) (place k 1) .band ≤ 4)
     go true ih = ih
     go false ih = (omega arith, omega arith)
 
@@ -91,7 +95,8 @@ module _ (W H l : ℕ) where
 
   -- g has a row over words
   abbrev pub HasWords : Grid → FedRow → Type 0
-  HasWords g f = (i : ℕ) → i < bandColumns W (f .row .level) (f .row .band) → f .run .numbers i ≡ levelBand wrap32 W H g (f .row .level) (f .row .band) (f .row .row) i
+  HasWords g f = (i : ℕ) → i < bandColumns W (f .row .level) (f .row .band) →
+      f .run .numbers i ≡ levelBand wrap32 W H g (f .row .level) (f .row .band) (f .row .row) i
 
   -- what holds of a grid that has the rows fed
   pub record Agrees (g : Grid) (words : OnCells (SFits w32) W H g) (d lev b : ℕ) (e : Bool) (x : ℕ → ℤ) (ds : List (ℕ → ℤ)) : Type 0 where
@@ -115,7 +120,8 @@ module _ (W H l : ℕ) where
     world d lev b e x = record { reader = here W H l d lev b e; length = n; store = x }
 
     pub data Reached : World → Bool → List Step → List FedRow → List (ℕ → ℤ) → Type 0 where
-      reached : (d lev b : ℕ) (e : Bool) (x : ℕ → ℤ) (t : List Step) (fs : List FedRow) (ds : List (ℕ → ℤ)) → Kept d lev b e x t fs ds → Reached (world d lev b e x) e t fs ds
+      reached : (d lev b : ℕ) (e : Bool) (x : ℕ → ℤ) (t : List Step) (fs : List FedRow) (ds : List (ℕ → ℤ)) → Kept d lev b e x t fs ds →
+          Reached (world d lev b e x) e t fs ds
 
     module _ (d lev b : ℕ) (e : Bool) (x : ℕ → ℤ) (t : List Step) (fs : List FedRow) (ds : List (ℕ → ℤ)) (kept : Kept d lev b e x t fs ds) where
       abbrev s : Reader
@@ -131,18 +137,22 @@ module _ (W H l : ℕ) where
       -- ---- a feed
       module _ (a : Area) where
         abbrev fedEvent : ℕ → Event
-        fedEvent q = fed a (saidFeed (feedAnswer s q))
+        fedEvent q = fed a (said (λ _. tt) (feedReply s q))
 
         abbrev FedTo : ℕ → Type 0
-        FedTo q = Reached (record { reader = leftByFeed s (feedAnswer s q); length = n; store = feedStore s q (a .numbers) x }) (pick (ends (fedEvent q)) true e) (leftBy t (fedEvent q)) (fs ++ fedBy t (fedEvent q)) (ds ++ drawnBy (fedEvent q))
+        FedTo q = Reached (record { reader = leaves (λ t. t) s (feedReply s q); length = n; store = feedStore s q (a .numbers) x })
+            (pick (ends (fedEvent q)) true e) (leftBy t (fedEvent q)) (fs ++ fedBy t (fedEvent q)) (ds ++ drawnBy (fedEvent q))
 
         fed-away : (q : ℕ) → eqb q 0 ≡ false → eqb q 14 ≡ false → FedTo q
-        unfolding feedAnswer feedStore storeAfter ends leftBy goesOn fedBy drawnBy
+        unfolding feedReply feedStore storeAfter ends leftBy goesOn fedBy drawnBy
         fed-away q z f = rw (z, f) (rw f stays)
 
         -- the row that is fed
-        module _ (k : ℕ) (c : Band) (live : e ≡ false) (due : d < H) (below : k < lev) (asks : asked (eqb (suc k) (suc l)) (size k W) (size k H) (rowAt H d (suc k)) c ≡ true) (at-row : nextAt W H (suc l) d lev b ≡ place (suc k) (code c))
-            (head : t ≡ step.feed (rowName (suc k) c (rowAt H d (suc k))) ∷ stepsLeft W H l d (beyond W H (suc l) d k (code c))) (long : a .size ≡ bandColumns W (suc k) c) (in-range : runFits (suc k) (a .size) (a .numbers) ≡ true) where
+        module _ (k : ℕ) (c : Band) (live : e ≡ false) (due : d < H) (below : k < lev)
+            (asks : asked (eqb (suc k) (suc l)) (size k W) (size k H) (rowAt H d (suc k)) c ≡ true)
+            (at-row : nextAt W H (suc l) d lev b ≡ place (suc k) (code c))
+            (head : t ≡ step.feed (rowName (suc k) c (rowAt H d (suc k))) ∷ stepsLeft W H l d (beyond W H (suc l) d k (code c)))
+            (long : a .size ≡ bandColumns W (suc k) c) (in-range : runFits (suc k) (a .size) (a .numbers) ≡ true) where
           abbrev f : FedRow
           f = record { row = rowName (suc k) c (rowAt H d (suc k)); run = a }
 
@@ -151,15 +161,26 @@ module _ (W H l : ℕ) where
 
           good-f : Good f
           unfolding runFits
-          good-f = record { k = k; inside = inside; level = refl; asks = asks; size = long; range-of = λ i p. leb-true _ _ (every-each (a .size) _ in-range i p) }
+          good-f = record {
+            k = k;
+            inside = inside;
+            level = refl;
+            asks = asks;
+            size = long;
+            range-of =
+                λ i p. leb-true _ _ (every-each (a .size) _ in-range i p);
+          }
 
           good-all : All Good (fs ++ (f ∷ []))
           good-all = all-append fs (f ∷ []) (kept .good) (more good-f none)
 
           -- what the feed comes to, for a grid that has the row too
-          outcome-is : (g : Grid) (words : OnCells (SFits w32) W H g) → All (HasWords g) (fs ++ (f ∷ [])) → Outcome (Fits W H l g words) (Held W H l g words d (beyond W H (suc l) d k (code c) .level) (beyond W H (suc l) d k (code c) .band)) (feeds s (a .numbers) x)
+          outcome-is : (g : Grid) (words : OnCells (SFits w32) W H g) → All (HasWords g) (fs ++ (f ∷ [])) →
+              Outcome (Fits W H l g words) (Held W H l g words d (beyond W H (suc l) d k (code c) .level) (beyond W H (suc l) d k (code c) .band))
+              (feeds s (a .numbers) x)
           outcome-is g words has =
-              feeds-outcome W H l d lev b due (kept .level-le) g words x (kept .grids g words (all-left fs (f ∷ []) has) .holds live due) e k c below at-row (a .numbers) (all-last fs f has)
+              feeds-outcome W H l d lev b due (kept .level-le) g words x (kept .grids g words (all-left fs (f ∷ []) has) .holds live due) e k c below at-row
+              (a .numbers) (all-last fs f has)
 
           -- 14
           abbrev zeros : ℕ → ℤ
@@ -185,8 +206,9 @@ module _ (W H l : ℕ) where
           }
 
           fed-stops : feeds s (a .numbers) x ≡ failed → FedTo 14
-          unfolding feedAnswer ends leftBy goesOn fedBy drawnBy endedReader
-          fed-stops z₁ = rw (append-nil ds) (subst (λ u. Reached (world d lev b true zeros) true t (fs ++ fedAs u a) ds) (sym head) (reached d lev b true zeros t (fs ++ (f ∷ [])) ds (ended-kept z₁)))
+          unfolding feedReply ends leftBy goesOn fedBy drawnBy endedReader
+          fed-stops z₁ = rw (append-nil ds) (subst (λ u. Reached (world d lev b true zeros) true t (fs ++ fedAs u a) ds) (sym head)
+              (reached d lev b true zeros t (fs ++ (f ∷ [])) ds (ended-kept z₁)))
 
           -- it goes on
           abbrev to : Place
@@ -194,11 +216,11 @@ module _ (W H l : ℕ) where
 
           beyond-le : (to .level ≤ suc l) × (to .band ≤ 4)
           unfolding beyond
-          beyond-le = go (ltb (bandAt W H (suc l) d k (code c + 1)) 4)
+          beyond-le = go (lastOfSet W H (suc l) d k (code c))
             where
-              go : (u : Bool) → (pick u (place (suc k) (code c + 1)) (place k 1) .level ≤ suc l) × (pick u (place (suc k) (code c + 1)) (place k 1) .band ≤ 4)
-              go true = (omega (arith, inside), omega (arith, code-lt c))
-              go false = (omega (arith, inside), omega arith)
+              go : (u : Bool) → (pick u (place k 1) (place (suc k) (code c + 1)) .level ≤ suc l) × (pick u (place k 1) (place (suc k) (code c + 1)) .band ≤ 4)
+              go true = (omega (arith, inside), omega arith)
+              go false = (omega (arith, inside), omega (arith, code-lt c))
 
           on-kept : (y : ℕ → ℤ) → feeds s (a .numbers) x ≡ passed y → Kept d (to .level) (to .band) false y (stepsLeft W H l d to) (fs ++ (f ∷ [])) ds
           unfolding namesOf bandRowsOf
@@ -221,12 +243,14 @@ module _ (W H l : ℕ) where
           }
             where
               rename : namesOf (fs ++ (f ∷ [])) ++ bandRowsOf (stepsLeft W H l d to) ≡ namesOf fs ++ bandRowsOf t
-              rename = ap (λ u. u ++ bandRowsOf (stepsLeft W H l d to)) (names-append fs (f ∷ [])) ∙ append-assoc (namesOf fs) (namesOf (f ∷ [])) _ ∙ ap (λ u. namesOf fs ++ bandRowsOf u) (sym head)
+              rename = ap (λ u. u ++ bandRowsOf (stepsLeft W H l d to)) (names-append fs (f ∷ [])) ∙ append-assoc (namesOf fs) (namesOf (f ∷ [])) _
+                  ∙ ap (λ u. namesOf fs ++ bandRowsOf u) (sym head)
 
           fed-goes : (y : ℕ → ℤ) → feeds s (a .numbers) x ≡ passed y → FedTo 0
-          unfolding feedAnswer feedStore storeAfter ends leftBy goesOn fedBy drawnBy fedReader next placeFed
+          unfolding feedReply feedStore storeAfter ends leftBy goesOn fedBy drawnBy fedReader next placeFed
           fed-goes y z₁ =
-              rw (append-nil ds, z₁, at-row, head, live) (unfold memory in reached d (to .level) (to .band) false y (stepsLeft W H l d to) (fs ++ (f ∷ [])) ds (on-kept y z₁))
+              rw (append-nil ds, z₁, at-row, head, live) (unfold memory in
+              reached d (to .level) (to .band) false y (stepsLeft W H l d to) (fs ++ (f ∷ [])) ds (on-kept y z₁))
 
         feed-reached : FedTo (feedQuestion s n x (a .size) (a .numbers))
         feed-reached = go (feed-view W H l n lim d lev b (kept .drawn-le) (kept .level-le) (kept .band-le) e t x a viewed)
@@ -242,21 +266,24 @@ module _ (W H l : ℕ) where
       -- ---- a draw
       module _ (a : Area) where
         abbrev drawnEvent : ℕ → Event
-        drawnEvent q = drew a (saidDraw (drawAnswer s q)) (record { size = a .size; numbers = drawArea s q x (a .numbers) })
+        drawnEvent q = drew a (said given (drawReply s q)) (record { size = a .size; numbers = drawArea s q x (a .numbers) })
 
         abbrev DrawnTo : ℕ → Type 0
-        DrawnTo q = Reached (record { reader = leftByDraw s (drawAnswer s q); length = n; store = drawStore s q x }) (pick (ends (drawnEvent q)) true e) (leftBy t (drawnEvent q)) (fs ++ fedBy t (drawnEvent q)) (ds ++ drawnBy (drawnEvent q))
+        DrawnTo q = Reached (record { reader = leaves (drawnTo s) s (drawReply s q); length = n; store = drawStore s q x }) (pick (ends (drawnEvent q)) true e)
+            (leftBy t (drawnEvent q)) (fs ++ fedBy t (drawnEvent q)) (ds ++ drawnBy (drawnEvent q))
 
         drawn-away : (q : ℕ) → eqb q 0 ≡ false → eqb q 14 ≡ false → DrawnTo q
-        unfolding drawAnswer drawStore storeAfter ends leftBy goesOn fedBy drawnBy
+        unfolding drawReply drawStore storeAfter ends leftBy goesOn fedBy drawnBy
         drawn-away q z f = rw (z, f) (rw f stays)
 
         drawn-idle : drawDue s ≡ false → DrawnTo 0
-        unfolding drawAnswer drawStore storeAfter ends leftBy goesOn fedBy drawnBy
+        unfolding drawReply drawStore storeAfter ends leftBy goesOn fedBy drawnBy
         drawn-idle z = rw z stays
 
-        module _ (live : e ≡ false) (due : d < H) (at-height : nextAt W H (suc l) d lev b ≡ place 0 4) (head : t ≡ step.draw d ∷ stepsLeft W H l (suc d) (enter W H (suc l) (suc d))) (to-draw : drawDue s ≡ true) where
-          settles-is : (g : Grid) (words : OnCells (SFits w32) W H g) → All (HasWords g) fs → Outcome (Fits W H l g words) (Held W H l g words d 0 4) (settles s x)
+        module _ (live : e ≡ false) (due : d < H) (at-height : nextAt W H (suc l) d lev b ≡ place 0 4)
+            (head : t ≡ step.draw d ∷ stepsLeft W H l (suc d) (enter W H (suc l) (suc d))) (to-draw : drawDue s ≡ true) where
+          settles-is : (g : Grid) (words : OnCells (SFits w32) W H g) → All (HasWords g) fs →
+              Outcome (Fits W H l g words) (Held W H l g words d 0 4) (settles s x)
           settles-is g words has =
               settles-outcome W H l d lev b due (kept .level-le) g words x (kept .grids g words has .holds live due) e (place 0 4) at-height
 
@@ -284,7 +311,7 @@ module _ (W H l : ℕ) where
           }
 
           drawn-stops : settles s x ≡ failed → DrawnTo 14
-          unfolding drawAnswer ends leftBy goesOn fedBy drawnBy endedReader
+          unfolding drawReply ends leftBy goesOn fedBy drawnBy endedReader
           drawn-stops z₁ = rw (append-nil ds, append-nil fs) (reached d lev b true zeros-drawn t fs ds (stopped z₁))
 
           -- the row is given
@@ -299,10 +326,12 @@ module _ (W H l : ℕ) where
             out-is g words h = row-out W H l d due g words y h (a .numbers)
 
             -- the rows drawn before, and it
-            row-at : (g : Grid) → ((c : ℕ) → c < W → out c ≡ g d c) → ((r c : ℕ) → r < d → c < W → getD ds r (λ _. pos 0) c ≡ g r c) → (r c : ℕ) → r < suc d → c < W → getD (ds ++ (out ∷ [])) r (λ _. pos 0) c ≡ g r c
+            row-at : (g : Grid) → ((c : ℕ) → c < W → out c ≡ g d c) → ((r c : ℕ) → r < d → c < W → getD ds r (λ _. pos 0) c ≡ g r c) → (r c : ℕ) → r < suc d →
+                c < W → getD (ds ++ (out ∷ [])) r (λ _. pos 0) c ≡ g r c
             row-at g new old r c p q = elim (ℕ-discrete r d) [
               | yes z ↦ let e₁ : r ≡ length ds + 0 = omega (arith, kept .drawn) in
-                  ap (λ i. getD (ds ++ (out ∷ [])) i (λ _. pos 0) c) e₁ ∙ ap (λ u. u c) (getD-append-add ds (out ∷ []) 0 (λ _. pos 0)) ∙ new c q ∙ ap (λ i. g i c) (sym z)
+                  ap (λ i. getD (ds ++ (out ∷ [])) i (λ _. pos 0) c) e₁ ∙ ap (λ u. u c) (getD-append-add ds (out ∷ []) 0 (λ _. pos 0)) ∙ new c q
+                  ∙ ap (λ i. g i c) (sym z)
               | no z ↦ ap (λ u. u c) (List·getD-append ds (out ∷ []) (λ _. pos 0) r (omega (arith, kept .drawn, z))) ∙ old r c (omega (arith, z)) q
             ]
 
@@ -310,8 +339,8 @@ module _ (W H l : ℕ) where
             unfolding enter
             enter-le = dive-le W H l (suc d) (suc l) 0 (omega arith)
 
-            given : Kept (suc d) (into .level) (into .band) false y (stepsLeft W H l (suc d) into) fs (ds ++ (out ∷ []))
-            given = record {
+            given-kept : Kept (suc d) (into .level) (into .band) false y (stepsLeft W H l (suc d) into) fs (ds ++ (out ∷ []))
+            given-kept = record {
               drawn-le = due;
               level-le = enter-le .0;
               band-le = enter-le .1;
@@ -334,8 +363,9 @@ module _ (W H l : ℕ) where
                 names-same = ap (λ u. namesOf fs ++ u) (sym (ap bandRowsOf head ∙ unfold bandRowsOf in refl))
 
             drawn-goes : DrawnTo 0
-            unfolding drawAnswer drawStore storeAfter drawArea ends leftBy goesOn fedBy drawnBy drawnReader memory
-            drawn-goes = rw (to-draw, made, head, live, append-nil fs) (reached (suc d) (into .level) (into .band) false y (stepsLeft W H l (suc d) into) fs (ds ++ (out ∷ [])) given)
+            unfolding drawReply drawStore storeAfter drawArea ends leftBy goesOn fedBy drawnBy drawnReader memory
+            drawn-goes = rw (to-draw, made, head, live, append-nil fs)
+                (reached (suc d) (into .level) (into .band) false y (stepsLeft W H l (suc d) into) fs (ds ++ (out ∷ [])) given-kept)
 
         draw-reached : DrawnTo (drawQuestion s n x (a .size))
         draw-reached = go (draw-view W H l n lim d lev b (kept .drawn-le) (kept .level-le) (kept .band-le) e t x a viewed)
@@ -350,7 +380,8 @@ module _ (W H l : ℕ) where
                 tried (passed y) z = unfold fits in drawn-goes live due at-height head to-draw y z
 
     -- ---- any call, and any list of calls
-    pub call-reached : (c : Call) (w : World) (e : Bool) (t : List Step) (fs : List FedRow) (ds : List (ℕ → ℤ)) → Reached w e t fs ds → Reached (demand.next c w) (pick (ends (event c w)) true e) (leftBy t (event c w)) (fs ++ fedBy t (event c w)) (ds ++ drawnBy (event c w))
+    pub call-reached : (c : Call) (w : World) (e : Bool) (t : List Step) (fs : List FedRow) (ds : List (ℕ → ℤ)) → Reached w e t fs ds →
+        Reached (demand.next c w) (pick (ends (event c w)) true e) (leftBy t (event c w)) (fs ++ fedBy t (event c w)) (ds ++ drawnBy (event c w))
     unfolding demand.next event
     call-reached want _ e t fs ds (reached d lev b _ x _ _ _ kept) = unfold ends leftBy goesOn fedBy drawnBy in stays d lev b e x t fs ds kept
     call-reached (feed a) _ e t fs ds (reached d lev b _ x _ _ _ kept) = feed-reached d lev b e x t fs ds kept a

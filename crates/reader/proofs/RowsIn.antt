@@ -19,7 +19,7 @@ use Rattle.lifting.proofs.LineLaws.{halves-low, halves-high}
 use Rattle.lifting.proofs.RowLaws.{row-order, row-at, row-past, row-other}
 use Rattle.wavelet.specs.Bands.{Band, across, down}
 use Rattle.wavelet.proofs.SizeLaws.{count-lo, count-hi}
-use Rattle.wavelet.proofs.LevelTheory.{placed, placed-in}
+use Rattle.wavelet.proofs.LevelTheory.{placed, by-half}
 use Rattle.reader.specs.Holds.{RowStands}
 use Rattle.reader.specs.Slots.{slot, rowPlace, setRow, halfPlace, bandFed, rowIn, rowUnlifted, rowBy, lowRowTaken}
 
@@ -37,6 +37,23 @@ parity r q a b e f z = omega arith
 slot-lt : (r : ℕ) → slot r < 4
 slot-lt r = omega arith
 
+-- ---- the places of a row by its halves
+half-end : (h : Half) (w : ℕ) → halfPlace h w + count h w ≤ w
+unfolding halfPlace
+half-end lo w = omega (arith, count-lo w)
+half-end hi w = omega (arith, count-lo w, count-hi w)
+
+pub half-inside : (h : Half) (w i : ℕ) → i < count h w → halfPlace h w + i < w
+half-inside h w i b = omega (arith, half-end h w)
+
+pub by-halves : (w : ℕ) (P : ℕ → Type 0) → ((h : Half) (i : ℕ) → i < count h w → P (halfPlace h w + i)) → (j : ℕ) → j < w → P j
+unfolding halfPlace placed
+by-halves w P f = by-half w P (λ h i b. at h i (f h i b))
+  where
+    at : (h : Half) (i : ℕ) → P (halfPlace h w + i) → P (placed h w i)
+    at lo i p = let z : 0 + i ≡ i = omega arith in rw z at p
+    at hi i p = p
+
 -- ---- the row that stands in the slot of row r
 abbrev pub Is : ℕ → (ℕ → ℤ) → ℕ → (Half → ℕ → ℤ) → Type 0
 Is = RowStands
@@ -48,7 +65,8 @@ pub record Only (w t : ℕ) (x y : ℕ → ℤ) : Type 0 where
 
 module _ (w t : ℕ) where
   -- a place of another row, and one past the four, is before row t or past it
-  beside : (q i : ℕ) → (slot t ≡ slot q → ⊥) → i < w → (p n : ℕ) → rowPlace w t ≤ p → p + n ≤ rowPlace w t + w → (v x : ℕ → ℤ) → spliced p n v x (rowPlace w q + i) ≡ x (rowPlace w q + i)
+  beside : (q i : ℕ) → (slot t ≡ slot q → ⊥) → i < w → (p n : ℕ) → rowPlace w t ≤ p → p + n ≤ rowPlace w t + w → (v x : ℕ → ℤ) →
+      spliced p n v x (rowPlace w q + i) ≡ x (rowPlace w q + i)
   unfolding rowPlace
   beside q i d h p n a b v x =
       elim (decLt (slot q) (slot t)) [
@@ -74,64 +92,61 @@ module _ (w t : ℕ) where
   }
 
   pub is-old : (x y : ℕ → ℤ) (q : ℕ) (c : Half → ℕ → ℤ) → Only w t x y → (slot t ≡ slot q → ⊥) → Is w x q c → Is w y q c
-  is-old x y q c o d e h i b = o .row q (placed h w i) d (placed-in h w i b) ∙ e h i b
+  is-old x y q c o d e h i b = o .row q (halfPlace h w + i) d (half-inside h w i b) ∙ e h i b
 
 -- ---- a band row fed
-place-half : (h : Half) (w i : ℕ) → halfPlace h w + i ≡ placed h w i
-unfolding halfPlace placed
-place-half lo w i = omega arith
-place-half hi w i = omega arith
-
-half-end : (h : Half) (w : ℕ) → halfPlace h w + count h w ≤ w
-unfolding halfPlace
-half-end lo w = omega (arith, count-lo w)
-half-end hi w = omega (arith, count-lo w, count-hi w)
-
 module _ (w : ℕ) (b : Band) (n : ℕ) (v x : ℕ → ℤ) where
   pub only-fed : Only w (setRow (down b) n) x (bandFed w b n v x)
   unfolding bandFed
   only-fed = only-splice w (setRow (down b) n) _ _ (omega arith) (omega (arith, half-end (across b) w)) v x
 
-  pub fed-here : (h : Half) → across b ≡ h → (i : ℕ) → i < count h w → bandFed w b n v x (rowPlace w (setRow (down b) n) + placed h w i) ≡ v i
+  pub fed-here : (h : Half) → across b ≡ h → (i : ℕ) → i < count h w → bandFed w b n v x (rowPlace w (setRow (down b) n) + (halfPlace h w + i)) ≡ v i
   unfolding bandFed
   fed-here h e i p =
-      let f : rowPlace w (setRow (down b) n) + placed h w i ≡ rowPlace w (setRow (down b) n) + halfPlace (across b) w + i = omega (arith, place-half h w i, ap (λ (u : Half). halfPlace u w) e) in
+      let f : rowPlace w (setRow (down b) n) + (halfPlace h w + i) ≡ rowPlace w (setRow (down b) n) + halfPlace (across b) w + i =
+      omega (arith, ap (λ (u : Half). halfPlace u w) e) in
       let q : i < count (across b) w = rw e p in
       let g : rowPlace w (setRow (down b) n) + halfPlace (across b) w + i - (rowPlace w (setRow (down b) n) + halfPlace (across b) w) ≡ i = omega arith in
       ap (spliced _ _ v x) f ∙ splice-in _ _ v x _ (omega arith) (omega arith) ∙ ap v g
 
-  pub fed-beside : (h : Half) → (across b ≡ h → ⊥) → (i : ℕ) → i < count h w → bandFed w b n v x (rowPlace w (setRow (down b) n) + placed h w i) ≡ x (rowPlace w (setRow (down b) n) + placed h w i)
+  pub fed-beside : (h : Half) → (across b ≡ h → ⊥) → (i : ℕ) → i < count h w →
+      bandFed w b n v x (rowPlace w (setRow (down b) n) + (halfPlace h w + i)) ≡ x (rowPlace w (setRow (down b) n) + (halfPlace h w + i))
   unfolding bandFed
   fed-beside h d i p = go (across b) h d p
     where
-      go : (a h : Half) → (a ≡ h → ⊥) → i < count h w → spliced (rowPlace w (setRow (down b) n) + halfPlace a w) (count a w) v x (rowPlace w (setRow (down b) n) + placed h w i) ≡ x (rowPlace w (setRow (down b) n) + placed h w i)
+      go : (a h : Half) → (a ≡ h → ⊥) → i < count h w →
+          spliced (rowPlace w (setRow (down b) n) + halfPlace a w) (count a w) v x (rowPlace w (setRow (down b) n) + (halfPlace h w + i)) ≡ x
+          (rowPlace w (setRow (down b) n) + (halfPlace h w + i))
       go lo lo d p = absurd (d refl)
-      go lo hi d p = splice-past _ _ v x _ (unfold halfPlace placed in omega arith)
-      go hi lo d p = splice-below _ _ v x _ (unfold halfPlace placed in omega arith)
+      go lo hi d p = splice-past _ _ v x _ (unfold halfPlace in omega arith)
+      go hi lo d p = splice-below _ _ v x _ (unfold halfPlace in omega arith)
       go hi hi d p = absurd (d refl)
 
 -- ---- a row lifted back
-in-halves : (w : ℕ) (p : Half → ℕ → ℤ) (z : ℕ → ℤ) (h : Half) (i : ℕ) → i < count h w → inHalves w p z (placed h w i) ≡ p h i
-unfolding placed
-in-halves w p z lo i b = halves-low w p z i b
+in-halves : (w : ℕ) (p : Half → ℕ → ℤ) (z : ℕ → ℤ) (h : Half) (i : ℕ) → i < count h w → inHalves w p z (halfPlace h w + i) ≡ p h i
+unfolding halfPlace
+in-halves w p z lo i b = let e : 0 + i ≡ i = omega arith in rw e (halves-low w p z i b)
 in-halves w p z hi i b =
     let e : count lo w + i - count lo w ≡ i = omega arith in
     halves-high w p z (count lo w + i) (omega arith) (omega (arith, count-lo w, count-hi w)) ∙ ap (p hi) e
 
-halves-at : (w : ℕ) (y : ℕ → ℤ) (h : Half) (i : ℕ) → halvesOf w y h i ≡ y (placed h w i)
-unfolding halvesOf placed
-halves-at w y lo i = refl
+halves-at : (w : ℕ) (y : ℕ → ℤ) (h : Half) (i : ℕ) → halvesOf w y h i ≡ y (halfPlace h w + i)
+unfolding halvesOf halfPlace
+halves-at w y lo i = let e : 0 + i ≡ i = omega arith in rw e refl
 halves-at w y hi i = refl
 
 -- the halves of a row, as they are read from memory
 pub row-halves : (w : ℕ) (x : ℕ → ℤ) (r : ℕ) (c : Half → ℕ → ℤ) → Is w x r c → (h : Half) (i : ℕ) → i < count h w → halvesOf w (rowIn w r x) h i ≡ c h i
 unfolding rowIn
-row-halves w x r c e h i b = halves-at w _ h i ∙ window-in (rowPlace w r) w x (placed h w i) (placed-in h w i b) ∙ e h i b
+row-halves w x r c e h i b = halves-at w _ h i ∙ window-in (rowPlace w r) w x (halfPlace h w + i) (half-inside h w i b) ∙ e h i b
 
-pub halves-back-forward : (N : ℕ) (x : ℕ → ℤ) → ((i : ℕ) → i < N → SFits w32 (x i)) → (h : Half) (n : ℕ) → n < count h N → lineHalvesBack wrap32 N (lineForward wrap32 N x) h n ≡ parted x h n
+pub halves-back-forward : (N : ℕ) (x : ℕ → ℤ) → ((i : ℕ) → i < N → SFits w32 (x i)) → (h : Half) (n : ℕ) → n < count h N →
+    lineHalvesBack wrap32 N (lineForward wrap32 N x) h n ≡ parted x h n
 unfolding lineBack parted
-halves-back-forward N x fits lo n b = sym (joined-place (lineHalvesBack wrap32 N (lineForward wrap32 N x)) lo n) ∙ back-forward N x fits (2 * n) (place-in lo lo N n b)
-halves-back-forward N x fits hi n b = sym (joined-place (lineHalvesBack wrap32 N (lineForward wrap32 N x)) hi n) ∙ back-forward N x fits (2 * n + 1) (place-in lo hi N n b)
+halves-back-forward N x fits lo n b = sym (joined-place (lineHalvesBack wrap32 N (lineForward wrap32 N x)) lo n)
+    ∙ back-forward N x fits (2 * n) (place-in lo lo N n b)
+halves-back-forward N x fits hi n b = sym (joined-place (lineHalvesBack wrap32 N (lineForward wrap32 N x)) hi n)
+    ∙ back-forward N x fits (2 * n + 1) (place-in lo hi N n b)
 
 module _ (w r : ℕ) (x : ℕ → ℤ) where
   pub only-unlifted : Only w r x (rowUnlifted w r x)
@@ -142,18 +157,19 @@ module _ (w r : ℕ) (x : ℕ → ℤ) where
   pub unlifted-is : (row : ℕ → ℤ) → ((i : ℕ) → i < w → SFits w32 (row i)) → Is w x r (lineForward wrap32 w row) → Is w (rowUnlifted w r x) r (parted row)
   unfolding rowUnlifted unliftedInPlace
   unlifted-is row fits e h i b =
-      let f : rowPlace w r + placed h w i - rowPlace w r ≡ placed h w i = omega arith in
-      splice-in _ _ _ x _ (omega arith) (omega (arith, placed-in h w i b))
+      let f : rowPlace w r + (halfPlace h w + i) - rowPlace w r ≡ (halfPlace h w + i) = omega arith in
+      splice-in _ _ _ x _ (omega arith) (omega (arith, half-inside h w i b))
       ∙ ap (unliftedInPlace w (rowIn w r x)) f
       ∙ in-halves w _ _ h i b
       ∙ halves-back-reads wrap32 w _ (lineForward wrap32 w row) (row-halves w x r _ e) h i b
       ∙ halves-back-forward w row fits h i b
 
 -- ---- a row changed by two others
-pub by-is : (f : ℤ → ℤ → ℤ → ℤ) (w t l r : ℕ) (x : ℕ → ℤ) (a b c : Half → ℕ → ℤ) → Is w x t a → Is w x l b → Is w x r c → Is w (rowBy f w t l r x) t (λ h i. f (a h i) (b h i) (c h i))
+pub by-is : (f : ℤ → ℤ → ℤ → ℤ) (w t l r : ℕ) (x : ℕ → ℤ) (a b c : Half → ℕ → ℤ) → Is w x t a → Is w x l b → Is w x r c →
+    Is w (rowBy f w t l r x) t (λ h i. f (a h i) (b h i) (c h i))
 unfolding rowBy rowPlace
 by-is f w t l r x a b c p q s h i z =
-    row-at f w w (slot t) (slot l) (slot r) x (placed h w i) (placed-in h w i z)
+    row-at f w w (slot t) (slot l) (slot r) x (halfPlace h w + i) (half-inside h w i z)
     ∙ (λ j. f (p h i z j) (q h i z j) (s h i z j))
 
 -- ---- a line by its halves
@@ -162,7 +178,8 @@ unfolding parted
 part-place x lo n = refl
 part-place x hi n = refl
 
-pub joined-reads : (N : ℕ) (p : Half → ℕ → ℤ) (row : ℕ → ℤ) → ((h : Half) (i : ℕ) → i < count h N → p h i ≡ parted row h i) → (i : ℕ) → i < N → joined p i ≡ row i
+pub joined-reads : (N : ℕ) (p : Half → ℕ → ℤ) (row : ℕ → ℤ) → ((h : Half) (i : ℕ) → i < count h N → p h i ≡ parted row h i) → (i : ℕ) → i < N →
+    joined p i ≡ row i
 joined-reads N p row e =
     by-place lo (λ i. i < N → joined p i ≡ row i)
     (λ h n b. joined-place p h n ∙ e h n (in-place lo h N n b) ∙ part-place row h n)
@@ -173,19 +190,23 @@ module _ (w n : ℕ) (x : ℕ → ℤ) where
   unfolding lowRowTaken
   only-taken = only-splice w (2 * n) _ _ (omega arith) (omega (arith, count-lo w)) _ x
 
-  pub taken-is : (row : ℕ → ℤ) → ((h : Half) (i : ℕ) → i < count h (count lo w) → x (4 * w + (rowPlace (count lo w) n + placed h (count lo w) i)) ≡ parted row h i) → (i : ℕ) → i < count lo w → lowRowTaken w n x (rowPlace w (2 * n) + placed lo w i) ≡ row i
-  unfolding lowRowTaken placed
+  pub taken-is : (row : ℕ → ℤ) → ((h : Half) (i : ℕ) → i < count h (count lo w) →
+      x (4 * w + (rowPlace (count lo w) n + (halfPlace h (count lo w) + i))) ≡ parted row h i) → (i : ℕ) → i < count lo w →
+      lowRowTaken w n x (rowPlace w (2 * n) + (halfPlace lo w + i)) ≡ row i
+  unfolding lowRowTaken halfPlace
   taken-is row e i b =
-      let f : rowPlace w (2 * n) + i - rowPlace w (2 * n) ≡ i = omega arith in
+      let f : rowPlace w (2 * n) + (0 + i) - rowPlace w (2 * n) ≡ i = omega arith in
       splice-in _ _ _ x _ (omega arith) (omega arith)
       ∙ ap (joined _) f
       ∙ joined-reads (count lo w) _ row read i b
     where
-      read : (h : Half) (i : ℕ) → i < count h (count lo w) → halvesOf (count lo w) (windowed (4 * w + rowPlace (count lo w) n) (count lo w) x) h i ≡ parted row h i
+      read : (h : Half) (i : ℕ) → i < count h (count lo w) →
+          halvesOf (count lo w) (windowed (4 * w + rowPlace (count lo w) n) (count lo w) x) h i ≡ parted row h i
       read h i b =
-          let g : 4 * w + rowPlace (count lo w) n + placed h (count lo w) i ≡ 4 * w + (rowPlace (count lo w) n + placed h (count lo w) i) = omega arith in
-          halves-at (count lo w) _ h i ∙ window-in _ (count lo w) x (placed h (count lo w) i) (placed-in h (count lo w) i b) ∙ ap x g ∙ e h i b
+          let g : 4 * w + rowPlace (count lo w) n + (halfPlace h (count lo w) + i) ≡ 4 * w + (rowPlace (count lo w) n + (halfPlace h (count lo w) + i)) =
+          omega arith in
+          halves-at (count lo w) _ h i ∙ window-in _ (count lo w) x (halfPlace h (count lo w) + i) (half-inside h (count lo w) i b) ∙ ap x g ∙ e h i b
 
-  pub taken-beside : (i : ℕ) → i < count hi w → lowRowTaken w n x (rowPlace w (2 * n) + placed hi w i) ≡ x (rowPlace w (2 * n) + placed hi w i)
-  unfolding lowRowTaken placed
+  pub taken-beside : (i : ℕ) → i < count hi w → lowRowTaken w n x (rowPlace w (2 * n) + (halfPlace hi w + i)) ≡ x (rowPlace w (2 * n) + (halfPlace hi w + i))
+  unfolding lowRowTaken halfPlace
   taken-beside i b = splice-past _ _ _ x _ (omega arith)

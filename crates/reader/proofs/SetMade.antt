@@ -1,4 +1,5 @@
--- Working out a set. If the level's memory holds the set's rows, and of the set before it the even row and the high row of the columns, then what is made are rows of the grid; and if a value is refused, the grid has one that does not fit.
+-- Working out a set. If the level's memory holds the set's rows, and of the set before it the even row and the high row of the columns, then what is made are
+-- rows of the grid; and if a value is refused, the grid has one that does not fit.
 -- Over words, for any grid of 32-bit numbers: no range is asked. Assumes nothing.
 use mathlib.Core.Bool.{Bool, true, false}
 use mathlib.Core.Path.{_≡_, refl, sym, subst, _∙_}
@@ -18,21 +19,22 @@ use Rattle.lifting.proofs.LineTheorems.{forward-fits}
 use Rattle.lifting.proofs.LineLaws.{even-is, odd-is, low-one}
 use Rattle.wavelet.specs.Bands.{Grid, columnsLifted}
 use Rattle.wavelet.specs.Maps.{valueFits}
-use Rattle.wavelet.proofs.LevelTheory.{OnCells, by-half, placed}
+use Rattle.wavelet.proofs.LevelTheory.{OnCells}
 use Rattle.wavelet.proofs.MapTheorems.{every-each, each-every}
 use Rattle.reader.specs.Sets.{setOf}
 use Rattle.reader.specs.Tried.{Tried, failed, passed, bind}
-use Rattle.reader.specs.Slots.{slot, rowPlace, rowUnlifted, rowBy}
+use Rattle.reader.specs.Slots.{slot, rowPlace, rowUnlifted, rowBy, halfPlace}
 use Rattle.reader.specs.Holds.{SetLeaves}
 use Rattle.reader.specs.Work.{rowFits, admitted, setUnlifted, evenRow, oddRow, evenMade, oddMade, lastMade, setMade}
-use Rattle.reader.proofs.RowsIn.{apart, parity, Is, only-by, is-old, only-unlifted, unlifted-is, by-is, halves-back-forward}
+use Rattle.reader.proofs.RowsIn.{apart, parity, Is, only-by, is-old, only-unlifted, unlifted-is, by-is, halves-back-forward, half-inside, by-halves}
 
 -- ---- what trying comes to: a memory with a property, or a value that does not fit where N says that all do
 pub data Outcome (N : Type 0) (P : (ℕ → ℤ) → Type 0) : Tried → Type 0 where
   stops : (N → ⊥) → Outcome N P failed
   goes : (y : ℕ → ℤ) → P y → Outcome N P (passed y)
 
-pub bind-outcome : {N : Type 0} {P Q : (ℕ → ℤ) → Type 0} (t : Tried) (f : (ℕ → ℤ) → Tried) → Outcome N P t → ((y : ℕ → ℤ) → P y → Outcome N Q (f y)) → Outcome N Q (bind t f)
+pub bind-outcome : {N : Type 0} {P Q : (ℕ → ℤ) → Type 0} (t : Tried) (f : (ℕ → ℤ) → Tried) → Outcome N P t → ((y : ℕ → ℤ) → P y → Outcome N Q (f y)) →
+    Outcome N Q (bind t f)
 unfolding bind
 bind-outcome _ f (stops n) g = stops n
 bind-outcome _ f (goes y p) g = g y p
@@ -59,14 +61,16 @@ module _ (k w h : ℕ) (G : Grid) (good : OnCells (SFits w32) w h G) where
   column-back lo n c p q = halves-back-forward h (λ i. G i c) (λ i u. good i c u q) lo n p
   column-back hi n c p q = halves-back-forward h (λ i. G i c) (λ i u. good i c u q) hi n p
 
-  even-value : (n c : ℕ) → 1 < h → n < count lo h → c < w → unupdated wrap32 (cols lo n c) (cols hi (n - 1) c) (cols hi (min n (count hi h - 1)) c) ≡ G (2 * n) c
+  even-value : (n c : ℕ) → 1 < h → n < count lo h → c < w →
+      unupdated wrap32 (cols lo n c) (cols hi (n - 1) c) (cols hi (min n (count hi h - 1)) c) ≡ G (2 * n) c
   unfolding lineHalvesBack
   even-value n c g p q = sym (even-is wrap32 h g (λ m. cols lo m c) (λ m. cols hi m c) n p) ∙ column-back lo n c p q
 
   odd-value : (m c : ℕ) → m < count hi h → c < w → unpredicted wrap32 (cols hi m c) (G (2 * m) c) (G (2 * min (m + 1) (count lo h - 1)) c) ≡ G (2 * m + 1) c
   unfolding lineHalvesBack count
   odd-value m c p q =
-      (λ i. unpredicted wrap32 (cols hi m c) (sym (column-back lo m c (omega arith) q) i) (sym (column-back lo (min (m + 1) (count lo h - 1)) c (omega arith) q) i))
+      (λ i. unpredicted wrap32 (cols hi m c) (sym (column-back lo m c (omega arith) q) i)
+      (sym (column-back lo (min (m + 1) (count lo h - 1)) c (omega arith) q) i))
       ∙ sym (odd-is wrap32 h (omega arith) (λ i. cols lo i c) (λ i. cols hi i c) m p)
       ∙ column-back hi m c p q
 
@@ -75,7 +79,8 @@ module _ (k w h : ℕ) (G : Grid) (good : OnCells (SFits w32) w h G) where
   one-value n c g = low-one wrap32 h g (λ i. G i c) n
 
   -- rows of the level, told by their columns
-  by-columns : (f : ℤ → ℤ → ℤ → ℤ) (r₁ r₂ r₃ r₄ : ℕ → ℤ) → ((c : ℕ) → c < w → f (r₁ c) (r₂ c) (r₃ c) ≡ r₄ c) → (a : Half) (i : ℕ) → i < count a w → f (parted r₁ a i) (parted r₂ a i) (parted r₃ a i) ≡ parted r₄ a i
+  by-columns : (f : ℤ → ℤ → ℤ → ℤ) (r₁ r₂ r₃ r₄ : ℕ → ℤ) → ((c : ℕ) → c < w → f (r₁ c) (r₂ c) (r₃ c) ≡ r₄ c) → (a : Half) (i : ℕ) → i < count a w →
+      f (parted r₁ a i) (parted r₂ a i) (parted r₃ a i) ≡ parted r₄ a i
   unfolding parted
   by-columns f r₁ r₂ r₃ r₄ e lo i b = e (2 * i) (place-in lo lo w i b)
   by-columns f r₁ r₂ r₃ r₄ e hi i b = e (2 * i + 1) (place-in lo hi w i b)
@@ -105,12 +110,10 @@ module _ (k w h : ℕ) (G : Grid) (good : OnCells (SFits w32) w h G) where
   admit P r x b s f = go (rowFits k w r x) refl
     where
       go : (t : Bool) → rowFits k w r x ≡ t → Outcome FitAll P (pick t (passed x) failed)
-      go true e = goes x (f (fits-parted r (λ a i p. subst (λ v. valueFits k v ≡ true) (s a i p) (every-each w _ e (placed a w i) (in-row a i p)))))
-        where
-          in-row : (a : Half) (i : ℕ) → i < count a w → placed a w i < w
-          in-row lo i p = unfold placed count in omega arith
-          in-row hi i p = unfold placed count in omega arith
-      go false e = stops (λ all. not-false (rowFits k w r x) (each-every w _ (by-half w (λ j. valueFits k (x (rowPlace w r + j)) ≡ true) (λ a i p. subst (λ v. valueFits k v ≡ true) (sym (s a i p)) (parted-fits r a i p (λ c q. all r c b q))))) e)
+      go true e = goes x (f (fits-parted r (λ a i p. subst (λ v. valueFits k v ≡ true) (s a i p) (every-each w _ e (halfPlace a w + i) (half-inside a w i p)))))
+      go false e = stops (λ all. not-false (rowFits k w r x)
+          (each-every w _ (by-halves w (λ j. valueFits k (x (rowPlace w r + j)) ≡ true)
+          (λ a i p. subst (λ v. valueFits k v ≡ true) (sym (s a i p)) (parted-fits r a i p (λ c q. all r c b q))))) e)
 
   -- ---- what a set needs
   pub record Needs (n : ℕ) (x : ℕ → ℤ) : Type 0 where
@@ -158,12 +161,17 @@ module _ (k w h : ℕ) (G : Grid) (good : OnCells (SFits w32) w h G) where
 
         go : Dec (2 * n + 1 < h) → Rows n (pick (ltb (2 * n + 1) h) (rowUnlifted w (2 * n + 1) one) one)
         go (yes q) = rw (lt-ltb (2 * n + 1) h q) (record {
-          low = is-old w (2 * n + 1) one _ (2 * n) _ (only-unlifted w (2 * n + 1) one) (λ e. parity (2 * n) (2 * n + 1) n n (omega arith) (omega arith) (sym e)) low-one;
+          low = is-old w (2 * n + 1) one _ (2 * n) _ (only-unlifted w (2 * n + 1) one)
+              (λ e. parity (2 * n) (2 * n + 1) n n (omega arith) (omega arith) (sym e)) low-one;
           high = λ i p u v. elim (ℕ-discrete i n) [
-            | yes e ↦ rw e (unlifted-is w (2 * n + 1) one (cols hi n) (cols-fit hi n (omega arith)) (kept (2 * n + 1) _ (parity (2 * n) (2 * n + 1) n n (omega arith) (omega arith)) (s .high (omega arith))))
-            | no e ↦ let e′ : n ≡ suc i = omega (arith, e) in is-old w (2 * n + 1) one _ (2 * i + 1) _ (only-unlifted w (2 * n + 1) one) (λ z. apart (2 * i + 1) (2 * n + 1) (omega arith) (sym z)) (high-old i e′)
+            | yes e ↦ rw e (unlifted-is w (2 * n + 1) one (cols hi n) (cols-fit hi n (omega arith))
+                (kept (2 * n + 1) _ (parity (2 * n) (2 * n + 1) n n (omega arith) (omega arith)) (s .high (omega arith))))
+            | no e ↦ let e′ : n ≡ suc i = omega (arith, e) in
+                is-old w (2 * n + 1) one _ (2 * i + 1) _ (only-unlifted w (2 * n + 1) one) (λ z. apart (2 * i + 1) (2 * n + 1) (omega arith) (sym z))
+                (high-old i e′)
           ];
-          even-before = λ p e. is-old w (2 * n + 1) one _ (2 * p) _ (only-unlifted w (2 * n + 1) one) (λ z. parity (2 * p) (2 * n + 1) p n (omega arith) (omega arith) (sym z)) (before p e);
+          even-before = λ p e. is-old w (2 * n + 1) one _ (2 * p) _ (only-unlifted w (2 * n + 1) one)
+              (λ z. parity (2 * p) (2 * n + 1) p n (omega arith) (omega arith) (sym z)) (before p e);
           past = λ j p. only-unlifted w (2 * n + 1) one .past j p ∙ past-one j p;
         })
         go (no q) = rw (le-ltb (2 * n + 1) h (omega arith)) (record {
@@ -187,11 +195,15 @@ module _ (k w h : ℕ) (G : Grid) (good : OnCells (SFits w32) w h G) where
         go (yes g) = rw (lt-ltb 1 h g) (record {
           even = λ i q r. elim (ℕ-discrete i n) [
             | yes e ↦ rw e (λ a j p.
-                by-is (unupdated wrap32) w (2 * n) (2 * (n - 1) + 1) (2 * min n (count hi h - 1) + 1) x _ _ _ (s .low) (s .high (n - 1) (omega arith) (omega arith) (omega arith)) (s .high (min n (count hi h - 1)) (omega arith) (omega arith) (omega arith)) a j p
+                by-is (unupdated wrap32) w (2 * n) (2 * (n - 1) + 1) (2 * min n (count hi h - 1) + 1) x _ _ _ (s .low)
+                (s .high (n - 1) (omega arith) (omega arith) (omega arith)) (s .high (min n (count hi h - 1)) (omega arith) (omega arith) (omega arith)) a
+                j p
                 ∙ by-columns (unupdated wrap32) _ _ _ (G (2 * n)) (λ c u. even-value n c g (omega arith) u) a j p)
-            | no e ↦ is-old w (2 * n) x _ (2 * i) _ (only-by w (2 * n) (unupdated wrap32) _ _ x) (λ z. apart (2 * i) (2 * n) (omega (arith, e)) (sym z)) (s .even-before i (omega (arith, e)))
+            | no e ↦ is-old w (2 * n) x _ (2 * i) _ (only-by w (2 * n) (unupdated wrap32) _ _ x) (λ z. apart (2 * i) (2 * n) (omega (arith, e)) (sym z))
+                (s .even-before i (omega (arith, e)))
           ];
-          high = λ i p q r. is-old w (2 * n) x _ (2 * i + 1) _ (only-by w (2 * n) (unupdated wrap32) _ _ x) (parity (2 * n) (2 * i + 1) n i (omega arith) (omega arith)) (s .high i p q r);
+          high = λ i p q r. is-old w (2 * n) x _ (2 * i + 1) _ (only-by w (2 * n) (unupdated wrap32) _ _ x)
+              (parity (2 * n) (2 * i + 1) n i (omega arith) (omega arith)) (s .high i p q r);
           past = λ j p. only-by w (2 * n) (unupdated wrap32) _ _ x .past j p ∙ s .past j p;
         })
         go (no g) = rw (le-ltb 1 h (omega arith)) (record {
@@ -212,10 +224,12 @@ module _ (k w h : ℕ) (G : Grid) (good : OnCells (SFits w32) w h G) where
         admit (Even n) (2 * n) _ b (e .even n (omega arith) (omega arith)) (λ f. record { rows = e; fit = f })
 
     -- an odd row, from the even rows beside it
-    odd-is-made : (p : ℕ) (x : ℕ → ℤ) → 2 * p + 1 < h → Is w x (2 * p) (parted (G (2 * p))) → (2 * p + 2 < h → Is w x (2 * suc p) (parted (G (2 * suc p)))) → Is w x (2 * p + 1) (parted (cols hi p)) → Is w (oddRow w h p x) (2 * p + 1) (parted (G (2 * p + 1)))
+    odd-is-made : (p : ℕ) (x : ℕ → ℤ) → 2 * p + 1 < h → Is w x (2 * p) (parted (G (2 * p))) → (2 * p + 2 < h → Is w x (2 * suc p) (parted (G (2 * suc p)))) →
+        Is w x (2 * p + 1) (parted (cols hi p)) → Is w (oddRow w h p x) (2 * p + 1) (parted (G (2 * p + 1)))
     unfolding oddRow count
     odd-is-made p x b e f s a j q =
-        by-is (unpredicted wrap32) w (2 * p + 1) (2 * p) (2 * min (p + 1) (count lo h - 1)) x _ _ _ s e (at (min (p + 1) (count lo h - 1)) (omega arith) (omega arith) (omega arith)) a j q
+        by-is (unpredicted wrap32) w (2 * p + 1) (2 * p) (2 * min (p + 1) (count lo h - 1)) x _ _ _ s e
+        (at (min (p + 1) (count lo h - 1)) (omega arith) (omega arith) (omega arith)) a j q
         ∙ by-columns (unpredicted wrap32) _ _ _ (G (2 * p + 1)) (λ c u. odd-value p c (omega arith) u) a j q
       where
         at : (i : ℕ) → 2 * i < h → p ≤ i → i ≤ suc p → Is w x (2 * i) (parted (G (2 * i)))
@@ -245,23 +259,27 @@ module _ (k w h : ℕ) (G : Grid) (good : OnCells (SFits w32) w h G) where
     })
     odd-made (suc m) x b s =
         admit (Most (suc m)) (2 * m + 1) (oddRow w h m x) (omega arith) made (λ f. record {
-          even = is-old w (2 * m + 1) x _ (2 * suc m) _ (only-by w (2 * m + 1) (unpredicted wrap32) _ _ x) (λ z. parity (2 * suc m) (2 * m + 1) (suc m) m (omega arith) (omega arith) (sym z)) (s .rows .even (suc m) (omega arith) (omega arith));
+          even = is-old w (2 * m + 1) x _ (2 * suc m) _ (only-by w (2 * m + 1) (unpredicted wrap32) _ _ x)
+              (λ z. parity (2 * suc m) (2 * m + 1) (suc m) m (omega arith) (omega arith) (sym z)) (s .rows .even (suc m) (omega arith) (omega arith));
           odd = λ p e. let e′ : p ≡ m = omega arith in rw e′ made;
-          high = λ q. is-old w (2 * m + 1) x _ (2 * suc m + 1) _ (only-by w (2 * m + 1) (unpredicted wrap32) _ _ x) (apart (2 * m + 1) (2 * suc m + 1) (omega arith)) (s .rows .high (suc m) q (omega arith) (omega arith));
+          high = λ q. is-old w (2 * m + 1) x _ (2 * suc m + 1) _ (only-by w (2 * m + 1) (unpredicted wrap32) _ _ x)
+              (apart (2 * m + 1) (2 * suc m + 1) (omega arith)) (s .rows .high (suc m) q (omega arith) (omega arith));
           even-fit = s .fit;
           odd-fit = λ p e. let e′ : p ≡ m = omega arith in rw e′ f;
           past = λ j p. only-by w (2 * m + 1) (unpredicted wrap32) _ _ x .past j p ∙ s .rows .past j p;
         })
       where
         made : Is w (oddRow w h m x) (2 * m + 1) (parted (G (2 * m + 1)))
-        made = odd-is-made m x (omega arith) (s .rows .even m (omega arith) (omega arith)) (λ _. s .rows .even (suc m) (omega arith) (omega arith)) (s .rows .high m (omega arith) (omega arith) (omega arith))
+        made = odd-is-made m x (omega arith) (s .rows .even m (omega arith) (omega arith)) (λ _. s .rows .even (suc m) (omega arith) (omega arith))
+            (s .rows .high m (omega arith) (omega arith) (omega arith))
 
     made-odd : (n r : ℕ) → r < h → setOf h r ≡ n → (r ≡ 2 * n → ⊥) → (r ≡ 2 * n + 1 → ⊥) → suc r ≡ 2 * n
     unfolding setOf count
     made-odd n r b q z y = omega (arith, z, y)
 
     -- the rows of a set: 2n, 2n − 1, and the last of an even height
-    by-set : (P : ℕ → Type 0) (n : ℕ) → 2 * n < h → P (2 * n) → ((p : ℕ) → n ≡ suc p → P (2 * p + 1)) → (2 * n + 2 ≡ h → P (2 * n + 1)) → (r : ℕ) → r < h → setOf h r ≡ n → P r
+    by-set : (P : ℕ → Type 0) (n : ℕ) → 2 * n < h → P (2 * n) → ((p : ℕ) → n ≡ suc p → P (2 * p + 1)) → (2 * n + 2 ≡ h → P (2 * n + 1)) → (r : ℕ) → r < h →
+        setOf h r ≡ n → P r
     unfolding setOf count
     by-set P n b e o l r u q = elim (ℕ-discrete r (2 * n)) [
       | yes z ↦ rw z e
@@ -314,4 +332,5 @@ module _ (k w h : ℕ) (G : Grid) (good : OnCells (SFits w32) w h G) where
     -- ---- a set worked out makes rows of the grid
     pub set-made : (n : ℕ) (x : ℕ → ℤ) → 2 * n < h → Past x → Needs n x → Outcome FitAll (Worked n) (setMade k w h n x)
     unfolding setMade
-    set-made n x b z s = bind-outcome (evenMade k w h n x) _ (even-made n x b z s) (λ y e. bind-outcome (oddMade k w h n y) _ (odd-made n y b e) (λ u m. last-made n u b m))
+    set-made n x b z s = bind-outcome (evenMade k w h n x) _ (even-made n x b z s)
+        (λ y e. bind-outcome (oddMade k w h n y) _ (odd-made n y b e) (λ u m. last-made n u b m))

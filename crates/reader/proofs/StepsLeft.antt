@@ -5,8 +5,8 @@ use mathlib.Core.Path.{_≡_, refl, sym, ap, subst, _∙_}
 use mathlib.Core.List.{List, [], _∷_, _++_, append-nil, append-assoc}
 use Prim.Native.Nat.{ℕ, zero, suc, _+_, _-_, _≤_, _<_}
 use native.Mathlib.Omega.{arith}
-use lib.Dec.{T, ltb, eqb}
-use borrow.Author.Tests.{lt-ltb, eq-eqb, ne-eqb}
+use lib.Dec.{T, leb, ltb, eqb}
+use borrow.Author.Tests.{lt-ltb, eq-eqb, ne-eqb, leb-true}
 use Rattle.numbers.specs.Signal.{pick}
 use Rattle.lifting.specs.Line.{lo, count}
 use Rattle.wavelet.specs.Bands.{Band, LL, HL, LH, HH, code}
@@ -15,7 +15,7 @@ use Rattle.wavelet.specs.Order.{RowName, rowName, handedOut, hasRow, rowsOf, se
 use Rattle.wavelet.specs.Steps.{Step, feed, draw, feedAll, rowSteps, setSteps, steps}
 use Rattle.reader.specs.Sets.{setOf, opens, rowAt}
 use Rattle.reader.specs.Asked.{keptAt, asked, bandsFrom, those, look, firstCode, nextBand, named}
-use Rattle.reader.specs.Machine.{Place, place, bandAt, nextAt, beyond, dive, enter}
+use Rattle.reader.specs.Machine.{Place, place, bandAt, lastOfSet, nextAt, beyond, dive, enter}
 use Rattle.reader.proofs.OpenedSets.{opens-row, opens-set, opens-first, rowAt-next, rowAt-there, rowAt-first}
 
 -- ---- the bands that a set still asks for
@@ -91,7 +91,8 @@ module _ (p : Band → Bool) where
   after HH HH x y z = not-both (p HH) x y
 
   -- the first is the first: a band from b on that is asked for is not before it
-  first-step : (b c : Band) (bs : List Band) → p c ≡ true → code b ≤ code c → (code b < code c → firstCode (those p bs) ≤ code c) → firstCode (those p (b ∷ bs)) ≤ code c
+  first-step : (b c : Band) (bs : List Band) → p c ≡ true → code b ≤ code c → (code b < code c → firstCode (those p bs) ≤ code c) →
+      firstCode (those p (b ∷ bs)) ≤ code c
   unfolding those firstCode
   first-step b c bs e h f = go (p b) refl
     where
@@ -133,7 +134,8 @@ unfolding rowsOf names those
 rows-names k w h n p [] none = refl
 rows-names k w h n p (b ∷ bs) (more q e) = rw (← q) (go (p b) (rows-names k w h n p bs e))
   where
-    go : (t : Bool) → rowsOf k w h n bs ≡ names k n (those p bs) → pick t (rowName k b n ∷ rowsOf k w h n bs) (rowsOf k w h n bs) ≡ names k n (pick t (b ∷ those p bs) (those p bs))
+    go : (t : Bool) → rowsOf k w h n bs ≡ names k n (those p bs) →
+        pick t (rowName k b n ∷ rowsOf k w h n bs) (rowsOf k w h n bs) ≡ names k n (pick t (b ∷ those p bs) (those p bs))
     go true f = ap (λ r. rowName k b n ∷ r) f
     go false f = f
 
@@ -176,24 +178,36 @@ module _ (W H l : ℕ) where
   -- what the machine says is next, and what is left then: a height row, or a band row
   pub data Ahead (d lev b : ℕ) : Place → Type 0 where
     height : tail d lev b ≡ draw d ∷ [] → Ahead d lev b (place 0 4)
-    row : (k : ℕ) (c : Band) → k < lev → asked (eqb (suc k) (suc l)) (size k W) (size k H) (rowAt H d (suc k)) c ≡ true → tail d lev b ≡ feed (rowName (suc k) c (rowAt H d (suc k))) ∷ tailAt d (beyond W H (suc l) d k (code c)) → Ahead d lev b (place (suc k) (code c))
+    row : (k : ℕ) (c : Band) → k < lev → asked (eqb (suc k) (suc l)) (size k W) (size k H) (rowAt H d (suc k)) c ≡ true →
+        tail d lev b ≡ feed (rowName (suc k) c (rowAt H d (suc k))) ∷ tailAt d (beyond W H (suc l) d k (code c)) → Ahead d lev b (place (suc k) (code c))
 
   tail-none : (d k b : ℕ) → look (eqb (suc k) (suc l)) (size k W) (size k H) (rowAt H d (suc k)) b ≡ [] → tail d (suc k) b ≡ tail d k 1
   unfolding tail names feedAll
   tail-none d k b e = ap (λ xs. feedAll (names (suc k) (rowAt H d (suc k)) xs) ++ tail d k 1) e
 
-  tail-some : (d k b : ℕ) (c : Band) (cs : List Band) → look (eqb (suc k) (suc l)) (size k W) (size k H) (rowAt H d (suc k)) b ≡ c ∷ cs → cs ≡ look (eqb (suc k) (suc l)) (size k W) (size k H) (rowAt H d (suc k)) (code c + 1) → tail d (suc k) b ≡ feed (rowName (suc k) c (rowAt H d (suc k))) ∷ tail d (suc k) (code c + 1)
+  tail-some : (d k b : ℕ) (c : Band) (cs : List Band) → look (eqb (suc k) (suc l)) (size k W) (size k H) (rowAt H d (suc k)) b ≡ c ∷ cs →
+      cs ≡ look (eqb (suc k) (suc l)) (size k W) (size k H) (rowAt H d (suc k)) (code c + 1) →
+      tail d (suc k) b ≡ feed (rowName (suc k) c (rowAt H d (suc k))) ∷ tail d (suc k) (code c + 1)
   unfolding tail names feedAll
   tail-some d k b c cs e f = ap (λ xs. feedAll (names (suc k) (rowAt H d (suc k)) xs) ++ tail d k 1) (e ∙ ap (λ r. c ∷ r) f)
 
+  -- a row that completes its set leaves none of it
+  pub last-none : (d k c : ℕ) → lastOfSet W H (suc l) d k c ≡ true → look (eqb (suc k) (suc l)) (size k W) (size k H) (rowAt H d (suc k)) (c + 1) ≡ []
+  unfolding lastOfSet bandAt nextBand
+  last-none d k c e = no-more _ (omega arith) _ e
+    where
+      no-more : (m : ℕ) → 4 ≤ m → (xs : List Band) → leb m (firstCode xs) ≡ true → xs ≡ []
+      no-more m h [] e = refl
+      no-more m h (b ∷ bs) e = let p : m ≤ code b = unfold firstCode in leb-true _ _ e in absurd (omega (arith, code-lt b))
+
   -- past a set that asks for nothing more the same is left at the next finer level
   beyond-tail : (d k c : ℕ) → tail d (suc k) (c + 1) ≡ tailAt d (beyond W H (suc l) d k c)
-  unfolding beyond bandAt nextBand
-  beyond-tail d k c = go (look (eqb (suc k) (suc l)) (size k W) (size k H) (rowAt H d (suc k)) (c + 1)) refl
+  unfolding beyond
+  beyond-tail d k c = go (lastOfSet W H (suc l) d k c) refl
     where
-      go : (xs : List Band) → look (eqb (suc k) (suc l)) (size k W) (size k H) (rowAt H d (suc k)) (c + 1) ≡ xs → tail d (suc k) (c + 1) ≡ tailAt d (pick (ltb (firstCode xs) 4) (place (suc k) (c + 1)) (place k 1))
-      go [] e = unfold firstCode in tail-none d k (c + 1) e
-      go (b ∷ bs) e = unfold firstCode in rw (lt-ltb (code b) 4 (code-lt b)) refl
+      go : (t : Bool) → lastOfSet W H (suc l) d k c ≡ t → tail d (suc k) (c + 1) ≡ tailAt d (pick t (place k 1) (place (suc k) (c + 1)))
+      go true e = tail-none d k (c + 1) (last-none d k c e)
+      go false e = refl
 
   pub ahead : (d lev b : ℕ) → Ahead d lev b (nextAt W H (suc l) d lev b)
   unfolding nextAt bandAt nextBand look
@@ -207,9 +221,11 @@ module _ (W H l : ℕ) where
       finer _ e (height f) = height (e ∙ f)
       finer _ e (row j c h a f) = row j c (omega arith) a (e ∙ f)
 
-      go : (xs : List Band) → those p (bandsFrom b) ≡ xs → Look p xs → Ahead d k 1 (nextAt W H (suc l) d k 1) → Ahead d (suc k) b (pick (ltb (firstCode xs) 4) (place (suc k) (firstCode xs)) (nextAt W H (suc l) d k 1))
+      go : (xs : List Band) → those p (bandsFrom b) ≡ xs → Look p xs → Ahead d k 1 (nextAt W H (suc l) d k 1) →
+          Ahead d (suc k) b (pick (ltb (firstCode xs) 4) (place (suc k) (firstCode xs)) (nextAt W H (suc l) d k 1))
       go _ e nothing ih = unfold firstCode in finer _ (tail-none d k b e) ih
-      go _ e (first c a) ih = unfold firstCode in rw (lt-ltb (code c) 4 (code-lt c)) (row k c (omega arith) a (tail-some d k b c _ e refl ∙ ap (λ t. feed (rowName (suc k) c (rowAt H d (suc k))) ∷ t) (beyond-tail d k (code c))))
+      go _ e (first c a) ih = unfold firstCode in rw (lt-ltb (code c) 4 (code-lt c))
+          (row k c (omega arith) a (tail-some d k b c _ e refl ∙ ap (λ t. feed (rowName (suc k) c (rowAt H d (suc k))) ∷ t) (beyond-tail d k (code c))))
 
   -- ---- where a row begins, what is left is what it needs and it
   abbrev rowsBelow : ℕ → ℕ → ℕ → List Step
@@ -228,23 +244,28 @@ module _ (W H l : ℕ) where
   unfolding tail setSteps
   tail-last d k e = rw (eq-eqb (suc k) (suc l) (omega arith), last-names (suc k) (size k W) (size k H) (rowAt H d (suc k))) refl
 
-  tail-on : (d k m : ℕ) → k + suc m ≡ l → rowsBelow m (suc k) (rowAt H d (suc k)) ++ tail d (suc k) 1 ≡ setSteps (suc m) (suc k) (size k W) (size k H) (rowAt H d (suc k)) ++ tail d k 1
+  tail-on : (d k m : ℕ) → k + suc m ≡ l → rowsBelow m (suc k) (rowAt H d (suc k)) ++ tail d (suc k) 1 ≡ setSteps (suc m) (suc k) (size k W) (size k H)
+      (rowAt H d (suc k)) ++ tail d k 1
   unfolding tail setSteps size
   tail-on d k m e =
       rw (ne-eqb (suc k) (suc l) (λ z. omega arith), set-names m (suc k) (size k W) (size k H) (rowAt H d (suc k)))
-      (sym (append-assoc (rowSteps (count lo (size k H)) (setSteps m (suc (suc k)) (count lo (size k W)) (count lo (size k H))) (rowAt H d (suc k))) _ (tail d k 1)))
+      (sym (append-assoc (rowSteps (count lo (size k H)) (setSteps m (suc (suc k)) (count lo (size k W)) (count lo (size k H))) (rowAt H d (suc k))) _
+      (tail d k 1)))
 
   -- a row that opens its set begins at the next level, any other has its set
-  dive-step : (d : ℕ) → d < H → (m k : ℕ) → tailAt d (dive W H (suc l) d m (suc k)) ≡ setSteps m (suc k) (size k W) (size k H) (rowAt H d (suc k)) ++ tail d k 1 → tailAt d (dive W H (suc l) d (suc m) k) ≡ rowsBelow m k (rowAt H d k) ++ tail d k 1
+  dive-step : (d : ℕ) → d < H → (m k : ℕ) → tailAt d (dive W H (suc l) d m (suc k)) ≡ setSteps m (suc k) (size k W) (size k H)
+      (rowAt H d (suc k)) ++ tail d k 1 → tailAt d (dive W H (suc l) d (suc m) k) ≡ rowsBelow m k (rowAt H d k) ++ tail d k 1
   unfolding dive
   dive-step d b m k f = go (opens (size k H) (rowAt H d k)) refl
     where
       there : rowAt H d k < size k H
       there = rowAt-there H d b k
 
-      go : (t : Bool) → opens (size k H) (rowAt H d k) ≡ t → tailAt d (pick t (dive W H (suc l) d m (suc k)) (place k 1)) ≡ rowsBelow m k (rowAt H d k) ++ tail d k 1
+      go : (t : Bool) → opens (size k H) (rowAt H d k) ≡ t →
+          tailAt d (pick t (dive W H (suc l) d m (suc k)) (place k 1)) ≡ rowsBelow m k (rowAt H d k) ++ tail d k 1
       go false o = sym (ap (λ r. r ++ tail d k 1) (below-no m k (rowAt H d k) there o))
-      go true o = f ∙ sym (ap (λ r. r ++ tail d k 1) (below-yes m k (rowAt H d k) there o ∙ ap (setSteps m (suc k) (size k W) (size k H)) (sym (rowAt-next H d k))))
+      go true o = f ∙ sym (ap (λ r. r ++ tail d k 1) (below-yes m k (rowAt H d k) there o
+          ∙ ap (setSteps m (suc k) (size k W) (size k H)) (sym (rowAt-next H d k))))
 
   dive-tail : (d : ℕ) → d < H → (m k : ℕ) → k + m ≡ l → tailAt d (dive W H (suc l) d (suc m) k) ≡ rowsBelow m k (rowAt H d k) ++ tail d k 1
   dive-tail d b zero k e = dive-step d b 0 k (unfold dive in tail-last d k (omega arith))
@@ -293,11 +314,13 @@ module _ (W H l : ℕ) where
   turns-later : (c d : ℕ) → inTurn d turn ++ later c d ≡ inTurn (d + c) turn
   unfolding inTurn later
   turns-later zero d = let e : d ≡ d + 0 = omega arith in append-nil _ ∙ ap (λ n. inTurn n turn) e
-  turns-later (suc c) d = let e : suc d + c ≡ d + suc c = omega arith in sym (append-assoc (inTurn d turn) _ _) ∙ turns-later c (suc d) ∙ ap (λ n. inTurn n turn) e
+  turns-later (suc c) d = let e : suc d + c ≡ d + suc c = omega arith in sym (append-assoc (inTurn d turn) _ _) ∙ turns-later c (suc d)
+      ∙ ap (λ n. inTurn n turn) e
 
   later-steps : later H 0 ≡ steps W H (suc l)
   unfolding steps inTurn
-  later-steps = let e : 0 + H ≡ H = omega arith in let f : suc l - 1 ≡ l = omega arith in turns-later H 0 ∙ ap (λ n. inTurn n turn) e ∙ ap (λ q. inTurn H (λ r. rowSteps H (setSteps q 1 W H) r ++ (draw r ∷ []))) (sym f)
+  later-steps = let e : 0 + H ≡ H = omega arith in let f : suc l - 1 ≡ l = omega arith in
+      turns-later H 0 ∙ ap (λ n. inTurn n turn) e ∙ ap (λ q. inTurn H (λ r. rowSteps H (setSteps q 1 W H) r ++ (draw r ∷ []))) (sym f)
 
   dive-first : (m k : ℕ) → dive W H (suc l) 0 m k ≡ place (k + m) 0
   unfolding dive

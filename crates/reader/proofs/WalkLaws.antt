@@ -1,4 +1,5 @@
 -- The walk over the levels: the row wanted, the sets worked out on the way, the place after a row. Assumes nothing.
+use mathlib.Core.Bool.{Bool, true, false}
 use mathlib.Core.Path.{_≡_, refl, ap, _∙_}
 use Prim.Native.Nat.{ℕ, zero, suc, _+_, _-_, _≤_, _<_}
 use native.Mathlib.Omega.{arith}
@@ -11,7 +12,7 @@ use Rattle.reader.specs.declared.walk.Spot.{Spot}
 use Rattle.reader.specs.Asked.{nextBand}
 use Rattle.reader.specs.Tried.{failed, passed}
 use Rattle.reader.specs.Store.{workedAt}
-use Rattle.reader.specs.Machine.{Place, place, bandAt, nextAt, settled, finished, beyond}
+use Rattle.reader.specs.Machine.{Place, place, bandAt, lastOfSet, nextAt, settled, finished, beyond}
 use Rattle.reader.specs.Inside.{IsLevel, Is}
 use Rattle.reader.proofs.WorkLaws.{bind-failed, bind-passed}
 
@@ -66,19 +67,19 @@ module _ (W H L d : ℕ) where
       rw (lt-ltb to (suc k) h, i) (bind-passed _ (settled W H L d to k) y (e ∙ ap (λ (j : ℕ). workedAt W H L d j x) i))
 
   -- ---- the set that a row completes, and the place after it
-  module _ (k c b : ℕ) (is : b ≡ bandAt W H L d k (c + 1)) where
-    pub finish-more : (x : ℕ → ℤ) → b < 4 → passed x ≡ finished W H L d k c x
+  module _ (k c : ℕ) (t : Bool) (is : t ≡ lastOfSet W H L d k c) where
+    pub finish-more : (x : ℕ → ℤ) → t ≡ false → passed x ≡ finished W H L d k c x
     unfolding finished
-    finish-more x h = rw (← is, lt-ltb b 4 h)
+    finish-more x h = rw (← is, h)
 
-    pub finish-set : (x : ℕ → ℤ) → 4 ≤ b → workedAt W H L d k x ≡ finished W H L d k c x
+    pub finish-set : (x : ℕ → ℤ) → t ≡ true → workedAt W H L d k x ≡ finished W H L d k c x
     unfolding finished
-    finish-set x h = rw (← is, le-ltb b 4 h)
+    finish-set x h = rw (← is, h)
 
-    pub beyond-more : b < 4 → place (k + 1) (c + 1) ≡ beyond W H L d k c
+    pub beyond-more : t ≡ false → place (k + 1) (c + 1) ≡ beyond W H L d k c
     unfolding beyond
-    beyond-more h = rw (← is, lt-ltb b 4 h, add-one k)
+    beyond-more h = rw (← is, h, add-one k)
 
-    pub beyond-set : 4 ≤ b → place k 1 ≡ beyond W H L d k c
+    pub beyond-set : t ≡ true → place k 1 ≡ beyond W H L d k c
     unfolding beyond
-    beyond-set h = rw (← is, le-ltb b 4 h)
+    beyond-set h = rw (← is, h)

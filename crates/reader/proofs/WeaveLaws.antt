@@ -14,10 +14,12 @@ use Rattle.lifting.specs.Halves.{halvesOf, fronted}
 use Rattle.lifting.proofs.LineLaws.{joined-even, joined-odd, count-lo}
 use Rattle.reader.proofs.AreaLaws.{front-at, front-rest}
 use Rattle.reader.proofs.HeightLaws.{finish-heights}
-use Rattle.reader.specs.Areas.{heightsAt, wholes}
+use Rattle.reader.specs.Areas.{heightsAt}
+use Rattle.reader.specs.Inside.{wholes}
 
 -- two places stored
-pub store-pair : (L : ℕ) (y x : ℕ → ℤ) (q : ℕ) (l : List ℤ) (a b : ℤ) → Swept L y x q l → q + 1 < L → a ≡ y q → b ≡ y (q + 1) → Swept L y x (q + 1 + 1) (set (set l q a) (q + 1) b)
+pub store-pair : (L : ℕ) (y x : ℕ → ℤ) (q : ℕ) (l : List ℤ) (a b : ℤ) → Swept L y x q l → q + 1 < L → a ≡ y q → b ≡ y (q + 1) →
+    Swept L y x (q + 1 + 1) (set (set l q a) (q + 1) b)
 store-pair L y x q l a b sw h ea eb = store b (store a sw (omega arith) ea) (omega arith) eb
 
 -- ---- within one area: the row at place `from`, past place `to`, laid from `to` on
@@ -32,7 +34,8 @@ module _ (from to n : ℕ) (x : ℕ → ℤ) where
   unfolding halvesOf
   woven-even j h =
       let k : to + 2 * j - to ≡ 2 * j = omega arith in
-      sym (splice-in to n (joined halves) x (to + 2 * j) (omega arith) (omega arith) ∙ ap (joined halves) k ∙ joined-even halves j ∙ window-in from n x j (omega arith))
+      sym (splice-in to n (joined halves) x (to + 2 * j) (omega arith) (omega arith) ∙ ap (joined halves) k ∙ joined-even halves j
+      ∙ window-in from n x j (omega arith))
 
   woven-odd : (low j : ℕ) → low ≡ n - n / 2 → 2 * j + 1 < n → x (from + low + j) ≡ woven (to + 2 * j + 1)
   unfolding halvesOf
@@ -40,10 +43,12 @@ module _ (from to n : ℕ) (x : ℕ → ℤ) where
       let c = count-lo n in
       let k : to + 2 * j + 1 - to ≡ 2 * j + 1 = omega arith in
       let m : from + (count lo n + j) ≡ from + low + j = omega arith in
-      sym (splice-in to n (joined halves) x (to + 2 * j + 1) (omega arith) (omega arith) ∙ ap (joined halves) k ∙ joined-odd halves j ∙ window-in from n x (count lo n + j) (omega arith) ∙ ap x m)
+      sym (splice-in to n (joined halves) x (to + 2 * j + 1) (omega arith) (omega arith) ∙ ap (joined halves) k ∙ joined-odd halves j
+      ∙ window-in from n x (count lo n + j) (omega arith) ∙ ap x m)
 
   module _ (L low j : ℕ) (l : List ℤ) (e : low ≡ n - n / 2) (apart : to + n ≤ from) (room : from + n ≤ L) (sw : Swept L woven x (to + 2 * j) l) where
-    pub weave-turn : 2 * j + 1 < n → Swept L woven x (to + 2 * (j + 1)) (set (set l (to + 2 * j) (at l (from + j))) (to + 2 * j + 1) (at (set l (to + 2 * j) (at l (from + j))) (from + low + j)))
+    pub weave-turn : 2 * j + 1 < n → Swept L woven x (to + 2 * (j + 1))
+        (set (set l (to + 2 * j) (at l (from + j))) (to + 2 * j + 1) (at (set l (to + 2 * j) (at l (from + j))) (from + low + j)))
     weave-turn h =
         let a = at l (from + j) in
         let b = at (set l (to + 2 * j) a) (from + low + j) in
@@ -81,6 +86,7 @@ module _ (n : ℕ) (f : ℤ → ℤ) (x z : ℕ → ℤ) where
     lay-last h = store _ sw (omega arith) (laid-even j h)
 
 -- the last height drawn, and the row with it
-pub finish-drawn : (n : ℕ) (f : ℤ → ℤ) (x z : ℕ → ℤ) (L low j : ℕ) (out : List ℕ) (l : List ℤ) → low ≡ n - n / 2 → Swept L (laid n f x z) z (2 * j + 1) l → wholes out ≡ l → n ≤ 2 * j + 1 → heightsAt out ≡ laid n f x z
+pub finish-drawn : (n : ℕ) (f : ℤ → ℤ) (x z : ℕ → ℤ) (L low j : ℕ) (out : List ℕ) (l : List ℤ) → low ≡ n - n / 2 → Swept L (laid n f x z) z (2 * j + 1) l →
+    wholes out ≡ l → n ≤ 2 * j + 1 → heightsAt out ≡ laid n f x z
 finish-drawn n f x z L low j out l e sw is h =
     finish-heights out (rw (← is) at sw) (λ i le. front-rest n _ z i (omega arith))

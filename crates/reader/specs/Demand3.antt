@@ -1,33 +1,33 @@
 -- Demand 3 for the reader: document 01, "The lists of demand 3". One claim about a whole list of calls on a fresh reader and its line store.
--- "The words below go by the calls' arguments and answers, by nothing in the state.": what was fed, what was drawn and how far the steps are gone are functions of the list of events alone.
+-- "The words below go by the calls' arguments and answers, by nothing in the state.": what was fed, what was drawn and how far the steps are gone are functions
+-- of the list of events alone.
 use mathlib.Core.Path.{_≡_}
 use mathlib.Core.Logic.{_↔_}
 use mathlib.Core.Bool.{Bool, true, false}
 use mathlib.Core.List.{List, [], _∷_, _++_}
-use Prim.Native.Nat.{ℕ, suc, _≤_, _<_}
+use Prim.Native.Nat.{ℕ, suc, _-_, _≤_, _<_}
 use lib.IntN.{ℤ, pos}
 use lib.ListN.{length, getD}
 use lib.Dec.{leb, eqb}
-use Rattle.numbers.specs.Signal.{pick}
-use Rattle.numbers.specs.Word.{whole}
+use mir.Syntax.{w32}
+use mir.Val.{SFits}
+use Rattle.numbers.specs.Signal.{pick, both}
+use Rattle.numbers.specs.Word.{wrap32, whole}
 use Rattle.wavelet.specs.Bands.{Grid, code}
-use Rattle.wavelet.specs.Levels.{levelBand}
+use Rattle.wavelet.specs.Levels.{size, approximation, levelBand}
 use Rattle.wavelet.specs.View.{bandColumns}
 use Rattle.wavelet.specs.ViewCall.{bandRowExists}
-use Rattle.wavelet.specs.Maps.{IsMap}
+use Rattle.wavelet.specs.Maps.{IsMap, valueFits}
 use Rattle.wavelet.specs.Questions.{ask}
 use Rattle.wavelet.specs.Order.{RowName, inTurn, times}
 use Rattle.wavelet.specs.Steps.{Step, steps, bandRowsOf, heightRowsOf}
 use Rattle.wavelet.specs.Steps as step
 use Rattle.reader.specs.declared.Reader.{Reader}
-use Rattle.reader.specs.declared.Wanted.{Wanted}
-use Rattle.reader.specs.declared.Wanted.the-variants as want-is
-use Rattle.reader.specs.declared.Fed.{Fed}
-use Rattle.reader.specs.declared.Fed.the-variants as feed-is
-use Rattle.reader.specs.declared.Drawn.{Drawn}
-use Rattle.reader.specs.declared.Drawn.the-variants as draw-is
-use Rattle.reader.specs.Questions.{runFits, wantQuestion, feedQuestion, drawQuestion}
-use Rattle.reader.specs.Calls.{fresh, setUpStore, wantAnswer, feedAnswer, feedStore, drawAnswer, drawStore, drawArea}
+use Rattle.reader.specs.Sets.{setOf, rowAt}
+use Rattle.reader.specs.Answers.{Want, row, drawNow, done, ended, Handed, aRow}
+use Rattle.reader.specs.Answers as answer
+use Rattle.reader.specs.Questions.{runFits, countsFit, wantQuestion, feedQuestion, drawQuestion}
+use Rattle.reader.specs.Calls.{fresh, setUpStore, wantReply, feedReply, feedStore, drawReply, drawStore, drawArea}
 
 -- ---- calls, and what is seen of them
 -- an area that is lent, a run or an output area: its length and its numbers
@@ -41,15 +41,10 @@ pub data Call : Type 0 where
   feed : Area → Call
   draw : Area → Call
 
--- answers in document 01's terms, less the state: what a call gives, or the number of the question that turned it away, 14 too
+-- an answer less the state: what a call gives, or the number of the question that turned it away, 14 too
 pub data Reply (A : Type 0) : Type 0 where
   gives : A → Reply A
   refused : ℕ → Reply A
-
--- what is wanted. `row`: level, band's code, number and length of a band row
-pub data Want : Type 0 where
-  row : ℕ → ℕ → ℕ → ℕ → Want
-  drawNow done ended : Want
 
 -- what a draw gives: so many heights in the output area, or Nothing
 pub data Given : Type 0 where
@@ -62,23 +57,14 @@ pub data Event : Type 0 where
   fed : Area → Reply (Unit {0}) → Event
   drew : Area → Reply Given → Area → Event
 
-abbrev pub saidWant : Wanted → Reply Want
-saidWant (want-is.Row k b r n) = gives (row k b r n)
-saidWant want-is.Draw = gives drawNow
-saidWant want-is.Done = gives done
-saidWant want-is.Ended = gives ended
-saidWant (want-is.Refused q) = refused q
+abbrev pub said : {A B : Type 0} → (A → B) → answer.Reply A → Reply B
+said f (answer.gives v) = gives (f v)
+said f (answer.refused q) = refused q
+said f (answer.impossible s) = refused 14
 
-abbrev pub saidFeed : Fed → Reply (Unit {0})
-saidFeed (feed-is.Passed s) = gives tt
-saidFeed (feed-is.Impossible s) = refused 14
-saidFeed (feed-is.Refused q) = refused q
-
-abbrev pub saidDraw : Drawn → Reply Given
-saidDraw (draw-is.Heights n s) = gives (heights n)
-saidDraw draw-is.Nothing = gives nothing
-saidDraw (draw-is.Impossible s) = refused 14
-saidDraw (draw-is.Refused q) = refused q
+abbrev pub given : Handed → Given
+given (aRow n s) = heights n
+given answer.nothing = nothing
 
 -- ---- each call is made on the state and store that the one before left
 pub record World : Type 0 where
@@ -87,16 +73,14 @@ pub record World : Type 0 where
   pub store : ℕ → ℤ
 
 -- the state that a call leaves: its own before where it was turned away or gave Nothing
-abbrev pub leftByFeed : Reader → Fed → Reader
-leftByFeed s (feed-is.Passed t) = t
-leftByFeed s (feed-is.Impossible t) = t
-leftByFeed s (feed-is.Refused q) = s
+abbrev pub leaves : {A : Type 0} → (A → Reader) → Reader → answer.Reply A → Reader
+leaves f s (answer.gives v) = f v
+leaves f s (answer.refused q) = s
+leaves f s (answer.impossible t) = t
 
-abbrev pub leftByDraw : Reader → Drawn → Reader
-leftByDraw s (draw-is.Heights n t) = t
-leftByDraw s draw-is.Nothing = s
-leftByDraw s (draw-is.Impossible t) = t
-leftByDraw s (draw-is.Refused q) = s
+abbrev pub drawnTo : Reader → Handed → Reader
+drawnTo s (aRow n t) = t
+drawnTo s answer.nothing = s
 
 module _ (w : World) where
   -- the number of the question that turns a feed or a draw away
@@ -110,16 +94,24 @@ module _ (w : World) where
   areaAfter a = record { size = a .size; numbers = drawArea (w .reader) (drawAsked a) (w .store) (a .numbers) }
 
 unfoldable pub event : Call → World → Event
-event want w = wanted (saidWant (wantAnswer (w .reader) (wantQuestion (w .reader))))
-event (feed a) w = fed a (saidFeed (feedAnswer (w .reader) (feedAsked w a)))
-event (draw a) w = drew a (saidDraw (drawAnswer (w .reader) (drawAsked w a))) (areaAfter w a)
+event want w = wanted (said (λ v. v) (wantReply (w .reader) (wantQuestion (w .reader))))
+event (feed a) w = fed a (said (λ _. tt) (feedReply (w .reader) (feedAsked w a)))
+event (draw a) w = drew a (said given (drawReply (w .reader) (drawAsked w a))) (areaAfter w a)
 
 unfoldable pub next : Call → World → World
 next want w = w
 next (feed a) w =
-    record { reader = leftByFeed (w .reader) (feedAnswer (w .reader) (feedAsked w a)); length = w .length; store = feedStore (w .reader) (feedAsked w a) (a .numbers) (w .store) }
+    record {
+      reader = leaves (λ t. t) (w .reader) (feedReply (w .reader) (feedAsked w a));
+      length = w .length;
+      store = feedStore (w .reader) (feedAsked w a) (a .numbers) (w .store);
+    }
 next (draw a) w =
-    record { reader = leftByDraw (w .reader) (drawAnswer (w .reader) (drawAsked w a)); length = w .length; store = drawStore (w .reader) (drawAsked w a) (w .store) }
+    record {
+      reader = leaves (drawnTo (w .reader)) (w .reader) (drawReply (w .reader) (drawAsked w a));
+      length = w .length;
+      store = drawStore (w .reader) (drawAsked w a) (w .store);
+    }
 
 unfoldable pub events : List Call → World → List Event
 events [] w = []
@@ -205,9 +197,13 @@ pub data All {A : Type 0} (P : A → Type 0) : List A → Type 0 where
   none : All P []
   more : {x : A} {l : List A} → P x → All P l → All P (x ∷ l)
 
-pub record HasRow (W H : ℕ) (g : Grid) (f : FedRow) : Type 0 where
-  pub size : f .run .size ≡ bandColumns W (f .row .level) (f .row .band)
-  pub values : (i : ℕ) → i < bandColumns W (f .row .level) (f .row .band) → f .run .numbers i ≡ levelBand whole W H g (f .row .level) (f .row .band) (f .row .row) i
+-- a run a is band row x of a map g: its length, and T.800's whole numbers
+pub record IsRow (W H : ℕ) (g : Grid) (x : RowName) (a : Area) : Type 0 where
+  pub size : a .size ≡ bandColumns W (x .level) (x .band)
+  pub values : (i : ℕ) → i < bandColumns W (x .level) (x .band) → a .numbers i ≡ levelBand whole W H g (x .level) (x .band) (x .row) i
+
+abbrev pub HasRow : ℕ → ℕ → Grid → FedRow → Type 0
+HasRow W H g f = IsRow W H g (f .row) (f .run)
 
 pub record HasFed (W H L : ℕ) (g : Grid) (es : List Event) : Type 0 where
   pub map : IsMap W H g
@@ -216,6 +212,13 @@ pub record HasFed (W H L : ℕ) (g : Grid) (es : List Event) : Type 0 where
 -- the rows ys are the first rows of the map
 pub record FirstRows (W : ℕ) (g : Grid) (ys : List (ℕ → ℤ)) : Type 0 where
   pub are : (r c : ℕ) → r < length ys → c < W → getD ys r (λ _. pos 0) c ≡ g r c
+
+-- they are all the rows of a map that has the rows fed
+pub record AllDrawn (W H L : ℕ) (es : List Event) : Type 0 where
+  pub map : Grid
+  pub has : HasFed W H L map es
+  pub all : length (drawnRows es) ≡ H
+  pub first : FirstRows W map (drawnRows es)
 
 -- ---- the next call, with these steps left; e: 14 was given
 -- "The want is the next step, Done after the last, Ended after 14."
@@ -264,6 +267,40 @@ pub record Draws (W : ℕ) (e : Bool) (t : List Step) (a : Area) (seen : Event) 
   -- 14 only where a row would be given
   pub possible : answer ≡ refused 14 → drawSays W e t (a .size) ≡ gives (heights W)
 
+-- ---- "A set completed by a fed row is worked out in that feed", one without a fed row of its own in the next call that goes on
+-- a grid of 32-bit numbers has these rows, in the arithmetic of words
+abbrev pub IsWordRow : ℕ → ℕ → Grid → FedRow → Type 0
+IsWordRow W H g f =
+    (i : ℕ) → i < bandColumns W (f .row .level) (f .row .band) → f .run .numbers i ≡ levelBand wrap32 W H g (f .row .level) (f .row .band) (f .row .row) i
+
+pub record HasWords (W H : ℕ) (g : Grid) (fs : List FedRow) : Type 0 where
+  pub words : (r c : ℕ) → r < H → c < W → SFits w32 (g r c)
+  pub rows : All (IsWordRow W H g) fs
+
+-- while row d is waited for, the rows that the sets of the levels above k make fit (`rowAt`: the set that each level is at; `setOf`: the set that makes a row)
+pub record SetsFit (W H L : ℕ) (g : Grid) (d k : ℕ) : Type 0 where
+  pub fit : (j r c : ℕ) → k ≤ j → j < L → r < size j H → setOf (size j H) r ≡ rowAt H d (suc j) → c < size j W →
+      valueFits j (approximation wrap32 W H g j r c) ≡ true
+
+-- of every grid that has the rows fs
+abbrev pub Worked : ℕ → ℕ → ℕ → List FedRow → ℕ → ℕ → Type 0
+Worked W H L fs d k = (g : Grid) → HasWords W H g fs → SetsFit W H L g d k
+
+-- the next of the steps t is a row of the same set as x
+unfoldable pub goesOnSet : RowName → List Step → Bool
+goesOnSet x [] = false
+goesOnSet x (step.feed y ∷ t) = both (eqb (y .level) (x .level)) (eqb (y .row) (x .row))
+goesOnSet x (step.draw r ∷ t) = false
+
+-- a feed of row x, with the steps t after it: its own set is worked out with it if x is the last of it
+unfoldable pub workedAbove : RowName → List Step → ℕ
+workedAbove x t = pick (goesOnSet x t) (x .level) (x .level - 1)
+
+-- a feed of the run a as row x goes on, with the steps t after it
+pub record FeedGoes (W H L : ℕ) (es : List Event) (then : Call → Event) (a : Area) (x : RowName) (t : List Step) : Type 0 where
+  pub next : left (steps W H L) es ≡ step.feed x ∷ t
+  pub passes : then (feed a) ≡ fed a (gives tt)
+
 -- ---- the claim, of the events es of any list of calls; `then` is what would be seen of a further call
 pub record Demand3 (W H L : ℕ) (es : List Event) (then : Call → Event) : Type 0 where
   -- "one list of steps: each band row to feed, once, and each height row to draw, once"
@@ -280,5 +317,14 @@ pub record Demand3 (W H L : ℕ) (es : List Event) (then : Call → Event) : Typ
   pub first : (g : Grid) → HasFed W H L g es → FirstRows W g (drawnRows es)
   -- "14 comes only if no map has them."
   pub impossible : endedBy es ≡ true → (g : Grid) → HasFed W H L g es → ⊥
+  -- a call that goes on has worked out what is due, and it fits: 14 comes no later
+  pub feed-works : (a : Area) (x : RowName) (t : List Step) → FeedGoes W H L es then a x t →
+      Worked W H L (fedRows (steps W H L) es ++ (record { row = x; run = a } ∷ [])) (length (drawnRows es)) (workedAbove x t)
+  pub draw-works : (a b : Area) → then (draw a) ≡ drew a (gives (heights W)) b → Worked W H L (fedRows (steps W H L) es) (length (drawnRows es)) 0
   -- it says Done exactly when the heights drawn are all of such a map
-  pub finished : then want ≡ wanted (gives done) ↔ (g : Grid) × HasFed W H L g es × (length (drawnRows es) ≡ H) × FirstRows W g (drawnRows es)
+  pub finished : then want ≡ wanted (gives done) ↔ AllDrawn W H L es
+
+-- of a list of calls on a fresh reader: "a state reached by calls always passes" question 1, and the claim
+pub record OfCalls (W H L n : ℕ) (x : ℕ → ℤ) (cs : List Call) : Type 0 where
+  pub in-range : countsFit (final cs (freshWorld W H L n x) .reader) ≡ true
+  pub claim : Demand3 W H L (events cs (freshWorld W H L n x)) (λ c. event c (final cs (freshWorld W H L n x)))

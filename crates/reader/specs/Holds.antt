@@ -12,24 +12,18 @@ use Rattle.lifting.specs.Line.{Half, hi, count, parted}
 use Rattle.wavelet.specs.Bands.{Grid, Band, code, across, down, columnsLifted, subband}
 use Rattle.wavelet.specs.Levels.{size, approximation, levelBand}
 use Rattle.wavelet.specs.Maps.{valueFits}
-use Rattle.wavelet.proofs.LevelTheory.{placed}
 use Rattle.reader.specs.declared.Reader.{Reader}
-use Rattle.reader.specs.declared.SetUp.{SetUp}
-use Rattle.reader.specs.declared.SetUp.the-variants as up
-use Rattle.reader.specs.declared.Fed.{Fed}
-use Rattle.reader.specs.declared.Fed.the-variants as fed
-use Rattle.reader.specs.declared.Drawn.{Drawn}
-use Rattle.reader.specs.declared.Drawn.the-variants as drawn
+use Rattle.reader.specs.Answers.{Reply, gives, impossible, Handed, aRow}
 use Rattle.reader.specs.Sets.{setOf, rowAt}
 use Rattle.reader.specs.Asked.{keptAt, named}
-use Rattle.reader.specs.Slots.{rowPlace, setRow}
+use Rattle.reader.specs.Slots.{rowPlace, setRow, halfPlace}
 use Rattle.reader.specs.Store.{stretchAt, from}
 use Rattle.reader.specs.State.{next, nextRow, nextLength}
 
 -- ---- a level that splits the grid G of w columns and h rows, in the memory x
 -- in the slot of row r stands a row by its halves: two band rows, or the even and the odd places of a line
 abbrev pub RowStands : ℕ → (ℕ → ℤ) → ℕ → (Half → ℕ → ℤ) → Type 0
-RowStands w x r c = (h : Half) (i : ℕ) → i < count h w → x (rowPlace w r + placed h w i) ≡ c h i
+RowStands w x r c = (h : Half) (i : ℕ) → i < count h w → x (rowPlace w r + (halfPlace h w + i)) ≡ c h i
 
 -- what set n leaves: the rows that it makes, which fit as low-low values of level k, and its high row of the columns for the next set
 pub record SetLeaves (k w h : ℕ) (G : Grid) (n : ℕ) (x : ℕ → ℤ) : Type 0 where
@@ -45,7 +39,7 @@ pub record SetBefore (w h : ℕ) (G : Grid) (n : ℕ) (x : ℕ → ℤ) : Type 0
 -- row n of band c, if there is one
 abbrev pub BandStands : ℕ → ℕ → Grid → ℕ → (ℕ → ℤ) → Band → Type 0
 BandStands w h G n x c =
-    n < count (down c) h → (i : ℕ) → i < count (across c) w → x (rowPlace w (setRow (down c) n) + placed (across c) w i) ≡ subband wrap32 w h G c n i
+    n < count (down c) h → (i : ℕ) → i < count (across c) w → x (rowPlace w (setRow (down c) n) + (halfPlace (across c) w + i)) ≡ subband wrap32 w h G c n i
 
 -- ---- the reader's store, while row `drawn` is waited for: levels coarser than `level` have their set, it has the bands before `band`, finer ones wait
 module _ (g : Grid) (s : Reader) where
@@ -56,9 +50,12 @@ module _ (g : Grid) (s : Reader) where
   set k = rowAt (s .height) (s .drawn) (suc k)
 
   pub record Holds (x : ℕ → ℤ) : Type 0 where
-    pub below : s .drawn < s .height → (k : ℕ) → k < s .levels → s .level ≤ k → SetLeaves k (size k (s .width)) (size k (s .height)) (part k) (set k) (from (stretchAt (s .width) k) x)
-    pub before : s .drawn < s .height → (k : ℕ) → k < s .levels → k < s .level → SetBefore (size k (s .width)) (size k (s .height)) (part k) (set k) (from (stretchAt (s .width) k) x)
-    pub got : s .drawn < s .height → (k : ℕ) → k < s .levels → suc k ≡ s .level → (c : Band) → keptAt (eqb (suc k) (s .levels)) c ≡ true → code c < s .band → BandStands (size k (s .width)) (size k (s .height)) (part k) (set k) (from (stretchAt (s .width) k) x) c
+    pub below : s .drawn < s .height → (k : ℕ) → k < s .levels → s .level ≤ k →
+        SetLeaves k (size k (s .width)) (size k (s .height)) (part k) (set k) (from (stretchAt (s .width) k) x)
+    pub before : s .drawn < s .height → (k : ℕ) → k < s .levels → k < s .level →
+        SetBefore (size k (s .width)) (size k (s .height)) (part k) (set k) (from (stretchAt (s .width) k) x)
+    pub got : s .drawn < s .height → (k : ℕ) → k < s .levels → suc k ≡ s .level → (c : Band) → keptAt (eqb (suc k) (s .levels)) c ≡ true → code c < s .band →
+        BandStands (size k (s .width)) (size k (s .height)) (part k) (set k) (from (stretchAt (s .width) k) x) c
 
   -- g is a grid of 32-bit numbers; it and its low-low parts below level L fit
   abbrev pub Words : Type 0
@@ -72,15 +69,16 @@ module _ (g : Grid) (s : Reader) where
   IsWanted v = (i : ℕ) → i < nextLength s → v i ≡ levelBand wrap32 (s .width) (s .height) g (next s .level) (named (next s .band)) (nextRow s) i
 
 -- ---- what each call keeps, by its answer, for every grid: x and x′ are the store before and after
-pub record SetUpHolds (r : SetUp) (x : ℕ → ℤ) : Type 0 where
-  pub ready : (s : Reader) → r ≡ up.Ready s → (g : Grid) → Holds g s x
+pub record SetUpHolds (r : Reply Reader) (x : ℕ → ℤ) : Type 0 where
+  pub ready : (s : Reader) → r ≡ gives s → (g : Grid) → Holds g s x
 
 -- a feed of g's row goes on to hold g; it gives 14 only if g has a value that does not fit
-pub record FeedKeeps (s : Reader) (v x : ℕ → ℤ) (r : Fed) (x′ : ℕ → ℤ) : Type 0 where
-  pub passed : (t : Reader) → r ≡ fed.Passed t → (g : Grid) → Words g s → IsWanted g s v → Holds g s x → Holds g t x′
-  pub impossible : (t : Reader) → r ≡ fed.Impossible t → (g : Grid) → Words g s → IsWanted g s v → Holds g s x → AllFit g s → ⊥
+pub record FeedKeeps (s : Reader) (v x : ℕ → ℤ) (r : Reply Reader) (x′ : ℕ → ℤ) : Type 0 where
+  pub passed : (t : Reader) → r ≡ gives t → (g : Grid) → Words g s → IsWanted g s v → Holds g s x → Holds g t x′
+  pub ended : (t : Reader) → r ≡ impossible t → (g : Grid) → Words g s → IsWanted g s v → Holds g s x → AllFit g s → ⊥
 
 -- a draw gives g's row in the area z′, and goes on to hold g; 14 likewise
-pub record DrawKeeps (s : Reader) (x : ℕ → ℤ) (r : Drawn) (x′ z′ : ℕ → ℤ) : Type 0 where
-  pub passed : (n : ℕ) (t : Reader) → r ≡ drawn.Heights n t → (g : Grid) → Words g s → Holds g s x → Holds g t x′ × ((c : ℕ) → c < s .width → z′ c ≡ g (s .drawn) c)
-  pub impossible : (t : Reader) → r ≡ drawn.Impossible t → (g : Grid) → Words g s → Holds g s x → AllFit g s → ⊥
+pub record DrawKeeps (s : Reader) (x : ℕ → ℤ) (r : Reply Handed) (x′ z′ : ℕ → ℤ) : Type 0 where
+  pub passed : (n : ℕ) (t : Reader) → r ≡ gives (aRow n t) → (g : Grid) → Words g s → Holds g s x →
+      Holds g t x′ × ((c : ℕ) → c < s .width → z′ c ≡ g (s .drawn) c)
+  pub ended : (t : Reader) → r ≡ impossible t → (g : Grid) → Words g s → Holds g s x → AllFit g s → ⊥

@@ -1,9 +1,13 @@
--- What the private functions of the reader require and ensure of each other.
+-- What the private functions of the reader require and ensure of each other. No public contract cites it.
 use mathlib.Core.Path.{_≡_}
-use Prim.Native.Nat.{ℕ, suc, _≤_, _<_}
-use lib.IntN.{ℤ}
+use mathlib.Core.Bool.{Bool, not}
+use mathlib.Core.List.{List, map}
+use Prim.Native.Nat.{ℕ, zero, suc, _≤_, _<_}
+use lib.IntN.{ℤ, pos, _-ℤ_}
+use lib.Signed.{leZ}
 use lib.Dec.{eqb}
-use Rattle.wavelet.specs.Limits.{maxWidth, maxHeight, maxLevels}
+use Rattle.numbers.specs.Signal.{both}
+use Rattle.wavelet.specs.Limits.{maxWidth, maxHeight, maxLevels, range}
 use Rattle.wavelet.specs.Levels.{size}
 use Rattle.wavelet.specs.Questions.{ask}
 use Rattle.reader.specs.declared.Reader.{Reader}
@@ -13,8 +17,22 @@ use Rattle.reader.specs.Sets.{rowAt}
 use Rattle.reader.specs.Store.{stretchAt}
 use Rattle.reader.specs.Machine.{Place}
 use Rattle.reader.specs.State.{next, nextLength, rowDue}
-use Rattle.reader.specs.Questions.{not, countsFit, storeFits, runFits}
+use Rattle.reader.specs.Questions.{countsFit, storeFits, runFits}
 
+-- ---- numbers of an area, one by one
+abbrev pub wholes : List ℕ → List ℤ
+wholes l = map pos l
+
+-- a number from low to high
+unfoldable pub between : ℤ → ℤ → ℤ → Bool
+between low high v = both (leZ low v) (leZ v high)
+
+-- the least value that the rows of level k's low-low part may have: 0 for heights, k = 0
+unfoldable pub lowestOf : ℕ → ℤ
+lowestOf zero = pos 0
+lowestOf (suc k) = pos 0 -ℤ pos (range (suc k))
+
+-- ---- a reader and its places
 -- every count is inside its range
 pub record Counts (s : Reader) : Type 0 where
   pub wide : (1 ≤ s .width) × (s .width ≤ maxWidth)

@@ -6,6 +6,7 @@ pub mod Slots
 pub mod Work
 pub mod Store
 pub mod Machine
+pub mod Answers
 pub mod State
 pub mod Questions
 pub mod Calls

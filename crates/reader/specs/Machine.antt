@@ -1,8 +1,10 @@
 -- The reader's machine: which row is wanted, which sets are worked out on the way, and where the reader is after a row fed or drawn.
--- Where it is: `drawn` height rows are drawn; rows of `level` are collected (0: a height row can be drawn), and `band` is the code of the first band that may be next.
+-- Where it is: `drawn` height rows are drawn; rows of `level` are collected (0: a height row can be drawn), and `band` is the code of the first band that may
+-- be next.
+use mathlib.Core.Bool.{Bool}
 use Prim.Native.Nat.{ℕ, zero, suc, _+_}
 use lib.IntN.{ℤ}
-use lib.Dec.{ltb, eqb}
+use lib.Dec.{leb, ltb, eqb}
 use Rattle.numbers.specs.Signal.{pick}
 use Rattle.wavelet.specs.Levels.{size}
 use Rattle.reader.specs.Sets.{opens, rowAt}
@@ -34,13 +36,17 @@ module _ (W H L d : ℕ) where
   settled to zero x = passed x
   settled to (suc k) x = pick (ltb to (suc k)) (bind (workedAt W H L d k x) (settled to k)) (passed x)
 
-  -- "A set completed by a fed row is worked out in that feed": level k + 1, its row with band code c fed
+  -- the row with band code c completes its set, that of level k + 1: no band after it is asked for
+  unfoldable pub lastOfSet : ℕ → ℕ → Bool
+  lastOfSet k c = leb 4 (bandAt k (c + 1))
+
+  -- "A set completed by a fed row is worked out in that feed"
   unfoldable pub finished : ℕ → ℕ → (ℕ → ℤ) → Tried
-  finished k c x = pick (ltb (bandAt k (c + 1)) 4) (passed x) (workedAt W H L d k x)
+  finished k c x = pick (lastOfSet k c) (workedAt W H L d k x) (passed x)
 
   -- and then the reader goes on from there
   unfoldable pub beyond : ℕ → ℕ → Place
-  beyond k c = pick (ltb (bandAt k (c + 1)) 4) (place (suc k) (c + 1)) (place k 1)
+  beyond k c = pick (lastOfSet k c) (place k 1) (place (suc k) (c + 1))
 
   -- a row wanted at this place is fed
   unfoldable pub fedOn : ℕ → ℕ → (ℕ → ℤ) → (ℕ → ℤ) → Tried

@@ -1,52 +1,68 @@
--- The reader fed and drawn as it wants, for the theorem that joins writer and reader: each band row that it names with the numbers that `rows` has under that name, each height row into the area `out`.
+-- The reader fed and drawn as it wants, for the theorem that joins writer and reader.
+-- Each band row that it names is fed as the run that `rows` has under that name, with that run's own length; each height row is drawn into an area of its own
+-- turn.
 -- `want` may be asked at any time and changes nothing, so it is no call of the list.
 use mathlib.Core.Path.{_≡_}
 use mathlib.Core.Bool.{true}
 use mathlib.Core.List.{List, [], _∷_, _++_}
-use Prim.Native.Nat.{ℕ, zero, suc, _<_}
-use lib.IntN.{ℤ}
+use Prim.Native.Nat.{ℕ, zero, suc}
 use lib.ListN.{length}
-use Rattle.numbers.specs.Word.{whole}
 use Rattle.wavelet.specs.Bands.{Grid}
-use Rattle.wavelet.specs.Levels.{levelBand}
 use Rattle.wavelet.specs.View.{bandColumns}
 use Rattle.wavelet.specs.ViewCall.{bandRowExists}
 use Rattle.wavelet.specs.Maps.{IsMap}
 use Rattle.wavelet.specs.Order.{RowName, rowName}
 use Rattle.reader.specs.Asked.{named}
-use Rattle.reader.specs.Demand3.{Area, Call, want, feed, draw, gives, refused, Want, row, drawNow, done, ended, Event, wanted, fed, drew, World, event, final, drawnRows, FirstRows}
+use Rattle.reader.specs.Answers.{Want, row, drawNow, done, ended}
+use Rattle.reader.specs.Demand3.{Area, Call, want, feed, draw, gives, refused, Event, wanted, fed, drew, World, event, final, drawnRows, IsRow, FirstRows}
 
-module _ (rows : RowName → ℕ → ℤ) (out : Area) where
-  -- the call that an answer to `want` asks for
-  unfoldable pub asWanted : Want → List Call
-  asWanted (row k c r n) = feed (record { size = n; numbers = rows (rowName k (named c) r) }) ∷ []
-  asWanted drawNow = draw out ∷ []
-  asWanted done = []
-  asWanted ended = []
+module _ (rows : RowName → Area) where
+  -- the call that an answer to `want` asks for, with the output area a
+  unfoldable pub asWanted : Area → Want → List Call
+  asWanted a (row k c r n) = feed (rows (rowName k (named c) r)) ∷ []
+  asWanted a drawNow = draw a ∷ []
+  asWanted a done = []
+  asWanted a ended = []
 
-  unfoldable pub answering : Event → List Call
-  answering (wanted (gives v)) = asWanted v
-  answering (wanted (refused q)) = []
-  answering (fed a v) = []
-  answering (drew a v b) = []
+  unfoldable pub answering : Area → Event → List Call
+  answering a (wanted (gives v)) = asWanted a v
+  answering a (wanted (refused q)) = []
+  answering a (fed b v) = []
+  answering a (drew b v c) = []
 
-  -- so many turns
-  unfoldable pub played : ℕ → World → List Call
-  played zero w = []
-  played (suc m) w = answering (event want w) ++ played m (final (answering (event want w)) w)
+  -- so many turns; `outs m` is the area of the turn that leaves m of them
+  unfoldable pub played : (ℕ → Area) → ℕ → World → List Call
+  played outs zero w = []
+  played outs (suc m) w = answering (outs m) (event want w) ++ played outs m (final (answering (outs m) (event want w)) w)
 
--- a map has all these rows for its plane
-pub record HasAll (W H L : ℕ) (g : Grid) (rows : RowName → ℕ → ℤ) : Type 0 where
-  pub values : (x : RowName) → bandRowExists W H L (x .level) (x .band) (x .row) ≡ true → (i : ℕ) → i < bandColumns W (x .level) (x .band) → rows x i ≡ levelBand whole W H g (x .level) (x .band) (x .row) i
+-- ---- the rows of a plane
+-- each has its length
+pub record Sized (W H L : ℕ) (rows : RowName → Area) : Type 0 where
+  pub size : (x : RowName) → bandRowExists W H L (x .level) (x .band) (x .row) ≡ true → rows x .size ≡ bandColumns W (x .level) (x .band)
 
--- one of the calls gave 7 or 14
+-- a map has all of them for its plane
+pub record HasAll (W H L : ℕ) (g : Grid) (rows : RowName → Area) : Type 0 where
+  pub are : (x : RowName) → bandRowExists W H L (x .level) (x .band) (x .row) ≡ true → IsRow W H g x (rows x)
+
+-- ---- one of the calls gave 7 or 14
 pub data Refusal : List Event → Type 0 where
   seven : {a : Area} {es : List Event} → Refusal (fed a (refused 7) ∷ es)
   fed-fourteen : {a : Area} {es : List Event} → Refusal (fed a (refused 14) ∷ es)
   drawn-fourteen : {a b : Area} {es : List Event} → Refusal (drew a (refused 14) b ∷ es)
   after : {e : Event} {es : List Event} → Refusal es → Refusal (e ∷ es)
 
--- with the rows of a map it hands back every height of that map, in order, and says Done; with rows that no map has, it gives 7 or 14 and does not say Done
-pub record Played (W H L : ℕ) (rows : RowName → ℕ → ℤ) (es : List Event) (then : Call → Event) : Type 0 where
-  pub map-back : (g : Grid) → IsMap W H g → HasAll W H L g rows → (length (drawnRows es) ≡ H) × FirstRows W g (drawnRows es) × (then want ≡ wanted (gives done))
-  pub no-map : ((g : Grid) → IsMap W H g → HasAll W H L g rows → ⊥) → Refusal es × (then want ≡ wanted (gives done) → ⊥)
+-- every height of the map g was handed back, in order, and then Done is said
+pub record Back (W H : ℕ) (g : Grid) (es : List Event) (then : Call → Event) : Type 0 where
+  pub all : length (drawnRows es) ≡ H
+  pub heights : FirstRows W g (drawnRows es)
+  pub says : then want ≡ wanted (gives done)
+
+-- 7 or 14 was given, and then Done is not said
+pub record Stopped (es : List Event) (then : Call → Event) : Type 0 where
+  pub refusal : Refusal es
+  pub not-done : then want ≡ wanted (gives done) → ⊥
+
+-- ---- of the rows of a map it hands back that map; of rows that no map has, each of its length, it stops
+pub record Played (W H L : ℕ) (rows : RowName → Area) (es : List Event) (then : Call → Event) : Type 0 where
+  pub map-back : (g : Grid) → IsMap W H g → HasAll W H L g rows → Back W H g es then
+  pub no-map : Sized W H L rows → ((g : Grid) → IsMap W H g → HasAll W H L g rows → ⊥) → Stopped es then

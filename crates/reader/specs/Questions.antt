@@ -1,5 +1,5 @@
 -- The gate questions of each call, in the order of document 01. "The first no gives its number, and nothing changes." 0: no question says no.
-use mathlib.Core.Bool.{Bool, true, false}
+use mathlib.Core.Bool.{Bool, not}
 use Prim.Native.Nat.{ℕ}
 use lib.IntN.{ℤ, natAbs}
 use lib.Dec.{leb, eqb}
@@ -11,9 +11,6 @@ use Rattle.wavelet.specs.Store.{storeLength}
 use Rattle.reader.specs.declared.Reader.{Reader}
 use Rattle.reader.specs.Tried.{fits}
 use Rattle.reader.specs.State.{next, nextLength, rowDue, drawDue, settles, feeds}
-
-abbrev pub not : Bool → Bool
-not b = pick b false true
 
 -- question 1: "Is every count in the state inside its range?"
 unfoldable pub countsFit : Reader → Bool

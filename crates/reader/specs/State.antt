@@ -6,10 +6,9 @@ use lib.Dec.{ltb, eqb}
 use Rattle.numbers.specs.Signal.{pick, both}
 use Rattle.wavelet.specs.View.{bandColumns}
 use Rattle.reader.specs.declared.Reader.{Reader}
-use Rattle.reader.specs.declared.Wanted.{Wanted}
-use Rattle.reader.specs.declared.Wanted.the-variants.{Row, Draw, Done, Ended}
 use Rattle.reader.specs.Sets.{rowAt}
 use Rattle.reader.specs.Asked.{named}
+use Rattle.reader.specs.Answers.{Want, row, drawNow, done, ended}
 use Rattle.reader.specs.Tried.{Tried, bind}
 use Rattle.reader.specs.Machine.{Place, nextAt, settled, fedOn, placeFed, enter}
 
@@ -36,12 +35,12 @@ module _ (s : Reader) where
   drawDue = both unfinished (eqb (next .level) 0)
 
   -- "It names the band row it wants, or says Draw when a height row can be drawn, or Done when all are drawn, or Ended after 14."
-  unfoldable pub wants : Wanted
+  unfoldable pub wants : Want
   wants =
-      pick (s .ended) Ended
+      pick (s .ended) ended
       (pick unfinished
-      (pick (ltb 0 (next .level)) (Row (next .level) (next .band) nextRow nextLength) Draw)
-      Done)
+      (pick (ltb 0 (next .level)) (row (next .level) (next .band) nextRow nextLength) drawNow)
+      done)
 
   -- the sets that wait, worked out
   unfoldable pub settles : (ℕ → ℤ) → Tried

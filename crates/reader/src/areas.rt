@@ -1,4 +1,5 @@
-// What is done to stretches of numbers: copied, cleared, tested, woven from halves into their own order. The module is private: only this crate, which meets what is required, can call it.
+// What is done to stretches of numbers: copied, cleared, tested, woven from halves into their own order. The module is private: only this crate, which meets
+// what is required, can call it.
 ghost use mathlib.Core.Path.{_≡_};
 ghost use Prim.Native.Nat.{_+_, _<_, _≤_};
 ghost use lib.IntN.{pos};
@@ -7,7 +8,8 @@ ghost use Rattle.numbers.specs.Signal.{at, windowed, spliced};
 ghost use Rattle.lifting.specs.Line.{joined};
 ghost use Rattle.lifting.specs.Halves.{halvesOf, fronted};
 ghost use Rattle.wavelet.specs.Maps.{every};
-ghost use Rattle.reader.specs.Areas.{between, height16, heightsAt, wholes};
+ghost use Rattle.reader.specs.Areas.{height16, heightsAt};
+ghost use Rattle.reader.specs.Inside.{between, wholes};
 
 // Numbers copied to the front of `to`.
 pub fn copy(from: &[i32], to: &mut [i32])
@@ -91,7 +93,9 @@ fn draw_at(row: &[i32], q: usize, out: &mut [u16], p: usize)
 // A row in halves to heights in their own order, each modulo 65,536: a pair a turn.
 pub fn draw_heights(row: &[i32], out: &mut [u16])
     requires { ⌜ length (now row) ≤ length (now out) ⌝ }
-    ensures { λ _. ⌜ heightsAt (now (out .exit)) ≡ fronted (length (now (row .entry))) (λ c. height16 (joined (halvesOf (length (now (row .entry))) (at (now (row .entry)))) c)) (heightsAt (now (out .entry))) ⌝ }
+    ensures { λ _. ⌜ heightsAt (now (out .exit)) ≡
+        fronted (length (now (row .entry))) (λ c. height16 (joined (halvesOf (length (now (row .entry))) (at (now (row .entry)))) c))
+        (heightsAt (now (out .entry))) ⌝ }
 {
     let n = row.len();
     let high = n / 2;

@@ -16,9 +16,11 @@ ghost use Rattle.reader.specs.Machine.{place};
 ghost use Rattle.reader.specs.State.{movedTo, endedReader};
 ghost use Rattle.reader.specs.Questions.{setUpQuestion, wantQuestion, feedQuestion, drawQuestion};
 ghost use Rattle.reader.specs.Holds.{SetUpHolds, FeedKeeps, DrawKeeps};
-ghost use Rattle.reader.specs.Calls.{setUpNumber, wantNumber, feedNumber, drawNumber, setUpAnswer, setUpStore, wantAnswer, feedAnswer, feedStore, drawAnswer, drawStore, drawArea};
+ghost use Rattle.reader.specs.Answers.{ofSetUp, ofWanted, ofFed, ofDrawn};
+ghost use Rattle.reader.specs.Calls.{setUpReply, setUpStore, wantReply, feedReply, feedStore, drawReply, drawStore, drawArea};
 
-// The counts of a reader; docs/STATE.md gives their ranges. `drawn` height rows are drawn; rows of `level` are collected (0: a height row can be drawn), and `band` is the code of the first band that may be next.
+// The counts of a reader; docs/STATE.md gives their ranges. `drawn` height rows are drawn; rows of `level` are collected (0: a height row can be drawn), and
+// `band` is the code of the first band that may be next.
 pub struct Reader {
     pub width: usize,
     pub height: usize,
@@ -86,10 +88,10 @@ impl Reader {
 
     // A fresh reader; the needed part of the line store is zeroed. The questions are 2, 3, 4 and 5.
     pub fn set_up(width: usize, height: usize, levels: usize, store: &mut [i32]) -> SetUp
-        ensures number { λ r. ⌜ setUpNumber r ≡ setUpQuestion width height levels (length (now (store .entry))) ⌝ }
-        ensures answer { λ r. ⌜ r ≡ setUpAnswer width height levels (setUpQuestion width height levels (length (now (store .entry)))) ⌝ }
-        ensures kept { λ _. ⌜ at (now (store .exit)) ≡ setUpStore width levels (setUpQuestion width height levels (length (now (store .entry)))) (at (now (store .entry))) ⌝ }
-        ensures meaning { λ r. ⌜ SetUpHolds r (at (now (store .exit))) ⌝ }
+        ensures answer { λ r. ⌜ ofSetUp r ≡ setUpReply width height levels (setUpQuestion width height levels (length (now (store .entry)))) ⌝ }
+        ensures kept { λ _. ⌜ at (now (store .exit)) ≡
+            setUpStore width levels (setUpQuestion width height levels (length (now (store .entry)))) (at (now (store .entry))) ⌝ }
+        ensures meaning { λ r. ⌜ SetUpHolds (ofSetUp r) (at (now (store .exit))) ⌝ }
     {
         let q = questions::set_up_question(width, height, levels, store.len());
         if q != 0 {
@@ -110,8 +112,7 @@ impl Reader {
 
     // The band row wanted, or Draw, Done or Ended. Question 1 is asked.
     pub fn want(self) -> Wanted
-        ensures number { λ r. ⌜ wantNumber r ≡ wantQuestion self ⌝ }
-        ensures answer { λ r. ⌜ r ≡ wantAnswer self (wantQuestion self) ⌝ }
+        ensures answer { λ r. ⌜ ofWanted r ≡ wantReply self (wantQuestion self) ⌝ }
     {
         if !questions::counts_fit(self) {
             return Wanted::Refused(1);
@@ -136,10 +137,14 @@ impl Reader {
 
     // The row wanted is fed. The questions are 1, 5, 9, 8, 13, 7 and 14.
     pub fn feed(self, store: &mut [i32], run: &[i32]) -> Fed
-        ensures number { λ r. ⌜ feedNumber r ≡ feedQuestion self (length (now (store .entry))) (at (now (store .entry))) (length (now (run .entry))) (at (now (run .entry))) ⌝ }
-        ensures answer { λ r. ⌜ r ≡ feedAnswer self (feedQuestion self (length (now (store .entry))) (at (now (store .entry))) (length (now (run .entry))) (at (now (run .entry)))) ⌝ }
-        ensures kept { λ _. ⌜ at (now (store .exit)) ≡ feedStore self (feedQuestion self (length (now (store .entry))) (at (now (store .entry))) (length (now (run .entry))) (at (now (run .entry)))) (at (now (run .entry))) (at (now (store .entry))) ⌝ }
-        ensures meaning { λ r. ⌜ FeedKeeps self (at (now (run .entry))) (at (now (store .entry))) r (at (now (store .exit))) ⌝ }
+        ensures answer { λ r. ⌜ ofFed r ≡
+            feedReply self
+            (feedQuestion self (length (now (store .entry))) (at (now (store .entry))) (length (now (run .entry))) (at (now (run .entry)))) ⌝ }
+        ensures kept { λ _. ⌜ at (now (store .exit)) ≡
+            feedStore self
+            (feedQuestion self (length (now (store .entry))) (at (now (store .entry))) (length (now (run .entry))) (at (now (run .entry))))
+            (at (now (run .entry))) (at (now (store .entry))) ⌝ }
+        ensures meaning { λ r. ⌜ FeedKeeps self (at (now (run .entry))) (at (now (store .entry))) (ofFed r) (at (now (store .exit))) ⌝ }
     {
         let q = questions::store_question(self, store.len());
         if q != 0 {
@@ -160,11 +165,15 @@ impl Reader {
 
     // A height row is drawn, if one can be. The questions are 1, 5, 9 and, with a row to give, 12 and 14.
     pub fn draw(self, store: &mut [i32], out: &mut [u16]) -> Drawn
-        ensures number { λ r. ⌜ drawNumber r ≡ drawQuestion self (length (now (store .entry))) (at (now (store .entry))) (length (now (out .entry))) ⌝ }
-        ensures answer { λ r. ⌜ r ≡ drawAnswer self (drawQuestion self (length (now (store .entry))) (at (now (store .entry))) (length (now (out .entry)))) ⌝ }
-        ensures kept { λ _. ⌜ at (now (store .exit)) ≡ drawStore self (drawQuestion self (length (now (store .entry))) (at (now (store .entry))) (length (now (out .entry)))) (at (now (store .entry))) ⌝ }
-        ensures heights { λ _. ⌜ heightsAt (now (out .exit)) ≡ drawArea self (drawQuestion self (length (now (store .entry))) (at (now (store .entry))) (length (now (out .entry)))) (at (now (store .entry))) (heightsAt (now (out .entry))) ⌝ }
-        ensures meaning { λ r. ⌜ DrawKeeps self (at (now (store .entry))) r (at (now (store .exit))) (heightsAt (now (out .exit))) ⌝ }
+        ensures answer { λ r. ⌜ ofDrawn r ≡
+            drawReply self (drawQuestion self (length (now (store .entry))) (at (now (store .entry))) (length (now (out .entry)))) ⌝ }
+        ensures kept { λ _. ⌜ at (now (store .exit)) ≡
+            drawStore self (drawQuestion self (length (now (store .entry))) (at (now (store .entry))) (length (now (out .entry))))
+            (at (now (store .entry))) ⌝ }
+        ensures heights { λ _. ⌜ heightsAt (now (out .exit)) ≡
+            drawArea self (drawQuestion self (length (now (store .entry))) (at (now (store .entry))) (length (now (out .entry))))
+            (at (now (store .entry))) (heightsAt (now (out .entry))) ⌝ }
+        ensures meaning { λ r. ⌜ DrawKeeps self (at (now (store .entry))) (ofDrawn r) (at (now (store .exit))) (heightsAt (now (out .exit))) ⌝ }
     {
         let q = questions::store_question(self, store.len());
         if q != 0 {

@@ -1,4 +1,5 @@
-// The walk over the levels of a map of `width` × `height`, while row `drawn` is waited for: the stretch and the set of each level, the row wanted, the sets worked out on the way. The module is private, as `areas` is.
+// The walk over the levels of a map of `width` × `height`, while row `drawn` is waited for: the stretch and the set of each level, the row wanted, the sets
+// worked out on the way. The module is private, as `areas` is.
 use crate::areas;
 use crate::sets;
 use crate::work;
@@ -16,7 +17,7 @@ ghost use Rattle.reader.specs.Tried.{outcome};
 ghost use Rattle.reader.specs.Slots.{rowPlace, setRow, halfPlace};
 ghost use Rattle.wavelet.specs.Store.{storeLength};
 ghost use Rattle.reader.specs.Store.{fedAt, workedAt};
-ghost use Rattle.reader.specs.Machine.{bandAt, nextAt, settled, finished, beyond, enter};
+ghost use Rattle.reader.specs.Machine.{bandAt, lastOfSet, nextAt, settled, finished, beyond, enter};
 ghost use Rattle.reader.specs.Inside.{Shape, IsLevel, Is, Kept};
 
 // A level: where its stretch begins, the columns and rows that it splits, and the set that it is at.
@@ -118,7 +119,8 @@ pub fn put_row(
     band: usize,
     run: &[i32],
 )
-    requires { ⌜ Shape width height drawn × (k < maxLevels) × (band < 4) × (storeLength width (k + 1) ≤ length (now store)) × (length (now run) ≡ count (across (named band)) (size k width)) ⌝ }
+    requires { ⌜ Shape width height drawn × (k < maxLevels) × (band < 4) × (storeLength width (k + 1) ≤ length (now store)) ×
+        (length (now run) ≡ count (across (named band)) (size k width)) ⌝ }
     ensures { λ _. ⌜ at (now (store .exit)) ≡ fedAt width height drawn k band (at (now (run .entry))) (at (now (store .entry))) ⌝ }
 {
     let l = level_at(width, height, drawn, k);
@@ -176,7 +178,22 @@ pub fn settle(
     true
 }
 
-// The set of level k + 1 worked out if no band from `band` on is left to feed.
+// Whether the row of that band completes its set: no band after it is left to feed.
+fn completes(
+    width: usize,
+    height: usize,
+    levels: usize,
+    drawn: usize,
+    k: usize,
+    band: usize,
+) -> bool
+    requires { ⌜ Shape width height drawn × (k ≤ maxLevels) × (band < 4) ⌝ }
+    ensures { λ r. ⌜ r ≡ lastOfSet width height levels drawn k band ⌝ }
+{
+    4 <= band_at(width, height, levels, drawn, k, band + 1)
+}
+
+// The set of level k + 1 worked out if the row of that band completes it.
 pub fn finish(
     width: usize,
     height: usize,
@@ -190,7 +207,7 @@ pub fn finish(
     ensures { λ ok. ⌜ outcome ok (at (now (store .exit))) ≡ finished width height levels drawn k band (at (now (store .entry))) ⌝ }
     ensures { λ _. ⌜ Kept (storeLength width levels) (at (now (store .entry))) (at (now (store .exit))) ⌝ }
 {
-    if band_at(width, height, levels, drawn, k, band + 1) < 4 {
+    if !completes(width, height, levels, drawn, k, band) {
         return true;
     }
     work_at(width, height, levels, drawn, store, k)
@@ -208,13 +225,13 @@ pub fn beyond_of(
     requires { ⌜ Shape width height drawn × (k ≤ maxLevels) × (band < 4) ⌝ }
     ensures { λ p. ⌜ Is (beyond width height levels drawn k band) p ⌝ }
 {
-    if band_at(width, height, levels, drawn, k, band + 1) < 4 {
-        return Spot {
-            level: k + 1,
-            band: band + 1,
-        };
+    if completes(width, height, levels, drawn, k, band) {
+        return Spot { level: k, band: 1 };
     }
-    Spot { level: k, band: 1 }
+    Spot {
+        level: k + 1,
+        band: band + 1,
+    }
 }
 
 // Where row d begins: past each level whose set it opens.

@@ -1,4 +1,5 @@
-// A set worked out in its level's stretch of the line store: four rows of w numbers, each in halves, row r in slot r mod 4. The module is private, as `areas` is.
+// A set worked out in its level's stretch of the line store: four rows of w numbers, each in halves, row r in slot r mod 4. The module is private, as `areas`
+// is.
 use crate::areas;
 use lifting::line;
 use lifting::rows;
@@ -13,8 +14,7 @@ ghost use Rattle.wavelet.specs.Limits.{maxLevels};
 ghost use Rattle.reader.specs.Tried.{outcome};
 ghost use Rattle.reader.specs.Slots.{rowPlace, rowUnlifted, lowRowTaken};
 ghost use Rattle.reader.specs.Work.{rowFits, setUnlifted, evenRow, oddRow, evenMade, oddMade, lastMade, setMade, setWorked};
-ghost use Rattle.reader.specs.Areas.{lowestOf};
-ghost use Rattle.reader.specs.Inside.{Kept};
+ghost use Rattle.reader.specs.Inside.{Kept, lowestOf};
 
 // Where row r begins.
 pub fn row_place(w: usize, r: usize) -> usize

@@ -18,7 +18,8 @@ use Rattle.wavelet.specs.Plane.{planeCell, cells}
 use Rattle.wavelet.specs.View.{bandRows, bandColumns}
 use Rattle.wavelet.specs.ViewCall.{keptAt, bandRowExists}
 use Rattle.wavelet.specs.Limits.{maxWidth, maxHeight, maxLevels}
-use Rattle.wavelet.specs.Questions.{within}
+use Rattle.wavelet.specs.Questions.{ask, within}
+use Rattle.wavelet.specs.Store.{storeLength}
 use Rattle.wavelet.specs.Maps.{IsMap, HasPlane}
 use Rattle.wavelet.specs.Order.{RowName}
 use Rattle.wavelet.proofs.PlaneLayout.{Stands, place-is, row-in, column-in, cell-places}
@@ -32,12 +33,12 @@ use Rattle.writer.proofs.Demand3 as writer-holds
 use Rattle.reader.specs.Asked.{named}
 use Rattle.reader.specs.Questions as reader-asks
 use Rattle.reader.specs.Demand3 as reader
-use Rattle.reader.specs.Played.{HasAll}
+use Rattle.reader.specs.Played.{Sized, HasAll}
 use Rattle.reader.proofs.CallViews.{within-both}
 use Rattle.reader.proofs.StepsLeft.{named-code}
 use Rattle.reader.proofs.Rebuilt.{In, first, later}
 use Rattle.reader.proofs.Played.{times-in, played-holds}
-use Rattle.round_trip.specs.RoundTrip.{isNamed, drawnAs, wrote, rowsWrote, Finished, HandsBack, SetUp, planeRows, FromPlane}
+use Rattle.round_trip.specs.RoundTrip.{isNamed, drawnAs, wrote, rowsWrote, Finished, Lent, HandsBack, planeRows, FromPlane}
 
 -- ---- a row found by its name
 code-same : (b c : Band) → code b ≡ code c → b ≡ c
@@ -64,20 +65,26 @@ in-split x _ xs first f g = f refl
 in-split x z xs (later i) f g = g i
 
 module _ (W H : ℕ) (g : Grid) where
-  abbrev Right : RowName → (ℕ → ℤ) → Type 0
-  Right x v = (i : ℕ) → i < bandColumns W (x .level) (x .band) → v i ≡ levelBand whole W H g (x .level) (x .band) (x .row) i
+  abbrev Right : RowName → reader.Area → Type 0
+  Right = reader.IsRow W H g
 
-  -- a drawn row of that name has its values
-  drawn-right : (x z : RowName) (d : writer.DrawnRow) → d .row ≡ answered W z → HasValues W H g d → isNamed x (d .row) ≡ true → Right x (d .values)
-  drawn-right x z d e has is i p =
+  -- a drawn row of that name is that band row
+  drawn-right : (x z : RowName) (d : writer.DrawnRow) → d .row ≡ answered W z → HasValues W H g d → isNamed x (d .row) ≡ true →
+      Right x (record { size = d .row .length; numbers = d .values })
+  drawn-right x z d e has is =
       let n = named-is x (d .row) is in
       let b : x .band ≡ z .band = code-same (x .band) (z .band) (n .band ∙ ap (λ q. q .band) e) in
       let k : x .level ≡ z .level = n .level ∙ ap (λ q. q .level) e in
       let long : bandColumns W (x .level) (x .band) ≡ d .row .length = ap₂ (bandColumns W) k b ∙ ap (λ q. q .length) (sym e) in
-      has .are (x .band) (sym (n .band)) i (rw long at p)
-      ∙ ap₂ (λ q r. levelBand whole W H g q (x .band) r i) (sym (n .level)) (sym (n .row))
+      record {
+        size = sym long;
+        values = λ i p.
+            has .are (x .band) (sym (n .band)) i (rw long at p)
+            ∙ ap₂ (λ q r. levelBand whole W H g q (x .band) r i) (sym (n .level)) (sym (n .row));
+      }
 
-  found-right : (ds : List writer.DrawnRow) (names : List RowName) → map (λ d. d .row) ds ≡ map (answered W) names → All (HasValues W H g) ds → (x : RowName) → In x names → Right x (drawnAs ds x)
+  found-right : (ds : List writer.DrawnRow) (names : List RowName) → map (λ d. d .row) ds ≡ map (answered W) names →
+      All (HasValues W H g) ds → (x : RowName) → In x names → Right x (drawnAs ds x)
   unfolding drawnAs
   found-right [] (z ∷ names) e a x i = absurd (let p : _≡_ {A = ℕ} 0 1 = cc in omega arith)
   found-right (d ∷ ds) (z ∷ names) e (all-more h a) x i =
@@ -85,14 +92,24 @@ module _ (W H : ℕ) (g : Grid) where
       let r : map (λ d. d .row) ds ≡ map (answered W) names = cc in
       go (isNamed x (d .row)) refl q i (found-right ds names r a x)
     where
-      go : (t : Bool) → isNamed x (d .row) ≡ t → d .row ≡ answered W z → In x (z ∷ names) → (In x names → Right x (drawnAs ds x)) → Right x (λ j. pick t (d .values j) (drawnAs ds x j))
+      go : (t : Bool) → isNamed x (d .row) ≡ t → d .row ≡ answered W z → In x (z ∷ names) → (In x names → Right x (drawnAs ds x)) →
+          Right x (pick t (record { size = d .row .length; numbers = d .values }) (drawnAs ds x))
       go true is q i ih = drawn-right x z d q h is
-      go false is q i ih = in-split x z names i (λ same. absurd (subst T (sym (ap (isNamed x) q ∙ ap (λ v. isNamed x (answered W v)) (sym same) ∙ named-self W x) ∙ is) tt)) ih
+      go false is q i ih =
+          in-split x z names i
+          (λ same. absurd (subst T (sym (ap (isNamed x) q ∙ ap (λ v. isNamed x (answered W v)) (sym same) ∙ named-self W x) ∙ is) tt))
+          ih
 
--- a passed set-up has a width
-first-yes : (t : Bool) (r : ℕ) → pick t r 2 ≡ 0 → t ≡ true
-first-yes true r e = refl
-first-yes false r e = absurd (omega arith)
+-- ---- questions 2 and 4 are the writer's too
+passed-yes : (s t : Bool) (r : ℕ) → ask s 2 (ask t 4 r) ≡ 0 → (s ≡ true) × (t ≡ true)
+passed-yes true true r e = (refl, refl)
+passed-yes true false r e = absurd (omega arith)
+passed-yes false t r e = absurd (omega arith)
+
+set-up-passes : (W H L n : ℕ) → within 1 maxWidth W ≡ true → (1 ≤ H) × (H ≤ maxHeight) → within 1 maxLevels L ≡ true → storeLength W L ≤ n →
+    reader-asks.setUpQuestion W H L n ≡ 0
+unfolding reader-asks.setUpQuestion reader-asks.storeFits within
+set-up-passes W H L n wide high deep room = rw (wide, le-leb 1 H (high .0), le-leb H maxHeight (high .1), deep, le-leb (storeLength W L) n room) refl
 
 module _ (W L n : ℕ) (x : ℕ → ℤ) (cs : List writer.Call) (done : Finished W L n x cs) where
   abbrev es : List writer.Event
@@ -102,9 +119,12 @@ module _ (W L n : ℕ) (x : ℕ → ℤ) (cs : List writer.Call) (done : Finishe
   claim = writer-holds.demand-3 W L n x (done .set-up) cs .1
 
   -- ---- the map that was written
-  width : 0 < W
+  in-limits : (within 1 maxWidth W ≡ true) × (within 1 maxLevels L ≡ true)
   unfolding writer-asks.setUpQuestion
-  width = within-both 1 maxWidth W (first-yes (within 1 maxWidth W) _ (done .set-up)) .0
+  in-limits = passed-yes (within 1 maxWidth W) (within 1 maxLevels L) _ (done .set-up)
+
+  width : 0 < W
+  width = within-both 1 maxWidth W (in-limits .0) .0
 
   written : (H : ℕ) × (g : Grid) × MapOf W H g es
   written = claim .some-map (done .sixteen)
@@ -121,14 +141,19 @@ module _ (W L n : ℕ) (x : ℕ → ℤ) (cs : List writer.Call) (done : Finishe
   height : H ≡ rowsWrote W L n x cs
   height = eq-of-mul-eq-mul-left W width H (rowsWrote W L n x cs) (sym (written .2 .all (done .finished)) ∙ whole-map)
 
-  abbrev rows : RowName → ℕ → ℤ
+  abbrev rows : RowName → reader.Area
   rows = drawnAs (writer.drawn es)
 
   -- it has all the rows drawn
   has-all : HasAll W (rowsWrote W L n x cs) L g rows
   has-all =
       let a = claim .all-drawn (done .finished) (done .none-waits) in
-      record { values = λ y e i p. found-right W (rowsWrote W L n x cs) g (writer.drawn es) (a .0) (a .1) values y (times-in y (a .0) (omega (arith, a .2 y ∙ ap (λ t. pick t 1 0) e))) i p }
+      let R = rowsWrote W L n x cs in
+      record {
+        are = λ y e.
+            found-right W R g (writer.drawn es) (a .names) (a .answers) values y
+            (times-in y (a .names) (omega (arith, a .once y ∙ ap (λ t. pick t 1 0) e)));
+      }
     where
       values : All (HasValues W (rowsWrote W L n x cs) g) (writer.drawn es)
       values = subst (λ h. All (HasValues W h g) (writer.drawn es)) height (claim .values H g (written .2))
@@ -136,19 +161,27 @@ module _ (W L n : ℕ) (x : ℕ → ℤ) (cs : List writer.Call) (done : Finishe
   is-map : IsMap W (rowsWrote W L n x cs) g
   is-map = subst (λ h. IsMap W h g) height (written .2 .begins .map)
 
+  passes : (n′ : ℕ) → storeLength W L ≤ n′ → reader-asks.setUpQuestion W (rowsWrote W L n x cs) L n′ ≡ 0
+  passes n′ room =
+      let m = claim .finished-map (done .finished) in
+      set-up-passes W (rowsWrote W L n x cs) L n′ (in-limits .0) (m .0, m .1) (in-limits .1) room
+
   -- ---- the theorem: a reader set up with that size, fed and drawn as it wants with the rows drawn, hands back every height in order and says Done
-  pub hands-back : (n′ : ℕ) (y : ℕ → ℤ) (out : reader.Area) → SetUp W L n x cs n′ y out → HandsBack W L n x cs n′ y out
-  hands-back n′ y out up =
-      let p = played-holds W (rowsWrote W L n x cs) L n′ (up .passed) rows out (up .room) y .map-back g is-map has-all in
+  pub hands-back : (n′ : ℕ) (y : ℕ → ℤ) (outs : ℕ → reader.Area) → Lent W L n x cs n′ y outs → HandsBack W L n x cs n′ y outs
+  hands-back n′ y outs lent =
+      let ok = passes n′ (lent .store) in
+      let p = played-holds W (rowsWrote W L n x cs) L n′ ok rows outs (lent .areas) y .map-back g is-map has-all in
       record {
-        rows = p .0;
+        set-up = ok;
+        rows = p .all;
         all = whole-map;
-        heights = λ r c h k. p .1 .are r c (omega (arith, p .0)) k ∙ written .2 .begins .heights r c k (place r c h k);
-        done = p .2;
+        heights = λ r c h k. p .heights .are r c (omega (arith, p .all)) k ∙ written .2 .begins .heights r c k (place r c h k);
+        done = p .says;
       }
     where
       place : (r c : ℕ) → r < rowsWrote W L n x cs → c < W → r * W + c < length (writer.taken es)
-      place r c h k = let m : (r + 1) * W ≤ rowsWrote W L n x cs * W = mul-le-mul-right W (omega arith) in omega (arith, whole-map, mul-comm W (rowsWrote W L n x cs))
+      place r c h k = let m : (r + 1) * W ≤ rowsWrote W L n x cs * W = mul-le-mul-right W (omega arith) in
+          omega (arith, whole-map, mul-comm W (rowsWrote W L n x cs))
 
 -- ---- from a plane: its band rows are a map's exactly where the plane is
 module _ (W H L : ℕ) (plane : ℕ → ℤ) (g : Grid) where
@@ -165,7 +198,13 @@ module _ (W H L : ℕ) (plane : ℕ → ℤ) (g : Grid) where
 
   exists-if : (k : ℕ) (b : Band) (r c : ℕ) → Stands L W H k b r c → bandRowExists W H L k b r ≡ true
   unfolding bandRowExists within
-  exists-if k b r c s = rw (le-leb 1 k (s .deep), le-leb k L (s .most), kept-if k b (s .last), lt-ltb 0 (bandColumns W k b) (omega (arith, s .column)), lt-ltb r (bandRows H k b) (s .row)) refl
+  exists-if k b r c s = rw (
+    le-leb 1 k (s .deep),
+    le-leb k L (s .most),
+    kept-if k b (s .last),
+    lt-ltb 0 (bandColumns W k b) (omega (arith, s .column)),
+    lt-ltb r (bandRows H k b) (s .row),
+  ) refl
 
   stands-if : (k : ℕ) (b : Band) (r c : ℕ) → bandRowExists W H L k b r ≡ true → c < bandColumns W k b → Stands L W H k b r c
   unfolding bandRowExists within
@@ -183,19 +222,27 @@ module _ (W H L : ℕ) (plane : ℕ → ℤ) (g : Grid) where
       at : (r c : ℕ) → Found L W H r c → plane (r * W + c) ≡ planeCell whole L W H g r c
       at r c f =
           ap plane (sym (found-place L W H r c f))
-          ∙ h .values (record { level = f .level; band = f .band; row = f .row }) (exists-if (f .level) (f .band) (f .row) (f .column) (f .stands)) (f .column) (f .stands .column)
+          ∙ h .are (record { level = f .level; band = f .band; row = f .row }) (exists-if (f .level) (f .band) (f .row) (f .column) (f .stands)) .values
+          (f .column) (f .stands .column)
           ∙ sym (cell-places whole L W H g (f .level) (f .band) (f .row) (f .column) (f .stands))
           ∙ ap₂ (planeCell whole L W H g) (f .row-is) (f .column-is)
 
   plane-rows : HasPlane L W H g (cells W plane) → HasAll W H L g (planeRows W H plane)
   unfolding planeRows cells
   plane-rows has = record {
-    values = λ y e i p.
-        let s = stands-if (y .level) (y .band) (y .row) i e p in
-        ap plane (place-is W H (y .level) (y .band) (y .row) i)
-        ∙ has .coefficients _ _ (row-in L W H (y .level) (y .band) (y .row) i s) (column-in L W H (y .level) (y .band) (y .row) i s)
-        ∙ cell-places whole L W H g (y .level) (y .band) (y .row) i s;
+    are = λ y e. record {
+      size = refl;
+      values = λ i p.
+          let s = stands-if (y .level) (y .band) (y .row) i e p in
+          ap plane (place-is W H (y .level) (y .band) (y .row) i)
+          ∙ has .coefficients _ _ (row-in L W H (y .level) (y .band) (y .row) i s) (column-in L W H (y .level) (y .band) (y .row) i s)
+          ∙ cell-places whole L W H g (y .level) (y .band) (y .row) i s;
+    };
   }
+
+planes-sized : (W H L : ℕ) (plane : ℕ → ℤ) → Sized W H L (planeRows W H plane)
+unfolding planeRows
+planes-sized W H L plane = record { size = λ y e. refl }
 
 some-levels : (W H L n : ℕ) → reader-asks.setUpQuestion W H L n ≡ 0 → 0 < L
 unfolding reader-asks.setUpQuestion
@@ -208,10 +255,11 @@ some-levels W H L n e = within-both 1 maxLevels L (go (within 1 maxWidth W) (wit
     go false t u r z = absurd (omega arith)
 
 -- ---- the theorem: of a map's plane the map and Done, of any other plane 7 or 14 and no Done
-pub from-plane : (W H L n : ℕ) (y plane : ℕ → ℤ) (out : reader.Area) → reader-asks.setUpQuestion W H L n ≡ 0 → W ≤ out .size → FromPlane W H L n y plane out
-from-plane W H L n y plane out ok room =
-    let p = played-holds W H L n ok (planeRows W H plane) out room y in
+pub from-plane : (W H L n : ℕ) (y plane : ℕ → ℤ) (outs : ℕ → reader.Area) → reader-asks.setUpQuestion W H L n ≡ 0 →
+    ((i : ℕ) → W ≤ outs i .size) → FromPlane W H L n y plane outs
+from-plane W H L n y plane outs ok room =
+    let p = played-holds W H L n ok (planeRows W H plane) outs room y in
     record {
       map-back = λ g has. p .map-back g (has .map) (plane-rows W H L plane g has);
-      no-map = λ none-has. p .no-map (λ g m h. none-has g (rows-plane W H L plane g (some-levels W H L n ok) m h));
+      no-map = λ none-has. p .no-map (planes-sized W H L plane) (λ g m h. none-has g (rows-plane W H L plane g (some-levels W H L n ok) m h));
     }

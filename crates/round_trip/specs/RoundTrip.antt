@@ -10,25 +10,27 @@ use Rattle.numbers.specs.Signal.{pick, both}
 use Rattle.wavelet.specs.Limits.{maxSample}
 use Rattle.wavelet.specs.Bands.{Grid, code}
 use Rattle.wavelet.specs.Plane.{cells}
-use Rattle.wavelet.specs.View.{bandStart}
+use Rattle.wavelet.specs.View.{bandStart, bandColumns}
 use Rattle.wavelet.specs.Maps.{HasPlane}
 use Rattle.wavelet.specs.Order.{RowName}
 use Rattle.wavelet.specs.Steps.{steps}
+use Rattle.wavelet.specs.Store.{storeLength}
 use Rattle.writer.specs.declared.BandRow.{BandRow}
 use Rattle.writer.specs.History as writer
 use Rattle.writer.specs.Demand3.{All, wholeRows, waitingOf}
 use Rattle.writer.specs.Questions as writer-asks
+use Rattle.reader.specs.Answers.{done}
 use Rattle.reader.specs.Demand3 as reader
 use Rattle.reader.specs.Questions as reader-asks
-use Rattle.reader.specs.Played.{played, Refusal}
+use Rattle.reader.specs.Played.{played, Back, Stopped}
 
--- the drawn row of that name: its values
+-- the drawn row of that name, as the run that it is: its length and its values
 unfoldable pub isNamed : RowName → BandRow → Bool
 isNamed x d = both (eqb (x .level) (d .level)) (both (eqb (code (x .band)) (d .band)) (eqb (x .row) (d .row)))
 
-unfoldable pub drawnAs : List writer.DrawnRow → RowName → ℕ → ℤ
-drawnAs [] x i = pos 0
-drawnAs (d ∷ ds) x i = pick (isNamed x (d .row)) (d .values i) (drawnAs ds x i)
+unfoldable pub drawnAs : List writer.DrawnRow → RowName → reader.Area
+drawnAs [] x = record { size = 0; numbers = λ _. pos 0 }
+drawnAs (d ∷ ds) x = pick (isNamed x (d .row)) (record { size = d .row .length; numbers = d .values }) (drawnAs ds x)
 
 -- ---- any calls cs on a fresh writer of width W and L levels, whose store had n numbers
 module _ (W L n : ℕ) (x : ℕ → ℤ) (cs : List writer.Call) where
@@ -46,44 +48,47 @@ module _ (W L n : ℕ) (x : ℕ → ℤ) (cs : List writer.Call) where
     pub none-waits : waitingOf W L wrote ≡ []
     pub sixteen : All (λ h. h ≤ maxSample) (writer.taken wrote)
 
-  -- then a fresh reader of that size and as many levels, whose store has n′ numbers, as it wants
-  module _ (n′ : ℕ) (y : ℕ → ℤ) (out : reader.Area) where
+  -- then a fresh reader of that size and as many levels, whose store has n′ numbers, as it wants, each row drawn into an area of its own
+  module _ (n′ : ℕ) (y : ℕ → ℤ) (outs : ℕ → reader.Area) where
     abbrev pub freshReader : reader.World
     freshReader = reader.freshWorld W rowsWrote L n′ y
 
     abbrev pub turns : List reader.Call
-    turns = played (drawnAs (writer.drawn wrote)) out (length (steps W rowsWrote L)) freshReader
+    turns = played (drawnAs (writer.drawn wrote)) outs (length (steps W rowsWrote L)) freshReader
 
     abbrev pub read : List reader.Event
     read = reader.events turns freshReader
 
-    -- it hands back every height in order and says Done
+    -- what is lent is long enough: question 5 of the set-up (2, 3 and 4 follow), and 12
+    pub record Lent : Type 0 where
+      pub store : storeLength W L ≤ n′
+      pub areas : (i : ℕ) → W ≤ outs i .size
+
+    -- the set-up passes; then the reader hands back every height in order and says Done
     pub record HandsBack : Type 0 where
+      pub set-up : reader-asks.setUpQuestion W rowsWrote L n′ ≡ 0
       pub rows : length (reader.drawnRows read) ≡ rowsWrote
       pub all : length (writer.taken wrote) ≡ W * rowsWrote
-      pub heights : (r c : ℕ) → r < rowsWrote → c < W → getD (reader.drawnRows read) r (λ _. pos 0) c ≡ pos (getD (writer.taken wrote) (r * W + c) 0)
-      pub done : reader.event reader.want (reader.final turns freshReader) ≡ reader.wanted (reader.gives reader.done)
-
-    -- a reader set up with that size, and an area for its rows
-    pub record SetUp : Type 0 where
-      pub passed : reader-asks.setUpQuestion W rowsWrote L n′ ≡ 0
-      pub room : W ≤ out .size
+      pub heights : (r c : ℕ) → r < rowsWrote → c < W →
+          getD (reader.drawnRows read) r (λ _. pos 0) c ≡ pos (getD (writer.taken wrote) (r * W + c) 0)
+      pub done : reader.event reader.want (reader.final turns freshReader) ≡ reader.wanted (reader.gives done)
 
 -- ---- in that way from a plane: its band rows by their names
-unfoldable pub planeRows : ℕ → ℕ → (ℕ → ℤ) → RowName → ℕ → ℤ
-planeRows W H plane x i = plane (bandStart W H (x .level) (x .band) (x .row) + i)
+unfoldable pub planeRows : ℕ → ℕ → (ℕ → ℤ) → RowName → reader.Area
+planeRows W H plane x =
+    record { size = bandColumns W (x .level) (x .band); numbers = λ i. plane (bandStart W H (x .level) (x .band) (x .row) + i) }
 
-module _ (W H L n : ℕ) (y : ℕ → ℤ) (plane : ℕ → ℤ) (out : reader.Area) where
+module _ (W H L n : ℕ) (y : ℕ → ℤ) (plane : ℕ → ℤ) (outs : ℕ → reader.Area) where
   abbrev pub planeTurns : List reader.Call
-  planeTurns = played (planeRows W H plane) out (length (steps W H L)) (reader.freshWorld W H L n y)
+  planeTurns = played (planeRows W H plane) outs (length (steps W H L)) (reader.freshWorld W H L n y)
 
   abbrev pub planeRead : List reader.Event
   planeRead = reader.events planeTurns (reader.freshWorld W H L n y)
 
-  abbrev pub wantThen : reader.Event
-  wantThen = reader.event reader.want (reader.final planeTurns (reader.freshWorld W H L n y))
+  abbrev pub planeThen : reader.Call → reader.Event
+  planeThen c = reader.event c (reader.final planeTurns (reader.freshWorld W H L n y))
 
   -- of a map's plane it hands back that map and says Done; of a plane that no map has, it gives 7 or 14 and never says Done
   pub record FromPlane : Type 0 where
-    pub map-back : (g : Grid) → HasPlane L W H g (cells W plane) → (length (reader.drawnRows planeRead) ≡ H) × reader.FirstRows W g (reader.drawnRows planeRead) × (wantThen ≡ reader.wanted (reader.gives reader.done))
-    pub no-map : ((g : Grid) → HasPlane L W H g (cells W plane) → ⊥) → Refusal planeRead × (wantThen ≡ reader.wanted (reader.gives reader.done) → ⊥)
+    pub map-back : (g : Grid) → HasPlane L W H g (cells W plane) → Back W H g planeRead planeThen
+    pub no-map : ((g : Grid) → HasPlane L W H g (cells W plane) → ⊥) → Stopped planeRead planeThen

@@ -2,3 +2,4 @@ pub mod StateLaws
 pub mod Steady
 pub mod WordLaws
 pub mod StateTheorems
+pub mod WriterListsHold

@@ -3,6 +3,8 @@ mod line;
 mod map;
 mod reader_calls;
 mod reader_state;
+mod smooth;
 mod states;
+mod version;
 mod writer_calls;
 mod writer_state;

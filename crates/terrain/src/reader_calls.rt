@@ -10,8 +10,9 @@ ghost use lib.ListN.{length};
 ghost use Rattle.numbers.specs.Signal.{at};
 ghost use Rattle.reader.specs.Areas.{heightsAt};
 ghost use Rattle.reader.specs.Questions.{setUpQuestion};
-ghost use Rattle.reader.specs.Calls.{setUpNumber, wantNumber, feedNumber, drawNumber, setUpAnswer, setUpStore};
-ghost use Rattle.terrain.specs.ReaderCalls.{stateUp, wanting, wantOf, feeding, feedingStore, stateFed, drawing, drawingStore, drawingArea, stateDrawn, countOf};
+ghost use Rattle.reader.specs.Answers.{number};
+ghost use Rattle.reader.specs.Calls.{setUpReply, setUpStore};
+ghost use Rattle.terrain.specs.ReaderCalls.{stateOf, wanting, wantOf, feeding, feedingStore, drawing, drawingStore, drawingArea, stateDrawn, countOf};
 
 // A fresh reader. The questions are 2, 3, 4 and 5.
 #[no_mangle]
@@ -22,9 +23,11 @@ pub extern "C" fn terrain_reader_set_up(
     levels: usize,
     store: &mut [i32],
 ) -> u32
-    ensures { λ r. ⌜ r ≡ setUpNumber (setUpAnswer width height levels (setUpQuestion width height levels (length (now (store .entry))))) ⌝ }
-    ensures { λ _. ⌜ now (state .exit) ≡ stateUp (setUpAnswer width height levels (setUpQuestion width height levels (length (now (store .entry))))) (now (state .entry)) ⌝ }
-    ensures { λ _. ⌜ at (now (store .exit)) ≡ setUpStore width levels (setUpQuestion width height levels (length (now (store .entry)))) (at (now (store .entry))) ⌝ }
+    ensures { λ r. ⌜ r ≡ number (setUpReply width height levels (setUpQuestion width height levels (length (now (store .entry))))) ⌝ }
+    ensures { λ _. ⌜ now (state .exit) ≡
+        stateOf (setUpReply width height levels (setUpQuestion width height levels (length (now (store .entry))))) (now (state .entry)) ⌝ }
+    ensures { λ _. ⌜ at (now (store .exit)) ≡
+        setUpStore width levels (setUpQuestion width height levels (length (now (store .entry)))) (at (now (store .entry))) ⌝ }
 {
     match Reader::set_up(width, height, levels, store) {
         SetUp::Ready(r) => {
@@ -38,7 +41,7 @@ pub extern "C" fn terrain_reader_set_up(
 // What the reader wants. The question is 1.
 #[no_mangle]
 pub extern "C" fn terrain_reader_want(state: &[u64; 16], want: &mut [u64; 5]) -> u32
-    ensures { λ r. ⌜ r ≡ wantNumber (wanting (now (state .entry))) ⌝ }
+    ensures { λ r. ⌜ r ≡ number (wanting (now (state .entry))) ⌝ }
     ensures { λ _. ⌜ now (want .exit) ≡ wantOf (wanting (now (state .entry))) (now (want .entry)) ⌝ }
 {
     if !reader_state::is_reader(state) {
@@ -69,9 +72,15 @@ pub extern "C" fn terrain_reader_want(state: &[u64; 16], want: &mut [u64; 5]) ->
 // A band row fed. The questions are 1, 5, 9, 8, 13, 7 and 14; 14 leaves the ended reader.
 #[no_mangle]
 pub extern "C" fn terrain_reader_feed(state: &mut [u64; 16], store: &mut [i32], run: &[i32]) -> u32
-    ensures { λ r. ⌜ r ≡ feedNumber (feeding (now (state .entry)) (length (now (store .entry))) (at (now (store .entry))) (length (now (run .entry))) (at (now (run .entry)))) ⌝ }
-    ensures { λ _. ⌜ now (state .exit) ≡ stateFed (feeding (now (state .entry)) (length (now (store .entry))) (at (now (store .entry))) (length (now (run .entry))) (at (now (run .entry)))) (now (state .entry)) ⌝ }
-    ensures { λ _. ⌜ at (now (store .exit)) ≡ feedingStore (now (state .entry)) (length (now (store .entry))) (at (now (store .entry))) (length (now (run .entry))) (at (now (run .entry))) ⌝ }
+    ensures { λ r. ⌜ r ≡
+        number
+        (feeding (now (state .entry)) (length (now (store .entry))) (at (now (store .entry))) (length (now (run .entry))) (at (now (run .entry)))) ⌝ }
+    ensures { λ _. ⌜ now (state .exit) ≡
+        stateOf
+        (feeding (now (state .entry)) (length (now (store .entry))) (at (now (store .entry))) (length (now (run .entry)))
+        (at (now (run .entry)))) (now (state .entry)) ⌝ }
+    ensures { λ _. ⌜ at (now (store .exit)) ≡
+        feedingStore (now (state .entry)) (length (now (store .entry))) (at (now (store .entry))) (length (now (run .entry))) (at (now (run .entry))) ⌝ }
 {
     if !reader_state::is_reader(state) {
         return 1;
@@ -98,11 +107,17 @@ pub extern "C" fn terrain_reader_draw(
     out: &mut [u16],
     drawn: &mut usize,
 ) -> u32
-    ensures { λ r. ⌜ r ≡ drawNumber (drawing (now (state .entry)) (length (now (store .entry))) (at (now (store .entry))) (length (now (out .entry)))) ⌝ }
-    ensures { λ _. ⌜ now (state .exit) ≡ stateDrawn (drawing (now (state .entry)) (length (now (store .entry))) (at (now (store .entry))) (length (now (out .entry)))) (now (state .entry)) ⌝ }
-    ensures { λ _. ⌜ at (now (store .exit)) ≡ drawingStore (now (state .entry)) (length (now (store .entry))) (at (now (store .entry))) (length (now (out .entry))) ⌝ }
-    ensures { λ _. ⌜ heightsAt (now (out .exit)) ≡ drawingArea (now (state .entry)) (length (now (store .entry))) (at (now (store .entry))) (length (now (out .entry))) (heightsAt (now (out .entry))) ⌝ }
-    ensures { λ _. ⌜ now (drawn .exit) ≡ countOf (drawing (now (state .entry)) (length (now (store .entry))) (at (now (store .entry))) (length (now (out .entry)))) (now (drawn .entry)) ⌝ }
+    ensures { λ r. ⌜ r ≡ number (drawing (now (state .entry)) (length (now (store .entry))) (at (now (store .entry))) (length (now (out .entry)))) ⌝ }
+    ensures { λ _. ⌜ now (state .exit) ≡
+        stateDrawn (drawing (now (state .entry)) (length (now (store .entry))) (at (now (store .entry))) (length (now (out .entry))))
+        (now (state .entry)) ⌝ }
+    ensures { λ _. ⌜ at (now (store .exit)) ≡
+        drawingStore (now (state .entry)) (length (now (store .entry))) (at (now (store .entry))) (length (now (out .entry))) ⌝ }
+    ensures { λ _. ⌜ heightsAt (now (out .exit)) ≡
+        drawingArea (now (state .entry)) (length (now (store .entry))) (at (now (store .entry))) (length (now (out .entry)))
+        (heightsAt (now (out .entry))) ⌝ }
+    ensures { λ _. ⌜ now (drawn .exit) ≡
+        countOf (drawing (now (state .entry)) (length (now (store .entry))) (at (now (store .entry))) (length (now (out .entry)))) (now (drawn .entry)) ⌝ }
 {
     if !reader_state::is_reader(state) {
         return 1;

@@ -1,6 +1,7 @@
 pub mod SizeLaws
 pub mod StoreLaws
 pub mod GridLaws
+pub mod LimitLaws
 pub mod QuestionLaws
 pub mod SidePlaces
 pub mod BandPlaces

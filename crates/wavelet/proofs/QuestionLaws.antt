@@ -7,7 +7,7 @@ use lib.Dec.{leb}
 use borrow.Author.Tests.{leb-true, le-leb}
 use Rattle.numbers.proofs.Sweep.{both}
 use Rattle.wavelet.specs.Limits.{maxWidth, maxHeight, maxLevels}
-use Rattle.wavelet.specs.Questions.{ask, within, sizeQuestion}
+use Rattle.wavelet.specs.Questions.{ask, within, sizeQuestion, Sized}
 
 pub within-true : (a b n : ℕ) → within a b n ≡ true → (a ≤ n) × (n ≤ b)
 unfolding within
@@ -42,24 +42,18 @@ all true true false h = absurd (omega arith)
 all true false d h = absurd (omega arith)
 all false b d h = absurd (omega arith)
 
--- W, H and L within the limits
-pub record Sized (W H L : ℕ) : Type 0 where
-  pub width : (1 ≤ W) × (W ≤ 2049)
-  pub height : (1 ≤ H) × (H ≤ 65535)
-  pub levels : (1 ≤ L) × (L ≤ 5)
-
 module _ (W H L : ℕ) where
   abbrev sizes : ℕ → ℕ
   sizes x = asked (within 1 maxWidth W) (within 1 maxHeight H) (within 1 maxLevels L) x
 
   pub sized : sizeQuestion W H L ≡ 0 → Sized W H L
-  unfolding sizeQuestion maxWidth maxHeight maxLevels
+  unfolding sizeQuestion
   sized e =
       let p = all (within 1 maxWidth W) (within 1 maxHeight H) (within 1 maxLevels L) e in
       record {
-        width = within-true 1 2049 W (p .0);
-        height = within-true 1 65535 H (p .1);
-        levels = within-true 1 5 L (p .2);
+        width = within-true 1 maxWidth W (p .0);
+        height = within-true 1 maxHeight H (p .1);
+        levels = within-true 1 maxLevels L (p .2);
       }
 
   pub size-no : (x : ℕ) → (sizeQuestion W H L ≡ 0 → ⊥) → sizes x ≡ sizeQuestion W H L

@@ -2,7 +2,7 @@
 use mathlib.Core.Path.{_≡_, refl, sym, ap, _∙_}
 use mathlib.Core.Bool.{Bool, true, false}
 use mathlib.Core.List.{List, []}
-use Prim.Native.Nat.{ℕ, _+_, _-_, _*_, _≤_, _<_}
+use Prim.Native.Nat.{ℕ, _+_, _-_, _*_, _^_, _≤_, _<_}
 use native.Mathlib.Nat.{mul-le-mul}
 use native.Mathlib.Decide.{ℕ-discrete}
 use native.Mathlib.Omega.{arith}
@@ -13,16 +13,18 @@ use borrow.Author.Tests.{le-ltb, lt-ltb, le-leb, lt-leb, eq-eqb, ne-eqb, ltb-tru
 use Rattle.numbers.specs.Signal.{pick}
 use Rattle.numbers.proofs.Sweep.{both}
 use Rattle.lifting.specs.Line.{lo, hi, count}
+use Rattle.wavelet.specs.Limits.{maxWidth, maxHeight}
 use Rattle.wavelet.specs.Bands.{Band, LL, HL, LH, HH, code, across, down}
 use Rattle.wavelet.specs.Levels.{size}
 use Rattle.wavelet.specs.View.{bandRows, bandColumns, bandStart}
-use Rattle.wavelet.specs.Questions.{ask, within, sizeQuestion}
-use Rattle.wavelet.specs.ViewCall.{named, keptAt, bandRowExists, viewQuestion, viewStart, viewLength, viewRow}
+use Rattle.wavelet.specs.Questions.{ask, within, sizeQuestion, Sized}
+use Rattle.wavelet.specs.ViewCall.{named, keptAt, bandRowExists, viewQuestion, viewStart, viewLength, viewRow, viewPlace}
 use Rattle.wavelet.specs.Span.{keptSpan, stretchOf, spanOf}
 use Rattle.wavelet.specs.declared.view.Span.{Span}
 use Rattle.wavelet.specs.declared.view.Span.the-variants.{At, Refused}
 use Rattle.wavelet.proofs.SizeLaws.{size-le, size-back, count-le, count-sum}
-use Rattle.wavelet.proofs.QuestionLaws.{within-true, within-yes, Sized, sized, size-no, size-yes}
+use Rattle.wavelet.proofs.LimitLaws.{width-small, height-small}
+use Rattle.wavelet.proofs.QuestionLaws.{within-true, within-yes, sized, size-no, size-yes}
 use Rattle.wavelet.proofs.BandPlaces.{stretch-in}
 
 -- ---- the code of a band
@@ -160,11 +162,8 @@ module _ (W H L k : ℕ) (b : Band) (r : ℕ) where
 pub side-in : (k N n low : ℕ) → n ≡ size (k - 1) N → low ≡ count lo n → (low ≤ n) × (n ≤ N)
 side-in k N n low en el = (omega (arith, count-le lo n), omega (arith, size-le (k - 1) N))
 
-pub product : (a b : ℕ) → a ≤ 131070 → b ≤ 2049 → a * b ≤ 268562430
-product a b h g = mul-le-mul {n₁ = a} {m₁ = b} {n₂ = 131070} {m₂ = 2049} h g
-
-pub area-fits : (W H : ℕ) → W ≤ 2049 → H ≤ 65535 → W * H ≤ 134281215
-area-fits W H h g = mul-le-mul {n₁ = W} {m₁ = H} {n₂ = 2049} {m₂ = 65535} h g
+pub product : (a b : ℕ) → a ≤ 2 * maxHeight → b ≤ maxWidth → a * b ≤ 2 ^ 49
+product a b h g = mul-le-mul {n₁ = a} {m₁ = b} {n₂ = 2 ^ 33} {m₂ = 2 ^ 16} (omega (arith, height-small)) (omega (arith, width-small))
 
 -- the arms of the match, with w and h of level k − 1 and their low halves
 module _ (W H L k c r w h low top : ℕ) (ew : w ≡ size (k - 1) W) (eh : h ≡ size (k - 1) H) (el : low ≡ count lo w) (et : top ≡ count lo h) (l : within 1 L k ≡ true) where
@@ -334,6 +333,16 @@ module _ (plane : List ℤ) (W H L k c r : ℕ) where
       let l = span-at (length plane) W H L k c r a m e in
       let i : a + m - a ≡ m = omega arith in
       rw (i, eq-eqb _ _ (l .passes), l .starts, l .counts)
+
+  pub place-at : (a m : ℕ) → spanOf (length plane) W H L k c r ≡ At a m → a ≡ viewPlace (length plane) W H L k c r
+  unfolding viewPlace
+  place-at a m e =
+      let l = span-at (length plane) W H L k c r a m e in
+      rw (eq-eqb _ _ (l .passes)) (sym (l .starts))
+
+  pub place-none : (q : ℕ) → spanOf (length plane) W H L k c r ≡ Refused q → 0 ≡ viewPlace (length plane) W H L k c r
+  unfolding viewPlace
+  place-none q e = rw (span-refused (length plane) W H L k c r q e .1)
 
   pub row-none : (q : ℕ) → spanOf (length plane) W H L k c r ≡ Refused q → [] ≡ viewRow plane W H L k c r
   unfolding viewRow

@@ -1,6 +1,6 @@
 -- The gate questions that the whole map and the view share. Document 01, "The gate questions": "Asked in this order, each only of the calls named. The first no gives its number, and nothing changes."
 use mathlib.Core.Bool.{Bool}
-use Prim.Native.Nat.{ℕ}
+use Prim.Native.Nat.{ℕ, _≤_}
 use lib.Dec.{leb}
 use Rattle.numbers.specs.Signal.{pick, both}
 use Rattle.wavelet.specs.Limits.{maxWidth, maxHeight, maxLevels}
@@ -20,3 +20,9 @@ sizeQuestion W H L =
     (ask (within 1 maxHeight H) 3
     (ask (within 1 maxLevels L) 4
     0))
+
+-- all three answered yes
+pub record Sized (W H L : ℕ) : Type 0 where
+  pub width : (1 ≤ W) × (W ≤ maxWidth)
+  pub height : (1 ≤ H) × (H ≤ maxHeight)
+  pub levels : (1 ≤ L) × (L ≤ maxLevels)

@@ -1,7 +1,7 @@
 -- The view of a band row: its questions in the order of document 01, and the stretch of the plane that it is.
 use mathlib.Core.Bool.{Bool, true, false}
 use mathlib.Core.List.{List, []}
-use Prim.Native.Nat.{ℕ, _*_}
+use Prim.Native.Nat.{ℕ, _+_, _*_}
 use lib.IntN.{ℤ}
 use lib.ListN.{length, take, drop}
 use lib.Dec.{leb, ltb, eqb}
@@ -55,3 +55,11 @@ viewLength W k c = named c (bandColumns W k) 0
 unfoldable pub viewRow : List ℤ → ℕ → ℕ → ℕ → ℕ → ℕ → ℕ → List ℤ
 viewRow plane W H L k c r =
     pick (eqb (viewQuestion (length plane) W H L k c r) 0) (take (viewLength W k c) (drop (viewStart W H k c r) plane)) []
+
+-- where in the plane that stretch begins; an empty one at its front
+unfoldable pub viewPlace : ℕ → ℕ → ℕ → ℕ → ℕ → ℕ → ℕ → ℕ
+viewPlace n W H L k c r = pick (eqb (viewQuestion n W H L k c r) 0) (viewStart W H k c r) 0
+
+-- the address, block and byte, of number i of an area of 32-bit numbers at address a
+unfoldable pub addressOf : ℕ × ℕ → ℕ → ℕ × ℕ
+addressOf a i = (a .0, i * 4 + a .1)

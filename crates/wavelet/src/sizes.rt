@@ -13,13 +13,21 @@ pub fn half(n: usize) -> usize
     n - n / 2
 }
 
+// The lesser of a number of halvings and 64: after 64 a side below 2^64 is 1 or 0, and stays.
+fn turns(level: usize) -> usize
+    ensures { λ r. ⌜ r ≡ min level 64 ⌝ }
+{
+    if level < 64 { level } else { 64 }
+}
+
 // The side of level `level` of a side of n: W(level) of W = n.
 pub fn size_at(level: usize, n: usize) -> usize
     ensures { λ r. ⌜ r ≡ size level n ⌝ }
 {
     let mut side = n;
+    let last = turns(level);
     let mut k = 0;
-    while k < level {
+    while k < last {
         side = half(side);
         k += 1;
     }

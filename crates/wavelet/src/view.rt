@@ -3,9 +3,10 @@ use crate::limits;
 use crate::sizes;
 ghost use mathlib.Core.Path.{_≡_};
 ghost use Prim.Native.Nat.{_≤_, _*_};
+ghost use denote.Ref.{ptr};
 ghost use lib.ListN.{length};
 ghost use Rattle.wavelet.specs.Limits.{maxWidth, maxHeight};
-ghost use Rattle.wavelet.specs.ViewCall.{viewQuestion, viewRow};
+ghost use Rattle.wavelet.specs.ViewCall.{viewQuestion, viewRow, viewPlace, addressOf};
 ghost use Rattle.wavelet.specs.Span.{keptSpan, stretchOf, spanOf};
 
 // Where a band row stands in its plane: start and length, or the number of the question that turned it away.
@@ -115,6 +116,7 @@ pub fn band_row<'a>(
     row: usize,
 ) -> &'a [i32]
     ensures { λ r. ⌜ now r ≡ viewRow (now (plane .entry)) width height levels level band row ⌝ }
+    ensures { λ r. ⌜ ptr r ≡ addressOf (ptr (plane .entry)) (viewPlace (length (now (plane .entry))) width height levels level band row) ⌝ }
 {
     match locate(plane.len(), width, height, levels, level, band, row) {
         Span::At(start, count) => &plane[start..start + count],

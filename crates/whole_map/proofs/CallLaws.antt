@@ -3,7 +3,7 @@ use mathlib.Core.Path.{_≡_, refl, sym, ap, _∙_, fun-ext}
 use mathlib.Core.Bool.{Bool, true, false}
 use mathlib.Core.List.{List}
 use Prim.Native.Nat.{ℕ, zero, suc, _+_, _-_, _*_, _/_, _%_, _^_, _≤_, _<_}
-use native.Mathlib.Nat.{mul-le-mul-left, pow-le-pow-right, mod-lt, mul-comm, suc-mul, div-add-mod'}
+use native.Mathlib.Nat.{mul-le-mul, pow-le-pow-right, mod-lt, mul-comm, suc-mul, div-add-mod'}
 use native.Mathlib.Decide.{decLt, ℕ-discrete}
 use native.Mathlib.Omega.{arith}
 use lib.IntN.{ℤ, pos, natAbs}
@@ -17,12 +17,13 @@ use Rattle.lifting.specs.Line.{parted}
 use Rattle.lifting.specs.Halves.{fronted}
 use Rattle.lifting.proofs.LineLaws.{joined-parted}
 use Rattle.wavelet.specs.Limits.{maxWidth, maxHeight, maxLevels, maxSample, range}
-use Rattle.wavelet.specs.Questions.{ask, within, sizeQuestion}
+use Rattle.wavelet.specs.Questions.{ask, within, sizeQuestion, Sized}
 use Rattle.wavelet.specs.Bands.{Grid}
 use Rattle.wavelet.specs.Plane.{cells, flat, planeCell, planeOf, mapBack}
 use Rattle.wavelet.specs.Maps.{IsMap, inRange, rebuiltFits}
 use Rattle.wavelet.proofs.GridLaws.{cells-flat, row-below}
-use Rattle.wavelet.proofs.QuestionLaws.{Sized, sized, size-no, size-yes}
+use Rattle.wavelet.proofs.LimitLaws.{stride-small}
+use Rattle.wavelet.proofs.QuestionLaws.{sized, size-no, size-yes}
 use Rattle.wavelet.proofs.LevelTheory.{plane-reads}
 use Rattle.wavelet.proofs.Bridge.{map-plane}
 use Rattle.wavelet.proofs.MapTheorems.{cells-same}
@@ -179,9 +180,9 @@ pub map-doubling : (W H L : ℕ) → Sized W H L → Doubling L W W
 map-doubling W H L s =
     let w = s .width in
     let l = s .levels in
-    let p : 2 ^ L ≤ 32 = pow-le-pow-right (omega arith) (l .1) in
-    let a : W * 2 ^ L ≤ W * 32 = mul-le-mul-left W p in
-    record { some = l .0; small = omega arith; narrow = w .1 }
+    let p : 2 ^ L ≤ 2 ^ maxLevels = pow-le-pow-right (omega arith) (l .1) in
+    let a : W * 2 ^ L ≤ maxWidth * 2 ^ maxLevels = mul-le-mul {n₁ = W} {m₁ = 2 ^ L} {n₂ = maxWidth} {m₂ = 2 ^ maxLevels} (w .1) p in
+    record { some = l .0; small = omega (arith, a, stride-small); narrow = w .1 }
 
 -- ---- a place of the first W × H numbers is a cell of H rows of W, and any other place is none
 module _ (W H j : ℕ) (some : 0 < W) where
@@ -235,7 +236,7 @@ module _ (W H L : ℕ) (l : List ℕ) (x₀ x₁ : ℕ → ℤ) (s : Sized W H L
       ∙ joined-parted (heights r) c
 
   pub plane-made : (z₀ z₁ : ℕ → ℤ) → ((i : ℕ) → getD l i 0 < 65536) → z₁ ≡ flat W (planeWritten L W H (levelGrid W (cells W x₁)) (cells W z₀)) → z₁ ≡ fronted (W * H) (planeOf whole L W H heights) z₀
-  unfolding planeOf
+  unfolding planeOf maxLevels
   plane-made z₀ z₁ fits f =
       f ∙ map-places W H _ (planeCell whole L W H heights) z₀ (s .width .0) (s .height .0)
       (λ r c rh cw.

@@ -14,6 +14,7 @@ use native.Mathlib.Omega.{arith}
 use lib.IntN.{ℤ}
 use Rattle.numbers.specs.Word.{wrap32, whole}
 use Rattle.lifting.specs.Halves.{fronted}
+use Rattle.wavelet.specs.Limits.{maxLevels}
 use Rattle.wavelet.specs.Questions.{ask}
 use Rattle.wavelet.specs.Bands.{Grid}
 use Rattle.wavelet.specs.Plane.{cells, flat, planeCell, planeOf, mapBack}
@@ -87,6 +88,7 @@ module _ (W H L a b c : ℕ) (pass : sizeQuestions W H L a b c 0 ≡ 0) where
         ∙ front-cells W H (mapBack wrap32 L W H x) h r c rh cw
 
     pub backward-gives : (g : Grid) → HasPlane L W H g x ↔ (answer ≡ 0) × Same W H (cells W heightsAfter) g
+    unfolding maxLevels
     backward-gives g =
         let s = roomy-is W H L a b c pass .size in
         let m = back-exactly L W H g x (s .levels .0) (s .levels .1) in (
@@ -100,12 +102,14 @@ module _ (W H L a b c : ℕ) (pass : sizeQuestions W H L a b c 0 ≡ 0) where
         )
 
     pub backward-passes : answer ≡ 0 ↔ (g : Grid) × HasPlane L W H g x
+    unfolding maxLevels
     backward-passes =
         let s = roomy-is W H L a b c pass .size in
         let m = some-map L W H x (s .levels .0) (s .levels .1) in
         (λ e. m .0 (asked .0 e), λ k. asked .1 (m .1 k))
 
     pub one-map-only : (g g′ : Grid) → HasPlane L W H g x → HasPlane L W H g′ x → Same W H g g′
+    unfolding maxLevels
     one-map-only g g′ = let s = roomy-is W H L a b c pass .size in one-map L W H g g′ x (s .levels .1)
 
     pub backward-refuses : SevenOrFourteen answer ↔ ((g : Grid) → HasPlane L W H g x → ⊥)

@@ -22,7 +22,8 @@ use Rattle.wavelet.proofs.GridLaws.{cells-flat, flat-cells}
 use Rattle.wavelet.proofs.MapTheorems.{every-each, each-every, every-same}
 use Rattle.whole_map.specs.Rowwise.{cut, partedInPlace, between, highsLaid}
 use Rattle.whole_map.specs.Passes.{even, before, after, oddRowsChanged, evenRowsChanged, rowsMapped, levelRow, rowsStored, rowsLoaded}
-use Rattle.whole_map.specs.LevelPasses.{columnsLiftedInPlace, levelLifted, columnsUnliftedInPlace, rowsBetween}
+use Rattle.whole_map.specs.LevelPasses.{columnsLiftedInPlace, columnsUnliftedInPlace, rowsBetween}
+use Rattle.whole_map.proofs.LevelMath.{levelLifted}
 use Rattle.whole_map.proofs.GridSweep.{RowSwept, store-row, mapped-in}
 use Rattle.whole_map.proofs.RowwiseLaws.{front-at, window-cut, cut-parted}
 use Rattle.whole_map.proofs.HeightRows.{halves-inside}

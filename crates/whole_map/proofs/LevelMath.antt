@@ -14,7 +14,7 @@ use Rattle.wavelet.specs.Bands.{Grid, Band, bandOf, columnsLifted, subband, row
 use Rattle.wavelet.specs.Plane.{halfAt, placeIn}
 use Rattle.whole_map.specs.Rowwise.{cut}
 use Rattle.whole_map.specs.Passes.{oddRowsChanged, evenRowsChanged, rowsMapped, levelRow}
-use Rattle.whole_map.specs.LevelPasses.{levelGrid, columnsLiftedInPlace, levelLifted, columnsUnliftedInPlace, levelUnlifted}
+use Rattle.whole_map.specs.LevelPasses.{levelGrid, columnsLiftedInPlace, columnsUnliftedInPlace, levelUnlifted}
 use Rattle.wavelet.proofs.LevelTheory.{across-of, down-of}
 use Rattle.whole_map.proofs.GridSweep.{mapped-in}
 use Rattle.whole_map.proofs.CellLaws.{placed, placed-in, joined-at, grid-at, halves-at, halves-half, place-in, level-at, level-in, odd-in, odd-even, even-in, even-odd, cut-in, before-odd, before-even, after-odd, after-even}
@@ -104,6 +104,10 @@ module _ (w h : ℕ) (X : Grid) (r : ℕ) (rh : r < h) where
   rows-back c cw =
       mapped-in (unliftedInPlace w) w h X r (placed w c) rh (placed-in w c cw)
       ∙ halves-at w (lineHalvesBack wrap32 w (halvesOf w (cut w (X r)))) (cut w (X r)) c cw
+
+-- all columns, then all rows, in place
+unfoldable pub levelLifted : ℕ → ℕ → Grid → Grid
+levelLifted w h X = rowsMapped (liftedInPlace w) w h (columnsLiftedInPlace w h X)
 
 -- ---- one level forward: row `levelRow` of the area is row R of the plane
 module _ (w h : ℕ) (X : Grid) where

@@ -19,14 +19,15 @@ use Rattle.wavelet.specs.Plane.{cells, flat, mapBack}
 use Rattle.wavelet.specs.Maps.{everyCell, valueFits, rebuiltFits}
 use Rattle.whole_map.specs.Rowwise.{wovenInPlace}
 use Rattle.whole_map.specs.Passes.{Rows, KeptFrom, rowsMapped, rowsStored, rowsFetched, rowsLoaded}
-use Rattle.whole_map.specs.LevelPasses.{levelGrid, columnsLiftedInPlace, levelLifted, levelUnlifted, planeWritten, Rebuilt, rowsBetween, regionInRange, Doubling, LevelsBack}
+use Rattle.whole_map.specs.LevelPasses.{levelGrid, columnsLiftedInPlace, levelUnlifted, planeWritten, Rebuilt, rowsBetween, regionInRange, Doubling, LevelsBack}
 use Rattle.whole_map.proofs.CellLaws.{loaded-out, mapped-out, fetched-out, columns-out, unlifted-out, kept-flat, kept-then, next-end, next-rows, fewer-rows, fewer-columns}
+use Rattle.whole_map.proofs.LevelMath.{levelLifted}
 use Rattle.whole_map.proofs.LevelCalls.{level-both}
 use Rattle.whole_map.proofs.LevelsMath.{forward-last, forward-more, back-last, back-more}
 use Rattle.whole_map.proofs.TestLaws.{false-true, rebuilt-test, fits-more, fits-none, region-more, region-last}
 
 -- ---- sizes
-pub stride-small : (L s w : ℕ) → Doubling L s w → 2 * s ≤ 65568
+pub stride-small : (L s w : ℕ) → Doubling L s w → 2 * s < 2 ^ 32
 stride-small zero s w d = absurd (omega (arith, d .some))
 stride-small (suc L) s w d =
     let e = d .small in

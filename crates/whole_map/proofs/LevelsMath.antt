@@ -13,12 +13,12 @@ use Rattle.wavelet.specs.Bands.{Grid, Band, LL, HL, LH, HH, bandOf, subband, le
 use Rattle.wavelet.specs.Plane.{cells, flat, halfAt, placeIn, planeCell, mapBack}
 use Rattle.whole_map.specs.Rowwise.{cut, wovenInPlace}
 use Rattle.whole_map.specs.Passes.{within, rowsMapped, rowsStored, rowsFetched, rowsLoaded}
-use Rattle.whole_map.specs.LevelPasses.{levelGrid, levelLifted, levelUnlifted, planeWritten, Rebuilt}
+use Rattle.whole_map.specs.LevelPasses.{levelGrid, levelUnlifted, planeWritten, Rebuilt}
 use Rattle.wavelet.proofs.GridLaws.{cells-flat}
 use Rattle.wavelet.proofs.LevelTheory.{plane-reads}
 use Rattle.whole_map.proofs.GridSweep.{mapped-in}
 use Rattle.whole_map.proofs.CellLaws.{loaded-in, stored-in, stored-out, fetched-new, fetched-made, made-even, made-odd, plane-even, plane-odd, flat-same, placed, placed-in, joined-at, grid-at, halves-at, half-low, cut-in, within-in, by-within}
-use Rattle.whole_map.proofs.LevelMath.{BandsIn, level-forward, level-back}
+use Rattle.whole_map.proofs.LevelMath.{levelLifted, BandsIn, level-forward, level-back}
 
 -- ---- the plane, by cells
 module _ (keep : ℤ → ℤ) where

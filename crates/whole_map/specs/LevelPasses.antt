@@ -7,8 +7,8 @@ use lib.Dec.{ltb, leb}
 use Rattle.numbers.specs.Signal.{pick, spliced}
 use Rattle.numbers.specs.Word.{wrap32}
 use Rattle.lifting.specs.Line.{lo, count, predicted, updated, unupdated, unpredicted, joined}
-use Rattle.lifting.specs.Halves.{halvesOf, fronted, liftedInPlace, unliftedInPlace}
-use Rattle.wavelet.specs.Limits.{range}
+use Rattle.lifting.specs.Halves.{halvesOf, fronted, unliftedInPlace}
+use Rattle.wavelet.specs.Limits.{maxWidth, range}
 use Rattle.wavelet.specs.Bands.{Grid}
 use Rattle.wavelet.specs.Plane.{planeCell, levelAt, mapBack, cells, flat}
 use Rattle.wavelet.specs.Maps.{everyCell, valueFits, rebuiltFits}
@@ -19,13 +19,10 @@ use Rattle.whole_map.specs.Passes.{within, oddRowsChanged, evenRowsChang
 unfoldable pub levelGrid : ℕ → Grid → Grid
 levelGrid w X r = joined (halvesOf w (X r))
 
--- all columns, then all rows, in place; a column of one number is its own
+-- all columns in place; a column of one number is its own
 unfoldable pub columnsLiftedInPlace : ℕ → ℕ → Grid → Grid
 columnsLiftedInPlace w h X =
     pick (ltb 1 h) (evenRowsChanged (updated wrap32) w h (oddRowsChanged (predicted wrap32) w h X)) X
-
-unfoldable pub levelLifted : ℕ → ℕ → Grid → Grid
-levelLifted w h X = rowsMapped (liftedInPlace w) w h (columnsLiftedInPlace w h X)
 
 -- all rows, then all columns
 unfoldable pub columnsUnliftedInPlace : ℕ → ℕ → Grid → Grid
@@ -59,8 +56,8 @@ regionInRange k L w h x = everyCell w h (λ r c. leb (natAbs (x r c)) (range (k 
 -- L levels of rows of w numbers, s apart: strides double from level to level, and stay small
 pub record Doubling (L s w : ℕ) : Type 0 where
   pub some : 0 < L
-  pub small : s * 2 ^ L ≤ 65568
-  pub narrow : w ≤ 2049
+  pub small : s * 2 ^ L < 2 ^ 32
+  pub narrow : w ≤ maxWidth
 
 -- what all levels back leave of the work area y₀, and their answer, question 14 of the low-low part: z is the plane, k the level that this
 -- grid is the low-low part of, 0 for the map

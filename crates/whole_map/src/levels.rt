@@ -6,14 +6,14 @@ use crate::rowwise;
 use lifting::rows;
 use wavelet::sizes;
 ghost use mathlib.Core.Path.{_≡_};
-ghost use Prim.Native.Nat.{_+_, _-_, _*_, _<_, _≤_};
+ghost use Prim.Native.Nat.{_+_, _-_, _*_, _^_, _<_, _≤_};
 ghost use lib.IntN.{pos, negℤ};
 ghost use lib.Dec.{ltb};
 ghost use lib.ListN.{length};
 ghost use Rattle.numbers.specs.Signal.{at, pick, windowed, spliced};
 ghost use Rattle.lifting.specs.Line.{lo, count};
 ghost use Rattle.lifting.specs.Halves.{liftedInPlace, unliftedInPlace};
-ghost use Rattle.wavelet.specs.Limits.{range};
+ghost use Rattle.wavelet.specs.Limits.{maxWidth, range};
 ghost use Rattle.wavelet.specs.Plane.{cells, flat};
 ghost use Rattle.whole_map.specs.Rowwise.{partedInPlace, wovenInPlace, highsLaid};
 ghost use Rattle.whole_map.specs.Passes.{Rows, KeptFrom, even, planeRow, levelRow, rowsMapped, rowsStored, rowsFetched, rowsLoaded};
@@ -184,7 +184,7 @@ fn fetch_last(
 
 // The low-low part of a level from halves into its own order.
 fn weave_low(work: &mut [i32], stride: usize, width: usize, height: usize)
-    requires { ⌜ Rows (length (now work)) stride width height × (width ≤ 2049) × (stride ≤ 65568) ⌝ }
+    requires { ⌜ Rows (length (now work)) stride width height × (width ≤ maxWidth) × (stride < 2 ^ 32) ⌝ }
     ensures { λ _. ⌜ at (now (work .exit)) ≡ flat (2 * stride) (rowsMapped (wovenInPlace (count lo width)) (count lo width) (count lo height) (cells (2 * stride) (at (now (work .entry))))) ⌝ }
 {
     passes::weave_rows(work, 2 * stride, sizes::half(width), sizes::half(height));
@@ -206,7 +206,7 @@ pub fn forward_levels(
 {
     lift_columns(work, stride, width, height);
     store_level(work, plane, stride, across, width, height);
-    if levels < 2 {
+    if levels <= 1 {
         return;
     }
     let w = sizes::half(width);

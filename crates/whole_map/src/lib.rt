@@ -12,7 +12,7 @@ ghost use Rattle.numbers.specs.Signal.{at};
 ghost use Rattle.numbers.specs.Word.{whole, wrap32};
 ghost use Rattle.lifting.specs.Halves.{fronted};
 ghost use Rattle.wavelet.specs.Plane.{planeOf, mapBack, cells, flat};
-ghost use Rattle.wavelet.proofs.QuestionLaws.{Sized};
+ghost use Rattle.wavelet.specs.Questions.{Sized};
 ghost use Rattle.whole_map.specs.Rowwise.{heightsAt};
 ghost use Rattle.whole_map.specs.LevelPasses.{MapRebuilt};
 ghost use Rattle.whole_map.specs.Calls.{sizeQuestions, forwardQuestion, planeQuestions, backwardQuestion, zeros, passed, rebuilt};

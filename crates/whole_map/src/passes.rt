@@ -6,7 +6,8 @@ ghost use Prim.Native.Nat.{_+_, _-_, _*_, _<_, _≤_};
 ghost use lib.ListN.{length};
 ghost use Rattle.numbers.specs.Signal.{at};
 ghost use Rattle.numbers.specs.Word.{wrap32};
-ghost use Rattle.lifting.specs.Line.{predicted, updated, unupdated, unpredicted};
+ghost use Rattle.lifting.specs.Line.{lo, count, predicted, updated, unupdated, unpredicted};
+ghost use Rattle.wavelet.specs.Limits.{maxWidth};
 ghost use Rattle.wavelet.specs.Plane.{cells, flat};
 ghost use Rattle.whole_map.specs.Rowwise.{wovenInPlace};
 ghost use Rattle.whole_map.specs.Passes.{after, before, oddRowsChanged, evenRowsChanged, nextChanged, pairChanged, rowsMapped, Rows};
@@ -86,7 +87,7 @@ pub fn unlift_pair(area: &mut [i32], stride: usize, width: usize, height: usize,
 
 // Each row from halves into its own order.
 pub fn weave_rows(area: &mut [i32], stride: usize, width: usize, height: usize)
-    requires { ⌜ Rows (length (now area)) stride width height × (width ≤ 1025) ⌝ }
+    requires { ⌜ Rows (length (now area)) stride width height × (width ≤ count lo maxWidth) ⌝ }
     ensures { λ _. ⌜ at (now (area .exit)) ≡ flat stride (rowsMapped (wovenInPlace width) width height (cells stride (at (now (area .entry))))) ⌝ }
 {
     let mut r = 0;

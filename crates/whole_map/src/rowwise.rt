@@ -9,6 +9,7 @@ ghost use Rattle.numbers.specs.Word.{wrap32};
 ghost use Rattle.lifting.specs.Line.{lo, hi, count, predicted, updated, unupdated, unpredicted, parted, joined};
 ghost use Rattle.lifting.specs.Halves.{halvesOf, inHalves, fronted, liftedInPlace, unliftedInPlace};
 ghost use Rattle.lifting.specs.Passes.{highsChanged, lowsChanged, evensCopied, oddsCopied};
+ghost use Rattle.wavelet.specs.Limits.{maxWidth};
 ghost use Rattle.wavelet.specs.Maps.{every};
 ghost use Rattle.whole_map.specs.Rowwise.{wovenInPlace, evensLaid, oddsLaid, highsLaid, between};
 
@@ -256,7 +257,7 @@ fn weave_odds(row: &[i32], line: &mut [i32])
 
 // A row from halves into its own order, in place, through a local line.
 pub fn weave(row: &mut [i32])
-    requires { ⌜ length (now row) ≤ 1025 ⌝ }
+    requires { ⌜ length (now row) ≤ count lo maxWidth ⌝ }
     ensures { λ _. ⌜ at (now (row .exit)) ≡ wovenInPlace (length (now (row .entry))) (at (now (row .entry))) ⌝ }
 {
     let mut line = [0; LONGEST];

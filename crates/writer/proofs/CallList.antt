@@ -1,4 +1,5 @@
--- What every call keeps, the history being the heights taken ts, whether a finish passed f, and the rows drawn ds: `At`. For EVERY grid that begins with ts the store holds what it must (`Sound`).
+-- What every call keeps, the history being the heights taken ts, whether a finish passed f, and the rows drawn ds: `At`. For EVERY grid that begins
+-- with ts the store holds what it must (`Sound`).
 --     offering-good   heights are taken
 --     draw-good       a row is drawn
 --     finish-good     the finish
@@ -7,7 +8,8 @@ use mathlib.Core.Bool.{Bool, true, false}
 use mathlib.Core.Path.{_≡_, refl, sym, ap, ap₂, subst, _∙_}
 use mathlib.Core.List.{List, [], _∷_, _++_, map, append-nil, append-assoc}
 use Prim.Native.Nat.{ℕ, zero, suc, _+_, _-_, _*_, _/_, _%_, _≤_, _<_}
-use native.Mathlib.Nat.{mul-comm, mul-le-mul-right, mul-add-div-right, div-eq-of-lt, mul-add-mod-self-right, mod-eq-of-lt, mul-div-cancel, mul-div-cancel-left, suc-mul, mul-suc}
+use native.Mathlib.Nat.{mul-comm, mul-le-mul-right, mul-add-div-right, div-eq-of-lt, mul-add-mod-self-right, mod-eq-of-lt, mul-div-cancel}
+use native.Mathlib.Nat.{mul-div-cancel-left, suc-mul, mul-suc}
 use native.Mathlib.Decide.{decLt}
 use native.Mathlib.Omega.{arith}
 use lib.IntN.{ℤ, pos}
@@ -27,6 +29,7 @@ use Rattle.wavelet.specs.Questions.{within}
 use Rattle.wavelet.specs.Order.{RowName, rowName, madeBy, closing, inTurn, made}
 use Rattle.wavelet.proofs.OrderLaws.{turn-suc}
 use Rattle.writer.specs.Level.{Memory, LevelKind}
+use Rattle.writer.specs.Counts.{mostLeft}
 use Rattle.writer.specs.FiveThreeLevel.{cellOf, fiveThree}
 use Rattle.writer.specs.Machine.{Out, arrive}
 use Rattle.writer.specs.Draws.{Waiting, waiting, pull}
@@ -40,7 +43,8 @@ use Rattle.writer.specs.Demand3.{answered, All, all-none, all-more, isNo
 use Rattle.writer.proofs.LevelLaws.{five-three-laws}
 use Rattle.writer.proofs.Waiting.{pend, later, pend-none, later-all, later-none}
 use Rattle.writer.proofs.CascadeHolds.{Good, Pulled, level-le, closed-le}
-use Rattle.writer.proofs.StateHolds.{differ, st, fresh-holds, pulled-by, shut-on, draw-holds, shut-first, finish-holds, begun-holds, arrived-by, complete-holds}
+use Rattle.writer.proofs.StateHolds.{differ, st, fresh-holds, pulled-by, shut-on, draw-holds, shut-first, finish-holds, begun-holds}
+use Rattle.writer.proofs.StateHolds.{arrived-by, complete-holds}
 
 -- ---- lists
 module _ {A : Type 0} {P : A → Type 0} where
@@ -93,7 +97,8 @@ fits-back W H g ts us f t = record {
   whole = λ e. absurd (differ e);
 }
 
-fits-height : (W H : ℕ) (g : Grid) (ts : List ℕ) (h : ℕ) (us : List ℕ) (f : Bool) (r c : ℕ) → length ts ≡ r * W + c → c < W → Fits W H g (ts ++ h ∷ us) f → (g r c ≡ pos h) × (r < H)
+fits-height : (W H : ℕ) (g : Grid) (ts : List ℕ) (h : ℕ) (us : List ℕ) (f : Bool) (r c : ℕ) → length ts ≡ r * W + c → c < W →
+    Fits W H g (ts ++ h ∷ us) f → (g r c ≡ pos h) × (r < H)
 fits-height W H g ts h us f r c e p t =
     let len : length (ts ++ h ∷ us) ≡ length ts + suc (length us) = length-append ts (h ∷ us) in
     (t .heights r c p (omega arith) ∙ ap pos (getD-at ts h us 0 (r * W + c) e), rows-below W H r c (omega (arith, t .within)))
@@ -177,7 +182,17 @@ module _ {L W : ℕ} {ts : List ℕ} {f : Bool} {ds : List DrawnRow} {r c cl v i
   unfolding inRanges
   in-ranges p q =
       let s = own-sound in
-      simp (p, q, le-leb r maxHeight (a .rows-in), lt-ltb c W (a .column-in), le-leb cl L (closed-le fiveThree Kept five-three-laws L _ _ _ _ _ _ _ _ _ (s .holds .levels)), le-leb v L (level-le fiveThree Kept five-three-laws L _ _ _ _ _ _ _ _ _ (s .holds .levels)), le-leb i 4 (s .holds .few))
+      simp (
+        p,
+        q,
+        le-leb r maxHeight (a .rows-in),
+        lt-ltb c W (a .column-in),
+        le-leb cl L
+            (closed-le fiveThree Kept five-three-laws L _ _ _ _ _ _ _ _ _ (s .holds .levels)),
+        le-leb v L
+            (level-le fiveThree Kept five-three-laws L _ _ _ _ _ _ _ _ _ (s .holds .levels)),
+        le-leb i (mostLeft L v) (s .holds .few),
+      )
 
   -- what waits, by the history: made and not drawn
   pub waiting-is : drop (length ds) (made W L r f) ≡ coming L W f cl v i r
@@ -229,7 +244,8 @@ module _ (l W : ℕ) (ds : List DrawnRow) where
       room = λ _. q;
       ended = λ e. absurd (differ e);
       sound = λ H g t. let s = before H g t in record {
-        holds = subst (λ d. Holds H g (st W L r (c + 1) false cl v i) (stored (cellOf W r c) d x)) (here H g t .0) (begun-holds H g W l r c cl v i x (s .holds) z (a .column-in));
+        holds = subst (λ d. Holds H g (st W L r (c + 1) false cl v i) (stored (cellOf W r c) d x)) (here H g t .0) (begun-holds H g W l r c cl v i x
+            (s .holds) z (a .column-in));
         names = s .names;
         named = s .named;
         order = s .order;
@@ -242,7 +258,8 @@ module _ (l W : ℕ) (ds : List DrawnRow) where
     abbrev o : Out
     o = arrive K L W r x′
 
-    made-next : (names : List RowName) → names ++ coming L W false cl v i r ≡ made W L r false → (todo : List RowName) → todo ≡ madeBy L 1 W r → names ++ todo ≡ made W L (r + 1) false
+    made-next : (names : List RowName) → names ++ coming L W false cl v i r ≡ made W L r false → (todo : List RowName) → todo ≡ madeBy L 1 W r →
+        names ++ todo ≡ made W L (r + 1) false
     unfolding made
     made-next names e todo q =
         let n : names ≡ inTurn r (madeBy L 1 W) ++ [] = sym (append-nil names) ∙ ap (λ b. names ++ b) (sym (none-waits a z)) ∙ e in
@@ -267,7 +284,8 @@ module _ (l W : ℕ) (ds : List DrawnRow) where
           named = s .named;
           order =
               made-next (s .names) (s .order) _
-              (coming-open L W cl (o .level) (o .left) (r + 1) ∙ ap₂ (λ b d. pend L 1 W b (o .level) (o .left) d) (s .holds .before refl) (omega arith) ∙ k .rows);
+              (coming-open L W cl (o .level) (o .left) (r + 1) ∙ ap₂ (λ b d. pend L 1 W b (o .level) (o .left) d) (s .holds .before refl)
+              (omega arith) ∙ k .rows);
           values = s .values;
         }
 
@@ -329,7 +347,8 @@ module _ (l W : ℕ) (ds : List DrawnRow) where
   Offers run = (ts : List ℕ) (r c cl v i : ℕ) (x : Memory) → At L W ts false ds r c cl v i x → Offered run ts (offering K run (st W L r c false cl v i) x)
 
   -- one height, then the others
-  one-more : (h : ℕ) (run ts : List ℕ) (t : Taking) → takesAt (length ts) ≡ true → Offered run (ts ++ h ∷ []) t → Offered (h ∷ run) ts (record { taken = suc (t .taken); writer = t .writer; store = t .store })
+  one-more : (h : ℕ) (run ts : List ℕ) (t : Taking) → takesAt (length ts) ≡ true → Offered run (ts ++ h ∷ []) t →
+      Offered (h ∷ run) ts (record { taken = suc (t .taken); writer = t .writer; store = t .store })
   one-more h run ts t e k = record {
     rows = k .rows;
     column = k .column;
@@ -337,7 +356,8 @@ module _ (l W : ℕ) (ds : List DrawnRow) where
     level = k .level;
     left = k .left;
     writer-is = k .writer-is;
-    at = subst (λ b. At L W b false ds (k .rows) (k .column) (k .closed) (k .level) (k .left) (t .store)) (append-assoc ts (h ∷ []) (take (t .taken) run)) (k .at);
+    at = subst (λ b. At L W b false ds (k .rows) (k .column) (k .closed) (k .level) (k .left) (t .store)) (append-assoc ts (h ∷ [])
+        (take (t .taken) run)) (k .at);
     most = omega (arith, k .most);
     until = first;
     stop = λ p. ap takesAt (omega (arith, len)) ∙ k .stop (omega arith);
@@ -350,7 +370,8 @@ module _ (l W : ℕ) (ds : List DrawnRow) where
       first zero p = ap takesAt (omega arith) ∙ e
       first (suc j) p = ap takesAt (omega (arith, len)) ∙ k .until j (omega arith)
 
-  none-more : (run ts : List ℕ) (r c cl v i : ℕ) (x : Memory) → At L W ts false ds r c cl v i x → (0 < length run → takesAt (length ts) ≡ false) → Offered run ts (record { taken = 0; writer = st W L r c false cl v i; store = x })
+  none-more : (run ts : List ℕ) (r c cl v i : ℕ) (x : Memory) → At L W ts false ds r c cl v i x → (0 < length run → takesAt (length ts) ≡ false) →
+      Offered run ts (record { taken = 0; writer = st W L r c false cl v i; store = x })
   none-more run ts r c cl v i x a e = record {
     rows = r;
     column = c;
@@ -383,7 +404,8 @@ module _ (l W : ℕ) (ds : List DrawnRow) where
       more : Taking → Taking
       more t = record { taken = suc (t .taken); writer = t .writer; store = t .store }
 
-      go : (t : Bool) → takes (st W L r c false cl v i) ≡ t → Offered (h ∷ run) ts (pick t (more (pick (ltb (c + 1) W) b d)) (record { taken = 0; writer = st W L r c false cl v i; store = x }))
+      go : (t : Bool) → takes (st W L r c false cl v i) ≡ t →
+          Offered (h ∷ run) ts (pick t (more (pick (ltb (c + 1) W) b d)) (record { taken = 0; writer = st W L r c false cl v i; store = x }))
       go false e = none-more (h ∷ run) ts r c cl v i x a (λ _. sym (takes-is ts r c cl v i x a) ∙ e)
       go true e = inner (ltb (c + 1) W) refl
         where
@@ -398,7 +420,8 @@ module _ (l W : ℕ) (ds : List DrawnRow) where
 
           inner : (t : Bool) → ltb (c + 1) W ≡ t → Offered (h ∷ run) ts (more (pick t b d))
           inner true q = one-more h run ts b open-here (ih (ts ++ h ∷ []) r (c + 1) cl v i y (begun-at ts r c cl v i x a free h low (ltb-true _ _ q)))
-          inner false q = one-more h run ts d open-here (ih (ts ++ h ∷ []) (r + 1) 0 cl (o .level) (o .left) (o .store) (complete-at ts r c cl v i x a free h low (ltb-false _ _ q)))
+          inner false q = one-more h run ts d open-here (ih (ts ++ h ∷ []) (r + 1) 0 cl (o .level) (o .left) (o .store)
+              (complete-at ts r c cl v i x a free h low (ltb-false _ _ q)))
 
   pub offering-good : (run : List ℕ) → Offers run
   offering-good [] ts r c cl v i x a = unfold offering in none-more [] ts r c cl v i x a (λ p. absurd (omega arith))
@@ -433,7 +456,8 @@ module _ (l W : ℕ) (ds : List DrawnRow) where
           (P .is .length-is ∙ ap (λ k. count (across (q .band)) (size k W)) (sym e))
 
       -- what is still to come after the draw
-      still : (b : Bool) → f ≡ b → (let k = resumed b (st W L r c b cl (suc v) i) out (out .level) in coming L W b cl (suc v) i r ≡ name ∷ coming L W b (k .closed) (k .out .level) (k .out .left) r)
+      still : (b : Bool) → f ≡ b → (let k = resumed b (st W L r c b cl (suc v) i) out (out .level) in
+          coming L W b cl (suc v) i r ≡ name ∷ coming L W b (k .closed) (k .out .level) (k .out .left) r)
       still false e =
           unfold resumed in
           (coming-open L W cl (suc v) i r ∙ P .first ∙ ap (λ l. name ∷ l) (sym (coming-open L W cl (out .level) (out .left) r ∙ P .good .rows)))
@@ -442,7 +466,8 @@ module _ (l W : ℕ) (ds : List DrawnRow) where
           h : Holds H g (st W L r c true cl (suc v) i) x
           h = subst (λ b. Holds H g (st W L r c b cl (suc v) i) x) e (s .holds)
 
-          go : (b : ℕ) → out .level ≡ b → (let k = resumed true (st W L r c true cl (suc v) i) out b in coming L W true (k .closed) (k .out .level) (k .out .left) r ≡ P .todo ++ later L 1 W r cl)
+          go : (b : ℕ) → out .level ≡ b → (let k = resumed true (st W L r c true cl (suc v) i) out b in
+              coming L W true (k .closed) (k .out .level) (k .out .left) r ≡ P .todo ++ later L 1 W r cl)
           go zero y =
               unfold resumed in
               (coming-closed L W _ _ _ r
@@ -450,7 +475,8 @@ module _ (l W : ℕ) (ds : List DrawnRow) where
               ∙ ap (λ l. l ++ later L 1 W r cl) (sym (sym (P .good .rows) ∙ ap (λ b. pend L 1 W cl b (out .left) r) y ∙ pend-none L 1 W cl (out .left) r)))
           go (suc b) y = unfold resumed in (coming-closed L W cl (out .level) (out .left) r ∙ ap (λ l. l ++ later L 1 W r cl) (P .good .rows))
 
-      drawn-sound : (z : ℕ → ℤ) → ((j : ℕ) → j < q .length → z j ≡ x (q .start + j)) → Sound L W H g f (ds ++ (record { row = bandRow q; values = z } ∷ [])) r c (left .closed) (left .out .level) (left .out .left) (left .out .store)
+      drawn-sound : (z : ℕ → ℤ) → ((j : ℕ) → j < q .length → z j ≡ x (q .start + j)) →
+          Sound L W H g f (ds ++ (record { row = bandRow q; values = z } ∷ [])) r c (left .closed) (left .out .level) (left .out .left) (left .out .store)
       drawn-sound z e = record {
         holds = draw-holds H g W L r c f cl v i x (s .holds);
         names = s .names ++ (name ∷ []);
@@ -475,7 +501,8 @@ module _ (l W : ℕ) (ds : List DrawnRow) where
     pub head-is : (n : RowName) × (l : List RowName) × (coming L W f cl (suc v) i r ≡ n ∷ l) × (bandRow q ≡ answered W n)
     head-is = (name _ _ (own-fits a), _, still _ _ (own-fits a) f refl, answer-is _ _ (own-fits a))
 
-    pub draw-good : (z : ℕ → ℤ) → ((j : ℕ) → j < q .length → z j ≡ x (q .start + j)) → At L W ts f (ds ++ (record { row = bandRow q; values = z } ∷ [])) r c (left .closed) (left .out .level) (left .out .left) (left .out .store)
+    pub draw-good : (z : ℕ → ℤ) → ((j : ℕ) → j < q .length → z j ≡ x (q .start + j)) →
+        At L W ts f (ds ++ (record { row = bandRow q; values = z } ∷ [])) r c (left .closed) (left .out .level) (left .out .left) (left .out .store)
     draw-good z e = record {
       counted = a .counted;
       column-in = a .column-in;
@@ -494,7 +521,8 @@ module _ (l W : ℕ) (ds : List DrawnRow) where
     abbrev k : Shut
     k = shut K L W 0 r x
 
-    made-whole : (names : List RowName) → names ++ coming L W false cl v i r ≡ made W L r false → (l : List RowName) → l ≡ closing L 1 W r → names ++ l ≡ made W L r true
+    made-whole : (names : List RowName) → names ++ coming L W false cl v i r ≡ made W L r false → (l : List RowName) → l ≡ closing L 1 W r →
+        names ++ l ≡ made W L r true
     unfolding made
     made-whole names e l q =
         let m : names ≡ inTurn r (madeBy L 1 W) ++ [] = sym (append-nil names) ∙ ap (λ b. names ++ b) (sym (none-waits a z)) ∙ e in
@@ -523,7 +551,11 @@ module _ (l W : ℕ) (ds : List DrawnRow) where
         ∙ ap length (s .named)
         ∙ length-map (s .names) (answered W)
         ∙ ap length (sym (append-nil (s .names)) ∙ ap (λ b. s .names ++ b) (sym (none-waits a z)) ∙ s .order) in
-        record { drawn = omega arith; right = λ H g t. subst (All (Right L W H g)) (sym (take-all (length (made W L r false)) ds (omega arith))) (a .sound H g t .values) }
+        record {
+          drawn = omega arith;
+          right = λ H g t. subst (All (Right L W H g)) (sym (take-all (length (made W L r false)) ds (omega arith)))
+              (a .sound H g t .values);
+        }
 
     pub finish-good : At L W ts true ds r c (k .closed) (k .out .level) (k .out .left) (k .out .store)
     finish-good = record {

@@ -1,4 +1,5 @@
--- Every call keeps what the store holds, on every state and store: `set-up-holds`, `draw-keeps`, `finish-keeps`, `offer-keeps`; and a drawn row has the map's values: `draw-values`.
+-- Every call keeps what the store holds, on every state and store: `set-up-holds`, `draw-keeps`, `finish-keeps`, `offer-keeps`; and a drawn row has
+-- the map's values: `area-values`.
 -- Assumes nothing.
 use mathlib.Core.Bool.{Bool, true, false, not}
 use mathlib.Core.Path.{_≡_, refl, sym, ap, subst, subst₂, _∙_}
@@ -9,24 +10,28 @@ use native.Mathlib.Omega.{arith}
 use lib.IntN.{pos}
 use lib.ListN.{length, getD}
 use lib.Dec.{leb, ltb, eqb}
-use borrow.Author.Tests.{eqb-true, ltb-true, ltb-false, leb-true}
+use borrow.Author.Tests.{eqb-true, lt-ltb, ltb-true, ltb-false, leb-true}
 use Rattle.numbers.specs.Signal.{pick, both}
 use Rattle.numbers.specs.Word.{wrap32}
 use Rattle.numbers.proofs.Sweep.{both as split-both}
+use Rattle.lifting.specs.Halves.{fronted}
 use Rattle.wavelet.specs.Limits.{maxWidth, maxHeight, maxLevels}
 use Rattle.wavelet.specs.Bands.{Grid}
 use Rattle.wavelet.specs.Levels.{levelBand}
 use Rattle.wavelet.specs.Questions.{ask, within}
 use Rattle.writer.specs.declared.Writer.{Writer}
+use Rattle.writer.specs.declared.BandRow.{BandRow}
 use Rattle.writer.specs.Level.{Memory}
 use Rattle.writer.specs.FiveThreeLevel.{cellOf, fiveThree}
-use Rattle.writer.specs.Machine.{Out, arrive}
+use Rattle.writer.specs.Machine.{Out, rest, arrive}
 use Rattle.writer.specs.Draws.{Waiting}
 use Rattle.writer.specs.Taking.{stored, Taking, takes, offering}
 use Rattle.writer.specs.Questions.{setUpQuestion, either, inRanges, longEnough, waitingRow, offerQuestion, drawQuestion, finishQuestion}
-use Rattle.writer.specs.Answers.{Reply, gives, refused, unless, changedUnless, Took, Handed}
-use Rattle.writer.specs.Calls.{fresh, setUpReply, took, offerReply, offerStore, waits, closing, finishReply, finishStore, handed, handedStore, drawReply, drawStore}
-use Rattle.writer.specs.Holds.{Holds, Keeps, AnyMap, AllRows, GoesOn, left, after, tookOf, DrawKeeps, FinishKeeps, OfferKeeps, SetUpHolds}
+use Rattle.writer.specs.Answers.{Reply, gives, refused, unless, changedUnless, Took, Handed, aRow}
+use Rattle.writer.specs.Calls.{fresh, setUpReply, took, offerReply, offerStore, waits, closing, finishReply, finishStore, bandRow, handed}
+use Rattle.writer.specs.Calls.{handedStore, handedArea, drawReply, drawStore, drawArea}
+use Rattle.writer.specs.Holds.{Holds, Keeps, AnyMap, AllRows, GoesOn, MapRow, left, after, tookOf, DrawKeeps, FinishKeeps, OfferKeeps, SetUpHolds}
+use Rattle.writer.proofs.CountLaws.{code-one}
 use Rattle.writer.proofs.StateHolds.{st, fresh-holds, pulled-by, draw-holds, finish-holds, begun-holds, complete-holds}
 use Rattle.writer.proofs.CallList.{rows-of, column-of, rows-below}
 
@@ -35,36 +40,67 @@ pub set-up-holds : (W L H : ℕ) (g : Grid) (x : Memory) → Holds H g (fresh W 
 set-up-holds W L H g x = fresh-holds H g W L x
 
 -- ---- draw
-handed-holds : (H : ℕ) (g : Grid) (W L r c : ℕ) (f : Bool) (cl v i : ℕ) (x : Memory) → (let s = st W L r c f cl v i in Holds H g s x → Holds H g (after s (handed v s x)) (handedStore v s x))
+handed-holds : (H : ℕ) (g : Grid) (W L r c : ℕ) (f : Bool) (cl v i : ℕ) (x : Memory) → (let s = st W L r c f cl v i in Holds H g s x →
+    Holds H g (after s (handed v s x)) (handedStore v s x))
 handed-holds H g W L r c f cl zero i x h = h
 handed-holds H g W L r c f cl (suc v) i x h = draw-holds H g W L r c f cl v i x h
 
-pub draw-keeps : (s : Writer) (n k : ℕ) (x : Memory) → DrawKeeps s x (drawReply s n k x) (drawStore s n k x)
+draw-keeps : (s : Writer) (n k : ℕ) (x : Memory) → Keeps AnyMap s x (left (after s) s (drawReply s n k x)) (drawStore s n k x)
 unfolding drawReply drawStore
 draw-keeps s n k x = record { keeps = λ H g _ h. go H g h (drawQuestion s n k) }
   where
-    go : (H : ℕ) (g : Grid) → Holds H g s x → (q : ℕ) → Holds H g (left (after s) s (unless q (handed (s .level) s x))) (changedUnless q (handedStore (s .level) s x) x)
+    go : (H : ℕ) (g : Grid) → Holds H g s x → (q : ℕ) → Holds H g (left (after s) s (unless q (handed (s .level) s x)))
+        (changedUnless q (handedStore (s .level) s x) x)
     go H g h zero = handed-holds H g (s .width) (s .levels) (s .rows) (s .column) (s .finished) (s .closed) (s .level) (s .left) x h
     go H g h (suc q) = h
 
 -- the row that waits has the map's values
-pub draw-values : (s : Writer) (x : Memory) (H : ℕ) (g : Grid) → Holds H g s x → 0 < s .level → (i : ℕ) → i < waitingRow s .length → x (waitingRow s .start + i) ≡ levelBand wrap32 (s .width) H g (waitingRow s .level) (waitingRow s .band) (waitingRow s .row) i
+draw-values : (s : Writer) (x : Memory) (H : ℕ) (g : Grid) → Holds H g s x → 0 < s .level → (i : ℕ) → i < waitingRow s .length →
+    x (waitingRow s .start + i) ≡ levelBand wrap32 (s .width) H g (waitingRow s .level) (waitingRow s .band) (waitingRow s .row) i
 draw-values s x H g h p = go (s .level) h p
   where
     go : (v : ℕ) → (let s′ = st (s .width) (s .levels) (s .rows) (s .column) (s .finished) (s .closed) v (s .left) in
-        Holds H g s′ x → 0 < v → (i : ℕ) → i < waitingRow s′ .length → x (waitingRow s′ .start + i) ≡ levelBand wrap32 (s .width) H g (waitingRow s′ .level) (waitingRow s′ .band) (waitingRow s′ .row) i)
+        Holds H g s′ x → 0 < v → (i : ℕ) → i < waitingRow s′ .length → x (waitingRow s′ .start + i) ≡ levelBand wrap32 (s .width) H g
+        (waitingRow s′ .level) (waitingRow s′ .band) (waitingRow s′ .row) i)
     go zero h p i b = absurd (omega arith)
     go (suc v) h p i b =
         let P = pulled-by H g (s .width) (s .levels) (s .rows) (s .column) (s .finished) (s .closed) v (s .left) x h in
         let q : Waiting = waitingRow (st (s .width) (s .levels) (s .rows) (s .column) (s .finished) (s .closed) (suc v) (s .left)) in
         P .is .values i b ∙ ap (λ k. levelBand wrap32 (s .width) H g k (q .band) (q .row) i) (sym (P .is .level-is))
 
+-- and so has the row that is answered, in the output area, where z stood before
+area-values : (s : Writer) (n k : ℕ) (x z : Memory) (H : ℕ) (g : Grid) → Holds H g s x → (b : BandRow) (t : Writer) →
+    drawReply s n k x ≡ gives (aRow b t) → MapRow (s .width) H g b (drawArea s n k x z)
+unfolding drawReply drawArea
+area-values s n k x z H g h b t e = go (drawQuestion s n k) (s .level) refl e
+  where
+    q : Waiting
+    q = waitingRow s
+
+    y : Memory
+    y = fronted (q .length) (rest (q .start) x) z
+
+    front : (i : ℕ) → i < q .length → y i ≡ x (q .start + i)
+    front i p = unfold fronted rest in simp (lt-ltb i (q .length) p)
+
+    here : 0 < s .level → MapRow (s .width) H g (bandRow q) y
+    here p = record {
+      are = λ c f i l.
+          front i l ∙ draw-values s x H g h p i l ∙ ap (λ d. levelBand wrap32 (s .width) H g (q .level) d (q .row) i) (code-one (q .band) c f);
+    }
+
+    go : (a v : ℕ) → s .level ≡ v → unless a (handed v s x) ≡ gives (aRow b t) → MapRow (s .width) H g b (changedUnless a (handedArea v s x z) z)
+    go zero zero l f = let o : _≡_ {A = ℕ} 0 1 = cc in absurd (omega arith)
+    go zero (suc v) l f = let r : bandRow q ≡ b = cc in subst (λ d. MapRow (s .width) H g d y) r (here (omega arith))
+    go (suc a) v l f = let o : _≡_ {A = ℕ} 0 1 = cc in absurd (omega arith)
+
 -- ---- finish
 finish-may : (s : Writer) (n : ℕ) → finishQuestion s n ≡ 0 → (s .finished ≡ false) × (s .level ≡ 0) × (0 < s .rows) × (s .column ≡ 0)
 unfolding finishQuestion
 finish-may s n e = go (inRanges s) (longEnough n s) (s .finished) refl (eqb (s .level) 0) refl (both (ltb 0 (s .rows)) (eqb (s .column) 0)) refl e
   where
-    go : (a b f : Bool) → s .finished ≡ f → (d : Bool) → eqb (s .level) 0 ≡ d → (t : Bool) → both (ltb 0 (s .rows)) (eqb (s .column) 0) ≡ t → ask a 1 (ask b 5 (ask (not f) 9 (ask d 8 (ask t 11 0)))) ≡ 0 → (s .finished ≡ false) × (s .level ≡ 0) × (0 < s .rows) × (s .column ≡ 0)
+    go : (a b f : Bool) → s .finished ≡ f → (d : Bool) → eqb (s .level) 0 ≡ d → (t : Bool) → both (ltb 0 (s .rows)) (eqb (s .column) 0) ≡ t →
+        ask a 1 (ask b 5 (ask (not f) 9 (ask d 8 (ask t 11 0)))) ≡ 0 → (s .finished ≡ false) × (s .level ≡ 0) × (0 < s .rows) × (s .column ≡ 0)
     go false b f p d q t r z = absurd (omega arith)
     go true false f p d q t r z = absurd (omega arith)
     go true true true p d q t r z = absurd (omega arith)
@@ -76,7 +112,8 @@ pub finish-keeps : (s : Writer) (n : ℕ) (x : Memory) → FinishKeeps s x (fini
 unfolding finishReply finishStore
 finish-keeps s n x = record { keeps = λ H g e h. go H g e h (finishQuestion s n) refl }
   where
-    go : (H : ℕ) (g : Grid) → s .rows ≡ H → Holds H g s x → (q : ℕ) → finishQuestion s n ≡ q → Holds H g (left (λ t. t) s (unless q (waits true s (closing s x)))) (changedUnless q (closing s x .out .store) x)
+    go : (H : ℕ) (g : Grid) → s .rows ≡ H → Holds H g s x → (q : ℕ) → finishQuestion s n ≡ q →
+        Holds H g (left (λ t. t) s (unless q (waits true s (closing s x)))) (changedUnless q (closing s x .out .store) x)
     go H g e h zero z =
         let m = finish-may s n z in
         finish-holds H g (s .width) (s .levels) (s .rows) (s .column) (s .closed) (s .level) (s .left) x
@@ -94,7 +131,8 @@ module _ (H : ℕ) (g : Grid) (W l : ℕ) where
 
   Taken : List ℕ → Type 0
   Taken run = (r c cl v i : ℕ) (x : Memory) → c < W → Holds H g (st W L r c false cl v i) x →
-      (let t = offering fiveThree run (st W L r c false cl v i) x in r * W + c + t .taken ≤ W * H → Next run (r * W + c) (t .taken) → Holds H g (t .writer) (t .store))
+      (let t = offering fiveThree run (st W L r c false cl v i) x in r * W + c + t .taken ≤ W * H → Next run (r * W + c) (t .taken) →
+      Holds H g (t .writer) (t .store))
 
   more : (h : ℕ) (run : List ℕ) → Taken run → Taken (h ∷ run)
   unfolding Taken offering
@@ -133,16 +171,19 @@ module _ (H : ℕ) (g : Grid) (W l : ℕ) where
           free : v ≡ 0
           free = unfold takes in eqb-true v 0 (split-both (eqb v 0) (ltb r maxHeight) e .0)
 
-          inner : (t : Bool) → ltb (c + 1) W ≡ t → (let q = also (pick t b d) in r * W + c + q .taken ≤ W * H → Next (h ∷ run) (r * W + c) (q .taken) → Holds H g (q .writer) (q .store))
+          inner : (t : Bool) → ltb (c + 1) W ≡ t → (let q = also (pick t b d) in r * W + c + q .taken ≤ W * H →
+              Next (h ∷ run) (r * W + c) (q .taken) → Holds H g (q .writer) (q .store))
           inner true f room has =
               ih r (c + 1) cl v i y (ltb-true (c + 1) W f)
-              (subst (λ w. Holds H g (st W L r (c + 1) false cl v i) (stored (cellOf W r c) w x)) (first (b .taken) has) (begun-holds H g W l r c cl v i x a free p))
+              (subst (λ w. Holds H g (st W L r (c + 1) false cl v i) (stored (cellOf W r c) w x)) (first (b .taken) has)
+              (begun-holds H g W l r c cl v i x a free p))
               (omega arith) (others (b .taken) (r * W + (c + 1)) (omega arith) has)
           inner false f room has =
               let whole : c + 1 ≡ W = omega (arith, ltb-false (c + 1) W f) in
               let next : (r + 1) * W + 0 ≡ r * W + c + 1 = omega (arith, suc-mul r W, ap (λ k. k * W) up) in
               ih (r + 1) 0 cl (o .level) (o .left) (o .store) (omega arith)
-              (subst (λ w. let k = arrive fiveThree L W r (stored (cellOf W r c) w x) in Holds H g (st W L (r + 1) 0 false cl (k .level) (k .left)) (k .store)) (first (d .taken) has)
+              (subst (λ w. let k = arrive fiveThree L W r (stored (cellOf W r c) w x) in Holds H g (st W L (r + 1) 0 false cl (k .level) (k .left))
+              (k .store)) (first (d .taken) has)
               (complete-holds H g W l r c cl v i x a free p whole (rows-below W H r c (omega arith))))
               (omega arith) (others (d .taken) ((r + 1) * W + 0) next has)
             where
@@ -159,7 +200,9 @@ offer-may : (s : Writer) (n k : ℕ) → offerQuestion s n k ≡ 0 → (s .finis
 unfolding offerQuestion
 offer-may s n k e = go (inRanges s) refl (longEnough n s) (s .finished) refl e
   where
-    go : (a : Bool) → inRanges s ≡ a → (b f : Bool) → s .finished ≡ f → ask a 1 (ask b 5 (ask (not f) 9 (ask (eqb (s .level) 0) 8 (ask (either (eqb k 0) (ltb (s .rows) maxHeight)) 10 0)))) ≡ 0 → (s .finished ≡ false) × (0 < s .levels) × (s .column < s .width)
+    go : (a : Bool) → inRanges s ≡ a → (b f : Bool) → s .finished ≡ f →
+        ask a 1 (ask b 5 (ask (not f) 9 (ask (eqb (s .level) 0) 8 (ask (either (eqb k 0) (ltb (s .rows) maxHeight)) 10 0)))) ≡ 0 →
+        (s .finished ≡ false) × (0 < s .levels) × (s .column < s .width)
     go false p b f q z = absurd (omega arith)
     go true p false f q z = absurd (omega arith)
     go true p true true q z = absurd (omega arith)
@@ -175,7 +218,8 @@ unfolding offerReply offerStore
 offer-keeps s n run x = record { keeps = λ H g t h. go H g h (offerQuestion s n (length run)) refl t }
   where
     passed : (H : ℕ) (g : Grid) (W L r c : ℕ) (f : Bool) (cl v i : ℕ) → f ≡ false → 0 < L → c < W →
-        (let t = offering fiveThree run (st W L r c f cl v i) x in GoesOn (st W L r c f cl v i) run (t .taken) H g → Holds H g (st W L r c f cl v i) x → Holds H g (t .writer) (t .store))
+        (let t = offering fiveThree run (st W L r c f cl v i) x in GoesOn (st W L r c f cl v i) run (t .taken) H g →
+        Holds H g (st W L r c f cl v i) x → Holds H g (t .writer) (t .store))
     passed H g W zero r c f cl v i z p q m h = absurd (omega arith)
     passed H g W (suc l) r c true cl v i z p q m h = let y : _≡_ {A = ℕ} 0 1 = ap (λ b. pick b 0 1) z in absurd (omega arith)
     passed H g W (suc l) r c false cl v i z p q m h = unfold Taken in offering-holds H g W l run r c cl v i x q h (m .within) (m .heights)
@@ -200,11 +244,16 @@ set-up-kept W L n a y e = record { holds = λ s z H g. go H g s (setUpQuestion W
     go H g s zero z = subst (λ t. Holds H g t y) (ap (given s) z) (set-up-holds W L H g y)
     go H g s (suc q) z = let b : _≡_ {A = ℕ} 0 1 = ap (λ r. elim r [ gives t ↦ 1 | refused k ↦ 0 ]) z in absurd (omega arith)
 
-pub draw-kept : (s : Writer) (n k : ℕ) (x : Memory) (a : Reply Handed) (y : Memory) → a ≡ drawReply s n k x → y ≡ drawStore s n k x → DrawKeeps s x a y
-draw-kept s n k x a y e f = subst₂ (DrawKeeps s x) (sym e) (sym f) (draw-keeps s n k x)
+pub draw-kept : (s : Writer) (n k : ℕ) (x z : Memory) (a : Reply Handed) (x′ y : Memory) → a ≡ drawReply s n k x → x′ ≡ drawStore s n k x →
+    y ≡ drawArea s n k x z → DrawKeeps s x a x′ y
+draw-kept s n k x z a x′ y e f d = record {
+  store = subst₂ (λ r t. Keeps AnyMap s x (left (after s) s r) t) (sym e) (sym f) (draw-keeps s n k x);
+  values = λ H g h b t r. subst (MapRow (s .width) H g b) (sym d) (area-values s n k x z H g h b t (sym e ∙ r));
+}
 
 pub finish-kept : (s : Writer) (n : ℕ) (x : Memory) (a : Reply Writer) (y : Memory) → a ≡ finishReply s n x → y ≡ finishStore s n x → FinishKeeps s x a y
 finish-kept s n x a y e f = subst₂ (FinishKeeps s x) (sym e) (sym f) (finish-keeps s n x)
 
-pub offer-kept : (s : Writer) (n : ℕ) (run : List ℕ) (x : Memory) (a : Reply Took) (y : Memory) → a ≡ offerReply s n run x → y ≡ offerStore s n run x → OfferKeeps s run x a y
+pub offer-kept : (s : Writer) (n : ℕ) (run : List ℕ) (x : Memory) (a : Reply Took) (y : Memory) → a ≡ offerReply s n run x →
+    y ≡ offerStore s n run x → OfferKeeps s run x a y
 offer-kept s n run x a y e f = subst₂ (OfferKeeps s run x) (sym e) (sym f) (offer-keeps s n run x)

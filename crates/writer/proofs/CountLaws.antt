@@ -1,12 +1,13 @@
 -- The laws of the derived numbers, as the code's branches meet them. Assumes nothing.
-use mathlib.Core.Path.{_≡_, refl, ap, _∙_}
+use mathlib.Core.Path.{_≡_, refl, sym, ap, _∙_}
 use mathlib.Core.Bool.{true, false}
 use Prim.Native.Nat.{ℕ, zero, suc, _+_, _-_, _*_, _/_, _%_, _<_, _≤_, min}
 use native.Mathlib.Omega.{arith}
 use native.Mathlib.Nat.{mul-le-mul-right}
 use Rattle.lifting.specs.Line.{lo, count}
-use Rattle.wavelet.specs.Bands.{Band}
-use Rattle.writer.specs.Counts.{prev, deeper, made, most, bandAt, hasRow, skip}
+use Rattle.wavelet.specs.Bands.{Band, LL, HL, LH, HH, code}
+use Rattle.wavelet.specs.Order.{hasRow}
+use Rattle.writer.specs.Counts.{prev, deeper, made, most, mostLeft, bandAt, skip}
 use Rattle.writer.specs.FiveThreeLevel.{slot, before}
 
 pub prev-is : (n : ℕ) → prev n ≡ n - 1
@@ -27,6 +28,47 @@ pub deeper-le : (v l : ℕ) → v ≤ l → deeper v ≤ l + 1
 unfolding deeper
 deeper-le zero l h = omega arith
 deeper-le (suc v) l h = omega arith
+
+-- codes tell bands apart
+uncode : ℕ → Band
+uncode zero = LL
+uncode (suc zero) = HL
+uncode (suc (suc zero)) = LH
+uncode (suc (suc (suc c))) = HH
+
+code-back : (b : Band) → uncode (code b) ≡ b
+unfolding uncode code
+code-back LL = refl
+code-back HL = refl
+code-back LH = refl
+code-back HH = refl
+
+pub code-one : (b d : Band) → code b ≡ code d → b ≡ d
+code-one b d e = sym (code-back b) ∙ ap uncode e ∙ code-back d
+
+-- what can be left: nowhere, at the first level, and seen from the level above
+pub left-none : (l v : ℕ) → v ≡ 0 → 0 ≡ mostLeft l v
+unfolding mostLeft
+left-none l zero e = refl
+left-none l (suc v) e = absurd (omega arith)
+
+pub left-some : (l v : ℕ) → 0 < v → most (l - v) ≡ mostLeft l v
+unfolding mostLeft
+left-some l zero h = absurd (omega arith)
+left-some l (suc v) h = refl
+
+pub left-first : (l : ℕ) → mostLeft (suc l) 1 ≡ most l
+unfolding mostLeft
+left-first l = ap most (omega arith)
+
+pub left-under : (l v : ℕ) → mostLeft (suc l) (deeper v) ≡ mostLeft l v
+unfolding mostLeft deeper
+left-under l zero = refl
+left-under l (suc v) = ap most (omega arith)
+
+pub left-next : (l v : ℕ) → mostLeft (suc l) (suc (suc v)) ≡ mostLeft l (suc v)
+unfolding mostLeft
+left-next l v = ap most (omega arith)
 
 pub made-open : (c m : ℕ) → c ≡ 0 → made c m ≡ (m - 1) / 2
 unfolding made

@@ -16,7 +16,7 @@ use Rattle.numbers.specs.Signal.{pick}
 use Rattle.numbers.specs.Word.{whole}
 use Rattle.numbers.proofs.Sweep.{both as split-both}
 use Rattle.wavelet.specs.Limits.{maxWidth, maxHeight, maxLevels, maxSample}
-use Rattle.wavelet.specs.Bands.{Grid, Band, LL, HL, LH, HH, code}
+use Rattle.wavelet.specs.Bands.{Grid}
 use Rattle.wavelet.specs.Levels.{levelBand}
 use Rattle.wavelet.specs.ViewCall.{bandRowExists}
 use Rattle.wavelet.specs.Questions.{ask, within}
@@ -29,27 +29,11 @@ use Rattle.writer.specs.Level.{Memory}
 use Rattle.writer.specs.Machine.{rest}
 use Rattle.writer.specs.Questions.{inRanges, setUpQuestion}
 use Rattle.writer.specs.History.{Call, row, Event, World, event, events, final, freshWorld, taken, finishes, finishedBy, DrawnRow, drawn}
-use Rattle.writer.specs.Demand3.{wholeRows, madeOf, waitingOf, answered, Begins, MapOf, HasValues, All, all-more, Demand3}
+use Rattle.writer.specs.Demand3.{wholeRows, madeOf, waitingOf, answered, Begins, MapOf, HasValues, All, all-more, PlaneDrawn, Demand3}
+use Rattle.writer.proofs.CountLaws.{code-one}
 use Rattle.writer.proofs.StateHolds.{differ, st}
 use Rattle.writer.proofs.CallList.{Fits, coming, Right, At, own-sound, in-ranges, all-map, all-take, map-append, rows-all}
 use Rattle.writer.proofs.Reached.{rows-are, waiting-coming, offer-turned, offer-takes, finish-answer, draw-says, list-reached, fresh-reached}
-
--- codes tell bands apart
-uncode : ℕ → Band
-uncode zero = LL
-uncode (suc zero) = HL
-uncode (suc (suc zero)) = LH
-uncode (suc (suc (suc c))) = HH
-
-code-back : (b : Band) → uncode (code b) ≡ b
-unfolding uncode code
-code-back LL = refl
-code-back HL = refl
-code-back LH = refl
-code-back HH = refl
-
-code-one : (b d : Band) → code b ≡ code d → b ≡ d
-code-one b d e = sym (code-back b) ∙ ap uncode e ∙ code-back d
 
 five-levels : (l : ℕ) → within 1 maxLevels (suc l) ≡ true → suc l ≤ 5
 unfolding within maxLevels
@@ -126,10 +110,14 @@ height-range h p = (record { le = le→leb 0 h (omega arith) }, record { le = le
 made-prefix : (W L H r : ℕ) → r ≤ H → (k : List RowName) × (made W L r false ++ k ≡ made W L H true)
 unfolding made
 made-prefix W L H r h =
-    let q = turn-prefix H r (madeBy L 1 W) h in
-    (q .0 ++ closing L 1 W H, ap (λ b. b ++ (q .0 ++ closing L 1 W H)) (append-nil (inTurn r (madeBy L 1 W))) ∙ sym (append-assoc (inTurn r (madeBy L 1 W)) (q .0) (closing L 1 W H)) ∙ ap (λ b. b ++ closing L 1 W H) (q .1))
+    let q = turn-prefix H r (madeBy L 1 W) h in (
+      q .0 ++ closing L 1 W H,
+      ap (λ b. b ++ (q .0 ++ closing L 1 W H)) (append-nil (inTurn r (madeBy L 1 W)))
+          ∙ sym (append-assoc (inTurn r (madeBy L 1 W)) (q .0) (closing L 1 W H)) ∙ ap (λ b. b ++ closing L 1 W H) (q .1),
+    )
 
-module _ (l W : ℕ) (wide : within 1 maxWidth W ≡ true) (deep : within 1 maxLevels (suc l) ≡ true) (es : List Event) (n r c cl v i : ℕ) (x : Memory) (long : storeLength W (suc l) ≤ n) (a : At (suc l) W (taken es) (finishedBy es) (drawn es) r c cl v i x) where
+module _ (l W : ℕ) (wide : within 1 maxWidth W ≡ true) (deep : within 1 maxLevels (suc l) ≡ true) (es : List Event) (n r c cl v i : ℕ) (x : Memory)
+    (long : storeLength W (suc l) ≤ n) (a : At (suc l) W (taken es) (finishedBy es) (drawn es) r c cl v i x) where
   abbrev M : ℕ
   M = suc l
 
@@ -168,7 +156,8 @@ module _ (l W : ℕ) (wide : within 1 maxWidth W ≡ true) (deep : within 1 maxL
           let z : r ≡ H = rows-all W H r c (some-width W wide) (a .ended e .1) (sym (a .counted) ∙ t .whole e) in
           ([], append-nil _ ∙ ap (λ b. made W M b true) z)
 
-  is-first : (H : ℕ) (g : Grid) → MapOf W H g es → (k : List RowName) × (map (λ d. d .row) (drawn es) ++ map (answered W) k ≡ map (answered W) (made W M H true))
+  is-first : (H : ℕ) (g : Grid) → MapOf W H g es → (k : List RowName) × (map (λ d. d .row) (drawn es) ++ map (answered W) k ≡ map (answered W)
+      (made W M H true))
   is-first H g m =
       let s = own-sound a in
       let p = firsts H g m in (
@@ -200,7 +189,8 @@ module _ (l W : ℕ) (wide : within 1 maxWidth W ≡ true) (deep : within 1 maxL
       (all-map (right-values M W H g (five-levels l deep) es m) (go g₀ refl a))
     where
       go : (b : Bool) → g₀ ≡ b → At M W (taken es) g₀ (drawn es) r c cl v i x → All (Right M W H g) (take (length (made W M r false)) (drawn es))
-      go false e h = all-take (length (made W M r false)) (subst (λ b. At M W (taken es) b (drawn es) r c cl v i x) e h .sound H g (begins-fits W H g es m) .values)
+      go false e h = all-take (length (made W M r false)) (subst (λ b. At M W (taken es) b (drawn es) r c cl v i x) e h .sound H g
+          (begins-fits W H g es m) .values)
       go true e h = h .early e .right H g (begins-fits W H g es m)
 
   whole-map : g₀ ≡ true → (1 ≤ wholeRows W es) × (wholeRows W es ≤ maxHeight) × (length (taken es) ≡ W * wholeRows W es)
@@ -208,12 +198,15 @@ module _ (l W : ℕ) (wide : within 1 maxWidth W ≡ true) (deep : within 1 maxL
       let p = a .ended e in
       (omega (arith, rows-here, p .0), omega (arith, rows-here, a .rows-in), a .counted ∙ omega (arith, p .1, mul-comm r W) ∙ ap (λ b. W * b) (sym rows-here))
 
-  drew-all : g₀ ≡ true → waitingOf W M es ≡ [] → (names : List RowName) × (map (λ d. d .row) (drawn es) ≡ map (answered W) names) × ((y : RowName) → times y names ≡ pick (bandRowExists W (wholeRows W es) M (y .level) (y .band) (y .row)) 1 0)
-  drew-all e z = (
-    madeOf W M es,
-    sym (append-nil _) ∙ ap (λ b. map (λ d. d .row) (drawn es) ++ map (answered W) b) (sym z) ∙ ordered,
-    λ y. ap (times y) (made-here ∙ ap (made W M r) e) ∙ made-once W M r (a .ended e .0) y ∙ ap (λ b. pick (bandRowExists W b M (y .level) (y .band) (y .row)) 1 0) (sym rows-here),
-  )
+  drew-all : g₀ ≡ true → waitingOf W M es ≡ [] → PlaneDrawn W M es
+  drew-all e z = record {
+    names = madeOf W M es;
+    answers = sym (append-nil _) ∙ ap (λ b. map (λ d. d .row) (drawn es) ++ map (answered W) b) (sym z) ∙ ordered;
+    once = λ y.
+        ap (times y) (made-here ∙ ap (made W M r) e)
+        ∙ made-once W M r (a .ended e .0) y
+        ∙ ap (λ b. pick (bandRowExists W b M (y .level) (y .band) (y .row)) 1 0) (sym rows-here);
+  }
 
   claim : Demand3 W M es (λ k. event k w₀)
   claim = record {
@@ -224,7 +217,7 @@ module _ (l W : ℕ) (wide : within 1 maxWidth W ≡ true) (deep : within 1 maxL
     some-map = map-there;
     finished-map = whole-map;
     all-drawn = drew-all;
-    draws = λ b. let d = draw-says l W wide deep es n r c cl v i x long a b in (d .area, d .says, d .size-is, d .surplus);
+    draws = draw-says l W wide deep es n r c cl v i x long a;
     offers-turned = λ run. offer-turned l W wide deep es n r c cl v i x long a run;
     offers-taken = λ run. offer-takes l W wide deep es n r c cl v i x long a run;
     finishes = finish-answer l W wide deep es n r c cl v i x long a;
@@ -235,7 +228,8 @@ set-up-passed : (W L n : ℕ) → setUpQuestion W L n ≡ 0 → (within 1 maxWid
 unfolding setUpQuestion
 set-up-passed W L n e = go (within 1 maxWidth W) refl (within 1 maxLevels L) refl (leb (storeLength W L) n) refl e
   where
-    go : (p : Bool) → within 1 maxWidth W ≡ p → (q : Bool) → within 1 maxLevels L ≡ q → (t : Bool) → leb (storeLength W L) n ≡ t → ask p 2 (ask q 4 (ask t 5 0)) ≡ 0 → (within 1 maxWidth W ≡ true) × (within 1 maxLevels L ≡ true) × (storeLength W L ≤ n)
+    go : (p : Bool) → within 1 maxWidth W ≡ p → (q : Bool) → within 1 maxLevels L ≡ q → (t : Bool) → leb (storeLength W L) n ≡ t →
+        ask p 2 (ask q 4 (ask t 5 0)) ≡ 0 → (within 1 maxWidth W ≡ true) × (within 1 maxLevels L ≡ true) × (storeLength W L ≤ n)
     go false a q b t c z = absurd (omega arith)
     go true a false b t c z = absurd (omega arith)
     go true a true b false c z = absurd (omega arith)
@@ -254,5 +248,9 @@ demand-3 W (suc l) n x h cs =
     let w = freshWorld W (suc l) n x in
     let m = list-reached l W (p .0) (p .1) cs [] w (fresh-reached l W (p .0) (p .1) n (w .store) (some-width W (p .0)) (p .2)) in
     let e = final cs w in
-    subst (λ s. (inRanges s ≡ true) × Demand3 W (suc l) (events cs w) (λ k. event k (record { writer = s; length = e .length; store = e .store }))) (sym (m .writer-is))
-    (in-ranges (m .at) (p .0) (p .1), claim l W (p .0) (p .1) (events cs w) (e .length) (m .rows) (m .column) (m .closed) (m .level) (m .rest) (e .store) (m .long) (m .at))
+    subst (λ s. (inRanges s ≡ true) × Demand3 W (suc l) (events cs w) (λ k. event k (record { writer = s; length = e .length; store = e .store })))
+    (sym (m .writer-is)) (
+      in-ranges (m .at) (p .0) (p .1),
+      claim l W (p .0) (p .1) (events cs w) (e .length) (m .rows) (m .column) (m .closed) (m .level) (m .rest)
+          (e .store) (m .long) (m .at),
+    )

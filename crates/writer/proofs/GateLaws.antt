@@ -15,6 +15,7 @@ use Rattle.wavelet.proofs.QuestionLaws.{within-true}
 use Rattle.wavelet.proofs.SizeLaws.{count-lo}
 use Rattle.wavelet.proofs.StoreLaws.{store-none, store-below}
 use Rattle.writer.specs.declared.Writer.{Writer}
+use Rattle.writer.specs.Counts.{mostLeft}
 use Rattle.writer.specs.Questions.{either, inRanges, longEnough, offerQuestion, finishQuestion}
 use Rattle.writer.specs.Gate.{stateQuestion, openQuestion}
 
@@ -39,9 +40,10 @@ module _ (p q : ℕ) where
   asked-all false b h = absurd (omega arith)
 
 -- ---- question 1, the tests but the last passed
-pub ranges-last : (s : Writer) → within 1 2049 (s .width) ≡ true → within 1 5 (s .levels) ≡ true → s .rows ≤ 65535 → s .column < s .width → s .closed ≤ s .levels → s .level ≤ s .levels → leb (s .left) 4 ≡ inRanges s
+pub ranges-last : (s : Writer) → within 1 2049 (s .width) ≡ true → within 1 5 (s .levels) ≡ true → s .rows ≤ 65535 → s .column < s .width →
+    s .closed ≤ s .levels → s .level ≤ s .levels → (k : ℕ) → k ≡ mostLeft (s .levels) (s .level) → leb (s .left) k ≡ inRanges s
 unfolding inRanges maxWidth maxHeight maxLevels
-ranges-last s a b d e f g = simp (a, b, le-leb _ _ d, lt-ltb _ _ e, le-leb _ _ f, le-leb _ _ g)
+ranges-last s a b d e f g k h = simp (a, b, le-leb _ _ d, lt-ltb _ _ e, le-leb _ _ f, le-leb _ _ g, h)
 
 -- ---- the most that a store needs, level by level
 one : (W : ℕ) → storeLength W 1 ≤ 4 * W
@@ -77,7 +79,7 @@ pub record Sound (s : Writer) (n : ℕ) : Type 0 where
   pub column : s .column < s .width
   pub closed : s .closed ≤ s .levels
   pub level : s .level ≤ s .levels
-  pub left : s .left ≤ 4
+  pub left : s .left ≤ mostLeft (s .levels) (s .level)
   pub room : storeLength (s .width) (s .levels) ≤ n
 
 module _ (s : Writer) (n : ℕ) where

@@ -17,6 +17,7 @@ pub mod DrawLaws
 pub mod ClosingLaws
 pub mod GateLaws
 pub mod CallLaws
+pub mod Surplus
 pub mod FillLaws
 pub mod ColumnLaws
 pub mod PairLaws

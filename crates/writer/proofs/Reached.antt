@@ -27,12 +27,15 @@ use Rattle.writer.specs.Closing.{Shut, shut}
 use Rattle.writer.specs.Taking.{Taking, takes, offering}
 use Rattle.writer.specs.Questions.{either, inRanges, longEnough, offerQuestion, drawQuestion, finishQuestion}
 use Rattle.writer.specs.Answers.{Reply, gives, refused, unless}
-use Rattle.writer.specs.Calls.{fresh, offerReply, offerStore, waits, closing as closingOf, finishReply, finishStore, resumed, bandRow, drawReply, drawStore, drawArea}
+use Rattle.writer.specs.Calls.{fresh, offerReply, offerStore, waits, closing as closingOf, finishReply, finishStore, resumed, bandRow}
+use Rattle.writer.specs.Calls.{drawReply, drawStore, drawArea}
 use Rattle.writer.specs.Holds.{left}
-use Rattle.writer.specs.History.{Area, Call, offer, draw, finish, row, none, Event, offered, drew, finished, World, seen, event, next, events, final, takenBy, taken, finishes, finishedBy, drawnBy, drawn}
-use Rattle.writer.specs.Demand3.{wholeRows, madeOf, waitingOf, answered, isNone, drawSays, written, takesOn, offerTurned, Takes, finishTurned}
+use Rattle.writer.specs.History.{Area, Call, offer, draw, finish, row, none, Event, offered, drew, finished, World, seen, event, next, events}
+use Rattle.writer.specs.History.{final, takenBy, taken, finishes, finishedBy, drawnBy, drawn}
+use Rattle.writer.specs.Demand3.{wholeRows, madeOf, waitingOf, answered, isNone, drawSays, written, DrawSeen, takesOn, offerTurned, Takes, finishTurned}
 use Rattle.writer.proofs.StateHolds.{st}
-use Rattle.writer.proofs.CallList.{coming, At, whole-rows, begun-row, in-ranges, waiting-is, none-waits, none-eqb, Offered, offering-good, head-is, draw-good, finish-good, fresh-at}
+use Rattle.writer.proofs.CallList.{coming, At, whole-rows, begun-row, in-ranges, waiting-is, none-waits, none-eqb, Offered, offering-good}
+use Rattle.writer.proofs.CallList.{head-is, draw-good, finish-good, fresh-at}
 
 -- ---- histories
 pub taken-snoc : (es : List Event) (e : Event) → taken (es ++ e ∷ []) ≡ taken es ++ takenBy e
@@ -57,6 +60,17 @@ finished-snoc (d ∷ es) e = ap (either (finishes d)) (finished-snoc es e) ∙ g
     go : (t : Bool) → either t (either (finishedBy es) (finishes e)) ≡ either (either t (finishedBy es)) (finishes e)
     go true = refl
     go false = refl
+
+-- one call more at the end of a list
+pub events-snoc : (cs : List Call) (c : Call) (w : World) → events (cs ++ c ∷ []) w ≡ events cs w ++ (event c (final cs w) ∷ [])
+unfolding events final
+events-snoc [] c w = refl
+events-snoc (d ∷ cs) c w = ap (λ l. event d w ∷ l) (events-snoc cs c (next d w))
+
+pub final-snoc : (cs : List Call) (c : Call) (w : World) → final (cs ++ c ∷ []) w ≡ next c (final cs w)
+unfolding final
+final-snoc [] c w = refl
+final-snoc (d ∷ cs) c w = final-snoc cs c (next d w)
 
 -- where it may take, an offer of one height or more takes one
 takes-one : (run : List ℕ) (s : Writer) (x : Memory) → takes s ≡ true → 0 < length run → 0 < offering fiveThree run s x .taken
@@ -86,7 +100,8 @@ module _ (l W : ℕ) (wide : within 1 maxWidth W ≡ true) (deep : within 1 maxL
   world s n x = record { writer = s; length = n; store = x }
 
   -- one event more
-  more : (es : List Event) (e : Event) (f : Bool) (n r c cl v i : ℕ) (x : Memory) → storeLength W L ≤ n → either (finishedBy es) (finishes e) ≡ f → At L W (taken es ++ takenBy e) f (drawn es ++ drawnBy e) r c cl v i x → Reached (es ++ e ∷ []) (world (st W L r c f cl v i) n x)
+  more : (es : List Event) (e : Event) (f : Bool) (n r c cl v i : ℕ) (x : Memory) → storeLength W L ≤ n → either (finishedBy es) (finishes e) ≡ f →
+      At L W (taken es ++ takenBy e) f (drawn es ++ drawnBy e) r c cl v i x → Reached (es ++ e ∷ []) (world (st W L r c f cl v i) n x)
   more es e f n r c cl v i x long z a =
       let g : f ≡ finishedBy (es ++ e ∷ []) = sym (finished-snoc es e ∙ z) in
       record {
@@ -150,7 +165,8 @@ module _ (l W : ℕ) (wide : within 1 maxWidth W ≡ true) (deep : within 1 maxL
       unfolding event next offerReply offerStore
       offer-refused q e = (rw e refl, rw e refl)
 
-      offer-passed : offerQuestion s n (length run) ≡ 0 → (event (offer run) w ≡ offered run (gives (t .taken))) × (next (offer run) w ≡ world (t .writer) n (t .store))
+      offer-passed : offerQuestion s n (length run) ≡ 0 → (event (offer run) w ≡ offered run (gives (t .taken))) × (next (offer run) w ≡ world
+          (t .writer) n (t .store))
       unfolding event next offerReply offerStore
       offer-passed e = (rw e refl, rw e refl)
 
@@ -185,8 +201,10 @@ module _ (l W : ℕ) (wide : within 1 maxWidth W ≡ true) (deep : within 1 maxL
           subst (λ b. Reached (es ++ offered run (gives (T b .taken)) ∷ []) (world (T b .writer) n (T b .store))) (sym z)
           (let o = taking z in
           subst (λ k. Reached (es ++ offered run (gives (T false .taken)) ∷ []) (world k n (T false .store))) (sym (o .writer-is))
-          (more es (offered run (gives (T false .taken))) false n (o .rows) (o .column) (o .closed) (o .level) (o .left) (T false .store) long (either-false f ∙ z)
-          (subst (λ b. At L W (taken es ++ take (T false .taken) run) false b (o .rows) (o .column) (o .closed) (o .level) (o .left) (T false .store)) (sym (append-nil (drawn es))) (o .at))))
+          (more es (offered run (gives (T false .taken))) false n (o .rows) (o .column) (o .closed) (o .level) (o .left) (T false .store) long
+          (either-false f ∙ z)
+          (subst (λ b. At L W (taken es ++ take (T false .taken) run) false b (o .rows) (o .column) (o .closed) (o .level) (o .left) (T false .store))
+          (sym (append-nil (drawn es))) (o .at))))
 
       pub offer-reached : (b : ℕ) → offerQuestion s n (length run) ≡ b → Reached (es ++ event (offer run) w ∷ []) (next (offer run) w)
       offer-reached zero e =
@@ -204,8 +222,17 @@ module _ (l W : ℕ) (wide : within 1 maxWidth W ≡ true) (deep : within 1 maxL
       offer-takes e =
           let q = offer-question (length run) ∙ e in
           let z = not-finished q in
-          let o = taking z in
-          (T false .taken, offer-passed q .0 ∙ ap (λ b. offered run (gives (T b .taken))) z, record { most = o .most; some = λ p. takes-one run (st W L r c false cl v i) x (offer-open q p) p; until = o .until; stop = o .stop })
+          let o = taking z in (
+            T false .taken,
+            offer-passed q .0 ∙ ap (λ b. offered run (gives (T b .taken))) z,
+            record {
+              most = o .most;
+              some = λ p. takes-one run
+                  (st W L r c false cl v i) x (offer-open q p) p;
+              until = o .until;
+              stop = o .stop;
+            },
+          )
 
     -- ---- a finish
     finish-question : finishQuestion s n ≡ finishTurned W L es
@@ -225,7 +252,8 @@ module _ (l W : ℕ) (wide : within 1 maxWidth W ≡ true) (deep : within 1 maxL
     unfolding finishQuestion
     finish-may e = go f (eqb v 0) refl (both (ltb 0 r) (eqb c 0)) refl (sym (simp (ranges, enough) refl) ∙ e)
       where
-        go : (b d : Bool) → eqb v 0 ≡ d → (g : Bool) → both (ltb 0 r) (eqb c 0) ≡ g → ask (not b) 9 (ask d 8 (ask g 11 0)) ≡ 0 → (b ≡ false) × (v ≡ 0) × (0 < r) × (c ≡ 0)
+        go : (b d : Bool) → eqb v 0 ≡ d → (g : Bool) → both (ltb 0 r) (eqb c 0) ≡ g → ask (not b) 9 (ask d 8 (ask g 11 0)) ≡ 0 →
+            (b ≡ false) × (v ≡ 0) × (0 < r) × (c ≡ 0)
         go true d p g q z = absurd (omega arith)
         go false false p g q z = absurd (omega arith)
         go false true p false q z = absurd (omega arith)
@@ -234,7 +262,8 @@ module _ (l W : ℕ) (wide : within 1 maxWidth W ≡ true) (deep : within 1 maxL
     abbrev k : Shut
     k = shut fiveThree L W 0 r x
 
-    finish-passed : finishQuestion s n ≡ 0 → (event finish w ≡ finished (gives tt)) × (next finish w ≡ world (st W L r c true (k .closed) (k .out .level) (k .out .left)) n (k .out .store))
+    finish-passed : finishQuestion s n ≡ 0 →
+        (event finish w ≡ finished (gives tt)) × (next finish w ≡ world (st W L r c true (k .closed) (k .out .level) (k .out .left)) n (k .out .store))
     unfolding event next finishReply finishStore
     finish-passed e = (rw e refl, rw e refl)
 
@@ -262,13 +291,6 @@ module _ (l W : ℕ) (wide : within 1 maxWidth W ≡ true) (deep : within 1 maxL
   abbrev same : Area → Area
   same b = record { size = b .size; numbers = b .numbers }
 
-  -- what a draw is to say and leave, of the rows that wait
-  pub record Draws (es : List Event) (e : Event) (b : Area) : Type 0 where
-    pub area : Area
-    pub says : e ≡ drew b (drawSays W (waitingOf W L es) (b .size)) area
-    pub size-is : area .size ≡ b .size
-    pub surplus : (j : ℕ) → written (drawSays W (waitingOf W L es) (b .size)) ≤ j → area .numbers j ≡ b .numbers j
-
   -- nothing waits
   module _ (es : List Event) (n r c cl i : ℕ) (x : Memory) (long : storeLength W L ≤ n) (a : State es r c cl 0 i x) (b : Area) where
     abbrev s₀ : Writer
@@ -287,7 +309,7 @@ module _ (l W : ℕ) (wide : within 1 maxWidth W ≡ true) (deep : within 1 maxL
         subst₂ (λ d k. Reached (es ++ d ∷ []) k) (sym (draw-none .0)) (sym (draw-none .1))
         (unchanged es n r c cl 0 i x long a (drew b (gives none) (same b)) refl refl refl)
 
-    none-says : Draws es (event (draw b) (world s₀ n x)) b
+    none-says : DrawSeen W L es b (event (draw b) (world s₀ n x))
     none-says =
         let e : waitingOf W L es ≡ [] = waiting-coming es n r c cl 0 i x long a ∙ none-waits a refl in
         record { area = same b; says = draw-none .0 ∙ ap (λ l. drew b (drawSays W l (b .size)) (same b)) (sym e); size-is = refl; surplus = λ j p. refl }
@@ -317,11 +339,14 @@ module _ (l W : ℕ) (wide : within 1 maxWidth W ≡ true) (deep : within 1 maxL
     unfolding drawQuestion
     question-some = simp (ranges es n r c cl (suc u) i x long a, enough es n r c cl (suc u) i x long a, ne-eqb (suc u) 0 (λ e. omega arith))
 
-    draw-short : leb (q .length) (b .size) ≡ false → (event (draw b) (world s₁ n x) ≡ drew b (refused 12) (same b)) × (next (draw b) (world s₁ n x) ≡ world s₁ n x)
+    draw-short : leb (q .length) (b .size) ≡ false → (event (draw b) (world s₁ n x) ≡ drew b (refused 12) (same b)) ×
+        (next (draw b) (world s₁ n x) ≡ world s₁ n x)
     unfolding event next drawReply drawStore drawArea
     draw-short e = let p : drawQuestion s₁ n (b .size) ≡ 12 = question-some ∙ ap (λ t. ask t 12 0) e in (rw p refl, rw p refl)
 
-    draw-row : leb (q .length) (b .size) ≡ true → (event (draw b) (world s₁ n x) ≡ drew b (gives (row (bandRow q))) (record { size = b .size; numbers = z })) × (next (draw b) (world s₁ n x) ≡ world (st W L r c f₁ (R .closed) (R .out .level) (R .out .left)) n (R .out .store))
+    draw-row : leb (q .length) (b .size) ≡ true →
+        (event (draw b) (world s₁ n x) ≡ drew b (gives (row (bandRow q))) (record { size = b .size; numbers = z })) ×
+        (next (draw b) (world s₁ n x) ≡ world (st W L r c f₁ (R .closed) (R .out .level) (R .out .left)) n (R .out .store))
     unfolding event next drawReply drawStore drawArea
     draw-row e = let p : drawQuestion s₁ n (b .size) ≡ 0 = question-some ∙ ap (λ t. ask t 12 0) e in (rw p refl, rw p refl)
 
@@ -346,7 +371,7 @@ module _ (l W : ℕ) (wide : within 1 maxWidth W ≡ true) (deep : within 1 maxL
         (subst (λ t. At L W t f₁ (drawn es ++ drawnBy d) r c (R .closed) (R .out .level) (R .out .left) (R .out .store)) (sym (append-nil (taken es)))
         (draw-good l W (drawn es) (taken es) f₁ r c cl u i x a z values-are)))
 
-    some-says : (t : Bool) → leb (q .length) (b .size) ≡ t → Draws es (event (draw b) (world s₁ n x)) b
+    some-says : (t : Bool) → leb (q .length) (b .size) ≡ t → DrawSeen W L es b (event (draw b) (world s₁ n x))
     some-says t e = go t e
       where
         h : (m : RowName) × (k : List RowName) × (coming L W f₁ cl (suc u) i r ≡ m ∷ k) × (bandRow q ≡ answered W m)
@@ -363,7 +388,7 @@ module _ (l W : ℕ) (wide : within 1 maxWidth W ≡ true) (deep : within 1 maxL
             ap (λ y. drawSays W y (b .size)) (waiting-coming es n r c cl (suc u) i x long a ∙ h .2)
             ∙ ap (λ y. pick (leb y (b .size)) (gives (row (answered W m))) (refused 12)) (sym long-is)
 
-        go : (t : Bool) → leb (q .length) (b .size) ≡ t → Draws es (event (draw b) (world s₁ n x)) b
+        go : (t : Bool) → leb (q .length) (b .size) ≡ t → DrawSeen W L es b (event (draw b) (world s₁ n x))
         go false e =
             record {
               area = same b;
@@ -372,7 +397,8 @@ module _ (l W : ℕ) (wide : within 1 maxWidth W ≡ true) (deep : within 1 maxL
               surplus = λ j p. refl;
             }
         go true e =
-            let y : drawSays W (waitingOf W L es) (b .size) ≡ gives (row (answered W m)) = says-is ∙ ap (λ y. pick y (gives (row (answered W m))) (refused 12)) e in
+            let y : drawSays W (waitingOf W L es) (b .size) ≡ gives (row (answered W m)) = says-is
+            ∙ ap (λ y. pick y (gives (row (answered W m))) (refused 12)) e in
             record {
               area = record { size = b .size; numbers = z };
               says = draw-row e .0 ∙ ap (λ k. drew b k (record { size = b .size; numbers = z })) (ap (λ k. gives (row k)) (h .3) ∙ sym y);
@@ -380,16 +406,19 @@ module _ (l W : ℕ) (wide : within 1 maxWidth W ≡ true) (deep : within 1 maxL
               surplus = λ j p. surplus-is j (subst (λ k. k ≤ j) (ap written y ∙ sym long-is) p);
             }
 
-  draw-reached : (es : List Event) (n r c cl v i : ℕ) (x : Memory) → storeLength W L ≤ n → State es r c cl v i x → (b : Area) → Reached (es ++ event (draw b) (world (st W L r c (finishedBy es) cl v i) n x) ∷ []) (next (draw b) (world (st W L r c (finishedBy es) cl v i) n x))
+  draw-reached : (es : List Event) (n r c cl v i : ℕ) (x : Memory) → storeLength W L ≤ n → State es r c cl v i x → (b : Area) →
+      Reached (es ++ event (draw b) (world (st W L r c (finishedBy es) cl v i) n x) ∷ []) (next (draw b) (world (st W L r c (finishedBy es) cl v i) n x))
   draw-reached es n r c cl zero i x long a b = none-reached es n r c cl i x long a b
   draw-reached es n r c cl (suc u) i x long a b = some-reached es n r c cl u i x long a b _ refl
 
-  pub draw-says : (es : List Event) (n r c cl v i : ℕ) (x : Memory) → storeLength W L ≤ n → State es r c cl v i x → (b : Area) → Draws es (event (draw b) (world (st W L r c (finishedBy es) cl v i) n x)) b
+  pub draw-says : (es : List Event) (n r c cl v i : ℕ) (x : Memory) → storeLength W L ≤ n → State es r c cl v i x → (b : Area) →
+      DrawSeen W L es b (event (draw b) (world (st W L r c (finishedBy es) cl v i) n x))
   draw-says es n r c cl zero i x long a b = none-says es n r c cl i x long a b
   draw-says es n r c cl (suc u) i x long a b = some-says es n r c cl u i x long a b _ refl
 
   -- ---- every call, and every list of calls
-  call-reached : (k : Call) (es : List Event) (n r c cl v i : ℕ) (x : Memory) → storeLength W L ≤ n → State es r c cl v i x → Reached (es ++ event k (world (st W L r c (finishedBy es) cl v i) n x) ∷ []) (next k (world (st W L r c (finishedBy es) cl v i) n x))
+  call-reached : (k : Call) (es : List Event) (n r c cl v i : ℕ) (x : Memory) → storeLength W L ≤ n → State es r c cl v i x →
+      Reached (es ++ event k (world (st W L r c (finishedBy es) cl v i) n x) ∷ []) (next k (world (st W L r c (finishedBy es) cl v i) n x))
   call-reached (offer run) es n r c cl v i x long a = offer-reached es n r c cl v i x long a run _ refl
   call-reached (draw b) es n r c cl v i x long a = draw-reached es n r c cl v i x long a b
   call-reached finish es n r c cl v i x long a = finish-reached es n r c cl v i x long a _ refl

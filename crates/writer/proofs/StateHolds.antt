@@ -9,6 +9,7 @@ use Rattle.wavelet.specs.Bands.{Grid}
 use Rattle.wavelet.specs.Order.{madeBy}
 use Rattle.writer.specs.declared.Writer.{Writer}
 use Rattle.writer.specs.Level.{Memory, LevelKind}
+use Rattle.writer.specs.Counts.{mostLeft}
 use Rattle.writer.specs.FiveThreeLevel.{cellOf, fiveThree}
 use Rattle.writer.specs.Machine.{Out, arrive}
 use Rattle.writer.specs.Draws.{pull}
@@ -37,12 +38,20 @@ module _ (H : ℕ) (g : Grid) (W L : ℕ) where
   Has r c f cl v i x = Holds H g (st W L r c f cl v i) x
 
   -- before the finish
-  open-holds : (r c cl v i : ℕ) (x : Memory) → Inv cl v i r c x → i ≤ 4 → (0 < v → c ≡ 0) → cl ≡ 0 → Has r c false cl v i x
+  open-holds : (r c cl v i : ℕ) (x : Memory) → Inv cl v i r c x → i ≤ mostLeft L v → (0 < v → c ≡ 0) → cl ≡ 0 → Has r c false cl v i x
   open-holds r c cl v i x inv few idle z = record { levels = inv; few = few; idle = idle; before = λ _. z; ended = λ e. absurd (differ e) }
 
   -- after it
-  closed-holds : (r c cl v i : ℕ) (x : Memory) → Inv cl v i r c x → i ≤ 4 → (0 < v → c ≡ 0) → r ≡ H → 0 < r → (v ≡ 0 → cl ≡ L) → Has r c true cl v i x
-  closed-holds r c cl v i x inv few idle e p all = record { levels = inv; few = few; idle = idle; before = λ z. absurd (differ (sym z)); ended = λ _. (e, p, all) }
+  closed-holds : (r c cl v i : ℕ) (x : Memory) → Inv cl v i r c x → i ≤ mostLeft L v → (0 < v → c ≡ 0) → r ≡ H → 0 < r → (v ≡ 0 → cl ≡ L) →
+      Has r c true cl v i x
+  closed-holds r c cl v i x inv few idle e p all = record {
+    levels = inv;
+    few = few;
+    idle = idle;
+    before = λ z. absurd (differ (sym z));
+    ended = λ _.
+        (e, p, all);
+  }
 
   pub fresh-holds : (x : Memory) → Has 0 0 false 0 0 0 x
   fresh-holds x = open-holds 0 0 0 0 0 x (fresh-good K Kept five-three-laws L W H g x) (omega arith) (λ _. refl) refl
@@ -59,21 +68,26 @@ module _ (H : ℕ) (g : Grid) (W L : ℕ) where
     o = pull K L W cl (suc v) i r x
 
   -- the levels close on once nothing waits
-  pub shut-on : (r c cl v i : ℕ) (x : Memory) (h : Has r c true cl (suc v) i x) → (let o = pull K L W cl (suc v) i r x in o .level ≡ 0 → Closed K Kept five-three-laws L 1 W H g cl r (shut K L W cl r (o .store)))
+  pub shut-on : (r c cl v i : ℕ) (x : Memory) (h : Has r c true cl (suc v) i x) → (let o = pull K L W cl (suc v) i r x in o .level ≡ 0 →
+      Closed K Kept five-three-laws L 1 W H g cl r (shut K L W cl r (o .store)))
   shut-on r c cl v i x h y =
       let o = pull K L W cl (suc v) i r x in
       let e = h .ended refl in
-      shut-good K Kept five-three-laws L 1 W H g cl r (o .left) (o .store) (e .0) (e .1) (subst (λ b. Inv cl b (o .left) r 0 (o .store)) y (pulled-by r c true cl v i x h .good .inv))
+      shut-good K Kept five-three-laws L 1 W H g cl r (o .left) (o .store) (e .0) (e .1) (subst (λ b. Inv cl b (o .left) r 0 (o .store)) y
+      (pulled-by r c true cl v i x h .good .inv))
 
-  draw-open : (r c cl v i : ℕ) (x : Memory) → Has r c false cl (suc v) i x → (let o = pull K L W cl (suc v) i r x in Has r c false cl (o .level) (o .left) (o .store))
+  draw-open : (r c cl v i : ℕ) (x : Memory) → Has r c false cl (suc v) i x → (let o = pull K L W cl (suc v) i r x in
+      Has r c false cl (o .level) (o .left) (o .store))
   draw-open r c cl v i x h =
       let o = pull K L W cl (suc v) i r x in
       let k = pulled-by r c false cl v i x h .good in
       let z = none-begun r c false cl v i x h in
-      open-holds r c cl (o .level) (o .left) (o .store) (subst (λ b. Inv cl (o .level) (o .left) r b (o .store)) (sym z) (k .inv)) (k .few) (λ _. z) (h .before refl)
+      open-holds r c cl (o .level) (o .left) (o .store) (subst (λ b. Inv cl (o .level) (o .left) r b (o .store)) (sym z) (k .inv)) (k .few) (λ _. z)
+      (h .before refl)
 
   draw-closed : (r c cl v i : ℕ) (x : Memory) (h : Has r c true cl (suc v) i x) →
-      (let o = pull K L W cl (suc v) i r x in (b : ℕ) → o .level ≡ b → (let k = resumed true (st W L r c true cl (suc v) i) o b in Has r c true (k .closed) (k .out .level) (k .out .left) (k .out .store)))
+      (let o = pull K L W cl (suc v) i r x in (b : ℕ) → o .level ≡ b → (let k = resumed true (st W L r c true cl (suc v) i) o b in
+      Has r c true (k .closed) (k .out .level) (k .out .left) (k .out .store)))
   unfolding resumed
   draw-closed r c cl v i x h zero y =
       let k = shut-on r c cl v i x h y in
@@ -87,10 +101,12 @@ module _ (H : ℕ) (g : Grid) (W L : ℕ) where
       let k = pulled-by r c true cl v i x h .good in
       let z = none-begun r c true cl v i x h in
       let e = h .ended refl in
-      closed-holds r c cl (o .level) (o .left) (o .store) (subst (λ b. Inv cl (o .level) (o .left) r b (o .store)) (sym z) (k .inv)) (k .few) (λ _. z) (e .0) (e .1) (λ a. absurd (omega arith))
+      closed-holds r c cl (o .level) (o .left) (o .store) (subst (λ b. Inv cl (o .level) (o .left) r b (o .store)) (sym z) (k .inv)) (k .few) (λ _. z)
+      (e .0) (e .1) (λ a. absurd (omega arith))
 
   pub draw-holds : (r c : ℕ) (f : Bool) (cl v i : ℕ) (x : Memory) → Has r c f cl (suc v) i x →
-      (let o = pull K L W cl (suc v) i r x in let k = resumed f (st W L r c f cl (suc v) i) o (o .level) in Has r c f (k .closed) (k .out .level) (k .out .left) (k .out .store))
+      (let o = pull K L W cl (suc v) i r x in let k = resumed f (st W L r c f cl (suc v) i) o (o .level) in Has r c f (k .closed) (k .out .level)
+      (k .out .left) (k .out .store))
   draw-holds r c false cl v i x h = unfold resumed in draw-open r c cl v i x h
   draw-holds r c true cl v i x h = draw-closed r c cl v i x h _ refl
 
@@ -100,11 +116,13 @@ module _ (H : ℕ) (g : Grid) (W L : ℕ) where
     k = shut K L W 0 r x
 
     pub shut-first : Closed K Kept five-three-laws L 1 W H g 0 r k
-    shut-first = shut-good K Kept five-three-laws L 1 W H g 0 r i x e p (subst₂ (λ b d. Inv 0 b i r d x) z n (subst (λ b. Inv b v i r c x) (h .before refl) (h .levels)))
+    shut-first = shut-good K Kept five-three-laws L 1 W H g 0 r i x e p (subst₂ (λ b d. Inv 0 b i r d x) z n (subst (λ b. Inv b v i r c x)
+        (h .before refl) (h .levels)))
 
     pub finish-holds : Has r c true (k .closed) (k .out .level) (k .out .left) (k .out .store)
     finish-holds =
-        closed-holds r c _ _ _ _ (subst (λ b. Inv (k .closed) (k .out .level) (k .out .left) r b (k .out .store)) (sym n) (shut-first .inv)) (shut-first .few) (λ _. n) e p (shut-first .all)
+        closed-holds r c _ _ _ _ (subst (λ b. Inv (k .closed) (k .out .level) (k .out .left) r b (k .out .store)) (sym n) (shut-first .inv))
+        (shut-first .few) (λ _. n) e p (shut-first .all)
 
 -- ---- one height more
 module _ (H : ℕ) (g : Grid) (W l r c cl v i : ℕ) (x : Memory) (h : Holds H g (st W (suc l) r c false cl v i) x) (z : v ≡ 0) (in-row : c < W) where

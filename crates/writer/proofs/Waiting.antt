@@ -8,9 +8,8 @@ use native.Mathlib.Omega.{arith}
 use Rattle.numbers.specs.Signal.{pick}
 use Rattle.lifting.specs.Line.{lo, count}
 use Rattle.wavelet.specs.Bands.{Band}
-use Rattle.wavelet.specs.Order.{RowName, rowName, handedOut, rowsOf, setRows, madeBy, closing}
-use Rattle.wavelet.specs.Order.{hasRow as inOrder}
-use Rattle.writer.specs.Counts.{prev, deeper, made, most, bandAt, hasRow, skip}
+use Rattle.wavelet.specs.Order.{RowName, rowName, handedOut, hasRow, rowsOf, setRows, madeBy, closing}
+use Rattle.writer.specs.Counts.{prev, deeper, made, most, bandAt, skip}
 
 -- the last i bands of a set
 unfoldable pub lasts : ℕ → List Band
@@ -22,32 +21,23 @@ unfolding lasts bandAt most handedOut
 lasts-most zero = refl
 lasts-most (suc l) = refl
 
-pub most-le : (l : ℕ) → most l ≤ 4
-unfolding most
-most-le zero = omega arith
-most-le (suc l) = omega arith
-
--- the two tests are one
-pub has-same : (w m : ℕ) (b : Band) (n : ℕ) → hasRow w m b n ≡ inOrder w m b n
-unfolding hasRow inOrder
-has-same w m b n = refl
-
 -- ---- of a set, what is left from the first band that has the row
 module _ (k w m n : ℕ) where
   pub rows-yes : (b : Band) (bs : List Band) → hasRow w m b n ≡ true → rowsOf k w m n (b ∷ bs) ≡ rowName k b n ∷ rowsOf k w m n bs
   unfolding rowsOf
-  rows-yes b bs e = rw (sym (has-same w m b n) ∙ e) refl
+  rows-yes b bs e = rw e refl
 
   pub rows-no : (b : Band) (bs : List Band) → hasRow w m b n ≡ false → rowsOf k w m n (b ∷ bs) ≡ rowsOf k w m n bs
   unfolding rowsOf
-  rows-no b bs e = rw (sym (has-same w m b n) ∙ e) refl
+  rows-no b bs e = rw e refl
 
   pub skip-rows : (i : ℕ) → rowsOf k w m n (lasts (skip w m n i)) ≡ rowsOf k w m n (lasts i)
   unfolding skip
   skip-rows zero = refl
   skip-rows (suc i) = go (hasRow w m (bandAt i) n) refl (skip-rows i)
     where
-      go : (t : Bool) → hasRow w m (bandAt i) n ≡ t → rowsOf k w m n (lasts (skip w m n i)) ≡ rowsOf k w m n (lasts i) → rowsOf k w m n (lasts (pick t (suc i) (skip w m n i))) ≡ rowsOf k w m n (lasts (suc i))
+      go : (t : Bool) → hasRow w m (bandAt i) n ≡ t → rowsOf k w m n (lasts (skip w m n i)) ≡ rowsOf k w m n (lasts i) →
+          rowsOf k w m n (lasts (pick t (suc i) (skip w m n i))) ≡ rowsOf k w m n (lasts (suc i))
       go true e h = refl
       go false e h = h ∙ sym (unfold lasts in rows-no (bandAt i) (lasts i) e)
 
@@ -56,7 +46,8 @@ unfolding skip
 skip-has w m n zero j e = absurd (omega arith)
 skip-has w m n (suc i) j e = go (hasRow w m (bandAt i) n) refl (skip-has w m n i j) e
   where
-    go : (t : Bool) → hasRow w m (bandAt i) n ≡ t → (skip w m n i ≡ suc j → hasRow w m (bandAt j) n ≡ true) → pick t (suc i) (skip w m n i) ≡ suc j → hasRow w m (bandAt j) n ≡ true
+    go : (t : Bool) → hasRow w m (bandAt i) n ≡ t → (skip w m n i ≡ suc j → hasRow w m (bandAt j) n ≡ true) → pick t (suc i) (skip w m n i) ≡ suc j →
+        hasRow w m (bandAt j) n ≡ true
     go true h ih z = let q : i ≡ j = omega arith in ap (λ a. hasRow w m (bandAt a) n) (sym q) ∙ h
     go false h ih z = ih z
 
@@ -103,7 +94,8 @@ later-none zero k w m = refl
 later-none (suc l) k w m = refl
 
 -- the last set of the first level, then the levels below it
-pub later-first : (l k w m : ℕ) → later (suc l) k w m 0 ≡ (setRows l k w m (count lo m - 1) ++ madeBy l (suc k) (count lo w) (count lo m - 1)) ++ later (suc l) k w m 1
+pub later-first : (l k w m : ℕ) → later (suc l) k w m 0 ≡ (setRows l k w m (count lo m - 1) ++ madeBy l (suc k) (count lo w)
+    (count lo m - 1)) ++ later (suc l) k w m 1
 unfolding later closing
 later-first l k w m =
     ap (λ r. (setRows l k w m (count lo m - 1) ++ madeBy l (suc k) (count lo w) (count lo m - 1)) ++ r)

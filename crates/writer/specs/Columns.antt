@@ -1,4 +1,4 @@
--- The loops over the store that do several steps in one pass, in the words of the steps.
+-- The loops over the store that do several steps in one pass, in the words of the steps. Private functions alone cite this.
 use mathlib.Core.List.{List}
 use Prim.Native.Nat.{ℕ, _+_, _*_, _<_, _≤_}
 use mathlib.Core.Path.{_≡_}

@@ -1,10 +1,9 @@
 -- The numbers that the writer derives on its way down the levels: nothing of them is kept.
-use mathlib.Core.Bool.{Bool}
 use Prim.Native.Nat.{ℕ, zero, suc, _-_, _/_}
-use lib.Dec.{ltb}
-use Rattle.numbers.specs.Signal.{pick, both}
+use Rattle.numbers.specs.Signal.{pick}
 use Rattle.lifting.specs.Line.{lo, count}
-use Rattle.wavelet.specs.Bands.{Band, LL, HL, LH, HH, across, down}
+use Rattle.wavelet.specs.Bands.{Band, LL, HL, LH, HH}
+use Rattle.wavelet.specs.Order.{hasRow}
 
 -- one less, and 0 of 0
 abbrev pub prev : ℕ → ℕ
@@ -16,7 +15,8 @@ unfoldable pub deeper : ℕ → ℕ
 deeper zero = zero
 deeper (suc v) = suc (suc v)
 
--- How many sets a level has made that has received m rows; c = 0: and that is not closed. "Set n of a level is made when its row 2n+2 is complete, or when the map is finished."
+-- How many sets a level has made that has received m rows; c = 0: and that is not closed. "Set n of a level is made when its row 2n+2 is complete, or
+-- when the map is finished."
 unfoldable pub made : ℕ → ℕ → ℕ
 made zero m = (m - 1) / 2
 made (suc c) m = count lo m
@@ -33,11 +33,12 @@ unfoldable pub most : ℕ → ℕ
 most zero = 4
 most (suc l) = 3
 
--- Has band b a row n, at a level of w columns that has received m rows? "A band with no row or no column has no band row."
-unfoldable pub hasRow : ℕ → ℕ → Band → ℕ → Bool
-hasRow w m b n = both (ltb 0 (count (across b) w)) (ltb n (count (down b) m))
+-- How many can be left of a set of level v of L; none where none waits (v = 0).
+unfoldable pub mostLeft : ℕ → ℕ → ℕ
+mostLeft L zero = 0
+mostLeft L (suc v) = most (L - suc v)
 
--- Of the last i bands of set n, those from the first that has row n on.
+-- Of the last i bands of set n, those from the first that has row n on, at a level of w columns that has received m rows.
 unfoldable pub skip : ℕ → ℕ → ℕ → ℕ → ℕ
 skip w m n zero = zero
 skip w m n (suc i) = pick (hasRow w m (bandAt i) n) (suc i) (skip w m n i)

@@ -1,4 +1,5 @@
--- Demand 3 for the writer: document 01, "The lists of demand 3". One claim about a whole list of calls on a fresh writer and its line store, by the calls' arguments and answers alone.
+-- Demand 3 for the writer: document 01, "The lists of demand 3". One claim about a whole list of calls on a fresh writer and its line store,
+-- by the calls' arguments and answers alone.
 use mathlib.Core.Path.{_≡_}
 use mathlib.Core.Bool.{Bool, true, false, not}
 use mathlib.Core.List.{List, [], _∷_, _++_, map}
@@ -19,7 +20,8 @@ use Rattle.wavelet.specs.Order.{RowName, made, times}
 use Rattle.writer.specs.declared.BandRow.{BandRow}
 use Rattle.writer.specs.Questions.{either}
 use Rattle.writer.specs.Answers.{Reply, gives, refused, unless}
-use Rattle.writer.specs.History.{Area, Call, offer, draw, finish, Given, row, none, Event, offered, drew, finished, taken, finishedBy, DrawnRow, drawn}
+use Rattle.writer.specs.History.{Area, Call, offer, draw, finish, Given, row, none, Event, offered, drew, finished}
+use Rattle.writer.specs.History.{taken, finishedBy, DrawnRow, drawn}
 
 -- "Made: the rows that the writer's rules make of the whole rows taken and, once a finish passed, of the finish, in the order of those rules."
 unfoldable pub wholeRows : ℕ → List Event → ℕ
@@ -51,11 +53,20 @@ pub record MapOf (W H : ℕ) (g : Grid) (es : List Event) : Type 0 where
 
 -- the values of a drawn row are the map's, T.800's whole numbers
 pub record HasValues (W H : ℕ) (g : Grid) (d : DrawnRow) : Type 0 where
-  pub are : (b : Band) → d .row .band ≡ code b → (i : ℕ) → i < d .row .length → d .values i ≡ levelBand whole W H g (d .row .level) b (d .row .row) i
+  pub are : (b : Band) → d .row .band ≡ code b → (i : ℕ) → i < d .row .length →
+      d .values i ≡ levelBand whole W H g (d .row .level) b (d .row .row) i
 
 pub data All {A : Type 0} (P : A → Type 0) : List A → Type 0 where
   all-none : All P []
   all-more : {x : A} {l : List A} → P x → All P l → All P (x ∷ l)
+
+-- "The rows drawn then are exactly the plane's band rows, each once."
+pub record PlaneDrawn (W L : ℕ) (es : List Event) : Type 0 where
+  -- their names
+  pub names : List RowName
+  pub answers : map (λ d. d .row) (drawn es) ≡ map (answered W) names
+  -- a name is among them once if the plane has such a band row, and else not
+  pub once : (x : RowName) → times x names ≡ pick (bandRowExists W (wholeRows W es) L (x .level) (x .band) (x .row)) 1 0
 
 -- ---- the next call
 abbrev pub isNone : {A : Type 0} → List A → Bool
@@ -72,6 +83,13 @@ abbrev pub written : Reply Given → ℕ
 written (gives (row r)) = r .length
 written (gives none) = 0
 written (refused q) = 0
+
+-- what is seen of it: the answer, and the output area afterwards, its surplus untouched
+pub record DrawSeen (W L : ℕ) (es : List Event) (a : Area) (e : Event) : Type 0 where
+  pub area : Area
+  pub says : e ≡ drew a (drawSays W (waitingOf W L es) (a .size)) area
+  pub size-is : area .size ≡ a .size
+  pub surplus : (i : ℕ) → written (drawSays W (waitingOf W L es) (a .size)) ≤ i → area .numbers i ≡ a .numbers i
 
 -- after j heights more no row would wait, and the row limit is not reached
 unfoldable pub takesOn : ℕ → ℕ → List Event → ℕ → Bool
@@ -103,21 +121,25 @@ finishTurned W L es =
 
 -- ---- the claim, of the events es of any list of calls; `then` is what would be seen of a further call
 pub record Demand3 (W L : ℕ) (es : List Event) (then : Call → Event) : Type 0 where
-  -- the rows drawn, then those waiting, are the rows made, in the order of the rules; each is answered with its level, band, number and length
+  -- the rows drawn, then those waiting, are the rows made, in the order of the rules; each is answered with its level, band, number, length
   pub in-order : map (λ d. d .row) (drawn es) ++ map (answered W) (waitingOf W L es) ≡ map (answered W) (madeOf W L es)
-  -- they have the values of every map that begins with the heights taken: until a finish passes all of them, then those made before it; of the map that was finished all of them
+  -- they have the values of every map that begins with the heights taken: until a finish passes all of them, then those made before it;
+  -- of the map that was finished all of them
   pub values : (H : ℕ) (g : Grid) → MapOf W H g es → All (HasValues W H g) (drawn es)
-  pub early-values : (H : ℕ) (g : Grid) → Begins W H g es → All (HasValues W H g) (take (length (made W L (wholeRows W es) false)) (drawn es))
+  pub early-values : (H : ℕ) (g : Grid) → Begins W H g es →
+      All (HasValues W H g) (take (length (made W L (wholeRows W es) false)) (drawn es))
   -- and are the first in that map's order
-  pub first : (H : ℕ) (g : Grid) → MapOf W H g es → (r : List RowName) × (map (λ d. d .row) (drawn es) ++ map (answered W) r ≡ map (answered W) (made W L H true))
+  pub first : (H : ℕ) (g : Grid) → MapOf W H g es →
+      (r : List RowName) × (map (λ d. d .row) (drawn es) ++ map (answered W) r ≡ map (answered W) (made W L H true))
   -- there is such a map, the heights taken being 16-bit numbers
   pub some-map : All (λ h. h ≤ maxSample) (taken es) → (H : ℕ) × (g : Grid) × MapOf W H g es
   -- once finished, the heights taken are a map
-  pub finished-map : finishedBy es ≡ true → (1 ≤ wholeRows W es) × (wholeRows W es ≤ maxHeight) × (length (taken es) ≡ W * wholeRows W es)
+  pub finished-map : finishedBy es ≡ true →
+      (1 ≤ wholeRows W es) × (wholeRows W es ≤ maxHeight) × (length (taken es) ≡ W * wholeRows W es)
   -- and once none waits, the rows drawn are its plane's band rows, each once
-  pub all-drawn : finishedBy es ≡ true → waitingOf W L es ≡ [] → (names : List RowName) × (map (λ d. d .row) (drawn es) ≡ map (answered W) names) × ((x : RowName) → times x names ≡ pick (bandRowExists W (wholeRows W es) L (x .level) (x .band) (x .row)) 1 0)
+  pub all-drawn : finishedBy es ≡ true → waitingOf W L es ≡ [] → PlaneDrawn W L es
   -- a draw
-  pub draws : (a : Area) → (b : Area) × (then (draw a) ≡ drew a (drawSays W (waitingOf W L es) (a .size)) b) × (b .size ≡ a .size) × ((i : ℕ) → written (drawSays W (waitingOf W L es) (a .size)) ≤ i → b .numbers i ≡ a .numbers i)
+  pub draws : (a : Area) → DrawSeen W L es a (then (draw a))
   -- an offer
   pub offers-turned : (run : List ℕ) (q : ℕ) → offerTurned W L es (length run) ≡ suc q → then (offer run) ≡ offered run (refused (suc q))
   pub offers-taken : (run : List ℕ) → offerTurned W L es (length run) ≡ 0 → (n : ℕ) × (then (offer run) ≡ offered run (gives n)) × Takes W L es (length run) n

@@ -1,4 +1,4 @@
--- The first questions that the calls on a writer share: 1 and 5; 9 and 8.
+-- The first questions that the calls on a writer share: 1 and 5; 9 and 8. Private functions alone cite them.
 use mathlib.Core.Bool.{not}
 use Prim.Native.Nat.{ℕ}
 use lib.Dec.{eqb}

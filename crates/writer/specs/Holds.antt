@@ -1,4 +1,5 @@
--- What stands in the line store of a writer, for a map g of H rows: `Holds H g s x`. While a band row of any level waits, its values are the map's; that is in it too.
+-- What stands in the line store of a writer, for a map g of H rows: `Holds H g s x`. While a band row of any level waits, its values are the map's;
+-- that is in it too.
 -- The numbers are 32-bit words (`wrap32`); for a map they are T.800's whole numbers.
 use mathlib.Core.Path.{_≡_}
 use mathlib.Core.Bool.{true, false}
@@ -8,10 +9,13 @@ use lib.IntN.{ℤ, pos}
 use lib.ListN.{getD}
 use Rattle.numbers.specs.Word.{wrap32}
 use Rattle.lifting.specs.Line.{lo, hi, count}
-use Rattle.wavelet.specs.Bands.{Grid, Band, LL, across, down, columnsLifted, subband}
+use Rattle.wavelet.specs.Bands.{Grid, Band, LL, code, across, down, columnsLifted, subband}
+use Rattle.wavelet.specs.Levels.{levelBand}
+use Rattle.wavelet.specs.Order.{hasRow}
 use Rattle.writer.specs.declared.Writer.{Writer}
+use Rattle.writer.specs.declared.BandRow.{BandRow}
 use Rattle.writer.specs.Level.{Memory, LevelKind}
-use Rattle.writer.specs.Counts.{prev, made, bandAt, hasRow}
+use Rattle.writer.specs.Counts.{prev, made, mostLeft, bandAt}
 use Rattle.writer.specs.FiveThreeLevel.{cellOf, fiveThree}
 use Rattle.writer.specs.Machine.{rest}
 use Rattle.writer.specs.Answers.{Reply, gives, refused, Took, Handed, aRow, nothing}
@@ -75,8 +79,8 @@ LevelsHold K Held (suc l) w H g c v i m j x =
 -- ---- the writer's store
 pub record Holds (H : ℕ) (g : Grid) (s : Writer) (x : Memory) : Type 0 where
   pub levels : LevelsHold fiveThree Kept (s .levels) (s .width) H g (s .closed) (s .level) (s .left) (s .rows) (s .column) x
-  -- at most the four bands of a set are left
-  pub few : s .left ≤ 4
+  -- at most the bands of a set are left that are handed out at its level
+  pub few : s .left ≤ mostLeft (s .levels) (s .level)
   -- while a band row waits, no row is begun
   pub idle : 0 < s .level → s .column ≡ 0
   -- before the finish no level is closed
@@ -99,6 +103,10 @@ pub record GoesOn (s : Writer) (run : List ℕ) (k : ℕ) (H : ℕ) (g : Grid) :
   pub within : s .rows * s .width + s .column + k ≤ s .width * H
   pub heights : (j : ℕ) → j < k → g ((s .rows * s .width + s .column + j) / s .width) ((s .rows * s .width + s .column + j) % s .width) ≡ pos (getD run j 0)
 
+-- the numbers of a band row, at the front of y
+pub record MapRow (W H : ℕ) (g : Grid) (b : BandRow) (y : Memory) : Type 0 where
+  pub are : (c : Band) → b .band ≡ code c → (i : ℕ) → i < b .length → y i ≡ levelBand wrap32 W H g (b .level) c (b .row) i
+
 -- the state that a call leaves: the one before where it was turned away or gave Nothing; and how many heights it took
 abbrev pub left : {A : Type 0} → (A → Writer) → Writer → Reply A → Writer
 left f s (gives a) = f a
@@ -112,9 +120,11 @@ abbrev pub tookOf : Reply Took → ℕ
 tookOf (gives t) = t .taken
 tookOf (refused q) = 0
 
--- what each call keeps, by its answer: s, x and x′ are the state and the store before, and the store after
-abbrev pub DrawKeeps : Writer → Memory → Reply Handed → Memory → Type 0
-DrawKeeps s x r x′ = Keeps AnyMap s x (left (after s) s r) x′
+-- what each call keeps, by its answer: s, x and x′ are the state and the store before, and the store after; y is what a draw leaves in the output area
+pub record DrawKeeps (s : Writer) (x : Memory) (r : Reply Handed) (x′ y : Memory) : Type 0 where
+  pub store : Keeps AnyMap s x (left (after s) s r) x′
+  -- the row that is answered stands at the front of the area, and its values are the map's
+  pub values : (H : ℕ) (g : Grid) → Holds H g s x → (b : BandRow) (t : Writer) → r ≡ gives (aRow b t) → MapRow (s .width) H g b y
 
 abbrev pub FinishKeeps : Writer → Memory → Reply Writer → Memory → Type 0
 FinishKeeps s x r x′ = Keeps (AllRows s) s x (left (λ t. t) s r) x′

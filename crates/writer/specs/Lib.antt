@@ -1,3 +1,11 @@
+-- Demand 3 is to be believed: document 01's words for lists of calls, by arguments and answers.
+pub mod Answers
+pub mod History
+pub mod Demand3
+-- What each call asks, answers and leaves: the contracts of the public functions cite it. Of these, demand 3 proves what 01 asks of lists of calls.
+pub mod Questions
+pub mod Calls
+pub mod Holds
 pub mod Counts
 pub mod Level
 pub mod FiveThreeLevel
@@ -5,12 +13,7 @@ pub mod Machine
 pub mod Draws
 pub mod Closing
 pub mod Taking
-pub mod Questions
-pub mod Answers
-pub mod Calls
-pub mod Holds
-pub mod History
-pub mod Demand3
+-- Cited by private functions alone: how the code goes about it. Nothing here needs to be believed.
 pub mod Steps
 pub mod Gate
 pub mod Stretch

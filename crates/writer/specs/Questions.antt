@@ -7,13 +7,14 @@ use Rattle.wavelet.specs.Limits.{maxWidth, maxHeight, maxLevels}
 use Rattle.wavelet.specs.Questions.{ask, within}
 use Rattle.wavelet.specs.Store.{storeLength}
 use Rattle.writer.specs.declared.Writer.{Writer}
+use Rattle.writer.specs.Counts.{mostLeft}
 use Rattle.writer.specs.FiveThreeLevel.{fiveThree}
 use Rattle.writer.specs.Draws.{Waiting, waiting}
 
 abbrev pub either : Bool → Bool → Bool
 either a b = pick a true b
 
--- question 1: each count by itself, as docs/STATE.md lists them
+-- question 1: the ranges that docs/STATE.md lists
 unfoldable pub inRanges : Writer → Bool
 inRanges s =
     both (within 1 maxWidth (s .width))
@@ -22,7 +23,7 @@ inRanges s =
     (both (ltb (s .column) (s .width))
     (both (leb (s .closed) (s .levels))
     (both (leb (s .level) (s .levels))
-    (leb (s .left) 4))))))
+    (leb (s .left) (mostLeft (s .levels) (s .level))))))))
 
 -- question 5
 unfoldable pub longEnough : ℕ → Writer → Bool

@@ -1,4 +1,4 @@
--- An offer as the code takes it: a stretch of a row at a time.
+-- An offer as the code takes it: a stretch of a row at a time. Private functions alone cite this.
 use mathlib.Core.Path.{_≡_}
 use mathlib.Core.List.{List}
 use Prim.Native.Nat.{ℕ, zero, suc, _+_, _-_, _<_, min}
@@ -22,7 +22,16 @@ nextCount s k = pick (takes s) (min (s .width - s .column) k) 0
 
 -- the writer at column c of its row
 abbrev pub atColumn : Writer → ℕ → Writer
-atColumn s c = record { width = s .width; levels = s .levels; rows = s .rows; column = c; finished = s .finished; closed = s .closed; level = s .level; left = s .left }
+atColumn s c = record {
+  width = s .width;
+  levels = s .levels;
+  rows = s .rows;
+  column = c;
+  finished = s .finished;
+  closed = s .closed;
+  level = s .level;
+  left = s .left;
+}
 
 -- a writer that can take a height, with a store of n numbers
 pub record Taker (s : Writer) (n : ℕ) : Type 0 where

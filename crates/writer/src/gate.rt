@@ -1,5 +1,6 @@
 // The gate questions of the writer's calls, in order: 0, or the number of the first that says no.
 use crate::Writer;
+use crate::counts;
 use wavelet::limits;
 use wavelet::store;
 ghost use mathlib.Core.Path.{_≡_};
@@ -8,7 +9,7 @@ ghost use lib.Dec.{leb};
 ghost use Rattle.writer.specs.Questions.{inRanges, setUpQuestion, offerQuestion, finishQuestion};
 ghost use Rattle.writer.specs.Gate.{stateQuestion, openQuestion};
 
-// Question 1: each count by itself.
+// Question 1: the counts' ranges.
 fn in_ranges(s: Writer) -> bool
     ensures { λ r. ⌜ r ≡ inRanges s ⌝ }
 {
@@ -30,7 +31,7 @@ fn in_ranges(s: Writer) -> bool
     if s.levels < s.level {
         return false;
     }
-    s.left <= 4
+    s.left <= counts::most_left(s.levels, s.level)
 }
 
 // Whether n numbers are enough for every number of levels. At the most levels a width of 2^k + 1 needs just as many, so the sizes are seldom added up.

@@ -140,7 +140,7 @@ impl Writer {
         ensures { λ r. ⌜ ofDrawn r ≡ drawReply self (length (now (store .entry))) (length (now (out .entry))) (at (now (store .entry))) ⌝ }
         ensures { λ r. ⌜ at (now (store .exit)) ≡ drawStore self (length (now (store .entry))) (length (now (out .entry))) (at (now (store .entry))) ⌝ }
         ensures { λ r. ⌜ at (now (out .exit)) ≡ drawArea self (length (now (store .entry))) (length (now (out .entry))) (at (now (store .entry))) (at (now (out .entry))) ⌝ }
-        ensures { λ r. ⌜ DrawKeeps self (at (now (store .entry))) (ofDrawn r) (at (now (store .exit))) ⌝ }
+        ensures { λ r. ⌜ DrawKeeps self (at (now (store .entry))) (ofDrawn r) (at (now (store .exit))) (at (now (out .exit))) ⌝ }
     {
         let no = gate::state_question(self, store.len());
         if 0 < no {

@@ -2,12 +2,14 @@
 use mathlib.Core.Path.{sym, _∙_}
 use native.Mathlib.Omega.{arith}
 use borrow.Author.Tests.{not-true, not-false}
+use Rattle.wavelet.specs.Limits.{maxLevels}
 use Rattle.whole_map.proofs.CallLaws.{map-rows, cleared, rebuilt-no, rebuilt-yes, rebuilt-zero, out-of-range, not-rebuilt, all-rebuilt}
 use borrow.Author.Needs.{needs}
 use Rattle.whole_map.proofs.restore.Statement.{statement}
 use Rattle.whole_map.proofs.restore.Tie as tie
 
 in-range-requires : tie.Need-in-range-requires
+unfolding maxLevels
 in-range-requires c κs =
     let start = c .before in
     let s = start .pre .0 in

@@ -1,9 +1,9 @@
 -- `size_question` meets its contract: the questions in their order. Assumes nothing.
 use mathlib.Core.Path.{sym, _∙_}
-use Prim.Native.Nat.{_*_, _≤_}
-use native.Mathlib.Nat.{mul-le-mul-left, mul-le-mul-right}
+use native.Mathlib.Nat.{mul-comm}
 use native.Mathlib.Omega.{arith}
 use Rattle.wavelet.proofs.QuestionLaws.{sized}
+use Rattle.wavelet.proofs.ViewLaws.{product}
 use Rattle.whole_map.proofs.CallLaws.{sizes-no, short-first, short-second, short-third, long-enough}
 use borrow.Author.Needs.{needs}
 use Rattle.whole_map.proofs.size_question.Statement.{statement}
@@ -21,9 +21,8 @@ mul-n : tie.Need-mul-n
 mul-n c =
     let a = c .before .before .args in
     let s = sized (a .width) (a .height) (a .levels) (sym (c .before .size-question .ensures) ∙ c .if1 .left) in
-    let x : a .width * a .height ≤ 2049 * a .height = mul-le-mul-right (a .height) (s .width .1) in
-    let y : 2049 * a .height ≤ 2049 * 65535 = mul-le-mul-left 2049 (s .height .1) in
-    omega arith
+    let h = s .height .1 in
+    omega (arith, product (a .height) (a .width) (omega arith) (s .width .1), mul-comm (a .width) (a .height))
 
 returns-2 : tie.Need-returns-2
 returns-2 c = let q = c .before in short-first _ _ _ _ _ _ 0 (sym (q .before .size-question .ensures) ∙ q .if1 .left) (c .if2 .taken)

@@ -9,7 +9,7 @@ use mir.Val.{toZ}
 use mir.ValLaws.{toZ-ofZ}
 use Rattle.numbers.proofs.Words.{read-back}
 use Rattle.wavelet.specs.Maps.{every}
-use Rattle.reader.specs.Areas.{between}
+use Rattle.reader.specs.Inside.{between}
 use Rattle.reader.proofs.AreaLaws.{between-start, between-turn, between-end}
 use Rattle.reader.proofs.areas.all_between.Statement.{statement}
 use Rattle.reader.proofs.areas.all_between.Tie as tie
@@ -52,7 +52,8 @@ loop-again c =
 returns : tie.Need-returns Inv-loop μ-loop
 returns c =
     let fits = c .before .before .fits in
-    between-end _ _ _ _ _ _ _ _ (toZ-ofZ w32 _ (fits .low)) (toZ-ofZ w32 _ (fits .high)) (c .before .loop .inv .0) (c .loop-test .left) (c .before .loop .inv .1)
+    between-end _ _ _ _ _ _ _ _ (toZ-ofZ w32 _ (fits .low)) (toZ-ofZ w32 _ (fits .high)) (c .before .loop .inv .0) (c .loop-test .left)
+    (c .before .loop .inv .1)
 
 pub all-between-spec : {M : Type 1} → statement M
 all-between-spec =

@@ -4,7 +4,8 @@ use lib.IntN.{ℤ}
 use lib.ListN.{set}
 use borrow.Author.Needs.{needs}
 use Rattle.numbers.proofs.Words.{read-back}
-use Rattle.reader.specs.Areas.{wholes, height16}
+use Rattle.reader.specs.Areas.{height16}
+use Rattle.reader.specs.Inside.{wholes}
 use Rattle.reader.proofs.HeightLaws.{wholes-set}
 use Rattle.reader.proofs.areas.draw_at.Statement.{statement}
 use Rattle.reader.proofs.areas.draw_at.Tie as tie

@@ -5,7 +5,8 @@ use native.Mathlib.Omega.{arith}
 use lib.ListN.{length}
 use Rattle.numbers.specs.Signal.{at}
 use Rattle.numbers.proofs.Sweep.{Swept}
-use Rattle.reader.specs.Areas.{heightsAt, wholes, height16}
+use Rattle.reader.specs.Areas.{heightsAt, height16}
+use Rattle.reader.specs.Inside.{wholes}
 use Rattle.reader.proofs.AreaLaws.{front-rest}
 use Rattle.reader.proofs.HeightLaws.{start-heights, finish-heights}
 use Rattle.reader.proofs.WeaveLaws.{laid, lay-turn, lay-last, finish-drawn}
@@ -83,7 +84,8 @@ returns c =
     let x = head .before .before .args .row .now in
     let inv = head .loop .inv in
     let made = lay-last (length x) height16 (at x) _ _ _ (head .loop .j) _ (inv .3) (inv .0) (inv .6) (omega arith) in
-    finish-drawn (length x) height16 (at x) _ _ _ (head .loop .j) (c .before .before .draw-at3 .last .1 .1 .0) _ (inv .3) made (c .before .before .draw-at3 .ensures) (omega arith)
+    finish-drawn (length x) height16 (at x) _ _ _ (head .loop .j) (c .before .before .draw-at3 .last .1 .1 .0) _ (inv .3) made
+    (c .before .before .draw-at3 .ensures) (omega arith)
 
 same-length-2 : tie.Need-same-length-2 Inv-loop μ-loop
 same-length-2 c = c .before .before .loop .inv .5

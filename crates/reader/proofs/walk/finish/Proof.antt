@@ -1,20 +1,20 @@
 -- `reader::walk::finish` meets its contract: nothing, or the set worked out. Assumes nothing.
 use mathlib.Core.Path.{_∙_}
-use native.Mathlib.Omega.{arith}
 use borrow.Author.Needs.{needs}
+use borrow.Author.Tests.{not-true, not-false}
 use Rattle.reader.proofs.WalkLaws.{finish-more, finish-set}
 use Rattle.reader.proofs.KeptLaws.{kept-none}
 use Rattle.reader.proofs.walk.finish.Statement.{statement}
 use Rattle.reader.proofs.walk.finish.Tie as tie
 
-add-band-at : tie.Need-add-band-at
-add-band-at c = search needs
-
-band-at-requires : tie.Need-band-at-requires
-band-at-requires c κs = search needs
+completes-requires : tie.Need-completes-requires
+completes-requires c κs = search needs
 
 returns : tie.Need-returns
-returns c = let a = c .before .before .args in (finish-more (a .width) (a .height) (a .levels) (a .drawn) (a .k) (a .band) _ (c .before .band-at .ensures) _ (c .if1 .taken), kept-none _ _)
+returns c =
+    let a = c .before .before .args in
+    let test = c .before .completes .ensures in
+    (finish-more (a .width) (a .height) (a .levels) (a .drawn) (a .k) (a .band) _ test _ (not-true _ (c .if1 .taken)), kept-none _ _)
 
 work-at-requires : tie.Need-work-at-requires
 work-at-requires c κs = search needs
@@ -27,9 +27,12 @@ returns-2 c =
     let call = c .before in
     let done = call .before .before in
     let a = done .before .before .args in
-    (call .work-at .ensures .0 ∙ finish-set (a .width) (a .height) (a .levels) (a .drawn) (a .k) (a .band) _ (done .before .band-at .ensures) _ (omega arith), call .work-at .ensures .1)
+    let test = done .before .completes .ensures in (
+      call .work-at .ensures .0 ∙ finish-set (a .width) (a .height) (a .levels) (a .drawn) (a .k) (a .band) _ test _ (not-false _ (done .if1 .left)),
+      call .work-at .ensures .1,
+    )
 
 pub finish-spec : {M : Type 1} → statement M
 finish-spec =
     tie.close
-    (tie.spec add-band-at band-at-requires returns work-at-requires same-length returns-2)
+    (tie.spec completes-requires returns work-at-requires same-length returns-2)

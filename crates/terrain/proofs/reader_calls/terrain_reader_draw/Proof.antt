@@ -1,14 +1,13 @@
 -- `terrain_reader_draw` meets its contract: what the call on the unpacked reader answers, in its four cases, and 1 where the array is none. Assumes nothing.
-use mathlib.Core.Path.{_≡_, refl, sym, ap, _∙_}
+use mathlib.Core.Path.{_≡_, sym, ap, _∙_}
 use lib.ListN.{length}
 use borrow.Author.Needs.{needs}
 use Rattle.numbers.specs.Signal.{at}
 use Rattle.reader.specs.declared.Reader.{Reader}
-use Rattle.reader.specs.declared.Drawn.{Drawn}
-use Rattle.reader.specs.declared.Drawn.the-variants as drawn
 use Rattle.reader.specs.Areas.{heightsAt}
+use Rattle.reader.specs.Answers.{Reply, refused, number, Handed, ofDrawn}
 use Rattle.reader.specs.Questions.{drawQuestion}
-use Rattle.reader.specs.Calls.{drawNumber, drawAnswer, drawStore, drawArea}
+use Rattle.reader.specs.Calls.{drawReply, drawStore, drawArea}
 use Rattle.terrain.specs.ReaderCalls.{drawing, stateDrawn, countOf}
 use Rattle.terrain.specs.ReaderState.{isReader, readerOf}
 use Rattle.terrain.proofs.StateLaws.{turned, went}
@@ -19,19 +18,19 @@ is-reader-requires : tie.Need-is-reader-requires
 is-reader-requires c κs = search needs
 
 returns : tie.Need-returns
-unfolding drawNumber
 returns c =
     let i = c .before in
     let a = i .before .before .before .args in
-    let e : drawing (a .state .now) (length (a .store .now)) (at (a .store .now)) (length (a .out .now)) ≡ drawn.Refused 1 = turned (isReader (a .state .now)) (i .is-reader .result) (i .is-reader .ensures) _ _ (c .if1 .taken) in (
-      sym (ap drawNumber e),
+    let e : drawing (a .state .now) (length (a .store .now)) (at (a .store .now)) (length (a .out .now)) ≡ refused 1 =
+    turned (isReader (a .state .now)) (i .is-reader .result) (i .is-reader .ensures) _ _ (c .if1 .taken) in (
+      sym (ap number e),
       (
-        sym (ap (λ (q : Drawn). stateDrawn q (a .state .now)) e),
+        sym (ap (λ (q : Reply Handed). stateDrawn q (a .state .now)) e),
         (
           sym (turned (isReader (a .state .now)) (i .is-reader .result) (i .is-reader .ensures) _ (at (a .store .now)) (c .if1 .taken)),
           (
             sym (turned (isReader (a .state .now)) (i .is-reader .result) (i .is-reader .ensures) _ (heightsAt (a .out .now)) (c .if1 .taken)),
-            sym (ap (λ (q : Drawn). countOf q (a .drawn .now)) e),
+            sym (ap (λ (q : Reply Handed). countOf q (a .drawn .now)) e),
           ),
         ),
       ),
@@ -71,21 +70,29 @@ same-length-2 : tie.Need-same-length-2
 same-length-2 c = search needs
 
 returns-2 : tie.Need-returns-2
-unfolding drawNumber
 returns-2 c =
     let o = c .before .before .before .before .before .before in
     let u = o .before .before .before .before .before in
     let i = u .before .before .before in
     let a = i .before .before .before .args in
-    let e = went (isReader (a .state .now)) (i .is-reader .result) (i .is-reader .ensures) (λ (r : Reader). drawAnswer r (drawQuestion r (length (a .store .now)) (at (a .store .now)) (length (a .out .now)))) (readerOf (a .state .now)) (u .unpack-reader .result) (drawn.Refused 1) _ (u .before .before .if1 .left) (u .unpack-reader .ensures) (o .before .before .draw .ensures .1 .0) ∙ c .before .before .before .n .given .1 in (
-      sym (ap drawNumber e),
+    let e = went (isReader (a .state .now)) (i .is-reader .result) (i .is-reader .ensures)
+    (λ (r : Reader). drawReply r (drawQuestion r (length (a .store .now)) (at (a .store .now)) (length (a .out .now)))) (readerOf (a .state .now))
+    (u .unpack-reader .result) (refused 1) _ (u .before .before .if1 .left) (u .unpack-reader .ensures) (o .before .before .draw .ensures .0)
+    ∙ ap ofDrawn (c .before .before .before .n .given .1) in (
+      sym (ap number e),
       (
-        c .pack-reader .ensures ∙ sym (ap (λ (q : Drawn). stateDrawn q (a .state .now)) e),
+        c .pack-reader .ensures ∙ sym (ap (λ (q : Reply Handed). stateDrawn q (a .state .now)) e),
         (
-          sym (went (isReader (a .state .now)) (i .is-reader .result) (i .is-reader .ensures) (λ (r : Reader). drawStore r (drawQuestion r (length (a .store .now)) (at (a .store .now)) (length (a .out .now))) (at (a .store .now))) (readerOf (a .state .now)) (u .unpack-reader .result) (at (a .store .now)) _ (u .before .before .if1 .left) (u .unpack-reader .ensures) (o .before .before .draw .ensures .1 .1 .0)),
+          sym (went (isReader (a .state .now)) (i .is-reader .result) (i .is-reader .ensures)
+              (λ (r : Reader). drawStore r (drawQuestion r (length (a .store .now)) (at (a .store .now)) (length (a .out .now))) (at (a .store .now)))
+              (readerOf (a .state .now)) (u .unpack-reader .result) (at (a .store .now)) _ (u .before .before .if1 .left) (u .unpack-reader .ensures)
+              (o .before .before .draw .ensures .1 .0)),
           (
-            sym (went (isReader (a .state .now)) (i .is-reader .result) (i .is-reader .ensures) (λ (r : Reader). drawArea r (drawQuestion r (length (a .store .now)) (at (a .store .now)) (length (a .out .now))) (at (a .store .now)) (heightsAt (a .out .now))) (readerOf (a .state .now)) (u .unpack-reader .result) (heightsAt (a .out .now)) _ (u .before .before .if1 .left) (u .unpack-reader .ensures) (o .before .before .draw .ensures .1 .1 .1 .0)),
-            sym (ap (λ (q : Drawn). countOf q (a .drawn .now)) e),
+            sym (went (isReader (a .state .now)) (i .is-reader .result) (i .is-reader .ensures)
+                (λ (r : Reader). drawArea r (drawQuestion r (length (a .store .now)) (at (a .store .now)) (length (a .out .now))) (at (a .store .now))
+                (heightsAt (a .out .now))) (readerOf (a .state .now)) (u .unpack-reader .result) (heightsAt (a .out .now)) _ (u .before .before .if1 .left)
+                (u .unpack-reader .ensures) (o .before .before .draw .ensures .1 .1 .0)),
+            sym (ap (λ (q : Reply Handed). countOf q (a .drawn .now)) e),
           ),
         ),
       ),
@@ -98,21 +105,29 @@ same-length-4 : tie.Need-same-length-4
 same-length-4 c = search needs
 
 returns-3 : tie.Need-returns-3
-unfolding drawNumber
 returns-3 c =
     let o = c .before .before .before in
     let u = o .before .before .before .before .before in
     let i = u .before .before .before in
     let a = i .before .before .before .args in
-    let e = went (isReader (a .state .now)) (i .is-reader .result) (i .is-reader .ensures) (λ (r : Reader). drawAnswer r (drawQuestion r (length (a .store .now)) (at (a .store .now)) (length (a .out .now)))) (readerOf (a .state .now)) (u .unpack-reader .result) (drawn.Refused 1) _ (u .before .before .if1 .left) (u .unpack-reader .ensures) (o .before .before .draw .ensures .1 .0) ∙ c .enum-told .given .1 in (
-      sym (ap drawNumber e),
+    let e = went (isReader (a .state .now)) (i .is-reader .result) (i .is-reader .ensures)
+    (λ (r : Reader). drawReply r (drawQuestion r (length (a .store .now)) (at (a .store .now)) (length (a .out .now)))) (readerOf (a .state .now))
+    (u .unpack-reader .result) (refused 1) _ (u .before .before .if1 .left) (u .unpack-reader .ensures) (o .before .before .draw .ensures .0)
+    ∙ ap ofDrawn (c .enum-told .given .1) in (
+      sym (ap number e),
       (
-        sym (ap (λ (q : Drawn). stateDrawn q (a .state .now)) e),
+        sym (ap (λ (q : Reply Handed). stateDrawn q (a .state .now)) e),
         (
-          sym (went (isReader (a .state .now)) (i .is-reader .result) (i .is-reader .ensures) (λ (r : Reader). drawStore r (drawQuestion r (length (a .store .now)) (at (a .store .now)) (length (a .out .now))) (at (a .store .now))) (readerOf (a .state .now)) (u .unpack-reader .result) (at (a .store .now)) _ (u .before .before .if1 .left) (u .unpack-reader .ensures) (o .before .before .draw .ensures .1 .1 .0)),
+          sym (went (isReader (a .state .now)) (i .is-reader .result) (i .is-reader .ensures)
+              (λ (r : Reader). drawStore r (drawQuestion r (length (a .store .now)) (at (a .store .now)) (length (a .out .now))) (at (a .store .now)))
+              (readerOf (a .state .now)) (u .unpack-reader .result) (at (a .store .now)) _ (u .before .before .if1 .left) (u .unpack-reader .ensures)
+              (o .before .before .draw .ensures .1 .0)),
           (
-            sym (went (isReader (a .state .now)) (i .is-reader .result) (i .is-reader .ensures) (λ (r : Reader). drawArea r (drawQuestion r (length (a .store .now)) (at (a .store .now)) (length (a .out .now))) (at (a .store .now)) (heightsAt (a .out .now))) (readerOf (a .state .now)) (u .unpack-reader .result) (heightsAt (a .out .now)) _ (u .before .before .if1 .left) (u .unpack-reader .ensures) (o .before .before .draw .ensures .1 .1 .1 .0)),
-            sym (ap (λ (q : Drawn). countOf q (a .drawn .now)) e),
+            sym (went (isReader (a .state .now)) (i .is-reader .result) (i .is-reader .ensures)
+                (λ (r : Reader). drawArea r (drawQuestion r (length (a .store .now)) (at (a .store .now)) (length (a .out .now))) (at (a .store .now))
+                (heightsAt (a .out .now))) (readerOf (a .state .now)) (u .unpack-reader .result) (heightsAt (a .out .now)) _ (u .before .before .if1 .left)
+                (u .unpack-reader .ensures) (o .before .before .draw .ensures .1 .1 .0)),
+            sym (ap (λ (q : Reply Handed). countOf q (a .drawn .now)) e),
           ),
         ),
       ),
@@ -125,21 +140,29 @@ same-length-6 : tie.Need-same-length-6
 same-length-6 c = search needs
 
 returns-4 : tie.Need-returns-4
-unfolding drawNumber
 returns-4 c =
     let o = c .before .before .before .before .before .before in
     let u = o .before .before .before .before .before in
     let i = u .before .before .before in
     let a = i .before .before .before .args in
-    let e = went (isReader (a .state .now)) (i .is-reader .result) (i .is-reader .ensures) (λ (r : Reader). drawAnswer r (drawQuestion r (length (a .store .now)) (at (a .store .now)) (length (a .out .now)))) (readerOf (a .state .now)) (u .unpack-reader .result) (drawn.Refused 1) _ (u .before .before .if1 .left) (u .unpack-reader .ensures) (o .before .before .draw .ensures .1 .0) ∙ c .before .before .before .next .given .1 in (
-      sym (ap drawNumber e),
+    let e = went (isReader (a .state .now)) (i .is-reader .result) (i .is-reader .ensures)
+    (λ (r : Reader). drawReply r (drawQuestion r (length (a .store .now)) (at (a .store .now)) (length (a .out .now)))) (readerOf (a .state .now))
+    (u .unpack-reader .result) (refused 1) _ (u .before .before .if1 .left) (u .unpack-reader .ensures) (o .before .before .draw .ensures .0)
+    ∙ ap ofDrawn (c .before .before .before .next .given .1) in (
+      sym (ap number e),
       (
-        c .pack-reader2 .ensures ∙ sym (ap (λ (q : Drawn). stateDrawn q (a .state .now)) e),
+        c .pack-reader2 .ensures ∙ sym (ap (λ (q : Reply Handed). stateDrawn q (a .state .now)) e),
         (
-          sym (went (isReader (a .state .now)) (i .is-reader .result) (i .is-reader .ensures) (λ (r : Reader). drawStore r (drawQuestion r (length (a .store .now)) (at (a .store .now)) (length (a .out .now))) (at (a .store .now))) (readerOf (a .state .now)) (u .unpack-reader .result) (at (a .store .now)) _ (u .before .before .if1 .left) (u .unpack-reader .ensures) (o .before .before .draw .ensures .1 .1 .0)),
+          sym (went (isReader (a .state .now)) (i .is-reader .result) (i .is-reader .ensures)
+              (λ (r : Reader). drawStore r (drawQuestion r (length (a .store .now)) (at (a .store .now)) (length (a .out .now))) (at (a .store .now)))
+              (readerOf (a .state .now)) (u .unpack-reader .result) (at (a .store .now)) _ (u .before .before .if1 .left) (u .unpack-reader .ensures)
+              (o .before .before .draw .ensures .1 .0)),
           (
-            sym (went (isReader (a .state .now)) (i .is-reader .result) (i .is-reader .ensures) (λ (r : Reader). drawArea r (drawQuestion r (length (a .store .now)) (at (a .store .now)) (length (a .out .now))) (at (a .store .now)) (heightsAt (a .out .now))) (readerOf (a .state .now)) (u .unpack-reader .result) (heightsAt (a .out .now)) _ (u .before .before .if1 .left) (u .unpack-reader .ensures) (o .before .before .draw .ensures .1 .1 .1 .0)),
-            sym (ap (λ (q : Drawn). countOf q (a .drawn .now)) e),
+            sym (went (isReader (a .state .now)) (i .is-reader .result) (i .is-reader .ensures)
+                (λ (r : Reader). drawArea r (drawQuestion r (length (a .store .now)) (at (a .store .now)) (length (a .out .now))) (at (a .store .now))
+                (heightsAt (a .out .now))) (readerOf (a .state .now)) (u .unpack-reader .result) (heightsAt (a .out .now)) _ (u .before .before .if1 .left)
+                (u .unpack-reader .ensures) (o .before .before .draw .ensures .1 .1 .0)),
+            sym (ap (λ (q : Reply Handed). countOf q (a .drawn .now)) e),
           ),
         ),
       ),
@@ -152,21 +175,29 @@ same-length-8 : tie.Need-same-length-8
 same-length-8 c = search needs
 
 returns-5 : tie.Need-returns-5
-unfolding drawNumber
 returns-5 c =
     let o = c .before .before .before .before in
     let u = o .before .before .before .before .before in
     let i = u .before .before .before in
     let a = i .before .before .before .args in
-    let e = went (isReader (a .state .now)) (i .is-reader .result) (i .is-reader .ensures) (λ (r : Reader). drawAnswer r (drawQuestion r (length (a .store .now)) (at (a .store .now)) (length (a .out .now)))) (readerOf (a .state .now)) (u .unpack-reader .result) (drawn.Refused 1) _ (u .before .before .if1 .left) (u .unpack-reader .ensures) (o .before .before .draw .ensures .1 .0) ∙ c .before .no .given .1 in (
-      sym (ap drawNumber e),
+    let e = went (isReader (a .state .now)) (i .is-reader .result) (i .is-reader .ensures)
+    (λ (r : Reader). drawReply r (drawQuestion r (length (a .store .now)) (at (a .store .now)) (length (a .out .now)))) (readerOf (a .state .now))
+    (u .unpack-reader .result) (refused 1) _ (u .before .before .if1 .left) (u .unpack-reader .ensures) (o .before .before .draw .ensures .0)
+    ∙ ap ofDrawn (c .before .no .given .1) in (
+      sym (ap number e),
       (
-        sym (ap (λ (q : Drawn). stateDrawn q (a .state .now)) e),
+        sym (ap (λ (q : Reply Handed). stateDrawn q (a .state .now)) e),
         (
-          sym (went (isReader (a .state .now)) (i .is-reader .result) (i .is-reader .ensures) (λ (r : Reader). drawStore r (drawQuestion r (length (a .store .now)) (at (a .store .now)) (length (a .out .now))) (at (a .store .now))) (readerOf (a .state .now)) (u .unpack-reader .result) (at (a .store .now)) _ (u .before .before .if1 .left) (u .unpack-reader .ensures) (o .before .before .draw .ensures .1 .1 .0)),
+          sym (went (isReader (a .state .now)) (i .is-reader .result) (i .is-reader .ensures)
+              (λ (r : Reader). drawStore r (drawQuestion r (length (a .store .now)) (at (a .store .now)) (length (a .out .now))) (at (a .store .now)))
+              (readerOf (a .state .now)) (u .unpack-reader .result) (at (a .store .now)) _ (u .before .before .if1 .left) (u .unpack-reader .ensures)
+              (o .before .before .draw .ensures .1 .0)),
           (
-            sym (went (isReader (a .state .now)) (i .is-reader .result) (i .is-reader .ensures) (λ (r : Reader). drawArea r (drawQuestion r (length (a .store .now)) (at (a .store .now)) (length (a .out .now))) (at (a .store .now)) (heightsAt (a .out .now))) (readerOf (a .state .now)) (u .unpack-reader .result) (heightsAt (a .out .now)) _ (u .before .before .if1 .left) (u .unpack-reader .ensures) (o .before .before .draw .ensures .1 .1 .1 .0)),
-            sym (ap (λ (q : Drawn). countOf q (a .drawn .now)) e),
+            sym (went (isReader (a .state .now)) (i .is-reader .result) (i .is-reader .ensures)
+                (λ (r : Reader). drawArea r (drawQuestion r (length (a .store .now)) (at (a .store .now)) (length (a .out .now))) (at (a .store .now))
+                (heightsAt (a .out .now))) (readerOf (a .state .now)) (u .unpack-reader .result) (heightsAt (a .out .now)) _ (u .before .before .if1 .left)
+                (u .unpack-reader .ensures) (o .before .before .draw .ensures .1 .1 .0)),
+            sym (ap (λ (q : Reply Handed). countOf q (a .drawn .now)) e),
           ),
         ),
       ),

@@ -1,14 +1,13 @@
 -- `terrain_reader_feed` meets its contract: what the call on the unpacked reader answers, in its three cases, and 1 where the array is none. Assumes nothing.
-use mathlib.Core.Path.{_≡_, refl, sym, ap, _∙_}
+use mathlib.Core.Path.{_≡_, sym, ap, _∙_}
 use lib.ListN.{length}
 use borrow.Author.Needs.{needs}
 use Rattle.numbers.specs.Signal.{at}
 use Rattle.reader.specs.declared.Reader.{Reader}
-use Rattle.reader.specs.declared.Fed.{Fed}
-use Rattle.reader.specs.declared.Fed.the-variants as fed
+use Rattle.reader.specs.Answers.{Reply, refused, number, ofFed}
 use Rattle.reader.specs.Questions.{feedQuestion}
-use Rattle.reader.specs.Calls.{feedNumber, feedAnswer, feedStore}
-use Rattle.terrain.specs.ReaderCalls.{feeding, stateFed}
+use Rattle.reader.specs.Calls.{feedReply, feedStore}
+use Rattle.terrain.specs.ReaderCalls.{feeding, stateOf}
 use Rattle.terrain.specs.ReaderState.{isReader, readerOf}
 use Rattle.terrain.proofs.StateLaws.{turned, went}
 use Rattle.terrain.proofs.reader_calls.terrain_reader_feed.Statement.{statement}
@@ -18,14 +17,14 @@ is-reader-requires : tie.Need-is-reader-requires
 is-reader-requires c κs = search needs
 
 returns : tie.Need-returns
-unfolding feedNumber
 returns c =
     let i = c .before in
     let a = i .before .before .args in
-    let e : feeding (a .state .now) (length (a .store .now)) (at (a .store .now)) (length (a .run .now)) (at (a .run .now)) ≡ fed.Refused 1 = turned (isReader (a .state .now)) (i .is-reader .result) (i .is-reader .ensures) _ _ (c .if1 .taken) in (
-      sym (ap feedNumber e),
+    let e : feeding (a .state .now) (length (a .store .now)) (at (a .store .now)) (length (a .run .now)) (at (a .run .now)) ≡ refused 1 =
+    turned (isReader (a .state .now)) (i .is-reader .result) (i .is-reader .ensures) _ _ (c .if1 .taken) in (
+      sym (ap number e),
       (
-        sym (ap (λ (q : Fed). stateFed q (a .state .now)) e),
+        sym (ap (λ (q : Reply Reader). stateOf q (a .state .now)) e),
         sym (turned (isReader (a .state .now)) (i .is-reader .result) (i .is-reader .ensures) _ (at (a .store .now)) (c .if1 .taken)),
       ),
     )
@@ -58,17 +57,22 @@ same-length : tie.Need-same-length
 same-length c = search needs
 
 returns-2 : tie.Need-returns-2
-unfolding feedNumber
 returns-2 c =
     let o = c .before .before .before .before .before in
     let u = o .before .before .before in
     let i = u .before .before .before in
     let a = i .before .before .args in
-    let e = went (isReader (a .state .now)) (i .is-reader .result) (i .is-reader .ensures) (λ (r : Reader). feedAnswer r (feedQuestion r (length (a .store .now)) (at (a .store .now)) (length (a .run .now)) (at (a .run .now)))) (readerOf (a .state .now)) (u .unpack-reader .result) (fed.Refused 1) _ (u .before .before .if1 .left) (u .unpack-reader .ensures) (o .before .feed .ensures .1 .0) ∙ c .before .before .before .next .given .1 in (
-      sym (ap feedNumber e),
+    let e = went (isReader (a .state .now)) (i .is-reader .result) (i .is-reader .ensures)
+    (λ (r : Reader). feedReply r (feedQuestion r (length (a .store .now)) (at (a .store .now)) (length (a .run .now)) (at (a .run .now))))
+    (readerOf (a .state .now)) (u .unpack-reader .result) (refused 1) _ (u .before .before .if1 .left) (u .unpack-reader .ensures)
+    (o .before .feed .ensures .0) ∙ ap ofFed (c .before .before .before .next .given .1) in (
+      sym (ap number e),
       (
-        c .pack-reader .ensures ∙ sym (ap (λ (q : Fed). stateFed q (a .state .now)) e),
-        sym (went (isReader (a .state .now)) (i .is-reader .result) (i .is-reader .ensures) (λ (r : Reader). feedStore r (feedQuestion r (length (a .store .now)) (at (a .store .now)) (length (a .run .now)) (at (a .run .now))) (at (a .run .now)) (at (a .store .now))) (readerOf (a .state .now)) (u .unpack-reader .result) (at (a .store .now)) _ (u .before .before .if1 .left) (u .unpack-reader .ensures) (o .before .feed .ensures .1 .1 .0)),
+        c .pack-reader .ensures ∙ sym (ap (λ (q : Reply Reader). stateOf q (a .state .now)) e),
+        sym (went (isReader (a .state .now)) (i .is-reader .result) (i .is-reader .ensures)
+            (λ (r : Reader). feedStore r (feedQuestion r (length (a .store .now)) (at (a .store .now)) (length (a .run .now)) (at (a .run .now)))
+            (at (a .run .now)) (at (a .store .now))) (readerOf (a .state .now)) (u .unpack-reader .result) (at (a .store .now)) _
+            (u .before .before .if1 .left) (u .unpack-reader .ensures) (o .before .feed .ensures .1 .0)),
       ),
     )
 
@@ -76,17 +80,22 @@ same-length-2 : tie.Need-same-length-2
 same-length-2 c = search needs
 
 returns-3 : tie.Need-returns-3
-unfolding feedNumber
 returns-3 c =
     let o = c .before .before .before .before .before in
     let u = o .before .before .before in
     let i = u .before .before .before in
     let a = i .before .before .args in
-    let e = went (isReader (a .state .now)) (i .is-reader .result) (i .is-reader .ensures) (λ (r : Reader). feedAnswer r (feedQuestion r (length (a .store .now)) (at (a .store .now)) (length (a .run .now)) (at (a .run .now)))) (readerOf (a .state .now)) (u .unpack-reader .result) (fed.Refused 1) _ (u .before .before .if1 .left) (u .unpack-reader .ensures) (o .before .feed .ensures .1 .0) ∙ c .before .before .before .next2 .given .1 in (
-      sym (ap feedNumber e),
+    let e = went (isReader (a .state .now)) (i .is-reader .result) (i .is-reader .ensures)
+    (λ (r : Reader). feedReply r (feedQuestion r (length (a .store .now)) (at (a .store .now)) (length (a .run .now)) (at (a .run .now))))
+    (readerOf (a .state .now)) (u .unpack-reader .result) (refused 1) _ (u .before .before .if1 .left) (u .unpack-reader .ensures)
+    (o .before .feed .ensures .0) ∙ ap ofFed (c .before .before .before .next2 .given .1) in (
+      sym (ap number e),
       (
-        c .pack-reader2 .ensures ∙ sym (ap (λ (q : Fed). stateFed q (a .state .now)) e),
-        sym (went (isReader (a .state .now)) (i .is-reader .result) (i .is-reader .ensures) (λ (r : Reader). feedStore r (feedQuestion r (length (a .store .now)) (at (a .store .now)) (length (a .run .now)) (at (a .run .now))) (at (a .run .now)) (at (a .store .now))) (readerOf (a .state .now)) (u .unpack-reader .result) (at (a .store .now)) _ (u .before .before .if1 .left) (u .unpack-reader .ensures) (o .before .feed .ensures .1 .1 .0)),
+        c .pack-reader2 .ensures ∙ sym (ap (λ (q : Reply Reader). stateOf q (a .state .now)) e),
+        sym (went (isReader (a .state .now)) (i .is-reader .result) (i .is-reader .ensures)
+            (λ (r : Reader). feedStore r (feedQuestion r (length (a .store .now)) (at (a .store .now)) (length (a .run .now)) (at (a .run .now)))
+            (at (a .run .now)) (at (a .store .now))) (readerOf (a .state .now)) (u .unpack-reader .result) (at (a .store .now)) _
+            (u .before .before .if1 .left) (u .unpack-reader .ensures) (o .before .feed .ensures .1 .0)),
       ),
     )
 
@@ -94,17 +103,22 @@ same-length-3 : tie.Need-same-length-3
 same-length-3 c = search needs
 
 returns-4 : tie.Need-returns-4
-unfolding feedNumber
 returns-4 c =
     let o = c .before .before .before in
     let u = o .before .before .before in
     let i = u .before .before .before in
     let a = i .before .before .args in
-    let e = went (isReader (a .state .now)) (i .is-reader .result) (i .is-reader .ensures) (λ (r : Reader). feedAnswer r (feedQuestion r (length (a .store .now)) (at (a .store .now)) (length (a .run .now)) (at (a .run .now)))) (readerOf (a .state .now)) (u .unpack-reader .result) (fed.Refused 1) _ (u .before .before .if1 .left) (u .unpack-reader .ensures) (o .before .feed .ensures .1 .0) ∙ c .before .no .given .1 in (
-      sym (ap feedNumber e),
+    let e = went (isReader (a .state .now)) (i .is-reader .result) (i .is-reader .ensures)
+    (λ (r : Reader). feedReply r (feedQuestion r (length (a .store .now)) (at (a .store .now)) (length (a .run .now)) (at (a .run .now))))
+    (readerOf (a .state .now)) (u .unpack-reader .result) (refused 1) _ (u .before .before .if1 .left) (u .unpack-reader .ensures)
+    (o .before .feed .ensures .0) ∙ ap ofFed (c .before .no .given .1) in (
+      sym (ap number e),
       (
-        sym (ap (λ (q : Fed). stateFed q (a .state .now)) e),
-        sym (went (isReader (a .state .now)) (i .is-reader .result) (i .is-reader .ensures) (λ (r : Reader). feedStore r (feedQuestion r (length (a .store .now)) (at (a .store .now)) (length (a .run .now)) (at (a .run .now))) (at (a .run .now)) (at (a .store .now))) (readerOf (a .state .now)) (u .unpack-reader .result) (at (a .store .now)) _ (u .before .before .if1 .left) (u .unpack-reader .ensures) (o .before .feed .ensures .1 .1 .0)),
+        sym (ap (λ (q : Reply Reader). stateOf q (a .state .now)) e),
+        sym (went (isReader (a .state .now)) (i .is-reader .result) (i .is-reader .ensures)
+            (λ (r : Reader). feedStore r (feedQuestion r (length (a .store .now)) (at (a .store .now)) (length (a .run .now)) (at (a .run .now)))
+            (at (a .run .now)) (at (a .store .now))) (readerOf (a .state .now)) (u .unpack-reader .result) (at (a .store .now)) _
+            (u .before .before .if1 .left) (u .unpack-reader .ensures) (o .before .feed .ensures .1 .0)),
       ),
     )
 

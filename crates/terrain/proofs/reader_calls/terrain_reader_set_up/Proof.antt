@@ -1,12 +1,12 @@
 -- `terrain_reader_set_up` meets its contract: what the set-up answers, in its two cases. Assumes nothing.
-use mathlib.Core.Path.{_≡_, refl, sym, ap, _∙_}
+use mathlib.Core.Path.{_≡_, sym, ap, _∙_}
 use lib.ListN.{length}
 use borrow.Author.Needs.{needs}
-use Rattle.numbers.specs.Signal.{at}
-use Rattle.reader.specs.declared.SetUp.{SetUp}
+use Rattle.reader.specs.declared.Reader.{Reader}
+use Rattle.reader.specs.Answers.{Reply, number, ofSetUp}
 use Rattle.reader.specs.Questions.{setUpQuestion}
-use Rattle.reader.specs.Calls.{setUpNumber, setUpAnswer}
-use Rattle.terrain.specs.ReaderCalls.{stateUp}
+use Rattle.reader.specs.Calls.{setUpReply}
+use Rattle.terrain.specs.ReaderCalls.{stateOf}
 use Rattle.terrain.proofs.reader_calls.terrain_reader_set_up.Statement.{statement}
 use Rattle.terrain.proofs.reader_calls.terrain_reader_set_up.Tie as tie
 
@@ -29,15 +29,15 @@ same-length : tie.Need-same-length
 same-length c = search needs
 
 returns : tie.Need-returns
-unfolding setUpNumber
 returns c =
     let o = c .before .before .before .before .before in
     let a = o .before .before .before .args in
-    let e : setUpAnswer (a .width) (a .height) (a .levels) (setUpQuestion (a .width) (a .height) (a .levels) (length (a .store .now))) ≡ _ = sym (o .before .set-up .ensures .1 .0) ∙ c .before .before .before .r .given .1 in (
-      sym (ap setUpNumber e),
+    let e : setUpReply (a .width) (a .height) (a .levels) (setUpQuestion (a .width) (a .height) (a .levels) (length (a .store .now))) ≡ _ =
+    sym (o .before .set-up .ensures .0) ∙ ap ofSetUp (c .before .before .before .r .given .1) in (
+      sym (ap number e),
       (
-        c .pack-reader .ensures ∙ sym (ap (λ (q : SetUp). stateUp q (a .state .now)) e),
-        o .before .set-up .ensures .1 .1 .0,
+        c .pack-reader .ensures ∙ sym (ap (λ (q : Reply Reader). stateOf q (a .state .now)) e),
+        o .before .set-up .ensures .1 .0,
       ),
     )
 
@@ -45,15 +45,15 @@ same-length-2 : tie.Need-same-length-2
 same-length-2 c = search needs
 
 returns-2 : tie.Need-returns-2
-unfolding setUpNumber
 returns-2 c =
     let o = c .before .before .before in
     let a = o .before .before .before .args in
-    let e : setUpAnswer (a .width) (a .height) (a .levels) (setUpQuestion (a .width) (a .height) (a .levels) (length (a .store .now))) ≡ _ = sym (o .before .set-up .ensures .1 .0) ∙ c .before .no .given .1 in (
-      sym (ap setUpNumber e),
+    let e : setUpReply (a .width) (a .height) (a .levels) (setUpQuestion (a .width) (a .height) (a .levels) (length (a .store .now))) ≡ _ =
+    sym (o .before .set-up .ensures .0) ∙ ap ofSetUp (c .before .no .given .1) in (
+      sym (ap number e),
       (
-        sym (ap (λ (q : SetUp). stateUp q (a .state .now)) e),
-        o .before .set-up .ensures .1 .1 .0,
+        sym (ap (λ (q : Reply Reader). stateOf q (a .state .now)) e),
+        o .before .set-up .ensures .1 .0,
       ),
     )
 

@@ -1,13 +1,10 @@
 -- `terrain_reader_want` meets its contract: what the call on the unpacked reader answers, in its five cases, and 1 where the array is none. Assumes nothing.
-use mathlib.Core.Path.{_≡_, refl, sym, ap, _∙_}
-use lib.ListN.{length}
+use mathlib.Core.Path.{_≡_, sym, ap, _∙_}
 use borrow.Author.Needs.{needs}
-use Rattle.numbers.specs.Signal.{at}
 use Rattle.reader.specs.declared.Reader.{Reader}
-use Rattle.reader.specs.declared.Wanted.{Wanted}
-use Rattle.reader.specs.declared.Wanted.the-variants as wanted
+use Rattle.reader.specs.Answers.{Reply, refused, number, Want, ofWanted}
 use Rattle.reader.specs.Questions.{wantQuestion}
-use Rattle.reader.specs.Calls.{wantNumber, wantAnswer}
+use Rattle.reader.specs.Calls.{wantReply}
 use Rattle.terrain.specs.ReaderCalls.{wanting, wantOf}
 use Rattle.terrain.specs.ReaderState.{isReader, readerOf}
 use Rattle.terrain.proofs.StateLaws.{turned, went}
@@ -18,13 +15,12 @@ is-reader-requires : tie.Need-is-reader-requires
 is-reader-requires c κs = search needs
 
 returns : tie.Need-returns
-unfolding wantNumber
 returns c =
     let i = c .before in
     let a = i .before .args in
-    let e : wanting (a .state .now) ≡ wanted.Refused 1 = turned (isReader (a .state .now)) (i .is-reader .result) (i .is-reader .ensures) _ _ (c .if1 .taken) in (
-      sym (ap wantNumber e),
-      sym (ap (λ (q : Wanted). wantOf q (a .want .now)) e),
+    let e : wanting (a .state .now) ≡ refused 1 = turned (isReader (a .state .now)) (i .is-reader .result) (i .is-reader .ensures) _ _ (c .if1 .taken) in (
+      sym (ap number e),
+      sym (ap (λ (q : Reply Want). wantOf q (a .want .now)) e),
     )
 
 unpack-reader-requires : tie.Need-unpack-reader-requires
@@ -52,63 +48,68 @@ cast-result : tie.Need-cast-result
 cast-result c = search needs
 
 returns-2 : tie.Need-returns-2
-unfolding wantNumber
 returns-2 c =
     let o = c .before .before .before .before in
     let u = o .before in
     let i = u .before .before in
     let a = i .before .args in
-    let e = went (isReader (a .state .now)) (i .is-reader .result) (i .is-reader .ensures) (λ (r : Reader). wantAnswer r (wantQuestion r)) (readerOf (a .state .now)) (u .unpack-reader .result) (wanted.Refused 1) _ (u .before .if1 .left) (u .unpack-reader .ensures) (o .want .ensures .1) ∙ c .before .before .level .given .1 in (
-      sym (ap wantNumber e),
-      sym (ap (λ (q : Wanted). wantOf q (a .want .now)) e),
+    let e = went (isReader (a .state .now)) (i .is-reader .result) (i .is-reader .ensures) (λ (r : Reader). wantReply r (wantQuestion r))
+    (readerOf (a .state .now)) (u .unpack-reader .result) (refused 1) _ (u .before .if1 .left) (u .unpack-reader .ensures) (o .want .ensures)
+    ∙ ap ofWanted (c .before .before .level .given .1) in (
+      sym (ap number e),
+      sym (ap (λ (q : Reply Want). wantOf q (a .want .now)) e),
     )
 
 returns-3 : tie.Need-returns-3
-unfolding wantNumber
 returns-3 c =
     let o = c .before .before .before in
     let u = o .before in
     let i = u .before .before in
     let a = i .before .args in
-    let e = went (isReader (a .state .now)) (i .is-reader .result) (i .is-reader .ensures) (λ (r : Reader). wantAnswer r (wantQuestion r)) (readerOf (a .state .now)) (u .unpack-reader .result) (wanted.Refused 1) _ (u .before .if1 .left) (u .unpack-reader .ensures) (o .want .ensures .1) ∙ c .before .enum-told .given .1 in (
-      sym (ap wantNumber e),
-      sym (ap (λ (q : Wanted). wantOf q (a .want .now)) e),
+    let e = went (isReader (a .state .now)) (i .is-reader .result) (i .is-reader .ensures) (λ (r : Reader). wantReply r (wantQuestion r))
+    (readerOf (a .state .now)) (u .unpack-reader .result) (refused 1) _ (u .before .if1 .left) (u .unpack-reader .ensures) (o .want .ensures)
+    ∙ ap ofWanted (c .before .enum-told .given .1) in (
+      sym (ap number e),
+      sym (ap (λ (q : Reply Want). wantOf q (a .want .now)) e),
     )
 
 returns-4 : tie.Need-returns-4
-unfolding wantNumber
 returns-4 c =
     let o = c .before .before .before in
     let u = o .before in
     let i = u .before .before in
     let a = i .before .args in
-    let e = went (isReader (a .state .now)) (i .is-reader .result) (i .is-reader .ensures) (λ (r : Reader). wantAnswer r (wantQuestion r)) (readerOf (a .state .now)) (u .unpack-reader .result) (wanted.Refused 1) _ (u .before .if1 .left) (u .unpack-reader .ensures) (o .want .ensures .1) ∙ c .before .enum-told2 .given .1 in (
-      sym (ap wantNumber e),
-      sym (ap (λ (q : Wanted). wantOf q (a .want .now)) e),
+    let e = went (isReader (a .state .now)) (i .is-reader .result) (i .is-reader .ensures) (λ (r : Reader). wantReply r (wantQuestion r))
+    (readerOf (a .state .now)) (u .unpack-reader .result) (refused 1) _ (u .before .if1 .left) (u .unpack-reader .ensures) (o .want .ensures)
+    ∙ ap ofWanted (c .before .enum-told2 .given .1) in (
+      sym (ap number e),
+      sym (ap (λ (q : Reply Want). wantOf q (a .want .now)) e),
     )
 
 returns-5 : tie.Need-returns-5
-unfolding wantNumber
 returns-5 c =
     let o = c .before .before .before in
     let u = o .before in
     let i = u .before .before in
     let a = i .before .args in
-    let e = went (isReader (a .state .now)) (i .is-reader .result) (i .is-reader .ensures) (λ (r : Reader). wantAnswer r (wantQuestion r)) (readerOf (a .state .now)) (u .unpack-reader .result) (wanted.Refused 1) _ (u .before .if1 .left) (u .unpack-reader .ensures) (o .want .ensures .1) ∙ c .before .enum-told3 .given .1 in (
-      sym (ap wantNumber e),
-      sym (ap (λ (q : Wanted). wantOf q (a .want .now)) e),
+    let e = went (isReader (a .state .now)) (i .is-reader .result) (i .is-reader .ensures) (λ (r : Reader). wantReply r (wantQuestion r))
+    (readerOf (a .state .now)) (u .unpack-reader .result) (refused 1) _ (u .before .if1 .left) (u .unpack-reader .ensures) (o .want .ensures)
+    ∙ ap ofWanted (c .before .enum-told3 .given .1) in (
+      sym (ap number e),
+      sym (ap (λ (q : Reply Want). wantOf q (a .want .now)) e),
     )
 
 returns-6 : tie.Need-returns-6
-unfolding wantNumber
 returns-6 c =
     let o = c .before .before .before in
     let u = o .before in
     let i = u .before .before in
     let a = i .before .args in
-    let e = went (isReader (a .state .now)) (i .is-reader .result) (i .is-reader .ensures) (λ (r : Reader). wantAnswer r (wantQuestion r)) (readerOf (a .state .now)) (u .unpack-reader .result) (wanted.Refused 1) _ (u .before .if1 .left) (u .unpack-reader .ensures) (o .want .ensures .1) ∙ c .before .no .given .1 in (
-      sym (ap wantNumber e),
-      sym (ap (λ (q : Wanted). wantOf q (a .want .now)) e),
+    let e = went (isReader (a .state .now)) (i .is-reader .result) (i .is-reader .ensures) (λ (r : Reader). wantReply r (wantQuestion r))
+    (readerOf (a .state .now)) (u .unpack-reader .result) (refused 1) _ (u .before .if1 .left) (u .unpack-reader .ensures) (o .want .ensures)
+    ∙ ap ofWanted (c .before .no .given .1) in (
+      sym (ap number e),
+      sym (ap (λ (q : Reply Want). wantOf q (a .want .now)) e),
     )
 
 pub terrain-reader-want-spec : {M : Type 1} → statement M

@@ -1,8 +1,9 @@
--- `view::band_row` meets its contract: the stretch that `locate` found, which the plane has, or none. Assumes nothing.
-use mathlib.Core.Path.{sym, _∙_}
+-- `view::band_row` meets its contract: the stretch that `locate` found, which the plane has, at its place in the plane, or none. Assumes nothing.
+use mathlib.Core.Path.{sym, ap, _∙_}
 use native.Mathlib.Omega.{arith}
 use borrow.Author.Needs.{needs}
-use Rattle.wavelet.proofs.ViewLaws.{located-in, row-at, row-none}
+use Rattle.wavelet.specs.ViewCall.{addressOf}
+use Rattle.wavelet.proofs.ViewLaws.{located-in, row-at, row-none, place-at, place-none}
 use Rattle.wavelet.proofs.view.band_row.Statement.{statement}
 use Rattle.wavelet.proofs.view.band_row.Tie as tie
 
@@ -54,18 +55,26 @@ part-result-end-2 : tie.Need-part-result-end-2
 part-result-end-2 c = search needs
 
 returns : tie.Need-returns
+unfolding addressOf
 returns c =
     let s = c .before .before .start .given in
     let l = c .before .before .before .before in
     let a = l .before .args in
-    row-at (a .plane .now) (a .width) (a .height) (a .levels) (a .level) (a .band) (a .row) (s .0 .0) (s .0 .1 .0) (sym (l .locate .ensures) ∙ s .1)
+    let e = sym (l .locate .ensures) ∙ s .1 in (
+      row-at (a .plane .now) (a .width) (a .height) (a .levels) (a .level) (a .band) (a .row) (s .0 .0) (s .0 .1 .0) e,
+      ap (addressOf (a .plane .ptr)) (place-at (a .plane .now) (a .width) (a .height) (a .levels) (a .level) (a .band) (a .row) (s .0 .0) (s .0 .1 .0) e),
+    )
 
 returns-2 : tie.Need-returns-2
+unfolding addressOf
 returns-2 c =
     let l = c .before .before .before in
     let a = l .before .args in
-    let e = c .before .enum-told .given in
-    row-none (a .plane .now) (a .width) (a .height) (a .levels) (a .level) (a .band) (a .row) (e .0 .0) (sym (l .locate .ensures) ∙ e .1)
+    let g = c .before .enum-told .given in
+    let e = sym (l .locate .ensures) ∙ g .1 in (
+      row-none (a .plane .now) (a .width) (a .height) (a .levels) (a .level) (a .band) (a .row) (g .0 .0) e,
+      ap (addressOf (a .plane .ptr)) (place-none (a .plane .now) (a .width) (a .height) (a .levels) (a .level) (a .band) (a .row) (g .0 .0) e),
+    )
 
 pub band-row-spec : {M : Type 1} → statement M
 band-row-spec =

@@ -1,10 +1,10 @@
 -- `view::locate` meets its contract: the questions in the definition's order, and then question 6 with the stretch. Assumes nothing.
 use mathlib.Core.Path.{sym, _∙_}
+use native.Mathlib.Nat.{mul-comm}
 use native.Mathlib.Omega.{arith}
 use borrow.Author.Needs.{needs}
-use Rattle.wavelet.specs.Limits.{maxWidth, maxHeight}
 use Rattle.wavelet.proofs.QuestionLaws.{sized}
-use Rattle.wavelet.proofs.ViewLaws.{question-size, question-area, span-no, span-stretch, area-fits}
+use Rattle.wavelet.proofs.ViewLaws.{question-size, question-area, span-no, span-stretch, product}
 use Rattle.wavelet.proofs.view.locate.Statement.{statement}
 use Rattle.wavelet.proofs.view.locate.Tie as tie
 
@@ -25,7 +25,8 @@ mul-if2 : tie.Need-mul-if2
 mul-if2 c =
     let a = c .before .before .args in
     let s = sized (a .width) (a .height) (a .levels) (sym (c .before .size-question .ensures) ∙ c .if1 .left) in
-    omega (arith, area-fits (a .width) (a .height) (s .width .1) (s .height .1))
+    let h = s .height .1 in
+    omega (arith, product (a .height) (a .width) (omega arith) (s .width .1), mul-comm (a .width) (a .height))
 
 returns-2 : tie.Need-returns-2
 returns-2 c =
@@ -37,7 +38,6 @@ returns-2 c =
     (λ e. omega arith)
 
 stretch-requires : tie.Need-stretch-requires
-unfolding maxWidth maxHeight
 stretch-requires c κs =
     let b = c .before .before in
     let a = b .before .args in

@@ -4,8 +4,8 @@ use Prim.Native.Nat.{_+_}
 use native.Mathlib.Omega.{arith}
 use borrow.Author.Needs.{needs}
 use borrow.Author.Tests.{not-true, not-false}
-use Rattle.wavelet.specs.Limits.{maxWidth, maxHeight}
 use Rattle.wavelet.specs.Bands.{code}
+use Rattle.wavelet.proofs.LimitLaws.{width-small, height-small}
 use Rattle.wavelet.proofs.QuestionLaws.{within-true}
 use Rattle.wavelet.proofs.ViewLaws.{
   refused-level,
@@ -71,72 +71,64 @@ returns-3 c =
     refused-last (a .width) (a .height) (a .levels) (a .level) (a .band) (a .row) (c .before .match .keys1) (c .if3 .taken)
 
 mul-keep : tie.Need-mul-keep
-unfolding maxWidth maxHeight
 mul-keep c =
     let a = c .before .before .before .before .before .before .before .before .before .args in
-    omega (arith, product (a .row) (a .width) (omega arith) (omega arith))
+    omega (arith, width-small, height-small, product (a .row) (a .width) (omega arith) (omega arith))
 
 keep-requires : tie.Need-keep-requires
 keep-requires c κs = search needs
 
 mul-keep-2 : tie.Need-mul-keep-2
-unfolding maxWidth maxHeight
 mul-keep-2 c =
     let a = c .before .before .before .before .before .before .before .before .args in
-    omega (arith, product (a .row) (a .width) (omega arith) (omega arith))
+    omega (arith, width-small, height-small, product (a .row) (a .width) (omega arith) (omega arith))
 
 add-keep : tie.Need-add-keep
-unfolding maxWidth maxHeight
 add-keep c =
     let m = c .before in
     let a = m .before .before .before .before .before .before .before .args in
     let s = side-in _ _ _ _ (m .before .before .before .size-at .ensures) (m .before .half .ensures) in
-    omega (arith, product (a .row) (a .width) (omega arith) (omega arith))
+    omega (arith, width-small, height-small, product (a .row) (a .width) (omega arith) (omega arith))
 
 keep-requires-2 : tie.Need-keep-requires-2
 keep-requires-2 c κs = search needs
 
 add-keep-2 : tie.Need-add-keep-2
-unfolding maxWidth maxHeight
 add-keep-2 c =
     let m = c .before in
     let s = side-in _ _ _ _ (m .before .before .size-at2 .ensures) (m .half2 .ensures) in
-    omega arith
+    omega (arith, height-small)
 
 mul-keep-3 : tie.Need-mul-keep-3
-unfolding maxWidth maxHeight
 mul-keep-3 c =
     let m = c .before in
     let a = m .before .before .before .before .before .before .before .args in
     let s = side-in _ _ _ _ (m .before .before .size-at2 .ensures) (m .half2 .ensures) in
-    omega (arith, product (m .half2 .result + a .row) (a .width) (omega arith) (omega arith))
+    omega (arith, width-small, height-small, product (m .half2 .result + a .row) (a .width) (omega arith) (omega arith))
 
 keep-requires-3 : tie.Need-keep-requires-3
 keep-requires-3 c κs = search needs
 
 add-keep-3 : tie.Need-add-keep-3
-unfolding maxWidth maxHeight
 add-keep-3 c =
     let m = c .before in
     let s = side-in _ _ _ _ (m .before .before .size-at2 .ensures) (m .half2 .ensures) in
-    omega arith
+    omega (arith, height-small)
 
 mul-keep-4 : tie.Need-mul-keep-4
-unfolding maxWidth maxHeight
 mul-keep-4 c =
     let m = c .before in
     let a = m .before .before .before .before .before .before .before .args in
     let s = side-in _ _ _ _ (m .before .before .size-at2 .ensures) (m .half2 .ensures) in
-    omega (arith, product (m .half2 .result + a .row) (a .width) (omega arith) (omega arith))
+    omega (arith, width-small, height-small, product (m .half2 .result + a .row) (a .width) (omega arith) (omega arith))
 
 add-keep-4 : tie.Need-add-keep-4
-unfolding maxWidth maxHeight
 add-keep-4 c =
     let m = c .before in
     let a = m .before .before .before .before .before .before .before .args in
     let s = side-in _ _ _ _ (m .before .before .size-at2 .ensures) (m .half2 .ensures) in
     let t = side-in _ _ _ _ (m .before .before .before .size-at .ensures) (m .before .half .ensures) in
-    omega (arith, product (m .half2 .result + a .row) (a .width) (omega arith) (omega arith))
+    omega (arith, width-small, height-small, product (m .half2 .result + a .row) (a .width) (omega arith) (omega arith))
 
 keep-requires-4 : tie.Need-keep-requires-4
 keep-requires-4 c κs = search needs

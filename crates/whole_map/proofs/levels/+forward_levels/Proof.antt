@@ -107,7 +107,7 @@ forward-levels-returns t c =
     let store = c .before .before in
     let lift = store .before .before .before .before in
     let start = lift .before .before in
-    forward-end _ _ _ _ _ _ _ _ _ (start .pre .1 .1) (start .pre .1 .0 .wide) (start .pre .1 .0 .apart) (lift .lift-columns .ensures) (store .store-level .ensures) _ (start .pre .1 .2 .some) (c .if1 .taken)
+    forward-end _ _ _ _ _ _ _ _ _ (start .pre .1 .1) (start .pre .1 .0 .wide) (start .pre .1 .0 .apart) (lift .lift-columns .ensures) (store .store-level .ensures) _ (start .pre .1 .2 .some) (omega (arith, c .if1 .taken))
 
 forward-levels-half-requires : (t : ℕ) → forward-levels-lts.Need-half-requires (
   lift-columns-reads.Asked,

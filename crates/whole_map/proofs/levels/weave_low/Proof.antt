@@ -1,6 +1,7 @@
 -- `levels::weave_low` meets its contract: the next level's rows. Assumes nothing.
 use native.Mathlib.Omega.{arith}
 use Rattle.lifting.proofs.LineLaws.{count-lo}
+use Rattle.wavelet.specs.Limits.{maxWidth}
 use Rattle.whole_map.proofs.CellLaws.{next-rows}
 use borrow.Author.Needs.{needs}
 use Rattle.whole_map.proofs.levels.weave_low.Statement.{statement}
@@ -20,7 +21,7 @@ weave-rows-requires c κs =
     let a = c .before .before .before .args in
     let p = c .before .before .before .pre in
     let l = count-lo (a .width) in
-    (rw (c .before .half .ensures, c .half2 .ensures) (next-rows _ _ _ _ (p .0)), omega (arith, c .before .half .ensures))
+    (rw (c .before .half .ensures, c .half2 .ensures) (next-rows _ _ _ _ (p .0)), omega (arith, c .before .half .ensures, count-lo maxWidth))
 
 same-length : tie.Need-same-length
 same-length c = search needs

@@ -3,6 +3,8 @@ use native.Mathlib.Omega.{arith}
 use Prim.Native.Nat.{_-_}
 use lib.ListN.{length}
 use Rattle.numbers.specs.Signal.{at}
+use Rattle.lifting.specs.Line.{count}
+use Rattle.wavelet.specs.Limits.{maxWidth}
 use Rattle.whole_map.proofs.RowwiseLaws.{weave-through}
 use borrow.Author.Needs.{needs}
 use Rattle.whole_map.proofs.rowwise.weave.Statement.{statement}
@@ -12,6 +14,7 @@ slice-aggregate-copy : tie.Need-slice-aggregate-copy
 slice-aggregate-copy c = search needs
 
 copy-requires : tie.Need-copy-requires
+unfolding maxWidth count
 copy-requires c κs = search needs
 
 sub-weave-line : tie.Need-sub-weave-line
@@ -21,6 +24,7 @@ part-weave-line-start : tie.Need-part-weave-line-start
 part-weave-line-start c = search needs
 
 part-weave-line-end : tie.Need-part-weave-line-end
+unfolding maxWidth count
 part-weave-line-end c = search needs
 
 weave-line-requires : tie.Need-weave-line-requires
@@ -30,6 +34,7 @@ same-length : tie.Need-same-length
 same-length c = search needs
 
 returns : tie.Need-returns
+unfolding maxWidth count
 returns c =
     let copied = c .before .before .before .before .before .before .copy in
     let row = c .before .before .before .before .before .before .before .before .before .args .row .now in

@@ -16,10 +16,12 @@ state-question-requires : tie.Need-state-question-requires
 state-question-requires c κs = search needs
 
 returns : tie.Need-returns
-returns c = let t = draw-refused _ _ _ _ _ _ (c .before .state-question .ensures) (omega arith) in (t .0, (t .1, (t .2, draw-kept _ _ _ _ _ _ (t .0) (t .1))))
+returns c = let t = draw-refused _ _ _ _ _ _ (c .before .state-question .ensures) (omega arith) in
+    (t .0, (t .1, (t .2, draw-kept _ _ _ _ _ _ _ _ (t .0) (t .1) (t .2))))
 
 returns-2 : tie.Need-returns-2
-returns-2 c = let t = draw-nothing _ _ _ _ _ _ (c .before .before .before .state-question .ensures) (omega arith) (omega arith) in (t .0, (t .1, (t .2, draw-kept _ _ _ _ _ _ (t .0) (t .1))))
+returns-2 c = let t = draw-nothing _ _ _ _ _ _ (c .before .before .before .state-question .ensures) (omega arith) (omega arith) in
+    (t .0, (t .1, (t .2, draw-kept _ _ _ _ _ _ _ _ (t .0) (t .1) (t .2))))
 
 waiting-requires : tie.Need-waiting-requires
 waiting-requires c κs =
@@ -31,8 +33,10 @@ waiting-requires c κs =
 returns-3 : tie.Need-returns-3
 returns-3 c =
     let a = c .before .before .before .before .before .before .before .args in
-    let t = draw-no-room (a .self) (length (a .store .now)) (length (a .out .now)) _ (at (a .store .now)) (at (a .out .now)) (c .before .before .before .before .before .before .state-question .ensures) _ (c .before .before .waiting .ensures) (omega arith) (omega arith) (omega arith) in
-    (t .0, (t .1, (t .2, draw-kept _ _ _ _ _ _ (t .0) (t .1))))
+    let t = draw-no-room (a .self) (length (a .store .now)) (length (a .out .now)) _ (at (a .store .now)) (at (a .out .now))
+    (c .before .before .before .before .before .before .state-question .ensures) _ (c .before .before .waiting .ensures) (omega arith)
+    (omega arith) (omega arith) in
+    (t .0, (t .1, (t .2, draw-kept _ _ _ _ _ _ _ _ (t .0) (t .1) (t .2))))
 
 hand-out-requires : tie.Need-hand-out-requires
 hand-out-requires c κs =
@@ -58,8 +62,11 @@ returns-4 : tie.Need-returns-4
 unfolding rest
 returns-4 c =
     let a = c .before .before .before .before .before .before .before .before .before .before .before .before .before .before .args in
-    let t = draw-row (a .self) (length (a .store .now)) (length (a .out .now)) _ (at (a .store .now)) (at (a .out .now)) (c .before .before .before .before .before .before .before .before .before .before .before .before .before .state-question .ensures) _ (c .before .before .before .before .before .before .before .before .before .waiting .ensures) (omega arith) (omega arith) _ _ _ (omega arith) (c .before .before .before .before .hand-out .ensures) (c .before .draw-on .ensures) in
-    (t .0, (t .1, (t .2, draw-kept _ _ _ _ _ _ (t .0) (t .1))))
+    let t = draw-row (a .self) (length (a .store .now)) (length (a .out .now)) _ (at (a .store .now)) (at (a .out .now))
+    (c .before .before .before .before .before .before .before .before .before .before .before .before .before .state-question .ensures) _
+    (c .before .before .before .before .before .before .before .before .before .waiting .ensures) (omega arith) (omega arith) _ _ _
+    (omega arith) (c .before .before .before .before .hand-out .ensures) (c .before .draw-on .ensures) in
+    (t .0, (t .1, (t .2, draw-kept _ _ _ _ _ _ _ _ (t .0) (t .1) (t .2))))
 
 pub draw-spec : {M : Type 1} → statement M
 draw-spec =

@@ -8,7 +8,7 @@ use borrow.Author.Needs.{needs}
 use borrow.Author.Tests.{lt-ltb, le-ltb}
 use Rattle.lifting.specs.Line.{count}
 use Rattle.wavelet.specs.Bands.{Band, across, down}
-use Rattle.writer.specs.Counts.{hasRow}
+use Rattle.wavelet.specs.Order.{hasRow}
 use Rattle.writer.proofs.counts.has_row.Statement.{statement}
 use Rattle.writer.proofs.counts.has_row.Tie as tie
 

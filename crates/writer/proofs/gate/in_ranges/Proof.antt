@@ -21,28 +21,71 @@ is-within-requires-2 c κs = search needs
 
 returns-2 : tie.Need-returns-2
 unfolding inRanges maxWidth maxHeight maxLevels
-returns-2 c = simp (sym (c .before .before .before .is-within .ensures) ∙ not-false _ (c .before .before .if1 .left), sym (c .before .is-within2 .ensures) ∙ not-true _ (c .if2 .taken))
+returns-2 c = simp (
+  sym (c .before .before .before .is-within .ensures) ∙ not-false _ (c .before .before .if1 .left),
+  sym
+      (c .before .is-within2 .ensures) ∙ not-true _ (c .if2 .taken),
+)
 
 returns-3 : tie.Need-returns-3
 unfolding inRanges maxWidth maxHeight maxLevels
-returns-3 c = simp (sym (c .before .before .before .before .before .is-within .ensures) ∙ not-false _ (c .before .before .before .before .if1 .left), sym (c .before .before .before .is-within2 .ensures) ∙ not-false _ (c .before .before .if2 .left), lt-leb _ _ (c .if3 .taken))
+returns-3 c = simp (
+  sym (c .before .before .before .before .before .is-within .ensures) ∙ not-false _ (c .before .before .before .before .if1 .left),
+  sym (c .before .before .before .is-within2 .ensures) ∙ not-false _ (c .before .before .if2 .left),
+  lt-leb _ _ (c .if3 .taken),
+)
 
 returns-4 : tie.Need-returns-4
 unfolding inRanges maxWidth maxHeight maxLevels
-returns-4 c = simp (sym (c .before .before .before .before .before .before .before .is-within .ensures) ∙ not-false _ (c .before .before .before .before .before .before .if1 .left), sym (c .before .before .before .before .before .is-within2 .ensures) ∙ not-false _ (c .before .before .before .before .if2 .left), le-leb _ _ (c .before .before .if3 .left), le-ltb _ _ (c .if4 .taken))
+returns-4 c = simp (
+  sym (c .before .before .before .before .before .before .before .is-within .ensures)
+      ∙ not-false _ (c .before .before .before .before .before .before .if1 .left),
+  sym (c .before .before .before .before .before .is-within2 .ensures)
+      ∙ not-false _ (c .before .before .before .before .if2 .left),
+  le-leb _ _ (c .before .before .if3 .left),
+  le-ltb _ _ (c .if4 .taken),
+)
 
 returns-5 : tie.Need-returns-5
 unfolding inRanges maxWidth maxHeight maxLevels
-returns-5 c = simp (sym (c .before .before .before .before .before .before .before .before .before .is-within .ensures) ∙ not-false _ (c .before .before .before .before .before .before .before .before .if1 .left), sym (c .before .before .before .before .before .before .before .is-within2 .ensures) ∙ not-false _ (c .before .before .before .before .before .before .if2 .left), le-leb _ _ (c .before .before .before .before .if3 .left), lt-ltb _ _ (c .before .before .if4 .left), lt-leb _ _ (c .if5 .taken))
+returns-5 c = simp (
+  sym (c .before .before .before .before .before .before .before .before .before .is-within .ensures)
+      ∙ not-false _ (c .before .before .before .before .before .before .before .before .if1 .left),
+  sym
+      (c .before .before .before .before .before .before .before .is-within2 .ensures)
+      ∙ not-false _ (c .before .before .before .before .before .before .if2 .left),
+  le-leb _ _ (c .before .before .before .before .if3 .left),
+  lt-ltb _ _ (c .before .before .if4 .left),
+  lt-leb _ _ (c .if5 .taken),
+)
 
 returns-6 : tie.Need-returns-6
 unfolding inRanges maxWidth maxHeight maxLevels
-returns-6 c = simp (sym (c .before .before .before .before .before .before .before .before .before .before .before .is-within .ensures) ∙ not-false _ (c .before .before .before .before .before .before .before .before .before .before .if1 .left), sym (c .before .before .before .before .before .before .before .before .before .is-within2 .ensures) ∙ not-false _ (c .before .before .before .before .before .before .before .before .if2 .left), le-leb _ _ (c .before .before .before .before .before .before .if3 .left), lt-ltb _ _ (c .before .before .before .before .if4 .left), le-leb _ _ (c .before .before .if5 .left), lt-leb _ _ (c .if6 .taken))
+returns-6 c = simp (
+  sym (c .before .before .before .before .before .before .before .before .before .before .before .is-within .ensures)
+      ∙ not-false _ (c .before .before .before .before .before .before .before .before .before .before .if1 .left),
+  sym
+      (c .before .before .before .before .before .before .before .before .before .is-within2 .ensures)
+      ∙ not-false _ (c .before .before .before .before .before .before .before .before .if2 .left),
+  le-leb _ _
+      (c .before .before .before .before .before .before .if3 .left),
+  lt-ltb _ _ (c .before .before .before .before .if4 .left),
+  le-leb _ _
+      (c .before .before .if5 .left),
+  lt-leb _ _ (c .if6 .taken),
+)
+
+most-left-requires : tie.Need-most-left-requires
+most-left-requires c κs = omega arith
 
 returns-7 : tie.Need-returns-7
 returns-7 c =
-    ranges-last (c .before .before .before .before .before .before .before .before .before .before .before .before .before .args .s) (sym (c .before .before .before .before .before .before .before .before .before .before .before .before .is-within .ensures) ∙ not-false _ (c .before .before .before .before .before .before .before .before .before .before .before .if1 .left)) (sym (c .before .before .before .before .before .before .before .before .before .before .is-within2 .ensures) ∙ not-false _ (c .before .before .before .before .before .before .before .before .before .if2 .left))
-    (omega arith) (omega arith) (omega arith) (omega arith)
+    ranges-last (c .before .before .before .before .before .before .before .before .before .before .before .before .before .before .args .s)
+    (sym (c .before .before .before .before .before .before .before .before .before .before .before .before .before .is-within .ensures)
+    ∙ not-false _ (c .before .before .before .before .before .before .before .before .before .before .before .before .if1 .left))
+    (sym (c .before .before .before .before .before .before .before .before .before .before .before .is-within2 .ensures)
+    ∙ not-false _ (c .before .before .before .before .before .before .before .before .before .before .if2 .left))
+    (omega arith) (omega arith) (omega arith) (omega arith) _ (c .before .most-left .ensures)
 
 pub in-ranges-spec : {M : Type 1} → statement M
 in-ranges-spec =
@@ -56,4 +99,5 @@ in-ranges-spec =
     returns-4
     returns-5
     returns-6
+    most-left-requires
     returns-7)

@@ -1,0 +1,73 @@
+/* Streams of a map of any width and height by the proved calls, a row at a time. */
+#include "strips.h"
+#include "../include/terrain.h"
+#include "maps.h"
+#include <stdio.h>
+#include <stdlib.h>
+#include <string.h>
+
+static uint64_t state[16];
+static int32_t *store, *out;
+static size_t store_len;
+
+static void check(uint32_t answer)
+{
+    if (answer) {
+        printf("a call is turned away by %u\n", (unsigned)answer);
+        exit(1);
+    }
+}
+
+static void ready(size_t W)
+{
+    store_len = terrain_store_length(W, LEVELS);
+    store = realloc(store, store_len * sizeof *store), out = realloc(out, W * sizeof *out);
+    if (!store || !out) exit(1);
+}
+
+static int32_t *place(int32_t *plane, size_t W, size_t H, const uint64_t row[4])
+{
+    size_t start, length;
+    check(terrain_band_row(W * H, W, H, LEVELS, row[0], row[1], row[2], &start, &length));
+    return plane + start;
+}
+
+static void draw_all(int32_t *plane, size_t W, size_t H)
+{
+    uint64_t row[4];
+    for (;;) {
+        check(terrain_writer_draw(state, store, store_len, out, W, row));
+        if (!row[0]) return;
+        memcpy(place(plane, W, H, row), out, row[3] * sizeof *out);
+    }
+}
+
+void strip_write(const uint16_t *heights, size_t W, size_t H, int32_t *plane)
+{
+    ready(W);
+    check(terrain_writer_set_up(state, W, LEVELS, store, store_len));
+    for (size_t r = 0; r < H; r++) {
+        size_t taken;
+        check(terrain_writer_offer(state, store, store_len, heights + r * W, W, &taken));
+        draw_all(plane, W, H);
+    }
+    check(terrain_writer_finish(state, store, store_len));
+    draw_all(plane, W, H);
+}
+
+void strip_read(const int32_t *plane, size_t W, size_t H, uint16_t *heights)
+{
+    uint64_t want[5];
+    size_t drawn, r = 0;
+    ready(W);
+    check(terrain_reader_set_up(state, W, H, LEVELS, store, store_len));
+    for (;;) {
+        check(terrain_reader_want(state, want));
+        if (want[0] == 0)
+            check(terrain_reader_feed(state, store, store_len, place((int32_t *)plane, W, H, want + 1), want[4]));
+        else if (want[0] == 1)
+            check(terrain_reader_draw(state, store, store_len, heights + W * r++, W, &drawn));
+        else
+            return;
+    }
+}

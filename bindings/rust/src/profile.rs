@@ -1,0 +1,8 @@
+//! The smooth profile of one row.
+use crate::{raw, Call, Question};
+
+/// The row's profile at the front of `out`: the 9/7 lifting of T.800 without its scaling, in 32-bit floats, in the samples' own order. The
+/// floats are the same bits on every machine.
+pub fn profile(row: &[u16], out: &mut [f32]) -> Result<(), Question> {
+    Question::of(Call::Profile, raw::profile(row, out))
+}

@@ -1,0 +1,3 @@
+pub mod Profile
+pub mod Calls
+pub mod OnePass
