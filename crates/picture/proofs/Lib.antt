@@ -5,3 +5,4 @@ pub mod InputCases
 pub mod MachineLaws
 pub mod PartLaws
 pub mod GoneLaws
+pub mod RewritingTheorem

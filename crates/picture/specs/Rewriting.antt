@@ -64,3 +64,19 @@ pub record Accepted (s : List ℕ) (W H : ℕ) (hs : List ℕ) : Type 0 where
   pub within : tooLarge (record { width = W; height = H; largest = largest }) rest ≡ false
   pub bytes : length rest ≡ bytesOf (record { width = W; height = H; largest = largest })
   pub heights : hs ≡ heightsIn (record { width = W; height = H; largest = largest }) rest
+
+-- ---- what is due while more input may come: no refusal for a want of bytes
+-- the line of an answer: none of 0, which is no refusal
+abbrev pub answerLine : ℕ → List ℕ
+answerLine zero = []
+answerLine (suc q) = refusedLine (suc q)
+
+-- the refusal that the bytes so far bring, 0 for none
+unfoldable pub refusalIn : ℕ → ℕ → List ℕ → ℕ
+refusalIn m n r = pick (exceeds m (take n (samplesOf m r))) 16 (pick (ltb (sampleSize m * n) (length r)) 15 0)
+
+unfoldable pub bodyDue : Size → List ℕ → List ℕ
+bodyDue z r = rowsOf z (heightsIn z r) ++ answerLine (refusalIn (z .largest) (cells z) r)
+
+unfoldable pub dueOf : List ℕ → List ℕ
+dueOf s = elim (pictureOf s) [ found z r ↦ bodyDue z r | short ↦ [] | wrong ↦ refusedLine 15 ]
