@@ -18,14 +18,14 @@ use Rattle.picture.proofs.MachineLaws.{hear-owed}
 
 -- ---- one call
 pub went-not : (r : Rewriting) (z p o : List ℕ) (a b : ℕ) → a ≤ length p → b ≤ length o → Went r z p a a o o b b r z
-went-not r z p o a b h g = record { bytes = []; text = []; goes = λ v. refl; read = refl; used = omega arith; part = h; wrote = wrote-none b o g }
+went-not r z p o a b h g = record { bytes = []; text = []; goes = λ e v. refl; read = refl; used = omega arith; part = h; wrote = wrote-none b o g }
 
 pub read-went : (r r′ : Rewriting) (z z′ p o : List ℕ) (a b : ℕ) → r .part .kind ≡ 0 → a < length p → b ≤ length o
     → r′ ≡ heardBy r z (getD p a 0) .state → z′ ≡ heardBy r z (getD p a 0) .row → Went r z p a (a + 1) o o b b r′ z′
 read-went r r′ z z′ p o a b k h g e f = record {
   bytes = getD p a 0 ∷ [];
   text = [];
-  goes = λ v. hear-owed r z (getD p a 0) v k ∙ ap (λ s. owed s (heardBy r z (getD p a 0) .row) v) (sym e) ∙ ap (λ y. owed r′ y v) (sym f);
+  goes = λ d v. hear-owed d r z (getD p a 0) v k ∙ ap (λ s. owed d s (heardBy r z (getD p a 0) .row) v) (sym e) ∙ ap (λ y. owed d r′ y v) (sym f);
   read = drop-cons p a 0 h ∙ ap (λ m. getD p a 0 ∷ drop m p) (sym (add-one a));
   used = refl;
   part = omega arith;
@@ -41,10 +41,10 @@ went-on {r} {r₁} {r₂} {z} {z₁} {z₂} {p = p} {a₂ = a₂} f g = record {
   bytes = f .bytes ++ g .bytes;
   text = f .text ++ g .text;
   goes =
-      λ v. ap (owed r z) (append-assoc (f .bytes) (g .bytes) v)
-      ∙ f .goes (g .bytes ++ v)
-      ∙ ap (λ l. f .text ++ l) (g .goes v)
-      ∙ sym (append-assoc (f .text) (g .text) (owed r₂ z₂ v));
+      λ e v. ap (owed e r z) (append-assoc (f .bytes) (g .bytes) v)
+      ∙ f .goes e (g .bytes ++ v)
+      ∙ ap (λ l. f .text ++ l) (g .goes e v)
+      ∙ sym (append-assoc (f .text) (g .text) (owed e r₂ z₂ v));
   read = f .read ∙ ap (λ l. f .bytes ++ l) (g .read) ∙ sym (append-assoc (f .bytes) (g .bytes) (drop a₂ p));
   used = omega (arith, f .used, g .used, length-append (f .bytes) (g .bytes));
   part = g .part;

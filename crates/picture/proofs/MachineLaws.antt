@@ -19,6 +19,7 @@ use Rattle.picture.specs.declared.input.Input.{Input}
 use Rattle.picture.specs.declared.input.Heard.{Heard}
 use Rattle.picture.specs.declared.input.Heard.the-variants as heard
 use Rattle.picture.specs.declared.input.Ended.{Ended}
+use Rattle.picture.specs.declared.input.Ended.the-variants as ended
 use Rattle.picture.specs.declared.parts.Part.{Part}
 use Rattle.picture.specs.declared.rewriting.Rewriting.{Rewriting}
 
@@ -72,13 +73,16 @@ settled-none : (r : Rewriting) (z : List ℕ) → leftOn (settled r) z ≡ []
 settled-none r z = left-none (settled r) z (unfold settled in refl)
 
 -- the part is written to its end
-pub settle-owed : (r : Rewriting) (z v : List ℕ) → owed r z v ≡ leftOn r z ++ owed (settled r) z v
+pub settle-owed : (e : Bool) (r : Rewriting) (z v : List ℕ) → owed e r z v ≡ leftOn r z ++ owed e (settled r) z v
 unfolding owed
-settle-owed r z [] = sym (append-nil (leftOn r z)) ∙ ap (λ l. leftOn r z ++ l) (sym (settled-none r z))
-settle-owed r z (b ∷ v) =
+settle-owed e r z [] =
     ap (λ l. leftOn r z ++ l)
-    (sym (ap (λ l. l ++ owed (heardBy (settled (settled r)) z b .state) (heardBy (settled (settled r)) z b .row) v) (settled-none r z)
-    ∙ ap (λ s. owed (heardBy s z b .state) (heardBy s z b .row) v) (settled-twice r)))
+    (sym (ap (λ l. l ++ pick e (leftOn (endOf (settled (settled r))) z) []) (settled-none r z)
+    ∙ ap (λ s. pick e (leftOn (endOf s) z) []) (settled-twice r)))
+settle-owed e r z (b ∷ v) =
+    ap (λ l. leftOn r z ++ l)
+    (sym (ap (λ l. l ++ owed e (heardBy (settled (settled r)) z b .state) (heardBy (settled (settled r)) z b .row) v) (settled-none r z)
+    ∙ ap (λ s. owed e (heardBy s z b .state) (heardBy s z b .row) v) (settled-twice r)))
 
 -- n bytes of it are
 left-done : (r : Rewriting) (z : List ℕ) (n : ℕ) → leftOn r z ≡ take n (leftOn r z) ++ leftOn (doneOn (r .part .done + n) r) z
@@ -89,13 +93,22 @@ settled-done : (r : Rewriting) (d : ℕ) → settled (doneOn d r) ≡ settled r
 unfolding settled
 settled-done r d = refl
 
-pub write-owed : (r : Rewriting) (z : List ℕ) (n : ℕ) (v : List ℕ) → owed r z v ≡ take n (leftOn r z) ++ owed (doneOn (r .part .done + n) r) z v
-write-owed r z n v =
+pub write-owed : (e : Bool) (r : Rewriting) (z : List ℕ) (n : ℕ) (v : List ℕ)
+    → owed e r z v ≡ take n (leftOn r z) ++ owed e (doneOn (r .part .done + n) r) z v
+write-owed e r z n v =
     let q : Rewriting = doneOn (r .part .done + n) r in
-    settle-owed r z v
-    ∙ ap (λ l. l ++ owed (settled r) z v) (left-done r z n)
-    ∙ append-assoc (take n (leftOn r z)) (leftOn q z) (owed (settled r) z v)
-    ∙ ap (λ l. take n (leftOn r z) ++ l) (ap (λ s. leftOn q z ++ owed s z v) (sym (settled-done r (r .part .done + n))) ∙ sym (settle-owed q z v))
+    settle-owed e r z v
+    ∙ ap (λ l. l ++ owed e (settled r) z v) (left-done r z n)
+    ∙ append-assoc (take n (leftOn r z)) (leftOn q z) (owed e (settled r) z v)
+    ∙ ap (λ l. take n (leftOn r z) ++ l) (ap (λ s. leftOn q z ++ owed e s z v) (sym (settled-done r (r .part .done + n))) ∙ sym (settle-owed e q z v))
+
+end-settled : (r : Rewriting) → r .part .kind ≡ 0 → endOf (settled r) ≡ endOf r
+unfolding endOf settled
+end-settled r k = rw (eq-eqb (r .part .kind) 0 k, ne-eqb (r .part .kind) 2 (λ d. omega arith)) (same (endHeard (r .input)))
+  where
+    same : (y : Ended) → endTo (rewriting (r .input) (r .filled) noPart) y ≡ endTo r y
+    same (ended.Over i) = refl
+    same (ended.Short i) = refl
 
 -- a byte is heard
 heard-settled : (r : Rewriting) (z : List ℕ) (b : ℕ) → r .part .kind ≡ 0 → heardBy (settled r) z b ≡ heardBy r z b
@@ -108,8 +121,22 @@ heard-settled r z b e = rw (ne-eqb (r .part .kind) 2 (λ d. omega arith)) (same 
     same (heard.Height i v) = refl
     same (heard.Refused i q) = refl
 
-pub hear-owed : (r : Rewriting) (z : List ℕ) (b : ℕ) (v : List ℕ) → r .part .kind ≡ 0 → owed r z (b ∷ v) ≡ owed (heardBy r z b .state) (heardBy r z b .row) v
+pub hear-owed : (e : Bool) (r : Rewriting) (z : List ℕ) (b : ℕ) (v : List ℕ) → r .part .kind ≡ 0
+    → owed e r z (b ∷ v) ≡ owed e (heardBy r z b .state) (heardBy r z b .row) v
 unfolding owed
-hear-owed r z b v e =
-    ap (λ l. l ++ owed (heardBy (settled r) z b .state) (heardBy (settled r) z b .row) v) (left-none r z e)
-    ∙ ap (λ k. owed (k .state) (k .row) v) (heard-settled r z b e)
+hear-owed e r z b v k =
+    ap (λ l. l ++ owed e (heardBy (settled r) z b .state) (heardBy (settled r) z b .row) v) (left-none r z k)
+    ∙ ap (λ k. owed e (k .state) (k .row) v) (heard-settled r z b k)
+
+-- the input ends while nothing is being written: what is owed is what its end brings
+pub end-owed : (r : Rewriting) (z : List ℕ) → r .part .kind ≡ 0 → owed true r z [] ≡ owed false (endOf r) z []
+unfolding owed
+end-owed r z k =
+    ap (λ l. l ++ leftOn (endOf (settled r)) z) (left-none r z k)
+    ∙ ap (λ s. leftOn s z) (end-settled r k)
+    ∙ sym (append-nil (leftOn (endOf r) z))
+
+-- and where nothing is being written, nothing is owed
+pub idle-owed : (r : Rewriting) (z : List ℕ) → r .part .kind ≡ 0 → owed false r z [] ≡ []
+unfolding owed
+idle-owed r z k = append-nil (leftOn r z) ∙ left-none r z k

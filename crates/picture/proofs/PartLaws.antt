@@ -96,7 +96,10 @@ module _ (r : Rewriting) (z o part : List ℕ) (a n : ℕ) (h : a ≤ length o) 
       let all : n ≡ length (leftOn r z) = omega (arith, size, length-drop a o) in
       record {
         text = take n (leftOn r z);
-        goes = λ v. settle-owed r z v ∙ ap (λ l. l ++ owed (settled r) z v) (sym (take-whole n (leftOn r z) (sym all))) ∙ ap (λ q. take n (leftOn r z) ++ owed q z v) (sym e);
+        goes =
+            λ d v. settle-owed d r z v
+            ∙ ap (λ l. l ++ owed d (settled r) z v) (sym (take-whole n (leftOn r z) (sym all)))
+            ∙ ap (λ q. take n (leftOn r z) ++ owed d q z v) (sym e);
         wrote = wrote;
         end = λ _. e;
       }
@@ -107,7 +110,7 @@ module _ (r : Rewriting) (z o part : List ℕ) (a n : ℕ) (h : a ≤ length o) 
   pub part-writes : (r′ : Rewriting) → r′ ≡ doneOn (r .part .done + n) r → length o - a ≤ n → Writes r z o (take a o ++ part) a (a + n) r′
   part-writes r′ e g = record {
     text = take n (leftOn r z);
-    goes = λ v. write-owed r z n v ∙ ap (λ q. take n (leftOn r z) ++ owed q z v) (sym e);
+    goes = λ d v. write-owed d r z n v ∙ ap (λ q. take n (leftOn r z) ++ owed d q z v) (sym e);
     wrote = wrote;
     end = λ k. absurd (omega (arith, fits));
   }

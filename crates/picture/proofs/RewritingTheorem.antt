@@ -21,29 +21,39 @@ use Rattle.pgm.specs.declared.header.Next.the-variants as next
 use Rattle.pgm.proofs.HeaderReads.{reads}
 use Rattle.picture.specs.Form.{formHead, rowBytes}
 use Rattle.picture.specs.Rewriting.{sizeFits, sizeEnd, pictureOf, cells, heightsIn, refusedLine, wholeRows, rowsOf, answerLine, refusalIn, bodyDue, dueOf}
-use Rattle.picture.specs.Hearing.{silent, phased, nay, begins, shapeHeard, nextHeard, headerHeard, sampleHeard, heightHeard, hears}
-use Rattle.picture.specs.Machine.{partOf, noPart, partText, rewriting, started, leftOn, settled, kept, rowPart, heightKept, heardTo, heardBy, owed}
+use Rattle.picture.specs.Hearing.{silent, phased, nay, begins, shapeHeard, nextHeard, headerHeard, sampleHeard, heightHeard, hears, endHeard}
+use Rattle.picture.specs.Machine.{partOf, noPart, partText, rewriting, started, leftOn, settled, kept, rowPart, heightKept, heardTo, heardBy, endTo, endOf, owed, Went}
 use Rattle.picture.specs.declared.input.Input.{Input}
 use Rattle.picture.specs.declared.input.Heard.{Heard}
 use Rattle.picture.specs.declared.input.Heard.the-variants as heard
+use Rattle.picture.specs.declared.input.Ended.{Ended}
+use Rattle.picture.specs.declared.input.Ended.the-variants as ended
 use Rattle.picture.specs.declared.rewriting.Rewriting.{Rewriting}
-use Rattle.picture.proofs.InputCases.{hears-on}
-use Rattle.picture.proofs.MachineLaws.{left-none, settle-owed, hear-owed}
+use Rattle.picture.proofs.InputCases.{hears-on, end-early, end-over, end-few, end-whole}
+use Rattle.picture.proofs.MachineLaws.{left-none, settle-owed, hear-owed, ends-as, end-owed, idle-owed}
 
 abbrev idle : Input → ℕ → Rewriting
 idle i f = rewriting i f noPart
 
 -- a byte heard as y
-heard-as : (i : Input) (f : ℕ) (z : List ℕ) (b : ℕ) (u : List ℕ) (y : Heard) → hears i (length z) b ≡ y
-    → owed (idle i f) z (b ∷ u) ≡ owed (heardTo (idle i f) z y .state) (heardTo (idle i f) z y .row) u
+heard-as : (e : Bool) (i : Input) (f : ℕ) (z : List ℕ) (b : ℕ) (u : List ℕ) (y : Heard) → hears i (length z) b ≡ y
+    → owed e (idle i f) z (b ∷ u) ≡ owed e (heardTo (idle i f) z y .state) (heardTo (idle i f) z y .row) u
 unfolding heardBy
-heard-as i f z b u y e = hear-owed (idle i f) z b u refl ∙ ap (λ y. owed (heardTo (idle i f) z y .state) (heardTo (idle i f) z y .row) u) e
+heard-as e i f z b u y h = hear-owed e (idle i f) z b u refl ∙ ap (λ y. owed e (heardTo (idle i f) z y .state) (heardTo (idle i f) z y .row) u) h
+
+-- the end of the input, heard as y
+ends-to : (i : Input) (f : ℕ) (z : List ℕ) (y : Ended) → y ≡ endHeard i → owed true (idle i f) z [] ≡ leftOn (endTo (idle i f) y) z
+unfolding owed
+ends-to i f z y h =
+    end-owed (idle i f) z refl
+    ∙ append-nil (leftOn (endOf (idle i f)) z)
+    ∙ ap (λ r. leftOn r z) (sym (ends-as (idle i f) y refl h))
 
 -- ---- after a refusal nothing is heard
-deaf : (i : Input) (f : ℕ) (z u : List ℕ) → i .phase ≡ 2 → owed (idle i f) z u ≡ []
-unfolding owed
-deaf i f z [] e = left-none (idle i f) z refl
-deaf i f z (b ∷ u) e = heard-as i f z b u (heard.More i) (sym (hears-on i (length z) b (λ d. omega arith) (λ d. omega arith))) ∙ deaf i f z u e
+deaf : (e : Bool) (i : Input) (f : ℕ) (z u : List ℕ) → i .phase ≡ 2 → owed e (idle i f) z u ≡ []
+deaf true i f z [] h = ends-to i f z (ended.Over (phased 2 i)) (end-over i (λ d. omega arith) (λ d. omega arith)) ∙ left-none (idle (phased 2 i) f) z refl
+deaf false i f z [] h = idle-owed (idle i f) z refl
+deaf e i f z (b ∷ u) h = heard-as e i f z b u (heard.More i) (sym (hears-on i (length z) b (λ d. omega arith) (λ d. omega arith))) ∙ deaf e i f z u h
 
 refused-left : (i : Input) (f q : ℕ) (z : List ℕ) → leftOn (rewriting i f (partOf 3 q)) z ≡ refusedLine q
 unfolding leftOn partText
@@ -53,10 +63,10 @@ refused-settled : (i : Input) (f q : ℕ) → settled (rewriting i f (partOf 3 q
 unfolding settled
 refused-settled i f q = refl
 
-refused : (i : Input) (f q : ℕ) (z u : List ℕ) → i .phase ≡ 2 → owed (rewriting i f (partOf 3 q)) z u ≡ refusedLine q
-refused i f q z u e =
-    settle-owed (rewriting i f (partOf 3 q)) z u
-    ∙ ap₂ _++_ (refused-left i f q z) (ap (λ r. owed r z u) (refused-settled i f q) ∙ deaf i f z u e)
+refused : (e : Bool) (i : Input) (f q : ℕ) (z u : List ℕ) → i .phase ≡ 2 → owed e (rewriting i f (partOf 3 q)) z u ≡ refusedLine q
+refused e i f q z u h =
+    settle-owed e (rewriting i f (partOf 3 q)) z u
+    ∙ ap₂ _++_ (refused-left i f q z) (ap (λ r. owed e r z u) (refused-settled i f q) ∙ deaf e i f z u h)
     ∙ append-nil (refusedLine q)
 
 -- ---- whole rows

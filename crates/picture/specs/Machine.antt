@@ -1,5 +1,5 @@
 -- A rewriting with its row area z, and the text that it owes: `owed`, what is left of the part that is being written and all that further bytes bring.
--- proofs/RewritingTheorem: from the start it is `dueOf` the bytes.
+-- proofs/RewritingTheorem: from the start it is `dueOf` of the bytes, and `rewritingOf` of an input that ends with them.
 use mathlib.Core.Path.{_≡_}
 use mathlib.Core.Bool.{Bool, true, false}
 use mathlib.Core.List.{List, [], _∷_, _++_}
@@ -83,17 +83,27 @@ heardTo r z (heard.Refused i q) = kept (rewriting i (r .filled) (partOf 3 q)) z
 unfoldable pub heardBy : Rewriting → List ℕ → ℕ → Kept
 heardBy r z b = heardTo r z (hears (r .input) (length z) b)
 
+-- ---- the end of the input
+-- once nothing is being written
+abbrev pub endTo : Rewriting → Ended → Rewriting
+endTo r (ended.Over i) = rewriting i (r .filled) noPart
+endTo r (ended.Short i) = rewriting i (r .filled) (partOf 3 15)
+
+unfoldable pub endOf : Rewriting → Rewriting
+endOf r = pick (eqb (r .part .kind) 0) (endTo r (endHeard (r .input))) r
+
 -- ---- the text owed
-unfoldable pub owed : Rewriting → List ℕ → List ℕ → List ℕ
-owed r z [] = leftOn r z
-owed r z (b ∷ u) = leftOn r z ++ (let k = heardBy (settled r) z b in owed (k .state) (k .row) u)
+-- e: the input ends with these bytes; else more may come
+unfoldable pub owed : Bool → Rewriting → List ℕ → List ℕ → List ℕ
+owed e r z [] = leftOn r z ++ pick e (leftOn (endOf (settled r)) z) []
+owed e r z (b ∷ u) = leftOn r z ++ (let k = heardBy (settled r) z b in owed e (k .state) (k .row) u)
 
 -- ---- the calls
 -- from state r with row area z to r′ with z′: of the piece p the bytes from place a to a′ were read, into the area o text was written from place b to b′, and what is owed is the rest
 pub record Went (r : Rewriting) (z p : List ℕ) (a a′ : ℕ) (o o′ : List ℕ) (b b′ : ℕ) (r′ : Rewriting) (z′ : List ℕ) : Type 0 where
   pub bytes : List ℕ
   pub text : List ℕ
-  pub goes : (v : List ℕ) → owed r z (bytes ++ v) ≡ text ++ owed r′ z′ v
+  pub goes : (e : Bool) (v : List ℕ) → owed e r z (bytes ++ v) ≡ text ++ owed e r′ z′ v
   pub read : drop a p ≡ bytes ++ drop a′ p
   pub used : a′ ≡ a + length bytes
   pub part : a′ ≤ length p
@@ -102,7 +112,7 @@ pub record Went (r : Rewriting) (z p : List ℕ) (a a′ : ℕ) (o o′ : List �
 -- text is written into the area o from place b to b′, the row area z being only read: the part is written to its end, or all room is used
 pub record Writes (r : Rewriting) (z o o′ : List ℕ) (b b′ : ℕ) (r′ : Rewriting) : Type 0 where
   pub text : List ℕ
-  pub goes : (v : List ℕ) → owed r z v ≡ text ++ owed r′ z v
+  pub goes : (e : Bool) (v : List ℕ) → owed e r z v ≡ text ++ owed e r′ z v
   pub wrote : Wrote text b b′ o o′
   pub end : b′ < length o → r′ ≡ settled r
 
@@ -119,11 +129,3 @@ pub data Stops (r : Rewriting) (p : List ℕ) (a : ℕ) (o : List ℕ) (b : ℕ)
 pub data Onward (r r′ : Rewriting) (p : List ℕ) (a a′ : ℕ) (o : List ℕ) (b b′ : ℕ) : Bool → Type 0 where
   on : 2 * a + b + quiet r < 2 * a′ + b′ + quiet r′ → Onward r r′ p a a′ o b b′ true
   off : (i : Bool) → Stops r′ p a′ o b′ i → Onward r r′ p a a′ o b b′ false
-
--- the end of the input, once nothing is being written
-abbrev pub endTo : Rewriting → Ended → Rewriting
-endTo r (ended.Over i) = rewriting i (r .filled) noPart
-endTo r (ended.Short i) = rewriting i (r .filled) (partOf 3 15)
-
-unfoldable pub endOf : Rewriting → Rewriting
-endOf r = pick (eqb (r .part .kind) 0) (endTo r (endHeard (r .input))) r

@@ -65,18 +65,21 @@ pub record Accepted (s : List ℕ) (W H : ℕ) (hs : List ℕ) : Type 0 where
   pub bytes : length rest ≡ bytesOf (record { width = W; height = H; largest = largest })
   pub heights : hs ≡ heightsIn (record { width = W; height = H; largest = largest }) rest
 
--- ---- what is due while more input may come: no refusal for a want of bytes
+-- ---- what is due of the bytes so far; e: the input ends with them. While more may come there is no refusal for a want of bytes
 -- the line of an answer: none of 0, which is no refusal
 abbrev pub answerLine : ℕ → List ℕ
 answerLine zero = []
 answerLine (suc q) = refusedLine (suc q)
 
 -- the refusal that the bytes so far bring, 0 for none
-unfoldable pub refusalIn : ℕ → ℕ → List ℕ → ℕ
-refusalIn m n r = pick (exceeds m (take n (samplesOf m r))) 16 (pick (ltb (sampleSize m * n) (length r)) 15 0)
+unfoldable pub refusalIn : Bool → ℕ → ℕ → List ℕ → ℕ
+refusalIn e m n r =
+    pick (exceeds m (take n (samplesOf m r))) 16
+    (pick (ltb (sampleSize m * n) (length r)) 15
+    (pick (both e (ltb (length r) (sampleSize m * n))) 15 0))
 
-unfoldable pub bodyDue : Size → List ℕ → List ℕ
-bodyDue z r = rowsOf z (heightsIn z r) ++ answerLine (refusalIn (z .largest) (cells z) r)
+unfoldable pub bodyDue : Bool → Size → List ℕ → List ℕ
+bodyDue e z r = rowsOf z (heightsIn z r) ++ answerLine (refusalIn e (z .largest) (cells z) r)
 
-unfoldable pub dueOf : List ℕ → List ℕ
-dueOf s = elim (pictureOf s) [ found z r ↦ bodyDue z r | short ↦ [] | wrong ↦ refusedLine 15 ]
+unfoldable pub dueOf : Bool → List ℕ → List ℕ
+dueOf e s = elim (pictureOf s) [ found z r ↦ bodyDue e z r | short ↦ answerLine (pick e 15 0) | wrong ↦ refusedLine 15 ]
