@@ -11,7 +11,7 @@ use lib.Dec.{leb, ltb, eqb}
 use lib.ListN.{length, take, drop, set, length-set, length-append}
 use lib.Seq.{take-at, take-append-add, length-take-le, set-split}
 use borrow.Author.Tests.{lt-ltb, le-ltb, eq-eqb, ne-eqb, lt-leb, le-leb}
-use Rattle.numbers.specs.Signal.{pick}
+use Rattle.numbers.specs.Signal.{pick, both}
 use Rattle.pgm.specs.Header.{Read, found, short, wrong, andThen, Size, headerOf}
 use Rattle.pgm.specs.Steps.{begun, stepOf, feed, stepped, readBy}
 use Rattle.pgm.specs.Samples.{wide, sampleSize, pairsOf, samplesOf, fitting, exceeds, heightsOf, noByte, sampled, sampleOf}
@@ -28,9 +28,10 @@ use Rattle.picture.specs.declared.input.Heard.{Heard}
 use Rattle.picture.specs.declared.input.Heard.the-variants as heard
 use Rattle.picture.specs.declared.input.Ended.{Ended}
 use Rattle.picture.specs.declared.input.Ended.the-variants as ended
+use Rattle.picture.specs.declared.parts.Part.{Part}
 use Rattle.picture.specs.declared.rewriting.Rewriting.{Rewriting}
-use Rattle.picture.proofs.InputCases.{hears-on, end-early, end-over, end-few, end-whole}
-use Rattle.picture.proofs.MachineLaws.{left-none, settle-owed, hear-owed, ends-as, end-owed, idle-owed}
+use Rattle.picture.proofs.InputCases.{height-none, hears-1, hears-on, end-early, end-over, end-few, end-whole}
+use Rattle.picture.proofs.MachineLaws.{kept-some, left-none, settle-owed, hear-owed, ends-as, end-owed, idle-owed}
 
 abbrev idle : Input → ℕ → Rewriting
 idle i f = rewriting i f noPart
@@ -92,3 +93,292 @@ row-append : (g l : List ℕ) → rowBytes (g ++ l) ≡ rowBytes g ++ rowBytes l
 unfolding rowBytes
 row-append [] l = refl
 row-append (h ∷ g) l = ap (λ k. (h / 256) ∷ (h % 256) ∷ k) (row-append g l)
+
+-- ---- the heights: what is due of n of them, g being those of the begun row that stand already
+abbrev heightsDue : Bool → ℕ → List ℕ → ℕ → ℕ → List ℕ → List ℕ
+heightsDue e W g m n r = rowBytes (wholeRows W (g ++ take n (heightsOf m r))) ++ answerLine (refusalIn e m n r)
+
+-- one sample more, of two bytes (w) or one
+more-lt : (w : Bool) (n k l : ℕ) → l ≡ pick w 2 1 + k → ltb (pick w 2 1 * suc n) l ≡ ltb (pick w 2 1 * n) k
+more-lt true n k l e =
+    elim (decLt (2 * n) k) [
+      | yes p ↦ lt-ltb (2 * suc n) l (omega arith) ∙ sym (lt-ltb (2 * n) k p)
+      | no d ↦ le-ltb (2 * suc n) l (omega arith) ∙ sym (le-ltb (2 * n) k (omega arith))
+    ]
+more-lt false n k l e =
+    elim (decLt (1 * n) k) [
+      | yes p ↦ lt-ltb (1 * suc n) l (omega arith) ∙ sym (lt-ltb (1 * n) k p)
+      | no d ↦ le-ltb (1 * suc n) l (omega arith) ∙ sym (le-ltb (1 * n) k (omega arith))
+    ]
+
+more-gt : (w : Bool) (n k l : ℕ) → l ≡ pick w 2 1 + k → ltb l (pick w 2 1 * suc n) ≡ ltb k (pick w 2 1 * n)
+more-gt true n k l e =
+    elim (decLt k (2 * n)) [
+      | yes p ↦ lt-ltb l (2 * suc n) (omega arith) ∙ sym (lt-ltb k (2 * n) p)
+      | no d ↦ le-ltb l (2 * suc n) (omega arith) ∙ sym (le-ltb k (2 * n) (omega arith))
+    ]
+more-gt false n k l e =
+    elim (decLt k (1 * n)) [
+      | yes p ↦ lt-ltb l (1 * suc n) (omega arith) ∙ sym (lt-ltb k (1 * n) p)
+      | no d ↦ le-ltb l (1 * suc n) (omega arith) ∙ sym (le-ltb k (1 * n) (omega arith))
+    ]
+
+-- the bytes s are a sample v and then r
+record Leads (m v : ℕ) (s r : List ℕ) : Type 0 where
+  pub samples : samplesOf m s ≡ v ∷ samplesOf m r
+  pub bytes : length s ≡ sampleSize m + length r
+
+leads-two : (m a b : ℕ) (r : List ℕ) → wide m ≡ true → Leads m (256 * a + b) (a ∷ b ∷ r) r
+unfolding samplesOf pairsOf sampleSize
+leads-two m a b r e = record { samples = rw e; bytes = rw e (omega arith) }
+
+leads-one : (m b : ℕ) (r : List ℕ) → wide m ≡ false → Leads m b (b ∷ r) r
+unfolding samplesOf sampleSize
+leads-one m b r e = record { samples = rw e; bytes = rw e (omega arith) }
+
+no-sample : (m : ℕ) → samplesOf m [] ≡ []
+unfolding samplesOf pairsOf
+no-sample m = go (wide m)
+  where
+    go : (w : Bool) → pick {A = List ℕ} w [] [] ≡ []
+    go true = refl
+    go false = refl
+
+some-byte : (m : ℕ) → 0 < sampleSize m
+unfolding sampleSize
+some-byte m = go (wide m)
+  where
+    go : (w : Bool) → 0 < pick w 2 1
+    go true = omega arith
+    go false = omega arith
+
+bytes-none : (m : ℕ) → sampleSize m * 0 ≡ 0
+bytes-none m = omega arith
+
+-- ---- the refusal that the bytes bring
+module _ (e : Bool) (m : ℕ) where
+  too-large-says : (n v : ℕ) (s r : List ℕ) → Leads m v s r → leb v m ≡ false → (take (suc n) (heightsOf m s) ≡ []) × (refusalIn e m (suc n) s ≡ 16)
+  unfolding heightsOf fitting refusalIn exceeds
+  too-large-says n v s r l h = (rw (l .samples, h), rw (l .samples, h))
+
+  -- no whole sample, and fewer bytes than the next has
+  short-says : (n : ℕ) (s : List ℕ) → samplesOf m s ≡ [] → length s < sampleSize m → (take (suc n) (heightsOf m s) ≡ []) × (refusalIn e m (suc n) s ≡ pick e 15 0)
+  unfolding heightsOf fitting refusalIn exceeds sampleSize
+  short-says n s h k = (rw h, rw (h, below (wide m) k .0, below (wide m) k .1) (ends e))
+    where
+      below : (w : Bool) → length s < pick w 2 1 → (ltb (pick w 2 1 * suc n) (length s) ≡ false) × (ltb (length s) (pick w 2 1 * suc n) ≡ true)
+      below true h = (le-ltb (2 * suc n) (length s) (omega arith), lt-ltb (length s) (2 * suc n) (omega arith))
+      below false h = (le-ltb (1 * suc n) (length s) (omega arith), lt-ltb (length s) (1 * suc n) (omega arith))
+
+      ends : (e : Bool) → _≡_ {A = ℕ} (pick (both e true) 15 0) (pick e 15 0)
+      ends true = refl
+      ends false = refl
+
+  surplus-says : (b : ℕ) (r : List ℕ) → refusalIn e m 0 (b ∷ r) ≡ 15
+  unfolding refusalIn exceeds
+  surplus-says b r = rw (bytes-none m, lt-ltb 0 (suc (length r)) (omega arith))
+
+  whole-says : refusalIn e m 0 [] ≡ 0
+  unfolding refusalIn exceeds
+  whole-says = rw (bytes-none m) (over e)
+    where
+      over : (e : Bool) → _≡_ {A = ℕ} (pick (both e false) 15 0) 0
+      over true = refl
+      over false = refl
+
+no-bytes : (q : ℕ) → rowBytes [] ++ answerLine q ≡ answerLine q
+unfolding rowBytes
+no-bytes q = refl
+
+-- ---- and what is due
+module _ (e : Bool) (W : ℕ) (some : 0 < W) (g : List ℕ) (few : length g < W) (m : ℕ) where
+  -- no height more
+  no-more : (n : ℕ) (s : List ℕ) (q : ℕ) → take n (heightsOf m s) ≡ [] → refusalIn e m n s ≡ q → heightsDue e W g m n s ≡ answerLine q
+  no-more n s q h k =
+      ap₂ (λ l a. rowBytes (wholeRows W (g ++ l)) ++ answerLine a) h k
+      ∙ ap (λ l. rowBytes l ++ answerLine q) (ap (wholeRows W) (append-nil g) ∙ none-whole W some g few)
+      ∙ no-bytes q
+
+  one-more : (n v : ℕ) (s r : List ℕ) → Leads m v s r → leb v m ≡ true
+      → heightsDue e W g m (suc n) s ≡ rowBytes (wholeRows W (g ++ (v ∷ take n (heightsOf m r)))) ++ answerLine (refusalIn e m n r)
+  unfolding refusalIn heightsOf fitting exceeds sampleSize
+  one-more n v s r l h = rw (l .samples, h, more-lt (wide m) n (length r) (length s) (l .bytes), more-gt (wide m) n (length r) (length s) (l .bytes))
+
+  too-large : (n v : ℕ) (s r : List ℕ) → Leads m v s r → leb v m ≡ false → heightsDue e W g m (suc n) s ≡ refusedLine 16
+  too-large n v s r l h = let k = too-large-says e m n v s r l h in no-more (suc n) s 16 (k .0) (k .1)
+
+  short-of : (n : ℕ) (s : List ℕ) → samplesOf m s ≡ [] → length s < sampleSize m → heightsDue e W g m (suc n) s ≡ answerLine (pick e 15 0)
+  short-of n s h k = let q = short-says e m n s h k in no-more (suc n) s (pick e 15 0) (q .0) (q .1)
+
+  none-short : (n : ℕ) → heightsDue e W g m (suc n) [] ≡ answerLine (pick e 15 0)
+  none-short n = short-of n [] (no-sample m) (some-byte m)
+
+  half-short : (n a : ℕ) → wide m ≡ true → heightsDue e W g m (suc n) (a ∷ []) ≡ answerLine (pick e 15 0)
+  unfolding samplesOf pairsOf sampleSize
+  half-short n a h = short-of n (a ∷ []) (rw h refl) (rw h (omega arith))
+
+  surplus : (b : ℕ) (r : List ℕ) → heightsDue e W g m 0 (b ∷ r) ≡ refusedLine 15
+  surplus b r = no-more 0 (b ∷ r) 15 refl (surplus-says e m b r)
+
+  all-there : heightsDue e W g m 0 [] ≡ []
+  all-there = no-more 0 [] 0 refl (whole-says e m)
+
+-- ---- and byte by byte
+abbrev at : ℕ → Header → ℕ → ℕ → ℕ → ℕ → Bool → ℕ → Input
+at p h W H n m half v = record { phase = p; header = h; width = W; height = H; left = n; samples = record { largest = m; half = half; high = v } }
+
+module _ (h : Header) (W H n m room : ℕ) where
+  first-byte : (v b : ℕ) → wide m ≡ true → hears (at 1 h W H (suc n) m false v) room b ≡ heard.More (at 1 h W H (suc n) m true b)
+  unfolding hears heightHeard sampleOf
+  first-byte v b e = rw (ne-eqb (suc n) 0 (λ z. omega arith), e)
+
+  -- the last byte of a sample u
+  abbrev Lasts : Bool → ℕ → ℕ → ℕ → Type 0
+  Lasts x v b u = (leb u m ≡ true → hears (at 1 h W H (suc n) m x v) room b ≡ heard.Height (at 1 h W H n m false 0) u)
+      × (leb u m ≡ false → hears (at 1 h W H (suc n) m x v) room b ≡ heard.Refused (at 2 h W H (suc n) m x v) 16)
+
+  second-byte : (v b : ℕ) → wide m ≡ true → Lasts true v b (256 * v + b)
+  unfolding hears heightHeard sampleOf sampled
+  second-byte v b e = (λ f. rw (ne-eqb (suc n) 0 (λ z. omega arith), e, f, sub-one (suc n)), λ f. rw (ne-eqb (suc n) 0 (λ z. omega arith), e, f))
+
+  lone-byte : (x : Bool) (v b : ℕ) → wide m ≡ false → Lasts x v b b
+  unfolding hears heightHeard sampleOf sampled
+  lone-byte x v b e = (λ f. rw (ne-eqb (suc n) 0 (λ z. omega arith), e, f, sub-one (suc n)), λ f. rw (ne-eqb (suc n) 0 (λ z. omega arith), e, f))
+
+-- the end, with heights still to come
+too-few : (e : Bool) (h : Header) (W H n m : ℕ) (x : Bool) (v f : ℕ) (z : List ℕ) → owed e (idle (at 1 h W H (suc n) m x v) f) z [] ≡ answerLine (pick e 15 0)
+too-few true h W H n m x v f z =
+    let i : Input = at 1 h W H (suc n) m x v in
+    ends-to i f z (ended.Short (phased 2 i)) (end-few i (λ d. omega arith) refl (omega arith)) ∙ refused-left (phased 2 i) f 15 z
+too-few false h W H n m x v f z = idle-owed (idle (at 1 h W H (suc n) m x v) f) z refl
+
+-- and with none to come
+enough : (e : Bool) (h : Header) (W H m : ℕ) (x : Bool) (v f : ℕ) (z : List ℕ) → owed e (idle (at 1 h W H 0 m x v) f) z [] ≡ []
+enough true h W H m x v f z =
+    let i : Input = at 1 h W H 0 m x v in
+    ends-to i f z (ended.Over (phased 2 i)) (end-whole i (λ d. omega arith) refl (omega arith)) ∙ left-none (idle (phased 2 i) f) z refl
+enough false h W H m x v f z = idle-owed (idle (at 1 h W H 0 m x v) f) z refl
+
+beyond : (e : Bool) (h : Header) (W H m : ℕ) (x : Bool) (v f b : ℕ) (z u : List ℕ) → owed e (idle (at 1 h W H 0 m x v) f) z (b ∷ u) ≡ refusedLine 15
+beyond e h W H m x v f b z u =
+    let i : Input = at 1 h W H 0 m x v in
+    heard-as e i f z b u (nay i) (sym (height-none i b refl ∙ hears-1 i (length z) b (λ d. omega arith) refl)) ∙ refused e (phased 2 i) f 15 z u refl
+
+-- ---- a height goes into the row
+set-taken : (z : List ℕ) (f u : ℕ) (l : List ℕ) → f < length z → take (f + 1) (set z f u) ++ l ≡ take f z ++ (u ∷ l)
+set-taken z f u l h =
+    let n : f + 1 ≡ length (take f z) + 1 = ap (λ k. k + 1) (sym (length-take-le f z (omega arith))) in
+    ap (λ y. take (f + 1) y ++ l) (set-split z f u h)
+    ∙ ap (λ k. take k (take f z ++ (u ∷ drop (suc f) z)) ++ l) n
+    ∙ ap (λ y. y ++ l) (take-append-add (take f z) (u ∷ drop (suc f) z) 1)
+    ∙ append-assoc (take f z) (u ∷ []) l
+
+row-whole : (f W : ℕ) → f ≡ W → partOf 2 0 ≡ rowPart f W
+unfolding rowPart
+row-whole f W h = rw (eq-eqb f W h)
+
+row-begun : (f W : ℕ) → (f ≡ W → ⊥) → noPart ≡ rowPart f W
+unfolding rowPart
+row-begun f W h = rw (ne-eqb f W h)
+
+row-left : (i : Input) (f : ℕ) (z : List ℕ) → leftOn (rewriting i f (partOf 2 0)) z ≡ rowBytes (take (i .width) z)
+unfolding leftOn partText
+row-left i f z = refl
+
+row-settled : (i : Input) (f : ℕ) → settled (rewriting i f (partOf 2 0)) ≡ idle i 0
+unfolding settled
+row-settled i f = refl
+
+-- what is owed of the bytes r with n heights to come, f of the begun row in the row area z
+abbrev Owes : Bool → Header → ℕ → ℕ → ℕ → ℕ → List ℕ → Type 0
+Owes e h W H m n r = (v f : ℕ) (z : List ℕ) → f < W → W ≤ length z → owed e (idle (at 1 h W H n m false v) f) z r ≡ heightsDue e W (take f z) m n r
+
+module _ (e : Bool) (h : Header) (W H : ℕ) (some : 0 < W) (m n f u : ℕ) (z r : List ℕ) (a : f < W) (b : W ≤ length z) (g : Owes e h W H m n r) where
+  abbrev i : Input
+  i = at 1 h W H n m false 0
+
+  abbrev y : List ℕ
+  y = set z f u
+
+  abbrev hs : List ℕ
+  hs = take n (heightsOf m r)
+
+  abbrev says : List ℕ
+  says = answerLine (refusalIn e m n r)
+
+  abbrev due : List ℕ
+  due = rowBytes (wholeRows W (take f z ++ (u ∷ hs))) ++ says
+
+  size : length y ≡ length z
+  size = length-set z f u
+
+  same : take (f + 1) y ++ hs ≡ take f z ++ (u ∷ hs)
+  same = set-taken z f u hs (omega arith)
+
+  at-part : (p : Part) → p ≡ rowPart (f + 1) W → owed e (heightKept i f u z .state) (heightKept i f u z .row) r ≡ owed e (rewriting i (f + 1) p) y r
+  at-part p k =
+      let d = kept-some i f u z p (omega arith) k in
+      ap₂ (λ s l. owed e s l r) (sym (d .0)) (sym (d .1))
+
+  row-on : (f + 1 ≡ W → ⊥) → owed e (idle i (f + 1)) y r ≡ due
+  row-on d = g 0 (f + 1) y (omega arith) (omega (arith, size)) ∙ ap (λ l. rowBytes (wholeRows W l) ++ says) same
+
+  row-ends : f + 1 ≡ W → owed e (rewriting i (f + 1) (partOf 2 0)) y r ≡ due
+  row-ends d =
+      settle-owed e (rewriting i (f + 1) (partOf 2 0)) y r
+      ∙ ap₂ _++_ (row-left i (f + 1) y) (ap (λ s. owed e s y r) (row-settled i (f + 1)) ∙ g 0 0 y (omega arith) (omega (arith, size)))
+      ∙ sym (append-assoc (rowBytes (take W y)) (rowBytes (wholeRows W hs)) says)
+      ∙ ap (λ l. l ++ says) (sym (row-append (take W y) (wholeRows W hs)))
+      ∙ ap (λ l. rowBytes l ++ says) (sym (one-whole W some (take W y) hs (length-take-le W y (omega (arith, size)))))
+      ∙ ap (λ k. rowBytes (wholeRows W (take k y ++ hs)) ++ says) (sym d)
+      ∙ ap (λ l. rowBytes (wholeRows W l) ++ says) same
+
+  put-height : owed e (heightKept i f u z .state) (heightKept i f u z .row) r ≡ due
+  put-height =
+      elim (ℕ-discrete (f + 1) W) [
+        | yes d ↦ at-part (partOf 2 0) (row-whole (f + 1) W d) ∙ row-ends d
+        | no d ↦ at-part noPart (row-begun (f + 1) W d) ∙ row-on d
+      ]
+
+-- ---- all heights
+module _ (e : Bool) (h : Header) (W H : ℕ) (some : 0 < W) (m : ℕ) where
+  row-few : (f : ℕ) (z : List ℕ) → f < W → W ≤ length z → length (take f z) < W
+  row-few f z a b = omega (arith, length-take-le f z (omega arith))
+
+  -- after the last byte of a sample
+  lasts : (n f : ℕ) (z : List ℕ) (x : Bool) (v b u : ℕ) (s r : List ℕ) (t : Bool) → leb u m ≡ t → Lasts h W H n m (length z) x v b u → Leads m u s r → f < W → W ≤ length z
+      → Owes e h W H m n r → owed e (idle (at 1 h W H (suc n) m x v) f) z (b ∷ r) ≡ heightsDue e W (take f z) m (suc n) s
+  lasts n f z x v b u s r true k d l a c g =
+      heard-as e (at 1 h W H (suc n) m x v) f z b r (heard.Height (at 1 h W H n m false 0) u) (d .0 k)
+      ∙ put-height e h W H some m n f u z r a c g
+      ∙ sym (one-more e W some (take f z) (row-few f z a c) m n u s r l k)
+  lasts n f z x v b u s r false k d l a c g =
+      heard-as e (at 1 h W H (suc n) m x v) f z b r (heard.Refused (at 2 h W H (suc n) m x v) 16) (d .1 k)
+      ∙ refused e (at 2 h W H (suc n) m x v) f 16 z r refl
+      ∙ sym (too-large e W some (take f z) (row-few f z a c) m n u s r l k)
+
+  pairs : wide m ≡ true → (r : List ℕ) (n : ℕ) → Owes e h W H m n r
+  pairs w [] zero v f z a c = enough e h W H m false v f z ∙ sym (all-there e W some (take f z) (row-few f z a c) m)
+  pairs w [] (suc n) v f z a c = too-few e h W H n m false v f z ∙ sym (none-short e W some (take f z) (row-few f z a c) m n)
+  pairs w (b ∷ r) zero v f z a c = beyond e h W H m false v f b z r ∙ sym (surplus e W some (take f z) (row-few f z a c) m b r)
+  pairs w (b ∷ []) (suc n) v f z a c =
+      heard-as e (at 1 h W H (suc n) m false v) f z b [] (heard.More (at 1 h W H (suc n) m true b)) (first-byte h W H n m (length z) v b w)
+      ∙ too-few e h W H n m true b f z
+      ∙ sym (half-short e W some (take f z) (row-few f z a c) m n b w)
+  pairs w (b ∷ k ∷ r) (suc n) v f z a c =
+      heard-as e (at 1 h W H (suc n) m false v) f z b (k ∷ r) (heard.More (at 1 h W H (suc n) m true b)) (first-byte h W H n m (length z) v b w)
+      ∙ lasts n f z true b k (256 * b + k) (b ∷ k ∷ r) r (leb (256 * b + k) m) refl (second-byte h W H n m (length z) b k w) (leads-two m b k r w) a c (pairs w r n)
+
+  singles : wide m ≡ false → (r : List ℕ) (n : ℕ) → Owes e h W H m n r
+  singles w [] zero v f z a c = enough e h W H m false v f z ∙ sym (all-there e W some (take f z) (row-few f z a c) m)
+  singles w [] (suc n) v f z a c = too-few e h W H n m false v f z ∙ sym (none-short e W some (take f z) (row-few f z a c) m n)
+  singles w (b ∷ r) zero v f z a c = beyond e h W H m false v f b z r ∙ sym (surplus e W some (take f z) (row-few f z a c) m b r)
+  singles w (b ∷ r) (suc n) v f z a c =
+      lasts n f z false v b b (b ∷ r) r (leb b m) refl (lone-byte h W H n m (length z) false v b w) (leads-one m b r w) a c (singles w r n)
+
+  heights : (r : List ℕ) (n : ℕ) → Owes e h W H m n r
+  heights r n = go (wide m) refl
+    where
+      go : (w : Bool) → wide m ≡ w → Owes e h W H m n r
+      go true k = pairs k r n
+      go false k = singles k r n
