@@ -1,28 +1,32 @@
--- What a rewriting owes from its start is what the definition makes of the bytes, while more may come: `owed-due`. Its row area has room for every row. Assumes nothing.
-use mathlib.Core.Path.{_≡_, refl, sym, ap, ap₂, subst, _∙_}
+-- What a rewriting owes from its start is what the definition makes of the bytes, while more may come and at the end of the input: `owed-due`, `owed-whole`;
+-- and so it is whatever the pieces: `pieces-due`, `pieces-whole`. Its row area has room for every row. Assumes nothing.
+use mathlib.Core.Path.{_≡_, refl, sym, ap, ap₂, _∙_}
 use mathlib.Core.Bool.{Bool, true, false}
 use mathlib.Core.List.{List, [], _∷_, _++_, append-nil, append-assoc}
-use Prim.Native.Nat.{ℕ, zero, suc, _+_, _-_, _*_, _/_, _%_, _≤_, _<_}
+use Prim.Native.Nat.{ℕ, zero, suc, _+_, _*_, _/_, _%_, _≤_, _<_}
 use native.Mathlib.Omega.{arith}
 use native.Mathlib.Decide.{decLt, ℕ-discrete}
-use native.Mathlib.Numerals.{sub-one, add-one}
+use native.Mathlib.Numerals.{sub-one}
 use native.Mathlib.Nat.{mul-add-div, mul-one, zero-mul, suc-mul, add-comm, div-eq-of-lt}
-use lib.Dec.{leb, ltb, eqb}
+use lib.Dec.{leb, ltb}
 use lib.ListN.{length, take, drop, set, length-set, length-append}
-use lib.Seq.{take-at, take-append-add, length-take-le, set-split}
-use borrow.Author.Tests.{lt-ltb, le-ltb, eq-eqb, ne-eqb, lt-leb, le-leb}
+use lib.Seq.{take-append-add, length-take-le, set-split}
+use borrow.Author.Tests.{lt-ltb, le-ltb, eq-eqb, ne-eqb, leb-true}
 use Rattle.numbers.specs.Signal.{pick, both}
+use Rattle.wavelet.specs.Questions.{within}
 use Rattle.pgm.specs.Header.{Read, found, short, wrong, andThen, Size, headerOf}
 use Rattle.pgm.specs.Steps.{begun, stepOf, feed, stepped, readBy}
-use Rattle.pgm.specs.Samples.{wide, sampleSize, pairsOf, samplesOf, fitting, exceeds, heightsOf, noByte, sampled, sampleOf}
+use Rattle.pgm.specs.Samples.{wide, sampleSize, pairsOf, samplesOf, fitting, exceeds, heightsOf, sampled, sampleOf}
 use Rattle.pgm.specs.declared.header.Header.{Header}
 use Rattle.pgm.specs.declared.header.Next.{Next}
 use Rattle.pgm.specs.declared.header.Next.the-variants as next
 use Rattle.pgm.proofs.HeaderReads.{reads}
 use Rattle.picture.specs.Form.{formHead, rowBytes}
-use Rattle.picture.specs.Rewriting.{sizeFits, sizeEnd, pictureOf, cells, heightsIn, refusedLine, wholeRows, rowsOf, answerLine, refusalIn, bodyDue, dueOf}
-use Rattle.picture.specs.Hearing.{silent, phased, nay, begins, shapeHeard, nextHeard, headerHeard, sampleHeard, heightHeard, hears, endHeard}
-use Rattle.picture.specs.Machine.{partOf, noPart, partText, rewriting, started, leftOn, settled, kept, rowPart, heightKept, heardTo, heardBy, endTo, endOf, owed, Went}
+use Rattle.picture.specs.Rewriting.{sizeFits, sizeEnd, pictureOf, cells, heightsIn, refusedLine, wholeRows, rowsOf, tooLarge, bodyOf, rewritingOf}
+use Rattle.picture.specs.Rewriting.{answerLine, refusalIn, bodyDue, dueOf}
+use Rattle.picture.specs.Hearing.{phased, nay, begins, shapeHeard, nextHeard, heightHeard, hears, endHeard}
+use Rattle.picture.specs.Machine.{partOf, noPart, partText, rewriting, started, leftOn, settled, rowPart, heightKept, heardTo, heardBy}
+use Rattle.picture.specs.Machine.{endTo, endOf, owed, Ran, none, call}
 use Rattle.picture.specs.declared.input.Input.{Input}
 use Rattle.picture.specs.declared.input.Heard.{Heard}
 use Rattle.picture.specs.declared.input.Heard.the-variants as heard
@@ -30,7 +34,7 @@ use Rattle.picture.specs.declared.input.Ended.{Ended}
 use Rattle.picture.specs.declared.input.Ended.the-variants as ended
 use Rattle.picture.specs.declared.parts.Part.{Part}
 use Rattle.picture.specs.declared.rewriting.Rewriting.{Rewriting}
-use Rattle.picture.proofs.InputCases.{height-none, hears-1, hears-on, end-early, end-over, end-few, end-whole}
+use Rattle.picture.proofs.InputCases.{header-case, height-none, hears-0, hears-1, hears-on, end-early, end-over, end-few, end-whole}
 use Rattle.picture.proofs.MachineLaws.{kept-some, left-none, settle-owed, hear-owed, ends-as, end-owed, idle-owed}
 
 abbrev idle : Input → ℕ → Rewriting
@@ -83,7 +87,8 @@ module _ (W : ℕ) (some : 0 < W) where
   unfolding wholeRows
   one-whole g l e =
       let n : length (g ++ l) ≡ W * 1 + length l = length-append g l ∙ ap (λ k. k + length l) (e ∙ sym (mul-one W)) in
-      let d : length (g ++ l) / W * W ≡ length g + length l / W * W = ap (λ k. k / W * W) n ∙ ap (λ q. q * W) (mul-add-div some 1 (length l)) ∙ one-more (length l / W) ∙ ap (λ k. k + length l / W * W) (sym e) in
+      let d : length (g ++ l) / W * W ≡ length g + length l / W * W =
+      ap (λ k. k / W * W) n ∙ ap (λ q. q * W) (mul-add-div some 1 (length l)) ∙ one-more (length l / W) ∙ ap (λ k. k + length l / W * W) (sym e) in
       ap (λ k. take k (g ++ l)) d ∙ take-append-add g l (length l / W * W)
     where
       one-more : (q : ℕ) → (1 + q) * W ≡ W + q * W
@@ -162,7 +167,8 @@ module _ (e : Bool) (m : ℕ) where
   too-large-says n v s r l h = (rw (l .samples, h), rw (l .samples, h))
 
   -- no whole sample, and fewer bytes than the next has
-  short-says : (n : ℕ) (s : List ℕ) → samplesOf m s ≡ [] → length s < sampleSize m → (take (suc n) (heightsOf m s) ≡ []) × (refusalIn e m (suc n) s ≡ pick e 15 0)
+  short-says : (n : ℕ) (s : List ℕ) → samplesOf m s ≡ [] → length s < sampleSize m
+      → (take (suc n) (heightsOf m s) ≡ []) × (refusalIn e m (suc n) s ≡ pick e 15 0)
   unfolding heightsOf fitting refusalIn exceeds sampleSize
   short-says n s h k = (rw h, rw (h, below (wide m) k .0, below (wide m) k .1) (ends e))
     where
@@ -346,8 +352,8 @@ module _ (e : Bool) (h : Header) (W H : ℕ) (some : 0 < W) (m : ℕ) where
   row-few f z a b = omega (arith, length-take-le f z (omega arith))
 
   -- after the last byte of a sample
-  lasts : (n f : ℕ) (z : List ℕ) (x : Bool) (v b u : ℕ) (s r : List ℕ) (t : Bool) → leb u m ≡ t → Lasts h W H n m (length z) x v b u → Leads m u s r → f < W → W ≤ length z
-      → Owes e h W H m n r → owed e (idle (at 1 h W H (suc n) m x v) f) z (b ∷ r) ≡ heightsDue e W (take f z) m (suc n) s
+  lasts : (n f : ℕ) (z : List ℕ) (x : Bool) (v b u : ℕ) (s r : List ℕ) (t : Bool) → leb u m ≡ t
+      → Lasts h W H n m (length z) x v b u → Leads m u s r → f < W → W ≤ length z → Owes e h W H m n r → owed e (idle (at 1 h W H (suc n) m x v) f) z (b ∷ r) ≡ heightsDue e W (take f z) m (suc n) s
   lasts n f z x v b u s r true k d l a c g =
       heard-as e (at 1 h W H (suc n) m x v) f z b r (heard.Height (at 1 h W H n m false 0) u) (d .0 k)
       ∙ put-height e h W H some m n f u z r a c g
@@ -367,7 +373,8 @@ module _ (e : Bool) (h : Header) (W H : ℕ) (some : 0 < W) (m : ℕ) where
       ∙ sym (half-short e W some (take f z) (row-few f z a c) m n b w)
   pairs w (b ∷ k ∷ r) (suc n) v f z a c =
       heard-as e (at 1 h W H (suc n) m false v) f z b (k ∷ r) (heard.More (at 1 h W H (suc n) m true b)) (first-byte h W H n m (length z) v b w)
-      ∙ lasts n f z true b k (256 * b + k) (b ∷ k ∷ r) r (leb (256 * b + k) m) refl (second-byte h W H n m (length z) b k w) (leads-two m b k r w) a c (pairs w r n)
+      ∙ lasts n f z true b k (256 * b + k) (b ∷ k ∷ r) r (leb (256 * b + k) m) refl (second-byte h W H n m (length z) b k w) (leads-two m b k r w)
+      a c (pairs w r n)
 
   singles : wide m ≡ false → (r : List ℕ) (n : ℕ) → Owes e h W H m n r
   singles w [] zero v f z a c = enough e h W H m false v f z ∙ sym (all-there e W some (take f z) (row-few f z a c) m)
@@ -382,3 +389,136 @@ module _ (e : Bool) (h : Header) (W H : ℕ) (some : 0 < W) (m : ℕ) where
       go : (w : Bool) → wide m ≡ w → Owes e h W H m n r
       go true k = pairs k r n
       go false k = singles k r n
+
+-- ---- the header
+both-true : (a b : Bool) → both a b ≡ true → (a ≡ true) × (b ≡ true)
+both-true true b h = (refl, h)
+both-true false b h = let z : _≡_ {A = ℕ} 0 1 = cc in absurd (omega arith)
+
+fits : (w h : ℕ) → sizeFits w h ≡ true → (0 < w) × (w ≤ 1025)
+unfolding sizeFits within
+fits w h k =
+    let d = both-true (leb 1 w) (leb w 1025) (both-true (both (leb 1 w) (leb w 1025)) (both (leb 1 h) (leb h 65535)) k .0) in
+    (omega (arith, leb-true 1 w (d .0)), leb-true w 1025 (d .1))
+
+head-left : (i : Input) (f : ℕ) (z : List ℕ) → leftOn (rewriting i f (partOf 1 0)) z ≡ formHead (i .width) (i .height)
+unfolding leftOn partText
+head-left i f z = refl
+
+head-settled : (i : Input) (f : ℕ) → settled (rewriting i f (partOf 1 0)) ≡ idle i f
+unfolding settled
+head-settled i f = refl
+
+-- what is due of a picture's header and the bytes after it
+abbrev pictureDue : Bool → Read Size → List ℕ
+pictureDue e (found z r) = bodyDue e z r
+pictureDue e short = answerLine (pick e 15 0)
+pictureDue e wrong = refusedLine 15
+
+abbrev early : Header → Input
+early k = at 0 k 0 0 0 0 false 0
+
+module _ (e : Bool) (z : List ℕ) (room : 1025 ≤ length z) where
+  -- what is owed of the bytes s after a byte of the header
+  abbrev after : Header → List ℕ → Heard → List ℕ
+  after k s y = owed e (heardTo (idle (early k) 0) z y .state) (heardTo (idle (early k) 0) z y .row) s
+
+  begun-due : (k : Header) (w h m : ℕ) (r : List ℕ) → 0 < w → w ≤ 1025
+      → after k r (heard.Begun (begins (early k) w h m)) ≡ bodyDue e (record { width = w; height = h; largest = m }) r
+  unfolding bodyDue rowsOf heightsIn
+  begun-due k w h m r a b =
+      let i : Input = begins (early k) w h m in
+      let hs : List ℕ = take (w * h) (heightsOf m r) in
+      settle-owed e (rewriting i 0 (partOf 1 0)) z r
+      ∙ ap₂ _++_ (head-left i 0 z) (ap (λ s. owed e s z r) (head-settled i 0) ∙ heights e k w h a m r (w * h) 0 0 z a (omega arith))
+      ∙ sym (append-assoc (formHead w h) (rowBytes (wholeRows w hs)) (answerLine (refusalIn e m (w * h) r)))
+
+  shape : (k : Header) (w h m : ℕ) (r : List ℕ) (t : Bool) → sizeFits w h ≡ t
+      → after k r (shapeHeard (early k) (length z) w h m) ≡ pictureDue e (sizeEnd (record { width = w; height = h; largest = m }) r)
+  unfolding shapeHeard sizeEnd
+  shape k w h m r true d = rw (d, le-ltb (length z) w (omega (arith, fits w h d .1))) (begun-due k w h m r (fits w h d .0) (fits w h d .1))
+  shape k w h m r false d = rw d (refused e (phased 2 (early k)) 0 15 z r refl)
+
+  step-due : (k : Header) (x : Next) (s : List ℕ) → ((k : Header) → owed e (idle (early k) 0) z s ≡ pictureDue e (andThen (readBy (feed k s)) sizeEnd))
+      → after k s (nextHeard (early k) (length z) x) ≡ pictureDue e (andThen (readBy (stepped (λ y. feed y s) s x)) sizeEnd)
+  step-due k (next.More y) s g = g y
+  step-due k (next.Done w h m) s g = shape k w h m s (sizeFits w h) refl
+  step-due k next.Refused s g = refused e (phased 2 (early k)) 0 15 z s refl
+
+  ends-early : (d : Bool) (k : Header) → owed d (idle (early k) 0) z [] ≡ answerLine (pick d 15 0)
+  ends-early true k = ends-to (early k) 0 z (ended.Short (phased 2 (early k))) (end-early (early k) refl) ∙ refused-left (phased 2 (early k)) 0 15 z
+  ends-early false k = idle-owed (idle (early k) 0) z refl
+
+  header : (s : List ℕ) (k : Header) → owed e (idle (early k) 0) z s ≡ pictureDue e (andThen (readBy (feed k s)) sizeEnd)
+  unfolding feed
+  header [] k = ends-early e k
+  header (b ∷ s) k =
+      let y : Heard = nextHeard (early k) (length z) (stepOf k b) in
+      heard-as e (early k) 0 z b s y (sym (header-case (early k) (length z) b (stepOf k b) refl ∙ hears-0 (early k) (length z) b refl))
+      ∙ step-due k (stepOf k b) s (header s)
+
+as-due : (e : Bool) (s : List ℕ) → pictureDue e (andThen (headerOf s) sizeEnd) ≡ dueOf e s
+unfolding dueOf pictureOf
+as-due e s = same (andThen (headerOf s) sizeEnd)
+  where
+    same : (x : Read Size) → pictureDue e x ≡ elim x [ found z r ↦ bodyDue e z r | short ↦ answerLine (pick e 15 0) | wrong ↦ refusedLine 15 ]
+    same (found z r) = refl
+    same short = refl
+    same wrong = refl
+
+-- what a rewriting owes of the bytes s from its start; e: the input ends with them
+pub owed-due : (e : Bool) (z s : List ℕ) → 1025 ≤ length z → owed e started z s ≡ dueOf e s
+owed-due e z s room = header e z room s (begun 0) ∙ ap (λ x. pictureDue e (andThen x sizeEnd)) (reads s) ∙ as-due e s
+
+-- ---- an input that has ended
+body-whole : (z : Size) (r : List ℕ) (t : Bool) → exceeds (z .largest) (take (cells z) (samplesOf (z .largest) r)) ≡ t → bodyDue true z r ≡ bodyOf z r
+unfolding bodyDue bodyOf refusalIn tooLarge
+body-whole z r true h = rw h
+body-whole z r false h =
+    let n : ℕ = sampleSize (z .largest) * cells z in
+    elim (decLt (length r) n) [
+      | yes p ↦ rw (h, le-ltb n (length r) (omega arith), lt-ltb (length r) n p, ne-eqb (length r) n (λ d. omega arith))
+      | no p ↦
+          elim (decLt n (length r)) [
+            | yes q ↦ rw (h, lt-ltb n (length r) q, ne-eqb (length r) n (λ d. omega arith))
+            | no q ↦
+                rw (h, le-ltb n (length r) (omega arith), le-ltb (length r) n (omega arith), eq-eqb (length r) n (omega arith))
+                (append-nil (rowsOf z (heightsIn z r)))
+          ]
+    ]
+
+due-whole : (s : List ℕ) → dueOf true s ≡ rewritingOf s
+unfolding dueOf rewritingOf
+due-whole s = same (pictureOf s)
+  where
+    same : (x : Read Size)
+        → _≡_ {A = List ℕ}
+        (elim x [ found z r ↦ bodyDue true z r | short ↦ refusedLine 15 | wrong ↦ refusedLine 15 ])
+        (elim x [ found z r ↦ bodyOf z r | short ↦ refusedLine 15 | wrong ↦ refusedLine 15 ])
+    same (found z r) = body-whole z r (exceeds (z .largest) (take (cells z) (samplesOf (z .largest) r))) refl
+    same short = refl
+    same wrong = refl
+
+pub owed-whole : (z s : List ℕ) → 1025 ≤ length z → owed true started z s ≡ rewritingOf s
+owed-whole z s room = owed-due true z s room ∙ due-whole s
+
+-- ---- in pieces
+ran-owed : {r r′ : Rewriting} {z z′ s t : List ℕ} → Ran r z s t r′ z′ → (e : Bool) (v : List ℕ) → owed e r z (s ++ v) ≡ t ++ owed e r′ z′ v
+ran-owed none e v = refl
+ran-owed {r} {r′} {z} {z′} (call {s = s} {t = t} w f) e v =
+    ap (owed e r z) (append-assoc (w .bytes) s v)
+    ∙ w .goes e (s ++ v)
+    ∙ ap (λ l. w .text ++ l) (ran-owed f e v)
+    ∙ sym (append-assoc (w .text) t (owed e r′ z′ v))
+
+-- whatever the pieces: what has been written and what is still owed is what is due of the bytes read
+pub pieces-due : {r : Rewriting} {z z′ s t : List ℕ} (e : Bool) → 1025 ≤ length z → Ran started z s t r z′ → t ++ owed e r z′ [] ≡ dueOf e s
+pieces-due {z = z} {s = s} e room f = sym (ran-owed f e []) ∙ ap (owed e started z) (append-nil s) ∙ owed-due e z s room
+
+-- and once all is written, before the input's end and after it, the text is the definition's
+pub pieces-whole : {r r′ : Rewriting} {z z′ z″ s t v t′ : List ℕ} → 1025 ≤ length z → Ran started z s t r z′ → r .part .kind ≡ 0
+    → Ran (endOf r) z′ v t′ r′ z″ → v ≡ [] → r′ .part .kind ≡ 0 → t ++ t′ ≡ rewritingOf s
+pieces-whole {r} {r′} {z} {z′} {z″} {s} {t} {v} {t′} room f k g n d =
+    let last : owed false (endOf r) z′ [] ≡ t′ =
+    ap (owed false (endOf r) z′) (sym (append-nil v ∙ n)) ∙ ran-owed g false [] ∙ ap (λ l. t′ ++ l) (idle-owed r′ z″ d) ∙ append-nil t′ in
+    ap (λ l. t ++ l) (sym (end-owed r z′ k ∙ last)) ∙ pieces-due true room f ∙ due-whole s

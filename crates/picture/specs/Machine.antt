@@ -129,3 +129,9 @@ pub data Stops (r : Rewriting) (p : List ℕ) (a : ℕ) (o : List ℕ) (b : ℕ)
 pub data Onward (r r′ : Rewriting) (p : List ℕ) (a a′ : ℕ) (o : List ℕ) (b b′ : ℕ) : Bool → Type 0 where
   on : 2 * a + b + quiet r < 2 * a′ + b′ + quiet r′ → Onward r r′ p a a′ o b b′ true
   off : (i : Bool) → Stops r′ p a′ o b′ i → Onward r r′ p a a′ o b b′ false
+
+-- calls of `feed` one after the other, whatever the pieces and the areas: the bytes s were read and the text t written
+pub data Ran : Rewriting → List ℕ → List ℕ → List ℕ → Rewriting → List ℕ → Type 0 where
+  none : {r : Rewriting} {z : List ℕ} → Ran r z [] [] r z
+  call : {r r₁ r₂ : Rewriting} {z z₁ z₂ p o o′ s t : List ℕ} {a b : ℕ} (w : Went r z p 0 a o o′ 0 b r₁ z₁) → Ran r₁ z₁ s t r₂ z₂
+      → Ran r z (w .bytes ++ s) (w .text ++ t) r₂ z₂
