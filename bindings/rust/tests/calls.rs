@@ -195,6 +195,7 @@ fn every_question_of_every_call_has_a_sentence() {
     let questions: [(Call, &[u32]); 13] = [
         (Call::Line, &[5]),
         (Call::Profile, &[2, 5]),
+        (Call::Picture, &[2, 3]),
         (Call::MapForward, &[2, 3, 4, 5]),
         (Call::MapBackward, &[2, 3, 4, 5, 7, 14]),
         (Call::View, &[2, 3, 4, 5, 6]),

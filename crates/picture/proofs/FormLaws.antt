@@ -1,5 +1,5 @@
 -- The bytes of the fixed form, one by one, and a run of them in a lent area. Assumes nothing.
-use mathlib.Core.Path.{_≡_, refl, sym, ap, _∙_}
+use mathlib.Core.Path.{_≡_, refl, sym, ap, subst, _∙_}
 use mathlib.Core.Bool.{Bool, true, false}
 use mathlib.Core.List.{List, [], _∷_, _++_}
 use Prim.Native.Nat.{ℕ, zero, suc, _+_, _-_, _*_, _/_, _%_, _^_, _≤_, _<_, min}
@@ -16,7 +16,9 @@ use Rattle.wavelet.specs.Limits.{maxWidth, maxHeight}
 use Rattle.wavelet.specs.Questions.{within}
 use Rattle.pgm.specs.Decimal.{numeral}
 use Rattle.pgm.proofs.DecimalLaws.{one-digit, last-digit, some-digit, at-most}
-use Rattle.picture.specs.Form.{fromEnd, formHead, headQuestion, rowBytes}
+use Rattle.picture.specs.Form.{fromEnd, formHead, headQuestion, rowBytes, HeadPut, refused, answered}
+use Rattle.picture.specs.declared.form.Put.{Put}
+use Rattle.picture.specs.declared.form.Put.the-variants.{Written, Refused}
 use Rattle.picture.specs.Rewriting.{refusedLine}
 
 -- ---- digits
@@ -201,3 +203,15 @@ module _ (q : ℕ) where
 
   pub refused-end : (i : ℕ) → 8 + length (numeral q) ≤ i → i < 9 + length (numeral q) → 10 ≡ getD (refusedLine q) i 0
   refused-end i g h = sym (past-word i (length (numeral q)) (omega arith) ∙ getD-append-seam (numeral q) 10 [] 0)
+
+-- ---- the header's answer, told as a number
+module _ (W H from : ℕ) (o o′ : List ℕ) {x : Put} (p : HeadPut W H from o o′ x) where
+  pub told-written : (n : ℕ) → x ≡ Written n → HeadPut W H from o o′ (answered 0 n)
+  told-written n e = subst (HeadPut W H from o o′) e p
+
+  pub told-refused : (q n : ℕ) → x ≡ Refused q → HeadPut W H from o o′ (answered q n)
+  told-refused q n e = go q (subst (HeadPut W H from o o′) e p)
+    where
+      go : (q : ℕ) → HeadPut W H from o o′ (Refused q) → HeadPut W H from o o′ (answered q n)
+      go zero (refused _ k d s) = absurd (d refl)
+      go (suc q) p = p

@@ -31,6 +31,11 @@ pub data HeadPut (W H from : ℕ) (o o′ : List ℕ) : Put → Type 0 where
   refused : (q : ℕ) → q ≡ headQuestion W H → (q ≡ 0 → ⊥) → o′ ≡ o → HeadPut W H from o o′ (Refused q)
   written : (n : ℕ) → headQuestion W H ≡ 0 → n ≡ min (length (formHead W H) - from) (length o) → o′ ≡ paste o 0 (drop from (formHead W H)) n → HeadPut W H from o o′ (Written n)
 
+-- an answer told as a number, 0 or that of a question, and how many bytes were written
+abbrev pub answered : ℕ → ℕ → Put
+answered zero n = Written n
+answered (suc q) n = Refused (suc q)
+
 -- the digit of n that p digits follow
 unfoldable pub fromEnd : ℕ → ℕ → ℕ
 fromEnd n zero = 48 + n % 10

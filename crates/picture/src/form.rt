@@ -7,7 +7,7 @@ ghost use Prim.Native.Nat.{_+_, _-_, _*_, _/_, _%_, _<_, _^_, min};
 ghost use lib.ListN.{length, drop};
 ghost use lib.Seq.{paste};
 ghost use Rattle.numbers.specs.Signal.{pick};
-ghost use Rattle.picture.specs.Form.{rowBytes, headQuestion, HeadPut};
+ghost use Rattle.picture.specs.Form.{rowBytes, headQuestion, HeadPut, answered};
 
 pub enum Put {
     // How many bytes were written.
@@ -38,6 +38,26 @@ pub fn head(width: usize, height: usize, from: usize, out: &mut [u8]) -> Put
         return Put::Refused(question);
     }
     Put::Written(heads::put_head(width, height, from, out))
+}
+
+// The same, told as a number, 0 or that of a question, and the bytes written in a place of their own; a refused call leaves that as it was.
+pub fn head_told(
+    width: usize,
+    height: usize,
+    from: usize,
+    out: &mut [u8],
+    written: &mut usize,
+) -> u8
+    ensures { λ r. ⌜ HeadPut width height from (now (out .entry)) (now (out .exit)) (answered r (now (written .exit))) ⌝ }
+    ensures { λ r. ⌜ ((r ≡ 0 → ⊥) → now (written .exit) ≡ now (written .entry)) ⌝ }
+{
+    match head(width, height, from, out) {
+        Put::Written(n) => {
+            *written = n;
+            0
+        }
+        Put::Refused(question) => question,
+    }
 }
 
 // The most significant byte of a height, or the other one.
