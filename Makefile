@@ -46,7 +46,7 @@ install-library: $(ARCHIVE)
 install-command: all
 	install -d '$(DESTDIR)$(BINDIR)' '$(DESTDIR)$(PROGRAMDIR)' '$(DESTDIR)$(MANDIR)/man1'
 	install -m 755 terrain '$(DESTDIR)$(BINDIR)'
-	install -m 755 $(TOOLS)/check $(TOOLS)/bands target/bin/list '$(DESTDIR)$(PROGRAMDIR)'
+	install -m 755 $(TOOLS)/check $(TOOLS)/bands target/bin/list target/bin/rewrite '$(DESTDIR)$(PROGRAMDIR)'
 	install -m 644 docs/terrain.1 '$(DESTDIR)$(MANDIR)/man1'
 
 uninstall:

@@ -95,6 +95,18 @@ uint32_t terrain_line_backward(const int32_t *coefficients, size_t coefficients_
 TERRAIN_CHECKED
 uint32_t terrain_profile(const uint16_t *row, size_t row_len, float *out, size_t out_len);
 
+/* A picture in one fixed form, byte by byte: P5, newline, width, space, height, newline, 65535, newline, then two bytes a height, the most
+ * significant first. Each call writes the bytes from place `from` on at the front of `out`, as many as there are and as `out` has room for:
+ * what did not fit is written by a further call, from where the last one ended. The rest of `out` stays as it was. */
+
+/* The header; `written` is how many bytes. 2 (width, 1 to 2,049), 3 (height, 1 to 4,294,967,295): `out` and `written` stay as they were. */
+TERRAIN_CHECKED
+uint32_t terrain_picture_head(size_t width, size_t height, size_t from, uint8_t *out, size_t out_len, size_t *written);
+
+/* A row of heights, or any run of them. Answers how many bytes it wrote. */
+TERRAIN_CHECKED
+size_t terrain_picture_row(const uint16_t *heights, size_t heights_len, size_t from, uint8_t *out, size_t out_len);
+
 /* The whole map: `height` rows of `width` heights to the plane of its coefficients at `levels` levels, and back. Width 1 to 2,049,
  * height 1 to 4,294,967,295, levels 1 to 5; heights, plane and work area each have at least width * height elements, and where a call
  * passes (or gives 14) the first width * height elements of the work area are zero afterwards.

@@ -71,6 +71,21 @@ impl Head<'_> {
     }
 }
 
+/// What the rewriting program gives of a picture, which has no line for L, and whether it is refused: the header of the fixed form, the complete rows,
+/// and the refusal's line.
+pub fn rewritten(picture: &[u8]) -> (Vec<u8>, bool) {
+    let input = [b"1\n", picture].concat();
+    let Some(h) = head(&input) else {
+        return (refused(15).into_bytes(), true);
+    };
+    let (heights, refusal) = h.heights();
+    let rows = &heights[..heights.len() / h.width * h.width];
+    let mut out = format!("P5\n{} {}\n65535\n", h.width, h.height).into_bytes();
+    out.extend(rows.iter().flat_map(|h| h.to_be_bytes()));
+    out.extend(refusal.map_or(String::new(), refused).into_bytes());
+    (out, refusal.is_some())
+}
+
 fn refused(question: u8) -> String {
     format!("refused {question}\n")
 }

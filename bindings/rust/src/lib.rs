@@ -47,6 +47,7 @@
 
 mod line;
 mod map;
+mod picture;
 mod profile;
 mod question;
 pub mod raw;
@@ -57,6 +58,7 @@ mod owned;
 
 pub use line::{line_backward, line_forward};
 pub use map::{band_row, map_backward, map_forward, view, Shape};
+pub use picture::{picture_head, picture_row};
 pub use profile::profile;
 pub use question::{Call, Question};
 pub use reader::{Reader, Want};

@@ -7,6 +7,7 @@ use std::fmt;
 pub enum Call {
     Line,
     Profile,
+    Picture,
     MapForward,
     MapBackward,
     View,

@@ -19,6 +19,21 @@ mod c {
             out_len: usize,
         ) -> u32;
         pub fn terrain_profile(row: *const u16, row_len: usize, out: *mut f32, out_len: usize) -> u32;
+        pub fn terrain_picture_head(
+            width: usize,
+            height: usize,
+            from: usize,
+            out: *mut u8,
+            out_len: usize,
+            written: *mut usize,
+        ) -> u32;
+        pub fn terrain_picture_row(
+            heights: *const u16,
+            heights_len: usize,
+            from: usize,
+            out: *mut u8,
+            out_len: usize,
+        ) -> usize;
         pub fn terrain_map_forward(
             heights: *const u16,
             heights_len: usize,
@@ -122,6 +137,14 @@ pub fn line_backward(coefficients: &[i32], out: &mut [i32]) -> u32 {
 
 pub fn profile(row: &[u16], out: &mut [f32]) -> u32 {
     unsafe { c::terrain_profile(row.as_ptr(), row.len(), out.as_mut_ptr(), out.len()) }
+}
+
+pub fn picture_head(width: usize, height: usize, from: usize, out: &mut [u8], written: &mut usize) -> u32 {
+    unsafe { c::terrain_picture_head(width, height, from, out.as_mut_ptr(), out.len(), written) }
+}
+
+pub fn picture_row(heights: &[u16], from: usize, out: &mut [u8]) -> usize {
+    unsafe { c::terrain_picture_row(heights.as_ptr(), heights.len(), from, out.as_mut_ptr(), out.len()) }
 }
 
 pub fn map_forward(

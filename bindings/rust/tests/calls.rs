@@ -192,9 +192,10 @@ fn a_question_prints_a_sentence() {
 /// docs/DECISIONS.md, "The questions, call by call".
 #[test]
 fn every_question_of_every_call_has_a_sentence() {
-    let questions: [(Call, &[u32]); 14] = [
+    let questions: [(Call, &[u32]); 15] = [
         (Call::Line, &[5]),
         (Call::Profile, &[2, 5]),
+        (Call::Picture, &[2, 3]),
         (Call::MapForward, &[2, 3, 4, 5]),
         (Call::MapBackward, &[2, 3, 4, 5, 7, 14]),
         (Call::View, &[2, 3, 4, 5, 6]),

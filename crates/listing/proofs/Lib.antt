@@ -1,5 +1,3 @@
-pub mod DecimalLaws
-pub mod TextLaws
 pub mod ListingSample
 pub mod HearingCases
 pub mod HearingLaws

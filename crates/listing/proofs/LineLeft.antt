@@ -10,7 +10,7 @@ use lib.ListN.{length, take, drop, length-drop, take-append-drop}
 use lib.Seq.{drop-drop}
 use borrow.Author.Tests.{lt-ltb, le-ltb, lt-leb, le-leb, eq-eqb, ne-eqb}
 use Rattle.numbers.specs.Signal.{pick}
-use Rattle.listing.specs.Decimal.{integer}
+use Rattle.pgm.specs.Decimal.{integer}
 use Rattle.listing.specs.Lines.{spaced, sizeLine, refusedLine}
 use Rattle.listing.specs.Parts.{sizeText, refusedText, headText, valueText, partText, sizePart, refusedPart, headPart, donePart, startOf, leftOf}
 use Rattle.listing.specs.Scenes.{valuePart}

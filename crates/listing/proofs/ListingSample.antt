@@ -11,7 +11,7 @@ use Rattle.wavelet.specs.Questions.{within}
 use Rattle.pgm.specs.Characters.{space, lineEnd, digit}
 use Rattle.pgm.specs.Header.{one, comment, gap, afterGaps, numberFrom, field, side, sized, headerEnd, headerOf}
 use Rattle.pgm.specs.Samples.{wide, sampleSize, pairsOf, samplesOf, fitting, exceeds, heightsOf}
-use Rattle.listing.specs.Decimal.{digitsOf, numeral, integer}
+use Rattle.pgm.specs.Decimal.{digitsOf, numeral, integer}
 use Rattle.listing.specs.Lines.{spaced, rowHead, rowLine, lineOf, linesOf, sizeLine, refusedLine}
 use Rattle.listing.specs.Listing.{levelDigit, maxListedWidth, maxListedHeight, shapeFits, headEnd, headOf, heightsTaken, tooLarge, gridOf, linesDue, bodyOf, listingOf}
 

@@ -7,10 +7,10 @@ use native.Mathlib.Decide.{decLt}
 use lib.ListN.{length, take, drop, length-drop, drop-of-length-le}
 use lib.Seq.{paste, drop-at, drop-drop, length-take-le}
 use borrow.Author.Tests.{lt-ltb, le-ltb}
-use Rattle.listing.specs.Text.{Put}
+use Rattle.pgm.specs.Text.{Put}
 use Rattle.listing.specs.Parts.{startOf, leftOf, Spelled}
 use Rattle.listing.specs.declared.spelling.Spelt.{Spelt}
-use Rattle.listing.proofs.TextLaws.{same-size}
+use Rattle.pgm.proofs.TextLaws.{same-size}
 
 pub start-in : (t d : ℕ) → d < t → d ≡ startOf t d
 unfolding startOf

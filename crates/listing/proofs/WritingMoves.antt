@@ -13,9 +13,9 @@ use borrow.Author.Tests.{lt-leb, ne-eqb}
 use Rattle.numbers.specs.Signal.{pick}
 use Rattle.writer.specs.Level.{Memory}
 use Rattle.writer.specs.declared.Writer.{Writer}
-use Rattle.listing.specs.Decimal.{digitsOf, numeral, integer}
+use Rattle.pgm.specs.Decimal.{digitsOf, numeral, integer}
 use Rattle.listing.specs.Lines.{spaced, sizeLine}
-use Rattle.listing.specs.Text.{Wrote}
+use Rattle.pgm.specs.Text.{Wrote}
 use Rattle.listing.specs.Parts.{first, second, sizeText, refusedText, headText, valueText, partText, donePart, startOf, leftOf, Spelled}
 use Rattle.listing.specs.Scenes.{Scene, scene, Leaves, listed, valuePart, advanceScene}
 use Rattle.listing.specs.Moves.{lineOn, textOn, leftOn, Move, partly, wholly, Goes, then, Writes, WritesOnly}

@@ -1,5 +1,3 @@
-pub mod Decimal
-pub mod Text
 pub mod Lines
 pub mod Listing
 pub mod Hearing

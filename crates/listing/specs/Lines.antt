@@ -8,7 +8,7 @@ use Rattle.wavelet.specs.Bands.{Grid, Band, LL, HL, LH, HH}
 use Rattle.wavelet.specs.Levels.{levelBand}
 use Rattle.wavelet.specs.View.{bandColumns}
 use Rattle.wavelet.specs.Order.{RowName}
-use Rattle.listing.specs.Decimal.{numeral, integer}
+use Rattle.pgm.specs.Decimal.{numeral, integer}
 
 -- 72 is H, 76 is L
 abbrev pub bandLetters : Band → List ℕ

@@ -8,7 +8,7 @@ use lib.IntN.{ℤ}
 use lib.ListN.{length, drop}
 use lib.Seq.{paste}
 use Rattle.numbers.specs.Signal.{pick}
-use Rattle.listing.specs.Decimal.{numeral, integer}
+use Rattle.pgm.specs.Decimal.{numeral, integer}
 use Rattle.listing.specs.Lines.{sizeLine}
 use Rattle.listing.specs.declared.line.Line.{Line}
 use Rattle.listing.specs.declared.spelling.Spelt.{Spelt}

@@ -8,7 +8,7 @@ ghost use Prim.Native.Nat.{_≤_, _+_, _-_};
 ghost use lib.ListN.{length};
 ghost use Rattle.numbers.specs.Signal.{at};
 ghost use Rattle.listing.specs.Parts.{first, second, headText, sizeText, refusedText, valueText, partText, startOf, Spelled};
-ghost use Rattle.listing.specs.Text.{Put};
+ghost use Rattle.pgm.specs.Text.{Put};
 
 // How much of a part was written, up to where, and how much of it is left.
 pub struct Spelt {

@@ -4,8 +4,8 @@ ghost use mathlib.Core.List.{[], _∷_};
 ghost use Prim.Native.Nat.{_≤_, _<_, _+_, _%_};
 ghost use lib.IntN.{natAbs};
 ghost use lib.ListN.{length};
-ghost use Rattle.listing.specs.Decimal.{numeral, integer};
-ghost use Rattle.listing.specs.Text.{Put};
+ghost use Rattle.pgm.specs.Decimal.{numeral, integer};
+ghost use Rattle.pgm.specs.Text.{Put};
 
 pub fn put_byte(byte: u8, text: &mut [u8], at: usize) -> usize
     requires { ⌜ (0 < at) × (at ≤ length (now text)) ⌝ }

@@ -5,8 +5,8 @@ ghost use mathlib.Core.List.{_∷_};
 ghost use Prim.Native.Nat.{_+_, _-_, _<_, _≤_, _^_};
 ghost use lib.ListN.{length};
 ghost use Rattle.numbers.specs.Signal.{at as numberAt};
-ghost use Rattle.listing.specs.Decimal.{numeral, integer};
-ghost use Rattle.listing.specs.Text.{Wrote};
+ghost use Rattle.pgm.specs.Decimal.{numeral, integer};
+ghost use Rattle.pgm.specs.Text.{Wrote};
 ghost use Rattle.listing.specs.Lines.{spaced};
 
 // A space, a sign and ten digits.

@@ -6,10 +6,10 @@ use mathlib.Core.List.{List}
 use Prim.Native.Nat.{ℕ}
 use lib.IntN.{ℤ}
 use borrow.Author.Tests.{eq-eqb, ne-eqb}
-use Rattle.listing.specs.Text.{Put}
+use Rattle.pgm.specs.Text.{Put}
 use Rattle.listing.specs.Parts.{sizeText, refusedText, headText, valueText, partText}
 use Rattle.listing.specs.declared.line.Line.{Line}
-use Rattle.listing.proofs.TextLaws.{before, same-size, fits-after}
+use Rattle.pgm.proofs.TextLaws.{before, same-size, fits-after}
 use Rattle.listing.proofs.spelling.put_part.Statement.{statement}
 use Rattle.listing.proofs.spelling.put_part.Tie as tie
 

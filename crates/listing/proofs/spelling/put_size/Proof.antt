@@ -4,12 +4,12 @@ use native.Mathlib.Omega.{arith}
 use borrow.Author.Needs.{needs}
 use mathlib.Core.List.{List, [], _∷_, _++_, append-assoc}
 use Prim.Native.Nat.{ℕ}
-use Rattle.listing.specs.Decimal.{numeral}
+use Rattle.pgm.specs.Decimal.{numeral}
 use Rattle.listing.specs.Lines.{sizeLine}
-use Rattle.listing.specs.Text.{Put}
+use Rattle.pgm.specs.Text.{Put}
 use Rattle.listing.specs.Parts.{sizeText}
 use Rattle.listing.specs.declared.line.Line.{Line}
-use Rattle.listing.proofs.TextLaws.{before, same-size, fits-after}
+use Rattle.pgm.proofs.TextLaws.{before, same-size, fits-after}
 use Rattle.listing.proofs.spelling.put_size.Statement.{statement}
 use Rattle.listing.proofs.spelling.put_size.Tie as tie
 

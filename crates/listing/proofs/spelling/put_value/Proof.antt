@@ -7,11 +7,11 @@ use Prim.Native.Nat.{ℕ, _≤_, _<_}
 use lib.IntN.{ℤ}
 use borrow.Author.Tests.{le-leb, lt-leb}
 use Rattle.numbers.proofs.Words.{read-back}
-use Rattle.listing.specs.Decimal.{integer}
-use Rattle.listing.specs.Text.{Put}
+use Rattle.pgm.specs.Decimal.{integer}
+use Rattle.pgm.specs.Text.{Put}
 use Rattle.listing.specs.Parts.{valueText}
 use Rattle.listing.specs.declared.line.Line.{Line}
-use Rattle.listing.proofs.TextLaws.{before, same-size, fits-after}
+use Rattle.pgm.proofs.TextLaws.{before, same-size, fits-after}
 use Rattle.listing.proofs.spelling.put_value.Statement.{statement}
 use Rattle.listing.proofs.spelling.put_value.Tie as tie
 

@@ -2,7 +2,7 @@
 use mathlib.Core.Path.{_≡_, refl, sym, ap, _∙_}
 use native.Mathlib.Omega.{arith}
 use borrow.Author.Needs.{needs}
-use Rattle.listing.proofs.TextLaws.{same-size}
+use Rattle.pgm.proofs.TextLaws.{same-size}
 use Rattle.listing.proofs.SpellLaws.{from-bound, spelled}
 use Rattle.listing.proofs.spelling.spell.Statement.{statement}
 use Rattle.listing.proofs.spelling.spell.Tie as tie

@@ -12,7 +12,7 @@ use mir.ValLaws.{toZ-ofZ}
 use borrow.Author.Needs.{needs}
 use borrow.Author.Tests.{ltb-true, ltb-false}
 use Rattle.numbers.proofs.Integers.{each, lin, dif-natAbs}
-use Rattle.listing.proofs.DecimalLaws.{bounded}
+use Rattle.pgm.proofs.DecimalLaws.{bounded}
 use Rattle.listing.proofs.text.magnitude.Statement.{statement}
 use Rattle.listing.proofs.text.magnitude.Tie as tie
 

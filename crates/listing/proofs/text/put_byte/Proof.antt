@@ -1,6 +1,6 @@
 -- `text::put_byte` meets its contract: one store. Assumes nothing.
 use borrow.Author.Needs.{needs}
-use Rattle.listing.proofs.TextLaws.{one}
+use Rattle.pgm.proofs.TextLaws.{one}
 use Rattle.listing.proofs.text.put_byte.Statement.{statement}
 use Rattle.listing.proofs.text.put_byte.Tie as tie
 

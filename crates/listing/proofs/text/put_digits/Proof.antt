@@ -4,10 +4,10 @@ use mathlib.Core.List.{List, [], _∷_, _++_, append-assoc, append-nil}
 use Prim.Native.Nat.{ℕ, _+_, _/_, _%_, _≤_, _<_}
 use native.Mathlib.Omega.{arith}
 use lib.ListN.{length, length-append}
-use Rattle.listing.specs.Decimal.{numeral}
-use Rattle.listing.specs.Text.{Put}
-use Rattle.listing.proofs.DecimalLaws.{one-digit, last-digit, some-digit}
-use Rattle.listing.proofs.TextLaws.{nothing, before, same-size}
+use Rattle.pgm.specs.Decimal.{numeral}
+use Rattle.pgm.specs.Text.{Put}
+use Rattle.pgm.proofs.DecimalLaws.{one-digit, last-digit, some-digit}
+use Rattle.pgm.proofs.TextLaws.{nothing, before, same-size}
 use Rattle.listing.proofs.text.put_digits.Statement.{statement}
 use Rattle.listing.proofs.text.put_digits.Tie as tie
 

@@ -1,6 +1,6 @@
 -- `text::put_four` meets its contract: byte before byte. Assumes nothing.
 use borrow.Author.Needs.{needs}
-use Rattle.listing.proofs.TextLaws.{before}
+use Rattle.pgm.proofs.TextLaws.{before}
 use Rattle.listing.proofs.text.put_four.Statement.{statement}
 use Rattle.listing.proofs.text.put_four.Tie as tie
 

@@ -4,8 +4,8 @@ use native.Mathlib.Omega.{arith}
 use mir.Syntax.{w32}
 use mir.ValLaws.{toZ-ofZ}
 use borrow.Author.Needs.{needs}
-use Rattle.listing.proofs.DecimalLaws.{below, above}
-use Rattle.listing.proofs.TextLaws.{before, same-size, fits-after}
+use Rattle.pgm.proofs.DecimalLaws.{below, above}
+use Rattle.pgm.proofs.TextLaws.{before, same-size, fits-after}
 use Rattle.listing.proofs.text.put_integer.Statement.{statement}
 use Rattle.listing.proofs.text.put_integer.Tie as tie
 

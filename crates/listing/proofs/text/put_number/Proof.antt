@@ -2,8 +2,8 @@
 use Prim.Native.Nat.{ℕ, _≤_, _<_, _^_}
 use native.Mathlib.Omega.{arith}
 use lib.ListN.{length}
-use Rattle.listing.specs.Decimal.{numeral}
-use Rattle.listing.proofs.DecimalLaws.{at-most}
+use Rattle.pgm.specs.Decimal.{numeral}
+use Rattle.pgm.proofs.DecimalLaws.{at-most}
 use Rattle.listing.proofs.text.put_number.Statement.{statement}
 use Rattle.listing.proofs.text.put_number.Tie as tie
 

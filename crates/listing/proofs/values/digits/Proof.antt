@@ -3,8 +3,8 @@ use mathlib.Core.Path.{_≡_}
 use Prim.Native.Nat.{ℕ, zero, suc, _+_, _-_, _*_, _^_, _≤_, _<_}
 use native.Mathlib.Omega.{arith}
 use lib.ListN.{length}
-use Rattle.listing.specs.Decimal.{numeral}
-use Rattle.listing.proofs.DecimalLaws.{some-digit, at-most, at-least}
+use Rattle.pgm.specs.Decimal.{numeral}
+use Rattle.pgm.proofs.DecimalLaws.{some-digit, at-most, at-least}
 use Rattle.listing.proofs.values.digits.Statement.{statement}
 use Rattle.listing.proofs.values.digits.Tie as tie
 

@@ -8,10 +8,10 @@ use lib.ListN.{length, set, length-set}
 use mir.Syntax.{w32}
 use mir.Val.{SFits, toZ, ofZ}
 use mir.ValLaws.{toZ-ofZ}
-use Rattle.listing.specs.Decimal.{numeral}
-use Rattle.listing.specs.Text.{Put, Wrote}
-use Rattle.listing.proofs.DecimalLaws.{below, above, within, ten-digits}
-use Rattle.listing.proofs.TextLaws.{same-size, wrote-byte, wrote-on, put-wrote}
+use Rattle.pgm.specs.Decimal.{numeral}
+use Rattle.pgm.specs.Text.{Put, Wrote}
+use Rattle.pgm.proofs.DecimalLaws.{below, above, within, ten-digits}
+use Rattle.pgm.proofs.TextLaws.{same-size, wrote-byte, wrote-on, put-wrote}
 use borrow.Author.Needs.{needs}
 use Rattle.listing.proofs.values.write_value.Statement.{statement}
 use Rattle.listing.proofs.values.write_value.Tie as tie

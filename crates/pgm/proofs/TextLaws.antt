@@ -6,7 +6,7 @@ use native.Mathlib.Omega.{arith}
 use native.Mathlib.Numerals.{add-one}
 use lib.ListN.{length, take, drop, set, length-append, length-take, length-drop, take-append-drop}
 use lib.Seq.{take-append-le, take-take, take-at, drop-at, drop-drop, length-take-le, set-split}
-use Rattle.listing.specs.Text.{Put, Wrote}
+use Rattle.pgm.specs.Text.{Put, Wrote}
 
 pub nothing : (l : List ℕ) (at : ℕ) → at ≤ length l → Put [] at at l l
 nothing l at h = record { place = omega arith; room = h; text = sym (take-append-drop at l) }

@@ -12,7 +12,7 @@ use mir.Syntax.{w32}
 use mir.Val.{SFits}
 use borrow.Author.Tests.{lt-ltb, le-ltb, ltb-true}
 use Rattle.numbers.proofs.Integers.{each, lin}
-use Rattle.listing.specs.Decimal.{digitsOf, numeral, integer}
+use Rattle.pgm.specs.Decimal.{digitsOf, numeral, integer}
 
 -- room for more digits changes nothing
 enough : (f g n : ℕ) → n < f → n < g → digitsOf f n ≡ digitsOf g n

@@ -1,0 +1,8 @@
+pub mod FormLaws
+pub mod FormReads
+pub mod RewritingSame
+pub mod InputCases
+pub mod MachineLaws
+pub mod PartLaws
+pub mod GoneLaws
+pub mod RewritingTheorem

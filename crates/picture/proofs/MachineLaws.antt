@@ -1,0 +1,142 @@
+-- What a rewriting owes, as it reads and writes. Assumes nothing.
+use mathlib.Core.Path.{_≡_, refl, sym, ap, ap₂, subst, _∙_}
+use mathlib.Core.Bool.{Bool, true, false}
+use mathlib.Core.List.{List, [], _∷_, _++_, append-nil, append-assoc}
+use Prim.Native.Nat.{ℕ, zero, suc, _+_, _-_, _*_, _≤_, _<_, min}
+use native.Mathlib.Omega.{arith}
+use native.Mathlib.Numerals.{add-one}
+use native.Mathlib.Nat.{zero-add}
+use lib.Dec.{leb, eqb}
+use lib.ListN.{length, take, drop, getD, set, length-drop, length-append, take-append-drop}
+use lib.Seq.{paste, drop-drop, drop-cons, length-take-le}
+use borrow.Author.Tests.{eq-eqb, ne-eqb, le-leb, lt-leb}
+use Rattle.numbers.specs.Signal.{pick}
+use Rattle.pgm.specs.Text.{Wrote}
+use Rattle.pgm.proofs.TextLaws.{wrote-none, wrote-size, wrote-on}
+use Rattle.picture.specs.Hearing.{phased, hears, endHeard}
+use Rattle.picture.specs.Machine.{partOf, noPart, partText, rewriting, textOn, leftOn, settled, doneOn, Kept, kept, rowPart, heightKept, heardTo, heardBy, owed, Went, Writes, quiet, Stops, full, idle, Onward, on, off, endTo, endOf}
+use Rattle.picture.specs.declared.input.Input.{Input}
+use Rattle.picture.specs.declared.input.Heard.{Heard}
+use Rattle.picture.specs.declared.input.Heard.the-variants as heard
+use Rattle.picture.specs.declared.input.Ended.{Ended}
+use Rattle.picture.specs.declared.input.Ended.the-variants as ended
+use Rattle.picture.specs.declared.parts.Part.{Part}
+use Rattle.picture.specs.declared.rewriting.Rewriting.{Rewriting}
+
+-- ---- the code's choices
+pub settles : (r : Rewriting) (f : ℕ) (p : Part) → f ≡ pick (eqb (r .part .kind) 2) 0 (r .filled) → p ≡ noPart → rewriting (r .input) f p ≡ settled r
+unfolding settled
+settles r f p e g = rw (e, g)
+
+module _ (i : Input) (f v : ℕ) (z : List ℕ) where
+  pub kept-none : (j : Input) (p : Part) → length z ≤ f → j ≡ phased 2 i → p ≡ partOf 3 5
+      → (rewriting j f p ≡ heightKept i f v z .state) × (z ≡ heightKept i f v z .row)
+  unfolding heightKept
+  kept-none j p h e g = (rw (le-leb (length z) f h, e, g), rw (le-leb (length z) f h))
+
+  pub kept-some : (p : Part) → f < length z → p ≡ rowPart (f + 1) (i .width)
+      → (rewriting i (f + 1) p ≡ heightKept i f v z .state) × (set z f v ≡ heightKept i f v z .row)
+  unfolding heightKept
+  kept-some p h g = (rw (lt-leb (length z) f h, g), rw (lt-leb (length z) f h))
+
+pub ends-on : (r : Rewriting) → (r .part .kind ≡ 0 → ⊥) → r ≡ endOf r
+unfolding endOf
+ends-on r d = rw (ne-eqb (r .part .kind) 0 d)
+
+pub ends-as : (r : Rewriting) (y : Ended) → r .part .kind ≡ 0 → y ≡ endHeard (r .input) → endTo r y ≡ endOf r
+unfolding endOf
+ends-as r y d e = rw (eq-eqb (r .part .kind) 0 d) (ap (endTo r) e)
+
+module _ (r : Rewriting) (z : List ℕ) (b : ℕ) (y : Heard) (e : y ≡ hears (r .input) (length z) b) where
+  pub heard-state : heardTo r z y .state ≡ heardBy r z b .state
+  unfolding heardBy
+  heard-state = ap (λ y. heardTo r z y .state) e
+
+  pub heard-row : heardTo r z y .row ≡ heardBy r z b .row
+  unfolding heardBy
+  heard-row = ap (λ y. heardTo r z y .row) e
+
+-- ---- what is owed
+drop-none : (n : ℕ) → drop {A = ℕ} n [] ≡ []
+drop-none zero = refl
+drop-none (suc n) = refl
+
+pub left-none : (r : Rewriting) (z : List ℕ) → r .part .kind ≡ 0 → leftOn r z ≡ []
+unfolding leftOn partText
+left-none r z e = rw (ne-eqb (r .part .kind) 1 (λ d. omega arith), ne-eqb (r .part .kind) 2 (λ d. omega arith), ne-eqb (r .part .kind) 3 (λ d. omega arith)) (drop-none (r .part .done))
+
+settled-twice : (r : Rewriting) → settled (settled r) ≡ settled r
+unfolding settled
+settled-twice r = refl
+
+settled-none : (r : Rewriting) (z : List ℕ) → leftOn (settled r) z ≡ []
+settled-none r z = left-none (settled r) z (unfold settled in refl)
+
+-- the part is written to its end
+pub settle-owed : (e : Bool) (r : Rewriting) (z v : List ℕ) → owed e r z v ≡ leftOn r z ++ owed e (settled r) z v
+unfolding owed
+settle-owed e r z [] =
+    ap (λ l. leftOn r z ++ l)
+    (sym (ap (λ l. l ++ pick e (leftOn (endOf (settled (settled r))) z) []) (settled-none r z)
+    ∙ ap (λ s. pick e (leftOn (endOf s) z) []) (settled-twice r)))
+settle-owed e r z (b ∷ v) =
+    ap (λ l. leftOn r z ++ l)
+    (sym (ap (λ l. l ++ owed e (heardBy (settled (settled r)) z b .state) (heardBy (settled (settled r)) z b .row) v) (settled-none r z)
+    ∙ ap (λ s. owed e (heardBy s z b .state) (heardBy s z b .row) v) (settled-twice r)))
+
+-- n bytes of it are
+left-done : (r : Rewriting) (z : List ℕ) (n : ℕ) → leftOn r z ≡ take n (leftOn r z) ++ leftOn (doneOn (r .part .done + n) r) z
+unfolding leftOn partText
+left-done r z n = sym (take-append-drop n (drop (r .part .done) (textOn r z))) ∙ ap (λ l. take n (drop (r .part .done) (textOn r z)) ++ l) (drop-drop n (r .part .done) (textOn r z))
+
+settled-done : (r : Rewriting) (d : ℕ) → settled (doneOn d r) ≡ settled r
+unfolding settled
+settled-done r d = refl
+
+pub write-owed : (e : Bool) (r : Rewriting) (z : List ℕ) (n : ℕ) (v : List ℕ)
+    → owed e r z v ≡ take n (leftOn r z) ++ owed e (doneOn (r .part .done + n) r) z v
+write-owed e r z n v =
+    let q : Rewriting = doneOn (r .part .done + n) r in
+    settle-owed e r z v
+    ∙ ap (λ l. l ++ owed e (settled r) z v) (left-done r z n)
+    ∙ append-assoc (take n (leftOn r z)) (leftOn q z) (owed e (settled r) z v)
+    ∙ ap (λ l. take n (leftOn r z) ++ l) (ap (λ s. leftOn q z ++ owed e s z v) (sym (settled-done r (r .part .done + n))) ∙ sym (settle-owed e q z v))
+
+end-settled : (r : Rewriting) → r .part .kind ≡ 0 → endOf (settled r) ≡ endOf r
+unfolding endOf settled
+end-settled r k = rw (eq-eqb (r .part .kind) 0 k, ne-eqb (r .part .kind) 2 (λ d. omega arith)) (same (endHeard (r .input)))
+  where
+    same : (y : Ended) → endTo (rewriting (r .input) (r .filled) noPart) y ≡ endTo r y
+    same (ended.Over i) = refl
+    same (ended.Short i) = refl
+
+-- a byte is heard
+heard-settled : (r : Rewriting) (z : List ℕ) (b : ℕ) → r .part .kind ≡ 0 → heardBy (settled r) z b ≡ heardBy r z b
+unfolding heardBy settled
+heard-settled r z b e = rw (ne-eqb (r .part .kind) 2 (λ d. omega arith)) (same (hears (r .input) (length z) b))
+  where
+    same : (y : Heard) → heardTo (rewriting (r .input) (r .filled) noPart) z y ≡ heardTo r z y
+    same (heard.More i) = refl
+    same (heard.Begun i) = refl
+    same (heard.Height i v) = refl
+    same (heard.Refused i q) = refl
+
+pub hear-owed : (e : Bool) (r : Rewriting) (z : List ℕ) (b : ℕ) (v : List ℕ) → r .part .kind ≡ 0
+    → owed e r z (b ∷ v) ≡ owed e (heardBy r z b .state) (heardBy r z b .row) v
+unfolding owed
+hear-owed e r z b v k =
+    ap (λ l. l ++ owed e (heardBy (settled r) z b .state) (heardBy (settled r) z b .row) v) (left-none r z k)
+    ∙ ap (λ k. owed e (k .state) (k .row) v) (heard-settled r z b k)
+
+-- the input ends while nothing is being written: what is owed is what its end brings
+pub end-owed : (r : Rewriting) (z : List ℕ) → r .part .kind ≡ 0 → owed true r z [] ≡ owed false (endOf r) z []
+unfolding owed
+end-owed r z k =
+    ap (λ l. l ++ leftOn (endOf (settled r)) z) (left-none r z k)
+    ∙ ap (λ s. leftOn s z) (end-settled r k)
+    ∙ sym (append-nil (leftOn (endOf r) z))
+
+-- and where nothing is being written, nothing is owed
+pub idle-owed : (r : Rewriting) (z : List ℕ) → r .part .kind ≡ 0 → owed false r z [] ≡ []
+unfolding owed
+idle-owed r z k = append-nil (leftOn r z) ∙ left-none r z k

@@ -1,0 +1,524 @@
+-- What a rewriting owes from its start is what the definition makes of the bytes, while more may come and at the end of the input: `owed-due`, `owed-whole`;
+-- and so it is whatever the pieces: `pieces-due`, `pieces-whole`. Its row area has room for every row. Assumes nothing.
+use mathlib.Core.Path.{_≡_, refl, sym, ap, ap₂, _∙_}
+use mathlib.Core.Bool.{Bool, true, false}
+use mathlib.Core.List.{List, [], _∷_, _++_, append-nil, append-assoc}
+use Prim.Native.Nat.{ℕ, zero, suc, _+_, _*_, _/_, _%_, _≤_, _<_}
+use native.Mathlib.Omega.{arith}
+use native.Mathlib.Decide.{decLt, ℕ-discrete}
+use native.Mathlib.Numerals.{sub-one}
+use native.Mathlib.Nat.{mul-add-div, mul-one, zero-mul, suc-mul, add-comm, div-eq-of-lt}
+use lib.Dec.{leb, ltb}
+use lib.ListN.{length, take, drop, set, length-set, length-append}
+use lib.Seq.{take-append-add, length-take-le, set-split}
+use borrow.Author.Tests.{lt-ltb, le-ltb, eq-eqb, ne-eqb, leb-true}
+use Rattle.numbers.specs.Signal.{pick, both}
+use Rattle.wavelet.specs.Questions.{within}
+use Rattle.pgm.specs.Header.{Read, found, short, wrong, andThen, Size, headerOf}
+use Rattle.pgm.specs.Steps.{begun, stepOf, feed, stepped, readBy}
+use Rattle.pgm.specs.Samples.{wide, sampleSize, pairsOf, samplesOf, fitting, exceeds, heightsOf, sampled, sampleOf}
+use Rattle.pgm.specs.declared.header.Header.{Header}
+use Rattle.pgm.specs.declared.header.Next.{Next}
+use Rattle.pgm.specs.declared.header.Next.the-variants as next
+use Rattle.pgm.proofs.HeaderReads.{reads}
+use Rattle.picture.specs.Form.{formHead, rowBytes}
+use Rattle.picture.specs.Rewriting.{sizeFits, sizeEnd, pictureOf, cells, heightsIn, refusedLine, wholeRows, rowsOf, tooLarge, bodyOf, rewritingOf}
+use Rattle.picture.specs.Rewriting.{answerLine, refusalIn, bodyDue, dueOf}
+use Rattle.picture.specs.Hearing.{phased, nay, begins, shapeHeard, nextHeard, heightHeard, hears, endHeard}
+use Rattle.picture.specs.Machine.{partOf, noPart, partText, rewriting, started, leftOn, settled, rowPart, heightKept, heardTo, heardBy}
+use Rattle.picture.specs.Machine.{endTo, endOf, owed, Ran, none, call}
+use Rattle.picture.specs.declared.input.Input.{Input}
+use Rattle.picture.specs.declared.input.Heard.{Heard}
+use Rattle.picture.specs.declared.input.Heard.the-variants as heard
+use Rattle.picture.specs.declared.input.Ended.{Ended}
+use Rattle.picture.specs.declared.input.Ended.the-variants as ended
+use Rattle.picture.specs.declared.parts.Part.{Part}
+use Rattle.picture.specs.declared.rewriting.Rewriting.{Rewriting}
+use Rattle.picture.proofs.InputCases.{header-case, height-none, hears-0, hears-1, hears-on, end-early, end-over, end-few, end-whole}
+use Rattle.picture.proofs.MachineLaws.{kept-some, left-none, settle-owed, hear-owed, ends-as, end-owed, idle-owed}
+
+abbrev idle : Input → ℕ → Rewriting
+idle i f = rewriting i f noPart
+
+-- a byte heard as y
+heard-as : (e : Bool) (i : Input) (f : ℕ) (z : List ℕ) (b : ℕ) (u : List ℕ) (y : Heard) → hears i (length z) b ≡ y
+    → owed e (idle i f) z (b ∷ u) ≡ owed e (heardTo (idle i f) z y .state) (heardTo (idle i f) z y .row) u
+unfolding heardBy
+heard-as e i f z b u y h = hear-owed e (idle i f) z b u refl ∙ ap (λ y. owed e (heardTo (idle i f) z y .state) (heardTo (idle i f) z y .row) u) h
+
+-- the end of the input, heard as y
+ends-to : (i : Input) (f : ℕ) (z : List ℕ) (y : Ended) → y ≡ endHeard i → owed true (idle i f) z [] ≡ leftOn (endTo (idle i f) y) z
+unfolding owed
+ends-to i f z y h =
+    end-owed (idle i f) z refl
+    ∙ append-nil (leftOn (endOf (idle i f)) z)
+    ∙ ap (λ r. leftOn r z) (sym (ends-as (idle i f) y refl h))
+
+-- ---- after a refusal nothing is heard
+deaf : (e : Bool) (i : Input) (f : ℕ) (z u : List ℕ) → i .phase ≡ 2 → owed e (idle i f) z u ≡ []
+deaf true i f z [] h = ends-to i f z (ended.Over (phased 2 i)) (end-over i (λ d. omega arith) (λ d. omega arith)) ∙ left-none (idle (phased 2 i) f) z refl
+deaf false i f z [] h = idle-owed (idle i f) z refl
+deaf e i f z (b ∷ u) h = heard-as e i f z b u (heard.More i) (sym (hears-on i (length z) b (λ d. omega arith) (λ d. omega arith))) ∙ deaf e i f z u h
+
+refused-left : (i : Input) (f q : ℕ) (z : List ℕ) → leftOn (rewriting i f (partOf 3 q)) z ≡ refusedLine q
+unfolding leftOn partText
+refused-left i f q z = refl
+
+refused-settled : (i : Input) (f q : ℕ) → settled (rewriting i f (partOf 3 q)) ≡ idle i f
+unfolding settled
+refused-settled i f q = refl
+
+refused : (e : Bool) (i : Input) (f q : ℕ) (z u : List ℕ) → i .phase ≡ 2 → owed e (rewriting i f (partOf 3 q)) z u ≡ refusedLine q
+refused e i f q z u h =
+    settle-owed e (rewriting i f (partOf 3 q)) z u
+    ∙ ap₂ _++_ (refused-left i f q z) (ap (λ r. owed e r z u) (refused-settled i f q) ∙ deaf e i f z u h)
+    ∙ append-nil (refusedLine q)
+
+-- ---- whole rows
+module _ (W : ℕ) (some : 0 < W) where
+  none-whole : (g : List ℕ) → length g < W → wholeRows W g ≡ []
+  unfolding wholeRows
+  none-whole g h = let e : length g / W * W ≡ 0 = ap (λ q. q * W) (div-small (length g) h) ∙ zero-mul W in ap (λ k. take k g) e
+    where
+      div-small : (n : ℕ) → n < W → n / W ≡ 0
+      div-small n h = div-eq-of-lt h
+
+  one-whole : (g l : List ℕ) → length g ≡ W → wholeRows W (g ++ l) ≡ g ++ wholeRows W l
+  unfolding wholeRows
+  one-whole g l e =
+      let n : length (g ++ l) ≡ W * 1 + length l = length-append g l ∙ ap (λ k. k + length l) (e ∙ sym (mul-one W)) in
+      let d : length (g ++ l) / W * W ≡ length g + length l / W * W =
+      ap (λ k. k / W * W) n ∙ ap (λ q. q * W) (mul-add-div some 1 (length l)) ∙ one-more (length l / W) ∙ ap (λ k. k + length l / W * W) (sym e) in
+      ap (λ k. take k (g ++ l)) d ∙ take-append-add g l (length l / W * W)
+    where
+      one-more : (q : ℕ) → (1 + q) * W ≡ W + q * W
+      one-more q = let e : 1 + q ≡ suc q = omega arith in ap (λ k. k * W) e ∙ suc-mul q W ∙ add-comm (q * W) W
+
+row-append : (g l : List ℕ) → rowBytes (g ++ l) ≡ rowBytes g ++ rowBytes l
+unfolding rowBytes
+row-append [] l = refl
+row-append (h ∷ g) l = ap (λ k. (h / 256) ∷ (h % 256) ∷ k) (row-append g l)
+
+-- ---- the heights: what is due of n of them, g being those of the begun row that stand already
+abbrev heightsDue : Bool → ℕ → List ℕ → ℕ → ℕ → List ℕ → List ℕ
+heightsDue e W g m n r = rowBytes (wholeRows W (g ++ take n (heightsOf m r))) ++ answerLine (refusalIn e m n r)
+
+-- one sample more, of two bytes (w) or one
+more-lt : (w : Bool) (n k l : ℕ) → l ≡ pick w 2 1 + k → ltb (pick w 2 1 * suc n) l ≡ ltb (pick w 2 1 * n) k
+more-lt true n k l e =
+    elim (decLt (2 * n) k) [
+      | yes p ↦ lt-ltb (2 * suc n) l (omega arith) ∙ sym (lt-ltb (2 * n) k p)
+      | no d ↦ le-ltb (2 * suc n) l (omega arith) ∙ sym (le-ltb (2 * n) k (omega arith))
+    ]
+more-lt false n k l e =
+    elim (decLt (1 * n) k) [
+      | yes p ↦ lt-ltb (1 * suc n) l (omega arith) ∙ sym (lt-ltb (1 * n) k p)
+      | no d ↦ le-ltb (1 * suc n) l (omega arith) ∙ sym (le-ltb (1 * n) k (omega arith))
+    ]
+
+more-gt : (w : Bool) (n k l : ℕ) → l ≡ pick w 2 1 + k → ltb l (pick w 2 1 * suc n) ≡ ltb k (pick w 2 1 * n)
+more-gt true n k l e =
+    elim (decLt k (2 * n)) [
+      | yes p ↦ lt-ltb l (2 * suc n) (omega arith) ∙ sym (lt-ltb k (2 * n) p)
+      | no d ↦ le-ltb l (2 * suc n) (omega arith) ∙ sym (le-ltb k (2 * n) (omega arith))
+    ]
+more-gt false n k l e =
+    elim (decLt k (1 * n)) [
+      | yes p ↦ lt-ltb l (1 * suc n) (omega arith) ∙ sym (lt-ltb k (1 * n) p)
+      | no d ↦ le-ltb l (1 * suc n) (omega arith) ∙ sym (le-ltb k (1 * n) (omega arith))
+    ]
+
+-- the bytes s are a sample v and then r
+record Leads (m v : ℕ) (s r : List ℕ) : Type 0 where
+  pub samples : samplesOf m s ≡ v ∷ samplesOf m r
+  pub bytes : length s ≡ sampleSize m + length r
+
+leads-two : (m a b : ℕ) (r : List ℕ) → wide m ≡ true → Leads m (256 * a + b) (a ∷ b ∷ r) r
+unfolding samplesOf pairsOf sampleSize
+leads-two m a b r e = record { samples = rw e; bytes = rw e (omega arith) }
+
+leads-one : (m b : ℕ) (r : List ℕ) → wide m ≡ false → Leads m b (b ∷ r) r
+unfolding samplesOf sampleSize
+leads-one m b r e = record { samples = rw e; bytes = rw e (omega arith) }
+
+no-sample : (m : ℕ) → samplesOf m [] ≡ []
+unfolding samplesOf pairsOf
+no-sample m = go (wide m)
+  where
+    go : (w : Bool) → pick {A = List ℕ} w [] [] ≡ []
+    go true = refl
+    go false = refl
+
+some-byte : (m : ℕ) → 0 < sampleSize m
+unfolding sampleSize
+some-byte m = go (wide m)
+  where
+    go : (w : Bool) → 0 < pick w 2 1
+    go true = omega arith
+    go false = omega arith
+
+bytes-none : (m : ℕ) → sampleSize m * 0 ≡ 0
+bytes-none m = omega arith
+
+-- ---- the refusal that the bytes bring
+module _ (e : Bool) (m : ℕ) where
+  too-large-says : (n v : ℕ) (s r : List ℕ) → Leads m v s r → leb v m ≡ false → (take (suc n) (heightsOf m s) ≡ []) × (refusalIn e m (suc n) s ≡ 16)
+  unfolding heightsOf fitting refusalIn exceeds
+  too-large-says n v s r l h = (rw (l .samples, h), rw (l .samples, h))
+
+  -- no whole sample, and fewer bytes than the next has
+  short-says : (n : ℕ) (s : List ℕ) → samplesOf m s ≡ [] → length s < sampleSize m
+      → (take (suc n) (heightsOf m s) ≡ []) × (refusalIn e m (suc n) s ≡ pick e 15 0)
+  unfolding heightsOf fitting refusalIn exceeds sampleSize
+  short-says n s h k = (rw h, rw (h, below (wide m) k .0, below (wide m) k .1) (ends e))
+    where
+      below : (w : Bool) → length s < pick w 2 1 → (ltb (pick w 2 1 * suc n) (length s) ≡ false) × (ltb (length s) (pick w 2 1 * suc n) ≡ true)
+      below true h = (le-ltb (2 * suc n) (length s) (omega arith), lt-ltb (length s) (2 * suc n) (omega arith))
+      below false h = (le-ltb (1 * suc n) (length s) (omega arith), lt-ltb (length s) (1 * suc n) (omega arith))
+
+      ends : (e : Bool) → _≡_ {A = ℕ} (pick (both e true) 15 0) (pick e 15 0)
+      ends true = refl
+      ends false = refl
+
+  surplus-says : (b : ℕ) (r : List ℕ) → refusalIn e m 0 (b ∷ r) ≡ 15
+  unfolding refusalIn exceeds
+  surplus-says b r = rw (bytes-none m, lt-ltb 0 (suc (length r)) (omega arith))
+
+  whole-says : refusalIn e m 0 [] ≡ 0
+  unfolding refusalIn exceeds
+  whole-says = rw (bytes-none m) (over e)
+    where
+      over : (e : Bool) → _≡_ {A = ℕ} (pick (both e false) 15 0) 0
+      over true = refl
+      over false = refl
+
+no-bytes : (q : ℕ) → rowBytes [] ++ answerLine q ≡ answerLine q
+unfolding rowBytes
+no-bytes q = refl
+
+-- ---- and what is due
+module _ (e : Bool) (W : ℕ) (some : 0 < W) (g : List ℕ) (few : length g < W) (m : ℕ) where
+  -- no height more
+  no-more : (n : ℕ) (s : List ℕ) (q : ℕ) → take n (heightsOf m s) ≡ [] → refusalIn e m n s ≡ q → heightsDue e W g m n s ≡ answerLine q
+  no-more n s q h k =
+      ap₂ (λ l a. rowBytes (wholeRows W (g ++ l)) ++ answerLine a) h k
+      ∙ ap (λ l. rowBytes l ++ answerLine q) (ap (wholeRows W) (append-nil g) ∙ none-whole W some g few)
+      ∙ no-bytes q
+
+  one-more : (n v : ℕ) (s r : List ℕ) → Leads m v s r → leb v m ≡ true
+      → heightsDue e W g m (suc n) s ≡ rowBytes (wholeRows W (g ++ (v ∷ take n (heightsOf m r)))) ++ answerLine (refusalIn e m n r)
+  unfolding refusalIn heightsOf fitting exceeds sampleSize
+  one-more n v s r l h = rw (l .samples, h, more-lt (wide m) n (length r) (length s) (l .bytes), more-gt (wide m) n (length r) (length s) (l .bytes))
+
+  too-large : (n v : ℕ) (s r : List ℕ) → Leads m v s r → leb v m ≡ false → heightsDue e W g m (suc n) s ≡ refusedLine 16
+  too-large n v s r l h = let k = too-large-says e m n v s r l h in no-more (suc n) s 16 (k .0) (k .1)
+
+  short-of : (n : ℕ) (s : List ℕ) → samplesOf m s ≡ [] → length s < sampleSize m → heightsDue e W g m (suc n) s ≡ answerLine (pick e 15 0)
+  short-of n s h k = let q = short-says e m n s h k in no-more (suc n) s (pick e 15 0) (q .0) (q .1)
+
+  none-short : (n : ℕ) → heightsDue e W g m (suc n) [] ≡ answerLine (pick e 15 0)
+  none-short n = short-of n [] (no-sample m) (some-byte m)
+
+  half-short : (n a : ℕ) → wide m ≡ true → heightsDue e W g m (suc n) (a ∷ []) ≡ answerLine (pick e 15 0)
+  unfolding samplesOf pairsOf sampleSize
+  half-short n a h = short-of n (a ∷ []) (rw h refl) (rw h (omega arith))
+
+  surplus : (b : ℕ) (r : List ℕ) → heightsDue e W g m 0 (b ∷ r) ≡ refusedLine 15
+  surplus b r = no-more 0 (b ∷ r) 15 refl (surplus-says e m b r)
+
+  all-there : heightsDue e W g m 0 [] ≡ []
+  all-there = no-more 0 [] 0 refl (whole-says e m)
+
+-- ---- and byte by byte
+abbrev at : ℕ → Header → ℕ → ℕ → ℕ → ℕ → Bool → ℕ → Input
+at p h W H n m half v = record { phase = p; header = h; width = W; height = H; left = n; samples = record { largest = m; half = half; high = v } }
+
+module _ (h : Header) (W H n m room : ℕ) where
+  first-byte : (v b : ℕ) → wide m ≡ true → hears (at 1 h W H (suc n) m false v) room b ≡ heard.More (at 1 h W H (suc n) m true b)
+  unfolding hears heightHeard sampleOf
+  first-byte v b e = rw (ne-eqb (suc n) 0 (λ z. omega arith), e)
+
+  -- the last byte of a sample u
+  abbrev Lasts : Bool → ℕ → ℕ → ℕ → Type 0
+  Lasts x v b u = (leb u m ≡ true → hears (at 1 h W H (suc n) m x v) room b ≡ heard.Height (at 1 h W H n m false 0) u)
+      × (leb u m ≡ false → hears (at 1 h W H (suc n) m x v) room b ≡ heard.Refused (at 2 h W H (suc n) m x v) 16)
+
+  second-byte : (v b : ℕ) → wide m ≡ true → Lasts true v b (256 * v + b)
+  unfolding hears heightHeard sampleOf sampled
+  second-byte v b e = (λ f. rw (ne-eqb (suc n) 0 (λ z. omega arith), e, f, sub-one (suc n)), λ f. rw (ne-eqb (suc n) 0 (λ z. omega arith), e, f))
+
+  lone-byte : (x : Bool) (v b : ℕ) → wide m ≡ false → Lasts x v b b
+  unfolding hears heightHeard sampleOf sampled
+  lone-byte x v b e = (λ f. rw (ne-eqb (suc n) 0 (λ z. omega arith), e, f, sub-one (suc n)), λ f. rw (ne-eqb (suc n) 0 (λ z. omega arith), e, f))
+
+-- the end, with heights still to come
+too-few : (e : Bool) (h : Header) (W H n m : ℕ) (x : Bool) (v f : ℕ) (z : List ℕ) → owed e (idle (at 1 h W H (suc n) m x v) f) z [] ≡ answerLine (pick e 15 0)
+too-few true h W H n m x v f z =
+    let i : Input = at 1 h W H (suc n) m x v in
+    ends-to i f z (ended.Short (phased 2 i)) (end-few i (λ d. omega arith) refl (omega arith)) ∙ refused-left (phased 2 i) f 15 z
+too-few false h W H n m x v f z = idle-owed (idle (at 1 h W H (suc n) m x v) f) z refl
+
+-- and with none to come
+enough : (e : Bool) (h : Header) (W H m : ℕ) (x : Bool) (v f : ℕ) (z : List ℕ) → owed e (idle (at 1 h W H 0 m x v) f) z [] ≡ []
+enough true h W H m x v f z =
+    let i : Input = at 1 h W H 0 m x v in
+    ends-to i f z (ended.Over (phased 2 i)) (end-whole i (λ d. omega arith) refl (omega arith)) ∙ left-none (idle (phased 2 i) f) z refl
+enough false h W H m x v f z = idle-owed (idle (at 1 h W H 0 m x v) f) z refl
+
+beyond : (e : Bool) (h : Header) (W H m : ℕ) (x : Bool) (v f b : ℕ) (z u : List ℕ) → owed e (idle (at 1 h W H 0 m x v) f) z (b ∷ u) ≡ refusedLine 15
+beyond e h W H m x v f b z u =
+    let i : Input = at 1 h W H 0 m x v in
+    heard-as e i f z b u (nay i) (sym (height-none i b refl ∙ hears-1 i (length z) b (λ d. omega arith) refl)) ∙ refused e (phased 2 i) f 15 z u refl
+
+-- ---- a height goes into the row
+set-taken : (z : List ℕ) (f u : ℕ) (l : List ℕ) → f < length z → take (f + 1) (set z f u) ++ l ≡ take f z ++ (u ∷ l)
+set-taken z f u l h =
+    let n : f + 1 ≡ length (take f z) + 1 = ap (λ k. k + 1) (sym (length-take-le f z (omega arith))) in
+    ap (λ y. take (f + 1) y ++ l) (set-split z f u h)
+    ∙ ap (λ k. take k (take f z ++ (u ∷ drop (suc f) z)) ++ l) n
+    ∙ ap (λ y. y ++ l) (take-append-add (take f z) (u ∷ drop (suc f) z) 1)
+    ∙ append-assoc (take f z) (u ∷ []) l
+
+row-whole : (f W : ℕ) → f ≡ W → partOf 2 0 ≡ rowPart f W
+unfolding rowPart
+row-whole f W h = rw (eq-eqb f W h)
+
+row-begun : (f W : ℕ) → (f ≡ W → ⊥) → noPart ≡ rowPart f W
+unfolding rowPart
+row-begun f W h = rw (ne-eqb f W h)
+
+row-left : (i : Input) (f : ℕ) (z : List ℕ) → leftOn (rewriting i f (partOf 2 0)) z ≡ rowBytes (take (i .width) z)
+unfolding leftOn partText
+row-left i f z = refl
+
+row-settled : (i : Input) (f : ℕ) → settled (rewriting i f (partOf 2 0)) ≡ idle i 0
+unfolding settled
+row-settled i f = refl
+
+-- what is owed of the bytes r with n heights to come, f of the begun row in the row area z
+abbrev Owes : Bool → Header → ℕ → ℕ → ℕ → ℕ → List ℕ → Type 0
+Owes e h W H m n r = (v f : ℕ) (z : List ℕ) → f < W → W ≤ length z → owed e (idle (at 1 h W H n m false v) f) z r ≡ heightsDue e W (take f z) m n r
+
+module _ (e : Bool) (h : Header) (W H : ℕ) (some : 0 < W) (m n f u : ℕ) (z r : List ℕ) (a : f < W) (b : W ≤ length z) (g : Owes e h W H m n r) where
+  abbrev i : Input
+  i = at 1 h W H n m false 0
+
+  abbrev y : List ℕ
+  y = set z f u
+
+  abbrev hs : List ℕ
+  hs = take n (heightsOf m r)
+
+  abbrev says : List ℕ
+  says = answerLine (refusalIn e m n r)
+
+  abbrev due : List ℕ
+  due = rowBytes (wholeRows W (take f z ++ (u ∷ hs))) ++ says
+
+  size : length y ≡ length z
+  size = length-set z f u
+
+  same : take (f + 1) y ++ hs ≡ take f z ++ (u ∷ hs)
+  same = set-taken z f u hs (omega arith)
+
+  at-part : (p : Part) → p ≡ rowPart (f + 1) W → owed e (heightKept i f u z .state) (heightKept i f u z .row) r ≡ owed e (rewriting i (f + 1) p) y r
+  at-part p k =
+      let d = kept-some i f u z p (omega arith) k in
+      ap₂ (λ s l. owed e s l r) (sym (d .0)) (sym (d .1))
+
+  row-on : (f + 1 ≡ W → ⊥) → owed e (idle i (f + 1)) y r ≡ due
+  row-on d = g 0 (f + 1) y (omega arith) (omega (arith, size)) ∙ ap (λ l. rowBytes (wholeRows W l) ++ says) same
+
+  row-ends : f + 1 ≡ W → owed e (rewriting i (f + 1) (partOf 2 0)) y r ≡ due
+  row-ends d =
+      settle-owed e (rewriting i (f + 1) (partOf 2 0)) y r
+      ∙ ap₂ _++_ (row-left i (f + 1) y) (ap (λ s. owed e s y r) (row-settled i (f + 1)) ∙ g 0 0 y (omega arith) (omega (arith, size)))
+      ∙ sym (append-assoc (rowBytes (take W y)) (rowBytes (wholeRows W hs)) says)
+      ∙ ap (λ l. l ++ says) (sym (row-append (take W y) (wholeRows W hs)))
+      ∙ ap (λ l. rowBytes l ++ says) (sym (one-whole W some (take W y) hs (length-take-le W y (omega (arith, size)))))
+      ∙ ap (λ k. rowBytes (wholeRows W (take k y ++ hs)) ++ says) (sym d)
+      ∙ ap (λ l. rowBytes (wholeRows W l) ++ says) same
+
+  put-height : owed e (heightKept i f u z .state) (heightKept i f u z .row) r ≡ due
+  put-height =
+      elim (ℕ-discrete (f + 1) W) [
+        | yes d ↦ at-part (partOf 2 0) (row-whole (f + 1) W d) ∙ row-ends d
+        | no d ↦ at-part noPart (row-begun (f + 1) W d) ∙ row-on d
+      ]
+
+-- ---- all heights
+module _ (e : Bool) (h : Header) (W H : ℕ) (some : 0 < W) (m : ℕ) where
+  row-few : (f : ℕ) (z : List ℕ) → f < W → W ≤ length z → length (take f z) < W
+  row-few f z a b = omega (arith, length-take-le f z (omega arith))
+
+  -- after the last byte of a sample
+  lasts : (n f : ℕ) (z : List ℕ) (x : Bool) (v b u : ℕ) (s r : List ℕ) (t : Bool) → leb u m ≡ t
+      → Lasts h W H n m (length z) x v b u → Leads m u s r → f < W → W ≤ length z → Owes e h W H m n r → owed e (idle (at 1 h W H (suc n) m x v) f) z (b ∷ r) ≡ heightsDue e W (take f z) m (suc n) s
+  lasts n f z x v b u s r true k d l a c g =
+      heard-as e (at 1 h W H (suc n) m x v) f z b r (heard.Height (at 1 h W H n m false 0) u) (d .0 k)
+      ∙ put-height e h W H some m n f u z r a c g
+      ∙ sym (one-more e W some (take f z) (row-few f z a c) m n u s r l k)
+  lasts n f z x v b u s r false k d l a c g =
+      heard-as e (at 1 h W H (suc n) m x v) f z b r (heard.Refused (at 2 h W H (suc n) m x v) 16) (d .1 k)
+      ∙ refused e (at 2 h W H (suc n) m x v) f 16 z r refl
+      ∙ sym (too-large e W some (take f z) (row-few f z a c) m n u s r l k)
+
+  pairs : wide m ≡ true → (r : List ℕ) (n : ℕ) → Owes e h W H m n r
+  pairs w [] zero v f z a c = enough e h W H m false v f z ∙ sym (all-there e W some (take f z) (row-few f z a c) m)
+  pairs w [] (suc n) v f z a c = too-few e h W H n m false v f z ∙ sym (none-short e W some (take f z) (row-few f z a c) m n)
+  pairs w (b ∷ r) zero v f z a c = beyond e h W H m false v f b z r ∙ sym (surplus e W some (take f z) (row-few f z a c) m b r)
+  pairs w (b ∷ []) (suc n) v f z a c =
+      heard-as e (at 1 h W H (suc n) m false v) f z b [] (heard.More (at 1 h W H (suc n) m true b)) (first-byte h W H n m (length z) v b w)
+      ∙ too-few e h W H n m true b f z
+      ∙ sym (half-short e W some (take f z) (row-few f z a c) m n b w)
+  pairs w (b ∷ k ∷ r) (suc n) v f z a c =
+      heard-as e (at 1 h W H (suc n) m false v) f z b (k ∷ r) (heard.More (at 1 h W H (suc n) m true b)) (first-byte h W H n m (length z) v b w)
+      ∙ lasts n f z true b k (256 * b + k) (b ∷ k ∷ r) r (leb (256 * b + k) m) refl (second-byte h W H n m (length z) b k w) (leads-two m b k r w)
+      a c (pairs w r n)
+
+  singles : wide m ≡ false → (r : List ℕ) (n : ℕ) → Owes e h W H m n r
+  singles w [] zero v f z a c = enough e h W H m false v f z ∙ sym (all-there e W some (take f z) (row-few f z a c) m)
+  singles w [] (suc n) v f z a c = too-few e h W H n m false v f z ∙ sym (none-short e W some (take f z) (row-few f z a c) m n)
+  singles w (b ∷ r) zero v f z a c = beyond e h W H m false v f b z r ∙ sym (surplus e W some (take f z) (row-few f z a c) m b r)
+  singles w (b ∷ r) (suc n) v f z a c =
+      lasts n f z false v b b (b ∷ r) r (leb b m) refl (lone-byte h W H n m (length z) false v b w) (leads-one m b r w) a c (singles w r n)
+
+  heights : (r : List ℕ) (n : ℕ) → Owes e h W H m n r
+  heights r n = go (wide m) refl
+    where
+      go : (w : Bool) → wide m ≡ w → Owes e h W H m n r
+      go true k = pairs k r n
+      go false k = singles k r n
+
+-- ---- the header
+both-true : (a b : Bool) → both a b ≡ true → (a ≡ true) × (b ≡ true)
+both-true true b h = (refl, h)
+both-true false b h = let z : _≡_ {A = ℕ} 0 1 = cc in absurd (omega arith)
+
+fits : (w h : ℕ) → sizeFits w h ≡ true → (0 < w) × (w ≤ 1025)
+unfolding sizeFits within
+fits w h k =
+    let d = both-true (leb 1 w) (leb w 1025) (both-true (both (leb 1 w) (leb w 1025)) (both (leb 1 h) (leb h 65535)) k .0) in
+    (omega (arith, leb-true 1 w (d .0)), leb-true w 1025 (d .1))
+
+head-left : (i : Input) (f : ℕ) (z : List ℕ) → leftOn (rewriting i f (partOf 1 0)) z ≡ formHead (i .width) (i .height)
+unfolding leftOn partText
+head-left i f z = refl
+
+head-settled : (i : Input) (f : ℕ) → settled (rewriting i f (partOf 1 0)) ≡ idle i f
+unfolding settled
+head-settled i f = refl
+
+-- what is due of a picture's header and the bytes after it
+abbrev pictureDue : Bool → Read Size → List ℕ
+pictureDue e (found z r) = bodyDue e z r
+pictureDue e short = answerLine (pick e 15 0)
+pictureDue e wrong = refusedLine 15
+
+abbrev early : Header → Input
+early k = at 0 k 0 0 0 0 false 0
+
+module _ (e : Bool) (z : List ℕ) (room : 1025 ≤ length z) where
+  -- what is owed of the bytes s after a byte of the header
+  abbrev after : Header → List ℕ → Heard → List ℕ
+  after k s y = owed e (heardTo (idle (early k) 0) z y .state) (heardTo (idle (early k) 0) z y .row) s
+
+  begun-due : (k : Header) (w h m : ℕ) (r : List ℕ) → 0 < w → w ≤ 1025
+      → after k r (heard.Begun (begins (early k) w h m)) ≡ bodyDue e (record { width = w; height = h; largest = m }) r
+  unfolding bodyDue rowsOf heightsIn
+  begun-due k w h m r a b =
+      let i : Input = begins (early k) w h m in
+      let hs : List ℕ = take (w * h) (heightsOf m r) in
+      settle-owed e (rewriting i 0 (partOf 1 0)) z r
+      ∙ ap₂ _++_ (head-left i 0 z) (ap (λ s. owed e s z r) (head-settled i 0) ∙ heights e k w h a m r (w * h) 0 0 z a (omega arith))
+      ∙ sym (append-assoc (formHead w h) (rowBytes (wholeRows w hs)) (answerLine (refusalIn e m (w * h) r)))
+
+  shape : (k : Header) (w h m : ℕ) (r : List ℕ) (t : Bool) → sizeFits w h ≡ t
+      → after k r (shapeHeard (early k) (length z) w h m) ≡ pictureDue e (sizeEnd (record { width = w; height = h; largest = m }) r)
+  unfolding shapeHeard sizeEnd
+  shape k w h m r true d = rw (d, le-ltb (length z) w (omega (arith, fits w h d .1))) (begun-due k w h m r (fits w h d .0) (fits w h d .1))
+  shape k w h m r false d = rw d (refused e (phased 2 (early k)) 0 15 z r refl)
+
+  step-due : (k : Header) (x : Next) (s : List ℕ) → ((k : Header) → owed e (idle (early k) 0) z s ≡ pictureDue e (andThen (readBy (feed k s)) sizeEnd))
+      → after k s (nextHeard (early k) (length z) x) ≡ pictureDue e (andThen (readBy (stepped (λ y. feed y s) s x)) sizeEnd)
+  step-due k (next.More y) s g = g y
+  step-due k (next.Done w h m) s g = shape k w h m s (sizeFits w h) refl
+  step-due k next.Refused s g = refused e (phased 2 (early k)) 0 15 z s refl
+
+  ends-early : (d : Bool) (k : Header) → owed d (idle (early k) 0) z [] ≡ answerLine (pick d 15 0)
+  ends-early true k = ends-to (early k) 0 z (ended.Short (phased 2 (early k))) (end-early (early k) refl) ∙ refused-left (phased 2 (early k)) 0 15 z
+  ends-early false k = idle-owed (idle (early k) 0) z refl
+
+  header : (s : List ℕ) (k : Header) → owed e (idle (early k) 0) z s ≡ pictureDue e (andThen (readBy (feed k s)) sizeEnd)
+  unfolding feed
+  header [] k = ends-early e k
+  header (b ∷ s) k =
+      let y : Heard = nextHeard (early k) (length z) (stepOf k b) in
+      heard-as e (early k) 0 z b s y (sym (header-case (early k) (length z) b (stepOf k b) refl ∙ hears-0 (early k) (length z) b refl))
+      ∙ step-due k (stepOf k b) s (header s)
+
+as-due : (e : Bool) (s : List ℕ) → pictureDue e (andThen (headerOf s) sizeEnd) ≡ dueOf e s
+unfolding dueOf pictureOf
+as-due e s = same (andThen (headerOf s) sizeEnd)
+  where
+    same : (x : Read Size) → pictureDue e x ≡ elim x [ found z r ↦ bodyDue e z r | short ↦ answerLine (pick e 15 0) | wrong ↦ refusedLine 15 ]
+    same (found z r) = refl
+    same short = refl
+    same wrong = refl
+
+-- what a rewriting owes of the bytes s from its start; e: the input ends with them
+pub owed-due : (e : Bool) (z s : List ℕ) → 1025 ≤ length z → owed e started z s ≡ dueOf e s
+owed-due e z s room = header e z room s (begun 0) ∙ ap (λ x. pictureDue e (andThen x sizeEnd)) (reads s) ∙ as-due e s
+
+-- ---- an input that has ended
+body-whole : (z : Size) (r : List ℕ) (t : Bool) → exceeds (z .largest) (take (cells z) (samplesOf (z .largest) r)) ≡ t → bodyDue true z r ≡ bodyOf z r
+unfolding bodyDue bodyOf refusalIn tooLarge
+body-whole z r true h = rw h
+body-whole z r false h =
+    let n : ℕ = sampleSize (z .largest) * cells z in
+    elim (decLt (length r) n) [
+      | yes p ↦ rw (h, le-ltb n (length r) (omega arith), lt-ltb (length r) n p, ne-eqb (length r) n (λ d. omega arith))
+      | no p ↦
+          elim (decLt n (length r)) [
+            | yes q ↦ rw (h, lt-ltb n (length r) q, ne-eqb (length r) n (λ d. omega arith))
+            | no q ↦
+                rw (h, le-ltb n (length r) (omega arith), le-ltb (length r) n (omega arith), eq-eqb (length r) n (omega arith))
+                (append-nil (rowsOf z (heightsIn z r)))
+          ]
+    ]
+
+due-whole : (s : List ℕ) → dueOf true s ≡ rewritingOf s
+unfolding dueOf rewritingOf
+due-whole s = same (pictureOf s)
+  where
+    same : (x : Read Size)
+        → _≡_ {A = List ℕ}
+        (elim x [ found z r ↦ bodyDue true z r | short ↦ refusedLine 15 | wrong ↦ refusedLine 15 ])
+        (elim x [ found z r ↦ bodyOf z r | short ↦ refusedLine 15 | wrong ↦ refusedLine 15 ])
+    same (found z r) = body-whole z r (exceeds (z .largest) (take (cells z) (samplesOf (z .largest) r))) refl
+    same short = refl
+    same wrong = refl
+
+pub owed-whole : (z s : List ℕ) → 1025 ≤ length z → owed true started z s ≡ rewritingOf s
+owed-whole z s room = owed-due true z s room ∙ due-whole s
+
+-- ---- in pieces
+ran-owed : {r r′ : Rewriting} {z z′ s t : List ℕ} → Ran r z s t r′ z′ → (e : Bool) (v : List ℕ) → owed e r z (s ++ v) ≡ t ++ owed e r′ z′ v
+ran-owed none e v = refl
+ran-owed {r} {r′} {z} {z′} (call {s = s} {t = t} w f) e v =
+    ap (owed e r z) (append-assoc (w .bytes) s v)
+    ∙ w .goes e (s ++ v)
+    ∙ ap (λ l. w .text ++ l) (ran-owed f e v)
+    ∙ sym (append-assoc (w .text) t (owed e r′ z′ v))
+
+-- whatever the pieces: what has been written and what is still owed is what is due of the bytes read
+pub pieces-due : {r : Rewriting} {z z′ s t : List ℕ} (e : Bool) → 1025 ≤ length z → Ran started z s t r z′ → t ++ owed e r z′ [] ≡ dueOf e s
+pieces-due {z = z} {s = s} e room f = sym (ran-owed f e []) ∙ ap (owed e started z) (append-nil s) ∙ owed-due e z s room
+
+-- and once all is written, before the input's end and after it, the text is the definition's
+pub pieces-whole : {r r′ : Rewriting} {z z′ z″ s t v t′ : List ℕ} → 1025 ≤ length z → Ran started z s t r z′ → r .part .kind ≡ 0
+    → Ran (endOf r) z′ v t′ r′ z″ → v ≡ [] → r′ .part .kind ≡ 0 → t ++ t′ ≡ rewritingOf s
+pieces-whole {r} {r′} {z} {z′} {z″} {s} {t} {v} {t′} room f k g n d =
+    let last : owed false (endOf r) z′ [] ≡ t′ =
+    ap (owed false (endOf r) z′) (sym (append-nil v ∙ n)) ∙ ran-owed g false [] ∙ ap (λ l. t′ ++ l) (idle-owed r′ z″ d) ∙ append-nil t′ in
+    ap (λ l. t ++ l) (sym (end-owed r z′ k ∙ last)) ∙ pieces-due true room f ∙ due-whole s

@@ -1,0 +1,4 @@
+pub mod Form
+pub mod Rewriting
+pub mod Hearing
+pub mod Machine

@@ -1,0 +1,95 @@
+// The fixed form's bytes, into an area of any length: what does not fit is written by a further call, from where the last one ended.
+use crate::decimal;
+use crate::heads;
+use wavelet::limits;
+ghost use mathlib.Core.Path.{_≡_};
+ghost use Prim.Native.Nat.{_+_, _-_, _*_, _/_, _%_, _<_, _^_, min};
+ghost use lib.ListN.{length, drop};
+ghost use lib.Seq.{paste};
+ghost use Rattle.numbers.specs.Signal.{pick};
+ghost use Rattle.picture.specs.Form.{rowBytes, headQuestion, HeadPut, answered};
+
+pub enum Put {
+    // How many bytes were written.
+    Written(usize),
+    // The number of the question that said no.
+    Refused(u8),
+}
+
+// Questions 2 and 3: 0, or the number of the first that says no.
+fn head_question(width: usize, height: usize) -> u8
+    ensures { λ r. ⌜ r ≡ headQuestion width height ⌝ }
+{
+    if !limits::is_within(width, limits::max_width()) {
+        return 2;
+    }
+    if !limits::is_within(height, limits::max_height()) {
+        return 3;
+    }
+    0
+}
+
+// The header's bytes from place `from` on, as many as there are and as the area has room for.
+pub fn head(width: usize, height: usize, from: usize, out: &mut [u8]) -> Put
+    ensures { λ r. ⌜ HeadPut width height from (now (out .entry)) (now (out .exit)) r ⌝ }
+{
+    let question = head_question(width, height);
+    if question != 0 {
+        return Put::Refused(question);
+    }
+    Put::Written(heads::put_head(width, height, from, out))
+}
+
+// The same, told as a number, 0 or that of a question, and the bytes written in a place of their own; a refused call leaves that as it was.
+pub fn head_told(
+    width: usize,
+    height: usize,
+    from: usize,
+    out: &mut [u8],
+    written: &mut usize,
+) -> u8
+    ensures { λ r. ⌜ HeadPut width height from (now (out .entry)) (now (out .exit)) (answered r (now (written .exit))) ⌝ }
+    ensures { λ r. ⌜ ((r ≡ 0 → ⊥) → now (written .exit) ≡ now (written .entry)) ⌝ }
+{
+    match head(width, height, from, out) {
+        Put::Written(n) => {
+            *written = n;
+            0
+        }
+        Put::Refused(question) => question,
+    }
+}
+
+// The most significant byte of a height, or the other one.
+fn height_byte(height: u16, low: bool) -> u8
+    ensures { λ r. ⌜ r ≡ pick low (height % 256) (height / 256) ⌝ }
+{
+    if low {
+        (height % 256) as u8
+    } else {
+        (height / 256) as u8
+    }
+}
+
+// How many bytes a row of heights has.
+fn row_bytes(heights: &[u16]) -> usize
+    ensures { λ r. ⌜ r ≡ 2 * length (now (heights .entry)) ⌝ }
+{
+    2 * heights.len()
+}
+
+// The bytes of a row of heights from place `from` on, as many as there are and as the area has room for.
+pub fn row(heights: &[u16], from: usize, out: &mut [u8]) -> usize
+    ensures { λ r. ⌜ r ≡ min (2 * length (now (heights .entry)) - from) (length (now (out .entry))) ⌝ }
+    ensures { λ r. ⌜ now (out .exit) ≡ paste (now (out .entry)) 0 (drop from (rowBytes (now (heights .entry)))) r ⌝ }
+    ensures { λ r. ⌜ from + r < 2 ^ 64 ⌝ }
+{
+    let n = decimal::some(row_bytes(heights), from, out.len());
+    let mut i = 0;
+    while i < n {
+        let place = from + i;
+        out[i] = height_byte(heights[place / 2], place % 2 == 1);
+        i += 1;
+    }
+    n
+}

@@ -1,0 +1,183 @@
+// The input of a rewriting, heard a byte at a time: a header and heights.
+use pgm::header::Header;
+use pgm::header::Next;
+use pgm::samples::Sample;
+use pgm::samples::Samples;
+use wavelet::limits;
+ghost use mathlib.Core.Path.{_≡_};
+ghost use Prim.Native.Nat.{_≤_, _-_, _*_};
+ghost use Rattle.picture.specs.Hearing.{silent, phased, shapeHeard, headerHeard, heightHeard, hears, endHeard};
+
+pub struct Input {
+    // 0 reads the header, 1 the heights, 2 hears no more
+    pub phase: usize,
+    pub header: Header,
+    pub width: usize,
+    pub height: usize,
+    // heights still to come
+    pub left: usize,
+    pub samples: Samples,
+}
+
+// What a byte tells.
+pub enum Heard {
+    More(Input),
+    // The header ended.
+    Begun(Input),
+    Height(Input, u16),
+    // A question says no: 15 or 16, or 5 where the row area is too short.
+    Refused(Input, u8),
+}
+
+// What the end of the input tells.
+pub enum Ended {
+    // All heights came, and no more; or a question said no before.
+    Over(Input),
+    // Question 15 says no.
+    Short(Input),
+}
+
+impl Input {
+    pub fn start() -> Self
+        ensures { λ r. ⌜ r ≡ silent ⌝ }
+    {
+        Input {
+            phase: 0,
+            header: Header::start(),
+            width: 0,
+            height: 0,
+            left: 0,
+            samples: Samples::start(0),
+        }
+    }
+
+    pub fn at_phase(self, phase: usize) -> Self
+        ensures { λ r. ⌜ r ≡ phased phase self ⌝ }
+    {
+        let header = self.header;
+        let samples = self.samples;
+        Input {
+            phase,
+            header,
+            width: self.width,
+            height: self.height,
+            left: self.left,
+            samples,
+        }
+    }
+
+    // The header is read; the row area has room for so many heights.
+    fn begin(self, width: usize, height: usize, largest: usize, room: usize) -> Heard
+        ensures { λ r. ⌜ r ≡ shapeHeard self room width height largest ⌝ }
+    {
+        if !limits::is_within(width, 1025) {
+            return Heard::Refused(self.at_phase(2), 15);
+        }
+        if !limits::is_within(height, 65535) {
+            return Heard::Refused(self.at_phase(2), 15);
+        }
+        if room < width {
+            return Heard::Refused(self.at_phase(2), 5);
+        }
+        let header = self.header;
+        Heard::Begun(Input {
+            phase: 1,
+            header,
+            width,
+            height,
+            left: area(width, height),
+            samples: Samples::start(largest),
+        })
+    }
+
+    fn hear_header(self, byte: u8, room: usize) -> Heard
+        ensures { λ r. ⌜ r ≡ headerHeard self room byte ⌝ }
+    {
+        let header = self.header;
+        match header.step(byte) {
+            Next::More(next) => {
+                let samples = self.samples;
+                Heard::More(Input {
+                    phase: 0,
+                    header: next,
+                    width: self.width,
+                    height: self.height,
+                    left: self.left,
+                    samples,
+                })
+            }
+            Next::Done(width, height, largest) => self.begin(width, height, largest, room),
+            Next::Refused => Heard::Refused(self.at_phase(2), 15),
+        }
+    }
+
+    fn hear_height(self, byte: u8) -> Heard
+        ensures { λ r. ⌜ r ≡ heightHeard self byte ⌝ }
+    {
+        if self.left == 0 {
+            return Heard::Refused(self.at_phase(2), 15);
+        }
+        let header = self.header;
+        let samples = self.samples;
+        match samples.step(byte) {
+            Sample::Half(half) => Heard::More(Input {
+                phase: 1,
+                header,
+                width: self.width,
+                height: self.height,
+                left: self.left,
+                samples: half,
+            }),
+            Sample::Height(height) => Heard::Height(
+                Input {
+                    phase: 1,
+                    header,
+                    width: self.width,
+                    height: self.height,
+                    left: self.left - 1,
+                    samples: Samples::start(samples.largest),
+                },
+                height,
+            ),
+            Sample::TooLarge => Heard::Refused(self.at_phase(2), 16),
+        }
+    }
+
+    // One byte more.
+    pub fn hear(self, byte: u8, room: usize) -> Heard
+        ensures { λ r. ⌜ r ≡ hears self room byte ⌝ }
+    {
+        let phase = self.phase;
+        if phase == 0 {
+            return self.hear_header(byte, room);
+        }
+        if phase == 1 {
+            return self.hear_height(byte);
+        }
+        Heard::More(self)
+    }
+
+    // No byte more.
+    pub fn end(self) -> Ended
+        ensures { λ r. ⌜ r ≡ endHeard self ⌝ }
+    {
+        let phase = self.phase;
+        if phase == 0 {
+            return Ended::Short(self.at_phase(2));
+        }
+        if phase != 1 {
+            return Ended::Over(self.at_phase(2));
+        }
+        if 0 < self.left {
+            return Ended::Short(self.at_phase(2));
+        }
+        Ended::Over(self.at_phase(2))
+    }
+}
+
+fn area(width: usize, height: usize) -> usize
+    requires { ⌜ (width ≤ 1025) × (height ≤ 65535) ⌝ }
+    ensures { λ r. ⌜ r ≡ width * height ⌝ }
+{
+    width * height
+}

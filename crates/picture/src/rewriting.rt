@@ -1,0 +1,284 @@
+// The rewriting: bytes of a PGM in, bytes of the fixed form out. Each row is written when it is whole, before more input is read.
+use crate::input::Ended;
+use crate::input::Heard;
+use crate::input::Input;
+use crate::parts;
+use crate::parts::Part;
+ghost use mathlib.Core.Path.{_≡_};
+ghost use Prim.Native.Nat.{_<_, _≤_};
+ghost use lib.Dec.{eqb};
+ghost use lib.ListN.{length, getD};
+ghost use Rattle.numbers.specs.Signal.{pick};
+ghost use Rattle.picture.specs.Machine.{partOf, started, settled, doneOn, rowPart, heightKept, heardBy, Writes, Went, Stops, Onward, endOf};
+
+pub struct Rewriting {
+    pub input: Input,
+    // heights of the begun row that stand in the row area
+    pub filled: usize,
+    pub part: Part,
+}
+
+fn part_of(kind: usize, number: u8) -> Part
+    ensures { λ r. ⌜ r ≡ partOf kind number ⌝ }
+{
+    Part {
+        kind,
+        number: number as usize,
+        done: 0,
+    }
+}
+
+fn row_part(filled: usize, width: usize) -> Part
+    ensures { λ r. ⌜ r ≡ rowPart filled width ⌝ }
+{
+    if filled == width {
+        return part_of(2, 0);
+    }
+    part_of(0, 0)
+}
+
+// After a row the next one begins.
+fn after_part(kind: usize, filled: usize) -> usize
+    ensures { λ r. ⌜ r ≡ pick (eqb kind 2) 0 filled ⌝ }
+{
+    if kind == 2 { 0 } else { filled }
+}
+
+// A height goes to its place in the row area; a state that was made up may have none.
+fn keep(input: Input, filled: usize, height: u16, row: &mut [u16]) -> Rewriting
+    ensures { λ r. ⌜ r ≡ heightKept input filled height (now (row .entry)) .state ⌝ }
+    ensures { λ r. ⌜ now (row .exit) ≡ heightKept input filled height (now (row .entry)) .row ⌝ }
+{
+    if row.len() <= filled {
+        return Rewriting {
+            input: input.at_phase(2),
+            filled,
+            part: part_of(3, 5),
+        };
+    }
+    row[filled] = height;
+    Rewriting {
+        input,
+        filled: filled + 1,
+        part: row_part(filled + 1, input.width),
+    }
+}
+
+impl Rewriting {
+    pub const ROW: usize = 1025;
+
+    pub fn start() -> Self
+        ensures { λ r. ⌜ r ≡ started ⌝ }
+    {
+        Rewriting {
+            input: Input::start(),
+            filled: 0,
+            part: part_of(0, 0),
+        }
+    }
+
+    // The part is written.
+    fn settle(self) -> Self
+        ensures { λ r. ⌜ r ≡ settled self ⌝ }
+    {
+        let input = self.input;
+        let part = self.part;
+        Rewriting {
+            input,
+            filled: after_part(part.kind, self.filled),
+            part: part_of(0, 0),
+        }
+    }
+
+    // One byte of the input, while nothing is being written.
+    fn hear(self, byte: u8, row: &mut [u16]) -> Self
+        ensures { λ r. ⌜ r ≡ heardBy self (now (row .entry)) byte .state ⌝ }
+        ensures { λ r. ⌜ now (row .exit) ≡ heardBy self (now (row .entry)) byte .row ⌝ }
+    {
+        let input = self.input;
+        let filled = self.filled;
+        match input.hear(byte, row.len()) {
+            Heard::More(next) => Rewriting {
+                input: next,
+                filled,
+                part: part_of(0, 0),
+            },
+            Heard::Begun(next) => Rewriting {
+                input: next,
+                filled: 0,
+                part: part_of(1, 0),
+            },
+            Heard::Height(next, height) => keep(next, filled, height, row),
+            Heard::Refused(next, number) => Rewriting {
+                input: next,
+                filled,
+                part: part_of(3, number),
+            },
+        }
+    }
+
+    // With so many bytes more of its part written.
+    fn with_done(self, done: usize) -> Self
+        ensures { λ r. ⌜ r ≡ doneOn done self ⌝ }
+    {
+        let input = self.input;
+        let part = self.part;
+        Rewriting {
+            input,
+            filled: self.filled,
+            part: Part {
+                kind: part.kind,
+                number: part.number,
+                done,
+            },
+        }
+    }
+
+    // Reads a piece of the input and writes what it brings, until the area is full, or the piece is used up and nothing is left to write. The rest of a piece is lent again.
+    pub fn feed(self, piece: &[u8], row: &mut [u16], out: &mut [u8]) -> Fed
+        ensures { λ r. ⌜ Went self (now (row .entry)) (now (piece .entry)) 0 (r .used) (now (out .entry)) (now (out .exit)) 0 (r .written) (r .rewriting) (now (row .exit)) ⌝ }
+        ensures { λ r. ⌜ Stops (r .rewriting) (now (piece .entry)) (r .used) (now (out .entry)) (r .written) (r .idle) ⌝ }
+    {
+        let mut state = self;
+        let mut used = 0;
+        let mut written = 0;
+        let mut going = true;
+        while going {
+            let t = turn(state, piece, used, row, out, written);
+            let next = t.rewriting;
+            state = next;
+            used = t.used;
+            written = t.written;
+            going = t.going;
+        }
+        let part = state.part;
+        Fed {
+            rewriting: state,
+            used,
+            written,
+            idle: part.kind == 0,
+        }
+    }
+
+    // The input has ended. To be called once nothing is being written.
+    pub fn end(self) -> Rewriting
+        ensures { λ r. ⌜ r ≡ endOf self ⌝ }
+    {
+        let input = self.input;
+        let part = self.part;
+        let filled = self.filled;
+        if part.kind != 0 {
+            return self;
+        }
+        match input.end() {
+            Ended::Over(next) => Rewriting {
+                input: next,
+                filled,
+                part: part_of(0, 0),
+            },
+            Ended::Short(next) => Rewriting {
+                input: next,
+                filled,
+                part: part_of(3, 15),
+            },
+        }
+    }
+}
+
+// What a call left: the rewriting, how many bytes of the piece it read, how many of the area it wrote, and whether it waits for input.
+pub struct Fed {
+    pub rewriting: Rewriting,
+    pub used: usize,
+    pub written: usize,
+    pub idle: bool,
+}
+
+struct Turned {
+    rewriting: Rewriting,
+    used: usize,
+    written: usize,
+    going: bool,
+}
+
+fn read_on(rewriting: Rewriting, piece: &[u8], used: usize, row: &mut [u16]) -> Rewriting
+    requires { ⌜ used < length (now piece) ⌝ }
+    ensures { λ r. ⌜ r ≡ heardBy rewriting (now (row .entry)) (getD (now (piece .entry)) used 0) .state ⌝ }
+    ensures { λ r. ⌜ now (row .exit) ≡ heardBy rewriting (now (row .entry)) (getD (now (piece .entry)) used 0) .row ⌝ }
+{
+    rewriting.hear(piece[used], row)
+}
+
+struct Written {
+    rewriting: Rewriting,
+    place: usize,
+}
+
+// As much of the part as there is room for. Where some room is left, the part is written.
+fn write_on(rewriting: Rewriting, row: &[u16], out: &mut [u8], at: usize) -> Written
+    requires { ⌜ at ≤ length (now out) ⌝ }
+    ensures { λ r. ⌜ Writes rewriting (now (row .entry)) (now (out .entry)) (now (out .exit)) at (r .place) (r .rewriting) ⌝ }
+{
+    let part = rewriting.part;
+    let input = rewriting.input;
+    let n = parts::put_part(
+        part.kind,
+        part.number,
+        part.done,
+        input.width,
+        input.height,
+        row,
+        &mut out[at..],
+    );
+    if n < out.len() - at {
+        return Written {
+            rewriting: rewriting.settle(),
+            place: at + n,
+        };
+    }
+    Written {
+        rewriting: rewriting.with_done(part.done + n),
+        place: at + n,
+    }
+}
+
+// One turn: input is read while nothing is being written, else that is. `going` while there may be another turn.
+fn turn(
+    rewriting: Rewriting,
+    piece: &[u8],
+    used: usize,
+    row: &mut [u16],
+    out: &mut [u8],
+    written: usize,
+) -> Turned
+    requires { ⌜ (used ≤ length (now piece)) × (written ≤ length (now out)) ⌝ }
+    ensures { λ r. ⌜ Went rewriting (now (row .entry)) (now (piece .entry)) used (r .used) (now (out .entry)) (now (out .exit)) written (r .written) (r .rewriting) (now (row .exit)) ⌝ }
+    ensures { λ r. ⌜ Onward rewriting (r .rewriting) (now (piece .entry)) used (r .used) (now (out .entry)) written (r .written) (r .going) ⌝ }
+{
+    let part = rewriting.part;
+    if part.kind == 0 {
+        if used < piece.len() {
+            let next = read_on(rewriting, piece, used, row);
+            return Turned {
+                rewriting: next,
+                used: used + 1,
+                written,
+                going: true,
+            };
+        }
+    } else if written < out.len() {
+        let w = write_on(rewriting, row, out, written);
+        let next = w.rewriting;
+        return Turned {
+            rewriting: next,
+            used,
+            written: w.place,
+            going: true,
+        };
+    }
+    Turned {
+        rewriting,
+        used,
+        written,
+        going: false,
+    }
+}
