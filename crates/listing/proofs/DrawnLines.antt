@@ -15,11 +15,12 @@ use Rattle.wavelet.specs.Levels.{levelBand}
 use Rattle.wavelet.specs.View.{bandColumns}
 use Rattle.wavelet.specs.Maps.{IsMap}
 use Rattle.wavelet.specs.Order.{RowName}
+use Rattle.calls.specs.All.{All, all-more}
 use Rattle.writer.specs.Level.{Memory}
 use Rattle.writer.specs.Questions.{setUpQuestion}
 use Rattle.writer.specs.declared.BandRow.{BandRow}
 use Rattle.writer.specs.History.{Call, Event, events, freshWorld, taken, finishedBy, DrawnRow, drawn}
-use Rattle.writer.specs.Demand3.{wholeRows, madeOf, waitingOf, answered, MapOf, HasValues, All, all-more}
+use Rattle.writer.specs.Demand3.{wholeRows, madeOf, waitingOf, answered, MapOf, HasValues}
 use Rattle.writer.proofs.Demand3.{demand-3}
 use Rattle.pgm.specs.Decimal.{numeral, integer}
 use Rattle.listing.specs.Lines.{bandLetters, spaced, rowHead, rowLine, lineOf, linesOf, sizeLine}

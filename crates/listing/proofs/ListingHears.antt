@@ -9,11 +9,12 @@ use lib.Seq.{length-take-le}
 use Rattle.wavelet.specs.Store.{storeLength}
 use Rattle.pgm.specs.Samples.{sampleSize, heightsOf}
 use Rattle.pgm.proofs.RunReads.{heights-first}
-use Rattle.writer.specs.Answers.{gives, Took}
+use Rattle.calls.specs.Reply.{gives}
+use Rattle.calls.specs.All.{All, all-none, all-more}
+use Rattle.calls.proofs.AllLaws.{all-append}
+use Rattle.writer.specs.Answers.{Took}
 use Rattle.writer.specs.Calls.{offerReply, offerStore}
-use Rattle.writer.specs.Demand3.{All, all-none, all-more}
 use Rattle.writer.specs.declared.Writer.{Writer}
-use Rattle.writer.proofs.CallList.{all-append}
 use Rattle.listing.specs.Lines.{refusedLine}
 use Rattle.listing.specs.Hearing.{hears, heightsCame}
 use Rattle.listing.specs.Parts.{noLine, refusedPart}

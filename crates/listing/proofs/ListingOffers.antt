@@ -1,7 +1,7 @@
 -- The head is there (`begin-told`), heights are offered (`offered-begun`), a question says no (`turned-begun`): what a listing has reached then. Assumes nothing.
 use mathlib.Core.Path.{_≡_, refl, sym, ap, subst, _∙_}
 use mathlib.Core.Bool.{Bool, true, false}
-use mathlib.Core.List.{List, [], _∷_, _++_, map, append-nil}
+use mathlib.Core.List.{List, [], _∷_, _++_, map, map-append, append-nil}
 use Prim.Native.Nat.{ℕ, zero, suc, _+_, _-_, _*_, _≤_, _<_}
 use native.Mathlib.Omega.{arith}
 use lib.Dec.{leb}
@@ -12,13 +12,13 @@ use Rattle.numbers.proofs.Sweep.{both as split-both}
 use Rattle.wavelet.specs.Limits.{maxHeight}
 use Rattle.wavelet.specs.Store.{storeLength}
 use Rattle.wavelet.specs.Questions.{within}
+use Rattle.calls.specs.Reply.{gives}
+use Rattle.calls.specs.All.{all-none}
 use Rattle.writer.specs.Level.{Memory}
 use Rattle.writer.specs.Questions.{setUpQuestion}
-use Rattle.writer.specs.Answers.{gives, Took}
+use Rattle.writer.specs.Answers.{Took}
 use Rattle.writer.specs.Calls.{fresh, setUpReply, setUpStore, offerReply, offerStore}
-use Rattle.writer.specs.Demand3.{all-none}
 use Rattle.writer.specs.declared.Writer.{Writer}
-use Rattle.writer.proofs.CallList.{map-append}
 use Rattle.listing.specs.Lines.{sizeLine, refusedLine, answerLine}
 use Rattle.listing.specs.Listing.{maxListedWidth, maxListedHeight, shapeFits}
 use Rattle.listing.specs.Parts.{noLine, sizePart}

@@ -8,12 +8,13 @@ use lib.ListN.{length, take}
 use Rattle.numbers.specs.Signal.{pick}
 use Rattle.wavelet.specs.Limits.{maxHeight}
 use Rattle.wavelet.specs.Store.{storeLength}
+use Rattle.calls.specs.Reply.{Reply}
+use Rattle.calls.specs.All.{All}
 use Rattle.writer.specs.Level.{Memory}
 use Rattle.writer.specs.Questions.{setUpQuestion}
-use Rattle.writer.specs.Answers.{Reply, Handed}
+use Rattle.writer.specs.Answers.{Handed}
 use Rattle.writer.specs.Calls.{drawReply, drawStore, drawArea}
 use Rattle.writer.specs.History.{DrawnRow}
-use Rattle.writer.specs.Demand3.{All}
 use Rattle.writer.specs.declared.Writer.{Writer}
 use Rattle.writer.specs.declared.BandRow.{BandRow}
 use Rattle.listing.specs.Lines.{sizeLine, refusedLine, answerLine}

@@ -13,8 +13,8 @@ use native.Mathlib.Omega.{arith}
 use lib.ListN.{take, drop}
 use lib.Seq.{take-at}
 use Rattle.wavelet.specs.Store.{storeLength}
+use Rattle.calls.specs.All.{All}
 use Rattle.writer.specs.Level.{Memory}
-use Rattle.writer.specs.Demand3.{All}
 use Rattle.listing.specs.Listing.{maxListedWidth, listingOf, dueOf}
 use Rattle.listing.specs.Hearing.{silent, endHeard}
 use Rattle.listing.specs.Scenes.{Scene, scene, started, endScene}

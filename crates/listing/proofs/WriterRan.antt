@@ -13,15 +13,18 @@ use Rattle.wavelet.specs.Levels.{size}
 use Rattle.wavelet.specs.View.{bandColumns}
 use Rattle.wavelet.specs.Order.{RowName, made, inTurn}
 use Rattle.wavelet.proofs.SizeLaws.{count-le, size-le}
+use Rattle.calls.specs.Reply.{Reply, gives, refused, seen}
+use Rattle.calls.specs.Area.{Area}
+use Rattle.calls.specs.Lists as lists
+use Rattle.calls.proofs.ListLaws.{either-no, gathered-snoc, ever-snoc, events-snoc, final-snoc}
 use Rattle.writer.specs.Level.{Memory}
 use Rattle.writer.specs.Questions.{either, setUpQuestion}
-use Rattle.writer.specs.Answers.{Reply, gives, refused, Handed, aRow, nothing}
+use Rattle.writer.specs.Answers.{Handed, aRow, nothing}
 use Rattle.writer.specs.Calls.{fresh, setUpStore, drawReply, drawStore, drawArea}
-use Rattle.writer.specs.History.{Area, Call, draw, row, Event, drew, World, seen, given, event, next, events, final, freshWorld, takenBy, taken, finishes, finishedBy, DrawnRow, drawnBy, drawn}
+use Rattle.writer.specs.History.{Call, draw, row, Event, drew, World, given, event, next, events, final, freshWorld, takenBy, taken, finishes, finishedBy, DrawnRow, drawnBy, drawn}
 use Rattle.writer.specs.Demand3.{wholeRows, madeOf, waitingOf, answered, drawSays}
 use Rattle.writer.specs.declared.Writer.{Writer}
 use Rattle.writer.specs.declared.BandRow.{BandRow}
-use Rattle.writer.proofs.Reached.{taken-snoc, drawn-snoc, finished-snoc, events-snoc, final-snoc}
 use Rattle.writer.proofs.Demand3.{demand-3}
 
 abbrev pub worldOf : ℕ → Writer → Memory → World
@@ -39,13 +42,9 @@ pub record Ran (W L n : ℕ) (hs : List ℕ) (f : Bool) (ds : List DrawnRow) (w 
   pub ended : finishedBy (events calls (freshWorld W L n before)) ≡ f
   pub rows : drawn (events calls (freshWorld W L n before)) ≡ ds
 
-either-no : (t : Bool) → either t false ≡ t
-either-no true = refl
-either-no false = refl
-
 module _ (W L n : ℕ) where
   pub fresh-ran : (x : Memory) → Ran W L n [] false [] (fresh W L) (setUpStore W L n x)
-  unfolding final events taken finishedBy drawn
+  unfolding lists.final lists.events lists.gathered lists.ever
   fresh-ran x = record { before = x; calls = []; world = refl; heights = refl; ended = refl; rows = refl }
 
   pub fresh-waits : waits W L [] false [] ≡ []
@@ -70,14 +69,14 @@ module _ (W L n : ℕ) where
     pub ran-next : (c : Call) (e : Event) (w′ : Writer) (x′ : Memory) → event c (worldOf n w x) ≡ e → next c (worldOf n w x) ≡ worldOf n w′ x′
         → Ran W L n (hs ++ takenBy e) (either f (finishes e)) (ds ++ drawnBy e) w′ x′
     ran-next c e w′ x′ p q =
-        let d : events (r .calls ++ c ∷ []) w₀ ≡ es ++ (e ∷ []) = events-snoc (r .calls) c w₀ ∙ ap (λ v. es ++ (v ∷ [])) (ap (event c) (r .world) ∙ p) in
+        let d : events (r .calls ++ c ∷ []) w₀ ≡ es ++ (e ∷ []) = events-snoc event next (r .calls) c w₀ ∙ ap (λ v. es ++ (v ∷ [])) (ap (event c) (r .world) ∙ p) in
         record {
           before = r .before;
           calls = r .calls ++ c ∷ [];
-          world = final-snoc (r .calls) c w₀ ∙ ap (next c) (r .world) ∙ q;
-          heights = ap taken d ∙ taken-snoc es e ∙ ap (λ l. l ++ takenBy e) (r .heights);
-          ended = ap finishedBy d ∙ finished-snoc es e ∙ ap (λ t. either t (finishes e)) (r .ended);
-          rows = ap drawn d ∙ drawn-snoc es e ∙ ap (λ l. l ++ drawnBy e) (r .rows);
+          world = final-snoc next (r .calls) c w₀ ∙ ap (next c) (r .world) ∙ q;
+          heights = ap taken d ∙ gathered-snoc takenBy es e ∙ ap (λ l. l ++ takenBy e) (r .heights);
+          ended = ap finishedBy d ∙ ever-snoc finishes es e ∙ ap (λ t. either t (finishes e)) (r .ended);
+          rows = ap drawn d ∙ gathered-snoc drawnBy es e ∙ ap (λ l. l ++ drawnBy e) (r .rows);
         }
 
     -- ---- a draw into the row area z of k numbers

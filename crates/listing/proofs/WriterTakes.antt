@@ -15,9 +15,10 @@ use Rattle.wavelet.specs.Levels.{size}
 use Rattle.wavelet.specs.Store.{storeLength}
 use Rattle.wavelet.proofs.SizeLaws.{count-lo, size-zero, size-suc}
 use Rattle.wavelet.proofs.StoreLaws.{store-none, store-more}
+use Rattle.calls.specs.Reply.{Reply, gives, refused, unless}
 use Rattle.writer.specs.Level.{Memory}
 use Rattle.writer.specs.Questions.{either, setUpQuestion}
-use Rattle.writer.specs.Answers.{Reply, gives, refused, unless, Took}
+use Rattle.writer.specs.Answers.{Took}
 use Rattle.writer.specs.Calls.{offerReply, offerStore, finishReply, finishStore}
 use Rattle.writer.specs.History.{offer, finish, Event, offered, finished, event, next, events, freshWorld, taken, DrawnRow}
 use Rattle.writer.specs.Demand3.{wholeRows, waitingOf, offerTurned, finishTurned}

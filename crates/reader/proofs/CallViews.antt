@@ -17,6 +17,8 @@ use Rattle.wavelet.specs.View.{bandColumns}
 use Rattle.wavelet.specs.Questions.{ask, within}
 use Rattle.wavelet.specs.Order.{rowName}
 use Rattle.wavelet.specs.Steps.{Step, feed, draw}
+use Rattle.calls.specs.Reply.{gives, refused}
+use Rattle.calls.specs.Area.{Area}
 use Rattle.reader.specs.declared.Reader.{Reader}
 use Rattle.reader.specs.Sets.{rowAt}
 use Rattle.reader.specs.Asked.{asked}
@@ -25,7 +27,7 @@ use Rattle.reader.specs.Machine.{Place, place, nextAt, beyond, enter}
 use Rattle.reader.specs.State.{next, nextRow, nextLength, unfinished, rowDue, drawDue, wants, settles, feeds}
 use Rattle.reader.specs.Questions.{countsFit, storeFits, runFits, setUpQuestion, wantQuestion, feedQuestion, drawQuestion}
 use Rattle.reader.specs.Calls.{wantReply}
-use Rattle.reader.specs.Demand3.{Area, said, gives, refused, heights, nothing, wantSays, feedTurned, drawSays}
+use Rattle.reader.specs.Demand3.{said, heights, nothing, wantSays, feedTurned, drawSays}
 use Rattle.reader.proofs.StepsLeft.{named-code, stepsLeft, Ahead, height, row, ahead, left-row, left-height, left-done}
 
 -- ---- a set-up that passed

@@ -29,6 +29,12 @@ use Rattle.wavelet.proofs.LevelTheory.{OnCells}
 use Rattle.wavelet.proofs.Bridge.{map-fits, map-band, map-approximation, map-approximation-range}
 use Rattle.wavelet.proofs.MapTheorems.{height-fits, low-fits}
 use Rattle.wavelet.proofs.StepLaws.{steps-once, steps-heights}
+use Rattle.calls.specs.Reply.{Reply, gives, refused}
+use Rattle.calls.specs.Area.{Area}
+use Rattle.calls.specs.All.{All, all-none, all-more}
+use Rattle.calls.specs.Lists as lists
+use Rattle.calls.proofs.AllLaws.{all-left, all-last, all-in, in-all}
+use Rattle.calls.proofs.ListLaws.{either-swap, gathered-snoc, ever-snoc, list-reached}
 use Rattle.reader.specs.declared.Reader.{Reader}
 use Rattle.reader.specs.Asked.{keptAt, asked}
 use Rattle.reader.specs.Answers.{done}
@@ -38,9 +44,9 @@ use Rattle.reader.specs.Machine.{place, bandAt, lastOfSet, nextAt, beyon
 use Rattle.reader.specs.State.{drawDue, feeds, settles}
 use Rattle.reader.specs.Questions.{countsFit, setUpQuestion, feedQuestion, drawQuestion}
 use Rattle.reader.specs.Calls.{fresh, feedReply, drawReply, drawArea}
-use Rattle.reader.specs.Demand3.{Area, Call, want, feed, draw, Reply, gives, refused, Given, heights, nothing, Event, wanted, fed, drew, said, given}
-use Rattle.reader.specs.Demand3.{World, event, events, final, freshWorld, leftBy, left, ends, endedBy, FedRow, fedBy, fedRows, drawnBy, drawnRows, All}
-use Rattle.reader.specs.Demand3.{none, more, HasRow, FirstRows, IsWordRow, SetsFit, goesOnSet, workedAbove, wantSays, feedTurned, drawSays}
+use Rattle.reader.specs.Demand3.{Call, want, feed, draw, Given, heights, nothing, Event, wanted, fed, drew, said, given}
+use Rattle.reader.specs.Demand3.{World, event, events, final, freshWorld, leftBy, left, ends, endedBy, FedRow, fedBy, fedRows, drawnBy, drawnRows}
+use Rattle.reader.specs.Demand3.{HasRow, FirstRows, IsWordRow, SetsFit, goesOnSet, workedAbove, wantSays, feedTurned, drawSays}
 use Rattle.reader.specs.Demand3.{OneOf, this, that, written, Draws, Demand3, OfCalls}
 use Rattle.reader.specs.Demand3 as demand
 use Rattle.reader.proofs.StepsLeft.{stepsLeft, left-first}
@@ -50,27 +56,27 @@ use Rattle.reader.proofs.Outcomes.{outcome-passed, settles-outcome, fee
 use Rattle.reader.proofs.Holds.{Fits, Held, first-holds}
 use Rattle.reader.proofs.CallViews.{Limits, limits, within-both, here, View, at-end, at-height, at-row, view, counts, want-says, FeedView, feed-away}
 use Rattle.reader.proofs.CallViews.{feed-onward, feed-view, DrawView, draw-away, draw-idle, draw-onward, draw-view}
-use Rattle.reader.proofs.Reached.{all-left, all-last, namesOf, Good, HasWords, Agrees, Kept, Reached, reached, world, call-reached}
-use Rattle.reader.proofs.Rebuilt.{lookup, lookup-words, found, all-in, in-all, rebuilt-words, back, back-has}
+use Rattle.reader.proofs.Reached.{namesOf, Good, HasWords, Agrees, Kept, Reached, reached, world, call-reached}
+use Rattle.reader.proofs.Rebuilt.{lookup, lookup-words, found, rebuilt-words, back, back-has}
 
--- ---- the list of calls
-endedFrom : Bool → List Event → Bool
-endedFrom e [] = e
-endedFrom e (ev ∷ es) = endedFrom (pick (ends ev) true e) es
+-- ---- the steps left and the rows fed, one list of events after another
+pub left-append : (t : List Step) (es fs : List Event) → left t (es ++ fs) ≡ left (left t es) fs
+unfolding left
+left-append t [] fs = refl
+left-append t (e ∷ es) fs = left-append (leftBy t e) es fs
 
-ended-from : (e : Bool) (es : List Event) → endedFrom e es ≡ pick e true (endedBy es)
-unfolding endedFrom endedBy
-ended-from e [] = go e
-  where
-    go : (e : Bool) → e ≡ pick e true false
-    go true = refl
-    go false = refl
-ended-from e (ev ∷ es) = ended-from (pick (ends ev) true e) es ∙ go (ends ev) e
-  where
-    go : (a e : Bool) → pick (pick a true e) true (endedBy es) ≡ pick e true (pick a true (endedBy es))
-    go true true = refl
-    go true false = refl
-    go false e = refl
+pub fed-append : (t : List Step) (es fs : List Event) → fedRows t (es ++ fs) ≡ fedRows t es ++ fedRows (left t es) fs
+unfolding fedRows left
+fed-append t [] fs = refl
+fed-append t (e ∷ es) fs = ap (λ r. fedBy t e ++ r) (fed-append (leftBy t e) es fs) ∙ sym (append-assoc (fedBy t e) (fedRows (leftBy t e) es) _)
+
+left-snoc : (t : List Step) (es : List Event) (e : Event) → left t (es ++ (e ∷ [])) ≡ leftBy (left t es) e
+unfolding left
+left-snoc t es e = left-append t es (e ∷ [])
+
+fed-snoc : (t : List Step) (es : List Event) (e : Event) → fedRows t (es ++ (e ∷ [])) ≡ fedRows t es ++ fedBy (left t es) e
+unfolding fedRows
+fed-snoc t es e = fed-append t es (e ∷ []) ∙ ap (λ r. fedRows t es ++ r) (append-nil (fedBy (left t es) e))
 
 -- Done is said with no step left, and not after 14
 pub done-only : (W : ℕ) (u : Bool) (v : List Step) → wantSays W u v ≡ done → (u ≡ false) × (v ≡ [])
@@ -91,17 +97,18 @@ no-levels W H n = go (within 1 maxWidth W) (within 1 maxHeight H)
     go false t z = omega arith
 
 module _ (W H l n : ℕ) (lim : Limits W H l n) where
-  calls-reached : (cs : List Call) (w : World) (e : Bool) (t : List Step) (fs : List FedRow) (ds : List (ℕ → ℤ)) → Reached W H l n lim w e t fs ds →
-      Reached W H l n lim (final cs w) (endedFrom e (events cs w)) (left t (events cs w)) (fs ++ fedRows t (events cs w)) (ds ++ drawnRows (events cs w))
-  unfolding final events endedFrom left fedRows drawnRows
-  calls-reached [] w e t fs ds r = rw (append-nil fs, append-nil ds) r
-  calls-reached (c ∷ cs) w e t fs ds r =
-      rw (
-        ← append-assoc fs (fedBy t (event c w)) (fedRows (leftBy t (event c w)) (events cs (demand.next c w))),
-        ← append-assoc ds (drawnBy (event c w)) (drawnRows (events cs (demand.next c w))),
-      )
-      (calls-reached cs (demand.next c w) (pick (ends (event c w)) true e) (leftBy t (event c w)) (fs ++ fedBy t (event c w)) (ds ++ drawnBy (event c w))
-      (call-reached W H l n lim c w e t fs ds r))
+  abbrev T₀ : List Step
+  T₀ = steps W H (suc l)
+
+  -- what is reached after the events es
+  abbrev Then : List Event → World → Type 0
+  Then es w = Reached W H l n lim w (endedBy es) (left T₀ es) (fedRows T₀ es) (drawnRows es)
+
+  step-reached : (c : Call) (es : List Event) (w : World) → Then es w → Then (es ++ (event c w ∷ [])) (demand.next c w)
+  step-reached c es w r =
+      let e = event c w in
+      rw (ever-snoc ends es e, either-swap (endedBy es) (ends e), left-snoc T₀ es e, fed-snoc T₀ es e, gathered-snoc drawnBy es e)
+      (call-reached W H l n lim c w (endedBy es) (left T₀ es) (fedRows T₀ es) (drawnRows es) r)
 
   tall : 0 < H
   tall = within-both 1 maxHeight H (lim .high) .0
@@ -118,7 +125,7 @@ module _ (W H l n : ℕ) (lim : Limits W H l n) where
     band-le = omega arith;
     left = left-first W H l tall;
     drawn = refl;
-    good = none;
+    good = all-none;
     names = λ _. refl;
     grids = λ g words _. record {
       fit = λ r c p q. absurd (omega arith);
@@ -128,13 +135,9 @@ module _ (W H l n : ℕ) (lim : Limits W H l n) where
     };
   })
 
-  then-reached : (x : ℕ → ℤ) (cs : List Call) → Reached W H l n lim (final cs (freshWorld W H (suc l) n x)) (endedBy (events cs (freshWorld W H (suc l) n x)))
-      (left (steps W H (suc l)) (events cs (freshWorld W H (suc l) n x))) (fedRows (steps W H (suc l)) (events cs (freshWorld W H (suc l) n x)))
-      (drawnRows (events cs (freshWorld W H (suc l) n x)))
-  then-reached x cs = subst (λ e. Reached W H l n lim (final cs (freshWorld W H (suc l) n x)) e
-      (left (steps W H (suc l)) (events cs (freshWorld W H (suc l) n x))) (fedRows (steps W H (suc l)) (events cs (freshWorld W H (suc l) n x)))
-      (drawnRows (events cs (freshWorld W H (suc l) n x)))) (ended-from false (events cs (freshWorld W H (suc l) n x)))
-      (calls-reached cs _ false (steps W H (suc l)) [] [] (fresh-reached x))
+  then-reached : (x : ℕ → ℤ) (cs : List Call) → (let w = freshWorld W H (suc l) n x in Then (events cs w) (final cs w))
+  unfolding lists.ever lists.gathered left fedRows
+  then-reached x cs = list-reached event demand.next Then step-reached cs [] (freshWorld W H (suc l) n x) (fresh-reached x)
 
   -- ---- what a row fed says of a map, over words and over whole numbers
   asked-row : (t : Bool) (w h r : ℕ) (b : Band) → asked t w h r b ≡ true → (keptAt t b ≡ true) × (r < count (down b) h)
@@ -161,12 +164,12 @@ module _ (W H l n : ℕ) (lim : Limits W H l n) where
       (λ i p. map-band W H g m (good .k) (omega (arith, good .inside, few)) (f .row .band) (f .row .row) i (asked-row _ _ _ _ _ (good .asks) .1) p)
 
   words-of : (g : Grid) → IsMap W H g → (fs : List FedRow) → All (Good W H l) fs → All (HasRow W H g) fs → All (HasWords W H l g) fs
-  words-of g m [] none none = none
-  words-of g m (f ∷ fs) (more good gs) (more h hs) = more (λ i p. h .values i p ∙ sym (exact g m f good i p)) (words-of g m fs gs hs)
+  words-of g m [] all-none all-none = all-none
+  words-of g m (f ∷ fs) (all-more good gs) (all-more h hs) = all-more (λ i p. h .values i p ∙ sym (exact g m f good i p)) (words-of g m fs gs hs)
 
   wholes-of : (g : Grid) → IsMap W H g → (fs : List FedRow) → All (Good W H l) fs → All (HasWords W H l g) fs → All (HasRow W H g) fs
-  wholes-of g m [] none none = none
-  wholes-of g m (f ∷ fs) (more good gs) (more h hs) = more (record { size = good .size; values = λ i p. h i p ∙ exact g m f good i p }) (wholes-of g m fs gs hs)
+  wholes-of g m [] all-none all-none = all-none
+  wholes-of g m (f ∷ fs) (all-more good gs) (all-more h hs) = all-more (record { size = good .size; values = λ i p. h i p ∙ exact g m f good i p }) (wholes-of g m fs gs hs)
 
   -- every value of a map and of its low-low parts fits
   map-fitting : (g : Grid) (m : IsMap W H g) → Fits W H l g (map-fits W H g m)
@@ -508,8 +511,7 @@ module _ (W H l n : ℕ) (lim : Limits W H l n) where
         want-is ∙ ap₂ (λ u v. wanted (gives (wantSays W u v))) live over
 
   -- ---- the claim, for a world that is reached
-  claim : (w : World) (es : List Event) → Reached W H l n lim w (endedBy es) (left (steps W H (suc l)) es) (fedRows (steps W H (suc l)) es) (drawnRows es) →
-      (countsFit (w .reader) ≡ true) × Demand3 W H (suc l) es (λ c. event c w)
+  claim : (w : World) (es : List Event) → Then es w → (countsFit (w .reader) ≡ true) × Demand3 W H (suc l) es (λ c. event c w)
   claim _ es (reached d lev b e x t fs ds kept) = (
     counts W H l n lim d lev b (kept .drawn-le) (kept .level-le) (kept .band-le) e,
     record {

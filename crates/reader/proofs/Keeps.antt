@@ -15,6 +15,7 @@ use Rattle.wavelet.specs.Bands.{Grid, Band, code}
 use Rattle.wavelet.specs.Levels.{levelBand}
 use Rattle.wavelet.specs.View.{bandColumns}
 use Rattle.wavelet.specs.Questions.{ask, within}
+use Rattle.calls.specs.Area.{Area}
 use Rattle.reader.specs.declared.Reader.{Reader}
 use Rattle.reader.specs.Answers.{Reply, gives, refused, impossible, Handed, aRow, nothing}
 use Rattle.reader.specs.Sets.{rowAt}
@@ -25,7 +26,6 @@ use Rattle.reader.specs.Questions.{countsFit, storeFits, setUpQuestion, 
 use Rattle.lifting.specs.Halves.{fronted}
 use Rattle.reader.specs.Calls.{fresh, setUpReply, setUpStore, feedReply, feedStore, storeAfter, drawReply, drawStore, drawArea, heightRow}
 use Rattle.reader.specs.Holds.{Holds, Words, AllFit, IsWanted, SetUpHolds, FeedKeeps, DrawKeeps}
-use Rattle.reader.specs.Demand3.{Area}
 use Rattle.reader.proofs.OpenedSets.{rowAt-first}
 use Rattle.reader.proofs.StepsLeft.{named-code, stepsLeft}
 use Rattle.reader.proofs.SetMade.{Outcome}

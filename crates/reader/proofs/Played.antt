@@ -23,57 +23,25 @@ use Rattle.wavelet.specs.Maps.{IsMap}
 use Rattle.wavelet.specs.Order.{RowName, rowName, sameName, times}
 use Rattle.wavelet.specs.Steps.{Step, steps, bandRowsOf}
 use Rattle.wavelet.specs.Steps as step
+use Rattle.calls.specs.Reply.{Reply, gives, refused}
+use Rattle.calls.specs.Area.{Area}
+use Rattle.calls.specs.All.{All, all-none, all-more}
+use Rattle.calls.specs.Lists as lists
+use Rattle.calls.proofs.AllLaws.{all-append, In, first, later, in-left, in-right, all-in, in-all}
+use Rattle.calls.proofs.ListLaws.{ever-append, final-append, events-append, events-length}
 use Rattle.reader.specs.Answers.{row, drawNow, done, ended}
 use Rattle.reader.specs.Questions.{runFits, setUpQuestion}
-use Rattle.reader.specs.Demand3.{Area, Call, want, feed, draw, Reply, gives, refused, Given, heights, Event, wanted, fed, drew, World, event, events}
-use Rattle.reader.specs.Demand3.{final, freshWorld, goesOn, rest, leftBy, left, ends, endedBy, FedRow, fedBy, fedRows, All, none, more, HasRow}
+use Rattle.reader.specs.Demand3.{Call, want, feed, draw, Given, heights, Event, wanted, fed, drew, World, event, events}
+use Rattle.reader.specs.Demand3.{final, freshWorld, goesOn, rest, leftBy, left, ends, endedBy, FedRow, fedBy, fedRows, HasRow}
 use Rattle.reader.specs.Demand3.{IsRow, HasFed, wantSays, feedTurned, drawSays, OneOf, this, that, Draws, Demand3}
 use Rattle.reader.specs.Demand3 as demand
 use Rattle.reader.specs.Played.{asWanted, answering, played, Sized, HasAll, Back, Stopped, Refusal, seven, fed-fourteen, drawn-fourteen, after, Played}
 use Rattle.reader.proofs.StepsLeft.{named-code}
-use Rattle.reader.proofs.Reached.{namesOf, names-append, all-append}
-use Rattle.reader.proofs.Rebuilt.{same-name, same-self, In, first, later, all-in, in-all}
-use Rattle.reader.proofs.Demand3.{done-only, demand-3}
-
--- ---- one list of calls after another
-events-append : (cs ds : List Call) (w : World) → events (cs ++ ds) w ≡ events cs w ++ events ds (final cs w)
-unfolding events final
-events-append [] ds w = refl
-events-append (c ∷ cs) ds w = ap (λ r. event c w ∷ r) (events-append cs ds (demand.next c w))
-
-final-append : (cs ds : List Call) (w : World) → final (cs ++ ds) w ≡ final ds (final cs w)
-unfolding final
-final-append [] ds w = refl
-final-append (c ∷ cs) ds w = final-append cs ds (demand.next c w)
-
-left-append : (t : List Step) (es fs : List Event) → left t (es ++ fs) ≡ left (left t es) fs
-unfolding left
-left-append t [] fs = refl
-left-append t (e ∷ es) fs = left-append (leftBy t e) es fs
-
-fed-append : (t : List Step) (es fs : List Event) → fedRows t (es ++ fs) ≡ fedRows t es ++ fedRows (left t es) fs
-unfolding fedRows left
-fed-append t [] fs = refl
-fed-append t (e ∷ es) fs = ap (λ r. fedBy t e ++ r) (fed-append (leftBy t e) es fs) ∙ sym (append-assoc (fedBy t e) (fedRows (leftBy t e) es) _)
-
-ended-append : (es fs : List Event) → endedBy (es ++ fs) ≡ pick (endedBy es) true (endedBy fs)
-unfolding endedBy
-ended-append [] fs = refl
-ended-append (e ∷ es) fs = ap (λ u. pick (ends e) true u) (ended-append es fs) ∙ go (ends e) (endedBy es)
-  where
-    go : (a b : Bool) → pick a true (pick b true (endedBy fs)) ≡ pick (pick a true b) true (endedBy fs)
-    go true b = refl
-    go false b = refl
+use Rattle.reader.proofs.Reached.{namesOf, names-append}
+use Rattle.reader.proofs.Rebuilt.{same-name, same-self}
+use Rattle.reader.proofs.Demand3.{left-append, fed-append, done-only, demand-3}
 
 -- ---- names
-in-left : {A : Type 0} (x : A) (s t : List A) → In x s → In x (s ++ t)
-in-left x (y ∷ s) t first = first
-in-left x (y ∷ s) t (later i) = later (in-left x s t i)
-
-in-right : {A : Type 0} (y : A) (s t : List A) → In y t → In y (s ++ t)
-in-right y [] t i = i
-in-right y (z ∷ s) t i = later (in-right y s t i)
-
 in-names : (f : FedRow) (fs : List FedRow) → In f fs → In (f .row) (namesOf fs)
 unfolding namesOf
 in-names f (g ∷ fs) first = first
@@ -129,11 +97,6 @@ played-length rows outs (suc m) w =
     one (wanted (refused q)) = unfold answering in omega arith
     one (fed a v) = unfold answering in omega arith
     one (drew a v b) = unfold answering in omega arith
-
-events-length : (cs : List Call) (w : World) → length (events cs w) ≡ length cs
-unfolding events
-events-length [] w = refl
-events-length (c ∷ cs) w = ap suc (events-length cs (demand.next c w))
 
 refusal-after : (es fs : List Event) → Refusal fs → Refusal (es ++ fs)
 refusal-after [] fs r = r
@@ -222,15 +185,15 @@ module _ (W H L n : ℕ) (ok : setUpQuestion W H L n ≡ 0) (rows : RowName → 
   -- a call that is refused leaves too few turns
   too-few : (m : ℕ) (cs : List Call) (c : Call) (ps : List Call) → length (left T₀ (events cs w₀)) ≡ suc m → goesOn (event c (final cs w₀)) ≡ false →
       length ps ≤ m → event want (final (cs ++ (c ∷ ps)) w₀) ≡ wanted (gives done) → ⊥
-  unfolding left leftBy events final
+  unfolding left leftBy lists.events lists.final
   too-few m cs c ps len off few z =
       let e : left T₀ (events (cs ++ (c ∷ ps)) w₀) ≡ left (left T₀ (events cs w₀)) (events (c ∷ ps) (final cs w₀)) =
-      ap (left T₀) (events-append cs (c ∷ ps) w₀) ∙ left-append T₀ (events cs w₀) _ in
+      ap (left T₀) (events-append event demand.next cs (c ∷ ps) w₀) ∙ left-append T₀ (events cs w₀) _ in
       let f : left (pick (goesOn (event c (final cs w₀))) (rest (left T₀ (events cs w₀))) (left T₀ (events cs w₀))) (events ps (demand.next c (final cs w₀)))
       ≡ [] = sym e ∙ said-done (cs ++ (c ∷ ps)) z in
       let h : left (left T₀ (events cs w₀)) (events ps (demand.next c (final cs w₀))) ≡ [] = rw off at f in
       let a = left-length (left T₀ (events cs w₀)) (events ps (demand.next c (final cs w₀))) in
-      omega (arith, ap length h, events-length ps (demand.next c (final cs w₀)))
+      omega (arith, ap length h, events-length event demand.next ps (demand.next c (final cs w₀)))
 
   -- a row of a map is not refused by 7
   run-fits : (y : RowName) → bandRowExists W H L (y .level) (y .band) (y .row) ≡ true → (g : Grid) → IsMap W H g → HasAll W H L g rows →
@@ -248,12 +211,12 @@ module _ (W H L n : ℕ) (ok : setUpQuestion W H L n ≡ 0) (rows : RowName → 
     w = final cs w₀
 
     events-on : (c : Call) (v : Event) → event c w ≡ v → events (cs ++ (c ∷ [])) w₀ ≡ es ++ (v ∷ [])
-    unfolding events
-    events-on c v e = events-append cs (c ∷ []) w₀ ∙ ap (λ u. es ++ (u ∷ [])) e
+    unfolding lists.events
+    events-on c v e = events-append event demand.next cs (c ∷ []) w₀ ∙ ap (λ u. es ++ (u ∷ [])) e
 
     refused-in : (c : Call) (v : Event) (ps : List Call) → event c w ≡ v → ((vs : List Event) → Refusal (v ∷ vs)) → Refusal (events (cs ++ (c ∷ ps)) w₀)
-    unfolding events
-    refused-in c v ps e r = subst Refusal (sym (events-append cs (c ∷ ps) w₀))
+    unfolding lists.events
+    refused-in c v ps e r = subst Refusal (sym (events-append event demand.next cs (c ∷ ps) w₀))
         (refusal-after es _ (subst (λ u. Refusal (u ∷ events ps (demand.next c w))) (sym e) (r _)))
 
     -- what a fed row adds
@@ -264,8 +227,8 @@ module _ (W H L n : ℕ) (ok : setUpQuestion W H L n ≡ 0) (rows : RowName → 
       fed-goes : Fair (es ++ (fed (rows y) (gives tt) ∷ [])) × (left T₀ (es ++ (fed (rows y) (gives tt) ∷ [])) ≡ t)
       fed-goes = (
         record {
-          live = ended-append es _ ∙ rw (fair .live) (unfold endedBy ends in refl);
-          from-rows = subst (All _) (sym rows-are) (all-append (fedRows T₀ es) (f ∷ []) (fair .from-rows) (more refl none));
+          live = ever-append ends es _ ∙ rw (fair .live) (unfold lists.ever ends in refl);
+          from-rows = subst (All _) (sym rows-are) (all-append (fair .from-rows) (all-more refl all-none));
           names = ap₂ (λ u v. namesOf u ++ bandRowsOf v) rows-are left-is ∙ ap (λ u. u ++ bandRowsOf t) (names-append (fedRows T₀ es) (f ∷ []))
               ∙ append-assoc (namesOf (fedRows T₀ es)) (namesOf (f ∷ [])) (bandRowsOf t) ∙ names-more ∙ fair .names;
         },
@@ -284,9 +247,9 @@ module _ (W H L n : ℕ) (ok : setUpQuestion W H L n ≡ 0) (rows : RowName → 
       -- where 14 comes no map has all rows
       fed-none : event (feed (rows y)) w ≡ fed (rows y) (refused 14) → (g : Grid) → IsMap W H g → HasAll W H L g rows → ⊥
       fed-none e g m h =
-          none-fourteen cs (feed (rows y)) (ap endedBy on ∙ ended-append es _ ∙ rw (fair .live) (unfold endedBy ends in refl)) g m
+          none-fourteen cs (feed (rows y)) (ap endedBy on ∙ ever-append ends es _ ∙ rw (fair .live) (unfold lists.ever ends in refl)) g m
           (subst (All (HasRow W H g)) (sym (ap (fedRows T₀) on ∙ rows-are))
-          (all-append (fedRows T₀ es) (f ∷ []) (has-fed es fair g m h) (more (h .are y (next-exists es fair y t head)) none)))
+          (all-append (has-fed es fair g m h) (all-more (h .are y (next-exists es fair y t head)) all-none)))
         where
           on : events (cs ++ (feed (rows y) ∷ [])) w₀ ≡ es ++ (fed (rows y) (refused 14) ∷ [])
           on = events-on (feed (rows y)) _ e
@@ -302,7 +265,7 @@ module _ (W H L n : ℕ) (ok : setUpQuestion W H L n ≡ 0) (rows : RowName → 
       drawn-goes : Fair (es ++ (drew a (gives (heights W)) b ∷ [])) × (left T₀ (es ++ (drew a (gives (heights W)) b ∷ [])) ≡ t)
       drawn-goes = (
         record {
-          live = ended-append es _ ∙ rw (fair .live) (unfold endedBy ends in refl);
+          live = ever-append ends es _ ∙ rw (fair .live) (unfold lists.ever ends in refl);
           from-rows = subst (All _) (sym (drawn-same _)) (fair .from-rows);
           names = ap₂ (λ u v. namesOf u ++ bandRowsOf v) (drawn-same _) left-is ∙ names-same ∙ fair .names;
         },
@@ -317,7 +280,7 @@ module _ (W H L n : ℕ) (ok : setUpQuestion W H L n ≡ 0) (rows : RowName → 
 
       drawn-none : event (draw a) w ≡ drew a (refused 14) b → (g : Grid) → IsMap W H g → HasAll W H L g rows → ⊥
       drawn-none e g m h =
-          none-fourteen cs (draw a) (ap endedBy on ∙ ended-append es _ ∙ rw (fair .live) (unfold endedBy ends in refl)) g m
+          none-fourteen cs (draw a) (ap endedBy on ∙ ever-append ends es _ ∙ rw (fair .live) (unfold lists.ever ends in refl)) g m
           (subst (All (HasRow W H g)) (sym (ap (fedRows T₀) on ∙ drawn-same _)) (has-fed es fair g m h))
         where
           on : events (cs ++ (draw a ∷ [])) w₀ ≡ es ++ (drew a (refused 14) b ∷ [])
@@ -336,16 +299,16 @@ module _ (W H L n : ℕ) (ok : setUpQuestion W H L n ≡ 0) (rows : RowName → 
 
     -- the turn as a call more
     played-on : (m : ℕ) (c : Call) → answering rows (outs m) (event want w) ≡ c ∷ [] → played rows outs (suc m) w ≡ c ∷ played rows outs m (demand.next c w)
-    unfolding played final
+    unfolding played lists.final
     played-on m c e = ap (λ u. u ++ played rows outs m (final u w)) e
 
     later-calls : (m : ℕ) (c : Call) → answering rows (outs m) (event want w) ≡ c ∷ [] →
         cs ++ played rows outs (suc m) w ≡ (cs ++ (c ∷ [])) ++ played rows outs m (final (cs ++ (c ∷ [])) w₀)
-    unfolding final
+    unfolding lists.final
     later-calls m c e =
         ap (λ u. cs ++ u) (played-on m c e)
         ∙ sym (append-assoc cs (c ∷ []) (played rows outs m (demand.next c w)))
-        ∙ ap (λ v. (cs ++ (c ∷ [])) ++ played rows outs m v) (sym (final-append cs (c ∷ []) w₀))
+        ∙ ap (λ v. (cs ++ (c ∷ [])) ++ played rows outs m v) (sym (final-append demand.next cs (c ∷ []) w₀))
 
     -- a call that goes on, and one that is refused
     goes : (m : ℕ) (c : Call) (v : Event) (t : List Step) → answering rows (outs m) (event want w) ≡ c ∷ [] → event c w ≡ v → Fair (es ++ (v ∷ [])) →
@@ -427,14 +390,14 @@ module _ (W H L n : ℕ) (ok : setUpQuestion W H L n ≡ 0) (rows : RowName → 
   turns (suc m) cs len fair = turn m cs len fair (turns m)
 
   fair-first : Fair []
-  unfolding endedBy fedRows left namesOf
-  fair-first = record { live = refl; from-rows = none; names = refl }
+  unfolding lists.ever fedRows left namesOf
+  fair-first = record { live = refl; from-rows = all-none; names = refl }
 
   abbrev all : List Call
   all = played rows outs (length T₀) w₀
 
   verdict : Verdict all
-  unfolding events final left
+  unfolding lists.events lists.final left
   verdict = turns (length T₀) [] refl fair-first
 
   -- what the fair end comes to

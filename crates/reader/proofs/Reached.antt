@@ -28,6 +28,9 @@ use Rattle.wavelet.specs.Steps.{Step, steps, bandRowsOf}
 use Rattle.wavelet.specs.Steps as step
 use Rattle.wavelet.proofs.LevelTheory.{OnCells}
 use Rattle.numbers.proofs.TestLaws.{every-each}
+use Rattle.calls.specs.Area.{Area}
+use Rattle.calls.specs.All.{All, all-none, all-more}
+use Rattle.calls.proofs.AllLaws.{all-append, all-left, all-last}
 use Rattle.reader.specs.declared.Reader.{Reader}
 use Rattle.reader.specs.Sets.{opens, rowAt}
 use Rattle.reader.specs.Asked.{asked}
@@ -36,8 +39,8 @@ use Rattle.reader.specs.Machine.{Place, place, lastOfSet, nextAt, placeF
 use Rattle.reader.specs.State.{next, settles, feeds, drawDue, fedReader, drawnReader, endedReader}
 use Rattle.reader.specs.Questions.{runFits, feedQuestion, drawQuestion}
 use Rattle.reader.specs.Calls.{feedReply, feedStore, storeAfter, drawReply, drawStore, drawArea, heightRow}
-use Rattle.reader.specs.Demand3.{Area, Call, want, feed, draw, Event, fed, drew, World, event, goesOn, leftBy, ends, FedRow, fedAs, fedBy, drawnBy, said}
-use Rattle.reader.specs.Demand3.{given, leaves, drawnTo, All, none, more}
+use Rattle.reader.specs.Demand3.{Call, want, feed, draw, Event, fed, drew, World, event, goesOn, leftBy, ends, FedRow, fedAs, fedBy, drawnBy, said}
+use Rattle.reader.specs.Demand3.{given, leaves, drawnTo}
 use Rattle.reader.specs.Demand3 as demand
 use Rattle.reader.proofs.StepsLeft.{code-lt, stepsLeft}
 use Rattle.reader.proofs.SetMade.{Outcome}
@@ -45,19 +48,6 @@ use Rattle.reader.proofs.Holds.{Fits, Held, enter-holds, height-fit}
 use Rattle.reader.proofs.Outcomes.{outcome-failed, outcome-passed, settles-outcome, feeds-outcome, row-out}
 use Rattle.reader.proofs.CallViews.{Limits, here, View, view, FeedView, feed-away, feed-onward, feed-view, DrawView, draw-away, draw-idle, draw-onward}
 use Rattle.reader.proofs.CallViews.{draw-view}
-
-module _ {A : Type 0} {P : A → Type 0} where
-  pub all-append : (s t : List A) → All P s → All P t → All P (s ++ t)
-  all-append [] t none b = b
-  all-append (x ∷ s) t (more p a) b = more p (all-append s t a b)
-
-  pub all-left : (s t : List A) → All P (s ++ t) → All P s
-  all-left [] t a = none
-  all-left (x ∷ s) t (more p a) = more p (all-left s t a)
-
-  pub all-last : (s : List A) (x : A) → All P (s ++ (x ∷ [])) → P x
-  all-last [] x (more p a) = p
-  all-last (y ∷ s) x (more p a) = all-last s x a
 
 -- the names of rows
 unfoldable pub namesOf : List FedRow → List RowName
@@ -172,7 +162,7 @@ module _ (W H l : ℕ) where
           }
 
           good-all : All Good (fs ++ (f ∷ []))
-          good-all = all-append fs (f ∷ []) (kept .good) (more good-f none)
+          good-all = all-append (kept .good) (all-more good-f all-none)
 
           -- what the feed comes to, for a grid that has the row too
           outcome-is : (g : Grid) (words : OnCells (SFits w32) W H g) → All (HasWords g) (fs ++ (f ∷ [])) →

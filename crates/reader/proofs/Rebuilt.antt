@@ -21,8 +21,10 @@ use Rattle.wavelet.specs.View.{bandColumns}
 use Rattle.wavelet.specs.Order.{RowName, rowName, sameName, times}
 use Rattle.wavelet.proofs.LevelTheory.{OnCells, Same, SameBands, over, over-all, level-back-fits, words-forward-back, subband-same, same-low}
 use Rattle.wavelet.proofs.Bridge.{range-small}
+use Rattle.calls.specs.All.{All, all-none, all-more}
+use Rattle.calls.proofs.AllLaws.{In, first, later}
 use Rattle.reader.specs.Asked.{named}
-use Rattle.reader.specs.Demand3.{FedRow, All, none, more}
+use Rattle.reader.specs.Demand3.{FedRow}
 use Rattle.reader.proofs.StepsLeft.{named-code}
 use Rattle.reader.proofs.Reached.{namesOf, Good}
 
@@ -83,19 +85,6 @@ unfoldable pub lookup : List FedRow → RowName → ℕ → ℤ
 lookup [] x = λ _. pos 0
 lookup (f ∷ fs) x = pick (sameName x (f .row)) (f .run .numbers) (lookup fs x)
 
-pub data In {A : Type 0} (x : A) : List A → Type 0 where
-  first : {xs : List A} → In x (x ∷ xs)
-  later : {y : A} {xs : List A} → In x xs → In x (y ∷ xs)
-
-module _ {A : Type 0} {P : A → Type 0} where
-  pub all-in : (xs : List A) → ((x : A) → In x xs → P x) → All P xs
-  all-in [] f = none
-  all-in (x ∷ xs) f = more (f x first) (all-in xs (λ y i. f y (later i)))
-
-  pub in-all : (x : A) (xs : List A) → In x xs → All P xs → P x
-  in-all x (y ∷ xs) first (more p a) = p
-  in-all x (y ∷ xs) (later i) (more p a) = in-all x xs i a
-
 occurs : (f : FedRow) (fs : List FedRow) → In f fs → 1 ≤ times (f .row) (namesOf fs)
 unfolding namesOf times
 occurs f (g ∷ fs) first = rw (same-self (f .row)) (omega arith)
@@ -116,8 +105,8 @@ zero-fits = abs-fits (pos 0) 0 (omega arith) (omega arith)
 
 pub lookup-words : (W H l : ℕ) → suc l ≤ 5 → (fs : List FedRow) → All (Good W H l) fs → (x : RowName) (i : ℕ) → i < bandColumns W (x .level) (x .band) → SFits w32 (lookup fs x i)
 unfolding lookup
-lookup-words W H l few [] none x i p = zero-fits
-lookup-words W H l few (f ∷ fs) (more g gs) x i p = go (sameName x (f .row)) refl (lookup-words W H l few fs gs x i p)
+lookup-words W H l few [] all-none x i p = zero-fits
+lookup-words W H l few (f ∷ fs) (all-more g gs) x i p = go (sameName x (f .row)) refl (lookup-words W H l few fs gs x i p)
   where
     go : (t : Bool) → sameName x (f .row) ≡ t → SFits w32 (lookup fs x i) → SFits w32 (pick t (f .run .numbers) (lookup fs x) i)
     go true e ih =

@@ -22,6 +22,11 @@ use Rattle.wavelet.specs.Questions.{ask}
 use Rattle.wavelet.specs.Order.{RowName, inTurn, times}
 use Rattle.wavelet.specs.Steps.{Step, steps, bandRowsOf, heightRowsOf}
 use Rattle.wavelet.specs.Steps as step
+use Rattle.calls.specs.Reply.{Reply, gives, refused}
+use Rattle.calls.specs.Area.{Area}
+use Rattle.calls.specs.All.{All}
+use Rattle.calls.specs.Lists.{gathered, ever}
+use Rattle.calls.specs.Lists as lists
 use Rattle.reader.specs.declared.Reader.{Reader}
 use Rattle.reader.specs.Sets.{setOf, rowAt}
 use Rattle.reader.specs.Answers.{Want, row, drawNow, done, ended, Handed, aRow}
@@ -30,21 +35,11 @@ use Rattle.reader.specs.Questions.{runFits, countsFit, wantQuestion, fee
 use Rattle.reader.specs.Calls.{fresh, setUpStore, wantReply, feedReply, feedStore, drawReply, drawStore, drawArea}
 
 -- ---- calls, and what is seen of them
--- an area that is lent, a run or an output area: its length and its numbers
-pub record Area : Type 0 where
-  pub size : ℕ
-  pub numbers : ℕ → ℤ
-
 -- a call with its arguments
 pub data Call : Type 0 where
   want : Call
   feed : Area → Call
   draw : Area → Call
-
--- an answer less the state: what a call gives, or the number of the question that turned it away, 14 too
-pub data Reply (A : Type 0) : Type 0 where
-  gives : A → Reply A
-  refused : ℕ → Reply A
 
 -- what a draw gives: so many heights in the output area, or Nothing
 pub data Given : Type 0 where
@@ -57,6 +52,7 @@ pub data Event : Type 0 where
   fed : Area → Reply (Unit {0}) → Event
   drew : Area → Reply Given → Area → Event
 
+-- an answer, less the state: 14 is a number too
 abbrev pub said : {A B : Type 0} → (A → B) → answer.Reply A → Reply B
 said f (answer.gives v) = gives (f v)
 said f (answer.refused q) = refused q
@@ -113,13 +109,11 @@ next (draw a) w =
       store = drawStore (w .reader) (drawAsked w a) (w .store);
     }
 
-unfoldable pub events : List Call → World → List Event
-events [] w = []
-events (c ∷ cs) w = event c w ∷ events cs (next c w)
+abbrev pub events : List Call → World → List Event
+events = lists.events event next
 
-unfoldable pub final : List Call → World → World
-final [] w = w
-final (c ∷ cs) w = final cs (next c w)
+abbrev pub final : List Call → World → World
+final = lists.final next
 
 -- "Fresh means the state and line store of a set-up that passed": of W × H at L levels, on a store of n numbers in which x stood
 abbrev pub freshWorld : ℕ → ℕ → ℕ → ℕ → (ℕ → ℤ) → World
@@ -155,9 +149,8 @@ ends (fed a (refused q)) = eqb q 14
 ends (drew a (gives v) b) = false
 ends (drew a (refused q) b) = eqb q 14
 
-unfoldable pub endedBy : List Event → Bool
-endedBy [] = false
-endedBy (e ∷ es) = pick (ends e) true (endedBy es)
+abbrev pub endedBy : List Event → Bool
+endedBy = ever ends
 
 -- ---- "Fed: the runs that no question before 14 turned away, each as the row then named."
 pub record FedRow : Type 0 where
@@ -188,15 +181,10 @@ drawnBy (drew a (gives (heights n)) b) = b .numbers ∷ []
 drawnBy (drew a (gives nothing) b) = []
 drawnBy (drew a (refused q) b) = []
 
-unfoldable pub drawnRows : List Event → List (ℕ → ℤ)
-drawnRows [] = []
-drawnRows (e ∷ es) = drawnBy e ++ drawnRows es
+abbrev pub drawnRows : List Event → List (ℕ → ℤ)
+drawnRows = gathered drawnBy
 
 -- ---- "A map has them if it fits the set-up, in H too, and its plane at the set-up's levels has them as these rows."
-pub data All {A : Type 0} (P : A → Type 0) : List A → Type 0 where
-  none : All P []
-  more : {x : A} {l : List A} → P x → All P l → All P (x ∷ l)
-
 -- a run a is band row x of a map g: its length, and T.800's whole numbers
 pub record IsRow (W H : ℕ) (g : Grid) (x : RowName) (a : Area) : Type 0 where
   pub size : a .size ≡ bandColumns W (x .level) (x .band)

@@ -12,9 +12,11 @@ use Rattle.wavelet.specs.View.{bandColumns}
 use Rattle.wavelet.specs.ViewCall.{bandRowExists}
 use Rattle.wavelet.specs.Maps.{IsMap}
 use Rattle.wavelet.specs.Order.{RowName, rowName}
+use Rattle.calls.specs.Reply.{gives, refused}
+use Rattle.calls.specs.Area.{Area}
 use Rattle.reader.specs.Asked.{named}
 use Rattle.reader.specs.Answers.{Want, row, drawNow, done, ended}
-use Rattle.reader.specs.Demand3.{Area, Call, want, feed, draw, gives, refused, Event, wanted, fed, drew, World, event, final, drawnRows, IsRow, FirstRows}
+use Rattle.reader.specs.Demand3.{Call, want, feed, draw, Event, wanted, fed, drew, World, event, final, drawnRows, IsRow, FirstRows}
 
 module _ (rows : RowName → Area) where
   -- the call that an answer to `want` asks for, with the output area a

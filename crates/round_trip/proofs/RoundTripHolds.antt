@@ -24,9 +24,12 @@ use Rattle.wavelet.specs.Maps.{IsMap, HasPlane}
 use Rattle.wavelet.specs.Order.{RowName}
 use Rattle.wavelet.proofs.PlaneLayout.{Stands, place-is, row-in, column-in, cell-places}
 use Rattle.wavelet.proofs.PlanePlaces.{Found, found, found-place}
+use Rattle.calls.specs.Area.{Area}
+use Rattle.calls.specs.All.{All, all-more}
+use Rattle.calls.proofs.AllLaws.{In, first, later}
 use Rattle.writer.specs.declared.BandRow.{BandRow}
 use Rattle.writer.specs.History as writer
-use Rattle.writer.specs.Demand3.{All, all-more, HasValues, MapOf, answered}
+use Rattle.writer.specs.Demand3.{HasValues, MapOf, answered}
 use Rattle.writer.specs.Questions as writer-asks
 use Rattle.writer.specs.Demand3 as writes
 use Rattle.writer.proofs.Demand3 as writer-holds
@@ -36,7 +39,6 @@ use Rattle.reader.specs.Demand3 as reader
 use Rattle.reader.specs.Played.{Sized, HasAll}
 use Rattle.reader.proofs.CallViews.{within-both}
 use Rattle.reader.proofs.StepsLeft.{named-code}
-use Rattle.reader.proofs.Rebuilt.{In, first, later}
 use Rattle.reader.proofs.Played.{times-in, played-holds}
 use Rattle.round_trip.specs.RoundTrip.{isNamed, drawnAs, wrote, rowsWrote, Finished, Lent, HandsBack, planeRows, FromPlane}
 
@@ -65,7 +67,7 @@ in-split x _ xs first f g = f refl
 in-split x z xs (later i) f g = g i
 
 module _ (W H : ℕ) (g : Grid) where
-  abbrev Right : RowName → reader.Area → Type 0
+  abbrev Right : RowName → Area → Type 0
   Right = reader.IsRow W H g
 
   -- a drawn row of that name is that band row
@@ -141,7 +143,7 @@ module _ (W L n : ℕ) (x : ℕ → ℤ) (cs : List writer.Call) (done : Finishe
   height : H ≡ rowsWrote W L n x cs
   height = eq-of-mul-eq-mul-left W width H (rowsWrote W L n x cs) (sym (written .2 .all (done .finished)) ∙ whole-map)
 
-  abbrev rows : RowName → reader.Area
+  abbrev rows : RowName → Area
   rows = drawnAs (writer.drawn es)
 
   -- it has all the rows drawn
@@ -167,7 +169,7 @@ module _ (W L n : ℕ) (x : ℕ → ℤ) (cs : List writer.Call) (done : Finishe
       set-up-passes W (rowsWrote W L n x cs) L n′ (in-limits .0) (m .0, m .1) (in-limits .1) room
 
   -- ---- the theorem: a reader set up with that size, fed and drawn as it wants with the rows drawn, hands back every height in order and says Done
-  pub hands-back : (n′ : ℕ) (y : ℕ → ℤ) (outs : ℕ → reader.Area) → Lent W L n x cs n′ y outs → HandsBack W L n x cs n′ y outs
+  pub hands-back : (n′ : ℕ) (y : ℕ → ℤ) (outs : ℕ → Area) → Lent W L n x cs n′ y outs → HandsBack W L n x cs n′ y outs
   hands-back n′ y outs lent =
       let ok = passes n′ (lent .store) in
       let p = played-holds W (rowsWrote W L n x cs) L n′ ok rows outs (lent .areas) y .map-back g is-map has-all in
@@ -255,7 +257,7 @@ some-levels W H L n e = within-both 1 maxLevels L (go (within 1 maxWidth W) (wit
     go false t u r z = absurd (omega arith)
 
 -- ---- the theorem: of a map's plane the map and Done, of any other plane 7 or 14 and no Done
-pub from-plane : (W H L n : ℕ) (y plane : ℕ → ℤ) (outs : ℕ → reader.Area) → reader-asks.setUpQuestion W H L n ≡ 0 →
+pub from-plane : (W H L n : ℕ) (y plane : ℕ → ℤ) (outs : ℕ → Area) → reader-asks.setUpQuestion W H L n ≡ 0 →
     ((i : ℕ) → W ≤ outs i .size) → FromPlane W H L n y plane outs
 from-plane W H L n y plane outs ok room =
     let p = played-holds W H L n ok (planeRows W H plane) outs room y in

@@ -15,9 +15,12 @@ use Rattle.wavelet.specs.Maps.{HasPlane}
 use Rattle.wavelet.specs.Order.{RowName}
 use Rattle.wavelet.specs.Steps.{steps}
 use Rattle.wavelet.specs.Store.{storeLength}
+use Rattle.calls.specs.Reply.{gives}
+use Rattle.calls.specs.Area.{Area}
+use Rattle.calls.specs.All.{All}
 use Rattle.writer.specs.declared.BandRow.{BandRow}
 use Rattle.writer.specs.History as writer
-use Rattle.writer.specs.Demand3.{All, wholeRows, waitingOf}
+use Rattle.writer.specs.Demand3.{wholeRows, waitingOf}
 use Rattle.writer.specs.Questions as writer-asks
 use Rattle.reader.specs.Answers.{done}
 use Rattle.reader.specs.Demand3 as reader
@@ -28,7 +31,7 @@ use Rattle.reader.specs.Played.{played, Back, Stopped}
 unfoldable pub isNamed : RowName → BandRow → Bool
 isNamed x d = both (eqb (x .level) (d .level)) (both (eqb (code (x .band)) (d .band)) (eqb (x .row) (d .row)))
 
-unfoldable pub drawnAs : List writer.DrawnRow → RowName → reader.Area
+unfoldable pub drawnAs : List writer.DrawnRow → RowName → Area
 drawnAs [] x = record { size = 0; numbers = λ _. pos 0 }
 drawnAs (d ∷ ds) x = pick (isNamed x (d .row)) (record { size = d .row .length; numbers = d .values }) (drawnAs ds x)
 
@@ -49,7 +52,7 @@ module _ (W L n : ℕ) (x : ℕ → ℤ) (cs : List writer.Call) where
     pub sixteen : All (λ h. h ≤ maxSample) (writer.taken wrote)
 
   -- then a fresh reader of that size and as many levels, whose store has n′ numbers, as it wants, each row drawn into an area of its own
-  module _ (n′ : ℕ) (y : ℕ → ℤ) (outs : ℕ → reader.Area) where
+  module _ (n′ : ℕ) (y : ℕ → ℤ) (outs : ℕ → Area) where
     abbrev pub freshReader : reader.World
     freshReader = reader.freshWorld W rowsWrote L n′ y
 
@@ -71,14 +74,14 @@ module _ (W L n : ℕ) (x : ℕ → ℤ) (cs : List writer.Call) where
       pub all : length (writer.taken wrote) ≡ W * rowsWrote
       pub heights : (r c : ℕ) → r < rowsWrote → c < W →
           getD (reader.drawnRows read) r (λ _. pos 0) c ≡ pos (getD (writer.taken wrote) (r * W + c) 0)
-      pub done : reader.event reader.want (reader.final turns freshReader) ≡ reader.wanted (reader.gives done)
+      pub done : reader.event reader.want (reader.final turns freshReader) ≡ reader.wanted (gives done)
 
 -- ---- in that way from a plane: its band rows by their names
-unfoldable pub planeRows : ℕ → ℕ → (ℕ → ℤ) → RowName → reader.Area
+unfoldable pub planeRows : ℕ → ℕ → (ℕ → ℤ) → RowName → Area
 planeRows W H plane x =
     record { size = bandColumns W (x .level) (x .band); numbers = λ i. plane (bandStart W H (x .level) (x .band) (x .row) + i) }
 
-module _ (W H L n : ℕ) (y : ℕ → ℤ) (plane : ℕ → ℤ) (outs : ℕ → reader.Area) where
+module _ (W H L n : ℕ) (y : ℕ → ℤ) (plane : ℕ → ℤ) (outs : ℕ → Area) where
   abbrev pub planeTurns : List reader.Call
   planeTurns = played (planeRows W H plane) outs (length (steps W H L)) (reader.freshWorld W H L n y)
 

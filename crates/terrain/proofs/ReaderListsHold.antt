@@ -1,18 +1,20 @@
 -- A list of C calls on a state array shows what the list of Rattle's calls shows, told in C's numbers: so what is proved of the lists
 -- of a reader (demand 3) holds of them. Assumes nothing.
-use mathlib.Core.Path.{_≡_, refl, ap, ap₂, _∙_}
-use mathlib.Core.List.{List, [], _∷_}
+use mathlib.Core.Path.{_≡_, refl, ap}
+use mathlib.Core.List.{List}
 use Prim.Native.Nat.{ℕ}
 use lib.IntN.{ℤ}
+use Rattle.calls.specs.Area.{Area}
+use Rattle.calls.proofs.ListLaws.{told-events}
 use Rattle.reader.specs.declared.Reader.{Reader}
 use Rattle.reader.specs.Answers.{Reply, gives, refused, impossible, number, Want, Handed, aRow, nothing}
 use Rattle.reader.specs.Questions.{wantQuestion}
 use Rattle.reader.specs.Calls.{wantReply, feedReply, feedStore, drawReply, drawStore}
-use Rattle.reader.specs.Demand3.{Area, Call, World, event, next, events}
+use Rattle.reader.specs.Demand3.{Call, World, event, next, events}
 use Rattle.reader.specs.Demand3 as rattle
-use Rattle.terrain.specs.ReaderState.{isReader, readerOf, readerWords}
+use Rattle.terrain.specs.ReaderState.{readerWords}
 use Rattle.terrain.specs.ReaderCalls as c
-use Rattle.terrain.specs.ReaderLists.{CCall, Seen, wanted, fed, drew, Memories, seenOf, leaves, seenAll, told, toldAll, holding, calls}
+use Rattle.terrain.specs.ReaderLists.{CCall, wanted, fed, drew, Memories, seenOf, leaves, seenAll, told, toldAll, holding, calls}
 use Rattle.terrain.proofs.StateTheorems.{reader-back, reader-is}
 
 -- an answer told, and the state array that it leaves. No want answers 14 with an ended reader, but that need not be known here: the number is 14 too
@@ -75,9 +77,6 @@ module _ (w : World) where
       (ap (memories (drawStore (w .reader) (rattle.drawAsked w a) (w .store))) (drawn-left (w .reader) (draws a)))
 
 pub reader-lists : (ds : List CCall) (w : World) → seenAll ds (holding w) ≡ toldAll ds (events (calls ds) w)
-unfolding seenAll toldAll events
-reader-lists [] w = refl
-reader-lists (d ∷ ds) w =
-    ap₂ (λ (a : Seen) (l : List Seen). a ∷ l)
-    (seen-told w (d .call) (d .want) (d .drawn))
-    (ap (seenAll ds) (leaves-next w (d .call)) ∙ reader-lists ds (next (d .call) w))
+reader-lists =
+    told-events event next (λ d m. seenOf m (d .call) (d .want) (d .drawn)) (λ d m. leaves m (d .call)) (λ d. d .call) holding (λ d w. leaves-next w (d .call))
+    (λ d e. told (d .want) (d .drawn) e) (λ d w. seen-told w (d .call) (d .want) (d .drawn))

@@ -10,10 +10,11 @@ use lib.Seq.{drop-cons, drop-length}
 use borrow.Author.Tests.{eqb-true, leb-true}
 use Rattle.numbers.specs.Signal.{pick}
 use Rattle.numbers.proofs.Sweep as sweep
+use Rattle.calls.specs.Reply.{Reply, gives, refused}
 use Rattle.writer.specs.declared.Writer.{Writer}
 use Rattle.writer.specs.Level.{Memory}
 use Rattle.writer.specs.declared.BandRow.{BandRow}
-use Rattle.writer.specs.Answers.{Reply, gives, refused, Took, aRow}
+use Rattle.writer.specs.Answers.{Took, aRow}
 use Rattle.writer.specs.Calls.{waits, afterDraw}
 use Rattle.writer.specs.Closing.{Shut}
 use Rattle.terrain.specs.States.{flag, zeroNext, zeroFrom, isState}

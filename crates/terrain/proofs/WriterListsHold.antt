@@ -1,32 +1,35 @@
 -- A list of C calls on a state array shows what the list of Rattle's calls shows, told in C's numbers: so what is proved of the lists of a writer (demand 3) holds of them. Assumes nothing.
-use mathlib.Core.Path.{_≡_, refl, ap, ap₂, _∙_}
-use mathlib.Core.List.{List, [], _∷_}
+use mathlib.Core.Path.{_≡_, refl, ap}
+use mathlib.Core.List.{List}
 use Prim.Native.Nat.{ℕ}
+use Rattle.calls.specs.Reply.{Reply, gives, refused, seen}
+use Rattle.calls.specs.Area.{Area}
+use Rattle.calls.proofs.ListLaws.{told-events}
 use Rattle.writer.specs.declared.Writer.{Writer}
-use Rattle.writer.specs.Answers.{Reply, gives, refused, Took, Handed, aRow, nothing}
+use Rattle.writer.specs.Answers.{Took, Handed, aRow, nothing}
 use Rattle.writer.specs.Level.{Memory}
 use Rattle.writer.specs.Calls.{offerReply, offerStore, drawReply, drawStore, drawArea, finishReply, finishStore}
 use Rattle.writer.specs.Holds.{left, after}
-use Rattle.writer.specs.History.{Area, Call, World, event, next, events}
+use Rattle.writer.specs.History.{Call, World, event, next, events}
 use Rattle.writer.specs.History as rattle
-use Rattle.terrain.specs.WriterState.{isWriter, writerOf, writerWords}
+use Rattle.terrain.specs.WriterState.{writerWords}
 use Rattle.terrain.specs.WriterCalls as c
-use Rattle.terrain.specs.WriterLists.{CCall, Seen, offered, drew, finished, Memories, seenOf, leaves, seenAll, told, toldAll, holding, calls}
+use Rattle.terrain.specs.WriterLists.{CCall, offered, drew, finished, Memories, seenOf, leaves, seenAll, told, toldAll, holding, calls}
 use Rattle.terrain.proofs.StateTheorems.{writer-back, writer-is}
 
 -- an answer told, and the state array that it leaves
-offer-told : (run : List ℕ) (z : ℕ) (q : List ℕ) (r : Reply Took) → offered run (c.number r) (c.takenOf r z) ≡ told z q (rattle.offered run (rattle.seen (λ t. t .taken) r))
+offer-told : (run : List ℕ) (z : ℕ) (q : List ℕ) (r : Reply Took) → offered run (c.number r) (c.takenOf r z) ≡ told z q (rattle.offered run (seen (λ t. t .taken) r))
 unfolding told
 offer-told run z q (gives t) = refl
 offer-told run z q (refused k) = refl
 
-draw-told : (a b : Area) (z : ℕ) (q : List ℕ) (r : Reply Handed) → drew a (c.number r) (c.rowOf r q) b ≡ told z q (rattle.drew a (rattle.seen rattle.given r) b)
+draw-told : (a b : Area) (z : ℕ) (q : List ℕ) (r : Reply Handed) → drew a (c.number r) (c.rowOf r q) b ≡ told z q (rattle.drew a (seen rattle.given r) b)
 unfolding told
 draw-told a b z q (gives (aRow r w)) = refl
 draw-told a b z q (gives nothing) = refl
 draw-told a b z q (refused k) = refl
 
-finish-told : (z : ℕ) (q : List ℕ) (r : Reply Writer) → finished (c.number r) ≡ told z q (rattle.finished (rattle.seen (λ _. tt) r))
+finish-told : (z : ℕ) (q : List ℕ) (r : Reply Writer) → finished (c.number r) ≡ told z q (rattle.finished (seen (λ _. tt) r))
 unfolding told
 finish-told z q (gives w) = refl
 finish-told z q (refused k) = refl
@@ -80,9 +83,6 @@ module _ (w : World) where
       (ap (memories (finishStore (w .writer) (w .length) (w .store))) (finished-left (w .writer) finishes))
 
 pub writer-lists : (ds : List CCall) (w : World) → seenAll ds (holding w) ≡ toldAll ds (events (calls ds) w)
-unfolding seenAll toldAll events
-writer-lists [] w = refl
-writer-lists (d ∷ ds) w =
-    ap₂ (λ (a : Seen) (l : List Seen). a ∷ l)
-    (seen-told w (d .call) (d .taken) (d .row))
-    (ap (seenAll ds) (leaves-next w (d .call)) ∙ writer-lists ds (next (d .call) w))
+writer-lists =
+    told-events event next (λ d m. seenOf m (d .call) (d .taken) (d .row)) (λ d m. leaves m (d .call)) (λ d. d .call) holding (λ d w. leaves-next w (d .call))
+    (λ d e. told (d .taken) (d .row) e) (λ d w. seen-told w (d .call) (d .taken) (d .row))

@@ -1,9 +1,12 @@
 -- Lists of C calls on a reader, and what is seen of them in C, as WriterLists does for a writer.
-use mathlib.Core.List.{List, [], _∷_, map as each}
+use mathlib.Core.List.{List, zipWith, map as each}
 use Prim.Native.Nat.{ℕ}
 use lib.IntN.{ℤ}
+use Rattle.calls.specs.Reply.{gives, refused}
+use Rattle.calls.specs.Area.{Area}
+use Rattle.calls.specs.Lists.{events}
 use Rattle.reader.specs.Answers.{number}
-use Rattle.reader.specs.Demand3.{Area, Call, Event, World, gives, refused, heights, nothing}
+use Rattle.reader.specs.Demand3.{Call, Event, World, heights, nothing}
 use Rattle.reader.specs.Demand3 as rattle
 use Rattle.terrain.specs.ReaderState.{readerWords}
 use Rattle.terrain.specs.ReaderCalls as c
@@ -55,9 +58,8 @@ module _ (m : Memories) where
   leaves (rattle.draw a) =
       record { state = c.stateDrawn (c.drawing s n x (a .size)) s; length = n; store = c.drawingStore s n x (a .size) }
 
-unfoldable pub seenAll : List CCall → Memories → List Seen
-seenAll [] m = []
-seenAll (d ∷ ds) m = seenOf m (d .call) (d .want) (d .drawn) ∷ seenAll ds (leaves m (d .call))
+abbrev pub seenAll : List CCall → Memories → List Seen
+seenAll = events (λ d m. seenOf m (d .call) (d .want) (d .drawn)) (λ d m. leaves m (d .call))
 
 -- ---- the same told of a list of Rattle's calls: an answer by its number, what it gives by the out-parameter, which a refusal leaves
 unfoldable pub told : List ℕ → ℕ → Event → Seen
@@ -69,10 +71,8 @@ told q z (rattle.drew a (gives (heights k)) b) = drew a 0 k b
 told q z (rattle.drew a (gives nothing) b) = drew a 0 0 b
 told q z (rattle.drew a (refused k) b) = drew a k z b
 
-unfoldable pub toldAll : List CCall → List Event → List Seen
-toldAll [] es = []
-toldAll (d ∷ ds) [] = []
-toldAll (d ∷ ds) (e ∷ es) = told (d .want) (d .drawn) e ∷ toldAll ds es
+abbrev pub toldAll : List CCall → List Event → List Seen
+toldAll = zipWith (λ d e. told (d .want) (d .drawn) e)
 
 -- the memory of a C program that holds this reader
 abbrev pub holding : World → Memories

@@ -1,9 +1,11 @@
 -- Lists of C calls on a writer, and what is seen of them in C: the number that each answers, its out-parameter and its area. Each call is made on the state array and the line store that the one before left.
-use mathlib.Core.List.{List, [], _∷_, map as each}
+use mathlib.Core.List.{List, [], _∷_, zipWith, map as each}
 use Prim.Native.Nat.{ℕ}
-use Rattle.writer.specs.Answers.{gives, refused}
+use Rattle.calls.specs.Reply.{gives, refused}
+use Rattle.calls.specs.Area.{Area}
+use Rattle.calls.specs.Lists.{events}
 use Rattle.writer.specs.Level.{Memory}
-use Rattle.writer.specs.History.{Area, Call, Event, World, row, none}
+use Rattle.writer.specs.History.{Call, Event, World, row, none}
 use Rattle.writer.specs.History as rattle
 use Rattle.terrain.specs.WriterState.{writerWords}
 use Rattle.terrain.specs.WriterCalls as c
@@ -50,9 +52,8 @@ module _ (m : Memories) where
       record { state = c.stateHanded (c.drawn s n (a .size) x) s; length = n; store = c.drawnStore s n (a .size) x }
   leaves rattle.finish = record { state = c.stateOf (c.finished s n x) s; length = n; store = c.finishedStore s n x }
 
-unfoldable pub seenAll : List CCall → Memories → List Seen
-seenAll [] m = []
-seenAll (d ∷ ds) m = seenOf m (d .call) (d .taken) (d .row) ∷ seenAll ds (leaves m (d .call))
+abbrev pub seenAll : List CCall → Memories → List Seen
+seenAll = events (λ d m. seenOf m (d .call) (d .taken) (d .row)) (λ d m. leaves m (d .call))
 
 -- ---- the same told of a list of Rattle's calls: an answer by its number, what it gives by the out-parameter, which a refusal leaves
 unfoldable pub told : ℕ → List ℕ → Event → Seen
@@ -64,10 +65,8 @@ told z q (rattle.drew a (refused k) b) = drew a k q b
 told z q (rattle.finished (gives u)) = finished 0
 told z q (rattle.finished (refused k)) = finished k
 
-unfoldable pub toldAll : List CCall → List Event → List Seen
-toldAll [] es = []
-toldAll (d ∷ ds) [] = []
-toldAll (d ∷ ds) (e ∷ es) = told (d .taken) (d .row) e ∷ toldAll ds es
+abbrev pub toldAll : List CCall → List Event → List Seen
+toldAll = zipWith (λ d e. told (d .taken) (d .row) e)
 
 -- the memory of a C program that holds this writer
 abbrev pub holding : World → Memories

@@ -6,7 +6,7 @@
 -- Assumes nothing.
 use mathlib.Core.Bool.{Bool, true, false}
 use mathlib.Core.Path.{_≡_, refl, sym, ap, ap₂, subst, _∙_}
-use mathlib.Core.List.{List, [], _∷_, _++_, map, append-nil, append-assoc}
+use mathlib.Core.List.{List, [], _∷_, _++_, map, map-append, append-nil, append-assoc}
 use Prim.Native.Nat.{ℕ, zero, suc, _+_, _-_, _*_, _/_, _%_, _≤_, _<_}
 use native.Mathlib.Nat.{mul-comm, mul-le-mul-right, mul-add-div-right, div-eq-of-lt, mul-add-mod-self-right, mod-eq-of-lt, mul-div-cancel}
 use native.Mathlib.Nat.{mul-div-cancel-left, suc-mul, mul-suc}
@@ -28,6 +28,8 @@ use Rattle.wavelet.specs.View.{bandColumns}
 use Rattle.wavelet.specs.Questions.{within}
 use Rattle.wavelet.specs.Order.{RowName, rowName, madeBy, closing, inTurn, made}
 use Rattle.wavelet.proofs.OrderLaws.{turn-suc}
+use Rattle.calls.specs.All.{All, all-none, all-more}
+use Rattle.calls.proofs.AllLaws.{all-append}
 use Rattle.writer.specs.Level.{Memory, LevelKind}
 use Rattle.writer.specs.Counts.{mostLeft}
 use Rattle.writer.specs.FiveThreeLevel.{cellOf, fiveThree}
@@ -40,32 +42,12 @@ use Rattle.writer.specs.Questions.{inRanges}
 use Rattle.writer.specs.Calls.{resumed, bandRow}
 use Rattle.writer.specs.Holds.{Kept, Holds}
 use Rattle.writer.specs.History.{DrawnRow}
-use Rattle.writer.specs.Demand3.{answered, All, all-none, all-more, isNone}
+use Rattle.writer.specs.Demand3.{answered, isNone}
 use Rattle.writer.proofs.LevelLaws.{five-three-laws}
 use Rattle.writer.proofs.Waiting.{pend, later, pend-none, later-all, later-none}
 use Rattle.writer.proofs.CascadeHolds.{Good, Pulled, level-le, closed-le}
 use Rattle.writer.proofs.StateHolds.{differ, st, fresh-holds, pulled-by, shut-on, draw-holds, shut-first, finish-holds, begun-holds}
 use Rattle.writer.proofs.StateHolds.{arrived-by, complete-holds}
-
--- ---- lists
-module _ {A : Type 0} {P : A → Type 0} where
-  pub all-append : {s t : List A} → All P s → All P t → All P (s ++ t)
-  all-append all-none q = q
-  all-append (all-more p ps) q = all-more p (all-append ps q)
-
-  pub all-take : (n : ℕ) {s : List A} → All P s → All P (take n s)
-  all-take zero a = all-none
-  all-take (suc n) all-none = all-none
-  all-take (suc n) (all-more p ps) = all-more p (all-take n ps)
-
-  pub all-map : {Q : A → Type 0} {s : List A} → ((x : A) → P x → Q x) → All P s → All Q s
-  all-map f all-none = all-none
-  all-map f (all-more p ps) = all-more (f _ p) (all-map f ps)
-
-module _ {A B : Type 0} (f : A → B) where
-  pub map-append : (s t : List A) → map f (s ++ t) ≡ map f s ++ map f t
-  map-append [] t = refl
-  map-append (x ∷ s) t = ap (λ l. f x ∷ l) (map-append s t)
 
 -- ---- numbers
 pub rows-below : (W H r c : ℕ) → r * W + c < W * H → r < H

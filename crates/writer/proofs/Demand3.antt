@@ -2,7 +2,7 @@
 -- Assumes nothing.
 use mathlib.Core.Bool.{Bool, true, false}
 use mathlib.Core.Path.{_≡_, refl, sym, ap, ap₂, subst, _∙_}
-use mathlib.Core.List.{List, [], _∷_, _++_, map, append-nil, append-assoc}
+use mathlib.Core.List.{List, [], _∷_, _++_, map, map-append, append-nil, append-assoc}
 use Prim.Native.Nat.{ℕ, zero, suc, _+_, _-_, _*_, _≤_, _<_}
 use native.Mathlib.Nat.{mul-comm, mul-le-mul-right, suc-mul}
 use native.Mathlib.Decide.{decLt}
@@ -25,15 +25,17 @@ use Rattle.wavelet.specs.Order.{RowName, madeBy, closing, inTurn, made, times}
 use Rattle.wavelet.proofs.OrderLaws.{turn-prefix}
 use Rattle.wavelet.proofs.OrderOnce.{made-once}
 use Rattle.wavelet.proofs.Bridge.{map-band}
+use Rattle.calls.specs.All.{All, all-more}
+use Rattle.calls.proofs.AllLaws.{all-map, all-take}
 use Rattle.writer.specs.Level.{Memory}
 use Rattle.writer.specs.Machine.{rest}
 use Rattle.writer.specs.Questions.{inRanges, setUpQuestion}
 use Rattle.writer.specs.History.{Call, row, Event, World, event, events, final, freshWorld, taken, finishes, finishedBy, DrawnRow, drawn}
-use Rattle.writer.specs.Demand3.{wholeRows, madeOf, waitingOf, answered, Begins, MapOf, HasValues, All, all-more, PlaneDrawn, Demand3}
+use Rattle.writer.specs.Demand3.{wholeRows, madeOf, waitingOf, answered, Begins, MapOf, HasValues, PlaneDrawn, Demand3}
 use Rattle.writer.proofs.CountLaws.{code-one}
 use Rattle.writer.proofs.StateHolds.{differ, st}
-use Rattle.writer.proofs.CallList.{Fits, coming, Right, At, own-sound, in-ranges, all-map, all-take, map-append, rows-all}
-use Rattle.writer.proofs.Reached.{rows-are, waiting-coming, offer-turned, offer-takes, finish-answer, draw-says, list-reached, fresh-reached}
+use Rattle.writer.proofs.CallList.{Fits, coming, Right, At, own-sound, in-ranges, rows-all}
+use Rattle.writer.proofs.Reached.{rows-are, waiting-coming, offer-turned, offer-takes, finish-answer, draw-says, then-reached}
 
 five-levels : (l : ℕ) → within 1 maxLevels (suc l) ≡ true → suc l ≤ 5
 unfolding within maxLevels
@@ -246,7 +248,7 @@ demand-3 W zero n x h cs = absurd (some-level (set-up-passed W 0 n h .1))
 demand-3 W (suc l) n x h cs =
     let p = set-up-passed W (suc l) n h in
     let w = freshWorld W (suc l) n x in
-    let m = list-reached l W (p .0) (p .1) cs [] w (fresh-reached l W (p .0) (p .1) n (w .store) (some-width W (p .0)) (p .2)) in
+    let m = then-reached l W (p .0) (p .1) n (w .store) (some-width W (p .0)) (p .2) cs in
     let e = final cs w in
     subst (λ s. (inRanges s ≡ true) × Demand3 W (suc l) (events cs w) (λ k. event k (record { writer = s; length = e .length; store = e .store })))
     (sym (m .writer-is)) (
@@ -261,5 +263,5 @@ width-kept W zero n x h cs = absurd (some-level (set-up-passed W 0 n h .1))
 width-kept W (suc l) n x h cs =
     let p = set-up-passed W (suc l) n h in
     let w = freshWorld W (suc l) n x in
-    let m = list-reached l W (p .0) (p .1) cs [] w (fresh-reached l W (p .0) (p .1) n (w .store) (some-width W (p .0)) (p .2)) in
+    let m = then-reached l W (p .0) (p .1) n (w .store) (some-width W (p .0)) (p .2) cs in
     ap (λ s. s .width) (m .writer-is)

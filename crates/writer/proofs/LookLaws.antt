@@ -14,15 +14,17 @@ use Rattle.wavelet.specs.Questions.{ask}
 use Rattle.wavelet.specs.Store.{storeLength}
 use Rattle.wavelet.specs.View.{bandColumns}
 use Rattle.wavelet.specs.Order.{RowName}
+use Rattle.calls.specs.Reply.{Reply, gives, refused, unless, seen}
+use Rattle.calls.specs.Area.{Area}
 use Rattle.writer.specs.declared.Writer.{Writer}
 use Rattle.writer.specs.declared.BandRow.{BandRow}
 use Rattle.writer.specs.declared.draws.Spot.{Spot}
 use Rattle.writer.specs.Level.{Memory}
 use Rattle.writer.specs.Questions.{either, inRanges, longEnough, waitingRow, setUpQuestion, drawQuestion, waitsQuestion}
-use Rattle.writer.specs.Answers.{Reply, gives, refused, unless, Handed, aRow, nothing}
+use Rattle.writer.specs.Answers.{Handed, aRow, nothing}
 use Rattle.writer.specs.Gate.{stateQuestion}
 use Rattle.writer.specs.Calls.{handed, drawReply, bandRow, noRow, awaited, waitsReply, rowHanded}
-use Rattle.writer.specs.History.{Area, Call, draw, Given, row, none, Event, drew, World, seen, given, event, events, final, freshWorld}
+use Rattle.writer.specs.History.{Call, draw, Given, row, none, Event, drew, World, given, event, events, final, freshWorld}
 use Rattle.writer.specs.Demand3.{waitingOf, answered, drawSays, nextRow}
 use Rattle.writer.specs.Steps.{Found}
 use Rattle.writer.proofs.GateLaws.{Sound, sound}

@@ -14,6 +14,7 @@ use Rattle.numbers.specs.Signal.{at, both}
 use Rattle.numbers.proofs.Sweep as sweep
 use Rattle.wavelet.specs.Limits.{maxHeight}
 use Rattle.wavelet.proofs.LimitLaws.{width-small, height-small}
+use Rattle.calls.specs.Reply.{gives, refused}
 use Rattle.writer.specs.declared.Writer.{Writer}
 use Rattle.writer.specs.declared.cascade.Wait.{Wait}
 use Rattle.writer.specs.Level.{Memory}
@@ -21,7 +22,6 @@ use Rattle.writer.specs.FiveThreeLevel.{fiveThree}
 use Rattle.writer.specs.Machine.{arrive}
 use Rattle.writer.specs.Taking.{heightAt, Taking, none, oneMore, takes, begun, complete, heightPut, rowMakes, offering}
 use Rattle.writer.specs.Questions.{offerQuestion}
-use Rattle.writer.specs.Answers.{gives, refused}
 use Rattle.writer.specs.Calls.{offerReply, offerStore}
 use Rattle.writer.specs.Steps.{Left}
 use Rattle.writer.proofs.GateLaws.{Sound}

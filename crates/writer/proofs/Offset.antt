@@ -10,6 +10,9 @@ use lib.Dec.{ltb, eqb}
 use borrow.Author.Tests.{eq-eqb}
 use Rattle.numbers.specs.Signal.{pick, both}
 use Rattle.wavelet.specs.Limits.{maxHeight}
+use Rattle.calls.specs.Reply.{gives, unless, changedUnless, seen}
+use Rattle.calls.specs.Area.{Area}
+use Rattle.calls.specs.Lists as lists
 use Rattle.writer.specs.declared.Writer.{Writer}
 use Rattle.writer.specs.Level.{Memory}
 use Rattle.writer.specs.Counts.{startOf}
@@ -17,11 +20,10 @@ use Rattle.writer.specs.FiveThreeLevel.{fiveThree}
 use Rattle.writer.specs.Machine.{Out}
 use Rattle.writer.specs.Taking.{Taking, takes, offering}
 use Rattle.writer.specs.Questions.{inRanges, longEnough, setUpQuestion, offerQuestion, drawQuestion, finishQuestion}
-use Rattle.writer.specs.Answers.{gives, unless, changedUnless}
 use Rattle.writer.specs.Holds.{left, after}
 use Rattle.writer.specs.Calls.{setUpStore, took, waits, closing, resumed, handed, handedStore, handedArea, offerReply, offerStore, drawReply}
 use Rattle.writer.specs.Calls.{drawStore, drawArea, finishReply, finishStore}
-use Rattle.writer.specs.History.{Area, Call, offer, draw, finish, offered, drew, finished, World, seen, given, event, next, events, final, freshWorld}
+use Rattle.writer.specs.History.{Call, offer, draw, finish, offered, drew, finished, World, given, event, next, events, final, freshWorld}
 use Rattle.writer.specs.Before as before
 use Rattle.writer.specs.Before.{Before}
 use Rattle.writer.proofs.StateHolds.{st, fresh-st}
@@ -157,14 +159,14 @@ module _ (b : Before) (n : ℕ) (x : Memory) where
 
 -- ---- every list of calls
 list-events : (cs : List Call) (w : before.World) → events cs (carries w) ≡ before.events cs w
-unfolding events before.events
+unfolding lists.events
 list-events [] w = refl
 list-events (k ∷ cs) w =
     ap₂ (λ e l. e ∷ l) (call-event (w .writer) (w .length) (w .store) k)
     (ap (events cs) (call-next (w .writer) (w .length) (w .store) k) ∙ list-events cs (before.next k w))
 
 list-final : (cs : List Call) (w : before.World) → final cs (carries w) ≡ carries (before.final cs w)
-unfolding final before.final
+unfolding lists.final
 list-final [] w = refl
 list-final (k ∷ cs) w = ap (final cs) (call-next (w .writer) (w .length) (w .store) k) ∙ list-final cs (before.next k w)
 

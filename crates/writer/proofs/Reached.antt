@@ -2,7 +2,7 @@
 -- Assumes nothing.
 use mathlib.Core.Bool.{Bool, true, false, not}
 use mathlib.Core.Path.{_≡_, refl, sym, ap, subst, subst₂, _∙_}
-use mathlib.Core.List.{List, [], _∷_, _++_, append-nil, append-assoc}
+use mathlib.Core.List.{List, [], _∷_, _++_, append-nil}
 use Prim.Native.Nat.{ℕ, zero, suc, _+_, _-_, _≤_, _<_}
 use native.Mathlib.Omega.{arith}
 use lib.IntN.{ℤ}
@@ -18,6 +18,10 @@ use Rattle.wavelet.specs.View.{bandColumns}
 use Rattle.wavelet.specs.Questions.{ask, within}
 use Rattle.wavelet.specs.Store.{storeLength}
 use Rattle.wavelet.specs.Order.{RowName, made}
+use Rattle.calls.specs.Reply.{Reply, gives, refused, unless, seen}
+use Rattle.calls.specs.Area.{Area}
+use Rattle.calls.specs.Lists.{gathered, ever}
+use Rattle.calls.proofs.ListLaws.{either-no, gathered-snoc, ever-snoc, list-reached}
 use Rattle.writer.specs.declared.Writer.{Writer}
 use Rattle.writer.specs.Level.{Memory}
 use Rattle.writer.specs.FiveThreeLevel.{fiveThree}
@@ -26,51 +30,15 @@ use Rattle.writer.specs.Draws.{Waiting, waiting, pull}
 use Rattle.writer.specs.Closing.{Shut, shut}
 use Rattle.writer.specs.Taking.{Taking, takes, offering}
 use Rattle.writer.specs.Questions.{either, inRanges, longEnough, offerQuestion, drawQuestion, finishQuestion}
-use Rattle.writer.specs.Answers.{Reply, gives, refused, unless}
 use Rattle.writer.specs.Calls.{fresh, offerReply, offerStore, waits, closing as closingOf, finishReply, finishStore, resumed, bandRow}
 use Rattle.writer.specs.Calls.{drawReply, drawStore, drawArea}
 use Rattle.writer.specs.Holds.{left}
-use Rattle.writer.specs.History.{Area, Call, offer, draw, finish, row, none, Event, offered, drew, finished, World, seen, event, next, events}
+use Rattle.writer.specs.History.{Call, offer, draw, finish, row, none, Event, offered, drew, finished, World, event, next, events}
 use Rattle.writer.specs.History.{final, takenBy, taken, finishes, finishedBy, drawnBy, drawn}
 use Rattle.writer.specs.Demand3.{wholeRows, madeOf, waitingOf, answered, isNone, drawSays, written, DrawSeen, takesOn, offerTurned, Takes, finishTurned}
 use Rattle.writer.proofs.StateHolds.{st, fresh-st}
 use Rattle.writer.proofs.CallList.{coming, At, whole-rows, begun-row, in-ranges, waiting-is, none-waits, none-eqb, Offered, offering-good}
 use Rattle.writer.proofs.CallList.{head-is, draw-good, finish-good, fresh-at}
-
--- ---- histories
-pub taken-snoc : (es : List Event) (e : Event) → taken (es ++ e ∷ []) ≡ taken es ++ takenBy e
-unfolding taken
-taken-snoc [] e = append-nil (takenBy e)
-taken-snoc (d ∷ es) e = ap (λ l. takenBy d ++ l) (taken-snoc es e) ∙ sym (append-assoc (takenBy d) (taken es) (takenBy e))
-
-pub drawn-snoc : (es : List Event) (e : Event) → drawn (es ++ e ∷ []) ≡ drawn es ++ drawnBy e
-unfolding drawn
-drawn-snoc [] e = append-nil (drawnBy e)
-drawn-snoc (d ∷ es) e = ap (λ l. drawnBy d ++ l) (drawn-snoc es e) ∙ sym (append-assoc (drawnBy d) (drawn es) (drawnBy e))
-
-either-false : (t : Bool) → either t false ≡ t
-either-false true = refl
-either-false false = refl
-
-pub finished-snoc : (es : List Event) (e : Event) → finishedBy (es ++ e ∷ []) ≡ either (finishedBy es) (finishes e)
-unfolding finishedBy
-finished-snoc [] e = either-false (finishes e)
-finished-snoc (d ∷ es) e = ap (either (finishes d)) (finished-snoc es e) ∙ go (finishes d)
-  where
-    go : (t : Bool) → either t (either (finishedBy es) (finishes e)) ≡ either (either t (finishedBy es)) (finishes e)
-    go true = refl
-    go false = refl
-
--- one call more at the end of a list
-pub events-snoc : (cs : List Call) (c : Call) (w : World) → events (cs ++ c ∷ []) w ≡ events cs w ++ (event c (final cs w) ∷ [])
-unfolding events final
-events-snoc [] c w = refl
-events-snoc (d ∷ cs) c w = ap (λ l. event d w ∷ l) (events-snoc cs c (next d w))
-
-pub final-snoc : (cs : List Call) (c : Call) (w : World) → final (cs ++ c ∷ []) w ≡ next c (final cs w)
-unfolding final
-final-snoc [] c w = refl
-final-snoc (d ∷ cs) c w = final-snoc cs c (next d w)
 
 -- where it may take, an offer of one height or more takes one
 takes-one : (run : List ℕ) (s : Writer) (x : Memory) → takes s ≡ true → 0 < length run → 0 < offering fiveThree run s x .taken
@@ -103,7 +71,7 @@ module _ (l W : ℕ) (wide : within 1 maxWidth W ≡ true) (deep : within 1 maxL
   more : (es : List Event) (e : Event) (f : Bool) (n r c cl v i : ℕ) (x : Memory) → storeLength W L ≤ n → either (finishedBy es) (finishes e) ≡ f →
       At L W (taken es ++ takenBy e) f (drawn es ++ drawnBy e) r c cl v i x → Reached (es ++ e ∷ []) (world (st W L r c f cl v i) n x)
   more es e f n r c cl v i x long z a =
-      let g : f ≡ finishedBy (es ++ e ∷ []) = sym (finished-snoc es e ∙ z) in
+      let g : f ≡ finishedBy (es ++ e ∷ []) = sym (ever-snoc finishes es e ∙ z) in
       record {
         long = long;
         rows = r;
@@ -113,7 +81,7 @@ module _ (l W : ℕ) (wide : within 1 maxWidth W ≡ true) (deep : within 1 maxL
         rest = i;
         writer-is = ap (λ b. st W L r c b cl v i) g;
         at =
-            subst₂ (λ t d. At L W t (finishedBy (es ++ e ∷ [])) d r c cl v i x) (sym (taken-snoc es e)) (sym (drawn-snoc es e))
+            subst₂ (λ t d. At L W t (finishedBy (es ++ e ∷ [])) d r c cl v i x) (sym (gathered-snoc takenBy es e)) (sym (gathered-snoc drawnBy es e))
             (subst (λ b. At L W (taken es ++ takenBy e) b (drawn es ++ drawnBy e) r c cl v i x) g a);
       }
 
@@ -137,7 +105,7 @@ module _ (l W : ℕ) (wide : within 1 maxWidth W ≡ true) (deep : within 1 maxL
     -- a call that changes nothing
     unchanged : (e : Event) → takenBy e ≡ [] → finishes e ≡ false → drawnBy e ≡ [] → Reached (es ++ e ∷ []) w
     unchanged e p q d =
-        more es e f n r c cl v i x long (ap (either f) q ∙ either-false f)
+        more es e f n r c cl v i x long (ap (either f) q ∙ either-no f)
         (subst₂ (λ t b. At L W t f b r c cl v i x) (sym (ap (λ b. taken es ++ b) p ∙ append-nil _)) (sym (ap (λ b. drawn es ++ b) d ∙ append-nil _)) a)
 
     -- ---- by the history
@@ -202,7 +170,7 @@ module _ (l W : ℕ) (wide : within 1 maxWidth W ≡ true) (deep : within 1 maxL
           (let o = taking z in
           subst (λ k. Reached (es ++ offered run (gives (T false .taken)) ∷ []) (world k n (T false .store))) (sym (o .writer-is))
           (more es (offered run (gives (T false .taken))) false n (o .rows) (o .column) (o .closed) (o .level) (o .left) (T false .store) long
-          (either-false f ∙ z)
+          (either-no f ∙ z)
           (subst (λ b. At L W (taken es ++ take (T false .taken) run) false b (o .rows) (o .column) (o .closed) (o .level) (o .left) (T false .store))
           (sym (append-nil (drawn es))) (o .at))))
 
@@ -367,7 +335,7 @@ module _ (l W : ℕ) (wide : within 1 maxWidth W ≡ true) (deep : within 1 maxL
         let p = draw-row e in
         let d = drew b (gives (row (bandRow q))) (record { size = b .size; numbers = z }) in
         subst₂ (λ d k. Reached (es ++ d ∷ []) k) (sym (p .0)) (sym (p .1))
-        (more es d f₁ n r c (R .closed) (R .out .level) (R .out .left) (R .out .store) long (either-false f₁)
+        (more es d f₁ n r c (R .closed) (R .out .level) (R .out .left) (R .out .store) long (either-no f₁)
         (subst (λ t. At L W t f₁ (drawn es ++ drawnBy d) r c (R .closed) (R .out .level) (R .out .left) (R .out .store)) (sym (append-nil (taken es)))
         (draw-good l W (drawn es) (taken es) f₁ r c cl u i x a z values-are)))
 
@@ -423,18 +391,15 @@ module _ (l W : ℕ) (wide : within 1 maxWidth W ≡ true) (deep : within 1 maxL
   call-reached (draw b) es n r c cl v i x long a = draw-reached es n r c cl v i x long a b
   call-reached finish es n r c cl v i x long a = finish-reached es n r c cl v i x long a _ refl
 
-  pub step-reached : (k : Call) (es : List Event) (w : World) → Reached es w → Reached (es ++ event k w ∷ []) (next k w)
+  step-reached : (k : Call) (es : List Event) (w : World) → Reached es w → Reached (es ++ event k w ∷ []) (next k w)
   step-reached k es w m =
       subst (λ s. Reached (es ++ event k (world s (w .length) (w .store)) ∷ []) (next k (world s (w .length) (w .store)))) (sym (m .writer-is))
       (call-reached k es (w .length) (m .rows) (m .column) (m .closed) (m .level) (m .rest) (w .store) (m .long) (m .at))
 
-  pub list-reached : (cs : List Call) (es : List Event) (w : World) → Reached es w → Reached (es ++ events cs w) (final cs w)
-  unfolding events final
-  list-reached [] es w m = subst (λ l. Reached l w) (sym (append-nil es)) m
-  list-reached (k ∷ cs) es w m =
-      subst (λ l. Reached l (final cs (next k w))) (append-assoc es (event k w ∷ []) (events cs (next k w)))
-      (list-reached cs (es ++ event k w ∷ []) (next k w) (step-reached k es w m))
-
-  pub fresh-reached : (n : ℕ) (x : Memory) → 0 < W → storeLength W L ≤ n → Reached [] (world (fresh W L) n x)
-  unfolding taken finishedBy drawn
+  fresh-reached : (n : ℕ) (x : Memory) → 0 < W → storeLength W L ≤ n → Reached [] (world (fresh W L) n x)
+  unfolding gathered ever
   fresh-reached n x p long = record { long = long; rows = 0; column = 0; closed = 0; level = 0; rest = 0; writer-is = fresh-st W L; at = fresh-at L W x p }
+
+  pub then-reached : (n : ℕ) (x : Memory) → 0 < W → storeLength W L ≤ n → (cs : List Call) →
+      (let w = world (fresh W L) n x in Reached (events cs w) (final cs w))
+  then-reached n x p long cs = list-reached event next Reached step-reached cs [] (world (fresh W L) n x) (fresh-reached n x p long)

@@ -15,6 +15,7 @@ use Rattle.lifting.specs.Line.{lo, count}
 use Rattle.lifting.specs.Halves.{fronted}
 use Rattle.wavelet.specs.Store.{storeLength}
 use Rattle.wavelet.proofs.StoreLaws.{store-below}
+use Rattle.calls.specs.Reply.{changedUnless}
 use Rattle.writer.specs.declared.Writer.{Writer}
 use Rattle.writer.specs.Level.{Memory, LevelKind}
 use Rattle.writer.specs.FiveThreeLevel.{fiveThree}
@@ -24,7 +25,6 @@ use Rattle.writer.specs.Draws.{pull}
 use Rattle.writer.specs.Closing.{Shut, onward, closeLevel, shut}
 use Rattle.writer.specs.Taking.{none, oneMore, takes, begun, complete, heightPut, rowMakes, offering}
 use Rattle.writer.specs.Questions.{setUpQuestion, offerQuestion, drawQuestion, finishQuestion}
-use Rattle.writer.specs.Answers.{changedUnless}
 use Rattle.writer.specs.Calls.{setUpStore, offerStore, resumed, handedStore, drawStore, finishStore}
 use Rattle.writer.proofs.RestLaws.{rest-at, join-past}
 use Rattle.writer.proofs.LevelLaws.{LevelLaws, five-three-laws}

@@ -1,5 +1,6 @@
 -- The answers of the writer's calls in document 01's terms: the number of the question that turned the call away, or what it gives.
-use Prim.Native.Nat.{ℕ, zero, suc}
+use Prim.Native.Nat.{ℕ}
+use Rattle.calls.specs.Reply.{Reply, gives, refused}
 use Rattle.writer.specs.declared.Writer.{Writer}
 use Rattle.writer.specs.declared.BandRow.{BandRow}
 use Rattle.writer.specs.declared.SetUp.{SetUp}
@@ -12,20 +13,6 @@ use Rattle.writer.specs.declared.Look.{Look}
 use Rattle.writer.specs.declared.Look.the-variants as look
 use Rattle.writer.specs.declared.Finished.{Finished}
 use Rattle.writer.specs.declared.Finished.the-variants as finished
-
-pub data Reply (A : Type 0) : Type 0 where
-  gives : A → Reply A
-  refused : ℕ → Reply A
-
--- what a call gives, if no question (0) turned it away
-abbrev pub unless : {A : Type 0} → ℕ → A → Reply A
-unless zero a = gives a
-unless (suc q) a = refused (suc q)
-
--- what stands in a lent area: a, or b as before where a question turned the call away
-abbrev pub changedUnless : {A : Type 0} → ℕ → A → A → A
-changedUnless zero a b = a
-changedUnless (suc q) a b = b
 
 -- the number of heights taken, and the writer then
 pub record Took : Type 0 where

@@ -11,6 +11,9 @@ use Rattle.lifting.specs.Halves.{fronted}
 use Rattle.wavelet.specs.Limits.{maxWidth, maxHeight, maxLevels}
 use Rattle.wavelet.specs.Questions.{ask, within}
 use Rattle.wavelet.specs.Store.{storeLength}
+use Rattle.calls.specs.Reply.{unless, changedUnless}
+use Rattle.calls.specs.Area.{Area}
+use Rattle.calls.specs.Lists as lists
 use Rattle.writer.specs.Level.{Memory}
 use Rattle.writer.specs.Counts.{mostLeft}
 use Rattle.writer.specs.FiveThreeLevel.{fiveThree, cellOf}
@@ -19,9 +22,8 @@ use Rattle.writer.specs.Draws.{Waiting, waiting, pull}
 use Rattle.writer.specs.Closing.{Shut, shut}
 use Rattle.writer.specs.Taking.{stored}
 use Rattle.writer.specs.Questions.{either}
-use Rattle.writer.specs.Answers.{unless, changedUnless}
 use Rattle.writer.specs.Calls.{setUpStore, bandRow}
-use Rattle.writer.specs.History.{Area, Call, offer, draw, finish, Given, row, none, Event, offered, drew, finished}
+use Rattle.writer.specs.History.{Call, offer, draw, finish, Given, row, none, Event, offered, drew, finished}
 
 pub record Before : Type 0 where
   pub width : ℕ
@@ -197,13 +199,11 @@ next (offer run) w = offerNext w run (offerQuestion (w .writer) (w .length) (len
 next (draw a) w = drawNext w (drawQuestion (w .writer) (w .length) (a .size))
 next finish w = finishNext w (finishQuestion (w .writer) (w .length))
 
-unfoldable pub events : List Call → World → List Event
-events [] w = []
-events (c ∷ cs) w = event c w ∷ events cs (next c w)
+abbrev pub events : List Call → World → List Event
+events = lists.events event next
 
-unfoldable pub final : List Call → World → World
-final [] w = w
-final (c ∷ cs) w = final cs (next c w)
+abbrev pub final : List Call → World → World
+final = lists.final next
 
 -- a set-up that passed
 abbrev pub freshWorld : ℕ → ℕ → ℕ → Memory → World

@@ -7,6 +7,7 @@ use lib.ListN.{length}
 use Rattle.lifting.specs.Halves.{fronted}
 use Rattle.wavelet.specs.Bands.{code}
 use Rattle.wavelet.specs.Store.{storeLength}
+use Rattle.calls.specs.Reply.{Reply, unless, changedUnless}
 use Rattle.writer.specs.declared.Writer.{Writer}
 use Rattle.writer.specs.declared.BandRow.{BandRow}
 use Rattle.writer.specs.Level.{Memory}
@@ -17,7 +18,7 @@ use Rattle.writer.specs.Draws.{Waiting, pull}
 use Rattle.writer.specs.Closing.{Shut, shut}
 use Rattle.writer.specs.Taking.{Taking, offering}
 use Rattle.writer.specs.Questions.{waitingRow, setUpQuestion, offerQuestion, drawQuestion, waitsQuestion, finishQuestion}
-use Rattle.writer.specs.Answers.{Reply, unless, changedUnless, Took, Handed, aRow, nothing}
+use Rattle.writer.specs.Answers.{Took, Handed, aRow, nothing}
 
 -- ---- set-up: "Set-up zeroes the needed part."
 abbrev pub fresh : ℕ → ℕ → Writer

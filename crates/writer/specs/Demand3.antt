@@ -17,10 +17,12 @@ use Rattle.wavelet.specs.ViewCall.{bandRowExists}
 use Rattle.wavelet.specs.Maps.{IsMap}
 use Rattle.wavelet.specs.Questions.{ask}
 use Rattle.wavelet.specs.Order.{RowName, made, times}
+use Rattle.calls.specs.Reply.{Reply, gives, refused, unless}
+use Rattle.calls.specs.Area.{Area}
+use Rattle.calls.specs.All.{All}
 use Rattle.writer.specs.declared.BandRow.{BandRow}
 use Rattle.writer.specs.Questions.{either}
-use Rattle.writer.specs.Answers.{Reply, gives, refused, unless}
-use Rattle.writer.specs.History.{Area, Call, offer, draw, finish, Given, row, none, Event, offered, drew, finished}
+use Rattle.writer.specs.History.{Call, offer, draw, finish, Given, row, none, Event, offered, drew, finished}
 use Rattle.writer.specs.History.{taken, finishedBy, DrawnRow, drawn}
 
 -- "Made: the rows that the writer's rules make of the whole rows taken and, once a finish passed, of the finish, in the order of those rules."
@@ -60,10 +62,6 @@ pub record MapOf (W H : ℕ) (g : Grid) (es : List Event) : Type 0 where
 pub record HasValues (W H : ℕ) (g : Grid) (d : DrawnRow) : Type 0 where
   pub are : (b : Band) → d .row .band ≡ code b → (i : ℕ) → i < d .row .length →
       d .values i ≡ levelBand whole W H g (d .row .level) b (d .row .row) i
-
-pub data All {A : Type 0} (P : A → Type 0) : List A → Type 0 where
-  all-none : All P []
-  all-more : {x : A} {l : List A} → P x → All P l → All P (x ∷ l)
 
 -- "The rows drawn then are exactly the plane's band rows, each once."
 pub record PlaneDrawn (W L : ℕ) (es : List Event) : Type 0 where

@@ -1,23 +1,21 @@
 -- Lists of calls on a writer and what is seen of them: document 01, "The lists of demand 3". "The words below go by the calls' arguments and answers, by nothing in the state."
 use mathlib.Core.Bool.{Bool, true, false}
-use mathlib.Core.List.{List, [], _∷_, _++_}
+use mathlib.Core.List.{List, [], _∷_}
 use Prim.Native.Nat.{ℕ}
 use lib.IntN.{ℤ}
 use lib.ListN.{take}
+use Rattle.calls.specs.Reply.{Reply, gives, refused, seen}
+use Rattle.calls.specs.Area.{Area}
+use Rattle.calls.specs.Lists.{gathered, ever}
+use Rattle.calls.specs.Lists as lists
 use Rattle.writer.specs.declared.Writer.{Writer}
 use Rattle.writer.specs.declared.BandRow.{BandRow}
 use Rattle.writer.specs.Level.{Memory}
-use Rattle.writer.specs.Questions.{either}
-use Rattle.writer.specs.Answers.{Reply, gives, refused, Handed, aRow, nothing}
+use Rattle.writer.specs.Answers.{Handed, aRow, nothing}
 use Rattle.writer.specs.Holds.{left, after}
 use Rattle.writer.specs.Calls.{fresh, setUpStore, offerReply, offerStore, drawReply, drawStore, drawArea, finishReply, finishStore}
 
 -- ---- calls, and what is seen of them
--- an area that is lent: its length and its numbers
-pub record Area : Type 0 where
-  pub size : ℕ
-  pub numbers : ℕ → ℤ
-
 -- a call with its arguments
 pub data Call : Type 0 where
   offer : List ℕ → Call
@@ -41,11 +39,6 @@ pub record World : Type 0 where
   pub length : ℕ
   pub store : Memory
 
--- an answer, less the state
-abbrev pub seen : {A B : Type 0} → (A → B) → Reply A → Reply B
-seen f (gives a) = gives (f a)
-seen f (refused q) = refused q
-
 abbrev pub given : Handed → Given
 given (aRow r s) = row r
 given nothing = none
@@ -65,13 +58,11 @@ next (draw a) w =
 next finish w =
     record { writer = left (λ s. s) (w .writer) (finishReply (w .writer) (w .length) (w .store)); length = w .length; store = finishStore (w .writer) (w .length) (w .store) }
 
-unfoldable pub events : List Call → World → List Event
-events [] w = []
-events (c ∷ cs) w = event c w ∷ events cs (next c w)
+abbrev pub events : List Call → World → List Event
+events = lists.events event next
 
-unfoldable pub final : List Call → World → World
-final [] w = w
-final (c ∷ cs) w = final cs (next c w)
+abbrev pub final : List Call → World → World
+final = lists.final next
 
 -- "Fresh means the state and line store of a set-up that passed": of width W and L levels, on a store of n numbers in which x stood
 abbrev pub freshWorld : ℕ → ℕ → ℕ → Memory → World
@@ -84,9 +75,8 @@ takenBy (offered run (refused q)) = []
 takenBy (drew a r b) = []
 takenBy (finished r) = []
 
-unfoldable pub taken : List Event → List ℕ
-taken [] = []
-taken (e ∷ es) = takenBy e ++ taken es
+abbrev pub taken : List Event → List ℕ
+taken = gathered takenBy
 
 -- "once a finish passed"
 abbrev pub finishes : Event → Bool
@@ -95,9 +85,8 @@ finishes (drew a r b) = false
 finishes (finished (gives u)) = true
 finishes (finished (refused q)) = false
 
-unfoldable pub finishedBy : List Event → Bool
-finishedBy [] = false
-finishedBy (e ∷ es) = either (finishes e) (finishedBy es)
+abbrev pub finishedBy : List Event → Bool
+finishedBy = ever finishes
 
 -- "A drawn row is its level, band, number, length and values."
 pub record DrawnRow : Type 0 where
@@ -111,6 +100,5 @@ drawnBy (drew a (gives none) b) = []
 drawnBy (drew a (refused q) b) = []
 drawnBy (finished r) = []
 
-unfoldable pub drawn : List Event → List DrawnRow
-drawn [] = []
-drawn (e ∷ es) = drawnBy e ++ drawn es
+abbrev pub drawn : List Event → List DrawnRow
+drawn = gathered drawnBy

@@ -12,13 +12,14 @@ use Rattle.lifting.specs.Line.{lo, hi, count}
 use Rattle.wavelet.specs.Bands.{Grid, Band, LL, code, across, down, columnsLifted, subband}
 use Rattle.wavelet.specs.Levels.{levelBand}
 use Rattle.wavelet.specs.Order.{hasRow}
+use Rattle.calls.specs.Reply.{Reply, gives, refused}
 use Rattle.writer.specs.declared.Writer.{Writer}
 use Rattle.writer.specs.declared.BandRow.{BandRow}
 use Rattle.writer.specs.Level.{Memory, LevelKind}
 use Rattle.writer.specs.Counts.{prev, made, mostLeft, bandAt, startOf}
 use Rattle.writer.specs.FiveThreeLevel.{cellOf, fiveThree}
 use Rattle.writer.specs.Machine.{rest}
-use Rattle.writer.specs.Answers.{Reply, gives, refused, Took, Handed, aRow, nothing}
+use Rattle.writer.specs.Answers.{Took, Handed, aRow, nothing}
 
 -- ---- the 5/3 level
 -- the first c columns of row y stand in the slot of row r

@@ -4,8 +4,9 @@ use mathlib.Core.List.{List}
 use lib.ListN.{length}
 use borrow.Author.Needs.{needs}
 use Rattle.numbers.specs.Signal.{at}
+use Rattle.calls.specs.Reply.{Reply, refused}
 use Rattle.writer.specs.declared.Writer.{Writer}
-use Rattle.writer.specs.Answers.{Reply, refused, ofFinished}
+use Rattle.writer.specs.Answers.{ofFinished}
 use Rattle.writer.specs.Calls.{finishReply, finishStore}
 use Rattle.terrain.specs.WriterState.{isWriter, writerOf}
 use Rattle.terrain.specs.WriterCalls.{number, finished, stateOf}

@@ -4,8 +4,9 @@ use mathlib.Core.List.{List}
 use lib.ListN.{length}
 use borrow.Author.Needs.{needs}
 use Rattle.numbers.specs.Signal.{at}
+use Rattle.calls.specs.Reply.{Reply}
 use Rattle.writer.specs.declared.Writer.{Writer}
-use Rattle.writer.specs.Answers.{Reply, ofSetUp}
+use Rattle.writer.specs.Answers.{ofSetUp}
 use Rattle.writer.specs.Calls.{setUpReply}
 use Rattle.terrain.specs.WriterCalls.{number, stateOf}
 use Rattle.terrain.proofs.writer_calls.terrain_writer_set_up.Statement.{statement}

@@ -1,0 +1,100 @@
+-- Lists of calls on any machine: one list after another, what every call keeps (`list-reached`), and one machine that shows what another shows
+-- (`same-events`, `told-events`). Assumes nothing.
+use mathlib.Core.Bool.{Bool, true, false}
+use mathlib.Core.Path.{_≡_, refl, sym, ap, ap₂, subst, _∙_}
+use mathlib.Core.List.{List, [], _∷_, _++_, map, zipWith, append-nil, append-assoc}
+use lib.ListN.{length}
+use Prim.Native.Nat.{suc}
+use Rattle.numbers.specs.Signal.{pick}
+use Rattle.calls.specs.Lists.{events, final, gathered, ever}
+
+-- ---- by the events alone
+module _ {Event A : Type 0} (brings : Event → List A) where
+  pub gathered-append : (es fs : List Event) → gathered brings (es ++ fs) ≡ gathered brings es ++ gathered brings fs
+  unfolding gathered
+  gathered-append [] fs = refl
+  gathered-append (e ∷ es) fs =
+      ap (λ l. brings e ++ l) (gathered-append es fs) ∙ sym (append-assoc (brings e) (gathered brings es) (gathered brings fs))
+
+  pub gathered-snoc : (es : List Event) (e : Event) → gathered brings (es ++ (e ∷ [])) ≡ gathered brings es ++ brings e
+  unfolding gathered
+  gathered-snoc es e = gathered-append es (e ∷ []) ∙ ap (λ l. gathered brings es ++ l) (append-nil (brings e))
+
+pub either-no : (t : Bool) → pick t true false ≡ t
+either-no true = refl
+either-no false = refl
+
+pub either-swap : (s t : Bool) → pick s true t ≡ pick t true s
+either-swap true t = go t
+  where
+    go : (t : Bool) → true ≡ pick t true true
+    go true = refl
+    go false = refl
+either-swap false t = sym (either-no t)
+
+module _ {Event : Type 0} (is : Event → Bool) where
+  pub ever-append : (es fs : List Event) → ever is (es ++ fs) ≡ pick (ever is es) true (ever is fs)
+  unfolding ever
+  ever-append [] fs = refl
+  ever-append (e ∷ es) fs = ap (pick (is e) true) (ever-append es fs) ∙ go (is e)
+    where
+      go : (t : Bool) → pick t true (pick (ever is es) true (ever is fs)) ≡ pick (pick t true (ever is es)) true (ever is fs)
+      go true = refl
+      go false = refl
+
+  pub ever-snoc : (es : List Event) (e : Event) → ever is (es ++ (e ∷ [])) ≡ pick (ever is es) true (is e)
+  unfolding ever
+  ever-snoc es e = ever-append es (e ∷ []) ∙ ap (pick (ever is es) true) (either-no (is e))
+
+-- ---- one list of calls after another
+module _ {Call World : Type 0} (next : Call → World → World) where
+  pub final-append : (cs ds : List Call) (w : World) → final next (cs ++ ds) w ≡ final next ds (final next cs w)
+  unfolding final
+  final-append [] ds w = refl
+  final-append (c ∷ cs) ds w = final-append cs ds (next c w)
+
+  -- one call more
+  pub final-snoc : (cs : List Call) (c : Call) (w : World) → final next (cs ++ (c ∷ [])) w ≡ next c (final next cs w)
+  unfolding final
+  final-snoc cs c w = final-append cs (c ∷ []) w
+
+module _ {Call World Event : Type 0} (event : Call → World → Event) (next : Call → World → World) where
+  pub events-append : (cs ds : List Call) (w : World) → events event next (cs ++ ds) w ≡ events event next cs w ++ events event next ds (final next cs w)
+  unfolding events final
+  events-append [] ds w = refl
+  events-append (c ∷ cs) ds w = ap (λ l. event c w ∷ l) (events-append cs ds (next c w))
+
+  pub events-snoc : (cs : List Call) (c : Call) (w : World) → events event next (cs ++ (c ∷ [])) w ≡ events event next cs w ++ (event c (final next cs w) ∷ [])
+  unfolding events
+  events-snoc cs c w = events-append cs (c ∷ []) w
+
+  pub events-length : (cs : List Call) (w : World) → length (events event next cs w) ≡ length cs
+  unfolding events
+  events-length [] w = refl
+  events-length (c ∷ cs) w = ap suc (events-length cs (next c w))
+
+  -- what one call keeps, of the events so far and the world, a list of calls keeps
+  pub list-reached : (P : List Event → World → Type 0) → ((c : Call) (es : List Event) (w : World) → P es w → P (es ++ (event c w ∷ [])) (next c w)) →
+      (cs : List Call) (es : List Event) (w : World) → P es w → P (es ++ events event next cs w) (final next cs w)
+  unfolding events final
+  list-reached P step [] es w p = subst (λ l. P l w) (sym (append-nil es)) p
+  list-reached P step (c ∷ cs) es w p =
+      subst (λ l. P l (final next cs (next c w))) (append-assoc es (event c w ∷ []) (events event next cs (next c w)))
+      (list-reached P step cs (es ++ (event c w ∷ [])) (next c w) (step c es w p))
+
+-- ---- two machines: call d of the first is call `call d` of the second, `hold w` the first's world for the world w
+module _ {Call World Event Call′ World′ Event′ : Type 0} (event : Call → World → Event) (next : Call → World → World)
+    (event′ : Call′ → World′ → Event′) (next′ : Call′ → World′ → World′) (call : Call′ → Call) (hold : World → World′)
+    (leaves : (d : Call′) (w : World) → next′ d (hold w) ≡ hold (next (call d) w)) where
+  pub told-final : (ds : List Call′) (w : World) → final next′ ds (hold w) ≡ hold (final next (map call ds) w)
+  unfolding final
+  told-final [] w = refl
+  told-final (d ∷ ds) w = ap (final next′ ds) (leaves d w) ∙ told-final ds (next (call d) w)
+
+  -- what is seen of the first's calls is what is seen of the second's, told as `tell` says
+  pub told-events : (tell : Call′ → Event → Event′) → ((d : Call′) (w : World) → event′ d (hold w) ≡ tell d (event (call d) w)) →
+      (ds : List Call′) (w : World) → events event′ next′ ds (hold w) ≡ zipWith tell ds (events event next (map call ds) w)
+  unfolding events zipWith
+  told-events tell seen [] w = refl
+  told-events tell seen (d ∷ ds) w =
+      ap₂ (λ e l. e ∷ l) (seen d w) (ap (events event′ next′ ds) (leaves d w) ∙ told-events tell seen ds (next (call d) w))

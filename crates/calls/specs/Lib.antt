@@ -1,0 +1,4 @@
+pub mod Reply
+pub mod Area
+pub mod All
+pub mod Lists
