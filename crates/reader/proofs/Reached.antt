@@ -3,7 +3,7 @@
 -- Assumes nothing.
 use mathlib.Core.Bool.{Bool, true, false}
 use mathlib.Core.Path.{_≡_, refl, sym, ap, subst, _∙_}
-use mathlib.Core.List.{List, [], _∷_, _++_, append-nil, append-assoc}
+use mathlib.Core.List.{List, [], _∷_, _++_, map, map-append, append-nil, append-assoc}
 use Prim.Native.Nat.{ℕ, zero, suc, _+_, _≤_, _<_}
 use native.Mathlib.Decide.{ℕ-discrete}
 use native.Mathlib.Omega.{arith}
@@ -28,8 +28,7 @@ use Rattle.wavelet.specs.Steps.{Step, steps, bandRowsOf}
 use Rattle.wavelet.specs.Steps as step
 use Rattle.wavelet.proofs.LevelTheory.{OnCells}
 use Rattle.wavelet.proofs.MapTheorems.{every-each}
-use Rattle.calls.specs.Area.{Area}
-use Rattle.calls.specs.All.{All, all-none, all-more}
+use Rattle.calls.specs.Lists.{Area, All, all-none, all-more}
 use Rattle.calls.proofs.AllLaws.{all-append, all-left, all-last}
 use Rattle.reader.specs.declared.Reader.{Reader}
 use Rattle.reader.specs.Sets.{opens, rowAt}
@@ -50,14 +49,8 @@ use Rattle.reader.proofs.CallViews.{Limits, here, View, view, FeedView,
 use Rattle.reader.proofs.CallViews.{draw-view}
 
 -- the names of rows
-unfoldable pub namesOf : List FedRow → List RowName
-namesOf [] = []
-namesOf (f ∷ fs) = f .row ∷ namesOf fs
-
-pub names-append : (s t : List FedRow) → namesOf (s ++ t) ≡ namesOf s ++ namesOf t
-unfolding namesOf
-names-append [] t = refl
-names-append (f ∷ s) t = ap (λ r. f .row ∷ r) (names-append s t)
+abbrev pub namesOf : List FedRow → List RowName
+namesOf = map (λ f. f .row)
 
 true-false : true ≡ false → ⊥
 true-false z = subst T z tt
@@ -213,7 +206,7 @@ module _ (W H l : ℕ) where
               go false = (omega (arith, inside), omega (arith, code-lt c))
 
           on-kept : (y : ℕ → ℤ) → feeds s (a .numbers) x ≡ passed y → Kept d (to .level) (to .band) false y (stepsLeft W H l d to) (fs ++ (f ∷ [])) ds
-          unfolding namesOf bandRowsOf
+          unfolding bandRowsOf
           on-kept y z₁ = record {
             drawn-le = kept .drawn-le;
             level-le = beyond-le .0;
@@ -233,7 +226,7 @@ module _ (W H l : ℕ) where
           }
             where
               rename : namesOf (fs ++ (f ∷ [])) ++ bandRowsOf (stepsLeft W H l d to) ≡ namesOf fs ++ bandRowsOf t
-              rename = ap (λ u. u ++ bandRowsOf (stepsLeft W H l d to)) (names-append fs (f ∷ [])) ∙ append-assoc (namesOf fs) (namesOf (f ∷ [])) _
+              rename = ap (λ u. u ++ bandRowsOf (stepsLeft W H l d to)) (map-append (λ f. f .row) fs (f ∷ [])) ∙ append-assoc (namesOf fs) (namesOf (f ∷ [])) _
                   ∙ ap (λ u. namesOf fs ++ bandRowsOf u) (sym head)
 
           fed-goes : (y : ℕ → ℤ) → feeds s (a .numbers) x ≡ passed y → FedTo 0

@@ -18,26 +18,27 @@ use Rattle.wavelet.specs.Plane.{planeCell, cells}
 use Rattle.wavelet.specs.View.{bandRows, bandColumns}
 use Rattle.wavelet.specs.ViewCall.{keptAt, bandRowExists}
 use Rattle.wavelet.specs.Limits.{maxWidth, maxHeight, maxLevels}
-use Rattle.wavelet.specs.Questions.{ask, within}
+use Rattle.wavelet.specs.Questions.{within}
 use Rattle.wavelet.specs.Store.{storeLength}
 use Rattle.wavelet.specs.Maps.{IsMap, HasPlane}
 use Rattle.wavelet.specs.Order.{RowName}
+use Rattle.wavelet.proofs.QuestionLaws.{within-true}
 use Rattle.wavelet.proofs.PlaneLayout.{Stands, place-is, row-in, column-in, cell-places}
 use Rattle.wavelet.proofs.PlanePlaces.{Found, found, found-place}
-use Rattle.calls.specs.Area.{Area}
-use Rattle.calls.specs.All.{All, all-more}
+use Rattle.calls.specs.Lists.{Area, All, all-more}
 use Rattle.calls.proofs.AllLaws.{In, first, later}
+use Rattle.calls.proofs.QuestionLaws.{asked-yes}
 use Rattle.writer.specs.declared.BandRow.{BandRow}
 use Rattle.writer.specs.History as writer
 use Rattle.writer.specs.Demand3.{HasValues, MapOf, answered}
 use Rattle.writer.specs.Questions as writer-asks
 use Rattle.writer.specs.Demand3 as writes
+use Rattle.writer.proofs.CallLaws.{set-up-passed}
 use Rattle.writer.proofs.Demand3 as writer-holds
 use Rattle.reader.specs.Asked.{named}
 use Rattle.reader.specs.Questions as reader-asks
 use Rattle.reader.specs.Demand3 as reader
 use Rattle.reader.specs.Played.{Sized, HasAll}
-use Rattle.reader.proofs.CallViews.{within-both}
 use Rattle.reader.proofs.StepsLeft.{named-code}
 use Rattle.reader.proofs.Played.{times-in, played-holds}
 use Rattle.round_trip.specs.RoundTrip.{isNamed, drawnAs, wrote, rowsWrote, Finished, Lent, HandsBack, planeRows, FromPlane}
@@ -103,11 +104,6 @@ module _ (W H : ℕ) (g : Grid) where
           ih
 
 -- ---- questions 2 and 4 are the writer's too
-passed-yes : (s t : Bool) (r : ℕ) → ask s 2 (ask t 4 r) ≡ 0 → (s ≡ true) × (t ≡ true)
-passed-yes true true r e = (refl, refl)
-passed-yes true false r e = absurd (omega arith)
-passed-yes false t r e = absurd (omega arith)
-
 set-up-passes : (W H L n : ℕ) → within 1 maxWidth W ≡ true → (1 ≤ H) × (H ≤ maxHeight) → within 1 maxLevels L ≡ true → storeLength W L ≤ n →
     reader-asks.setUpQuestion W H L n ≡ 0
 unfolding reader-asks.setUpQuestion reader-asks.storeFits within
@@ -121,12 +117,11 @@ module _ (W L n : ℕ) (x : ℕ → ℤ) (cs : List writer.Call) (done : Finishe
   claim = writer-holds.demand-3 W L n x (done .set-up) cs .1
 
   -- ---- the map that was written
-  in-limits : (within 1 maxWidth W ≡ true) × (within 1 maxLevels L ≡ true)
-  unfolding writer-asks.setUpQuestion
-  in-limits = passed-yes (within 1 maxWidth W) (within 1 maxLevels L) _ (done .set-up)
+  in-limits : (within 1 maxWidth W ≡ true) × (within 1 maxLevels L ≡ true) × (storeLength W L ≤ n)
+  in-limits = set-up-passed W L n (done .set-up)
 
   width : 0 < W
-  width = within-both 1 maxWidth W (in-limits .0) .0
+  width = within-true 1 maxWidth W (in-limits .0) .0
 
   written : (H : ℕ) × (g : Grid) × MapOf W H g es
   written = claim .some-map (done .sixteen)
@@ -248,13 +243,9 @@ planes-sized W H L plane = record { size = λ y e. refl }
 
 some-levels : (W H L n : ℕ) → reader-asks.setUpQuestion W H L n ≡ 0 → 0 < L
 unfolding reader-asks.setUpQuestion
-some-levels W H L n e = within-both 1 maxLevels L (go (within 1 maxWidth W) (within 1 maxHeight H) (within 1 maxLevels L) _ e) .0
-  where
-    go : (s t u : Bool) (r : ℕ) → pick s (pick t (pick u r 4) 3) 2 ≡ 0 → u ≡ true
-    go true true true r z = refl
-    go true true false r z = absurd (omega arith)
-    go true false u r z = absurd (omega arith)
-    go false t u r z = absurd (omega arith)
+some-levels W H L n e =
+    let a = asked-yes (within 1 maxHeight H) _ _ (asked-yes (within 1 maxWidth W) _ _ e .1) in
+    within-true 1 maxLevels L (asked-yes (within 1 maxLevels L) _ _ (a .1) .0) .0
 
 -- ---- the theorem: of a map's plane the map and Done, of any other plane 7 or 14 and no Done
 pub from-plane : (W H L n : ℕ) (y plane : ℕ → ℤ) (outs : ℕ → Area) → reader-asks.setUpQuestion W H L n ≡ 0 →

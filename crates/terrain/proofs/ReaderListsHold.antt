@@ -4,7 +4,7 @@ use mathlib.Core.Path.{_≡_, refl, ap}
 use mathlib.Core.List.{List}
 use Prim.Native.Nat.{ℕ}
 use lib.IntN.{ℤ}
-use Rattle.calls.specs.Area.{Area}
+use Rattle.calls.specs.Lists.{Area}
 use Rattle.calls.proofs.ListLaws.{told-events}
 use Rattle.reader.specs.declared.Reader.{Reader}
 use Rattle.reader.specs.Answers.{Reply, gives, refused, impossible, number, Want, Handed, aRow, nothing}

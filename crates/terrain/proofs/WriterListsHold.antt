@@ -2,8 +2,7 @@
 use mathlib.Core.Path.{_≡_, refl, ap}
 use mathlib.Core.List.{List}
 use Prim.Native.Nat.{ℕ}
-use Rattle.calls.specs.Reply.{Reply, gives, refused, seen}
-use Rattle.calls.specs.Area.{Area}
+use Rattle.calls.specs.Lists.{Reply, gives, refused, seen, Area}
 use Rattle.calls.proofs.ListLaws.{told-events}
 use Rattle.writer.specs.declared.Writer.{Writer}
 use Rattle.writer.specs.Answers.{Took, Handed, aRow, nothing}

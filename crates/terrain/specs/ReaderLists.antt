@@ -2,9 +2,7 @@
 use mathlib.Core.List.{List, zipWith, map as each}
 use Prim.Native.Nat.{ℕ}
 use lib.IntN.{ℤ}
-use Rattle.calls.specs.Reply.{gives, refused}
-use Rattle.calls.specs.Area.{Area}
-use Rattle.calls.specs.Lists.{events}
+use Rattle.calls.specs.Lists.{gives, refused, Area, events}
 use Rattle.reader.specs.Answers.{number}
 use Rattle.reader.specs.Demand3.{Call, Event, World, heights, nothing}
 use Rattle.reader.specs.Demand3 as rattle

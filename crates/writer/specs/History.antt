@@ -4,9 +4,7 @@ use mathlib.Core.List.{List, [], _∷_}
 use Prim.Native.Nat.{ℕ}
 use lib.IntN.{ℤ}
 use lib.ListN.{take}
-use Rattle.calls.specs.Reply.{Reply, gives, refused, seen}
-use Rattle.calls.specs.Area.{Area}
-use Rattle.calls.specs.Lists.{gathered, ever}
+use Rattle.calls.specs.Lists.{Reply, gives, refused, seen, Area, gathered, ever}
 use Rattle.calls.specs.Lists as lists
 use Rattle.writer.specs.declared.Writer.{Writer}
 use Rattle.writer.specs.declared.BandRow.{BandRow}
