@@ -166,7 +166,8 @@ module _ (W H l n : ℕ) (lim : Limits W H l n) where
 
   wholes-of : (g : Grid) → IsMap W H g → (fs : List FedRow) → All (Good W H l) fs → All (HasWords W H l g) fs → All (HasRow W H g) fs
   wholes-of g m [] all-none all-none = all-none
-  wholes-of g m (f ∷ fs) (all-more good gs) (all-more h hs) = all-more (record { size = good .size; values = λ i p. h i p ∙ exact g m f good i p }) (wholes-of g m fs gs hs)
+  wholes-of g m (f ∷ fs) (all-more good gs) (all-more h hs) =
+      all-more (record { size = good .size; values = λ i p. h i p ∙ exact g m f good i p }) (wholes-of g m fs gs hs)
 
   -- every value of a map and of its low-low parts fits
   map-fitting : (g : Grid) (m : IsMap W H g) → Fits W H l g (map-fits W H g m)

@@ -99,14 +99,15 @@ refusal-after [] fs r = r
 refusal-after (e ∷ es) fs r = after (refusal-after es fs r)
 
 -- ---- a row of a map is in range
-exists-parts : (W H L k : ℕ) (b : Band) (r : ℕ) → bandRowExists W H L k b r ≡ true → (1 ≤ k) × (r < bandRows H k b)
+pub exists-parts : (W H L k : ℕ) (b : Band) (r : ℕ) → bandRowExists W H L k b r ≡ true →
+    (1 ≤ k) × (r < bandRows H k b) × (k ≤ L) × (keptAt L k b ≡ true)
 unfolding bandRowExists within
 exists-parts W H L k b r e =
     let a = both (pick (leb 1 k) (leb k L) false) _ e in
     let c = both (leb 1 k) (leb k L) (a .0) in
     let d = both (keptAt L k b) _ (a .1) in
     let f = both (ltb 0 (bandColumns W k b)) _ (d .1) in
-    (leb-true 1 k (c .0), ltb-true r (bandRows H k b) (f .1))
+    (leb-true 1 k (c .0), ltb-true r (bandRows H k b) (f .1), leb-true k L (c .1), d .0)
 
 row-in-range : (W H L : ℕ) (g : Grid) → IsMap W H g → (y : RowName) → bandRowExists W H L (y .level) (y .band) (y .row) ≡ true → (i : ℕ) →
     i < bandColumns W (y .level) (y .band) → natAbs (levelBand whole W H g (y .level) (y .band) (y .row) i) ≤ range (y .level)

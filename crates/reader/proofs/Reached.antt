@@ -1,7 +1,7 @@
 -- Every world that calls reach from a fresh one, and what is kept of it: the steps left, the rows fed and drawn, and what holds of every grid of 32-bit numbers
 -- that has the rows fed.
 -- Assumes nothing.
-use mathlib.Core.Bool.{Bool, true, false}
+use mathlib.Core.Bool.{Bool, true, false, true≢false, false≢true}
 use mathlib.Core.Path.{_≡_, refl, sym, ap, subst, _∙_}
 use mathlib.Core.List.{List, [], _∷_, _++_, map, map-append, append-nil, append-assoc}
 use Prim.Native.Nat.{ℕ, zero, suc, _+_, _≤_, _<_}
@@ -10,7 +10,7 @@ use native.Mathlib.Omega.{arith}
 use lib.IntN.{ℤ, pos, natAbs}
 use lib.ListN.{length, length-append, getD, List·getD-append}
 use lib.Seq.{getD-append-add}
-use lib.Dec.{T, eqb}
+use lib.Dec.{eqb}
 use mir.Syntax.{w32}
 use mir.Val.{SFits}
 use borrow.Author.Tests.{leb-true}
@@ -51,9 +51,6 @@ use Rattle.reader.proofs.CallViews.{draw-view}
 -- the names of rows
 abbrev pub namesOf : List FedRow → List RowName
 namesOf = map (λ f. f .row)
-
-true-false : true ≡ false → ⊥
-true-false z = subst T z tt
 
 -- where a row begins, the numbers are inside their ranges
 dive-le : (W H l d m k : ℕ) → k + m ≡ suc l → (dive W H (suc l) d m k .level ≤ suc l) × (dive W H (suc l) d m k .band ≤ 4)
@@ -177,13 +174,13 @@ module _ (W H l : ℕ) where
             left = kept .left;
             drawn = kept .drawn;
             good = good-all;
-            names = λ z. absurd (true-false z);
+            names = λ z. absurd (true≢false z);
             grids = λ g words has.
                 let old = kept .grids g words (all-left fs (f ∷ []) has) in
                 record {
                   fit = old .fit;
                   shows = old .shows;
-                  holds = λ z _. absurd (true-false z);
+                  holds = λ z _. absurd (true≢false z);
                   refuses = λ _. outcome-failed (subst (Outcome (Fits W H l g words) _) z₁ (outcome-is g words has));
                 };
           }
@@ -221,7 +218,7 @@ module _ (W H l : ℕ) where
                   fit = old .fit;
                   shows = old .shows;
                   holds = λ _ _. outcome-passed y (subst (Outcome (Fits W H l g words) _) z₁ (outcome-is g words has));
-                  refuses = λ z. absurd (true-false (sym z));
+                  refuses = λ z. absurd (false≢true z);
                 };
           }
             where
@@ -282,13 +279,13 @@ module _ (W H l : ℕ) where
             left = kept .left;
             drawn = kept .drawn;
             good = kept .good;
-            names = λ z. absurd (true-false z);
+            names = λ z. absurd (true≢false z);
             grids = λ g words has.
                 let old = kept .grids g words has in
                 record {
                   fit = old .fit;
                   shows = old .shows;
-                  holds = λ z _. absurd (true-false z);
+                  holds = λ z _. absurd (true≢false z);
                   refuses = λ _. outcome-failed (subst (Outcome (Fits W H l g words) _) z₁ (settles-is g words has));
                 };
           }
@@ -338,7 +335,7 @@ module _ (W H l : ℕ) where
                     fit = λ r c p q. elim (ℕ-discrete r d) [ yes z ↦ rw z (height-fit W H l g words d y due h c q) | no z ↦ old .fit r c (omega (arith, z)) q ];
                     shows = row-at g (out-is g words h) (old .shows);
                     holds = λ _ more. enter-holds W H l g words d more y h;
-                    refuses = λ z. absurd (true-false (sym z));
+                    refuses = λ z. absurd (false≢true z);
                   };
             }
               where

@@ -7,8 +7,8 @@ use native.Mathlib.Nat.{mul-le-mul-right, mul-comm, eq-of-mul-eq-mul-left}
 use native.Mathlib.Omega.{arith}
 use lib.IntN.{ℤ}
 use lib.ListN.{length}
-use lib.Dec.{T, leb, ltb, eqb}
-use borrow.Author.Tests.{le-leb, lt-ltb, eq-eqb, leb-true, ltb-true, eqb-true}
+use lib.Dec.{T, eqb}
+use borrow.Author.Tests.{le-leb, lt-ltb, eq-eqb, eqb-true}
 use Rattle.numbers.specs.Signal.{pick}
 use Rattle.numbers.specs.Word.{whole}
 use Rattle.numbers.proofs.Sweep.{both}
@@ -33,20 +33,16 @@ use Rattle.writer.specs.History as writer
 use Rattle.writer.specs.Demand3.{HasValues, MapOf, answered}
 use Rattle.writer.specs.Questions as writer-asks
 use Rattle.writer.specs.Demand3 as writes
+use Rattle.writer.proofs.CountLaws.{code-one}
 use Rattle.writer.proofs.CallLaws.{set-up-passed}
 use Rattle.writer.proofs.Demand3 as writer-holds
-use Rattle.reader.specs.Asked.{named}
 use Rattle.reader.specs.Questions as reader-asks
 use Rattle.reader.specs.Demand3 as reader
 use Rattle.reader.specs.Played.{Sized, HasAll}
-use Rattle.reader.proofs.StepsLeft.{named-code}
-use Rattle.reader.proofs.Played.{times-in, played-holds}
+use Rattle.reader.proofs.Played.{times-in, exists-parts, played-holds}
 use Rattle.round_trip.specs.RoundTrip.{isNamed, drawnAs, wrote, rowsWrote, Finished, Lent, HandsBack, planeRows, FromPlane}
 
 -- ---- a row found by its name
-code-same : (b c : Band) → code b ≡ code c → b ≡ c
-code-same b c e = sym (named-code b) ∙ ap named e ∙ named-code c
-
 pub record Named (x : RowName) (d : BandRow) : Type 0 where
   level : x .level ≡ d .level
   band : code (x .band) ≡ d .band
@@ -76,7 +72,7 @@ module _ (W H : ℕ) (g : Grid) where
       Right x (record { size = d .row .length; numbers = d .values })
   drawn-right x z d e has is =
       let n = named-is x (d .row) is in
-      let b : x .band ≡ z .band = code-same (x .band) (z .band) (n .band ∙ ap (λ q. q .band) e) in
+      let b : x .band ≡ z .band = code-one (x .band) (z .band) (n .band ∙ ap (λ q. q .band) e) in
       let k : x .level ≡ z .level = n .level ∙ ap (λ q. q .level) e in
       let long : bandColumns W (x .level) (x .band) ≡ d .row .length = ap₂ (bandColumns W) k b ∙ ap (λ q. q .length) (sym e) in
       record {
@@ -204,13 +200,9 @@ module _ (W H L : ℕ) (plane : ℕ → ℤ) (g : Grid) where
   ) refl
 
   stands-if : (k : ℕ) (b : Band) (r c : ℕ) → bandRowExists W H L k b r ≡ true → c < bandColumns W k b → Stands L W H k b r c
-  unfolding bandRowExists within
   stands-if k b r c e p =
-      let a = both (pick (leb 1 k) (leb k L) false) _ e in
-      let d = both (leb 1 k) (leb k L) (a .0) in
-      let f = both (keptAt L k b) _ (a .1) in
-      let h = both (ltb 0 (bandColumns W k b)) _ (f .1) in
-      record { deep = leb-true 1 k (d .0); most = leb-true k L (d .1); last = kept-last k b (f .0); row = ltb-true r (bandRows H k b) (h .1); column = p }
+      let a = exists-parts W H L k b r e in
+      record { deep = a .0; most = a .2; last = kept-last k b (a .3); row = a .1; column = p }
 
   rows-plane : 0 < L → IsMap W H g → HasAll W H L g (planeRows W H plane) → HasPlane L W H g (cells W plane)
   unfolding planeRows cells
