@@ -1,8 +1,8 @@
 -- What holds of every element of a list: lists put together and cut, and by the elements themselves (`In`). Assumes nothing.
 use mathlib.Core.List.{List, [], _∷_, _++_}
 use Prim.Native.Nat.{ℕ, zero, suc}
-use lib.ListN.{take}
-use Rattle.calls.specs.All.{All, all-none, all-more}
+use lib.ListN.{take, getD}
+use Rattle.calls.specs.Lists.{All, all-none, all-more}
 
 -- x stands in a list
 pub data In {A : Type 0} (x : A) : List A → Type 0 where
@@ -39,6 +39,11 @@ module _ {A : Type 0} {P : A → Type 0} where
   pub all-map : {Q : A → Type 0} {s : List A} → ((x : A) → P x → Q x) → All P s → All Q s
   all-map f all-none = all-none
   all-map f (all-more p ps) = all-more (f _ p) (all-map f ps)
+
+  pub all-at : (d : A) → P d → {s : List A} → All P s → (j : ℕ) → P (getD s j d)
+  all-at d p all-none j = p
+  all-at d p (all-more q a) zero = q
+  all-at d p (all-more q a) (suc j) = all-at d p a j
 
   pub all-in : (xs : List A) → ((x : A) → In x xs → P x) → All P xs
   all-in [] f = all-none

@@ -1,5 +1,5 @@
--- Lists of calls on any machine: one list after another, what every call keeps (`list-reached`), and one machine that shows what another shows
--- (`same-events`, `told-events`). Assumes nothing.
+-- Lists of calls on any machine: one list after another, what every call keeps (`list-reached`), and one machine that shows what another shows,
+-- told in its own way (`told-events`). Assumes nothing.
 use mathlib.Core.Bool.{Bool, true, false}
 use mathlib.Core.Path.{_≡_, refl, sym, ap, ap₂, subst, _∙_}
 use mathlib.Core.List.{List, [], _∷_, _++_, map, zipWith, append-nil, append-assoc}
@@ -82,16 +82,11 @@ module _ {Call World Event : Type 0} (event : Call → World → Event) (next : 
       subst (λ l. P l (final next cs (next c w))) (append-assoc es (event c w ∷ []) (events event next cs (next c w)))
       (list-reached P step cs (es ++ (event c w ∷ [])) (next c w) (step c es w p))
 
--- ---- two machines: call d of the first is call `call d` of the second, `hold w` the first's world for the world w
+-- ---- two machines: a call d of the one with primes is `call d` of the other, and `hold w` its world for the world w
 module _ {Call World Event Call′ World′ Event′ : Type 0} (event : Call → World → Event) (next : Call → World → World)
     (event′ : Call′ → World′ → Event′) (next′ : Call′ → World′ → World′) (call : Call′ → Call) (hold : World → World′)
     (leaves : (d : Call′) (w : World) → next′ d (hold w) ≡ hold (next (call d) w)) where
-  pub told-final : (ds : List Call′) (w : World) → final next′ ds (hold w) ≡ hold (final next (map call ds) w)
-  unfolding final
-  told-final [] w = refl
-  told-final (d ∷ ds) w = ap (final next′ ds) (leaves d w) ∙ told-final ds (next (call d) w)
-
-  -- what is seen of the first's calls is what is seen of the second's, told as `tell` says
+  -- what is seen of its calls is what is seen of the other's, told as `tell` says
   pub told-events : (tell : Call′ → Event → Event′) → ((d : Call′) (w : World) → event′ d (hold w) ≡ tell d (event (call d) w)) →
       (ds : List Call′) (w : World) → events event′ next′ ds (hold w) ≡ zipWith tell ds (events event next (map call ds) w)
   unfolding events zipWith

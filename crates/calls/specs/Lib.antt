@@ -1,4 +1,1 @@
-pub mod Reply
-pub mod Area
-pub mod All
 pub mod Lists

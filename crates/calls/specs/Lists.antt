@@ -1,9 +1,37 @@
--- Lists of calls on any machine: `event` is what is seen of a call made in a world, `next` the world that it leaves. Document 01, "The lists of demand 3".
+-- The words of document 01, "The lists of demand 3", that writer and reader share: a call's answer, an area that is lent, and lists of calls on any machine
+-- with what is seen of them. "The words below go by the calls' arguments and answers, by nothing in the state."
 use mathlib.Core.Bool.{Bool, true, false}
 use mathlib.Core.List.{List, [], _∷_, _++_}
+use Prim.Native.Nat.{ℕ, zero, suc}
+use lib.IntN.{ℤ}
 use Rattle.numbers.specs.Signal.{pick}
 
--- ---- each call is made in the world that the one before left
+-- ---- an answer: what the call gives, or the number of the question that turned it away
+pub data Reply (A : Type 0) : Type 0 where
+  gives : A → Reply A
+  refused : ℕ → Reply A
+
+-- what a call gives, if no question (0) turned it away
+abbrev pub unless : {A : Type 0} → ℕ → A → Reply A
+unless zero a = gives a
+unless (suc q) a = refused (suc q)
+
+-- what stands in a lent area: a, or b as before where a question turned the call away
+abbrev pub changedUnless : {A : Type 0} → ℕ → A → A → A
+changedUnless zero a b = a
+changedUnless (suc q) a b = b
+
+-- an answer, less the state
+abbrev pub seen : {A B : Type 0} → (A → B) → Reply A → Reply B
+seen f (gives a) = gives (f a)
+seen f (refused q) = refused q
+
+-- ---- an area that is lent, a run or an output area: its length and its numbers
+pub record Area : Type 0 where
+  pub size : ℕ
+  pub numbers : ℕ → ℤ
+
+-- ---- a machine: `event` is what is seen of a call in a world, `next` the world that it leaves. Each call is made in the world that the one before left.
 module _ {Call World Event : Type 0} (event : Call → World → Event) (next : Call → World → World) where
   unfoldable pub events : List Call → World → List Event
   events [] w = []
@@ -26,3 +54,8 @@ module _ {Event : Type 0} (is : Event → Bool) where
   unfoldable pub ever : List Event → Bool
   ever [] = false
   ever (e ∷ es) = pick (is e) true (ever es)
+
+-- P holds of every element of a list
+pub data All {A : Type 0} (P : A → Type 0) : List A → Type 0 where
+  all-none : All P []
+  all-more : {x : A} {l : List A} → P x → All P l → All P (x ∷ l)

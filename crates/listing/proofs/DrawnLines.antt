@@ -4,10 +4,8 @@ use mathlib.Core.Path.{_≡_, refl, sym, ap, ap₂, _∙_}
 use mathlib.Core.List.{List, [], _∷_, _++_, map, append-nil, append-assoc, cons≢nil, head-eq-of-cons-eq, tail-eq-of-cons-eq}
 use Prim.Native.Nat.{ℕ, zero, suc, _+_, _*_, _≤_, _<_}
 use native.Mathlib.Omega.{arith}
-use lib.Dec.{le→leb}
-use lib.IntN.{ℤ, pos}
+use lib.IntN.{ℤ}
 use lib.ListN.{length, drop, getD}
-use lib.Signed.{_≤ℤ_}
 use Rattle.numbers.specs.Word.{whole}
 use Rattle.wavelet.specs.Limits.{maxHeight, maxSample}
 use Rattle.wavelet.specs.Bands.{Grid, Band, LL, HL, LH, HH, code}
@@ -15,13 +13,14 @@ use Rattle.wavelet.specs.Levels.{levelBand}
 use Rattle.wavelet.specs.View.{bandColumns}
 use Rattle.wavelet.specs.Maps.{IsMap}
 use Rattle.wavelet.specs.Order.{RowName}
-use Rattle.calls.specs.All.{All, all-more}
+use Rattle.calls.specs.Lists.{All, all-more}
+use Rattle.calls.proofs.AllLaws.{all-at}
 use Rattle.writer.specs.Level.{Memory}
 use Rattle.writer.specs.Questions.{setUpQuestion}
 use Rattle.writer.specs.declared.BandRow.{BandRow}
 use Rattle.writer.specs.History.{Call, Event, events, freshWorld, taken, finishedBy, DrawnRow, drawn}
 use Rattle.writer.specs.Demand3.{wholeRows, madeOf, waitingOf, answered, MapOf, HasValues}
-use Rattle.writer.proofs.Demand3.{demand-3}
+use Rattle.writer.proofs.Demand3.{height-range, demand-3}
 use Rattle.pgm.specs.Decimal.{numeral, integer}
 use Rattle.listing.specs.Lines.{bandLetters, spaced, rowHead, rowLine, lineOf, linesOf, sizeLine}
 use Rattle.listing.specs.Listing.{Shape, gridOf, linesDue}
@@ -78,17 +77,9 @@ module _ (W H : ℕ) (g : Grid) where
       ∙ ap₂ _++_ (line-same d x (head-eq-of-cons-eq e) v) (lines-same l m a (tail-eq-of-cons-eq e))
 
 -- ---- the heights taken are the first of a map
-small-each : (M : ℕ) (l : List ℕ) → All (λ h. h ≤ M) l → (j : ℕ) → getD l j 0 ≤ M
-small-each M [] a j = omega arith
-small-each M (h ∷ l) (all-more p a) zero = p
-small-each M (h ∷ l) (all-more p a) (suc j) = small-each M l a j
-
-height-range : (h : ℕ) → h ≤ maxSample → (pos 0 ≤ℤ pos h) × (pos h ≤ℤ pos maxSample)
-height-range h p = (record { le = le→leb 0 h (omega arith) }, record { le = le→leb h maxSample p })
-
 pub grid-map : (W H : ℕ) (l : List ℕ) → All (λ h. h ≤ 65535) l → IsMap W H (gridOf W l)
 unfolding gridOf maxSample
-grid-map W H l a = record { heights = λ r c _ _. height-range (getD l (r * W + c) 0) (small-each 65535 l a (r * W + c)) }
+grid-map W H l a = record { heights = λ r c _ _. height-range (getD l (r * W + c) 0) (all-at 0 (omega arith) a (r * W + c)) }
 
 pub grid-map-of : (W H : ℕ) (es : List Event) → 1 ≤ H → H ≤ maxHeight → All (λ h. h ≤ 65535) (taken es) → length (taken es) ≤ W * H
     → (finishedBy es ≡ true → length (taken es) ≡ W * H) → MapOf W H (gridOf W (taken es)) es

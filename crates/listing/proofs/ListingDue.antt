@@ -6,7 +6,7 @@ use Prim.Native.Nat.{ℕ, zero, suc, _+_, _*_, _≤_, _<_}
 use native.Mathlib.Omega.{arith}
 use lib.ListN.{length}
 use Rattle.wavelet.specs.Store.{storeLength}
-use Rattle.calls.specs.All.{All}
+use Rattle.calls.specs.Lists.{All}
 use Rattle.writer.specs.Level.{Memory}
 use Rattle.writer.specs.History.{DrawnRow, events, freshWorld, finishedBy, drawn}
 use Rattle.writer.specs.declared.Writer.{Writer}

@@ -8,7 +8,7 @@ use native.Mathlib.Decide.{decLt}
 use lib.ListN.{length}
 use borrow.Author.Tests.{le-ltb}
 use Rattle.wavelet.specs.Store.{storeLength}
-use Rattle.calls.specs.All.{All}
+use Rattle.calls.specs.Lists.{All}
 use Rattle.writer.specs.Calls.{finishStore}
 use Rattle.writer.specs.declared.Writer.{Writer}
 use Rattle.listing.specs.Lines.{refusedLine}

@@ -9,8 +9,7 @@ use lib.Seq.{length-take-le}
 use Rattle.wavelet.specs.Store.{storeLength}
 use Rattle.pgm.specs.Samples.{sampleSize, heightsOf}
 use Rattle.pgm.proofs.RunReads.{heights-first}
-use Rattle.calls.specs.Reply.{gives}
-use Rattle.calls.specs.All.{All, all-none, all-more}
+use Rattle.calls.specs.Lists.{gives, All, all-none, all-more}
 use Rattle.calls.proofs.AllLaws.{all-append}
 use Rattle.writer.specs.Answers.{Took}
 use Rattle.writer.specs.Calls.{offerReply, offerStore}

@@ -12,8 +12,7 @@ use Rattle.numbers.proofs.Sweep.{both as split-both}
 use Rattle.wavelet.specs.Limits.{maxHeight}
 use Rattle.wavelet.specs.Store.{storeLength}
 use Rattle.wavelet.specs.Questions.{within}
-use Rattle.calls.specs.Reply.{gives}
-use Rattle.calls.specs.All.{all-none}
+use Rattle.calls.specs.Lists.{gives, all-none}
 use Rattle.writer.specs.Level.{Memory}
 use Rattle.writer.specs.Questions.{setUpQuestion}
 use Rattle.writer.specs.Answers.{Took}

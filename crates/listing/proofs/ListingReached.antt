@@ -8,8 +8,7 @@ use lib.ListN.{length, take}
 use Rattle.numbers.specs.Signal.{pick}
 use Rattle.wavelet.specs.Limits.{maxHeight}
 use Rattle.wavelet.specs.Store.{storeLength}
-use Rattle.calls.specs.Reply.{Reply}
-use Rattle.calls.specs.All.{All}
+use Rattle.calls.specs.Lists.{Reply, All}
 use Rattle.writer.specs.Level.{Memory}
 use Rattle.writer.specs.Questions.{setUpQuestion}
 use Rattle.writer.specs.Answers.{Handed}

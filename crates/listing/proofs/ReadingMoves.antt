@@ -1,27 +1,26 @@
 -- A byte heard, or heights offered together: the moves. Assumes nothing.
 use mathlib.Core.Path.{_≡_, refl, sym, ap, _∙_, subst}
-use mathlib.Core.Bool.{Bool, true, false, not}
+use mathlib.Core.Bool.{Bool, true, false}
 use mathlib.Core.List.{List, [], _∷_, _++_, append-assoc}
-use Prim.Native.Nat.{ℕ, zero, suc, _+_, _-_, _*_, _/_, _≤_, _<_, min}
+use Prim.Native.Nat.{ℕ, zero, suc, _+_, _-_, _*_, _≤_, _<_, min}
 use native.Mathlib.Omega.{arith}
 use native.Mathlib.Numerals.{add-one}
-use lib.Dec.{ltb, eqb}
+use lib.Dec.{ltb}
 use lib.ListN.{length, take, drop, getD, length-append, length-drop, take-append-drop}
 use lib.Seq.{drop-cons, drop-drop, take-take, length-take-le, take-at}
-use borrow.Author.Tests.{ne-eqb}
-use Rattle.numbers.specs.Signal.{pick, both}
-use Rattle.wavelet.specs.Limits.{maxHeight}
-use Rattle.wavelet.specs.Questions.{ask}
+use Rattle.numbers.specs.Signal.{pick}
 use Rattle.pgm.specs.Samples.{sampleSize, heightsOf}
 use Rattle.pgm.proofs.RunReads.{heights-first, bytes-room, bytes-more}
-use Rattle.calls.specs.Reply.{gives, refused, unless, changedUnless}
+use Rattle.calls.specs.Lists.{gives, refused, unless, changedUnless}
 use Rattle.writer.specs.Level.{Memory}
 use Rattle.writer.specs.FiveThreeLevel.{fiveThree}
 use Rattle.writer.specs.Taking.{Taking, oneMore, takes, begun, complete, heightPut, rowMakes, offering}
-use Rattle.writer.specs.Questions.{inRanges, longEnough, offerQuestion}
+use Rattle.writer.specs.Questions.{offerQuestion}
 use Rattle.writer.specs.Answers.{Took}
 use Rattle.writer.specs.Calls.{took, offerReply, offerStore}
 use Rattle.writer.specs.declared.Writer.{Writer}
+use Rattle.writer.proofs.CallLaws.{offer-may}
+use Rattle.writer.proofs.Reached.{takes-one}
 use Rattle.listing.specs.Hearing.{heightsCame}
 use Rattle.listing.specs.Scenes.{Scene, scene, Leaves, drawScene, hearScene}
 use Rattle.listing.specs.Moves.{Idle, largestOn, hears, takes as offers, Reads}
@@ -58,24 +57,8 @@ taken-most (h ∷ run) s x =
     (taken-most run (complete s (rowMakes fiveThree s (heightPut fiveThree h s x))) (rowMakes fiveThree s (heightPut fiveThree h s x) .store))
     refl
 
-last-two : (a b c d e : Bool) → ask a 1 (ask b 5 (ask c 9 (ask d 8 (ask e 10 0)))) ≡ 0 → both d e ≡ true
-last-two true true true true true h = refl
-last-two true true true true false h = absurd (omega arith)
-last-two true true true false e h = absurd (omega arith)
-last-two true true false d e h = absurd (omega arith)
-last-two true false c d e h = absurd (omega arith)
-last-two false b c d e h = absurd (omega arith)
-
-passes : (s : Writer) (n k : ℕ) → offerQuestion s n (suc k) ≡ 0 → takes s ≡ true
-unfolding offerQuestion takes
-passes s n k h =
-    let e : eqb (suc k) 0 ≡ false = ne-eqb (suc k) 0 (λ z. omega arith) in
-    last-two (inRanges s) (longEnough n s) (not (s .finished)) (eqb (s .level) 0) (ltb (s .rows) maxHeight) (rw e at h)
-
 taken-some : (run : List ℕ) (s : Writer) (n : ℕ) (x : Memory) → 0 < length run → offerQuestion s n (length run) ≡ 0 → 0 < offering fiveThree run s x .taken
-unfolding offering
-taken-some [] s n x h q = absurd (omega arith)
-taken-some (v ∷ run) s n x h q = rw (passes s n (length run) q) (omega arith)
+taken-some run s n x h q = takes-one run s x (offer-may s n (length run) q .1 h) h
 
 -- ---- the answer of an offer
 yes : {A : Type 0} (q : ℕ) (a b : A) → gives b ≡ unless q a → (q ≡ 0) × (b ≡ a)

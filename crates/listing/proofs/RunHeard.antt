@@ -9,7 +9,7 @@ use lib.ListN.{length, take}
 use Rattle.numbers.specs.Signal.{pick}
 use Rattle.pgm.specs.Samples.{wide, sampleSize, pairsOf, samplesOf, fitting, heightsOf}
 use Rattle.pgm.specs.declared.header.Header.{Header}
-use Rattle.calls.specs.All.{All, all-none, all-more}
+use Rattle.calls.specs.Lists.{All, all-none, all-more}
 use Rattle.listing.specs.Hearing.{heightsCame}
 use Rattle.listing.specs.Telling.{height, Hearing, andOn, heardOn, listen}
 use Rattle.listing.specs.declared.input.Input.{Input}

@@ -13,8 +13,7 @@ use Rattle.wavelet.specs.Levels.{size}
 use Rattle.wavelet.specs.View.{bandColumns}
 use Rattle.wavelet.specs.Order.{RowName, made, inTurn}
 use Rattle.wavelet.proofs.SizeLaws.{count-le, size-le}
-use Rattle.calls.specs.Reply.{Reply, gives, refused, seen}
-use Rattle.calls.specs.Area.{Area}
+use Rattle.calls.specs.Lists.{Reply, gives, refused, seen, Area}
 use Rattle.calls.specs.Lists as lists
 use Rattle.calls.proofs.ListLaws.{either-no, gathered-snoc, ever-snoc, events-snoc, final-snoc}
 use Rattle.writer.specs.Level.{Memory}

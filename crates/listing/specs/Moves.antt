@@ -6,7 +6,7 @@ use mathlib.Core.List.{List, [], _∷_, _++_}
 use Prim.Native.Nat.{ℕ, _+_, _-_, _*_, _≤_, _<_}
 use lib.ListN.{length, take, drop}
 use Rattle.pgm.specs.Samples.{sampleSize, heightsOf}
-use Rattle.calls.specs.Reply.{gives}
+use Rattle.calls.specs.Lists.{gives}
 use Rattle.writer.specs.Level.{Memory}
 use Rattle.writer.specs.Answers.{Took}
 use Rattle.writer.specs.Calls.{offerReply, offerStore}

@@ -7,7 +7,7 @@ use lib.Dec.{ltb, eqb}
 use lib.IntN.{ℤ}
 use lib.ListN.{length, drop}
 use Rattle.numbers.specs.Signal.{pick}
-use Rattle.calls.specs.Reply.{Reply, gives, refused}
+use Rattle.calls.specs.Lists.{Reply, gives, refused}
 use Rattle.writer.specs.Level.{Memory}
 use Rattle.writer.specs.Answers.{Took, Handed, aRow, nothing}
 use Rattle.writer.specs.Calls.{fresh, setUpReply, setUpStore, offerReply, offerStore, drawReply, drawStore, drawArea, finishReply, finishStore}

@@ -1,6 +1,6 @@
 -- The calls, case by case: the number, the answer and what stands in each area. Assumes nothing.
-use mathlib.Core.Path.{_≡_, refl, sym, ap, _∙_, fun-ext}
-use mathlib.Core.List.{List}
+use mathlib.Core.Path.{_≡_, sym, ap, _∙_, fun-ext}
+use mathlib.Core.List.{List, [], _∷_}
 use mathlib.Core.Bool.{Bool, true, false, not}
 use Prim.Native.Nat.{ℕ, suc, _+_, _≤_, _<_}
 use native.Mathlib.Decide.{decLt}
@@ -16,6 +16,8 @@ use Rattle.numbers.proofs.Parts.{length-mid, at-mid}
 use Rattle.lifting.specs.Line.{joined}
 use Rattle.lifting.specs.Halves.{halvesOf, fronted}
 use Rattle.wavelet.specs.Questions.{ask}
+use Rattle.calls.specs.Lists.{all-none, all-more}
+use Rattle.calls.proofs.QuestionLaws.{asks, asks-no, asks-yes, asks-none}
 use Rattle.reader.specs.declared.Reader.{Reader}
 use Rattle.reader.specs.declared.walk.Spot.{Spot}
 use Rattle.areas.specs.Areas.{height16}
@@ -93,85 +95,53 @@ module _ (s : Reader) where
         let same : row (p .level) (p .band) r n ≡ named-row = cc (is .level, is .band, er, en) in
         same ∙ ap (λ (b : Bool). pick b named-row drawNow) (sym t) ∙ wants-live
 
--- ---- the number of the question that says no, of a feed
+-- ---- the number of the question that says no
+-- questions 1, 5 and 9
+module _ (s : Reader) (n : ℕ) where
+  abbrev early : List (Bool × ℕ)
+  early = (countsFit s, 0) ∷ (storeFits (s .width) (s .levels) n, 4) ∷ (not (s .ended), 8) ∷ []
+
+-- 8, 13 and 7
+module _ (s : Reader) (m : ℕ) (v : ℕ → ℤ) where
+  abbrev late : List (Bool × ℕ)
+  late = (rowDue s, 7) ∷ (eqb m (nextLength s), 12) ∷ (runFits (next s .level) m v, 6) ∷ []
+
+-- ---- of a feed
 module _ (s : Reader) (n m : ℕ) (v x : ℕ → ℤ) where
-  abbrev early : Bool → Bool → Bool → ℕ → ℕ
-  early a b c rest = ask a 1 (ask b 5 (ask c 9 rest))
-
-  abbrev late : Bool → Bool → Bool → ℕ → ℕ
-  late a b c rest = ask a 8 (ask b 13 (ask c 7 rest))
-
-  early-no : (a b c : Bool) (rest : ℕ) → (early a b c 0 ≡ 0 → ⊥) → early a b c 0 ≡ early a b c rest
-  early-no true true true rest h = absurd (h refl)
-  early-no true true false rest h = refl
-  early-no true false c rest h = refl
-  early-no false b c rest h = refl
-
-  early-yes : (a b c : Bool) (rest : ℕ) → early a b c 0 ≡ 0 → rest ≡ early a b c rest
-  early-yes true true true rest e = refl
-  early-yes true true false rest e = absurd (omega arith)
-  early-yes true false c rest e = absurd (omega arith)
-  early-yes false b c rest e = absurd (omega arith)
-
-  early-14 : (a b c : Bool) → early a b c 0 ≡ 14 → ⊥
-  early-14 true true true e = omega arith
-  early-14 true true false e = omega arith
-  early-14 true false c e = omega arith
-  early-14 false b c e = omega arith
-
-  late-no : (a b c : Bool) (rest : ℕ) → (late a b c 0 ≡ 0 → ⊥) → late a b c 0 ≡ late a b c rest
-  late-no true true true rest h = absurd (h refl)
-  late-no true true false rest h = refl
-  late-no true false c rest h = refl
-  late-no false b c rest h = refl
-
-  late-yes : (a b c : Bool) (rest : ℕ) → late a b c 0 ≡ 0 → rest ≡ late a b c rest
-  late-yes true true true rest e = refl
-  late-yes true true false rest e = absurd (omega arith)
-  late-yes true false c rest e = absurd (omega arith)
-  late-yes false b c rest e = absurd (omega arith)
-
-  late-14 : (a b c : Bool) → late a b c 0 ≡ 14 → ⊥
-  late-14 true true true e = omega arith
-  late-14 true true false e = omega arith
-  late-14 true false c e = omega arith
-  late-14 false b c e = omega arith
-
   pub store-14 : storeQuestion s n ≡ 14 → ⊥
   unfolding storeQuestion
-  store-14 e = early-14 (countsFit s) (storeFits (s .width) (s .levels) n) (not (s .ended)) e
+  store-14 = asks-none 13 (early s n) (all-more (λ e. omega arith) (all-more (λ e. omega arith) (all-more (λ e. omega arith) all-none)))
 
   pub row-14 : rowQuestion s m v ≡ 14 → ⊥
   unfolding rowQuestion
-  row-14 e = late-14 (rowDue s) (eqb m (nextLength s)) (runFits (next s .level) m v) e
+  row-14 = asks-none 13 (late s m v) (all-more (λ e. omega arith) (all-more (λ e. omega arith) (all-more (λ e. omega arith) all-none)))
 
   pub feed-early : (storeQuestion s n ≡ 0 → ⊥) → storeQuestion s n ≡ feedQuestion s n x m v
   unfolding storeQuestion feedQuestion
-  feed-early h = early-no (countsFit s) (storeFits (s .width) (s .levels) n) (not (s .ended)) _ h
+  feed-early = asks-no (early s n) _
 
   module _ (one : storeQuestion s n ≡ 0) where
+    abbrev last : ℕ
+    last = ask (fits (feeds s v x)) 14 0
+
     pub feed-late : (rowQuestion s m v ≡ 0 → ⊥) → rowQuestion s m v ≡ feedQuestion s n x m v
     unfolding storeQuestion rowQuestion feedQuestion
-    feed-late h =
-        late-no (rowDue s) (eqb m (nextLength s)) (runFits (next s .level) m v) (ask (fits (feeds s v x)) 14 0) h
-        ∙ early-yes (countsFit s) (storeFits (s .width) (s .levels) n) (not (s .ended)) _ one
+    feed-late h = asks-no (late s m v) last h ∙ asks-yes (early s n) (asks (late s m v) last) one
 
     pub feed-last : rowQuestion s m v ≡ 0 → ask (fits (feeds s v x)) 14 0 ≡ feedQuestion s n x m v
     unfolding storeQuestion rowQuestion feedQuestion
-    feed-last two =
-        late-yes (rowDue s) (eqb m (nextLength s)) (runFits (next s .level) m v) (ask (fits (feeds s v x)) 14 0) two
-        ∙ early-yes (countsFit s) (storeFits (s .width) (s .levels) n) (not (s .ended)) _ one
+    feed-last two = asks-yes (late s m v) last two ∙ asks-yes (early s n) (asks (late s m v) last) one
 
 -- ---- of a draw
 module _ (s : Reader) (n m : ℕ) (x : ℕ → ℤ) where
   pub draw-early : (storeQuestion s n ≡ 0 → ⊥) → storeQuestion s n ≡ drawQuestion s n x m
   unfolding storeQuestion drawQuestion
-  draw-early h = early-no s n m x x (countsFit s) (storeFits (s .width) (s .levels) n) (not (s .ended)) _ h
+  draw-early = asks-no (early s n) _
 
   module _ (one : storeQuestion s n ≡ 0) where
     late-draw : pick (drawDue s) (ask (leb (s .width) m) 12 (ask (fits (settles s x)) 14 0)) 0 ≡ drawQuestion s n x m
     unfolding storeQuestion drawQuestion
-    late-draw = early-yes s n m x x (countsFit s) (storeFits (s .width) (s .levels) n) (not (s .ended)) _ one
+    late-draw = asks-yes (early s n) _ one
 
     pub draw-none : drawDue s ≡ false → 0 ≡ drawQuestion s n x m
     draw-none e = (rw e) ∙ late-draw

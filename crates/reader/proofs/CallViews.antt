@@ -6,10 +6,9 @@ use Prim.Native.Nat.{ℕ, suc, _≤_, _<_}
 use native.Mathlib.Decide.{decLt, decLe}
 use native.Mathlib.Omega.{arith}
 use lib.IntN.{ℤ}
-use lib.Dec.{leb, eqb}
-use borrow.Author.Tests.{lt-ltb, le-ltb, le-leb, lt-leb, ne-eqb, eqb-true, leb-true}
+use lib.Dec.{eqb}
+use borrow.Author.Tests.{lt-ltb, le-ltb, le-leb, lt-leb, ne-eqb, eqb-true}
 use Rattle.numbers.specs.Signal.{pick}
-use Rattle.numbers.proofs.Sweep.{both}
 use Rattle.wavelet.specs.Limits.{maxWidth, maxHeight, maxLevels}
 use Rattle.wavelet.specs.Bands.{Band, code}
 use Rattle.wavelet.specs.Levels.{size}
@@ -17,8 +16,8 @@ use Rattle.wavelet.specs.View.{bandColumns}
 use Rattle.wavelet.specs.Questions.{ask, within}
 use Rattle.wavelet.specs.Order.{rowName}
 use Rattle.wavelet.specs.Steps.{Step, feed, draw}
-use Rattle.calls.specs.Reply.{gives, refused}
-use Rattle.calls.specs.Area.{Area}
+use Rattle.calls.specs.Lists.{gives, refused, Area}
+use Rattle.calls.proofs.QuestionLaws.{asked-yes}
 use Rattle.reader.specs.declared.Reader.{Reader}
 use Rattle.reader.specs.Sets.{rowAt}
 use Rattle.reader.specs.Asked.{asked}
@@ -37,10 +36,6 @@ pub record Limits (W H l n : ℕ) : Type 0 where
   pub deep : within 1 maxLevels (suc l) ≡ true
   pub room : storeFits W (suc l) n ≡ true
 
-asked-yes : (t : Bool) (q r : ℕ) → ask t (suc q) r ≡ 0 → (t ≡ true) × (r ≡ 0)
-asked-yes true q r e = (refl, e)
-asked-yes false q r e = absurd (omega arith)
-
 pub limits : (W H l n : ℕ) → setUpQuestion W H (suc l) n ≡ 0 → Limits W H l n
 unfolding setUpQuestion
 limits W H l n e =
@@ -49,10 +44,6 @@ limits W H l n e =
     let c = asked-yes (within 1 maxLevels (suc l)) 3 _ (b .1) in
     let d = asked-yes (storeFits W (suc l) n) 4 _ (c .1) in
     record { wide = a .0; high = b .0; deep = c .0; room = d .0 }
-
-pub within-both : (a b n : ℕ) → within a b n ≡ true → (a ≤ n) × (n ≤ b)
-unfolding within
-within-both a b n e = let p = both (leb a n) (leb n b) e in (leb-true a n (p .0), leb-true n b (p .1))
 
 module _ (W H l : ℕ) where
   -- a reader of that size

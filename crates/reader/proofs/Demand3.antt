@@ -28,13 +28,13 @@ use Rattle.wavelet.specs.Steps as step
 use Rattle.wavelet.proofs.LevelTheory.{OnCells}
 use Rattle.wavelet.proofs.Bridge.{map-fits, map-band, map-approximation, map-approximation-range}
 use Rattle.wavelet.proofs.MapTheorems.{height-fits, low-fits}
+use Rattle.wavelet.proofs.QuestionLaws.{within-true}
 use Rattle.wavelet.proofs.StepLaws.{steps-once, steps-heights}
-use Rattle.calls.specs.Reply.{Reply, gives, refused}
-use Rattle.calls.specs.Area.{Area}
-use Rattle.calls.specs.All.{All, all-none, all-more}
+use Rattle.calls.specs.Lists.{Reply, gives, refused, Area, All, all-none, all-more}
 use Rattle.calls.specs.Lists as lists
 use Rattle.calls.proofs.AllLaws.{all-left, all-last, all-in, in-all}
 use Rattle.calls.proofs.ListLaws.{either-swap, gathered-snoc, ever-snoc, list-reached}
+use Rattle.calls.proofs.QuestionLaws.{asked-yes}
 use Rattle.reader.specs.declared.Reader.{Reader}
 use Rattle.reader.specs.Asked.{keptAt, asked}
 use Rattle.reader.specs.Answers.{done}
@@ -54,7 +54,7 @@ use Rattle.reader.proofs.SetMade.{Outcome}
 use Rattle.reader.proofs.CallLaws.{fits-no}
 use Rattle.reader.proofs.Outcomes.{outcome-passed, settles-outcome, feeds-outcome}
 use Rattle.reader.proofs.Holds.{Fits, Held, first-holds}
-use Rattle.reader.proofs.CallViews.{Limits, limits, within-both, here, View, at-end, at-height, at-row, view, counts, want-says, FeedView, feed-away}
+use Rattle.reader.proofs.CallViews.{Limits, limits, here, View, at-end, at-height, at-row, view, counts, want-says, FeedView, feed-away}
 use Rattle.reader.proofs.CallViews.{feed-onward, feed-view, DrawView, draw-away, draw-idle, draw-onward, draw-view}
 use Rattle.reader.proofs.Reached.{namesOf, Good, HasWords, Agrees, Kept, Reached, reached, world, call-reached}
 use Rattle.reader.proofs.Rebuilt.{lookup, lookup-words, found, rebuilt-words, back, back-has}
@@ -88,13 +88,10 @@ done-only W false (step.draw r ∷ v) z = absurd (let p : _≡_ {A = ℕ} 0 1 = 
 
 -- a set-up of no levels does not pass
 no-levels : (W H n : ℕ) → setUpQuestion W H 0 n ≡ 0 → ⊥
-unfolding setUpQuestion within
-no-levels W H n = go (within 1 maxWidth W) (within 1 maxHeight H)
-  where
-    go : (s t : Bool) → ask s 2 (ask t 3 4) ≡ 0 → ⊥
-    go true true z = omega arith
-    go true false z = omega arith
-    go false t z = omega arith
+unfolding setUpQuestion
+no-levels W H n e =
+    let a = asked-yes (within 1 maxHeight H) _ _ (asked-yes (within 1 maxWidth W) _ _ e .1) in
+    omega (arith, within-true 1 maxLevels 0 (asked-yes (within 1 maxLevels 0) _ _ (a .1) .0) .0)
 
 module _ (W H l n : ℕ) (lim : Limits W H l n) where
   abbrev T₀ : List Step
@@ -111,14 +108,14 @@ module _ (W H l n : ℕ) (lim : Limits W H l n) where
       (call-reached W H l n lim c w (endedBy es) (left T₀ es) (fedRows T₀ es) (drawnRows es) r)
 
   tall : 0 < H
-  tall = within-both 1 maxHeight H (lim .high) .0
+  tall = within-true 1 maxHeight H (lim .high) .0
 
   few : suc l ≤ 5
   unfolding maxLevels
-  few = within-both 1 maxLevels (suc l) (lim .deep) .1
+  few = within-true 1 maxLevels (suc l) (lim .deep) .1
 
   fresh-reached : (x : ℕ → ℤ) → Reached W H l n lim (freshWorld W H (suc l) n x) false (steps W H (suc l)) [] []
-  unfolding fresh namesOf
+  unfolding fresh
   fresh-reached x = reached 0 (suc l) 0 false _ (steps W H (suc l)) [] [] (record {
     drawn-le = omega arith;
     level-le = omega arith;
@@ -169,7 +166,8 @@ module _ (W H l n : ℕ) (lim : Limits W H l n) where
 
   wholes-of : (g : Grid) → IsMap W H g → (fs : List FedRow) → All (Good W H l) fs → All (HasWords W H l g) fs → All (HasRow W H g) fs
   wholes-of g m [] all-none all-none = all-none
-  wholes-of g m (f ∷ fs) (all-more good gs) (all-more h hs) = all-more (record { size = good .size; values = λ i p. h i p ∙ exact g m f good i p }) (wholes-of g m fs gs hs)
+  wholes-of g m (f ∷ fs) (all-more good gs) (all-more h hs) =
+      all-more (record { size = good .size; values = λ i p. h i p ∙ exact g m f good i p }) (wholes-of g m fs gs hs)
 
   -- every value of a map and of its low-low parts fits
   map-fitting : (g : Grid) (m : IsMap W H g) → Fits W H l g (map-fits W H g m)

@@ -15,7 +15,7 @@ use Rattle.wavelet.specs.Bands.{Grid, Band, code}
 use Rattle.wavelet.specs.Levels.{levelBand}
 use Rattle.wavelet.specs.View.{bandColumns}
 use Rattle.wavelet.specs.Questions.{ask, within}
-use Rattle.calls.specs.Area.{Area}
+use Rattle.calls.specs.Lists.{Area}
 use Rattle.reader.specs.declared.Reader.{Reader}
 use Rattle.reader.specs.Answers.{Reply, gives, refused, impossible, Handed, aRow, nothing}
 use Rattle.reader.specs.Sets.{rowAt}

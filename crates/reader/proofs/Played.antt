@@ -1,7 +1,7 @@
 -- The reader fed and drawn as it wants. Proved from demand 3 alone: nothing here looks at a state. Assumes nothing.
 use mathlib.Core.Bool.{Bool, true, false}
 use mathlib.Core.Path.{_≡_, refl, sym, ap, ap₂, subst, _∙_}
-use mathlib.Core.List.{List, [], _∷_, _++_, append-nil, append-assoc}
+use mathlib.Core.List.{List, [], _∷_, _++_, map-append, append-nil, append-assoc}
 use Prim.Native.Nat.{ℕ, zero, suc, _+_, _-_, _≤_, _<_}
 use native.Mathlib.Omega.{arith}
 use lib.IntN.{ℤ, natAbs}
@@ -23,9 +23,7 @@ use Rattle.wavelet.specs.Maps.{IsMap}
 use Rattle.wavelet.specs.Order.{RowName, rowName, sameName, times}
 use Rattle.wavelet.specs.Steps.{Step, steps, bandRowsOf}
 use Rattle.wavelet.specs.Steps as step
-use Rattle.calls.specs.Reply.{Reply, gives, refused}
-use Rattle.calls.specs.Area.{Area}
-use Rattle.calls.specs.All.{All, all-none, all-more}
+use Rattle.calls.specs.Lists.{Reply, gives, refused, Area, All, all-none, all-more}
 use Rattle.calls.specs.Lists as lists
 use Rattle.calls.proofs.AllLaws.{all-append, In, first, later, in-left, in-right, all-in, in-all}
 use Rattle.calls.proofs.ListLaws.{ever-append, final-append, events-append, events-length}
@@ -37,18 +35,16 @@ use Rattle.reader.specs.Demand3.{IsRow, HasFed, wantSays, feedTurned, dr
 use Rattle.reader.specs.Demand3 as demand
 use Rattle.reader.specs.Played.{asWanted, answering, played, Sized, HasAll, Back, Stopped, Refusal, seven, fed-fourteen, drawn-fourteen, after, Played}
 use Rattle.reader.proofs.StepsLeft.{named-code}
-use Rattle.reader.proofs.Reached.{namesOf, names-append}
+use Rattle.reader.proofs.Reached.{namesOf}
 use Rattle.reader.proofs.Rebuilt.{same-name, same-self}
 use Rattle.reader.proofs.Demand3.{left-append, fed-append, done-only, demand-3}
 
 -- ---- names
 in-names : (f : FedRow) (fs : List FedRow) → In f fs → In (f .row) (namesOf fs)
-unfolding namesOf
 in-names f (g ∷ fs) first = first
 in-names f (g ∷ fs) (later i) = later (in-names f fs i)
 
 names-in : (x : RowName) (fs : List FedRow) → In x (namesOf fs) → (f : FedRow) × In f fs × (f .row ≡ x)
-unfolding namesOf
 names-in x (f ∷ fs) first = (f, first, refl)
 names-in x (f ∷ fs) (later i) = let r = names-in x fs i in (r .0, later (r .1), r .2)
 
@@ -103,14 +99,15 @@ refusal-after [] fs r = r
 refusal-after (e ∷ es) fs r = after (refusal-after es fs r)
 
 -- ---- a row of a map is in range
-exists-parts : (W H L k : ℕ) (b : Band) (r : ℕ) → bandRowExists W H L k b r ≡ true → (1 ≤ k) × (r < bandRows H k b)
+pub exists-parts : (W H L k : ℕ) (b : Band) (r : ℕ) → bandRowExists W H L k b r ≡ true →
+    (1 ≤ k) × (r < bandRows H k b) × (k ≤ L) × (keptAt L k b ≡ true)
 unfolding bandRowExists within
 exists-parts W H L k b r e =
     let a = both (pick (leb 1 k) (leb k L) false) _ e in
     let c = both (leb 1 k) (leb k L) (a .0) in
     let d = both (keptAt L k b) _ (a .1) in
     let f = both (ltb 0 (bandColumns W k b)) _ (d .1) in
-    (leb-true 1 k (c .0), ltb-true r (bandRows H k b) (f .1))
+    (leb-true 1 k (c .0), ltb-true r (bandRows H k b) (f .1), leb-true k L (c .1), d .0)
 
 row-in-range : (W H L : ℕ) (g : Grid) → IsMap W H g → (y : RowName) → bandRowExists W H L (y .level) (y .band) (y .row) ≡ true → (i : ℕ) →
     i < bandColumns W (y .level) (y .band) → natAbs (levelBand whole W H g (y .level) (y .band) (y .row) i) ≤ range (y .level)
@@ -229,7 +226,7 @@ module _ (W H L n : ℕ) (ok : setUpQuestion W H L n ≡ 0) (rows : RowName → 
         record {
           live = ever-append ends es _ ∙ rw (fair .live) (unfold lists.ever ends in refl);
           from-rows = subst (All _) (sym rows-are) (all-append (fair .from-rows) (all-more refl all-none));
-          names = ap₂ (λ u v. namesOf u ++ bandRowsOf v) rows-are left-is ∙ ap (λ u. u ++ bandRowsOf t) (names-append (fedRows T₀ es) (f ∷ []))
+          names = ap₂ (λ u v. namesOf u ++ bandRowsOf v) rows-are left-is ∙ ap (λ u. u ++ bandRowsOf t) (map-append (λ f. f .row) (fedRows T₀ es) (f ∷ []))
               ∙ append-assoc (namesOf (fedRows T₀ es)) (namesOf (f ∷ [])) (bandRowsOf t) ∙ names-more ∙ fair .names;
         },
         left-is,
@@ -242,7 +239,7 @@ module _ (W H L n : ℕ) (ok : setUpQuestion W H L n ≡ 0) (rows : RowName → 
           rows-are = fed-append T₀ es _ ∙ ap (λ u. fedRows T₀ es ++ fedRows u (fed (rows y) (gives tt) ∷ [])) head ∙ unfold fedRows fedBy in refl
 
           names-more : namesOf (fedRows T₀ es) ++ (namesOf (f ∷ []) ++ bandRowsOf t) ≡ namesOf (fedRows T₀ es) ++ bandRowsOf (left T₀ es)
-          names-more = ap (λ u. namesOf (fedRows T₀ es) ++ u) (sym (ap bandRowsOf head ∙ unfold bandRowsOf namesOf in refl))
+          names-more = ap (λ u. namesOf (fedRows T₀ es) ++ u) (sym (ap bandRowsOf head ∙ unfold bandRowsOf in refl))
 
       -- where 14 comes no map has all rows
       fed-none : event (feed (rows y)) w ≡ fed (rows y) (refused 14) → (g : Grid) → IsMap W H g → HasAll W H L g rows → ⊥
@@ -390,7 +387,7 @@ module _ (W H L n : ℕ) (ok : setUpQuestion W H L n ≡ 0) (rows : RowName → 
   turns (suc m) cs len fair = turn m cs len fair (turns m)
 
   fair-first : Fair []
-  unfolding lists.ever fedRows left namesOf
+  unfolding lists.ever fedRows left
   fair-first = record { live = refl; from-rows = all-none; names = refl }
 
   abbrev all : List Call

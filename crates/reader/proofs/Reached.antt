@@ -1,16 +1,16 @@
 -- Every world that calls reach from a fresh one, and what is kept of it: the steps left, the rows fed and drawn, and what holds of every grid of 32-bit numbers
 -- that has the rows fed.
 -- Assumes nothing.
-use mathlib.Core.Bool.{Bool, true, false}
+use mathlib.Core.Bool.{Bool, true, false, true≢false, false≢true}
 use mathlib.Core.Path.{_≡_, refl, sym, ap, subst, _∙_}
-use mathlib.Core.List.{List, [], _∷_, _++_, append-nil, append-assoc}
+use mathlib.Core.List.{List, [], _∷_, _++_, map, map-append, append-nil, append-assoc}
 use Prim.Native.Nat.{ℕ, zero, suc, _+_, _≤_, _<_}
 use native.Mathlib.Decide.{ℕ-discrete}
 use native.Mathlib.Omega.{arith}
 use lib.IntN.{ℤ, pos, natAbs}
 use lib.ListN.{length, length-append, getD, List·getD-append}
 use lib.Seq.{getD-append-add}
-use lib.Dec.{T, eqb}
+use lib.Dec.{eqb}
 use mir.Syntax.{w32}
 use mir.Val.{SFits}
 use borrow.Author.Tests.{leb-true}
@@ -28,8 +28,7 @@ use Rattle.wavelet.specs.Steps.{Step, steps, bandRowsOf}
 use Rattle.wavelet.specs.Steps as step
 use Rattle.wavelet.proofs.LevelTheory.{OnCells}
 use Rattle.numbers.proofs.TestLaws.{every-each}
-use Rattle.calls.specs.Area.{Area}
-use Rattle.calls.specs.All.{All, all-none, all-more}
+use Rattle.calls.specs.Lists.{Area, All, all-none, all-more}
 use Rattle.calls.proofs.AllLaws.{all-append, all-left, all-last}
 use Rattle.reader.specs.declared.Reader.{Reader}
 use Rattle.reader.specs.Sets.{opens, rowAt}
@@ -50,17 +49,8 @@ use Rattle.reader.proofs.CallViews.{Limits, here, View, view, FeedView,
 use Rattle.reader.proofs.CallViews.{draw-view}
 
 -- the names of rows
-unfoldable pub namesOf : List FedRow → List RowName
-namesOf [] = []
-namesOf (f ∷ fs) = f .row ∷ namesOf fs
-
-pub names-append : (s t : List FedRow) → namesOf (s ++ t) ≡ namesOf s ++ namesOf t
-unfolding namesOf
-names-append [] t = refl
-names-append (f ∷ s) t = ap (λ r. f .row ∷ r) (names-append s t)
-
-true-false : true ≡ false → ⊥
-true-false z = subst T z tt
+abbrev pub namesOf : List FedRow → List RowName
+namesOf = map (λ f. f .row)
 
 -- where a row begins, the numbers are inside their ranges
 dive-le : (W H l d m k : ℕ) → k + m ≡ suc l → (dive W H (suc l) d m k .level ≤ suc l) × (dive W H (suc l) d m k .band ≤ 4)
@@ -184,13 +174,13 @@ module _ (W H l : ℕ) where
             left = kept .left;
             drawn = kept .drawn;
             good = good-all;
-            names = λ z. absurd (true-false z);
+            names = λ z. absurd (true≢false z);
             grids = λ g words has.
                 let old = kept .grids g words (all-left fs (f ∷ []) has) in
                 record {
                   fit = old .fit;
                   shows = old .shows;
-                  holds = λ z _. absurd (true-false z);
+                  holds = λ z _. absurd (true≢false z);
                   refuses = λ _. outcome-failed (subst (Outcome (Fits W H l g words) _) z₁ (outcome-is g words has));
                 };
           }
@@ -213,7 +203,7 @@ module _ (W H l : ℕ) where
               go false = (omega (arith, inside), omega (arith, code-lt c))
 
           on-kept : (y : ℕ → ℤ) → feeds s (a .numbers) x ≡ passed y → Kept d (to .level) (to .band) false y (stepsLeft W H l d to) (fs ++ (f ∷ [])) ds
-          unfolding namesOf bandRowsOf
+          unfolding bandRowsOf
           on-kept y z₁ = record {
             drawn-le = kept .drawn-le;
             level-le = beyond-le .0;
@@ -228,12 +218,12 @@ module _ (W H l : ℕ) where
                   fit = old .fit;
                   shows = old .shows;
                   holds = λ _ _. outcome-passed y (subst (Outcome (Fits W H l g words) _) z₁ (outcome-is g words has));
-                  refuses = λ z. absurd (true-false (sym z));
+                  refuses = λ z. absurd (false≢true z);
                 };
           }
             where
               rename : namesOf (fs ++ (f ∷ [])) ++ bandRowsOf (stepsLeft W H l d to) ≡ namesOf fs ++ bandRowsOf t
-              rename = ap (λ u. u ++ bandRowsOf (stepsLeft W H l d to)) (names-append fs (f ∷ [])) ∙ append-assoc (namesOf fs) (namesOf (f ∷ [])) _
+              rename = ap (λ u. u ++ bandRowsOf (stepsLeft W H l d to)) (map-append (λ f. f .row) fs (f ∷ [])) ∙ append-assoc (namesOf fs) (namesOf (f ∷ [])) _
                   ∙ ap (λ u. namesOf fs ++ bandRowsOf u) (sym head)
 
           fed-goes : (y : ℕ → ℤ) → feeds s (a .numbers) x ≡ passed y → FedTo 0
@@ -289,13 +279,13 @@ module _ (W H l : ℕ) where
             left = kept .left;
             drawn = kept .drawn;
             good = kept .good;
-            names = λ z. absurd (true-false z);
+            names = λ z. absurd (true≢false z);
             grids = λ g words has.
                 let old = kept .grids g words has in
                 record {
                   fit = old .fit;
                   shows = old .shows;
-                  holds = λ z _. absurd (true-false z);
+                  holds = λ z _. absurd (true≢false z);
                   refuses = λ _. outcome-failed (subst (Outcome (Fits W H l g words) _) z₁ (settles-is g words has));
                 };
           }
@@ -345,7 +335,7 @@ module _ (W H l : ℕ) where
                     fit = λ r c p q. elim (ℕ-discrete r d) [ yes z ↦ rw z (height-fit W H l g words d y due h c q) | no z ↦ old .fit r c (omega (arith, z)) q ];
                     shows = row-at g (out-is g words h) (old .shows);
                     holds = λ _ more. enter-holds W H l g words d more y h;
-                    refuses = λ z. absurd (true-false (sym z));
+                    refuses = λ z. absurd (false≢true z);
                   };
             }
               where

@@ -21,7 +21,7 @@ use Rattle.wavelet.specs.View.{bandColumns}
 use Rattle.wavelet.specs.Order.{RowName, rowName, sameName, times}
 use Rattle.wavelet.proofs.LevelTheory.{OnCells, Same, SameBands, over, over-all, level-back-fits, words-forward-back, subband-same, same-low}
 use Rattle.wavelet.proofs.Bridge.{range-small}
-use Rattle.calls.specs.All.{All, all-none, all-more}
+use Rattle.calls.specs.Lists.{All, all-none, all-more}
 use Rattle.calls.proofs.AllLaws.{In, first, later}
 use Rattle.reader.specs.Asked.{named}
 use Rattle.reader.specs.Demand3.{FedRow}
@@ -86,13 +86,13 @@ lookup [] x = λ _. pos 0
 lookup (f ∷ fs) x = pick (sameName x (f .row)) (f .run .numbers) (lookup fs x)
 
 occurs : (f : FedRow) (fs : List FedRow) → In f fs → 1 ≤ times (f .row) (namesOf fs)
-unfolding namesOf times
+unfolding times
 occurs f (g ∷ fs) first = rw (same-self (f .row)) (omega arith)
 occurs f (g ∷ fs) (later i) = let a = occurs f fs i in omega arith
 
 -- a row that stands once is found
 pub found : (f : FedRow) (fs : List FedRow) → In f fs → times (f .row) (namesOf fs) ≤ 1 → lookup fs (f .row) ≡ f .run .numbers
-unfolding namesOf times lookup
+unfolding times lookup
 found f (g ∷ fs) first h = rw (same-self (f .row)) refl
 found f (g ∷ fs) (later i) h = go (sameName (f .row) (g .row)) h (found f fs i)
   where

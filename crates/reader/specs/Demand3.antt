@@ -22,10 +22,7 @@ use Rattle.wavelet.specs.Questions.{ask}
 use Rattle.wavelet.specs.Order.{RowName, inTurn, times}
 use Rattle.wavelet.specs.Steps.{Step, steps, bandRowsOf, heightRowsOf}
 use Rattle.wavelet.specs.Steps as step
-use Rattle.calls.specs.Reply.{Reply, gives, refused}
-use Rattle.calls.specs.Area.{Area}
-use Rattle.calls.specs.All.{All}
-use Rattle.calls.specs.Lists.{gathered, ever}
+use Rattle.calls.specs.Lists.{Reply, gives, refused, Area, All, gathered, ever}
 use Rattle.calls.specs.Lists as lists
 use Rattle.reader.specs.declared.Reader.{Reader}
 use Rattle.reader.specs.Sets.{setOf, rowAt}

@@ -7,8 +7,8 @@ use native.Mathlib.Nat.{mul-le-mul-right, mul-comm, eq-of-mul-eq-mul-left}
 use native.Mathlib.Omega.{arith}
 use lib.IntN.{ℤ}
 use lib.ListN.{length}
-use lib.Dec.{T, leb, ltb, eqb}
-use borrow.Author.Tests.{le-leb, lt-ltb, eq-eqb, leb-true, ltb-true, eqb-true}
+use lib.Dec.{T, eqb}
+use borrow.Author.Tests.{le-leb, lt-ltb, eq-eqb, eqb-true}
 use Rattle.numbers.specs.Signal.{pick}
 use Rattle.numbers.specs.Word.{whole}
 use Rattle.numbers.proofs.Sweep.{both}
@@ -18,34 +18,31 @@ use Rattle.wavelet.specs.Plane.{planeCell, cells}
 use Rattle.wavelet.specs.View.{bandRows, bandColumns}
 use Rattle.wavelet.specs.ViewCall.{keptAt, bandRowExists}
 use Rattle.wavelet.specs.Limits.{maxWidth, maxHeight, maxLevels}
-use Rattle.wavelet.specs.Questions.{ask, within}
+use Rattle.wavelet.specs.Questions.{within}
 use Rattle.wavelet.specs.Store.{storeLength}
 use Rattle.wavelet.specs.Maps.{IsMap, HasPlane}
 use Rattle.wavelet.specs.Order.{RowName}
+use Rattle.wavelet.proofs.QuestionLaws.{within-true}
 use Rattle.wavelet.proofs.PlaneLayout.{Stands, place-is, row-in, column-in, cell-places}
 use Rattle.wavelet.proofs.PlanePlaces.{Found, found, found-place}
-use Rattle.calls.specs.Area.{Area}
-use Rattle.calls.specs.All.{All, all-more}
+use Rattle.calls.specs.Lists.{Area, All, all-more}
 use Rattle.calls.proofs.AllLaws.{In, first, later}
+use Rattle.calls.proofs.QuestionLaws.{asked-yes}
 use Rattle.writer.specs.declared.BandRow.{BandRow}
 use Rattle.writer.specs.History as writer
 use Rattle.writer.specs.Demand3.{HasValues, MapOf, answered}
 use Rattle.writer.specs.Questions as writer-asks
 use Rattle.writer.specs.Demand3 as writes
+use Rattle.writer.proofs.CountLaws.{code-one}
+use Rattle.writer.proofs.CallLaws.{set-up-passed}
 use Rattle.writer.proofs.Demand3 as writer-holds
-use Rattle.reader.specs.Asked.{named}
 use Rattle.reader.specs.Questions as reader-asks
 use Rattle.reader.specs.Demand3 as reader
 use Rattle.reader.specs.Played.{Sized, HasAll}
-use Rattle.reader.proofs.CallViews.{within-both}
-use Rattle.reader.proofs.StepsLeft.{named-code}
-use Rattle.reader.proofs.Played.{times-in, played-holds}
+use Rattle.reader.proofs.Played.{times-in, exists-parts, played-holds}
 use Rattle.round_trip.specs.RoundTrip.{isNamed, drawnAs, wrote, rowsWrote, Finished, Lent, HandsBack, planeRows, FromPlane}
 
 -- ---- a row found by its name
-code-same : (b c : Band) → code b ≡ code c → b ≡ c
-code-same b c e = sym (named-code b) ∙ ap named e ∙ named-code c
-
 pub record Named (x : RowName) (d : BandRow) : Type 0 where
   level : x .level ≡ d .level
   band : code (x .band) ≡ d .band
@@ -75,7 +72,7 @@ module _ (W H : ℕ) (g : Grid) where
       Right x (record { size = d .row .length; numbers = d .values })
   drawn-right x z d e has is =
       let n = named-is x (d .row) is in
-      let b : x .band ≡ z .band = code-same (x .band) (z .band) (n .band ∙ ap (λ q. q .band) e) in
+      let b : x .band ≡ z .band = code-one (x .band) (z .band) (n .band ∙ ap (λ q. q .band) e) in
       let k : x .level ≡ z .level = n .level ∙ ap (λ q. q .level) e in
       let long : bandColumns W (x .level) (x .band) ≡ d .row .length = ap₂ (bandColumns W) k b ∙ ap (λ q. q .length) (sym e) in
       record {
@@ -103,11 +100,6 @@ module _ (W H : ℕ) (g : Grid) where
           ih
 
 -- ---- questions 2 and 4 are the writer's too
-passed-yes : (s t : Bool) (r : ℕ) → ask s 2 (ask t 4 r) ≡ 0 → (s ≡ true) × (t ≡ true)
-passed-yes true true r e = (refl, refl)
-passed-yes true false r e = absurd (omega arith)
-passed-yes false t r e = absurd (omega arith)
-
 set-up-passes : (W H L n : ℕ) → within 1 maxWidth W ≡ true → (1 ≤ H) × (H ≤ maxHeight) → within 1 maxLevels L ≡ true → storeLength W L ≤ n →
     reader-asks.setUpQuestion W H L n ≡ 0
 unfolding reader-asks.setUpQuestion reader-asks.storeFits within
@@ -121,12 +113,11 @@ module _ (W L n : ℕ) (x : ℕ → ℤ) (cs : List writer.Call) (done : Finishe
   claim = writer-holds.demand-3 W L n x (done .set-up) cs .1
 
   -- ---- the map that was written
-  in-limits : (within 1 maxWidth W ≡ true) × (within 1 maxLevels L ≡ true)
-  unfolding writer-asks.setUpQuestion
-  in-limits = passed-yes (within 1 maxWidth W) (within 1 maxLevels L) _ (done .set-up)
+  in-limits : (within 1 maxWidth W ≡ true) × (within 1 maxLevels L ≡ true) × (storeLength W L ≤ n)
+  in-limits = set-up-passed W L n (done .set-up)
 
   width : 0 < W
-  width = within-both 1 maxWidth W (in-limits .0) .0
+  width = within-true 1 maxWidth W (in-limits .0) .0
 
   written : (H : ℕ) × (g : Grid) × MapOf W H g es
   written = claim .some-map (done .sixteen)
@@ -209,13 +200,9 @@ module _ (W H L : ℕ) (plane : ℕ → ℤ) (g : Grid) where
   ) refl
 
   stands-if : (k : ℕ) (b : Band) (r c : ℕ) → bandRowExists W H L k b r ≡ true → c < bandColumns W k b → Stands L W H k b r c
-  unfolding bandRowExists within
   stands-if k b r c e p =
-      let a = both (pick (leb 1 k) (leb k L) false) _ e in
-      let d = both (leb 1 k) (leb k L) (a .0) in
-      let f = both (keptAt L k b) _ (a .1) in
-      let h = both (ltb 0 (bandColumns W k b)) _ (f .1) in
-      record { deep = leb-true 1 k (d .0); most = leb-true k L (d .1); last = kept-last k b (f .0); row = ltb-true r (bandRows H k b) (h .1); column = p }
+      let a = exists-parts W H L k b r e in
+      record { deep = a .0; most = a .2; last = kept-last k b (a .3); row = a .1; column = p }
 
   rows-plane : 0 < L → IsMap W H g → HasAll W H L g (planeRows W H plane) → HasPlane L W H g (cells W plane)
   unfolding planeRows cells
@@ -248,13 +235,9 @@ planes-sized W H L plane = record { size = λ y e. refl }
 
 some-levels : (W H L n : ℕ) → reader-asks.setUpQuestion W H L n ≡ 0 → 0 < L
 unfolding reader-asks.setUpQuestion
-some-levels W H L n e = within-both 1 maxLevels L (go (within 1 maxWidth W) (within 1 maxHeight H) (within 1 maxLevels L) _ e) .0
-  where
-    go : (s t u : Bool) (r : ℕ) → pick s (pick t (pick u r 4) 3) 2 ≡ 0 → u ≡ true
-    go true true true r z = refl
-    go true true false r z = absurd (omega arith)
-    go true false u r z = absurd (omega arith)
-    go false t u r z = absurd (omega arith)
+some-levels W H L n e =
+    let a = asked-yes (within 1 maxHeight H) _ _ (asked-yes (within 1 maxWidth W) _ _ e .1) in
+    within-true 1 maxLevels L (asked-yes (within 1 maxLevels L) _ _ (a .1) .0) .0
 
 -- ---- the theorem: of a map's plane the map and Done, of any other plane 7 or 14 and no Done
 pub from-plane : (W H L n : ℕ) (y plane : ℕ → ℤ) (outs : ℕ → Area) → reader-asks.setUpQuestion W H L n ≡ 0 →

@@ -15,9 +15,7 @@ use Rattle.wavelet.specs.Maps.{HasPlane}
 use Rattle.wavelet.specs.Order.{RowName}
 use Rattle.wavelet.specs.Steps.{steps}
 use Rattle.wavelet.specs.Store.{storeLength}
-use Rattle.calls.specs.Reply.{gives}
-use Rattle.calls.specs.Area.{Area}
-use Rattle.calls.specs.All.{All}
+use Rattle.calls.specs.Lists.{gives, Area, All}
 use Rattle.writer.specs.declared.BandRow.{BandRow}
 use Rattle.writer.specs.History as writer
 use Rattle.writer.specs.Demand3.{wholeRows, waitingOf}

@@ -4,7 +4,7 @@ use mathlib.Core.Path.{_≡_, refl, ap}
 use mathlib.Core.List.{List}
 use Prim.Native.Nat.{ℕ}
 use lib.IntN.{ℤ}
-use Rattle.calls.specs.Area.{Area}
+use Rattle.calls.specs.Lists.{Area}
 use Rattle.calls.proofs.ListLaws.{told-events}
 use Rattle.reader.specs.declared.Reader.{Reader}
 use Rattle.reader.specs.Answers.{Reply, gives, refused, impossible, number, Want, Handed, aRow, nothing}
@@ -12,9 +12,10 @@ use Rattle.reader.specs.Questions.{wantQuestion}
 use Rattle.reader.specs.Calls.{wantReply, feedReply, feedStore, drawReply, drawStore}
 use Rattle.reader.specs.Demand3.{Call, World, event, next, events}
 use Rattle.reader.specs.Demand3 as rattle
+use Rattle.terrain.specs.States.{Memories}
 use Rattle.terrain.specs.ReaderState.{readerWords}
 use Rattle.terrain.specs.ReaderCalls as c
-use Rattle.terrain.specs.ReaderLists.{CCall, wanted, fed, drew, Memories, seenOf, leaves, seenAll, told, toldAll, holding, calls}
+use Rattle.terrain.specs.ReaderLists.{CCall, wanted, fed, drew, seenOf, leaves, seenAll, told, toldAll, holding, calls}
 use Rattle.terrain.proofs.StateTheorems.{reader-back, reader-is}
 
 -- an answer told, and the state array that it leaves. No want answers 14 with an ended reader, but that need not be known here: the number is 14 too

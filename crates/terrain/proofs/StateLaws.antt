@@ -2,12 +2,13 @@
 use mathlib.Core.Path.{_≡_, refl, sym, ap, _∙_}
 use mathlib.Core.Bool.{Bool, true, false, not}
 use mathlib.Core.List.{List}
-use Prim.Native.Nat.{ℕ, zero, suc, _+_, _-_, _<_, _≤_}
+use Prim.Native.Nat.{ℕ, suc, _+_, _-_, _<_, _≤_}
 use native.Mathlib.Omega.{arith}
 use lib.Dec.{eqb}
 use lib.ListN.{getD}
 use borrow.Author.Tests.{eq-eqb, ne-eqb, le-leb, lt-leb}
 use Rattle.numbers.specs.Signal.{pick, both}
+use Rattle.calls.proofs.QuestionLaws.{not-yes}
 use Rattle.terrain.specs.States.{zeroNext, zeroFrom, isState}
 
 module _ (s : List ℕ) (i : ℕ) where
@@ -56,10 +57,6 @@ pub pick-no : {A : Type 0} (t : Bool) (a b : A) → t ≡ false → pick t a b �
 pick-no t a b e = rw e refl
 
 -- ---- a call on a state array. b is what the code asked of it, `is` what that says; the code goes by `not b`
-not-yes : (b : Bool) → not b ≡ true → b ≡ false
-not-yes true e = let z : _≡_ {A = ℕ} 0 1 = cc in absurd (omega arith)
-not-yes false e = refl
-
 not-no : (b : Bool) → not b ≡ false → b ≡ true
 not-no true e = refl
 not-no false e = let z : _≡_ {A = ℕ} 0 1 = cc in absurd (omega arith)

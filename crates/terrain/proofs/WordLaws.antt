@@ -10,7 +10,7 @@ use lib.Seq.{drop-cons, drop-length}
 use borrow.Author.Tests.{eqb-true, leb-true}
 use Rattle.numbers.specs.Signal.{pick}
 use Rattle.numbers.proofs.Sweep as sweep
-use Rattle.calls.specs.Reply.{Reply, gives, refused}
+use Rattle.calls.specs.Lists.{Reply, gives, refused}
 use Rattle.writer.specs.declared.Writer.{Writer}
 use Rattle.writer.specs.Level.{Memory}
 use Rattle.writer.specs.declared.BandRow.{BandRow}

@@ -2,12 +2,11 @@
 use mathlib.Core.List.{List, zipWith, map as each}
 use Prim.Native.Nat.{ℕ}
 use lib.IntN.{ℤ}
-use Rattle.calls.specs.Reply.{gives, refused}
-use Rattle.calls.specs.Area.{Area}
-use Rattle.calls.specs.Lists.{events}
+use Rattle.calls.specs.Lists.{gives, refused, Area, events}
 use Rattle.reader.specs.Answers.{number}
 use Rattle.reader.specs.Demand3.{Call, Event, World, heights, nothing}
 use Rattle.reader.specs.Demand3 as rattle
+use Rattle.terrain.specs.States.{Memories}
 use Rattle.terrain.specs.ReaderState.{readerWords}
 use Rattle.terrain.specs.ReaderCalls as c
 
@@ -22,12 +21,6 @@ pub data Seen : Type 0 where
   wanted : ℕ → List ℕ → Seen
   fed : Area → ℕ → Seen
   drew : Area → ℕ → ℕ → Area → Seen
-
--- the caller's memory
-pub record Memories : Type 0 where
-  pub state : List ℕ
-  pub length : ℕ
-  pub store : ℕ → ℤ
 
 module _ (m : Memories) where
   abbrev s : List ℕ

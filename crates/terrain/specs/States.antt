@@ -2,6 +2,7 @@
 use mathlib.Core.Bool.{Bool, true, false}
 use mathlib.Core.List.{List}
 use Prim.Native.Nat.{ℕ, zero, suc, _+_, _-_}
+use lib.IntN.{ℤ}
 use lib.Dec.{eqb, leb}
 use lib.ListN.{getD}
 use Rattle.numbers.specs.Signal.{pick, both}
@@ -21,3 +22,9 @@ zeroFrom k s = zeroNext (16 - k) k s
 -- is this a state of a kind, with its flag at place f and nothing but 0 from place k on?
 unfoldable pub isState : ℕ → ℕ → ℕ → List ℕ → Bool
 isState kind f k s = both (eqb (getD s 0 0) kind) (both (leb (getD s f 0) 1) (zeroFrom k s))
+
+-- the caller's memory between two calls: the state array, and the line store with its length
+pub record Memories : Type 0 where
+  pub state : List ℕ
+  pub length : ℕ
+  pub store : ℕ → ℤ

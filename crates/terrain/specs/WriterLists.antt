@@ -1,12 +1,12 @@
--- Lists of C calls on a writer, and what is seen of them in C: the number that each answers, its out-parameter and its area. Each call is made on the state array and the line store that the one before left.
+-- Lists of C calls on a writer, and what is seen of them in C: the number that each answers, its out-parameter and its area.
+-- Each call is made on the state array and the line store that the one before left.
 use mathlib.Core.List.{List, [], _∷_, zipWith, map as each}
 use Prim.Native.Nat.{ℕ}
-use Rattle.calls.specs.Reply.{gives, refused}
-use Rattle.calls.specs.Area.{Area}
-use Rattle.calls.specs.Lists.{events}
+use Rattle.calls.specs.Lists.{gives, refused, Area, events}
 use Rattle.writer.specs.Level.{Memory}
 use Rattle.writer.specs.History.{Call, Event, World, row, none}
 use Rattle.writer.specs.History as rattle
+use Rattle.terrain.specs.States.{Memories}
 use Rattle.terrain.specs.WriterState.{writerWords}
 use Rattle.terrain.specs.WriterCalls as c
 
@@ -21,12 +21,6 @@ pub data Seen : Type 0 where
   offered : List ℕ → ℕ → ℕ → Seen
   drew : Area → ℕ → List ℕ → Area → Seen
   finished : ℕ → Seen
-
--- the caller's memory
-pub record Memories : Type 0 where
-  pub state : List ℕ
-  pub length : ℕ
-  pub store : Memory
 
 module _ (m : Memories) where
   abbrev s : List ℕ

@@ -1,17 +1,19 @@
 -- What the calls answer and leave, as the code's branches meet them. Assumes nothing.
-use mathlib.Core.Path.{_≡_, refl, sym, ap, _∙_}
-use mathlib.Core.Bool.{Bool, true, false}
+use mathlib.Core.Path.{_≡_, refl, sym, ap, ap₂, _∙_}
+use mathlib.Core.Bool.{Bool, true, false, not}
 use Prim.Native.Nat.{ℕ, zero, suc, _≤_, _<_}
 use native.Mathlib.Omega.{arith}
 use lib.IntN.{pos}
-use lib.Dec.{leb, eqb}
-use borrow.Author.Tests.{leb-true, le-leb, lt-leb, eq-eqb, ne-eqb}
+use lib.Dec.{leb, ltb, eqb}
+use borrow.Author.Tests.{leb-true, le-leb, lt-leb, eq-eqb, ne-eqb, eqb-true, ltb-true}
 use Rattle.numbers.specs.Signal.{pick, both}
+use Rattle.numbers.proofs.Sweep.{both as split-both}
 use Rattle.lifting.specs.Halves.{fronted}
-use Rattle.wavelet.specs.Limits.{maxWidth, maxLevels}
+use Rattle.wavelet.specs.Limits.{maxWidth, maxHeight, maxLevels}
 use Rattle.wavelet.specs.Questions.{ask, within}
 use Rattle.wavelet.specs.Store.{storeLength}
-use Rattle.calls.specs.Reply.{gives, refused, unless, changedUnless}
+use Rattle.calls.specs.Lists.{gives, refused, unless, changedUnless}
+use Rattle.calls.proofs.QuestionLaws.{asked-yes, not-yes}
 use Rattle.writer.specs.declared.Writer.{Writer}
 use Rattle.writer.specs.declared.BandRow.{BandRow}
 use Rattle.writer.specs.declared.cascade.Wait.{Wait}
@@ -22,6 +24,7 @@ use Rattle.writer.specs.FiveThreeLevel.{fiveThree}
 use Rattle.writer.specs.Machine.{rest}
 use Rattle.writer.specs.Closing.{Shut, shut}
 use Rattle.writer.specs.Counts.{startOf}
+use Rattle.writer.specs.Taking.{takes}
 use Rattle.writer.specs.Questions.{either, inRanges, longEnough, waitingRow, setUpQuestion, offerQuestion, drawQuestion, finishQuestion}
 use Rattle.writer.specs.Gate.{stateQuestion}
 use Rattle.writer.specs.Answers.{Handed, aRow, nothing}
@@ -48,11 +51,12 @@ changed-yes zero a b h = refl
 changed-yes (suc q) a b h = absurd (omega arith)
 
 -- ---- set-up
-three : (a b d : Bool) → ask a 2 (ask b 4 (ask d 5 0)) ≡ 0 → (a ≡ true) × (b ≡ true) × (d ≡ true)
-three true true true h = (refl, refl, refl)
-three true true false h = absurd (omega arith)
-three true false d h = absurd (omega arith)
-three false b d h = absurd (omega arith)
+pub set-up-passed : (W L n : ℕ) → setUpQuestion W L n ≡ 0 → (within 1 maxWidth W ≡ true) × (within 1 maxLevels L ≡ true) × (storeLength W L ≤ n)
+unfolding setUpQuestion
+set-up-passed W L n e =
+    let a = asked-yes (within 1 maxWidth W) _ _ e in
+    let b = asked-yes (within 1 maxLevels L) _ _ (a .1) in
+    (a .0, b .0, leb-true (storeLength W L) n (asked-yes _ _ _ (b .1) .0))
 
 pub record Fits (W L n k : ℕ) : Type 0 where
   pub needed : k ≡ storeLength W L
@@ -60,11 +64,10 @@ pub record Fits (W L n k : ℕ) : Type 0 where
 
 module _ (W L n q : ℕ) (e : q ≡ setUpQuestion W L n) where
   pub set-up-fits : (k : ℕ) → q ≡ 0 → k ≡ pick (both (within 1 maxWidth W) (within 1 maxLevels L)) (storeLength W L) 0 → Fits W L n k
-  unfolding setUpQuestion
   set-up-fits k z f =
-      let t = three (within 1 maxWidth W) (within 1 maxLevels L) (leb (storeLength W L) n) (sym e ∙ z) in
+      let t = set-up-passed W L n (sym e ∙ z) in
       let g : k ≡ storeLength W L = f ∙ simp (t .0, t .1) in
-      record { needed = g; room = omega (arith, leb-true (storeLength W L) n (t .2)) }
+      record { needed = g; room = omega (arith, t .2) }
 
   pub set-up-no : (x : Memory) → 0 < q → (refused q ≡ setUpReply W L n) × (x ≡ setUpStore W L n x)
   unfolding setUpReply setUpStore
@@ -89,6 +92,25 @@ module _ (s : Writer) (n : ℕ) where
   pub offer-sound : (k : ℕ) → offerQuestion s n k ≡ 0 → Sound s n
   unfolding offerQuestion stateQuestion
   offer-sound k h = sound s n (front (inRanges s) (longEnough n s) _ h)
+
+  -- what the other questions said
+  pub finish-may : finishQuestion s n ≡ 0 → (s .finished ≡ false) × (s .level ≡ 0) × (0 < s .rows) × (s .column ≡ 0)
+  unfolding finishQuestion
+  finish-may h =
+      let a = asked-yes (longEnough n s) _ _ (asked-yes (inRanges s) _ _ h .1) in
+      let b = asked-yes (not (s .finished)) _ _ (a .1) in
+      let c = asked-yes (eqb (s .level) 0) _ _ (b .1) in
+      let d = split-both (ltb 0 (s .rows)) _ (asked-yes _ _ _ (c .1) .0) in
+      (not-yes _ (b .0), eqb-true _ 0 (c .0), ltb-true 0 _ (d .0), eqb-true _ 0 (d .1))
+
+  pub offer-may : (k : ℕ) → offerQuestion s n k ≡ 0 → (s .finished ≡ false) × (0 < k → takes s ≡ true)
+  unfolding offerQuestion takes
+  offer-may k h =
+      let a = asked-yes (longEnough n s) _ _ (asked-yes (inRanges s) _ _ h .1) in
+      let b = asked-yes (not (s .finished)) _ _ (a .1) in
+      let c = asked-yes (eqb (s .level) 0) _ _ (b .1) in
+      let d = asked-yes (either (eqb k 0) (ltb (s .rows) maxHeight)) _ _ (c .1) .0 in
+      (not-yes _ (b .0), λ p. ap₂ both (c .0) (sym (ap (λ t. either t (ltb (s .rows) maxHeight)) (ne-eqb k 0 (λ z. omega arith))) ∙ d))
 
 -- ---- finish
 pub waits-same : (f : Bool) (s : Writer) (r : Shut) (c v i o : ℕ) → c ≡ r .closed → v ≡ r .out .level → i ≡ r .out .left →

@@ -1,7 +1,7 @@
 -- Every call keeps what the store holds, on every state and store: `set-up-holds`, `draw-keeps`, `finish-keeps`, `offer-keeps`; and a drawn row has
 -- the map's values: `area-values`.
 -- Assumes nothing.
-use mathlib.Core.Bool.{Bool, true, false, not}
+use mathlib.Core.Bool.{Bool, true, false}
 use mathlib.Core.Path.{_≡_, refl, sym, ap, subst, subst₂, _∙_}
 use mathlib.Core.List.{List, [], _∷_}
 use Prim.Native.Nat.{ℕ, zero, suc, _+_, _-_, _*_, _/_, _%_, _≤_, _<_}
@@ -9,17 +9,17 @@ use native.Mathlib.Nat.{suc-mul}
 use native.Mathlib.Omega.{arith}
 use lib.IntN.{pos}
 use lib.ListN.{length, getD}
-use lib.Dec.{leb, ltb, eqb}
-use borrow.Author.Tests.{eqb-true, lt-ltb, ltb-true, ltb-false, leb-true}
-use Rattle.numbers.specs.Signal.{pick, both}
+use lib.Dec.{ltb, eqb}
+use borrow.Author.Tests.{eqb-true, lt-ltb, ltb-true, ltb-false}
+use Rattle.numbers.specs.Signal.{pick}
 use Rattle.numbers.specs.Word.{wrap32}
 use Rattle.numbers.proofs.Sweep.{both as split-both}
 use Rattle.lifting.specs.Halves.{fronted}
-use Rattle.wavelet.specs.Limits.{maxWidth, maxHeight, maxLevels}
+use Rattle.wavelet.specs.Limits.{maxHeight}
 use Rattle.wavelet.specs.Bands.{Grid}
 use Rattle.wavelet.specs.Levels.{levelBand}
-use Rattle.wavelet.specs.Questions.{ask, within}
-use Rattle.calls.specs.Reply.{Reply, gives, refused, unless, changedUnless}
+use Rattle.wavelet.specs.Questions.{within}
+use Rattle.calls.specs.Lists.{Reply, gives, refused, unless, changedUnless}
 use Rattle.writer.specs.declared.Writer.{Writer}
 use Rattle.writer.specs.declared.BandRow.{BandRow}
 use Rattle.writer.specs.Level.{Memory}
@@ -27,14 +27,15 @@ use Rattle.writer.specs.FiveThreeLevel.{cellOf, fiveThree}
 use Rattle.writer.specs.Machine.{Out, rest, arrive}
 use Rattle.writer.specs.Draws.{Waiting}
 use Rattle.writer.specs.Taking.{stored, Taking, takes, offering}
-use Rattle.writer.specs.Questions.{setUpQuestion, either, inRanges, longEnough, waitingRow, offerQuestion, drawQuestion, finishQuestion}
+use Rattle.writer.specs.Questions.{setUpQuestion, waitingRow, offerQuestion, drawQuestion, finishQuestion}
 use Rattle.writer.specs.Answers.{Took, Handed, aRow}
 use Rattle.writer.specs.Calls.{fresh, setUpReply, took, offerReply, offerStore, waits, closing, finishReply, finishStore, bandRow, handed}
 use Rattle.writer.specs.Calls.{handedStore, handedArea, drawReply, drawStore, drawArea}
-use Rattle.writer.specs.Holds.{Holds, Keeps, AnyMap, AllRows, GoesOn, MapRow, left, after, tookOf, DrawKeeps, FinishKeeps, OfferKeeps, SetUpHolds}
+use Rattle.writer.specs.Holds.{Holds, Keeps, AnyMap, GoesOn, MapRow, left, after, tookOf, DrawKeeps, FinishKeeps, OfferKeeps, SetUpHolds}
 use Rattle.writer.proofs.CountLaws.{code-one}
 use Rattle.writer.proofs.StateHolds.{st, placed-st, fresh-st, fresh-holds, pulled-by, draw-holds, finish-holds, begun-holds, complete-holds}
 use Rattle.writer.proofs.CallList.{rows-of, column-of, rows-below}
+use Rattle.writer.proofs.CallLaws.{offer-sound, finish-may, offer-may}
 
 -- ---- set-up
 pub set-up-holds : (W L H : ℕ) (g : Grid) (x : Memory) → Holds H g (fresh W L) x
@@ -98,19 +99,6 @@ area-values s n k x z H g h b t e = go (drawQuestion s n k) (s .level) refl e
     go (suc a) v l f = let o : _≡_ {A = ℕ} 0 1 = cc in absurd (omega arith)
 
 -- ---- finish
-finish-may : (s : Writer) (n : ℕ) → finishQuestion s n ≡ 0 → (s .finished ≡ false) × (s .level ≡ 0) × (0 < s .rows) × (s .column ≡ 0)
-unfolding finishQuestion
-finish-may s n e = go (inRanges s) (longEnough n s) (s .finished) refl (eqb (s .level) 0) refl (both (ltb 0 (s .rows)) (eqb (s .column) 0)) refl e
-  where
-    go : (a b f : Bool) → s .finished ≡ f → (d : Bool) → eqb (s .level) 0 ≡ d → (t : Bool) → both (ltb 0 (s .rows)) (eqb (s .column) 0) ≡ t →
-        ask a 1 (ask b 5 (ask (not f) 9 (ask d 8 (ask t 11 0)))) ≡ 0 → (s .finished ≡ false) × (s .level ≡ 0) × (0 < s .rows) × (s .column ≡ 0)
-    go false b f p d q t r z = absurd (omega arith)
-    go true false f p d q t r z = absurd (omega arith)
-    go true true true p d q t r z = absurd (omega arith)
-    go true true false p false q t r z = absurd (omega arith)
-    go true true false p true q false r z = absurd (omega arith)
-    go true true false p true q true r z = let h = split-both (ltb 0 (s .rows)) _ r in (p, eqb-true _ 0 q, ltb-true 0 _ (h .0), eqb-true _ 0 (h .1))
-
 pub finish-keeps : (s : Writer) (n : ℕ) (x : Memory) → FinishKeeps s x (finishReply s n x) (finishStore s n x)
 unfolding finishReply finishStore
 finish-keeps s n x = record { keeps = λ H g e h. go H g e h (finishQuestion s n) refl }
@@ -199,24 +187,6 @@ module _ (H : ℕ) (g : Grid) (W l : ℕ) where
   offering-holds [] r c cl v i x p a room has = unfold offering in a
   offering-holds (h ∷ run) r c cl v i x p a room has = unfold Taken in more h run (offering-holds run) r c cl v i x p a room has
 
--- a passed offer's state: not finished, its counts in their ranges
-offer-may : (s : Writer) (n k : ℕ) → offerQuestion s n k ≡ 0 → (s .finished ≡ false) × (0 < s .levels) × (s .column < s .width)
-unfolding offerQuestion
-offer-may s n k e = go (inRanges s) refl (longEnough n s) (s .finished) refl e
-  where
-    go : (a : Bool) → inRanges s ≡ a → (b f : Bool) → s .finished ≡ f →
-        ask a 1 (ask b 5 (ask (not f) 9 (ask (eqb (s .level) 0) 8 (ask (either (eqb k 0) (ltb (s .rows) maxHeight)) 10 0)))) ≡ 0 →
-        (s .finished ≡ false) × (0 < s .levels) × (s .column < s .width)
-    go false p b f q z = absurd (omega arith)
-    go true p false f q z = absurd (omega arith)
-    go true p true true q z = absurd (omega arith)
-    go true p true false q z =
-        unfold inRanges within in
-        (let a = split-both (within 1 maxWidth (s .width)) _ p .1 in
-        let b = split-both (within 1 maxLevels (s .levels)) _ a in
-        let c = split-both (leb (s .rows) maxHeight) _ (b .1) .1 in
-        (q, leb-true 1 (s .levels) (split-both (leb 1 (s .levels)) _ (b .0) .0), ltb-true _ _ (split-both (ltb (s .column) (s .width)) _ c .0)))
-
 pub offer-keeps : (s : Writer) (n : ℕ) (run : List ℕ) (x : Memory) → OfferKeeps s run x (offerReply s n run x) (offerStore s n run x)
 unfolding offerReply offerStore
 offer-keeps s n run x = record { keeps = λ H g t h. go H g h (offerQuestion s n (length run)) refl t }
@@ -231,11 +201,12 @@ offer-keeps s n run x = record { keeps = λ H g t h. go H g h (offerQuestion s n
     go : (H : ℕ) (g : Grid) → Holds H g s x → (q : ℕ) → offerQuestion s n (length run) ≡ q → (let a = unless q (took (offering fiveThree run s x)) in
         GoesOn s run (tookOf a) H g → Holds H g (left (λ t. t .writer) s a) (changedUnless q (offering fiveThree run s x .store) x))
     go H g h zero z m =
-        let y = offer-may s n (length run) z in
+        let y = offer-sound s n (length run) z in
         subst (λ t. GoesOn t run (offering fiveThree run t x .taken) H g → Holds H g t x → Holds H g (offering fiveThree run t x .writer)
         (offering fiveThree run t x .store))
         (sym (placed-st s (h .placed)))
-        (passed H g (s .width) (s .levels) (s .rows) (s .column) (s .finished) (s .closed) (s .level) (s .left) (y .0) (y .1) (y .2)) m h
+        (passed H g (s .width) (s .levels) (s .rows) (s .column) (s .finished) (s .closed) (s .level) (s .left) (offer-may s n (length run) z .0) (y .levels .0)
+        (y .column)) m h
     go H g h (suc q) z m = h
 
 -- ---- the same of an answer and a store that are the definitions', as a contract says it

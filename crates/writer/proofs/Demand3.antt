@@ -2,7 +2,7 @@
 -- Assumes nothing.
 use mathlib.Core.Bool.{Bool, true, false}
 use mathlib.Core.Path.{_≡_, refl, sym, ap, ap₂, subst, _∙_}
-use mathlib.Core.List.{List, [], _∷_, _++_, map, map-append, append-nil, append-assoc}
+use mathlib.Core.List.{List, [], _++_, map, map-append, append-nil, append-assoc}
 use Prim.Native.Nat.{ℕ, zero, suc, _+_, _-_, _*_, _≤_, _<_}
 use native.Mathlib.Nat.{mul-comm, mul-le-mul-right, suc-mul}
 use native.Mathlib.Decide.{decLt}
@@ -11,22 +11,21 @@ use lib.IntN.{pos}
 use lib.Signed.{_≤ℤ_}
 use lib.ListN.{length, take, getD}
 use lib.Dec.{leb, le→leb}
-use borrow.Author.Tests.{leb-true}
 use Rattle.numbers.specs.Signal.{pick}
 use Rattle.numbers.specs.Word.{whole}
-use Rattle.numbers.proofs.Sweep.{both as split-both}
 use Rattle.wavelet.specs.Limits.{maxWidth, maxHeight, maxLevels, maxSample}
 use Rattle.wavelet.specs.Bands.{Grid}
 use Rattle.wavelet.specs.Levels.{levelBand}
 use Rattle.wavelet.specs.ViewCall.{bandRowExists}
-use Rattle.wavelet.specs.Questions.{ask, within}
+use Rattle.wavelet.specs.Questions.{within}
 use Rattle.wavelet.specs.Store.{storeLength}
 use Rattle.wavelet.specs.Order.{RowName, madeBy, closing, inTurn, made, times}
+use Rattle.wavelet.proofs.QuestionLaws.{within-true}
 use Rattle.wavelet.proofs.OrderLaws.{turn-prefix}
 use Rattle.wavelet.proofs.OrderOnce.{made-once}
 use Rattle.wavelet.proofs.Bridge.{map-band}
-use Rattle.calls.specs.All.{All, all-more}
-use Rattle.calls.proofs.AllLaws.{all-map, all-take}
+use Rattle.calls.specs.Lists.{All}
+use Rattle.calls.proofs.AllLaws.{all-map, all-take, all-at}
 use Rattle.writer.specs.Level.{Memory}
 use Rattle.writer.specs.Machine.{rest}
 use Rattle.writer.specs.Questions.{inRanges, setUpQuestion}
@@ -34,16 +33,16 @@ use Rattle.writer.specs.History.{Call, row, Event, World, event, events,
 use Rattle.writer.specs.Demand3.{wholeRows, madeOf, waitingOf, answered, Begins, MapOf, HasValues, PlaneDrawn, Demand3}
 use Rattle.writer.proofs.CountLaws.{code-one}
 use Rattle.writer.proofs.StateHolds.{differ, st}
+use Rattle.writer.proofs.CallLaws.{set-up-passed}
 use Rattle.writer.proofs.CallList.{Fits, coming, Right, At, own-sound, in-ranges, rows-all}
 use Rattle.writer.proofs.Reached.{rows-are, waiting-coming, offer-turned, offer-takes, finish-answer, draw-says, then-reached}
 
 five-levels : (l : ℕ) → within 1 maxLevels (suc l) ≡ true → suc l ≤ 5
-unfolding within maxLevels
-five-levels l h = leb-true (suc l) 5 (split-both (leb 1 (suc l)) _ h .1)
+unfolding maxLevels
+five-levels l h = within-true 1 maxLevels (suc l) h .1
 
 some-width : (W : ℕ) → within 1 maxWidth W ≡ true → 0 < W
-unfolding within
-some-width W h = leb-true 1 W (split-both (leb 1 W) _ h .0)
+some-width W h = within-true 1 maxWidth W h .0
 
 -- a drawn row of words is a row of T.800's whole numbers, for a map
 right-values : (L W H : ℕ) (g : Grid) → L ≤ 5 → (es : List Event) → Begins W H g es → (d : DrawnRow) → Right L W H g d → HasValues W H g d
@@ -100,12 +99,7 @@ module _ (W : ℕ) where
   map-whole (suc r) zero p e = omega (arith, mul-comm W (suc r))
   map-whole (suc r) (suc c) p e = absurd (omega arith)
 
-small-each : (M : ℕ) (l : List ℕ) → All (λ h. h ≤ M) l → (j : ℕ) → getD l j 0 ≤ M
-small-each M [] a j = omega arith
-small-each M (h ∷ l) (all-more p a) zero = p
-small-each M (h ∷ l) (all-more p a) (suc j) = small-each M l a j
-
-height-range : (h : ℕ) → h ≤ maxSample → (pos 0 ≤ℤ pos h) × (pos h ≤ℤ pos maxSample)
+pub height-range : (h : ℕ) → h ≤ maxSample → (pos 0 ≤ℤ pos h) × (pos h ≤ℤ pos maxSample)
 height-range h p = (record { le = le→leb 0 h (omega arith) }, record { le = le→leb h maxSample p })
 
 -- the rows made so far are the first of all
@@ -177,7 +171,7 @@ module _ (l W : ℕ) (wide : within 1 maxWidth W ≡ true) (deep : within 1 maxL
       begins = record {
         some = map-some W r c;
         limit = map-limit W r c (a .rows-in) (a .room);
-        map = record { heights = λ p q _ _. height-range (getD (taken es) (p * W + q) 0) (small-each maxSample (taken es) small (p * W + q)) };
+        map = record { heights = λ p q _ _. height-range (getD (taken es) (p * W + q) 0) (all-at 0 (omega arith) small (p * W + q)) };
         within = omega (arith, a .counted, map-room W r c (a .column-in));
         heights = λ _ _ _ _. refl;
       };
@@ -226,20 +220,8 @@ module _ (l W : ℕ) (wide : within 1 maxWidth W ≡ true) (deep : within 1 maxL
   }
 
 -- ---- the theorem
-set-up-passed : (W L n : ℕ) → setUpQuestion W L n ≡ 0 → (within 1 maxWidth W ≡ true) × (within 1 maxLevels L ≡ true) × (storeLength W L ≤ n)
-unfolding setUpQuestion
-set-up-passed W L n e = go (within 1 maxWidth W) refl (within 1 maxLevels L) refl (leb (storeLength W L) n) refl e
-  where
-    go : (p : Bool) → within 1 maxWidth W ≡ p → (q : Bool) → within 1 maxLevels L ≡ q → (t : Bool) → leb (storeLength W L) n ≡ t →
-        ask p 2 (ask q 4 (ask t 5 0)) ≡ 0 → (within 1 maxWidth W ≡ true) × (within 1 maxLevels L ≡ true) × (storeLength W L ≤ n)
-    go false a q b t c z = absurd (omega arith)
-    go true a false b t c z = absurd (omega arith)
-    go true a true b false c z = absurd (omega arith)
-    go true a true b true c z = (a, b, leb-true _ _ c)
-
 some-level : within 1 maxLevels 0 ≡ true → ⊥
-unfolding within
-some-level e = let z : _≡_ {A = ℕ} 0 1 = ap (λ t. pick t 1 0) e in omega arith
+some-level e = omega (arith, within-true 1 maxLevels 0 e .0)
 
 -- every list of calls on a fresh writer: the state passes question 1, and demand 3 holds
 pub demand-3 : (W L n : ℕ) (x : Memory) → setUpQuestion W L n ≡ 0 → (cs : List Call) →

@@ -14,8 +14,7 @@ use Rattle.wavelet.specs.Questions.{ask}
 use Rattle.wavelet.specs.Store.{storeLength}
 use Rattle.wavelet.specs.View.{bandColumns}
 use Rattle.wavelet.specs.Order.{RowName}
-use Rattle.calls.specs.Reply.{Reply, gives, refused, unless, seen}
-use Rattle.calls.specs.Area.{Area}
+use Rattle.calls.specs.Lists.{Reply, gives, refused, unless, seen, Area}
 use Rattle.writer.specs.declared.Writer.{Writer}
 use Rattle.writer.specs.declared.BandRow.{BandRow}
 use Rattle.writer.specs.declared.draws.Spot.{Spot}

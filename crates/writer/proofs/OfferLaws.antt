@@ -14,7 +14,7 @@ use Rattle.numbers.specs.Signal.{at, both}
 use Rattle.numbers.proofs.Sweep as sweep
 use Rattle.wavelet.specs.Limits.{maxHeight}
 use Rattle.wavelet.proofs.LimitLaws.{width-small, height-small}
-use Rattle.calls.specs.Reply.{gives, refused}
+use Rattle.calls.specs.Lists.{gives, refused}
 use Rattle.writer.specs.declared.Writer.{Writer}
 use Rattle.writer.specs.declared.cascade.Wait.{Wait}
 use Rattle.writer.specs.Level.{Memory}

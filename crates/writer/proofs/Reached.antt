@@ -1,26 +1,23 @@
 -- Every list of calls keeps `At` (CallList): `Reached`, with what each call then answers, by the history.
 -- Assumes nothing.
-use mathlib.Core.Bool.{Bool, true, false, not}
+use mathlib.Core.Bool.{Bool, true, false}
 use mathlib.Core.Path.{_≡_, refl, sym, ap, subst, subst₂, _∙_}
 use mathlib.Core.List.{List, [], _∷_, _++_, append-nil}
 use Prim.Native.Nat.{ℕ, zero, suc, _+_, _-_, _≤_, _<_}
 use native.Mathlib.Omega.{arith}
 use lib.IntN.{ℤ}
 use lib.ListN.{length, take, drop}
-use lib.Dec.{leb, ltb, eqb}
-use borrow.Author.Tests.{le-leb, lt-ltb, le-ltb, ne-eqb, eqb-true, ltb-true}
-use Rattle.numbers.specs.Signal.{pick, both}
-use Rattle.numbers.proofs.Sweep.{both as split-both}
+use lib.Dec.{leb, eqb}
+use borrow.Author.Tests.{le-leb, lt-ltb, le-ltb, ne-eqb}
+use Rattle.numbers.specs.Signal.{pick}
 use Rattle.lifting.specs.Halves.{fronted}
-use Rattle.wavelet.specs.Limits.{maxWidth, maxHeight, maxLevels}
+use Rattle.wavelet.specs.Limits.{maxWidth, maxLevels}
 use Rattle.wavelet.specs.Levels.{size}
 use Rattle.wavelet.specs.View.{bandColumns}
 use Rattle.wavelet.specs.Questions.{ask, within}
 use Rattle.wavelet.specs.Store.{storeLength}
 use Rattle.wavelet.specs.Order.{RowName, made}
-use Rattle.calls.specs.Reply.{Reply, gives, refused, unless, seen}
-use Rattle.calls.specs.Area.{Area}
-use Rattle.calls.specs.Lists.{gathered, ever}
+use Rattle.calls.specs.Lists.{Reply, gives, refused, unless, seen, Area, gathered, ever}
 use Rattle.calls.proofs.ListLaws.{either-no, gathered-snoc, ever-snoc, list-reached}
 use Rattle.writer.specs.declared.Writer.{Writer}
 use Rattle.writer.specs.Level.{Memory}
@@ -37,11 +34,12 @@ use Rattle.writer.specs.History.{Call, offer, draw, finish, row, none, E
 use Rattle.writer.specs.History.{final, takenBy, taken, finishes, finishedBy, drawnBy, drawn}
 use Rattle.writer.specs.Demand3.{wholeRows, madeOf, waitingOf, answered, isNone, drawSays, written, DrawSeen, takesOn, offerTurned, Takes, finishTurned}
 use Rattle.writer.proofs.StateHolds.{st, fresh-st}
+use Rattle.writer.proofs.CallLaws.{finish-may, offer-may}
 use Rattle.writer.proofs.CallList.{coming, At, whole-rows, begun-row, in-ranges, waiting-is, none-waits, none-eqb, Offered, offering-good}
 use Rattle.writer.proofs.CallList.{head-is, draw-good, finish-good, fresh-at}
 
 -- where it may take, an offer of one height or more takes one
-takes-one : (run : List ℕ) (s : Writer) (x : Memory) → takes s ≡ true → 0 < length run → 0 < offering fiveThree run s x .taken
+pub takes-one : (run : List ℕ) (s : Writer) (x : Memory) → takes s ≡ true → 0 < length run → 0 < offering fiveThree run s x .taken
 unfolding offering
 takes-one [] s x e p = absurd (omega arith)
 takes-one (h ∷ run) s x e p = rw e (omega arith)
@@ -138,25 +136,13 @@ module _ (l W : ℕ) (wide : within 1 maxWidth W ≡ true) (deep : within 1 maxL
       unfolding event next offerReply offerStore
       offer-passed e = (rw e refl, rw e refl)
 
-      -- it passed: not finished
+      -- it passed: not finished, and of one height or more it takes one
       not-finished : offerQuestion s n (length run) ≡ 0 → f ≡ false
-      unfolding offerQuestion
-      not-finished e = go f (sym (simp (ranges, enough) refl) ∙ e)
-        where
-          go : (b : Bool) → ask (not b) 9 (ask (eqb v 0) 8 (ask (either (eqb (length run) 0) (ltb r maxHeight)) 10 0)) ≡ 0 → b ≡ false
-          go true z = absurd (omega arith)
-          go false z = refl
+      not-finished e = offer-may s n (length run) e .0
 
-      -- and of one height or more it takes one
       offer-open : offerQuestion s n (length run) ≡ 0 → 0 < length run → takes (st W L r c false cl v i) ≡ true
-      unfolding offerQuestion takes
-      offer-open e p = go (not f) (eqb v 0) (ltb r maxHeight) (sym (simp (ranges, enough, ne-eqb (length run) 0 (λ z. omega arith)) refl) ∙ e)
-        where
-          go : (b d t : Bool) → ask b 9 (ask d 8 (ask t 10 0)) ≡ 0 → both d t ≡ true
-          go false d t z = absurd (omega arith)
-          go true false t z = absurd (omega arith)
-          go true true false z = absurd (omega arith)
-          go true true true z = refl
+      unfolding takes
+      offer-open e = offer-may s n (length run) e .1
 
       abbrev T : Bool → Taking
       T b = offering fiveThree run (st W L r c b cl v i) x
@@ -215,18 +201,6 @@ module _ (l W : ℕ) (wide : within 1 maxWidth W ≡ true) (deep : within 1 maxL
         go zero = refl
         go (suc b) = refl
 
-    -- it passed
-    finish-may : finishQuestion s n ≡ 0 → (f ≡ false) × (v ≡ 0) × (0 < r) × (c ≡ 0)
-    unfolding finishQuestion
-    finish-may e = go f (eqb v 0) refl (both (ltb 0 r) (eqb c 0)) refl (sym (simp (ranges, enough) refl) ∙ e)
-      where
-        go : (b d : Bool) → eqb v 0 ≡ d → (g : Bool) → both (ltb 0 r) (eqb c 0) ≡ g → ask (not b) 9 (ask d 8 (ask g 11 0)) ≡ 0 →
-            (b ≡ false) × (v ≡ 0) × (0 < r) × (c ≡ 0)
-        go true d p g q z = absurd (omega arith)
-        go false false p g q z = absurd (omega arith)
-        go false true p false q z = absurd (omega arith)
-        go false true p true q z = let h = split-both (ltb 0 r) (eqb c 0) q in (refl, eqb-true v 0 p, ltb-true 0 r (h .0), eqb-true c 0 (h .1))
-
     abbrev k : Shut
     k = shut fiveThree L W 0 r x
 
@@ -242,7 +216,7 @@ module _ (l W : ℕ) (wide : within 1 maxWidth W ≡ true) (deep : within 1 maxL
     pub finish-reached : (b : ℕ) → finishQuestion s n ≡ b → Reached (es ++ event finish w ∷ []) (next finish w)
     finish-reached zero e =
         let p = finish-passed e in
-        let m = finish-may e in
+        let m = finish-may s n e in
         subst₂ (λ d g. Reached (es ++ d ∷ []) g) (sym (p .0)) (sym (p .1))
         (more es (finished (gives tt)) true n r c (k .closed) (k .out .level) (k .out .left) (k .out .store) long (done f)
         (subst₂ (λ d g. At L W d true g r c (k .closed) (k .out .level) (k .out .left) (k .out .store)) (sym (append-nil _)) (sym (append-nil _))

@@ -15,7 +15,7 @@ use Rattle.lifting.specs.Line.{lo, count}
 use Rattle.lifting.specs.Halves.{fronted}
 use Rattle.wavelet.specs.Store.{storeLength}
 use Rattle.wavelet.proofs.StoreLaws.{store-below}
-use Rattle.calls.specs.Reply.{changedUnless}
+use Rattle.calls.specs.Lists.{changedUnless}
 use Rattle.writer.specs.declared.Writer.{Writer}
 use Rattle.writer.specs.Level.{Memory, LevelKind}
 use Rattle.writer.specs.FiveThreeLevel.{fiveThree}

@@ -1,6 +1,6 @@
 -- The answers of the writer's calls in document 01's terms: the number of the question that turned the call away, or what it gives.
 use Prim.Native.Nat.{ℕ}
-use Rattle.calls.specs.Reply.{Reply, gives, refused}
+use Rattle.calls.specs.Lists.{Reply, gives, refused}
 use Rattle.writer.specs.declared.Writer.{Writer}
 use Rattle.writer.specs.declared.BandRow.{BandRow}
 use Rattle.writer.specs.declared.SetUp.{SetUp}

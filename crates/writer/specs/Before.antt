@@ -11,8 +11,7 @@ use Rattle.lifting.specs.Halves.{fronted}
 use Rattle.wavelet.specs.Limits.{maxWidth, maxHeight, maxLevels}
 use Rattle.wavelet.specs.Questions.{ask, within}
 use Rattle.wavelet.specs.Store.{storeLength}
-use Rattle.calls.specs.Reply.{unless, changedUnless}
-use Rattle.calls.specs.Area.{Area}
+use Rattle.calls.specs.Lists.{unless, changedUnless, Area}
 use Rattle.calls.specs.Lists as lists
 use Rattle.writer.specs.Level.{Memory}
 use Rattle.writer.specs.Counts.{mostLeft}

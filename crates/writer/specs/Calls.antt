@@ -7,7 +7,7 @@ use lib.ListN.{length}
 use Rattle.lifting.specs.Halves.{fronted}
 use Rattle.wavelet.specs.Bands.{code}
 use Rattle.wavelet.specs.Store.{storeLength}
-use Rattle.calls.specs.Reply.{Reply, unless, changedUnless}
+use Rattle.calls.specs.Lists.{Reply, unless, changedUnless}
 use Rattle.writer.specs.declared.Writer.{Writer}
 use Rattle.writer.specs.declared.BandRow.{BandRow}
 use Rattle.writer.specs.Level.{Memory}

@@ -17,9 +17,7 @@ use Rattle.wavelet.specs.ViewCall.{bandRowExists}
 use Rattle.wavelet.specs.Maps.{IsMap}
 use Rattle.wavelet.specs.Questions.{ask}
 use Rattle.wavelet.specs.Order.{RowName, made, times}
-use Rattle.calls.specs.Reply.{Reply, gives, refused, unless}
-use Rattle.calls.specs.Area.{Area}
-use Rattle.calls.specs.All.{All}
+use Rattle.calls.specs.Lists.{Reply, gives, refused, unless, Area, All}
 use Rattle.writer.specs.declared.BandRow.{BandRow}
 use Rattle.writer.specs.Questions.{either}
 use Rattle.writer.specs.History.{Call, offer, draw, finish, Given, row, none, Event, offered, drew, finished}

@@ -1,12 +1,11 @@
--- Lists of calls on a writer and what is seen of them: document 01, "The lists of demand 3". "The words below go by the calls' arguments and answers, by nothing in the state."
+-- Calls on a writer, what is seen of each, and of a list of them what was taken and drawn: document 01, "The lists of demand 3".
+-- "The words below go by the calls' arguments and answers, by nothing in the state."
 use mathlib.Core.Bool.{Bool, true, false}
 use mathlib.Core.List.{List, [], _∷_}
 use Prim.Native.Nat.{ℕ}
 use lib.IntN.{ℤ}
 use lib.ListN.{take}
-use Rattle.calls.specs.Reply.{Reply, gives, refused, seen}
-use Rattle.calls.specs.Area.{Area}
-use Rattle.calls.specs.Lists.{gathered, ever}
+use Rattle.calls.specs.Lists.{Reply, gives, refused, seen, Area, gathered, ever}
 use Rattle.calls.specs.Lists as lists
 use Rattle.writer.specs.declared.Writer.{Writer}
 use Rattle.writer.specs.declared.BandRow.{BandRow}
@@ -52,11 +51,23 @@ event finish w = finished (seen (λ _. tt) (finishReply (w .writer) (w .length) 
 
 unfoldable pub next : Call → World → World
 next (offer run) w =
-    record { writer = left (λ t. t .writer) (w .writer) (offerReply (w .writer) (w .length) run (w .store)); length = w .length; store = offerStore (w .writer) (w .length) run (w .store) }
+    record {
+      writer = left (λ t. t .writer) (w .writer) (offerReply (w .writer) (w .length) run (w .store));
+      length = w .length;
+      store = offerStore (w .writer) (w .length) run (w .store);
+    }
 next (draw a) w =
-    record { writer = left (after (w .writer)) (w .writer) (drawReply (w .writer) (w .length) (a .size) (w .store)); length = w .length; store = drawStore (w .writer) (w .length) (a .size) (w .store) }
+    record {
+      writer = left (after (w .writer)) (w .writer) (drawReply (w .writer) (w .length) (a .size) (w .store));
+      length = w .length;
+      store = drawStore (w .writer) (w .length) (a .size) (w .store);
+    }
 next finish w =
-    record { writer = left (λ s. s) (w .writer) (finishReply (w .writer) (w .length) (w .store)); length = w .length; store = finishStore (w .writer) (w .length) (w .store) }
+    record {
+      writer = left (λ s. s) (w .writer) (finishReply (w .writer) (w .length) (w .store));
+      length = w .length;
+      store = finishStore (w .writer) (w .length) (w .store);
+    }
 
 abbrev pub events : List Call → World → List Event
 events = lists.events event next

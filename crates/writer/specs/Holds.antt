@@ -12,7 +12,7 @@ use Rattle.lifting.specs.Line.{lo, hi, count}
 use Rattle.wavelet.specs.Bands.{Grid, Band, LL, code, across, down, columnsLifted, subband}
 use Rattle.wavelet.specs.Levels.{levelBand}
 use Rattle.wavelet.specs.Order.{hasRow}
-use Rattle.calls.specs.Reply.{Reply, gives, refused}
+use Rattle.calls.specs.Lists.{Reply, gives, refused}
 use Rattle.writer.specs.declared.Writer.{Writer}
 use Rattle.writer.specs.declared.BandRow.{BandRow}
 use Rattle.writer.specs.Level.{Memory, LevelKind}

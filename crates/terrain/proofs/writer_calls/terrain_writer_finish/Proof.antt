@@ -4,7 +4,7 @@ use mathlib.Core.List.{List}
 use lib.ListN.{length}
 use borrow.Author.Needs.{needs}
 use Rattle.numbers.specs.Signal.{at}
-use Rattle.calls.specs.Reply.{Reply, refused}
+use Rattle.calls.specs.Lists.{Reply, refused}
 use Rattle.writer.specs.declared.Writer.{Writer}
 use Rattle.writer.specs.Answers.{ofFinished}
 use Rattle.writer.specs.Calls.{finishReply, finishStore}

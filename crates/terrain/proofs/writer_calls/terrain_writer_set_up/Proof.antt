@@ -4,7 +4,7 @@ use mathlib.Core.List.{List}
 use lib.ListN.{length}
 use borrow.Author.Needs.{needs}
 use Rattle.numbers.specs.Signal.{at}
-use Rattle.calls.specs.Reply.{Reply}
+use Rattle.calls.specs.Lists.{Reply}
 use Rattle.writer.specs.declared.Writer.{Writer}
 use Rattle.writer.specs.Answers.{ofSetUp}
 use Rattle.writer.specs.Calls.{setUpReply}

@@ -1,7 +1,7 @@
 -- `terrain_writer_waits` meets its contract: what the look at the unpacked writer answers, in its two cases, and 1 where the array is none. Assumes nothing.
 use mathlib.Core.Path.{_≡_, sym, ap, _∙_}
 use borrow.Author.Needs.{needs}
-use Rattle.calls.specs.Reply.{Reply, refused}
+use Rattle.calls.specs.Lists.{Reply, refused}
 use Rattle.writer.specs.declared.Writer.{Writer}
 use Rattle.writer.specs.declared.BandRow.{BandRow}
 use Rattle.writer.specs.Answers.{ofLook}

@@ -1,6 +1,0 @@
--- P holds of every element of a list.
-use mathlib.Core.List.{List, [], _∷_}
-
-pub data All {A : Type 0} (P : A → Type 0) : List A → Type 0 where
-  all-none : All P []
-  all-more : {x : A} {l : List A} → P x → All P l → All P (x ∷ l)
