@@ -22,8 +22,8 @@ use Rattle.reader.specs.declared.Reader.{Reader}
 use Rattle.reader.specs.declared.walk.Spot.{Spot}
 use Rattle.areas.specs.Areas.{height16}
 use Rattle.reader.specs.Answers.{gives, refused, impossible, Want, row, drawNow, done, ended, aRow, nothing}
-use Rattle.reader.specs.Tried.{Tried, failed, passed, fits, memory}
-use Rattle.reader.specs.Slots.{rowPlace, rowIn}
+use Rattle.level.specs.Tried.{Tried, failed, passed, fits, memory}
+use Rattle.level.specs.Slots.{rowPlace, rowIn}
 use Rattle.wavelet.specs.Store.{storeLength}
 use Rattle.reader.specs.Store.{zeroed}
 use Rattle.reader.specs.Machine.{place, enter, placeFed}
@@ -31,7 +31,8 @@ use Rattle.reader.specs.State.{next, nextRow, nextLength, unfinished, ro
 use Rattle.reader.specs.State.{endedReader}
 use Rattle.reader.specs.Questions.{countsFit, storeFits, runFits, wantQuestion, feedQuestion, drawQuestion}
 use Rattle.reader.specs.Calls.{fresh, setUpReply, setUpStore, wantReply, feedReply, storeAfter, feedStore, drawReply, drawStore, heightRow, drawArea}
-use Rattle.reader.specs.Inside.{Is, Kept, storeQuestion, rowQuestion}
+use Rattle.reader.specs.Inside.{Is, storeQuestion, rowQuestion}
+use Rattle.level.specs.Rebuilding.{Kept}
 use Rattle.areas.proofs.AreaLaws.{front-at, front-rest}
 use Rattle.reader.proofs.StepLaws.{place-of}
 

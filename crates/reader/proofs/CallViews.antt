@@ -21,7 +21,7 @@ use Rattle.calls.proofs.QuestionLaws.{asked-yes}
 use Rattle.reader.specs.declared.Reader.{Reader}
 use Rattle.reader.specs.Sets.{rowAt}
 use Rattle.reader.specs.Asked.{asked}
-use Rattle.reader.specs.Tried.{fits}
+use Rattle.level.specs.Tried.{fits}
 use Rattle.reader.specs.Machine.{Place, place, nextAt, beyond, enter}
 use Rattle.reader.specs.State.{next, nextRow, nextLength, unfinished, rowDue, drawDue, wants, settles, feeds}
 use Rattle.reader.specs.Questions.{countsFit, storeFits, runFits, setUpQuestion, wantQuestion, feedQuestion, drawQuestion}

@@ -39,7 +39,7 @@ use Rattle.reader.specs.declared.Reader.{Reader}
 use Rattle.reader.specs.Asked.{keptAt, asked}
 use Rattle.reader.specs.Answers.{done}
 use Rattle.reader.specs.Sets.{rowAt}
-use Rattle.reader.specs.Tried.{Tried, failed, passed, fits}
+use Rattle.level.specs.Tried.{Tried, failed, passed, fits}
 use Rattle.reader.specs.Machine.{place, bandAt, lastOfSet, nextAt, beyond}
 use Rattle.reader.specs.State.{drawDue, feeds, settles}
 use Rattle.reader.specs.Questions.{countsFit, setUpQuestion, feedQuestion, drawQuestion}
@@ -50,7 +50,7 @@ use Rattle.reader.specs.Demand3.{HasRow, FirstRows, IsWordRow, SetsFit, 
 use Rattle.reader.specs.Demand3.{OneOf, this, that, written, Draws, Demand3, OfCalls}
 use Rattle.reader.specs.Demand3 as demand
 use Rattle.reader.proofs.StepsLeft.{stepsLeft, left-first}
-use Rattle.reader.proofs.SetMade.{Outcome}
+use Rattle.level.proofs.SetMade.{Outcome}
 use Rattle.reader.proofs.CallLaws.{fits-no}
 use Rattle.reader.proofs.Outcomes.{outcome-passed, settles-outcome, feeds-outcome}
 use Rattle.reader.proofs.Holds.{Fits, Held, first-holds}

@@ -6,7 +6,8 @@ use borrow.Author.Tests.{eq-eqb, ne-eqb}
 use Rattle.lifting.specs.Line.{lo, count}
 use Rattle.wavelet.specs.Levels.{size}
 use Rattle.wavelet.proofs.SizeLaws.{count-lo, size-zero, size-suc}
-use Rattle.reader.specs.Sets.{setOf, opens, rowAt}
+use Rattle.level.specs.Sets.{setOf, opens}
+use Rattle.reader.specs.Sets.{rowAt}
 use Rattle.reader.specs.Machine.{place, dive, enter}
 use Rattle.reader.proofs.SetLaws.{set-in, row-zero, row-suc}
 

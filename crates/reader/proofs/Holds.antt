@@ -22,18 +22,20 @@ use Rattle.wavelet.specs.Maps.{valueFits}
 use Rattle.wavelet.proofs.SizeLaws.{count-lo}
 use Rattle.wavelet.proofs.BandPlaces.{band-of}
 use Rattle.wavelet.proofs.LevelTheory.{OnCells, low-all, subband-fits}
-use Rattle.reader.specs.Sets.{setOf, opens, rowAt}
+use Rattle.level.specs.Sets.{setOf, opens}
+use Rattle.reader.specs.Sets.{rowAt}
 use Rattle.reader.specs.Asked.{keptAt, asked, bandsFrom, those, look, firstCode, nextBand, named}
-use Rattle.reader.specs.Tried.{Tried, passed, bind, onto}
-use Rattle.reader.specs.Slots.{slot, rowPlace, setRow, halfPlace, bandFed, lowRowTaken}
-use Rattle.reader.specs.Work.{setMade, setWorked}
-use Rattle.reader.specs.Holds.{SetBefore, BandStands}
+use Rattle.level.specs.Tried.{Tried, passed, bind, onto}
+use Rattle.level.specs.Slots.{slot, rowPlace, setRow, halfPlace, bandFed, lowRowTaken}
+use Rattle.level.specs.Work.{setMade, setWorked}
+use Rattle.level.specs.Stands.{SetBefore, BandStands}
 use Rattle.reader.specs.Store.{stretchAt, from, behind, fedAt, workedAt}
 use Rattle.reader.specs.Machine.{Place, place, bandAt, lastOfSet, nextAt, settled, finished, beyond, fedOn, dive, enter}
-use Rattle.reader.proofs.OpenedSets.{opens-next, same-set, setOf-there, rowAt-next, rowAt-there, rowAt-first}
+use Rattle.level.proofs.OpenedSets.{opens-next, same-set, setOf-there}
+use Rattle.reader.proofs.OpenedSets.{rowAt-next, rowAt-there, rowAt-first}
 use Rattle.reader.proofs.StepsLeft.{named-code, code-lt, first-le, last-none}
-use Rattle.reader.proofs.RowsIn.{apart, parity, Is, Only, is-old, only-fed, fed-here, fed-beside, only-taken, taken-is, taken-beside, half-inside}
-use Rattle.reader.proofs.SetMade.{Outcome, stops, goes, bind-outcome, Needs, Leaves, set-made}
+use Rattle.level.proofs.RowsIn.{apart, parity, Is, Only, is-old, only-fed, fed-here, fed-beside, only-taken, taken-is, taken-beside, half-inside}
+use Rattle.level.proofs.SetMade.{Outcome, stops, goes, bind-outcome, Needs, Leaves, set-made}
 
 -- ---- memory: two that agree in a level's four rows
 abbrev SameMem : ℕ → (ℕ → ℤ) → (ℕ → ℤ) → Type 0

@@ -19,7 +19,7 @@ use Rattle.calls.specs.Lists.{Area}
 use Rattle.reader.specs.declared.Reader.{Reader}
 use Rattle.reader.specs.Answers.{Reply, gives, refused, impossible, Handed, aRow, nothing}
 use Rattle.reader.specs.Sets.{rowAt}
-use Rattle.reader.specs.Tried.{Tried, failed, passed, fits, memory}
+use Rattle.level.specs.Tried.{Tried, failed, passed, fits, memory}
 use Rattle.reader.specs.Machine.{place, nextAt, placeFed, beyond, enter}
 use Rattle.reader.specs.State.{next, nextRow, nextLength, settles, feeds, drawDue, fedReader, drawnReader, endedReader}
 use Rattle.reader.specs.Questions.{countsFit, storeFits, setUpQuestion, feedQuestion, drawQuestion}
@@ -28,7 +28,7 @@ use Rattle.reader.specs.Calls.{fresh, setUpReply, setUpStore, feedReply,
 use Rattle.reader.specs.Holds.{Holds, Words, AllFit, IsWanted, SetUpHolds, FeedKeeps, DrawKeeps}
 use Rattle.reader.proofs.OpenedSets.{rowAt-first}
 use Rattle.reader.proofs.StepsLeft.{named-code, stepsLeft}
-use Rattle.reader.proofs.SetMade.{Outcome}
+use Rattle.level.proofs.SetMade.{Outcome}
 use Rattle.reader.proofs.Holds.{Fits, Held, enter-holds}
 use Rattle.reader.proofs.CallViews.{Limits, here, view, FeedView, feed-away, feed-onward, feed-view, DrawView, draw-away, draw-idle, draw-onward}
 use Rattle.reader.proofs.CallViews.{draw-view}

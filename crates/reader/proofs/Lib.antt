@@ -1,8 +1,6 @@
 pub mod SetLaws
 pub mod OpenedSets
 pub mod StepsLeft
-pub mod RowsIn
-pub mod SetMade
 pub mod Holds
 pub mod CallLaws
 pub mod CallViews
@@ -12,9 +10,7 @@ pub mod Reached
 pub mod Rebuilt
 pub mod Demand3
 pub mod Played
-pub mod SlotLaws
 pub mod RangeLaws
-pub mod WorkLaws
 pub mod StoreLaws
 pub mod EnterLaws
 pub mod WalkLaws

@@ -20,12 +20,12 @@ use Rattle.wavelet.proofs.LevelTheory.{OnCells}
 use Rattle.wavelet.proofs.MapTheorems.{height-fits}
 use Rattle.areas.specs.Areas.{height16}
 use Rattle.reader.specs.Sets.{rowAt}
-use Rattle.reader.specs.Tried.{failed, passed, bind}
+use Rattle.level.specs.Tried.{failed, passed, bind}
 use Rattle.reader.specs.Machine.{Place, place, nextAt, settled, fedOn, beyond}
 use Rattle.reader.specs.State.{next, settles, feeds}
 use Rattle.reader.specs.Calls.{heightRow}
-use Rattle.reader.proofs.RowsIn.{row-halves, joined-reads}
-use Rattle.reader.proofs.SetMade.{Outcome, stops, goes, bind-outcome}
+use Rattle.level.proofs.RowsIn.{row-halves, joined-reads}
+use Rattle.level.proofs.SetMade.{Outcome, stops, goes, bind-outcome}
 use Rattle.reader.proofs.Holds.{Fits, Held, settle-holds, fed-holds, height-made, height-fit}
 use Rattle.reader.proofs.CallViews.{here}
 

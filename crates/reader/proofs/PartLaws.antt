@@ -22,15 +22,15 @@ use Rattle.wavelet.proofs.SizeLaws.{size-suc, size-le, count-le, count-sum}
 use Rattle.reader.specs.declared.walk.Level.{Level}
 use Rattle.reader.specs.Sets.{rowAt}
 use Rattle.reader.specs.Asked.{named}
-use Rattle.reader.specs.Tried.{outcome, onto}
-use Rattle.reader.specs.Slots.{rowPlace, setRow, halfPlace, bandFed}
-use Rattle.reader.specs.Work.{setWorked}
+use Rattle.level.specs.Tried.{outcome, onto}
+use Rattle.level.specs.Slots.{rowPlace, setRow, halfPlace, bandFed}
+use Rattle.level.specs.Work.{setWorked}
 use Rattle.reader.specs.Store.{stretchAt, from, behind, fedAt, workedAt}
 use Rattle.reader.specs.Inside.{IsLevel}
 use Rattle.areas.proofs.AreaLaws.{front-at}
 use Rattle.reader.proofs.StoreLaws.{stretch-suc, stretch-in, stretch-is, stretch-small}
 use Rattle.reader.proofs.SetLaws.{row-in}
-use Rattle.reader.proofs.SlotLaws.{slot-room, place-is}
+use Rattle.level.proofs.SlotLaws.{slot-room, place-is}
 
 module _ (a : ℕ) (x y : ℕ → ℤ) (j : ℕ) where
   pub behind-below : j < a → behind a x y j ≡ x j

@@ -1,96 +1,13 @@
--- The tests of 7 and 14 as tests of two bounds. Assumes nothing.
-use mathlib.Core.Path.{_≡_, refl, ap, _∙_}
-use mathlib.Core.List.{List}
-use Prim.Native.Nat.{ℕ, zero, suc, _+_, _-_, min, _≤_}
-use native.Mathlib.Decide.{decLt}
-use native.Mathlib.Omega.{arith}
-use lib.IntN.{ℤ, pos, natAbs, _-ℤ_}
-use lib.ListN.{length}
-use lib.Dec.{leb}
-use mir.Syntax.{w32}
-use mir.Val.{SFits}
-use borrow.Author.Tests.{le-leb, lt-leb}
-use borrow.Rule.Slice.PartMut.{midOf}
-use Rattle.numbers.specs.Signal.{at, both}
-use Rattle.numbers.proofs.Integers.{each, lin, dif, dif-pos, dif-natAbs, dif-leZ}
-use Rattle.numbers.proofs.Parts.{length-mid, at-mid, window-in}
-use Rattle.wavelet.specs.Limits.{maxSample, maxLevels, range}
+-- The test of 7 as a test of two bounds. Assumes nothing.
+use mathlib.Core.Path.{_≡_}
+use Prim.Native.Nat.{ℕ}
+use lib.IntN.{ℤ, pos, _-ℤ_}
 use Rattle.numbers.specs.Tests.{every}
-use Rattle.wavelet.specs.Maps.{valueFits}
-use Rattle.reader.specs.Inside.{lowestOf}
-use Rattle.areas.specs.Areas.{between}
-use Rattle.reader.specs.Slots.{rowPlace}
-use Rattle.reader.specs.Work.{rowFits}
-use Rattle.reader.specs.Questions.{runFits}
 use Rattle.numbers.proofs.TestLaws.{every-same}
-
--- one test that is two
-leb-both : (a r b c d e : ℕ) → (b ≤ c → d ≤ e → a ≤ r) → (a ≤ r → (b ≤ c) × (d ≤ e)) → leb a r ≡ both (leb b c) (leb d e)
-leb-both a r b c d e back forth =
-    elim (decLt r a) [
-      | yes p ↦ elim (decLt c b) [
-        | yes q ↦ simp (lt-leb a r p, lt-leb b c q)
-        | no q ↦ elim (decLt e d) [
-          | yes s ↦ simp (lt-leb a r p, le-leb b c (omega arith), lt-leb d e s)
-          | no s ↦ let z = back (omega arith) (omega arith) in absurd (omega arith)
-        ]
-      ]
-      | no p ↦ let f = forth (omega arith) in simp (le-leb a r (omega arith), le-leb b c (f .0), le-leb d e (f .1))
-    ]
-
-least-is : (R : ℕ) → pos 0 -ℤ pos R ≡ dif 0 R
-least-is R = ap (λ (z : ℤ). pos 0 -ℤ z) (dif-pos R) ∙ simp lin (omega arith)
-
-most-is : (R : ℕ) → pos R ≡ dif R 0
-most-is R = dif-pos R
-
-pub abs-between : (R : ℕ) (v : ℤ) → leb (natAbs v) R ≡ between (pos 0 -ℤ pos R) (pos R) v
-unfolding between
-abs-between R =
-    each _ λ p q.
-    cc (
-      dif-natAbs p q,
-      least-is R,
-      most-is R,
-      dif-leZ 0 R p q,
-      dif-leZ p q R 0,
-      leb-both ((p - q) + (q - p)) R (0 + q) (p + R) (p + 0) (R + q) (λ g h. omega arith) (λ g. (omega arith, omega arith)),
-    )
-
--- ---- the bounds of 14
-pub low-zero : (k : ℕ) → k ≡ 0 → pos 0 ≡ lowestOf k
-unfolding lowestOf
-low-zero k e = rw e
-
-pub low-more : (k : ℕ) → (k ≡ 0 → ⊥) → pos 0 -ℤ pos (range k) ≡ lowestOf k
-unfolding lowestOf
-low-more zero h = absurd (h refl)
-low-more (suc k) h = refl
-
-pub neg-fits : (z : ℤ) (n : ℕ) → z ≡ pos n → SFits w32 z → SFits w32 (pos 0 -ℤ z)
-neg-fits z n e h = let g : SFits w32 (pos n) = rw (← e) h in rw (e, least-is n) (go n g)
-  where
-    go : (n : ℕ) → SFits w32 (pos n) → SFits w32 (dif 0 n)
-    go n = simp lin (omega arith)
-
-pub value-between : (k : ℕ) (v : ℤ) → valueFits k v ≡ between (lowestOf k) (pos (range k)) v
-unfolding valueFits
-value-between zero v = unfold lowestOf between range maxSample in refl
-value-between (suc k) v = abs-between (range (suc k)) v ∙ unfold lowestOf in refl
-
-pub same-range : (k : ℕ) → k ≤ maxLevels → pos (range (min k maxLevels)) ≡ pos (range k)
-same-range k h = let e : min k maxLevels ≡ k = omega arith in ap (λ (i : ℕ). pos (range i)) e
-
--- ---- a row's test, made on the part that is lent
-pub admit-is : (k w r a m : ℕ) (l : List ℤ) (low high : ℤ) → a ≡ rowPlace w r → m ≡ w → a + m ≤ length l → low ≡ lowestOf k → high ≡ pos (range k) →
-    every (length (midOf a m l)) (λ i. between low high (at (midOf a m l) i)) ≡ rowFits k w r (at l)
-unfolding rowFits
-admit-is k w r a m l low high ea em room el eh =
-    ap (λ (n : ℕ). every n (λ i. between low high (at (midOf a m l) i))) (length-mid a m l room ∙ em)
-    ∙ every-same w _ _ (λ i h.
-    let place : a + i ≡ rowPlace w r + i = omega arith in
-    let seen : at (midOf a m l) i ≡ at l (rowPlace w r + i) = ap (λ (f : ℕ → ℤ). f i) (at-mid a m l) ∙ window-in a m (at l) i (omega arith) ∙ ap (at l) place in
-    cc (seen, el, eh, value-between k (at l (rowPlace w r + i))))
+use Rattle.wavelet.specs.Limits.{range}
+use Rattle.areas.specs.Areas.{between}
+use Rattle.reader.specs.Questions.{runFits}
+use Rattle.level.proofs.AdmitLaws.{abs-between}
 
 pub run-is : (k n : ℕ) (v : ℕ → ℤ) (low high : ℤ) → low ≡ pos 0 -ℤ pos (range k) → high ≡ pos (range k) → every n (λ i. between low high (v i)) ≡ runFits k n v
 unfolding runFits

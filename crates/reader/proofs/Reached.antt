@@ -31,9 +31,10 @@ use Rattle.numbers.proofs.TestLaws.{every-each}
 use Rattle.calls.specs.Lists.{Area, All, all-none, all-more}
 use Rattle.calls.proofs.AllLaws.{all-append, all-left, all-last}
 use Rattle.reader.specs.declared.Reader.{Reader}
-use Rattle.reader.specs.Sets.{opens, rowAt}
+use Rattle.level.specs.Sets.{opens}
+use Rattle.reader.specs.Sets.{rowAt}
 use Rattle.reader.specs.Asked.{asked}
-use Rattle.reader.specs.Tried.{Tried, failed, passed, fits, memory}
+use Rattle.level.specs.Tried.{Tried, failed, passed, fits, memory}
 use Rattle.reader.specs.Machine.{Place, place, lastOfSet, nextAt, placeFed, beyond, dive, enter}
 use Rattle.reader.specs.State.{next, settles, feeds, drawDue, fedReader, drawnReader, endedReader}
 use Rattle.reader.specs.Questions.{runFits, feedQuestion, drawQuestion}
@@ -42,7 +43,7 @@ use Rattle.reader.specs.Demand3.{Call, want, feed, draw, Event, fed, dre
 use Rattle.reader.specs.Demand3.{given, leaves, drawnTo}
 use Rattle.reader.specs.Demand3 as demand
 use Rattle.reader.proofs.StepsLeft.{code-lt, stepsLeft}
-use Rattle.reader.proofs.SetMade.{Outcome}
+use Rattle.level.proofs.SetMade.{Outcome}
 use Rattle.reader.proofs.Holds.{Fits, Held, enter-holds, height-fit}
 use Rattle.reader.proofs.Outcomes.{outcome-failed, outcome-passed, settles-outcome, feeds-outcome, row-out}
 use Rattle.reader.proofs.CallViews.{Limits, here, View, view, FeedView, feed-away, feed-onward, feed-view, DrawView, draw-away, draw-idle, draw-onward}

@@ -11,8 +11,9 @@ use Rattle.lifting.specs.Line.{lo, hi, count}
 use Rattle.wavelet.specs.Bands.{Band, LL, HL, LH, HH, code, across, down}
 use Rattle.wavelet.specs.Levels.{size}
 use Rattle.wavelet.proofs.SizeLaws.{count-lo, size-positive}
-use Rattle.reader.specs.Sets.{setOf, rowAt}
-use Rattle.reader.specs.Slots.{setRow, halfPlace}
+use Rattle.level.specs.Sets.{setOf}
+use Rattle.reader.specs.Sets.{rowAt}
+use Rattle.level.specs.Slots.{setRow, halfPlace}
 use Rattle.reader.specs.Asked.{keptAt, asked, bandsFrom, those, look, firstCode, nextBand, named}
 
 -- ---- sets

@@ -13,12 +13,12 @@ use Rattle.reader.specs.declared.walk.Level.{Level}
 use Rattle.reader.specs.declared.walk.Spot.{Spot}
 use Rattle.reader.specs.Sets.{rowAt}
 use Rattle.reader.specs.Asked.{named}
-use Rattle.reader.specs.Tried.{failed, passed}
+use Rattle.level.specs.Tried.{failed, passed}
 use Rattle.reader.specs.Store.{fedAt}
 use Rattle.reader.specs.Machine.{Place, place, bandAt, nextAt, settled, finished, beyond, fedOn, placeFed}
 use Rattle.reader.specs.State.{next, nextRow, nextLength, settles, feeds}
 use Rattle.reader.specs.Inside.{IsLevel, Is}
-use Rattle.reader.proofs.WorkLaws.{bind-failed, bind-passed}
+use Rattle.level.proofs.WorkLaws.{bind-failed, bind-passed}
 use Rattle.reader.proofs.WalkLaws.{next-here, next-finer, next-none}
 
 pub place-of : (q : Place) (p : Spot) → Is q p → place (p .level) (p .band) ≡ q

@@ -13,10 +13,12 @@ use Rattle.wavelet.specs.Bands.{Band, LL, HL, LH, HH, code}
 use Rattle.wavelet.specs.Levels.{size}
 use Rattle.wavelet.specs.Order.{RowName, rowName, handedOut, hasRow, rowsOf, setRows, inTurn}
 use Rattle.wavelet.specs.Steps.{Step, feed, draw, feedAll, rowSteps, setSteps, steps}
-use Rattle.reader.specs.Sets.{setOf, opens, rowAt}
+use Rattle.level.specs.Sets.{setOf, opens}
+use Rattle.reader.specs.Sets.{rowAt}
 use Rattle.reader.specs.Asked.{keptAt, asked, bandsFrom, those, look, firstCode, nextBand, named}
 use Rattle.reader.specs.Machine.{Place, place, bandAt, lastOfSet, nextAt, beyond, dive, enter}
-use Rattle.reader.proofs.OpenedSets.{opens-row, opens-set, opens-first, rowAt-next, rowAt-there, rowAt-first}
+use Rattle.level.proofs.OpenedSets.{opens-row, opens-set, opens-first}
+use Rattle.reader.proofs.OpenedSets.{rowAt-next, rowAt-there, rowAt-first}
 
 -- ---- the bands that a set still asks for
 pub named-code : (b : Band) → named (code b) ≡ b

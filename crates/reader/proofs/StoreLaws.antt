@@ -12,7 +12,8 @@ use Rattle.wavelet.specs.Limits.{maxWidth, maxLevels}
 use Rattle.wavelet.specs.Questions.{within}
 use Rattle.wavelet.specs.Store.{storeLength}
 use Rattle.wavelet.proofs.StoreLaws.{store-none, store-more}
-use Rattle.reader.specs.Sets.{setOf, rowAt}
+use Rattle.level.specs.Sets.{setOf}
+use Rattle.reader.specs.Sets.{rowAt}
 use Rattle.reader.specs.Store.{stretchAt}
 use Rattle.reader.proofs.SetLaws.{set-in, row-zero, row-suc}
 

@@ -12,19 +12,20 @@ use Rattle.wavelet.specs.Levels.{size}
 use Rattle.wavelet.specs.Store.{storeLength}
 use Rattle.reader.specs.declared.Reader.{Reader}
 use Rattle.reader.specs.Sets.{rowAt}
-use Rattle.reader.specs.Tried.{Tried, failed, passed, bind, onto, memory}
-use Rattle.reader.specs.Work.{rowFits, admitted, setUnlifted, evenRow, oddRow, evenMade, oddMade, lastMade, setMade, setWorked}
-use Rattle.reader.specs.Slots.{lowRowTaken}
+use Rattle.level.specs.Tried.{Tried, failed, passed, bind, onto, memory}
+use Rattle.level.specs.Work.{rowFits, admitted, setUnlifted, evenRow, oddRow, evenMade, oddMade, lastMade, setMade, setWorked}
+use Rattle.level.specs.Slots.{lowRowTaken}
 use Rattle.reader.specs.Store.{stretchAt, from, behind, zeroed, fedAt, workedAt}
 use Rattle.reader.specs.Machine.{lastOfSet, settled, finished, fedOn}
 use Rattle.reader.specs.State.{next, settles, feeds, drawDue}
 use Rattle.reader.specs.Questions.{setUpQuestion, feedQuestion, drawQuestion}
-use Rattle.reader.specs.Inside.{Kept}
+use Rattle.level.specs.Rebuilding.{Kept}
 use Rattle.reader.specs.Calls.{setUpStore, storeAfter, feedStore, drawStore}
 use Rattle.areas.proofs.AreaLaws.{front-rest}
 use Rattle.reader.proofs.StoreLaws.{stretch-suc, stretch-in, stretch-is, store-in}
 use Rattle.reader.proofs.PartLaws.{behind-past, from-at}
-use Rattle.reader.proofs.KeptLaws.{kept-none, kept-both, kept-more, set-kept, even-kept, odd-kept, low-kept, fed-kept}
+use Rattle.level.proofs.KeptLaws.{kept-none, kept-both, kept-more, set-kept, even-kept, odd-kept, low-kept}
+use Rattle.reader.proofs.KeptLaws.{fed-kept}
 use Rattle.reader.proofs.StepLaws.{near}
 use Rattle.reader.proofs.QuestionLaws.{counts-in}
 use Rattle.reader.proofs.Keeps.{feed-counts, draw-counts}

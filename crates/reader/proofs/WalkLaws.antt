@@ -10,11 +10,11 @@ use borrow.Author.Tests.{lt-ltb, le-ltb}
 use Rattle.reader.specs.declared.walk.Level.{Level}
 use Rattle.reader.specs.declared.walk.Spot.{Spot}
 use Rattle.reader.specs.Asked.{nextBand}
-use Rattle.reader.specs.Tried.{failed, passed}
+use Rattle.level.specs.Tried.{failed, passed}
 use Rattle.reader.specs.Store.{workedAt}
 use Rattle.reader.specs.Machine.{Place, place, bandAt, lastOfSet, nextAt, settled, finished, beyond}
 use Rattle.reader.specs.Inside.{IsLevel, Is}
-use Rattle.reader.proofs.WorkLaws.{bind-failed, bind-passed}
+use Rattle.level.proofs.WorkLaws.{bind-failed, bind-passed}
 
 -- a place by its numbers
 pub is-place : (q : Place) (p : Spot) → place (p .level) (p .band) ≡ q → Is q p

@@ -8,8 +8,8 @@ use Rattle.lifting.specs.Line.{joined}
 use Rattle.lifting.specs.Halves.{halvesOf, fronted}
 use Rattle.reader.specs.declared.Reader.{Reader}
 use Rattle.areas.specs.Areas.{height16}
-use Rattle.reader.specs.Tried.{memory}
-use Rattle.reader.specs.Slots.{rowIn}
+use Rattle.level.specs.Tried.{memory}
+use Rattle.level.specs.Slots.{rowIn}
 use Rattle.reader.specs.Store.{zeroed}
 use Rattle.reader.specs.Answers.{Reply, gives, refused, impossible, Want, Handed, aRow, nothing}
 use Rattle.reader.specs.State.{wants, settles, feeds, drawDue, fedReader, drawnReader, endedReader}

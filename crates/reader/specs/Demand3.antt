@@ -25,7 +25,8 @@ use Rattle.wavelet.specs.Steps as step
 use Rattle.calls.specs.Lists.{Reply, gives, refused, Area, All, gathered, ever}
 use Rattle.calls.specs.Lists as lists
 use Rattle.reader.specs.declared.Reader.{Reader}
-use Rattle.reader.specs.Sets.{setOf, rowAt}
+use Rattle.level.specs.Sets.{setOf}
+use Rattle.reader.specs.Sets.{rowAt}
 use Rattle.reader.specs.Answers.{Want, row, drawNow, done, ended, Handed, aRow}
 use Rattle.reader.specs.Answers as answer
 use Rattle.reader.specs.Questions.{runFits, countsFit, wantQuestion, feedQuestion, drawQuestion}

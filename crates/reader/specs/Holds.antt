@@ -2,44 +2,22 @@
 -- The numbers are 32-bit words (`wrap32`); for a map they are T.800's whole numbers.
 use mathlib.Core.Path.{_≡_}
 use mathlib.Core.Bool.{true}
-use Prim.Native.Nat.{ℕ, suc, _+_, _*_, _≤_, _<_}
+use Prim.Native.Nat.{ℕ, suc, _≤_, _<_}
 use lib.IntN.{ℤ}
 use lib.Dec.{eqb}
 use mir.Syntax.{w32}
 use mir.Val.{SFits}
 use Rattle.numbers.specs.Word.{wrap32}
-use Rattle.lifting.specs.Line.{Half, hi, count, parted}
-use Rattle.wavelet.specs.Bands.{Grid, Band, code, across, down, columnsLifted, subband}
+use Rattle.wavelet.specs.Bands.{Grid, Band, code}
 use Rattle.wavelet.specs.Levels.{size, approximation, levelBand}
 use Rattle.wavelet.specs.Maps.{valueFits}
 use Rattle.reader.specs.declared.Reader.{Reader}
 use Rattle.reader.specs.Answers.{Reply, gives, impossible, Handed, aRow}
-use Rattle.reader.specs.Sets.{setOf, rowAt}
+use Rattle.reader.specs.Sets.{rowAt}
 use Rattle.reader.specs.Asked.{keptAt, named}
-use Rattle.reader.specs.Slots.{rowPlace, setRow, halfPlace}
+use Rattle.level.specs.Stands.{SetLeaves, SetBefore, BandStands}
 use Rattle.reader.specs.Store.{stretchAt, from}
 use Rattle.reader.specs.State.{next, nextRow, nextLength}
-
--- ---- a level that splits the grid G of w columns and h rows, in the memory x
--- in the slot of row r stands a row by its halves: two band rows, or the even and the odd places of a line
-abbrev pub RowStands : ℕ → (ℕ → ℤ) → ℕ → (Half → ℕ → ℤ) → Type 0
-RowStands w x r c = (h : Half) (i : ℕ) → i < count h w → x (rowPlace w r + (halfPlace h w + i)) ≡ c h i
-
--- what set n leaves: the rows that it makes, which fit as low-low values of level k, and its high row of the columns for the next set
-pub record SetLeaves (k w h : ℕ) (G : Grid) (n : ℕ) (x : ℕ → ℤ) : Type 0 where
-  pub made : (r : ℕ) → r < h → setOf h r ≡ n → RowStands w x r (parted (G r))
-  pub fit : (r : ℕ) → r < h → setOf h r ≡ n → (c : ℕ) → c < w → valueFits k (G r c) ≡ true
-  pub high : 2 * n + 2 < h → RowStands w x (2 * n + 1) (parted (columnsLifted wrap32 h G hi n))
-
--- what set n needs of the set before it: its even row, and its high row
-pub record SetBefore (w h : ℕ) (G : Grid) (n : ℕ) (x : ℕ → ℤ) : Type 0 where
-  pub even : (p : ℕ) → n ≡ suc p → RowStands w x (2 * p) (parted (G (2 * p)))
-  pub high : (p : ℕ) → n ≡ suc p → RowStands w x (2 * p + 1) (parted (columnsLifted wrap32 h G hi p))
-
--- row n of band c, if there is one
-abbrev pub BandStands : ℕ → ℕ → Grid → ℕ → (ℕ → ℤ) → Band → Type 0
-BandStands w h G n x c =
-    n < count (down c) h → (i : ℕ) → i < count (across c) w → x (rowPlace w (setRow (down c) n) + (halfPlace (across c) w + i)) ≡ subband wrap32 w h G c n i
 
 -- ---- the reader's store, while row `drawn` is waited for: levels coarser than `level` have their set, it has the bands before `band`, finer ones wait
 module _ (g : Grid) (s : Reader) where

@@ -16,11 +16,6 @@ use Rattle.reader.specs.Machine.{Place}
 use Rattle.reader.specs.State.{next, nextLength, rowDue}
 use Rattle.reader.specs.Questions.{countsFit, storeFits, runFits}
 
--- the least value that the rows of level k's low-low part may have: 0 for heights, k = 0
-unfoldable pub lowestOf : ℕ → ℤ
-lowestOf zero = pos 0
-lowestOf (suc k) = pos 0 -ℤ pos (range (suc k))
-
 -- ---- a reader and its places
 -- every count is inside its range
 pub record Counts (s : Reader) : Type 0 where
@@ -46,10 +41,6 @@ pub record IsLevel (W H d k : ℕ) (l : Level) : Type 0 where
 pub record Is (q : Place) (p : Spot) : Type 0 where
   pub level : p .level ≡ q .level
   pub band : p .band ≡ q .band
-
--- nothing changed from place n on
-pub record Kept (n : ℕ) (x y : ℕ → ℤ) : Type 0 where
-  pub same : (j : ℕ) → n ≤ j → y j ≡ x j
 
 -- the questions of a feed or a draw that the state and the store's length answer, and those of a feed that the run answers
 unfoldable pub storeQuestion : Reader → ℕ → ℕ

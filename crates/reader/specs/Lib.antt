@@ -1,8 +1,5 @@
 pub mod Sets
 pub mod Asked
-pub mod Tried
-pub mod Slots
-pub mod Work
 pub mod Store
 pub mod Machine
 pub mod Answers

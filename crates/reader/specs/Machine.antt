@@ -7,9 +7,10 @@ use lib.IntN.{ℤ}
 use lib.Dec.{leb, ltb, eqb}
 use Rattle.numbers.specs.Signal.{pick}
 use Rattle.wavelet.specs.Levels.{size}
-use Rattle.reader.specs.Sets.{opens, rowAt}
+use Rattle.level.specs.Sets.{opens}
+use Rattle.reader.specs.Sets.{rowAt}
 use Rattle.reader.specs.Asked.{nextBand}
-use Rattle.reader.specs.Tried.{Tried, passed, bind}
+use Rattle.level.specs.Tried.{Tried, passed, bind}
 use Rattle.reader.specs.Store.{fedAt, workedAt}
 
 -- a level, and a band of it

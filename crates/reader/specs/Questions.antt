@@ -9,7 +9,7 @@ use Rattle.numbers.specs.Tests.{every}
 use Rattle.wavelet.specs.Questions.{ask, within}
 use Rattle.wavelet.specs.Store.{storeLength}
 use Rattle.reader.specs.declared.Reader.{Reader}
-use Rattle.reader.specs.Tried.{fits}
+use Rattle.level.specs.Tried.{fits}
 use Rattle.reader.specs.State.{next, nextLength, rowDue, drawDue, settles, feeds}
 
 -- question 1: "Is every count in the state inside its range?"

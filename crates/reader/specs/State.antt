@@ -9,7 +9,7 @@ use Rattle.reader.specs.declared.Reader.{Reader}
 use Rattle.reader.specs.Sets.{rowAt}
 use Rattle.reader.specs.Asked.{named}
 use Rattle.reader.specs.Answers.{Want, row, drawNow, done, ended}
-use Rattle.reader.specs.Tried.{Tried, bind}
+use Rattle.level.specs.Tried.{Tried, bind}
 use Rattle.reader.specs.Machine.{Place, nextAt, settled, fedOn, placeFed, enter}
 
 module _ (s : Reader) where

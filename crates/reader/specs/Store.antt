@@ -6,11 +6,11 @@ use Rattle.numbers.specs.Signal.{pick}
 use Rattle.lifting.specs.Halves.{fronted}
 use Rattle.wavelet.specs.Levels.{size}
 use Rattle.wavelet.specs.Store.{storeLength}
-use Rattle.reader.specs.Tried.{Tried, onto}
+use Rattle.level.specs.Tried.{Tried, onto}
 use Rattle.reader.specs.Sets.{rowAt}
 use Rattle.reader.specs.Asked.{named}
-use Rattle.reader.specs.Slots.{bandFed}
-use Rattle.reader.specs.Work.{setWorked}
+use Rattle.level.specs.Slots.{bandFed}
+use Rattle.level.specs.Work.{setWorked}
 
 -- where the stretch of level k + 1 begins: four rows for each level before it
 unfoldable pub stretchAt : ℕ → ℕ → ℕ

@@ -3,10 +3,10 @@ mod questions;
 mod sets;
 mod steps;
 mod walk;
-mod work;
 
 use areas::copies;
 use areas::heights;
+use level::rebuilding;
 use walk::Spot;
 ghost use mathlib.Core.Path.{_≡_};
 ghost use lib.ListN.{length};
@@ -189,7 +189,7 @@ impl Reader {
             return Drawn::Refused(12);
         }
         if steps::settle(self, store, p) {
-            let a = work::row_place(w, self.drawn);
+            let a = rebuilding::row_place(w, self.drawn);
             let e = a + w;
             heights::draw_heights(&store[a..e], out);
             let d = self.drawn + 1;

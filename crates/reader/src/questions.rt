@@ -1,4 +1,4 @@
-// The gate questions of the reader, in the order of document 01. The module is private, as `work` is.
+// The gate questions of the reader, in the order of document 01. The module is private, as `walk` is.
 use crate::Reader;
 use crate::steps;
 use crate::walk::Spot;

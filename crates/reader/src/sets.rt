@@ -1,4 +1,4 @@
-// Sets of rows, and the bands that a set asks for: numbers alone. The module is private, as `work` is.
+// Sets of rows, and the bands that a set asks for: numbers alone. The module is private, as `walk` is.
 use wavelet::sizes;
 ghost use mathlib.Core.Path.{_≡_};
 ghost use Prim.Native.Nat.{_-_, _*_, _<_, _≤_, _^_};
@@ -6,7 +6,7 @@ ghost use lib.Dec.{leb};
 ghost use Rattle.numbers.specs.Signal.{both};
 ghost use Rattle.lifting.specs.Line.{count};
 ghost use Rattle.wavelet.specs.Bands.{across, down};
-ghost use Rattle.reader.specs.Sets.{setOf};
+ghost use Rattle.level.specs.Sets.{setOf};
 ghost use Rattle.reader.specs.Asked.{asked, named, nextBand};
 
 // The set that makes row r of h rows.

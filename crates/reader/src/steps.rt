@@ -1,4 +1,4 @@
-// The steps of a reader: the row that it wants, a row fed, a height row made ready. Each of a state whose counts are in their ranges. The module is private, as `work` is.
+// The steps of a reader: the row that it wants, a row fed, a height row made ready. Each of a state whose counts are in their ranges. The module is private, as `walk` is.
 use crate::Reader;
 use crate::sets;
 use crate::walk;
@@ -7,11 +7,12 @@ ghost use mathlib.Core.Path.{_≡_};
 ghost use Prim.Native.Nat.{_<_, _≤_};
 ghost use lib.ListN.{length};
 ghost use Rattle.numbers.specs.Signal.{at};
-ghost use Rattle.reader.specs.Tried.{outcome};
+ghost use Rattle.level.specs.Tried.{outcome};
 ghost use Rattle.wavelet.specs.Store.{storeLength};
 ghost use Rattle.reader.specs.Machine.{placeFed};
 ghost use Rattle.reader.specs.State.{next, nextRow, nextLength, settles, feeds};
-ghost use Rattle.reader.specs.Inside.{Counts, Is, Kept};
+ghost use Rattle.reader.specs.Inside.{Counts, Is};
+ghost use Rattle.level.specs.Rebuilding.{Kept};
 
 // The place of the row wanted; level 0: there is none.
 pub fn next_of(s: Reader) -> Spot

@@ -1,8 +1,8 @@
 // The walk over the levels of a map of `width` × `height`, while row `drawn` is waited for: the stretch and the set of each level, the row wanted, the sets
-// worked out on the way. The module is private, as `work` is.
+// worked out on the way. The module is private: only this crate, which meets what is required, can call it.
 use crate::sets;
-use crate::work;
 use areas::copies;
+use level::rebuilding;
 use wavelet::sizes;
 ghost use mathlib.Core.Path.{_≡_};
 ghost use Prim.Native.Nat.{_+_, _<_, _≤_, _^_};
@@ -13,12 +13,13 @@ ghost use Rattle.wavelet.specs.Bands.{across, down};
 ghost use Rattle.wavelet.specs.Levels.{size};
 ghost use Rattle.wavelet.specs.Limits.{maxLevels};
 ghost use Rattle.reader.specs.Asked.{named};
-ghost use Rattle.reader.specs.Tried.{outcome};
-ghost use Rattle.reader.specs.Slots.{rowPlace, setRow, halfPlace};
+ghost use Rattle.level.specs.Tried.{outcome};
+ghost use Rattle.level.specs.Slots.{rowPlace, setRow, halfPlace};
 ghost use Rattle.wavelet.specs.Store.{storeLength};
 ghost use Rattle.reader.specs.Store.{fedAt, workedAt};
 ghost use Rattle.reader.specs.Machine.{bandAt, lastOfSet, nextAt, settled, finished, beyond, enter};
-ghost use Rattle.reader.specs.Inside.{Shape, IsLevel, Is, Kept};
+ghost use Rattle.reader.specs.Inside.{Shape, IsLevel, Is};
+ghost use Rattle.level.specs.Rebuilding.{Kept};
 
 // A level: where its stretch begins, the columns and rows that it splits, and the set that it is at.
 pub struct Level {
@@ -105,7 +106,7 @@ fn half_place(w: usize, n: usize, band: usize) -> usize
     requires { ⌜ (band < 4) × (w ≤ 2 ^ 16) × (n ≤ 2 ^ 32) ⌝ }
     ensures { λ a. ⌜ a ≡ rowPlace w (setRow (down (named band)) n) + halfPlace (across (named band)) w ⌝ }
 {
-    let a = work::row_place(w, 2 * n + band / 2);
+    let a = rebuilding::row_place(w, 2 * n + band / 2);
     if band % 2 == 0 { a } else { a + sizes::half(w) }
 }
 
@@ -144,7 +145,7 @@ pub fn work_at(
 {
     let l = level_at(width, height, drawn, k);
     let a = l.start;
-    work::work_set(
+    rebuilding::work_set(
         &mut store[a..],
         k + 1 == levels,
         k,
@@ -152,6 +153,7 @@ pub fn work_at(
         l.height,
         l.set,
     )
+        == 0
 }
 
 // The sets of the levels from `from` down to above `to`, the coarsest first.

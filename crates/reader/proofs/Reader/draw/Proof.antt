@@ -9,7 +9,8 @@ use Rattle.areas.specs.Areas.{heightsAt}
 use borrow.Rule.Slice.PartMut.{midOf}
 use Rattle.numbers.proofs.Parts.{length-mid}
 use Rattle.areas.proofs.AreaLaws.{did}
-use Rattle.reader.proofs.WorkLaws.{told-no, told-yes}
+use Rattle.level.specs.Rebuilding.{widest}
+use Rattle.level.proofs.WorkLaws.{told-no, told-yes}
 use Rattle.reader.proofs.StoreLaws.{first-room}
 use Rattle.reader.proofs.QuestionLaws.{counts-shape, counts-length, store-in, due-in}
 use Rattle.reader.proofs.CallLaws.{store-14, draw-early, draw-none, draw-12, draw-last, draw-no, draw-nothing, draw-yes, draw-end, fits-yes, fits-no, drawn-reader, drawn-row, zero-kept}
@@ -61,17 +62,7 @@ settle-requires c κs =
     (one .0, next .next-of .ensures, one .1)
 
 row-place-requires : tie.Need-row-place-requires
-row-place-requires c κs =
-    let call = c .before .before in
-    let fits = call .before .before in
-    let due = fits .before in
-    let next = due .before .before in
-    let ok = next .before in
-    let start = ok .before .before .before in
-    let a = start .args in
-    let s = a .self in
-    let one = store-in s _ (sym (ok .before .store-question .ensures) ∙ ok .if1 .left) in
-    counts-shape s (one .0) .1
+row-place-requires c κs = tt
 
 add-e : tie.Need-add-e
 add-e c =
@@ -194,6 +185,7 @@ returns-4 c =
     let y = call .settle .last .1 .0 in
     let w = s .width in
     let room = first-room w (s .levels) (one .0 .deep .0) in
+    let stands = did _ _ _ _ (le-leb w widest (counts-shape s (one .0) .1)) (place .row-place .ensures .0) in
     let part : p + (p + w - p) ≤ length y = omega (arith, place .row-place .ensures .1, one .1, room, call .settle .kept .1 .0) in
     let fits-out = le-leb (length (midOf p (p + w - p) y)) m (omega (arith, length-mid p (p + w - p) y part)) in
     let made = told-yes (call .settle .result) (at y) _ (call .settle .ensures .0) (settled .if4 .taken) in
@@ -204,7 +196,7 @@ returns-4 c =
     is-due
     (drawn-reader s (c .moved .result) _ (enter .enter-of .result) refl (enter .enter-of .ensures) (c .moved .ensures))
     made
-    (drawn-row w (s .drawn) p (p + w - p) y _ _ (place .row-place .ensures .0) (omega arith) part (did _ _ _ _ fits-out (drawing .draw-heights .ensures .1))))
+    (drawn-row w (s .drawn) p (p + w - p) y _ _ stands (omega arith) part (did _ _ _ _ fits-out (drawing .draw-heights .ensures .1))))
 
 store-length-requires : tie.Need-store-length-requires
 store-length-requires c κs = tt

@@ -5,7 +5,7 @@ use lib.ListN.{length}
 use borrow.Author.Tests.{le-leb}
 use Rattle.areas.proofs.AreaLaws.{did}
 use Rattle.numbers.specs.Signal.{at}
-use Rattle.reader.proofs.WorkLaws.{told-no, told-yes}
+use Rattle.level.proofs.WorkLaws.{told-no, told-yes}
 use Rattle.reader.proofs.QuestionLaws.{counts-length, store-in, row-asked}
 use Rattle.reader.proofs.CallLaws.{store-14, row-14, feed-early, feed-late, feed-last, feed-no, feed-yes, feed-end, fits-yes, fits-no, fed-reader, zero-kept}
 use Rattle.reader.proofs.Keeps.{feed-also}

@@ -5,7 +5,8 @@ use mir.Syntax.{w32}
 use mir.ValLaws.{toZ-ofZ}
 use borrow.Author.Needs.{needs, sfits-of}
 use Rattle.numbers.proofs.Words.{read-back}
-use Rattle.reader.proofs.RangeLaws.{neg-fits, same-range, run-is}
+use Rattle.level.proofs.AdmitLaws.{neg-fits, same-range}
+use Rattle.reader.proofs.RangeLaws.{run-is}
 use Rattle.reader.proofs.questions.run_fits.Statement.{statement}
 use Rattle.reader.proofs.questions.run_fits.Tie as tie
 

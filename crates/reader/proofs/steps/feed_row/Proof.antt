@@ -5,9 +5,10 @@ use borrow.Author.Tests.{not-true, not-false}
 use Prim.Native.Nat.{_+_, _-_}
 use Rattle.numbers.specs.Signal.{at}
 use Rattle.reader.specs.Machine.{finished}
-use Rattle.reader.proofs.WorkLaws.{told-no, told-yes}
+use Rattle.level.proofs.WorkLaws.{told-no, told-yes}
 use Rattle.reader.proofs.StoreLaws.{store-in}
-use Rattle.reader.proofs.KeptLaws.{kept-both, kept-is, kept-more, fed-kept}
+use Rattle.level.proofs.KeptLaws.{kept-both, kept-is, kept-more}
+use Rattle.reader.proofs.KeptLaws.{fed-kept}
 use Rattle.reader.proofs.QuestionLaws.{counts-shape}
 use Rattle.reader.proofs.StepLaws.{spot-in, feed-failed, feed-on, length-back}
 use Rattle.reader.proofs.steps.feed_row.Statement.{statement}

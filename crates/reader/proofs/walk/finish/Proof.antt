@@ -3,7 +3,7 @@ use mathlib.Core.Path.{_∙_}
 use borrow.Author.Needs.{needs}
 use borrow.Author.Tests.{not-true, not-false}
 use Rattle.reader.proofs.WalkLaws.{finish-more, finish-set}
-use Rattle.reader.proofs.KeptLaws.{kept-none}
+use Rattle.level.proofs.KeptLaws.{kept-none}
 use Rattle.reader.proofs.walk.finish.Statement.{statement}
 use Rattle.reader.proofs.walk.finish.Tie as tie
 

@@ -2,8 +2,11 @@
 use mathlib.Core.Path.{_∙_, ap}
 use native.Mathlib.Omega.{arith}
 use borrow.Author.Needs.{needs}
+use borrow.Author.Tests.{le-leb}
+use Rattle.areas.proofs.AreaLaws.{did}
+use Rattle.level.specs.Rebuilding.{widest}
 use Rattle.wavelet.proofs.SizeLaws.{count-lo}
-use Rattle.reader.specs.Slots.{rowPlace}
+use Rattle.level.specs.Slots.{rowPlace}
 use Rattle.reader.proofs.SetLaws.{set-row, half-even, half-odd}
 use Rattle.reader.proofs.walk.half_place.Statement.{statement}
 use Rattle.reader.proofs.walk.half_place.Tie as tie
@@ -15,7 +18,7 @@ add-row-place : tie.Need-add-row-place
 add-row-place c = search needs
 
 row-place-requires : tie.Need-row-place-requires
-row-place-requires c κs = search needs
+row-place-requires c κs = tt
 
 half-requires : tie.Need-half-requires
 half-requires c κs = tt
@@ -27,7 +30,8 @@ returns : tie.Need-returns
 returns c =
     let start = c .before .before in
     let a = start .args in
-    let place = c .before .row-place .ensures .0 ∙ ap (rowPlace (a .w)) (set-row (a .n) (a .band) (start .pre .0)) in
+    let is = did _ _ _ _ (le-leb (a .w) widest (omega arith)) (c .before .row-place .ensures .0) in
+    let place = is ∙ ap (rowPlace (a .w)) (set-row (a .n) (a .band) (start .pre .0)) in
     omega (arith, place, half-even (a .w) (a .band) (start .pre .0) (c .if1 .taken))
 
 returns-2 : tie.Need-returns-2
@@ -35,7 +39,8 @@ returns-2 c =
     let odd = c .before in
     let start = odd .before .before in
     let a = start .args in
-    let place = odd .before .row-place .ensures .0 ∙ ap (rowPlace (a .w)) (set-row (a .n) (a .band) (start .pre .0)) in
+    let is = did _ _ _ _ (le-leb (a .w) widest (omega arith)) (odd .before .row-place .ensures .0) in
+    let place = is ∙ ap (rowPlace (a .w)) (set-row (a .n) (a .band) (start .pre .0)) in
     omega (arith, place, c .half .ensures, half-odd (a .w) (a .band) (start .pre .0) (odd .if1 .left))
 
 pub half-place-spec : {M : Type 1} → statement M

@@ -8,10 +8,11 @@ use Rattle.numbers.specs.Signal.{at}
 use Rattle.wavelet.specs.Limits.{maxLevels}
 use Rattle.wavelet.specs.Store.{storeLength}
 use Rattle.reader.specs.Machine.{settled}
-use Rattle.reader.specs.Inside.{Shape, Kept}
-use Rattle.reader.proofs.WorkLaws.{told-no, told-yes}
+use Rattle.reader.specs.Inside.{Shape}
+use Rattle.level.specs.Rebuilding.{Kept}
+use Rattle.level.proofs.WorkLaws.{told-no, told-yes}
 use Rattle.reader.proofs.WalkLaws.{settle-none, settle-failed, settle-on}
-use Rattle.reader.proofs.KeptLaws.{kept-none, kept-both}
+use Rattle.level.proofs.KeptLaws.{kept-none, kept-both}
 use Rattle.reader.proofs.walk.settle.Statement.{statement}
 use Rattle.reader.proofs.walk.settle.Tie as tie
 

@@ -1,8 +1,12 @@
 -- `reader::walk::work_at` meets its contract: the level's stretch lent on to be worked in. Assumes nothing.
 use mathlib.Core.Path.{_∙_, refl}
-use Prim.Native.Nat.{_-_}
+use Prim.Native.Nat.{_+_, _-_}
 use native.Mathlib.Omega.{arith}
+use lib.Dec.{eqb}
 use lib.ListN.{length}
+use borrow.Rule.Slice.PartMut.{midOf}
+use Rattle.areas.proofs.AreaLaws.{did}
+use Rattle.level.proofs.RebuildingLaws.{workable-is}
 use borrow.Author.Needs.{needs}
 use Rattle.numbers.proofs.Parts.{length-mid}
 use Rattle.wavelet.specs.Limits.{maxLevels}
@@ -38,14 +42,7 @@ add-work-set : tie.Need-add-work-set
 add-work-set c = search needs
 
 work-set-requires : tie.Need-work-set-requires
-work-set-requires c κs =
-    let level = c .before in
-    let l = level .level-at .result in
-    let a = level .before .args in
-    let here = level-in _ _ _ _ l (level .level-at .ensures) (omega arith) (omega arith) (omega arith) in
-    let room = work-room _ _ _ _ l (level .level-at .ensures) (a .levels) (omega arith) in
-    let long = length-mid (l .start) (length (a .store .now) - l .start) (a .store .now) (omega arith) in
-    (here .1, omega arith, here .3, here .2, omega arith)
+work-set-requires c κs = tt
 
 same-length : tie.Need-same-length
 same-length c = search needs
@@ -58,9 +55,15 @@ returns c =
     let a = level .before .args in
     let room = work-room _ _ _ _ l (level .level-at .ensures) (a .levels) (omega arith) in
     let n = length (a .store .now) - l .start in
-    let long = length-mid (l .start) n (a .store .now) (omega arith) in (
-      work-is (a .width) (a .height) (a .levels) (a .drawn) (a .k) l (l .start) n (a .store .now) (call .work-set .last .0) (call .work-set .result) (level .level-at .ensures) refl (omega arith) (call .work-set .kept .0 ∙ long) (call .work-set .ensures .0),
-      part-kept (a .width) (a .height) (a .drawn) (a .k) (a .levels) l (level .level-at .ensures) n (a .store .now) (call .work-set .last .0) (omega arith) (omega arith) (call .work-set .kept .0 ∙ long) (call .work-set .ensures .1),
+    let long = length-mid (l .start) n (a .store .now) (omega arith) in
+    let here = level-in _ _ _ _ l (level .level-at .ensures) (omega arith) (omega arith) (omega arith) in
+    let can = workable-is (eqb (a .k + 1) (a .levels)) (a .k) (l .width) (l .height) (l .set) (length (midOf (l .start) n (a .store .now)))
+    (omega arith, here .1, omega (arith, here .2), here .3, omega (arith, room, long)) in (
+      work-is (a .width) (a .height) (a .levels) (a .drawn) (a .k) l (l .start) n (a .store .now) (call .work-set .last .0)
+          (eqb (call .work-set .result) 0) (level .level-at .ensures) refl (omega arith) (call .work-set .kept .0 ∙ long)
+          (did _ _ _ _ can (call .work-set .ensures .1 .0)),
+      part-kept (a .width) (a .height) (a .drawn) (a .k) (a .levels) l (level .level-at .ensures) n (a .store .now) (call .work-set .last .0) (omega arith) (omega arith) (call .work-set .kept .0 ∙ long)
+          (call .work-set .ensures .1 .1 .0),
     )
 
 pub work-at-spec : {M : Type 1} → statement M

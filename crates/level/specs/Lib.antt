@@ -1,0 +1,6 @@
+pub mod Tried
+pub mod Sets
+pub mod Slots
+pub mod Work
+pub mod Stands
+pub mod Rebuilding

@@ -1,0 +1,3 @@
+// One level in its own stretch of a line store.
+pub mod rebuilding;
+mod work;
