@@ -2,7 +2,7 @@
 use crate::Reader;
 use crate::areas;
 use crate::steps;
-use crate::walk::Spot;
+use crate::walk::Next;
 use wavelet::limits;
 use wavelet::sizes;
 use wavelet::store;
@@ -11,9 +11,9 @@ ghost use Prim.Native.Nat.{_≤_};
 ghost use lib.ListN.{length};
 ghost use Rattle.wavelet.specs.Limits.{maxLevels};
 ghost use Rattle.numbers.specs.Signal.{at};
-ghost use Rattle.reader.specs.State.{next, drawDue};
+ghost use Rattle.reader.specs.State.{drawDue};
 ghost use Rattle.reader.specs.Questions.{countsFit, runFits, setUpQuestion};
-ghost use Rattle.reader.specs.Inside.{Counts, Is, storeQuestion, rowQuestion};
+ghost use Rattle.reader.specs.Inside.{Counts, Due, storeQuestion, rowQuestion};
 
 // Question 1: is every count inside its range?
 pub fn counts_fit(s: Reader) -> bool
@@ -81,33 +81,33 @@ pub fn store_question(s: Reader, length: usize) -> u8
     0
 }
 
-// Questions 8, 13 and 7 of a feed, whose row wanted is p.
-pub fn row_question(s: Reader, p: Spot, run: &[i32]) -> u8
-    requires { ⌜ Counts s × Is (next s) p ⌝ }
+// Questions 8, 13 and 7 of a feed, whose row wanted is n.
+pub fn row_question(s: Reader, n: Next, run: &[i32]) -> u8
+    requires { ⌜ Counts s × Due s n ⌝ }
     ensures { λ r. ⌜ r ≡ rowQuestion s (length (now (run .entry))) (at (now (run .entry))) ⌝ }
 {
     if s.height <= s.drawn {
         return 8;
     }
-    if p.level == 0 {
+    if n.spot.level == 0 {
         return 8;
     }
-    if run.len() != steps::row_length(s, p) {
+    if run.len() != steps::row_length(s, n) {
         return 13;
     }
-    if !run_fits(run, p.level) {
+    if !run_fits(run, n.spot.level) {
         return 7;
     }
     0
 }
 
-// Whether a height row can be drawn, where p is the row wanted.
-pub fn draw_due(s: Reader, p: Spot) -> bool
-    requires { ⌜ Is (next s) p ⌝ }
+// Whether a height row can be drawn, where n is the row wanted.
+pub fn draw_due(s: Reader, n: Next) -> bool
+    requires { ⌜ Due s n ⌝ }
     ensures { λ r. ⌜ r ≡ drawDue s ⌝ }
 {
     if s.height <= s.drawn {
         return false;
     }
-    p.level == 0
+    n.spot.level == 0
 }

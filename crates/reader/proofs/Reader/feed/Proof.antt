@@ -39,23 +39,31 @@ returns-2 c =
     let one = sym (ok .before .store-question .ensures) ∙ ok .if1 .left in
     feed-also (a .self) n m (at (a .store .now)) (at (a .run .now)) (feed-no (a .self) _ _ _ _ (r ∙ feed-late (a .self) n m (at (a .run .now)) (at (a .store .now)) one (λ e. c .if2 .taken (r ∙ e))) (c .if2 .taken) (λ e. row-14 (a .self) n m (at (a .run .now)) (at (a .store .now)) (sym r ∙ e)))
 
+completes-requires : tie.Need-completes-requires
+completes-requires c κs =
+    let next = c .before .before in
+    let ok = next .before in
+    let one = store-in _ _ (sym (ok .before .store-question .ensures) ∙ ok .if1 .left) in
+    let two = row-asked _ _ _ (sym (c .before .row-question .ensures) ∙ c .if2 .left) in
+    (one .0, next .next-of .ensures, omega (arith, next .next-of .ensures .spot .level, two .0))
+
 feed-row-requires : tie.Need-feed-row-requires
 feed-row-requires c κs =
-    let asked = c .before in
+    let last = c .before in
+    let asked = last .before in
     let next = asked .before .before in
     let ok = next .before in
     let one = store-in _ _ (sym (ok .before .store-question .ensures) ∙ ok .if1 .left) in
     let two = row-asked _ _ _ (sym (asked .before .row-question .ensures) ∙ asked .if2 .left) in
-    (one .0, next .next-of .ensures, omega (arith, next .next-of .ensures .level, two .0), one .1, two .1)
+    (one .0, next .next-of .ensures, omega (arith, next .next-of .ensures .spot .level, two .0), last .completes .ensures, one .1, two .1)
 
 place-fed-requires : tie.Need-place-fed-requires
 place-fed-requires c κs =
-    let asked = c .before .before .before .before in
+    let last = c .before .before .before .before in
+    let asked = last .before in
     let next = asked .before .before in
-    let ok = next .before in
-    let one = store-in _ _ (sym (ok .before .store-question .ensures) ∙ ok .if1 .left) in
     let two = row-asked _ _ _ (sym (asked .before .row-question .ensures) ∙ asked .if2 .left) in
-    (one .0, next .next-of .ensures, omega (arith, next .next-of .ensures .level, two .0))
+    (next .next-of .ensures, omega (arith, next .next-of .ensures .spot .level, two .0), last .completes .ensures)
 
 moved-requires : tie.Need-moved-requires
 moved-requires c κs = tt
@@ -68,7 +76,7 @@ returns-3 c =
     let there = c .before in
     let fed = there .before in
     let call = fed .before .before in
-    let asked = call .before .before in
+    let asked = call .before .before .before in
     let ok = asked .before .before .before in
     let a = ok .before .before .args in
     let n = length (a .store .now) in
@@ -86,7 +94,7 @@ clear-requires c κs =
     let long = c .before in
     let failed = long .before in
     let call = failed .before .before in
-    let ok = call .before .before .before .before .before in
+    let ok = call .before .before .before .before .before .before in
     let one = store-in _ _ (sym (ok .before .store-question .ensures) ∙ ok .if1 .left) in
     omega (arith, one .1, counts-length (ok .before .before .args .self) (one .0) _ (long .store-length .ensures), call .feed-row .kept .1 .0)
 
@@ -105,7 +113,7 @@ returns-4 c =
     let long = clear .before .before in
     let failed = long .before in
     let call = failed .before .before in
-    let asked = call .before .before in
+    let asked = call .before .before .before in
     let ok = asked .before .before .before in
     let a = ok .before .before .args in
     let s = a .self in
@@ -125,6 +133,7 @@ feed-spec =
     next-of-requires
     row-question-requires
     returns-2
+    completes-requires
     feed-row-requires
     place-fed-requires
     moved-requires

@@ -29,16 +29,22 @@ loop-holds c = (c .pre .0, omega arith, omega arith, omega arith, refl, refl, ke
 sub-k : tie.Need-sub-k Inv-loop μ-loop
 sub-k c = omega arith
 
+level-at-requires : tie.Need-level-at-requires Inv-loop μ-loop
+level-at-requires c κs = (c .before .loop .inv .0, omega arith)
+
 work-at-requires : tie.Need-work-at-requires Inv-loop μ-loop
-work-at-requires c κs = let inv = c .before .before .loop .inv in (inv .0, omega arith, omega arith, omega arith)
+work-at-requires c κs =
+    let level = c .before in
+    let inv = level .before .before .loop .inv in
+    (inv .0, omega arith, omega arith, level .level-at .ensures, omega arith)
 
 same-length : tie.Need-same-length Inv-loop μ-loop
-same-length c = let call = c .before .before in call .work-at .kept .1 .1 .1 .1 .0 ∙ call .before .before .before .loop .inv .4
+same-length c = let call = c .before .before in call .work-at .kept .1 .1 .1 .1 .0 ∙ call .before .before .before .before .loop .inv .4
 
 returns : tie.Need-returns Inv-loop μ-loop
 returns c =
     let call = c .before .before in
-    let test = call .before .before in
+    let test = call .before .before .before in
     let l = test .before .loop in
     (settle-failed _ _ _ _ _ (l .k) (at (l .store)) (test .loop-test .taken) (told-no (call .work-at .result) (at (call .work-at .last .1 .1 .1 .1 .0)) _ (call .work-at .ensures .0) (not-true _ (c .if1 .taken))) ∙ l .inv .5, kept-both _ _ _ _ (l .inv .6) (call .work-at .ensures .1))
 
@@ -48,7 +54,7 @@ loop-less c = omega arith
 loop-again : tie.Need-loop-again Inv-loop μ-loop
 loop-again c =
     let call = c .before .before in
-    let test = call .before .before in
+    let test = call .before .before .before in
     let l = test .before .loop in
     let inv = l .inv in (
       inv .0,
@@ -74,6 +80,7 @@ settle-spec =
     μ-loop
     loop-holds
     sub-k
+    level-at-requires
     work-at-requires
     same-length
     returns

@@ -11,25 +11,17 @@ use Rattle.reader.proofs.KeptLaws.{part-kept}
 use Rattle.reader.proofs.walk.work_at.Statement.{statement}
 use Rattle.reader.proofs.walk.work_at.Tie as tie
 
-level-at-requires : tie.Need-level-at-requires
-level-at-requires c κs = search needs
-
 mul-work-set : tie.Need-mul-work-set
 unfolding maxLevels
 mul-work-set c =
-    let start = c .before in
-    let here = level-in _ _ _ _ (c .level-at .result) (c .level-at .ensures) (omega arith) (omega arith) (omega arith) in
+    let here = level-in _ _ _ _ (c .args .l) (c .pre .3) (omega arith) (omega arith) (omega arith) in
     omega (arith, here .0)
 
 sub-work-set : tie.Need-sub-work-set
-sub-work-set c =
-    let a = c .before .args in
-    omega (arith, work-room _ _ _ _ (c .level-at .result) (c .level-at .ensures) (a .levels) (omega arith))
+sub-work-set c = let a = c .args in omega (arith, work-room _ _ _ _ (a .l) (c .pre .3) (a .levels) (omega arith))
 
 part-work-set-start : tie.Need-part-work-set-start
-part-work-set-start c =
-    let a = c .before .args in
-    omega (arith, work-room _ _ _ _ (c .level-at .result) (c .level-at .ensures) (a .levels) (omega arith))
+part-work-set-start c = let a = c .args in omega (arith, work-room _ _ _ _ (a .l) (c .pre .3) (a .levels) (omega arith))
 
 part-work-set-end : tie.Need-part-work-set-end
 part-work-set-end c = search needs
@@ -39,11 +31,11 @@ add-work-set c = search needs
 
 work-set-requires : tie.Need-work-set-requires
 work-set-requires c κs =
-    let level = c .before in
-    let l = level .level-at .result in
-    let a = level .before .args in
-    let here = level-in _ _ _ _ l (level .level-at .ensures) (omega arith) (omega arith) (omega arith) in
-    let room = work-room _ _ _ _ l (level .level-at .ensures) (a .levels) (omega arith) in
+    let start = c .before in
+    let a = start .args in
+    let l = a .l in
+    let here = level-in _ _ _ _ l (start .pre .3) (omega arith) (omega arith) (omega arith) in
+    let room = work-room _ _ _ _ l (start .pre .3) (a .levels) (omega arith) in
     let long = length-mid (l .start) (length (a .store .now) - l .start) (a .store .now) (omega arith) in
     (here .1, omega arith, here .3, here .2, omega arith)
 
@@ -53,21 +45,24 @@ same-length c = search needs
 returns : tie.Need-returns
 returns c =
     let call = c .before in
-    let level = call .before .before in
-    let l = level .level-at .result in
-    let a = level .before .args in
-    let room = work-room _ _ _ _ l (level .level-at .ensures) (a .levels) (omega arith) in
+    let start = call .before .before in
+    let a = start .args in
+    let l = a .l in
+    let is = start .pre .3 in
+    let room = work-room _ _ _ _ l is (a .levels) (omega arith) in
     let n = length (a .store .now) - l .start in
-    let long = length-mid (l .start) n (a .store .now) (omega arith) in (
-      work-is (a .width) (a .height) (a .levels) (a .drawn) (a .k) l (l .start) n (a .store .now) (call .work-set .last .0) (call .work-set .result) (level .level-at .ensures) refl (omega arith) (call .work-set .kept .0 ∙ long) (call .work-set .ensures .0),
-      part-kept (a .width) (a .height) (a .drawn) (a .k) (a .levels) l (level .level-at .ensures) n (a .store .now) (call .work-set .last .0) (omega arith) (omega arith) (call .work-set .kept .0 ∙ long) (call .work-set .ensures .1),
+    let long = length-mid (l .start) n (a .store .now) (omega arith) in
+    let back = call .work-set .kept .0 ∙ long in (
+      work-is (a .width) (a .height) (a .levels) (a .drawn) (a .k) l (l .start) n (a .store .now) (call .work-set .last .0) (call .work-set .result) is refl
+          (omega arith) back (call .work-set .ensures .0),
+      part-kept (a .width) (a .height) (a .drawn) (a .k) (a .levels) l is n (a .store .now) (call .work-set .last .0) (omega arith) (omega arith) back
+          (call .work-set .ensures .1),
     )
 
 pub work-at-spec : {M : Type 1} → statement M
 work-at-spec =
     tie.close
     (tie.spec
-    level-at-requires
     mul-work-set
     sub-work-set
     part-work-set-start
