@@ -2,6 +2,7 @@ pub mod HeightLaws
 pub mod AreaLaws
 pub mod WeaveLaws
 pub mod SetLaws
+pub mod BandLaws
 pub mod OpenedSets
 pub mod StepsLeft
 pub mod RowsIn

@@ -75,7 +75,7 @@ pub fn band_at(
     l: Level,
     band: usize,
 ) -> usize
-    requires { ⌜ IsLevel width height drawn k l × (k ≤ maxLevels) ⌝ }
+    requires { ⌜ Shape width height drawn × IsLevel width height drawn k l × (k ≤ maxLevels) ⌝ }
     ensures { λ c. ⌜ c ≡ bandAt width height levels drawn k band ⌝ }
 {
     sets::next_band(k + 1 == levels, l.width, l.height, l.set, band)

@@ -29,7 +29,7 @@ sub-band-at : tie.Need-sub-band-at Inv-loop μ-loop
 sub-band-at c = omega arith
 
 band-at-requires : tie.Need-band-at-requires Inv-loop μ-loop
-band-at-requires c κs = (c .level-at .ensures, omega arith)
+band-at-requires c κs = (c .before .before .loop .inv .0, c .level-at .ensures, omega arith)
 
 returns : tie.Need-returns Inv-loop μ-loop
 returns c =
