@@ -1,6 +1,6 @@
 -- The laws of the line store: where the stretches of the levels stand. Assumes nothing.
-use mathlib.Core.Path.{_≡_, refl, sym, _∙_}
-use Prim.Native.Nat.{ℕ, zero, suc, _+_, _*_, _≤_, _<_, _^_}
+use mathlib.Core.Path.{_≡_, refl, sym, ap, _∙_}
+use Prim.Native.Nat.{ℕ, zero, suc, _+_, _*_, _/_, _≤_, _<_, _^_}
 use native.Mathlib.Decide.{ℕ-discrete}
 use native.Mathlib.Omega.{arith}
 use Rattle.lifting.specs.Line.{lo, count}
@@ -50,6 +50,16 @@ store-in W k L h = omega (arith, stretch-is W k, stretch-is W L, stretch-in W k 
 -- level 1's stretch lies within the store
 pub first-room : (W L : ℕ) → 1 ≤ L → 4 * W ≤ storeLength W L
 first-room W L h = omega (arith, stretch-is W L, stretch-suc W 0, stretch-zero W, size-zero W, stretch-in W 1 L h)
+
+-- the most that a store needs, for every number of levels
+pub store-most : (W L : ℕ) → L ≤ maxLevels → storeLength W L ≤ (31 * W + 52) / 4
+unfolding maxLevels
+store-most W L h =
+    let a : size 1 W ≡ (W + 1) / 2 = size-suc 0 W ∙ count-lo (size 0 W) ∙ ap (λ (i : ℕ). (i + 1) / 2) (size-zero W) in
+    let b : size 2 W ≡ (size 1 W + 1) / 2 = size-suc 1 W ∙ count-lo (size 1 W) in
+    let c : size 3 W ≡ (size 2 W + 1) / 2 = size-suc 2 W ∙ count-lo (size 2 W) in
+    let d : size 4 W ≡ (size 3 W + 1) / 2 = size-suc 3 W ∙ count-lo (size 3 W) in
+    omega (arith, store-in W L 5 h, store-none W, store-more W 0, store-more W 1, store-more W 2, store-more W 3, store-more W 4, size-zero W, a, b, c, d)
 
 -- the length that the code asks for, within the limits
 pub length-is : (W L : ℕ) → within 1 maxWidth W ≡ true → within 1 maxLevels L ≡ true → pick (both (within 1 maxWidth W) (within 1 maxLevels L)) (storeLength W L) 0 ≡ storeLength W L

@@ -12,7 +12,7 @@ ghost use lib.ListN.{length};
 ghost use Rattle.wavelet.specs.Limits.{maxLevels};
 ghost use Rattle.numbers.specs.Signal.{at};
 ghost use Rattle.reader.specs.State.{drawDue};
-ghost use Rattle.reader.specs.Questions.{countsFit, runFits, setUpQuestion};
+ghost use Rattle.reader.specs.Questions.{countsFit, storeFits, runFits, setUpQuestion};
 ghost use Rattle.reader.specs.Inside.{Counts, Due, storeQuestion, rowQuestion};
 
 // Question 1: is every count inside its range?
@@ -65,6 +65,18 @@ fn run_fits(run: &[i32], level: usize) -> bool
     areas::all_between(run, -most, most)
 }
 
+// Question 5: is a line store of `length` numbers long enough? The first test holds for every number of levels, and at the most levels a width of 2^k + 1 needs
+// just as many, so the sizes are seldom added up.
+fn store_fits(s: Reader, length: usize) -> bool
+    requires { ⌜ Counts s ⌝ }
+    ensures { λ r. ⌜ r ≡ storeFits (s .width) (s .levels) length ⌝ }
+{
+    if (31 * s.width + 52) / 4 <= length {
+        return true;
+    }
+    store::store_length(s.width, s.levels) <= length
+}
+
 // Questions 1, 5 and 9 of a feed or a draw.
 pub fn store_question(s: Reader, length: usize) -> u8
     ensures { λ r. ⌜ r ≡ storeQuestion s length ⌝ }
@@ -72,7 +84,7 @@ pub fn store_question(s: Reader, length: usize) -> u8
     if !counts_fit(s) {
         return 1;
     }
-    if length < store::store_length(s.width, s.levels) {
+    if !store_fits(s, length) {
         return 5;
     }
     if s.ended {
