@@ -74,7 +74,11 @@ module _ (s : Reader) where
       (within-yes 1 maxLevels (s .levels) (c .deep .0) (c .deep .1))
 
   pub counts-shape : Counts s → Shape (s .width) (s .height) (s .drawn)
-  counts-shape c = let w = c .wide in let h = c .high in let d = c .drew in (omega arith, omega (arith, width-small), omega arith, omega (arith, height-small), omega arith)
+  counts-shape c =
+      let w = c .wide in
+      let h = c .high in
+      let d = c .drew in
+      (omega arith, omega (arith, width-small), omega arith, omega (arith, height-small), omega arith)
 
 -- ---- the set-up
 module _ (W H L n : ℕ) where

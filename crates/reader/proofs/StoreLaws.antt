@@ -62,7 +62,8 @@ store-most W L h =
     omega (arith, store-in W L 5 h, store-none W, store-more W 0, store-more W 1, store-more W 2, store-more W 3, store-more W 4, size-zero W, a, b, c, d)
 
 -- the length that the code asks for, within the limits
-pub length-is : (W L : ℕ) → within 1 maxWidth W ≡ true → within 1 maxLevels L ≡ true → pick (both (within 1 maxWidth W) (within 1 maxLevels L)) (storeLength W L) 0 ≡ storeLength W L
+pub length-is : (W L : ℕ) → within 1 maxWidth W ≡ true → within 1 maxLevels L ≡ true →
+    pick (both (within 1 maxWidth W) (within 1 maxLevels L)) (storeLength W L) 0 ≡ storeLength W L
 length-is W L a b = rw (a, b)
 
 -- ---- a walk from level 1 on: after i levels, the start, the sizes and the set of level i + 1
@@ -89,7 +90,8 @@ walk-start W H d h =
       near = omega (arith, set-in H d h, count-lo H);
     }
 
-pub walk-on : (W H d i start w h n w′ h′ n′ : ℕ) → Walked W H d i start w h n → w′ ≡ count lo w → h′ ≡ count lo h → n′ ≡ setOf h′ n → Walked W H d (i + 1) (start + 4 * w) w′ h′ n′
+pub walk-on : (W H d i start w h n w′ h′ n′ : ℕ) → Walked W H d i start w h n → w′ ≡ count lo w → h′ ≡ count lo h → n′ ≡ setOf h′ n →
+    Walked W H d (i + 1) (start + 4 * w) w′ h′ n′
 walk-on W H d i start w h n w′ h′ n′ a ew eh en =
     let s = size-suc i W in
     let t = size-suc i H in

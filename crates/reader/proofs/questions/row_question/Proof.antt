@@ -42,7 +42,10 @@ returns-4 c =
     let some = same .before .before in
     let start = some .before .before .before .before in
     let near = spot-in _ _ (start .pre .1 .spot) (omega arith) in
-    row-7 _ _ _ (omega arith) (near .2) (same .if3 .left ∙ same .before .row-length .ensures) (ap (λ k. runFits k (length (start .args .run .now)) (at (start .args .run .now))) (sym (start .pre .1 .spot .level)) ∙ sym (c .before .run-fits .ensures) ∙ not-true _ (c .if4 .taken))
+    let run = start .args .run .now in
+    let range = ap (λ k. runFits k (length run) (at run)) (sym (start .pre .1 .spot .level)) in
+    row-7 _ _ _ (omega arith) (near .2) (same .if3 .left ∙ same .before .row-length .ensures)
+    (range ∙ sym (c .before .run-fits .ensures) ∙ not-true _ (c .if4 .taken))
 
 returns-5 : tie.Need-returns-5
 returns-5 c =
@@ -50,7 +53,10 @@ returns-5 c =
     let some = same .before .before in
     let start = some .before .before .before .before in
     let near = spot-in _ _ (start .pre .1 .spot) (omega arith) in
-    row-0 _ _ _ (omega arith) (near .2) (same .if3 .left ∙ same .before .row-length .ensures) (ap (λ k. runFits k (length (start .args .run .now)) (at (start .args .run .now))) (sym (start .pre .1 .spot .level)) ∙ sym (c .before .run-fits .ensures) ∙ not-false _ (c .if4 .left))
+    let run = start .args .run .now in
+    let range = ap (λ k. runFits k (length run) (at run)) (sym (start .pre .1 .spot .level)) in
+    row-0 _ _ _ (omega arith) (near .2) (same .if3 .left ∙ same .before .row-length .ensures)
+    (range ∙ sym (c .before .run-fits .ensures) ∙ not-false _ (c .if4 .left))
 
 pub row-question-spec : {M : Type 1} → statement M
 row-question-spec =

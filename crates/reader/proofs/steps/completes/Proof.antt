@@ -20,7 +20,8 @@ band-at-requires : tie.Need-band-at-requires
 band-at-requires c κs =
     let start = c .before .before in
     let counts = start .pre .0 in
-    (counts-shape (start .args .s) counts, start .pre .1 .at (start .pre .2), omega (arith, spot-in _ _ (start .pre .1 .spot) (start .pre .2) .0, counts .at, counts .deep .1))
+    let near = spot-in _ _ (start .pre .1 .spot) (start .pre .2) in
+    (counts-shape (start .args .s) counts, start .pre .1 .at (start .pre .2), omega (arith, near .0, counts .at, counts .deep .1))
 
 returns : tie.Need-returns
 unfolding lastOfSet

@@ -24,7 +24,8 @@ returns : tie.Need-returns
 returns c =
     let call = c .before .before in
     let start = call .before .before in
-    (feed-failed (start .args .s) (start .args .n .spot) (start .pre .1 .spot) _ _ (told-no (call .settle .result) (at (call .settle .last .1 .0)) _ (call .settle .ensures .0) (not-true _ (c .if1 .taken))), call .settle .ensures .1)
+    let failed = told-no (call .settle .result) (at (call .settle .last .1 .0)) _ (call .settle .ensures .0) (not-true _ (c .if1 .taken)) in
+    (feed-failed (start .args .s) (start .args .n .spot) (start .pre .1 .spot) _ _ failed, call .settle .ensures .1)
 
 sub-k : tie.Need-sub-k
 sub-k c = omega arith
@@ -51,10 +52,19 @@ finish-requires c κs =
     let start = call .before .before in
     let near = spot-in _ _ (start .pre .1 .spot) (omega arith) in
     let counts = start .pre .0 in
-    (counts-shape (start .args .s) counts, counts .deep .1, omega (arith, near .0, counts .at), start .pre .1 .at (start .pre .2), omega (arith, put .put-row .kept .1 .1 .1 .0, call .settle .kept .1 .0))
+    let within = start .pre .1 .at (start .pre .2) in (
+      counts-shape (start .args .s) counts,
+      counts .deep .1,
+      omega (arith, near .0, counts .at),
+      within,
+      omega (arith, put .put-row .kept .1 .1 .1 .0, call .settle .kept .1 .0),
+    )
 
 same-length-2 : tie.Need-same-length-2
-same-length-2 c = c .before .finish .kept .1 .1 .1 .1 .0 ∙ c .before .before .before .before .put-row .kept .1 .1 .1 .0 ∙ c .before .before .before .before .before .before .before .before .before .settle .kept .1 .0
+same-length-2 c =
+    let done = c .before in
+    let put = done .before .before .before in
+    done .finish .kept .1 .1 .1 .1 .0 ∙ put .put-row .kept .1 .1 .1 .0 ∙ put .before .before .before .before .before .settle .kept .1 .0
 
 returns-2 : tie.Need-returns-2
 returns-2 c =

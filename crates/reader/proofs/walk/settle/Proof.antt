@@ -18,7 +18,8 @@ use Rattle.reader.proofs.walk.settle.Tie as tie
 abbrev Inv-loop : tie.InvT-loop
 Inv-loop width height levels drawn store₀ from to k₀ store k =
     Shape width height drawn × (levels ≤ maxLevels) × (k ≤ levels) × (storeLength width levels ≤ length store₀) × (length store ≡ length store₀)
-    × (settled width height levels drawn to k (at store) ≡ settled width height levels drawn to from (at store₀)) × Kept (storeLength width levels) (at store₀) (at store)
+    × (settled width height levels drawn to k (at store) ≡ settled width height levels drawn to from (at store₀))
+    × Kept (storeLength width levels) (at store₀) (at store)
 
 abbrev μ-loop : tie.MeasureT-loop
 μ-loop width height levels drawn store₀ from to k₀ store k = k
@@ -46,7 +47,10 @@ returns c =
     let call = c .before .before in
     let test = call .before .before .before in
     let l = test .before .loop in
-    (settle-failed _ _ _ _ _ (l .k) (at (l .store)) (test .loop-test .taken) (told-no (call .work-at .result) (at (call .work-at .last .1 .1 .1 .1 .0)) _ (call .work-at .ensures .0) (not-true _ (c .if1 .taken))) ∙ l .inv .5, kept-both _ _ _ _ (l .inv .6) (call .work-at .ensures .1))
+    let failed = told-no (call .work-at .result) (at (call .work-at .last .1 .1 .1 .1 .0)) _ (call .work-at .ensures .0) (not-true _ (c .if1 .taken)) in (
+      settle-failed _ _ _ _ _ (l .k) (at (l .store)) (test .loop-test .taken) failed ∙ l .inv .5,
+      kept-both _ _ _ _ (l .inv .6) (call .work-at .ensures .1),
+    )
 
 loop-less : tie.Need-loop-less Inv-loop μ-loop
 loop-less c = omega arith
@@ -56,13 +60,14 @@ loop-again c =
     let call = c .before .before in
     let test = call .before .before .before in
     let l = test .before .loop in
-    let inv = l .inv in (
+    let inv = l .inv in
+    let worked = told-yes (call .work-at .result) (at (call .work-at .last .1 .1 .1 .1 .0)) _ (call .work-at .ensures .0) (not-false _ (c .if1 .left)) in (
       inv .0,
       inv .1,
       omega arith,
       inv .3,
       call .work-at .kept .1 .1 .1 .1 .0 ∙ inv .4,
-      settle-on _ _ _ _ _ (l .k) (at (l .store)) _ (test .loop-test .taken) (told-yes (call .work-at .result) (at (call .work-at .last .1 .1 .1 .1 .0)) _ (call .work-at .ensures .0) (not-false _ (c .if1 .left))) ∙ inv .5,
+      settle-on _ _ _ _ _ (l .k) (at (l .store)) _ (test .loop-test .taken) worked ∙ inv .5,
       kept-both _ _ _ _ (inv .6) (call .work-at .ensures .1),
     )
 
