@@ -40,7 +40,7 @@ pub struct Next {
     pub at: Level,
 }
 
-// Level k + 1.
+// Level k + 1. The row waited for is halved as the height is, and the level's set is that of its row.
 pub fn level_at(width: usize, height: usize, drawn: usize, k: usize) -> Level
     requires { ⌜ Shape width height drawn × (k ≤ maxLevels) ⌝ }
     ensures { λ l. ⌜ IsLevel width height drawn k l ⌝ }
@@ -48,20 +48,20 @@ pub fn level_at(width: usize, height: usize, drawn: usize, k: usize) -> Level
     let mut start = 0;
     let mut w = width;
     let mut h = height;
-    let mut n = sets::set_of(height, drawn);
+    let mut r = drawn;
     let mut i = 0;
     while i < k {
         start += 4 * w;
         w = sizes::half(w);
         h = sizes::half(h);
-        n = sets::set_of(h, n);
+        r = sizes::half(r);
         i += 1;
     }
     Level {
         start,
         width: w,
         height: h,
-        set: n,
+        set: sets::set_of(h, r),
     }
 }
 
