@@ -1,6 +1,5 @@
 -- `reader::walk::finish` meets its contract: nothing, or the set worked out. Assumes nothing.
-use mathlib.Core.Path.{_∙_, refl}
-use borrow.Author.Needs.{needs}
+use mathlib.Core.Path.{refl}
 use borrow.Author.Tests.{not-true, not-false}
 use Rattle.reader.proofs.KeptLaws.{kept-none}
 use Rattle.reader.proofs.walk.finish.Statement.{statement}
