@@ -1,4 +1,5 @@
 pub mod SetLaws
+pub mod BandLaws
 pub mod OpenedSets
 pub mod StepsLeft
 pub mod Holds

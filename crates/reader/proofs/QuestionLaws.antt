@@ -1,7 +1,7 @@
 -- The questions, one after another: what each no and each yes says. Assumes nothing.
-use mathlib.Core.Path.{_≡_, refl, _∙_}
+use mathlib.Core.Path.{_≡_, refl, sym, ap, _∙_}
 use mathlib.Core.Bool.{Bool, true, false, not}
-use Prim.Native.Nat.{ℕ, _≤_, _<_}
+use Prim.Native.Nat.{ℕ, _+_, _*_, _/_, _≤_, _<_}
 use native.Mathlib.Omega.{arith}
 use lib.IntN.{ℤ}
 use lib.Dec.{leb, ltb, eqb}
@@ -12,7 +12,7 @@ use Rattle.wavelet.specs.Limits.{maxWidth, maxHeight, maxLevels}
 use Rattle.wavelet.specs.Questions.{ask, within}
 use Rattle.wavelet.proofs.LimitLaws.{width-small, height-small}
 use Rattle.wavelet.proofs.QuestionLaws.{within-true, within-yes}
-use Rattle.reader.proofs.StoreLaws.{length-is}
+use Rattle.reader.proofs.StoreLaws.{length-is, store-most}
 use Rattle.reader.specs.declared.Reader.{Reader}
 use Rattle.wavelet.specs.Store.{storeLength}
 use Rattle.reader.specs.State.{next, nextLength, unfinished, rowDue, drawDue}
@@ -74,7 +74,11 @@ module _ (s : Reader) where
       (within-yes 1 maxLevels (s .levels) (c .deep .0) (c .deep .1))
 
   pub counts-shape : Counts s → Shape (s .width) (s .height) (s .drawn)
-  counts-shape c = let w = c .wide in let h = c .high in let d = c .drew in (omega arith, omega (arith, width-small), omega arith, omega (arith, height-small), omega arith)
+  counts-shape c =
+      let w = c .wide in
+      let h = c .high in
+      let d = c .drew in
+      (omega arith, omega (arith, width-small), omega arith, omega (arith, height-small), omega arith)
 
 -- ---- the set-up
 module _ (W H L n : ℕ) where
@@ -124,21 +128,29 @@ module _ (s : Reader) (n : ℕ) where
   unfolding storeQuestion
   store-1 a = rw a
 
-  module _ (one : countsFit s ≡ true) (m : ℕ) (e : m ≡ asked (s .width) (s .levels)) where
-    long : m ≡ storeLength (s .width) (s .levels)
-    long = counts-length s (counts-in s one) m e
+  module _ (one : countsFit s ≡ true) where
+    pub store-5 : storeFits (s .width) (s .levels) n ≡ false → 5 ≡ storeQuestion s n
+    unfolding storeQuestion
+    store-5 h = rw (one, h)
 
-    pub store-5 : n < m → 5 ≡ storeQuestion s n
-    unfolding storeQuestion storeFits
-    store-5 h = rw (one, lt-leb (storeLength (s .width) (s .levels)) n (omega (arith, long)))
+    module _ (two : storeFits (s .width) (s .levels) n ≡ true) where
+      pub store-9 : s .ended ≡ true → 9 ≡ storeQuestion s n
+      unfolding storeQuestion
+      store-9 f = rw (one, two, f)
 
-    pub store-9 : m ≤ n → s .ended ≡ true → 9 ≡ storeQuestion s n
-    unfolding storeQuestion storeFits
-    store-9 h f = rw (one, le-leb (storeLength (s .width) (s .levels)) n (omega (arith, long)), f)
+      pub store-0 : s .ended ≡ false → 0 ≡ storeQuestion s n
+      unfolding storeQuestion
+      store-0 f = rw (one, two, f)
 
-    pub store-0 : m ≤ n → s .ended ≡ false → 0 ≡ storeQuestion s n
-    unfolding storeQuestion storeFits
-    store-0 h f = rw (one, le-leb (storeLength (s .width) (s .levels)) n (omega (arith, long)), f)
+  -- question 5 by the most that a store needs, and by what this one needs
+  module _ (counts : Counts s) where
+    pub store-any : (31 * s .width + 52) / 4 ≤ n → true ≡ storeFits (s .width) (s .levels) n
+    unfolding storeFits
+    store-any h = sym (le-leb (storeLength (s .width) (s .levels)) n (omega (arith, store-most (s .width) (s .levels) (counts .deep .1))))
+
+    pub store-own : (m : ℕ) → m ≡ asked (s .width) (s .levels) → leb m n ≡ storeFits (s .width) (s .levels) n
+    unfolding storeFits
+    store-own m e = ap (λ (i : ℕ). leb i n) (counts-length s counts m e)
 
   pub store-in : storeQuestion s n ≡ 0 → Counts s × (storeLength (s .width) (s .levels) ≤ n) × (s .ended ≡ false)
   unfolding storeQuestion storeFits

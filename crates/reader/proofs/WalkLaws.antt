@@ -6,6 +6,7 @@ use native.Mathlib.Omega.{arith}
 use native.Mathlib.Numerals.{add-one}
 use lib.IntN.{ℤ}
 use lib.Dec.{eqb}
+use Rattle.numbers.specs.Signal.{pick}
 use borrow.Author.Tests.{lt-ltb, le-ltb}
 use Rattle.reader.specs.declared.walk.Level.{Level}
 use Rattle.reader.specs.declared.walk.Spot.{Spot}
@@ -68,17 +69,13 @@ module _ (W H L d : ℕ) where
 
   -- ---- the set that a row completes, and the place after it
   module _ (k c : ℕ) (t : Bool) (is : t ≡ lastOfSet W H L d k c) where
-    pub finish-more : (x : ℕ → ℤ) → t ≡ false → passed x ≡ finished W H L d k c x
+    pub finish-is : (x : ℕ → ℤ) → pick t (workedAt W H L d k x) (passed x) ≡ finished W H L d k c x
     unfolding finished
-    finish-more x h = rw (← is, h)
+    finish-is x = rw is
 
-    pub finish-set : (x : ℕ → ℤ) → t ≡ true → workedAt W H L d k x ≡ finished W H L d k c x
-    unfolding finished
-    finish-set x h = rw (← is, h)
-
-    pub beyond-more : t ≡ false → place (k + 1) (c + 1) ≡ beyond W H L d k c
+    pub beyond-more : (j : ℕ) → j ≡ k + 1 → t ≡ false → place j (c + 1) ≡ beyond W H L d k c
     unfolding beyond
-    beyond-more h = rw (← is, h, add-one k)
+    beyond-more j e h = rw (← is, h, e, add-one k)
 
     pub beyond-set : t ≡ true → place k 1 ≡ beyond W H L d k c
     unfolding beyond

@@ -1,7 +1,7 @@
 -- What the private functions of the reader require and ensure of each other. No public contract cites it.
 use mathlib.Core.Path.{_≡_}
-use mathlib.Core.Bool.{not}
-use Prim.Native.Nat.{ℕ, zero, suc, _≤_, _<_, _^_}
+use mathlib.Core.Bool.{Bool, not}
+use Prim.Native.Nat.{ℕ, zero, suc, _-_, _≤_, _<_, _^_}
 use lib.IntN.{ℤ, pos, _-ℤ_}
 use lib.Dec.{eqb}
 use Rattle.wavelet.specs.Limits.{maxWidth, maxHeight, maxLevels, range}
@@ -10,9 +10,10 @@ use Rattle.wavelet.specs.Questions.{ask}
 use Rattle.reader.specs.declared.Reader.{Reader}
 use Rattle.reader.specs.declared.walk.Level.{Level}
 use Rattle.reader.specs.declared.walk.Spot.{Spot}
+use Rattle.reader.specs.declared.walk.Next.{Next}
 use Rattle.reader.specs.Sets.{rowAt}
 use Rattle.reader.specs.Store.{stretchAt}
-use Rattle.reader.specs.Machine.{Place}
+use Rattle.reader.specs.Machine.{Place, lastOfSet}
 use Rattle.reader.specs.State.{next, nextLength, rowDue}
 use Rattle.reader.specs.Questions.{countsFit, storeFits, runFits}
 
@@ -41,6 +42,18 @@ pub record IsLevel (W H d k : ℕ) (l : Level) : Type 0 where
 pub record Is (q : Place) (p : Spot) : Type 0 where
   pub level : p .level ≡ q .level
   pub band : p .band ≡ q .band
+
+-- n is a place, and its level if it has one
+pub record IsNext (W H d : ℕ) (q : Place) (n : Next) : Type 0 where
+  pub spot : Is q (n .spot)
+  pub at : 0 < n .spot .level → IsLevel W H d (n .spot .level - 1) (n .at)
+
+-- n is the row wanted; t says whether it completes its set
+abbrev pub Due : Reader → Next → Type 0
+Due s n = IsNext (s .width) (s .height) (s .drawn) (next s) n
+
+abbrev pub Completing : Reader → Next → Bool → Type 0
+Completing s n t = t ≡ lastOfSet (s .width) (s .height) (s .levels) (s .drawn) (n .spot .level - 1) (n .spot .band)
 
 -- the questions of a feed or a draw that the state and the store's length answer, and those of a feed that the run answers
 unfoldable pub storeQuestion : Reader → ℕ → ℕ

@@ -124,15 +124,15 @@ impl Reader {
         if self.height <= self.drawn {
             return Wanted::Done;
         }
-        let p = steps::next_of(self);
-        if p.level == 0 {
+        let next = steps::next_of(self);
+        if next.spot.level == 0 {
             return Wanted::Draw;
         }
         Wanted::Row(
-            p.level,
-            p.band,
-            steps::row_number(self, p),
-            steps::row_length(self, p),
+            next.spot.level,
+            next.spot.band,
+            steps::row_number(self, next),
+            steps::row_length(self, next),
         )
     }
 
@@ -151,13 +151,14 @@ impl Reader {
         if q != 0 {
             return Fed::Refused(q);
         }
-        let p = steps::next_of(self);
-        let r = questions::row_question(self, p, run);
+        let next = steps::next_of(self);
+        let r = questions::row_question(self, next, run);
         if r != 0 {
             return Fed::Refused(r);
         }
-        if steps::feed_row(self, store, p, run) {
-            return Fed::Passed(self.moved(self.drawn, steps::place_fed(self, p)));
+        let complete = steps::completes(self, next);
+        if steps::feed_row(self, store, next, complete, run) {
+            return Fed::Passed(self.moved(self.drawn, steps::place_fed(self, next, complete)));
         }
         let n = wavelet::store::store_length(self.width, self.levels);
         copies::clear(store, n);
@@ -180,15 +181,15 @@ impl Reader {
         if q != 0 {
             return Drawn::Refused(q);
         }
-        let p = steps::next_of(self);
-        if !questions::draw_due(self, p) {
+        let next = steps::next_of(self);
+        if !questions::draw_due(self, next) {
             return Drawn::Nothing;
         }
         let w = self.width;
         if out.len() < w {
             return Drawn::Refused(12);
         }
-        if steps::settle(self, store, p) {
+        if steps::settle(self, store, next) {
             let a = rebuilding::row_place(w, self.drawn);
             let e = a + w;
             heights::draw_heights(&store[a..e], out);

@@ -1,7 +1,7 @@
 // The gate questions of the reader, in the order of document 01. The module is private, as `walk` is.
 use crate::Reader;
 use crate::steps;
-use crate::walk::Spot;
+use crate::walk::Next;
 use areas::ranges;
 use wavelet::limits;
 use wavelet::sizes;
@@ -11,9 +11,9 @@ ghost use Prim.Native.Nat.{_≤_};
 ghost use lib.ListN.{length};
 ghost use Rattle.wavelet.specs.Limits.{maxLevels};
 ghost use Rattle.numbers.specs.Signal.{at};
-ghost use Rattle.reader.specs.State.{next, drawDue};
-ghost use Rattle.reader.specs.Questions.{countsFit, runFits, setUpQuestion};
-ghost use Rattle.reader.specs.Inside.{Counts, Is, storeQuestion, rowQuestion};
+ghost use Rattle.reader.specs.State.{drawDue};
+ghost use Rattle.reader.specs.Questions.{countsFit, storeFits, runFits, setUpQuestion};
+ghost use Rattle.reader.specs.Inside.{Counts, Due, storeQuestion, rowQuestion};
 
 // Question 1: is every count inside its range?
 pub fn counts_fit(s: Reader) -> bool
@@ -65,6 +65,18 @@ fn run_fits(run: &[i32], level: usize) -> bool
     ranges::all_between(run, -most, most)
 }
 
+// Question 5: is a line store of `length` numbers long enough? The first test holds for every number of levels, and at the most levels a width of 2^k + 1 needs
+// just as many, so the sizes are seldom added up.
+fn store_fits(s: Reader, length: usize) -> bool
+    requires { ⌜ Counts s ⌝ }
+    ensures { λ r. ⌜ r ≡ storeFits (s .width) (s .levels) length ⌝ }
+{
+    if (31 * s.width + 52) / 4 <= length {
+        return true;
+    }
+    store::store_length(s.width, s.levels) <= length
+}
+
 // Questions 1, 5 and 9 of a feed or a draw.
 pub fn store_question(s: Reader, length: usize) -> u8
     ensures { λ r. ⌜ r ≡ storeQuestion s length ⌝ }
@@ -72,7 +84,7 @@ pub fn store_question(s: Reader, length: usize) -> u8
     if !counts_fit(s) {
         return 1;
     }
-    if length < store::store_length(s.width, s.levels) {
+    if !store_fits(s, length) {
         return 5;
     }
     if s.ended {
@@ -81,33 +93,33 @@ pub fn store_question(s: Reader, length: usize) -> u8
     0
 }
 
-// Questions 8, 13 and 7 of a feed, whose row wanted is p.
-pub fn row_question(s: Reader, p: Spot, run: &[i32]) -> u8
-    requires { ⌜ Counts s × Is (next s) p ⌝ }
+// Questions 8, 13 and 7 of a feed, whose row wanted is n.
+pub fn row_question(s: Reader, n: Next, run: &[i32]) -> u8
+    requires { ⌜ Counts s × Due s n ⌝ }
     ensures { λ r. ⌜ r ≡ rowQuestion s (length (now (run .entry))) (at (now (run .entry))) ⌝ }
 {
     if s.height <= s.drawn {
         return 8;
     }
-    if p.level == 0 {
+    if n.spot.level == 0 {
         return 8;
     }
-    if run.len() != steps::row_length(s, p) {
+    if run.len() != steps::row_length(s, n) {
         return 13;
     }
-    if !run_fits(run, p.level) {
+    if !run_fits(run, n.spot.level) {
         return 7;
     }
     0
 }
 
-// Whether a height row can be drawn, where p is the row wanted.
-pub fn draw_due(s: Reader, p: Spot) -> bool
-    requires { ⌜ Is (next s) p ⌝ }
+// Whether a height row can be drawn, where n is the row wanted.
+pub fn draw_due(s: Reader, n: Next) -> bool
+    requires { ⌜ Due s n ⌝ }
     ensures { λ r. ⌜ r ≡ drawDue s ⌝ }
 {
     if s.height <= s.drawn {
         return false;
     }
-    p.level == 0
+    n.spot.level == 0
 }

@@ -1,5 +1,5 @@
 // The walk over the levels of a map of `width` × `height`, while row `drawn` is waited for: the stretch and the set of each level, the row wanted, the sets
-// worked out on the way. The module is private: only this crate, which meets what is required, can call it.
+// worked out on the way. A level is found once a call and handed on. The module is private: only this crate, which meets what is required, can call it.
 use crate::sets;
 use areas::copies;
 use level::rebuilding;
@@ -7,18 +7,18 @@ use wavelet::sizes;
 ghost use mathlib.Core.Path.{_≡_};
 ghost use Prim.Native.Nat.{_+_, _<_, _≤_, _^_};
 ghost use lib.ListN.{length};
-ghost use Rattle.numbers.specs.Signal.{at};
+ghost use Rattle.numbers.specs.Signal.{at, pick};
 ghost use Rattle.lifting.specs.Line.{count};
 ghost use Rattle.wavelet.specs.Bands.{across, down};
 ghost use Rattle.wavelet.specs.Levels.{size};
 ghost use Rattle.wavelet.specs.Limits.{maxLevels};
 ghost use Rattle.reader.specs.Asked.{named};
-ghost use Rattle.level.specs.Tried.{outcome};
+ghost use Rattle.level.specs.Tried.{passed, outcome};
 ghost use Rattle.level.specs.Slots.{rowPlace, setRow, halfPlace};
 ghost use Rattle.wavelet.specs.Store.{storeLength};
 ghost use Rattle.reader.specs.Store.{fedAt, workedAt};
-ghost use Rattle.reader.specs.Machine.{bandAt, lastOfSet, nextAt, settled, finished, beyond, enter};
-ghost use Rattle.reader.specs.Inside.{Shape, IsLevel, Is};
+ghost use Rattle.reader.specs.Machine.{bandAt, nextAt, settled, enter};
+ghost use Rattle.reader.specs.Inside.{Shape, IsLevel, Is, IsNext};
 ghost use Rattle.level.specs.Rebuilding.{Kept};
 
 // A level: where its stretch begins, the columns and rows that it splits, and the set that it is at.
@@ -35,7 +35,13 @@ pub struct Spot {
     pub band: usize,
 }
 
-// Level k + 1.
+// The row wanted: its place, and its level if it has one.
+pub struct Next {
+    pub spot: Spot,
+    pub at: Level,
+}
+
+// Level k + 1. The row waited for is halved as the height is, and the level's set is that of its row.
 pub fn level_at(width: usize, height: usize, drawn: usize, k: usize) -> Level
     requires { ⌜ Shape width height drawn × (k ≤ maxLevels) ⌝ }
     ensures { λ l. ⌜ IsLevel width height drawn k l ⌝ }
@@ -43,36 +49,36 @@ pub fn level_at(width: usize, height: usize, drawn: usize, k: usize) -> Level
     let mut start = 0;
     let mut w = width;
     let mut h = height;
-    let mut n = sets::set_of(height, drawn);
+    let mut r = drawn;
     let mut i = 0;
     while i < k {
         start += 4 * w;
         w = sizes::half(w);
         h = sizes::half(h);
-        n = sets::set_of(h, n);
+        r = sizes::half(r);
         i += 1;
     }
     Level {
         start,
         width: w,
         height: h,
-        set: n,
+        set: sets::set_of(h, r),
     }
 }
 
-// The code of the first band from `band` on that the set of level k + 1 asks for; 4 where there is none.
+// The code of the first band from `band` on that the set of l, level k + 1, asks for; 4 where there is none.
 pub fn band_at(
     width: usize,
     height: usize,
     levels: usize,
     drawn: usize,
     k: usize,
+    l: Level,
     band: usize,
 ) -> usize
-    requires { ⌜ Shape width height drawn × (k ≤ maxLevels) ⌝ }
+    requires { ⌜ Shape width height drawn × IsLevel width height drawn k l × (k ≤ maxLevels) ⌝ }
     ensures { λ c. ⌜ c ≡ bandAt width height levels drawn k band ⌝ }
 {
-    let l = level_at(width, height, drawn, k);
     sets::next_band(k + 1 == levels, l.width, l.height, l.set, band)
 }
 
@@ -84,21 +90,33 @@ pub fn next_at(
     drawn: usize,
     level: usize,
     band: usize,
-) -> Spot
+) -> Next
     requires { ⌜ Shape width height drawn × (level ≤ maxLevels) ⌝ }
-    ensures { λ p. ⌜ Is (nextAt width height levels drawn level band) p ⌝ }
+    ensures { λ n. ⌜ IsNext width height drawn (nextAt width height levels drawn level band) n ⌝ }
 {
     let mut k = level;
     let mut b = band;
     while 0 < k {
-        let c = band_at(width, height, levels, drawn, k - 1, b);
+        let l = level_at(width, height, drawn, k - 1);
+        let c = band_at(width, height, levels, drawn, k - 1, l, b);
         if c < 4 {
-            return Spot { level: k, band: c };
+            return Next {
+                spot: Spot { level: k, band: c },
+                at: l,
+            };
         }
         k -= 1;
         b = 1;
     }
-    Spot { level: 0, band: 4 }
+    Next {
+        spot: Spot { level: 0, band: 4 },
+        at: Level {
+            start: 0,
+            width: 0,
+            height: 0,
+            set: 0,
+        },
+    }
 }
 
 // Where the half row of a band of set n begins, in its level's stretch.
@@ -110,40 +128,41 @@ fn half_place(w: usize, n: usize, band: usize) -> usize
     if band % 2 == 0 { a } else { a + sizes::half(w) }
 }
 
-// A band row put into the half row where it belongs.
+// A band row put into the half row where it belongs, in the stretch of l, level k + 1.
 pub fn put_row(
     width: usize,
     height: usize,
     drawn: usize,
     store: &mut [i32],
     k: usize,
+    l: Level,
     band: usize,
     run: &[i32],
 )
-    requires { ⌜ Shape width height drawn × (k < maxLevels) × (band < 4) × (storeLength width (k + 1) ≤ length (now store)) ×
-        (length (now run) ≡ count (across (named band)) (size k width)) ⌝ }
+    requires { ⌜ Shape width height drawn × (k < maxLevels) × IsLevel width height drawn k l × (band < 4) ×
+        (storeLength width (k + 1) ≤ length (now store)) × (length (now run) ≡ count (across (named band)) (size k width)) ⌝ }
     ensures { λ _. ⌜ at (now (store .exit)) ≡ fedAt width height drawn k band (at (now (run .entry))) (at (now (store .entry))) ⌝ }
 {
-    let l = level_at(width, height, drawn, k);
     let a = l.start + half_place(l.width, l.set, band);
     let e = a + run.len();
     copies::copy(run, &mut store[a..e]);
 }
 
-// The set of level k + 1 worked out, in the level's own stretch.
-pub fn work_at(
+// The set of l, level k + 1, worked out in the level's own stretch.
+fn work_at(
     width: usize,
     height: usize,
     levels: usize,
     drawn: usize,
     store: &mut [i32],
     k: usize,
+    l: Level,
 ) -> bool
-    requires { ⌜ Shape width height drawn × (levels ≤ maxLevels) × (k < levels) × (storeLength width levels ≤ length (now store)) ⌝ }
+    requires { ⌜ Shape width height drawn × (levels ≤ maxLevels) × (k < levels) × IsLevel width height drawn k l ×
+        (storeLength width levels ≤ length (now store)) ⌝ }
     ensures { λ ok. ⌜ outcome ok (at (now (store .exit))) ≡ workedAt width height levels drawn k (at (now (store .entry))) ⌝ }
     ensures { λ _. ⌜ Kept (storeLength width levels) (at (now (store .entry))) (at (now (store .exit))) ⌝ }
 {
-    let l = level_at(width, height, drawn, k);
     let a = l.start;
     rebuilding::work_set(
         &mut store[a..],
@@ -173,29 +192,15 @@ pub fn settle(
     let mut k = from;
     while to < k {
         k -= 1;
-        if !work_at(width, height, levels, drawn, store, k) {
+        let l = level_at(width, height, drawn, k);
+        if !work_at(width, height, levels, drawn, store, k, l) {
             return false;
         }
     }
     true
 }
 
-// Whether the row of that band completes its set: no band after it is left to feed.
-fn completes(
-    width: usize,
-    height: usize,
-    levels: usize,
-    drawn: usize,
-    k: usize,
-    band: usize,
-) -> bool
-    requires { ⌜ Shape width height drawn × (k ≤ maxLevels) × (band < 4) ⌝ }
-    ensures { λ r. ⌜ r ≡ lastOfSet width height levels drawn k band ⌝ }
-{
-    4 <= band_at(width, height, levels, drawn, k, band + 1)
-}
-
-// The set of level k + 1 worked out if the row of that band completes it.
+// The set of l, level k + 1, worked out if it is complete.
 pub fn finish(
     width: usize,
     height: usize,
@@ -203,37 +208,19 @@ pub fn finish(
     drawn: usize,
     store: &mut [i32],
     k: usize,
-    band: usize,
+    l: Level,
+    complete: bool,
 ) -> bool
-    requires { ⌜ Shape width height drawn × (levels ≤ maxLevels) × (k < levels) × (band < 4) × (storeLength width levels ≤ length (now store)) ⌝ }
-    ensures { λ ok. ⌜ outcome ok (at (now (store .exit))) ≡ finished width height levels drawn k band (at (now (store .entry))) ⌝ }
+    requires { ⌜ Shape width height drawn × (levels ≤ maxLevels) × (k < levels) × IsLevel width height drawn k l ×
+        (storeLength width levels ≤ length (now store)) ⌝ }
+    ensures { λ ok. ⌜ outcome ok (at (now (store .exit))) ≡
+        pick complete (workedAt width height levels drawn k (at (now (store .entry)))) (passed (at (now (store .entry)))) ⌝ }
     ensures { λ _. ⌜ Kept (storeLength width levels) (at (now (store .entry))) (at (now (store .exit))) ⌝ }
 {
-    if !completes(width, height, levels, drawn, k, band) {
+    if !complete {
         return true;
     }
-    work_at(width, height, levels, drawn, store, k)
-}
-
-// Where the reader goes on after the row of that band.
-pub fn beyond_of(
-    width: usize,
-    height: usize,
-    levels: usize,
-    drawn: usize,
-    k: usize,
-    band: usize,
-) -> Spot
-    requires { ⌜ Shape width height drawn × (k ≤ maxLevels) × (band < 4) ⌝ }
-    ensures { λ p. ⌜ Is (beyond width height levels drawn k band) p ⌝ }
-{
-    if completes(width, height, levels, drawn, k, band) {
-        return Spot { level: k, band: 1 };
-    }
-    Spot {
-        level: k + 1,
-        band: band + 1,
-    }
+    work_at(width, height, levels, drawn, store, k, l)
 }
 
 // Where row d begins: past each level whose set it opens.

@@ -7,7 +7,8 @@ use Rattle.areas.proofs.AreaLaws.{did}
 use Rattle.numbers.specs.Signal.{at}
 use Rattle.level.proofs.WorkLaws.{told-no, told-yes}
 use Rattle.reader.proofs.QuestionLaws.{counts-length, store-in, row-asked}
-use Rattle.reader.proofs.CallLaws.{store-14, row-14, feed-early, feed-late, feed-last, feed-no, feed-yes, feed-end, fits-yes, fits-no, fed-reader, zero-kept}
+use Rattle.reader.proofs.CallLaws.{store-14, row-14, feed-early, feed-late, feed-last, feed-no, feed-yes, feed-end}
+use Rattle.reader.proofs.CallLaws.{fits-yes, fits-no, fed-reader, zero-kept}
 use Rattle.reader.proofs.Keeps.{feed-also}
 use Rattle.reader.proofs.Reader.feed.Statement.{statement}
 use Rattle.reader.proofs.Reader.feed.Tie as tie
@@ -21,7 +22,10 @@ returns c =
     let a = c .before .before .args in
     let n = length (a .store .now) in
     let m = length (a .run .now) in
-    feed-also (a .self) n m (at (a .store .now)) (at (a .run .now)) (feed-no (a .self) _ _ _ _ (q ∙ feed-early (a .self) n m (at (a .run .now)) (at (a .store .now)) (λ e. c .if1 .taken (q ∙ e))) (c .if1 .taken) (λ e. store-14 (a .self) n m (at (a .run .now)) (at (a .store .now)) (sym q ∙ e)))
+    let v = at (a .run .now) in
+    let x = at (a .store .now) in
+    let asked = q ∙ feed-early (a .self) n m v x (λ e. c .if1 .taken (q ∙ e)) in
+    feed-also (a .self) n m x v (feed-no (a .self) _ _ _ _ asked (c .if1 .taken) (λ e. store-14 (a .self) n m v x (sym q ∙ e)))
 
 next-of-requires : tie.Need-next-of-requires
 next-of-requires c κs = store-in _ _ (sym (c .before .store-question .ensures) ∙ c .if1 .left) .0
@@ -39,25 +43,36 @@ returns-2 c =
     let n = length (a .store .now) in
     let m = length (a .run .now) in
     let one = sym (ok .before .store-question .ensures) ∙ ok .if1 .left in
-    feed-also (a .self) n m (at (a .store .now)) (at (a .run .now)) (feed-no (a .self) _ _ _ _ (r ∙ feed-late (a .self) n m (at (a .run .now)) (at (a .store .now)) one (λ e. c .if2 .taken (r ∙ e))) (c .if2 .taken) (λ e. row-14 (a .self) n m (at (a .run .now)) (at (a .store .now)) (sym r ∙ e)))
+    let v = at (a .run .now) in
+    let x = at (a .store .now) in
+    let asked = r ∙ feed-late (a .self) n m v x one (λ e. c .if2 .taken (r ∙ e)) in
+    feed-also (a .self) n m x v (feed-no (a .self) _ _ _ _ asked (c .if2 .taken) (λ e. row-14 (a .self) n m v x (sym r ∙ e)))
+
+completes-requires : tie.Need-completes-requires
+completes-requires c κs =
+    let next = c .before .before in
+    let ok = next .before in
+    let one = store-in _ _ (sym (ok .before .store-question .ensures) ∙ ok .if1 .left) in
+    let two = row-asked _ _ _ (sym (c .before .row-question .ensures) ∙ c .if2 .left) in
+    (one .0, next .next-of .ensures, omega (arith, next .next-of .ensures .spot .level, two .0))
 
 feed-row-requires : tie.Need-feed-row-requires
 feed-row-requires c κs =
-    let asked = c .before in
+    let last = c .before in
+    let asked = last .before in
     let next = asked .before .before in
     let ok = next .before in
     let one = store-in _ _ (sym (ok .before .store-question .ensures) ∙ ok .if1 .left) in
     let two = row-asked _ _ _ (sym (asked .before .row-question .ensures) ∙ asked .if2 .left) in
-    (one .0, next .next-of .ensures, omega (arith, next .next-of .ensures .level, two .0), one .1, two .1)
+    (one .0, next .next-of .ensures, omega (arith, next .next-of .ensures .spot .level, two .0), last .completes .ensures, one .1, two .1)
 
 place-fed-requires : tie.Need-place-fed-requires
 place-fed-requires c κs =
-    let asked = c .before .before .before .before in
+    let last = c .before .before .before .before in
+    let asked = last .before in
     let next = asked .before .before in
-    let ok = next .before in
-    let one = store-in _ _ (sym (ok .before .store-question .ensures) ∙ ok .if1 .left) in
     let two = row-asked _ _ _ (sym (asked .before .row-question .ensures) ∙ asked .if2 .left) in
-    (one .0, next .next-of .ensures, omega (arith, next .next-of .ensures .level, two .0))
+    (next .next-of .ensures, omega (arith, next .next-of .ensures .spot .level, two .0), last .completes .ensures)
 
 moved-requires : tie.Need-moved-requires
 moved-requires c κs = tt
@@ -70,7 +85,7 @@ returns-3 c =
     let there = c .before in
     let fed = there .before in
     let call = fed .before .before in
-    let asked = call .before .before in
+    let asked = call .before .before .before in
     let ok = asked .before .before .before in
     let a = ok .before .before .args in
     let n = length (a .store .now) in
@@ -78,7 +93,10 @@ returns-3 c =
     let one = sym (ok .before .store-question .ensures) ∙ ok .if1 .left in
     let two = sym (asked .before .row-question .ensures) ∙ asked .if2 .left in
     let made = told-yes (call .feed-row .result) (at (call .feed-row .last .1 .0)) _ (call .feed-row .ensures .0) (fed .if3 .taken) in
-    feed-also (a .self) n m (at (a .store .now)) (at (a .run .now)) (feed-yes (a .self) _ _ _ _ _ (fits-yes _ _ made ∙ feed-last (a .self) n m (at (a .run .now)) (at (a .store .now)) one two) (fed-reader (a .self) (c .moved .result) (there .place-fed .result) (there .place-fed .ensures) (c .moved .ensures)) made)
+    let v = at (a .run .now) in
+    let x = at (a .store .now) in
+    let goes = fed-reader (a .self) (c .moved .result) (there .place-fed .result) (there .place-fed .ensures) (c .moved .ensures) in
+    feed-also (a .self) n m x v (feed-yes (a .self) _ _ _ _ _ (fits-yes _ _ made ∙ feed-last (a .self) n m v x one two) goes made)
 
 store-length-requires : tie.Need-store-length-requires
 store-length-requires c κs = tt
@@ -101,7 +119,7 @@ returns-4 c =
     let long = clear .before .before in
     let failed = long .before in
     let call = failed .before .before in
-    let asked = call .before .before in
+    let asked = call .before .before .before in
     let ok = asked .before .before .before in
     let a = ok .before .before .args in
     let s = a .self in
@@ -114,8 +132,10 @@ returns-4 c =
     let after = call .feed-row .last .1 .0 in
     let room = le-leb (long .store-length .result) (length after) (omega (arith, asked-store .1, long-is, call .feed-row .kept .1 .0)) in
     let made = told-no (call .feed-row .result) (at (call .feed-row .last .1 .0)) _ (call .feed-row .ensures .0) (failed .if3 .left) in
-    feed-also (a .self) n m (at (a .store .now)) (at (a .run .now)) (feed-end s _ _ _ _ _ (fits-no _ made ∙ feed-last s n m (at (a .run .now)) (at (a .store .now)) one two) (c .over .ensures) (zero-kept (s .width) (s .levels) _ _ _ _ long-is (call .feed-row .ensures .1)
-    (did _ _ _ _ room (clear .clear .ensures .1))))
+    let v = at (a .run .now) in
+    let x = at (a .store .now) in
+    let zeroed = zero-kept (s .width) (s .levels) _ _ _ _ long-is (call .feed-row .ensures .1) (did _ _ _ _ room (clear .clear .ensures .1)) in
+    feed-also (a .self) n m x v (feed-end s _ _ _ _ _ (fits-no _ made ∙ feed-last s n m v x one two) (c .over .ensures) zeroed)
 
 pub feed-spec : {M : Type 1} → statement M
 feed-spec =
@@ -126,6 +146,7 @@ feed-spec =
     next-of-requires
     row-question-requires
     returns-2
+    completes-requires
     feed-row-requires
     place-fed-requires
     moved-requires

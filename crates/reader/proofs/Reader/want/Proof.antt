@@ -36,19 +36,13 @@ returns-4 c =
     let live = more .before .before in
     let fit = live .before in
     want-yes _ _ (sym (fit .before .counts-fit .ensures) ∙ not-false _ (fit .if1 .left))
-    (wants-draw _ (next .next-of .result) (next .next-of .ensures) (live .if2 .left) (omega arith) (c .if4 .taken))
+    (wants-draw _ (next .next-of .result .spot) (next .next-of .ensures .spot) (live .if2 .left) (omega arith) (c .if4 .taken))
 
 row-number-requires : tie.Need-row-number-requires
-row-number-requires c κs =
-    let next = c .before .before in
-    let fit = next .before .before .before .before in
-    (counts-in _ (sym (fit .before .counts-fit .ensures) ∙ not-false _ (fit .if1 .left)), next .next-of .ensures, omega arith)
+row-number-requires c κs = (c .before .before .next-of .ensures, omega arith)
 
 row-length-requires : tie.Need-row-length-requires
-row-length-requires c κs =
-    let next = c .before .before .before in
-    let fit = next .before .before .before .before in
-    (counts-in _ (sym (fit .before .counts-fit .ensures) ∙ not-false _ (fit .if1 .left)), next .next-of .ensures, omega arith)
+row-length-requires c κs = (c .before .before .before .next-of .ensures, omega arith)
 
 returns-5 : tie.Need-returns-5
 returns-5 c =
@@ -58,7 +52,7 @@ returns-5 c =
     let live = more .before .before in
     let fit = live .before in
     want-yes _ _ (sym (fit .before .counts-fit .ensures) ∙ not-false _ (fit .if1 .left))
-    (wants-row _ (next .next-of .result) (next .next-of .ensures) (live .if2 .left) (omega arith) _ _ (omega arith) (number .row-number .ensures)
+    (wants-row _ (next .next-of .result .spot) (next .next-of .ensures .spot) (live .if2 .left) (omega arith) _ _ (omega arith) (number .row-number .ensures)
     (c .row-length .ensures))
 
 pub want-spec : {M : Type 1} → statement M

@@ -13,7 +13,7 @@ returns c = due-done _ (c .if1 .taken)
 returns-2 : tie.Need-returns-2
 returns-2 c =
     let start = c .before .before .before in
-    ap (λ (k : ℕ). eqb k 0) (start .pre .level) ∙ due-is _ (omega arith)
+    ap (λ (k : ℕ). eqb k 0) (start .pre .spot .level) ∙ due-is _ (omega arith)
 
 pub draw-due-spec : {M : Type 1} → statement M
 draw-due-spec = tie.close (tie.spec returns returns-2)

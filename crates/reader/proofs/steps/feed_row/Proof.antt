@@ -6,6 +6,7 @@ use Prim.Native.Nat.{_+_, _-_}
 use Rattle.numbers.specs.Signal.{at}
 use Rattle.reader.specs.Machine.{finished}
 use Rattle.level.proofs.WorkLaws.{told-no, told-yes}
+use Rattle.reader.proofs.WalkLaws.{finish-is}
 use Rattle.reader.proofs.StoreLaws.{store-in}
 use Rattle.level.proofs.KeptLaws.{kept-both, kept-is, kept-more}
 use Rattle.reader.proofs.KeptLaws.{fed-kept}
@@ -15,7 +16,7 @@ use Rattle.reader.proofs.steps.feed_row.Statement.{statement}
 use Rattle.reader.proofs.steps.feed_row.Tie as tie
 
 settle-requires : tie.Need-settle-requires
-settle-requires c κs = let start = c .before in (start .pre .0, start .pre .1, start .pre .3)
+settle-requires c κs = let start = c .before in (start .pre .0, start .pre .1, start .pre .4)
 
 same-length : tie.Need-same-length
 same-length c = let call = c .before .before in call .settle .kept .1 .0
@@ -24,7 +25,8 @@ returns : tie.Need-returns
 returns c =
     let call = c .before .before in
     let start = call .before .before in
-    (feed-failed (start .args .s) (start .args .p) (start .pre .1) _ _ (told-no (call .settle .result) (at (call .settle .last .1 .0)) _ (call .settle .ensures .0) (not-true _ (c .if1 .taken))), call .settle .ensures .1)
+    let failed = told-no (call .settle .result) (at (call .settle .last .1 .0)) _ (call .settle .ensures .0) (not-true _ (c .if1 .taken)) in
+    (feed-failed (start .args .s) (start .args .n .spot) (start .pre .1 .spot) _ _ failed, call .settle .ensures .1)
 
 sub-k : tie.Need-sub-k
 sub-k c = omega arith
@@ -33,14 +35,15 @@ put-row-requires : tie.Need-put-row-requires
 put-row-requires c κs =
     let start = c .before .before .before .before .before .before in
     let s = start .args .s in
-    let near = spot-in _ _ (start .pre .1) (omega arith) in
+    let near = spot-in _ _ (start .pre .1 .spot) (omega arith) in
     let counts = start .pre .0 in
     let call = c .before .before .before .before in (
       counts-shape s counts,
       omega (arith, near .0, counts .at, counts .deep .1),
+      start .pre .1 .at (start .pre .2),
       near .1,
-      omega (arith, store-in (s .width) (start .args .p .level - 1 + 1) (s .levels) (omega (arith, near .0, counts .at)), call .settle .kept .1 .0),
-      start .pre .4 ∙ length-back s (start .args .p) (start .pre .1),
+      omega (arith, store-in (s .width) (start .args .n .spot .level - 1 + 1) (s .levels) (omega (arith, near .0, counts .at)), call .settle .kept .1 .0),
+      start .pre .5 ∙ length-back s (start .args .n .spot) (start .pre .1 .spot),
     )
 
 finish-requires : tie.Need-finish-requires
@@ -48,12 +51,21 @@ finish-requires c κs =
     let put = c .before .before in
     let call = put .before .before .before .before .before in
     let start = call .before .before in
-    let near = spot-in _ _ (start .pre .1) (omega arith) in
+    let near = spot-in _ _ (start .pre .1 .spot) (omega arith) in
     let counts = start .pre .0 in
-    (counts-shape (start .args .s) counts, counts .deep .1, omega (arith, near .0, counts .at), near .1, omega (arith, put .put-row .kept .1 .1 .1 .0, call .settle .kept .1 .0))
+    let within = start .pre .1 .at (start .pre .2) in (
+      counts-shape (start .args .s) counts,
+      counts .deep .1,
+      omega (arith, near .0, counts .at),
+      within,
+      omega (arith, put .put-row .kept .1 .1 .1 .0, call .settle .kept .1 .0),
+    )
 
 same-length-2 : tie.Need-same-length-2
-same-length-2 c = c .before .finish .kept .1 .1 .1 .1 .0 ∙ c .before .before .before .before .put-row .kept .1 .1 .1 .0 ∙ c .before .before .before .before .before .before .before .before .before .settle .kept .1 .0
+same-length-2 c =
+    let done = c .before in
+    let put = done .before .before .before in
+    done .finish .kept .1 .1 .1 .1 .0 ∙ put .put-row .kept .1 .1 .1 .0 ∙ put .before .before .before .before .before .settle .kept .1 .0
 
 returns-2 : tie.Need-returns-2
 returns-2 c =
@@ -63,9 +75,17 @@ returns-2 c =
     let call = on .before .before in
     let start = call .before .before in
     let s = start .args .s in
-    let near = spot-in _ _ (start .pre .1) (omega arith) in (
-      done .finish .ensures .0 ∙ ap (λ y. finished (s .width) (s .height) (s .levels) (s .drawn) (start .args .p .level - 1) (start .args .p .band) y) (put .put-row .ensures) ∙ feed-on s (start .args .p) (start .pre .1) _ _ _ (omega arith) (told-yes (call .settle .result) (at (call .settle .last .1 .0)) _ (call .settle .ensures .0) (not-false _ (on .if1 .left))),
-      kept-both _ _ _ _ (kept-both _ _ _ _ (call .settle .ensures .1) (kept-is _ _ _ _ (kept-more _ _ _ _ (store-in (s .width) (start .args .p .level - 1 + 1) (s .levels) (omega (arith, near .0, start .pre .0 .at))) (fed-kept (s .width) (s .height) (s .drawn) (start .args .p .level - 1) (start .args .p .band) _ _)) (put .put-row .ensures))) (done .finish .ensures .1),
+    let p = start .args .n .spot in
+    let due = start .pre .1 .spot in
+    let near = spot-in _ _ due (omega arith) in
+    let settled = told-yes (call .settle .result) (at (call .settle .last .1 .0)) _ (call .settle .ensures .0) (not-false _ (on .if1 .left)) in
+    let room = store-in (s .width) (p .level - 1 + 1) (s .levels) (omega (arith, near .0, start .pre .0 .at)) in
+    let fed = kept-is _ _ _ _ (kept-more _ _ _ _ room (fed-kept (s .width) (s .height) (s .drawn) (p .level - 1) (p .band) _ _)) (put .put-row .ensures) in (
+      done .finish .ensures .0
+          ∙ finish-is (s .width) (s .height) (s .levels) (s .drawn) (p .level - 1) (p .band) _ (start .pre .3) _
+          ∙ ap (λ y. finished (s .width) (s .height) (s .levels) (s .drawn) (p .level - 1) (p .band) y) (put .put-row .ensures)
+          ∙ feed-on s p due _ _ _ (omega arith) settled,
+      kept-both _ _ _ _ (kept-both _ _ _ _ (call .settle .ensures .1) fed) (done .finish .ensures .1),
     )
 
 pub feed-row-spec : {M : Type 1} → statement M

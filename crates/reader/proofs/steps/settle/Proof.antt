@@ -19,7 +19,7 @@ returns : tie.Need-returns
 returns c =
     let call = c .before in
     let start = call .before .before in
-    (call .settle .ensures .0 ∙ settles-is (start .args .s) (start .args .p) (start .pre .1) _, call .settle .ensures .1)
+    (call .settle .ensures .0 ∙ settles-is (start .args .s) (start .args .n .spot) (start .pre .1 .spot) _, call .settle .ensures .1)
 
 pub settle-spec : {M : Type 1} → statement M
 settle-spec = tie.close (tie.spec settle-requires same-length returns)

@@ -19,18 +19,26 @@ abbrev μ-loop : tie.MeasureT-loop
 loop-holds : tie.Need-loop-holds Inv-loop μ-loop
 loop-holds c = (c .pre .0, omega arith, omega arith, refl)
 
+sub-level-at : tie.Need-sub-level-at Inv-loop μ-loop
+sub-level-at c = omega arith
+
+level-at-requires : tie.Need-level-at-requires Inv-loop μ-loop
+level-at-requires c κs = let inv = c .before .loop .inv in (inv .0, omega arith)
+
 sub-band-at : tie.Need-sub-band-at Inv-loop μ-loop
 sub-band-at c = omega arith
 
 band-at-requires : tie.Need-band-at-requires Inv-loop μ-loop
-band-at-requires c κs = let inv = c .before .loop .inv in (inv .0, omega arith)
+band-at-requires c κs = (c .before .before .loop .inv .0, c .level-at .ensures, omega arith)
 
 returns : tie.Need-returns Inv-loop μ-loop
 returns c =
     let band = c .before in
-    let test = band .before in
+    let level = band .before in
+    let test = level .before in
     let l = test .before .loop in
-    is-place _ _ (next-here _ _ _ _ (l .k) (l .b) (band .band-at .result) (test .loop-test .taken) (band .band-at .ensures) (c .if1 .taken) ∙ l .inv .3)
+    let here = next-here _ _ _ _ (l .k) (l .b) (band .band-at .result) (test .loop-test .taken) (band .band-at .ensures) (c .if1 .taken) in
+    record { spot = is-place _ _ (here ∙ l .inv .3); at = λ _. level .level-at .ensures }
 
 sub-k : tie.Need-sub-k Inv-loop μ-loop
 sub-k c = omega arith
@@ -41,12 +49,15 @@ loop-less c = omega arith
 loop-again : tie.Need-loop-again Inv-loop μ-loop
 loop-again c =
     let band = c .before in
-    let test = band .before in
+    let test = band .before .before in
     let l = test .before .loop in
-    (l .inv .0, omega arith, l .inv .2, next-finer _ _ _ _ (l .k) (l .b) (band .band-at .result) (test .loop-test .taken) (band .band-at .ensures) (omega arith) ∙ l .inv .3)
+    let finer = next-finer _ _ _ _ (l .k) (l .b) (band .band-at .result) (test .loop-test .taken) (band .band-at .ensures) (omega arith) in
+    (l .inv .0, omega arith, l .inv .2, finer ∙ l .inv .3)
 
 returns-2 : tie.Need-returns-2 Inv-loop μ-loop
-returns-2 c = let l = c .before .loop in is-place _ _ (next-none _ _ _ _ (l .k) (l .b) (omega arith) ∙ l .inv .3)
+returns-2 c =
+    let l = c .before .loop in
+    record { spot = is-place _ _ (next-none _ _ _ _ (l .k) (l .b) (omega arith) ∙ l .inv .3); at = λ h. absurd (omega arith) }
 
 pub next-at-spec : {M : Type 1} → statement M
 next-at-spec =
@@ -55,6 +66,8 @@ next-at-spec =
     Inv-loop
     μ-loop
     loop-holds
+    sub-level-at
+    level-at-requires
     sub-band-at
     band-at-requires
     returns

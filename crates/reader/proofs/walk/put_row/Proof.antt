@@ -14,37 +14,46 @@ use Rattle.reader.proofs.StoreLaws.{store-small}
 use Rattle.reader.proofs.walk.put_row.Statement.{statement}
 use Rattle.reader.proofs.walk.put_row.Tie as tie
 
-level-at-requires : tie.Need-level-at-requires
-level-at-requires c κs = search needs
-
 half-place-requires : tie.Need-half-place-requires
 half-place-requires c κs =
-    let here = level-in _ _ _ _ (c .level-at .result) (c .level-at .ensures) (omega arith) (omega arith) (omega arith) in
+    let here = level-in _ _ _ _ (c .args .l) (c .pre .2) (omega arith) (omega arith) (omega arith) in
     omega (arith, here .1, here .4)
 
 add-a : tie.Need-add-a
 unfolding maxLevels
 add-a c =
     let half = c .before in
-    let level = half .before in
-    let a = level .before .args in
-    omega (arith, put-room _ _ _ _ (level .level-at .result) (level .level-at .ensures) (a .band) (half .half-place .result) (length (a .run .now)) (half .half-place .ensures) (omega arith), store-small (a .width) (a .k + 1) (omega arith))
+    let start = half .before in
+    let a = start .args in
+    omega (
+      arith,
+      put-room _ _ _ _ (a .l) (start .pre .2) (a .band) (half .half-place .result) (length (a .run .now)) (half .half-place .ensures) (omega arith),
+      store-small (a .width) (a .k + 1) (omega arith),
+    )
 
 add-e : tie.Need-add-e
 unfolding maxLevels
 add-e c =
     let half = c .before in
-    let level = half .before in
-    let a = level .before .args in
-    omega (arith, put-room _ _ _ _ (level .level-at .result) (level .level-at .ensures) (a .band) (half .half-place .result) (length (a .run .now)) (half .half-place .ensures) (omega arith), store-small (a .width) (a .k + 1) (omega arith))
+    let start = half .before in
+    let a = start .args in
+    omega (
+      arith,
+      put-room _ _ _ _ (a .l) (start .pre .2) (a .band) (half .half-place .result) (length (a .run .now)) (half .half-place .ensures) (omega arith),
+      store-small (a .width) (a .k + 1) (omega arith),
+    )
 
 mul-copy : tie.Need-mul-copy
 unfolding maxLevels
 mul-copy c =
     let half = c .before in
-    let level = half .before in
-    let a = level .before .args in
-    omega (arith, put-room _ _ _ _ (level .level-at .result) (level .level-at .ensures) (a .band) (half .half-place .result) (length (a .run .now)) (half .half-place .ensures) (omega arith), store-small (a .width) (a .k + 1) (omega arith))
+    let start = half .before in
+    let a = start .args in
+    omega (
+      arith,
+      put-room _ _ _ _ (a .l) (start .pre .2) (a .band) (half .half-place .result) (length (a .run .now)) (half .half-place .ensures) (omega arith),
+      store-small (a .width) (a .k + 1) (omega arith),
+    )
 
 sub-copy : tie.Need-sub-copy
 sub-copy c = search needs
@@ -55,9 +64,12 @@ part-copy-start c = search needs
 part-copy-end : tie.Need-part-copy-end
 part-copy-end c =
     let half = c .before in
-    let level = half .before in
-    let a = level .before .args in
-    omega (arith, put-room _ _ _ _ (level .level-at .result) (level .level-at .ensures) (a .band) (half .half-place .result) (length (a .run .now)) (half .half-place .ensures) (omega arith))
+    let start = half .before in
+    let a = start .args in
+    omega (
+      arith,
+      put-room _ _ _ _ (a .l) (start .pre .2) (a .band) (half .half-place .result) (length (a .run .now)) (half .half-place .ensures) (omega arith),
+    )
 
 copy-requires : tie.Need-copy-requires
 copy-requires c κs = tt
@@ -69,22 +81,21 @@ returns : tie.Need-returns
 returns c =
     let call = c .before in
     let half = call .before .before .before in
-    let level = half .before in
-    let start = level .before in
+    let start = half .before in
     let a = start .args in
-    let p = level .level-at .result .start + half .half-place .result in
+    let p = a .l .start + half .half-place .result in
     let n = length (a .run .now) in
-    let room = put-room _ _ _ _ (level .level-at .result) (level .level-at .ensures) (a .band) (half .half-place .result) n (half .half-place .ensures) (omega arith) in
+    let room = put-room _ _ _ _ (a .l) (start .pre .2) (a .band) (half .half-place .result) n (half .half-place .ensures) (omega arith) in
     let long = length-mid p (p + n - p) (a .store .now) (omega arith) in
     let fits = le-leb n (length (midOf p (p + n - p) (a .store .now))) (omega (arith, long)) in
-    put-is (a .width) (a .height) (a .drawn) (a .k) (a .band) (level .level-at .result) p (half .half-place .result) (p + n - p) (a .run .now) (a .store .now) (call .copy .last .1 .0) (level .level-at .ensures) (half .half-place .ensures) refl (omega arith) (omega arith) (omega arith) (call .copy .kept .1 .0 ∙ long)
+    put-is (a .width) (a .height) (a .drawn) (a .k) (a .band) (a .l) p (half .half-place .result) (p + n - p) (a .run .now) (a .store .now)
+    (call .copy .last .1 .0) (start .pre .2) (half .half-place .ensures) refl (omega arith) (omega arith) (omega arith) (call .copy .kept .1 .0 ∙ long)
     (did _ _ _ _ fits (call .copy .ensures .1))
 
 pub put-row-spec : {M : Type 1} → statement M
 put-row-spec =
     tie.close
     (tie.spec
-    level-at-requires
     half-place-requires
     add-a
     add-e

@@ -19,7 +19,8 @@ use Rattle.reader.proofs.walk.settle.Tie as tie
 abbrev Inv-loop : tie.InvT-loop
 Inv-loop width height levels drawn store₀ from to k₀ store k =
     Shape width height drawn × (levels ≤ maxLevels) × (k ≤ levels) × (storeLength width levels ≤ length store₀) × (length store ≡ length store₀)
-    × (settled width height levels drawn to k (at store) ≡ settled width height levels drawn to from (at store₀)) × Kept (storeLength width levels) (at store₀) (at store)
+    × (settled width height levels drawn to k (at store) ≡ settled width height levels drawn to from (at store₀))
+    × Kept (storeLength width levels) (at store₀) (at store)
 
 abbrev μ-loop : tie.MeasureT-loop
 μ-loop width height levels drawn store₀ from to k₀ store k = k
@@ -30,18 +31,27 @@ loop-holds c = (c .pre .0, omega arith, omega arith, omega arith, refl, refl, ke
 sub-k : tie.Need-sub-k Inv-loop μ-loop
 sub-k c = omega arith
 
+level-at-requires : tie.Need-level-at-requires Inv-loop μ-loop
+level-at-requires c κs = (c .before .loop .inv .0, omega arith)
+
 work-at-requires : tie.Need-work-at-requires Inv-loop μ-loop
-work-at-requires c κs = let inv = c .before .before .loop .inv in (inv .0, omega arith, omega arith, omega arith)
+work-at-requires c κs =
+    let level = c .before in
+    let inv = level .before .before .loop .inv in
+    (inv .0, omega arith, omega arith, level .level-at .ensures, omega arith)
 
 same-length : tie.Need-same-length Inv-loop μ-loop
-same-length c = let call = c .before .before in call .work-at .kept .1 .1 .1 .1 .0 ∙ call .before .before .before .loop .inv .4
+same-length c = let call = c .before .before in call .work-at .kept .1 .1 .1 .1 .0 ∙ call .before .before .before .before .loop .inv .4
 
 returns : tie.Need-returns Inv-loop μ-loop
 returns c =
     let call = c .before .before in
-    let test = call .before .before in
+    let test = call .before .before .before in
     let l = test .before .loop in
-    (settle-failed _ _ _ _ _ (l .k) (at (l .store)) (test .loop-test .taken) (told-no (call .work-at .result) (at (call .work-at .last .1 .1 .1 .1 .0)) _ (call .work-at .ensures .0) (not-true _ (c .if1 .taken))) ∙ l .inv .5, kept-both _ _ _ _ (l .inv .6) (call .work-at .ensures .1))
+    let failed = told-no (call .work-at .result) (at (call .work-at .last .1 .1 .1 .1 .0)) _ (call .work-at .ensures .0) (not-true _ (c .if1 .taken)) in (
+      settle-failed _ _ _ _ _ (l .k) (at (l .store)) (test .loop-test .taken) failed ∙ l .inv .5,
+      kept-both _ _ _ _ (l .inv .6) (call .work-at .ensures .1),
+    )
 
 loop-less : tie.Need-loop-less Inv-loop μ-loop
 loop-less c = omega arith
@@ -49,15 +59,16 @@ loop-less c = omega arith
 loop-again : tie.Need-loop-again Inv-loop μ-loop
 loop-again c =
     let call = c .before .before in
-    let test = call .before .before in
+    let test = call .before .before .before in
     let l = test .before .loop in
-    let inv = l .inv in (
+    let inv = l .inv in
+    let worked = told-yes (call .work-at .result) (at (call .work-at .last .1 .1 .1 .1 .0)) _ (call .work-at .ensures .0) (not-false _ (c .if1 .left)) in (
       inv .0,
       inv .1,
       omega arith,
       inv .3,
       call .work-at .kept .1 .1 .1 .1 .0 ∙ inv .4,
-      settle-on _ _ _ _ _ (l .k) (at (l .store)) _ (test .loop-test .taken) (told-yes (call .work-at .result) (at (call .work-at .last .1 .1 .1 .1 .0)) _ (call .work-at .ensures .0) (not-false _ (c .if1 .left))) ∙ inv .5,
+      settle-on _ _ _ _ _ (l .k) (at (l .store)) _ (test .loop-test .taken) worked ∙ inv .5,
       kept-both _ _ _ _ (inv .6) (call .work-at .ensures .1),
     )
 
@@ -75,6 +86,7 @@ settle-spec =
     μ-loop
     loop-holds
     sub-k
+    level-at-requires
     work-at-requires
     same-length
     returns

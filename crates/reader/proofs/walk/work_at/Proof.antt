@@ -15,25 +15,17 @@ use Rattle.reader.proofs.KeptLaws.{part-kept}
 use Rattle.reader.proofs.walk.work_at.Statement.{statement}
 use Rattle.reader.proofs.walk.work_at.Tie as tie
 
-level-at-requires : tie.Need-level-at-requires
-level-at-requires c κs = search needs
-
 mul-work-set : tie.Need-mul-work-set
 unfolding maxLevels
 mul-work-set c =
-    let start = c .before in
-    let here = level-in _ _ _ _ (c .level-at .result) (c .level-at .ensures) (omega arith) (omega arith) (omega arith) in
+    let here = level-in _ _ _ _ (c .args .l) (c .pre .3) (omega arith) (omega arith) (omega arith) in
     omega (arith, here .0)
 
 sub-work-set : tie.Need-sub-work-set
-sub-work-set c =
-    let a = c .before .args in
-    omega (arith, work-room _ _ _ _ (c .level-at .result) (c .level-at .ensures) (a .levels) (omega arith))
+sub-work-set c = let a = c .args in omega (arith, work-room _ _ _ _ (a .l) (c .pre .3) (a .levels) (omega arith))
 
 part-work-set-start : tie.Need-part-work-set-start
-part-work-set-start c =
-    let a = c .before .args in
-    omega (arith, work-room _ _ _ _ (c .level-at .result) (c .level-at .ensures) (a .levels) (omega arith))
+part-work-set-start c = let a = c .args in omega (arith, work-room _ _ _ _ (a .l) (c .pre .3) (a .levels) (omega arith))
 
 part-work-set-end : tie.Need-part-work-set-end
 part-work-set-end c = search needs
@@ -50,19 +42,20 @@ same-length c = search needs
 returns : tie.Need-returns
 returns c =
     let call = c .before in
-    let level = call .before .before in
-    let l = level .level-at .result in
-    let a = level .before .args in
-    let room = work-room _ _ _ _ l (level .level-at .ensures) (a .levels) (omega arith) in
+    let start = call .before .before in
+    let a = start .args in
+    let l = a .l in
+    let is = start .pre .3 in
+    let room = work-room _ _ _ _ l is (a .levels) (omega arith) in
     let n = length (a .store .now) - l .start in
     let long = length-mid (l .start) n (a .store .now) (omega arith) in
-    let here = level-in _ _ _ _ l (level .level-at .ensures) (omega arith) (omega arith) (omega arith) in
+    let here = level-in _ _ _ _ l is (omega arith) (omega arith) (omega arith) in
+    let back = call .work-set .kept .0 ∙ long in
     let can = workable-is (eqb (a .k + 1) (a .levels)) (a .k) (l .width) (l .height) (l .set) (length (midOf (l .start) n (a .store .now)))
     (omega arith, here .1, omega (arith, here .2), here .3, omega (arith, room, long)) in (
       work-is (a .width) (a .height) (a .levels) (a .drawn) (a .k) l (l .start) n (a .store .now) (call .work-set .last .0)
-          (eqb (call .work-set .result) 0) (level .level-at .ensures) refl (omega arith) (call .work-set .kept .0 ∙ long)
-          (did _ _ _ _ can (call .work-set .ensures .1 .0)),
-      part-kept (a .width) (a .height) (a .drawn) (a .k) (a .levels) l (level .level-at .ensures) n (a .store .now) (call .work-set .last .0) (omega arith) (omega arith) (call .work-set .kept .0 ∙ long)
+          (eqb (call .work-set .result) 0) is refl (omega arith) back (did _ _ _ _ can (call .work-set .ensures .1 .0)),
+      part-kept (a .width) (a .height) (a .drawn) (a .k) (a .levels) l is n (a .store .now) (call .work-set .last .0) (omega arith) (omega arith) back
           (call .work-set .ensures .1 .1 .0),
     )
 
@@ -70,7 +63,6 @@ pub work-at-spec : {M : Type 1} → statement M
 work-at-spec =
     tie.close
     (tie.spec
-    level-at-requires
     mul-work-set
     sub-work-set
     part-work-set-start
