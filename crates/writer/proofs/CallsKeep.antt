@@ -11,7 +11,7 @@ use lib.IntN.{pos}
 use lib.ListN.{length, getD}
 use lib.Dec.{leb, ltb, eqb}
 use borrow.Author.Tests.{eqb-true, lt-ltb, ltb-true, ltb-false, leb-true}
-use Rattle.numbers.specs.Signal.{pick, both}
+use Rattle.numbers.specs.Signal.{pick, both, stored}
 use Rattle.numbers.specs.Word.{wrap32}
 use Rattle.numbers.proofs.Sweep.{both as split-both}
 use Rattle.lifting.specs.Halves.{fronted}
@@ -25,7 +25,7 @@ use Rattle.writer.specs.Level.{Memory}
 use Rattle.writer.specs.FiveThreeLevel.{cellOf, fiveThree}
 use Rattle.writer.specs.Machine.{Out, rest, arrive}
 use Rattle.writer.specs.Draws.{Waiting}
-use Rattle.writer.specs.Taking.{stored, Taking, takes, offering}
+use Rattle.writer.specs.Taking.{Taking, takes, offering}
 use Rattle.writer.specs.Questions.{setUpQuestion, either, inRanges, longEnough, waitingRow, offerQuestion, drawQuestion, finishQuestion}
 use Rattle.writer.specs.Answers.{Reply, gives, refused, unless, changedUnless, Took, Handed, aRow}
 use Rattle.writer.specs.Calls.{fresh, setUpReply, took, offerReply, offerStore, waits, closing, finishReply, finishStore, bandRow, handed}

@@ -28,7 +28,7 @@ use Rattle.writer.specs.Counts.{prev, deeper, made, most, mostLeft, band
 use Rattle.writer.specs.Machine.{rest, joinAt, Out, still, under, passed, settled, arrived, arrive, passOn}
 use Rattle.writer.specs.Draws.{Waiting, lower, waiting, pull}
 use Rattle.writer.specs.Closing.{Shut, onward, closeLevel, shut}
-use Rattle.writer.specs.Taking.{stored}
+use Rattle.numbers.specs.Signal.{stored}
 use Rattle.writer.specs.Holds.{Meaning, SetStands, below, LevelHolds, SetWaits, LevelsHold}
 use Rattle.writer.proofs.CountLaws.{prev-is, left-first, left-under, left-next}
 use Rattle.writer.proofs.RestLaws.{rest-join, join-below}

@@ -3,12 +3,11 @@ use mathlib.Core.Path.{_≡_, sym, ap, _∙_}
 use Prim.Native.Nat.{ℕ, _+_, _-_, _*_, _≤_, _<_}
 use native.Mathlib.Omega.{arith}
 use lib.IntN.{ℤ}
-use Rattle.numbers.specs.Signal.{spliced}
+use Rattle.numbers.specs.Signal.{spliced, stored}
 use Rattle.lifting.specs.Line.{lo, hi, count}
 use Rattle.lifting.proofs.LineLaws.{counts}
 use Rattle.wavelet.proofs.SizeLaws.{count-lo}
 use Rattle.writer.specs.FiveThreeLevel.{slot, rowPut, bandPlace}
-use Rattle.writer.specs.Taking.{stored}
 use Rattle.writer.specs.Columns.{separated}
 use Rattle.writer.specs.Steps.{delivered}
 use Rattle.writer.proofs.CountLaws.{slot-room}

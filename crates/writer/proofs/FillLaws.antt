@@ -1,5 +1,5 @@
 -- A stretch of heights put into a row a pair at a time comes to the same as one height after the other. Assumes nothing.
-use mathlib.Core.Path.{_≡_, refl, sym, ap, _∙_, fun-ext}
+use mathlib.Core.Path.{_≡_, refl, sym, ap, _∙_}
 use mathlib.Core.List.{List}
 use Prim.Native.Nat.{ℕ, zero, suc, _+_, _*_, _/_, _%_, _≤_, _<_}
 use native.Mathlib.Decide.{ℕ-discrete}
@@ -7,25 +7,14 @@ use native.Mathlib.Omega.{arith}
 use lib.Dec.{eqb}
 use lib.IntN.{ℤ, pos}
 use lib.ListN.{length, set, length-set}
-use lib.Seq.{getD-set-same, getD-set-other}
 use borrow.Author.Tests.{eq-eqb, ne-eqb}
-use Rattle.numbers.specs.Signal.{at}
+use Rattle.numbers.specs.Signal.{at, stored}
+use Rattle.numbers.proofs.Stores.{at-stored}
 use Rattle.lifting.specs.Line.{lo, count}
 use Rattle.wavelet.proofs.SizeLaws.{count-lo}
 use Rattle.writer.specs.FiveThreeLevel.{slot, cellOf}
-use Rattle.writer.specs.Taking.{stored}
 use Rattle.writer.specs.Stretch.{heightsPut}
 use Rattle.writer.proofs.CountLaws.{slot-room}
-
--- a store into a list is a store into its signal
-pub at-stored : (l : List ℤ) (p : ℕ) (v : ℤ) → p < length l → at (set l p v) ≡ stored p v (at l)
-unfolding stored
-at-stored l p v h =
-    fun-ext λ j.
-    elim (ℕ-discrete j p) [
-      | yes e ↦ ap (at (set l p v)) e ∙ getD-set-same l p v (pos 0) h ∙ sym (simp (eq-eqb j p e))
-      | no d ↦ getD-set-other l p j v (pos 0) d ∙ sym (simp (ne-eqb j p d))
-    ]
 
 -- ---- the places of columns
 module _ (w m c : ℕ) where

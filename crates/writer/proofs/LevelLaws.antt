@@ -8,8 +8,9 @@ use native.Mathlib.Omega.{arith}
 use lib.IntN.{ℤ}
 use lib.Dec.{eqb}
 use borrow.Author.Tests.{eq-eqb, ne-eqb}
-use Rattle.numbers.specs.Signal.{pick}
+use Rattle.numbers.specs.Signal.{pick, stored}
 use Rattle.numbers.specs.Word.{wrap32}
+use Rattle.numbers.proofs.Stores.{stored-at, stored-off}
 use Rattle.lifting.specs.Line.{lo, hi, count, parted, predicted}
 use Rattle.lifting.specs.Halves.{partedInto}
 use Rattle.lifting.proofs.LineLaws.{halves-low, halves-high}
@@ -19,10 +20,9 @@ use Rattle.wavelet.proofs.SizeLaws.{count-lo, count-hi}
 use Rattle.writer.specs.Level.{Memory, LevelKind}
 use Rattle.writer.specs.Counts.{prev}
 use Rattle.writer.specs.FiveThreeLevel.{cellOf, rowPut, setWith, setMade, lastSet, lowAlone, bandPlace, fiveThree}
-use Rattle.writer.specs.Taking.{stored}
 use Rattle.writer.specs.Holds.{RowStands, Kept, Meaning, SetStands}
 use Rattle.writer.proofs.CountLaws.{prev-is, slot-room}
-use Rattle.writer.proofs.Slots.{spot, cell-spot, spot-even, spot-odd, spot-in, spot-apart, slots-apart′, Only, only-row, only-past, spliced-only, spliced-at, stored-at, stored-other, stored-only, next-stays, set-past, high-stays, set-stands, alone-stands, alone-past}
+use Rattle.writer.proofs.Slots.{spot, cell-spot, spot-even, spot-odd, spot-in, spot-apart, slots-apart′, Only, only-row, only-past, spliced-only, spliced-at, stored-only, next-stays, set-past, high-stays, set-stands, alone-stands, alone-past}
 
 -- Held w H g m c x: what a level holds after m rows of g and c columns of row m
 pub record LevelLaws (K : LevelKind) (Held : Meaning) : Type 0 where
@@ -66,9 +66,9 @@ kept-cell w H g m c x h k = kept-only w H g m c (suc c) x _ (stored-only w m c (
     row : RowStands w m (suc c) (g m) (stored (cellOf w m c) (g m c) x)
     row i p =
         elim (ℕ-discrete i c) [
-          | yes e ↦ rw e (stored-at w m c (g m c) x (cellOf w m c))
+          | yes e ↦ rw e (stored-at (cellOf w m c) (cellOf w m c) (g m c) x refl)
           | no d ↦
-              stored-other w m c (g m c) x (cellOf w m c) (cellOf w m i)
+              stored-off (cellOf w m c) (cellOf w m i) (g m c) x
               (λ e. d (spot-apart w i c (omega arith) h (omega (arith, cell-spot w m i, cell-spot w m c))))
               ∙ k .begun i (omega (arith, d))
         ]

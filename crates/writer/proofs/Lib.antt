@@ -21,6 +21,5 @@ pub mod GateLaws
 pub mod CallLaws
 pub mod Surplus
 pub mod FillLaws
-pub mod ColumnLaws
 pub mod PairLaws
 pub mod OfferLaws

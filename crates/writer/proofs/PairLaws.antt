@@ -7,12 +7,10 @@ use native.Mathlib.Omega.{arith}
 use lib.IntN.{ℤ, pos}
 use lib.ListN.{length, set, length-set}
 use lib.Seq.{getD-set-other}
-use Rattle.numbers.specs.Signal.{at, spliced}
+use Rattle.numbers.specs.Signal.{at, spliced, stored}
 use Rattle.numbers.proofs.Parts.{splice-below, splice-in, splice-past}
-use Rattle.writer.specs.Taking.{stored}
 use Rattle.writer.specs.Columns.{separated}
-use Rattle.writer.proofs.FillLaws.{at-stored}
-use Rattle.writer.proofs.ColumnLaws.{stored-at, stored-off}
+use Rattle.numbers.proofs.Stores.{at-stored, stored-at, stored-off}
 
 -- ---- k numbers y written from place a on
 module _ (a k : ℕ) (y : ℕ → ℤ) where

@@ -1,24 +1,27 @@
 -- The laws of the sets of a 5/3 level: what the calls on the store come to, over plain variables. Assumes nothing.
 use mathlib.Core.Path.{_≡_, ap, _∙_}
 use mathlib.Core.List.{List}
+use mathlib.Core.Bool.{true}
 use Prim.Native.Nat.{ℕ, zero, suc, _+_, _-_, _*_, _%_, _≤_, _<_}
 use native.Mathlib.Omega.{arith}
 use lib.IntN.{ℤ}
 use lib.ListN.{length}
 use borrow.Rule.Slice.PartMut.{midOf, putMid}
 use borrow.Author.Tests.{eq-eqb, ne-eqb}
-use Rattle.numbers.specs.Signal.{at}
+use Rattle.numbers.specs.Signal.{at, pick}
 use Rattle.numbers.specs.Word.{wrap32}
 use Rattle.numbers.proofs.Parts.{length-mid, at-mid, at-put}
 use Rattle.lifting.specs.Line.{lo, count, predicted, updated}
 use Rattle.lifting.specs.Halves.{liftedInPlace}
 use Rattle.lifting.specs.Rows.{rowChanged, rowsChanged}
 use Rattle.lifting.proofs.RowLaws.{rows-fit, changed}
+use Rattle.lifting.proofs.ColumnLaws.{pair-fits}
 use Rattle.writer.specs.Counts.{prev}
-use Rattle.writer.specs.FiveThreeLevel.{slot, first, before, rowPredicted, rowUpdated, rowCopied, rowLifted, setWith, lowAlone, lastSet}
-use Rattle.writer.specs.Columns.{columnsLifted, ColumnRows, setColumns}
+use Rattle.writer.specs.FiveThreeLevel.{slot, before, rowPredicted, rowUpdated, rowCopied, rowLifted, setWith, lowAlone, lastSet}
+use Rattle.lifting.specs.Pairs.{first, pairFits, pairLifted, pairCopied}
+use Rattle.writer.specs.Columns.{setColumns}
 use Rattle.writer.proofs.CountLaws.{slot-index, row-room, before-first, before-is}
-use Rattle.writer.proofs.Slots.{slots-apart, slots-apart′}
+use Rattle.writer.proofs.Slots.{slots-apart′}
 
 -- a row lifted in a part of the store that is lent
 pub lift-part : (w r a k : ℕ) (l z : List ℤ) → a ≡ slot w r → k ≡ w → a + w ≤ length l → length z ≡ k → at z ≡ liftedInPlace (length (midOf a k l)) (at (midOf a k l)) → at (putMid a k l z) ≡ rowLifted w r (at l)
@@ -32,40 +35,35 @@ pub row-call : (f : ℤ → ℤ → ℤ → ℤ) (n w t l r : ℕ) (x : ℕ → 
 row-call f n w t l r x h a b d =
     changed f w w t l r x n (rows-fit n w w t l r (omega arith) (omega (arith, row-room w t a)) (omega (arith, row-room w l b)) (omega (arith, row-room w r d)))
 
--- the columns of set n: of the first call by call, of a later one in one pass
-pub columns-first : (w n r k k′ : ℕ) (x₀ x₁ x₂ x₃ : ℕ → ℤ) → 4 * w ≤ k → 4 * w ≤ k′ → n ≡ 0 →
-    x₁ ≡ rowsChanged (predicted wrap32) k w w ((2 * n + 1) % 4) (2 * n % 4) (r % 4) x₀ →
-    x₂ ≡ rowsChanged (updated wrap32) k′ w w (2 * n % 4) ((2 * n + 1) % 4) ((2 * n + 1) % 4) x₁ →
-    x₃ ≡ rowChanged first w w ((2 * n + 3) % 4) ((2 * n + 1) % 4) ((2 * n + 1) % 4) x₂ → x₃ ≡ setColumns w n r x₀
-unfolding setColumns rowPredicted rowUpdated rowCopied
-columns-first w n r k k′ x₀ x₁ x₂ x₃ h h′ z e₁ e₂ e₃ =
-    let a₁ = row-call (predicted wrap32) k w ((2 * n + 1) % 4) (2 * n % 4) (r % 4) x₀ h (slot-index _) (slot-index _) (slot-index _) in
-    let a₂ = row-call (updated wrap32) k′ w (2 * n % 4) ((2 * n + 1) % 4) ((2 * n + 1) % 4) x₁ h′ (slot-index _) (slot-index _) (slot-index _) in
-    let b : before n ≡ 2 * n + 1 = omega (arith, before-first n z) in
-    rw b (cc (a₁, a₂))
+-- a pair of rows that are slots
+slots-fit : (n w h l r b : ℕ) → (l ≡ h → ⊥) → 4 * w ≤ n → h < 4 → l < 4 → r < 4 → b < 4 → pairFits n w w h l r b ≡ true
+slots-fit n w h l r b q k ih il ir ib =
+    pair-fits n w w h l r b q (omega arith) (omega (arith, row-room w h ih)) (omega (arith, row-room w l il)) (omega (arith, row-room w r ir)) (omega (arith, row-room w b ib))
 
-pub columns-later : (w n r : ℕ) (x₀ x₁ : ℕ → ℤ) → 0 < n → x₁ ≡ columnsLifted w w ((2 * n + 1) % 4) (2 * n % 4) (r % 4) ((2 * n + 3) % 4) x₀ → x₁ ≡ setColumns w n r x₀
-unfolding setColumns columnsLifted rowPredicted rowUpdated rowCopied
-columns-later w n r x₀ x₁ z e =
-    let k : before n + 4 ≡ 2 * n + 3 = omega (arith, before-is n z) in
-    let b : before n % 4 ≡ (2 * n + 3) % 4 = round (before n) ∙ ap (λ (q : ℕ). q % 4) k in
-    rw b e
+-- the columns of set n: of the first d(0) counts for d(n−1), of a later one the free slot is where d(n−1) stands
+pub columns-first : (w n r k : ℕ) (x₀ x₁ x₂ : ℕ → ℤ) → 4 * w ≤ k → n ≡ 0 →
+    x₁ ≡ pick (pairFits k w w ((2 * n + 1) % 4) (2 * n % 4) (r % 4) ((2 * n + 1) % 4))
+    (pairLifted w w ((2 * n + 1) % 4) (2 * n % 4) (r % 4) ((2 * n + 1) % 4) x₀) x₀ →
+    x₂ ≡ rowChanged first w w ((2 * n + 3) % 4) ((2 * n + 1) % 4) ((2 * n + 1) % 4) x₁ → x₂ ≡ setColumns w n r x₀
+unfolding setColumns pairLifted rowPredicted rowUpdated rowCopied
+columns-first w n r k x₀ x₁ x₂ h z e₁ e₂ =
+    let f = slots-fit k w _ _ _ _ (slots-apart′ (2 * n) 1 (omega arith) (omega arith)) h (slot-index (2 * n + 1)) (slot-index (2 * n)) (slot-index r) (slot-index (2 * n + 1)) in
+    let b : before n ≡ 2 * n + 1 = omega (arith, before-first n z) in
+    let e : x₁ ≡ pairLifted w w ((2 * n + 1) % 4) (2 * n % 4) (r % 4) ((2 * n + 1) % 4) x₀ = rw f at e₁ in
+    rw b (cc)
+
+pub columns-later : (w n r k : ℕ) (x₀ x₁ : ℕ → ℤ) → 4 * w ≤ k → 0 < n →
+    x₁ ≡ pick (pairFits k w w ((2 * n + 1) % 4) (2 * n % 4) (r % 4) ((2 * n + 3) % 4))
+    (pairCopied w w ((2 * n + 1) % 4) (2 * n % 4) (r % 4) ((2 * n + 3) % 4) x₀) x₀ → x₁ ≡ setColumns w n r x₀
+unfolding setColumns pairCopied pairLifted rowPredicted rowUpdated rowCopied
+columns-later w n r k x₀ x₁ h z e =
+    let f = slots-fit k w _ _ _ _ (slots-apart′ (2 * n) 1 (omega arith) (omega arith)) h (slot-index (2 * n + 1)) (slot-index (2 * n)) (slot-index r) (slot-index (2 * n + 3)) in
+    let q : before n + 4 ≡ 2 * n + 3 = omega (arith, before-is n z) in
+    let b : before n % 4 ≡ (2 * n + 3) % 4 = round (before n) ∙ ap (λ (q : ℕ). q % 4) q in
+    rw b (rw f at e)
   where
     round : (a : ℕ) → a % 4 ≡ (a + 4) % 4
     round a = omega arith
-
-pub column-rows : (w n r k : ℕ) → 4 * w ≤ k → w < 4294967296 → ColumnRows k w ((2 * n + 1) % 4) (2 * n % 4) (r % 4) ((2 * n + 3) % 4)
-column-rows w n r k a b =
-    record {
-      room = a;
-      wide = b;
-      high = slot-index _;
-      low = slot-index _;
-      right = slot-index _;
-      free = slot-index _;
-      other = slots-apart′ (2 * n) 1 (omega arith) (omega arith);
-      kept = λ e. slots-apart (2 * n + 1) 2 (omega arith) (omega arith) (ap (λ (k : ℕ). k % 4) (omega arith) ∙ e);
-    }
 
 -- set n: its columns, then its two rows along the row
 pub set-made : (w n r : ℕ) (x₀ x₁ x₂ x₃ : ℕ → ℤ) → x₁ ≡ setColumns w n r x₀ → x₂ ≡ rowLifted w (2 * n) x₁ → x₃ ≡ rowLifted w (2 * n + 3) x₂ → x₃ ≡ setWith w n r x₀

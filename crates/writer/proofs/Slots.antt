@@ -8,9 +8,10 @@ use native.Mathlib.Omega.{arith}
 use lib.IntN.{ℤ}
 use lib.Dec.{eqb}
 use borrow.Author.Tests.{eq-eqb, ne-eqb}
-use Rattle.numbers.specs.Signal.{pick, windowed, spliced}
+use Rattle.numbers.specs.Signal.{pick, windowed, spliced, stored}
 use Rattle.numbers.specs.Word.{wrap32}
 use Rattle.numbers.proofs.Parts.{window-in, splice-below, splice-in, splice-past}
+use Rattle.numbers.proofs.Stores.{stored-off}
 use Rattle.lifting.specs.Line.{lo, hi, count, predicted, updated, joined, lineForward}
 use Rattle.lifting.specs.Halves.{halvesOf, liftedInPlace}
 use Rattle.lifting.specs.Rows.{rowChanged}
@@ -20,8 +21,8 @@ use Rattle.lifting.proofs.LineTheorems.{low-mid, low-end, low-one, forward-read
 use Rattle.wavelet.specs.Bands.{Grid, LL, HL, LH, HH, across, down, columnsLifted, subband}
 use Rattle.wavelet.proofs.SizeLaws.{count-lo, count-hi}
 use Rattle.writer.specs.Level.{Memory}
-use Rattle.writer.specs.FiveThreeLevel.{slot, cellOf, rowPredicted, rowUpdated, first, rowCopied, rowLifted, before, setWith, lowAlone, bandPlace, fiveThree}
-use Rattle.writer.specs.Taking.{stored}
+use Rattle.writer.specs.FiveThreeLevel.{slot, cellOf, rowPredicted, rowUpdated, rowCopied, rowLifted, before, setWith, lowAlone, bandPlace, fiveThree}
+use Rattle.lifting.specs.Pairs.{first}
 use Rattle.writer.specs.Holds.{RowStands, SetStands}
 use Rattle.writer.proofs.CountLaws.{slot-room}
 
@@ -122,19 +123,11 @@ module _ (w t : ℕ) (y x : Memory) where
 
 -- ---- one number
 module _ (w m c : ℕ) (v : ℤ) (x : Memory) where
-  pub stored-at : (a : ℕ) → stored a v x a ≡ v
-  unfolding stored
-  stored-at a = simp (eq-eqb a a refl)
-
-  pub stored-other : (a j : ℕ) → (j ≡ a → ⊥) → stored a v x j ≡ x j
-  unfolding stored
-  stored-other a j h = simp (ne-eqb j a h)
-
   pub stored-only : c < w → Only w m x (stored (cellOf w m c) v x)
   stored-only h =
       let k = cell-spot w m c in
       let s = spot-in w c h in
-      record { below = λ j p. stored-other _ j (λ e. omega arith); past = λ j p. stored-other _ j (λ e. omega arith) }
+      record { below = λ j p. stored-off _ j v x (λ e. omega arith); past = λ j p. stored-off _ j v x (λ e. omega arith) }
 
 -- ---- a row lifted along the row
 joined-spot : (w : ℕ) (z : ℕ → ℤ) (i : ℕ) → joined (halvesOf w z) i ≡ z (spot w i)

@@ -4,7 +4,7 @@ use mathlib.Core.Bool.{Bool, true, false}
 use mathlib.Core.Path.{_≡_, refl, sym, ap, subst, subst₂}
 use Prim.Native.Nat.{ℕ, zero, suc, _+_, _≤_, _<_}
 use native.Mathlib.Omega.{arith}
-use Rattle.numbers.specs.Signal.{pick}
+use Rattle.numbers.specs.Signal.{pick, stored}
 use Rattle.wavelet.specs.Bands.{Grid}
 use Rattle.wavelet.specs.Order.{madeBy}
 use Rattle.wavelet.proofs.StoreLaws.{store-none}
@@ -16,7 +16,6 @@ use Rattle.writer.specs.Counts.{startOf}
 use Rattle.writer.specs.Machine.{Out, arrive}
 use Rattle.writer.specs.Draws.{pull}
 use Rattle.writer.specs.Closing.{Shut, shut}
-use Rattle.writer.specs.Taking.{stored}
 use Rattle.writer.specs.Calls.{fresh, resumed}
 use Rattle.writer.specs.Holds.{Kept, LevelsHold, Holds}
 use Rattle.writer.proofs.LevelLaws.{five-three-laws}

@@ -6,7 +6,7 @@ use Prim.Native.Nat.{ℕ, zero, suc, _+_}
 use lib.IntN.{pos}
 use lib.ListN.{length}
 use lib.Dec.{leb, ltb, eqb}
-use Rattle.numbers.specs.Signal.{pick, both}
+use Rattle.numbers.specs.Signal.{pick, both, stored}
 use Rattle.lifting.specs.Halves.{fronted}
 use Rattle.wavelet.specs.Limits.{maxWidth, maxHeight, maxLevels}
 use Rattle.wavelet.specs.Questions.{ask, within}
@@ -17,7 +17,6 @@ use Rattle.writer.specs.FiveThreeLevel.{fiveThree, cellOf}
 use Rattle.writer.specs.Machine.{Out, rest, arrive}
 use Rattle.writer.specs.Draws.{Waiting, waiting, pull}
 use Rattle.writer.specs.Closing.{Shut, shut}
-use Rattle.writer.specs.Taking.{stored}
 use Rattle.writer.specs.Questions.{either}
 use Rattle.writer.specs.Answers.{unless, changedUnless}
 use Rattle.writer.specs.Calls.{setUpStore, bandRow}

@@ -10,6 +10,7 @@ use Rattle.numbers.specs.Word.{wrap32}
 use Rattle.lifting.specs.Line.{lo, count, predicted, updated}
 use Rattle.lifting.specs.Halves.{partedInto, liftedInPlace}
 use Rattle.lifting.specs.Rows.{rowChanged}
+use Rattle.lifting.specs.Pairs.{first}
 use Rattle.wavelet.specs.Bands.{Band, LL, HL, LH, HH}
 use Rattle.writer.specs.Level.{Memory, LevelKind}
 use Rattle.writer.specs.Counts.{prev}
@@ -32,10 +33,7 @@ rowPredicted w t l r = rowChanged (predicted wrap32) w w (t % 4) (l % 4) (r % 4)
 unfoldable pub rowUpdated : ℕ → ℕ → ℕ → ℕ → Memory → Memory
 rowUpdated w t l r = rowChanged (updated wrap32) w w (t % 4) (l % 4) (r % 4)
 
--- row a copied to the slot of row b: each number becomes that of row a
-abbrev pub first : ℤ → ℤ → ℤ → ℤ
-first v a b = a
-
+-- row a copied to the slot of row b
 unfoldable pub rowCopied : ℕ → ℕ → ℕ → Memory → Memory
 rowCopied w a b = rowChanged first w w (b % 4) (a % 4) (a % 4)
 

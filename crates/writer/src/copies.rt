@@ -7,7 +7,7 @@ ghost use Rattle.numbers.specs.Signal.{at};
 ghost use Rattle.lifting.specs.Halves.{fronted};
 ghost use Rattle.lifting.specs.Rows.{rowChanged};
 ghost use Rattle.writer.specs.Columns.{separated};
-ghost use Rattle.writer.specs.FiveThreeLevel.{first};
+ghost use Rattle.lifting.specs.Pairs.{first};
 
 // `count` pairs of numbers from `from` on: the first of each to the places from `evens` on, the second to those from `odds` on, past what is read. One loop stores both: the compiler then reads whole vectors.
 pub fn separate(store: &mut [i32], from: usize, evens: usize, odds: usize, count: usize)

@@ -8,7 +8,7 @@ use Rattle.lifting.specs.Line.{lo, count}
 use Rattle.wavelet.proofs.SizeLaws.{count-lo}
 use Rattle.writer.specs.FiveThreeLevel.{slot}
 use Rattle.writer.proofs.CountLaws.{slot-room}
-use Rattle.writer.proofs.FillLaws.{at-stored}
+use Rattle.numbers.proofs.Stores.{at-stored}
 use Rattle.writer.proofs.DeliverLaws.{delivered-even, delivered-odd}
 use Rattle.writer.proofs.cascade.deliver.Statement.{statement}
 use Rattle.writer.proofs.cascade.deliver.Tie as tie

@@ -3,7 +3,7 @@ use Prim.Native.Nat.{_-_}
 use native.Mathlib.Omega.{arith}
 use Rattle.numbers.proofs.Words.{read-back}
 use Rattle.lifting.proofs.RowSweep.{Turned, row-start, row-turn, row-end}
-use Rattle.writer.specs.FiveThreeLevel.{first}
+use Rattle.lifting.specs.Pairs.{first}
 use Rattle.writer.proofs.copies.copy_row.Statement.{statement}
 use Rattle.writer.proofs.copies.copy_row.Tie as tie
 

@@ -1,9 +1,9 @@
--- `sets::make_columns` meets its contract: in one pass, or call by call for the first set. Assumes nothing.
+-- `sets::make_columns` meets its contract: the definition's steps in one pass. Assumes nothing.
 use Prim.Native.Nat.{_+_, _*_, _%_}
 use native.Mathlib.Omega.{arith}
 use lib.ListN.{length}
 use Rattle.writer.proofs.CountLaws.{slot-index, row-room}
-use Rattle.writer.proofs.SetLaws.{columns-first, columns-later, column-rows}
+use Rattle.writer.proofs.SetLaws.{columns-first, columns-later}
 use borrow.Author.Needs.{needs}
 use Rattle.writer.proofs.sets.make_columns.Statement.{statement}
 use Rattle.writer.proofs.sets.make_columns.Tie as tie
@@ -23,36 +23,33 @@ mul-free c = search needs
 add-free : tie.Need-add-free
 add-free c = search needs
 
-lift-columns-requires : tie.Need-lift-columns-requires
-lift-columns-requires c κs = let a = c .before .before .args in column-rows (a .w) (a .n) (a .r) _ (omega arith) (omega arith)
+lift-and-copy-requires : tie.Need-lift-and-copy-requires
+lift-and-copy-requires c κs = tt
 
-predict-row-requires : tie.Need-predict-row-requires
-predict-row-requires c κs = search needs
-
-update-row-requires : tie.Need-update-row-requires
-update-row-requires c κs = search needs
+lift-pair-requires : tie.Need-lift-pair-requires
+lift-pair-requires c κs = tt
 
 copy-row-requires : tie.Need-copy-row-requires
 copy-row-requires c κs =
-    let a = c .before .before .before .before .before .before .before .before .args in
+    let a = c .before .before .before .before .before .args in
     (omega (arith, row-room (a .w) ((2 * a .n + 3) % 4) (slot-index _)), omega (arith, row-room (a .w) ((2 * a .n + 1) % 4) (slot-index _)))
 
 same-length : tie.Need-same-length
 same-length c = search needs
 
 returns : tie.Need-returns
-returns c = let a = c .before .before .before .before .args in columns-later (a .w) (a .n) (a .r) _ _ (omega arith) (c .before .lift-columns .ensures)
+returns c =
+    let a = c .before .before .before .before .args in
+    columns-later (a .w) (a .n) (a .r) (length (a .store .now)) _ _ (omega arith) (omega arith) (c .before .lift-and-copy .ensures .1)
 
 same-length-2 : tie.Need-same-length-2
 same-length-2 c = search needs
 
 returns-2 : tie.Need-returns-2
 returns-2 c =
-    let updated = c .before .before .before .before in
-    let predicted = updated .before .before .before in
-    let a = predicted .before .before .before .args in
-    columns-first (a .w) (a .n) (a .r) (length (a .store .now)) (length (predicted .predict-row .last .0)) _ _ _ _
-    (omega arith) (omega arith) (omega arith) (predicted .predict-row .ensures .1) (updated .update-row .ensures .1) (c .before .copy-row .ensures)
+    let lifted = c .before .before .before .before in
+    let a = lifted .before .before .before .args in
+    columns-first (a .w) (a .n) (a .r) (length (a .store .now)) _ _ _ (omega arith) (omega arith) (lifted .lift-pair .ensures .1) (c .before .copy-row .ensures)
 
 pub make-columns-spec : {M : Type 1} → statement M
 make-columns-spec =
@@ -63,9 +60,8 @@ make-columns-spec =
     add-high
     mul-free
     add-free
-    lift-columns-requires
-    predict-row-requires
-    update-row-requires
+    lift-and-copy-requires
+    lift-pair-requires
     copy-row-requires
     same-length
     returns
