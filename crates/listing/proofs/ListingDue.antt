@@ -6,7 +6,7 @@ use Prim.Native.Nat.{ℕ, zero, suc, _+_, _*_, _≤_, _<_}
 use native.Mathlib.Omega.{arith}
 use lib.ListN.{length}
 use Rattle.wavelet.specs.Store.{storeLength}
-use Rattle.writer.specs.Level.{Memory}
+use Rattle.level.specs.Level.{Memory}
 use Rattle.writer.specs.History.{DrawnRow, events, freshWorld, finishedBy, drawn}
 use Rattle.writer.specs.Demand3.{All}
 use Rattle.writer.specs.declared.Writer.{Writer}

@@ -5,7 +5,7 @@ use mathlib.Core.List.{List, [], _∷_, _++_, append-assoc, append-nil}
 use Prim.Native.Nat.{ℕ, _+_, _-_, _≤_}
 use native.Mathlib.Omega.{arith}
 use Rattle.wavelet.specs.Store.{storeLength}
-use Rattle.writer.specs.Level.{Memory}
+use Rattle.level.specs.Level.{Memory}
 use Rattle.writer.specs.Demand3.{All, all-none, all-more}
 use Rattle.listing.specs.Hearing.{silent}
 use Rattle.listing.specs.Scenes.{Scene, scene, started}

@@ -16,7 +16,7 @@ use borrow.Author.Tests.{lt-ltb}
 use Rattle.numbers.specs.Signal.{pick}
 use Rattle.wavelet.specs.Store.{storeLength}
 use Rattle.pgm.specs.Steps.{joined}
-use Rattle.writer.specs.Level.{Memory}
+use Rattle.level.specs.Level.{Memory}
 use Rattle.writer.specs.Demand3.{All, all-none}
 use Rattle.listing.specs.Listing.{maxListedWidth, listingOf, dueOf}
 use Rattle.listing.specs.Scenes.{Scene, scene, started, endScene}

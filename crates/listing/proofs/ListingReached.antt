@@ -8,7 +8,7 @@ use lib.ListN.{length, take}
 use Rattle.numbers.specs.Signal.{pick}
 use Rattle.wavelet.specs.Limits.{maxHeight}
 use Rattle.wavelet.specs.Store.{storeLength}
-use Rattle.writer.specs.Level.{Memory}
+use Rattle.level.specs.Level.{Memory}
 use Rattle.writer.specs.Questions.{setUpQuestion}
 use Rattle.writer.specs.Answers.{Reply, Handed}
 use Rattle.writer.specs.Calls.{drawReply, drawStore, drawArea}

@@ -14,8 +14,8 @@ use Rattle.wavelet.specs.Limits.{maxHeight}
 use Rattle.wavelet.specs.Questions.{ask}
 use Rattle.pgm.specs.Samples.{sampleSize, heightsOf}
 use Rattle.pgm.proofs.RunReads.{heights-first, bytes-room, bytes-more}
-use Rattle.writer.specs.Level.{Memory}
-use Rattle.writer.specs.FiveThreeLevel.{fiveThree}
+use Rattle.level.specs.Level.{Memory}
+use Rattle.level.specs.FiveThreeLevel.{fiveThree}
 use Rattle.writer.specs.Taking.{Taking, oneMore, takes, begun, complete, heightPut, rowMakes, offering}
 use Rattle.writer.specs.Questions.{inRanges, longEnough, offerQuestion}
 use Rattle.writer.specs.Answers.{gives, refused, unless, changedUnless, Took}

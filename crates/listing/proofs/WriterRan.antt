@@ -13,7 +13,7 @@ use Rattle.wavelet.specs.Levels.{size}
 use Rattle.wavelet.specs.View.{bandColumns}
 use Rattle.wavelet.specs.Order.{RowName, made, inTurn}
 use Rattle.wavelet.proofs.SizeLaws.{count-le, size-le}
-use Rattle.writer.specs.Level.{Memory}
+use Rattle.level.specs.Level.{Memory}
 use Rattle.writer.specs.Questions.{either, setUpQuestion}
 use Rattle.writer.specs.Answers.{Reply, gives, refused, Handed, aRow, nothing}
 use Rattle.writer.specs.Calls.{fresh, setUpStore, drawReply, drawStore, drawArea}

@@ -6,7 +6,7 @@ use mathlib.Core.List.{List, [], _∷_, _++_}
 use Prim.Native.Nat.{ℕ, _+_, _-_, _*_, _≤_, _<_}
 use lib.ListN.{length, take, drop}
 use Rattle.pgm.specs.Samples.{sampleSize, heightsOf}
-use Rattle.writer.specs.Level.{Memory}
+use Rattle.level.specs.Level.{Memory}
 use Rattle.writer.specs.Answers.{gives, Took}
 use Rattle.writer.specs.Calls.{offerReply, offerStore}
 use Rattle.listing.specs.Hearing.{heightsCame}

@@ -15,7 +15,7 @@ use lib.ListN.{take, drop}
 use borrow.Author.Tests.{ltb-true, eqb-true, lt-ltb, le-ltb}
 use Rattle.numbers.specs.Signal.{pick, both}
 use Rattle.wavelet.specs.Store.{storeLength}
-use Rattle.writer.specs.Level.{Memory}
+use Rattle.level.specs.Level.{Memory}
 use Rattle.writer.specs.Demand3.{All, all-none, all-more}
 use Rattle.descriptors.specs.Left.{leftIn}
 use Rattle.descriptors.specs.declared.input.Left.{Left}

@@ -10,8 +10,8 @@ use lib.Seq.{drop-cons, drop-length}
 use borrow.Author.Tests.{eqb-true, leb-true}
 use Rattle.numbers.specs.Signal.{pick}
 use Rattle.numbers.proofs.Sweep as sweep
+use Rattle.level.specs.Level.{Memory}
 use Rattle.writer.specs.declared.Writer.{Writer}
-use Rattle.writer.specs.Level.{Memory}
 use Rattle.writer.specs.declared.BandRow.{BandRow}
 use Rattle.writer.specs.Answers.{Reply, gives, refused, Took, aRow}
 use Rattle.writer.specs.Calls.{waits, afterDraw}

@@ -2,9 +2,9 @@
 use mathlib.Core.Path.{_≡_, refl, ap, ap₂, _∙_}
 use mathlib.Core.List.{List, [], _∷_}
 use Prim.Native.Nat.{ℕ}
+use Rattle.level.specs.Level.{Memory}
 use Rattle.writer.specs.declared.Writer.{Writer}
 use Rattle.writer.specs.Answers.{Reply, gives, refused, Took, Handed, aRow, nothing}
-use Rattle.writer.specs.Level.{Memory}
 use Rattle.writer.specs.Calls.{offerReply, offerStore, drawReply, drawStore, drawArea, finishReply, finishStore}
 use Rattle.writer.specs.Holds.{left, after}
 use Rattle.writer.specs.History.{Area, Call, World, event, next, events}

@@ -1,8 +1,8 @@
 -- Lists of C calls on a writer, and what is seen of them in C: the number that each answers, its out-parameter and its area. Each call is made on the state array and the line store that the one before left.
 use mathlib.Core.List.{List, [], _∷_, map as each}
 use Prim.Native.Nat.{ℕ}
+use Rattle.level.specs.Level.{Memory}
 use Rattle.writer.specs.Answers.{gives, refused}
-use Rattle.writer.specs.Level.{Memory}
 use Rattle.writer.specs.History.{Area, Call, Event, World, row, none}
 use Rattle.writer.specs.History as rattle
 use Rattle.terrain.specs.WriterState.{writerWords}

@@ -8,8 +8,7 @@ use mathlib.Core.Bool.{Bool, true, false}
 use mathlib.Core.Path.{_≡_, refl, sym, ap, ap₂, subst, _∙_}
 use mathlib.Core.List.{List, [], _∷_, _++_, map, append-nil, append-assoc}
 use Prim.Native.Nat.{ℕ, zero, suc, _+_, _-_, _*_, _/_, _%_, _≤_, _<_}
-use native.Mathlib.Nat.{mul-comm, mul-le-mul-right, mul-add-div-right, div-eq-of-lt, mul-add-mod-self-right, mod-eq-of-lt, mul-div-cancel}
-use native.Mathlib.Nat.{mul-div-cancel-left, suc-mul, mul-suc}
+use native.Mathlib.Nat.{mul-comm, mul-le-mul-right, mul-add-div-right, div-eq-of-lt, mul-add-mod-self-right, mod-eq-of-lt, mul-div-cancel, mul-div-cancel-left, suc-mul, mul-suc}
 use native.Mathlib.Decide.{decLt}
 use native.Mathlib.Omega.{arith}
 use lib.IntN.{ℤ, pos}
@@ -28,24 +27,22 @@ use Rattle.wavelet.specs.View.{bandColumns}
 use Rattle.wavelet.specs.Questions.{within}
 use Rattle.wavelet.specs.Order.{RowName, rowName, madeBy, closing, inTurn, made}
 use Rattle.wavelet.proofs.OrderLaws.{turn-suc}
-use Rattle.writer.specs.Level.{Memory, LevelKind}
-use Rattle.writer.specs.Counts.{mostLeft}
-use Rattle.writer.specs.FiveThreeLevel.{cellOf, fiveThree}
+use Rattle.level.specs.Level.{Memory, LevelKind}
+use Rattle.level.specs.FiveThreeLevel.{cellOf, fiveThree, Kept}
+use Rattle.level.proofs.LevelLaws.{five-three-laws}
+use Rattle.writer.specs.Counts.{mostLeft, startOf}
 use Rattle.writer.specs.Machine.{Out, arrive}
 use Rattle.writer.specs.Draws.{Waiting, waiting, pull}
 use Rattle.writer.specs.Closing.{Shut, shut}
 use Rattle.writer.specs.Taking.{Taking, takes, offering}
-use Rattle.writer.specs.Counts.{startOf}
 use Rattle.writer.specs.Questions.{inRanges}
 use Rattle.writer.specs.Calls.{resumed, bandRow}
-use Rattle.writer.specs.Holds.{Kept, Holds}
+use Rattle.writer.specs.Holds.{Holds}
 use Rattle.writer.specs.History.{DrawnRow}
 use Rattle.writer.specs.Demand3.{answered, All, all-none, all-more, isNone}
-use Rattle.writer.proofs.LevelLaws.{five-three-laws}
 use Rattle.writer.proofs.Waiting.{pend, later, pend-none, later-all, later-none}
 use Rattle.writer.proofs.CascadeHolds.{Good, Pulled, level-le, closed-le}
-use Rattle.writer.proofs.StateHolds.{differ, st, fresh-holds, pulled-by, shut-on, draw-holds, shut-first, finish-holds, begun-holds}
-use Rattle.writer.proofs.StateHolds.{arrived-by, complete-holds}
+use Rattle.writer.proofs.StateHolds.{differ, st, fresh-holds, pulled-by, shut-on, draw-holds, shut-first, finish-holds, begun-holds, arrived-by, complete-holds}
 
 -- ---- lists
 module _ {A : Type 0} {P : A → Type 0} where

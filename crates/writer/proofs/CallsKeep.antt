@@ -19,17 +19,16 @@ use Rattle.wavelet.specs.Limits.{maxWidth, maxHeight, maxLevels}
 use Rattle.wavelet.specs.Bands.{Grid}
 use Rattle.wavelet.specs.Levels.{levelBand}
 use Rattle.wavelet.specs.Questions.{ask, within}
+use Rattle.level.specs.Level.{Memory, rest}
+use Rattle.level.specs.FiveThreeLevel.{cellOf, fiveThree}
 use Rattle.writer.specs.declared.Writer.{Writer}
 use Rattle.writer.specs.declared.BandRow.{BandRow}
-use Rattle.writer.specs.Level.{Memory}
-use Rattle.writer.specs.FiveThreeLevel.{cellOf, fiveThree}
-use Rattle.writer.specs.Machine.{Out, rest, arrive}
+use Rattle.writer.specs.Machine.{Out, arrive}
 use Rattle.writer.specs.Draws.{Waiting}
 use Rattle.writer.specs.Taking.{Taking, takes, offering}
 use Rattle.writer.specs.Questions.{setUpQuestion, either, inRanges, longEnough, waitingRow, offerQuestion, drawQuestion, finishQuestion}
 use Rattle.writer.specs.Answers.{Reply, gives, refused, unless, changedUnless, Took, Handed, aRow}
-use Rattle.writer.specs.Calls.{fresh, setUpReply, took, offerReply, offerStore, waits, closing, finishReply, finishStore, bandRow, handed}
-use Rattle.writer.specs.Calls.{handedStore, handedArea, drawReply, drawStore, drawArea}
+use Rattle.writer.specs.Calls.{fresh, setUpReply, took, offerReply, offerStore, waits, closing, finishReply, finishStore, bandRow, handed, handedStore, handedArea, drawReply, drawStore, drawArea}
 use Rattle.writer.specs.Holds.{Holds, Keeps, AnyMap, AllRows, GoesOn, MapRow, left, after, tookOf, DrawKeeps, FinishKeeps, OfferKeeps, SetUpHolds}
 use Rattle.writer.proofs.CountLaws.{code-one}
 use Rattle.writer.proofs.StateHolds.{st, placed-st, fresh-st, fresh-holds, pulled-by, draw-holds, finish-holds, begun-holds, complete-holds}

@@ -25,8 +25,7 @@ use Rattle.wavelet.specs.Order.{RowName, madeBy, closing, inTurn, made, times}
 use Rattle.wavelet.proofs.OrderLaws.{turn-prefix}
 use Rattle.wavelet.proofs.OrderOnce.{made-once}
 use Rattle.wavelet.proofs.Bridge.{map-band}
-use Rattle.writer.specs.Level.{Memory}
-use Rattle.writer.specs.Machine.{rest}
+use Rattle.level.specs.Level.{Memory, rest}
 use Rattle.writer.specs.Questions.{inRanges, setUpQuestion}
 use Rattle.writer.specs.History.{Call, row, Event, World, event, events, final, freshWorld, taken, finishes, finishedBy, DrawnRow, drawn}
 use Rattle.writer.specs.Demand3.{wholeRows, madeOf, waitingOf, answered, Begins, MapOf, HasValues, All, all-more, PlaneDrawn, Demand3}

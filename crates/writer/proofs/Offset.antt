@@ -10,17 +10,16 @@ use lib.Dec.{ltb, eqb}
 use borrow.Author.Tests.{eq-eqb}
 use Rattle.numbers.specs.Signal.{pick, both}
 use Rattle.wavelet.specs.Limits.{maxHeight}
+use Rattle.level.specs.Level.{Memory}
+use Rattle.level.specs.FiveThreeLevel.{fiveThree}
 use Rattle.writer.specs.declared.Writer.{Writer}
-use Rattle.writer.specs.Level.{Memory}
 use Rattle.writer.specs.Counts.{startOf}
-use Rattle.writer.specs.FiveThreeLevel.{fiveThree}
 use Rattle.writer.specs.Machine.{Out}
 use Rattle.writer.specs.Taking.{Taking, takes, offering}
 use Rattle.writer.specs.Questions.{inRanges, longEnough, setUpQuestion, offerQuestion, drawQuestion, finishQuestion}
 use Rattle.writer.specs.Answers.{gives, unless, changedUnless}
 use Rattle.writer.specs.Holds.{left, after}
-use Rattle.writer.specs.Calls.{setUpStore, took, waits, closing, resumed, handed, handedStore, handedArea, offerReply, offerStore, drawReply}
-use Rattle.writer.specs.Calls.{drawStore, drawArea, finishReply, finishStore}
+use Rattle.writer.specs.Calls.{setUpStore, took, waits, closing, resumed, handed, handedStore, handedArea, offerReply, offerStore, drawReply, drawStore, drawArea, finishReply, finishStore}
 use Rattle.writer.specs.History.{Area, Call, offer, draw, finish, offered, drew, finished, World, seen, given, event, next, events, final, freshWorld}
 use Rattle.writer.specs.Before as before
 use Rattle.writer.specs.Before.{Before}

@@ -18,24 +18,21 @@ use Rattle.wavelet.specs.View.{bandColumns}
 use Rattle.wavelet.specs.Questions.{ask, within}
 use Rattle.wavelet.specs.Store.{storeLength}
 use Rattle.wavelet.specs.Order.{RowName, made}
+use Rattle.level.specs.Level.{Memory, rest}
+use Rattle.level.specs.FiveThreeLevel.{fiveThree}
 use Rattle.writer.specs.declared.Writer.{Writer}
-use Rattle.writer.specs.Level.{Memory}
-use Rattle.writer.specs.FiveThreeLevel.{fiveThree}
-use Rattle.writer.specs.Machine.{Out, rest}
+use Rattle.writer.specs.Machine.{Out}
 use Rattle.writer.specs.Draws.{Waiting, waiting, pull}
 use Rattle.writer.specs.Closing.{Shut, shut}
 use Rattle.writer.specs.Taking.{Taking, takes, offering}
 use Rattle.writer.specs.Questions.{either, inRanges, longEnough, offerQuestion, drawQuestion, finishQuestion}
 use Rattle.writer.specs.Answers.{Reply, gives, refused, unless}
-use Rattle.writer.specs.Calls.{fresh, offerReply, offerStore, waits, closing as closingOf, finishReply, finishStore, resumed, bandRow}
-use Rattle.writer.specs.Calls.{drawReply, drawStore, drawArea}
+use Rattle.writer.specs.Calls.{fresh, offerReply, offerStore, waits, closing as closingOf, finishReply, finishStore, resumed, bandRow, drawReply, drawStore, drawArea}
 use Rattle.writer.specs.Holds.{left}
-use Rattle.writer.specs.History.{Area, Call, offer, draw, finish, row, none, Event, offered, drew, finished, World, seen, event, next, events}
-use Rattle.writer.specs.History.{final, takenBy, taken, finishes, finishedBy, drawnBy, drawn}
+use Rattle.writer.specs.History.{Area, Call, offer, draw, finish, row, none, Event, offered, drew, finished, World, seen, event, next, events, final, takenBy, taken, finishes, finishedBy, drawnBy, drawn}
 use Rattle.writer.specs.Demand3.{wholeRows, madeOf, waitingOf, answered, isNone, drawSays, written, DrawSeen, takesOn, offerTurned, Takes, finishTurned}
 use Rattle.writer.proofs.StateHolds.{st, fresh-st}
-use Rattle.writer.proofs.CallList.{coming, At, whole-rows, begun-row, in-ranges, waiting-is, none-waits, none-eqb, Offered, offering-good}
-use Rattle.writer.proofs.CallList.{head-is, draw-good, finish-good, fresh-at}
+use Rattle.writer.proofs.CallList.{coming, At, whole-rows, begun-row, in-ranges, waiting-is, none-waits, none-eqb, Offered, offering-good, head-is, draw-good, finish-good, fresh-at}
 
 -- ---- histories
 pub taken-snoc : (es : List Event) (e : Event) → taken (es ++ e ∷ []) ≡ taken es ++ takenBy e

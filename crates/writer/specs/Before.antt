@@ -11,10 +11,10 @@ use Rattle.lifting.specs.Halves.{fronted}
 use Rattle.wavelet.specs.Limits.{maxWidth, maxHeight, maxLevels}
 use Rattle.wavelet.specs.Questions.{ask, within}
 use Rattle.wavelet.specs.Store.{storeLength}
-use Rattle.writer.specs.Level.{Memory}
+use Rattle.level.specs.Level.{Memory, rest}
+use Rattle.level.specs.FiveThreeLevel.{fiveThree, cellOf}
 use Rattle.writer.specs.Counts.{mostLeft}
-use Rattle.writer.specs.FiveThreeLevel.{fiveThree, cellOf}
-use Rattle.writer.specs.Machine.{Out, rest, arrive}
+use Rattle.writer.specs.Machine.{Out, arrive}
 use Rattle.writer.specs.Draws.{Waiting, waiting, pull}
 use Rattle.writer.specs.Closing.{Shut, shut}
 use Rattle.writer.specs.Questions.{either}

@@ -4,9 +4,9 @@ use mathlib.Core.List.{List, [], _∷_, _++_}
 use Prim.Native.Nat.{ℕ}
 use lib.IntN.{ℤ}
 use lib.ListN.{take}
+use Rattle.level.specs.Level.{Memory}
 use Rattle.writer.specs.declared.Writer.{Writer}
 use Rattle.writer.specs.declared.BandRow.{BandRow}
-use Rattle.writer.specs.Level.{Memory}
 use Rattle.writer.specs.Questions.{either}
 use Rattle.writer.specs.Answers.{Reply, gives, refused, Handed, aRow, nothing}
 use Rattle.writer.specs.Holds.{left, after}

@@ -7,8 +7,8 @@ use lib.Dec.{ltb, eqb}
 use lib.ListN.{getD}
 use Rattle.numbers.specs.Signal.{pick, both, stored}
 use Rattle.wavelet.specs.Limits.{maxHeight}
+use Rattle.level.specs.Level.{Memory, LevelKind}
 use Rattle.writer.specs.declared.Writer.{Writer}
-use Rattle.writer.specs.Level.{Memory, LevelKind}
 use Rattle.writer.specs.Counts.{startOf}
 use Rattle.writer.specs.Machine.{Out, arrive}
 

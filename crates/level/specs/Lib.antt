@@ -1,0 +1,5 @@
+-- What a level is to the streams above it, and the 5/3 level.
+pub mod Level
+pub mod FiveThreeLevel
+-- What the calls ask and leave.
+pub mod Making
