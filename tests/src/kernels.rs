@@ -1,4 +1,4 @@
-//! Crate `kernels`: the in-place line calls and the row calls, which the C interface leaves out. Nothing checks a declaration here against
+//! Crate `kernels`: the in-place line calls, the row calls and the pair calls, which the C interface leaves out. Nothing checks a declaration here against
 //! the Rattle source, so each stands beside its wrapper and is driven by a test.
 extern "C" {
     fn kernel_lift(line: *mut i32, line_len: usize);
@@ -42,4 +42,34 @@ row_calls!(
     update_row => kernel_update_row,
     unupdate_row => kernel_unupdate_row,
     unpredict_row => kernel_unpredict_row
+);
+
+/// The rows of a pair: the high and the low one, the low one after them and the high one before.
+#[derive(Clone, Copy, Debug)]
+pub struct Pair {
+    pub stride: usize,
+    pub width: usize,
+    pub high: usize,
+    pub low: usize,
+    pub right: usize,
+    pub before: usize,
+}
+
+macro_rules! pair_calls {
+    ($($name:ident => $symbol:ident),+) => {
+        extern "C" {
+            $(fn $symbol(
+                area: *mut i32, area_len: usize, stride: usize, width: usize, high: usize, low: usize, right: usize, before: usize,
+            ) -> u32;)+
+        }
+        $(pub fn $name(area: &mut [i32], p: Pair) -> u32 {
+            // SAFETY: the area is a whole slice.
+            unsafe { $symbol(area.as_mut_ptr(), area.len(), p.stride, p.width, p.high, p.low, p.right, p.before) }
+        })+
+    };
+}
+
+pair_calls!(
+    lift_pair => kernel_lift_pair,
+    lift_and_copy => kernel_lift_and_copy
 );

@@ -1,3 +1,12 @@
+-- The way forward.
+pub mod Places
+pub mod Slots
+pub mod LevelLaws
+pub mod SetLaws
+pub mod RestLaws
+pub mod PairLaws
+pub mod DeliverLaws
+-- The way back.
 pub mod OpenedSets
 pub mod SlotLaws
 pub mod AdmitLaws

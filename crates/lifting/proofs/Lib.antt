@@ -9,3 +9,4 @@ pub mod PassLaws
 pub mod AreaLaws
 pub mod LiftLaws
 pub mod ThereAndBack
+pub mod ColumnLaws

@@ -6,6 +6,7 @@ ghost use lib.ListN.{length, set};
 ghost use Rattle.numbers.specs.Signal.{at};
 ghost use Rattle.numbers.specs.Word.{wrap32};
 ghost use Rattle.lifting.specs.Line.{predicted, unpredicted, updated, unupdated};
+ghost use Rattle.lifting.specs.Pairs.{first, changedAt, liftedAt};
 
 pub fn predict_at(area: &mut [i32], p: usize, a: usize, b: usize)
     requires { ⌜ (p < length (now area)) × (a < length (now area)) × (b < length (now area)) ⌝ }
@@ -33,4 +34,26 @@ pub fn unpredict_at(area: &mut [i32], p: usize, a: usize, b: usize)
     ensures { λ _. ⌜ now (area .exit) ≡ set (now (area .entry)) p (unpredicted wrap32 (at (now (area .entry)) p) (at (now (area .entry)) a) (at (now (area .entry)) b)) ⌝ }
 {
     area[p] = sample::unpredict(area[p], area[a], area[b]);
+}
+
+// A high number predicted by two low ones, the first of these updated by another high number and this one, which is answered: so a loop has it at hand.
+pub fn lift_at(area: &mut [i32], h: usize, l: usize, r: usize, b: usize) -> i32
+    requires { ⌜ (h < length (now area)) × (l < length (now area)) × (r < length (now area)) × (b < length (now area)) × (l ≡ h → ⊥) ⌝ }
+    ensures { λ d. ⌜ d ≡ at (now (area .exit)) h ⌝ }
+    ensures { λ d. ⌜ at (now (area .exit)) ≡ liftedAt h l r b (at (now (area .entry))) ⌝ }
+{
+    let x = area[l];
+    let d = sample::predict(area[h], x, area[r]);
+    area[h] = d;
+    area[l] = sample::update(x, area[b], d);
+    d
+}
+
+// The same, and the high number takes the place of the other.
+pub fn lift_copy_at(area: &mut [i32], h: usize, l: usize, r: usize, b: usize)
+    requires { ⌜ (h < length (now area)) × (l < length (now area)) × (r < length (now area)) × (b < length (now area)) × (l ≡ h → ⊥) ⌝ }
+    ensures { λ _. ⌜ at (now (area .exit)) ≡ changedAt first b h h (liftedAt h l r b (at (now (area .entry)))) ⌝ }
+{
+    let d = lift_at(area, h, l, r, b);
+    area[b] = d;
 }

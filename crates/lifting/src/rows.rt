@@ -11,7 +11,7 @@ ghost use Rattle.lifting.specs.Line.{predicted, unpredicted, updated, un
 ghost use Rattle.lifting.specs.Rows.{rowFits, rowsFit, rowsChanged};
 
 // Whether row `row` lies within n numbers: by division, so that no product can overflow.
-fn row_fits(n: usize, stride: usize, width: usize, row: usize) -> bool
+pub fn row_fits(n: usize, stride: usize, width: usize, row: usize) -> bool
     ensures { λ r. ⌜ r ≡ rowFits n stride width row ⌝ }
 {
     if width > stride {
@@ -27,7 +27,14 @@ fn row_fits(n: usize, stride: usize, width: usize, row: usize) -> bool
 }
 
 // Whether three rows lie within n numbers.
-fn rows_fit(n: usize, stride: usize, width: usize, target: usize, left: usize, right: usize) -> bool
+pub fn rows_fit(
+    n: usize,
+    stride: usize,
+    width: usize,
+    target: usize,
+    left: usize,
+    right: usize,
+) -> bool
     ensures { λ r. ⌜ r ≡ rowsFit n stride width target left right ⌝ }
 {
     if row_fits(n, stride, width, target) {

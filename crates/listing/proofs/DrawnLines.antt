@@ -15,7 +15,7 @@ use Rattle.wavelet.specs.Maps.{IsMap}
 use Rattle.wavelet.specs.Order.{RowName}
 use Rattle.calls.specs.Lists.{All, all-more}
 use Rattle.calls.proofs.AllLaws.{all-at}
-use Rattle.writer.specs.Level.{Memory}
+use Rattle.level.specs.Level.{Memory}
 use Rattle.writer.specs.Questions.{setUpQuestion}
 use Rattle.writer.specs.declared.BandRow.{BandRow}
 use Rattle.writer.specs.History.{Call, Event, events, freshWorld, taken, finishedBy, DrawnRow, drawn}

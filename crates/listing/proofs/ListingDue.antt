@@ -7,7 +7,7 @@ use native.Mathlib.Omega.{arith}
 use lib.ListN.{length}
 use Rattle.wavelet.specs.Store.{storeLength}
 use Rattle.calls.specs.Lists.{All}
-use Rattle.writer.specs.Level.{Memory}
+use Rattle.level.specs.Level.{Memory}
 use Rattle.writer.specs.History.{DrawnRow, events, freshWorld, finishedBy, drawn}
 use Rattle.writer.specs.declared.Writer.{Writer}
 use Rattle.listing.specs.Lines.{sizeLine, answerLine}

@@ -6,7 +6,7 @@ use Prim.Native.Nat.{ℕ, _+_, _-_, _≤_}
 use native.Mathlib.Omega.{arith}
 use Rattle.wavelet.specs.Store.{storeLength}
 use Rattle.calls.specs.Lists.{All, all-none, all-more}
-use Rattle.writer.specs.Level.{Memory}
+use Rattle.level.specs.Level.{Memory}
 use Rattle.listing.specs.Hearing.{silent}
 use Rattle.listing.specs.Scenes.{Scene, scene, started}
 use Rattle.listing.specs.Moves.{Move, partly, wholly, hears, takes, Goes, stays, then}

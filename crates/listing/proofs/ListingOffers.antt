@@ -13,7 +13,7 @@ use Rattle.wavelet.specs.Limits.{maxHeight}
 use Rattle.wavelet.specs.Store.{storeLength}
 use Rattle.wavelet.specs.Questions.{within}
 use Rattle.calls.specs.Lists.{gives, all-none}
-use Rattle.writer.specs.Level.{Memory}
+use Rattle.level.specs.Level.{Memory}
 use Rattle.writer.specs.Questions.{setUpQuestion}
 use Rattle.writer.specs.Answers.{Took}
 use Rattle.writer.specs.Calls.{fresh, setUpReply, setUpStore, offerReply, offerStore}

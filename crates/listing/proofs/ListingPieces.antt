@@ -17,7 +17,7 @@ use Rattle.numbers.specs.Signal.{pick}
 use Rattle.wavelet.specs.Store.{storeLength}
 use Rattle.pgm.specs.Steps.{joined}
 use Rattle.calls.specs.Lists.{All, all-none}
-use Rattle.writer.specs.Level.{Memory}
+use Rattle.level.specs.Level.{Memory}
 use Rattle.listing.specs.Listing.{maxListedWidth, listingOf, dueOf}
 use Rattle.listing.specs.Scenes.{Scene, scene, started, endScene}
 use Rattle.listing.specs.Moves.{Idle, Goes, stays, Went, Stops, full, idle}

@@ -9,7 +9,7 @@ use Rattle.numbers.specs.Signal.{pick}
 use Rattle.wavelet.specs.Limits.{maxHeight}
 use Rattle.wavelet.specs.Store.{storeLength}
 use Rattle.calls.specs.Lists.{Reply, All}
-use Rattle.writer.specs.Level.{Memory}
+use Rattle.level.specs.Level.{Memory}
 use Rattle.writer.specs.Questions.{setUpQuestion}
 use Rattle.writer.specs.Answers.{Handed}
 use Rattle.writer.specs.Calls.{drawReply, drawStore, drawArea}

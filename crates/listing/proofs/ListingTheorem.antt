@@ -14,7 +14,7 @@ use lib.ListN.{take, drop}
 use lib.Seq.{take-at}
 use Rattle.wavelet.specs.Store.{storeLength}
 use Rattle.calls.specs.Lists.{All}
-use Rattle.writer.specs.Level.{Memory}
+use Rattle.level.specs.Level.{Memory}
 use Rattle.listing.specs.Listing.{maxListedWidth, listingOf, dueOf}
 use Rattle.listing.specs.Hearing.{silent, endHeard}
 use Rattle.listing.specs.Scenes.{Scene, scene, started, endScene}

@@ -12,8 +12,8 @@ use Rattle.numbers.specs.Signal.{pick}
 use Rattle.pgm.specs.Samples.{sampleSize, heightsOf}
 use Rattle.pgm.proofs.RunReads.{heights-first, bytes-room, bytes-more}
 use Rattle.calls.specs.Lists.{gives, refused, unless, changedUnless}
-use Rattle.writer.specs.Level.{Memory}
-use Rattle.writer.specs.FiveThreeLevel.{fiveThree}
+use Rattle.level.specs.Level.{Memory}
+use Rattle.level.specs.FiveThreeLevel.{fiveThree}
 use Rattle.writer.specs.Taking.{Taking, oneMore, takes, begun, complete, heightPut, rowMakes, offering}
 use Rattle.writer.specs.Questions.{offerQuestion}
 use Rattle.writer.specs.Answers.{Took}

@@ -5,8 +5,8 @@ use Prim.Native.Nat.{ℕ, _+_, _≤_, _<_}
 use native.Mathlib.Omega.{arith}
 use borrow.Author.Tests.{lt-ltb, le-ltb, eq-eqb, ne-eqb}
 use Rattle.calls.specs.Lists.{Reply, gives, refused}
-use Rattle.writer.specs.Level.{Memory}
 use Rattle.writer.specs.Answers.{Took, Handed}
+use Rattle.level.specs.Level.{Memory}
 use Rattle.writer.specs.Calls.{setUpReply, setUpStore, offerReply, offerStore, drawReply, drawStore, drawArea, finishReply, finishStore}
 use Rattle.writer.specs.declared.Writer.{Writer}
 use Rattle.listing.specs.Hearing.{hears, endHeard}

@@ -16,7 +16,7 @@ use Rattle.wavelet.proofs.SizeLaws.{count-le, size-le}
 use Rattle.calls.specs.Lists.{Reply, gives, refused, seen, Area}
 use Rattle.calls.specs.Lists as lists
 use Rattle.calls.proofs.ListLaws.{either-no, gathered-snoc, ever-snoc, events-snoc, final-snoc}
-use Rattle.writer.specs.Level.{Memory}
+use Rattle.level.specs.Level.{Memory}
 use Rattle.writer.specs.Questions.{either, setUpQuestion}
 use Rattle.writer.specs.Answers.{Handed, aRow, nothing}
 use Rattle.writer.specs.Calls.{fresh, setUpStore, drawReply, drawStore, drawArea}

@@ -16,7 +16,7 @@ use Rattle.wavelet.specs.Store.{storeLength}
 use Rattle.wavelet.proofs.SizeLaws.{count-lo, size-zero, size-suc}
 use Rattle.wavelet.proofs.StoreLaws.{store-none, store-more}
 use Rattle.calls.specs.Lists.{Reply, gives, refused, unless}
-use Rattle.writer.specs.Level.{Memory}
+use Rattle.level.specs.Level.{Memory}
 use Rattle.writer.specs.Questions.{either, setUpQuestion}
 use Rattle.writer.specs.Answers.{Took}
 use Rattle.writer.specs.Calls.{offerReply, offerStore, finishReply, finishStore}

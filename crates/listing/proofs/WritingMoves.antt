@@ -11,7 +11,7 @@ use lib.ListN.{length, take, drop, length-append, length-drop}
 use lib.Seq.{take-length, length-take-le}
 use borrow.Author.Tests.{lt-leb, ne-eqb}
 use Rattle.numbers.specs.Signal.{pick}
-use Rattle.writer.specs.Level.{Memory}
+use Rattle.level.specs.Level.{Memory}
 use Rattle.writer.specs.declared.Writer.{Writer}
 use Rattle.pgm.specs.Decimal.{digitsOf, numeral, integer}
 use Rattle.listing.specs.Lines.{spaced, sizeLine}

@@ -7,8 +7,8 @@ use Prim.Native.Nat.{ℕ, _+_, _-_, _*_, _≤_, _<_}
 use lib.ListN.{length, take, drop}
 use Rattle.pgm.specs.Samples.{sampleSize, heightsOf}
 use Rattle.calls.specs.Lists.{gives}
-use Rattle.writer.specs.Level.{Memory}
 use Rattle.writer.specs.Answers.{Took}
+use Rattle.level.specs.Level.{Memory}
 use Rattle.writer.specs.Calls.{offerReply, offerStore}
 use Rattle.listing.specs.Hearing.{heightsCame}
 use Rattle.pgm.specs.Text.{Wrote}

@@ -8,8 +8,8 @@ use lib.IntN.{ℤ}
 use lib.ListN.{length, drop}
 use Rattle.numbers.specs.Signal.{pick}
 use Rattle.calls.specs.Lists.{Reply, gives, refused}
-use Rattle.writer.specs.Level.{Memory}
 use Rattle.writer.specs.Answers.{Took, Handed, aRow, nothing}
+use Rattle.level.specs.Level.{Memory}
 use Rattle.writer.specs.Calls.{fresh, setUpReply, setUpStore, offerReply, offerStore, drawReply, drawStore, drawArea, finishReply, finishStore}
 use Rattle.writer.specs.declared.Writer.{Writer}
 use Rattle.listing.specs.Hearing.{silent, phased, hears, endHeard}

@@ -16,7 +16,7 @@ use borrow.Author.Tests.{ltb-true, eqb-true, lt-ltb, le-ltb}
 use Rattle.numbers.specs.Signal.{pick, both}
 use Rattle.wavelet.specs.Store.{storeLength}
 use Rattle.calls.specs.Lists.{All, all-none, all-more}
-use Rattle.writer.specs.Level.{Memory}
+use Rattle.level.specs.Level.{Memory}
 use Rattle.descriptors.specs.Left.{leftIn}
 use Rattle.descriptors.specs.declared.input.Left.{Left}
 use Rattle.descriptors.proofs.LeftLaws.{none-left, fills-left, fills-within, used-left}

@@ -13,11 +13,11 @@ use Rattle.descriptors.specs.declared.input.Left.{Left}
 use Rattle.descriptors.specs.declared.input.Filled.{Filled}
 use Rattle.descriptors.specs.declared.output.Sent.{Sent}
 use Rattle.descriptors.proofs.LeftLaws.{none-left, fills-within, used-within, used-left}
-use Rattle.writer.specs.Level.{Memory}
 use Rattle.listing.specs.declared.listing.Listing.{Listing}
 use Rattle.listing.specs.declared.listing.Fed.{Fed}
 use Rattle.listing.specs.Scenes.{Scene, scene, Leaves, started, endScene}
 use Rattle.listing.specs.Moves.{Idle, Went, Stops, full, idle}
+use Rattle.level.specs.Level.{Memory}
 use Rattle.listing_io.specs.Rounds.{runOf, waiting, failed, ended, ends, going, Round, Rounds, begun, then, Ran, Listed, before, after}
 use Rattle.listing_io.specs.declared.run.Run.{Run}
 

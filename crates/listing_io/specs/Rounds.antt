@@ -11,11 +11,11 @@ use Rattle.descriptors.specs.Left.{leftIn, Within, usedOf, Fills}
 use Rattle.descriptors.specs.declared.input.Left.{Left}
 use Rattle.descriptors.specs.declared.input.Filled.{Filled}
 use Rattle.descriptors.specs.declared.output.Sent.{Sent}
-use Rattle.writer.specs.Level.{Memory}
 use Rattle.listing.specs.Scenes.{Scene, scene, started, endScene}
 use Rattle.listing.specs.Moves.{Idle, Went, Stops}
 use Rattle.listing.specs.declared.listing.Listing.{Listing}
 use Rattle.listing.specs.declared.listing.Fed.{Fed}
+use Rattle.level.specs.Level.{Memory}
 use Rattle.listing_io.specs.declared.run.Run.{Run}
 
 -- no line is being written, and the listing hears: it waits for input

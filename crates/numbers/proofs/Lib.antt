@@ -3,3 +3,4 @@ pub mod Words
 pub mod Sweep
 pub mod Parts
 pub mod TestLaws
+pub mod Stores

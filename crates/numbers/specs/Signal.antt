@@ -4,7 +4,7 @@ use mathlib.Core.Bool.{Bool, true, false}
 use Prim.Native.Nat.{ℕ, _+_, _-_}
 use lib.IntN.{ℤ, pos}
 use lib.ListN.{getD}
-use lib.Dec.{leb, ltb}
+use lib.Dec.{leb, ltb, eqb}
 
 abbrev pub at : List ℤ → ℕ → ℤ
 at l i = getD l i (pos 0)
@@ -25,3 +25,7 @@ windowed a n x j = pick (ltb j n) (x (a + j)) (pos 0)
 -- y in place of the n numbers of x from place a on
 unfoldable pub spliced : ℕ → ℕ → (ℕ → ℤ) → (ℕ → ℤ) → ℕ → ℤ
 spliced a n y x j = pick (leb a j) (pick (ltb j (a + n)) (y (j - a)) (x j)) (x j)
+
+-- a number stored at place a
+unfoldable pub stored : ℕ → ℤ → (ℕ → ℤ) → ℕ → ℤ
+stored a v x j = pick (eqb j a) v (x j)

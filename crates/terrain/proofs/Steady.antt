@@ -7,10 +7,10 @@ use native.Mathlib.Omega.{arith}
 use lib.Dec.{ltb}
 use Rattle.numbers.specs.Signal.{pick}
 use Rattle.calls.specs.Lists.{gives, unless}
+use Rattle.level.specs.Level.{Memory, LevelKind}
+use Rattle.level.specs.FiveThreeLevel.{fiveThree}
 use Rattle.writer.specs.declared.Writer.{Writer}
 use Rattle.writer.specs.declared.BandRow.{BandRow}
-use Rattle.writer.specs.Level.{Memory, LevelKind}
-use Rattle.writer.specs.FiveThreeLevel.{fiveThree}
 use Rattle.writer.specs.Taking.{Taking, offering, takes, none, begun, complete, heightPut, rowMakes}
 use Rattle.writer.specs.Answers.{Took, aRow}
 use Rattle.writer.specs.Questions.{offerQuestion, drawQuestion}

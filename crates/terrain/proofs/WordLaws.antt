@@ -11,8 +11,8 @@ use borrow.Author.Tests.{eqb-true, leb-true}
 use Rattle.numbers.specs.Signal.{pick}
 use Rattle.numbers.proofs.Sweep as sweep
 use Rattle.calls.specs.Lists.{Reply, gives, refused}
+use Rattle.level.specs.Level.{Memory}
 use Rattle.writer.specs.declared.Writer.{Writer}
-use Rattle.writer.specs.Level.{Memory}
 use Rattle.writer.specs.declared.BandRow.{BandRow}
 use Rattle.writer.specs.Answers.{Took, aRow}
 use Rattle.writer.specs.Calls.{waits, afterDraw}

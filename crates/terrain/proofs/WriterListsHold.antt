@@ -1,22 +1,22 @@
 -- A list of C calls on a state array shows what the list of Rattle's calls shows, told in C's numbers: so what is proved of the lists
 -- of a writer (demand 3) holds of them. Assumes nothing.
-use mathlib.Core.Path.{_≡_, refl, ap}
-use mathlib.Core.List.{List}
+use mathlib.Core.Path.{_≡_, refl, ap, ap₂, _∙_}
+use mathlib.Core.List.{List, [], _∷_}
 use Prim.Native.Nat.{ℕ}
 use Rattle.calls.specs.Lists.{Reply, gives, refused, seen, Area}
 use Rattle.calls.proofs.ListLaws.{told-events}
 use Rattle.writer.specs.declared.Writer.{Writer}
 use Rattle.writer.specs.Answers.{Took, Handed, aRow, nothing}
-use Rattle.writer.specs.Level.{Memory}
 use Rattle.writer.specs.Calls.{offerReply, offerStore, drawReply, drawStore, drawArea, finishReply, finishStore}
 use Rattle.writer.specs.Holds.{left, after}
 use Rattle.writer.specs.History.{Call, World, event, next, events}
 use Rattle.writer.specs.History as rattle
 use Rattle.terrain.specs.States.{Memories}
-use Rattle.terrain.specs.WriterState.{writerWords}
+use Rattle.terrain.specs.WriterState.{writerWords, isWriter, writerOf}
 use Rattle.terrain.specs.WriterCalls as c
-use Rattle.terrain.specs.WriterLists.{CCall, offered, drew, finished, seenOf, leaves, seenAll, told, toldAll, holding, calls}
+use Rattle.terrain.specs.WriterLists.{CCall, offered, drew, finished, seenOf, leaves, seenAll, told, toldAll, holding, calls, Seen}
 use Rattle.terrain.proofs.StateTheorems.{writer-back, writer-is}
+use Rattle.level.specs.Level.{Memory}
 
 -- an answer told, and the state array that it leaves
 offer-told : (run : List ℕ) (z : ℕ) (q : List ℕ) (r : Reply Took) →

@@ -3,8 +3,8 @@
 use mathlib.Core.List.{List, [], _∷_, zipWith, map as each}
 use Prim.Native.Nat.{ℕ}
 use Rattle.calls.specs.Lists.{gives, refused, Area, events}
-use Rattle.writer.specs.Level.{Memory}
 use Rattle.writer.specs.History.{Call, Event, World, row, none}
+use Rattle.level.specs.Level.{Memory}
 use Rattle.writer.specs.History as rattle
 use Rattle.terrain.specs.States.{Memories}
 use Rattle.terrain.specs.WriterState.{writerWords}

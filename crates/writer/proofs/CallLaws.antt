@@ -19,19 +19,18 @@ use Rattle.writer.specs.declared.BandRow.{BandRow}
 use Rattle.writer.specs.declared.cascade.Wait.{Wait}
 use Rattle.writer.specs.declared.closing.Closure.{Closure}
 use Rattle.writer.specs.declared.draws.Spot.{Spot}
-use Rattle.writer.specs.Level.{Memory}
-use Rattle.writer.specs.FiveThreeLevel.{fiveThree}
-use Rattle.writer.specs.Machine.{rest}
 use Rattle.writer.specs.Closing.{Shut, shut}
 use Rattle.writer.specs.Counts.{startOf}
 use Rattle.writer.specs.Taking.{takes}
 use Rattle.writer.specs.Questions.{either, inRanges, longEnough, waitingRow, setUpQuestion, offerQuestion, drawQuestion, finishQuestion}
 use Rattle.writer.specs.Gate.{stateQuestion}
 use Rattle.writer.specs.Answers.{Handed, aRow, nothing}
-use Rattle.writer.specs.Calls.{fresh, setUpReply, setUpStore, waits, closing, finishReply, finishStore, resumed, pulled, afterDraw, bandRow}
-use Rattle.writer.specs.Calls.{handed, handedStore, handedArea, drawReply, drawStore, drawArea}
+use Rattle.writer.specs.Calls.{fresh, setUpReply, setUpStore, waits, closing, finishReply, finishStore, resumed, pulled, afterDraw, bandRow, handed}
+use Rattle.writer.specs.Calls.{handedStore, handedArea, drawReply, drawStore, drawArea}
 use Rattle.writer.specs.Steps.{Left, Found, Closed, Drew}
 use Rattle.writer.proofs.GateLaws.{Sound, sound, state-no, state-yes}
+use Rattle.level.specs.Level.{Memory, rest}
+use Rattle.level.specs.FiveThreeLevel.{fiveThree}
 
 -- ---- by the number of the question
 pub unless-no : {A : Type 0} (q : ℕ) (a : A) → 0 < q → refused q ≡ unless q a

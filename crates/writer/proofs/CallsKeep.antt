@@ -1,7 +1,7 @@
 -- Every call keeps what the store holds, on every state and store: `set-up-holds`, `draw-keeps`, `finish-keeps`, `offer-keeps`; and a drawn row has
 -- the map's values: `area-values`.
 -- Assumes nothing.
-use mathlib.Core.Bool.{Bool, true, false}
+use mathlib.Core.Bool.{Bool, true, false, not}
 use mathlib.Core.Path.{_≡_, refl, sym, ap, subst, subst₂, _∙_}
 use mathlib.Core.List.{List, [], _∷_}
 use Prim.Native.Nat.{ℕ, zero, suc, _+_, _-_, _*_, _/_, _%_, _≤_, _<_}
@@ -9,33 +9,33 @@ use native.Mathlib.Nat.{suc-mul}
 use native.Mathlib.Omega.{arith}
 use lib.IntN.{pos}
 use lib.ListN.{length, getD}
-use lib.Dec.{ltb, eqb}
-use borrow.Author.Tests.{eqb-true, lt-ltb, ltb-true, ltb-false}
-use Rattle.numbers.specs.Signal.{pick}
+use lib.Dec.{ltb, eqb, leb}
+use borrow.Author.Tests.{eqb-true, lt-ltb, ltb-true, ltb-false, leb-true}
+use Rattle.numbers.specs.Signal.{pick, stored, both}
 use Rattle.numbers.specs.Word.{wrap32}
 use Rattle.numbers.proofs.Sweep.{both as split-both}
 use Rattle.lifting.specs.Halves.{fronted}
-use Rattle.wavelet.specs.Limits.{maxHeight}
+use Rattle.wavelet.specs.Limits.{maxHeight, maxWidth, maxLevels}
 use Rattle.wavelet.specs.Bands.{Grid}
 use Rattle.wavelet.specs.Levels.{levelBand}
-use Rattle.wavelet.specs.Questions.{within}
+use Rattle.wavelet.specs.Questions.{within, ask}
 use Rattle.calls.specs.Lists.{Reply, gives, refused, unless, changedUnless}
 use Rattle.writer.specs.declared.Writer.{Writer}
 use Rattle.writer.specs.declared.BandRow.{BandRow}
-use Rattle.writer.specs.Level.{Memory}
-use Rattle.writer.specs.FiveThreeLevel.{cellOf, fiveThree}
-use Rattle.writer.specs.Machine.{Out, rest, arrive}
+use Rattle.writer.specs.Machine.{Out, arrive}
 use Rattle.writer.specs.Draws.{Waiting}
-use Rattle.writer.specs.Taking.{stored, Taking, takes, offering}
-use Rattle.writer.specs.Questions.{setUpQuestion, waitingRow, offerQuestion, drawQuestion, finishQuestion}
+use Rattle.writer.specs.Taking.{Taking, takes, offering}
+use Rattle.writer.specs.Questions.{setUpQuestion, waitingRow, offerQuestion, drawQuestion, finishQuestion, either, inRanges, longEnough}
 use Rattle.writer.specs.Answers.{Took, Handed, aRow}
-use Rattle.writer.specs.Calls.{fresh, setUpReply, took, offerReply, offerStore, waits, closing, finishReply, finishStore, bandRow, handed}
-use Rattle.writer.specs.Calls.{handedStore, handedArea, drawReply, drawStore, drawArea}
-use Rattle.writer.specs.Holds.{Holds, Keeps, AnyMap, GoesOn, MapRow, left, after, tookOf, DrawKeeps, FinishKeeps, OfferKeeps, SetUpHolds}
+use Rattle.writer.specs.Calls.{fresh, setUpReply, took, offerReply, offerStore, waits, closing, finishReply, finishStore, bandRow, handed, handedStore}
+use Rattle.writer.specs.Calls.{handedArea, drawReply, drawStore, drawArea}
+use Rattle.writer.specs.Holds.{Holds, Keeps, AnyMap, GoesOn, MapRow, left, after, tookOf, DrawKeeps, FinishKeeps, OfferKeeps, SetUpHolds, AllRows}
 use Rattle.writer.proofs.CountLaws.{code-one}
 use Rattle.writer.proofs.StateHolds.{st, placed-st, fresh-st, fresh-holds, pulled-by, draw-holds, finish-holds, begun-holds, complete-holds}
 use Rattle.writer.proofs.CallList.{rows-of, column-of, rows-below}
 use Rattle.writer.proofs.CallLaws.{offer-sound, finish-may, offer-may}
+use Rattle.level.specs.Level.{Memory, rest}
+use Rattle.level.specs.FiveThreeLevel.{cellOf, fiveThree}
 
 -- ---- set-up
 pub set-up-holds : (W L H : ℕ) (g : Grid) (x : Memory) → Holds H g (fresh W L) x

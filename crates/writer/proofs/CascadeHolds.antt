@@ -23,16 +23,17 @@ use Rattle.wavelet.specs.Levels.{size, approximation, levelBand}
 use Rattle.wavelet.specs.Order.{RowName, rowName, hasRow, rowsOf, setRows, madeBy}
 use Rattle.wavelet.proofs.SizeLaws.{count-lo, count-hi, size-inner}
 use Rattle.wavelet.proofs.OrderLaws.{made-first, made-odd, made-even}
-use Rattle.writer.specs.Level.{Memory, LevelKind}
-use Rattle.writer.specs.Counts.{prev, deeper, made, most, mostLeft, bandAt, skip}
-use Rattle.writer.specs.Machine.{rest, joinAt, Out, still, under, passed, settled, arrived, arrive, passOn}
+use Rattle.level.specs.Level.{Memory, LevelKind, prev, rest, joinAt, Meaning, SetStands}
+use Rattle.level.proofs.Places.{prev-is}
+use Rattle.level.proofs.RestLaws.{rest-join, join-below}
+use Rattle.level.proofs.LevelLaws.{LevelLaws}
+use Rattle.writer.specs.Counts.{deeper, made, most, mostLeft, bandAt, skip}
+use Rattle.writer.specs.Machine.{Out, still, under, passed, settled, arrived, arrive, passOn}
 use Rattle.writer.specs.Draws.{Waiting, lower, waiting, pull}
 use Rattle.writer.specs.Closing.{Shut, onward, closeLevel, shut}
-use Rattle.writer.specs.Taking.{stored}
-use Rattle.writer.specs.Holds.{Meaning, SetStands, below, LevelHolds, SetWaits, LevelsHold}
-use Rattle.writer.proofs.CountLaws.{prev-is, left-first, left-under, left-next}
-use Rattle.writer.proofs.RestLaws.{rest-join, join-below}
-use Rattle.writer.proofs.LevelLaws.{LevelLaws}
+use Rattle.numbers.specs.Signal.{stored}
+use Rattle.writer.specs.Holds.{below, LevelHolds, SetWaits, LevelsHold}
+use Rattle.writer.proofs.CountLaws.{left-first, left-under, left-next}
 use Rattle.writer.proofs.Waiting.{lasts, lasts-most, rows-yes, skip-rows, skip-has, skip-le, pend, later, pend-none, pend-under, later-first}
 
 -- ---- the store from a place on

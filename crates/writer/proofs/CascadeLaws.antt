@@ -4,14 +4,16 @@ use Prim.Native.Nat.{ℕ, zero, suc, _+_, _-_, _*_, _/_, _%_, _<_, _^_}
 use native.Mathlib.Omega.{arith}
 use borrow.Author.Tests.{eq-eqb, ne-eqb, lt-ltb, le-ltb}
 use Rattle.lifting.specs.Line.{lo, count}
+use Rattle.level.specs.Level.{Memory, prev, rest, joinAt}
+use Rattle.level.specs.FiveThreeLevel.{fiveThree, setMade}
+use Rattle.level.specs.Making.{delivered}
+use Rattle.level.proofs.Places.{prev-is}
+use Rattle.level.proofs.RestLaws.{rest-join, join-again}
 use Rattle.writer.specs.declared.cascade.Wait.{Wait}
-use Rattle.writer.specs.Level.{Memory}
-use Rattle.writer.specs.Counts.{prev, deeper, further, most, skip, startOf}
-use Rattle.writer.specs.FiveThreeLevel.{fiveThree, setWith, setMade}
-use Rattle.writer.specs.Machine.{Out, rest, joinAt, still, under, passed, settled, arrived, arrive, passOn}
-use Rattle.writer.specs.Steps.{Left, delivered}
-use Rattle.writer.proofs.CountLaws.{prev-is, deeper-le, start-first, start-deeper, start-le}
-use Rattle.writer.proofs.RestLaws.{rest-join, join-again}
+use Rattle.writer.specs.Counts.{deeper, further, most, skip, startOf}
+use Rattle.writer.specs.Machine.{Out, still, under, passed, settled, arrived, arrive, passOn}
+use Rattle.writer.specs.Steps.{Left}
+use Rattle.writer.proofs.CountLaws.{deeper-le, start-first, start-deeper, start-le}
 
 -- ---- what a step leaves
 pub left-still : (l w : ℕ) (o : Out) (x : Memory) → o ≡ still x → Left l w o (record { level = 0; left = 0; offset = 0 }) x
@@ -102,23 +104,23 @@ module _ (l w m : ℕ) (x : Memory) where
       go zero = unfold arrive in refl
       go (suc l) = unfold arrive arrived in simp (eq-eqb (m % 2) 0 (omega arith), le-ltb 0 m (omega arith))
 
-  pub arrive-even : (n : ℕ) → 0 < l → m ≡ 2 * n + 2 → arrive fiveThree l w m x ≡ settled (passOn fiveThree (l - 1) w) n (setWith w n m x)
+  pub arrive-even : (n : ℕ) → 0 < l → m ≡ 2 * n + 2 → arrive fiveThree l w m x ≡ settled (passOn fiveThree (l - 1) w) n (setMade w n x)
       (skip w (m + 1) n (most (l - 1)))
   arrive-even n h e = go l h
     where
       p : prev (m / 2) ≡ n
       p = omega (arith, prev-is (m / 2))
 
-      go : (l : ℕ) → 0 < l → arrive fiveThree l w m x ≡ settled (passOn fiveThree (l - 1) w) n (setWith w n m x) (skip w (m + 1) n (most (l - 1)))
+      go : (l : ℕ) → 0 < l → arrive fiveThree l w m x ≡ settled (passOn fiveThree (l - 1) w) n (setMade w n x) (skip w (m + 1) n (most (l - 1)))
       go zero h = absurd (omega arith)
       go (suc l) h =
           let q : suc l - 1 ≡ l = omega arith in
           rw q
-          (unfold arrive arrived setMade in
-          simp (eq-eqb (m % 2) 0 (omega arith), lt-ltb 0 m (omega arith), p) (rw (← e) refl))
+          (unfold arrive arrived in
+          simp (eq-eqb (m % 2) 0 (omega arith), lt-ltb 0 m (omega arith), p))
 
 -- ---- the same, as what `arrive` leaves
-module _ (l w m n : ℕ) (x x₁ : Memory) (i : ℕ) (hl : 0 < l) (e : m ≡ 2 * n + 2) (e₁ : x₁ ≡ setWith w n m x) where
+module _ (l w m n : ℕ) (x x₁ : Memory) (i : ℕ) (hl : 0 < l) (e : m ≡ 2 * n + 2) (e₁ : x₁ ≡ setMade w n x) where
   came : arrive fiveThree l w m x ≡ settled (passOn fiveThree (l - 1) w) n x₁ (skip w (m + 1) n (most (l - 1)))
   came = arrive-even l w m x n hl e ∙ ap (λ (y : Memory). settled (passOn fiveThree (l - 1) w) n y (skip w (m + 1) n (most (l - 1)))) (sym e₁)
 

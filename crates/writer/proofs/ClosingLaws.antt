@@ -4,12 +4,12 @@ use Prim.Native.Nat.{ℕ, zero, suc, _+_, _-_, _*_, _≤_, _<_, _^_}
 use native.Mathlib.Numerals.{add-one}
 use native.Mathlib.Omega.{arith}
 use Rattle.lifting.specs.Line.{lo, count}
+use Rattle.level.specs.Level.{Memory, prev, rest, joinAt}
+use Rattle.level.specs.FiveThreeLevel.{fiveThree, lastSet}
 use Rattle.writer.specs.declared.cascade.Wait.{Wait}
 use Rattle.writer.specs.declared.closing.Closure.{Closure}
-use Rattle.writer.specs.Level.{Memory}
-use Rattle.writer.specs.Counts.{prev, deeper, further, most, skip}
-use Rattle.writer.specs.FiveThreeLevel.{fiveThree, lastSet}
-use Rattle.writer.specs.Machine.{Out, rest, joinAt, still, under, settled, passOn}
+use Rattle.writer.specs.Counts.{deeper, further, most, skip}
+use Rattle.writer.specs.Machine.{Out, still, under, settled, passOn}
 use Rattle.writer.specs.Closing.{Shut, onward, closeLevel, shut}
 use Rattle.writer.specs.Steps.{Left, Closed}
 use Rattle.writer.proofs.CountLaws.{deeper-le, start-first, start-le}

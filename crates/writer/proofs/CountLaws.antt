@@ -1,20 +1,16 @@
 -- The laws of the derived numbers, as the code's branches meet them. Assumes nothing.
 use mathlib.Core.Path.{_≡_, refl, sym, ap, _∙_}
 use mathlib.Core.Bool.{true, false}
-use Prim.Native.Nat.{ℕ, zero, suc, _+_, _-_, _*_, _/_, _%_, _<_, _≤_, min}
+use Prim.Native.Nat.{ℕ, zero, suc, _+_, _-_, _*_, _/_, _<_, _≤_, min}
 use native.Mathlib.Decide.{decLt}
 use native.Mathlib.Omega.{arith}
-use native.Mathlib.Nat.{mul-le-mul-right}
 use Rattle.lifting.specs.Line.{lo, count}
 use Rattle.wavelet.specs.Bands.{Band, LL, HL, LH, HH, code}
 use Rattle.wavelet.specs.Order.{hasRow}
 use Rattle.wavelet.proofs.StoreLaws.{store-none, store-below, store-le}
-use Rattle.writer.specs.Counts.{prev, deeper, deeperBy, further, made, most, mostLeft, bandAt, skip, startOf}
-use Rattle.writer.specs.FiveThreeLevel.{slot, before}
-
-pub prev-is : (n : ℕ) → prev n ≡ n - 1
-prev-is zero = omega arith
-prev-is (suc n) = omega arith
+use Rattle.level.specs.Level.{prev}
+use Rattle.level.proofs.Places.{prev-is}
+use Rattle.writer.specs.Counts.{deeper, deeperBy, further, made, most, mostLeft, bandAt, skip, startOf}
 
 pub deeper-none : (v : ℕ) → v ≡ 0 → 0 ≡ deeper v
 unfolding deeper
@@ -162,16 +158,6 @@ same-band f k i e = ap (λ (j : ℕ). f (bandAt j)) e ∙ ap f (least i)
     least (suc (suc zero)) = refl
     least (suc (suc (suc i))) = let e : min (suc (suc (suc i))) 3 ≡ 3 = omega arith in ap bandAt e ∙ unfold bandAt in refl
 
-pub before-first : (n : ℕ) → n ≡ 0 → 1 ≡ before n
-unfolding before
-before-first zero e = refl
-before-first (suc n) e = absurd (omega arith)
-
-pub before-is : (n : ℕ) → 0 < n → before n ≡ 2 * (n - 1) + 1
-unfolding before
-before-is zero h = absurd (omega arith)
-before-is (suc n) h = omega arith
-
 -- ---- the next band
 module _ (w m n : ℕ) where
   pub skip-stop : (k : ℕ) → 0 < k → hasRow w m (bandAt (k - 1)) n ≡ true → k ≡ skip w m n k
@@ -187,14 +173,3 @@ module _ (w m n : ℕ) where
   pub skip-none : 0 ≡ skip w m n 0
   unfolding skip
   skip-none = refl
-
--- ---- a slot lies within the level's four rows
-pub slot-index : (r : ℕ) → r % 4 < 4
-slot-index r = omega arith
-
-pub row-room : (w t : ℕ) → t < 4 → t * w + w ≤ 4 * w
-row-room w t h = omega (arith, mul-le-mul-right {m = t} {n = 3} w (omega arith))
-
-pub slot-room : (w r : ℕ) → slot w r + w ≤ 4 * w
-unfolding slot
-slot-room w r = row-room w (r % 4) (slot-index r)

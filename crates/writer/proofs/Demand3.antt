@@ -26,8 +26,7 @@ use Rattle.wavelet.proofs.OrderOnce.{made-once}
 use Rattle.wavelet.proofs.Bridge.{map-band}
 use Rattle.calls.specs.Lists.{All}
 use Rattle.calls.proofs.AllLaws.{all-map, all-take, all-at}
-use Rattle.writer.specs.Level.{Memory}
-use Rattle.writer.specs.Machine.{rest}
+use Rattle.level.specs.Level.{Memory, rest}
 use Rattle.writer.specs.Questions.{inRanges, setUpQuestion}
 use Rattle.writer.specs.History.{Call, row, Event, World, event, events, final, freshWorld, taken, finishes, finishedBy, DrawnRow, drawn}
 use Rattle.writer.specs.Demand3.{wholeRows, madeOf, waitingOf, answered, Begins, MapOf, HasValues, PlaneDrawn, Demand3}

@@ -8,21 +8,21 @@ use Rattle.lifting.specs.Line.{lo, count}
 use Rattle.lifting.proofs.LineLaws.{counts}
 use Rattle.wavelet.specs.Bands.{Band, LL, HL, LH, HH, across, code}
 use Rattle.wavelet.proofs.StoreLaws.{store-back, store-below, store-next}
+use Rattle.level.specs.Level.{Memory, prev, rest, joinAt}
+use Rattle.level.specs.FiveThreeLevel.{fiveThree, bandPlace}
+use Rattle.level.proofs.Places.{slot-room, prev-is}
+use Rattle.level.proofs.RestLaws.{rest-at, join-below, join-past}
 use Rattle.writer.specs.declared.Writer.{Writer}
 use Rattle.writer.specs.declared.cascade.Wait.{Wait}
 use Rattle.writer.specs.declared.draws.Spot.{Spot}
 use Rattle.writer.specs.declared.draws.Level.{Level}
-use Rattle.writer.specs.Level.{Memory}
-use Rattle.writer.specs.Counts.{prev, deeper, deeperBy, further, made, bandAt, skip, startOf}
-use Rattle.writer.specs.FiveThreeLevel.{fiveThree, bandPlace}
-use Rattle.writer.specs.Machine.{Out, rest, joinAt, under, settled, passOn}
+use Rattle.writer.specs.Counts.{deeper, deeperBy, further, made, bandAt, skip, startOf}
+use Rattle.writer.specs.Machine.{Out, under, settled, passOn}
 use Rattle.writer.specs.Draws.{lower, rowOf, waiting, pull}
 use Rattle.writer.specs.Questions.{waitingRow}
 use Rattle.writer.specs.Calls.{pulled}
 use Rattle.writer.specs.Steps.{Left, Found, Reaches, waitingAt, pullAt, from, lastSetOf, spotOf}
-use Rattle.writer.proofs.CountLaws.{slot-room, prev-is, start-first, start-deeper, further-none, further-some, deeper-by-same, deeper-by-more}
-use Rattle.writer.proofs.CountLaws.{deeper-by-none, deeper-by-some, deeper-by-le}
-use Rattle.writer.proofs.RestLaws.{rest-at, join-below, join-past}
+use Rattle.writer.proofs.CountLaws.{start-first, start-deeper, further-none, further-some, deeper-by-same, deeper-by-more, deeper-by-none, deeper-by-some, deeper-by-le}
 use Rattle.writer.proofs.CascadeLaws.{left-waits, left-same, left-under, settled-waits, settled-goes}
 
 -- a band row lies within its level's stretch

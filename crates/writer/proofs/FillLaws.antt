@@ -1,64 +1,15 @@
 -- A stretch of heights put into a row a pair at a time comes to the same as one height after the other. Assumes nothing.
-use mathlib.Core.Path.{_≡_, refl, sym, ap, _∙_, fun-ext}
+use mathlib.Core.Path.{_≡_, refl, sym, ap, _∙_}
 use mathlib.Core.List.{List}
-use Prim.Native.Nat.{ℕ, zero, suc, _+_, _*_, _/_, _%_, _≤_, _<_}
-use native.Mathlib.Decide.{ℕ-discrete}
+use Prim.Native.Nat.{ℕ, zero, suc, _+_, _*_, _≤_, _<_}
 use native.Mathlib.Omega.{arith}
-use lib.Dec.{eqb}
-use lib.IntN.{ℤ, pos}
+use lib.IntN.{ℤ}
 use lib.ListN.{length, set, length-set}
-use lib.Seq.{getD-set-same, getD-set-other}
-use borrow.Author.Tests.{eq-eqb, ne-eqb}
-use Rattle.numbers.specs.Signal.{at}
-use Rattle.lifting.specs.Line.{lo, count}
-use Rattle.wavelet.proofs.SizeLaws.{count-lo}
-use Rattle.writer.specs.FiveThreeLevel.{slot, cellOf}
-use Rattle.writer.specs.Taking.{stored}
+use Rattle.numbers.specs.Signal.{at, stored}
+use Rattle.numbers.proofs.Stores.{at-stored}
+use Rattle.level.specs.FiveThreeLevel.{cellOf}
+use Rattle.level.proofs.Places.{cell-in, cell-on}
 use Rattle.writer.specs.Stretch.{heightsPut}
-use Rattle.writer.proofs.CountLaws.{slot-room}
-
--- a store into a list is a store into its signal
-pub at-stored : (l : List ℤ) (p : ℕ) (v : ℤ) → p < length l → at (set l p v) ≡ stored p v (at l)
-unfolding stored
-at-stored l p v h =
-    fun-ext λ j.
-    elim (ℕ-discrete j p) [
-      | yes e ↦ ap (at (set l p v)) e ∙ getD-set-same l p v (pos 0) h ∙ sym (simp (eq-eqb j p e))
-      | no d ↦ getD-set-other l p j v (pos 0) d ∙ sym (simp (ne-eqb j p d))
-    ]
-
--- ---- the places of columns
-module _ (w m c : ℕ) where
-  pub cell-even : c % 2 ≡ 0 → cellOf w m c ≡ slot w m + c / 2
-  unfolding cellOf
-  cell-even e = simp (eq-eqb (c % 2) 0 e)
-
-  pub cell-odd : (c % 2 ≡ 0 → ⊥) → cellOf w m c ≡ slot w m + (count lo w + c / 2)
-  unfolding cellOf
-  cell-odd e = simp (ne-eqb (c % 2) 0 e)
-
-  pub cell-in : c < w → cellOf w m c < 4 * w
-  cell-in h =
-      let s = slot-room w m in
-      let n = count-lo w in
-      elim (ℕ-discrete (c % 2) 0) [
-        | yes e ↦ omega (arith, cell-even e)
-        | no e ↦ omega (arith, cell-odd e, e)
-      ]
-
--- two columns on is one place on
-pub cell-on : (w m c j : ℕ) → cellOf w m (c + 2 * j) ≡ cellOf w m c + j
-cell-on w m c j =
-    elim (ℕ-discrete (c % 2) 0) [
-      | yes e ↦
-          let d : (c + 2 * j) % 2 ≡ 0 = omega arith in
-          let q : (c + 2 * j) / 2 ≡ c / 2 + j = omega arith in
-          omega (arith, cell-even w m (c + 2 * j) d, cell-even w m c e, q)
-      | no e ↦
-          let d : (c + 2 * j) % 2 ≡ 1 = omega (arith, e) in
-          let q : (c + 2 * j) / 2 ≡ c / 2 + j = omega arith in
-          omega (arith, cell-odd w m (c + 2 * j) (λ z. omega arith), cell-odd w m c e, q)
-    ]
 
 -- ---- one height more
 pub put-more : (w m c n : ℕ) (h x : ℕ → ℤ) → heightsPut w m c (n + 1) h x ≡ stored (cellOf w m (c + n)) (h n) (heightsPut w m c n h x)

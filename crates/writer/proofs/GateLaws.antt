@@ -14,11 +14,12 @@ use Rattle.lifting.specs.Line.{lo, count}
 use Rattle.wavelet.proofs.QuestionLaws.{within-true}
 use Rattle.wavelet.proofs.SizeLaws.{count-lo}
 use Rattle.wavelet.proofs.StoreLaws.{store-none, store-below}
+use Rattle.level.specs.Level.{prev}
+use Rattle.level.proofs.Places.{prev-is}
 use Rattle.writer.specs.declared.Writer.{Writer}
-use Rattle.writer.specs.Counts.{prev, mostLeft, startOf}
+use Rattle.writer.specs.Counts.{mostLeft, startOf}
 use Rattle.writer.specs.Questions.{either, inRanges, longEnough, offerQuestion, finishQuestion}
 use Rattle.writer.specs.Gate.{stateQuestion, openQuestion}
-use Rattle.writer.proofs.CountLaws.{prev-is}
 
 -- ---- two questions, and what follows them
 module _ (p q : ℕ) where

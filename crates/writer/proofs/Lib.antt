@@ -1,7 +1,5 @@
 pub mod CountLaws
 pub mod Filling
-pub mod Slots
-pub mod LevelLaws
 pub mod Waiting
 pub mod CascadeHolds
 pub mod StateHolds
@@ -11,9 +9,6 @@ pub mod Reached
 pub mod Demand3
 pub mod Offset
 pub mod LookLaws
-pub mod SetLaws
-pub mod RestLaws
-pub mod DeliverLaws
 pub mod CascadeLaws
 pub mod DrawLaws
 pub mod ClosingLaws
@@ -21,6 +16,4 @@ pub mod GateLaws
 pub mod CallLaws
 pub mod Surplus
 pub mod FillLaws
-pub mod ColumnLaws
-pub mod PairLaws
 pub mod OfferLaws

@@ -15,10 +15,10 @@ use Rattle.wavelet.specs.Store.{storeLength}
 use Rattle.wavelet.specs.View.{bandColumns}
 use Rattle.wavelet.specs.Order.{RowName}
 use Rattle.calls.specs.Lists.{Reply, gives, refused, unless, seen, Area}
+use Rattle.level.specs.Level.{Memory}
 use Rattle.writer.specs.declared.Writer.{Writer}
 use Rattle.writer.specs.declared.BandRow.{BandRow}
 use Rattle.writer.specs.declared.draws.Spot.{Spot}
-use Rattle.writer.specs.Level.{Memory}
 use Rattle.writer.specs.Questions.{either, inRanges, longEnough, waitingRow, setUpQuestion, drawQuestion, waitsQuestion}
 use Rattle.writer.specs.Answers.{Handed, aRow, nothing}
 use Rattle.writer.specs.Gate.{stateQuestion}

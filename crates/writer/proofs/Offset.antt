@@ -13,20 +13,20 @@ use Rattle.wavelet.specs.Limits.{maxHeight}
 use Rattle.calls.specs.Lists.{gives, unless, changedUnless, seen, Area}
 use Rattle.calls.specs.Lists as lists
 use Rattle.writer.specs.declared.Writer.{Writer}
-use Rattle.writer.specs.Level.{Memory}
 use Rattle.writer.specs.Counts.{startOf}
-use Rattle.writer.specs.FiveThreeLevel.{fiveThree}
 use Rattle.writer.specs.Machine.{Out}
 use Rattle.writer.specs.Taking.{Taking, takes, offering}
 use Rattle.writer.specs.Questions.{inRanges, longEnough, setUpQuestion, offerQuestion, drawQuestion, finishQuestion}
 use Rattle.writer.specs.Holds.{left, after}
-use Rattle.writer.specs.Calls.{setUpStore, took, waits, closing, resumed, handed, handedStore, handedArea, offerReply, offerStore, drawReply}
-use Rattle.writer.specs.Calls.{drawStore, drawArea, finishReply, finishStore}
+use Rattle.writer.specs.Calls.{setUpStore, took, waits, closing, resumed, handed, handedStore, handedArea, offerReply, offerStore, drawReply, drawStore}
+use Rattle.writer.specs.Calls.{drawArea, finishReply, finishStore}
 use Rattle.writer.specs.History.{Call, offer, draw, finish, offered, drew, finished, World, given, event, next, events, final, freshWorld}
 use Rattle.writer.specs.Before as before
 use Rattle.writer.specs.Before.{Before}
 use Rattle.writer.proofs.StateHolds.{st, fresh-st}
 use Rattle.writer.proofs.Demand3.{width-kept}
+use Rattle.level.specs.Level.{Memory}
+use Rattle.level.specs.FiveThreeLevel.{fiveThree}
 
 -- the writer before, with its offset
 abbrev carry : Before → Writer

@@ -1,17 +1,17 @@
 -- Every list of calls keeps `At` (CallList): `Reached`, with what each call then answers, by the history.
 -- Assumes nothing.
-use mathlib.Core.Bool.{Bool, true, false}
+use mathlib.Core.Bool.{Bool, true, false, not}
 use mathlib.Core.Path.{_≡_, refl, sym, ap, subst, subst₂, _∙_}
-use mathlib.Core.List.{List, [], _∷_, _++_, append-nil}
+use mathlib.Core.List.{List, [], _∷_, _++_, append-nil, append-assoc}
 use Prim.Native.Nat.{ℕ, zero, suc, _+_, _-_, _≤_, _<_}
 use native.Mathlib.Omega.{arith}
 use lib.IntN.{ℤ}
 use lib.ListN.{length, take, drop}
-use lib.Dec.{leb, eqb}
-use borrow.Author.Tests.{le-leb, lt-ltb, le-ltb, ne-eqb}
-use Rattle.numbers.specs.Signal.{pick}
+use lib.Dec.{leb, eqb, ltb}
+use borrow.Author.Tests.{le-leb, lt-ltb, le-ltb, ne-eqb, eqb-true, ltb-true}
+use Rattle.numbers.specs.Signal.{pick, both}
 use Rattle.lifting.specs.Halves.{fronted}
-use Rattle.wavelet.specs.Limits.{maxWidth, maxLevels}
+use Rattle.wavelet.specs.Limits.{maxWidth, maxLevels, maxHeight}
 use Rattle.wavelet.specs.Levels.{size}
 use Rattle.wavelet.specs.View.{bandColumns}
 use Rattle.wavelet.specs.Questions.{ask, within}
@@ -20,23 +20,24 @@ use Rattle.wavelet.specs.Order.{RowName, made}
 use Rattle.calls.specs.Lists.{Reply, gives, refused, unless, seen, Area, gathered, ever}
 use Rattle.calls.proofs.ListLaws.{either-no, gathered-snoc, ever-snoc, list-reached}
 use Rattle.writer.specs.declared.Writer.{Writer}
-use Rattle.writer.specs.Level.{Memory}
-use Rattle.writer.specs.FiveThreeLevel.{fiveThree}
-use Rattle.writer.specs.Machine.{Out, rest}
+use Rattle.writer.specs.Machine.{Out}
 use Rattle.writer.specs.Draws.{Waiting, waiting, pull}
 use Rattle.writer.specs.Closing.{Shut, shut}
 use Rattle.writer.specs.Taking.{Taking, takes, offering}
 use Rattle.writer.specs.Questions.{either, inRanges, longEnough, offerQuestion, drawQuestion, finishQuestion}
-use Rattle.writer.specs.Calls.{fresh, offerReply, offerStore, waits, closing as closingOf, finishReply, finishStore, resumed, bandRow}
-use Rattle.writer.specs.Calls.{drawReply, drawStore, drawArea}
+use Rattle.writer.specs.Calls.{fresh, offerReply, offerStore, waits, closing as closingOf, finishReply, finishStore, resumed, bandRow, drawReply}
+use Rattle.writer.specs.Calls.{drawStore, drawArea}
 use Rattle.writer.specs.Holds.{left}
-use Rattle.writer.specs.History.{Call, offer, draw, finish, row, none, Event, offered, drew, finished, World, event, next, events}
-use Rattle.writer.specs.History.{final, takenBy, taken, finishes, finishedBy, drawnBy, drawn}
+use Rattle.writer.specs.History.{Call, offer, draw, finish, row, none, Event, offered, drew, finished, World, event, next, events, final, takenBy, taken}
+use Rattle.writer.specs.History.{finishes, finishedBy, drawnBy, drawn}
 use Rattle.writer.specs.Demand3.{wholeRows, madeOf, waitingOf, answered, isNone, drawSays, written, DrawSeen, takesOn, offerTurned, Takes, finishTurned}
 use Rattle.writer.proofs.StateHolds.{st, fresh-st}
 use Rattle.writer.proofs.CallLaws.{finish-may, offer-may}
-use Rattle.writer.proofs.CallList.{coming, At, whole-rows, begun-row, in-ranges, waiting-is, none-waits, none-eqb, Offered, offering-good}
-use Rattle.writer.proofs.CallList.{head-is, draw-good, finish-good, fresh-at}
+use Rattle.writer.proofs.CallList.{coming, At, whole-rows, begun-row, in-ranges, waiting-is, none-waits, none-eqb, Offered, offering-good, head-is}
+use Rattle.writer.proofs.CallList.{draw-good, finish-good, fresh-at}
+use Rattle.numbers.proofs.Sweep.{both as split-both}
+use Rattle.level.specs.Level.{Memory, rest}
+use Rattle.level.specs.FiveThreeLevel.{fiveThree}
 
 -- where it may take, an offer of one height or more takes one
 pub takes-one : (run : List ℕ) (s : Writer) (x : Memory) → takes s ≡ true → 0 < length run → 0 < offering fiveThree run s x .taken

@@ -4,22 +4,20 @@ use mathlib.Core.Bool.{Bool, true, false}
 use mathlib.Core.Path.{_≡_, refl, sym, ap, subst, subst₂}
 use Prim.Native.Nat.{ℕ, zero, suc, _+_, _≤_, _<_}
 use native.Mathlib.Omega.{arith}
-use Rattle.numbers.specs.Signal.{pick}
+use Rattle.numbers.specs.Signal.{pick, stored}
 use Rattle.wavelet.specs.Bands.{Grid}
 use Rattle.wavelet.specs.Order.{madeBy}
 use Rattle.wavelet.proofs.StoreLaws.{store-none}
+use Rattle.level.specs.Level.{Memory, LevelKind}
+use Rattle.level.specs.FiveThreeLevel.{cellOf, fiveThree, Kept}
+use Rattle.level.proofs.LevelLaws.{five-three-laws}
 use Rattle.writer.specs.declared.Writer.{Writer}
-use Rattle.writer.specs.Level.{Memory, LevelKind}
-use Rattle.writer.specs.Counts.{mostLeft}
-use Rattle.writer.specs.FiveThreeLevel.{cellOf, fiveThree}
-use Rattle.writer.specs.Counts.{startOf}
+use Rattle.writer.specs.Counts.{mostLeft, startOf}
 use Rattle.writer.specs.Machine.{Out, arrive}
 use Rattle.writer.specs.Draws.{pull}
 use Rattle.writer.specs.Closing.{Shut, shut}
-use Rattle.writer.specs.Taking.{stored}
 use Rattle.writer.specs.Calls.{fresh, resumed}
-use Rattle.writer.specs.Holds.{Kept, LevelsHold, Holds}
-use Rattle.writer.proofs.LevelLaws.{five-three-laws}
+use Rattle.writer.specs.Holds.{LevelsHold, Holds}
 use Rattle.writer.proofs.CascadeHolds.{Good, Pulled, Closed, cell-good, arrive-good, pull-good, shut-good, fresh-good}
 
 pub differ : false ≡ true → ⊥

@@ -16,18 +16,18 @@ use Rattle.lifting.specs.Halves.{fronted}
 use Rattle.wavelet.specs.Store.{storeLength}
 use Rattle.wavelet.proofs.StoreLaws.{store-below}
 use Rattle.calls.specs.Lists.{changedUnless}
+use Rattle.level.specs.Level.{Memory, LevelKind, prev, rest, joinAt}
+use Rattle.level.specs.FiveThreeLevel.{fiveThree}
+use Rattle.level.proofs.RestLaws.{rest-at, join-past}
+use Rattle.level.proofs.LevelLaws.{LevelLaws, five-three-laws}
 use Rattle.writer.specs.declared.Writer.{Writer}
-use Rattle.writer.specs.Level.{Memory, LevelKind}
-use Rattle.writer.specs.FiveThreeLevel.{fiveThree}
-use Rattle.writer.specs.Counts.{prev, made, most, skip}
-use Rattle.writer.specs.Machine.{Out, rest, joinAt, still, under, passed, settled, arrived, arrive, passOn}
+use Rattle.writer.specs.Counts.{made, most, skip}
+use Rattle.writer.specs.Machine.{Out, still, under, passed, settled, arrived, arrive, passOn}
 use Rattle.writer.specs.Draws.{pull}
 use Rattle.writer.specs.Closing.{Shut, onward, closeLevel, shut}
 use Rattle.writer.specs.Taking.{none, oneMore, takes, begun, complete, heightPut, rowMakes, offering}
 use Rattle.writer.specs.Questions.{setUpQuestion, offerQuestion, drawQuestion, finishQuestion}
 use Rattle.writer.specs.Calls.{setUpStore, offerStore, resumed, handedStore, drawStore, finishStore}
-use Rattle.writer.proofs.RestLaws.{rest-at, join-past}
-use Rattle.writer.proofs.LevelLaws.{LevelLaws, five-three-laws}
 use Rattle.writer.proofs.CallLaws.{offer-sound}
 open LevelLaws five-three-laws using (cell-past, put-past, make-past, close-past)
 

@@ -9,7 +9,8 @@ use Rattle.numbers.specs.Signal.{pick}
 use Rattle.lifting.specs.Line.{lo, count}
 use Rattle.wavelet.specs.Bands.{Band}
 use Rattle.wavelet.specs.Order.{RowName, rowName, handedOut, hasRow, rowsOf, setRows, madeBy, closing}
-use Rattle.writer.specs.Counts.{prev, deeper, made, most, bandAt, skip}
+use Rattle.level.specs.Level.{prev}
+use Rattle.writer.specs.Counts.{deeper, made, most, bandAt, skip}
 
 -- the last i bands of a set
 unfoldable pub lasts : ℕ → List Band

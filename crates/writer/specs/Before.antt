@@ -6,20 +6,19 @@ use Prim.Native.Nat.{ℕ, zero, suc, _+_}
 use lib.IntN.{pos}
 use lib.ListN.{length}
 use lib.Dec.{leb, ltb, eqb}
-use Rattle.numbers.specs.Signal.{pick, both}
+use Rattle.numbers.specs.Signal.{pick, both, stored}
 use Rattle.lifting.specs.Halves.{fronted}
 use Rattle.wavelet.specs.Limits.{maxWidth, maxHeight, maxLevels}
 use Rattle.wavelet.specs.Questions.{ask, within}
 use Rattle.wavelet.specs.Store.{storeLength}
 use Rattle.calls.specs.Lists.{unless, changedUnless, Area}
 use Rattle.calls.specs.Lists as lists
-use Rattle.writer.specs.Level.{Memory}
+use Rattle.level.specs.Level.{Memory, rest}
+use Rattle.level.specs.FiveThreeLevel.{fiveThree, cellOf}
 use Rattle.writer.specs.Counts.{mostLeft}
-use Rattle.writer.specs.FiveThreeLevel.{fiveThree, cellOf}
-use Rattle.writer.specs.Machine.{Out, rest, arrive}
+use Rattle.writer.specs.Machine.{Out, arrive}
 use Rattle.writer.specs.Draws.{Waiting, waiting, pull}
 use Rattle.writer.specs.Closing.{Shut, shut}
-use Rattle.writer.specs.Taking.{stored}
 use Rattle.writer.specs.Questions.{either}
 use Rattle.writer.specs.Calls.{setUpStore, bandRow}
 use Rattle.writer.specs.History.{Call, offer, draw, finish, Given, row, none, Event, offered, drew, finished}

@@ -8,12 +8,12 @@ use Rattle.lifting.specs.Halves.{fronted}
 use Rattle.wavelet.specs.Bands.{code}
 use Rattle.wavelet.specs.Store.{storeLength}
 use Rattle.calls.specs.Lists.{Reply, unless, changedUnless}
+use Rattle.level.specs.Level.{Memory, rest}
+use Rattle.level.specs.FiveThreeLevel.{fiveThree}
 use Rattle.writer.specs.declared.Writer.{Writer}
 use Rattle.writer.specs.declared.BandRow.{BandRow}
-use Rattle.writer.specs.Level.{Memory}
 use Rattle.writer.specs.Counts.{startOf}
-use Rattle.writer.specs.FiveThreeLevel.{fiveThree}
-use Rattle.writer.specs.Machine.{Out, rest}
+use Rattle.writer.specs.Machine.{Out}
 use Rattle.writer.specs.Draws.{Waiting, pull}
 use Rattle.writer.specs.Closing.{Shut, shut}
 use Rattle.writer.specs.Taking.{Taking, offering}

@@ -1,9 +1,9 @@
 -- The finish: "level 1 closes first, then level 2, and so on", each once nothing waits at any level.
 use Prim.Native.Nat.{ℕ, zero, suc}
 use Rattle.lifting.specs.Line.{lo, count}
-use Rattle.writer.specs.Level.{Memory, LevelKind}
-use Rattle.writer.specs.Counts.{prev, most, skip}
-use Rattle.writer.specs.Machine.{Out, still, under, rest, settled, passOn}
+use Rattle.level.specs.Level.{Memory, LevelKind, prev, rest}
+use Rattle.writer.specs.Counts.{most, skip}
+use Rattle.writer.specs.Machine.{Out, still, under, settled, passOn}
 
 -- how many levels are closed, and what waits
 pub record Shut : Type 0 where

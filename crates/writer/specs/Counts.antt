@@ -5,11 +5,7 @@ use Rattle.lifting.specs.Line.{lo, count}
 use Rattle.wavelet.specs.Bands.{Band, LL, HL, LH, HH}
 use Rattle.wavelet.specs.Store.{storeLength}
 use Rattle.wavelet.specs.Order.{hasRow}
-
--- one less, and 0 of 0
-abbrev pub prev : ℕ → ℕ
-prev zero = zero
-prev (suc n) = n
+use Rattle.level.specs.Level.{prev}
 
 -- A level's number seen from the level above it, and from k levels above it; 0 is no level.
 unfoldable pub deeper : ℕ → ℕ

@@ -2,9 +2,9 @@
 use Prim.Native.Nat.{ℕ, zero, suc, _+_}
 use Rattle.lifting.specs.Line.{lo, count}
 use Rattle.wavelet.specs.Bands.{Band, HH, across}
-use Rattle.writer.specs.Level.{Memory, LevelKind}
-use Rattle.writer.specs.Counts.{prev, made, bandAt, skip}
-use Rattle.writer.specs.Machine.{Out, still, under, rest, settled, passOn}
+use Rattle.level.specs.Level.{Memory, LevelKind, prev, rest}
+use Rattle.writer.specs.Counts.{made, bandAt, skip}
+use Rattle.writer.specs.Machine.{Out, still, under, settled, passOn}
 
 -- a band row that waits: its level from 1, 0: none, and where in the store its numbers begin
 pub record Waiting : Type 0 where

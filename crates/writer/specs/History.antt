@@ -1,7 +1,7 @@
 -- Calls on a writer, what is seen of each, and of a list of them what was taken and drawn: document 01, "The lists of demand 3".
 -- "The words below go by the calls' arguments and answers, by nothing in the state."
 use mathlib.Core.Bool.{Bool, true, false}
-use mathlib.Core.List.{List, [], _∷_}
+use mathlib.Core.List.{List, [], _∷_, _++_}
 use Prim.Native.Nat.{ℕ}
 use lib.IntN.{ℤ}
 use lib.ListN.{take}
@@ -9,10 +9,11 @@ use Rattle.calls.specs.Lists.{Reply, gives, refused, seen, Area, gathered, ever
 use Rattle.calls.specs.Lists as lists
 use Rattle.writer.specs.declared.Writer.{Writer}
 use Rattle.writer.specs.declared.BandRow.{BandRow}
-use Rattle.writer.specs.Level.{Memory}
 use Rattle.writer.specs.Answers.{Handed, aRow, nothing}
 use Rattle.writer.specs.Holds.{left, after}
 use Rattle.writer.specs.Calls.{fresh, setUpStore, offerReply, offerStore, drawReply, drawStore, drawArea, finishReply, finishStore}
+use Rattle.level.specs.Level.{Memory}
+use Rattle.writer.specs.Questions.{either}
 
 -- ---- calls, and what is seen of them
 -- a call with its arguments

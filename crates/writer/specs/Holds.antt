@@ -15,37 +15,12 @@ use Rattle.wavelet.specs.Order.{hasRow}
 use Rattle.calls.specs.Lists.{Reply, gives, refused}
 use Rattle.writer.specs.declared.Writer.{Writer}
 use Rattle.writer.specs.declared.BandRow.{BandRow}
-use Rattle.writer.specs.Level.{Memory, LevelKind}
-use Rattle.writer.specs.Counts.{prev, made, mostLeft, bandAt, startOf}
-use Rattle.writer.specs.FiveThreeLevel.{cellOf, fiveThree}
-use Rattle.writer.specs.Machine.{rest}
+use Rattle.writer.specs.Counts.{made, mostLeft, bandAt, startOf}
 use Rattle.writer.specs.Answers.{Took, Handed, aRow, nothing}
-
--- ---- the 5/3 level
--- the first c columns of row y stand in the slot of row r
-abbrev pub RowStands : ℕ → ℕ → ℕ → (ℕ → ℤ) → Memory → Type 0
-RowStands w r c y x = (i : ℕ) → i < c → x (cellOf w r i) ≡ y i
-
--- what a level of w columns holds after m rows of the grid g and c columns of row m
-pub record Kept (w H : ℕ) (g : Grid) (m c : ℕ) (x : Memory) : Type 0 where
-  -- the last even row, until its set is made
-  pub even : (n : ℕ) → 2 * n + 1 ≤ m → m ≤ 2 * n + 2 → RowStands w (2 * n) w (g (2 * n)) x
-  -- the odd row after it
-  pub odd : (n : ℕ) → m ≡ 2 * n + 2 → RowStands w (2 * n + 1) w (g (2 * n + 1)) x
-  -- d(n) of the last set made
-  pub high : (n : ℕ) → 2 * n + 3 ≤ m → m ≤ 2 * n + 4 → RowStands w (2 * n + 1) w (columnsLifted wrap32 H g hi n) x
-  -- the row begun
-  pub begun : RowStands w m c (g m) x
+use Rattle.level.specs.Level.{Memory, LevelKind, prev, rest, Meaning, SetStands}
+use Rattle.level.specs.FiveThreeLevel.{fiveThree, Kept}
 
 -- ---- all levels, whatever a level does and holds (Held)
-abbrev pub Meaning : Type 1
-Meaning = (w H : ℕ) → Grid → (m c : ℕ) → Memory → Type 0
-
--- the rows of set n stand where they wait
-abbrev pub SetStands : LevelKind → ℕ → ℕ → Grid → ℕ → Memory → Type 0
-SetStands K w H g n x =
-    (b : Band) (i : ℕ) → n < count (down b) H → i < count (across b) w → x (K .place w n b + i) ≡ subband wrap32 w H g b n i
-
 -- how many rows the next level has received: the set that is being handed out (v = 1: of this level) has not gone on to it
 unfoldable pub below : ℕ → ℕ → ℕ → ℕ
 below c zero m = made c m

@@ -7,8 +7,6 @@ pub mod Questions
 pub mod Calls
 pub mod Holds
 pub mod Counts
-pub mod Level
-pub mod FiveThreeLevel
 pub mod Machine
 pub mod Draws
 pub mod Closing
@@ -19,4 +17,3 @@ pub mod Before
 pub mod Steps
 pub mod Gate
 pub mod Stretch
-pub mod Columns

@@ -1,19 +1,12 @@
 -- The writer as a machine over its line store, by recursion over the levels: a machine of L levels is its first level, of w columns, and below it a machine of L − 1 levels, of ⌈w / 2⌉ columns, in the rest of the store.
 -- m is how many rows the first level has received, c how many levels the finish has closed. L = 0 is no level.
-use Prim.Native.Nat.{ℕ, zero, suc, _+_, _-_, _/_, _%_}
+use Prim.Native.Nat.{ℕ, zero, suc, _+_, _/_, _%_}
 use lib.Dec.{ltb, eqb}
 use Rattle.numbers.specs.Signal.{pick, both}
 use Rattle.lifting.specs.Line.{lo, count}
 use Rattle.wavelet.specs.Bands.{LL}
-use Rattle.writer.specs.Level.{Memory, LevelKind}
-use Rattle.writer.specs.Counts.{prev, deeper, most, skip}
-
--- the store from place a on, and the store with t from place a on
-unfoldable pub rest : ℕ → Memory → Memory
-rest a x j = x (a + j)
-
-unfoldable pub joinAt : ℕ → Memory → Memory → Memory
-joinAt a x t j = pick (ltb j a) (x j) (t (j - a))
+use Rattle.level.specs.Level.{Memory, LevelKind, rest, joinAt, prev}
+use Rattle.writer.specs.Counts.{deeper, most, skip}
 
 -- the store, the level (from 1) whose set is being handed out, 0: nothing waits, and how many bands of that set are left
 pub record Out : Type 0 where

@@ -6,9 +6,9 @@ use Rattle.numbers.specs.Signal.{pick, both}
 use Rattle.wavelet.specs.Limits.{maxWidth, maxHeight, maxLevels}
 use Rattle.wavelet.specs.Questions.{ask, within}
 use Rattle.wavelet.specs.Store.{storeLength}
+use Rattle.level.specs.FiveThreeLevel.{fiveThree}
 use Rattle.writer.specs.declared.Writer.{Writer}
 use Rattle.writer.specs.Counts.{mostLeft, startOf}
-use Rattle.writer.specs.FiveThreeLevel.{fiveThree}
 use Rattle.writer.specs.Draws.{Waiting, waiting}
 
 abbrev pub either : Bool → Bool → Bool

@@ -1,18 +1,18 @@
 -- What the private functions require and leave: the machine's steps at the 5/3 level. Nothing here needs to be believed.
 use mathlib.Core.Path.{_≡_}
 use Prim.Native.Nat.{ℕ, _+_, _*_, _^_, _<_, _≤_}
-use Rattle.lifting.specs.Line.{lo, count}
-use Rattle.wavelet.specs.Bands.{LL, across, code}
+use Rattle.lifting.specs.Line.{count}
+use Rattle.wavelet.specs.Bands.{across, code}
 use Rattle.wavelet.specs.Store.{storeLength}
+use Rattle.level.specs.Level.{Memory, prev, rest, joinAt}
+use Rattle.level.specs.FiveThreeLevel.{fiveThree, bandPlace}
 use Rattle.writer.specs.declared.Writer.{Writer}
 use Rattle.writer.specs.declared.cascade.Wait.{Wait}
 use Rattle.writer.specs.declared.draws.Spot.{Spot}
 use Rattle.writer.specs.declared.draws.Level.{Level}
 use Rattle.writer.specs.declared.closing.Closure.{Closure}
-use Rattle.writer.specs.Level.{Memory}
-use Rattle.writer.specs.Counts.{prev, deeperBy, further, made, bandAt, skip, startOf}
-use Rattle.writer.specs.FiveThreeLevel.{fiveThree, rowPut, bandPlace}
-use Rattle.writer.specs.Machine.{Out, rest, joinAt, settled, passOn}
+use Rattle.writer.specs.Counts.{deeperBy, further, made, bandAt, skip, startOf}
+use Rattle.writer.specs.Machine.{Out, settled, passOn}
 use Rattle.writer.specs.Draws.{Waiting, waiting, pull}
 use Rattle.writer.specs.Closing.{Shut}
 use Rattle.writer.specs.Calls.{waits, afterDraw}
@@ -31,10 +31,6 @@ pub record Left (l w : ℕ) (o : Out) (r : Wait) (x : Memory) : Type 0 where
   pub offset : r .offset ≡ startOf w (o .level)
   pub store : x ≡ o .store
   pub within : r .level ≤ l
-
--- the LL row of set n put into its place at the next level
-unfoldable pub delivered : ℕ → ℕ → Memory → Memory
-delivered w n x = joinAt (4 * w) x (rowPut (count lo w) n (λ i. x (bandPlace w n LL + i)) (rest (4 * w) x))
 
 -- level v of l, the first of w columns and m rows
 pub record Walk (l w v m : ℕ) : Type 0 where

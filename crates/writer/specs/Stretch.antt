@@ -3,12 +3,12 @@ use mathlib.Core.Path.{_≡_}
 use mathlib.Core.List.{List}
 use Prim.Native.Nat.{ℕ, zero, suc, _+_, _-_, _<_, min}
 use lib.IntN.{ℤ}
-use Rattle.numbers.specs.Signal.{pick}
+use Rattle.numbers.specs.Signal.{pick, stored}
+use Rattle.level.specs.Level.{Memory}
+use Rattle.level.specs.FiveThreeLevel.{fiveThree, cellOf}
 use Rattle.writer.specs.declared.Writer.{Writer}
-use Rattle.writer.specs.Level.{Memory}
-use Rattle.writer.specs.FiveThreeLevel.{fiveThree, cellOf}
 use Rattle.writer.specs.Machine.{arrive}
-use Rattle.writer.specs.Taking.{stored, heightAt, takes, complete}
+use Rattle.writer.specs.Taking.{heightAt, takes, complete}
 use Rattle.writer.specs.Steps.{Room}
 
 -- n heights h put into row m of w columns, from column c on

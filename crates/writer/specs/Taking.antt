@@ -5,16 +5,12 @@ use Prim.Native.Nat.{ℕ, suc, _+_}
 use lib.IntN.{ℤ, pos}
 use lib.Dec.{ltb, eqb}
 use lib.ListN.{getD}
-use Rattle.numbers.specs.Signal.{pick, both}
+use Rattle.numbers.specs.Signal.{pick, both, stored}
 use Rattle.wavelet.specs.Limits.{maxHeight}
+use Rattle.level.specs.Level.{Memory, LevelKind}
 use Rattle.writer.specs.declared.Writer.{Writer}
-use Rattle.writer.specs.Level.{Memory, LevelKind}
 use Rattle.writer.specs.Counts.{startOf}
 use Rattle.writer.specs.Machine.{Out, arrive}
-
--- a number stored at place a
-unfoldable pub stored : ℕ → ℤ → Memory → Memory
-stored a v x j = pick (eqb j a) v (x j)
 
 -- a run of heights as a signal
 abbrev pub heightAt : List ℕ → ℕ → ℤ

@@ -1,17 +1,14 @@
 // What a row makes, down the levels. Each level works in its own stretch of the store; the rest of the store is lent on to the levels below.
 // The module is private: only this crate, which meets what is required, can call it.
-use crate::copies;
 use crate::counts;
-use crate::sets;
+use level::making;
 use wavelet::sizes;
-ghost use mathlib.Core.Path.{_≡_};
-ghost use Prim.Native.Nat.{_<_, _≤_, _+_, _*_};
+ghost use Prim.Native.Nat.{_+_};
 ghost use lib.ListN.{length};
 ghost use Rattle.numbers.specs.Signal.{at};
-ghost use Rattle.lifting.specs.Line.{lo, count};
-ghost use Rattle.writer.specs.FiveThreeLevel.{fiveThree};
+ghost use Rattle.level.specs.FiveThreeLevel.{fiveThree};
 ghost use Rattle.writer.specs.Machine.{arrive, passOn};
-ghost use Rattle.writer.specs.Steps.{Left, Room, delivered};
+ghost use Rattle.writer.specs.Steps.{Left, Room};
 
 // What waits: the level, from 1, of the set that is being handed out (0: nothing), the bands of it that are left, and where that level's stretch begins,
 // counted as the level is.
@@ -19,22 +16,6 @@ pub struct Wait {
     pub level: usize,
     pub left: usize,
     pub offset: usize,
-}
-
-// The LL row of set n becomes row n of the next level.
-fn deliver(store: &mut [i32], w: usize, n: usize)
-    requires { ⌜ (4 * w + 4 * count lo w ≤ length (now store)) × (w < 4294967296) × (n < 4294967296) ⌝ }
-    ensures { λ _. ⌜ at (now (store .exit)) ≡ delivered w n (at (now (store .entry))) ⌝ }
-{
-    let v = sizes::half(w);
-    let low = sizes::half(v);
-    let from = counts::slot(w, 2 * n);
-    let to = 4 * w + counts::slot(v, n);
-    let pairs = v - low;
-    copies::separate(store, from, to, to + low, pairs);
-    if pairs < low {
-        store[to + pairs] = store[from + 2 * pairs];
-    }
 }
 
 // Row m of a level stands in its slot; the level and those below it are l.
@@ -64,7 +45,7 @@ pub fn arrive(store: &mut [i32], l: usize, w: usize, m: usize) -> Wait
         };
     }
     let n = m / 2 - 1;
-    sets::make_with(store, w, n, m);
+    making::make(store, w, n);
     let i = counts::next_band(w, m + 1, n, counts::most(l - 1));
     if 0 < i {
         return Wait {
@@ -80,7 +61,7 @@ pub fn arrive(store: &mut [i32], l: usize, w: usize, m: usize) -> Wait
             offset: 0,
         };
     }
-    deliver(store, w, n);
+    making::deliver(store, w, n);
     let a = 4 * w;
     let r = arrive(&mut store[a..], l - 1, sizes::half(w), n);
     Wait {
@@ -102,7 +83,7 @@ pub fn pass_on(store: &mut [i32], l: usize, w: usize, n: usize) -> Wait
             offset: 0,
         };
     }
-    deliver(store, w, n);
+    making::deliver(store, w, n);
     let a = 4 * w;
     let r = arrive(&mut store[a..], l, sizes::half(w), n);
     Wait {

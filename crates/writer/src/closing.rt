@@ -3,12 +3,12 @@
 use crate::cascade;
 use crate::cascade::Wait;
 use crate::counts;
-use crate::sets;
+use level::making;
 use wavelet::sizes;
 ghost use Prim.Native.Nat.{_<_, _≤_, _+_};
 ghost use lib.ListN.{length};
 ghost use Rattle.numbers.specs.Signal.{at};
-ghost use Rattle.writer.specs.FiveThreeLevel.{fiveThree};
+ghost use Rattle.level.specs.FiveThreeLevel.{fiveThree};
 ghost use Rattle.writer.specs.Closing.{closeLevel, shut};
 ghost use Rattle.writer.specs.Steps.{Room, Left, Closed};
 
@@ -40,7 +40,7 @@ fn close_level(store: &mut [i32], l: usize, w: usize, c: usize, m: usize) -> Wai
         };
     }
     let n = counts::prev(sizes::half(m));
-    sets::close_set(store, w, m);
+    making::close(store, w, m);
     let i = counts::next_band(w, m, n, counts::most(l));
     if 0 < i {
         return Wait {

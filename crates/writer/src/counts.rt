@@ -1,12 +1,14 @@
 // The numbers that the writer derives on its way down the levels. The module is private: only this crate, which meets what is required, can call it.
+use level::rows;
 use wavelet::sizes;
 ghost use mathlib.Core.Path.{_≡_};
 ghost use Prim.Native.Nat.{_<_, _≤_, _+_, _*_};
 ghost use Rattle.lifting.specs.Line.{count};
 ghost use Rattle.wavelet.specs.Bands.{across, down, code};
 ghost use Rattle.wavelet.specs.Order.{hasRow};
-ghost use Rattle.writer.specs.Counts.{prev, deeper, deeperBy, further, made, most, mostLeft, bandAt, skip};
-ghost use Rattle.writer.specs.FiveThreeLevel.{slot, cellOf, before};
+ghost use Rattle.level.specs.Level.{prev};
+ghost use Rattle.level.specs.FiveThreeLevel.{slot, cellOf};
+ghost use Rattle.writer.specs.Counts.{deeper, deeperBy, further, made, most, mostLeft, bandAt, skip};
 
 // One less, and 0 of 0.
 pub fn prev(n: usize) -> usize
@@ -129,7 +131,7 @@ pub fn slot(w: usize, r: usize) -> usize
     requires { ⌜ w < 4294967296 ⌝ }
     ensures { λ s. ⌜ s ≡ slot w r ⌝ }
 {
-    r % 4 * w
+    rows::slot(w, r)
 }
 
 // Where column c of row r stands: the even columns stand first.
@@ -141,15 +143,4 @@ pub fn cell(w: usize, r: usize, c: usize) -> usize
         return slot(w, r) + c / 2;
     }
     slot(w, r) + (sizes::half(w) + c / 2)
-}
-
-// The row where the high row of the set before set n stands; of the first set, its own.
-pub fn before(n: usize) -> usize
-    requires { ⌜ n < 4294967296 ⌝ }
-    ensures { λ r. ⌜ r ≡ before n ⌝ }
-{
-    if n == 0 {
-        return 1;
-    }
-    2 * (n - 1) + 1
 }

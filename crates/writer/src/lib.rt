@@ -7,7 +7,6 @@ mod counts;
 mod draws;
 mod gate;
 mod offers;
-mod sets;
 
 use wavelet::store;
 ghost use mathlib.Core.Path.{_≡_};

@@ -5,7 +5,7 @@ use borrow.Author.Needs.{needs}
 use lib.ListN.{length}
 use Rattle.numbers.specs.Signal.{at}
 use Rattle.wavelet.proofs.LimitLaws.{width-small, height-small}
-use Rattle.writer.specs.Machine.{rest}
+use Rattle.level.specs.Level.{rest}
 use Rattle.writer.specs.Gate.{stateQuestion}
 use Rattle.writer.proofs.GateLaws.{sound}
 use Rattle.writer.proofs.CallLaws.{draw-refused, draw-nothing, draw-no-room, draw-row}

@@ -2,6 +2,7 @@
 use mathlib.Core.Path.{ap, _∙_}
 use Prim.Native.Nat.{ℕ, _+_, _-_, _*_, _/_, _<_}
 use native.Mathlib.Omega.{arith}
+use lib.ListN.{length}
 use borrow.Author.Needs.{needs}
 use borrow.Fn.Kinds.{In}
 use borrow.Fn.PlainCycle.{Measures, is, falls, and}
@@ -10,19 +11,20 @@ use Rattle.lifting.specs.Line.{lo, count}
 use Rattle.wavelet.specs.Store.{storeLength}
 use Rattle.wavelet.proofs.SizeLaws.{count-lo}
 use Rattle.wavelet.proofs.StoreLaws.{store-back}
+use Rattle.level.proofs.SetLaws.{made-done, delivered-done}
+use Rattle.level.proofs.RestLaws.{at-rest, at-join}
 use Rattle.writer.specs.Counts.{skip}
-use Rattle.writer.proofs.RestLaws.{at-rest, at-join}
 use Rattle.writer.proofs.CascadeLaws.{left-still, left-small, arrive-none, arrive-odd, arrive-first, came-waits, came-last, came-goes}
 use Rattle.writer.proofs.cascade.arrive.Reads as arrive
 use Rattle.writer.proofs.cascade.arrive.Kinds as arrive-kinds
 use Rattle.writer.proofs.cascade.+arrive.Lts-arrive as arrive-lts
 use Rattle.wavelet.proofs.sizes.half.Reads as half-reads
-use Rattle.writer.proofs.cascade.deliver.Reads as deliver-reads
+use Rattle.level.proofs.making.make.Reads as make-reads
+use Rattle.level.proofs.making.deliver.Reads as deliver-reads
 use Rattle.writer.proofs.counts.deeper.Reads as deeper-reads
 use Rattle.writer.proofs.counts.further.Reads as further-reads
 use Rattle.writer.proofs.counts.most.Reads as most-reads
 use Rattle.writer.proofs.counts.next_band.Reads as next-band-reads
-use Rattle.writer.proofs.sets.make_with.Reads as make-with-reads
 use Rattle.writer.proofs.cascade.+arrive.{statement}
 use Rattle.writer.proofs.cascade.+arrive.Tie.{close}
 
@@ -38,8 +40,8 @@ arrive-below t = and 1 arrive-kinds.ps (falls 1 arrive-kinds.ps _<_ μ-arrive t)
 -- what is known of the calls, those of `arrive` itself at fewer levels
 abbrev claims : ℕ → arrive-lts.Claims
 claims t = (
-  make-with-reads.Asked,
-  make-with-reads.Learnt,
+  make-reads.Asked,
+  make-reads.Learnt,
   most-reads.Asked,
   most-reads.Learnt,
   next-band-reads.Asked,
@@ -68,12 +70,8 @@ arrive-returns-3 t c = let a = c .before .before .before .args in left-still (a 
 arrive-sub-n : (t : ℕ) → arrive-lts.Need-sub-n (claims t) (arrive-at t) arrive.Post
 arrive-sub-n t c = search needs
 
-arrive-make-with-requires : (t : ℕ) → arrive-lts.Need-make-with-requires (claims t) (arrive-at t) arrive.Post
-arrive-make-with-requires t c κs = omega (
-  arith,
-  store-back (c .before .before .before .before .args .w) (c .before .before .before .before .args .l)
-      (omega arith),
-)
+arrive-make-requires : (t : ℕ) → arrive-lts.Need-make-requires (claims t) (arrive-at t) arrive.Post
+arrive-make-requires t c κs = tt
 
 arrive-add-next-band : (t : ℕ) → arrive-lts.Need-add-next-band (claims t) (arrive-at t) arrive.Post
 arrive-add-next-band t c = search needs
@@ -93,7 +91,7 @@ arrive-same-length t c = search needs
 arrive-returns-4 : (t : ℕ) → arrive-lts.Need-returns-4 (claims t) (arrive-at t) arrive.Post
 arrive-returns-4 t c =
     let a = c .before .before .before .before .before .before .before .before .before .args in
-    came-waits (a .l) (a .w) (a .m) (a .m / 2 - 1) _ _ _ (omega arith) (omega arith) (c .before .before .before .before .make-with .ensures)
+    came-waits (a .l) (a .w) (a .m) (a .m / 2 - 1) _ _ _ (omega arith) (omega arith) (made-done (length (a .store .now)) (a .w) _ _ _ (omega (arith, store-back (a .w) (a .l) (omega arith))) (c .before .before .before .before .make .ensures .1))
     (c .before .next-band .ensures ∙ ap (skip (a .w) (a .m + 1) (a .m / 2 - 1)) (c .before .before .most .ensures)) (omega arith)
 
 arrive-same-length-2 : (t : ℕ) → arrive-lts.Need-same-length-2 (claims t) (arrive-at t) arrive.Post
@@ -102,14 +100,12 @@ arrive-same-length-2 t c = search needs
 arrive-returns-5 : (t : ℕ) → arrive-lts.Need-returns-5 (claims t) (arrive-at t) arrive.Post
 arrive-returns-5 t c =
     let a = c .before .before .before .before .before .before .before .before .before .before .args in
-    came-last (a .l) (a .w) (a .m) (a .m / 2 - 1) _ _ _ (omega arith) (omega arith) (c .before .before .before .before .before .make-with .ensures)
+    came-last (a .l) (a .w) (a .m) (a .m / 2 - 1) _ _ _ (omega arith) (omega arith) (made-done (length (a .store .now)) (a .w) _ _ _ (omega (arith, store-back (a .w) (a .l) (omega arith))) (c .before .before .before .before .before .make .ensures .1))
     (c .before .before .next-band .ensures ∙ ap (skip (a .w) (a .m + 1) (a .m / 2 - 1)) (c .before .before .before .most .ensures)) (omega arith)
     (omega arith)
 
 arrive-deliver-requires : (t : ℕ) → arrive-lts.Need-deliver-requires (claims t) (arrive-at t) arrive.Post
-arrive-deliver-requires t c κs =
-    let a = c .before .before .before .before .before .before .before .before .before .before .before .args in
-    omega (arith, store-back (a .w) (a .l) (omega arith), store-back (count lo (a .w)) (a .l - 1) (omega arith), count-lo (a .w))
+arrive-deliver-requires t c κs = tt
 
 arrive-mul-a : (t : ℕ) → arrive-lts.Need-mul-a (claims t) (arrive-at t) arrive.Post
 arrive-mul-a t c = search needs
@@ -161,18 +157,22 @@ arrive-same-length-3 t c = search needs
 arrive-returns-6 : (t : ℕ) → arrive-lts.Need-returns-6 (claims t) (arrive-at t) arrive.Post
 arrive-returns-6 t c =
     let e = c .before in
-    let a = e .before .before .before .before .before .before .before .before .before .before .before .before .before .before .before .before .before .before .args in
-    let l = e .before .before .before .before .before .before .deliver .last .0 in
+    let below = e .before .before in
+    let sent = below .before .before .before .before in
+    let band = sent .before .before .before .before in
+    let made = band .before .before .before in
+    let start = made .before .before .before .before .before in
+    let a = start .args in
+    let l = sent .deliver .last .0 in
     let s = store-back (a .w) (a .l) (omega (arith, e .before)) in
+    let q = store-back (count lo (a .w)) (a .l - 1) (omega (arith, e .before)) in
     came-goes (a .l) (a .w) (a .m) (a .m / 2 - 1) _ _ _ (omega (arith, e .before)) (omega (arith, e .before))
-    (e .before .before .before .before .before .before .before .before .before .before .before .before .before .make-with .ensures)
-    (e .before .before .before .before .before .before .before .before .before .before .next-band .ensures
-    ∙ ap (skip (a .w) (a .m + 1) (a .m / 2 - 1))
-    (e .before .before .before .before .before .before .before .before .before .before .before .most .ensures))
+    (made-done (length (a .store .now)) (a .w) _ _ _ (omega (arith, start .pre)) (made .make .ensures .1))
+    (band .next-band .ensures ∙ ap (skip (a .w) (a .m + 1) (a .m / 2 - 1)) (band .before .most .ensures))
     (omega (arith, e .before)) (omega (arith, e .before))
-    _ _ _ (at l) (at (e .before .before .arrive .last .0)) _ _ (e .before .before .before .half .ensures)
-    (e .before .before .before .before .before .before .deliver .ensures)
-    (rw (at-rest (4 * a .w) l) at (e .before .before .arrive .ensures)) (at-join (4 * a .w) l (e .before .before .arrive .last .0)
+    _ _ _ (at l) (at (below .arrive .last .0)) _ _ (below .before .half .ensures)
+    (delivered-done (length (made .make .last .0)) (a .w) _ _ _ (omega (arith, start .pre, made .make)) (sent .deliver .ensures .1))
+    (rw (at-rest (4 * a .w) l) at (below .arrive .ensures)) (at-join (4 * a .w) l (below .arrive .last .0)
     (omega (arith, e .before))) (e .deeper .ensures) (c .further .ensures)
 
 pub +arrive-spec : {M : Type 1} → statement M
@@ -187,7 +187,7 @@ pub +arrive-spec : {M : Type 1} → statement M
     (arrive-returns-2 t)
     (arrive-returns-3 t)
     (arrive-sub-n t)
-    (arrive-make-with-requires t)
+    (arrive-make-requires t)
     (arrive-add-next-band t)
     (arrive-sub-most t)
     (arrive-most-requires t)

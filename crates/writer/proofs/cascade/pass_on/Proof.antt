@@ -2,12 +2,14 @@
 use mathlib.Core.Path.{ap}
 use Prim.Native.Nat.{ℕ, _+_, _*_}
 use native.Mathlib.Omega.{arith}
+use lib.ListN.{length}
 use Rattle.numbers.specs.Signal.{at}
 use Rattle.lifting.specs.Line.{lo, count}
 use Rattle.wavelet.specs.Store.{storeLength}
 use Rattle.wavelet.proofs.SizeLaws.{count-lo}
 use Rattle.wavelet.proofs.StoreLaws.{store-next, store-back}
-use Rattle.writer.proofs.RestLaws.{at-rest, at-join}
+use Rattle.level.proofs.SetLaws.{delivered-done}
+use Rattle.level.proofs.RestLaws.{at-rest, at-join}
 use Rattle.writer.proofs.CascadeLaws.{left-still, left-small, pass-none, passed-goes}
 use borrow.Author.Needs.{needs}
 use Rattle.writer.proofs.cascade.pass_on.Statement.{statement}
@@ -17,9 +19,7 @@ returns : tie.Need-returns
 returns c = let a = c .before .args in left-still (a .l + 1) (a .w) _ _ (pass-none (a .w) (a .n) _ (a .l) (omega arith))
 
 deliver-requires : tie.Need-deliver-requires
-deliver-requires c κs =
-    let a = c .before .before .args in
-    omega (arith, store-next (a .w) (a .l), store-back (count lo (a .w)) (a .l) (omega arith))
+deliver-requires c κs = tt
 
 mul-a : tie.Need-mul-a
 mul-a c = search needs
@@ -63,8 +63,9 @@ returns-2 c =
     let a = e .before .before .before .before .before .before .before .before .before .args in
     let l = e .before .before .before .before .before .before .deliver .last .0 in
     let s = store-next (a .w) (a .l) in
+    let q = store-back (count lo (a .w)) (a .l) (omega arith) in
     passed-goes (a .l) (a .w) (a .n) _ _ _ _ (at l) (at (e .before .before .arrive .last .0)) _ _ (omega arith)
-    (e .before .before .before .half .ensures) (e .before .before .before .before .before .before .deliver .ensures)
+    (e .before .before .before .half .ensures) (delivered-done (length (a .store .now)) (a .w) _ _ _ (omega arith) (e .before .before .before .before .before .before .deliver .ensures .1))
     (rw (at-rest (4 * a .w) l) at (e .before .before .arrive .ensures)) (at-join (4 * a .w) l (e .before .before .arrive .last .0) (omega arith))
     (e .deeper .ensures) (c .further .ensures)
 

@@ -7,8 +7,8 @@ use Rattle.numbers.specs.Signal.{at}
 use Rattle.wavelet.specs.Store.{storeLength}
 use Rattle.wavelet.proofs.SizeLaws.{count-lo}
 use Rattle.wavelet.proofs.StoreLaws.{store-back}
-use Rattle.writer.proofs.CountLaws.{prev-is}
-use Rattle.writer.proofs.RestLaws.{at-rest, at-join}
+use Rattle.level.proofs.Places.{prev-is}
+use Rattle.level.proofs.RestLaws.{at-rest, at-join}
 use Rattle.writer.proofs.ClosingLaws.{closed-small, shut-none, shut-waits, shut-goes}
 use borrow.Fn.Kinds.{In}
 use borrow.Fn.PlainCycle.{Measures, is, falls, and}

@@ -1,10 +1,12 @@
 -- `closing::close_level` meets its contract: each way out is the machine's step. Assumes nothing.
 use Prim.Native.Nat.{_+_}
 use native.Mathlib.Omega.{arith}
+use lib.ListN.{length}
 use borrow.Author.Needs.{needs}
 use Rattle.wavelet.proofs.SizeLaws.{count-lo}
 use Rattle.wavelet.proofs.StoreLaws.{store-next}
-use Rattle.writer.proofs.CountLaws.{prev-is}
+use Rattle.level.proofs.SetLaws.{closed-done}
+use Rattle.level.proofs.Places.{prev-is}
 use Rattle.writer.proofs.CascadeLaws.{left-still}
 use Rattle.writer.proofs.ClosingLaws.{level-closed, level-empty, close-waits, close-goes}
 use Rattle.writer.proofs.closing.close_level.Statement.{statement}
@@ -22,8 +24,8 @@ half-requires c κs = search needs
 prev-requires : tie.Need-prev-requires
 prev-requires c κs = search needs
 
-close-set-requires : tie.Need-close-set-requires
-close-set-requires c κs = let a = c .before .before .before .before .before .args in omega (arith, store-next (a .w) (a .l))
+close-requires : tie.Need-close-requires
+close-requires c κs = tt
 
 most-requires : tie.Need-most-requires
 most-requires c κs = search needs
@@ -37,7 +39,7 @@ same-length c = search needs
 returns-3 : tie.Need-returns-3
 returns-3 c = let a = c .before .before .before .before .before .before .before .before .before .before .args in close-waits (a .l) (a .w) (a .c)
     (a .m) _ _ _ _ _ _ (omega arith) (omega arith) (c .before .before .before .before .before .before .before .half .ensures)
-    (c .before .before .before .before .before .before .prev .ensures) (c .before .before .before .before .close-set .ensures)
+    (c .before .before .before .before .before .before .prev .ensures) (closed-done (length (a .store .now)) (a .w) _ _ _ (omega (arith, store-next (a .w) (a .l))) (c .before .before .before .before .close .ensures .1))
     (c .before .before .most .ensures) (c .before .next-band .ensures) (omega arith)
 
 pass-on-requires : tie.Need-pass-on-requires
@@ -52,7 +54,7 @@ returns-4 c = let a = c .before .before .before .before .before .before .before 
     close-goes (a .l) (a .w) (a .c) (a .m) _ _ _ _ _ _ (omega arith) (omega arith)
     (c .before .before .before .before .before .before .before .before .before .before .half .ensures)
     (c .before .before .before .before .before .before .before .before .before .prev .ensures)
-    (c .before .before .before .before .before .before .before .close-set .ensures)
+    (closed-done (length (a .store .now)) (a .w) _ _ _ (omega (arith, store-next (a .w) (a .l))) (c .before .before .before .before .before .before .before .close .ensures .1))
     (c .before .before .before .before .before .most .ensures) (c .before .before .before .before .next-band .ensures) _ _
     (omega arith) (c .before .pass-on .ensures)
 
@@ -64,7 +66,7 @@ close-level-spec =
     returns-2
     half-requires
     prev-requires
-    close-set-requires
+    close-requires
     most-requires
     next-band-requires
     same-length

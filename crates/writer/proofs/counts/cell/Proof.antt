@@ -3,8 +3,7 @@ use mathlib.Core.Path.{_≡_, sym, ap, _∙_}
 use native.Mathlib.Omega.{arith}
 use borrow.Author.Needs.{needs}
 use Rattle.wavelet.proofs.SizeLaws.{count-lo}
-use Rattle.writer.proofs.CountLaws.{slot-room}
-use Rattle.writer.proofs.FillLaws.{cell-even, cell-odd}
+use Rattle.level.proofs.Places.{slot-room, cell-even, cell-odd}
 use Rattle.writer.proofs.counts.cell.Statement.{statement}
 use Rattle.writer.proofs.counts.cell.Tie as tie
 

@@ -2,7 +2,8 @@
 use mathlib.Core.Path.{sym, _∙_}
 use native.Mathlib.Omega.{arith}
 use borrow.Author.Needs.{needs}
-use Rattle.writer.proofs.CountLaws.{prev-is, made-open, made-shut}
+use Rattle.level.proofs.Places.{prev-is}
+use Rattle.writer.proofs.CountLaws.{made-open, made-shut}
 use Rattle.writer.proofs.counts.made.Statement.{statement}
 use Rattle.writer.proofs.counts.made.Tie as tie
 

@@ -1,7 +1,7 @@
 -- `counts::prev` meets its contract. Assumes nothing.
 use native.Mathlib.Omega.{arith}
 use borrow.Author.Needs.{needs}
-use Rattle.writer.proofs.CountLaws.{prev-is}
+use Rattle.level.proofs.Places.{prev-is}
 use Rattle.writer.proofs.counts.prev.Statement.{statement}
 use Rattle.writer.proofs.counts.prev.Tie as tie
 

@@ -1,18 +1,16 @@
--- `counts::slot` meets its contract. Assumes nothing.
-use mathlib.Core.Path.{refl}
+-- `counts::slot` meets its contract: the width is far from what the call turns away. Assumes nothing.
+use mathlib.Core.Path.{_∙_}
+use Prim.Native.Nat.{_^_}
 use native.Mathlib.Omega.{arith}
-use Rattle.writer.specs.FiveThreeLevel.{slot}
-use Rattle.writer.proofs.CountLaws.{slot-room}
+use borrow.Author.Tests.{lt-ltb}
 use Rattle.writer.proofs.counts.slot.Statement.{statement}
 use Rattle.writer.proofs.counts.slot.Tie as tie
 
-mul-result : tie.Need-mul-result
-unfolding slot
-mul-result c = omega (arith, slot-room (c .args .w) (c .args .r))
+slot-requires : tie.Need-slot-requires
+slot-requires c κs = tt
 
 returns : tie.Need-returns
-unfolding slot
-returns c = refl
+returns c = c .slot .ensures ∙ simp (lt-ltb (c .before .args .w) (2 ^ 62) (omega arith))
 
 pub slot-spec : {M : Type 1} → statement M
-slot-spec = tie.close (tie.spec mul-result returns)
+slot-spec = tie.close (tie.spec slot-requires returns)

@@ -4,9 +4,10 @@ use Prim.Native.Nat.{_+_, _*_}
 use native.Mathlib.Omega.{arith}
 use borrow.Author.Needs.{needs}
 use Rattle.wavelet.proofs.SizeLaws.{count-lo}
+use Rattle.level.specs.FiveThreeLevel.{bandPlace}
+use Rattle.level.proofs.Places.{slot-room}
 use Rattle.writer.specs.Counts.{bandAt}
-use Rattle.writer.specs.FiveThreeLevel.{bandPlace}
-use Rattle.writer.proofs.CountLaws.{slot-room, same-band}
+use Rattle.writer.proofs.CountLaws.{same-band}
 use Rattle.writer.proofs.draws.place.Statement.{statement}
 use Rattle.writer.proofs.draws.place.Tie as tie
 

@@ -4,8 +4,9 @@ use native.Mathlib.Omega.{arith}
 use borrow.Author.Needs.{needs}
 use Rattle.numbers.specs.Signal.{at}
 use Rattle.wavelet.proofs.StoreLaws.{store-le}
-use Rattle.writer.proofs.CountLaws.{prev-is, made-le}
-use Rattle.writer.proofs.RestLaws.{at-rest, at-join}
+use Rattle.level.proofs.Places.{prev-is}
+use Rattle.level.proofs.RestLaws.{at-rest, at-join}
+use Rattle.writer.proofs.CountLaws.{made-le}
 use Rattle.writer.proofs.CascadeLaws.{left-small}
 use Rattle.writer.proofs.DrawLaws.{pull-waits, pull-goes}
 use Rattle.writer.proofs.draws.pull.Statement.{statement}

@@ -3,8 +3,9 @@ use Prim.Native.Nat.{_+_}
 use native.Mathlib.Omega.{arith}
 use borrow.Author.Needs.{needs}
 use Rattle.wavelet.proofs.StoreLaws.{store-le}
+use Rattle.level.proofs.Places.{prev-is}
 use Rattle.writer.specs.Counts.{bandAt}
-use Rattle.writer.proofs.CountLaws.{prev-is, made-le}
+use Rattle.writer.proofs.CountLaws.{made-le}
 use Rattle.writer.proofs.DrawLaws.{place-room, found}
 use Rattle.writer.proofs.draws.waiting.Statement.{statement}
 use Rattle.writer.proofs.draws.waiting.Tie as tie

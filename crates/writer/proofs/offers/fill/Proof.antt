@@ -4,10 +4,11 @@ use Prim.Native.Nat.{ℕ, _+_, _*_, _/_}
 use native.Mathlib.Omega.{arith}
 use lib.ListN.{length, getD}
 use Rattle.numbers.specs.Signal.{at}
+use Rattle.level.proofs.Places.{cell-in}
 use Rattle.writer.specs.Taking.{heightAt}
 use Rattle.writer.specs.Stretch.{heightsPut}
 use Rattle.writer.proofs.Filling.{height-fits, height-read}
-use Rattle.writer.proofs.FillLaws.{cell-in, Put, put-one}
+use Rattle.writer.proofs.FillLaws.{Put, put-one}
 use borrow.Author.Needs.{needs}
 use Rattle.writer.proofs.offers.fill.Statement.{statement}
 use Rattle.writer.proofs.offers.fill.Tie as tie

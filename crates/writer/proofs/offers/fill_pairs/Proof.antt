@@ -4,7 +4,7 @@ use Prim.Native.Nat.{ℕ, _+_, _*_, _-_, _^_, _≤_, _<_}
 use native.Mathlib.Omega.{arith}
 use lib.ListN.{length, getD, length-set}
 use Rattle.numbers.specs.Signal.{at}
-use Rattle.writer.specs.FiveThreeLevel.{cellOf}
+use Rattle.level.specs.FiveThreeLevel.{cellOf}
 use Rattle.writer.specs.Taking.{heightAt}
 use Rattle.writer.specs.Stretch.{heightsPut}
 use Rattle.writer.proofs.Filling.{height-fits, height-read}

@@ -1,0 +1,88 @@
+-- Where the rows and the columns of a 5/3 level stand, as the code's branches meet it. Assumes nothing.
+use mathlib.Core.Path.{_≡_, refl, ap}
+use Prim.Native.Nat.{ℕ, zero, suc, _+_, _-_, _*_, _/_, _%_, _<_, _≤_}
+use native.Mathlib.Decide.{ℕ-discrete}
+use native.Mathlib.Omega.{arith}
+use native.Mathlib.Nat.{mul-le-mul-right}
+use borrow.Author.Tests.{eq-eqb, ne-eqb}
+use Rattle.lifting.specs.Line.{lo, count}
+use Rattle.wavelet.proofs.SizeLaws.{count-lo}
+use Rattle.level.specs.Level.{prev}
+use Rattle.level.specs.FiveThreeLevel.{slot, cellOf, before}
+
+pub prev-is : (n : ℕ) → prev n ≡ n - 1
+prev-is zero = omega arith
+prev-is (suc n) = omega arith
+
+pub before-first : (n : ℕ) → n ≡ 0 → 1 ≡ before n
+unfolding before
+before-first zero e = refl
+before-first (suc n) e = absurd (omega arith)
+
+pub before-is : (n : ℕ) → 0 < n → before n ≡ 2 * (n - 1) + 1
+unfolding before
+before-is zero h = absurd (omega arith)
+before-is (suc n) h = omega arith
+
+-- ---- a slot lies within the level's four rows
+pub slot-index : (r : ℕ) → r % 4 < 4
+slot-index r = omega arith
+
+pub row-room : (w t : ℕ) → t < 4 → t * w + w ≤ 4 * w
+row-room w t h = omega (arith, mul-le-mul-right {m = t} {n = 3} w (omega arith))
+
+pub slot-room : (w r : ℕ) → slot w r + w ≤ 4 * w
+unfolding slot
+slot-room w r = row-room w (r % 4) (slot-index r)
+
+pub slot-is : (w r : ℕ) → r % 4 * w ≡ slot w r
+unfolding slot
+slot-is w r = refl
+
+-- rows four apart have one slot
+pub slot-same : (w r q : ℕ) → r % 4 ≡ q % 4 → slot w r ≡ slot w q
+unfolding slot
+slot-same w r q e = ap (λ (t : ℕ). t * w) e
+
+-- the slots of set n, by its parity
+pub low-slot : (n : ℕ) → 2 * (n % 2) ≡ 2 * n % 4
+low-slot n = omega arith
+
+pub high-slot : (n : ℕ) → 2 * (n % 2) + 1 ≡ (2 * n + 1) % 4
+high-slot n = omega arith
+
+pub free-slot : (n : ℕ) → (2 * (n % 2) + 3) % 4 ≡ (2 * n + 3) % 4
+free-slot n = omega arith
+
+-- ---- the places of columns
+module _ (w m c : ℕ) where
+  pub cell-even : c % 2 ≡ 0 → cellOf w m c ≡ slot w m + c / 2
+  unfolding cellOf
+  cell-even e = simp (eq-eqb (c % 2) 0 e)
+
+  pub cell-odd : (c % 2 ≡ 0 → ⊥) → cellOf w m c ≡ slot w m + (count lo w + c / 2)
+  unfolding cellOf
+  cell-odd e = simp (ne-eqb (c % 2) 0 e)
+
+  pub cell-in : c < w → cellOf w m c < 4 * w
+  cell-in h =
+      let s = slot-room w m in
+      let n = count-lo w in
+      elim (ℕ-discrete (c % 2) 0) [
+        | yes e ↦ omega (arith, cell-even e)
+        | no e ↦ omega (arith, cell-odd e, e)
+      ]
+
+-- two columns on is one place on
+pub cell-on : (w m c j : ℕ) → cellOf w m (c + 2 * j) ≡ cellOf w m c + j
+cell-on w m c j =
+    elim (ℕ-discrete (c % 2) 0) [
+      | yes e ↦
+          let d : (c + 2 * j) % 2 ≡ 0 = omega arith in
+          let q : (c + 2 * j) / 2 ≡ c / 2 + j = omega arith in
+          omega (arith, cell-even w m (c + 2 * j) d, cell-even w m c e, q)
+      | no e ↦
+          let d : (c + 2 * j) % 2 ≡ 1 = omega (arith, e) in
+          let q : (c + 2 * j) / 2 ≡ c / 2 + j = omega arith in
+          omega (arith, cell-odd w m (c + 2 * j) (λ z. omega arith), cell-odd w m c e, q)
+    ]

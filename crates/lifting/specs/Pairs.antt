@@ -1,0 +1,32 @@
+-- A pair of rows lifted along the columns: row h, a high row, predicted by rows l and r, the low rows on both sides of it, and then row l updated by row b,
+-- the high row before, and by row h. Rows are those of `Rows`: row t is the w numbers from place t * s on.
+use mathlib.Core.Bool.{Bool, false}
+use Prim.Native.Nat.{ℕ}
+use lib.IntN.{ℤ}
+use lib.Dec.{eqb}
+use Rattle.numbers.specs.Signal.{pick, both, stored}
+use Rattle.numbers.specs.Word.{wrap32}
+use Rattle.lifting.specs.Line.{predicted, updated}
+use Rattle.lifting.specs.Rows.{rowFits, rowsFit, rowChanged}
+
+-- the four rows lie within n numbers, and rows h and l are two; any others may be the same
+unfoldable pub pairFits : ℕ → ℕ → ℕ → ℕ → ℕ → ℕ → ℕ → Bool
+pairFits n s w h l r b = pick (eqb l h) false (both (rowsFit n s w h l r) (rowFits n s w b))
+
+unfoldable pub pairLifted : ℕ → ℕ → ℕ → ℕ → ℕ → ℕ → (ℕ → ℤ) → ℕ → ℤ
+pairLifted s w h l r b x = rowChanged (updated wrap32) s w l b h (rowChanged (predicted wrap32) s w h l r x)
+
+-- the same, and row h copied to row b: each number becomes that of row h
+abbrev pub first : ℤ → ℤ → ℤ → ℤ
+first v a b = a
+
+unfoldable pub pairCopied : ℕ → ℕ → ℕ → ℕ → ℕ → ℕ → (ℕ → ℤ) → ℕ → ℤ
+pairCopied s w h l r b x = rowChanged first s w b h h (pairLifted s w h l r b x)
+
+-- ---- one column, at its places in these rows. Private functions alone cite this.
+-- the number at place t changed by f of itself and those at places l and r
+abbrev pub changedAt : (ℤ → ℤ → ℤ → ℤ) → ℕ → ℕ → ℕ → (ℕ → ℤ) → ℕ → ℤ
+changedAt f t l r x = stored t (f (x t) (x l) (x r)) x
+
+abbrev pub liftedAt : ℕ → ℕ → ℕ → ℕ → (ℕ → ℤ) → ℕ → ℤ
+liftedAt h l r b x = changedAt (updated wrap32) l b h (changedAt (predicted wrap32) h l r x)
