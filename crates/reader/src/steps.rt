@@ -44,16 +44,16 @@ pub fn completes(s: Reader, n: Next) -> bool
     requires { ⌜ Counts s × Due s n × (0 < n .spot .level) ⌝ }
     ensures { λ r. ⌜ Completing s n r ⌝ }
 {
-    4
-        <= walk::band_at(
-            s.width,
-            s.height,
-            s.levels,
-            s.drawn,
-            n.spot.level - 1,
-            n.at,
-            n.spot.band + 1,
-        )
+    let c = walk::band_at(
+        s.width,
+        s.height,
+        s.levels,
+        s.drawn,
+        n.spot.level - 1,
+        n.at,
+        n.spot.band + 1,
+    );
+    4 <= c
 }
 
 // The sets that wait worked out.
