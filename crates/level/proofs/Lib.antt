@@ -5,3 +5,4 @@ pub mod SetLaws
 pub mod RestLaws
 pub mod PairLaws
 pub mod DeliverLaws
+pub mod FillLaws

@@ -3,3 +3,4 @@ pub mod Level
 pub mod FiveThreeLevel
 -- What the calls ask and leave.
 pub mod Making
+pub mod Heights
