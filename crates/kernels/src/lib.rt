@@ -83,7 +83,10 @@ pub extern "C" fn kernel_lift_pair(
     before: usize,
 ) -> u32
     ensures { λ r. ⌜ r ≡ pick (pairFits (length (now (area .entry))) stride width high low right before) 0 5 ⌝ }
-    ensures { λ r. ⌜ at (now (area .exit)) ≡ pick (pairFits (length (now (area .entry))) stride width high low right before) (pairLifted stride width high low right before (at (now (area .entry)))) (at (now (area .entry))) ⌝ }
+    ensures { λ r. ⌜
+        at (now (area .exit)) ≡ pick (pairFits (length (now (area .entry))) stride width high low right before)
+        (pairLifted stride width high low right before (at (now (area .entry)))) (at (now (area .entry)))
+        ⌝ }
 {
     pairs::lift_pair(area, stride, width, high, low, right, before) as u32
 }
@@ -99,7 +102,10 @@ pub extern "C" fn kernel_lift_and_copy(
     before: usize,
 ) -> u32
     ensures { λ r. ⌜ r ≡ pick (pairFits (length (now (area .entry))) stride width high low right before) 0 5 ⌝ }
-    ensures { λ r. ⌜ at (now (area .exit)) ≡ pick (pairFits (length (now (area .entry))) stride width high low right before) (pairCopied stride width high low right before (at (now (area .entry)))) (at (now (area .entry))) ⌝ }
+    ensures { λ r. ⌜
+        at (now (area .exit)) ≡ pick (pairFits (length (now (area .entry))) stride width high low right before)
+        (pairCopied stride width high low right before (at (now (area .entry)))) (at (now (area .entry)))
+        ⌝ }
 {
     pairs::lift_and_copy(area, stride, width, high, low, right, before) as u32
 }

@@ -21,13 +21,15 @@ module _ (w n : ℕ) (x : ℕ → ℤ) where
   at = 4 * w + slot (count lo w) n
 
   -- the LL row, written straight into its place
-  written : delivered w n x ≡ spliced (at + count lo (count lo w)) (count hi (count lo w)) (λ j. row (2 * j + 1)) (spliced at (count lo (count lo w)) (λ j. row (2 * j)) x)
+  written : delivered w n x
+      ≡ spliced (at + count lo (count lo w)) (count hi (count lo w)) (λ j. row (2 * j + 1)) (spliced at (count lo (count lo w)) (λ j. row (2 * j)) x)
   unfolding delivered rowPut bandPlace
   written =
       join-splice (4 * w) (slot (count lo w) n) (count lo w) _ x
       ∙ splice-halves at (count lo w) row _ x
 
-  module _ (v low k from to : ℕ) (ev : v ≡ count lo w) (el : low ≡ count lo v) (ek : k ≡ v - low) (ef : from ≡ slot w (2 * n)) (et : to ≡ 4 * w + slot v n) where
+  module _ (v low k from to : ℕ) (ev : v ≡ count lo w) (el : low ≡ count lo v) (ek : k ≡ v - low)
+      (ef : from ≡ slot w (2 * n)) (et : to ≡ 4 * w + slot v n) where
     halved : spliced (to + low) k (λ j. x (from + (2 * j + 1))) (spliced to low (λ j. x (from + 2 * j)) x) ≡ delivered w n x
     halved =
         let both = counts (count lo w) in
@@ -50,7 +52,8 @@ module _ (w n : ℕ) (x : ℕ → ℤ) where
         let c₁ = count-lo w in
         let c₂ = count-lo v in
         let m : k + 1 ≡ low = omega arith in
-        let u : x₁ (from + 2 * k) ≡ x (from + 2 * k) = ap (λ (y : ℕ → ℤ). y (from + 2 * k)) e ∙ separated-below from to (to + low) k x (from + 2 * k) (omega arith) (omega arith) in
+        let u : x₁ (from + 2 * k) ≡ x (from + 2 * k) =
+        ap (λ (y : ℕ → ℤ). y (from + 2 * k)) e ∙ separated-below from to (to + low) k x (from + 2 * k) (omega arith) (omega arith) in
         e₂
         ∙ rw u (ap (stored (to + k) (x (from + 2 * k))) e)
         ∙ separated-last from to (to + low) k x (omega arith)

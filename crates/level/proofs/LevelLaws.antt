@@ -20,7 +20,9 @@ use Rattle.wavelet.proofs.SizeLaws.{count-lo, count-hi}
 use Rattle.level.specs.Level.{Memory, LevelKind, prev, Meaning, SetStands}
 use Rattle.level.specs.FiveThreeLevel.{cellOf, rowPut, setWith, setMade, lastSet, lowAlone, bandPlace, fiveThree, RowStands, Kept}
 use Rattle.level.proofs.Places.{prev-is, slot-room}
-use Rattle.level.proofs.Slots.{spot, cell-spot, spot-even, spot-odd, spot-in, spot-apart, slots-apart′, Only, only-row, only-past, spliced-only, spliced-at, stored-only, next-stays, set-past, high-stays, set-stands, alone-stands, alone-past}
+use Rattle.level.proofs.Slots.{spot, cell-spot, spot-even, spot-odd, spot-in, spot-apart, slots-apart′}
+use Rattle.level.proofs.Slots.{Only, only-row, only-past, spliced-only, spliced-at, stored-only}
+use Rattle.level.proofs.Slots.{next-stays, set-past, high-stays, set-stands, alone-stands, alone-past}
 
 -- Held w H g m c x: what a level holds after m rows of g and c columns of row m
 pub record LevelLaws (K : LevelKind) (Held : Meaning) : Type 0 where
@@ -28,7 +30,8 @@ pub record LevelLaws (K : LevelKind) (Held : Meaning) : Type 0 where
   pub held-none : (w H : ℕ) (g : Grid) (x : Memory) → Held w H g 0 0 x
   -- a number of row m more, or all of row m
   pub held-cell : (w H : ℕ) (g : Grid) (m c : ℕ) (x : Memory) → c < w → Held w H g m c x → Held w H g m (suc c) (stored (K .cell w m c) (g m c) x)
-  pub held-put : (w H : ℕ) (g : Grid) (m : ℕ) (row : ℕ → ℤ) (x : Memory) → ((i : ℕ) → i < w → row i ≡ g m i) → Held w H g m 0 x → Held w H g m w (K .put w m row x)
+  pub held-put : (w H : ℕ) (g : Grid) (m : ℕ) (row : ℕ → ℤ) (x : Memory) → ((i : ℕ) → i < w → row i ≡ g m i) →
+      Held w H g m 0 x → Held w H g m w (K .put w m row x)
   -- row m is there: a row more, which makes a set if its number is even and not 0
   pub held-first : (w H : ℕ) (g : Grid) (x : Memory) → Held w H g 0 w x → Held w H g 1 0 x
   pub held-odd : (w H : ℕ) (g : Grid) (n : ℕ) (x : Memory) → Held w H g (2 * n + 1) w x → Held w H g (2 * n + 2) 0 x
@@ -123,7 +126,10 @@ module _ (w H : ℕ) (g : Grid) (n : ℕ) (x : Memory) (h : 2 * n + 2 < H) (k : 
   kept-make : Kept w H g (2 * n + 3) 0 (setMade w n x)
   unfolding setMade
   kept-make = record {
-    even = λ i p q. let z : i ≡ suc n = omega arith in let e : 2 * suc n ≡ 2 * n + 2 = omega arith in rw z (rw e (next-stays w H g n (2 * n + 2) x w (g (2 * n + 2)) (omega arith) (k .begun)));
+    even = λ i p q.
+        let z : i ≡ suc n = omega arith in
+        let e : 2 * suc n ≡ 2 * n + 2 = omega arith in
+        rw z (rw e (next-stays w H g n (2 * n + 2) x w (g (2 * n + 2)) (omega arith) (k .begun)));
     odd = λ i p. absurd (omega arith);
     high = λ i p q. let z : i ≡ n = omega arith in rw z kept-high;
     begun = λ i p. absurd (omega arith);
@@ -197,7 +203,12 @@ place-in w n HH i h = omega (arith, slot-room w (2 * n + 3), count-lo w, count-h
 
 pub five-three-laws : LevelLaws fiveThree Kept
 five-three-laws = record {
-  held-none = λ w H g x. record { even = λ n p q. absurd (omega arith); odd = λ n p. absurd (omega arith); high = λ n p q. absurd (omega arith); begun = λ i p. absurd (omega arith) };
+  held-none = λ w H g x. record {
+    even = λ n p q. absurd (omega arith);
+    odd = λ n p. absurd (omega arith);
+    high = λ n p q. absurd (omega arith);
+    begun = λ i p. absurd (omega arith);
+  };
   held-cell = kept-cell;
   held-put = kept-put;
   held-first = kept-first;

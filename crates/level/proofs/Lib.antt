@@ -6,6 +6,7 @@ pub mod SetLaws
 pub mod RestLaws
 pub mod PairLaws
 pub mod DeliverLaws
+pub mod FillLaws
 -- The way back.
 pub mod OpenedSets
 pub mod SlotLaws

@@ -43,7 +43,9 @@ module _ (a k : ℕ) (y : ℕ → ℤ) where
               | no n ↦
                   elim (decLt j (a + k)) [
                     | yes q ↦ splice-in a k y (stored p v x) j (omega arith) q ∙ sym (stored-off p j v _ d ∙ splice-in a k y x j (omega arith) q)
-                    | no m ↦ splice-past a k y (stored p v x) j (omega arith) ∙ stored-off p j v x d ∙ sym (stored-off p j v _ d ∙ splice-past a k y x j (omega arith))
+                    | no m ↦
+                        splice-past a k y (stored p v x) j (omega arith) ∙ stored-off p j v x d
+                        ∙ sym (stored-off p j v _ d ∙ splice-past a k y x j (omega arith))
                   ]
             ]
       ]
@@ -100,7 +102,8 @@ module _ (a e o n : ℕ) (m₀ : List ℤ) where
   pub pairs-again : (j : ℕ) (m : List ℤ) (v : ℤ) → Pairs a e o n m₀ j m → (p : ℕ) → p < a + 2 * n → at (set m (e + j) v) p ≡ at m₀ p
   pairs-again j m v c p h = getD-set-other m (e + j) p v (pos 0) (λ q. omega (arith, c .before, q)) ∙ pairs-read j m c p h
 
-  pub pairs-turn : (j : ℕ) (m : List ℤ) (v u : ℤ) → Pairs a e o n m₀ j m → j < n → v ≡ at m₀ (a + 2 * j) → u ≡ at m₀ (a + (2 * j + 1)) → Pairs a e o n m₀ (j + 1) (set (set m (e + j) v) (o + j) u)
+  pub pairs-turn : (j : ℕ) (m : List ℤ) (v u : ℤ) → Pairs a e o n m₀ j m → j < n → v ≡ at m₀ (a + 2 * j) →
+      u ≡ at m₀ (a + (2 * j + 1)) → Pairs a e o n m₀ (j + 1) (set (set m (e + j) v) (o + j) u)
   pairs-turn j m v u c h ev eu =
       let n₁ = length-set m (e + j) v in
       let n₂ = length-set (set m (e + j) v) (o + j) u in

@@ -94,7 +94,8 @@ join-splice a b n y x =
     ]
 
 -- a row in halves, written as its even and then its odd columns
-pub splice-halves : (b v : ℕ) (row z x : ℕ → ℤ) → spliced b v (partedInto v row z) x ≡ spliced (b + count lo v) (count hi v) (λ j. row (2 * j + 1)) (spliced b (count lo v) (λ j. row (2 * j)) x)
+pub splice-halves : (b v : ℕ) (row z x : ℕ → ℤ) → spliced b v (partedInto v row z) x
+    ≡ spliced (b + count lo v) (count hi v) (λ j. row (2 * j + 1)) (spliced b (count lo v) (λ j. row (2 * j)) x)
 splice-halves b v row z x =
     let both = counts v in
     let low : ℕ → ℤ = spliced b (count lo v) (λ j. row (2 * j)) x in
@@ -106,14 +107,18 @@ splice-halves b v row z x =
             | yes q ↦
                 splice-in b v _ x j (omega arith) q
                 ∙ elim (decLt (j - b) (count lo v)) [
-                  | yes r ↦ even (j - b) r ∙ sym (splice-below (b + count lo v) (count hi v) _ low j (omega arith) ∙ splice-in b (count lo v) _ x j (omega arith) (omega arith))
+                  | yes r ↦
+                      even (j - b) r
+                      ∙ sym (splice-below (b + count lo v) (count hi v) _ low j (omega arith) ∙ splice-in b (count lo v) _ x j (omega arith) (omega arith))
                   | no r ↦
                       let k : j - b - count lo v ≡ j - (b + count lo v) = omega arith in
                       odd (j - b) (omega arith) (omega arith)
                       ∙ ap (λ (i : ℕ). row (2 * i + 1)) k
                       ∙ sym (splice-in (b + count lo v) (count hi v) _ low j (omega arith) (omega arith))
                 ]
-            | no q ↦ splice-past b v _ x j (omega arith) ∙ sym (splice-past (b + count lo v) (count hi v) _ low j (omega arith) ∙ splice-past b (count lo v) _ x j (omega arith))
+            | no q ↦
+                splice-past b v _ x j (omega arith)
+                ∙ sym (splice-past (b + count lo v) (count hi v) _ low j (omega arith) ∙ splice-past b (count lo v) _ x j (omega arith))
           ]
     ]
   where

@@ -13,7 +13,7 @@ use borrow.Author.Tests.{eq-eqb, ne-eqb, le-leb, lt-leb, leb-true}
 use Rattle.numbers.specs.Signal.{at, pick}
 use Rattle.numbers.specs.Word.{wrap32}
 use Rattle.numbers.proofs.Parts.{length-mid, at-mid, at-put}
-use Rattle.lifting.specs.Line.{lo, count, predicted, updated}
+use Rattle.lifting.specs.Line.{lo, count, updated}
 use Rattle.lifting.specs.Halves.{liftedInPlace}
 use Rattle.lifting.specs.Rows.{rowChanged, rowsChanged}
 use Rattle.lifting.proofs.RowLaws.{rows-fit, changed}
@@ -26,7 +26,8 @@ use Rattle.level.proofs.Places.{slot-index, slot-same, row-room, before
 use Rattle.level.proofs.Slots.{slots-apart′}
 
 -- a row lifted in a part of the store that is lent
-pub lift-part : (w r a k : ℕ) (l z : List ℤ) → a ≡ slot w r → k ≡ w → a + w ≤ length l → length z ≡ k → at z ≡ liftedInPlace (length (midOf a k l)) (at (midOf a k l)) → at (putMid a k l z) ≡ rowLifted w r (at l)
+pub lift-part : (w r a k : ℕ) (l z : List ℤ) → a ≡ slot w r → k ≡ w → a + w ≤ length l → length z ≡ k →
+    at z ≡ liftedInPlace (length (midOf a k l)) (at (midOf a k l)) → at (putMid a k l z) ≡ rowLifted w r (at l)
 unfolding rowLifted
 lift-part w r a k l z e d h s q =
     let mid = length-mid a k l (omega arith) in
@@ -40,7 +41,8 @@ row-call f n w t l r x h a b d =
 -- a pair of rows that are slots
 slots-fit : (n w h l r b : ℕ) → (l ≡ h → ⊥) → 4 * w ≤ n → h < 4 → l < 4 → r < 4 → b < 4 → pairFits n w w h l r b ≡ true
 slots-fit n w h l r b q k ih il ir ib =
-    pair-fits n w w h l r b q (omega arith) (omega (arith, row-room w h ih)) (omega (arith, row-room w l il)) (omega (arith, row-room w r ir)) (omega (arith, row-room w b ib))
+    pair-fits n w w h l r b q (omega arith) (omega (arith, row-room w h ih)) (omega (arith, row-room w l il))
+    (omega (arith, row-room w r ir)) (omega (arith, row-room w b ib))
 
 -- the columns of set n, h, l and f being the slots of rows 2n + 1, 2n and 2n + 3: of the first set d(0) counts for d(n−1), of a later one it stands in slot f
 module _ (w n r k h l f : ℕ) (eh : h ≡ (2 * n + 1) % 4) (el : l ≡ 2 * n % 4) (ef : f ≡ (2 * n + 3) % 4) (room : 4 * w ≤ k) where

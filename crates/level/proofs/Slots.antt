@@ -22,7 +22,8 @@ use Rattle.wavelet.specs.Bands.{Grid, LL, HL, LH, HH, across, down, columnsLift
 use Rattle.wavelet.proofs.SizeLaws.{count-lo, count-hi}
 use Rattle.lifting.specs.Pairs.{first}
 use Rattle.level.specs.Level.{Memory, SetStands}
-use Rattle.level.specs.FiveThreeLevel.{slot, cellOf, rowPredicted, rowUpdated, rowCopied, rowLifted, before, setWith, lowAlone, bandPlace, fiveThree, RowStands}
+use Rattle.level.specs.FiveThreeLevel.{slot, cellOf, rowPredicted, rowUpdated, rowCopied, rowLifted}
+use Rattle.level.specs.FiveThreeLevel.{before, setWith, lowAlone, bandPlace, fiveThree, RowStands}
 use Rattle.level.proofs.Places.{slot-room}
 
 -- ---- where column i stands in a row in halves
@@ -249,7 +250,8 @@ module _ (w H : ℕ) (g : Grid) where
     set-past j h =
         only-past only-5 j h ∙ only-past only-4 j h ∙ only-past only-3 j h ∙ only-past only-2 j h ∙ only-past only-1 j h
 
-    module _ (y : ℕ → ℤ) (e : RowStands w (2 * n) w (g (2 * n)) x) (o : RowStands w (2 * n + 1) w (g (2 * n + 1)) x) (p : (k : ℕ) → n ≡ suc k → RowStands w (2 * k + 1) w (high k) x) (a : RowStands w r w y x)
+    module _ (y : ℕ → ℤ) (e : RowStands w (2 * n) w (g (2 * n)) x) (o : RowStands w (2 * n + 1) w (g (2 * n + 1)) x)
+        (p : (k : ℕ) → n ≡ suc k → RowStands w (2 * k + 1) w (high k) x) (a : RowStands w r w y x)
         (d : (i : ℕ) → high n i ≡ predicted wrap32 (g (2 * n + 1) i) (g (2 * n) i) (y i)) (q : 2 * n + 1 < H) where
       high-1 : RowStands w (2 * n + 1) w (high n) x1
       unfolding rowPredicted
@@ -319,7 +321,8 @@ module _ (w H : ℕ) (g : Grid) where
     lone-stands LH i b h = absurd (omega (arith, count-hi H))
     lone-stands HH i b h = absurd (omega (arith, count-hi H))
 
-  pub alone-stands : (n : ℕ) (x : Memory) → H ≡ 2 * n + 1 → RowStands w (2 * n) w (g (2 * n)) x → ((k : ℕ) → n ≡ suc k → RowStands w (2 * k + 1) w (high k) x) → SetStands fiveThree w H g n (lowAlone w n x)
+  pub alone-stands : (n : ℕ) (x : Memory) → H ≡ 2 * n + 1 → RowStands w (2 * n) w (g (2 * n)) x →
+      ((k : ℕ) → n ≡ suc k → RowStands w (2 * k + 1) w (high k) x) → SetStands fiveThree w H g n (lowAlone w n x)
   unfolding lowAlone
   alone-stands zero x z e p = lone-stands 0 x z (λ i h. e i h ∙ sym (first-row i))
     where

@@ -3,6 +3,7 @@ pub mod Level
 pub mod FiveThreeLevel
 -- What the calls ask and leave.
 pub mod Making
+pub mod Heights
 -- The way back: a set worked out, its rows tested.
 pub mod Tried
 pub mod Sets

@@ -1,6 +1,7 @@
 // One level in its own stretch of a line store: four rows of w numbers, row r in slot r mod 4, each in halves. The streams above it know where its stretch
 // begins and how many rows it has received; what stands in the stretch, and the filter, only this crate knows.
 mod copies;
+pub mod heights;
 pub mod making;
 pub mod rebuilding;
 pub mod rows;

@@ -28,7 +28,10 @@ fn next_fits(n: usize, w: usize) -> bool
 // Set n is made, row 2n + 2 being there.
 pub fn make(store: &mut [i32], w: usize, n: usize) -> u8
     ensures { λ r. ⌜ r ≡ pick (levelFits (length (now (store .entry))) w) 0 5 ⌝ }
-    ensures { λ r. ⌜ at (now (store .exit)) ≡ pick (levelFits (length (now (store .entry))) w) (setMade w n (at (now (store .entry)))) (at (now (store .entry))) ⌝ }
+    ensures { λ r. ⌜
+        at (now (store .exit)) ≡ pick (levelFits (length (now (store .entry))) w)
+        (setMade w n (at (now (store .entry)))) (at (now (store .entry)))
+        ⌝ }
 {
     if level_fits(store.len(), w) {
         sets::make_with(store, w, n, 2 * (n % 2) + 2);
@@ -40,7 +43,10 @@ pub fn make(store: &mut [i32], w: usize, n: usize) -> u8
 // The last set of m rows is made.
 pub fn close(store: &mut [i32], w: usize, m: usize) -> u8
     ensures { λ r. ⌜ r ≡ pick (levelFits (length (now (store .entry))) w) 0 5 ⌝ }
-    ensures { λ r. ⌜ at (now (store .exit)) ≡ pick (levelFits (length (now (store .entry))) w) (lastSet w m (at (now (store .entry)))) (at (now (store .entry))) ⌝ }
+    ensures { λ r. ⌜
+        at (now (store .exit)) ≡ pick (levelFits (length (now (store .entry))) w)
+        (lastSet w m (at (now (store .entry)))) (at (now (store .entry)))
+        ⌝ }
 {
     if level_fits(store.len(), w) {
         sets::close_set(store, w, m);
@@ -52,7 +58,10 @@ pub fn close(store: &mut [i32], w: usize, m: usize) -> u8
 // The LL row of set n becomes row n of the next level, whose stretch is the one after.
 pub fn deliver(store: &mut [i32], w: usize, n: usize) -> u8
     ensures { λ r. ⌜ r ≡ pick (nextFits (length (now (store .entry))) w) 0 5 ⌝ }
-    ensures { λ r. ⌜ at (now (store .exit)) ≡ pick (nextFits (length (now (store .entry))) w) (delivered w n (at (now (store .entry)))) (at (now (store .entry))) ⌝ }
+    ensures { λ r. ⌜
+        at (now (store .exit)) ≡ pick (nextFits (length (now (store .entry))) w)
+        (delivered w n (at (now (store .entry)))) (at (now (store .entry)))
+        ⌝ }
 {
     if next_fits(store.len(), w) {
         copies::deliver(store, w, n);

@@ -116,7 +116,8 @@ module _ (f : ℤ → ℤ → ℤ → ℤ) (s t l r i : ℕ) (h : i < s) where
   column-swap g x q a b = store-swap x q _ ∙ rw (column-left x q, column-left x a, column-left x b) refl
 
 -- ---- the stores of one column of a pair, d and u being what is stored and z the low number as it was
-module _ (m : List ℤ) (h l r b : ℕ) (d u z : ℤ) (ih : h < length m) (il : l < length m) (other : l ≡ h → ⊥) (ed : d ≡ predicted wrap32 (at m h) (at m l) (at m r))
+module _ (m : List ℤ) (h l r b : ℕ) (d u z : ℤ) (ih : h < length m) (il : l < length m) (other : l ≡ h → ⊥)
+    (ed : d ≡ predicted wrap32 (at m h) (at m l) (at m r))
     (ez : z ≡ at m l) (eu : u ≡ updated wrap32 z (at (set m h d) b) d) where
   first-store : at (set m h d) ≡ changedAt (predicted wrap32) h l r (at m)
   first-store = at-stored m h d ih ∙ ap (λ (v : ℤ). stored h v (at m)) ed

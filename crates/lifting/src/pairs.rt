@@ -39,7 +39,10 @@ pub fn lift_pair(
     before: usize,
 ) -> u8
     ensures { λ r. ⌜ r ≡ pick (pairFits (length (now (area .entry))) stride width high low right before) 0 5 ⌝ }
-    ensures { λ r. ⌜ at (now (area .exit)) ≡ pick (pairFits (length (now (area .entry))) stride width high low right before) (pairLifted stride width high low right before (at (now (area .entry)))) (at (now (area .entry))) ⌝ }
+    ensures { λ r. ⌜
+        at (now (area .exit)) ≡ pick (pairFits (length (now (area .entry))) stride width high low right before)
+        (pairLifted stride width high low right before (at (now (area .entry)))) (at (now (area .entry)))
+        ⌝ }
 {
     if pair_fits(area.len(), stride, width, high, low, right, before) {
         let h = high * stride;
@@ -67,7 +70,10 @@ pub fn lift_and_copy(
     before: usize,
 ) -> u8
     ensures { λ r. ⌜ r ≡ pick (pairFits (length (now (area .entry))) stride width high low right before) 0 5 ⌝ }
-    ensures { λ r. ⌜ at (now (area .exit)) ≡ pick (pairFits (length (now (area .entry))) stride width high low right before) (pairCopied stride width high low right before (at (now (area .entry)))) (at (now (area .entry))) ⌝ }
+    ensures { λ r. ⌜
+        at (now (area .exit)) ≡ pick (pairFits (length (now (area .entry))) stride width high low right before)
+        (pairCopied stride width high low right before (at (now (area .entry)))) (at (now (area .entry)))
+        ⌝ }
 {
     if pair_fits(area.len(), stride, width, high, low, right, before) {
         let h = high * stride;

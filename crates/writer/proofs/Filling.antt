@@ -4,14 +4,10 @@ use mathlib.Core.Path.{_≡_, sym, _∙_}
 use mathlib.Core.List.{List}
 use Prim.Native.Nat.{ℕ, _+_, _≤_, _<_}
 use native.Mathlib.Omega.{arith}
-use lib.IntN.{ℤ, pos}
+use lib.IntN.{ℤ}
 use lib.ListN.{length, set}
-use mir.Syntax.{w32}
-use mir.Val.{SFits, toZ}
-use borrow.Author.Needs.{sfits-of}
 use borrow.Author.Tests.{lt-ltb, le-ltb}
 use Rattle.numbers.specs.Signal.{at}
-use Rattle.numbers.proofs.Words.{read-back}
 use Rattle.numbers.proofs.Sweep.{Swept, start, store, finish}
 use Rattle.lifting.specs.Halves.{fronted}
 
@@ -40,10 +36,3 @@ module _ (n : ℕ) (y : ℕ → ℤ) (m₀ : List ℤ) where
 
   pub front-end : (j : ℕ) (m : List ℤ) → Fronting n y m₀ j m → n ≤ j → at m ≡ fronted n y (at m₀)
   front-end j m f h = finish (f .swept) (λ p past. front-past n y (at m₀) p (omega arith))
-
--- a height as a 32-bit number
-pub height-fits : (v : ℕ) → v < 65536 → SFits w32 (pos v)
-height-fits v h = sfits-of (omega arith)
-
-pub height-read : (v : ℕ) → v < 65536 → toZ w32 v ≡ pos v
-height-read v h = read-back (pos v) (omega arith)

@@ -15,5 +15,4 @@ pub mod ClosingLaws
 pub mod GateLaws
 pub mod CallLaws
 pub mod Surplus
-pub mod FillLaws
 pub mod OfferLaws

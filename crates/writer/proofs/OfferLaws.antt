@@ -17,16 +17,17 @@ use Rattle.wavelet.proofs.LimitLaws.{width-small, height-small}
 use Rattle.calls.specs.Lists.{gives, refused}
 use Rattle.level.specs.Level.{Memory}
 use Rattle.level.specs.FiveThreeLevel.{fiveThree}
+use Rattle.level.specs.Heights.{heightAt, heightsPut}
 use Rattle.writer.specs.declared.Writer.{Writer}
 use Rattle.writer.specs.declared.cascade.Wait.{Wait}
 use Rattle.writer.specs.Machine.{arrive}
-use Rattle.writer.specs.Taking.{heightAt, Taking, none, oneMore, takes, begun, complete, heightPut, rowMakes, offering}
+use Rattle.writer.specs.Taking.{Taking, none, oneMore, takes, begun, complete, heightPut, rowMakes, offering}
 use Rattle.writer.specs.Questions.{offerQuestion}
 use Rattle.writer.specs.Calls.{offerReply, offerStore}
 use Rattle.writer.specs.Steps.{Left}
 use Rattle.writer.proofs.GateLaws.{Sound}
 use Rattle.writer.proofs.CallLaws.{unless-no, unless-yes, changed-no, changed-yes}
-use Rattle.writer.specs.Stretch.{heightsPut, nextCount, atColumn, Taker, Stretched}
+use Rattle.writer.specs.Stretch.{nextCount, atColumn, Taker, Stretched}
 
 -- n heights more
 abbrev pub plus : ℕ → Taking → Taking

@@ -1,6 +1,6 @@
 -- What the private functions require and leave: the machine's steps at the 5/3 level. Nothing here needs to be believed.
 use mathlib.Core.Path.{_≡_}
-use Prim.Native.Nat.{ℕ, _+_, _*_, _^_, _<_, _≤_}
+use Prim.Native.Nat.{ℕ, _+_, _^_, _<_, _≤_}
 use Rattle.lifting.specs.Line.{count}
 use Rattle.wavelet.specs.Bands.{across, code}
 use Rattle.wavelet.specs.Store.{storeLength}

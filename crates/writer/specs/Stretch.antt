@@ -1,20 +1,15 @@
 -- An offer as the code takes it: a stretch of a row at a time. Private functions alone cite this.
 use mathlib.Core.Path.{_≡_}
 use mathlib.Core.List.{List}
-use Prim.Native.Nat.{ℕ, zero, suc, _+_, _-_, _<_, min}
-use lib.IntN.{ℤ}
-use Rattle.numbers.specs.Signal.{pick, stored}
+use Prim.Native.Nat.{ℕ, _+_, _-_, _<_, min}
+use Rattle.numbers.specs.Signal.{pick}
 use Rattle.level.specs.Level.{Memory}
-use Rattle.level.specs.FiveThreeLevel.{fiveThree, cellOf}
+use Rattle.level.specs.FiveThreeLevel.{fiveThree}
+use Rattle.level.specs.Heights.{heightAt, heightsPut}
 use Rattle.writer.specs.declared.Writer.{Writer}
 use Rattle.writer.specs.Machine.{arrive}
-use Rattle.writer.specs.Taking.{heightAt, takes, complete}
+use Rattle.writer.specs.Taking.{takes, complete}
 use Rattle.writer.specs.Steps.{Room}
-
--- n heights h put into row m of w columns, from column c on
-unfoldable pub heightsPut : ℕ → ℕ → ℕ → ℕ → (ℕ → ℤ) → Memory → Memory
-heightsPut w m c zero h x = x
-heightsPut w m c (suc n) h x = stored (cellOf w m (c + n)) (h n) (heightsPut w m c n h x)
 
 -- how many heights the next stretch has, of k that are left: to the end of the row, 0 where the writer takes none
 unfoldable pub nextCount : Writer → ℕ → ℕ

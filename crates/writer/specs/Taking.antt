@@ -2,19 +2,14 @@
 use mathlib.Core.Bool.{Bool}
 use mathlib.Core.List.{List, [], _∷_}
 use Prim.Native.Nat.{ℕ, suc, _+_}
-use lib.IntN.{ℤ, pos}
+use lib.IntN.{pos}
 use lib.Dec.{ltb, eqb}
-use lib.ListN.{getD}
 use Rattle.numbers.specs.Signal.{pick, both, stored}
 use Rattle.wavelet.specs.Limits.{maxHeight}
 use Rattle.level.specs.Level.{Memory, LevelKind}
 use Rattle.writer.specs.declared.Writer.{Writer}
 use Rattle.writer.specs.Counts.{startOf}
 use Rattle.writer.specs.Machine.{Out, arrive}
-
--- a run of heights as a signal
-abbrev pub heightAt : List ℕ → ℕ → ℤ
-heightAt run j = pos (getD run j 0)
 
 -- how many were taken, and the writer and the store then
 pub record Taking : Type 0 where

@@ -2,12 +2,12 @@
 use level::rows;
 use wavelet::sizes;
 ghost use mathlib.Core.Path.{_≡_};
-ghost use Prim.Native.Nat.{_<_, _≤_, _+_, _*_};
+ghost use Prim.Native.Nat.{_<_, _≤_, _+_};
 ghost use Rattle.lifting.specs.Line.{count};
 ghost use Rattle.wavelet.specs.Bands.{across, down, code};
 ghost use Rattle.wavelet.specs.Order.{hasRow};
 ghost use Rattle.level.specs.Level.{prev};
-ghost use Rattle.level.specs.FiveThreeLevel.{slot, cellOf};
+ghost use Rattle.level.specs.FiveThreeLevel.{slot};
 ghost use Rattle.writer.specs.Counts.{deeper, deeperBy, further, made, most, mostLeft, bandAt, skip};
 
 // One less, and 0 of 0.
@@ -132,15 +132,4 @@ pub fn slot(w: usize, r: usize) -> usize
     ensures { λ s. ⌜ s ≡ slot w r ⌝ }
 {
     rows::slot(w, r)
-}
-
-// Where column c of row r stands: the even columns stand first.
-pub fn cell(w: usize, r: usize, c: usize) -> usize
-    requires { ⌜ (w < 4294967296) × (c < 4294967296) ⌝ }
-    ensures { λ s. ⌜ s ≡ cellOf w r c ⌝ }
-{
-    if c % 2 == 0 {
-        return slot(w, r) + c / 2;
-    }
-    slot(w, r) + (sizes::half(w) + c / 2)
 }

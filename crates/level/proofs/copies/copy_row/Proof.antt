@@ -21,7 +21,12 @@ mul-f c = omega arith
 
 loop-holds : tie.Need-loop-holds Inv-loop μ-loop
 loop-holds c =
-    row-start _ _ _ _ _ _ _ (record { one = record { wide = omega arith; room = omega arith }; two = record { wide = omega arith; room = omega arith }; three = record { wide = omega arith; room = omega arith } })
+    row-start _ _ _ _ _ _ _
+    (record {
+      one = record { wide = omega arith; room = omega arith };
+      two = record { wide = omega arith; room = omega arith };
+      three = record { wide = omega arith; room = omega arith };
+    })
 
 add-store : tie.Need-add-store Inv-loop μ-loop
 add-store c = omega arith

@@ -47,6 +47,11 @@ laid w n v low ev el =
       after = omega arith;
     }
 
+fits : (c : tie.After-half2) →
+    Fits (c .before .before .args .w) (c .before .half .result) (c .half2 .result) (2 * (c .before .before .args .n % 2) * c .before .before .args .w)
+    (c .before .before .args .n % 4 * c .before .half .result)
+fits c = laid (c .before .before .args .w) (c .before .before .args .n) _ _ (c .before .half .ensures) (c .half2 .ensures)
+
 half-requires : tie.Need-half-requires
 half-requires c κs = tt
 
@@ -57,46 +62,46 @@ mul-from : tie.Need-mul-from
 mul-from c = search needs
 
 mul-from-2 : tie.Need-mul-from-2
-mul-from-2 c = let f = laid (c .before .before .args .w) (c .before .before .args .n) _ _ (c .before .half .ensures) (c .half2 .ensures) in omega arith
+mul-from-2 c = let f = fits c in omega arith
 
 mul-to : tie.Need-mul-to
 mul-to c = search needs
 
 mul-to-2 : tie.Need-mul-to-2
-mul-to-2 c = let f = laid (c .before .before .args .w) (c .before .before .args .n) _ _ (c .before .half .ensures) (c .half2 .ensures) in omega arith
+mul-to-2 c = let f = fits c in omega arith
 
 add-to : tie.Need-add-to
-add-to c = let f = laid (c .before .before .args .w) (c .before .before .args .n) _ _ (c .before .half .ensures) (c .half2 .ensures) in omega arith
+add-to c = let f = fits c in omega arith
 
 sub-pairs : tie.Need-sub-pairs
-sub-pairs c = let f = laid (c .before .before .args .w) (c .before .before .args .n) _ _ (c .before .half .ensures) (c .half2 .ensures) in omega arith
+sub-pairs c = let f = fits c in omega arith
 
 add-separate : tie.Need-add-separate
-add-separate c = let f = laid (c .before .before .before .args .w) (c .before .before .before .args .n) _ _ (c .before .before .half .ensures) (c .before .half2 .ensures) in omega arith
+add-separate c = let f = fits (c .before) in omega arith
 
 separate-requires : tie.Need-separate-requires
-separate-requires c κs = let f = laid (c .before .before .before .args .w) (c .before .before .before .args .n) _ _ (c .before .before .half .ensures) (c .before .half2 .ensures) in omega arith
+separate-requires c κs = let f = fits (c .before) in omega arith
 
 mul-store : tie.Need-mul-store
 mul-store c = search needs
 
 add-store : tie.Need-add-store
-add-store c = let f = laid (c .before .before .before .before .before .before .args .w) (c .before .before .before .before .before .before .args .n) _ _ (c .before .before .before .before .before .half .ensures) (c .before .before .before .before .half2 .ensures) in omega arith
+add-store c = let f = fits (c .before .before .before .before) in omega arith
 
 mul-store-2 : tie.Need-mul-store-2
-mul-store-2 c = let f = laid (c .before .before .before .before .before .before .args .w) (c .before .before .before .before .before .before .args .n) _ _ (c .before .before .before .before .before .half .ensures) (c .before .before .before .before .half2 .ensures) in omega arith
+mul-store-2 c = let f = fits (c .before .before .before .before) in omega arith
 
 slice-copy-out-store : tie.Need-slice-copy-out-store
-slice-copy-out-store c = let f = laid (c .before .before .before .before .before .before .args .w) (c .before .before .before .before .before .before .args .n) _ _ (c .before .before .before .before .before .half .ensures) (c .before .before .before .before .half2 .ensures) in omega arith
+slice-copy-out-store c = let f = fits (c .before .before .before .before) in omega arith
 
 add-t21 : tie.Need-add-t21
-add-t21 c = let f = laid (c .before .before .before .before .before .before .before .args .w) (c .before .before .before .before .before .before .before .args .n) _ _ (c .before .before .before .before .before .before .half .ensures) (c .before .before .before .before .before .half2 .ensures) in omega arith
+add-t21 c = let f = fits (c .before .before .before .before .before) in omega arith
 
 mul-t22 : tie.Need-mul-t22
-mul-t22 c = let f = laid (c .before .before .before .before .before .before .before .args .w) (c .before .before .before .before .before .before .before .args .n) _ _ (c .before .before .before .before .before .before .half .ensures) (c .before .before .before .before .before .half2 .ensures) in omega arith
+mul-t22 c = let f = fits (c .before .before .before .before .before) in omega arith
 
 slice-set-from-store : tie.Need-slice-set-from-store
-slice-set-from-store c = let f = laid (c .before .before .before .before .before .before .before .args .w) (c .before .before .before .before .before .before .before .args .n) _ _ (c .before .before .before .before .before .before .half .ensures) (c .before .before .before .before .before .half2 .ensures) in omega arith
+slice-set-from-store c = let f = fits (c .before .before .before .before .before) in omega arith
 
 same-length : tie.Need-same-length
 same-length c = search needs
@@ -106,9 +111,10 @@ returns c =
     let a = c .before .before .before .before .before .before .before .args in
     let h = c .before .before .before .before .before .before .half in
     let q = c .before .before .before .before .before .half2 in
-    let f = laid (a .w) (a .n) _ _ (h .ensures) (q .ensures) in
+    let f = fits (c .before .before .before .before .before) in
     let u = c .before .before .before in
-    delivered-odd (a .w) (a .n) _ _ _ _ _ _ (h .ensures) (q .ensures) refl (from-slot (a .w) (a .n)) (to-slot (a .w) (h .result) (a .n)) _ _ (omega arith) (u .separate .ensures)
+    delivered-odd (a .w) (a .n) _ _ _ _ _ _ (h .ensures) (q .ensures) refl (from-slot (a .w) (a .n)) (to-slot (a .w) (h .result) (a .n)) _ _ (omega arith)
+    (u .separate .ensures)
     (rw (read-back _ (c .store2 .given)) (at-stored (u .separate .last .0) _ _ (omega arith)))
 
 same-length-2 : tie.Need-same-length-2
@@ -118,7 +124,8 @@ returns-2 : tie.Need-returns-2
 returns-2 c =
     let a = c .before .before .before .before .before .before .args in
     let h = c .before .before .before .before .before .half in
-    delivered-even (a .w) (a .n) _ _ _ _ _ _ (h .ensures) (c .before .before .before .before .half2 .ensures) refl (from-slot (a .w) (a .n)) (to-slot (a .w) (h .result) (a .n)) _ (omega arith)
+    delivered-even (a .w) (a .n) _ _ _ _ _ _ (h .ensures) (c .before .before .before .before .half2 .ensures) refl (from-slot (a .w) (a .n))
+    (to-slot (a .w) (h .result) (a .n)) _ (omega arith)
     (c .before .before .separate .ensures)
 
 pub deliver-spec : {M : Type 1} → statement M

@@ -75,8 +75,10 @@ loop-again c =
     let a = c .before .before .before .before .args in
     let p = a .from + 2 * l .j in
     let k : p + 1 ≡ a .from + (2 * l .j + 1) = omega arith in
-    let v = read-back _ (c .before .store .given) ∙ pairs-read (a .from) (a .evens) (a .odds) (a .count) (a .store .now) (l .j) (l .store) (l .inv) p (omega arith) in
-    let u = read-back _ (c .store2 .given) ∙ pairs-again (a .from) (a .evens) (a .odds) (a .count) (a .store .now) (l .j) (l .store) _ (l .inv) (p + 1) (omega arith) ∙ ap (at (a .store .now)) k in
+    let read = pairs-read (a .from) (a .evens) (a .odds) (a .count) (a .store .now) (l .j) (l .store) (l .inv) p (omega arith) in
+    let again = pairs-again (a .from) (a .evens) (a .odds) (a .count) (a .store .now) (l .j) (l .store) _ (l .inv) (p + 1) (omega arith) in
+    let v = read-back _ (c .before .store .given) ∙ read in
+    let u = read-back _ (c .store2 .given) ∙ again ∙ ap (at (a .store .now)) k in
     pairs-turn _ _ _ _ _ _ _ _ _ (l .inv) (omega arith) v u
 
 same-length : tie.Need-same-length Inv-loop μ-loop

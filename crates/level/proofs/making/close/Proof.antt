@@ -15,7 +15,9 @@ same-length : tie.Need-same-length
 same-length c = search needs
 
 returns : tie.Need-returns
-returns c = let ok = sym (c .before .before .before .before .level-fits .ensures) ∙ c .before .before .before .if1 .taken in (simp ok, simp ok (c .before .close-set .ensures))
+returns c =
+    let ok = sym (c .before .before .before .before .level-fits .ensures) ∙ c .before .before .before .if1 .taken in
+    (simp ok, simp ok (c .before .close-set .ensures))
 
 returns-2 : tie.Need-returns-2
 returns-2 c = let bad = sym (c .before .level-fits .ensures) ∙ c .if1 .left in (simp bad, simp bad)

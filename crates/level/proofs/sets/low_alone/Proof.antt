@@ -29,8 +29,8 @@ returns : tie.Need-returns
 returns c =
     let updated = c .before .before .before .before in
     let a = updated .before .before .before .args in
-    low-later (a .w) (a .n) _ _ (length (a .store .now)) _ _ _ (low-slot (a .n)) (free-slot (a .n)) (omega arith) (omega arith) (updated .update-row .ensures .1)
-    (c .before .lift-row .ensures)
+    low-later (a .w) (a .n) _ _ (length (a .store .now)) _ _ _ (low-slot (a .n)) (free-slot (a .n)) (omega arith) (omega arith)
+    (updated .update-row .ensures .1) (c .before .lift-row .ensures)
 
 same-length-2 : tie.Need-same-length-2
 same-length-2 c = search needs

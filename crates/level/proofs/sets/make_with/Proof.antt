@@ -35,7 +35,8 @@ returns : tie.Need-returns
 returns c =
     let m = c .before .before .before .before .before .before .before in
     let a = m .before .before .args in
-    set-made (a .w) (a .n) (a .r) _ _ _ _ _ _ (low (a .n)) (free (a .n)) (m .make-columns .ensures) (c .before .before .before .before .lift-row .ensures) (c .before .lift-row2 .ensures)
+    set-made (a .w) (a .n) (a .r) _ _ _ _ _ _ (low (a .n)) (free (a .n)) (m .make-columns .ensures)
+    (c .before .before .before .before .lift-row .ensures) (c .before .lift-row2 .ensures)
 
 pub make-with-spec : {M : Type 1} → statement M
 make-with-spec =

@@ -1,5 +1,5 @@
 -- `lifting::place::lift_copy_at` meets its contract: another store, of the number that `lift_at` answers. Assumes nothing.
-use mathlib.Core.Path.{_≡_, ap, _∙_}
+use mathlib.Core.Path.{ap, _∙_}
 use native.Mathlib.Omega.{arith}
 use lib.IntN.{ℤ}
 use borrow.Author.Needs.{needs}

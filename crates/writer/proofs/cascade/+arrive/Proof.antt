@@ -91,7 +91,9 @@ arrive-same-length t c = search needs
 arrive-returns-4 : (t : ℕ) → arrive-lts.Need-returns-4 (claims t) (arrive-at t) arrive.Post
 arrive-returns-4 t c =
     let a = c .before .before .before .before .before .before .before .before .before .args in
-    came-waits (a .l) (a .w) (a .m) (a .m / 2 - 1) _ _ _ (omega arith) (omega arith) (made-done (length (a .store .now)) (a .w) _ _ _ (omega (arith, store-back (a .w) (a .l) (omega arith))) (c .before .before .before .before .make .ensures .1))
+    came-waits (a .l) (a .w) (a .m) (a .m / 2 - 1) _ _ _ (omega arith) (omega arith)
+    (made-done (length (a .store .now)) (a .w) _ _ _ (omega (arith, store-back (a .w) (a .l) (omega arith)))
+    (c .before .before .before .before .make .ensures .1))
     (c .before .next-band .ensures ∙ ap (skip (a .w) (a .m + 1) (a .m / 2 - 1)) (c .before .before .most .ensures)) (omega arith)
 
 arrive-same-length-2 : (t : ℕ) → arrive-lts.Need-same-length-2 (claims t) (arrive-at t) arrive.Post
@@ -100,7 +102,9 @@ arrive-same-length-2 t c = search needs
 arrive-returns-5 : (t : ℕ) → arrive-lts.Need-returns-5 (claims t) (arrive-at t) arrive.Post
 arrive-returns-5 t c =
     let a = c .before .before .before .before .before .before .before .before .before .before .args in
-    came-last (a .l) (a .w) (a .m) (a .m / 2 - 1) _ _ _ (omega arith) (omega arith) (made-done (length (a .store .now)) (a .w) _ _ _ (omega (arith, store-back (a .w) (a .l) (omega arith))) (c .before .before .before .before .before .make .ensures .1))
+    came-last (a .l) (a .w) (a .m) (a .m / 2 - 1) _ _ _ (omega arith) (omega arith)
+    (made-done (length (a .store .now)) (a .w) _ _ _ (omega (arith, store-back (a .w) (a .l) (omega arith)))
+    (c .before .before .before .before .before .make .ensures .1))
     (c .before .before .next-band .ensures ∙ ap (skip (a .w) (a .m + 1) (a .m / 2 - 1)) (c .before .before .before .most .ensures)) (omega arith)
     (omega arith)
 

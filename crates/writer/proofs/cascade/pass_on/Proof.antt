@@ -65,7 +65,8 @@ returns-2 c =
     let s = store-next (a .w) (a .l) in
     let q = store-back (count lo (a .w)) (a .l) (omega arith) in
     passed-goes (a .l) (a .w) (a .n) _ _ _ _ (at l) (at (e .before .before .arrive .last .0)) _ _ (omega arith)
-    (e .before .before .before .half .ensures) (delivered-done (length (a .store .now)) (a .w) _ _ _ (omega arith) (e .before .before .before .before .before .before .deliver .ensures .1))
+    (e .before .before .before .half .ensures) (delivered-done (length (a .store .now)) (a .w) _ _ _ (omega arith)
+    (e .before .before .before .before .before .before .deliver .ensures .1))
     (rw (at-rest (4 * a .w) l) at (e .before .before .arrive .ensures)) (at-join (4 * a .w) l (e .before .before .arrive .last .0) (omega arith))
     (e .deeper .ensures) (c .further .ensures)
 

@@ -39,7 +39,9 @@ same-length c = search needs
 returns-3 : tie.Need-returns-3
 returns-3 c = let a = c .before .before .before .before .before .before .before .before .before .before .args in close-waits (a .l) (a .w) (a .c)
     (a .m) _ _ _ _ _ _ (omega arith) (omega arith) (c .before .before .before .before .before .before .before .half .ensures)
-    (c .before .before .before .before .before .before .prev .ensures) (closed-done (length (a .store .now)) (a .w) _ _ _ (omega (arith, store-next (a .w) (a .l))) (c .before .before .before .before .close .ensures .1))
+    (c .before .before .before .before .before .before .prev .ensures)
+    (closed-done (length (a .store .now)) (a .w) _ _ _ (omega (arith, store-next (a .w) (a .l)))
+    (c .before .before .before .before .close .ensures .1))
     (c .before .before .most .ensures) (c .before .next-band .ensures) (omega arith)
 
 pass-on-requires : tie.Need-pass-on-requires
@@ -54,7 +56,8 @@ returns-4 c = let a = c .before .before .before .before .before .before .before 
     close-goes (a .l) (a .w) (a .c) (a .m) _ _ _ _ _ _ (omega arith) (omega arith)
     (c .before .before .before .before .before .before .before .before .before .before .half .ensures)
     (c .before .before .before .before .before .before .before .before .before .prev .ensures)
-    (closed-done (length (a .store .now)) (a .w) _ _ _ (omega (arith, store-next (a .w) (a .l))) (c .before .before .before .before .before .before .before .close .ensures .1))
+    (closed-done (length (a .store .now)) (a .w) _ _ _ (omega (arith, store-next (a .w) (a .l)))
+    (c .before .before .before .before .before .before .before .close .ensures .1))
     (c .before .before .before .before .before .most .ensures) (c .before .before .before .before .next-band .ensures) _ _
     (omega arith) (c .before .pass-on .ensures)
 

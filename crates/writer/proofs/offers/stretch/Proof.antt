@@ -1,16 +1,33 @@
 -- `offers::stretch` meets its contract: the heights put, and where they complete the row, what that makes. Assumes nothing.
+use mathlib.Core.Path.{_≡_}
+use mathlib.Core.List.{List}
+use Prim.Native.Nat.{ℕ, _+_, _≤_}
 use native.Mathlib.Omega.{arith}
+use lib.IntN.{ℤ}
 use lib.ListN.{length}
 use borrow.Author.Needs.{needs}
 use Rattle.lifting.specs.Line.{lo, count}
 use Rattle.wavelet.proofs.LimitLaws.{height-small}
 use Rattle.wavelet.proofs.StoreLaws.{store-none, store-below, store-back}
+use Rattle.numbers.specs.Signal.{pick}
+use Rattle.level.specs.Heights.{heightAt, heightsPut, heightsFit}
+use Rattle.level.proofs.FillLaws.{put-done}
+use Rattle.writer.specs.declared.Writer.{Writer}
+use Rattle.writer.specs.Stretch.{Taker}
 use Rattle.writer.proofs.OfferLaws.{stretched-inside, stretched-whole}
 use Rattle.writer.proofs.offers.stretch.Statement.{statement}
 use Rattle.writer.proofs.offers.stretch.Tie as tie
 
-fill-requires : tie.Need-fill-requires
-fill-requires c κs = let s = c .before .before .args .s in omega (arith, store-back (s .width) (s .levels) (omega arith))
+-- the heights are put: the store has room for every level, and so for level 1 alone
+put-there : (s : Writer) (run : List ℕ) (from n k : ℕ) (x y : ℕ → ℤ) → Taker s k → s .column + n ≤ s .width → from + n ≤ length run →
+    y ≡ pick (heightsFit k (s .width) (s .column) n (length run) from) (heightsPut (s .width) (s .rows) (s .column) n (λ j. heightAt run (from + j)) x) x →
+    y ≡ heightsPut (s .width) (s .rows) (s .column) n (λ j. heightAt run (from + j)) x
+put-there s run from n k x y t p q e =
+    put-done k (s .width) (s .rows) (s .column) n (length run) from _ x y
+    (omega (arith, t .room .room, t .deep, store-back (s .width) (s .levels) (t .deep))) p q e
+
+put-requires : tie.Need-put-requires
+put-requires c κs = tt
 
 add-column : tie.Need-add-column
 add-column c = search needs
@@ -19,11 +36,14 @@ same-length : tie.Need-same-length
 same-length c = search needs
 
 returns : tie.Need-returns
-returns c = let a = c .before .before .before .before .before .before .before .args in stretched-inside (a .s) (a .run .now) (a .from) (a .n) _ _
-    (length (a .store .now)) (c .before .before .before .before .before .before .before .pre .0) (c .before .before .before .before .fill .ensures)
-    (omega arith)
+returns c =
+    let put = c .before .before .before .before in
+    let start = put .before .before .before in
+    let a = start .args in
+    let t = start .pre .0 in
+    stretched-inside (a .s) (a .run .now) (a .from) (a .n) _ _ (length (a .store .now)) t
+    (put-there (a .s) (a .run .now) (a .from) (a .n) (length (a .store .now)) _ _ t (omega arith) (omega arith) (put .put .ensures .1)) (omega arith)
 
--- the store has room for every level, and so for level 1 alone
 arrive-requires : tie.Need-arrive-requires
 arrive-requires c κs =
     let s = c .before .before .before .before .before .before .before .before .args .s in
@@ -36,17 +56,20 @@ same-length-2 : tie.Need-same-length-2
 same-length-2 c = search needs
 
 returns-2 : tie.Need-returns-2
-returns-2 c = let a = c .before .before .before .before .before .before .before .before .before .before .before .args in stretched-whole (a .s)
-    (a .run .now) (a .from) (a .n) _ _ (length (a .store .now))
-    (c .before .before .before .before .before .before .before .before .before .before .before .pre .0)
-    (c .before .before .before .before .before .before .before .before .fill .ensures) _ _ (omega arith) (omega arith)
-    (c .before .before .arrive .ensures)
+returns-2 c =
+    let put = c .before .before .before .before .before .before .before .before in
+    let start = put .before .before .before in
+    let a = start .args in
+    let t = start .pre .0 in
+    stretched-whole (a .s) (a .run .now) (a .from) (a .n) _ _ (length (a .store .now)) t
+    (put-there (a .s) (a .run .now) (a .from) (a .n) (length (a .store .now)) _ _ t (omega arith) (omega arith) (put .put .ensures .1)) _ _
+    (omega arith) (omega arith) (c .before .before .arrive .ensures)
 
 pub stretch-spec : {M : Type 1} → statement M
 stretch-spec =
     tie.close
     (tie.spec
-    fill-requires
+    put-requires
     add-column
     same-length
     returns

@@ -1,21 +1,19 @@
--- `offers::fill_pairs` meets its contract: after j turns 2j heights are put. Assumes nothing.
-use mathlib.Core.Path.{_≡_, refl, sym, ap, _∙_}
+-- `heights::fill_pairs` meets its contract: after j turns 2j heights are put. Assumes nothing.
+use mathlib.Core.Path.{_≡_, sym, ap, _∙_}
 use Prim.Native.Nat.{ℕ, _+_, _*_, _-_, _^_, _≤_, _<_}
 use native.Mathlib.Omega.{arith}
 use lib.ListN.{length, getD, length-set}
 use Rattle.numbers.specs.Signal.{at}
 use Rattle.level.specs.FiveThreeLevel.{cellOf}
-use Rattle.writer.specs.Taking.{heightAt}
-use Rattle.writer.specs.Stretch.{heightsPut}
-use Rattle.writer.proofs.Filling.{height-fits, height-read}
-use Rattle.writer.proofs.FillLaws.{Put, put-none, put-pair, put-place}
-use Rattle.writer.proofs.offers.fill_pairs.Statement.{statement}
-use Rattle.writer.proofs.offers.fill_pairs.Tie as tie
+use Rattle.level.specs.Heights.{heightAt, heightsPut}
+use Rattle.level.proofs.FillLaws.{height-fits, height-read, Put, put-none, put-pair, put-place}
+use Rattle.level.proofs.heights.fill_pairs.Statement.{statement}
+use Rattle.level.proofs.heights.fill_pairs.Tie as tie
 
 -- the bounds, the two places, and the heights put
 abbrev Inv-loop : tie.InvT-loop
 Inv-loop store₀ w m column run from pairs first second j₀ store j =
-    (j ≤ pairs) × (w < 2 ^ 16) × (column + 2 * pairs ≤ w) × (from + 2 * pairs ≤ length run)
+    (j ≤ pairs) × (w < 2 ^ 62) × (column + 2 * pairs ≤ w) × (from + 2 * pairs ≤ length run)
     × (first ≡ cellOf w m column) × (second ≡ cellOf w m (column + 1))
     × Put w m column (2 * j) (λ i. heightAt run (from + i)) store₀ store
 
@@ -33,8 +31,15 @@ cell-requires-2 c κs = omega arith
 
 loop-holds : tie.Need-loop-holds Inv-loop μ-loop
 loop-holds c =
-    let a = c .before .before .before .args in
-    (omega arith, omega arith, omega arith, omega arith, c .before .cell .ensures, c .cell2 .ensures, put-none (a .w) (a .m) (a .column) _ (a .store .now) (omega arith))
+    let a = c .before .before .before .args in (
+      omega arith,
+      omega arith,
+      omega arith,
+      omega arith,
+      c .before .cell .ensures,
+      c .cell2 .ensures,
+      put-none (a .w) (a .m) (a .column) _ (a .store .now) (omega arith),
+    )
 
 mul-store : tie.Need-mul-store Inv-loop μ-loop
 mul-store c = omega arith
@@ -127,8 +132,15 @@ loop-again c =
     let p = a .from + 2 * l .j in
     let k : a .from + (2 * l .j + 1) ≡ p + 1 = omega arith in
     let v = height-read (getD (a .run .now) p 0) (omega (arith, c .before .shared-slice-known2 .given p)) in
-    let u = height-read (getD (a .run .now) (p + 1) 0) (omega (arith, c .shared-slice-known3 .given (p + 1))) ∙ sym (ap (heightAt (a .run .now)) k) in
-    (omega arith, omega arith, omega arith, omega arith, i .4, i .5, put-pair (a .w) (a .m) (a .column) _ (a .store .now) (l .j) _ _ _ _ _ (i .6) (omega arith) (i .4) (i .5) v u)
+    let u = height-read (getD (a .run .now) (p + 1) 0) (omega (arith, c .shared-slice-known3 .given (p + 1))) ∙ sym (ap (heightAt (a .run .now)) k) in (
+      omega arith,
+      omega arith,
+      omega arith,
+      omega arith,
+      i .4,
+      i .5,
+      put-pair (a .w) (a .m) (a .column) _ (a .store .now) (l .j) _ _ _ _ _ (i .6) (omega arith) (i .4) (i .5) v u,
+    )
 
 same-length : tie.Need-same-length Inv-loop μ-loop
 same-length c = c .before .loop .inv .6 .size

@@ -1,15 +1,24 @@
 -- A stretch of heights put into a row a pair at a time comes to the same as one height after the other. Assumes nothing.
 use mathlib.Core.Path.{_≡_, refl, sym, ap, _∙_}
+use mathlib.Core.Bool.{true}
 use mathlib.Core.List.{List}
-use Prim.Native.Nat.{ℕ, zero, suc, _+_, _*_, _≤_, _<_}
+use Prim.Native.Nat.{ℕ, suc, _+_, _-_, _*_, _≤_, _<_}
+use native.Mathlib.Decide.{decLt}
 use native.Mathlib.Omega.{arith}
-use lib.IntN.{ℤ}
+use lib.IntN.{ℤ, pos}
+use lib.Dec.{leb}
 use lib.ListN.{length, set, length-set}
-use Rattle.numbers.specs.Signal.{at, stored}
+use mir.Syntax.{w32}
+use mir.Val.{SFits, toZ}
+use borrow.Author.Needs.{sfits-of}
+use borrow.Author.Tests.{le-leb, lt-leb, leb-true}
+use Rattle.numbers.specs.Signal.{at, pick, stored}
+use Rattle.numbers.proofs.Words.{read-back}
+use Rattle.numbers.proofs.Sweep.{both}
 use Rattle.numbers.proofs.Stores.{at-stored}
 use Rattle.level.specs.FiveThreeLevel.{cellOf}
+use Rattle.level.specs.Heights.{heightsPut, heightsFit}
 use Rattle.level.proofs.Places.{cell-in, cell-on}
-use Rattle.writer.specs.Stretch.{heightsPut}
 
 -- ---- one height more
 pub put-more : (w m c n : ℕ) (h x : ℕ → ℤ) → heightsPut w m c (n + 1) h x ≡ stored (cellOf w m (c + n)) (h n) (heightsPut w m c n h x)
@@ -50,3 +59,39 @@ module _ (w m c : ℕ) (h : ℕ → ℤ) (l₀ : List ℤ) where
 -- the places of a pair lie in the store
 pub put-place : (w m c j a : ℕ) → c + 2 * j < w → a ≡ cellOf w m c → a + j < 4 * w
 put-place w m c j a h e = omega (arith, e, cell-on w m c j, cell-in w m (c + 2 * j) h)
+
+-- a height as a 32-bit number
+pub height-fits : (v : ℕ) → v < 65536 → SFits w32 (pos v)
+height-fits v h = sfits-of (omega arith)
+
+pub height-read : (v : ℕ) → v < 65536 → toZ w32 v ≡ pos v
+height-read v h = read-back (pos v) (omega arith)
+
+-- ---- what the call asks
+pub lies-in : (a n k : ℕ) → n ≤ k → leb a (k - n) ≡ leb (a + n) k
+lies-in a n k h =
+    elim (decLt (k - n) a) [
+      | yes p ↦ simp (lt-leb a (k - n) p, lt-leb (a + n) k (omega arith))
+      | no d ↦ simp (le-leb a (k - n) (omega arith), le-leb (a + n) k (omega arith))
+    ]
+
+pub record HeightsIn (k w c n l f : ℕ) : Type 0 where
+  pub room : 4 * w ≤ k
+  pub columns : c + n ≤ w
+  pub heights : f + n ≤ l
+
+pub heights-in : (k w c n l f : ℕ) → heightsFit k w c n l f ≡ true → HeightsIn k w c n l f
+unfolding heightsFit
+heights-in k w c n l f e =
+    let a = both (leb (4 * w) k) _ e in
+    let b = both (leb (c + n) w) _ (a .1) in
+    record { room = leb-true _ _ (a .0); columns = leb-true _ _ (b .0); heights = leb-true _ _ (b .1) }
+
+-- and what it leaves where it is so
+heights-fit : (k w c n l f : ℕ) → 4 * w ≤ k → c + n ≤ w → f + n ≤ l → heightsFit k w c n l f ≡ true
+unfolding heightsFit
+heights-fit k w c n l f p q r = simp (le-leb (4 * w) k p, le-leb (c + n) w q, le-leb (f + n) l r)
+
+pub put-done : (k w m c n l f : ℕ) (h x y : ℕ → ℤ) → 4 * w ≤ k → c + n ≤ w → f + n ≤ l
+    → y ≡ pick (heightsFit k w c n l f) (heightsPut w m c n h x) x → y ≡ heightsPut w m c n h x
+put-done k w m c n l f h x y p q r e = rw (heights-fit k w c n l f p q r) at e

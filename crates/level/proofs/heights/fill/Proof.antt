@@ -1,17 +1,15 @@
--- `offers::fill` meets its contract: the pairs, and the height that is left where there is one. Assumes nothing.
+-- `heights::fill` meets its contract: the pairs, and the height that is left where there is one. Assumes nothing.
 use mathlib.Core.Path.{_≡_, ap, _∙_}
 use Prim.Native.Nat.{ℕ, _+_, _*_, _/_}
 use native.Mathlib.Omega.{arith}
-use lib.ListN.{length, getD}
+use lib.ListN.{getD}
 use Rattle.numbers.specs.Signal.{at}
-use Rattle.level.proofs.Places.{cell-in}
-use Rattle.writer.specs.Taking.{heightAt}
-use Rattle.writer.specs.Stretch.{heightsPut}
-use Rattle.writer.proofs.Filling.{height-fits, height-read}
-use Rattle.writer.proofs.FillLaws.{Put, put-one}
 use borrow.Author.Needs.{needs}
-use Rattle.writer.proofs.offers.fill.Statement.{statement}
-use Rattle.writer.proofs.offers.fill.Tie as tie
+use Rattle.level.specs.Heights.{heightAt, heightsPut}
+use Rattle.level.proofs.Places.{cell-in}
+use Rattle.level.proofs.FillLaws.{height-fits, height-read, Put, put-one}
+use Rattle.level.proofs.heights.fill.Statement.{statement}
+use Rattle.level.proofs.heights.fill.Tie as tie
 
 fill-pairs-requires : tie.Need-fill-pairs-requires
 fill-pairs-requires c κs = search needs

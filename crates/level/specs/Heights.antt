@@ -1,0 +1,23 @@
+-- Heights put into a row of a level, one after the other or a stretch at a time.
+use mathlib.Core.Bool.{Bool}
+use mathlib.Core.List.{List}
+use Prim.Native.Nat.{ℕ, zero, suc, _+_, _*_}
+use lib.Dec.{leb}
+use lib.IntN.{ℤ, pos}
+use lib.ListN.{getD}
+use Rattle.numbers.specs.Signal.{both, stored}
+use Rattle.level.specs.Level.{Memory}
+use Rattle.level.specs.FiveThreeLevel.{cellOf}
+
+-- a run of heights as a signal
+abbrev pub heightAt : List ℕ → ℕ → ℤ
+heightAt run j = pos (getD run j 0)
+
+-- n heights h put into row m of w columns, from column c on
+unfoldable pub heightsPut : ℕ → ℕ → ℕ → ℕ → (ℕ → ℤ) → Memory → Memory
+heightsPut w m c zero h x = x
+heightsPut w m c (suc n) h x = stored (cellOf w m (c + n)) (h n) (heightsPut w m c n h x)
+
+-- the level's stretch lies within k numbers, the n columns from c on in the row, and the n heights from f on within l heights
+unfoldable pub heightsFit : ℕ → ℕ → ℕ → ℕ → ℕ → ℕ → Bool
+heightsFit k w c n l f = both (leb (4 * w) k) (both (leb (c + n) w) (leb (f + n) l))
