@@ -184,6 +184,15 @@ joined-reads N p row e =
     by-place lo (λ i. i < N → joined p i ≡ row i)
     (λ h n b. joined-place p h n ∙ e h n (in-place lo h N n b) ∙ part-place row h n)
 
+-- and a line read out of its slot says what stands there by halves
+pub half-reads : (w : ℕ) (x : ℕ → ℤ) (r : ℕ) (row : ℕ → ℤ) → ((i : ℕ) → i < w → joined (halvesOf w (rowIn w r x)) i ≡ row i) → (h : Half) (i : ℕ) →
+    i < count h w →
+    x (rowPlace w r + (halfPlace h w + i)) ≡ parted row h i
+unfolding rowIn
+half-reads w x r row e h i b =
+    sym (halves-at w _ h i ∙ window-in (rowPlace w r) w x (halfPlace h w + i) (half-inside h w i b))
+    ∙ sym (joined-place (halvesOf w (windowed (rowPlace w r) w x)) h i) ∙ e (place lo h i) (place-in lo h w i b) ∙ sym (part-place row h i)
+
 -- ---- the low-low row taken from the next level
 module _ (w n : ℕ) (x : ℕ → ℤ) where
   pub only-taken : Only w (2 * n) x (lowRowTaken w n x)

@@ -25,7 +25,8 @@ use Rattle.level.proofs.SlotLaws.{slot-room, place-is}
 use Rattle.reader.proofs.PartLaws.{half-in, behind-past, from-at, at-rest, at-put-rest, work-room}
 
 -- ---- the stretch within the store
-pub part-kept : (W H d k L : ℕ) (l : Level) (is : IsLevel W H d k l) (n : ℕ) (s ys : List ℤ) → k < L → l .start + n ≡ length s → length ys ≡ n → Kept (4 * l .width) (at (midOf (l .start) n s)) (at ys) → Kept (storeLength W L) (at s) (at (putMid (l .start) n s ys))
+pub part-kept : (W H d k L : ℕ) (l : Level) (is : IsLevel W H d k l) (n : ℕ) (s ys : List ℤ) → k < L → l .start + n ≡ length s → length ys ≡ n →
+    Kept (4 * l .width) (at (midOf (l .start) n s)) (at ys) → Kept (storeLength W L) (at s) (at (putMid (l .start) n s ys))
 part-kept W H d k L l is n s ys h whole long a =
     let room = work-room W H d k l is L h in
     let b = l .start in
@@ -53,7 +54,8 @@ fed-kept W H d k c v x =
       same = λ j le.
           let back : a + (j - a) ≡ j = omega arith in
           behind-past a x _ j (omega arith)
-          ∙ splice-past (rowPlace w r + halfPlace (across (named c)) w) (count (across (named c)) w) v (from a x) (j - a) (omega (arith, place-is w r, slot-room w r))
+          ∙ splice-past (rowPlace w r + halfPlace (across (named c)) w) (count (across (named c)) w) v (from a x) (j - a)
+          (omega (arith, place-is w r, slot-room w r))
           ∙ from-at a x (j - a)
           ∙ ap x back;
     }

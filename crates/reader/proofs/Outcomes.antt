@@ -24,7 +24,6 @@ use Rattle.level.specs.Tried.{failed, passed, bind}
 use Rattle.reader.specs.Machine.{Place, place, nextAt, settled, fedOn, beyond}
 use Rattle.reader.specs.State.{next, settles, feeds}
 use Rattle.reader.specs.Calls.{heightRow}
-use Rattle.level.proofs.RowsIn.{row-halves, joined-reads}
 use Rattle.level.proofs.SetMade.{Outcome, stops, goes, bind-outcome}
 use Rattle.reader.proofs.Holds.{Fits, Held, settle-holds, fed-holds, height-made, height-fit}
 use Rattle.reader.proofs.CallViews.{here}
@@ -45,7 +44,7 @@ pub row-out : (W H l d : ℕ) → d < H → (g : Grid) (words : OnCells (SFits w
 unfolding fronted heightRow maxSample
 row-out W H l d due g words y h z c p =
     let fit = height-fits (g d c) .0 (height-fit W H l g words d y due h c p) in
-    rw (lt-ltb c W p) (ap height16 (joined-reads W _ (g d) (row-halves W y d _ (height-made W H l g words d y due h)) c p) ∙ height-kept (g d c) (fit .0) (fit .1))
+    rw (lt-ltb c W p) (ap height16 (height-made W H l g words d y due h c p) ∙ height-kept (g d c) (fit .0) (fit .1))
 
 module _ (W H l d lev b : ℕ) (due : d < H) (level-le : lev ≤ suc l) (g : Grid) (words : OnCells (SFits w32) W H g) (x : ℕ → ℤ) (held : Held W H l g words d lev b x) where
   pub settles-outcome : (e : Bool) (p : Place) → nextAt W H (suc l) d lev b ≡ p → Outcome (Fits W H l g words) (Held W H l g words d (p .level) (p .band)) (settles (here W H l d lev b e) x)

@@ -24,7 +24,7 @@ use Rattle.reader.specs.Sets.{rowAt}
 use Rattle.reader.specs.Asked.{named}
 use Rattle.level.specs.Tried.{outcome, onto}
 use Rattle.level.specs.Slots.{rowPlace, setRow, halfPlace, bandFed}
-use Rattle.level.specs.Work.{setWorked}
+use Rattle.level.specs.Work.{admitted, setWorked}
 use Rattle.reader.specs.Store.{stretchAt, from, behind, fedAt, workedAt}
 use Rattle.reader.specs.Inside.{IsLevel}
 use Rattle.areas.proofs.AreaLaws.{front-at}
@@ -125,14 +125,14 @@ unfolding onto
 onto-outcome f true y = refl
 onto-outcome f false y = refl
 
-pub work-is : (W H L d k : ℕ) (l : Level) (a n : ℕ) (s ys : List ℤ) (ok : Bool) → IsLevel W H d k l → a ≡ l .start → a + n ≡ length s → length ys ≡ n → outcome ok (at ys) ≡ setWorked (eqb (k + 1) L) k (l .width) (l .height) (l .set) (at (midOf a n s)) → outcome ok (at (putMid a n s ys)) ≡ workedAt W H L d k (at s)
+pub work-is : (W H L d k : ℕ) (l : Level) (a n : ℕ) (s ys : List ℤ) (ok : Bool) → IsLevel W H d k l → a ≡ l .start → a + n ≡ length s → length ys ≡ n → outcome ok (at ys) ≡ setWorked admitted (eqb (k + 1) L) k (l .width) (l .height) (l .set) (at (midOf a n s)) → outcome ok (at (putMid a n s ys)) ≡ workedAt W H L d k (at s)
 unfolding workedAt
 work-is W H L d k l a n s ys ok is ea whole long made =
     let place : a ≡ stretchAt W k = ea ∙ is .start in
     ap (outcome ok) (at-put-rest a n s whole ys long)
     ∙ onto-outcome (behind a (at s)) ok (at ys)
     ∙ ap (onto (behind a (at s))) (made ∙ cc (is .width, is .height, is .set, add-one k, at-rest a n s whole))
-    ∙ ap (λ (i : ℕ). onto (behind i (at s)) (setWorked (eqb (suc k) L) k (size k W) (size k H) (rowAt H d (suc k)) (from i (at s)))) place
+    ∙ ap (λ (i : ℕ). onto (behind i (at s)) (setWorked admitted (eqb (suc k) L) k (size k W) (size k H) (rowAt H d (suc k)) (from i (at s)))) place
 
 -- the stretch, and below the last level the next one's, lie within the store
 pub stretch-room : (W k L : ℕ) → k < L → stretchAt W k + (4 * size k W + 4 * pick (eqb (k + 1) L) 0 (count lo (size k W))) ≤ stretchAt W L

@@ -28,7 +28,12 @@ add-a c =
     let half = c .before in
     let level = half .before in
     let a = level .before .args in
-    omega (arith, put-room _ _ _ _ (level .level-at .result) (level .level-at .ensures) (a .band) (half .half-place .result) (length (a .run .now)) (half .half-place .ensures) (omega arith), store-small (a .width) (a .k + 1) (omega arith))
+    omega (
+      arith,
+      put-room _ _ _ _ (level .level-at .result) (level .level-at .ensures) (a .band) (half .half-place .result) (length (a .run .now))
+          (half .half-place .ensures) (omega arith),
+      store-small (a .width) (a .k + 1) (omega arith),
+    )
 
 add-e : tie.Need-add-e
 unfolding maxLevels
@@ -36,7 +41,12 @@ add-e c =
     let half = c .before in
     let level = half .before in
     let a = level .before .args in
-    omega (arith, put-room _ _ _ _ (level .level-at .result) (level .level-at .ensures) (a .band) (half .half-place .result) (length (a .run .now)) (half .half-place .ensures) (omega arith), store-small (a .width) (a .k + 1) (omega arith))
+    omega (
+      arith,
+      put-room _ _ _ _ (level .level-at .result) (level .level-at .ensures) (a .band) (half .half-place .result) (length (a .run .now))
+          (half .half-place .ensures) (omega arith),
+      store-small (a .width) (a .k + 1) (omega arith),
+    )
 
 mul-copy : tie.Need-mul-copy
 unfolding maxLevels
@@ -44,7 +54,12 @@ mul-copy c =
     let half = c .before in
     let level = half .before in
     let a = level .before .args in
-    omega (arith, put-room _ _ _ _ (level .level-at .result) (level .level-at .ensures) (a .band) (half .half-place .result) (length (a .run .now)) (half .half-place .ensures) (omega arith), store-small (a .width) (a .k + 1) (omega arith))
+    omega (
+      arith,
+      put-room _ _ _ _ (level .level-at .result) (level .level-at .ensures) (a .band) (half .half-place .result) (length (a .run .now))
+          (half .half-place .ensures) (omega arith),
+      store-small (a .width) (a .k + 1) (omega arith),
+    )
 
 sub-copy : tie.Need-sub-copy
 sub-copy c = search needs
@@ -57,7 +72,11 @@ part-copy-end c =
     let half = c .before in
     let level = half .before in
     let a = level .before .args in
-    omega (arith, put-room _ _ _ _ (level .level-at .result) (level .level-at .ensures) (a .band) (half .half-place .result) (length (a .run .now)) (half .half-place .ensures) (omega arith))
+    omega (
+      arith,
+      put-room _ _ _ _ (level .level-at .result) (level .level-at .ensures) (a .band) (half .half-place .result) (length (a .run .now))
+          (half .half-place .ensures) (omega arith),
+    )
 
 copy-requires : tie.Need-copy-requires
 copy-requires c κs = tt
@@ -74,10 +93,13 @@ returns c =
     let a = start .args in
     let p = level .level-at .result .start + half .half-place .result in
     let n = length (a .run .now) in
-    let room = put-room _ _ _ _ (level .level-at .result) (level .level-at .ensures) (a .band) (half .half-place .result) n (half .half-place .ensures) (omega arith) in
+    let room = put-room _ _ _ _ (level .level-at .result) (level .level-at .ensures) (a .band) (half .half-place .result) n (half .half-place .ensures)
+    (omega arith) in
     let long = length-mid p (p + n - p) (a .store .now) (omega arith) in
     let fits = le-leb n (length (midOf p (p + n - p) (a .store .now))) (omega (arith, long)) in
-    put-is (a .width) (a .height) (a .drawn) (a .k) (a .band) (level .level-at .result) p (half .half-place .result) (p + n - p) (a .run .now) (a .store .now) (call .copy .last .1 .0) (level .level-at .ensures) (half .half-place .ensures) refl (omega arith) (omega arith) (omega arith) (call .copy .kept .1 .0 ∙ long)
+    put-is (a .width) (a .height) (a .drawn) (a .k) (a .band) (level .level-at .result) p (half .half-place .result) (p + n - p) (a .run .now) (a .store .now)
+    (call .copy .last .1 .0) (level .level-at .ensures) (half .half-place .ensures) refl (omega arith) (omega arith) (omega arith)
+    (call .copy .kept .1 .0 ∙ long)
     (did _ _ _ _ fits (call .copy .ensures .1))
 
 pub put-row-spec : {M : Type 1} → statement M

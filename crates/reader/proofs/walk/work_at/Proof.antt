@@ -62,7 +62,8 @@ returns c =
       work-is (a .width) (a .height) (a .levels) (a .drawn) (a .k) l (l .start) n (a .store .now) (call .work-set .last .0)
           (eqb (call .work-set .result) 0) (level .level-at .ensures) refl (omega arith) (call .work-set .kept .0 ∙ long)
           (did _ _ _ _ can (call .work-set .ensures .1 .0)),
-      part-kept (a .width) (a .height) (a .drawn) (a .k) (a .levels) l (level .level-at .ensures) n (a .store .now) (call .work-set .last .0) (omega arith) (omega arith) (call .work-set .kept .0 ∙ long)
+      part-kept (a .width) (a .height) (a .drawn) (a .k) (a .levels) l (level .level-at .ensures) n (a .store .now) (call .work-set .last .0) (omega arith)
+          (omega arith) (call .work-set .kept .0 ∙ long)
           (call .work-set .ensures .1 .1 .0),
     )
 
