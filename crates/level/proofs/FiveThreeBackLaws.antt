@@ -1,29 +1,24 @@
 -- The 5/3 level meets what is asked of a level on the way back: `five-three-back-laws`. Assumes nothing.
 use mathlib.Core.Path.{_≡_, refl, sym, ap, ap₂, _∙_}
 use mathlib.Core.Bool.{true, false}
-use Prim.Native.Nat.{ℕ, suc, _+_, _-_, _*_, _≤_, _<_}
+use Prim.Native.Nat.{ℕ, suc, _+_, _*_, _≤_, _<_}
 use native.Mathlib.Omega.{arith}
 use lib.IntN.{ℤ}
 use mir.Syntax.{w32}
 use mir.Val.{SFits}
 use Rattle.numbers.specs.Word.{wrap32}
-use Rattle.numbers.proofs.Parts.{window-in}
-use Rattle.lifting.specs.Line.{Half, lo, hi, Half-discrete, count, parted, joined, lineForward}
-use Rattle.lifting.specs.Halves.{halvesOf}
-use Rattle.lifting.proofs.Filter.{place-in}
-use Rattle.lifting.proofs.FiveThree.{joined-place}
-use Rattle.lifting.proofs.RowLaws.{row-order}
+use Rattle.lifting.specs.Line.{Half, lo, hi, Half-discrete, count, parted, lineForward}
 use Rattle.wavelet.specs.Bands.{Grid, Band, LL, HL, LH, HH, code, across, down, bandOf, columnsLifted, subband}
 use Rattle.wavelet.proofs.SizeLaws.{count-lo}
 use Rattle.wavelet.proofs.BandPlaces.{band-of}
 use Rattle.wavelet.proofs.LevelTheory.{OnCells}
 use Rattle.level.specs.Sets.{setOf}
-use Rattle.level.specs.Slots.{slot, rowPlace, setRow, halfPlace, bandFed, rowIn, lowRowTaken}
+use Rattle.level.specs.Slots.{slot, rowPlace, setRow, halfPlace, bandFed, lowRowTaken}
 use Rattle.level.specs.Work.{admitted, setWorked}
 use Rattle.level.specs.Stands.{SetLeaves, SetBefore, BandStands, fiveThreeStands}
 use Rattle.level.specs.FiveThreeBack.{rowMade, fiveThreeBack}
 use Rattle.level.proofs.OpenedSets.{setOf-first, setOf-there, opens-next, same-set}
-use Rattle.level.proofs.RowsIn.{apart, parity, Is, Only, is-old, only-fed, fed-here, fed-beside, only-taken, taken-is, taken-beside, half-inside}
+use Rattle.level.proofs.RowsIn.{apart, parity, row-end, Is, Only, is-old, only-fed, fed-here, fed-beside, only-taken, taken-is, taken-beside, half-inside}
 use Rattle.level.proofs.RowsIn.{row-halves, half-reads, joined-reads}
 use Rattle.level.proofs.SetMade.{Outcome, FitAll, Needs, set-made}
 use Rattle.level.proofs.ReaderLaws.{ReaderLaws}
@@ -32,12 +27,8 @@ use Rattle.level.proofs.ReaderLaws.{ReaderLaws}
 abbrev SameMem : ℕ → (ℕ → ℤ) → (ℕ → ℤ) → Type 0
 SameMem w x y = (j : ℕ) → j < 4 * w → y j ≡ x j
 
-four : (w r : ℕ) → rowPlace w r + w ≤ 4 * w
-unfolding rowPlace
-four w r = row-order w (slot r) 4 (omega arith)
-
 is-same : (w : ℕ) (x y : ℕ → ℤ) (r : ℕ) (c : Half → ℕ → ℤ) → SameMem w x y → Is w x r c → Is w y r c
-is-same w x y r c e s h i b = e (rowPlace w r + (halfPlace h w + i)) (omega (arith, half-inside h w i b, four w r)) ∙ s h i b
+is-same w x y r c e s h i b = e (rowPlace w r + (halfPlace h w + i)) (omega (arith, half-inside h w i b, row-end w r)) ∙ s h i b
 
 -- ---- the slots of a set's rows
 set-rows : (a b : Half) (n : ℕ) → (a ≡ b → ⊥) → slot (setRow a n) ≡ slot (setRow b n) → ⊥
@@ -93,7 +84,7 @@ module _ (w h : ℕ) (G : Grid) (n : ℕ) where
 
   got-same : (c : Band) (x y : ℕ → ℤ) → SameMem w x y → Got x c → Got y c
   got-same c x y e s p i q =
-      e (rowPlace w (setRow (down c) n) + (halfPlace (across c) w + i)) (omega (arith, half-inside (across c) w i q, four w (setRow (down c) n))) ∙ s p i q
+      e (rowPlace w (setRow (down c) n) + (halfPlace (across c) w + i)) (omega (arith, half-inside (across c) w i q, row-end w (setRow (down c) n))) ∙ s p i q
 
   -- ---- a row of the set changed, and a band row fed
   before-only : (a : Half) (x y : ℕ → ℤ) → Only w (setRow a n) x y → Before x → Before y

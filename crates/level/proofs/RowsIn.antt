@@ -38,7 +38,7 @@ slot-lt : (r : ℕ) → slot r < 4
 slot-lt r = omega arith
 
 -- ---- the places of a row by its halves
-half-end : (h : Half) (w : ℕ) → halfPlace h w + count h w ≤ w
+pub half-end : (h : Half) (w : ℕ) → halfPlace h w + count h w ≤ w
 unfolding halfPlace
 half-end lo w = omega (arith, count-lo w)
 half-end hi w = omega (arith, count-lo w, count-hi w)
@@ -74,7 +74,7 @@ module _ (w t : ℕ) where
         | no l ↦ let o = row-order w (slot t) (slot q) (omega (arith, d)) in splice-past p n v x (slot q * w + i) (omega arith)
       ]
 
-  row-end : rowPlace w t + w ≤ 4 * w
+  pub row-end : rowPlace w t + w ≤ 4 * w
   unfolding rowPlace
   row-end = row-order w (slot t) 4 (slot-lt t)
 

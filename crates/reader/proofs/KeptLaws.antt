@@ -22,7 +22,8 @@ use Rattle.reader.specs.Store.{stretchAt, from, fedAt}
 use Rattle.level.specs.Rebuilding.{Kept}
 use Rattle.reader.specs.Inside.{IsLevel}
 use Rattle.level.proofs.SlotLaws.{slot-room, place-is}
-use Rattle.reader.proofs.PartLaws.{half-in, behind-past, from-at, at-rest, at-put-rest, work-room}
+use Rattle.level.proofs.RowsIn.{half-end}
+use Rattle.reader.proofs.PartLaws.{behind-past, from-at, at-rest, at-put-rest, work-room}
 
 -- ---- the stretch within the store
 pub part-kept : (W H d k L : ℕ) (l : Level) (is : IsLevel W H d k l) (n : ℕ) (s ys : List ℤ) → k < L → l .start + n ≡ length s → length ys ≡ n →
@@ -48,7 +49,7 @@ fed-kept W H d k c v x =
     let w = size k W in
     let r = setRow (down (named c)) (rowAt H d (suc k)) in
     let a = stretchAt W k in
-    let half = half-in (across (named c)) w in
+    let half = half-end (across (named c)) w in
     let next : storeLength W (k + 1) ≡ a + 4 * w = sym (stretch-is W (k + 1)) ∙ ap (stretchAt W) (add-one k) ∙ stretch-suc W k in
     record {
       same = λ j le.

@@ -3,13 +3,11 @@ use mathlib.Core.Bool.{Bool}
 use mathlib.Core.Path.{_≡_, sym, ap, subst, _∙_}
 use Prim.Native.Nat.{ℕ, suc, _-_, _≤_, _<_}
 use native.Mathlib.Omega.{arith}
-use lib.IntN.{ℤ, pos}
-use lib.Signed.{_≤ℤ_}
+use lib.IntN.{ℤ}
 use mir.Syntax.{w32}
 use mir.Val.{SFits}
 use borrow.Author.Tests.{lt-ltb}
 use Rattle.numbers.specs.Word.{wrap32}
-use Rattle.numbers.proofs.Integers.{each, lin}
 use Rattle.lifting.specs.Line.{count}
 use Rattle.lifting.specs.Halves.{fronted}
 use Rattle.wavelet.specs.Limits.{maxSample}
@@ -19,6 +17,7 @@ use Rattle.wavelet.specs.View.{bandColumns}
 use Rattle.wavelet.proofs.LevelTheory.{OnCells}
 use Rattle.wavelet.proofs.MapTheorems.{height-fits}
 use Rattle.areas.specs.Areas.{height16}
+use Rattle.areas.proofs.HeightLaws.{height-kept}
 use Rattle.reader.specs.Sets.{rowAt}
 use Rattle.level.specs.Tried.{failed, passed, bind}
 use Rattle.reader.specs.Machine.{Place, place, nextAt, settled, fedOn, beyond}
@@ -33,11 +32,6 @@ outcome-failed (stops n) = n
 
 pub outcome-passed : {N : Type 0} {P : (ℕ → ℤ) → Type 0} (y : ℕ → ℤ) → Outcome N P (passed y) → P y
 outcome-passed _ (goes _ p) = p
-
--- a height is its own remainder
-height-kept : (v : ℤ) → pos 0 ≤ℤ v → v ≤ℤ pos maxSample → height16 v ≡ v
-unfolding height16 maxSample
-height-kept = each _ λ p q. simp lin (omega arith)
 
 -- the height row that is drawn
 pub row-out : (W H l d : ℕ) → d < H → (g : Grid) (words : OnCells (SFits w32) W H g) (y : ℕ → ℤ) → Held W H l g words d 0 4 y → (z : ℕ → ℤ) (c : ℕ) → c < W → fronted W (heightRow W d y) z c ≡ g d c

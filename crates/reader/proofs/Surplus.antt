@@ -12,7 +12,7 @@ use Rattle.wavelet.specs.Levels.{size}
 use Rattle.wavelet.specs.Store.{storeLength}
 use Rattle.reader.specs.declared.Reader.{Reader}
 use Rattle.reader.specs.Sets.{rowAt}
-use Rattle.level.specs.Tried.{Tried, failed, passed, bind, onto, memory}
+use Rattle.level.specs.Tried.{Tried, passed, bind, onto, memory}
 use Rattle.reader.specs.Store.{stretchAt, from, behind, zeroed, fedAt, workedAt}
 use Rattle.reader.specs.Machine.{lastOfSet, settled, finished, fedOn}
 use Rattle.reader.specs.State.{next, settles, feeds, drawDue}
