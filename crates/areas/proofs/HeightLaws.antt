@@ -5,7 +5,7 @@ use Prim.Native.Nat.{ℕ, zero, suc, _≤_, _<_}
 use native.Mathlib.Omega.{arith}
 use lib.Dec.{T}
 use lib.IntN.{ℤ, pos, negsuc, natAbs, _-ℤ_, _*ℤ_}
-use lib.Signed.{shrZ, nonNeg, mag-shr}
+use lib.Signed.{shrZ, nonNeg, mag-shr, _≤ℤ_}
 use lib.ListN.{length, set, length-map, List·getD-map}
 use mir.Syntax.{w32}
 use mir.Val.{SFits, toZ}
@@ -15,8 +15,7 @@ use Rattle.numbers.specs.Signal.{at}
 use Rattle.numbers.proofs.Integers.{each, lin}
 use Rattle.numbers.proofs.Words.{read-back}
 use Rattle.numbers.proofs.Sweep.{Swept, finish}
-use Rattle.areas.specs.Areas.{heightsAt}
-use Rattle.areas.specs.Areas.{wholes}
+use Rattle.areas.specs.Areas.{heightsAt, height16, wholes}
 
 pub wholes-at : (l : List ℕ) → at (wholes l) ≡ heightsAt l
 wholes-at l = fun-ext λ i. List·getD-map pos l i 0
@@ -64,6 +63,11 @@ rest-positive = each _ λ p q. simp lin (omega arith)
 
 pub rest-small : (z : ℤ) → natAbs (z -ℤ pos 65536 *ℤ shrZ z 65536) ≤ 65535
 rest-small = each _ λ p q. simp lin (omega arith)
+
+-- a height is its own remainder
+pub height-kept : (z : ℤ) → pos 0 ≤ℤ z → z ≤ℤ pos 65535 → height16 z ≡ z
+unfolding height16
+height-kept = each _ λ p q. simp lin (omega arith)
 
 pub positive : (z : ℤ) → T (nonNeg z) → pos (natAbs z) ≡ z
 positive (pos n) h = refl

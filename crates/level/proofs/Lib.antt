@@ -13,6 +13,9 @@ pub mod SlotLaws
 pub mod AdmitLaws
 pub mod WorkLaws
 pub mod KeptLaws
+pub mod WorkedPast
 pub mod RowsIn
 pub mod SetMade
 pub mod RebuildingLaws
+pub mod ReaderLaws
+pub mod FiveThreeBackLaws

@@ -28,7 +28,12 @@ opens-row h r b =
             | yes o ↦
                 elim (decLt (r + 1) h) [
                   | yes i ↦ simp (eq-eqb r (2 * min ((r + 1) / 2) ((h + 1) / 2 - 1) - 1) (omega arith), ne-eqb r 0 e, eq-eqb (r % 2) 1 o, lt-ltb (r + 1) h i)
-                  | no i ↦ simp (ne-eqb r (2 * min ((r + 1) / 2) ((h + 1) / 2 - 1) - 1) (λ z. omega arith), ne-eqb r 0 e, eq-eqb (r % 2) 1 o, le-ltb (r + 1) h (omega arith))
+                  | no i ↦ simp (
+                    ne-eqb r (2 * min ((r + 1) / 2) ((h + 1) / 2 - 1) - 1) (λ z. omega arith),
+                    ne-eqb r 0 e,
+                    eq-eqb (r % 2) 1 o,
+                    le-ltb (r + 1) h (omega arith),
+                  )
                 ]
             | no o ↦ simp (ne-eqb r (2 * min ((r + 1) / 2) ((h + 1) / 2 - 1) - 1) (λ z. o (omega arith)), ne-eqb r 0 e, ne-eqb (r % 2) 1 o)
           ]

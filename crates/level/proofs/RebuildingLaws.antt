@@ -1,16 +1,15 @@
 -- What the calls that work a set out ask, and what their answers tell. Assumes nothing.
-use mathlib.Core.Path.{_≡_, refl, sym, ap, _∙_}
+use mathlib.Core.Path.{_≡_, refl, sym, _∙_}
 use mathlib.Core.Bool.{Bool, true, false}
-use Prim.Native.Nat.{ℕ, _+_, _*_, _≤_, _<_}
-use native.Mathlib.Omega.{arith}
+use Prim.Native.Nat.{ℕ, _≤_, _<_}
 use lib.IntN.{ℤ}
 use lib.Dec.{leb, ltb}
 use borrow.Author.Tests.{le-leb, lt-ltb, leb-true, ltb-true}
-use Rattle.numbers.specs.Signal.{pick, both}
+use Rattle.numbers.specs.Signal.{pick}
 use Rattle.numbers.proofs.Sweep.{both as both-hold}
 use Rattle.lifting.specs.Line.{lo, count}
 use Rattle.wavelet.specs.Limits.{maxLevels}
-use Rattle.level.specs.Tried.{Tried, failed, passed, outcome, fits}
+use Rattle.level.specs.Tried.{Tried, failed, passed, fits}
 use Rattle.level.specs.Rebuilding.{widest, tallest, workLength, workable, workAnswer}
 
 -- a test that can not say yes says no

@@ -38,7 +38,7 @@ slot-lt : (r : ℕ) → slot r < 4
 slot-lt r = omega arith
 
 -- ---- the places of a row by its halves
-half-end : (h : Half) (w : ℕ) → halfPlace h w + count h w ≤ w
+pub half-end : (h : Half) (w : ℕ) → halfPlace h w + count h w ≤ w
 unfolding halfPlace
 half-end lo w = omega (arith, count-lo w)
 half-end hi w = omega (arith, count-lo w, count-hi w)
@@ -74,7 +74,7 @@ module _ (w t : ℕ) where
         | no l ↦ let o = row-order w (slot t) (slot q) (omega (arith, d)) in splice-past p n v x (slot q * w + i) (omega arith)
       ]
 
-  row-end : rowPlace w t + w ≤ 4 * w
+  pub row-end : rowPlace w t + w ≤ 4 * w
   unfolding rowPlace
   row-end = row-order w (slot t) 4 (slot-lt t)
 
@@ -183,6 +183,15 @@ pub joined-reads : (N : ℕ) (p : Half → ℕ → ℤ) (row : ℕ → ℤ) → 
 joined-reads N p row e =
     by-place lo (λ i. i < N → joined p i ≡ row i)
     (λ h n b. joined-place p h n ∙ e h n (in-place lo h N n b) ∙ part-place row h n)
+
+-- and a line read out of its slot says what stands there by halves
+pub half-reads : (w : ℕ) (x : ℕ → ℤ) (r : ℕ) (row : ℕ → ℤ) → ((i : ℕ) → i < w → joined (halvesOf w (rowIn w r x)) i ≡ row i) → (h : Half) (i : ℕ) →
+    i < count h w →
+    x (rowPlace w r + (halfPlace h w + i)) ≡ parted row h i
+unfolding rowIn
+half-reads w x r row e h i b =
+    sym (halves-at w _ h i ∙ window-in (rowPlace w r) w x (halfPlace h w + i) (half-inside h w i b))
+    ∙ sym (joined-place (halvesOf w (windowed (rowPlace w r) w x)) h i) ∙ e (place lo h i) (place-in lo h w i b) ∙ sym (part-place row h i)
 
 -- ---- the low-low row taken from the next level
 module _ (w n : ℕ) (x : ℕ → ℤ) where

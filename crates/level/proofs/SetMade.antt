@@ -217,7 +217,7 @@ module _ (k w h : ℕ) (G : Grid) (good : OnCells (SFits w32) w h G) where
       rows : Evens n x
       fit : FitRow (2 * n)
 
-    even-made : (n : ℕ) (x : ℕ → ℤ) → 2 * n < h → Past x → Needs n x → Outcome FitAll (Even n) (evenMade k w h n x)
+    even-made : (n : ℕ) (x : ℕ → ℤ) → 2 * n < h → Past x → Needs n x → Outcome FitAll (Even n) (evenMade admitted k w h n x)
     unfolding evenMade
     even-made n x b z s =
         let e = evened n _ b (unlifted n x b z s) in
@@ -247,7 +247,7 @@ module _ (k w h : ℕ) (G : Grid) (good : OnCells (SFits w32) w h G) where
       odd-fit : (p : ℕ) → n ≡ suc p → FitRow (2 * p + 1)
       past : Past x
 
-    odd-made : (n : ℕ) (x : ℕ → ℤ) → 2 * n < h → Even n x → Outcome FitAll (Most n) (oddMade k w h n x)
+    odd-made : (n : ℕ) (x : ℕ → ℤ) → 2 * n < h → Even n x → Outcome FitAll (Most n) (oddMade admitted k w h n x)
     unfolding oddMade oddRow count
     odd-made zero x b s = goes x (record {
       even = s .rows .even 0 (omega arith) (omega arith);
@@ -295,7 +295,7 @@ module _ (k w h : ℕ) (G : Grid) (good : OnCells (SFits w32) w h G) where
     abbrev pub Worked : ℕ → (ℕ → ℤ) → Type 0
     Worked n y = Leaves n y × Past y
 
-    last-made : (n : ℕ) (x : ℕ → ℤ) → 2 * n < h → Most n x → Outcome FitAll (Worked n) (lastMade k w h n x)
+    last-made : (n : ℕ) (x : ℕ → ℤ) → 2 * n < h → Most n x → Outcome FitAll (Worked n) (lastMade admitted k w h n x)
     unfolding lastMade oddRow count
     last-made n x b s = go (ℕ-discrete (2 * n + 2) h)
       where
@@ -330,7 +330,7 @@ module _ (k w h : ℕ) (G : Grid) (good : OnCells (SFits w32) w h G) where
         ))
 
     -- ---- a set worked out makes rows of the grid
-    pub set-made : (n : ℕ) (x : ℕ → ℤ) → 2 * n < h → Past x → Needs n x → Outcome FitAll (Worked n) (setMade k w h n x)
+    pub set-made : (n : ℕ) (x : ℕ → ℤ) → 2 * n < h → Past x → Needs n x → Outcome FitAll (Worked n) (setMade admitted k w h n x)
     unfolding setMade
-    set-made n x b z s = bind-outcome (evenMade k w h n x) _ (even-made n x b z s)
-        (λ y e. bind-outcome (oddMade k w h n y) _ (odd-made n y b e) (λ u m. last-made n u b m))
+    set-made n x b z s = bind-outcome (evenMade admitted k w h n x) _ (even-made n x b z s)
+        (λ y e. bind-outcome (oddMade admitted k w h n y) _ (odd-made n y b e) (λ u m. last-made n u b m))

@@ -30,7 +30,8 @@ unfolding rowPlace
 place-is w r = refl
 
 -- ---- a row lifted back in the part that is lent
-pub unlift-part : (w r a k : ℕ) (l ys : List ℤ) → a ≡ rowPlace w r → k ≡ w → a + k ≤ length l → length ys ≡ k → at ys ≡ unliftedInPlace (length (midOf a k l)) (at (midOf a k l)) → at (putMid a k l ys) ≡ rowUnlifted w r (at l)
+pub unlift-part : (w r a k : ℕ) (l ys : List ℤ) → a ≡ rowPlace w r → k ≡ w → a + k ≤ length l → length ys ≡ k →
+    at ys ≡ unliftedInPlace (length (midOf a k l)) (at (midOf a k l)) → at (putMid a k l ys) ≡ rowUnlifted w r (at l)
 unfolding rowUnlifted rowIn
 unlift-part w r a k l ys ea ek room long made =
     cc (at-put a k l ys long room, made, length-mid a k l room, at-mid a k l, ea, ek)
@@ -55,14 +56,17 @@ module _ (w h n : ℕ) (x : ℕ → ℤ) where
   unfolding setUnlifted
   unlifted-one p = simp (le-ltb (2 * n + 1) h p)
 
-  pub even-by : (N a b : ℕ) → 4 * w ≤ N → 1 < h → a ≡ n - 1 → b ≡ min n (count hi h - 1) → rowsChanged (unupdated wrap32) N w w (2 * n % 4) ((2 * a + 1) % 4) ((2 * b + 1) % 4) x ≡ evenRow w h n x
+  pub even-by : (N a b : ℕ) → 4 * w ≤ N → 1 < h → a ≡ n - 1 → b ≡ min n (count hi h - 1) →
+      rowsChanged (unupdated wrap32) N w w (2 * n % 4) ((2 * a + 1) % 4) ((2 * b + 1) % 4) x ≡ evenRow w h n x
   unfolding evenRow
-  even-by N a b room p ea eb = rw (ea, eb) (row-by (unupdated wrap32) N w (2 * n) (2 * (n - 1) + 1) (2 * min n (count hi h - 1) + 1) x room ∙ sym (simp (lt-ltb 1 h p)))
+  even-by N a b room p ea eb = rw (ea, eb)
+      (row-by (unupdated wrap32) N w (2 * n) (2 * (n - 1) + 1) (2 * min n (count hi h - 1) + 1) x room ∙ sym (simp (lt-ltb 1 h p)))
 
   pub even-one : h ≤ 1 → evenRow w h n x ≡ x
   unfolding evenRow
   even-one p = simp (le-ltb 1 h p)
 
-  pub odd-by : (N b : ℕ) → 4 * w ≤ N → b ≡ min (n + 1) (count lo h - 1) → rowsChanged (unpredicted wrap32) N w w ((2 * n + 1) % 4) (2 * n % 4) (2 * b % 4) x ≡ oddRow w h n x
+  pub odd-by : (N b : ℕ) → 4 * w ≤ N → b ≡ min (n + 1) (count lo h - 1) →
+      rowsChanged (unpredicted wrap32) N w w ((2 * n + 1) % 4) (2 * n % 4) (2 * b % 4) x ≡ oddRow w h n x
   unfolding oddRow
   odd-by N b room eb = rw eb (row-by (unpredicted wrap32) N w (2 * n + 1) (2 * n) (2 * min (n + 1) (count lo h - 1)) x room)

@@ -29,46 +29,48 @@ bind-passed t f x e = ap (λ (u : Tried). bind u f) e
 
 -- ---- the rows of a set
 module _ (k w h n : ℕ) (x : ℕ → ℤ) where
-  pub even-made : (ok : Bool) (y z : ℕ → ℤ) → y ≡ setUnlifted w h n x → z ≡ evenRow w h n y → ok ≡ rowFits k w (2 * n) z → outcome ok z ≡ evenMade k w h n x
+  pub even-made : (ok : Bool) (y z : ℕ → ℤ) → y ≡ setUnlifted w h n x → z ≡ evenRow w h n y → ok ≡ rowFits k w (2 * n) z →
+      outcome ok z ≡ evenMade admitted k w h n x
   unfolding evenMade admitted
   even-made ok y z ey ez eo =
       let e : z ≡ evenRow w h n (setUnlifted w h n x) = ez ∙ ap (evenRow w h n) ey in
       ap (λ (b : Bool). outcome b z) eo ∙ ap (admitted k w (2 * n)) e
 
-  pub odd-none : n ≡ 0 → passed x ≡ oddMade k w h n x
+  pub odd-none : n ≡ 0 → passed x ≡ oddMade admitted k w h n x
   unfolding oddMade
   odd-none e = rw e
 
-  pub last-none : (2 * n + 2 ≡ h → ⊥) → passed x ≡ lastMade k w h n x
+  pub last-none : (2 * n + 2 ≡ h → ⊥) → passed x ≡ lastMade admitted k w h n x
   unfolding lastMade
   last-none e = rw (ne-eqb (2 * n + 2) h e)
 
-  pub last-made : (ok : Bool) (z : ℕ → ℤ) → 2 * n + 2 ≡ h → z ≡ oddRow w h n x → ok ≡ rowFits k w (2 * n + 1) z → outcome ok z ≡ lastMade k w h n x
+  pub last-made : (ok : Bool) (z : ℕ → ℤ) → 2 * n + 2 ≡ h → z ≡ oddRow w h n x → ok ≡ rowFits k w (2 * n + 1) z → outcome ok z ≡ lastMade admitted k w h n x
   unfolding lastMade admitted
   last-made ok z e ez eo = rw (eq-eqb (2 * n + 2) h e) (ap (λ (b : Bool). outcome b z) eo ∙ ap (admitted k w (2 * n + 1)) ez)
 
-  pub made-1 : failed ≡ evenMade k w h n x → failed ≡ setMade k w h n x
+  pub made-1 : failed ≡ evenMade admitted k w h n x → failed ≡ setMade admitted k w h n x
   unfolding setMade
   made-1 e = bind-failed _ _ e
 
-  module _ (y : ℕ → ℤ) (one : passed y ≡ evenMade k w h n x) where
-    pub made-2 : failed ≡ oddMade k w h n y → failed ≡ setMade k w h n x
+  module _ (y : ℕ → ℤ) (one : passed y ≡ evenMade admitted k w h n x) where
+    pub made-2 : failed ≡ oddMade admitted k w h n y → failed ≡ setMade admitted k w h n x
     unfolding setMade
-    made-2 e = bind-failed _ (lastMade k w h n) e ∙ bind-passed _ (λ y. bind (oddMade k w h n y) (lastMade k w h n)) y one
+    made-2 e = bind-failed _ (lastMade admitted k w h n) e ∙ bind-passed _ (λ y. bind (oddMade admitted k w h n y) (lastMade admitted k w h n)) y one
 
-    pub made-3 : (z : ℕ → ℤ) → passed z ≡ oddMade k w h n y → lastMade k w h n z ≡ setMade k w h n x
+    pub made-3 : (z : ℕ → ℤ) → passed z ≡ oddMade admitted k w h n y → lastMade admitted k w h n z ≡ setMade admitted k w h n x
     unfolding setMade
-    made-3 z e = bind-passed _ (lastMade k w h n) z e ∙ bind-passed _ (λ y. bind (oddMade k w h n y) (lastMade k w h n)) y one
+    made-3 z e = bind-passed _ (lastMade admitted k w h n) z e ∙ bind-passed _ (λ y. bind (oddMade admitted k w h n y) (lastMade admitted k w h n)) y one
 
-  pub worked-last : (last : Bool) → last ≡ true → setMade k w h n x ≡ setWorked last k w h n x
+  pub worked-last : (last : Bool) → last ≡ true → setMade admitted k w h n x ≡ setWorked admitted last k w h n x
   unfolding setWorked
   worked-last last e = rw e
 
-  pub worked-on : (last : Bool) (y : ℕ → ℤ) → last ≡ false → y ≡ lowRowTaken w n x → setMade k w h n y ≡ setWorked last k w h n x
+  pub worked-on : (last : Bool) (y : ℕ → ℤ) → last ≡ false → y ≡ lowRowTaken w n x → setMade admitted k w h n y ≡ setWorked admitted last k w h n x
   unfolding setWorked
-  worked-on last y e taken = rw e (ap (setMade k w h n) taken)
+  worked-on last y e taken = rw e (ap (setMade admitted k w h n) taken)
 
-pub odd-made : (k w h n : ℕ) (x : ℕ → ℤ) (ok : Bool) (z : ℕ → ℤ) → (n ≡ 0 → ⊥) → z ≡ oddRow w h (n - 1) x → ok ≡ rowFits k w (2 * n - 1) z → outcome ok z ≡ oddMade k w h n x
+pub odd-made : (k w h n : ℕ) (x : ℕ → ℤ) (ok : Bool) (z : ℕ → ℤ) → (n ≡ 0 → ⊥) → z ≡ oddRow w h (n - 1) x → ok ≡ rowFits k w (2 * n - 1) z →
+    outcome ok z ≡ oddMade admitted k w h n x
 odd-made k w h zero x ok z ne ez eo = absurd (ne refl)
 odd-made k w h (suc m) x ok z ne ez eo =
     let a : suc m - 1 ≡ m = omega arith in
@@ -80,6 +82,7 @@ odd-made k w h (suc m) x ok z ne ez eo =
     admitted′ m z = outcome (rowFits k w (2 * m + 1) z) z
 
 -- ---- the low-low row taken from the next level
-pub low-taken : (w n low from to : ℕ) (x : ℕ → ℤ) → low ≡ count lo w → from ≡ 4 * w + rowPlace low n → to ≡ rowPlace w (2 * n) → spliced to low (joined (halvesOf low (windowed from low x))) x ≡ lowRowTaken w n x
+pub low-taken : (w n low from to : ℕ) (x : ℕ → ℤ) → low ≡ count lo w → from ≡ 4 * w + rowPlace low n → to ≡ rowPlace w (2 * n) →
+    spliced to low (joined (halvesOf low (windowed from low x))) x ≡ lowRowTaken w n x
 unfolding lowRowTaken
 low-taken w n low from to x el ef et = rw (ef, et, el)

@@ -11,3 +11,5 @@ pub mod Slots
 pub mod Work
 pub mod Stands
 pub mod Rebuilding
+pub mod ReaderLevel
+pub mod FiveThreeBack

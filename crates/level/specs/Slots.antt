@@ -1,4 +1,5 @@
--- A level's memory: four rows of w numbers, each in halves. Row r of the level stands in slot r mod 4: there its coefficients are collected, and there they become the row.
+-- A level's memory: four rows of w numbers, each in halves. Row r of the level stands in slot r mod 4: there its coefficients are collected, and there they
+-- become the row.
 use Prim.Native.Nat.{ℕ, _+_, _*_, _%_}
 use lib.IntN.{ℤ}
 use Rattle.numbers.specs.Signal.{windowed, spliced}
@@ -40,7 +41,8 @@ rowUnlifted w r x = spliced (rowPlace w r) w (unliftedInPlace w (rowIn w r x)) x
 unfoldable pub rowBy : (ℤ → ℤ → ℤ → ℤ) → ℕ → ℕ → ℕ → ℕ → (ℕ → ℤ) → ℕ → ℤ
 rowBy f w t l r x = rowChanged f w w (slot t) (slot l) (slot r) x
 
--- The low-low row of set n is row n of the next level, whose memory, four rows half as wide, follows this one: from halves into its own order, to the low half of row 2n.
+-- The low-low row of set n is row n of the next level, whose memory, four rows half as wide, follows this one: from halves into its own order, to the low
+-- half of row 2n.
 unfoldable pub lowRowTaken : ℕ → ℕ → (ℕ → ℤ) → ℕ → ℤ
 lowRowTaken w n x =
     spliced (rowPlace w (2 * n)) (count lo w)

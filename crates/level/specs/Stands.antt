@@ -29,3 +29,15 @@ pub record SetBefore (w h : ℕ) (G : Grid) (n : ℕ) (x : ℕ → ℤ) : Type 0
 abbrev pub BandStands : ℕ → ℕ → Grid → ℕ → (ℕ → ℤ) → Band → Type 0
 BandStands w h G n x c =
     n < count (down c) h → (i : ℕ) → i < count (across c) w → x (rowPlace w (setRow (down c) n) + (halfPlace (across c) w + i)) ≡ subband wrap32 w h G c n i
+
+-- ---- what stands in a level's memory, whatever the level does
+pub record BackMeaning : Type 1 where
+  -- Leaves k w h G n x: what set n leaves
+  pub Leaves : ℕ → ℕ → ℕ → Grid → ℕ → (ℕ → ℤ) → Type 0
+  -- Before w h G n x: what set n needs of those before it
+  pub Before : ℕ → ℕ → Grid → ℕ → (ℕ → ℤ) → Type 0
+  -- Got w h G n x c: row n of band c is there, if there is one
+  pub Got : ℕ → ℕ → Grid → ℕ → (ℕ → ℤ) → Band → Type 0
+
+abbrev pub fiveThreeStands : BackMeaning
+fiveThreeStands = record { Leaves = SetLeaves; Before = SetBefore; Got = BandStands }

@@ -1,4 +1,5 @@
--- Working out set n of a level that splits a grid of w columns and h rows. Its rows are low-low values of level k (k = 0: heights), and each passes the test of 14 as soon as it is made.
+-- Working out set n of a level that splits a grid of w columns and h rows. Its rows are low-low values of level k (k = 0: heights), and each is admitted as
+-- soon as it is made: here it passes the test of 14.
 -- Document 01, "Back: rows, then columns": along the row, then the even row from its low row and the high rows next to it, then the odd rows.
 use mathlib.Core.Bool.{Bool}
 use Prim.Native.Nat.{ℕ, zero, suc, _+_, _-_, _*_, min}
@@ -11,13 +12,6 @@ use Rattle.numbers.specs.Tests.{every}
 use Rattle.wavelet.specs.Maps.{valueFits}
 use Rattle.level.specs.Tried.{Tried, passed, outcome, bind}
 use Rattle.level.specs.Slots.{rowPlace, rowUnlifted, rowBy, lowRowTaken}
-
--- the test of 14 on row r
-unfoldable pub rowFits : ℕ → ℕ → ℕ → (ℕ → ℤ) → Bool
-rowFits k w r x = every w (λ i. valueFits k (x (rowPlace w r + i)))
-
-unfoldable pub admitted : ℕ → ℕ → ℕ → (ℕ → ℤ) → Tried
-admitted k w r x = outcome (rowFits k w r x) x
 
 -- along the row: the low row of the set, and its high row if it has one
 unfoldable pub setUnlifted : ℕ → ℕ → ℕ → (ℕ → ℤ) → ℕ → ℤ
@@ -32,22 +26,35 @@ evenRow w h n x =
 unfoldable pub oddRow : ℕ → ℕ → ℕ → (ℕ → ℤ) → ℕ → ℤ
 oddRow w h m x = rowBy (unpredicted wrap32) w (2 * m + 1) (2 * m) (2 * min (m + 1) (count lo h - 1)) x
 
--- row 2n
-unfoldable pub evenMade : ℕ → ℕ → ℕ → ℕ → (ℕ → ℤ) → Tried
-evenMade k w h n x = admitted k w (2 * n) (evenRow w h n (setUnlifted w h n x))
+-- What is done to row r, a row of low-low values of level k that has just been made, before it is used: it is left, or changed, or nothing goes on.
+abbrev pub Admission : Type 0
+Admission = ℕ → ℕ → ℕ → (ℕ → ℤ) → Tried
 
--- row 2n − 1, if there is one
-unfoldable pub oddMade : ℕ → ℕ → ℕ → ℕ → (ℕ → ℤ) → Tried
-oddMade k w h zero x = passed x
-oddMade k w h (suc m) x = admitted k w (2 * m + 1) (oddRow w h m x)
+-- the test of 14: the row is left if all of it fits
+unfoldable pub rowFits : ℕ → ℕ → ℕ → (ℕ → ℤ) → Bool
+rowFits k w r x = every w (λ i. valueFits k (x (rowPlace w r + i)))
 
--- row 2n + 1, if it is the last of an even height
-unfoldable pub lastMade : ℕ → ℕ → ℕ → ℕ → (ℕ → ℤ) → Tried
-lastMade k w h n x = pick (eqb (2 * n + 2) h) (admitted k w (2 * n + 1) (oddRow w h n x)) (passed x)
+unfoldable pub admitted : Admission
+admitted k w r x = outcome (rowFits k w r x) x
 
-unfoldable pub setMade : ℕ → ℕ → ℕ → ℕ → (ℕ → ℤ) → Tried
-setMade k w h n x = bind (evenMade k w h n x) (λ y. bind (oddMade k w h n y) (lastMade k w h n))
+-- ---- the rows of set n, one after another, each admitted as `admit` says
+module _ (admit : Admission) where
+  -- row 2n
+  unfoldable pub evenMade : ℕ → ℕ → ℕ → ℕ → (ℕ → ℤ) → Tried
+  evenMade k w h n x = admit k w (2 * n) (evenRow w h n (setUnlifted w h n x))
 
--- the whole of it: below level L the low-low row is taken from the next level first
-unfoldable pub setWorked : Bool → ℕ → ℕ → ℕ → ℕ → (ℕ → ℤ) → Tried
-setWorked last k w h n x = setMade k w h n (pick last x (lowRowTaken w n x))
+  -- row 2n − 1, if there is one
+  unfoldable pub oddMade : ℕ → ℕ → ℕ → ℕ → (ℕ → ℤ) → Tried
+  oddMade k w h zero x = passed x
+  oddMade k w h (suc m) x = admit k w (2 * m + 1) (oddRow w h m x)
+
+  -- row 2n + 1, if it is the last of an even height
+  unfoldable pub lastMade : ℕ → ℕ → ℕ → ℕ → (ℕ → ℤ) → Tried
+  lastMade k w h n x = pick (eqb (2 * n + 2) h) (admit k w (2 * n + 1) (oddRow w h n x)) (passed x)
+
+  unfoldable pub setMade : ℕ → ℕ → ℕ → ℕ → (ℕ → ℤ) → Tried
+  setMade k w h n x = bind (evenMade k w h n x) (λ y. bind (oddMade k w h n y) (lastMade k w h n))
+
+  -- the whole of it: below level L the low-low row is taken from the next level first
+  unfoldable pub setWorked : Bool → ℕ → ℕ → ℕ → ℕ → (ℕ → ℤ) → Tried
+  setWorked last k w h n x = setMade k w h n (pick last x (lowRowTaken w n x))

@@ -9,7 +9,7 @@ ghost use lib.ListN.{length};
 ghost use Rattle.numbers.specs.Signal.{at, pick};
 ghost use Rattle.level.specs.Tried.{failed, outcome};
 ghost use Rattle.level.specs.Slots.{rowPlace};
-ghost use Rattle.level.specs.Work.{setWorked};
+ghost use Rattle.level.specs.Work.{admitted, setWorked};
 ghost use Rattle.level.specs.Rebuilding.{widest, tallest, workLength, workable, workAnswer, Kept};
 
 // The longest row and the most rows of a level: so small that no place in memory overflows. A contract that names a constant follows an edit of it, so each is
@@ -75,9 +75,9 @@ fn can_work(last: bool, k: usize, w: usize, h: usize, n: usize, length: usize) -
 // heights). 14 where one of them does not fit: the stretch then has what was made so far. 5, and nothing changed, where the set can not be worked out there.
 pub fn work_set(stretch: &mut [i32], last: bool, k: usize, w: usize, h: usize, n: usize) -> u8
     ensures answer { λ r. ⌜ r ≡
-        workAnswer (workable last k w h n (length (now (stretch .entry)))) (setWorked last k w h n (at (now (stretch .entry)))) ⌝ }
+        workAnswer (workable last k w h n (length (now (stretch .entry)))) (setWorked admitted last k w h n (at (now (stretch .entry)))) ⌝ }
     ensures memory { λ r. ⌜ outcome (eqb r 0) (at (now (stretch .exit))) ≡
-        pick (workable last k w h n (length (now (stretch .entry)))) (setWorked last k w h n (at (now (stretch .entry)))) failed ⌝ }
+        pick (workable last k w h n (length (now (stretch .entry)))) (setWorked admitted last k w h n (at (now (stretch .entry)))) failed ⌝ }
     ensures kept { λ _. ⌜ Kept (4 * w) (at (now (stretch .entry))) (at (now (stretch .exit))) ⌝ }
     ensures refused { λ r. ⌜ (r ≡ 5 → at (now (stretch .exit)) ≡ at (now (stretch .entry))) ⌝ }
 {

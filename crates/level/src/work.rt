@@ -14,7 +14,7 @@ ghost use Rattle.lifting.specs.Line.{lo, count};
 ghost use Rattle.wavelet.specs.Limits.{maxLevels};
 ghost use Rattle.level.specs.Tried.{outcome};
 ghost use Rattle.level.specs.Slots.{rowPlace, rowUnlifted, lowRowTaken};
-ghost use Rattle.level.specs.Work.{rowFits, setUnlifted, evenRow, oddRow, evenMade, oddMade, lastMade, setMade, setWorked};
+ghost use Rattle.level.specs.Work.{rowFits, admitted, setUnlifted, evenRow, oddRow, evenMade, oddMade, lastMade, setMade, setWorked};
 ghost use Rattle.level.specs.Rebuilding.{Kept, lowestOf};
 
 // Where row r begins.
@@ -102,7 +102,7 @@ fn admit_row(stretch: &[i32], k: usize, w: usize, r: usize) -> bool
 // Row 2n of set n made.
 fn make_even(stretch: &mut [i32], k: usize, w: usize, h: usize, n: usize) -> bool
     requires { ⌜ (w ≤ 2 ^ 16) × (4 * w ≤ length (now stretch)) × (n < count lo h) × (h < 2 ^ 32) × (k ≤ maxLevels) ⌝ }
-    ensures { λ ok. ⌜ outcome ok (at (now (stretch .exit))) ≡ evenMade k w h n (at (now (stretch .entry))) ⌝ }
+    ensures { λ ok. ⌜ outcome ok (at (now (stretch .exit))) ≡ evenMade admitted k w h n (at (now (stretch .entry))) ⌝ }
     ensures { λ _. ⌜ Kept (4 * w) (at (now (stretch .entry))) (at (now (stretch .exit))) ⌝ }
 {
     unlift_set(stretch, w, h, n);
@@ -113,7 +113,7 @@ fn make_even(stretch: &mut [i32], k: usize, w: usize, h: usize, n: usize) -> boo
 // Row 2n − 1 made, if there is one.
 fn make_odd(stretch: &mut [i32], k: usize, w: usize, h: usize, n: usize) -> bool
     requires { ⌜ (w ≤ 2 ^ 16) × (4 * w ≤ length (now stretch)) × (n < count lo h) × (h < 2 ^ 32) × (k ≤ maxLevels) ⌝ }
-    ensures { λ ok. ⌜ outcome ok (at (now (stretch .exit))) ≡ oddMade k w h n (at (now (stretch .entry))) ⌝ }
+    ensures { λ ok. ⌜ outcome ok (at (now (stretch .exit))) ≡ oddMade admitted k w h n (at (now (stretch .entry))) ⌝ }
     ensures { λ _. ⌜ Kept (4 * w) (at (now (stretch .entry))) (at (now (stretch .exit))) ⌝ }
 {
     if n == 0 {
@@ -126,7 +126,7 @@ fn make_odd(stretch: &mut [i32], k: usize, w: usize, h: usize, n: usize) -> bool
 // Row 2n + 1 made, if it is the last of an even height.
 fn make_last(stretch: &mut [i32], k: usize, w: usize, h: usize, n: usize) -> bool
     requires { ⌜ (w ≤ 2 ^ 16) × (4 * w ≤ length (now stretch)) × (n < count lo h) × (h < 2 ^ 32) × (k ≤ maxLevels) ⌝ }
-    ensures { λ ok. ⌜ outcome ok (at (now (stretch .exit))) ≡ lastMade k w h n (at (now (stretch .entry))) ⌝ }
+    ensures { λ ok. ⌜ outcome ok (at (now (stretch .exit))) ≡ lastMade admitted k w h n (at (now (stretch .entry))) ⌝ }
     ensures { λ _. ⌜ Kept (4 * w) (at (now (stretch .entry))) (at (now (stretch .exit))) ⌝ }
 {
     if 2 * n + 2 != h {
@@ -139,7 +139,7 @@ fn make_last(stretch: &mut [i32], k: usize, w: usize, h: usize, n: usize) -> boo
 // The rows of set n made, one after another as long as they fit.
 fn make_set(stretch: &mut [i32], k: usize, w: usize, h: usize, n: usize) -> bool
     requires { ⌜ (w ≤ 2 ^ 16) × (4 * w ≤ length (now stretch)) × (n < count lo h) × (h < 2 ^ 32) × (k ≤ maxLevels) ⌝ }
-    ensures { λ ok. ⌜ outcome ok (at (now (stretch .exit))) ≡ setMade k w h n (at (now (stretch .entry))) ⌝ }
+    ensures { λ ok. ⌜ outcome ok (at (now (stretch .exit))) ≡ setMade admitted k w h n (at (now (stretch .entry))) ⌝ }
     ensures { λ _. ⌜ Kept (4 * w) (at (now (stretch .entry))) (at (now (stretch .exit))) ⌝ }
 {
     if !make_even(stretch, k, w, h, n) {
@@ -165,7 +165,7 @@ fn take_low_row(stretch: &mut [i32], w: usize, n: usize)
 // Set n of level k + 1 worked out.
 pub fn work_set(stretch: &mut [i32], last: bool, k: usize, w: usize, h: usize, n: usize) -> bool
     requires { ⌜ (w ≤ 2 ^ 16) × (4 * w + 4 * pick last 0 (count lo w) ≤ length (now stretch)) × (n < count lo h) × (h < 2 ^ 32) × (k ≤ maxLevels) ⌝ }
-    ensures { λ ok. ⌜ outcome ok (at (now (stretch .exit))) ≡ setWorked last k w h n (at (now (stretch .entry))) ⌝ }
+    ensures { λ ok. ⌜ outcome ok (at (now (stretch .exit))) ≡ setWorked admitted last k w h n (at (now (stretch .entry))) ⌝ }
     ensures { λ _. ⌜ Kept (4 * w) (at (now (stretch .entry))) (at (now (stretch .exit))) ⌝ }
 {
     if last {

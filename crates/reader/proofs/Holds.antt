@@ -2,9 +2,9 @@
 -- worked out, height rows passed.
 -- Over words, no range is asked. Where the machine refuses a value, g or a low-low part of it has a value that does not fit. Assumes nothing.
 use mathlib.Core.Bool.{Bool, true, false}
-use mathlib.Core.Path.{_≡_, refl, sym, ap, ap₂, subst, _∙_}
+use mathlib.Core.Path.{_≡_, refl, sym, ap, subst, _∙_, fun-ext}
 use mathlib.Core.List.{List, [], _∷_}
-use Prim.Native.Nat.{ℕ, zero, suc, _+_, _-_, _*_, _≤_, _<_}
+use Prim.Native.Nat.{ℕ, zero, suc, _+_, _-_, _≤_, _<_}
 use native.Mathlib.Decide.{ℕ-discrete, decLt}
 use native.Mathlib.Omega.{arith}
 use lib.IntN.{ℤ}
@@ -14,39 +14,33 @@ use mir.Val.{SFits}
 use borrow.Author.Tests.{lt-ltb, le-ltb, eq-eqb, ne-eqb, eqb-true}
 use Rattle.numbers.specs.Signal.{pick}
 use Rattle.numbers.specs.Word.{wrap32}
-use Rattle.lifting.specs.Line.{Half, lo, hi, Half-discrete, count, parted, lineForward}
-use Rattle.lifting.proofs.RowLaws.{row-order}
-use Rattle.wavelet.specs.Bands.{Grid, Band, LL, HL, LH, HH, Band-discrete, code, across, down, bandOf, columnsLifted, subband}
+use Rattle.lifting.specs.Line.{lo, count}
+use Rattle.wavelet.specs.Bands.{Grid, Band, LL, HL, LH, HH, Band-discrete, code, across, down, subband}
 use Rattle.wavelet.specs.Levels.{size, approximation}
 use Rattle.wavelet.specs.Maps.{valueFits}
-use Rattle.wavelet.proofs.SizeLaws.{count-lo}
-use Rattle.wavelet.proofs.BandPlaces.{band-of}
 use Rattle.wavelet.proofs.LevelTheory.{OnCells, low-all, subband-fits}
-use Rattle.level.specs.Sets.{setOf, opens}
-use Rattle.reader.specs.Sets.{rowAt}
+use Rattle.reader.specs.Sets.{K, rowAt}
 use Rattle.reader.specs.Asked.{keptAt, asked, bandsFrom, those, look, firstCode, nextBand, named}
 use Rattle.level.specs.Tried.{Tried, passed, bind, onto}
-use Rattle.level.specs.Slots.{slot, rowPlace, setRow, halfPlace, bandFed, lowRowTaken}
-use Rattle.level.specs.Work.{setMade, setWorked}
-use Rattle.level.specs.Stands.{SetBefore, BandStands}
+use Rattle.level.specs.Stands.{BackMeaning, fiveThreeStands}
 use Rattle.reader.specs.Store.{stretchAt, from, behind, fedAt, workedAt}
 use Rattle.reader.specs.Machine.{Place, place, bandAt, lastOfSet, nextAt, settled, finished, beyond, fedOn, dive, enter}
-use Rattle.level.proofs.OpenedSets.{opens-next, same-set, setOf-there}
 use Rattle.reader.proofs.OpenedSets.{rowAt-next, rowAt-there, rowAt-first}
 use Rattle.reader.proofs.StepsLeft.{named-code, code-lt, first-le, last-none}
-use Rattle.level.proofs.RowsIn.{apart, parity, Is, Only, is-old, only-fed, fed-here, fed-beside, only-taken, taken-is, taken-beside, half-inside}
-use Rattle.level.proofs.SetMade.{Outcome, stops, goes, bind-outcome, Needs, Leaves, set-made}
+use Rattle.level.proofs.SetMade.{Outcome, stops, goes, bind-outcome, FitAll}
+use Rattle.level.proofs.ReaderLaws.{ReaderLaws}
+use Rattle.level.proofs.FiveThreeBackLaws.{five-three-back-laws}
 
--- ---- memory: two that agree in a level's four rows
+-- ---- what the reader's level is known by: what stands in its memory, and its laws
+abbrev M : BackMeaning
+M = fiveThreeStands
+
+laws : ReaderLaws K M
+laws = five-three-back-laws
+
+-- two memories that agree in a level's stretch
 abbrev SameMem : ℕ → (ℕ → ℤ) → (ℕ → ℤ) → Type 0
-SameMem w x y = (j : ℕ) → j < 4 * w → y j ≡ x j
-
-four : (w r : ℕ) → rowPlace w r + w ≤ 4 * w
-unfolding rowPlace
-four w r = row-order w (slot r) 4 (omega arith)
-
-is-same : (w : ℕ) (x y : ℕ → ℤ) (r : ℕ) (c : Half → ℕ → ℤ) → SameMem w x y → Is w x r c → Is w y r c
-is-same w x y r c e s h i b = e (rowPlace w r + (halfPlace h w + i)) (omega (arith, half-inside h w i b, four w r)) ∙ s h i b
+SameMem w x y = (j : ℕ) → j < K .stretch w → y j ≡ x j
 
 -- ---- the stretches of the store
 module _ (W : ℕ) where
@@ -62,11 +56,22 @@ module _ (W : ℕ) where
     | no e ↦ omega (arith, stretch-up k j (omega (arith, e)))
   ]
 
-  stretch-end : (k j : ℕ) → k < j → stretchAt W k + 4 * size k W ≤ stretchAt W j
+  stretch-end : (k j : ℕ) → k < j → stretchAt W k + K .stretch (size k W) ≤ stretchAt W j
   unfolding stretchAt
   stretch-end k j h = stretch-up (suc k) j h
 
-  module _ (k : ℕ) (x y : ℕ → ℤ) (past : (j : ℕ) → 4 * size k W ≤ j → y j ≡ mem k x j) where
+  -- the first level's memory is the store, and the next level's follows
+  first-mem : (x : ℕ → ℤ) → mem 0 x ≡ x
+  unfolding from stretchAt
+  first-mem x = fun-ext λ j. let e : 0 + j ≡ j = omega arith in ap x e
+
+  next-mem : (k : ℕ) (x : ℕ → ℤ) → (λ j. mem k x (K .stretch (size k W) + j)) ≡ mem (suc k) x
+  unfolding from stretchAt
+  next-mem k x = fun-ext λ j.
+      let e : stretchAt W k + (K .stretch (size k W) + j) ≡ stretchAt W k + K .stretch (size k W) + j = omega arith in
+      ap x e
+
+  module _ (k : ℕ) (x y : ℕ → ℤ) (past : (j : ℕ) → K .stretch (size k W) ≤ j → y j ≡ mem k x j) where
     abbrev after : ℕ → ℤ
     after = behind (stretchAt W k) x y
 
@@ -95,23 +100,6 @@ kept-first t HL e h = absurd (omega arith)
 kept-first t LH e h = absurd (omega arith)
 kept-first t HH e h = absurd (omega arith)
 
-set-rows : (a b : Half) (n : ℕ) → (a ≡ b → ⊥) → slot (setRow a n) ≡ slot (setRow b n) → ⊥
-unfolding setRow
-set-rows lo lo n d z = d refl
-set-rows lo hi n d z = parity (2 * n) (2 * n + 1) n n (omega arith) (omega arith) z
-set-rows hi lo n d z = parity (2 * n) (2 * n + 1) n n (omega arith) (omega arith) (sym z)
-set-rows hi hi n d z = d refl
-
-set-old-even : (a : Half) (p : ℕ) → slot (setRow a (suc p)) ≡ slot (2 * p) → ⊥
-unfolding setRow
-set-old-even lo p z = apart (2 * p) (2 * suc p) (omega arith) (sym z)
-set-old-even hi p z = parity (2 * p) (2 * suc p + 1) p (suc p) (omega arith) (omega arith) (sym z)
-
-set-old-odd : (a : Half) (p : ℕ) → slot (setRow a (suc p)) ≡ slot (2 * p + 1) → ⊥
-unfolding setRow
-set-old-odd lo p z = parity (2 * suc p) (2 * p + 1) (suc p) p (omega arith) (omega arith) z
-set-old-odd hi p z = apart (2 * p + 1) (2 * suc p + 1) (omega arith) (sym z)
-
 module _ (W H l : ℕ) (g : Grid) (words : OnCells (SFits w32) W H g) where
   -- the low-low part that level k + 1 splits
   abbrev pub G : ℕ → Grid
@@ -128,15 +116,15 @@ module _ (W H l : ℕ) (g : Grid) (words : OnCells (SFits w32) W H g) where
   Fits = (k r c : ℕ) → k ≤ l → r < size k H → c < size k W → valueFits k (G k r c) ≡ true
 
   abbrev pub LeavesAt : ℕ → ℕ → (ℕ → ℤ) → Type 0
-  LeavesAt k n m = Leaves k (size k W) (size k H) (G k) (words-at k) n m
+  LeavesAt k n m = M .Leaves k (size k W) (size k H) (G k) n m
 
   -- what of the set before set n is still needed
   abbrev pub Before : ℕ → ℕ → (ℕ → ℤ) → Type 0
-  Before k n m = SetBefore (size k W) (size k H) (G k) n m
+  Before k n m = M .Before (size k W) (size k H) (G k) n m
 
   -- row n of band c is there, if there is one
   abbrev pub Got : ℕ → ℕ → (ℕ → ℤ) → Band → Type 0
-  Got k n m c = BandStands (size k W) (size k H) (G k) n m c
+  Got k n m c = M .Got (size k W) (size k H) (G k) n m c
 
   -- ---- what the store x holds while row d is waited for: coarser levels have their set, this level has the bands before b, finer ones wait
   pub record Held (d lev b : ℕ) (x : ℕ → ℤ) : Type 0 where
@@ -146,28 +134,20 @@ module _ (W H l : ℕ) (g : Grid) (words : OnCells (SFits w32) W H g) where
 
   -- ---- memories that agree hold the same
   leaves-same : (k n : ℕ) (m m′ : ℕ → ℤ) → SameMem (size k W) m m′ → LeavesAt k n m → LeavesAt k n m′
-  leaves-same k n m m′ e s = record {
-    made = λ r b q. is-same (size k W) m m′ r _ e (s .made r b q);
-    fit = s .fit;
-    high = λ b. is-same (size k W) m m′ (2 * n + 1) _ e (s .high b);
-  }
+  leaves-same k n m m′ e s = laws .leaves-reads k (size k W) (size k H) (G k) n m m′ e s
 
   before-same : (k n : ℕ) (m m′ : ℕ → ℤ) → SameMem (size k W) m m′ → Before k n m → Before k n m′
-  before-same k n m m′ e s = record {
-    even = λ p q. is-same (size k W) m m′ (2 * p) _ e (s .even p q);
-    high = λ p q. is-same (size k W) m m′ (2 * p + 1) _ e (s .high p q);
-  }
+  before-same k n m m′ e s = laws .before-reads (size k W) (size k H) (G k) n m m′ e s
 
-  before-only : (k n : ℕ) (a : Half) (m m′ : ℕ → ℤ) → Only (size k W) (setRow a n) m m′ → Before k n m → Before k n m′
-  before-only k n a m m′ o s = record {
-    even = λ p q. is-old (size k W) (setRow a n) m m′ (2 * p) _ o (λ z. set-old-even a p (ap (λ (i : ℕ). slot (setRow a i)) (sym q) ∙ z)) (s .even p q);
-    high = λ p q. is-old (size k W) (setRow a n) m m′ (2 * p + 1) _ o (λ z. set-old-odd a p (ap (λ (i : ℕ). slot (setRow a i)) (sym q) ∙ z)) (s .high p q);
-  }
+  got-same : (k n : ℕ) (c : Band) (m m′ : ℕ → ℤ) → SameMem (size k W) m m′ → Got k n m c → Got k n m′ c
+  got-same k n c m m′ e s = laws .got-reads (size k W) (size k H) (G k) n c m m′ e s
 
   -- a band that is not asked for has no row to be there
   got-none : (k n : ℕ) (m : ℕ → ℤ) (t : Bool) (c : Band) → keptAt t c ≡ true → (asked t (size k W) (size k H) n c ≡ true → ⊥) → Got k n m c
   unfolding asked
-  got-none k n m t c e f p i q = absurd (f (rw (e, lt-ltb 0 (count (across c) (size k W)) (omega arith), lt-ltb n (count (down c) (size k H)) p) refl))
+  got-none k n m t c e f =
+      laws .got-none (size k W) (size k H) (G k) n c m
+      (λ p q. f (rw (e, lt-ltb 0 (count (across c) (size k W)) q, lt-ltb n (count (down c) (size k H)) p) refl))
 
   -- so the band that may be next may be any up to the next that is asked for
   holds-more : (d k b b′ : ℕ) (x : ℕ → ℤ) → ((c : Band) → asked (eqb (suc k) (suc l)) (size k W) (size k H) (rowAt H d (suc k)) c ≡ true → code c < b′ →
@@ -186,20 +166,6 @@ module _ (W H l : ℕ) (g : Grid) (words : OnCells (SFits w32) W H g) where
       ]
 
   -- ---- a band row fed
-  got-old : (k n : ℕ) (m : ℕ → ℤ) (v : ℕ → ℤ) (c e : Band) → (c ≡ e → ⊥) → Got k n m e → Got k n (bandFed (size k W) c n v m) e
-  got-old k n m v c e d s p i q = elim (Half-discrete (down c) (down e)) [
-    | yes z ↦ ap (λ (a : Half). bandFed (size k W) c n v m (rowPlace (size k W) (setRow a n) + (halfPlace (across e) (size k W) + i))) (sym z)
-        ∙ fed-beside (size k W) c n v m (across e) (λ y. d (sym (band-of c) ∙ ap₂ bandOf y z ∙ band-of e)) i q
-        ∙ ap (λ (a : Half). m (rowPlace (size k W) (setRow a n) + (halfPlace (across e) (size k W) + i))) z
-        ∙ s p i q
-    | no z ↦ only-fed (size k W) c n v m .row (setRow (down e) n) (halfPlace (across e) (size k W) + i) (set-rows (down c) (down e) n z)
-        (half-inside (across e) (size k W) i q) ∙ s p i q
-  ]
-
-  got-new : (k n : ℕ) (m : ℕ → ℤ) (v : ℕ → ℤ) (c : Band) →
-      ((i : ℕ) → i < count (across c) (size k W) → v i ≡ subband wrap32 (size k W) (size k H) (G k) c n i) → Got k n (bandFed (size k W) c n v m) c
-  got-new k n m v c e p i q = fed-here (size k W) c n v m (across c) refl i q ∙ e i q
-
   code-same : (c e : Band) → code c ≡ code e → c ≡ e
   code-same c e z = sym (named-code c) ∙ ap named z ∙ named-code e
 
@@ -212,7 +178,7 @@ module _ (W H l : ℕ) (g : Grid) (words : OnCells (SFits w32) W H g) where
         below = λ j h e. leaves-same j _ _ _ (coarser W k x y past j (omega arith)) (s .below j h e);
         before = λ j h e. elim (ℕ-discrete j k) [
           | yes z ↦ rw z (before-same k n y _ (λ i _. here W k x y past i)
-              (before-only k n (down c) (mem W k x) y (only-fed (size k W) c n v (mem W k x)) (s .before k inside (omega arith))))
+              (laws .feed-before (size k W) (size k H) (G k) n c v (mem W k x) (s .before k inside (omega arith))))
           | no z ↦ before-same j _ _ _ (finer W k x y past j (omega (arith, z))) (s .before j h e)
         ];
         got = λ j h e b kept less. let z : j ≡ k = omega arith in
@@ -223,22 +189,22 @@ module _ (W H l : ℕ) (g : Grid) (words : OnCells (SFits w32) W H g) where
       n = rowAt H d (suc k)
 
       y : ℕ → ℤ
-      y = bandFed (size k W) c n v (mem W k x)
+      y = K .feed (size k W) c n v (mem W k x)
 
-      past : (j : ℕ) → 4 * size k W ≤ j → y j ≡ mem W k x j
-      past = only-fed (size k W) c n v (mem W k x) .past
+      past : (j : ℕ) → K .stretch (size k W) ≤ j → y j ≡ mem W k x j
+      past = laws .feed-past (size k W) c n v (mem W k x)
 
       in-y : (b : Band) → code b < code c + 1 → keptAt (eqb (suc k) (suc l)) b ≡ true → Got k n y b
       in-y b less kept = elim (Band-discrete c b) [
-        | yes z ↦ subst (Got k n y) z (got-new k n (mem W k x) v c row)
-        | no z ↦ got-old k n (mem W k x) v c b z (s .got k inside refl b kept (less-than b less z))
+        | yes z ↦ subst (Got k n y) z (laws .feed-new (size k W) (size k H) (G k) n c v (mem W k x) row)
+        | no z ↦ laws .feed-old (size k W) (size k H) (G k) n c b v (mem W k x) z (s .got k inside refl b kept (less-than b less z))
       ]
         where
           less-than : (b : Band) → code b < code c + 1 → (c ≡ b → ⊥) → code b < code c
           less-than b less z = elim (ℕ-discrete (code c) (code b)) [ yes u ↦ absurd (z (code-same c b u)) | no u ↦ omega (arith, u) ]
 
       at : (b : Band) → code b < code c + 1 → keptAt (eqb (suc k) (suc l)) b ≡ true → Got k n (mem W k (behind (stretchAt W k) x y)) b
-      at b less kept p i q = here W k x y past _ ∙ in-y b less kept p i q
+      at b less kept = got-same k n b y _ (λ i _. here W k x y past i) (in-y b less kept)
 
   -- ---- a set worked out
   module _ (d k : ℕ) (x : ℕ → ℤ) (inside : k ≤ l) (due : d < H) (s : Held d (suc k) 4 x) where
@@ -248,28 +214,8 @@ module _ (W H l : ℕ) (g : Grid) (words : OnCells (SFits w32) W H g) where
     abbrev m : ℕ → ℤ
     m = mem W k x
 
-    n-there : 2 * n < size k H
-    n-there = let h = setOf-there (size k H) (rowAt H d k) (rowAt-there H d due k) in let e = rowAt-next H d k in omega (arith, count-lo (size k H))
-
-    -- the four bands, and what is needed of them
-    needs-of : (y : ℕ → ℤ) → Before k n y → ((c : Band) → Got k n y c) → Needs k (size k W) (size k H) (G k) (words-at k) n y
-    unfolding subband across down setRow
-    needs-of y b got = record {
-      low = λ a i q. low a i q;
-      high = λ p a i q. high p a i q;
-      even-before = b .even;
-      high-before = b .high;
-    }
-      where
-        low : (a : Half) (i : ℕ) → i < count a (size k W) →
-            y (rowPlace (size k W) (2 * n) + (halfPlace a (size k W) + i)) ≡ lineForward wrap32 (size k W) (columnsLifted wrap32 (size k H) (G k) lo n) a i
-        low lo i q = got LL (omega (arith, count-lo (size k H), n-there)) i q
-        low hi i q = got HL (omega (arith, count-lo (size k H), n-there)) i q
-
-        high : n < count hi (size k H) → (a : Half) (i : ℕ) → i < count a (size k W) →
-            y (rowPlace (size k W) (2 * n + 1) + (halfPlace a (size k W) + i)) ≡ lineForward wrap32 (size k W) (columnsLifted wrap32 (size k H) (G k) hi n) a i
-        high p lo i q = got LH p i q
-        high p hi i q = got HH p i q
+    n-there : n < count lo (size k H)
+    n-there = rw (rowAt-next H d k) (laws .set-there (size k H) (rowAt H d k) (rowAt-there H d due k))
 
     got-kept : (c : Band) → keptAt (eqb (suc k) (suc l)) c ≡ true → Got k n m c
     got-kept c kept = s .got k inside refl c kept (code-lt c)
@@ -278,26 +224,23 @@ module _ (W H l : ℕ) (g : Grid) (words : OnCells (SFits w32) W H g) where
     before-here = s .before k inside (omega arith)
 
     -- at the last level all four are fed
-    needs-last : k ≡ l → Needs k (size k W) (size k H) (G k) (words-at k) n m
-    needs-last e = needs-of m before-here (λ c. got-kept c (rw (eq-eqb (suc k) (suc l) (omega arith)) (all c)))
-      where
-        all : (c : Band) → keptAt true c ≡ true
-        all LL = unfold keptAt in refl
-        all HL = unfold keptAt in refl
-        all LH = unfold keptAt in refl
-        all HH = unfold keptAt in refl
+    all-kept : (c : Band) → keptAt true c ≡ true
+    all-kept LL = unfold keptAt in refl
+    all-kept HL = unfold keptAt in refl
+    all-kept LH = unfold keptAt in refl
+    all-kept HH = unfold keptAt in refl
 
     -- else the low-low row comes from the next level
-    low-row : k < l → (h : Half) (i : ℕ) → i < count h (count lo (size k W)) →
-        m (4 * size k W + (rowPlace (count lo (size k W)) n + (halfPlace h (count lo (size k W)) + i))) ≡ parted (G (suc k) n) h i
-    unfolding from stretchAt size rowAt
-    low-row q h i p =
-        let e : stretchAt W k + (4 * size k W + (rowPlace (count lo (size k W)) n + (halfPlace h (count lo (size k W)) + i))) ≡ stretchAt W k + 4 * size k W +
-        (rowPlace (count lo (size k W)) n + (halfPlace h (count lo (size k W)) + i)) = omega arith in
-        ap x e ∙ s .below (suc k) q (omega arith) .made n (rowAt-there H d due (suc k)) refl h i p
-
-    abbrev taken : ℕ → ℤ
-    taken = lowRowTaken (size k W) n m
+    low-row : k < l → (i : ℕ) → i < count lo (size k W) →
+        K .made (count lo (size k W)) n (λ j. m (K .stretch (size k W) + j)) i ≡ subband wrap32 (size k W) (size k H) (G k) LL n i
+    unfolding size approximation
+    low-row q i p =
+        ap (λ (z : ℕ → ℤ). K .made (count lo (size k W)) n z i) (next-mem W k x) ∙ there i p
+      where
+        there : (i : ℕ) → i < count lo (size k W) → K .made (count lo (size k W)) n (mem W (suc k) x) i ≡ subband wrap32 (size k W) (size k H) (G k) LL n i
+        there = laws .made-is (suc k) (size (suc k) W) (size (suc k) H) (G (suc k)) (rowAt H d (suc (suc k))) (mem W (suc k) x)
+            (s .below (suc k) q (omega arith)) n
+            (rowAt-there H d due (suc k)) (sym (rowAt-next H d (suc k)))
 
     other-kept : (c : Band) → (c ≡ LL → ⊥) → (t : Bool) → keptAt t c ≡ true
     unfolding keptAt
@@ -306,21 +249,8 @@ module _ (W H l : ℕ) (g : Grid) (words : OnCells (SFits w32) W H g) where
     other-kept LH d t = refl
     other-kept HH d t = refl
 
-    got-taken : k < l → (c : Band) → Got k n taken c
-    unfolding across down setRow approximation
-    got-taken q LL = λ p i b. taken-is (size k W) n m (G (suc k) n) (low-row q) i b
-    got-taken q HL = λ p i b. taken-beside (size k W) n m i b ∙ got-kept HL (unfold keptAt in refl) p i b
-    got-taken q LH = λ p i b. only-taken (size k W) n m .row (2 * n + 1) (halfPlace lo (size k W) + i)
-        (parity (2 * n) (2 * n + 1) n n (omega arith) (omega arith)) (half-inside lo (size k W) i b) ∙ got-kept LH (unfold keptAt in refl) p i b
-    got-taken q HH = λ p i b. only-taken (size k W) n m .row (2 * n + 1) (halfPlace hi (size k W) + i)
-        (parity (2 * n) (2 * n + 1) n n (omega arith) (omega arith)) (half-inside hi (size k W) i b) ∙ got-kept HH (unfold keptAt in refl) p i b
-
-    before-taken : Before k n taken
-    unfolding setRow
-    before-taken = before-only k n lo m taken (only-taken (size k W) n m) before-here
-
     -- the whole store after it
-    worked : (y : ℕ → ℤ) → LeavesAt k n y × ((j : ℕ) → 4 * size k W ≤ j → y j ≡ m j) → Held d k 1 (behind (stretchAt W k) x y)
+    worked : (y : ℕ → ℤ) → LeavesAt k n y × ((j : ℕ) → K .stretch (size k W) ≤ j → y j ≡ m j) → Held d k 1 (behind (stretchAt W k) x y)
     worked y a = record {
       below = λ j h e. elim (ℕ-discrete j k) [
         | yes z ↦ rw z (leaves-same k n y _ (λ i _. here W k x y (a .1) i) (a .0))
@@ -340,15 +270,15 @@ module _ (W H l : ℕ) (g : Grid) (words : OnCells (SFits w32) W H g) where
     onto-outcome Q P N N′ f _ a b (goes y q) = goes (f y) (b y q)
 
     pub work-holds : Outcome Fits (Held d k 1) (workedAt W H (suc l) d k x)
-    unfolding workedAt setWorked
+    unfolding workedAt
     work-holds = onto-outcome _ _ _ _ (behind (stretchAt W k) x) _ (λ a r c p q. a k r c inside p q) worked (go (ℕ-discrete k l))
       where
-        go : Dec (k ≡ l) → Outcome ((r c : ℕ) → r < size k H → c < size k W → valueFits k (G k r c) ≡ true)
-            (λ y. LeavesAt k n y × ((j : ℕ) → 4 * size k W ≤ j → y j ≡ m j)) (setMade k (size k W) (size k H) n (pick (eqb (suc k) (suc l)) m taken))
-        go (yes e) = rw (eq-eqb (suc k) (suc l) (omega arith)) (set-made k (size k W) (size k H) (G k) (words-at k) m n m n-there (λ j _. refl) (needs-last e))
-        go (no e) = rw (ne-eqb (suc k) (suc l) (λ z. e (omega arith)))
-            (set-made k (size k W) (size k H) (G k) (words-at k) m n taken n-there (only-taken (size k W) n m .past)
-            (needs-of taken before-taken (got-taken (omega (arith, e)))))
+        go : Dec (k ≡ l) → Outcome (FitAll k (size k W) (size k H) (G k) (words-at k))
+            (λ y. LeavesAt k n y × ((j : ℕ) → K .stretch (size k W) ≤ j → y j ≡ m j)) (K .work (eqb (suc k) (suc l)) k (size k W) (size k H) n m)
+        go (yes e) = rw (eq-eqb (suc k) (suc l) (omega arith)) (laws .work-last k (size k W) (size k H) (G k) n m (words-at k) n-there before-here
+            (λ c. got-kept c (rw (eq-eqb (suc k) (suc l) (omega arith)) (all-kept c))))
+        go (no e) = rw (ne-eqb (suc k) (suc l) (λ z. e (omega arith))) (laws .work-on k (size k W) (size k H) (G k) n m (words-at k) n-there before-here
+            (λ c d. got-kept c (other-kept c d (eqb (suc k) (suc l)))) (low-row (omega (arith, e))))
 
   -- ---- the sets that wait
   -- a set of which no band from b on is asked for has all of them
@@ -426,20 +356,13 @@ module _ (W H l : ℕ) (g : Grid) (words : OnCells (SFits w32) W H g) where
       go false e = goes y (feed-holds d k c v x inside row s)
 
   -- ---- a row drawn: the next one begins
-  leaves-before : (k n : ℕ) (m : ℕ → ℤ) → 2 * suc n < size k H → LeavesAt k n m → Before k (suc n) m
-  unfolding setOf count
-  leaves-before k n m b s = record {
-    even = λ p e. let z : p ≡ n = omega arith in rw z (s .made (2 * n) (omega arith) (omega arith));
-    high = λ p e. let z : p ≡ n = omega arith in rw z (s .high (omega arith));
-  }
-
   module _ (d : ℕ) (more : suc d < H) (x : ℕ → ℤ) (s : Held d 0 4 x) where
     -- from a level on whose set stays, all sets stay
     rows-stay : (k : ℕ) → rowAt H (suc d) (suc k) ≡ rowAt H d (suc k) → (j : ℕ) → rowAt H (suc d) (suc (k + j)) ≡ rowAt H d (suc (k + j))
     rows-stay k e zero = let z : k + 0 ≡ k = omega arith in rw z e
     rows-stay k e (suc j) =
         let z : k + suc j ≡ suc (k + j) = omega arith in
-        rw z (rowAt-next H (suc d) (suc (k + j)) ∙ ap (setOf (size (suc (k + j)) H)) (rows-stay k e j) ∙ sym (rowAt-next H d (suc (k + j))))
+        rw z (rowAt-next H (suc d) (suc (k + j)) ∙ ap (K .set (size (suc (k + j)) H)) (rows-stay k e j) ∙ sym (rowAt-next H d (suc (k + j))))
 
     stay-below : (k : ℕ) → rowAt H (suc d) (suc k) ≡ rowAt H d (suc k) → (j : ℕ) → j ≤ l → k ≤ j → LeavesAt j (rowAt H (suc d) (suc j)) (mem W j x)
     stay-below k e j h q =
@@ -455,7 +378,7 @@ module _ (W H l : ℕ) (g : Grid) (words : OnCells (SFits w32) W H g) where
       before = λ j h q. f j h q;
       got = λ j h q c kept less. absurd (omega arith);
     }
-    dive-holds (suc m) k e new f = go (opens (size k H) (rowAt H (suc d) k)) refl (dive-holds m (suc k))
+    dive-holds (suc m) k e new f = go (K .opens (size k H) (rowAt H (suc d) k)) refl (dive-holds m (suc k))
       where
         there : suc (rowAt H d k) < size k H
         there = rw new at (rowAt-there H (suc d) more k)
@@ -463,22 +386,22 @@ module _ (W H l : ℕ) (g : Grid) (words : OnCells (SFits w32) W H g) where
         no-first : (j : ℕ) → j < l → (c : Band) → keptAt (eqb (suc j) (suc l)) c ≡ true → code c < 1 → ⊥
         no-first j h c kept less = let z = eqb-true (suc j) (suc l) (kept-first (eqb (suc j) (suc l)) c kept less) in omega arith
 
-        go : (t : Bool) → opens (size k H) (rowAt H (suc d) k) ≡ t →
+        go : (t : Bool) → K .opens (size k H) (rowAt H (suc d) k) ≡ t →
             (suc k + m ≡ suc l → rowAt H (suc d) (suc k) ≡ suc (rowAt H d (suc k)) →
             ((j : ℕ) → j ≤ l → j < suc k → Before j (rowAt H (suc d) (suc j)) (mem W j x)) → HeldAt (suc d) (dive W H (suc l) (suc d) m (suc k)) x) →
             HeldAt (suc d) (pick t (dive W H (suc l) (suc d) m (suc k)) (place k 1)) x
         go true o ih =
-            let next : rowAt H (suc d) (suc k) ≡ suc (rowAt H d (suc k)) = rowAt-next H (suc d) k ∙ ap (setOf (size k H)) new
-            ∙ opens-next (size k H) (rowAt H d k) there (rw new at o) ∙ ap suc (sym (rowAt-next H d k)) in
+            let next : rowAt H (suc d) (suc k) ≡ suc (rowAt H d (suc k)) = rowAt-next H (suc d) k ∙ ap (K .set (size k H)) new
+            ∙ laws .set-next (size k H) (rowAt H d k) there (rw new at o) ∙ ap suc (sym (rowAt-next H d k)) in
             let top : suc (rowAt H d (suc k)) < count lo (size k H) = rw (← next) (unfold size in rowAt-there H (suc d) more (suc k)) in
             ih (omega arith) next (λ j h q. elim (ℕ-discrete j k) [
-              | yes z ↦ rw (z, next) (leaves-before k (rowAt H d (suc k)) (mem W k x) (omega (arith, count-lo (size k H)))
+              | yes z ↦ rw (z, next) (laws .before-next k (size k W) (size k H) (G k) (rowAt H d (suc k)) (mem W k x) top
                   (s .below k (omega arith) (omega arith)))
               | no z ↦ f j h (omega (arith, z))
             ])
         go false o ih =
-            let next : rowAt H (suc d) (suc k) ≡ rowAt H d (suc k) = rowAt-next H (suc d) k ∙ ap (setOf (size k H)) new
-            ∙ same-set (size k H) (rowAt H d k) there (rw new at o) ∙ sym (rowAt-next H d k) in
+            let next : rowAt H (suc d) (suc k) ≡ rowAt H d (suc k) = rowAt-next H (suc d) k ∙ ap (K .set (size k H)) new
+            ∙ laws .set-same (size k H) (rowAt H d k) there (rw new at o) ∙ sym (rowAt-next H d k) in
             record {
               below = λ j h q. stay-below k next j h q;
               before = λ j h q. f j h q;
@@ -493,19 +416,17 @@ module _ (W H l : ℕ) (g : Grid) (words : OnCells (SFits w32) W H g) where
   pub first-holds : (x : ℕ → ℤ) → Held 0 (suc l) 0 x
   first-holds x = record {
     below = λ j h q. absurd (omega arith);
-    before = λ j h q. record {
-      even = λ p e. absurd (omega (arith, rowAt-first H (suc j)));
-      high = λ p e. absurd (omega (arith, rowAt-first H (suc j)));
-    };
+    before = λ j h q. rw (rowAt-first H (suc j)) (laws .before-first (size j W) (size j H) (G j) (mem W j x));
     got = λ j h q c kept less. absurd (omega arith);
   }
 
   -- ---- the row that can be drawn
-  pub height-made : (d : ℕ) (x : ℕ → ℤ) → d < H → Held d 0 4 x → Is W x d (parted (g d))
-  unfolding from stretchAt size approximation rowAt
-  height-made d x due s h i b = let e : 0 + (rowPlace W d + (halfPlace h W + i)) ≡ rowPlace W d + (halfPlace h W + i) = omega arith in
-      ap x (sym e) ∙ s .below 0 (omega arith) (omega arith) .made d due refl h i b
+  pub height-made : (d : ℕ) (x : ℕ → ℤ) → d < H → Held d 0 4 x → (c : ℕ) → c < W → K .made W d x c ≡ g d c
+  unfolding size approximation rowAt
+  height-made d x due s c p =
+      ap (λ (z : ℕ → ℤ). K .made W d z c) (sym (first-mem W x))
+      ∙ laws .made-is 0 W H g (rowAt H d 1) (mem W 0 x) (s .below 0 (omega arith) (omega arith)) d due refl c p
 
   pub height-fit : (d : ℕ) (x : ℕ → ℤ) → d < H → Held d 0 4 x → (c : ℕ) → c < W → valueFits 0 (g d c) ≡ true
   unfolding size approximation rowAt
-  height-fit d x due s = s .below 0 (omega arith) (omega arith) .fit d due refl
+  height-fit d x due s = laws .made-fits 0 W H g (rowAt H d 1) (mem W 0 x) (s .below 0 (omega arith) (omega arith)) d due refl

@@ -22,10 +22,12 @@ use Rattle.reader.specs.Store.{stretchAt, from, fedAt}
 use Rattle.level.specs.Rebuilding.{Kept}
 use Rattle.reader.specs.Inside.{IsLevel}
 use Rattle.level.proofs.SlotLaws.{slot-room, place-is}
-use Rattle.reader.proofs.PartLaws.{half-in, behind-past, from-at, at-rest, at-put-rest, work-room}
+use Rattle.level.proofs.RowsIn.{half-end}
+use Rattle.reader.proofs.PartLaws.{behind-past, from-at, at-rest, at-put-rest, work-room}
 
 -- ---- the stretch within the store
-pub part-kept : (W H d k L : ℕ) (l : Level) (is : IsLevel W H d k l) (n : ℕ) (s ys : List ℤ) → k < L → l .start + n ≡ length s → length ys ≡ n → Kept (4 * l .width) (at (midOf (l .start) n s)) (at ys) → Kept (storeLength W L) (at s) (at (putMid (l .start) n s ys))
+pub part-kept : (W H d k L : ℕ) (l : Level) (is : IsLevel W H d k l) (n : ℕ) (s ys : List ℤ) → k < L → l .start + n ≡ length s → length ys ≡ n →
+    Kept (4 * l .width) (at (midOf (l .start) n s)) (at ys) → Kept (storeLength W L) (at s) (at (putMid (l .start) n s ys))
 part-kept W H d k L l is n s ys h whole long a =
     let room = work-room W H d k l is L h in
     let b = l .start in
@@ -47,13 +49,14 @@ fed-kept W H d k c v x =
     let w = size k W in
     let r = setRow (down (named c)) (rowAt H d (suc k)) in
     let a = stretchAt W k in
-    let half = half-in (across (named c)) w in
+    let half = half-end (across (named c)) w in
     let next : storeLength W (k + 1) ≡ a + 4 * w = sym (stretch-is W (k + 1)) ∙ ap (stretchAt W) (add-one k) ∙ stretch-suc W k in
     record {
       same = λ j le.
           let back : a + (j - a) ≡ j = omega arith in
           behind-past a x _ j (omega arith)
-          ∙ splice-past (rowPlace w r + halfPlace (across (named c)) w) (count (across (named c)) w) v (from a x) (j - a) (omega (arith, place-is w r, slot-room w r))
+          ∙ splice-past (rowPlace w r + halfPlace (across (named c)) w) (count (across (named c)) w) v (from a x) (j - a)
+          (omega (arith, place-is w r, slot-room w r))
           ∙ from-at a x (j - a)
           ∙ ap x back;
     }

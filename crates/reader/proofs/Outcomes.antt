@@ -3,13 +3,11 @@ use mathlib.Core.Bool.{Bool}
 use mathlib.Core.Path.{_≡_, sym, ap, subst, _∙_}
 use Prim.Native.Nat.{ℕ, suc, _-_, _≤_, _<_}
 use native.Mathlib.Omega.{arith}
-use lib.IntN.{ℤ, pos}
-use lib.Signed.{_≤ℤ_}
+use lib.IntN.{ℤ}
 use mir.Syntax.{w32}
 use mir.Val.{SFits}
 use borrow.Author.Tests.{lt-ltb}
 use Rattle.numbers.specs.Word.{wrap32}
-use Rattle.numbers.proofs.Integers.{each, lin}
 use Rattle.lifting.specs.Line.{count}
 use Rattle.lifting.specs.Halves.{fronted}
 use Rattle.wavelet.specs.Limits.{maxSample}
@@ -19,12 +17,12 @@ use Rattle.wavelet.specs.View.{bandColumns}
 use Rattle.wavelet.proofs.LevelTheory.{OnCells}
 use Rattle.wavelet.proofs.MapTheorems.{height-fits}
 use Rattle.areas.specs.Areas.{height16}
+use Rattle.areas.proofs.HeightLaws.{height-kept}
 use Rattle.reader.specs.Sets.{rowAt}
 use Rattle.level.specs.Tried.{failed, passed, bind}
 use Rattle.reader.specs.Machine.{Place, place, nextAt, settled, fedOn, beyond}
 use Rattle.reader.specs.State.{next, settles, feeds}
 use Rattle.reader.specs.Calls.{heightRow}
-use Rattle.level.proofs.RowsIn.{row-halves, joined-reads}
 use Rattle.level.proofs.SetMade.{Outcome, stops, goes, bind-outcome}
 use Rattle.reader.proofs.Holds.{Fits, Held, settle-holds, fed-holds, height-made, height-fit}
 use Rattle.reader.proofs.CallViews.{here}
@@ -35,17 +33,12 @@ outcome-failed (stops n) = n
 pub outcome-passed : {N : Type 0} {P : (ℕ → ℤ) → Type 0} (y : ℕ → ℤ) → Outcome N P (passed y) → P y
 outcome-passed _ (goes _ p) = p
 
--- a height is its own remainder
-height-kept : (v : ℤ) → pos 0 ≤ℤ v → v ≤ℤ pos maxSample → height16 v ≡ v
-unfolding height16 maxSample
-height-kept = each _ λ p q. simp lin (omega arith)
-
 -- the height row that is drawn
 pub row-out : (W H l d : ℕ) → d < H → (g : Grid) (words : OnCells (SFits w32) W H g) (y : ℕ → ℤ) → Held W H l g words d 0 4 y → (z : ℕ → ℤ) (c : ℕ) → c < W → fronted W (heightRow W d y) z c ≡ g d c
 unfolding fronted heightRow maxSample
 row-out W H l d due g words y h z c p =
     let fit = height-fits (g d c) .0 (height-fit W H l g words d y due h c p) in
-    rw (lt-ltb c W p) (ap height16 (joined-reads W _ (g d) (row-halves W y d _ (height-made W H l g words d y due h)) c p) ∙ height-kept (g d c) (fit .0) (fit .1))
+    rw (lt-ltb c W p) (ap height16 (height-made W H l g words d y due h c p) ∙ height-kept (g d c) (fit .0) (fit .1))
 
 module _ (W H l d lev b : ℕ) (due : d < H) (level-le : lev ≤ suc l) (g : Grid) (words : OnCells (SFits w32) W H g) (x : ℕ → ℤ) (held : Held W H l g words d lev b x) where
   pub settles-outcome : (e : Bool) (p : Place) → nextAt W H (suc l) d lev b ≡ p → Outcome (Fits W H l g words) (Held W H l g words d (p .level) (p .band)) (settles (here W H l d lev b e) x)

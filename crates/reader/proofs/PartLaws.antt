@@ -13,24 +13,25 @@ use borrow.Author.Tests.{lt-ltb, le-ltb, eq-eqb, ne-eqb}
 use borrow.Rule.Slice.PartMut.{midOf, putMid}
 use Rattle.numbers.specs.Signal.{at, pick, spliced}
 use Rattle.numbers.proofs.Parts.{window-in, window-past, splice-below, splice-in, splice-past, at-mid, at-put}
-use Rattle.lifting.specs.Line.{Half, lo, hi, count}
+use Rattle.lifting.specs.Line.{lo, count}
 use Rattle.lifting.specs.Halves.{fronted}
 use Rattle.wavelet.specs.Bands.{across, down}
 use Rattle.wavelet.specs.Levels.{size}
 use Rattle.wavelet.specs.Store.{storeLength}
-use Rattle.wavelet.proofs.SizeLaws.{size-suc, size-le, count-le, count-sum}
+use Rattle.wavelet.proofs.SizeLaws.{size-suc, size-le, count-le}
 use Rattle.reader.specs.declared.walk.Level.{Level}
 use Rattle.reader.specs.Sets.{rowAt}
 use Rattle.reader.specs.Asked.{named}
 use Rattle.level.specs.Tried.{outcome, onto}
 use Rattle.level.specs.Slots.{rowPlace, setRow, halfPlace, bandFed}
-use Rattle.level.specs.Work.{setWorked}
+use Rattle.level.specs.Work.{admitted, setWorked}
 use Rattle.reader.specs.Store.{stretchAt, from, behind, fedAt, workedAt}
 use Rattle.reader.specs.Inside.{IsLevel}
 use Rattle.areas.proofs.AreaLaws.{front-at}
 use Rattle.reader.proofs.StoreLaws.{stretch-suc, stretch-in, stretch-is, stretch-small}
 use Rattle.reader.proofs.SetLaws.{row-in}
 use Rattle.level.proofs.SlotLaws.{slot-room, place-is}
+use Rattle.level.proofs.RowsIn.{half-end}
 
 module _ (a : ℕ) (x y : ℕ → ℤ) (j : ℕ) where
   pub behind-below : j < a → behind a x y j ≡ x j
@@ -113,26 +114,20 @@ put-is W H d k c l a p m v s ys is ep ea em en room long made =
     ∙ ap (λ (i : ℕ). spliced i n (at v) (at s)) place
     ∙ behind-splice (stretchAt W k) q n (at v) (at s)
 
--- a half lies within its row
-pub half-in : (b : Half) (w : ℕ) → halfPlace b w + count b w ≤ w
-unfolding halfPlace
-half-in lo w = omega (arith, count-le lo w)
-half-in hi w = omega (arith, count-sum w)
-
 -- ---- a set worked out in its level's stretch
 onto-outcome : (f : (ℕ → ℤ) → ℕ → ℤ) (ok : Bool) (y : ℕ → ℤ) → outcome ok (f y) ≡ onto f (outcome ok y)
 unfolding onto
 onto-outcome f true y = refl
 onto-outcome f false y = refl
 
-pub work-is : (W H L d k : ℕ) (l : Level) (a n : ℕ) (s ys : List ℤ) (ok : Bool) → IsLevel W H d k l → a ≡ l .start → a + n ≡ length s → length ys ≡ n → outcome ok (at ys) ≡ setWorked (eqb (k + 1) L) k (l .width) (l .height) (l .set) (at (midOf a n s)) → outcome ok (at (putMid a n s ys)) ≡ workedAt W H L d k (at s)
+pub work-is : (W H L d k : ℕ) (l : Level) (a n : ℕ) (s ys : List ℤ) (ok : Bool) → IsLevel W H d k l → a ≡ l .start → a + n ≡ length s → length ys ≡ n → outcome ok (at ys) ≡ setWorked admitted (eqb (k + 1) L) k (l .width) (l .height) (l .set) (at (midOf a n s)) → outcome ok (at (putMid a n s ys)) ≡ workedAt W H L d k (at s)
 unfolding workedAt
 work-is W H L d k l a n s ys ok is ea whole long made =
     let place : a ≡ stretchAt W k = ea ∙ is .start in
     ap (outcome ok) (at-put-rest a n s whole ys long)
     ∙ onto-outcome (behind a (at s)) ok (at ys)
     ∙ ap (onto (behind a (at s))) (made ∙ cc (is .width, is .height, is .set, add-one k, at-rest a n s whole))
-    ∙ ap (λ (i : ℕ). onto (behind i (at s)) (setWorked (eqb (suc k) L) k (size k W) (size k H) (rowAt H d (suc k)) (from i (at s)))) place
+    ∙ ap (λ (i : ℕ). onto (behind i (at s)) (setWorked admitted (eqb (suc k) L) k (size k W) (size k H) (rowAt H d (suc k)) (from i (at s)))) place
 
 -- the stretch, and below the last level the next one's, lie within the store
 pub stretch-room : (W k L : ℕ) → k < L → stretchAt W k + (4 * size k W + 4 * pick (eqb (k + 1) L) 0 (count lo (size k W))) ≤ stretchAt W L
@@ -160,6 +155,6 @@ module _ (W H d k : ℕ) (l : Level) (is : IsLevel W H d k l) where
   put-room c p n ep en =
       let w = l .width in
       let r = setRow (down (named c)) (l .set) in
-      let half = half-in (across (named c)) w in
+      let half = half-end (across (named c)) w in
       let columns : n ≡ count (across (named c)) w = rw (is .width) en in
       rw (← stretch-is W (k + 1), add-one k, stretch-suc W k) (omega (arith, is .start, is .width, place-is w r, slot-room w r))

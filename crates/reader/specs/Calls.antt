@@ -4,12 +4,11 @@ use Prim.Native.Nat.{ℕ}
 use lib.IntN.{ℤ}
 use lib.Dec.{eqb}
 use Rattle.numbers.specs.Signal.{pick}
-use Rattle.lifting.specs.Line.{joined}
-use Rattle.lifting.specs.Halves.{halvesOf, fronted}
+use Rattle.lifting.specs.Halves.{fronted}
 use Rattle.reader.specs.declared.Reader.{Reader}
 use Rattle.areas.specs.Areas.{height16}
 use Rattle.level.specs.Tried.{memory}
-use Rattle.level.specs.Slots.{rowIn}
+use Rattle.reader.specs.Sets.{K}
 use Rattle.reader.specs.Store.{zeroed}
 use Rattle.reader.specs.Answers.{Reply, gives, refused, impossible, Want, Handed, aRow, nothing}
 use Rattle.reader.specs.State.{wants, settles, feeds, drawDue, fedReader, drawnReader, endedReader}
@@ -51,9 +50,9 @@ drawReply s q =
 unfoldable pub drawStore : Reader → ℕ → (ℕ → ℤ) → ℕ → ℤ
 drawStore s q x = storeAfter s q (pick (drawDue s) (memory x (settles s x)) x) x
 
--- the height row that stands in the store x: row d of level 1, from halves into its own order
+-- the height row that stands in the store x: row d of level 1
 unfoldable pub heightRow : ℕ → ℕ → (ℕ → ℤ) → ℕ → ℤ
-heightRow W d x c = height16 (joined (halvesOf W (rowIn W d x)) c)
+heightRow W d x c = height16 (K .made W d x c)
 
 -- the output area z afterwards
 unfoldable pub drawArea : Reader → ℕ → (ℕ → ℤ) → (ℕ → ℤ) → ℕ → ℤ

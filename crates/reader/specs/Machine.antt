@@ -7,8 +7,7 @@ use lib.IntN.{ℤ}
 use lib.Dec.{leb, ltb, eqb}
 use Rattle.numbers.specs.Signal.{pick}
 use Rattle.wavelet.specs.Levels.{size}
-use Rattle.level.specs.Sets.{opens}
-use Rattle.reader.specs.Sets.{rowAt}
+use Rattle.reader.specs.Sets.{K, rowAt}
 use Rattle.reader.specs.Asked.{nextBand}
 use Rattle.level.specs.Tried.{Tried, passed, bind}
 use Rattle.reader.specs.Store.{fedAt, workedAt}
@@ -61,7 +60,7 @@ module _ (W H L d : ℕ) where
   -- Where row d begins, from level k on with m levels left: past each level whose set it opens; the last level starts with its LL row.
   unfoldable pub dive : ℕ → ℕ → Place
   dive zero k = place k 0
-  dive (suc m) k = pick (opens (size k H) (rowAt H d k)) (dive m (suc k)) (place k 1)
+  dive (suc m) k = pick (K .opens (size k H) (rowAt H d k)) (dive m (suc k)) (place k 1)
 
   unfoldable pub enter : Place
   enter = dive L 0

@@ -59,7 +59,8 @@ same-length c = c .before .loop .inv .1 .size
 returns-2 : tie.Need-returns-2 Inv-loop μ-loop
 returns-2 c =
     let args = c .before .before .before .args in
-    went _ _ _ _ (le-leb (length (args .from .now)) (length (args .to .now)) (omega arith)) (finish (c .before .loop .inv .1) (λ j le. front-rest _ _ _ j (omega arith)))
+    went _ _ _ _ (le-leb (length (args .from .now)) (length (args .to .now)) (omega arith))
+    (finish (c .before .loop .inv .1) (λ j le. front-rest _ _ _ j (omega arith)))
 
 pub copy-spec : {M : Type 1} → statement M
 copy-spec =

@@ -1,5 +1,5 @@
 -- `areas::halves::weave_line` meets its contract: a sweep over the line, two places a turn, the last of an odd line after the loop. Assumes nothing.
-use mathlib.Core.Path.{_≡_, refl, sym, _∙_}
+use mathlib.Core.Path.{refl, _∙_}
 use Prim.Native.Nat.{_+_, _-_, _*_, _/_, _≤_}
 use native.Mathlib.Omega.{arith}
 use lib.ListN.{length, length-set}
@@ -7,8 +7,6 @@ use borrow.Author.Tests.{le-leb, lt-leb}
 use Rattle.numbers.specs.Signal.{at}
 use Rattle.numbers.proofs.Words.{read-back}
 use Rattle.numbers.proofs.Sweep.{Swept, start, finish}
-use Rattle.lifting.specs.Line.{joined}
-use Rattle.lifting.specs.Halves.{halvesOf, fronted}
 use Rattle.areas.proofs.AreaLaws.{front-rest, went, turned}
 use Rattle.areas.proofs.WeaveLaws.{laid, lay-turn, lay-last}
 use Rattle.areas.proofs.halves.weave_line.Statement.{statement}

@@ -29,8 +29,15 @@ sub-low : tie.Need-sub-low Inv-loop μ-loop
 sub-low c = omega arith
 
 loop-holds : tie.Need-loop-holds Inv-loop μ-loop
-loop-holds c =
-    (omega arith, omega arith, omega arith, omega arith, omega arith, omega arith, start-heights (c .before .before .args .out .now) _ 0 (λ j lt. absurd (omega arith)))
+loop-holds c = (
+  omega arith,
+  omega arith,
+  omega arith,
+  omega arith,
+  omega arith,
+  omega arith,
+  start-heights (c .before .before .args .out .now) _ 0 (λ j lt. absurd (omega arith)),
+)
 
 mul-draw-at : tie.Need-mul-draw-at Inv-loop μ-loop
 mul-draw-at c = omega arith

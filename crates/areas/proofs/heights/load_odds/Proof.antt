@@ -15,7 +15,8 @@ use Rattle.areas.proofs.heights.load_odds.Tie as tie
 
 abbrev Inv-loop : tie.InvT-loop
 Inv-loop heights row₀ n high low j₀ row j =
-    (j ≤ high) × Swept (length row₀) (spliced (count lo (length heights)) (count hi (length heights)) (parted (heightsAt heights) hi) (at row₀)) (at row₀) (low + j) row
+    (j ≤ high) × Swept (length row₀) (spliced (count lo (length heights)) (count hi (length heights)) (parted (heightsAt heights) hi) (at row₀)) (at row₀)
+    (low + j) row
 
 abbrev μ-loop : tie.MeasureT-loop
 μ-loop heights row₀ n high low j₀ row j = high - j

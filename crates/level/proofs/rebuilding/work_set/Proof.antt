@@ -22,7 +22,8 @@ work-set-requires : tie.Need-work-set-requires
 work-set-requires c κs =
     let asked = c .before .before in
     let a = asked .before .args in
-    let f = workable-in (a .last) (a .k) (a .w) (a .h) (a .n) (length (a .stretch .now)) (sym (asked .can-work .ensures) ∙ not-false _ (c .before .if1 .left)) in
+    let f = workable-in (a .last) (a .k) (a .w) (a .h) (a .n) (length (a .stretch .now))
+    (sym (asked .can-work .ensures) ∙ not-false _ (c .before .if1 .left)) in
     (f .1, f .4, f .3, omega (arith, f .2), f .0)
 
 same-length : tie.Need-same-length

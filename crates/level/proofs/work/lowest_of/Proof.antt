@@ -3,7 +3,7 @@ use mathlib.Core.Path.{_∙_, ap}
 use lib.IntN.{ℤ, pos, _-ℤ_}
 use mir.Syntax.{w32}
 use mir.ValLaws.{toZ-ofZ}
-use borrow.Author.Needs.{needs, sfits-of}
+use borrow.Author.Needs.{sfits-of}
 use Rattle.numbers.proofs.Words.{read-back}
 use Rattle.level.proofs.AdmitLaws.{low-zero, low-more, neg-fits, same-range}
 use Rattle.level.proofs.work.lowest_of.Statement.{statement}

@@ -29,7 +29,8 @@ returns c =
     let lift = undo .before .before .before in
     let a = lift .before .before .args in (
       even-made (a .k) (a .w) (a .h) (a .n) _ _ _ _ (lift .unlift-set .ensures) (undo .undo-even .ensures) (c .admit-row .ensures),
-      kept-both _ _ _ _ (kept-is _ _ _ _ (set-kept (a .w) (a .h) (a .n) _) (lift .unlift-set .ensures)) (kept-is _ _ _ _ (even-kept (a .w) (a .h) (a .n) _) (undo .undo-even .ensures)),
+      kept-both _ _ _ _ (kept-is _ _ _ _ (set-kept (a .w) (a .h) (a .n) _) (lift .unlift-set .ensures))
+          (kept-is _ _ _ _ (even-kept (a .w) (a .h) (a .n) _) (undo .undo-even .ensures)),
     )
 
 pub make-even-spec : {M : Type 1} → statement M

@@ -17,8 +17,11 @@ same-length c = c .before .before .make-even .kept .0
 returns : tie.Need-returns
 returns c =
     let one = c .before .before in
-    let a = one .before .before .args in
-    (made-1 (a .k) (a .w) (a .h) (a .n) _ (told-no (one .make-even .result) (at (one .make-even .last .0)) _ (one .make-even .ensures .0) (not-true _ (c .if1 .taken))), one .make-even .ensures .1)
+    let a = one .before .before .args in (
+      made-1 (a .k) (a .w) (a .h) (a .n) _
+          (told-no (one .make-even .result) (at (one .make-even .last .0)) _ (one .make-even .ensures .0) (not-true _ (c .if1 .taken))),
+      one .make-even .ensures .1,
+    )
 
 make-odd-requires : tie.Need-make-odd-requires
 make-odd-requires c κs = search needs
@@ -31,14 +34,19 @@ returns-2 c =
     let two = c .before .before in
     let went = two .before .before in
     let one = went .before .before in
-    let a = one .before .before .args in
-    (made-2 (a .k) (a .w) (a .h) (a .n) _ _ (told-yes (one .make-even .result) (at (one .make-even .last .0)) _ (one .make-even .ensures .0) (not-false _ (went .if1 .left))) (told-no (two .make-odd .result) (at (two .make-odd .last .0)) _ (two .make-odd .ensures .0) (not-true _ (c .if2 .taken))), kept-both _ _ _ _ (one .make-even .ensures .1) (two .make-odd .ensures .1))
+    let a = one .before .before .args in (
+      made-2 (a .k) (a .w) (a .h) (a .n) _ _
+          (told-yes (one .make-even .result) (at (one .make-even .last .0)) _ (one .make-even .ensures .0) (not-false _ (went .if1 .left)))
+          (told-no (two .make-odd .result) (at (two .make-odd .last .0)) _ (two .make-odd .ensures .0) (not-true _ (c .if2 .taken))),
+      kept-both _ _ _ _ (one .make-even .ensures .1) (two .make-odd .ensures .1),
+    )
 
 make-last-requires : tie.Need-make-last-requires
 make-last-requires c κs = search needs
 
 same-length-3 : tie.Need-same-length-3
-same-length-3 c = c .before .make-last .kept .0 ∙ c .before .before .before .before .before .make-odd .kept .0 ∙ c .before .before .before .before .before .before .before .before .before .make-even .kept .0
+same-length-3 c = c .before .make-last .kept .0 ∙ c .before .before .before .before .before .make-odd .kept .0
+    ∙ c .before .before .before .before .before .before .before .before .before .make-even .kept .0
 
 returns-3 : tie.Need-returns-3
 returns-3 c =
@@ -49,7 +57,9 @@ returns-3 c =
     let one = went .before .before in
     let a = one .before .before .args in (
       three .make-last .ensures .0
-          ∙ made-3 (a .k) (a .w) (a .h) (a .n) _ _ (told-yes (one .make-even .result) (at (one .make-even .last .0)) _ (one .make-even .ensures .0) (not-false _ (went .if1 .left))) _ (told-yes (two .make-odd .result) (at (two .make-odd .last .0)) _ (two .make-odd .ensures .0) (not-false _ (on .if2 .left))),
+          ∙ made-3 (a .k) (a .w) (a .h) (a .n) _ _
+          (told-yes (one .make-even .result) (at (one .make-even .last .0)) _ (one .make-even .ensures .0) (not-false _ (went .if1 .left))) _
+          (told-yes (two .make-odd .result) (at (two .make-odd .last .0)) _ (two .make-odd .ensures .0) (not-false _ (on .if2 .left))),
       kept-both _ _ _ _ (kept-both _ _ _ _ (one .make-even .ensures .1) (two .make-odd .ensures .1)) (three .make-last .ensures .1),
     )
 

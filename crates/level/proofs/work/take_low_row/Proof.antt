@@ -42,7 +42,8 @@ returns c =
     let half = from .before in
     let a = half .before .args in
     let place = 4 * a .w + from .row-place .result in
-    let room = apart-in (length (a .stretch .now)) place (to .row-place2 .result) (half .half .result) (omega (arith, count-lo (a .w))) (omega (arith, count-lo (a .w))) in
+    let room = apart-in (length (a .stretch .now)) place (to .row-place2 .result) (half .half .result) (omega (arith, count-lo (a .w)))
+    (omega (arith, count-lo (a .w))) in
     did _ _ _ _ room (call .weave-down .ensures .1)
     ∙ low-taken (a .w) (a .n) _ _ _ _ (half .half .ensures) (omega (arith, from .row-place .ensures .0)) (to .row-place2 .ensures .0)
 

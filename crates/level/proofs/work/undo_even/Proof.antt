@@ -46,7 +46,8 @@ returns c =
     let tall = first .before in
     let a = tall .before .args in
     call .unupdate-row .ensures .1
-    ∙ even-by (a .w) (a .h) (a .n) _ _ _ _ (tall .before .pre .1) (tall .if1 .taken) (first .before2 .ensures) (least .least .ensures ∙ ap (λ (q : ℕ). min (a .n) (q - 1)) (sym (count-hi (a .h))))
+    ∙ even-by (a .w) (a .h) (a .n) _ _ _ _ (tall .before .pre .1) (tall .if1 .taken) (first .before2 .ensures)
+    (least .least .ensures ∙ ap (λ (q : ℕ). min (a .n) (q - 1)) (sym (count-hi (a .h))))
 
 returns-2 : tie.Need-returns-2
 returns-2 c = let a = c .before .args in sym (even-one (a .w) (a .h) (a .n) _ (omega arith))

@@ -36,7 +36,8 @@ returns c =
     let place = call .before .before in
     let a = place .before .args in
     let at = place .row-place .result in
-    unlift-part (a .w) (a .r) at (at + a .w - at) (a .stretch .now) (call .unlift .last .0) (place .row-place .ensures .0) (omega arith) (omega arith) (omega arith) (call .unlift .ensures)
+    unlift-part (a .w) (a .r) at (at + a .w - at) (a .stretch .now) (call .unlift .last .0) (place .row-place .ensures .0) (omega arith) (omega arith)
+    (omega arith) (call .unlift .ensures)
 
 pub unlift-row-spec : {M : Type 1} → statement M
 unlift-row-spec =

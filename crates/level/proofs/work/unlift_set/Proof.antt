@@ -38,7 +38,8 @@ returns c =
     let taken = two .before .before in
     let one = taken .before .before in
     let a = one .before .before .args in
-    two .unlift-row2 .ensures ∙ ap (rowUnlifted (a .w) (2 * a .n + 1)) (one .unlift-row .ensures) ∙ sym (unlifted-both (a .w) (a .h) (a .n) (at (a .stretch .now)) (taken .if1 .taken))
+    two .unlift-row2 .ensures ∙ ap (rowUnlifted (a .w) (2 * a .n + 1)) (one .unlift-row .ensures)
+    ∙ sym (unlifted-both (a .w) (a .h) (a .n) (at (a .stretch .now)) (taken .if1 .taken))
 
 same-length-2 : tie.Need-same-length-2
 same-length-2 c = c .before .before .unlift-row .kept .0
