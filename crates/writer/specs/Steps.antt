@@ -80,6 +80,10 @@ pub record Reaches (l w c v m : ℕ) (r : Level) : Type 0 where
 abbrev pub Placed : Writer → Type 0
 Placed s = s .offset ≡ startOf (s .width) (s .level)
 
+-- r is the level of a writer's row that waits
+abbrev pub Reached : Writer → Level → Type 0
+Reached s r = Reaches (s .levels) (s .width) (s .closed) (s .level) (s .rows) r
+
 abbrev pub spotOf : Waiting → Spot
 spotOf o = record { level = o .level; band = code (o .band); row = o .row; length = o .length; start = o .start }
 

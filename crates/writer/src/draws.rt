@@ -12,7 +12,7 @@ ghost use Rattle.writer.specs.Counts.{bandAt};
 ghost use Rattle.writer.specs.FiveThreeLevel.{bandPlace};
 ghost use Rattle.writer.specs.Questions.{waitingRow};
 ghost use Rattle.writer.specs.Calls.{pulled};
-ghost use Rattle.writer.specs.Steps.{Left, Walk, Reaches, Placed, Found, Drawable};
+ghost use Rattle.writer.specs.Steps.{Left, Walk, Reaches, Placed, Reached, Found, Drawable};
 
 // A band row that waits, and where in the store its numbers begin.
 pub struct Spot {
@@ -66,12 +66,11 @@ pub fn level_of(l: usize, w: usize, c: usize, v: usize, m: usize) -> Level
     )
 }
 
-// The row that waits.
-pub fn waiting(s: Writer) -> Spot
-    requires { ⌜ Walk (s .levels) (s .width) (s .level) (s .rows) × Placed s ⌝ }
+// The row that waits, at level q.
+pub fn waiting(s: Writer, q: Level) -> Spot
+    requires { ⌜ Walk (s .levels) (s .width) (s .level) (s .rows) × Placed s × Reached s q ⌝ }
     ensures { λ r. ⌜ Found (s .levels) (s .width) (waitingRow s) r ⌝ }
 {
-    let q = level_of(s.levels, s.width, s.closed, s.level, s.rows);
     let n = counts::prev(counts::made(q.closed, q.rows));
     let i = counts::prev(s.left);
     Spot {
@@ -84,11 +83,10 @@ pub fn waiting(s: Writer) -> Spot
 }
 
 // It is drawn: the next band of the set that has such a row waits, or the set's LL row goes on.
-pub fn pull(s: Writer, store: &mut [i32]) -> Wait
-    requires { ⌜ Drawable s (length (now store)) ⌝ }
+pub fn pull(s: Writer, q: Level, store: &mut [i32]) -> Wait
+    requires { ⌜ Drawable s (length (now store)) × Reached s q ⌝ }
     ensures { λ r. ⌜ Left (s .levels) (s .width) (pulled s (at (now (store .entry)))) r (at (now (store .exit))) ⌝ }
 {
-    let q = level_of(s.levels, s.width, s.closed, s.level, s.rows);
     let n = counts::prev(counts::made(q.closed, q.rows));
     let i = counts::next_band(q.width, q.rows, n, counts::prev(s.left));
     let a = s.offset;

@@ -9,9 +9,6 @@ use Rattle.writer.proofs.DrawLaws.{place-room, found}
 use Rattle.writer.proofs.draws.waiting.Statement.{statement}
 use Rattle.writer.proofs.draws.waiting.Tie as tie
 
-level-of-requires : tie.Need-level-of-requires
-level-of-requires c κs = c .pre .0
-
 made-requires : tie.Need-made-requires
 made-requires c κs = tt
 
@@ -29,26 +26,24 @@ columns-requires c κs = tt
 
 place-requires : tie.Need-place-requires
 place-requires c κs =
-    let q = c .before .before .before .before .before .level-of in
-    omega (arith, prev-is (c .before .before .before .before .made .result), made-le (q .result .closed) (q .result .rows))
+    let q = c .before .before .before .before .before .args .q in
+    omega (arith, prev-is (c .before .before .before .before .made .result), made-le (q .closed) (q .rows))
 
 add-t8 : tie.Need-add-t8
 add-t8 c =
     let e = c .before in
-    let s = e .before .before .before .before .before .before .before .args .s in
-    let q = e .before .before .before .before .before .before .level-of in
+    let a = e .before .before .before .before .before .before .args in
     omega (
       arith,
-      place-room (q .result .width) (e .before .before .before .before .prev .result) (bandAt (e .before .before .before .prev2 .result)),
-      store-le (s .width) (s .levels),
+      place-room (a .q .width) (e .before .before .before .before .prev .result) (bandAt (e .before .before .before .prev2 .result)),
+      store-le (a .s .width) (a .s .levels),
     )
 
 returns : tie.Need-returns
 returns c =
     let e = c .before in
-    let s = e .before .before .before .before .before .before .before .args .s in
-    let q = e .before .before .before .before .before .before .level-of in
-    found s (q .result) (q .ensures) (e .before .before .before .before .before .before .before .pre .1) _ _ _ _ _ _ (omega arith)
+    let d = e .before .before .before .before .before .before in
+    found (d .args .s) (d .args .q) (d .pre .2) (d .pre .1) _ _ _ _ _ _ (omega arith)
     (e .before .before .before .before .before .made .ensures) (e .before .before .before .before .prev .ensures) (e .before .before .before .prev2 .ensures)
     (e .before .before .code .ensures) (e .before .columns .ensures) (e .place .ensures)
 
@@ -56,7 +51,6 @@ pub waiting-spec : {M : Type 1} → statement M
 waiting-spec =
     tie.close
     (tie.spec
-    level-of-requires
     made-requires
     prev-requires
     prev-requires-2
