@@ -118,6 +118,9 @@ start-first w zero h = store-none w
 start-first w (suc zero) h = store-none w
 start-first w (suc (suc v)) h = absurd (omega arith)
 
+pub start-second : (w v : ℕ) → v ≡ 2 → startOf w v ≡ 4 * w
+start-second w v e = ap (startOf w) e ∙ omega (arith, store-below w 0, store-none (count lo w))
+
 -- seen from the level above
 pub start-deeper : (w v : ℕ) → startOf w (deeper v) ≡ further v (4 * w) (startOf (count lo w) v)
 unfolding deeper further

@@ -7,6 +7,7 @@ use native.Mathlib.Omega.{arith}
 use Rattle.lifting.specs.Line.{lo, count}
 use Rattle.lifting.proofs.LineLaws.{counts}
 use Rattle.wavelet.specs.Bands.{Band, LL, HL, LH, HH, across, code}
+use Rattle.wavelet.proofs.SizeLaws.{count-lo}
 use Rattle.wavelet.proofs.StoreLaws.{store-back, store-below, store-next}
 use Rattle.writer.specs.declared.Writer.{Writer}
 use Rattle.writer.specs.declared.cascade.Wait.{Wait}
@@ -19,8 +20,8 @@ use Rattle.writer.specs.Machine.{Out, rest, joinAt, under, settled, pass
 use Rattle.writer.specs.Draws.{lower, rowOf, waiting, pull}
 use Rattle.writer.specs.Questions.{waitingRow}
 use Rattle.writer.specs.Calls.{pulled}
-use Rattle.writer.specs.Steps.{Left, Found, Reaches, waitingAt, pullAt, from, lastSetOf, spotOf}
-use Rattle.writer.proofs.CountLaws.{slot-room, prev-is, start-first, start-deeper, further-none, further-some, deeper-by-same, deeper-by-more}
+use Rattle.writer.specs.Steps.{Walk, Left, Found, Reaches, waitingAt, pullAt, from, lastSetOf, spotOf}
+use Rattle.writer.proofs.CountLaws.{slot-room, prev-is, made-le, start-first, start-deeper, further-none, further-some, deeper-by-same, deeper-by-more}
 use Rattle.writer.proofs.CountLaws.{deeper-by-none, deeper-by-some, deeper-by-le}
 use Rattle.writer.proofs.RestLaws.{rest-at, join-below, join-past}
 use Rattle.writer.proofs.CascadeLaws.{left-waits, left-same, left-under, settled-waits, settled-goes}
@@ -207,6 +208,43 @@ reaches-below l w c v m h p k r g g′ eh ep ek f =
       rows = f .rows;
       deep = omega (arith, f .deep);
     }
+
+-- the way down from the first of l levels to level v has come to level k, of u columns and n rows, b of them closed: what is found from there is what
+-- is found from the first
+module _ (l w c v m : ℕ) where
+  pub record Walked (u b n k : ℕ) : Type 0 where
+    pub first : 0 < k
+    pub last : k ≤ v
+    pub wide : u < 2 ^ 16
+    pub rows : n < 2 ^ 32
+    pub found : (r : Level) → Reaches (l - (v - k)) u b k n r → Reaches l w c v m r
+
+  pub walk-start : Walk l w v m → Walked w c m v
+  walk-start h =
+      let e : l - (v - v) ≡ l = omega arith in
+      record { first = h .first; last = omega arith; wide = h .wide; rows = h .rows; found = λ r f. rw e at f }
+
+  module _ (u b n k : ℕ) (d : v ≤ l) (h : Walked u b n k) where
+    pub walk-on : (u′ b′ n′ : ℕ) → 1 < k → u′ ≡ count lo u → b′ ≡ prev b → n′ ≡ made b n → Walked u′ b′ n′ (k - 1)
+    walk-on u′ b′ n′ g eu eb en =
+        let below : (r : Level) → Reaches (l - (v - (k - 1))) u′ b′ (k - 1) n′ r → Reaches l w c v m r =
+        λ r f.
+        let e : l - (v - (k - 1)) ≡ l - (v - k) - 1 = omega (arith, h .last) in
+        h .found r (reaches-below (l - (v - k)) u b k n u′ b′ n′ r g (omega (arith, h .last)) eu eb en (rw e at f)) in
+        record {
+          first = omega arith;
+          last = omega (arith, h .last);
+          wide = omega (arith, h .wide, count-lo u);
+          rows = omega (arith, h .rows, made-le b n);
+          found = below;
+        }
+
+    pub walk-end : k ≤ 1 → Reaches l w c v m (record { below = l - v; width = u; closed = b; rows = n })
+    walk-end g =
+        let e : l - (v - k) - 1 ≡ l - v = omega (arith, h .first, h .last) in
+        let f : Reaches (l - (v - k)) u b k n (record { below = l - (v - k) - 1; width = u; closed = b; rows = n }) =
+        reaches-here (l - (v - k)) u b k n (omega (arith, h .first, h .last)) (omega (arith, h .first)) (h .wide) (h .rows) in
+        h .found _ (rw e at f)
 
 -- ---- the row that waits, and what the draw of it leaves
 module _ (v a : ℕ) (r : Level) (i : ℕ) where

@@ -1,7 +1,7 @@
 -- What the gate questions say. Assumes nothing.
 use mathlib.Core.Path.{_≡_, refl, sym, ap, _∙_}
 use mathlib.Core.Bool.{Bool, true, false, not}
-use Prim.Native.Nat.{ℕ, zero, suc, _+_, _*_, _/_, _≤_, _<_}
+use Prim.Native.Nat.{ℕ, zero, suc, _+_, _-_, _*_, _/_, _≤_, _<_}
 use native.Mathlib.Omega.{arith}
 use lib.Dec.{leb, ltb, eqb}
 use borrow.Author.Tests.{leb-true, ltb-true, le-leb, lt-leb, lt-ltb, le-ltb, eq-eqb, ne-eqb, eqb-true}
@@ -15,7 +15,7 @@ use Rattle.wavelet.proofs.QuestionLaws.{within-true}
 use Rattle.wavelet.proofs.SizeLaws.{count-lo}
 use Rattle.wavelet.proofs.StoreLaws.{store-none, store-below}
 use Rattle.writer.specs.declared.Writer.{Writer}
-use Rattle.writer.specs.Counts.{prev, mostLeft, startOf}
+use Rattle.writer.specs.Counts.{mostLeft, startOf}
 use Rattle.writer.specs.Questions.{either, inRanges, longEnough, offerQuestion, finishQuestion}
 use Rattle.writer.specs.Gate.{stateQuestion, openQuestion}
 use Rattle.writer.proofs.CountLaws.{prev-is}
@@ -40,28 +40,30 @@ module _ (p q : ℕ) where
   asked-all true false h = absurd (omega arith)
   asked-all false b h = absurd (omega arith)
 
--- ---- question 1, the tests but the last passed
+-- ---- question 1, the tests of sizes and counts passed: what waits is left
 pub ranges-last : (s : Writer) → within 1 maxWidth (s .width) ≡ true → within 1 maxLevels (s .levels) ≡ true → s .rows ≤ maxHeight → s .column < s .width →
-    s .closed ≤ s .levels → s .level ≤ s .levels → s .left ≤ mostLeft (s .levels) (s .level) → (b : Bool) → eqb (s .offset)
-    (startOf (s .width) (s .level)) ≡ b → b ≡ inRanges s
+    s .closed ≤ s .levels → s .level ≤ s .levels → (b : Bool) → b ≡ both (leb (s .left) (mostLeft (s .levels) (s .level)))
+    (eqb (s .offset) (startOf (s .width) (s .level))) → b ≡ inRanges s
 unfolding inRanges
-ranges-last s a b d e f g h t is = simp (a, b, le-leb _ _ d, lt-ltb _ _ e, le-leb _ _ f, le-leb _ _ g, le-leb _ _ h) (sym is)
+ranges-last s a b d e f g t is = is ∙ simp (a, b, le-leb _ _ d, lt-ltb _ _ e, le-leb _ _ f, le-leb _ _ g)
+
+-- what waits: too many bands left, or a number of them that can be; k is how many can
+module _ (a k : ℕ) (t : Bool) where
+  pub left-no : (m : ℕ) → k ≡ m → k < a → false ≡ both (leb a m) t
+  left-no m e h = simp (lt-leb a m (omega arith))
+
+  pub left-yes : (m : ℕ) (b : Bool) → k ≡ m → a ≤ k → b ≡ t → b ≡ both (leb a m) t
+  left-yes m b e h f = f ∙ simp (le-leb a m (omega arith))
 
 -- where a level's stretch begins, as `store_length` of the levels before it says it
-not-within : (m : ℕ) → within 1 m 0 ≡ false
-unfolding within
-not-within m = simp (lt-leb 1 0 (omega arith))
-
 is-within : (m k : ℕ) → 0 < k → k ≤ m → within 1 m k ≡ true
 unfolding within
 is-within m k h g = simp (le-leb 1 k (omega arith), le-leb k m g)
 
-pub start-stored : (W L v k n : ℕ) → within 1 maxWidth W ≡ true → within 1 maxLevels L ≡ true → v ≤ L → k ≡ prev v →
-    n ≡ pick (both (within 1 maxWidth W) (within 1 maxLevels k)) (storeLength W k) 0 → startOf W v ≡ n
-start-stored W L v zero n w l h e f = ap (storeLength W) (sym e) ∙ store-none W ∙ sym (f ∙ rw (w, not-within maxLevels) refl)
-start-stored W L v (suc k) n w l h e f =
-    let d = within-true 1 maxLevels L l in
-    ap (storeLength W) (sym e) ∙ sym (f ∙ rw (w, is-within maxLevels (suc k) (omega arith) (omega (arith, prev-is v))) refl)
+pub start-stored : (W v n : ℕ) → within 1 maxWidth W ≡ true → 1 < v → v ≤ maxLevels →
+    n ≡ pick (both (within 1 maxWidth W) (within 1 maxLevels (v - 1))) (storeLength W (v - 1)) 0 → startOf W v ≡ n
+start-stored W v n w h g f =
+    ap (storeLength W) (prev-is v) ∙ sym (f ∙ rw (w, is-within maxLevels (v - 1) (omega arith) (omega arith)) refl)
 
 -- ---- the most that a store needs, level by level
 one : (W : ℕ) → storeLength W 1 ≤ 4 * W

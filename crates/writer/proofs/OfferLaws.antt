@@ -1,5 +1,5 @@
 -- An offer taken a stretch at a time is the offer taken height by height. Assumes nothing.
-use mathlib.Core.Path.{_≡_, refl, ap, _∙_, fun-ext}
+use mathlib.Core.Path.{_≡_, refl, sym, ap, _∙_, fun-ext}
 use mathlib.Core.Bool.{Bool, true, false}
 use mathlib.Core.List.{List, [], _∷_}
 use Prim.Native.Nat.{ℕ, zero, suc, _+_, _-_, _≤_, _<_, min}
@@ -10,7 +10,7 @@ use lib.ListN.{length, drop, getD, length-drop}
 use lib.Seq.{drop-cons, drop-drop, drop-length, getD-drop}
 use lib.Dec.{eqb}
 use borrow.Author.Tests.{eq-eqb, ne-eqb, lt-ltb, le-ltb, ltb-true}
-use Rattle.numbers.specs.Signal.{at, both}
+use Rattle.numbers.specs.Signal.{at, pick, both}
 use Rattle.numbers.proofs.Sweep as sweep
 use Rattle.wavelet.specs.Limits.{maxHeight}
 use Rattle.wavelet.proofs.LimitLaws.{width-small, height-small}
@@ -75,6 +75,17 @@ module _ (s : Writer) where
   pub next-some : (k n : ℕ) → takes s ≡ true → n ≡ min (s .width - s .column) k → n ≡ nextCount s k
   unfolding nextCount
   next-some k n e h = h ∙ simp e
+
+  pub next-empty : (k : ℕ) → k ≡ 0 → 0 ≡ nextCount s k
+  unfolding nextCount
+  next-empty k e = go (takes s)
+    where
+      none : min (s .width - s .column) k ≡ 0
+      none = omega arith
+
+      go : (t : Bool) → 0 ≡ pick t (min (s .width - s .column) k) 0
+      go true = sym none
+      go false = refl
 
   pub record Next (k n : ℕ) : Type 0 where
     pub takes : takes s ≡ true

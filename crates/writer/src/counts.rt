@@ -1,11 +1,11 @@
 // The numbers that the writer derives on its way down the levels. The module is private: only this crate, which meets what is required, can call it.
 use wavelet::sizes;
 ghost use mathlib.Core.Path.{_≡_};
-ghost use Prim.Native.Nat.{_<_, _≤_, _+_, _*_};
+ghost use Prim.Native.Nat.{_<_, _+_, _*_};
 ghost use Rattle.lifting.specs.Line.{count};
 ghost use Rattle.wavelet.specs.Bands.{across, down, code};
 ghost use Rattle.wavelet.specs.Order.{hasRow};
-ghost use Rattle.writer.specs.Counts.{prev, deeper, deeperBy, further, made, most, mostLeft, bandAt, skip};
+ghost use Rattle.writer.specs.Counts.{prev, deeper, deeperBy, further, made, most, bandAt, skip};
 ghost use Rattle.writer.specs.FiveThreeLevel.{slot, cellOf, before};
 
 // One less, and 0 of 0.
@@ -54,17 +54,6 @@ pub fn most(l: usize) -> usize
     ensures { λ r. ⌜ r ≡ most l ⌝ }
 {
     if l == 0 { 4 } else { 3 }
-}
-
-// How many can be left of a set of level v of l; none where none waits.
-pub fn most_left(l: usize, v: usize) -> usize
-    requires { ⌜ v ≤ l ⌝ }
-    ensures { λ r. ⌜ r ≡ mostLeft l v ⌝ }
-{
-    if v == 0 {
-        return 0;
-    }
-    most(l - v)
 }
 
 // The code of the band that i bands come after in its set.

@@ -49,21 +49,22 @@ pub fn level_of(l: usize, w: usize, c: usize, v: usize, m: usize) -> Level
     requires { ⌜ Walk l w v m ⌝ }
     ensures { λ r. ⌜ Reaches l w c v m r ⌝ }
 {
-    if v == 1 {
-        return Level {
-            below: l - 1,
-            width: w,
-            closed: c,
-            rows: m,
-        };
+    let mut width = w;
+    let mut closed = c;
+    let mut rows = m;
+    let mut k = v;
+    while 1 < k {
+        rows = counts::made(closed, rows);
+        closed = counts::prev(closed);
+        width = sizes::half(width);
+        k -= 1;
     }
-    level_of(
-        l - 1,
-        sizes::half(w),
-        counts::prev(c),
-        v - 1,
-        counts::made(c, m),
-    )
+    Level {
+        below: l - v,
+        width,
+        closed,
+        rows,
+    }
 }
 
 // The row that waits, at level q.

@@ -4,10 +4,46 @@ use crate::counts;
 use wavelet::limits;
 use wavelet::store;
 ghost use mathlib.Core.Path.{_≡_};
-ghost use Prim.Native.Nat.{_+_, _*_, _/_, _^_, _<_};
-ghost use lib.Dec.{leb};
+ghost use mathlib.Core.Bool.{true};
+ghost use Prim.Native.Nat.{_+_, _*_, _/_, _^_, _<_, _≤_};
+ghost use lib.Dec.{leb, eqb};
+ghost use Rattle.numbers.specs.Signal.{both};
+ghost use Rattle.wavelet.specs.Limits.{maxWidth, maxLevels};
+ghost use Rattle.wavelet.specs.Questions.{within};
+ghost use Rattle.writer.specs.Counts.{mostLeft, startOf};
 ghost use Rattle.writer.specs.Questions.{inRanges, setUpQuestion, offerQuestion, finishQuestion};
 ghost use Rattle.writer.specs.Gate.{stateQuestion, openQuestion};
+
+// Does the stretch of level v begin at place o? Levels 1 and 2 are asked for most, and there is nothing to add up.
+fn is_start(w: usize, v: usize, o: usize) -> bool
+    requires { ⌜ (within 1 maxWidth w ≡ true) × (v ≤ maxLevels) ⌝ }
+    ensures { λ r. ⌜ r ≡ eqb o (startOf w v) ⌝ }
+{
+    if v < 2 {
+        return o == 0;
+    }
+    if v == 2 {
+        return o == 4 * w;
+    }
+    o == store::store_length(w, v - 1)
+}
+
+// What waits: the bands that are left, and where its level's stretch begins; where nothing waits, as most often, neither is looked for.
+fn waits_in_range(s: Writer) -> bool
+    requires { ⌜ (within 1 maxWidth (s .width) ≡ true) × (s .levels ≤ maxLevels) × (s .level ≤ s .levels) ⌝ }
+    ensures { λ r. ⌜ r ≡ both (leb (s .left) (mostLeft (s .levels) (s .level))) (eqb (s .offset) (startOf (s .width) (s .level))) ⌝ }
+{
+    if s.level == 0 {
+        if 0 < s.left {
+            return false;
+        }
+        return s.offset == 0;
+    }
+    if counts::most(s.levels - s.level) < s.left {
+        return false;
+    }
+    is_start(s.width, s.level, s.offset)
+}
 
 // Question 1: the counts' ranges.
 pub fn in_ranges(s: Writer) -> bool
@@ -31,10 +67,7 @@ pub fn in_ranges(s: Writer) -> bool
     if s.levels < s.level {
         return false;
     }
-    if counts::most_left(s.levels, s.level) < s.left {
-        return false;
-    }
-    s.offset == store::store_length(s.width, counts::prev(s.level))
+    waits_in_range(s)
 }
 
 // Whether n numbers are enough for every number of levels. At the most levels a width of 2^k + 1 needs just as many, so the sizes are seldom added up.

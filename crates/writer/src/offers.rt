@@ -53,6 +53,9 @@ pub fn next(s: Writer, k: usize) -> usize
     requires { ⌜ s .column < s .width ⌝ }
     ensures { λ r. ⌜ r ≡ nextCount s k ⌝ }
 {
+    if k == 0 {
+        return 0;
+    }
     if 0 < s.level {
         return 0;
     }
