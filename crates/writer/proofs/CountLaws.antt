@@ -1,12 +1,16 @@
 -- The laws of the derived numbers, as the code's branches meet them. Assumes nothing.
 use mathlib.Core.Path.{_≡_, refl, sym, ap, _∙_}
-use mathlib.Core.Bool.{true, false}
+use mathlib.Core.Bool.{Bool, true, false}
 use Prim.Native.Nat.{ℕ, zero, suc, _+_, _-_, _*_, _/_, _%_, _<_, _≤_, min}
 use native.Mathlib.Decide.{decLt}
 use native.Mathlib.Omega.{arith}
 use native.Mathlib.Nat.{mul-le-mul-right}
+use lib.Dec.{ltb}
+use borrow.Author.Tests.{lt-ltb, ltb-true}
+use Rattle.numbers.specs.Signal.{both}
+use Rattle.numbers.proofs.Sweep as sweep
 use Rattle.lifting.specs.Line.{lo, count}
-use Rattle.wavelet.specs.Bands.{Band, LL, HL, LH, HH, code}
+use Rattle.wavelet.specs.Bands.{Band, LL, HL, LH, HH, code, across, down}
 use Rattle.wavelet.specs.Order.{hasRow}
 use Rattle.wavelet.proofs.StoreLaws.{store-none, store-below, store-le}
 use Rattle.writer.specs.Counts.{prev, deeper, deeperBy, further, made, most, mostLeft, bandAt, skip, startOf}
@@ -118,8 +122,26 @@ start-first w zero h = store-none w
 start-first w (suc zero) h = store-none w
 start-first w (suc (suc v)) h = absurd (omega arith)
 
-pub start-second : (w v : ℕ) → v ≡ 2 → startOf w v ≡ 4 * w
-start-second w v e = ap (startOf w) e ∙ omega (arith, store-below w 0, store-none (count lo w))
+pub start-second : (w v : ℕ) → v ≡ 2 → 4 * w ≡ startOf w v
+start-second w v e = sym (ap (startOf w) e ∙ omega (arith, store-below w 0, store-none (count lo w)))
+
+module _ (w v h : ℕ) (eh : h ≡ count lo w) where
+  pub start-third : v ≡ 3 → 4 * (w + h) ≡ startOf w v
+  start-third e = let d = start-second h 2 refl in sym (ap (startOf w) e ∙ store-below w 1 ∙ rw (← eh) (omega arith))
+
+  module _ (q : ℕ) (eq : q ≡ count lo h) where
+    start-under : startOf h 3 ≡ 4 * (h + q)
+    start-under = let d = start-second q 2 refl in store-below h 1 ∙ rw (← eq) (omega arith)
+
+    pub start-fourth : v ≡ 4 → 4 * (w + h + q) ≡ startOf w v
+    start-fourth e = sym (ap (startOf w) e ∙ store-below w 2 ∙ rw (← eh) (omega (arith, start-under)))
+
+    pub start-fifth : (t : ℕ) → t ≡ count lo q → v ≡ 5 → 4 * (w + h + q + t) ≡ startOf w v
+    start-fifth t et e =
+        let d = start-second t 2 refl in
+        let a : startOf q 3 ≡ 4 * (q + t) = store-below q 1 ∙ rw (← et) (omega arith) in
+        let b : startOf h 4 ≡ 4 * (h + q + t) = store-below h 2 ∙ rw (← eq) (omega (arith, a)) in
+        sym (ap (startOf w) e ∙ store-below w 3 ∙ rw (← eh) (omega (arith, b)))
 
 -- seen from the level above
 pub start-deeper : (w v : ℕ) → startOf w (deeper v) ≡ further v (4 * w) (startOf (count lo w) v)
@@ -186,6 +208,21 @@ module _ (w m n : ℕ) where
   unfolding skip
   skip-go zero h e = absurd (omega arith)
   skip-go (suc k) h e = let q : suc k - 1 ≡ k = omega arith in rw q (simp (rw q at e))
+
+  -- where every band has the row, none is passed over
+  band-has : 1 < w → n < m / 2 → (b : Band) → hasRow w m b n ≡ true
+  unfolding hasRow across down count
+  band-has h g LL = simp (lt-ltb 0 ((w + 1) / 2) (omega arith), lt-ltb n ((m + 1) / 2) (omega arith))
+  band-has h g HL = simp (lt-ltb 0 (w / 2) (omega arith), lt-ltb n ((m + 1) / 2) (omega arith))
+  band-has h g LH = simp (lt-ltb 0 ((w + 1) / 2) (omega arith), lt-ltb n (m / 2) (omega arith))
+  band-has h g HH = simp (lt-ltb 0 (w / 2) (omega arith), lt-ltb n (m / 2) (omega arith))
+
+  pub skip-all : (t : Bool) → t ≡ both (ltb 1 w) (ltb n (m / 2)) → t ≡ true → (i : ℕ) → i ≡ skip w m n i
+  unfolding skip
+  skip-all t e h zero = refl
+  skip-all t e h (suc i) =
+      let p = sweep.both (ltb 1 w) (ltb n (m / 2)) (sym e ∙ h) in
+      simp (band-has (ltb-true 1 w (p .0)) (ltb-true n (m / 2) (p .1)) (bandAt i))
 
   pub skip-none : 0 ≡ skip w m n 0
   unfolding skip

@@ -1,11 +1,11 @@
 -- What the gate questions say. Assumes nothing.
 use mathlib.Core.Path.{_≡_, refl, sym, ap, _∙_}
 use mathlib.Core.Bool.{Bool, true, false, not}
-use Prim.Native.Nat.{ℕ, zero, suc, _+_, _-_, _*_, _/_, _≤_, _<_}
+use Prim.Native.Nat.{ℕ, zero, suc, _+_, _*_, _/_, _≤_, _<_}
 use native.Mathlib.Omega.{arith}
 use lib.Dec.{leb, ltb, eqb}
 use borrow.Author.Tests.{leb-true, ltb-true, le-leb, lt-leb, lt-ltb, le-ltb, eq-eqb, ne-eqb, eqb-true}
-use Rattle.numbers.specs.Signal.{pick, both}
+use Rattle.numbers.specs.Signal.{both}
 use Rattle.numbers.proofs.Sweep as sweep
 use Rattle.wavelet.specs.Limits.{maxWidth, maxHeight, maxLevels}
 use Rattle.wavelet.specs.Questions.{ask, within}
@@ -18,7 +18,6 @@ use Rattle.writer.specs.declared.Writer.{Writer}
 use Rattle.writer.specs.Counts.{mostLeft, startOf}
 use Rattle.writer.specs.Questions.{either, inRanges, longEnough, offerQuestion, finishQuestion}
 use Rattle.writer.specs.Gate.{stateQuestion, openQuestion}
-use Rattle.writer.proofs.CountLaws.{prev-is}
 
 -- ---- two questions, and what follows them
 module _ (p q : ℕ) where
@@ -54,16 +53,6 @@ module _ (a k : ℕ) (t : Bool) where
 
   pub left-yes : (m : ℕ) (b : Bool) → k ≡ m → a ≤ k → b ≡ t → b ≡ both (leb a m) t
   left-yes m b e h f = f ∙ simp (le-leb a m (omega arith))
-
--- where a level's stretch begins, as `store_length` of the levels before it says it
-is-within : (m k : ℕ) → 0 < k → k ≤ m → within 1 m k ≡ true
-unfolding within
-is-within m k h g = simp (le-leb 1 k (omega arith), le-leb k m g)
-
-pub start-stored : (W v n : ℕ) → within 1 maxWidth W ≡ true → 1 < v → v ≤ maxLevels →
-    n ≡ pick (both (within 1 maxWidth W) (within 1 maxLevels (v - 1))) (storeLength W (v - 1)) 0 → startOf W v ≡ n
-start-stored W v n w h g f =
-    ap (storeLength W) (prev-is v) ∙ sym (f ∙ rw (w, is-within maxLevels (v - 1) (omega arith) (omega arith)) refl)
 
 -- ---- the most that a store needs, level by level
 one : (W : ℕ) → storeLength W 1 ≤ 4 * W

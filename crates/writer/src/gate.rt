@@ -4,33 +4,17 @@ use crate::counts;
 use wavelet::limits;
 use wavelet::store;
 ghost use mathlib.Core.Path.{_≡_};
-ghost use mathlib.Core.Bool.{true};
 ghost use Prim.Native.Nat.{_+_, _*_, _/_, _^_, _<_, _≤_};
 ghost use lib.Dec.{leb, eqb};
 ghost use Rattle.numbers.specs.Signal.{both};
 ghost use Rattle.wavelet.specs.Limits.{maxWidth, maxLevels};
-ghost use Rattle.wavelet.specs.Questions.{within};
 ghost use Rattle.writer.specs.Counts.{mostLeft, startOf};
 ghost use Rattle.writer.specs.Questions.{inRanges, setUpQuestion, offerQuestion, finishQuestion};
 ghost use Rattle.writer.specs.Gate.{stateQuestion, openQuestion};
 
-// Does the stretch of level v begin at place o? Levels 1 and 2 are asked for most, and there is nothing to add up.
-fn is_start(w: usize, v: usize, o: usize) -> bool
-    requires { ⌜ (within 1 maxWidth w ≡ true) × (v ≤ maxLevels) ⌝ }
-    ensures { λ r. ⌜ r ≡ eqb o (startOf w v) ⌝ }
-{
-    if v < 2 {
-        return o == 0;
-    }
-    if v == 2 {
-        return o == 4 * w;
-    }
-    o == store::store_length(w, v - 1)
-}
-
 // What waits: the bands that are left, and where its level's stretch begins; where nothing waits, as most often, neither is looked for.
 fn waits_in_range(s: Writer) -> bool
-    requires { ⌜ (within 1 maxWidth (s .width) ≡ true) × (s .levels ≤ maxLevels) × (s .level ≤ s .levels) ⌝ }
+    requires { ⌜ (s .width ≤ maxWidth) × (s .levels ≤ maxLevels) × (s .level ≤ s .levels) ⌝ }
     ensures { λ r. ⌜ r ≡ both (leb (s .left) (mostLeft (s .levels) (s .level))) (eqb (s .offset) (startOf (s .width) (s .level))) ⌝ }
 {
     if s.level == 0 {
@@ -42,7 +26,7 @@ fn waits_in_range(s: Writer) -> bool
     if counts::most(s.levels - s.level) < s.left {
         return false;
     }
-    is_start(s.width, s.level, s.offset)
+    s.offset == counts::start(s.width, s.level)
 }
 
 // Question 1: the counts' ranges.

@@ -134,7 +134,7 @@ impl Writer {
         }
         let mut s = self;
         let mut taken = 0;
-        let mut n = offers::next(s, run.len());
+        let mut n = offers::first(s, run.len());
         while 0 < n {
             s = offers::stretch(s, store, run, taken, n);
             taken += n;

@@ -3,7 +3,7 @@ use crate::Writer;
 use crate::cascade;
 use crate::counts;
 ghost use mathlib.Core.Path.{_≡_};
-ghost use Prim.Native.Nat.{_+_, _*_, _^_, _<_, _≤_};
+ghost use Prim.Native.Nat.{_+_, _-_, _*_, _^_, _<_, _≤_, min};
 ghost use lib.ListN.{length};
 ghost use Rattle.numbers.specs.Signal.{at};
 ghost use Rattle.wavelet.specs.Limits.{maxHeight};
@@ -48,6 +48,18 @@ fn fill(store: &mut [i32], w: usize, m: usize, column: usize, run: &[u16], from:
     }
 }
 
+// How many heights the first stretch of an offer has, of k: to the end of the row at most.
+pub fn first(s: Writer, k: usize) -> usize
+    requires { ⌜ s .column < s .width ⌝ }
+    ensures { λ r. ⌜ r ≡ min (s .width - s .column) k ⌝ }
+{
+    let n = s.width - s.column;
+    if n < k {
+        return n;
+    }
+    k
+}
+
 // How many heights the next stretch has, of k that are left.
 pub fn next(s: Writer, k: usize) -> usize
     requires { ⌜ s .column < s .width ⌝ }
@@ -62,11 +74,7 @@ pub fn next(s: Writer, k: usize) -> usize
     if Writer::MAX_HEIGHT <= s.rows {
         return 0;
     }
-    let n = s.width - s.column;
-    if n < k {
-        return n;
-    }
-    k
+    first(s, k)
 }
 
 // A stretch of n heights of a run, from height `from` on; where it completes the row, what that makes.

@@ -37,11 +37,19 @@ loop-again c =
           (c .before .before .made .ensures),
     )
 
-sub-t11 : tie.Need-sub-t11 Inv-loop μ-loop
-sub-t11 c = omega arith
+made-requires-2 : tie.Need-made-requires-2 Inv-loop μ-loop
+made-requires-2 c κs = tt
+
+prev-requires-2 : tie.Need-prev-requires-2 Inv-loop μ-loop
+prev-requires-2 c κs = tt
+
+sub-t12 : tie.Need-sub-t12 Inv-loop μ-loop
+sub-t12 c = omega arith
 
 returns : tie.Need-returns Inv-loop μ-loop
-returns c = let l = c .before .loop in walk-end _ _ _ _ _ _ _ _ _ (l .inv .0) (l .inv .1) (omega arith)
+returns c =
+    let l = c .before .before .before .loop in
+    walk-end _ _ _ _ _ _ _ _ _ (l .inv .0) (l .inv .1) _ _ (omega arith) (c .before .made2 .ensures) (c .prev2 .ensures)
 
 pub level-of-spec : {M : Type 1} → statement M
 level-of-spec =
@@ -56,5 +64,7 @@ level-of-spec =
     sub-k
     loop-less
     loop-again
-    sub-t11
+    made-requires-2
+    prev-requires-2
+    sub-t12
     returns)

@@ -4,21 +4,14 @@ use native.Mathlib.Omega.{arith}
 use borrow.Author.Needs.{needs}
 use Rattle.numbers.specs.Signal.{at}
 use Rattle.wavelet.proofs.StoreLaws.{store-le}
-use Rattle.writer.proofs.CountLaws.{prev-is, made-le}
 use Rattle.writer.proofs.RestLaws.{at-rest, at-join}
 use Rattle.writer.proofs.CascadeLaws.{left-small}
 use Rattle.writer.proofs.DrawLaws.{pull-waits, pull-goes}
 use Rattle.writer.proofs.draws.pull.Statement.{statement}
 use Rattle.writer.proofs.draws.pull.Tie as tie
 
-made-requires : tie.Need-made-requires
-made-requires c κs = tt
-
 prev-requires : tie.Need-prev-requires
 prev-requires c κs = tt
-
-prev-requires-2 : tie.Need-prev-requires-2
-prev-requires-2 c κs = tt
 
 next-band-requires : tie.Need-next-band-requires
 next-band-requires c κs = tt
@@ -26,10 +19,9 @@ next-band-requires c κs = tt
 returns : tie.Need-returns
 returns c =
     let b = c .before in
-    let d = b .before .before .before .before in
+    let d = b .before .before in
     let a = d .args in
-    pull-waits (a .s) (a .q) (d .pre .1) (d .pre .0 .placed) (at (a .store .now)) _ _ _ _
-    (b .before .before .before .made .ensures) (b .before .before .prev .ensures) (b .before .prev2 .ensures) (b .next-band .ensures) (omega arith)
+    pull-waits (a .s) (a .q) (d .pre .1) (d .pre .0 .placed) (at (a .store .now)) _ _ (b .before .prev .ensures) (b .next-band .ensures) (omega arith)
     (omega arith)
 
 mul-pass-on : tie.Need-mul-pass-on
@@ -47,9 +39,8 @@ part-pass-on-end c = search needs
 pass-on-requires : tie.Need-pass-on-requires
 pass-on-requires c κs =
     let b = c .before .before in
-    let d = b .before .before .before .before in
-    let q = d .args .q in
-    omega (arith, d .pre .1 .room, d .pre .1 .deep, d .pre .0 .placed, prev-is (b .before .before .before .made .result), made-le (q .closed) (q .rows))
+    let d = b .before .before in
+    omega (arith, d .pre .1 .room, d .pre .1 .deep, d .pre .1 .sets, d .pre .0 .placed)
 
 sub-deeper-by : tie.Need-sub-deeper-by
 sub-deeper-by c = search needs
@@ -60,7 +51,7 @@ deeper-by-requires c κs = search needs
 further-requires : tie.Need-further-requires
 further-requires c κs =
     let p = c .before .before .before in
-    let e = p .before .before .before .before .before .before .before in
+    let e = p .before .before .before .before .before in
     let q = e .args .q in
     let s = e .args .s in
     let d = e .pre .0 in
@@ -75,12 +66,11 @@ returns-2 : tie.Need-returns-2
 returns-2 c =
     let p = c .before .before .before .before in
     let b = p .before .before .before in
-    let d = b .before .before .before .before in
+    let d = b .before .before in
     let a = d .args in
     let l = a .store .now in
     let e = d .pre in
-    pull-goes (a .s) (a .q) (e .1) (e .0 .placed) (at l) _ _ _ _
-    (b .before .before .before .made .ensures) (b .before .before .prev .ensures) (b .before .prev2 .ensures) (b .next-band .ensures)
+    pull-goes (a .s) (a .q) (e .1) (e .0 .placed) (at l) _ _ (b .before .prev .ensures) (b .next-band .ensures)
     _ (at (p .pass-on .last .0)) _ _ _ (omega arith) (omega arith) (rw (at-rest (a .s .offset) l) at (p .pass-on .ensures))
     (at-join (a .s .offset) l (p .pass-on .last .0) (omega (arith, e .1 .room, e .0 .placed))) (c .before .deeper-by .ensures) (c .further .ensures)
 
@@ -88,9 +78,7 @@ pub pull-spec : {M : Type 1} → statement M
 pull-spec =
     tie.close
     (tie.spec
-    made-requires
     prev-requires
-    prev-requires-2
     next-band-requires
     returns
     mul-pass-on
