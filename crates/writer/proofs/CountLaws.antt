@@ -122,26 +122,11 @@ start-first w zero h = store-none w
 start-first w (suc zero) h = store-none w
 start-first w (suc (suc v)) h = absurd (omega arith)
 
-pub start-second : (w v : ℕ) → v ≡ 2 → 4 * w ≡ startOf w v
-start-second w v e = sym (ap (startOf w) e ∙ omega (arith, store-below w 0, store-none (count lo w)))
-
-module _ (w v h : ℕ) (eh : h ≡ count lo w) where
-  pub start-third : v ≡ 3 → 4 * (w + h) ≡ startOf w v
-  start-third e = let d = start-second h 2 refl in sym (ap (startOf w) e ∙ store-below w 1 ∙ rw (← eh) (omega arith))
-
-  module _ (q : ℕ) (eq : q ≡ count lo h) where
-    start-under : startOf h 3 ≡ 4 * (h + q)
-    start-under = let d = start-second q 2 refl in store-below h 1 ∙ rw (← eq) (omega arith)
-
-    pub start-fourth : v ≡ 4 → 4 * (w + h + q) ≡ startOf w v
-    start-fourth e = sym (ap (startOf w) e ∙ store-below w 2 ∙ rw (← eh) (omega (arith, start-under)))
-
-    pub start-fifth : (t : ℕ) → t ≡ count lo q → v ≡ 5 → 4 * (w + h + q + t) ≡ startOf w v
-    start-fifth t et e =
-        let d = start-second t 2 refl in
-        let a : startOf q 3 ≡ 4 * (q + t) = store-below q 1 ∙ rw (← et) (omega arith) in
-        let b : startOf h 4 ≡ 4 * (h + q + t) = store-below h 2 ∙ rw (← eq) (omega (arith, a)) in
-        sym (ap (startOf w) e ∙ store-below w 3 ∙ rw (← eh) (omega (arith, b)))
+-- one level deeper
+pub start-more : (w v : ℕ) → 1 < v → 4 * w + startOf (count lo w) (v - 1) ≡ startOf w v
+start-more w zero h = absurd (omega arith)
+start-more w (suc zero) h = absurd (omega arith)
+start-more w (suc (suc v)) h = let e : suc (suc v) - 1 ≡ suc v = omega arith in rw e (sym (store-below w v))
 
 -- seen from the level above
 pub start-deeper : (w v : ℕ) → startOf w (deeper v) ≡ further v (4 * w) (startOf (count lo w) v)

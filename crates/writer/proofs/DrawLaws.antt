@@ -21,7 +21,7 @@ use Rattle.writer.specs.Draws.{lower, rowOf, waiting, pull}
 use Rattle.writer.specs.Questions.{waitingRow}
 use Rattle.writer.specs.Calls.{pulled}
 use Rattle.writer.specs.Steps.{Walk, Left, Found, Reaches, waitingAt, pullAt, from, spotOf}
-use Rattle.writer.proofs.CountLaws.{slot-room, prev-is, made-le, start-first, start-deeper, further-none, further-some, deeper-by-same, deeper-by-more}
+use Rattle.writer.proofs.CountLaws.{slot-room, prev-is, made-le, start-first, start-more, start-deeper, further-none, further-some, deeper-by-same, deeper-by-more}
 use Rattle.writer.proofs.CountLaws.{deeper-by-none, deeper-by-some, deeper-by-le}
 use Rattle.writer.proofs.RestLaws.{rest-at, join-below, join-past}
 use Rattle.writer.proofs.CascadeLaws.{left-waits, left-same, left-under, settled-waits, settled-goes}
@@ -151,12 +151,6 @@ reaches-here l w c v m h e g g′ =
       sets = omega (arith, prev-is (made c m), made-le c m);
       deep = omega arith;
     }
-
--- one level deeper
-start-more : (w v : ℕ) → 1 < v → 4 * w + startOf (count lo w) (v - 1) ≡ startOf w v
-start-more w zero h = absurd (omega arith)
-start-more w (suc zero) h = absurd (omega arith)
-start-more w (suc (suc v)) h = let e : suc (suc v) - 1 ≡ suc v = omega arith in rw e (sym (store-below w v))
 
 -- the level before v
 prev-more : (v : ℕ) → 1 < v → suc (prev (v - 1)) ≡ prev v

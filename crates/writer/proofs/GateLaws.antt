@@ -1,10 +1,10 @@
 -- What the gate questions say. Assumes nothing.
 use mathlib.Core.Path.{_≡_, refl, sym, ap, _∙_}
 use mathlib.Core.Bool.{Bool, true, false, not}
-use Prim.Native.Nat.{ℕ, zero, suc, _+_, _*_, _/_, _≤_, _<_}
+use Prim.Native.Nat.{ℕ, zero, suc, _+_, _-_, _*_, _/_, _≤_, _<_}
 use native.Mathlib.Omega.{arith}
 use lib.Dec.{leb, ltb, eqb}
-use borrow.Author.Tests.{leb-true, ltb-true, le-leb, lt-leb, lt-ltb, le-ltb, eq-eqb, ne-eqb, eqb-true}
+use borrow.Author.Tests.{leb-true, ltb-true, le-leb, lt-leb, lt-ltb, le-ltb, eq-eqb, ne-eqb, eqb-true, eqb-false}
 use Rattle.numbers.specs.Signal.{both}
 use Rattle.numbers.proofs.Sweep as sweep
 use Rattle.wavelet.specs.Limits.{maxWidth, maxHeight, maxLevels}
@@ -18,6 +18,7 @@ use Rattle.writer.specs.declared.Writer.{Writer}
 use Rattle.writer.specs.Counts.{mostLeft, startOf}
 use Rattle.writer.specs.Questions.{either, inRanges, longEnough, offerQuestion, finishQuestion}
 use Rattle.writer.specs.Gate.{stateQuestion, openQuestion}
+use Rattle.writer.proofs.CountLaws.{start-first, start-more}
 
 -- ---- two questions, and what follows them
 module _ (p q : ℕ) where
@@ -53,6 +54,23 @@ module _ (a k : ℕ) (t : Bool) where
 
   pub left-yes : (m : ℕ) (b : Bool) → k ≡ m → a ≤ k → b ≡ t → b ≡ both (leb a m) t
   left-yes m b e h f = f ∙ simp (le-leb a m (omega arith))
+
+-- ---- where a level's stretch begins, the stretches before it taken off o
+pub begins-short : (w k o : ℕ) → 1 < k → o < 4 * w → false ≡ eqb o (startOf w k)
+begins-short w k o h g = sym (ne-eqb o (startOf w k) (λ e. absurd (omega (arith, start-more w k h))))
+
+pub begins-on : (w k o h : ℕ) → 1 < k → 4 * w ≤ o → h ≡ count lo w → eqb (o - 4 * w) (startOf h (k - 1)) ≡ eqb o (startOf w k)
+begins-on w k o h g f e = go (eqb o (startOf w k)) refl
+  where
+    more : 4 * w + startOf h (k - 1) ≡ startOf w k
+    more = rw e (start-more w k g)
+
+    go : (t : Bool) → eqb o (startOf w k) ≡ t → eqb (o - 4 * w) (startOf h (k - 1)) ≡ t
+    go true d = eq-eqb (o - 4 * w) (startOf h (k - 1)) (omega (arith, eqb-true o (startOf w k) d, more))
+    go false d = ne-eqb (o - 4 * w) (startOf h (k - 1)) (λ (z : o - 4 * w ≡ startOf h (k - 1)). eqb-false o (startOf w k) d (omega (arith, more)))
+
+pub begins-first : (w k o : ℕ) → k ≤ 1 → eqb o 0 ≡ eqb o (startOf w k)
+begins-first w k o h = ap (eqb o) (sym (start-first w k h))
 
 -- ---- the most that a store needs, level by level
 one : (W : ℕ) → storeLength W 1 ≤ 4 * W

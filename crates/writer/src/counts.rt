@@ -1,14 +1,13 @@
 // The numbers that the writer derives on its way down the levels. The module is private: only this crate, which meets what is required, can call it.
 use wavelet::sizes;
 ghost use mathlib.Core.Path.{_≡_};
-ghost use Prim.Native.Nat.{_<_, _≤_, _+_, _*_, _/_};
+ghost use Prim.Native.Nat.{_<_, _+_, _*_, _/_};
 ghost use lib.Dec.{ltb};
 ghost use Rattle.numbers.specs.Signal.{both};
 ghost use Rattle.lifting.specs.Line.{count};
-ghost use Rattle.wavelet.specs.Limits.{maxLevels};
 ghost use Rattle.wavelet.specs.Bands.{across, down, code};
 ghost use Rattle.wavelet.specs.Order.{hasRow};
-ghost use Rattle.writer.specs.Counts.{prev, deeper, deeperBy, further, made, most, bandAt, skip, startOf};
+ghost use Rattle.writer.specs.Counts.{prev, deeper, deeperBy, further, made, most, bandAt, skip};
 ghost use Rattle.writer.specs.FiveThreeLevel.{slot, cellOf, before};
 
 // One less, and 0 of 0.
@@ -40,28 +39,6 @@ pub fn further(v: usize, a: usize, o: usize) -> usize
     ensures { λ r. ⌜ r ≡ further v a o ⌝ }
 {
     if 0 < v { a + o } else { 0 }
-}
-
-// Where the stretch of level v begins. The sum is written out: as a loop it would keep more numbers than the short calls have registers for.
-pub fn start(w: usize, v: usize) -> usize
-    requires { ⌜ (w < 4294967296) × (v ≤ maxLevels) ⌝ }
-    ensures { λ r. ⌜ r ≡ startOf w v ⌝ }
-{
-    if v < 2 {
-        return 0;
-    }
-    if v == 2 {
-        return 4 * w;
-    }
-    let h = sizes::half(w);
-    if v == 3 {
-        return 4 * (w + h);
-    }
-    let q = sizes::half(h);
-    if v == 4 {
-        return 4 * (w + h + q);
-    }
-    4 * (w + h + q + sizes::half(q))
 }
 
 // How many sets a level has made that has received m rows; c = 0: and is not closed.

@@ -74,7 +74,11 @@ pub fn next(s: Writer, k: usize) -> usize
     if Writer::MAX_HEIGHT <= s.rows {
         return 0;
     }
-    first(s, k)
+    let n = s.width - s.column;
+    if n < k {
+        return n;
+    }
+    k
 }
 
 // A stretch of n heights of a run, from height `from` on; where it completes the row, what that makes.

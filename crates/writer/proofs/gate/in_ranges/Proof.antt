@@ -77,12 +77,11 @@ returns-6 c = simp (
 )
 
 waits-in-range-requires : tie.Need-waits-in-range-requires
-unfolding maxWidth maxLevels
+unfolding maxWidth
 waits-in-range-requires c κs =
-    let d = c .before .before .before .before .before .before .before .before in
-    let l = within-true 1 maxLevels _ (sym (d .before .is-within2 .ensures) ∙ not-false _ (d .if2 .left)) in
-    let w = within-true 1 maxWidth _ (sym (d .before .before .before .is-within .ensures) ∙ not-false _ (d .before .before .if1 .left)) in
-    (w .1, l .1, omega arith)
+    let d = c .before .before .before .before .before .before .before .before .before .before in
+    let w = within-true 1 maxWidth _ (sym (d .before .is-within .ensures) ∙ not-false _ (d .if1 .left)) in
+    (omega arith, omega arith)
 
 returns-7 : tie.Need-returns-7
 unfolding maxWidth maxHeight maxLevels

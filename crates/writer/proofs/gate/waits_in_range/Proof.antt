@@ -2,7 +2,6 @@
 use mathlib.Core.Path.{sym, ap, _∙_}
 use lib.Dec.{eqb}
 use native.Mathlib.Omega.{arith}
-use Rattle.wavelet.proofs.LimitLaws.{width-small}
 use Rattle.writer.proofs.CountLaws.{left-none, left-some, start-first}
 use Rattle.writer.proofs.GateLaws.{left-no, left-yes}
 use Rattle.writer.proofs.gate.waits_in_range.Statement.{statement}
@@ -28,14 +27,13 @@ returns-3 c =
     let s = c .before .before .before .before .before .before .args .s in
     left-no (s .left) _ _ _ (c .before .before .most .ensures ∙ left-some (s .levels) (s .level) (omega arith)) (omega arith)
 
-start-requires : tie.Need-start-requires
-start-requires c κs = let d = c .before .before .before .before .before .before .pre in (omega (arith, d .0, width-small), omega arith)
+begins-requires : tie.Need-begins-requires
+begins-requires c κs = (c .before .before .before .before .before .before .pre .0, omega arith)
 
 returns-4 : tie.Need-returns-4
 returns-4 c =
-    let s = c .before .before .before .before .before .before .before .before .args .s in
-    left-yes (s .left) _ _ _ _ (c .before .before .before .before .most .ensures ∙ left-some (s .levels) (s .level) (omega arith)) (omega arith)
-    (ap (eqb (s .offset)) (c .before .start .ensures))
+    let s = c .before .before .before .before .before .before .before .args .s in
+    left-yes (s .left) _ _ _ _ (c .before .before .before .most .ensures ∙ left-some (s .levels) (s .level) (omega arith)) (omega arith) (c .begins .ensures)
 
 pub waits-in-range-spec : {M : Type 1} → statement M
-waits-in-range-spec = tie.close (tie.spec returns returns-2 sub-most most-requires returns-3 start-requires returns-4)
+waits-in-range-spec = tie.close (tie.spec returns returns-2 sub-most most-requires returns-3 begins-requires returns-4)

@@ -16,14 +16,20 @@ returns-3 : tie.Need-returns-3
 unfolding maxHeight
 returns-3 c = let a = c .before .before .before .before .before .args in next-none (a .s) (a .k) (takes-full (a .s) (omega arith))
 
-first-requires : tie.Need-first-requires
-first-requires c κs = omega arith
+sub-n : tie.Need-sub-n
+sub-n c = omega arith
 
 returns-4 : tie.Need-returns-4
 unfolding maxHeight
 returns-4 c =
-    let a = c .before .before .before .before .before .before .args in
-    next-some (a .s) (a .k) _ (takes-yes (a .s) (omega arith) (omega arith)) (c .first .ensures)
+    let a = c .before .before .before .before .before .before .before .args in
+    next-some (a .s) (a .k) _ (takes-yes (a .s) (omega arith) (omega arith)) (omega arith)
+
+returns-5 : tie.Need-returns-5
+unfolding maxHeight
+returns-5 c =
+    let a = c .before .before .before .before .before .before .before .args in
+    next-some (a .s) (a .k) _ (takes-yes (a .s) (omega arith) (omega arith)) (omega arith)
 
 pub next-spec : {M : Type 1} → statement M
-next-spec = tie.close (tie.spec returns returns-2 returns-3 first-requires returns-4)
+next-spec = tie.close (tie.spec returns returns-2 returns-3 sub-n returns-4 returns-5)
