@@ -21,7 +21,8 @@ use Rattle.writer.specs.Draws.{lower, rowOf, waiting, pull}
 use Rattle.writer.specs.Questions.{waitingRow}
 use Rattle.writer.specs.Calls.{pulled}
 use Rattle.writer.specs.Steps.{Walk, Left, Found, Reaches, waitingAt, pullAt, from, spotOf}
-use Rattle.writer.proofs.CountLaws.{slot-room, prev-is, made-le, start-first, start-more, start-deeper, further-none, further-some, deeper-by-same, deeper-by-more}
+use Rattle.writer.proofs.CountLaws.{slot-room, prev-is, made-le, start-first, start-more, start-deeper, further-none, further-some}
+use Rattle.writer.proofs.CountLaws.{deeper-by-same, deeper-by-more}
 use Rattle.writer.proofs.CountLaws.{deeper-by-none, deeper-by-some, deeper-by-le}
 use Rattle.writer.proofs.RestLaws.{rest-at, join-below, join-past}
 use Rattle.writer.proofs.CascadeLaws.{left-waits, left-same, left-under, settled-waits, settled-goes}
@@ -137,7 +138,8 @@ starts-here w v (suc u) e =
     let q : startOf w (suc u) ≡ startOf w v + startOf w (suc u) = omega (arith, z) in
     ap (λ (k : ℕ). startOf w (deeperBy k (suc u))) k ∙ ap (startOf w) (deeper-by-same (suc u)) ∙ q ∙ further-some (suc u) (startOf w v) _ (omega arith)
 
-pub reaches-here : (l w c v m : ℕ) → 0 < l → v ≡ 1 → w < 2 ^ 16 → m < 2 ^ 32 → Reaches l w c v m (record { below = l - 1; width = w; rows = m; set = prev (made c m) })
+pub reaches-here : (l w c v m : ℕ) → 0 < l → v ≡ 1 → w < 2 ^ 16 → m < 2 ^ 32 →
+    Reaches l w c v m (record { below = l - 1; width = w; rows = m; set = prev (made c m) })
 reaches-here l w c v m h e g g′ =
     let z = start-first w v (omega arith) in
     let k : l - 1 + 1 ≡ l = omega arith in

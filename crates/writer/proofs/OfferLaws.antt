@@ -91,13 +91,16 @@ module _ (s : Writer) where
   -- the first of an offer that passed the questions
   pub next-first : (l k n : ℕ) → offerQuestion s l k ≡ 0 → n ≡ min (s .width - s .column) k → n ≡ nextCount s k
   unfolding offerQuestion
-  next-first l k n q e = go (ltb (s .rows) maxHeight) refl (passed (eqb (s .level) 0) _ _ (passed (not (s .finished)) _ _ (passed (longEnough l s) _ _ (passed (inRanges s) _ _ q .1) .1) .1))
+  next-first l k n q e =
+      let stored = passed (longEnough l s) _ _ (passed (inRanges s) _ _ q .1) in
+      go (ltb (s .rows) maxHeight) refl (passed (eqb (s .level) 0) _ _ (passed (not (s .finished)) _ _ (stored .1) .1))
     where
       passed : (a : Bool) (p x : ℕ) → ask a (suc p) x ≡ 0 → (a ≡ true) × (x ≡ 0)
       passed true p x h = (refl, h)
       passed false p x h = absurd (omega arith)
 
-      go : (t : Bool) → ltb (s .rows) maxHeight ≡ t → (eqb (s .level) 0 ≡ true) × (ask (either (eqb k 0) (ltb (s .rows) maxHeight)) 10 0 ≡ 0) → n ≡ nextCount s k
+      go : (t : Bool) → ltb (s .rows) maxHeight ≡ t → (eqb (s .level) 0 ≡ true) × (ask (either (eqb k 0) (ltb (s .rows) maxHeight)) 10 0 ≡ 0) →
+          n ≡ nextCount s k
       go true f h = next-some k n (takes-yes (eqb-true _ _ (h .0)) (ltb-true _ _ f)) e
       go false f h =
           let z : k ≡ 0 = empty (eqb k 0) refl (rw f at (h .1)) in

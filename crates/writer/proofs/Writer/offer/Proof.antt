@@ -52,7 +52,9 @@ loop-less : tie.Need-loop-less Inv-loop μ-loop
 loop-less c = let o = offer-ready _ _ _ _ _ _ _ (c .before .before .before .before .before .loop .inv) (c .before .before .before .before .loop-test .taken) in omega (arith, o .heights)
 
 loop-again : tie.Need-loop-again Inv-loop μ-loop
-loop-again c = offer-turn _ _ _ _ _ _ _ _ _ _ (c .before .before .before .before .before .loop .inv) (c .before .before .before .before .loop-test .taken) (c .before .before .stretch .ensures) (omega arith) (c .next .ensures)
+loop-again c =
+    let t = c .before .before .before .before in
+    offer-turn _ _ _ _ _ _ _ _ _ _ (t .before .loop .inv) (t .loop-test .taken) (c .before .before .stretch .ensures) (omega arith) (c .next .ensures)
 
 same-length : tie.Need-same-length Inv-loop μ-loop
 same-length c = c .before .loop .inv .size
