@@ -1,16 +1,22 @@
 -- The laws of the derived numbers, as the code's branches meet them. Assumes nothing.
 use mathlib.Core.Path.{_≡_, refl, sym, ap, _∙_}
-use mathlib.Core.Bool.{true, false}
-use Prim.Native.Nat.{ℕ, zero, suc, _+_, _-_, _*_, _/_, _<_, _≤_, min}
+use mathlib.Core.Bool.{true, false, Bool}
+use Prim.Native.Nat.{ℕ, zero, suc, _+_, _-_, _*_, _/_, _<_, _≤_, min, _%_}
 use native.Mathlib.Decide.{decLt}
 use native.Mathlib.Omega.{arith}
 use Rattle.lifting.specs.Line.{lo, count}
-use Rattle.wavelet.specs.Bands.{Band, LL, HL, LH, HH, code}
+use Rattle.wavelet.specs.Bands.{Band, LL, HL, LH, HH, code, across, down}
 use Rattle.wavelet.specs.Order.{hasRow}
 use Rattle.wavelet.proofs.StoreLaws.{store-none, store-below, store-le}
 use Rattle.level.specs.Level.{prev}
 use Rattle.level.proofs.Places.{prev-is}
 use Rattle.writer.specs.Counts.{deeper, deeperBy, further, made, most, mostLeft, bandAt, skip, startOf}
+use native.Mathlib.Nat.{mul-le-mul-right}
+use lib.Dec.{ltb}
+use borrow.Author.Tests.{lt-ltb, ltb-true}
+use Rattle.numbers.specs.Signal.{both}
+use Rattle.numbers.proofs.Sweep as sweep
+use Rattle.writer.specs.FiveThreeLevel.{slot, before}
 
 pub deeper-none : (v : ℕ) → v ≡ 0 → 0 ≡ deeper v
 unfolding deeper
@@ -114,6 +120,12 @@ start-first w zero h = store-none w
 start-first w (suc zero) h = store-none w
 start-first w (suc (suc v)) h = absurd (omega arith)
 
+-- one level deeper
+pub start-more : (w v : ℕ) → 1 < v → 4 * w + startOf (count lo w) (v - 1) ≡ startOf w v
+start-more w zero h = absurd (omega arith)
+start-more w (suc zero) h = absurd (omega arith)
+start-more w (suc (suc v)) h = let e : suc (suc v) - 1 ≡ suc v = omega arith in rw e (sym (store-below w v))
+
 -- seen from the level above
 pub start-deeper : (w v : ℕ) → startOf w (deeper v) ≡ further v (4 * w) (startOf (count lo w) v)
 unfolding deeper further
@@ -169,6 +181,21 @@ module _ (w m n : ℕ) where
   unfolding skip
   skip-go zero h e = absurd (omega arith)
   skip-go (suc k) h e = let q : suc k - 1 ≡ k = omega arith in rw q (simp (rw q at e))
+
+  -- where every band has the row, none is passed over
+  band-has : 1 < w → n < m / 2 → (b : Band) → hasRow w m b n ≡ true
+  unfolding hasRow across down count
+  band-has h g LL = simp (lt-ltb 0 ((w + 1) / 2) (omega arith), lt-ltb n ((m + 1) / 2) (omega arith))
+  band-has h g HL = simp (lt-ltb 0 (w / 2) (omega arith), lt-ltb n ((m + 1) / 2) (omega arith))
+  band-has h g LH = simp (lt-ltb 0 ((w + 1) / 2) (omega arith), lt-ltb n (m / 2) (omega arith))
+  band-has h g HH = simp (lt-ltb 0 (w / 2) (omega arith), lt-ltb n (m / 2) (omega arith))
+
+  pub skip-all : (t : Bool) → t ≡ both (ltb 1 w) (ltb n (m / 2)) → t ≡ true → (i : ℕ) → i ≡ skip w m n i
+  unfolding skip
+  skip-all t e h zero = refl
+  skip-all t e h (suc i) =
+      let p = sweep.both (ltb 1 w) (ltb n (m / 2)) (sym e ∙ h) in
+      simp (band-has (ltb-true 1 w (p .0)) (ltb-true n (m / 2) (p .1)) (bandAt i))
 
   pub skip-none : 0 ≡ skip w m n 0
   unfolding skip

@@ -21,9 +21,11 @@ use Rattle.writer.specs.Machine.{Out, under, settled, passOn}
 use Rattle.writer.specs.Draws.{lower, rowOf, waiting, pull}
 use Rattle.writer.specs.Questions.{waitingRow}
 use Rattle.writer.specs.Calls.{pulled}
-use Rattle.writer.specs.Steps.{Left, Found, Reaches, waitingAt, pullAt, from, lastSetOf, spotOf}
-use Rattle.writer.proofs.CountLaws.{start-first, start-deeper, further-none, further-some, deeper-by-same, deeper-by-more, deeper-by-none, deeper-by-some, deeper-by-le}
+use Rattle.writer.specs.Steps.{Left, Found, Reaches, waitingAt, pullAt, from, lastSetOf, spotOf, Walk}
+use Rattle.writer.proofs.CountLaws.{start-first, start-deeper, further-none, further-some, deeper-by-same, deeper-by-more, deeper-by-none}
+use Rattle.writer.proofs.CountLaws.{deeper-by-some, deeper-by-le, made-le, start-more}
 use Rattle.writer.proofs.CascadeLaws.{left-waits, left-same, left-under, settled-waits, settled-goes}
+use Rattle.wavelet.proofs.SizeLaws.{count-lo}
 
 -- a band row lies within its level's stretch
 pub place-room : (w n : ℕ) (b : Band) → bandPlace w n b + count (across b) w ≤ 4 * w
@@ -113,13 +115,16 @@ from-first : (x : Memory) (o : Out) → from 0 0 x o ≡ o
 from-first x o = rw (join-first x (o .store), deeper-by-same (o .level)) refl
 
 module _ (w c m l v a i : ℕ) (e : v ≡ 1) (z : a ≡ 0) where
-  at-first : waitingAt v a (record { below = l; width = w; closed = c; rows = m }) i ≡ rowOf fiveThree w (prev (made c m)) (bandAt (prev i))
+  abbrev first : Level
+  first = record { below = l; width = w; rows = m; set = prev (made c m) }
+
+  at-first : waitingAt v a first i ≡ rowOf fiveThree w (prev (made c m)) (bandAt (prev i))
   unfolding waitingAt
   at-first =
       let k : 0 + bandPlace w (prev (made c m)) (bandAt (prev i)) ≡ bandPlace w (prev (made c m)) (bandAt (prev i)) = omega arith in
       rw (z, e, k) refl
 
-  pull-first : (x : Memory) → pullAt v a (record { below = l; width = w; closed = c; rows = m }) i x ≡ settled (passOn fiveThree l w)
+  pull-first : (x : Memory) → pullAt v a first i x ≡ settled (passOn fiveThree l w)
       (prev (made c m)) x (skip w m (prev (made c m)) (prev i))
   unfolding pullAt
   pull-first x = rw (z, e, rest-first x) (from-first x _)
@@ -133,7 +138,8 @@ starts-here w v (suc u) e =
     let q : startOf w (suc u) ≡ startOf w v + startOf w (suc u) = omega (arith, z) in
     ap (λ (k : ℕ). startOf w (deeperBy k (suc u))) k ∙ ap (startOf w) (deeper-by-same (suc u)) ∙ q ∙ further-some (suc u) (startOf w v) _ (omega arith)
 
-pub reaches-here : (l w c v m : ℕ) → 0 < l → v ≡ 1 → w < 2 ^ 16 → m < 2 ^ 32 → Reaches l w c v m (record { below = l - 1; width = w; closed = c; rows = m })
+pub reaches-here : (l w c v m : ℕ) → 0 < l → v ≡ 1 → w < 2 ^ 16 → m < 2 ^ 32 →
+    Reaches l w c v m (record { below = l - 1; width = w; rows = m; set = prev (made c m) })
 reaches-here l w c v m h e g g′ =
     let z = start-first w v (omega arith) in
     let k : l - 1 + 1 ≡ l = omega arith in
@@ -144,14 +150,9 @@ reaches-here l w c v m h e g g′ =
       room = rw (z, k) (omega arith);
       wide = g;
       rows = g′;
+      sets = omega (arith, prev-is (made c m), made-le c m);
       deep = omega arith;
     }
-
--- one level deeper
-start-more : (w v : ℕ) → 1 < v → 4 * w + startOf (count lo w) (v - 1) ≡ startOf w v
-start-more w zero h = absurd (omega arith)
-start-more w (suc zero) h = absurd (omega arith)
-start-more w (suc (suc v)) h = let e : suc (suc v) - 1 ≡ suc v = omega arith in rw e (sym (store-below w v))
 
 -- the level before v
 prev-more : (v : ℕ) → 1 < v → suc (prev (v - 1)) ≡ prev v
@@ -165,7 +166,7 @@ module _ (w v : ℕ) (r : Level) (i : ℕ) (g : 1 < v) where
   unfolding waitingAt
   at-below =
       let a = startOf (count lo w) (v - 1) in
-      let d = bandPlace (r .width) (lastSetOf r) (bandAt (prev i)) in
+      let d = bandPlace (r .width) (r .set) (bandAt (prev i)) in
       let e : suc (v - 1) ≡ v = omega arith in
       let q : 4 * w + (a + d) ≡ startOf w v + d = omega (arith, start-more w v g) in
       rw (e, q) refl
@@ -205,49 +206,88 @@ reaches-below l w c v m h p k r g g′ eh ep ek f =
       room = omega (arith, below .room, start-more w v g, store-back w l (omega arith));
       wide = f .wide;
       rows = f .rows;
+      sets = f .sets;
       deep = omega (arith, f .deep);
     }
 
+-- the way down from the first of l levels to level v has come to level k, of u columns and n rows, b of them closed: what is found from there is what
+-- is found from the first
+module _ (l w c v m : ℕ) where
+  pub record Walked (u b n k : ℕ) : Type 0 where
+    pub first : 0 < k
+    pub last : k ≤ v
+    pub wide : u < 2 ^ 16
+    pub rows : n < 2 ^ 32
+    pub found : (r : Level) → Reaches (l - (v - k)) u b k n r → Reaches l w c v m r
+
+  pub walk-start : Walk l w v m → Walked w c m v
+  walk-start h =
+      let e : l - (v - v) ≡ l = omega arith in
+      record { first = h .first; last = omega arith; wide = h .wide; rows = h .rows; found = λ r f. rw e at f }
+
+  module _ (u b n k : ℕ) (d : v ≤ l) (h : Walked u b n k) where
+    pub walk-on : (u′ b′ n′ : ℕ) → 1 < k → u′ ≡ count lo u → b′ ≡ prev b → n′ ≡ made b n → Walked u′ b′ n′ (k - 1)
+    walk-on u′ b′ n′ g eu eb en =
+        let below : (r : Level) → Reaches (l - (v - (k - 1))) u′ b′ (k - 1) n′ r → Reaches l w c v m r =
+        λ r f.
+        let e : l - (v - (k - 1)) ≡ l - (v - k) - 1 = omega (arith, h .last) in
+        h .found r (reaches-below (l - (v - k)) u b k n u′ b′ n′ r g (omega (arith, h .last)) eu eb en (rw e at f)) in
+        record {
+          first = omega arith;
+          last = omega (arith, h .last);
+          wide = omega (arith, h .wide, count-lo u);
+          rows = omega (arith, h .rows, made-le b n);
+          found = below;
+        }
+
+    pub walk-end : (i j : ℕ) → k ≤ 1 → i ≡ made b n → j ≡ prev i → Reaches l w c v m (record { below = l - v; width = u; rows = n; set = j })
+    walk-end i j g ei ej =
+        let e : l - (v - k) - 1 ≡ l - v = omega (arith, h .first, h .last) in
+        let t : prev (made b n) ≡ j = sym (ej ∙ ap prev ei) in
+        let f : Reaches (l - (v - k)) u b k n (record { below = l - (v - k) - 1; width = u; rows = n; set = prev (made b n) }) =
+        reaches-here (l - (v - k)) u b k n (omega (arith, h .first, h .last)) (omega (arith, h .first)) (h .wide) (h .rows) in
+        h .found _ (rw (e, t) at f)
+
 -- ---- the row that waits, and what the draw of it leaves
 module _ (v a : ℕ) (r : Level) (i : ℕ) where
-  at-is : (k n j b d p : ℕ) → k ≡ made (r .closed) (r .rows) → n ≡ prev k → j ≡ prev i → b ≡ code (bandAt j) → d ≡ count (across (bandAt j)) (r .width) →
-      p ≡ bandPlace (r .width) n (bandAt j) → record { level = v; band = b; row = n; length = d; start = a + p } ≡ spotOf (waitingAt v a r i)
+  at-is : (j b d p : ℕ) → j ≡ prev i → b ≡ code (bandAt j) → d ≡ count (across (bandAt j)) (r .width) → p ≡ bandPlace (r .width) (r .set) (bandAt j) →
+      record { level = v; band = b; row = r .set; length = d; start = a + p } ≡ spotOf (waitingAt v a r i)
   unfolding waitingAt
-  at-is k n j b d p ek en ej eb ed ep = cc
+  at-is j b d p ej eb ed ep = cc
 
-  pull-is : (x : Memory) (k n p j : ℕ) → k ≡ made (r .closed) (r .rows) → n ≡ prev k → p ≡ prev i → j ≡ skip (r .width) (r .rows) n p →
-      pullAt v a r i x ≡ from (prev v) a x (settled (passOn fiveThree (r .below) (r .width)) n (rest a x) j)
+  pull-is : (x : Memory) (p j : ℕ) → p ≡ prev i → j ≡ skip (r .width) (r .rows) (r .set) p →
+      pullAt v a r i x ≡ from (prev v) a x (settled (passOn fiveThree (r .below) (r .width)) (r .set) (rest a x) j)
   unfolding pullAt
-  pull-is x k n p j ek en ep ej = cc
+  pull-is x p j ep ej = cc
 
 module _ (s : Writer) (r : Level) (f : Reaches (s .levels) (s .width) (s .closed) (s .level) (s .rows) r) (placed : s .offset ≡ startOf (s .width)
     (s .level)) where
   row-is : waitingRow s ≡ waitingAt (s .level) (s .offset) r (s .left)
   row-is = f .waits (s .left) ∙ ap (λ (a : ℕ). waitingAt (s .level) a r (s .left)) (sym placed)
 
-  pub found : (k n i b d p : ℕ) → 0 < s .level → k ≡ made (r .closed) (r .rows) → n ≡ prev k → i ≡ prev (s .left) → b ≡ code (bandAt i) →
-      d ≡ count (across (bandAt i)) (r .width) →
-      p ≡ bandPlace (r .width) n (bandAt i) → Found (s .levels) (s .width) (waitingRow s)
-      (record { level = s .level; band = b; row = n; length = d; start = s .offset + p })
-  found k n i b d p h ek en ei eb ed ep =
-      let q = place-room (r .width) n (bandAt i) in
+  pub found : (i b d p : ℕ) → 0 < s .level → i ≡ prev (s .left) → b ≡ code (bandAt i) → d ≡ count (across (bandAt i)) (r .width) →
+      p ≡ bandPlace (r .width) (r .set) (bandAt i) → Found (s .levels) (s .width) (waitingRow s)
+      (record { level = s .level; band = b; row = r .set; length = d; start = s .offset + p })
+  found i b d p h ei eb ed ep =
+      let q = place-room (r .width) (r .set) (bandAt i) in
       let g = store-next (r .width) (r .below) in
       record {
-        spot = at-is (s .level) (s .offset) r (s .left) k n i b d p ek en ei eb ed ep ∙ ap spotOf (sym row-is);
+        spot = at-is (s .level) (s .offset) r (s .left) i b d p ei eb ed ep ∙ ap spotOf (sym row-is);
         room = omega (arith, placed, f .room);
         within = omega (arith, f .deep);
       }
 
-  module _ (x : Memory) (k n p i : ℕ) (ek : k ≡ made (r .closed) (r .rows)) (en : n ≡ prev k) (ep : p ≡ prev (s .left)) (ei : i ≡ skip (r .width)
-      (r .rows) n p) where
-    draw-is : pulled s x ≡ from (prev (s .level)) (s .offset) x (settled (passOn fiveThree (r .below) (r .width)) n (rest (s .offset) x) i)
-    draw-is = f .pulls (s .left) x ∙ ap (λ (a : ℕ). pullAt (s .level) a r (s .left) x) (sym placed) ∙ pull-is (s .level) (s .offset) r
-        (s .left) x k n p i ek en ep ei
+  module _ (x : Memory) (p i : ℕ) (ep : p ≡ prev (s .left)) (ei : i ≡ skip (r .width) (r .rows) (r .set) p) where
+    draw-is : pulled s x ≡ from (prev (s .level)) (s .offset) x (settled (passOn fiveThree (r .below) (r .width)) (r .set) (rest (s .offset) x) i)
+    draw-is =
+        f .pulls (s .left) x
+        ∙ ap (λ (a : ℕ). pullAt (s .level) a r (s .left) x) (sym placed)
+        ∙ pull-is (s .level) (s .offset) r (s .left) x p i ep ei
 
     -- the next band of the set waits
     pub pull-waits : 0 < s .level → 0 < i → Left (s .levels) (s .width) (pulled s x) (record { level = s .level; left = i; offset = s .offset }) x
     pull-waits h g =
-        let q = settled-waits (passOn fiveThree (r .below) (r .width)) n i (rest (s .offset) x) g in
+        let q = settled-waits (passOn fiveThree (r .below) (r .width)) (r .set) i (rest (s .offset) x) g in
         let v : 1 + prev (s .level) ≡ s .level = omega (arith, prev-is (s .level)) in
         let d : deeperBy (prev (s .level)) 1 ≡ s .level = sym (deeper-by-some (prev (s .level)) 1 (omega arith)) ∙ v in
         left-same (s .levels) (s .width) _ _ _ x (draw-is ∙ ap (from (prev (s .level)) (s .offset) x) q)
@@ -262,13 +302,13 @@ module _ (s : Writer) (r : Level) (f : Reaches (s .levels) (s .width) (s .closed
 
     -- its LL row goes on
     pub pull-goes : (o : Wait) (t z : Memory) (d b : ℕ) → 0 < s .level → i ≡ 0 →
-        Left (r .below + 1) (r .width) (passOn fiveThree (r .below) (r .width) n (rest (s .offset) x)) o t →
+        Left (r .below + 1) (r .width) (passOn fiveThree (r .below) (r .width) (r .set) (rest (s .offset) x)) o t →
         z ≡ joinAt (s .offset) x t → d ≡ deeperBy (s .level - 1) (o .level) → b ≡ further (o .level) (s .offset) (o .offset) →
         Left (s .levels) (s .width) (pulled s x) (record { level = d; left = o .left; offset = b }) z
     pull-goes o t z d b h g a ez ed eb =
-        let q = settled-goes (passOn fiveThree (r .below) (r .width)) n i (rest (s .offset) x) g in
+        let q = settled-goes (passOn fiveThree (r .below) (r .width)) (r .set) i (rest (s .offset) x) g in
         let k : s .level - 1 ≡ prev (s .level) = omega (arith, prev-is (s .level)) in
-        let u : Out = passOn fiveThree (r .below) (r .width) n (rest (s .offset) x) in
+        let u : Out = passOn fiveThree (r .below) (r .width) (r .set) (rest (s .offset) x) in
         left-same (s .levels) (s .width) _ _ _ z (draw-is ∙ ap (from (prev (s .level)) (s .offset) x) q)
         (record {
           level = ed ∙ ap (λ (k : ℕ). deeperBy k (o .level)) k ∙ ap (deeperBy (prev (s .level))) (a .level);

@@ -1,10 +1,10 @@
 -- What the gate questions say. Assumes nothing.
 use mathlib.Core.Path.{_≡_, refl, sym, ap, _∙_}
 use mathlib.Core.Bool.{Bool, true, false, not}
-use Prim.Native.Nat.{ℕ, zero, suc, _+_, _*_, _/_, _≤_, _<_}
+use Prim.Native.Nat.{ℕ, zero, suc, _+_, _*_, _/_, _≤_, _<_, _-_}
 use native.Mathlib.Omega.{arith}
 use lib.Dec.{leb, ltb, eqb}
-use borrow.Author.Tests.{leb-true, ltb-true, le-leb, lt-leb, lt-ltb, le-ltb, eq-eqb, ne-eqb, eqb-true}
+use borrow.Author.Tests.{leb-true, ltb-true, le-leb, lt-leb, lt-ltb, le-ltb, eq-eqb, ne-eqb, eqb-true, eqb-false}
 use Rattle.numbers.specs.Signal.{pick, both}
 use Rattle.numbers.proofs.Sweep as sweep
 use Rattle.wavelet.specs.Limits.{maxWidth, maxHeight, maxLevels}
@@ -20,6 +20,7 @@ use Rattle.writer.specs.declared.Writer.{Writer}
 use Rattle.writer.specs.Counts.{mostLeft, startOf}
 use Rattle.writer.specs.Questions.{either, inRanges, longEnough, offerQuestion, finishQuestion}
 use Rattle.writer.specs.Gate.{stateQuestion, openQuestion}
+use Rattle.writer.proofs.CountLaws.{start-first, start-more}
 
 -- ---- two questions, and what follows them
 module _ (p q : ℕ) where
@@ -41,28 +42,37 @@ module _ (p q : ℕ) where
   asked-all true false h = absurd (omega arith)
   asked-all false b h = absurd (omega arith)
 
--- ---- question 1, the tests but the last passed
+-- ---- question 1, the tests of sizes and counts passed: what waits is left
 pub ranges-last : (s : Writer) → within 1 maxWidth (s .width) ≡ true → within 1 maxLevels (s .levels) ≡ true → s .rows ≤ maxHeight → s .column < s .width →
-    s .closed ≤ s .levels → s .level ≤ s .levels → s .left ≤ mostLeft (s .levels) (s .level) → (b : Bool) → eqb (s .offset)
-    (startOf (s .width) (s .level)) ≡ b → b ≡ inRanges s
+    s .closed ≤ s .levels → s .level ≤ s .levels → (b : Bool) → b ≡ both (leb (s .left) (mostLeft (s .levels) (s .level)))
+    (eqb (s .offset) (startOf (s .width) (s .level))) → b ≡ inRanges s
 unfolding inRanges
-ranges-last s a b d e f g h t is = simp (a, b, le-leb _ _ d, lt-ltb _ _ e, le-leb _ _ f, le-leb _ _ g, le-leb _ _ h) (sym is)
+ranges-last s a b d e f g t is = is ∙ simp (a, b, le-leb _ _ d, lt-ltb _ _ e, le-leb _ _ f, le-leb _ _ g)
 
--- where a level's stretch begins, as `store_length` of the levels before it says it
-not-within : (m : ℕ) → within 1 m 0 ≡ false
-unfolding within
-not-within m = simp (lt-leb 1 0 (omega arith))
+-- what waits: too many bands left, or a number of them that can be; k is how many can
+module _ (a k : ℕ) (t : Bool) where
+  pub left-no : (m : ℕ) → k ≡ m → k < a → false ≡ both (leb a m) t
+  left-no m e h = simp (lt-leb a m (omega arith))
 
-is-within : (m k : ℕ) → 0 < k → k ≤ m → within 1 m k ≡ true
-unfolding within
-is-within m k h g = simp (le-leb 1 k (omega arith), le-leb k m g)
+  pub left-yes : (m : ℕ) (b : Bool) → k ≡ m → a ≤ k → b ≡ t → b ≡ both (leb a m) t
+  left-yes m b e h f = f ∙ simp (le-leb a m (omega arith))
 
-pub start-stored : (W L v k n : ℕ) → within 1 maxWidth W ≡ true → within 1 maxLevels L ≡ true → v ≤ L → k ≡ prev v →
-    n ≡ pick (both (within 1 maxWidth W) (within 1 maxLevels k)) (storeLength W k) 0 → startOf W v ≡ n
-start-stored W L v zero n w l h e f = ap (storeLength W) (sym e) ∙ store-none W ∙ sym (f ∙ rw (w, not-within maxLevels) refl)
-start-stored W L v (suc k) n w l h e f =
-    let d = within-true 1 maxLevels L l in
-    ap (storeLength W) (sym e) ∙ sym (f ∙ rw (w, is-within maxLevels (suc k) (omega arith) (omega (arith, prev-is v))) refl)
+-- ---- where a level's stretch begins, the stretches before it taken off o
+pub begins-short : (w k o : ℕ) → 1 < k → o < 4 * w → false ≡ eqb o (startOf w k)
+begins-short w k o h g = sym (ne-eqb o (startOf w k) (λ e. absurd (omega (arith, start-more w k h))))
+
+pub begins-on : (w k o h : ℕ) → 1 < k → 4 * w ≤ o → h ≡ count lo w → eqb (o - 4 * w) (startOf h (k - 1)) ≡ eqb o (startOf w k)
+begins-on w k o h g f e = go (eqb o (startOf w k)) refl
+  where
+    more : 4 * w + startOf h (k - 1) ≡ startOf w k
+    more = rw e (start-more w k g)
+
+    go : (t : Bool) → eqb o (startOf w k) ≡ t → eqb (o - 4 * w) (startOf h (k - 1)) ≡ t
+    go true d = eq-eqb (o - 4 * w) (startOf h (k - 1)) (omega (arith, eqb-true o (startOf w k) d, more))
+    go false d = ne-eqb (o - 4 * w) (startOf h (k - 1)) (λ (z : o - 4 * w ≡ startOf h (k - 1)). eqb-false o (startOf w k) d (omega (arith, more)))
+
+pub begins-first : (w k o : ℕ) → k ≤ 1 → eqb o 0 ≡ eqb o (startOf w k)
+begins-first w k o h = ap (eqb o) (sym (start-first w k h))
 
 -- ---- the most that a store needs, level by level
 one : (W : ℕ) → storeLength W 1 ≤ 4 * W

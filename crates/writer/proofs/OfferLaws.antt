@@ -1,6 +1,6 @@
 -- An offer taken a stretch at a time is the offer taken height by height. Assumes nothing.
-use mathlib.Core.Path.{_≡_, refl, ap, _∙_, fun-ext}
-use mathlib.Core.Bool.{Bool, true, false}
+use mathlib.Core.Path.{_≡_, refl, ap, _∙_, fun-ext, sym}
+use mathlib.Core.Bool.{Bool, true, false, not}
 use mathlib.Core.List.{List, [], _∷_}
 use Prim.Native.Nat.{ℕ, zero, suc, _+_, _-_, _≤_, _<_, min}
 use native.Mathlib.Decide.{decLt}
@@ -8,9 +8,9 @@ use native.Mathlib.Omega.{arith}
 use lib.IntN.{ℤ, pos}
 use lib.ListN.{length, drop, getD, length-drop}
 use lib.Seq.{drop-cons, drop-drop, drop-length, getD-drop}
-use lib.Dec.{eqb}
-use borrow.Author.Tests.{eq-eqb, ne-eqb, lt-ltb, le-ltb, ltb-true}
-use Rattle.numbers.specs.Signal.{at, both}
+use lib.Dec.{eqb, ltb}
+use borrow.Author.Tests.{eq-eqb, ne-eqb, lt-ltb, le-ltb, ltb-true, eqb-true}
+use Rattle.numbers.specs.Signal.{at, both, pick}
 use Rattle.numbers.proofs.Sweep as sweep
 use Rattle.wavelet.specs.Limits.{maxHeight}
 use Rattle.wavelet.proofs.LimitLaws.{width-small, height-small}
@@ -22,12 +22,13 @@ use Rattle.writer.specs.declared.Writer.{Writer}
 use Rattle.writer.specs.declared.cascade.Wait.{Wait}
 use Rattle.writer.specs.Machine.{arrive}
 use Rattle.writer.specs.Taking.{Taking, none, oneMore, takes, begun, complete, heightPut, rowMakes, offering}
-use Rattle.writer.specs.Questions.{offerQuestion}
+use Rattle.writer.specs.Questions.{offerQuestion, either, inRanges, longEnough}
 use Rattle.writer.specs.Calls.{offerReply, offerStore}
 use Rattle.writer.specs.Steps.{Left}
 use Rattle.writer.proofs.GateLaws.{Sound}
 use Rattle.writer.proofs.CallLaws.{unless-no, unless-yes, changed-no, changed-yes}
 use Rattle.writer.specs.Stretch.{nextCount, atColumn, Taker, Stretched}
+use Rattle.wavelet.specs.Questions.{ask}
 
 -- n heights more
 abbrev pub plus : ℕ → Taking → Taking
@@ -76,6 +77,40 @@ module _ (s : Writer) where
   pub next-some : (k n : ℕ) → takes s ≡ true → n ≡ min (s .width - s .column) k → n ≡ nextCount s k
   unfolding nextCount
   next-some k n e h = h ∙ simp e
+
+  pub next-empty : (k : ℕ) → k ≡ 0 → 0 ≡ nextCount s k
+  unfolding nextCount
+  next-empty k e = go (takes s)
+    where
+      none : min (s .width - s .column) k ≡ 0
+      none = omega arith
+
+      go : (t : Bool) → 0 ≡ pick t (min (s .width - s .column) k) 0
+      go true = sym none
+      go false = refl
+
+  -- the first of an offer that passed the questions
+  pub next-first : (l k n : ℕ) → offerQuestion s l k ≡ 0 → n ≡ min (s .width - s .column) k → n ≡ nextCount s k
+  unfolding offerQuestion
+  next-first l k n q e =
+      let stored = passed (longEnough l s) _ _ (passed (inRanges s) _ _ q .1) in
+      go (ltb (s .rows) maxHeight) refl (passed (eqb (s .level) 0) _ _ (passed (not (s .finished)) _ _ (stored .1) .1))
+    where
+      passed : (a : Bool) (p x : ℕ) → ask a (suc p) x ≡ 0 → (a ≡ true) × (x ≡ 0)
+      passed true p x h = (refl, h)
+      passed false p x h = absurd (omega arith)
+
+      go : (t : Bool) → ltb (s .rows) maxHeight ≡ t → (eqb (s .level) 0 ≡ true) × (ask (either (eqb k 0) (ltb (s .rows) maxHeight)) 10 0 ≡ 0) →
+          n ≡ nextCount s k
+      go true f h = next-some k n (takes-yes (eqb-true _ _ (h .0)) (ltb-true _ _ f)) e
+      go false f h =
+          let z : k ≡ 0 = empty (eqb k 0) refl (rw f at (h .1)) in
+          let d : n ≡ 0 = omega (arith, e, z) in
+          d ∙ next-empty k z
+        where
+          empty : (t : Bool) → eqb k 0 ≡ t → ask (either t false) 10 0 ≡ 0 → k ≡ 0
+          empty true d h = eqb-true k 0 d
+          empty false d h = absurd (omega arith)
 
   pub record Next (k n : ℕ) : Type 0 where
     pub takes : takes s ≡ true

@@ -41,17 +41,14 @@ pub record Walk (l w v m : ℕ) : Type 0 where
   pub deep : l < 2 ^ 16
 
 -- the row that waits at level v, r, whose stretch begins at a: i bands of its last set are left
-abbrev pub lastSetOf : Level → ℕ
-lastSetOf r = prev (made (r .closed) (r .rows))
-
 unfoldable pub waitingAt : ℕ → ℕ → Level → ℕ → Waiting
 waitingAt v a r i =
     record {
       level = v;
       band = bandAt (prev i);
-      row = lastSetOf r;
+      row = r .set;
       length = count (across (bandAt (prev i))) (r .width);
-      start = a + bandPlace (r .width) (lastSetOf r) (bandAt (prev i));
+      start = a + bandPlace (r .width) (r .set) (bandAt (prev i));
     }
 
 -- what a draw of it leaves
@@ -60,7 +57,7 @@ from k a x o = record { store = joinAt a x (o .store); level = deeperBy k (o .le
 
 unfoldable pub pullAt : ℕ → ℕ → Level → ℕ → Memory → Out
 pullAt v a r i x =
-    from (prev v) a x (settled (passOn fiveThree (r .below) (r .width)) (lastSetOf r) (rest a x) (skip (r .width) (r .rows) (lastSetOf r) (prev i)))
+    from (prev v) a x (settled (passOn fiveThree (r .below) (r .width)) (r .set) (rest a x) (skip (r .width) (r .rows) (r .set) (prev i)))
 
 -- level v of them, r: what waits there, what a draw of it leaves, and where deeper stretches begin, all from where its stretch begins
 pub record Reaches (l w c v m : ℕ) (r : Level) : Type 0 where
@@ -70,11 +67,16 @@ pub record Reaches (l w c v m : ℕ) (r : Level) : Type 0 where
   pub room : startOf w v + storeLength (r .width) (r .below + 1) ≡ storeLength w l
   pub wide : r .width < 2 ^ 16
   pub rows : r .rows < 2 ^ 32
+  pub sets : r .set < 2 ^ 32
   pub deep : r .below + v ≡ l
 
 -- the offset of a writer is where its level's stretch begins
 abbrev pub Placed : Writer → Type 0
 Placed s = s .offset ≡ startOf (s .width) (s .level)
+
+-- r is the level of a writer's row that waits
+abbrev pub Reached : Writer → Level → Type 0
+Reached s r = Reaches (s .levels) (s .width) (s .closed) (s .level) (s .rows) r
 
 abbrev pub spotOf : Waiting → Spot
 spotOf o = record { level = o .level; band = code (o .band); row = o .row; length = o .length; start = o .start }

@@ -2,16 +2,17 @@
 use crate::Writer;
 use crate::closing;
 use crate::draws;
+use crate::draws::Level;
 ghost use lib.ListN.{length};
 ghost use Rattle.numbers.specs.Signal.{at};
-ghost use Rattle.writer.specs.Steps.{Drawable, Drew};
+ghost use Rattle.writer.specs.Steps.{Drawable, Reached, Drew};
 
 // The row that waits is drawn; once finished and nothing waits, the levels close on.
-pub fn draw_on(s: Writer, store: &mut [i32]) -> Writer
-    requires { ⌜ Drawable s (length (now store)) ⌝ }
+pub fn draw_on(s: Writer, from: Level, store: &mut [i32]) -> Writer
+    requires { ⌜ Drawable s (length (now store)) × Reached s from ⌝ }
     ensures { λ r. ⌜ Drew s (at (now (store .entry))) r (at (now (store .exit))) ⌝ }
 {
-    let r = draws::pull(s, store);
+    let r = draws::pull(s, from, store);
     if s.finished {
         if r.level == 0 {
             let q = closing::shut(store, s.levels, s.width, s.closed, s.rows);

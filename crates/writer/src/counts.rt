@@ -2,13 +2,16 @@
 use level::rows;
 use wavelet::sizes;
 ghost use mathlib.Core.Path.{_≡_};
-ghost use Prim.Native.Nat.{_<_, _≤_, _+_};
+ghost use Prim.Native.Nat.{_<_, _≤_, _+_, _*_, _/_};
+ghost use lib.Dec.{ltb};
+ghost use Rattle.numbers.specs.Signal.{both};
 ghost use Rattle.lifting.specs.Line.{count};
 ghost use Rattle.wavelet.specs.Bands.{across, down, code};
 ghost use Rattle.wavelet.specs.Order.{hasRow};
 ghost use Rattle.level.specs.Level.{prev};
 ghost use Rattle.level.specs.FiveThreeLevel.{slot};
 ghost use Rattle.writer.specs.Counts.{deeper, deeperBy, further, made, most, mostLeft, bandAt, skip};
+ghost use Rattle.writer.specs.FiveThreeLevel.{cellOf, before};
 
 // One less, and 0 of 0.
 pub fn prev(n: usize) -> usize
@@ -58,17 +61,6 @@ pub fn most(l: usize) -> usize
     if l == 0 { 4 } else { 3 }
 }
 
-// How many can be left of a set of level v of l; none where none waits.
-pub fn most_left(l: usize, v: usize) -> usize
-    requires { ⌜ v ≤ l ⌝ }
-    ensures { λ r. ⌜ r ≡ mostLeft l v ⌝ }
-{
-    if v == 0 {
-        return 0;
-    }
-    most(l - v)
-}
-
 // The code of the band that i bands come after in its set.
 pub fn code(i: usize) -> usize
     ensures { λ r. ⌜ r ≡ code (bandAt i) ⌝ }
@@ -112,10 +104,23 @@ fn has_row(w: usize, m: usize, i: usize, n: usize) -> bool
     n < rows(m, i)
 }
 
-// Of the last i bands of set n, those from the first that has row n on.
+// Whether every band has row n.
+fn all_have(w: usize, m: usize, n: usize) -> bool
+    ensures { λ r. ⌜ r ≡ both (ltb 1 w) (ltb n (m / 2)) ⌝ }
+{
+    if w <= 1 {
+        return false;
+    }
+    n < m / 2
+}
+
+// Of the last i bands of set n, those from the first that has row n on: all of them but at one column and at the last of an odd number of rows.
 pub fn next_band(w: usize, m: usize, n: usize, i: usize) -> usize
     ensures { λ r. ⌜ r ≡ skip w m n i ⌝ }
 {
+    if all_have(w, m, n) {
+        return i;
+    }
     let mut k = i;
     while k > 0 {
         if has_row(w, m, k - 1, n) {

@@ -12,7 +12,7 @@ ghost use Rattle.level.specs.FiveThreeLevel.{bandPlace};
 ghost use Rattle.writer.specs.Counts.{bandAt};
 ghost use Rattle.writer.specs.Questions.{waitingRow};
 ghost use Rattle.writer.specs.Calls.{pulled};
-ghost use Rattle.writer.specs.Steps.{Left, Walk, Reaches, Placed, Found, Drawable};
+ghost use Rattle.writer.specs.Steps.{Left, Walk, Reaches, Placed, Reached, Found, Drawable};
 
 // A band row that waits, and where in the store its numbers begin.
 pub struct Spot {
@@ -36,12 +36,12 @@ fn place(w: usize, n: usize, i: usize) -> usize
     }
 }
 
-// A level that a set is handed out of: the levels below it, its columns, how many levels the finish has closed from it on, and the rows that it has received.
+// A level that a set is handed out of: the levels below it, its columns, the rows that it has received, and the number of the set.
 pub struct Level {
     pub below: usize,
     pub width: usize,
-    pub closed: usize,
     pub rows: usize,
+    pub set: usize,
 }
 
 // Level v of l levels, the first of w columns and m rows, of which c are closed. Numbers alone: where it stands in the store, the writer carries.
@@ -49,48 +49,46 @@ pub fn level_of(l: usize, w: usize, c: usize, v: usize, m: usize) -> Level
     requires { ⌜ Walk l w v m ⌝ }
     ensures { λ r. ⌜ Reaches l w c v m r ⌝ }
 {
-    if v == 1 {
-        return Level {
-            below: l - 1,
-            width: w,
-            closed: c,
-            rows: m,
-        };
+    let mut width = w;
+    let mut closed = c;
+    let mut rows = m;
+    let mut k = v;
+    while 1 < k {
+        rows = counts::made(closed, rows);
+        closed = counts::prev(closed);
+        width = sizes::half(width);
+        k -= 1;
     }
-    level_of(
-        l - 1,
-        sizes::half(w),
-        counts::prev(c),
-        v - 1,
-        counts::made(c, m),
-    )
+    let set = counts::prev(counts::made(closed, rows));
+    Level {
+        below: l - v,
+        width,
+        rows,
+        set,
+    }
 }
 
-// The row that waits.
-pub fn waiting(s: Writer) -> Spot
-    requires { ⌜ Walk (s .levels) (s .width) (s .level) (s .rows) × Placed s ⌝ }
+// The row that waits, at level q.
+pub fn waiting(s: Writer, q: Level) -> Spot
+    requires { ⌜ Walk (s .levels) (s .width) (s .level) (s .rows) × Placed s × Reached s q ⌝ }
     ensures { λ r. ⌜ Found (s .levels) (s .width) (waitingRow s) r ⌝ }
 {
-    let q = level_of(s.levels, s.width, s.closed, s.level, s.rows);
-    let n = counts::prev(counts::made(q.closed, q.rows));
     let i = counts::prev(s.left);
     Spot {
         level: s.level,
         band: counts::code(i),
-        row: n,
+        row: q.set,
         length: counts::columns(q.width, i),
-        start: s.offset + place(q.width, n, i),
+        start: s.offset + place(q.width, q.set, i),
     }
 }
 
 // It is drawn: the next band of the set that has such a row waits, or the set's LL row goes on.
-pub fn pull(s: Writer, store: &mut [i32]) -> Wait
-    requires { ⌜ Drawable s (length (now store)) ⌝ }
+pub fn pull(s: Writer, q: Level, store: &mut [i32]) -> Wait
+    requires { ⌜ Drawable s (length (now store)) × Reached s q ⌝ }
     ensures { λ r. ⌜ Left (s .levels) (s .width) (pulled s (at (now (store .entry)))) r (at (now (store .exit))) ⌝ }
 {
-    let q = level_of(s.levels, s.width, s.closed, s.level, s.rows);
-    let n = counts::prev(counts::made(q.closed, q.rows));
-    let i = counts::next_band(q.width, q.rows, n, counts::prev(s.left));
+    let i = counts::next_band(q.width, q.rows, q.set, counts::prev(s.left));
     let a = s.offset;
     if 0 < i {
         return Wait {
@@ -99,7 +97,7 @@ pub fn pull(s: Writer, store: &mut [i32]) -> Wait
             offset: a,
         };
     }
-    let r = cascade::pass_on(&mut store[a..], q.below, q.width, n);
+    let r = cascade::pass_on(&mut store[a..], q.below, q.width, q.set);
     Wait {
         level: counts::deeper_by(s.level - 1, r.level),
         left: r.left,

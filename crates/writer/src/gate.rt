@@ -2,12 +2,52 @@
 use crate::Writer;
 use crate::counts;
 use wavelet::limits;
+use wavelet::sizes;
 use wavelet::store;
 ghost use mathlib.Core.Path.{_≡_};
-ghost use Prim.Native.Nat.{_+_, _*_, _/_, _^_, _<_};
-ghost use lib.Dec.{leb};
+ghost use Prim.Native.Nat.{_+_, _*_, _/_, _^_, _<_, _≤_};
+ghost use lib.Dec.{leb, eqb};
+ghost use Rattle.numbers.specs.Signal.{both};
+ghost use Rattle.writer.specs.Counts.{mostLeft, startOf};
 ghost use Rattle.writer.specs.Questions.{inRanges, setUpQuestion, offerQuestion, finishQuestion};
 ghost use Rattle.writer.specs.Gate.{stateQuestion, openQuestion};
+
+// Does the stretch of level v begin at place o? The stretches before it are taken off: added up first, they would cost the short calls more.
+fn begins(w: usize, v: usize, o: usize) -> bool
+    requires { ⌜ (w < 2 ^ 16) × (0 < v) ⌝ }
+    ensures { λ r. ⌜ r ≡ eqb o (startOf w v) ⌝ }
+{
+    let mut width = w;
+    let mut rest = o;
+    let mut k = v;
+    while 1 < k {
+        let a = 4 * width;
+        if rest < a {
+            return false;
+        }
+        rest -= a;
+        width = sizes::half(width);
+        k -= 1;
+    }
+    rest == 0
+}
+
+// What waits: the bands that are left, and where its level's stretch begins; where nothing waits, as most often, neither is looked for.
+fn waits_in_range(s: Writer) -> bool
+    requires { ⌜ (s .width < 2 ^ 16) × (s .level ≤ s .levels) ⌝ }
+    ensures { λ r. ⌜ r ≡ both (leb (s .left) (mostLeft (s .levels) (s .level))) (eqb (s .offset) (startOf (s .width) (s .level))) ⌝ }
+{
+    if s.level == 0 {
+        if 0 < s.left {
+            return false;
+        }
+        return s.offset == 0;
+    }
+    if counts::most(s.levels - s.level) < s.left {
+        return false;
+    }
+    begins(s.width, s.level, s.offset)
+}
 
 // Question 1: the counts' ranges.
 pub fn in_ranges(s: Writer) -> bool
@@ -31,10 +71,7 @@ pub fn in_ranges(s: Writer) -> bool
     if s.levels < s.level {
         return false;
     }
-    if counts::most_left(s.levels, s.level) < s.left {
-        return false;
-    }
-    s.offset == store::store_length(s.width, counts::prev(s.level))
+    waits_in_range(s)
 }
 
 // Whether n numbers are enough for every number of levels. At the most levels a width of 2^k + 1 needs just as many, so the sizes are seldom added up.

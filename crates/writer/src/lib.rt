@@ -133,7 +133,7 @@ impl Writer {
         }
         let mut s = self;
         let mut taken = 0;
-        let mut n = offers::next(s, run.len());
+        let mut n = offers::first(s, run.len());
         while 0 < n {
             s = offers::stretch(s, store, run, taken, n);
             taken += n;
@@ -156,12 +156,13 @@ impl Writer {
         if self.level == 0 {
             return Drawn::Nothing;
         }
-        let spot = draws::waiting(self);
+        let q = draws::level_of(self.levels, self.width, self.closed, self.level, self.rows);
+        let spot = draws::waiting(self, q);
         if out.len() < spot.length {
             return Drawn::Refused(12);
         }
         copies::hand_out(store, spot.start, spot.length, out);
-        let next = after::draw_on(self, store);
+        let next = after::draw_on(self, q, store);
         Drawn::Row(
             BandRow {
                 level: spot.level,
@@ -181,7 +182,8 @@ impl Writer {
             return Look::Refused(1);
         }
         if 0 < self.level {
-            let spot = draws::waiting(self);
+            let q = draws::level_of(self.levels, self.width, self.closed, self.level, self.rows);
+            let spot = draws::waiting(self, q);
             return Look::Row(BandRow {
                 level: spot.level,
                 band: spot.band,

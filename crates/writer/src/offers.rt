@@ -3,17 +3,32 @@ use crate::Writer;
 use crate::cascade;
 use level::heights;
 ghost use mathlib.Core.Path.{_≡_};
-ghost use Prim.Native.Nat.{_+_, _<_, _≤_};
+ghost use Prim.Native.Nat.{_+_, _<_, _≤_, _-_, _*_, _^_, min};
 ghost use lib.ListN.{length};
 ghost use Rattle.numbers.specs.Signal.{at};
 ghost use Rattle.wavelet.specs.Limits.{maxHeight};
 ghost use Rattle.writer.specs.Stretch.{nextCount, Taker, Stretched};
+
+// How many heights the first stretch of an offer has, of k: to the end of the row at most.
+pub fn first(s: Writer, k: usize) -> usize
+    requires { ⌜ s .column < s .width ⌝ }
+    ensures { λ r. ⌜ r ≡ min (s .width - s .column) k ⌝ }
+{
+    let n = s.width - s.column;
+    if n < k {
+        return n;
+    }
+    k
+}
 
 // How many heights the next stretch has, of k that are left.
 pub fn next(s: Writer, k: usize) -> usize
     requires { ⌜ s .column < s .width ⌝ }
     ensures { λ r. ⌜ r ≡ nextCount s k ⌝ }
 {
+    if k == 0 {
+        return 0;
+    }
     if 0 < s.level {
         return 0;
     }

@@ -24,34 +24,41 @@ returns-2 : tie.Need-returns-2
 returns-2 c = let t = draw-nothing _ _ _ _ _ _ (c .before .before .before .state-question .ensures) (omega arith) (omega arith) in
     (t .0, (t .1, (t .2, draw-kept _ _ _ _ _ _ _ _ (t .0) (t .1) (t .2))))
 
-waiting-requires : tie.Need-waiting-requires
-waiting-requires c κs =
+level-of-requires : tie.Need-level-of-requires
+level-of-requires c κs =
     let a = c .before .before .before .before .args in
     let q : stateQuestion (a .self) (length (a .store .now)) ≡ 0 = omega arith in
     let f = sound (a .self) (length (a .store .now)) q in
     omega (arith, width-small, height-small)
 
+waiting-requires : tie.Need-waiting-requires
+waiting-requires c κs =
+    let a = c .before .before .before .before .before .args in
+    let q : stateQuestion (a .self) (length (a .store .now)) ≡ 0 = omega arith in
+    let f = sound (a .self) (length (a .store .now)) q in
+    (omega (arith, width-small, height-small), f .placed, c .level-of .ensures)
+
 returns-3 : tie.Need-returns-3
 returns-3 c =
-    let a = c .before .before .before .before .before .before .before .args in
+    let a = c .before .before .before .before .before .before .before .before .args in
     let t = draw-no-room (a .self) (length (a .store .now)) (length (a .out .now)) _ (at (a .store .now)) (at (a .out .now))
-    (c .before .before .before .before .before .before .state-question .ensures) _ (c .before .before .waiting .ensures) (omega arith)
+    (c .before .before .before .before .before .before .before .state-question .ensures) _ (c .before .before .waiting .ensures) (omega arith)
     (omega arith) (omega arith) in
     (t .0, (t .1, (t .2, draw-kept _ _ _ _ _ _ _ _ (t .0) (t .1) (t .2))))
 
 hand-out-requires : tie.Need-hand-out-requires
 hand-out-requires c κs =
-    let a = c .before .before .before .before .before .before .before .before .before .args in
+    let a = c .before .before .before .before .before .before .before .before .before .before .args in
     let q : stateQuestion (a .self) (length (a .store .now)) ≡ 0 = omega arith in
     let f = sound (a .self) (length (a .store .now)) q in
     omega arith
 
 draw-on-requires : tie.Need-draw-on-requires
 draw-on-requires c κs =
-    let a = c .before .before .before .before .before .before .before .before .before .before .before .before .args in
+    let a = c .before .before .before .before .before .before .before .before .before .before .before .before .before .args in
     let q : stateQuestion (a .self) (length (a .store .now)) ≡ 0 = omega arith in
     let f = sound (a .self) (length (a .store .now)) q in
-    omega (arith, width-small, height-small)
+    (omega (arith, width-small, height-small), c .before .before .before .before .before .before .before .before .level-of .ensures)
 
 same-length : tie.Need-same-length
 same-length c = search needs
@@ -62,9 +69,9 @@ same-length-2 c = search needs
 returns-4 : tie.Need-returns-4
 unfolding rest
 returns-4 c =
-    let a = c .before .before .before .before .before .before .before .before .before .before .before .before .before .before .args in
+    let a = c .before .before .before .before .before .before .before .before .before .before .before .before .before .before .before .args in
     let t = draw-row (a .self) (length (a .store .now)) (length (a .out .now)) _ (at (a .store .now)) (at (a .out .now))
-    (c .before .before .before .before .before .before .before .before .before .before .before .before .before .state-question .ensures) _
+    (c .before .before .before .before .before .before .before .before .before .before .before .before .before .before .state-question .ensures) _
     (c .before .before .before .before .before .before .before .before .before .waiting .ensures) (omega arith) (omega arith) _ _ _
     (omega arith) (c .before .before .before .before .hand-out .ensures) (c .before .draw-on .ensures) in
     (t .0, (t .1, (t .2, draw-kept _ _ _ _ _ _ _ _ (t .0) (t .1) (t .2))))
@@ -76,6 +83,7 @@ draw-spec =
     state-question-requires
     returns
     returns-2
+    level-of-requires
     waiting-requires
     returns-3
     hand-out-requires

@@ -7,7 +7,7 @@ use borrow.Author.Needs.{needs}
 use Rattle.numbers.specs.Signal.{at}
 use Rattle.writer.specs.Questions.{offerQuestion}
 use Rattle.writer.proofs.CallLaws.{offer-sound}
-use Rattle.writer.proofs.OfferLaws.{Offering, offer-start, offer-turn, offer-ready, offer-no, offer-yes, gone-all, sound-taker}
+use Rattle.writer.proofs.OfferLaws.{next-first, Offering, offer-start, offer-turn, offer-ready, offer-no, offer-yes, gone-all, sound-taker}
 use Rattle.writer.proofs.CallsKeep.{offer-kept}
 use Rattle.writer.proofs.Writer.offer.Statement.{statement}
 use Rattle.writer.proofs.Writer.offer.Tie as tie
@@ -24,8 +24,8 @@ offer-question-requires c κs = search needs
 returns : tie.Need-returns Inv-loop μ-loop
 returns c = let t = offer-no _ _ _ _ _ (c .before .offer-question .ensures) (omega arith) in (t .0, (t .1, offer-kept _ _ _ _ _ _ (t .0) (t .1)))
 
-next-requires : tie.Need-next-requires Inv-loop μ-loop
-next-requires c κs =
+first-requires : tie.Need-first-requires Inv-loop μ-loop
+first-requires c κs =
     let a = c .before .before .before .args in
     let q : offerQuestion (a .self) (length (a .store .now)) (length (a .run .now)) ≡ 0 = omega arith in
     offer-sound (a .self) (length (a .store .now)) (length (a .run .now)) q .column
@@ -34,7 +34,7 @@ loop-holds : tie.Need-loop-holds Inv-loop μ-loop
 loop-holds c =
     let a = c .before .before .before .before .args in
     let q : offerQuestion (a .self) (length (a .store .now)) (length (a .run .now)) ≡ 0 = omega arith in
-    offer-start _ _ _ _ (sound-taker _ _ (offer-sound (a .self) (length (a .store .now)) (length (a .run .now)) q)) (c .next .ensures)
+    offer-start _ _ _ _ (sound-taker _ _ (offer-sound (a .self) (length (a .store .now)) (length (a .run .now)) q)) (next-first _ _ _ _ q (c .first .ensures))
 
 stretch-requires : tie.Need-stretch-requires Inv-loop μ-loop
 stretch-requires c κs = let o = offer-ready _ _ _ _ _ _ _ (c .before .before .loop .inv) (c .before .loop-test .taken) in (o .taker, o .rows, o .row, o .heights)
@@ -45,14 +45,16 @@ add-taken c = let o = offer-ready _ _ _ _ _ _ _ (c .before .before .before .befo
 sub-next : tie.Need-sub-next Inv-loop μ-loop
 sub-next c = let o = offer-ready _ _ _ _ _ _ _ (c .before .before .before .before .loop .inv) (c .before .before .before .loop-test .taken) in omega (arith, o .heights)
 
-next-requires-2 : tie.Need-next-requires-2 Inv-loop μ-loop
-next-requires-2 c κs = c .before .stretch .ensures .taker .column
+next-requires : tie.Need-next-requires Inv-loop μ-loop
+next-requires c κs = c .before .stretch .ensures .taker .column
 
 loop-less : tie.Need-loop-less Inv-loop μ-loop
 loop-less c = let o = offer-ready _ _ _ _ _ _ _ (c .before .before .before .before .before .loop .inv) (c .before .before .before .before .loop-test .taken) in omega (arith, o .heights)
 
 loop-again : tie.Need-loop-again Inv-loop μ-loop
-loop-again c = offer-turn _ _ _ _ _ _ _ _ _ _ (c .before .before .before .before .before .loop .inv) (c .before .before .before .before .loop-test .taken) (c .before .before .stretch .ensures) (omega arith) (c .next2 .ensures)
+loop-again c =
+    let t = c .before .before .before .before in
+    offer-turn _ _ _ _ _ _ _ _ _ _ (t .before .loop .inv) (t .loop-test .taken) (c .before .before .stretch .ensures) (omega arith) (c .next .ensures)
 
 same-length : tie.Need-same-length Inv-loop μ-loop
 same-length c = c .before .loop .inv .size
@@ -73,12 +75,12 @@ offer-spec =
     μ-loop
     offer-question-requires
     returns
-    next-requires
+    first-requires
     loop-holds
     stretch-requires
     add-taken
     sub-next
-    next-requires-2
+    next-requires
     loop-less
     loop-again
     same-length

@@ -3,7 +3,7 @@ use mathlib.Core.Path.{_≡_, refl, sym, ap, _∙_}
 use native.Mathlib.Omega.{arith}
 use borrow.Author.Needs.{needs}
 use Rattle.writer.specs.Counts.{skip}
-use Rattle.writer.proofs.CountLaws.{skip-stop, skip-go, skip-none}
+use Rattle.writer.proofs.CountLaws.{skip-all, skip-stop, skip-go, skip-none}
 use Rattle.writer.proofs.counts.next_band.Statement.{statement}
 use Rattle.writer.proofs.counts.next_band.Tie as tie
 
@@ -12,6 +12,12 @@ Inv-loop w m n i k₀ k = skip w m n k ≡ skip w m n i
 
 abbrev μ-loop : tie.MeasureT-loop
 μ-loop w m n i k₀ k = k
+
+all-have-requires : tie.Need-all-have-requires Inv-loop μ-loop
+all-have-requires c κs = tt
+
+returns : tie.Need-returns Inv-loop μ-loop
+returns c = skip-all _ _ _ _ (c .before .all-have .ensures) (c .if1 .taken) _
 
 loop-holds : tie.Need-loop-holds Inv-loop μ-loop
 loop-holds c = refl
@@ -22,10 +28,10 @@ sub-has-row c = omega arith
 has-row-requires : tie.Need-has-row-requires Inv-loop μ-loop
 has-row-requires c κs = search needs
 
-returns : tie.Need-returns Inv-loop μ-loop
-returns c =
+returns-2 : tie.Need-returns-2 Inv-loop μ-loop
+returns-2 c =
     let turn = c .before .before in
-    skip-stop _ _ _ _ (turn .loop-test .taken) (sym (c .before .has-row .ensures) ∙ c .if1 .taken) ∙ turn .before .loop .inv
+    skip-stop _ _ _ _ (turn .loop-test .taken) (sym (c .before .has-row .ensures) ∙ c .if2 .taken) ∙ turn .before .loop .inv
 
 sub-k : tie.Need-sub-k Inv-loop μ-loop
 sub-k c = omega arith
@@ -36,11 +42,11 @@ loop-less c = omega arith
 loop-again : tie.Need-loop-again Inv-loop μ-loop
 loop-again c =
     let turn = c .before .before in
-    skip-go _ _ _ _ (turn .loop-test .taken) (sym (c .before .has-row .ensures) ∙ c .if1 .left) ∙ turn .before .loop .inv
+    skip-go _ _ _ _ (turn .loop-test .taken) (sym (c .before .has-row .ensures) ∙ c .if2 .left) ∙ turn .before .loop .inv
 
-returns-2 : tie.Need-returns-2 Inv-loop μ-loop
-returns-2 c =
-    let a = c .before .before .args in
+returns-3 : tie.Need-returns-3 Inv-loop μ-loop
+returns-3 c =
+    let a = c .before .before .before .before .args in
     let l = c .before .loop in
     let z : l .k ≡ 0 = omega arith in
     skip-none (a .w) (a .m) (a .n) ∙ ap (skip (a .w) (a .m) (a .n)) (sym z) ∙ l .inv
@@ -51,11 +57,13 @@ next-band-spec =
     (tie.spec
     Inv-loop
     μ-loop
+    all-have-requires
+    returns
     loop-holds
     sub-has-row
     has-row-requires
-    returns
+    returns-2
     sub-k
     loop-less
     loop-again
-    returns-2)
+    returns-3)

@@ -12,17 +12,8 @@ use Rattle.writer.proofs.DrawLaws.{pull-waits, pull-goes}
 use Rattle.writer.proofs.draws.pull.Statement.{statement}
 use Rattle.writer.proofs.draws.pull.Tie as tie
 
-level-of-requires : tie.Need-level-of-requires
-level-of-requires c κs = c .pre .walk
-
-made-requires : tie.Need-made-requires
-made-requires c κs = tt
-
 prev-requires : tie.Need-prev-requires
 prev-requires c κs = tt
-
-prev-requires-2 : tie.Need-prev-requires-2
-prev-requires-2 c κs = tt
 
 next-band-requires : tie.Need-next-band-requires
 next-band-requires c κs = tt
@@ -30,10 +21,9 @@ next-band-requires c κs = tt
 returns : tie.Need-returns
 returns c =
     let b = c .before in
-    let a = b .before .before .before .before .before .args in
-    let q = b .before .before .before .before .level-of in
-    pull-waits (a .s) (q .result) (q .ensures) (b .before .before .before .before .before .pre .placed) (at (a .store .now)) _ _ _ _
-    (b .before .before .before .made .ensures) (b .before .before .prev .ensures) (b .before .prev2 .ensures) (b .next-band .ensures) (omega arith)
+    let d = b .before .before in
+    let a = d .args in
+    pull-waits (a .s) (a .q) (d .pre .1) (d .pre .0 .placed) (at (a .store .now)) _ _ (b .before .prev .ensures) (b .next-band .ensures) (omega arith)
     (omega arith)
 
 mul-pass-on : tie.Need-mul-pass-on
@@ -51,17 +41,8 @@ part-pass-on-end c = search needs
 pass-on-requires : tie.Need-pass-on-requires
 pass-on-requires c κs =
     let b = c .before .before in
-    let q = b .before .before .before .before .level-of in
-    let s = b .before .before .before .before .before .args .s in
-    omega (
-      arith,
-      q .ensures .room,
-      q .ensures .deep,
-      b .before .before .before .before .before .pre .placed,
-      prev-is
-          (b .before .before .before .made .result),
-      made-le (q .result .closed) (q .result .rows),
-    )
+    let d = b .before .before in
+    omega (arith, d .pre .1 .room, d .pre .1 .deep, d .pre .1 .sets, d .pre .0 .placed)
 
 sub-deeper-by : tie.Need-sub-deeper-by
 sub-deeper-by c = search needs
@@ -72,13 +53,13 @@ deeper-by-requires c κs = search needs
 further-requires : tie.Need-further-requires
 further-requires c κs =
     let p = c .before .before .before in
-    let b = p .before .before .before in
-    let q = b .before .before .before .before .level-of in
-    let s = b .before .before .before .before .before .args .s in
-    let o = left-small (q .result .below + 1) (q .result .width) _ _ _ (q .ensures .wide)
-    (omega (arith, q .ensures .deep, b .before .before .before .before .before .pre .walk)) (p .pass-on .ensures) in
-    let d = b .before .before .before .before .before .pre in
-    omega (arith, store-le (s .width) (s .levels), q .ensures .room, d .placed, d .walk .wide, d .walk .deep)
+    let e = p .before .before .before .before .before in
+    let q = e .args .q in
+    let s = e .args .s in
+    let d = e .pre .0 in
+    let f = e .pre .1 in
+    let o = left-small (q .below + 1) (q .width) _ _ _ (f .wide) (omega (arith, f .deep, d .walk)) (p .pass-on .ensures) in
+    omega (arith, store-le (s .width) (s .levels), f .room, d .placed, d .walk .wide, d .walk .deep)
 
 same-length : tie.Need-same-length
 same-length c = search needs
@@ -87,23 +68,19 @@ returns-2 : tie.Need-returns-2
 returns-2 c =
     let p = c .before .before .before .before in
     let b = p .before .before .before in
-    let a = b .before .before .before .before .before .args in
-    let q = b .before .before .before .before .level-of in
+    let d = b .before .before in
+    let a = d .args in
     let l = a .store .now in
-    let e = b .before .before .before .before .before .pre in
-    pull-goes (a .s) (q .result) (q .ensures) (e .placed) (at l) _ _ _ _
-    (b .before .before .before .made .ensures) (b .before .before .prev .ensures) (b .before .prev2 .ensures) (b .next-band .ensures)
+    let e = d .pre in
+    pull-goes (a .s) (a .q) (e .1) (e .0 .placed) (at l) _ _ (b .before .prev .ensures) (b .next-band .ensures)
     _ (at (p .pass-on .last .0)) _ _ _ (omega arith) (omega arith) (rw (at-rest (a .s .offset) l) at (p .pass-on .ensures))
-    (at-join (a .s .offset) l (p .pass-on .last .0) (omega (arith, q .ensures .room, e .placed))) (c .before .deeper-by .ensures) (c .further .ensures)
+    (at-join (a .s .offset) l (p .pass-on .last .0) (omega (arith, e .1 .room, e .0 .placed))) (c .before .deeper-by .ensures) (c .further .ensures)
 
 pub pull-spec : {M : Type 1} → statement M
 pull-spec =
     tie.close
     (tie.spec
-    level-of-requires
-    made-requires
     prev-requires
-    prev-requires-2
     next-band-requires
     returns
     mul-pass-on

@@ -1,13 +1,12 @@
 -- `gate::in_ranges` meets its contract: each test is the definition's, in its order. Assumes nothing.
-use mathlib.Core.Path.{sym, ap, _∙_}
-use lib.Dec.{eqb}
+use mathlib.Core.Path.{sym, _∙_}
 use native.Mathlib.Omega.{arith}
 use borrow.Author.Needs.{needs}
 use borrow.Author.Tests.{not-true, not-false, le-leb, lt-leb, lt-ltb, le-ltb}
 use Rattle.wavelet.specs.Limits.{maxWidth, maxHeight, maxLevels}
-use Rattle.writer.specs.Counts.{mostLeft}
+use Rattle.wavelet.proofs.QuestionLaws.{within-true}
 use Rattle.writer.specs.Questions.{inRanges}
-use Rattle.writer.proofs.GateLaws.{ranges-last, start-stored}
+use Rattle.writer.proofs.GateLaws.{ranges-last}
 use Rattle.writer.proofs.gate.in_ranges.Statement.{statement}
 use Rattle.writer.proofs.gate.in_ranges.Tie as tie
 
@@ -77,40 +76,20 @@ returns-6 c = simp (
   lt-leb _ _ (c .if6 .taken),
 )
 
-most-left-requires : tie.Need-most-left-requires
-most-left-requires c κs = omega arith
+waits-in-range-requires : tie.Need-waits-in-range-requires
+unfolding maxWidth
+waits-in-range-requires c κs =
+    let d = c .before .before .before .before .before .before .before .before .before .before in
+    let w = within-true 1 maxWidth _ (sym (d .before .is-within .ensures) ∙ not-false _ (d .if1 .left)) in
+    (omega arith, omega arith)
 
 returns-7 : tie.Need-returns-7
-unfolding inRanges maxWidth maxHeight maxLevels
-returns-7 c =
-    let s = c .before .before .before .before .before .before .before .before .before .before .before .before .before .before .before .args .s in
-    simp (
-      sym (c .before .before .before .before .before .before .before .before .before .before .before .before .before .before .is-within .ensures)
-          ∙ not-false _ (c .before .before .before .before .before .before .before .before .before .before .before .before .before .if1 .left),
-      sym (c .before .before .before .before .before .before .before .before .before .before .before .before .is-within2 .ensures)
-          ∙ not-false _ (c .before .before .before .before .before .before .before .before .before .before .before .if2 .left),
-      le-leb _ _ (c .before .before .before .before .before .before .before .before .before .if3 .left),
-      lt-ltb _ _ (c .before .before .before .before .before .before .before .if4 .left),
-      le-leb _ _ (c .before .before .before .before .before .if5 .left),
-      le-leb _ _ (c .before .before .before .if6 .left),
-      lt-leb (s .left) (mostLeft (s .levels) (s .level)) (omega (arith, c .before .before .most-left .ensures)),
-    )
-
-prev-requires : tie.Need-prev-requires
-prev-requires c κs = tt
-
-store-length-requires : tie.Need-store-length-requires
-store-length-requires c κs = tt
-
-returns-8 : tie.Need-returns-8
 unfolding maxWidth maxHeight maxLevels
-returns-8 c =
-    let s = c .before .before .before .before .before .before .before .before .before .before .before .before .before .before .before .before .before .before .args .s in
-    let w = sym (c .before .before .before .before .before .before .before .before .before .before .before .before .before .before .before .before .before .is-within .ensures) ∙ not-false _ (c .before .before .before .before .before .before .before .before .before .before .before .before .before .before .before .before .if1 .left) in
-    let l = sym (c .before .before .before .before .before .before .before .before .before .before .before .before .before .before .before .is-within2 .ensures) ∙ not-false _ (c .before .before .before .before .before .before .before .before .before .before .before .before .before .before .if2 .left) in
-    let is = start-stored (s .width) (s .levels) (s .level) _ _ w l (omega arith) (c .before .before .prev .ensures) (c .before .store-length .ensures) in
-    ranges-last s w l (omega arith) (omega arith) (omega arith) (omega arith)
-    (omega (arith, c .before .before .before .before .before .most-left .ensures)) _ (ap (eqb (s .offset)) is)
+returns-7 c =
+    let d = c .before .before .before .before .before .before .before .before .before in
+    let w = sym (d .before .before .before .is-within .ensures) ∙ not-false _ (d .before .before .if1 .left) in
+    let l = sym (d .before .is-within2 .ensures) ∙ not-false _ (d .if2 .left) in
+    ranges-last (d .before .before .before .before .args .s) w l (omega arith) (omega arith) (omega arith) (omega arith) _ (c .waits-in-range .ensures)
 
 pub in-ranges-spec : {M : Type 1} → statement M
 in-ranges-spec =
@@ -124,8 +103,5 @@ in-ranges-spec =
     returns-4
     returns-5
     returns-6
-    most-left-requires
-    returns-7
-    prev-requires
-    store-length-requires
-    returns-8)
+    waits-in-range-requires
+    returns-7)

@@ -1,0 +1,60 @@
+-- `gate::begins` meets its contract. The loop's invariant: what is asked of the levels left is what was asked of all. Assumes nothing.
+use mathlib.Core.Path.{_≡_, refl, _∙_}
+use Prim.Native.Nat.{_<_, _^_}
+use native.Mathlib.Omega.{arith}
+use lib.Dec.{eqb}
+use Rattle.wavelet.proofs.SizeLaws.{count-lo}
+use Rattle.writer.specs.Counts.{startOf}
+use Rattle.writer.proofs.GateLaws.{begins-short, begins-on, begins-first}
+use Rattle.writer.proofs.gate.begins.Statement.{statement}
+use Rattle.writer.proofs.gate.begins.Tie as tie
+
+abbrev Inv-loop : tie.InvT-loop
+Inv-loop w v o width₀ rest₀ k₀ width rest k = (width < 2 ^ 16) × (0 < k) × (eqb rest (startOf width k) ≡ eqb o (startOf w v))
+
+abbrev μ-loop : tie.MeasureT-loop
+μ-loop w v o width₀ rest₀ k₀ width rest k = k
+
+loop-holds : tie.Need-loop-holds Inv-loop μ-loop
+loop-holds c = (c .pre .0, c .pre .1, refl)
+
+mul-a : tie.Need-mul-a Inv-loop μ-loop
+mul-a c = omega arith
+
+returns : tie.Need-returns Inv-loop μ-loop
+returns c = let l = c .before .before .loop in begins-short _ _ _ (c .before .loop-test .taken) (omega arith) ∙ l .inv .2
+
+half-requires : tie.Need-half-requires Inv-loop μ-loop
+half-requires c κs = tt
+
+sub-k : tie.Need-sub-k Inv-loop μ-loop
+sub-k c = omega arith
+
+loop-less : tie.Need-loop-less Inv-loop μ-loop
+loop-less c = omega arith
+
+loop-again : tie.Need-loop-again Inv-loop μ-loop
+loop-again c =
+    let l = c .before .before .before .loop in (
+      omega (arith, count-lo (l .width)),
+      omega arith,
+      begins-on (l .width) (l .k) (l .rest) _ (omega arith) (omega arith) (c .half .ensures) ∙ l .inv .2,
+    )
+
+returns-2 : tie.Need-returns-2 Inv-loop μ-loop
+returns-2 c = let l = c .before .loop in begins-first (l .width) (l .k) (l .rest) (omega arith) ∙ l .inv .2
+
+pub begins-spec : {M : Type 1} → statement M
+begins-spec =
+    tie.close
+    (tie.spec
+    Inv-loop
+    μ-loop
+    loop-holds
+    mul-a
+    returns
+    half-requires
+    sub-k
+    loop-less
+    loop-again
+    returns-2)
