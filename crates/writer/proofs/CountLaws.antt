@@ -16,7 +16,6 @@ use lib.Dec.{ltb}
 use borrow.Author.Tests.{lt-ltb, ltb-true}
 use Rattle.numbers.specs.Signal.{both}
 use Rattle.numbers.proofs.Sweep as sweep
-use Rattle.writer.specs.FiveThreeLevel.{slot, before}
 
 pub deeper-none : (v : ℕ) → v ≡ 0 → 0 ≡ deeper v
 unfolding deeper

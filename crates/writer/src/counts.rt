@@ -11,7 +11,6 @@ ghost use Rattle.wavelet.specs.Order.{hasRow};
 ghost use Rattle.level.specs.Level.{prev};
 ghost use Rattle.level.specs.FiveThreeLevel.{slot};
 ghost use Rattle.writer.specs.Counts.{deeper, deeperBy, further, made, most, mostLeft, bandAt, skip};
-ghost use Rattle.writer.specs.FiveThreeLevel.{cellOf, before};
 
 // One less, and 0 of 0.
 pub fn prev(n: usize) -> usize
