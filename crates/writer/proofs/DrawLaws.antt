@@ -21,7 +21,7 @@ use Rattle.writer.specs.Machine.{Out, under, settled, passOn}
 use Rattle.writer.specs.Draws.{lower, rowOf, waiting, pull}
 use Rattle.writer.specs.Questions.{waitingRow}
 use Rattle.writer.specs.Calls.{pulled}
-use Rattle.writer.specs.Steps.{Left, Found, Reaches, waitingAt, pullAt, from, lastSetOf, spotOf, Walk}
+use Rattle.writer.specs.Steps.{Left, Found, Reaches, waitingAt, pullAt, from, spotOf, Walk}
 use Rattle.writer.proofs.CountLaws.{start-first, start-deeper, further-none, further-some, deeper-by-same, deeper-by-more, deeper-by-none}
 use Rattle.writer.proofs.CountLaws.{deeper-by-some, deeper-by-le, made-le, start-more}
 use Rattle.writer.proofs.CascadeLaws.{left-waits, left-same, left-under, settled-waits, settled-goes}
