@@ -17,6 +17,7 @@ ghost use Rattle.lifting.specs.Line.{lo, count};
 ghost use Rattle.lifting.specs.Halves.{unliftedInPlace, highsLaid};
 ghost use Rattle.wavelet.specs.Limits.{maxWidth, range};
 ghost use Rattle.wavelet.specs.Plane.{cells, flat};
+ghost use Rattle.wavelet.specs.Questions.{Sized};
 ghost use Rattle.whole_map.specs.Rowwise.{partedInPlace, wovenInPlace};
 ghost use Rattle.whole_map.specs.Passes.{Rows, KeptFrom, even, planeRow, levelRow, rowsMapped, rowsFetched, gridHalved, gridCopied};
 ghost use Rattle.whole_map.specs.LevelPasses.{cornerGrid, levelUnlifted, rowBack, planeWritten, rowsBetween, regionInRange, Doubling, LevelsBack};
@@ -323,7 +324,7 @@ pub fn back_levels(
 }
 
 // Whether each coefficient of the plane lies in its level's range, `level` being that of this region's own bands.
-pub fn in_range(
+fn in_range(
     plane: &[i32],
     across: usize,
     width: usize,
@@ -346,4 +347,17 @@ pub fn in_range(
         return false;
     }
     rows_in_range(plane, across, h, height, 0, width, level)
+}
+
+// Question 7 of a map's whole plane. The least range of all, that of level 1, is asked first, of all coefficients one after the other: a plane
+// that keeps it keeps every level's range, and planes of maps do. Only where one does not are the levels asked, each by its own range.
+pub fn plane_in_range(plane: &[i32], width: usize, height: usize, levels: usize) -> bool
+    requires { ⌜ Sized width height levels × (width * height ≤ length (now plane)) ⌝ }
+    ensures { λ r. ⌜ r ≡ regionInRange 1 levels width height (cells width (at (now (plane .entry)))) ⌝ }
+{
+    let n = width * height;
+    if rows_in_range(plane, n, 0, 1, 0, n, 1) {
+        return true;
+    }
+    in_range(plane, width, width, height, levels, 1)
 }

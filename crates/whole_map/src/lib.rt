@@ -116,7 +116,7 @@ fn restore(
     ensures { λ r. ⌜ heightsAt (now (heights .exit)) ≡ rebuilt r (width * height) (flat width (mapBack wrap32 levels width height (cells width (at (now (plane .entry)))))) (heightsAt (now (heights .entry))) ⌝ }
     ensures { λ r. ⌜ at (now (work .exit)) ≡ rebuilt r (width * height) zeros (at (now (work .entry))) ⌝ }
 {
-    if !levels::in_range(plane, width, width, height, levels, 1) {
+    if !levels::plane_in_range(plane, width, height, levels) {
         return 7;
     }
     if !rebuild(plane, width, height, levels, heights, work) {

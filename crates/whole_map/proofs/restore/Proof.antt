@@ -2,22 +2,17 @@
 use mathlib.Core.Path.{sym, _∙_}
 use native.Mathlib.Omega.{arith}
 use borrow.Author.Tests.{not-true, not-false}
-use Rattle.wavelet.specs.Limits.{maxLevels}
-use Rattle.whole_map.proofs.CallLaws.{map-rows, cleared, rebuilt-no, rebuilt-yes, rebuilt-zero, out-of-range, not-rebuilt, all-rebuilt}
+use Rattle.whole_map.proofs.CallLaws.{cleared, rebuilt-no, rebuilt-yes, rebuilt-zero, out-of-range, not-rebuilt, all-rebuilt}
 use borrow.Author.Needs.{needs}
 use Rattle.whole_map.proofs.restore.Statement.{statement}
 use Rattle.whole_map.proofs.restore.Tie as tie
 
-in-range-requires : tie.Need-in-range-requires
-unfolding maxLevels
-in-range-requires c κs =
-    let start = c .before in
-    let s = start .pre .0 in
-    (map-rows _ _ _ _ s (start .pre .1), s .levels .0, omega arith, omega (arith, s .levels .1))
+plane-in-range-requires : tie.Need-plane-in-range-requires
+plane-in-range-requires c κs = (c .before .pre .0, c .before .pre .1)
 
 returns : tie.Need-returns
 returns c = (
-  out-of-range _ _ _ _ _ (c .before .in-range .ensures) (not-true _ (c .if1 .taken)),
+  out-of-range _ _ _ _ _ (c .before .plane-in-range .ensures) (not-true _ (c .if1 .taken)),
   (rebuilt-no _ _ _ 7 (omega arith) (omega arith), rebuilt-no _ _ _ 7 (omega arith) (omega arith)),
 )
 
@@ -52,7 +47,7 @@ returns-2 c =
     let range = good .before in
     let start = range .before .before in
     let b = map .rebuild .ensures in (
-      not-rebuilt _ _ _ _ _ (range .in-range .ensures) (not-false _ (good .if1 .left)) _ (b .answer) (not-true _ (bad .if2 .taken)),
+      not-rebuilt _ _ _ _ _ (range .plane-in-range .ensures) (not-false _ (good .if1 .left)) _ (b .answer) (not-true _ (bad .if2 .taken)),
       (
         cleared _ _ _ _ _ (start .pre .0 .height .0) (b .keptHeights) (heights .clear-heights .ensures) ∙ sym (rebuilt-zero _ _ _),
         cleared _ _ _ _ _ (start .pre .0 .height .0) (b .kept) (clear .clear .ensures) ∙ sym (rebuilt-zero _ _ _),
@@ -72,7 +67,7 @@ returns-3 c =
     let range = good .before in
     let t = not-false _ (c .if2 .left) in
     let b = map .rebuild .ensures in (
-      all-rebuilt _ _ _ _ _ (range .in-range .ensures) (not-false _ (good .if1 .left)) _ (b .answer) t,
+      all-rebuilt _ _ _ _ _ (range .plane-in-range .ensures) (not-false _ (good .if1 .left)) _ (b .answer) t,
       (b .heights t ∙ sym (rebuilt-yes _ _ _), b .cleared t ∙ sym (rebuilt-yes _ _ _)),
     )
 
@@ -80,7 +75,7 @@ pub restore-spec : {M : Type 1} → statement M
 restore-spec =
     tie.close
     (tie.spec
-    in-range-requires
+    plane-in-range-requires
     returns
     rebuild-requires
     mul-clear-heights
