@@ -18,6 +18,7 @@ use Rattle.numbers.proofs.Words.{read-back}
 use Rattle.numbers.proofs.Sweep.{Swept, finish, both}
 use Rattle.wavelet.specs.Limits.{maxSample}
 use Rattle.wavelet.specs.Maps.{valueFits}
+use Rattle.wavelet.proofs.LimitLaws.{sample-small}
 use Rattle.whole_map.specs.Rowwise.{heightsAt}
 
 abbrev pub wholes : List ℕ → List ℤ
@@ -79,6 +80,6 @@ pub record IsHeight (v : ℤ) : Type 0 where
   pub same : pos (natAbs v) ≡ v
 
 pub is-height : (v : ℤ) → valueFits 0 v ≡ true → IsHeight v
-unfolding valueFits maxSample
-is-height (pos n) h = let b = leb-true n maxSample (both (leZ (pos 0) (pos n)) (leZ (pos n) (pos maxSample)) h .1) in record { sign = tt; fits = record { fits = omega arith }; same = refl }
+unfolding valueFits
+is-height (pos n) h = let b = leb-true n maxSample (both (leZ (pos 0) (pos n)) (leZ (pos n) (pos maxSample)) h .1) in record { sign = tt; fits = record { fits = omega (arith, sample-small) }; same = refl }
 is-height (negsuc n) h = let z : _≡_ {A = ℕ} 0 1 = cc in absurd (omega arith)

@@ -28,7 +28,7 @@ use Rattle.whole_map.specs.LevelPasses.{columnsUnliftedInPlace, rowsBetw
 use Rattle.whole_map.proofs.GridSweep.{RowSwept, store-row, Fronts, fronts-turn, fronts-end, fronts-last}
 use Rattle.whole_map.proofs.RowwiseLaws.{front-at, cut-in, window-cut, cut-parted}
 use Rattle.whole_map.proofs.HeightRows.{halves-inside, heights-length, heights-row}
-use Rattle.whole_map.proofs.CellLaws.{flat-same, level-low, level-high, outside-rows, halved-in, halved-out, copied-in, copied-out, outside-columns}
+use Rattle.whole_map.proofs.CellLaws.{level-low, level-high, outside-rows, halved-in, halved-out, copied-in, copied-out, outside-columns}
 use Rattle.whole_map.proofs.TestLaws.{not-every}
 
 -- ---- a pass reads the cells that stand in the area alone
@@ -57,11 +57,6 @@ unlifted-same w h X Y r c e =
       | yes g ↦ simp (lt-ltb 1 h g) (odd-same (unpredicted wrap32) w h _ _ r c (λ i. even-same (unupdated wrap32) w h X Y i c e))
       | no g ↦ simp (le-ltb 1 h (omega arith)) (e r)
     ]
-
--- what a pass left, as cells
-module _ (s : ℕ) (F : Grid) (y : ℕ → ℤ) (e : y ≡ flat s F) where
-  pub left-cells : (r c : ℕ) → c < s → cells s y r c ≡ F r c
-  left-cells r c cs = ap (λ (z : ℕ → ℤ). cells s z r c) e ∙ cells-flat s F r c cs
 
 -- ---- a part copied
 pub splice-same : (b n : ℕ) (u v x : ℕ → ℤ) → ((i : ℕ) → i < n → u i ≡ v i) → spliced b n u x ≡ spliced b n v x

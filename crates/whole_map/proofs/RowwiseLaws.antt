@@ -172,6 +172,19 @@ between-turn ok i low high x is =
     let e : i + 1 ≡ suc i = omega arith in
     rw e (all-three ok (leZ low (x i)) (leZ (x i) high) ∙ ap (λ (b : Bool). both b (both (leZ low (x i)) (leZ (x i) high))) is)
 
+-- and row by row: t is the test of row i
+and-both : (a b : Bool) → a && b ≡ both a b
+and-both true b = refl
+and-both false b = refl
+
+pub gather-turn : (ok t : Bool) (i : ℕ) (p : ℕ → Bool) → ok ≡ every i p → t ≡ p i → ok && t ≡ every (i + 1) p
+unfolding every
+gather-turn ok t i p is it = let e : i + 1 ≡ suc i = omega arith in rw e (and-both ok t ∙ cc (is, it))
+
 -- at the end, the bounds read back
 pub between-end : (ok : Bool) (i n : ℕ) (low′ high′ low high : ℤ) (x : ℕ → ℤ) → low′ ≡ low → high′ ≡ high → i ≤ n → n ≤ i → ok ≡ every i (λ j. between low′ high′ (x j)) → ok ≡ every n (λ j. between low high (x j))
 between-end ok i n low′ high′ low high x el eh le ge is = let e : i ≡ n = omega arith in rw (el, eh, e) at is
+
+pub between-read : (n : ℕ) (x : ℕ → ℤ) {low low′ high high′ : ℤ} → low ≡ low′ → high ≡ high′ →
+    every n (λ j. between low high (x j)) ≡ every n (λ j. between low′ high′ (x j))
+between-read n x e f = λ i. every n (λ j. between (e i) (f i) (x j))

@@ -19,12 +19,13 @@ use Rattle.wavelet.specs.Limits.{maxSample, range}
 use Rattle.wavelet.specs.Bands.{Grid}
 use Rattle.wavelet.specs.Plane.{levelAt, mapBack, cells}
 use Rattle.wavelet.specs.Maps.{every, everyCell, valueFits, rebuiltFits}
-use Rattle.whole_map.specs.Rowwise.{between}
+use Rattle.whole_map.specs.Rowwise.{cut, between}
 use Rattle.whole_map.specs.Passes.{within}
 use Rattle.whole_map.specs.LevelPasses.{Rebuilt, rowsBetween, regionInRange}
 use Rattle.wavelet.proofs.Bridge.{range-le}
 use Rattle.wavelet.proofs.GridLaws.{place-below}
 use Rattle.wavelet.proofs.MapTheorems.{every-each, each-every, every-same, cells-each, each-cells}
+use Rattle.whole_map.proofs.RowwiseLaws.{cut-in}
 use Rattle.whole_map.proofs.CellLaws.{placed, placed-in, placed-even, placed-odd, grid-at, by-within}
 
 pub false-true : false ≡ true → ⊥
@@ -72,6 +73,21 @@ between-is N v =
     bool-same _ _
     (λ e. let b = both (leZ (negℤ (pos N)) v) _ e in le-leb _ _ (abs-between N (pos N) v refl (b .0) (b .1)))
     (λ e. let a = leb-true _ _ e in both-is _ _ (between-low N (pos N) v refl a) (between-high N (pos N) v refl a))
+
+-- ---- rows tested one by one: row i, lent as a part of n numbers y, and at the end all of them
+pub row-between : (low high : ℤ) (w i n : ℕ) (X : Grid) (y : ℕ → ℤ) → n ≡ w → y ≡ cut w (X i) →
+    every n (λ j. between low high (y j)) ≡ every w (λ c. between low high (X i c))
+row-between low high w i n X y en ey =
+    ap (λ (m : ℕ). every m (λ j. between low high (y j))) en
+    ∙ every-same w _ _ (λ j q. ap (between low high) (ap (λ (f : ℕ → ℤ). f j) ey ∙ cut-in w (X i) j q))
+
+pub all-rows : (low high : ℤ) (w h : ℕ) (X : Grid) → every h (λ r. every w (λ c. between low high (X r c))) ≡ rowsBetween 0 h 0 w low high X
+unfolding rowsBetween everyCell
+all-rows low high w h X =
+    let kw : w - 0 ≡ w = omega arith in
+    let kh : h - 0 ≡ h = omega arith in
+    rw (kw, kh)
+    (every-same h _ _ (λ r rh. every-same w _ _ (λ c cw. let a : 0 + r ≡ r = omega arith in let b : 0 + c ≡ c = omega arith in rw (a, b))))
 
 -- ---- question 14
 pub height-fits : (v : ℤ) → between (pos 0) (pos maxSample) v ≡ valueFits 0 v

@@ -1,5 +1,6 @@
 // Rows of heights loaded into the plane, each in halves, and stored from the work area. The module is private, as `rowwise` is.
 use crate::rowwise;
+use wavelet::limits;
 ghost use mathlib.Core.Path.{_≡_};
 ghost use Prim.Native.Nat.{_+_, _-_, _*_, _<_, _≤_};
 ghost use lib.IntN.{pos};
@@ -120,7 +121,7 @@ pub fn finish_rows(work: &mut [i32], heights: &mut [u16], width: usize, height: 
     while r < height {
         let a = r * width;
         let e = a + width;
-        if !rowwise::all_between(&work[a..e], 0, 65535) {
+        if !rowwise::all_between(&work[a..e], 0, limits::MAX_SAMPLE) {
             return false;
         }
         finish_row(&mut work[a..e], &mut heights[a..e]);

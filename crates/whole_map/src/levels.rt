@@ -15,7 +15,7 @@ ghost use lib.ListN.{length};
 ghost use Rattle.numbers.specs.Signal.{at, pick, windowed, spliced};
 ghost use Rattle.lifting.specs.Line.{lo, count};
 ghost use Rattle.lifting.specs.Halves.{unliftedInPlace, highsLaid};
-ghost use Rattle.wavelet.specs.Limits.{maxWidth, range};
+ghost use Rattle.wavelet.specs.Limits.{maxWidth, maxLevels, range};
 ghost use Rattle.wavelet.specs.Plane.{cells, flat};
 ghost use Rattle.wavelet.specs.Questions.{Sized};
 ghost use Rattle.whole_map.specs.Rowwise.{partedInPlace, wovenInPlace};
@@ -150,14 +150,6 @@ fn fetch_last(
     fetch_row(plane, work, across, stride, from, width, height, r);
 }
 
-// The low-low part of a level from halves into its own order.
-fn weave_low(work: &mut [i32], stride: usize, width: usize, height: usize)
-    requires { ⌜ Rows (length (now work)) stride width height × (width ≤ maxWidth) × (stride < 2 ^ 32) ⌝ }
-    ensures { λ _. ⌜ at (now (work .exit)) ≡ flat (2 * stride) (rowsMapped (wovenInPlace (count lo width)) (count lo width) (count lo height) (cells (2 * stride) (at (now (work .entry))))) ⌝ }
-{
-    passes::weave_rows(work, 2 * stride, sizes::half(width), sizes::half(height));
-}
-
 // All levels forward, in the plane's corner: this one, and then the same of its low-low part with the levels left, which goes through the
 // work area into the order that a level takes.
 pub fn forward_levels(
@@ -185,7 +177,7 @@ pub fn forward_levels(
 
 // The largest magnitude of a level's numbers, as the least of them.
 fn lowest(level: usize) -> i32
-    requires { ⌜ level ≤ 5 ⌝ }
+    requires { ⌜ level ≤ maxLevels ⌝ }
     ensures { λ r. ⌜ r ≡ negℤ (pos (range level)) ⌝ }
 {
     0 - sizes::range_of(level)
@@ -227,7 +219,7 @@ fn rows_in_range(
     to: usize,
     level: usize,
 ) -> bool
-    requires { ⌜ Rows (length (now plane)) across to last × (first ≤ last) × (from ≤ to) × (level ≤ 5) ⌝ }
+    requires { ⌜ Rows (length (now plane)) across to last × (first ≤ last) × (from ≤ to) × (level ≤ maxLevels) ⌝ }
     ensures { λ r. ⌜ r ≡ rowsBetween first last from to (negℤ (pos (range level))) (pos (range level)) (cells across (at (now (plane .entry)))) ⌝ }
 {
     rows_between(
@@ -237,6 +229,22 @@ fn rows_in_range(
         last,
         from,
         to,
+        lowest(level),
+        sizes::range_of(level),
+    )
+}
+
+// The low-low part of a level from halves into its own order; and whether its numbers lie in the range of `level`, its own.
+fn weave_low(work: &mut [i32], stride: usize, width: usize, height: usize, level: usize) -> bool
+    requires { ⌜ Rows (length (now work)) stride width height × (width ≤ maxWidth) × (stride < 2 ^ 32) × (level ≤ maxLevels) ⌝ }
+    ensures { λ r. ⌜ r ≡ rowsBetween 0 (count lo height) 0 (count lo width) (negℤ (pos (range level))) (pos (range level)) (cells (2 * stride) (at (now (work .entry)))) ⌝ }
+    ensures { λ _. ⌜ at (now (work .exit)) ≡ flat (2 * stride) (rowsMapped (wovenInPlace (count lo width)) (count lo width) (count lo height) (cells (2 * stride) (at (now (work .entry))))) ⌝ }
+{
+    passes::weave_rows(
+        work,
+        2 * stride,
+        sizes::half(width),
+        sizes::half(height),
         lowest(level),
         sizes::range_of(level),
     )
@@ -290,8 +298,8 @@ fn level_back(
     rows_back(plane, work, across, stride, from, width, height);
 }
 
-// All levels back: first the low-low part with the levels left, whose numbers are tested, then this level. False where one does not fit.
-// The numbers of this level itself are for the caller to test.
+// All levels back: first the low-low part with the levels left, whose numbers are tested while they are laid in their own order, then this
+// level. False where one does not fit. The numbers of this level itself are for the caller to test.
 pub fn back_levels(
     plane: &[i32],
     work: &mut [i32],
@@ -302,7 +310,7 @@ pub fn back_levels(
     levels: usize,
     level: usize,
 ) -> bool
-    requires { ⌜ Rows (length (now plane)) across width height × Rows (length (now work)) stride width height × Doubling levels stride width × (level + levels ≤ 5) ⌝ }
+    requires { ⌜ Rows (length (now plane)) across width height × Rows (length (now work)) stride width height × Doubling levels stride width × (level + levels ≤ maxLevels) ⌝ }
     ensures { λ ok. ⌜ LevelsBack ok level levels stride across width height (at (now (plane .entry))) (at (now (work .entry))) (at (now (work .exit))) ⌝ }
 {
     if levels < 2 {
@@ -315,10 +323,9 @@ pub fn back_levels(
     if !back_levels(plane, work, across, next, w, h, levels - 1, level + 1) {
         return false;
     }
-    if !rows_in_range(work, next, 0, h, 0, w, level + 1) {
+    if !weave_low(work, stride, width, height, level + 1) {
         return false;
     }
-    weave_low(work, stride, width, height);
     level_back(plane, work, across, stride, w, width, height);
     true
 }
@@ -332,7 +339,7 @@ fn in_range(
     levels: usize,
     level: usize,
 ) -> bool
-    requires { ⌜ Rows (length (now plane)) across width height × (0 < levels) × (0 < level) × (level + levels ≤ 6) ⌝ }
+    requires { ⌜ Rows (length (now plane)) across width height × (0 < levels) × (0 < level) × (level + levels ≤ maxLevels + 1) ⌝ }
     ensures { λ r. ⌜ r ≡ regionInRange level levels width height (cells across (at (now (plane .entry)))) ⌝ }
 {
     if levels < 2 {

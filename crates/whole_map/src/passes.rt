@@ -8,13 +8,13 @@ ghost use lib.Dec.{ltb};
 ghost use lib.ListN.{length};
 ghost use Rattle.numbers.specs.Signal.{at, pick};
 ghost use Rattle.numbers.specs.Word.{wrap32};
-ghost use Rattle.lifting.specs.Line.{lo, count, predicted, updated, unupdated, unpredicted};
+ghost use Rattle.lifting.specs.Line.{lo, count, updated, unupdated, unpredicted};
 ghost use Rattle.lifting.specs.Rows.{rowsChanged};
 ghost use Rattle.wavelet.specs.Limits.{maxWidth};
 ghost use Rattle.wavelet.specs.Plane.{cells, flat};
 ghost use Rattle.whole_map.specs.Rowwise.{wovenInPlace};
 ghost use Rattle.whole_map.specs.Passes.{after, before, nextChanged, pairChanged, rowsMapped, Rows};
-ghost use Rattle.whole_map.specs.LevelPasses.{rowLifted, pairLifted, levelLifted};
+ghost use Rattle.whole_map.specs.LevelPasses.{rowLifted, pairLifted, levelLifted, rowsBetween};
 
 // The row after row r of `height` rows, and the row before: mirrored at the ends.
 fn row_after(height: usize, r: usize) -> usize
@@ -146,17 +146,27 @@ pub fn unlift_pair(area: &mut [i32], stride: usize, width: usize, height: usize,
     rows::unpredict_row(area, stride, width, r, row_before(r), row_after(height, r));
 }
 
-// Each row from halves into its own order, through one line for all of them.
-pub fn weave_rows(area: &mut [i32], stride: usize, width: usize, height: usize)
+// Each row from halves into its own order, through one line for all of them; and whether each number of them lies from `low` to `high`.
+pub fn weave_rows(
+    area: &mut [i32],
+    stride: usize,
+    width: usize,
+    height: usize,
+    low: i32,
+    high: i32,
+) -> bool
     requires { ⌜ Rows (length (now area)) stride width height × (width ≤ count lo maxWidth) ⌝ }
+    ensures { λ r. ⌜ r ≡ rowsBetween 0 height 0 width low high (cells stride (at (now (area .entry)))) ⌝ }
     ensures { λ _. ⌜ at (now (area .exit)) ≡ flat stride (rowsMapped (wovenInPlace width) width height (cells stride (at (now (area .entry))))) ⌝ }
 {
     let mut line = [0; rowwise::LONGEST];
+    let mut ok = true;
     let mut r = 0;
     while r < height {
         let a = r * stride;
         let e = a + width;
-        rowwise::weave(&mut area[a..e], &mut line);
+        ok = ok & rowwise::weave(&mut area[a..e], &mut line, low, high);
         r += 1;
     }
+    ok
 }

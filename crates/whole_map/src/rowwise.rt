@@ -1,4 +1,5 @@
 // What is done to one row of numbers. The module is private: only this crate, which meets what is required, can call it.
+use wavelet::limits;
 ghost use mathlib.Core.Path.{_≡_};
 ghost use Prim.Native.Nat.{_≤_};
 ghost use lib.IntN.{pos};
@@ -10,7 +11,7 @@ ghost use Rattle.wavelet.specs.Maps.{every};
 ghost use Rattle.whole_map.specs.Rowwise.{wovenInPlace, between};
 
 // The longest row that is woven in place: half the largest width, rounded up.
-pub const LONGEST: usize = 1025;
+pub const LONGEST: usize = limits::MAX_WIDTH - limits::MAX_WIDTH / 2;
 
 // Numbers copied to the front of `to`.
 pub fn copy(from: &[i32], to: &mut [i32])
@@ -106,12 +107,31 @@ fn weave_line(row: &[i32], line: &mut [i32])
     }
 }
 
-// A row from halves into its own order, in place, through a line that is lent.
-pub fn weave(row: &mut [i32], line: &mut [i32])
+// Numbers copied to the front of `to`, and whether each lies from `low` to `high`: the test of a row that is copied anyway.
+fn copy_tested(from: &[i32], to: &mut [i32], low: i32, high: i32) -> bool
+    requires { ⌜ length (now from) ≤ length (now to) ⌝ }
+    ensures { λ r. ⌜ r ≡ every (length (now (from .entry))) (λ i. between low high (at (now (from .entry)) i)) ⌝ }
+    ensures { λ _. ⌜ at (now (to .exit)) ≡ fronted (length (now (from .entry))) (at (now (from .entry))) (at (now (to .entry))) ⌝ }
+{
+    let n = from.len();
+    let mut ok = true;
+    let mut i = 0;
+    while i < n {
+        to[i] = from[i];
+        ok = ok & (low <= from[i]) & (from[i] <= high);
+        i += 1;
+    }
+    ok
+}
+
+// A row from halves into its own order, in place, through a line that is lent; and whether each of its numbers lies from `low` to `high`.
+pub fn weave(row: &mut [i32], line: &mut [i32], low: i32, high: i32) -> bool
     requires { ⌜ length (now row) ≤ length (now line) ⌝ }
+    ensures { λ r. ⌜ r ≡ every (length (now (row .entry))) (λ i. between low high (at (now (row .entry)) i)) ⌝ }
     ensures { λ _. ⌜ at (now (row .exit)) ≡ wovenInPlace (length (now (row .entry))) (at (now (row .entry))) ⌝ }
 {
     let n = row.len();
-    copy(row, line);
+    let ok = copy_tested(row, line, low, high);
     weave_line(&line[0..n], row);
+    ok
 }

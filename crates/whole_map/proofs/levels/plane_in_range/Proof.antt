@@ -2,7 +2,6 @@
 use mathlib.Core.Path.{sym, _∙_}
 use native.Mathlib.Omega.{arith}
 use borrow.Author.Needs.{needs}
-use Rattle.wavelet.specs.Limits.{maxLevels}
 use Rattle.whole_map.proofs.TestLaws.{region-least}
 use Rattle.whole_map.proofs.CallLaws.{map-rows, one-row}
 use Rattle.whole_map.proofs.levels.plane_in_range.Statement.{statement}
@@ -21,7 +20,6 @@ returns c =
     sym (region-least _ _ _ _ (start .pre .0 .levels .0) (sym (test .rows-in-range .ensures) ∙ c .if1 .taken))
 
 in-range-requires : tie.Need-in-range-requires
-unfolding maxLevels
 in-range-requires c κs =
     let start = c .before .before in
     let s = start .pre .0 in
