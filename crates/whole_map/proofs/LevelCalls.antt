@@ -20,7 +20,6 @@ use Rattle.lifting.proofs.RowLaws.{row-order}
 use Rattle.wavelet.specs.Bands.{Grid}
 use Rattle.wavelet.specs.Plane.{cells, flat}
 use Rattle.wavelet.specs.Maps.{every, everyCell}
-use Rattle.wavelet.proofs.GridLaws.{cells-flat}
 use Rattle.wavelet.proofs.MapTheorems.{every-each, each-every, every-same}
 use Rattle.whole_map.specs.Rowwise.{heightsAt, cut, partedInPlace, between}
 use Rattle.whole_map.specs.Passes.{Rows, even, before, after, oddRowsChanged, evenRowsChanged, rowsMapped, levelRow, gridHalved, gridCopied}
