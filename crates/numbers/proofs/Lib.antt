@@ -2,3 +2,4 @@ pub mod Integers
 pub mod Words
 pub mod Sweep
 pub mod Parts
+pub mod TestLaws

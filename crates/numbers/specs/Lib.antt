@@ -1,2 +1,3 @@
 pub mod Signal
 pub mod Word
+pub mod Tests

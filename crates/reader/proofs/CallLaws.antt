@@ -18,7 +18,7 @@ use Rattle.lifting.specs.Halves.{halvesOf, fronted}
 use Rattle.wavelet.specs.Questions.{ask}
 use Rattle.reader.specs.declared.Reader.{Reader}
 use Rattle.reader.specs.declared.walk.Spot.{Spot}
-use Rattle.reader.specs.Areas.{height16}
+use Rattle.areas.specs.Areas.{height16}
 use Rattle.reader.specs.Answers.{gives, refused, impossible, Want, row, drawNow, done, ended, aRow, nothing}
 use Rattle.reader.specs.Tried.{Tried, failed, passed, fits, memory}
 use Rattle.reader.specs.Slots.{rowPlace, rowIn}
@@ -30,7 +30,7 @@ use Rattle.reader.specs.State.{endedReader}
 use Rattle.reader.specs.Questions.{countsFit, storeFits, runFits, wantQuestion, feedQuestion, drawQuestion}
 use Rattle.reader.specs.Calls.{fresh, setUpReply, setUpStore, wantReply, feedReply, storeAfter, feedStore, drawReply, drawStore, heightRow, drawArea}
 use Rattle.reader.specs.Inside.{Is, Kept, storeQuestion, rowQuestion}
-use Rattle.reader.proofs.AreaLaws.{front-at, front-rest}
+use Rattle.areas.proofs.AreaLaws.{front-at, front-rest}
 use Rattle.reader.proofs.StepLaws.{place-of}
 
 -- ---- a store zeroed after places past n were kept

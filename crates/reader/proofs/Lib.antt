@@ -1,6 +1,3 @@
-pub mod HeightLaws
-pub mod AreaLaws
-pub mod WeaveLaws
 pub mod SetLaws
 pub mod OpenedSets
 pub mod StepsLeft

@@ -18,7 +18,7 @@ use Rattle.wavelet.specs.Levels.{size, levelBand}
 use Rattle.wavelet.specs.View.{bandColumns}
 use Rattle.wavelet.proofs.LevelTheory.{OnCells}
 use Rattle.wavelet.proofs.MapTheorems.{height-fits}
-use Rattle.reader.specs.Areas.{height16}
+use Rattle.areas.specs.Areas.{height16}
 use Rattle.reader.specs.Sets.{rowAt}
 use Rattle.reader.specs.Tried.{failed, passed, bind}
 use Rattle.reader.specs.Machine.{Place, place, nextAt, settled, fedOn, beyond}

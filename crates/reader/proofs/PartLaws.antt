@@ -27,7 +27,7 @@ use Rattle.reader.specs.Slots.{rowPlace, setRow, halfPlace, bandFed}
 use Rattle.reader.specs.Work.{setWorked}
 use Rattle.reader.specs.Store.{stretchAt, from, behind, fedAt, workedAt}
 use Rattle.reader.specs.Inside.{IsLevel}
-use Rattle.reader.proofs.AreaLaws.{front-at}
+use Rattle.areas.proofs.AreaLaws.{front-at}
 use Rattle.reader.proofs.StoreLaws.{stretch-suc, stretch-in, stretch-is, stretch-small}
 use Rattle.reader.proofs.SetLaws.{row-in}
 use Rattle.reader.proofs.SlotLaws.{slot-room, place-is}

@@ -18,7 +18,7 @@ use Rattle.wavelet.specs.View.{bandRows, bandColumns}
 use Rattle.wavelet.specs.Questions.{within}
 use Rattle.wavelet.specs.ViewCall.{keptAt, bandRowExists}
 use Rattle.wavelet.proofs.Bridge.{map-band-range}
-use Rattle.wavelet.proofs.MapTheorems.{each-every}
+use Rattle.numbers.proofs.TestLaws.{each-every}
 use Rattle.wavelet.specs.Maps.{IsMap}
 use Rattle.wavelet.specs.Order.{RowName, rowName, sameName, times}
 use Rattle.wavelet.specs.Steps.{Step, steps, bandRowsOf}

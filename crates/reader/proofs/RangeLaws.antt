@@ -15,12 +15,14 @@ use Rattle.numbers.specs.Signal.{at, both}
 use Rattle.numbers.proofs.Integers.{each, lin, dif, dif-pos, dif-natAbs, dif-leZ}
 use Rattle.numbers.proofs.Parts.{length-mid, at-mid, window-in}
 use Rattle.wavelet.specs.Limits.{maxSample, maxLevels, range}
-use Rattle.wavelet.specs.Maps.{every, valueFits}
-use Rattle.reader.specs.Inside.{between, lowestOf}
+use Rattle.numbers.specs.Tests.{every}
+use Rattle.wavelet.specs.Maps.{valueFits}
+use Rattle.reader.specs.Inside.{lowestOf}
+use Rattle.areas.specs.Areas.{between}
 use Rattle.reader.specs.Slots.{rowPlace}
 use Rattle.reader.specs.Work.{rowFits}
 use Rattle.reader.specs.Questions.{runFits}
-use Rattle.reader.proofs.AreaLaws.{every-same}
+use Rattle.numbers.proofs.TestLaws.{every-same}
 
 -- one test that is two
 leb-both : (a r b c d e : ℕ) → (b ≤ c → d ≤ e → a ≤ r) → (a ≤ r → (b ≤ c) × (d ≤ e)) → leb a r ≡ both (leb b c) (leb d e)

@@ -27,7 +27,7 @@ use Rattle.wavelet.specs.Order.{RowName, rowName}
 use Rattle.wavelet.specs.Steps.{Step, steps, bandRowsOf}
 use Rattle.wavelet.specs.Steps as step
 use Rattle.wavelet.proofs.LevelTheory.{OnCells}
-use Rattle.wavelet.proofs.MapTheorems.{every-each}
+use Rattle.numbers.proofs.TestLaws.{every-each}
 use Rattle.reader.specs.declared.Reader.{Reader}
 use Rattle.reader.specs.Sets.{opens, rowAt}
 use Rattle.reader.specs.Asked.{asked}

@@ -20,7 +20,7 @@ use Rattle.lifting.proofs.LineLaws.{even-is, odd-is, low-one}
 use Rattle.wavelet.specs.Bands.{Grid, columnsLifted}
 use Rattle.wavelet.specs.Maps.{valueFits}
 use Rattle.wavelet.proofs.LevelTheory.{OnCells}
-use Rattle.wavelet.proofs.MapTheorems.{every-each, each-every}
+use Rattle.numbers.proofs.TestLaws.{every-each, each-every}
 use Rattle.reader.specs.Sets.{setOf}
 use Rattle.reader.specs.Tried.{Tried, failed, passed, bind}
 use Rattle.reader.specs.Slots.{slot, rowPlace, rowUnlifted, rowBy, halfPlace}

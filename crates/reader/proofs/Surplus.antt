@@ -21,7 +21,7 @@ use Rattle.reader.specs.State.{next, settles, feeds, drawDue}
 use Rattle.reader.specs.Questions.{setUpQuestion, feedQuestion, drawQuestion}
 use Rattle.reader.specs.Inside.{Kept}
 use Rattle.reader.specs.Calls.{setUpStore, storeAfter, feedStore, drawStore}
-use Rattle.reader.proofs.AreaLaws.{front-rest}
+use Rattle.areas.proofs.AreaLaws.{front-rest}
 use Rattle.reader.proofs.StoreLaws.{stretch-suc, stretch-in, stretch-is, store-in}
 use Rattle.reader.proofs.PartLaws.{behind-past, from-at}
 use Rattle.reader.proofs.KeptLaws.{kept-none, kept-both, kept-more, set-kept, even-kept, odd-kept, low-kept, fed-kept}

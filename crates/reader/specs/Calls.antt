@@ -7,7 +7,7 @@ use Rattle.numbers.specs.Signal.{pick}
 use Rattle.lifting.specs.Line.{joined}
 use Rattle.lifting.specs.Halves.{halvesOf, fronted}
 use Rattle.reader.specs.declared.Reader.{Reader}
-use Rattle.reader.specs.Areas.{height16}
+use Rattle.areas.specs.Areas.{height16}
 use Rattle.reader.specs.Tried.{memory}
 use Rattle.reader.specs.Slots.{rowIn}
 use Rattle.reader.specs.Store.{zeroed}

@@ -1,12 +1,9 @@
 -- What the private functions of the reader require and ensure of each other. No public contract cites it.
 use mathlib.Core.Path.{_≡_}
-use mathlib.Core.Bool.{Bool, not}
-use mathlib.Core.List.{List, map}
+use mathlib.Core.Bool.{not}
 use Prim.Native.Nat.{ℕ, zero, suc, _≤_, _<_, _^_}
 use lib.IntN.{ℤ, pos, _-ℤ_}
-use lib.Signed.{leZ}
 use lib.Dec.{eqb}
-use Rattle.numbers.specs.Signal.{both}
 use Rattle.wavelet.specs.Limits.{maxWidth, maxHeight, maxLevels, range}
 use Rattle.wavelet.specs.Levels.{size}
 use Rattle.wavelet.specs.Questions.{ask}
@@ -18,14 +15,6 @@ use Rattle.reader.specs.Store.{stretchAt}
 use Rattle.reader.specs.Machine.{Place}
 use Rattle.reader.specs.State.{next, nextLength, rowDue}
 use Rattle.reader.specs.Questions.{countsFit, storeFits, runFits}
-
--- ---- numbers of an area, one by one
-abbrev pub wholes : List ℕ → List ℤ
-wholes l = map pos l
-
--- a number from low to high
-unfoldable pub between : ℤ → ℤ → ℤ → Bool
-between low high v = both (leZ low v) (leZ v high)
 
 -- the least value that the rows of level k's low-low part may have: 0 for heights, k = 0
 unfoldable pub lowestOf : ℕ → ℤ

@@ -1,4 +1,3 @@
-pub mod Areas
 pub mod Sets
 pub mod Asked
 pub mod Tried

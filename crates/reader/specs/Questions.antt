@@ -5,7 +5,7 @@ use lib.IntN.{ℤ, natAbs}
 use lib.Dec.{leb, eqb}
 use Rattle.numbers.specs.Signal.{pick, both}
 use Rattle.wavelet.specs.Limits.{maxWidth, maxHeight, maxLevels, range}
-use Rattle.wavelet.specs.Maps.{every}
+use Rattle.numbers.specs.Tests.{every}
 use Rattle.wavelet.specs.Questions.{ask, within}
 use Rattle.wavelet.specs.Store.{storeLength}
 use Rattle.reader.specs.declared.Reader.{Reader}

@@ -7,7 +7,8 @@ use lib.Dec.{ltb, eqb}
 use Rattle.numbers.specs.Signal.{pick}
 use Rattle.numbers.specs.Word.{wrap32}
 use Rattle.lifting.specs.Line.{lo, hi, count, unupdated, unpredicted}
-use Rattle.wavelet.specs.Maps.{every, valueFits}
+use Rattle.numbers.specs.Tests.{every}
+use Rattle.wavelet.specs.Maps.{valueFits}
 use Rattle.reader.specs.Tried.{Tried, passed, outcome, bind}
 use Rattle.reader.specs.Slots.{rowPlace, rowUnlifted, rowBy, lowRowTaken}
 

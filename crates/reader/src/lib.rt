@@ -1,17 +1,18 @@
 // The row-by-row reader: band rows in, in the order that it wants them, height rows out. A state of numbers by value; the line store is the caller's.
-mod areas;
 mod questions;
 mod sets;
 mod steps;
 mod walk;
 mod work;
 
+use areas::copies;
+use areas::heights;
 use walk::Spot;
 ghost use mathlib.Core.Path.{_≡_};
 ghost use lib.ListN.{length};
 ghost use Rattle.numbers.specs.Signal.{at};
 ghost use Rattle.wavelet.specs.Limits.{maxWidth, maxHeight, maxLevels};
-ghost use Rattle.reader.specs.Areas.{heightsAt};
+ghost use Rattle.areas.specs.Areas.{heightsAt};
 ghost use Rattle.reader.specs.Machine.{place};
 ghost use Rattle.reader.specs.State.{movedTo, endedReader};
 ghost use Rattle.reader.specs.Questions.{setUpQuestion, wantQuestion, feedQuestion, drawQuestion};
@@ -98,7 +99,7 @@ impl Reader {
             return SetUp::Refused(q);
         }
         let n = wavelet::store::store_length(width, levels);
-        areas::clear(store, n);
+        copies::clear(store, n);
         SetUp::Ready(Reader {
             width,
             height,
@@ -159,7 +160,7 @@ impl Reader {
             return Fed::Passed(self.moved(self.drawn, steps::place_fed(self, p)));
         }
         let n = wavelet::store::store_length(self.width, self.levels);
-        areas::clear(store, n);
+        copies::clear(store, n);
         Fed::Impossible(self.over())
     }
 
@@ -190,7 +191,7 @@ impl Reader {
         if steps::settle(self, store, p) {
             let a = work::row_place(w, self.drawn);
             let e = a + w;
-            areas::draw_heights(&store[a..e], out);
+            heights::draw_heights(&store[a..e], out);
             let d = self.drawn + 1;
             return Drawn::Heights(
                 w,
@@ -198,7 +199,7 @@ impl Reader {
             );
         }
         let n = wavelet::store::store_length(w, self.levels);
-        areas::clear(store, n);
+        copies::clear(store, n);
         Drawn::Impossible(self.over())
     }
 

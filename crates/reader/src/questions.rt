@@ -1,8 +1,8 @@
-// The gate questions of the reader, in the order of document 01. The module is private, as `areas` is.
+// The gate questions of the reader, in the order of document 01. The module is private, as `work` is.
 use crate::Reader;
-use crate::areas;
 use crate::steps;
 use crate::walk::Spot;
+use areas::ranges;
 use wavelet::limits;
 use wavelet::sizes;
 use wavelet::store;
@@ -62,7 +62,7 @@ fn run_fits(run: &[i32], level: usize) -> bool
     ensures { λ r. ⌜ r ≡ runFits level (length (now (run .entry))) (at (now (run .entry))) ⌝ }
 {
     let most = sizes::range_of(level);
-    areas::all_between(run, -most, most)
+    ranges::all_between(run, -most, most)
 }
 
 // Questions 1, 5 and 9 of a feed or a draw.

@@ -1,4 +1,4 @@
-// Sets of rows, and the bands that a set asks for: numbers alone. The module is private, as `areas` is.
+// Sets of rows, and the bands that a set asks for: numbers alone. The module is private, as `work` is.
 use wavelet::sizes;
 ghost use mathlib.Core.Path.{_≡_};
 ghost use Prim.Native.Nat.{_-_, _*_, _<_, _≤_, _^_};

@@ -1,4 +1,4 @@
-// The steps of a reader: the row that it wants, a row fed, a height row made ready. Each of a state whose counts are in their ranges. The module is private, as `areas` is.
+// The steps of a reader: the row that it wants, a row fed, a height row made ready. Each of a state whose counts are in their ranges. The module is private, as `work` is.
 use crate::Reader;
 use crate::sets;
 use crate::walk;

@@ -1,8 +1,8 @@
 // The walk over the levels of a map of `width` × `height`, while row `drawn` is waited for: the stretch and the set of each level, the row wanted, the sets
-// worked out on the way. The module is private, as `areas` is.
-use crate::areas;
+// worked out on the way. The module is private, as `work` is.
 use crate::sets;
 use crate::work;
+use areas::copies;
 use wavelet::sizes;
 ghost use mathlib.Core.Path.{_≡_};
 ghost use Prim.Native.Nat.{_+_, _<_, _≤_, _^_};
@@ -126,7 +126,7 @@ pub fn put_row(
     let l = level_at(width, height, drawn, k);
     let a = l.start + half_place(l.width, l.set, band);
     let e = a + run.len();
-    areas::copy(run, &mut store[a..e]);
+    copies::copy(run, &mut store[a..e]);
 }
 
 // The set of level k + 1 worked out, in the level's own stretch.

@@ -1,6 +1,7 @@
-// A set worked out in its level's stretch of the line store: four rows of w numbers, each in halves, row r in slot r mod 4. The module is private, as `areas`
-// is.
-use crate::areas;
+// A set worked out in its level's stretch of the line store: four rows of w numbers, each in halves, row r in slot r mod 4. The module is private: only this crate, which meets what is
+// required, can call it.
+use areas::halves;
+use areas::ranges;
 use lifting::line;
 use lifting::rows;
 use wavelet::sizes;
@@ -95,7 +96,7 @@ fn admit_row(stretch: &[i32], k: usize, w: usize, r: usize) -> bool
 {
     let a = row_place(w, r);
     let e = a + w;
-    areas::all_between(&stretch[a..e], lowest_of(k), sizes::range_of(k))
+    ranges::all_between(&stretch[a..e], lowest_of(k), sizes::range_of(k))
 }
 
 // Row 2n of set n made.
@@ -158,7 +159,7 @@ fn take_low_row(stretch: &mut [i32], w: usize, n: usize)
     let low = sizes::half(w);
     let from = 4 * w + row_place(low, n);
     let to = row_place(w, 2 * n);
-    areas::weave_down(stretch, from, to, low);
+    halves::weave_down(stretch, from, to, low);
 }
 
 // Set n of level k + 1 worked out.

@@ -8,7 +8,7 @@ use reader::Wanted;
 ghost use mathlib.Core.Path.{_≡_};
 ghost use lib.ListN.{length};
 ghost use Rattle.numbers.specs.Signal.{at};
-ghost use Rattle.reader.specs.Areas.{heightsAt};
+ghost use Rattle.areas.specs.Areas.{heightsAt};
 ghost use Rattle.reader.specs.Questions.{setUpQuestion};
 ghost use Rattle.reader.specs.Answers.{number};
 ghost use Rattle.reader.specs.Calls.{setUpReply, setUpStore};

@@ -20,6 +20,7 @@ use Rattle.numbers.specs.Signal.{pick}
 use Rattle.numbers.specs.Word.{wrap32, whole}
 use Rattle.numbers.proofs.Words.{abs-fits}
 use Rattle.numbers.proofs.Sweep.{both}
+pub use Rattle.numbers.proofs.TestLaws.{every-each, each-every, every-same}
 use Rattle.lifting.specs.Line.{lo, count}
 use Rattle.wavelet.specs.Limits.{maxLevels, maxSample, range}
 use Rattle.wavelet.specs.Bands.{Grid, LL, subband}
@@ -28,19 +29,7 @@ use Rattle.wavelet.specs.Maps.{IsMap, HasPlane, every, everyCell, inRang
 use Rattle.wavelet.proofs.LevelTheory.{OnCells, Same, low-all, same-low, same-corner, plane-corner, plane-reads, map-back-reads, words-map-back-plane, words-plane-map-back}
 use Rattle.wavelet.proofs.Bridge.{Within, subband-range, subband-exact, range-suc, range-small, map-height, map-fits, map-plane, map-plane-range}
 
--- ---- a test of every number, and of every cell
-pub every-each : (n : ℕ) (p : ℕ → Bool) → every n p ≡ true → (i : ℕ) → i < n → p i ≡ true
-unfolding every
-every-each zero p e i h = absurd (omega arith)
-every-each (suc n) p e i h =
-    let a = both (every n p) (p n) e in
-    elim (ℕ-discrete i n) [ yes q ↦ rw q (a .1) | no d ↦ every-each n p (a .0) i (omega arith) ]
-
-pub each-every : (n : ℕ) (p : ℕ → Bool) → ((i : ℕ) → i < n → p i ≡ true) → every n p ≡ true
-unfolding every
-each-every zero p f = refl
-each-every (suc n) p f = simp (each-every n p (λ i h. f i (omega arith)), f n (omega arith))
-
+-- ---- a test of every cell
 pub cells-each : (W H : ℕ) (p : ℕ → ℕ → Bool) → everyCell W H p ≡ true → (r c : ℕ) → r < H → c < W → p r c ≡ true
 unfolding everyCell
 cells-each W H p e r c u v = every-each W (p r) (every-each H (λ i. every W (p i)) e r u) c v
@@ -49,12 +38,7 @@ pub each-cells : (W H : ℕ) (p : ℕ → ℕ → Bool) → ((r c : ℕ) → r <
 unfolding everyCell
 each-cells W H p f = each-every H (λ i. every W (p i)) (λ r u. each-every W (p r) (λ c v. f r c u v))
 
--- tests that agree below n, and on every cell
-pub every-same : (n : ℕ) (p q : ℕ → Bool) → ((i : ℕ) → i < n → p i ≡ q i) → every n p ≡ every n q
-unfolding every
-every-same zero p q e = refl
-every-same (suc n) p q e = rw (every-same n p q (λ i h. e i (omega arith)), e n (omega arith))
-
+-- tests that agree on every cell
 pub cells-same : (W H : ℕ) (p q : ℕ → ℕ → Bool) → ((r c : ℕ) → r < H → c < W → p r c ≡ q r c) → everyCell W H p ≡ everyCell W H q
 unfolding everyCell
 cells-same W H p q e = every-same H (λ i. every W (p i)) (λ i. every W (q i)) (λ r u. every-same W (p r) (q r) (λ c v. e r c u v))

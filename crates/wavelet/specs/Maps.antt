@@ -7,6 +7,7 @@ use lib.Signed.{_≤ℤ_, leZ}
 use lib.Dec.{leb}
 use Rattle.numbers.specs.Signal.{both}
 use Rattle.numbers.specs.Word.{whole, wrap32}
+unfoldable pub use Rattle.numbers.specs.Tests.{every}
 use Rattle.lifting.specs.Line.{lo, count}
 use Rattle.wavelet.specs.Limits.{maxSample, range}
 use Rattle.wavelet.specs.Bands.{Grid}
@@ -21,11 +22,7 @@ pub record HasPlane (L W H : ℕ) (g x : Grid) : Type 0 where
   pub map : IsMap W H g
   pub coefficients : (r c : ℕ) → r < H → c < W → x r c ≡ planeCell whole L W H g r c
 
--- a test of every number below n, and of every cell of H rows of W
-unfoldable pub every : ℕ → (ℕ → Bool) → Bool
-every zero p = true
-every (suc n) p = both (every n p) (p n)
-
+-- a test of every cell of H rows of W
 unfoldable pub everyCell : ℕ → ℕ → (ℕ → ℕ → Bool) → Bool
 everyCell W H p = every H (λ r. every W (p r))
 

@@ -1,12 +1,14 @@
 -- `reader::Reader::draw` meets its contract: refused by a question, or nothing, or drawn, or ended. Assumes nothing.
 use mathlib.Core.Path.{_∙_, sym, refl}
 use native.Mathlib.Omega.{arith}
-use borrow.Author.Tests.{not-true, not-false}
-use Prim.Native.Nat.{_+_, _-_}
+use Prim.Native.Nat.{_+_, _-_, _≤_}
 use lib.ListN.{length}
+use borrow.Author.Tests.{le-leb, not-true, not-false}
 use Rattle.numbers.specs.Signal.{at}
-use Rattle.reader.specs.Areas.{heightsAt}
+use Rattle.areas.specs.Areas.{heightsAt}
+use borrow.Rule.Slice.PartMut.{midOf}
 use Rattle.numbers.proofs.Parts.{length-mid}
+use Rattle.areas.proofs.AreaLaws.{did}
 use Rattle.reader.proofs.WorkLaws.{told-no, told-yes}
 use Rattle.reader.proofs.StoreLaws.{first-room}
 use Rattle.reader.proofs.QuestionLaws.{counts-shape, counts-length, store-in, due-in}
@@ -131,21 +133,7 @@ part-draw-heights-end c =
     omega (arith, shape .1, c .before .row-place .ensures .1, one .1, first-room (s .width) (s .levels) (one .0 .deep .0), call .settle .kept .1 .0)
 
 draw-heights-requires : tie.Need-draw-heights-requires
-draw-heights-requires c κs =
-    let call = c .before .before .before .before .before .before in
-    let fits = call .before .before in
-    let due = fits .before in
-    let next = due .before .before in
-    let ok = next .before in
-    let start = ok .before .before .before in
-    let a = start .args in
-    let s = a .self in
-    let one = store-in s _ (sym (ok .before .store-question .ensures) ∙ ok .if1 .left) in
-    let place = c .before .before .before in
-    let p = place .row-place .result in
-    let y = call .settle .last .1 .0 in
-    let room = first-room (s .width) (s .levels) (one .0 .deep .0) in
-    omega (arith, length-mid p (p + s .width - p) y (omega (arith, place .row-place .ensures .1, one .1, room, call .settle .kept .1 .0)))
+draw-heights-requires c κs = tt
 
 add-d : tie.Need-add-d
 add-d c =
@@ -206,6 +194,8 @@ returns-4 c =
     let y = call .settle .last .1 .0 in
     let w = s .width in
     let room = first-room w (s .levels) (one .0 .deep .0) in
+    let part : p + (p + w - p) ≤ length y = omega (arith, place .row-place .ensures .1, one .1, room, call .settle .kept .1 .0) in
+    let fits-out = le-leb (length (midOf p (p + w - p) y)) m (omega (arith, length-mid p (p + w - p) y part)) in
     let made = told-yes (call .settle .result) (at y) _ (call .settle .ensures .0) (settled .if4 .taken) in
     let is-due = sym (due .before .draw-due .ensures) ∙ not-false _ (due .if2 .left) in
     draw-also (a .self) (length (a .store .now)) (length (a .out .now)) (at (a .store .now)) (heightsAt (a .out .now))
@@ -214,23 +204,13 @@ returns-4 c =
     is-due
     (drawn-reader s (c .moved .result) _ (enter .enter-of .result) refl (enter .enter-of .ensures) (c .moved .ensures))
     made
-    (drawn-row w (s .drawn) p (p + w - p) y _ _ (place .row-place .ensures .0) (omega arith) (omega (arith, place .row-place .ensures .1, one .1, room, call .settle .kept .1 .0)) (drawing .draw-heights .ensures)))
+    (drawn-row w (s .drawn) p (p + w - p) y _ _ (place .row-place .ensures .0) (omega arith) part (did _ _ _ _ fits-out (drawing .draw-heights .ensures .1))))
 
 store-length-requires : tie.Need-store-length-requires
 store-length-requires c κs = tt
 
 clear-requires : tie.Need-clear-requires
-clear-requires c κs =
-    let call = c .before .before .before .before in
-    let fits = call .before .before in
-    let due = fits .before in
-    let next = due .before .before in
-    let ok = next .before in
-    let start = ok .before .before .before in
-    let a = start .args in
-    let s = a .self in
-    let one = store-in s _ (sym (ok .before .store-question .ensures) ∙ ok .if1 .left) in
-    omega (arith, one .1, counts-length s (one .0) _ (c .before .store-length .ensures), call .settle .kept .1 .0)
+clear-requires c κs = tt
 
 over-requires : tie.Need-over-requires
 over-requires c κs = tt
@@ -251,6 +231,9 @@ returns-5 c =
     let clear = c .before .before in
     let long = clear .before .before in
     let failed = long .before in
+    let one = store-in s _ (sym (ok .before .store-question .ensures) ∙ ok .if1 .left) in
+    let long-is = counts-length s (one .0) _ (long .store-length .ensures) in
+    let room = le-leb (long .store-length .result) (length (call .settle .last .1 .0)) (omega (arith, one .1, long-is, call .settle .kept .1 .0)) in
     let n = length (a .store .now) in
     let m = length (a .out .now) in
     let made = told-no (call .settle .result) (at (call .settle .last .1 .0)) _ (call .settle .ensures .0) (failed .if4 .left) in
@@ -258,7 +241,7 @@ returns-5 c =
     (draw-end s _ _ _ _ _
     (fits-no _ made ∙ draw-last s n m (at (a .store .now)) (sym (ok .before .store-question .ensures) ∙ ok .if1 .left) (sym (due .before .draw-due .ensures) ∙ not-false _ (due .if2 .left)) (omega arith))
     (c .over .ensures)
-    (zero-kept (s .width) (s .levels) _ _ _ _ (counts-length s (store-in s _ (sym (ok .before .store-question .ensures) ∙ ok .if1 .left) .0) _ (long .store-length .ensures)) (call .settle .ensures .1) (clear .clear .ensures)))
+    (zero-kept (s .width) (s .levels) _ _ _ _ long-is (call .settle .ensures .1) (did _ _ _ _ room (clear .clear .ensures .1))))
 
 pub draw-spec : {M : Type 1} → statement M
 draw-spec =

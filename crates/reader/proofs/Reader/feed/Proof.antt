@@ -2,6 +2,8 @@
 use mathlib.Core.Path.{_∙_, sym}
 use native.Mathlib.Omega.{arith}
 use lib.ListN.{length}
+use borrow.Author.Tests.{le-leb}
+use Rattle.areas.proofs.AreaLaws.{did}
 use Rattle.numbers.specs.Signal.{at}
 use Rattle.reader.proofs.WorkLaws.{told-no, told-yes}
 use Rattle.reader.proofs.QuestionLaws.{counts-length, store-in, row-asked}
@@ -82,13 +84,7 @@ store-length-requires : tie.Need-store-length-requires
 store-length-requires c κs = tt
 
 clear-requires : tie.Need-clear-requires
-clear-requires c κs =
-    let long = c .before in
-    let failed = long .before in
-    let call = failed .before .before in
-    let ok = call .before .before .before .before .before in
-    let one = store-in _ _ (sym (ok .before .store-question .ensures) ∙ ok .if1 .left) in
-    omega (arith, one .1, counts-length (ok .before .before .args .self) (one .0) _ (long .store-length .ensures), call .feed-row .kept .1 .0)
+clear-requires c κs = tt
 
 over-requires : tie.Need-over-requires
 over-requires c κs = tt
@@ -113,8 +109,13 @@ returns-4 c =
     let m = length (a .run .now) in
     let one = sym (ok .before .store-question .ensures) ∙ ok .if1 .left in
     let two = sym (asked .before .row-question .ensures) ∙ asked .if2 .left in
+    let asked-store = store-in s n one in
+    let long-is = counts-length s (asked-store .0) _ (long .store-length .ensures) in
+    let after = call .feed-row .last .1 .0 in
+    let room = le-leb (long .store-length .result) (length after) (omega (arith, asked-store .1, long-is, call .feed-row .kept .1 .0)) in
     let made = told-no (call .feed-row .result) (at (call .feed-row .last .1 .0)) _ (call .feed-row .ensures .0) (failed .if3 .left) in
-    feed-also (a .self) n m (at (a .store .now)) (at (a .run .now)) (feed-end s _ _ _ _ _ (fits-no _ made ∙ feed-last s n m (at (a .run .now)) (at (a .store .now)) one two) (c .over .ensures) (zero-kept (s .width) (s .levels) _ _ _ _ (counts-length s (store-in s _ one .0) _ (long .store-length .ensures)) (call .feed-row .ensures .1) (clear .clear .ensures)))
+    feed-also (a .self) n m (at (a .store .now)) (at (a .run .now)) (feed-end s _ _ _ _ _ (fits-no _ made ∙ feed-last s n m (at (a .run .now)) (at (a .store .now)) one two) (c .over .ensures) (zero-kept (s .width) (s .levels) _ _ _ _ long-is (call .feed-row .ensures .1)
+    (did _ _ _ _ room (clear .clear .ensures .1))))
 
 pub feed-spec : {M : Type 1} → statement M
 feed-spec =

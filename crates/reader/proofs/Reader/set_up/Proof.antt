@@ -2,8 +2,10 @@
 use mathlib.Core.Path.{_∙_, sym}
 use native.Mathlib.Omega.{arith}
 use lib.ListN.{length}
+use borrow.Author.Tests.{le-leb}
 use Rattle.numbers.specs.Signal.{at}
 use Rattle.reader.specs.Calls.{fresh}
+use Rattle.areas.proofs.AreaLaws.{did}
 use Rattle.reader.proofs.StoreLaws.{length-is}
 use Rattle.reader.proofs.QuestionLaws.{up-in}
 use Rattle.reader.proofs.CallLaws.{set-up-no, set-up-yes}
@@ -21,12 +23,7 @@ store-length-requires : tie.Need-store-length-requires
 store-length-requires c κs = tt
 
 clear-requires : tie.Need-clear-requires
-clear-requires c κs =
-    let long = c .before in
-    let yes′ = long .before in
-    let a = yes′ .before .before .args in
-    let ok = up-in (a .width) (a .height) (a .levels) _ (sym (yes′ .before .set-up-question .ensures) ∙ yes′ .if1 .left) in
-    omega (arith, ok .2, long .store-length .ensures ∙ length-is (a .width) (a .levels) (ok .0) (ok .1))
+clear-requires c κs = tt
 
 same-length : tie.Need-same-length
 same-length c = c .before .clear .kept .0
@@ -39,8 +36,11 @@ returns-2 c =
     let passed = long .before in
     let a = passed .before .before .args in
     let ok = up-in (a .width) (a .height) (a .levels) _ (sym (passed .before .set-up-question .ensures) ∙ passed .if1 .left) in
+    let n = long .store-length .ensures ∙ length-is (a .width) (a .levels) (ok .0) (ok .1) in
+    let room = le-leb (long .store-length .result) (length (a .store .now)) (omega (arith, ok .2, n)) in
     set-up-also (a .width) (a .height) (a .levels) (length (a .store .now)) (at (a .store .now))
-    (set-up-yes (a .width) (a .height) (a .levels) _ _ _ _ (sym (passed .before .set-up-question .ensures) ∙ passed .if1 .left) (long .store-length .ensures ∙ length-is (a .width) (a .levels) (ok .0) (ok .1)) (call .clear .ensures))
+    (set-up-yes (a .width) (a .height) (a .levels) _ _ _ _ (sym (passed .before .set-up-question .ensures) ∙ passed .if1 .left) n
+    (did _ _ _ _ room (call .clear .ensures .1)))
 
 pub set-up-spec : {M : Type 1} → statement M
 set-up-spec =

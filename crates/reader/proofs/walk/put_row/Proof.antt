@@ -3,6 +3,9 @@ use mathlib.Core.Path.{_∙_, refl}
 use Prim.Native.Nat.{_+_, _-_}
 use native.Mathlib.Omega.{arith}
 use lib.ListN.{length}
+use borrow.Author.Tests.{le-leb}
+use borrow.Rule.Slice.PartMut.{midOf}
+use Rattle.areas.proofs.AreaLaws.{did}
 use borrow.Author.Needs.{needs}
 use Rattle.numbers.proofs.Parts.{length-mid}
 use Rattle.wavelet.specs.Limits.{maxLevels}
@@ -57,15 +60,7 @@ part-copy-end c =
     omega (arith, put-room _ _ _ _ (level .level-at .result) (level .level-at .ensures) (a .band) (half .half-place .result) (length (a .run .now)) (half .half-place .ensures) (omega arith))
 
 copy-requires : tie.Need-copy-requires
-copy-requires c κs =
-    let known = c .before in
-    let half = known .before in
-    let level = half .before in
-    let a = level .before .args in
-    let p = level .level-at .result .start + half .half-place .result in
-    let n = length (a .run .now) in
-    let room = put-room _ _ _ _ (level .level-at .result) (level .level-at .ensures) (a .band) (half .half-place .result) n (half .half-place .ensures) (omega arith) in
-    omega (arith, length-mid p (p + n - p) (a .store .now) (omega arith))
+copy-requires c κs = tt
 
 same-length : tie.Need-same-length
 same-length c = search needs
@@ -81,7 +76,9 @@ returns c =
     let n = length (a .run .now) in
     let room = put-room _ _ _ _ (level .level-at .result) (level .level-at .ensures) (a .band) (half .half-place .result) n (half .half-place .ensures) (omega arith) in
     let long = length-mid p (p + n - p) (a .store .now) (omega arith) in
-    put-is (a .width) (a .height) (a .drawn) (a .k) (a .band) (level .level-at .result) p (half .half-place .result) (p + n - p) (a .run .now) (a .store .now) (call .copy .last .1 .0) (level .level-at .ensures) (half .half-place .ensures) refl (omega arith) (omega arith) (omega arith) (call .copy .kept .1 .0 ∙ long) (call .copy .ensures)
+    let fits = le-leb n (length (midOf p (p + n - p) (a .store .now))) (omega (arith, long)) in
+    put-is (a .width) (a .height) (a .drawn) (a .k) (a .band) (level .level-at .result) p (half .half-place .result) (p + n - p) (a .run .now) (a .store .now) (call .copy .last .1 .0) (level .level-at .ensures) (half .half-place .ensures) refl (omega arith) (omega arith) (omega arith) (call .copy .kept .1 .0 ∙ long)
+    (did _ _ _ _ fits (call .copy .ensures .1))
 
 pub put-row-spec : {M : Type 1} → statement M
 put-row-spec =

@@ -4,7 +4,7 @@ use lib.ListN.{length}
 use borrow.Author.Needs.{needs}
 use Rattle.numbers.specs.Signal.{at}
 use Rattle.reader.specs.declared.Reader.{Reader}
-use Rattle.reader.specs.Areas.{heightsAt}
+use Rattle.areas.specs.Areas.{heightsAt}
 use Rattle.reader.specs.Answers.{Reply, refused, number, Handed, ofDrawn}
 use Rattle.reader.specs.Questions.{drawQuestion}
 use Rattle.reader.specs.Calls.{drawReply, drawStore, drawArea}

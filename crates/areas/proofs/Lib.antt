@@ -1,0 +1,4 @@
+pub mod AreaLaws
+pub mod HeightLaws
+pub mod WeaveLaws
+pub mod PartLaws

@@ -1,0 +1,23 @@
+-- Numbers and heights of an area, one by one.
+use mathlib.Core.Bool.{Bool}
+use mathlib.Core.List.{List, map}
+use Prim.Native.Nat.{ℕ}
+use lib.IntN.{ℤ, pos, _-ℤ_, _*ℤ_}
+use lib.Signed.{shrZ, leZ}
+use lib.ListN.{getD}
+use Rattle.numbers.specs.Signal.{both}
+
+-- a number from low to high
+unfoldable pub between : ℤ → ℤ → ℤ → Bool
+between low high v = both (leZ low v) (leZ v high)
+
+-- a slice of u16 heights as a signal of whole numbers, and as a list of them
+abbrev pub heightsAt : List ℕ → ℕ → ℤ
+heightsAt l i = pos (getD l i 0)
+
+abbrev pub wholes : List ℕ → List ℤ
+wholes l = map pos l
+
+-- z modulo 65,536, what a u16 keeps: "a made height row is then drawn modulo 65,536"
+unfoldable pub height16 : ℤ → ℤ
+height16 z = z -ℤ pos 65536 *ℤ shrZ z 65536
