@@ -30,7 +30,7 @@ use Rattle.whole_map.specs.Passes.{within as inside}
 use Rattle.whole_map.specs.Passes.{Rows, KeptFrom, rowsMapped, gridHalved, rowsReturned}
 use Rattle.whole_map.specs.LevelPasses.{cornerGrid, planeWritten, Rebuilt, regionInRange, Doubling, LevelsBack, Finished, MapRebuilt}
 use Rattle.whole_map.specs.Calls.{sizeQuestions, planeQuestions, zeros, passed, rebuilt}
-use Rattle.whole_map.proofs.RowwiseLaws.{front-at, front-rest}
+use Rattle.areas.proofs.AreaLaws.{front-at, front-rest}
 use Rattle.whole_map.proofs.CellLaws.{flat-same, by-within, past-rows, kept-then, halved-grid, halved-out, returned-in, returned-out, mapped-out}
 use Rattle.whole_map.proofs.GridSweep.{mapped-in}
 use Rattle.whole_map.proofs.LevelsMath.{written-in, written-out}

@@ -3,7 +3,6 @@
 // The plane's rows are `across` apart at every level.
 // The module is private: only this crate, which meets what is required, can call it.
 use crate::passes;
-use crate::rowwise;
 use lifting::halves;
 use lifting::rows;
 use wavelet::sizes;
@@ -52,7 +51,7 @@ fn copy_part(from: &[i32], a: usize, to: &mut [i32], b: usize, n: usize)
 {
     let e = a + n;
     let f = b + n;
-    rowwise::copy(&from[a..e], &mut to[b..f]);
+    areas::copies::copy(&from[a..e], &mut to[b..f]);
 }
 
 // The same, a row that goes from its own order into halves.
@@ -62,13 +61,14 @@ fn halve_part(from: &[i32], a: usize, to: &mut [i32], b: usize, n: usize)
 {
     let e = a + n;
     let f = b + n;
-    rowwise::part_line(&from[a..e], &mut to[b..f]);
+    areas::halves::part_line(&from[a..e], &mut to[b..f]);
 }
 
 // A grid from the plane's corner to the work area, its rows one after the other.
 fn save(plane: &[i32], work: &mut [i32], across: usize, width: usize, height: usize)
     requires { ⌜ Rows (length (now plane)) across width height × Rows (length (now work)) width width height ⌝ }
-    ensures { λ _. ⌜ at (now (work .exit)) ≡ flat width (gridCopied width height (cells across (at (now (plane .entry)))) (cells width (at (now (work .entry))))) ⌝ }
+    ensures { λ _. ⌜ at (now (work .exit)) ≡
+        flat width (gridCopied width height (cells across (at (now (plane .entry)))) (cells width (at (now (work .entry))))) ⌝ }
 {
     let mut r = 0;
     while r < height {
@@ -80,7 +80,8 @@ fn save(plane: &[i32], work: &mut [i32], across: usize, width: usize, height: us
 // And back to the corner as the level takes it: the low rows first, each row in halves.
 fn spread(work: &[i32], plane: &mut [i32], across: usize, width: usize, height: usize)
     requires { ⌜ Rows (length (now work)) width width height × Rows (length (now plane)) across width height ⌝ }
-    ensures { λ _. ⌜ at (now (plane .exit)) ≡ flat across (gridHalved width height (cells width (at (now (work .entry)))) (cells across (at (now (plane .entry))))) ⌝ }
+    ensures { λ _. ⌜ at (now (plane .exit)) ≡
+        flat across (gridHalved width height (cells width (at (now (work .entry)))) (cells across (at (now (plane .entry))))) ⌝ }
 {
     let mut r = 0;
     while r < height {
@@ -100,7 +101,8 @@ fn made_of(r: usize, from: usize) -> usize
 // n numbers at place b of an area lifted back: a row in halves whose high half stands in the row at place a of another area.
 fn unlift_part(from: &[i32], a: usize, to: &mut [i32], b: usize, n: usize)
     requires { ⌜ (a + n ≤ length (now from)) × (b + n ≤ length (now to)) ⌝ }
-    ensures { λ _. ⌜ at (now (to .exit)) ≡ spliced b n (unliftedInPlace n (highsLaid n (windowed a n (at (now (from .entry)))) (windowed b n (at (now (to .entry)))))) (at (now (to .entry))) ⌝ }
+    ensures { λ _. ⌜ at (now (to .exit)) ≡
+        spliced b n (unliftedInPlace n (highsLaid n (windowed a n (at (now (from .entry)))) (windowed b n (at (now (to .entry)))))) (at (now (to .entry))) ⌝ }
 {
     let e = a + n;
     let f = b + n;
@@ -142,7 +144,8 @@ fn fetch_last(
     r: usize,
 )
     requires { ⌜ Rows (length (now plane)) across width height × Rows (length (now work)) stride width height × (from ≤ count lo width) ⌝ }
-    ensures { λ _. ⌜ at (now (work .exit)) ≡ pick (ltb r height) (rowBack from width height stride (cells across (at (now (plane .entry)))) (at (now (work .entry))) r) (at (now (work .entry))) ⌝ }
+    ensures { λ _. ⌜ at (now (work .exit)) ≡
+        pick (ltb r height) (rowBack from width height stride (cells across (at (now (plane .entry)))) (at (now (work .entry))) r) (at (now (work .entry))) ⌝ }
 {
     if height <= r {
         return;
@@ -161,7 +164,9 @@ pub fn forward_levels(
     levels: usize,
 )
     requires { ⌜ Rows (length (now plane)) across width height × Rows (length (now work)) width width height × (0 < levels) ⌝ }
-    ensures { λ _. ⌜ at (now (plane .exit)) ≡ flat across (planeWritten levels width height (cornerGrid width height (cells across (at (now (plane .entry))))) (cells across (at (now (plane .entry))))) ⌝ }
+    ensures { λ _. ⌜ at (now (plane .exit)) ≡
+        flat across (planeWritten levels width height (cornerGrid width height (cells across (at (now (plane .entry)))))
+        (cells across (at (now (plane .entry))))) ⌝ }
     ensures { λ _. ⌜ KeptFrom ((height - 1) * width + width) (at (now (work .entry))) (at (now (work .exit))) ⌝ }
 {
     passes::lift_level(plane, across, width, height);
@@ -201,7 +206,7 @@ fn rows_between(
     while r < last {
         let a = r * stride + from;
         let e = r * stride + to;
-        if !rowwise::all_between(&area[a..e], low, high) {
+        if !areas::ranges::all_between(&area[a..e], low, high) {
             return false;
         }
         r += 1;
@@ -237,8 +242,10 @@ fn rows_in_range(
 // The low-low part of a level from halves into its own order; and whether its numbers lie in the range of `level`, its own.
 fn weave_low(work: &mut [i32], stride: usize, width: usize, height: usize, level: usize) -> bool
     requires { ⌜ Rows (length (now work)) stride width height × (width ≤ maxWidth) × (stride < 2 ^ 32) × (level ≤ maxLevels) ⌝ }
-    ensures { λ r. ⌜ r ≡ rowsBetween 0 (count lo height) 0 (count lo width) (negℤ (pos (range level))) (pos (range level)) (cells (2 * stride) (at (now (work .entry)))) ⌝ }
-    ensures { λ _. ⌜ at (now (work .exit)) ≡ flat (2 * stride) (rowsMapped (wovenInPlace (count lo width)) (count lo width) (count lo height) (cells (2 * stride) (at (now (work .entry))))) ⌝ }
+    ensures { λ r. ⌜ r ≡
+        rowsBetween 0 (count lo height) 0 (count lo width) (negℤ (pos (range level))) (pos (range level)) (cells (2 * stride) (at (now (work .entry)))) ⌝ }
+    ensures { λ _. ⌜ at (now (work .exit)) ≡
+        flat (2 * stride) (rowsMapped (wovenInPlace (count lo width)) (count lo width) (count lo height) (cells (2 * stride) (at (now (work .entry))))) ⌝ }
 {
     passes::weave_rows(
         work,
@@ -262,7 +269,9 @@ fn rows_back(
     height: usize,
 )
     requires { ⌜ Rows (length (now plane)) across width height × Rows (length (now work)) stride width height × (from ≤ count lo width) × (1 < height) ⌝ }
-    ensures { λ _. ⌜ at (now (work .exit)) ≡ flat stride (levelUnlifted width height (cells stride (flat stride (rowsFetched from width height (cells across (at (now (plane .entry)))) (cells stride (at (now (work .entry)))))))) ⌝ }
+    ensures { λ _. ⌜ at (now (work .exit)) ≡
+        flat stride (levelUnlifted width height (cells stride (flat stride (rowsFetched from width height (cells across (at (now (plane .entry))))
+        (cells stride (at (now (work .entry)))))))) ⌝ }
 {
     fetch_row(plane, work, across, stride, from, width, height, 0);
     fetch_row(plane, work, across, stride, from, width, height, 1);
@@ -289,7 +298,9 @@ fn level_back(
     height: usize,
 )
     requires { ⌜ Rows (length (now plane)) across width height × Rows (length (now work)) stride width height × (from ≤ count lo width) ⌝ }
-    ensures { λ _. ⌜ at (now (work .exit)) ≡ flat stride (levelUnlifted width height (cells stride (flat stride (rowsFetched from width height (cells across (at (now (plane .entry)))) (cells stride (at (now (work .entry)))))))) ⌝ }
+    ensures { λ _. ⌜ at (now (work .exit)) ≡
+        flat stride (levelUnlifted width height (cells stride (flat stride (rowsFetched from width height (cells across (at (now (plane .entry))))
+        (cells stride (at (now (work .entry)))))))) ⌝ }
 {
     if height < 2 {
         fetch_row(plane, work, across, stride, from, width, height, 0);
@@ -310,7 +321,8 @@ pub fn back_levels(
     levels: usize,
     level: usize,
 ) -> bool
-    requires { ⌜ Rows (length (now plane)) across width height × Rows (length (now work)) stride width height × Doubling levels stride width × (level + levels ≤ maxLevels) ⌝ }
+    requires { ⌜ Rows (length (now plane)) across width height × Rows (length (now work)) stride width height × Doubling levels stride width
+        × (level + levels ≤ maxLevels) ⌝ }
     ensures { λ ok. ⌜ LevelsBack ok level levels stride across width height (at (now (plane .entry))) (at (now (work .entry))) (at (now (work .exit))) ⌝ }
 {
     if levels < 2 {

@@ -76,8 +76,11 @@ fn lift_both(area: &mut [i32], stride: usize, width: usize, low: usize, n: usize
 
 // One turn: a pair, the low row and the high row before it, which is read no more either.
 fn lift_turn(area: &mut [i32], stride: usize, width: usize, low: usize, n: usize)
-    requires { ⌜ (0 < n) × (n < low) × (low + n ≤ length (now area)) × (width ≤ stride) × (n * stride + width ≤ length (now area)) × ((low + (n - 1)) * stride + width ≤ length (now area)) ⌝ }
-    ensures { λ _. ⌜ at (now (area .exit)) ≡ rowLifted stride width (low + (n - 1)) (rowLifted stride width n (pairLifted (length (now (area .entry))) stride width low n (at (now (area .entry))))) ⌝ }
+    requires { ⌜ (0 < n) × (n < low) × (low + n ≤ length (now area)) × (width ≤ stride) × (n * stride + width ≤ length (now area))
+        × ((low + (n - 1)) * stride + width ≤ length (now area)) ⌝ }
+    ensures { λ _. ⌜ at (now (area .exit)) ≡
+        rowLifted stride width (low + (n - 1))
+        (rowLifted stride width n (pairLifted (length (now (area .entry))) stride width low n (at (now (area .entry))))) ⌝ }
 {
     lift_both(area, stride, width, low, n);
     lift_row(area, stride, width, low + (n - 1));
@@ -86,7 +89,10 @@ fn lift_turn(area: &mut [i32], stride: usize, width: usize, low: usize, n: usize
 // The last low row, n, where there is one more than high ones.
 fn lift_odd(area: &mut [i32], stride: usize, width: usize, height: usize, low: usize, n: usize)
     requires { ⌜ (0 < height) × (width ≤ stride) × (n * stride + width ≤ length (now area)) ⌝ }
-    ensures { λ _. ⌜ at (now (area .exit)) ≡ pick (ltb n low) (rowLifted stride width n (rowsChanged (updated wrap32) (length (now (area .entry))) stride width n (height - 1) (height - 1) (at (now (area .entry))))) (at (now (area .entry))) ⌝ }
+    ensures { λ _. ⌜ at (now (area .exit)) ≡
+        pick (ltb n low)
+        (rowLifted stride width n (rowsChanged (updated wrap32) (length (now (area .entry))) stride width n (height - 1) (height - 1) (at (now (area .entry)))))
+        (at (now (area .entry))) ⌝ }
 {
     if low <= n {
         return;
@@ -140,7 +146,8 @@ fn unupdate_next(area: &mut [i32], stride: usize, width: usize, height: usize, r
 // One turn of the columns back: the even row after row r first, and then row r. It is called twice for the same reason as `lift_pair`.
 pub fn unlift_pair(area: &mut [i32], stride: usize, width: usize, height: usize, r: usize)
     requires { ⌜ (r < height) × (1 < height) ⌝ }
-    ensures { λ _. ⌜ at (now (area .exit)) ≡ pairChanged (unupdated wrap32) (unpredicted wrap32) (length (now (area .entry))) stride width height r (at (now (area .entry))) ⌝ }
+    ensures { λ _. ⌜ at (now (area .exit)) ≡
+        pairChanged (unupdated wrap32) (unpredicted wrap32) (length (now (area .entry))) stride width height r (at (now (area .entry))) ⌝ }
 {
     unupdate_next(area, stride, width, height, r);
     rows::unpredict_row(area, stride, width, r, row_before(r), row_after(height, r));

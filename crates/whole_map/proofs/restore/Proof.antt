@@ -1,7 +1,11 @@
 -- `restore` meets its contract: the two questions of the plane, and what each answer leaves. Assumes nothing.
-use mathlib.Core.Path.{sym, _∙_}
+use mathlib.Core.Path.{_≡_, sym, _∙_}
+use mathlib.Core.Bool.{true}
+use Prim.Native.Nat.{ℕ, _*_, _≤_}
+use lib.Dec.{leb}
 use native.Mathlib.Omega.{arith}
-use borrow.Author.Tests.{not-true, not-false}
+use borrow.Author.Tests.{not-true, not-false, le-leb}
+use Rattle.areas.proofs.AreaLaws.{did}
 use Rattle.whole_map.proofs.CallLaws.{cleared, rebuilt-no, rebuilt-yes, rebuilt-zero, out-of-range, not-rebuilt, all-rebuilt}
 use borrow.Author.Needs.{needs}
 use Rattle.whole_map.proofs.restore.Statement.{statement}
@@ -23,13 +27,13 @@ mul-clear-heights : tie.Need-mul-clear-heights
 mul-clear-heights c = search needs
 
 clear-heights-requires : tie.Need-clear-heights-requires
-clear-heights-requires c κs = search needs
+clear-heights-requires c κs = tt
 
 mul-clear : tie.Need-mul-clear
 mul-clear c = search needs
 
 clear-requires : tie.Need-clear-requires
-clear-requires c κs = search needs
+clear-requires c κs = tt
 
 same-length : tie.Need-same-length
 same-length c = search needs
@@ -46,11 +50,13 @@ returns-2 c =
     let good = map .before .before .before in
     let range = good .before in
     let start = range .before .before in
+    let size = start .args .width * start .args .height in
+    let room : (m k : ℕ) → m ≡ k → size ≤ k → leb size m ≡ true = λ m k e h. le-leb size m (omega arith) in
     let b = map .rebuild .ensures in (
       not-rebuilt _ _ _ _ _ (range .plane-in-range .ensures) (not-false _ (good .if1 .left)) _ (b .answer) (not-true _ (bad .if2 .taken)),
       (
-        cleared _ _ _ _ _ (start .pre .0 .height .0) (b .keptHeights) (heights .clear-heights .ensures) ∙ sym (rebuilt-zero _ _ _),
-        cleared _ _ _ _ _ (start .pre .0 .height .0) (b .kept) (clear .clear .ensures) ∙ sym (rebuilt-zero _ _ _),
+        cleared _ _ _ _ _ (start .pre .0 .height .0) (b .keptHeights) (did _ _ _ _ (room _ _ (map .rebuild .kept .1 .1 .1 .1 .0) (start .pre .2)) (heights .clear-heights .ensures .1)) ∙ sym (rebuilt-zero _ _ _),
+        cleared _ _ _ _ _ (start .pre .0 .height .0) (b .kept) (did _ _ _ _ (room _ _ (map .rebuild .kept .1 .1 .1 .1 .1 .0) (start .pre .3)) (clear .clear .ensures .1)) ∙ sym (rebuilt-zero _ _ _),
       ),
     )
 

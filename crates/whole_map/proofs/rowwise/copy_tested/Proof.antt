@@ -12,7 +12,7 @@ use Rattle.numbers.proofs.Sweep.{Swept, start, store, finish}
 use Rattle.lifting.specs.Halves.{fronted}
 use Rattle.wavelet.specs.Maps.{every}
 use Rattle.whole_map.specs.Rowwise.{between}
-use Rattle.whole_map.proofs.RowwiseLaws.{front-at, front-rest, between-start, between-turn, between-end}
+use Rattle.areas.proofs.AreaLaws.{front-at, front-rest, between-start, between-turn, between-end}
 use Rattle.whole_map.proofs.rowwise.copy_tested.Statement.{statement}
 use Rattle.whole_map.proofs.rowwise.copy_tested.Tie as tie
 

@@ -1,5 +1,5 @@
 -- `whole_map::rowwise::weave` meets its contract: the row stands at the front of the line, and its numbers are woven from there. Assumes nothing.
-use mathlib.Core.Path.{_∙_}
+use mathlib.Core.Path.{refl, _∙_}
 use native.Mathlib.Omega.{arith}
 use mir.Syntax.{w32}
 use mir.ValLaws.{toZ-ofZ}
@@ -24,7 +24,7 @@ part-weave-line-end : tie.Need-part-weave-line-end
 part-weave-line-end c = search needs
 
 weave-line-requires : tie.Need-weave-line-requires
-weave-line-requires c κs = search needs
+weave-line-requires c κs = tt
 
 same-length : tie.Need-same-length
 same-length c = search needs
@@ -40,7 +40,7 @@ returns c =
     let row = start .args .row .now in
     let n = length row in (
       copied .ensures .0 ∙ between-read n (at row) (toZ-ofZ w32 _ (start .fits .low)) (toZ-ofZ w32 _ (start .fits .high)),
-      weave-through n (n - 0) _ (at row) _ (copied .last .1 .0) (omega arith) (omega (arith, copied .kept .1 .0)) (copied .ensures .1) (c .before .weave-line .ensures),
+      weave-through n (n - 0) _ (at row) _ (copied .last .1 .0) (omega arith) (omega (arith, copied .kept .1 .0)) (copied .ensures .1) n refl (c .before .weave-line .ensures .1),
     )
 
 pub weave-spec : {M : Type 1} → statement M
