@@ -47,7 +47,12 @@ kept-by N = each _ λ p q. simp lin (omega arith)
 
 height-kept : (v : ℤ) → valueFits 0 v ≡ true → height16 v ≡ v
 unfolding valueFits
-height-kept (pos n) h = kept-by n (pos n) (omega (arith, sample-small, leb-true n maxSample (both (leZ (pos 0) (pos n)) (leZ (pos n) (pos maxSample)) h .1))) refl
+height-kept (pos n) h = kept-by n (pos n) (omega (
+  arith,
+  sample-small,
+  leb-true n maxSample
+      (both (leZ (pos 0) (pos n)) (leZ (pos n) (pos maxSample)) h .1),
+)) refl
 height-kept (negsuc n) h = let z : _≡_ {A = ℕ} 0 1 = cc in absurd (omega arith)
 
 pub drawn-heights : (N : ℕ) (y z : ℕ → ℤ) → every N (λ i. valueFits 0 (y i)) ≡ true →

@@ -98,13 +98,17 @@ module _ (a b n k k′ : ℕ) (from to z : List ℤ) (e : k ≡ n) (e′ : k′ 
       let is′ : at z ≡ fronted (length (midOf a k′ from)) y (at (midOf b k to)) = simp ok at is in
       moved-part b n k to z y e fb size (λ i h. ap (λ (u : ℕ → ℤ). u i) is′ ∙ front-at _ y _ i (omega arith))
 
-  pub copied-part : at z ≡ pick (leb (length (midOf a k′ from)) (length (midOf b k to))) (fronted (length (midOf a k′ from)) (at (midOf a k′ from)) (at (midOf b k to))) (at (midOf b k to)) → at (putMid b k to z) ≡ spliced b n (windowed a n (at from)) (at to)
+  pub copied-part : at z ≡ pick (leb (length (midOf a k′ from)) (length (midOf b k to)))
+      (fronted (length (midOf a k′ from)) (at (midOf a k′ from)) (at (midOf b k to))) (at (midOf b k to)) → at (putMid b k to z) ≡ spliced b n
+      (windowed a n (at from)) (at to)
   copied-part is = fronted-part _ is ∙ ap (λ (y : ℕ → ℤ). spliced b n y (at to)) (lent-part a n k′ from e′)
 
   pub unlifted-part : at z ≡ pick (leb (length (midOf a k′ from)) (length (midOf b k to))) (fronted (length (midOf a k′ from)) (unliftedInPlace (length (midOf a k′ from)) (highsLaid (length (midOf a k′ from)) (at (midOf a k′ from)) (at (midOf b k to)))) (at (midOf b k to))) (at (midOf b k to)) → at (putMid b k to z) ≡ spliced b n (unliftedInPlace n (highsLaid n (windowed a n (at from)) (windowed b n (at to)))) (at to)
   unlifted-part is = fronted-part _ is ∙ cc (mid-length, lent-part a n k′ from e′, lent-part b n k to e)
 
-  pub halved-part : at z ≡ pick (leb (length (midOf a k′ from)) (length (midOf b k to))) (inHalves (length (midOf a k′ from)) (parted (at (midOf a k′ from))) (at (midOf b k to))) (at (midOf b k to)) → at (putMid b k to z) ≡ spliced b n (partedInPlace n (windowed a n (at from))) (at to)
+  pub halved-part : at z ≡ pick (leb (length (midOf a k′ from)) (length (midOf b k to)))
+      (inHalves (length (midOf a k′ from)) (parted (at (midOf a k′ from))) (at (midOf b k to))) (at (midOf b k to)) → at (putMid b k to z) ≡ spliced b n
+      (partedInPlace n (windowed a n (at from))) (at to)
   unfolding partedInPlace
   halved-part is =
       let y = windowed a n (at from) in
@@ -159,7 +163,10 @@ lifted-part a n k l z e room size is =
     moved-part a n k l z _ e room size (λ i h. ap (λ (y : ℕ → ℤ). y i) is′)
 
 -- ---- heights g, row m of them laid in halves in row i of the plane
-pub height-part : (w m i k k′ : ℕ) (g : List ℕ) (l z : List ℤ) → 0 < w → k ≡ w → k′ ≡ w → m * w + w ≤ length g → i * w + w ≤ length l → length z ≡ length (midOf (i * w) k l) → at z ≡ pick (leb (length (midOf (m * w) k′ g)) (length (midOf (i * w) k l))) (inHalves (length (midOf (m * w) k′ g)) (parted (heightsAt (midOf (m * w) k′ g))) (at (midOf (i * w) k l))) (at (midOf (i * w) k l)) → at (putMid (i * w) k l z) ≡ spliced (i * w) w (partedInPlace w (cells w (heightsAt g) m)) (at l)
+pub height-part : (w m i k k′ : ℕ) (g : List ℕ) (l z : List ℤ) → 0 < w → k ≡ w → k′ ≡ w → m * w + w ≤ length g → i * w + w ≤ length l → length z ≡ length
+    (midOf (i * w) k l) → at z ≡ pick (leb (length (midOf (m * w) k′ g)) (length (midOf (i * w) k l)))
+    (inHalves (length (midOf (m * w) k′ g)) (parted (heightsAt (midOf (m * w) k′ g))) (at (midOf (i * w) k l))) (at (midOf (i * w) k l)) → at
+    (putMid (i * w) k l z) ≡ spliced (i * w) w (partedInPlace w (cells w (heightsAt g) m)) (at l)
 unfolding partedInPlace
 height-part w m i k k′ g l z some e e′ fg fl size is =
     let G = cells w (heightsAt g) m in

@@ -152,7 +152,8 @@ module _ (n s A w h k L w′ h′ : ℕ) (done : Bool) (z y₀ y₁ : ℕ → �
     back-low no′ = no-answer y₂ (sym tested ∙ no′) woven-kept
 
     -- they fit too
-    pub back-step : (y : ℕ → ℤ) → ok ≡ true → y ≡ flat s (levelUnlifted w h (cells s (flat s (rowsFetched w′ w h (cells A z) (cells s y₂))))) → LevelsBack true k L s A w h z y₀ y
+    pub back-step : (y : ℕ → ℤ) → ok ≡ true → y ≡ flat s (levelUnlifted w h (cells s (flat s (rowsFetched w′ w h (cells A z) (cells s y₂))))) →
+        LevelsBack true k L s A w h z y₀ y
     back-step y yes′ c =
         let c′ : y ≡ flat s (levelUnlifted w h (cells s (flat s (rowsFetched (count lo w) w h (cells A z) (cells s y₂))))) = rw ew at c in
         record {

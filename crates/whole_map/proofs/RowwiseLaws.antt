@@ -15,7 +15,8 @@ use borrow.Rule.Slice.PartMut.{midOf}
 use Rattle.numbers.proofs.Parts.{window-in, window-past, length-mid, at-mid}
 use Rattle.lifting.specs.Line.{lo, hi, count, parted, joined}
 use Rattle.lifting.specs.Halves.{halvesOf, inHalves, fronted}
-use Rattle.lifting.proofs.LineLaws.{counts, count-hi, joined-even, joined-odd, halves-low, halves-high, halves-past, halves-are, front-in, front-past, front-are}
+use Rattle.lifting.proofs.LineLaws.{counts, count-hi, joined-even, joined-odd, halves-low}
+use Rattle.lifting.proofs.LineLaws.{halves-high, halves-past, halves-are, front-in, front-past, front-are}
 use Rattle.wavelet.specs.Maps.{every}
 use Rattle.whole_map.specs.Rowwise.{cut, wovenInPlace, between}
 
@@ -67,7 +68,8 @@ cut-woven n x z =
     (λ j h. sym (front-past n p z (joined p) j h))
 
 module _ (n k : ℕ) (y x z : ℕ → ℤ) (l : List ℤ) (e : k ≡ n) (h : n ≤ length l) (is : at l ≡ fronted n x z) where
-  pub weave-through : (m : ℕ) → m ≡ n → y ≡ pick (leb (length (midOf 0 k l)) m) (fronted (length (midOf 0 k l)) (joined (halvesOf (length (midOf 0 k l)) (at (midOf 0 k l)))) x) x → y ≡ wovenInPlace n x
+  pub weave-through : (m : ℕ) → m ≡ n → y ≡ pick (leb (length (midOf 0 k l)) m)
+      (fronted (length (midOf 0 k l)) (joined (halvesOf (length (midOf 0 k l)) (at (midOf 0 k l)))) x) x → y ≡ wovenInPlace n x
   unfolding wovenInPlace
   weave-through m em made =
       let mid = length-mid 0 k l (omega arith) in

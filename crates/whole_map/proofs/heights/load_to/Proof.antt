@@ -56,7 +56,8 @@ returns c =
     let w = args .width in
     let a = args .m * w in
     let b = args .r * w in
-    height-part w (args .m) (args .r) (b + w - b) (a + w - a) (args .heights .now) (args .plane .now) (called .last .1 .0) (start .pre .0) (omega arith) (omega arith) (start .pre .1) (start .pre .2) (called .kept .1 .0) (called .ensures .1)
+    height-part w (args .m) (args .r) (b + w - b) (a + w - a) (args .heights .now) (args .plane .now) (called .last .1 .0) (start .pre .0) (omega arith)
+    (omega arith) (start .pre .1) (start .pre .2) (called .kept .1 .0) (called .ensures .1)
 
 pub load-to-spec : {M : Type 1} → statement M
 load-to-spec =

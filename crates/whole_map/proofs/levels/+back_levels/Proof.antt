@@ -242,7 +242,8 @@ back-levels-returns-3 t c =
     let half2 = again .before .before in
     let half = half2 .before in
     let start = half .before .before in
-    back-low _ _ _ _ _ _ _ _ _ _ _ _ _ (start .pre .1 .1) (half .before .if1 .left) (half .half .ensures) (half2 .half2 .ensures) (again .back-levels .ensures) (not-false _ (fits .if2 .left))
+    back-low _ _ _ _ _ _ _ _ _ _ _ _ _ (start .pre .1 .1) (half .before .if1 .left) (half .half .ensures) (half2 .half2 .ensures)
+    (again .back-levels .ensures) (not-false _ (fits .if2 .left))
     _ _ (weave .weave-low .ensures .0) (weave .weave-low .ensures .1) (not-true _ (c .if3 .taken))
 
 back-levels-level-back-requires-2 : (t : ℕ) → back-levels-lts.Need-level-back-requires-2 (
@@ -294,7 +295,8 @@ back-levels-returns-4 t c =
     let half2 = again .before .before in
     let half = half2 .before in
     let start = half .before .before in
-    back-step _ _ _ _ _ _ _ _ _ _ _ _ _ (start .pre .1 .1) (half .before .if1 .left) (half .half .ensures) (half2 .half2 .ensures) (again .back-levels .ensures) (not-false _ (fits .if2 .left))
+    back-step _ _ _ _ _ _ _ _ _ _ _ _ _ (start .pre .1 .1) (half .before .if1 .left) (half .half .ensures) (half2 .half2 .ensures)
+    (again .back-levels .ensures) (not-false _ (fits .if2 .left))
     _ _ (weave .weave-low .ensures .0) (weave .weave-low .ensures .1) _ (not-false _ (good .if3 .left)) (c .before .level-back2 .ensures)
 
 pub +back-levels-spec : {M : Type 1} → statement M

@@ -65,7 +65,12 @@ weave-requires c κs =
     let head = c .before .before .before in
     let a = head .loop .r * head .before .args .stride in
     let few = head .before .pre .1 in
-    omega (arith, row-length _ _ _ _ _ _ (a + head .before .args .width - a) _ (omega arith) (c .before .before .loop-test .taken) (head .loop .inv .3), head .loop .inv .1)
+    omega (
+      arith,
+      row-length _ _ _ _ _ _ (a + head .before .args .width - a) _ (omega arith) (c .before .before .loop-test .taken)
+          (head .loop .inv .3),
+      head .loop .inv .1,
+    )
 
 add-r : tie.Need-add-r Inv-loop μ-loop
 add-r c = omega arith
@@ -87,7 +92,8 @@ loop-again c =
           ∙ row-between _ _ (args .width) (head .loop .r) _ (cells (args .stride) (at (args .area .now))) _
           (row-length _ _ _ _ _ _ (a + args .width - a) _ (omega arith) (row .loop-test .taken) (head .loop .inv .3))
           (lent-row _ _ _ _ _ _ (a + args .width - a) _ (omega arith) (head .loop .inv .3))),
-      map-turn wovenInPlace _ _ _ _ _ (a + args .width - a) _ (part .last .0) (omega arith) (row .loop-test .taken) (part .kept .0) (part .ensures .1) (head .loop .inv .3),
+      map-turn wovenInPlace _ _ _ _ _ (a + args .width - a) _ (part .last .0) (omega arith) (row .loop-test .taken) (part .kept .0) (part .ensures .1)
+          (head .loop .inv .3),
     )
 
 same-length : tie.Need-same-length Inv-loop μ-loop
