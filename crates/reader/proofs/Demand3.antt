@@ -110,8 +110,7 @@ module _ (W H l n : ℕ) (lim : Limits W H l n) where
   tall : 0 < H
   tall = within-true 1 maxHeight H (lim .high) .0
 
-  few : suc l ≤ 5
-  unfolding maxLevels
+  few : suc l ≤ maxLevels
   few = within-true 1 maxLevels (suc l) (lim .deep) .1
 
   fresh-reached : (x : ℕ → ℤ) → Reached W H l n lim (freshWorld W H (suc l) n x) false (steps W H (suc l)) [] []

@@ -14,7 +14,7 @@ use Rattle.numbers.specs.Word.{wrap32}
 use Rattle.numbers.proofs.Words.{abs-fits}
 use Rattle.numbers.proofs.Sweep.{both}
 use Rattle.lifting.specs.Line.{count}
-use Rattle.wavelet.specs.Limits.{range}
+use Rattle.wavelet.specs.Limits.{maxLevels, range}
 use Rattle.wavelet.specs.Bands.{Grid, Band, LL, HL, LH, HH, code, across, down, subband, levelBack}
 use Rattle.wavelet.specs.Levels.{size, approximation, levelBand}
 use Rattle.wavelet.specs.View.{bandColumns}
@@ -103,7 +103,7 @@ found f (g ∷ fs) (later i) h = go (sameName (f .row) (g .row)) h (found f fs i
 zero-fits : SFits w32 (pos 0)
 zero-fits = abs-fits (pos 0) 0 (omega arith) (omega arith)
 
-pub lookup-words : (W H l : ℕ) → suc l ≤ 5 → (fs : List FedRow) → All (Good W H l) fs → (x : RowName) (i : ℕ) → i < bandColumns W (x .level) (x .band) → SFits w32 (lookup fs x i)
+pub lookup-words : (W H l : ℕ) → suc l ≤ maxLevels → (fs : List FedRow) → All (Good W H l) fs → (x : RowName) (i : ℕ) → i < bandColumns W (x .level) (x .band) → SFits w32 (lookup fs x i)
 unfolding lookup
 lookup-words W H l few [] all-none x i p = zero-fits
 lookup-words W H l few (f ∷ fs) (all-more g gs) x i p = go (sameName x (f .row)) refl (lookup-words W H l few fs gs x i p)

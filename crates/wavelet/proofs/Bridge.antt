@@ -14,11 +14,12 @@ use Rattle.numbers.proofs.Integers.{each, lin}
 use Rattle.numbers.proofs.Words.{abs-fits}
 use Rattle.lifting.specs.Line.{Half, lo, count}
 use Rattle.lifting.proofs.LineTheorems.{forward-reads, forward-range, forward-exact}
-use Rattle.wavelet.specs.Limits.{maxSample, range}
+use Rattle.wavelet.specs.Limits.{maxLevels, maxSample, range}
 use Rattle.wavelet.specs.Bands.{Grid, Band, LL, HL, LH, HH, across, down, columnsLifted, subband}
 use Rattle.wavelet.specs.Levels.{size, approximation, levelBand}
 use Rattle.wavelet.specs.Plane.{planeCell, levelAt}
 use Rattle.wavelet.specs.Maps.{IsMap}
+use Rattle.wavelet.proofs.LimitLaws.{range-last}
 use Rattle.wavelet.proofs.LevelTheory.{OnCells, OnBands, Same, SameBands, subband-same, over, over-same, by-band, bandIn, same-bands, low-all, same-low, plane-at, level-at, plane-reads}
 
 -- z is within ±M
@@ -143,9 +144,8 @@ pub range-le : (j k : ℕ) → j ≤ k → range j ≤ range k
 unfolding range
 range-le j k h = mul-le-mul-left maxSample (pow-le-pow-right {n = 4} (omega arith) h)
 
-pub range-small : (k : ℕ) → k ≤ 5 → range k < 2 ^ 31
-unfolding range maxSample
-range-small k h = let a = range-le k 5 h in omega arith
+pub range-small : (k : ℕ) → k ≤ maxLevels → range k < 2 ^ 31
+range-small k h = omega (arith, range-le k maxLevels h, range-last)
 
 pub map-height : (v : ℤ) → pos 0 ≤ℤ v → v ≤ℤ pos maxSample → natAbs v ≤ maxSample
 map-height = each _ λ p q. simp lin (omega arith)
@@ -172,14 +172,14 @@ module _ (W H : ℕ) (g : Grid) (m : IsMap W H g) where
   map-plane-range L = plane-range maxSample L W H g (map-within W H g m)
 
   -- the bridge: for a map the word transform is the definition's, in every level and in the plane
-  pub map-approximation : (k : ℕ) → k ≤ 5 → Same (size k W) (size k H) (approximation wrap32 W H g k) (approximation whole W H g k)
+  pub map-approximation : (k : ℕ) → k ≤ maxLevels → Same (size k W) (size k H) (approximation wrap32 W H g k) (approximation whole W H g k)
   unfolding range
   map-approximation k h = approximation-exact maxSample W H g (map-within W H g m) k (range-small k h)
 
-  pub map-band : (k : ℕ) → suc k ≤ 5 → SameBands (size k W) (size k H) (levelBand wrap32 W H g (suc k)) (levelBand whole W H g (suc k))
+  pub map-band : (k : ℕ) → suc k ≤ maxLevels → SameBands (size k W) (size k H) (levelBand wrap32 W H g (suc k)) (levelBand whole W H g (suc k))
   unfolding range
   map-band k h = band-exact maxSample W H g (map-within W H g m) k (range-small (suc k) h)
 
-  pub map-plane : (L : ℕ) → L ≤ 5 → Same W H (planeCell wrap32 L W H g) (planeCell whole L W H g)
+  pub map-plane : (L : ℕ) → L ≤ maxLevels → Same W H (planeCell wrap32 L W H g) (planeCell whole L W H g)
   unfolding range
   map-plane L h = plane-exact maxSample L W H g (range-small L h) (map-within W H g m)

@@ -1,7 +1,7 @@
 -- What arithmetic needs of the limits. No other law or proof knows their numbers. Assumes nothing.
 use Prim.Native.Nat.{_*_, _^_, _<_}
 use native.Mathlib.Omega.{arith}
-use Rattle.wavelet.specs.Limits.{maxWidth, maxHeight, maxLevels}
+use Rattle.wavelet.specs.Limits.{maxWidth, maxHeight, maxLevels, maxSample, range}
 
 pub width-small : maxWidth < 2 ^ 16
 unfolding maxWidth
@@ -11,7 +11,21 @@ pub height-small : maxHeight < 2 ^ 32
 unfolding maxHeight
 height-small = omega arith
 
+pub levels-small : maxLevels < 2 ^ 16
+unfolding maxLevels
+levels-small = omega arith
+
 -- the stride of the last level of a map's rows
 pub stride-small : maxWidth * 2 ^ maxLevels < 2 ^ 32
 unfolding maxWidth maxLevels
 stride-small = omega arith
+
+-- a height as a 16-bit number
+pub sample-small : maxSample < 2 ^ 16
+unfolding maxSample
+sample-small = omega arith
+
+-- the range of the last level, as a 32-bit number
+pub range-last : range maxLevels < 2 ^ 31
+unfolding range maxSample maxLevels
+range-last = omega arith

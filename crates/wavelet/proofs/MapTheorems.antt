@@ -1,4 +1,4 @@
--- Maps and the planes they have, over the definitions of specs/Maps, for up to 5 levels.
+-- Maps and the planes they have, over the definitions of specs/Maps, for up to maxLevels levels.
 --     plane-in-range, plane-rebuilt, plane-back    of a plane that a map has: questions 7 and 14 are answered yes, and the way back gives the map
 --     rebuilt-plane                                a plane that is answered so is the plane of the map that the way back gives
 --     some-map, no-map, one-map                    so both are answered yes exactly where some map has the plane, and that map is one
@@ -21,7 +21,7 @@ use Rattle.numbers.proofs.Words.{abs-fits}
 use Rattle.numbers.proofs.Sweep.{both}
 pub use Rattle.numbers.proofs.TestLaws.{every-each, each-every, every-same}
 use Rattle.lifting.specs.Line.{lo, count}
-use Rattle.wavelet.specs.Limits.{maxSample, range}
+use Rattle.wavelet.specs.Limits.{maxLevels, maxSample, range}
 use Rattle.wavelet.specs.Bands.{Grid, LL, subband}
 use Rattle.wavelet.specs.Plane.{planeCell, levelAt, mapBack}
 use Rattle.wavelet.specs.Maps.{IsMap, HasPlane, every, everyCell, inRange, valueFits, rebuiltFits}
@@ -81,7 +81,7 @@ rebuilt-reads k (suc L) W H x y e =
     )
 
 -- ---- question 14, for a grid whose values fit at level k and that has the plane x
-pub rebuilt-yes : (k L W H : ℕ) (g x : Grid) → k + L ≤ 5 → OnCells (λ v. valueFits k v ≡ true) W H g → Same W H x (planeCell wrap32 L W H g) → rebuiltFits k L W H x ≡ true
+pub rebuilt-yes : (k L W H : ℕ) (g x : Grid) → k + L ≤ maxLevels → OnCells (λ v. valueFits k v ≡ true) W H g → Same W H x (planeCell wrap32 L W H g) → rebuiltFits k L W H x ≡ true
 unfolding rebuiltFits
 rebuilt-yes k zero W H g x h fit e = refl
 rebuilt-yes k (suc L) W H g x h fit e =
@@ -100,7 +100,7 @@ rebuilt-yes k (suc L) W H g x h fit e =
     simp (rest, each-cells W H (λ r c. valueFits k (mapBack wrap32 (suc L) W H x r c)) (λ r c p q. rw (back r c p q) (fit r c p q)))
 
 -- ---- a plane that a map has
-module _ (L W H : ℕ) (g x : Grid) (few : L ≤ 5) (has : HasPlane L W H g x) where
+module _ (L W H : ℕ) (g x : Grid) (few : L ≤ maxLevels) (has : HasPlane L W H g x) where
   pub plane-words : Same W H x (planeCell wrap32 L W H g)
   plane-words r c p q = has .coefficients r c p q ∙ sym (map-plane W H g (has .map) L few r c p q)
 
@@ -133,7 +133,7 @@ level-le (suc L) W H r c =
     pick-le (pick (ltb r (count lo H)) (ltb c (count lo W)) false) (1 + levelAt L (count lo W) (count lo H) r c) 1 (suc L) (omega arith) (omega arith)
 
 -- a plane in range is one of 32-bit numbers
-pub range-words : (L W H : ℕ) (x : Grid) → L ≤ 5 → inRange L W H x ≡ true → OnCells (SFits w32) W H x
+pub range-words : (L W H : ℕ) (x : Grid) → L ≤ maxLevels → inRange L W H x ≡ true → OnCells (SFits w32) W H x
 unfolding inRange
 range-words L W H x few e r c p q =
     let a = leb-true _ _ (cells-each W H _ e r c p q) in
@@ -145,7 +145,7 @@ rebuilt-fits k zero W H x some e = absurd (omega arith)
 rebuilt-fits k (suc L) W H x some e =
     cells-each W H (λ r c. valueFits k (mapBack wrap32 (suc L) W H x r c)) (both (rebuiltFits (suc k) L (count lo W) (count lo H) x) _ e .1)
 
-module _ (L W H : ℕ) (x : Grid) (some : 1 ≤ L) (few : L ≤ 5) (fits : OnCells (SFits w32) W H x) (rebuilt : rebuiltFits 0 L W H x ≡ true) where
+module _ (L W H : ℕ) (x : Grid) (some : 1 ≤ L) (few : L ≤ maxLevels) (fits : OnCells (SFits w32) W H x) (rebuilt : rebuiltFits 0 L W H x ≡ true) where
   pub rebuilt-map : IsMap W H (mapBack wrap32 L W H x)
   rebuilt-map = record { heights = λ r c p q. height-fits (mapBack wrap32 L W H x r c) .0 (rebuilt-fits 0 L W H x some rebuilt r c p q) }
 
@@ -157,13 +157,13 @@ module _ (L W H : ℕ) (x : Grid) (some : 1 ≤ L) (few : L ≤ 5) (fits : OnCel
   }
 
 -- ---- so both questions are answered yes exactly where some map has the plane, and no other map has it
-pub some-map : (L W H : ℕ) (x : Grid) → 1 ≤ L → L ≤ 5 → (inRange L W H x ≡ true) × (rebuiltFits 0 L W H x ≡ true) ↔ (g : Grid) × HasPlane L W H g x
+pub some-map : (L W H : ℕ) (x : Grid) → 1 ≤ L → L ≤ maxLevels → (inRange L W H x ≡ true) × (rebuiltFits 0 L W H x ≡ true) ↔ (g : Grid) × HasPlane L W H g x
 some-map L W H x some few = (
   λ h. (mapBack wrap32 L W H x, rebuilt-plane L W H x some few (range-words L W H x few (h .0)) (h .1)),
   λ m. (plane-in-range L W H (m .0) x few (m .1), plane-rebuilt L W H (m .0) x few (m .1)),
 )
 
-pub one-map : (L W H : ℕ) (g g′ x : Grid) → L ≤ 5 → HasPlane L W H g x → HasPlane L W H g′ x → Same W H g g′
+pub one-map : (L W H : ℕ) (g g′ x : Grid) → L ≤ maxLevels → HasPlane L W H g x → HasPlane L W H g′ x → Same W H g g′
 one-map L W H g g′ x few m m′ r c p q = sym (plane-back L W H g x few m r c p q) ∙ plane-back L W H g′ x few m′ r c p q
 
 -- and one of them no exactly where no map has it
@@ -172,7 +172,7 @@ both-no true true = (λ e h. subst T e tt, λ h. absurd (h (refl, refl)))
 both-no true false = (λ e h. subst T (sym (h .1)) tt, λ h. refl)
 both-no false b = (λ e h. subst T (sym (h .0)) tt, λ h. refl)
 
-pub no-map : (L W H : ℕ) (x : Grid) → 1 ≤ L → L ≤ 5 → pick (inRange L W H x) (rebuiltFits 0 L W H x) false ≡ false ↔ ((g : Grid) → HasPlane L W H g x → ⊥)
+pub no-map : (L W H : ℕ) (x : Grid) → 1 ≤ L → L ≤ maxLevels → pick (inRange L W H x) (rebuiltFits 0 L W H x) false ≡ false ↔ ((g : Grid) → HasPlane L W H g x → ⊥)
 no-map L W H x some few =
     let asked = both-no (inRange L W H x) (rebuiltFits 0 L W H x) in
     let maps = some-map L W H x some few in
@@ -189,11 +189,11 @@ same-plane L W H g g′ x y e d has = record {
 }
 
 -- a map has the plane that its word transform is
-pub own-plane : (L W H : ℕ) (g : Grid) → L ≤ 5 → IsMap W H g → HasPlane L W H g (planeCell wrap32 L W H g)
+pub own-plane : (L W H : ℕ) (g : Grid) → L ≤ maxLevels → IsMap W H g → HasPlane L W H g (planeCell wrap32 L W H g)
 own-plane L W H g few m = record { map = m; coefficients = map-plane W H g m L few }
 
 -- the way back gives the map, with both questions answered yes, exactly where the plane is that map's
-pub back-exactly : (L W H : ℕ) (g x : Grid) → 1 ≤ L → L ≤ 5 → HasPlane L W H g x ↔ (inRange L W H x ≡ true) × (rebuiltFits 0 L W H x ≡ true) × Same W H (mapBack wrap32 L W H x) g
+pub back-exactly : (L W H : ℕ) (g x : Grid) → 1 ≤ L → L ≤ maxLevels → HasPlane L W H g x ↔ (inRange L W H x ≡ true) × (rebuiltFits 0 L W H x ≡ true) × Same W H (mapBack wrap32 L W H x) g
 back-exactly L W H g x some few = (
   λ has. (plane-in-range L W H g x few has, plane-rebuilt L W H g x few has, plane-back L W H g x few has),
   λ h. same-plane L W H (mapBack wrap32 L W H x) g x x (h .2) (λ r c p q. refl)

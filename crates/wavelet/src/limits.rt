@@ -1,6 +1,7 @@
 // The limits of the whole map and of the view. A contract that names a constant follows an edit of it, so each is pinned to the definition's number.
 ghost use mathlib.Core.Path.{_≡_};
-ghost use Rattle.wavelet.specs.Limits.{maxWidth, maxHeight, maxLevels};
+ghost use lib.IntN.{pos};
+ghost use Rattle.wavelet.specs.Limits.{maxWidth, maxHeight, maxLevels, maxSample};
 ghost use Rattle.wavelet.specs.Questions.{within, sizeQuestion};
 
 pub const MAX_WIDTH: usize = 2049;
@@ -8,6 +9,9 @@ pub const MAX_WIDTH: usize = 2049;
 pub const MAX_HEIGHT: usize = 4294967295;
 
 pub const MAX_LEVELS: usize = 5;
+
+// The largest height.
+pub const MAX_SAMPLE: i32 = 65535;
 
 pub fn max_width() -> usize
     ensures { λ r. ⌜ r ≡ maxWidth ⌝ }
@@ -25,6 +29,12 @@ pub fn max_levels() -> usize
     ensures { λ r. ⌜ r ≡ maxLevels ⌝ }
 {
     MAX_LEVELS
+}
+
+pub fn max_sample() -> i32
+    ensures { λ r. ⌜ r ≡ pos maxSample ⌝ }
+{
+    MAX_SAMPLE
 }
 
 // Is n from 1 to `most`?

@@ -1,4 +1,5 @@
 // The sizes of the levels, and the range of their coefficients.
+use crate::limits;
 ghost use mathlib.Core.Path.{_≡_};
 ghost use Prim.Native.Nat.{min};
 ghost use lib.IntN.{pos};
@@ -34,16 +35,27 @@ pub fn size_at(level: usize, n: usize) -> usize
     side
 }
 
+// The lesser of a level and the last.
+fn deepest(level: usize) -> usize
+    ensures { λ r. ⌜ r ≡ min level maxLevels ⌝ }
+{
+    if level < limits::MAX_LEVELS {
+        level
+    } else {
+        limits::MAX_LEVELS
+    }
+}
+
 // The largest magnitude of a coefficient of a level, 65,535 × 4^level; past the last level, that of the last.
 pub fn range_of(level: usize) -> i32
     ensures { λ r. ⌜ r ≡ pos (range (min level maxLevels)) ⌝ }
 {
-    match level {
-        0 => 65535,
-        1 => 262140,
-        2 => 1048560,
-        3 => 4194240,
-        4 => 16776960,
-        _ => 67107840,
+    let last = deepest(level);
+    let mut most = limits::MAX_SAMPLE;
+    let mut k = 0;
+    while k < last {
+        most = 4 * most;
+        k += 1;
     }
+    most
 }

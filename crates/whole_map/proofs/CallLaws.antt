@@ -30,7 +30,7 @@ use Rattle.whole_map.specs.Passes.{within as inside}
 use Rattle.whole_map.specs.Passes.{Rows, KeptFrom, rowsMapped, gridHalved, rowsReturned}
 use Rattle.whole_map.specs.LevelPasses.{cornerGrid, planeWritten, Rebuilt, regionInRange, Doubling, LevelsBack, Finished, MapRebuilt}
 use Rattle.whole_map.specs.Calls.{sizeQuestions, planeQuestions, zeros, passed, rebuilt}
-use Rattle.whole_map.proofs.RowwiseLaws.{front-at, front-rest}
+use Rattle.areas.proofs.AreaLaws.{front-at, front-rest}
 use Rattle.whole_map.proofs.CellLaws.{flat-same, by-within, past-rows, kept-then, halved-grid, halved-out, returned-in, returned-out, mapped-out}
 use Rattle.whole_map.proofs.GridSweep.{mapped-in}
 use Rattle.whole_map.proofs.LevelsMath.{written-in, written-out}
@@ -173,6 +173,13 @@ map-rows W H L n s b =
     let w = s .width in
     let h = s .height in
     record { apart = w .0; wide = omega arith; some = h .0; room = omega (arith, whole-rows W H (h .0)) }
+
+-- and all of them as one row
+pub one-row : (W H L n : ℕ) → Sized W H L → W * H ≤ n → Rows n (W * H) (W * H) 1
+one-row W H L n s b =
+    let w = s .width in
+    let h = s .height in
+    record { apart = omega (arith, whole-rows W H (h .0)); wide = omega arith; some = omega arith; room = omega arith }
 
 pub map-doubling : (W H L : ℕ) → Sized W H L → Doubling L W W
 map-doubling W H L s =

@@ -86,10 +86,6 @@ module _ (N i : ℕ) where
   unfolding halfAt placeIn
   half-low h = (simp (lt-ltb i (count lo N) h), simp (lt-ltb i (count lo N) h))
 
-  pub half-high : count lo N ≤ i → (halfAt N i ≡ hi) × (placeIn N i ≡ i - count lo N)
-  unfolding halfAt placeIn
-  half-high h = (simp (le-ltb i (count lo N) h), simp (le-ltb i (count lo N) h))
-
   pub place-in : i < N → placeIn N i < count (halfAt N i) N
   unfolding halfAt placeIn
   place-in h =

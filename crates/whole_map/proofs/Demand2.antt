@@ -23,7 +23,7 @@ use Rattle.wavelet.proofs.GridLaws.{place-below, flat-at}
 use Rattle.wavelet.proofs.LevelTheory.{Same}
 use Rattle.wavelet.proofs.MapTheorems.{some-map, one-map, back-exactly}
 use Rattle.whole_map.specs.Calls.{sizeQuestions, forwardQuestion, planeQuestions, backwardQuestion, passed, rebuilt}
-use Rattle.whole_map.proofs.RowwiseLaws.{front-at}
+use Rattle.areas.proofs.AreaLaws.{front-at}
 use Rattle.whole_map.proofs.TestLaws.{false-true}
 use Rattle.whole_map.proofs.CallLaws.{roomy-is, asked-on, passed-yes, rebuilt-yes}
 

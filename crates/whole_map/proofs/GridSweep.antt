@@ -98,17 +98,6 @@ store-row {s} {Y} {X} {k} {x} x′ sw other here =
       rest = λ r c lt kr. other r c lt (omega arith) ∙ sw .rest r c lt (omega arith);
     }
 
-pub skip-row : {s : ℕ} {Y X : Grid} {k : ℕ} {x : ℕ → ℤ} → RowSwept s Y X k x → ((c : ℕ) → Y k c ≡ X k c) → RowSwept s Y X (k + 1) x
-skip-row {s} {Y} {X} {k} {x} sw e =
-    record {
-      done = λ r c lt rk.
-          elim (ℕ-discrete r k) [
-            | yes p ↦ sw .rest r c lt (omega arith) ∙ ap (λ (m : ℕ). X m c) p ∙ sym (e c) ∙ ap (λ (m : ℕ). Y m c) (sym p)
-            | no d ↦ sw .done r c lt (omega arith)
-          ];
-      rest = λ r c lt kr. sw .rest r c lt (omega arith);
-    }
-
 -- a row that the pass leaves is as it was, passed or not
 pub left-row : {s : ℕ} {Y X : Grid} {k : ℕ} {x : ℕ → ℤ} (r c : ℕ) → RowSwept s Y X k x → c < s → Y r c ≡ X r c → x (r * s + c) ≡ X r c
 left-row {k = k} r c sw lt e = elim (decLt r k) [ yes p ↦ sw .done r c lt p ∙ e | no d ↦ sw .rest r c lt (omega arith) ]

@@ -10,7 +10,7 @@ use lib.ListN.{length, length-map}
 use borrow.Rule.Slice.PartMut.{midOf, putMid}
 use Rattle.numbers.specs.Signal.{at}
 use Rattle.numbers.proofs.Parts.{length-mid, at-mid}
-use Rattle.lifting.specs.Line.{Half, lo, count, parted, joined}
+use Rattle.lifting.specs.Line.{Half, lo, count, joined}
 use Rattle.lifting.specs.Halves.{halvesOf, inHalves, fronted}
 use Rattle.lifting.proofs.LineLaws.{halves-low, halves-high}
 use Rattle.wavelet.specs.Limits.{maxSample}
@@ -20,9 +20,12 @@ use Rattle.wavelet.specs.Maps.{every, everyCell, valueFits}
 use Rattle.whole_map.specs.Rowwise.{heightsAt, cut, between}
 use Rattle.whole_map.specs.Passes.{Rows, KeptFrom, rowsMapped, rowsReturned}
 use Rattle.whole_map.specs.LevelPasses.{Finished}
-use Rattle.whole_map.proofs.RowwiseLaws.{front-at, window-cut, cut-in, cut-parted, cut-woven}
+use Rattle.whole_map.proofs.RowwiseLaws.{window-cut, cut-in, cut-woven}
 use Rattle.wavelet.proofs.MapTheorems.{every-each, each-every, every-same}
-use Rattle.whole_map.proofs.HeightLaws.{wholes, wholes-at, wholes-mid, wholes-put}
+use Rattle.areas.specs.Areas.{wholes}
+use Rattle.areas.proofs.AreaLaws.{front-at}
+use Rattle.areas.proofs.HeightLaws.{wholes-at}
+use Rattle.whole_map.proofs.HeightLaws.{wholes-mid, wholes-put}
 use Rattle.whole_map.proofs.GridSweep.{Passed, row-room, within-in, within-past, within-wide, pass-start, pass-room, pass-end, pass-kept, row-length, lent-row, part-turn, map-turn, mapped-past}
 use Rattle.whole_map.proofs.TestLaws.{false-true, not-every, height-fits}
 use Rattle.whole_map.proofs.CellLaws.{mapped-out, returned-out}

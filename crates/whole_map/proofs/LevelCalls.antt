@@ -20,15 +20,15 @@ use Rattle.lifting.proofs.RowLaws.{row-order}
 use Rattle.wavelet.specs.Bands.{Grid}
 use Rattle.wavelet.specs.Plane.{cells, flat}
 use Rattle.wavelet.specs.Maps.{every, everyCell}
-use Rattle.wavelet.proofs.GridLaws.{cells-flat}
 use Rattle.wavelet.proofs.MapTheorems.{every-each, each-every, every-same}
 use Rattle.whole_map.specs.Rowwise.{heightsAt, cut, partedInPlace, between}
 use Rattle.whole_map.specs.Passes.{Rows, even, before, after, oddRowsChanged, evenRowsChanged, rowsMapped, levelRow, gridHalved, gridCopied}
 use Rattle.whole_map.specs.LevelPasses.{columnsUnliftedInPlace, rowsBetween}
 use Rattle.whole_map.proofs.GridSweep.{RowSwept, store-row, Fronts, fronts-turn, fronts-end, fronts-last}
-use Rattle.whole_map.proofs.RowwiseLaws.{front-at, cut-in, window-cut, cut-parted}
+use Rattle.areas.proofs.AreaLaws.{front-at, did}
+use Rattle.whole_map.proofs.RowwiseLaws.{cut-in, window-cut, cut-parted}
 use Rattle.whole_map.proofs.HeightRows.{halves-inside, heights-length, heights-row}
-use Rattle.whole_map.proofs.CellLaws.{flat-same, level-low, level-high, outside-rows, halved-in, halved-out, copied-in, copied-out, outside-columns}
+use Rattle.whole_map.proofs.CellLaws.{level-low, level-high, outside-rows, halved-in, halved-out, copied-in, copied-out, outside-columns}
 use Rattle.whole_map.proofs.TestLaws.{not-every}
 
 -- ---- a pass reads the cells that stand in the area alone
@@ -57,11 +57,6 @@ unlifted-same w h X Y r c e =
       | yes g ↦ simp (lt-ltb 1 h g) (odd-same (unpredicted wrap32) w h _ _ r c (λ i. even-same (unupdated wrap32) w h X Y i c e))
       | no g ↦ simp (le-ltb 1 h (omega arith)) (e r)
     ]
-
--- what a pass left, as cells
-module _ (s : ℕ) (F : Grid) (y : ℕ → ℤ) (e : y ≡ flat s F) where
-  pub left-cells : (r c : ℕ) → c < s → cells s y r c ≡ F r c
-  left-cells r c cs = ap (λ (z : ℕ → ℤ). cells s z r c) e ∙ cells-flat s F r c cs
 
 -- ---- a part copied
 pub splice-same : (b n : ℕ) (u v x : ℕ → ℤ) → ((i : ℕ) → i < n → u i ≡ v i) → spliced b n u x ≡ spliced b n v x
@@ -95,12 +90,6 @@ module _ (a b n k k′ : ℕ) (from to z : List ℤ) (e : k ≡ n) (e′ : k′ 
   pub same-parts : length (midOf a k′ from) ≡ length (midOf b k to)
   same-parts = mid-length ∙ sym (length-mid b k to (omega arith) ∙ e)
 
-  pub copied-part : at z ≡ fronted (length (midOf a k′ from)) (at (midOf a k′ from)) (at (midOf b k to)) → at (putMid b k to z) ≡ spliced b n (windowed a n (at from)) (at to)
-  copied-part is =
-      let mid = mid-length in
-      moved-part b n k to z _ e fb size
-      (λ i h. ap (λ (y : ℕ → ℤ). y i) is ∙ front-at _ _ _ i (omega arith) ∙ ap (λ (y : ℕ → ℤ). y i) (lent-part a n k′ from e′))
-
   -- what came back has y at its front
   fronted-part : (y : ℕ → ℤ) → at z ≡ pick (leb (length (midOf a k′ from)) (length (midOf b k to))) (fronted (length (midOf a k′ from)) y (at (midOf b k to))) (at (midOf b k to)) → at (putMid b k to z) ≡ spliced b n y (at to)
   fronted-part y is =
@@ -109,14 +98,22 @@ module _ (a b n k k′ : ℕ) (from to z : List ℤ) (e : k ≡ n) (e′ : k′ 
       let is′ : at z ≡ fronted (length (midOf a k′ from)) y (at (midOf b k to)) = simp ok at is in
       moved-part b n k to z y e fb size (λ i h. ap (λ (u : ℕ → ℤ). u i) is′ ∙ front-at _ y _ i (omega arith))
 
+  pub copied-part : at z ≡ pick (leb (length (midOf a k′ from)) (length (midOf b k to)))
+      (fronted (length (midOf a k′ from)) (at (midOf a k′ from)) (at (midOf b k to))) (at (midOf b k to)) → at (putMid b k to z) ≡ spliced b n
+      (windowed a n (at from)) (at to)
+  copied-part is = fronted-part _ is ∙ ap (λ (y : ℕ → ℤ). spliced b n y (at to)) (lent-part a n k′ from e′)
+
   pub unlifted-part : at z ≡ pick (leb (length (midOf a k′ from)) (length (midOf b k to))) (fronted (length (midOf a k′ from)) (unliftedInPlace (length (midOf a k′ from)) (highsLaid (length (midOf a k′ from)) (at (midOf a k′ from)) (at (midOf b k to)))) (at (midOf b k to))) (at (midOf b k to)) → at (putMid b k to z) ≡ spliced b n (unliftedInPlace n (highsLaid n (windowed a n (at from)) (windowed b n (at to)))) (at to)
   unlifted-part is = fronted-part _ is ∙ cc (mid-length, lent-part a n k′ from e′, lent-part b n k to e)
 
-  pub halved-part : at z ≡ inHalves (length (midOf a k′ from)) (parted (at (midOf a k′ from))) (at (midOf b k to)) → at (putMid b k to z) ≡ spliced b n (partedInPlace n (windowed a n (at from))) (at to)
+  pub halved-part : at z ≡ pick (leb (length (midOf a k′ from)) (length (midOf b k to)))
+      (inHalves (length (midOf a k′ from)) (parted (at (midOf a k′ from))) (at (midOf b k to))) (at (midOf b k to)) → at (putMid b k to z) ≡ spliced b n
+      (partedInPlace n (windowed a n (at from))) (at to)
   unfolding partedInPlace
   halved-part is =
       let y = windowed a n (at from) in
-      let is′ : at z ≡ inHalves n (parted y) (at (midOf b k to)) = cc (is, mid-length, lent-part a n k′ from e′) in
+      let room = le-leb (length (midOf a k′ from)) (length (midOf b k to)) (omega (arith, same-parts)) in
+      let is′ : at z ≡ inHalves n (parted y) (at (midOf b k to)) = cc (did _ _ _ _ room is, mid-length, lent-part a n k′ from e′) in
       moved-part b n k to z _ e fb size (λ i h. ap (λ (x : ℕ → ℤ). x i) is′ ∙ halves-inside n (parted y) _ y i h)
 
 -- ---- row i of an area: n numbers y put in from column `made` on, where the pass leaves those before and those past
@@ -166,14 +163,20 @@ lifted-part a n k l z e room size is =
     moved-part a n k l z _ e room size (λ i h. ap (λ (y : ℕ → ℤ). y i) is′)
 
 -- ---- heights g, row m of them laid in halves in row i of the plane
-pub height-part : (w m i k k′ : ℕ) (g : List ℕ) (l z : List ℤ) → 0 < w → k ≡ w → k′ ≡ w → m * w + w ≤ length g → i * w + w ≤ length l → length z ≡ length (midOf (i * w) k l) → at z ≡ inHalves (length (midOf (m * w) k′ g)) (parted (heightsAt (midOf (m * w) k′ g))) (at (midOf (i * w) k l)) → at (putMid (i * w) k l z) ≡ spliced (i * w) w (partedInPlace w (cells w (heightsAt g) m)) (at l)
+pub height-part : (w m i k k′ : ℕ) (g : List ℕ) (l z : List ℤ) → 0 < w → k ≡ w → k′ ≡ w → m * w + w ≤ length g → i * w + w ≤ length l → length z ≡ length
+    (midOf (i * w) k l) → at z ≡ pick (leb (length (midOf (m * w) k′ g)) (length (midOf (i * w) k l)))
+    (inHalves (length (midOf (m * w) k′ g)) (parted (heightsAt (midOf (m * w) k′ g))) (at (midOf (i * w) k l))) (at (midOf (i * w) k l)) → at
+    (putMid (i * w) k l z) ≡ spliced (i * w) w (partedInPlace w (cells w (heightsAt g) m)) (at l)
 unfolding partedInPlace
 height-part w m i k k′ g l z some e e′ fg fl size is =
     let G = cells w (heightsAt g) m in
     let t : m + 1 - 1 ≡ m = omega arith in
     let R : Rows (length g) w w (m + 1) = record { apart = some; wide = omega arith; some = omega arith; room = rw t fg } in
+    let long = heights-length w w (m + 1) m k′ e′ (omega arith) g R in
+    let mid = length-mid (i * w) k l (omega arith) in
+    let room = le-leb (length (midOf (m * w) k′ g)) (length (midOf (i * w) k l)) (omega arith) in
     let is′ : at z ≡ inHalves w (parted G) (at (midOf (i * w) k l)) =
-    cc (is, heights-length w w (m + 1) m k′ e′ (omega arith) g R, heights-row w w (m + 1) m k′ e′ (omega arith) g, cut-parted w G (at (midOf (i * w) k l))) in
+    cc (did _ _ _ _ room is, long, heights-row w w (m + 1) m k′ e′ (omega arith) g, cut-parted w G (at (midOf (i * w) k l))) in
     moved-part (i * w) w k l z _ e fl size (λ c h. ap (λ (x : ℕ → ℤ). x c) is′ ∙ halves-inside w (parted G) _ G c h)
 
 -- the grid of them, two rows a turn

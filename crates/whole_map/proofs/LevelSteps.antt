@@ -127,45 +127,46 @@ module _ (n s A w h k L w′ h′ : ℕ) (done : Bool) (z y₀ y₁ : ℕ → �
   low-kept : KeptFrom ((h - 1) * s + w) y₀ y₁
   low-kept = let end = next-end s w h (R .some) in record { kept = λ j g. low-back .kept .kept j (omega arith) }
 
-  no-answer : lowFits ≡ false → LevelsBack false k L s A w h z y₀ y₁
-  no-answer e = record { answer = sym e; grid = λ f. absurd (false-true f); kept = low-kept }
+  no-answer : (y : ℕ → ℤ) → lowFits ≡ false → KeptFrom ((h - 1) * s + w) y₀ y → LevelsBack false k L s A w h z y₀ y
+  no-answer y e kept = record { answer = sym e; grid = λ f. absurd (false-true f); kept = kept }
 
   -- a level of it does not fit
   pub back-no : done ≡ false → LevelsBack false k L s A w h z y₀ y₁
-  back-no it = no-answer (low-fits ∙ rw it)
+  back-no it = no-answer y₁ (low-fits ∙ rw it) low-kept
 
-  -- its levels fit; `ok` is the test of its own numbers
-  module _ (it : done ≡ true) (ok : Bool) (t : ok ≡ rowsBetween 0 h′ 0 w′ (negℤ (pos (range (k + 1)))) (pos (range (k + 1))) (cells (2 * s) y₁)) where
+  -- its levels fit; y₂ is the work area with its rows in their own order, `ok` the test of its own numbers on the way
+  module _ (it : done ≡ true) (ok : Bool) (y₂ : ℕ → ℤ)
+      (t : ok ≡ rowsBetween 0 (count lo h) 0 (count lo w) (negℤ (pos (range (k + 1)))) (pos (range (k + 1))) (cells (2 * s) y₁))
+      (e₂ : y₂ ≡ flat (2 * s) (rowsMapped (wovenInPlace (count lo w)) (count lo w) (count lo h) (cells (2 * s) y₁))) where
     tested : ok ≡ lowFits
-    tested =
-        let t′ : ok ≡ rowsBetween 0 (count lo h) 0 (count lo w) (negℤ (pos (range (k + 1)))) (pos (range (k + 1))) (cells (2 * s) y₁) = rw (ew, eh) at t in
-        t′ ∙ rebuilt-test k (L - 1) (count lo w) (count lo h) (cells A z) (cells (2 * s) y₁) (low-back .grid it) ∙ sym (low-fits ∙ rw it)
+    tested = t ∙ rebuilt-test k (L - 1) (count lo w) (count lo h) (cells A z) (cells (2 * s) y₁) (low-back .grid it) ∙ sym (low-fits ∙ rw it)
 
-    pub back-low : ok ≡ false → LevelsBack false k L s A w h z y₀ y₁
-    back-low no′ = no-answer (sym tested ∙ no′)
+    woven-kept : KeptFrom ((h - 1) * s + w) y₀ y₂
+    woven-kept =
+        kept-then low-kept
+        (kept-flat n (2 * s) (count lo w) (count lo h) y₁ y₂ _ (next-rows n s w h R) e₂
+        (λ r c o. mapped-out (count lo w) (count lo h) (cells (2 * s) y₁) r c o (wovenInPlace (count lo w))))
+        (next-end s w h (R .some))
 
-    -- they fit too: y₂ is the work area with its rows in their own order
-    pub back-step : (y₂ y : ℕ → ℤ) → ok ≡ true → y₂ ≡ flat (2 * s) (rowsMapped (wovenInPlace (count lo w)) (count lo w) (count lo h) (cells (2 * s) y₁)) → y ≡ flat s (levelUnlifted w h (cells s (flat s (rowsFetched w′ w h (cells A z) (cells s y₂))))) → LevelsBack true k L s A w h z y₀ y
-    back-step y₂ y yes′ e₂ c =
+    pub back-low : ok ≡ false → LevelsBack false k L s A w h z y₀ y₂
+    back-low no′ = no-answer y₂ (sym tested ∙ no′) woven-kept
+
+    -- they fit too
+    pub back-step : (y : ℕ → ℤ) → ok ≡ true → y ≡ flat s (levelUnlifted w h (cells s (flat s (rowsFetched w′ w h (cells A z) (cells s y₂))))) →
+        LevelsBack true k L s A w h z y₀ y
+    back-step y yes′ c =
         let c′ : y ≡ flat s (levelUnlifted w h (cells s (flat s (rowsFetched (count lo w) w h (cells A z) (cells s y₂))))) = rw ew at c in
-        let B : Rebuilt L w h (cells A z) (cells s y) = back-more s w h (cells A z) y₁ y₂ _ y L (R .wide) a (low-back .grid it) e₂ refl c′ in
-        let end = next-end s w h (R .some) in
-        let woven : KeptFrom ((count lo h - 1) * (2 * s) + count lo w) y₁ y₂ =
-        kept-flat n (2 * s) (count lo w) (count lo h) y₁ y₂ _ (next-rows n s w h R) e₂
-        (λ r c o. mapped-out (count lo w) (count lo h) (cells (2 * s) y₁) r c o (wovenInPlace (count lo w))) in
-        let first : KeptFrom ((h - 1) * s + w) y₀ y₂ = kept-then low-kept woven end in
         record {
           answer = sym (sym tested ∙ yes′);
-          grid = λ _. B;
-          kept = kept-then first (back-kept n s A w h (count lo w) z y₂ y R c′) (omega arith);
+          grid = λ _. back-more s w h (cells A z) y₁ y₂ _ y L (R .wide) a (low-back .grid it) e₂ refl c′;
+          kept = kept-then woven-kept (back-kept n s A w h (count lo w) z y₂ y R c′) (omega arith);
         }
 
 -- ---- ranges
 pub between-by : (first last from to : ℕ) (X : Grid) {low low′ high high′ : ℤ} → low ≡ low′ → high ≡ high′ → rowsBetween first last from to low high X ≡ rowsBetween first last from to low′ high′ X
 between-by first last from to X e f = λ i. rowsBetween first last from to (e i) (f i) X
 
-pub range-is : (k : ℕ) → k ≤ 5 → pos (range (min k maxLevels)) ≡ pos (range k)
-unfolding maxLevels
+pub range-is : (k : ℕ) → k ≤ maxLevels → pos (range (min k maxLevels)) ≡ pos (range k)
 range-is k b = ap (λ (i : ℕ). pos (range i)) (omega arith)
 
 pub neg-fits : (N : ℕ) (z : ℤ) → N < 2147483648 → z ≡ pos N → SFits w32 (pos 0 -ℤ z)

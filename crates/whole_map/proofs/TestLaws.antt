@@ -3,6 +3,7 @@ use mathlib.Core.Path.{_≡_, refl, sym, ap, _∙_}
 use mathlib.Core.Bool.{Bool, true, false}
 use Prim.Native.Nat.{ℕ, zero, suc, _+_, _-_, _*_, _≤_, _<_}
 use native.Mathlib.Decide.{decLt}
+use native.Mathlib.Nat.{mul-comm}
 use native.Mathlib.Omega.{arith}
 use lib.IntN.{ℤ, pos, negℤ, natAbs}
 use lib.Signed.{leZ}
@@ -16,12 +17,15 @@ use Rattle.lifting.specs.Line.{lo, count}
 use Rattle.lifting.proofs.LineLaws.{counts, count-lo}
 use Rattle.wavelet.specs.Limits.{maxSample, range}
 use Rattle.wavelet.specs.Bands.{Grid}
-use Rattle.wavelet.specs.Plane.{levelAt, mapBack}
+use Rattle.wavelet.specs.Plane.{levelAt, mapBack, cells}
 use Rattle.wavelet.specs.Maps.{every, everyCell, valueFits, rebuiltFits}
-use Rattle.whole_map.specs.Rowwise.{between}
+use Rattle.whole_map.specs.Rowwise.{cut, between}
 use Rattle.whole_map.specs.Passes.{within}
 use Rattle.whole_map.specs.LevelPasses.{Rebuilt, rowsBetween, regionInRange}
+use Rattle.wavelet.proofs.Bridge.{range-le}
+use Rattle.wavelet.proofs.GridLaws.{place-below}
 use Rattle.wavelet.proofs.MapTheorems.{every-each, each-every, every-same, cells-each, each-cells}
+use Rattle.whole_map.proofs.RowwiseLaws.{cut-in}
 use Rattle.whole_map.proofs.CellLaws.{placed, placed-in, placed-even, placed-odd, grid-at, by-within}
 
 pub false-true : false ≡ true → ⊥
@@ -69,6 +73,21 @@ between-is N v =
     bool-same _ _
     (λ e. let b = both (leZ (negℤ (pos N)) v) _ e in le-leb _ _ (abs-between N (pos N) v refl (b .0) (b .1)))
     (λ e. let a = leb-true _ _ e in both-is _ _ (between-low N (pos N) v refl a) (between-high N (pos N) v refl a))
+
+-- ---- rows tested one by one: row i, lent as a part of n numbers y, and at the end all of them
+pub row-between : (low high : ℤ) (w i n : ℕ) (X : Grid) (y : ℕ → ℤ) → n ≡ w → y ≡ cut w (X i) →
+    every n (λ j. between low high (y j)) ≡ every w (λ c. between low high (X i c))
+row-between low high w i n X y en ey =
+    ap (λ (m : ℕ). every m (λ j. between low high (y j))) en
+    ∙ every-same w _ _ (λ j q. ap (between low high) (ap (λ (f : ℕ → ℤ). f j) ey ∙ cut-in w (X i) j q))
+
+pub all-rows : (low high : ℤ) (w h : ℕ) (X : Grid) → every h (λ r. every w (λ c. between low high (X r c))) ≡ rowsBetween 0 h 0 w low high X
+unfolding rowsBetween everyCell
+all-rows low high w h X =
+    let kw : w - 0 ≡ w = omega arith in
+    let kh : h - 0 ≡ h = omega arith in
+    rw (kw, kh)
+    (every-same h _ _ (λ r rh. every-same w _ _ (λ c cw. let a : 0 + r ≡ r = omega arith in let b : 0 + c ≡ c = omega arith in rw (a, b))))
 
 -- ---- question 14
 pub height-fits : (v : ℤ) → between (pos 0) (pos maxSample) v ≡ valueFits 0 v
@@ -203,3 +222,21 @@ module _ (k L w h : ℕ) (x : Grid) where
 pub region-more : (k L w h : ℕ) (x : Grid) → 0 < k → 1 < L → regionInRange k L w h x ≡ pick (inner k (L - 1) w h x) (pick (right k (L - 1) w h x) (below k (L - 1) w h x) false) false
 region-more k zero w h x b m = absurd (omega arith)
 region-more k (suc L) w h x b m = let a : suc L - 1 ≡ L = omega arith in rw a (region-suc k L w h x b)
+
+-- the least range is that of level 1: n = W * H numbers that keep it, as one row of them, are a plane in range
+level-some : (L W H r c : ℕ) → 0 < L → 1 ≤ levelAt L W H r c
+level-some zero W H r c h = absurd (omega arith)
+level-some (suc L) W H r c h =
+    by-within (count lo W) (count lo H) r c (λ rb cb. omega (arith, level-corner L W H r c rb cb)) (λ e. omega (arith, level-rest L W H r c e))
+
+pub region-least : (L W H : ℕ) (x : ℕ → ℤ) → 0 < L → rowsBetween 0 1 0 (W * H) (negℤ (pos (range 1))) (pos (range 1)) (cells (W * H) x) ≡ true →
+    regionInRange 1 L W H (cells W x) ≡ true
+unfolding regionInRange cells
+region-least L W H x some e =
+    each-cells W H _ (λ r c rh cw.
+    let j : 0 * (W * H) + (r * W + c) ≡ r * W + c = omega arith in
+    let place = place-below W H r c rh cw in
+    let swap : H * W ≡ W * H = mul-comm H W in
+    let held = rows-hold 0 1 0 (W * H) (range 1) (cells (W * H) x) e 0 (r * W + c) (omega arith) (omega arith) (omega arith) (omega arith) in
+    let least : range 1 ≤ range (1 - 1 + levelAt L W H r c) = range-le 1 (1 - 1 + levelAt L W H r c) (omega (arith, level-some L W H r c some)) in
+    le-leb (natAbs (x (r * W + c))) (range (1 - 1 + levelAt L W H r c)) (omega (arith, leb-true (natAbs (x (r * W + c))) (range 1) (rw j at held))))

@@ -1,18 +1,13 @@
 -- What is done to one row of numbers.
-use mathlib.Core.Bool.{Bool}
-use mathlib.Core.List.{List}
 use Prim.Native.Nat.{ℕ}
 use lib.IntN.{ℤ, pos}
-use lib.ListN.{getD}
-use lib.Signed.{leZ}
 use lib.Dec.{ltb}
-use Rattle.numbers.specs.Signal.{pick, both}
+use Rattle.numbers.specs.Signal.{pick}
 use Rattle.lifting.specs.Line.{parted, joined}
 use Rattle.lifting.specs.Halves.{halvesOf, inHalves, fronted}
-
--- a slice of u16 heights as a signal of whole numbers
-abbrev pub heightsAt : List ℕ → ℕ → ℤ
-heightsAt l i = pos (getD l i 0)
+-- a slice of u16 heights as a signal of whole numbers, and a number from low to high
+pub use Rattle.areas.specs.Areas.{heightsAt}
+unfoldable pub use Rattle.areas.specs.Areas.{between}
 
 -- the first n numbers of x, 0 past them: what a part of n numbers is as a signal
 unfoldable pub cut : ℕ → (ℕ → ℤ) → ℕ → ℤ
@@ -24,7 +19,3 @@ partedInPlace n y = inHalves n (parted y) y
 
 unfoldable pub wovenInPlace : ℕ → (ℕ → ℤ) → ℕ → ℤ
 wovenInPlace n y = fronted n (joined (halvesOf n y)) y
-
--- a number from low to high
-unfoldable pub between : ℤ → ℤ → ℤ → Bool
-between low high v = both (leZ low v) (leZ v high)

@@ -1,12 +1,12 @@
 // Rows of heights loaded into the plane, each in halves, and stored from the work area. The module is private, as `rowwise` is.
-use crate::rowwise;
+use wavelet::limits;
 ghost use mathlib.Core.Path.{_≡_};
 ghost use Prim.Native.Nat.{_+_, _-_, _*_, _<_, _≤_};
 ghost use lib.IntN.{pos};
 ghost use lib.ListN.{length};
 ghost use Rattle.numbers.specs.Signal.{at, spliced};
-ghost use Rattle.lifting.specs.Line.{lo, hi, count, parted, joined};
-ghost use Rattle.lifting.specs.Halves.{halvesOf, inHalves, fronted};
+ghost use Rattle.lifting.specs.Line.{joined};
+ghost use Rattle.lifting.specs.Halves.{halvesOf, fronted};
 ghost use Rattle.wavelet.specs.Plane.{cells, flat};
 ghost use Rattle.whole_map.specs.Rowwise.{heightsAt, partedInPlace};
 ghost use Rattle.whole_map.specs.Passes.{gridHalved, Rows};
@@ -14,60 +14,24 @@ ghost use Rattle.whole_map.specs.LevelPasses.{Finished};
 ghost use mathlib.Core.Bool.{true};
 ghost use Rattle.wavelet.specs.Maps.{every, valueFits};
 
-// The even places of a row of heights to the front of a row as long.
-fn load_evens(heights: &[u16], row: &mut [i32])
-    requires { ⌜ length (now heights) ≡ length (now row) ⌝ }
-    ensures { λ _. ⌜ at (now (row .exit)) ≡ fronted (count lo (length (now (heights .entry)))) (parted (heightsAt (now (heights .entry))) lo) (at (now (row .entry))) ⌝ }
-{
-    let n = heights.len();
-    let low = n - n / 2;
-    let mut j = 0;
-    while j < low {
-        row[j] = heights[2 * j] as i32;
-        j += 1;
-    }
-}
-
-// The odd places after them.
-fn load_odds(heights: &[u16], row: &mut [i32])
-    requires { ⌜ length (now heights) ≡ length (now row) ⌝ }
-    ensures { λ _. ⌜ at (now (row .exit)) ≡ spliced (count lo (length (now (heights .entry)))) (count hi (length (now (heights .entry)))) (parted (heightsAt (now (heights .entry))) hi) (at (now (row .entry))) ⌝ }
-{
-    let n = heights.len();
-    let high = n / 2;
-    let low = n - high;
-    let mut j = 0;
-    while j < high {
-        row[low + j] = heights[2 * j + 1] as i32;
-        j += 1;
-    }
-}
-
-// A row of heights to a row in halves, as long.
-fn load_row(heights: &[u16], row: &mut [i32])
-    requires { ⌜ length (now heights) ≡ length (now row) ⌝ }
-    ensures { λ _. ⌜ at (now (row .exit)) ≡ inHalves (length (now (heights .entry))) (parted (heightsAt (now (heights .entry)))) (at (now (row .entry))) ⌝ }
-{
-    load_evens(heights, row);
-    load_odds(heights, row);
-}
-
 // Row m of the heights to row r of the plane, in halves.
 fn load_to(heights: &[u16], m: usize, plane: &mut [i32], r: usize, width: usize)
     requires { ⌜ (0 < width) × (m * width + width ≤ length (now heights)) × (r * width + width ≤ length (now plane)) ⌝ }
-    ensures { λ _. ⌜ at (now (plane .exit)) ≡ spliced (r * width) width (partedInPlace width (cells width (heightsAt (now (heights .entry))) m)) (at (now (plane .entry))) ⌝ }
+    ensures { λ _. ⌜ at (now (plane .exit)) ≡
+        spliced (r * width) width (partedInPlace width (cells width (heightsAt (now (heights .entry))) m)) (at (now (plane .entry))) ⌝ }
 {
     let a = m * width;
     let e = a + width;
     let b = r * width;
     let f = b + width;
-    load_row(&heights[a..e], &mut plane[b..f]);
+    areas::heights::load_heights(&heights[a..e], &mut plane[b..f]);
 }
 
 // The heights of a map to the plane as a level takes them: the even rows first, each row in halves. They are read one after the other.
 pub fn load_rows(heights: &[u16], plane: &mut [i32], width: usize, height: usize)
     requires { ⌜ Rows (length (now heights)) width width height × Rows (length (now plane)) width width height ⌝ }
-    ensures { λ _. ⌜ at (now (plane .exit)) ≡ flat width (gridHalved width height (cells width (heightsAt (now (heights .entry)))) (cells width (at (now (plane .entry))))) ⌝ }
+    ensures { λ _. ⌜ at (now (plane .exit)) ≡
+        flat width (gridHalved width height (cells width (heightsAt (now (heights .entry)))) (cells width (at (now (plane .entry))))) ⌝ }
 {
     let high = height / 2;
     let low = height - high;
@@ -82,61 +46,33 @@ pub fn load_rows(heights: &[u16], plane: &mut [i32], width: usize, height: usize
     }
 }
 
-// A row in halves, whose numbers fit, to a row of heights as long.
-fn store_row(row: &[i32], heights: &mut [u16])
-    requires { ⌜ (length (now row) ≡ length (now heights)) × (every (length (now row)) (λ i. valueFits 0 (at (now row) i)) ≡ true) ⌝ }
-    ensures { λ _. ⌜ heightsAt (now (heights .exit)) ≡ fronted (length (now (row .entry))) (joined (halvesOf (length (now (row .entry))) (at (now (row .entry))))) (heightsAt (now (heights .entry))) ⌝ }
-{
-    let high = row.len() / 2;
-    let low = row.len() - high;
-    let mut j = 0;
-    while j < high {
-        heights[2 * j] = row[j] as u16;
-        heights[2 * j + 1] = row[low + j] as u16;
-        j += 1;
-    }
-    if j < low {
-        heights[2 * j] = row[j] as u16;
-    }
-}
-
 // A row in halves, whose numbers fit, to a row of heights as long, and cleared.
 fn finish_row(row: &mut [i32], heights: &mut [u16])
     requires { ⌜ (length (now row) ≡ length (now heights)) × (every (length (now row)) (λ i. valueFits 0 (at (now row) i)) ≡ true) ⌝ }
-    ensures { λ _. ⌜ heightsAt (now (heights .exit)) ≡ fronted (length (now (row .entry))) (joined (halvesOf (length (now (row .entry))) (at (now (row .entry))))) (heightsAt (now (heights .entry))) ⌝ }
+    ensures { λ _. ⌜ heightsAt (now (heights .exit)) ≡
+        fronted (length (now (row .entry))) (joined (halvesOf (length (now (row .entry))) (at (now (row .entry))))) (heightsAt (now (heights .entry))) ⌝ }
     ensures { λ _. ⌜ at (now (row .exit)) ≡ fronted (length (now (row .entry))) (λ _. pos 0) (at (now (row .entry))) ⌝ }
 {
-    store_row(row, heights);
+    areas::heights::draw_heights(row, heights);
     let n = row.len();
-    rowwise::clear(row, n);
+    areas::copies::clear(row, n);
 }
 
 // The work area's rows in halves to heights, each tested, stored and cleared while it is near. False at the first number that is no height.
 pub fn finish_rows(work: &mut [i32], heights: &mut [u16], width: usize, height: usize) -> bool
     requires { ⌜ Rows (length (now work)) width width height × Rows (length (now heights)) width width height ⌝ }
-    ensures { λ ok. ⌜ Finished ok width height (at (now (work .entry))) (at (now (work .exit))) (heightsAt (now (heights .entry))) (heightsAt (now (heights .exit))) ⌝ }
+    ensures { λ ok. ⌜ Finished ok width height (at (now (work .entry))) (at (now (work .exit)))
+        (heightsAt (now (heights .entry))) (heightsAt (now (heights .exit))) ⌝ }
 {
     let mut r = 0;
     while r < height {
         let a = r * width;
         let e = a + width;
-        if !rowwise::all_between(&work[a..e], 0, 65535) {
+        if !areas::ranges::all_between(&work[a..e], 0, limits::MAX_SAMPLE) {
             return false;
         }
         finish_row(&mut work[a..e], &mut heights[a..e]);
         r += 1;
     }
     true
-}
-
-// The first n heights set to 0.
-pub fn clear_heights(heights: &mut [u16], n: usize)
-    requires { ⌜ n ≤ length (now heights) ⌝ }
-    ensures { λ _. ⌜ heightsAt (now (heights .exit)) ≡ fronted n (λ _. pos 0) (heightsAt (now (heights .entry))) ⌝ }
-{
-    let mut i = 0;
-    while i < n {
-        heights[i] = 0;
-        i += 1;
-    }
 }

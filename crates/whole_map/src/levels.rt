@@ -3,7 +3,6 @@
 // The plane's rows are `across` apart at every level.
 // The module is private: only this crate, which meets what is required, can call it.
 use crate::passes;
-use crate::rowwise;
 use lifting::halves;
 use lifting::rows;
 use wavelet::sizes;
@@ -15,8 +14,9 @@ ghost use lib.ListN.{length};
 ghost use Rattle.numbers.specs.Signal.{at, pick, windowed, spliced};
 ghost use Rattle.lifting.specs.Line.{lo, count};
 ghost use Rattle.lifting.specs.Halves.{unliftedInPlace, highsLaid};
-ghost use Rattle.wavelet.specs.Limits.{maxWidth, range};
+ghost use Rattle.wavelet.specs.Limits.{maxWidth, maxLevels, range};
 ghost use Rattle.wavelet.specs.Plane.{cells, flat};
+ghost use Rattle.wavelet.specs.Questions.{Sized};
 ghost use Rattle.whole_map.specs.Rowwise.{partedInPlace, wovenInPlace};
 ghost use Rattle.whole_map.specs.Passes.{Rows, KeptFrom, even, planeRow, levelRow, rowsMapped, rowsFetched, gridHalved, gridCopied};
 ghost use Rattle.whole_map.specs.LevelPasses.{cornerGrid, levelUnlifted, rowBack, planeWritten, rowsBetween, regionInRange, Doubling, LevelsBack};
@@ -51,7 +51,7 @@ fn copy_part(from: &[i32], a: usize, to: &mut [i32], b: usize, n: usize)
 {
     let e = a + n;
     let f = b + n;
-    rowwise::copy(&from[a..e], &mut to[b..f]);
+    areas::copies::copy(&from[a..e], &mut to[b..f]);
 }
 
 // The same, a row that goes from its own order into halves.
@@ -61,13 +61,14 @@ fn halve_part(from: &[i32], a: usize, to: &mut [i32], b: usize, n: usize)
 {
     let e = a + n;
     let f = b + n;
-    rowwise::part_line(&from[a..e], &mut to[b..f]);
+    areas::halves::part_line(&from[a..e], &mut to[b..f]);
 }
 
 // A grid from the plane's corner to the work area, its rows one after the other.
 fn save(plane: &[i32], work: &mut [i32], across: usize, width: usize, height: usize)
     requires { ⌜ Rows (length (now plane)) across width height × Rows (length (now work)) width width height ⌝ }
-    ensures { λ _. ⌜ at (now (work .exit)) ≡ flat width (gridCopied width height (cells across (at (now (plane .entry)))) (cells width (at (now (work .entry))))) ⌝ }
+    ensures { λ _. ⌜ at (now (work .exit)) ≡
+        flat width (gridCopied width height (cells across (at (now (plane .entry)))) (cells width (at (now (work .entry))))) ⌝ }
 {
     let mut r = 0;
     while r < height {
@@ -79,7 +80,8 @@ fn save(plane: &[i32], work: &mut [i32], across: usize, width: usize, height: us
 // And back to the corner as the level takes it: the low rows first, each row in halves.
 fn spread(work: &[i32], plane: &mut [i32], across: usize, width: usize, height: usize)
     requires { ⌜ Rows (length (now work)) width width height × Rows (length (now plane)) across width height ⌝ }
-    ensures { λ _. ⌜ at (now (plane .exit)) ≡ flat across (gridHalved width height (cells width (at (now (work .entry)))) (cells across (at (now (plane .entry))))) ⌝ }
+    ensures { λ _. ⌜ at (now (plane .exit)) ≡
+        flat across (gridHalved width height (cells width (at (now (work .entry)))) (cells across (at (now (plane .entry))))) ⌝ }
 {
     let mut r = 0;
     while r < height {
@@ -99,7 +101,8 @@ fn made_of(r: usize, from: usize) -> usize
 // n numbers at place b of an area lifted back: a row in halves whose high half stands in the row at place a of another area.
 fn unlift_part(from: &[i32], a: usize, to: &mut [i32], b: usize, n: usize)
     requires { ⌜ (a + n ≤ length (now from)) × (b + n ≤ length (now to)) ⌝ }
-    ensures { λ _. ⌜ at (now (to .exit)) ≡ spliced b n (unliftedInPlace n (highsLaid n (windowed a n (at (now (from .entry)))) (windowed b n (at (now (to .entry)))))) (at (now (to .entry))) ⌝ }
+    ensures { λ _. ⌜ at (now (to .exit)) ≡
+        spliced b n (unliftedInPlace n (highsLaid n (windowed a n (at (now (from .entry)))) (windowed b n (at (now (to .entry)))))) (at (now (to .entry))) ⌝ }
 {
     let e = a + n;
     let f = b + n;
@@ -141,20 +144,13 @@ fn fetch_last(
     r: usize,
 )
     requires { ⌜ Rows (length (now plane)) across width height × Rows (length (now work)) stride width height × (from ≤ count lo width) ⌝ }
-    ensures { λ _. ⌜ at (now (work .exit)) ≡ pick (ltb r height) (rowBack from width height stride (cells across (at (now (plane .entry)))) (at (now (work .entry))) r) (at (now (work .entry))) ⌝ }
+    ensures { λ _. ⌜ at (now (work .exit)) ≡
+        pick (ltb r height) (rowBack from width height stride (cells across (at (now (plane .entry)))) (at (now (work .entry))) r) (at (now (work .entry))) ⌝ }
 {
     if height <= r {
         return;
     }
     fetch_row(plane, work, across, stride, from, width, height, r);
-}
-
-// The low-low part of a level from halves into its own order.
-fn weave_low(work: &mut [i32], stride: usize, width: usize, height: usize)
-    requires { ⌜ Rows (length (now work)) stride width height × (width ≤ maxWidth) × (stride < 2 ^ 32) ⌝ }
-    ensures { λ _. ⌜ at (now (work .exit)) ≡ flat (2 * stride) (rowsMapped (wovenInPlace (count lo width)) (count lo width) (count lo height) (cells (2 * stride) (at (now (work .entry))))) ⌝ }
-{
-    passes::weave_rows(work, 2 * stride, sizes::half(width), sizes::half(height));
 }
 
 // All levels forward, in the plane's corner: this one, and then the same of its low-low part with the levels left, which goes through the
@@ -168,7 +164,9 @@ pub fn forward_levels(
     levels: usize,
 )
     requires { ⌜ Rows (length (now plane)) across width height × Rows (length (now work)) width width height × (0 < levels) ⌝ }
-    ensures { λ _. ⌜ at (now (plane .exit)) ≡ flat across (planeWritten levels width height (cornerGrid width height (cells across (at (now (plane .entry))))) (cells across (at (now (plane .entry))))) ⌝ }
+    ensures { λ _. ⌜ at (now (plane .exit)) ≡
+        flat across (planeWritten levels width height (cornerGrid width height (cells across (at (now (plane .entry)))))
+        (cells across (at (now (plane .entry))))) ⌝ }
     ensures { λ _. ⌜ KeptFrom ((height - 1) * width + width) (at (now (work .entry))) (at (now (work .exit))) ⌝ }
 {
     passes::lift_level(plane, across, width, height);
@@ -184,7 +182,7 @@ pub fn forward_levels(
 
 // The largest magnitude of a level's numbers, as the least of them.
 fn lowest(level: usize) -> i32
-    requires { ⌜ level ≤ 5 ⌝ }
+    requires { ⌜ level ≤ maxLevels ⌝ }
     ensures { λ r. ⌜ r ≡ negℤ (pos (range level)) ⌝ }
 {
     0 - sizes::range_of(level)
@@ -208,7 +206,7 @@ fn rows_between(
     while r < last {
         let a = r * stride + from;
         let e = r * stride + to;
-        if !rowwise::all_between(&area[a..e], low, high) {
+        if !areas::ranges::all_between(&area[a..e], low, high) {
             return false;
         }
         r += 1;
@@ -226,7 +224,7 @@ fn rows_in_range(
     to: usize,
     level: usize,
 ) -> bool
-    requires { ⌜ Rows (length (now plane)) across to last × (first ≤ last) × (from ≤ to) × (level ≤ 5) ⌝ }
+    requires { ⌜ Rows (length (now plane)) across to last × (first ≤ last) × (from ≤ to) × (level ≤ maxLevels) ⌝ }
     ensures { λ r. ⌜ r ≡ rowsBetween first last from to (negℤ (pos (range level))) (pos (range level)) (cells across (at (now (plane .entry)))) ⌝ }
 {
     rows_between(
@@ -236,6 +234,24 @@ fn rows_in_range(
         last,
         from,
         to,
+        lowest(level),
+        sizes::range_of(level),
+    )
+}
+
+// The low-low part of a level from halves into its own order; and whether its numbers lie in the range of `level`, its own.
+fn weave_low(work: &mut [i32], stride: usize, width: usize, height: usize, level: usize) -> bool
+    requires { ⌜ Rows (length (now work)) stride width height × (width ≤ maxWidth) × (stride < 2 ^ 32) × (level ≤ maxLevels) ⌝ }
+    ensures { λ r. ⌜ r ≡
+        rowsBetween 0 (count lo height) 0 (count lo width) (negℤ (pos (range level))) (pos (range level)) (cells (2 * stride) (at (now (work .entry)))) ⌝ }
+    ensures { λ _. ⌜ at (now (work .exit)) ≡
+        flat (2 * stride) (rowsMapped (wovenInPlace (count lo width)) (count lo width) (count lo height) (cells (2 * stride) (at (now (work .entry))))) ⌝ }
+{
+    passes::weave_rows(
+        work,
+        2 * stride,
+        sizes::half(width),
+        sizes::half(height),
         lowest(level),
         sizes::range_of(level),
     )
@@ -253,7 +269,9 @@ fn rows_back(
     height: usize,
 )
     requires { ⌜ Rows (length (now plane)) across width height × Rows (length (now work)) stride width height × (from ≤ count lo width) × (1 < height) ⌝ }
-    ensures { λ _. ⌜ at (now (work .exit)) ≡ flat stride (levelUnlifted width height (cells stride (flat stride (rowsFetched from width height (cells across (at (now (plane .entry)))) (cells stride (at (now (work .entry)))))))) ⌝ }
+    ensures { λ _. ⌜ at (now (work .exit)) ≡
+        flat stride (levelUnlifted width height (cells stride (flat stride (rowsFetched from width height (cells across (at (now (plane .entry))))
+        (cells stride (at (now (work .entry)))))))) ⌝ }
 {
     fetch_row(plane, work, across, stride, from, width, height, 0);
     fetch_row(plane, work, across, stride, from, width, height, 1);
@@ -280,7 +298,9 @@ fn level_back(
     height: usize,
 )
     requires { ⌜ Rows (length (now plane)) across width height × Rows (length (now work)) stride width height × (from ≤ count lo width) ⌝ }
-    ensures { λ _. ⌜ at (now (work .exit)) ≡ flat stride (levelUnlifted width height (cells stride (flat stride (rowsFetched from width height (cells across (at (now (plane .entry)))) (cells stride (at (now (work .entry)))))))) ⌝ }
+    ensures { λ _. ⌜ at (now (work .exit)) ≡
+        flat stride (levelUnlifted width height (cells stride (flat stride (rowsFetched from width height (cells across (at (now (plane .entry))))
+        (cells stride (at (now (work .entry)))))))) ⌝ }
 {
     if height < 2 {
         fetch_row(plane, work, across, stride, from, width, height, 0);
@@ -289,8 +309,8 @@ fn level_back(
     rows_back(plane, work, across, stride, from, width, height);
 }
 
-// All levels back: first the low-low part with the levels left, whose numbers are tested, then this level. False where one does not fit.
-// The numbers of this level itself are for the caller to test.
+// All levels back: first the low-low part with the levels left, whose numbers are tested while they are laid in their own order, then this
+// level. False where one does not fit. The numbers of this level itself are for the caller to test.
 pub fn back_levels(
     plane: &[i32],
     work: &mut [i32],
@@ -301,7 +321,8 @@ pub fn back_levels(
     levels: usize,
     level: usize,
 ) -> bool
-    requires { ⌜ Rows (length (now plane)) across width height × Rows (length (now work)) stride width height × Doubling levels stride width × (level + levels ≤ 5) ⌝ }
+    requires { ⌜ Rows (length (now plane)) across width height × Rows (length (now work)) stride width height × Doubling levels stride width
+        × (level + levels ≤ maxLevels) ⌝ }
     ensures { λ ok. ⌜ LevelsBack ok level levels stride across width height (at (now (plane .entry))) (at (now (work .entry))) (at (now (work .exit))) ⌝ }
 {
     if levels < 2 {
@@ -314,16 +335,15 @@ pub fn back_levels(
     if !back_levels(plane, work, across, next, w, h, levels - 1, level + 1) {
         return false;
     }
-    if !rows_in_range(work, next, 0, h, 0, w, level + 1) {
+    if !weave_low(work, stride, width, height, level + 1) {
         return false;
     }
-    weave_low(work, stride, width, height);
     level_back(plane, work, across, stride, w, width, height);
     true
 }
 
 // Whether each coefficient of the plane lies in its level's range, `level` being that of this region's own bands.
-pub fn in_range(
+fn in_range(
     plane: &[i32],
     across: usize,
     width: usize,
@@ -331,7 +351,7 @@ pub fn in_range(
     levels: usize,
     level: usize,
 ) -> bool
-    requires { ⌜ Rows (length (now plane)) across width height × (0 < levels) × (0 < level) × (level + levels ≤ 6) ⌝ }
+    requires { ⌜ Rows (length (now plane)) across width height × (0 < levels) × (0 < level) × (level + levels ≤ maxLevels + 1) ⌝ }
     ensures { λ r. ⌜ r ≡ regionInRange level levels width height (cells across (at (now (plane .entry)))) ⌝ }
 {
     if levels < 2 {
@@ -346,4 +366,17 @@ pub fn in_range(
         return false;
     }
     rows_in_range(plane, across, h, height, 0, width, level)
+}
+
+// Question 7 of a map's whole plane. The least range of all, that of level 1, is asked first, of all coefficients one after the other: a plane
+// that keeps it keeps every level's range, and planes of maps do. Only where one does not are the levels asked, each by its own range.
+pub fn plane_in_range(plane: &[i32], width: usize, height: usize, levels: usize) -> bool
+    requires { ⌜ Sized width height levels × (width * height ≤ length (now plane)) ⌝ }
+    ensures { λ r. ⌜ r ≡ regionInRange 1 levels width height (cells width (at (now (plane .entry)))) ⌝ }
+{
+    let n = width * height;
+    if rows_in_range(plane, n, 0, 1, 0, n, 1) {
+        return true;
+    }
+    in_range(plane, width, width, height, levels, 1)
 }

@@ -47,13 +47,15 @@ fn transform(
     plane: &mut [i32],
     work: &mut [i32],
 )
-    requires { ⌜ Sized width height levels × (width * height ≤ length (now heights)) × (width * height ≤ length (now plane)) × (width * height ≤ length (now work)) ⌝ }
-    ensures { λ _. ⌜ at (now (plane .exit)) ≡ fronted (width * height) (planeOf whole levels width height (cells width (heightsAt (now (heights .entry))))) (at (now (plane .entry))) ⌝ }
+    requires { ⌜ Sized width height levels × (width * height ≤ length (now heights)) × (width * height ≤ length (now plane))
+        × (width * height ≤ length (now work)) ⌝ }
+    ensures { λ _. ⌜ at (now (plane .exit)) ≡
+        fronted (width * height) (planeOf whole levels width height (cells width (heightsAt (now (heights .entry))))) (at (now (plane .entry))) ⌝ }
     ensures { λ _. ⌜ at (now (work .exit)) ≡ fronted (width * height) zeros (at (now (work .entry))) ⌝ }
 {
     heights::load_rows(heights, plane, width, height);
     levels::forward_levels(plane, work, width, width, height, levels);
-    rowwise::clear(work, width * height);
+    areas::copies::clear(work, width * height);
 }
 
 // The plane of a map of heights, by the levels of T.800. It answers 0, or the number of the question that turned it away.
@@ -66,7 +68,8 @@ pub fn forward(
     work: &mut [i32],
 ) -> u8
     ensures { λ r. ⌜ r ≡ forwardQuestion width height levels (length (now (heights .entry))) (length (now (plane .entry))) (length (now (work .entry))) ⌝ }
-    ensures { λ r. ⌜ at (now (plane .exit)) ≡ passed r (width * height) (planeOf whole levels width height (cells width (heightsAt (now (heights .entry))))) (at (now (plane .entry))) ⌝ }
+    ensures { λ r. ⌜ at (now (plane .exit)) ≡
+        passed r (width * height) (planeOf whole levels width height (cells width (heightsAt (now (heights .entry))))) (at (now (plane .entry))) ⌝ }
     ensures { λ r. ⌜ at (now (work .exit)) ≡ passed r (width * height) zeros (at (now (work .entry))) ⌝ }
 {
     let q = size_question(
@@ -93,8 +96,10 @@ fn rebuild(
     heights: &mut [u16],
     work: &mut [i32],
 ) -> bool
-    requires { ⌜ Sized width height levels × (width * height ≤ length (now plane)) × (width * height ≤ length (now heights)) × (width * height ≤ length (now work)) ⌝ }
-    ensures { λ ok. ⌜ MapRebuilt ok width height levels (at (now (plane .entry))) (heightsAt (now (heights .entry))) (heightsAt (now (heights .exit))) (at (now (work .entry))) (at (now (work .exit))) ⌝ }
+    requires { ⌜ Sized width height levels × (width * height ≤ length (now plane)) × (width * height ≤ length (now heights))
+        × (width * height ≤ length (now work)) ⌝ }
+    ensures { λ ok. ⌜ MapRebuilt ok width height levels (at (now (plane .entry))) (heightsAt (now (heights .entry))) (heightsAt (now (heights .exit)))
+        (at (now (work .entry))) (at (now (work .exit))) ⌝ }
 {
     if !levels::back_levels(plane, work, width, width, width, height, levels, 0) {
         return false;
@@ -111,17 +116,20 @@ fn restore(
     heights: &mut [u16],
     work: &mut [i32],
 ) -> u8
-    requires { ⌜ Sized width height levels × (width * height ≤ length (now plane)) × (width * height ≤ length (now heights)) × (width * height ≤ length (now work)) ⌝ }
+    requires { ⌜ Sized width height levels × (width * height ≤ length (now plane)) × (width * height ≤ length (now heights))
+        × (width * height ≤ length (now work)) ⌝ }
     ensures { λ r. ⌜ r ≡ planeQuestions width height levels (cells width (at (now (plane .entry)))) ⌝ }
-    ensures { λ r. ⌜ heightsAt (now (heights .exit)) ≡ rebuilt r (width * height) (flat width (mapBack wrap32 levels width height (cells width (at (now (plane .entry)))))) (heightsAt (now (heights .entry))) ⌝ }
+    ensures { λ r. ⌜ heightsAt (now (heights .exit)) ≡
+        rebuilt r (width * height) (flat width (mapBack wrap32 levels width height (cells width (at (now (plane .entry))))))
+        (heightsAt (now (heights .entry))) ⌝ }
     ensures { λ r. ⌜ at (now (work .exit)) ≡ rebuilt r (width * height) zeros (at (now (work .entry))) ⌝ }
 {
-    if !levels::in_range(plane, width, width, height, levels, 1) {
+    if !levels::plane_in_range(plane, width, height, levels) {
         return 7;
     }
     if !rebuild(plane, width, height, levels, heights, work) {
-        heights::clear_heights(heights, width * height);
-        rowwise::clear(work, width * height);
+        areas::heights::clear_heights(heights, width * height);
+        areas::copies::clear(work, width * height);
         return 14;
     }
     0
@@ -136,8 +144,12 @@ pub fn backward(
     heights: &mut [u16],
     work: &mut [i32],
 ) -> u8
-    ensures { λ r. ⌜ r ≡ backwardQuestion width height levels (length (now (plane .entry))) (length (now (heights .entry))) (length (now (work .entry))) (cells width (at (now (plane .entry)))) ⌝ }
-    ensures { λ r. ⌜ heightsAt (now (heights .exit)) ≡ rebuilt r (width * height) (flat width (mapBack wrap32 levels width height (cells width (at (now (plane .entry)))))) (heightsAt (now (heights .entry))) ⌝ }
+    ensures { λ r. ⌜ r ≡
+        backwardQuestion width height levels (length (now (plane .entry))) (length (now (heights .entry))) (length (now (work .entry)))
+        (cells width (at (now (plane .entry)))) ⌝ }
+    ensures { λ r. ⌜ heightsAt (now (heights .exit)) ≡
+        rebuilt r (width * height) (flat width (mapBack wrap32 levels width height (cells width (at (now (plane .entry))))))
+        (heightsAt (now (heights .entry))) ⌝ }
     ensures { λ r. ⌜ at (now (work .exit)) ≡ rebuilt r (width * height) zeros (at (now (work .entry))) ⌝ }
 {
     let q = size_question(

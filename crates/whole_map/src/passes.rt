@@ -8,13 +8,13 @@ ghost use lib.Dec.{ltb};
 ghost use lib.ListN.{length};
 ghost use Rattle.numbers.specs.Signal.{at, pick};
 ghost use Rattle.numbers.specs.Word.{wrap32};
-ghost use Rattle.lifting.specs.Line.{lo, count, predicted, updated, unupdated, unpredicted};
+ghost use Rattle.lifting.specs.Line.{lo, count, updated, unupdated, unpredicted};
 ghost use Rattle.lifting.specs.Rows.{rowsChanged};
 ghost use Rattle.wavelet.specs.Limits.{maxWidth};
 ghost use Rattle.wavelet.specs.Plane.{cells, flat};
 ghost use Rattle.whole_map.specs.Rowwise.{wovenInPlace};
 ghost use Rattle.whole_map.specs.Passes.{after, before, nextChanged, pairChanged, rowsMapped, Rows};
-ghost use Rattle.whole_map.specs.LevelPasses.{rowLifted, pairLifted, levelLifted};
+ghost use Rattle.whole_map.specs.LevelPasses.{rowLifted, pairLifted, levelLifted, rowsBetween};
 
 // The row after row r of `height` rows, and the row before: mirrored at the ends.
 fn row_after(height: usize, r: usize) -> usize
@@ -76,8 +76,11 @@ fn lift_both(area: &mut [i32], stride: usize, width: usize, low: usize, n: usize
 
 // One turn: a pair, the low row and the high row before it, which is read no more either.
 fn lift_turn(area: &mut [i32], stride: usize, width: usize, low: usize, n: usize)
-    requires { ⌜ (0 < n) × (n < low) × (low + n ≤ length (now area)) × (width ≤ stride) × (n * stride + width ≤ length (now area)) × ((low + (n - 1)) * stride + width ≤ length (now area)) ⌝ }
-    ensures { λ _. ⌜ at (now (area .exit)) ≡ rowLifted stride width (low + (n - 1)) (rowLifted stride width n (pairLifted (length (now (area .entry))) stride width low n (at (now (area .entry))))) ⌝ }
+    requires { ⌜ (0 < n) × (n < low) × (low + n ≤ length (now area)) × (width ≤ stride) × (n * stride + width ≤ length (now area))
+        × ((low + (n - 1)) * stride + width ≤ length (now area)) ⌝ }
+    ensures { λ _. ⌜ at (now (area .exit)) ≡
+        rowLifted stride width (low + (n - 1))
+        (rowLifted stride width n (pairLifted (length (now (area .entry))) stride width low n (at (now (area .entry))))) ⌝ }
 {
     lift_both(area, stride, width, low, n);
     lift_row(area, stride, width, low + (n - 1));
@@ -86,7 +89,10 @@ fn lift_turn(area: &mut [i32], stride: usize, width: usize, low: usize, n: usize
 // The last low row, n, where there is one more than high ones.
 fn lift_odd(area: &mut [i32], stride: usize, width: usize, height: usize, low: usize, n: usize)
     requires { ⌜ (0 < height) × (width ≤ stride) × (n * stride + width ≤ length (now area)) ⌝ }
-    ensures { λ _. ⌜ at (now (area .exit)) ≡ pick (ltb n low) (rowLifted stride width n (rowsChanged (updated wrap32) (length (now (area .entry))) stride width n (height - 1) (height - 1) (at (now (area .entry))))) (at (now (area .entry))) ⌝ }
+    ensures { λ _. ⌜ at (now (area .exit)) ≡
+        pick (ltb n low)
+        (rowLifted stride width n (rowsChanged (updated wrap32) (length (now (area .entry))) stride width n (height - 1) (height - 1) (at (now (area .entry)))))
+        (at (now (area .entry))) ⌝ }
 {
     if low <= n {
         return;
@@ -140,23 +146,34 @@ fn unupdate_next(area: &mut [i32], stride: usize, width: usize, height: usize, r
 // One turn of the columns back: the even row after row r first, and then row r. It is called twice for the same reason as `lift_pair`.
 pub fn unlift_pair(area: &mut [i32], stride: usize, width: usize, height: usize, r: usize)
     requires { ⌜ (r < height) × (1 < height) ⌝ }
-    ensures { λ _. ⌜ at (now (area .exit)) ≡ pairChanged (unupdated wrap32) (unpredicted wrap32) (length (now (area .entry))) stride width height r (at (now (area .entry))) ⌝ }
+    ensures { λ _. ⌜ at (now (area .exit)) ≡
+        pairChanged (unupdated wrap32) (unpredicted wrap32) (length (now (area .entry))) stride width height r (at (now (area .entry))) ⌝ }
 {
     unupdate_next(area, stride, width, height, r);
     rows::unpredict_row(area, stride, width, r, row_before(r), row_after(height, r));
 }
 
-// Each row from halves into its own order, through one line for all of them.
-pub fn weave_rows(area: &mut [i32], stride: usize, width: usize, height: usize)
+// Each row from halves into its own order, through one line for all of them; and whether each number of them lies from `low` to `high`.
+pub fn weave_rows(
+    area: &mut [i32],
+    stride: usize,
+    width: usize,
+    height: usize,
+    low: i32,
+    high: i32,
+) -> bool
     requires { ⌜ Rows (length (now area)) stride width height × (width ≤ count lo maxWidth) ⌝ }
+    ensures { λ r. ⌜ r ≡ rowsBetween 0 height 0 width low high (cells stride (at (now (area .entry)))) ⌝ }
     ensures { λ _. ⌜ at (now (area .exit)) ≡ flat stride (rowsMapped (wovenInPlace width) width height (cells stride (at (now (area .entry))))) ⌝ }
 {
     let mut line = [0; rowwise::LONGEST];
+    let mut ok = true;
     let mut r = 0;
     while r < height {
         let a = r * stride;
         let e = a + width;
-        rowwise::weave(&mut area[a..e], &mut line);
+        ok = ok & rowwise::weave(&mut area[a..e], &mut line, low, high);
         r += 1;
     }
+    ok
 }

@@ -36,15 +36,14 @@ use Rattle.writer.proofs.CallLaws.{set-up-passed}
 use Rattle.writer.proofs.CallList.{Fits, coming, Right, At, own-sound, in-ranges, rows-all}
 use Rattle.writer.proofs.Reached.{rows-are, waiting-coming, offer-turned, offer-takes, finish-answer, draw-says, then-reached}
 
-five-levels : (l : ℕ) → within 1 maxLevels (suc l) ≡ true → suc l ≤ 5
-unfolding maxLevels
-five-levels l h = within-true 1 maxLevels (suc l) h .1
+few-levels : (l : ℕ) → within 1 maxLevels (suc l) ≡ true → suc l ≤ maxLevels
+few-levels l h = within-true 1 maxLevels (suc l) h .1
 
 some-width : (W : ℕ) → within 1 maxWidth W ≡ true → 0 < W
 some-width W h = within-true 1 maxWidth W h .0
 
 -- a drawn row of words is a row of T.800's whole numbers, for a map
-right-values : (L W H : ℕ) (g : Grid) → L ≤ 5 → (es : List Event) → Begins W H g es → (d : DrawnRow) → Right L W H g d → HasValues W H g d
+right-values : (L W H : ℕ) (g : Grid) → L ≤ maxLevels → (es : List Event) → Begins W H g es → (d : DrawnRow) → Right L W H g d → HasValues W H g d
 right-values L W H g few es m d t = record {
   are = λ b e j p.
       let same : b ≡ t .band = code-one b (t .band) (sym e ∙ t .band-is) in
@@ -181,7 +180,7 @@ module _ (l W : ℕ) (wide : within 1 maxWidth W ≡ true) (deep : within 1 maxL
   early : (H : ℕ) (g : Grid) → Begins W H g es → All (HasValues W H g) (take (length (made W M (wholeRows W es) false)) (drawn es))
   early H g m =
       subst (λ k. All (HasValues W H g) (take (length (made W M k false)) (drawn es))) (sym rows-here)
-      (all-map (right-values M W H g (five-levels l deep) es m) (go g₀ refl a))
+      (all-map (right-values M W H g (few-levels l deep) es m) (go g₀ refl a))
     where
       go : (b : Bool) → g₀ ≡ b → At M W (taken es) g₀ (drawn es) r c cl v i x → All (Right M W H g) (take (length (made W M r false)) (drawn es))
       go false e h = all-take (length (made W M r false)) (subst (λ b. At M W (taken es) b (drawn es) r c cl v i x) e h .sound H g
@@ -206,7 +205,7 @@ module _ (l W : ℕ) (wide : within 1 maxWidth W ≡ true) (deep : within 1 maxL
   claim : Demand3 W M es (λ k. event k w₀)
   claim = record {
     in-order = ordered;
-    values = λ H g m. all-map (right-values M W H g (five-levels l deep) es (m .begins)) (a .sound H g (map-fits W H g es m) .values);
+    values = λ H g m. all-map (right-values M W H g (few-levels l deep) es (m .begins)) (a .sound H g (map-fits W H g es m) .values);
     early-values = early;
     first = is-first;
     some-map = map-there;

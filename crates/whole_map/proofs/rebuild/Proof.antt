@@ -1,7 +1,6 @@
 -- `rebuild` meets its contract: the levels, and then the rows tested and stored. Assumes nothing.
 use native.Mathlib.Omega.{arith}
 use borrow.Author.Tests.{not-true, not-false}
-use Rattle.wavelet.specs.Limits.{maxLevels}
 use Rattle.whole_map.proofs.GridSweep.{rows-kept}
 use Rattle.whole_map.proofs.CallLaws.{map-rows, map-doubling, map-no, map-yes}
 use borrow.Author.Needs.{needs}
@@ -9,7 +8,6 @@ use Rattle.whole_map.proofs.rebuild.Statement.{statement}
 use Rattle.whole_map.proofs.rebuild.Tie as tie
 
 back-levels-requires : tie.Need-back-levels-requires
-unfolding maxLevels
 back-levels-requires c κs =
     let start = c .before .before in
     let s = start .pre .0 in

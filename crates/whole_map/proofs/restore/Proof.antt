@@ -1,23 +1,22 @@
 -- `restore` meets its contract: the two questions of the plane, and what each answer leaves. Assumes nothing.
-use mathlib.Core.Path.{sym, _∙_}
+use mathlib.Core.Path.{_≡_, sym, _∙_}
+use mathlib.Core.Bool.{true}
+use Prim.Native.Nat.{ℕ, _*_, _≤_}
+use lib.Dec.{leb}
 use native.Mathlib.Omega.{arith}
-use borrow.Author.Tests.{not-true, not-false}
-use Rattle.wavelet.specs.Limits.{maxLevels}
-use Rattle.whole_map.proofs.CallLaws.{map-rows, cleared, rebuilt-no, rebuilt-yes, rebuilt-zero, out-of-range, not-rebuilt, all-rebuilt}
+use borrow.Author.Tests.{not-true, not-false, le-leb}
+use Rattle.areas.proofs.AreaLaws.{did}
+use Rattle.whole_map.proofs.CallLaws.{cleared, rebuilt-no, rebuilt-yes, rebuilt-zero, out-of-range, not-rebuilt, all-rebuilt}
 use borrow.Author.Needs.{needs}
 use Rattle.whole_map.proofs.restore.Statement.{statement}
 use Rattle.whole_map.proofs.restore.Tie as tie
 
-in-range-requires : tie.Need-in-range-requires
-unfolding maxLevels
-in-range-requires c κs =
-    let start = c .before in
-    let s = start .pre .0 in
-    (map-rows _ _ _ _ s (start .pre .1), s .levels .0, omega arith, omega (arith, s .levels .1))
+plane-in-range-requires : tie.Need-plane-in-range-requires
+plane-in-range-requires c κs = (c .before .pre .0, c .before .pre .1)
 
 returns : tie.Need-returns
 returns c = (
-  out-of-range _ _ _ _ _ (c .before .in-range .ensures) (not-true _ (c .if1 .taken)),
+  out-of-range _ _ _ _ _ (c .before .plane-in-range .ensures) (not-true _ (c .if1 .taken)),
   (rebuilt-no _ _ _ 7 (omega arith) (omega arith), rebuilt-no _ _ _ 7 (omega arith) (omega arith)),
 )
 
@@ -28,13 +27,13 @@ mul-clear-heights : tie.Need-mul-clear-heights
 mul-clear-heights c = search needs
 
 clear-heights-requires : tie.Need-clear-heights-requires
-clear-heights-requires c κs = search needs
+clear-heights-requires c κs = tt
 
 mul-clear : tie.Need-mul-clear
 mul-clear c = search needs
 
 clear-requires : tie.Need-clear-requires
-clear-requires c κs = search needs
+clear-requires c κs = tt
 
 same-length : tie.Need-same-length
 same-length c = search needs
@@ -51,11 +50,15 @@ returns-2 c =
     let good = map .before .before .before in
     let range = good .before in
     let start = range .before .before in
+    let size = start .args .width * start .args .height in
+    let room : (m k : ℕ) → m ≡ k → size ≤ k → leb size m ≡ true = λ m k e h. le-leb size m (omega arith) in
     let b = map .rebuild .ensures in (
-      not-rebuilt _ _ _ _ _ (range .in-range .ensures) (not-false _ (good .if1 .left)) _ (b .answer) (not-true _ (bad .if2 .taken)),
+      not-rebuilt _ _ _ _ _ (range .plane-in-range .ensures) (not-false _ (good .if1 .left)) _ (b .answer) (not-true _ (bad .if2 .taken)),
       (
-        cleared _ _ _ _ _ (start .pre .0 .height .0) (b .keptHeights) (heights .clear-heights .ensures) ∙ sym (rebuilt-zero _ _ _),
-        cleared _ _ _ _ _ (start .pre .0 .height .0) (b .kept) (clear .clear .ensures) ∙ sym (rebuilt-zero _ _ _),
+        cleared _ _ _ _ _ (start .pre .0 .height .0) (b .keptHeights)
+            (did _ _ _ _ (room _ _ (map .rebuild .kept .1 .1 .1 .1 .0) (start .pre .2)) (heights .clear-heights .ensures .1)) ∙ sym (rebuilt-zero _ _ _),
+        cleared _ _ _ _ _ (start .pre .0 .height .0) (b .kept)
+            (did _ _ _ _ (room _ _ (map .rebuild .kept .1 .1 .1 .1 .1 .0) (start .pre .3)) (clear .clear .ensures .1)) ∙ sym (rebuilt-zero _ _ _),
       ),
     )
 
@@ -72,7 +75,7 @@ returns-3 c =
     let range = good .before in
     let t = not-false _ (c .if2 .left) in
     let b = map .rebuild .ensures in (
-      all-rebuilt _ _ _ _ _ (range .in-range .ensures) (not-false _ (good .if1 .left)) _ (b .answer) t,
+      all-rebuilt _ _ _ _ _ (range .plane-in-range .ensures) (not-false _ (good .if1 .left)) _ (b .answer) t,
       (b .heights t ∙ sym (rebuilt-yes _ _ _), b .cleared t ∙ sym (rebuilt-yes _ _ _)),
     )
 
@@ -80,7 +83,7 @@ pub restore-spec : {M : Type 1} → statement M
 restore-spec =
     tie.close
     (tie.spec
-    in-range-requires
+    plane-in-range-requires
     returns
     rebuild-requires
     mul-clear-heights

@@ -1,7 +1,9 @@
 -- `transform` meets its contract: the rows loaded are the map, the levels write its plane, and for a map the words are whole numbers. Assumes nothing.
-use Prim.Native.Nat.{ℕ, _<_}
+use Prim.Native.Nat.{ℕ, _*_, _<_}
 use native.Mathlib.Omega.{arith}
-use lib.ListN.{getD}
+use lib.ListN.{length, getD}
+use borrow.Author.Tests.{le-leb}
+use Rattle.areas.proofs.AreaLaws.{did}
 use Rattle.whole_map.proofs.CallLaws.{map-rows, plane-made, cleared}
 use borrow.Author.Needs.{needs}
 use Rattle.whole_map.proofs.transform.Statement.{statement}
@@ -23,7 +25,7 @@ mul-clear : tie.Need-mul-clear
 mul-clear c = search needs
 
 clear-requires : tie.Need-clear-requires
-clear-requires c κs = search needs
+clear-requires c κs = tt
 
 same-length : tie.Need-same-length
 same-length c = search needs
@@ -37,10 +39,12 @@ returns c =
     let load = levels .before .before .before .before in
     let start = load .before .before .before in
     let s = start .pre .0 in
+    let after = levels .forward-levels in
+    let room = le-leb (start .args .width * start .args .height) (length (after .last .1 .0)) (omega (arith, start .pre .3, after .kept .1 .0)) in
     let fits : (i : ℕ) → getD (start .args .heights .now) i 0 < 65536 =
     λ i. omega (arith, load .before .before .shared-slice-known .given i) in (
       plane-made _ _ _ (start .args .heights .now) _ _ s (load .load-rows .ensures) _ fits (levels .forward-levels .ensures .0),
-      cleared _ _ _ _ _ (s .height .0) (levels .forward-levels .ensures .1) (c .before .clear .ensures),
+      cleared _ _ _ _ _ (s .height .0) (levels .forward-levels .ensures .1) (did _ _ _ _ room (c .before .clear .ensures .1)),
     )
 
 pub transform-spec : {M : Type 1} → statement M

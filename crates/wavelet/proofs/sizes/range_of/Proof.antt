@@ -1,39 +1,73 @@
--- `sizes::range_of` meets its contract: the table is the definition's, level by level. Assumes nothing.
-use mathlib.Core.Path.{_≡_, ap}
-use Prim.Native.Nat.{ℕ, min}
+-- `sizes::range_of` meets its contract. The loop's invariant: `most` is the range of level k. Assumes nothing.
+use mathlib.Core.Path.{_≡_, refl, ap, _∙_}
+use Prim.Native.Nat.{ℕ, suc, _-_, _*_, _^_, _≤_, _<_, min}
 use native.Mathlib.Omega.{arith}
-use lib.IntN.{pos}
+use native.Mathlib.Numerals.{add-one}
+use lib.IntN.{ℤ, pos, _*ℤ_}
+use mir.Syntax.{w32}
+use mir.Val.{SFits, toZ}
+use mir.ValLaws.{toZ-ofZ}
+use Rattle.numbers.proofs.Integers.{each, lin}
 use Rattle.wavelet.specs.Limits.{maxLevels, maxSample, range}
+use Rattle.wavelet.proofs.LimitLaws.{levels-small}
+use Rattle.wavelet.proofs.Bridge.{range-suc, range-small}
 use Rattle.wavelet.proofs.sizes.range_of.Statement.{statement}
 use Rattle.wavelet.proofs.sizes.range_of.Tie as tie
 
--- a level that is k, or past the last where k is the last, has k's range
-ranged : (k level : ℕ) → k ≡ min level maxLevels → pos (range k) ≡ pos (range (min level maxLevels))
-ranged k level e = ap (λ (i : ℕ). pos (range i)) e
+four-fits : (N : ℕ) (z : ℤ) → 4 * N < 2 ^ 31 → z ≡ pos N → SFits w32 (pos 4 *ℤ z)
+four-fits N = each _ λ p q. simp lin (omega arith)
 
-returns : tie.Need-returns
-unfolding range maxSample maxLevels
-returns c = ranged 0 (c .before .args .level) (omega arith)
+four-is : (N : ℕ) (z : ℤ) → z ≡ pos N → pos 4 *ℤ z ≡ pos (4 * N)
+four-is N = each _ λ p q. simp lin (omega arith)
 
-returns-2 : tie.Need-returns-2
-unfolding range maxSample maxLevels
-returns-2 c = ranged 1 (c .before .args .level) (omega arith)
+next-small : (k last : ℕ) → k < last → last ≤ maxLevels → 4 * range k < 2 ^ 31
+next-small k last h few = omega (arith, range-suc k, range-small (suc k) (omega arith))
 
-returns-3 : tie.Need-returns-3
-unfolding range maxSample maxLevels
-returns-3 c = ranged 2 (c .before .args .level) (omega arith)
+abbrev Inv-loop : tie.InvT-loop
+Inv-loop level last most₀ k₀ most k = (k ≤ last) × (last ≤ maxLevels) × (toZ w32 most ≡ pos (range k))
 
-returns-4 : tie.Need-returns-4
-unfolding range maxSample maxLevels
-returns-4 c = ranged 3 (c .before .args .level) (omega arith)
+abbrev μ-loop : tie.MeasureT-loop
+μ-loop level last most₀ k₀ most k = last - k
 
-returns-5 : tie.Need-returns-5
-unfolding range maxSample maxLevels
-returns-5 c = ranged 4 (c .before .args .level) (omega arith)
+deepest-requires : tie.Need-deepest-requires Inv-loop μ-loop
+deepest-requires c κs = tt
 
-returns-6 : tie.Need-returns-6
-unfolding range maxSample maxLevels
-returns-6 c = ranged 5 (c .before .args .level) (omega arith)
+loop-holds : tie.Need-loop-holds Inv-loop μ-loop
+unfolding range maxSample
+loop-holds c = (omega arith, omega arith, refl)
+
+mul-most : tie.Need-mul-most Inv-loop μ-loop
+mul-most c = let inv = c .before .loop .inv in four-fits (range (c .before .loop .k)) _ (next-small _ _ (c .loop-test .taken) (inv .1)) (inv .2)
+
+add-k : tie.Need-add-k Inv-loop μ-loop
+add-k c = omega (arith, levels-small)
+
+loop-less : tie.Need-loop-less Inv-loop μ-loop
+loop-less c = omega arith
+
+loop-again : tie.Need-loop-again Inv-loop μ-loop
+loop-again c =
+    let head = c .before in
+    let k = head .loop .k in
+    let inv = head .loop .inv in
+    (omega arith, inv .1, toZ-ofZ w32 _ (mul-most c) ∙ four-is (range k) _ (inv .2) ∙ rw (add-one, range-suc))
+
+returns : tie.Need-returns Inv-loop μ-loop
+returns c =
+    let l = c .before .loop in
+    let e : l .k ≡ min (c .before .before .before .args .level) maxLevels = omega arith in
+    l .inv .2 ∙ ap (λ (k : ℕ). pos (range k)) e
 
 pub range-of-spec : {M : Type 1} → statement M
-range-of-spec = tie.close (tie.spec returns returns-2 returns-3 returns-4 returns-5 returns-6)
+range-of-spec =
+    tie.close
+    (tie.spec
+    Inv-loop
+    μ-loop
+    deepest-requires
+    loop-holds
+    mul-most
+    add-k
+    loop-less
+    loop-again
+    returns)

@@ -4,24 +4,22 @@ use Prim.Native.Nat.{_≤_, _<_, _-_, _^_}
 use native.Mathlib.Omega.{arith}
 use native.Mathlib.Numerals.{add-one}
 use borrow.Author.Needs.{needs}
-use Rattle.wavelet.specs.Limits.{maxLevels}
 use Rattle.wavelet.specs.Levels.{size}
 use Rattle.wavelet.specs.Store.{storeLength}
-use Rattle.wavelet.proofs.LimitLaws.{width-small}
+use Rattle.wavelet.proofs.LimitLaws.{width-small, levels-small}
 use Rattle.wavelet.proofs.SizeLaws.{size-zero, size-suc, size-le}
 use Rattle.wavelet.proofs.StoreLaws.{store-none, store-more, store-le}
 use Rattle.wavelet.proofs.store.needed.Statement.{statement}
 use Rattle.wavelet.proofs.store.needed.Tie as tie
 
 abbrev Inv-loop : tie.InvT-loop
-Inv-loop width levels sum₀ side₀ k₀ sum side k = (k ≤ levels) × (width < 2 ^ 16) × (levels ≤ 5) × (sum ≡ storeLength width k) × (side ≡ size k width)
+Inv-loop width levels sum₀ side₀ k₀ sum side k = (k ≤ levels) × (width < 2 ^ 16) × (levels < 2 ^ 16) × (sum ≡ storeLength width k) × (side ≡ size k width)
 
 abbrev μ-loop : tie.MeasureT-loop
 μ-loop width levels sum₀ side₀ k₀ sum side k = levels - k
 
 loop-holds : tie.Need-loop-holds Inv-loop μ-loop
-unfolding maxLevels
-loop-holds c = (omega arith, omega (arith, width-small), omega arith, sym (store-none _), sym (size-zero _))
+loop-holds c = (omega arith, omega (arith, width-small), omega (arith, levels-small), sym (store-none _), sym (size-zero _))
 
 mul-sum : tie.Need-mul-sum Inv-loop μ-loop
 mul-sum c = omega (arith, size-le (c .before .loop .k) (c .before .before .args .width))

@@ -10,10 +10,6 @@ use Rattle.whole_map.proofs.GridSweep.{pass-room, row-length}
 use Rattle.whole_map.proofs.HeightRows.{swept-room, swept-length, swept-size, row-heights, Finishing, finish-start, finish-no, finish-turn, finish-yes}
 use Rattle.whole_map.proofs.heights.finish_rows.Statement.{statement}
 use Rattle.whole_map.proofs.heights.finish_rows.Tie as tie
-use Rattle.whole_map.proofs.heights.finish_rows.Reads as reads
-use Rattle.whole_map.proofs.heights.finish_rows.Lts as lts
-use Rattle.whole_map.proofs.heights.finish_row.Reads as finish-row-reads
-use Rattle.whole_map.proofs.rowwise.all_between.Reads as all-between-reads
 
 abbrev Inv-loop : tie.InvT-loop
 Inv-loop work₀ heights₀ width height r₀ work heights r = Finishing width height work₀ heights₀ r work heights

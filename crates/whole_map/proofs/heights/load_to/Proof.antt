@@ -18,45 +18,46 @@ mul-b c = omega arith
 add-f : tie.Need-add-f
 add-f c = omega arith
 
-mul-load-row : tie.Need-mul-load-row
-mul-load-row c = search needs
+mul-load-heights : tie.Need-mul-load-heights
+mul-load-heights c = search needs
 
-sub-load-row : tie.Need-sub-load-row
-sub-load-row c = search needs
+sub-load-heights : tie.Need-sub-load-heights
+sub-load-heights c = search needs
 
-part-load-row-start : tie.Need-part-load-row-start
-part-load-row-start c = search needs
+part-load-heights-start : tie.Need-part-load-heights-start
+part-load-heights-start c = search needs
 
-part-load-row-end : tie.Need-part-load-row-end
-part-load-row-end c = search needs
+part-load-heights-end : tie.Need-part-load-heights-end
+part-load-heights-end c = search needs
 
-mul-load-row-2 : tie.Need-mul-load-row-2
-mul-load-row-2 c = search needs
+mul-load-heights-2 : tie.Need-mul-load-heights-2
+mul-load-heights-2 c = search needs
 
-sub-load-row-2 : tie.Need-sub-load-row-2
-sub-load-row-2 c = search needs
+sub-load-heights-2 : tie.Need-sub-load-heights-2
+sub-load-heights-2 c = search needs
 
-part-load-row-start-2 : tie.Need-part-load-row-start-2
-part-load-row-start-2 c = search needs
+part-load-heights-start-2 : tie.Need-part-load-heights-start-2
+part-load-heights-start-2 c = search needs
 
-part-load-row-end-2 : tie.Need-part-load-row-end-2
-part-load-row-end-2 c = search needs
+part-load-heights-end-2 : tie.Need-part-load-heights-end-2
+part-load-heights-end-2 c = search needs
 
-load-row-requires : tie.Need-load-row-requires
-load-row-requires c κs = search needs
+load-heights-requires : tie.Need-load-heights-requires
+load-heights-requires c κs = tt
 
 same-length : tie.Need-same-length
 same-length c = search needs
 
 returns : tie.Need-returns
 returns c =
-    let called = c .before .load-row in
+    let called = c .before .load-heights in
     let start = c .before .before .before .before .before in
     let args = start .args in
     let w = args .width in
     let a = args .m * w in
     let b = args .r * w in
-    height-part w (args .m) (args .r) (b + w - b) (a + w - a) (args .heights .now) (args .plane .now) (called .last .1 .0) (start .pre .0) (omega arith) (omega arith) (start .pre .1) (start .pre .2) (called .kept .1 .0) (called .ensures)
+    height-part w (args .m) (args .r) (b + w - b) (a + w - a) (args .heights .now) (args .plane .now) (called .last .1 .0) (start .pre .0) (omega arith)
+    (omega arith) (start .pre .1) (start .pre .2) (called .kept .1 .0) (called .ensures .1)
 
 pub load-to-spec : {M : Type 1} → statement M
 load-to-spec =
@@ -66,14 +67,14 @@ load-to-spec =
     add-e
     mul-b
     add-f
-    mul-load-row
-    sub-load-row
-    part-load-row-start
-    part-load-row-end
-    mul-load-row-2
-    sub-load-row-2
-    part-load-row-start-2
-    part-load-row-end-2
-    load-row-requires
+    mul-load-heights
+    sub-load-heights
+    part-load-heights-start
+    part-load-heights-end
+    mul-load-heights-2
+    sub-load-heights-2
+    part-load-heights-start-2
+    part-load-heights-end-2
+    load-heights-requires
     same-length
     returns)

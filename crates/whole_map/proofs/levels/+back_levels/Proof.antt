@@ -4,6 +4,7 @@ use native.Mathlib.Omega.{arith}
 use borrow.Author.Needs.{needs}
 use borrow.Author.Tests.{not-true, not-false}
 use Rattle.lifting.proofs.LineLaws.{count-lo}
+use Rattle.wavelet.proofs.LimitLaws.{levels-small}
 use Rattle.whole_map.proofs.GridSweep.{rows-kept}
 use Rattle.whole_map.proofs.LevelSteps.{stride-small, doubled, rows-next, rows-corner, back-end, back-no, back-low, back-step}
 use Prim.Native.Nat.{ℕ, _<_}
@@ -14,7 +15,6 @@ use Rattle.whole_map.proofs.levels.back_levels.Kinds as back-levels-kin
 use Rattle.whole_map.proofs.levels.+back_levels.Lts-back_levels as back-levels-lts
 use Rattle.wavelet.proofs.sizes.half.Reads as half-reads
 use Rattle.whole_map.proofs.levels.level_back.Reads as level-back-reads
-use Rattle.whole_map.proofs.levels.rows_in_range.Reads as rows-in-range-reads
 use Rattle.whole_map.proofs.levels.weave_low.Reads as weave-low-reads
 use Rattle.whole_map.proofs.levels.+back_levels.{statement}
 use Rattle.whole_map.proofs.levels.+back_levels.Tie.{close}
@@ -37,8 +37,6 @@ back-levels-level-back-requires : (t : ℕ) → back-levels-lts.Need-level-back-
   half-reads.Learnt,
   back-levels-below t,
   back-levels.Post,
-  rows-in-range-reads.Asked,
-  rows-in-range-reads.Learnt,
   weave-low-reads.Asked,
   weave-low-reads.Learnt,
 ) (back-levels-at t) back-levels.Post
@@ -51,8 +49,6 @@ back-levels-same-length : (t : ℕ) → back-levels-lts.Need-same-length (
   half-reads.Learnt,
   back-levels-below t,
   back-levels.Post,
-  rows-in-range-reads.Asked,
-  rows-in-range-reads.Learnt,
   weave-low-reads.Asked,
   weave-low-reads.Learnt,
 ) (back-levels-at t) back-levels.Post
@@ -65,8 +61,6 @@ back-levels-returns : (t : ℕ) → back-levels-lts.Need-returns (
   half-reads.Learnt,
   back-levels-below t,
   back-levels.Post,
-  rows-in-range-reads.Asked,
-  rows-in-range-reads.Learnt,
   weave-low-reads.Asked,
   weave-low-reads.Learnt,
 ) (back-levels-at t) back-levels.Post
@@ -81,8 +75,6 @@ back-levels-half-requires : (t : ℕ) → back-levels-lts.Need-half-requires (
   half-reads.Learnt,
   back-levels-below t,
   back-levels.Post,
-  rows-in-range-reads.Asked,
-  rows-in-range-reads.Learnt,
   weave-low-reads.Asked,
   weave-low-reads.Learnt,
 ) (back-levels-at t) back-levels.Post
@@ -95,8 +87,6 @@ back-levels-half-requires-2 : (t : ℕ) → back-levels-lts.Need-half-requires-2
   half-reads.Learnt,
   back-levels-below t,
   back-levels.Post,
-  rows-in-range-reads.Asked,
-  rows-in-range-reads.Learnt,
   weave-low-reads.Asked,
   weave-low-reads.Learnt,
 ) (back-levels-at t) back-levels.Post
@@ -109,8 +99,6 @@ back-levels-mul-next : (t : ℕ) → back-levels-lts.Need-mul-next (
   half-reads.Learnt,
   back-levels-below t,
   back-levels.Post,
-  rows-in-range-reads.Asked,
-  rows-in-range-reads.Learnt,
   weave-low-reads.Asked,
   weave-low-reads.Learnt,
 ) (back-levels-at t) back-levels.Post
@@ -123,8 +111,6 @@ back-levels-sub-back-levels : (t : ℕ) → back-levels-lts.Need-sub-back-levels
   half-reads.Learnt,
   back-levels-below t,
   back-levels.Post,
-  rows-in-range-reads.Asked,
-  rows-in-range-reads.Learnt,
   weave-low-reads.Asked,
   weave-low-reads.Learnt,
 ) (back-levels-at t) back-levels.Post
@@ -137,12 +123,10 @@ back-levels-add-back-levels : (t : ℕ) → back-levels-lts.Need-add-back-levels
   half-reads.Learnt,
   back-levels-below t,
   back-levels.Post,
-  rows-in-range-reads.Asked,
-  rows-in-range-reads.Learnt,
   weave-low-reads.Asked,
   weave-low-reads.Learnt,
 ) (back-levels-at t) back-levels.Post
-back-levels-add-back-levels t c = search needs
+back-levels-add-back-levels t c = omega (arith, levels-small)
 
 back-levels-back-levels-requires : (t : ℕ) → back-levels-lts.Need-back-levels-requires (
   level-back-reads.Asked,
@@ -151,8 +135,6 @@ back-levels-back-levels-requires : (t : ℕ) → back-levels-lts.Need-back-level
   half-reads.Learnt,
   back-levels-below t,
   back-levels.Post,
-  rows-in-range-reads.Asked,
-  rows-in-range-reads.Learnt,
   weave-low-reads.Asked,
   weave-low-reads.Learnt,
 ) (back-levels-at t) back-levels.Post
@@ -176,8 +158,6 @@ back-levels-same-length-2 : (t : ℕ) → back-levels-lts.Need-same-length-2 (
   half-reads.Learnt,
   back-levels-below t,
   back-levels.Post,
-  rows-in-range-reads.Asked,
-  rows-in-range-reads.Learnt,
   weave-low-reads.Asked,
   weave-low-reads.Learnt,
 ) (back-levels-at t) back-levels.Post
@@ -190,8 +170,6 @@ back-levels-returns-2 : (t : ℕ) → back-levels-lts.Need-returns-2 (
   half-reads.Learnt,
   back-levels-below t,
   back-levels.Post,
-  rows-in-range-reads.Asked,
-  rows-in-range-reads.Learnt,
   weave-low-reads.Asked,
   weave-low-reads.Learnt,
 ) (back-levels-at t) back-levels.Post
@@ -202,38 +180,38 @@ back-levels-returns-2 t c =
     let start = half .before .before in
     back-no _ _ _ _ _ _ _ _ _ _ _ _ _ (start .pre .1 .1) (half .before .if1 .left) (half .half .ensures) (half2 .half2 .ensures) (again .back-levels .ensures) (not-true _ (c .if2 .taken))
 
-back-levels-add-rows-in-range : (t : ℕ) → back-levels-lts.Need-add-rows-in-range (
+back-levels-add-weave-low : (t : ℕ) → back-levels-lts.Need-add-weave-low (
   level-back-reads.Asked,
   level-back-reads.Learnt,
   half-reads.Asked,
   half-reads.Learnt,
   back-levels-below t,
   back-levels.Post,
-  rows-in-range-reads.Asked,
-  rows-in-range-reads.Learnt,
   weave-low-reads.Asked,
   weave-low-reads.Learnt,
 ) (back-levels-at t) back-levels.Post
-back-levels-add-rows-in-range t c = search needs
+back-levels-add-weave-low t c = omega (arith, levels-small)
 
-back-levels-rows-in-range-requires : (t : ℕ) → back-levels-lts.Need-rows-in-range-requires (
+back-levels-weave-low-requires : (t : ℕ) → back-levels-lts.Need-weave-low-requires (
   level-back-reads.Asked,
   level-back-reads.Learnt,
   half-reads.Asked,
   half-reads.Learnt,
   back-levels-below t,
   back-levels.Post,
-  rows-in-range-reads.Asked,
-  rows-in-range-reads.Learnt,
   weave-low-reads.Asked,
   weave-low-reads.Learnt,
 ) (back-levels-at t) back-levels.Post
-back-levels-rows-in-range-requires t c κs =
+back-levels-weave-low-requires t c κs =
     let again = c .before .before .before in
     let half2 = again .before .before in
     let half = half2 .before in
-    let start = half .before .before in
-    (rows-next _ _ _ _ _ _ _ (again .back-levels .kept .1 .0) (half .half .ensures) (half2 .half2 .ensures) (start .pre .1 .1), omega arith, omega arith, omega arith)
+    let start = half .before .before in (
+      rows-kept (again .back-levels .kept .1 .0) (start .pre .1 .1),
+      start .pre .1 .2 .narrow,
+      omega (arith, stride-small _ _ _ (start .pre .1 .2)),
+      omega arith,
+    )
 
 back-levels-same-length-3 : (t : ℕ) → back-levels-lts.Need-same-length-3 (
   level-back-reads.Asked,
@@ -242,8 +220,6 @@ back-levels-same-length-3 : (t : ℕ) → back-levels-lts.Need-same-length-3 (
   half-reads.Learnt,
   back-levels-below t,
   back-levels.Post,
-  rows-in-range-reads.Asked,
-  rows-in-range-reads.Learnt,
   weave-low-reads.Asked,
   weave-low-reads.Learnt,
 ) (back-levels-at t) back-levels.Post
@@ -256,38 +232,19 @@ back-levels-returns-3 : (t : ℕ) → back-levels-lts.Need-returns-3 (
   half-reads.Learnt,
   back-levels-below t,
   back-levels.Post,
-  rows-in-range-reads.Asked,
-  rows-in-range-reads.Learnt,
   weave-low-reads.Asked,
   weave-low-reads.Learnt,
 ) (back-levels-at t) back-levels.Post
 back-levels-returns-3 t c =
-    let test = c .before in
-    let fits = test .before .before in
+    let weave = c .before .before in
+    let fits = weave .before .before in
     let again = fits .before .before in
     let half2 = again .before .before in
     let half = half2 .before in
     let start = half .before .before in
-    back-low _ _ _ _ _ _ _ _ _ _ _ _ _ (start .pre .1 .1) (half .before .if1 .left) (half .half .ensures) (half2 .half2 .ensures) (again .back-levels .ensures) (not-false _ (fits .if2 .left)) _ (test .rows-in-range .ensures) (not-true _ (c .if3 .taken))
-
-back-levels-weave-low-requires : (t : ℕ) → back-levels-lts.Need-weave-low-requires (
-  level-back-reads.Asked,
-  level-back-reads.Learnt,
-  half-reads.Asked,
-  half-reads.Learnt,
-  back-levels-below t,
-  back-levels.Post,
-  rows-in-range-reads.Asked,
-  rows-in-range-reads.Learnt,
-  weave-low-reads.Asked,
-  weave-low-reads.Learnt,
-) (back-levels-at t) back-levels.Post
-back-levels-weave-low-requires t c κs =
-    let again = c .before .before .before .before .before .before in
-    let half2 = again .before .before in
-    let half = half2 .before in
-    let start = half .before .before in
-    (rows-kept (again .back-levels .kept .1 .0) (start .pre .1 .1), start .pre .1 .2 .narrow, omega (arith, stride-small _ _ _ (start .pre .1 .2)))
+    back-low _ _ _ _ _ _ _ _ _ _ _ _ _ (start .pre .1 .1) (half .before .if1 .left) (half .half .ensures) (half2 .half2 .ensures)
+    (again .back-levels .ensures) (not-false _ (fits .if2 .left))
+    _ _ (weave .weave-low .ensures .0) (weave .weave-low .ensures .1) (not-true _ (c .if3 .taken))
 
 back-levels-level-back-requires-2 : (t : ℕ) → back-levels-lts.Need-level-back-requires-2 (
   level-back-reads.Asked,
@@ -296,14 +253,12 @@ back-levels-level-back-requires-2 : (t : ℕ) → back-levels-lts.Need-level-bac
   half-reads.Learnt,
   back-levels-below t,
   back-levels.Post,
-  rows-in-range-reads.Asked,
-  rows-in-range-reads.Learnt,
   weave-low-reads.Asked,
   weave-low-reads.Learnt,
 ) (back-levels-at t) back-levels.Post
 back-levels-level-back-requires-2 t c κs =
-    let weave = c .before .before in
-    let again = weave .before .before .before .before .before .before .before in
+    let weave = c .before .before .before in
+    let again = weave .before .before .before .before in
     let half2 = again .before .before in
     let half = half2 .before in
     let start = half .before .before in
@@ -317,8 +272,6 @@ back-levels-same-length-4 : (t : ℕ) → back-levels-lts.Need-same-length-4 (
   half-reads.Learnt,
   back-levels-below t,
   back-levels.Post,
-  rows-in-range-reads.Asked,
-  rows-in-range-reads.Learnt,
   weave-low-reads.Asked,
   weave-low-reads.Learnt,
 ) (back-levels-at t) back-levels.Post
@@ -331,22 +284,20 @@ back-levels-returns-4 : (t : ℕ) → back-levels-lts.Need-returns-4 (
   half-reads.Learnt,
   back-levels-below t,
   back-levels.Post,
-  rows-in-range-reads.Asked,
-  rows-in-range-reads.Learnt,
   weave-low-reads.Asked,
   weave-low-reads.Learnt,
 ) (back-levels-at t) back-levels.Post
 back-levels-returns-4 t c =
-    let weave = c .before .before .before .before in
-    let good = weave .before .before in
-    let test = good .before in
-    let fits = test .before .before in
+    let good = c .before .before .before in
+    let weave = good .before .before in
+    let fits = weave .before .before in
     let again = fits .before .before in
     let half2 = again .before .before in
     let half = half2 .before in
     let start = half .before .before in
-    back-step _ _ _ _ _ _ _ _ _ _ _ _ _ (start .pre .1 .1) (half .before .if1 .left) (half .half .ensures) (half2 .half2 .ensures) (again .back-levels .ensures) (not-false _ (fits .if2 .left)) _ (test .rows-in-range .ensures)
-    _ _ (not-false _ (good .if3 .left)) (weave .weave-low .ensures) (c .before .level-back2 .ensures)
+    back-step _ _ _ _ _ _ _ _ _ _ _ _ _ (start .pre .1 .1) (half .before .if1 .left) (half .half .ensures) (half2 .half2 .ensures)
+    (again .back-levels .ensures) (not-false _ (fits .if2 .left))
+    _ _ (weave .weave-low .ensures .0) (weave .weave-low .ensures .1) _ (not-false _ (good .if3 .left)) (c .before .level-back2 .ensures)
 
 pub +back-levels-spec : {M : Type 1} → statement M
 +back-levels-spec = close μ-back-levels λ t. back-levels-lts.spec (
@@ -356,8 +307,6 @@ pub +back-levels-spec : {M : Type 1} → statement M
   half-reads.Learnt,
   back-levels-below t,
   back-levels.Post,
-  rows-in-range-reads.Asked,
-  rows-in-range-reads.Learnt,
   weave-low-reads.Asked,
   weave-low-reads.Learnt,
 )
@@ -374,11 +323,10 @@ pub +back-levels-spec : {M : Type 1} → statement M
     (back-levels-back-levels-requires t)
     (back-levels-same-length-2 t)
     (back-levels-returns-2 t)
-    (back-levels-add-rows-in-range t)
-    (back-levels-rows-in-range-requires t)
+    (back-levels-add-weave-low t)
+    (back-levels-weave-low-requires t)
     (back-levels-same-length-3 t)
     (back-levels-returns-3 t)
-    (back-levels-weave-low-requires t)
     (back-levels-level-back-requires-2 t)
     (back-levels-same-length-4 t)
     (back-levels-returns-4 t)

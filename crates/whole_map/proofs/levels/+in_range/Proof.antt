@@ -4,6 +4,7 @@ use native.Mathlib.Omega.{arith}
 use borrow.Author.Needs.{needs}
 use borrow.Author.Tests.{not-true, not-false}
 use Rattle.lifting.proofs.LineLaws.{count-lo}
+use Rattle.wavelet.proofs.LimitLaws.{levels-small}
 use Rattle.whole_map.proofs.CellLaws.{fewer-rows}
 use Rattle.whole_map.proofs.LevelSteps.{rows-corner, range-end, range-first, range-second, range-third}
 use Prim.Native.Nat.{ℕ, _<_}
@@ -87,7 +88,7 @@ in-range-add-in-range : (t : ℕ) → in-range-lts.Need-add-in-range (
   in-range-below t,
   in-range.Post,
 ) (in-range-at t) in-range.Post
-in-range-add-in-range t c = search needs
+in-range-add-in-range t c = omega (arith, levels-small)
 
 in-range-in-range-requires : (t : ℕ) → in-range-lts.Need-in-range-requires (
   rows-in-range-reads.Asked,

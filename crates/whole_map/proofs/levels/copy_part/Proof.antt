@@ -37,7 +37,7 @@ part-copy-end-2 : tie.Need-part-copy-end-2
 part-copy-end-2 c = search needs
 
 copy-requires : tie.Need-copy-requires
-copy-requires c κs = search needs
+copy-requires c κs = tt
 
 same-length : tie.Need-same-length
 same-length c = search needs
@@ -46,7 +46,8 @@ returns : tie.Need-returns
 returns c =
     let start = c .before .before .before .before in
     let a = start .args in
-    copied-part (a .a) (a .b) (a .n) (a .b + a .n - a .b) (a .a + a .n - a .a) (a .from .now) (a .to .now) (c .before .copy .last .1 .0) (omega arith) (omega arith) (start .pre .0) (start .pre .1) (c .before .copy .kept .1 .0) (c .before .copy .ensures)
+    copied-part (a .a) (a .b) (a .n) (a .b + a .n - a .b) (a .a + a .n - a .a) (a .from .now) (a .to .now) (c .before .copy .last .1 .0) (omega arith)
+    (omega arith) (start .pre .0) (start .pre .1) (c .before .copy .kept .1 .0) (c .before .copy .ensures .1)
 
 pub copy-part-spec : {M : Type 1} → statement M
 copy-part-spec =

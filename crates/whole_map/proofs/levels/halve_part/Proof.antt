@@ -37,7 +37,7 @@ part-part-line-end-2 : tie.Need-part-part-line-end-2
 part-part-line-end-2 c = search needs
 
 part-line-requires : tie.Need-part-line-requires
-part-line-requires c κs = search needs
+part-line-requires c κs = tt
 
 same-length : tie.Need-same-length
 same-length c = search needs
@@ -46,7 +46,8 @@ returns : tie.Need-returns
 returns c =
     let start = c .before .before .before .before in
     let a = start .args in
-    halved-part (a .a) (a .b) (a .n) (a .b + a .n - a .b) (a .a + a .n - a .a) (a .from .now) (a .to .now) (c .before .part-line .last .1 .0) (omega arith) (omega arith) (start .pre .0) (start .pre .1) (c .before .part-line .kept .1 .0) (c .before .part-line .ensures)
+    halved-part (a .a) (a .b) (a .n) (a .b + a .n - a .b) (a .a + a .n - a .a) (a .from .now) (a .to .now) (c .before .part-line .last .1 .0)
+    (omega arith) (omega arith) (start .pre .0) (start .pre .1) (c .before .part-line .kept .1 .0) (c .before .part-line .ensures .1)
 
 pub halve-part-spec : {M : Type 1} → statement M
 halve-part-spec =

@@ -3,29 +3,40 @@ use mathlib.Core.Path.{_≡_, refl, sym, _∙_}
 use Prim.Native.Nat.{_+_, _-_, _*_, _≤_}
 use native.Mathlib.Omega.{arith}
 use lib.ListN.{length}
+use mir.Syntax.{w32}
+use mir.Val.{toZ}
+use mir.ValLaws.{toZ-ofZ}
 use Rattle.numbers.specs.Signal.{at}
 use Rattle.lifting.specs.Line.{lo, count}
 use Rattle.wavelet.specs.Limits.{maxWidth}
-use Rattle.whole_map.specs.Rowwise.{wovenInPlace}
+use Rattle.whole_map.specs.Rowwise.{wovenInPlace, between}
 use Rattle.wavelet.specs.Plane.{cells}
+use Rattle.wavelet.specs.Maps.{every}
 use Rattle.whole_map.specs.Passes.{rowsMapped}
-use Rattle.whole_map.proofs.GridSweep.{Passed, pass-start, pass-room, pass-end, row-length, mapped-past, map-turn}
+use Rattle.whole_map.proofs.GridSweep.{Passed, pass-start, pass-room, pass-end, row-length, lent-row, mapped-past, map-turn}
+use Rattle.areas.proofs.AreaLaws.{between-start}
+use Rattle.whole_map.proofs.RowwiseLaws.{gather-turn}
+use Rattle.whole_map.proofs.TestLaws.{row-between, all-rows}
+use Rattle.whole_map.proofs.LevelSteps.{between-by}
 use Rattle.whole_map.proofs.passes.weave_rows.Statement.{statement}
 use Rattle.whole_map.proofs.passes.weave_rows.Tie as tie
 
 abbrev Inv-loop : tie.InvT-loop
-Inv-loop area₀ stride width height line₀ r₀ area line r =
-    (r ≤ height) × (length line ≡ count lo maxWidth) × Passed stride width height (rowsMapped (wovenInPlace width) width height (cells stride (at area₀))) area₀ r area
+Inv-loop area₀ stride width height low high line₀ ok₀ r₀ area line ok r =
+    (r ≤ height)
+    × (length line ≡ count lo maxWidth)
+    × (ok ≡ every r (λ i. every width (λ k. between (toZ w32 low) (toZ w32 high) (cells stride (at area₀) i k))))
+    × Passed stride width height (rowsMapped (wovenInPlace width) width height (cells stride (at area₀))) area₀ r area
 
 abbrev μ-loop : tie.MeasureT-loop
-μ-loop area₀ stride width height line₀ r₀ area line r = height - r
+μ-loop area₀ stride width height low high line₀ ok₀ r₀ area line ok r = height - r
 
 loop-holds : tie.Need-loop-holds Inv-loop μ-loop
 unfolding maxWidth count
-loop-holds c = (omega arith, refl, pass-start _ _ _ _ _ 0 (c .pre .0) (λ r k lt. absurd (omega arith)))
+loop-holds c = (omega arith, refl, between-start _, pass-start _ _ _ _ _ 0 (c .pre .0) (λ r k lt. absurd (omega arith)))
 
 room : (c : tie.In-loop Inv-loop μ-loop) → c .before .loop .r * c .before .before .args .stride + c .before .before .args .width ≤ length (c .before .loop .area)
-room c = pass-room (c .before .loop .inv .2) (c .loop-test .taken)
+room c = pass-room (c .before .loop .inv .3) (c .loop-test .taken)
 
 mul-a : tie.Need-mul-a Inv-loop μ-loop
 mul-a c = omega (arith, room c)
@@ -54,7 +65,12 @@ weave-requires c κs =
     let head = c .before .before .before in
     let a = head .loop .r * head .before .args .stride in
     let few = head .before .pre .1 in
-    omega (arith, row-length _ _ _ _ _ _ (a + head .before .args .width - a) _ (omega arith) (c .before .before .loop-test .taken) (head .loop .inv .2), head .loop .inv .1)
+    omega (
+      arith,
+      row-length _ _ _ _ _ _ (a + head .before .args .width - a) _ (omega arith) (c .before .before .loop-test .taken)
+          (head .loop .inv .3),
+      head .loop .inv .1,
+    )
 
 add-r : tie.Need-add-r Inv-loop μ-loop
 add-r c = omega arith
@@ -71,14 +87,28 @@ loop-again c =
     let a = head .loop .r * args .stride in (
       omega arith,
       part .kept .1 .0 ∙ head .loop .inv .1,
-      map-turn wovenInPlace _ _ _ _ _ (a + args .width - a) _ (part .last .0) (omega arith) (row .loop-test .taken) (part .kept .0) (part .ensures) (head .loop .inv .2),
+      gather-turn _ _ (head .loop .r) _ (head .loop .inv .2)
+          (part .ensures .0
+          ∙ row-between _ _ (args .width) (head .loop .r) _ (cells (args .stride) (at (args .area .now))) _
+          (row-length _ _ _ _ _ _ (a + args .width - a) _ (omega arith) (row .loop-test .taken) (head .loop .inv .3))
+          (lent-row _ _ _ _ _ _ (a + args .width - a) _ (omega arith) (head .loop .inv .3))),
+      map-turn wovenInPlace _ _ _ _ _ (a + args .width - a) _ (part .last .0) (omega arith) (row .loop-test .taken) (part .kept .0) (part .ensures .1)
+          (head .loop .inv .3),
     )
 
 same-length : tie.Need-same-length Inv-loop μ-loop
-same-length c = c .before .loop .inv .2 .size
+same-length c = c .before .loop .inv .3 .size
 
 returns : tie.Need-returns Inv-loop μ-loop
-returns c = pass-end (c .before .loop .inv .2) (λ r k le. mapped-past _ _ _ _ r k (omega arith))
+returns c =
+    let a = c .before .before .args in
+    let fits = c .before .before .fits in
+    let e : c .before .loop .r ≡ a .height = omega arith in (
+      (rw e at (c .before .loop .inv .2))
+          ∙ all-rows _ _ (a .width) (a .height) (cells (a .stride) (at (a .area .now)))
+          ∙ between-by 0 (a .height) 0 (a .width) _ (toZ-ofZ w32 _ (fits .low)) (toZ-ofZ w32 _ (fits .high)),
+      pass-end (c .before .loop .inv .3) (λ r k le. mapped-past _ _ _ _ r k (omega arith)),
+    )
 
 pub weave-rows-spec : {M : Type 1} → statement M
 weave-rows-spec =
