@@ -21,7 +21,7 @@ use Rattle.writer.specs.declared.BandRow.{BandRow}
 use Rattle.writer.specs.History.{Call, Event, events, freshWorld, taken, finishedBy, DrawnRow, drawn}
 use Rattle.writer.specs.Demand3.{wholeRows, madeOf, waitingOf, answered, MapOf, HasValues, All, all-more}
 use Rattle.writer.proofs.Demand3.{demand-3}
-use Rattle.pgm.specs.Decimal.{numeral, integer}
+use Rattle.text.specs.Decimal.{numeral, integer}
 use Rattle.listing.specs.Lines.{bandLetters, spaced, rowHead, rowLine, lineOf, linesOf, sizeLine}
 use Rattle.listing.specs.Listing.{Shape, gridOf, linesDue}
 use Rattle.listing.specs.Parts.{letter, headText, headPart}

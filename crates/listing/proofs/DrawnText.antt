@@ -3,7 +3,8 @@ use mathlib.Core.Bool.{Bool, true, false}
 use mathlib.Core.List.{List, [], _∷_, _++_}
 use Prim.Native.Nat.{ℕ}
 use Rattle.writer.specs.History.{DrawnRow}
-use Rattle.listing.specs.Lines.{spaced, refusedLine, answerLine}
+use Rattle.text.specs.Refusal.{refusedLine, answerLine}
+use Rattle.listing.specs.Lines.{spaced}
 use Rattle.listing.specs.Listing.{Shape, linesDue}
 use Rattle.listing.specs.Parts.{headText, headPart}
 use Rattle.listing.specs.Telling.{Event, begins, height, refusal, Ending, whole, few, over, Telling}

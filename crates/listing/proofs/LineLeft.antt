@@ -10,8 +10,9 @@ use lib.ListN.{length, take, drop, length-drop, take-append-drop}
 use lib.Seq.{drop-drop}
 use borrow.Author.Tests.{lt-ltb, le-ltb, lt-leb, le-leb, eq-eqb, ne-eqb}
 use Rattle.numbers.specs.Signal.{pick}
-use Rattle.pgm.specs.Decimal.{integer}
-use Rattle.listing.specs.Lines.{spaced, sizeLine, refusedLine}
+use Rattle.text.specs.Decimal.{integer}
+use Rattle.text.specs.Refusal.{refusedLine}
+use Rattle.listing.specs.Lines.{spaced, sizeLine}
 use Rattle.listing.specs.Parts.{sizeText, refusedText, headText, valueText, partText, sizePart, refusedPart, headPart, donePart, startOf, leftOf}
 use Rattle.listing.specs.Scenes.{valuePart}
 use Rattle.listing.specs.declared.line.Line.{Line}
@@ -71,7 +72,7 @@ module _ (k : ℕ) (z : ℕ → ℤ) where
   left-size W H L = append-nil _ ∙ left-all (sizeLine W H L)
 
   pub left-refused : (q : ℕ) → lineLeft k z (refusedPart q) ≡ refusedLine q
-  unfolding lineLeft lineTail partText refusedText refusedLine
+  unfolding lineLeft lineTail partText refusedText
   left-refused q = append-nil _ ∙ left-all (refusedLine q)
 
   pub left-head : (a b c n : ℕ) → lineLeft k z (headPart a b c n) ≡ headText (headPart a b c n) ++ (spaced n z ++ (10 ∷ []))

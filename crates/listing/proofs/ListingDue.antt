@@ -10,7 +10,8 @@ use Rattle.writer.specs.Level.{Memory}
 use Rattle.writer.specs.History.{DrawnRow, events, freshWorld, finishedBy, drawn}
 use Rattle.writer.specs.Demand3.{All}
 use Rattle.writer.specs.declared.Writer.{Writer}
-use Rattle.listing.specs.Lines.{sizeLine, answerLine}
+use Rattle.text.specs.Refusal.{answerLine}
+use Rattle.listing.specs.Lines.{sizeLine}
 use Rattle.listing.specs.Listing.{Shape, linesDue}
 use Rattle.listing.specs.Scenes.{Scene}
 use Rattle.listing.specs.Moves.{lineOn, Idle}

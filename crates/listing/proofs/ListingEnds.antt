@@ -11,7 +11,7 @@ use Rattle.wavelet.specs.Store.{storeLength}
 use Rattle.writer.specs.Calls.{finishStore}
 use Rattle.writer.specs.Demand3.{All}
 use Rattle.writer.specs.declared.Writer.{Writer}
-use Rattle.listing.specs.Lines.{refusedLine}
+use Rattle.text.specs.Refusal.{refusedLine}
 use Rattle.listing.specs.Listing.{Shape, linesDue}
 use Rattle.listing.specs.Hearing.{phased, endHeard}
 use Rattle.listing.specs.Parts.{refusedPart}

@@ -14,7 +14,7 @@ use Rattle.writer.specs.Calls.{offerReply, offerStore}
 use Rattle.writer.specs.Demand3.{All, all-none, all-more}
 use Rattle.writer.specs.declared.Writer.{Writer}
 use Rattle.writer.proofs.CallList.{all-append}
-use Rattle.listing.specs.Lines.{refusedLine}
+use Rattle.text.specs.Refusal.{refusedLine}
 use Rattle.listing.specs.Hearing.{hears, heightsCame}
 use Rattle.listing.specs.Parts.{noLine, refusedPart}
 use Rattle.listing.specs.Scenes.{Scene, drawScene, offerScene, heardTo, hearScene}

@@ -19,7 +19,8 @@ use Rattle.writer.specs.Calls.{fresh, setUpReply, setUpStore, offerReply, offer
 use Rattle.writer.specs.Demand3.{all-none}
 use Rattle.writer.specs.declared.Writer.{Writer}
 use Rattle.writer.proofs.CallList.{map-append}
-use Rattle.listing.specs.Lines.{sizeLine, refusedLine, answerLine}
+use Rattle.text.specs.Refusal.{refusedLine, answerLine}
+use Rattle.listing.specs.Lines.{sizeLine}
 use Rattle.listing.specs.Listing.{maxListedWidth, maxListedHeight, shapeFits}
 use Rattle.listing.specs.Parts.{noLine, sizePart}
 use Rattle.listing.specs.Scenes.{Scene, scene, listed, refusedTo, drawScene, beginScene, offerScene}

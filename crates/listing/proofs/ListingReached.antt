@@ -16,7 +16,8 @@ use Rattle.writer.specs.History.{DrawnRow}
 use Rattle.writer.specs.Demand3.{All}
 use Rattle.writer.specs.declared.Writer.{Writer}
 use Rattle.writer.specs.declared.BandRow.{BandRow}
-use Rattle.listing.specs.Lines.{sizeLine, refusedLine, answerLine}
+use Rattle.text.specs.Refusal.{refusedLine, answerLine}
+use Rattle.listing.specs.Lines.{sizeLine}
 use Rattle.listing.specs.Parts.{noLine, headPart}
 use Rattle.listing.specs.Scenes.{Scene, scene, drawnTo, drawScene}
 use Rattle.listing.specs.Moves.{lineOn, Idle, leftOn, writtenOn}

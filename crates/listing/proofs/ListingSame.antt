@@ -7,7 +7,7 @@ use Prim.Native.Nat.{ℕ}
 use lib.ListN.{length}
 use borrow.Author.Tests.{eq-eqb}
 use Rattle.pgm.specs.Header.{Read, found, short, wrong}
-use Rattle.listing.specs.Lines.{refusedLine}
+use Rattle.text.specs.Refusal.{refusedLine}
 use Rattle.listing.specs.Listing.{Shape, Head, cells, heightsTaken, tooLarge, bytesOf, linesDue, bodyOf, listingOf, Accepted}
 
 -- what a head and the bytes after it are listed as

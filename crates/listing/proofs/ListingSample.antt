@@ -11,8 +11,9 @@ use Rattle.wavelet.specs.Questions.{within}
 use Rattle.pgm.specs.Characters.{space, lineEnd, digit}
 use Rattle.pgm.specs.Header.{one, comment, gap, afterGaps, numberFrom, field, side, sized, headerEnd, headerOf}
 use Rattle.pgm.specs.Samples.{wide, sampleSize, pairsOf, samplesOf, fitting, exceeds, heightsOf}
-use Rattle.pgm.specs.Decimal.{digitsOf, numeral, integer}
-use Rattle.listing.specs.Lines.{spaced, rowHead, rowLine, lineOf, linesOf, sizeLine, refusedLine}
+use Rattle.text.specs.Decimal.{digitsOf, numeral, integer}
+use Rattle.text.specs.Refusal.{refusedLine}
+use Rattle.listing.specs.Lines.{spaced, rowHead, rowLine, lineOf, linesOf, sizeLine}
 use Rattle.listing.specs.Listing.{levelDigit, maxListedWidth, maxListedHeight, shapeFits, headEnd, headOf, heightsTaken, tooLarge, gridOf, linesDue, bodyOf, listingOf}
 
 -- 2, P5 1 4 65535, and the heights 1, 4, 2 and the first byte of 7

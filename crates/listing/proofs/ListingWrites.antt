@@ -9,7 +9,8 @@ use lib.ListN.{length}
 use borrow.Author.Tests.{lt-ltb, le-ltb, eq-eqb, ne-eqb}
 use Rattle.wavelet.specs.Store.{storeLength}
 use Rattle.writer.specs.Questions.{setUpQuestion}
-use Rattle.listing.specs.Lines.{sizeLine, answerLine}
+use Rattle.text.specs.Refusal.{answerLine}
+use Rattle.listing.specs.Lines.{sizeLine}
 use Rattle.listing.specs.Parts.{noLine}
 use Rattle.listing.specs.Scenes.{Scene, scene, listed, drawScene, valuePart, advanceScene}
 use Rattle.listing.specs.Moves.{lineOn, leftOn}

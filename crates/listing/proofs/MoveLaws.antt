@@ -6,7 +6,7 @@ use native.Mathlib.Omega.{arith}
 use lib.ListN.{length, drop, length-append}
 use Rattle.listing.specs.Scenes.{Scene}
 use Rattle.listing.specs.Moves.{Move, Goes, stays, then, Reads, Writes, Went}
-use Rattle.pgm.proofs.TextLaws.{wrote-none, wrote-on}
+use Rattle.text.proofs.TextLaws.{wrote-none, wrote-on}
 
 -- ---- moves
 module _ {n k : ℕ} where

@@ -9,7 +9,7 @@ use lib.ListN.{length}
 use borrow.Author.Tests.{le-ltb, eqb-true}
 use Rattle.numbers.specs.Signal.{pick}
 use Rattle.pgm.specs.Header.{Read, found, short, wrong}
-use Rattle.listing.specs.Lines.{refusedLine, answerLine}
+use Rattle.text.specs.Refusal.{refusedLine, answerLine}
 use Rattle.listing.specs.Listing.{Shape, Head, cells, headOf, heightsTaken, tooLarge, bytesOf, refusalIn, linesDue, bodyOf, bodyDue, listingOf, dueOf}
 use Rattle.listing.specs.Telling.{Event, begins, height, refusal, answerEvents, Ending, whole, few, over, Telling, told, heightsTell, headTells, tellingOf}
 use Rattle.listing.proofs.DrawnText.{heightsIn, refusedIn, textOf, endText}

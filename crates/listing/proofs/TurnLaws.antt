@@ -12,7 +12,7 @@ use Rattle.numbers.specs.Signal.{at, pick}
 use Rattle.listing.specs.Scenes.{Scene, scene}
 use Rattle.listing.specs.Moves.{Went, Stops, full, idle, Onward, on, off}
 use Rattle.listing.specs.declared.listing.Listing.{Listing}
-use Rattle.pgm.proofs.TextLaws.{wrote-size}
+use Rattle.text.proofs.TextLaws.{wrote-size}
 use Rattle.listing.proofs.MoveLaws.{went-not, went-on}
 
 -- another turn, or none since it stops

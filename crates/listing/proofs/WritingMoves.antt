@@ -13,9 +13,10 @@ use borrow.Author.Tests.{lt-leb, ne-eqb}
 use Rattle.numbers.specs.Signal.{pick}
 use Rattle.writer.specs.Level.{Memory}
 use Rattle.writer.specs.declared.Writer.{Writer}
-use Rattle.pgm.specs.Decimal.{digitsOf, numeral, integer}
+use Rattle.text.specs.Decimal.{digitsOf, numeral, integer}
 use Rattle.listing.specs.Lines.{spaced, sizeLine}
-use Rattle.pgm.specs.Text.{Wrote}
+use Rattle.text.specs.Text.{Wrote}
+use Rattle.text.specs.Refusal.{refusedLine}
 use Rattle.listing.specs.Parts.{first, second, sizeText, refusedText, headText, valueText, partText, donePart, startOf, leftOf, Spelled}
 use Rattle.listing.specs.Scenes.{Scene, scene, Leaves, listed, valuePart, advanceScene}
 use Rattle.listing.specs.Moves.{lineOn, textOn, leftOn, Move, partly, wholly, Goes, then, Writes, WritesOnly}
@@ -53,7 +54,7 @@ unfolding sizeText sizeLine
 size-some l = some-after (numeral (l .length) ++ (32 ∷ numeral (l .row)) ++ (32 ∷ numeral (l .level))) (10 ∷ []) (first-some _ _)
 
 refused-some : (l : Line) → Some (refusedText l)
-unfolding refusedText
+unfolding refusedText refusedLine
 refused-some l = first-some _ _
 
 head-some : (l : Line) → Some (headText l)

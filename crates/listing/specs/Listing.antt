@@ -13,7 +13,8 @@ use Rattle.wavelet.specs.Questions.{within}
 use Rattle.pgm.specs.Characters.{digitValue}
 use Rattle.pgm.specs.Header.{Read, found, short, wrong, andThen, is, one, headerOf}
 use Rattle.pgm.specs.Samples.{sampleSize, samplesOf, exceeds, heightsOf}
-use Rattle.listing.specs.Lines.{linesOf, sizeLine, refusedLine, answerLine}
+use Rattle.text.specs.Refusal.{refusedLine, answerLine}
+use Rattle.listing.specs.Lines.{linesOf, sizeLine}
 
 -- ---- the head: "one digit for L, a newline, then a binary PGM"
 -- question 15: "is the header as below, with L 1 to 5, width 1 to 1,025, height 1 to 65,535?"

@@ -10,7 +10,7 @@ use Rattle.writer.specs.Level.{Memory}
 use Rattle.writer.specs.Answers.{gives, Took}
 use Rattle.writer.specs.Calls.{offerReply, offerStore}
 use Rattle.listing.specs.Hearing.{heightsCame}
-use Rattle.pgm.specs.Text.{Wrote}
+use Rattle.text.specs.Text.{Wrote}
 use Rattle.listing.specs.Parts.{partText, startOf, leftOf, donePart}
 use Rattle.listing.specs.Scenes.{Scene, scene, listed, drawScene, hearScene, advanceScene}
 use Rattle.listing.specs.declared.line.Line.{Line}

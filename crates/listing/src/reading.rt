@@ -1,9 +1,9 @@
 // What comes in while no line is being written: heights that came together are offered together, any other byte is heard by itself. The module is private: only this crate, which meets what is required, can call it.
-use crate::copy;
 use crate::input::Input;
 use crate::listing::Listing;
 use crate::scenes;
 use pgm::samples;
+use text::bytes;
 use writer::Offered;
 ghost use mathlib.Core.Path.{_≡_};
 ghost use mathlib.Core.Bool.{true, false};
@@ -50,7 +50,7 @@ fn read_run(
     let writer = listing.writer;
     let state = input.samples;
     let largest = state.largest;
-    let most = copy::least(input.left, run.len());
+    let most = bytes::least(input.left, run.len());
     let n = samples::read(piece, used, largest, &mut run[..most]);
     if n == 0 {
         return read_byte(listing, piece, used, store, row);

@@ -1,10 +1,10 @@
 // What goes out while a line is being written: the values of a band row one after the other where there is room for the longest, else a part as far as there is room. The module is private: only this crate, which meets what is required, can call it.
-use crate::copy;
 use crate::line::Line;
 use crate::listing::Listing;
 use crate::scenes;
 use crate::spelling;
 use crate::values;
+use text::bytes;
 ghost use mathlib.Core.Path.{_≡_};
 ghost use mathlib.Core.Bool.{true};
 ghost use Prim.Native.Nat.{_+_, _<_, _≤_};
@@ -36,7 +36,7 @@ fn write_values(listing: Listing, row: &[i32], out: &mut [u8], place: usize) -> 
     ensures { λ r. ⌜ WritesOnly (length (now (row .entry))) listing (at (now (row .entry))) (now (out .entry)) (now (out .exit)) place (r .place) (r .listing) ⌝ }
 {
     let line = listing.line;
-    let end = copy::least(line.length, row.len());
+    let end = bytes::least(line.length, row.len());
     let v = values::put_values(row, line.value, end, out, place);
     Written {
         listing: with_line(listing, scenes::at_value(line, v.value)),

@@ -12,8 +12,8 @@ use Rattle.numbers.specs.Signal.{pick, both}
 use Rattle.pgm.specs.Characters.{space, lineEnd, digit, digitValue}
 use Rattle.pgm.specs.Header.{Read, found, short, wrong, andThen, is, one, comment, gap, afterGaps, numberFrom, number, field, Size, side, sized, headerEnd, headerOf}
 use Rattle.pgm.specs.Samples.{wide, pairsOf, samplesOf, fitting, exceeds, heightsOf}
-use Rattle.pgm.specs.Decimal.{numeral}
-use Rattle.pgm.proofs.DecimalLaws.{one-digit, last-digit}
+use Rattle.text.specs.Decimal.{numeral}
+use Rattle.text.proofs.DecimalLaws.{one-digit, last-digit}
 use Rattle.picture.specs.Form.{formHead, rowBytes}
 
 -- ---- digits

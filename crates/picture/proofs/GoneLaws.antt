@@ -11,7 +11,7 @@ use lib.ListN.{length, take, drop, getD, length-append}
 use lib.Seq.{drop-cons}
 use borrow.Author.Tests.{eq-eqb, ne-eqb}
 use Rattle.numbers.specs.Signal.{pick}
-use Rattle.pgm.proofs.TextLaws.{wrote-none, wrote-size, wrote-on}
+use Rattle.text.proofs.TextLaws.{wrote-none, wrote-size, wrote-on}
 use Rattle.picture.specs.Machine.{settled, heardBy, owed, Went, Writes, quiet, Stops, full, idle, Onward, on, off}
 use Rattle.picture.specs.declared.rewriting.Rewriting.{Rewriting}
 use Rattle.picture.proofs.MachineLaws.{hear-owed}

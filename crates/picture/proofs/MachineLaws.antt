@@ -11,8 +11,8 @@ use lib.ListN.{length, take, drop, getD, set, length-drop, length-append, take-a
 use lib.Seq.{paste, drop-drop, drop-cons, length-take-le}
 use borrow.Author.Tests.{eq-eqb, ne-eqb, le-leb, lt-leb}
 use Rattle.numbers.specs.Signal.{pick}
-use Rattle.pgm.specs.Text.{Wrote}
-use Rattle.pgm.proofs.TextLaws.{wrote-none, wrote-size, wrote-on}
+use Rattle.text.specs.Text.{Wrote}
+use Rattle.text.proofs.TextLaws.{wrote-none, wrote-size, wrote-on}
 use Rattle.picture.specs.Hearing.{phased, hears, endHeard}
 use Rattle.picture.specs.Machine.{partOf, noPart, partText, rewriting, textOn, leftOn, settled, doneOn, Kept, kept, rowPart, heightKept, heardTo, heardBy, owed, Went, Writes, quiet, Stops, full, idle, Onward, on, off, endTo, endOf}
 use Rattle.picture.specs.declared.input.Input.{Input}

@@ -12,9 +12,9 @@ use lib.Seq.{paste, drop-drop, drop-length, length-take-le, take-at}
 use borrow.Rule.Slice.PartMut.{midOf, putMid, same-len-mid}
 use borrow.Author.Tests.{eq-eqb, ne-eqb}
 use Rattle.numbers.specs.Signal.{pick}
-use Rattle.pgm.specs.Text.{Wrote}
+use Rattle.text.specs.Text.{Wrote}
 use Rattle.picture.specs.Form.{formHead, rowBytes}
-use Rattle.picture.specs.Rewriting.{refusedLine}
+use Rattle.text.specs.Refusal.{refusedLine}
 use Rattle.picture.specs.Machine.{partText, textOn, leftOn, settled, doneOn, owed, Writes, quiet}
 use Rattle.picture.specs.declared.parts.Part.{Part}
 use Rattle.picture.specs.declared.rewriting.Rewriting.{Rewriting}

@@ -17,7 +17,8 @@ use Rattle.pgm.specs.Header.{Read, found, short, wrong, andThen, is, one, gap, 
 use Rattle.pgm.specs.Samples.{wide, sampleSize, pairsOf, samplesOf, fitting, exceeds, heightsOf}
 use Rattle.pgm.proofs.RunReads.{samples-count}
 use Rattle.picture.specs.Form.{formHead, rowBytes}
-use Rattle.picture.specs.Rewriting.{sizeFits, sizeEnd, pictureOf, cells, heightsIn, tooLarge, bytesOf, refusedLine, wholeRows, rowsOf, bodyOf, rewritingOf, Accepted}
+use Rattle.text.specs.Refusal.{refusedLine}
+use Rattle.picture.specs.Rewriting.{sizeFits, sizeEnd, pictureOf, cells, heightsIn, tooLarge, bytesOf, wholeRows, rowsOf, bodyOf, rewritingOf, Accepted}
 use Rattle.picture.proofs.FormLaws.{row-length}
 use Rattle.picture.proofs.FormReads.{head-read, samples-back}
 

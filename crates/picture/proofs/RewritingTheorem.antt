@@ -22,8 +22,9 @@ use Rattle.pgm.specs.declared.header.Next.{Next}
 use Rattle.pgm.specs.declared.header.Next.the-variants as next
 use Rattle.pgm.proofs.HeaderReads.{reads}
 use Rattle.picture.specs.Form.{formHead, rowBytes}
-use Rattle.picture.specs.Rewriting.{sizeFits, sizeEnd, pictureOf, cells, heightsIn, refusedLine, wholeRows, rowsOf, tooLarge, bodyOf, rewritingOf}
-use Rattle.picture.specs.Rewriting.{answerLine, refusalIn, bodyDue, dueOf}
+use Rattle.text.specs.Refusal.{refusedLine, answerLine}
+use Rattle.picture.specs.Rewriting.{sizeFits, sizeEnd, pictureOf, cells, heightsIn, wholeRows, rowsOf, tooLarge, bodyOf, rewritingOf}
+use Rattle.picture.specs.Rewriting.{refusalIn, bodyDue, dueOf}
 use Rattle.picture.specs.Hearing.{phased, nay, begins, shapeHeard, nextHeard, heightHeard, hears, endHeard}
 use Rattle.picture.specs.Machine.{partOf, noPart, partText, rewriting, started, leftOn, settled, rowPart, heightKept, heardTo, heardBy}
 use Rattle.picture.specs.Machine.{endTo, endOf, owed, Ran, none, call}

@@ -7,7 +7,7 @@ use lib.ListN.{length, drop}
 use lib.Seq.{paste}
 use Rattle.wavelet.specs.Limits.{maxWidth, maxHeight}
 use Rattle.wavelet.specs.Questions.{ask, within}
-use Rattle.pgm.specs.Decimal.{numeral}
+use Rattle.text.specs.Decimal.{numeral}
 use Rattle.picture.specs.declared.form.Put.{Put}
 use Rattle.picture.specs.declared.form.Put.the-variants.{Written, Refused}
 
@@ -35,8 +35,3 @@ pub data HeadPut (W H from : ℕ) (o o′ : List ℕ) : Put → Type 0 where
 abbrev pub answered : ℕ → ℕ → Put
 answered zero n = Written n
 answered (suc q) n = Refused (suc q)
-
--- the digit of n that p digits follow
-unfoldable pub fromEnd : ℕ → ℕ → ℕ
-fromEnd n zero = 48 + n % 10
-fromEnd n (suc p) = fromEnd (n / 10) p

@@ -7,9 +7,9 @@ use Prim.Native.Nat.{ℕ, _+_, _*_, _≤_, _<_}
 use lib.Dec.{leb, eqb}
 use lib.ListN.{length, take, drop, set}
 use Rattle.numbers.specs.Signal.{pick}
-use Rattle.pgm.specs.Text.{Wrote}
+use Rattle.text.specs.Text.{Wrote}
 use Rattle.picture.specs.Form.{formHead, rowBytes}
-use Rattle.picture.specs.Rewriting.{refusedLine}
+use Rattle.text.specs.Refusal.{refusedLine}
 use Rattle.picture.specs.Hearing.{silent, phased, hears, endHeard}
 use Rattle.picture.specs.declared.input.Input.{Input}
 use Rattle.picture.specs.declared.input.Heard.{Heard}

@@ -7,7 +7,7 @@ use lib.ListN.{length, take}
 use lib.Dec.{ltb, eqb}
 use Rattle.numbers.specs.Signal.{pick, both}
 use Rattle.wavelet.specs.Questions.{within}
-use Rattle.pgm.specs.Decimal.{numeral}
+use Rattle.text.specs.Refusal.{refusedLine, answerLine}
 use Rattle.pgm.specs.Header.{Read, found, short, wrong, andThen, Size, headerOf}
 use Rattle.pgm.specs.Samples.{sampleSize, samplesOf, exceeds, heightsOf}
 use Rattle.picture.specs.Form.{formHead, rowBytes}
@@ -36,10 +36,6 @@ tooLarge z r = exceeds (z .largest) (take (cells z) (samplesOf (z .largest) r))
 abbrev pub bytesOf : Size → ℕ
 bytesOf z = sampleSize (z .largest) * cells z
 
--- "refused", one space and the number, on a line
-unfoldable pub refusedLine : ℕ → List ℕ
-refusedLine q = 114 ∷ 101 ∷ 102 ∷ 117 ∷ 115 ∷ 101 ∷ 100 ∷ 32 ∷ (numeral q ++ (10 ∷ []))
-
 -- the header and the complete rows of some heights: "A refusal's line follows directly on the header, if that passed, and the complete rows before it."
 unfoldable pub wholeRows : ℕ → List ℕ → List ℕ
 wholeRows W hs = take (length hs / W * W) hs
@@ -66,11 +62,6 @@ pub record Accepted (s : List ℕ) (W H : ℕ) (hs : List ℕ) : Type 0 where
   pub heights : hs ≡ heightsIn (record { width = W; height = H; largest = largest }) rest
 
 -- ---- what is due of the bytes so far; e: the input ends with them. While more may come there is no refusal for a want of bytes
--- the line of an answer: none of 0, which is no refusal
-abbrev pub answerLine : ℕ → List ℕ
-answerLine zero = []
-answerLine (suc q) = refusedLine (suc q)
-
 -- the refusal that the bytes so far bring, 0 for none
 unfoldable pub refusalIn : Bool → ℕ → ℕ → List ℕ → ℕ
 refusalIn e m n r =

@@ -9,10 +9,10 @@ use lib.IntN.{ℤ}
 use lib.ListN.{length}
 use Rattle.numbers.specs.Signal.{at as numberAt}
 use Rattle.numbers.proofs.Words.{read-back}
-use Rattle.pgm.specs.Decimal.{integer}
+use Rattle.text.specs.Decimal.{integer}
 use Rattle.listing.specs.Lines.{spaced}
-use Rattle.pgm.specs.Text.{Wrote}
-use Rattle.pgm.proofs.TextLaws.{wrote-none, wrote-size, wrote-on}
+use Rattle.text.specs.Text.{Wrote}
+use Rattle.text.proofs.TextLaws.{wrote-none, wrote-size, wrote-on}
 use Rattle.listing.proofs.values.put_values.Statement.{statement}
 use Rattle.listing.proofs.values.put_values.Tie as tie
 

@@ -8,7 +8,9 @@ use lib.Seq.{length-take-le}
 use mathlib.Core.List.{[]}
 use mir.Val.{Fits}
 use mir.Syntax.{w64}
-use Rattle.picture.proofs.FormLaws.{head-length, twenty, refused-length, row-length}
+use Rattle.text.proofs.DecimalLaws.{twenty}
+use Rattle.text.proofs.RefusalLaws.{refused-length}
+use Rattle.picture.proofs.FormLaws.{head-length, row-length}
 use Rattle.picture.proofs.PartLaws.{text-head, text-row, text-refused, text-none, placed, placed-none, take-least}
 use Rattle.picture.specs.Form.{rowBytes}
 use Rattle.picture.proofs.parts.put_part.Statement.{statement}
