@@ -85,11 +85,11 @@ small-each M (h ∷ l) (all-more p a) (suc j) = small-each M l a j
 height-range : (h : ℕ) → h ≤ maxSample → (pos 0 ≤ℤ pos h) × (pos h ≤ℤ pos maxSample)
 height-range h p = (record { le = le→leb 0 h (omega arith) }, record { le = le→leb h maxSample p })
 
-pub grid-map : (W H : ℕ) (l : List ℕ) → All (λ h. h ≤ 65535) l → IsMap W H (gridOf W l)
+pub grid-map : (W H : ℕ) (l : List ℕ) → All (λ h. h ≤ maxSample) l → IsMap W H (gridOf W l)
 unfolding gridOf maxSample
-grid-map W H l a = record { heights = λ r c _ _. height-range (getD l (r * W + c) 0) (small-each 65535 l a (r * W + c)) }
+grid-map W H l a = record { heights = λ r c _ _. height-range (getD l (r * W + c) 0) (small-each maxSample l a (r * W + c)) }
 
-pub grid-map-of : (W H : ℕ) (es : List Event) → 1 ≤ H → H ≤ maxHeight → All (λ h. h ≤ 65535) (taken es) → length (taken es) ≤ W * H
+pub grid-map-of : (W H : ℕ) (es : List Event) → 1 ≤ H → H ≤ maxHeight → All (λ h. h ≤ maxSample) (taken es) → length (taken es) ≤ W * H
     → (finishedBy es ≡ true → length (taken es) ≡ W * H) → MapOf W H (gridOf W (taken es)) es
 unfolding gridOf
 grid-map-of W H es some limit small within all = record {
@@ -105,7 +105,7 @@ module _ (W L n : ℕ) (x : Memory) (ready : setUpQuestion W L n ≡ 0) (cs : Li
   abbrev q : Shape
   q = record { width = W; height = H; levels = L }
 
-  module _ (some : 1 ≤ H) (limit : H ≤ maxHeight) (small : All (λ h. h ≤ 65535) (taken es)) (within : length (taken es) ≤ W * H) (all : finishedBy es ≡ true → length (taken es) ≡ W * H) where
+  module _ (some : 1 ≤ H) (limit : H ≤ maxHeight) (small : All (λ h. h ≤ maxSample) (taken es)) (within : length (taken es) ≤ W * H) (all : finishedBy es ≡ true → length (taken es) ≡ W * H) where
     -- the lines drawn, and those of the rows that wait
     pub lines-all : (sizeLine W H L ++ drawnText (drawn es)) ++ linesOf W H (gridOf W (taken es)) (waitingOf W L es) ≡ linesDue q (taken es) (finishedBy es)
     unfolding linesDue waitingOf madeOf wholeRows

@@ -4,15 +4,16 @@ use mathlib.Core.Bool.{Bool, true, false}
 use Prim.Native.Nat.{ℕ, _+_, _-_, _*_, _≤_, _<_}
 use native.Mathlib.Omega.{arith}
 use lib.Dec.{leb, ltb, eqb}
-use borrow.Author.Tests.{eq-eqb, ne-eqb, lt-ltb, le-ltb, le-leb, lt-leb, leb-true}
-use Rattle.numbers.specs.Signal.{pick, both}
+use borrow.Author.Tests.{eq-eqb, ne-eqb, lt-ltb, le-ltb, le-leb, lt-leb}
+use Rattle.numbers.specs.Signal.{pick}
 use Rattle.wavelet.specs.Questions.{within}
 use Rattle.pgm.specs.Samples.{noByte, sampleOf}
 use Rattle.pgm.specs.Steps.{stepOf}
 use Rattle.pgm.specs.declared.header.Next.{Next}
 use Rattle.pgm.specs.declared.samples.Samples.{Samples}
 use Rattle.pgm.specs.declared.samples.Sample.{Sample}
-use Rattle.listing.specs.Listing.{levelDigit, maxListedWidth, maxListedHeight, shapeFits}
+use Rattle.pgm.specs.Limits.{sizeFits}
+use Rattle.listing.specs.Listing.{levelDigit}
 use Rattle.listing.specs.Hearing.{phased, nay, levelsHeard, lineFeedHeard, shapeHeard, nextHeard, headerHeard, sampleHeard, heightHeard, hears, endHeard}
 use Rattle.listing.specs.declared.input.Input.{Input}
 use Rattle.listing.specs.declared.input.Heard.{Heard}
@@ -74,26 +75,14 @@ module _ (i : Input) (b : ℕ) where
   hears-on p q r t = rw (ne-eqb (i .phase) 0 p, ne-eqb (i .phase) 1 q, ne-eqb (i .phase) 2 r, ne-eqb (i .phase) 3 t)
 
 module _ (i : Input) (w h m : ℕ) where
-  pub shape-wide : within 1 1025 w ≡ false → nay i ≡ shapeHeard i w h m
-  unfolding shapeHeard shapeFits maxListedWidth
-  shape-wide e = rw e
+  pub shape-no : sizeFits w h ≡ false → nay i ≡ shapeHeard i w h m
+  unfolding shapeHeard
+  shape-no e = rw e
 
-  pub shape-high : within 1 1025 w ≡ true → within 1 maxListedHeight h ≡ false → nay i ≡ shapeHeard i w h m
-  unfolding shapeHeard shapeFits maxListedWidth
-  shape-high e f = rw (e, f)
-
-  pub shape-yes : (n : ℕ) (x : Samples) → within 1 1025 w ≡ true → within 1 maxListedHeight h ≡ true → n ≡ w * h → x ≡ noByte m
+  pub shape-yes : (n : ℕ) (x : Samples) → sizeFits w h ≡ true → n ≡ w * h → x ≡ noByte m
       → heard.Begun (record { phase = 3; levels = i .levels; header = i .header; left = n; samples = x }) w h ≡ shapeHeard i w h m
-  unfolding shapeHeard shapeFits maxListedWidth
-  shape-yes n x e f g d = rw (e, f, g, d)
-
-pub most : (m n : ℕ) → within 1 m n ≡ true → n ≤ m
-unfolding within
-most m n e = go (leb 1 n) e
-  where
-    go : (a : Bool) → both a (leb n m) ≡ true → n ≤ m
-    go true h = leb-true n m h
-    go false h = let z : _≡_ {A = ℕ} 0 1 = cc in absurd (omega arith)
+  unfolding shapeHeard
+  shape-yes n x e g d = rw (e, g, d)
 
 module _ (i : Input) where
   pub end-over : 3 < i .phase → ended.Before ≡ endHeard i

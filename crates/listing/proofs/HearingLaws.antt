@@ -17,8 +17,11 @@ use Rattle.pgm.specs.Samples.{wide, sampleSize, pairsOf, samplesOf, fitting, ex
 use Rattle.pgm.specs.declared.header.Header.{Header}
 use Rattle.pgm.specs.declared.header.Next.{Next}
 use Rattle.pgm.specs.declared.header.Next.the-variants as next
+use Rattle.pgm.specs.Limits.{sizeFits}
+use Rattle.pgm.specs.Heights.{heightsTaken, tooLarge, bytesOf, refusalIn}
 use Rattle.pgm.proofs.HeaderReads.{reads}
-use Rattle.listing.specs.Listing.{Shape, Head, levelDigit, shapeFits, headEnd, headOf, cells, heightsTaken, tooLarge, bytesOf, refusalIn}
+use Rattle.pgm.proofs.HeightLaws.{Leads, leads-two, leads-one, more-lt, more-eq, no-sample, some-byte, bytes-none}
+use Rattle.listing.specs.Listing.{Shape, Head, levelDigit, headEnd, headOf, cells}
 use Rattle.listing.specs.Hearing.{silent, phased, nay, levelsHeard, lineFeedHeard, shapeHeard, nextHeard, headerHeard, sampleHeard, heightHeard, hears, endHeard}
 use Rattle.listing.specs.Telling.{Event, begins, height, refusal, answerEvents, Ending, whole, few, over, Telling, told, heightsTell, nothingYet, refusedTelling, headTells, tellingOf, Hearing, andOn, heardOn, listen, endingOf, sum}
 use Rattle.listing.specs.declared.input.Input.{Input}
@@ -40,44 +43,6 @@ refused : (q L : ℕ) (h : Header) (n m : ℕ) (x : Bool) (v : ℕ) (s : List �
 refused q L h n m x v s = ap (told (refusal q)) (deaf L h n m x v s)
 
 -- ---- heights, as the definition tells them
--- one sample more, of two bytes (w) or one
-more-lt : (w : Bool) (n k l : ℕ) → l ≡ pick w 2 1 + k → ltb (pick w 2 1 * suc n) l ≡ ltb (pick w 2 1 * n) k
-more-lt true n k l e =
-    elim (decLt (2 * n) k) [
-      | yes p ↦ lt-ltb (2 * suc n) l (omega arith) ∙ sym (lt-ltb (2 * n) k p)
-      | no d ↦ le-ltb (2 * suc n) l (omega arith) ∙ sym (le-ltb (2 * n) k (omega arith))
-    ]
-more-lt false n k l e =
-    elim (decLt (1 * n) k) [
-      | yes p ↦ lt-ltb (1 * suc n) l (omega arith) ∙ sym (lt-ltb (1 * n) k p)
-      | no d ↦ le-ltb (1 * suc n) l (omega arith) ∙ sym (le-ltb (1 * n) k (omega arith))
-    ]
-
-more-eq : (w : Bool) (n k l : ℕ) → l ≡ pick w 2 1 + k → eqb l (pick w 2 1 * suc n) ≡ eqb k (pick w 2 1 * n)
-more-eq true n k l e =
-    elim (ℕ-discrete k (2 * n)) [
-      | yes p ↦ eq-eqb l (2 * suc n) (omega arith) ∙ sym (eq-eqb k (2 * n) p)
-      | no d ↦ ne-eqb l (2 * suc n) (λ z. d (omega arith)) ∙ sym (ne-eqb k (2 * n) d)
-    ]
-more-eq false n k l e =
-    elim (ℕ-discrete k (1 * n)) [
-      | yes p ↦ eq-eqb l (1 * suc n) (omega arith) ∙ sym (eq-eqb k (1 * n) p)
-      | no d ↦ ne-eqb l (1 * suc n) (λ z. d (omega arith)) ∙ sym (ne-eqb k (1 * n) d)
-    ]
-
--- the bytes s are a sample v and then r
-pub record Leads (m v : ℕ) (s r : List ℕ) : Type 0 where
-  pub samples : samplesOf m s ≡ v ∷ samplesOf m r
-  pub bytes : length s ≡ sampleSize m + length r
-
-pub leads-two : (m a b : ℕ) (r : List ℕ) → wide m ≡ true → Leads m (256 * a + b) (a ∷ b ∷ r) r
-unfolding samplesOf pairsOf sampleSize
-leads-two m a b r e = record { samples = rw e; bytes = rw e (omega arith) }
-
-pub leads-one : (m b : ℕ) (r : List ℕ) → wide m ≡ false → Leads m b (b ∷ r) r
-unfolding samplesOf sampleSize
-leads-one m b r e = record { samples = rw e; bytes = rw e (omega arith) }
-
 module _ (m n : ℕ) where
   one-more : (v : ℕ) (s r : List ℕ) → Leads m v s r → leb v m ≡ true → told (height v) (heightsTell m n r) ≡ heightsTell m (suc n) s
   unfolding heightsTell heightsTaken tooLarge refusalIn heightsOf fitting exceeds sampleSize
@@ -96,31 +61,12 @@ module _ (m n : ℕ) where
       below true h = (le-ltb (2 * suc n) (length s) (omega arith), ne-eqb (length s) (2 * suc n) (λ z. omega arith))
       below false h = (le-ltb (1 * suc n) (length s) (omega arith), ne-eqb (length s) (1 * suc n) (λ z. omega arith))
 
-pub no-sample : (m : ℕ) → samplesOf m [] ≡ []
-unfolding samplesOf pairsOf
-no-sample m = go (wide m)
-  where
-    go : (w : Bool) → pick {A = List ℕ} w [] [] ≡ []
-    go true = refl
-    go false = refl
-
-some-byte : (m : ℕ) → 0 < sampleSize m
-unfolding sampleSize
-some-byte m = go (wide m)
-  where
-    go : (w : Bool) → 0 < pick w 2 1
-    go true = omega arith
-    go false = omega arith
-
 none-short : (m n : ℕ) → nothingYet ≡ heightsTell m (suc n) []
 none-short m n = short-of m n [] (no-sample m) (some-byte m)
 
 half-short : (m n a : ℕ) → wide m ≡ true → nothingYet ≡ heightsTell m (suc n) (a ∷ [])
 unfolding samplesOf pairsOf sampleSize
 half-short m n a e = short-of m n (a ∷ []) (rw e refl) (rw e (omega arith))
-
-bytes-none : (m : ℕ) → bytesOf m 0 ≡ 0
-bytes-none m = omega arith
 
 surplus : (m b : ℕ) (r : List ℕ) → refusedTelling ≡ heightsTell m 0 (b ∷ r)
 unfolding heightsTell heightsTaken tooLarge refusalIn exceeds
@@ -197,7 +143,7 @@ shapeTells L w h m r = headTells (headEnd L w h m r)
 abbrev early : ℕ → ℕ → Header → Input
 early p L k = at p L k 0 0 false 0
 
-shape : (L : ℕ) (k : Header) (w h m : ℕ) (r : List ℕ) (t : Bool) → shapeFits w h ≡ t
+shape : (L : ℕ) (k : Header) (w h m : ℕ) (r : List ℕ) (t : Bool) → sizeFits w h ≡ t
     → sum (heardOn (λ j. listen j r) (shapeHeard (early 2 L k) w h m)) ≡ shapeTells L w h m r
 unfolding shapeHeard headEnd
 shape L k w h m r true e = rw e (ap (told (begins (record { width = w; height = h; levels = L }))) (heights r L k (w * h) m 0))
@@ -211,7 +157,7 @@ sizeTells L wrong = refusedTelling
 stepTells : (L : ℕ) (k : Header) (x : Next) (s : List ℕ) → ((k : Header) → sum (listen (early 2 L k) s) ≡ sizeTells L (readBy (feed k s)))
     → sum (heardOn (λ j. listen j s) (nextHeard (early 2 L k) x)) ≡ sizeTells L (readBy (stepped (λ y. feed y s) s x))
 stepTells L k (next.More y) s e = e y
-stepTells L k (next.Done w h m) s e = shape L k w h m s (shapeFits w h) refl
+stepTells L k (next.Done w h m) s e = shape L k w h m s (sizeFits w h) refl
 stepTells L k next.Refused s e = refused 15 L k 0 0 false 0 s
 
 header : (s : List ℕ) (L : ℕ) (k : Header) → sum (listen (early 2 L k) s) ≡ sizeTells L (readBy (feed k s))

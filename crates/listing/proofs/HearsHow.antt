@@ -6,17 +6,28 @@ use native.Mathlib.Omega.{arith}
 use lib.Dec.{leb, eqb}
 use borrow.Author.Tests.{leb-true, eqb-true, eqb-false}
 use Rattle.numbers.specs.Signal.{pick, both}
+use Rattle.wavelet.specs.Limits.{maxSample}
 use Rattle.wavelet.specs.Questions.{within}
 use Rattle.pgm.specs.Steps.{stepOf}
 use Rattle.pgm.specs.Samples.{wide, noByte, sampled, sampleOf}
 use Rattle.pgm.specs.declared.header.Next.{Next}
 use Rattle.pgm.specs.declared.header.Next.the-variants as next
 use Rattle.pgm.specs.declared.samples.Sample.the-variants as sample
-use Rattle.listing.specs.Listing.{levelDigit, shapeFits}
+use Rattle.pgm.specs.Limits.{sizeFits}
+use Rattle.listing.specs.Listing.{levelDigit}
 use Rattle.listing.specs.Hearing.{silent, phased, nay, levelsHeard, lineFeedHeard, shapeHeard, nextHeard, headerHeard, sampleHeard, heightHeard, hears, heightsCame}
 use Rattle.listing.specs.declared.input.Input.{Input}
 use Rattle.listing.specs.declared.input.Heard.{Heard}
 use Rattle.listing.specs.declared.input.Heard.the-variants as heard
+
+-- a sample of one byte or two is a height
+pub two-bytes : (a b : ℕ) → a ≤ 255 → b ≤ 255 → 256 * a + b ≤ maxSample
+unfolding maxSample
+two-bytes a b p q = omega arith
+
+pub one-byte : (b : ℕ) → b ≤ 255 → b ≤ maxSample
+unfolding maxSample
+one-byte b p = omega arith
 
 -- the byte kept is a byte, and once the digit was heard it is one of the levels
 pub record Sane (i : Input) : Type 0 where
@@ -26,10 +37,10 @@ pub record Sane (i : Input) : Type 0 where
 pub data Hears (i : Input) : Heard → Type 0 where
   -- of the head
   on : (j : Input) → i .phase < 3 → j .phase < 3 → Hears i (heard.More j)
-  begins : (j : Input) (W H : ℕ) → i .phase < 3 → j .phase ≡ 3 → j .left ≡ W * H → shapeFits W H ≡ true → Hears i (heard.Begun j W H)
+  begins : (j : Input) (W H : ℕ) → i .phase < 3 → j .phase ≡ 3 → j .left ≡ W * H → sizeFits W H ≡ true → Hears i (heard.Begun j W H)
   -- of the heights
   half : (j : Input) → i .phase ≡ 3 → j .phase ≡ 3 → j .left ≡ i .left → Hears i (heard.More j)
-  height : (j : Input) (v : ℕ) → i .phase ≡ 3 → j .phase ≡ 3 → 0 < i .left → j .left ≡ i .left - 1 → v ≤ 65535 → Hears i (heard.Height j v)
+  height : (j : Input) (v : ℕ) → i .phase ≡ 3 → j .phase ≡ 3 → 0 < i .left → j .left ≡ i .left - 1 → v ≤ maxSample → Hears i (heard.Height j v)
   -- a question says no
   turned : (j : Input) (q : ℕ) → i .phase ≤ 3 → j .phase ≡ 4 → 0 < q → Hears i (heard.Refused j q)
   -- one said no before
@@ -86,12 +97,12 @@ module _ (i : Input) (s : Sane i) where
 
     shape-how : i .phase ≡ 2 → (W H m : ℕ) → How i (shapeHeard i W H m)
     unfolding shapeHeard
-    shape-how e W H m = go (shapeFits W H) refl
+    shape-how e W H m = go (sizeFits W H) refl
       where
         j : Input
         j = record { phase = 3; levels = i .levels; header = i .header; left = W * H; samples = noByte m }
 
-        go : (x : Bool) → shapeFits W H ≡ x → How i (pick x (heard.Begun j W H) (nay i))
+        go : (x : Bool) → sizeFits W H ≡ x → How i (pick x (heard.Begun j W H) (nay i))
         go true p = (begins j W H (omega arith) refl refl p, begun {j = j} (record { byte = omega arith; levels = λ _ _. s .levels (omega arith) (omega arith) }))
         go false p = nay-how (omega arith)
 
@@ -119,15 +130,15 @@ module _ (i : Input) (s : Sane i) where
         gone = record { phase = 3; levels = i .levels; header = i .header; left = i .left - 1; samples = noByte m }
 
         -- a whole sample v
-        full : 0 < i .left → (v : ℕ) → v ≤ 65535 → (x : Bool) → How i (sampleHeard i (pick x (sample.Height v) sample.TooLarge))
+        full : 0 < i .left → (v : ℕ) → v ≤ maxSample → (x : Bool) → How i (sampleHeard i (pick x (sample.Height v) sample.TooLarge))
         full p v l true = (height gone v e refl p refl l, tall {j = gone} (record { byte = omega arith; levels = λ _ _. L }))
         full p v l false = (turned (phased 4 i) 16 (omega arith) refl (omega arith), refused (phased-sane i s))
 
         some : 0 < i .left → (w x : Bool) → How i (sampleHeard i (pick w (pick x (sampled m (256 * i .samples .high + b)) (sample.Half (record { largest = m; half = true; high = b }))) (sampled m b)))
-        some p true true = unfold sampled in full p (256 * i .samples .high + b) (omega (arith, s .byte)) (leb (256 * i .samples .high + b) m)
+        some p true true = unfold sampled in full p (256 * i .samples .high + b) (two-bytes (i .samples .high) b (s .byte) small) (leb (256 * i .samples .high + b) m)
         some p true false =
             (half (record { phase = 3; levels = i .levels; header = i .header; left = i .left; samples = record { largest = m; half = true; high = b } }) e refl refl, more (record { byte = small; levels = λ _ _. L }))
-        some p false x = unfold sampled in full p b (omega arith) (leb b m)
+        some p false x = unfold sampled in full p b (one-byte b small) (leb b m)
 
         go : (x : Bool) → eqb (i .left) 0 ≡ x → How i (pick x (nay i) (sampleHeard i (sampleOf (i .samples) b)))
         go true p = nay-how (omega arith)

@@ -11,6 +11,8 @@ use Rattle.writer.specs.History.{DrawnRow, events, freshWorld, finishedBy, draw
 use Rattle.writer.specs.Demand3.{All}
 use Rattle.writer.specs.declared.Writer.{Writer}
 use Rattle.text.specs.Refusal.{answerLine}
+use Rattle.pgm.specs.Limits.{maxPictureWidth}
+use Rattle.wavelet.specs.Limits.{maxSample}
 use Rattle.listing.specs.Lines.{sizeLine}
 use Rattle.listing.specs.Listing.{Shape, linesDue}
 use Rattle.listing.specs.Scenes.{Scene}
@@ -35,22 +37,22 @@ module _ {i : Input} {c : ℕ} {hs : List ℕ} {nay : ℕ} {f : Bool} where
   heights-all (reads a b p e) z = absurd (differ (sym b ∙ z))
   heights-all (shut p h g) z = g z
 
-module _ (n : ℕ) (store : storeLength 1025 5 ≤ n) (W H L : ℕ) (hs : List ℕ) (f : Bool) (ds : List DrawnRow) (w : Writer) (x : Memory) (b : ShapeIn W H L)
-    (small : All (λ h. h ≤ 65535) hs) (few : length hs ≤ W * H) (all : f ≡ true → length hs ≡ W * H) (r : Ran W L n hs f ds w x) where
+module _ (n : ℕ) (store : storeLength maxPictureWidth 5 ≤ n) (W H L : ℕ) (hs : List ℕ) (f : Bool) (ds : List DrawnRow) (w : Writer) (x : Memory) (b : ShapeIn W H L)
+    (small : All (λ h. h ≤ maxSample) hs) (few : length hs ≤ W * H) (all : f ≡ true → length hs ≡ W * H) (r : Ran W L n hs f ds w x) where
   abbrev q : Shape
   q = record { width = W; height = H; levels = L }
 
   ran-due : waits W L hs f ds ≡ [] → sizeLine W H L ++ drawnText ds ≡ linesDue q hs f
   ran-due e =
       ap (λ d. sizeLine W H L ++ drawnText d) (sym (r .rows))
-      ∙ lines-due W L n (r .before) (set-up-in n store b) (r .calls) H (b .some-rows) (b .rows) (subst (All (λ h. h ≤ 65535)) (sym (r .heights)) small) (rw (r .heights) few)
+      ∙ lines-due W L n (r .before) (set-up-in n store b) (r .calls) H (b .some-rows) (b .rows) (subst (All (λ h. h ≤ maxSample)) (sym (r .heights)) small) (rw (r .heights) few)
       (λ z. ap length (r .heights) ∙ all (sym (r .ended) ∙ z)) (waiting-is W L n hs f ds w x r ∙ e)
       ∙ ap (λ h. linesDue q h (finishedBy (events (r .calls) (freshWorld W L n (r .before))))) (r .heights)
       ∙ ap (linesDue q hs) (r .ended)
 
   ran-prefix : (t : List ℕ) × ((sizeLine W H L ++ drawnText ds) ++ t ≡ linesDue q hs f)
   ran-prefix =
-      let p = lines-prefix W L n (r .before) (set-up-in n store b) (r .calls) H (b .some-rows) (b .rows) (subst (All (λ h. h ≤ 65535)) (sym (r .heights)) small) (rw (r .heights) few)
+      let p = lines-prefix W L n (r .before) (set-up-in n store b) (r .calls) H (b .some-rows) (b .rows) (subst (All (λ h. h ≤ maxSample)) (sym (r .heights)) small) (rw (r .heights) few)
       (λ z. ap length (r .heights) ∙ all (sym (r .ended) ∙ z)) in (
         p .0,
         ap (λ d. (sizeLine W H L ++ drawnText d) ++ p .0) (sym (r .rows)) ∙ p .1
@@ -58,14 +60,14 @@ module _ (n : ℕ) (store : storeLength 1025 5 ≤ n) (W H L : ℕ) (hs : List �
             ∙ ap (linesDue q hs) (r .ended),
       )
 
-module _ (n k : ℕ) (store : storeLength 1025 5 ≤ n) (s : Scene) where
+module _ (n k : ℕ) (store : storeLength maxPictureWidth 5 ≤ n) (s : Scene) where
   -- nothing waits
-  begun-due : (W H L : ℕ) (hs : List ℕ) (nay : ℕ) (f : Bool) (o : List ℕ) → ShapeIn W H L → All (λ h. h ≤ 65535) hs → InputAt (s .listing .input) (W * H) hs nay f → Begun n k W H L hs nay f o s → lineOn s .part < 3
+  begun-due : (W H L : ℕ) (hs : List ℕ) (nay : ℕ) (f : Bool) (o : List ℕ) → ShapeIn W H L → All (λ h. h ≤ maxSample) hs → InputAt (s .listing .input) (W * H) hs nay f → Begun n k W H L hs nay f o s → lineOn s .part < 3
       → o ++ leftTo k s ≡ linesDue (record { width = W; height = H; levels = L }) hs f ++ answerLine nay
   begun-due W H L hs nay f o b c d e p =
       e .text ∙ ap (λ l. l ++ answerLine nay) (ran-due n store W H L hs f (e .drawn) (s .listing .writer) (s .store) b c (heights-in d) (heights-all d) (e .ran) (e .idle p))
 
-  begun-prefix : (W H L : ℕ) (hs : List ℕ) (nay : ℕ) (f : Bool) (o : List ℕ) → ShapeIn W H L → All (λ h. h ≤ 65535) hs → InputAt (s .listing .input) (W * H) hs nay f → Begun n k W H L hs nay f o s
+  begun-prefix : (W H L : ℕ) (hs : List ℕ) (nay : ℕ) (f : Bool) (o : List ℕ) → ShapeIn W H L → All (λ h. h ≤ maxSample) hs → InputAt (s .listing .input) (W * H) hs nay f → Begun n k W H L hs nay f o s
       → (r : List ℕ) × (o ++ r ≡ linesDue (record { width = W; height = H; levels = L }) hs f ++ answerLine nay)
   begun-prefix W H L hs (suc q) f o b c d e = (leftTo k s, begun-due W H L hs (suc q) f o b c d e (e .last (omega arith)))
   begun-prefix W H L hs zero f o b c d e =

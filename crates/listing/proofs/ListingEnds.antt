@@ -12,6 +12,8 @@ use Rattle.writer.specs.Calls.{finishStore}
 use Rattle.writer.specs.Demand3.{All}
 use Rattle.writer.specs.declared.Writer.{Writer}
 use Rattle.text.specs.Refusal.{refusedLine}
+use Rattle.pgm.specs.Limits.{maxPictureWidth}
+use Rattle.wavelet.specs.Limits.{maxSample}
 use Rattle.listing.specs.Listing.{Shape, linesDue}
 use Rattle.listing.specs.Hearing.{phased, endHeard}
 use Rattle.listing.specs.Parts.{refusedPart}
@@ -54,7 +56,7 @@ refusal-first : textOf false (refusal 15 ∷ []) ≡ textOf false [] ++ refusedL
 unfolding textOf
 refusal-first = refl
 
-module _ (n k : ℕ) (store : storeLength 1025 5 ≤ n) (row : 1025 ≤ k) (s : Scene) (idle : Idle s) (sane : Sane (s .listing .input)) where
+module _ (n k : ℕ) (store : storeLength maxPictureWidth 5 ≤ n) (row : maxPictureWidth ≤ k) (s : Scene) (idle : Idle s) (sane : Sane (s .listing .input)) where
   abbrev i : Input
   i = s .listing .input
 
@@ -90,7 +92,7 @@ module _ (n k : ℕ) (store : storeLength 1025 5 ≤ n) (row : 1025 ≤ k) (s : 
     finish-input = ap (λ t. t .listing .input) finish-is ∙ drawn-input n k W H L (set-up-in n store b) (omega (arith, b .columns)) j (out .writer) (finishStore w n (s .store)) (s .row) hs true (e .drawn) (out .ran)
 
   -- ---- the cases
-  reads-end : (E : List Event) (W H L : ℕ) (hs : List ℕ) (o : List ℕ) → E ≡ eventsOf W H L hs 0 → ShapeIn W H L → All (λ h. h ≤ 65535) hs → Begun n k W H L hs 0 false o s
+  reads-end : (E : List Event) (W H L : ℕ) (hs : List ℕ) (o : List ℕ) → E ≡ eventsOf W H L hs 0 → ShapeIn W H L → All (λ h. h ≤ maxSample) hs → Begun n k W H L hs 0 false o s
       → i .phase ≡ 3 → i .left + length hs ≡ W * H → Ends E o
   reads-end E W H L hs o a b c e p l =
       elim (decLt 0 (i .left)) [

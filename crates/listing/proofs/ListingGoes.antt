@@ -7,6 +7,7 @@ use native.Mathlib.Omega.{arith}
 use Rattle.wavelet.specs.Store.{storeLength}
 use Rattle.writer.specs.Level.{Memory}
 use Rattle.writer.specs.Demand3.{All, all-none, all-more}
+use Rattle.pgm.specs.Limits.{maxPictureWidth}
 use Rattle.listing.specs.Hearing.{silent}
 use Rattle.listing.specs.Scenes.{Scene, scene, started}
 use Rattle.listing.specs.Moves.{Move, partly, wholly, hears, takes, Goes, stays, then}
@@ -32,7 +33,7 @@ all-back (x ∷ s) t (all-more p a) = all-back s t a
 all-first : {P : ℕ → Type 0} (b : ℕ) (s : List ℕ) → All P (b ∷ s) → P b
 all-first b s (all-more p a) = p
 
-module _ (n k : ℕ) (store : storeLength 1025 5 ≤ n) (row : 1025 ≤ k) where
+module _ (n k : ℕ) (store : storeLength maxPictureWidth 5 ≤ n) (row : maxPictureWidth ≤ k) where
   -- nothing was read
   silently : {E : List Event} {f : Bool} {o : List ℕ} {s : Scene} (i : Input) → Told n k E f o s → s .listing .input ≡ i → Sane i → Heards n k E f o (listen i []) s
   unfolding listen

@@ -15,6 +15,8 @@ use Rattle.writer.specs.Demand3.{All, all-none, all-more}
 use Rattle.writer.specs.declared.Writer.{Writer}
 use Rattle.writer.proofs.CallList.{all-append}
 use Rattle.text.specs.Refusal.{refusedLine}
+use Rattle.pgm.specs.Limits.{maxPictureWidth}
+use Rattle.wavelet.specs.Limits.{maxSample}
 use Rattle.listing.specs.Hearing.{hears, heightsCame}
 use Rattle.listing.specs.Parts.{noLine, refusedPart}
 use Rattle.listing.specs.Scenes.{Scene, drawScene, offerScene, heardTo, hearScene}
@@ -37,7 +39,7 @@ pub record Heards (n k : ℕ) (E : List Event) (f : Bool) (o : List ℕ) (h : He
   pub input : s .listing .input ≡ h .input
   pub sane : Sane (h .input)
 
-module _ (n k : ℕ) (store : storeLength 1025 5 ≤ n) (row : 1025 ≤ k) (s : Scene) (idle : Idle s) where
+module _ (n k : ℕ) (store : storeLength maxPictureWidth 5 ≤ n) (row : maxPictureWidth ≤ k) (s : Scene) (idle : Idle s) where
   abbrev i : Input
   i = s .listing .input
 
@@ -85,7 +87,7 @@ module _ (n k : ℕ) (store : storeLength 1025 5 ≤ n) (row : 1025 ≤ k) (s : 
   }
 
   -- ---- once the head is there
-  module _ (W H L : ℕ) (hs : List ℕ) (b : ShapeIn W H L) (small : All (λ h. h ≤ 65535) hs) where
+  module _ (W H L : ℕ) (hs : List ℕ) (b : ShapeIn W H L) (small : All (λ h. h ≤ maxSample) hs) where
     shut-hears : (E : List Event) (nay : ℕ) (f : Bool) (o : List ℕ) (y : Heard) → E ≡ eventsOf W H L hs nay → Begun n k W H L hs nay f o s → 3 < i .phase → length hs ≤ W * H → (f ≡ true → length hs ≡ W * H)
         → Hears i y → SaneThen y → HeardAs E f o y
     shut-hears E nay f o y a e c d g (on j p q) t = absurd (omega arith)
@@ -156,7 +158,7 @@ module _ (n k : ℕ) (store : storeLength 1025 5 ≤ n) (row : 1025 ≤ k) (s : 
     abbrev then : Scene
     then = drawScene n k (heightsCame (j .taken) i) (j .writer) (offerStore w n run (s .store)) (s .row)
 
-    module _ (W H L : ℕ) (hs : List ℕ) (o : List ℕ) (b : ShapeIn W H L) (small : All (λ h. h ≤ 65535) hs) (E : List Event) (a : E ≡ eventsOf W H L hs 0) (e : Begun n k W H L hs 0 false o s)
+    module _ (W H L : ℕ) (hs : List ℕ) (o : List ℕ) (b : ShapeIn W H L) (small : All (λ h. h ≤ maxSample) hs) (E : List Event) (a : E ≡ eventsOf W H L hs 0) (e : Begun n k W H L hs 0 false o s)
         (c : i .phase ≡ 3) (d : i .left + length hs ≡ W * H) (x : i .samples .half ≡ false) (fits : length run ≤ i .left) (says : offerReply w n run (s .store) ≡ gives j) (some : 0 < j .taken) (bs : All (λ b. b ≤ 255) u) where
       abbrev t : Took
       t = out n k store row W H L hs o s b e idle run (omega arith) .took
@@ -189,7 +191,7 @@ module _ (n k : ℕ) (store : storeLength 1025 5 ≤ n) (row : 1025 ≤ k) (s : 
           (record {
             told =
                 begun W H L (hs ++ take (j .taken) run) 0 (ap (λ l. l ++ map height (take (j .taken) run)) a ∙ more-heights W H L hs (take (j .taken) run)) b
-                (all-append small (subst (All (λ h. h ≤ 65535)) (heights-first m bytes (j .taken)) (small-heights m u bs)))
+                (all-append small (subst (All (λ h. h ≤ maxSample)) (heights-first m bytes (j .taken)) (small-heights m u bs)))
                 (reads refl refl (ap (λ l. l .phase) then-input ∙ c) (ap (λ l. l .left + length (hs ++ take (j .taken) run)) then-input ∙ counted))
                 run-begun;
             input = then-input;

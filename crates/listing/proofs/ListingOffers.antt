@@ -21,7 +21,8 @@ use Rattle.writer.specs.declared.Writer.{Writer}
 use Rattle.writer.proofs.CallList.{map-append}
 use Rattle.text.specs.Refusal.{refusedLine, answerLine}
 use Rattle.listing.specs.Lines.{sizeLine}
-use Rattle.listing.specs.Listing.{maxListedWidth, maxListedHeight, shapeFits}
+use Rattle.pgm.specs.Limits.{maxPictureWidth, maxPictureHeight, sizeFits}
+use Rattle.pgm.proofs.LimitLaws.{size-fits}
 use Rattle.listing.specs.Parts.{noLine, sizePart}
 use Rattle.listing.specs.Scenes.{Scene, scene, listed, refusedTo, drawScene, beginScene, offerScene}
 use Rattle.listing.specs.Moves.{lineOn, Idle}
@@ -35,17 +36,21 @@ use Rattle.listing.proofs.ListingReached.{ShapeIn, reads, leftTo, Begun
 
 -- ---- small facts
 -- the writer takes what the listing takes
-listed-low : maxListedHeight ≤ maxHeight
-unfolding maxListedHeight maxHeight
+listed-low : maxPictureHeight ≤ maxHeight
+unfolding maxPictureHeight maxHeight
 listed-low = omega arith
 
-pub shape-in : (W H L : ℕ) → shapeFits W H ≡ true → 1 ≤ L → L ≤ 5 → ShapeIn W H L
-unfolding shapeFits within maxListedWidth
+pub shape-in : (W H L : ℕ) → sizeFits W H ≡ true → 1 ≤ L → L ≤ 5 → ShapeIn W H L
 shape-in W H L e a b =
-    let p = split-both (both (leb 1 W) (leb W 1025)) (both (leb 1 H) (leb H maxListedHeight)) e in
-    let q = split-both (leb 1 W) (leb W 1025) (p .0) in
-    let r = split-both (leb 1 H) (leb H maxListedHeight) (p .1) in
-    record { some-columns = leb-true 1 W (q .0); columns = leb-true W 1025 (q .1); some-rows = leb-true 1 H (r .0); rows = omega (arith, leb-true H maxListedHeight (r .1), listed-low); some-levels = a; levels = b }
+    let f = size-fits W H e in
+    record {
+      some-columns = f .columns .0;
+      columns = f .columns .1;
+      some-rows = f .rows .0;
+      rows = omega (arith, f .rows .1, listed-low);
+      some-levels = a;
+      levels = b;
+    }
 
 pub idle-text : (k : ℕ) (s : Scene) (o t : List ℕ) → Idle s → o ++ leftTo k s ≡ t → o ≡ t
 idle-text k s o t i e = sym (append-nil o) ∙ ap (λ y. o ++ y) (sym (left-none k (s .row) (lineOn s) i)) ∙ e
@@ -87,7 +92,7 @@ turned-begun n k W H L hs f o s i q some e b = record {
   room = λ h. absurd (omega arith);
 }
 
-module _ (n k : ℕ) (store : storeLength 1025 5 ≤ n) (row : 1025 ≤ k) where
+module _ (n k : ℕ) (store : storeLength maxPictureWidth 5 ≤ n) (row : maxPictureWidth ≤ k) where
   -- ---- the head is there
   begin-is : (i : Input) (w : Writer) (W H : ℕ) (x z : Memory) → setUpQuestion W (i .levels) n ≡ 0
       → beginScene n i w W H x z ≡ scene (listed i (fresh W (i .levels)) (sizePart W H (i .levels))) (setUpStore W (i .levels) n x) z

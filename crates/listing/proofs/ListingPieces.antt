@@ -18,7 +18,8 @@ use Rattle.wavelet.specs.Store.{storeLength}
 use Rattle.pgm.specs.Steps.{joined}
 use Rattle.writer.specs.Level.{Memory}
 use Rattle.writer.specs.Demand3.{All, all-none}
-use Rattle.listing.specs.Listing.{maxListedWidth, listingOf, dueOf}
+use Rattle.pgm.specs.Limits.{maxPictureWidth}
+use Rattle.listing.specs.Listing.{listingOf, dueOf}
 use Rattle.listing.specs.Scenes.{Scene, scene, started, endScene}
 use Rattle.listing.specs.Moves.{Idle, Goes, stays, Went, Stops, full, idle}
 use Rattle.listing.specs.Pieces.{Piece, last, again, Pieces, none, next, pausesIn, pauses}
@@ -72,13 +73,11 @@ module _ {n k : ℕ} where
   pieces-pauses (next {t = t} {t′ = t′} f g) = omega (arith, length-append t t′, piece-pauses f, pieces-pauses g)
 
 -- ---- the theorem
-module _ (n k : ℕ) (store : storeLength maxListedWidth 5 ≤ n) (row : maxListedWidth ≤ k) (x z : Memory) {ps : List (List ℕ)} {t : List ℕ} {s : Scene} (bytes : All (λ b. b ≤ 255) (joined ps)) (fed : Pieces n k (scene started x z) ps t s) where
+module _ (n k : ℕ) (store : storeLength maxPictureWidth 5 ≤ n) (row : maxPictureWidth ≤ k) (x z : Memory) {ps : List (List ℕ)} {t : List ℕ} {s : Scene} (bytes : All (λ b. b ≤ 255) (joined ps)) (fed : Pieces n k (scene started x z) ps t s) where
   pub pieces-due : t ≡ dueOf (joined ps)
-  unfolding maxListedWidth
   pieces-due = moves-due n k store row x z bytes (pieces-go fed) (pieces-idle refl fed)
 
   pub pieces-whole : {t₂ : List ℕ} {s₂ : Scene} → Piece n k (endScene n k s) [] t₂ s₂ → t ++ t₂ ≡ listingOf (joined ps)
-  unfolding maxListedWidth
   pieces-whole f = moves-whole n k store row x z bytes (pieces-go fed) (pieces-idle refl fed) all-none (piece-goes f) (piece-idle f)
 
   pub due-pauses : pauses fed ≤ length (dueOf (joined ps))

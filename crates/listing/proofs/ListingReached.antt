@@ -6,7 +6,7 @@ use Prim.Native.Nat.{ℕ, _+_, _-_, _*_, _≤_, _<_}
 use native.Mathlib.Omega.{arith}
 use lib.ListN.{length, take}
 use Rattle.numbers.specs.Signal.{pick}
-use Rattle.wavelet.specs.Limits.{maxHeight}
+use Rattle.wavelet.specs.Limits.{maxSample, maxHeight}
 use Rattle.wavelet.specs.Store.{storeLength}
 use Rattle.writer.specs.Level.{Memory}
 use Rattle.writer.specs.Questions.{setUpQuestion}
@@ -17,6 +17,7 @@ use Rattle.writer.specs.Demand3.{All}
 use Rattle.writer.specs.declared.Writer.{Writer}
 use Rattle.writer.specs.declared.BandRow.{BandRow}
 use Rattle.text.specs.Refusal.{refusedLine, answerLine}
+use Rattle.pgm.specs.Limits.{maxPictureWidth}
 use Rattle.listing.specs.Lines.{sizeLine}
 use Rattle.listing.specs.Parts.{noLine, headPart}
 use Rattle.listing.specs.Scenes.{Scene, scene, drawnTo, drawScene}
@@ -32,13 +33,13 @@ use Rattle.listing.proofs.WriterTakes.{set-up-passes}
 -- a map that a listing takes
 pub record ShapeIn (W H L : ℕ) : Type 0 where
   pub some-columns : 1 ≤ W
-  pub columns : W ≤ 1025
+  pub columns : W ≤ maxPictureWidth
   pub some-rows : 1 ≤ H
   pub rows : H ≤ maxHeight
   pub some-levels : 1 ≤ L
   pub levels : L ≤ 5
 
-pub set-up-in : (n : ℕ) {W H L : ℕ} → storeLength 1025 5 ≤ n → ShapeIn W H L → setUpQuestion W L n ≡ 0
+pub set-up-in : (n : ℕ) {W H L : ℕ} → storeLength maxPictureWidth 5 ≤ n → ShapeIn W H L → setUpQuestion W L n ≡ 0
 set-up-in n {W} {H} {L} h b = set-up-passes W L n h (b .some-columns) (b .columns) (b .some-levels) (b .levels)
 
 -- the input after hs of c heights, and a refusal (nay, its number) or the finish (f)
@@ -66,7 +67,7 @@ eventsOf W H L hs nay = begins (record { width = W; height = H; levels = L }) �
 pub data Told (n k : ℕ) (E : List Event) (f : Bool) (o : List ℕ) (s : Scene) : Type 0 where
   quiet : E ≡ [] → f ≡ false → s .listing .input .phase < 3 → Idle s → o ≡ [] → Told n k E f o s
   refused : (q : ℕ) → E ≡ refusal q ∷ [] → f ≡ false → 3 < s .listing .input .phase → lineOn s .part < 3 → o ++ leftTo k s ≡ refusedLine q → Told n k E f o s
-  begun : (W H L : ℕ) (hs : List ℕ) (nay : ℕ) → E ≡ eventsOf W H L hs nay → ShapeIn W H L → All (λ h. h ≤ 65535) hs
+  begun : (W H L : ℕ) (hs : List ℕ) (nay : ℕ) → E ≡ eventsOf W H L hs nay → ShapeIn W H L → All (λ h. h ≤ maxSample) hs
       → InputAt (s .listing .input) (W * H) hs nay f → Begun n k W H L hs nay f o s → Told n k E f o s
 
 -- ---- a part of the line is written, not to its end

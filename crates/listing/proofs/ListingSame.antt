@@ -8,7 +8,8 @@ use lib.ListN.{length}
 use borrow.Author.Tests.{eq-eqb}
 use Rattle.pgm.specs.Header.{Read, found, short, wrong}
 use Rattle.text.specs.Refusal.{refusedLine}
-use Rattle.listing.specs.Listing.{Shape, Head, cells, heightsTaken, tooLarge, bytesOf, linesDue, bodyOf, listingOf, Accepted}
+use Rattle.pgm.specs.Heights.{heightsTaken, tooLarge, bytesOf}
+use Rattle.listing.specs.Listing.{Shape, Head, cells, linesDue, bodyOf, listingOf, Accepted}
 
 -- what a head and the bytes after it are listed as
 abbrev headLists : Read Head → List ℕ

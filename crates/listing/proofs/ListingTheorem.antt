@@ -15,7 +15,8 @@ use lib.Seq.{take-at}
 use Rattle.wavelet.specs.Store.{storeLength}
 use Rattle.writer.specs.Level.{Memory}
 use Rattle.writer.specs.Demand3.{All}
-use Rattle.listing.specs.Listing.{maxListedWidth, listingOf, dueOf}
+use Rattle.pgm.specs.Limits.{maxPictureWidth}
+use Rattle.listing.specs.Listing.{listingOf, dueOf}
 use Rattle.listing.specs.Hearing.{silent, endHeard}
 use Rattle.listing.specs.Scenes.{Scene, scene, started, endScene}
 use Rattle.listing.specs.Moves.{Idle, Goes, stays, Went, Session, begun, call}
@@ -41,7 +42,7 @@ deaf-events i (b ∷ v) p =
     ap (λ y. heardOn (λ j. listen j v) y .events) (sym (hears-on i b (λ e. omega arith) (λ e. omega arith) (λ e. omega arith) (λ e. omega arith))) ∙ deaf-events i v p
 
 -- ---- whatever the moves
-module _ (n k : ℕ) (store : storeLength 1025 5 ≤ n) (row : 1025 ≤ k) (x z : Memory) {u o : List ℕ} {s : Scene} (bytes : All (λ b. b ≤ 255) u) (reads : Goes n k (scene started x z) u o s) where
+module _ (n k : ℕ) (store : storeLength maxPictureWidth 5 ≤ n) (row : maxPictureWidth ≤ k) (x z : Memory) {u o : List ℕ} {s : Scene} (bytes : All (λ b. b ≤ 255) u) (reads : Goes n k (scene started x z) u o s) where
   reached : Heards n k [] false o (listen silent u) s
   reached = begun-told n k store row x z bytes reads
 
@@ -100,21 +101,17 @@ session-goes {n} {k} {s} (call {s₂ = s₂} {u = u} {t = t} g c) =
     subst₂ (λ v w. Goes n k s (u ++ v) (t ++ w) s₂) (sym (call-read c)) (sym (call-wrote c)) (goes-on (session-goes g) (c .goes))
 
 -- ---- whatever the calls
-module _ (n k : ℕ) (store : storeLength maxListedWidth 5 ≤ n) (row : maxListedWidth ≤ k) (x z : Memory) {u o : List ℕ} {s : Scene} (bytes : All (λ b. b ≤ 255) u) (reads : Session n k (scene started x z) u o s) where
+module _ (n k : ℕ) (store : storeLength maxPictureWidth 5 ≤ n) (row : maxPictureWidth ≤ k) (x z : Memory) {u o : List ℕ} {s : Scene} (bytes : All (λ b. b ≤ 255) u) (reads : Session n k (scene started x z) u o s) where
   pub due : Idle s → o ≡ dueOf u
-  unfolding maxListedWidth
   due = moves-due n k store row x z bytes (session-goes reads)
 
   pub prefix : (r : List ℕ) × (o ++ r ≡ dueOf u)
-  unfolding maxListedWidth
   prefix = moves-prefix n k store row x z bytes (session-goes reads)
 
   -- after the end of the input; a listing that is fed after it (v) takes no notice
   module _ (idle : Idle s) {v o₂ : List ℕ} {s₂ : Scene} (more : All (λ b. b ≤ 255) v) (writes : Session n k (endScene n k s) v o₂ s₂) where
     pub whole : Idle s₂ → o ++ o₂ ≡ listingOf u
-    unfolding maxListedWidth
     whole = moves-whole n k store row x z bytes (session-goes reads) idle more (session-goes writes)
 
     pub partly : (r : List ℕ) × ((o ++ o₂) ++ r ≡ listingOf u)
-    unfolding maxListedWidth
     partly = moves-partly n k store row x z bytes (session-goes reads) idle more (session-goes writes)

@@ -10,6 +10,7 @@ use borrow.Author.Tests.{lt-ltb, le-ltb, eq-eqb, ne-eqb}
 use Rattle.wavelet.specs.Store.{storeLength}
 use Rattle.writer.specs.Questions.{setUpQuestion}
 use Rattle.text.specs.Refusal.{answerLine}
+use Rattle.pgm.specs.Limits.{maxPictureWidth}
 use Rattle.listing.specs.Lines.{sizeLine}
 use Rattle.listing.specs.Parts.{noLine}
 use Rattle.listing.specs.Scenes.{Scene, scene, listed, drawScene, valuePart, advanceScene}
@@ -107,13 +108,13 @@ module _ (n k : ℕ) (s : Scene) where
           ]
         ]
 
-  pub wholly-told : storeLength 1025 5 ≤ n → 1025 ≤ k → 0 < l .part → {E : List Event} {f : Bool} {o : List ℕ} → Told n k E f o s → Told n k E f (o ++ leftOn k s) (advanceScene n k s)
+  pub wholly-told : storeLength maxPictureWidth 5 ≤ n → maxPictureWidth ≤ k → 0 < l .part → {E : List Event} {f : Bool} {o : List ℕ} → Told n k E f o s → Told n k E f (o ++ leftOn k s) (advanceScene n k s)
   wholly-told store row p (quiet a b c d e) = absurd (omega arith)
   wholly-told store row p {E} {f} {o} (refused q a b c d e) = subst (Told n k E f (o ++ leftOn k s)) (sym (to-none d)) (refused q a b c (omega arith) (short-moved o p d e))
   wholly-told store row p {E} {f} {o} (begun W H L hs nay a b c d e) =
       begun W H L hs nay a b c (subst (λ y. InputAt y (W * H) hs nay f) (sym (wholly-input (set-up-in n store b) (omega (arith, b .columns)) e p)) d) (wholly-begun (set-up-in n store b) (omega (arith, b .columns)) e p)
 
-  pub told-input : storeLength 1025 5 ≤ n → 1025 ≤ k → 0 < l .part → {E : List Event} {f : Bool} {o : List ℕ} → Told n k E f o s → advanceScene n k s .listing .input ≡ s .listing .input
+  pub told-input : storeLength maxPictureWidth 5 ≤ n → maxPictureWidth ≤ k → 0 < l .part → {E : List Event} {f : Bool} {o : List ℕ} → Told n k E f o s → advanceScene n k s .listing .input ≡ s .listing .input
   told-input store row p (quiet a b c d e) = absurd (omega arith)
   told-input store row p (refused q a b c d e) = ap (λ y. y .listing .input) (to-none d)
   told-input store row p (begun W H L hs nay a b c d e) = wholly-input (set-up-in n store b) (omega (arith, b .columns)) e p

@@ -9,22 +9,25 @@ use lib.ListN.{length, take}
 use Rattle.numbers.specs.Signal.{pick}
 use Rattle.pgm.specs.Samples.{wide, sampleSize, pairsOf, samplesOf, fitting, heightsOf}
 use Rattle.pgm.specs.declared.header.Header.{Header}
+use Rattle.wavelet.specs.Limits.{maxSample}
 use Rattle.writer.specs.Demand3.{All, all-none, all-more}
 use Rattle.listing.specs.Hearing.{heightsCame}
 use Rattle.listing.specs.Telling.{height, Hearing, andOn, heardOn, listen}
 use Rattle.listing.specs.declared.input.Input.{Input}
-use Rattle.listing.proofs.HearingLaws.{at, Leads, leads-two, leads-one, no-sample, first-byte, second-byte, lone-byte}
+use Rattle.pgm.proofs.HeightLaws.{Leads, leads-two, leads-one, no-sample}
+use Rattle.listing.proofs.HearsHow.{two-bytes, one-byte}
+use Rattle.listing.proofs.HearingLaws.{at, first-byte, second-byte, lone-byte}
 
 -- ---- bytes and heights
-small-pairs : (s : List ℕ) → All (λ b. b ≤ 255) s → All (λ h. h ≤ 65535) (pairsOf s)
+small-pairs : (s : List ℕ) → All (λ b. b ≤ 255) s → All (λ h. h ≤ maxSample) (pairsOf s)
 unfolding pairsOf
 small-pairs [] p = all-none
 small-pairs (a ∷ []) p = all-none
-small-pairs (a ∷ b ∷ s) (all-more p (all-more q r)) = let e : 256 * a + b ≤ 65535 = omega arith in all-more e (small-pairs s r)
+small-pairs (a ∷ b ∷ s) (all-more p (all-more q r)) = all-more (two-bytes a b p q) (small-pairs s r)
 
-small-singles : (s : List ℕ) → All (λ b. b ≤ 255) s → All (λ h. h ≤ 65535) s
+small-singles : (s : List ℕ) → All (λ b. b ≤ 255) s → All (λ h. h ≤ maxSample) s
 small-singles [] p = all-none
-small-singles (b ∷ s) (all-more p r) = let e : b ≤ 65535 = omega arith in all-more e (small-singles s r)
+small-singles (b ∷ s) (all-more p r) = all-more (one-byte b p) (small-singles s r)
 
 all-fitting : {P : ℕ → Type 0} (m : ℕ) (l : List ℕ) → All P l → All P (fitting m l)
 unfolding fitting
@@ -35,11 +38,11 @@ all-fitting {P} m (v ∷ l) (all-more p r) = go (leb v m) (all-fitting m l r)
     go true t = all-more p t
     go false t = all-none
 
-pub small-heights : (m : ℕ) (s : List ℕ) → All (λ b. b ≤ 255) s → All (λ h. h ≤ 65535) (heightsOf m s)
+pub small-heights : (m : ℕ) (s : List ℕ) → All (λ b. b ≤ 255) s → All (λ h. h ≤ maxSample) (heightsOf m s)
 unfolding heightsOf samplesOf
 small-heights m s p = go (wide m)
   where
-    go : (w : Bool) → All (λ h. h ≤ 65535) (fitting m (pick w (pairsOf s) s))
+    go : (w : Bool) → All (λ h. h ≤ maxSample) (fitting m (pick w (pairsOf s) s))
     go true = all-fitting m (pairsOf s) (small-pairs s p)
     go false = all-fitting m s (small-singles s p)
 

@@ -10,7 +10,8 @@ use borrow.Author.Tests.{le-ltb, eqb-true}
 use Rattle.numbers.specs.Signal.{pick}
 use Rattle.pgm.specs.Header.{Read, found, short, wrong}
 use Rattle.text.specs.Refusal.{refusedLine, answerLine}
-use Rattle.listing.specs.Listing.{Shape, Head, cells, headOf, heightsTaken, tooLarge, bytesOf, refusalIn, linesDue, bodyOf, bodyDue, listingOf, dueOf}
+use Rattle.pgm.specs.Heights.{heightsTaken, tooLarge, bytesOf, refusalIn}
+use Rattle.listing.specs.Listing.{Shape, Head, cells, headOf, linesDue, bodyOf, bodyDue, listingOf, dueOf}
 use Rattle.listing.specs.Telling.{Event, begins, height, refusal, answerEvents, Ending, whole, few, over, Telling, told, heightsTell, headTells, tellingOf}
 use Rattle.listing.proofs.DrawnText.{heightsIn, refusedIn, textOf, endText}
 
@@ -47,7 +48,7 @@ text-of f q l t =
 -- ---- while more may come
 due-body : (q : Shape) (m : ℕ) (r : List ℕ) → bodyDue q m r ≡ textOf false (begins q ∷ heightsTell m (cells q) r .events)
 unfolding bodyDue heightsTell
-due-body q m r = sym (text-of false q (heightsTaken m (cells q) r) (refusalIn m (cells q) r))
+due-body q m r = sym (text-of false q (heightsTaken m (cells q) r) (refusalIn false m (cells q) r))
 
 pub due-told : (u : List ℕ) → dueOf u ≡ textOf false (tellingOf u .events)
 unfolding dueOf tellingOf textOf

@@ -23,6 +23,7 @@ use Rattle.writer.specs.History.{offer, finish, Event, offered, finished, event
 use Rattle.writer.specs.Demand3.{wholeRows, waitingOf, offerTurned, finishTurned}
 use Rattle.writer.specs.declared.Writer.{Writer}
 use Rattle.writer.proofs.Demand3.{demand-3}
+use Rattle.pgm.specs.Limits.{maxPictureWidth}
 use Rattle.listing.proofs.WriterRan.{worldOf, waits, Ran, waiting-is, ran-next}
 
 -- ---- the set-up
@@ -38,12 +39,17 @@ store-deep : (d L W : ℕ) → storeLength W L ≤ storeLength W (L + d)
 store-deep zero L W = let e : L + 0 ≡ L = omega arith in rw e (omega arith)
 store-deep (suc d) L W = let e : L + suc d ≡ suc (L + d) = omega arith in rw e (omega (arith, store-more W (L + d), store-deep d L W))
 
-pub set-up-passes : (W L n : ℕ) → storeLength 1025 5 ≤ n → 1 ≤ W → W ≤ 1025 → 1 ≤ L → L ≤ 5 → setUpQuestion W L n ≡ 0
-unfolding setUpQuestion within maxWidth maxLevels
+-- the writer takes every width that is read
+narrow : maxPictureWidth ≤ maxWidth
+unfolding maxPictureWidth maxWidth
+narrow = omega arith
+
+pub set-up-passes : (W L n : ℕ) → storeLength maxPictureWidth 5 ≤ n → 1 ≤ W → W ≤ maxPictureWidth → 1 ≤ L → L ≤ 5 → setUpQuestion W L n ≡ 0
+unfolding setUpQuestion within maxLevels
 set-up-passes W L n h a b c d =
     let e : L + (5 - L) ≡ 5 = omega arith in
-    let f : storeLength W L ≤ n = omega (arith, rw e at (store-deep (5 - L) L W), store-wide 5 W 1025 b) in
-    rw (le-leb 1 W a, le-leb W maxWidth (omega arith), le-leb 1 L c, le-leb L 5 d, le-leb (storeLength W L) n f)
+    let f : storeLength W L ≤ n = omega (arith, rw e at (store-deep (5 - L) L W), store-wide 5 W maxPictureWidth b) in
+    rw (le-leb 1 W a, le-leb W maxWidth (omega (arith, narrow)), le-leb 1 L c, le-leb L 5 d, le-leb (storeLength W L) n f)
 
 module _ (W L n : ℕ) (s : setUpQuestion W L n ≡ 0) (hs : List ℕ) (ds : List DrawnRow) (w : Writer) (x : Memory) (r : Ran W L n hs false ds w x) (idle : waits W L hs false ds ≡ []) where
   abbrev es : List Event

@@ -5,12 +5,13 @@ use Prim.Native.Nat.{ℕ, _-_, _*_}
 use lib.Dec.{leb, ltb, eqb}
 use Rattle.numbers.specs.Signal.{pick}
 use Rattle.pgm.specs.Steps.{begun, stepOf}
+use Rattle.pgm.specs.Limits.{sizeFits}
 use Rattle.pgm.specs.Samples.{noByte, sampleOf}
 use Rattle.pgm.specs.declared.header.Next.{Next}
 use Rattle.pgm.specs.declared.header.Next.the-variants as next
 use Rattle.pgm.specs.declared.samples.Sample.{Sample}
 use Rattle.pgm.specs.declared.samples.Sample.the-variants as sample
-use Rattle.listing.specs.Listing.{levelDigit, shapeFits}
+use Rattle.listing.specs.Listing.{levelDigit}
 use Rattle.listing.specs.declared.input.Input.{Input}
 use Rattle.listing.specs.declared.input.Heard.{Heard}
 use Rattle.listing.specs.declared.input.Heard.the-variants as heard
@@ -37,7 +38,7 @@ lineFeedHeard i b = pick (eqb b 10) (heard.More (phased 2 i)) (nay i)
 
 unfoldable pub shapeHeard : Input → ℕ → ℕ → ℕ → Heard
 shapeHeard i w h m =
-    pick (shapeFits w h)
+    pick (sizeFits w h)
     (heard.Begun (record { phase = 3; levels = i .levels; header = i .header; left = w * h; samples = noByte m }) w h)
     (nay i)
 

@@ -6,7 +6,8 @@ use lib.Dec.{ltb, eqb}
 use lib.ListN.{length}
 use Rattle.numbers.specs.Signal.{pick}
 use Rattle.pgm.specs.Header.{Read, found, short, wrong}
-use Rattle.listing.specs.Listing.{Shape, Head, cells, headOf, heightsTaken, tooLarge, bytesOf, refusalIn}
+use Rattle.pgm.specs.Heights.{heightsTaken, tooLarge, bytesOf, refusalIn}
+use Rattle.listing.specs.Listing.{Shape, Head, cells, headOf}
 use Rattle.listing.specs.Hearing.{silent, hears, endHeard}
 use Rattle.listing.specs.declared.input.Input.{Input}
 use Rattle.listing.specs.declared.input.Heard.{Heard}
@@ -41,7 +42,7 @@ told e t = record { events = e ∷ t .events; ending = t .ending }
 unfoldable pub heightsTell : ℕ → ℕ → List ℕ → Telling
 heightsTell m n r =
     record {
-      events = map height (heightsTaken m n r) ++ answerEvents (refusalIn m n r);
+      events = map height (heightsTaken m n r) ++ answerEvents (refusalIn false m n r);
       ending = pick (tooLarge m n r) over (pick (eqb (length r) (bytesOf m n)) whole (pick (ltb (bytesOf m n) (length r)) over few));
     }
 

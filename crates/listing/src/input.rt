@@ -1,12 +1,11 @@
 // The input of a listing, heard a byte at a time: a digit for the levels, a line feed, a header, and heights.
 use pgm::header::Header;
 use pgm::header::Next;
+use pgm::limits;
 use pgm::samples::Sample;
 use pgm::samples::Samples;
-use wavelet::limits;
 ghost use mathlib.Core.Path.{_≡_};
-ghost use Prim.Native.Nat.{_≤_, _-_, _*_};
-ghost use Rattle.listing.specs.Listing.{maxListedHeight};
+ghost use Prim.Native.Nat.{_-_};
 ghost use Rattle.listing.specs.Hearing.{silent, phased, levelsHeard, lineFeedHeard, shapeHeard, headerHeard, heightHeard, hears, endHeard, heightsCame};
 
 pub struct Input {
@@ -115,10 +114,8 @@ impl Input {
     fn begin(self, width: usize, height: usize, largest: usize) -> Heard
         ensures { λ r. ⌜ r ≡ shapeHeard self width height largest ⌝ }
     {
-        if !limits::is_within(width, 1025) {
-            return Heard::Refused(self.at_phase(4), 15);
-        }
-        if !limits::is_within(height, 65535) {
+        let left = limits::cells(width, height);
+        if left == 0 {
             return Heard::Refused(self.at_phase(4), 15);
         }
         let header = self.header;
@@ -127,7 +124,7 @@ impl Input {
                 phase: 3,
                 levels: self.levels,
                 header,
-                left: area(width, height),
+                left,
                 samples: Samples::start(largest),
             },
             width,
@@ -221,13 +218,6 @@ impl Input {
         }
         Ended::Whole(self.at_phase(4))
     }
-}
-
-fn area(width: usize, height: usize) -> usize
-    requires { ⌜ (width ≤ 1025) × (height ≤ maxListedHeight) ⌝ }
-    ensures { λ r. ⌜ r ≡ width * height ⌝ }
-{
-    width * height
 }
 
 // What is left of a after b, if anything.

@@ -5,13 +5,14 @@ use crate::line::Line;
 use crate::reading;
 use crate::scenes;
 use crate::writing;
+use pgm::limits;
 use writer::Writer;
 ghost use mathlib.Core.Path.{_≡_};
 ghost use Prim.Native.Nat.{_≤_};
 ghost use lib.ListN.{length};
 ghost use Rattle.numbers.specs.Signal.{at};
 ghost use Rattle.wavelet.specs.Store.{storeLength};
-ghost use Rattle.listing.specs.Listing.{maxListedWidth};
+ghost use Rattle.pgm.specs.Limits.{maxPictureWidth};
 ghost use Rattle.listing.specs.Scenes.{scene, Leaves, started, endScene};
 ghost use Rattle.listing.specs.Moves.{Went, Stops, Onward};
 
@@ -33,17 +34,17 @@ impl Listing {
     // How many numbers the lent areas have to hold so that no map listed is refused: the line store of the largest width and five levels, and the longest band row.
     pub const STORE: usize = 7956;
 
-    pub const ROW: usize = 1025;
+    pub const ROW: usize = limits::MAX_WIDTH;
 
     // The constants, each pinned to the definition's number.
     pub fn store_length() -> usize
-        ensures { λ r. ⌜ r ≡ storeLength maxListedWidth 5 ⌝ }
+        ensures { λ r. ⌜ r ≡ storeLength maxPictureWidth 5 ⌝ }
     {
         Listing::STORE
     }
 
     pub fn row_length() -> usize
-        ensures { λ r. ⌜ r ≡ maxListedWidth ⌝ }
+        ensures { λ r. ⌜ r ≡ maxPictureWidth ⌝ }
     {
         Listing::ROW
     }

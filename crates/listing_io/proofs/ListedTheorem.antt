@@ -20,7 +20,8 @@ use Rattle.writer.specs.Demand3.{All, all-none, all-more}
 use Rattle.descriptors.specs.Left.{leftIn}
 use Rattle.descriptors.specs.declared.input.Left.{Left}
 use Rattle.descriptors.proofs.LeftLaws.{none-left, fills-left, fills-within, used-left}
-use Rattle.listing.specs.Listing.{maxListedWidth, listingOf, dueOf}
+use Rattle.pgm.specs.Limits.{maxPictureWidth}
+use Rattle.listing.specs.Listing.{listingOf, dueOf}
 use Rattle.listing.specs.Hearing.{endHeard}
 use Rattle.listing.specs.Scenes.{Scene, scene, started, hearScene, endScene}
 use Rattle.listing.specs.Moves.{Idle, Move, hears, Goes, stays, then}
@@ -100,7 +101,7 @@ all-front (x ∷ s) t (all-more p a) = all-more p (all-front s t a)
 abbrev Bytes : List ℕ → Type 0
 Bytes = All (λ b. b ≤ 255)
 
-module _ (n k : ℕ) (store : storeLength maxListedWidth 5 ≤ n) (row : maxListedWidth ≤ k) (x z : Memory) {s : Scene} {c : List ℕ} {r : Run}
+module _ (n k : ℕ) (store : storeLength maxPictureWidth 5 ≤ n) (row : maxPictureWidth ≤ k) (x z : Memory) {s : Scene} {c : List ℕ} {r : Run}
     (ran : Ran n k (scene started x z) s c r) where
   abbrev p : List ℕ
   p = leftIn c (r .left)
@@ -109,7 +110,6 @@ module _ (n k : ℕ) (store : storeLength maxListedWidth 5 ≤ n) (row : maxList
   told = rounds-go (ran .rounds)
 
   pub over-listed : (v : List ℕ) → Bytes (ran .read ++ v) → over (s .listing) ≡ true → ran .written ≡ listingOf (ran .read ++ v)
-  unfolding maxListedWidth
   over-listed v bytes e =
       sym (append-nil _) ∙ sym (append-nil _)
       ∙ moves-whole n k store row x z (subst Bytes same bytes) (goes-on (told .goes) (d .goes)) (d .idle) all-none (stays _)
@@ -126,7 +126,6 @@ module _ (n k : ℕ) (store : storeLength maxListedWidth 5 ≤ n) (row : maxList
       same = ap (λ y. y ++ v) (told .left) ∙ append-assoc (told .heard) p v
 
   pub partly-listed : Bytes (ran .read) → (u t : List ℕ) × (ran .read ≡ u ++ leftIn c (r .left)) × (ran .written ++ t ≡ dueOf u)
-  unfolding maxListedWidth
   partly-listed bytes =
       let m = moves-prefix n k store row x z (all-front (told .heard) p (subst Bytes (told .left) bytes)) (told .goes) in
       (told .heard, m .0, told .left, m .1)
@@ -134,7 +133,6 @@ module _ (n k : ℕ) (store : storeLength maxListedWidth 5 ≤ n) (row : maxList
   -- the end of the input, and rounds after it
   pub ended-listed : {s₂ : Scene} {c₂ : List ℕ} {r₂ : Run} (more : Ran n k (endScene n k s) s₂ c₂ r₂) → ends r ≡ true → Bytes (ran .read)
       → Bytes (more .read) → over (s₂ .listing) ≡ true → ran .written ++ more .written ≡ listingOf (ran .read)
-  unfolding maxListedWidth
   ended-listed {s₂} {c₂} {r₂} more e bytes bytes₂ o =
       moves-whole n k store row x z (subst Bytes same bytes) (told .goes) (i .0) (all-front (g .heard) (leftIn c₂ (r₂ .left)) (subst Bytes (g .left) bytes₂))
       (g .goes) (over-idle (s₂ .listing) o .0)

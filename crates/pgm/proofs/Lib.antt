@@ -1,3 +1,5 @@
+pub mod LimitLaws
 pub mod HeaderReads
 pub mod RunReads
 pub mod SampleReads
+pub mod HeightLaws

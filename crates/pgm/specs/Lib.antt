@@ -1,4 +1,6 @@
 pub mod Characters
+pub mod Limits
 pub mod Header
 pub mod Steps
 pub mod Samples
+pub mod Heights

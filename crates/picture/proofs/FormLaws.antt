@@ -16,19 +16,31 @@ use Rattle.wavelet.specs.Limits.{maxWidth, maxHeight}
 use Rattle.wavelet.specs.Questions.{within}
 use Rattle.text.specs.Decimal.{numeral}
 use Rattle.text.specs.Text.{Wrote}
+use Rattle.text.proofs.DecimalLaws.{twenty}
 use Rattle.text.proofs.TextLaws.{wrote-front, front-end}
-use Rattle.picture.specs.Form.{formHead, headQuestion, rowBytes, HeadPut, refused, answered}
+use Rattle.picture.specs.Form.{formLargest, formHead, headQuestion, rowBytes, HeadPut, refused, answered}
 use Rattle.picture.specs.declared.form.Put.{Put}
 use Rattle.picture.specs.declared.form.Put.the-variants.{Written, Refused}
 
 -- ---- the header
-module _ (W H : ℕ) where
-  abbrev end : List ℕ
-  end = 10 ∷ 54 ∷ 53 ∷ 53 ∷ 51 ∷ 53 ∷ 10 ∷ []
+largest-small : formLargest < 2 ^ 64
+unfolding formLargest
+largest-small = omega arith
 
-  pub head-length : length (formHead W H) ≡ 11 + length (numeral W) + length (numeral H)
-  unfolding formHead
-  head-length = omega (arith, length-append (numeral W) (32 ∷ (numeral H ++ end)), length-append (numeral H) end)
+-- it is short
+pub head-short : (W H : ℕ) → W < 2 ^ 64 → H < 2 ^ 64 → length (formHead W H) ≤ 66
+unfolding formHead
+head-short W H a b =
+    let m = numeral formLargest in
+    omega (
+      arith,
+      length-append (numeral W) (32 ∷ (numeral H ++ (10 ∷ (m ++ (10 ∷ []))))),
+      length-append (numeral H) (10 ∷ (m ++ (10 ∷ []))),
+      length-append m (10 ∷ []),
+      twenty W a,
+      twenty H b,
+      twenty formLargest largest-small,
+    )
 
 -- the questions of a header
 module _ (W H : ℕ) where

@@ -3,16 +3,15 @@ use mathlib.Core.Path.{_≡_, refl, sym, ap, _∙_}
 use mathlib.Core.Bool.{Bool, true, false}
 use Prim.Native.Nat.{ℕ, _+_, _-_, _*_, _≤_, _<_}
 use native.Mathlib.Omega.{arith}
-use lib.Dec.{leb, ltb, eqb}
-use borrow.Author.Tests.{eq-eqb, ne-eqb, lt-ltb, le-ltb, leb-true}
-use Rattle.numbers.specs.Signal.{pick, both}
-use Rattle.wavelet.specs.Questions.{within}
+use lib.Dec.{ltb, eqb}
+use borrow.Author.Tests.{eq-eqb, ne-eqb, lt-ltb, le-ltb}
+use Rattle.numbers.specs.Signal.{pick}
 use Rattle.pgm.specs.Samples.{noByte, sampleOf}
 use Rattle.pgm.specs.Steps.{stepOf}
 use Rattle.pgm.specs.declared.header.Next.{Next}
 use Rattle.pgm.specs.declared.samples.Samples.{Samples}
 use Rattle.pgm.specs.declared.samples.Sample.{Sample}
-use Rattle.picture.specs.Rewriting.{sizeFits}
+use Rattle.pgm.specs.Limits.{sizeFits}
 use Rattle.picture.specs.Hearing.{phased, nay, shapeHeard, nextHeard, headerHeard, sampleHeard, heightHeard, hears, endHeard}
 use Rattle.picture.specs.declared.input.Input.{Input}
 use Rattle.picture.specs.declared.input.Heard.{Heard}
@@ -47,30 +46,18 @@ module _ (i : Input) (b : ℕ) where
   height-some x d e = rw (ne-eqb (i .left) 0 d) (ap (sampleHeard i) e)
 
 module _ (i : Input) (room w h m : ℕ) where
-  pub shape-wide : within 1 1025 w ≡ false → nay i ≡ shapeHeard i room w h m
-  unfolding shapeHeard sizeFits
-  shape-wide e = rw e
+  pub shape-no : sizeFits w h ≡ false → nay i ≡ shapeHeard i room w h m
+  unfolding shapeHeard
+  shape-no e = rw e
 
-  pub shape-high : within 1 1025 w ≡ true → within 1 65535 h ≡ false → nay i ≡ shapeHeard i room w h m
-  unfolding shapeHeard sizeFits
-  shape-high e f = rw (e, f)
+  pub shape-short : sizeFits w h ≡ true → room < w → heard.Refused (phased 2 i) 5 ≡ shapeHeard i room w h m
+  unfolding shapeHeard
+  shape-short e g = rw (e, lt-ltb room w g)
 
-  pub shape-short : within 1 1025 w ≡ true → within 1 65535 h ≡ true → room < w → heard.Refused (phased 2 i) 5 ≡ shapeHeard i room w h m
-  unfolding shapeHeard sizeFits
-  shape-short e f g = rw (e, f, lt-ltb room w g)
-
-  pub shape-yes : (n : ℕ) (x : Samples) → within 1 1025 w ≡ true → within 1 65535 h ≡ true → w ≤ room → n ≡ w * h → x ≡ noByte m
+  pub shape-yes : (n : ℕ) (x : Samples) → sizeFits w h ≡ true → w ≤ room → n ≡ w * h → x ≡ noByte m
       → heard.Begun (record { phase = 1; header = i .header; width = w; height = h; left = n; samples = x }) ≡ shapeHeard i room w h m
-  unfolding shapeHeard sizeFits
-  shape-yes n x e f g d k = rw (e, f, le-ltb room w g, d, k)
-
-pub most : (m n : ℕ) → within 1 m n ≡ true → n ≤ m
-unfolding within
-most m n e = go (leb 1 n) e
-  where
-    go : (a : Bool) → both a (leb n m) ≡ true → n ≤ m
-    go true h = leb-true n m h
-    go false h = let z : _≡_ {A = ℕ} 0 1 = cc in absurd (omega arith)
+  unfolding shapeHeard
+  shape-yes n x e g d k = rw (e, le-ltb room w g, d, k)
 
 module _ (i : Input) where
   pub end-early : i .phase ≡ 0 → ended.Short (phased 2 i) ≡ endHeard i

@@ -20,11 +20,15 @@ use Rattle.pgm.specs.Samples.{wide, sampleSize, pairsOf, samplesOf, fitting, ex
 use Rattle.pgm.specs.declared.header.Header.{Header}
 use Rattle.pgm.specs.declared.header.Next.{Next}
 use Rattle.pgm.specs.declared.header.Next.the-variants as next
+use Rattle.pgm.specs.Limits.{maxPictureWidth, sizeFits}
+use Rattle.pgm.specs.Heights.{heightsTaken, tooLarge, refusalIn}
+use Rattle.pgm.proofs.LimitLaws.{size-fits}
 use Rattle.pgm.proofs.HeaderReads.{reads}
+use Rattle.pgm.proofs.HeightLaws.{Leads, leads-two, leads-one, more-lt, more-gt, no-sample, some-byte}
+use Rattle.pgm.proofs.HeightLaws.{too-large-says, short-says, surplus-says, whole-says}
 use Rattle.picture.specs.Form.{formHead, rowBytes}
 use Rattle.text.specs.Refusal.{refusedLine, answerLine}
-use Rattle.picture.specs.Rewriting.{sizeFits, sizeEnd, pictureOf, cells, heightsIn, wholeRows, rowsOf, tooLarge, bodyOf, rewritingOf}
-use Rattle.picture.specs.Rewriting.{refusalIn, bodyDue, dueOf}
+use Rattle.picture.specs.Rewriting.{sizeEnd, pictureOf, cells, heightsIn, wholeRows, rowsOf, bodyOf, rewritingOf, bodyDue, dueOf}
 use Rattle.picture.specs.Hearing.{phased, nay, begins, shapeHeard, nextHeard, heightHeard, hears, endHeard}
 use Rattle.picture.specs.Machine.{partOf, noPart, partText, rewriting, started, leftOn, settled, rowPart, heightKept, heardTo, heardBy}
 use Rattle.picture.specs.Machine.{endTo, endOf, owed, Ran, none, call}
@@ -102,96 +106,7 @@ row-append (h ∷ g) l = ap (λ k. (h / 256) ∷ (h % 256) ∷ k) (row-append g 
 
 -- ---- the heights: what is due of n of them, g being those of the begun row that stand already
 abbrev heightsDue : Bool → ℕ → List ℕ → ℕ → ℕ → List ℕ → List ℕ
-heightsDue e W g m n r = rowBytes (wholeRows W (g ++ take n (heightsOf m r))) ++ answerLine (refusalIn e m n r)
-
--- one sample more, of two bytes (w) or one
-more-lt : (w : Bool) (n k l : ℕ) → l ≡ pick w 2 1 + k → ltb (pick w 2 1 * suc n) l ≡ ltb (pick w 2 1 * n) k
-more-lt true n k l e =
-    elim (decLt (2 * n) k) [
-      | yes p ↦ lt-ltb (2 * suc n) l (omega arith) ∙ sym (lt-ltb (2 * n) k p)
-      | no d ↦ le-ltb (2 * suc n) l (omega arith) ∙ sym (le-ltb (2 * n) k (omega arith))
-    ]
-more-lt false n k l e =
-    elim (decLt (1 * n) k) [
-      | yes p ↦ lt-ltb (1 * suc n) l (omega arith) ∙ sym (lt-ltb (1 * n) k p)
-      | no d ↦ le-ltb (1 * suc n) l (omega arith) ∙ sym (le-ltb (1 * n) k (omega arith))
-    ]
-
-more-gt : (w : Bool) (n k l : ℕ) → l ≡ pick w 2 1 + k → ltb l (pick w 2 1 * suc n) ≡ ltb k (pick w 2 1 * n)
-more-gt true n k l e =
-    elim (decLt k (2 * n)) [
-      | yes p ↦ lt-ltb l (2 * suc n) (omega arith) ∙ sym (lt-ltb k (2 * n) p)
-      | no d ↦ le-ltb l (2 * suc n) (omega arith) ∙ sym (le-ltb k (2 * n) (omega arith))
-    ]
-more-gt false n k l e =
-    elim (decLt k (1 * n)) [
-      | yes p ↦ lt-ltb l (1 * suc n) (omega arith) ∙ sym (lt-ltb k (1 * n) p)
-      | no d ↦ le-ltb l (1 * suc n) (omega arith) ∙ sym (le-ltb k (1 * n) (omega arith))
-    ]
-
--- the bytes s are a sample v and then r
-record Leads (m v : ℕ) (s r : List ℕ) : Type 0 where
-  pub samples : samplesOf m s ≡ v ∷ samplesOf m r
-  pub bytes : length s ≡ sampleSize m + length r
-
-leads-two : (m a b : ℕ) (r : List ℕ) → wide m ≡ true → Leads m (256 * a + b) (a ∷ b ∷ r) r
-unfolding samplesOf pairsOf sampleSize
-leads-two m a b r e = record { samples = rw e; bytes = rw e (omega arith) }
-
-leads-one : (m b : ℕ) (r : List ℕ) → wide m ≡ false → Leads m b (b ∷ r) r
-unfolding samplesOf sampleSize
-leads-one m b r e = record { samples = rw e; bytes = rw e (omega arith) }
-
-no-sample : (m : ℕ) → samplesOf m [] ≡ []
-unfolding samplesOf pairsOf
-no-sample m = go (wide m)
-  where
-    go : (w : Bool) → pick {A = List ℕ} w [] [] ≡ []
-    go true = refl
-    go false = refl
-
-some-byte : (m : ℕ) → 0 < sampleSize m
-unfolding sampleSize
-some-byte m = go (wide m)
-  where
-    go : (w : Bool) → 0 < pick w 2 1
-    go true = omega arith
-    go false = omega arith
-
-bytes-none : (m : ℕ) → sampleSize m * 0 ≡ 0
-bytes-none m = omega arith
-
--- ---- the refusal that the bytes bring
-module _ (e : Bool) (m : ℕ) where
-  too-large-says : (n v : ℕ) (s r : List ℕ) → Leads m v s r → leb v m ≡ false → (take (suc n) (heightsOf m s) ≡ []) × (refusalIn e m (suc n) s ≡ 16)
-  unfolding heightsOf fitting refusalIn exceeds
-  too-large-says n v s r l h = (rw (l .samples, h), rw (l .samples, h))
-
-  -- no whole sample, and fewer bytes than the next has
-  short-says : (n : ℕ) (s : List ℕ) → samplesOf m s ≡ [] → length s < sampleSize m
-      → (take (suc n) (heightsOf m s) ≡ []) × (refusalIn e m (suc n) s ≡ pick e 15 0)
-  unfolding heightsOf fitting refusalIn exceeds sampleSize
-  short-says n s h k = (rw h, rw (h, below (wide m) k .0, below (wide m) k .1) (ends e))
-    where
-      below : (w : Bool) → length s < pick w 2 1 → (ltb (pick w 2 1 * suc n) (length s) ≡ false) × (ltb (length s) (pick w 2 1 * suc n) ≡ true)
-      below true h = (le-ltb (2 * suc n) (length s) (omega arith), lt-ltb (length s) (2 * suc n) (omega arith))
-      below false h = (le-ltb (1 * suc n) (length s) (omega arith), lt-ltb (length s) (1 * suc n) (omega arith))
-
-      ends : (e : Bool) → _≡_ {A = ℕ} (pick (both e true) 15 0) (pick e 15 0)
-      ends true = refl
-      ends false = refl
-
-  surplus-says : (b : ℕ) (r : List ℕ) → refusalIn e m 0 (b ∷ r) ≡ 15
-  unfolding refusalIn exceeds
-  surplus-says b r = rw (bytes-none m, lt-ltb 0 (suc (length r)) (omega arith))
-
-  whole-says : refusalIn e m 0 [] ≡ 0
-  unfolding refusalIn exceeds
-  whole-says = rw (bytes-none m) (over e)
-    where
-      over : (e : Bool) → _≡_ {A = ℕ} (pick (both e false) 15 0) 0
-      over true = refl
-      over false = refl
+heightsDue e W g m n r = rowBytes (wholeRows W (g ++ heightsTaken m n r)) ++ answerLine (refusalIn e m n r)
 
 no-bytes : (q : ℕ) → rowBytes [] ++ answerLine q ≡ answerLine q
 unfolding rowBytes
@@ -200,15 +115,15 @@ no-bytes q = refl
 -- ---- and what is due
 module _ (e : Bool) (W : ℕ) (some : 0 < W) (g : List ℕ) (few : length g < W) (m : ℕ) where
   -- no height more
-  no-more : (n : ℕ) (s : List ℕ) (q : ℕ) → take n (heightsOf m s) ≡ [] → refusalIn e m n s ≡ q → heightsDue e W g m n s ≡ answerLine q
+  no-more : (n : ℕ) (s : List ℕ) (q : ℕ) → heightsTaken m n s ≡ [] → refusalIn e m n s ≡ q → heightsDue e W g m n s ≡ answerLine q
   no-more n s q h k =
       ap₂ (λ l a. rowBytes (wholeRows W (g ++ l)) ++ answerLine a) h k
       ∙ ap (λ l. rowBytes l ++ answerLine q) (ap (wholeRows W) (append-nil g) ∙ none-whole W some g few)
       ∙ no-bytes q
 
   one-more : (n v : ℕ) (s r : List ℕ) → Leads m v s r → leb v m ≡ true
-      → heightsDue e W g m (suc n) s ≡ rowBytes (wholeRows W (g ++ (v ∷ take n (heightsOf m r)))) ++ answerLine (refusalIn e m n r)
-  unfolding refusalIn heightsOf fitting exceeds sampleSize
+      → heightsDue e W g m (suc n) s ≡ rowBytes (wholeRows W (g ++ (v ∷ heightsTaken m n r))) ++ answerLine (refusalIn e m n r)
+  unfolding refusalIn tooLarge heightsTaken heightsOf fitting exceeds sampleSize
   one-more n v s r l h = rw (l .samples, h, more-lt (wide m) n (length r) (length s) (l .bytes), more-gt (wide m) n (length r) (length s) (l .bytes))
 
   too-large : (n v : ℕ) (s r : List ℕ) → Leads m v s r → leb v m ≡ false → heightsDue e W g m (suc n) s ≡ refusedLine 16
@@ -225,9 +140,11 @@ module _ (e : Bool) (W : ℕ) (some : 0 < W) (g : List ℕ) (few : length g < W)
   half-short n a h = short-of n (a ∷ []) (rw h refl) (rw h (omega arith))
 
   surplus : (b : ℕ) (r : List ℕ) → heightsDue e W g m 0 (b ∷ r) ≡ refusedLine 15
+  unfolding heightsTaken
   surplus b r = no-more 0 (b ∷ r) 15 refl (surplus-says e m b r)
 
   all-there : heightsDue e W g m 0 [] ≡ []
+  unfolding heightsTaken
   all-there = no-more 0 [] 0 refl (whole-says e m)
 
 -- ---- and byte by byte
@@ -308,7 +225,7 @@ module _ (e : Bool) (h : Header) (W H : ℕ) (some : 0 < W) (m n f u : ℕ) (z r
   y = set z f u
 
   abbrev hs : List ℕ
-  hs = take n (heightsOf m r)
+  hs = heightsTaken m n r
 
   abbrev says : List ℕ
   says = answerLine (refusalIn e m n r)
@@ -392,16 +309,6 @@ module _ (e : Bool) (h : Header) (W H : ℕ) (some : 0 < W) (m : ℕ) where
       go false k = singles k r n
 
 -- ---- the header
-both-true : (a b : Bool) → both a b ≡ true → (a ≡ true) × (b ≡ true)
-both-true true b h = (refl, h)
-both-true false b h = let z : _≡_ {A = ℕ} 0 1 = cc in absurd (omega arith)
-
-fits : (w h : ℕ) → sizeFits w h ≡ true → (0 < w) × (w ≤ 1025)
-unfolding sizeFits within
-fits w h k =
-    let d = both-true (leb 1 w) (leb w 1025) (both-true (both (leb 1 w) (leb w 1025)) (both (leb 1 h) (leb h 65535)) k .0) in
-    (omega (arith, leb-true 1 w (d .0)), leb-true w 1025 (d .1))
-
 head-left : (i : Input) (f : ℕ) (z : List ℕ) → leftOn (rewriting i f (partOf 1 0)) z ≡ formHead (i .width) (i .height)
 unfolding leftOn partText
 head-left i f z = refl
@@ -419,17 +326,17 @@ pictureDue e wrong = refusedLine 15
 abbrev early : Header → Input
 early k = at 0 k 0 0 0 0 false 0
 
-module _ (e : Bool) (z : List ℕ) (room : 1025 ≤ length z) where
+module _ (e : Bool) (z : List ℕ) (room : maxPictureWidth ≤ length z) where
   -- what is owed of the bytes s after a byte of the header
   abbrev after : Header → List ℕ → Heard → List ℕ
   after k s y = owed e (heardTo (idle (early k) 0) z y .state) (heardTo (idle (early k) 0) z y .row) s
 
-  begun-due : (k : Header) (w h m : ℕ) (r : List ℕ) → 0 < w → w ≤ 1025
+  begun-due : (k : Header) (w h m : ℕ) (r : List ℕ) → 0 < w → w ≤ maxPictureWidth
       → after k r (heard.Begun (begins (early k) w h m)) ≡ bodyDue e (record { width = w; height = h; largest = m }) r
-  unfolding bodyDue rowsOf heightsIn
+  unfolding bodyDue rowsOf
   begun-due k w h m r a b =
       let i : Input = begins (early k) w h m in
-      let hs : List ℕ = take (w * h) (heightsOf m r) in
+      let hs : List ℕ = heightsTaken m (w * h) r in
       settle-owed e (rewriting i 0 (partOf 1 0)) z r
       ∙ ap₂ _++_ (head-left i 0 z) (ap (λ s. owed e s z r) (head-settled i 0) ∙ heights e k w h a m r (w * h) 0 0 z a (omega arith))
       ∙ sym (append-assoc (formHead w h) (rowBytes (wholeRows w hs)) (answerLine (refusalIn e m (w * h) r)))
@@ -437,7 +344,9 @@ module _ (e : Bool) (z : List ℕ) (room : 1025 ≤ length z) where
   shape : (k : Header) (w h m : ℕ) (r : List ℕ) (t : Bool) → sizeFits w h ≡ t
       → after k r (shapeHeard (early k) (length z) w h m) ≡ pictureDue e (sizeEnd (record { width = w; height = h; largest = m }) r)
   unfolding shapeHeard sizeEnd
-  shape k w h m r true d = rw (d, le-ltb (length z) w (omega (arith, fits w h d .1))) (begun-due k w h m r (fits w h d .0) (fits w h d .1))
+  shape k w h m r true d =
+      let f = size-fits w h d .columns in
+      rw (d, le-ltb (length z) w (omega arith)) (begun-due k w h m r (f .0) (f .1))
   shape k w h m r false d = rw d (refused e (phased 2 (early k)) 0 15 z r refl)
 
   step-due : (k : Header) (x : Next) (s : List ℕ) → ((k : Header) → owed e (idle (early k) 0) z s ≡ pictureDue e (andThen (readBy (feed k s)) sizeEnd))
@@ -468,12 +377,12 @@ as-due e s = same (andThen (headerOf s) sizeEnd)
     same wrong = refl
 
 -- what a rewriting owes of the bytes s from its start; e: the input ends with them
-pub owed-due : (e : Bool) (z s : List ℕ) → 1025 ≤ length z → owed e started z s ≡ dueOf e s
+pub owed-due : (e : Bool) (z s : List ℕ) → maxPictureWidth ≤ length z → owed e started z s ≡ dueOf e s
 owed-due e z s room = header e z room s (begun 0) ∙ ap (λ x. pictureDue e (andThen x sizeEnd)) (reads s) ∙ as-due e s
 
 -- ---- an input that has ended
-body-whole : (z : Size) (r : List ℕ) (t : Bool) → exceeds (z .largest) (take (cells z) (samplesOf (z .largest) r)) ≡ t → bodyDue true z r ≡ bodyOf z r
-unfolding bodyDue bodyOf refusalIn tooLarge
+body-whole : (z : Size) (r : List ℕ) (t : Bool) → tooLarge (z .largest) (cells z) r ≡ t → bodyDue true z r ≡ bodyOf z r
+unfolding bodyDue bodyOf refusalIn
 body-whole z r true h = rw h
 body-whole z r false h =
     let n : ℕ = sampleSize (z .largest) * cells z in
@@ -496,11 +405,11 @@ due-whole s = same (pictureOf s)
         → _≡_ {A = List ℕ}
         (elim x [ found z r ↦ bodyDue true z r | short ↦ refusedLine 15 | wrong ↦ refusedLine 15 ])
         (elim x [ found z r ↦ bodyOf z r | short ↦ refusedLine 15 | wrong ↦ refusedLine 15 ])
-    same (found z r) = body-whole z r (exceeds (z .largest) (take (cells z) (samplesOf (z .largest) r))) refl
+    same (found z r) = body-whole z r (tooLarge (z .largest) (cells z) r) refl
     same short = refl
     same wrong = refl
 
-pub owed-whole : (z s : List ℕ) → 1025 ≤ length z → owed true started z s ≡ rewritingOf s
+pub owed-whole : (z s : List ℕ) → maxPictureWidth ≤ length z → owed true started z s ≡ rewritingOf s
 owed-whole z s room = owed-due true z s room ∙ due-whole s
 
 -- ---- in pieces
@@ -513,11 +422,11 @@ ran-owed {r} {r′} {z} {z′} (call {s = s} {t = t} w f) e v =
     ∙ sym (append-assoc (w .text) t (owed e r′ z′ v))
 
 -- whatever the pieces: what has been written and what is still owed is what is due of the bytes read
-pub pieces-due : {r : Rewriting} {z z′ s t : List ℕ} (e : Bool) → 1025 ≤ length z → Ran started z s t r z′ → t ++ owed e r z′ [] ≡ dueOf e s
+pub pieces-due : {r : Rewriting} {z z′ s t : List ℕ} (e : Bool) → maxPictureWidth ≤ length z → Ran started z s t r z′ → t ++ owed e r z′ [] ≡ dueOf e s
 pieces-due {z = z} {s = s} e room f = sym (ran-owed f e []) ∙ ap (owed e started z) (append-nil s) ∙ owed-due e z s room
 
 -- and once all is written, before the input's end and after it, the text is the definition's
-pub pieces-whole : {r r′ : Rewriting} {z z′ z″ s t v t′ : List ℕ} → 1025 ≤ length z → Ran started z s t r z′ → r .part .kind ≡ 0
+pub pieces-whole : {r r′ : Rewriting} {z z′ z″ s t v t′ : List ℕ} → maxPictureWidth ≤ length z → Ran started z s t r z′ → r .part .kind ≡ 0
     → Ran (endOf r) z′ v t′ r′ z″ → v ≡ [] → r′ .part .kind ≡ 0 → t ++ t′ ≡ rewritingOf s
 pieces-whole {r} {r′} {z} {z′} {z″} {s} {t} {v} {t′} room f k g n d =
     let last : owed false (endOf r) z′ [] ≡ t′ =

@@ -9,7 +9,7 @@ use Rattle.pgm.specs.declared.header.Next.{Next}
 use Rattle.pgm.specs.declared.header.Next.the-variants as next
 use Rattle.pgm.specs.declared.samples.Sample.{Sample}
 use Rattle.pgm.specs.declared.samples.Sample.the-variants as sample
-use Rattle.picture.specs.Rewriting.{sizeFits}
+use Rattle.pgm.specs.Limits.{sizeFits}
 use Rattle.picture.specs.declared.input.Input.{Input}
 use Rattle.picture.specs.declared.input.Heard.{Heard}
 use Rattle.picture.specs.declared.input.Heard.the-variants as heard

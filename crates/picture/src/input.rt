@@ -1,11 +1,10 @@
 // The input of a rewriting, heard a byte at a time: a header and heights.
 use pgm::header::Header;
 use pgm::header::Next;
+use pgm::limits;
 use pgm::samples::Sample;
 use pgm::samples::Samples;
-use wavelet::limits;
 ghost use mathlib.Core.Path.{_≡_};
-ghost use Prim.Native.Nat.{_≤_, _-_, _*_};
 ghost use Rattle.picture.specs.Hearing.{silent, phased, shapeHeard, headerHeard, heightHeard, hears, endHeard};
 
 pub struct Input {
@@ -70,10 +69,8 @@ impl Input {
     fn begin(self, width: usize, height: usize, largest: usize, room: usize) -> Heard
         ensures { λ r. ⌜ r ≡ shapeHeard self room width height largest ⌝ }
     {
-        if !limits::is_within(width, 1025) {
-            return Heard::Refused(self.at_phase(2), 15);
-        }
-        if !limits::is_within(height, 65535) {
+        let left = limits::cells(width, height);
+        if left == 0 {
             return Heard::Refused(self.at_phase(2), 15);
         }
         if room < width {
@@ -85,7 +82,7 @@ impl Input {
             header,
             width,
             height,
-            left: area(width, height),
+            left,
             samples: Samples::start(largest),
         })
     }
@@ -173,11 +170,4 @@ impl Input {
         }
         Ended::Over(self.at_phase(2))
     }
-}
-
-fn area(width: usize, height: usize) -> usize
-    requires { ⌜ (width ≤ 1025) × (height ≤ 65535) ⌝ }
-    ensures { λ r. ⌜ r ≡ width * height ⌝ }
-{
-    width * height
 }

@@ -4,11 +4,13 @@ use crate::input::Heard;
 use crate::input::Input;
 use crate::parts;
 use crate::parts::Part;
+use pgm::limits;
 ghost use mathlib.Core.Path.{_≡_};
 ghost use Prim.Native.Nat.{_<_, _≤_};
 ghost use lib.Dec.{eqb};
 ghost use lib.ListN.{length, getD};
 ghost use Rattle.numbers.specs.Signal.{pick};
+ghost use Rattle.pgm.specs.Limits.{maxPictureWidth};
 ghost use Rattle.picture.specs.Machine.{partOf, started, settled, doneOn, rowPart, heightKept, heardBy, Writes, Went, Stops, Onward, endOf};
 
 pub struct Rewriting {
@@ -65,7 +67,14 @@ fn keep(input: Input, filled: usize, height: u16, row: &mut [u16]) -> Rewriting
 }
 
 impl Rewriting {
-    pub const ROW: usize = 1025;
+    // How many heights the row area has to hold so that no picture read is refused.
+    pub const ROW: usize = limits::MAX_WIDTH;
+
+    pub fn row_length() -> usize
+        ensures { λ r. ⌜ r ≡ maxPictureWidth ⌝ }
+    {
+        Rewriting::ROW
+    }
 
     pub fn start() -> Self
         ensures { λ r. ⌜ r ≡ started ⌝ }

@@ -10,7 +10,7 @@ use mir.Val.{Fits}
 use mir.Syntax.{w64}
 use Rattle.text.proofs.DecimalLaws.{twenty}
 use Rattle.text.proofs.RefusalLaws.{refused-length}
-use Rattle.picture.proofs.FormLaws.{head-length, row-length}
+use Rattle.picture.proofs.FormLaws.{head-short, row-length}
 use Rattle.picture.proofs.PartLaws.{text-head, text-row, text-refused, text-none, placed, placed-none, take-least}
 use Rattle.picture.specs.Form.{rowBytes}
 use Rattle.picture.proofs.parts.put_part.Statement.{statement}
@@ -26,7 +26,7 @@ returns : tie.Need-returns
 returns c =
     let h = c .before .before in
     let a = h .before .before .before .before .before .args in
-    let p = placed _ _ (a .done) (h .put-head .result) (a .out .now) (h .put-head .last .1 .1 .1 .0) (text-head (a .width) (a .height) (a .row .now) (a .kind) (a .number) (h .before .before .if1 .taken)) (h .put-head .ensures .0, h .put-head .ensures .1, omega (arith, h .put-head .ensures .0, head-length (a .width) (a .height), twenty (a .width) (omega arith), twenty (a .height) (omega arith), h .before .before .before .before .before .fits .done)) in
+    let p = placed _ _ (a .done) (h .put-head .result) (a .out .now) (h .put-head .last .1 .1 .1 .0) (text-head (a .width) (a .height) (a .row .now) (a .kind) (a .number) (h .before .before .if1 .taken)) (h .put-head .ensures .0, h .put-head .ensures .1, omega (arith, h .put-head .ensures .0, head-short (a .width) (a .height) (omega arith) (omega arith), h .before .before .before .before .before .fits .done)) in
     (p .0, (p .1, p .2))
 
 least-requires : tie.Need-least-requires
