@@ -14,7 +14,7 @@ use Rattle.text.specs.Decimal.{integer}
 use Rattle.text.specs.Refusal.{refusedLine}
 use Rattle.listing.specs.Lines.{spaced, sizeLine}
 use Rattle.listing.specs.Parts.{sizeText, refusedText, headText, valueText, partText, sizePart, refusedPart, headPart, donePart, startOf, leftOf}
-use Rattle.listing.specs.Scenes.{valuePart}
+use Rattle.listing.specs.States.{valuePart}
 use Rattle.listing.specs.declared.line.Line.{Line}
 use Rattle.listing.proofs.SpellLaws.{start-in, start-anew, start-bound}
 

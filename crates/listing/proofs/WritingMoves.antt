@@ -18,13 +18,13 @@ use Rattle.listing.specs.Lines.{spaced, sizeLine}
 use Rattle.text.specs.Text.{Wrote}
 use Rattle.text.specs.Refusal.{refusedLine}
 use Rattle.listing.specs.Parts.{first, second, sizeText, refusedText, headText, valueText, partText, donePart, startOf, leftOf, Spelled}
-use Rattle.listing.specs.Scenes.{Scene, scene, Leaves, listed, valuePart, advanceScene}
+use Rattle.listing.specs.States.{State, stateOf, Leaves, listed, valuePart, advanceState}
 use Rattle.listing.specs.Moves.{lineOn, textOn, leftOn, Move, partly, wholly, Goes, then, Writes, WritesOnly}
 use Rattle.listing.specs.declared.input.Input.{Input}
 use Rattle.listing.specs.declared.line.Line.{Line}
 use Rattle.listing.specs.declared.listing.Listing.{Listing}
 use Rattle.listing.specs.declared.spelling.Spelt.{Spelt}
-use Rattle.listing.proofs.SceneLaws.{past-value}
+use Rattle.listing.proofs.StateLaws.{past-value}
 use Rattle.listing.proofs.SpellLaws.{start-in, start-anew}
 use Rattle.listing.proofs.MoveLaws.{one}
 
@@ -84,12 +84,12 @@ left-all : (t : List ℕ) (d : ℕ) → d ≡ 0 → leftOf t d ≡ t
 unfolding leftOf
 left-all t d e = rw (e, start-none (length t))
 
--- ---- a scene that a step left
-pub left-is : {s : Scene} {l : Listing} {x z : Memory} → Leaves s l x z → scene l x z ≡ s
-left-is {s} {l} {x} {z} p = ap (λ y. scene y x z) (p .listing) ∙ ap (λ y. scene (s .listing) y z) (p .store) ∙ ap (λ y. scene (s .listing) (s .store) y) (p .row)
+-- ---- a state that a step left
+pub left-is : {s : State} {l : Listing} {x z : Memory} → Leaves s l x z → stateOf l x z ≡ s
+left-is {s} {l} {x} {z} p = ap (λ y. stateOf y x z) (p .listing) ∙ ap (λ y. stateOf (s .listing) y z) (p .store) ∙ ap (λ y. stateOf (s .listing) (s .store) y) (p .row)
 
 -- ---- a part
-module _ (n k : ℕ) (s : Scene) (h : 0 < lineOn s .part) (o o′ : List ℕ) (b : ℕ) (room : b < length o) (r : Spelt) (e : Spelled (textOn k s) (lineOn s .done) b o o′ r) where
+module _ (n k : ℕ) (s : State) (h : 0 < lineOn s .part) (o o′ : List ℕ) (b : ℕ) (room : b < length o) (r : Spelt) (e : Spelled (textOn k s) (lineOn s .done) b o o′ r) where
   most : r .written ≤ length (leftOn k s)
   most = omega (arith, e .count)
 
@@ -104,7 +104,7 @@ module _ (n k : ℕ) (s : Scene) (h : 0 < lineOn s .part) (o o′ : List ℕ) (b
         text = e .bytes ∙ append-assoc (take b o) (take (r .written) (leftOn k s)) (drop (b + r .written) o);
       }
 
-  pub part-on : (l : Listing) → 0 < r .rest → l ≡ listed (s .listing .input) (s .listing .writer) (donePart (lineOn s) (r .done)) → Writes n k s o o′ b (b + r .written) (scene l (s .store) (s .row))
+  pub part-on : (l : Listing) → 0 < r .rest → l ≡ listed (s .listing .input) (s .listing .writer) (donePart (lineOn s) (r .done)) → Writes n k s o o′ b (b + r .written) (stateOf l (s .store) (s .row))
   part-on l g f =
       record {
         text = take (r .written) (leftOn k s);
@@ -113,7 +113,7 @@ module _ (n k : ℕ) (s : Scene) (h : 0 < lineOn s .part) (o o′ : List ℕ) (b
         some = some;
       }
 
-  pub part-whole : (l : Listing) {x z : Memory} → r .rest ≡ 0 → Leaves (advanceScene n k s) l x z → Writes n k s o o′ b (b + r .written) (scene l x z)
+  pub part-whole : (l : Listing) {x z : Memory} → r .rest ≡ 0 → Leaves (advanceState n k s) l x z → Writes n k s o o′ b (b + r .written) (stateOf l x z)
   part-whole l g f =
       let all : r .written ≡ length (leftOn k s) = omega (arith, e .rest, most) in
       record {
@@ -125,8 +125,8 @@ module _ (n k : ℕ) (s : Scene) (h : 0 < lineOn s .part) (o o′ : List ℕ) (b
 
 -- ---- values
 module _ (n k : ℕ) (i : Input) (w : Writer) (x z : Memory) where
-  abbrev with : Line → Scene
-  with l = scene (listed i w l) x z
+  abbrev with : Line → State
+  with l = stateOf (listed i w l) x z
 
   value-text : (l : Line) → 3 < l .part → l .value < l .length → l .value < k → partText k z l ≡ 32 ∷ integer (z (l .value))
   unfolding partText valueText

@@ -3,7 +3,7 @@ pub mod input;
 pub mod line;
 pub mod listing;
 mod reading;
-mod scenes;
 mod spelling;
+mod states;
 mod values;
 mod writing;

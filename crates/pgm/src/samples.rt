@@ -122,10 +122,10 @@ impl Samples {
         ensures { λ r. ⌜ r ≡ sampleOf self byte ⌝ }
     {
         if !is_wide(self.largest) {
-            return heard(single(byte), self.largest);
+            return checked(single(byte), self.largest);
         }
         if self.half {
-            return heard(joined(self.high, byte), self.largest);
+            return checked(joined(self.high, byte), self.largest);
         }
         Sample::Half(Samples {
             largest: self.largest,
@@ -135,7 +135,7 @@ impl Samples {
     }
 }
 
-fn heard(sample: u16, largest: usize) -> Sample
+fn checked(sample: u16, largest: usize) -> Sample
     ensures { λ r. ⌜ r ≡ sampled largest sample ⌝ }
 {
     if is_within(sample, largest) {

@@ -12,20 +12,20 @@ use lib.Seq.{drop-cons}
 use borrow.Author.Tests.{eq-eqb, ne-eqb}
 use Rattle.numbers.specs.Signal.{pick}
 use Rattle.text.proofs.TextLaws.{wrote-none, wrote-size, wrote-on}
-use Rattle.picture.specs.Machine.{settled, heardBy, owed, Went, Writes, quiet, Stops, full, idle, Onward, on, off}
+use Rattle.picture.specs.Machine.{settled, byteRead, owed, Went, Writes, quiet, Stops, full, idle, Onward, on, off}
 use Rattle.picture.specs.declared.rewriting.Rewriting.{Rewriting}
-use Rattle.picture.proofs.MachineLaws.{hear-owed}
+use Rattle.picture.proofs.MachineLaws.{read-owed}
 
 -- ---- one call
 pub went-not : (r : Rewriting) (z p o : List ℕ) (a b : ℕ) → a ≤ length p → b ≤ length o → Went r z p a a o o b b r z
 went-not r z p o a b h g = record { bytes = []; text = []; goes = λ e v. refl; read = refl; used = omega arith; part = h; wrote = wrote-none b o g }
 
 pub read-went : (r r′ : Rewriting) (z z′ p o : List ℕ) (a b : ℕ) → r .part .kind ≡ 0 → a < length p → b ≤ length o
-    → r′ ≡ heardBy r z (getD p a 0) .state → z′ ≡ heardBy r z (getD p a 0) .row → Went r z p a (a + 1) o o b b r′ z′
+    → r′ ≡ byteRead r z (getD p a 0) .state → z′ ≡ byteRead r z (getD p a 0) .row → Went r z p a (a + 1) o o b b r′ z′
 read-went r r′ z z′ p o a b k h g e f = record {
   bytes = getD p a 0 ∷ [];
   text = [];
-  goes = λ d v. hear-owed d r z (getD p a 0) v k ∙ ap (λ s. owed d s (heardBy r z (getD p a 0) .row) v) (sym e) ∙ ap (λ y. owed d r′ y v) (sym f);
+  goes = λ d v. read-owed d r z (getD p a 0) v k ∙ ap (λ s. owed d s (byteRead r z (getD p a 0) .row) v) (sym e) ∙ ap (λ y. owed d r′ y v) (sym f);
   read = drop-cons p a 0 h ∙ ap (λ m. getD p a 0 ∷ drop m p) (sym (add-one a));
   used = refl;
   part = omega arith;

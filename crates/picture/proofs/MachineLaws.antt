@@ -13,11 +13,11 @@ use borrow.Author.Tests.{eq-eqb, ne-eqb, le-leb, lt-leb}
 use Rattle.numbers.specs.Signal.{pick}
 use Rattle.text.specs.Text.{Wrote}
 use Rattle.text.proofs.TextLaws.{wrote-none, wrote-size, wrote-on}
-use Rattle.picture.specs.Hearing.{phased, hears, endHeard}
-use Rattle.picture.specs.Machine.{partOf, noPart, partText, rewriting, textOn, leftOn, settled, doneOn, Kept, kept, rowPart, heightKept, heardTo, heardBy, owed, Went, Writes, quiet, Stops, full, idle, Onward, on, off, endTo, endOf}
+use Rattle.picture.specs.InputSteps.{phased, readByte, inputEnded}
+use Rattle.picture.specs.Machine.{partOf, noPart, partText, rewriting, textOn, leftOn, settled, doneOn, Kept, kept, rowPart, heightKept, stepTo, byteRead, owed, Went, Writes, quiet, Stops, full, idle, Onward, on, off, endTo, endOf}
 use Rattle.picture.specs.declared.input.Input.{Input}
-use Rattle.picture.specs.declared.input.Heard.{Heard}
-use Rattle.picture.specs.declared.input.Heard.the-variants as heard
+use Rattle.picture.specs.declared.input.Step.{Step}
+use Rattle.picture.specs.declared.input.Step.the-variants as steps
 use Rattle.picture.specs.declared.input.Ended.{Ended}
 use Rattle.picture.specs.declared.input.Ended.the-variants as ended
 use Rattle.picture.specs.declared.parts.Part.{Part}
@@ -43,18 +43,18 @@ pub ends-on : (r : Rewriting) → (r .part .kind ≡ 0 → ⊥) → r ≡ endOf 
 unfolding endOf
 ends-on r d = rw (ne-eqb (r .part .kind) 0 d)
 
-pub ends-as : (r : Rewriting) (y : Ended) → r .part .kind ≡ 0 → y ≡ endHeard (r .input) → endTo r y ≡ endOf r
+pub ends-as : (r : Rewriting) (y : Ended) → r .part .kind ≡ 0 → y ≡ inputEnded (r .input) → endTo r y ≡ endOf r
 unfolding endOf
 ends-as r y d e = rw (eq-eqb (r .part .kind) 0 d) (ap (endTo r) e)
 
-module _ (r : Rewriting) (z : List ℕ) (b : ℕ) (y : Heard) (e : y ≡ hears (r .input) (length z) b) where
-  pub heard-state : heardTo r z y .state ≡ heardBy r z b .state
-  unfolding heardBy
-  heard-state = ap (λ y. heardTo r z y .state) e
+module _ (r : Rewriting) (z : List ℕ) (b : ℕ) (y : Step) (e : y ≡ readByte (r .input) (length z) b) where
+  pub step-state : stepTo r z y .state ≡ byteRead r z b .state
+  unfolding byteRead
+  step-state = ap (λ y. stepTo r z y .state) e
 
-  pub heard-row : heardTo r z y .row ≡ heardBy r z b .row
-  unfolding heardBy
-  heard-row = ap (λ y. heardTo r z y .row) e
+  pub step-row : stepTo r z y .row ≡ byteRead r z b .row
+  unfolding byteRead
+  step-row = ap (λ y. stepTo r z y .row) e
 
 -- ---- what is owed
 drop-none : (n : ℕ) → drop {A = ℕ} n [] ≡ []
@@ -81,8 +81,8 @@ settle-owed e r z [] =
     ∙ ap (λ s. pick e (leftOn (endOf s) z) []) (settled-twice r)))
 settle-owed e r z (b ∷ v) =
     ap (λ l. leftOn r z ++ l)
-    (sym (ap (λ l. l ++ owed e (heardBy (settled (settled r)) z b .state) (heardBy (settled (settled r)) z b .row) v) (settled-none r z)
-    ∙ ap (λ s. owed e (heardBy s z b .state) (heardBy s z b .row) v) (settled-twice r)))
+    (sym (ap (λ l. l ++ owed e (byteRead (settled (settled r)) z b .state) (byteRead (settled (settled r)) z b .row) v) (settled-none r z)
+    ∙ ap (λ s. owed e (byteRead s z b .state) (byteRead s z b .row) v) (settled-twice r)))
 
 -- n bytes of it are
 left-done : (r : Rewriting) (z : List ℕ) (n : ℕ) → leftOn r z ≡ take n (leftOn r z) ++ leftOn (doneOn (r .part .done + n) r) z
@@ -104,29 +104,29 @@ write-owed e r z n v =
 
 end-settled : (r : Rewriting) → r .part .kind ≡ 0 → endOf (settled r) ≡ endOf r
 unfolding endOf settled
-end-settled r k = rw (eq-eqb (r .part .kind) 0 k, ne-eqb (r .part .kind) 2 (λ d. omega arith)) (same (endHeard (r .input)))
+end-settled r k = rw (eq-eqb (r .part .kind) 0 k, ne-eqb (r .part .kind) 2 (λ d. omega arith)) (same (inputEnded (r .input)))
   where
     same : (y : Ended) → endTo (rewriting (r .input) (r .filled) noPart) y ≡ endTo r y
     same (ended.Over i) = refl
     same (ended.Short i) = refl
 
--- a byte is heard
-heard-settled : (r : Rewriting) (z : List ℕ) (b : ℕ) → r .part .kind ≡ 0 → heardBy (settled r) z b ≡ heardBy r z b
-unfolding heardBy settled
-heard-settled r z b e = rw (ne-eqb (r .part .kind) 2 (λ d. omega arith)) (same (hears (r .input) (length z) b))
+-- a byte is read
+read-settled : (r : Rewriting) (z : List ℕ) (b : ℕ) → r .part .kind ≡ 0 → byteRead (settled r) z b ≡ byteRead r z b
+unfolding byteRead settled
+read-settled r z b e = rw (ne-eqb (r .part .kind) 2 (λ d. omega arith)) (same (readByte (r .input) (length z) b))
   where
-    same : (y : Heard) → heardTo (rewriting (r .input) (r .filled) noPart) z y ≡ heardTo r z y
-    same (heard.More i) = refl
-    same (heard.Begun i) = refl
-    same (heard.Height i v) = refl
-    same (heard.Refused i q) = refl
+    same : (y : Step) → stepTo (rewriting (r .input) (r .filled) noPart) z y ≡ stepTo r z y
+    same (steps.More i) = refl
+    same (steps.Begun i) = refl
+    same (steps.Height i v) = refl
+    same (steps.Refused i q) = refl
 
-pub hear-owed : (e : Bool) (r : Rewriting) (z : List ℕ) (b : ℕ) (v : List ℕ) → r .part .kind ≡ 0
-    → owed e r z (b ∷ v) ≡ owed e (heardBy r z b .state) (heardBy r z b .row) v
+pub read-owed : (e : Bool) (r : Rewriting) (z : List ℕ) (b : ℕ) (v : List ℕ) → r .part .kind ≡ 0
+    → owed e r z (b ∷ v) ≡ owed e (byteRead r z b .state) (byteRead r z b .row) v
 unfolding owed
-hear-owed e r z b v k =
-    ap (λ l. l ++ owed e (heardBy (settled r) z b .state) (heardBy (settled r) z b .row) v) (left-none r z k)
-    ∙ ap (λ k. owed e (k .state) (k .row) v) (heard-settled r z b k)
+read-owed e r z b v k =
+    ap (λ l. l ++ owed e (byteRead (settled r) z b .state) (byteRead (settled r) z b .row) v) (left-none r z k)
+    ∙ ap (λ k. owed e (k .state) (k .row) v) (read-settled r z b k)
 
 -- the input ends while nothing is being written: what is owed is what its end brings
 pub end-owed : (r : Rewriting) (z : List ℕ) → r .part .kind ≡ 0 → owed true r z [] ≡ owed false (endOf r) z []

@@ -29,41 +29,41 @@ use Rattle.pgm.proofs.HeightLaws.{too-large-says, short-says, surplus-says, who
 use Rattle.picture.specs.Form.{formHead, rowBytes}
 use Rattle.text.specs.Refusal.{refusedLine, answerLine}
 use Rattle.picture.specs.Rewriting.{sizeEnd, pictureOf, cells, heightsIn, wholeRows, rowsOf, bodyOf, rewritingOf, bodyDue, dueOf}
-use Rattle.picture.specs.Hearing.{phased, nay, begins, shapeHeard, nextHeard, heightHeard, hears, endHeard}
-use Rattle.picture.specs.Machine.{partOf, noPart, partText, rewriting, started, leftOn, settled, rowPart, heightKept, heardTo, heardBy}
+use Rattle.picture.specs.InputSteps.{phased, refuse15, begins, shapeRead, nextRead, heightRead, readByte, inputEnded}
+use Rattle.picture.specs.Machine.{partOf, noPart, partText, rewriting, started, leftOn, settled, rowPart, heightKept, stepTo, byteRead}
 use Rattle.picture.specs.Machine.{endTo, endOf, owed, Ran, none, call}
 use Rattle.picture.specs.declared.input.Input.{Input}
-use Rattle.picture.specs.declared.input.Heard.{Heard}
-use Rattle.picture.specs.declared.input.Heard.the-variants as heard
+use Rattle.picture.specs.declared.input.Step.{Step}
+use Rattle.picture.specs.declared.input.Step.the-variants as steps
 use Rattle.picture.specs.declared.input.Ended.{Ended}
 use Rattle.picture.specs.declared.input.Ended.the-variants as ended
 use Rattle.picture.specs.declared.parts.Part.{Part}
 use Rattle.picture.specs.declared.rewriting.Rewriting.{Rewriting}
-use Rattle.picture.proofs.InputCases.{header-case, height-none, hears-0, hears-1, hears-on, end-early, end-over, end-few, end-whole}
-use Rattle.picture.proofs.MachineLaws.{kept-some, left-none, settle-owed, hear-owed, ends-as, end-owed, idle-owed}
+use Rattle.picture.proofs.InputCases.{header-case, height-none, phase-0, phase-1, phase-on, end-early, end-over, end-few, end-whole}
+use Rattle.picture.proofs.MachineLaws.{kept-some, left-none, settle-owed, read-owed, ends-as, end-owed, idle-owed}
 
 abbrev idle : Input → ℕ → Rewriting
 idle i f = rewriting i f noPart
 
--- a byte heard as y
-heard-as : (e : Bool) (i : Input) (f : ℕ) (z : List ℕ) (b : ℕ) (u : List ℕ) (y : Heard) → hears i (length z) b ≡ y
-    → owed e (idle i f) z (b ∷ u) ≡ owed e (heardTo (idle i f) z y .state) (heardTo (idle i f) z y .row) u
-unfolding heardBy
-heard-as e i f z b u y h = hear-owed e (idle i f) z b u refl ∙ ap (λ y. owed e (heardTo (idle i f) z y .state) (heardTo (idle i f) z y .row) u) h
+-- a byte read as y
+read-as : (e : Bool) (i : Input) (f : ℕ) (z : List ℕ) (b : ℕ) (u : List ℕ) (y : Step) → readByte i (length z) b ≡ y
+    → owed e (idle i f) z (b ∷ u) ≡ owed e (stepTo (idle i f) z y .state) (stepTo (idle i f) z y .row) u
+unfolding byteRead
+read-as e i f z b u y h = read-owed e (idle i f) z b u refl ∙ ap (λ y. owed e (stepTo (idle i f) z y .state) (stepTo (idle i f) z y .row) u) h
 
--- the end of the input, heard as y
-ends-to : (i : Input) (f : ℕ) (z : List ℕ) (y : Ended) → y ≡ endHeard i → owed true (idle i f) z [] ≡ leftOn (endTo (idle i f) y) z
+-- the end of the input, read as y
+ends-to : (i : Input) (f : ℕ) (z : List ℕ) (y : Ended) → y ≡ inputEnded i → owed true (idle i f) z [] ≡ leftOn (endTo (idle i f) y) z
 unfolding owed
 ends-to i f z y h =
     end-owed (idle i f) z refl
     ∙ append-nil (leftOn (endOf (idle i f)) z)
     ∙ ap (λ r. leftOn r z) (sym (ends-as (idle i f) y refl h))
 
--- ---- after a refusal nothing is heard
-deaf : (e : Bool) (i : Input) (f : ℕ) (z u : List ℕ) → i .phase ≡ 2 → owed e (idle i f) z u ≡ []
-deaf true i f z [] h = ends-to i f z (ended.Over (phased 2 i)) (end-over i (λ d. omega arith) (λ d. omega arith)) ∙ left-none (idle (phased 2 i) f) z refl
-deaf false i f z [] h = idle-owed (idle i f) z refl
-deaf e i f z (b ∷ u) h = heard-as e i f z b u (heard.More i) (sym (hears-on i (length z) b (λ d. omega arith) (λ d. omega arith))) ∙ deaf e i f z u h
+-- ---- after a refusal nothing is read
+after-refusal : (e : Bool) (i : Input) (f : ℕ) (z u : List ℕ) → i .phase ≡ 2 → owed e (idle i f) z u ≡ []
+after-refusal true i f z [] h = ends-to i f z (ended.Over (phased 2 i)) (end-over i (λ d. omega arith) (λ d. omega arith)) ∙ left-none (idle (phased 2 i) f) z refl
+after-refusal false i f z [] h = idle-owed (idle i f) z refl
+after-refusal e i f z (b ∷ u) h = read-as e i f z b u (steps.More i) (sym (phase-on i (length z) b (λ d. omega arith) (λ d. omega arith))) ∙ after-refusal e i f z u h
 
 refused-left : (i : Input) (f q : ℕ) (z : List ℕ) → leftOn (rewriting i f (partOf 3 q)) z ≡ refusedLine q
 unfolding leftOn partText
@@ -76,7 +76,7 @@ refused-settled i f q = refl
 refused : (e : Bool) (i : Input) (f q : ℕ) (z u : List ℕ) → i .phase ≡ 2 → owed e (rewriting i f (partOf 3 q)) z u ≡ refusedLine q
 refused e i f q z u h =
     settle-owed e (rewriting i f (partOf 3 q)) z u
-    ∙ ap₂ _++_ (refused-left i f q z) (ap (λ r. owed e r z u) (refused-settled i f q) ∙ deaf e i f z u h)
+    ∙ ap₂ _++_ (refused-left i f q z) (ap (λ r. owed e r z u) (refused-settled i f q) ∙ after-refusal e i f z u h)
     ∙ append-nil (refusedLine q)
 
 -- ---- whole rows
@@ -152,21 +152,21 @@ abbrev at : ℕ → Header → ℕ → ℕ → ℕ → ℕ → Bool → ℕ → 
 at p h W H n m half v = record { phase = p; header = h; width = W; height = H; left = n; samples = record { largest = m; half = half; high = v } }
 
 module _ (h : Header) (W H n m room : ℕ) where
-  first-byte : (v b : ℕ) → wide m ≡ true → hears (at 1 h W H (suc n) m false v) room b ≡ heard.More (at 1 h W H (suc n) m true b)
-  unfolding hears heightHeard sampleOf
+  first-byte : (v b : ℕ) → wide m ≡ true → readByte (at 1 h W H (suc n) m false v) room b ≡ steps.More (at 1 h W H (suc n) m true b)
+  unfolding readByte heightRead sampleOf
   first-byte v b e = rw (ne-eqb (suc n) 0 (λ z. omega arith), e)
 
   -- the last byte of a sample u
   abbrev Lasts : Bool → ℕ → ℕ → ℕ → Type 0
-  Lasts x v b u = (leb u m ≡ true → hears (at 1 h W H (suc n) m x v) room b ≡ heard.Height (at 1 h W H n m false 0) u)
-      × (leb u m ≡ false → hears (at 1 h W H (suc n) m x v) room b ≡ heard.Refused (at 2 h W H (suc n) m x v) 16)
+  Lasts x v b u = (leb u m ≡ true → readByte (at 1 h W H (suc n) m x v) room b ≡ steps.Height (at 1 h W H n m false 0) u)
+      × (leb u m ≡ false → readByte (at 1 h W H (suc n) m x v) room b ≡ steps.Refused (at 2 h W H (suc n) m x v) 16)
 
   second-byte : (v b : ℕ) → wide m ≡ true → Lasts true v b (256 * v + b)
-  unfolding hears heightHeard sampleOf sampled
+  unfolding readByte heightRead sampleOf sampled
   second-byte v b e = (λ f. rw (ne-eqb (suc n) 0 (λ z. omega arith), e, f, sub-one (suc n)), λ f. rw (ne-eqb (suc n) 0 (λ z. omega arith), e, f))
 
   lone-byte : (x : Bool) (v b : ℕ) → wide m ≡ false → Lasts x v b b
-  unfolding hears heightHeard sampleOf sampled
+  unfolding readByte heightRead sampleOf sampled
   lone-byte x v b e = (λ f. rw (ne-eqb (suc n) 0 (λ z. omega arith), e, f, sub-one (suc n)), λ f. rw (ne-eqb (suc n) 0 (λ z. omega arith), e, f))
 
 -- the end, with heights still to come
@@ -186,7 +186,7 @@ enough false h W H m x v f z = idle-owed (idle (at 1 h W H 0 m x v) f) z refl
 beyond : (e : Bool) (h : Header) (W H m : ℕ) (x : Bool) (v f b : ℕ) (z u : List ℕ) → owed e (idle (at 1 h W H 0 m x v) f) z (b ∷ u) ≡ refusedLine 15
 beyond e h W H m x v f b z u =
     let i : Input = at 1 h W H 0 m x v in
-    heard-as e i f z b u (nay i) (sym (height-none i b refl ∙ hears-1 i (length z) b (λ d. omega arith) refl)) ∙ refused e (phased 2 i) f 15 z u refl
+    read-as e i f z b u (refuse15 i) (sym (height-none i b refl ∙ phase-1 i (length z) b (λ d. omega arith) refl)) ∙ refused e (phased 2 i) f 15 z u refl
 
 -- ---- a height goes into the row
 set-taken : (z : List ℕ) (f u : ℕ) (l : List ℕ) → f < length z → take (f + 1) (set z f u) ++ l ≡ take f z ++ (u ∷ l)
@@ -273,11 +273,11 @@ module _ (e : Bool) (h : Header) (W H : ℕ) (some : 0 < W) (m : ℕ) where
   lasts : (n f : ℕ) (z : List ℕ) (x : Bool) (v b u : ℕ) (s r : List ℕ) (t : Bool) → leb u m ≡ t
       → Lasts h W H n m (length z) x v b u → Leads m u s r → f < W → W ≤ length z → Owes e h W H m n r → owed e (idle (at 1 h W H (suc n) m x v) f) z (b ∷ r) ≡ heightsDue e W (take f z) m (suc n) s
   lasts n f z x v b u s r true k d l a c g =
-      heard-as e (at 1 h W H (suc n) m x v) f z b r (heard.Height (at 1 h W H n m false 0) u) (d .0 k)
+      read-as e (at 1 h W H (suc n) m x v) f z b r (steps.Height (at 1 h W H n m false 0) u) (d .0 k)
       ∙ put-height e h W H some m n f u z r a c g
       ∙ sym (one-more e W some (take f z) (row-few f z a c) m n u s r l k)
   lasts n f z x v b u s r false k d l a c g =
-      heard-as e (at 1 h W H (suc n) m x v) f z b r (heard.Refused (at 2 h W H (suc n) m x v) 16) (d .1 k)
+      read-as e (at 1 h W H (suc n) m x v) f z b r (steps.Refused (at 2 h W H (suc n) m x v) 16) (d .1 k)
       ∙ refused e (at 2 h W H (suc n) m x v) f 16 z r refl
       ∙ sym (too-large e W some (take f z) (row-few f z a c) m n u s r l k)
 
@@ -286,11 +286,11 @@ module _ (e : Bool) (h : Header) (W H : ℕ) (some : 0 < W) (m : ℕ) where
   pairs w [] (suc n) v f z a c = too-few e h W H n m false v f z ∙ sym (none-short e W some (take f z) (row-few f z a c) m n)
   pairs w (b ∷ r) zero v f z a c = beyond e h W H m false v f b z r ∙ sym (surplus e W some (take f z) (row-few f z a c) m b r)
   pairs w (b ∷ []) (suc n) v f z a c =
-      heard-as e (at 1 h W H (suc n) m false v) f z b [] (heard.More (at 1 h W H (suc n) m true b)) (first-byte h W H n m (length z) v b w)
+      read-as e (at 1 h W H (suc n) m false v) f z b [] (steps.More (at 1 h W H (suc n) m true b)) (first-byte h W H n m (length z) v b w)
       ∙ too-few e h W H n m true b f z
       ∙ sym (half-short e W some (take f z) (row-few f z a c) m n b w)
   pairs w (b ∷ k ∷ r) (suc n) v f z a c =
-      heard-as e (at 1 h W H (suc n) m false v) f z b (k ∷ r) (heard.More (at 1 h W H (suc n) m true b)) (first-byte h W H n m (length z) v b w)
+      read-as e (at 1 h W H (suc n) m false v) f z b (k ∷ r) (steps.More (at 1 h W H (suc n) m true b)) (first-byte h W H n m (length z) v b w)
       ∙ lasts n f z true b k (256 * b + k) (b ∷ k ∷ r) r (leb (256 * b + k) m) refl (second-byte h W H n m (length z) b k w) (leads-two m b k r w)
       a c (pairs w r n)
 
@@ -328,11 +328,11 @@ early k = at 0 k 0 0 0 0 false 0
 
 module _ (e : Bool) (z : List ℕ) (room : maxPictureWidth ≤ length z) where
   -- what is owed of the bytes s after a byte of the header
-  abbrev after : Header → List ℕ → Heard → List ℕ
-  after k s y = owed e (heardTo (idle (early k) 0) z y .state) (heardTo (idle (early k) 0) z y .row) s
+  abbrev after : Header → List ℕ → Step → List ℕ
+  after k s y = owed e (stepTo (idle (early k) 0) z y .state) (stepTo (idle (early k) 0) z y .row) s
 
   begun-due : (k : Header) (w h m : ℕ) (r : List ℕ) → 0 < w → w ≤ maxPictureWidth
-      → after k r (heard.Begun (begins (early k) w h m)) ≡ bodyDue e (record { width = w; height = h; largest = m }) r
+      → after k r (steps.Begun (begins (early k) w h m)) ≡ bodyDue e (record { width = w; height = h; largest = m }) r
   unfolding bodyDue rowsOf
   begun-due k w h m r a b =
       let i : Input = begins (early k) w h m in
@@ -342,15 +342,15 @@ module _ (e : Bool) (z : List ℕ) (room : maxPictureWidth ≤ length z) where
       ∙ sym (append-assoc (formHead w h) (rowBytes (wholeRows w hs)) (answerLine (refusalIn e m (w * h) r)))
 
   shape : (k : Header) (w h m : ℕ) (r : List ℕ) (t : Bool) → sizeFits w h ≡ t
-      → after k r (shapeHeard (early k) (length z) w h m) ≡ pictureDue e (sizeEnd (record { width = w; height = h; largest = m }) r)
-  unfolding shapeHeard sizeEnd
+      → after k r (shapeRead (early k) (length z) w h m) ≡ pictureDue e (sizeEnd (record { width = w; height = h; largest = m }) r)
+  unfolding shapeRead sizeEnd
   shape k w h m r true d =
       let f = size-fits w h d .columns in
       rw (d, le-ltb (length z) w (omega arith)) (begun-due k w h m r (f .0) (f .1))
   shape k w h m r false d = rw d (refused e (phased 2 (early k)) 0 15 z r refl)
 
   step-due : (k : Header) (x : Next) (s : List ℕ) → ((k : Header) → owed e (idle (early k) 0) z s ≡ pictureDue e (andThen (readBy (feed k s)) sizeEnd))
-      → after k s (nextHeard (early k) (length z) x) ≡ pictureDue e (andThen (readBy (stepped (λ y. feed y s) s x)) sizeEnd)
+      → after k s (nextRead (early k) (length z) x) ≡ pictureDue e (andThen (readBy (stepped (λ y. feed y s) s x)) sizeEnd)
   step-due k (next.More y) s g = g y
   step-due k (next.Done w h m) s g = shape k w h m s (sizeFits w h) refl
   step-due k next.Refused s g = refused e (phased 2 (early k)) 0 15 z s refl
@@ -363,8 +363,8 @@ module _ (e : Bool) (z : List ℕ) (room : maxPictureWidth ≤ length z) where
   unfolding feed
   header [] k = ends-early e k
   header (b ∷ s) k =
-      let y : Heard = nextHeard (early k) (length z) (stepOf k b) in
-      heard-as e (early k) 0 z b s y (sym (header-case (early k) (length z) b (stepOf k b) refl ∙ hears-0 (early k) (length z) b refl))
+      let y : Step = nextRead (early k) (length z) (stepOf k b) in
+      read-as e (early k) 0 z b s y (sym (header-case (early k) (length z) b (stepOf k b) refl ∙ phase-0 (early k) (length z) b refl))
       ∙ step-due k (stepOf k b) s (header s)
 
 as-due : (e : Bool) (s : List ℕ) → pictureDue e (andThen (headerOf s) sizeEnd) ≡ dueOf e s

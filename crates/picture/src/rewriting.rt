@@ -1,7 +1,7 @@
 // The rewriting: bytes of a PGM in, bytes of the fixed form out. Each row is written when it is whole, before more input is read.
 use crate::input::Ended;
-use crate::input::Heard;
 use crate::input::Input;
+use crate::input::Step;
 use crate::parts;
 use crate::parts::Part;
 use pgm::limits;
@@ -11,7 +11,7 @@ ghost use lib.Dec.{eqb};
 ghost use lib.ListN.{length, getD};
 ghost use Rattle.numbers.specs.Signal.{pick};
 ghost use Rattle.pgm.specs.Limits.{maxPictureWidth};
-ghost use Rattle.picture.specs.Machine.{partOf, started, settled, doneOn, rowPart, heightKept, heardBy, Writes, Went, Stops, Onward, endOf};
+ghost use Rattle.picture.specs.Machine.{partOf, started, settled, doneOn, rowPart, heightKept, byteRead, Writes, Went, Stops, Onward, endOf};
 
 pub struct Rewriting {
     pub input: Input,
@@ -100,25 +100,25 @@ impl Rewriting {
     }
 
     // One byte of the input, while nothing is being written.
-    fn hear(self, byte: u8, row: &mut [u16]) -> Self
-        ensures { λ r. ⌜ r ≡ heardBy self (now (row .entry)) byte .state ⌝ }
-        ensures { λ r. ⌜ now (row .exit) ≡ heardBy self (now (row .entry)) byte .row ⌝ }
+    fn read(self, byte: u8, row: &mut [u16]) -> Self
+        ensures { λ r. ⌜ r ≡ byteRead self (now (row .entry)) byte .state ⌝ }
+        ensures { λ r. ⌜ now (row .exit) ≡ byteRead self (now (row .entry)) byte .row ⌝ }
     {
         let input = self.input;
         let filled = self.filled;
-        match input.hear(byte, row.len()) {
-            Heard::More(next) => Rewriting {
+        match input.read(byte, row.len()) {
+            Step::More(next) => Rewriting {
                 input: next,
                 filled,
                 part: part_of(0, 0),
             },
-            Heard::Begun(next) => Rewriting {
+            Step::Begun(next) => Rewriting {
                 input: next,
                 filled: 0,
                 part: part_of(1, 0),
             },
-            Heard::Height(next, height) => keep(next, filled, height, row),
-            Heard::Refused(next, number) => Rewriting {
+            Step::Height(next, height) => keep(next, filled, height, row),
+            Step::Refused(next, number) => Rewriting {
                 input: next,
                 filled,
                 part: part_of(3, number),
@@ -211,10 +211,10 @@ struct Turned {
 
 fn read_on(rewriting: Rewriting, piece: &[u8], used: usize, row: &mut [u16]) -> Rewriting
     requires { ⌜ used < length (now piece) ⌝ }
-    ensures { λ r. ⌜ r ≡ heardBy rewriting (now (row .entry)) (getD (now (piece .entry)) used 0) .state ⌝ }
-    ensures { λ r. ⌜ now (row .exit) ≡ heardBy rewriting (now (row .entry)) (getD (now (piece .entry)) used 0) .row ⌝ }
+    ensures { λ r. ⌜ r ≡ byteRead rewriting (now (row .entry)) (getD (now (piece .entry)) used 0) .state ⌝ }
+    ensures { λ r. ⌜ now (row .exit) ≡ byteRead rewriting (now (row .entry)) (getD (now (piece .entry)) used 0) .row ⌝ }
 {
-    rewriting.hear(piece[used], row)
+    rewriting.read(piece[used], row)
 }
 
 struct Written {

@@ -1,11 +1,11 @@
--- `reading::read_run` meets its contract: the heights are offered together, or the next byte is heard where there are none or the writer turns them away. Assumes nothing.
+-- `reading::read_run` meets its contract: the heights are offered together, or the next byte is read where there are none or the writer turns them away. Assumes nothing.
 use mathlib.Core.Path.{sym, ap, _∙_}
 use native.Mathlib.Omega.{arith}
 use lib.ListN.{length}
 use lib.Seq.{length-take-le}
 use Rattle.numbers.specs.Signal.{at}
 use Rattle.writer.specs.Answers.{ofOffered}
-use Rattle.listing.specs.Scenes.{scene}
+use Rattle.listing.specs.States.{stateOf}
 use borrow.Author.Needs.{needs}
 use Rattle.listing.proofs.ReadingMoves.{run-read, back-size, back-room, taken-room, heights-on, offer-kept, still-there}
 use Rattle.listing.proofs.reading.read_run.Statement.{statement}
@@ -79,7 +79,7 @@ mul-t36 c =
     let l = r .before .before in
     let st = l .before .before .before .before .before .before in
     let a = st .args in
-    let s = scene (a .listing) (at (a .store .now)) (at (a .row .now)) in
+    let s = stateOf (a .listing) (at (a .store .now)) (at (a .row .now)) in
     let run = run-read s (a .piece .now) (a .run .now) (r .read .last .1 .1 .1 .0) (a .used) (l .least .result) (r .read .result) (l .least .ensures) (e .if1 .left) (st .pre .4) (r .read .ensures .0) (r .read .ensures .1) in
     let reply = sym (ap ofOffered (t .taken .given .1)) ∙ o .offer .ensures .0 in
     rw (c .size .ensures) (omega (arith, taken-room (length (a .store .now)) (length (a .row .now)) s _ _ _ _ _ run reply))
@@ -94,7 +94,7 @@ add-t37 c =
     let l = r .before .before in
     let st = l .before .before .before .before .before .before in
     let a = st .args in
-    let s = scene (a .listing) (at (a .store .now)) (at (a .row .now)) in
+    let s = stateOf (a .listing) (at (a .store .now)) (at (a .row .now)) in
     let run = run-read s (a .piece .now) (a .run .now) (r .read .last .1 .1 .1 .0) (a .used) (l .least .result) (r .read .result) (l .least .ensures) (e .if1 .left) (st .pre .4) (r .read .ensures .0) (r .read .ensures .1) in
     let reply = sym (ap ofOffered (t .taken .given .1)) ∙ o .offer .ensures .0 in
     rw (c .size .ensures) (omega (arith, taken-room (length (a .store .now)) (length (a .row .now)) s _ _ _ _ _ run reply))
@@ -130,7 +130,7 @@ returns-2 c =
     let l = r .before .before in
     let st = l .before .before .before .before .before .before in
     let a = st .args in
-    let s = scene (a .listing) (at (a .store .now)) (at (a .row .now)) in
+    let s = stateOf (a .listing) (at (a .store .now)) (at (a .row .now)) in
     let run = run-read s (a .piece .now) (a .run .now) (r .read .last .1 .1 .1 .0) (a .used) (l .least .result) (r .read .result) (l .least .ensures) (e .if1 .left) (st .pre .4) (r .read .ensures .0) (r .read .ensures .1) in
     let reply = sym (ap ofOffered (t .taken .given .1)) ∙ o .offer .ensures .0 in
     rw (c .size .ensures) (heights-on (length (a .store .now)) (length (a .row .now)) s _ _ _ _ _ run reply _ _ _ _ (st .pre .0) (st .pre .1) (st .pre .2) (o .offer .kept .1 .0) (k .took .ensures) (o .offer .ensures .1 .0) (d .draw .ensures))

@@ -2,7 +2,7 @@
 use mathlib.Core.Path.{ap, _∙_}
 use lib.ListN.{length}
 use Rattle.numbers.specs.Signal.{at}
-use Rattle.listing.specs.Scenes.{listed}
+use Rattle.listing.specs.States.{listed}
 use Rattle.listing.proofs.WritingMoves.{some-values}
 use Rattle.listing.proofs.NextLaws.{least-first, least-second, below-least, up-to, then-less, begins}
 use Rattle.listing.proofs.writing.write_values.Statement.{statement}

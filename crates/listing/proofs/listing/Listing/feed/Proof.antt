@@ -1,14 +1,14 @@
 -- `Listing::feed` meets its contract: turns one after the other, until one says that it stops. The measure is what is left of the piece and of the area. Assumes nothing.
 use lib.ListN.{length}
 use Rattle.numbers.specs.Signal.{at}
-use Rattle.listing.specs.Scenes.{scene}
+use Rattle.listing.specs.States.{stateOf}
 use Rattle.listing.proofs.TurnLaws.{Gone, start, size, piece-room, area-room, turned, stops, left, turn-less}
 use Rattle.listing.proofs.listing.Listing.feed.Statement.{statement}
 use Rattle.listing.proofs.listing.Listing.feed.Tie as tie
 
 abbrev Inv-loop : tie.InvT-loop
 Inv-loop piece store₀ row₀ out₀ state₀ used₀ written₀ going₀ store row out state used written going =
-    Gone (length store₀) (length row₀) (scene state₀ (at store₀) (at row₀)) piece out₀ state store row out used written going
+    Gone (length store₀) (length row₀) (stateOf state₀ (at store₀) (at row₀)) piece out₀ state store row out used written going
 
 abbrev μ-loop : tie.MeasureT-loop
 μ-loop piece store₀ row₀ out₀ state₀ used₀ written₀ going₀ store row out state used written going =

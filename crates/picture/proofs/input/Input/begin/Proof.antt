@@ -1,7 +1,7 @@
 -- `Input::begin` meets its contract: the definition's tests. Assumes nothing.
 use mathlib.Core.Path.{_≡_, ap, _∙_}
 use Rattle.pgm.proofs.LimitLaws.{cells-none, cells-some}
-use Rattle.picture.specs.declared.input.Heard.the-variants as heard
+use Rattle.picture.specs.declared.input.Step.the-variants as steps
 use Rattle.picture.proofs.InputCases.{shape-no, shape-short, shape-yes}
 use Rattle.picture.proofs.input.Input.begin.Statement.{statement}
 use Rattle.picture.proofs.input.Input.begin.Tie as tie
@@ -15,7 +15,7 @@ at-phase-requires c κs = tt
 returns : tie.Need-returns
 returns c =
     let d = c .before in
-    ap (λ x. heard.Refused x 15) (c .at-phase .ensures) ∙ shape-no _ _ _ _ _ (cells-none _ _ _ (d .before .cells .ensures) (d .if1 .taken))
+    ap (λ x. steps.Refused x 15) (c .at-phase .ensures) ∙ shape-no _ _ _ _ _ (cells-none _ _ _ (d .before .cells .ensures) (d .if1 .taken))
 
 at-phase-requires-2 : tie.Need-at-phase-requires-2
 at-phase-requires-2 c κs = tt
@@ -24,7 +24,7 @@ returns-2 : tie.Need-returns-2
 returns-2 c =
     let d = c .before in
     let e = d .before in
-    ap (λ x. heard.Refused x 5) (c .at-phase2 .ensures)
+    ap (λ x. steps.Refused x 5) (c .at-phase2 .ensures)
     ∙ shape-short _ _ _ _ _ (cells-some _ _ _ (e .before .cells .ensures) (e .if1 .left) .0) (d .if2 .taken)
 
 start-requires : tie.Need-start-requires
