@@ -1,4 +1,5 @@
--- The text of the rows drawn from a writer is the lines that the heights taken make due: all of them once no row waits (`lines-due`), the first of them before (`lines-prefix`). By demand 3 of the writer; assumes nothing.
+-- The text of the rows drawn from a writer is the lines that the heights taken make due: all of them once no row waits (`lines-due`), the first of
+-- them before (`lines-prefix`). By demand 3 of the writer; assumes nothing.
 use mathlib.Core.Bool.{true}
 use mathlib.Core.Path.{_≡_, refl, sym, ap, ap₂, _∙_}
 use mathlib.Core.List.{List, [], _∷_, _++_, map, append-nil, append-assoc, cons≢nil, head-eq-of-cons-eq, tail-eq-of-cons-eq}
@@ -105,7 +106,8 @@ module _ (W L n : ℕ) (x : Memory) (ready : setUpQuestion W L n ≡ 0) (cs : Li
   abbrev q : Shape
   q = record { width = W; height = H; levels = L }
 
-  module _ (some : 1 ≤ H) (limit : H ≤ maxHeight) (small : All (λ h. h ≤ maxSample) (taken es)) (within : length (taken es) ≤ W * H) (all : finishedBy es ≡ true → length (taken es) ≡ W * H) where
+  module _ (some : 1 ≤ H) (limit : H ≤ maxHeight) (small : All (λ h. h ≤ maxSample) (taken es)) (within : length (taken es) ≤ W * H)
+      (all : finishedBy es ≡ true → length (taken es) ≡ W * H) where
     -- the lines drawn, and those of the rows that wait
     pub lines-all : (sizeLine W H L ++ drawnText (drawn es)) ++ linesOf W H (gridOf W (taken es)) (waitingOf W L es) ≡ linesDue q (taken es) (finishedBy es)
     unfolding linesDue waitingOf madeOf wholeRows
@@ -113,7 +115,8 @@ module _ (W L n : ℕ) (x : Memory) (ready : setUpQuestion W L n ≡ 0) (cs : Li
         let d = demand-3 W L n x ready cs .1 in
         append-assoc (sizeLine W H L) (drawnText (drawn es)) _
         ∙ ap (λ t. sizeLine W H L ++ t)
-        (lines-same W H (gridOf W (taken es)) (drawn es) (madeOf W L es) (d .values H (gridOf W (taken es)) (grid-map-of W H es some limit small within all)) (d .in-order))
+        (lines-same W H (gridOf W (taken es)) (drawn es) (madeOf W L es) (d .values H (gridOf W (taken es)) (grid-map-of W H es some limit small within all))
+        (d .in-order))
 
     pub lines-prefix : (r : List ℕ) × ((sizeLine W H L ++ drawnText (drawn es)) ++ r ≡ linesDue q (taken es) (finishedBy es))
     lines-prefix = (linesOf W H (gridOf W (taken es)) (waitingOf W L es), lines-all)

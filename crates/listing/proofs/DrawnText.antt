@@ -5,9 +5,9 @@ use Prim.Native.Nat.{ℕ}
 use Rattle.writer.specs.History.{DrawnRow}
 use Rattle.text.specs.Refusal.{refusedLine, answerLine}
 use Rattle.listing.specs.Lines.{spaced}
-use Rattle.listing.specs.Listing.{Shape, linesDue}
+use Rattle.listing.specs.Listing.{linesDue}
 use Rattle.listing.specs.Parts.{headText, headPart}
-use Rattle.listing.specs.Events.{Event, begins, height, refusal, Ending, whole, few, over, Reading}
+use Rattle.listing.specs.Events.{Event, begins, height, refusal, whole, few, over, Reading}
 
 -- a drawn row as the code writes it
 unfoldable pub drawnLine : DrawnRow → List ℕ

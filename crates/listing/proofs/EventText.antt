@@ -1,4 +1,5 @@
--- What the definition says is due of the bytes read is what is due of the events that they bring (`due-events`), and with the end of the input too (`listing-events`). Assumes nothing.
+-- What the definition says is due of the bytes read is what is due of the events that they bring (`due-events`), and with the end of the input too
+-- (`listing-events`). Assumes nothing.
 use mathlib.Core.Bool.{Bool, true, false}
 use mathlib.Core.Path.{_≡_, refl, sym, ap, ap₂, _∙_}
 use mathlib.Core.List.{List, [], _∷_, _++_, map, append-nil}
@@ -12,7 +13,8 @@ use Rattle.pgm.specs.Header.{Read, found, short, wrong}
 use Rattle.text.specs.Refusal.{refusedLine, answerLine}
 use Rattle.pgm.specs.Heights.{heightsTaken, tooLarge, bytesOf, refusalIn}
 use Rattle.listing.specs.Listing.{Shape, Head, cells, headOf, linesDue, bodyOf, bodyDue, listingOf, dueOf}
-use Rattle.listing.specs.Events.{Event, begins, height, refusal, answerEvents, Ending, whole, few, over, Reading, withEvent, heightsReading, headReading, readingOf}
+use Rattle.listing.specs.Events.{Event, begins, height, answerEvents, Ending, whole, few, over, Reading, withEvent, heightsReading}
+use Rattle.listing.specs.Events.{headReading, readingOf}
 use Rattle.listing.proofs.DrawnText.{heightsIn, refusedIn, textOf, endText}
 
 -- ---- the events of some heights, and then some more
@@ -73,7 +75,8 @@ progressOf q l u s t = record { events = begins q ∷ (map height l ++ answerEve
 end-body : (q : Shape) (l : List ℕ) (u s t : Bool) → (s ≡ true → t ≡ false)
     → pick u (linesDue q l false ++ refusedLine 16) (pick s (linesDue q l true) (linesDue q l false ++ refusedLine 15)) ≡ endText (progressOf q l u s t)
 end-body q l true s t h = sym (text-of false q l 16)
-end-body q l false true t h = sym (append-nil (linesDue q l true)) ∙ ap (λ b. linesDue q l true ++ answerLine (answer false b)) (sym (h refl)) ∙ sym (text-of true q l (answer false t))
+end-body q l false true t h =
+    sym (append-nil (linesDue q l true)) ∙ ap (λ b. linesDue q l true ++ answerLine (answer false b)) (sym (h refl)) ∙ sym (text-of true q l (answer false t))
 end-body q l false false true h = sym (text-of false q l 15)
 end-body q l false false false h = ap (λ k. k ++ refusedLine 15) (sym (append-nil (linesDue q l false)) ∙ sym (text-of false q l 0))
 

@@ -1,11 +1,9 @@
 -- What a byte brings, case by case. Assumes nothing.
-use mathlib.Core.Path.{_≡_, refl, sym, ap, _∙_}
-use mathlib.Core.Bool.{Bool, true, false}
-use Prim.Native.Nat.{ℕ, _+_, _-_, _*_, _≤_, _<_}
+use mathlib.Core.Path.{_≡_, ap}
+use mathlib.Core.Bool.{true, false}
+use Prim.Native.Nat.{ℕ, _-_, _*_, _≤_, _<_}
 use native.Mathlib.Omega.{arith}
-use lib.Dec.{leb, ltb, eqb}
 use borrow.Author.Tests.{eq-eqb, ne-eqb, lt-ltb, le-ltb, le-leb, lt-leb}
-use Rattle.numbers.specs.Signal.{pick}
 use Rattle.wavelet.specs.Questions.{within}
 use Rattle.pgm.specs.Samples.{noByte, sampleOf}
 use Rattle.pgm.specs.Steps.{stepOf}
@@ -14,11 +12,10 @@ use Rattle.pgm.specs.declared.samples.Samples.{Samples}
 use Rattle.pgm.specs.declared.samples.Sample.{Sample}
 use Rattle.pgm.specs.Limits.{sizeFits}
 use Rattle.listing.specs.Listing.{levelDigit}
-use Rattle.listing.specs.InputSteps.{phased, refuse15, levelsRead, lineFeedRead, shapeRead, nextRead, headerRead, sampleRead, heightRead, readByte, inputEnded}
+use Rattle.listing.specs.InputSteps.{phased, refuse15, levelsRead, lineFeedRead, shapeRead, nextRead, headerRead, sampleRead, heightRead, readByte}
+use Rattle.listing.specs.InputSteps.{inputEnded}
 use Rattle.listing.specs.declared.input.Input.{Input}
-use Rattle.listing.specs.declared.input.Step.{Step}
 use Rattle.listing.specs.declared.input.Step.the-variants as steps
-use Rattle.listing.specs.declared.input.Ended.{Ended}
 use Rattle.listing.specs.declared.input.Ended.the-variants as ended
 
 module _ (i : Input) (b : ℕ) where
@@ -30,7 +27,8 @@ module _ (i : Input) (b : ℕ) where
   unfolding levelsRead levelDigit within
   levels-above h g = rw (le-leb 49 b h, lt-leb b 53 g)
 
-  pub levels-yes : 49 ≤ b → b ≤ 53 → steps.More (record { phase = 1; levels = b - 48; header = i .header; left = i .left; samples = i .samples }) ≡ levelsRead i b
+  pub levels-yes : 49 ≤ b → b ≤ 53 → steps.More
+      (record { phase = 1; levels = b - 48; header = i .header; left = i .left; samples = i .samples }) ≡ levelsRead i b
   unfolding levelsRead levelDigit within
   levels-yes h g = rw (le-leb 49 b h, le-leb b 53 g)
 

@@ -1,29 +1,31 @@
--- What is read byte by byte is what the definition reads of the bytes (`read-all`), and reading can be cut anywhere (`cut-events`, `cut-input`). Assumes nothing.
-use mathlib.Core.Path.{_≡_, refl, sym, ap, _∙_}
+-- What is read byte by byte is what the definition reads of the bytes (`read-all`), and reading can be cut anywhere (`cut-events`, `cut-input`).
+-- Assumes nothing.
+use mathlib.Core.Path.{_≡_, refl, ap, _∙_}
 use mathlib.Core.Bool.{Bool, true, false}
-use mathlib.Core.List.{List, [], _∷_, _++_, map}
-use Prim.Native.Nat.{ℕ, zero, suc, _+_, _-_, _*_, _≤_, _<_}
+use mathlib.Core.List.{List, [], _∷_, _++_}
+use Prim.Native.Nat.{ℕ, zero, suc, _+_, _-_, _*_, _<_}
 use native.Mathlib.Omega.{arith}
-use native.Mathlib.Decide.{ℕ-discrete, decLt}
 use native.Mathlib.Numerals.{sub-one}
 use lib.Dec.{leb, ltb, eqb}
-use lib.ListN.{length, take}
-use borrow.Author.Tests.{lt-ltb, le-ltb, eq-eqb, ne-eqb}
+use lib.ListN.{length}
+use borrow.Author.Tests.{lt-ltb, le-ltb, ne-eqb}
 use Rattle.numbers.specs.Signal.{pick}
 use Rattle.pgm.specs.Characters.{digitValue}
 use Rattle.pgm.specs.Header.{Read, found, short, wrong, andThen, is, one, Size, headerOf}
 use Rattle.pgm.specs.Steps.{begun, stepOf, feed, stepped, readBy}
-use Rattle.pgm.specs.Samples.{wide, sampleSize, pairsOf, samplesOf, fitting, exceeds, heightsOf, noByte, sampled, sampleOf}
+use Rattle.pgm.specs.Samples.{wide, sampleSize, pairsOf, samplesOf, fitting, exceeds, heightsOf, sampled, sampleOf}
 use Rattle.pgm.specs.declared.header.Header.{Header}
 use Rattle.pgm.specs.declared.header.Next.{Next}
 use Rattle.pgm.specs.declared.header.Next.the-variants as next
 use Rattle.pgm.specs.Limits.{sizeFits}
-use Rattle.pgm.specs.Heights.{heightsTaken, tooLarge, bytesOf, refusalIn}
+use Rattle.pgm.specs.Heights.{heightsTaken, tooLarge, refusalIn}
 use Rattle.pgm.proofs.HeaderReads.{reads}
 use Rattle.pgm.proofs.HeightLaws.{Leads, leads-two, leads-one, more-lt, more-eq, no-sample, some-byte, bytes-none}
-use Rattle.listing.specs.Listing.{Shape, Head, levelDigit, headEnd, headOf, cells}
-use Rattle.listing.specs.InputSteps.{atStart, phased, refuse15, levelsRead, lineFeedRead, shapeRead, nextRead, headerRead, sampleRead, heightRead, readByte, inputEnded}
-use Rattle.listing.specs.Events.{Event, begins, height, refusal, answerEvents, Ending, whole, few, over, Reading, withEvent, heightsReading, nothingYet, refusedReading, headReading, readingOf, Progress, andOn, stepThen, readAll, endingOf, sum}
+use Rattle.listing.specs.Listing.{Head, levelDigit, headEnd, headOf}
+use Rattle.listing.specs.InputSteps.{atStart, levelsRead, lineFeedRead, shapeRead, nextRead, headerRead, heightRead}
+use Rattle.listing.specs.InputSteps.{readByte, inputEnded}
+use Rattle.listing.specs.Events.{begins, height, refusal, whole, over, Reading, withEvent, heightsReading}
+use Rattle.listing.specs.Events.{nothingYet, refusedReading, headReading, readingOf, andOn, stepThen, readAll, sum}
 use Rattle.listing.specs.declared.input.Input.{Input}
 use Rattle.listing.specs.declared.input.Step.{Step}
 use Rattle.listing.specs.declared.input.Step.the-variants as steps
@@ -39,7 +41,8 @@ after-refusal L h n m x v [] = refl
 after-refusal L h n m x v (b ∷ s) = after-refusal L h n m x v s
 
 -- a refusal, and nothing more
-refused : (q L : ℕ) (h : Header) (n m : ℕ) (x : Bool) (v : ℕ) (s : List ℕ) → sum (andOn (refusal q) (readAll (at 4 L h n m x v) s)) ≡ record { events = refusal q ∷ []; ending = over }
+refused : (q L : ℕ) (h : Header) (n m : ℕ) (x : Bool) (v : ℕ) (s : List ℕ)
+    → sum (andOn (refusal q) (readAll (at 4 L h n m x v) s)) ≡ record { events = refusal q ∷ []; ending = over }
 refused q L h n m x v s = ap (withEvent (refusal q)) (after-refusal L h n m x v s)
 
 -- ---- heights, as the definition reads them
@@ -125,7 +128,8 @@ unfolding readAll readByte heightRead inputEnded
 singles L h m w [] zero v = all-there m
 singles L h m w [] (suc n) v = too-few L h n m false v ∙ none-short m n
 singles L h m w (b ∷ r) zero v = refused 15 L h zero m false v r ∙ surplus m b r
-singles L h m w (b ∷ r) (suc n) v = lasts L h n m false v b b (b ∷ r) r (leb b m) refl (lone-byte L h n m false v b w) (leads-one m b r w) (singles L h m w r n 0)
+singles L h m w (b ∷ r) (suc n) v =
+    lasts L h n m false v b b (b ∷ r) r (leb b m) refl (lone-byte L h n m false v b w) (leads-one m b r w) (singles L h m w r n 0)
 
 heights : (r : List ℕ) (L : ℕ) (h : Header) (n m v : ℕ) → sum (readAll (at 3 L h n m false v) r) ≡ heightsReading m n r
 heights r L h n m v = go (wide m) refl

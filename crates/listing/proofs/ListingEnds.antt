@@ -36,7 +36,8 @@ use Rattle.listing.proofs.ListingReads.{differ}
 -- the events E came, and then the end: all heights came, too few did, or a question had said no
 pub data EndReached (n k : ℕ) (E : List Event) (o : List ℕ) (s : State) : Ending → Type 0 where
   all-came : Reached n k E true o s → EndReached n k E o s whole
-  few-came : Reached n k (E ++ (refusal 15 ∷ [])) false o s → textOf false (E ++ (refusal 15 ∷ [])) ≡ textOf false E ++ refusedLine 15 → EndReached n k E o s few
+  few-came : Reached n k (E ++ (refusal 15 ∷ [])) false o s → textOf false (E ++ (refusal 15 ∷ [])) ≡ textOf false E ++ refusedLine 15
+      → EndReached n k E o s few
   was-over : Reached n k E false o s → EndReached n k E o s over
 
 pub record EndOut (n k : ℕ) (E : List Event) (o : List ℕ) (s : State) (y : Ending) : Type 0 where
@@ -85,21 +86,28 @@ module _ (n k : ℕ) (store : storeLength maxPictureWidth 5 ≤ n) (row : maxPic
     finish-begun : Begun n k W H L hs 0 true o (finishState n k j w (s .store) (s .row))
     finish-begun =
         subst (Begun n k W H L hs 0 true o) (sym finish-is)
-        (draw-begun n k W H L (set-up-in n store b) (omega (arith, b .columns)) j (out .writer) (finishStore w n (s .store)) (s .row) hs true o (e .drawn) (out .ran)
+        (draw-begun n k W H L (set-up-in n store b) (omega (arith, b .columns)) j (out .writer) (finishStore w n (s .store)) (s .row) hs true o (e .drawn)
+        (out .ran)
         (idle-text k s o _ idle (e .text) ∙ append-nil _))
 
     finish-input : finishState n k j w (s .store) (s .row) .listing .input ≡ j
-    finish-input = ap (λ t. t .listing .input) finish-is ∙ drawn-input n k W H L (set-up-in n store b) (omega (arith, b .columns)) j (out .writer) (finishStore w n (s .store)) (s .row) hs true (e .drawn) (out .ran)
+    finish-input =
+        ap (λ t. t .listing .input) finish-is ∙ drawn-input n k W H L (set-up-in n store b) (omega (arith, b .columns)) j (out .writer)
+        (finishStore w n (s .store)) (s .row) hs true (e .drawn) (out .ran)
 
   -- ---- the cases
-  reads-end : (E : List Event) (W H L : ℕ) (hs : List ℕ) (o : List ℕ) → E ≡ eventsOf W H L hs 0 → ShapeIn W H L → All (λ h. h ≤ maxSample) hs → Begun n k W H L hs 0 false o s
+  reads-end : (E : List Event) (W H L : ℕ) (hs : List ℕ) (o : List ℕ) → E ≡ eventsOf W H L hs 0 → ShapeIn W H L → All (λ h. h ≤ maxSample) hs
+      → Begun n k W H L hs 0 false o s
       → i .phase ≡ 3 → i .left + length hs ≡ W * H → Ends E o
   reads-end E W H L hs o a b c e p l =
       elim (decLt 0 (i .left)) [
         | yes q ↦
             by E o (ended.Short (phased 4 i)) (end-few i (omega arith) (omega arith) q)
             (record {
-              reached = few-came (begun W H L hs 15 (ap (λ l. l ++ (refusal 15 ∷ [])) a ∙ then-refused W H L hs 15 (omega arith)) b c (shut (omega arith) (omega arith) (λ z. absurd (differ z))) (turned-begun n k W H L hs false o s (phased 4 i) 15 (omega arith) idle e)) (rw a (refusal-text W H L hs));
+              reached =
+                  few-came (begun W H L hs 15 (ap (λ l. l ++ (refusal 15 ∷ [])) a ∙ then-refused W H L hs 15 (omega arith)) b c
+                  (shut (omega arith) (omega arith) (λ z. absurd (differ z)))
+                  (turned-begun n k W H L hs false o s (phased 4 i) 15 (omega arith) idle e)) (rw a (refusal-text W H L hs));
               sane = phased-sane i sane;
               after-refusal = omega arith;
             })
@@ -108,7 +116,9 @@ module _ (n k : ℕ) (store : storeLength maxPictureWidth 5 ≤ n) (row : maxPic
             let d = finish-input W H L hs o b e g (phased 4 i) in
             by E o (ended.Whole (phased 4 i)) (end-whole i (omega arith) (omega arith) (omega arith))
             (record {
-              reached = all-came (begun W H L hs 0 a b c (shut (subst (λ j. 3 < j .phase) (sym d) (omega arith)) (omega arith) (λ _. g)) (finish-begun W H L hs o b e g (phased 4 i)));
+              reached =
+                  all-came (begun W H L hs 0 a b c (shut (subst (λ j. 3 < j .phase) (sym d) (omega arith)) (omega arith) (λ _. g))
+                  (finish-begun W H L hs o b e g (phased 4 i)));
               sane = subst Sane (sym d) (phased-sane i sane);
               after-refusal = subst (λ j. 3 < j .phase) (sym d) (omega arith);
             })
@@ -118,11 +128,15 @@ module _ (n k : ℕ) (store : storeLength maxPictureWidth 5 ≤ n) (row : maxPic
   end-reached {E} {o} (quiet a b c d e) =
       by E o (ended.Short (phased 4 i)) (end-early i c)
       (record {
-        reached = few-came (refused 15 (ap (λ l. l ++ (refusal 15 ∷ [])) a) refl (omega arith) (omega arith) (ap (λ l. l ++ lineLeft k (s .row) (refusedPart 15)) e ∙ left-refused k (s .row) 15)) (rw a refusal-first);
+        reached =
+            few-came (refused 15 (ap (λ l. l ++ (refusal 15 ∷ [])) a) refl (omega arith) (omega arith)
+            (ap (λ l. l ++ lineLeft k (s .row) (refusedPart 15)) e ∙ left-refused k (s .row) 15)) (rw a refusal-first);
         sane = phased-sane i sane;
         after-refusal = omega arith;
       })
-  end-reached {E} {o} (refused q a b c d e) = by E o ended.Before (end-over i c) (record { reached = was-over (refused q a b c d e); sane = sane; after-refusal = c })
-  end-reached {E} {o} (begun W H L hs number a b c (shut d g h) e) = by E o ended.Before (end-over i d) (record { reached = was-over (begun W H L hs number a b c (shut d g h) e); sane = sane; after-refusal = d })
+  end-reached {E} {o} (refused q a b c d e) =
+      by E o ended.Before (end-over i c) (record { reached = was-over (refused q a b c d e); sane = sane; after-refusal = c })
+  end-reached {E} {o} (begun W H L hs number a b c (shut d g h) e) =
+      by E o ended.Before (end-over i d) (record { reached = was-over (begun W H L hs number a b c (shut d g h) e); sane = sane; after-refusal = d })
   end-reached {E} {o} (begun W H L hs number a b c (reads d g j l) e) =
       reads-end E W H L hs o (a ∙ ap (eventsOf W H L hs) d) b c (subst (λ r. Begun n k W H L hs r false o s) d e) j l

@@ -1,17 +1,13 @@
--- The head is there (`begin-reached`), heights are offered (`offered-begun`), a question says no (`turned-begun`): what a listing has reached then. Assumes nothing.
+-- The head is there (`begin-reached`), heights are offered (`offered-begun`), a question says no (`turned-begun`): what a listing has reached then.
+-- Assumes nothing.
 use mathlib.Core.Path.{_≡_, refl, sym, ap, subst, _∙_}
 use mathlib.Core.Bool.{Bool, true, false}
 use mathlib.Core.List.{List, [], _∷_, _++_, map, append-nil}
 use Prim.Native.Nat.{ℕ, zero, suc, _+_, _-_, _*_, _≤_, _<_}
 use native.Mathlib.Omega.{arith}
-use lib.Dec.{leb}
 use lib.ListN.{length, take}
-use borrow.Author.Tests.{leb-true}
-use Rattle.numbers.specs.Signal.{both}
-use Rattle.numbers.proofs.Sweep.{both as split-both}
 use Rattle.wavelet.specs.Limits.{maxHeight}
 use Rattle.wavelet.specs.Store.{storeLength}
-use Rattle.wavelet.specs.Questions.{within}
 use Rattle.writer.specs.Level.{Memory}
 use Rattle.writer.specs.Questions.{setUpQuestion}
 use Rattle.writer.specs.Answers.{gives, Took}
@@ -66,7 +62,8 @@ module _ (W H L : ℕ) (hs : List ℕ) where
   then-refused (suc q) h = ap (λ l. begins (record { width = W; height = H; levels = L }) ∷ (l ++ (refusal (suc q) ∷ []))) (append-nil (map height hs))
 
 -- the same writer and store, no line
-pub still : (n k W H L : ℕ) (hs : List ℕ) (number : ℕ) (f : Bool) (o : List ℕ) (s : State) (i : Input) → Idle s → Begun n k W H L hs number f o s → Begun n k W H L hs number f o (stateOf (listed i (s .listing .writer) noLine) (s .store) (s .row))
+pub still : (n k W H L : ℕ) (hs : List ℕ) (number : ℕ) (f : Bool) (o : List ℕ) (s : State) (i : Input) → Idle s → Begun n k W H L hs number f o s
+    → Begun n k W H L hs number f o (stateOf (listed i (s .listing .writer) noLine) (s .store) (s .row))
 still n k W H L hs number f o s i e b = record {
   drawn = b .drawn;
   ran = b .ran;
@@ -86,7 +83,9 @@ pub turned-begun : (n k W H L : ℕ) (hs : List ℕ) (f : Bool) (o : List ℕ) (
 turned-begun n k W H L hs f o s i q some e b = record {
   drawn = b .drawn;
   ran = b .ran;
-  text = ap (λ y. o ++ y) (left-refused k (s .row) q ∙ said q some) ∙ ap (λ y. y ++ answerLine q) (idle-text k s o _ e (b .text) ∙ append-nil (sizeLine W H L ++ drawnText (b .drawn)));
+  text =
+      ap (λ y. o ++ y) (left-refused k (s .row) q ∙ said q some)
+      ∙ ap (λ y. y ++ answerLine q) (idle-text k s o _ e (b .text) ∙ append-nil (sizeLine W H L ++ drawnText (b .drawn)));
   idle = λ _. b .idle (omega arith);
   last = λ _. omega arith;
   room = λ h. absurd (omega arith);
@@ -118,9 +117,12 @@ module _ (n k : ℕ) (store : storeLength maxPictureWidth 5 ≤ n) (row : maxPic
   begin-input i w W H x z b = ap (λ t. t .listing .input) (begin-is i w W H x z (set-up-in n store b))
 
   -- ---- heights are offered
-  module _ (W H L : ℕ) (hs : List ℕ) (o : List ℕ) (s : State) (b : ShapeIn W H L) (e : Begun n k W H L hs 0 false o s) (idle : Idle s) (run : List ℕ) (room : length hs + length run ≤ W * H) where
+  module _ (W H L : ℕ) (hs : List ℕ) (o : List ℕ) (s : State) (b : ShapeIn W H L) (e : Begun n k W H L hs 0 false o s) (idle : Idle s) (run : List ℕ)
+      (room : length hs + length run ≤ W * H) where
     pub out : OfferOut W L n (set-up-in n store b) hs (e .drawn) (s .listing .writer) (s .store) (e .ran) (e .idle (omega arith)) run
-    out = offer-out W L n (set-up-in n store b) hs (e .drawn) (s .listing .writer) (s .store) (e .ran) (e .idle (omega arith)) run H (b .some-columns) (b .rows) room
+    out =
+        offer-out W L n (set-up-in n store b) hs (e .drawn) (s .listing .writer) (s .store) (e .ran) (e .idle (omega arith)) run H (b .some-columns)
+        (b .rows) room
 
     pub offered-begun : (i : Input) → Begun n k W H L (hs ++ take (out .took .taken) run) 0 false o
         (drawState n k i (out .took .writer) (offerStore (s .listing .writer) n run (s .store)) (s .row))
@@ -132,20 +134,26 @@ module _ (n k : ℕ) (store : storeLength maxPictureWidth 5 ≤ n) (row : maxPic
     offered-input i = drawn-input n k W H L (set-up-in n store b) (omega (arith, b .columns)) i (out .took .writer) _ (s .row) _ false (e .drawn) (out .ran)
 
   -- one height
-  offer-is : (i : Input) (w : Writer) (v : ℕ) (x z : Memory) (t : Took) → offerReply w n (v ∷ []) x ≡ gives t → offerState n k i w v x z ≡ drawState n k i (t .writer) (offerStore w n (v ∷ []) x) z
+  offer-is : (i : Input) (w : Writer) (v : ℕ) (x z : Memory) (t : Took) → offerReply w n (v ∷ []) x ≡ gives t
+      → offerState n k i w v x z ≡ drawState n k i (t .writer) (offerStore w n (v ∷ []) x) z
   unfolding offerState
   offer-is i w v x z t e = rw e refl
 
-  pub height-input : (W H L : ℕ) (hs : List ℕ) (o : List ℕ) (s : State) → ShapeIn W H L → Begun n k W H L hs 0 false o s → Idle s → (i : Input) (v : ℕ) → length hs < W * H
+  pub height-input : (W H L : ℕ) (hs : List ℕ) (o : List ℕ) (s : State) → ShapeIn W H L → Begun n k W H L hs 0 false o s → Idle s → (i : Input) (v : ℕ)
+      → length hs < W * H
       → offerState n k i (s .listing .writer) v (s .store) (s .row) .listing .input ≡ i
   height-input W H L hs o s b e idle i v h =
       let t = out W H L hs o s b e idle (v ∷ []) (omega arith) in
-      ap (λ y. y .listing .input) (offer-is i (s .listing .writer) v (s .store) (s .row) (t .took) (t .reply)) ∙ offered-input W H L hs o s b e idle (v ∷ []) (omega arith) i
+      ap (λ y. y .listing .input) (offer-is i (s .listing .writer) v (s .store) (s .row) (t .took) (t .reply))
+      ∙ offered-input W H L hs o s b e idle (v ∷ []) (omega arith) i
 
-  pub height-begun : (W H L : ℕ) (hs : List ℕ) (o : List ℕ) (s : State) → ShapeIn W H L → Begun n k W H L hs 0 false o s → Idle s → (i : Input) (v : ℕ) → length hs < W * H
+  pub height-begun : (W H L : ℕ) (hs : List ℕ) (o : List ℕ) (s : State) → ShapeIn W H L → Begun n k W H L hs 0 false o s → Idle s → (i : Input) (v : ℕ)
+      → length hs < W * H
       → Begun n k W H L (hs ++ (v ∷ [])) 0 false o (offerState n k i (s .listing .writer) v (s .store) (s .row))
   height-begun W H L hs o s b e idle i v h =
       let t = out W H L hs o s b e idle (v ∷ []) (omega arith) in
       let one : t .took .taken ≡ 1 = omega (arith, t .most, t .some (omega arith)) in
       subst (Begun n k W H L (hs ++ (v ∷ [])) 0 false o) (sym (offer-is i (s .listing .writer) v (s .store) (s .row) (t .took) (t .reply)))
-      (subst (λ m. Begun n k W H L (hs ++ take m (v ∷ [])) 0 false o (drawState n k i (t .took .writer) (offerStore (s .listing .writer) n (v ∷ []) (s .store)) (s .row))) one (offered-begun W H L hs o s b e idle (v ∷ []) (omega arith) i))
+      (subst (λ m. Begun n k W H L (hs ++ take m (v ∷ [])) 0 false o
+      (drawState n k i (t .took .writer) (offerStore (s .listing .writer) n (v ∷ []) (s .store)) (s .row))) one (offered-begun W H L hs o s b e idle (v ∷ [])
+      (omega arith) i))

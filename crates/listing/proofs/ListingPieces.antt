@@ -6,12 +6,12 @@
 -- Assumes nothing.
 use mathlib.Core.Path.{_≡_, refl, sym, ap, subst₂, _∙_}
 use mathlib.Core.Bool.{true, false}
-use mathlib.Core.List.{List, [], _∷_, _++_, append-nil}
+use mathlib.Core.List.{List, [], _++_, append-nil}
 use Prim.Native.Nat.{ℕ, zero, suc, _+_, _≤_}
 use native.Mathlib.Omega.{arith}
 use lib.Dec.{ltb}
 use lib.ListN.{length, take, drop, length-append}
-use lib.Seq.{take-at, drop-length}
+use lib.Seq.{drop-length}
 use borrow.Author.Tests.{lt-ltb}
 use Rattle.numbers.specs.Signal.{pick}
 use Rattle.wavelet.specs.Store.{storeLength}
@@ -21,7 +21,7 @@ use Rattle.writer.specs.Demand3.{All, all-none}
 use Rattle.pgm.specs.Limits.{maxPictureWidth}
 use Rattle.listing.specs.Listing.{listingOf, dueOf}
 use Rattle.listing.specs.States.{State, stateOf, started, endState}
-use Rattle.listing.specs.Moves.{Idle, Goes, stays, Went, Stops, full, idle}
+use Rattle.listing.specs.Moves.{Idle, Goes, stays, Stops, full, idle}
 use Rattle.listing.specs.Pieces.{Piece, last, again, Pieces, none, next, pausesIn, pauses}
 use Rattle.listing.proofs.MoveLaws.{goes-on}
 use Rattle.listing.proofs.ListingTheorem.{call-wrote, moves-due, moves-whole}
@@ -73,7 +73,8 @@ module _ {n k : ℕ} where
   pieces-pauses (next {t = t} {t′ = t′} f g) = omega (arith, length-append t t′, piece-pauses f, pieces-pauses g)
 
 -- ---- the theorem
-module _ (n k : ℕ) (store : storeLength maxPictureWidth 5 ≤ n) (row : maxPictureWidth ≤ k) (x z : Memory) {ps : List (List ℕ)} {t : List ℕ} {s : State} (bytes : All (λ b. b ≤ 255) (joined ps)) (fed : Pieces n k (stateOf started x z) ps t s) where
+module _ (n k : ℕ) (store : storeLength maxPictureWidth 5 ≤ n) (row : maxPictureWidth ≤ k) (x z : Memory) {ps : List (List ℕ)} {t : List ℕ} {s : State}
+    (bytes : All (λ b. b ≤ 255) (joined ps)) (fed : Pieces n k (stateOf started x z) ps t s) where
   pub pieces-due : t ≡ dueOf (joined ps)
   pieces-due = moves-due n k store row x z bytes (pieces-go fed) (pieces-idle refl fed)
 

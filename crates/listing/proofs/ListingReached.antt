@@ -1,11 +1,11 @@
--- What a listing has reached (`Reached`): the events E of the input, whether it was ended whole (f), the bytes o written so far, and the state. What is written of a line keeps it: `partly-reached` here, `wholly-reached` in ListingWrites. A draw keeps it: `draw-begun`. Assumes nothing.
+-- What a listing has reached (`Reached`): the events E of the input, whether it was ended whole (f), the bytes o written so far, and the state. What
+-- is written of a line keeps it: `partly-reached` here, `wholly-reached` in ListingWrites. A draw keeps it: `draw-begun`. Assumes nothing.
 use mathlib.Core.Path.{_≡_, refl, sym, ap, ap₂, _∙_}
 use mathlib.Core.Bool.{Bool, true, false}
 use mathlib.Core.List.{List, [], _∷_, _++_, map, append-assoc, append-nil}
 use Prim.Native.Nat.{ℕ, _+_, _-_, _*_, _≤_, _<_}
 use native.Mathlib.Omega.{arith}
 use lib.ListN.{length, take}
-use Rattle.numbers.specs.Signal.{pick}
 use Rattle.wavelet.specs.Limits.{maxSample, maxHeight}
 use Rattle.wavelet.specs.Store.{storeLength}
 use Rattle.writer.specs.Level.{Memory}

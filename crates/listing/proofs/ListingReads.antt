@@ -26,8 +26,10 @@ use Rattle.listing.specs.declared.input.Input.{Input}
 use Rattle.listing.specs.declared.input.Step.{Step}
 use Rattle.listing.proofs.LineLeft.{lineLeft, left-none, left-refused}
 use Rattle.listing.proofs.RunSteps.{small-heights, run-read}
-use Rattle.listing.proofs.StepHow.{Sane, StepIs, on, begins as begins-so, half, height as height-so, turned, after-refusal, SaneThen, more, begun as begun-sane, tall, refused as refused-sane, How, step-how, came-sane, shut-phase}
-use Rattle.listing.proofs.ListingOffers.{shape-in, idle-text, more-heights, then-refused, still, turned-begun, begin-reached, begin-input, out, offered-begun, offered-input, height-begun, height-input}
+use Rattle.listing.proofs.StepHow.{Sane, StepIs, on, begins as begins-so, half, height as height-so, turned, after-refusal, SaneThen, more}
+use Rattle.listing.proofs.StepHow.{begun as begun-sane, tall, refused as refused-sane, How, step-how, came-sane, shut-phase}
+use Rattle.listing.proofs.ListingOffers.{shape-in, idle-text, more-heights, then-refused, still, turned-begun, begin-reached, begin-input, out}
+use Rattle.listing.proofs.ListingOffers.{offered-begun, offered-input, height-begun, height-input}
 use Rattle.listing.proofs.ListingReached.{ShapeIn, reads, shut, leftTo, Begun, eventsOf, Reached, quiet, refused, begun}
 
 pub differ : false ≡ true → ⊥
@@ -67,14 +69,17 @@ module _ (n k : ℕ) (store : storeLength maxPictureWidth 5 ≤ n) (row : maxPic
   head-reads E f o y a b c d (half j p q r) t = absurd (omega arith)
   head-reads E f o y a b c d (height-so j v p q r g h) t = absurd (omega arith)
   head-reads E f o y a b c d (turned j u p q z) (refused-sane t) = record {
-    reached = refused u (ap (λ l. l ++ (refusal u ∷ [])) a) b (omega arith) (omega arith) (ap (λ l. l ++ lineLeft k (s .row) (refusedPart u)) d ∙ left-refused k (s .row) u);
+    reached =
+        refused u (ap (λ l. l ++ (refusal u ∷ [])) a) b (omega arith) (omega arith)
+        (ap (λ l. l ++ lineLeft k (s .row) (refusedPart u)) d ∙ left-refused k (s .row) u);
     input = shut-phase j q;
     sane = t;
   }
   head-reads E f o y a b c d (after-refusal p) t = absurd (omega arith)
 
   -- ---- after a refusal
-  refused-reads : (n₀ : ℕ) (E : List Event) (f : Bool) (o : List ℕ) (y : Step) → E ≡ refusal n₀ ∷ [] → f ≡ false → 3 < i .phase → o ++ leftTo k s ≡ refusedLine n₀ → StepIs i y → SaneThen y → ReachedAs E f o y
+  refused-reads : (n₀ : ℕ) (E : List Event) (f : Bool) (o : List ℕ) (y : Step) → E ≡ refusal n₀ ∷ [] → f ≡ false → 3 < i .phase
+      → o ++ leftTo k s ≡ refusedLine n₀ → StepIs i y → SaneThen y → ReachedAs E f o y
   refused-reads n₀ E f o y a b c d (on j p q) t = absurd (omega arith)
   refused-reads n₀ E f o y a b c d (begins-so j W H p q r g) t = absurd (omega arith)
   refused-reads n₀ E f o y a b c d (half j p q r) t = absurd (omega arith)
@@ -88,7 +93,8 @@ module _ (n k : ℕ) (store : storeLength maxPictureWidth 5 ≤ n) (row : maxPic
 
   -- ---- once the head is there
   module _ (W H L : ℕ) (hs : List ℕ) (b : ShapeIn W H L) (small : All (λ h. h ≤ maxSample) hs) where
-    shut-reads : (E : List Event) (number : ℕ) (f : Bool) (o : List ℕ) (y : Step) → E ≡ eventsOf W H L hs number → Begun n k W H L hs number f o s → 3 < i .phase → length hs ≤ W * H → (f ≡ true → length hs ≡ W * H)
+    shut-reads : (E : List Event) (number : ℕ) (f : Bool) (o : List ℕ) (y : Step) → E ≡ eventsOf W H L hs number → Begun n k W H L hs number f o s
+        → 3 < i .phase → length hs ≤ W * H → (f ≡ true → length hs ≡ W * H)
         → StepIs i y → SaneThen y → ReachedAs E f o y
     shut-reads E number f o y a e c d g (on j p q) t = absurd (omega arith)
     shut-reads E number f o y a e c d g (begins-so j W₁ H₁ p q r v) t = absurd (omega arith)
@@ -101,7 +107,8 @@ module _ (n k : ℕ) (store : storeLength maxPictureWidth 5 ≤ n) (row : maxPic
       sane = t;
     }
 
-    heights-reads : (E : List Event) (o : List ℕ) (y : Step) → E ≡ eventsOf W H L hs 0 → Begun n k W H L hs 0 false o s → i .phase ≡ 3 → i .left + length hs ≡ W * H
+    heights-reads : (E : List Event) (o : List ℕ) (y : Step) → E ≡ eventsOf W H L hs 0 → Begun n k W H L hs 0 false o s → i .phase ≡ 3
+        → i .left + length hs ≡ W * H
         → StepIs i y → SaneThen y → ReachedAs E false o y
     heights-reads E o y a e c d (on j p q) t = absurd (omega arith)
     heights-reads E o y a e c d (begins-so j W₁ H₁ p q r v) t = absurd (omega arith)
@@ -125,7 +132,9 @@ module _ (n k : ℕ) (store : storeLength maxPictureWidth 5 ≤ n) (row : maxPic
         counted : (v : ℕ) → j .left + length (hs ++ (v ∷ [])) ≡ W * H
         counted v = omega (arith, length-append hs (v ∷ []))
     heights-reads E o y a e c d (turned j u p q r) (refused-sane t) = record {
-      reached = begun W H L hs u (ap (λ l. l ++ (refusal u ∷ [])) a ∙ then-refused W H L hs u r) b small (shut (omega arith) (omega arith) (λ z. absurd (differ z))) (turned-begun n k W H L hs false o s j u r idle e);
+      reached =
+          begun W H L hs u (ap (λ l. l ++ (refusal u ∷ [])) a ∙ then-refused W H L hs u r) b small (shut (omega arith) (omega arith) (λ z. absurd (differ z)))
+          (turned-begun n k W H L hs false o s j u r idle e);
       input = shut-phase j q;
       sane = t;
     }
@@ -138,9 +147,11 @@ module _ (n k : ℕ) (store : storeLength maxPictureWidth 5 ≤ n) (row : maxPic
   reached-as {E} {f} {o} (begun W H L hs number a b c (shut d g j) e) y (h, t) = shut-reads W H L hs b c E number f o y a e d g j h t
   reached-as {E} {f} {o} (begun W H L hs number a b c (reads d g j l) e) y (h, t) =
       subst (λ f. ReachedAs E f o y) (sym g)
-      (heights-reads W H L hs b c E o y (a ∙ ap (eventsOf W H L hs) d) (subst (λ r. Begun n k W H L hs r false o s) d (subst (λ f. Begun n k W H L hs number f o s) g e)) j l h t)
+      (heights-reads W H L hs b c E o y (a ∙ ap (eventsOf W H L hs) d)
+      (subst (λ r. Begun n k W H L hs r false o s) d (subst (λ f. Begun n k W H L hs number f o s) g e)) j l h t)
 
-  pub read-reached : {E : List Event} {f : Bool} {o : List ℕ} → Reached n k E f o s → Sane i → (b : ℕ) → b ≤ 255 → ReachedBy n k E f o (readAll i (b ∷ [])) (readState n k b s)
+  pub read-reached : {E : List Event} {f : Bool} {o : List ℕ} → Reached n k E f o s → Sane i → (b : ℕ) → b ≤ 255
+      → ReachedBy n k E f o (readAll i (b ∷ [])) (readState n k b s)
   unfolding readAll readState
   read-reached t v b small = reached-as t (readByte i b) (step-how i v b small)
 
@@ -158,8 +169,10 @@ module _ (n k : ℕ) (store : storeLength maxPictureWidth 5 ≤ n) (row : maxPic
     abbrev then : State
     then = drawState n k (heightsCame (j .taken) i) (j .writer) (offerStore w n run (s .store)) (s .row)
 
-    module _ (W H L : ℕ) (hs : List ℕ) (o : List ℕ) (b : ShapeIn W H L) (small : All (λ h. h ≤ maxSample) hs) (E : List Event) (a : E ≡ eventsOf W H L hs 0) (e : Begun n k W H L hs 0 false o s)
-        (c : i .phase ≡ 3) (d : i .left + length hs ≡ W * H) (x : i .samples .half ≡ false) (fits : length run ≤ i .left) (says : offerReply w n run (s .store) ≡ gives j) (some : 0 < j .taken) (bs : All (λ b. b ≤ 255) u) where
+    module _ (W H L : ℕ) (hs : List ℕ) (o : List ℕ) (b : ShapeIn W H L) (small : All (λ h. h ≤ maxSample) hs) (E : List Event)
+        (a : E ≡ eventsOf W H L hs 0) (e : Begun n k W H L hs 0 false o s)
+        (c : i .phase ≡ 3) (d : i .left + length hs ≡ W * H) (x : i .samples .half ≡ false) (fits : length run ≤ i .left)
+        (says : offerReply w n run (s .store) ≡ gives j) (some : 0 < j .taken) (bs : All (λ b. b ≤ 255) u) where
       abbrev t : Took
       t = out n k store row W H L hs o s b e idle run (omega arith) .took
 
@@ -177,12 +190,14 @@ module _ (n k : ℕ) (store : storeLength maxPictureWidth 5 ≤ n) (row : maxPic
 
       run-begun : Begun n k W H L (hs ++ take (j .taken) run) 0 false o then
       run-begun =
-          subst (λ t. Begun n k W H L (hs ++ take (t .taken) run) 0 false o (drawState n k (heightsCame (j .taken) i) (t .writer) (offerStore w n run (s .store)) (s .row))) same
+          subst (λ t. Begun n k W H L (hs ++ take (t .taken) run) 0 false o
+          (drawState n k (heightsCame (j .taken) i) (t .writer) (offerStore w n run (s .store)) (s .row))) same
           (offered-begun n k store row W H L hs o s b e idle run (omega arith) (heightsCame (j .taken) i))
 
       then-input : then .listing .input ≡ heightsCame (j .taken) i
       then-input =
-          subst (λ t. drawState n k (heightsCame (j .taken) i) (t .writer) (offerStore w n run (s .store)) (s .row) .listing .input ≡ heightsCame (j .taken) i) same
+          subst (λ t. drawState n k (heightsCame (j .taken) i) (t .writer) (offerStore w n run (s .store)) (s .row) .listing .input ≡ heightsCame
+          (j .taken) i) same
           (offered-input n k store row W H L hs o s b e idle run (omega arith) (heightsCame (j .taken) i))
 
       run-reached : Sane i → ReachedBy n k E false o (readAll i u) then
@@ -198,11 +213,13 @@ module _ (n k : ℕ) (store : storeLength maxPictureWidth 5 ≤ n) (row : maxPic
             sane = came-sane (j .taken) i v;
           })
 
-    pub take-reached : {E : List Event} {f : Bool} {o : List ℕ} → Reached n k E f o s → Sane i → i .phase ≡ 3 → i .samples .half ≡ false → length run ≤ i .left → offerReply w n run (s .store) ≡ gives j → 0 < j .taken
+    pub take-reached : {E : List Event} {f : Bool} {o : List ℕ} → Reached n k E f o s → Sane i → i .phase ≡ 3 → i .samples .half ≡ false
+        → length run ≤ i .left → offerReply w n run (s .store) ≡ gives j → 0 < j .taken
         → All (λ b. b ≤ 255) u → ReachedBy n k E f o (readAll i u) then
     take-reached (quiet a b c d e) v p q r g h bs = absurd (omega arith)
     take-reached (refused y a b c d e) v p q r g h bs = absurd (omega arith)
     take-reached (begun W H L hs number a b c (shut d z l) e) v p q r g h bs = absurd (omega arith)
     take-reached {E} {f} {o} (begun W H L hs number a b c (reads d y z l) e) v p q r g h bs =
         subst (λ f. ReachedBy n k E f o (readAll i u) then) (sym y)
-        (run-reached W H L hs o b c E (a ∙ ap (eventsOf W H L hs) d) (subst (λ r. Begun n k W H L hs r false o s) d (subst (λ f. Begun n k W H L hs number f o s) y e)) z l q r g h bs v)
+        (run-reached W H L hs o b c E (a ∙ ap (eventsOf W H L hs) d)
+        (subst (λ r. Begun n k W H L hs r false o s) d (subst (λ f. Begun n k W H L hs number f o s) y e)) z l q r g h bs v)

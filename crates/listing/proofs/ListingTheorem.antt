@@ -1,5 +1,6 @@
 -- The listing program: whatever the calls, the bytes written are what the definition makes of the bytes read. Document 01, "The listing program".
--- A session begins with a listing that has read nothing; its line store has n numbers, enough for every map that a listing takes, and its row area k, enough for every band row. x and z stand in them at first.
+-- A session begins with a listing that has read nothing; its line store has n numbers, enough for every map that a listing takes, and its row area k,
+-- enough for every band row. x and z stand in them at first.
 --     due      where the listing is idle, `dueOf` the bytes read is written
 --     prefix   at any time, a beginning of it
 --     whole    after the end of the input and where the listing is idle again, `listingOf` the bytes read
@@ -39,10 +40,12 @@ after-refusal-events : (i : Input) (v : List ℕ) → 3 < i .phase → readAll i
 unfolding readAll
 after-refusal-events i [] p = refl
 after-refusal-events i (b ∷ v) p =
-    ap (λ y. stepThen (λ j. readAll j v) y .events) (sym (phase-on i b (λ e. omega arith) (λ e. omega arith) (λ e. omega arith) (λ e. omega arith))) ∙ after-refusal-events i v p
+    ap (λ y. stepThen (λ j. readAll j v) y .events) (sym (phase-on i b (λ e. omega arith) (λ e. omega arith) (λ e. omega arith) (λ e. omega arith)))
+    ∙ after-refusal-events i v p
 
 -- ---- whatever the moves
-module _ (n k : ℕ) (store : storeLength maxPictureWidth 5 ≤ n) (row : maxPictureWidth ≤ k) (x z : Memory) {u o : List ℕ} {s : State} (bytes : All (λ b. b ≤ 255) u) (reads : Goes n k (stateOf started x z) u o s) where
+module _ (n k : ℕ) (store : storeLength maxPictureWidth 5 ≤ n) (row : maxPictureWidth ≤ k) (x z : Memory) {u o : List ℕ} {s : State}
+    (bytes : All (λ b. b ≤ 255) u) (reads : Goes n k (stateOf started x z) u o s) where
   reached : ReachedBy n k [] false o (readAll atStart u) s
   reached = begun-reached n k store row x z bytes reads
 
@@ -69,12 +72,15 @@ module _ (n k : ℕ) (store : storeLength maxPictureWidth 5 ≤ n) (row : maxPic
         (goes-reached n k store row t (out .sane) more writes .reached)
 
     all-is : endText (record { events = readAll atStart u .events; ending = ending }) ≡ listingOf u
-    all-is = sym (listing-events u ∙ ap endText (sym (read-all u)) ∙ ap (λ i. endText (record { events = readAll atStart u .events; ending = endingOf (inputEnded i) })) (sym (reached .input)))
+    all-is =
+        sym (listing-events u ∙ ap endText (sym (read-all u))
+        ∙ ap (λ i. endText (record { events = readAll atStart u .events; ending = endingOf (inputEnded i) })) (sym (reached .input)))
 
     pub moves-whole : Idle s₂ → o ++ o₂ ≡ listingOf u
     moves-whole i = go (out .reached) ∙ all-is
       where
-        go : {y : Ending} → EndReached n k (readAll atStart u .events) o (endState n k s) y → o ++ o₂ ≡ endText (record { events = readAll atStart u .events; ending = y })
+        go : {y : Ending} → EndReached n k (readAll atStart u .events) o (endState n k s) y
+            → o ++ o₂ ≡ endText (record { events = readAll atStart u .events; ending = y })
         go (all-came t) = reached-due n k store s₂ (on t) i
         go (few-came t e) = reached-due n k store s₂ (on t) i ∙ e
         go (was-over t) = reached-due n k store s₂ (on t) i
@@ -82,7 +88,8 @@ module _ (n k : ℕ) (store : storeLength maxPictureWidth 5 ≤ n) (row : maxPic
     pub moves-partly : (r : List ℕ) × ((o ++ o₂) ++ r ≡ listingOf u)
     moves-partly = let p = go (out .reached) in (p .0, p .1 ∙ all-is)
       where
-        go : {y : Ending} → EndReached n k (readAll atStart u .events) o (endState n k s) y → (r : List ℕ) × ((o ++ o₂) ++ r ≡ endText (record { events = readAll atStart u .events; ending = y }))
+        go : {y : Ending} → EndReached n k (readAll atStart u .events) o (endState n k s) y
+            → (r : List ℕ) × ((o ++ o₂) ++ r ≡ endText (record { events = readAll atStart u .events; ending = y }))
         go (all-came t) = reached-prefix n k store s₂ (on t)
         go (few-came t e) = let p = reached-prefix n k store s₂ (on t) in (p .0, p .1 ∙ e)
         go (was-over t) = reached-prefix n k store s₂ (on t)
@@ -101,7 +108,8 @@ session-goes {n} {k} {s} (call {s₂ = s₂} {u = u} {t = t} g c) =
     subst₂ (λ v w. Goes n k s (u ++ v) (t ++ w) s₂) (sym (call-read c)) (sym (call-wrote c)) (goes-on (session-goes g) (c .goes))
 
 -- ---- whatever the calls
-module _ (n k : ℕ) (store : storeLength maxPictureWidth 5 ≤ n) (row : maxPictureWidth ≤ k) (x z : Memory) {u o : List ℕ} {s : State} (bytes : All (λ b. b ≤ 255) u) (reads : Session n k (stateOf started x z) u o s) where
+module _ (n k : ℕ) (store : storeLength maxPictureWidth 5 ≤ n) (row : maxPictureWidth ≤ k) (x z : Memory) {u o : List ℕ} {s : State}
+    (bytes : All (λ b. b ≤ 255) u) (reads : Session n k (stateOf started x z) u o s) where
   pub due : Idle s → o ≡ dueOf u
   due = moves-due n k store row x z bytes (session-goes reads)
 

@@ -15,7 +15,8 @@ module _ {n k : ℕ} where
 
   pub goes-on : {s s₁ s₂ : State} {u v t w : List ℕ} → Goes n k s u t s₁ → Goes n k s₁ v w s₂ → Goes n k s (u ++ v) (t ++ w) s₂
   goes-on {s} {s₁} {s₂} {u} {v} {t} {w} g (stays _) = rw (append-nil u, append-nil t) g
-  goes-on {s} {s₁} {s₂} {u} {v} {t} {w} g (then {u = u₁} {v = v₁} {t = t₁} {w = w₁} h m) = rw (← append-assoc u u₁ v₁, ← append-assoc t t₁ w₁) (then (goes-on g h) m)
+  goes-on {s} {s₁} {s₂} {u} {v} {t} {w} g (then {u = u₁} {v = v₁} {t = t₁} {w = w₁} h m) =
+      rw (← append-assoc u u₁ v₁, ← append-assoc t t₁ w₁) (then (goes-on g h) m)
 
 -- ---- the calls
 module _ {n k : ℕ} {s s′ : State} {p : List ℕ} {a a′ : ℕ} where

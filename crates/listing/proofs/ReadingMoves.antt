@@ -2,7 +2,7 @@
 use mathlib.Core.Path.{_≡_, refl, sym, ap, _∙_, subst}
 use mathlib.Core.Bool.{Bool, true, false, not}
 use mathlib.Core.List.{List, [], _∷_, _++_, append-assoc}
-use Prim.Native.Nat.{ℕ, zero, suc, _+_, _-_, _*_, _/_, _≤_, _<_, min}
+use Prim.Native.Nat.{ℕ, zero, suc, _+_, _-_, _*_, _≤_, _<_, min}
 use native.Mathlib.Omega.{arith}
 use native.Mathlib.Numerals.{add-one}
 use lib.Dec.{ltb, eqb}
@@ -31,7 +31,8 @@ use Rattle.listing.proofs.NextLaws.{is-some}
 use Rattle.listing.proofs.WritingMoves.{left-is}
 
 -- ---- a byte
-pub byte-on : (n k : ℕ) (s : State) (p : List ℕ) (a : ℕ) (l : Listing) {x z : Memory} → Idle s → a < length p → Leaves (readState n k (getD p a 0) s) l x z → Reads n k s p a (a + 1) (stateOf l x z)
+pub byte-on : (n k : ℕ) (s : State) (p : List ℕ) (a : ℕ) (l : Listing) {x z : Memory} → Idle s → a < length p
+    → Leaves (readState n k (getD p a 0) s) l x z → Reads n k s p a (a + 1) (stateOf l x z)
 byte-on n k s p a l i h f =
     record {
       bytes = getD p a 0 ∷ [];
@@ -138,7 +139,8 @@ run-read s p run part a m n em some hp en ep =
       place = omega arith;
     }
 
-module _ (n k : ℕ) (s : State) (p : List ℕ) (a c : ℕ) (run : List ℕ) (j : Took) (r : Run s p a c run) (reply : gives j ≡ offerReply (s .listing .writer) n run (s .store)) where
+module _ (n k : ℕ) (s : State) (p : List ℕ) (a c : ℕ) (run : List ℕ) (j : Took) (r : Run s p a c run)
+    (reply : gives j ≡ offerReply (s .listing .writer) n run (s .store)) where
   abbrev m₀ : ℕ
   m₀ = largestOn s
 
@@ -164,7 +166,8 @@ module _ (n k : ℕ) (s : State) (p : List ℕ) (a c : ℕ) (run : List ℕ) (j 
       in-piece : (z : ℕ) → z ≤ length (drop a p) → a + z ≤ length p
       in-piece z h = omega (arith, length-drop a p, r .place)
 
-  pub heights-on : (m : ℕ) (i : Input) (x₁ : Memory) (l : Listing) {x′ z′ : Memory} → Idle s → s .listing .input .phase ≡ 3 → s .listing .input .samples .half ≡ false
+  pub heights-on : (m : ℕ) (i : Input) (x₁ : Memory) (l : Listing) {x′ z′ : Memory} → Idle s → s .listing .input .phase ≡ 3
+      → s .listing .input .samples .half ≡ false
       → m ≡ n → i ≡ heightsCame (j .taken) (s .listing .input) → x₁ ≡ offerStore (s .listing .writer) n run (s .store)
       → Leaves (drawState m k i (j .writer) x₁ (s .row)) l x′ z′ → Reads n k s p a (a + used) (stateOf l x′ z′)
   heights-on m i x₁ l {x′} {z′} idle phase whole em ei ex f =
@@ -191,6 +194,7 @@ module _ (n k : ℕ) (s : State) (p : List ℕ) (a c : ℕ) (run : List ℕ) (j 
       past z h g = omega arith
 
 -- an offer that was turned away left the store as it was
-pub still-there : {n n′ k : ℕ} {l : Listing} {x x′ z : Memory} {p : List ℕ} {a a′ : ℕ} {s′ : State} → n′ ≡ n → x′ ≡ x → Reads n′ k (stateOf l x′ z) p a a′ s′ → Reads n k (stateOf l x z) p a a′ s′
+pub still-there : {n n′ k : ℕ} {l : Listing} {x x′ z : Memory} {p : List ℕ} {a a′ : ℕ} {s′ : State} → n′ ≡ n → x′ ≡ x
+    → Reads n′ k (stateOf l x′ z) p a a′ s′ → Reads n k (stateOf l x z) p a a′ s′
 still-there {n} {n′} {k} {l} {x} {x′} {z} {p} {a} {a′} {s′} en ex r =
     subst (λ y. Reads n k (stateOf l y z) p a a′ s′) ex (subst (λ y. Reads y k (stateOf l x′ z) p a a′ s′) en r)

@@ -81,7 +81,8 @@ module _ (L : ℕ) (h : Header) (m : ℕ) where
   Runs j n u s = readAll (at 3 L h n m false u) (take (sampleSize m * j) s) ≡ ran L h m n j s
 
   one-more : (f : Bool) (n u j v : ℕ) (s r : List ℕ) → leb v m ≡ f → Leads m v s r → suc j ≤ suc n → suc j ≤ length (heightsOf m s)
-      → (leb v m ≡ true → readAll (at 3 L h (suc n) m false u) (take (sampleSize m * suc j) s) ≡ andOn (height v) (readAll (at 3 L h n m false 0) (take (sampleSize m * j) r)))
+      → (leb v m ≡ true → readAll (at 3 L h (suc n) m false u) (take (sampleSize m * suc j) s) ≡ andOn (height v)
+      (readAll (at 3 L h n m false 0) (take (sampleSize m * j) r)))
       → (j ≤ n → j ≤ length (heightsOf m r) → Runs j n 0 r) → Runs (suc j) (suc n) u s
   one-more true n u j v s r e l p q step g =
       let c : suc n - suc j ≡ n - j = omega arith in
@@ -92,7 +93,8 @@ module _ (L : ℕ) (h : Header) (m : ℕ) where
   one-more false n u j v s r e l p q step g = absurd (omega (arith, q, ap length (heights-stop m v s r l e)))
 
   step-two : (n u j a b : ℕ) (s : List ℕ) → wide m ≡ true → leb (256 * a + b) m ≡ true
-      → readAll (at 3 L h (suc n) m false u) (take (sampleSize m * suc j) (a ∷ b ∷ s)) ≡ andOn (height (256 * a + b)) (readAll (at 3 L h n m false 0) (take (sampleSize m * j) s))
+      → readAll (at 3 L h (suc n) m false u) (take (sampleSize m * suc j) (a ∷ b ∷ s)) ≡ andOn (height (256 * a + b))
+      (readAll (at 3 L h n m false 0) (take (sampleSize m * j) s))
   unfolding readAll sampleSize
   step-two n u j a b s w e =
       rw (w, twice j)
@@ -100,7 +102,8 @@ module _ (L : ℕ) (h : Header) (m : ℕ) where
       ∙ ap (stepThen (λ i. readAll i (take (2 * j) s))) (second-byte L h n m a b w .0 e))
 
   step-one : (n u j b : ℕ) (s : List ℕ) → wide m ≡ false → leb b m ≡ true
-      → readAll (at 3 L h (suc n) m false u) (take (sampleSize m * suc j) (b ∷ s)) ≡ andOn (height b) (readAll (at 3 L h n m false 0) (take (sampleSize m * j) s))
+      → readAll (at 3 L h (suc n) m false u) (take (sampleSize m * suc j) (b ∷ s)) ≡ andOn (height b)
+      (readAll (at 3 L h n m false 0) (take (sampleSize m * j) s))
   unfolding readAll sampleSize
   step-one n u j b s w e = rw (w, once j) (ap (stepThen (λ i. readAll i (take (1 * j) s))) (lone-byte L h n m false u b w .0 e))
 
@@ -131,8 +134,10 @@ module _ (L : ℕ) (h : Header) (m : ℕ) where
       go false e = singles-on e j n u s (λ d. absurd (omega arith)) p q
 
 -- in phase 3, at the first byte of a sample
-pub run-read : (i : Input) (s : List ℕ) (j : ℕ) → i .phase ≡ 3 → i .samples .half ≡ false → length (heightsOf (i .samples .largest) s) ≤ i .left → 0 < j → j ≤ length (heightsOf (i .samples .largest) s)
-    → readAll i (take (sampleSize (i .samples .largest) * j) s) ≡ record { events = map height (take j (heightsOf (i .samples .largest) s)); input = heightsCame j i }
+pub run-read : (i : Input) (s : List ℕ) (j : ℕ) → i .phase ≡ 3 → i .samples .half ≡ false → length (heightsOf (i .samples .largest) s) ≤ i .left → 0 < j
+    → j ≤ length (heightsOf (i .samples .largest) s)
+    → readAll i (take (sampleSize (i .samples .largest) * j) s) ≡ record
+    { events = map height (take j (heightsOf (i .samples .largest) s)); input = heightsCame j i }
 run-read i s j e f fits q r = go (i .phase) (i .samples .half) e f
   where
     L : ℕ
@@ -142,8 +147,10 @@ run-read i s j e f fits q r = go (i .phase) (i .samples .half) e f
     m = i .samples .largest
 
     go : (p : ℕ) (t : Bool) → p ≡ 3 → t ≡ false
-        → readAll (at p L (i .header) (i .left) m t (i .samples .high)) (take (sampleSize m * j) s) ≡ record { events = map height (take j (heightsOf m s)); input = at p L (i .header) (i .left - j) m false 0 }
+        → readAll (at p L (i .header) (i .left) m t (i .samples .high)) (take (sampleSize m * j) s) ≡ record
+        { events = map height (take j (heightsOf m s)); input = at p L (i .header) (i .left - j) m false 0 }
     go p t e f =
-        subst (λ p. readAll (at p L (i .header) (i .left) m t (i .samples .high)) (take (sampleSize m * j) s) ≡ record { events = map height (take j (heightsOf m s)); input = at p L (i .header) (i .left - j) m false 0 }) (sym e)
+        subst (λ p. readAll (at p L (i .header) (i .left) m t (i .samples .high)) (take (sampleSize m * j) s) ≡ record
+        { events = map height (take j (heightsOf m s)); input = at p L (i .header) (i .left - j) m false 0 }) (sym e)
         (subst (λ t. readAll (at 3 L (i .header) (i .left) m t (i .samples .high)) (take (sampleSize m * j) s) ≡ ran L (i .header) m (i .left) j s) (sym f)
         (heights-on L (i .header) m j (i .left) (i .samples .high) s q (omega arith) r))

@@ -1,5 +1,5 @@
 -- A part spelled into an area: where it goes on, and what is left. Assumes nothing.
-use mathlib.Core.Path.{_≡_, refl, sym, ap, _∙_}
+use mathlib.Core.Path.{_≡_, sym, ap, _∙_}
 use mathlib.Core.List.{List}
 use Prim.Native.Nat.{ℕ, _+_, _-_, _≤_, _<_, min}
 use native.Mathlib.Omega.{arith}
@@ -9,7 +9,6 @@ use lib.Seq.{paste}
 use borrow.Author.Tests.{lt-ltb, le-ltb}
 use Rattle.text.specs.Text.{Wrote}
 use Rattle.listing.specs.Parts.{startOf, leftOf, Spelled}
-use Rattle.listing.specs.declared.spelling.Spelt.{Spelt}
 use Rattle.text.proofs.TextLaws.{wrote-front, front-end}
 
 pub start-in : (t d : ℕ) → d < t → d ≡ startOf t d

@@ -1,6 +1,6 @@
 -- What a step leaves, case by case of the writer's answer. Assumes nothing.
-use mathlib.Core.Path.{_≡_, refl, sym, ap, _∙_, subst}
-use mathlib.Core.List.{List, [], _∷_}
+use mathlib.Core.Path.{_≡_, refl, ap, _∙_, subst}
+use mathlib.Core.List.{[], _∷_}
 use Prim.Native.Nat.{ℕ, _+_, _≤_, _<_}
 use native.Mathlib.Omega.{arith}
 use borrow.Author.Tests.{lt-ltb, le-ltb, eq-eqb, ne-eqb}
@@ -10,7 +10,8 @@ use Rattle.writer.specs.Calls.{setUpReply, setUpStore, offerReply, offerStore, 
 use Rattle.writer.specs.declared.Writer.{Writer}
 use Rattle.listing.specs.InputSteps.{readByte, inputEnded}
 use Rattle.listing.specs.Parts.{noLine}
-use Rattle.listing.specs.States.{State, stateOf, Leaves, refusedTo, drawnTo, drawState, begunTo, beginState, tookTo, offerState, closedTo, finishState, stepTo, readState, endTo, endState, listed, valuePart, advanceState}
+use Rattle.listing.specs.States.{State, Leaves, refusedTo, drawnTo, drawState, begunTo, beginState, offerState, finishState}
+use Rattle.listing.specs.States.{stepTo, readState, endTo, endState, listed, valuePart, advanceState}
 use Rattle.listing.specs.declared.input.Input.{Input}
 use Rattle.listing.specs.declared.input.Step.{Step}
 use Rattle.listing.specs.declared.input.Ended.{Ended}
@@ -29,7 +30,8 @@ module _ (n k : ℕ) (i : Input) (w : Writer) (x z : Memory) where
   began W H l e f = record { listing = e; store = f; row = refl }
 
   -- a height was taken, and then a row drawn from a store of m numbers
-  pub took : (h : ℕ) (t : Took) (m : ℕ) (x₁ : Memory) (l : Listing) {x′ z′ : Memory} → gives t ≡ offerReply w n (h ∷ []) x → m ≡ n → x₁ ≡ offerStore w n (h ∷ []) x
+  pub took : (h : ℕ) (t : Took) (m : ℕ) (x₁ : Memory) (l : Listing) {x′ z′ : Memory} → gives t ≡ offerReply w n (h ∷ []) x → m ≡ n
+      → x₁ ≡ offerStore w n (h ∷ []) x
       → Leaves (drawState m k i (t .writer) x₁ z) l x′ z′ → Leaves (offerState n k i w h x z) l x′ z′
   unfolding offerState
   took h t m x₁ l {x′} {z′} e em ex p =
@@ -70,10 +72,12 @@ module _ (n k : ℕ) (s : State) (l : Listing) where
   unfolding advanceState
   past-head h e = rw (le-ltb (line .part) 3 (omega arith), eq-eqb (line .part) 3 h) (record { listing = e; store = refl; row = refl })
 
-  pub past-value : 3 ≤ line .part → (line .part ≡ 3 → ⊥) → line .value < line .length → l ≡ listed (s .listing .input) (s .listing .writer) (valuePart line (line .value + 1))
+  pub past-value : 3 ≤ line .part → (line .part ≡ 3 → ⊥) → line .value < line .length
+      → l ≡ listed (s .listing .input) (s .listing .writer) (valuePart line (line .value + 1))
       → Leaves (advanceState n k s) l (s .store) (s .row)
   unfolding advanceState
-  past-value g d h e = rw (le-ltb (line .part) 3 g, ne-eqb (line .part) 3 d, lt-ltb (line .value) (line .length) h) (record { listing = e; store = refl; row = refl })
+  past-value g d h e =
+      rw (le-ltb (line .part) 3 g, ne-eqb (line .part) 3 d, lt-ltb (line .value) (line .length) h) (record { listing = e; store = refl; row = refl })
 
   pub past-end : {x′ z′ : Memory} → 3 ≤ line .part → (line .part ≡ 3 → ⊥) → line .length ≤ line .value
       → Leaves (drawState n k (s .listing .input) (s .listing .writer) (s .store) (s .row)) l x′ z′ → Leaves (advanceState n k s) l x′ z′
@@ -85,6 +89,7 @@ module _ (n k : ℕ) (s : State) (l : Listing) where
   unfolding endState
   end-in-line h e = rw (lt-ltb 0 (line .part) h) (record { listing = e; store = refl; row = refl })
 
-  pub ended-as : (y : Ended) {x′ z′ : Memory} → line .part ≤ 0 → y ≡ inputEnded (s .listing .input) → Leaves (endTo n k s y) l x′ z′ → Leaves (endState n k s) l x′ z′
+  pub ended-as : (y : Ended) {x′ z′ : Memory} → line .part ≤ 0 → y ≡ inputEnded (s .listing .input) → Leaves (endTo n k s y) l x′ z′
+      → Leaves (endState n k s) l x′ z′
   unfolding endState
   ended-as y {x′} {z′} h e p = rw (le-ltb 0 (line .part) h) (subst (λ y. Leaves (endTo n k s y) l x′ z′) e p)

@@ -15,7 +15,8 @@ use Rattle.pgm.specs.declared.header.Next.the-variants as next
 use Rattle.pgm.specs.declared.samples.Sample.the-variants as sample
 use Rattle.pgm.specs.Limits.{sizeFits}
 use Rattle.listing.specs.Listing.{levelDigit}
-use Rattle.listing.specs.InputSteps.{atStart, phased, refuse15, levelsRead, lineFeedRead, shapeRead, nextRead, headerRead, sampleRead, heightRead, readByte, heightsCame}
+use Rattle.listing.specs.InputSteps.{atStart, phased, refuse15, levelsRead, lineFeedRead, shapeRead, nextRead, headerRead, sampleRead, heightRead}
+use Rattle.listing.specs.InputSteps.{readByte, heightsCame}
 use Rattle.listing.specs.declared.input.Input.{Input}
 use Rattle.listing.specs.declared.input.Step.{Step}
 use Rattle.listing.specs.declared.input.Step.the-variants as steps
@@ -103,12 +104,15 @@ module _ (i : Input) (s : Sane i) where
         j = record { phase = 3; levels = i .levels; header = i .header; left = W * H; samples = noByte m }
 
         go : (x : Bool) → sizeFits W H ≡ x → How i (pick x (steps.Begun j W H) (refuse15 i))
-        go true p = (begins j W H (omega arith) refl refl p, begun {j = j} (record { byte = omega arith; levels = λ _ _. s .levels (omega arith) (omega arith) }))
+        go true p =
+            (begins j W H (omega arith) refl refl p, begun {j = j} (record { byte = omega arith; levels = λ _ _. s .levels (omega arith) (omega arith) }))
         go false p = refuse-how (omega arith)
 
     next-how : i .phase ≡ 2 → (x : Next) → How i (nextRead i x)
-    next-how e (next.More k) =
-        (on (record { phase = 2; levels = i .levels; header = k; left = i .left; samples = i .samples }) (omega arith) (omega arith), more (record { byte = s .byte; levels = λ _ _. s .levels (omega arith) (omega arith) }))
+    next-how e (next.More k) = (
+      on (record { phase = 2; levels = i .levels; header = k; left = i .left; samples = i .samples }) (omega arith) (omega arith),
+      more (record { byte = s .byte; levels = λ _ _. s .levels (omega arith) (omega arith) }),
+    )
     next-how e (next.Done w h m) = shape-how e w h m
     next-how e next.Refused = refuse-how (omega arith)
 
@@ -134,10 +138,17 @@ module _ (i : Input) (s : Sane i) where
         full p v l true = (height gone v e refl p refl l, tall {j = gone} (record { byte = omega arith; levels = λ _ _. L }))
         full p v l false = (turned (phased 4 i) 16 (omega arith) refl (omega arith), refused (phased-sane i s))
 
-        some : 0 < i .left → (w x : Bool) → How i (sampleRead i (pick w (pick x (sampled m (256 * i .samples .high + b)) (sample.Half (record { largest = m; half = true; high = b }))) (sampled m b)))
-        some p true true = unfold sampled in full p (256 * i .samples .high + b) (two-bytes (i .samples .high) b (s .byte) small) (leb (256 * i .samples .high + b) m)
-        some p true false =
-            (half (record { phase = 3; levels = i .levels; header = i .header; left = i .left; samples = record { largest = m; half = true; high = b } }) e refl refl, more (record { byte = small; levels = λ _ _. L }))
+        some : 0 < i .left → (w x : Bool) → How i
+            (sampleRead i (pick w (pick x (sampled m (256 * i .samples .high + b)) (sample.Half (record { largest = m; half = true; high = b })))
+            (sampled m b)))
+        some p true true =
+            unfold sampled in full p (256 * i .samples .high + b) (two-bytes (i .samples .high) b (s .byte) small) (leb (256 * i .samples .high + b) m)
+        some p true false = (
+          half
+              (record { phase = 3; levels = i .levels; header = i .header; left = i .left; samples = record { largest = m; half = true; high = b } })
+              e refl refl,
+          more (record { byte = small; levels = λ _ _. L }),
+        )
         some p false x = unfold sampled in full p b (one-byte b small) (leb b m)
 
         go : (x : Bool) → eqb (i .left) 0 ≡ x → How i (pick x (refuse15 i) (sampleRead i (sampleOf (i .samples) b)))
@@ -158,7 +169,11 @@ module _ (i : Input) (s : Sane i) where
         go false p true q z r w t = feed-how (eqb-true (i .phase) 1 q)
         go false p false q true r w t = header-how (eqb-true (i .phase) 2 r)
         go false p false q false r true t = height-how (eqb-true (i .phase) 3 t)
-        go false p false q false r false t = (after-refusal (past (i .phase) (eqb-false (i .phase) 0 p) (eqb-false (i .phase) 1 q) (eqb-false (i .phase) 2 r) (eqb-false (i .phase) 3 t)), more s)
+        go false p false q false r false t = (
+          after-refusal (past (i .phase) (eqb-false (i .phase) 0 p) (eqb-false (i .phase) 1 q) (eqb-false (i .phase) 2 r)
+              (eqb-false (i .phase) 3 t)),
+          more s,
+        )
           where
             past : (m : ℕ) → (m ≡ 0 → ⊥) → (m ≡ 1 → ⊥) → (m ≡ 2 → ⊥) → (m ≡ 3 → ⊥) → 3 < m
             past zero a b c d = absurd (a refl)

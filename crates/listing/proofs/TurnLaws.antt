@@ -50,7 +50,8 @@ module _ {n k : ℕ} {s : State} {p o : List ℕ} {l : Listing} {m r : List ℤ}
   area-room = omega (arith, f .went .wrote .room, size)
 
   pub turned : (l′ : Listing) (m′ r′ : List ℤ) {d′ : List ℕ} {a′ b′ : ℕ} {g′ : Bool} → length m′ ≡ length m → length r′ ≡ length r
-      → Went (length m) (length r) (stateOf l (at m) (at r)) p a a′ d d′ b b′ (stateOf l′ (at m′) (at r′)) → Onward (stateOf l′ (at m′) (at r′)) p a a′ d b b′ g′
+      → Went (length m) (length r) (stateOf l (at m) (at r)) p a a′ d d′ b b′ (stateOf l′ (at m′) (at r′))
+      → Onward (stateOf l′ (at m′) (at r′)) p a a′ d b b′ g′
       → Gone n k s p o l′ m′ r′ d′ a′ b′ g′
   turned l′ m′ r′ em er w h =
       record { store = em ∙ f .store; row = er ∙ f .row; went = went-on (f .store) (f .row) (f .went) w; pending = then-pending size h }
@@ -74,10 +75,12 @@ ahead g = pick g 1 0
 unfoldable pub left : List ℕ → List ℕ → ℕ → ℕ → Bool → ℕ
 left p d a b g = (length p - a) + (length d - b) + ahead g
 
-less-by : (d′ : List ℕ) {s : State} {p d : List ℕ} {a a′ b b′ : ℕ} {g : Bool} → Onward s p a a′ d b b′ g → a ≤ a′ → b ≤ b′ → a′ ≤ length p → b′ ≤ length d → length d′ ≡ length d → left p d′ a′ b′ g < left p d a b true
+less-by : (d′ : List ℕ) {s : State} {p d : List ℕ} {a a′ b b′ : ℕ} {g : Bool} → Onward s p a a′ d b b′ g → a ≤ a′ → b ≤ b′ → a′ ≤ length p → b′ ≤ length d
+    → length d′ ≡ length d → left p d′ a′ b′ g < left p d a b true
 unfolding left
 less-by d′ (on h) u v x y z = omega arith
 less-by d′ (off i h) u v x y z = omega arith
 
-pub turn-less : {n k : ℕ} {s s′ : State} {p d d′ : List ℕ} {a a′ b b′ : ℕ} {g : Bool} → Went n k s p a a′ d d′ b b′ s′ → Onward s′ p a a′ d b b′ g → left p d′ a′ b′ g < left p d a b true
+pub turn-less : {n k : ℕ} {s s′ : State} {p d d′ : List ℕ} {a a′ b b′ : ℕ} {g : Bool} → Went n k s p a a′ d d′ b b′ s′ → Onward s′ p a a′ d b b′ g
+    → left p d′ a′ b′ g < left p d a b true
 turn-less {d′ = d′} w h = less-by d′ h (omega (arith, w .used)) (omega (arith, w .wrote .place)) (w .part) (w .wrote .room) (wrote-size (w .wrote))

@@ -1,14 +1,14 @@
 -- What the bytes of an input bring, event by event, and at their end: as the definition reads them (`readingOf`), and byte by byte (`readAll`).
-use mathlib.Core.Bool.{Bool, true, false}
+use mathlib.Core.Bool.{false}
 use mathlib.Core.List.{List, [], _∷_, _++_, map}
-use Prim.Native.Nat.{ℕ, zero, suc, _*_}
+use Prim.Native.Nat.{ℕ, zero, suc}
 use lib.Dec.{ltb, eqb}
 use lib.ListN.{length}
 use Rattle.numbers.specs.Signal.{pick}
 use Rattle.pgm.specs.Header.{Read, found, short, wrong}
 use Rattle.pgm.specs.Heights.{heightsTaken, tooLarge, bytesOf, refusalIn}
 use Rattle.listing.specs.Listing.{Shape, Head, cells, headOf}
-use Rattle.listing.specs.InputSteps.{atStart, readByte, inputEnded}
+use Rattle.listing.specs.InputSteps.{readByte, inputEnded}
 use Rattle.listing.specs.declared.input.Input.{Input}
 use Rattle.listing.specs.declared.input.Step.{Step}
 use Rattle.listing.specs.declared.input.Step.the-variants as steps

@@ -1,8 +1,6 @@
 -- What each byte of its input brings a listing. proofs/InputReads: byte after byte it is what `headOf` and `heightsTaken` read of the bytes.
-use mathlib.Core.Bool.{Bool, true, false}
-use mathlib.Core.List.{List, [], _∷_}
 use Prim.Native.Nat.{ℕ, _-_, _*_}
-use lib.Dec.{leb, ltb, eqb}
+use lib.Dec.{ltb, eqb}
 use Rattle.numbers.specs.Signal.{pick}
 use Rattle.pgm.specs.Steps.{begun, stepOf}
 use Rattle.pgm.specs.Limits.{sizeFits}
@@ -52,7 +50,8 @@ headerRead i b = nextRead i (stepOf (i .header) b)
 
 abbrev pub sampleRead : Input → Sample → Step
 sampleRead i (sample.Half x) = steps.More (record { phase = 3; levels = i .levels; header = i .header; left = i .left; samples = x })
-sampleRead i (sample.Height v) = steps.Height (record { phase = 3; levels = i .levels; header = i .header; left = i .left - 1; samples = noByte (i .samples .largest) }) v
+sampleRead i (sample.Height v) =
+    steps.Height (record { phase = 3; levels = i .levels; header = i .header; left = i .left - 1; samples = noByte (i .samples .largest) }) v
 sampleRead i sample.TooLarge = steps.Refused (phased 4 i) 16
 
 unfoldable pub heightRead : Input → ℕ → Step

@@ -1,4 +1,5 @@
--- The lines of a listing, as bytes. Document 01, "The listing program": "Output: a line with W, H and L; then for each band row drawn its level, band, row and values, one space between fields."
+-- The lines of a listing, as bytes. Document 01, "The listing program": "Output: a line with W, H and L; then for each band row drawn its level,
+-- band, row and values, one space between fields."
 -- 32 is a space, 10 a line feed.
 use mathlib.Core.List.{List, [], _∷_, _++_}
 use Prim.Native.Nat.{ℕ, zero, suc}

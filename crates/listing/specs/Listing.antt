@@ -1,7 +1,7 @@
 -- What the listing program writes, as a definition on the bytes of its input. Document 01, "The listing program" and question 15; document 02, Q-1.
 use mathlib.Core.Bool.{Bool, true, false}
 use mathlib.Core.Path.{_≡_}
-use mathlib.Core.List.{List, [], _∷_, _++_}
+use mathlib.Core.List.{List, [], _++_}
 use Prim.Native.Nat.{ℕ, _+_, _*_, _/_}
 use lib.IntN.{pos}
 use lib.ListN.{length, getD}
@@ -56,7 +56,8 @@ linesDue q hs finished =
     sizeLine (q .width) (q .height) (q .levels)
     ++ linesOf (q .width) (q .height) (gridOf (q .width) hs) (made (q .width) (q .levels) (length hs / q .width) finished)
 
--- "Asked again before the finish: are the height bytes neither too few nor too many?" A refusal comes "on a line after all lines that the heights before it made due".
+-- "Asked again before the finish: are the height bytes neither too few nor too many?" A refusal comes "on a line after all lines that the heights
+-- before it made due".
 unfoldable pub bodyOf : Shape → ℕ → List ℕ → List ℕ
 bodyOf q m r =
     pick (tooLarge m (cells q) r)

@@ -3,7 +3,7 @@
 use mathlib.Core.Bool.{Bool, true, false}
 use mathlib.Core.Path.{_≡_}
 use mathlib.Core.List.{List, [], _∷_, _++_}
-use Prim.Native.Nat.{ℕ, _+_, _-_, _*_, _≤_, _<_}
+use Prim.Native.Nat.{ℕ, _+_, _*_, _≤_, _<_}
 use lib.ListN.{length, take, drop}
 use Rattle.pgm.specs.Samples.{sampleSize, heightsOf}
 use Rattle.writer.specs.Level.{Memory}
@@ -36,7 +36,8 @@ leftOn k s = leftOf (textOn k s) (lineOn s .done)
 
 -- m bytes more of the part are written, not all of it
 abbrev pub writtenOn : ℕ → ℕ → State → State
-writtenOn k m s = stateOf (listed (s .listing .input) (s .listing .writer) (donePart (lineOn s) (startOf (length (textOn k s)) (lineOn s .done) + m))) (s .store) (s .row)
+writtenOn k m s =
+    stateOf (listed (s .listing .input) (s .listing .writer) (donePart (lineOn s) (startOf (length (textOn k s)) (lineOn s .done) + m))) (s .store) (s .row)
 
 -- ---- the moves from state s to s′: u is read, t is written
 pub data Move (n k : ℕ) (s : State) (u t : List ℕ) (s′ : State) : Type 0 where
@@ -47,10 +48,12 @@ pub data Move (n k : ℕ) (s : State) (u t : List ℕ) (s′ : State) : Type 0 w
   -- a byte is read
   readByte : (b : ℕ) → Idle s → u ≡ b ∷ [] → t ≡ [] → s′ ≡ readState n k b s → Move n k s u t s′
   -- heights that came together are offered together, and the writer takes some of them
-  takes : (bytes : List ℕ) (j : Took) → Idle s → s .listing .input .phase ≡ 3 → s .listing .input .samples .half ≡ false → length (heightsOf (largestOn s) bytes) ≤ s .listing .input .left
+  takes : (bytes : List ℕ) (j : Took) → Idle s → s .listing .input .phase ≡ 3 → s .listing .input .samples .half ≡ false
+      → length (heightsOf (largestOn s) bytes) ≤ s .listing .input .left
       → offerReply (s .listing .writer) n (heightsOf (largestOn s) bytes) (s .store) ≡ gives j → 0 < j .taken
       → u ≡ take (sampleSize (largestOn s) * j .taken) bytes → t ≡ []
-      → s′ ≡ drawState n k (heightsCame (j .taken) (s .listing .input)) (j .writer) (offerStore (s .listing .writer) n (heightsOf (largestOn s) bytes) (s .store)) (s .row)
+      → s′ ≡ drawState n k (heightsCame (j .taken) (s .listing .input)) (j .writer)
+      (offerStore (s .listing .writer) n (heightsOf (largestOn s) bytes) (s .store)) (s .row)
       → Move n k s u t s′
 
 -- any number of moves, one after the other
@@ -102,4 +105,5 @@ pub data Onward (s : State) (p : List ℕ) (a a′ : ℕ) (o : List ℕ) (b b′
 -- ---- any calls, one after the other: u is all that was read of the pieces, t all that was written
 pub data Session (n k : ℕ) : State → List ℕ → List ℕ → State → Type 0 where
   begun : (s : State) → Session n k s [] [] s
-  call : {s s₁ s₂ : State} {u t p o o′ : List ℕ} {a b : ℕ} → Session n k s u t s₁ → Went n k s₁ p 0 a o o′ 0 b s₂ → Session n k s (u ++ take a p) (t ++ take b o′) s₂
+  call : {s s₁ s₂ : State} {u t p o o′ : List ℕ} {a b : ℕ} → Session n k s u t s₁ → Went n k s₁ p 0 a o o′ 0 b s₂
+      → Session n k s (u ++ take a p) (t ++ take b o′) s₂

@@ -12,7 +12,8 @@ use Rattle.listing.specs.Moves.{Went, Stops}
 -- a piece p to its end: what is left of it is fed again until a call answers that it is idle. t is all that was written
 pub data Piece (n k : ℕ) : State → List ℕ → List ℕ → State → Type 0 where
   last : {s s′ : State} {p o o′ : List ℕ} {a b : ℕ} → Went n k s p 0 a o o′ 0 b s′ → Stops s′ p a o b true → Piece n k s p (take b o′) s′
-  again : {s s₁ s′ : State} {p o o′ t : List ℕ} {a b : ℕ} → Went n k s p 0 a o o′ 0 b s₁ → Stops s₁ p a o b false → Piece n k s₁ (drop a p) t s′ → Piece n k s p (take b o′ ++ t) s′
+  again : {s s₁ s′ : State} {p o o′ t : List ℕ} {a b : ℕ} → Went n k s p 0 a o o′ 0 b s₁ → Stops s₁ p a o b false → Piece n k s₁ (drop a p) t s′
+      → Piece n k s p (take b o′ ++ t) s′
 
 -- pieces one after the other
 pub data Pieces (n k : ℕ) : State → List (List ℕ) → List ℕ → State → Type 0 where

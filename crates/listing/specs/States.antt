@@ -1,18 +1,16 @@
 -- A listing with its line store x and its row area z, and what each step leaves of them. n and k are the lengths of store and area.
 use mathlib.Core.Path.{_≡_}
-use mathlib.Core.Bool.{Bool, true, false}
-use mathlib.Core.List.{List, [], _∷_}
+use mathlib.Core.List.{[], _∷_}
 use Prim.Native.Nat.{ℕ, _+_}
 use lib.Dec.{ltb, eqb}
-use lib.IntN.{ℤ}
-use lib.ListN.{length, drop}
+use lib.ListN.{length}
 use Rattle.numbers.specs.Signal.{pick}
 use Rattle.writer.specs.Level.{Memory}
 use Rattle.writer.specs.Answers.{Reply, gives, refused, Took, Handed, aRow, nothing}
 use Rattle.writer.specs.Calls.{fresh, setUpReply, setUpStore, offerReply, offerStore, drawReply, drawStore, drawArea, finishReply, finishStore}
 use Rattle.writer.specs.declared.Writer.{Writer}
 use Rattle.listing.specs.InputSteps.{atStart, phased, readByte, inputEnded}
-use Rattle.listing.specs.Parts.{noLine, sizePart, refusedPart, headPart, partText}
+use Rattle.listing.specs.Parts.{noLine, sizePart, refusedPart, headPart}
 use Rattle.listing.specs.declared.input.Input.{Input}
 use Rattle.listing.specs.declared.input.Step.{Step}
 use Rattle.listing.specs.declared.input.Step.the-variants as steps
@@ -105,5 +103,6 @@ unfoldable pub advanceState : ℕ → ℕ → State → State
 advanceState n k s =
     pick (ltb (s .listing .line .part) 3) (stateOf (listed (s .listing .input) (s .listing .writer) noLine) (s .store) (s .row))
     (pick (eqb (s .listing .line .part) 3) (stateOf (listed (s .listing .input) (s .listing .writer) (valuePart (s .listing .line) 0)) (s .store) (s .row))
-    (pick (ltb (s .listing .line .value) (s .listing .line .length)) (stateOf (listed (s .listing .input) (s .listing .writer) (valuePart (s .listing .line) (s .listing .line .value + 1))) (s .store) (s .row))
+    (pick (ltb (s .listing .line .value) (s .listing .line .length))
+    (stateOf (listed (s .listing .input) (s .listing .writer) (valuePart (s .listing .line) (s .listing .line .value + 1))) (s .store) (s .row))
     (drawState n k (s .listing .input) (s .listing .writer) (s .store) (s .row))))

@@ -6,7 +6,8 @@ use pgm::samples::Sample;
 use pgm::samples::Samples;
 ghost use mathlib.Core.Path.{_≡_};
 ghost use Prim.Native.Nat.{_-_};
-ghost use Rattle.listing.specs.InputSteps.{atStart, phased, levelsRead, lineFeedRead, shapeRead, headerRead, heightRead, readByte, inputEnded, heightsCame};
+ghost use Rattle.listing.specs.InputSteps.{atStart, phased, levelsRead, lineFeedRead, shapeRead, headerRead, heightRead, readByte, inputEnded};
+ghost use Rattle.listing.specs.InputSteps.{heightsCame};
 
 pub struct Input {
     // 0 waits for the digit, 1 for the line feed, 2 reads the header, 3 the heights, 4 reads no more

@@ -31,7 +31,8 @@ pub struct Fed {
 }
 
 impl Listing {
-    // How many numbers the lent areas have to hold so that no map listed is refused: the line store of the largest width and five levels, and the longest band row.
+    // How many numbers the lent areas have to hold so that no map listed is refused: the line store of the largest width and five levels, and the
+    // longest band row.
     pub const STORE: usize = 7956;
 
     pub const ROW: usize = limits::MAX_WIDTH;
@@ -71,8 +72,11 @@ impl Listing {
 
     // Reads a piece of the input and writes lines, until the area is full, or the piece is used up and no line is left. The rest of a piece is lent again.
     pub fn feed(self, piece: &[u8], store: &mut [i32], row: &mut [i32], out: &mut [u8]) -> Fed
-        ensures { λ r. ⌜ Went (length (now (store .entry))) (length (now (row .entry))) (stateOf self (at (now (store .entry))) (at (now (row .entry)))) (now (piece .entry)) 0 (r .used) (now (out .entry)) (now (out .exit)) 0 (r .written) (stateOf (r .listing) (at (now (store .exit))) (at (now (row .exit)))) ⌝ }
-        ensures { λ r. ⌜ Stops (stateOf (r .listing) (at (now (store .exit))) (at (now (row .exit)))) (now (piece .entry)) (r .used) (now (out .entry)) (r .written) (r .idle) ⌝ }
+        ensures { λ r. ⌜ Went (length (now (store .entry))) (length (now (row .entry))) (stateOf self (at (now (store .entry))) (at (now (row .entry))))
+            (now (piece .entry)) 0 (r .used) (now (out .entry)) (now (out .exit)) 0 (r .written)
+            (stateOf (r .listing) (at (now (store .exit))) (at (now (row .exit)))) ⌝ }
+        ensures { λ r. ⌜ Stops (stateOf (r .listing) (at (now (store .exit))) (at (now (row .exit)))) (now (piece .entry)) (r .used) (now (out .entry))
+            (r .written) (r .idle) ⌝ }
     {
         let mut state = self;
         let mut used = 0;
@@ -97,7 +101,8 @@ impl Listing {
 
     // The input has ended. To be called once no line is being written.
     pub fn end(self, store: &mut [i32], row: &mut [i32]) -> Listing
-        ensures { λ r. ⌜ Leaves (endState (length (now (store .entry))) (length (now (row .entry))) (stateOf self (at (now (store .entry))) (at (now (row .entry))))) r (at (now (store .exit))) (at (now (row .exit))) ⌝ }
+        ensures { λ r. ⌜ Leaves (endState (length (now (store .entry))) (length (now (row .entry)))
+            (stateOf self (at (now (store .entry))) (at (now (row .entry))))) r (at (now (store .exit))) (at (now (row .exit))) ⌝ }
     {
         let input = self.input;
         let writer = self.writer;
@@ -132,8 +137,11 @@ fn turn(
     written: usize,
 ) -> Turned
     requires { ⌜ (used ≤ length (now piece)) × (written ≤ length (now out)) ⌝ }
-    ensures { λ r. ⌜ Went (length (now (store .entry))) (length (now (row .entry))) (stateOf listing (at (now (store .entry))) (at (now (row .entry)))) (now (piece .entry)) used (r .used) (now (out .entry)) (now (out .exit)) written (r .written) (stateOf (r .listing) (at (now (store .exit))) (at (now (row .exit)))) ⌝ }
-    ensures { λ r. ⌜ Onward (stateOf (r .listing) (at (now (store .exit))) (at (now (row .exit)))) (now (piece .entry)) used (r .used) (now (out .entry)) written (r .written) (r .going) ⌝ }
+    ensures { λ r. ⌜ Went (length (now (store .entry))) (length (now (row .entry))) (stateOf listing (at (now (store .entry))) (at (now (row .entry))))
+        (now (piece .entry)) used (r .used) (now (out .entry)) (now (out .exit)) written (r .written)
+        (stateOf (r .listing) (at (now (store .exit))) (at (now (row .exit)))) ⌝ }
+    ensures { λ r. ⌜ Onward (stateOf (r .listing) (at (now (store .exit))) (at (now (row .exit)))) (now (piece .entry)) used (r .used)
+        (now (out .entry)) written (r .written) (r .going) ⌝ }
 {
     let line = listing.line;
     if line.part == 0 {

@@ -1,4 +1,5 @@
-// What comes in while no line is being written: heights that came together are offered together, any other byte is read by itself. The module is private: only this crate, which meets what is required, can call it.
+// What comes in while no line is being written: heights that came together are offered together, any other byte is read by itself. The module is
+// private: only this crate, which meets what is required, can call it.
 use crate::input::Input;
 use crate::listing::Listing;
 use crate::states;
@@ -26,7 +27,8 @@ fn read_byte(
     row: &mut [i32],
 ) -> Read
     requires { ⌜ (listing .line .part ≡ 0) × (used < length (now piece)) ⌝ }
-    ensures { λ r. ⌜ Reads (length (now (store .entry))) (length (now (row .entry))) (stateOf listing (at (now (store .entry))) (at (now (row .entry)))) (now (piece .entry)) used (r .used) (stateOf (r .listing) (at (now (store .exit))) (at (now (row .exit)))) ⌝ }
+    ensures { λ r. ⌜ Reads (length (now (store .entry))) (length (now (row .entry))) (stateOf listing (at (now (store .entry))) (at (now (row .entry))))
+        (now (piece .entry)) used (r .used) (stateOf (r .listing) (at (now (store .exit))) (at (now (row .exit)))) ⌝ }
 {
     Read {
         listing: states::read(listing, piece[used], store, row),
@@ -34,7 +36,8 @@ fn read_byte(
     }
 }
 
-// As many whole heights as there are, as are still to come and as fit the run; the writer says how many of them it takes. Where the next sample is no height, its byte is read.
+// As many whole heights as there are, as are still to come and as fit the run; the writer says how many of them it takes. Where the next sample is no
+// height, its byte is read.
 fn read_run(
     listing: Listing,
     piece: &[u8],
@@ -43,8 +46,10 @@ fn read_run(
     row: &mut [i32],
     run: &mut [u16],
 ) -> Read
-    requires { ⌜ (listing .line .part ≡ 0) × (listing .input .phase ≡ 3) × (listing .input .samples .half ≡ false) × (0 < listing .input .left) × (used + 2 ≤ length (now piece)) × (0 < length (now run)) ⌝ }
-    ensures { λ r. ⌜ Reads (length (now (store .entry))) (length (now (row .entry))) (stateOf listing (at (now (store .entry))) (at (now (row .entry)))) (now (piece .entry)) used (r .used) (stateOf (r .listing) (at (now (store .exit))) (at (now (row .exit)))) ⌝ }
+    requires { ⌜ (listing .line .part ≡ 0) × (listing .input .phase ≡ 3) × (listing .input .samples .half ≡ false) × (0 < listing .input .left) ×
+        (used + 2 ≤ length (now piece)) × (0 < length (now run)) ⌝ }
+    ensures { λ r. ⌜ Reads (length (now (store .entry))) (length (now (row .entry))) (stateOf listing (at (now (store .entry))) (at (now (row .entry))))
+        (now (piece .entry)) used (r .used) (stateOf (r .listing) (at (now (store .exit))) (at (now (row .exit)))) ⌝ }
 {
     let input = listing.input;
     let writer = listing.writer;
@@ -72,8 +77,10 @@ fn read_heights(
     store: &mut [i32],
     row: &mut [i32],
 ) -> Read
-    requires { ⌜ (listing .line .part ≡ 0) × (listing .input .phase ≡ 3) × (listing .input .samples .half ≡ false) × (0 < listing .input .left) × (used + 2 ≤ length (now piece)) ⌝ }
-    ensures { λ r. ⌜ Reads (length (now (store .entry))) (length (now (row .entry))) (stateOf listing (at (now (store .entry))) (at (now (row .entry)))) (now (piece .entry)) used (r .used) (stateOf (r .listing) (at (now (store .exit))) (at (now (row .exit)))) ⌝ }
+    requires { ⌜ (listing .line .part ≡ 0) × (listing .input .phase ≡ 3) × (listing .input .samples .half ≡ false) × (0 < listing .input .left) ×
+        (used + 2 ≤ length (now piece)) ⌝ }
+    ensures { λ r. ⌜ Reads (length (now (store .entry))) (length (now (row .entry))) (stateOf listing (at (now (store .entry))) (at (now (row .entry))))
+        (now (piece .entry)) used (r .used) (stateOf (r .listing) (at (now (store .exit))) (at (now (row .exit)))) ⌝ }
 {
     let mut run = [0u16; 256];
     read_run(listing, piece, used, store, row, &mut run)
@@ -104,7 +111,8 @@ pub fn read_on(
     row: &mut [i32],
 ) -> Read
     requires { ⌜ (listing .line .part ≡ 0) × (used < length (now piece)) ⌝ }
-    ensures { λ r. ⌜ Reads (length (now (store .entry))) (length (now (row .entry))) (stateOf listing (at (now (store .entry))) (at (now (row .entry)))) (now (piece .entry)) used (r .used) (stateOf (r .listing) (at (now (store .exit))) (at (now (row .exit)))) ⌝ }
+    ensures { λ r. ⌜ Reads (length (now (store .entry))) (length (now (row .entry))) (stateOf listing (at (now (store .entry))) (at (now (row .entry))))
+        (now (piece .entry)) used (r .used) (stateOf (r .listing) (at (now (store .exit))) (at (now (row .exit)))) ⌝ }
 {
     if are_next(listing.input, piece.len() - used) {
         return read_heights(listing, piece, used, store, row);

@@ -1,4 +1,5 @@
-// The steps of a listing, each on the whole state: what was read goes to the writer, and the next band row that waits becomes the line. The module is private: `listing` has the calls.
+// The steps of a listing, each on the whole state: what was read goes to the writer, and the next band row that waits becomes the line. The module is
+// private: `listing` has the calls.
 use crate::input::Input;
 use crate::input::Step;
 use crate::line::Line;
@@ -27,7 +28,8 @@ pub fn refuse(input: Input, writer: Writer, number: u8) -> Listing
 
 // The next band row that waits becomes the line.
 pub fn draw(input: Input, writer: Writer, store: &mut [i32], row: &mut [i32]) -> Listing
-    ensures { λ r. ⌜ Leaves (drawState (length (now (store .entry))) (length (now (row .entry))) input writer (at (now (store .entry))) (at (now (row .entry)))) r (at (now (store .exit))) (at (now (row .exit))) ⌝ }
+    ensures { λ r. ⌜ Leaves (drawState (length (now (store .entry))) (length (now (row .entry))) input writer (at (now (store .entry)))
+        (at (now (row .entry)))) r (at (now (store .exit))) (at (now (row .exit))) ⌝ }
 {
     match writer.draw(store, row) {
         Drawn::Row(r, next) => Listing {
@@ -61,7 +63,8 @@ fn begin(input: Input, writer: Writer, width: usize, height: usize, store: &mut 
 }
 
 fn offer(input: Input, writer: Writer, height: u16, store: &mut [i32], row: &mut [i32]) -> Listing
-    ensures { λ r. ⌜ Leaves (offerState (length (now (store .entry))) (length (now (row .entry))) input writer height (at (now (store .entry))) (at (now (row .entry)))) r (at (now (store .exit))) (at (now (row .exit))) ⌝ }
+    ensures { λ r. ⌜ Leaves (offerState (length (now (store .entry))) (length (now (row .entry))) input writer height (at (now (store .entry)))
+        (at (now (row .entry)))) r (at (now (store .exit))) (at (now (row .exit))) ⌝ }
 {
     let run = [height; 1];
     match writer.offer(store, &run) {
@@ -71,7 +74,8 @@ fn offer(input: Input, writer: Writer, height: u16, store: &mut [i32], row: &mut
 }
 
 pub fn finish(input: Input, writer: Writer, store: &mut [i32], row: &mut [i32]) -> Listing
-    ensures { λ r. ⌜ Leaves (finishState (length (now (store .entry))) (length (now (row .entry))) input writer (at (now (store .entry))) (at (now (row .entry)))) r (at (now (store .exit))) (at (now (row .exit))) ⌝ }
+    ensures { λ r. ⌜ Leaves (finishState (length (now (store .entry))) (length (now (row .entry))) input writer (at (now (store .entry)))
+        (at (now (row .entry)))) r (at (now (store .exit))) (at (now (row .exit))) ⌝ }
 {
     match writer.finish(store) {
         Finished::Closed(next) => draw(input, next, store, row),
@@ -81,7 +85,8 @@ pub fn finish(input: Input, writer: Writer, store: &mut [i32], row: &mut [i32]) 
 
 // One byte of the input, while no line is being written.
 pub fn read(listing: Listing, byte: u8, store: &mut [i32], row: &mut [i32]) -> Listing
-    ensures { λ r. ⌜ Leaves (readState (length (now (store .entry))) (length (now (row .entry))) byte (stateOf listing (at (now (store .entry))) (at (now (row .entry))))) r (at (now (store .exit))) (at (now (row .exit))) ⌝ }
+    ensures { λ r. ⌜ Leaves (readState (length (now (store .entry))) (length (now (row .entry))) byte
+        (stateOf listing (at (now (store .entry))) (at (now (row .entry))))) r (at (now (store .exit))) (at (now (row .exit))) ⌝ }
 {
     let input = listing.input;
     let writer = listing.writer;
@@ -114,7 +119,8 @@ pub fn at_value(line: Line, v: usize) -> Line
 
 // The line's part is written whole: what comes after it.
 pub fn advance(listing: Listing, store: &mut [i32], row: &mut [i32]) -> Listing
-    ensures { λ r. ⌜ Leaves (advanceState (length (now (store .entry))) (length (now (row .entry))) (stateOf listing (at (now (store .entry))) (at (now (row .entry))))) r (at (now (store .exit))) (at (now (row .exit))) ⌝ }
+    ensures { λ r. ⌜ Leaves (advanceState (length (now (store .entry))) (length (now (row .entry)))
+        (stateOf listing (at (now (store .entry))) (at (now (row .entry))))) r (at (now (store .exit))) (at (now (row .exit))) ⌝ }
 {
     let input = listing.input;
     let writer = listing.writer;

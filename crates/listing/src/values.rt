@@ -1,7 +1,7 @@
-// The values of a band row, each after a space, written forward while there is room for the longest. The module is private: only this crate, which meets what is required, can call it.
+// The values of a band row, each after a space, written forward while there is room for the longest. The module is private: only this crate, which
+// meets what is required, can call it.
 use text::bytes;
 use text::decimal;
-ghost use mathlib.Core.Path.{_≡_};
 ghost use mathlib.Core.List.{_∷_};
 ghost use Prim.Native.Nat.{_+_, _-_, _<_, _≤_};
 ghost use lib.ListN.{length};

@@ -1,4 +1,5 @@
-// What goes out while a line is being written: the values of a band row one after the other where there is room for the longest, else a part as far as there is room. The module is private: only this crate, which meets what is required, can call it.
+// What goes out while a line is being written: the values of a band row one after the other where there is room for the longest, else a part as far
+// as there is room. The module is private: only this crate, which meets what is required, can call it.
 use crate::line::Line;
 use crate::listing::Listing;
 use crate::spelling;
@@ -32,8 +33,10 @@ fn with_line(listing: Listing, line: Line) -> Listing
 
 // The store is not lent here, so it stays.
 fn write_values(listing: Listing, row: &[i32], out: &mut [u8], place: usize) -> Written
-    requires { ⌜ (3 < listing .line .part) × (listing .line .done ≡ 0) × (listing .line .value < listing .line .length) × (listing .line .value < length (now row)) × (place + 12 ≤ length (now out)) ⌝ }
-    ensures { λ r. ⌜ WritesOnly (length (now (row .entry))) listing (at (now (row .entry))) (now (out .entry)) (now (out .exit)) place (r .place) (r .listing) ⌝ }
+    requires { ⌜ (3 < listing .line .part) × (listing .line .done ≡ 0) × (listing .line .value < listing .line .length) ×
+        (listing .line .value < length (now row)) × (place + 12 ≤ length (now out)) ⌝ }
+    ensures { λ r. ⌜ WritesOnly (length (now (row .entry))) listing (at (now (row .entry))) (now (out .entry)) (now (out .exit)) place (r .place)
+        (r .listing) ⌝ }
 {
     let line = listing.line;
     let end = bytes::least(line.length, row.len());
@@ -52,7 +55,8 @@ fn write_part(
     place: usize,
 ) -> Written
     requires { ⌜ (0 < listing .line .part) × (place < length (now out)) ⌝ }
-    ensures { λ r. ⌜ Writes (length (now (store .entry))) (length (now (row .entry))) (stateOf listing (at (now (store .entry))) (at (now (row .entry)))) (now (out .entry)) (now (out .exit)) place (r .place) (stateOf (r .listing) (at (now (store .exit))) (at (now (row .exit)))) ⌝ }
+    ensures { λ r. ⌜ Writes (length (now (store .entry))) (length (now (row .entry))) (stateOf listing (at (now (store .entry))) (at (now (row .entry))))
+        (now (out .entry)) (now (out .exit)) place (r .place) (stateOf (r .listing) (at (now (store .exit))) (at (now (row .exit)))) ⌝ }
 {
     let line = listing.line;
     let s = spelling::spell(line, row, out, place);
@@ -95,7 +99,8 @@ pub fn write_on(
     place: usize,
 ) -> Written
     requires { ⌜ (0 < listing .line .part) × (place < length (now out)) ⌝ }
-    ensures { λ r. ⌜ Writes (length (now (store .entry))) (length (now (row .entry))) (stateOf listing (at (now (store .entry))) (at (now (row .entry)))) (now (out .entry)) (now (out .exit)) place (r .place) (stateOf (r .listing) (at (now (store .exit))) (at (now (row .exit)))) ⌝ }
+    ensures { λ r. ⌜ Writes (length (now (store .entry))) (length (now (row .entry))) (stateOf listing (at (now (store .entry))) (at (now (row .entry))))
+        (now (out .entry)) (now (out .exit)) place (r .place) (stateOf (r .listing) (at (now (store .exit))) (at (now (row .exit)))) ⌝ }
 {
     let line = listing.line;
     if are_next(line, row.len(), out.len() - place) {

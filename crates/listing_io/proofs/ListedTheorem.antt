@@ -5,15 +5,14 @@
 --     ended-listed    where the input ended, it is `listingOf` all that was read
 --     partly-listed   before the end, at any time, it is a beginning of `dueOf` what was read and is not left in the chunk
 -- Assumes nothing.
-use mathlib.Core.Path.{_≡_, refl, sym, ap, subst, subst₂, _∙_}
-use mathlib.Core.Bool.{Bool, true, false}
+use mathlib.Core.Path.{_≡_, refl, sym, ap, subst, _∙_}
+use mathlib.Core.Bool.{true}
 use mathlib.Core.List.{List, [], _∷_, _++_, append-nil, append-assoc}
 use Prim.Native.Nat.{ℕ, _≤_, _<_}
 use native.Mathlib.Omega.{arith}
 use lib.Dec.{ltb, eqb}
-use lib.ListN.{take, drop}
+use lib.ListN.{take}
 use borrow.Author.Tests.{ltb-true, eqb-true, lt-ltb, le-ltb}
-use Rattle.numbers.specs.Signal.{pick, both}
 use Rattle.wavelet.specs.Store.{storeLength}
 use Rattle.writer.specs.Level.{Memory}
 use Rattle.writer.specs.Demand3.{All, all-none, all-more}
@@ -24,11 +23,11 @@ use Rattle.pgm.specs.Limits.{maxPictureWidth}
 use Rattle.listing.specs.Listing.{listingOf, dueOf}
 use Rattle.listing.specs.InputSteps.{inputEnded}
 use Rattle.listing.specs.States.{State, stateOf, started, readState, endState}
-use Rattle.listing.specs.Moves.{Idle, Move, readByte, Goes, stays, then}
+use Rattle.listing.specs.Moves.{Idle, readByte, Goes, stays, then}
 use Rattle.listing.specs.declared.listing.Listing.{Listing}
 use Rattle.listing.proofs.InputCases.{phase-on}
 use Rattle.listing.proofs.MoveLaws.{goes-on}
-use Rattle.listing.proofs.ListingTheorem.{call-wrote, moves-due, moves-prefix, moves-whole}
+use Rattle.listing.proofs.ListingTheorem.{call-wrote, moves-prefix, moves-whole}
 use Rattle.listing_io.specs.Rounds.{over, ends, Round, Rounds, Ran}
 use Rattle.listing_io.specs.Rounds as rounds
 use Rattle.listing_io.specs.declared.run.Run.{Run}
@@ -73,21 +72,21 @@ unfolding over
 over-idle l e = let b = both-true (eqb (l .line .part) 0) (ltb 3 (l .input .phase)) e in (eqb-true _ _ (b .0), ltb-true _ _ (b .1))
 
 pub record AfterRefusal (n k : ℕ) (s : State) (v : List ℕ) : Type 0 where
-  pub stateOf : State
-  pub goes : Goes n k s v [] stateOf
-  pub idle : Idle stateOf
-  pub after-refusal : 3 < stateOf .listing .input .phase
+  pub state : State
+  pub goes : Goes n k s v [] state
+  pub idle : Idle state
+  pub phase : 3 < state .listing .input .phase
 
 after-refusal-one : (n k b : ℕ) (s : State) → 3 < s .listing .input .phase → (Idle (readState n k b s)) × (3 < readState n k b s .listing .input .phase)
 unfolding readState
 after-refusal-one n k b s h = rw (sym (phase-on (s .listing .input) b (λ e. omega arith) (λ e. omega arith) (λ e. omega arith) (λ e. omega arith))) (refl, h)
 
 after-refusal-all : (n k : ℕ) (v : List ℕ) (s : State) → Idle s → 3 < s .listing .input .phase → AfterRefusal n k s v
-after-refusal-all n k [] s i h = record { stateOf = s; goes = stays s; idle = i; after-refusal = h }
+after-refusal-all n k [] s i h = record { state = s; goes = stays s; idle = i; phase = h }
 after-refusal-all n k (b ∷ v) s i h =
     let o = after-refusal-one n k b s h in
     let d = after-refusal-all n k v (readState n k b s) (o .0) (o .1) in
-    record { stateOf = d .stateOf; goes = goes-on (then (stays s) (readByte b i refl refl refl)) (d .goes); idle = d .idle; after-refusal = d .after-refusal }
+    record { state = d .state; goes = goes-on (then (stays s) (readByte b i refl refl refl)) (d .goes); idle = d .idle; phase = d .phase }
 
 end-over : (n k : ℕ) (s : State) → Idle s → 3 < s .listing .input .phase → endState n k s ≡ s
 unfolding endState inputEnded
@@ -113,7 +112,7 @@ module _ (n k : ℕ) (store : storeLength maxPictureWidth 5 ≤ n) (row : maxPic
   over-listed v bytes e =
       sym (append-nil _) ∙ sym (append-nil _)
       ∙ moves-whole n k store row x z (subst Bytes same bytes) (goes-on (reached .goes) (d .goes)) (d .idle) all-none (stays _)
-      (subst Idle (sym (end-over n k (d .stateOf) (d .idle) (d .after-refusal))) (d .idle))
+      (subst Idle (sym (end-over n k (d .state) (d .idle) (d .phase))) (d .idle))
       ∙ ap listingOf (sym same)
     where
       o : (s .listing .line .part ≡ 0) × (3 < s .listing .input .phase)

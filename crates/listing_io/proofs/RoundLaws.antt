@@ -2,17 +2,17 @@
 use mathlib.Core.Path.{_≡_, refl, sym, ap, subst, _∙_}
 use mathlib.Core.Bool.{Bool, true, false, not}
 use mathlib.Core.List.{List, [], _++_}
-use Prim.Native.Nat.{ℕ, suc, _+_, _-_, _≤_, _<_}
+use Prim.Native.Nat.{ℕ, suc, _+_, _-_, _<_}
 use native.Mathlib.Omega.{arith}
 use lib.Dec.{eqb}
-use lib.ListN.{length, take, drop}
+use lib.ListN.{take, drop}
 use lib.Seq.{drop-length}
 use Rattle.numbers.specs.Signal.{both}
-use Rattle.descriptors.specs.Left.{leftIn, Within, usedOf, Fills}
+use Rattle.descriptors.specs.Left.{leftIn, Within, Fills}
 use Rattle.descriptors.specs.declared.input.Left.{Left}
 use Rattle.descriptors.specs.declared.input.Filled.{Filled}
 use Rattle.descriptors.specs.declared.output.Sent.{Sent}
-use Rattle.descriptors.proofs.LeftLaws.{none-left, fills-within, used-within, used-left}
+use Rattle.descriptors.proofs.LeftLaws.{fills-within, used-within, used-left}
 use Rattle.writer.specs.Level.{Memory}
 use Rattle.listing.specs.declared.listing.Listing.{Listing}
 use Rattle.listing.specs.declared.listing.Fed.{Fed}

@@ -3,7 +3,7 @@
 use mathlib.Core.Path.{_≡_, refl, sym, ap, _∙_}
 use mathlib.Core.Bool.{Bool, true, false}
 use mathlib.Core.List.{List, [], _∷_, _++_, append-assoc, append-nil}
-use Prim.Native.Nat.{ℕ, zero, suc, _+_, _*_, _≤_, _<_, min}
+use Prim.Native.Nat.{ℕ, suc, _+_, _*_, _≤_, _<_, min}
 use native.Mathlib.Omega.{arith}
 use native.Mathlib.Decide.{decLt}
 use lib.Dec.{leb, eqb}
@@ -11,8 +11,10 @@ use borrow.Author.Tests.{lt-leb, le-leb, leb-true, ne-eqb}
 use Rattle.numbers.specs.Signal.{pick, both}
 use Rattle.pgm.specs.Characters.{space, lineEnd, digit, digitValue}
 use Rattle.pgm.specs.Limits.{maxField, upTo}
-use Rattle.pgm.specs.Header.{Read, found, short, wrong, andThen, is, one, comment, gap, afterGaps, numberFrom, number, field, Size, side, sized, headerEnd, headerOf}
-use Rattle.pgm.specs.Steps.{staged, begun, expected, commented, gapEnded, gapRead, commentRead, numberEnded, inNumber, stepOf, Fed, still, ended, bad, stepped, feed, feedOn, joined, feedPieces, readBy}
+use Rattle.pgm.specs.Header.{Read, found, short, wrong, andThen, is, one, comment, gap, afterGaps, numberFrom, number, field, Size, side, sized}
+use Rattle.pgm.specs.Header.{headerEnd, headerOf}
+use Rattle.pgm.specs.Steps.{staged, begun, expected, gapEnded, gapRead, commentRead, numberEnded, inNumber, stepOf, Fed, still, ended, bad}
+use Rattle.pgm.specs.Steps.{stepped, feed, feedOn, joined, feedPieces, readBy}
 use Rattle.pgm.specs.declared.header.Header.{Header}
 use Rattle.pgm.specs.declared.header.Next.{Next}
 use Rattle.pgm.specs.declared.header.Next.the-variants.{More, Done, Refused}
@@ -38,7 +40,13 @@ side-cap n =
       | yes p ↦ rw (cap-small n p)
       | no d ↦
           let h : suc maxField ≤ n = omega arith in
-          rw (cap-large n h, le-leb 1 n (omega arith), le-leb 1 (suc maxField) (omega arith), lt-leb n maxField (omega arith), lt-leb (suc maxField) maxField (omega arith))
+          rw (
+            cap-large n h,
+            le-leb 1 n (omega arith),
+            le-leb 1 (suc maxField) (omega arith),
+            lt-leb n maxField (omega arith),
+            lt-leb (suc maxField) maxField (omega arith),
+          )
     ]
 
 side-kept : (n : ℕ) → side n ≡ true → cap n ≡ n
@@ -112,7 +120,9 @@ module _ (k w h m : ℕ) (f : ℕ → List ℕ → Read Size)
   unfolding inNumber afterGaps numberFrom gapRead maxField
   gap-turn true p q b s e x y t u =
       let l = from-digit b e in
-      rw (no-space b l, no-mark b l, e) (ap (λ n. readBy (feed (record { stage = k; comment = false; any = true; number = n; width = cap w; height = cap h; largest = cap m }) s)) (cap-digit 0 (digitValue b)) ∙ digits (10 * 0 + digitValue b) s)
+      rw (no-space b l, no-mark b l, e) (ap (λ n. readBy
+      (feed (record { stage = k; comment = false; any = true; number = n; width = cap w; height = cap h; largest = cap m }) s)) (cap-digit 0
+      (digitValue b)) ∙ digits (10 * 0 + digitValue b) s)
   gap-turn false true q b s e x y t u = rw (e, x) (ap (λ z. onward z s) (stays false) ∙ u)
   gap-turn false false true b s e x y t u = rw (e, x, y) t
   gap-turn false false false b s e x y t u = rw (e, x, y, e)
@@ -172,7 +182,8 @@ module _ (w h m : ℕ) where
   last-comment [] = refl
   last-comment (b ∷ s) = last-turn (lineEnd b) b s refl (last-comment s)
 
-  last-entered : (p q : Bool) (b : ℕ) (s : List ℕ) → space b ≡ p → eqb b 35 ≡ q → onward (gapRead (staged 6 false (cap w) (cap h) (cap m)) b) s ≡ ends (gap (b ∷ s))
+  last-entered : (p q : Bool) (b : ℕ) (s : List ℕ) → space b ≡ p → eqb b 35 ≡ q
+      → onward (gapRead (staged 6 false (cap w) (cap h) (cap m)) b) s ≡ ends (gap (b ∷ s))
   unfolding gapRead gap
   last-entered true q b s x y = rw x (lastly false s)
   last-entered false true b s x y = rw (x, y) (last-comment s)

@@ -1,12 +1,12 @@
 -- What the limits say of numbers. Assumes nothing.
-use mathlib.Core.Path.{_≡_, refl, sym, ap, _∙_}
+use mathlib.Core.Path.{_≡_, refl, ap, _∙_}
 use mathlib.Core.Bool.{Bool, true, false}
-use Prim.Native.Nat.{ℕ, suc, _*_, _≤_, _<_, _^_}
+use Prim.Native.Nat.{ℕ, _*_, _≤_, _<_, _^_}
 use native.Mathlib.Omega.{arith}
 use native.Mathlib.Nat.{mul-le-mul}
 use lib.Dec.{leb}
-use borrow.Author.Tests.{le-leb, lt-leb, leb-true}
-use Rattle.numbers.specs.Signal.{pick, both}
+use borrow.Author.Tests.{le-leb, leb-true}
+use Rattle.numbers.specs.Signal.{pick}
 use Rattle.numbers.proofs.Sweep.{both as split-both}
 use Rattle.pgm.specs.Limits.{maxField, maxPictureWidth, maxPictureHeight, upTo, sizeFits}
 

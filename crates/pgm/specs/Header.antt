@@ -1,4 +1,5 @@
--- A header, as a definition on the bytes of an input: Netpbm's grammar of a binary PGM. P5, width, height and largest value, gaps before each number, one gap after the last.
+-- A header, as a definition on the bytes of an input: Netpbm's grammar of a binary PGM. P5, width, height and largest value, gaps before each number,
+-- one gap after the last.
 use mathlib.Core.Bool.{Bool, true, false}
 use mathlib.Core.List.{List, [], _∷_}
 use Prim.Native.Nat.{ℕ, _+_, _*_}

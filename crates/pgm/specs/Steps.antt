@@ -3,7 +3,7 @@ use mathlib.Core.Bool.{Bool, true, false}
 use mathlib.Core.List.{List, [], _∷_, _++_}
 use Prim.Native.Nat.{ℕ, suc, _+_, _*_, min}
 use lib.Dec.{eqb}
-use Rattle.numbers.specs.Signal.{pick, both}
+use Rattle.numbers.specs.Signal.{pick}
 use Rattle.pgm.specs.Characters.{space, lineEnd, digit, digitValue}
 use Rattle.pgm.specs.Limits.{maxField}
 use Rattle.pgm.specs.Header.{Read, found, short, wrong, Size, sized}

@@ -5,15 +5,13 @@ use mathlib.Core.List.{List, [], _∷_, _++_, append-assoc}
 use Prim.Native.Nat.{ℕ, zero, suc, _+_, _-_, _*_, _/_, _%_, _≤_, _<_}
 use native.Mathlib.Omega.{arith}
 use native.Mathlib.Decide.{decLt}
-use lib.Dec.{leb, eqb}
-use lib.ListN.{length}
-use borrow.Author.Tests.{le-leb, lt-leb, eq-eqb, ne-eqb}
-use Rattle.numbers.specs.Signal.{pick, both}
-use Rattle.pgm.specs.Characters.{space, lineEnd, digit, digitValue}
-use Rattle.pgm.specs.Header.{Read, found, short, wrong, andThen, is, one, comment, gap, afterGaps, numberFrom, number, field, Size, side, sized, headerEnd, headerOf}
+use borrow.Author.Tests.{le-leb, ne-eqb}
+use Rattle.pgm.specs.Characters.{space, digit}
+use Rattle.pgm.specs.Header.{Read, found, andThen, one, gap, afterGaps, numberFrom, number, field, Size, side, sized, headerEnd}
+use Rattle.pgm.specs.Header.{headerOf}
 use Rattle.pgm.specs.Limits.{maxField, upTo}
 use Rattle.pgm.proofs.LimitLaws.{is-up-to}
-use Rattle.pgm.specs.Samples.{wide, pairsOf, samplesOf, fitting, exceeds, heightsOf}
+use Rattle.pgm.specs.Samples.{wide, pairsOf, samplesOf}
 use Rattle.text.specs.Decimal.{numeral}
 use Rattle.text.proofs.DecimalLaws.{one-digit, last-digit}
 use Rattle.picture.specs.Form.{formLargest, formHead, rowBytes}
@@ -54,7 +52,13 @@ number-read n b s e = digits-read n n (omega arith) false (b ∷ s) ∙ rw e
 digit-no-gap : (d : ℕ) (s : List ℕ) → d < 10 → afterGaps false ((48 + d) ∷ s) ≡ (48 + d) ∷ s
 unfolding afterGaps space
 digit-no-gap d s h =
-    rw (ne-eqb (48 + d) 32 (λ e. omega arith), ne-eqb (48 + d) 9 (λ e. omega arith), ne-eqb (48 + d) 13 (λ e. omega arith), ne-eqb (48 + d) 10 (λ e. omega arith), ne-eqb (48 + d) 35 (λ e. omega arith))
+    rw (
+      ne-eqb (48 + d) 32 (λ e. omega arith),
+      ne-eqb (48 + d) 9 (λ e. omega arith),
+      ne-eqb (48 + d) 13 (λ e. omega arith),
+      ne-eqb (48 + d) 10 (λ e. omega arith),
+      ne-eqb (48 + d) 35 (λ e. omega arith),
+    )
 
 no-gap : (k n : ℕ) → n ≤ k → (s : List ℕ) → afterGaps false (numeral n ++ s) ≡ numeral n ++ s
 no-gap zero n h s = let z : n < 10 = omega arith in rw (one-digit n z) (digit-no-gap n s z)
@@ -123,7 +127,8 @@ head-split W H r =
     ∙ ap (λ l. numeral W ++ (32 ∷ l)) (append-assoc (numeral H) (lastPart []) r)
     ∙ ap (λ l. numeral W ++ (32 ∷ (numeral H ++ (10 ∷ l)))) (append-assoc (numeral formLargest) (10 ∷ []) r))
 
-marks : (s : List ℕ) → headerOf (80 ∷ 53 ∷ s) ≡ andThen (field s) λ w s. andThen (field s) λ h s. andThen (field s) λ m s. andThen (gap s) λ _ s. headerEnd w h m s
+marks : (s : List ℕ) → headerOf (80 ∷ 53 ∷ s) ≡ andThen (field s) λ w s. andThen (field s) λ h s. andThen (field s) λ m s. andThen
+    (gap s) λ _ s. headerEnd w h m s
 unfolding headerOf one
 marks s = refl
 

@@ -1,11 +1,8 @@
 -- What a byte brings a rewriting, case by case. Assumes nothing.
-use mathlib.Core.Path.{_≡_, refl, sym, ap, _∙_}
-use mathlib.Core.Bool.{Bool, true, false}
-use Prim.Native.Nat.{ℕ, _+_, _-_, _*_, _≤_, _<_}
-use native.Mathlib.Omega.{arith}
-use lib.Dec.{ltb, eqb}
+use mathlib.Core.Path.{_≡_, ap}
+use mathlib.Core.Bool.{true, false}
+use Prim.Native.Nat.{ℕ, _-_, _*_, _≤_, _<_}
 use borrow.Author.Tests.{eq-eqb, ne-eqb, lt-ltb, le-ltb}
-use Rattle.numbers.specs.Signal.{pick}
 use Rattle.pgm.specs.Samples.{noByte, sampleOf}
 use Rattle.pgm.specs.Steps.{stepOf}
 use Rattle.pgm.specs.declared.header.Next.{Next}
@@ -14,9 +11,7 @@ use Rattle.pgm.specs.declared.samples.Sample.{Sample}
 use Rattle.pgm.specs.Limits.{sizeFits}
 use Rattle.picture.specs.InputSteps.{phased, refuse15, shapeRead, nextRead, headerRead, sampleRead, heightRead, readByte, inputEnded}
 use Rattle.picture.specs.declared.input.Input.{Input}
-use Rattle.picture.specs.declared.input.Step.{Step}
 use Rattle.picture.specs.declared.input.Step.the-variants as steps
-use Rattle.picture.specs.declared.input.Ended.{Ended}
 use Rattle.picture.specs.declared.input.Ended.the-variants as ended
 
 module _ (i : Input) (room b : ℕ) where

@@ -1,20 +1,17 @@
 -- What a rewriting owes, as it reads and writes. Assumes nothing.
-use mathlib.Core.Path.{_≡_, refl, sym, ap, ap₂, subst, _∙_}
+use mathlib.Core.Path.{_≡_, refl, sym, ap, _∙_}
 use mathlib.Core.Bool.{Bool, true, false}
 use mathlib.Core.List.{List, [], _∷_, _++_, append-nil, append-assoc}
-use Prim.Native.Nat.{ℕ, zero, suc, _+_, _-_, _*_, _≤_, _<_, min}
+use Prim.Native.Nat.{ℕ, zero, suc, _+_, _-_, _≤_, _<_}
 use native.Mathlib.Omega.{arith}
-use native.Mathlib.Numerals.{add-one}
-use native.Mathlib.Nat.{zero-add}
-use lib.Dec.{leb, eqb}
-use lib.ListN.{length, take, drop, getD, set, length-drop, length-append, take-append-drop}
-use lib.Seq.{paste, drop-drop, drop-cons, length-take-le}
+use lib.Dec.{eqb}
+use lib.ListN.{length, take, drop, set, take-append-drop}
+use lib.Seq.{drop-drop}
 use borrow.Author.Tests.{eq-eqb, ne-eqb, le-leb, lt-leb}
 use Rattle.numbers.specs.Signal.{pick}
-use Rattle.text.specs.Text.{Wrote}
-use Rattle.text.proofs.TextLaws.{wrote-none, wrote-size, wrote-on}
 use Rattle.picture.specs.InputSteps.{phased, readByte, inputEnded}
-use Rattle.picture.specs.Machine.{partOf, noPart, partText, rewriting, textOn, leftOn, settled, doneOn, Kept, kept, rowPart, heightKept, stepTo, byteRead, owed, Went, Writes, quiet, Stops, full, idle, Onward, on, off, endTo, endOf}
+use Rattle.picture.specs.Machine.{partOf, noPart, partText, rewriting, textOn, leftOn, settled, doneOn, rowPart, heightKept, stepTo}
+use Rattle.picture.specs.Machine.{byteRead, owed, endTo, endOf}
 use Rattle.picture.specs.declared.input.Input.{Input}
 use Rattle.picture.specs.declared.input.Step.{Step}
 use Rattle.picture.specs.declared.input.Step.the-variants as steps
@@ -63,7 +60,9 @@ drop-none (suc n) = refl
 
 pub left-none : (r : Rewriting) (z : List ℕ) → r .part .kind ≡ 0 → leftOn r z ≡ []
 unfolding leftOn partText
-left-none r z e = rw (ne-eqb (r .part .kind) 1 (λ d. omega arith), ne-eqb (r .part .kind) 2 (λ d. omega arith), ne-eqb (r .part .kind) 3 (λ d. omega arith)) (drop-none (r .part .done))
+left-none r z e =
+    rw (ne-eqb (r .part .kind) 1 (λ d. omega arith), ne-eqb (r .part .kind) 2 (λ d. omega arith), ne-eqb (r .part .kind) 3 (λ d. omega arith))
+    (drop-none (r .part .done))
 
 settled-twice : (r : Rewriting) → settled (settled r) ≡ settled r
 unfolding settled
@@ -87,7 +86,9 @@ settle-owed e r z (b ∷ v) =
 -- n bytes of it are
 left-done : (r : Rewriting) (z : List ℕ) (n : ℕ) → leftOn r z ≡ take n (leftOn r z) ++ leftOn (doneOn (r .part .done + n) r) z
 unfolding leftOn partText
-left-done r z n = sym (take-append-drop n (drop (r .part .done) (textOn r z))) ∙ ap (λ l. take n (drop (r .part .done) (textOn r z)) ++ l) (drop-drop n (r .part .done) (textOn r z))
+left-done r z n =
+    sym (take-append-drop n (drop (r .part .done) (textOn r z)))
+    ∙ ap (λ l. take n (drop (r .part .done) (textOn r z)) ++ l) (drop-drop n (r .part .done) (textOn r z))
 
 settled-done : (r : Rewriting) (d : ℕ) → settled (doneOn d r) ≡ settled r
 unfolding settled

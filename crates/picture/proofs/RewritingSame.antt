@@ -3,24 +3,24 @@
 use mathlib.Core.Path.{_≡_, refl, sym, ap, ap₂, subst, _∙_}
 use mathlib.Core.Bool.{Bool, true, false}
 use mathlib.Core.List.{List, [], _∷_, _++_, append-nil}
-use Prim.Native.Nat.{ℕ, zero, suc, _+_, _*_, _/_, _≤_, _<_}
+use Prim.Native.Nat.{ℕ, _+_, _*_, _/_, _≤_}
 use native.Mathlib.Omega.{arith}
 use native.Mathlib.Nat.{mul-div-cancel-left, mul-comm}
-use lib.Dec.{leb, eqb}
+use lib.Dec.{leb}
 use lib.ListN.{length, take}
-use lib.Seq.{take-at, length-take-le}
+use lib.Seq.{take-at}
 use borrow.Author.Tests.{le-leb, leb-true, eq-eqb}
 use Rattle.numbers.specs.Signal.{pick, both}
 use Rattle.numbers.proofs.Sweep.{both as split-both}
-use Rattle.pgm.specs.Limits.{maxField, upTo, sizeFits}
+use Rattle.pgm.specs.Limits.{maxField, sizeFits}
 use Rattle.pgm.specs.Heights.{heightsTaken, tooLarge, bytesOf}
 use Rattle.pgm.specs.Header.{Read, found, short, wrong, andThen, is, one, gap, field, Size, side, sized, headerEnd, headerOf}
-use Rattle.pgm.specs.Samples.{wide, sampleSize, pairsOf, samplesOf, fitting, exceeds, heightsOf}
+use Rattle.pgm.specs.Samples.{wide, sampleSize, samplesOf, fitting, exceeds, heightsOf}
 use Rattle.pgm.proofs.LimitLaws.{up-to}
 use Rattle.pgm.proofs.RunReads.{samples-count}
 use Rattle.picture.specs.Form.{formLargest, formHead, rowBytes}
 use Rattle.text.specs.Refusal.{refusedLine}
-use Rattle.picture.specs.Rewriting.{sizeEnd, pictureOf, cells, heightsIn, wholeRows, rowsOf, bodyOf, rewritingOf, Accepted}
+use Rattle.picture.specs.Rewriting.{sizeEnd, pictureOf, heightsIn, wholeRows, rowsOf, bodyOf, rewritingOf, Accepted}
 use Rattle.picture.proofs.FormLaws.{row-length}
 use Rattle.picture.proofs.FormReads.{largest-wide, largest-holds, head-read, samples-back}
 
@@ -43,7 +43,8 @@ good-end : (w h m : ℕ) (s : List ℕ) → Good (headerEnd w h m s)
 unfolding headerEnd
 good-end w h m s z r = go (sized w h m) refl
   where
-    go : (b : Bool) → sized w h m ≡ b → pick b (found (record { width = w; height = h; largest = m }) s) wrong ≡ found z r → sized (z .width) (z .height) (z .largest) ≡ true
+    go : (b : Bool) → sized w h m ≡ b → pick b (found (record { width = w; height = h; largest = m }) s) wrong ≡ found z r
+        → sized (z .width) (z .height) (z .largest) ≡ true
     go true p e = let q : record { width = w; height = h; largest = m } ≡ z = cc in subst (λ y. sized (y .width) (y .height) (y .largest) ≡ true) q p
     go false p e = absurd (no-found e)
 
@@ -96,7 +97,8 @@ make y p q =
       largest = up-to maxField (y .largest) (v .1) .1;
     }
 
-end-limits : (y z : Size) (s r : List ℕ) (b : Bool) → sizeFits (y .width) (y .height) ≡ b → sized (y .width) (y .height) (y .largest) ≡ true → pick b (found y s) wrong ≡ found z r → Limits z
+end-limits : (y z : Size) (s r : List ℕ) (b : Bool) → sizeFits (y .width) (y .height) ≡ b → sized (y .width) (y .height) (y .largest) ≡ true
+    → pick b (found y s) wrong ≡ found z r → Limits z
 end-limits y z s r true p q e = let d : y ≡ z = cc in subst Limits d (make y p q)
 end-limits y z s r false p q e = absurd (no-found e)
 
@@ -233,5 +235,6 @@ same-input a b =
     }
 
 -- equal bytes, equal size and heights
-pub equal-maps : {s t : List ℕ} {W H : ℕ} {hs : List ℕ} {W′ H′ : ℕ} {ks : List ℕ} → Accepted s W H hs → Accepted t W′ H′ ks → rewritingOf s ≡ rewritingOf t → Same W H hs W′ H′ ks
+pub equal-maps : {s t : List ℕ} {W H : ℕ} {hs : List ℕ} {W′ H′ : ℕ} {ks : List ℕ} → Accepted s W H hs → Accepted t W′ H′ ks
+    → rewritingOf s ≡ rewritingOf t → Same W H hs W′ H′ ks
 equal-maps {W′ = W′} {H′ = H′} {ks = ks} a b e = same-input (rewritten a) (subst (λ t. Accepted t W′ H′ ks) (sym e) (rewritten b))

@@ -8,12 +8,11 @@ use native.Mathlib.Omega.{arith}
 use native.Mathlib.Decide.{decLt, ℕ-discrete}
 use native.Mathlib.Numerals.{sub-one}
 use native.Mathlib.Nat.{mul-add-div, mul-one, zero-mul, suc-mul, add-comm, div-eq-of-lt}
-use lib.Dec.{leb, ltb}
+use lib.Dec.{leb}
 use lib.ListN.{length, take, drop, set, length-set, length-append}
 use lib.Seq.{take-append-add, length-take-le, set-split}
-use borrow.Author.Tests.{lt-ltb, le-ltb, eq-eqb, ne-eqb, leb-true}
-use Rattle.numbers.specs.Signal.{pick, both}
-use Rattle.wavelet.specs.Questions.{within}
+use borrow.Author.Tests.{lt-ltb, le-ltb, eq-eqb, ne-eqb}
+use Rattle.numbers.specs.Signal.{pick}
 use Rattle.pgm.specs.Header.{Read, found, short, wrong, andThen, Size, headerOf}
 use Rattle.pgm.specs.Steps.{begun, stepOf, feed, stepped, readBy}
 use Rattle.pgm.specs.Samples.{wide, sampleSize, pairsOf, samplesOf, fitting, exceeds, heightsOf, sampled, sampleOf}
@@ -61,9 +60,11 @@ ends-to i f z y h =
 
 -- ---- after a refusal nothing is read
 after-refusal : (e : Bool) (i : Input) (f : ℕ) (z u : List ℕ) → i .phase ≡ 2 → owed e (idle i f) z u ≡ []
-after-refusal true i f z [] h = ends-to i f z (ended.Over (phased 2 i)) (end-over i (λ d. omega arith) (λ d. omega arith)) ∙ left-none (idle (phased 2 i) f) z refl
+after-refusal true i f z [] h =
+    ends-to i f z (ended.Over (phased 2 i)) (end-over i (λ d. omega arith) (λ d. omega arith)) ∙ left-none (idle (phased 2 i) f) z refl
 after-refusal false i f z [] h = idle-owed (idle i f) z refl
-after-refusal e i f z (b ∷ u) h = read-as e i f z b u (steps.More i) (sym (phase-on i (length z) b (λ d. omega arith) (λ d. omega arith))) ∙ after-refusal e i f z u h
+after-refusal e i f z (b ∷ u) h =
+    read-as e i f z b u (steps.More i) (sym (phase-on i (length z) b (λ d. omega arith) (λ d. omega arith))) ∙ after-refusal e i f z u h
 
 refused-left : (i : Input) (f q : ℕ) (z : List ℕ) → leftOn (rewriting i f (partOf 3 q)) z ≡ refusedLine q
 unfolding leftOn partText
@@ -271,7 +272,8 @@ module _ (e : Bool) (h : Header) (W H : ℕ) (some : 0 < W) (m : ℕ) where
 
   -- after the last byte of a sample
   lasts : (n f : ℕ) (z : List ℕ) (x : Bool) (v b u : ℕ) (s r : List ℕ) (t : Bool) → leb u m ≡ t
-      → Lasts h W H n m (length z) x v b u → Leads m u s r → f < W → W ≤ length z → Owes e h W H m n r → owed e (idle (at 1 h W H (suc n) m x v) f) z (b ∷ r) ≡ heightsDue e W (take f z) m (suc n) s
+      → Lasts h W H n m (length z) x v b u → Leads m u s r → f < W → W ≤ length z → Owes e h W H m n r
+      → owed e (idle (at 1 h W H (suc n) m x v) f) z (b ∷ r) ≡ heightsDue e W (take f z) m (suc n) s
   lasts n f z x v b u s r true k d l a c g =
       read-as e (at 1 h W H (suc n) m x v) f z b r (steps.Height (at 1 h W H n m false 0) u) (d .0 k)
       ∙ put-height e h W H some m n f u z r a c g

@@ -1,6 +1,5 @@
 -- The fixed form. Document 02, Q-7: "P5, newline, width, space, height, newline, 65535, newline, two bytes a height, the most significant first."
 use mathlib.Core.Path.{_≡_}
-use mathlib.Core.Bool.{Bool}
 use mathlib.Core.List.{List, [], _∷_, _++_}
 use Prim.Native.Nat.{ℕ, zero, suc, _+_, _-_, _/_, _%_, min}
 use lib.ListN.{length, drop}
@@ -22,9 +21,6 @@ formHead W H = 80 ∷ 53 ∷ 10 ∷ (numeral W ++ (32 ∷ (numeral H ++ (10 ∷ 
 unfoldable pub rowBytes : List ℕ → List ℕ
 rowBytes [] = []
 rowBytes (h ∷ l) = (h / 256) ∷ (h % 256) ∷ rowBytes l
-
-unfoldable pub formOf : ℕ → ℕ → List ℕ → List ℕ
-formOf W H hs = formHead W H ++ rowBytes hs
 
 -- questions 2 and 3
 unfoldable pub headQuestion : ℕ → ℕ → ℕ

@@ -1,7 +1,6 @@
 -- What each byte brings a rewriting. `room` is how many heights its row area holds.
-use mathlib.Core.Bool.{Bool, true, false}
 use Prim.Native.Nat.{ℕ, _-_, _*_}
-use lib.Dec.{leb, ltb, eqb}
+use lib.Dec.{ltb, eqb}
 use Rattle.numbers.specs.Signal.{pick}
 use Rattle.pgm.specs.Steps.{begun, stepOf}
 use Rattle.pgm.specs.Samples.{noByte, sampleOf}
@@ -44,7 +43,15 @@ headerRead i room b = nextRead i room (stepOf (i .header) b)
 
 abbrev pub sampleRead : Input → Sample → Step
 sampleRead i (sample.Half x) = steps.More (record { phase = 1; header = i .header; width = i .width; height = i .height; left = i .left; samples = x })
-sampleRead i (sample.Height v) = steps.Height (record { phase = 1; header = i .header; width = i .width; height = i .height; left = i .left - 1; samples = noByte (i .samples .largest) }) v
+sampleRead i (sample.Height v) =
+    steps.Height (record {
+      phase = 1;
+      header = i .header;
+      width = i .width;
+      height = i .height;
+      left = i .left - 1;
+      samples = noByte (i .samples .largest);
+    }) v
 sampleRead i sample.TooLarge = steps.Refused (phased 2 i) 16
 
 unfoldable pub heightRead : Input → ℕ → Step

@@ -99,7 +99,8 @@ owed e r z [] = leftOn r z ++ pick e (leftOn (endOf (settled r)) z) []
 owed e r z (b ∷ u) = leftOn r z ++ (let k = byteRead (settled r) z b in owed e (k .state) (k .row) u)
 
 -- ---- the calls
--- from state r with row area z to r′ with z′: of the piece p the bytes from place a to a′ were read, into the area o text was written from place b to b′, and what is owed is the rest
+-- from state r with row area z to r′ with z′: of the piece p the bytes from place a to a′ were read, into the area o text was written from place b to
+-- b′, and what is owed is the rest
 pub record Went (r : Rewriting) (z p : List ℕ) (a a′ : ℕ) (o o′ : List ℕ) (b b′ : ℕ) (r′ : Rewriting) (z′ : List ℕ) : Type 0 where
   pub bytes : List ℕ
   pub text : List ℕ

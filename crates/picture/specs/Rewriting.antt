@@ -1,7 +1,7 @@
 -- What the rewriting program writes, as a definition on the bytes of its input. Document 02, Q-7, with questions 15 and 16 as of the listing.
 use mathlib.Core.Path.{_≡_}
-use mathlib.Core.Bool.{Bool, true, false}
-use mathlib.Core.List.{List, [], _∷_, _++_}
+use mathlib.Core.Bool.{Bool, false}
+use mathlib.Core.List.{List, _++_}
 use Prim.Native.Nat.{ℕ, _*_, _/_}
 use lib.ListN.{length, take}
 use lib.Dec.{eqb}

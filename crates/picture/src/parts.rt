@@ -1,4 +1,5 @@
-// What is being written: the header, a row of heights, or the line of a refusal, and as much of it as there is room for. The module is private: only this crate, which meets what is required, can call it.
+// What is being written: the header, a row of heights, or the line of a refusal, and as much of it as there is room for. The module is private: only
+// this crate, which meets what is required, can call it.
 use crate::form;
 use crate::heads;
 use text::bytes;

@@ -143,9 +143,11 @@ impl Rewriting {
         }
     }
 
-    // Reads a piece of the input and writes what it brings, until the area is full, or the piece is used up and nothing is left to write. The rest of a piece is lent again.
+    // Reads a piece of the input and writes what it brings, until the area is full, or the piece is used up and nothing is left to write. The rest of
+    // a piece is lent again.
     pub fn feed(self, piece: &[u8], row: &mut [u16], out: &mut [u8]) -> Fed
-        ensures { λ r. ⌜ Went self (now (row .entry)) (now (piece .entry)) 0 (r .used) (now (out .entry)) (now (out .exit)) 0 (r .written) (r .rewriting) (now (row .exit)) ⌝ }
+        ensures { λ r. ⌜ Went self (now (row .entry)) (now (piece .entry)) 0 (r .used) (now (out .entry)) (now (out .exit)) 0 (r .written) (r .rewriting)
+            (now (row .exit)) ⌝ }
         ensures { λ r. ⌜ Stops (r .rewriting) (now (piece .entry)) (r .used) (now (out .entry)) (r .written) (r .idle) ⌝ }
     {
         let mut state = self;
@@ -260,7 +262,8 @@ fn turn(
     written: usize,
 ) -> Turned
     requires { ⌜ (used ≤ length (now piece)) × (written ≤ length (now out)) ⌝ }
-    ensures { λ r. ⌜ Went rewriting (now (row .entry)) (now (piece .entry)) used (r .used) (now (out .entry)) (now (out .exit)) written (r .written) (r .rewriting) (now (row .exit)) ⌝ }
+    ensures { λ r. ⌜ Went rewriting (now (row .entry)) (now (piece .entry)) used (r .used) (now (out .entry)) (now (out .exit)) written (r .written)
+        (r .rewriting) (now (row .exit)) ⌝ }
     ensures { λ r. ⌜ Onward rewriting (r .rewriting) (now (piece .entry)) used (r .used) (now (out .entry)) written (r .written) (r .going) ⌝ }
 {
     let part = rewriting.part;

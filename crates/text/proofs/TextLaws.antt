@@ -24,9 +24,6 @@ pub same-size : {s l m : List ℕ} {at r : ℕ} → Put s at r l m → length m 
 same-size {s} {l} {m} {at} {r} a =
     ap length (a .text) ∙ simp (length-append, length-take, length-drop) (omega (arith, a .place, a .room))
 
-pub fits-after : {s l m : List ℕ} {at r : ℕ} → Put s at r l m → r ≤ length m
-fits-after a = omega (arith, a .place, a .room, same-size a)
-
 -- t before s
 pub before : {s t l m n : List ℕ} {at p r : ℕ} → Put s at p l m → Put t p r m n → Put (t ++ s) at r l n
 before {s} {t} {l} {m} {n} {at} {p} {r} a b =
@@ -64,7 +61,8 @@ module _ {s l m : List ℕ} {a r : ℕ} (p : Wrote s a r l m) where
       let front : take r m ≡ take a l ++ s = ap (take r) parted ∙ take-at (take a l ++ s) (drop r l) r front-size in
       let behind : drop r m ≡ drop r l = ap (drop r) parted ∙ drop-at (take a l ++ s) (drop r l) r front-size in
       let back : drop q m ≡ drop q l =
-      ap (λ k. drop k m) (w .place) ∙ sym (drop-drop (length t) r m) ∙ ap (drop (length t)) behind ∙ drop-drop (length t) r l ∙ ap (λ k. drop k l) (sym (w .place)) in
+      ap (λ k. drop k m) (w .place) ∙ sym (drop-drop (length t) r m) ∙ ap (drop (length t)) behind ∙ drop-drop (length t) r l
+      ∙ ap (λ k. drop k l) (sym (w .place)) in
       record {
         place = simp length-append (omega (arith, p .place, w .place));
         room = omega (arith, w .room, wrote-size);
@@ -105,7 +103,12 @@ puts-none s l a h = record { whole = λ g. absurd (omega arith); none = λ _. (r
 -- all of a text is copied
 pub wrote-all : (s l m : List ℕ) (a : ℕ) → a + length s ≤ length l → m ≡ paste l a s (length s) → Wrote s a (a + length s) l m
 wrote-all s l m a h e =
-    record { place = refl; room = h; text = e ∙ ap (λ x. (take a l ++ x) ++ drop (a + length s) l) (take-length s) ∙ append-assoc (take a l) s (drop (a + length s) l) }
+    record {
+      place = refl;
+      room = h;
+      text = e ∙ ap (λ x. (take a l ++ x) ++ drop (a + length s) l) (take-length s)
+          ∙ append-assoc (take a l) s (drop (a + length s) l);
+    }
 
 -- a text put before place a + n stands from place a on, n being its length
 pub put-at : {s l m : List ℕ} {a n r : ℕ} → n ≡ length s → Put s (a + n) r l m → Wrote s a (a + n) l m

@@ -27,7 +27,8 @@ returns c =
     let h = c .before .before in
     let s = h .before .before .before .before .before in
     let a = s .args in
-    byte-on (length (a .store .now)) (length (a .row .now)) (stateOf (a .listing) (at (a .store .now)) (at (a .row .now))) (a .piece .now) (a .used) _ (s .pre .0) (s .pre .1) (h .read .ensures)
+    byte-on (length (a .store .now)) (length (a .row .now)) (stateOf (a .listing) (at (a .store .now)) (at (a .row .now))) (a .piece .now) (a .used) _
+    (s .pre .0) (s .pre .1) (h .read .ensures)
 
 pub read-byte-spec : {M : Type 1} → statement M
 read-byte-spec =

@@ -1,6 +1,6 @@
 -- `spelling::put_head` meets its contract: number, letters, number. Assumes nothing.
 use mathlib.Core.Path.{_≡_, _∙_}
-use mathlib.Core.List.{List, [], _∷_, _++_, append-assoc}
+use mathlib.Core.List.{List, [], _∷_, append-assoc}
 use Prim.Native.Nat.{ℕ, _+_, _≤_}
 use native.Mathlib.Omega.{arith}
 use lib.ListN.{length}
@@ -14,7 +14,8 @@ use Rattle.listing.proofs.spelling.put_head.Statement.{statement}
 use Rattle.listing.proofs.spelling.put_head.Tie as tie
 
 whole : (l : Line) (a b : ℕ) → length (numeral (l .level)) ≤ 20 → length (numeral (l .row)) ≤ 20 → a ≡ first (l .band) → b ≡ second (l .band)
-    → {o o₁ o₂ o₃ : List ℕ} {p₁ p₂ p₃ : ℕ} → length o ≡ 64 → Puts (numeral (l .level)) 0 p₁ o o₁ → Puts (32 ∷ a ∷ b ∷ 32 ∷ []) p₁ p₂ o₁ o₂ → Puts (numeral (l .row)) p₂ p₃ o₂ o₃
+    → {o o₁ o₂ o₃ : List ℕ} {p₁ p₂ p₃ : ℕ} → length o ≡ 64 → Puts (numeral (l .level)) 0 p₁ o o₁ → Puts (32 ∷ a ∷ b ∷ 32 ∷ []) p₁ p₂ o₁ o₂
+    → Puts (numeral (l .row)) p₂ p₃ o₂ o₃
     → Wrote (headText l) 0 p₃ o o₃
 unfolding headText
 whole l a b f g d k {o} {p₁ = p₁} {p₂ = p₂} e x₁ x₂ x₃ =

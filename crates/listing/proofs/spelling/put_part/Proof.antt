@@ -1,5 +1,5 @@
 -- `spelling::put_part` meets its contract: each kind of part is the definition's. Assumes nothing.
-use mathlib.Core.Path.{_≡_, refl, sym, ap, _∙_}
+use mathlib.Core.Path.{_≡_}
 use native.Mathlib.Omega.{arith}
 use borrow.Author.Needs.{needs}
 use mathlib.Core.List.{List}
@@ -33,7 +33,8 @@ module _ (k : ℕ) (y : ℕ → ℤ) (l : Line) {r : ℕ} {s t : List ℕ} where
   other a b d p = rw (ne-eqb (l .part) 1 a, ne-eqb (l .part) 2 b, ne-eqb (l .part) 3 d) p
 
 -- the line of a refusal fits
-line-fits : (l : Line) {o m : List ℕ} {r : ℕ} → length (refusedLine (l .row)) ≤ 29 → length o ≡ 64 → Puts (refusedLine (l .row)) 0 r o m → Wrote (refusedText l) 0 r o m
+line-fits : (l : Line) {o m : List ℕ} {r : ℕ} → length (refusedLine (l .row)) ≤ 29 → length o ≡ 64 → Puts (refusedLine (l .row)) 0 r o m
+    → Wrote (refusedText l) 0 r o m
 unfolding refusedText
 line-fits l f e x = x .whole (omega arith)
 
@@ -58,7 +59,8 @@ returns-2 : tie.Need-returns-2
 returns-2 c =
     let p = c .before .before in
     let t = p .before .before in
-    two _ _ _ (t .if2 .taken) (line-fits (t .before .before .before .args .line) (p .put-refused .ensures .1) (t .before .before .before .pre) (p .put-refused .ensures .0))
+    two _ _ _ (t .if2 .taken) (line-fits (t .before .before .before .args .line) (p .put-refused .ensures .1) (t .before .before .before .pre)
+    (p .put-refused .ensures .0))
 
 put-head-requires : tie.Need-put-head-requires
 put-head-requires c κs = search needs
@@ -84,4 +86,18 @@ returns-4 c =
     other _ _ _ (t .before .before .if1 .left) (t .before .if2 .left) (t .if3 .left) (p .put-value .ensures)
 
 pub put-part-spec : {M : Type 1} → statement M
-put-part-spec = tie.close (tie.spec put-size-requires same-length returns put-refused-requires same-length-2 returns-2 put-head-requires same-length-3 returns-3 put-value-requires same-length-4 returns-4)
+put-part-spec =
+    tie.close
+    (tie.spec
+    put-size-requires
+    same-length
+    returns
+    put-refused-requires
+    same-length-2
+    returns-2
+    put-head-requires
+    same-length-3
+    returns-3
+    put-value-requires
+    same-length-4
+    returns-4)

@@ -1,6 +1,6 @@
 -- `spelling::put_size` meets its contract: numbers and what parts them, one behind the other; there is room for three numbers of 64 bits. Assumes nothing.
 use mathlib.Core.Path.{_≡_, _∙_}
-use mathlib.Core.List.{List, [], _∷_, _++_, append-assoc}
+use mathlib.Core.List.{List, [], _∷_, append-assoc}
 use Prim.Native.Nat.{ℕ, _+_, _≤_}
 use native.Mathlib.Omega.{arith}
 use lib.ListN.{length}
@@ -74,7 +74,8 @@ returns c =
     let x₁ = x₂ .before .before .before .before in
     let s = x₁ .before .before .before in
     whole (s .args .line) (x₁ .put-number .ensures .1) (x₃ .put-number2 .ensures .1) (x₅ .put-number3 .ensures .1) (s .pre)
-    (x₁ .put-number .ensures .0) (x₂ .put-byte .ensures) (x₃ .put-number2 .ensures .0) (x₄ .put-byte2 .ensures) (x₅ .put-number3 .ensures .0) (x₆ .put-byte3 .ensures)
+    (x₁ .put-number .ensures .0) (x₂ .put-byte .ensures) (x₃ .put-number2 .ensures .0) (x₄ .put-byte2 .ensures) (x₅ .put-number3 .ensures .0)
+    (x₆ .put-byte3 .ensures)
 
 pub put-size-spec : {M : Type 1} → statement M
 put-size-spec =

@@ -1,5 +1,4 @@
 -- `spelling::spell` meets its contract: the part's text stands at the front of a small area, and as much of it as there is room for is copied. Assumes nothing.
-use mathlib.Core.Path.{_≡_, refl, sym, ap, _∙_}
 use native.Mathlib.Omega.{arith}
 use borrow.Author.Needs.{needs}
 use Rattle.text.proofs.TextLaws.{front-end}

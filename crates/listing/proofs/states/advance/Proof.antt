@@ -15,7 +15,8 @@ returns : tie.Need-returns
 returns c =
     let t = c .before in
     let a = t .before .before .before .before .args in
-    past-line (length (a .store .now)) (length (a .row .now)) (stateOf (a .listing) (at (a .store .now)) (at (a .row .now))) _ (t .if1 .taken) (ap (listed _ _) (c .none .ensures))
+    past-line (length (a .store .now)) (length (a .row .now)) (stateOf (a .listing) (at (a .store .now)) (at (a .row .now))) _ (t .if1 .taken)
+    (ap (listed _ _) (c .none .ensures))
 
 at-value-requires : tie.Need-at-value-requires
 at-value-requires c κs = tt
@@ -24,7 +25,8 @@ returns-2 : tie.Need-returns-2
 returns-2 c =
     let t = c .before in
     let a = t .before .before .before .before .before .args in
-    past-head (length (a .store .now)) (length (a .row .now)) (stateOf (a .listing) (at (a .store .now)) (at (a .row .now))) _ (t .if2 .taken) (ap (listed _ _) (c .at-value .ensures))
+    past-head (length (a .store .now)) (length (a .row .now)) (stateOf (a .listing) (at (a .store .now)) (at (a .row .now))) _ (t .if2 .taken)
+    (ap (listed _ _) (c .at-value .ensures))
 
 add-at-value : tie.Need-add-at-value
 add-at-value c = search needs
@@ -37,7 +39,8 @@ returns-3 c =
     let t = c .before in
     let e = t .before .before in
     let a = e .before .before .before .before .before .args in
-    past-value (length (a .store .now)) (length (a .row .now)) (stateOf (a .listing) (at (a .store .now)) (at (a .row .now))) _ (e .before .if1 .left) (e .if2 .left) (t .if3 .taken) (ap (listed _ _) (c .at-value2 .ensures))
+    past-value (length (a .store .now)) (length (a .row .now)) (stateOf (a .listing) (at (a .store .now)) (at (a .row .now))) _ (e .before .if1 .left)
+    (e .if2 .left) (t .if3 .taken) (ap (listed _ _) (c .at-value2 .ensures))
 
 draw-requires : tie.Need-draw-requires
 draw-requires c κs = tt
@@ -54,7 +57,8 @@ returns-4 c =
     let t = d .before .before .before in
     let e = t .before .before in
     let a = e .before .before .before .before .before .args in
-    past-end (length (a .store .now)) (length (a .row .now)) (stateOf (a .listing) (at (a .store .now)) (at (a .row .now))) _ (e .before .if1 .left) (e .if2 .left) (t .if3 .left) (d .draw .ensures)
+    past-end (length (a .store .now)) (length (a .row .now)) (stateOf (a .listing) (at (a .store .now)) (at (a .row .now))) _ (e .before .if1 .left)
+    (e .if2 .left) (t .if3 .left) (d .draw .ensures)
 
 pub advance-spec : {M : Type 1} → statement M
 advance-spec =

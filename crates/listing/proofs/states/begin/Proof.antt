@@ -29,7 +29,8 @@ returns c =
     let f = c .before .before in
     let s = f .before .before .before in
     let a = s .before .before .args in (
-      ap (listed (a .input) (f .fresh .given .0 .0)) (c .size .ensures) ∙ ap (begunTo (a .input) (a .writer) (a .width) (a .height)) (sym (ap ofSetUp (f .fresh .given .1)) ∙ s .set-up .ensures .0),
+      ap (listed (a .input) (f .fresh .given .0 .0)) (c .size .ensures)
+          ∙ ap (begunTo (a .input) (a .writer) (a .width) (a .height)) (sym (ap ofSetUp (f .fresh .given .1)) ∙ s .set-up .ensures .0),
       s .set-up .ensures .1 .0,
     )
 

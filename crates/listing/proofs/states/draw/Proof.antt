@@ -39,7 +39,8 @@ returns c =
     let r = c .before .before in
     let d = r .before .before .before .before in
     let a = d .before .before .before .args in
-    drew _ _ _ _ _ _ _ _ (ap (listed (a .input) (r .r .given .0 .1 .0)) (c .band-row .ensures)) (sym (ap ofDrawn (r .r .given .1)) ∙ d .draw .ensures .0) (d .draw .ensures .1 .0) (d .draw .ensures .1 .1 .0)
+    drew _ _ _ _ _ _ _ _ (ap (listed (a .input) (r .r .given .0 .1 .0)) (c .band-row .ensures)) (sym (ap ofDrawn (r .r .given .1)) ∙ d .draw .ensures .0)
+    (d .draw .ensures .1 .0) (d .draw .ensures .1 .1 .0)
 
 same-length-3 : tie.Need-same-length-3
 same-length-3 c = search needs
@@ -52,7 +53,8 @@ returns-2 c =
     let t = c .before in
     let d = t .before .before .before .before in
     let a = d .before .before .before .args in
-    drew _ _ _ _ _ _ _ _ (ap (listed (a .input) (a .writer)) (c .none .ensures)) (sym (ap ofDrawn (t .enum-told .given .1)) ∙ d .draw .ensures .0) (d .draw .ensures .1 .0) (d .draw .ensures .1 .1 .0)
+    drew _ _ _ _ _ _ _ _ (ap (listed (a .input) (a .writer)) (c .none .ensures)) (sym (ap ofDrawn (t .enum-told .given .1)) ∙ d .draw .ensures .0)
+    (d .draw .ensures .1 .0) (d .draw .ensures .1 .1 .0)
 
 same-length-5 : tie.Need-same-length-5
 same-length-5 c = search needs

@@ -32,7 +32,8 @@ returns c =
     let d = c .before .before in
     let e = d .before .before .before .before in
     let f = e .before .before .before in
-    closed _ _ _ _ _ _ _ _ _ _ (sym (ap ofFinished (e .next .given .1)) ∙ f .finish .ensures .0) (f .finish .kept .1 .0) (f .finish .ensures .1 .0) (d .draw .ensures)
+    closed _ _ _ _ _ _ _ _ _ _ (sym (ap ofFinished (e .next .given .1)) ∙ f .finish .ensures .0) (f .finish .kept .1 .0) (f .finish .ensures .1 .0)
+    (d .draw .ensures)
 
 same-length-3 : tie.Need-same-length-3
 same-length-3 c = search needs

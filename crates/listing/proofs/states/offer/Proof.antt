@@ -35,7 +35,8 @@ returns c =
     let d = c .before .before in
     let e = d .before .before .before .before in
     let f = e .before .before .before in
-    took _ _ _ _ _ _ _ _ _ _ _ (sym (ap ofOffered (e .next .given .1)) ∙ f .offer .ensures .0) (f .offer .kept .1 .0) (f .offer .ensures .1 .0) (d .draw .ensures)
+    took _ _ _ _ _ _ _ _ _ _ _ (sym (ap ofOffered (e .next .given .1)) ∙ f .offer .ensures .0) (f .offer .kept .1 .0) (f .offer .ensures .1 .0)
+    (d .draw .ensures)
 
 same-length-3 : tie.Need-same-length-3
 same-length-3 c = search needs

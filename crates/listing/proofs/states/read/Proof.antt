@@ -50,7 +50,8 @@ returns-2 c =
     let h = b .before .before .before in
     let y = h .before .before in
     let a = y .before .before .before .args in
-    read-as (length (a .store .now)) (length (a .row .now)) (a .byte) (stateOf (a .listing) (at (a .store .now)) (at (a .row .now))) _ _ (sym (h .next2 .given .1) ∙ y .read .ensures) (began _ 0 _ _ _ _ _ _ _ (b .begin .ensures .0) (b .begin .ensures .1))
+    read-as (length (a .store .now)) (length (a .row .now)) (a .byte) (stateOf (a .listing) (at (a .store .now)) (at (a .row .now))) _ _
+    (sym (h .next2 .given .1) ∙ y .read .ensures) (began _ 0 _ _ _ _ _ _ _ (b .begin .ensures .0) (b .begin .ensures .1))
 
 same-length-2 : tie.Need-same-length-2
 same-length-2 c = search needs

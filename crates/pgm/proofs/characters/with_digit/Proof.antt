@@ -1,7 +1,5 @@
 -- `characters::with_digit` meets its contract: a number that is kept is small, so that ten times it fits. Assumes nothing.
-use Prim.Native.Nat.{_≤_}
 use native.Mathlib.Omega.{arith}
-use borrow.Author.Needs.{needs}
 use Rattle.pgm.proofs.LimitLaws.{field-small}
 use Rattle.pgm.proofs.characters.with_digit.Statement.{statement}
 use Rattle.pgm.proofs.characters.with_digit.Tie as tie

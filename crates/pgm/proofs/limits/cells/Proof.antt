@@ -1,8 +1,7 @@
 -- `limits::cells` meets its contract: the definition's two tests, and then the product fits. Assumes nothing.
-use mathlib.Core.Path.{_≡_, refl, sym, ap, _∙_}
+use mathlib.Core.Path.{_≡_, sym, ap, _∙_}
 use mathlib.Core.Bool.{Bool, true, false}
 use Prim.Native.Nat.{ℕ, _*_}
-use native.Mathlib.Omega.{arith}
 use borrow.Author.Tests.{not-true, not-false}
 use Rattle.numbers.specs.Signal.{pick}
 use Rattle.pgm.specs.Limits.{maxPictureWidth, maxPictureHeight, upTo, sizeFits}
@@ -63,8 +62,10 @@ mul-result c =
     record {
       fits =
           area-small (a .width) (a .height)
-          (up-to maxPictureWidth (a .width) (tested maxPictureWidth (a .width) (t .before .max-width .ensures) (t .is-up-to .ensures) (not-false _ (e .if1 .left))) .1)
-          (up-to maxPictureHeight (a .height) (tested maxPictureHeight (a .height) (u .before .max-height .ensures) (u .is-up-to2 .ensures) (not-false _ (c .if2 .left))) .1);
+          (up-to maxPictureWidth (a .width) (tested maxPictureWidth (a .width) (t .before .max-width .ensures) (t .is-up-to .ensures)
+          (not-false _ (e .if1 .left))) .1)
+          (up-to maxPictureHeight (a .height) (tested maxPictureHeight (a .height) (u .before .max-height .ensures) (u .is-up-to2 .ensures)
+          (not-false _ (c .if2 .left))) .1);
     }
 
 returns-3 : tie.Need-returns-3

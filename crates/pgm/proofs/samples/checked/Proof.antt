@@ -1,5 +1,5 @@
 -- `samples::checked` meets its contract: the definition's test. Assumes nothing.
-use mathlib.Core.Path.{sym, ap, _∙_}
+use mathlib.Core.Path.{sym, _∙_}
 use Rattle.pgm.specs.Samples.{sampled}
 use Rattle.pgm.proofs.samples.checked.Statement.{statement}
 use Rattle.pgm.proofs.samples.checked.Tie as tie

@@ -1,6 +1,6 @@
 -- `heads::head_text` meets its contract: each part behind the one before; there is room for three numbers of 64 bits. Assumes nothing.
 use mathlib.Core.Path.{_≡_, _∙_}
-use mathlib.Core.List.{List, [], _∷_, _++_, append-assoc}
+use mathlib.Core.List.{List, [], _∷_, append-assoc}
 use Prim.Native.Nat.{ℕ, _+_, _≤_}
 use native.Mathlib.Omega.{arith}
 use lib.ListN.{length}
@@ -87,7 +87,8 @@ returns c =
     let x₂ = x₃ .before .before .before .before in
     let x₁ = x₂ .before .before .before .before in
     let s = x₁ .before .before .before .before in
-    whole (s .args .width) (s .args .height) _ (m .largest .ensures) (x₂ .put-number .ensures .1) (x₄ .put-number2 .ensures .1) (x₆ .put-number3 .ensures .1) (s .pre)
+    whole (s .args .width) (s .args .height) _ (m .largest .ensures) (x₂ .put-number .ensures .1) (x₄ .put-number2 .ensures .1) (x₆ .put-number3 .ensures .1)
+    (s .pre)
     (x₁ .put-bytes .ensures) (x₂ .put-number .ensures .0) (x₃ .put-byte .ensures) (x₄ .put-number2 .ensures .0) (x₅ .put-byte2 .ensures)
     (x₆ .put-number3 .ensures .0) (x₇ .put-byte3 .ensures)
 

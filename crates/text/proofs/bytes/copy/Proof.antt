@@ -1,6 +1,5 @@
 -- `bytes::copy` meets its contract: nothing where a place is past the end. Assumes nothing.
-use mathlib.Core.Path.{_≡_, refl, sym, ap, _∙_}
-use Prim.Native.Nat.{ℕ}
+use mathlib.Core.Path.{_≡_, sym, ap, _∙_}
 use native.Mathlib.Omega.{arith}
 use borrow.Author.Needs.{needs}
 use lib.ListN.{drop}
@@ -32,8 +31,11 @@ returns-3 : tie.Need-returns-3
 returns-3 c =
     let n = c .before in
     let a = n .before .before .before .before .args in
-    let z : n .some .result ≡ 0 = omega arith in
-    (n .some .ensures, paste-zero (a .out .now) (a .at) (drop (a .from) (a .text .now)) ∙ ap (paste (a .out .now) (a .at) (drop (a .from) (a .text .now))) (sym z))
+    let z : n .some .result ≡ 0 = omega arith in (
+      n .some .ensures,
+      paste-zero (a .out .now) (a .at) (drop (a .from) (a .text .now))
+          ∙ ap (paste (a .out .now) (a .at) (drop (a .from) (a .text .now))) (sym z),
+    )
 
 pub copy-spec : {M : Type 1} → statement M
 copy-spec =

@@ -1,12 +1,12 @@
 -- `bytes::copy_some` meets its contract: after i turns i bytes are copied. Assumes nothing.
 use mathlib.Core.Path.{_≡_, refl, sym, ap, _∙_}
 use mathlib.Core.List.{List}
-use Prim.Native.Nat.{ℕ, suc, _+_, _-_, _≤_, _<_}
+use Prim.Native.Nat.{ℕ, _+_, _-_, _≤_, _<_}
 use native.Mathlib.Omega.{arith}
 use native.Mathlib.Numerals.{add-one}
 use borrow.Author.Needs.{needs}
 use lib.ListN.{length, drop, getD, set, length-set, length-drop}
-use lib.Seq.{paste, paste-zero, paste-suc, length-paste, getD-drop}
+use lib.Seq.{paste, paste-zero, paste-suc, getD-drop}
 use Rattle.text.proofs.bytes.copy_some.Statement.{statement}
 use Rattle.text.proofs.bytes.copy_some.Tie as tie
 

@@ -2,7 +2,6 @@
 use Prim.Native.Nat.{_+_}
 use native.Mathlib.Omega.{arith}
 use lib.ListN.{length}
-use borrow.Author.Needs.{needs}
 use Rattle.text.proofs.TextLaws.{fits, fits-not, puts-whole, puts-none, wrote-all}
 use Rattle.text.proofs.bytes.put_bytes.Statement.{statement}
 use Rattle.text.proofs.bytes.put_bytes.Tie as tie

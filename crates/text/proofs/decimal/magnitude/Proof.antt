@@ -52,13 +52,21 @@ cast-result-2 : tie.Need-cast-result-2
 cast-result-2 c =
     let a = c .before in
     let f = a .fits .v in
-    rw (turned (a .args .v) f) (above (a .args .v) (sym (ap (λ x. ltZ x (pos 0)) (read _ f)) ∙ c .if1 .taken), record { fits = omega (arith, bounded (a .args .v) f, same (a .args .v)) })
+    rw (turned (a .args .v) f) (
+      above (a .args .v) (sym (ap (λ x. ltZ x (pos 0)) (read _ f)) ∙ c .if1 .taken),
+      record
+          { fits = omega (arith, bounded (a .args .v) f, same (a .args .v)) },
+    )
 
 cast-result-3 : tie.Need-cast-result-3
 cast-result-3 c =
     let a = c .before in
     let f = a .fits .v in
-    rw (read (a .args .v) f) (kept (a .args .v) (sym (ap (λ x. ltZ x (pos 0)) (read _ f)) ∙ c .if1 .left), record { fits = omega (arith, bounded (a .args .v) f) })
+    rw (read (a .args .v) f) (
+      kept (a .args .v) (sym (ap (λ x. ltZ x (pos 0)) (read _ f)) ∙ c .if1 .left),
+      record
+          { fits = omega (arith, bounded (a .args .v) f) },
+    )
 
 returns : tie.Need-returns
 returns c =

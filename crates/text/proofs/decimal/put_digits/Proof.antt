@@ -1,4 +1,5 @@
--- `decimal::put_digits` meets its contract: the digits already put and those of what is left are the digits of the number, so there is room for what is left. Assumes nothing.
+-- `decimal::put_digits` meets its contract: the digits already put and those of what is left are the digits of the number, so there is room for what
+-- is left. Assumes nothing.
 use mathlib.Core.Path.{_≡_, sym, ap, _∙_}
 use mathlib.Core.List.{List, [], _∷_, _++_, append-assoc, append-nil}
 use Prim.Native.Nat.{ℕ, _+_, _/_, _%_, _≤_, _<_}
@@ -21,7 +22,8 @@ record Shown (n at rest place : ℕ) (l m : List ℕ) : Type 0 where
 start : (n at : ℕ) (l : List ℕ) → length (numeral n) ≤ at → at ≤ length l → Shown n at n at l l
 start n at l g h = record { some = []; put = nothing l at h; digits = sym (append-nil (numeral n)); free = g }
 
-next : {n at rest place p b : ℕ} {l m k : List ℕ} → Shown n at rest place l m → 10 ≤ rest → b ≡ 48 + rest % 10 → Put (b ∷ []) place p m k → Shown n at (rest / 10) p l k
+next : {n at rest place p b : ℕ} {l m k : List ℕ} → Shown n at rest place l m → 10 ≤ rest → b ≡ 48 + rest % 10 → Put (b ∷ []) place p m k
+    → Shown n at (rest / 10) p l k
 next {n} {at} {rest} {place} {p} {b} {l} {m} {k} s g e q =
     record {
       some = b ∷ s .some;
@@ -34,7 +36,8 @@ next {n} {at} {rest} {place} {p} {b} {l} {m} {k} s g e q =
       free = s .free;
     }
 
-last : {n at rest place p b : ℕ} {l m k : List ℕ} → Shown n at rest place l m → rest < 10 → b ≡ 48 + rest % 10 → Put (b ∷ []) place p m k → Put (numeral n) at p l k
+last : {n at rest place p b : ℕ} {l m k : List ℕ} → Shown n at rest place l m → rest < 10 → b ≡ 48 + rest % 10 → Put (b ∷ []) place p m k
+    → Put (numeral n) at p l k
 last {n} {at} {rest} {place} {p} {b} {l} {m} {k} s g e q =
     let d : numeral n ≡ b ∷ s .some = s .digits ∙ ap (λ x. x ++ s .some) (one-digit rest g) ∙ ap (λ x. x ∷ s .some) (omega arith) in
     rw d (before (s .put) q)

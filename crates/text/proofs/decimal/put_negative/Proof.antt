@@ -1,10 +1,9 @@
 -- `decimal::put_negative` meets its contract: the sign, and the digits behind it. Assumes nothing.
 use mathlib.Core.Path.{_≡_, refl, _∙_}
 use mathlib.Core.List.{List, _∷_}
-use Prim.Native.Nat.{ℕ, _+_, _≤_, _<_}
+use Prim.Native.Nat.{ℕ, _+_, _≤_}
 use native.Mathlib.Omega.{arith}
 use lib.ListN.{length, set, length-set}
-use borrow.Author.Needs.{needs}
 use Rattle.text.specs.Decimal.{numeral}
 use Rattle.text.specs.Text.{Put, Wrote}
 use Rattle.text.proofs.DecimalLaws.{twenty}
@@ -69,7 +68,8 @@ returns c =
     let h = t .before in
     let d = h .before in
     let a = d .before .before .args in
-    puts-whole (minus (a .n) _ (a .at) (a .out .now) refl (d .digits .ensures) (fits (a .at + (1 + d .digits .result)) (length (a .out .now)) (h .has-room .ensures) (t .if1 .taken)) (p .put-digits .ensures))
+    puts-whole (minus (a .n) _ (a .at) (a .out .now) refl (d .digits .ensures)
+    (fits (a .at + (1 + d .digits .result)) (length (a .out .now)) (h .has-room .ensures) (t .if1 .taken)) (p .put-digits .ensures))
 
 returns-2 : tie.Need-returns-2
 returns-2 c =

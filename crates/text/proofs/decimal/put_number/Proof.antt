@@ -46,7 +46,11 @@ returns-2 c =
     let h = c .before in
     let d = h .before in
     let a = d .before .before in (
-      puts-none _ _ _ (omega (arith, d .digits .ensures, fits-not (a .args .at + d .digits .result) (length (a .args .out .now)) (h .has-room .ensures) (c .if1 .left))),
+      puts-none _ _ _ (omega (
+        arith,
+        d .digits .ensures,
+        fits-not (a .args .at + d .digits .result) (length (a .args .out .now)) (h .has-room .ensures) (c .if1 .left),
+      )),
       twenty (a .args .n) (a .fits .n .fits),
     )
 

@@ -1,6 +1,6 @@
 -- `refusal::put_refused` meets its contract: there is room for all of it, so each part is written behind the one before. Assumes nothing.
-use mathlib.Core.Path.{_≡_, refl, sym, ap, _∙_}
-use mathlib.Core.List.{List, [], _∷_, _++_}
+use mathlib.Core.Path.{_≡_}
+use mathlib.Core.List.{List, [], _∷_}
 use Prim.Native.Nat.{ℕ, _+_, _≤_}
 use native.Mathlib.Omega.{arith}
 use lib.ListN.{length}
@@ -59,7 +59,8 @@ returns c =
     let h = t .before in
     let d = h .before in
     let a = d .before .before .args in (
-      puts-whole (whole (a .number) (a .at) _ (d .digits .ensures) (fits (a .at + (9 + d .digits .result)) (length (a .out .now)) (h .has-room .ensures) (t .if1 .taken))
+      puts-whole (whole (a .number) (a .at) _ (d .digits .ensures)
+          (fits (a .at + (9 + d .digits .result)) (length (a .out .now)) (h .has-room .ensures) (t .if1 .taken))
           (x .put-bytes .ensures) (y .put-number .ensures .0) (z .put-byte .ensures)),
       omega (arith, refused-length (a .number), y .put-number .ensures .1),
     )
@@ -71,7 +72,12 @@ returns-2 c =
     let b = d .before .before in
     let a = b .args in (
       puts-none _ _ _
-          (omega (arith, refused-length (a .number), d .digits .ensures, fits-not (a .at + (9 + d .digits .result)) (length (a .out .now)) (h .has-room .ensures) (c .if1 .left))),
+          (omega (
+            arith,
+            refused-length (a .number),
+            d .digits .ensures,
+            fits-not (a .at + (9 + d .digits .result)) (length (a .out .now)) (h .has-room .ensures) (c .if1 .left),
+          )),
       omega (arith, refused-length (a .number), twenty (a .number) (b .fits .number .fits)),
     )
 

@@ -1,5 +1,5 @@
 -- `Input::begin` meets its contract: the definition's test. Assumes nothing.
-use mathlib.Core.Path.{_≡_, ap, _∙_}
+use mathlib.Core.Path.{ap, _∙_}
 use Rattle.pgm.proofs.LimitLaws.{cells-none, cells-some}
 use Rattle.listing.specs.declared.input.Step.the-variants as steps
 use Rattle.listing.proofs.InputCases.{shape-no, shape-yes}

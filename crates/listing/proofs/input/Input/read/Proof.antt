@@ -1,5 +1,5 @@
 -- `Input::read` meets its contract: each phase is the definition's. Assumes nothing.
-use mathlib.Core.Path.{_≡_, refl, sym, ap, _∙_}
+use mathlib.Core.Path.{_∙_}
 use Rattle.listing.proofs.InputCases.{phase-0, phase-1, phase-2, phase-3, phase-on}
 use Rattle.listing.proofs.input.Input.read.Statement.{statement}
 use Rattle.listing.proofs.input.Input.read.Tie as tie
@@ -35,4 +35,15 @@ returns-5 c =
     phase-on _ _ (d .before .if1 .left) (d .if2 .left) (e .if3 .left) (c .if4 .left)
 
 pub read-spec : {M : Type 1} → statement M
-read-spec = tie.close (tie.spec read-levels-requires returns read-line-feed-requires returns-2 read-header-requires returns-3 read-height-requires returns-4 returns-5)
+read-spec =
+    tie.close
+    (tie.spec
+    read-levels-requires
+    returns
+    read-line-feed-requires
+    returns-2
+    read-header-requires
+    returns-3
+    read-height-requires
+    returns-4
+    returns-5)

@@ -1,5 +1,5 @@
 -- `Input::read_height` meets its contract: the cases of a sample. Assumes nothing.
-use mathlib.Core.Path.{_≡_, refl, sym, ap, _∙_}
+use mathlib.Core.Path.{sym, ap, _∙_}
 use Prim.Native.Nat.{_-_}
 use borrow.Author.Needs.{needs}
 use Rattle.listing.specs.declared.input.Step.the-variants as steps
@@ -46,7 +46,13 @@ returns-3 c =
     let h = c .before .before .before in
     let s = h .before .before in
     let d = s .before .before .before in
-    ap (λ x. steps.Height (record { phase = 3; levels = d .before .before .args .self .levels; header = d .before .before .args .self .header; left = d .before .before .args .self .left - 1; samples = x }) (h .height .given .0 .0)) (c .start .ensures)
+    ap (λ x. steps.Height (record {
+      phase = 3;
+      levels = d .before .before .args .self .levels;
+      header = d .before .before .args .self .header;
+      left = d .before .before .args .self .left - 1;
+      samples = x;
+    }) (h .height .given .0 .0)) (c .start .ensures)
     ∙ height-some _ _ _ (d .if1 .left) (sym (h .height .given .1) ∙ s .step .ensures)
 
 returns-4 : tie.Need-returns-4
@@ -57,4 +63,18 @@ returns-4 c =
     ap (λ x. steps.Refused x 16) (c .at-phase2 .ensures) ∙ height-some _ _ _ (d .if1 .left) (sym (h .enum-told .given .1) ∙ s .step .ensures)
 
 pub read-height-spec : {M : Type 1} → statement M
-read-height-spec = tie.close (tie.spec at-phase-requires returns step-requires enum-known-half enum-known-height sub-t12 start-requires enum-told at-phase-requires-2 returns-2 returns-3 returns-4)
+read-height-spec =
+    tie.close
+    (tie.spec
+    at-phase-requires
+    returns
+    step-requires
+    enum-known-half
+    enum-known-height
+    sub-t12
+    start-requires
+    enum-told
+    at-phase-requires-2
+    returns-2
+    returns-3
+    returns-4)

@@ -1,5 +1,5 @@
 -- `Input::read_levels` meets its contract: the definition's two tests. Assumes nothing.
-use mathlib.Core.Path.{_≡_, refl, sym, ap, _∙_}
+use mathlib.Core.Path.{ap, _∙_}
 use borrow.Author.Needs.{needs}
 use Rattle.listing.specs.declared.input.Step.the-variants as steps
 use Rattle.listing.proofs.InputCases.{levels-below, levels-above, levels-yes}

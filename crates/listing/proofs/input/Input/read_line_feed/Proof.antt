@@ -1,5 +1,5 @@
 -- `Input::read_line_feed` meets its contract: the definition's test. Assumes nothing.
-use mathlib.Core.Path.{_≡_, refl, sym, ap, _∙_}
+use mathlib.Core.Path.{ap, _∙_}
 use Rattle.listing.specs.declared.input.Step.the-variants as steps
 use Rattle.listing.proofs.InputCases.{feed-yes, feed-no}
 use Rattle.listing.proofs.input.Input.read_line_feed.Statement.{statement}

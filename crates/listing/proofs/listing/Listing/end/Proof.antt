@@ -43,20 +43,23 @@ returns-2 c =
     let h = f .before .before .before .before in
     let y = h .before .before in
     let a = y .before .before .before .before .before .args in
-    ended-as (length (a .store .now)) (length (a .row .now)) (stateOf (a .self) (at (a .store .now)) (at (a .row .now))) _ _ (y .before .if1 .left) (sym (h .next .given .1) ∙ y .end .ensures) (f .finish .ensures)
+    ended-as (length (a .store .now)) (length (a .row .now)) (stateOf (a .self) (at (a .store .now)) (at (a .row .now))) _ _ (y .before .if1 .left)
+    (sym (h .next .given .1) ∙ y .end .ensures) (f .finish .ensures)
 
 returns-3 : tie.Need-returns-3
 returns-3 c =
     let h = c .before .before in
     let y = h .before .before in
     let a = y .before .before .before .before .before .args in
-    ended-as (length (a .store .now)) (length (a .row .now)) (stateOf (a .self) (at (a .store .now)) (at (a .row .now))) _ _ (y .before .if1 .left) (sym (h .next2 .given .1) ∙ y .end .ensures) (record { listing = c .refuse .ensures; store = refl; row = refl })
+    ended-as (length (a .store .now)) (length (a .row .now)) (stateOf (a .self) (at (a .store .now)) (at (a .row .now))) _ _ (y .before .if1 .left)
+    (sym (h .next2 .given .1) ∙ y .end .ensures) (record { listing = c .refuse .ensures; store = refl; row = refl })
 
 returns-4 : tie.Need-returns-4
 returns-4 c =
     let y = c .before .before in
     let a = y .before .before .before .before .before .args in
-    ended-as (length (a .store .now)) (length (a .row .now)) (stateOf (a .self) (at (a .store .now)) (at (a .row .now))) _ _ (y .before .if1 .left) (sym (c .enum-told .given .1) ∙ y .end .ensures) (record { listing = refl; store = refl; row = refl })
+    ended-as (length (a .store .now)) (length (a .row .now)) (stateOf (a .self) (at (a .store .now)) (at (a .row .now))) _ _ (y .before .if1 .left)
+    (sym (c .enum-told .given .1) ∙ y .end .ensures) (record { listing = refl; store = refl; row = refl })
 
 pub end-spec : {M : Type 1} → statement M
 end-spec =

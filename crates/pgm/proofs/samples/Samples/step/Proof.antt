@@ -16,7 +16,9 @@ checked-requires c κs = tt
 
 returns : tie.Need-returns
 unfolding sampleOf
-returns c = let b = c .before .before in simp (sym (b .before .is-wide .ensures) ∙ not-true _ (b .if1 .taken)) (c .checked .ensures ∙ ap (sampled (b .before .before .args .self .largest)) (c .before .single .ensures))
+returns c =
+    let b = c .before .before in simp (sym (b .before .is-wide .ensures) ∙ not-true _ (b .if1 .taken))
+    (c .checked .ensures ∙ ap (sampled (b .before .before .args .self .largest)) (c .before .single .ensures))
 
 joined-requires : tie.Need-joined-requires
 joined-requires c κs = tt
@@ -29,7 +31,8 @@ unfolding sampleOf
 returns-2 c =
     let d = c .before .before in
     let b = d .before in
-    simp (sym (b .before .is-wide .ensures) ∙ not-false _ (b .if1 .left), d .if2 .taken) (c .checked2 .ensures ∙ ap (sampled (b .before .before .args .self .largest)) (c .before .joined .ensures))
+    simp (sym (b .before .is-wide .ensures) ∙ not-false _ (b .if1 .left), d .if2 .taken)
+    (c .checked2 .ensures ∙ ap (sampled (b .before .before .args .self .largest)) (c .before .joined .ensures))
 
 returns-3 : tie.Need-returns-3
 unfolding sampleOf

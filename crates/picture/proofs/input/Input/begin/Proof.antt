@@ -1,5 +1,5 @@
 -- `Input::begin` meets its contract: the definition's tests. Assumes nothing.
-use mathlib.Core.Path.{_≡_, ap, _∙_}
+use mathlib.Core.Path.{ap, _∙_}
 use Rattle.pgm.proofs.LimitLaws.{cells-none, cells-some}
 use Rattle.picture.specs.declared.input.Step.the-variants as steps
 use Rattle.picture.proofs.InputCases.{shape-no, shape-short, shape-yes}

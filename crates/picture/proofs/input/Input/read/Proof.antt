@@ -1,5 +1,5 @@
 -- `Input::read` meets its contract: the phases are the definition's. Assumes nothing.
-use mathlib.Core.Path.{_≡_, refl, sym, ap, _∙_}
+use mathlib.Core.Path.{_∙_}
 use Rattle.picture.proofs.InputCases.{phase-0, phase-1, phase-on}
 use Rattle.picture.proofs.input.Input.read.Statement.{statement}
 use Rattle.picture.proofs.input.Input.read.Tie as tie

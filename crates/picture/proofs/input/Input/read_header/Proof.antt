@@ -1,5 +1,5 @@
 -- `Input::read_header` meets its contract: the cases of a step. Assumes nothing.
-use mathlib.Core.Path.{_≡_, refl, sym, ap, _∙_}
+use mathlib.Core.Path.{sym, ap, _∙_}
 use borrow.Author.Needs.{needs}
 use Rattle.picture.specs.declared.input.Step.the-variants as steps
 use Rattle.picture.proofs.InputCases.{header-case}

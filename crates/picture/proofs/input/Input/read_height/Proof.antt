@@ -1,5 +1,5 @@
 -- `Input::read_height` meets its contract: the cases of a sample. Assumes nothing.
-use mathlib.Core.Path.{_≡_, refl, sym, ap, _∙_}
+use mathlib.Core.Path.{sym, ap, _∙_}
 use Prim.Native.Nat.{_-_}
 use borrow.Author.Needs.{needs}
 use Rattle.picture.specs.declared.input.Step.the-variants as steps
@@ -47,7 +47,8 @@ returns-3 c =
     let s = h .before .before in
     let d = s .before .before .before in
     let i = d .before .before .args .self in
-    ap (λ x. steps.Height (record { phase = 1; header = i .header; width = i .width; height = i .height; left = i .left - 1; samples = x }) (h .height .given .0 .0)) (c .start .ensures)
+    ap (λ x. steps.Height (record { phase = 1; header = i .header; width = i .width; height = i .height; left = i .left - 1; samples = x })
+    (h .height .given .0 .0)) (c .start .ensures)
     ∙ height-some _ _ _ (d .if1 .left) (sym (h .height .given .1) ∙ s .step .ensures)
 
 returns-4 : tie.Need-returns-4

@@ -1,7 +1,7 @@
 -- `Rewriting::read` meets its contract: the cases of what was read. Assumes nothing.
-use mathlib.Core.Path.{_≡_, refl, sym, ap, _∙_}
+use mathlib.Core.Path.{sym, ap, _∙_}
 use borrow.Author.Needs.{needs}
-use Rattle.picture.specs.Machine.{rewriting, kept, heightKept}
+use Rattle.picture.specs.Machine.{rewriting}
 use Rattle.picture.proofs.MachineLaws.{step-state, step-row}
 use Rattle.picture.proofs.rewriting.Rewriting.read.Statement.{statement}
 use Rattle.picture.proofs.rewriting.Rewriting.read.Tie as tie
