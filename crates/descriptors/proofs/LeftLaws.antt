@@ -1,14 +1,13 @@
 -- What is left of a chunk, after a fill and after some of it is used. Assumes nothing.
 use mathlib.Core.Path.{_≡_, refl, sym, ap, subst, _∙_}
-use mathlib.Core.Bool.{Bool, true, false, cond}
+use mathlib.Core.Bool.{Bool, true, false}
 use mathlib.Core.List.{List, [], _∷_, _++_, append-nil}
 use Prim.Native.Nat.{ℕ, zero, suc, _+_, _-_, _≤_, _<_}
 use native.Mathlib.Omega.{arith}
-use lib.Dec.{leb, eqb}
 use borrow.Author.Tests.{leb-true, le-leb, lt-leb}
 use lib.ListN.{length, take, drop, length-drop}
 use lib.Seq.{drop-nil, take-nil, length-take-le}
-use Rattle.descriptors.specs.Left.{leftIn, Within, usedOf, readsNow, came, nothingNew, Fills, keeps, reads}
+use Rattle.descriptors.specs.Left.{leftIn, Within, usedOf, readsNow, came, Fills, keeps, reads}
 use Rattle.descriptors.specs.declared.input.Left.{Left}
 use Rattle.descriptors.specs.declared.input.Filled.{Filled}
 

@@ -1,4 +1,5 @@
--- The text of the rows drawn from a writer is the lines that the heights taken make due: all of them once no row waits (`lines-due`), the first of them before (`lines-prefix`). By demand 3 of the writer; assumes nothing.
+-- The text of the rows drawn from a writer is the lines that the heights taken make due: all of them once no row waits (`lines-due`), the first of
+-- them before (`lines-prefix`). By demand 3 of the writer; assumes nothing.
 use mathlib.Core.Bool.{true}
 use mathlib.Core.Path.{_≡_, refl, sym, ap, ap₂, _∙_}
 use mathlib.Core.List.{List, [], _∷_, _++_, map, append-nil, append-assoc, cons≢nil, head-eq-of-cons-eq, tail-eq-of-cons-eq}
@@ -21,7 +22,7 @@ use Rattle.writer.specs.declared.BandRow.{BandRow}
 use Rattle.writer.specs.History.{Call, Event, events, freshWorld, taken, finishedBy, DrawnRow, drawn}
 use Rattle.writer.specs.Demand3.{wholeRows, madeOf, waitingOf, answered, MapOf, HasValues}
 use Rattle.writer.proofs.Demand3.{height-range, demand-3}
-use Rattle.pgm.specs.Decimal.{numeral, integer}
+use Rattle.text.specs.Decimal.{numeral, integer}
 use Rattle.listing.specs.Lines.{bandLetters, spaced, rowHead, rowLine, lineOf, linesOf, sizeLine}
 use Rattle.listing.specs.Listing.{Shape, gridOf, linesDue}
 use Rattle.listing.specs.Parts.{letter, headText, headPart}
@@ -77,11 +78,11 @@ module _ (W H : ℕ) (g : Grid) where
       ∙ ap₂ _++_ (line-same d x (head-eq-of-cons-eq e) v) (lines-same l m a (tail-eq-of-cons-eq e))
 
 -- ---- the heights taken are the first of a map
-pub grid-map : (W H : ℕ) (l : List ℕ) → All (λ h. h ≤ 65535) l → IsMap W H (gridOf W l)
+pub grid-map : (W H : ℕ) (l : List ℕ) → All (λ h. h ≤ maxSample) l → IsMap W H (gridOf W l)
 unfolding gridOf maxSample
 grid-map W H l a = record { heights = λ r c _ _. height-range (getD l (r * W + c) 0) (all-at 0 (omega arith) a (r * W + c)) }
 
-pub grid-map-of : (W H : ℕ) (es : List Event) → 1 ≤ H → H ≤ maxHeight → All (λ h. h ≤ 65535) (taken es) → length (taken es) ≤ W * H
+pub grid-map-of : (W H : ℕ) (es : List Event) → 1 ≤ H → H ≤ maxHeight → All (λ h. h ≤ maxSample) (taken es) → length (taken es) ≤ W * H
     → (finishedBy es ≡ true → length (taken es) ≡ W * H) → MapOf W H (gridOf W (taken es)) es
 unfolding gridOf
 grid-map-of W H es some limit small within all = record {
@@ -97,7 +98,8 @@ module _ (W L n : ℕ) (x : Memory) (ready : setUpQuestion W L n ≡ 0) (cs : Li
   abbrev q : Shape
   q = record { width = W; height = H; levels = L }
 
-  module _ (some : 1 ≤ H) (limit : H ≤ maxHeight) (small : All (λ h. h ≤ 65535) (taken es)) (within : length (taken es) ≤ W * H) (all : finishedBy es ≡ true → length (taken es) ≡ W * H) where
+  module _ (some : 1 ≤ H) (limit : H ≤ maxHeight) (small : All (λ h. h ≤ maxSample) (taken es)) (within : length (taken es) ≤ W * H)
+      (all : finishedBy es ≡ true → length (taken es) ≡ W * H) where
     -- the lines drawn, and those of the rows that wait
     pub lines-all : (sizeLine W H L ++ drawnText (drawn es)) ++ linesOf W H (gridOf W (taken es)) (waitingOf W L es) ≡ linesDue q (taken es) (finishedBy es)
     unfolding linesDue waitingOf madeOf wholeRows
@@ -105,7 +107,8 @@ module _ (W L n : ℕ) (x : Memory) (ready : setUpQuestion W L n ≡ 0) (cs : Li
         let d = demand-3 W L n x ready cs .1 in
         append-assoc (sizeLine W H L) (drawnText (drawn es)) _
         ∙ ap (λ t. sizeLine W H L ++ t)
-        (lines-same W H (gridOf W (taken es)) (drawn es) (madeOf W L es) (d .values H (gridOf W (taken es)) (grid-map-of W H es some limit small within all)) (d .in-order))
+        (lines-same W H (gridOf W (taken es)) (drawn es) (madeOf W L es) (d .values H (gridOf W (taken es)) (grid-map-of W H es some limit small within all))
+        (d .in-order))
 
     pub lines-prefix : (r : List ℕ) × ((sizeLine W H L ++ drawnText (drawn es)) ++ r ≡ linesDue q (taken es) (finishedBy es))
     lines-prefix = (linesOf W H (gridOf W (taken es)) (waitingOf W L es), lines-all)

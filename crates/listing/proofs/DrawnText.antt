@@ -1,12 +1,13 @@
--- The text of the rows that were drawn, and the text that is due as a function of what the input told. Definitions for ListingTheorem; they assume nothing.
+-- The text of the rows that were drawn, and the text that is due as a function of what the input brought. Definitions for ListingTheorem; they assume nothing.
 use mathlib.Core.Bool.{Bool, true, false}
 use mathlib.Core.List.{List, [], _∷_, _++_}
 use Prim.Native.Nat.{ℕ}
 use Rattle.writer.specs.History.{DrawnRow}
-use Rattle.listing.specs.Lines.{spaced, refusedLine, answerLine}
-use Rattle.listing.specs.Listing.{Shape, linesDue}
+use Rattle.text.specs.Refusal.{refusedLine, answerLine}
+use Rattle.listing.specs.Lines.{spaced}
+use Rattle.listing.specs.Listing.{linesDue}
 use Rattle.listing.specs.Parts.{headText, headPart}
-use Rattle.listing.specs.Telling.{Event, begins, height, refusal, Ending, whole, few, over, Telling}
+use Rattle.listing.specs.Events.{Event, begins, height, refusal, whole, few, over, Reading}
 
 -- a drawn row as the code writes it
 unfoldable pub drawnLine : DrawnRow → List ℕ
@@ -37,5 +38,5 @@ textOf f (height v ∷ es) = []
 textOf f (refusal q ∷ es) = refusedLine q
 
 -- and with the end of the input
-abbrev pub endText : Telling → List ℕ
+abbrev pub endText : Reading → List ℕ
 endText t = elim (t .ending) [ whole ↦ textOf true (t .events) | few ↦ textOf false (t .events) ++ refusedLine 15 | over ↦ textOf false (t .events) ]

@@ -1,4 +1,5 @@
--- All that is left of a line to write (`lineLeft`), and how it changes when bytes of a part, or a part, are written. z is the row area, of k numbers. Assumes nothing.
+-- All that is left of a line to write (`lineLeft`), and how it changes when bytes of a part, or a part, are written. z is the row area, of k numbers.
+-- Assumes nothing.
 use mathlib.Core.Path.{_≡_, refl, sym, ap, _∙_}
 use mathlib.Core.List.{List, [], _∷_, _++_, append-assoc, append-nil}
 use Prim.Native.Nat.{ℕ, zero, suc, _+_, _-_, _≤_, _<_}
@@ -10,10 +11,11 @@ use lib.ListN.{length, take, drop, length-drop, take-append-drop}
 use lib.Seq.{drop-drop}
 use borrow.Author.Tests.{lt-ltb, le-ltb, lt-leb, le-leb, eq-eqb, ne-eqb}
 use Rattle.numbers.specs.Signal.{pick}
-use Rattle.pgm.specs.Decimal.{integer}
-use Rattle.listing.specs.Lines.{spaced, sizeLine, refusedLine}
+use Rattle.text.specs.Decimal.{integer}
+use Rattle.text.specs.Refusal.{refusedLine}
+use Rattle.listing.specs.Lines.{spaced, sizeLine}
 use Rattle.listing.specs.Parts.{sizeText, refusedText, headText, valueText, partText, sizePart, refusedPart, headPart, donePart, startOf, leftOf}
-use Rattle.listing.specs.Scenes.{valuePart}
+use Rattle.listing.specs.States.{valuePart}
 use Rattle.listing.specs.declared.line.Line.{Line}
 use Rattle.listing.proofs.SpellLaws.{start-in, start-anew, start-bound}
 
@@ -31,7 +33,8 @@ unfolding valuesFrom
 spaced-from zero v y = ap (λ a. spaced a y) (omega arith) ∙ sym (append-nil (spaced v y))
 spaced-from (suc m) v y =
     let e : v + suc m ≡ v + 1 + m = omega arith in
-    ap (λ a. spaced a y) e ∙ spaced-from m (v + 1) y ∙ ap (λ l. l ++ valuesFrom (v + 1) m y) (spaced-one v y) ∙ append-assoc (spaced v y) (32 ∷ integer (y v)) (valuesFrom (v + 1) m y)
+    ap (λ a. spaced a y) e ∙ spaced-from m (v + 1) y ∙ ap (λ l. l ++ valuesFrom (v + 1) m y) (spaced-one v y)
+    ∙ append-assoc (spaced v y) (32 ∷ integer (y v)) (valuesFrom (v + 1) m y)
 
 all-values : (n : ℕ) (y : ℕ → ℤ) → spaced n y ≡ valuesFrom 0 n y
 unfolding spaced
@@ -71,12 +74,14 @@ module _ (k : ℕ) (z : ℕ → ℤ) where
   left-size W H L = append-nil _ ∙ left-all (sizeLine W H L)
 
   pub left-refused : (q : ℕ) → lineLeft k z (refusedPart q) ≡ refusedLine q
-  unfolding lineLeft lineTail partText refusedText refusedLine
+  unfolding lineLeft lineTail partText refusedText
   left-refused q = append-nil _ ∙ left-all (refusedLine q)
 
   pub left-head : (a b c n : ℕ) → lineLeft k z (headPart a b c n) ≡ headText (headPart a b c n) ++ (spaced n z ++ (10 ∷ []))
   unfolding lineLeft lineTail partText
-  left-head a b c n = ap (λ t. t ++ (valuesFrom 0 n z ++ (10 ∷ []))) (left-all (headText (headPart a b c n))) ∙ ap (λ t. headText (headPart a b c n) ++ (t ++ (10 ∷ []))) (sym (all-values n z))
+  left-head a b c n =
+      ap (λ t. t ++ (valuesFrom 0 n z ++ (10 ∷ []))) (left-all (headText (headPart a b c n)))
+      ∙ ap (λ t. headText (headPart a b c n) ++ (t ++ (10 ∷ []))) (sym (all-values n z))
 
   -- ---- bytes of the part are written
   text-same : (l : Line) (d : ℕ) → partText k z (donePart l d) ≡ partText k z l
@@ -103,7 +108,8 @@ module _ (k : ℕ) (z : ℕ → ℤ) where
       some-left l p
       ∙ ap (λ y. y ++ lineTail z l) (left-more t (l .done) m h)
       ∙ append-assoc o (leftOf t d) (lineTail z l)
-      ∙ ap (λ y. o ++ y) (sym (some-left (donePart l d) p ∙ ap (λ y. leftOf y d ++ lineTail z (donePart l d)) (text-same l d) ∙ ap (λ y. leftOf t d ++ y) (tail-same l d)))
+      ∙ ap (λ y. o ++ y) (sym (some-left (donePart l d) p ∙ ap (λ y. leftOf y d ++ lineTail z (donePart l d)) (text-same l d)
+      ∙ ap (λ y. leftOf t d ++ y) (tail-same l d)))
 
   -- ---- the part is written to its end: a line of one part
   pub left-short : (l : Line) → 0 < l .part → l .part < 3 → lineLeft k z l ≡ leftOf (partText k z l) (l .done)
@@ -121,20 +127,25 @@ module _ (k : ℕ) (z : ℕ → ℤ) where
       ∙ elim (decLt v (l .length)) [
         | yes p ↦
             let e : l .length - v ≡ suc (l .length - (v + 1)) = omega arith in
-            rw (lt-ltb v (l .length) p, lt-leb (l .length) v p, lt-leb k v (omega arith), e) (unfold valuesFrom in ap (λ y. 32 ∷ y) (sym (append-assoc (integer (z v)) (valuesFrom (v + 1) (l .length - (v + 1)) z) (10 ∷ []))))
+            rw (lt-ltb v (l .length) p, lt-leb (l .length) v p, lt-leb k v (omega arith), e)
+            (unfold valuesFrom in ap (λ y. 32 ∷ y) (sym (append-assoc (integer (z v)) (valuesFrom (v + 1) (l .length - (v + 1)) z) (10 ∷ []))))
         | no d ↦
             let e : l .length - v ≡ 0 = omega arith in
             rw (le-ltb v (l .length) (omega arith), le-leb (l .length) v (omega arith), e) (unfold valuesFrom in refl)
       ]
 
   pub left-past-head : (l : Line) → l .part ≡ 3 → l .length ≤ k → lineLeft k z l ≡ leftOf (partText k z l) (l .done) ++ lineLeft k z (valuePart l 0)
-  left-past-head l e f = some-left l (omega arith) ∙ ap (λ y. leftOf (partText k z l) (l .done) ++ y) (tail ∙ sym (value-left l 0 (omega arith) f ∙ ap (λ a. valuesFrom 0 a z ++ (10 ∷ [])) (omega arith)))
+  left-past-head l e f =
+      some-left l (omega arith) ∙ ap (λ y. leftOf (partText k z l) (l .done) ++ y)
+      (tail ∙ sym (value-left l 0 (omega arith) f ∙ ap (λ a. valuesFrom 0 a z ++ (10 ∷ [])) (omega arith)))
     where
       tail : lineTail z l ≡ valuesFrom 0 (l .length) z ++ (10 ∷ [])
       tail = unfold lineTail in rw (le-ltb (l .part) 3 (omega arith), eq-eqb (l .part) 3 e) refl
 
-  pub left-past-value : (l : Line) → 3 ≤ l .part → (l .part ≡ 3 → ⊥) → l .value < l .length → l .length ≤ k → lineLeft k z l ≡ leftOf (partText k z l) (l .done) ++ lineLeft k z (valuePart l (l .value + 1))
-  left-past-value l g d h f = some-left l (omega arith) ∙ ap (λ y. leftOf (partText k z l) (l .done) ++ y) (tail ∙ sym (value-left l (l .value + 1) (omega arith) f))
+  pub left-past-value : (l : Line) → 3 ≤ l .part → (l .part ≡ 3 → ⊥) → l .value < l .length → l .length ≤ k
+      → lineLeft k z l ≡ leftOf (partText k z l) (l .done) ++ lineLeft k z (valuePart l (l .value + 1))
+  left-past-value l g d h f =
+      some-left l (omega arith) ∙ ap (λ y. leftOf (partText k z l) (l .done) ++ y) (tail ∙ sym (value-left l (l .value + 1) (omega arith) f))
     where
       tail : lineTail z l ≡ valuesFrom (l .value + 1) (l .length - (l .value + 1)) z ++ (10 ∷ [])
       tail = unfold lineTail in rw (le-ltb (l .part) 3 g, ne-eqb (l .part) 3 d, lt-ltb (l .value) (l .length) h) refl

@@ -1,4 +1,5 @@
--- The listing of an input that is accepted shows its L, size and heights, and nothing else of it: `accepted-listing`. So accepted inputs in which these are equal have equal listings, whatever their headers (`same-listing`).
+-- The listing of an input that is accepted shows its L, size and heights, and nothing else of it: `accepted-listing`. So accepted inputs in which
+-- these are equal have equal listings, whatever their headers (`same-listing`).
 -- Assumes nothing.
 use mathlib.Core.Path.{_≡_, sym, ap, _∙_}
 use mathlib.Core.Bool.{true, false}
@@ -7,14 +8,16 @@ use Prim.Native.Nat.{ℕ}
 use lib.ListN.{length}
 use borrow.Author.Tests.{eq-eqb}
 use Rattle.pgm.specs.Header.{Read, found, short, wrong}
-use Rattle.listing.specs.Lines.{refusedLine}
-use Rattle.listing.specs.Listing.{Shape, Head, cells, heightsTaken, tooLarge, bytesOf, linesDue, bodyOf, listingOf, Accepted}
+use Rattle.text.specs.Refusal.{refusedLine}
+use Rattle.pgm.specs.Heights.{heightsTaken, tooLarge, bytesOf}
+use Rattle.listing.specs.Listing.{Shape, Head, cells, linesDue, bodyOf, listingOf, Accepted}
 
 -- what a head and the bytes after it are listed as
 abbrev headLists : Read Head → List ℕ
 headLists x = elim x [ found h r ↦ bodyOf (h .shape) (h .largest) r | short ↦ refusedLine 15 | wrong ↦ refusedLine 15 ]
 
-body : (q : Shape) (m : ℕ) (r : List ℕ) → tooLarge m (cells q) r ≡ false → length r ≡ bytesOf m (cells q) → bodyOf q m r ≡ linesDue q (heightsTaken m (cells q) r) true
+body : (q : Shape) (m : ℕ) (r : List ℕ) → tooLarge m (cells q) r ≡ false → length r ≡ bytesOf m (cells q)
+    → bodyOf q m r ≡ linesDue q (heightsTaken m (cells q) r) true
 unfolding bodyOf
 body q m r e f = rw (e, eq-eqb (length r) (bytesOf m (cells q)) f)
 

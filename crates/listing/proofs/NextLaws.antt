@@ -1,4 +1,4 @@
--- Numbers that a test told of, over plain variables: in a function's own proof `omega` would read all of its places. Assumes nothing.
+-- What a test says of numbers, over plain variables: in a function's own proof `omega` would read all of its places. Assumes nothing.
 use mathlib.Core.Path.{_≡_, sym, subst}
 use mathlib.Core.Bool.{true, false}
 use Prim.Native.Nat.{ℕ, _+_, _-_, _≤_, _<_, min}

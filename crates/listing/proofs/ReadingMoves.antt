@@ -1,4 +1,4 @@
--- A byte heard, or heights offered together: the moves. Assumes nothing.
+-- A byte read, or heights offered together: the moves. Assumes nothing.
 use mathlib.Core.Path.{_≡_, refl, sym, ap, _∙_, subst}
 use mathlib.Core.Bool.{Bool, true, false}
 use mathlib.Core.List.{List, [], _∷_, _++_, append-assoc}
@@ -21,9 +21,10 @@ use Rattle.writer.specs.Calls.{took, offerReply, offerStore}
 use Rattle.writer.specs.declared.Writer.{Writer}
 use Rattle.writer.proofs.CallLaws.{offer-may}
 use Rattle.writer.proofs.Reached.{takes-one}
-use Rattle.listing.specs.Hearing.{heightsCame}
-use Rattle.listing.specs.Scenes.{Scene, scene, Leaves, drawScene, hearScene}
-use Rattle.listing.specs.Moves.{Idle, largestOn, hears, takes as offers, Reads}
+use Rattle.listing.specs.Scenes.{Scene, scene, drawScene, hearScene}
+use Rattle.listing.specs.Moves.{Idle, largestOn, hears, takes as offers, Reads, readByte}
+use Rattle.listing.specs.InputSteps.{heightsCame}
+use Rattle.listing.specs.States.{Leaves, State, stateOf, drawState, readState}
 use Rattle.listing.specs.declared.input.Input.{Input}
 use Rattle.listing.specs.declared.listing.Listing.{Listing}
 use Rattle.listing.proofs.MoveLaws.{one}
@@ -31,11 +32,12 @@ use Rattle.listing.proofs.NextLaws.{is-some}
 use Rattle.listing.proofs.WritingMoves.{left-is}
 
 -- ---- a byte
-pub byte-on : (n k : ℕ) (s : Scene) (p : List ℕ) (a : ℕ) (l : Listing) {x z : Memory} → Idle s → a < length p → Leaves (hearScene n k (getD p a 0) s) l x z → Reads n k s p a (a + 1) (scene l x z)
+pub byte-on : (n k : ℕ) (s : State) (p : List ℕ) (a : ℕ) (l : Listing) {x z : Memory} → Idle s → a < length p
+    → Leaves (readState n k (getD p a 0) s) l x z → Reads n k s p a (a + 1) (stateOf l x z)
 byte-on n k s p a l i h f =
     record {
       bytes = getD p a 0 ∷ [];
-      goes = one (hears (getD p a 0) i refl refl (left-is f));
+      goes = one (readByte (getD p a 0) i refl refl (left-is f));
       read = drop-cons p a 0 h ∙ ap (λ m. getD p a 0 ∷ drop m p) (sym (add-one a));
       used = refl;
       part = omega arith;
@@ -88,7 +90,7 @@ heights-size : (m : ℕ) (s : List ℕ) (c : ℕ) → c ≤ length (heightsOf m 
 heights-size m s c h = ap length (heights-first m s c) ∙ length-take-le c (heightsOf m s) h
 
 -- a run is c heights of the piece p from place a on, no more than are still to come
-pub record Run (s : Scene) (p : List ℕ) (a c : ℕ) (run : List ℕ) : Type 0 where
+pub record Run (s : State) (p : List ℕ) (a c : ℕ) (run : List ℕ) : Type 0 where
   pub heights : run ≡ heightsOf (largestOn s) (take (sampleSize (largestOn s) * c) (drop a p))
   pub left : c ≤ s .listing .input .left
   pub some : 0 < c
@@ -103,7 +105,7 @@ module _ (run part : List ℕ) (m n : ℕ) (fits : m ≤ length run) (same : len
   pub back-room : n ≤ length (take m run) → n ≤ length (part ++ drop m run)
   back-room h = omega (arith, back-size, length-take-le m run fits)
 
-pub run-read : (s : Scene) (p run part : List ℕ) (a m n : ℕ) → m ≡ min (s .listing .input .left) (length run) → (n ≡ 0 → ⊥) → a + 2 ≤ length p
+pub run-read : (s : State) (p run part : List ℕ) (a m n : ℕ) → m ≡ min (s .listing .input .left) (length run) → (n ≡ 0 → ⊥) → a + 2 ≤ length p
     → n ≡ min (length (heightsOf (largestOn s) (drop a p))) (length (take m run)) → part ≡ take n (heightsOf (largestOn s) (drop a p)) ++ drop n (take m run)
     → Run s p a n (take n (part ++ drop m run))
 run-read s p run part a m n em some hp en ep =
@@ -122,7 +124,8 @@ run-read s p run part a m n em some hp en ep =
       place = omega arith;
     }
 
-module _ (n k : ℕ) (s : Scene) (p : List ℕ) (a c : ℕ) (run : List ℕ) (j : Took) (r : Run s p a c run) (reply : gives j ≡ offerReply (s .listing .writer) n run (s .store)) where
+module _ (n k : ℕ) (s : State) (p : List ℕ) (a c : ℕ) (run : List ℕ) (j : Took) (r : Run s p a c run)
+    (reply : gives j ≡ offerReply (s .listing .writer) n run (s .store)) where
   abbrev m₀ : ℕ
   m₀ = largestOn s
 
@@ -148,9 +151,10 @@ module _ (n k : ℕ) (s : Scene) (p : List ℕ) (a c : ℕ) (run : List ℕ) (j 
       in-piece : (z : ℕ) → z ≤ length (drop a p) → a + z ≤ length p
       in-piece z h = omega (arith, length-drop a p, r .place)
 
-  pub heights-on : (m : ℕ) (i : Input) (x₁ : Memory) (l : Listing) {x′ z′ : Memory} → Idle s → s .listing .input .phase ≡ 3 → s .listing .input .samples .half ≡ false
+  pub heights-on : (m : ℕ) (i : Input) (x₁ : Memory) (l : Listing) {x′ z′ : Memory} → Idle s → s .listing .input .phase ≡ 3
+      → s .listing .input .samples .half ≡ false
       → m ≡ n → i ≡ heightsCame (j .taken) (s .listing .input) → x₁ ≡ offerStore (s .listing .writer) n run (s .store)
-      → Leaves (drawScene m k i (j .writer) x₁ (s .row)) l x′ z′ → Reads n k s p a (a + used) (scene l x′ z′)
+      → Leaves (drawState m k i (j .writer) x₁ (s .row)) l x′ z′ → Reads n k s p a (a + used) (stateOf l x′ z′)
   heights-on m i x₁ l {x′} {z′} idle phase whole em ei ex f =
       let y = passed (s .listing .writer) n run (s .store) j reply in
       let some : 0 < j .taken = y .some (omega (arith, count, r .some)) in
@@ -175,6 +179,7 @@ module _ (n k : ℕ) (s : Scene) (p : List ℕ) (a c : ℕ) (run : List ℕ) (j 
       past z h g = omega arith
 
 -- an offer that was turned away left the store as it was
-pub still-there : {n n′ k : ℕ} {l : Listing} {x x′ z : Memory} {p : List ℕ} {a a′ : ℕ} {s′ : Scene} → n′ ≡ n → x′ ≡ x → Reads n′ k (scene l x′ z) p a a′ s′ → Reads n k (scene l x z) p a a′ s′
+pub still-there : {n n′ k : ℕ} {l : Listing} {x x′ z : Memory} {p : List ℕ} {a a′ : ℕ} {s′ : State} → n′ ≡ n → x′ ≡ x
+    → Reads n′ k (stateOf l x′ z) p a a′ s′ → Reads n k (stateOf l x z) p a a′ s′
 still-there {n} {n′} {k} {l} {x} {x′} {z} {p} {a} {a′} {s′} en ex r =
-    subst (λ y. Reads n k (scene l y z) p a a′ s′) ex (subst (λ y. Reads y k (scene l x′ z) p a a′ s′) en r)
+    subst (λ y. Reads n k (stateOf l y z) p a a′ s′) ex (subst (λ y. Reads y k (stateOf l x′ z) p a a′ s′) en r)

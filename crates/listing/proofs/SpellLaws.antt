@@ -1,16 +1,15 @@
 -- A part spelled into an area: where it goes on, and what is left. Assumes nothing.
-use mathlib.Core.Path.{_≡_, refl, sym, ap, _∙_}
-use mathlib.Core.List.{List, [], _∷_, _++_, append-nil}
+use mathlib.Core.Path.{_≡_, sym, ap, _∙_}
+use mathlib.Core.List.{List}
 use Prim.Native.Nat.{ℕ, _+_, _-_, _≤_, _<_, min}
 use native.Mathlib.Omega.{arith}
 use native.Mathlib.Decide.{decLt}
-use lib.ListN.{length, take, drop, length-drop, drop-of-length-le}
-use lib.Seq.{paste, drop-at, drop-drop, length-take-le}
+use lib.ListN.{length, take, drop, length-drop}
+use lib.Seq.{paste}
 use borrow.Author.Tests.{lt-ltb, le-ltb}
-use Rattle.pgm.specs.Text.{Put}
+use Rattle.text.specs.Text.{Wrote}
 use Rattle.listing.specs.Parts.{startOf, leftOf, Spelled}
-use Rattle.listing.specs.declared.spelling.Spelt.{Spelt}
-use Rattle.pgm.proofs.TextLaws.{same-size}
+use Rattle.text.proofs.TextLaws.{wrote-front, front-end}
 
 pub start-in : (t d : ℕ) → d < t → d ≡ startOf t d
 unfolding startOf
@@ -23,37 +22,31 @@ start-anew t d h = rw (le-ltb d t h)
 pub start-bound : (t d : ℕ) → startOf t d ≤ t
 start-bound t d = elim (decLt d t) [ yes p ↦ omega (arith, start-in t d p) | no q ↦ omega (arith, start-anew t d (omega arith)) ]
 
-module _ {t l m : List ℕ} {s : ℕ} (p : Put t 64 s l m) (long : length l ≡ 64) where
-  size : length t ≡ 64 - s
-  size = omega (arith, p .place)
+-- a part's text t at the front of an area, and what is left of it copied
+module _ {t l m : List ℕ} {e : ℕ} (p : Wrote t 0 e l m) (d f : ℕ) (g : f ≡ startOf e d) where
+  end-is : e ≡ length t
+  end-is = omega (arith, p .place)
 
-  pub text-back : drop s m ≡ t
-  text-back =
-      ap (drop s) (p .text)
-      ∙ drop-at (take s l) (t ++ drop 64 l) s (length-take-le s l (omega (arith, p .place)))
-      ∙ ap (λ x. t ++ x) (drop-of-length-le l {i = 64} (omega arith))
-      ∙ append-nil t
+  pub from-bound : f ≤ e
+  from-bound = omega (arith, g, start-bound e d)
 
-  module _ (d f : ℕ) (e : f ≡ s + startOf (64 - s) d) where
-    pub text-left : drop f m ≡ leftOf t d
-    unfolding leftOf
-    text-left =
-        ap (λ k. drop k m) (e ∙ ap (λ k. s + startOf k d) (sym size))
-        ∙ sym (drop-drop (startOf (length t) d) s m)
-        ∙ ap (drop (startOf (length t) d)) text-back
+  from-is : f ≡ startOf (length t) d
+  from-is = g ∙ ap (λ k. startOf k d) end-is
 
-    pub from-bound : f ≤ 64
-    from-bound = omega (arith, e, start-bound (64 - s) d, p .place)
+  left-size : length (leftOf t d) ≡ e - f
+  unfolding leftOf
+  left-size = length-drop (startOf (length t) d) t ∙ ap (λ k. length t - k) (sym from-is) ∙ ap (λ k. k - f) (sym end-is)
 
-    left-size : length (leftOf t d) ≡ 64 - f
-    left-size = sym (ap length text-left) ∙ length-drop f m ∙ ap (λ k. k - f) (same-size p ∙ long)
+  pub count-bound : (n x : ℕ) → n ≡ min (length (take e m) - f) x → n ≤ e - f
+  count-bound n x h = omega (arith, front-end p)
 
-    pub spelled : (a n : ℕ) (o o′ : List ℕ) → n ≡ min (length m - f) (length o - a) → o′ ≡ paste o a (drop f m) n
-        → Spelled t d a o o′ (record { written = n; done = f - s + n; rest = 64 - f - n })
-    spelled a n o o′ g h =
-        record {
-          count = g ∙ ap (λ k. min k (length o - a)) (ap (λ k. k - f) (same-size p ∙ long) ∙ sym left-size);
-          bytes = h ∙ ap (λ x. paste o a x n) text-left;
-          done = omega (arith, e, ap (λ k. startOf k d) size);
-          rest = ap (λ k. k - n) (sym left-size);
-        }
+  pub spelled : (a n : ℕ) (o o′ : List ℕ) → n ≡ min (length (take e m) - f) (length o - a) → o′ ≡ paste o a (drop f (take e m)) n
+      → Spelled t d a o o′ (record { written = n; done = f + n; rest = e - f - n })
+  unfolding leftOf
+  spelled a n o o′ h k =
+      record {
+        count = h ∙ ap (λ x. min (length x - f) (length o - a)) (wrote-front p) ∙ ap (λ x. min x (length o - a)) (ap (λ x. x - f) (sym end-is) ∙ sym left-size);
+        bytes = k ∙ ap (λ x. paste o a (drop f x) n) (wrote-front p) ∙ ap (λ x. paste o a (drop x t) n) from-is;
+        done = ap (λ x. x + n) from-is;
+        rest = ap (λ x. x - n) (sym left-size);
+      }

@@ -9,37 +9,37 @@ use lib.IntN.{ℤ}
 use lib.ListN.{length}
 use borrow.Author.Tests.{eq-eqb, ne-eqb}
 use Rattle.numbers.specs.Signal.{at, pick}
-use Rattle.listing.specs.Scenes.{Scene, scene}
+use Rattle.listing.specs.States.{State, stateOf}
 use Rattle.listing.specs.Moves.{Went, Stops, full, idle, Onward, on, off}
 use Rattle.listing.specs.declared.listing.Listing.{Listing}
-use Rattle.pgm.proofs.TextLaws.{wrote-size}
+use Rattle.text.proofs.TextLaws.{wrote-size}
 use Rattle.listing.proofs.MoveLaws.{went-not, went-on}
 
 -- another turn, or none since it stops
-pub data Pending (s : Scene) (p : List ℕ) (a : ℕ) (o : List ℕ) (b : ℕ) : Bool → Type 0 where
+pub data Pending (s : State) (p : List ℕ) (a : ℕ) (o : List ℕ) (b : ℕ) : Bool → Type 0 where
   more : Pending s p a o b true
   over : (i : Bool) → Stops s p a o b i → Pending s p a o b false
 
 -- so far a feed has gone: m is the store, r the row area, d what stands in the area o to write to, a and b the places in the piece and in that area
-pub record Gone (n k : ℕ) (s : Scene) (p o : List ℕ) (l : Listing) (m r : List ℤ) (d : List ℕ) (a b : ℕ) (g : Bool) : Type 0 where
+pub record Gone (n k : ℕ) (s : State) (p o : List ℕ) (l : Listing) (m r : List ℤ) (d : List ℕ) (a b : ℕ) (g : Bool) : Type 0 where
   pub store : length m ≡ n
   pub row : length r ≡ k
-  pub went : Went n k s p 0 a o d 0 b (scene l (at m) (at r))
-  pub pending : Pending (scene l (at m) (at r)) p a o b g
+  pub went : Went n k s p 0 a o d 0 b (stateOf l (at m) (at r))
+  pub pending : Pending (stateOf l (at m) (at r)) p a o b g
 
-pub start : (p o : List ℕ) (l : Listing) (m r : List ℤ) → Gone (length m) (length r) (scene l (at m) (at r)) p o l m r o 0 0 true
+pub start : (p o : List ℕ) (l : Listing) (m r : List ℤ) → Gone (length m) (length r) (stateOf l (at m) (at r)) p o l m r o 0 0 true
 start p o l m r = record { store = refl; row = refl; went = went-not p o 0 0 (omega arith) (omega arith); pending = more }
 
 -- an area of the same length
-stops-in : {s : Scene} {p o d : List ℕ} {a b : ℕ} {i : Bool} → length d ≡ length o → Stops s p a d b i → Stops s p a o b i
+stops-in : {s : State} {p o d : List ℕ} {a b : ℕ} {i : Bool} → length d ≡ length o → Stops s p a d b i → Stops s p a o b i
 stops-in e (full h f) = full h (f ∙ e)
 stops-in e (idle h f) = idle h f
 
-then-pending : {s : Scene} {p o d : List ℕ} {a a′ b b′ : ℕ} {g : Bool} → length d ≡ length o → Onward s p a a′ d b b′ g → Pending s p a′ o b′ g
+then-pending : {s : State} {p o d : List ℕ} {a a′ b b′ : ℕ} {g : Bool} → length d ≡ length o → Onward s p a a′ d b b′ g → Pending s p a′ o b′ g
 then-pending e (on h) = more
 then-pending e (off i h) = over i (stops-in e h)
 
-module _ {n k : ℕ} {s : Scene} {p o : List ℕ} {l : Listing} {m r : List ℤ} {d : List ℕ} {a b : ℕ} {g : Bool} (f : Gone n k s p o l m r d a b g) where
+module _ {n k : ℕ} {s : State} {p o : List ℕ} {l : Listing} {m r : List ℤ} {d : List ℕ} {a b : ℕ} {g : Bool} (f : Gone n k s p o l m r d a b g) where
   pub size : length d ≡ length o
   size = wrote-size (f .went .wrote)
 
@@ -50,22 +50,23 @@ module _ {n k : ℕ} {s : Scene} {p o : List ℕ} {l : Listing} {m r : List ℤ}
   area-room = omega (arith, f .went .wrote .room, size)
 
   pub turned : (l′ : Listing) (m′ r′ : List ℤ) {d′ : List ℕ} {a′ b′ : ℕ} {g′ : Bool} → length m′ ≡ length m → length r′ ≡ length r
-      → Went (length m) (length r) (scene l (at m) (at r)) p a a′ d d′ b b′ (scene l′ (at m′) (at r′)) → Onward (scene l′ (at m′) (at r′)) p a a′ d b b′ g′
+      → Went (length m) (length r) (stateOf l (at m) (at r)) p a a′ d d′ b b′ (stateOf l′ (at m′) (at r′))
+      → Onward (stateOf l′ (at m′) (at r′)) p a a′ d b b′ g′
       → Gone n k s p o l′ m′ r′ d′ a′ b′ g′
   turned l′ m′ r′ em er w h =
       record { store = em ∙ f .store; row = er ∙ f .row; went = went-on (f .store) (f .row) (f .went) w; pending = then-pending size h }
 
   -- the end: it says whether it waits for input
-  pub stops : g ≡ false → Stops (scene l (at m) (at r)) p a o b (eqb (l .line .part) 0)
+  pub stops : g ≡ false → Stops (stateOf l (at m) (at r)) p a o b (eqb (l .line .part) 0)
   stops e = go (f .pending) e
     where
-      told : {i : Bool} → Stops (scene l (at m) (at r)) p a o b i → Stops (scene l (at m) (at r)) p a o b (eqb (l .line .part) 0)
-      told (full h x) = rw (ne-eqb (l .line .part) 0 (λ z. omega arith)) (full h x)
-      told (idle h x) = rw (eq-eqb (l .line .part) 0 h) (idle h x)
+      reached : {i : Bool} → Stops (stateOf l (at m) (at r)) p a o b i → Stops (stateOf l (at m) (at r)) p a o b (eqb (l .line .part) 0)
+      reached (full h x) = rw (ne-eqb (l .line .part) 0 (λ z. omega arith)) (full h x)
+      reached (idle h x) = rw (eq-eqb (l .line .part) 0 h) (idle h x)
 
-      go : {j : Bool} → Pending (scene l (at m) (at r)) p a o b j → j ≡ false → Stops (scene l (at m) (at r)) p a o b (eqb (l .line .part) 0)
+      go : {j : Bool} → Pending (stateOf l (at m) (at r)) p a o b j → j ≡ false → Stops (stateOf l (at m) (at r)) p a o b (eqb (l .line .part) 0)
       go more x = let z : _≡_ {A = ℕ} 0 1 = cc in absurd (omega arith)
-      go (over i h) x = told h
+      go (over i h) x = reached h
 
 -- ---- what is left of the piece and of the area, and another turn
 abbrev pub ahead : Bool → ℕ
@@ -74,10 +75,12 @@ ahead g = pick g 1 0
 unfoldable pub left : List ℕ → List ℕ → ℕ → ℕ → Bool → ℕ
 left p d a b g = (length p - a) + (length d - b) + ahead g
 
-less-by : (d′ : List ℕ) {s : Scene} {p d : List ℕ} {a a′ b b′ : ℕ} {g : Bool} → Onward s p a a′ d b b′ g → a ≤ a′ → b ≤ b′ → a′ ≤ length p → b′ ≤ length d → length d′ ≡ length d → left p d′ a′ b′ g < left p d a b true
+less-by : (d′ : List ℕ) {s : State} {p d : List ℕ} {a a′ b b′ : ℕ} {g : Bool} → Onward s p a a′ d b b′ g → a ≤ a′ → b ≤ b′ → a′ ≤ length p → b′ ≤ length d
+    → length d′ ≡ length d → left p d′ a′ b′ g < left p d a b true
 unfolding left
 less-by d′ (on h) u v x y z = omega arith
 less-by d′ (off i h) u v x y z = omega arith
 
-pub turn-less : {n k : ℕ} {s s′ : Scene} {p d d′ : List ℕ} {a a′ b b′ : ℕ} {g : Bool} → Went n k s p a a′ d d′ b b′ s′ → Onward s′ p a a′ d b b′ g → left p d′ a′ b′ g < left p d a b true
+pub turn-less : {n k : ℕ} {s s′ : State} {p d d′ : List ℕ} {a a′ b b′ : ℕ} {g : Bool} → Went n k s p a a′ d d′ b b′ s′ → Onward s′ p a a′ d b b′ g
+    → left p d′ a′ b′ g < left p d a b true
 turn-less {d′ = d′} w h = less-by d′ h (omega (arith, w .used)) (omega (arith, w .wrote .place)) (w .part) (w .wrote .room) (wrote-size (w .wrote))

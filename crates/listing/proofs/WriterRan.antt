@@ -1,4 +1,5 @@
--- A writer as calls on a fresh one have left it: the heights taken, whether it was finished, and the rows drawn (`Ran`), and what the next call does to these. Assumes nothing.
+-- A writer as calls on a fresh one have left it: the heights taken, whether it was finished, and the rows drawn (`Ran`), and what the next call does
+-- to these. Assumes nothing.
 use mathlib.Core.Path.{_≡_, refl, sym, ap, subst, subst₂, _∙_}
 use mathlib.Core.Bool.{Bool, true, false}
 use mathlib.Core.List.{List, [], _∷_, _++_, append-nil}
@@ -14,17 +15,18 @@ use Rattle.wavelet.specs.View.{bandColumns}
 use Rattle.wavelet.specs.Order.{RowName, made, inTurn}
 use Rattle.wavelet.proofs.SizeLaws.{count-le, size-le}
 use Rattle.calls.specs.Lists.{Reply, gives, refused, seen, Area}
-use Rattle.calls.specs.Lists as lists
 use Rattle.calls.proofs.ListLaws.{either-no, gathered-snoc, ever-snoc, events-snoc, final-snoc}
 use Rattle.level.specs.Level.{Memory}
 use Rattle.writer.specs.Questions.{either, setUpQuestion}
 use Rattle.writer.specs.Answers.{Handed, aRow, nothing}
 use Rattle.writer.specs.Calls.{fresh, setUpStore, drawReply, drawStore, drawArea}
-use Rattle.writer.specs.History.{Call, draw, row, Event, drew, World, given, event, next, events, final, freshWorld, takenBy, taken, finishes, finishedBy, DrawnRow, drawnBy, drawn}
+use Rattle.writer.specs.History.{Call, draw, row, Event, drew, World, given, event, next, events, final, freshWorld, takenBy, taken, finishes, finishedBy}
+use Rattle.writer.specs.History.{DrawnRow, drawnBy, drawn}
 use Rattle.writer.specs.Demand3.{wholeRows, madeOf, waitingOf, answered, drawSays}
 use Rattle.writer.specs.declared.Writer.{Writer}
 use Rattle.writer.specs.declared.BandRow.{BandRow}
 use Rattle.writer.proofs.Demand3.{demand-3}
+use Rattle.calls.specs.Lists as lists
 
 abbrev pub worldOf : ℕ → Writer → Memory → World
 worldOf n w x = record { writer = w; length = n; store = x }
@@ -88,7 +90,8 @@ module _ (W L n : ℕ) where
 
       pub data DrawOut : Reply Handed → Type 0 where
         all-out : waits W L hs f ds ≡ [] → Ran W L n hs f ds w (drawStore w n k x) → DrawOut (gives nothing)
-        one-out : (b : BandRow) (u : Writer) → b .length ≤ k → Ran W L n hs f (ds ++ (record { row = b; values = after } ∷ [])) u (drawStore w n k x) → DrawOut (gives (aRow b u))
+        one-out : (b : BandRow) (u : Writer) → b .length ≤ k → Ran W L n hs f (ds ++ (record { row = b; values = after } ∷ [])) u (drawStore w n k x)
+            → DrawOut (gives (aRow b u))
 
       drew-is : (y : Reply Handed) → drawReply w n k x ≡ y → event (draw (area z)) (worldOf n w x) ≡ drew (area z) (seen given y) (area after)
       unfolding event
@@ -108,7 +111,8 @@ module _ (W L n : ℕ) where
           subst₂ (λ h d. Ran W L n h f d w (drawStore w n k x)) (append-nil hs) (append-nil ds)
           (subst (λ t. Ran W L n (hs ++ []) t (ds ++ []) w (drawStore w n k x)) (either-no f) a)
 
-      row-ran : (b : BandRow) (u : Writer) → drawReply w n k x ≡ gives (aRow b u) → Ran W L n hs f (ds ++ (record { row = b; values = after } ∷ [])) u (drawStore w n k x)
+      row-ran : (b : BandRow) (u : Writer) → drawReply w n k x ≡ gives (aRow b u)
+          → Ran W L n hs f (ds ++ (record { row = b; values = after } ∷ [])) u (drawStore w n k x)
       row-ran b u e =
           let a = ran-next (draw (area z)) _ u (drawStore w n k x) (drew-is (gives (aRow b u)) e) (next-row b u e) in
           subst (λ h. Ran W L n h f (ds ++ (record { row = b; values = after } ∷ [])) u (drawStore w n k x)) (append-nil hs)

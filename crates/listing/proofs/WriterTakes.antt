@@ -1,4 +1,5 @@
--- What an offer and the finish do to a writer in which nothing waits (WriterRan): the offer takes heights as long as the map has room, and the finish of a whole map passes. And the set-up of a map that a listing takes passes. Assumes nothing.
+-- What an offer and the finish do to a writer in which nothing waits (WriterRan): the offer takes heights as long as the map has room, and the finish
+-- of a whole map passes. And the set-up of a map that a listing takes passes. Assumes nothing.
 use mathlib.Core.Path.{_≡_, refl, sym, ap, subst, _∙_}
 use mathlib.Core.Bool.{true, false}
 use mathlib.Core.List.{List, [], _++_, append-nil}
@@ -24,6 +25,7 @@ use Rattle.writer.specs.History.{offer, finish, Event, offered, finished, event
 use Rattle.writer.specs.Demand3.{wholeRows, waitingOf, offerTurned, finishTurned}
 use Rattle.writer.specs.declared.Writer.{Writer}
 use Rattle.writer.proofs.Demand3.{demand-3}
+use Rattle.pgm.specs.Limits.{maxPictureWidth}
 use Rattle.listing.proofs.WriterRan.{worldOf, waits, Ran, waiting-is, ran-next}
 
 -- ---- the set-up
@@ -39,14 +41,20 @@ store-deep : (d L W : ℕ) → storeLength W L ≤ storeLength W (L + d)
 store-deep zero L W = let e : L + 0 ≡ L = omega arith in rw e (omega arith)
 store-deep (suc d) L W = let e : L + suc d ≡ suc (L + d) = omega arith in rw e (omega (arith, store-more W (L + d), store-deep d L W))
 
-pub set-up-passes : (W L n : ℕ) → storeLength 1025 5 ≤ n → 1 ≤ W → W ≤ 1025 → 1 ≤ L → L ≤ 5 → setUpQuestion W L n ≡ 0
-unfolding setUpQuestion within maxWidth maxLevels
+-- the writer takes every width that is read
+narrow : maxPictureWidth ≤ maxWidth
+unfolding maxPictureWidth maxWidth
+narrow = omega arith
+
+pub set-up-passes : (W L n : ℕ) → storeLength maxPictureWidth 5 ≤ n → 1 ≤ W → W ≤ maxPictureWidth → 1 ≤ L → L ≤ 5 → setUpQuestion W L n ≡ 0
+unfolding setUpQuestion within maxLevels
 set-up-passes W L n h a b c d =
     let e : L + (5 - L) ≡ 5 = omega arith in
-    let f : storeLength W L ≤ n = omega (arith, rw e at (store-deep (5 - L) L W), store-wide 5 W 1025 b) in
-    rw (le-leb 1 W a, le-leb W maxWidth (omega arith), le-leb 1 L c, le-leb L 5 d, le-leb (storeLength W L) n f)
+    let f : storeLength W L ≤ n = omega (arith, rw e at (store-deep (5 - L) L W), store-wide 5 W maxPictureWidth b) in
+    rw (le-leb 1 W a, le-leb W maxWidth (omega (arith, narrow)), le-leb 1 L c, le-leb L 5 d, le-leb (storeLength W L) n f)
 
-module _ (W L n : ℕ) (s : setUpQuestion W L n ≡ 0) (hs : List ℕ) (ds : List DrawnRow) (w : Writer) (x : Memory) (r : Ran W L n hs false ds w x) (idle : waits W L hs false ds ≡ []) where
+module _ (W L n : ℕ) (s : setUpQuestion W L n ≡ 0) (hs : List ℕ) (ds : List DrawnRow) (w : Writer) (x : Memory) (r : Ran W L n hs false ds w x)
+    (idle : waits W L hs false ds ≡ []) where
   abbrev es : List Event
   es = events (r .calls) (freshWorld W L n (r .before))
 
@@ -69,7 +77,8 @@ module _ (W L n : ℕ) (s : setUpQuestion W L n ≡ 0) (hs : List ℕ) (ds : Lis
     took-ran : (t : Took) → offerReply w n run x ≡ gives t → Ran W L n (hs ++ take (t .taken) run) false ds (t .writer) (offerStore w n run x)
     took-ran t e =
         subst (λ d. Ran W L n (hs ++ take (t .taken) run) false d (t .writer) (offerStore w n run x)) (append-nil ds)
-        (ran-next W L n hs false ds w x r (offer run) (offered run (gives (t .taken))) (t .writer) (offerStore w n run x) (unfold event in rw e refl) (unfold next in rw e refl))
+        (ran-next W L n hs false ds w x r (offer run) (offered run (gives (t .taken))) (t .writer) (offerStore w n run x) (unfold event in rw e refl)
+        (unfold next in rw e refl))
 
     module _ (H : ℕ) (wide : 0 < W) (high : H ≤ maxHeight) (room : length hs + length run ≤ W * H) where
       low : either (eqb (length run) 0) (ltb (wholeRows W es) maxHeight) ≡ true
@@ -90,7 +99,8 @@ module _ (W L n : ℕ) (s : setUpQuestion W L n ≡ 0) (hs : List ℕ) (ds : Lis
           let d = demand-3 W L n (r .before) s (r .calls) .1 .offers-taken run not-turned in
           go (offerReply w n run x) refl (d .0) (ap (event (offer run)) (sym (r .world)) ∙ d .1) (d .2 .most) (d .2 .some)
         where
-          go : (y : Reply Took) → offerReply w n run x ≡ y → (m : ℕ) → event (offer run) (worldOf n w x) ≡ offered run (gives m) → m ≤ length run → (0 < length run → 0 < m) → OfferOut
+          go : (y : Reply Took) → offerReply w n run x ≡ y → (m : ℕ) → event (offer run) (worldOf n w x) ≡ offered run (gives m) → m ≤ length run
+              → (0 < length run → 0 < m) → OfferOut
           go (gives t) e m p a b =
               let f : t .taken ≡ m = same p in
               record { took = t; reply = e; most = omega arith; some = λ h. subst (λ a. 0 < a) (sym f) (b h); ran = took-ran t e }

@@ -13,17 +13,18 @@ use borrow.Author.Tests.{lt-leb, ne-eqb}
 use Rattle.numbers.specs.Signal.{pick}
 use Rattle.level.specs.Level.{Memory}
 use Rattle.writer.specs.declared.Writer.{Writer}
-use Rattle.pgm.specs.Decimal.{digitsOf, numeral, integer}
+use Rattle.text.specs.Decimal.{digitsOf, numeral, integer}
 use Rattle.listing.specs.Lines.{spaced, sizeLine}
-use Rattle.pgm.specs.Text.{Wrote}
+use Rattle.text.specs.Text.{Wrote}
+use Rattle.text.specs.Refusal.{refusedLine}
 use Rattle.listing.specs.Parts.{first, second, sizeText, refusedText, headText, valueText, partText, donePart, startOf, leftOf, Spelled}
-use Rattle.listing.specs.Scenes.{Scene, scene, Leaves, listed, valuePart, advanceScene}
+use Rattle.listing.specs.States.{State, stateOf, Leaves, listed, valuePart, advanceState}
 use Rattle.listing.specs.Moves.{lineOn, textOn, leftOn, Move, partly, wholly, Goes, then, Writes, WritesOnly}
 use Rattle.listing.specs.declared.input.Input.{Input}
 use Rattle.listing.specs.declared.line.Line.{Line}
 use Rattle.listing.specs.declared.listing.Listing.{Listing}
 use Rattle.listing.specs.declared.spelling.Spelt.{Spelt}
-use Rattle.listing.proofs.SceneLaws.{past-value}
+use Rattle.listing.proofs.StateLaws.{past-value}
 use Rattle.listing.proofs.SpellLaws.{start-in, start-anew}
 use Rattle.listing.proofs.MoveLaws.{one}
 
@@ -53,7 +54,7 @@ unfolding sizeText sizeLine
 size-some l = some-after (numeral (l .length) ++ (32 ∷ numeral (l .row)) ++ (32 ∷ numeral (l .level))) (10 ∷ []) (first-some _ _)
 
 refused-some : (l : Line) → Some (refusedText l)
-unfolding refusedText
+unfolding refusedText refusedLine
 refused-some l = first-some _ _
 
 head-some : (l : Line) → Some (headText l)
@@ -62,11 +63,14 @@ head-some l = some-before (numeral (l .level)) (32 ∷ first (l .band) ∷ secon
 
 value-some : (k : ℕ) (y : ℕ → ℤ) (l : Line) → Some (valueText k y l)
 unfolding valueText
-value-some k y l = either-some (leb (l .length) (l .value)) (first-some 10 []) (either-some (leb k (l .value)) (first-some 10 []) (first-some 32 (integer (y (l .value)))))
+value-some k y l =
+    either-some (leb (l .length) (l .value)) (first-some 10 []) (either-some (leb k (l .value)) (first-some 10 []) (first-some 32 (integer (y (l .value)))))
 
 part-some : (k : ℕ) (y : ℕ → ℤ) (l : Line) → Some (partText k y l)
 unfolding partText
-part-some k y l = either-some (eqb (l .part) 1) (size-some l) (either-some (eqb (l .part) 2) (refused-some l) (either-some (eqb (l .part) 3) (head-some l) (value-some k y l)))
+part-some k y l =
+    either-some (eqb (l .part) 1) (size-some l)
+    (either-some (eqb (l .part) 2) (refused-some l) (either-some (eqb (l .part) 3) (head-some l) (value-some k y l)))
 
 start-below : (t d : ℕ) → 0 < t → startOf t d < t
 start-below t d h = elim (decLt d t) [ yes p ↦ omega (arith, start-in t d p) | no q ↦ omega (arith, start-anew t d (omega arith)) ]
@@ -83,12 +87,14 @@ left-all : (t : List ℕ) (d : ℕ) → d ≡ 0 → leftOf t d ≡ t
 unfolding leftOf
 left-all t d e = rw (e, start-none (length t))
 
--- ---- a scene that a step left
-pub left-is : {s : Scene} {l : Listing} {x z : Memory} → Leaves s l x z → scene l x z ≡ s
-left-is {s} {l} {x} {z} p = ap (λ y. scene y x z) (p .listing) ∙ ap (λ y. scene (s .listing) y z) (p .store) ∙ ap (λ y. scene (s .listing) (s .store) y) (p .row)
+-- ---- a state that a step left
+pub left-is : {s : State} {l : Listing} {x z : Memory} → Leaves s l x z → stateOf l x z ≡ s
+left-is {s} {l} {x} {z} p =
+    ap (λ y. stateOf y x z) (p .listing) ∙ ap (λ y. stateOf (s .listing) y z) (p .store) ∙ ap (λ y. stateOf (s .listing) (s .store) y) (p .row)
 
 -- ---- a part
-module _ (n k : ℕ) (s : Scene) (h : 0 < lineOn s .part) (o o′ : List ℕ) (b : ℕ) (room : b < length o) (r : Spelt) (e : Spelled (textOn k s) (lineOn s .done) b o o′ r) where
+module _ (n k : ℕ) (s : State) (h : 0 < lineOn s .part) (o o′ : List ℕ) (b : ℕ) (room : b < length o) (r : Spelt)
+    (e : Spelled (textOn k s) (lineOn s .done) b o o′ r) where
   most : r .written ≤ length (leftOn k s)
   most = omega (arith, e .count)
 
@@ -103,7 +109,8 @@ module _ (n k : ℕ) (s : Scene) (h : 0 < lineOn s .part) (o o′ : List ℕ) (b
         text = e .bytes ∙ append-assoc (take b o) (take (r .written) (leftOn k s)) (drop (b + r .written) o);
       }
 
-  pub part-on : (l : Listing) → 0 < r .rest → l ≡ listed (s .listing .input) (s .listing .writer) (donePart (lineOn s) (r .done)) → Writes n k s o o′ b (b + r .written) (scene l (s .store) (s .row))
+  pub part-on : (l : Listing) → 0 < r .rest → l ≡ listed (s .listing .input) (s .listing .writer) (donePart (lineOn s) (r .done))
+      → Writes n k s o o′ b (b + r .written) (stateOf l (s .store) (s .row))
   part-on l g f =
       record {
         text = take (r .written) (leftOn k s);
@@ -112,7 +119,7 @@ module _ (n k : ℕ) (s : Scene) (h : 0 < lineOn s .part) (o o′ : List ℕ) (b
         some = some;
       }
 
-  pub part-whole : (l : Listing) {x z : Memory} → r .rest ≡ 0 → Leaves (advanceScene n k s) l x z → Writes n k s o o′ b (b + r .written) (scene l x z)
+  pub part-whole : (l : Listing) {x z : Memory} → r .rest ≡ 0 → Leaves (advanceState n k s) l x z → Writes n k s o o′ b (b + r .written) (stateOf l x z)
   part-whole l g f =
       let all : r .written ≡ length (leftOn k s) = omega (arith, e .rest, most) in
       record {
@@ -124,16 +131,25 @@ module _ (n k : ℕ) (s : Scene) (h : 0 < lineOn s .part) (o o′ : List ℕ) (b
 
 -- ---- values
 module _ (n k : ℕ) (i : Input) (w : Writer) (x z : Memory) where
-  abbrev with : Line → Scene
-  with l = scene (listed i w l) x z
+  abbrev with : Line → State
+  with l = stateOf (listed i w l) x z
 
   value-text : (l : Line) → 3 < l .part → l .value < l .length → l .value < k → partText k z l ≡ 32 ∷ integer (z (l .value))
   unfolding partText valueText
-  value-text l g h f = rw (ne-eqb (l .part) 1 (λ e. omega arith), ne-eqb (l .part) 2 (λ e. omega arith), ne-eqb (l .part) 3 (λ e. omega arith), lt-leb (l .length) (l .value) h, lt-leb k (l .value) f)
+  value-text l g h f =
+      rw (
+        ne-eqb (l .part) 1 (λ e. omega arith),
+        ne-eqb (l .part) 2 (λ e. omega arith),
+        ne-eqb (l .part) 3 (λ e. omega arith),
+        lt-leb (l .length) (l .value) h,
+        lt-leb k (l .value) f,
+      )
 
-  one-value : (l : Line) → 3 < l .part → l .done ≡ 0 → l .value < l .length → l .value < k → Move n k (with l) [] (32 ∷ integer (z (l .value))) (with (valuePart l (l .value + 1)))
+  one-value : (l : Line) → 3 < l .part → l .done ≡ 0 → l .value < l .length → l .value < k
+      → Move n k (with l) [] (32 ∷ integer (z (l .value))) (with (valuePart l (l .value + 1)))
   one-value l g d h f =
-      wholly (omega arith) refl (sym (left-all (partText k z l) (l .done) d ∙ value-text l g h f)) (left-is (past-value n k (with l) _ (omega arith) (λ e. omega arith) h refl))
+      wholly (omega arith) refl (sym (left-all (partText k z l) (l .done) d ∙ value-text l g h f))
+      (left-is (past-value n k (with l) _ (omega arith) (λ e. omega arith) h refl))
 
   values : (l : Line) (m : ℕ) → 3 < l .part → l .done ≡ 0 → l .value + suc m ≤ l .length → l .value + suc m ≤ k
       → Goes n k (with l) [] (spaced (suc m) (λ j. z (l .value + j))) (with (valuePart l (l .value + suc m)))
@@ -149,7 +165,8 @@ spaced-some : (m : ℕ) (y : ℕ → ℤ) → Some (spaced (suc m) y)
 unfolding spaced
 spaced-some m y = some-after (spaced m y) (32 ∷ integer (y m)) (first-some 32 (integer (y m)))
 
-module _ (k : ℕ) (l : Listing) (z : Memory) (m : ℕ) (p : 3 < l .line .part) (d : l .line .done ≡ 0) (h : l .line .value + suc m ≤ l .line .length) (f : l .line .value + suc m ≤ k) where
+module _ (k : ℕ) (l : Listing) (z : Memory) (m : ℕ) (p : 3 < l .line .part) (d : l .line .done ≡ 0) (h : l .line .value + suc m ≤ l .line .length)
+    (f : l .line .value + suc m ≤ k) where
   values-on : (l′ : Listing) {o o′ : List ℕ} {b b′ : ℕ} → Wrote (spaced (suc m) (λ j. z (l .line .value + j))) b b′ o o′
       → l′ ≡ listed (l .input) (l .writer) (valuePart (l .line) (l .line .value + suc m)) → WritesOnly k l z o o′ b b′ l′
   values-on l′ w e n x =
@@ -160,10 +177,14 @@ module _ (k : ℕ) (l : Listing) (z : Memory) (m : ℕ) (p : 3 < l .line .part) 
         some = omega (arith, w .place, spaced-some m (λ j. z (l .line .value + j)) .byte);
       }
 
-pub some-values : (k : ℕ) (l l′ : Listing) (z : Memory) (v : ℕ) {o o′ : List ℕ} {b b′ : ℕ} → 3 < l .line .part → l .line .done ≡ 0 → l .line .value < v → v ≤ l .line .length → v ≤ k
-    → Wrote (spaced (v - l .line .value) (λ j. z (l .line .value + j))) b b′ o o′ → l′ ≡ listed (l .input) (l .writer) (valuePart (l .line) v) → WritesOnly k l z o o′ b b′ l′
+pub some-values : (k : ℕ) (l l′ : Listing) (z : Memory) (v : ℕ) {o o′ : List ℕ} {b b′ : ℕ} → 3 < l .line .part → l .line .done ≡ 0 → l .line .value < v
+    → v ≤ l .line .length → v ≤ k
+    → Wrote (spaced (v - l .line .value) (λ j. z (l .line .value + j))) b b′ o o′ → l′ ≡ listed (l .input) (l .writer) (valuePart (l .line) v)
+    → WritesOnly k l z o o′ b b′ l′
 some-values k l l′ z v {o} {o′} {b} {b′} p d h g f w e =
     go (v - l .line .value - 1) (omega arith) (omega arith)
   where
     go : (m : ℕ) → v - l .line .value ≡ suc m → v ≡ l .line .value + suc m → WritesOnly k l z o o′ b b′ l′
-    go m em ev = values-on k l z m p d (omega arith) (omega arith) l′ (subst (λ y. Wrote (spaced y (λ j. z (l .line .value + j))) b b′ o o′) em w) (e ∙ ap (λ y. listed (l .input) (l .writer) (valuePart (l .line) y)) ev)
+    go m em ev =
+        values-on k l z m p d (omega arith) (omega arith) l′ (subst (λ y. Wrote (spaced y (λ j. z (l .line .value + j))) b b′ o o′) em w)
+        (e ∙ ap (λ y. listed (l .input) (l .writer) (valuePart (l .line) y)) ev)

@@ -1,8 +1,8 @@
 pub mod Lines
 pub mod Listing
-pub mod Hearing
-pub mod Telling
+pub mod InputSteps
+pub mod Events
 pub mod Parts
-pub mod Scenes
+pub mod States
 pub mod Moves
 pub mod Pieces

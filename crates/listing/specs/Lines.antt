@@ -1,4 +1,5 @@
--- The lines of a listing, as bytes. Document 01, "The listing program": "Output: a line with W, H and L; then for each band row drawn its level, band, row and values, one space between fields."
+-- The lines of a listing, as bytes. Document 01, "The listing program": "Output: a line with W, H and L; then for each band row drawn its level,
+-- band, row and values, one space between fields."
 -- 32 is a space, 10 a line feed.
 use mathlib.Core.List.{List, [], _∷_, _++_}
 use Prim.Native.Nat.{ℕ, zero, suc}
@@ -8,7 +9,7 @@ use Rattle.wavelet.specs.Bands.{Grid, Band, LL, HL, LH, HH}
 use Rattle.wavelet.specs.Levels.{levelBand}
 use Rattle.wavelet.specs.View.{bandColumns}
 use Rattle.wavelet.specs.Order.{RowName}
-use Rattle.pgm.specs.Decimal.{numeral, integer}
+use Rattle.text.specs.Decimal.{numeral, integer}
 
 -- 72 is H, 76 is L
 abbrev pub bandLetters : Band → List ℕ
@@ -41,12 +42,3 @@ linesOf W H g (x ∷ l) = lineOf W H g x ++ linesOf W H g l
 
 unfoldable pub sizeLine : ℕ → ℕ → ℕ → List ℕ
 sizeLine W H L = numeral W ++ (32 ∷ numeral H) ++ (32 ∷ numeral L) ++ (10 ∷ [])
-
--- "A refusal prints "refused", one space and the number, on a line"
-unfoldable pub refusedLine : ℕ → List ℕ
-refusedLine q = 114 ∷ 101 ∷ 102 ∷ 117 ∷ 115 ∷ 101 ∷ 100 ∷ 32 ∷ (numeral q ++ (10 ∷ []))
-
--- the line of an answer: none of 0, which is no refusal
-abbrev pub answerLine : ℕ → List ℕ
-answerLine zero = []
-answerLine (suc q) = refusedLine (suc q)

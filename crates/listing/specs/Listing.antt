@@ -1,19 +1,21 @@
 -- What the listing program writes, as a definition on the bytes of its input. Document 01, "The listing program" and question 15; document 02, Q-1.
 use mathlib.Core.Bool.{Bool, true, false}
 use mathlib.Core.Path.{_≡_}
-use mathlib.Core.List.{List, [], _∷_, _++_}
+use mathlib.Core.List.{List, [], _++_}
 use Prim.Native.Nat.{ℕ, _+_, _*_, _/_}
 use lib.IntN.{pos}
-use lib.ListN.{length, take, getD}
-use lib.Dec.{leb, ltb, eqb}
-use Rattle.numbers.specs.Signal.{pick, both}
+use lib.ListN.{length, getD}
+use lib.Dec.{eqb}
+use Rattle.numbers.specs.Signal.{pick}
 use Rattle.wavelet.specs.Bands.{Grid}
 use Rattle.wavelet.specs.Order.{made}
 use Rattle.wavelet.specs.Questions.{within}
 use Rattle.pgm.specs.Characters.{digitValue}
 use Rattle.pgm.specs.Header.{Read, found, short, wrong, andThen, is, one, headerOf}
-use Rattle.pgm.specs.Samples.{sampleSize, samplesOf, exceeds, heightsOf}
-use Rattle.listing.specs.Lines.{linesOf, sizeLine, refusedLine, answerLine}
+use Rattle.pgm.specs.Limits.{sizeFits}
+use Rattle.pgm.specs.Heights.{heightsTaken, tooLarge, bytesOf, refusalIn}
+use Rattle.text.specs.Refusal.{refusedLine, answerLine}
+use Rattle.listing.specs.Lines.{linesOf, sizeLine}
 
 -- ---- the head: "one digit for L, a newline, then a binary PGM"
 -- question 15: "is the header as below, with L 1 to 5, width 1 to 1,025, height 1 to 65,535?"
@@ -25,23 +27,13 @@ pub record Shape : Type 0 where
 unfoldable pub levelDigit : ℕ → Bool
 levelDigit b = within 49 53 b
 
-unfoldable pub maxListedWidth : ℕ
-maxListedWidth = 1025
-
--- the picture's own limit, below the writer's
-unfoldable pub maxListedHeight : ℕ
-maxListedHeight = 65535
-
-unfoldable pub shapeFits : ℕ → ℕ → Bool
-shapeFits W H = both (within 1 maxListedWidth W) (within 1 maxListedHeight H)
-
 -- the map's shape and the largest value of a sample
 pub record Head : Type 0 where
   pub shape : Shape
   pub largest : ℕ
 
 unfoldable pub headEnd : ℕ → ℕ → ℕ → ℕ → List ℕ → Read Head
-headEnd L W H m s = pick (shapeFits W H) (found (record { shape = record { width = W; height = H; levels = L }; largest = m }) s) wrong
+headEnd L W H m s = pick (sizeFits W H) (found (record { shape = record { width = W; height = H; levels = L }; largest = m }) s) wrong
 
 unfoldable pub headOf : List ℕ → Read Head
 headOf s =
@@ -54,22 +46,6 @@ headOf s =
 abbrev pub cells : Shape → ℕ
 cells q = q .width * q .height
 
--- at most n heights are taken, and none from a sample on that exceeds the largest value
-unfoldable pub heightsTaken : ℕ → ℕ → List ℕ → List ℕ
-heightsTaken m n r = take n (heightsOf m r)
-
--- question 16: "asked of each sample as it is read, if the sample exceeds the largest value"
-unfoldable pub tooLarge : ℕ → ℕ → List ℕ → Bool
-tooLarge m n r = exceeds m (take n (samplesOf m r))
-
--- the bytes of n samples
-abbrev pub bytesOf : ℕ → ℕ → ℕ
-bytesOf m n = sampleSize m * n
-
--- the refusal that the bytes so far bring, 0 for none: 16 for a sample, 15 for a byte after the last sample
-unfoldable pub refusalIn : ℕ → ℕ → List ℕ → ℕ
-refusalIn m n r = pick (tooLarge m n r) 16 (pick (ltb (bytesOf m n) (length r)) 15 0)
-
 -- the map that begins with some heights, row by row
 unfoldable pub gridOf : ℕ → List ℕ → Grid
 gridOf W hs i j = pos (getD hs (i * W + j) 0)
@@ -80,7 +56,8 @@ linesDue q hs finished =
     sizeLine (q .width) (q .height) (q .levels)
     ++ linesOf (q .width) (q .height) (gridOf (q .width) hs) (made (q .width) (q .levels) (length hs / q .width) finished)
 
--- "Asked again before the finish: are the height bytes neither too few nor too many?" A refusal comes "on a line after all lines that the heights before it made due".
+-- "Asked again before the finish: are the height bytes neither too few nor too many?" A refusal comes "on a line after all lines that the heights
+-- before it made due".
 unfoldable pub bodyOf : Shape → ℕ → List ℕ → List ℕ
 bodyOf q m r =
     pick (tooLarge m (cells q) r)
@@ -95,7 +72,7 @@ listingOf s = elim (headOf s) [ found h r ↦ bodyOf (h .shape) (h .largest) r |
 
 -- ---- what is due while more input may come: no finish, no refusal for a want of bytes
 unfoldable pub bodyDue : Shape → ℕ → List ℕ → List ℕ
-bodyDue q m r = linesDue q (heightsTaken m (cells q) r) false ++ answerLine (refusalIn m (cells q) r)
+bodyDue q m r = linesDue q (heightsTaken m (cells q) r) false ++ answerLine (refusalIn false m (cells q) r)
 
 unfoldable pub dueOf : List ℕ → List ℕ
 dueOf s = elim (headOf s) [ found h r ↦ bodyDue (h .shape) (h .largest) r | short ↦ [] | wrong ↦ refusedLine 15 ]

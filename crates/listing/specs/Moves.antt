@@ -3,65 +3,68 @@
 use mathlib.Core.Bool.{Bool, true, false}
 use mathlib.Core.Path.{_≡_}
 use mathlib.Core.List.{List, [], _∷_, _++_}
-use Prim.Native.Nat.{ℕ, _+_, _-_, _*_, _≤_, _<_}
+use Prim.Native.Nat.{ℕ, _+_, _*_, _≤_, _<_}
 use lib.ListN.{length, take, drop}
 use Rattle.pgm.specs.Samples.{sampleSize, heightsOf}
 use Rattle.calls.specs.Lists.{gives}
 use Rattle.writer.specs.Answers.{Took}
 use Rattle.level.specs.Level.{Memory}
 use Rattle.writer.specs.Calls.{offerReply, offerStore}
-use Rattle.listing.specs.Hearing.{heightsCame}
-use Rattle.pgm.specs.Text.{Wrote}
+use Rattle.listing.specs.InputSteps.{heightsCame}
+use Rattle.text.specs.Text.{Wrote}
 use Rattle.listing.specs.Parts.{partText, startOf, leftOf, donePart}
-use Rattle.listing.specs.Scenes.{Scene, scene, listed, drawScene, hearScene, advanceScene}
+use Rattle.listing.specs.States.{State, stateOf, listed, drawState, readState, advanceState}
 use Rattle.listing.specs.declared.line.Line.{Line}
 use Rattle.listing.specs.declared.listing.Listing.{Listing}
 
-abbrev pub lineOn : Scene → Line
+abbrev pub lineOn : State → Line
 lineOn s = s .listing .line
 
 -- the largest value of a sample
-abbrev pub largestOn : Scene → ℕ
+abbrev pub largestOn : State → ℕ
 largestOn s = s .listing .input .samples .largest
 
 -- no line is being written
-abbrev pub Idle : Scene → Type 0
+abbrev pub Idle : State → Type 0
 Idle s = lineOn s .part ≡ 0
 
 -- the text of the line's part, and what is left of it
-abbrev pub textOn : ℕ → Scene → List ℕ
+abbrev pub textOn : ℕ → State → List ℕ
 textOn k s = partText k (s .row) (lineOn s)
 
-abbrev pub leftOn : ℕ → Scene → List ℕ
+abbrev pub leftOn : ℕ → State → List ℕ
 leftOn k s = leftOf (textOn k s) (lineOn s .done)
 
 -- m bytes more of the part are written, not all of it
-abbrev pub writtenOn : ℕ → ℕ → Scene → Scene
-writtenOn k m s = scene (listed (s .listing .input) (s .listing .writer) (donePart (lineOn s) (startOf (length (textOn k s)) (lineOn s .done) + m))) (s .store) (s .row)
+abbrev pub writtenOn : ℕ → ℕ → State → State
+writtenOn k m s =
+    stateOf (listed (s .listing .input) (s .listing .writer) (donePart (lineOn s) (startOf (length (textOn k s)) (lineOn s .done) + m))) (s .store) (s .row)
 
--- ---- the moves from scene s to s′: u is read, t is written
-pub data Move (n k : ℕ) (s : Scene) (u t : List ℕ) (s′ : Scene) : Type 0 where
+-- ---- the moves from state s to s′: u is read, t is written
+pub data Move (n k : ℕ) (s : State) (u t : List ℕ) (s′ : State) : Type 0 where
   -- a part of the line is written as far as m bytes go
   partly : (m : ℕ) → 0 < lineOn s .part → m < length (leftOn k s) → u ≡ [] → t ≡ take m (leftOn k s) → s′ ≡ writtenOn k m s → Move n k s u t s′
   -- it is written to its end
-  wholly : 0 < lineOn s .part → u ≡ [] → t ≡ leftOn k s → s′ ≡ advanceScene n k s → Move n k s u t s′
-  -- a byte is heard
-  hears : (b : ℕ) → Idle s → u ≡ b ∷ [] → t ≡ [] → s′ ≡ hearScene n k b s → Move n k s u t s′
+  wholly : 0 < lineOn s .part → u ≡ [] → t ≡ leftOn k s → s′ ≡ advanceState n k s → Move n k s u t s′
+  -- a byte is read
+  readByte : (b : ℕ) → Idle s → u ≡ b ∷ [] → t ≡ [] → s′ ≡ readState n k b s → Move n k s u t s′
   -- heights that came together are offered together, and the writer takes some of them
-  takes : (bytes : List ℕ) (j : Took) → Idle s → s .listing .input .phase ≡ 3 → s .listing .input .samples .half ≡ false → length (heightsOf (largestOn s) bytes) ≤ s .listing .input .left
+  takes : (bytes : List ℕ) (j : Took) → Idle s → s .listing .input .phase ≡ 3 → s .listing .input .samples .half ≡ false
+      → length (heightsOf (largestOn s) bytes) ≤ s .listing .input .left
       → offerReply (s .listing .writer) n (heightsOf (largestOn s) bytes) (s .store) ≡ gives j → 0 < j .taken
       → u ≡ take (sampleSize (largestOn s) * j .taken) bytes → t ≡ []
-      → s′ ≡ drawScene n k (heightsCame (j .taken) (s .listing .input)) (j .writer) (offerStore (s .listing .writer) n (heightsOf (largestOn s) bytes) (s .store)) (s .row)
+      → s′ ≡ drawState n k (heightsCame (j .taken) (s .listing .input)) (j .writer)
+      (offerStore (s .listing .writer) n (heightsOf (largestOn s) bytes) (s .store)) (s .row)
       → Move n k s u t s′
 
 -- any number of moves, one after the other
-pub data Goes (n k : ℕ) : Scene → List ℕ → List ℕ → Scene → Type 0 where
-  stays : (s : Scene) → Goes n k s [] [] s
-  then : {s s₁ s₂ : Scene} {u v t w : List ℕ} → Goes n k s u t s₁ → Move n k s₁ v w s₂ → Goes n k s (u ++ v) (t ++ w) s₂
+pub data Goes (n k : ℕ) : State → List ℕ → List ℕ → State → Type 0 where
+  stays : (s : State) → Goes n k s [] [] s
+  then : {s s₁ s₂ : State} {u v t w : List ℕ} → Goes n k s u t s₁ → Move n k s₁ v w s₂ → Goes n k s (u ++ v) (t ++ w) s₂
 
 -- ---- the calls
 -- bytes of the piece p are read, from place a to a′, at least one
-pub record Reads (n k : ℕ) (s : Scene) (p : List ℕ) (a a′ : ℕ) (s′ : Scene) : Type 0 where
+pub record Reads (n k : ℕ) (s : State) (p : List ℕ) (a a′ : ℕ) (s′ : State) : Type 0 where
   pub bytes : List ℕ
   pub goes : Goes n k s bytes [] s′
   pub read : drop a p ≡ bytes ++ drop a′ p
@@ -70,7 +73,7 @@ pub record Reads (n k : ℕ) (s : Scene) (p : List ℕ) (a a′ : ℕ) (s′ : S
   pub some : a < a′
 
 -- text is written into the area o from place b to b′, at least one byte; o′ stands there then
-pub record Writes (n k : ℕ) (s : Scene) (o o′ : List ℕ) (b b′ : ℕ) (s′ : Scene) : Type 0 where
+pub record Writes (n k : ℕ) (s : State) (o o′ : List ℕ) (b b′ : ℕ) (s′ : State) : Type 0 where
   pub text : List ℕ
   pub goes : Goes n k s [] text s′
   pub wrote : Wrote text b b′ o o′
@@ -78,10 +81,10 @@ pub record Writes (n k : ℕ) (s : Scene) (o o′ : List ℕ) (b b′ : ℕ) (s�
 
 -- the same, the line store being whatever it is
 abbrev pub WritesOnly : ℕ → Listing → Memory → List ℕ → List ℕ → ℕ → ℕ → Listing → Type 0
-WritesOnly k l z o o′ b b′ l′ = (n : ℕ) (x : Memory) → Writes n k (scene l x z) o o′ b b′ (scene l′ x z)
+WritesOnly k l z o o′ b b′ l′ = (n : ℕ) (x : Memory) → Writes n k (stateOf l x z) o o′ b b′ (stateOf l′ x z)
 
--- a call went from scene s to s′: it read of the piece p from place a to a′, and wrote into the area o from place b to b′
-pub record Went (n k : ℕ) (s : Scene) (p : List ℕ) (a a′ : ℕ) (o o′ : List ℕ) (b b′ : ℕ) (s′ : Scene) : Type 0 where
+-- a call went from state s to s′: it read of the piece p from place a to a′, and wrote into the area o from place b to b′
+pub record Went (n k : ℕ) (s : State) (p : List ℕ) (a a′ : ℕ) (o o′ : List ℕ) (b b′ : ℕ) (s′ : State) : Type 0 where
   pub bytes : List ℕ
   pub text : List ℕ
   pub goes : Goes n k s bytes text s′
@@ -91,16 +94,17 @@ pub record Went (n k : ℕ) (s : Scene) (p : List ℕ) (a a′ : ℕ) (o o′ : 
   pub wrote : Wrote text b b′ o o′
 
 -- it stops where a line is being written and the area is full, or else (true) where the piece is used up
-pub data Stops (s : Scene) (p : List ℕ) (a : ℕ) (o : List ℕ) (b : ℕ) : Bool → Type 0 where
+pub data Stops (s : State) (p : List ℕ) (a : ℕ) (o : List ℕ) (b : ℕ) : Bool → Type 0 where
   full : 0 < lineOn s .part → b ≡ length o → Stops s p a o b false
   idle : Idle s → a ≡ length p → Stops s p a o b true
 
 -- one turn of it: something was read or written, or it stops
-pub data Onward (s : Scene) (p : List ℕ) (a a′ : ℕ) (o : List ℕ) (b b′ : ℕ) : Bool → Type 0 where
+pub data Onward (s : State) (p : List ℕ) (a a′ : ℕ) (o : List ℕ) (b b′ : ℕ) : Bool → Type 0 where
   on : a + b < a′ + b′ → Onward s p a a′ o b b′ true
   off : (i : Bool) → Stops s p a′ o b′ i → Onward s p a a′ o b b′ false
 
 -- ---- any calls, one after the other: u is all that was read of the pieces, t all that was written
-pub data Session (n k : ℕ) : Scene → List ℕ → List ℕ → Scene → Type 0 where
-  begun : (s : Scene) → Session n k s [] [] s
-  call : {s s₁ s₂ : Scene} {u t p o o′ : List ℕ} {a b : ℕ} → Session n k s u t s₁ → Went n k s₁ p 0 a o o′ 0 b s₂ → Session n k s (u ++ take a p) (t ++ take b o′) s₂
+pub data Session (n k : ℕ) : State → List ℕ → List ℕ → State → Type 0 where
+  begun : (s : State) → Session n k s [] [] s
+  call : {s s₁ s₂ : State} {u t p o o′ : List ℕ} {a b : ℕ} → Session n k s u t s₁ → Went n k s₁ p 0 a o o′ 0 b s₂
+      → Session n k s (u ++ take a p) (t ++ take b o′) s₂

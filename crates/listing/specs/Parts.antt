@@ -8,7 +8,8 @@ use lib.IntN.{ℤ}
 use lib.ListN.{length, drop}
 use lib.Seq.{paste}
 use Rattle.numbers.specs.Signal.{pick}
-use Rattle.pgm.specs.Decimal.{numeral, integer}
+use Rattle.text.specs.Decimal.{numeral, integer}
+use Rattle.text.specs.Refusal.{refusedLine}
 use Rattle.listing.specs.Lines.{sizeLine}
 use Rattle.listing.specs.declared.line.Line.{Line}
 use Rattle.listing.specs.declared.spelling.Spelt.{Spelt}
@@ -27,9 +28,8 @@ second c = letter (ltb 1 c)
 unfoldable pub sizeText : Line → List ℕ
 sizeText l = sizeLine (l .length) (l .row) (l .level)
 
--- "refused" and a space, the number, a line feed
 unfoldable pub refusedText : Line → List ℕ
-refusedText l = 114 ∷ 101 ∷ 102 ∷ 117 ∷ 115 ∷ 101 ∷ 100 ∷ 32 ∷ (numeral (l .row) ++ (10 ∷ []))
+refusedText l = refusedLine (l .row)
 
 unfoldable pub headText : Line → List ℕ
 headText l = numeral (l .level) ++ (32 ∷ first (l .band) ∷ second (l .band) ∷ 32 ∷ numeral (l .row))

@@ -1,16 +1,16 @@
-// The input of a listing, heard a byte at a time: a digit for the levels, a line feed, a header, and heights.
+// The input of a listing, read a byte at a time: a digit for the levels, a line feed, a header, and heights.
 use pgm::header::Header;
 use pgm::header::Next;
+use pgm::limits;
 use pgm::samples::Sample;
 use pgm::samples::Samples;
-use wavelet::limits;
 ghost use mathlib.Core.Path.{_≡_};
-ghost use Prim.Native.Nat.{_≤_, _-_, _*_};
-ghost use Rattle.listing.specs.Listing.{maxListedHeight};
-ghost use Rattle.listing.specs.Hearing.{silent, phased, levelsHeard, lineFeedHeard, shapeHeard, headerHeard, heightHeard, hears, endHeard, heightsCame};
+ghost use Prim.Native.Nat.{_-_};
+ghost use Rattle.listing.specs.InputSteps.{atStart, phased, levelsRead, lineFeedRead, shapeRead, headerRead, heightRead, readByte, inputEnded};
+ghost use Rattle.listing.specs.InputSteps.{heightsCame};
 
 pub struct Input {
-    // 0 waits for the digit, 1 for the line feed, 2 reads the header, 3 the heights, 4 hears no more
+    // 0 waits for the digit, 1 for the line feed, 2 reads the header, 3 the heights, 4 reads no more
     pub phase: usize,
     pub levels: usize,
     pub header: Header,
@@ -19,8 +19,8 @@ pub struct Input {
     pub samples: Samples,
 }
 
-// What a byte tells.
-pub enum Heard {
+// What a byte brings.
+pub enum Step {
     More(Input),
     // The header ended: width and height.
     Begun(Input, usize, usize),
@@ -29,7 +29,7 @@ pub enum Heard {
     Refused(Input, u8),
 }
 
-// What the end of the input tells.
+// What the end of the input brings.
 pub enum Ended {
     // All heights came, and no more.
     Whole(Input),
@@ -41,7 +41,7 @@ pub enum Ended {
 
 impl Input {
     pub fn start() -> Self
-        ensures { λ r. ⌜ r ≡ silent ⌝ }
+        ensures { λ r. ⌜ r ≡ atStart ⌝ }
     {
         Input {
             phase: 0,
@@ -82,18 +82,18 @@ impl Input {
         }
     }
 
-    fn hear_levels(self, byte: u8) -> Heard
-        ensures { λ r. ⌜ r ≡ levelsHeard self byte ⌝ }
+    fn read_levels(self, byte: u8) -> Step
+        ensures { λ r. ⌜ r ≡ levelsRead self byte ⌝ }
     {
         if byte < b'1' {
-            return Heard::Refused(self.at_phase(4), 15);
+            return Step::Refused(self.at_phase(4), 15);
         }
         if b'5' < byte {
-            return Heard::Refused(self.at_phase(4), 15);
+            return Step::Refused(self.at_phase(4), 15);
         }
         let header = self.header;
         let samples = self.samples;
-        Heard::More(Input {
+        Step::More(Input {
             phase: 1,
             levels: (byte - b'0') as usize,
             header,
@@ -102,32 +102,30 @@ impl Input {
         })
     }
 
-    fn hear_line_feed(self, byte: u8) -> Heard
-        ensures { λ r. ⌜ r ≡ lineFeedHeard self byte ⌝ }
+    fn read_line_feed(self, byte: u8) -> Step
+        ensures { λ r. ⌜ r ≡ lineFeedRead self byte ⌝ }
     {
         if byte == b'\n' {
-            Heard::More(self.at_phase(2))
+            Step::More(self.at_phase(2))
         } else {
-            Heard::Refused(self.at_phase(4), 15)
+            Step::Refused(self.at_phase(4), 15)
         }
     }
 
-    fn begin(self, width: usize, height: usize, largest: usize) -> Heard
-        ensures { λ r. ⌜ r ≡ shapeHeard self width height largest ⌝ }
+    fn begin(self, width: usize, height: usize, largest: usize) -> Step
+        ensures { λ r. ⌜ r ≡ shapeRead self width height largest ⌝ }
     {
-        if !limits::is_within(width, 1025) {
-            return Heard::Refused(self.at_phase(4), 15);
-        }
-        if !limits::is_within(height, 65535) {
-            return Heard::Refused(self.at_phase(4), 15);
+        let left = limits::cells(width, height);
+        if left == 0 {
+            return Step::Refused(self.at_phase(4), 15);
         }
         let header = self.header;
-        Heard::Begun(
+        Step::Begun(
             Input {
                 phase: 3,
                 levels: self.levels,
                 header,
-                left: area(width, height),
+                left,
                 samples: Samples::start(largest),
             },
             width,
@@ -135,14 +133,14 @@ impl Input {
         )
     }
 
-    fn hear_header(self, byte: u8) -> Heard
-        ensures { λ r. ⌜ r ≡ headerHeard self byte ⌝ }
+    fn read_header(self, byte: u8) -> Step
+        ensures { λ r. ⌜ r ≡ headerRead self byte ⌝ }
     {
         let header = self.header;
         match header.step(byte) {
             Next::More(next) => {
                 let samples = self.samples;
-                Heard::More(Input {
+                Step::More(Input {
                     phase: 2,
                     levels: self.levels,
                     header: next,
@@ -151,27 +149,27 @@ impl Input {
                 })
             }
             Next::Done(width, height, largest) => self.begin(width, height, largest),
-            Next::Refused => Heard::Refused(self.at_phase(4), 15),
+            Next::Refused => Step::Refused(self.at_phase(4), 15),
         }
     }
 
-    fn hear_height(self, byte: u8) -> Heard
-        ensures { λ r. ⌜ r ≡ heightHeard self byte ⌝ }
+    fn read_height(self, byte: u8) -> Step
+        ensures { λ r. ⌜ r ≡ heightRead self byte ⌝ }
     {
         if self.left == 0 {
-            return Heard::Refused(self.at_phase(4), 15);
+            return Step::Refused(self.at_phase(4), 15);
         }
         let header = self.header;
         let samples = self.samples;
         match samples.step(byte) {
-            Sample::Half(half) => Heard::More(Input {
+            Sample::Half(half) => Step::More(Input {
                 phase: 3,
                 levels: self.levels,
                 header,
                 left: self.left,
                 samples: half,
             }),
-            Sample::Height(height) => Heard::Height(
+            Sample::Height(height) => Step::Height(
                 Input {
                     phase: 3,
                     levels: self.levels,
@@ -181,33 +179,33 @@ impl Input {
                 },
                 height,
             ),
-            Sample::TooLarge => Heard::Refused(self.at_phase(4), 16),
+            Sample::TooLarge => Step::Refused(self.at_phase(4), 16),
         }
     }
 
     // One byte more.
-    pub fn hear(self, byte: u8) -> Heard
-        ensures { λ r. ⌜ r ≡ hears self byte ⌝ }
+    pub fn read(self, byte: u8) -> Step
+        ensures { λ r. ⌜ r ≡ readByte self byte ⌝ }
     {
         let phase = self.phase;
         if phase == 0 {
-            return self.hear_levels(byte);
+            return self.read_levels(byte);
         }
         if phase == 1 {
-            return self.hear_line_feed(byte);
+            return self.read_line_feed(byte);
         }
         if phase == 2 {
-            return self.hear_header(byte);
+            return self.read_header(byte);
         }
         if phase == 3 {
-            return self.hear_height(byte);
+            return self.read_height(byte);
         }
-        Heard::More(self)
+        Step::More(self)
     }
 
     // No byte more.
     pub fn end(self) -> Ended
-        ensures { λ r. ⌜ r ≡ endHeard self ⌝ }
+        ensures { λ r. ⌜ r ≡ inputEnded self ⌝ }
     {
         let phase = self.phase;
         if 3 < phase {
@@ -221,13 +219,6 @@ impl Input {
         }
         Ended::Whole(self.at_phase(4))
     }
-}
-
-fn area(width: usize, height: usize) -> usize
-    requires { ⌜ (width ≤ 1025) × (height ≤ maxListedHeight) ⌝ }
-    ensures { λ r. ⌜ r ≡ width * height ⌝ }
-{
-    width * height
 }
 
 // What is left of a after b, if anything.

@@ -3,7 +3,8 @@ ghost use mathlib.Core.Path.{_≡_};
 ghost use Rattle.listing.specs.Parts.{noLine, sizePart, refusedPart, headPart, donePart};
 
 pub struct Line {
-    // 0 nothing, 1 the line of W, H and L (length, row, level), 2 a refusal (its number in row), 3 level, band and row of a band row, 4 a value or the line's end
+    // 0 nothing, 1 the line of W, H and L (length, row, level), 2 a refusal (its number in row), 3 level, band and row of a band row, 4 a value or
+    // the line's end
     pub part: usize,
     pub level: usize,
     pub band: usize,

@@ -3,16 +3,17 @@ use crate::input::Ended;
 use crate::input::Input;
 use crate::line::Line;
 use crate::reading;
-use crate::scenes;
+use crate::states;
 use crate::writing;
+use pgm::limits;
 use writer::Writer;
 ghost use mathlib.Core.Path.{_≡_};
 ghost use Prim.Native.Nat.{_≤_};
 ghost use lib.ListN.{length};
 ghost use Rattle.numbers.specs.Signal.{at};
 ghost use Rattle.wavelet.specs.Store.{storeLength};
-ghost use Rattle.listing.specs.Listing.{maxListedWidth};
-ghost use Rattle.listing.specs.Scenes.{scene, Leaves, started, endScene};
+ghost use Rattle.pgm.specs.Limits.{maxPictureWidth};
+ghost use Rattle.listing.specs.States.{stateOf, Leaves, started, endState};
 ghost use Rattle.listing.specs.Moves.{Went, Stops, Onward};
 
 pub struct Listing {
@@ -30,20 +31,21 @@ pub struct Fed {
 }
 
 impl Listing {
-    // How many numbers the lent areas have to hold so that no map listed is refused: the line store of the largest width and five levels, and the longest band row.
+    // How many numbers the lent areas have to hold so that no map listed is refused: the line store of the largest width and five levels, and the
+    // longest band row.
     pub const STORE: usize = 7956;
 
-    pub const ROW: usize = 1025;
+    pub const ROW: usize = limits::MAX_WIDTH;
 
     // The constants, each pinned to the definition's number.
     pub fn store_length() -> usize
-        ensures { λ r. ⌜ r ≡ storeLength maxListedWidth 5 ⌝ }
+        ensures { λ r. ⌜ r ≡ storeLength maxPictureWidth 5 ⌝ }
     {
         Listing::STORE
     }
 
     pub fn row_length() -> usize
-        ensures { λ r. ⌜ r ≡ maxListedWidth ⌝ }
+        ensures { λ r. ⌜ r ≡ maxPictureWidth ⌝ }
     {
         Listing::ROW
     }
@@ -70,8 +72,11 @@ impl Listing {
 
     // Reads a piece of the input and writes lines, until the area is full, or the piece is used up and no line is left. The rest of a piece is lent again.
     pub fn feed(self, piece: &[u8], store: &mut [i32], row: &mut [i32], out: &mut [u8]) -> Fed
-        ensures { λ r. ⌜ Went (length (now (store .entry))) (length (now (row .entry))) (scene self (at (now (store .entry))) (at (now (row .entry)))) (now (piece .entry)) 0 (r .used) (now (out .entry)) (now (out .exit)) 0 (r .written) (scene (r .listing) (at (now (store .exit))) (at (now (row .exit)))) ⌝ }
-        ensures { λ r. ⌜ Stops (scene (r .listing) (at (now (store .exit))) (at (now (row .exit)))) (now (piece .entry)) (r .used) (now (out .entry)) (r .written) (r .idle) ⌝ }
+        ensures { λ r. ⌜ Went (length (now (store .entry))) (length (now (row .entry))) (stateOf self (at (now (store .entry))) (at (now (row .entry))))
+            (now (piece .entry)) 0 (r .used) (now (out .entry)) (now (out .exit)) 0 (r .written)
+            (stateOf (r .listing) (at (now (store .exit))) (at (now (row .exit)))) ⌝ }
+        ensures { λ r. ⌜ Stops (stateOf (r .listing) (at (now (store .exit))) (at (now (row .exit)))) (now (piece .entry)) (r .used) (now (out .entry))
+            (r .written) (r .idle) ⌝ }
     {
         let mut state = self;
         let mut used = 0;
@@ -96,7 +101,8 @@ impl Listing {
 
     // The input has ended. To be called once no line is being written.
     pub fn end(self, store: &mut [i32], row: &mut [i32]) -> Listing
-        ensures { λ r. ⌜ Leaves (endScene (length (now (store .entry))) (length (now (row .entry))) (scene self (at (now (store .entry))) (at (now (row .entry))))) r (at (now (store .exit))) (at (now (row .exit))) ⌝ }
+        ensures { λ r. ⌜ Leaves (endState (length (now (store .entry))) (length (now (row .entry)))
+            (stateOf self (at (now (store .entry))) (at (now (row .entry))))) r (at (now (store .exit))) (at (now (row .exit))) ⌝ }
     {
         let input = self.input;
         let writer = self.writer;
@@ -106,8 +112,8 @@ impl Listing {
             return self;
         }
         match input.end() {
-            Ended::Whole(next) => scenes::finish(next, writer, store, row),
-            Ended::Short(next) => scenes::refuse(next, writer, 15),
+            Ended::Whole(next) => states::finish(next, writer, store, row),
+            Ended::Short(next) => states::refuse(next, writer, 15),
             Ended::Before => self,
         }
     }
@@ -131,8 +137,11 @@ fn turn(
     written: usize,
 ) -> Turned
     requires { ⌜ (used ≤ length (now piece)) × (written ≤ length (now out)) ⌝ }
-    ensures { λ r. ⌜ Went (length (now (store .entry))) (length (now (row .entry))) (scene listing (at (now (store .entry))) (at (now (row .entry)))) (now (piece .entry)) used (r .used) (now (out .entry)) (now (out .exit)) written (r .written) (scene (r .listing) (at (now (store .exit))) (at (now (row .exit)))) ⌝ }
-    ensures { λ r. ⌜ Onward (scene (r .listing) (at (now (store .exit))) (at (now (row .exit)))) (now (piece .entry)) used (r .used) (now (out .entry)) written (r .written) (r .going) ⌝ }
+    ensures { λ r. ⌜ Went (length (now (store .entry))) (length (now (row .entry))) (stateOf listing (at (now (store .entry))) (at (now (row .entry))))
+        (now (piece .entry)) used (r .used) (now (out .entry)) (now (out .exit)) written (r .written)
+        (stateOf (r .listing) (at (now (store .exit))) (at (now (row .exit)))) ⌝ }
+    ensures { λ r. ⌜ Onward (stateOf (r .listing) (at (now (store .exit))) (at (now (row .exit)))) (now (piece .entry)) used (r .used)
+        (now (out .entry)) written (r .written) (r .going) ⌝ }
 {
     let line = listing.line;
     if line.part == 0 {

@@ -1,16 +1,17 @@
-// What comes in while no line is being written: heights that came together are offered together, any other byte is heard by itself. The module is private: only this crate, which meets what is required, can call it.
-use crate::copy;
+// What comes in while no line is being written: heights that came together are offered together, any other byte is read by itself. The module is
+// private: only this crate, which meets what is required, can call it.
 use crate::input::Input;
 use crate::listing::Listing;
-use crate::scenes;
+use crate::states;
 use pgm::samples;
+use text::bytes;
 use writer::Offered;
 ghost use mathlib.Core.Path.{_≡_};
 ghost use mathlib.Core.Bool.{true, false};
 ghost use Prim.Native.Nat.{_+_, _<_, _≤_};
 ghost use lib.ListN.{length};
 ghost use Rattle.numbers.specs.Signal.{at};
-ghost use Rattle.listing.specs.Scenes.{scene};
+ghost use Rattle.listing.specs.States.{stateOf};
 ghost use Rattle.listing.specs.Moves.{Reads};
 
 pub struct Read {
@@ -26,15 +27,17 @@ fn read_byte(
     row: &mut [i32],
 ) -> Read
     requires { ⌜ (listing .line .part ≡ 0) × (used < length (now piece)) ⌝ }
-    ensures { λ r. ⌜ Reads (length (now (store .entry))) (length (now (row .entry))) (scene listing (at (now (store .entry))) (at (now (row .entry)))) (now (piece .entry)) used (r .used) (scene (r .listing) (at (now (store .exit))) (at (now (row .exit)))) ⌝ }
+    ensures { λ r. ⌜ Reads (length (now (store .entry))) (length (now (row .entry))) (stateOf listing (at (now (store .entry))) (at (now (row .entry))))
+        (now (piece .entry)) used (r .used) (stateOf (r .listing) (at (now (store .exit))) (at (now (row .exit)))) ⌝ }
 {
     Read {
-        listing: scenes::hear(listing, piece[used], store, row),
+        listing: states::read(listing, piece[used], store, row),
         used: used + 1,
     }
 }
 
-// As many whole heights as there are, as are still to come and as fit the run; the writer says how many of them it takes. Where the next sample is no height, its byte is heard.
+// As many whole heights as there are, as are still to come and as fit the run; the writer says how many of them it takes. Where the next sample is no
+// height, its byte is read.
 fn read_run(
     listing: Listing,
     piece: &[u8],
@@ -43,21 +46,23 @@ fn read_run(
     row: &mut [i32],
     run: &mut [u16],
 ) -> Read
-    requires { ⌜ (listing .line .part ≡ 0) × (listing .input .phase ≡ 3) × (listing .input .samples .half ≡ false) × (0 < listing .input .left) × (used + 2 ≤ length (now piece)) × (0 < length (now run)) ⌝ }
-    ensures { λ r. ⌜ Reads (length (now (store .entry))) (length (now (row .entry))) (scene listing (at (now (store .entry))) (at (now (row .entry)))) (now (piece .entry)) used (r .used) (scene (r .listing) (at (now (store .exit))) (at (now (row .exit)))) ⌝ }
+    requires { ⌜ (listing .line .part ≡ 0) × (listing .input .phase ≡ 3) × (listing .input .samples .half ≡ false) × (0 < listing .input .left) ×
+        (used + 2 ≤ length (now piece)) × (0 < length (now run)) ⌝ }
+    ensures { λ r. ⌜ Reads (length (now (store .entry))) (length (now (row .entry))) (stateOf listing (at (now (store .entry))) (at (now (row .entry))))
+        (now (piece .entry)) used (r .used) (stateOf (r .listing) (at (now (store .exit))) (at (now (row .exit)))) ⌝ }
 {
     let input = listing.input;
     let writer = listing.writer;
     let state = input.samples;
     let largest = state.largest;
-    let most = copy::least(input.left, run.len());
+    let most = bytes::least(input.left, run.len());
     let n = samples::read(piece, used, largest, &mut run[..most]);
     if n == 0 {
         return read_byte(listing, piece, used, store, row);
     }
     match writer.offer(store, &run[..n]) {
         Offered::Taken(taken, next) => Read {
-            listing: scenes::draw(input.took(taken), next, store, row),
+            listing: states::draw(input.took(taken), next, store, row),
             used: used + samples::size(largest) * taken,
         },
         Offered::Refused(_) => read_byte(listing, piece, used, store, row),
@@ -72,14 +77,16 @@ fn read_heights(
     store: &mut [i32],
     row: &mut [i32],
 ) -> Read
-    requires { ⌜ (listing .line .part ≡ 0) × (listing .input .phase ≡ 3) × (listing .input .samples .half ≡ false) × (0 < listing .input .left) × (used + 2 ≤ length (now piece)) ⌝ }
-    ensures { λ r. ⌜ Reads (length (now (store .entry))) (length (now (row .entry))) (scene listing (at (now (store .entry))) (at (now (row .entry)))) (now (piece .entry)) used (r .used) (scene (r .listing) (at (now (store .exit))) (at (now (row .exit)))) ⌝ }
+    requires { ⌜ (listing .line .part ≡ 0) × (listing .input .phase ≡ 3) × (listing .input .samples .half ≡ false) × (0 < listing .input .left) ×
+        (used + 2 ≤ length (now piece)) ⌝ }
+    ensures { λ r. ⌜ Reads (length (now (store .entry))) (length (now (row .entry))) (stateOf listing (at (now (store .entry))) (at (now (row .entry))))
+        (now (piece .entry)) used (r .used) (stateOf (r .listing) (at (now (store .exit))) (at (now (row .exit)))) ⌝ }
 {
     let mut run = [0u16; 256];
     read_run(listing, piece, used, store, row, &mut run)
 }
 
-// Whether a whole height is next. Where it says no, the next byte is heard, which is right for any input.
+// Whether a whole height is next. Where it says no, the next byte is read, which is right for any input.
 fn are_next(input: Input, bytes: usize) -> bool
     ensures { λ r. ⌜ (r ≡ true → (input .phase ≡ 3) × (input .samples .half ≡ false) × (0 < input .left) × (2 ≤ bytes)) ⌝ }
 {
@@ -104,7 +111,8 @@ pub fn read_on(
     row: &mut [i32],
 ) -> Read
     requires { ⌜ (listing .line .part ≡ 0) × (used < length (now piece)) ⌝ }
-    ensures { λ r. ⌜ Reads (length (now (store .entry))) (length (now (row .entry))) (scene listing (at (now (store .entry))) (at (now (row .entry)))) (now (piece .entry)) used (r .used) (scene (r .listing) (at (now (store .exit))) (at (now (row .exit)))) ⌝ }
+    ensures { λ r. ⌜ Reads (length (now (store .entry))) (length (now (row .entry))) (stateOf listing (at (now (store .entry))) (at (now (row .entry))))
+        (now (piece .entry)) used (r .used) (stateOf (r .listing) (at (now (store .exit))) (at (now (row .exit)))) ⌝ }
 {
     if are_next(listing.input, piece.len() - used) {
         return read_heights(listing, piece, used, store, row);

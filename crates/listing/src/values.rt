@@ -1,12 +1,13 @@
-// The values of a band row, each after a space, written forward while there is room for the longest. The module is private: only this crate, which meets what is required, can call it.
-use crate::text;
-ghost use mathlib.Core.Path.{_≡_};
+// The values of a band row, each after a space, written forward while there is room for the longest. The module is private: only this crate, which
+// meets what is required, can call it.
+use text::bytes;
+use text::decimal;
 ghost use mathlib.Core.List.{_∷_};
-ghost use Prim.Native.Nat.{_+_, _-_, _<_, _≤_, _^_};
+ghost use Prim.Native.Nat.{_+_, _-_, _<_, _≤_};
 ghost use lib.ListN.{length};
 ghost use Rattle.numbers.specs.Signal.{at as numberAt};
-ghost use Rattle.pgm.specs.Decimal.{numeral, integer};
-ghost use Rattle.pgm.specs.Text.{Wrote};
+ghost use Rattle.text.specs.Decimal.{integer};
+ghost use Rattle.text.specs.Text.{Wrote};
 ghost use Rattle.listing.specs.Lines.{spaced};
 
 // A space, a sign and ten digits.
@@ -18,35 +19,13 @@ pub struct Values {
     pub place: usize,
 }
 
-// How many digits a number has.
-fn digits(n: usize) -> usize
-    requires { ⌜ n < 2 ^ 32 ⌝ }
-    ensures { λ r. ⌜ r ≡ length (numeral n) ⌝ }
-{
-    let mut count = 1;
-    let mut limit = 10;
-    while limit <= n {
-        limit = 10 * limit;
-        count += 1;
-    }
-    count
-}
-
 // One value from place `at` on; answers the place after it.
 fn write_value(v: i32, out: &mut [u8], at: usize) -> usize
     requires { ⌜ at + 12 ≤ length (now out) ⌝ }
     ensures { λ r. ⌜ Wrote (32 ∷ integer v) at r (now (out .entry)) (now (out .exit)) ⌝ }
 {
-    let m = text::magnitude(v);
-    let n = digits(m);
-    out[at] = b' ';
-    if v < 0 {
-        out[at + 1] = b'-';
-        text::put_digits(m, out, at + 2 + n);
-        return at + 2 + n;
-    }
-    text::put_digits(m, out, at + 1 + n);
-    at + 1 + n
+    let place = bytes::put_byte(b' ', out, at);
+    decimal::put_integer(v, out, place)
 }
 
 // The values of a row from `from` on, up to `end`.

@@ -11,18 +11,19 @@ use Rattle.descriptors.specs.Left.{leftIn, Within, usedOf, Fills}
 use Rattle.descriptors.specs.declared.input.Left.{Left}
 use Rattle.descriptors.specs.declared.input.Filled.{Filled}
 use Rattle.descriptors.specs.declared.output.Sent.{Sent}
-use Rattle.listing.specs.Scenes.{Scene, scene, started, endScene}
+use Rattle.listing.specs.Scenes.{Scene, scene, endScene}
+use Rattle.level.specs.Level.{Memory}
+use Rattle.listing.specs.States.{started, State, stateOf, endState}
 use Rattle.listing.specs.Moves.{Idle, Went, Stops}
 use Rattle.listing.specs.declared.listing.Listing.{Listing}
 use Rattle.listing.specs.declared.listing.Fed.{Fed}
-use Rattle.level.specs.Level.{Memory}
 use Rattle.listing_io.specs.declared.run.Run.{Run}
 
--- no line is being written, and the listing hears: it waits for input
+-- no line is being written, and the listing reads: it waits for input
 unfoldable pub waiting : Listing → Bool
 waiting l = both (eqb (l .line .part) 0) (ltb (l .input .phase) 4)
 
--- no line is being written, and it hears no more
+-- no line is being written, and it reads no more
 unfoldable pub over : Listing → Bool
 over l = both (eqb (l .line .part) 0) (ltb 3 (l .input .phase))
 
@@ -34,7 +35,7 @@ failed r = pick (r .filled .failed) true (not (r .sent .whole))
 unfoldable pub ended : Run → Bool
 ended r = both (r .filled .ended) (r .idle)
 
--- its end is to be told
+-- its end is to be passed on
 unfoldable pub ends : Run → Bool
 ends r = both (ended r) (not (failed r))
 
@@ -58,8 +59,8 @@ runOf f g q =
       idle = f .idle;
     }
 
--- a round from scene s to s′, where l was left of the chunk c. c′ stands there then, and o′ in the area o
-pub record Round (n k : ℕ) (s : Scene) (l : Left) (c c′ o o′ : List ℕ) (s′ : Scene) (r : Run) : Type 0 where
+-- a round from state s to s′, where l was left of the chunk c. c′ stands there then, and o′ in the area o
+pub record Round (n k : ℕ) (s : State) (l : Left) (c c′ o o′ : List ℕ) (s′ : State) (r : Run) : Type 0 where
   pub within : Within c l
   -- read: only if nothing is left, and the listing waits
   pub fills : Fills (waiting (s .listing)) l c c′ (r .filled)
@@ -71,15 +72,15 @@ pub record Round (n k : ℕ) (s : Scene) (l : Left) (c c′ o o′ : List ℕ) (
   -- write: as many bytes were taken as the turn wrote, or it failed
   pub sent : r .sent .whole ≡ eqb (r .sent .count) (r .written)
 
--- m rounds from scene s to s′, none after one that failed: u is all that was read, t all that was written. c stands in the chunk then, and r is what the
+-- m rounds from state s to s′, none after one that failed: u is all that was read, t all that was written. c stands in the chunk then, and r is what the
 -- last one left
-pub data Rounds (n k : ℕ) (s : Scene) : ℕ → List ℕ → List ℕ → Scene → List ℕ → Run → Type 0 where
+pub data Rounds (n k : ℕ) (s : State) : ℕ → List ℕ → List ℕ → State → List ℕ → Run → Type 0 where
   begun : {c : List ℕ} {r : Run} → r .left ≡ record { from = 0; to = 0 } → Rounds n k s 0 [] [] s c r
-  then : {m : ℕ} {s₁ s₂ : Scene} {u t c c′ o o′ : List ℕ} {r r′ : Run} → Rounds n k s m u t s₁ c r → going r ≡ true → Round n k s₁ (r .left) c c′ o o′ s₂ r′
+  then : {m : ℕ} {s₁ s₂ : State} {u t c c′ o o′ : List ℕ} {r r′ : Run} → Rounds n k s m u t s₁ c r → going r ≡ true → Round n k s₁ (r .left) c c′ o o′ s₂ r′
       → Rounds n k s (suc m) (u ++ take (r′ .filled .read) c′) (t ++ take (r′ .written) o′) s₂ c′ r′
 
 -- as many rounds as there are: after the last there is no other, or they are as many as 64 bits count
-pub record Ran (n k : ℕ) (s s′ : Scene) (c : List ℕ) (r : Run) : Type 0 where
+pub record Ran (n k : ℕ) (s s′ : State) (c : List ℕ) (r : Run) : Type 0 where
   pub count : ℕ
   pub read : List ℕ
   pub written : List ℕ
@@ -88,7 +89,7 @@ pub record Ran (n k : ℕ) (s s′ : Scene) (c : List ℕ) (r : Run) : Type 0 wh
   pub idle : r .idle ≡ true → Idle s′ × (leftIn c (r .left) ≡ [])
 
 -- all of an input, with x and z in line store and row area at first: rounds until it ends, and on with what its end makes due
-pub data Listed (n k : ℕ) (x z : Memory) (s′ : Scene) (c : List ℕ) (r : Run) : Type 0 where
-  before : Ran n k (scene started x z) s′ c r → ends r ≡ false → Listed n k x z s′ c r
-  after : {s₁ : Scene} {c₁ : List ℕ} {r₁ : Run} → Ran n k (scene started x z) s₁ c₁ r₁ → ends r₁ ≡ true → Ran n k (endScene n k s₁) s′ c r
+pub data Listed (n k : ℕ) (x z : Memory) (s′ : State) (c : List ℕ) (r : Run) : Type 0 where
+  before : Ran n k (stateOf started x z) s′ c r → ends r ≡ false → Listed n k x z s′ c r
+  after : {s₁ : State} {c₁ : List ℕ} {r₁ : Run} → Ran n k (stateOf started x z) s₁ c₁ r₁ → ends r₁ ≡ true → Ran n k (endState n k s₁) s′ c r
       → Listed n k x z s′ c r

@@ -17,7 +17,7 @@ ghost use lib.Dec.{eqb};
 ghost use lib.ListN.{length};
 ghost use Rattle.numbers.specs.Signal.{at};
 ghost use Rattle.descriptors.specs.Left.{leftIn, Within};
-ghost use Rattle.listing.specs.Scenes.{scene, Leaves, endScene};
+ghost use Rattle.listing.specs.States.{stateOf, Leaves, endState};
 ghost use Rattle.listing.specs.Moves.{Went, Stops};
 ghost use Rattle.listing_io.specs.Rounds.{Round, Ran, Listed};
 
@@ -32,12 +32,12 @@ fn turn(
 ) -> Fed
     requires { ⌜ Within (now chunk) left ⌝ }
     ensures { λ r. ⌜
-        Went (length (now (store .entry))) (length (now (row .entry))) (scene listing (at (now (store .entry))) (at (now (row .entry))))
+        Went (length (now (store .entry))) (length (now (row .entry))) (stateOf listing (at (now (store .entry))) (at (now (row .entry))))
         (leftIn (now (chunk .entry)) left) 0 (r .used) (now (out .entry)) (now (out .exit)) 0 (r .written)
-        (scene (r .listing) (at (now (store .exit))) (at (now (row .exit))))
+        (stateOf (r .listing) (at (now (store .exit))) (at (now (row .exit))))
         ⌝ }
     ensures { λ r. ⌜
-        Stops (scene (r .listing) (at (now (store .exit))) (at (now (row .exit))))
+        Stops (stateOf (r .listing) (at (now (store .exit))) (at (now (row .exit))))
         (leftIn (now (chunk .entry)) left) (r .used) (now (out .entry)) (r .written) (r .idle)
         ⌝ }
 {
@@ -66,9 +66,9 @@ fn round(
 ) -> Run
     requires { ⌜ Within (now chunk) (run .left) ⌝ }
     ensures { λ r. ⌜
-        Round (length (now (store .entry))) (length (now (row .entry))) (scene (run .listing) (at (now (store .entry))) (at (now (row .entry))))
+        Round (length (now (store .entry))) (length (now (row .entry))) (stateOf (run .listing) (at (now (store .entry))) (at (now (row .entry))))
         (run .left) (now (chunk .entry)) (now (chunk .exit)) (now (out .entry)) (now (out .exit))
-        (scene (r .listing) (at (now (store .exit))) (at (now (row .exit)))) r
+        (stateOf (r .listing) (at (now (store .exit))) (at (now (row .exit)))) r
         ⌝ }
 {
     let listing = run.listing;
@@ -89,8 +89,8 @@ fn rounds(
     out: &mut [u8],
 ) -> Run
     ensures { λ r. ⌜
-        Ran (length (now (store .entry))) (length (now (row .entry))) (scene listing (at (now (store .entry))) (at (now (row .entry))))
-        (scene (r .listing) (at (now (store .exit))) (at (now (row .exit)))) (now (chunk .exit)) r
+        Ran (length (now (store .entry))) (length (now (row .entry))) (stateOf listing (at (now (store .entry))) (at (now (row .entry))))
+        (stateOf (r .listing) (at (now (store .exit))) (at (now (row .exit)))) (now (chunk .exit)) r
         ⌝ }
 {
     let mut now = run::start(listing);
@@ -102,12 +102,12 @@ fn rounds(
     now
 }
 
-// The end of the input is told while no line is being written.
+// The end of the input is passed on while no line is being written.
 fn end(listing: Listing, store: &mut [i32], row: &mut [i32]) -> Listing
     requires { ⌜ listing .line .part ≡ 0 ⌝ }
     ensures { λ r. ⌜
         Leaves
-        (endScene (length (now (store .entry))) (length (now (row .entry))) (scene listing (at (now (store .entry))) (at (now (row .entry)))))
+        (endState (length (now (store .entry))) (length (now (row .entry))) (stateOf listing (at (now (store .entry))) (at (now (row .entry)))))
         r (at (now (store .exit))) (at (now (row .exit)))
         ⌝ }
 {
@@ -125,7 +125,7 @@ fn list_all(
 ) -> Run
     ensures { λ r. ⌜
         Listed (length (now (store .entry))) (length (now (row .entry))) (at (now (store .entry))) (at (now (row .entry)))
-        (scene (r .listing) (at (now (store .exit))) (at (now (row .exit)))) (now (chunk .exit)) r
+        (stateOf (r .listing) (at (now (store .exit))) (at (now (row .exit)))) (now (chunk .exit)) r
         ⌝ }
 {
     let listing = Listing::start();

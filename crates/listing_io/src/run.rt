@@ -131,7 +131,7 @@ pub fn goes_on(run: Run) -> bool
     !is_over(listing)
 }
 
-// Whether the end of the input is to be told.
+// Whether the end of the input is to be passed on.
 pub fn ends(run: Run) -> bool
     ensures { λ r. ⌜ r ≡ ends run ⌝ }
 {

@@ -1,51 +1,57 @@
 -- Reading a header a byte at a time gives what the definition reads (`reads`), however the bytes are cut into pieces (`cut-anywhere`).
--- The state keeps a number up to 65,536; the definition keeps it whole. Assumes nothing.
+-- The state keeps a number up to the one after the largest that a header may have; the definition keeps it whole. Assumes nothing.
 use mathlib.Core.Path.{_≡_, refl, sym, ap, _∙_}
 use mathlib.Core.Bool.{Bool, true, false}
 use mathlib.Core.List.{List, [], _∷_, _++_, append-assoc, append-nil}
-use Prim.Native.Nat.{ℕ, zero, suc, _+_, _*_, _≤_, _<_, min}
+use Prim.Native.Nat.{ℕ, suc, _+_, _*_, _≤_, _<_, min}
 use native.Mathlib.Omega.{arith}
 use native.Mathlib.Decide.{decLt}
 use lib.Dec.{leb, eqb}
 use borrow.Author.Tests.{lt-leb, le-leb, leb-true, ne-eqb}
 use Rattle.numbers.specs.Signal.{pick, both}
 use Rattle.pgm.specs.Characters.{space, lineEnd, digit, digitValue}
-use Rattle.pgm.specs.Header.{Read, found, short, wrong, andThen, is, one, comment, gap, afterGaps, numberFrom, number, field, Size, side, sized, headerEnd, headerOf}
-use Rattle.pgm.specs.Steps.{staged, begun, expected, commented, gapEnded, gapRead, commentRead, numberEnded, inNumber, stepOf, Fed, still, ended, bad, stepped, feed, feedOn, joined, feedPieces, readBy}
+use Rattle.pgm.specs.Limits.{maxField, upTo}
+use Rattle.pgm.specs.Header.{Read, found, short, wrong, andThen, is, one, comment, gap, afterGaps, numberFrom, number, field, Size, side, sized}
+use Rattle.pgm.specs.Header.{headerEnd, headerOf}
+use Rattle.pgm.specs.Steps.{staged, begun, expected, gapEnded, gapRead, commentRead, numberEnded, inNumber, stepOf, Fed, still, ended, bad}
+use Rattle.pgm.specs.Steps.{stepped, feed, feedOn, joined, feedPieces, readBy}
 use Rattle.pgm.specs.declared.header.Header.{Header}
 use Rattle.pgm.specs.declared.header.Next.{Next}
 use Rattle.pgm.specs.declared.header.Next.the-variants.{More, Done, Refused}
+use Rattle.pgm.proofs.LimitLaws.{up-to}
 
 -- ---- what the state keeps of a number
 abbrev cap : ℕ → ℕ
-cap v = min v 65536
+cap v = min v (suc maxField)
 
-cap-digit : (v d : ℕ) → min (10 * cap v + d) 65536 ≡ cap (10 * v + d)
+cap-digit : (v d : ℕ) → min (10 * cap v + d) (suc maxField) ≡ cap (10 * v + d)
 cap-digit v d = omega arith
 
-cap-small : (n : ℕ) → n < 65536 → cap n ≡ n
+cap-small : (n : ℕ) → n < suc maxField → cap n ≡ n
 cap-small n h = omega arith
 
-cap-large : (n : ℕ) → 65536 ≤ n → cap n ≡ 65536
+cap-large : (n : ℕ) → suc maxField ≤ n → cap n ≡ suc maxField
 cap-large n h = omega arith
 
 side-cap : (n : ℕ) → side (cap n) ≡ side n
-unfolding side
+unfolding side upTo
 side-cap n =
-    elim (decLt n 65536) [
+    elim (decLt n (suc maxField)) [
       | yes p ↦ rw (cap-small n p)
       | no d ↦
-          let h : 65536 ≤ n = omega arith in
-          rw (cap-large n h, le-leb 1 n (omega arith), lt-leb n 65535 (omega arith))
+          let h : suc maxField ≤ n = omega arith in
+          rw (
+            cap-large n h,
+            le-leb 1 n (omega arith),
+            le-leb 1 (suc maxField) (omega arith),
+            lt-leb n maxField (omega arith),
+            lt-leb (suc maxField) maxField (omega arith),
+          )
     ]
 
 side-kept : (n : ℕ) → side n ≡ true → cap n ≡ n
 unfolding side
-side-kept n e = small (leb 1 n) e
-  where
-    small : (a : Bool) → both a (leb n 65535) ≡ true → cap n ≡ n
-    small true h = let l = leb-true n 65535 h in omega arith
-    small false h = let z : _≡_ {A = ℕ} 0 1 = cc in absurd (omega arith)
+side-kept n e = let h = up-to maxField n e .1 in omega arith
 
 -- ---- a digit is no byte of a gap
 from-digit : (b : ℕ) → digit b ≡ true → 48 ≤ b
@@ -111,22 +117,24 @@ module _ (k w h m : ℕ) (f : ℕ → List ℕ → Read Size)
 
   gap-turn : (d p q : Bool) (b : ℕ) (s : List ℕ) → digit b ≡ d → space b ≡ p → eqb b 35 ≡ q → Gaps true s → Gaps false s
       → onward (inNumber (kept k false 0 w h m) b) s ≡ andThen (number (afterGaps false (b ∷ s))) f
-  unfolding inNumber afterGaps numberFrom gapRead
+  unfolding inNumber afterGaps numberFrom gapRead maxField
   gap-turn true p q b s e x y t u =
       let l = from-digit b e in
-      rw (no-space b l, no-mark b l, e) (ap (λ n. readBy (feed (record { stage = k; comment = false; any = true; number = n; width = cap w; height = cap h; largest = cap m }) s)) (cap-digit 0 (digitValue b)) ∙ digits (10 * 0 + digitValue b) s)
+      rw (no-space b l, no-mark b l, e) (ap (λ n. readBy
+      (feed (record { stage = k; comment = false; any = true; number = n; width = cap w; height = cap h; largest = cap m }) s)) (cap-digit 0
+      (digitValue b)) ∙ digits (10 * 0 + digitValue b) s)
   gap-turn false true q b s e x y t u = rw (e, x) (ap (λ z. onward z s) (stays false) ∙ u)
   gap-turn false false true b s e x y t u = rw (e, x, y) t
   gap-turn false false false b s e x y t u = rw (e, x, y, e)
 
   talk-turn : (t : Bool) (b : ℕ) (s : List ℕ) → lineEnd b ≡ t → Gaps true s → Gaps false s
       → onward (commentRead (staged k true (cap w) (cap h) (cap m)) b) s ≡ andThen (number (afterGaps true (b ∷ s))) f
-  unfolding commentRead afterGaps
+  unfolding commentRead afterGaps maxField
   talk-turn true b s e t u = rw e (ap (λ z. onward z s) (stays true) ∙ u)
   talk-turn false b s e t u = rw e t
 
   gaps : (c : Bool) (s : List ℕ) → Gaps c s
-  unfolding feed numberFrom afterGaps
+  unfolding feed numberFrom afterGaps maxField
   gaps c [] = refl
   gaps true (b ∷ s) = ap (λ x. onward x s) (talks b) ∙ talk-turn (lineEnd b) b s refl (gaps true s) (gaps false s)
   gaps false (b ∷ s) =
@@ -135,7 +143,7 @@ module _ (k w h m : ℕ) (f : ℕ → List ℕ → Read Size)
 
   -- the first gap, the gaps after it, and the number
   entered : (p q : Bool) (b : ℕ) (s : List ℕ) → space b ≡ p → eqb b 35 ≡ q → onward (gapRead (kept k false 0 w h m) b) s ≡ andThen (field (b ∷ s)) f
-  unfolding gapRead field gap numberFrom
+  unfolding gapRead field gap numberFrom maxField
   entered true q b s x y = rw x (ap (λ z. onward z s) (stays false) ∙ gaps false s)
   entered false true b s x y = rw (x, y) (gaps true s ∙ sym (after-comment (λ s. andThen (number s) f) refl s) ∙ sym (then-on (comment s)))
     where
@@ -174,7 +182,8 @@ module _ (w h m : ℕ) where
   last-comment [] = refl
   last-comment (b ∷ s) = last-turn (lineEnd b) b s refl (last-comment s)
 
-  last-entered : (p q : Bool) (b : ℕ) (s : List ℕ) → space b ≡ p → eqb b 35 ≡ q → onward (gapRead (staged 6 false (cap w) (cap h) (cap m)) b) s ≡ ends (gap (b ∷ s))
+  last-entered : (p q : Bool) (b : ℕ) (s : List ℕ) → space b ≡ p → eqb b 35 ≡ q
+      → onward (gapRead (staged 6 false (cap w) (cap h) (cap m)) b) s ≡ ends (gap (b ∷ s))
   unfolding gapRead gap
   last-entered true q b s x y = rw x (lastly false s)
   last-entered false true b s x y = rw (x, y) (last-comment s)
@@ -185,17 +194,17 @@ module _ (w h m : ℕ) where
 
 -- ---- the three numbers
 largest : (w h : ℕ) (b : ℕ) (s : List ℕ) → onward (gapRead (kept 5 false 0 w h 0) b) s ≡ andThen (field (b ∷ s)) λ m s. andThen (gap s) λ _ s. headerEnd w h m s
-unfolding stepOf gapEnded numberEnded
+unfolding stepOf gapEnded numberEnded maxField
 largest w h = enters 5 w h 0 _ (λ any v b. refl) (λ b. refl) (λ c. refl) (λ v b s. last-gap w h v b s)
 
 height : (w : ℕ) (b : ℕ) (s : List ℕ) → onward (gapRead (kept 4 false 0 w 0 0) b) s
     ≡ andThen (field (b ∷ s)) λ h s. andThen (field s) λ m s. andThen (gap s) λ _ s. headerEnd w h m s
-unfolding stepOf gapEnded numberEnded
+unfolding stepOf gapEnded numberEnded maxField
 height w = enters 4 w 0 0 _ (λ any v b. refl) (λ b. refl) (λ c. refl) (λ v b s. largest w v b s)
 
 width : (b : ℕ) (s : List ℕ) → onward (gapRead (begun 3) b) s
     ≡ andThen (field (b ∷ s)) λ w s. andThen (field s) λ h s. andThen (field s) λ m s. andThen (gap s) λ _ s. headerEnd w h m s
-unfolding stepOf gapEnded numberEnded
+unfolding stepOf gapEnded numberEnded maxField
 width = enters 3 0 0 0 _ (λ any v b. refl) (λ b. refl) (λ c. refl) (λ v b s. height v b s)
 
 -- ---- before the numbers

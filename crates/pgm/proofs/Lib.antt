@@ -1,5 +1,5 @@
+pub mod LimitLaws
 pub mod HeaderReads
 pub mod RunReads
 pub mod SampleReads
-pub mod DecimalLaws
-pub mod TextLaws
+pub mod HeightLaws

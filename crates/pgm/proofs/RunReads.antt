@@ -10,7 +10,7 @@ use lib.Dec.{leb}
 use lib.ListN.{length, take, drop, getD, set, length-set, length-drop}
 use lib.Seq.{paste, paste-zero, paste-suc, getD-drop}
 use Rattle.numbers.specs.Signal.{pick}
-use Rattle.pgm.specs.Samples.{wide, sampleSize, pairsOf, samplesOf, fitting, exceeds, heightsOf}
+use Rattle.pgm.specs.Samples.{wide, sampleSize, pairsOf, samplesOf, fitting, heightsOf}
 
 -- ---- samples of two bytes
 pairs-count : (s : List ℕ) → length (pairsOf s) ≡ length s / 2
@@ -152,14 +152,17 @@ pub record Run (t d o : List ℕ) (m f n i : ℕ) : Type 0 where
 pub start : (t d : List ℕ) (m f n : ℕ) (w : Bool) → w ≡ wide m → n ≡ min (pick w ((length t - f) / 2) (length t - f)) (length d) → Run t d d m f n 0
 start t d m f n w e h = record {
   within = omega arith;
-  count = h ∙ ap (λ k. min k (length d)) (ap (λ w. pick w ((length t - f) / 2) (length t - f)) e ∙ sym (samples-count m (drop f t) ∙ ap (λ k. pick (wide m) (k / 2) k) (length-drop f t)));
+  count =
+      h ∙ ap (λ k. min k (length d)) (ap (λ w. pick w ((length t - f) / 2) (length t - f)) e
+      ∙ sym (samples-count m (drop f t) ∙ ap (λ k. pick (wide m) (k / 2) k) (length-drop f t)));
   size = refl;
   fit = omega arith;
   heights = paste-zero d 0 (samplesOf m (drop f t));
 }
 
 -- where sample i stands
-pub room : {t d o : List ℕ} {m f n i : ℕ} (w : Bool) → Run t d o m f n i → i < n → w ≡ wide m → (w ≡ true → f + 2 * i + 2 ≤ length t) × (w ≡ false → f + i < length t)
+pub room : {t d o : List ℕ} {m f n i : ℕ} (w : Bool) → Run t d o m f n i → i < n → w ≡ wide m
+    → (w ≡ true → f + 2 * i + 2 ≤ length t) × (w ≡ false → f + i < length t)
 room {t} {d} {o} {m} {f} {n} {i} w c h e =
     let k : i < pick w (length (drop f t) / 2) (length (drop f t)) = rw (e, ← samples-count m (drop f t)) (omega (arith, c .count)) in
     (λ p. two w p k, λ p. one w p k)

@@ -1,6 +1,7 @@
--- Samples taken a byte at a time are the heights of the bytes (`taken-heights`), one is too large where the definition says so (`taken-over`), and a cut anywhere changes nothing (`cut-heights`).
+-- Samples taken a byte at a time are the heights of the bytes (`taken-heights`), one is too large where the definition says so (`taken-over`), and a
+-- cut anywhere changes nothing (`cut-heights`).
 -- Assumes nothing.
-use mathlib.Core.Path.{_≡_, refl, sym, ap, _∙_}
+use mathlib.Core.Path.{_≡_, refl, ap}
 use mathlib.Core.Bool.{Bool, true, false}
 use mathlib.Core.List.{List, [], _∷_, _++_}
 use Prim.Native.Nat.{ℕ, _+_, _*_}

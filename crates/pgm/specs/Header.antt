@@ -1,10 +1,12 @@
--- A header, as a definition on the bytes of an input: Netpbm's grammar of a binary PGM. P5, width, height and largest value, gaps before each number, one gap after the last.
+-- A header, as a definition on the bytes of an input: Netpbm's grammar of a binary PGM. P5, width, height and largest value, gaps before each number,
+-- one gap after the last.
 use mathlib.Core.Bool.{Bool, true, false}
 use mathlib.Core.List.{List, [], _∷_}
 use Prim.Native.Nat.{ℕ, _+_, _*_}
-use lib.Dec.{leb, eqb}
+use lib.Dec.{eqb}
 use Rattle.numbers.specs.Signal.{pick, both}
 use Rattle.pgm.specs.Characters.{space, lineEnd, digit, digitValue}
+use Rattle.pgm.specs.Limits.{maxField, upTo}
 
 -- what an input begins with: this, and the bytes after it; the input ends too soon; or, whatever follows, it is wrong
 pub data Read (A : Type 0) : Type 0 where
@@ -64,9 +66,9 @@ pub record Size : Type 0 where
   pub height : ℕ
   pub largest : ℕ
 
--- a width, a height or a largest value is from 1 to 65,535
+-- a width, a height or a largest value
 unfoldable pub side : ℕ → Bool
-side n = both (leb 1 n) (leb n 65535)
+side n = upTo maxField n
 
 unfoldable pub sized : ℕ → ℕ → ℕ → Bool
 sized w h m = both (side w) (both (side h) (side m))

@@ -1,6 +1,6 @@
 pub mod Characters
+pub mod Limits
 pub mod Header
 pub mod Steps
 pub mod Samples
-pub mod Decimal
-pub mod Text
+pub mod Heights

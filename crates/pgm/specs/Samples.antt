@@ -1,9 +1,10 @@
--- The samples after a header with the largest value m: "one byte a sample below 256, two from 256 on", the most significant first. Heights are samples as they stand, unscaled.
-use mathlib.Core.Bool.{Bool, true, false, not}
+-- The samples after a header with the largest value m: "one byte a sample below 256, two from 256 on", the most significant first. Heights are
+-- samples as they stand, unscaled.
+use mathlib.Core.Bool.{Bool, true, false}
 use mathlib.Core.List.{List, [], _∷_}
 use Prim.Native.Nat.{ℕ, _+_, _*_}
 use lib.Dec.{leb}
-use Rattle.numbers.specs.Signal.{pick, both}
+use Rattle.numbers.specs.Signal.{pick}
 use Rattle.pgm.specs.declared.samples.Samples.{Samples}
 use Rattle.pgm.specs.declared.samples.Sample.{Sample}
 use Rattle.pgm.specs.declared.samples.Sample.the-variants.{Half, Height, TooLarge}

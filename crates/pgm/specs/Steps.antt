@@ -1,10 +1,11 @@
 -- What one byte makes of a header that is being read, and the reading of a whole list of bytes by such steps. proofs/HeaderReads: that reading is `headerOf`'s.
 use mathlib.Core.Bool.{Bool, true, false}
 use mathlib.Core.List.{List, [], _∷_, _++_}
-use Prim.Native.Nat.{ℕ, _+_, _*_, min}
+use Prim.Native.Nat.{ℕ, suc, _+_, _*_, min}
 use lib.Dec.{eqb}
-use Rattle.numbers.specs.Signal.{pick, both}
+use Rattle.numbers.specs.Signal.{pick}
 use Rattle.pgm.specs.Characters.{space, lineEnd, digit, digitValue}
+use Rattle.pgm.specs.Limits.{maxField}
 use Rattle.pgm.specs.Header.{Read, found, short, wrong, Size, sized}
 use Rattle.pgm.specs.declared.header.Header.{Header}
 use Rattle.pgm.specs.declared.header.Next.{Next}
@@ -46,11 +47,23 @@ numberEnded h =
     (pick (eqb (h .stage) 4) (staged 5 false (h .width) (h .number) (h .largest))
     (staged 6 false (h .width) (h .height) (h .number)))
 
+-- a digit more of the number, which is v then: the one after the largest that a header may have stands for every larger one
+abbrev pub numbered : ℕ → Header → Header
+numbered v h = record {
+  stage = h .stage;
+  comment = false;
+  any = true;
+  number = v;
+  width = h .width;
+  height = h .height;
+  largest = h .largest;
+}
+
 -- a byte of a number, of the gaps before it, or of the gap after it
 unfoldable pub inNumber : Header → ℕ → Next
 inNumber h b =
     pick (digit b)
-    (More (record { stage = h .stage; comment = false; any = true; number = min (10 * h .number + digitValue b) 65536; width = h .width; height = h .height; largest = h .largest }))
+    (More (numbered (min (10 * h .number + digitValue b) (suc maxField)) h))
     (gapRead (pick (h .any) (numberEnded h) h) b)
 
 unfoldable pub stepOf : Header → ℕ → Next

@@ -1,6 +1,8 @@
 // The bytes of a header: whitespace, ends of lines and digits.
+use crate::limits;
 ghost use mathlib.Core.Path.{_≡_};
-ghost use Prim.Native.Nat.{_≤_, _+_, _*_, _-_, min};
+ghost use Prim.Native.Nat.{suc, _+_, _*_, _-_, min};
+ghost use Rattle.pgm.specs.Limits.{maxField};
 ghost use Rattle.pgm.specs.Characters.{space, lineEnd, digit, digitValue};
 
 pub fn is_space(byte: u8) -> bool
@@ -34,15 +36,16 @@ pub fn is_digit(byte: u8) -> bool
     byte <= b'9'
 }
 
-// A number with one digit more; 65,536 stands for every larger number.
+// A number with one digit more; the one after the largest that a header may have stands for every larger number.
 pub fn with_digit(number: usize, byte: u8) -> usize
-    ensures { λ r. ⌜ r ≡ min (10 * number + digitValue byte) 65536 ⌝ }
+    ensures { λ r. ⌜ r ≡ min (10 * number + digitValue byte) (suc maxField) ⌝ }
 {
-    if number > 65536 {
-        return 65536;
+    let most = limits::max_field();
+    if most < number {
+        return most + 1;
     }
     let next = 10 * number + digit_value(byte);
-    if next > 65536 { 65536 } else { next }
+    if most < next { most + 1 } else { next }
 }
 
 // 0 of a byte below the digits.

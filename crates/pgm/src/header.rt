@@ -1,11 +1,14 @@
-// A header, read a byte at a time. A number may have any number of digits: 65,536 stands for every number above 65,535, and such a header is refused.
+// A header, read a byte at a time. A number may have any number of digits: the one after the largest that a header may have stands for every
+// larger one, and such a header is refused.
 use crate::characters;
+use crate::limits;
 ghost use mathlib.Core.Path.{_≡_};
 ghost use mathlib.Core.Bool.{true, false};
 ghost use Rattle.pgm.specs.Header.{side, sized};
 ghost use Rattle.pgm.specs.Steps.{staged, begun, expected, commented, gapEnded, gapRead, commentRead, numberEnded, inNumber, stepOf};
 
-// What the bytes so far have told. Stage 0 waits for P, 1 for 5, 2 for the first gap, 3 reads the width, 4 the height, 5 the largest value, 6 the comment that ends the header.
+// What the bytes so far have told. Stage 0 waits for P, 1 for 5, 2 for the first gap, 3 reads the width, 4 the height, 5 the largest value, 6 the
+// comment that ends the header.
 pub struct Header {
     pub stage: usize,
     // Inside a comment?
@@ -25,14 +28,11 @@ pub enum Next {
     Refused,
 }
 
-// Is a width, a height or a largest value from 1 to 65,535?
+// Is it a width, a height or a largest value?
 fn is_side(n: usize) -> bool
     ensures { λ r. ⌜ r ≡ side n ⌝ }
 {
-    if n < 1 {
-        return false;
-    }
-    n <= 65535
+    limits::is_up_to(n, limits::max_field())
 }
 
 fn is_sized(width: usize, height: usize, largest: usize) -> bool

@@ -73,7 +73,8 @@ fn whole(bytes: usize, from: usize, wide: bool, most: usize) -> usize
 // Sample i after place `from`. The call is private: only `read`, which meets what is required, makes it.
 fn sample_at(bytes: &[u8], from: usize, wide: bool, i: usize) -> u16
     requires { ⌜ (wide ≡ true → from + 2 * i + 2 ≤ length (now bytes)) × (wide ≡ false → from + i < length (now bytes)) ⌝ }
-    ensures { λ r. ⌜ r ≡ pick wide (256 * getD (now (bytes .entry)) (from + 2 * i) 0 + getD (now (bytes .entry)) (from + 2 * i + 1) 0) (getD (now (bytes .entry)) (from + i) 0) ⌝ }
+    ensures { λ r. ⌜ r ≡ pick wide (256 * getD (now (bytes .entry)) (from + 2 * i) 0 + getD (now (bytes .entry)) (from + 2 * i + 1) 0)
+        (getD (now (bytes .entry)) (from + i) 0) ⌝ }
 {
     if wide {
         let at = from + 2 * i;
@@ -88,7 +89,8 @@ fn is_within(sample: u16, largest: usize) -> bool
     sample as usize <= largest
 }
 
-// Reads heights from place `from` on, as many as there are and as the run has room for, and answers how many. A sample that exceeds the largest value is none, nor is one after it.
+// Reads heights from place `from` on, as many as there are and as the run has room for, and answers how many. A sample that exceeds the largest value
+// is none, nor is one after it.
 pub fn read(bytes: &[u8], from: usize, largest: usize, run: &mut [u16]) -> usize
     ensures { λ r. ⌜ r ≡ min (length (heightsOf largest (drop from (now (bytes .entry))))) (length (now (run .entry))) ⌝ }
     ensures { λ r. ⌜ now (run .exit) ≡ take r (heightsOf largest (drop from (now (bytes .entry)))) ++ drop r (now (run .entry)) ⌝ }
@@ -122,10 +124,10 @@ impl Samples {
         ensures { λ r. ⌜ r ≡ sampleOf self byte ⌝ }
     {
         if !is_wide(self.largest) {
-            return heard(single(byte), self.largest);
+            return checked(single(byte), self.largest);
         }
         if self.half {
-            return heard(joined(self.high, byte), self.largest);
+            return checked(joined(self.high, byte), self.largest);
         }
         Sample::Half(Samples {
             largest: self.largest,
@@ -135,7 +137,7 @@ impl Samples {
     }
 }
 
-fn heard(sample: u16, largest: usize) -> Sample
+fn checked(sample: u16, largest: usize) -> Sample
     ensures { λ r. ⌜ r ≡ sampled largest sample ⌝ }
 {
     if is_within(sample, largest) {

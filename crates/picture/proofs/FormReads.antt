@@ -5,16 +5,16 @@ use mathlib.Core.List.{List, [], _∷_, _++_, append-assoc}
 use Prim.Native.Nat.{ℕ, zero, suc, _+_, _-_, _*_, _/_, _%_, _≤_, _<_}
 use native.Mathlib.Omega.{arith}
 use native.Mathlib.Decide.{decLt}
-use lib.Dec.{leb, eqb}
-use lib.ListN.{length}
-use borrow.Author.Tests.{le-leb, lt-leb, eq-eqb, ne-eqb}
-use Rattle.numbers.specs.Signal.{pick, both}
-use Rattle.pgm.specs.Characters.{space, lineEnd, digit, digitValue}
-use Rattle.pgm.specs.Header.{Read, found, short, wrong, andThen, is, one, comment, gap, afterGaps, numberFrom, number, field, Size, side, sized, headerEnd, headerOf}
-use Rattle.pgm.specs.Samples.{wide, pairsOf, samplesOf, fitting, exceeds, heightsOf}
-use Rattle.pgm.specs.Decimal.{numeral}
-use Rattle.pgm.proofs.DecimalLaws.{one-digit, last-digit}
-use Rattle.picture.specs.Form.{formHead, rowBytes}
+use borrow.Author.Tests.{le-leb, ne-eqb}
+use Rattle.pgm.specs.Characters.{space, digit}
+use Rattle.pgm.specs.Header.{Read, found, andThen, one, gap, afterGaps, numberFrom, number, field, Size, side, sized, headerEnd}
+use Rattle.pgm.specs.Header.{headerOf}
+use Rattle.pgm.specs.Limits.{maxField, upTo}
+use Rattle.pgm.proofs.LimitLaws.{is-up-to}
+use Rattle.pgm.specs.Samples.{wide, pairsOf, samplesOf}
+use Rattle.text.specs.Decimal.{numeral}
+use Rattle.text.proofs.DecimalLaws.{one-digit, last-digit}
+use Rattle.picture.specs.Form.{formLargest, formHead, rowBytes}
 
 -- ---- digits
 digit-yes : (d : ℕ) → d < 10 → digit (48 + d) ≡ true
@@ -52,7 +52,13 @@ number-read n b s e = digits-read n n (omega arith) false (b ∷ s) ∙ rw e
 digit-no-gap : (d : ℕ) (s : List ℕ) → d < 10 → afterGaps false ((48 + d) ∷ s) ≡ (48 + d) ∷ s
 unfolding afterGaps space
 digit-no-gap d s h =
-    rw (ne-eqb (48 + d) 32 (λ e. omega arith), ne-eqb (48 + d) 9 (λ e. omega arith), ne-eqb (48 + d) 13 (λ e. omega arith), ne-eqb (48 + d) 10 (λ e. omega arith), ne-eqb (48 + d) 35 (λ e. omega arith))
+    rw (
+      ne-eqb (48 + d) 32 (λ e. omega arith),
+      ne-eqb (48 + d) 9 (λ e. omega arith),
+      ne-eqb (48 + d) 13 (λ e. omega arith),
+      ne-eqb (48 + d) 10 (λ e. omega arith),
+      ne-eqb (48 + d) 35 (λ e. omega arith),
+    )
 
 no-gap : (k n : ℕ) → n ≤ k → (s : List ℕ) → afterGaps false (numeral n ++ s) ≡ numeral n ++ s
 no-gap zero n h s = let z : n < 10 = omega arith in rw (one-digit n z) (digit-no-gap n s z)
@@ -70,16 +76,25 @@ unfolding field gap
 field-read g n b s e f = rw e (ap number (no-gap n n (omega arith) (b ∷ s)) ∙ number-read n b s f)
 
 -- ---- the header
-side-yes : (n : ℕ) → 1 ≤ n → n ≤ 65535 → side n ≡ true
+side-yes : (n : ℕ) → 1 ≤ n → n ≤ maxField → side n ≡ true
 unfolding side
-side-yes n h g = rw (le-leb 1 n h, le-leb n 65535 g)
+side-yes n h g = is-up-to maxField n h g
+
+-- the largest value is one that a header may name, takes two bytes a sample, and holds every sample
+largest-side : side formLargest ≡ true
+unfolding side upTo maxField formLargest
+largest-side = refl
+
+pub largest-wide : wide formLargest ≡ true
+unfolding wide formLargest
+largest-wide = refl
+
+pub largest-holds : (m : ℕ) → m ≤ maxField → m ≤ formLargest
+unfolding maxField formLargest
+largest-holds m h = h
 
 abbrev lastPart : List ℕ → List ℕ
-lastPart r = 10 ∷ 54 ∷ 53 ∷ 53 ∷ 51 ∷ 53 ∷ 10 ∷ r
-
-largest-read : (r : List ℕ) → field (lastPart r) ≡ found 65535 (10 ∷ r)
-unfolding field gap space afterGaps numberFrom digit
-largest-read r = refl
+lastPart r = 10 ∷ (numeral formLargest ++ (10 ∷ r))
 
 newline : digit 10 ≡ false
 unfolding digit
@@ -109,22 +124,27 @@ unfolding formHead
 head-split W H r =
     ap (λ l. 80 ∷ 53 ∷ 10 ∷ l)
     (append-assoc (numeral W) (32 ∷ (numeral H ++ lastPart [])) r
-    ∙ ap (λ l. numeral W ++ (32 ∷ l)) (append-assoc (numeral H) (lastPart []) r))
+    ∙ ap (λ l. numeral W ++ (32 ∷ l)) (append-assoc (numeral H) (lastPart []) r)
+    ∙ ap (λ l. numeral W ++ (32 ∷ (numeral H ++ (10 ∷ l)))) (append-assoc (numeral formLargest) (10 ∷ []) r))
 
-marks : (s : List ℕ) → headerOf (80 ∷ 53 ∷ s) ≡ andThen (field s) λ w s. andThen (field s) λ h s. andThen (field s) λ m s. andThen (gap s) λ _ s. headerEnd w h m s
+marks : (s : List ℕ) → headerOf (80 ∷ 53 ∷ s) ≡ andThen (field s) λ w s. andThen (field s) λ h s. andThen (field s) λ m s. andThen
+    (gap s) λ _ s. headerEnd w h m s
 unfolding headerOf one
 marks s = refl
 
-pub head-read : (W H : ℕ) (r : List ℕ) → 1 ≤ W → W ≤ 65535 → 1 ≤ H → H ≤ 65535 → headerOf (formHead W H ++ r) ≡ found (record { width = W; height = H; largest = 65535 }) r
+pub head-read : (W H : ℕ) (r : List ℕ) → 1 ≤ W → W ≤ maxField → 1 ≤ H → H ≤ maxField
+    → headerOf (formHead W H ++ r) ≡ found (record { width = W; height = H; largest = formLargest }) r
 unfolding headerEnd sized
 head-read W H r a b c d =
     ap headerOf (head-split W H r)
     ∙ marks (10 ∷ (numeral W ++ (32 ∷ (numeral H ++ lastPart r))))
-    ∙ ap (λ x. andThen x λ w s. andThen (field s) λ h s. andThen (field s) λ m s. andThen (gap s) λ _ s. headerEnd w h m s) (field-read 10 W 32 (numeral H ++ lastPart r) is-newline blank)
-    ∙ ap (λ x. andThen x λ h s. andThen (field s) λ m s. andThen (gap s) λ _ s. headerEnd W h m s) (field-read 32 H 10 (54 ∷ 53 ∷ 53 ∷ 51 ∷ 53 ∷ 10 ∷ r) is-blank newline)
-    ∙ ap (afterNumbers W H) (largest-read r)
-    ∙ ap (λ x. andThen x λ _ s. headerEnd W H 65535 s) (gap-read r)
-    ∙ rw (side-yes W a b, side-yes H c d, side-yes 65535 (omega arith) (omega arith))
+    ∙ ap (λ x. andThen x λ w s. andThen (field s) λ h s. andThen (field s) λ m s. andThen (gap s) λ _ s. headerEnd w h m s)
+    (field-read 10 W 32 (numeral H ++ lastPart r) is-newline blank)
+    ∙ ap (λ x. andThen x λ h s. andThen (field s) λ m s. andThen (gap s) λ _ s. headerEnd W h m s)
+    (field-read 32 H 10 (numeral formLargest ++ (10 ∷ r)) is-blank newline)
+    ∙ ap (afterNumbers W H) (field-read 10 formLargest 10 r is-newline newline)
+    ∙ ap (λ x. andThen x λ _ s. headerEnd W H formLargest s) (gap-read r)
+    ∙ rw (side-yes W a b, side-yes H c d, largest-side)
 
 -- ---- the heights
 pub pairs-back : (l : List ℕ) → pairsOf (rowBytes l) ≡ l
@@ -132,6 +152,6 @@ unfolding pairsOf rowBytes
 pairs-back [] = refl
 pairs-back (h ∷ l) = ap₂ (λ a b. a ∷ b) (omega arith) (pairs-back l)
 
-pub samples-back : (l : List ℕ) → samplesOf 65535 (rowBytes l) ≡ l
-unfolding samplesOf wide
-samples-back l = pairs-back l
+pub samples-back : (l : List ℕ) → samplesOf formLargest (rowBytes l) ≡ l
+unfolding samplesOf
+samples-back l = rw largest-wide (pairs-back l)

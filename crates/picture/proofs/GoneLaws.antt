@@ -7,25 +7,25 @@ use native.Mathlib.Omega.{arith}
 use native.Mathlib.Numerals.{add-one}
 use native.Mathlib.Decide.{decLt}
 use lib.Dec.{eqb}
-use lib.ListN.{length, take, drop, getD, length-append}
+use lib.ListN.{length, drop, getD, length-append}
 use lib.Seq.{drop-cons}
 use borrow.Author.Tests.{eq-eqb, ne-eqb}
 use Rattle.numbers.specs.Signal.{pick}
-use Rattle.pgm.proofs.TextLaws.{wrote-none, wrote-size, wrote-on}
-use Rattle.picture.specs.Machine.{settled, heardBy, owed, Went, Writes, quiet, Stops, full, idle, Onward, on, off}
+use Rattle.text.proofs.TextLaws.{wrote-none, wrote-size, wrote-on}
+use Rattle.picture.specs.Machine.{settled, byteRead, owed, Went, Writes, quiet, Stops, full, idle, Onward, on, off}
 use Rattle.picture.specs.declared.rewriting.Rewriting.{Rewriting}
-use Rattle.picture.proofs.MachineLaws.{hear-owed}
+use Rattle.picture.proofs.MachineLaws.{read-owed}
 
 -- ---- one call
 pub went-not : (r : Rewriting) (z p o : List ℕ) (a b : ℕ) → a ≤ length p → b ≤ length o → Went r z p a a o o b b r z
 went-not r z p o a b h g = record { bytes = []; text = []; goes = λ e v. refl; read = refl; used = omega arith; part = h; wrote = wrote-none b o g }
 
 pub read-went : (r r′ : Rewriting) (z z′ p o : List ℕ) (a b : ℕ) → r .part .kind ≡ 0 → a < length p → b ≤ length o
-    → r′ ≡ heardBy r z (getD p a 0) .state → z′ ≡ heardBy r z (getD p a 0) .row → Went r z p a (a + 1) o o b b r′ z′
+    → r′ ≡ byteRead r z (getD p a 0) .state → z′ ≡ byteRead r z (getD p a 0) .row → Went r z p a (a + 1) o o b b r′ z′
 read-went r r′ z z′ p o a b k h g e f = record {
   bytes = getD p a 0 ∷ [];
   text = [];
-  goes = λ d v. hear-owed d r z (getD p a 0) v k ∙ ap (λ s. owed d s (heardBy r z (getD p a 0) .row) v) (sym e) ∙ ap (λ y. owed d r′ y v) (sym f);
+  goes = λ d v. read-owed d r z (getD p a 0) v k ∙ ap (λ s. owed d s (byteRead r z (getD p a 0) .row) v) (sym e) ∙ ap (λ y. owed d r′ y v) (sym f);
   read = drop-cons p a 0 h ∙ ap (λ m. getD p a 0 ∷ drop m p) (sym (add-one a));
   used = refl;
   part = omega arith;
@@ -36,7 +36,8 @@ pub writes-went : {r r′ : Rewriting} {z p o o′ : List ℕ} {a b b′ : ℕ} 
 writes-went h w = record { bytes = []; text = w .text; goes = w .goes; read = refl; used = omega arith; part = h; wrote = w .wrote }
 
 -- ---- one after the other
-pub went-on : {r r₁ r₂ : Rewriting} {z z₁ z₂ p o o₁ o₂ : List ℕ} {a a₁ a₂ b b₁ b₂ : ℕ} → Went r z p a a₁ o o₁ b b₁ r₁ z₁ → Went r₁ z₁ p a₁ a₂ o₁ o₂ b₁ b₂ r₂ z₂ → Went r z p a a₂ o o₂ b b₂ r₂ z₂
+pub went-on : {r r₁ r₂ : Rewriting} {z z₁ z₂ p o o₁ o₂ : List ℕ} {a a₁ a₂ b b₁ b₂ : ℕ} → Went r z p a a₁ o o₁ b b₁ r₁ z₁
+    → Went r₁ z₁ p a₁ a₂ o₁ o₂ b₁ b₂ r₂ z₂ → Went r z p a a₂ o o₂ b b₂ r₂ z₂
 went-on {r} {r₁} {r₂} {z} {z₁} {z₂} {p = p} {a₂ = a₂} f g = record {
   bytes = f .bytes ++ g .bytes;
   text = f .text ++ g .text;
@@ -66,7 +67,8 @@ quiet-settled : (r : Rewriting) → quiet (settled r) ≡ 1
 unfolding settled
 quiet-settled r = refl
 
-pub write-on : {r r′ : Rewriting} {z p o o′ : List ℕ} {a b b′ : ℕ} → (r .part .kind ≡ 0 → ⊥) → b < length o → Writes r z o o′ b b′ r′ → Onward r r′ p a a o b b′ true
+pub write-on : {r r′ : Rewriting} {z p o o′ : List ℕ} {a b b′ : ℕ} → (r .part .kind ≡ 0 → ⊥) → b < length o → Writes r z o o′ b b′ r′
+    → Onward r r′ p a a o b b′ true
 write-on {r} {r′} {o = o} {a = a} {b = b} {b′ = b′} d h w = on (go (quiet r) (ap (λ t. pick t 1 0) (ne-eqb (r .part .kind) 0 d)))
   where
     go : (q : ℕ) → q ≡ 0 → 2 * a + b + q < 2 * a + b′ + quiet r′
@@ -107,7 +109,8 @@ module _ {r : Rewriting} {z p o : List ℕ} {s : Rewriting} {y d : List ℕ} {a 
   pub area-room : b ≤ length d
   area-room = omega (arith, f .went .wrote .room, size)
 
-  pub turned : (s′ : Rewriting) (y′ : List ℕ) {d′ : List ℕ} {a′ b′ : ℕ} {g′ : Bool} → length y′ ≡ length y → Went s y p a a′ d d′ b b′ s′ y′ → Onward s s′ p a a′ d b b′ g′ → Gone r z p o s′ y′ d′ a′ b′ g′
+  pub turned : (s′ : Rewriting) (y′ : List ℕ) {d′ : List ℕ} {a′ b′ : ℕ} {g′ : Bool} → length y′ ≡ length y → Went s y p a a′ d d′ b b′ s′ y′
+      → Onward s s′ p a a′ d b b′ g′ → Gone r z p o s′ y′ d′ a′ b′ g′
   turned s′ y′ e w h = record { row = e ∙ f .row; went = went-on (f .went) w; pending = then-pending size h }
 
   -- the end: it says whether it waits for input
@@ -129,10 +132,12 @@ ahead g = pick g 2 0
 unfoldable pub left : Rewriting → List ℕ → List ℕ → ℕ → ℕ → Bool → ℕ
 left s p d a b g = 2 * (length p - a) + (length d - b) + (1 - quiet s) + ahead g
 
-less-by : (d′ : List ℕ) {s s′ : Rewriting} {p d : List ℕ} {a a′ b b′ : ℕ} {g : Bool} → Onward s s′ p a a′ d b b′ g → a ≤ a′ → b ≤ b′ → a′ ≤ length p → b′ ≤ length d → length d′ ≡ length d → left s′ p d′ a′ b′ g < left s p d a b true
+less-by : (d′ : List ℕ) {s s′ : Rewriting} {p d : List ℕ} {a a′ b b′ : ℕ} {g : Bool} → Onward s s′ p a a′ d b b′ g → a ≤ a′ → b ≤ b′ → a′ ≤ length p
+    → b′ ≤ length d → length d′ ≡ length d → left s′ p d′ a′ b′ g < left s p d a b true
 unfolding left
 less-by d′ {s} {s′} (on h) u v x y z = omega (arith, quiet-most s, quiet-most s′)
 less-by d′ {s} {s′} (off i h) u v x y z = omega (arith, quiet-most s, quiet-most s′)
 
-pub turn-less : {s s′ : Rewriting} {y y′ p d d′ : List ℕ} {a a′ b b′ : ℕ} {g : Bool} → Went s y p a a′ d d′ b b′ s′ y′ → Onward s s′ p a a′ d b b′ g → left s′ p d′ a′ b′ g < left s p d a b true
+pub turn-less : {s s′ : Rewriting} {y y′ p d d′ : List ℕ} {a a′ b b′ : ℕ} {g : Bool} → Went s y p a a′ d d′ b b′ s′ y′ → Onward s s′ p a a′ d b b′ g
+    → left s′ p d′ a′ b′ g < left s p d a b true
 turn-less {d′ = d′} w h = less-by d′ h (omega (arith, w .used)) (omega (arith, w .wrote .place)) (w .part) (w .wrote .room) (wrote-size (w .wrote))

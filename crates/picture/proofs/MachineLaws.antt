@@ -1,23 +1,20 @@
 -- What a rewriting owes, as it reads and writes. Assumes nothing.
-use mathlib.Core.Path.{_≡_, refl, sym, ap, ap₂, subst, _∙_}
+use mathlib.Core.Path.{_≡_, refl, sym, ap, _∙_}
 use mathlib.Core.Bool.{Bool, true, false}
 use mathlib.Core.List.{List, [], _∷_, _++_, append-nil, append-assoc}
-use Prim.Native.Nat.{ℕ, zero, suc, _+_, _-_, _*_, _≤_, _<_, min}
+use Prim.Native.Nat.{ℕ, zero, suc, _+_, _-_, _≤_, _<_}
 use native.Mathlib.Omega.{arith}
-use native.Mathlib.Numerals.{add-one}
-use native.Mathlib.Nat.{zero-add}
-use lib.Dec.{leb, eqb}
-use lib.ListN.{length, take, drop, getD, set, length-drop, length-append, take-append-drop}
-use lib.Seq.{paste, drop-drop, drop-cons, length-take-le}
+use lib.Dec.{eqb}
+use lib.ListN.{length, take, drop, set, take-append-drop}
+use lib.Seq.{drop-drop}
 use borrow.Author.Tests.{eq-eqb, ne-eqb, le-leb, lt-leb}
 use Rattle.numbers.specs.Signal.{pick}
-use Rattle.pgm.specs.Text.{Wrote}
-use Rattle.pgm.proofs.TextLaws.{wrote-none, wrote-size, wrote-on}
-use Rattle.picture.specs.Hearing.{phased, hears, endHeard}
-use Rattle.picture.specs.Machine.{partOf, noPart, partText, rewriting, textOn, leftOn, settled, doneOn, Kept, kept, rowPart, heightKept, heardTo, heardBy, owed, Went, Writes, quiet, Stops, full, idle, Onward, on, off, endTo, endOf}
+use Rattle.picture.specs.InputSteps.{phased, readByte, inputEnded}
+use Rattle.picture.specs.Machine.{partOf, noPart, partText, rewriting, textOn, leftOn, settled, doneOn, rowPart, heightKept, stepTo}
+use Rattle.picture.specs.Machine.{byteRead, owed, endTo, endOf}
 use Rattle.picture.specs.declared.input.Input.{Input}
-use Rattle.picture.specs.declared.input.Heard.{Heard}
-use Rattle.picture.specs.declared.input.Heard.the-variants as heard
+use Rattle.picture.specs.declared.input.Step.{Step}
+use Rattle.picture.specs.declared.input.Step.the-variants as steps
 use Rattle.picture.specs.declared.input.Ended.{Ended}
 use Rattle.picture.specs.declared.input.Ended.the-variants as ended
 use Rattle.picture.specs.declared.parts.Part.{Part}
@@ -43,18 +40,18 @@ pub ends-on : (r : Rewriting) → (r .part .kind ≡ 0 → ⊥) → r ≡ endOf 
 unfolding endOf
 ends-on r d = rw (ne-eqb (r .part .kind) 0 d)
 
-pub ends-as : (r : Rewriting) (y : Ended) → r .part .kind ≡ 0 → y ≡ endHeard (r .input) → endTo r y ≡ endOf r
+pub ends-as : (r : Rewriting) (y : Ended) → r .part .kind ≡ 0 → y ≡ inputEnded (r .input) → endTo r y ≡ endOf r
 unfolding endOf
 ends-as r y d e = rw (eq-eqb (r .part .kind) 0 d) (ap (endTo r) e)
 
-module _ (r : Rewriting) (z : List ℕ) (b : ℕ) (y : Heard) (e : y ≡ hears (r .input) (length z) b) where
-  pub heard-state : heardTo r z y .state ≡ heardBy r z b .state
-  unfolding heardBy
-  heard-state = ap (λ y. heardTo r z y .state) e
+module _ (r : Rewriting) (z : List ℕ) (b : ℕ) (y : Step) (e : y ≡ readByte (r .input) (length z) b) where
+  pub step-state : stepTo r z y .state ≡ byteRead r z b .state
+  unfolding byteRead
+  step-state = ap (λ y. stepTo r z y .state) e
 
-  pub heard-row : heardTo r z y .row ≡ heardBy r z b .row
-  unfolding heardBy
-  heard-row = ap (λ y. heardTo r z y .row) e
+  pub step-row : stepTo r z y .row ≡ byteRead r z b .row
+  unfolding byteRead
+  step-row = ap (λ y. stepTo r z y .row) e
 
 -- ---- what is owed
 drop-none : (n : ℕ) → drop {A = ℕ} n [] ≡ []
@@ -63,7 +60,9 @@ drop-none (suc n) = refl
 
 pub left-none : (r : Rewriting) (z : List ℕ) → r .part .kind ≡ 0 → leftOn r z ≡ []
 unfolding leftOn partText
-left-none r z e = rw (ne-eqb (r .part .kind) 1 (λ d. omega arith), ne-eqb (r .part .kind) 2 (λ d. omega arith), ne-eqb (r .part .kind) 3 (λ d. omega arith)) (drop-none (r .part .done))
+left-none r z e =
+    rw (ne-eqb (r .part .kind) 1 (λ d. omega arith), ne-eqb (r .part .kind) 2 (λ d. omega arith), ne-eqb (r .part .kind) 3 (λ d. omega arith))
+    (drop-none (r .part .done))
 
 settled-twice : (r : Rewriting) → settled (settled r) ≡ settled r
 unfolding settled
@@ -81,13 +80,15 @@ settle-owed e r z [] =
     ∙ ap (λ s. pick e (leftOn (endOf s) z) []) (settled-twice r)))
 settle-owed e r z (b ∷ v) =
     ap (λ l. leftOn r z ++ l)
-    (sym (ap (λ l. l ++ owed e (heardBy (settled (settled r)) z b .state) (heardBy (settled (settled r)) z b .row) v) (settled-none r z)
-    ∙ ap (λ s. owed e (heardBy s z b .state) (heardBy s z b .row) v) (settled-twice r)))
+    (sym (ap (λ l. l ++ owed e (byteRead (settled (settled r)) z b .state) (byteRead (settled (settled r)) z b .row) v) (settled-none r z)
+    ∙ ap (λ s. owed e (byteRead s z b .state) (byteRead s z b .row) v) (settled-twice r)))
 
 -- n bytes of it are
 left-done : (r : Rewriting) (z : List ℕ) (n : ℕ) → leftOn r z ≡ take n (leftOn r z) ++ leftOn (doneOn (r .part .done + n) r) z
 unfolding leftOn partText
-left-done r z n = sym (take-append-drop n (drop (r .part .done) (textOn r z))) ∙ ap (λ l. take n (drop (r .part .done) (textOn r z)) ++ l) (drop-drop n (r .part .done) (textOn r z))
+left-done r z n =
+    sym (take-append-drop n (drop (r .part .done) (textOn r z)))
+    ∙ ap (λ l. take n (drop (r .part .done) (textOn r z)) ++ l) (drop-drop n (r .part .done) (textOn r z))
 
 settled-done : (r : Rewriting) (d : ℕ) → settled (doneOn d r) ≡ settled r
 unfolding settled
@@ -104,29 +105,29 @@ write-owed e r z n v =
 
 end-settled : (r : Rewriting) → r .part .kind ≡ 0 → endOf (settled r) ≡ endOf r
 unfolding endOf settled
-end-settled r k = rw (eq-eqb (r .part .kind) 0 k, ne-eqb (r .part .kind) 2 (λ d. omega arith)) (same (endHeard (r .input)))
+end-settled r k = rw (eq-eqb (r .part .kind) 0 k, ne-eqb (r .part .kind) 2 (λ d. omega arith)) (same (inputEnded (r .input)))
   where
     same : (y : Ended) → endTo (rewriting (r .input) (r .filled) noPart) y ≡ endTo r y
     same (ended.Over i) = refl
     same (ended.Short i) = refl
 
--- a byte is heard
-heard-settled : (r : Rewriting) (z : List ℕ) (b : ℕ) → r .part .kind ≡ 0 → heardBy (settled r) z b ≡ heardBy r z b
-unfolding heardBy settled
-heard-settled r z b e = rw (ne-eqb (r .part .kind) 2 (λ d. omega arith)) (same (hears (r .input) (length z) b))
+-- a byte is read
+read-settled : (r : Rewriting) (z : List ℕ) (b : ℕ) → r .part .kind ≡ 0 → byteRead (settled r) z b ≡ byteRead r z b
+unfolding byteRead settled
+read-settled r z b e = rw (ne-eqb (r .part .kind) 2 (λ d. omega arith)) (same (readByte (r .input) (length z) b))
   where
-    same : (y : Heard) → heardTo (rewriting (r .input) (r .filled) noPart) z y ≡ heardTo r z y
-    same (heard.More i) = refl
-    same (heard.Begun i) = refl
-    same (heard.Height i v) = refl
-    same (heard.Refused i q) = refl
+    same : (y : Step) → stepTo (rewriting (r .input) (r .filled) noPart) z y ≡ stepTo r z y
+    same (steps.More i) = refl
+    same (steps.Begun i) = refl
+    same (steps.Height i v) = refl
+    same (steps.Refused i q) = refl
 
-pub hear-owed : (e : Bool) (r : Rewriting) (z : List ℕ) (b : ℕ) (v : List ℕ) → r .part .kind ≡ 0
-    → owed e r z (b ∷ v) ≡ owed e (heardBy r z b .state) (heardBy r z b .row) v
+pub read-owed : (e : Bool) (r : Rewriting) (z : List ℕ) (b : ℕ) (v : List ℕ) → r .part .kind ≡ 0
+    → owed e r z (b ∷ v) ≡ owed e (byteRead r z b .state) (byteRead r z b .row) v
 unfolding owed
-hear-owed e r z b v k =
-    ap (λ l. l ++ owed e (heardBy (settled r) z b .state) (heardBy (settled r) z b .row) v) (left-none r z k)
-    ∙ ap (λ k. owed e (k .state) (k .row) v) (heard-settled r z b k)
+read-owed e r z b v k =
+    ap (λ l. l ++ owed e (byteRead (settled r) z b .state) (byteRead (settled r) z b .row) v) (left-none r z k)
+    ∙ ap (λ k. owed e (k .state) (k .row) v) (read-settled r z b k)
 
 -- the input ends while nothing is being written: what is owed is what its end brings
 pub end-owed : (r : Rewriting) (z : List ℕ) → r .part .kind ≡ 0 → owed true r z [] ≡ owed false (endOf r) z []

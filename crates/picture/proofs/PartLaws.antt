@@ -1,22 +1,18 @@
 -- The text of a part, and as much of it as there is room for. Assumes nothing.
 use mathlib.Core.Path.{_≡_, refl, sym, ap, subst, _∙_}
-use mathlib.Core.Bool.{Bool, true, false}
 use mathlib.Core.List.{List, [], _∷_, _++_, append-nil}
-use Prim.Native.Nat.{ℕ, zero, suc, _+_, _-_, _*_, _^_, _≤_, _<_, min}
+use Prim.Native.Nat.{ℕ, zero, suc, _+_, _-_, _^_, _≤_, _<_, min}
 use native.Mathlib.Omega.{arith}
 use native.Mathlib.Nat.{zero-add}
 use native.Mathlib.Decide.{decLt}
-use lib.Dec.{eqb}
-use lib.ListN.{length, take, drop, length-take, length-drop, take-append-drop}
+use lib.ListN.{length, take, drop, length-drop}
 use lib.Seq.{paste, drop-drop, drop-length, length-take-le, take-at}
 use borrow.Rule.Slice.PartMut.{midOf, putMid, same-len-mid}
 use borrow.Author.Tests.{eq-eqb, ne-eqb}
-use Rattle.numbers.specs.Signal.{pick}
-use Rattle.pgm.specs.Text.{Wrote}
+use Rattle.text.specs.Text.{Wrote}
 use Rattle.picture.specs.Form.{formHead, rowBytes}
-use Rattle.picture.specs.Rewriting.{refusedLine}
-use Rattle.picture.specs.Machine.{partText, textOn, leftOn, settled, doneOn, owed, Writes, quiet}
-use Rattle.picture.specs.declared.parts.Part.{Part}
+use Rattle.text.specs.Refusal.{refusedLine}
+use Rattle.picture.specs.Machine.{partText, textOn, leftOn, settled, doneOn, owed, Writes}
 use Rattle.picture.specs.declared.rewriting.Rewriting.{Rewriting}
 use Rattle.picture.proofs.MachineLaws.{settle-owed, write-owed}
 

@@ -3,23 +3,26 @@
 use mathlib.Core.Path.{_≡_, refl, sym, ap, ap₂, subst, _∙_}
 use mathlib.Core.Bool.{Bool, true, false}
 use mathlib.Core.List.{List, [], _∷_, _++_, append-nil}
-use Prim.Native.Nat.{ℕ, zero, suc, _+_, _*_, _/_, _≤_, _<_}
+use Prim.Native.Nat.{ℕ, _+_, _*_, _/_, _≤_}
 use native.Mathlib.Omega.{arith}
 use native.Mathlib.Nat.{mul-div-cancel-left, mul-comm}
-use lib.Dec.{leb, eqb}
+use lib.Dec.{leb}
 use lib.ListN.{length, take}
-use lib.Seq.{take-at, length-take-le}
+use lib.Seq.{take-at}
 use borrow.Author.Tests.{le-leb, leb-true, eq-eqb}
 use Rattle.numbers.specs.Signal.{pick, both}
 use Rattle.numbers.proofs.Sweep.{both as split-both}
-use Rattle.wavelet.specs.Questions.{within}
+use Rattle.pgm.specs.Limits.{maxField, sizeFits}
+use Rattle.pgm.specs.Heights.{heightsTaken, tooLarge, bytesOf}
 use Rattle.pgm.specs.Header.{Read, found, short, wrong, andThen, is, one, gap, field, Size, side, sized, headerEnd, headerOf}
-use Rattle.pgm.specs.Samples.{wide, sampleSize, pairsOf, samplesOf, fitting, exceeds, heightsOf}
+use Rattle.pgm.specs.Samples.{wide, sampleSize, samplesOf, fitting, exceeds, heightsOf}
+use Rattle.pgm.proofs.LimitLaws.{up-to}
 use Rattle.pgm.proofs.RunReads.{samples-count}
-use Rattle.picture.specs.Form.{formHead, rowBytes}
-use Rattle.picture.specs.Rewriting.{sizeFits, sizeEnd, pictureOf, cells, heightsIn, tooLarge, bytesOf, refusedLine, wholeRows, rowsOf, bodyOf, rewritingOf, Accepted}
+use Rattle.picture.specs.Form.{formLargest, formHead, rowBytes}
+use Rattle.text.specs.Refusal.{refusedLine}
+use Rattle.picture.specs.Rewriting.{sizeEnd, pictureOf, heightsIn, wholeRows, rowsOf, bodyOf, rewritingOf, Accepted}
 use Rattle.picture.proofs.FormLaws.{row-length}
-use Rattle.picture.proofs.FormReads.{head-read, samples-back}
+use Rattle.picture.proofs.FormReads.{largest-wide, largest-holds, head-read, samples-back}
 
 -- ---- what is found was held to the limits
 abbrev Good : Read Size → Type 0
@@ -40,7 +43,8 @@ good-end : (w h m : ℕ) (s : List ℕ) → Good (headerEnd w h m s)
 unfolding headerEnd
 good-end w h m s z r = go (sized w h m) refl
   where
-    go : (b : Bool) → sized w h m ≡ b → pick b (found (record { width = w; height = h; largest = m }) s) wrong ≡ found z r → sized (z .width) (z .height) (z .largest) ≡ true
+    go : (b : Bool) → sized w h m ≡ b → pick b (found (record { width = w; height = h; largest = m }) s) wrong ≡ found z r
+        → sized (z .width) (z .height) (z .largest) ≡ true
     go true p e = let q : record { width = w; height = h; largest = m } ≡ z = cc in subst (λ y. sized (y .width) (y .height) (y .largest) ≡ true) q p
     go false p e = absurd (no-found e)
 
@@ -77,31 +81,24 @@ good-header s =
 -- the limits of an input that is accepted
 record Limits (z : Size) : Type 0 where
   pub fits : sizeFits (z .width) (z .height) ≡ true
-  pub wide : (1 ≤ z .width) × (z .width ≤ 1025)
-  pub high : (1 ≤ z .height) × (z .height ≤ 65535)
-  pub largest : z .largest ≤ 65535
-
-within-is : (m n : ℕ) → within 1 m n ≡ true → (1 ≤ n) × (n ≤ m)
-unfolding within
-within-is m n e = let p = split-both (leb 1 n) (leb n m) e in (leb-true 1 n (p .0), leb-true n m (p .1))
-
-side-is : (n : ℕ) → side n ≡ true → n ≤ 65535
-unfolding side
-side-is n e = leb-true n 65535 (split-both (leb 1 n) (leb n 65535) e .1)
+  pub wide : (1 ≤ z .width) × (z .width ≤ maxField)
+  pub high : (1 ≤ z .height) × (z .height ≤ maxField)
+  pub largest : z .largest ≤ maxField
 
 make : (y : Size) → sizeFits (y .width) (y .height) ≡ true → sized (y .width) (y .height) (y .largest) ≡ true → Limits y
-unfolding sizeFits sized
+unfolding sized side
 make y p q =
-    let s = split-both (within 1 1025 (y .width)) (within 1 65535 (y .height)) p in
     let u = split-both (side (y .width)) (both (side (y .height)) (side (y .largest))) q in
+    let v = split-both (side (y .height)) (side (y .largest)) (u .1) in
     record {
       fits = p;
-      wide = within-is 1025 (y .width) (s .0);
-      high = within-is 65535 (y .height) (s .1);
-      largest = side-is (y .largest) (split-both (side (y .height)) (side (y .largest)) (u .1) .1);
+      wide = up-to maxField (y .width) (u .0);
+      high = up-to maxField (y .height) (v .0);
+      largest = up-to maxField (y .largest) (v .1) .1;
     }
 
-end-limits : (y z : Size) (s r : List ℕ) (b : Bool) → sizeFits (y .width) (y .height) ≡ b → sized (y .width) (y .height) (y .largest) ≡ true → pick b (found y s) wrong ≡ found z r → Limits z
+end-limits : (y z : Size) (s r : List ℕ) (b : Bool) → sizeFits (y .width) (y .height) ≡ b → sized (y .width) (y .height) (y .largest) ≡ true
+    → pick b (found y s) wrong ≡ found z r → Limits z
 end-limits y z s r true p q e = let d : y ≡ z = cc in subst Limits d (make y p q)
 end-limits y z s r false p q e = absurd (no-found e)
 
@@ -164,14 +161,14 @@ module _ {s : List ℕ} {W H : ℕ} {hs : List ℕ} (a : Accepted s W H hs) wher
   fit = ap (exceeds (a .largest)) (sym all) ∙ a .within
 
   are : hs ≡ samplesOf (a .largest) (a .rest)
-  unfolding heightsIn heightsOf
+  unfolding heightsTaken heightsOf
   are = a .heights ∙ ap (take (W * H)) (all-fit (a .largest) (samplesOf (a .largest) (a .rest)) fit) ∙ all
 
   size : length hs ≡ W * H
   size = ap length are ∙ count
 
-  small : exceeds 65535 hs ≡ false
-  small = larger-fit (a .largest) 65535 hs (limits .largest) (ap (exceeds (a .largest)) are ∙ fit)
+  small : exceeds formLargest hs ≡ false
+  small = larger-fit (a .largest) formLargest hs (largest-holds (a .largest) (limits .largest)) (ap (exceeds (a .largest)) are ∙ fit)
 
   rows : wholeRows W hs ≡ hs
   unfolding wholeRows
@@ -182,7 +179,7 @@ module _ {s : List ℕ} {W H : ℕ} {hs : List ℕ} (a : Accepted s W H hs) wher
   body : bodyOf z (a .rest) ≡ formHead W H ++ rowBytes hs
   unfolding bodyOf rowsOf
   body =
-      rw (a .within, eq-eqb (length (a .rest)) (bytesOf z) (a .bytes))
+      rw (a .within, eq-eqb (length (a .rest)) (bytesOf (a .largest) (W * H)) (a .bytes))
       (ap (λ l. formHead W H ++ rowBytes (wholeRows W l)) (sym (a .heights)) ∙ ap (λ l. formHead W H ++ rowBytes l) rows)
 
   -- what is written is the fixed form
@@ -192,16 +189,20 @@ module _ {s : List ℕ} {W H : ℕ} {hs : List ℕ} (a : Accepted s W H hs) wher
 
   -- it is accepted, with the same size and heights
   form-accepted : Accepted (formHead W H ++ rowBytes hs) W H hs
-  unfolding pictureOf sizeEnd tooLarge heightsIn heightsOf sampleSize wide
+  unfolding pictureOf sizeEnd tooLarge heightsTaken heightsOf sampleSize
   form-accepted = record {
-    largest = 65535;
+    largest = formLargest;
     rest = rowBytes hs;
     head =
-        ap (λ x. andThen x sizeEnd) (head-read W H (rowBytes hs) (limits .wide .0) (omega (arith, limits .wide .1)) (limits .high .0) (limits .high .1))
+        ap (λ x. andThen x sizeEnd) (head-read W H (rowBytes hs) (limits .wide .0) (limits .wide .1) (limits .high .0) (limits .high .1))
         ∙ rw (limits .fits);
-    within = ap (λ l. exceeds 65535 (take (W * H) l)) (samples-back hs) ∙ ap (exceeds 65535) (take-whole (W * H) hs size) ∙ small;
-    bytes = row-length hs ∙ ap (λ n. 2 * n) size;
-    heights = sym (ap (λ l. take (W * H) (fitting 65535 l)) (samples-back hs) ∙ ap (take (W * H)) (all-fit 65535 hs small) ∙ take-whole (W * H) hs size);
+    within = ap (λ l. exceeds formLargest (take (W * H) l)) (samples-back hs) ∙ ap (exceeds formLargest) (take-whole (W * H) hs size) ∙ small;
+    bytes = rw largest-wide (row-length hs ∙ ap (λ n. 2 * n) size);
+    heights =
+        sym
+        (ap (λ l. take (W * H) (fitting formLargest l)) (samples-back hs)
+        ∙ ap (take (W * H)) (all-fit formLargest hs small)
+        ∙ take-whole (W * H) hs size);
   }
 
   pub rewritten : Accepted (rewritingOf s) W H hs
@@ -234,5 +235,6 @@ same-input a b =
     }
 
 -- equal bytes, equal size and heights
-pub equal-maps : {s t : List ℕ} {W H : ℕ} {hs : List ℕ} {W′ H′ : ℕ} {ks : List ℕ} → Accepted s W H hs → Accepted t W′ H′ ks → rewritingOf s ≡ rewritingOf t → Same W H hs W′ H′ ks
+pub equal-maps : {s t : List ℕ} {W H : ℕ} {hs : List ℕ} {W′ H′ : ℕ} {ks : List ℕ} → Accepted s W H hs → Accepted t W′ H′ ks
+    → rewritingOf s ≡ rewritingOf t → Same W H hs W′ H′ ks
 equal-maps {W′ = W′} {H′ = H′} {ks = ks} a b e = same-input (rewritten a) (subst (λ t. Accepted t W′ H′ ks) (sym e) (rewritten b))

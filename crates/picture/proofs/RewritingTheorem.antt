@@ -8,57 +8,63 @@ use native.Mathlib.Omega.{arith}
 use native.Mathlib.Decide.{decLt, ℕ-discrete}
 use native.Mathlib.Numerals.{sub-one}
 use native.Mathlib.Nat.{mul-add-div, mul-one, zero-mul, suc-mul, add-comm, div-eq-of-lt}
-use lib.Dec.{leb, ltb}
+use lib.Dec.{leb}
 use lib.ListN.{length, take, drop, set, length-set, length-append}
 use lib.Seq.{take-append-add, length-take-le, set-split}
-use borrow.Author.Tests.{lt-ltb, le-ltb, eq-eqb, ne-eqb, leb-true}
-use Rattle.numbers.specs.Signal.{pick, both}
-use Rattle.wavelet.specs.Questions.{within}
+use borrow.Author.Tests.{lt-ltb, le-ltb, eq-eqb, ne-eqb}
+use Rattle.numbers.specs.Signal.{pick}
 use Rattle.pgm.specs.Header.{Read, found, short, wrong, andThen, Size, headerOf}
 use Rattle.pgm.specs.Steps.{begun, stepOf, feed, stepped, readBy}
 use Rattle.pgm.specs.Samples.{wide, sampleSize, pairsOf, samplesOf, fitting, exceeds, heightsOf, sampled, sampleOf}
 use Rattle.pgm.specs.declared.header.Header.{Header}
 use Rattle.pgm.specs.declared.header.Next.{Next}
 use Rattle.pgm.specs.declared.header.Next.the-variants as next
+use Rattle.pgm.specs.Limits.{maxPictureWidth, sizeFits}
+use Rattle.pgm.specs.Heights.{heightsTaken, tooLarge, refusalIn}
+use Rattle.pgm.proofs.LimitLaws.{size-fits}
 use Rattle.pgm.proofs.HeaderReads.{reads}
+use Rattle.pgm.proofs.HeightLaws.{Leads, leads-two, leads-one, more-lt, more-gt, no-sample, some-byte}
+use Rattle.pgm.proofs.HeightLaws.{too-large-says, short-says, surplus-says, whole-says}
 use Rattle.picture.specs.Form.{formHead, rowBytes}
-use Rattle.picture.specs.Rewriting.{sizeFits, sizeEnd, pictureOf, cells, heightsIn, refusedLine, wholeRows, rowsOf, tooLarge, bodyOf, rewritingOf}
-use Rattle.picture.specs.Rewriting.{answerLine, refusalIn, bodyDue, dueOf}
-use Rattle.picture.specs.Hearing.{phased, nay, begins, shapeHeard, nextHeard, heightHeard, hears, endHeard}
-use Rattle.picture.specs.Machine.{partOf, noPart, partText, rewriting, started, leftOn, settled, rowPart, heightKept, heardTo, heardBy}
+use Rattle.text.specs.Refusal.{refusedLine, answerLine}
+use Rattle.picture.specs.Rewriting.{sizeEnd, pictureOf, cells, heightsIn, wholeRows, rowsOf, bodyOf, rewritingOf, bodyDue, dueOf}
+use Rattle.picture.specs.InputSteps.{phased, refuse15, begins, shapeRead, nextRead, heightRead, readByte, inputEnded}
+use Rattle.picture.specs.Machine.{partOf, noPart, partText, rewriting, started, leftOn, settled, rowPart, heightKept, stepTo, byteRead}
 use Rattle.picture.specs.Machine.{endTo, endOf, owed, Ran, none, call}
 use Rattle.picture.specs.declared.input.Input.{Input}
-use Rattle.picture.specs.declared.input.Heard.{Heard}
-use Rattle.picture.specs.declared.input.Heard.the-variants as heard
+use Rattle.picture.specs.declared.input.Step.{Step}
+use Rattle.picture.specs.declared.input.Step.the-variants as steps
 use Rattle.picture.specs.declared.input.Ended.{Ended}
 use Rattle.picture.specs.declared.input.Ended.the-variants as ended
 use Rattle.picture.specs.declared.parts.Part.{Part}
 use Rattle.picture.specs.declared.rewriting.Rewriting.{Rewriting}
-use Rattle.picture.proofs.InputCases.{header-case, height-none, hears-0, hears-1, hears-on, end-early, end-over, end-few, end-whole}
-use Rattle.picture.proofs.MachineLaws.{kept-some, left-none, settle-owed, hear-owed, ends-as, end-owed, idle-owed}
+use Rattle.picture.proofs.InputCases.{header-case, height-none, phase-0, phase-1, phase-on, end-early, end-over, end-few, end-whole}
+use Rattle.picture.proofs.MachineLaws.{kept-some, left-none, settle-owed, read-owed, ends-as, end-owed, idle-owed}
 
 abbrev idle : Input → ℕ → Rewriting
 idle i f = rewriting i f noPart
 
--- a byte heard as y
-heard-as : (e : Bool) (i : Input) (f : ℕ) (z : List ℕ) (b : ℕ) (u : List ℕ) (y : Heard) → hears i (length z) b ≡ y
-    → owed e (idle i f) z (b ∷ u) ≡ owed e (heardTo (idle i f) z y .state) (heardTo (idle i f) z y .row) u
-unfolding heardBy
-heard-as e i f z b u y h = hear-owed e (idle i f) z b u refl ∙ ap (λ y. owed e (heardTo (idle i f) z y .state) (heardTo (idle i f) z y .row) u) h
+-- a byte read as y
+read-as : (e : Bool) (i : Input) (f : ℕ) (z : List ℕ) (b : ℕ) (u : List ℕ) (y : Step) → readByte i (length z) b ≡ y
+    → owed e (idle i f) z (b ∷ u) ≡ owed e (stepTo (idle i f) z y .state) (stepTo (idle i f) z y .row) u
+unfolding byteRead
+read-as e i f z b u y h = read-owed e (idle i f) z b u refl ∙ ap (λ y. owed e (stepTo (idle i f) z y .state) (stepTo (idle i f) z y .row) u) h
 
--- the end of the input, heard as y
-ends-to : (i : Input) (f : ℕ) (z : List ℕ) (y : Ended) → y ≡ endHeard i → owed true (idle i f) z [] ≡ leftOn (endTo (idle i f) y) z
+-- the end of the input, read as y
+ends-to : (i : Input) (f : ℕ) (z : List ℕ) (y : Ended) → y ≡ inputEnded i → owed true (idle i f) z [] ≡ leftOn (endTo (idle i f) y) z
 unfolding owed
 ends-to i f z y h =
     end-owed (idle i f) z refl
     ∙ append-nil (leftOn (endOf (idle i f)) z)
     ∙ ap (λ r. leftOn r z) (sym (ends-as (idle i f) y refl h))
 
--- ---- after a refusal nothing is heard
-deaf : (e : Bool) (i : Input) (f : ℕ) (z u : List ℕ) → i .phase ≡ 2 → owed e (idle i f) z u ≡ []
-deaf true i f z [] h = ends-to i f z (ended.Over (phased 2 i)) (end-over i (λ d. omega arith) (λ d. omega arith)) ∙ left-none (idle (phased 2 i) f) z refl
-deaf false i f z [] h = idle-owed (idle i f) z refl
-deaf e i f z (b ∷ u) h = heard-as e i f z b u (heard.More i) (sym (hears-on i (length z) b (λ d. omega arith) (λ d. omega arith))) ∙ deaf e i f z u h
+-- ---- after a refusal nothing is read
+after-refusal : (e : Bool) (i : Input) (f : ℕ) (z u : List ℕ) → i .phase ≡ 2 → owed e (idle i f) z u ≡ []
+after-refusal true i f z [] h =
+    ends-to i f z (ended.Over (phased 2 i)) (end-over i (λ d. omega arith) (λ d. omega arith)) ∙ left-none (idle (phased 2 i) f) z refl
+after-refusal false i f z [] h = idle-owed (idle i f) z refl
+after-refusal e i f z (b ∷ u) h =
+    read-as e i f z b u (steps.More i) (sym (phase-on i (length z) b (λ d. omega arith) (λ d. omega arith))) ∙ after-refusal e i f z u h
 
 refused-left : (i : Input) (f q : ℕ) (z : List ℕ) → leftOn (rewriting i f (partOf 3 q)) z ≡ refusedLine q
 unfolding leftOn partText
@@ -71,7 +77,7 @@ refused-settled i f q = refl
 refused : (e : Bool) (i : Input) (f q : ℕ) (z u : List ℕ) → i .phase ≡ 2 → owed e (rewriting i f (partOf 3 q)) z u ≡ refusedLine q
 refused e i f q z u h =
     settle-owed e (rewriting i f (partOf 3 q)) z u
-    ∙ ap₂ _++_ (refused-left i f q z) (ap (λ r. owed e r z u) (refused-settled i f q) ∙ deaf e i f z u h)
+    ∙ ap₂ _++_ (refused-left i f q z) (ap (λ r. owed e r z u) (refused-settled i f q) ∙ after-refusal e i f z u h)
     ∙ append-nil (refusedLine q)
 
 -- ---- whole rows
@@ -101,96 +107,7 @@ row-append (h ∷ g) l = ap (λ k. (h / 256) ∷ (h % 256) ∷ k) (row-append g 
 
 -- ---- the heights: what is due of n of them, g being those of the begun row that stand already
 abbrev heightsDue : Bool → ℕ → List ℕ → ℕ → ℕ → List ℕ → List ℕ
-heightsDue e W g m n r = rowBytes (wholeRows W (g ++ take n (heightsOf m r))) ++ answerLine (refusalIn e m n r)
-
--- one sample more, of two bytes (w) or one
-more-lt : (w : Bool) (n k l : ℕ) → l ≡ pick w 2 1 + k → ltb (pick w 2 1 * suc n) l ≡ ltb (pick w 2 1 * n) k
-more-lt true n k l e =
-    elim (decLt (2 * n) k) [
-      | yes p ↦ lt-ltb (2 * suc n) l (omega arith) ∙ sym (lt-ltb (2 * n) k p)
-      | no d ↦ le-ltb (2 * suc n) l (omega arith) ∙ sym (le-ltb (2 * n) k (omega arith))
-    ]
-more-lt false n k l e =
-    elim (decLt (1 * n) k) [
-      | yes p ↦ lt-ltb (1 * suc n) l (omega arith) ∙ sym (lt-ltb (1 * n) k p)
-      | no d ↦ le-ltb (1 * suc n) l (omega arith) ∙ sym (le-ltb (1 * n) k (omega arith))
-    ]
-
-more-gt : (w : Bool) (n k l : ℕ) → l ≡ pick w 2 1 + k → ltb l (pick w 2 1 * suc n) ≡ ltb k (pick w 2 1 * n)
-more-gt true n k l e =
-    elim (decLt k (2 * n)) [
-      | yes p ↦ lt-ltb l (2 * suc n) (omega arith) ∙ sym (lt-ltb k (2 * n) p)
-      | no d ↦ le-ltb l (2 * suc n) (omega arith) ∙ sym (le-ltb k (2 * n) (omega arith))
-    ]
-more-gt false n k l e =
-    elim (decLt k (1 * n)) [
-      | yes p ↦ lt-ltb l (1 * suc n) (omega arith) ∙ sym (lt-ltb k (1 * n) p)
-      | no d ↦ le-ltb l (1 * suc n) (omega arith) ∙ sym (le-ltb k (1 * n) (omega arith))
-    ]
-
--- the bytes s are a sample v and then r
-record Leads (m v : ℕ) (s r : List ℕ) : Type 0 where
-  pub samples : samplesOf m s ≡ v ∷ samplesOf m r
-  pub bytes : length s ≡ sampleSize m + length r
-
-leads-two : (m a b : ℕ) (r : List ℕ) → wide m ≡ true → Leads m (256 * a + b) (a ∷ b ∷ r) r
-unfolding samplesOf pairsOf sampleSize
-leads-two m a b r e = record { samples = rw e; bytes = rw e (omega arith) }
-
-leads-one : (m b : ℕ) (r : List ℕ) → wide m ≡ false → Leads m b (b ∷ r) r
-unfolding samplesOf sampleSize
-leads-one m b r e = record { samples = rw e; bytes = rw e (omega arith) }
-
-no-sample : (m : ℕ) → samplesOf m [] ≡ []
-unfolding samplesOf pairsOf
-no-sample m = go (wide m)
-  where
-    go : (w : Bool) → pick {A = List ℕ} w [] [] ≡ []
-    go true = refl
-    go false = refl
-
-some-byte : (m : ℕ) → 0 < sampleSize m
-unfolding sampleSize
-some-byte m = go (wide m)
-  where
-    go : (w : Bool) → 0 < pick w 2 1
-    go true = omega arith
-    go false = omega arith
-
-bytes-none : (m : ℕ) → sampleSize m * 0 ≡ 0
-bytes-none m = omega arith
-
--- ---- the refusal that the bytes bring
-module _ (e : Bool) (m : ℕ) where
-  too-large-says : (n v : ℕ) (s r : List ℕ) → Leads m v s r → leb v m ≡ false → (take (suc n) (heightsOf m s) ≡ []) × (refusalIn e m (suc n) s ≡ 16)
-  unfolding heightsOf fitting refusalIn exceeds
-  too-large-says n v s r l h = (rw (l .samples, h), rw (l .samples, h))
-
-  -- no whole sample, and fewer bytes than the next has
-  short-says : (n : ℕ) (s : List ℕ) → samplesOf m s ≡ [] → length s < sampleSize m
-      → (take (suc n) (heightsOf m s) ≡ []) × (refusalIn e m (suc n) s ≡ pick e 15 0)
-  unfolding heightsOf fitting refusalIn exceeds sampleSize
-  short-says n s h k = (rw h, rw (h, below (wide m) k .0, below (wide m) k .1) (ends e))
-    where
-      below : (w : Bool) → length s < pick w 2 1 → (ltb (pick w 2 1 * suc n) (length s) ≡ false) × (ltb (length s) (pick w 2 1 * suc n) ≡ true)
-      below true h = (le-ltb (2 * suc n) (length s) (omega arith), lt-ltb (length s) (2 * suc n) (omega arith))
-      below false h = (le-ltb (1 * suc n) (length s) (omega arith), lt-ltb (length s) (1 * suc n) (omega arith))
-
-      ends : (e : Bool) → _≡_ {A = ℕ} (pick (both e true) 15 0) (pick e 15 0)
-      ends true = refl
-      ends false = refl
-
-  surplus-says : (b : ℕ) (r : List ℕ) → refusalIn e m 0 (b ∷ r) ≡ 15
-  unfolding refusalIn exceeds
-  surplus-says b r = rw (bytes-none m, lt-ltb 0 (suc (length r)) (omega arith))
-
-  whole-says : refusalIn e m 0 [] ≡ 0
-  unfolding refusalIn exceeds
-  whole-says = rw (bytes-none m) (over e)
-    where
-      over : (e : Bool) → _≡_ {A = ℕ} (pick (both e false) 15 0) 0
-      over true = refl
-      over false = refl
+heightsDue e W g m n r = rowBytes (wholeRows W (g ++ heightsTaken m n r)) ++ answerLine (refusalIn e m n r)
 
 no-bytes : (q : ℕ) → rowBytes [] ++ answerLine q ≡ answerLine q
 unfolding rowBytes
@@ -199,15 +116,15 @@ no-bytes q = refl
 -- ---- and what is due
 module _ (e : Bool) (W : ℕ) (some : 0 < W) (g : List ℕ) (few : length g < W) (m : ℕ) where
   -- no height more
-  no-more : (n : ℕ) (s : List ℕ) (q : ℕ) → take n (heightsOf m s) ≡ [] → refusalIn e m n s ≡ q → heightsDue e W g m n s ≡ answerLine q
+  no-more : (n : ℕ) (s : List ℕ) (q : ℕ) → heightsTaken m n s ≡ [] → refusalIn e m n s ≡ q → heightsDue e W g m n s ≡ answerLine q
   no-more n s q h k =
       ap₂ (λ l a. rowBytes (wholeRows W (g ++ l)) ++ answerLine a) h k
       ∙ ap (λ l. rowBytes l ++ answerLine q) (ap (wholeRows W) (append-nil g) ∙ none-whole W some g few)
       ∙ no-bytes q
 
   one-more : (n v : ℕ) (s r : List ℕ) → Leads m v s r → leb v m ≡ true
-      → heightsDue e W g m (suc n) s ≡ rowBytes (wholeRows W (g ++ (v ∷ take n (heightsOf m r)))) ++ answerLine (refusalIn e m n r)
-  unfolding refusalIn heightsOf fitting exceeds sampleSize
+      → heightsDue e W g m (suc n) s ≡ rowBytes (wholeRows W (g ++ (v ∷ heightsTaken m n r))) ++ answerLine (refusalIn e m n r)
+  unfolding refusalIn tooLarge heightsTaken heightsOf fitting exceeds sampleSize
   one-more n v s r l h = rw (l .samples, h, more-lt (wide m) n (length r) (length s) (l .bytes), more-gt (wide m) n (length r) (length s) (l .bytes))
 
   too-large : (n v : ℕ) (s r : List ℕ) → Leads m v s r → leb v m ≡ false → heightsDue e W g m (suc n) s ≡ refusedLine 16
@@ -224,9 +141,11 @@ module _ (e : Bool) (W : ℕ) (some : 0 < W) (g : List ℕ) (few : length g < W)
   half-short n a h = short-of n (a ∷ []) (rw h refl) (rw h (omega arith))
 
   surplus : (b : ℕ) (r : List ℕ) → heightsDue e W g m 0 (b ∷ r) ≡ refusedLine 15
+  unfolding heightsTaken
   surplus b r = no-more 0 (b ∷ r) 15 refl (surplus-says e m b r)
 
   all-there : heightsDue e W g m 0 [] ≡ []
+  unfolding heightsTaken
   all-there = no-more 0 [] 0 refl (whole-says e m)
 
 -- ---- and byte by byte
@@ -234,21 +153,21 @@ abbrev at : ℕ → Header → ℕ → ℕ → ℕ → ℕ → Bool → ℕ → 
 at p h W H n m half v = record { phase = p; header = h; width = W; height = H; left = n; samples = record { largest = m; half = half; high = v } }
 
 module _ (h : Header) (W H n m room : ℕ) where
-  first-byte : (v b : ℕ) → wide m ≡ true → hears (at 1 h W H (suc n) m false v) room b ≡ heard.More (at 1 h W H (suc n) m true b)
-  unfolding hears heightHeard sampleOf
+  first-byte : (v b : ℕ) → wide m ≡ true → readByte (at 1 h W H (suc n) m false v) room b ≡ steps.More (at 1 h W H (suc n) m true b)
+  unfolding readByte heightRead sampleOf
   first-byte v b e = rw (ne-eqb (suc n) 0 (λ z. omega arith), e)
 
   -- the last byte of a sample u
   abbrev Lasts : Bool → ℕ → ℕ → ℕ → Type 0
-  Lasts x v b u = (leb u m ≡ true → hears (at 1 h W H (suc n) m x v) room b ≡ heard.Height (at 1 h W H n m false 0) u)
-      × (leb u m ≡ false → hears (at 1 h W H (suc n) m x v) room b ≡ heard.Refused (at 2 h W H (suc n) m x v) 16)
+  Lasts x v b u = (leb u m ≡ true → readByte (at 1 h W H (suc n) m x v) room b ≡ steps.Height (at 1 h W H n m false 0) u)
+      × (leb u m ≡ false → readByte (at 1 h W H (suc n) m x v) room b ≡ steps.Refused (at 2 h W H (suc n) m x v) 16)
 
   second-byte : (v b : ℕ) → wide m ≡ true → Lasts true v b (256 * v + b)
-  unfolding hears heightHeard sampleOf sampled
+  unfolding readByte heightRead sampleOf sampled
   second-byte v b e = (λ f. rw (ne-eqb (suc n) 0 (λ z. omega arith), e, f, sub-one (suc n)), λ f. rw (ne-eqb (suc n) 0 (λ z. omega arith), e, f))
 
   lone-byte : (x : Bool) (v b : ℕ) → wide m ≡ false → Lasts x v b b
-  unfolding hears heightHeard sampleOf sampled
+  unfolding readByte heightRead sampleOf sampled
   lone-byte x v b e = (λ f. rw (ne-eqb (suc n) 0 (λ z. omega arith), e, f, sub-one (suc n)), λ f. rw (ne-eqb (suc n) 0 (λ z. omega arith), e, f))
 
 -- the end, with heights still to come
@@ -268,7 +187,7 @@ enough false h W H m x v f z = idle-owed (idle (at 1 h W H 0 m x v) f) z refl
 beyond : (e : Bool) (h : Header) (W H m : ℕ) (x : Bool) (v f b : ℕ) (z u : List ℕ) → owed e (idle (at 1 h W H 0 m x v) f) z (b ∷ u) ≡ refusedLine 15
 beyond e h W H m x v f b z u =
     let i : Input = at 1 h W H 0 m x v in
-    heard-as e i f z b u (nay i) (sym (height-none i b refl ∙ hears-1 i (length z) b (λ d. omega arith) refl)) ∙ refused e (phased 2 i) f 15 z u refl
+    read-as e i f z b u (refuse15 i) (sym (height-none i b refl ∙ phase-1 i (length z) b (λ d. omega arith) refl)) ∙ refused e (phased 2 i) f 15 z u refl
 
 -- ---- a height goes into the row
 set-taken : (z : List ℕ) (f u : ℕ) (l : List ℕ) → f < length z → take (f + 1) (set z f u) ++ l ≡ take f z ++ (u ∷ l)
@@ -307,7 +226,7 @@ module _ (e : Bool) (h : Header) (W H : ℕ) (some : 0 < W) (m n f u : ℕ) (z r
   y = set z f u
 
   abbrev hs : List ℕ
-  hs = take n (heightsOf m r)
+  hs = heightsTaken m n r
 
   abbrev says : List ℕ
   says = answerLine (refusalIn e m n r)
@@ -353,13 +272,14 @@ module _ (e : Bool) (h : Header) (W H : ℕ) (some : 0 < W) (m : ℕ) where
 
   -- after the last byte of a sample
   lasts : (n f : ℕ) (z : List ℕ) (x : Bool) (v b u : ℕ) (s r : List ℕ) (t : Bool) → leb u m ≡ t
-      → Lasts h W H n m (length z) x v b u → Leads m u s r → f < W → W ≤ length z → Owes e h W H m n r → owed e (idle (at 1 h W H (suc n) m x v) f) z (b ∷ r) ≡ heightsDue e W (take f z) m (suc n) s
+      → Lasts h W H n m (length z) x v b u → Leads m u s r → f < W → W ≤ length z → Owes e h W H m n r
+      → owed e (idle (at 1 h W H (suc n) m x v) f) z (b ∷ r) ≡ heightsDue e W (take f z) m (suc n) s
   lasts n f z x v b u s r true k d l a c g =
-      heard-as e (at 1 h W H (suc n) m x v) f z b r (heard.Height (at 1 h W H n m false 0) u) (d .0 k)
+      read-as e (at 1 h W H (suc n) m x v) f z b r (steps.Height (at 1 h W H n m false 0) u) (d .0 k)
       ∙ put-height e h W H some m n f u z r a c g
       ∙ sym (one-more e W some (take f z) (row-few f z a c) m n u s r l k)
   lasts n f z x v b u s r false k d l a c g =
-      heard-as e (at 1 h W H (suc n) m x v) f z b r (heard.Refused (at 2 h W H (suc n) m x v) 16) (d .1 k)
+      read-as e (at 1 h W H (suc n) m x v) f z b r (steps.Refused (at 2 h W H (suc n) m x v) 16) (d .1 k)
       ∙ refused e (at 2 h W H (suc n) m x v) f 16 z r refl
       ∙ sym (too-large e W some (take f z) (row-few f z a c) m n u s r l k)
 
@@ -368,11 +288,11 @@ module _ (e : Bool) (h : Header) (W H : ℕ) (some : 0 < W) (m : ℕ) where
   pairs w [] (suc n) v f z a c = too-few e h W H n m false v f z ∙ sym (none-short e W some (take f z) (row-few f z a c) m n)
   pairs w (b ∷ r) zero v f z a c = beyond e h W H m false v f b z r ∙ sym (surplus e W some (take f z) (row-few f z a c) m b r)
   pairs w (b ∷ []) (suc n) v f z a c =
-      heard-as e (at 1 h W H (suc n) m false v) f z b [] (heard.More (at 1 h W H (suc n) m true b)) (first-byte h W H n m (length z) v b w)
+      read-as e (at 1 h W H (suc n) m false v) f z b [] (steps.More (at 1 h W H (suc n) m true b)) (first-byte h W H n m (length z) v b w)
       ∙ too-few e h W H n m true b f z
       ∙ sym (half-short e W some (take f z) (row-few f z a c) m n b w)
   pairs w (b ∷ k ∷ r) (suc n) v f z a c =
-      heard-as e (at 1 h W H (suc n) m false v) f z b (k ∷ r) (heard.More (at 1 h W H (suc n) m true b)) (first-byte h W H n m (length z) v b w)
+      read-as e (at 1 h W H (suc n) m false v) f z b (k ∷ r) (steps.More (at 1 h W H (suc n) m true b)) (first-byte h W H n m (length z) v b w)
       ∙ lasts n f z true b k (256 * b + k) (b ∷ k ∷ r) r (leb (256 * b + k) m) refl (second-byte h W H n m (length z) b k w) (leads-two m b k r w)
       a c (pairs w r n)
 
@@ -391,16 +311,6 @@ module _ (e : Bool) (h : Header) (W H : ℕ) (some : 0 < W) (m : ℕ) where
       go false k = singles k r n
 
 -- ---- the header
-both-true : (a b : Bool) → both a b ≡ true → (a ≡ true) × (b ≡ true)
-both-true true b h = (refl, h)
-both-true false b h = let z : _≡_ {A = ℕ} 0 1 = cc in absurd (omega arith)
-
-fits : (w h : ℕ) → sizeFits w h ≡ true → (0 < w) × (w ≤ 1025)
-unfolding sizeFits within
-fits w h k =
-    let d = both-true (leb 1 w) (leb w 1025) (both-true (both (leb 1 w) (leb w 1025)) (both (leb 1 h) (leb h 65535)) k .0) in
-    (omega (arith, leb-true 1 w (d .0)), leb-true w 1025 (d .1))
-
 head-left : (i : Input) (f : ℕ) (z : List ℕ) → leftOn (rewriting i f (partOf 1 0)) z ≡ formHead (i .width) (i .height)
 unfolding leftOn partText
 head-left i f z = refl
@@ -418,29 +328,31 @@ pictureDue e wrong = refusedLine 15
 abbrev early : Header → Input
 early k = at 0 k 0 0 0 0 false 0
 
-module _ (e : Bool) (z : List ℕ) (room : 1025 ≤ length z) where
+module _ (e : Bool) (z : List ℕ) (room : maxPictureWidth ≤ length z) where
   -- what is owed of the bytes s after a byte of the header
-  abbrev after : Header → List ℕ → Heard → List ℕ
-  after k s y = owed e (heardTo (idle (early k) 0) z y .state) (heardTo (idle (early k) 0) z y .row) s
+  abbrev after : Header → List ℕ → Step → List ℕ
+  after k s y = owed e (stepTo (idle (early k) 0) z y .state) (stepTo (idle (early k) 0) z y .row) s
 
-  begun-due : (k : Header) (w h m : ℕ) (r : List ℕ) → 0 < w → w ≤ 1025
-      → after k r (heard.Begun (begins (early k) w h m)) ≡ bodyDue e (record { width = w; height = h; largest = m }) r
-  unfolding bodyDue rowsOf heightsIn
+  begun-due : (k : Header) (w h m : ℕ) (r : List ℕ) → 0 < w → w ≤ maxPictureWidth
+      → after k r (steps.Begun (begins (early k) w h m)) ≡ bodyDue e (record { width = w; height = h; largest = m }) r
+  unfolding bodyDue rowsOf
   begun-due k w h m r a b =
       let i : Input = begins (early k) w h m in
-      let hs : List ℕ = take (w * h) (heightsOf m r) in
+      let hs : List ℕ = heightsTaken m (w * h) r in
       settle-owed e (rewriting i 0 (partOf 1 0)) z r
       ∙ ap₂ _++_ (head-left i 0 z) (ap (λ s. owed e s z r) (head-settled i 0) ∙ heights e k w h a m r (w * h) 0 0 z a (omega arith))
       ∙ sym (append-assoc (formHead w h) (rowBytes (wholeRows w hs)) (answerLine (refusalIn e m (w * h) r)))
 
   shape : (k : Header) (w h m : ℕ) (r : List ℕ) (t : Bool) → sizeFits w h ≡ t
-      → after k r (shapeHeard (early k) (length z) w h m) ≡ pictureDue e (sizeEnd (record { width = w; height = h; largest = m }) r)
-  unfolding shapeHeard sizeEnd
-  shape k w h m r true d = rw (d, le-ltb (length z) w (omega (arith, fits w h d .1))) (begun-due k w h m r (fits w h d .0) (fits w h d .1))
+      → after k r (shapeRead (early k) (length z) w h m) ≡ pictureDue e (sizeEnd (record { width = w; height = h; largest = m }) r)
+  unfolding shapeRead sizeEnd
+  shape k w h m r true d =
+      let f = size-fits w h d .columns in
+      rw (d, le-ltb (length z) w (omega arith)) (begun-due k w h m r (f .0) (f .1))
   shape k w h m r false d = rw d (refused e (phased 2 (early k)) 0 15 z r refl)
 
   step-due : (k : Header) (x : Next) (s : List ℕ) → ((k : Header) → owed e (idle (early k) 0) z s ≡ pictureDue e (andThen (readBy (feed k s)) sizeEnd))
-      → after k s (nextHeard (early k) (length z) x) ≡ pictureDue e (andThen (readBy (stepped (λ y. feed y s) s x)) sizeEnd)
+      → after k s (nextRead (early k) (length z) x) ≡ pictureDue e (andThen (readBy (stepped (λ y. feed y s) s x)) sizeEnd)
   step-due k (next.More y) s g = g y
   step-due k (next.Done w h m) s g = shape k w h m s (sizeFits w h) refl
   step-due k next.Refused s g = refused e (phased 2 (early k)) 0 15 z s refl
@@ -453,8 +365,8 @@ module _ (e : Bool) (z : List ℕ) (room : 1025 ≤ length z) where
   unfolding feed
   header [] k = ends-early e k
   header (b ∷ s) k =
-      let y : Heard = nextHeard (early k) (length z) (stepOf k b) in
-      heard-as e (early k) 0 z b s y (sym (header-case (early k) (length z) b (stepOf k b) refl ∙ hears-0 (early k) (length z) b refl))
+      let y : Step = nextRead (early k) (length z) (stepOf k b) in
+      read-as e (early k) 0 z b s y (sym (header-case (early k) (length z) b (stepOf k b) refl ∙ phase-0 (early k) (length z) b refl))
       ∙ step-due k (stepOf k b) s (header s)
 
 as-due : (e : Bool) (s : List ℕ) → pictureDue e (andThen (headerOf s) sizeEnd) ≡ dueOf e s
@@ -467,12 +379,12 @@ as-due e s = same (andThen (headerOf s) sizeEnd)
     same wrong = refl
 
 -- what a rewriting owes of the bytes s from its start; e: the input ends with them
-pub owed-due : (e : Bool) (z s : List ℕ) → 1025 ≤ length z → owed e started z s ≡ dueOf e s
+pub owed-due : (e : Bool) (z s : List ℕ) → maxPictureWidth ≤ length z → owed e started z s ≡ dueOf e s
 owed-due e z s room = header e z room s (begun 0) ∙ ap (λ x. pictureDue e (andThen x sizeEnd)) (reads s) ∙ as-due e s
 
 -- ---- an input that has ended
-body-whole : (z : Size) (r : List ℕ) (t : Bool) → exceeds (z .largest) (take (cells z) (samplesOf (z .largest) r)) ≡ t → bodyDue true z r ≡ bodyOf z r
-unfolding bodyDue bodyOf refusalIn tooLarge
+body-whole : (z : Size) (r : List ℕ) (t : Bool) → tooLarge (z .largest) (cells z) r ≡ t → bodyDue true z r ≡ bodyOf z r
+unfolding bodyDue bodyOf refusalIn
 body-whole z r true h = rw h
 body-whole z r false h =
     let n : ℕ = sampleSize (z .largest) * cells z in
@@ -495,11 +407,11 @@ due-whole s = same (pictureOf s)
         → _≡_ {A = List ℕ}
         (elim x [ found z r ↦ bodyDue true z r | short ↦ refusedLine 15 | wrong ↦ refusedLine 15 ])
         (elim x [ found z r ↦ bodyOf z r | short ↦ refusedLine 15 | wrong ↦ refusedLine 15 ])
-    same (found z r) = body-whole z r (exceeds (z .largest) (take (cells z) (samplesOf (z .largest) r))) refl
+    same (found z r) = body-whole z r (tooLarge (z .largest) (cells z) r) refl
     same short = refl
     same wrong = refl
 
-pub owed-whole : (z s : List ℕ) → 1025 ≤ length z → owed true started z s ≡ rewritingOf s
+pub owed-whole : (z s : List ℕ) → maxPictureWidth ≤ length z → owed true started z s ≡ rewritingOf s
 owed-whole z s room = owed-due true z s room ∙ due-whole s
 
 -- ---- in pieces
@@ -512,11 +424,11 @@ ran-owed {r} {r′} {z} {z′} (call {s = s} {t = t} w f) e v =
     ∙ sym (append-assoc (w .text) t (owed e r′ z′ v))
 
 -- whatever the pieces: what has been written and what is still owed is what is due of the bytes read
-pub pieces-due : {r : Rewriting} {z z′ s t : List ℕ} (e : Bool) → 1025 ≤ length z → Ran started z s t r z′ → t ++ owed e r z′ [] ≡ dueOf e s
+pub pieces-due : {r : Rewriting} {z z′ s t : List ℕ} (e : Bool) → maxPictureWidth ≤ length z → Ran started z s t r z′ → t ++ owed e r z′ [] ≡ dueOf e s
 pieces-due {z = z} {s = s} e room f = sym (ran-owed f e []) ∙ ap (owed e started z) (append-nil s) ∙ owed-due e z s room
 
 -- and once all is written, before the input's end and after it, the text is the definition's
-pub pieces-whole : {r r′ : Rewriting} {z z′ z″ s t v t′ : List ℕ} → 1025 ≤ length z → Ran started z s t r z′ → r .part .kind ≡ 0
+pub pieces-whole : {r r′ : Rewriting} {z z′ z″ s t v t′ : List ℕ} → maxPictureWidth ≤ length z → Ran started z s t r z′ → r .part .kind ≡ 0
     → Ran (endOf r) z′ v t′ r′ z″ → v ≡ [] → r′ .part .kind ≡ 0 → t ++ t′ ≡ rewritingOf s
 pieces-whole {r} {r′} {z} {z′} {z″} {s} {t} {v} {t′} room f k g n d =
     let last : owed false (endOf r) z′ [] ≡ t′ =

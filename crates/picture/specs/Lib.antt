@@ -1,4 +1,4 @@
 pub mod Form
 pub mod Rewriting
-pub mod Hearing
+pub mod InputSteps
 pub mod Machine

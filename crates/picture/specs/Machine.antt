@@ -7,13 +7,13 @@ use Prim.Native.Nat.{ℕ, _+_, _*_, _≤_, _<_}
 use lib.Dec.{leb, eqb}
 use lib.ListN.{length, take, drop, set}
 use Rattle.numbers.specs.Signal.{pick}
-use Rattle.pgm.specs.Text.{Wrote}
+use Rattle.text.specs.Text.{Wrote}
 use Rattle.picture.specs.Form.{formHead, rowBytes}
-use Rattle.picture.specs.Rewriting.{refusedLine}
-use Rattle.picture.specs.Hearing.{silent, phased, hears, endHeard}
+use Rattle.text.specs.Refusal.{refusedLine}
+use Rattle.picture.specs.InputSteps.{atStart, phased, readByte, inputEnded}
 use Rattle.picture.specs.declared.input.Input.{Input}
-use Rattle.picture.specs.declared.input.Heard.{Heard}
-use Rattle.picture.specs.declared.input.Heard.the-variants as heard
+use Rattle.picture.specs.declared.input.Step.{Step}
+use Rattle.picture.specs.declared.input.Step.the-variants as steps
 use Rattle.picture.specs.declared.input.Ended.{Ended}
 use Rattle.picture.specs.declared.input.Ended.the-variants as ended
 use Rattle.picture.specs.declared.parts.Part.{Part}
@@ -38,7 +38,7 @@ abbrev pub rewriting : Input → ℕ → Part → Rewriting
 rewriting i f p = record { input = i; filled = f; part = p }
 
 abbrev pub started : Rewriting
-started = rewriting silent 0 noPart
+started = rewriting atStart 0 noPart
 
 abbrev pub textOn : Rewriting → List ℕ → List ℕ
 textOn r z = partText (r .input .width) (r .input .height) z (r .part .kind) (r .part .number)
@@ -74,14 +74,14 @@ heightKept i f v z =
     (kept (rewriting (phased 2 i) f (partOf 3 5)) z)
     (kept (rewriting i (f + 1) (rowPart (f + 1) (i .width))) (set z f v))
 
-abbrev pub heardTo : Rewriting → List ℕ → Heard → Kept
-heardTo r z (heard.More i) = kept (rewriting i (r .filled) noPart) z
-heardTo r z (heard.Begun i) = kept (rewriting i 0 (partOf 1 0)) z
-heardTo r z (heard.Height i v) = heightKept i (r .filled) v z
-heardTo r z (heard.Refused i q) = kept (rewriting i (r .filled) (partOf 3 q)) z
+abbrev pub stepTo : Rewriting → List ℕ → Step → Kept
+stepTo r z (steps.More i) = kept (rewriting i (r .filled) noPart) z
+stepTo r z (steps.Begun i) = kept (rewriting i 0 (partOf 1 0)) z
+stepTo r z (steps.Height i v) = heightKept i (r .filled) v z
+stepTo r z (steps.Refused i q) = kept (rewriting i (r .filled) (partOf 3 q)) z
 
-unfoldable pub heardBy : Rewriting → List ℕ → ℕ → Kept
-heardBy r z b = heardTo r z (hears (r .input) (length z) b)
+unfoldable pub byteRead : Rewriting → List ℕ → ℕ → Kept
+byteRead r z b = stepTo r z (readByte (r .input) (length z) b)
 
 -- ---- the end of the input
 -- once nothing is being written
@@ -90,16 +90,17 @@ endTo r (ended.Over i) = rewriting i (r .filled) noPart
 endTo r (ended.Short i) = rewriting i (r .filled) (partOf 3 15)
 
 unfoldable pub endOf : Rewriting → Rewriting
-endOf r = pick (eqb (r .part .kind) 0) (endTo r (endHeard (r .input))) r
+endOf r = pick (eqb (r .part .kind) 0) (endTo r (inputEnded (r .input))) r
 
 -- ---- the text owed
 -- e: the input ends with these bytes; else more may come
 unfoldable pub owed : Bool → Rewriting → List ℕ → List ℕ → List ℕ
 owed e r z [] = leftOn r z ++ pick e (leftOn (endOf (settled r)) z) []
-owed e r z (b ∷ u) = leftOn r z ++ (let k = heardBy (settled r) z b in owed e (k .state) (k .row) u)
+owed e r z (b ∷ u) = leftOn r z ++ (let k = byteRead (settled r) z b in owed e (k .state) (k .row) u)
 
 -- ---- the calls
--- from state r with row area z to r′ with z′: of the piece p the bytes from place a to a′ were read, into the area o text was written from place b to b′, and what is owed is the rest
+-- from state r with row area z to r′ with z′: of the piece p the bytes from place a to a′ were read, into the area o text was written from place b to
+-- b′, and what is owed is the rest
 pub record Went (r : Rewriting) (z p : List ℕ) (a a′ : ℕ) (o o′ : List ℕ) (b b′ : ℕ) (r′ : Rewriting) (z′ : List ℕ) : Type 0 where
   pub bytes : List ℕ
   pub text : List ℕ

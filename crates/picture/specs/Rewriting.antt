@@ -1,20 +1,16 @@
 -- What the rewriting program writes, as a definition on the bytes of its input. Document 02, Q-7, with questions 15 and 16 as of the listing.
 use mathlib.Core.Path.{_≡_}
-use mathlib.Core.Bool.{Bool, true, false}
-use mathlib.Core.List.{List, [], _∷_, _++_}
-use Prim.Native.Nat.{ℕ, zero, suc, _*_, _/_}
+use mathlib.Core.Bool.{Bool, false}
+use mathlib.Core.List.{List, _++_}
+use Prim.Native.Nat.{ℕ, _*_, _/_}
 use lib.ListN.{length, take}
-use lib.Dec.{ltb, eqb}
-use Rattle.numbers.specs.Signal.{pick, both}
-use Rattle.wavelet.specs.Questions.{within}
-use Rattle.pgm.specs.Decimal.{numeral}
+use lib.Dec.{eqb}
+use Rattle.numbers.specs.Signal.{pick}
+use Rattle.text.specs.Refusal.{refusedLine, answerLine}
 use Rattle.pgm.specs.Header.{Read, found, short, wrong, andThen, Size, headerOf}
-use Rattle.pgm.specs.Samples.{sampleSize, samplesOf, exceeds, heightsOf}
+use Rattle.pgm.specs.Limits.{sizeFits}
+use Rattle.pgm.specs.Heights.{heightsTaken, tooLarge, bytesOf, refusalIn}
 use Rattle.picture.specs.Form.{formHead, rowBytes}
-
--- question 15's limits
-unfoldable pub sizeFits : ℕ → ℕ → Bool
-sizeFits W H = both (within 1 1025 W) (within 1 65535 H)
 
 unfoldable pub sizeEnd : Size → List ℕ → Read Size
 sizeEnd z s = pick (sizeFits (z .width) (z .height)) (found z s) wrong
@@ -27,18 +23,8 @@ pictureOf s = andThen (headerOf s) sizeEnd
 abbrev pub cells : Size → ℕ
 cells z = z .width * z .height
 
-unfoldable pub heightsIn : Size → List ℕ → List ℕ
-heightsIn z r = take (cells z) (heightsOf (z .largest) r)
-
-unfoldable pub tooLarge : Size → List ℕ → Bool
-tooLarge z r = exceeds (z .largest) (take (cells z) (samplesOf (z .largest) r))
-
-abbrev pub bytesOf : Size → ℕ
-bytesOf z = sampleSize (z .largest) * cells z
-
--- "refused", one space and the number, on a line
-unfoldable pub refusedLine : ℕ → List ℕ
-refusedLine q = 114 ∷ 101 ∷ 102 ∷ 117 ∷ 115 ∷ 101 ∷ 100 ∷ 32 ∷ (numeral q ++ (10 ∷ []))
+abbrev pub heightsIn : Size → List ℕ → List ℕ
+heightsIn z r = heightsTaken (z .largest) (cells z) r
 
 -- the header and the complete rows of some heights: "A refusal's line follows directly on the header, if that passed, and the complete rows before it."
 unfoldable pub wholeRows : ℕ → List ℕ → List ℕ
@@ -49,8 +35,8 @@ rowsOf z hs = formHead (z .width) (z .height) ++ rowBytes (wholeRows (z .width) 
 
 unfoldable pub bodyOf : Size → List ℕ → List ℕ
 bodyOf z r =
-    pick (tooLarge z r) (rowsOf z (heightsIn z r) ++ refusedLine 16)
-    (pick (eqb (length r) (bytesOf z)) (rowsOf z (heightsIn z r)) (rowsOf z (heightsIn z r) ++ refusedLine 15))
+    pick (tooLarge (z .largest) (cells z) r) (rowsOf z (heightsIn z r) ++ refusedLine 16)
+    (pick (eqb (length r) (bytesOf (z .largest) (cells z))) (rowsOf z (heightsIn z r)) (rowsOf z (heightsIn z r) ++ refusedLine 15))
 
 -- all that is written, once the input has ended
 unfoldable pub rewritingOf : List ℕ → List ℕ
@@ -61,23 +47,11 @@ pub record Accepted (s : List ℕ) (W H : ℕ) (hs : List ℕ) : Type 0 where
   pub largest : ℕ
   pub rest : List ℕ
   pub head : pictureOf s ≡ found (record { width = W; height = H; largest = largest }) rest
-  pub within : tooLarge (record { width = W; height = H; largest = largest }) rest ≡ false
-  pub bytes : length rest ≡ bytesOf (record { width = W; height = H; largest = largest })
-  pub heights : hs ≡ heightsIn (record { width = W; height = H; largest = largest }) rest
+  pub within : tooLarge largest (W * H) rest ≡ false
+  pub bytes : length rest ≡ bytesOf largest (W * H)
+  pub heights : hs ≡ heightsTaken largest (W * H) rest
 
--- ---- what is due of the bytes so far; e: the input ends with them. While more may come there is no refusal for a want of bytes
--- the line of an answer: none of 0, which is no refusal
-abbrev pub answerLine : ℕ → List ℕ
-answerLine zero = []
-answerLine (suc q) = refusedLine (suc q)
-
--- the refusal that the bytes so far bring, 0 for none
-unfoldable pub refusalIn : Bool → ℕ → ℕ → List ℕ → ℕ
-refusalIn e m n r =
-    pick (exceeds m (take n (samplesOf m r))) 16
-    (pick (ltb (sampleSize m * n) (length r)) 15
-    (pick (both e (ltb (length r) (sampleSize m * n))) 15 0))
-
+-- ---- what is due of the bytes so far; e: the input ends with them
 unfoldable pub bodyDue : Bool → Size → List ℕ → List ℕ
 bodyDue e z r = rowsOf z (heightsIn z r) ++ answerLine (refusalIn e (z .largest) (cells z) r)
 

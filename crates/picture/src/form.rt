@@ -1,6 +1,6 @@
 // The fixed form's bytes, into an area of any length: what does not fit is written by a further call, from where the last one ended.
-use crate::decimal;
 use crate::heads;
+use text::bytes;
 use wavelet::limits;
 ghost use mathlib.Core.Path.{_≡_};
 ghost use Prim.Native.Nat.{_+_, _-_, _*_, _/_, _%_, _<_, _^_, min};
@@ -84,7 +84,7 @@ pub fn row(heights: &[u16], from: usize, out: &mut [u8]) -> usize
     ensures { λ r. ⌜ now (out .exit) ≡ paste (now (out .entry)) 0 (drop from (rowBytes (now (heights .entry)))) r ⌝ }
     ensures { λ r. ⌜ from + r < 2 ^ 64 ⌝ }
 {
-    let n = decimal::some(row_bytes(heights), from, out.len());
+    let n = bytes::some(row_bytes(heights), from, out.len());
     let mut i = 0;
     while i < n {
         let place = from + i;

@@ -1,15 +1,14 @@
-// The input of a rewriting, heard a byte at a time: a header and heights.
+// The input of a rewriting, read a byte at a time: a header and heights.
 use pgm::header::Header;
 use pgm::header::Next;
+use pgm::limits;
 use pgm::samples::Sample;
 use pgm::samples::Samples;
-use wavelet::limits;
 ghost use mathlib.Core.Path.{_≡_};
-ghost use Prim.Native.Nat.{_≤_, _-_, _*_};
-ghost use Rattle.picture.specs.Hearing.{silent, phased, shapeHeard, headerHeard, heightHeard, hears, endHeard};
+ghost use Rattle.picture.specs.InputSteps.{atStart, phased, shapeRead, headerRead, heightRead, readByte, inputEnded};
 
 pub struct Input {
-    // 0 reads the header, 1 the heights, 2 hears no more
+    // 0 reads the header, 1 the heights, 2 reads no more
     pub phase: usize,
     pub header: Header,
     pub width: usize,
@@ -19,8 +18,8 @@ pub struct Input {
     pub samples: Samples,
 }
 
-// What a byte tells.
-pub enum Heard {
+// What a byte brings.
+pub enum Step {
     More(Input),
     // The header ended.
     Begun(Input),
@@ -29,7 +28,7 @@ pub enum Heard {
     Refused(Input, u8),
 }
 
-// What the end of the input tells.
+// What the end of the input brings.
 pub enum Ended {
     // All heights came, and no more; or a question said no before.
     Over(Input),
@@ -39,7 +38,7 @@ pub enum Ended {
 
 impl Input {
     pub fn start() -> Self
-        ensures { λ r. ⌜ r ≡ silent ⌝ }
+        ensures { λ r. ⌜ r ≡ atStart ⌝ }
     {
         Input {
             phase: 0,
@@ -67,37 +66,35 @@ impl Input {
     }
 
     // The header is read; the row area has room for so many heights.
-    fn begin(self, width: usize, height: usize, largest: usize, room: usize) -> Heard
-        ensures { λ r. ⌜ r ≡ shapeHeard self room width height largest ⌝ }
+    fn begin(self, width: usize, height: usize, largest: usize, room: usize) -> Step
+        ensures { λ r. ⌜ r ≡ shapeRead self room width height largest ⌝ }
     {
-        if !limits::is_within(width, 1025) {
-            return Heard::Refused(self.at_phase(2), 15);
-        }
-        if !limits::is_within(height, 65535) {
-            return Heard::Refused(self.at_phase(2), 15);
+        let left = limits::cells(width, height);
+        if left == 0 {
+            return Step::Refused(self.at_phase(2), 15);
         }
         if room < width {
-            return Heard::Refused(self.at_phase(2), 5);
+            return Step::Refused(self.at_phase(2), 5);
         }
         let header = self.header;
-        Heard::Begun(Input {
+        Step::Begun(Input {
             phase: 1,
             header,
             width,
             height,
-            left: area(width, height),
+            left,
             samples: Samples::start(largest),
         })
     }
 
-    fn hear_header(self, byte: u8, room: usize) -> Heard
-        ensures { λ r. ⌜ r ≡ headerHeard self room byte ⌝ }
+    fn read_header(self, byte: u8, room: usize) -> Step
+        ensures { λ r. ⌜ r ≡ headerRead self room byte ⌝ }
     {
         let header = self.header;
         match header.step(byte) {
             Next::More(next) => {
                 let samples = self.samples;
-                Heard::More(Input {
+                Step::More(Input {
                     phase: 0,
                     header: next,
                     width: self.width,
@@ -107,20 +104,20 @@ impl Input {
                 })
             }
             Next::Done(width, height, largest) => self.begin(width, height, largest, room),
-            Next::Refused => Heard::Refused(self.at_phase(2), 15),
+            Next::Refused => Step::Refused(self.at_phase(2), 15),
         }
     }
 
-    fn hear_height(self, byte: u8) -> Heard
-        ensures { λ r. ⌜ r ≡ heightHeard self byte ⌝ }
+    fn read_height(self, byte: u8) -> Step
+        ensures { λ r. ⌜ r ≡ heightRead self byte ⌝ }
     {
         if self.left == 0 {
-            return Heard::Refused(self.at_phase(2), 15);
+            return Step::Refused(self.at_phase(2), 15);
         }
         let header = self.header;
         let samples = self.samples;
         match samples.step(byte) {
-            Sample::Half(half) => Heard::More(Input {
+            Sample::Half(half) => Step::More(Input {
                 phase: 1,
                 header,
                 width: self.width,
@@ -128,7 +125,7 @@ impl Input {
                 left: self.left,
                 samples: half,
             }),
-            Sample::Height(height) => Heard::Height(
+            Sample::Height(height) => Step::Height(
                 Input {
                     phase: 1,
                     header,
@@ -139,27 +136,27 @@ impl Input {
                 },
                 height,
             ),
-            Sample::TooLarge => Heard::Refused(self.at_phase(2), 16),
+            Sample::TooLarge => Step::Refused(self.at_phase(2), 16),
         }
     }
 
     // One byte more.
-    pub fn hear(self, byte: u8, room: usize) -> Heard
-        ensures { λ r. ⌜ r ≡ hears self room byte ⌝ }
+    pub fn read(self, byte: u8, room: usize) -> Step
+        ensures { λ r. ⌜ r ≡ readByte self room byte ⌝ }
     {
         let phase = self.phase;
         if phase == 0 {
-            return self.hear_header(byte, room);
+            return self.read_header(byte, room);
         }
         if phase == 1 {
-            return self.hear_height(byte);
+            return self.read_height(byte);
         }
-        Heard::More(self)
+        Step::More(self)
     }
 
     // No byte more.
     pub fn end(self) -> Ended
-        ensures { λ r. ⌜ r ≡ endHeard self ⌝ }
+        ensures { λ r. ⌜ r ≡ inputEnded self ⌝ }
     {
         let phase = self.phase;
         if phase == 0 {
@@ -173,11 +170,4 @@ impl Input {
         }
         Ended::Over(self.at_phase(2))
     }
-}
-
-fn area(width: usize, height: usize) -> usize
-    requires { ⌜ (width ≤ 1025) × (height ≤ 65535) ⌝ }
-    ensures { λ r. ⌜ r ≡ width * height ⌝ }
-{
-    width * height
 }

@@ -1,5 +1,5 @@
-// Pictures in one fixed form: P5, newline, width, space, height, newline, 65535, newline, two bytes a height, the most significant first. `form` writes it, `rewriting` turns any PGM into it.
-mod decimal;
+// Pictures in one fixed form: P5, newline, width, space, height, newline, 65535, newline, two bytes a height, the most significant first. `form`
+// writes it, `rewriting` turns any PGM into it.
 pub mod form;
 mod heads;
 pub mod input;

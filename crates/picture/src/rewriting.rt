@@ -1,15 +1,17 @@
 // The rewriting: bytes of a PGM in, bytes of the fixed form out. Each row is written when it is whole, before more input is read.
 use crate::input::Ended;
-use crate::input::Heard;
 use crate::input::Input;
+use crate::input::Step;
 use crate::parts;
 use crate::parts::Part;
+use pgm::limits;
 ghost use mathlib.Core.Path.{_≡_};
 ghost use Prim.Native.Nat.{_<_, _≤_};
 ghost use lib.Dec.{eqb};
 ghost use lib.ListN.{length, getD};
 ghost use Rattle.numbers.specs.Signal.{pick};
-ghost use Rattle.picture.specs.Machine.{partOf, started, settled, doneOn, rowPart, heightKept, heardBy, Writes, Went, Stops, Onward, endOf};
+ghost use Rattle.pgm.specs.Limits.{maxPictureWidth};
+ghost use Rattle.picture.specs.Machine.{partOf, started, settled, doneOn, rowPart, heightKept, byteRead, Writes, Went, Stops, Onward, endOf};
 
 pub struct Rewriting {
     pub input: Input,
@@ -65,7 +67,14 @@ fn keep(input: Input, filled: usize, height: u16, row: &mut [u16]) -> Rewriting
 }
 
 impl Rewriting {
-    pub const ROW: usize = 1025;
+    // How many heights the row area has to hold so that no picture read is refused.
+    pub const ROW: usize = limits::MAX_WIDTH;
+
+    pub fn row_length() -> usize
+        ensures { λ r. ⌜ r ≡ maxPictureWidth ⌝ }
+    {
+        Rewriting::ROW
+    }
 
     pub fn start() -> Self
         ensures { λ r. ⌜ r ≡ started ⌝ }
@@ -91,25 +100,25 @@ impl Rewriting {
     }
 
     // One byte of the input, while nothing is being written.
-    fn hear(self, byte: u8, row: &mut [u16]) -> Self
-        ensures { λ r. ⌜ r ≡ heardBy self (now (row .entry)) byte .state ⌝ }
-        ensures { λ r. ⌜ now (row .exit) ≡ heardBy self (now (row .entry)) byte .row ⌝ }
+    fn read(self, byte: u8, row: &mut [u16]) -> Self
+        ensures { λ r. ⌜ r ≡ byteRead self (now (row .entry)) byte .state ⌝ }
+        ensures { λ r. ⌜ now (row .exit) ≡ byteRead self (now (row .entry)) byte .row ⌝ }
     {
         let input = self.input;
         let filled = self.filled;
-        match input.hear(byte, row.len()) {
-            Heard::More(next) => Rewriting {
+        match input.read(byte, row.len()) {
+            Step::More(next) => Rewriting {
                 input: next,
                 filled,
                 part: part_of(0, 0),
             },
-            Heard::Begun(next) => Rewriting {
+            Step::Begun(next) => Rewriting {
                 input: next,
                 filled: 0,
                 part: part_of(1, 0),
             },
-            Heard::Height(next, height) => keep(next, filled, height, row),
-            Heard::Refused(next, number) => Rewriting {
+            Step::Height(next, height) => keep(next, filled, height, row),
+            Step::Refused(next, number) => Rewriting {
                 input: next,
                 filled,
                 part: part_of(3, number),
@@ -134,9 +143,11 @@ impl Rewriting {
         }
     }
 
-    // Reads a piece of the input and writes what it brings, until the area is full, or the piece is used up and nothing is left to write. The rest of a piece is lent again.
+    // Reads a piece of the input and writes what it brings, until the area is full, or the piece is used up and nothing is left to write. The rest of
+    // a piece is lent again.
     pub fn feed(self, piece: &[u8], row: &mut [u16], out: &mut [u8]) -> Fed
-        ensures { λ r. ⌜ Went self (now (row .entry)) (now (piece .entry)) 0 (r .used) (now (out .entry)) (now (out .exit)) 0 (r .written) (r .rewriting) (now (row .exit)) ⌝ }
+        ensures { λ r. ⌜ Went self (now (row .entry)) (now (piece .entry)) 0 (r .used) (now (out .entry)) (now (out .exit)) 0 (r .written) (r .rewriting)
+            (now (row .exit)) ⌝ }
         ensures { λ r. ⌜ Stops (r .rewriting) (now (piece .entry)) (r .used) (now (out .entry)) (r .written) (r .idle) ⌝ }
     {
         let mut state = self;
@@ -202,10 +213,10 @@ struct Turned {
 
 fn read_on(rewriting: Rewriting, piece: &[u8], used: usize, row: &mut [u16]) -> Rewriting
     requires { ⌜ used < length (now piece) ⌝ }
-    ensures { λ r. ⌜ r ≡ heardBy rewriting (now (row .entry)) (getD (now (piece .entry)) used 0) .state ⌝ }
-    ensures { λ r. ⌜ now (row .exit) ≡ heardBy rewriting (now (row .entry)) (getD (now (piece .entry)) used 0) .row ⌝ }
+    ensures { λ r. ⌜ r ≡ byteRead rewriting (now (row .entry)) (getD (now (piece .entry)) used 0) .state ⌝ }
+    ensures { λ r. ⌜ now (row .exit) ≡ byteRead rewriting (now (row .entry)) (getD (now (piece .entry)) used 0) .row ⌝ }
 {
-    rewriting.hear(piece[used], row)
+    rewriting.read(piece[used], row)
 }
 
 struct Written {
@@ -251,7 +262,8 @@ fn turn(
     written: usize,
 ) -> Turned
     requires { ⌜ (used ≤ length (now piece)) × (written ≤ length (now out)) ⌝ }
-    ensures { λ r. ⌜ Went rewriting (now (row .entry)) (now (piece .entry)) used (r .used) (now (out .entry)) (now (out .exit)) written (r .written) (r .rewriting) (now (row .exit)) ⌝ }
+    ensures { λ r. ⌜ Went rewriting (now (row .entry)) (now (piece .entry)) used (r .used) (now (out .entry)) (now (out .exit)) written (r .written)
+        (r .rewriting) (now (row .exit)) ⌝ }
     ensures { λ r. ⌜ Onward rewriting (r .rewriting) (now (piece .entry)) used (r .used) (now (out .entry)) written (r .written) (r .going) ⌝ }
 {
     let part = rewriting.part;

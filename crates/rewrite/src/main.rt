@@ -1,4 +1,5 @@
-// The rewriting program: standard input is a PGM, standard output the same picture in the fixed form of document 02, Q-7. Rounds of read, turn and write, within a constant memory.
+// The rewriting program: standard input is a PGM, standard output the same picture in the fixed form of document 02, Q-7. Rounds of read, turn and
+// write, within a constant memory.
 use descriptors::input;
 use descriptors::input::Left;
 use descriptors::output;
@@ -7,10 +8,9 @@ use libc::STDIN_FILENO;
 use libc::STDOUT_FILENO;
 use picture::rewriting::Fed;
 use picture::rewriting::Rewriting;
-ghost use mathlib.Core.Path.{_≡_};
 ghost use Prim.Native.Nat.{_≤_};
 ghost use lib.ListN.{length};
-ghost use Rattle.descriptors.specs.Left.{leftIn, Within, usedOf};
+ghost use Rattle.descriptors.specs.Left.{leftIn, Within};
 ghost use Rattle.picture.specs.Machine.{Went, Stops};
 
 // The rewriting after a round, what is left of the chunk, and whether input or output has failed or the input has ended and all of it is fed.
@@ -53,7 +53,8 @@ fn goes_on(run: Run) -> bool {
 // What is left of the chunk is fed.
 fn turn(rewriting: Rewriting, left: Left, chunk: &[u8], row: &mut [u16], out: &mut [u8]) -> Fed
     requires { ⌜ Within (now chunk) left ⌝ }
-    ensures { λ r. ⌜ Went rewriting (now (row .entry)) (leftIn (now (chunk .entry)) left) 0 (r .used) (now (out .entry)) (now (out .exit)) 0 (r .written) (r .rewriting) (now (row .exit)) ⌝ }
+    ensures { λ r. ⌜ Went rewriting (now (row .entry)) (leftIn (now (chunk .entry)) left) 0 (r .used) (now (out .entry)) (now (out .exit)) 0 (r .written)
+        (r .rewriting) (now (row .exit)) ⌝ }
     ensures { λ r. ⌜ Stops (r .rewriting) (leftIn (now (chunk .entry)) left) (r .used) (now (out .entry)) (r .written) (r .idle) ⌝ }
 {
     let from = left.from;

@@ -1,19 +1,17 @@
 -- `listing_io::rounds`: each turn of the loop is a round, and the measure is the number of turns left. Assumes nothing.
-use Prim.Native.Nat.{ℕ}
 use native.Mathlib.Omega.{arith}
 use mathlib.Core.Path.{_≡_, refl, sym, _∙_}
-use mathlib.Core.Bool.{Bool, true, false}
 use lib.ListN.{length}
 use borrow.Author.Needs.{needs}
 use Rattle.numbers.specs.Signal.{at}
-use Rattle.listing.specs.Scenes.{scene}
+use Rattle.listing.specs.States.{stateOf}
 use Rattle.listing_io.proofs.RoundLaws.{Looped, looped-start, looped-on, looped-stop, false-true}
 use Rattle.listing_io.proofs.rounds.Statement.{statement}
 use Rattle.listing_io.proofs.rounds.Tie as tie
 
 abbrev Inv-loop : tie.InvT-loop
 Inv-loop fd name chunk₀ store₀ row₀ out₀ now₀ turns₀ chunk store row out now turns =
-    Looped (length store₀) (length row₀) (scene (now₀ .listing) (at store₀) (at row₀)) (scene (now .listing) (at store) (at row)) chunk turns now
+    Looped (length store₀) (length row₀) (stateOf (now₀ .listing) (at store₀) (at row₀)) (stateOf (now .listing) (at store) (at row)) chunk turns now
     × (length chunk ≡ length chunk₀) × (length store ≡ length store₀) × (length row ≡ length row₀) × (length out ≡ length out₀)
 
 abbrev μ-loop : tie.MeasureT-loop

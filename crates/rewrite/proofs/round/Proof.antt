@@ -1,6 +1,4 @@
 -- `rewrite::round`: what is left stays within the chunk. Assumes nothing.
-use Prim.Native.Nat.{_≤_}
-use native.Mathlib.Omega.{arith}
 use Rattle.descriptors.proofs.LeftLaws.{fills-within, used-within}
 use borrow.Author.Needs.{needs}
 use Rattle.rewrite.proofs.round.Statement.{statement}
@@ -16,7 +14,9 @@ fill-requires : tie.Need-fill-requires
 fill-requires c κs = tt
 
 turn-requires : tie.Need-turn-requires
-turn-requires c κs = fills-within (c .before .before .before .before .before .before .before .before .before .before .before .before .before .pre) (c .before .before .before .before .before .fill .ensures)
+turn-requires c κs =
+    fills-within (c .before .before .before .before .before .before .before .before .before .before .before .before .before .pre)
+    (c .before .before .before .before .before .fill .ensures)
 
 send-requires : tie.Need-send-requires
 send-requires c κs = search needs
@@ -44,7 +44,8 @@ returns c =
     let u = c .before .before in
     let t = u .before .before .before .before .before .before .before .before in
     let f = t .before .before .before .before .before .before in
-    rw (u .used .ensures) (used-within (t .turn .result .used) (fills-within (f .before .before .before .before .before .before .before .before .pre) (f .fill .ensures)) (t .turn .ensures .0 .part))
+    rw (u .used .ensures) (used-within (t .turn .result .used)
+    (fills-within (f .before .before .before .before .before .before .before .before .pre) (f .fill .ensures)) (t .turn .ensures .0 .part))
 
 pub round-spec : {M : Type 1} → statement M
 round-spec =

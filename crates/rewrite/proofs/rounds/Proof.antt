@@ -8,7 +8,8 @@ use Rattle.rewrite.proofs.rounds.Statement.{statement}
 use Rattle.rewrite.proofs.rounds.Tie as tie
 
 abbrev Inv-loop : tie.InvT-loop
-Inv-loop chunk₀ row₀ out₀ now₀ turns₀ chunk row out now turns = Within chunk (now .left) × (length chunk ≡ length chunk₀) × (length row ≡ length row₀) × (length out ≡ length out₀)
+Inv-loop chunk₀ row₀ out₀ now₀ turns₀ chunk row out now turns =
+    Within chunk (now .left) × (length chunk ≡ length chunk₀) × (length row ≡ length row₀) × (length out ≡ length out₀)
 
 abbrev μ-loop : tie.MeasureT-loop
 μ-loop chunk₀ row₀ out₀ now₀ turns₀ chunk row out now turns = turns

@@ -1,6 +1,5 @@
 -- `descriptors::output::send` counts what the writes took, and ends: the measure is the number of turns left. Assumes nothing.
 use Prim.Native.Nat.{_≤_}
-use mathlib.Core.Path.{_≡_, refl}
 use lib.ListN.{length}
 use borrow.Author.Needs.{needs, zero≤}
 use Rattle.descriptors.proofs.output.send.Statement.{statement}

@@ -1,7 +1,4 @@
 -- `spelling::first_letter` meets its contract: the definition's test. Assumes nothing.
-use mathlib.Core.Path.{_≡_, refl, sym, ap, _∙_}
-use native.Mathlib.Omega.{arith}
-use borrow.Author.Needs.{needs}
 use borrow.Author.Tests.{eq-eqb, ne-eqb}
 use Rattle.listing.specs.Parts.{letter}
 use Rattle.listing.proofs.spelling.first_letter.Statement.{statement}

@@ -1,7 +1,4 @@
 -- `spelling::second_letter` meets its contract: the definition's test. Assumes nothing.
-use mathlib.Core.Path.{_≡_, refl, sym, ap, _∙_}
-use native.Mathlib.Omega.{arith}
-use borrow.Author.Needs.{needs}
 use borrow.Author.Tests.{lt-ltb, le-ltb}
 use Rattle.listing.specs.Parts.{letter}
 use Rattle.listing.proofs.spelling.second_letter.Statement.{statement}

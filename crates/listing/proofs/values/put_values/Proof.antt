@@ -1,4 +1,5 @@
--- `values::put_values` meets its contract: the values up to the next one stand in the area, each after a space; and the loop does not end before the first while there is room for it. Assumes nothing.
+-- `values::put_values` meets its contract: the values up to the next one stand in the area, each after a space; and the loop does not end before the
+-- first while there is room for it. Assumes nothing.
 use mathlib.Core.Path.{_≡_, ap, _∙_}
 use mathlib.Core.List.{List, _∷_}
 use Prim.Native.Nat.{ℕ, suc, _+_, _-_, _≤_, _<_}
@@ -9,10 +10,10 @@ use lib.IntN.{ℤ}
 use lib.ListN.{length}
 use Rattle.numbers.specs.Signal.{at as numberAt}
 use Rattle.numbers.proofs.Words.{read-back}
-use Rattle.pgm.specs.Decimal.{integer}
+use Rattle.text.specs.Decimal.{integer}
 use Rattle.listing.specs.Lines.{spaced}
-use Rattle.pgm.specs.Text.{Wrote}
-use Rattle.pgm.proofs.TextLaws.{wrote-none, wrote-size, wrote-on}
+use Rattle.text.specs.Text.{Wrote}
+use Rattle.text.proofs.TextLaws.{wrote-none, wrote-size, wrote-on}
 use Rattle.listing.proofs.values.put_values.Statement.{statement}
 use Rattle.listing.proofs.values.put_values.Tie as tie
 
@@ -46,7 +47,8 @@ module _ {row : List ℤ} {from end at value place : ℕ} {l m : List ℕ} (w : 
   unfolding spaced
   nothing-yet h =
       let e : value - from ≡ 0 = omega arith in
-      let p : place ≡ at + length (spaced 0 (λ i. numberAt row (from + i))) = w .wrote .place ∙ ap (λ k. at + length (spaced k (λ i. numberAt row (from + i)))) e in
+      let p : place ≡ at + length (spaced 0 (λ i. numberAt row (from + i))) =
+      w .wrote .place ∙ ap (λ k. at + length (spaced k (λ i. numberAt row (from + i)))) e in
       omega arith
 
   progress : length m - place < 12 → at + 12 ≤ length l → from < value
@@ -89,7 +91,9 @@ loop-less : tie.Need-loop-less Inv-loop μ-loop
 loop-less c = omega arith
 
 loop-again : tie.Need-loop-again Inv-loop μ-loop
-loop-again c = next _ (c .before .before .before .before .before .before .before .loop .inv) (omega arith) (read-back _ (c .before .before .before .before .write-value-arg .given)) (c .before .before .write-value .ensures)
+loop-again c =
+    next _ (c .before .before .before .before .before .before .before .loop .inv) (omega arith)
+    (read-back _ (c .before .before .before .before .write-value-arg .given)) (c .before .before .write-value .ensures)
 
 same-length : tie.Need-same-length Inv-loop μ-loop
 same-length c = wrote-size (c .before .before .loop .inv .wrote)

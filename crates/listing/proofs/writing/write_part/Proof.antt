@@ -3,7 +3,7 @@ use mathlib.Core.Path.{refl, ap, _∙_}
 use native.Mathlib.Omega.{arith}
 use lib.ListN.{length}
 use Rattle.numbers.specs.Signal.{at}
-use Rattle.listing.specs.Scenes.{scene, listed}
+use Rattle.listing.specs.States.{stateOf, listed}
 use borrow.Author.Needs.{needs}
 use Rattle.listing.proofs.WritingMoves.{part-on, part-whole}
 use Rattle.listing.proofs.writing.write_part.Statement.{statement}
@@ -37,7 +37,8 @@ returns c =
     let p = t .before .before .before .before in
     let s = p .before .before .before .before .before in
     let a = s .args in
-    part-whole (length (a .store .now)) (length (a .row .now)) (scene (a .listing) (at (a .store .now)) (at (a .row .now))) (s .pre .0) _ _ _ (s .pre .1) _ (p .spell .ensures) _ (t .if1 .taken) (d .advance .ensures)
+    part-whole (length (a .store .now)) (length (a .row .now)) (stateOf (a .listing) (at (a .store .now)) (at (a .row .now))) (s .pre .0) _ _ _ (s .pre .1) _
+    (p .spell .ensures) _ (t .if1 .taken) (d .advance .ensures)
 
 with-done-requires : tie.Need-with-done-requires
 with-done-requires c κs = tt
@@ -64,7 +65,8 @@ returns-2 c =
     let p = t .before .before .before .before in
     let s = p .before .before .before .before .before in
     let a = s .args in
-    part-on (length (a .store .now)) (length (a .row .now)) (scene (a .listing) (at (a .store .now)) (at (a .row .now))) (s .pre .0) _ _ _ (s .pre .1) _ (p .spell .ensures) _ (omega (arith, t .if1 .left)) (w .with-line .ensures ∙ ap (listed _ _) (w .before .with-done .ensures))
+    part-on (length (a .store .now)) (length (a .row .now)) (stateOf (a .listing) (at (a .store .now)) (at (a .row .now))) (s .pre .0) _ _ _ (s .pre .1) _
+    (p .spell .ensures) _ (omega (arith, t .if1 .left)) (w .with-line .ensures ∙ ap (listed _ _) (w .before .with-done .ensures))
 
 pub write-part-spec : {M : Type 1} → statement M
 write-part-spec =

@@ -2,7 +2,7 @@
 use mathlib.Core.Path.{ap, _∙_}
 use lib.ListN.{length}
 use Rattle.numbers.specs.Signal.{at}
-use Rattle.listing.specs.Scenes.{listed}
+use Rattle.listing.specs.States.{listed}
 use Rattle.listing.proofs.WritingMoves.{some-values}
 use Rattle.listing.proofs.NextLaws.{least-first, least-second, below-least, up-to, then-less, begins}
 use Rattle.listing.proofs.writing.write_values.Statement.{statement}
@@ -14,8 +14,11 @@ least-requires c κs = tt
 put-values-requires : tie.Need-put-values-requires
 put-values-requires c κs =
     let l = c .before in
-    let s = l .before .before .before in
-    (then-less (below-least _ _ (l .least .ensures) (s .pre .2) (s .pre .3)), least-second _ _ (l .least .ensures), begins (s .args .place) 12 (length (s .args .out .now)) (s .pre .4))
+    let s = l .before .before .before in (
+      then-less (below-least _ _ (l .least .ensures) (s .pre .2) (s .pre .3)),
+      least-second _ _ (l .least .ensures),
+      begins (s .args .place) 12 (length (s .args .out .now)) (s .pre .4),
+    )
 
 at-value-requires : tie.Need-at-value-requires
 at-value-requires c κs = tt
@@ -32,7 +35,10 @@ returns c =
     let l = p .before .before in
     let s = l .before .before .before in
     let a = s .args in
-    some-values (length (a .row .now)) (a .listing) _ (at (a .row .now)) _ (s .pre .0) (s .pre .1) (p .put-values .ensures .1 .1 (below-least _ _ (l .least .ensures) (s .pre .2) (s .pre .3)) (s .pre .4)) (up-to (p .put-values .ensures .0 .1) (least-first _ _ (l .least .ensures))) (up-to (p .put-values .ensures .0 .1) (least-second _ _ (l .least .ensures))) (p .put-values .ensures .1 .0) (c .with-line .ensures ∙ ap (listed _ _) (c .before .at-value .ensures))
+    some-values (length (a .row .now)) (a .listing) _ (at (a .row .now)) _ (s .pre .0) (s .pre .1)
+    (p .put-values .ensures .1 .1 (below-least _ _ (l .least .ensures) (s .pre .2) (s .pre .3)) (s .pre .4))
+    (up-to (p .put-values .ensures .0 .1) (least-first _ _ (l .least .ensures))) (up-to (p .put-values .ensures .0 .1) (least-second _ _ (l .least .ensures)))
+    (p .put-values .ensures .1 .0) (c .with-line .ensures ∙ ap (listed _ _) (c .before .at-value .ensures))
 
 pub write-values-spec : {M : Type 1} → statement M
 write-values-spec =

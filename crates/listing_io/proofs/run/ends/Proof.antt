@@ -1,6 +1,5 @@
 -- `listing_io::run::ends` is the test of the definition. Assumes nothing.
-use mathlib.Core.Path.{sym, ap, _∙_}
-use mathlib.Core.Bool.{not}
+use mathlib.Core.Path.{sym, _∙_}
 use Rattle.listing_io.specs.Rounds.{ends}
 use Rattle.listing_io.proofs.run.ends.Statement.{statement}
 use Rattle.listing_io.proofs.run.ends.Tie as tie

@@ -1,5 +1,5 @@
 -- `listing_io::run::goes_on` is the test of the definition. Assumes nothing.
-use mathlib.Core.Path.{sym, ap, _∙_}
+use mathlib.Core.Path.{sym, _∙_}
 use Rattle.listing_io.specs.Rounds.{going}
 use Rattle.listing_io.proofs.run.goes_on.Statement.{statement}
 use Rattle.listing_io.proofs.run.goes_on.Tie as tie

@@ -1,5 +1,5 @@
 -- `listing_io::run::is_whole` is the test of the definition. Assumes nothing.
-use mathlib.Core.Path.{sym, ap, _∙_}
+use mathlib.Core.Path.{sym, _∙_}
 use Rattle.listing_io.specs.Rounds.{whole}
 use Rattle.listing_io.proofs.run.is_whole.Statement.{statement}
 use Rattle.listing_io.proofs.run.is_whole.Tie as tie

@@ -1,6 +1,5 @@
 -- `listing_io::run::run_on` puts together what a round left. Assumes nothing.
 use mathlib.Core.Path.{refl}
-use borrow.Author.Needs.{needs}
 use Rattle.listing_io.proofs.run.run_on.Statement.{statement}
 use Rattle.listing_io.proofs.run.run_on.Tie as tie
 

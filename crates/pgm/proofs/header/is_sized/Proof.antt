@@ -1,5 +1,5 @@
 -- `header::is_sized` meets its contract: the definition's three tests. Assumes nothing.
-use mathlib.Core.Path.{sym, ap, _∙_}
+use mathlib.Core.Path.{sym, _∙_}
 use borrow.Author.Tests.{not-true, not-false}
 use Rattle.pgm.specs.Header.{sized}
 use Rattle.pgm.proofs.header.is_sized.Statement.{statement}
@@ -29,7 +29,8 @@ unfolding sized
 returns-3 c =
     let d = c .before in
     let b = d .before .before in
-    simp (sym (b .before .is-side .ensures) ∙ not-false _ (b .if1 .left), sym (d .before .is-side2 .ensures) ∙ not-false _ (d .if2 .left)) (c .is-side3 .ensures)
+    simp (sym (b .before .is-side .ensures) ∙ not-false _ (b .if1 .left), sym (d .before .is-side2 .ensures) ∙ not-false _ (d .if2 .left))
+    (c .is-side3 .ensures)
 
 pub is-sized-spec : {M : Type 1} → statement M
 is-sized-spec =

@@ -34,8 +34,11 @@ same-length c = c .before .before .before .before .loop .inv .size
 
 returns : tie.Need-returns Inv-loop μ-loop
 returns c =
-    let l = c .before .before .before .before in
-    (stop _ _ (l .loop .inv) (omega arith) (l .before .before .is-wide .ensures) (c .before .before .sample-at .ensures) (sym (c .before .is-within .ensures) ∙ not-true _ (c .if1 .taken)), stands (l .loop .inv))
+    let l = c .before .before .before .before in (
+      stop _ _ (l .loop .inv) (omega arith) (l .before .before .is-wide .ensures) (c .before .before .sample-at .ensures)
+          (sym (c .before .is-within .ensures) ∙ not-true _ (c .if1 .taken)),
+      stands (l .loop .inv),
+    )
 
 mul-run : tie.Need-mul-run Inv-loop μ-loop
 mul-run c = search needs
@@ -52,7 +55,8 @@ loop-less c = omega arith
 loop-again : tie.Need-loop-again Inv-loop μ-loop
 loop-again c =
     let l = c .before .before .before .before in
-    next _ _ (l .loop .inv) (omega arith) (l .before .before .is-wide .ensures) (c .before .before .sample-at .ensures) (sym (c .before .is-within .ensures) ∙ not-false _ (c .if1 .left))
+    next _ _ (l .loop .inv) (omega arith) (l .before .before .is-wide .ensures) (c .before .before .sample-at .ensures)
+    (sym (c .before .is-within .ensures) ∙ not-false _ (c .if1 .left))
 
 same-length-2 : tie.Need-same-length-2 Inv-loop μ-loop
 same-length-2 c = c .before .loop .inv .size

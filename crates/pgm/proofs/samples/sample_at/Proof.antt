@@ -1,5 +1,4 @@
 -- `samples::sample_at` meets its contract: the definition's choice. Assumes nothing.
-use mathlib.Core.Path.{_∙_}
 use native.Mathlib.Omega.{arith}
 use Rattle.pgm.proofs.samples.sample_at.Statement.{statement}
 use Rattle.pgm.proofs.samples.sample_at.Tie as tie

@@ -1,5 +1,5 @@
 -- `samples::size` meets its contract: the definition's choice. Assumes nothing.
-use mathlib.Core.Path.{sym, ap, _∙_}
+use mathlib.Core.Path.{sym, _∙_}
 use Rattle.pgm.specs.Samples.{sampleSize}
 use Rattle.pgm.proofs.samples.size.Statement.{statement}
 use Rattle.pgm.proofs.samples.size.Tie as tie

@@ -1,6 +1,6 @@
 -- `form::head` meets its contract: refused by the first question that says no, else written. Assumes nothing.
 use mathlib.Core.Path.{refl, sym, _∙_}
-use Rattle.picture.specs.Form.{HeadPut, refused, written}
+use Rattle.picture.specs.Form.{refused, written}
 use borrow.Author.Needs.{needs}
 use Rattle.picture.proofs.form.head.Statement.{statement}
 use Rattle.picture.proofs.form.head.Tie as tie

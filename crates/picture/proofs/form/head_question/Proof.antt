@@ -24,14 +24,16 @@ returns-2 c =
     let b = c .before in
     let e = b .before .before in
     let d = e .before in
-    second-no _ _ _ _ _ _ (d .before .max-width .ensures) (d .is-within .ensures) (not-false _ (e .if1 .left)) (b .before .max-height .ensures) (b .is-within2 .ensures) (not-true _ (c .if2 .taken))
+    second-no _ _ _ _ _ _ (d .before .max-width .ensures) (d .is-within .ensures) (not-false _ (e .if1 .left)) (b .before .max-height .ensures)
+    (b .is-within2 .ensures) (not-true _ (c .if2 .taken))
 
 returns-3 : tie.Need-returns-3
 returns-3 c =
     let b = c .before in
     let e = b .before .before in
     let d = e .before in
-    both-yes _ _ _ _ _ _ (d .before .max-width .ensures) (d .is-within .ensures) (not-false _ (e .if1 .left)) (b .before .max-height .ensures) (b .is-within2 .ensures) (not-false _ (c .if2 .left))
+    both-yes _ _ _ _ _ _ (d .before .max-width .ensures) (d .is-within .ensures) (not-false _ (e .if1 .left)) (b .before .max-height .ensures)
+    (b .is-within2 .ensures) (not-false _ (c .if2 .left))
 
 pub head-question-spec : {M : Type 1} → statement M
 head-question-spec = tie.close (tie.spec max-width-requires is-within-requires returns max-height-requires is-within-requires-2 returns-2 returns-3)

@@ -1,9 +1,7 @@
 -- `form::row` meets its contract: after i turns i bytes stand in the area. Assumes nothing.
-use mathlib.Core.Path.{sym, ap, _∙_}
-use Prim.Native.Nat.{_+_, _*_, _-_}
+use mathlib.Core.Path.{sym, _∙_}
+use Prim.Native.Nat.{_-_}
 use native.Mathlib.Omega.{arith}
-use borrow.Author.Needs.{needs}
-use lib.ListN.{length}
 use Rattle.picture.specs.Form.{rowBytes}
 use Rattle.picture.proofs.FormLaws.{row-length, row-at, Bytes, start, next, finish}
 use Rattle.picture.proofs.form.row.Statement.{statement}
@@ -31,7 +29,8 @@ mul-height-byte : tie.Need-mul-height-byte Inv-loop μ-loop
 mul-height-byte c = omega (arith, c .before .loop .inv .there, row-length (c .before .before .before .before .before .before .args .heights .now))
 
 shared-slice-read-height-byte : tie.Need-shared-slice-read-height-byte Inv-loop μ-loop
-shared-slice-read-height-byte c = omega (arith, c .before .before .loop .inv .there, row-length (c .before .before .before .before .before .before .before .args .heights .now))
+shared-slice-read-height-byte c =
+    omega (arith, c .before .before .loop .inv .there, row-length (c .before .before .before .before .before .before .before .args .heights .now))
 
 height-byte-requires : tie.Need-height-byte-requires Inv-loop μ-loop
 height-byte-requires c κs = tt
@@ -57,8 +56,10 @@ same-length c = c .before .loop .inv .size
 returns : tie.Need-returns Inv-loop μ-loop
 returns c =
     let s = c .before .before in
-    let w = s .before in
-    (omega (arith, s .some .ensures, w .row-bytes .ensures), (finish (c .before .loop .inv) (omega arith), omega (arith, s .some .ensures, w .before .before .before .fits .from)))
+    let w = s .before in (
+      omega (arith, s .some .ensures, w .row-bytes .ensures),
+      (finish (c .before .loop .inv) (omega arith), omega (arith, s .some .ensures, w .before .before .before .fits .from)),
+    )
 
 pub row-spec : {M : Type 1} → statement M
 row-spec =

@@ -1,67 +1,41 @@
--- `heads::put_head` meets its contract: after i turns i bytes stand in the area. Assumes nothing.
-use Prim.Native.Nat.{_+_, _-_}
-use native.Mathlib.Omega.{arith}
-use lib.ListN.{length}
-use Rattle.picture.specs.Form.{formHead}
-use Rattle.picture.proofs.FormLaws.{head-length, twenty, Bytes, start, next, finish}
+-- `heads::put_head` meets its contract: the header stands at the front of a small area, and is copied from there. Assumes nothing.
+use borrow.Author.Needs.{needs}
+use Rattle.text.proofs.TextLaws.{front-end}
+use Rattle.picture.proofs.FormLaws.{text-copied}
 use Rattle.picture.proofs.heads.put_head.Statement.{statement}
 use Rattle.picture.proofs.heads.put_head.Tie as tie
 
-abbrev Inv-loop : tie.InvT-loop
-Inv-loop width height from out₀ n i₀ out i = Bytes (formHead width height) out₀ out from n i
+slice-aggregate-head-text : tie.Need-slice-aggregate-head-text
+slice-aggregate-head-text c = search needs
 
-abbrev μ-loop : tie.MeasureT-loop
-μ-loop width height from out₀ n i₀ out i = n - i
+head-text-requires : tie.Need-head-text-requires
+head-text-requires c κs = search needs
 
-head-length-requires : tie.Need-head-length-requires Inv-loop μ-loop
-head-length-requires c κs = tt
+array-share-prefix-area : tie.Need-array-share-prefix-area
+array-share-prefix-area c = search needs
 
-some-requires : tie.Need-some-requires Inv-loop μ-loop
-some-requires c κs = tt
+slice-aggregate-copy : tie.Need-slice-aggregate-copy
+slice-aggregate-copy c = front-end (c .before .before .head-text .ensures)
 
-loop-holds : tie.Need-loop-holds Inv-loop μ-loop
-loop-holds c = start _ _ _ _ _ (c .before .head-length .ensures) (c .some .ensures)
+copy-requires : tie.Need-copy-requires
+copy-requires c κs = tt
 
-add-head-byte : tie.Need-add-head-byte Inv-loop μ-loop
-add-head-byte c =
-    let a = c .before .before .before .before .before .args in
-    omega (arith, c .before .loop .inv .there, head-length (a .width) (a .height), twenty (a .width) (omega arith), twenty (a .height) (omega arith))
+same-length : tie.Need-same-length
+same-length c = c .before .before .copy .kept .1 .1 .0
 
-head-byte-requires : tie.Need-head-byte-requires Inv-loop μ-loop
-head-byte-requires c κs = omega (arith, c .before .loop .inv .there)
-
-slice-write-out : tie.Need-slice-write-out Inv-loop μ-loop
-slice-write-out c = let v = c .before .before .loop .inv in omega (arith, v .room, v .size)
-
-add-i : tie.Need-add-i Inv-loop μ-loop
-add-i c = omega arith
-
-loop-less : tie.Need-loop-less Inv-loop μ-loop
-loop-less c = omega arith
-
-loop-again : tie.Need-loop-again Inv-loop μ-loop
-loop-again c = next _ (c .before .before .loop .inv) (omega arith) (c .head-byte .ensures)
-
-same-length : tie.Need-same-length Inv-loop μ-loop
-same-length c = c .before .loop .inv .size
-
-returns : tie.Need-returns Inv-loop μ-loop
-returns c = (omega (arith, c .before .before .some .ensures, c .before .before .before .head-length .ensures), finish (c .before .loop .inv) (omega arith))
+returns : tie.Need-returns
+returns c =
+    let k = c .before .before in
+    text-copied (k .before .before .before .before .head-text .ensures) _ _ _ _ (k .copy .ensures .0) (k .copy .ensures .1)
 
 pub put-head-spec : {M : Type 1} → statement M
 put-head-spec =
     tie.close
     (tie.spec
-    Inv-loop
-    μ-loop
-    head-length-requires
-    some-requires
-    loop-holds
-    add-head-byte
-    head-byte-requires
-    slice-write-out
-    add-i
-    loop-less
-    loop-again
+    slice-aggregate-head-text
+    head-text-requires
+    array-share-prefix-area
+    slice-aggregate-copy
+    copy-requires
     same-length
     returns)

@@ -1,14 +1,12 @@
 -- `parts::put_part` meets its contract: the text of the part's kind. Assumes nothing.
-use mathlib.Core.Path.{_≡_, refl, sym, ap, _∙_}
+use mathlib.Core.Path.{sym, ap, _∙_}
 use native.Mathlib.Omega.{arith}
-use borrow.Author.Needs.{needs}
-use Prim.Native.Nat.{_*_}
-use lib.ListN.{length, take, length-take}
+use lib.ListN.{take}
 use lib.Seq.{length-take-le}
 use mathlib.Core.List.{[]}
-use mir.Val.{Fits}
-use mir.Syntax.{w64}
-use Rattle.picture.proofs.FormLaws.{head-length, twenty, refused-length, row-length}
+use Rattle.text.proofs.DecimalLaws.{twenty}
+use Rattle.text.proofs.RefusalLaws.{refused-length}
+use Rattle.picture.proofs.FormLaws.{head-short, row-length}
 use Rattle.picture.proofs.PartLaws.{text-head, text-row, text-refused, text-none, placed, placed-none, take-least}
 use Rattle.picture.specs.Form.{rowBytes}
 use Rattle.picture.proofs.parts.put_part.Statement.{statement}
@@ -24,7 +22,18 @@ returns : tie.Need-returns
 returns c =
     let h = c .before .before in
     let a = h .before .before .before .before .before .args in
-    let p = placed _ _ (a .done) (h .put-head .result) (a .out .now) (h .put-head .last .1 .1 .1 .0) (text-head (a .width) (a .height) (a .row .now) (a .kind) (a .number) (h .before .before .if1 .taken)) (h .put-head .ensures .0, h .put-head .ensures .1, omega (arith, h .put-head .ensures .0, head-length (a .width) (a .height), twenty (a .width) (omega arith), twenty (a .height) (omega arith), h .before .before .before .before .before .fits .done)) in
+    let p =
+    placed _ _ (a .done) (h .put-head .result) (a .out .now) (h .put-head .last .1 .1 .1 .0)
+    (text-head (a .width) (a .height) (a .row .now) (a .kind) (a .number) (h .before .before .if1 .taken)) (
+      h .put-head .ensures .0,
+      h .put-head .ensures .1,
+      omega (
+        arith,
+        h .put-head .ensures .0,
+        head-short (a .width) (a .height) (omega arith) (omega arith),
+        h .before .before .before .before .before .fits .done,
+      ),
+    ) in
     (p .0, (p .1, p .2))
 
 least-requires : tie.Need-least-requires
@@ -44,7 +53,10 @@ returns-2 c =
     let w = c .before .before in
     let l = w .before .before .before in
     let a = l .before .before .before .before .before .args in
-    let p = placed _ _ (a .done) (w .row .result) (a .out .now) (w .row .last .1 .1 .0) (ap rowBytes (take-least _ _ _ (l .least .ensures)) ∙ text-row (a .width) (a .height) (a .row .now) (a .kind) (a .number) (l .before .before .if1 .left) (l .before .if2 .taken))
+    let p =
+    placed _ _ (a .done) (w .row .result) (a .out .now) (w .row .last .1 .1 .0)
+    (ap rowBytes (take-least _ _ _ (l .least .ensures))
+    ∙ text-row (a .width) (a .height) (a .row .now) (a .kind) (a .number) (l .before .before .if1 .left) (l .before .if2 .taken))
     (omega (arith, w .row .ensures .0, row-length (take (l .least .result) (a .row .now))), w .row .ensures .1 .0, w .row .ensures .1 .1) in
     (p .0, (p .1, p .2))
 
@@ -59,14 +71,28 @@ returns-3 c =
     let q = c .before .before in
     let e = q .before .before .before in
     let a = e .before .before .before .before .args in
-    let p = placed _ _ (a .done) (q .put-refused .result) (a .out .now) (q .put-refused .last .1 .1 .0) (text-refused (a .width) (a .height) (a .row .now) (a .kind) (a .number) (e .before .if1 .left) (e .if2 .left) (q .before .before .if3 .taken))
-    (q .put-refused .ensures .0, q .put-refused .ensures .1, omega (arith, q .put-refused .ensures .0, refused-length (a .number), twenty (a .number) (e .before .before .before .before .fits .number .fits), e .before .before .before .before .fits .done)) in
+    let p =
+    placed _ _ (a .done) (q .put-refused .result) (a .out .now) (q .put-refused .last .1 .1 .0)
+    (text-refused (a .width) (a .height) (a .row .now) (a .kind) (a .number) (e .before .if1 .left) (e .if2 .left) (q .before .before .if3 .taken)) (
+      q .put-refused .ensures .0,
+      q .put-refused .ensures .1,
+      omega (
+        arith,
+        q .put-refused .ensures .0,
+        refused-length (a .number),
+        twenty (a .number) (e .before .before .before .before .fits .number .fits),
+        e .before .before .before .before .fits .done,
+      ),
+    ) in
     (p .0, (p .1, p .2))
 
 returns-4 : tie.Need-returns-4
 returns-4 c =
     let a = c .before .before .before .before .before .args in
-    let p = placed [] _ (a .done) 0 (a .out .now) (a .out .now) (text-none (a .width) (a .height) (a .row .now) (a .kind) (a .number) (c .before .before .if1 .left) (c .before .if2 .left) (c .if3 .left)) (placed-none (a .done) (a .out .now) (c .before .before .before .before .before .fits .done .fits)) in
+    let p =
+    placed [] _ (a .done) 0 (a .out .now) (a .out .now)
+    (text-none (a .width) (a .height) (a .row .now) (a .kind) (a .number) (c .before .before .if1 .left) (c .before .if2 .left) (c .if3 .left))
+    (placed-none (a .done) (a .out .now) (c .before .before .before .before .before .fits .done .fits)) in
     (p .0, (p .1, p .2))
 
 pub put-part-spec : {M : Type 1} → statement M

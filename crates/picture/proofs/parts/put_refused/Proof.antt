@@ -1,74 +1,55 @@
--- `parts::put_refused` meets its contract: after i turns i bytes stand in the area. Assumes nothing.
-use Prim.Native.Nat.{_+_, _-_}
+-- `parts::put_refused` meets its contract: the line stands at the front of a small area, and is copied from there. Assumes nothing.
+use mathlib.Core.Path.{_≡_, refl}
+use mathlib.Core.List.{List}
+use Prim.Native.Nat.{ℕ, _≤_}
 use native.Mathlib.Omega.{arith}
 use lib.ListN.{length}
-use mathlib.Core.Path.{sym, ap, _∙_}
-use Rattle.picture.specs.Rewriting.{refusedLine}
-use Rattle.picture.proofs.FormLaws.{twenty, refused-length, Bytes, start, next, finish}
+use borrow.Author.Needs.{needs}
+use Rattle.text.specs.Text.{Wrote, Puts}
+use Rattle.text.specs.Refusal.{refusedLine}
+use Rattle.text.proofs.TextLaws.{front-end, wrote-size}
+use Rattle.picture.proofs.FormLaws.{text-copied}
 use Rattle.picture.proofs.parts.put_refused.Statement.{statement}
 use Rattle.picture.proofs.parts.put_refused.Tie as tie
 
-abbrev Inv-loop : tie.InvT-loop
-Inv-loop number from out₀ n i₀ out i = Bytes (refusedLine number) out₀ out from n i
+line-fits : (q : ℕ) {o m : List ℕ} {r : ℕ} → length (refusedLine q) ≤ 29 → length o ≡ 64 → Puts (refusedLine q) 0 r o m → Wrote (refusedLine q) 0 r o m
+line-fits q f e x = x .whole (omega arith)
 
-abbrev μ-loop : tie.MeasureT-loop
-μ-loop number from out₀ n i₀ out i = n - i
+slice-aggregate-put-refused : tie.Need-slice-aggregate-put-refused
+slice-aggregate-put-refused c = search needs
 
-count-requires : tie.Need-count-requires Inv-loop μ-loop
-count-requires c κs = tt
+put-refused-requires : tie.Need-put-refused-requires
+put-refused-requires c κs = tt
 
-add-some : tie.Need-add-some Inv-loop μ-loop
-add-some c = omega (arith, c .count .ensures, twenty (c .before .before .args .number) (omega arith))
+array-share-prefix-area : tie.Need-array-share-prefix-area
+array-share-prefix-area c =
+    let p = c .before in
+    let w = line-fits _ (p .put-refused .ensures .1) refl (p .put-refused .ensures .0) in
+    omega (arith, w .room, wrote-size w)
 
-some-requires : tie.Need-some-requires Inv-loop μ-loop
-some-requires c κs = tt
+slice-aggregate-copy : tie.Need-slice-aggregate-copy
+slice-aggregate-copy c = let p = c .before .before in front-end (line-fits _ (p .put-refused .ensures .1) refl (p .put-refused .ensures .0))
 
-loop-holds : tie.Need-loop-holds Inv-loop μ-loop
-loop-holds c = start _ _ _ _ _ (ap (λ m. 9 + m) (c .before .count .ensures) ∙ refused-length _) (c .some .ensures)
+copy-requires : tie.Need-copy-requires
+copy-requires c κs = tt
 
-add-refused-byte : tie.Need-add-refused-byte Inv-loop μ-loop
-add-refused-byte c =
-    let a = c .before .before .before .before .before .args in
-    omega (arith, c .before .loop .inv .there, refused-length (a .number), twenty (a .number) (omega arith))
+same-length : tie.Need-same-length
+same-length c = c .before .before .copy .kept .1 .1 .0
 
-refused-byte-requires : tie.Need-refused-byte-requires Inv-loop μ-loop
-refused-byte-requires c κs = omega (arith, c .before .loop .inv .there)
-
-slice-write-out : tie.Need-slice-write-out Inv-loop μ-loop
-slice-write-out c = let v = c .before .before .loop .inv in omega (arith, v .room, v .size)
-
-add-i : tie.Need-add-i Inv-loop μ-loop
-add-i c = omega arith
-
-loop-less : tie.Need-loop-less Inv-loop μ-loop
-loop-less c = omega arith
-
-loop-again : tie.Need-loop-again Inv-loop μ-loop
-loop-again c = next _ (c .before .before .loop .inv) (omega arith) (c .refused-byte .ensures)
-
-same-length : tie.Need-same-length Inv-loop μ-loop
-same-length c = c .before .loop .inv .size
-
-returns : tie.Need-returns Inv-loop μ-loop
+returns : tie.Need-returns
 returns c =
-    let s = c .before .before in
-    (omega (arith, s .some .ensures, s .before .count .ensures, refused-length (s .before .before .before .args .number)), finish (c .before .loop .inv) (omega arith))
+    let k = c .before .before in
+    let p = k .before .before .before .before in
+    text-copied (line-fits _ (p .put-refused .ensures .1) refl (p .put-refused .ensures .0)) _ _ _ _ (k .copy .ensures .0) (k .copy .ensures .1)
 
 pub put-refused-spec : {M : Type 1} → statement M
 put-refused-spec =
     tie.close
     (tie.spec
-    Inv-loop
-    μ-loop
-    count-requires
-    add-some
-    some-requires
-    loop-holds
-    add-refused-byte
-    refused-byte-requires
-    slice-write-out
-    add-i
-    loop-less
-    loop-again
+    slice-aggregate-put-refused
+    put-refused-requires
+    array-share-prefix-area
+    slice-aggregate-copy
+    copy-requires
     same-length
     returns)

@@ -1,5 +1,4 @@
 -- `rewriting::keep` meets its contract: the definition's choice. Assumes nothing.
-use mathlib.Core.Path.{_≡_, refl, sym, ap, _∙_}
 use borrow.Author.Needs.{needs}
 use Rattle.picture.proofs.MachineLaws.{kept-none, kept-some}
 use Rattle.picture.proofs.rewriting.keep.Statement.{statement}
@@ -12,7 +11,10 @@ part-of-requires : tie.Need-part-of-requires
 part-of-requires c κs = tt
 
 returns : tie.Need-returns
-returns c = (kept-none _ _ _ _ _ _ (c .before .before .if1 .taken) (c .before .at-phase .ensures) (c .part-of .ensures) .0, kept-none _ _ _ _ _ _ (c .before .before .if1 .taken) (c .before .at-phase .ensures) (c .part-of .ensures) .1)
+returns c = (
+  kept-none _ _ _ _ _ _ (c .before .before .if1 .taken) (c .before .at-phase .ensures) (c .part-of .ensures) .0,
+  kept-none _ _ _ _ _ _ (c .before .before .if1 .taken) (c .before .at-phase .ensures) (c .part-of .ensures) .1,
+)
 
 mul-row : tie.Need-mul-row
 mul-row c = search needs

@@ -1,5 +1,4 @@
 -- `rewriting::row_part` meets its contract: the definition's choice. Assumes nothing.
-use mathlib.Core.Path.{_≡_, refl, sym, ap, _∙_}
 use borrow.Author.Tests.{eq-eqb, ne-eqb}
 use Rattle.picture.specs.Machine.{rowPart}
 use Rattle.picture.proofs.rewriting.row_part.Statement.{statement}

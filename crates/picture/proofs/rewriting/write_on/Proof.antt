@@ -1,5 +1,5 @@
 -- `rewriting::write_on` meets its contract: the part is written to its end, or as far as there is room. Assumes nothing.
-use mathlib.Core.Path.{_≡_, refl, sym, ap, _∙_}
+use mathlib.Core.Path.{refl}
 use native.Mathlib.Omega.{arith}
 use borrow.Author.Needs.{needs}
 use Prim.Native.Nat.{_-_}
@@ -63,7 +63,8 @@ returns c =
     let a = s .args .at in
     let y = p .put-part .last .1 .1 .1 .1 .1 .1 .0 in
     let e = p .put-part .kept .1 .1 .1 .1 .1 .1 .0 in
-    settle-put (s .args .rewriting) (s .args .row .now) o y a (length o - a) (p .put-part .result) (s .pre) refl (p .put-part .ensures .0) (p .put-part .ensures .1 .0) (c .settle .result) (c .settle .ensures) (omega (arith, c .before .if1 .taken, back-size o y a (length o - a) e))
+    settle-put (s .args .rewriting) (s .args .row .now) o y a (length o - a) (p .put-part .result) (s .pre) refl (p .put-part .ensures .0)
+    (p .put-part .ensures .1 .0) (c .settle .result) (c .settle .ensures) (omega (arith, c .before .if1 .taken, back-size o y a (length o - a) e))
 
 add-with-done : tie.Need-add-with-done
 add-with-done c = omega (arith, c .before .before .before .before .put-part .ensures .1 .1)
@@ -100,7 +101,9 @@ returns-2 c =
     let a = s .args .at in
     let y = p .put-part .last .1 .1 .1 .1 .1 .1 .0 in
     let e = p .put-part .kept .1 .1 .1 .1 .1 .1 .0 in
-    part-put (s .args .rewriting) (s .args .row .now) o y a (length o - a) (p .put-part .result) (s .pre) refl (p .put-part .ensures .0) (p .put-part .ensures .1 .0) (c .with-done .result) (c .with-done .ensures) (omega (arith, c .before .before .if1 .left, back-size o y a (length o - a) e))
+    part-put (s .args .rewriting) (s .args .row .now) o y a (length o - a) (p .put-part .result) (s .pre) refl (p .put-part .ensures .0)
+    (p .put-part .ensures .1 .0) (c .with-done .result) (c .with-done .ensures)
+    (omega (arith, c .before .before .if1 .left, back-size o y a (length o - a) e))
 
 pub write-on-spec : {M : Type 1} → statement M
 write-on-spec =

@@ -1,7 +1,7 @@
 -- `Input::end` meets its contract: its tests are the definition's. Assumes nothing.
-use mathlib.Core.Path.{_≡_, refl, sym, ap, _∙_}
+use mathlib.Core.Path.{ap, _∙_}
 use Rattle.listing.specs.declared.input.Ended.the-variants as ended
-use Rattle.listing.proofs.HearingCases.{end-over, end-early, end-few, end-whole}
+use Rattle.listing.proofs.InputCases.{end-over, end-early, end-few, end-whole}
 use Rattle.listing.proofs.input.Input.end.Statement.{statement}
 use Rattle.listing.proofs.input.Input.end.Tie as tie
 

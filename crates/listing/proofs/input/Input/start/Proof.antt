@@ -1,6 +1,4 @@
 -- `Input::start` meets its contract: the starts of its parts. Assumes nothing.
-use mathlib.Core.Path.{_≡_, refl, sym, ap, _∙_}
-use Rattle.listing.specs.Hearing.{silent}
 use Rattle.listing.proofs.input.Input.start.Statement.{statement}
 use Rattle.listing.proofs.input.Input.start.Tie as tie
 

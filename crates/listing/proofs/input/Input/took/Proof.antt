@@ -3,7 +3,7 @@ use mathlib.Core.Path.{_≡_}
 use Prim.Native.Nat.{ℕ, _-_}
 use Rattle.pgm.specs.Samples.{noByte}
 use Rattle.pgm.specs.declared.samples.Samples.{Samples}
-use Rattle.listing.specs.Hearing.{heightsCame}
+use Rattle.listing.specs.InputSteps.{heightsCame}
 use Rattle.listing.specs.declared.input.Input.{Input}
 use Rattle.listing.proofs.input.Input.took.Statement.{statement}
 use Rattle.listing.proofs.input.Input.took.Tie as tie

@@ -1,14 +1,15 @@
--- `Listing::feed` meets its contract: turns one after the other, until one says that it stops. The measure is what is left of the piece and of the area. Assumes nothing.
+-- `Listing::feed` meets its contract: turns one after the other, until one says that it stops. The measure is what is left of the piece and of the
+-- area. Assumes nothing.
 use lib.ListN.{length}
 use Rattle.numbers.specs.Signal.{at}
-use Rattle.listing.specs.Scenes.{scene}
+use Rattle.listing.specs.States.{stateOf}
 use Rattle.listing.proofs.TurnLaws.{Gone, start, size, piece-room, area-room, turned, stops, left, turn-less}
 use Rattle.listing.proofs.listing.Listing.feed.Statement.{statement}
 use Rattle.listing.proofs.listing.Listing.feed.Tie as tie
 
 abbrev Inv-loop : tie.InvT-loop
 Inv-loop piece store₀ row₀ out₀ state₀ used₀ written₀ going₀ store row out state used written going =
-    Gone (length store₀) (length row₀) (scene state₀ (at store₀) (at row₀)) piece out₀ state store row out used written going
+    Gone (length store₀) (length row₀) (stateOf state₀ (at store₀) (at row₀)) piece out₀ state store row out used written going
 
 abbrev μ-loop : tie.MeasureT-loop
 μ-loop piece store₀ row₀ out₀ state₀ used₀ written₀ going₀ store row out state used written going =
@@ -30,7 +31,8 @@ loop-less c =
 loop-again : tie.Need-loop-again Inv-loop μ-loop
 loop-again c =
     let t = c .before .before .before .before .before in
-    turned (t .before .before .before .before .before .loop .inv) _ (t .turn .last .1 .1 .1 .0) (t .turn .last .1 .1 .1 .1 .0) (t .turn .kept .1 .1 .1 .0) (t .turn .kept .1 .1 .1 .1 .0) (t .turn .ensures .0) (t .turn .ensures .1)
+    turned (t .before .before .before .before .before .loop .inv) _ (t .turn .last .1 .1 .1 .0) (t .turn .last .1 .1 .1 .1 .0) (t .turn .kept .1 .1 .1 .0)
+    (t .turn .kept .1 .1 .1 .1 .0) (t .turn .ensures .0) (t .turn .ensures .1)
 
 same-length : tie.Need-same-length Inv-loop μ-loop
 same-length c = c .before .before .before .loop .inv .store

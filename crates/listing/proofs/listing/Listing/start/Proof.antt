@@ -1,8 +1,8 @@
 -- `Listing::start` meets its contract: the starts of its parts. Assumes nothing.
 use mathlib.Core.Path.{ap, _∙_}
 use Rattle.writer.specs.Calls.{fresh}
-use Rattle.listing.specs.Hearing.{silent}
-use Rattle.listing.specs.Scenes.{listed}
+use Rattle.listing.specs.InputSteps.{atStart}
+use Rattle.listing.specs.States.{listed}
 use Rattle.listing.proofs.listing.Listing.start.Statement.{statement}
 use Rattle.listing.proofs.listing.Listing.start.Tie as tie
 
@@ -13,7 +13,7 @@ none-requires : tie.Need-none-requires
 none-requires c κs = tt
 
 returns : tie.Need-returns
-returns c = ap (λ i. listed i (fresh 1 1) (c .none .result)) (c .before .start .ensures) ∙ ap (listed silent (fresh 1 1)) (c .none .ensures)
+returns c = ap (λ i. listed i (fresh 1 1) (c .none .result)) (c .before .start .ensures) ∙ ap (listed atStart (fresh 1 1)) (c .none .ensures)
 
 pub start-spec : {M : Type 1} → statement M
 start-spec = tie.close (tie.spec start-requires none-requires returns)

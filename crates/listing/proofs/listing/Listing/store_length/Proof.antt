@@ -3,12 +3,12 @@ use mathlib.Core.Path.{refl}
 use Rattle.lifting.specs.Line.{count}
 use Rattle.wavelet.specs.Levels.{size}
 use Rattle.wavelet.specs.Store.{widths, storeLength}
-use Rattle.listing.specs.Listing.{maxListedWidth}
+use Rattle.pgm.specs.Limits.{maxPictureWidth}
 use Rattle.listing.proofs.listing.Listing.store_length.Statement.{statement}
 use Rattle.listing.proofs.listing.Listing.store_length.Tie as tie
 
 returns : tie.Need-returns
-unfolding maxListedWidth storeLength widths size count
+unfolding maxPictureWidth storeLength widths size count
 returns c = refl
 
 pub store-length-spec : {M : Type 1} → statement M

@@ -1,5 +1,5 @@
 -- `Header::end_gap` meets its contract: its tests are the definition's. Assumes nothing.
-use mathlib.Core.Path.{sym, ap, _∙_}
+use mathlib.Core.Path.{sym, _∙_}
 use borrow.Author.Tests.{eq-eqb, ne-eqb}
 use Rattle.pgm.specs.Steps.{gapEnded}
 use Rattle.pgm.proofs.header.Header.end_gap.Statement.{statement}

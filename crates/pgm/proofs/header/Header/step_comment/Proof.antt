@@ -1,5 +1,5 @@
 -- `Header::step_comment` meets its contract: its test is the definition's. Assumes nothing.
-use mathlib.Core.Path.{sym, ap, _∙_}
+use mathlib.Core.Path.{sym, _∙_}
 use Rattle.pgm.specs.Steps.{commentRead}
 use Rattle.pgm.proofs.header.Header.step_comment.Statement.{statement}
 use Rattle.pgm.proofs.header.Header.step_comment.Tie as tie

@@ -1,5 +1,5 @@
 -- `Header::step_gap` meets its contract: its tests are the definition's. Assumes nothing.
-use mathlib.Core.Path.{sym, ap, _∙_}
+use mathlib.Core.Path.{sym, _∙_}
 use borrow.Author.Tests.{eq-eqb, ne-eqb}
 use Rattle.pgm.specs.Steps.{gapRead}
 use Rattle.pgm.proofs.header.Header.step_gap.Statement.{statement}
@@ -20,7 +20,8 @@ with-comment-requires c κs = tt
 
 returns-2 : tie.Need-returns-2
 unfolding gapRead
-returns-2 c = let b = c .before in simp (sym (b .before .before .is-space .ensures) ∙ b .before .if1 .left, eq-eqb _ _ (b .if2 .taken), c .with-comment .ensures)
+returns-2 c =
+    let b = c .before in simp (sym (b .before .before .is-space .ensures) ∙ b .before .if1 .left, eq-eqb _ _ (b .if2 .taken), c .with-comment .ensures)
 
 returns-3 : tie.Need-returns-3
 unfolding gapRead

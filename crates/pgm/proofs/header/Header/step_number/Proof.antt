@@ -25,7 +25,8 @@ unfolding inNumber
 returns-2 c =
     let d = c .before .before in
     let b = d .before in
-    simp (sym (b .before .is-digit .ensures) ∙ b .if1 .left, d .if2 .taken) (c .step-gap .ensures ∙ ap (λ h. gapRead h (b .before .before .args .byte)) (c .before .end-number .ensures))
+    simp (sym (b .before .is-digit .ensures) ∙ b .if1 .left, d .if2 .taken)
+    (c .step-gap .ensures ∙ ap (λ h. gapRead h (b .before .before .args .byte)) (c .before .end-number .ensures))
 
 step-gap-requires-2 : tie.Need-step-gap-requires-2
 step-gap-requires-2 c κs = tt

@@ -11,25 +11,28 @@ is-wide-requires c κs = tt
 single-requires : tie.Need-single-requires
 single-requires c κs = tt
 
-heard-requires : tie.Need-heard-requires
-heard-requires c κs = tt
+checked-requires : tie.Need-checked-requires
+checked-requires c κs = tt
 
 returns : tie.Need-returns
 unfolding sampleOf
-returns c = let b = c .before .before in simp (sym (b .before .is-wide .ensures) ∙ not-true _ (b .if1 .taken)) (c .heard .ensures ∙ ap (sampled (b .before .before .args .self .largest)) (c .before .single .ensures))
+returns c =
+    let b = c .before .before in simp (sym (b .before .is-wide .ensures) ∙ not-true _ (b .if1 .taken))
+    (c .checked .ensures ∙ ap (sampled (b .before .before .args .self .largest)) (c .before .single .ensures))
 
 joined-requires : tie.Need-joined-requires
 joined-requires c κs = tt
 
-heard-requires-2 : tie.Need-heard-requires-2
-heard-requires-2 c κs = tt
+checked-requires-2 : tie.Need-checked-requires-2
+checked-requires-2 c κs = tt
 
 returns-2 : tie.Need-returns-2
 unfolding sampleOf
 returns-2 c =
     let d = c .before .before in
     let b = d .before in
-    simp (sym (b .before .is-wide .ensures) ∙ not-false _ (b .if1 .left), d .if2 .taken) (c .heard2 .ensures ∙ ap (sampled (b .before .before .args .self .largest)) (c .before .joined .ensures))
+    simp (sym (b .before .is-wide .ensures) ∙ not-false _ (b .if1 .left), d .if2 .taken)
+    (c .checked2 .ensures ∙ ap (sampled (b .before .before .args .self .largest)) (c .before .joined .ensures))
 
 returns-3 : tie.Need-returns-3
 unfolding sampleOf
@@ -41,9 +44,9 @@ step-spec =
     (tie.spec
     is-wide-requires
     single-requires
-    heard-requires
+    checked-requires
     returns
     joined-requires
-    heard-requires-2
+    checked-requires-2
     returns-2
     returns-3)

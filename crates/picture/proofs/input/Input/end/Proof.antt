@@ -1,5 +1,5 @@
 -- `Input::end` meets its contract: the definition's tests. Assumes nothing.
-use mathlib.Core.Path.{_≡_, refl, sym, ap, _∙_}
+use mathlib.Core.Path.{ap, _∙_}
 use Rattle.picture.specs.declared.input.Ended.the-variants as ended
 use Rattle.picture.proofs.InputCases.{end-early, end-over, end-few, end-whole}
 use Rattle.picture.proofs.input.Input.end.Statement.{statement}

@@ -1,6 +1,4 @@
 -- `Input::start` meets its contract: the starts of its parts. Assumes nothing.
-use mathlib.Core.Path.{_≡_, refl, sym, ap, _∙_}
-use Rattle.picture.specs.Hearing.{silent}
 use Rattle.picture.proofs.input.Input.start.Statement.{statement}
 use Rattle.picture.proofs.input.Input.start.Tie as tie
 

@@ -1,5 +1,5 @@
 -- `Rewriting::end` meets its contract: the cases of the end. Assumes nothing.
-use mathlib.Core.Path.{_≡_, refl, sym, ap, _∙_}
+use mathlib.Core.Path.{sym, ap, _∙_}
 use borrow.Author.Needs.{needs}
 use Rattle.picture.specs.Machine.{rewriting}
 use Rattle.picture.proofs.MachineLaws.{ends-on, ends-as}

@@ -1,5 +1,4 @@
 -- `Rewriting::settle` meets its contract. Assumes nothing.
-use mathlib.Core.Path.{_≡_, refl, sym, ap, _∙_}
 use Rattle.picture.proofs.MachineLaws.{settles}
 use Rattle.picture.proofs.rewriting.Rewriting.settle.Statement.{statement}
 use Rattle.picture.proofs.rewriting.Rewriting.settle.Tie as tie

@@ -1,6 +1,4 @@
 -- `Rewriting::start` meets its contract: the starts of its parts. Assumes nothing.
-use mathlib.Core.Path.{_≡_, refl, sym, ap, _∙_}
-use Rattle.picture.specs.Machine.{started}
 use Rattle.picture.proofs.rewriting.Rewriting.start.Statement.{statement}
 use Rattle.picture.proofs.rewriting.Rewriting.start.Tie as tie
 

@@ -1,0 +1,100 @@
+-- What a byte brings, case by case. Assumes nothing.
+use mathlib.Core.Path.{_≡_, ap}
+use mathlib.Core.Bool.{true, false}
+use Prim.Native.Nat.{ℕ, _-_, _*_, _≤_, _<_}
+use native.Mathlib.Omega.{arith}
+use borrow.Author.Tests.{eq-eqb, ne-eqb, lt-ltb, le-ltb, le-leb, lt-leb}
+use Rattle.wavelet.specs.Questions.{within}
+use Rattle.pgm.specs.Samples.{noByte, sampleOf}
+use Rattle.pgm.specs.Steps.{stepOf}
+use Rattle.pgm.specs.declared.header.Next.{Next}
+use Rattle.pgm.specs.declared.samples.Samples.{Samples}
+use Rattle.pgm.specs.declared.samples.Sample.{Sample}
+use Rattle.pgm.specs.Limits.{sizeFits}
+use Rattle.listing.specs.Listing.{levelDigit}
+use Rattle.listing.specs.InputSteps.{phased, refuse15, levelsRead, lineFeedRead, shapeRead, nextRead, headerRead, sampleRead, heightRead, readByte}
+use Rattle.listing.specs.InputSteps.{inputEnded}
+use Rattle.listing.specs.declared.input.Input.{Input}
+use Rattle.listing.specs.declared.input.Step.the-variants as steps
+use Rattle.listing.specs.declared.input.Ended.the-variants as ended
+
+module _ (i : Input) (b : ℕ) where
+  pub levels-below : b < 49 → refuse15 i ≡ levelsRead i b
+  unfolding levelsRead levelDigit within
+  levels-below h = rw (lt-leb 49 b h)
+
+  pub levels-above : 49 ≤ b → 53 < b → refuse15 i ≡ levelsRead i b
+  unfolding levelsRead levelDigit within
+  levels-above h g = rw (le-leb 49 b h, lt-leb b 53 g)
+
+  pub levels-yes : 49 ≤ b → b ≤ 53 → steps.More
+      (record { phase = 1; levels = b - 48; header = i .header; left = i .left; samples = i .samples }) ≡ levelsRead i b
+  unfolding levelsRead levelDigit within
+  levels-yes h g = rw (le-leb 49 b h, le-leb b 53 g)
+
+  pub feed-yes : b ≡ 10 → steps.More (phased 2 i) ≡ lineFeedRead i b
+  unfolding lineFeedRead
+  feed-yes e = rw (eq-eqb b 10 e)
+
+  pub feed-no : (b ≡ 10 → ⊥) → refuse15 i ≡ lineFeedRead i b
+  unfolding lineFeedRead
+  feed-no d = rw (ne-eqb b 10 d)
+
+  pub header-case : (x : Next) → x ≡ stepOf (i .header) b → nextRead i x ≡ headerRead i b
+  unfolding headerRead
+  header-case x e = ap (nextRead i) e
+
+  pub height-none : i .left ≡ 0 → refuse15 i ≡ heightRead i b
+  unfolding heightRead
+  height-none e = rw (eq-eqb (i .left) 0 e)
+
+  pub height-some : (x : Sample) → (i .left ≡ 0 → ⊥) → x ≡ sampleOf (i .samples) b → sampleRead i x ≡ heightRead i b
+  unfolding heightRead
+  height-some x d e = rw (ne-eqb (i .left) 0 d) (ap (sampleRead i) e)
+
+  pub phase-0 : i .phase ≡ 0 → levelsRead i b ≡ readByte i b
+  unfolding readByte
+  phase-0 e = rw (eq-eqb (i .phase) 0 e)
+
+  pub phase-1 : i .phase ≡ 1 → lineFeedRead i b ≡ readByte i b
+  unfolding readByte
+  phase-1 e = rw (ne-eqb (i .phase) 0 (λ z. omega arith), eq-eqb (i .phase) 1 e)
+
+  pub phase-2 : i .phase ≡ 2 → headerRead i b ≡ readByte i b
+  unfolding readByte
+  phase-2 e = rw (ne-eqb (i .phase) 0 (λ z. omega arith), ne-eqb (i .phase) 1 (λ z. omega arith), eq-eqb (i .phase) 2 e)
+
+  pub phase-3 : i .phase ≡ 3 → heightRead i b ≡ readByte i b
+  unfolding readByte
+  phase-3 e = rw (ne-eqb (i .phase) 0 (λ z. omega arith), ne-eqb (i .phase) 1 (λ z. omega arith), ne-eqb (i .phase) 2 (λ z. omega arith), eq-eqb (i .phase) 3 e)
+
+  pub phase-on : (i .phase ≡ 0 → ⊥) → (i .phase ≡ 1 → ⊥) → (i .phase ≡ 2 → ⊥) → (i .phase ≡ 3 → ⊥) → steps.More i ≡ readByte i b
+  unfolding readByte
+  phase-on p q r t = rw (ne-eqb (i .phase) 0 p, ne-eqb (i .phase) 1 q, ne-eqb (i .phase) 2 r, ne-eqb (i .phase) 3 t)
+
+module _ (i : Input) (w h m : ℕ) where
+  pub shape-no : sizeFits w h ≡ false → refuse15 i ≡ shapeRead i w h m
+  unfolding shapeRead
+  shape-no e = rw e
+
+  pub shape-yes : (n : ℕ) (x : Samples) → sizeFits w h ≡ true → n ≡ w * h → x ≡ noByte m
+      → steps.Begun (record { phase = 3; levels = i .levels; header = i .header; left = n; samples = x }) w h ≡ shapeRead i w h m
+  unfolding shapeRead
+  shape-yes n x e g d = rw (e, g, d)
+
+module _ (i : Input) where
+  pub end-over : 3 < i .phase → ended.Before ≡ inputEnded i
+  unfolding inputEnded
+  end-over h = rw (lt-ltb 3 (i .phase) h)
+
+  pub end-early : i .phase < 3 → ended.Short (phased 4 i) ≡ inputEnded i
+  unfolding inputEnded
+  end-early h = rw (le-ltb 3 (i .phase) (omega arith), lt-ltb (i .phase) 3 h)
+
+  pub end-few : i .phase ≤ 3 → 3 ≤ i .phase → 0 < i .left → ended.Short (phased 4 i) ≡ inputEnded i
+  unfolding inputEnded
+  end-few g h l = rw (le-ltb 3 (i .phase) g, le-ltb (i .phase) 3 h, lt-ltb 0 (i .left) l)
+
+  pub end-whole : i .phase ≤ 3 → 3 ≤ i .phase → i .left ≤ 0 → ended.Whole (phased 4 i) ≡ inputEnded i
+  unfolding inputEnded
+  end-whole g h l = rw (le-ltb 3 (i .phase) g, le-ltb (i .phase) 3 h, le-ltb 0 (i .left) l)
