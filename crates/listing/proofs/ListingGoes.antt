@@ -5,15 +5,12 @@ use mathlib.Core.List.{List, [], _∷_, _++_, append-assoc, append-nil}
 use Prim.Native.Nat.{ℕ, _+_, _-_, _≤_}
 use native.Mathlib.Omega.{arith}
 use Rattle.wavelet.specs.Store.{storeLength}
-use Rattle.calls.specs.Lists.{All, all-none, all-more}
 use Rattle.level.specs.Level.{Memory}
-use Rattle.listing.specs.Hearing.{silent}
-use Rattle.listing.specs.Scenes.{Scene, scene}
-use Rattle.listing.specs.Moves.{Move, partly, wholly, hears, takes, Goes, stays, then, readByte}
-use Rattle.listing.specs.Telling.{listen}
+use Rattle.calls.specs.Lists.{All, all-none, all-more}
 use Rattle.pgm.specs.Limits.{maxPictureWidth}
 use Rattle.listing.specs.InputSteps.{atStart}
-use Rattle.listing.specs.States.{started, State, stateOf}
+use Rattle.listing.specs.States.{State, stateOf, started}
+use Rattle.listing.specs.Moves.{Move, partly, wholly, readByte, takes, Goes, stays, then}
 use Rattle.listing.specs.Events.{Event, readAll}
 use Rattle.listing.specs.declared.input.Input.{Input}
 use Rattle.listing.proofs.InputReads.{cut-events, cut-input}

@@ -8,17 +8,14 @@ use native.Mathlib.Omega.{arith}
 use lib.ListN.{length, take}
 use Rattle.wavelet.specs.Limits.{maxHeight}
 use Rattle.wavelet.specs.Store.{storeLength}
-use Rattle.wavelet.specs.Questions.{within}
-use Rattle.calls.specs.Lists.{gives, all-none}
 use Rattle.level.specs.Level.{Memory}
 use Rattle.writer.specs.Questions.{setUpQuestion}
+use Rattle.calls.specs.Lists.{gives, all-none}
 use Rattle.writer.specs.Answers.{Took}
 use Rattle.writer.specs.Calls.{fresh, setUpReply, setUpStore, offerReply, offerStore}
 use Rattle.writer.specs.declared.Writer.{Writer}
-use Rattle.listing.specs.Lines.{sizeLine}
-use Rattle.listing.specs.Listing.{maxListedWidth, maxListedHeight, shapeFits}
-use Rattle.writer.proofs.CallList.{map-append}
 use Rattle.text.specs.Refusal.{refusedLine, answerLine}
+use Rattle.listing.specs.Lines.{sizeLine}
 use Rattle.pgm.specs.Limits.{maxPictureWidth, maxPictureHeight, sizeFits}
 use Rattle.pgm.proofs.LimitLaws.{size-fits}
 use Rattle.listing.specs.Parts.{noLine, sizePart}

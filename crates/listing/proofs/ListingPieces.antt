@@ -16,13 +16,12 @@ use borrow.Author.Tests.{lt-ltb}
 use Rattle.numbers.specs.Signal.{pick}
 use Rattle.wavelet.specs.Store.{storeLength}
 use Rattle.pgm.specs.Steps.{joined}
-use Rattle.calls.specs.Lists.{All, all-none}
 use Rattle.level.specs.Level.{Memory}
-use Rattle.listing.specs.Listing.{maxListedWidth, listingOf, dueOf}
-use Rattle.listing.specs.Scenes.{Scene, scene, endScene}
-use Rattle.listing.specs.Moves.{Idle, Goes, stays, Went, Stops, full, idle}
+use Rattle.calls.specs.Lists.{All, all-none}
 use Rattle.pgm.specs.Limits.{maxPictureWidth}
-use Rattle.listing.specs.States.{started, State, stateOf, endState}
+use Rattle.listing.specs.Listing.{listingOf, dueOf}
+use Rattle.listing.specs.States.{State, stateOf, started, endState}
+use Rattle.listing.specs.Moves.{Idle, Goes, stays, Stops, full, idle}
 use Rattle.listing.specs.Pieces.{Piece, last, again, Pieces, none, next, pausesIn, pauses}
 use Rattle.listing.proofs.MoveLaws.{goes-on}
 use Rattle.listing.proofs.ListingTheorem.{call-wrote, moves-due, moves-whole}

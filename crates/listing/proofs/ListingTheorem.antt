@@ -14,14 +14,12 @@ use native.Mathlib.Omega.{arith}
 use lib.ListN.{take, drop}
 use lib.Seq.{take-at}
 use Rattle.wavelet.specs.Store.{storeLength}
-use Rattle.calls.specs.Lists.{All}
 use Rattle.level.specs.Level.{Memory}
-use Rattle.listing.specs.Listing.{maxListedWidth, listingOf, dueOf}
-use Rattle.listing.specs.Hearing.{silent, endHeard}
-use Rattle.listing.specs.Scenes.{Scene, scene, endScene}
+use Rattle.calls.specs.Lists.{All}
 use Rattle.pgm.specs.Limits.{maxPictureWidth}
+use Rattle.listing.specs.Listing.{listingOf, dueOf}
 use Rattle.listing.specs.InputSteps.{atStart, inputEnded}
-use Rattle.listing.specs.States.{started, State, stateOf, endState}
+use Rattle.listing.specs.States.{State, stateOf, started, endState}
 use Rattle.listing.specs.Moves.{Idle, Goes, stays, Went, Session, begun, call}
 use Rattle.listing.specs.Events.{Event, Ending, stepThen, readAll, endingOf}
 use Rattle.listing.specs.declared.input.Input.{Input}

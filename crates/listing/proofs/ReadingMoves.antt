@@ -21,8 +21,7 @@ use Rattle.writer.specs.Calls.{took, offerReply, offerStore}
 use Rattle.writer.specs.declared.Writer.{Writer}
 use Rattle.writer.proofs.CallLaws.{offer-may}
 use Rattle.writer.proofs.Reached.{takes-one}
-use Rattle.listing.specs.Scenes.{Scene, scene, drawScene, hearScene}
-use Rattle.listing.specs.Moves.{Idle, largestOn, hears, takes as offers, Reads, readByte}
+use Rattle.listing.specs.Moves.{Idle, largestOn, readByte, takes as offers, Reads}
 use Rattle.listing.specs.InputSteps.{heightsCame}
 use Rattle.listing.specs.States.{Leaves, State, stateOf, drawState, readState}
 use Rattle.listing.specs.declared.input.Input.{Input}

@@ -9,11 +9,10 @@ use lib.ListN.{length, take}
 use Rattle.numbers.specs.Signal.{pick}
 use Rattle.pgm.specs.Samples.{wide, sampleSize, pairsOf, samplesOf, fitting, heightsOf}
 use Rattle.pgm.specs.declared.header.Header.{Header}
-use Rattle.calls.specs.Lists.{All, all-none, all-more}
-use Rattle.listing.specs.Telling.{Hearing, heardOn, listen}
 use Rattle.wavelet.specs.Limits.{maxSample}
+use Rattle.calls.specs.Lists.{All, all-none, all-more}
 use Rattle.listing.specs.InputSteps.{heightsCame}
-use Rattle.listing.specs.Events.{height, andOn, Progress, stepThen, readAll}
+use Rattle.listing.specs.Events.{height, Progress, andOn, stepThen, readAll}
 use Rattle.listing.specs.declared.input.Input.{Input}
 use Rattle.pgm.proofs.HeightLaws.{Leads, leads-two, leads-one, no-sample}
 use Rattle.listing.proofs.StepHow.{two-bytes, one-byte}
