@@ -12,7 +12,7 @@ use Rattle.descriptors.specs.Left.{leftIn, Within, Fills}
 use Rattle.descriptors.specs.declared.input.Left.{Left}
 use Rattle.descriptors.specs.declared.input.Filled.{Filled}
 use Rattle.descriptors.specs.declared.output.Sent.{Sent}
-use Rattle.descriptors.proofs.LeftLaws.{none-left, fills-within, used-within, used-left}
+use Rattle.descriptors.proofs.LeftLaws.{fills-within, used-within, used-left}
 use Rattle.level.specs.Level.{Memory}
 use Rattle.listing.specs.declared.listing.Listing.{Listing}
 use Rattle.listing.specs.declared.listing.Fed.{Fed}

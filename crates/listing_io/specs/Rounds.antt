@@ -11,9 +11,8 @@ use Rattle.descriptors.specs.Left.{leftIn, Within, usedOf, Fills}
 use Rattle.descriptors.specs.declared.input.Left.{Left}
 use Rattle.descriptors.specs.declared.input.Filled.{Filled}
 use Rattle.descriptors.specs.declared.output.Sent.{Sent}
-use Rattle.listing.specs.Scenes.{Scene, scene, endScene}
 use Rattle.level.specs.Level.{Memory}
-use Rattle.listing.specs.States.{started, State, stateOf, endState}
+use Rattle.listing.specs.States.{State, stateOf, started, endState}
 use Rattle.listing.specs.Moves.{Idle, Went, Stops}
 use Rattle.listing.specs.declared.listing.Listing.{Listing}
 use Rattle.listing.specs.declared.listing.Fed.{Fed}
