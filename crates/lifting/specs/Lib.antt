@@ -1,4 +1,6 @@
 pub mod Line
 pub mod Halves
 pub mod Rows
+pub mod Grid
+pub mod GridHalves
 pub mod Passes

@@ -47,7 +47,8 @@ pub fn predict_row(
     right: usize,
 ) -> u8
     ensures { λ r. ⌜ r ≡ pick (rowsFit (length (now (area .entry))) stride width target left right) 0 5 ⌝ }
-    ensures { λ r. ⌜ at (now (area .exit)) ≡ rowsChanged (predicted wrap32) (length (now (area .entry))) stride width target left right (at (now (area .entry))) ⌝ }
+    ensures { λ r. ⌜ at (now (area .exit)) ≡ rowsChanged (predicted wrap32) (length (now (area .entry))) stride width target left right
+        (at (now (area .entry))) ⌝ }
 {
     if rows_fit(area.len(), stride, width, target, left, right) {
         let t = target * stride;
@@ -72,7 +73,8 @@ pub fn update_row(
     right: usize,
 ) -> u8
     ensures { λ r. ⌜ r ≡ pick (rowsFit (length (now (area .entry))) stride width target left right) 0 5 ⌝ }
-    ensures { λ r. ⌜ at (now (area .exit)) ≡ rowsChanged (updated wrap32) (length (now (area .entry))) stride width target left right (at (now (area .entry))) ⌝ }
+    ensures { λ r. ⌜ at (now (area .exit)) ≡ rowsChanged (updated wrap32) (length (now (area .entry))) stride width target left right (at (now (area .entry)))
+        ⌝ }
 {
     if rows_fit(area.len(), stride, width, target, left, right) {
         let t = target * stride;
@@ -97,7 +99,8 @@ pub fn unupdate_row(
     right: usize,
 ) -> u8
     ensures { λ r. ⌜ r ≡ pick (rowsFit (length (now (area .entry))) stride width target left right) 0 5 ⌝ }
-    ensures { λ r. ⌜ at (now (area .exit)) ≡ rowsChanged (unupdated wrap32) (length (now (area .entry))) stride width target left right (at (now (area .entry))) ⌝ }
+    ensures { λ r. ⌜ at (now (area .exit)) ≡ rowsChanged (unupdated wrap32) (length (now (area .entry))) stride width target left right
+        (at (now (area .entry))) ⌝ }
 {
     if rows_fit(area.len(), stride, width, target, left, right) {
         let t = target * stride;
@@ -122,7 +125,8 @@ pub fn unpredict_row(
     right: usize,
 ) -> u8
     ensures { λ r. ⌜ r ≡ pick (rowsFit (length (now (area .entry))) stride width target left right) 0 5 ⌝ }
-    ensures { λ r. ⌜ at (now (area .exit)) ≡ rowsChanged (unpredicted wrap32) (length (now (area .entry))) stride width target left right (at (now (area .entry))) ⌝ }
+    ensures { λ r. ⌜ at (now (area .exit)) ≡ rowsChanged (unpredicted wrap32) (length (now (area .entry))) stride width target left right
+        (at (now (area .entry))) ⌝ }
 {
     if rows_fit(area.len(), stride, width, target, left, right) {
         let t = target * stride;

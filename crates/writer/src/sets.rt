@@ -18,7 +18,7 @@ fn lift_row(store: &mut [i32], w: usize, r: usize)
     ensures { λ _. ⌜ at (now (store .exit)) ≡ rowLifted w r (at (now (store .entry))) ⌝ }
 {
     let a = counts::slot(w, r);
-    line::lift(&mut store[a..a + w]);
+    line::lift(&mut store[a..a + w], 0);
 }
 
 // One column of a set that is not the first, at its places in rows 2n + 1, 2n, 2n + 2 and the free slot, where d(n−1) stands until d(n) takes its place.
