@@ -13,8 +13,8 @@ uint32_t kernel_predict_row(int32_t *area, size_t len, size_t stride, size_t wid
 uint32_t kernel_update_row(int32_t *area, size_t len, size_t stride, size_t width, size_t target, size_t left, size_t right);
 uint32_t kernel_unupdate_row(int32_t *area, size_t len, size_t stride, size_t width, size_t target, size_t left, size_t right);
 uint32_t kernel_unpredict_row(int32_t *area, size_t len, size_t stride, size_t width, size_t target, size_t left, size_t right);
-void kernel_lift(int32_t *line, size_t len);
-void kernel_unlift(int32_t *line, size_t len);
+void kernel_lift(int32_t *line, size_t len, size_t start);
+uint32_t kernel_unlift(int32_t *line, size_t len, size_t start);
 
 enum { N = 2049, ROUNDS = 401, CALLS = 200, KINDS = 3 };
 
@@ -26,7 +26,7 @@ static int32_t start[3 * N], area[KINDS][3 * N], line[N], out[KINDS][N];
     static void whole_run_##name(int k) { whole_##name(area[k] + N, area[k], area[k] + 2 * N, N); }        \
     static void short_run_##name(int k) { short_##name(area[k] + N, area[k], area[k] + 2 * N, N); }
 #define LINE(name)                                                                                         \
-    static void proved_##name(int k) { kernel_##name(area[k] + N, N); }                                    \
+    static void proved_##name(int k) { kernel_##name(area[k] + N, N, 0); }                                 \
     static void whole_run_##name(int k) { whole_##name(area[k] + N, N); }                                  \
     static void short_run_##name(int k) { short_##name(area[k] + N, N); }
 #define COPY(name)                                                                                         \

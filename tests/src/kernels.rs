@@ -1,18 +1,36 @@
-//! Crate `kernels`: the in-place line calls, the row calls and the pair calls, which the C interface leaves out. Nothing checks a declaration here against
-//! the Rattle source, so each stands beside its wrapper and is driven by a test.
+//! Crate `kernels`: the line calls with a start, the in-place ones among them, the row calls and the pair calls, which the C interface leaves out. Nothing
+//! checks a declaration here against the Rattle source, so each stands beside its wrapper and is driven by a test.
 extern "C" {
-    fn kernel_lift(line: *mut i32, line_len: usize);
-    fn kernel_unlift(line: *mut i32, line_len: usize);
+    fn kernel_lift(line: *mut i32, line_len: usize, start: usize);
+    fn kernel_unlift(line: *mut i32, line_len: usize, start: usize) -> u32;
+    fn kernel_forward(line: *const i32, line_len: usize, start: usize, out: *mut i32, out_len: usize) -> u32;
+    fn kernel_backward(coefficients: *const i32, coefficients_len: usize, start: usize, out: *mut i32, out_len: usize) -> u32;
+    fn kernel_unlift_by(row: *const i32, row_len: usize, start: usize, out: *mut i32, out_len: usize) -> u32;
 }
 
-pub fn lift(line: &mut [i32]) {
+pub fn lift(line: &mut [i32], start: usize) {
     // SAFETY: the area is a whole slice.
-    unsafe { kernel_lift(line.as_mut_ptr(), line.len()) }
+    unsafe { kernel_lift(line.as_mut_ptr(), line.len(), start) }
 }
 
-pub fn unlift(line: &mut [i32]) {
+pub fn unlift(line: &mut [i32], start: usize) -> u32 {
     // SAFETY: as above.
-    unsafe { kernel_unlift(line.as_mut_ptr(), line.len()) }
+    unsafe { kernel_unlift(line.as_mut_ptr(), line.len(), start) }
+}
+
+pub fn forward(line: &[i32], start: usize, out: &mut [i32]) -> u32 {
+    // SAFETY: both areas are whole slices, and no one else has `out`.
+    unsafe { kernel_forward(line.as_ptr(), line.len(), start, out.as_mut_ptr(), out.len()) }
+}
+
+pub fn backward(coefficients: &[i32], start: usize, out: &mut [i32]) -> u32 {
+    // SAFETY: as above.
+    unsafe { kernel_backward(coefficients.as_ptr(), coefficients.len(), start, out.as_mut_ptr(), out.len()) }
+}
+
+pub fn unlift_by(row: &[i32], start: usize, out: &mut [i32]) -> u32 {
+    // SAFETY: as above.
+    unsafe { kernel_unlift_by(row.as_ptr(), row.len(), start, out.as_mut_ptr(), out.len()) }
 }
 
 /// The rows of an area: which is changed, and by which two.

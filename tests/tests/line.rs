@@ -107,12 +107,12 @@ fn in_place_a_line_in_halves_gets_the_reference_s_values() {
     for n in lengths() {
         for lent in lines(n) {
             let mut area = Guarded::new(&reference::in_halves(&lent));
-            kernels::lift(area.lent());
+            kernels::lift(area.lent(), 0);
             assert_eq!(area.content(), coefficients(&lent));
-            kernels::unlift(area.lent());
+            assert_eq!(kernels::unlift(area.lent(), 0), 0);
             assert_eq!(area.content(), reference::in_halves(&lent));
             let mut area = Guarded::new(&lent);
-            kernels::unlift(area.lent());
+            assert_eq!(kernels::unlift(area.lent(), 0), 0);
             assert_eq!(area.content(), reference::in_halves(&samples(&lent)));
         }
     }

@@ -13,7 +13,7 @@ use Rattle.numbers.proofs.Parts.{window-in, splice-below, splice-in, splice-pas
 use Rattle.lifting.specs.Line.{Half, lo, hi, count, parted, joined, lineForward, lineHalvesBack, lineBack}
 use Rattle.lifting.specs.Halves.{halvesOf, inHalves, unliftedInPlace}
 use Rattle.lifting.proofs.Filter.{place, place-in, in-place, by-place}
-use Rattle.lifting.proofs.FiveThree.{joined-place}
+use Rattle.lifting.proofs.LineNear.{joined-place}
 use Rattle.lifting.proofs.LineTheorems.{back-forward, halves-back-reads}
 use Rattle.lifting.proofs.LineLaws.{halves-low, halves-high}
 use Rattle.lifting.proofs.RowLaws.{row-order, row-at, row-past, row-other}

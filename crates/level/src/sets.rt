@@ -20,7 +20,7 @@ fn lift_row(store: &mut [i32], w: usize, r: usize)
     ensures { λ _. ⌜ at (now (store .exit)) ≡ rowLifted w r (at (now (store .entry))) ⌝ }
 {
     let a = r % 4 * w;
-    line::lift(&mut store[a..a + w]);
+    line::lift(&mut store[a..a + w], 0);
 }
 
 // The columns of set n in one pass: row 2n + 1 predicted, row 2n updated, and row 2n + 1 copied to the free slot, where d(n−1) stands; the first set has none.

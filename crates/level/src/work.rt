@@ -32,7 +32,7 @@ fn unlift_row(stretch: &mut [i32], w: usize, r: usize)
 {
     let a = row_place(w, r);
     let e = a + w;
-    line::unlift(&mut stretch[a..e]);
+    line::unlift(&mut stretch[a..e], 0);
 }
 
 // The rows of set n lifted back along the row: the low one, and the high one if there is one.

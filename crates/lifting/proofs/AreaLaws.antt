@@ -1,198 +1,385 @@
 -- The laws of the passes from one area to another: what each leaves at a place, a turn of its loop, and what the passes come to together. Assumes nothing.
-use mathlib.Core.Path.{_≡_, sym, ap, _∙_, subst, fun-ext}
+use mathlib.Core.Path.{_≡_, refl, sym, ap, ap₂, _∙_, subst, fun-ext}
 use mathlib.Core.List.{List}
 use Prim.Native.Nat.{ℕ, _+_, _-_, _*_, _/_, _%_, _≤_, _<_, min}
 use native.Mathlib.Decide.{decLt, ℕ-discrete}
 use native.Mathlib.Omega.{arith}
 use lib.IntN.{ℤ}
-use lib.ListN.{length, set}
-use borrow.Author.Tests.{lt-ltb, le-ltb}
-use Rattle.numbers.specs.Signal.{at, windowed, spliced}
+use lib.ListN.{length, set, length-set}
+use lib.Dec.{eqb}
+use borrow.Author.Tests.{lt-ltb, le-ltb, eq-eqb, ne-eqb}
+use borrow.Rule.Slice.PartMut.{midOf, putMid, same-len-mid}
+use Rattle.numbers.specs.Signal.{at, pick, windowed, spliced}
 use Rattle.numbers.specs.Word.{wrap32}
 use Rattle.numbers.proofs.Sweep.{Swept, start, store, finish}
-use Rattle.numbers.proofs.Parts.{window-in, splice-in, splice-past}
-use Rattle.lifting.specs.Line.{lo, hi, count, unupdated, unpredicted, joined, backEven, lineForward, lineHalvesBack, lineBack}
-use Rattle.lifting.specs.Halves.{halvesOf, liftedInPlace, forwardInto, backwardInto}
-use Rattle.lifting.specs.Passes.{evensCopied, oddsCopied}
-use Rattle.lifting.proofs.LineLaws.{counts, count-lo, count-hi, joined-even, joined-odd, even-is, even-one, odd-is, high-same, low-same, halves-low, halves-high, halves-are, front-in, front-past}
+use Rattle.numbers.proofs.Parts.{window-in, splice-in, splice-below, splice-past, length-mid, at-mid, at-put}
+use Rattle.lifting.specs.Line.{Half, lo, hi, unupdated, unpredicted}
+use Rattle.lifting.specs.Grid.{Side, side, place, count, parted, joined, lineForward, lineHalvesBack, lineBack}
+use Rattle.lifting.specs.GridHalves.{halvesOf, liftedInPlace, forwardInto, backwardInto}
+use Rattle.lifting.specs.Passes.{near, evensCopied, evenBack, restPut}
+use Rattle.lifting.proofs.GridLaws.{ahead, counts, some, low-place, high-place, left-one, left-two, left-three, place-in, joined-place, joined-reads}
+use Rattle.lifting.proofs.GridLaws.{joined-parted, even-near, odd-near, halves-low, halves-high, halves-are, front-in, front-past}
+use Rattle.lifting.proofs.GridReads.{forward-reads}
 
--- ---- a line copied into its halves
+-- ---- the even places of a line copied
 module _ (N : ℕ) (x z : ℕ → ℤ) where
-  pub evens-in : (j : ℕ) → j < count lo N → evensCopied N x z j ≡ x (2 * j)
+  pub evens-in : (j : ℕ) → j < N - N / 2 → evensCopied N x z j ≡ x (2 * j)
   unfolding evensCopied
-  evens-in j h = simp (lt-ltb j (count lo N) h)
+  evens-in j h = simp (lt-ltb j (N - N / 2) h)
 
-  pub evens-past : (j : ℕ) → count lo N ≤ j → evensCopied N x z j ≡ z j
+  pub evens-past : (j : ℕ) → N - N / 2 ≤ j → evensCopied N x z j ≡ z j
   unfolding evensCopied
-  evens-past j h = simp (le-ltb j (count lo N) h)
-
-  pub odds-low : (j : ℕ) → j < count lo N → oddsCopied N x z j ≡ z j
-  unfolding oddsCopied
-  odds-low j h = simp (lt-ltb j (count lo N) h)
-
-  pub odds-high : (n : ℕ) → n < count hi N → oddsCopied N x z (count lo N + n) ≡ x (2 * n + 1)
-  unfolding oddsCopied
-  odds-high n h =
-      let both = counts N in
-      let k : count lo N + n - count lo N ≡ n = omega arith in
-      simp (le-ltb (count lo N + n) (count lo N) (omega arith), lt-ltb (count lo N + n) N (omega arith), k)
-
-  pub odds-past : (j : ℕ) → N ≤ j → oddsCopied N x z j ≡ z j
-  unfolding oddsCopied
-  odds-past j h = let both = counts N in simp (le-ltb j (count lo N) (omega arith), le-ltb j N h)
-
-  -- a turn of the second loop, whose places begin at low
-  pub odds-turn : (L low n : ℕ) (l : List ℤ) → low ≡ count lo N → n < count hi N → N ≤ L → Swept L (oddsCopied N x z) z (low + n) l → Swept L (oddsCopied N x z) z (low + (n + 1)) (set l (low + n) (x (2 * n + 1)))
-  odds-turn L low n l e h fit sw =
-      let both = counts N in
-      let here : low + n ≡ count lo N + n = omega arith in
-      subst (λ (m : ℕ). Swept L (oddsCopied N x z) z m (set l (low + n) (x (2 * n + 1)))) (omega arith)
-      (store _ sw (omega arith) (cc (here, odds-high n h)))
-
--- the halves of a line copied into memory, and lifted there
-module _ (N : ℕ) (x z : ℕ → ℤ) where
-  abbrev pub copied : ℕ → ℤ
-  copied = oddsCopied N x (evensCopied N x z)
-
-  abbrev pub lent : ℕ → ℤ
-  lent = windowed 0 N copied
-
-  lent-in : (j : ℕ) → j < N → lent j ≡ copied j
-  lent-in j h = let k : 0 + j ≡ j = omega arith in window-in 0 N copied j h ∙ ap copied k
-
-  back-in : (j : ℕ) → j < N → spliced 0 N (liftedInPlace N lent) copied j ≡ liftedInPlace N lent j
-  back-in j h = let k : j - 0 ≡ j = omega arith in splice-in 0 N (liftedInPlace N lent) copied j (omega arith) (omega arith) ∙ ap (liftedInPlace N lent) k
-
-  copied-line : (i : ℕ) → i < N → x i ≡ joined (halvesOf N lent) i
-  unfolding halvesOf
-  copied-line i h =
-      let both = counts N in
-      let c = count-hi N in
-      let p = halvesOf N lent in
-      let even : (n : ℕ) → n < count lo N → joined p (2 * n) ≡ x (2 * n) =
-      λ n g. joined-even p n ∙ lent-in n (omega arith) ∙ odds-low N x (evensCopied N x z) n g ∙ evens-in N x z n g in
-      let odd : (n : ℕ) → n < count hi N → joined p (2 * n + 1) ≡ x (2 * n + 1) =
-      λ n g. joined-odd p n ∙ lent-in (count lo N + n) (omega arith) ∙ odds-high N x (evensCopied N x z) n g in
-      elim (ℕ-discrete (i % 2) 0) [
-        | yes e ↦ let k : 2 * (i / 2) ≡ i = omega arith in sym (rw k at (even (i / 2) (omega arith)))
-        | no d ↦ let k : 2 * (i / 2) + 1 ≡ i = omega arith in sym (rw k at (odd (i / 2) (omega arith)))
-      ]
-
-  pub forward-is : forwardInto N x z ≡ spliced 0 N (liftedInPlace N lent) copied
-  unfolding forwardInto liftedInPlace lineForward
-  forward-is =
-      let both = counts N in
-      let p = lineForward wrap32 N (joined (halvesOf N lent)) in
-      halves-are N _ z _
-      (λ n h. low-same wrap32 N x _ copied-line n h ∙ sym (back-in n (omega arith) ∙ halves-low N p lent n h))
-      (λ n h.
-      let k : count lo N + n - count lo N ≡ n = omega arith in
-      high-same wrap32 N x _ copied-line n h
-      ∙ sym (back-in (count lo N + n) (omega arith) ∙ halves-high N p lent (count lo N + n) (omega arith) (omega arith) ∙ ap (p hi) k))
-      (λ j h. sym (splice-past 0 N (liftedInPlace N lent) copied j (omega arith) ∙ odds-past N x (evensCopied N x z) j h ∙ evens-past N x z j (omega arith)))
+  evens-past j h = simp (le-ltb j (N - N / 2) h)
 
 -- ---- a line made of its coefficients y, in memory z
-abbrev pub evenBack : ℕ → (ℕ → ℤ) → ℕ → ℤ
-evenBack N y n = backEven wrap32 N (halvesOf N y lo) (halvesOf N y hi) n
+module _ (S : Side) (y : ℕ → ℤ) (g : 1 < S .length) where
+  -- number n of its even coordinates goes by the high values at places a and b
+  pub evenBack-is : (n a b : ℕ) → n < count lo S → a ≡ count lo S + near (count hi S) (n + S .start % 2 - 1)
+      → b ≡ count lo S + near (count hi S) (n + S .start % 2) → unupdated wrap32 (y n) (y a) (y b) ≡ evenBack S y n
+  unfolding evenBack halvesOf
+  evenBack-is n a b h ea eb = sym (rw (ea, eb) (even-near S g wrap32 (halvesOf S y) n h))
 
--- its even place n goes by the high values at places a and b
-pub evenBack-is : (N : ℕ) (y : ℕ → ℤ) (n a b : ℕ) → 1 < N → n < count lo N → a ≡ count lo N + (n - 1) → b ≡ count lo N + min n (count hi N - 1) → unupdated wrap32 (y n) (y a) (y b) ≡ evenBack N y n
-unfolding halvesOf
-evenBack-is N y n a b g h ea eb = sym (rw (ea, eb) (even-is wrap32 N g (halvesOf N y lo) (halvesOf N y hi) n h))
+  -- the first by one high value, or by the first two
+  pub evenBack-first : (low high b r : ℕ) → low ≡ count lo S → high ≡ count hi S → b ≡ S .start % 2 → r ≡ near high b
+      → unupdated wrap32 (y 0) (y low) (y (low + r)) ≡ evenBack S y 0
+  evenBack-first low high b r el eh eb er =
+      let s = some S g in
+      let both = counts S in
+      let one : near (count hi S) (0 + S .start % 2 - 1) ≡ 0 = omega arith in
+      let two : r ≡ near (count hi S) (0 + S .start % 2) = er ∙ ap₂ near eh (eb ∙ omega arith) in
+      evenBack-is 0 low (low + r) (omega arith) (omega arith) (omega arith)
 
-module _ (N : ℕ) (y z : ℕ → ℤ) where
-  back-even : (n : ℕ) → n < count lo N → backwardInto N y z (2 * n) ≡ evenBack N y n
-  unfolding backwardInto lineBack lineHalvesBack
-  back-even n h =
-      let c = count-lo N in
-      let p = lineHalvesBack wrap32 N (halvesOf N y) in
-      front-in N p z (joined p) (2 * n) (omega arith) ∙ joined-even p n
+  module _ (z : ℕ → ℤ) where
+    pub back-low : (n : ℕ) → n < count lo S → backwardInto S y z (2 * n + S .start % 2) ≡ evenBack S y n
+    unfolding backwardInto lineBack evenBack place
+    back-low n h =
+        let p = lineHalvesBack wrap32 S (halvesOf S y) in
+        front-in (S .length) (joined S p) z (place S lo n) (place-in S lo n h) ∙ joined-place S p lo n
 
-  back-odd : (n : ℕ) → n < count hi N → backwardInto N y z (2 * n + 1) ≡ unpredicted wrap32 (y (count lo N + n)) (evenBack N y n) (evenBack N y (min (n + 1) (count lo N - 1)))
-  unfolding backwardInto lineBack lineHalvesBack halvesOf
-  back-odd n h =
-      let c = count-hi N in
-      let p = lineHalvesBack wrap32 N (halvesOf N y) in
-      front-in N p z (joined p) (2 * n + 1) (omega arith) ∙ joined-odd p n ∙ odd-is wrap32 N (omega arith) (halvesOf N y lo) (halvesOf N y hi) n h
+    back-high : (n : ℕ) → n < count hi S
+        → backwardInto S y z (place S hi n) ≡ unpredicted wrap32 (y (count lo S + n)) (evenBack S y (near (count lo S) (n + ahead S lo - 1)))
+        (evenBack S y (near (count lo S) (n + ahead S lo)))
+    unfolding backwardInto lineBack evenBack halvesOf
+    back-high n h =
+        let p = lineHalvesBack wrap32 S (halvesOf S y) in
+        front-in (S .length) (joined S p) z (place S hi n) (place-in S hi n h) ∙ joined-place S p hi n ∙ odd-near S g wrap32 (halvesOf S y) n h
 
-  back-past : (j : ℕ) → N ≤ j → backwardInto N y z j ≡ z j
-  unfolding backwardInto
-  back-past j h = front-past N (halvesOf N y) z (lineBack wrap32 N (halvesOf N y)) j h
+    -- the high value after even coordinate n is number n or n + 1
+    pub back-after : (n k : ℕ) → k ≡ n + S .start % 2 → k < count hi S → n < count lo S
+        → backwardInto S y z (2 * n + S .start % 2 + 1) ≡ unpredicted wrap32 (y (count lo S + k)) (evenBack S y n) (evenBack S y (near (count lo S) (n + 1)))
+    unfolding place
+    back-after n k e h b =
+        let i : 2 * n + S .start % 2 + 1 ≡ place S hi k = omega arith in
+        let a : near (count lo S) (k + ahead S lo - 1) ≡ n = omega arith in
+        let c : near (count lo S) (k + ahead S lo) ≡ near (count lo S) (n + 1) = omega arith in
+        ap (backwardInto S y z) i ∙ cc (a, c, back-high k h)
 
-  -- a line of one number or none is copied
-  pub back-one : N ≤ 1 → backwardInto N y z ≡ evensCopied N y z
+    -- and the one before all of them is number 0
+    pub back-first : S .start % 2 ≡ 1 → 0 < count hi S → 0 < count lo S
+        → backwardInto S y z 0 ≡ unpredicted wrap32 (y (count lo S)) (evenBack S y 0) (evenBack S y 0)
+    unfolding place
+    back-first e h b =
+        let i : 0 ≡ place S hi 0 = omega arith in
+        let a : near (count lo S) (0 + ahead S lo - 1) ≡ 0 = omega arith in
+        let c : near (count lo S) (0 + ahead S lo) ≡ 0 = omega arith in
+        let k : count lo S + 0 ≡ count lo S = omega arith in
+        ap (backwardInto S y z) i ∙ cc (a, c, k, back-high 0 h)
+
+pub back-past : (S : Side) (y z : ℕ → ℤ) (j : ℕ) → S .length ≤ j → backwardInto S y z j ≡ z j
+unfolding backwardInto
+back-past S y z j h = front-past (S .length) (lineBack wrap32 S (halvesOf S y)) z j h
+
+-- within the line it does not go by what stood there
+back-any : (S : Side) (y z w : ℕ → ℤ) (j : ℕ) → j < S .length → backwardInto S y z j ≡ backwardInto S y w j
+unfolding backwardInto
+back-any S y z w j h = front-in (S .length) (lineBack wrap32 S (halvesOf S y)) z j h ∙ sym (front-in (S .length) (lineBack wrap32 S (halvesOf S y)) w j h)
+
+-- ---- the end of the line
+module _ (S : Side) (q : ℕ) (y z : ℕ → ℤ) where
+  rest-below : (j : ℕ) → j < q → restPut S q y z j ≡ z j
+  unfolding restPut
+  rest-below j h = simp (lt-ltb j q h)
+
+  pub rest-in : (j : ℕ) → q ≤ j → restPut S q y z j ≡ backwardInto S y z j
+  unfolding restPut
+  rest-in j h = simp (le-ltb j q h)
+
+  pub rest-past : (j : ℕ) → q ≤ j → S .length ≤ j → restPut S q y z j ≡ z j
+  rest-past j h b = rest-in j h ∙ back-past S y z j b
+
+pub rest-start : (S : Side) (q : ℕ) (y : ℕ → ℤ) (l : List ℤ) → Swept (length l) (restPut S q y (at l)) (at l) q l
+rest-start S q y l = start l (restPut S q y (at l)) q (λ j b. rest-below S q y (at l) j b)
+
+-- it completes a sweep
+pub rest-finish : (S : Side) (q : ℕ) (y z : ℕ → ℤ) (L : ℕ) (l l′ : List ℤ) → Swept L (backwardInto S y z) z q l → at l′ ≡ restPut S q y (at l)
+    → at l′ ≡ backwardInto S y z
+rest-finish S q y z L l l′ sw e =
+    e
+    ∙ fun-ext λ j.
+    elim (decLt j q) [
+      | yes b ↦ rest-below S q y (at l) j b ∙ sw .done j b
+      | no b ↦
+          rest-in S q y (at l) j (omega arith)
+          ∙ elim (decLt j (S .length)) [
+            | yes h ↦ back-any S y (at l) z j h
+            | no h ↦ back-past S y (at l) j (omega arith) ∙ sw .rest j (omega arith) ∙ sym (back-past S y z j (omega arith))
+          ]
+    ]
+
+-- from the place of low number n on
+module _ (S : Side) (y : ℕ → ℤ) (g : 1 < S .length) (low n : ℕ) (even : ℤ) (l : List ℤ) (lows : low ≡ count lo S) (room : S .length ≤ length l)
+    (within : n < low) (is : even ≡ evenBack S y n) where
+  abbrev from : ℕ
+  from = 2 * n + S .start % 2
+
+  rest-one : Swept (length l) (restPut S from y (at l)) (at l) (from + 1) (set l from even)
+  rest-one =
+      let p = low-place S n (omega arith) in
+      store even (rest-start S from y l) (omega arith) (is ∙ sym (rest-in S from y (at l) from (omega arith) ∙ back-low S y g (at l) n (omega arith)))
+
+  rest-two : (next : ℤ) → low + n + S .start % 2 < S .length → next ≡ evenBack S y (near (count lo S) (n + 1))
+      → Swept (length l) (restPut S from y (at l)) (at l) (from + 1 + 1)
+      (set (set l from even) (from + 1) (unpredicted wrap32 (y (low + n + S .start % 2)) even next))
+  rest-two next h e =
+      let both = counts S in
+      let p = high-place S n (omega arith) in
+      let k : low + n + S .start % 2 ≡ count lo S + (n + S .start % 2) = omega arith in
+      store _ rest-one (omega arith)
+      (cc (k, is, e, rest-in S from y (at l) (from + 1) (omega arith), back-after S y g (at l) n (n + S .start % 2) refl (omega arith) (omega arith)))
+
+  -- that place alone
+  pub end-one : S .length ≤ low + n + S .start % 2 → at (set l from even) ≡ restPut S from y (at l)
+  end-one b = let p = left-one S n (omega arith) in finish rest-one (λ j le. rest-past S from y (at l) j (omega arith) (omega arith))
+
+  -- and the high one after it
+  pub end-two : (l′ : List ℤ) → low + n + S .start % 2 < S .length → low ≤ n + 1
+      → l′ ≡ set (set l from even) (from + 1) (unpredicted wrap32 (y (low + n + S .start % 2)) even even) → at l′ ≡ restPut S from y (at l)
+  end-two l′ h b e =
+      let p = left-two S n (omega arith) in
+      let k : n ≡ near (count lo S) (n + 1) = omega arith in
+      rw e (finish (rest-two even h (is ∙ ap (evenBack S y) k)) (λ j le. rest-past S from y (at l) j (omega arith) (omega arith)))
+
+  -- and the low one after that
+  pub end-three : (last : ℤ) (l′ : List ℤ) → low + n + S .start % 2 < S .length → n + 1 < low → S .length ≤ low + n + S .start % 2 + 1
+      → last ≡ unupdated wrap32 (y (n + 1)) (y (low + n + S .start % 2)) (y (low + n + S .start % 2))
+      → l′ ≡ set (set l from even) (from + 1) (unpredicted wrap32 (y (low + n + S .start % 2)) even last)
+      → at (set l′ (from + 2) last) ≡ restPut S from y (at l)
+  end-three last l′ h b f d e =
+      let both = counts S in
+      let p = left-three S n (omega arith) in
+      let m = low-place S (n + 1) (omega arith) in
+      let k : n + 1 ≡ near (count lo S) (n + 1) = omega arith in
+      let i : from + 1 + 1 ≡ from + 2 = omega arith in
+      let j : from + 2 ≡ 2 * (n + 1) + S .start % 2 = omega arith in
+      let new : last ≡ evenBack S y (n + 1) = d ∙ evenBack-is S y g (n + 1) _ _ (omega arith) (omega arith) (omega arith) in
+      let two : Swept (length l) (restPut S from y (at l)) (at l) (from + 2) l′ = rw e (rw i at (rest-two last h (new ∙ ap (evenBack S y) k))) in
+      finish
+      (store last two (omega arith)
+      (new ∙ sym (rest-in S from y (at l) (from + 2) (omega arith) ∙ ap (backwardInto S y (at l)) j ∙ back-low S y g (at l) (n + 1) (omega arith))))
+      (λ j le. rest-past S from y (at l) j (omega arith) (omega arith))
+
+-- ---- the loop. l₀ is what was written before it: the first place, where that is high
+pub first-put : (S : Side) (y : ℕ → ℤ) (b low : ℕ) (even : ℤ) (l l₀ : List ℤ) → 1 < S .length → b ≡ S .start % 2 → low ≡ count lo S → S .length ≤ length l
+    → even ≡ evenBack S y 0 → l₀ ≡ pick (eqb b 1) (set l 0 (unpredicted wrap32 (y low) even even)) l → Swept (length l₀) (backwardInto S y (at l)) (at l) b l₀
+first-put S y b low even l l₀ g bit lows room is e =
+    let both = counts S in
+    let s = some S g in
+    elim (ℕ-discrete b 0) [
+      | yes z ↦
+          let i : l₀ ≡ l = e ∙ simp (ne-eqb b 1 (omega arith)) in
+          rw (i, z) (start l (backwardInto S y (at l)) 0 (λ j lt. absurd (omega arith)))
+      | no z ↦
+          let o : b ≡ 1 = omega arith in
+          let i : l₀ ≡ set l 0 (unpredicted wrap32 (y low) even even) = e ∙ simp (eq-eqb b 1 o) in
+          let k : length l₀ ≡ length l = ap length i ∙ length-set l 0 _ in
+          rw (k, i, o)
+          (store _ (start l (backwardInto S y (at l)) 0 (λ j lt. absurd (omega arith))) (omega arith)
+          (cc (lows, is, back-first S y g (at l) (omega arith) (omega arith) (omega arith))))
+    ]
+
+-- before turn n: two places are stored a turn, and the next even coordinate is worked out
+pub record Carried (S : Side) (y : ℕ → ℤ) (l₀ : List ℤ) (low high b from end n : ℕ) (even : ℤ) (l : List ℤ) : Type 0 where
+  pub more : 1 < S .length
+  pub bit : b ≡ S .start % 2
+  pub lows : low ≡ count lo S
+  pub highs : high ≡ count hi S
+  pub all : low + high ≡ S .length
+  pub least : high ≤ low + b
+  pub first : from ≡ low + b
+  pub last : end ≡ high - b
+  pub room : S .length ≤ length l₀
+  pub within : n < low
+  pub carried : even ≡ evenBack S y n
+  pub size : length l ≡ length l₀
+  pub swept : (z : ℕ → ℤ) → Swept (length l₀) (backwardInto S y z) z b l₀ → Swept (length l₀) (backwardInto S y z) z (2 * n + b) l
+
+pub first-turn : {L : ℕ} {Y z : ℕ → ℤ} (b : ℕ) {l : List ℤ} → Swept L Y z b l → Swept L Y z (2 * 0 + b) l
+first-turn {L} {Y} {z} b {l} s = subst (λ (m : ℕ). Swept L Y z m l) (omega arith) s
+
+pub line-turn : (S : Side) (y : ℕ → ℤ) (l₀ : List ℤ) (low high b from end n : ℕ) (even next : ℤ) (l l′ : List ℤ) → Carried S y l₀ low high b from end n even l
+    → n + 1 < end → next ≡ unupdated wrap32 (y (n + 1)) (y (from + n)) (y (from + n + 1))
+    → l′ ≡ set (set l (2 * n + b) even) (2 * n + b + 1) (unpredicted wrap32 (y (from + n)) even next) → Carried S y l₀ low high b from end (n + 1) next l′
+line-turn S y l₀ low high b from end n even next l l′ c h d e =
+    let bit = c .bit in
+    let lows = c .lows in
+    let g = c .more in
+    let p = high-place S n (omega arith) in
+    let new : next ≡ evenBack S y (n + 1) = d ∙ evenBack-is S y g (n + 1) _ _ (omega arith) (omega arith) (omega arith) in
+    let k : from + n ≡ count lo S + (n + b) = omega arith in
+    let i : n + 1 ≡ near (count lo S) (n + 1) = omega arith in
+    let m : 2 * n + b + 1 + 1 ≡ 2 * (n + 1) + b = omega arith in
+    record {
+      more = g;
+      bit = bit;
+      lows = lows;
+      highs = c .highs;
+      all = c .all;
+      least = c .least;
+      first = c .first;
+      last = c .last;
+      room = c .room;
+      within = omega arith;
+      carried = new;
+      size = ap length e ∙ length-set (set l (2 * n + b) even) (2 * n + b + 1) _ ∙ length-set l (2 * n + b) even ∙ c .size;
+      swept = λ z s.
+          rw e
+          (rw m at
+          (store (unpredicted wrap32 (y (from + n)) even next) (store even (c .swept z s) (omega arith)
+          (cc (bit, c .carried, back-low S y g z n (omega arith)))) (omega arith)
+          (cc (bit, k, i, c .carried, new, back-after S y g z n (n + b) (omega arith) (omega arith) (omega arith)))));
+    }
+
+-- ---- the halves of a line copied into memory, and lifted there
+module _ (S : Side) (x z : ℕ → ℤ) (g : 0 < S .length) where
+  abbrev N : ℕ
+  N = S .length
+
+  abbrev low : ℕ
+  low = count lo S
+
+  abbrev b : ℕ
+  b = S .start % 2
+
+  abbrev pub copied : ℕ → ℤ
+  copied = spliced 0 low (evensCopied (N - b) (windowed b (N - b) x) (windowed 0 low z)) z
+
+  abbrev pub twice : ℕ → ℤ
+  twice = spliced low (N - low) (evensCopied (N - (1 - b)) (windowed (1 - b) (N - (1 - b)) x) (windowed low (N - low) copied)) copied
+
+  -- where each half begins, what it has is there
+  low-evens : low ≡ N - b - (N - b) / 2
+  unfolding count
+  low-evens = omega arith
+
+  high-evens : N - low ≡ N - (1 - b) - (N - (1 - b)) / 2
+  unfolding count
+  high-evens = omega arith
+
+  low-reach : (n : ℕ) → n < low → 2 * n < N - b
+  unfolding count
+  low-reach n h = omega arith
+
+  high-reach : (n : ℕ) → n < count hi S → 2 * n < N - (1 - b)
+  unfolding count
+  high-reach n h = omega arith
+
+  copied-low : (n : ℕ) → n < low → twice n ≡ x (place S lo n)
+  unfolding place
+  copied-low n h =
+      let e = low-evens in
+      let k : n - 0 ≡ n = omega arith in
+      let i : b + 2 * n ≡ 2 * n + b = omega arith in
+      splice-below low (N - low) _ copied n h
+      ∙ splice-in 0 low _ z n (omega arith) (omega arith)
+      ∙ ap (evensCopied (N - b) (windowed b (N - b) x) (windowed 0 low z)) k
+      ∙ evens-in (N - b) _ _ n (omega arith)
+      ∙ window-in b (N - b) x (2 * n) (low-reach n h)
+      ∙ ap x i
+
+  copied-high : (n : ℕ) → n < count hi S → twice (low + n) ≡ x (place S hi n)
+  unfolding place
+  copied-high n h =
+      let both = counts S in
+      let e = high-evens in
+      let k : low + n - low ≡ n = omega arith in
+      let i : 1 - b + 2 * n ≡ 2 * n + (1 - b) = omega arith in
+      splice-in low (N - low) _ copied (low + n) (omega arith) (omega arith)
+      ∙ ap (evensCopied (N - (1 - b)) (windowed (1 - b) (N - (1 - b)) x) (windowed low (N - low) copied)) k
+      ∙ evens-in (N - (1 - b)) _ _ n (omega arith)
+      ∙ window-in (1 - b) (N - (1 - b)) x (2 * n) (high-reach n h)
+      ∙ ap x i
+
+  copied-past : (j : ℕ) → N ≤ j → twice j ≡ z j
+  copied-past j h =
+      let both = counts S in
+      splice-past low (N - low) _ copied j (omega arith) ∙ splice-past 0 low _ z j (omega arith)
+
+  abbrev pub lent : ℕ → ℤ
+  lent = windowed 0 N twice
+
+  lent-in : (j : ℕ) → j < N → lent j ≡ twice j
+  lent-in j h = let k : 0 + j ≡ j = omega arith in window-in 0 N twice j h ∙ ap twice k
+
+  -- the line whose halves are lent
+  copied-half : (h : Half) (n : ℕ) → n < count h S → halvesOf S lent h n ≡ x (place S h n)
   unfolding halvesOf
-  back-one g =
-      let c = count-lo N in
-      fun-ext λ j.
-      elim (decLt j N) [
-        | yes b ↦
-            let k : j ≡ 2 * 0 = omega arith in
-            rw k (back-even 0 (omega arith) ∙ even-one wrap32 N g (halvesOf N y lo) (halvesOf N y hi) 0 ∙ sym (evens-in N y z 0 (omega arith)))
-        | no b ↦ back-past j (omega arith) ∙ sym (evens-past N y z j (omega arith))
-      ]
+  copied-half lo n b = let both = counts S in lent-in n (omega arith) ∙ copied-low n b
+  copied-half hi n b = let both = counts S in lent-in (low + n) (omega arith) ∙ copied-high n b
 
-  -- before turn n: two places are stored a turn, and the next even place, which is not the last, is worked out
-  pub record Carried (L low high n : ℕ) (even : ℤ) (l : List ℤ) : Type 0 where
-    pub lows : low ≡ count lo N
-    pub highs : high ≡ count hi N
-    pub halves : low ≡ N - N / 2
-    pub all : low + high ≡ N
-    pub room : N ≤ L
-    pub more : n < high
-    pub carried : even ≡ evenBack N y n
-    pub swept : Swept L (backwardInto N y z) z (2 * n) l
+  copied-line : (i : ℕ) → i < N → x i ≡ joined S (halvesOf S lent) i
+  unfolding parted
+  copied-line i h = sym (joined-reads S (halvesOf S lent) (parted S x) copied-half i h ∙ joined-parted S x i)
 
-  pub line-start : (low high : ℕ) (even : ℤ) (l : List ℤ) → low ≡ count lo N → high ≡ N - low → 1 < N → N ≤ length l → z ≡ at l → even ≡ unupdated wrap32 (y 0) (y low) (y low) → Carried (length l) low high 0 even l
-  line-start low high even l el eh g room ez e =
-      let c = count-lo N in
-      let d = counts N in
-      record {
-        lows = el;
-        highs = omega arith;
-        halves = omega arith;
-        all = omega arith;
-        room = room;
-        more = omega arith;
-        carried = e ∙ evenBack-is N y 0 low low g (omega arith) (omega arith) (omega arith);
-        swept = rw ez (start l _ 0 (λ j lt. absurd (omega arith)));
-      }
+  back-in : (j : ℕ) → j < N → spliced 0 N (liftedInPlace S lent) twice j ≡ liftedInPlace S lent j
+  back-in j h = let k : j - 0 ≡ j = omega arith in splice-in 0 N (liftedInPlace S lent) twice j (omega arith) (omega arith) ∙ ap (liftedInPlace S lent) k
 
-  pair-stored : (L low high n : ℕ) (even next : ℤ) (l : List ℤ) → Carried L low high n even l → next ≡ evenBack N y (min (n + 1) (count lo N - 1)) → Swept L (backwardInto N y z) z (2 * n + 1 + 1) (set (set l (2 * n) even) (2 * n + 1) (unpredicted wrap32 (y (low + n)) even next))
-  pair-stored L low high n even next l c e =
-      let lows = c .lows in
-      let here = c .carried in
-      store _ (store even (c .swept) (omega arith) (here ∙ sym (back-even n (omega arith)))) (omega arith)
-      (cc (lows, here, e, back-odd n (omega arith)))
+  pub forward-is : forwardInto S x z ≡ spliced 0 N (liftedInPlace S lent) twice
+  unfolding forwardInto liftedInPlace
+  forward-is =
+      let both = counts S in
+      let p = lineForward wrap32 S (joined S (halvesOf S lent)) in
+      halves-are S _ z _
+      (λ n h. forward-reads wrap32 S x _ lo n h (λ i m _. copied-line i m) ∙ sym (back-in n (omega arith) ∙ halves-low S p lent n h))
+      (λ n h.
+      let k : low + n - low ≡ n = omega arith in
+      forward-reads wrap32 S x _ hi n h (λ i m _. copied-line i m)
+      ∙ sym (back-in (low + n) (omega arith) ∙ halves-high S p lent (low + n) (omega arith) (omega arith) ∙ ap (p hi) k))
+      (λ j h. sym (splice-past 0 N (liftedInPlace S lent) twice j (omega arith) ∙ copied-past j h))
 
-  pub line-turn : (L low high n : ℕ) (even next : ℤ) (l : List ℤ) → Carried L low high n even l → n + 1 < high → next ≡ unupdated wrap32 (y (n + 1)) (y (low + n)) (y (low + n + 1)) → Carried L low high (n + 1) next (set (set l (2 * n) even) (2 * n + 1) (unpredicted wrap32 (y (low + n)) even next))
-  line-turn L low high n even next l c b e =
-      let i : n + 1 ≡ min (n + 1) (count lo N - 1) = omega (arith, c .lows) in
-      let k : 2 * n + 1 + 1 ≡ 2 * (n + 1) = omega arith in
-      let new : next ≡ evenBack N y (n + 1) = e ∙ evenBack-is N y (n + 1) (low + n) (low + n + 1) (omega arith) (omega arith) (omega arith) (omega arith) in
-      record {
-        lows = c .lows;
-        highs = c .highs;
-        halves = c .halves;
-        all = c .all;
-        room = c .room;
-        more = b;
-        carried = new;
-        swept = rw k at (pair-stored L low high n even next l c (new ∙ ap (evenBack N y) i));
-      }
+-- no line, no number
+pub forward-none : (S : Side) (x z : ℕ → ℤ) → S .length ≡ 0 → forwardInto S x z ≡ z
+unfolding forwardInto
+forward-none S x z e =
+    let both = counts S in
+    halves-are S _ z z (λ n h. absurd (omega arith)) (λ n h. absurd (omega arith)) (λ j h. refl)
 
-  -- the last pair of an even line
-  pub even-end : (L low high n : ℕ) (even : ℤ) (l l′ : List ℤ) → Carried L low high n even l → high ≤ n + 1 → low ≤ high → l′ ≡ set (set l (2 * n) even) (2 * n + 1) (unpredicted wrap32 (y (low + n)) even even) → at l′ ≡ backwardInto N y z
-  even-end L low high n even l l′ c b d is =
-      let i : n ≡ min (n + 1) (count lo N - 1) = omega (arith, c .lows) in
-      rw is (finish (pair-stored L low high n even even l c (c .carried ∙ ap (evenBack N y) i)) (λ j le. back-past j (omega arith)))
+-- the same over the parts that are lent: o₁ and o₂ are the halves that come back, o₃ the line
+pub forward-parts : (S : Side) (x z z₁ z₂ o₁ o₂ o₃ : List ℤ) (low l₀ n₀ : ℕ) → 0 < S .length → S .length ≡ length x → length x ≤ length z → low ≡ count lo S
+    → l₀ ≡ low → n₀ ≡ length x → length o₁ ≡ length (midOf 0 l₀ z)
+    → at o₁ ≡ evensCopied (length (midOf (S .start % 2) (length x - S .start % 2) x)) (at (midOf (S .start % 2) (length x - S .start % 2) x))
+    (at (midOf 0 l₀ z)) → z₁ ≡ putMid 0 l₀ z o₁ → length o₂ ≡ length (midOf low (length x - low) z₁) → at o₂ ≡ evensCopied
+    (length (midOf (1 - S .start % 2) (length x - (1 - S .start % 2)) x)) (at (midOf (1 - S .start % 2) (length x - (1 - S .start % 2)) x))
+    (at (midOf low (length x - low) z₁)) → z₂ ≡ putMid low (length x - low) z₁ o₂ → length o₃ ≡ length (midOf 0 n₀ z₂) → at o₃ ≡ liftedInPlace
+    (side (S .start) (length (midOf 0 n₀ z₂))) (at (midOf 0 n₀ z₂)) → at (putMid 0 n₀ z₂ o₃) ≡ forwardInto S (at x) (at z)
+forward-parts S x z z₁ z₂ o₁ o₂ o₃ low l₀ n₀ g en room el e₀ m₀ s₁ i₁ is₁ s₂ i₂ is₂ s₃ i₃ =
+    let both = counts S in
+    let b = S .start % 2 in
+    let N = length x in
+    let k₁ : length z₁ ≡ length z = ap length is₁ ∙ same-len-mid 0 l₀ z o₁ s₁ in
+    let k₂ : length z₂ ≡ length z₁ = ap length is₂ ∙ same-len-mid low (N - low) z₁ o₂ s₂ in
+    let f₁ = length-mid 0 l₀ z (omega arith) in
+    let f₂ = length-mid low (N - low) z₁ (omega arith) in
+    let f₃ = length-mid 0 n₀ z₂ (omega arith) in
+    let h₁ = length-mid b (N - b) x (omega arith) in
+    let h₂ = length-mid (1 - b) (N - (1 - b)) x (omega arith) in
+    let one : at z₁ ≡ copied S (at x) (at z) g =
+    cc (is₁, e₀, el, en, h₁, i₁, at-mid b (N - b) x, at-mid 0 l₀ z, at-put 0 l₀ z o₁ (omega arith) (omega arith)) in
+    let two : at z₂ ≡ twice S (at x) (at z) g =
+    cc (one, is₂, el, en, h₂, i₂, at-mid (1 - b) (N - (1 - b)) x, at-mid low (N - low) z₁, at-put low (N - low) z₁ o₂ (omega arith) (omega arith)) in
+    let same : side (S .start) (length (midOf 0 n₀ z₂)) ≡ S = ap (side (S .start)) (f₃ ∙ m₀ ∙ sym en) in
+    cc (two, m₀, en, same, i₃, at-mid 0 n₀ z₂, at-put 0 n₀ z₂ o₃ (omega arith) (omega arith), forward-is S (at x) (at z) g)
 
-  -- the last pair of an odd line, and the even place after it
-  pub odd-end : (L low high n : ℕ) (even last : ℤ) (l l′ : List ℤ) → Carried L low high n even l → high ≤ n + 1 → high < low → last ≡ unupdated wrap32 (y (n + 1)) (y (low + n)) (y (low + n)) → l′ ≡ set (set l (2 * n) even) (2 * n + 1) (unpredicted wrap32 (y (low + n)) even last) → at (set l′ (2 * n + 2) last) ≡ backwardInto N y z
-  odd-end L low high n even last l l′ c b d e is =
-      let i : n + 1 ≡ min (n + 1) (count lo N - 1) = omega (arith, c .lows) in
-      let k : 2 * n + 1 + 1 ≡ 2 * n + 2 = omega arith in
-      let m : 2 * n + 2 ≡ 2 * (n + 1) = omega arith in
-      let new : last ≡ evenBack N y (n + 1) = e ∙ evenBack-is N y (n + 1) (low + n) (low + n) (omega arith) (omega arith) (omega arith) (omega arith) in
-      let pair : Swept L (backwardInto N y z) z (2 * n + 2) l′ = rw is (rw k at (pair-stored L low high n even last l c (new ∙ ap (evenBack N y) i))) in
-      finish (store last pair (omega arith) (new ∙ sym (ap (backwardInto N y z) m ∙ back-even (n + 1) (omega arith)))) (λ j le. back-past j (omega arith))
+-- room for half of a part in another
+pub part-room : (x z : List ℤ) (a n b m : ℕ) → a + n ≤ length x → b + m ≤ length z → n ≤ m + m
+    → length (midOf a n x) ≤ length (midOf b m z) + length (midOf b m z)
+part-room x z a n b m g h e = rw (length-mid a n x g, length-mid b m z h) e

@@ -1,5 +1,7 @@
--- The lifting of one line in general: two steps that can be undone, for any reach. A tool of proofs: no contract and no theorem for readers names it. The 5/3 is its first instance (FiveThree).
--- A line is a signal with its length N. Its first sample is of half `first`: lo where it stands at an even place of its grid, which is so throughout document 01, hi where it stands at an odd one.
+-- The lifting of one line in general: two steps that can be undone, for any reach. A tool of proofs: no contract and no theorem for readers names it. The 5/3
+-- is its first instance (FiveThree).
+-- A line is a signal with its length N. Its first sample is of half `first`: lo where it stands at an even place of its grid, which is so throughout document
+-- 01, hi where it stands at an odd one.
 -- A line of one sample goes apart from the steps. Assumes nothing.
 use Prim.Native.Nat.{ℕ, zero, suc, _+_, _*_, _≤_, _<_}
 use mathlib.Core.Path.{_≡_, refl, sym, ap, subst, _∙_, fun-ext}
@@ -91,7 +93,8 @@ module _ {A : Type 0} where
   join-part first x = by-place first (λ i. join first (part first x) i ≡ x i) (join-place first (part first x))
 
   -- a join reads the numbers that are there
-  pub join-reads : (first : Half) (N : ℕ) (p q : Half → ℕ → A) → ((h : Half) (n : ℕ) → n < many first h N → p h n ≡ q h n) → (i : ℕ) → i < N → join first p i ≡ join first q i
+  pub join-reads : (first : Half) (N : ℕ) (p q : Half → ℕ → A) → ((h : Half) (n : ℕ) → n < many first h N → p h n ≡ q h n) → (i : ℕ) → i < N
+      → join first p i ≡ join first q i
   join-reads first N p q e =
       by-place first (λ i. i < N → join first p i ≡ join first q i)
       (λ h n b. join-place first p h n ∙ e h n (in-place first h N n b) ∙ sym (join-place first q h n))
@@ -125,7 +128,8 @@ pub record Step (A : Type 0) (first h : Half) : Type 0 where
   pub undo-run : (N n : ℕ) (a : ℕ → A) (v : A) → undo N n a (run N n a v) ≡ v
   pub run-undo : (N n : ℕ) (a : ℕ → A) (v : A) → run N n a (undo N n a v) ≡ v
   -- it reads numbers that are there, and none further on than its reach
-  pub reads : (N n : ℕ) (a b : ℕ → A) (v : A) → 1 < N → n < many first (other h) N → ((i : ℕ) → i < many first h N → i ≤ n + reach → a i ≡ b i) → run N n a v ≡ run N n b v
+  pub reads : (N n : ℕ) (a b : ℕ → A) (v : A) → 1 < N → n < many first (other h) N → ((i : ℕ) → i < many first h N → i ≤ n + reach → a i ≡ b i)
+      → run N n a v ≡ run N n b v
   -- and away from the end it does not see the length
   pub inner : (N N′ n : ℕ) (a : ℕ → A) (v : A) → n + reach < many first h N → n + reach < many first h N′ → run N n a v ≡ run N′ n a v
 
@@ -143,7 +147,8 @@ abbrev pub span : {A : Type 0} {first : Half} → Filter A first → ℕ
 span F = F .predict .reach + F .update .reach
 
 module _ {A : Type 0} {first h : Half} (S : Step A first h) where
-  undo-reads : (N n : ℕ) (a b : ℕ → A) (v : A) → 1 < N → n < many first (other h) N → ((i : ℕ) → i < many first h N → i ≤ n + S .reach → a i ≡ b i) → S .undo N n a v ≡ S .undo N n b v
+  undo-reads : (N n : ℕ) (a b : ℕ → A) (v : A) → 1 < N → n < many first (other h) N → ((i : ℕ) → i < many first h N → i ≤ n + S .reach → a i ≡ b i)
+      → S .undo N n a v ≡ S .undo N n b v
   undo-reads N n a b v l h e =
       cc (S .reads N n a b (S .undo N n b v) l h e, S .undo-run N n a (S .undo N n b v), S .run-undo N n b v)
 
@@ -259,7 +264,8 @@ module _ {A : Type 0} {first : Half} (F : Filter A first) where
   forward-back (suc (suc m)) p l h n = steps-unsteps (suc (suc m)) p h n
 
   -- ---- what a number reads
-  high-reads : (N n : ℕ) (x y : ℕ → A) → 1 < N → n < many first hi N → ((i : ℕ) → i < N → i ≤ place first lo (n + predict .reach) → x i ≡ y i) → highs N x n ≡ highs N y n
+  high-reads : (N n : ℕ) (x y : ℕ → A) → 1 < N → n < many first hi N → ((i : ℕ) → i < N → i ≤ place first lo (n + predict .reach) → x i ≡ y i)
+      → highs N x n ≡ highs N y n
   unfolding highs part
   high-reads N n x y l b e =
       let own = place-in first hi N n b in
@@ -268,7 +274,8 @@ module _ {A : Type 0} {first : Half} (F : Filter A first) where
       (λ i p q. e (place first lo i) (place-in first lo N i p) (place-up first lo i (n + predict .reach) q))
       ∙ ap (predict .run N n (part first y lo)) (e (place first hi n) own ah)
 
-  step-reads : (N : ℕ) (x y : ℕ → A) (h : Half) (n : ℕ) → 1 < N → n < many first h N → ((i : ℕ) → i < N → i ≤ place first lo (n + span F) → x i ≡ y i) → steps N x h n ≡ steps N y h n
+  step-reads : (N : ℕ) (x y : ℕ → A) (h : Half) (n : ℕ) → 1 < N → n < many first h N → ((i : ℕ) → i < N → i ≤ place first lo (n + span F) → x i ≡ y i)
+      → steps N x h n ≡ steps N y h n
   unfolding steps highs part
   step-reads N x y lo n l b e =
       update .reads N n (highs N x) (highs N y) (part first x lo n) l b
@@ -279,7 +286,8 @@ module _ {A : Type 0} {first : Half} (F : Filter A first) where
   step-reads N x y hi n l b e =
       high-reads N n x y l b (λ i p q. e i p (omega (arith, place-up first lo (n + predict .reach) (n + span F) (omega arith))))
 
-  pub forward-reads : (N : ℕ) (x y : ℕ → A) (h : Half) (n : ℕ) → n < many first h N → ((i : ℕ) → i < N → i ≤ place first lo (n + span F) → x i ≡ y i) → forward N x h n ≡ forward N y h n
+  pub forward-reads : (N : ℕ) (x y : ℕ → A) (h : Half) (n : ℕ) → n < many first h N → ((i : ℕ) → i < N → i ≤ place first lo (n + span F) → x i ≡ y i)
+      → forward N x h n ≡ forward N y h n
   unfolding forward ifOne part
   forward-reads zero x y h n b e = absurd (omega (arith, place-in first h 0 n b))
   forward-reads (suc zero) x y h n b e =
@@ -320,11 +328,13 @@ module _ {A : Type 0} {first : Half} (F : Filter A first) where
       let up = place-up first lo (n + predict .reach) (n + span F) (omega arith) in
       high-inner N N′ n x (omega arith) (omega arith)
 
-  pub forward-inner : (N N′ : ℕ) (x : ℕ → A) (h : Half) (n : ℕ) → place first lo (n + span F) < N → place first lo (n + span F) < N′ → forward N x h n ≡ forward N′ x h n
+  pub forward-inner : (N N′ : ℕ) (x : ℕ → A) (h : Half) (n : ℕ) → place first lo (n + span F) < N → place first lo (n + span F) < N′
+      → forward N x h n ≡ forward N′ x h n
   forward-inner N N′ x h n p q = rw (by-steps N x (long N n p), by-steps N′ x (long N′ n q)) (step-inner N N′ x h n p q)
 
   -- both at once: two lines, whatever comes after that place
-  pub forward-local : (N N′ : ℕ) (x y : ℕ → A) (h : Half) (n : ℕ) → place first lo (n + span F) < N → place first lo (n + span F) < N′ → ((i : ℕ) → i ≤ place first lo (n + span F) → x i ≡ y i) → forward N x h n ≡ forward N′ y h n
+  pub forward-local : (N N′ : ℕ) (x y : ℕ → A) (h : Half) (n : ℕ) → place first lo (n + span F) < N → place first lo (n + span F) < N′
+      → ((i : ℕ) → i ≤ place first lo (n + span F) → x i ≡ y i) → forward N x h n ≡ forward N′ y h n
   forward-local N N′ x y h n p q e =
       forward-inner N N′ x h n p q ∙ forward-reads N′ x y h n (in-place first h N′ n (own h)) (λ i _ r. e i r)
     where
@@ -335,7 +345,8 @@ module _ {A : Type 0} {first : Half} (F : Filter A first) where
           let up = place-up first lo (n + predict .reach) (n + span F) (omega arith) in omega arith
 
   -- and the way back reads only the numbers that are there
-  unstep-reads : (N : ℕ) (p q : Half → ℕ → A) → 1 < N → ((h : Half) (n : ℕ) → n < many first h N → p h n ≡ q h n) → (h : Half) (n : ℕ) → n < many first h N → unsteps N p h n ≡ unsteps N q h n
+  unstep-reads : (N : ℕ) (p q : Half → ℕ → A) → 1 < N → ((h : Half) (n : ℕ) → n < many first h N → p h n ≡ q h n) → (h : Half) (n : ℕ) → n < many first h N
+      → unsteps N p h n ≡ unsteps N q h n
   unfolding unsteps lows
   unstep-reads N p q l e h n b = both h n b
     where

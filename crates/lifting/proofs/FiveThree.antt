@@ -1,18 +1,30 @@
--- The 5/3 as an instance of the general filter, and that the instance is the lifting of a line as the definitions have it (`forward-is`, `back-is`). Assumes nothing.
+-- The 5/3 as an instance of the general filter, for a first sample of either half, and that the instance is the lifting of a line on the grid as the
+-- definitions have it (`forward-is`, `back-is`).
+-- Assumes nothing.
 use Prim.Native.Nat.{ℕ, zero, suc, _+_, _-_, _*_, _/_, _%_, _^_, min, _≤_, _<_}
-use mathlib.Core.Path.{_≡_, refl, sym, ap, ap₂, _∙_}
-use native.Mathlib.Decide.{decLt}
+use mathlib.Core.Path.{_≡_, refl, sym, ap, ap₂, _∙_, subst}
+use mathlib.Core.Bool.{true}
+use native.Mathlib.Decide.{decLt, ℕ-discrete}
 use native.Mathlib.Omega.{arith}
-use lib.IntN.{ℤ, pos, natAbs, _+ℤ_, _-ℤ_}
+use lib.IntN.{ℤ, pos, natAbs, _+ℤ_, _-ℤ_, _*ℤ_}
 use lib.Signed.{shrZ, mag}
 use mir.Syntax.{w32}
 use mir.Val.{SFits, hbits}
-use borrow.Author.Tests.{lt-ltb}
+use borrow.Author.Tests.{eq-eqb, eqb-true}
 use Rattle.numbers.specs.Word.{wrap32, whole}
-use Rattle.numbers.proofs.Integers.{dif, each, lin, dif-natAbs}
-use Rattle.numbers.proofs.Words.{wrap-fits, add-sub, sub-add}
-use Rattle.lifting.specs.Line.{predicted, updated, unpredicted, unupdated, mirror, high, highAt, low, backEven, backOdd, Half, lo, hi, count, joined, lineForward, lineHalvesBack, lineBack}
-use Rattle.lifting.proofs.Filter.{place, many, part, Step, Filter, forward, back, forward-high, forward-low, forward-one, back-low, back-high, back-one, by-place, back-forward, forward-back, forward-reads, back-reads}
+use Rattle.numbers.proofs.Integers.{each, lin, dif-natAbs}
+use Rattle.numbers.proofs.Words.{wrap-fits, wrap-kept, add-sub, sub-add}
+use Rattle.lifting.specs.Line.{predicted, updated, unpredicted, unupdated, Half, lo, hi}
+use Rattle.lifting.specs.Line as line
+use Rattle.lifting.specs.Grid.{Side, side, half, place, count, joined, lineForward, lineHalvesBack, lineBack, loneHigh, isEven, hasLine}
+use Rattle.lifting.specs.Passes.{near}
+use Rattle.lifting.proofs.Fits.{lower-half}
+use Rattle.lifting.proofs.GridLaws.{ahead, counts, some, place-in, in-place, half-even, half-odd, by-place, joined-place, high-near, low-near, even-near}
+use Rattle.lifting.proofs.GridLaws.{odd-near, low-one, high-one, even-one, odd-one}
+use Rattle.lifting.proofs.LoneLaws.{lone-odd, lone-high, has-lone}
+use Rattle.lifting.proofs.Filter as filter
+use Rattle.lifting.proofs.Filter.{many, part, Step, Filter, forward, back, forward-high, forward-low, forward-one, back-low, back-high, back-one}
+use Rattle.lifting.proofs.Filter.{back-forward, forward-back, forward-reads, back-reads}
 
 -- ---- the shape: each step changes a number by its two neighbours of the other half, by any rule that can be undone
 pub record Reversible (A : Type 0) : Type 0 where
@@ -28,16 +40,12 @@ after lo hi = 0
 after hi lo = 0
 after hi hi = 1
 
--- a mirrored neighbour is the nearest number that is there
-abbrev near : ℕ → ℕ → ℕ
-near M k = min k (M - 1)
-
-some : (first h : Half) (N : ℕ) → 1 < N → 0 < many first h N
-unfolding count
-some lo lo N l = omega arith
-some lo hi N l = omega arith
-some hi lo N l = omega arith
-some hi hi N l = omega arith
+some-of : (first h : Half) (N : ℕ) → 1 < N → 0 < many first h N
+unfolding line.count
+some-of lo lo N l = omega arith
+some-of lo hi N l = omega arith
+some-of hi lo N l = omega arith
+some-of hi hi N l = omega arith
 
 module _ {A : Type 0} (first h : Half) where
   unfoldable pub by-two : (A → A → A → A) → (N n : ℕ) → (ℕ → A) → A → A
@@ -48,13 +56,15 @@ module _ {A : Type 0} (first h : Half) where
   unfolding by-two
   by-two-undo f g law N n o v = law v _ _
 
-  pub by-two-reads : (f : A → A → A → A) (N n : ℕ) (a b : ℕ → A) (v : A) → 1 < N → ((i : ℕ) → i < many first h N → i ≤ n + after first h → a i ≡ b i) → by-two f N n a v ≡ by-two f N n b v
+  pub by-two-reads : (f : A → A → A → A) (N n : ℕ) (a b : ℕ → A) (v : A) → 1 < N → ((i : ℕ) → i < many first h N → i ≤ n + after first h → a i ≡ b i)
+      → by-two f N n a v ≡ by-two f N n b v
   unfolding by-two
   by-two-reads f N n a b v l e =
-      let M = some first h N l in
+      let M = some-of first h N l in
       ap₂ (f v) (e _ (omega arith) (omega arith)) (e _ (omega arith) (omega arith))
 
-  pub by-two-inner : (f : A → A → A → A) (N n : ℕ) (o : ℕ → A) (v : A) → n + after first h < many first h N → by-two f N n o v ≡ f v (o (n + after first h - 1)) (o (n + after first h))
+  pub by-two-inner : (f : A → A → A → A) (N n : ℕ) (o : ℕ → A) (v : A) → n + after first h < many first h N
+      → by-two f N n o v ≡ f v (o (n + after first h - 1)) (o (n + after first h))
   unfolding by-two
   by-two-inner f N n o v b = ap₂ (λ i j. f v (o i) (o j)) (omega arith) (omega arith)
 
@@ -69,7 +79,7 @@ module _ {A : Type 0} (first h : Half) where
     inner = λ N N′ n o v p q. by-two-inner (R .change) N n o v p ∙ sym (by-two-inner (R .change) N′ n o v q);
   }
 
-pub far : (first : Half) (n : ℕ) → place first hi n ≤ place first lo (n + after first lo)
+pub far : (first : Half) (n : ℕ) → filter.place first hi n ≤ filter.place first lo (n + after first lo)
 far lo n = omega arith
 far hi n = omega arith
 
@@ -89,13 +99,15 @@ pub record Keeping (keep : ℤ → ℤ) : Type 1 where
   pub kept : (z : ℤ) → Good (keep z)
   pub put-back : (x f : ℤ) → Good x → keep (keep (x -ℤ f) +ℤ f) ≡ x
   pub take-back : (x f : ℤ) → Good x → keep (keep (x +ℤ f) -ℤ f) ≡ x
+  pub same : (z : ℤ) → Good z → keep z ≡ z
+  pub half-good : (z : ℤ) → Good z → Good (shrZ z 2)
 
 pub fits? : (z : ℤ) → Dec (SFits w32 z)
 fits? z = elim (decLt (mag z) (2 ^ hbits w32)) [ yes p ↦ yes record { sfits = p } | no n ↦ no (λ f. n (f .sfits)) ]
 
 -- 32-bit words
 abbrev pub words : Keeping wrap32
-words = record { Good = SFits w32; good? = fits?; kept = wrap-fits; put-back = add-sub; take-back = sub-add }
+words = record { Good = SFits w32; good? = fits?; kept = wrap-fits; put-back = add-sub; take-back = sub-add; same = wrap-kept; half-good = lower-half }
 
 -- whole numbers: all are good
 pub whole-put-back : (x f : ℤ) → (x -ℤ f) +ℤ f ≡ x
@@ -111,7 +123,24 @@ wholes = record {
   kept = λ z. tt;
   put-back = λ x f _. whole-put-back x f;
   take-back = λ x f _. whole-take-back x f;
+  same = λ z _. refl;
+  half-good = λ z _. tt;
 }
+
+-- ---- an only sample: it stays where it is low, and is doubled where it is high
+abbrev pub alone : (ℤ → ℤ) → Half → ℤ → ℤ
+alone keep lo v = v
+alone keep hi v = keep (pos 2 *ℤ v)
+
+abbrev pub unalone : Half → ℤ → ℤ
+unalone lo v = v
+unalone hi v = shrZ v 2
+
+half-double : (z : ℤ) → shrZ (pos 2 *ℤ z) 2 ≡ z
+half-double = each _ λ p q. simp lin (omega arith)
+
+double-half : (z : ℤ) → natAbs z % 2 ≡ 0 → pos 2 *ℤ shrZ z 2 ≡ z
+double-half = each _ λ p q. simp (lin, dif-natAbs) (omega arith)
 
 -- ---- the 5/3 of good numbers. On other numbers, which no theorem speaks of, a step does nothing: so it can be undone at every number
 choose : {P : Type 0} → Dec P → ℤ → ℤ → ℤ
@@ -142,7 +171,8 @@ module _ {keep : ℤ → ℤ} (K : Keeping keep) where
   unfolding on-good
   on-good-not f v a b h = choose-no (good? v) (f v a b) v h
 
-  pub on-good-undo : (f g : ℤ → ℤ → ℤ → ℤ) → ((v a b : ℤ) → Good (f v a b)) → ((v a b : ℤ) → Good v → g (f v a b) a b ≡ v) → (v a b : ℤ) → on-good g (on-good f v a b) a b ≡ v
+  pub on-good-undo : (f g : ℤ → ℤ → ℤ → ℤ) → ((v a b : ℤ) → Good (f v a b)) → ((v a b : ℤ) → Good v → g (f v a b) a b ≡ v) → (v a b : ℤ)
+      → on-good g (on-good f v a b) a b ≡ v
   on-good-undo f g good law v a b =
       elim (good? v) [
         | yes p ↦
@@ -200,152 +230,239 @@ module _ {keep : ℤ → ℤ} (K : Keeping keep) where
     change-restore = on-good-undo (unupdated keep) (updated keep) unupdated-good update-unupdate;
   }
 
-  -- lines that start at an even place, with an only sample left as it is
-  abbrev pub lifting : Filter ℤ lo
-  lifting = five-three lo down up (λ v. v) (λ v. v)
+  -- a line whose first sample is low, or high
+  abbrev pub lifting : (first : Half) → Filter ℤ first
+  lifting first = five-three first down up (alone keep first) (unalone first)
 
--- ---- the definitions with the mirror worked out: what is mirrored is the nearest that is there
-previous : (k : ℕ) → natAbs (pos k -ℤ pos 1) ≡ (k - 1) + (1 - k)
-unfolding dif
-previous k = dif-natAbs k 1
+-- ---- the parity of a start, and the half of the first sample
+by-half : (s : ℕ) (P : Half → Type 0) → (s % 2 ≡ 0 → P lo) → (s % 2 ≡ 1 → P hi) → P (half s)
+by-half s P e o =
+    elim (ℕ-discrete (s % 2) 0) [
+      | yes b ↦ subst P (sym (half-even s b)) (e b)
+      | no d ↦ subst P (sym (half-odd s (omega arith))) (o (omega arith))
+    ]
 
-pub mirror-next : (N n : ℕ) → n < count hi N → mirror N (pos (2 * n + 2)) ≡ 2 * near (count lo N) (n + 1)
-unfolding mirror count
-mirror-next N n b = omega arith
+module _ (S : Side) where
+  abbrev first : Half
+  first = half (S .start)
 
-pub mirror-before : (N n : ℕ) → 1 < N → n < count lo N → mirror N (pos (2 * n) -ℤ pos 1) / 2 ≡ n - 1
-unfolding mirror count
-mirror-before N n l b = let e = previous (2 * n) in omega arith
+  first-place : (h : Half) (n : ℕ) → filter.place first h n ≡ place S h n
+  unfolding place
+  first-place lo n = by-half (S .start) (λ f. filter.place f lo n ≡ 2 * n + S .start % 2) (λ e. omega arith) (λ e. omega arith)
+  first-place hi n = by-half (S .start) (λ f. filter.place f hi n ≡ 2 * n + (1 - S .start % 2)) (λ e. omega arith) (λ e. omega arith)
 
-pub mirror-after : (N n : ℕ) → 1 < N → n < count lo N → mirror N (pos (2 * n + 1)) / 2 ≡ near (count hi N) n
-unfolding mirror count
-mirror-after N n l b = omega arith
+  first-many : (h : Half) → many first h (S .length) ≡ count h S
+  unfolding count line.count
+  first-many lo = by-half (S .start) (λ f. many f lo (S .length) ≡ (S .length + 1 - S .start % 2) / 2) (λ e. omega arith) (λ e. omega arith)
+  first-many hi = by-half (S .start) (λ f. many f hi (S .length) ≡ (S .length + S .start % 2) / 2) (λ e. omega arith) (λ e. omega arith)
 
-module _ (keep : ℤ → ℤ) (N : ℕ) where
-  pub high-near : (x : ℕ → ℤ) (n : ℕ) → n < count hi N → high keep N x n ≡ predicted keep (x (2 * n + 1)) (x (2 * n)) (x (2 * near (count lo N) (n + 1)))
-  unfolding high
-  high-near x n b = rw (mirror-next N n b) refl
+  first-after : (h : Half) → after first h ≡ ahead S h
+  first-after lo = by-half (S .start) (λ f. after f lo ≡ 1 - S .start % 2) (λ e. omega arith) (λ e. omega arith)
+  first-after hi = by-half (S .start) (λ f. after f hi ≡ S .start % 2) (λ e. omega arith) (λ e. omega arith)
 
-  pub low-near : (x : ℕ → ℤ) (n : ℕ) → 1 < N → n < count lo N → low keep N x n ≡ updated keep (x (2 * n)) (high keep N x (n - 1)) (high keep N x (near (count hi N) n))
-  unfolding low highAt
-  low-near x n l b = simp (lt-ltb 1 N l, mirror-before N n l b, mirror-after N n l b)
+  -- the neighbours of number n in half h, and where they stand
+  first-left : (h : Half) (n : ℕ) → near (many first h (S .length)) (n + after first h - 1) ≡ near (count h S) (n + ahead S h - 1)
+  first-left h n = ap₂ (λ m a. near m (n + a - 1)) (first-many h) (first-after h)
 
-  pub even-near : (s d : ℕ → ℤ) (n : ℕ) → 1 < N → n < count lo N → backEven keep N s d n ≡ unupdated keep (s n) (d (n - 1)) (d (near (count hi N) n))
-  unfolding backEven highAt
-  even-near s d n l b = simp (lt-ltb 1 N l, mirror-before N n l b, mirror-after N n l b)
+  first-right : (h : Half) (n : ℕ) → near (many first h (S .length)) (n + after first h) ≡ near (count h S) (n + ahead S h)
+  first-right h n = ap₂ (λ m a. near m (n + a)) (first-many h) (first-after h)
 
-  pub odd-near : (s d : ℕ → ℤ) (n : ℕ) → n < count hi N → backOdd keep N s d n ≡ unpredicted keep (d n) (backEven keep N s d n) (backEven keep N s d (near (count lo N) (n + 1)))
-  unfolding backOdd
-  odd-near s d n b =
-      ap (λ (i : ℕ). unpredicted keep (d n) (backEven keep N s d n) (backEven keep N s d i))
-      (ap (λ (i : ℕ). i / 2) (mirror-next N n b) ∙ omega arith)
+  -- an only sample
+  only : (h : Half) (n : ℕ) → S .length ≡ 1 → n < count h S → (first ≡ h) × (n ≡ 0)
+  unfolding count
+  only lo n one b = (half-even (S .start) (omega arith), omega arith)
+  only hi n one b = (half-odd (S .start) (omega arith), omega arith)
+
+  only-place : (h : Half) (n : ℕ) → S .length ≡ 1 → n < count h S → place S h n ≡ 0
+  only-place h n one b = let p = place-in S h n b in omega arith
 
 -- ---- the instance is the definitions' lifting, where the numbers are good
-module _ {keep : ℤ → ℤ} (K : Keeping keep) (N : ℕ) where
+ap₃ : (f : ℤ → ℤ → ℤ → ℤ) {x y a a′ b b′ : ℤ} → x ≡ y → a ≡ a′ → b ≡ b′ → f x a b ≡ f y a′ b′
+ap₃ f p q r = λ i. f (p i) (q i) (r i)
+
+module _ {keep : ℤ → ℤ} (K : Keeping keep) (S : Side) where
   open Keeping K using (Good)
 
+  abbrev F : Filter ℤ (first S)
+  F = lifting K (first S)
+
+  abbrev N : ℕ
+  N = S .length
+
   module _ (x : ℕ → ℤ) (good : (i : ℕ) → i < N → Good (x i)) where
-    high-is : (n : ℕ) → n < count hi N → forward (lifting K) N x hi n ≡ high keep N x n
-    unfolding by-two part count
-    high-is n b =
-        forward-high (lifting K) N x n (omega arith)
-        ∙ on-good-is K (predicted keep) _ _ _ (good (2 * n + 1) (omega arith))
-        ∙ ap₂ (λ i j. predicted keep (x (2 * n + 1)) (x (2 * i)) (x (2 * j))) (omega arith) (omega arith)
-        ∙ sym (high-near keep N x n b)
+    high-is : 1 < N → (n : ℕ) → n < count hi S → forward F N x hi n ≡ lineForward keep S x hi n
+    unfolding by-two part
+    high-is g n b =
+        forward-high F N x n g
+        ∙ on-good-is K (predicted keep) _ _ _ (rw (first-place S hi n) (good (place S hi n) (place-in S hi n b)))
+        ∙ ap₃ (predicted keep)
+        (ap x (first-place S hi n))
+        (ap x (ap (filter.place (first S) lo) (first-left S lo n) ∙ first-place S lo _))
+        (ap x (ap (filter.place (first S) lo) (first-right S lo n) ∙ first-place S lo _))
+        ∙ sym (high-near S g keep x n b)
 
-    low-is : (n : ℕ) → 1 < N → n < count lo N → forward (lifting K) N x lo n ≡ low keep N x n
-    unfolding by-two part count
-    low-is n l b =
-        forward-low (lifting K) N x n l
-        ∙ on-good-is K (updated keep) _ _ _ (good (2 * n) (omega arith))
-        ∙ ap₂ (updated keep (x (2 * n))) (high-is _ (omega arith)) (high-is _ (omega arith))
-        ∙ ap₂ (λ i j. updated keep (x (2 * n)) (high keep N x i) (high keep N x j)) (omega arith) (omega arith)
-        ∙ sym (low-near keep N x n l b)
+    low-is : 1 < N → (n : ℕ) → n < count lo S → forward F N x lo n ≡ lineForward keep S x lo n
+    unfolding by-two part
+    low-is g n b =
+        let both = counts S in
+        let s = some S g in
+        forward-low F N x n g
+        ∙ on-good-is K (updated keep) _ _ _ (rw (first-place S lo n) (good (place S lo n) (place-in S lo n b)))
+        ∙ ap₃ (updated keep)
+        (ap x (first-place S lo n))
+        (ap (forward F N x hi) (first-left S hi n) ∙ high-is g _ (omega arith))
+        (ap (forward F N x hi) (first-right S hi n) ∙ high-is g _ (omega arith))
+        ∙ sym (low-near S g keep x n b)
 
-  module _ (c : Half → ℕ → ℤ) (good : (h : Half) (n : ℕ) → n < count h N → Good (c h n)) where
-    even-is : (n : ℕ) → 1 < N → n < count lo N → back (lifting K) N c (2 * n) ≡ backEven keep N (c lo) (c hi) n
-    unfolding by-two count
-    even-is n l b =
-        back-low (lifting K) N c n l
+  module _ (c : Half → ℕ → ℤ) (good : (h : Half) (n : ℕ) → n < count h S → Good (c h n)) where
+    even-is : 1 < N → (n : ℕ) → n < count lo S → back F N c (place S lo n) ≡ lineHalvesBack keep S c lo n
+    unfolding by-two
+    even-is g n b =
+        ap (back F N c) (sym (first-place S lo n))
+        ∙ back-low F N c n g
         ∙ on-good-is K (unupdated keep) _ _ _ (good lo n b)
-        ∙ ap₂ (λ i j. unupdated keep (c lo n) (c hi i) (c hi j)) (omega arith) (omega arith)
-        ∙ sym (even-near keep N (c lo) (c hi) n l b)
+        ∙ ap₃ (unupdated keep) refl (ap (c hi) (first-left S hi n)) (ap (c hi) (first-right S hi n))
+        ∙ sym (even-near S g keep c n b)
 
-    odd-is : (n : ℕ) → n < count hi N → back (lifting K) N c (2 * n + 1) ≡ backOdd keep N (c lo) (c hi) n
-    unfolding by-two part count
-    odd-is n b =
-        back-high (lifting K) N c n (omega arith)
+    odd-is : 1 < N → (n : ℕ) → n < count hi S → back F N c (place S hi n) ≡ lineHalvesBack keep S c hi n
+    unfolding by-two part
+    odd-is g n b =
+        let s = some S g in
+        ap (back F N c) (sym (first-place S hi n))
+        ∙ back-high F N c n g
         ∙ on-good-is K (unpredicted keep) _ _ _ (good hi n b)
-        ∙ ap₂ (unpredicted keep (c hi n)) (even-is _ (omega arith) (omega arith)) (even-is _ (omega arith) (omega arith))
-        ∙ ap₂ (λ i j. unpredicted keep (c hi n) (backEven keep N (c lo) (c hi) i) (backEven keep N (c lo) (c hi) j)) (omega arith) (omega arith)
-        ∙ sym (odd-near keep N (c lo) (c hi) n b)
+        ∙ ap₃ (unpredicted keep) refl
+        (ap (back F N c) (ap (filter.place (first S) lo) (first-left S lo n) ∙ first-place S lo _) ∙ even-is g _ (omega arith))
+        (ap (back F N c) (ap (filter.place (first S) lo) (first-right S lo n) ∙ first-place S lo _) ∙ even-is g _ (omega arith))
+        ∙ sym (odd-near S g keep c n b)
 
-pub joined-place : (p : Half → ℕ → ℤ) (h : Half) (n : ℕ) → joined p (place lo h n) ≡ p h n
-unfolding joined
-joined-place p lo n =
-    let e : (2 * n) % 2 ≡ 0 = omega arith in
-    let f : 2 * n / 2 ≡ n = omega arith in
-    simp (e, f)
-joined-place p hi n =
-    let e : (2 * n + 1) % 2 ≡ 1 = omega arith in
-    let f : (2 * n + 1) / 2 ≡ n = omega arith in
-    simp (e, f)
+-- an only sample, at either parity
+module _ {keep : ℤ → ℤ} (K : Keeping keep) (s : ℕ) where
+  abbrev one : Side
+  one = side s 1
+
+  only-forward : (x : ℕ → ℤ) (h : Half) (n : ℕ) → n < count h one → forward (lifting K (half s)) 1 x h n ≡ lineForward keep one x h n
+  only-forward x lo n b =
+      let o = only one lo n refl b in
+      let p = only-place one lo n refl b in
+      ap₂ (forward (lifting K (half s)) 1 x) (sym (o .0)) (o .1)
+      ∙ forward-one (lifting K (half s)) x
+      ∙ ap (λ (f : Half). alone keep f (x 0)) (o .0)
+      ∙ sym (low-one one (omega arith) keep x n ∙ ap x p)
+  only-forward x hi n b =
+      let o = only one hi n refl b in
+      let p = only-place one hi n refl b in
+      ap₂ (forward (lifting K (half s)) 1 x) (sym (o .0)) (o .1)
+      ∙ forward-one (lifting K (half s)) x
+      ∙ ap (λ (f : Half). alone keep f (x 0)) (o .0)
+      ∙ sym (high-one one (omega arith) keep x n ∙ ap (λ (i : ℕ). keep (pos 2 *ℤ x i)) p)
+
+  only-back : (c : Half → ℕ → ℤ) (h : Half) (n : ℕ) → n < count h one → back (lifting K (half s)) 1 c (place one h n) ≡ lineHalvesBack keep one c h n
+  only-back c lo n b =
+      let o = only one lo n refl b in
+      ap (back (lifting K (half s)) 1 c) (only-place one lo n refl b)
+      ∙ back-one (lifting K (half s)) c
+      ∙ ap (λ (f : Half). unalone f (c f 0)) (o .0)
+      ∙ sym (even-one one (omega arith) keep c n ∙ ap (c lo) (o .1))
+  only-back c hi n b =
+      let o = only one hi n refl b in
+      ap (back (lifting K (half s)) 1 c) (only-place one hi n refl b)
+      ∙ back-one (lifting K (half s)) c
+      ∙ ap (λ (f : Half). unalone f (c f 0)) (o .0)
+      ∙ sym (odd-one one (omega arith) keep c n ∙ ap (λ (i : ℕ). shrZ (c hi i) 2) (o .1))
 
 module _ {keep : ℤ → ℤ} (K : Keeping keep) where
   open Keeping K using (Good)
 
-  pub forward-is : (N : ℕ) (x : ℕ → ℤ) → ((i : ℕ) → i < N → Good (x i)) → (h : Half) (n : ℕ) → n < count h N → forward (lifting K) N x h n ≡ lineForward keep N x h n
-  unfolding lineForward low count
-  forward-is zero x good lo n b = absurd (omega arith)
-  forward-is (suc zero) x good lo n b = let e : n ≡ 0 = omega arith in rw e (forward-one (lifting K) x)
-  forward-is (suc (suc m)) x good lo n b = low-is K (suc (suc m)) x good n (omega arith) b
-  forward-is N x good hi n b = high-is K N x good n b
+  none : (s : ℕ) (h : Half) (n : ℕ) → n < count h (side s 0) → 1 ≤ 0
+  unfolding count
+  none s lo n b = omega arith
+  none s hi n b = omega arith
 
-  half-back-is : (N : ℕ) (c : Half → ℕ → ℤ) → ((h : Half) (n : ℕ) → n < count h N → Good (c h n)) → (h : Half) (n : ℕ) → place lo h n < N → back (lifting K) N c (place lo h n) ≡ lineHalvesBack keep N c h n
-  unfolding lineHalvesBack backEven count
-  half-back-is zero c good lo n b = absurd (omega arith)
-  half-back-is (suc zero) c good lo n b = let e : n ≡ 0 = omega arith in rw e (back-one (lifting K) c)
-  half-back-is (suc (suc m)) c good lo n b = even-is K (suc (suc m)) c good n (omega arith) (omega arith)
-  half-back-is N c good hi n b = odd-is K N c good n (omega arith)
+  forward-by : (s N : ℕ) (x : ℕ → ℤ) → ((i : ℕ) → i < N → Good (x i)) → (h : Half) (n : ℕ) → n < count h (side s N)
+      → forward (lifting K (half s)) N x h n ≡ lineForward keep (side s N) x h n
+  forward-by s zero x good h n b = let e = none s h n b in absurd (omega arith)
+  forward-by s (suc zero) x good h n b = only-forward K s x h n b
+  forward-by s (suc (suc m)) x good lo n b = low-is K (side s (suc (suc m))) x good (omega arith) n b
+  forward-by s (suc (suc m)) x good hi n b = high-is K (side s (suc (suc m))) x good (omega arith) n b
 
-  pub back-is : (N : ℕ) (c : Half → ℕ → ℤ) → ((h : Half) (n : ℕ) → n < count h N → Good (c h n)) → (i : ℕ) → i < N → back (lifting K) N c i ≡ lineBack keep N c i
-  unfolding lineBack
-  back-is N c good =
-      by-place lo (λ i. i < N → back (lifting K) N c i ≡ lineBack keep N c i)
-      (λ h n b. half-back-is N c good h n b ∙ sym (joined-place (lineHalvesBack keep N c) h n))
+  halves-by : (s N : ℕ) (c : Half → ℕ → ℤ) → ((h : Half) (n : ℕ) → n < count h (side s N) → Good (c h n)) → (h : Half) (n : ℕ) → n < count h (side s N)
+      → back (lifting K (half s)) N c (place (side s N) h n) ≡ lineHalvesBack keep (side s N) c h n
+  halves-by s zero c good h n b = let e = none s h n b in absurd (omega arith)
+  halves-by s (suc zero) c good h n b = only-back K s c h n b
+  halves-by s (suc (suc m)) c good lo n b = even-is K (side s (suc (suc m))) c good (omega arith) n b
+  halves-by s (suc (suc m)) c good hi n b = odd-is K (side s (suc (suc m))) c good (omega arith) n b
 
-  -- so what holds of the general filter holds of the definitions. What is stored is good:
-  pub forward-good : (N : ℕ) (x : ℕ → ℤ) → ((i : ℕ) → i < N → Good (x i)) → (h : Half) (n : ℕ) → n < count h N → Good (lineForward keep N x h n)
-  unfolding lineForward high low count
-  forward-good zero x good lo n b = absurd (omega arith)
-  forward-good (suc zero) x good lo n b = good (2 * n) (omega arith)
-  forward-good (suc (suc m)) x good lo n b = rw (lt-ltb 1 (suc (suc m)) (omega arith)) (updated-good K _ _ _)
-  forward-good N x good hi n b = predicted-good K _ _ _
+  module _ (S : Side) where
+    pub forward-is : (x : ℕ → ℤ) → ((i : ℕ) → i < S .length → Good (x i)) → (h : Half) (n : ℕ) → n < count h S
+        → forward (lifting K (half (S .start))) (S .length) x h n ≡ lineForward keep S x h n
+    forward-is = forward-by (S .start) (S .length)
 
-  halves-good : (N : ℕ) (c : Half → ℕ → ℤ) → ((h : Half) (n : ℕ) → n < count h N → Good (c h n)) → (h : Half) (n : ℕ) → place lo h n < N → Good (lineHalvesBack keep N c h n)
-  unfolding lineHalvesBack backEven backOdd count
-  halves-good zero c good lo n b = absurd (omega arith)
-  halves-good (suc zero) c good lo n b = good lo n (omega arith)
-  halves-good (suc (suc m)) c good lo n b = rw (lt-ltb 1 (suc (suc m)) (omega arith)) (unupdated-good K _ _ _)
-  halves-good N c good hi n b = unpredicted-good K _ _ _
+    pub back-is : (c : Half → ℕ → ℤ) → ((h : Half) (n : ℕ) → n < count h S → Good (c h n)) → (i : ℕ) → i < S .length
+        → back (lifting K (half (S .start))) (S .length) c i ≡ lineBack keep S c i
+    unfolding lineBack
+    back-is c good =
+        by-place S (λ i. i < S .length → back (lifting K (half (S .start))) (S .length) c i ≡ joined S (lineHalvesBack keep S c) i)
+        (λ h n b. halves-by (S .start) (S .length) c good h n (in-place S h n b) ∙ sym (joined-place S (lineHalvesBack keep S c) h n))
 
-  pub back-good : (N : ℕ) (c : Half → ℕ → ℤ) → ((h : Half) (n : ℕ) → n < count h N → Good (c h n)) → (i : ℕ) → i < N → Good (lineBack keep N c i)
-  unfolding lineBack
-  back-good N c good =
-      by-place lo (λ i. i < N → Good (lineBack keep N c i))
-      (λ h n b. rw (joined-place (lineHalvesBack keep N c) h n) (halves-good N c good h n b))
+    -- so what holds of the general filter holds of the definitions. What is stored is good:
+    pub forward-good : (x : ℕ → ℤ) → ((i : ℕ) → i < S .length → Good (x i)) → (h : Half) (n : ℕ) → n < count h S → Good (lineForward keep S x h n)
+    forward-good x good lo n b =
+        elim (decLt 1 (S .length)) [
+          | yes g ↦ rw (low-near S g keep x n b) (updated-good K _ _ _)
+          | no d ↦ rw (low-one S (omega arith) keep x n) (good (place S lo n) (place-in S lo n b))
+        ]
+    forward-good x good hi n b =
+        elim (decLt 1 (S .length)) [
+          | yes g ↦ rw (high-near S g keep x n b) (predicted-good K _ _ _)
+          | no d ↦ rw (high-one S (omega arith) keep x n) (K .kept _)
+        ]
 
-  -- and the two ways are inverse
-  pub line-back-forward : (N : ℕ) (x : ℕ → ℤ) → ((i : ℕ) → i < N → Good (x i)) → (i : ℕ) → i < N → lineBack keep N (lineForward keep N x) i ≡ x i
-  line-back-forward N x good i b =
-      sym (back-is N (lineForward keep N x) (forward-good N x good) i b)
-      ∙ back-reads (lifting K) N (lineForward keep N x) (forward (lifting K) N x)
-      (λ h n p. sym (forward-is N x good h n p)) i b
-      ∙ back-forward (lifting K) N x (λ _. refl) i
+    pub halves-good : (c : Half → ℕ → ℤ) → ((h : Half) (n : ℕ) → n < count h S → Good (c h n)) → (h : Half) (n : ℕ) → n < count h S
+        → Good (lineHalvesBack keep S c h n)
+    halves-good c good lo n b =
+        elim (decLt 1 (S .length)) [
+          | yes g ↦ rw (even-near S g keep c n b) (unupdated-good K _ _ _)
+          | no d ↦ rw (even-one S (omega arith) keep c n) (good lo n b)
+        ]
+    halves-good c good hi n b =
+        elim (decLt 1 (S .length)) [
+          | yes g ↦ rw (odd-near S g keep c n b) (unpredicted-good K _ _ _)
+          | no d ↦ rw (odd-one S (omega arith) keep c n) (K .half-good _ (good hi n b))
+        ]
 
-  pub line-forward-back : (N : ℕ) (c : Half → ℕ → ℤ) → ((h : Half) (n : ℕ) → n < count h N → Good (c h n)) → (h : Half) (n : ℕ) → n < count h N → lineForward keep N (lineBack keep N c) h n ≡ c h n
-  line-forward-back N c good h n b =
-      sym (forward-is N (lineBack keep N c) (back-good N c good) h n b)
-      ∙ forward-reads (lifting K) N (lineBack keep N c) (back (lifting K) N c) h n b
-      (λ i p _. sym (back-is N c good i p))
-      ∙ forward-back (lifting K) N c (λ _. refl) h n
+    pub back-good : (c : Half → ℕ → ℤ) → ((h : Half) (n : ℕ) → n < count h S → Good (c h n)) → (i : ℕ) → i < S .length → Good (lineBack keep S c i)
+    unfolding lineBack
+    back-good c good =
+        by-place S (λ i. i < S .length → Good (joined S (lineHalvesBack keep S c) i))
+        (λ h n b. rw (joined-place S (lineHalvesBack keep S c) h n) (halves-good c good h n (in-place S h n b)))
+
+    -- and the two ways are inverse. A lone sample at an odd coordinate comes back if its double is good,
+    pub line-back-forward : (x : ℕ → ℤ) → ((i : ℕ) → i < S .length → Good (x i)) → (loneHigh S ≡ true → Good (pos 2 *ℤ x 0)) → (i : ℕ) → i < S .length
+        → lineBack keep S (lineForward keep S x) i ≡ x i
+    line-back-forward x good double i b =
+        sym (back-is (lineForward keep S x) (forward-good x good) i b)
+        ∙ back-reads (lifting K (half (S .start))) (S .length) (lineForward keep S x) (forward (lifting K (half (S .start))) (S .length) x)
+        (λ h n p. sym (forward-is x good h n (rw (first-many S h) at p))) i b
+        ∙ back-forward (lifting K (half (S .start))) (S .length) x
+        (λ one. by-half (S .start) (λ f. unalone f (alone keep f (x 0)) ≡ x 0) (λ _. refl)
+        (λ e. ap (λ (v : ℤ). shrZ v 2) (K .same _ (double (lone-odd S e ∙ eq-eqb (S .length) 1 one))) ∙ half-double (x 0)))
+        i
+
+    -- and values go there again if they are a line's
+    pub line-forward-back : (c : Half → ℕ → ℤ) → ((h : Half) (n : ℕ) → n < count h S → Good (c h n)) → hasLine S c ≡ true → (h : Half) (n : ℕ) → n < count h S
+        → lineForward keep S (lineBack keep S c) h n ≡ c h n
+    unfolding isEven
+    line-forward-back c good has h n b =
+        sym (forward-is (lineBack keep S c) (back-good c good) h n b)
+        ∙ forward-reads (lifting K (half (S .start))) (S .length) (lineBack keep S c) (back (lifting K (half (S .start))) (S .length) c) h n
+        (rw (first-many S h) b)
+        (λ i p _. sym (back-is c good i p))
+        ∙ forward-back (lifting K (half (S .start))) (S .length) c
+        (λ one. by-half (S .start) (λ f. alone keep f (unalone f (c f 0)) ≡ c f 0) (λ _. refl)
+        (λ e.
+        let lone : loneHigh S ≡ true = lone-odd S e ∙ eq-eqb (S .length) 1 one in
+        let there = lone-high S lone in
+        let even = eqb-true _ _ (sym (has-lone S c lone) ∙ has) in
+        ap keep (double-half (c hi 0) even) ∙ K .same _ (good hi 0 (omega arith))))
+        h n

@@ -1,6 +1,12 @@
 pub mod Fits
+pub mod GridLaws
+pub mod GridReads
 pub mod Filter
+pub mod LoneLaws
 pub mod FiveThree
+pub mod GridTheorems
+pub mod LineNear
+pub mod AtZero
 pub mod LineTheorems
 pub mod RowLaws
 pub mod RowSweep
@@ -8,5 +14,6 @@ pub mod LineLaws
 pub mod PassLaws
 pub mod AreaLaws
 pub mod LiftLaws
+pub mod GridThereAndBack
 pub mod ThereAndBack
 pub mod ColumnLaws

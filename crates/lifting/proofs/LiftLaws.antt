@@ -1,150 +1,254 @@
 -- A row in halves lifted back, its high half read from another row: a turn of each of the two loops, and what both come to. Assumes nothing.
-use mathlib.Core.Path.{_≡_, sym, ap, _∙_, fun-ext}
+use mathlib.Core.Path.{_≡_, refl, sym, ap, _∙_, fun-ext}
 use mathlib.Core.List.{List}
 use Prim.Native.Nat.{ℕ, _+_, _-_, _*_, _≤_, _<_, min}
 use native.Mathlib.Decide.{decLt}
 use native.Mathlib.Omega.{arith}
 use lib.IntN.{ℤ, pos}
-use lib.ListN.{length, set, List·getD-eq-default}
+use lib.ListN.{length, set, length-set, List·getD-eq-default}
 use borrow.Author.Tests.{lt-ltb, le-ltb}
 use borrow.Rule.Slice.PartMut.{midOf, putMid}
 use Rattle.numbers.specs.Signal.{at, windowed, spliced}
 use Rattle.numbers.specs.Word.{wrap32}
-use Rattle.numbers.proofs.Sweep.{Swept, store}
+use Rattle.numbers.proofs.Sweep.{Swept, store, finish}
 use Rattle.numbers.proofs.Parts.{window-in, splice-in, splice-past, length-mid, at-mid, at-put}
-use Rattle.lifting.specs.Line.{lo, hi, count, unupdated, unpredicted}
-use Rattle.lifting.specs.Halves.{halvesOf, fronted, unliftedInPlace, highsLaid}
-use Rattle.lifting.specs.Passes.{highsChanged, lowsChanged}
-use Rattle.lifting.proofs.LineLaws.{counts, count-lo, front-in, front-past}
-use Rattle.lifting.proofs.PassLaws.{highs-low, highs-high, highs-past, lows-low, lows-past, unlifted-is, unlifted-one}
+use Rattle.lifting.specs.Line.{lo, hi, unupdated, unpredicted}
+use Rattle.lifting.specs.Grid.{Side, count}
+use Rattle.lifting.specs.Halves.{fronted}
+use Rattle.lifting.specs.GridHalves.{unliftedInPlace, highsLaid}
+use Rattle.lifting.specs.Passes.{near, highsChanged, lowsChanged, lowsOf}
+use Rattle.lifting.proofs.GridLaws.{ahead, counts, some, front-in, front-past}
+use Rattle.lifting.proofs.PassLaws.{highs-low, highs-high, highs-past, lows-low, lows-past, unlifted-is}
 
 past-end : (l : List ℤ) (j : ℕ) → length l ≤ j → at l j ≡ pos 0
 past-end l j h = List·getD-eq-default l (pos 0) h
 
-module _ (N : ℕ) (y z : ℕ → ℤ) (j : ℕ) where
-  pub laid-low : j < count lo N → highsLaid N y z j ≡ z j
-  unfolding highsLaid
-  laid-low b = simp (lt-ltb j (count lo N) b)
+module _ (low : ℕ) (y z : ℕ → ℤ) (j : ℕ) where
+  pub of-low : j < low → lowsOf low y z j ≡ z j
+  unfolding lowsOf
+  of-low b = simp (lt-ltb j low b)
 
-  pub laid-high : count lo N ≤ j → highsLaid N y z j ≡ y j
-  unfolding highsLaid
-  laid-high b = simp (le-ltb j (count lo N) b)
+  pub of-high : low ≤ j → lowsOf low y z j ≡ y j
+  unfolding lowsOf
+  of-high b = simp (le-ltb j low b)
+
+pub laid-is : (S : Side) (y z : ℕ → ℤ) → highsLaid S y z ≡ lowsOf (count lo S) y z
+unfolding highsLaid lowsOf
+laid-is S y z = refl
 
 -- ---- the low numbers z of the other row, by the high numbers of the row l
-module _ (f : ℤ → ℤ → ℤ → ℤ) (l : List ℤ) (z : ℕ → ℤ) where
-  abbrev lowsBack : ℕ → ℤ
-  lowsBack = highsLaid (length l) z (lowsChanged f (length l) (highsLaid (length l) (at l) z))
+module _ (f : ℤ → ℤ → ℤ → ℤ) (o low : ℕ) (l : List ℤ) (z : ℕ → ℤ) where
+  abbrev pub lowsBack : ℕ → ℤ
+  lowsBack = lowsOf low z (lowsChanged f o low (length l) (lowsOf low (at l) z))
 
-  pub back-turn : (n a b : ℕ) (o : List ℤ) → 1 < length l → n < count lo (length l) → a ≡ count lo (length l) + (n - 1) → b ≡ count lo (length l) + min n (count hi (length l) - 1) → Swept (length l) lowsBack z n o → Swept (length l) lowsBack z (n + 1) (set o n (f (at o n) (at l a) (at l b)))
-  back-turn n a b o more h ea eb sw =
+  low-turn : (n a b : ℕ) (m : List ℤ) → low < length l → n < low → a ≡ low + near (length l - low) (n + o - 1) → b ≡ low + near (length l - low) (n + o)
+      → Swept (length l) lowsBack z n m → Swept (length l) lowsBack z (n + 1) (set m n (f (at m n) (at l a) (at l b)))
+  low-turn n a b m g h ea eb sw =
       let N = length l in
-      let c = counts N in
-      let u = highsLaid N (at l) z in
+      let u = lowsOf low (at l) z in
       store _ sw (omega arith)
-      (cc (laid-low N z (lowsChanged f N u) n h, lows-low f N u n h, laid-low N (at l) z n h, ea, eb, sw .rest n (omega arith), laid-high N (at l) z (count lo N + (n - 1)) (omega arith), laid-high N (at l) z (count lo N + min n (count hi N - 1)) (omega arith)))
+      (cc (
+        of-low low z (lowsChanged f o low N u) n h,
+        lows-low f o low N u n h,
+        of-low low (at l) z n h,
+        ea,
+        eb,
+        sw .rest n (omega arith),
+        of-high low (at l)
+            z (low + near (N - low) (n + o - 1)) (omega arith),
+        of-high low (at l) z (low + near (N - low) (n + o)) (omega arith),
+      ))
 
-  pub back-first : (low : ℕ) (o o′ : List ℤ) → z ≡ at o → length l ≡ length o → low ≡ count lo (length l) → 1 < length l → o′ ≡ set o 0 (f (at o 0) (at l low) (at l low)) → Swept (length l) lowsBack z 1 o′
-  back-first low o o′ ez size el more is =
-      let half = count-lo (length l) in
-      let sw : Swept (length l) lowsBack z 0 o = record { size = sym size; done = λ j b. absurd (omega arith); rest = λ j b. ap (λ (y : ℕ → ℤ). y j) (sym ez) } in
-      rw is (back-turn 0 low low o more (omega arith) (omega arith) (omega arith) sw)
+  low-past : (j : ℕ) → low ≤ j → lowsBack j ≡ z j
+  low-past j b = of-high low z _ j b
 
-  pub back-past : (j : ℕ) → count lo (length l) ≤ j → lowsBack j ≡ z j
-  back-past j b = laid-high (length l) z _ j b
+-- the first is stored before the loop: m is the other row, m₀ the same after it
+pub low-first : (f : ℤ → ℤ → ℤ → ℤ) (o low b : ℕ) (l m m₀ : List ℤ) → 0 < low → low < length l → o ≤ 1 → length l ≡ length m
+    → b ≡ low + near (length l - low) o → m₀ ≡ set m 0 (f (at m 0) (at l low) (at l b)) → Swept (length l) (lowsBack f o low l (at m)) (at m) 1 m₀
+low-first f o low b l m m₀ g room few size e is =
+    let sw : Swept (length l) (lowsBack f o low l (at m)) (at m) 0 m = record { size = sym size; done = λ j b. absurd (omega arith); rest = λ j b. refl } in
+    rw is (low-turn f o low l (at m) 0 low b m room g (omega arith) (omega arith) sw)
 
--- ---- the high numbers of the row l, by the low numbers z of the other row
-module _ (f : ℤ → ℤ → ℤ → ℤ) (l : List ℤ) (z : ℕ → ℤ) where
-  abbrev highsBack : ℕ → ℤ
-  highsBack = highsChanged f (length l) (highsLaid (length l) (at l) z)
+pub record LowsBy (f : ℤ → ℤ → ℤ → ℤ) (l m₀ : List ℤ) (low o high end n : ℕ) (m : List ℤ) : Type 0 where
+  pub some : 0 < low
+  pub both : low < length l
+  pub few : o ≤ 1
+  pub least : length l ≤ low + low + o
+  pub most : low + low + o ≤ length l + 1
+  pub highs : high ≡ length l - low
+  pub last : end ≡ high - o
+  pub begun : 1 ≤ n
+  pub within : n ≤ high
+  pub size : length m ≡ length l
+  pub swept : (z : ℕ → ℤ) → Swept (length l) (lowsBack f o low l z) z 1 m₀ → Swept (length l) (lowsBack f o low l z) z n m
 
-  back-low : (j : ℕ) → j < count lo (length l) → highsBack j ≡ z j
-  back-low j b = highs-low f (length l) _ j b ∙ laid-low (length l) (at l) z j b
-
-  pub high-turn : (low n b : ℕ) (o : List ℤ) → low ≡ count lo (length l) → n < count hi (length l) → b ≡ min (n + 1) (count lo (length l) - 1) → Swept (length l) highsBack z (low + n) o → Swept (length l) highsBack z (low + (n + 1)) (set o (low + n) (f (at l (low + n)) (at o n) (at o b)))
-  high-turn low n b o e h eb sw =
-      let N = length l in
-      let c = counts N in
-      let half = count-lo N in
-      let u = highsLaid N (at l) z in
-      let k : low + n + 1 ≡ low + (n + 1) = omega arith in
-      let m = min (n + 1) (count lo N - 1) in
-      rw (← k)
-      (store _ sw (omega arith)
-      (cc (e, eb, highs-high f N u n h, laid-high N (at l) z (count lo N + n) (omega arith), laid-low N (at l) z n (omega arith), laid-low N (at l) z m (omega arith), sw .done n (omega arith), sw .done b (omega arith), back-low n (omega arith), back-low m (omega arith))))
-
-  pub high-start : (o : List ℤ) (k : ℕ) → z ≡ at o → length l ≡ length o → k ≤ count lo (length l) → Swept (length l) highsBack z k o
-  high-start o k ez size b =
+module _ (f : ℤ → ℤ → ℤ → ℤ) (l m₀ : List ℤ) (low o high end n : ℕ) (m m′ : List ℤ) (h : LowsBy f l m₀ low o high end n m) where
+  pub low-again : n < end → m′ ≡ set m n (f (at m n) (at l (low + n + o - 1)) (at l (low + n + o))) → LowsBy f l m₀ low o high end (n + 1) m′
+  low-again b is =
       record {
-        size = sym size;
-        done = λ j lt. ap (λ (y : ℕ → ℤ). y j) (sym ez) ∙ sym (back-low j (omega arith));
-        rest = λ j le. ap (λ (y : ℕ → ℤ). y j) (sym ez);
+        some = h .some;
+        both = h .both;
+        few = h .few;
+        least = h .least;
+        most = h .most;
+        highs = h .highs;
+        last = h .last;
+        begun = omega arith;
+        within = omega arith;
+        size = ap length is ∙ length-set m n _ ∙ h .size;
+        swept = λ z s. rw is (low-turn f o low l z n (low + n + o - 1) (low + n + o) m (h .both) (omega arith) (omega arith) (omega arith) (h .swept z s));
       }
 
-  pub high-past : (o : List ℤ) (j : ℕ) → z ≡ at o → length o ≡ length l → length l ≤ j → highsBack j ≡ z j
-  high-past o j ez size b =
-      let c = count-lo (length l) in
-      highs-past f (length l) _ j b
-      ∙ laid-high (length l) (at l) z j (omega arith)
+  pub low-last : end ≤ n → n < low → m′ ≡ set m n (f (at m n) (at l (low + high - 1)) (at l (low + high - 1))) → (z : ℕ → ℤ)
+      → Swept (length l) (lowsBack f o low l z) z 1 m₀ → at m′ ≡ lowsBack f o low l z
+  low-last b k is z s =
+      rw is
+      (finish (low-turn f o low l z n (low + high - 1) (low + high - 1) m (h .both) k (omega arith) (omega arith) (h .swept z s))
+      (λ j le. low-past f o low l z j (omega arith)))
+
+  pub low-done : low ≤ n → (z : ℕ → ℤ) → Swept (length l) (lowsBack f o low l z) z 1 m₀ → at m ≡ lowsBack f o low l z
+  low-done k z s = finish (h .swept z s) (λ j le. low-past f o low l z j (omega arith))
+
+-- ---- the high numbers of the row l, by the low numbers z of the other row
+module _ (f : ℤ → ℤ → ℤ → ℤ) (o low : ℕ) (l : List ℤ) (z : ℕ → ℤ) where
+  abbrev pub highsBack : ℕ → ℤ
+  highsBack = highsChanged f o low (length l) (lowsOf low (at l) z)
+
+  high-low : (j : ℕ) → j < low → highsBack j ≡ z j
+  high-low j b = highs-low f o low (length l) _ j b ∙ of-low low (at l) z j b
+
+  high-turn : (n a b : ℕ) (m : List ℤ) → 0 < low → low + n < length l → a ≡ near low (n + o - 1) → b ≡ near low (n + o)
+      → Swept (length l) highsBack z (low + n) m → Swept (length l) highsBack z (low + (n + 1)) (set m (low + n) (f (at l (low + n)) (at m a) (at m b)))
+  high-turn n a b m g h ea eb sw =
+      let N = length l in
+      let u = lowsOf low (at l) z in
+      let k : low + n + 1 ≡ low + (n + 1) = omega arith in
+      let c = near low (n + o - 1) in
+      let d = near low (n + o) in
+      rw (← k)
+      (store _ sw h
+      (cc (
+        ea,
+        eb,
+        highs-high f o low N u n h,
+        of-high low (at l) z (low + n) (omega arith),
+        of-low low (at l) z c (omega arith),
+        of-low low (at l) z d
+            (omega arith),
+        sw .done a (omega arith),
+        sw .done b (omega arith),
+        high-low c (omega arith),
+        high-low d (omega arith),
+      )))
+
+  -- past the row both are 0
+  high-past : (m : List ℤ) (j : ℕ) → z ≡ at m → length l ≡ length m → low ≤ length l → length l ≤ j → highsBack j ≡ z j
+  high-past m j ez size g b =
+      highs-past f o low (length l) _ j g b
+      ∙ of-high low (at l) z j (omega arith)
       ∙ past-end l j b
-      ∙ sym (ap (λ (y : ℕ → ℤ). y j) ez ∙ past-end o j (omega arith))
+      ∙ sym (ap (λ (y : ℕ → ℤ). y j) ez ∙ past-end m j (omega arith))
+
+pub high-first : (f : ℤ → ℤ → ℤ → ℤ) (o low b : ℕ) (l m m₀ : List ℤ) → 0 < low → low < length l → o ≤ 1 → length l ≡ length m → b ≡ near low o
+    → m₀ ≡ set m low (f (at l low) (at m 0) (at m b)) → Swept (length l) (highsBack f o low l (at m)) (at m) (low + 1) m₀
+high-first f o low b l m m₀ g room few size e is =
+    let k : low + 0 ≡ low = omega arith in
+    let sw : Swept (length l) (highsBack f o low l (at m)) (at m) (low + 0) m =
+    record { size = sym size; done = λ j b. sym (high-low f o low l (at m) j (omega arith)); rest = λ j b. refl } in
+    rw is (rw k at (high-turn f o low l (at m) 0 0 b m g (omega arith) (omega arith) (omega arith) sw))
+
+pub record HighsBy (f : ℤ → ℤ → ℤ → ℤ) (l m₀ : List ℤ) (low o end n : ℕ) (m : List ℤ) : Type 0 where
+  pub some : 0 < low
+  pub both : low < length l
+  pub few : o ≤ 1
+  pub least : low + low ≤ length l + o
+  pub most : length l + o ≤ low + low + 1
+  pub last : end ≡ low - o
+  pub begun : 1 ≤ n
+  pub within : n ≤ low
+  pub size : length m ≡ length l
+  pub swept : (z : ℕ → ℤ) → Swept (length l) (highsBack f o low l z) z (low + 1) m₀ → Swept (length l) (highsBack f o low l z) z (low + n) m
+
+module _ (f : ℤ → ℤ → ℤ → ℤ) (l m₀ : List ℤ) (low o end n : ℕ) (m m′ : List ℤ) (h : HighsBy f l m₀ low o end n m) where
+  pub high-again : n < end → m′ ≡ set m (low + n) (f (at l (low + n)) (at m (n + o - 1)) (at m (n + o))) → HighsBy f l m₀ low o end (n + 1) m′
+  high-again b is =
+      record {
+        some = h .some;
+        both = h .both;
+        few = h .few;
+        least = h .least;
+        most = h .most;
+        last = h .last;
+        begun = omega arith;
+        within = omega arith;
+        size = ap length is ∙ length-set m (low + n) _ ∙ h .size;
+        swept = λ z s. rw is (high-turn f o low l z n (n + o - 1) (n + o) m (h .some) (omega arith) (omega arith) (omega arith) (h .swept z s));
+      }
+
+  -- m₁ is the other row as it was lent
+  pub high-last : (m₁ : List ℤ) → length l ≡ length m₁ → end ≤ n → low + n < length l
+      → m′ ≡ set m (low + n) (f (at l (low + n)) (at m (low - 1)) (at m (low - 1))) → Swept (length l) (highsBack f o low l (at m₁)) (at m₁) (low + 1) m₀
+      → at m′ ≡ highsBack f o low l (at m₁)
+  high-last m₁ size b k is s =
+      rw is
+      (finish (high-turn f o low l (at m₁) n (low - 1) (low - 1) m (h .some) k (omega arith) (omega arith) (h .swept (at m₁) s))
+      (λ j le. high-past f o low l (at m₁) m₁ j refl size (omega arith) (omega arith)))
+
+  pub high-done : (m₁ : List ℤ) → length l ≡ length m₁ → length l ≤ low + n → Swept (length l) (highsBack f o low l (at m₁)) (at m₁) (low + 1) m₀
+      → at m ≡ highsBack f o low l (at m₁)
+  high-done m₁ size k s = finish (h .swept (at m₁) s) (λ j le. high-past f o low l (at m₁) m₁ j refl size (omega arith) (omega arith))
 
 -- ---- both
-pub back-are : (l : List ℤ) (z o : ℕ → ℤ) → 1 < length l → o ≡ highsLaid (length l) z (lowsChanged (unupdated wrap32) (length l) (highsLaid (length l) (at l) z)) → highsChanged (unpredicted wrap32) (length l) (highsLaid (length l) (at l) o) ≡ unliftedInPlace (length l) (highsLaid (length l) (at l) z)
-back-are l z o more e =
-    let N = length l in
-    let u = highsLaid N (at l) z in
-    let L = lowsChanged (unupdated wrap32) N u in
-    let same : highsLaid N (at l) o ≡ L =
+pub back-are : (S : Side) (y z o : ℕ → ℤ) → 1 < S .length
+    → o ≡ lowsOf (count lo S) z (lowsChanged (unupdated wrap32) (ahead S hi) (count lo S) (S .length) (lowsOf (count lo S) y z))
+    → highsChanged (unpredicted wrap32) (ahead S lo) (count lo S) (S .length) (lowsOf (count lo S) y o) ≡ unliftedInPlace S (highsLaid S y z)
+back-are S y z o more e =
+    let N = S .length in
+    let low = count lo S in
+    let u = lowsOf low y z in
+    let L = lowsChanged (unupdated wrap32) (ahead S hi) low N u in
+    let same : lowsOf low y o ≡ L =
     fun-ext λ j.
-    elim (decLt j (count lo N)) [
-      | yes b ↦ laid-low N (at l) o j b ∙ ap (λ (y : ℕ → ℤ). y j) e ∙ laid-low N z L j b
-      | no b ↦ laid-high N (at l) o j (omega arith) ∙ sym (lows-past (unupdated wrap32) N u j (omega arith) ∙ laid-high N (at l) z j (omega arith))
+    elim (decLt j low) [
+      | yes b ↦ of-low low y o j b ∙ ap (λ (v : ℕ → ℤ). v j) e ∙ of-low low z L j b
+      | no b ↦ of-high low y o j (omega arith) ∙ sym (lows-past (unupdated wrap32) (ahead S hi) low N u j (omega arith) ∙ of-high low y z j (omega arith))
     ] in
-    ap (highsChanged (unpredicted wrap32) N) same ∙ sym (unlifted-is N u more)
+    ap (highsChanged (unpredicted wrap32) (ahead S lo) low N) same ∙ sym (unlifted-is S u more) ∙ ap (unliftedInPlace S) (sym (laid-is S y z))
 
 -- ---- at the front of an area
-module _ (N : ℕ) (y z : ℕ → ℤ) where
-  front-is : (u : ℕ → ℤ) → fronted N u z ≡ spliced 0 N u z
-  front-is u =
-      fun-ext λ j.
-      elim (decLt j N) [
-        | yes b ↦ let k : j - 0 ≡ j = omega arith in front-in N (halvesOf N z) z u j b ∙ sym (splice-in 0 N u z j (omega arith) (omega arith) ∙ ap u k)
-        | no b ↦ front-past N (halvesOf N z) z u j (omega arith) ∙ sym (splice-past 0 N u z j (omega arith))
-      ]
+front-is : (N : ℕ) (u z : ℕ → ℤ) → fronted N u z ≡ spliced 0 N u z
+front-is N u z =
+    fun-ext λ j.
+    elim (decLt j N) [
+      | yes b ↦ let k : j - 0 ≡ j = omega arith in front-in N u z j b ∙ sym (splice-in 0 N u z j (omega arith) (omega arith) ∙ ap u k)
+      | no b ↦ front-past N u z j (omega arith) ∙ sym (splice-past 0 N u z j (omega arith))
+    ]
 
-  -- the low half of a part that is lent is the area's
-  pub lent-low : highsLaid N y (windowed 0 N z) ≡ highsLaid N y z
-  lent-low =
-      let half = count-lo N in
-      fun-ext λ j.
-      elim (decLt j (count lo N)) [
-        | yes b ↦ let k : 0 + j ≡ j = omega arith in laid-low N y (windowed 0 N z) j b ∙ window-in 0 N z j (omega arith) ∙ ap z k ∙ sym (laid-low N y z j b)
-        | no b ↦ laid-high N y (windowed 0 N z) j (omega arith) ∙ sym (laid-high N y z j (omega arith))
-      ]
+-- the low half of a part that is lent is the area's
+pub lent-low : (S : Side) (y z : ℕ → ℤ) → highsLaid S y (windowed 0 (S .length) z) ≡ highsLaid S y z
+lent-low S y z =
+    let both = counts S in
+    laid-is S y (windowed 0 (S .length) z)
+    ∙ (fun-ext λ j.
+    elim (decLt j (count lo S)) [
+      | yes b ↦
+          let k : 0 + j ≡ j = omega arith in
+          of-low (count lo S) y (windowed 0 (S .length) z) j b ∙ window-in 0 (S .length) z j (omega arith) ∙ ap z k ∙ sym (of-low (count lo S) y z j b)
+      | no b ↦ of-high (count lo S) y (windowed 0 (S .length) z) j (omega arith) ∙ sym (of-high (count lo S) y z j (omega arith))
+    ])
+    ∙ sym (laid-is S y z)
 
-  -- a line of one number or none has no high half
-  pub unlifted-short : N < 2 → z ≡ fronted N (unliftedInPlace N (highsLaid N y z)) z
-  unlifted-short few =
-      let half = count-lo N in
-      fun-ext λ j.
-      elim (decLt j N) [
-        | yes b ↦ sym (front-in N (halvesOf N z) z _ j b ∙ ap (λ (u : ℕ → ℤ). u j) (unlifted-one N (highsLaid N y z) (omega arith)) ∙ laid-low N y z j (omega arith))
-        | no b ↦ sym (front-past N (halvesOf N z) z _ j (omega arith))
-      ]
-
--- a part of N numbers at the front of an area, lent, and come back as o
-module _ (N k : ℕ) (l to o : List ℤ) (e : k ≡ N) (room : N ≤ length to) (size : length o ≡ length (midOf 0 k to)) where
-  front-part : (u : ℕ → ℤ) → at o ≡ u → at (putMid 0 k to o) ≡ fronted N u (at to)
-  front-part u is =
-      let mid = length-mid 0 k to (omega arith) in
-      at-put 0 k to o (omega arith) (omega arith)
-      ∙ ap (λ (m : ℕ). spliced 0 m (at o) (at to)) e
-      ∙ ap (λ (v : ℕ → ℤ). spliced 0 N v (at to)) is
-      ∙ sym (front-is N u (at to) u)
-
-  pub unlifted-front : at o ≡ unliftedInPlace N (highsLaid N (at l) (at (midOf 0 k to))) → at (putMid 0 k to o) ≡ fronted N (unliftedInPlace N (highsLaid N (at l) (at to))) (at to)
-  unlifted-front is =
-      front-part _
-      (is
-      ∙ ap (λ (v : ℕ → ℤ). unliftedInPlace N (highsLaid N (at l) v)) (at-mid 0 k to ∙ ap (λ (m : ℕ). windowed 0 m (at to)) e)
-      ∙ ap (unliftedInPlace N) (lent-low N (at l) (at to)))
+-- a part of a line's numbers at the front of an area, lent, and come back as o
+pub unlifted-front : (S : Side) (k : ℕ) (l to o : List ℤ) → k ≡ S .length → S .length ≤ length to → length o ≡ length (midOf 0 k to)
+    → at o ≡ unliftedInPlace S (highsLaid S (at l) (at (midOf 0 k to)))
+    → at (putMid 0 k to o) ≡ fronted (S .length) (unliftedInPlace S (highsLaid S (at l) (at to))) (at to)
+unlifted-front S k l to o e room size is =
+    let N = S .length in
+    let mid = length-mid 0 k to (omega arith) in
+    at-put 0 k to o (omega arith) (omega arith)
+    ∙ ap (λ (m : ℕ). spliced 0 m (at o) (at to)) e
+    ∙ ap (λ (v : ℕ → ℤ). spliced 0 N v (at to))
+    (is
+    ∙ ap (λ (v : ℕ → ℤ). unliftedInPlace S (highsLaid S (at l) v)) (at-mid 0 k to ∙ ap (λ (m : ℕ). windowed 0 m (at to)) e)
+    ∙ ap (unliftedInPlace S) (lent-low S (at l) (at to)))
+    ∙ sym (front-is N _ (at to))

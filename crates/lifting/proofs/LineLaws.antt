@@ -1,4 +1,5 @@
--- The laws of a line as the calls use them: what each value goes by (cited from FiveThree, where the mirror is worked out) and what stands where in memory. Assumes nothing.
+-- The laws of a line as the calls use them: what each value goes by (cited from FiveThree, where the mirror is worked out) and what stands where in memory.
+-- Assumes nothing.
 use mathlib.Core.Path.{_≡_, refl, sym, ap, _∙_, fun-ext}
 use Prim.Native.Nat.{ℕ, _+_, _-_, _*_, _/_, _%_, _≤_, _<_, min}
 use native.Mathlib.Decide.{decLt, ℕ-discrete}
@@ -6,8 +7,9 @@ use native.Mathlib.Omega.{arith}
 use lib.IntN.{ℤ}
 use borrow.Author.Tests.{lt-ltb, le-ltb, eq-eqb, ne-eqb}
 use Rattle.lifting.specs.Line.{Half, lo, hi, count, predicted, updated, unpredicted, unupdated, high, low, backEven, backOdd, parted, joined, lineForward}
-use Rattle.lifting.specs.Halves.{inHalves, fronted}
-use Rattle.lifting.proofs.FiveThree.{high-near, low-near, even-near, odd-near, joined-place}
+use Rattle.numbers.specs.Word.{wrap32}
+use Rattle.lifting.specs.Halves.{halvesOf, inHalves, fronted, liftedInPlace, highsLaid}
+use Rattle.lifting.proofs.LineNear.{high-near, low-near, even-near, odd-near, joined-place}
 use Rattle.lifting.proofs.LineTheorems.{forward-reads}
 
 -- ---- counts
@@ -50,7 +52,8 @@ module _ (keep : ℤ → ℤ) (N : ℕ) (g : 1 < N) where
   pub high-is : (x : ℕ → ℤ) (n : ℕ) → n < count hi N → high keep N x n ≡ predicted keep (x (2 * n + 1)) (x (2 * n)) (x (2 * min (n + 1) (count lo N - 1)))
   high-is = high-near keep N
 
-  pub high-parted : (x : ℕ → ℤ) (n : ℕ) → n < count hi N → high keep N x n ≡ predicted keep (parted x hi n) (parted x lo n) (parted x lo (min (n + 1) (count lo N - 1)))
+  pub high-parted : (x : ℕ → ℤ) (n : ℕ) → n < count hi N
+      → high keep N x n ≡ predicted keep (parted x hi n) (parted x lo n) (parted x lo (min (n + 1) (count lo N - 1)))
   unfolding parted
   high-parted = high-is
 
@@ -60,7 +63,8 @@ module _ (keep : ℤ → ℤ) (N : ℕ) (g : 1 < N) where
   pub even-is : (s d : ℕ → ℤ) (n : ℕ) → n < count lo N → backEven keep N s d n ≡ unupdated keep (s n) (d (n - 1)) (d (min n (count hi N - 1)))
   even-is s d n h = even-near keep N s d n g h
 
-  pub odd-is : (s d : ℕ → ℤ) (n : ℕ) → n < count hi N → backOdd keep N s d n ≡ unpredicted keep (d n) (backEven keep N s d n) (backEven keep N s d (min (n + 1) (count lo N - 1)))
+  pub odd-is : (s d : ℕ → ℤ) (n : ℕ) → n < count hi N
+      → backOdd keep N s d n ≡ unpredicted keep (d n) (backEven keep N s d n) (backEven keep N s d (min (n + 1) (count lo N - 1)))
   odd-is = odd-near keep N
 
 -- a line of one number is its own low value
@@ -98,7 +102,8 @@ module _ (N : ℕ) (p : Half → ℕ → ℤ) (z : ℕ → ℤ) where
   halves-past j h = let both = counts N in simp (le-ltb j (count lo N) (omega arith), le-ltb j N h)
 
   -- memory in halves is y, where y has the halves at their places
-  pub halves-are : (y : ℕ → ℤ) → ((n : ℕ) → n < count lo N → p lo n ≡ y n) → ((n : ℕ) → n < count hi N → p hi n ≡ y (count lo N + n)) → ((j : ℕ) → N ≤ j → z j ≡ y j) → inHalves N p z ≡ y
+  pub halves-are : (y : ℕ → ℤ) → ((n : ℕ) → n < count lo N → p lo n ≡ y n) → ((n : ℕ) → n < count hi N → p hi n ≡ y (count lo N + n))
+      → ((j : ℕ) → N ≤ j → z j ≡ y j) → inHalves N p z ≡ y
   halves-are y l h r =
       let both = counts N in
       fun-ext λ j.
@@ -120,7 +125,8 @@ module _ (N : ℕ) (p : Half → ℕ → ℤ) (z : ℕ → ℤ) where
   front-past x j h = simp (le-ltb j N h)
 
   -- memory with a line at its front is y, where y has the line's two halves at the even and the odd places
-  pub front-are : (y : ℕ → ℤ) → ((n : ℕ) → n < count lo N → p lo n ≡ y (2 * n)) → ((n : ℕ) → n < count hi N → p hi n ≡ y (2 * n + 1)) → ((j : ℕ) → N ≤ j → z j ≡ y j) → fronted N (joined p) z ≡ y
+  pub front-are : (y : ℕ → ℤ) → ((n : ℕ) → n < count lo N → p lo n ≡ y (2 * n)) → ((n : ℕ) → n < count hi N → p hi n ≡ y (2 * n + 1))
+      → ((j : ℕ) → N ≤ j → z j ≡ y j) → fronted N (joined p) z ≡ y
   front-are y l h r =
       let both = counts N in
       let c = count-hi N in
@@ -138,3 +144,23 @@ module _ (N : ℕ) (p : Half → ℕ → ℤ) (z : ℕ → ℤ) where
                   ap (joined p) k ∙ joined-odd p (j / 2) ∙ h (j / 2) (omega arith) ∙ ap y (sym k)
             ]
       ]
+
+-- ---- a row whose high half stands in another
+module _ (N : ℕ) (y z : ℕ → ℤ) (j : ℕ) where
+  pub laid-low : j < count lo N → highsLaid N y z j ≡ z j
+  unfolding highsLaid
+  laid-low b = simp (lt-ltb j (count lo N) b)
+
+  pub laid-high : count lo N ≤ j → highsLaid N y z j ≡ y j
+  unfolding highsLaid
+  laid-high b = simp (le-ltb j (count lo N) b)
+
+-- a line of one number or none stays
+pub lifted-one : (N : ℕ) (y : ℕ → ℤ) → N ≤ 1 → liftedInPlace N y ≡ y
+unfolding liftedInPlace lineForward halvesOf
+lifted-one N y g =
+    let c = count-hi N in
+    halves-are N _ y y
+    (λ n h. low-one wrap32 N g (joined (halvesOf N y)) n ∙ joined-even (halvesOf N y) n)
+    (λ n h. absurd (omega arith))
+    (λ j h. refl)

@@ -1,6 +1,7 @@
 -- The laws of the lifting of a line, over the definitions of specs/Line alone.
--- `keep` is what is stored of a sum: `wrap32` in the calls, `whole` in T.800's own arithmetic; a law with any `keep` holds for both. `SFits w32 z` says that z is a 32-bit number.
--- Proved by the general filter (FiveThree) or by working out the mirror. Assumes nothing.
+-- `keep` is what is stored of a sum: `wrap32` in the calls, `whole` in T.800's own arithmetic; a law with any `keep` holds for both. `SFits w32 z` says that z
+-- is a 32-bit number.
+-- Proved by the lines on the grid at a start of 0, or by working out the mirror. Assumes nothing.
 use Prim.Native.Nat.{ℕ, zero, suc, _+_, _-_, _*_, _^_, min, _≤_, _<_}
 use mathlib.Core.Path.{_≡_, refl, sym, ap, ap₂, _∙_}
 use native.Mathlib.Omega.{arith}
@@ -8,11 +9,50 @@ use lib.IntN.{ℤ, natAbs}
 use mir.Syntax.{w32}
 use mir.Val.{SFits}
 use Rattle.numbers.specs.Word.{wrap32, whole}
-use Rattle.numbers.proofs.Integers.{each, lin}
-use Rattle.numbers.proofs.Words.{wrap-kept, abs-fits}
-use Rattle.lifting.specs.Line.{predicted, updated, unpredicted, unupdated, high, low, backEven, backOdd, Half, lo, hi, count, lineForward, lineHalvesBack, lineBack}
+use Rattle.lifting.specs.Line.{predicted, updated, unpredicted, unupdated, high, low, backEven, backOdd, Half, lo, hi, count, lineForward, lineHalvesBack}
+use Rattle.lifting.specs.Line.{lineBack}
+use Rattle.lifting.specs.Grid as grid
+use Rattle.lifting.specs.Grid.{side}
 use Rattle.lifting.proofs.Filter.{in-place, by-place}
-use Rattle.lifting.proofs.FiveThree.{words, wholes, line-back-forward, line-forward-back, forward-good, back-good, high-near, low-near, even-near, odd-near, joined-place}
+use Rattle.lifting.proofs.FiveThree.{Keeping, words, wholes}
+use Rattle.lifting.proofs.FiveThree as fivethree
+use Rattle.lifting.proofs.GridReads as reads
+use Rattle.lifting.proofs.GridTheorems as theorems
+use Rattle.lifting.proofs.LineNear.{high-near, low-near, even-near, odd-near, joined-place}
+use Rattle.lifting.proofs.AtZero.{count-zero, forward-zero, back-zero, has-any, never-lone}
+
+-- ---- by the lines on the grid, at a start of 0 (AtZero)
+module _ (N : ℕ) where
+  counted : (h : Half) (n : ℕ) → n < grid.count h (side 0 N) → n < count h N
+  counted h n b = rw (count-zero h N) at b
+
+  counts-in : (h : Half) (n : ℕ) → n < count h N → n < grid.count h (side 0 N)
+  counts-in h n b = rw (count-zero h N) b
+
+module _ {keep : ℤ → ℤ} (K : Keeping keep) (N : ℕ) where
+  open Keeping K using (Good)
+
+  module _ (x : ℕ → ℤ) (good : (i : ℕ) → i < N → Good (x i)) where
+    pub forward-good : (h : Half) (n : ℕ) → n < count h N → Good (lineForward keep N x h n)
+    forward-good h n b = rw (← forward-zero keep N x h n b) (fivethree.forward-good K (side 0 N) x good h n (counts-in N h n b))
+
+    pub line-back-forward : (i : ℕ) → i < N → lineBack keep N (lineForward keep N x) i ≡ x i
+    line-back-forward i b =
+        sym (back-zero keep N (lineForward keep N x) i b)
+        ∙ reads.back-reads keep (side 0 N) (lineForward keep N x) (grid.lineForward keep (side 0 N) x)
+        (λ h n p. sym (forward-zero keep N x h n (counted N h n p))) i b
+        ∙ fivethree.line-back-forward K (side 0 N) x good (λ e. absurd (never-lone N e)) i b
+
+  module _ (c : Half → ℕ → ℤ) (good : (h : Half) (n : ℕ) → n < count h N → Good (c h n)) where
+    pub back-good : (i : ℕ) → i < N → Good (lineBack keep N c i)
+    back-good i b = rw (← back-zero keep N c i b) (fivethree.back-good K (side 0 N) c (λ h n p. good h n (counted N h n p)) i b)
+
+    pub line-forward-back : (h : Half) (n : ℕ) → n < count h N → lineForward keep N (lineBack keep N c) h n ≡ c h n
+    line-forward-back h n b =
+        sym (forward-zero keep N (lineBack keep N c) h n b)
+        ∙ reads.forward-reads keep (side 0 N) (lineBack keep N c) (grid.lineBack keep (side 0 N) c) h n (counts-in N h n b)
+        (λ i p _. sym (back-zero keep N c i p))
+        ∙ fivethree.line-forward-back K (side 0 N) c (λ h n p. good h n (counted N h n p)) (has-any N c) h n (counts-in N h n b)
 
 -- ---- the inverse, for every line of 32-bit numbers and all coefficients
 module _ (N : ℕ) (x : ℕ → ℤ) (fits : (i : ℕ) → i < N → SFits w32 (x i)) where
@@ -43,7 +83,8 @@ module _ (keep : ℤ → ℤ) (N : ℕ) (x : ℕ → ℤ) (n : ℕ) where
   unfolding lineForward
   high-by k b e = high-near keep N x n b ∙ ap (λ (i : ℕ). predicted keep (x (2 * n + 1)) (x (2 * n)) (x i)) e
 
-  low-by : (k : ℕ) → 1 < N → n < count lo N → min n (count hi N - 1) ≡ k → lineForward keep N x lo n ≡ updated keep (x (2 * n)) (lineForward keep N x hi (n - 1)) (lineForward keep N x hi k)
+  low-by : (k : ℕ) → 1 < N → n < count lo N → min n (count hi N - 1) ≡ k
+      → lineForward keep N x lo n ≡ updated keep (x (2 * n)) (lineForward keep N x hi (n - 1)) (lineForward keep N x hi k)
   unfolding lineForward
   low-by k l b e = low-near keep N x n l b ∙ ap (λ (i : ℕ). updated keep (x (2 * n)) (high keep N x (n - 1)) (high keep N x i)) e
 
@@ -97,7 +138,8 @@ unfolding backEven
 even-one keep c = even-is keep 1 c 0
 
 module _ (keep : ℤ → ℤ) (N : ℕ) (c : Half → ℕ → ℤ) (n : ℕ) where
-  odd-by : (k : ℕ) → n < count hi N → 2 * min (n + 1) (count lo N - 1) ≡ k → lineBack keep N c (2 * n + 1) ≡ unpredicted keep (c hi n) (lineBack keep N c (2 * n)) (lineBack keep N c k)
+  odd-by : (k : ℕ) → n < count hi N → 2 * min (n + 1) (count lo N - 1) ≡ k
+      → lineBack keep N c (2 * n + 1) ≡ unpredicted keep (c hi n) (lineBack keep N c (2 * n)) (lineBack keep N c k)
   odd-by k b e =
       odd-is keep N c n
       ∙ odd-near keep N (c lo) (c hi) n b
@@ -123,7 +165,8 @@ high-reads keep N x y n b e =
     ∙ ap₃ (predicted keep) (e _ (omega arith) (omega arith)) (e _ (omega arith) (omega arith)) (e _ (omega arith) (omega arith))
     ∙ sym (high-near keep N y n b)
 
-pub forward-reads : (keep : ℤ → ℤ) (N : ℕ) (x y : ℕ → ℤ) (h : Half) (n : ℕ) → n < count h N → ((i : ℕ) → i < N → i ≤ 2 * n + 2 → x i ≡ y i) → lineForward keep N x h n ≡ lineForward keep N y h n
+pub forward-reads : (keep : ℤ → ℤ) (N : ℕ) (x y : ℕ → ℤ) (h : Half) (n : ℕ) → n < count h N → ((i : ℕ) → i < N → i ≤ 2 * n + 2 → x i ≡ y i)
+    → lineForward keep N x h n ≡ lineForward keep N y h n
 unfolding lineForward low count
 forward-reads keep zero x y lo n b e = absurd (omega arith)
 forward-reads keep (suc zero) x y lo n b e = e (2 * n) (omega arith) (omega arith)
@@ -139,14 +182,16 @@ high-inner : (keep : ℤ → ℤ) (N N′ : ℕ) (x : ℕ → ℤ) (n : ℕ) →
 high-inner keep N N′ x n l k = high-mid keep N x n l ∙ sym (high-mid keep N′ x n k)
 
 -- away from the end of the line it does not see the length
-pub forward-inner : (keep : ℤ → ℤ) (N N′ : ℕ) (x : ℕ → ℤ) (h : Half) (n : ℕ) → 2 * n + 2 < N → 2 * n + 2 < N′ → lineForward keep N x h n ≡ lineForward keep N′ x h n
+pub forward-inner : (keep : ℤ → ℤ) (N N′ : ℕ) (x : ℕ → ℤ) (h : Half) (n : ℕ) → 2 * n + 2 < N → 2 * n + 2 < N′
+    → lineForward keep N x h n ≡ lineForward keep N′ x h n
 forward-inner keep N N′ x lo n l k =
     low-mid keep N x n (omega arith)
     ∙ ap₂ (updated keep (x (2 * n))) (high-inner keep N N′ x (n - 1) (omega arith) (omega arith)) (high-inner keep N N′ x n l k)
     ∙ sym (low-mid keep N′ x n (omega arith))
 forward-inner keep N N′ x hi n l k = high-inner keep N N′ x n l k
 
-even-reads : (keep : ℤ → ℤ) (N : ℕ) (c c′ : Half → ℕ → ℤ) → ((h : Half) (n : ℕ) → n < count h N → c h n ≡ c′ h n) → (n : ℕ) → n < count lo N → backEven keep N (c lo) (c hi) n ≡ backEven keep N (c′ lo) (c′ hi) n
+even-reads : (keep : ℤ → ℤ) (N : ℕ) (c c′ : Half → ℕ → ℤ) → ((h : Half) (n : ℕ) → n < count h N → c h n ≡ c′ h n) → (n : ℕ) → n < count lo N
+    → backEven keep N (c lo) (c hi) n ≡ backEven keep N (c′ lo) (c′ hi) n
 unfolding backEven count
 even-reads keep zero c c′ e n b = absurd (omega arith)
 even-reads keep (suc zero) c c′ e n b = e lo n b
@@ -155,7 +200,8 @@ even-reads keep (suc (suc m)) c c′ e n b =
     ∙ ap₃ (unupdated keep) (e lo n b) (e hi _ (omega arith)) (e hi _ (omega arith))
     ∙ sym (even-near keep (suc (suc m)) (c′ lo) (c′ hi) n (omega arith) b)
 
-pub halves-back-reads : (keep : ℤ → ℤ) (N : ℕ) (c c′ : Half → ℕ → ℤ) → ((h : Half) (n : ℕ) → n < count h N → c h n ≡ c′ h n) → (h : Half) (n : ℕ) → n < count h N → lineHalvesBack keep N c h n ≡ lineHalvesBack keep N c′ h n
+pub halves-back-reads : (keep : ℤ → ℤ) (N : ℕ) (c c′ : Half → ℕ → ℤ) → ((h : Half) (n : ℕ) → n < count h N → c h n ≡ c′ h n) → (h : Half) (n : ℕ)
+    → n < count h N → lineHalvesBack keep N c h n ≡ lineHalvesBack keep N c′ h n
 unfolding lineHalvesBack count
 halves-back-reads keep N c c′ e lo n b = even-reads keep N c c′ e n b
 halves-back-reads keep N c c′ e hi n b =
@@ -163,7 +209,8 @@ halves-back-reads keep N c c′ e hi n b =
     ∙ ap₃ (unpredicted keep) (e hi n b) (even-reads keep N c c′ e _ (omega arith)) (even-reads keep N c c′ e _ (omega arith))
     ∙ sym (odd-near keep N (c′ lo) (c′ hi) n b)
 
-pub back-reads : (keep : ℤ → ℤ) (N : ℕ) (c c′ : Half → ℕ → ℤ) → ((h : Half) (n : ℕ) → n < count h N → c h n ≡ c′ h n) → (i : ℕ) → i < N → lineBack keep N c i ≡ lineBack keep N c′ i
+pub back-reads : (keep : ℤ → ℤ) (N : ℕ) (c c′ : Half → ℕ → ℤ) → ((h : Half) (n : ℕ) → n < count h N → c h n ≡ c′ h n) → (i : ℕ) → i < N
+    → lineBack keep N c i ≡ lineBack keep N c′ i
 unfolding lineBack
 back-reads keep N c c′ e =
     by-place lo (λ i. i < N → lineBack keep N c i ≡ lineBack keep N c′ i)
@@ -172,58 +219,11 @@ back-reads keep N c c′ e =
     ∙ sym (joined-place (lineHalvesBack keep N c′) h n))
 
 -- ---- ranges: samples within ±M give values within ±2M, and where these are 32-bit numbers nothing wraps
-predict-range : (M : ℕ) (x a b : ℤ) → natAbs x ≤ M → natAbs a ≤ M → natAbs b ≤ M → natAbs (predicted whole x a b) ≤ 2 * M
-unfolding predicted
-predict-range M = each _ λ p q. each _ λ r s. each _ λ t u. simp lin (omega arith)
+pub forward-range : (M N : ℕ) (x : ℕ → ℤ) → ((i : ℕ) → i < N → natAbs (x i) ≤ M) → (h : Half) (n : ℕ) → n < count h N
+    → natAbs (lineForward whole N x h n) ≤ 2 * M
+forward-range M N x within h n b = rw (← forward-zero whole N x h n b) (theorems.forward-range M (side 0 N) x within h n (counts-in N h n b))
 
-update-range : (M : ℕ) (x a b : ℤ) → natAbs x ≤ M → natAbs a ≤ 2 * M → natAbs b ≤ 2 * M → natAbs (updated whole x a b) ≤ 2 * M
-unfolding updated
-update-range M = each _ λ p q. each _ λ r s. each _ λ t u. simp lin (omega arith)
-
-module _ (M : ℕ) (N : ℕ) (x : ℕ → ℤ) (within : (i : ℕ) → i < N → natAbs (x i) ≤ M) where
-  high-range : (n : ℕ) → n < count hi N → natAbs (high whole N x n) ≤ 2 * M
-  unfolding count
-  high-range n b =
-      rw (high-near whole N x n b)
-      (predict-range M _ _ _ (within _ (omega arith)) (within _ (omega arith)) (within _ (omega arith)))
-
-pub forward-range : (M N : ℕ) (x : ℕ → ℤ) → ((i : ℕ) → i < N → natAbs (x i) ≤ M) → (h : Half) (n : ℕ) → n < count h N → natAbs (lineForward whole N x h n) ≤ 2 * M
-unfolding lineForward low count
-forward-range M zero x within lo n b = absurd (omega arith)
-forward-range M (suc zero) x within lo n b = let w = within (2 * n) (omega arith) in omega arith
-forward-range M (suc (suc m)) x within lo n b =
-    rw (low-near whole (suc (suc m)) x n (omega arith) b)
-    (update-range M _ _ _ (within _ (omega arith)) (high-range M _ x within _ (omega arith)) (high-range M _ x within _ (omega arith)))
-forward-range M N x within hi n b = high-range M N x within n b
-
--- a step whose whole result is a 32-bit number
-predict-exact : (x a b : ℤ) → SFits w32 (predicted whole x a b) → predicted wrap32 x a b ≡ predicted whole x a b
-unfolding predicted
-predict-exact x a b = wrap-kept _
-
-update-exact : (x a b : ℤ) → SFits w32 (updated whole x a b) → updated wrap32 x a b ≡ updated whole x a b
-unfolding updated
-update-exact x a b = wrap-kept _
-
-module _ (M N : ℕ) (small : 2 * M < 2 ^ 31) (x : ℕ → ℤ) (within : (i : ℕ) → i < N → natAbs (x i) ≤ M) where
-  in-range : (h : Half) (n : ℕ) → n < count h N → SFits w32 (lineForward whole N x h n)
-  in-range h n b = abs-fits _ _ small (forward-range M N x within h n b)
-
-  high-exact : (n : ℕ) → n < count hi N → high wrap32 N x n ≡ high whole N x n
-  unfolding high lineForward
-  high-exact n b = predict-exact _ _ _ (in-range hi n b)
-
-  low-exact : (n : ℕ) → 1 < N → n < count lo N → low wrap32 N x n ≡ low whole N x n
-  unfolding lineForward count
-  low-exact n l b =
-      low-near wrap32 N x n l b
-      ∙ ap₂ (updated wrap32 (x (2 * n))) (high-exact _ (omega arith)) (high-exact _ (omega arith))
-      ∙ update-exact _ _ _ (rw (← low-near whole N x n l b) (in-range lo n b))
-      ∙ sym (low-near whole N x n l b)
-
-pub forward-exact : (M N : ℕ) (x : ℕ → ℤ) → 2 * M < 2 ^ 31 → ((i : ℕ) → i < N → natAbs (x i) ≤ M) → (h : Half) (n : ℕ) → n < count h N → lineForward wrap32 N x h n ≡ lineForward whole N x h n
-unfolding lineForward low count
-forward-exact M zero x small within lo n b = absurd (omega arith)
-forward-exact M (suc zero) x small within lo n b = refl
-forward-exact M (suc (suc m)) x small within lo n b = low-exact M (suc (suc m)) small x within n (omega arith) b
-forward-exact M N x small within hi n b = high-exact M N small x within n b
+pub forward-exact : (M N : ℕ) (x : ℕ → ℤ) → 2 * M < 2 ^ 31 → ((i : ℕ) → i < N → natAbs (x i) ≤ M) → (h : Half) (n : ℕ) → n < count h N
+    → lineForward wrap32 N x h n ≡ lineForward whole N x h n
+forward-exact M N x small within h n b =
+    sym (forward-zero wrap32 N x h n b) ∙ theorems.forward-exact M (side 0 N) small x within h n (counts-in N h n b) ∙ forward-zero whole N x h n b

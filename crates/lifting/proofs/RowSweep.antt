@@ -30,7 +30,8 @@ module _ (f : ℤ → ℤ → ℤ → ℤ) (s w t l r : ℕ) (m₀ : List ℤ) w
         | no d ↦ left (q * s + i) (c .swept) (row-other f s w t l r (at m₀) q i d (c .rows .one .wide) (omega arith))
       ]
 
-  pub row-turn : (i : ℕ) (m : List ℤ) → Turned f s w t l r m₀ i m → i < w → Turned f s w t l r m₀ (i + 1) (set m (t * s + i) (f (at m (t * s + i)) (at m (l * s + i)) (at m (r * s + i))))
+  pub row-turn : (i : ℕ) (m : List ℤ) → Turned f s w t l r m₀ i m → i < w
+      → Turned f s w t l r m₀ (i + 1) (set m (t * s + i) (f (at m (t * s + i)) (at m (l * s + i)) (at m (r * s + i))))
   row-turn i m c h =
       let u = unwritten i m c h in
       let e = row-at f s w t l r (at m₀) i h in

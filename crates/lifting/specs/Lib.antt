@@ -1,5 +1,7 @@
 pub mod Line
 pub mod Halves
 pub mod Rows
+pub mod Grid
+pub mod GridHalves
 pub mod Passes
 pub mod Pairs

@@ -54,7 +54,8 @@ pub fn predict_row(
     right: usize,
 ) -> u8
     ensures { λ r. ⌜ r ≡ pick (rowsFit (length (now (area .entry))) stride width target left right) 0 5 ⌝ }
-    ensures { λ r. ⌜ at (now (area .exit)) ≡ rowsChanged (predicted wrap32) (length (now (area .entry))) stride width target left right (at (now (area .entry))) ⌝ }
+    ensures { λ r. ⌜ at (now (area .exit)) ≡ rowsChanged (predicted wrap32) (length (now (area .entry))) stride width target left right
+        (at (now (area .entry))) ⌝ }
 {
     if rows_fit(area.len(), stride, width, target, left, right) {
         let t = target * stride;
@@ -79,7 +80,8 @@ pub fn update_row(
     right: usize,
 ) -> u8
     ensures { λ r. ⌜ r ≡ pick (rowsFit (length (now (area .entry))) stride width target left right) 0 5 ⌝ }
-    ensures { λ r. ⌜ at (now (area .exit)) ≡ rowsChanged (updated wrap32) (length (now (area .entry))) stride width target left right (at (now (area .entry))) ⌝ }
+    ensures { λ r. ⌜ at (now (area .exit)) ≡ rowsChanged (updated wrap32) (length (now (area .entry))) stride width target left right (at (now (area .entry)))
+        ⌝ }
 {
     if rows_fit(area.len(), stride, width, target, left, right) {
         let t = target * stride;
@@ -104,7 +106,8 @@ pub fn unupdate_row(
     right: usize,
 ) -> u8
     ensures { λ r. ⌜ r ≡ pick (rowsFit (length (now (area .entry))) stride width target left right) 0 5 ⌝ }
-    ensures { λ r. ⌜ at (now (area .exit)) ≡ rowsChanged (unupdated wrap32) (length (now (area .entry))) stride width target left right (at (now (area .entry))) ⌝ }
+    ensures { λ r. ⌜ at (now (area .exit)) ≡ rowsChanged (unupdated wrap32) (length (now (area .entry))) stride width target left right
+        (at (now (area .entry))) ⌝ }
 {
     if rows_fit(area.len(), stride, width, target, left, right) {
         let t = target * stride;
@@ -129,7 +132,8 @@ pub fn unpredict_row(
     right: usize,
 ) -> u8
     ensures { λ r. ⌜ r ≡ pick (rowsFit (length (now (area .entry))) stride width target left right) 0 5 ⌝ }
-    ensures { λ r. ⌜ at (now (area .exit)) ≡ rowsChanged (unpredicted wrap32) (length (now (area .entry))) stride width target left right (at (now (area .entry))) ⌝ }
+    ensures { λ r. ⌜ at (now (area .exit)) ≡ rowsChanged (unpredicted wrap32) (length (now (area .entry))) stride width target left right
+        (at (now (area .entry))) ⌝ }
 {
     if rows_fit(area.len(), stride, width, target, left, right) {
         let t = target * stride;

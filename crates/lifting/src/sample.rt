@@ -1,10 +1,11 @@
-// The four lifting steps, each on one sample and its two neighbours.
+// The four lifting steps, each on one sample and its two neighbours, and the steps of a line's only sample at an odd coordinate.
 ghost use mathlib.Core.Path.{_≡_};
 ghost use Prim.Native.Nat.{ℕ, _<_, _≤_};
-ghost use lib.IntN.{ℤ, pos, natAbs, _+ℤ_, _-ℤ_};
+ghost use lib.IntN.{ℤ, pos, natAbs, _+ℤ_, _-ℤ_, _*ℤ_};
 ghost use lib.Signed.{shrZ};
 ghost use Rattle.numbers.specs.Word.{wrap32};
 ghost use Rattle.lifting.specs.Line.{predicted, unpredicted, updated, unupdated};
+ghost use Rattle.lifting.specs.Grid.{isEven};
 
 // z as 32 bits keep it, without a branch
 fn wrap(z: i64) -> i32
@@ -64,4 +65,25 @@ pub fn unupdate(x: i32, a: i32, b: i32) -> i32
     ensures { λ r. ⌜ r ≡ unupdated wrap32 x a b ⌝ }
 {
     less(x, quarter_sum(a, b))
+}
+
+// Twice a sample.
+pub fn double(x: i32) -> i32
+    ensures { λ r. ⌜ r ≡ wrap32 (pos 2 *ℤ x) ⌝ }
+{
+    more(x, x)
+}
+
+// Half a value that is even; an odd one has no half.
+pub fn halve(x: i32) -> i32
+    ensures { λ r. ⌜ r ≡ shrZ x 2 ⌝ }
+{
+    x >> 1
+}
+
+pub fn is_even(x: i32) -> bool
+    ensures { λ r. ⌜ r ≡ isEven x ⌝ }
+{
+    let h = x >> 1;
+    h + h == x
 }

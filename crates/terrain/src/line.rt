@@ -12,7 +12,7 @@ pub extern "C" fn terrain_line_forward(line: &[i32], out: &mut [i32]) -> u32
     ensures { λ r. ⌜ r ≡ pick (leb (length (now (line .entry))) (length (now (out .entry)))) 0 5 ⌝ }
     ensures { λ r. ⌜ at (now (out .exit)) ≡ pick (leb (length (now (line .entry))) (length (now (out .entry)))) (forwardInto (length (now (line .entry))) (at (now (line .entry))) (at (now (out .entry)))) (at (now (out .entry))) ⌝ }
 {
-    line::forward(line, out) as u32
+    line::forward(line, 0, out) as u32
 }
 
 // Low values, then high values, to the line that has them, at the front of `out`. 5, and nothing changed, where `out` is shorter.
@@ -21,5 +21,5 @@ pub extern "C" fn terrain_line_backward(coefficients: &[i32], out: &mut [i32]) -
     ensures { λ r. ⌜ r ≡ pick (leb (length (now (coefficients .entry))) (length (now (out .entry)))) 0 5 ⌝ }
     ensures { λ r. ⌜ at (now (out .exit)) ≡ pick (leb (length (now (coefficients .entry))) (length (now (out .entry)))) (backwardInto (length (now (coefficients .entry))) (at (now (coefficients .entry))) (at (now (out .entry)))) (at (now (out .entry))) ⌝ }
 {
-    line::backward(coefficients, out) as u32
+    line::backward(coefficients, 0, out) as u32
 }

@@ -16,8 +16,8 @@ use mir.Val.{SFits}
 use borrow.Author.Tests.{lt-ltb, le-ltb}
 use Rattle.numbers.specs.Word.{wrap32}
 use Rattle.lifting.specs.Line.{Half, lo, hi, count, lineForward, lineBack}
-use Rattle.lifting.proofs.FiveThree.{Keeping, words, forward-good, back-good, line-back-forward, line-forward-back}
-use Rattle.lifting.proofs.LineTheorems.{forward-reads, forward-inner, back-reads}
+use Rattle.lifting.proofs.FiveThree.{Keeping, words}
+use Rattle.lifting.proofs.LineTheorems.{forward-good, back-good, line-back-forward, line-forward-back, forward-reads, forward-inner, back-reads}
 use Rattle.wavelet.specs.Bands.{Grid, Band, LL, HL, LH, HH, across, down, bandOf, columnsLifted, subband, rowsUnlifted, levelBack}
 use Rattle.wavelet.specs.Plane.{halfAt, placeIn, planeCell, levelAt, mapBack}
 use Rattle.wavelet.proofs.SizeLaws.{count-lo, count-hi, count-le}

@@ -14,8 +14,7 @@ use Rattle.numbers.proofs.Parts.{window-in, window-past, splice-below, splice-i
 use Rattle.lifting.specs.Line.{lo, count, unupdated, unpredicted}
 use Rattle.lifting.specs.Halves.{unliftedInPlace, highsLaid}
 use Rattle.lifting.specs.Rows.{rowChanged, rowsChanged, rowsFit}
-use Rattle.lifting.proofs.LineLaws.{count-lo}
-use Rattle.lifting.proofs.LiftLaws.{laid-low, laid-high}
+use Rattle.lifting.proofs.LineLaws.{count-lo, laid-low, laid-high}
 use Rattle.lifting.proofs.RowLaws.{rows-fit, changed, row-at, row-other, row-past}
 use Rattle.wavelet.specs.Bands.{Grid}
 use Rattle.wavelet.specs.Plane.{cells, flat}

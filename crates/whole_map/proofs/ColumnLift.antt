@@ -14,8 +14,7 @@ use Rattle.numbers.specs.Word.{wrap32}
 use Rattle.lifting.specs.Line.{lo, hi, count, predicted, updated, high, joined, lineForward}
 use Rattle.lifting.specs.Halves.{halvesOf, liftedInPlace}
 use Rattle.lifting.specs.Rows.{rowChanged, rowsChanged}
-use Rattle.lifting.proofs.LineLaws.{counts, joined-even, joined-odd, high-is, low-is, halves-low, halves-high}
-use Rattle.lifting.proofs.PassLaws.{lifted-one}
+use Rattle.lifting.proofs.LineLaws.{counts, joined-even, joined-odd, high-is, low-is, halves-low, halves-high, lifted-one}
 use Rattle.lifting.proofs.RowLaws.{rows-fit, changed, row-at, row-other, row-past}
 use Rattle.wavelet.specs.Bands.{Grid}
 use Rattle.wavelet.specs.Plane.{cells, flat}

@@ -106,7 +106,7 @@ fn unlift_part(from: &[i32], a: usize, to: &mut [i32], b: usize, n: usize)
 {
     let e = a + n;
     let f = b + n;
-    halves::unlift_by(&from[a..e], &mut to[b..f]);
+    halves::unlift_by(&from[a..e], 0, &mut to[b..f]);
 }
 
 // Row r of a level from the plane, an even one from column `from` on, and lifted back. Only what is left of its low half is copied first: the

@@ -62,7 +62,7 @@ fn lift_row(area: &mut [i32], stride: usize, width: usize, r: usize)
 {
     let a = r * stride;
     let e = a + width;
-    line::lift(&mut area[a..e]);
+    line::lift(&mut area[a..e], 0);
 }
 
 // A pair of rows, and then the low one, which is read no more, lifted itself.

@@ -1,8 +1,10 @@
 -- `sets::lift_row` meets its contract: the row is lent to the line call. Assumes nothing.
+use mathlib.Core.Path.{_∙_}
 use Prim.Native.Nat.{_+_, _-_, _*_, _%_}
 use native.Mathlib.Omega.{arith}
 use borrow.Author.Needs.{needs}
 use Rattle.numbers.proofs.Parts.{length-mid}
+use Rattle.lifting.proofs.AtZero.{lifted-zero}
 use Rattle.level.proofs.Places.{slot-index, slot-is, row-room}
 use Rattle.level.proofs.SetLaws.{lift-part}
 use Rattle.level.proofs.sets.lift_row.Statement.{statement}
@@ -40,7 +42,8 @@ returns c =
     let l = a .store .now in
     let room = row-room (a .w) (a .r % 4) (slot-index _) in
     let mid = length-mid p (p + a .w - p) l (omega arith) in
-    lift-part (a .w) (a .r) p (p + a .w - p) l (lifted .lift .last .0) (slot-is (a .w) (a .r)) (omega arith) (omega arith) (omega arith) (lifted .lift .ensures)
+    lift-part (a .w) (a .r) p (p + a .w - p) l (lifted .lift .last .0) (slot-is (a .w) (a .r)) (omega arith) (omega arith) (omega arith)
+    (lifted .lift .ensures ∙ lifted-zero _ _)
 
 pub lift-row-spec : {M : Type 1} → statement M
 lift-row-spec =

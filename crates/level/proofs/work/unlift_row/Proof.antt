@@ -1,7 +1,9 @@
 -- `level::work::unlift_row` meets its contract: the line call on the part that is the row. Assumes nothing.
+use mathlib.Core.Path.{_∙_}
 use Prim.Native.Nat.{_+_, _-_}
 use native.Mathlib.Omega.{arith}
 use borrow.Author.Needs.{needs}
+use Rattle.lifting.proofs.AtZero.{unlift-zero}
 use Rattle.level.proofs.SlotLaws.{unlift-part}
 use Rattle.level.proofs.work.unlift_row.Statement.{statement}
 use Rattle.level.proofs.work.unlift_row.Tie as tie
@@ -37,7 +39,7 @@ returns c =
     let a = place .before .args in
     let at = place .row-place .result in
     unlift-part (a .w) (a .r) at (at + a .w - at) (a .stretch .now) (call .unlift .last .0) (place .row-place .ensures .0) (omega arith) (omega arith)
-    (omega arith) (call .unlift .ensures)
+    (omega arith) (call .unlift .ensures .1 ∙ unlift-zero _ _)
 
 pub unlift-row-spec : {M : Type 1} → statement M
 unlift-row-spec =

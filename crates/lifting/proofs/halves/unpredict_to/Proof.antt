@@ -40,7 +40,14 @@ returns c =
     let a = c .before .before .before .before .args in
     let l = a .row .now in
     let o = a .out .now in
-    rw (read-back _ (c .unpredict .ok), c .unpredict .ensures, read-back (at l (a .p)) (c .before .before .before .unpredict-arg .given), read-back (at o (a .a)) (c .before .before .unpredict-arg2 .given), read-back (at o (a .b)) (c .before .unpredict-arg3 .given))
+    rw (
+      read-back _ (c .unpredict .ok),
+      c .unpredict .ensures,
+      read-back (at l (a .p)) (c .before .before .before .unpredict-arg .given),
+      read-back
+          (at o (a .a)) (c .before .before .unpredict-arg2 .given),
+      read-back (at o (a .b)) (c .before .unpredict-arg3 .given),
+    )
 
 pub unpredict-to-spec : {M : Type 1} → statement M
 unpredict-to-spec =

@@ -40,7 +40,14 @@ returns c =
     let a = c .before .before .before .before .args in
     let l = a .row .now in
     let o = a .out .now in
-    rw (read-back _ (c .unupdate .ok), c .unupdate .ensures, read-back (at o (a .p)) (c .before .before .before .unupdate-arg .given), read-back (at l (a .a)) (c .before .before .unupdate-arg2 .given), read-back (at l (a .b)) (c .before .unupdate-arg3 .given))
+    rw (
+      read-back _ (c .unupdate .ok),
+      c .unupdate .ensures,
+      read-back (at o (a .p)) (c .before .before .before .unupdate-arg .given),
+      read-back (at l (a .a))
+          (c .before .before .unupdate-arg2 .given),
+      read-back (at l (a .b)) (c .before .unupdate-arg3 .given),
+    )
 
 pub unupdate-by-spec : {M : Type 1} → statement M
 unupdate-by-spec =

@@ -1,11 +1,10 @@
--- `lifting::line::backward` meets its contract: a line of one number or none is copied, a longer one put together. Assumes nothing.
-use mathlib.Core.Path.{sym, _∙_}
+-- `lifting::line::backward` meets its contract: a line of more than one number is put together; a shorter one goes apart. Assumes nothing.
 use native.Mathlib.Omega.{arith}
 use lib.ListN.{length}
-use borrow.Author.Needs.{needs}
 use borrow.Author.Tests.{le-leb, lt-leb}
-use Rattle.lifting.proofs.LineLaws.{count-lo}
-use Rattle.lifting.proofs.AreaLaws.{back-one}
+use Rattle.numbers.specs.Signal.{at}
+use Rattle.lifting.specs.Grid.{side}
+use Rattle.lifting.proofs.LoneLaws.{has-more}
 use Rattle.lifting.proofs.line.backward.Statement.{statement}
 use Rattle.lifting.proofs.line.backward.Tie as tie
 
@@ -15,42 +14,46 @@ returns c =
     let bad = lt-leb (length (a .coefficients .now)) (length (a .out .now)) (omega arith) in
     (simp bad, simp bad)
 
-copy-evens-requires : tie.Need-copy-evens-requires
-copy-evens-requires c κs = omega arith
+put-lone-requires : tie.Need-put-lone-requires
+put-lone-requires c κs = omega arith
 
 same-length : tie.Need-same-length
-same-length c = search needs
+same-length c = c .before .put-lone .kept .1 .1 .0
 
 returns-2 : tie.Need-returns-2
 returns-2 c =
     let a = c .before .before .before .before .before .args in
+    let lone = c .before .put-lone in
     let ok = le-leb (length (a .coefficients .now)) (length (a .out .now)) (omega arith) in
-    (simp ok, simp ok (c .before .copy-evens .ensures ∙ sym (back-one _ _ _ (omega arith))))
+    (simp ok (lone .ensures .0), simp ok (lone .ensures .1))
 
-sub-put-line : tie.Need-sub-put-line
-sub-put-line c = omega arith
+lows-requires : tie.Need-lows-requires
+lows-requires c κs = tt
 
 put-line-requires : tie.Need-put-line-requires
-put-line-requires c κs = (sym (count-lo (length (c .before .before .before .args .coefficients .now))), omega arith, omega arith)
+put-line-requires c κs = (c .lows .ensures, omega arith, omega arith)
 
 same-length-2 : tie.Need-same-length-2
-same-length-2 c = search needs
+same-length-2 c = c .before .put-line .kept .1 .0
 
 returns-3 : tie.Need-returns-3
 returns-3 c =
-    let a = c .before .before .before .before .before .args in
-    let ok = le-leb (length (a .coefficients .now)) (length (a .out .now)) (omega arith) in
-    (simp ok, simp ok (c .before .put-line .ensures))
+    let a = c .before .before .before .before .before .before .args in
+    let l = a .coefficients .now in
+    let S = side (a .start) (length l) in
+    let ok = le-leb (length l) (length (a .out .now)) (omega arith) in
+    let has = has-more S (at l) (omega arith) in
+    (simp (ok, has), simp (ok, has) (c .before .put-line .ensures))
 
 pub backward-spec : {M : Type 1} → statement M
 backward-spec =
     tie.close
     (tie.spec
     returns
-    copy-evens-requires
+    put-lone-requires
     same-length
     returns-2
-    sub-put-line
+    lows-requires
     put-line-requires
     same-length-2
     returns-3)

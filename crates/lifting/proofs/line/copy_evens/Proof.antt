@@ -7,7 +7,6 @@ use Rattle.numbers.specs.Signal.{at}
 use Rattle.numbers.proofs.Words.{read-back}
 use Rattle.numbers.proofs.Sweep.{Swept, start, store, finish}
 use Rattle.lifting.specs.Passes.{evensCopied}
-use Rattle.lifting.proofs.LineLaws.{count-lo}
 use Rattle.lifting.proofs.AreaLaws.{evens-in, evens-past}
 use Rattle.lifting.proofs.line.copy_evens.Statement.{statement}
 use Rattle.lifting.proofs.line.copy_evens.Tie as tie
@@ -52,7 +51,7 @@ loop-again c =
     let j = head .loop .j in (
       omega arith,
       rw (read-back (at x (2 * j)) (c .out .given))
-          (store _ (head .loop .inv .1) (omega arith) (sym (evens-in (length x) (at x) _ j (omega (arith, count-lo (length x)))))),
+          (store _ (head .loop .inv .1) (omega arith) (sym (evens-in (length x) (at x) _ j (omega arith)))),
     )
 
 same-length : tie.Need-same-length Inv-loop μ-loop
@@ -61,7 +60,7 @@ same-length c = c .before .loop .inv .1 .size
 returns : tie.Need-returns Inv-loop μ-loop
 returns c =
     let N = length (c .before .before .args .line .now) in
-    finish (c .before .loop .inv .1) (λ j le. evens-past N _ _ j (omega (arith, count-lo N)))
+    finish (c .before .loop .inv .1) (λ j le. evens-past N _ _ j (omega arith))
 
 pub copy-evens-spec : {M : Type 1} → statement M
 copy-evens-spec =

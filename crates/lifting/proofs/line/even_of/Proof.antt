@@ -33,7 +33,11 @@ returns c =
     let l = a .coefficients .now in
     read-back (c .unupdate .result) (c .unupdate .ok)
     ∙ c .unupdate .ensures
-    ∙ rw (read-back (at l (a .n)) (c .before .before .before .unupdate-arg .given), read-back (at l (a .a)) (c .before .before .unupdate-arg2 .given), read-back (at l (a .b)) (c .before .unupdate-arg3 .given))
+    ∙ rw (
+      read-back (at l (a .n)) (c .before .before .before .unupdate-arg .given),
+      read-back (at l (a .a)) (c .before .before .unupdate-arg2 .given),
+      read-back (at l (a .b)) (c .before .unupdate-arg3 .given),
+    )
 
 pub even-of-spec : {M : Type 1} → statement M
 even-of-spec =

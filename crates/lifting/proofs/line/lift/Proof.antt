@@ -1,39 +1,71 @@
--- `lifting::line::lift` meets its contract: the two passes come to it, and a line of one number or none stays. Assumes nothing.
-use mathlib.Core.Path.{sym, ap, _∙_}
+-- `lifting::line::lift` meets its contract: the two passes come to it; a line of one number or none goes apart. Assumes nothing.
+use mathlib.Core.Path.{_∙_}
 use native.Mathlib.Omega.{arith}
 use lib.ListN.{length}
-use borrow.Author.Needs.{needs}
 use Rattle.numbers.specs.Signal.{at}
-use Rattle.lifting.specs.Line.{lo, count}
-use Rattle.lifting.proofs.LineLaws.{count-lo}
-use Rattle.lifting.proofs.PassLaws.{lifted-is, lifted-one}
+use Rattle.lifting.specs.Grid.{side}
+use Rattle.lifting.proofs.GridLaws.{some, beside-lows, beside-highs}
+use Rattle.lifting.proofs.PassLaws.{lifted-is}
 use Rattle.lifting.proofs.line.lift.Statement.{statement}
 use Rattle.lifting.proofs.line.lift.Tie as tie
 
-sub-low : tie.Need-sub-low
-sub-low c = search needs
+lift-lone-requires : tie.Need-lift-lone-requires
+lift-lone-requires c κs = c .before .if1 .taken
+
+same-length : tie.Need-same-length
+same-length c = c .before .lift-lone .kept .0
+
+returns : tie.Need-returns
+returns c = c .before .lift-lone .ensures
+
+lows-requires : tie.Need-lows-requires
+lows-requires c κs = tt
+
+sub-predict-highs : tie.Need-sub-predict-highs
+sub-predict-highs c = omega arith
 
 predict-highs-requires : tie.Need-predict-highs-requires
-predict-highs-requires c κs = (sym (count-lo _), c .before .if1 .taken)
+predict-highs-requires c κs =
+    let a = c .before .before .before .args in
+    let S = side (a .start) (length (a .line .now)) in
+    let s = some S (omega arith) in
+    let d = beside-lows S in
+    let e = c .before .lows .ensures in
+    (omega arith, omega arith, omega arith, omega arith, omega arith)
 
 update-lows-requires : tie.Need-update-lows-requires
 update-lows-requires c κs =
     let first = c .before .before in
-    (sym (count-lo _) ∙ ap (count lo) (sym (first .predict-highs .kept .0)), omega arith)
+    let a = first .before .before .before .before .args in
+    let S = side (a .start) (length (a .line .now)) in
+    let s = some S (omega arith) in
+    let d = beside-highs S in
+    let e = first .before .before .lows .ensures in
+    let k = first .predict-highs .kept .0 in
+    (omega arith, omega arith, omega arith, omega arith, omega arith)
 
-same-length : tie.Need-same-length
-same-length c = search needs
-
-returns : tie.Need-returns
-returns c =
-    let first = c .before .before .before .before in
-    let x = first .before .before .before .args .line .now in
-    cc (c .before .update-lows .ensures, first .predict-highs .ensures, lifted-is (length x) (at x) (first .before .before .if1 .taken))
+same-length-2 : tie.Need-same-length-2
+same-length-2 c = c .before .update-lows .kept .0 ∙ c .before .before .before .before .predict-highs .kept .0
 
 returns-2 : tie.Need-returns-2
-returns-2 c = sym (lifted-one _ _ (c .if1 .left))
+returns-2 c =
+    let first = c .before .before .before .before in
+    let lows = first .before .before in
+    let a = lows .before .before .args in
+    let x = a .line .now in
+    let S = side (a .start) (length x) in
+    cc (c .before .update-lows .ensures, first .predict-highs .ensures, first .predict-highs .kept .0, lows .lows .ensures, lifted-is S (at x) (omega arith))
 
 pub lift-spec : {M : Type 1} → statement M
 lift-spec =
     tie.close
-    (tie.spec sub-low predict-highs-requires update-lows-requires same-length returns returns-2)
+    (tie.spec
+    lift-lone-requires
+    same-length
+    returns
+    lows-requires
+    sub-predict-highs
+    predict-highs-requires
+    update-lows-requires
+    same-length-2
+    returns-2)

@@ -10,9 +10,6 @@ use Rattle.lifting.proofs.line.put_pair.Tie as tie
 mul-even : tie.Need-mul-even
 mul-even c = search needs
 
-mul-even-2 : tie.Need-mul-even-2
-mul-even-2 c = search needs
-
 slice-set-from-even : tie.Need-slice-set-from-even
 slice-set-from-even c = search needs
 
@@ -25,14 +22,11 @@ shared-slice-copy-out-unpredict c = search needs
 unpredict-requires : tie.Need-unpredict-requires
 unpredict-requires c κs = search needs
 
-mul-t8 : tie.Need-mul-t8
-mul-t8 c = search needs
+add-t12 : tie.Need-add-t12
+add-t12 c = search needs
 
-add-t13 : tie.Need-add-t13
-add-t13 c = search needs
-
-mul-t14 : tie.Need-mul-t14
-mul-t14 c = search needs
+mul-t13 : tie.Need-mul-t13
+mul-t13 c = search needs
 
 slice-set-from-out : tie.Need-slice-set-from-out
 slice-set-from-out c = search needs
@@ -44,21 +38,26 @@ returns : tie.Need-returns
 returns c =
     let a = c .before .before .args in
     let y = at (a .coefficients .now) in
-    rw (toZ-ofZ w32 _ (c .before .before .fits .even), read-back _ (c .unpredict .ok), c .unpredict .ensures, read-back (y (a .p)) (c .before .unpredict-arg .given), toZ-ofZ w32 _ (c .before .before .fits .next)) (rw (toZ-ofZ w32 _ (c .before .before .fits .even)))
+    rw (
+      toZ-ofZ w32 _ (c .before .before .fits .even),
+      read-back _ (c .unpredict .ok),
+      c .unpredict .ensures,
+      read-back (y (a .p))
+          (c .before .unpredict-arg .given),
+      toZ-ofZ w32 _ (c .before .before .fits .next),
+    ) (rw (toZ-ofZ w32 _ (c .before .before .fits .even)))
 
 pub put-pair-spec : {M : Type 1} → statement M
 put-pair-spec =
     tie.close
     (tie.spec
     mul-even
-    mul-even-2
     slice-set-from-even
     mul-unpredict
     shared-slice-copy-out-unpredict
     unpredict-requires
-    mul-t8
-    add-t13
-    mul-t14
+    add-t12
+    mul-t13
     slice-set-from-out
     same-length
     returns)

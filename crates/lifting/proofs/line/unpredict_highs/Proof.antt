@@ -1,33 +1,46 @@
--- `lifting::line::unpredict_highs` meets its contract: a sweep over the high numbers, the last of an even line after the loop. Assumes nothing.
-use mathlib.Core.Path.{_≡_, _∙_}
-use Prim.Native.Nat.{_+_, _-_, _/_, _≤_}
+-- `lifting::line::unpredict_highs` meets its contract: a sweep over the high numbers, the first before the loop and the last after it. Assumes nothing.
+use mathlib.Core.Path.{refl, _∙_}
+use Prim.Native.Nat.{_-_}
 use native.Mathlib.Omega.{arith}
-use lib.ListN.{length}
 use Rattle.numbers.specs.Signal.{at}
 use Rattle.numbers.specs.Word.{wrap32}
-use Rattle.numbers.proofs.Sweep.{Swept, start, finish}
-use Rattle.lifting.specs.Line.{lo, count, unpredicted}
-use Rattle.lifting.specs.Passes.{highsChanged}
-use Rattle.lifting.proofs.LineLaws.{counts, count-lo}
-use Rattle.lifting.proofs.PassLaws.{highs-low, highs-past, highs-turn}
+use Rattle.lifting.specs.Line.{unpredicted}
+use Rattle.lifting.proofs.PassLaws.{Highs, highs-first, highs-again, highs-last, highs-done}
 use Rattle.lifting.proofs.line.unpredict_highs.Statement.{statement}
 use Rattle.lifting.proofs.line.unpredict_highs.Tie as tie
 
+-- `line₀` is the line after the first store
 abbrev Inv-loop : tie.InvT-loop
-Inv-loop line₀ low n₀ line n =
-    (low ≡ count lo (length line₀)) × (low ≡ length line₀ - length line₀ / 2) × (n + 1 ≤ low)
-    × Swept (length line₀) (highsChanged (unpredicted wrap32) (length line₀) (at line₀)) (at line₀) (low + n) line
+Inv-loop line₀ low o end n₀ line n = Highs (unpredicted wrap32) line₀ low o end n line
 
 abbrev μ-loop : tie.MeasureT-loop
-μ-loop line₀ low n₀ line n = low - n
+μ-loop line₀ low o end n₀ line n = end - n
+
+sub-end : tie.Need-sub-end Inv-loop μ-loop
+sub-end c = omega arith
+
+nearest-requires : tie.Need-nearest-requires Inv-loop μ-loop
+nearest-requires c κs = c .before .pre .0
+
+unpredict-at-requires : tie.Need-unpredict-at-requires Inv-loop μ-loop
+unpredict-at-requires c κs = let e = c .nearest .ensures in omega arith
 
 loop-holds : tie.Need-loop-holds Inv-loop μ-loop
 loop-holds c =
-    let N = length (c .args .line .now) in
-    (c .pre .0, omega (arith, count-lo N), omega (arith, count-lo N), start _ _ _ (λ j lt. highs-low _ _ _ j (omega arith)))
-
-add-loop : tie.Need-add-loop Inv-loop μ-loop
-add-loop c = omega arith
+    let entry = c .before .before .before .before in
+    let size = c .before .unpredict-at .kept .0 in
+    record {
+      some = entry .pre .0;
+      both = omega arith;
+      few = entry .pre .2;
+      least = omega arith;
+      most = omega arith;
+      last = refl;
+      begun = omega arith;
+      within = omega arith;
+      size = refl;
+      swept = λ x s. s;
+    }
 
 add-unpredict-at : tie.Need-add-unpredict-at Inv-loop μ-loop
 add-unpredict-at c = omega arith
@@ -35,8 +48,14 @@ add-unpredict-at c = omega arith
 add-unpredict-at-2 : tie.Need-add-unpredict-at-2 Inv-loop μ-loop
 add-unpredict-at-2 c = omega arith
 
-unpredict-at-requires : tie.Need-unpredict-at-requires Inv-loop μ-loop
-unpredict-at-requires c κs = let sw = c .before .before .loop .inv .3 in omega (arith, sw .size)
+sub-unpredict-at : tie.Need-sub-unpredict-at Inv-loop μ-loop
+sub-unpredict-at c = omega arith
+
+add-unpredict-at-3 : tie.Need-add-unpredict-at-3 Inv-loop μ-loop
+add-unpredict-at-3 c = omega arith
+
+unpredict-at-requires-2 : tie.Need-unpredict-at-requires-2 Inv-loop μ-loop
+unpredict-at-requires-2 c κs = omega arith
 
 add-n : tie.Need-add-n Inv-loop μ-loop
 add-n c = omega arith
@@ -47,39 +66,52 @@ loop-less c = omega arith
 loop-again : tie.Need-loop-again Inv-loop μ-loop
 loop-again c =
     let head = c .before .before .before .before in
-    let N = length (head .before .args .line .now) in
-    let inv = head .loop .inv in (
-      inv .0,
-      inv .1,
-      omega arith,
-      rw (c .before .unpredict-at .ensures) (highs-turn _ N _ _ (head .loop .n) _ _ (inv .0) (omega (arith, counts N)) (omega arith) (inv .3)),
-    )
+    highs-again _ _ _ _ _ _ _ _ (head .loop .inv) (c .before .before .before .loop-test .taken) (c .before .unpredict-at2 .ensures)
 
 add-if1 : tie.Need-add-if1 Inv-loop μ-loop
 add-if1 c = omega arith
 
-add-unpredict-at-3 : tie.Need-add-unpredict-at-3 Inv-loop μ-loop
-add-unpredict-at-3 c = omega arith
+add-unpredict-at-4 : tie.Need-add-unpredict-at-4 Inv-loop μ-loop
+add-unpredict-at-4 c = omega arith
 
-unpredict-at-requires-2 : tie.Need-unpredict-at-requires-2 Inv-loop μ-loop
-unpredict-at-requires-2 c κs = let sw = c .before .before .before .loop .inv .3 in omega (arith, sw .size)
+sub-unpredict-at-2 : tie.Need-sub-unpredict-at-2 Inv-loop μ-loop
+sub-unpredict-at-2 c = omega arith
+
+sub-unpredict-at-3 : tie.Need-sub-unpredict-at-3 Inv-loop μ-loop
+sub-unpredict-at-3 c = omega arith
+
+unpredict-at-requires-3 : tie.Need-unpredict-at-requires-3 Inv-loop μ-loop
+unpredict-at-requires-3 c κs = omega arith
 
 same-length : tie.Need-same-length Inv-loop μ-loop
-same-length c = let sw = c .before .before .before .before .before .loop .inv .3 in c .before .unpredict-at2 .kept .0 ∙ sw .size
+same-length c =
+    let head = c .before .before .before .before .before in
+    c .before .unpredict-at3 .kept .0 ∙ head .loop .inv .size ∙ head .before .before .unpredict-at .kept .0
 
 returns : tie.Need-returns Inv-loop μ-loop
 returns c =
     let head = c .before .before .before .before .before in
-    let N = length (head .before .args .line .now) in
-    let inv = head .loop .inv in
-    rw (c .before .unpredict-at2 .ensures)
-    (finish (highs-turn _ N _ _ (head .loop .n) _ _ (inv .0) (omega (arith, counts N)) (omega arith) (inv .3)) (λ j le. highs-past _ _ _ j (omega arith)))
+    let first = head .before .before in
+    let entry = first .before .before .before in
+    rw (← (first .unpredict-at .kept .0))
+    (highs-last _ _ _ _ _ _ _ _ (head .loop .inv) (omega arith) (omega arith) (c .before .unpredict-at3 .ensures) (at (entry .args .line .now))
+    (highs-first (unpredicted wrap32) (entry .args .o) (entry .args .low) (first .before .nearest .result) (entry .args .line .now)
+    (first .unpredict-at .last .0) (entry .pre .0) (entry .pre .1) (entry .pre .2) (first .before .nearest .ensures) (first .unpredict-at .ensures)))
 
 same-length-2 : tie.Need-same-length-2 Inv-loop μ-loop
-same-length-2 c = c .before .before .loop .inv .3 .size
+same-length-2 c =
+    let head = c .before .before in
+    head .loop .inv .size ∙ head .before .before .unpredict-at .kept .0
 
 returns-2 : tie.Need-returns-2 Inv-loop μ-loop
-returns-2 c = finish (c .before .before .loop .inv .3) (λ j le. highs-past _ _ _ j (omega arith))
+returns-2 c =
+    let head = c .before .before in
+    let first = head .before .before in
+    let entry = first .before .before .before in
+    rw (← (first .unpredict-at .kept .0))
+    (highs-done (unpredicted wrap32) _ _ _ _ _ _ (head .loop .line) (head .loop .inv) (omega arith) (omega arith) (at (entry .args .line .now))
+    (highs-first (unpredicted wrap32) (entry .args .o) (entry .args .low) (first .before .nearest .result) (entry .args .line .now)
+    (first .unpredict-at .last .0) (entry .pre .0) (entry .pre .1) (entry .pre .2) (first .before .nearest .ensures) (first .unpredict-at .ensures)))
 
 pub unpredict-highs-spec : {M : Type 1} → statement M
 unpredict-highs-spec =
@@ -87,17 +119,23 @@ unpredict-highs-spec =
     (tie.spec
     Inv-loop
     μ-loop
+    sub-end
+    nearest-requires
+    unpredict-at-requires
     loop-holds
-    add-loop
     add-unpredict-at
     add-unpredict-at-2
-    unpredict-at-requires
+    sub-unpredict-at
+    add-unpredict-at-3
+    unpredict-at-requires-2
     add-n
     loop-less
     loop-again
     add-if1
-    add-unpredict-at-3
-    unpredict-at-requires-2
+    add-unpredict-at-4
+    sub-unpredict-at-2
+    sub-unpredict-at-3
+    unpredict-at-requires-3
     same-length
     returns
     same-length-2

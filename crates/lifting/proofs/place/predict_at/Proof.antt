@@ -39,7 +39,14 @@ returns : tie.Need-returns
 returns c =
     let a = c .before .before .before .before .args in
     let l = a .area .now in
-    rw (read-back _ (c .predict .ok), c .predict .ensures, read-back (at l (a .p)) (c .before .before .before .predict-arg .given), read-back (at l (a .a)) (c .before .before .predict-arg2 .given), read-back (at l (a .b)) (c .before .predict-arg3 .given))
+    rw (
+      read-back _ (c .predict .ok),
+      c .predict .ensures,
+      read-back (at l (a .p)) (c .before .before .before .predict-arg .given),
+      read-back (at l (a .a))
+          (c .before .before .predict-arg2 .given),
+      read-back (at l (a .b)) (c .before .predict-arg3 .given),
+    )
 
 pub predict-at-spec : {M : Type 1} → statement M
 predict-at-spec =

@@ -39,7 +39,14 @@ returns : tie.Need-returns
 returns c =
     let a = c .before .before .before .before .args in
     let l = a .area .now in
-    rw (read-back _ (c .unpredict .ok), c .unpredict .ensures, read-back (at l (a .p)) (c .before .before .before .unpredict-arg .given), read-back (at l (a .a)) (c .before .before .unpredict-arg2 .given), read-back (at l (a .b)) (c .before .unpredict-arg3 .given))
+    rw (
+      read-back _ (c .unpredict .ok),
+      c .unpredict .ensures,
+      read-back (at l (a .p)) (c .before .before .before .unpredict-arg .given),
+      read-back
+          (at l (a .a)) (c .before .before .unpredict-arg2 .given),
+      read-back (at l (a .b)) (c .before .unpredict-arg3 .given),
+    )
 
 pub unpredict-at-spec : {M : Type 1} → statement M
 unpredict-at-spec =

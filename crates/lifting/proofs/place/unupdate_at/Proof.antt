@@ -39,7 +39,14 @@ returns : tie.Need-returns
 returns c =
     let a = c .before .before .before .before .args in
     let l = a .area .now in
-    rw (read-back _ (c .unupdate .ok), c .unupdate .ensures, read-back (at l (a .p)) (c .before .before .before .unupdate-arg .given), read-back (at l (a .a)) (c .before .before .unupdate-arg2 .given), read-back (at l (a .b)) (c .before .unupdate-arg3 .given))
+    rw (
+      read-back _ (c .unupdate .ok),
+      c .unupdate .ensures,
+      read-back (at l (a .p)) (c .before .before .before .unupdate-arg .given),
+      read-back (at l (a .a))
+          (c .before .before .unupdate-arg2 .given),
+      read-back (at l (a .b)) (c .before .unupdate-arg3 .given),
+    )
 
 pub unupdate-at-spec : {M : Type 1} → statement M
 unupdate-at-spec =

@@ -39,7 +39,14 @@ returns : tie.Need-returns
 returns c =
     let a = c .before .before .before .before .args in
     let l = a .area .now in
-    rw (read-back _ (c .update .ok), c .update .ensures, read-back (at l (a .p)) (c .before .before .before .update-arg .given), read-back (at l (a .a)) (c .before .before .update-arg2 .given), read-back (at l (a .b)) (c .before .update-arg3 .given))
+    rw (
+      read-back _ (c .update .ok),
+      c .update .ensures,
+      read-back (at l (a .p)) (c .before .before .before .update-arg .given),
+      read-back (at l (a .a))
+          (c .before .before .update-arg2 .given),
+      read-back (at l (a .b)) (c .before .update-arg3 .given),
+    )
 
 pub update-at-spec : {M : Type 1} → statement M
 update-at-spec =

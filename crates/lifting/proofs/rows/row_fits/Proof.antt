@@ -1,4 +1,5 @@
--- `lifting::rows::row_fits` meets its contract: with a stride of 0 every row is empty and at place 0, else the quotient is the last row with room. Assumes nothing.
+-- `lifting::rows::row_fits` meets its contract: with a stride of 0 every row is empty and at place 0, else the quotient is the last row with room. Assumes
+-- nothing.
 use mathlib.Core.Path.{_≡_, sym}
 use Prim.Native.Nat.{ℕ, _+_, _-_, _*_, _/_, _≤_, _<_}
 use native.Mathlib.Nat.{mul-zero, le-div-iff-mul-le, div-lt-iff-lt-mul}

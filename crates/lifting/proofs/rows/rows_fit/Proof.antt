@@ -17,7 +17,11 @@ row-fits-requires-3 c κs = search needs
 returns : tie.Need-returns
 unfolding rowsFit
 returns c =
-    simp (sym (c .before .before .before .before .row-fits .ensures) ∙ c .before .before .before .if1 .taken, sym (c .before .before .row-fits2 .ensures) ∙ c .before .if2 .taken)
+    simp (
+      sym (c .before .before .before .before .row-fits .ensures) ∙ c .before .before .before .if1 .taken,
+      sym (c .before .before .row-fits2 .ensures) ∙ c
+          .before .if2 .taken,
+    )
     (c .row-fits3 .ensures)
 
 returns-2 : tie.Need-returns-2

@@ -22,7 +22,13 @@ returns c =
     let s = c .before in
     let f = c .half-sum in
     toZ-ofZ w32 _ (sub-result c)
-    ∙ cc (toZ-ofZ w32 _ (s .fits .a), toZ-ofZ w32 _ (s .fits .b), read-back (f .result) (f .ok), toZ-ofZ w32 _ (lower-half (f .result) (sfits-of (f .ok))), quarter (s .args .a) (s .args .b))
+    ∙ cc (
+      toZ-ofZ w32 _ (s .fits .a),
+      toZ-ofZ w32 _ (s .fits .b),
+      read-back (f .result) (f .ok),
+      toZ-ofZ w32 _ (lower-half (f .result) (sfits-of (f .ok))),
+      quarter (s .args .a) (s .args .b),
+    )
 
 pub quarter-sum-spec : {M : Type 1} → statement M
 quarter-sum-spec = tie.close (tie.spec half-sum-requires sub-result returns)
