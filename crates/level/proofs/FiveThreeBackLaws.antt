@@ -18,7 +18,8 @@ use Rattle.level.specs.Work.{admitted, setWorked}
 use Rattle.level.specs.Stands.{SetLeaves, SetBefore, BandStands, fiveThreeStands}
 use Rattle.level.specs.FiveThreeBack.{rowMade, fiveThreeBack}
 use Rattle.level.proofs.OpenedSets.{setOf-first, setOf-there, opens-next, same-set}
-use Rattle.level.proofs.RowsIn.{apart, parity, row-end, Is, Only, is-old, only-fed, fed-here, fed-beside, only-taken, taken-is, taken-beside, half-inside}
+use Rattle.level.proofs.RowsIn.{apart, parity, row-end, Is, Only, is-old, only-fed, fed-here, fed-beside, only-taken, taken-is, taken-beside}
+use Rattle.level.proofs.RowsIn.{half-inside}
 use Rattle.level.proofs.RowsIn.{row-halves, half-reads, joined-reads}
 use Rattle.level.proofs.SetMade.{Outcome, FitAll, Needs, set-made}
 use Rattle.level.proofs.ReaderLaws.{ReaderLaws}

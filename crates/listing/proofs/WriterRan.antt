@@ -70,7 +70,8 @@ module _ (W L n : ℕ) where
     pub ran-next : (c : Call) (e : Event) (w′ : Writer) (x′ : Memory) → event c (worldOf n w x) ≡ e → next c (worldOf n w x) ≡ worldOf n w′ x′
         → Ran W L n (hs ++ takenBy e) (either f (finishes e)) (ds ++ drawnBy e) w′ x′
     ran-next c e w′ x′ p q =
-        let d : events (r .calls ++ c ∷ []) w₀ ≡ es ++ (e ∷ []) = events-snoc event next (r .calls) c w₀ ∙ ap (λ v. es ++ (v ∷ [])) (ap (event c) (r .world) ∙ p) in
+        let d : events (r .calls ++ c ∷ []) w₀ ≡ es ++ (e ∷ []) = events-snoc event next (r .calls) c w₀ ∙
+        ap (λ v. es ++ (v ∷ [])) (ap (event c) (r .world) ∙ p) in
         record {
           before = r .before;
           calls = r .calls ++ c ∷ [];

@@ -1,6 +1,8 @@
 -- Linear arithmetic over ℤ, by `omega`, which reads only ℕ.
--- An integer is a difference of two natural numbers, `dif p q`. Sums, negations, multiples by a literal and divisions by a literal, rounded down (`shrZ`), of differences are differences again,
--- and an equation, an order, a bound or a test of differences is one of the cross sums. The set `lin` rewrites by these laws. So a law of integers is proved in one line, with an `each _ λ p q.` for each integer:
+-- An integer is a difference of two natural numbers, `dif p q`. Sums, negations, multiples by a literal and divisions by a literal, rounded down (`shrZ`), of
+-- differences are differences again,
+-- and an equation, an order, a bound or a test of differences is one of the cross sums. The set `lin` rewrites by these laws. So a law of integers is proved
+-- in one line, with an `each _ λ p q.` for each integer:
 --     law : (x y : ℤ) → x ≤ℤ y → shrZ (x +ℤ pos 1) 4 ≤ℤ shrZ (y +ℤ pos 2) 4
 --     law = each _ λ p q. each _ λ r s. simp lin (omega arith)
 -- A definition of one's own is named on an `unfolding` line. A fact of a term that is no variable is such a law, applied to the term.
@@ -180,13 +182,17 @@ ruleset tests = (arith, ltb→lt, lt→ltb, leb→le, le→leb)
 
 pub dif-ltZ : (p q p′ q′ : ℕ) → ltZ (dif p q) (dif p′ q′) ≡ ltb (p + q′) (p′ + q)
 dif-ltZ p q p′ q′ = dif-ind (λ z. ltZ z (dif p′ q′) ≡ ltb (p + q′) (p′ + q)) p q
-    (λ m d. dif-ind (λ z. ltZ (pos m) z ≡ ltb (p + q′) (p′ + q)) p′ q′ (λ n e. same _ _ (omega tests) (omega tests)) (λ n e. same _ _ (omega tests) (omega tests)))
-    (λ m d. dif-ind (λ z. ltZ (negsuc m) z ≡ ltb (p + q′) (p′ + q)) p′ q′ (λ n e. same _ _ (omega tests) (omega tests)) (λ n e. same _ _ (omega tests) (omega tests)))
+    (λ m d. dif-ind (λ z. ltZ (pos m) z ≡ ltb (p + q′) (p′ + q)) p′ q′ (λ n e. same _ _ (omega tests) (omega tests))
+    (λ n e. same _ _ (omega tests) (omega tests)))
+    (λ m d. dif-ind (λ z. ltZ (negsuc m) z ≡ ltb (p + q′) (p′ + q)) p′ q′ (λ n e. same _ _ (omega tests) (omega tests))
+    (λ n e. same _ _ (omega tests) (omega tests)))
 
 pub dif-leZ : (p q p′ q′ : ℕ) → leZ (dif p q) (dif p′ q′) ≡ leb (p + q′) (p′ + q)
 dif-leZ p q p′ q′ = dif-ind (λ z. leZ z (dif p′ q′) ≡ leb (p + q′) (p′ + q)) p q
-    (λ m d. dif-ind (λ z. leZ (pos m) z ≡ leb (p + q′) (p′ + q)) p′ q′ (λ n e. same _ _ (omega tests) (omega tests)) (λ n e. same _ _ (omega tests) (omega tests)))
-    (λ m d. dif-ind (λ z. leZ (negsuc m) z ≡ leb (p + q′) (p′ + q)) p′ q′ (λ n e. same _ _ (omega tests) (omega tests)) (λ n e. same _ _ (omega tests) (omega tests)))
+    (λ m d. dif-ind (λ z. leZ (pos m) z ≡ leb (p + q′) (p′ + q)) p′ q′ (λ n e. same _ _ (omega tests) (omega tests))
+    (λ n e. same _ _ (omega tests) (omega tests)))
+    (λ m d. dif-ind (λ z. leZ (negsuc m) z ≡ leb (p + q′) (p′ + q)) p′ q′ (λ n e. same _ _ (omega tests) (omega tests))
+    (λ n e. same _ _ (omega tests) (omega tests)))
 
 pub dif-nonNeg : (p q : ℕ) → T (nonNeg (dif p q)) ↔ q ≤ p
 dif-nonNeg p q = dif-ind (λ z. T (nonNeg z) ↔ q ≤ p) p q (λ n e. (λ t. omega arith, λ h. tt)) (λ n e. (λ t. absurd t, λ h. omega arith))

@@ -25,7 +25,16 @@ pub down-start : (W H L d : ℕ) → 0 < H → d ≤ H → Down W H L d 0 d H
 unfolding enter
 down-start W H L d h g =
     let e : L - 0 ≡ L = omega arith in
-    record { deep = omega arith; row = sym (row-zero H d); high = sym (size-zero H); some = h; most = omega arith; near = g; goes = ap (λ (m : ℕ). dive W H L d m 0) e }
+    record {
+      deep = omega arith;
+      row = sym (row-zero H d);
+      high = sym (size-zero H);
+      some = h;
+      most = omega arith;
+      near = g;
+      goes =
+          ap (λ (m : ℕ). dive W H L d m 0) e;
+    }
 
 module _ (W H L d k r h n : ℕ) (s : Down W H L d k r h) (set : n ≡ setOf h r) where
   opened : setOf (size k H) (rowAt H d k) ≡ n
@@ -33,7 +42,9 @@ module _ (W H L d k r h n : ℕ) (s : Down W H L d k r h) (set : n ≡ setOf h r
 
   dive-in : (m : ℕ) → r ≡ 2 * n - 1 → dive W H L d (suc m) k ≡ dive W H L d m (suc k)
   unfolding dive opens
-  dive-in m e = let q : rowAt H d k ≡ 2 * setOf (size k H) (rowAt H d k) - 1 = omega (arith, s .row, opened) in rw (eq-eqb (rowAt H d k) (2 * setOf (size k H) (rowAt H d k) - 1) q)
+  dive-in m e =
+      let q : rowAt H d k ≡ 2 * setOf (size k H) (rowAt H d k) - 1 = omega (arith, s .row, opened) in
+      rw (eq-eqb (rowAt H d k) (2 * setOf (size k H) (rowAt H d k) - 1) q)
 
   dive-out : (m : ℕ) → (r ≡ 2 * n - 1 → ⊥) → dive W H L d (suc m) k ≡ place k 1
   unfolding dive opens

@@ -34,24 +34,32 @@ pub outcome-passed : {N : Type 0} {P : (ℕ → ℤ) → Type 0} (y : ℕ → �
 outcome-passed _ (goes _ p) = p
 
 -- the height row that is drawn
-pub row-out : (W H l d : ℕ) → d < H → (g : Grid) (words : OnCells (SFits w32) W H g) (y : ℕ → ℤ) → Held W H l g words d 0 4 y → (z : ℕ → ℤ) (c : ℕ) → c < W → fronted W (heightRow W d y) z c ≡ g d c
+pub row-out : (W H l d : ℕ) → d < H → (g : Grid) (words : OnCells (SFits w32) W H g) (y : ℕ → ℤ) → Held W H l g words d 0 4 y → (z : ℕ → ℤ) (c : ℕ) → c < W →
+    fronted W (heightRow W d y) z c ≡ g d c
 unfolding fronted heightRow maxSample
 row-out W H l d due g words y h z c p =
     let fit = height-fits (g d c) .0 (height-fit W H l g words d y due h c p) in
     rw (lt-ltb c W p) (ap height16 (height-made W H l g words d y due h c p) ∙ height-kept (g d c) (fit .0) (fit .1))
 
-module _ (W H l d lev b : ℕ) (due : d < H) (level-le : lev ≤ suc l) (g : Grid) (words : OnCells (SFits w32) W H g) (x : ℕ → ℤ) (held : Held W H l g words d lev b x) where
-  pub settles-outcome : (e : Bool) (p : Place) → nextAt W H (suc l) d lev b ≡ p → Outcome (Fits W H l g words) (Held W H l g words d (p .level) (p .band)) (settles (here W H l d lev b e) x)
+module _ (W H l d lev b : ℕ) (due : d < H) (level-le : lev ≤ suc l) (g : Grid) (words : OnCells (SFits w32) W H g) (x : ℕ → ℤ)
+    (held : Held W H l g words d lev b x) where
+  pub settles-outcome : (e : Bool) (p : Place) → nextAt W H (suc l) d lev b ≡ p →
+      Outcome (Fits W H l g words) (Held W H l g words d (p .level) (p .band)) (settles (here W H l d lev b e) x)
   unfolding settles next
   settles-outcome e p q =
-      subst (λ u. Outcome (Fits W H l g words) (Held W H l g words d (u .level) (u .band)) (settled W H (suc l) d (nextAt W H (suc l) d lev b .level) lev x)) q (settle-holds W H l g words d lev b x due level-le held)
+      subst (λ u. Outcome (Fits W H l g words) (Held W H l g words d (u .level) (u .band)) (settled W H (suc l) d (nextAt W H (suc l) d lev b .level) lev x)) q
+      (settle-holds W H l g words d lev b x due level-le held)
 
-  pub feeds-outcome : (e : Bool) (k : ℕ) (c : Band) → k < lev → nextAt W H (suc l) d lev b ≡ place (suc k) (code c) → (v : ℕ → ℤ) → ((i : ℕ) → i < bandColumns W (suc k) c → v i ≡ levelBand wrap32 W H g (suc k) c (rowAt H d (suc k)) i) →
-      Outcome (Fits W H l g words) (Held W H l g words d (beyond W H (suc l) d k (code c) .level) (beyond W H (suc l) d k (code c) .band)) (feeds (here W H l d lev b e) v x)
+  pub feeds-outcome : (e : Bool) (k : ℕ) (c : Band) → k < lev → nextAt W H (suc l) d lev b ≡ place (suc k) (code c) → (v : ℕ → ℤ) →
+      ((i : ℕ) → i < bandColumns W (suc k) c → v i ≡ levelBand wrap32 W H g (suc k) c (rowAt H d (suc k)) i) →
+      Outcome (Fits W H l g words) (Held W H l g words d (beyond W H (suc l) d k (code c) .level) (beyond W H (suc l) d k (code c) .band))
+      (feeds (here W H l d lev b e) v x)
   unfolding feeds settles next levelBand bandColumns
   feeds-outcome e k c below q v row =
       let z : suc k - 1 ≡ k = omega arith in
       let row′ : (i : ℕ) → i < count (across c) (size k W) → v i ≡ levelBand wrap32 W H g (suc k) c (rowAt H d (suc k)) i = rw z at row in
-      let set = subst (λ p. Outcome (Fits W H l g words) (Held W H l g words d (p .level) (p .band)) (settled W H (suc l) d (p .level) lev x)) q (settle-holds W H l g words d lev b x due level-le held) in
-      subst (λ p. Outcome (Fits W H l g words) (Held W H l g words d (beyond W H (suc l) d k (code c) .level) (beyond W H (suc l) d k (code c) .band)) (bind (settled W H (suc l) d (p .level) lev x) (fedOn W H (suc l) d (p .level) (p .band) v))) (sym q)
+      let set = subst (λ p. Outcome (Fits W H l g words) (Held W H l g words d (p .level) (p .band)) (settled W H (suc l) d (p .level) lev x)) q
+      (settle-holds W H l g words d lev b x due level-le held) in
+      subst (λ p. Outcome (Fits W H l g words) (Held W H l g words d (beyond W H (suc l) d k (code c) .level) (beyond W H (suc l) d k (code c) .band))
+      (bind (settled W H (suc l) d (p .level) lev x) (fedOn W H (suc l) d (p .level) (p .band) v))) (sym q)
       (bind-outcome (settled W H (suc l) d (suc k) lev x) _ set (λ y h. fed-holds W H l g words d k c v y due (omega arith) row′ h))

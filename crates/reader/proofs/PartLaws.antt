@@ -62,7 +62,8 @@ module _ (a n : ℕ) (l : List ℤ) (whole : a + n ≡ length l) where
     | yes p ↦ splice-below a n (at ys) (at l) j p ∙ sym (behind-below a (at l) (at ys) j p)
     | no q ↦ elim (decLt j (a + n)) [
       | yes r ↦ splice-in a n (at ys) (at l) j (omega arith) r ∙ sym (behind-past a (at l) (at ys) j (omega arith))
-      | no r ↦ splice-past a n (at ys) (at l) j (omega arith) ∙ past-end l j (omega arith) ∙ sym (behind-past a (at l) (at ys) j (omega arith) ∙ past-end ys (j - a) (omega arith))
+      | no r ↦ splice-past a n (at ys) (at l) j (omega arith) ∙ past-end l j (omega arith) ∙
+          sym (behind-past a (at l) (at ys) j (omega arith) ∙ past-end ys (j - a) (omega arith))
     ]
   ]
 
@@ -98,7 +99,10 @@ behind-splice a p n v x = fun-ext λ j. elim (decLt j a) [
         ]
 
 -- ---- a band row put
-pub put-is : (W H d k c : ℕ) (l : Level) (a p m : ℕ) (v : List ℤ) (s ys : List ℤ) → IsLevel W H d k l → p ≡ rowPlace (l .width) (setRow (down (named c)) (l .set)) + halfPlace (across (named c)) (l .width) → a ≡ l .start + p → m ≡ length v → length v ≡ count (across (named c)) (size k W) → a + m ≤ length s → length ys ≡ m → at ys ≡ fronted (length v) (at v) (at (midOf a m s)) → at (putMid a m s ys) ≡ fedAt W H d k c (at v) (at s)
+pub put-is : (W H d k c : ℕ) (l : Level) (a p m : ℕ) (v : List ℤ) (s ys : List ℤ) → IsLevel W H d k l →
+    p ≡ rowPlace (l .width) (setRow (down (named c)) (l .set)) + halfPlace (across (named c)) (l .width) → a ≡ l .start + p → m ≡ length v →
+    length v ≡ count (across (named c)) (size k W) → a + m ≤ length s → length ys ≡ m → at ys ≡ fronted (length v) (at v) (at (midOf a m s)) →
+    at (putMid a m s ys) ≡ fedAt W H d k c (at v) (at s)
 unfolding fedAt bandFed
 put-is W H d k c l a p m v s ys is ep ea em en room long made =
     let n = count (across (named c)) (size k W) in
@@ -120,7 +124,9 @@ unfolding onto
 onto-outcome f true y = refl
 onto-outcome f false y = refl
 
-pub work-is : (W H L d k : ℕ) (l : Level) (a n : ℕ) (s ys : List ℤ) (ok : Bool) → IsLevel W H d k l → a ≡ l .start → a + n ≡ length s → length ys ≡ n → outcome ok (at ys) ≡ setWorked admitted (eqb (k + 1) L) k (l .width) (l .height) (l .set) (at (midOf a n s)) → outcome ok (at (putMid a n s ys)) ≡ workedAt W H L d k (at s)
+pub work-is : (W H L d k : ℕ) (l : Level) (a n : ℕ) (s ys : List ℤ) (ok : Bool) → IsLevel W H d k l → a ≡ l .start → a + n ≡ length s → length ys ≡ n →
+    outcome ok (at ys) ≡ setWorked admitted (eqb (k + 1) L) k (l .width) (l .height) (l .set) (at (midOf a n s)) →
+    outcome ok (at (putMid a n s ys)) ≡ workedAt W H L d k (at s)
 unfolding workedAt
 work-is W H L d k l a n s ys ok is ea whole long made =
     let place : a ≡ stretchAt W k = ea ∙ is .start in
@@ -138,7 +144,8 @@ stretch-room W k L h = elim (ℕ-discrete (k + 1) L) [
 
 -- ---- the same of a level
 module _ (W H d k : ℕ) (l : Level) (is : IsLevel W H d k l) where
-  pub level-in : 0 < H → W ≤ 2 ^ 16 → H < 2 ^ 32 → (l .start ≤ 2 ^ 18 * k) × (l .width ≤ 2 ^ 16) × (l .height < 2 ^ 32) × (l .set < count lo (l .height)) × (l .set < 2 ^ 32)
+  pub level-in : 0 < H → W ≤ 2 ^ 16 → H < 2 ^ 32 → (l .start ≤ 2 ^ 18 * k) × (l .width ≤ 2 ^ 16) × (l .height < 2 ^ 32) × (l .set < count lo (l .height)) ×
+      (l .set < 2 ^ 32)
   level-in some wide high =
       let set : l .set < count lo (l .height) = rw (is .set, is .height) (row-in H d k some) in (
         rw (is .start) (stretch-small W k wide),
@@ -151,7 +158,8 @@ module _ (W H d k : ℕ) (l : Level) (is : IsLevel W H d k l) where
   pub work-room : (L : ℕ) → k < L → l .start + (4 * l .width + 4 * pick (eqb (k + 1) L) 0 (count lo (l .width))) ≤ storeLength W L
   work-room L h = rw (is .start, is .width, ← stretch-is W L) (stretch-room W k L h)
 
-  pub put-room : (c p n : ℕ) → p ≡ rowPlace (l .width) (setRow (down (named c)) (l .set)) + halfPlace (across (named c)) (l .width) → n ≡ count (across (named c)) (size k W) → l .start + p + n ≤ storeLength W (k + 1)
+  pub put-room : (c p n : ℕ) → p ≡ rowPlace (l .width) (setRow (down (named c)) (l .set)) + halfPlace (across (named c)) (l .width) →
+      n ≡ count (across (named c)) (size k W) → l .start + p + n ≤ storeLength W (k + 1)
   put-room c p n ep en =
       let w = l .width in
       let r = setRow (down (named c)) (l .set) in

@@ -29,7 +29,8 @@ use Rattle.reader.proofs.StepsLeft.{named-code}
 use Rattle.reader.proofs.Reached.{namesOf, Good}
 
 -- ---- from rows P by name
-module _ (W H l : ℕ) (P : RowName → ℕ → ℤ) (words : (k : ℕ) (b : Band) (r c : ℕ) → k ≤ l → r < count (down b) (size k H) → c < count (across b) (size k W) → SFits w32 (P (rowName (suc k) b r) c)) where
+module _ (W H l : ℕ) (P : RowName → ℕ → ℤ) (words : (k : ℕ) (b : Band) (r c : ℕ) → k ≤ l → r < count (down b) (size k H) → c < count (across b) (size k W) →
+    SFits w32 (P (rowName (suc k) b r) c)) where
   -- the low-low part of level k, with m levels from there on
   unfoldable pub rebuilt : ℕ → ℕ → Grid
   rebuilt zero k = λ r. P (rowName k LL r)
@@ -38,28 +39,34 @@ module _ (W H l : ℕ) (P : RowName → ℕ → ℤ) (words : (k : ℕ) (b : Ban
   pub rebuilt-words : (m k : ℕ) → k + m ≡ suc l → OnCells (SFits w32) (size k W) (size k H) (rebuilt m k)
   unfolding rebuilt size across down
   rebuilt-words zero k e = let z : k ≡ suc l = omega arith in rw z (λ r c p q. words l LL r c (omega arith) p q)
-  rebuilt-words (suc m) k e = level-back-fits (size k W) (size k H) _ (over-all (SFits w32) (size k W) (size k H) _ _ (rebuilt-words m (suc k) (omega arith)) (λ b r c p q. words k b r c (omega arith) p q))
+  rebuilt-words (suc m) k e = level-back-fits (size k W) (size k H) _
+      (over-all (SFits w32) (size k W) (size k H) _ _ (rebuilt-words m (suc k) (omega arith)) (λ b r c p q. words k b r c (omega arith) p q))
 
   abbrev pub back : Grid
   back = rebuilt (suc l) 0
 
-  bands-of : (k m : ℕ) → k + suc m ≡ suc l → Same (size k W) (size k H) (approximation wrap32 W H back k) (rebuilt (suc m) k) → SameBands (size k W) (size k H) (subband wrap32 (size k W) (size k H) (approximation wrap32 W H back k)) (over (rebuilt m (suc k)) (λ b r. P (rowName (suc k) b r)))
+  bands-of : (k m : ℕ) → k + suc m ≡ suc l → Same (size k W) (size k H) (approximation wrap32 W H back k) (rebuilt (suc m) k) →
+      SameBands (size k W) (size k H) (subband wrap32 (size k W) (size k H) (approximation wrap32 W H back k))
+      (over (rebuilt m (suc k)) (λ b r. P (rowName (suc k) b r)))
   unfolding rebuilt size
   bands-of k m e a b r c p q =
       subband-same wrap32 (size k W) (size k H) _ _ a b r c p q
-      ∙ words-forward-back (size k W) (size k H) _ (over-all (SFits w32) (size k W) (size k H) _ _ (rebuilt-words m (suc k) (omega arith)) (λ b r c p q. words k b r c (omega arith) p q)) b r c p q
+      ∙ words-forward-back (size k W) (size k H) _ (over-all (SFits w32) (size k W) (size k H) _ _ (rebuilt-words m (suc k) (omega arith))
+      (λ b r c p q. words k b r c (omega arith) p q)) b r c p q
 
   approximation-is : (k m : ℕ) → k + m ≡ suc l → Same (size k W) (size k H) (approximation wrap32 W H back k) (rebuilt m k)
   unfolding approximation size over
   approximation-is zero m e = let z : m ≡ suc l = omega arith in rw z (λ r c p q. refl)
   approximation-is (suc k) m e = same-low (size k W) (size k H) _ _ (bands-of k m (omega arith) (approximation-is k (suc m) (omega arith)))
 
-  bands-are : (k m : ℕ) → k + suc m ≡ suc l → SameBands (size k W) (size k H) (levelBand wrap32 W H back (suc k)) (over (rebuilt m (suc k)) (λ b r. P (rowName (suc k) b r)))
+  bands-are : (k m : ℕ) → k + suc m ≡ suc l → SameBands (size k W) (size k H) (levelBand wrap32 W H back (suc k))
+      (over (rebuilt m (suc k)) (λ b r. P (rowName (suc k) b r)))
   unfolding levelBand
   bands-are k m e = bands-of k m e (approximation-is k (suc m) e)
 
   -- ---- its plane has them
-  pub back-has : (k : ℕ) (b : Band) → k ≤ l → (b ≡ LL → k ≡ l) → (r c : ℕ) → r < count (down b) (size k H) → c < count (across b) (size k W) → levelBand wrap32 W H back (suc k) b r c ≡ P (rowName (suc k) b r) c
+  pub back-has : (k : ℕ) (b : Band) → k ≤ l → (b ≡ LL → k ≡ l) → (r c : ℕ) → r < count (down b) (size k H) → c < count (across b) (size k W) →
+      levelBand wrap32 W H back (suc k) b r c ≡ P (rowName (suc k) b r) c
   unfolding over rebuilt
   back-has k LL h last r c p q = bands-are k 0 (omega (arith, last refl)) LL r c p q
   back-has k HL h last r c p q = bands-are k (l - k) (omega arith) HL r c p q
@@ -96,14 +103,16 @@ unfolding times lookup
 found f (g ∷ fs) first h = rw (same-self (f .row)) refl
 found f (g ∷ fs) (later i) h = go (sameName (f .row) (g .row)) h (found f fs i)
   where
-    go : (t : Bool) → pick t 1 0 + times (f .row) (namesOf fs) ≤ 1 → (times (f .row) (namesOf fs) ≤ 1 → lookup fs (f .row) ≡ f .run .numbers) → pick t (g .run .numbers) (lookup fs (f .row)) ≡ f .run .numbers
+    go : (t : Bool) → pick t 1 0 + times (f .row) (namesOf fs) ≤ 1 → (times (f .row) (namesOf fs) ≤ 1 → lookup fs (f .row) ≡ f .run .numbers) →
+        pick t (g .run .numbers) (lookup fs (f .row)) ≡ f .run .numbers
     go true q ih = absurd (omega (arith, occurs f fs i))
     go false q ih = ih (omega arith)
 
 zero-fits : SFits w32 (pos 0)
 zero-fits = abs-fits (pos 0) 0 (omega arith) (omega arith)
 
-pub lookup-words : (W H l : ℕ) → suc l ≤ maxLevels → (fs : List FedRow) → All (Good W H l) fs → (x : RowName) (i : ℕ) → i < bandColumns W (x .level) (x .band) → SFits w32 (lookup fs x i)
+pub lookup-words : (W H l : ℕ) → suc l ≤ maxLevels → (fs : List FedRow) → All (Good W H l) fs → (x : RowName) (i : ℕ) → i < bandColumns W (x .level) (x .band) →
+    SFits w32 (lookup fs x i)
 unfolding lookup
 lookup-words W H l few [] all-none x i p = zero-fits
 lookup-words W H l few (f ∷ fs) (all-more g gs) x i p = go (sameName x (f .row)) refl (lookup-words W H l few fs gs x i p)

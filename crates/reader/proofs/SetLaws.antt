@@ -114,11 +114,13 @@ module _ (last : Bool) (w h n c a b : ℕ) (columns : a ≡ count (across (named
 
   pub asks-few : (a ≡ 0 → ⊥) → b ≡ count (down (named c)) h → b ≤ n → false ≡ asked last w h n (named c)
   unfolding asked
-  asks-few e rows le = sym (rw (lt-ltb 0 (count (across (named c)) w) (omega arith), le-ltb n (count (down (named c)) h) (omega arith)) (both-false (keptAt last (named c))))
+  asks-few e rows le = sym (rw (lt-ltb 0 (count (across (named c)) w) (omega arith), le-ltb n (count (down (named c)) h) (omega arith))
+      (both-false (keptAt last (named c))))
 
   pub asks-kept : (a ≡ 0 → ⊥) → b ≡ count (down (named c)) h → n < b → pick (eqb c 0) last true ≡ asked last w h n (named c)
   unfolding asked
-  asks-kept e rows lt = sym (rw (lt-ltb 0 (count (across (named c)) w) (omega arith), lt-ltb n (count (down (named c)) h) (omega arith)) (both-true (keptAt last (named c)) ∙ kept-is last c))
+  asks-kept e rows lt = sym (rw (lt-ltb 0 (count (across (named c)) w) (omega arith), lt-ltb n (count (down (named c)) h) (omega arith))
+      (both-true (keptAt last (named c)) ∙ kept-is last c))
 
 -- ---- the first band asked for
 first-pick : (t : Bool) (b : Band) (bs : List Band) → firstCode (pick t (b ∷ bs) bs) ≡ pick t (code b) (firstCode bs)
@@ -146,13 +148,19 @@ module _ (p : Band → Bool) where
   unfolding code
   from-wide = step HL (LH ∷ HH ∷ []) ∙ ap (pick (p HL) 1) from-high
 
-  pub first-is : (b : ℕ) → firstCode (those p (bandsFrom b)) ≡ pick (both (leb b 0) (p LL)) 0 (pick (both (leb b 1) (p HL)) 1 (pick (both (leb b 2) (p LH)) 2 (pick (both (leb b 3) (p HH)) 3 4)))
+  pub first-is : (b : ℕ) → firstCode (those p (bandsFrom b)) ≡ pick (both (leb b 0) (p LL)) 0
+      (pick (both (leb b 1) (p HL)) 1 (pick (both (leb b 2) (p LH)) 2 (pick (both (leb b 3) (p HH)) 3 4)))
   unfolding bandsFrom code
   first-is zero = step LL (HL ∷ LH ∷ HH ∷ []) ∙ ap (pick (p LL) 0) from-wide
   first-is (suc zero) = from-wide
   first-is (suc (suc zero)) = from-high
   first-is (suc (suc (suc zero))) = step HH [] ∙ last-one
-  first-is (suc (suc (suc (suc b)))) = none ∙ rw (lt-leb (suc (suc (suc (suc b)))) 0 (omega arith), lt-leb (suc (suc (suc (suc b)))) 1 (omega arith), lt-leb (suc (suc (suc (suc b)))) 2 (omega arith), lt-leb (suc (suc (suc (suc b)))) 3 (omega arith))
+  first-is (suc (suc (suc (suc b)))) = none ∙ rw (
+    lt-leb (suc (suc (suc (suc b)))) 0 (omega arith),
+    lt-leb (suc (suc (suc (suc b)))) 1 (omega arith),
+    lt-leb (suc (suc (suc (suc b)))) 2 (omega arith),
+    lt-leb (suc (suc (suc (suc b)))) 3 (omega arith),
+  )
     where
       none : firstCode (those p []) ≡ 4
       none = unfold those firstCode in refl

@@ -58,7 +58,8 @@ module _ (s : Reader) where
         let b = is .band in
         (omega (arith, n .within), omega (arith, n .named (omega arith)), omega arith)
 
-    pub length-is : (l : Level) (n : ℕ) → IsLevel (s .width) (s .height) (s .drawn) (p .level - 1) l → n ≡ count (across (named (p .band))) (l .width) → n ≡ nextLength s
+    pub length-is : (l : Level) (n : ℕ) → IsLevel (s .width) (s .height) (s .drawn) (p .level - 1) l → n ≡ count (across (named (p .band))) (l .width) →
+        n ≡ nextLength s
     unfolding nextLength bandColumns
     length-is l n at e = cc (e, at .width, is .level, is .band)
 
@@ -74,16 +75,22 @@ module _ (s : Reader) where
     unfolding feeds
     feed-failed v x e = bind-failed _ _ e
 
-    pub feed-on : (v x y : ℕ → ℤ) → 0 < p .level → passed y ≡ settles s x → finished (s .width) (s .height) (s .levels) (s .drawn) (p .level - 1) (p .band) (fedAt (s .width) (s .height) (s .drawn) (p .level - 1) (p .band) v y) ≡ feeds s v x
+    pub feed-on : (v x y : ℕ → ℤ) → 0 < p .level → passed y ≡ settles s x →
+        finished (s .width) (s .height) (s .levels) (s .drawn) (p .level - 1) (p .band)
+        (fedAt (s .width) (s .height) (s .drawn) (p .level - 1) (p .band) v y) ≡ feeds s v x
     unfolding feeds
-    feed-on v x y h e = on (p .level) (p .band) h ∙ ap (λ (k : ℕ). fedOn (s .width) (s .height) (s .levels) (s .drawn) k (p .band) v y) (is .level) ∙ ap (λ (c : ℕ). fedOn (s .width) (s .height) (s .levels) (s .drawn) (next s .level) c v y) (is .band) ∙ bind-passed _ _ y e
+    feed-on v x y h e = on (p .level) (p .band) h ∙ ap (λ (k : ℕ). fedOn (s .width) (s .height) (s .levels) (s .drawn) k (p .band) v y) (is .level) ∙
+        ap (λ (c : ℕ). fedOn (s .width) (s .height) (s .levels) (s .drawn) (next s .level) c v y) (is .band) ∙ bind-passed _ _ y e
       where
-        on : (k c : ℕ) → 0 < k → finished (s .width) (s .height) (s .levels) (s .drawn) (k - 1) c (fedAt (s .width) (s .height) (s .drawn) (k - 1) c v y) ≡ fedOn (s .width) (s .height) (s .levels) (s .drawn) k c v y
+        on : (k c : ℕ) → 0 < k → finished (s .width) (s .height) (s .levels) (s .drawn) (k - 1) c
+            (fedAt (s .width) (s .height) (s .drawn) (k - 1) c v y) ≡ fedOn (s .width) (s .height) (s .levels) (s .drawn) k c v y
         on zero c h = absurd (omega arith)
         on (suc k) c h = let i : suc k - 1 ≡ k = omega arith in rw i (unfold fedOn in refl)
 
-    pub beyond-is : 0 < p .level → beyond (s .width) (s .height) (s .levels) (s .drawn) (p .level - 1) (p .band) ≡ placeFed (s .width) (s .height) (s .levels) (s .drawn) (next s .level) (next s .band)
-    beyond-is h = on (p .level) (p .band) h ∙ ap (λ (k : ℕ). placeFed (s .width) (s .height) (s .levels) (s .drawn) k (p .band)) (is .level) ∙ ap (placeFed (s .width) (s .height) (s .levels) (s .drawn) (next s .level)) (is .band)
+    pub beyond-is : 0 < p .level → beyond (s .width) (s .height) (s .levels) (s .drawn) (p .level - 1) (p .band) ≡ placeFed (s .width) (s .height) (s .levels)
+        (s .drawn) (next s .level) (next s .band)
+    beyond-is h = on (p .level) (p .band) h ∙ ap (λ (k : ℕ). placeFed (s .width) (s .height) (s .levels) (s .drawn) k (p .band)) (is .level) ∙
+        ap (placeFed (s .width) (s .height) (s .levels) (s .drawn) (next s .level)) (is .band)
       where
         on : (k c : ℕ) → 0 < k → beyond (s .width) (s .height) (s .levels) (s .drawn) (k - 1) c ≡ placeFed (s .width) (s .height) (s .levels) (s .drawn) k c
         on zero c h = absurd (omega arith)

@@ -1,4 +1,5 @@
--- The band rows that a set asks for. Document 01: "Set n of level k needs its LL row (for k below L: the next row that level k+1 makes), then HL, LH, HH, skipping bands without rows."
+-- The band rows that a set asks for. Document 01: "Set n of level k needs its LL row (for k below L: the next row that level k+1 makes), then HL, LH, HH,
+-- skipping bands without rows."
 -- A level splits a grid of w columns and h rows; `last` says that it is level L.
 use mathlib.Core.Bool.{Bool, true}
 use mathlib.Core.List.{List, [], _∷_}

@@ -1,6 +1,7 @@
 -- Every sample of the table holds: both sides compute to the same. Assumes nothing.
 use mathlib.Core.Path.{refl}
-use Rattle.lifting.specs.Line.{predicted, updated, mirror, high, highAt, low, count, lineForward, backEven, backOdd, unupdated, unpredicted, joined, lineHalvesBack, lineBack}
+use Rattle.lifting.specs.Line.{predicted, updated, mirror, high, highAt, low, count, lineForward, backEven, backOdd, unupdated, unpredicted, joined}
+use Rattle.lifting.specs.Line.{lineHalvesBack, lineBack}
 use Rattle.numbers.specs.Word.{wrap32}
 use Rattle.wavelet.specs.Limits.{maxWidth, maxHeight, maxLevels, maxSample, range}
 use Rattle.wavelet.specs.Questions.{within}
@@ -15,7 +16,10 @@ use Rattle.wavelet.specs.Steps.{feedAll, opensSet, rowSteps, setSteps, steps, b
 use Rattle.samples.specs.Samples.{listed, values, bandRow, holds-line, holds-map, holds-answer, holds-order, holds-wants, table, AllHold, none, also}
 
 pub samples-hold : AllHold table
-unfolding values listed lineForward low high highAt mirror predicted updated count planeOf planeCell flat cells subband columnsLifted across down bandOf halfAt placeIn bandRow bandColumns size approximation levelBand handedOut hasRow rowsOf setRows madeBy closing inTurn made feedAll opensSet rowSteps setSteps steps bandRowsOf backwardQuestion sizeQuestions planeQuestions within maxWidth maxHeight maxLevels maxSample range inRange rebuiltFits everyCell every valueFits levelAt mapBack levelBack rowsUnlifted lineBack lineHalvesBack joined backEven backOdd unupdated unpredicted wrap32
+unfolding values listed lineForward low high highAt mirror predicted updated count planeOf planeCell flat cells subband columnsLifted across down bandOf halfAt
+    placeIn bandRow bandColumns size approximation levelBand handedOut hasRow rowsOf setRows madeBy closing inTurn made feedAll opensSet rowSteps setSteps steps
+    bandRowsOf backwardQuestion sizeQuestions planeQuestions within maxWidth maxHeight maxLevels maxSample range inRange rebuiltFits everyCell every valueFits
+    levelAt mapBack levelBack rowsUnlifted lineBack lineHalvesBack joined backEven backOdd unupdated unpredicted wrap32
 samples-hold =
     also (holds-line refl refl)
     (also (holds-line refl refl)

@@ -52,7 +52,8 @@ offer-steady s n run x t e =
     subst (λ (k : Took). Steady s (k .writer)) g (offering-steady fiveThree run s x)
 
 -- a draw changes what waits and how many levels are closed
-pub draw-steady : (s : Writer) (n k : ℕ) (x : Memory) (r : BandRow) (t : Writer) → drawReply s n k x ≡ gives (aRow r t) → t ≡ waits (s .finished) s (afterDraw s x)
+pub draw-steady : (s : Writer) (n k : ℕ) (x : Memory) (r : BandRow) (t : Writer) → drawReply s n k x ≡ gives (aRow r t) →
+    t ≡ waits (s .finished) s (afterDraw s x)
 unfolding drawReply
 draw-steady s n k x r t e = last (s .level) (given (drawQuestion s n k) _ (aRow r t) e)
   where

@@ -10,7 +10,8 @@ ghost use Rattle.lifting.specs.Halves.{forwardInto, backwardInto};
 #[no_mangle]
 pub extern "C" fn terrain_line_forward(line: &[i32], out: &mut [i32]) -> u32
     ensures { λ r. ⌜ r ≡ pick (leb (length (now (line .entry))) (length (now (out .entry)))) 0 5 ⌝ }
-    ensures { λ r. ⌜ at (now (out .exit)) ≡ pick (leb (length (now (line .entry))) (length (now (out .entry)))) (forwardInto (length (now (line .entry))) (at (now (line .entry))) (at (now (out .entry)))) (at (now (out .entry))) ⌝ }
+    ensures { λ r. ⌜ at (now (out .exit)) ≡ pick (leb (length (now (line .entry))) (length (now (out .entry))))
+        (forwardInto (length (now (line .entry))) (at (now (line .entry))) (at (now (out .entry)))) (at (now (out .entry))) ⌝ }
 {
     line::forward(line, 0, out) as u32
 }
@@ -19,7 +20,8 @@ pub extern "C" fn terrain_line_forward(line: &[i32], out: &mut [i32]) -> u32
 #[no_mangle]
 pub extern "C" fn terrain_line_backward(coefficients: &[i32], out: &mut [i32]) -> u32
     ensures { λ r. ⌜ r ≡ pick (leb (length (now (coefficients .entry))) (length (now (out .entry)))) 0 5 ⌝ }
-    ensures { λ r. ⌜ at (now (out .exit)) ≡ pick (leb (length (now (coefficients .entry))) (length (now (out .entry)))) (backwardInto (length (now (coefficients .entry))) (at (now (coefficients .entry))) (at (now (out .entry)))) (at (now (out .entry))) ⌝ }
+    ensures { λ r. ⌜ at (now (out .exit)) ≡ pick (leb (length (now (coefficients .entry))) (length (now (out .entry))))
+        (backwardInto (length (now (coefficients .entry))) (at (now (coefficients .entry))) (at (now (out .entry)))) (at (now (out .entry))) ⌝ }
 {
     line::backward(coefficients, 0, out) as u32
 }

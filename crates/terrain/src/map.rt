@@ -23,7 +23,8 @@ pub extern "C" fn terrain_map_forward(
     work: &mut [i32],
 ) -> u32
     ensures { λ r. ⌜ r ≡ forwardQuestion width height levels (length (now (heights .entry))) (length (now (plane .entry))) (length (now (work .entry))) ⌝ }
-    ensures { λ r. ⌜ at (now (plane .exit)) ≡ passed r (width * height) (planeOf whole levels width height (cells width (heightsAt (now (heights .entry))))) (at (now (plane .entry))) ⌝ }
+    ensures { λ r. ⌜ at (now (plane .exit)) ≡ passed r (width * height) (planeOf whole levels width height (cells width (heightsAt (now (heights .entry)))))
+        (at (now (plane .entry))) ⌝ }
     ensures { λ r. ⌜ at (now (work .exit)) ≡ passed r (width * height) zeros (at (now (work .entry))) ⌝ }
 {
     whole_map::forward(heights, width, height, levels, plane, work) as u32
@@ -39,8 +40,10 @@ pub extern "C" fn terrain_map_backward(
     heights: &mut [u16],
     work: &mut [i32],
 ) -> u32
-    ensures { λ r. ⌜ r ≡ backwardQuestion width height levels (length (now (plane .entry))) (length (now (heights .entry))) (length (now (work .entry))) (cells width (at (now (plane .entry)))) ⌝ }
-    ensures { λ r. ⌜ heightsAt (now (heights .exit)) ≡ rebuilt r (width * height) (flat width (mapBack wrap32 levels width height (cells width (at (now (plane .entry)))))) (heightsAt (now (heights .entry))) ⌝ }
+    ensures { λ r. ⌜ r ≡ backwardQuestion width height levels (length (now (plane .entry))) (length (now (heights .entry))) (length (now (work .entry)))
+        (cells width (at (now (plane .entry)))) ⌝ }
+    ensures { λ r. ⌜ heightsAt (now (heights .exit)) ≡ rebuilt r (width * height)
+        (flat width (mapBack wrap32 levels width height (cells width (at (now (plane .entry)))))) (heightsAt (now (heights .entry))) ⌝ }
     ensures { λ r. ⌜ at (now (work .exit)) ≡ rebuilt r (width * height) zeros (at (now (work .entry))) ⌝ }
 {
     whole_map::backward(plane, width, height, levels, heights, work) as u32

@@ -14,7 +14,8 @@ ghost use Rattle.wavelet.specs.Limits.{maxWidth, maxLevels};
 ghost use Rattle.wavelet.specs.Questions.{within};
 ghost use Rattle.wavelet.specs.Store.{storeLength};
 ghost use Rattle.writer.specs.Calls.{setUpReply, setUpStore};
-ghost use Rattle.terrain.specs.WriterCalls.{number, stateOf, offered, offeredStore, stateTook, takenOf, drawn, drawnStore, drawnArea, stateHanded, rowOf, waiting, lookOf, finished, finishedStore};
+ghost use Rattle.terrain.specs.WriterCalls.{number, stateOf, offered, offeredStore, stateTook, takenOf, drawn, drawnStore, drawnArea, stateHanded, rowOf};
+ghost use Rattle.terrain.specs.WriterCalls.{waiting, lookOf, finished, finishedStore};
 
 // The numbers that the line store of a writer or a reader needs; 0 where set-up would give 2 or 4.
 #[no_mangle]
@@ -54,9 +55,11 @@ pub extern "C" fn terrain_writer_offer(
     taken: &mut usize,
 ) -> u32
     ensures { λ r. ⌜ r ≡ number (offered (now (state .entry)) (length (now (store .entry))) (now (run .entry)) (at (now (store .entry)))) ⌝ }
-    ensures { λ r. ⌜ now (state .exit) ≡ stateTook (offered (now (state .entry)) (length (now (store .entry))) (now (run .entry)) (at (now (store .entry)))) (now (state .entry)) ⌝ }
+    ensures { λ r. ⌜ now (state .exit) ≡ stateTook (offered (now (state .entry)) (length (now (store .entry))) (now (run .entry)) (at (now (store .entry))))
+        (now (state .entry)) ⌝ }
     ensures { λ r. ⌜ at (now (store .exit)) ≡ offeredStore (now (state .entry)) (length (now (store .entry))) (now (run .entry)) (at (now (store .entry))) ⌝ }
-    ensures { λ r. ⌜ now (taken .exit) ≡ takenOf (offered (now (state .entry)) (length (now (store .entry))) (now (run .entry)) (at (now (store .entry)))) (now (taken .entry)) ⌝ }
+    ensures { λ r. ⌜ now (taken .exit) ≡ takenOf (offered (now (state .entry)) (length (now (store .entry))) (now (run .entry)) (at (now (store .entry))))
+        (now (taken .entry)) ⌝ }
 {
     if !writer_state::is_writer(state) {
         return 1;
@@ -81,10 +84,14 @@ pub extern "C" fn terrain_writer_draw(
     row: &mut [u64; 4],
 ) -> u32
     ensures { λ r. ⌜ r ≡ number (drawn (now (state .entry)) (length (now (store .entry))) (length (now (out .entry))) (at (now (store .entry)))) ⌝ }
-    ensures { λ r. ⌜ now (state .exit) ≡ stateHanded (drawn (now (state .entry)) (length (now (store .entry))) (length (now (out .entry))) (at (now (store .entry)))) (now (state .entry)) ⌝ }
-    ensures { λ r. ⌜ at (now (store .exit)) ≡ drawnStore (now (state .entry)) (length (now (store .entry))) (length (now (out .entry))) (at (now (store .entry))) ⌝ }
-    ensures { λ r. ⌜ at (now (out .exit)) ≡ drawnArea (now (state .entry)) (length (now (store .entry))) (length (now (out .entry))) (at (now (store .entry))) (at (now (out .entry))) ⌝ }
-    ensures { λ r. ⌜ now (row .exit) ≡ rowOf (drawn (now (state .entry)) (length (now (store .entry))) (length (now (out .entry))) (at (now (store .entry)))) (now (row .entry)) ⌝ }
+    ensures { λ r. ⌜ now (state .exit) ≡ stateHanded (drawn (now (state .entry)) (length (now (store .entry))) (length (now (out .entry)))
+        (at (now (store .entry)))) (now (state .entry)) ⌝ }
+    ensures { λ r. ⌜ at (now (store .exit)) ≡ drawnStore (now (state .entry)) (length (now (store .entry))) (length (now (out .entry)))
+        (at (now (store .entry))) ⌝ }
+    ensures { λ r. ⌜ at (now (out .exit)) ≡ drawnArea (now (state .entry)) (length (now (store .entry))) (length (now (out .entry))) (at (now (store .entry)))
+        (at (now (out .entry))) ⌝ }
+    ensures { λ r. ⌜ now (row .exit) ≡ rowOf (drawn (now (state .entry)) (length (now (store .entry))) (length (now (out .entry))) (at (now (store .entry))))
+        (now (row .entry)) ⌝ }
 {
     if !writer_state::is_writer(state) {
         return 1;
@@ -127,7 +134,8 @@ pub extern "C" fn terrain_writer_waits(state: &[u64; 16], row: &mut [u64; 4]) ->
 #[no_mangle]
 pub extern "C" fn terrain_writer_finish(state: &mut [u64; 16], store: &mut [i32]) -> u32
     ensures { λ r. ⌜ r ≡ number (finished (now (state .entry)) (length (now (store .entry))) (at (now (store .entry)))) ⌝ }
-    ensures { λ r. ⌜ now (state .exit) ≡ stateOf (finished (now (state .entry)) (length (now (store .entry))) (at (now (store .entry)))) (now (state .entry)) ⌝ }
+    ensures { λ r. ⌜ now (state .exit) ≡ stateOf (finished (now (state .entry)) (length (now (store .entry))) (at (now (store .entry))))
+        (now (state .entry)) ⌝ }
     ensures { λ r. ⌜ at (now (store .exit)) ≡ finishedStore (now (state .entry)) (length (now (store .entry))) (at (now (store .entry))) ⌝ }
 {
     if !writer_state::is_writer(state) {

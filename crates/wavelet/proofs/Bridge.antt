@@ -1,4 +1,5 @@
--- Ranges, and the bridge from words to whole numbers. Samples within ±M give values within ±4M a level, so k levels within ±M · 4^k; where that is below 2^31 nothing wraps, and word-lifting is T.800's own.
+-- Ranges, and the bridge from words to whole numbers. Samples within ±M give values within ±4M a level, so k levels within ±M · 4^k; where that is below 2^31
+-- nothing wraps, and word-lifting is T.800's own.
 -- First for any grid within ±M, then for a map, whose values are within `range k` at level k.
 -- Assumes nothing.
 use mathlib.Core.Path.{_≡_, refl, sym, _∙_}
@@ -20,7 +21,8 @@ use Rattle.wavelet.specs.Levels.{size, approximation, levelBand}
 use Rattle.wavelet.specs.Plane.{planeCell, levelAt}
 use Rattle.wavelet.specs.Maps.{IsMap}
 use Rattle.wavelet.proofs.LimitLaws.{range-last}
-use Rattle.wavelet.proofs.LevelTheory.{OnCells, OnBands, Same, SameBands, subband-same, over, over-same, by-band, bandIn, same-bands, low-all, same-low, plane-at, level-at, plane-reads}
+use Rattle.wavelet.proofs.LevelTheory.{OnCells, OnBands, Same, SameBands, subband-same, over, over-same, by-band, bandIn, same-bands, low-all, same-low}
+use Rattle.wavelet.proofs.LevelTheory.{plane-at, level-at, plane-reads}
 
 -- z is within ±M
 abbrev pub Within : ℕ → ℤ → Type 0
@@ -38,7 +40,8 @@ grows M zero = omega arith
 grows M (suc k) = rw (← grown M k) (omega (arith, grows M k))
 
 -- ---- one level
-columns-range : (M W H : ℕ) (g : Grid) → OnCells (Within M) W H g → (h : Half) (r c : ℕ) → r < count h H → c < W → natAbs (columnsLifted whole H g h r c) ≤ 2 * M
+columns-range : (M W H : ℕ) (g : Grid) → OnCells (Within M) W H g → (h : Half) (r c : ℕ) → r < count h H → c < W →
+    natAbs (columnsLifted whole H g h r c) ≤ 2 * M
 unfolding columnsLifted
 columns-range M W H g w h r c p q = forward-range M H (λ i. g i c) (λ i u. w i c u q) h r p
 
@@ -48,7 +51,8 @@ subband-range M W H g w b r c p q =
     let a = forward-range (2 * M) W (columnsLifted whole H g (down b) r) (λ j u. columns-range M W H g w (down b) r j p u) (across b) c q in
     omega arith
 
-columns-exact : (M W H : ℕ) (g : Grid) → 4 * M < 2 ^ 31 → OnCells (Within M) W H g → (h : Half) (r c : ℕ) → r < count h H → c < W → columnsLifted wrap32 H g h r c ≡ columnsLifted whole H g h r c
+columns-exact : (M W H : ℕ) (g : Grid) → 4 * M < 2 ^ 31 → OnCells (Within M) W H g → (h : Half) (r c : ℕ) → r < count h H → c < W →
+    columnsLifted wrap32 H g h r c ≡ columnsLifted whole H g h r c
 unfolding columnsLifted
 columns-exact M W H g small w h r c p q = forward-exact M H (λ i. g i c) (omega arith) (λ i u. w i c u q) h r p
 
@@ -61,7 +65,8 @@ subband-exact M W H g small w b r c p q =
     (λ j u. columns-range M W H g w (down b) r j p u) (across b) c q
 
 -- the same for two grids that agree, as the levels before leave them
-pub subband-bridge : (M W H : ℕ) (g g′ : Grid) → 4 * M < 2 ^ 31 → OnCells (Within M) W H g′ → Same W H g g′ → SameBands W H (subband wrap32 W H g) (subband whole W H g′)
+pub subband-bridge : (M W H : ℕ) (g g′ : Grid) → 4 * M < 2 ^ 31 → OnCells (Within M) W H g′ → Same W H g g′ →
+    SameBands W H (subband wrap32 W H g) (subband whole W H g′)
 subband-bridge M W H g g′ small w e b r c p q =
     subband-same wrap32 W H g g′ e b r c p q ∙ subband-exact M W H g′ small w b r c p q
 
@@ -98,7 +103,10 @@ module _ (M W H : ℕ) (g : Grid) (within : OnCells (Within M) W H g) where
       (approximation-range k) (approximation-exact k (omega arith))
 
 -- ---- the plane: each coefficient within its level's bound
-bands-range : (M L W H : ℕ) (x : Grid) (p : Band → Grid) → ((r c : ℕ) → r < count lo H → c < count lo W → natAbs (x r c) ≤ 4 * M * 4 ^ levelAt L (count lo W) (count lo H) r c) → OnBands (Within (4 * M)) W H p → (b : Band) (r c : ℕ) → r < count (down b) H → c < count (across b) W → natAbs (over x p b r c) ≤ M * 4 ^ over (λ i j. 1 + levelAt L (count lo W) (count lo H) i j) (λ d i j. 1) b r c
+bands-range : (M L W H : ℕ) (x : Grid) (p : Band → Grid) →
+    ((r c : ℕ) → r < count lo H → c < count lo W → natAbs (x r c) ≤ 4 * M * 4 ^ levelAt L (count lo W) (count lo H) r c) → OnBands (Within (4 * M)) W H p →
+    (b : Band) (r c : ℕ) → r < count (down b) H → c < count (across b) W →
+    natAbs (over x p b r c) ≤ M * 4 ^ over (λ i j. 1 + levelAt L (count lo W) (count lo H) i j) (λ d i j. 1) b r c
 unfolding over across down
 bands-range M L W H x p low one LL r c u v =
     let a = low r c u v in
@@ -108,7 +116,8 @@ bands-range M L W H x p low one HL r c u v = let a = one HL r c u v in omega ari
 bands-range M L W H x p low one LH r c u v = let a = one LH r c u v in omega arith
 bands-range M L W H x p low one HH r c u v = let a = one HH r c u v in omega arith
 
-pub plane-range : (M L W H : ℕ) (g : Grid) → OnCells (Within M) W H g → (r c : ℕ) → r < H → c < W → natAbs (planeCell whole L W H g r c) ≤ M * 4 ^ levelAt L W H r c
+pub plane-range : (M L W H : ℕ) (g : Grid) → OnCells (Within M) W H g → (r c : ℕ) → r < H → c < W →
+    natAbs (planeCell whole L W H g r c) ≤ M * 4 ^ levelAt L W H r c
 unfolding planeCell levelAt bandIn
 plane-range M zero W H g within = λ r c p q. let a = within r c p q in omega arith
 plane-range M (suc L) W H g within =
@@ -126,7 +135,8 @@ plane-exact M (suc L) W H g small within =
     let ih =
     plane-exact (4 * M) L (count lo W) (count lo H) (subband whole W H g LL) s
     (low-all (Within (4 * M)) W H (subband whole W H g) (subband-range M W H g within)) in
-    let low : Same (count lo W) (count lo H) (planeCell wrap32 L (count lo W) (count lo H) (subband wrap32 W H g LL)) (planeCell whole L (count lo W) (count lo H) (subband whole W H g LL)) =
+    let low : Same (count lo W) (count lo H) (planeCell wrap32 L (count lo W) (count lo H) (subband wrap32 W H g LL))
+    (planeCell whole L (count lo W) (count lo H) (subband whole W H g LL)) =
     λ r c p q.
     plane-reads wrap32 L (count lo W) (count lo H) (subband wrap32 W H g LL) (subband whole W H g LL)
     (same-low W H (subband wrap32 W H g) (subband whole W H g) one) r c p q

@@ -1,4 +1,5 @@
--- What a band row reads of the map: rows that are there, and none after row `need`; and where row `need` is there, not the height. So a band row can be made as soon as that row is.
+-- What a band row reads of the map: rows that are there, and none after row `need`; and where row `need` is there, not the height. So a band row can be made
+-- as soon as that row is.
 -- Assumes nothing.
 use mathlib.Core.Path.{_≡_, refl, ap, _∙_}
 use Prim.Native.Nat.{ℕ, zero, suc, _+_, _*_, _^_, _≤_, _<_}
@@ -47,14 +48,16 @@ SameTo W H m g g′ = (i j : ℕ) → i < H → i ≤ m → j < W → g i j ≡ 
 
 -- ---- two maps of one size
 module _ (keep : ℤ → ℤ) (W H : ℕ) (g g′ : Grid) where
-  pub approximation-reads : (k r c : ℕ) → r < size k H → c < size k W → SameTo W H (need k r) g g′ → approximation keep W H g k r c ≡ approximation keep W H g′ k r c
+  pub approximation-reads : (k r c : ℕ) → r < size k H → c < size k W → SameTo W H (need k r) g g′ →
+      approximation keep W H g k r c ≡ approximation keep W H g′ k r c
   unfolding approximation size need across down
   approximation-reads zero r c p q e = e r c p (omega arith) q
   approximation-reads (suc k) r c p q e =
       subband-reads keep (size k W) (size k H) (approximation keep W H g k) (approximation keep W H g′ k) LL r c p q
       (λ i j u v w. approximation-reads k i j u w (λ i′ j′ u′ v′ w′. e i′ j′ u′ (omega (arith, need-up k i (2 * r + 2) v)) w′))
 
-  pub band-reads : (k : ℕ) (b : Band) (r c : ℕ) → r < count (down b) (size k H) → c < count (across b) (size k W) → SameTo W H (need (suc k) r) g g′ → levelBand keep W H g (suc k) b r c ≡ levelBand keep W H g′ (suc k) b r c
+  pub band-reads : (k : ℕ) (b : Band) (r c : ℕ) → r < count (down b) (size k H) → c < count (across b) (size k W) → SameTo W H (need (suc k) r) g g′ →
+      levelBand keep W H g (suc k) b r c ≡ levelBand keep W H g′ (suc k) b r c
   unfolding levelBand need
   band-reads k b r c p q e =
       subband-reads keep (size k W) (size k H) (approximation keep W H g k) (approximation keep W H g′ k) b r c p q
@@ -62,7 +65,8 @@ module _ (keep : ℤ → ℤ) (W H : ℕ) (g g′ : Grid) where
 
 -- ---- one map of two heights that both have row `need`
 -- a level of two grids that agree up to row 2r+2, before the end of both
-subband-local : (keep : ℤ → ℤ) (W H H′ : ℕ) (g g′ : Grid) (b : Band) (r c : ℕ) → c < count (across b) W → 2 * r + 2 < H → 2 * r + 2 < H′ → SameTo W H (2 * r + 2) g g′ → subband keep W H g b r c ≡ subband keep W H′ g′ b r c
+subband-local : (keep : ℤ → ℤ) (W H H′ : ℕ) (g g′ : Grid) (b : Band) (r c : ℕ) → c < count (across b) W → 2 * r + 2 < H → 2 * r + 2 < H′ →
+    SameTo W H (2 * r + 2) g g′ → subband keep W H g b r c ≡ subband keep W H′ g′ b r c
 subband-local keep W H H′ g g′ b r c q h h′ e =
     subband-reads keep W H g g′ b r c (in-half (down b) H r h) q e
     ∙ ap (λ (x : ℕ → ℤ). x c) (subband-inner keep W H H′ g′ b r h h′)
@@ -76,7 +80,8 @@ module _ (keep : ℤ → ℤ) (W H H′ : ℕ) (g : Grid) where
       (need-there k (2 * r + 2) H h) (need-there k (2 * r + 2) H′ h′)
       (λ i j u v w. let up = need-up k i (2 * r + 2) v in approximation-inner k i j w (omega arith) (omega arith))
 
-  pub band-inner : (k : ℕ) (b : Band) (r c : ℕ) → c < count (across b) (size k W) → need (suc k) r < H → need (suc k) r < H′ → levelBand keep W H g (suc k) b r c ≡ levelBand keep W H′ g (suc k) b r c
+  pub band-inner : (k : ℕ) (b : Band) (r c : ℕ) → c < count (across b) (size k W) → need (suc k) r < H → need (suc k) r < H′ →
+      levelBand keep W H g (suc k) b r c ≡ levelBand keep W H′ g (suc k) b r c
   unfolding levelBand need
   band-inner k b r c q h h′ =
       subband-local keep (size k W) (size k H) (size k H′) (approximation keep W H g k) (approximation keep W H′ g k) b r c q
@@ -84,12 +89,14 @@ module _ (keep : ℤ → ℤ) (W H H′ : ℕ) (g : Grid) where
       (λ i j u v w. let up = need-up k i (2 * r + 2) v in approximation-inner k i j w (omega arith) (omega arith))
 
 -- both at once: two maps of one width, whatever comes after row `need`
-pub band-local : (keep : ℤ → ℤ) (W H H′ : ℕ) (g g′ : Grid) (k : ℕ) (b : Band) (r c : ℕ) → c < count (across b) (size k W) → need (suc k) r < H → need (suc k) r < H′ → ((i j : ℕ) → i ≤ need (suc k) r → j < W → g i j ≡ g′ i j) → levelBand keep W H g (suc k) b r c ≡ levelBand keep W H′ g′ (suc k) b r c
+pub band-local : (keep : ℤ → ℤ) (W H H′ : ℕ) (g g′ : Grid) (k : ℕ) (b : Band) (r c : ℕ) → c < count (across b) (size k W) → need (suc k) r < H →
+    need (suc k) r < H′ → ((i j : ℕ) → i ≤ need (suc k) r → j < W → g i j ≡ g′ i j) → levelBand keep W H g (suc k) b r c ≡ levelBand keep W H′ g′ (suc k) b r c
 band-local keep W H H′ g g′ k b r c q h h′ e =
     band-inner keep W H H′ g k b r c q h h′
     ∙ band-reads keep W H′ g g′ k b r c (need-in-half (down b) k r H′ h′) q (λ i j _ v w. e i j v w)
 
-pub approximation-local : (keep : ℤ → ℤ) (W H H′ : ℕ) (g g′ : Grid) (k r c : ℕ) → c < size k W → need k r < H → need k r < H′ → ((i j : ℕ) → i ≤ need k r → j < W → g i j ≡ g′ i j) → approximation keep W H g k r c ≡ approximation keep W H′ g′ k r c
+pub approximation-local : (keep : ℤ → ℤ) (W H H′ : ℕ) (g g′ : Grid) (k r c : ℕ) → c < size k W → need k r < H → need k r < H′ →
+    ((i j : ℕ) → i ≤ need k r → j < W → g i j ≡ g′ i j) → approximation keep W H g k r c ≡ approximation keep W H′ g′ k r c
 approximation-local keep W H H′ g g′ k r c q h h′ e =
     approximation-inner keep W H H′ g k r c q h h′
     ∙ approximation-reads keep W H′ g g′ k r c (need-there k r H′ h′) q (λ i j _ v w. e i j v w)

@@ -1,5 +1,6 @@
 -- The theory of levels, over the definitions of specs/Bands and specs/Plane.
--- A law with any `keep` holds for words and for whole numbers. A law over `K : Keeping keep` asks that the numbers are good, which is "a 32-bit number" for `words` and nothing for `wholes`; its word form stands after it.
+-- A law with any `keep` holds for words and for whole numbers. A law over `K : Keeping keep` asks that the numbers are good, which is "a 32-bit number" for
+-- `words` and nothing for `wholes`; its word form stands after it.
 --     subband-reads, subband-inner, level-back-reads    what one level reads
 --     level-back-forward, level-forward-back            one level is undone, both ways
 --     plane-at, level-at, map-back-at                   the plane, its levels and the way back, band by band
@@ -54,11 +55,13 @@ abbrev pub SameBands : ℕ → ℕ → (Band → Grid) → (Band → Grid) → T
 SameBands W H p q = (b : Band) (r c : ℕ) → r < count (down b) H → c < count (across b) W → p b r c ≡ q b r c
 
 -- ---- what one level reads: cells that are there, of rows up to 2r+2
-pub columns-reads : (keep : ℤ → ℤ) (W H : ℕ) (g g′ : Grid) (h : Half) (r c : ℕ) → r < count h H → c < W → ((i j : ℕ) → i < H → i ≤ 2 * r + 2 → j < W → g i j ≡ g′ i j) → columnsLifted keep H g h r c ≡ columnsLifted keep H g′ h r c
+pub columns-reads : (keep : ℤ → ℤ) (W H : ℕ) (g g′ : Grid) (h : Half) (r c : ℕ) → r < count h H → c < W →
+    ((i j : ℕ) → i < H → i ≤ 2 * r + 2 → j < W → g i j ≡ g′ i j) → columnsLifted keep H g h r c ≡ columnsLifted keep H g′ h r c
 unfolding columnsLifted
 columns-reads keep W H g g′ h r c p q e = forward-reads keep H (λ i. g i c) (λ i. g′ i c) h r p (λ i u v. e i c u v q)
 
-pub subband-reads : (keep : ℤ → ℤ) (W H : ℕ) (g g′ : Grid) (b : Band) (r c : ℕ) → r < count (down b) H → c < count (across b) W → ((i j : ℕ) → i < H → i ≤ 2 * r + 2 → j < W → g i j ≡ g′ i j) → subband keep W H g b r c ≡ subband keep W H g′ b r c
+pub subband-reads : (keep : ℤ → ℤ) (W H : ℕ) (g g′ : Grid) (b : Band) (r c : ℕ) → r < count (down b) H → c < count (across b) W →
+    ((i j : ℕ) → i < H → i ≤ 2 * r + 2 → j < W → g i j ≡ g′ i j) → subband keep W H g b r c ≡ subband keep W H g′ b r c
 unfolding subband
 subband-reads keep W H g g′ b r c p q e =
     forward-reads keep W (columnsLifted keep H g (down b) r) (columnsLifted keep H g′ (down b) r) (across b) c q
@@ -68,7 +71,8 @@ pub subband-same : (keep : ℤ → ℤ) (W H : ℕ) (g g′ : Grid) → Same W H
 subband-same keep W H g g′ e b r c p q = subband-reads keep W H g g′ b r c p q (λ i j u _ v. e i j u v)
 
 -- away from the end of the columns it does not see the height
-pub subband-inner : (keep : ℤ → ℤ) (W H H′ : ℕ) (g : Grid) (b : Band) (r : ℕ) → 2 * r + 2 < H → 2 * r + 2 < H′ → subband keep W H g b r ≡ subband keep W H′ g b r
+pub subband-inner : (keep : ℤ → ℤ) (W H H′ : ℕ) (g : Grid) (b : Band) (r : ℕ) → 2 * r + 2 < H → 2 * r + 2 < H′ →
+    subband keep W H g b r ≡ subband keep W H′ g b r
 unfolding subband columnsLifted
 subband-inner keep W H H′ g b r p q =
     ap (λ (x : ℕ → ℤ). lineForward keep W x (across b)) (fun-ext λ c. forward-inner keep H H′ (λ i. g i c) (down b) r p q)
@@ -105,14 +109,16 @@ module _ {keep : ℤ → ℤ} (K : Keeping keep) where
       back-good K H (λ h i. rowsUnlifted keep W p h i c) (λ h i s. rows-good W H p good h i c s v) r u
 
   -- the rows of the bands, lifted back, are the lifted columns
-  rows-columns : (W H : ℕ) (g : Grid) → OnCells Good W H g → (h : Half) (r c : ℕ) → r < count h H → c < W → rowsUnlifted keep W (subband keep W H g) h r c ≡ columnsLifted keep H g h r c
+  rows-columns : (W H : ℕ) (g : Grid) → OnCells Good W H g → (h : Half) (r c : ℕ) → r < count h H → c < W →
+      rowsUnlifted keep W (subband keep W H g) h r c ≡ columnsLifted keep H g h r c
   unfolding rowsUnlifted subband
   rows-columns W H g good h r c p q =
       ap (λ (x : Half → ℕ → ℤ). lineBack keep W x c)
       (fun-ext λ a. rw (down-of a h, across-of a h) refl)
       ∙ line-back-forward K W (columnsLifted keep H g h r) (λ j u. columns-good W H g good h r j p u) c q
 
-  columns-rows : (W H : ℕ) (p : Band → Grid) → OnBands Good W H p → (h : Half) (r c : ℕ) → r < count h H → c < W → columnsLifted keep H (levelBack keep W H p) h r c ≡ rowsUnlifted keep W p h r c
+  columns-rows : (W H : ℕ) (p : Band → Grid) → OnBands Good W H p → (h : Half) (r c : ℕ) → r < count h H → c < W →
+      columnsLifted keep H (levelBack keep W H p) h r c ≡ rowsUnlifted keep W p h r c
   unfolding columnsLifted levelBack
   columns-rows W H p good h r c u v =
       line-forward-back K H (λ y i. rowsUnlifted keep W p y i c) (λ y i s. rows-good W H p good y i c s v) h r u
@@ -143,7 +149,8 @@ level-back-fits = level-back-good words
 pub words-back-forward : (W H : ℕ) (g : Grid) → OnCells (SFits w32) W H g → (r c : ℕ) → r < H → c < W → levelBack wrap32 W H (subband wrap32 W H g) r c ≡ g r c
 words-back-forward = level-back-forward words
 
-pub words-forward-back : (W H : ℕ) (p : Band → Grid) → OnBands (SFits w32) W H p → (b : Band) (r c : ℕ) → r < count (down b) H → c < count (across b) W → subband wrap32 W H (levelBack wrap32 W H p) b r c ≡ p b r c
+pub words-forward-back : (W H : ℕ) (p : Band → Grid) → OnBands (SFits w32) W H p → (b : Band) (r c : ℕ) → r < count (down b) H → c < count (across b) W →
+    subband wrap32 W H (levelBack wrap32 W H p) b r c ≡ p b r c
 words-forward-back = level-forward-back words
 
 -- ---- the plane, band by band
@@ -169,7 +176,8 @@ by-half N P f i p =
     ]
 
 -- and every cell of the plane the cell of a band
-pub by-band : (W H : ℕ) (P : ℕ → ℕ → Type 0) → ((b : Band) (r c : ℕ) → r < count (down b) H → c < count (across b) W → P (placed (down b) H r) (placed (across b) W c)) → (r c : ℕ) → r < H → c < W → P r c
+pub by-band : (W H : ℕ) (P : ℕ → ℕ → Type 0) → ((b : Band) (r c : ℕ) → r < count (down b) H → c < count (across b) W →
+    P (placed (down b) H r) (placed (across b) W c)) → (r c : ℕ) → r < H → c < W → P r c
 by-band W H P f r c p q =
     by-half H (λ i. P i c)
     (λ h n u. by-half W (P (placed h H n)) (λ a m v. at a h n m (f (bandOf a h) n m (rw (down-of a h) u) (rw (across-of a h) v))) c q) r p
@@ -191,7 +199,8 @@ bandIn W H x b r c = x (placed (down b) H r) (placed (across b) W c)
 
 module _ (keep : ℤ → ℤ) (L W H : ℕ) where
   -- level 1 of the plane: its three bands, and in the low-low corner the plane of the low-low part
-  pub plane-at : (g : Grid) → SameBands W H (bandIn W H (planeCell keep (suc L) W H g)) (over (planeCell keep L (count lo W) (count lo H) (subband keep W H g LL)) (subband keep W H g))
+  pub plane-at : (g : Grid) → SameBands W H (bandIn W H (planeCell keep (suc L) W H g))
+      (over (planeCell keep L (count lo W) (count lo H) (subband keep W H g LL)) (subband keep W H g))
   unfolding bandIn planeCell over placed halfAt placeIn across down bandOf
   plane-at g LL r c p q = simp (lt-ltb r (count lo H) p, lt-ltb c (count lo W) q)
   plane-at g HL r c p q =
@@ -209,7 +218,8 @@ module _ (keep : ℤ → ℤ) (L W H : ℕ) where
   unfolding mapBack over bandIn placed across down
   map-back-at x = ap (levelBack keep W H) (fun-ext λ b. elim b [ LL ↦ refl | HL ↦ refl | LH ↦ refl | HH ↦ refl ])
 
-pub level-at : (L W H : ℕ) (b : Band) (r c : ℕ) → r < count (down b) H → c < count (across b) W → levelAt (suc L) W H (placed (down b) H r) (placed (across b) W c) ≡ over (λ i j. 1 + levelAt L (count lo W) (count lo H) i j) (λ d i j. 1) b r c
+pub level-at : (L W H : ℕ) (b : Band) (r c : ℕ) → r < count (down b) H → c < count (across b) W →
+    levelAt (suc L) W H (placed (down b) H r) (placed (across b) W c) ≡ over (λ i j. 1 + levelAt L (count lo W) (count lo H) i j) (λ d i j. 1) b r c
 unfolding levelAt over placed across down
 level-at L W H LL r c p q = simp (lt-ltb r (count lo H) p, lt-ltb c (count lo W) q)
 level-at L W H HL r c p q = simp (lt-ltb r (count lo H) p, le-ltb (count lo W + c) (count lo W) (omega arith))
@@ -271,7 +281,8 @@ pub same-bands : (W H : ℕ) (x y : Grid) → SameBands W H (bandIn W H x) (band
 unfolding bandIn
 same-bands W H x y = by-band W H (λ r c. x r c ≡ y r c)
 
-pub plane-corner : (keep : ℤ → ℤ) (L W H : ℕ) (g : Grid) → Same (count lo W) (count lo H) (planeCell keep (suc L) W H g) (planeCell keep L (count lo W) (count lo H) (subband keep W H g LL))
+pub plane-corner : (keep : ℤ → ℤ) (L W H : ℕ) (g : Grid) →
+    Same (count lo W) (count lo H) (planeCell keep (suc L) W H g) (planeCell keep L (count lo W) (count lo H) (subband keep W H g LL))
 unfolding bandIn over placed across down
 plane-corner keep L W H g = plane-at keep L W H g LL
 
@@ -323,7 +334,8 @@ module _ {keep : ℤ → ℤ} (K : Keeping keep) where
       let ll = subband keep W H g LL in
       let ih = map-back-plane L (count lo W) (count lo H) ll (low-all Good W H (subband keep W H g) (subband-good K W H g good)) in
       let low : Same (count lo W) (count lo H) (mapBack keep L (count lo W) (count lo H) x) ll =
-      λ r c p q. map-back-reads keep L (count lo W) (count lo H) x (planeCell keep L (count lo W) (count lo H) ll) (plane-corner keep L W H g) r c p q ∙ ih r c p q in
+      λ r c p q. map-back-reads keep L (count lo W) (count lo H) x (planeCell keep L (count lo W) (count lo H) ll) (plane-corner keep L W H g) r c p q ∙
+      ih r c p q in
       let bands : SameBands W H (over (mapBack keep L (count lo W) (count lo H) x) (bandIn W H x)) (subband keep W H g) =
       λ b r c p q.
       over-same W H _ _ _ _ low (plane-at keep L W H g) b r c p q
@@ -334,12 +346,14 @@ module _ {keep : ℤ → ℤ} (K : Keeping keep) where
       ∙ level-back-forward K W H g good r c p q
 
   -- the bands of the grid that a plane gives: those that stand in it
-  pub bands-map-back : (L W H : ℕ) (x : Grid) → OnCells Good W H x → SameBands W H (subband keep W H (mapBack keep (suc L) W H x)) (over (mapBack keep L (count lo W) (count lo H) x) (bandIn W H x))
+  pub bands-map-back : (L W H : ℕ) (x : Grid) → OnCells Good W H x →
+      SameBands W H (subband keep W H (mapBack keep (suc L) W H x)) (over (mapBack keep L (count lo W) (count lo H) x) (bandIn W H x))
   bands-map-back L W H x good =
       let rest = map-back-good L (count lo W) (count lo H) x (corner Good W H x good) in
       rw (map-back-at keep L W H x) (level-forward-back K W H _ (over-all Good W H _ _ rest (in-bands Good W H x good)))
 
-  pub low-map-back : (L W H : ℕ) (x : Grid) → OnCells Good W H x → Same (count lo W) (count lo H) (subband keep W H (mapBack keep (suc L) W H x) LL) (mapBack keep L (count lo W) (count lo H) x)
+  pub low-map-back : (L W H : ℕ) (x : Grid) → OnCells Good W H x →
+      Same (count lo W) (count lo H) (subband keep W H (mapBack keep (suc L) W H x) LL) (mapBack keep L (count lo W) (count lo H) x)
   unfolding over
   low-map-back L W H x good = same-low W H (subband keep W H (mapBack keep (suc L) W H x)) _ (bands-map-back L W H x good)
 
@@ -361,7 +375,8 @@ module _ {keep : ℤ → ℤ} (K : Keeping keep) where
       ∙ ap (λ (f : Grid). f r c) (over-band W H x (mapBack keep L (count lo W) (count lo H) x) b))
 
   -- so grids with the same plane are the same
-  pub plane-unique : (L W H : ℕ) (g g′ : Grid) → OnCells Good W H g → OnCells Good W H g′ → Same W H (planeCell keep L W H g) (planeCell keep L W H g′) → Same W H g g′
+  pub plane-unique : (L W H : ℕ) (g g′ : Grid) → OnCells Good W H g → OnCells Good W H g′ → Same W H (planeCell keep L W H g) (planeCell keep L W H g′) →
+      Same W H g g′
   plane-unique L W H g g′ good good′ e r c p q =
       sym (map-back-plane L W H g good r c p q)
       ∙ map-back-reads keep L W H _ _ e r c p q
@@ -374,11 +389,14 @@ plane-fits = plane-good words
 pub map-back-fits : (L W H : ℕ) (x : Grid) → OnCells (SFits w32) W H x → OnCells (SFits w32) W H (mapBack wrap32 L W H x)
 map-back-fits = map-back-good words
 
-pub words-map-back-plane : (L W H : ℕ) (g : Grid) → OnCells (SFits w32) W H g → (r c : ℕ) → r < H → c < W → mapBack wrap32 L W H (planeCell wrap32 L W H g) r c ≡ g r c
+pub words-map-back-plane : (L W H : ℕ) (g : Grid) → OnCells (SFits w32) W H g → (r c : ℕ) → r < H → c < W →
+    mapBack wrap32 L W H (planeCell wrap32 L W H g) r c ≡ g r c
 words-map-back-plane = map-back-plane words
 
-pub words-plane-map-back : (L W H : ℕ) (x : Grid) → OnCells (SFits w32) W H x → (r c : ℕ) → r < H → c < W → planeCell wrap32 L W H (mapBack wrap32 L W H x) r c ≡ x r c
+pub words-plane-map-back : (L W H : ℕ) (x : Grid) → OnCells (SFits w32) W H x → (r c : ℕ) → r < H → c < W →
+    planeCell wrap32 L W H (mapBack wrap32 L W H x) r c ≡ x r c
 words-plane-map-back = plane-map-back words
 
-pub words-plane-unique : (L W H : ℕ) (g g′ : Grid) → OnCells (SFits w32) W H g → OnCells (SFits w32) W H g′ → Same W H (planeCell wrap32 L W H g) (planeCell wrap32 L W H g′) → Same W H g g′
+pub words-plane-unique : (L W H : ℕ) (g g′ : Grid) → OnCells (SFits w32) W H g → OnCells (SFits w32) W H g′ →
+    Same W H (planeCell wrap32 L W H g) (planeCell wrap32 L W H g′) → Same W H g g′
 words-plane-unique = plane-unique words

@@ -25,7 +25,8 @@ use Rattle.wavelet.specs.Limits.{maxLevels, maxSample, range}
 use Rattle.wavelet.specs.Bands.{Grid, LL, subband}
 use Rattle.wavelet.specs.Plane.{planeCell, levelAt, mapBack}
 use Rattle.wavelet.specs.Maps.{IsMap, HasPlane, every, everyCell, inRange, valueFits, rebuiltFits}
-use Rattle.wavelet.proofs.LevelTheory.{OnCells, Same, low-all, same-low, same-corner, plane-corner, plane-reads, map-back-reads, words-map-back-plane, words-plane-map-back}
+use Rattle.wavelet.proofs.LevelTheory.{OnCells, Same, low-all, same-low, same-corner, plane-corner, plane-reads, map-back-reads, words-map-back-plane}
+use Rattle.wavelet.proofs.LevelTheory.{words-plane-map-back}
 use Rattle.wavelet.proofs.Bridge.{Within, subband-range, subband-exact, range-suc, range-small, map-height, map-fits, map-plane, map-plane-range}
 
 -- ---- a test of every cell
@@ -81,7 +82,8 @@ rebuilt-reads k (suc L) W H x y e =
     )
 
 -- ---- question 14, for a grid whose values fit at level k and that has the plane x
-pub rebuilt-yes : (k L W H : ℕ) (g x : Grid) → k + L ≤ maxLevels → OnCells (λ v. valueFits k v ≡ true) W H g → Same W H x (planeCell wrap32 L W H g) → rebuiltFits k L W H x ≡ true
+pub rebuilt-yes : (k L W H : ℕ) (g x : Grid) → k + L ≤ maxLevels → OnCells (λ v. valueFits k v ≡ true) W H g → Same W H x (planeCell wrap32 L W H g) →
+    rebuiltFits k L W H x ≡ true
 unfolding rebuiltFits
 rebuilt-yes k zero W H g x h fit e = refl
 rebuilt-yes k (suc L) W H g x h fit e =
@@ -172,7 +174,8 @@ both-no true true = (λ e h. subst T e tt, λ h. absurd (h (refl, refl)))
 both-no true false = (λ e h. subst T (sym (h .1)) tt, λ h. refl)
 both-no false b = (λ e h. subst T (sym (h .0)) tt, λ h. refl)
 
-pub no-map : (L W H : ℕ) (x : Grid) → 1 ≤ L → L ≤ maxLevels → pick (inRange L W H x) (rebuiltFits 0 L W H x) false ≡ false ↔ ((g : Grid) → HasPlane L W H g x → ⊥)
+pub no-map : (L W H : ℕ) (x : Grid) → 1 ≤ L → L ≤ maxLevels →
+    pick (inRange L W H x) (rebuiltFits 0 L W H x) false ≡ false ↔ ((g : Grid) → HasPlane L W H g x → ⊥)
 no-map L W H x some few =
     let asked = both-no (inRange L W H x) (rebuiltFits 0 L W H x) in
     let maps = some-map L W H x some few in
@@ -193,7 +196,8 @@ pub own-plane : (L W H : ℕ) (g : Grid) → L ≤ maxLevels → IsMap W H g →
 own-plane L W H g few m = record { map = m; coefficients = map-plane W H g m L few }
 
 -- the way back gives the map, with both questions answered yes, exactly where the plane is that map's
-pub back-exactly : (L W H : ℕ) (g x : Grid) → 1 ≤ L → L ≤ maxLevels → HasPlane L W H g x ↔ (inRange L W H x ≡ true) × (rebuiltFits 0 L W H x ≡ true) × Same W H (mapBack wrap32 L W H x) g
+pub back-exactly : (L W H : ℕ) (g x : Grid) → 1 ≤ L → L ≤ maxLevels → HasPlane L W H g x ↔ (inRange L W H x ≡ true) × (rebuiltFits 0 L W H x ≡ true) ×
+    Same W H (mapBack wrap32 L W H x) g
 back-exactly L W H g x some few = (
   λ has. (plane-in-range L W H g x few has, plane-rebuilt L W H g x few has, plane-back L W H g x few has),
   λ h. same-plane L W H (mapBack wrap32 L W H x) g x x (h .2) (λ r c p q. refl)

@@ -117,7 +117,8 @@ module _ (l k w : ℕ) where
       each hi n p = rows-odd n ∙ ap (λ i. inTurn i off) (omega (arith, count-lo (2 * n + 1)))
 
   -- and the finish makes the last
-  pub map-made : (H : ℕ) → 0 < H → inTurn H (madeBy (suc l) k w) ++ closing (suc l) k w H ≡ inTurn (count lo H) (makes l k w H) ++ closing l (suc k) (count lo w) (count lo H)
+  pub map-made : (H : ℕ) → 0 < H → inTurn H (madeBy (suc l) k w) ++ closing (suc l) k w H ≡ inTurn (count lo H) (makes l k w H) ++ closing l (suc k)
+      (count lo w) (count lo H)
   unfolding closing inTurn
   map-made H h =
       let n = count lo H - 1 in

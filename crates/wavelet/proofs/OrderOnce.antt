@@ -128,7 +128,9 @@ module _ (k w m n : ℕ) where
   rows-times b [] = refl
   rows-times b (c ∷ bs) = go (hasRow w m c n) (rows-times b bs)
     where
-      go : (t : Bool) → weigh (hit (rowName k b n)) (rowsOf k w m n bs) ≡ among b bs → weigh (hit (rowName k b n)) (pick t (rowName k c n ∷ rowsOf k w m n bs) (rowsOf k w m n bs)) ≡ pick t (pick (eqb (code b) (code c)) 1 0) 0 + among b bs
+      go : (t : Bool) → weigh (hit (rowName k b n)) (rowsOf k w m n bs) ≡ among b bs →
+          weigh (hit (rowName k b n)) (pick t (rowName k c n ∷ rowsOf k w m n bs) (rowsOf k w m n bs)) ≡ pick t (pick (eqb (code b) (code c)) 1 0) 0 + among b
+          bs
       go true h = ap₂ (λ s i. pick s 1 0 + i) (same-band k n b c) h
       go false h = omega arith
 
@@ -163,7 +165,8 @@ has-none w m b n h = simp (le-ltb n (count (down b) m) (past (down b))) (go (ltb
     go true = refl
     go false = refl
 
-level-times : (l k w m : ℕ) (b : Band) (n : ℕ) → weigh (hit (rowName k b n)) (inTurn (count lo m) (setRows l k w m)) ≡ pick (both (out l b) (hasRow w m b n)) 1 0
+level-times : (l k w m : ℕ) (b : Band) (n : ℕ) → weigh (hit (rowName k b n)) (inTurn (count lo m) (setRows l k w m)) ≡ pick (both (out l b) (hasRow w m b n)) 1
+    0
 level-times l k w m b n =
     elim (decLt n (count lo m)) [
       | yes p ↦ weigh-one (hit (rowName k b n)) (count lo m) (setRows l k w m) n p (λ i e. another i (λ z. e (sym z))) ∙ set-times k w m n l b
@@ -260,4 +263,5 @@ made-once W L H h x = times-weigh x _ ∙ whole-map (hit x) L 1 W H h ∙ go (x 
   where
     go : (v : ℕ) (b : Band) (n : ℕ) → weigh (hit (rowName v b n)) (byLevels L 1 W H) ≡ pick (bandRowExists W H L v b n) 1 0
     go zero b n = levels-before (rowName 0 b n) L 1 W H (omega arith) ∙ sym (ap (λ t. pick t 1 0) (exists-zero W H L b n))
-    go (suc j) b n = ap (λ v. weigh (hit (rowName v b n)) (byLevels L 1 W H)) (omega arith) ∙ levels-times L 1 W H j b n ∙ ap (λ t. pick t 1 0) (kept-is L j W H b n)
+    go (suc j) b n = ap (λ v. weigh (hit (rowName v b n)) (byLevels L 1 W H)) (omega arith) ∙ levels-times L 1 W H j b n ∙
+        ap (λ t. pick t 1 0) (kept-is L j W H b n)

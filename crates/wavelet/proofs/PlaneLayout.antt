@@ -36,7 +36,8 @@ beside HH = true
 not-LL : (b : Band) → beside b ≡ true → b ≡ LL → ⊥
 not-LL b h e = let z : _≡_ {A = ℕ} 0 1 = cc (ap beside e) in omega arith
 
-corner-out : (W H : ℕ) (b : Band) (r c : ℕ) → beside b ≡ true → r < count (down b) H → c < count (across b) W → corner W H (offset (down b) 1 H + r) (offset (across b) 1 W + c) ≡ false
+corner-out : (W H : ℕ) (b : Band) (r c : ℕ) → beside b ≡ true → r < count (down b) H → c < count (across b) W →
+    corner W H (offset (down b) 1 H + r) (offset (across b) 1 W + c) ≡ false
 unfolding down across
 corner-out W H LL r c h p q = absurd (not-LL LL h refl)
 corner-out W H HL r c h p q = rw (low-test H r lo p, low-test W c hi q)
@@ -65,7 +66,8 @@ cell-none : (keep : ℤ → ℤ) (W H : ℕ) (g : Grid) (r c : ℕ) → planeCel
 unfolding planeCell
 cell-none keep W H g r c = refl
 
-cell-LL : (keep : ℤ → ℤ) (L W H : ℕ) (g : Grid) (r c : ℕ) → r < count lo H → c < count lo W → L ≡ 0 → planeCell keep (suc L) W H g r c ≡ subband keep W H g LL r c
+cell-LL : (keep : ℤ → ℤ) (L W H : ℕ) (g : Grid) (r c : ℕ) → r < count lo H → c < count lo W → L ≡ 0 →
+    planeCell keep (suc L) W H g r c ≡ subband keep W H g LL r c
 cell-LL keep L W H g r c p q e =
     cell-in keep L W H g r c (corner-in W H r c p q)
     ∙ ap (λ (l : ℕ). planeCell keep l (count lo W) (count lo H) (subband keep W H g LL) r c) e
@@ -89,7 +91,8 @@ cell-first keep L W H g HL r c p q l = cell-beside keep L W H g HL r c refl p q
 cell-first keep L W H g LH r c p q l = cell-beside keep L W H g LH r c refl p q
 cell-first keep L W H g HH r c p q l = cell-beside keep L W H g HH r c refl p q
 
-cell-is : (keep : ℤ → ℤ) (k L W H : ℕ) (g : Grid) (b : Band) (r c : ℕ) → k < L → (b ≡ LL → suc k ≡ L) → r < extent (down b) (suc k) H → c < extent (across b) (suc k) W →
+cell-is : (keep : ℤ → ℤ) (k L W H : ℕ) (g : Grid) (b : Band) (r c : ℕ) → k < L → (b ≡ LL → suc k ≡ L) → r < extent (down b) (suc k) H →
+    c < extent (across b) (suc k) W →
     planeCell keep L W H g (offset (down b) (suc k) H + r) (offset (across b) (suc k) W + c) ≡ levelBand keep W H g (suc k) b r c
 cell-is keep k zero W H g b r c h l p q = absurd (omega arith)
 cell-is keep zero (suc L) W H g b r c h l p q =
@@ -174,7 +177,8 @@ pub row-in : (L W H k : ℕ) (b : Band) (r c : ℕ) → Stands L W H k b r c →
 row-in L W H k b r c s = omega (arith, rows-in W H k b (s .deep), s .row)
 
 module _ (keep : ℤ → ℤ) (L W H : ℕ) (g : Grid) where
-  pub cell-places : (k : ℕ) (b : Band) (r c : ℕ) → Stands L W H k b r c → planeCell keep L W H g (planeRow H k b r) (planeColumn W k b c) ≡ levelBand keep W H g k b r c
+  pub cell-places : (k : ℕ) (b : Band) (r c : ℕ) → Stands L W H k b r c →
+      planeCell keep L W H g (planeRow H k b r) (planeColumn W k b c) ≡ levelBand keep W H g k b r c
   unfolding bandRows bandColumns
   cell-places zero b r c s = absurd (omega (arith, s .deep))
   cell-places (suc k) b r c s = cell-is keep k L W H g b r c (s .most) (s .last) (s .row) (s .column)

@@ -15,7 +15,8 @@ use Rattle.wavelet.proofs.BandPlaces.{band-of}
 use Rattle.wavelet.proofs.PlaneLayout.{Stands, planeRow, planeColumn, place-is, column-in, level-places}
 
 -- ---- exactly one: two kept places that are one place of the plane are one
-pub place-once : (L W H k k′ : ℕ) (b b′ : Band) (r r′ c c′ : ℕ) → Stands L W H k b r c → Stands L W H k′ b′ r′ c′ → bandStart W H k b r + c ≡ bandStart W H k′ b′ r′ + c′ → (k ≡ k′) × (b ≡ b′) × (r ≡ r′) × (c ≡ c′)
+pub place-once : (L W H k k′ : ℕ) (b b′ : Band) (r r′ c c′ : ℕ) → Stands L W H k b r c → Stands L W H k′ b′ r′ c′ →
+    bandStart W H k b r + c ≡ bandStart W H k′ b′ r′ + c′ → (k ≡ k′) × (b ≡ b′) × (r ≡ r′) × (c ≡ c′)
 unfolding bandRows bandColumns
 place-once L W H k k′ b b′ r r′ c c′ s t e =
     let apart =

@@ -67,7 +67,8 @@ module _ (N i : ℕ) where
   place-in hi p = rw (low-test hi p) (omega arith)
 
 -- ---- a place of a side is in one half of a level
-pub one-half : (h h′ : Half) (k k′ N i i′ : ℕ) → 0 < k → k ≡ k′ → i < extent h k N → i′ < extent h′ k′ N → offset h k N + i ≡ offset h′ k′ N + i′ → (h ≡ h′) × (i ≡ i′)
+pub one-half : (h h′ : Half) (k k′ N i i′ : ℕ) → 0 < k → k ≡ k′ → i < extent h k N → i′ < extent h′ k′ N → offset h k N + i ≡ offset h′ k′ N + i′ → (h ≡ h′) ×
+    (i ≡ i′)
 unfolding offset
 one-half lo lo k k′ N i i′ p e a b d = (refl, omega arith)
 one-half hi hi k k′ N i i′ p e a b d = (refl, omega (arith, ap (λ (x : ℕ). size x N) e))

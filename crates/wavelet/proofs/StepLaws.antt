@@ -1,4 +1,5 @@
--- The reader's steps have every band row that the plane of a map keeps exactly once, and no other (`steps-once`), and every height row once, in order (`steps-heights`).
+-- The reader's steps have every band row that the plane of a map keeps exactly once, and no other (`steps-once`), and every height row once, in order
+-- (`steps-heights`).
 -- By weights: whatever the names weigh, the steps weigh what the writer's order weighs. Assumes nothing.
 use mathlib.Core.Bool.{Bool, true, false}
 use mathlib.Core.Path.{_≡_, refl, sym, ap, ap₂, _∙_}
@@ -79,7 +80,9 @@ module _ (h : ℕ) (f : ℕ → List Step) where
       opened e = sym (ap (λ i. inTurn i f) (next ∙ ap suc e) ∙ turn-suc ((r + 1) / 2) f)
 
       one : r ≡ 0 → inTurn (setsBefore h (suc r)) f ≡ inTurn (setsBefore h 0) f ++ f 0
-      one e = let z : min ((r + 1) / 2) (count lo h - 1) ≡ 0 = omega arith in ap (λ i. inTurn i f) (next ∙ ap suc z) ∙ turn-suc 0 f ∙ ap (λ i. inTurn i f ++ f 0) (sym (before-zero h))
+      one e =
+          let z : min ((r + 1) / 2) (count lo h - 1) ≡ 0 = omega arith in
+          ap (λ i. inTurn i f) (next ∙ ap suc z) ∙ turn-suc 0 f ∙ ap (λ i. inTurn i f ++ f 0) (sym (before-zero h))
 
   opened : (r : ℕ) → r ≤ h → inTurn r (rowSteps h f) ≡ inTurn (setsBefore h r) f
   unfolding inTurn
@@ -110,7 +113,8 @@ set-last : (k w h n : ℕ) → bandRowsOf (setSteps 0 k w h n) ≡ setRows 0 k w
 unfolding setSteps
 set-last k w h n = rows-fed (setRows 0 k w h n)
 
-set-on : (l k w h n : ℕ) → bandRowsOf (setSteps (suc l) k w h n) ≡ bandRowsOf (rowSteps (count lo h) (setSteps l (suc k) (count lo w) (count lo h)) n) ++ setRows (suc l) k w h n
+set-on : (l k w h n : ℕ) → bandRowsOf (setSteps (suc l) k w h n) ≡ bandRowsOf (rowSteps (count lo h) (setSteps l (suc k) (count lo w) (count lo h)) n) ++
+    setRows (suc l) k w h n
 unfolding setSteps
 set-on l k w h n =
     rows-append (rowSteps (count lo h) (setSteps l (suc k) (count lo w) (count lo h)) n) _
@@ -132,7 +136,8 @@ module _ (v : RowName → ℕ) where
   weigh-same (suc n) g h e = simp (weigh-append v) (ap₂ _+_ (weigh-same n g h e) (ap (weigh v) (e n)))
 
   -- what the sets of a level set off weighs what the order has of the level and of those below it
-  level-weighs : (l k w h : ℕ) → 0 < h → weigh v (inTurn (count lo h) (λ n. bandRowsOf (setSteps l k w h n))) ≡ weigh v (inTurn h (madeBy (suc l) k w) ++ closing (suc l) k w h)
+  level-weighs : (l k w h : ℕ) → 0 < h → weigh v (inTurn (count lo h) (λ n. bandRowsOf (setSteps l k w h n))) ≡ weigh v
+      (inTurn h (madeBy (suc l) k w) ++ closing (suc l) k w h)
   level-weighs zero k w h p =
       weigh-same N _ (setRows 0 k w h) (set-last k w h)
       ∙ sym (ap (weigh v) (map-made 0 k w h p)
@@ -152,7 +157,9 @@ module _ (v : RowName → ℕ) where
   level-weighs (suc l) k w h p =
       weigh-same N _ (λ n. bandRowsOf (rowSteps (count lo h) (setSteps l (suc k) (count lo w) (count lo h)) n) ++ setRows (suc l) k w h n) (set-on l k w h)
       ∙ weigh-both N (λ n. bandRowsOf (rowSteps (count lo h) (setSteps l (suc k) (count lo w) (count lo h)) n)) (setRows (suc l) k w h)
-      ∙ ap (λ i. i + weigh v (inTurn N (setRows (suc l) k w h))) (ap (weigh v) (sym (rows-turn N _) ∙ ap bandRowsOf (opened-all N (setSteps l (suc k) (count lo w) N) (count-positive h p)) ∙ rows-turn _ _) ∙ level-weighs l (suc k) (count lo w) (count lo h) (count-positive h p) ∙ weigh-append v (inTurn N (madeBy (suc l) (suc k) (count lo w))) _)
+      ∙ ap (λ i. i + weigh v (inTurn N (setRows (suc l) k w h)))
+      (ap (weigh v) (sym (rows-turn N _) ∙ ap bandRowsOf (opened-all N (setSteps l (suc k) (count lo w) N) (count-positive h p)) ∙ rows-turn _ _) ∙
+      level-weighs l (suc k) (count lo w) (count lo h) (count-positive h p) ∙ weigh-append v (inTurn N (madeBy (suc l) (suc k) (count lo w))) _)
       ∙ sym (ap (weigh v) (map-made (suc l) k w h p)
       ∙ weigh-append v (inTurn N (makes (suc l) k w h)) _
       ∙ ap (λ i. i + weigh v (closing (suc l) (suc k) (count lo w) (count lo h))) (weigh-both N (setRows (suc l) k w h) (madeBy (suc l) (suc k) (count lo w)))
@@ -211,7 +218,8 @@ unfolding setSteps
 set-heights zero k w h n = heights-fed (setRows 0 k w h n)
 set-heights (suc l) k w h n =
     heights-append (rowSteps (count lo h) (setSteps l (suc k) (count lo w) (count lo h)) n) _
-    ∙ ap₂ _++_ (row-heights (count lo h) (setSteps l (suc k) (count lo w) (count lo h)) (set-heights l (suc k) (count lo w) (count lo h)) n) (heights-fed (setRows (suc l) k w h n))
+    ∙ ap₂ _++_ (row-heights (count lo h) (setSteps l (suc k) (count lo w) (count lo h)) (set-heights l (suc k) (count lo w) (count lo h)) n)
+    (heights-fed (setRows (suc l) k w h n))
 
 turn-heights : (n : ℕ) (f : ℕ → List Step) → ((r : ℕ) → heightRowsOf (f r) ≡ r ∷ []) → heightRowsOf (inTurn n f) ≡ inTurn n (λ r. r ∷ [])
 unfolding inTurn heightRowsOf

@@ -144,12 +144,15 @@ module _ (W H L k : ℕ) (b : Band) (r : ℕ) where
   unfolding stretchOf viewStart viewLength
   stretch-at = rw (named-at b (λ a. bandRowExists W H L k a r) false, named-at b (λ a. bandStart W H k a r) 0, named-at b (bandColumns W k) 0)
 
-  kept-is : within 1 L k ≡ true → keptAt L k b ≡ true → keptSpan r (bandRows H k b) (bandStart W H k b r) (bandColumns W k b) ≡ pick (bandRowExists W H L k b r) (At (bandStart W H k b r) (bandColumns W k b)) (Refused 6)
+  kept-is : within 1 L k ≡ true → keptAt L k b ≡ true →
+      keptSpan r (bandRows H k b) (bandStart W H k b r) (bandColumns W k b) ≡ pick (bandRowExists W H L k b r) (At (bandStart W H k b r) (bandColumns W k b))
+      (Refused 6)
   unfolding keptSpan
   kept-is e d = rw (exists-is e d)
 
   -- an arm of the match: what it chose is the band's
-  pub arm : (c rows start n : ℕ) → c ≡ code b → within 1 L k ≡ true → keptAt L k b ≡ true → rows ≡ bandRows H k b → start ≡ bandStart W H k b r → n ≡ bandColumns W k b → keptSpan r rows start n ≡ stretchOf W H L k c r
+  pub arm : (c rows start n : ℕ) → c ≡ code b → within 1 L k ≡ true → keptAt L k b ≡ true → rows ≡ bandRows H k b → start ≡ bandStart W H k b r →
+      n ≡ bandColumns W k b → keptSpan r rows start n ≡ stretchOf W H L k c r
   arm c rows start n e l d er es en =
       ap (λ (x : ℕ). keptSpan r x start n) er
       ∙ ap (λ (x : ℕ). keptSpan r (bandRows H k b) x n) es
@@ -166,7 +169,8 @@ pub product : (a b : ℕ) → a ≤ 2 * maxHeight → b ≤ maxWidth → a * b �
 product a b h g = mul-le-mul {n₁ = a} {m₁ = b} {n₂ = 2 ^ 33} {m₂ = 2 ^ 16} (omega (arith, height-small)) (omega (arith, width-small))
 
 -- the arms of the match, with w and h of level k − 1 and their low halves
-module _ (W H L k c r w h low top : ℕ) (ew : w ≡ size (k - 1) W) (eh : h ≡ size (k - 1) H) (el : low ≡ count lo w) (et : top ≡ count lo h) (l : within 1 L k ≡ true) where
+module _ (W H L k c r w h low top : ℕ) (ew : w ≡ size (k - 1) W) (eh : h ≡ size (k - 1) H) (el : low ≡ count lo w) (et : top ≡ count lo h)
+    (l : within 1 L k ≡ true) where
   low-is : low ≡ size k W
   low-is = el ∙ ap (count lo) ew ∙ sym (size-back k W (within-true 1 L k l .0))
 
@@ -293,7 +297,8 @@ viewed n W H L k c r e = elim (ℕ-discrete (sizeQuestion W H L) 0) [
   | no d ↦ absurd (d (sym (question-size n W H L k c r d) ∙ e))
 ]
   where
-    area : sizeQuestion W H L ≡ 0 → (t u : Bool) → leb (W * H) n ≡ t → named c (λ b. bandRowExists W H L k b r) false ≡ u → ask t 5 (ask u 6 0) ≡ 0 → Viewed n W H L k c r
+    area : sizeQuestion W H L ≡ 0 → (t u : Bool) → leb (W * H) n ≡ t → named c (λ b. bandRowExists W H L k b r) false ≡ u → ask t 5 (ask u 6 0) ≡ 0 →
+        Viewed n W H L k c r
     area s true true et eu h =
         let b = named-true c (λ b. bandRowExists W H L k b r) eu in
         record {

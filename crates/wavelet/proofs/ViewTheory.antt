@@ -49,7 +49,8 @@ module _ (plane : List ℤ) (W H L k c r : ℕ) where
     unfolding view-band
     view-some = omega (arith, view-length, view .kept .columns)
 
-    pub view-values : (keep : ℤ → ℤ) (g : Grid) → ((j : ℕ) → j < W * H → at plane j ≡ planeOf keep L W H g j) → (i : ℕ) → i < bandColumns W k view-band → at (viewRow plane W H L k c r) i ≡ levelBand keep W H g k view-band r i
+    pub view-values : (keep : ℤ → ℤ) (g : Grid) → ((j : ℕ) → j < W * H → at plane j ≡ planeOf keep L W H g j) → (i : ℕ) → i < bandColumns W k view-band →
+        at (viewRow plane W H L k c r) i ≡ levelBand keep W H g k view-band r i
     unfolding view-band
     view-values keep g same i h =
         let b = view .band in

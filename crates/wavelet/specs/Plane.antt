@@ -14,7 +14,8 @@ halfAt N i = pick (ltb i (count lo N)) lo hi
 unfoldable pub placeIn : ℕ → ℕ → ℕ
 placeIn N i = pick (ltb i (count lo N)) i (i - count lo N)
 
--- The coefficient at row r and column c of the plane of a W × H grid at L levels. The low-low corner of a level has the plane of the low-low part at the levels left; where none is left, that part itself.
+-- The coefficient at row r and column c of the plane of a W × H grid at L levels. The low-low corner of a level has the plane of the low-low part at the
+-- levels left; where none is left, that part itself.
 unfoldable pub planeCell : (ℤ → ℤ) → ℕ → ℕ → ℕ → Grid → Grid
 planeCell keep zero W H g r c = g r c
 planeCell keep (suc L) W H g r c =

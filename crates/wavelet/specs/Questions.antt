@@ -1,4 +1,5 @@
--- The gate questions that the whole map and the view share. Document 01, "The gate questions": "Asked in this order, each only of the calls named. The first no gives its number, and nothing changes."
+-- The gate questions that the whole map and the view share. Document 01, "The gate questions": "Asked in this order, each only of the calls named. The first
+-- no gives its number, and nothing changes."
 use mathlib.Core.Bool.{Bool}
 use Prim.Native.Nat.{ℕ, _≤_}
 use lib.Dec.{leb}

@@ -16,7 +16,8 @@ unfoldable pub feedAll : List RowName → List Step
 feedAll [] = []
 feedAll (x ∷ xs) = feed x ∷ feedAll xs
 
--- "A complete set makes rows 2n−1 and 2n; set 0 makes row 0 only; the last set of an even height also makes the last row." "Made rows are used before another set is asked for."
+-- "A complete set makes rows 2n−1 and 2n; set 0 makes row 0 only; the last set of an even height also makes the last row." "Made rows are used before another
+-- set is asked for."
 -- So of h rows row r needs a new set if it is row 0, or odd and not the last.
 unfoldable pub opensSet : ℕ → ℕ → Bool
 opensSet h r = pick (eqb r 0) true (both (eqb (r % 2) 1) (ltb (r + 1) h))
@@ -25,7 +26,8 @@ opensSet h r = pick (eqb r 0) true (both (eqb (r % 2) 1) (ltb (r + 1) h))
 unfoldable pub rowSteps : ℕ → (ℕ → List Step) → ℕ → List Step
 rowSteps h set r = pick (opensSet h r) (set ((r + 1) / 2)) []
 
--- "Set n of level k needs its LL row (for k below L: the next row that level k+1 makes, which may ask for a set there first), then HL, LH, HH, skipping bands without rows."
+-- "Set n of level k needs its LL row (for k below L: the next row that level k+1 makes, which may ask for a set there first), then HL, LH, HH, skipping bands
+-- without rows."
 -- `setRows` has these rows: LL at the last level only.
 unfoldable pub setSteps : ℕ → ℕ → ℕ → ℕ → ℕ → List Step
 setSteps zero k w h n = feedAll (setRows zero k w h n)

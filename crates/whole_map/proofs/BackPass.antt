@@ -20,7 +20,8 @@ use Rattle.wavelet.specs.Bands.{Grid}
 use Rattle.wavelet.specs.Plane.{cells, flat}
 use Rattle.wavelet.proofs.GridLaws.{flat-at, cells-flat}
 use Rattle.whole_map.specs.Rowwise.{cut}
-use Rattle.whole_map.specs.Passes.{Rows, even, before, after, oddRowsChanged, evenRowsChanged, nextChanged, pairChanged, rowsMapped, planeRow, rowsFetched}
+use Rattle.whole_map.specs.Passes.{Rows, even, before, after, oddRowsChanged, evenRowsChanged, nextChanged, pairChanged, rowsMapped, planeRow}
+use Rattle.whole_map.specs.Passes.{rowsFetched}
 use Rattle.whole_map.specs.LevelPasses.{columnsUnliftedInPlace, levelUnlifted, rowBack}
 use Rattle.whole_map.proofs.GridSweep.{RowSwept, row-room, start, finish, mapped-in, mapped-wide, mapped-past}
 use Rattle.whole_map.proofs.RowwiseLaws.{cut-in, cut-past}
@@ -41,18 +42,23 @@ splice-over b n u y x below past =
     ]
 
 -- ---- a row fetched and lifted back: what is left of its low half is copied, and its high half read from the plane
-pub row-fetched : (s A from w h r l made : ℕ) (p x y z : ℕ → ℤ) → w ≤ s → r < h → made ≡ pick (even r) from 0 → made ≤ count lo w → l ≡ planeRow h r → y ≡ spliced (r * s + made) (count lo w - made) (windowed (l * A + made) (count lo w - made) p) x → z ≡ spliced (r * s) w (unliftedInPlace w (highsLaid w (windowed (l * A) w p) (windowed (r * s) w y))) y → z ≡ rowBack from w h s (cells A p) x r
+pub row-fetched : (s A from w h r l made : ℕ) (p x y z : ℕ → ℤ) → w ≤ s → r < h → made ≡ pick (even r) from 0 → made ≤ count lo w → l ≡ planeRow h r →
+    y ≡ spliced (r * s + made) (count lo w - made) (windowed (l * A + made) (count lo w - made) p) x →
+    z ≡ spliced (r * s) w (unliftedInPlace w (highsLaid w (windowed (l * A) w p) (windowed (r * s) w y))) y → z ≡ rowBack from w h s (cells A p) x r
 unfolding rowBack cells
 row-fetched s A from w h r l made p x y z ws rh em few el ey ez =
     let F = rowsFetched from w h (λ i c. p (i * A + c)) (λ i c. x (i * s + c)) in
     let half = count-lo w in
-    let now′ : (j : ℕ) → y j ≡ spliced (r * s + made) (count lo w - made) (windowed (l * A + made) (count lo w - made) p) x j = λ j. ap (λ (u : ℕ → ℤ). u j) ey in
-    let new : (c : ℕ) → c < w → made ≤ c → p (l * A + c) ≡ F r c = λ c cw b. ap (λ (i : ℕ). p (i * A + c)) el ∙ sym (fetched-new from w h _ _ r c rh cw (omega arith)) in
+    let now′ : (j : ℕ) → y j ≡ spliced (r * s + made) (count lo w - made) (windowed (l * A + made) (count lo w - made) p) x j = λ j.
+    ap (λ (u : ℕ → ℤ). u j) ey in
+    let new : (c : ℕ) → c < w → made ≤ c → p (l * A + c) ≡ F r c = λ c cw b. ap (λ (i : ℕ). p (i * A + c)) el ∙
+    sym (fetched-new from w h _ _ r c rh cw (omega arith)) in
     let low : (c : ℕ) → c < count lo w → y (r * s + c) ≡ F r c =
     λ c cl.
     now′ (r * s + c)
     ∙ elim (decLt c made) [
-      | yes b ↦ splice-below (r * s + made) (count lo w - made) _ x (r * s + c) (omega arith) ∙ sym (fetched-made from w h _ _ r c rh (omega arith) (omega arith))
+      | yes b ↦ splice-below (r * s + made) (count lo w - made) _ x (r * s + c) (omega arith) ∙
+          sym (fetched-made from w h _ _ r c rh (omega arith) (omega arith))
       | no b ↦
           let e : r * s + c - (r * s + made) ≡ c - made = omega arith in
           let d : l * A + made + (c - made) ≡ l * A + c = omega arith in
@@ -117,7 +123,8 @@ module _ (f g : ℤ → ℤ → ℤ → ℤ) (n s w h i m : ℕ) (x v : ℕ → 
             let far = after-is h (i + 1) more b in
             let near = after-near h (i + 1) in
             simp (lt-ltb (i + 1) h b)
-            (rows-agree f n s w (i + 1) i (after h (i + 1)) m x v (fits (i + 1) i (after h (i + 1)) b lt (far .0)) (R .wide) (all (i + 1) b (omega arith)) (all i lt (omega arith)) (all (after h (i + 1)) (far .0) (omega arith)) g q c qm cs)
+            (rows-agree f n s w (i + 1) i (after h (i + 1)) m x v (fits (i + 1) i (after h (i + 1)) b lt (far .0)) (R .wide) (all (i + 1) b (omega arith))
+            (all i lt (omega arith)) (all (after h (i + 1)) (far .0) (omega arith)) g q c qm cs)
         | no b ↦ simp (le-ltb (i + 1) h (omega arith)) (g q c qm cs)
       ]
 
@@ -129,7 +136,8 @@ module _ (f g : ℤ → ℤ → ℤ → ℤ) (n s w h i m : ℕ) (x v : ℕ → 
             let far = after-is h (i + 1) more b in
             let near = after-near h (i + 1) in
             simp (lt-ltb (i + 1) h b)
-            (rows-beyond f n s w (i + 1) i (after h (i + 1)) m x v (fits (i + 1) i (after h (i + 1)) b lt (far .0)) (R .wide) (all (i + 1) b (omega arith)) (all i lt (omega arith)) (all (after h (i + 1)) (far .0) (omega arith)) q c mq cs)
+            (rows-beyond f n s w (i + 1) i (after h (i + 1)) m x v (fits (i + 1) i (after h (i + 1)) b lt (far .0)) (R .wide) (all (i + 1) b (omega arith))
+            (all i lt (omega arith)) (all (after h (i + 1)) (far .0) (omega arith)) q c mq cs)
         | no b ↦ simp (le-ltb (i + 1) h (omega arith))
       ]
 
@@ -181,14 +189,17 @@ module _ (s w h from : ℕ) (Z : Grid) (x₀ : ℕ → ℤ) where
             fill-turn s w h k (zone i) (cells s x₀) (unliftedInPlace w (cut w (rowsFetched from w h Z (cells s x) k))) x x′ ws is
             (λ c cw.
             ap (λ (y : ℕ → ℤ). unliftedInPlace w y c)
-            (cut-same w (rowsFetched from w h Z (cells s x) k) (fetched k) (λ j jw. fetched-same (cells s x) k j (lent-same x k j (z .swept .rest k j (omega arith) (omega arith)))))
+            (cut-same w (rowsFetched from w h Z (cells s x) k) (fetched k)
+            (λ j jw. fetched-same (cells s x) k j (lent-same x k j (z .swept .rest k j (omega arith) (omega arith)))))
             ∙ sym (zone-rest i k c ik ∙ mapped-in (unliftedInPlace w) w h fetched k c kh cw))
-            (λ c wc. zone-rest i k c ik ∙ mapped-wide (unliftedInPlace w) w h fetched k c wc ∙ fetched-out w h (cells s x₀) k c (outside-columns w h k c wc) from Z)
+            (λ c wc. zone-rest i k c ik ∙ mapped-wide (unliftedInPlace w) w h fetched k c wc ∙
+            fetched-out w h (cells s x₀) k c (outside-columns w h k c wc) from Z)
             (z .swept);
       }
 
   -- where there is a row k
-  pub fetch-last : (i k : ℕ) (x x′ : ℕ → ℤ) → w ≤ s → i ≤ k → x′ ≡ pick (ltb k h) (rowBack from w h s Z x k) x → Zoned i k x → (m : ℕ) → (k < h → m ≡ k + 1) → (h ≤ k → m ≡ k) → Zoned i m x′
+  pub fetch-last : (i k : ℕ) (x x′ : ℕ → ℤ) → w ≤ s → i ≤ k → x′ ≡ pick (ltb k h) (rowBack from w h s Z x k) x → Zoned i k x → (m : ℕ) → (k < h → m ≡ k + 1) →
+      (h ≤ k → m ≡ k) → Zoned i m x′
   fetch-last i k x x′ ws ik is z m a b =
       elim (decLt k h) [
         | yes l ↦ let e = is in let e′ : x′ ≡ rowBack from w h s Z x k = simp (lt-ltb k h l) at e in let g = a l in rw g (fetch-turn i k x x′ ws ik l e′ z)
@@ -209,7 +220,8 @@ module _ (s w h from : ℕ) (Z : Grid) (x₀ : ℕ → ℤ) where
   virtual-same i k x z r c b cs = z .swept .done r c cs b ∙ sym (flat-at s (zone i) r c cs)
 
   -- an area that agrees with one whose rows below j are done, and beyond k is as before
-  zoned-by : (i j k : ℕ) (x x′ v′ : ℕ → ℤ) → Zoned i k x → RowSwept s allDone rowsDone j v′ → Agree s k x′ v′ → ((q c : ℕ) → k ≤ q → c < s → x′ (q * s + c) ≡ x (q * s + c)) → Zoned j k x′
+  zoned-by : (i j k : ℕ) (x x′ v′ : ℕ → ℤ) → Zoned i k x → RowSwept s allDone rowsDone j v′ → Agree s k x′ v′ →
+      ((q c : ℕ) → k ≤ q → c < s → x′ (q * s + c) ≡ x (q * s + c)) → Zoned j k x′
   zoned-by i j k x x′ v′ z sw g beyond =
       record {
         swept = record {
@@ -230,12 +242,16 @@ module _ (s w h from : ℕ) (Z : Grid) (x₀ : ℕ → ℤ) where
         let fit = rows-fit n s w 0 1 1 (R .wide) (row-room n s w h 0 R (omega arith)) (row-room n s w h 1 R more) (row-room n s w h 1 R more) in
         let at′ : (j : ℕ) → x′ j ≡ rowsChanged (unupdated wrap32) n s w 0 1 1 x j = λ j. ap (λ (y : ℕ → ℤ). y j) is in
         zoned-by 0 1 k x x′ (rowsChanged (unupdated wrap32) n s w 0 1 1 (virtual 0)) z
-        (first-turn (unupdated wrap32) (unpredicted wrap32) n s w h rowsDone evensDone allDone (virtual 0) _ (even-column _ _ _ _) (odd-column _ _ _ _) more R refl (virtual-swept 0))
-        (λ r c q cs. at′ (r * s + c) ∙ rows-agree (unupdated wrap32) n s w 0 1 1 k x (virtual 0) fit (R .wide) (omega arith) (omega arith) (omega arith) (virtual-same 0 k x z) r c q cs)
-        (λ r c q cs. at′ (r * s + c) ∙ rows-beyond (unupdated wrap32) n s w 0 1 1 k x (virtual 0) fit (R .wide) (omega arith) (omega arith) (omega arith) r c q cs)
+        (first-turn (unupdated wrap32) (unpredicted wrap32) n s w h rowsDone evensDone allDone (virtual 0) _ (even-column _ _ _ _) (odd-column _ _ _ _) more R
+        refl (virtual-swept 0))
+        (λ r c q cs. at′ (r * s + c) ∙ rows-agree (unupdated wrap32) n s w 0 1 1 k x (virtual 0) fit (R .wide) (omega arith) (omega arith) (omega arith)
+        (virtual-same 0 k x z) r c q cs)
+        (λ r c q cs. at′ (r * s + c) ∙ rows-beyond (unupdated wrap32) n s w 0 1 1 k x (virtual 0) fit (R .wide) (omega arith) (omega arith) (omega arith) r c q
+        cs)
 
     -- a pair of rows
-    pub zone-turn : (i k : ℕ) (x x′ : ℕ → ℤ) → i % 2 ≡ 1 → i < h → ((r : ℕ) → r < h → r ≤ i + 2 → r < k) → x′ ≡ pairChanged (unupdated wrap32) (unpredicted wrap32) n s w h i x → Zoned i k x → Zoned (i + 2) k x′
+    pub zone-turn : (i k : ℕ) (x x′ : ℕ → ℤ) → i % 2 ≡ 1 → i < h → ((r : ℕ) → r < h → r ≤ i + 2 → r < k) →
+        x′ ≡ pairChanged (unupdated wrap32) (unpredicted wrap32) n s w h i x → Zoned i k x → Zoned (i + 2) k x′
     unfolding pairChanged
     zone-turn i k x x′ o lt all is z =
         let f = unupdated wrap32 in
@@ -285,7 +301,8 @@ module _ (s w h from : ℕ) (Z : Grid) (x₀ : ℕ → ℤ) where
       ∙ cells-flat s fetched r c cs
       ∙ fetched-out w h (cells s x₀) r c (outside-rows w h r c b) from Z
 
-  zoned-end : (i k : ℕ) (x : ℕ → ℤ) → 0 < s → w ≤ s → h ≤ k → ((r c : ℕ) → r < h → zone i r c ≡ columnsUnliftedInPlace w h rowsDone r c) → Zoned i k x → x ≡ flat s result
+  zoned-end : (i k : ℕ) (x : ℕ → ℤ) → 0 < s → w ≤ s → h ≤ k → ((r c : ℕ) → r < h → zone i r c ≡ columnsUnliftedInPlace w h rowsDone r c) → Zoned i k x →
+      x ≡ flat s result
   zoned-end i k x apart ws hk e z =
       finish apart (z .swept) (λ r c b. outside-same i r c (omega arith))
       ∙ flat-same s (zone i) result apart
@@ -310,19 +327,22 @@ module _ (s w h from : ℕ) (Z : Grid) (x₀ : ℕ → ℤ) where
   zoned-at i k k′ x e z = rw (← e) z
 
   module _ (n : ℕ) (R : Rows n s w h) (more : 1 < h) where
-    pub first-back : (x₁ x₂ x₃ : ℕ → ℤ) → x₁ ≡ rowBack from w h s Z x₀ 0 → x₂ ≡ rowBack from w h s Z x₁ 1 → x₃ ≡ rowsChanged (unupdated wrap32) n s w 0 1 1 x₂ → Zoned 1 2 x₃
+    pub first-back : (x₁ x₂ x₃ : ℕ → ℤ) → x₁ ≡ rowBack from w h s Z x₀ 0 → x₂ ≡ rowBack from w h s Z x₁ 1 → x₃ ≡ rowsChanged (unupdated wrap32) n s w 0 1 1 x₂ →
+        Zoned 1 2 x₃
     first-back x₁ x₂ x₃ e₁ e₂ e₃ =
         let z₁ = fetch-turn 0 0 x₀ x₁ (R .wide) (omega arith) (omega arith) e₁ zoned-start in
         let z₂ = fetch-turn 0 1 x₁ x₂ (R .wide) (omega arith) more e₂ (zoned-at 0 (0 + 1) 1 x₁ (omega arith) z₁) in
         zone-first n R more 2 x₂ x₃ (omega arith) e₃ (zoned-at 0 (1 + 1) 2 x₂ (omega arith) z₂)
 
-    pub turn-back : (r : ℕ) (x x₁ x₂ x₃ : ℕ → ℤ) → r % 2 ≡ 1 → r + 2 < h → x₁ ≡ rowBack from w h s Z x (r + 1) → x₂ ≡ rowBack from w h s Z x₁ (r + 2) → x₃ ≡ pairChanged (unupdated wrap32) (unpredicted wrap32) n s w h r x₂ → Zoned r (r + 1) x → Zoned (r + 2) (r + 2 + 1) x₃
+    pub turn-back : (r : ℕ) (x x₁ x₂ x₃ : ℕ → ℤ) → r % 2 ≡ 1 → r + 2 < h → x₁ ≡ rowBack from w h s Z x (r + 1) → x₂ ≡ rowBack from w h s Z x₁ (r + 2) →
+        x₃ ≡ pairChanged (unupdated wrap32) (unpredicted wrap32) n s w h r x₂ → Zoned r (r + 1) x → Zoned (r + 2) (r + 2 + 1) x₃
     turn-back r x x₁ x₂ x₃ o lt e₁ e₂ e₃ z =
         let z₁ = fetch-turn r (r + 1) x x₁ (R .wide) (omega arith) (omega arith) e₁ z in
         let z₂ = fetch-turn r (r + 2) x₁ x₂ (R .wide) (omega arith) lt e₂ (zoned-at r (r + 1 + 1) (r + 2) x₁ (omega arith) z₁) in
         zone-turn n R more r (r + 2 + 1) x₂ x₃ o (omega arith) (λ q a b. omega arith) e₃ z₂
 
-    pub last-back : (r : ℕ) (x x₁ x₂ : ℕ → ℤ) → r % 2 ≡ 1 → r < h → h ≤ r + 2 → x₁ ≡ pick (ltb (r + 1) h) (rowBack from w h s Z x (r + 1)) x → x₂ ≡ pairChanged (unupdated wrap32) (unpredicted wrap32) n s w h r x₁ → Zoned r (r + 1) x → x₂ ≡ flat s result
+    pub last-back : (r : ℕ) (x x₁ x₂ : ℕ → ℤ) → r % 2 ≡ 1 → r < h → h ≤ r + 2 → x₁ ≡ pick (ltb (r + 1) h) (rowBack from w h s Z x (r + 1)) x →
+        x₂ ≡ pairChanged (unupdated wrap32) (unpredicted wrap32) n s w h r x₁ → Zoned r (r + 1) x → x₂ ≡ flat s result
     last-back r x x₁ x₂ o lt le e₁ e₂ z =
         let z₁ = fetch-last r (r + 1) x x₁ (R .wide) (omega arith) e₁ z h (λ b. omega arith) (λ b. omega arith) in
         back-many (r + 2) h x₂ (R .apart) (R .wide) more le (omega arith) (zone-turn n R more r h x₁ x₂ o lt (λ q a b. a) e₂ z₁)

@@ -122,7 +122,8 @@ module _ (W H L a b c : ℕ) where
                     | yes i ↦ sym (short-second W H L a b c rest s (omega arith) i) ∙ short-second W H L a b c 0 s (omega arith) i
                     | no i ↦
                         elim (decLt c (W * H)) [
-                          | yes j ↦ sym (short-third W H L a b c rest s (omega arith) (omega arith) j) ∙ short-third W H L a b c 0 s (omega arith) (omega arith) j
+                          | yes j ↦ sym (short-third W H L a b c rest s (omega arith) (omega arith) j) ∙
+                              short-third W H L a b c 0 s (omega arith) (omega arith) j
                           | no j ↦ absurd (n (long-enough W H L a b c 0 s (omega arith) (omega arith) (omega arith)))
                         ]
                   ]
@@ -197,7 +198,8 @@ module _ (W H j : ℕ) (some : 0 < W) where
   pub none-of : W * H ≤ j → 0 < H → inside W H (j / W) (j % W) ≡ false
   none-of b h = past-rows W W H j h (omega (arith, whole-rows W H h))
 
-pub map-places : (W H : ℕ) (P Q : Grid) (z : ℕ → ℤ) → 0 < W → 0 < H → ((r c : ℕ) → r < H → c < W → P r c ≡ Q r c) → ((r c : ℕ) → inside W H r c ≡ false → P r c ≡ cells W z r c) → flat W P ≡ fronted (W * H) (flat W Q) z
+pub map-places : (W H : ℕ) (P Q : Grid) (z : ℕ → ℤ) → 0 < W → 0 < H → ((r c : ℕ) → r < H → c < W → P r c ≡ Q r c) →
+    ((r c : ℕ) → inside W H r c ≡ false → P r c ≡ cells W z r c) → flat W P ≡ fronted (W * H) (flat W Q) z
 unfolding flat cells
 map-places W H P Q z w h e o =
     fun-ext λ j.
@@ -244,7 +246,8 @@ module _ (W H L : ℕ) (l : List ℕ) (z₀ z₁ : ℕ → ℤ) (s : Sized W H L
       ∙ halved-out W H heights (cells W z₀) r c o
       ∙ sym (written-out L W H g (cells W z₀) r c o)))
 
-  pub plane-made : (z₂ : ℕ → ℤ) → ((i : ℕ) → getD l i 0 < 65536) → z₂ ≡ flat W (planeWritten L W H (cornerGrid W H (cells W z₁)) (cells W z₁)) → z₂ ≡ fronted (W * H) (planeOf whole L W H heights) z₀
+  pub plane-made : (z₂ : ℕ → ℤ) → ((i : ℕ) → getD l i 0 < 65536) → z₂ ≡ flat W (planeWritten L W H (cornerGrid W H (cells W z₁)) (cells W z₁)) →
+      z₂ ≡ fronted (W * H) (planeOf whole L W H heights) z₀
   unfolding planeOf maxLevels
   plane-made z₂ fits f =
       let g = cornerGrid W H (cells W z₁) in

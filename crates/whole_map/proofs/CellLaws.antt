@@ -17,7 +17,8 @@ use Rattle.wavelet.specs.Bands.{Grid}
 use Rattle.wavelet.specs.Plane.{cells, flat, halfAt, placeIn}
 use Rattle.wavelet.proofs.GridLaws.{cells-flat}
 use Rattle.whole_map.specs.Rowwise.{cut, partedInPlace}
-use Rattle.whole_map.specs.Passes.{Rows, KeptFrom, within, after, before, even, oddRowsChanged, evenRowsChanged, rowsMapped, planeRow, levelRow, rowsFetched, gridHalved, gridCopied, rowsReturned}
+use Rattle.whole_map.specs.Passes.{Rows, KeptFrom, within, after, before, even, oddRowsChanged, evenRowsChanged, rowsMapped, planeRow, levelRow}
+use Rattle.whole_map.specs.Passes.{rowsFetched, gridHalved, gridCopied, rowsReturned}
 use Rattle.whole_map.proofs.GridSweep.{row-room}
 use Rattle.whole_map.specs.LevelPasses.{levelGrid, cornerGrid, columnsUnliftedInPlace, levelUnlifted}
 
@@ -267,7 +268,8 @@ pub corner-at : (w h : ℕ) (X : Grid) (r c : ℕ) → cornerGrid w h X r c ≡ 
 unfolding cornerGrid
 corner-at w h X r c = joined-at h (λ i. levelGrid w X i c) r ∙ grid-at w X (placed h r) c
 
-pub halved-grid : (A w h : ℕ) (G Z : Grid) (z : ℕ → ℤ) → w ≤ A → z ≡ flat A (gridHalved w h G Z) → (r c : ℕ) → r < h → c < w → cornerGrid w h (cells A z) r c ≡ G r c
+pub halved-grid : (A w h : ℕ) (G Z : Grid) (z : ℕ → ℤ) → w ≤ A → z ≡ flat A (gridHalved w h G Z) → (r c : ℕ) → r < h → c < w →
+    cornerGrid w h (cells A z) r c ≡ G r c
 unfolding partedInPlace
 halved-grid A w h G Z z wa e r c rh cw =
     let p = placed h r in
@@ -300,7 +302,8 @@ unlifted-out w h X r c e =
     let Z = rowsMapped (unliftedInPlace w) w h X in
     let m = mapped-out w h X r c e (unliftedInPlace w) in
     elim (decLt 1 h) [
-      | yes g ↦ simp (lt-ltb 1 h g) (odd-out w h (evenRowsChanged (unupdated wrap32) w h Z) r c e (unpredicted wrap32) ∙ even-out w h Z r c e (unupdated wrap32) ∙ m)
+      | yes g ↦ simp (lt-ltb 1 h g) (odd-out w h (evenRowsChanged (unupdated wrap32) w h Z) r c e (unpredicted wrap32) ∙
+          even-out w h Z r c e (unupdated wrap32) ∙ m)
       | no g ↦ simp (le-ltb 1 h (omega arith)) m
     ]
 
@@ -310,7 +313,8 @@ past-rows s w h j some b =
     let k = div-add-mod' j s in
     by-within w h (j / s) (j % s) (λ rh cw. let m : j / s * s ≤ (h - 1) * s = mul-le-mul-right s (omega arith) in absurd (omega arith)) (λ e. e)
 
-pub kept-flat : (n s w h : ℕ) (x y : ℕ → ℤ) (F : Grid) → Rows n s w h → y ≡ flat s F → ((r c : ℕ) → within w h r c ≡ false → F r c ≡ cells s x r c) → KeptFrom ((h - 1) * s + w) x y
+pub kept-flat : (n s w h : ℕ) (x y : ℕ → ℤ) (F : Grid) → Rows n s w h → y ≡ flat s F → ((r c : ℕ) → within w h r c ≡ false → F r c ≡ cells s x r c) →
+    KeptFrom ((h - 1) * s + w) x y
 unfolding flat cells
 kept-flat n s w h x y F R e f =
     record {

@@ -21,14 +21,17 @@ use Rattle.wavelet.specs.Plane.{cells, flat}
 use Rattle.wavelet.proofs.GridLaws.{flat-at, flat-cells}
 use Rattle.whole_map.specs.Passes.{Rows, within}
 use Rattle.whole_map.specs.LevelPasses.{columnsLiftedInPlace, levelLifted, rowLifted, pairLifted}
-use Rattle.whole_map.proofs.GridSweep.{RowSwept, row-room, finish, put-other, put-in, put-wide, mapped-in, mapped-wide, within-in, within-past, within-wide}
+use Rattle.whole_map.proofs.GridSweep.{RowSwept, row-room, finish, put-other, put-in, put-wide, mapped-in, mapped-wide, within-in, within-past}
+use Rattle.whole_map.proofs.GridSweep.{within-wide}
 use Rattle.whole_map.proofs.CellLaws.{flat-same, by-within, mapped-out}
 use Rattle.whole_map.proofs.RowwiseLaws.{window-cut}
 
 -- ---- what a row call leaves, rows t, a and b being among the rows
-module _ (f : ℤ → ℤ → ℤ → ℤ) (n s w h t a b : ℕ) (x x′ : ℕ → ℤ) (R : Rows n s w h) (th : t < h) (ah : a < h) (bh : b < h) (is : x′ ≡ rowsChanged f n s w t a b x) where
+module _ (f : ℤ → ℤ → ℤ → ℤ) (n s w h t a b : ℕ) (x x′ : ℕ → ℤ) (R : Rows n s w h) (th : t < h) (ah : a < h) (bh : b < h)
+    (is : x′ ≡ rowsChanged f n s w t a b x) where
   made : (j : ℕ) → x′ j ≡ rowChanged f s w t a b x j
-  made j = ap (λ (y : ℕ → ℤ). y j) (is ∙ changed f s w t a b x n (rows-fit n s w t a b (R .wide) (row-room n s w h t R th) (row-room n s w h a R ah) (row-room n s w h b R bh)))
+  made j = ap (λ (y : ℕ → ℤ). y j) (is ∙ changed f s w t a b x n
+      (rows-fit n s w t a b (R .wide) (row-room n s w h t R th) (row-room n s w h a R ah) (row-room n s w h b R bh)))
 
   set-row : (c : ℕ) → c < w → x′ (t * s + c) ≡ f (x (t * s + c)) (x (a * s + c)) (x (b * s + c))
   set-row c cw = made (t * s + c) ∙ row-at f s w t a b x c cw
@@ -68,7 +71,8 @@ module _ (w h : ℕ) (X : Grid) where
       ∙ halves-high h (lineForward wrap32 h (joinedColumn c)) (column c) (count lo h + i) (omega arith) (omega arith)
       ∙ ap (high wrap32 h (joinedColumn c)) k
 
-  high-row : 1 < h → (i c : ℕ) → i < count hi h → c < w → predicted wrap32 (X (count lo h + i) c) (X i c) (X (min (i + 1) (count lo h - 1)) c) ≡ lifted (count lo h + i) c
+  high-row : 1 < h → (i c : ℕ) → i < count hi h → c < w →
+      predicted wrap32 (X (count lo h + i) c) (X i c) (X (min (i + 1) (count lo h - 1)) c) ≡ lifted (count lo h + i) c
   unfolding halvesOf
   high-row more i c ih cw =
       let p = halvesOf h (column c) in
@@ -76,7 +80,8 @@ module _ (w h : ℕ) (X : Grid) where
       ∙ high-is wrap32 h more (joinedColumn c) i ih
       ∙ rw (joined-odd p i, joined-even p i, joined-even p (min (i + 1) (count lo h - 1))))
 
-  low-row : 1 < h → (i c : ℕ) → i < count lo h → c < w → updated wrap32 (X i c) (lifted (count lo h + (i - 1)) c) (lifted (count lo h + min i (count hi h - 1)) c) ≡ lifted i c
+  low-row : 1 < h → (i c : ℕ) → i < count lo h → c < w →
+      updated wrap32 (X i c) (lifted (count lo h + (i - 1)) c) (lifted (count lo h + min i (count hi h - 1)) c) ≡ lifted i c
   unfolding liftedInPlace lineForward halvesOf count
   low-row more i c il cw =
       let both = counts h in
@@ -131,7 +136,9 @@ module _ (n s w h : ℕ) (X : Grid) (R : Rows n s w h) where
       pub high : (c : ℕ) → c < s → x₂ ((count lo h + k) * s + c) ≡ columns (count lo h + k) c
       pub other : (r c : ℕ) → c < s → r ≢ k → r ≢ count lo h + k → x₂ (r * s + c) ≡ x (r * s + c)
 
-    paired : (k : ℕ) (x x₂ : ℕ → ℤ) → k < count hi h → x₂ ≡ pairLifted n s w (count lo h) k x → ((r c : ℕ) → c < s → k ≤ r → r < count lo h → x (r * s + c) ≡ X r c) → ((c : ℕ) → c < s → x ((count lo h + k) * s + c) ≡ X (count lo h + k) c) → (0 < k → (c : ℕ) → c < s → x ((count lo h + (k - 1)) * s + c) ≡ columns (count lo h + (k - 1)) c) → Paired k x x₂
+    paired : (k : ℕ) (x x₂ : ℕ → ℤ) → k < count hi h → x₂ ≡ pairLifted n s w (count lo h) k x →
+        ((r c : ℕ) → c < s → k ≤ r → r < count lo h → x (r * s + c) ≡ X r c) → ((c : ℕ) → c < s → x ((count lo h + k) * s + c) ≡ X (count lo h + k) c) →
+        (0 < k → (c : ℕ) → c < s → x ((count lo h + (k - 1)) * s + c) ≡ columns (count lo h + (k - 1)) c) → Paired k x x₂
     unfolding count
     paired k x x₂ kh is lows here mid =
         let both = counts h in
@@ -165,7 +172,8 @@ module _ (n s w h : ℕ) (X : Grid) (R : Rows n s w h) where
               elim (decLt c w) [
                 | yes cw ↦
                     set-row (updated wrap32) n s w h k (low + (k - 1)) (low + k) x₁ x₂ R (omega arith) (omega arith) (omega arith) is c cw
-                    ∙ rw (same c cs, before c cs, top c cs) (ap (λ (i : ℕ). updated wrap32 (X k c) (columns (low + (k - 1)) c) (columns (low + i) c)) (sym mk) ∙ low-row w h X more k c (omega arith) cw)
+                    ∙ rw (same c cs, before c cs, top c cs) (ap (λ (i : ℕ). updated wrap32 (X k c) (columns (low + (k - 1)) c) (columns (low + i) c)) (sym mk) ∙
+                    low-row w h X more k c (omega arith) cw)
                 | no cw ↦
                     set-wide (updated wrap32) n s w h k (low + (k - 1)) (low + k) x₁ x₂ R (omega arith) (omega arith) (omega arith) is c (omega arith)
                     ∙ same c cs
@@ -196,7 +204,8 @@ module _ (n s w h : ℕ) (X : Grid) (R : Rows n s w h) where
             restHighs = λ r c cs b. other (lo′ + r) c cs (omega arith) ∙ p .other (lo′ + r) c cs (omega arith) (omega arith) ∙ same (lo′ + r) c;
           }
 
-      pub raise-turn : (k : ℕ) (x x′ : ℕ → ℤ) → 0 < k → k < count hi h → x′ ≡ rowLifted s w (low + (k - 1)) (rowLifted s w k (pairLifted n s w low k x)) → Raised s w h X k x → Raised s w h X (k + 1) x′
+      pub raise-turn : (k : ℕ) (x x′ : ℕ → ℤ) → 0 < k → k < count hi h → x′ ≡ rowLifted s w (low + (k - 1)) (rowLifted s w k (pairLifted n s w low k x)) →
+          Raised s w h X k x → Raised s w h X (k + 1) x′
       unfolding count
       raise-turn k x x′ kp kh is sw =
           let both = counts h in
@@ -220,15 +229,20 @@ module _ (n s w h : ℕ) (X : Grid) (R : Rows n s w h) where
             highs = λ r c cs b.
                 elim (ℕ-discrete r (k - 1)) [
                   | yes e ↦ rw e (raised-row (lo′ + (k - 1)) x₃ x′ is′ (omega arith) high c cs)
-                  | no d ↦ fourth (lo′ + r) c cs (omega arith) ∙ third (lo′ + r) c cs (omega arith) ∙ p .other (lo′ + r) c cs (omega arith) (omega arith) ∙ sw .highs r c cs (omega arith)
+                  | no d ↦ fourth (lo′ + r) c cs (omega arith) ∙ third (lo′ + r) c cs (omega arith) ∙ p .other (lo′ + r) c cs (omega arith) (omega arith) ∙
+                      sw .highs r c cs (omega arith)
                 ];
             mid = λ c cs. rw z (fourth (lo′ + k) c cs (omega arith) ∙ third (lo′ + k) c cs (omega arith) ∙ p .high c cs);
-            restLows = λ r c cs b l. fourth r c cs (omega arith) ∙ third r c cs (omega arith) ∙ p .other r c cs (omega arith) (omega arith) ∙ sw .restLows r c cs (omega arith) l;
-            restHighs = λ r c cs b. fourth (lo′ + r) c cs (omega arith) ∙ third (lo′ + r) c cs (omega arith) ∙ p .other (lo′ + r) c cs (omega arith) (omega arith) ∙ sw .restHighs r c cs (omega arith);
+            restLows = λ r c cs b l. fourth r c cs (omega arith) ∙ third r c cs (omega arith) ∙ p .other r c cs (omega arith) (omega arith) ∙
+                sw .restLows r c cs (omega arith) l;
+            restHighs = λ r c cs b. fourth (lo′ + r) c cs (omega arith) ∙ third (lo′ + r) c cs (omega arith) ∙
+                p .other (lo′ + r) c cs (omega arith) (omega arith) ∙ sw .restHighs r c cs (omega arith);
           }
 
       -- after the last pair: the last low row, where there is one more, and the last high row
-      pub raise-end : (k : ℕ) (x x₁ x′ : ℕ → ℤ) → 0 < k → k ≡ count hi h → x₁ ≡ pick (ltb k low) (rowLifted s w k (rowsChanged (updated wrap32) n s w k (h - 1) (h - 1) x)) x → x′ ≡ rowLifted s w (h - 1) x₁ → Raised s w h X k x → x′ ≡ flat s (levelLifted w h X)
+      pub raise-end : (k : ℕ) (x x₁ x′ : ℕ → ℤ) → 0 < k → k ≡ count hi h →
+          x₁ ≡ pick (ltb k low) (rowLifted s w k (rowsChanged (updated wrap32) n s w k (h - 1) (h - 1) x)) x → x′ ≡ rowLifted s w (h - 1) x₁ →
+          Raised s w h X k x → x′ ≡ flat s (levelLifted w h X)
       unfolding count
       raise-end k x x₁ x′ kp ek e₁ is sw =
           let both = counts h in
@@ -236,7 +250,8 @@ module _ (n s w h : ℕ) (X : Grid) (R : Rows n s w h) where
           let last : h - 1 ≡ lo′ + (k - 1) = omega arith in
           let is′ : x′ ≡ rowLifted s w (lo′ + (k - 1)) x₁ = rw last at is in
           let final = raised-other (lo′ + (k - 1)) x₁ x′ is′ in
-          let done : ((r c : ℕ) → c < s → r < lo′ → x₁ (r * s + c) ≡ level r c) → ((r c : ℕ) → c < s → lo′ ≤ r → x₁ (r * s + c) ≡ x (r * s + c)) → x′ ≡ flat s level =
+          let done : ((r c : ℕ) → c < s → r < lo′ → x₁ (r * s + c) ≡ level r c) → ((r c : ℕ) → c < s → lo′ ≤ r → x₁ (r * s + c) ≡ x (r * s + c)) →
+          x′ ≡ flat s level =
           λ lows same.
           let swept : RowSwept s level X h x′ = record {
             done = λ r c cs rh.
@@ -245,11 +260,14 @@ module _ (n s w h : ℕ) (X : Grid) (R : Rows n s w h) where
                   | no l ↦
                       let e : r ≡ lo′ + (r - lo′) = omega arith in
                       elim (ℕ-discrete r (lo′ + (k - 1))) [
-                        | yes f ↦ rw f (raised-row (lo′ + (k - 1)) x₁ x′ is′ (omega arith) (λ j js. same (lo′ + (k - 1)) j js (omega arith) ∙ sw .mid j js) c cs)
+                        | yes f ↦ rw f (raised-row (lo′ + (k - 1)) x₁ x′ is′ (omega arith) (λ j js. same (lo′ + (k - 1)) j js (omega arith) ∙ sw .mid j js) c
+                            cs)
                         | no f ↦ final r c cs f ∙ same r c cs (omega arith) ∙ rw e (sw .highs (r - lo′) c cs (omega arith))
                       ]
                 ];
-            rest = λ r c cs hr. let e : r ≡ lo′ + (r - lo′) = omega arith in final r c cs (omega arith) ∙ same r c cs (omega arith) ∙ rw e (sw .restHighs (r - lo′) c cs (omega arith));
+            rest = λ r c cs hr.
+                let e : r ≡ lo′ + (r - lo′) = omega arith in
+                final r c cs (omega arith) ∙ same r c cs (omega arith) ∙ rw e (sw .restHighs (r - lo′) c cs (omega arith));
           } in
           finish (R .apart) swept (λ r c hr. level-out r c (within-past w h r c hr)) in
           elim (decLt k low) [
@@ -268,7 +286,9 @@ module _ (n s w h : ℕ) (X : Grid) (R : Rows n s w h) where
                 elim (decLt c w) [
                   | yes cw ↦
                       set-row (updated wrap32) n s w h k (lo′ + (k - 1)) (lo′ + (k - 1)) x u R (omega arith) (omega arith) (omega arith) refl c cw
-                      ∙ rw (sw .restLows k c cs (omega arith) (omega arith), sw .mid c cs) (ap (λ (i : ℕ). updated wrap32 (X k c) (columns (lo′ + (k - 1)) c) (columns (lo′ + i) c)) (sym m) ∙ low-row w h X more k c (omega arith) cw)
+                      ∙ rw (sw .restLows k c cs (omega arith) (omega arith), sw .mid c cs)
+                      (ap (λ (i : ℕ). updated wrap32 (X k c) (columns (lo′ + (k - 1)) c) (columns (lo′ + i) c)) (sym m) ∙
+                      low-row w h X more k c (omega arith) cw)
                   | no cw ↦
                       set-wide (updated wrap32) n s w h k (lo′ + (k - 1)) (lo′ + (k - 1)) x u R (omega arith) (omega arith) (omega arith) refl c (omega arith)
                       ∙ sw .restLows k c cs (omega arith) (omega arith)

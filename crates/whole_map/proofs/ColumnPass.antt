@@ -101,7 +101,11 @@ after-near h r = elim (decLt (r + 1) h) [ yes p ↦ simp (lt-ltb (r + 1) h p) (o
 
 after-next : (h r : ℕ) → r ≤ after h (r + 1)
 unfolding after
-after-next h r = elim (decLt (r + 1 + 1) h) [ yes p ↦ simp (lt-ltb (r + 1 + 1) h p) (omega arith) | no d ↦ simp (le-ltb (r + 1 + 1) h (omega arith)) (omega arith) ]
+after-next h r = elim (decLt (r + 1 + 1) h) [
+  | yes p ↦ simp (lt-ltb (r + 1 + 1) h p) (omega arith)
+  | no d ↦ simp (le-ltb (r + 1 + 1) h (omega arith))
+      (omega arith)
+]
 
 pub before-near : (r : ℕ) → before r ≤ r + 1
 unfolding before
@@ -122,7 +126,8 @@ module _ (f g : ℤ → ℤ → ℤ → ℤ) (p q s w h : ℕ) (X M Y : Grid) (f
   unfolding nextChanged
   next-made b =
       let far = after-is h (i + 1) more b in
-      let fit = rows-fit n s w (i + 1) i (after h (i + 1)) (R .wide) (row-room n s w h (i + 1) R b) (row-room n s w h i R lt) (row-room n s w h (after h (i + 1)) R (far .0)) in
+      let fit = rows-fit n s w (i + 1) i (after h (i + 1)) (R .wide) (row-room n s w h (i + 1) R b) (row-room n s w h i R lt)
+      (row-room n s w h (after h (i + 1)) R (far .0)) in
       simp (lt-ltb (i + 1) h b) (changed f s w (i + 1) i (after h (i + 1)) x n fit)
 
   next-none : h ≤ i + 1 → x₁ ≡ x
@@ -144,7 +149,15 @@ module _ (f g : ℤ → ℤ → ℤ → ℤ) (p q s w h : ℕ) (X M Y : Grid) (f
             let made = ap (λ (y : ℕ → ℤ). y ((i + 1) * s + c)) (next-made b) in
             elim (decLt c w) [
               | yes a ↦
-                  cc (made, row-at f s w (i + 1) i (after h (i + 1)) x c a, here, sw .rest i c cs (omega arith), sw .rest (after h (i + 1)) c cs (after-next h i), first .hit (i + 1) c b a (omega arith), before-next i)
+                  cc (
+                    made,
+                    row-at f s w (i + 1) i (after h (i + 1)) x c a,
+                    here,
+                    sw .rest i c cs (omega arith),
+                    sw .rest (after h (i + 1)) c cs (after-next h i),
+                    first .hit (i + 1) c b a (omega arith),
+                    before-next i,
+                  )
               | no a ↦ made ∙ row-past f s w (i + 1) i (after h (i + 1)) x ((i + 1) * s + c) (omega arith) ∙ here ∙ sym (first .wide (i + 1) c (omega arith))
             ]
         | no b ↦ ap (λ (y : ℕ → ℤ). y ((i + 1) * s + c)) (next-none (omega arith)) ∙ here ∙ sym (first .past (i + 1) c (omega arith))
@@ -176,7 +189,14 @@ module _ (f g : ℤ → ℤ → ℤ → ℤ) (p q s w h : ℕ) (X M Y : Grid) (f
       λ c cs.
       elim (decLt c w) [
         | yes l ↦
-            cc (made (i * s + c), row-at g s w i a b x₁ c l, second .hit i c lt l o, same-row c cs, near-row (before i) c cs (before-near i) (λ e. near .1 (e ∙ sym o)), near-row (after h i) c cs (after-near h i) (λ e. far .1 (e ∙ sym o)))
+            cc (
+              made (i * s + c),
+              row-at g s w i a b x₁ c l,
+              second .hit i c lt l o,
+              same-row c cs,
+              near-row (before i) c cs (before-near i) (λ e. near .1 (e ∙ sym o)),
+              near-row (after h i) c cs (after-near h i) (λ e. far .1 (e ∙ sym o)),
+            )
         | no l ↦ made (i * s + c) ∙ row-past g s w i a b x₁ (i * s + c) (omega arith) ∙ same-row c cs ∙ sym (second .wide i c (omega arith))
       ] in
       record {
@@ -194,7 +214,8 @@ module _ (f g : ℤ → ℤ → ℤ → ℤ) (p q s w h : ℕ) (X M Y : Grid) (f
       }
 
 -- the first row of the way back, before the loop
-pub first-turn : (f : ℤ → ℤ → ℤ → ℤ) (g : ℤ → ℤ → ℤ → ℤ) (n s w h : ℕ) (X M Y : Grid) (x x′ : ℕ → ℤ) → Column f 0 w h M X → Column g 1 w h Y M → 1 < h → Rows n s w h → x′ ≡ rowsChanged f n s w 0 1 1 x → RowSwept s Y X 0 x → RowSwept s Y X 1 x′
+pub first-turn : (f : ℤ → ℤ → ℤ → ℤ) (g : ℤ → ℤ → ℤ → ℤ) (n s w h : ℕ) (X M Y : Grid) (x x′ : ℕ → ℤ) → Column f 0 w h M X → Column g 1 w h Y M → 1 < h →
+    Rows n s w h → x′ ≡ rowsChanged f n s w 0 1 1 x → RowSwept s Y X 0 x → RowSwept s Y X 1 x′
 unfolding before after
 first-turn f g n s w h X M Y x x′ first second more R is sw =
     let wide = R .wide in
@@ -207,6 +228,14 @@ first-turn f g n s w h X M Y x x′ first second more R is sw =
     (λ r c cs d. made (r * s + c) ∙ row-other f s w 0 1 1 x r c d wide cs)
     (λ c cs.
     elim (decLt c w) [
-      | yes a ↦ cc (made (0 * s + c), row-at f s w 0 1 1 x c a, sw .rest 0 c cs (omega arith), sw .rest 1 c cs (omega arith), hit c a, second .other 0 c (λ e. omega arith))
-      | no a ↦ made (0 * s + c) ∙ row-past f s w 0 1 1 x (0 * s + c) (omega arith) ∙ sw .rest 0 c cs (omega arith) ∙ sym (first .wide 0 c (omega arith)) ∙ sym (second .wide 0 c (omega arith))
+      | yes a ↦ cc (
+        made (0 * s + c),
+        row-at f s w 0 1 1 x c a,
+        sw .rest 0 c cs (omega arith),
+        sw .rest 1 c cs (omega arith),
+        hit c a,
+        second .other 0 c (λ e. omega arith),
+      )
+      | no a ↦ made (0 * s + c) ∙ row-past f s w 0 1 1 x (0 * s + c) (omega arith) ∙ sw .rest 0 c cs (omega arith) ∙ sym (first .wide 0 c (omega arith)) ∙
+          sym (second .wide 0 c (omega arith))
     ])

@@ -119,7 +119,9 @@ module _ (W H L a b c : ℕ) (pass : sizeQuestions W H L a b c 0 ≡ 0) where
           λ n. rw answer-is (r .1 (λ e. let m = backward-passes .0 (answer-is ∙ e) in n (m .0) (m .1))),
         )
 
-  pub there-and-back : (g : Grid) (z h : ℕ → ℤ) → IsMap W H g → let x = cells W (passed (forwardQuestion W H L a b c) (W * H) (planeOf whole L W H g) z) in (answer x h ≡ 0) × Same W H (cells W (heightsAfter x h)) g
+  pub there-and-back : (g : Grid) (z h : ℕ → ℤ) → IsMap W H g →
+      let x = cells W (passed (forwardQuestion W H L a b c) (W * H) (planeOf whole L W H g) z) in
+      (answer x h ≡ 0) × Same W H (cells W (heightsAfter x h)) g
   there-and-back g z h m =
       let x = cells W (passed (forwardQuestion W H L a b c) (W * H) (planeOf whole L W H g) z) in
       backward-gives x h g .0 (forward-gives g z m)

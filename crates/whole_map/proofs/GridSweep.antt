@@ -87,7 +87,8 @@ finish {s} {Y} {X} {k} {x} apart sw h =
       | no d ↦ sw .rest (j / s) (j % s) lt (omega arith) ∙ sym (h (j / s) (j % s) (omega arith))
     ]
 
-pub store-row : {s : ℕ} {Y X : Grid} {k : ℕ} {x : ℕ → ℤ} (x′ : ℕ → ℤ) → RowSwept s Y X k x → ((r c : ℕ) → c < s → r ≢ k → x′ (r * s + c) ≡ x (r * s + c)) → ((c : ℕ) → c < s → x′ (k * s + c) ≡ Y k c) → RowSwept s Y X (k + 1) x′
+pub store-row : {s : ℕ} {Y X : Grid} {k : ℕ} {x : ℕ → ℤ} (x′ : ℕ → ℤ) → RowSwept s Y X k x → ((r c : ℕ) → c < s → r ≢ k → x′ (r * s + c) ≡ x (r * s + c)) →
+    ((c : ℕ) → c < s → x′ (k * s + c) ≡ Y k c) → RowSwept s Y X (k + 1) x′
 store-row {s} {Y} {X} {k} {x} x′ sw other here =
     record {
       done = λ r c lt rk.
@@ -137,7 +138,8 @@ module _ (s low : ℕ) (Y X : Grid) where
       } in
       finish apart swept past
 
-  module _ (w k : ℕ) (ws : w ≤ s) (kl : k < low) (y x x₁ : ℕ → ℤ) (e₁ : x₁ ≡ spliced (k * s) w y x) (in₁ : (c : ℕ) → c < w → y c ≡ Y k c) (out₁ : (c : ℕ) → w ≤ c → Y k c ≡ X k c) (sw : Fronts s low Y X k x) where
+  module _ (w k : ℕ) (ws : w ≤ s) (kl : k < low) (y x x₁ : ℕ → ℤ) (e₁ : x₁ ≡ spliced (k * s) w y x) (in₁ : (c : ℕ) → c < w → y c ≡ Y k c)
+      (out₁ : (c : ℕ) → w ≤ c → Y k c ≡ X k c) (sw : Fronts s low Y X k x) where
     put₁ : (j : ℕ) → x₁ j ≡ spliced (k * s) w y x j
     put₁ j = ap (λ (u : ℕ → ℤ). u j) e₁
 
@@ -170,7 +172,8 @@ module _ (s low : ℕ) (Y X : Grid) where
         (omega arith)
 
     -- and the high row
-    pub fronts-turn : (u x₂ : ℕ → ℤ) → x₂ ≡ spliced ((low + k) * s) w u x₁ → ((c : ℕ) → c < w → u c ≡ Y (low + k) c) → ((c : ℕ) → w ≤ c → Y (low + k) c ≡ X (low + k) c) → Fronts s low Y X (k + 1) x₂
+    pub fronts-turn : (u x₂ : ℕ → ℤ) → x₂ ≡ spliced ((low + k) * s) w u x₁ → ((c : ℕ) → c < w → u c ≡ Y (low + k) c) →
+        ((c : ℕ) → w ≤ c → Y (low + k) c ≡ X (low + k) c) → Fronts s low Y X (k + 1) x₂
     fronts-turn u x₂ e₂ in₂ out₂ =
         let t = low + k in
         let put₂ : (j : ℕ) → x₂ j ≡ spliced (t * s) w u x₁ j = λ j. ap (λ (v : ℕ → ℤ). v j) e₂ in
@@ -183,8 +186,13 @@ module _ (s low : ℕ) (Y X : Grid) where
           | no l ↦ put-wide s w t u x₁ ws c (omega arith) ∙ low-other t c cs (omega arith) ∙ sw .restHighs k c cs (omega arith) ∙ sym (out₂ c (omega arith))
         ] in
         record {
-          lows = λ r c cs b. other r c cs (omega arith) ∙ elim (ℕ-discrete r k) [ yes e ↦ rw e (low-put c cs) | no d ↦ low-other r c cs d ∙ sw .lows r c cs (omega arith) ];
-          highs = λ r c cs b. elim (ℕ-discrete r k) [ yes e ↦ rw e (high c cs) | no d ↦ other (low + r) c cs (omega arith) ∙ low-other (low + r) c cs (omega arith) ∙ sw .highs r c cs (omega arith) ];
+          lows = λ r c cs b. other r c cs (omega arith) ∙ elim (ℕ-discrete r k)
+              [ yes e ↦ rw e (low-put c cs) | no d ↦ low-other r c cs d ∙ sw .lows r c cs (omega arith) ];
+          highs = λ r c cs b. elim (ℕ-discrete r k) [
+            | yes e ↦ rw e (high c cs)
+            | no d ↦ other (low + r) c cs (omega arith) ∙
+                low-other (low + r) c cs (omega arith) ∙ sw .highs r c cs (omega arith)
+          ];
           restLows = λ r c cs b l. other r c cs (omega arith) ∙ low-other r c cs (omega arith) ∙ sw .restLows r c cs (omega arith) l;
           restHighs = λ r c cs b. other (low + r) c cs (omega arith) ∙ low-other (low + r) c cs (omega arith) ∙ sw .restHighs r c cs (omega arith);
         }
@@ -196,14 +204,16 @@ pub record Passed (s w h : ℕ) (Y : Grid) (l₀ : List ℤ) (k : ℕ) (l : List
   pub size : length l ≡ length l₀
   pub swept : RowSwept s Y (cells s (at l₀)) k (at l)
 
-pub pass-start : (s w h : ℕ) (Y : Grid) (l₀ : List ℤ) (k : ℕ) → Rows (length l₀) s w h → ((r c : ℕ) → r < k → Y r c ≡ cells s (at l₀) r c) → Passed s w h Y l₀ k l₀
+pub pass-start : (s w h : ℕ) (Y : Grid) (l₀ : List ℤ) (k : ℕ) → Rows (length l₀) s w h → ((r c : ℕ) → r < k → Y r c ≡ cells s (at l₀) r c) →
+    Passed s w h Y l₀ k l₀
 pass-start s w h Y l₀ k g e = record { rows = g; few = few (length l₀) s w h g; size = refl; swept = start s Y k (at l₀) e }
 
 -- row k lies in the area
 pub pass-room : {s w h : ℕ} {Y : Grid} {l₀ : List ℤ} {k : ℕ} {l : List ℤ} → Passed s w h Y l₀ k l → k < h → k * s + w ≤ length l
 pass-room {s} {w} {h} {l₀ = l₀} {k = k} p lt = let room = row-room (length l₀) s w h k (p .rows) lt in omega (arith, p .size)
 
-pub pass-end : {s w h : ℕ} {Y : Grid} {l₀ : List ℤ} {k : ℕ} {l : List ℤ} → Passed s w h Y l₀ k l → ((r c : ℕ) → k ≤ r → Y r c ≡ cells s (at l₀) r c) → at l ≡ flat s Y
+pub pass-end : {s w h : ℕ} {Y : Grid} {l₀ : List ℤ} {k : ℕ} {l : List ℤ} → Passed s w h Y l₀ k l → ((r c : ℕ) → k ≤ r → Y r c ≡ cells s (at l₀) r c) →
+    at l ≡ flat s Y
 pass-end p e = finish (p .rows .apart) (p .swept) e
 
 -- row i, lent as a part of k numbers, which are its w: its length
@@ -213,7 +223,9 @@ row-length s w h Y l₀ i k l e lt p =
     length-mid (i * s) k l (omega (arith, p .size)) ∙ e
 
 -- and come back as z
-pub part-turn : (s w h : ℕ) (Y : Grid) (l₀ : List ℤ) (i k : ℕ) (l z : List ℤ) → k ≡ w → i < h → length z ≡ length (midOf (i * s) k l) → ((c : ℕ) → c < w → at z c ≡ Y i c) → ((c : ℕ) → w ≤ c → Y i c ≡ cells s (at l₀) i c) → Passed s w h Y l₀ i l → Passed s w h Y l₀ (i + 1) (putMid (i * s) k l z)
+pub part-turn : (s w h : ℕ) (Y : Grid) (l₀ : List ℤ) (i k : ℕ) (l z : List ℤ) → k ≡ w → i < h → length z ≡ length (midOf (i * s) k l) →
+    ((c : ℕ) → c < w → at z c ≡ Y i c) → ((c : ℕ) → w ≤ c → Y i c ≡ cells s (at l₀) i c) → Passed s w h Y l₀ i l →
+    Passed s w h Y l₀ (i + 1) (putMid (i * s) k l z)
 part-turn s w h Y l₀ i k l z e lt ez here beside p =
     let room = row-room (length l₀) s w h i (p .rows) lt in
     let wide = p .rows .wide in
@@ -256,7 +268,9 @@ module _ (F : (ℕ → ℤ) → ℕ → ℤ) (w h : ℕ) (X : Grid) (r c : ℕ) 
   unfolding rowsMapped
   mapped-wide q = simp (within-wide w h r c q)
 
-pub map-turn : (G : ℕ → (ℕ → ℤ) → ℕ → ℤ) (s w h : ℕ) (l₀ : List ℤ) (i k : ℕ) (l z : List ℤ) → k ≡ w → i < h → length z ≡ length (midOf (i * s) k l) → at z ≡ G (length (midOf (i * s) k l)) (at (midOf (i * s) k l)) → Passed s w h (rowsMapped (G w) w h (cells s (at l₀))) l₀ i l → Passed s w h (rowsMapped (G w) w h (cells s (at l₀))) l₀ (i + 1) (putMid (i * s) k l z)
+pub map-turn : (G : ℕ → (ℕ → ℤ) → ℕ → ℤ) (s w h : ℕ) (l₀ : List ℤ) (i k : ℕ) (l z : List ℤ) → k ≡ w → i < h → length z ≡ length (midOf (i * s) k l) →
+    at z ≡ G (length (midOf (i * s) k l)) (at (midOf (i * s) k l)) → Passed s w h (rowsMapped (G w) w h (cells s (at l₀))) l₀ i l →
+    Passed s w h (rowsMapped (G w) w h (cells s (at l₀))) l₀ (i + 1) (putMid (i * s) k l z)
 map-turn G s w h l₀ i k l z e lt ez is p =
     let X = cells s (at l₀) in
     let mid = row-length s w h _ l₀ i k l e lt p in
@@ -267,7 +281,8 @@ map-turn G s w h l₀ i k l z e lt ez is p =
     p
 
 -- a pass that leaves what is not in its rows leaves all past them
-pub pass-kept : {s w h : ℕ} {Y : Grid} {l₀ : List ℤ} {k : ℕ} {l : List ℤ} → Passed s w h Y l₀ k l → ((r c : ℕ) → within w h r c ≡ false → Y r c ≡ cells s (at l₀) r c) → KeptFrom ((h - 1) * s + w) (at l₀) (at l)
+pub pass-kept : {s w h : ℕ} {Y : Grid} {l₀ : List ℤ} {k : ℕ} {l : List ℤ} → Passed s w h Y l₀ k l →
+    ((r c : ℕ) → within w h r c ≡ false → Y r c ≡ cells s (at l₀) r c) → KeptFrom ((h - 1) * s + w) (at l₀) (at l)
 unfolding cells
 pass-kept {s} {w} {h} {Y} {l₀} {k} {l} p e =
     record {

@@ -26,7 +26,8 @@ use Rattle.areas.specs.Areas.{wholes}
 use Rattle.areas.proofs.AreaLaws.{front-at}
 use Rattle.areas.proofs.HeightLaws.{wholes-at}
 use Rattle.whole_map.proofs.HeightLaws.{wholes-mid, wholes-put}
-use Rattle.whole_map.proofs.GridSweep.{Passed, row-room, within-in, within-past, within-wide, pass-start, pass-room, pass-end, pass-kept, row-length, lent-row, part-turn, map-turn, mapped-past}
+use Rattle.whole_map.proofs.GridSweep.{Passed, row-room, within-in, within-past, within-wide, pass-start, pass-room, pass-end, pass-kept, row-length}
+use Rattle.whole_map.proofs.GridSweep.{lent-row, part-turn, map-turn, mapped-past}
 use Rattle.whole_map.proofs.TestLaws.{false-true, not-every, height-fits}
 use Rattle.whole_map.proofs.CellLaws.{mapped-out, returned-out}
 
@@ -71,7 +72,8 @@ module _ {s w h : ℕ} {Y : Grid} {l₀ : List ℤ} {i : ℕ} (g : List ℕ) (p 
   swept-size g₀ e = sym (length-map g pos) ∙ p .size ∙ ap length e ∙ length-map g₀ pos
 
 -- row i, lent as a part of n numbers y, its numbers being those of X: the test
-pub row-fits : (w i n : ℕ) (X : Grid) (y : ℕ → ℤ) → n ≡ w → y ≡ cut w (X i) → every n (λ j. between (pos 0) (pos maxSample) (y j)) ≡ every w (λ c. valueFits 0 (X i c))
+pub row-fits : (w i n : ℕ) (X : Grid) (y : ℕ → ℤ) → n ≡ w → y ≡ cut w (X i) →
+    every n (λ j. between (pos 0) (pos maxSample) (y j)) ≡ every w (λ c. valueFits 0 (X i c))
 row-fits w i n X y en ey =
     ap (λ (m : ℕ). every m (λ j. between (pos 0) (pos maxSample) (y j))) en
     ∙ every-same w _ _ (λ j q. ap (between (pos 0) (pos maxSample)) (ap (λ (f : ℕ → ℤ). f j) ey ∙ cut-in w (X i) j q) ∙ height-fits (X i j))
@@ -80,7 +82,10 @@ pub row-heights : (n : ℕ) (y : ℕ → ℤ) → every n (λ j. between (pos 0)
 row-heights n y e = sym (every-same n _ _ (λ j q. height-fits (y j))) ∙ e
 
 -- and its heights z
-pub store-turn : (w h : ℕ) (X : Grid) (g₀ : List ℕ) (i k n : ℕ) (y : ℕ → ℤ) (g z : List ℕ) → k ≡ w → i < h → n ≡ w → y ≡ cut w (X i) → length z ≡ length (midOf (i * w) k g) → heightsAt z ≡ fronted n (joined (halvesOf n y)) (heightsAt (midOf (i * w) k g)) → Passed w w h (rowsReturned w h X (cells w (at (wholes g₀)))) (wholes g₀) i (wholes g) → Passed w w h (rowsReturned w h X (cells w (at (wholes g₀)))) (wholes g₀) (i + 1) (wholes (putMid (i * w) k g z))
+pub store-turn : (w h : ℕ) (X : Grid) (g₀ : List ℕ) (i k n : ℕ) (y : ℕ → ℤ) (g z : List ℕ) → k ≡ w → i < h → n ≡ w → y ≡ cut w (X i) →
+    length z ≡ length (midOf (i * w) k g) → heightsAt z ≡ fronted n (joined (halvesOf n y)) (heightsAt (midOf (i * w) k g)) →
+    Passed w w h (rowsReturned w h X (cells w (at (wholes g₀)))) (wholes g₀) i (wholes g) →
+    Passed w w h (rowsReturned w h X (cells w (at (wholes g₀)))) (wholes g₀) (i + 1) (wholes (putMid (i * w) k g z))
 unfolding rowsReturned
 store-turn w h X g₀ i k n y g z e lt en ey ez is p =
     let u = heightsAt (midOf (i * w) k g) in
@@ -93,7 +98,9 @@ store-turn w h X g₀ i k n y g z e lt en ey ez is p =
     (λ c q. simp (within-wide w h i c q))
     p)
 
-pub store-end : (w h : ℕ) (X : Grid) (g₀ : List ℕ) (i : ℕ) (g : List ℕ) → Passed w w h (rowsReturned w h X (cells w (at (wholes g₀)))) (wholes g₀) i (wholes g) → h ≤ i → heightsAt g ≡ flat w (rowsReturned w h X (cells w (heightsAt g₀)))
+pub store-end : (w h : ℕ) (X : Grid) (g₀ : List ℕ) (i : ℕ) (g : List ℕ) →
+    Passed w w h (rowsReturned w h X (cells w (at (wholes g₀)))) (wholes g₀) i (wholes g) → h ≤ i →
+    heightsAt g ≡ flat w (rowsReturned w h X (cells w (heightsAt g₀)))
 unfolding rowsReturned
 store-end w h X g₀ i g p le =
     sym (wholes-at g)
@@ -128,7 +135,8 @@ module _ (w h : ℕ) (l₀ : List ℤ) (g₀ : List ℕ) where
         record { kept = λ j b. ap (λ (x : ℕ → ℤ). x j) (sym (wholes-at g)) ∙ k .kept j b ∙ ap (λ (x : ℕ → ℤ). x j) (wholes-at g₀) }
 
     -- the test of row i, lent as a part of k numbers
-    module _ (k : ℕ) (e : k ≡ w) (lt : i < h) (ok : Bool) (is : ok ≡ every (length (midOf (i * w) k l)) (λ j. between (pos 0) (pos maxSample) (at (midOf (i * w) k l) j))) where
+    module _ (k : ℕ) (e : k ≡ w) (lt : i < h) (ok : Bool)
+        (is : ok ≡ every (length (midOf (i * w) k l)) (λ j. between (pos 0) (pos maxSample) (at (midOf (i * w) k l) j))) where
       row-test : ok ≡ every w (λ c. valueFits 0 (cells w (at l₀) i c))
       row-test = is ∙ row-fits w i _ (cells w (at l₀)) _ (row-length w w h _ l₀ i k l e lt (f .rows)) (lent-row w w h _ l₀ i k l e (f .rows))
 
@@ -143,12 +151,16 @@ module _ (w h : ℕ) (l₀ : List ℤ) (g₀ : List ℕ) where
             keptHeights = finish-kept-heights;
           }
 
-      pub finish-turn : (z : List ℤ) (v : List ℕ) → ok ≡ true → length z ≡ length (midOf (i * w) k l) → length v ≡ length (midOf (i * w) k g) → heightsAt v ≡ fronted (length (midOf (i * w) k l)) (joined (halvesOf (length (midOf (i * w) k l)) (at (midOf (i * w) k l)))) (heightsAt (midOf (i * w) k g)) → at z ≡ fronted (length (midOf (i * w) k l)) (λ _. pos 0) (at (midOf (i * w) k l)) → Finishing w h l₀ g₀ (i + 1) (putMid (i * w) k l z) (putMid (i * w) k g v)
+      pub finish-turn : (z : List ℤ) (v : List ℕ) → ok ≡ true → length z ≡ length (midOf (i * w) k l) → length v ≡ length (midOf (i * w) k g) →
+          heightsAt v ≡ fronted (length (midOf (i * w) k l)) (joined (halvesOf (length (midOf (i * w) k l)) (at (midOf (i * w) k l))))
+          (heightsAt (midOf (i * w) k g)) → at z ≡ fronted (length (midOf (i * w) k l)) (λ _. pos 0) (at (midOf (i * w) k l)) →
+          Finishing w h l₀ g₀ (i + 1) (putMid (i * w) k l z) (putMid (i * w) k g v)
       finish-turn z v yes′ ez ev hs cs =
           record {
             most = omega arith;
             rows = map-turn (λ n. fronted n (λ _. pos 0)) w w h l₀ i k l z e lt ez cs (f .rows);
-            heights = store-turn w h (cells w (at l₀)) g₀ i k _ _ g v e lt (row-length w w h _ l₀ i k l e lt (f .rows)) (lent-row w w h _ l₀ i k l e (f .rows)) ev hs (f .heights);
+            heights = store-turn w h (cells w (at l₀)) g₀ i k _ _ g v e lt (row-length w w h _ l₀ i k l e lt (f .rows)) (lent-row w w h _ l₀ i k l e (f .rows))
+                ev hs (f .heights);
             tested = each-every (i + 1) _
                 (λ j q. elim (ℕ-discrete j i) [ yes m ↦ rw m (sym row-test ∙ yes′) | no m ↦ every-each i _ (f .tested) j (omega arith) ]);
           }

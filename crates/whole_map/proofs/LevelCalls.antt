@@ -46,7 +46,8 @@ unfolding cut
 cut-same w x y e =
     fun-ext λ j. elim (decLt j w) [ yes a ↦ simp (lt-ltb j w a) (e j a) | no a ↦ simp (le-ltb j w (omega arith)) ]
 
-pub mapped-same : (f : (ℕ → ℤ) → ℕ → ℤ) (w h : ℕ) (X Y : Grid) (r c : ℕ) → X r c ≡ Y r c → ((j : ℕ) → j < w → X r j ≡ Y r j) → rowsMapped f w h X r c ≡ rowsMapped f w h Y r c
+pub mapped-same : (f : (ℕ → ℤ) → ℕ → ℤ) (w h : ℕ) (X Y : Grid) (r c : ℕ) → X r c ≡ Y r c → ((j : ℕ) → j < w → X r j ≡ Y r j) →
+    rowsMapped f w h X r c ≡ rowsMapped f w h Y r c
 unfolding rowsMapped
 mapped-same f w h X Y r c e es = rw (e, cut-same w (X r) (Y r) es)
 
@@ -72,7 +73,8 @@ splice-same b n u v x e =
     ]
 
 -- what came back as z is y
-moved-part : (b n k : ℕ) (to z : List ℤ) (y : ℕ → ℤ) → k ≡ n → b + n ≤ length to → length z ≡ length (midOf b k to) → ((i : ℕ) → i < n → at z i ≡ y i) → at (putMid b k to z) ≡ spliced b n y (at to)
+moved-part : (b n k : ℕ) (to z : List ℤ) (y : ℕ → ℤ) → k ≡ n → b + n ≤ length to → length z ≡ length (midOf b k to) → ((i : ℕ) → i < n → at z i ≡ y i) →
+    at (putMid b k to z) ≡ spliced b n y (at to)
 moved-part b n k to z y e fb size is =
     let mid = length-mid b k to (omega arith) in
     at-put b k to z (omega arith) (omega arith)
@@ -83,7 +85,8 @@ moved-part b n k to z y e fb size is =
 lent-part : (a n k : ℕ) (from : List ℤ) → k ≡ n → at (midOf a k from) ≡ windowed a n (at from)
 lent-part a n k from e = at-mid a k from ∙ ap (λ (m : ℕ). windowed a m (at from)) e
 
-module _ (a b n k k′ : ℕ) (from to z : List ℤ) (e : k ≡ n) (e′ : k′ ≡ n) (fa : a + n ≤ length from) (fb : b + n ≤ length to) (size : length z ≡ length (midOf b k to)) where
+module _ (a b n k k′ : ℕ) (from to z : List ℤ) (e : k ≡ n) (e′ : k′ ≡ n) (fa : a + n ≤ length from) (fb : b + n ≤ length to)
+    (size : length z ≡ length (midOf b k to)) where
   mid-length : length (midOf a k′ from) ≡ n
   mid-length = length-mid a k′ from (omega arith) ∙ e′
 
@@ -91,7 +94,8 @@ module _ (a b n k k′ : ℕ) (from to z : List ℤ) (e : k ≡ n) (e′ : k′ 
   same-parts = mid-length ∙ sym (length-mid b k to (omega arith) ∙ e)
 
   -- what came back has y at its front
-  fronted-part : (y : ℕ → ℤ) → at z ≡ pick (leb (length (midOf a k′ from)) (length (midOf b k to))) (fronted (length (midOf a k′ from)) y (at (midOf b k to))) (at (midOf b k to)) → at (putMid b k to z) ≡ spliced b n y (at to)
+  fronted-part : (y : ℕ → ℤ) → at z ≡ pick (leb (length (midOf a k′ from)) (length (midOf b k to))) (fronted (length (midOf a k′ from)) y (at (midOf b k to)))
+      (at (midOf b k to)) → at (putMid b k to z) ≡ spliced b n y (at to)
   fronted-part y is =
       let mid = mid-length in
       let ok = le-leb (length (midOf a k′ from)) (length (midOf b k to)) (omega (arith, same-parts)) in
@@ -103,7 +107,10 @@ module _ (a b n k k′ : ℕ) (from to z : List ℤ) (e : k ≡ n) (e′ : k′ 
       (windowed a n (at from)) (at to)
   copied-part is = fronted-part _ is ∙ ap (λ (y : ℕ → ℤ). spliced b n y (at to)) (lent-part a n k′ from e′)
 
-  pub unlifted-part : at z ≡ pick (leb (length (midOf a k′ from)) (length (midOf b k to))) (fronted (length (midOf a k′ from)) (unliftedInPlace (length (midOf a k′ from)) (highsLaid (length (midOf a k′ from)) (at (midOf a k′ from)) (at (midOf b k to)))) (at (midOf b k to))) (at (midOf b k to)) → at (putMid b k to z) ≡ spliced b n (unliftedInPlace n (highsLaid n (windowed a n (at from)) (windowed b n (at to)))) (at to)
+  pub unlifted-part : at z ≡ pick (leb (length (midOf a k′ from)) (length (midOf b k to)))
+      (fronted (length (midOf a k′ from)) (unliftedInPlace (length (midOf a k′ from))
+      (highsLaid (length (midOf a k′ from)) (at (midOf a k′ from)) (at (midOf b k to)))) (at (midOf b k to))) (at (midOf b k to)) →
+      at (putMid b k to z) ≡ spliced b n (unliftedInPlace n (highsLaid n (windowed a n (at from)) (windowed b n (at to)))) (at to)
   unlifted-part is = fronted-part _ is ∙ cc (mid-length, lent-part a n k′ from e′, lent-part b n k to e)
 
   pub halved-part : at z ≡ pick (leb (length (midOf a k′ from)) (length (midOf b k to)))
@@ -117,7 +124,9 @@ module _ (a b n k k′ : ℕ) (from to z : List ℤ) (e : k ≡ n) (e′ : k′ 
       moved-part b n k to z _ e fb size (λ i h. ap (λ (x : ℕ → ℤ). x i) is′ ∙ halves-inside n (parted y) _ y i h)
 
 -- ---- row i of an area: n numbers y put in from column `made` on, where the pass leaves those before and those past
-pub copy-turn : (s w made n i p : ℕ) (Y Z : Grid) (y x x′ : ℕ → ℤ) → w ≤ s → made + n ≡ w → p ≡ i * s + made → x′ ≡ spliced p n y x → ((c : ℕ) → c < n → y c ≡ Y i (made + c)) → ((c : ℕ) → c < made → Y i c ≡ Z i c) → ((c : ℕ) → w ≤ c → Y i c ≡ Z i c) → RowSwept s Y Z i x → RowSwept s Y Z (i + 1) x′
+pub copy-turn : (s w made n i p : ℕ) (Y Z : Grid) (y x x′ : ℕ → ℤ) → w ≤ s → made + n ≡ w → p ≡ i * s + made → x′ ≡ spliced p n y x →
+    ((c : ℕ) → c < n → y c ≡ Y i (made + c)) → ((c : ℕ) → c < made → Y i c ≡ Z i c) → ((c : ℕ) → w ≤ c → Y i c ≡ Z i c) → RowSwept s Y Z i x →
+    RowSwept s Y Z (i + 1) x′
 copy-turn s w made n i p Y Z y x x′ ws all e is new left past sw =
     let put : (j : ℕ) → x′ j ≡ spliced p n y x j = λ j. ap (λ (z : ℕ → ℤ). z j) is in
     store-row x′ sw
@@ -150,13 +159,15 @@ unfolding cells
 row-lent s w r x = window-cut (r * s) w x (λ c. x (r * s + c)) (λ c q. refl)
 
 -- row i of an area filled with a row of w numbers y
-pub fill-turn : (A w h i : ℕ) (Y Z : Grid) (y z z′ : ℕ → ℤ) → w ≤ A → z′ ≡ spliced (i * A) w y z → ((c : ℕ) → c < w → y c ≡ Y i c) → ((c : ℕ) → w ≤ c → Y i c ≡ Z i c) → RowSwept A Y Z i z → RowSwept A Y Z (i + 1) z′
+pub fill-turn : (A w h i : ℕ) (Y Z : Grid) (y z z′ : ℕ → ℤ) → w ≤ A → z′ ≡ spliced (i * A) w y z → ((c : ℕ) → c < w → y c ≡ Y i c) →
+    ((c : ℕ) → w ≤ c → Y i c ≡ Z i c) → RowSwept A Y Z i z → RowSwept A Y Z (i + 1) z′
 fill-turn A w h i Y Z y z z′ wa is new past sw =
     copy-turn A w 0 w i (i * A) Y Z y z z′ wa (omega arith) (omega arith) is
     (λ c cw. let k : 0 + c ≡ c = omega arith in rw k (new c cw)) (λ c b. absurd (omega arith)) past sw
 
 -- a part lifted in place
-pub lifted-part : (a n k : ℕ) (l z : List ℤ) → k ≡ n → a + n ≤ length l → length z ≡ length (midOf a k l) → at z ≡ liftedInPlace (length (midOf a k l)) (at (midOf a k l)) → at (putMid a k l z) ≡ spliced a n (liftedInPlace n (windowed a n (at l))) (at l)
+pub lifted-part : (a n k : ℕ) (l z : List ℤ) → k ≡ n → a + n ≤ length l → length z ≡ length (midOf a k l) →
+    at z ≡ liftedInPlace (length (midOf a k l)) (at (midOf a k l)) → at (putMid a k l z) ≡ spliced a n (liftedInPlace n (windowed a n (at l))) (at l)
 lifted-part a n k l z e room size is =
     let mid : length (midOf a k l) ≡ n = length-mid a k l (omega arith) ∙ e in
     let is′ : at z ≡ liftedInPlace n (windowed a n (at l)) = cc (is, mid, lent-part a n k l e) in
@@ -199,14 +210,17 @@ module _ (w h : ℕ) (G : Grid) (x₀ : ℕ → ℤ) where
   high-laid k kh c cw =
       let both = counts h in
       let t : count lo h + k - count lo h ≡ k = omega arith in
-      sym (halved-in w h G (cells w x₀) (count lo h + k) c (omega arith) cw ∙ ap (λ (r : ℕ). partedInPlace w (G r) c) (level-high h (count lo h + k) (omega arith) ∙ ap (λ (i : ℕ). 2 * i + 1) t))
+      sym (halved-in w h G (cells w x₀) (count lo h + k) c (omega arith) cw ∙
+      ap (λ (r : ℕ). partedInPlace w (G r) c) (level-high h (count lo h + k) (omega arith) ∙ ap (λ (i : ℕ). 2 * i + 1) t))
 
-  pub laid-turn : (low k : ℕ) (x x₁ x₂ : ℕ → ℤ) → low ≡ count lo h → k < count hi h → x₁ ≡ spliced (k * w) w (partedInPlace w (G (2 * k))) x → x₂ ≡ spliced ((low + k) * w) w (partedInPlace w (G (2 * k + 1))) x₁ → Laid k x → Laid (k + 1) x₂
+  pub laid-turn : (low k : ℕ) (x x₁ x₂ : ℕ → ℤ) → low ≡ count lo h → k < count hi h → x₁ ≡ spliced (k * w) w (partedInPlace w (G (2 * k))) x →
+      x₂ ≡ spliced ((low + k) * w) w (partedInPlace w (G (2 * k + 1))) x₁ → Laid k x → Laid (k + 1) x₂
   laid-turn low k x x₁ x₂ e kh e₁ e₂ sw =
       let both = counts h in
       let half = count-lo h in
       let half′ = count-hi h in
-      fronts-turn w (count lo h) _ _ w k (omega arith) (omega arith) _ x x₁ e₁ (low-laid k (omega arith)) (laid-wide k) sw _ x₂ (rw e at e₂) (high-laid k kh) (laid-wide (count lo h + k))
+      fronts-turn w (count lo h) _ _ w k (omega arith) (omega arith) _ x x₁ e₁ (low-laid k (omega arith)) (laid-wide k) sw _ x₂ (rw e at e₂) (high-laid k kh)
+      (laid-wide (count lo h + k))
 
   pub laid-even : (k : ℕ) (x : ℕ → ℤ) → 0 < w → count lo h ≤ k → Laid k x → x ≡ flat w (gridHalved w h G (cells w x₀))
   laid-even k x some b sw =
@@ -215,7 +229,8 @@ module _ (w h : ℕ) (G : Grid) (x₀ : ℕ → ℤ) where
       let half′ = count-hi h in
       fronts-end w (count lo h) _ _ h k x some b (omega arith) laid-past sw (omega arith)
 
-  pub laid-odd : (k : ℕ) (x x₁ : ℕ → ℤ) → 0 < w → k ≡ count hi h → k < count lo h → x₁ ≡ spliced (k * w) w (partedInPlace w (G (2 * k))) x → Laid k x → x₁ ≡ flat w (gridHalved w h G (cells w x₀))
+  pub laid-odd : (k : ℕ) (x x₁ : ℕ → ℤ) → 0 < w → k ≡ count hi h → k < count lo h → x₁ ≡ spliced (k * w) w (partedInPlace w (G (2 * k))) x → Laid k x →
+      x₁ ≡ flat w (gridHalved w h G (cells w x₀))
   laid-odd k x x₁ some ek b e₁ sw =
       let both = counts h in
       let half = count-lo h in
@@ -223,14 +238,16 @@ module _ (w h : ℕ) (G : Grid) (x₀ : ℕ → ℤ) where
       fronts-last w (count lo h) _ _ w k (omega arith) b _ x x₁ e₁ (low-laid k b) (laid-wide k) sw h some (omega arith) (omega arith) laid-past
 
 -- a grid copied, and laid in halves
-pub copied-turn : (A s w h i : ℕ) (z x₀ x x′ : ℕ → ℤ) → w ≤ s → i < h → x′ ≡ spliced (i * s) w (windowed (i * A) w z) x → RowSwept s (gridCopied w h (cells A z) (cells s x₀)) (cells s x₀) i x → RowSwept s (gridCopied w h (cells A z) (cells s x₀)) (cells s x₀) (i + 1) x′
+pub copied-turn : (A s w h i : ℕ) (z x₀ x x′ : ℕ → ℤ) → w ≤ s → i < h → x′ ≡ spliced (i * s) w (windowed (i * A) w z) x →
+    RowSwept s (gridCopied w h (cells A z) (cells s x₀)) (cells s x₀) i x → RowSwept s (gridCopied w h (cells A z) (cells s x₀)) (cells s x₀) (i + 1) x′
 copied-turn A s w h i z x₀ x x′ ws ih is sw =
     fill-turn s w h i _ _ (windowed (i * A) w z) x x′ ws is
     (λ c cw. ap (λ (u : ℕ → ℤ). u c) (row-lent A w i z) ∙ cut-in w (cells A z i) c cw ∙ sym (copied-in w h (cells A z) (cells s x₀) i c ih cw))
     (λ c b. copied-out w h (cells A z) (cells s x₀) i c (outside-columns w h i c b))
     sw
 
-pub halved-turn : (s A w h i l : ℕ) (x z₀ z z′ : ℕ → ℤ) → w ≤ A → i < h → l ≡ levelRow h i → z′ ≡ spliced (i * A) w (partedInPlace w (windowed (l * s) w x)) z → RowSwept A (gridHalved w h (cells s x) (cells A z₀)) (cells A z₀) i z → RowSwept A (gridHalved w h (cells s x) (cells A z₀)) (cells A z₀) (i + 1) z′
+pub halved-turn : (s A w h i l : ℕ) (x z₀ z z′ : ℕ → ℤ) → w ≤ A → i < h → l ≡ levelRow h i → z′ ≡ spliced (i * A) w (partedInPlace w (windowed (l * s) w x)) z →
+    RowSwept A (gridHalved w h (cells s x) (cells A z₀)) (cells A z₀) i z → RowSwept A (gridHalved w h (cells s x) (cells A z₀)) (cells A z₀) (i + 1) z′
 unfolding partedInPlace
 halved-turn s A w h i l x z₀ z z′ wa ih e is sw =
     let y = windowed (l * s) w x in
@@ -260,7 +277,8 @@ module _ (s first last from to : ℕ) (low high : ℤ) (l : List ℤ) where
     pub all : every (r - first) rowTest ≡ true
 
   -- what the test of row r says
-  pub row-test : (r a k : ℕ) (ok : Bool) → first ≤ r → a ≡ r * s + from → k ≡ to - from → a + k ≤ length l → ok ≡ every (length (midOf a k l)) (λ i. between low high (at (midOf a k l) i)) → ok ≡ rowTest (r - first)
+  pub row-test : (r a k : ℕ) (ok : Bool) → first ≤ r → a ≡ r * s + from → k ≡ to - from → a + k ≤ length l →
+      ok ≡ every (length (midOf a k l)) (λ i. between low high (at (midOf a k l) i)) → ok ≡ rowTest (r - first)
   unfolding cells
   row-test r a k ok fr ea ek room e =
       let mid : length (midOf a k l) ≡ to - from = length-mid a k l room ∙ ek in

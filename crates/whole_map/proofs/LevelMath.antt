@@ -17,21 +17,29 @@ use Rattle.whole_map.specs.Passes.{evenRowsChanged, rowsMapped}
 use Rattle.whole_map.specs.LevelPasses.{levelGrid, cornerGrid, columnsLiftedInPlace, levelLifted, columnsUnliftedInPlace, levelUnlifted}
 use Rattle.wavelet.proofs.LevelTheory.{across-of, down-of}
 use Rattle.whole_map.proofs.GridSweep.{mapped-in}
-use Rattle.whole_map.proofs.CellLaws.{placed, placed-in, joined-at, grid-at, halves-at, halves-half, place-in, within-in, odd-in, odd-even, even-in, even-odd, cut-in, before-odd, before-even, after-odd, after-even}
+use Rattle.whole_map.proofs.CellLaws.{placed, placed-in, joined-at, grid-at, halves-at, halves-half, place-in, within-in, odd-in, odd-even, even-in}
+use Rattle.whole_map.proofs.CellLaws.{even-odd, cut-in, before-odd, before-even, after-odd, after-even}
 
 -- ---- columns: each is a line of h numbers, its even rows the low half and its odd rows the high half
 module _ (w h : ℕ) (X : Grid) (c : ℕ) (cw : c < w) where
   abbrev column : Grid → ℕ → ℤ
   column Z i = Z i c
 
-  unupdated-row : 1 < h → (n : ℕ) → n < count lo h → evenRowsChanged (unupdated wrap32) w h X (2 * n) c ≡ backEven wrap32 h (parted (column X) lo) (parted (column X) hi) n
+  unupdated-row : 1 < h → (n : ℕ) → n < count lo h →
+      evenRowsChanged (unupdated wrap32) w h X (2 * n) c ≡ backEven wrap32 h (parted (column X) lo) (parted (column X) hi) n
   unfolding parted
   unupdated-row g n b =
       let both = counts h in
       let l = count-hi h in
-      cc (even-in (unupdated wrap32) w h X c cw (2 * n) (omega arith) (omega arith), before-even n, after-even h n g b, even-is wrap32 h g (parted (column X) lo) (parted (column X) hi) n b)
+      cc (
+        even-in (unupdated wrap32) w h X c cw (2 * n) (omega arith) (omega arith),
+        before-even n,
+        after-even h n g b,
+        even-is wrap32 h g (parted (column X) lo) (parted (column X) hi) n b,
+      )
 
-  columns-halves-back : (d : Half) (n : ℕ) → n < count d h → parted (column (columnsUnliftedInPlace w h X)) d n ≡ lineHalvesBack wrap32 h (parted (column X)) d n
+  columns-halves-back : (d : Half) (n : ℕ) → n < count d h →
+      parted (column (columnsUnliftedInPlace w h X)) d n ≡ lineHalvesBack wrap32 h (parted (column X)) d n
   unfolding parted columnsUnliftedInPlace lineHalvesBack
   columns-halves-back lo n b =
       let both = counts h in
@@ -48,7 +56,15 @@ module _ (w h : ℕ) (X : Grid) (c : ℕ) (cw : c < w) where
       let g : 1 < h = omega arith in
       let m = min (n + 1) (count lo h - 1) in
       simp (lt-ltb 1 h g)
-      (cc (odd-in (unpredicted wrap32) w h Z c cw (2 * n + 1) (omega arith) (omega arith), before-odd n, after-odd h n b, even-odd (unupdated wrap32) w h X c cw (2 * n + 1) (omega arith) (omega arith), unupdated-row g n (omega arith), unupdated-row g m (omega arith), odd-is wrap32 h g (parted (column X) lo) (parted (column X) hi) n b))
+      (cc (
+        odd-in (unpredicted wrap32) w h Z c cw (2 * n + 1) (omega arith) (omega arith),
+        before-odd n,
+        after-odd h n b,
+        even-odd (unupdated wrap32) w h X c cw (2 * n + 1) (omega arith) (omega arith),
+        unupdated-row g n (omega arith),
+        unupdated-row g m (omega arith),
+        odd-is wrap32 h g (parted (column X) lo) (parted (column X) hi) n b,
+      ))
 
   pub columns-back : (r : ℕ) → r < h → columnsUnliftedInPlace w h X r c ≡ lineBack wrap32 h (parted (column X)) r
   unfolding parted lineBack
@@ -83,11 +99,13 @@ module _ (w h : ℕ) (X : Grid) (r : ℕ) (rh : r < h) where
 
 -- ---- one level forward, where it stands
 module _ (w h : ℕ) (X : Grid) where
-  columns-forward : (R c : ℕ) → R < h → c < w → columnsLiftedInPlace w h X R c ≡ lineForward wrap32 h (joined (halvesOf h (λ i. X i c))) (halfAt h R) (placeIn h R)
+  columns-forward : (R c : ℕ) → R < h → c < w → columnsLiftedInPlace w h X R c ≡ lineForward wrap32 h (joined (halvesOf h (λ i. X i c))) (halfAt h R)
+      (placeIn h R)
   unfolding columnsLiftedInPlace liftedInPlace
   columns-forward R c rh cw = simp (within-in w h R c rh cw) (halves-half h (lineForward wrap32 h (joined (halvesOf h (λ i. X i c)))) (λ i. X i c) R rh)
 
-  pub level-forward : (R C : ℕ) → R < h → C < w → levelLifted w h X R C ≡ subband wrap32 w h (cornerGrid w h X) (bandOf (halfAt w C) (halfAt h R)) (placeIn h R) (placeIn w C)
+  pub level-forward : (R C : ℕ) → R < h → C < w → levelLifted w h X R C ≡ subband wrap32 w h (cornerGrid w h X) (bandOf (halfAt w C) (halfAt h R)) (placeIn h R)
+      (placeIn w C)
   unfolding levelLifted subband columnsLifted cornerGrid
   level-forward R C rh cw =
       let Z = columnsLiftedInPlace w h X in
@@ -113,11 +131,13 @@ halves-cut w y hi n b = let both = counts w in cut-in w y (count lo w + n) (omeg
 
 module _ (w h : ℕ) (p : Band → Grid) (X : Grid) (b : BandsIn w h p X) where
   -- a row of the area, lifted back
-  row-back : (d : Half) (r i : ℕ) → r < h → ((a : Half) (n : ℕ) → n < count a w → halvesOf w (X r) a n ≡ p (bandOf a d) i n) → (c : ℕ) → c < w → rowsMapped (unliftedInPlace w) w h X r (placed w c) ≡ lineBack wrap32 w (λ a. p (bandOf a d) i) c
+  row-back : (d : Half) (r i : ℕ) → r < h → ((a : Half) (n : ℕ) → n < count a w → halvesOf w (X r) a n ≡ p (bandOf a d) i n) → (c : ℕ) → c < w →
+      rowsMapped (unliftedInPlace w) w h X r (placed w c) ≡ lineBack wrap32 w (λ a. p (bandOf a d) i) c
   row-back d r i rh e c cw =
       rows-back w h X r rh c cw ∙ back-reads wrap32 w _ _ (λ a n nb. halves-cut w (X r) a n nb ∙ e a n nb) c cw
 
-  column-bands : (c : ℕ) → c < w → (d : Half) (i : ℕ) → i < count d h → parted (λ j. rowsMapped (unliftedInPlace w) w h X j (placed w c)) d i ≡ lineBack wrap32 w (λ a. p (bandOf a d) i) c
+  column-bands : (c : ℕ) → c < w → (d : Half) (i : ℕ) → i < count d h →
+      parted (λ j. rowsMapped (unliftedInPlace w) w h X j (placed w c)) d i ≡ lineBack wrap32 w (λ a. p (bandOf a d) i) c
   unfolding parted
   column-bands c cw lo i ib =
       let l = count-lo h in

@@ -19,7 +19,8 @@ use Rattle.wavelet.specs.Maps.{everyCell, valueFits, rebuiltFits}
 use Rattle.whole_map.specs.Rowwise.{wovenInPlace}
 use Rattle.whole_map.specs.Passes.{Rows, KeptFrom, rowsMapped, rowsFetched, gridHalved, gridCopied}
 use Rattle.whole_map.specs.LevelPasses.{cornerGrid, levelLifted, levelUnlifted, planeWritten, Rebuilt, rowsBetween, regionInRange, Doubling, LevelsBack}
-use Rattle.whole_map.proofs.CellLaws.{copied-out, mapped-out, fetched-out, unlifted-out, kept-flat, kept-then, next-end, next-rows, fewer-rows, fewer-columns}
+use Rattle.whole_map.proofs.CellLaws.{copied-out, mapped-out, fetched-out, unlifted-out, kept-flat, kept-then, next-end, next-rows, fewer-rows}
+use Rattle.whole_map.proofs.CellLaws.{fewer-columns}
 use Rattle.whole_map.proofs.LevelsMath.{forward-last, forward-more, back-last, back-more}
 use Rattle.whole_map.proofs.TestLaws.{false-true, rebuilt-test, fits-more, fits-none, region-more, region-last}
 
@@ -66,7 +67,13 @@ pub own-rows : (n n′ w h w′ h′ : ℕ) → n′ ≡ n → w′ ≡ count lo
 own-rows n n′ w h w′ h′ size ew eh R =
     let l = count-lo h in
     let k = count-lo w in
-    rw (size, ew, eh) (record { apart = omega (arith, R .apart); wide = omega arith; some = omega (arith, R .some); room = omega (arith, own-end w h (R .some), R .room) })
+    rw (size, ew, eh) (record {
+      apart = omega (arith, R .apart);
+      wide = omega arith;
+      some = omega (arith, R .some);
+      room =
+          omega (arith, own-end w h (R .some), R .room);
+    })
 
 -- ---- forward: z₁ is the plane with the level lifted
 module _ (A w h : ℕ) (z₀ z₁ : ℕ → ℤ) (wa : w ≤ A) (some : 0 < A) (f₁ : z₁ ≡ flat A (levelLifted w h (cells A z₀))) where
@@ -74,21 +81,26 @@ module _ (A w h : ℕ) (z₀ z₁ : ℕ → ℤ) (wa : w ≤ A) (some : 0 < A) (
   forward-end L a b = let k : L ≡ 1 = omega arith in rw k (forward-last A w h z₀ z₁ wa some f₁)
 
   -- x₁ is the work area with the low-low part, z₂ the plane with it in halves, z₃ and x₃ what the levels left leave
-  pub forward-step : (n L w′ h′ : ℕ) (x₀ x₁ x₃ z₂ z₃ : ℕ → ℤ) → Rows n w w h → 2 ≤ L → w′ ≡ count lo w → h′ ≡ count lo h → x₁ ≡ flat w′ (gridCopied w′ h′ (cells A z₁) (cells w′ x₀)) → z₂ ≡ flat A (gridHalved w′ h′ (cells w′ x₁) (cells A z₁)) → z₃ ≡ flat A (planeWritten (L - 1) w′ h′ (cornerGrid w′ h′ (cells A z₂)) (cells A z₂)) → KeptFrom ((h′ - 1) * w′ + w′) x₁ x₃ → (z₃ ≡ flat A (planeWritten L w h (cornerGrid w h (cells A z₀)) (cells A z₀))) × KeptFrom ((h - 1) * w + w) x₀ x₃
+  pub forward-step : (n L w′ h′ : ℕ) (x₀ x₁ x₃ z₂ z₃ : ℕ → ℤ) → Rows n w w h → 2 ≤ L → w′ ≡ count lo w → h′ ≡ count lo h →
+      x₁ ≡ flat w′ (gridCopied w′ h′ (cells A z₁) (cells w′ x₀)) → z₂ ≡ flat A (gridHalved w′ h′ (cells w′ x₁) (cells A z₁)) →
+      z₃ ≡ flat A (planeWritten (L - 1) w′ h′ (cornerGrid w′ h′ (cells A z₂)) (cells A z₂)) → KeptFrom ((h′ - 1) * w′ + w′) x₁ x₃ →
+      (z₃ ≡ flat A (planeWritten L w h (cornerGrid w h (cells A z₀)) (cells A z₀))) × KeptFrom ((h - 1) * w + w) x₀ x₃
   forward-step n L w′ h′ x₀ x₁ x₃ z₂ z₃ R b ew eh e₁ f₂ f₃ k₃ =
       let end = own-end w h (R .some) in
       let R′ = own-rows n n w h w′ h′ refl ew eh R in
       let k = kept-flat n w′ w′ h′ x₀ x₁ _ R′ e₁ (copied-out w′ h′ (cells A z₁) (cells w′ x₀)) in
       let e : x₁ ≡ flat (count lo w) (gridCopied (count lo w) (count lo h) (cells A z₁) (cells (count lo w) x₀)) = rw (ew, eh) at e₁ in
       let f : z₂ ≡ flat A (gridHalved (count lo w) (count lo h) (cells (count lo w) x₁) (cells A z₁)) = rw (ew, eh) at f₂ in
-      let f′ : z₃ ≡ flat A (planeWritten (L - 1) (count lo w) (count lo h) (cornerGrid (count lo w) (count lo h) (cells A z₂)) (cells A z₂)) = rw (ew, eh) at f₃ in
+      let f′ : z₃ ≡ flat A (planeWritten (L - 1) (count lo w) (count lo h) (cornerGrid (count lo w) (count lo h) (cells A z₂)) (cells A z₂)) =
+      rw (ew, eh) at f₃ in
       let all : KeptFrom ((count lo h - 1) * count lo w + count lo w) x₀ x₃ = rw (ew, eh) at (kept-then k k₃ (omega arith)) in (
         forward-more A w h z₀ z₁ wa some f₁ x₀ x₁ z₂ e f L z₃ b f′,
         record { kept = λ j g. all .kept j (omega arith) },
       )
 
 -- ---- back: y₀ is the work area before the level's rows are fetched
-module _ (n s A w h from : ℕ) (z y₀ y : ℕ → ℤ) (R : Rows n s w h) (b : y ≡ flat s (levelUnlifted w h (cells s (flat s (rowsFetched from w h (cells A z) (cells s y₀)))))) where
+module _ (n s A w h from : ℕ) (z y₀ y : ℕ → ℤ) (R : Rows n s w h)
+    (b : y ≡ flat s (levelUnlifted w h (cells s (flat s (rowsFetched from w h (cells A z) (cells s y₀)))))) where
   abbrev fetchedRows : ℕ → ℤ
   fetchedRows = flat s (rowsFetched from w h (cells A z) (cells s y₀))
 
@@ -99,7 +111,8 @@ module _ (n s A w h from : ℕ) (z y₀ y : ℕ → ℤ) (R : Rows n s w h) (b :
       (kept-flat n s w h fetchedRows y _ R b (unlifted-out w h (cells s fetchedRows)))
       (omega arith)
 
-pub back-end : (n s A w h k L : ℕ) (z y₀ y : ℕ → ℤ) → Rows n s w h → 0 < L → L < 2 → y ≡ flat s (levelUnlifted w h (cells s (flat s (rowsFetched 0 w h (cells A z) (cells s y₀))))) → LevelsBack true k L s A w h z y₀ y
+pub back-end : (n s A w h k L : ℕ) (z y₀ y : ℕ → ℤ) → Rows n s w h → 0 < L → L < 2 →
+    y ≡ flat s (levelUnlifted w h (cells s (flat s (rowsFetched 0 w h (cells A z) (cells s y₀))))) → LevelsBack true k L s A w h z y₀ y
 back-end n s A w h k L z y₀ y R a c b =
     let e : L ≡ 1 = omega arith in
     let B : Rebuilt 1 w h (cells A z) (cells s y) = back-last s w h (cells A z) y₀ _ y (R .wide) refl b in
@@ -121,7 +134,8 @@ module _ (n s A w h k L w′ h′ : ℕ) (done : Bool) (z y₀ y₁ : ℕ → �
   abbrev lowFits : Bool
   lowFits = rebuiltFits (k + 1) (L - 1) (count lo w) (count lo h) (cells A z)
 
-  low-fits : lowFits ≡ pick done (everyCell (count lo w) (count lo h) (λ r c. valueFits (k + 1) (mapBack wrap32 (L - 1) (count lo w) (count lo h) (cells A z) r c))) false
+  low-fits : lowFits ≡ pick done (everyCell (count lo w) (count lo h)
+      (λ r c. valueFits (k + 1) (mapBack wrap32 (L - 1) (count lo w) (count lo h) (cells A z) r c))) false
   low-fits = let e = low-back .answer in fits-more (k + 1) (L - 1) (count lo w) (count lo h) (cells A z) (omega arith) ∙ rw (← e)
 
   low-kept : KeptFrom ((h - 1) * s + w) y₀ y₁
@@ -163,7 +177,8 @@ module _ (n s A w h k L w′ h′ : ℕ) (done : Bool) (z y₀ y₁ : ℕ → �
         }
 
 -- ---- ranges
-pub between-by : (first last from to : ℕ) (X : Grid) {low low′ high high′ : ℤ} → low ≡ low′ → high ≡ high′ → rowsBetween first last from to low high X ≡ rowsBetween first last from to low′ high′ X
+pub between-by : (first last from to : ℕ) (X : Grid) {low low′ high high′ : ℤ} → low ≡ low′ → high ≡ high′ →
+    rowsBetween first last from to low high X ≡ rowsBetween first last from to low′ high′ X
 between-by first last from to X e f = λ i. rowsBetween first last from to (e i) (f i) X
 
 pub range-is : (k : ℕ) → k ≤ maxLevels → pos (range (min k maxLevels)) ≡ pos (range k)
@@ -176,7 +191,8 @@ pub neg-is : (z : ℤ) → pos 0 -ℤ z ≡ negℤ z
 neg-is = each _ λ p q. simp lin (omega arith)
 
 -- ---- question 7, test by test: of the low-low part, of the rows beside it, of the rows below
-module _ (k L w h w′ h′ : ℕ) (x : Grid) (a : Bool) (one : 0 < k) (more : 2 ≤ L) (ew : w′ ≡ count lo w) (eh : h′ ≡ count lo h) (ea : a ≡ regionInRange (k + 1) (L - 1) w′ h′ x) where
+module _ (k L w h w′ h′ : ℕ) (x : Grid) (a : Bool) (one : 0 < k) (more : 2 ≤ L) (ew : w′ ≡ count lo w) (eh : h′ ≡ count lo h)
+    (ea : a ≡ regionInRange (k + 1) (L - 1) w′ h′ x) where
   low-test : a ≡ regionInRange (k + 1) (L - 1) (count lo w) (count lo h) x
   low-test = rw (ew, eh) at ea
 
@@ -195,5 +211,6 @@ module _ (k L w h w′ h′ : ℕ) (x : Grid) (a : Bool) (one : 0 < k) (more : 2
         let below : d ≡ rowsBetween (count lo h) h 0 w (negℤ (pos (range k))) (pos (range k)) x = rw eh at ed in
         below ∙ sym (region-more k L w h x one more ∙ rw (← low-test, yes′, ← beside-test, yes″))
 
-pub range-end : (k L w h : ℕ) (x : Grid) (d : Bool) → 0 < k → 0 < L → L < 2 → d ≡ rowsBetween 0 h 0 w (negℤ (pos (range k))) (pos (range k)) x → d ≡ regionInRange k L w h x
+pub range-end : (k L w h : ℕ) (x : Grid) (d : Bool) → 0 < k → 0 < L → L < 2 → d ≡ rowsBetween 0 h 0 w (negℤ (pos (range k))) (pos (range k)) x →
+    d ≡ regionInRange k L w h x
 range-end k L w h x d one a b e = let j : L ≡ 1 = omega arith in rw j (e ∙ sym (region-last k w h x one))

@@ -17,17 +17,20 @@ use Rattle.whole_map.specs.LevelPasses.{levelGrid, cornerGrid, levelLift
 use Rattle.wavelet.proofs.GridLaws.{cells-flat}
 use Rattle.wavelet.proofs.LevelTheory.{plane-reads}
 use Rattle.whole_map.proofs.GridSweep.{mapped-in}
-use Rattle.whole_map.proofs.CellLaws.{halved-out, halved-grid, copied-in, mapped-out, fetched-new, fetched-made, made-even, made-odd, plane-even, plane-odd, flat-same, placed, placed-in, joined-at, grid-at, half-low, cut-in, within-in, by-within}
+use Rattle.whole_map.proofs.CellLaws.{halved-out, halved-grid, copied-in, mapped-out, fetched-new, fetched-made, made-even, made-odd, plane-even}
+use Rattle.whole_map.proofs.CellLaws.{plane-odd, flat-same, placed, placed-in, joined-at, grid-at, half-low, cut-in, within-in, by-within}
 use Rattle.whole_map.proofs.ColumnLift.{column-out}
 use Rattle.whole_map.proofs.LevelMath.{BandsIn, level-forward, level-back}
 
 -- ---- the plane, by cells
 module _ (keep : ℤ → ℤ) where
-  plane-corner : (L w h : ℕ) (g : Grid) (r c : ℕ) → r < count lo h → c < count lo w → planeCell keep (suc L) w h g r c ≡ planeCell keep L (count lo w) (count lo h) (subband keep w h g LL) r c
+  plane-corner : (L w h : ℕ) (g : Grid) (r c : ℕ) → r < count lo h → c < count lo w →
+      planeCell keep (suc L) w h g r c ≡ planeCell keep L (count lo w) (count lo h) (subband keep w h g LL) r c
   unfolding planeCell
   plane-corner L w h g r c rb cb = simp (lt-ltb r (count lo h) rb, lt-ltb c (count lo w) cb)
 
-  plane-rest : (L w h : ℕ) (g : Grid) (r c : ℕ) → within (count lo w) (count lo h) r c ≡ false → planeCell keep (suc L) w h g r c ≡ subband keep w h g (bandOf (halfAt w c) (halfAt h r)) (placeIn h r) (placeIn w c)
+  plane-rest : (L w h : ℕ) (g : Grid) (r c : ℕ) → within (count lo w) (count lo h) r c ≡ false →
+      planeCell keep (suc L) w h g r c ≡ subband keep w h g (bandOf (halfAt w c) (halfAt h r)) (placeIn h r) (placeIn w c)
   unfolding planeCell within
   plane-rest L w h g r c e = simp e
 
@@ -71,7 +74,8 @@ module _ (A w h : ℕ) (z₀ z₁ : ℕ → ℤ) (wa : w ≤ A) (some : 0 < A) (
       (λ o. level-out r c o ∙ sym (written-out 1 w h g (cells A z₀) r c o)))
 
   -- the low-low part copied to the rows x₁ of its own width, and laid in the corner again, in halves: z₂
-  module _ (x₀ x₁ z₂ : ℕ → ℤ) (e₁ : x₁ ≡ flat (count lo w) (gridCopied (count lo w) (count lo h) (cells A z₁) (cells (count lo w) x₀))) (f₂ : z₂ ≡ flat A (gridHalved (count lo w) (count lo h) (cells (count lo w) x₁) (cells A z₁))) where
+  module _ (x₀ x₁ z₂ : ℕ → ℤ) (e₁ : x₁ ≡ flat (count lo w) (gridCopied (count lo w) (count lo h) (cells A z₁) (cells (count lo w) x₀)))
+      (f₂ : z₂ ≡ flat A (gridHalved (count lo w) (count lo h) (cells (count lo w) x₁) (cells A z₁))) where
     next-grid : (r c : ℕ) → r < count lo h → c < count lo w → cornerGrid (count lo w) (count lo h) (cells A z₂) r c ≡ subband wrap32 w h g LL r c
     unfolding bandOf
     next-grid r c rb cb =
@@ -87,7 +91,9 @@ module _ (A w h : ℕ) (z₀ z₁ : ℕ → ℤ) (wa : w ≤ A) (some : 0 < A) (
         ∙ level-forward w h (cells A z₀) r c (omega arith) (omega arith)
         ∙ rw (half-low w c cb .0, half-low h r rb .0, half-low w c cb .1, half-low h r rb .1)
 
-    pub forward-more : (L : ℕ) (z₃ : ℕ → ℤ) → 1 < L → z₃ ≡ flat A (planeWritten (L - 1) (count lo w) (count lo h) (cornerGrid (count lo w) (count lo h) (cells A z₂)) (cells A z₂)) → z₃ ≡ flat A (planeWritten L w h g (cells A z₀))
+    pub forward-more : (L : ℕ) (z₃ : ℕ → ℤ) → 1 < L → z₃ ≡ flat A
+        (planeWritten (L - 1) (count lo w) (count lo h) (cornerGrid (count lo w) (count lo h) (cells A z₂)) (cells A z₂)) →
+        z₃ ≡ flat A (planeWritten L w h g (cells A z₀))
     forward-more zero z₃ b f₃ = absurd (omega arith)
     forward-more (suc L) z₃ b f₃ =
         let both = counts w in
@@ -190,15 +196,19 @@ module _ (s from w h : ℕ) (x : Grid) (y₂ y₃ y₄ : ℕ → ℤ) (ws : w �
               ∙ sym (ap (λ (G : Grid). G r c) (back-is L w h x));
         }
 
-pub back-last : (s w h : ℕ) (x : Grid) (y₂ y₃ y₄ : ℕ → ℤ) → w ≤ s → y₃ ≡ flat s (rowsFetched 0 w h x (cells s y₂)) → y₄ ≡ flat s (levelUnlifted w h (cells s y₃)) → Rebuilt 1 w h x (cells s y₄)
+pub back-last : (s w h : ℕ) (x : Grid) (y₂ y₃ y₄ : ℕ → ℤ) → w ≤ s → y₃ ≡ flat s (rowsFetched 0 w h x (cells s y₂)) →
+    y₄ ≡ flat s (levelUnlifted w h (cells s y₃)) → Rebuilt 1 w h x (cells s y₄)
 unfolding mapBack
 back-last s w h x y₂ y₃ y₄ ws e₃ e₄ =
     let both = counts w in
     rebuilt s 0 w h x y₂ y₃ y₄ ws (omega arith) e₃ e₄ 0
-    (λ i n ib nb. fetched s 0 w h x y₂ y₃ y₄ ws (omega arith) e₃ e₄ (2 * i) n (omega arith) ∙ fetched-even 0 w h x (cells s y₂) n (omega arith) i ib (omega arith))
+    (λ i n ib nb. fetched s 0 w h x y₂ y₃ y₄ ws (omega arith) e₃ e₄ (2 * i) n (omega arith) ∙
+    fetched-even 0 w h x (cells s y₂) n (omega arith) i ib (omega arith))
 
 -- y₁ is the area with the low-low part in halves, y₂ with it in its own order
-pub back-more : (s w h : ℕ) (x : Grid) (y₁ y₂ y₃ y₄ : ℕ → ℤ) (L : ℕ) → w ≤ s → 1 < L → Rebuilt (L - 1) (count lo w) (count lo h) x (cells (2 * s) y₁) → y₂ ≡ flat (2 * s) (rowsMapped (wovenInPlace (count lo w)) (count lo w) (count lo h) (cells (2 * s) y₁)) → y₃ ≡ flat s (rowsFetched (count lo w) w h x (cells s y₂)) → y₄ ≡ flat s (levelUnlifted w h (cells s y₃)) → Rebuilt L w h x (cells s y₄)
+pub back-more : (s w h : ℕ) (x : Grid) (y₁ y₂ y₃ y₄ : ℕ → ℤ) (L : ℕ) → w ≤ s → 1 < L → Rebuilt (L - 1) (count lo w) (count lo h) x (cells (2 * s) y₁) →
+    y₂ ≡ flat (2 * s) (rowsMapped (wovenInPlace (count lo w)) (count lo w) (count lo h) (cells (2 * s) y₁)) →
+    y₃ ≡ flat s (rowsFetched (count lo w) w h x (cells s y₂)) → y₄ ≡ flat s (levelUnlifted w h (cells s y₃)) → Rebuilt L w h x (cells s y₄)
 back-more s w h x y₁ y₂ y₃ y₄ zero ws b R e₂ e₃ e₄ = absurd (omega arith)
 back-more s w h x y₁ y₂ y₃ y₄ (suc L) ws b R e₂ e₃ e₄ =
     let both = counts w in

@@ -110,7 +110,8 @@ module _ (k L w h : ℕ) (x X : Grid) (R : Rebuilt L w h x X) where
       sym (every-placed w (λ c. valueFits k (X r c)))
       ∙ every-same w _ _ (λ c cw. ap (valueFits k) (sym (grid-at w X r c) ∙ R .cell r c rh cw)))
 
-pub rebuilt-test : (k L w h : ℕ) (x X : Grid) → Rebuilt L w h x X → rowsBetween 0 h 0 w (negℤ (pos (range (k + 1)))) (pos (range (k + 1))) X ≡ everyCell w h (λ r c. valueFits (k + 1) (mapBack wrap32 L w h x r c))
+pub rebuilt-test : (k L w h : ℕ) (x X : Grid) → Rebuilt L w h x X →
+    rowsBetween 0 h 0 w (negℤ (pos (range (k + 1)))) (pos (range (k + 1))) X ≡ everyCell w h (λ r c. valueFits (k + 1) (mapBack wrap32 L w h x r c))
 unfolding rowsBetween everyCell
 rebuilt-test k L w h x X R =
     let kw : w - 0 ≡ w = omega arith in
@@ -121,7 +122,9 @@ rebuilt-test k L w h x X R =
     ∙ rebuilt-cells (k + 1) L w h x X R)
 
 -- 14 at every level: first of the low-low part, then of this level
-pub fits-more : (k L w h : ℕ) (x : Grid) → 0 < L → rebuiltFits k L w h x ≡ pick (rebuiltFits (k + 1) (L - 1) (count lo w) (count lo h) x) (everyCell w h (λ r c. valueFits k (mapBack wrap32 L w h x r c))) false
+pub fits-more : (k L w h : ℕ) (x : Grid) → 0 < L →
+    rebuiltFits k L w h x ≡ pick (rebuiltFits (k + 1) (L - 1) (count lo w) (count lo h) x) (everyCell w h (λ r c. valueFits k (mapBack wrap32 L w h x r c)))
+    false
 unfolding rebuiltFits
 fits-more k zero w h x b = absurd (omega arith)
 fits-more k (suc L) w h x b = let a : suc L - 1 ≡ L = omega arith in let e : k + 1 ≡ suc k = omega arith in rw (a, e)
@@ -204,7 +207,8 @@ module _ (k L w h : ℕ) (x : Grid) where
       both-is inner _
       (each-cells w′ h′ _ (λ r c rb cb. sym (ap (rangeTest x r c) (corner r c rb cb)) ∙ all r c (omega arith) (omega arith)))
       (both-is right below
-      (rows-are 0 h′ w′ w (range k) x (λ r c _ rb wc cw. sym (ap (rangeTest x r c) (rest r c (outside w′ h′ r c (λ _ d. omega arith)))) ∙ all r c (omega arith) cw))
+      (rows-are 0 h′ w′ w (range k) x (λ r c _ rb wc cw. sym (ap (rangeTest x r c) (rest r c (outside w′ h′ r c (λ _ d. omega arith)))) ∙
+      all r c (omega arith) cw))
       (rows-are h′ h 0 w (range k) x (λ r c hr rh _ cw. sym (ap (rangeTest x r c) (rest r c (outside w′ h′ r c (λ d _. omega arith)))) ∙ all r c rh cw))))
       (λ e.
       let one = both inner _ e in
@@ -214,12 +218,15 @@ module _ (k L w h : ℕ) (x : Grid) where
         | yes rb ↦
             elim (decLt c w′) [
               | yes cb ↦ ap (rangeTest x r c) (corner r c rb cb) ∙ cells-each w′ h′ _ (one .0) r c rb cb
-              | no d ↦ ap (rangeTest x r c) (rest r c (outside w′ h′ r c (λ _ cb. d cb))) ∙ rows-hold 0 h′ w′ w (range k) x (two .0) r c (omega arith) rb (omega arith) cw
+              | no d ↦ ap (rangeTest x r c) (rest r c (outside w′ h′ r c (λ _ cb. d cb))) ∙
+                  rows-hold 0 h′ w′ w (range k) x (two .0) r c (omega arith) rb (omega arith) cw
             ]
-        | no d ↦ ap (rangeTest x r c) (rest r c (outside w′ h′ r c (λ rb _. d rb))) ∙ rows-hold h′ h 0 w (range k) x (two .1) r c (omega arith) rh (omega arith) cw
+        | no d ↦ ap (rangeTest x r c) (rest r c (outside w′ h′ r c (λ rb _. d rb))) ∙
+            rows-hold h′ h 0 w (range k) x (two .1) r c (omega arith) rh (omega arith) cw
       ]))
 
-pub region-more : (k L w h : ℕ) (x : Grid) → 0 < k → 1 < L → regionInRange k L w h x ≡ pick (inner k (L - 1) w h x) (pick (right k (L - 1) w h x) (below k (L - 1) w h x) false) false
+pub region-more : (k L w h : ℕ) (x : Grid) → 0 < k → 1 < L →
+    regionInRange k L w h x ≡ pick (inner k (L - 1) w h x) (pick (right k (L - 1) w h x) (below k (L - 1) w h x) false) false
 region-more k zero w h x b m = absurd (omega arith)
 region-more k (suc L) w h x b m = let a : suc L - 1 ≡ L = omega arith in rw a (region-suc k L w h x b)
 

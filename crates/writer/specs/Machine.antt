@@ -1,4 +1,5 @@
--- The writer as a machine over its line store, by recursion over the levels: a machine of L levels is its first level, of w columns, and below it a machine of L − 1 levels, of ⌈w / 2⌉ columns, in the rest of the store.
+-- The writer as a machine over its line store, by recursion over the levels: a machine of L levels is its first level, of w columns, and below it a machine of
+-- L − 1 levels, of ⌈w / 2⌉ columns, in the rest of the store.
 -- m is how many rows the first level has received, c how many levels the finish has closed. L = 0 is no level.
 use Prim.Native.Nat.{ℕ, zero, suc, _+_, _/_, _%_}
 use lib.Dec.{ltb, eqb}

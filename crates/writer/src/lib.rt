@@ -14,7 +14,8 @@ ghost use lib.ListN.{length};
 ghost use Rattle.numbers.specs.Signal.{at};
 ghost use Rattle.wavelet.specs.Limits.{maxWidth, maxHeight, maxLevels};
 ghost use Rattle.writer.specs.Answers.{ofSetUp, ofOffered, ofDrawn, ofLook, ofFinished};
-ghost use Rattle.writer.specs.Calls.{setUpReply, setUpStore, offerReply, offerStore, drawReply, drawStore, drawArea, waitsReply, finishReply, finishStore};
+ghost use Rattle.writer.specs.Calls.{setUpReply, setUpStore, offerReply, offerStore, drawReply, drawStore, drawArea, waitsReply, finishReply};
+ghost use Rattle.writer.specs.Calls.{finishStore};
 ghost use Rattle.writer.specs.Holds.{SetUpHolds, OfferKeeps, DrawKeeps, FinishKeeps};
 
 // The counts of a writer; docs/STATE.md gives their ranges.
@@ -146,7 +147,8 @@ impl Writer {
     pub fn draw(self, store: &mut [i32], out: &mut [i32]) -> Drawn
         ensures { λ r. ⌜ ofDrawn r ≡ drawReply self (length (now (store .entry))) (length (now (out .entry))) (at (now (store .entry))) ⌝ }
         ensures { λ r. ⌜ at (now (store .exit)) ≡ drawStore self (length (now (store .entry))) (length (now (out .entry))) (at (now (store .entry))) ⌝ }
-        ensures { λ r. ⌜ at (now (out .exit)) ≡ drawArea self (length (now (store .entry))) (length (now (out .entry))) (at (now (store .entry))) (at (now (out .entry))) ⌝ }
+        ensures { λ r. ⌜ at (now (out .exit)) ≡ drawArea self (length (now (store .entry))) (length (now (out .entry))) (at (now (store .entry)))
+            (at (now (out .entry))) ⌝ }
         ensures { λ r. ⌜ DrawKeeps self (at (now (store .entry))) (ofDrawn r) (at (now (store .exit))) (at (now (out .exit))) ⌝ }
     {
         let no = gate::state_question(self, store.len());

@@ -17,7 +17,8 @@ unfolding backwardQuestion
 returns c =
     let a = c .before .before .before .args in
     let q = c .before .size-question .ensures in
-    let few : c .before .size-question .result ≤ 5 = rw q (asked-few (a .width) (a .height) (a .levels) (length (a .plane .now)) (length (a .heights .now)) (length (a .work .now))) in (
+    let few : c .before .size-question .result ≤ 5 = rw q
+    (asked-few (a .width) (a .height) (a .levels) (length (a .plane .now)) (length (a .heights .now)) (length (a .work .now))) in (
       q ∙ sym (asked-no (a .width) (a .height) (a .levels) _ _ _ _ (λ e. c .if1 .taken (q ∙ e))),
       (rebuilt-no _ _ _ _ (c .if1 .taken) (λ e. omega arith), rebuilt-no _ _ _ _ (c .if1 .taken) (λ e. omega arith)),
     )

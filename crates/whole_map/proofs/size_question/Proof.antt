@@ -28,15 +28,20 @@ returns-2 : tie.Need-returns-2
 returns-2 c = let q = c .before in short-first _ _ _ _ _ _ 0 (sym (q .before .size-question .ensures) ∙ q .if1 .left) (c .if2 .taken)
 
 returns-3 : tie.Need-returns-3
-returns-3 c = let q = c .before .before in short-second _ _ _ _ _ _ 0 (sym (q .before .size-question .ensures) ∙ q .if1 .left) (c .before .if2 .left) (c .if3 .taken)
+returns-3 c =
+    let q = c .before .before in
+    short-second _ _ _ _ _ _ 0 (sym (q .before .size-question .ensures) ∙ q .if1 .left) (c .before .if2 .left) (c .if3 .taken)
 
 returns-4 : tie.Need-returns-4
-returns-4 c = let q = c .before .before .before in short-third _ _ _ _ _ _ 0 (sym (q .before .size-question .ensures) ∙ q .if1 .left) (c .before .before .if2 .left) (c .before .if3 .left) (c .if4 .taken)
+returns-4 c =
+    let q = c .before .before .before in
+    short-third _ _ _ _ _ _ 0 (sym (q .before .size-question .ensures) ∙ q .if1 .left) (c .before .before .if2 .left) (c .before .if3 .left) (c .if4 .taken)
 
 returns-5 : tie.Need-returns-5
 returns-5 c =
     let q = c .before .before .before in
-    sym (long-enough _ _ _ _ _ _ 0 (sym (q .before .size-question .ensures) ∙ q .if1 .left) (c .before .before .if2 .left) (c .before .if3 .left) (c .if4 .left))
+    sym (long-enough _ _ _ _ _ _ 0 (sym (q .before .size-question .ensures) ∙ q .if1 .left) (c .before .before .if2 .left) (c .before .if3 .left)
+    (c .if4 .left))
 
 pub size-question-spec : {M : Type 1} → statement M
 size-question-spec =

@@ -13,7 +13,8 @@ use Rattle.level.specs.Rebuilding.{widest}
 use Rattle.level.proofs.WorkLaws.{told-no, told-yes}
 use Rattle.reader.proofs.StoreLaws.{first-room}
 use Rattle.reader.proofs.QuestionLaws.{counts-shape, counts-length, store-in, due-in}
-use Rattle.reader.proofs.CallLaws.{store-14, draw-early, draw-none, draw-12, draw-last, draw-no, draw-nothing, draw-yes, draw-end, fits-yes, fits-no, drawn-reader, drawn-row, zero-kept}
+use Rattle.reader.proofs.CallLaws.{store-14, draw-early, draw-none, draw-12, draw-last, draw-no, draw-nothing, draw-yes, draw-end, fits-yes, fits-no}
+use Rattle.reader.proofs.CallLaws.{drawn-reader, drawn-row, zero-kept}
 use Rattle.reader.proofs.Keeps.{draw-also}
 use Rattle.reader.proofs.Reader.draw.Statement.{statement}
 use Rattle.reader.proofs.Reader.draw.Tie as tie
@@ -28,7 +29,8 @@ returns c =
     let n = length (a .store .now) in
     let m = length (a .out .now) in
     draw-also (a .self) (length (a .store .now)) (length (a .out .now)) (at (a .store .now)) (heightsAt (a .out .now))
-    (draw-no (a .self) _ _ _ _ (q ∙ draw-early (a .self) n m (at (a .store .now)) (λ e. c .if1 .taken (q ∙ e))) (c .if1 .taken) (λ e. store-14 (a .self) n m (at (a .store .now)) (at (a .store .now)) (sym q ∙ e)))
+    (draw-no (a .self) _ _ _ _ (q ∙ draw-early (a .self) n m (at (a .store .now)) (λ e. c .if1 .taken (q ∙ e))) (c .if1 .taken)
+    (λ e. store-14 (a .self) n m (at (a .store .now)) (at (a .store .now)) (sym q ∙ e)))
 
 next-of-requires : tie.Need-next-of-requires
 next-of-requires c κs = store-in _ _ (sym (c .before .store-question .ensures) ∙ c .if1 .left) .0
@@ -52,7 +54,8 @@ returns-3 c =
     let a = ok .before .before .before .args in
     let one = sym (ok .before .store-question .ensures) ∙ ok .if1 .left in
     draw-also (a .self) (length (a .store .now)) (length (a .out .now)) (at (a .store .now)) (heightsAt (a .out .now))
-    (draw-no (a .self) _ _ _ 12 (draw-12 (a .self) (length (a .store .now)) (length (a .out .now)) (at (a .store .now)) one (sym (due .before .draw-due .ensures) ∙ not-false _ (due .if2 .left)) (omega arith)) (omega arith) (omega arith))
+    (draw-no (a .self) _ _ _ 12 (draw-12 (a .self) (length (a .store .now)) (length (a .out .now)) (at (a .store .now)) one
+    (sym (due .before .draw-due .ensures) ∙ not-false _ (due .if2 .left)) (omega arith)) (omega arith) (omega arith))
 
 settle-requires : tie.Need-settle-requires
 settle-requires c κs =
@@ -231,7 +234,8 @@ returns-5 c =
     let made = told-no (call .settle .result) (at (call .settle .last .1 .0)) _ (call .settle .ensures .0) (failed .if4 .left) in
     draw-also (a .self) (length (a .store .now)) (length (a .out .now)) (at (a .store .now)) (heightsAt (a .out .now))
     (draw-end s _ _ _ _ _
-    (fits-no _ made ∙ draw-last s n m (at (a .store .now)) (sym (ok .before .store-question .ensures) ∙ ok .if1 .left) (sym (due .before .draw-due .ensures) ∙ not-false _ (due .if2 .left)) (omega arith))
+    (fits-no _ made ∙ draw-last s n m (at (a .store .now)) (sym (ok .before .store-question .ensures) ∙ ok .if1 .left)
+    (sym (due .before .draw-due .ensures) ∙ not-false _ (due .if2 .left)) (omega arith))
     (c .over .ensures)
     (zero-kept (s .width) (s .levels) _ _ _ _ long-is (call .settle .ensures .1) (did _ _ _ _ room (clear .clear .ensures .1))))
 

@@ -17,7 +17,10 @@ set-up-question-requires : tie.Need-set-up-question-requires
 set-up-question-requires c κs = tt
 
 returns : tie.Need-returns
-returns c = let a = c .before .before .args in set-up-also (a .width) (a .height) (a .levels) (length (a .store .now)) (at (a .store .now)) (set-up-no (a .width) (a .height) (a .levels) _ _ _ (c .before .set-up-question .ensures) (c .if1 .taken))
+returns c =
+    let a = c .before .before .args in
+    set-up-also (a .width) (a .height) (a .levels) (length (a .store .now)) (at (a .store .now))
+    (set-up-no (a .width) (a .height) (a .levels) _ _ _ (c .before .set-up-question .ensures) (c .if1 .taken))
 
 store-length-requires : tie.Need-store-length-requires
 store-length-requires c κs = tt

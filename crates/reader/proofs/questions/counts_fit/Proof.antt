@@ -31,7 +31,8 @@ unfolding maxWidth maxHeight maxLevels
 returns-3 c =
     let b = c .before .before in
     let a = b .before .before in
-    counts-3 _ (sym (a .before .is-within .ensures) ∙ not-false _ (a .if1 .left)) (sym (b .before .is-within2 .ensures) ∙ not-false _ (b .if2 .left)) (sym (c .before .is-within3 .ensures) ∙ not-true _ (c .if3 .taken))
+    counts-3 _ (sym (a .before .is-within .ensures) ∙ not-false _ (a .if1 .left)) (sym (b .before .is-within2 .ensures) ∙ not-false _ (b .if2 .left))
+    (sym (c .before .is-within3 .ensures) ∙ not-true _ (c .if3 .taken))
 
 returns-4 : tie.Need-returns-4
 unfolding maxWidth maxHeight maxLevels
@@ -39,7 +40,8 @@ returns-4 c =
     let d = c .before .before in
     let b = d .before .before in
     let a = b .before .before in
-    counts-4 _ (sym (a .before .is-within .ensures) ∙ not-false _ (a .if1 .left)) (sym (b .before .is-within2 .ensures) ∙ not-false _ (b .if2 .left)) (sym (d .before .is-within3 .ensures) ∙ not-false _ (d .if3 .left)) (c .if4 .taken)
+    counts-4 _ (sym (a .before .is-within .ensures) ∙ not-false _ (a .if1 .left)) (sym (b .before .is-within2 .ensures) ∙ not-false _ (b .if2 .left))
+    (sym (d .before .is-within3 .ensures) ∙ not-false _ (d .if3 .left)) (c .if4 .taken)
 
 returns-5 : tie.Need-returns-5
 unfolding maxWidth maxHeight maxLevels
@@ -48,7 +50,8 @@ returns-5 c =
     let d = f .before .before in
     let b = d .before .before in
     let a = b .before .before in
-    counts-5 _ (sym (a .before .is-within .ensures) ∙ not-false _ (a .if1 .left)) (sym (b .before .is-within2 .ensures) ∙ not-false _ (b .if2 .left)) (sym (d .before .is-within3 .ensures) ∙ not-false _ (d .if3 .left)) (omega arith) (c .if5 .taken)
+    counts-5 _ (sym (a .before .is-within .ensures) ∙ not-false _ (a .if1 .left)) (sym (b .before .is-within2 .ensures) ∙ not-false _ (b .if2 .left))
+    (sym (d .before .is-within3 .ensures) ∙ not-false _ (d .if3 .left)) (omega arith) (c .if5 .taken)
 
 returns-6 : tie.Need-returns-6
 unfolding maxWidth maxHeight maxLevels
@@ -58,7 +61,8 @@ returns-6 c =
     let d = f .before .before in
     let b = d .before .before in
     let a = b .before .before in
-    counts-6 _ (sym (a .before .is-within .ensures) ∙ not-false _ (a .if1 .left)) (sym (b .before .is-within2 .ensures) ∙ not-false _ (b .if2 .left)) (sym (d .before .is-within3 .ensures) ∙ not-false _ (d .if3 .left)) (omega arith) (omega arith)
+    counts-6 _ (sym (a .before .is-within .ensures) ∙ not-false _ (a .if1 .left)) (sym (b .before .is-within2 .ensures) ∙ not-false _ (b .if2 .left))
+    (sym (d .before .is-within3 .ensures) ∙ not-false _ (d .if3 .left)) (omega arith) (omega arith)
 
 pub counts-fit-spec : {M : Type 1} → statement M
 counts-fit-spec =

@@ -31,7 +31,8 @@ unfolding maxWidth maxHeight maxLevels
 returns-3 c =
     let b = c .before .before in
     let a = b .before .before in
-    up-4 _ _ _ _ (sym (a .before .is-within .ensures) ∙ not-false _ (a .if1 .left)) (sym (b .before .is-within2 .ensures) ∙ not-false _ (b .if2 .left)) (sym (c .before .is-within3 .ensures) ∙ not-true _ (c .if3 .taken))
+    up-4 _ _ _ _ (sym (a .before .is-within .ensures) ∙ not-false _ (a .if1 .left)) (sym (b .before .is-within2 .ensures) ∙ not-false _ (b .if2 .left))
+    (sym (c .before .is-within3 .ensures) ∙ not-true _ (c .if3 .taken))
 
 store-length-requires : tie.Need-store-length-requires
 store-length-requires c κs = tt
@@ -42,7 +43,8 @@ returns-4 c =
     let d = c .before .before in
     let b = d .before .before in
     let a = b .before .before in
-    up-5 _ _ _ _ (sym (a .before .is-within .ensures) ∙ not-false _ (a .if1 .left)) (sym (b .before .is-within2 .ensures) ∙ not-false _ (b .if2 .left)) (sym (d .before .is-within3 .ensures) ∙ not-false _ (d .if3 .left)) (c .before .store-length .result) (c .before .store-length .ensures) (omega arith)
+    up-5 _ _ _ _ (sym (a .before .is-within .ensures) ∙ not-false _ (a .if1 .left)) (sym (b .before .is-within2 .ensures) ∙ not-false _ (b .if2 .left))
+    (sym (d .before .is-within3 .ensures) ∙ not-false _ (d .if3 .left)) (c .before .store-length .result) (c .before .store-length .ensures) (omega arith)
 
 returns-5 : tie.Need-returns-5
 unfolding maxWidth maxHeight maxLevels
@@ -50,7 +52,8 @@ returns-5 c =
     let d = c .before .before in
     let b = d .before .before in
     let a = b .before .before in
-    up-0 _ _ _ _ (sym (a .before .is-within .ensures) ∙ not-false _ (a .if1 .left)) (sym (b .before .is-within2 .ensures) ∙ not-false _ (b .if2 .left)) (sym (d .before .is-within3 .ensures) ∙ not-false _ (d .if3 .left)) (c .before .store-length .result) (c .before .store-length .ensures) (omega arith)
+    up-0 _ _ _ _ (sym (a .before .is-within .ensures) ∙ not-false _ (a .if1 .left)) (sym (b .before .is-within2 .ensures) ∙ not-false _ (b .if2 .left))
+    (sym (d .before .is-within3 .ensures) ∙ not-false _ (d .if3 .left)) (c .before .store-length .result) (c .before .store-length .ensures) (omega arith)
 
 pub set-up-question-spec : {M : Type 1} → statement M
 set-up-question-spec =

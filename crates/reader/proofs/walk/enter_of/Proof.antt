@@ -54,8 +54,12 @@ loop-again c =
     let first = more .before in
     let set = first .before in
     let test = set .before in
-    let inv = test .before .loop .inv in
-    (inv .0, inv .1, down-on _ _ _ _ _ _ _ _ (inv .2) (set .set-of .ensures) _ (test .loop-test .taken) (more .if1 .left ∙ first .first-of .ensures) (c .half .ensures))
+    let inv = test .before .loop .inv in (
+      inv .0,
+      inv .1,
+      down-on _ _ _ _ _ _ _ _ (inv .2) (set .set-of .ensures) _ (test .loop-test .taken) (more .if1 .left ∙ first .first-of .ensures)
+          (c .half .ensures),
+    )
 
 returns-2 : tie.Need-returns-2 Inv-loop μ-loop
 returns-2 c =

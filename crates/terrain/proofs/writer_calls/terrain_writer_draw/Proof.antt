@@ -22,7 +22,8 @@ returns : tie.Need-returns
 returns c =
     let i = c .before in
     let a = i .before .before .args in
-    let e : drawn (a .state .now) (length (a .store .now)) (length (a .out .now)) (at (a .store .now)) ≡ refused 1 = turned (isWriter (a .state .now)) (i .is-writer .result) (i .is-writer .ensures) _ _ (c .if1 .taken) in (
+    let e : drawn (a .state .now) (length (a .store .now)) (length (a .out .now)) (at (a .store .now)) ≡ refused 1 =
+    turned (isWriter (a .state .now)) (i .is-writer .result) (i .is-writer .ensures) _ _ (c .if1 .taken) in (
       sym (ap number e),
       (
         sym (ap (λ (q : Reply Handed). stateHanded q (a .state .now)) e),
@@ -70,15 +71,24 @@ returns-2 c =
     let i = u .before .before .before in
     let a = i .before .before .args in
     let e =
-    went (isWriter (a .state .now)) (i .is-writer .result) (i .is-writer .ensures) (λ (w : Writer). drawReply w (length (a .store .now)) (length (a .out .now)) (at (a .store .now))) (writerOf (a .state .now)) (u .unpack-writer .result) (refused 1) _ (u .before .before .if1 .left) (u .unpack-writer .ensures) (o .before .before .draw .ensures .0)
+    went (isWriter (a .state .now)) (i .is-writer .result) (i .is-writer .ensures)
+    (λ (w : Writer). drawReply w (length (a .store .now)) (length (a .out .now)) (at (a .store .now))) (writerOf (a .state .now)) (u .unpack-writer .result)
+    (refused 1) _ (u .before .before .if1 .left) (u .unpack-writer .ensures) (o .before .before .draw .ensures .0)
     ∙ ap ofDrawn (c .before .before .before .before .r .given .1) in (
       sym (ap number e),
       (
-        c .before .pack-drawn .ensures .0 ∙ drawn-words (a .state .now) (c .before .pack-drawn .ensures .1) _ _ _ _ _ e ∙ sym (ap (λ (q : Reply Handed). stateHanded q (a .state .now)) e),
+        c .before .pack-drawn .ensures .0 ∙ drawn-words (a .state .now) (c .before .pack-drawn .ensures .1) _ _ _ _ _ e ∙
+            sym (ap (λ (q : Reply Handed). stateHanded q (a .state .now)) e),
         (
-          sym (went (isWriter (a .state .now)) (i .is-writer .result) (i .is-writer .ensures) (λ (w : Writer). drawStore w (length (a .store .now)) (length (a .out .now)) (at (a .store .now))) (writerOf (a .state .now)) (u .unpack-writer .result) (at (a .store .now)) _ (u .before .before .if1 .left) (u .unpack-writer .ensures) (o .before .before .draw .ensures .1 .0)),
+          sym (went (isWriter (a .state .now)) (i .is-writer .result) (i .is-writer .ensures)
+              (λ (w : Writer). drawStore w (length (a .store .now)) (length (a .out .now)) (at (a .store .now))) (writerOf (a .state .now))
+              (u .unpack-writer .result) (at (a .store .now)) _ (u .before .before .if1 .left) (u .unpack-writer .ensures)
+              (o .before .before .draw .ensures .1 .0)),
           (
-            sym (went (isWriter (a .state .now)) (i .is-writer .result) (i .is-writer .ensures) (λ (w : Writer). drawArea w (length (a .store .now)) (length (a .out .now)) (at (a .store .now)) (at (a .out .now))) (writerOf (a .state .now)) (u .unpack-writer .result) (at (a .out .now)) _ (u .before .before .if1 .left) (u .unpack-writer .ensures) (o .before .before .draw .ensures .1 .1 .0)),
+            sym (went (isWriter (a .state .now)) (i .is-writer .result) (i .is-writer .ensures)
+                (λ (w : Writer). drawArea w (length (a .store .now)) (length (a .out .now)) (at (a .store .now)) (at (a .out .now))) (writerOf (a .state .now))
+                (u .unpack-writer .result) (at (a .out .now)) _ (u .before .before .if1 .left) (u .unpack-writer .ensures)
+                (o .before .before .draw .ensures .1 .1 .0)),
             sym (ap (λ (q : Reply Handed). rowOf q (a .row .now)) e),
           ),
         ),
@@ -98,15 +108,23 @@ returns-3 c =
     let i = u .before .before .before in
     let a = i .before .before .args in
     let e =
-    went (isWriter (a .state .now)) (i .is-writer .result) (i .is-writer .ensures) (λ (w : Writer). drawReply w (length (a .store .now)) (length (a .out .now)) (at (a .store .now))) (writerOf (a .state .now)) (u .unpack-writer .result) (refused 1) _ (u .before .before .if1 .left) (u .unpack-writer .ensures) (o .before .before .draw .ensures .0)
+    went (isWriter (a .state .now)) (i .is-writer .result) (i .is-writer .ensures)
+    (λ (w : Writer). drawReply w (length (a .store .now)) (length (a .out .now)) (at (a .store .now))) (writerOf (a .state .now)) (u .unpack-writer .result)
+    (refused 1) _ (u .before .before .if1 .left) (u .unpack-writer .ensures) (o .before .before .draw .ensures .0)
     ∙ ap ofDrawn (c .before .enum-told .given .1) in (
       sym (ap number e),
       (
         sym (ap (λ (q : Reply Handed). stateHanded q (a .state .now)) e),
         (
-          sym (went (isWriter (a .state .now)) (i .is-writer .result) (i .is-writer .ensures) (λ (w : Writer). drawStore w (length (a .store .now)) (length (a .out .now)) (at (a .store .now))) (writerOf (a .state .now)) (u .unpack-writer .result) (at (a .store .now)) _ (u .before .before .if1 .left) (u .unpack-writer .ensures) (o .before .before .draw .ensures .1 .0)),
+          sym (went (isWriter (a .state .now)) (i .is-writer .result) (i .is-writer .ensures)
+              (λ (w : Writer). drawStore w (length (a .store .now)) (length (a .out .now)) (at (a .store .now))) (writerOf (a .state .now))
+              (u .unpack-writer .result) (at (a .store .now)) _ (u .before .before .if1 .left) (u .unpack-writer .ensures)
+              (o .before .before .draw .ensures .1 .0)),
           (
-            sym (went (isWriter (a .state .now)) (i .is-writer .result) (i .is-writer .ensures) (λ (w : Writer). drawArea w (length (a .store .now)) (length (a .out .now)) (at (a .store .now)) (at (a .out .now))) (writerOf (a .state .now)) (u .unpack-writer .result) (at (a .out .now)) _ (u .before .before .if1 .left) (u .unpack-writer .ensures) (o .before .before .draw .ensures .1 .1 .0)),
+            sym (went (isWriter (a .state .now)) (i .is-writer .result) (i .is-writer .ensures)
+                (λ (w : Writer). drawArea w (length (a .store .now)) (length (a .out .now)) (at (a .store .now)) (at (a .out .now))) (writerOf (a .state .now))
+                (u .unpack-writer .result) (at (a .out .now)) _ (u .before .before .if1 .left) (u .unpack-writer .ensures)
+                (o .before .before .draw .ensures .1 .1 .0)),
             sym (ap (λ (q : Reply Handed). rowOf q (a .row .now)) e),
           ),
         ),
@@ -126,15 +144,23 @@ returns-4 c =
     let i = u .before .before .before in
     let a = i .before .before .args in
     let e =
-    went (isWriter (a .state .now)) (i .is-writer .result) (i .is-writer .ensures) (λ (w : Writer). drawReply w (length (a .store .now)) (length (a .out .now)) (at (a .store .now))) (writerOf (a .state .now)) (u .unpack-writer .result) (refused 1) _ (u .before .before .if1 .left) (u .unpack-writer .ensures) (o .before .before .draw .ensures .0)
+    went (isWriter (a .state .now)) (i .is-writer .result) (i .is-writer .ensures)
+    (λ (w : Writer). drawReply w (length (a .store .now)) (length (a .out .now)) (at (a .store .now))) (writerOf (a .state .now)) (u .unpack-writer .result)
+    (refused 1) _ (u .before .before .if1 .left) (u .unpack-writer .ensures) (o .before .before .draw .ensures .0)
     ∙ ap ofDrawn (c .before .no .given .1) in (
       sym (ap number e),
       (
         sym (ap (λ (q : Reply Handed). stateHanded q (a .state .now)) e),
         (
-          sym (went (isWriter (a .state .now)) (i .is-writer .result) (i .is-writer .ensures) (λ (w : Writer). drawStore w (length (a .store .now)) (length (a .out .now)) (at (a .store .now))) (writerOf (a .state .now)) (u .unpack-writer .result) (at (a .store .now)) _ (u .before .before .if1 .left) (u .unpack-writer .ensures) (o .before .before .draw .ensures .1 .0)),
+          sym (went (isWriter (a .state .now)) (i .is-writer .result) (i .is-writer .ensures)
+              (λ (w : Writer). drawStore w (length (a .store .now)) (length (a .out .now)) (at (a .store .now))) (writerOf (a .state .now))
+              (u .unpack-writer .result) (at (a .store .now)) _ (u .before .before .if1 .left) (u .unpack-writer .ensures)
+              (o .before .before .draw .ensures .1 .0)),
           (
-            sym (went (isWriter (a .state .now)) (i .is-writer .result) (i .is-writer .ensures) (λ (w : Writer). drawArea w (length (a .store .now)) (length (a .out .now)) (at (a .store .now)) (at (a .out .now))) (writerOf (a .state .now)) (u .unpack-writer .result) (at (a .out .now)) _ (u .before .before .if1 .left) (u .unpack-writer .ensures) (o .before .before .draw .ensures .1 .1 .0)),
+            sym (went (isWriter (a .state .now)) (i .is-writer .result) (i .is-writer .ensures)
+                (λ (w : Writer). drawArea w (length (a .store .now)) (length (a .out .now)) (at (a .store .now)) (at (a .out .now))) (writerOf (a .state .now))
+                (u .unpack-writer .result) (at (a .out .now)) _ (u .before .before .if1 .left) (u .unpack-writer .ensures)
+                (o .before .before .draw .ensures .1 .1 .0)),
             sym (ap (λ (q : Reply Handed). rowOf q (a .row .now)) e),
           ),
         ),

@@ -21,7 +21,8 @@ returns : tie.Need-returns
 returns c =
     let i = c .before in
     let a = i .before .before .args in
-    let e : finished (a .state .now) (length (a .store .now)) (at (a .store .now)) ≡ refused 1 = turned (isWriter (a .state .now)) (i .is-writer .result) (i .is-writer .ensures) _ _ (c .if1 .taken) in (
+    let e : finished (a .state .now) (length (a .store .now)) (at (a .store .now)) ≡ refused 1 =
+    turned (isWriter (a .state .now)) (i .is-writer .result) (i .is-writer .ensures) _ _ (c .if1 .taken) in (
       sym (ap number e),
       (
         sym (ap (λ (q : Reply Writer). stateOf q (a .state .now)) e),
@@ -57,12 +58,16 @@ returns-2 c =
     let i = u .before .before .before in
     let a = i .before .before .args in
     let e =
-    went (isWriter (a .state .now)) (i .is-writer .result) (i .is-writer .ensures) (λ (w : Writer). finishReply w (length (a .store .now)) (at (a .store .now))) (writerOf (a .state .now)) (u .unpack-writer .result) (refused 1) _ (u .before .before .if1 .left) (u .unpack-writer .ensures) (o .before .finish .ensures .0)
+    went (isWriter (a .state .now)) (i .is-writer .result) (i .is-writer .ensures) (λ (w : Writer). finishReply w (length (a .store .now)) (at (a .store .now)))
+    (writerOf (a .state .now)) (u .unpack-writer .result) (refused 1) _ (u .before .before .if1 .left) (u .unpack-writer .ensures)
+    (o .before .finish .ensures .0)
     ∙ ap ofFinished (c .before .before .before .next .given .1) in (
       sym (ap number e),
       (
         c .pack-writer .ensures ∙ sym (ap (λ (q : Reply Writer). stateOf q (a .state .now)) e),
-        sym (went (isWriter (a .state .now)) (i .is-writer .result) (i .is-writer .ensures) (λ (w : Writer). finishStore w (length (a .store .now)) (at (a .store .now))) (writerOf (a .state .now)) (u .unpack-writer .result) (at (a .store .now)) _ (u .before .before .if1 .left) (u .unpack-writer .ensures) (o .before .finish .ensures .1 .0)),
+        sym (went (isWriter (a .state .now)) (i .is-writer .result) (i .is-writer .ensures)
+            (λ (w : Writer). finishStore w (length (a .store .now)) (at (a .store .now))) (writerOf (a .state .now)) (u .unpack-writer .result)
+            (at (a .store .now)) _ (u .before .before .if1 .left) (u .unpack-writer .ensures) (o .before .finish .ensures .1 .0)),
       ),
     )
 
@@ -76,12 +81,16 @@ returns-3 c =
     let i = u .before .before .before in
     let a = i .before .before .args in
     let e =
-    went (isWriter (a .state .now)) (i .is-writer .result) (i .is-writer .ensures) (λ (w : Writer). finishReply w (length (a .store .now)) (at (a .store .now))) (writerOf (a .state .now)) (u .unpack-writer .result) (refused 1) _ (u .before .before .if1 .left) (u .unpack-writer .ensures) (o .before .finish .ensures .0)
+    went (isWriter (a .state .now)) (i .is-writer .result) (i .is-writer .ensures) (λ (w : Writer). finishReply w (length (a .store .now)) (at (a .store .now)))
+    (writerOf (a .state .now)) (u .unpack-writer .result) (refused 1) _ (u .before .before .if1 .left) (u .unpack-writer .ensures)
+    (o .before .finish .ensures .0)
     ∙ ap ofFinished (c .before .no .given .1) in (
       sym (ap number e),
       (
         sym (ap (λ (q : Reply Writer). stateOf q (a .state .now)) e),
-        sym (went (isWriter (a .state .now)) (i .is-writer .result) (i .is-writer .ensures) (λ (w : Writer). finishStore w (length (a .store .now)) (at (a .store .now))) (writerOf (a .state .now)) (u .unpack-writer .result) (at (a .store .now)) _ (u .before .before .if1 .left) (u .unpack-writer .ensures) (o .before .finish .ensures .1 .0)),
+        sym (went (isWriter (a .state .now)) (i .is-writer .result) (i .is-writer .ensures)
+            (λ (w : Writer). finishStore w (length (a .store .now)) (at (a .store .now))) (writerOf (a .state .now)) (u .unpack-writer .result)
+            (at (a .store .now)) _ (u .before .before .if1 .left) (u .unpack-writer .ensures) (o .before .finish .ensures .1 .0)),
       ),
     )
 

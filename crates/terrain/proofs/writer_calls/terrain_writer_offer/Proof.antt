@@ -23,7 +23,8 @@ returns : tie.Need-returns
 returns c =
     let i = c .before in
     let a = i .before .before .before .args in
-    let e : offered (a .state .now) (length (a .store .now)) (a .run .now) (at (a .store .now)) ≡ refused 1 = turned (isWriter (a .state .now)) (i .is-writer .result) (i .is-writer .ensures) _ _ (c .if1 .taken) in (
+    let e : offered (a .state .now) (length (a .store .now)) (a .run .now) (at (a .store .now)) ≡ refused 1 =
+    turned (isWriter (a .state .now)) (i .is-writer .result) (i .is-writer .ensures) _ _ (c .if1 .taken) in (
       sym (ap number e),
       (
         sym (ap (λ (q : Reply Took). stateTook q (a .state .now)) e),
@@ -62,13 +63,18 @@ returns-2 c =
     let i = u .before .before .before in
     let a = i .before .before .before .args in
     let e =
-    went (isWriter (a .state .now)) (i .is-writer .result) (i .is-writer .ensures) (λ (w : Writer). offerReply w (length (a .store .now)) (a .run .now) (at (a .store .now))) (writerOf (a .state .now)) (u .unpack-writer .result) (refused 1) _ (u .before .before .if1 .left) (u .unpack-writer .ensures) (o .before .offer .ensures .0)
+    went (isWriter (a .state .now)) (i .is-writer .result) (i .is-writer .ensures)
+    (λ (w : Writer). offerReply w (length (a .store .now)) (a .run .now) (at (a .store .now))) (writerOf (a .state .now)) (u .unpack-writer .result)
+    (refused 1) _ (u .before .before .if1 .left) (u .unpack-writer .ensures) (o .before .offer .ensures .0)
     ∙ ap ofOffered (c .before .before .before .n .given .1) in (
       sym (ap number e),
       (
-        c .pack-offered .ensures .0 ∙ offered-words (a .state .now) (c .pack-offered .ensures .1) _ _ _ _ e ∙ sym (ap (λ (q : Reply Took). stateTook q (a .state .now)) e),
+        c .pack-offered .ensures .0 ∙ offered-words (a .state .now) (c .pack-offered .ensures .1) _ _ _ _ e ∙
+            sym (ap (λ (q : Reply Took). stateTook q (a .state .now)) e),
         (
-          sym (went (isWriter (a .state .now)) (i .is-writer .result) (i .is-writer .ensures) (λ (w : Writer). offerStore w (length (a .store .now)) (a .run .now) (at (a .store .now))) (writerOf (a .state .now)) (u .unpack-writer .result) (at (a .store .now)) _ (u .before .before .if1 .left) (u .unpack-writer .ensures) (o .before .offer .ensures .1 .0)),
+          sym (went (isWriter (a .state .now)) (i .is-writer .result) (i .is-writer .ensures)
+              (λ (w : Writer). offerStore w (length (a .store .now)) (a .run .now) (at (a .store .now))) (writerOf (a .state .now)) (u .unpack-writer .result)
+              (at (a .store .now)) _ (u .before .before .if1 .left) (u .unpack-writer .ensures) (o .before .offer .ensures .1 .0)),
           sym (ap (λ (q : Reply Took). takenOf q (a .taken .now)) e),
         ),
       ),
@@ -84,13 +90,17 @@ returns-3 c =
     let i = u .before .before .before in
     let a = i .before .before .before .args in
     let e =
-    went (isWriter (a .state .now)) (i .is-writer .result) (i .is-writer .ensures) (λ (w : Writer). offerReply w (length (a .store .now)) (a .run .now) (at (a .store .now))) (writerOf (a .state .now)) (u .unpack-writer .result) (refused 1) _ (u .before .before .if1 .left) (u .unpack-writer .ensures) (o .before .offer .ensures .0)
+    went (isWriter (a .state .now)) (i .is-writer .result) (i .is-writer .ensures)
+    (λ (w : Writer). offerReply w (length (a .store .now)) (a .run .now) (at (a .store .now))) (writerOf (a .state .now)) (u .unpack-writer .result)
+    (refused 1) _ (u .before .before .if1 .left) (u .unpack-writer .ensures) (o .before .offer .ensures .0)
     ∙ ap ofOffered (c .before .no .given .1) in (
       sym (ap number e),
       (
         sym (ap (λ (q : Reply Took). stateTook q (a .state .now)) e),
         (
-          sym (went (isWriter (a .state .now)) (i .is-writer .result) (i .is-writer .ensures) (λ (w : Writer). offerStore w (length (a .store .now)) (a .run .now) (at (a .store .now))) (writerOf (a .state .now)) (u .unpack-writer .result) (at (a .store .now)) _ (u .before .before .if1 .left) (u .unpack-writer .ensures) (o .before .offer .ensures .1 .0)),
+          sym (went (isWriter (a .state .now)) (i .is-writer .result) (i .is-writer .ensures)
+              (λ (w : Writer). offerStore w (length (a .store .now)) (a .run .now) (at (a .store .now))) (writerOf (a .state .now)) (u .unpack-writer .result)
+              (at (a .store .now)) _ (u .before .before .if1 .left) (u .unpack-writer .ensures) (o .before .offer .ensures .1 .0)),
           sym (ap (λ (q : Reply Took). takenOf q (a .taken .now)) e),
         ),
       ),

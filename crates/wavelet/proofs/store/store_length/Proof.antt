@@ -19,7 +19,8 @@ module _ (W L : ℕ) where
   deep : within 1 maxWidth W ≡ true → within 1 maxLevels L ≡ false → 0 ≡ pick (both (within 1 maxWidth W) (within 1 maxLevels L)) (storeLength W L) 0
   deep a b = rw (a, b)
 
-  fits : within 1 maxWidth W ≡ true → within 1 maxLevels L ≡ true → storeLength W L ≡ pick (both (within 1 maxWidth W) (within 1 maxLevels L)) (storeLength W L) 0
+  fits : within 1 maxWidth W ≡ true → within 1 maxLevels L ≡ true →
+      storeLength W L ≡ pick (both (within 1 maxWidth W) (within 1 maxLevels L)) (storeLength W L) 0
   fits a b = rw (a, b)
 
 is-within-requires : tie.Need-is-within-requires
@@ -51,7 +52,8 @@ unfolding maxWidth maxLevels
 returns-3 c =
     let d = c .before in
     let b = d .before .before in
-    c .needed .ensures ∙ fits _ _ (sym (b .before .is-within .ensures) ∙ not-false _ (b .if1 .left)) (sym (d .before .is-within2 .ensures) ∙ not-false _ (d .if2 .left))
+    c .needed .ensures ∙ fits _ _ (sym (b .before .is-within .ensures) ∙ not-false _ (b .if1 .left))
+    (sym (d .before .is-within2 .ensures) ∙ not-false _ (d .if2 .left))
 
 pub store-length-spec : {M : Type 1} → statement M
 store-length-spec =

@@ -18,7 +18,8 @@ add-result c =
     let s = c .before .start .given in
     let l = c .before .before .before in
     let a = l .before .args in
-    let p = located-in (a .plane .now) (a .width) (a .height) (a .levels) (a .level) (a .band) (a .row) (s .0 .0) (s .0 .1 .0) (sym (l .locate .ensures) ∙ s .1) in
+    let p = located-in (a .plane .now) (a .width) (a .height) (a .levels) (a .level) (a .band) (a .row) (s .0 .0) (s .0 .1 .0) (sym (l .locate .ensures) ∙ s .1)
+    in
     omega arith
 
 mul-result : tie.Need-mul-result
@@ -26,7 +27,8 @@ mul-result c =
     let s = c .before .start .given in
     let l = c .before .before .before in
     let a = l .before .args in
-    let p = located-in (a .plane .now) (a .width) (a .height) (a .levels) (a .level) (a .band) (a .row) (s .0 .0) (s .0 .1 .0) (sym (l .locate .ensures) ∙ s .1) in
+    let p = located-in (a .plane .now) (a .width) (a .height) (a .levels) (a .level) (a .band) (a .row) (s .0 .0) (s .0 .1 .0) (sym (l .locate .ensures) ∙ s .1)
+    in
     omega arith
 
 sub-result : tie.Need-sub-result

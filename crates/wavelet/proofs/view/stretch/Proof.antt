@@ -1,4 +1,5 @@
--- `view::stretch` meets its contract: each arm chooses what the definition says of its band (`arm-LL` and so on); within the limits every number fits. Assumes nothing.
+-- `view::stretch` meets its contract: each arm chooses what the definition says of its band (`arm-LL` and so on); within the limits every number fits. Assumes
+-- nothing.
 use mathlib.Core.Path.{sym, _∙_}
 use Prim.Native.Nat.{_+_}
 use native.Mathlib.Omega.{arith}

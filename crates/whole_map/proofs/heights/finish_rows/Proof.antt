@@ -20,7 +20,9 @@ abbrev μ-loop : tie.MeasureT-loop
 loop-holds : tie.Need-loop-holds Inv-loop μ-loop
 loop-holds c = finish-start _ _ _ _ (c .before .pre .0) (c .before .pre .1)
 
-room : (c : tie.In-loop Inv-loop μ-loop) → (c .before .loop .r * c .before .before .before .args .width + c .before .before .before .args .width ≤ length (c .before .loop .work)) × (c .before .loop .r * c .before .before .before .args .width + c .before .before .before .args .width ≤ length (c .before .loop .heights))
+room : (c : tie.In-loop Inv-loop μ-loop) → (c .before .loop .r * c .before .before .before .args .width + c .before .before .before .args .width ≤ length
+    (c .before .loop .work)) × (c .before .loop .r * c .before .before .before .args .width + c .before .before .before .args .width ≤ length
+    (c .before .loop .heights))
 room c =
     (pass-room (c .before .loop .inv .rows) (c .loop-test .taken), swept-room (c .before .loop .heights) (c .before .loop .inv .heights) (c .loop-test .taken))
 
@@ -49,7 +51,9 @@ same-length : tie.Need-same-length Inv-loop μ-loop
 same-length c = let head = c .before .before .before .before .before in head .loop .inv .rows .size
 
 same-length-2 : tie.Need-same-length-2 Inv-loop μ-loop
-same-length-2 c = let head = c .before .before .before .before .before in swept-size (head .loop .heights) (head .loop .inv .heights) (head .before .before .args .heights .now) refl
+same-length-2 c =
+    let head = c .before .before .before .before .before in
+    swept-size (head .loop .heights) (head .loop .inv .heights) (head .before .before .args .heights .now) refl
 
 returns : tie.Need-returns Inv-loop μ-loop
 unfolding maxSample
@@ -59,7 +63,8 @@ returns c =
     let head = row .before in
     let w = head .before .before .args .width in
     let a = head .loop .r * w in
-    finish-no w _ _ _ _ _ (head .loop .heights) (head .loop .inv) (a + w - a) (omega arith) (row .loop-test .taken) _ (test .all-between .ensures) (not-true _ (c .if1 .taken))
+    finish-no w _ _ _ _ _ (head .loop .heights) (head .loop .inv) (a + w - a) (omega arith) (row .loop-test .taken) _ (test .all-between .ensures)
+    (not-true _ (c .if1 .taken))
 
 mul-finish-row : tie.Need-mul-finish-row Inv-loop μ-loop
 mul-finish-row c = omega (arith, room (c .before .before .before .before))
@@ -118,7 +123,9 @@ loop-again c =
     let head = row .before in
     let w = head .before .before .args .width in
     let a = head .loop .r * w in
-    finish-turn w _ _ _ _ _ (head .loop .heights) (head .loop .inv) (a + w - a) (omega arith) (row .loop-test .taken) _ (test .all-between .ensures) (done .finish-row .last .0) (done .finish-row .last .1 .0) (not-false _ (good .if1 .left)) (done .finish-row .kept .0) (done .finish-row .kept .1 .0) (done .finish-row .ensures .0) (done .finish-row .ensures .1)
+    finish-turn w _ _ _ _ _ (head .loop .heights) (head .loop .inv) (a + w - a) (omega arith) (row .loop-test .taken) _ (test .all-between .ensures)
+    (done .finish-row .last .0) (done .finish-row .last .1 .0) (not-false _ (good .if1 .left)) (done .finish-row .kept .0) (done .finish-row .kept .1 .0)
+    (done .finish-row .ensures .0) (done .finish-row .ensures .1)
 
 same-length-3 : tie.Need-same-length-3 Inv-loop μ-loop
 same-length-3 c = c .before .loop .inv .rows .size

@@ -35,8 +35,17 @@ sub-low c = omega arith
 loop-holds : tie.Need-loop-holds Inv-loop μ-loop
 unfolding count
 loop-holds c =
-    let start = c .before in
-    (omega arith, refl, sym (count-lo (start .args .height)), omega arith, few _ _ _ _ (start .pre .1), refl, start .pre .0, start .pre .1, fronts-start _ _ _ _)
+    let start = c .before in (
+      omega arith,
+      refl,
+      sym (count-lo (start .args .height)),
+      omega arith,
+      few _ _ _ _ (start .pre .1),
+      refl,
+      start .pre .0,
+      start .pre .1,
+      fronts-start _ _ _ _,
+    )
 
 mul-load-to : tie.Need-mul-load-to Inv-loop μ-loop
 mul-load-to c = omega arith
@@ -92,8 +101,11 @@ mul-load-to-3 c = omega arith
 
 load-to-requires-3 : tie.Need-load-to-requires-3 Inv-loop μ-loop
 load-to-requires-3 c κs =
-    let inv = c .before .before .before .loop .inv in
-    (inv .6 .apart, row-room _ _ _ _ _ (inv .6) (omega arith), omega (arith, row-room _ _ _ _ (c .before .before .before .loop .n) (inv .7) (omega arith), inv .5))
+    let inv = c .before .before .before .loop .inv in (
+      inv .6 .apart,
+      row-room _ _ _ _ _ (inv .6) (omega arith),
+      omega (arith, row-room _ _ _ _ (c .before .before .before .loop .n) (inv .7) (omega arith), inv .5),
+    )
 
 same-length : tie.Need-same-length Inv-loop μ-loop
 same-length c = let called = c .before in called .load-to3 .kept .1 .1 .0 ∙ called .before .before .before .before .loop .inv .5

@@ -178,7 +178,8 @@ back-levels-returns-2 t c =
     let half2 = again .before .before in
     let half = half2 .before in
     let start = half .before .before in
-    back-no _ _ _ _ _ _ _ _ _ _ _ _ _ (start .pre .1 .1) (half .before .if1 .left) (half .half .ensures) (half2 .half2 .ensures) (again .back-levels .ensures) (not-true _ (c .if2 .taken))
+    back-no _ _ _ _ _ _ _ _ _ _ _ _ _ (start .pre .1 .1) (half .before .if1 .left) (half .half .ensures) (half2 .half2 .ensures) (again .back-levels .ensures)
+    (not-true _ (c .if2 .taken))
 
 back-levels-add-weave-low : (t : ℕ) → back-levels-lts.Need-add-weave-low (
   level-back-reads.Asked,

@@ -184,7 +184,8 @@ forward-levels-forward-levels-requires t c κs =
     let start = lift .before .before in (
       omega arith,
       (
-        rows-corner _ _ _ _ _ _ _ (spread .spread .kept .1 .0 ∙ lift .lift-level .kept .0) (half2 .before .half .ensures) (half2 .half2 .ensures) (start .pre .1 .0),
+        rows-corner _ _ _ _ _ _ _ (spread .spread .kept .1 .0 ∙ lift .lift-level .kept .0) (half2 .before .half .ensures) (half2 .half2 .ensures)
+            (start .pre .1 .0),
         own-rows _ _ _ _ _ _ (save .save .kept .1 .0) (half2 .before .half .ensures) (half2 .half2 .ensures) (start .pre .1 .1),
         omega (arith, half2 .before .before .if1 .left),
       ),
@@ -238,7 +239,8 @@ forward-levels-returns-2 t c =
     let lift = half2 .before .before .before .before in
     let start = lift .before .before in
     let R = start .pre .1 .0 in
-    forward-step _ _ _ _ _ (R .wide) (R .apart) (lift .lift-level .ensures) _ _ _ _ _ _ _ _ _ (start .pre .1 .1) (half2 .before .before .if1 .left) (half2 .before .half .ensures) (half2 .half2 .ensures)
+    forward-step _ _ _ _ _ (R .wide) (R .apart) (lift .lift-level .ensures) _ _ _ _ _ _ _ _ _ (start .pre .1 .1) (half2 .before .before .if1 .left)
+    (half2 .before .half .ensures) (half2 .half2 .ensures)
     (save .save .ensures) (spread .spread .ensures) (again .forward-levels .ensures .0) (again .forward-levels .ensures .1)
 
 pub +forward-levels-spec : {M : Type 1} → statement M

@@ -120,7 +120,8 @@ in-range-returns-2 : (t : ℕ) → in-range-lts.Need-returns-2 (
 in-range-returns-2 t c =
     let half2 = c .before .before in
     let start = half2 .before .before .before in
-    range-first _ _ _ _ _ _ _ _ (start .pre .1 .2) (half2 .before .before .if1 .left) (half2 .before .half .ensures) (half2 .half2 .ensures) (c .before .in-range .ensures)
+    range-first _ _ _ _ _ _ _ _ (start .pre .1 .2) (half2 .before .before .if1 .left) (half2 .before .half .ensures) (half2 .half2 .ensures)
+    (c .before .in-range .ensures)
     (not-true _ (c .if2 .taken))
 
 in-range-rows-in-range-requires-2 : (t : ℕ) → in-range-lts.Need-rows-in-range-requires-2 (
@@ -154,7 +155,8 @@ in-range-returns-3 t c =
     let in-range = c .before .before .before in
     let half2 = in-range .before in
     let start = half2 .before .before .before in
-    range-second _ _ _ _ _ _ _ _ (start .pre .1 .2) (half2 .before .before .if1 .left) (half2 .before .half .ensures) (half2 .half2 .ensures) (in-range .in-range .ensures)
+    range-second _ _ _ _ _ _ _ _ (start .pre .1 .2) (half2 .before .before .if1 .left) (half2 .before .half .ensures) (half2 .half2 .ensures)
+    (in-range .in-range .ensures)
     (not-false _ (c .before .before .if2 .left)) _ (c .before .rows-in-range2 .ensures) (not-true _ (c .if3 .taken))
 
 in-range-rows-in-range-requires-3 : (t : ℕ) → in-range-lts.Need-rows-in-range-requires-3 (
@@ -184,7 +186,8 @@ in-range-returns-4 t c =
     let in-range = rows .before .before in
     let half2 = in-range .before in
     let start = half2 .before .before .before in
-    range-third _ _ _ _ _ _ _ _ (start .pre .1 .2) (half2 .before .before .if1 .left) (half2 .before .half .ensures) (half2 .half2 .ensures) (in-range .in-range .ensures)
+    range-third _ _ _ _ _ _ _ _ (start .pre .1 .2) (half2 .before .before .if1 .left) (half2 .before .half .ensures) (half2 .half2 .ensures)
+    (in-range .in-range .ensures)
     (not-false _ (rows .before .if2 .left)) _ (rows .rows-in-range2 .ensures) (not-false _ (c .before .if3 .left)) _ (c .rows-in-range3 .ensures)
 
 pub +in-range-spec : {M : Type 1} → statement M

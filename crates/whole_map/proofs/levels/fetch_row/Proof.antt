@@ -1,4 +1,5 @@
--- `levels::fetch_row` meets its contract: what is left of the low half is copied from the plane, and the row lifted back with the high half that stands there. Assumes nothing.
+-- `levels::fetch_row` meets its contract: what is left of the low half is copied from the plane, and the row lifted back with the high half that stands there.
+-- Assumes nothing.
 use Prim.Native.Nat.{_+_, _*_, _≤_}
 use native.Mathlib.Omega.{arith}
 use lib.ListN.{length}
@@ -28,10 +29,12 @@ module _ (c : tie.After-plane-row) where
       let m = made-few (start .args .r) _ _ (start .pre .2) in
       omega (arith, c .before .before .made-of .ensures)
 
-  from-room : c .plane-row .result * c .before .before .before .args .across + c .before .before .before .args .width ≤ length (c .before .before .before .args .plane .now)
+  from-room : c .plane-row .result * c .before .before .before .args .across + c .before .before .before .args .width ≤ length
+      (c .before .before .before .args .plane .now)
   from-room = row-room _ _ _ _ _ (c .before .before .before .pre .0) (c .plane-row .ensures .1)
 
-  to-room : c .before .before .before .args .r * c .before .before .before .args .stride + c .before .before .before .args .width ≤ length (c .before .before .before .args .work .now)
+  to-room : c .before .before .before .args .r * c .before .before .before .args .stride + c .before .before .before .args .width ≤ length
+      (c .before .before .before .args .work .now)
   to-room = row-room _ _ _ _ _ (c .before .before .before .pre .1) (c .before .before .before .pre .3)
 
 mul-a : tie.Need-mul-a
@@ -76,7 +79,8 @@ returns c =
     let start = made .before in
     let a = start .args in
     row-fetched (a .stride) (a .across) (a .from) (a .width) (a .height) (a .r) (row .plane-row .result) (made .made-of .result) _ _ _ _
-    (start .pre .1 .wide) (start .pre .3) (made .made-of .ensures) (few row) (row .plane-row .ensures .0) (rw (← half .half .ensures) (copy .copy-part .ensures)) (lifted .unlift-part .ensures)
+    (start .pre .1 .wide) (start .pre .3) (made .made-of .ensures) (few row) (row .plane-row .ensures .0)
+    (rw (← half .half .ensures) (copy .copy-part .ensures)) (lifted .unlift-part .ensures)
 
 pub fetch-row-spec : {M : Type 1} → statement M
 fetch-row-spec =

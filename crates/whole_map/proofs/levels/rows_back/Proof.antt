@@ -24,7 +24,8 @@ Inv-loop plane work₀ across stride from width height r₀ work r =
     × Rows (length plane) across width height
     × Rows (length work₀) stride width height
     × (from ≤ count lo width)
-    × ((x₀ : ℕ → ℤ) → Zoned stride width height from (cells across (at plane)) x₀ 1 2 (at work₀) → Zoned stride width height from (cells across (at plane)) x₀ r (r + 1) (at work))
+    × ((x₀ : ℕ → ℤ) → Zoned stride width height from (cells across (at plane)) x₀ 1 2 (at work₀) →
+    Zoned stride width height from (cells across (at plane)) x₀ r (r + 1) (at work))
 
 abbrev μ-loop : tie.MeasureT-loop
 μ-loop plane work₀ across stride from width height r₀ work r = height - r
@@ -93,7 +94,8 @@ loop-again c =
       inv .5,
       inv .6,
       inv .7,
-      λ x s. turn-back _ _ _ _ _ x _ (rows-kept size (inv .6)) (inv .2) _ _ _ _ _ (inv .0) (row .loop-test .taken) (three .fetch-row3 .ensures) (four .fetch-row4 .ensures) (pair .unlift-pair .ensures) (inv .8 x s),
+      λ x s. turn-back _ _ _ _ _ x _ (rows-kept size (inv .6)) (inv .2) _ _ _ _ _ (inv .0) (row .loop-test .taken) (three .fetch-row3 .ensures)
+          (four .fetch-row4 .ensures) (pair .unlift-pair .ensures) (inv .8 x s),
     )
 
 add-fetch-last : tie.Need-add-fetch-last Inv-loop μ-loop
@@ -113,7 +115,8 @@ same-length c =
     let called = head .before .before in
     let two = called .before .before .before in
     let one = two .before .before .before in
-    pair .unlift-pair2 .kept .0 ∙ last .fetch-last .kept .1 .0 ∙ head .loop .inv .4 ∙ called .unupdate-row .kept .0 ∙ two .fetch-row2 .kept .1 .0 ∙ one .fetch-row .kept .1 .0
+    pair .unlift-pair2 .kept .0 ∙ last .fetch-last .kept .1 .0 ∙ head .loop .inv .4 ∙ called .unupdate-row .kept .0 ∙ two .fetch-row2 .kept .1 .0 ∙
+    one .fetch-row .kept .1 .0
 
 returns : tie.Need-returns Inv-loop μ-loop
 returns c =
@@ -125,8 +128,10 @@ returns c =
     let two = called .before .before .before in
     let one = two .before .before .before in
     let pre = one .before .before .pre in
-    let first = first-back _ _ _ _ _ _ _ (rows-kept (two .fetch-row2 .kept .1 .0 ∙ one .fetch-row .kept .1 .0) (pre .1)) (pre .3) _ _ _ (one .fetch-row .ensures) (two .fetch-row2 .ensures) (called .unupdate-row .ensures .1) in
-    last-back _ _ _ _ _ _ _ (rows-kept (last .fetch-last .kept .1 .0 ∙ inv .4) (inv .6)) (inv .2) _ _ _ _ (inv .0) (inv .1) (past .loop-test .left) (last .fetch-last .ensures) (pair .unlift-pair2 .ensures) (inv .8 _ first)
+    let first = first-back _ _ _ _ _ _ _ (rows-kept (two .fetch-row2 .kept .1 .0 ∙ one .fetch-row .kept .1 .0) (pre .1)) (pre .3) _ _ _
+    (one .fetch-row .ensures) (two .fetch-row2 .ensures) (called .unupdate-row .ensures .1) in
+    last-back _ _ _ _ _ _ _ (rows-kept (last .fetch-last .kept .1 .0 ∙ inv .4) (inv .6)) (inv .2) _ _ _ _ (inv .0) (inv .1) (past .loop-test .left)
+    (last .fetch-last .ensures) (pair .unlift-pair2 .ensures) (inv .8 _ first)
 
 pub rows-back-spec : {M : Type 1} → statement M
 rows-back-spec =

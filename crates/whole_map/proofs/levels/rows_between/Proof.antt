@@ -25,7 +25,8 @@ abbrev μ-loop : tie.MeasureT-loop
 loop-holds : tie.Need-loop-holds Inv-loop μ-loop
 loop-holds c = (c .pre .0, c .pre .2, tested-start _ _ _ _ _ _ _ _ (c .pre .1))
 
-room : (c : tie.In-loop Inv-loop μ-loop) → c .before .loop .r * c .before .before .args .stride + c .before .before .args .to ≤ length (c .before .before .args .area .now)
+room : (c : tie.In-loop Inv-loop μ-loop) → c .before .loop .r * c .before .before .args .stride + c .before .before .args .to ≤ length
+    (c .before .before .args .area .now)
 room c = row-room _ _ _ _ _ (c .before .loop .inv .0) (c .loop-test .taken)
 
 mul-a : tie.Need-mul-a Inv-loop μ-loop
@@ -73,7 +74,8 @@ returns c =
     let p = head .loop .r * a .stride + a .from in
     let n = head .loop .r * a .stride + a .to - p in
     tested-no (a .stride) (a .first) (a .last) (a .from) (a .to) _ _ (a .area .now) (head .loop .r) (test .loop-test .taken) (inv .2)
-    (sym (row-test (a .stride) (a .first) (a .last) (a .from) (a .to) _ _ (a .area .now) (head .loop .r) p n (c .before .all-between .result) (inv .2 .some) refl (omega (arith, room test)) (omega (arith, room test)) (c .before .all-between .ensures)) ∙ not-true _ (c .if1 .taken))
+    (sym (row-test (a .stride) (a .first) (a .last) (a .from) (a .to) _ _ (a .area .now) (head .loop .r) p n (c .before .all-between .result) (inv .2 .some)
+    refl (omega (arith, room test)) (omega (arith, room test)) (c .before .all-between .ensures)) ∙ not-true _ (c .if1 .taken))
     ∙ between-by (a .first) (a .last) (a .from) (a .to) _ (low-is start) (high-is start)
 
 add-r : tie.Need-add-r Inv-loop μ-loop
@@ -94,7 +96,8 @@ loop-again c =
       inv .0,
       inv .1,
       tested-turn (a .stride) (a .first) (a .last) (a .from) (a .to) _ _ (a .area .now) (head .loop .r) (test .loop-test .taken)
-          (sym (row-test (a .stride) (a .first) (a .last) (a .from) (a .to) _ _ (a .area .now) (head .loop .r) p n (c .before .all-between .result) (inv .2 .some) refl (omega (arith, room test)) (omega (arith, room test)) (c .before .all-between .ensures)) ∙ not-false _ (c .if1 .left))
+          (sym (row-test (a .stride) (a .first) (a .last) (a .from) (a .to) _ _ (a .area .now) (head .loop .r) p n (c .before .all-between .result)
+          (inv .2 .some) refl (omega (arith, room test)) (omega (arith, room test)) (c .before .all-between .ensures)) ∙ not-false _ (c .if1 .left))
           (inv .2),
     )
 

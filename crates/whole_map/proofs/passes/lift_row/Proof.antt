@@ -38,7 +38,8 @@ returns c =
     let start = c .before .before .before in
     let args = start .args in
     let a = args .r * args .stride in
-    lifted-part a (args .width) (a + args .width - a) (args .area .now) (called .last .0) (omega arith) (start .pre .1) (called .kept .0) (called .ensures ∙ lifted-zero _ _)
+    lifted-part a (args .width) (a + args .width - a) (args .area .now) (called .last .0) (omega arith) (start .pre .1) (called .kept .0)
+    (called .ensures ∙ lifted-zero _ _)
 
 pub lift-row-spec : {M : Type 1} → statement M
 lift-row-spec =

@@ -71,7 +71,8 @@ loop-again c =
       inv .5,
       turn .lift-turn .kept .0 ∙ inv .6,
       inv .7,
-      λ X r. raise-turn _ _ _ _ X R (head .before .before .before .before .pre .1) _ (inv .3) _ _ _ (inv .0) (omega arith) (turn .lift-turn .ensures) (inv .8 X r),
+      λ X r. raise-turn _ _ _ _ X R (head .before .before .before .before .pre .1) _ (inv .3) _ _ _ (inv .0) (omega arith) (turn .lift-turn .ensures)
+          (inv .8 X r),
     )
 
 lift-odd-requires : tie.Need-lift-odd-requires Inv-loop μ-loop
@@ -108,7 +109,8 @@ returns c =
     let inv = head .loop .inv in
     let more = start .pre .1 in
     let first = raise-first _ _ _ _ _ (start .pre .0) more _ (inv .3) _ _ refl (both .lift-both .ensures) in
-    raise-end _ _ _ _ _ (rows-kept (inv .6) (inv .7)) more _ (inv .3) _ _ _ _ (inv .0) (omega arith) (odd .lift-odd .ensures) (row .lift-row .ensures) (inv .8 _ first)
+    raise-end _ _ _ _ _ (rows-kept (inv .6) (inv .7)) more _ (inv .3) _ _ _ _ (inv .0) (omega arith) (odd .lift-odd .ensures) (row .lift-row .ensures)
+    (inv .8 _ first)
 
 pub lift-sweep-spec : {M : Type 1} → statement M
 lift-sweep-spec =

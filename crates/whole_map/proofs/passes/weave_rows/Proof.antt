@@ -35,7 +35,8 @@ loop-holds : tie.Need-loop-holds Inv-loop μ-loop
 unfolding maxWidth count
 loop-holds c = (omega arith, refl, between-start _, pass-start _ _ _ _ _ 0 (c .pre .0) (λ r k lt. absurd (omega arith)))
 
-room : (c : tie.In-loop Inv-loop μ-loop) → c .before .loop .r * c .before .before .args .stride + c .before .before .args .width ≤ length (c .before .loop .area)
+room : (c : tie.In-loop Inv-loop μ-loop) → c .before .loop .r * c .before .before .args .stride + c .before .before .args .width ≤ length
+    (c .before .loop .area)
 room c = pass-room (c .before .loop .inv .3) (c .loop-test .taken)
 
 mul-a : tie.Need-mul-a Inv-loop μ-loop

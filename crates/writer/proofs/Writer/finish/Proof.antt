@@ -27,7 +27,9 @@ same-length : tie.Need-same-length
 same-length c = search needs
 
 returns-2 : tie.Need-returns-2
-returns-2 c = let t = finish-yes _ _ _ _ (c .before .before .before .before .finish-question .ensures) _ _ (omega arith) (c .before .shut .ensures) in (t .0, (t .1, finish-kept _ _ _ _ _ (t .0) (t .1)))
+returns-2 c =
+    let t = finish-yes _ _ _ _ (c .before .before .before .before .finish-question .ensures) _ _ (omega arith) (c .before .shut .ensures) in
+    (t .0, (t .1, finish-kept _ _ _ _ _ (t .0) (t .1)))
 
 pub finish-spec : {M : Type 1} → statement M
 finish-spec =

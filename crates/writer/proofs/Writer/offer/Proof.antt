@@ -1,4 +1,5 @@
--- `Writer::offer` meets its contract. The loop goes stretch by stretch: what is taken, the writer and the store so far are those of the offer height by height. Assumes nothing.
+-- `Writer::offer` meets its contract. The loop goes stretch by stretch: what is taken, the writer and the store so far are those of the offer height by
+-- height. Assumes nothing.
 use mathlib.Core.Path.{_≡_, sym, _∙_}
 use Prim.Native.Nat.{_-_}
 use native.Mathlib.Omega.{arith}
@@ -37,19 +38,27 @@ loop-holds c =
     offer-start _ _ _ _ (sound-taker _ _ (offer-sound (a .self) (length (a .store .now)) (length (a .run .now)) q)) (next-first _ _ _ _ q (c .first .ensures))
 
 stretch-requires : tie.Need-stretch-requires Inv-loop μ-loop
-stretch-requires c κs = let o = offer-ready _ _ _ _ _ _ _ (c .before .before .loop .inv) (c .before .loop-test .taken) in (o .taker, o .rows, o .row, o .heights)
+stretch-requires c κs =
+    let o = offer-ready _ _ _ _ _ _ _ (c .before .before .loop .inv) (c .before .loop-test .taken) in
+    (o .taker, o .rows, o .row, o .heights)
 
 add-taken : tie.Need-add-taken Inv-loop μ-loop
-add-taken c = let o = offer-ready _ _ _ _ _ _ _ (c .before .before .before .before .loop .inv) (c .before .before .before .loop-test .taken) in omega (arith, o .heights)
+add-taken c =
+    let o = offer-ready _ _ _ _ _ _ _ (c .before .before .before .before .loop .inv) (c .before .before .before .loop-test .taken) in
+    omega (arith, o .heights)
 
 sub-next : tie.Need-sub-next Inv-loop μ-loop
-sub-next c = let o = offer-ready _ _ _ _ _ _ _ (c .before .before .before .before .loop .inv) (c .before .before .before .loop-test .taken) in omega (arith, o .heights)
+sub-next c =
+    let o = offer-ready _ _ _ _ _ _ _ (c .before .before .before .before .loop .inv) (c .before .before .before .loop-test .taken) in
+    omega (arith, o .heights)
 
 next-requires : tie.Need-next-requires Inv-loop μ-loop
 next-requires c κs = c .before .stretch .ensures .taker .column
 
 loop-less : tie.Need-loop-less Inv-loop μ-loop
-loop-less c = let o = offer-ready _ _ _ _ _ _ _ (c .before .before .before .before .before .loop .inv) (c .before .before .before .before .loop-test .taken) in omega (arith, o .heights)
+loop-less c =
+    let o = offer-ready _ _ _ _ _ _ _ (c .before .before .before .before .before .loop .inv) (c .before .before .before .before .loop-test .taken) in
+    omega (arith, o .heights)
 
 loop-again : tie.Need-loop-again Inv-loop μ-loop
 loop-again c =

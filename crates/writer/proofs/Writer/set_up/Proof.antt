@@ -16,14 +16,18 @@ store-length-requires : tie.Need-store-length-requires
 store-length-requires c κs = search needs
 
 clear-requires : tie.Need-clear-requires
-clear-requires c κs = let f = set-up-fits _ _ _ _ (c .before .before .before .set-up-question .ensures) _ (omega arith) (c .before .store-length .ensures) in omega arith
+clear-requires c κs =
+    let f = set-up-fits _ _ _ _ (c .before .before .before .set-up-question .ensures) _ (omega arith) (c .before .store-length .ensures) in
+    omega arith
 
 same-length : tie.Need-same-length
 same-length c = search needs
 
 returns-2 : tie.Need-returns-2
 returns-2 c =
-    let t = set-up-yes _ _ _ _ (c .before .before .before .before .before .set-up-question .ensures) _ _ _ (omega arith) (set-up-fits _ _ _ _ (c .before .before .before .before .before .set-up-question .ensures) _ (omega arith) (c .before .before .before .store-length .ensures)) (c .before .clear .ensures) in
+    let t = set-up-yes _ _ _ _ (c .before .before .before .before .before .set-up-question .ensures) _ _ _ (omega arith)
+    (set-up-fits _ _ _ _ (c .before .before .before .before .before .set-up-question .ensures) _ (omega arith)
+    (c .before .before .before .store-length .ensures)) (c .before .clear .ensures) in
     (t .0, (t .1, set-up-kept _ _ _ _ _ (t .0)))
 
 pub set-up-spec : {M : Type 1} → statement M

@@ -15,13 +15,16 @@ same-length : tie.Need-same-length
 same-length c = search needs
 
 returns : tie.Need-returns
-returns c = drew-closes (c .before .before .before .before .before .before .before .before .before .args .s) _ _ _ (c .before .before .before .before .before .before .before .pull .ensures) _ _ (c .before .before .before .before .before .if1 .taken) (omega arith) (c .before .shut .ensures)
+returns c = drew-closes (c .before .before .before .before .before .before .before .before .before .args .s) _ _ _
+    (c .before .before .before .before .before .before .before .pull .ensures) _ _ (c .before .before .before .before .before .if1 .taken) (omega arith)
+    (c .before .shut .ensures)
 
 same-length-2 : tie.Need-same-length-2
 same-length-2 c = search needs
 
 returns-2 : tie.Need-returns-2
-returns-2 c = drew-waits (c .before .before .before .before .before .before .args .s) _ _ _ (c .before .before .before .before .pull .ensures) (c .before .before .if1 .taken) (omega arith)
+returns-2 c = drew-waits (c .before .before .before .before .before .before .args .s) _ _ _ (c .before .before .before .before .pull .ensures)
+    (c .before .before .if1 .taken) (omega arith)
 
 same-length-3 : tie.Need-same-length-3
 same-length-3 c = search needs

@@ -150,7 +150,8 @@ arrive-deeper-requires t c κs = search needs
 
 arrive-further-requires : (t : ℕ) → arrive-lts.Need-further-requires (claims t) (arrive-at t) arrive.Post
 arrive-further-requires t c κs =
-    let a = c .before .before .before .before .before .before .before .before .before .before .before .before .before .before .before .before .before .before .args in
+    let a = c .before .before .before .before .before .before .before .before .before .before .before .before .before .before .before .before .before .before
+    .args in
     let w = c .before .before .before .half in
     let b = left-small (a .l - 1) (w .result) _ _ _ (omega (arith, w .ensures, count-lo (a .w))) (omega arith) (c .before .before .arrive .ensures) in
     omega arith

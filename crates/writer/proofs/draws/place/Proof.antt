@@ -24,7 +24,11 @@ half-requires : tie.Need-half-requires
 half-requires c κs = search needs
 
 add-result : tie.Need-add-result
-add-result c = omega (arith, slot-room (c .before .before .before .args .w) (2 * c .before .before .before .args .n + 3), count-lo (c .before .before .before .args .w))
+add-result c = omega (
+  arith,
+  slot-room (c .before .before .before .args .w) (2 * c .before .before .before .args .n + 3),
+  count-lo (c .before .before .before .args .w),
+)
 
 mul-slot-2 : tie.Need-mul-slot-2
 mul-slot-2 c = search needs
@@ -45,7 +49,11 @@ half-requires-2 : tie.Need-half-requires-2
 half-requires-2 c κs = search needs
 
 add-result-2 : tie.Need-add-result-2
-add-result-2 c = omega (arith, slot-room (c .before .before .before .args .w) (2 * c .before .before .before .args .n), count-lo (c .before .before .before .args .w))
+add-result-2 c = omega (
+  arith,
+  slot-room (c .before .before .before .args .w) (2 * c .before .before .before .args .n),
+  count-lo (c .before .before .before .args .w),
+)
 
 mul-slot-4 : tie.Need-mul-slot-4
 mul-slot-4 c = search needs
@@ -55,7 +63,9 @@ slot-requires-4 c κs = search needs
 
 returns : tie.Need-returns
 unfolding bandPlace bandAt
-returns c = let a = c .before .before .before .args in cc (c .half .ensures, c .before .slot .ensures) ∙ same-band (bandPlace (a .w) (a .n)) 0 (a .i) (omega arith)
+returns c =
+    let a = c .before .before .before .args in
+    cc (c .half .ensures, c .before .slot .ensures) ∙ same-band (bandPlace (a .w) (a .n)) 0 (a .i) (omega arith)
 
 returns-2 : tie.Need-returns-2
 unfolding bandPlace bandAt
@@ -63,7 +73,9 @@ returns-2 c = let a = c .before .before .args in c .slot2 .ensures ∙ same-band
 
 returns-3 : tie.Need-returns-3
 unfolding bandPlace bandAt
-returns-3 c = let a = c .before .before .before .args in cc (c .half2 .ensures, c .before .slot3 .ensures) ∙ same-band (bandPlace (a .w) (a .n)) 2 (a .i) (omega arith)
+returns-3 c =
+    let a = c .before .before .before .args in
+    cc (c .half2 .ensures, c .before .slot3 .ensures) ∙ same-band (bandPlace (a .w) (a .n)) 2 (a .i) (omega arith)
 
 returns-4 : tie.Need-returns-4
 unfolding bandPlace bandAt

@@ -13,7 +13,8 @@ use Rattle.writer.specs.Questions.{setUpQuestion}
 use Rattle.writer.proofs.gate.set_up_question.Statement.{statement}
 use Rattle.writer.proofs.gate.set_up_question.Tie as tie
 
-module _ (W L n k : ℕ) (w : within 1 maxWidth W ≡ true) (l : within 1 maxLevels L ≡ true) (e : k ≡ pick (both (within 1 maxWidth W) (within 1 maxLevels L)) (storeLength W L) 0) where
+module _ (W L n k : ℕ) (w : within 1 maxWidth W ≡ true) (l : within 1 maxLevels L ≡ true)
+    (e : k ≡ pick (both (within 1 maxWidth W) (within 1 maxLevels L)) (storeLength W L) 0) where
   needed : k ≡ storeLength W L
   needed = e ∙ simp (w, l)
 
@@ -37,18 +38,24 @@ is-within-requires-2 c κs = search needs
 
 returns-2 : tie.Need-returns-2
 unfolding setUpQuestion maxWidth maxLevels
-returns-2 c = simp (sym (c .before .before .before .is-within .ensures) ∙ not-false _ (c .before .before .if1 .left), sym (c .before .is-within2 .ensures) ∙ not-true _ (c .if2 .taken))
+returns-2 c = simp (
+  sym (c .before .before .before .is-within .ensures) ∙ not-false _ (c .before .before .if1 .left),
+  sym (c .before .is-within2 .ensures) ∙
+      not-true _ (c .if2 .taken),
+)
 
 store-length-requires : tie.Need-store-length-requires
 store-length-requires c κs = search needs
 
 returns-3 : tie.Need-returns-3
 unfolding maxWidth maxLevels
-returns-3 c = short _ _ _ _ (sym (c .before .before .before .before .before .is-within .ensures) ∙ not-false _ (c .before .before .before .before .if1 .left)) (sym (c .before .before .before .is-within2 .ensures) ∙ not-false _ (c .before .before .if2 .left)) (c .before .store-length .ensures) (omega arith)
+returns-3 c = short _ _ _ _ (sym (c .before .before .before .before .before .is-within .ensures) ∙ not-false _ (c .before .before .before .before .if1 .left))
+    (sym (c .before .before .before .is-within2 .ensures) ∙ not-false _ (c .before .before .if2 .left)) (c .before .store-length .ensures) (omega arith)
 
 returns-4 : tie.Need-returns-4
 unfolding maxWidth maxLevels
-returns-4 c = long _ _ _ _ (sym (c .before .before .before .before .before .is-within .ensures) ∙ not-false _ (c .before .before .before .before .if1 .left)) (sym (c .before .before .before .is-within2 .ensures) ∙ not-false _ (c .before .before .if2 .left)) (c .before .store-length .ensures) (omega arith)
+returns-4 c = long _ _ _ _ (sym (c .before .before .before .before .before .is-within .ensures) ∙ not-false _ (c .before .before .before .before .if1 .left))
+    (sym (c .before .before .before .is-within2 .ensures) ∙ not-false _ (c .before .before .if2 .left)) (c .before .store-length .ensures) (omega arith)
 
 pub set-up-question-spec : {M : Type 1} → statement M
 set-up-question-spec =

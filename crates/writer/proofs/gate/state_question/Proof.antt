@@ -33,7 +33,8 @@ module _ (s : Writer) (n : ℕ) (h : inRanges s ≡ true) where
       let l = within-true 1 5 _ (b .0) in
       simp (h, le-leb (storeLength (s .width) (s .levels)) n (enough (s .width) (s .levels) n (l .1) (leb-true _ _ g)))
 
-module _ (s : Writer) (n k : ℕ) (h : inRanges s ≡ true) (e : k ≡ pick (both (within 1 maxWidth (s .width)) (within 1 maxLevels (s .levels))) (storeLength (s .width) (s .levels)) 0) where
+module _ (s : Writer) (n k : ℕ) (h : inRanges s ≡ true)
+    (e : k ≡ pick (both (within 1 maxWidth (s .width)) (within 1 maxLevels (s .levels))) (storeLength (s .width) (s .levels)) 0) where
   needed : k ≡ storeLength (s .width) (s .levels)
   unfolding inRanges
   needed =
