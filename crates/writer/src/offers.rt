@@ -42,15 +42,14 @@ pub fn next(s: Writer, k: usize) -> usize
     k
 }
 
-// A stretch of n heights of a run, from height `from` on; where it completes the row, what that makes. The heights are put by a call in either branch:
-// called twice it is not inlined, and its loop keeps its places in registers (docs/PROVING.md).
+// A stretch of n heights of a run, from height `from` on; where it completes the row, what that makes.
 pub fn stretch(s: Writer, store: &mut [i32], run: &[u16], from: usize, n: usize) -> Writer
     requires { ⌜ Taker s (length (now store)) × (s .rows < maxHeight) × (s .column + n ≤ s .width) × (from + n ≤ length (now run)) ⌝ }
     ensures { λ r. ⌜ Stretched s (now (run .entry)) from n (at (now (store .entry))) r (at (now (store .exit))) (length (now (store .entry))) ⌝ }
 {
+    heights::put(store, s.width, s.rows, s.column, run, from, n);
     let column = s.column + n;
     if column < s.width {
-        heights::put(store, s.width, s.rows, s.column, run, from, n);
         return Writer {
             width: s.width,
             levels: s.levels,
@@ -63,7 +62,6 @@ pub fn stretch(s: Writer, store: &mut [i32], run: &[u16], from: usize, n: usize)
             offset: s.offset,
         };
     }
-    heights::put(store, s.width, s.rows, s.column, run, from, n);
     let r = cascade::arrive(store, s.levels, s.width, s.rows);
     Writer {
         width: s.width,

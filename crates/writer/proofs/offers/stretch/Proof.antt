@@ -26,58 +26,54 @@ put-there s run from n k x y t p q e =
     put-done k (s .width) (s .rows) (s .column) n (length run) from _ x y
     (omega (arith, t .room .room, t .deep, store-back (s .width) (s .levels) (t .deep))) p q e
 
-add-column : tie.Need-add-column
-add-column c = search needs
-
 put-requires : tie.Need-put-requires
 put-requires c κs = tt
+
+add-column : tie.Need-add-column
+add-column c = search needs
 
 same-length : tie.Need-same-length
 same-length c = search needs
 
 returns : tie.Need-returns
 returns c =
-    let put = c .before in
-    let start = put .before .before .before .before .before .before in
+    let put = c .before .before .before .before in
+    let start = put .before .before .before in
     let a = start .args in
     let t = start .pre .0 in
     stretched-inside (a .s) (a .run .now) (a .from) (a .n) _ _ (length (a .store .now)) t
     (put-there (a .s) (a .run .now) (a .from) (a .n) (length (a .store .now)) _ _ t (omega arith) (omega arith) (put .put .ensures .1)) (omega arith)
-
-put-requires-2 : tie.Need-put-requires-2
-put-requires-2 c κs = tt
 
 arrive-requires : tie.Need-arrive-requires
 arrive-requires c κs =
     let s = c .before .before .before .before .before .before .before .before .args .s in
     omega (arith, store-back (s .width) (s .levels) (omega arith), store-below (s .width) 0, store-none (count lo (s .width)))
 
-add-t17 : tie.Need-add-t17
-add-t17 c = omega (arith, height-small)
+add-t14 : tie.Need-add-t14
+add-t14 c = omega (arith, height-small)
 
 same-length-2 : tie.Need-same-length-2
 same-length-2 c = search needs
 
 returns-2 : tie.Need-returns-2
 returns-2 c =
-    let put = c .before .before .before .before .before in
-    let start = put .before .before .before .before .before .before in
+    let put = c .before .before .before .before .before .before .before .before in
+    let start = put .before .before .before in
     let a = start .args in
     let t = start .pre .0 in
     stretched-whole (a .s) (a .run .now) (a .from) (a .n) _ _ (length (a .store .now)) t
-    (put-there (a .s) (a .run .now) (a .from) (a .n) (length (a .store .now)) _ _ t (omega arith) (omega arith) (put .put2 .ensures .1)) _ _
+    (put-there (a .s) (a .run .now) (a .from) (a .n) (length (a .store .now)) _ _ t (omega arith) (omega arith) (put .put .ensures .1)) _ _
     (omega arith) (omega arith) (c .before .before .arrive .ensures)
 
 pub stretch-spec : {M : Type 1} → statement M
 stretch-spec =
     tie.close
     (tie.spec
-    add-column
     put-requires
+    add-column
     same-length
     returns
-    put-requires-2
     arrive-requires
-    add-t17
+    add-t14
     same-length-2
     returns-2)
