@@ -30,7 +30,7 @@ static int32_t start[3 * N], area[KINDS][3 * N], line[N], out[KINDS][N];
     static void whole_run_##name(int k) { whole_##name(area[k] + N, N); }                                  \
     static void short_run_##name(int k) { short_##name(area[k] + N, N); }
 #define COPY(name)                                                                                         \
-    static void proved_##name(int k) { if (terrain_line_##name(line, N, out[k], N)) exit(1); }             \
+    static void proved_##name(int k) { if (terrain_line_##name(line, N, 0, out[k], N)) exit(1); }             \
     static void whole_run_##name(int k) { whole_##name(line, out[k], N); }                                 \
     static void short_run_##name(int k) { short_##name(line, out[k], N); }
 

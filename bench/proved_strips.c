@@ -18,9 +18,9 @@ static void check(uint32_t answer)
     }
 }
 
-static void ready(size_t W)
+static void ready(size_t W, size_t H)
 {
-    store_len = terrain_store_length(W, LEVELS);
+    store_len = terrain_store_length(terrain_shape_of(W, H, LEVELS));
     store = realloc(store, store_len * sizeof *store), out = realloc(out, W * sizeof *out);
     if (!store || !out) exit(1);
 }
@@ -28,7 +28,7 @@ static void ready(size_t W)
 static int32_t *place(int32_t *plane, size_t W, size_t H, const uint64_t row[4])
 {
     size_t start, length;
-    check(terrain_band_row(W * H, W, H, LEVELS, row[0], row[1], row[2], &start, &length));
+    check(terrain_band_row(W * H, terrain_shape_of(W, H, LEVELS), row[0], row[1], row[2], &start, &length));
     return plane + start;
 }
 
@@ -44,8 +44,8 @@ static void draw_all(int32_t *plane, size_t W, size_t H)
 
 void strip_write(const uint16_t *heights, size_t W, size_t H, int32_t *plane)
 {
-    ready(W);
-    check(terrain_writer_set_up(state, W, LEVELS, store, store_len));
+    ready(W, H);
+    check(terrain_writer_set_up(state, terrain_shape_of(W, H, LEVELS), store, store_len));
     for (size_t r = 0; r < H; r++) {
         size_t taken;
         check(terrain_writer_offer(state, store, store_len, heights + r * W, W, &taken));
@@ -59,8 +59,8 @@ void strip_read(const int32_t *plane, size_t W, size_t H, uint16_t *heights)
 {
     uint64_t want[5];
     size_t drawn, r = 0;
-    ready(W);
-    check(terrain_reader_set_up(state, W, H, LEVELS, store, store_len));
+    ready(W, H);
+    check(terrain_reader_set_up(state, terrain_shape_of(W, H, LEVELS), store, store_len));
     for (;;) {
         check(terrain_reader_want(state, want));
         if (want[0] == 0)

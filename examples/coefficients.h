@@ -40,7 +40,7 @@ static inline uint32_t draw_rows(uint64_t state[16], int32_t *store, size_t stor
         size_t start, length;
         uint32_t no = terrain_writer_draw(state, store, store_len, line, width, row);
         if (no || row[0] == 0) return no;
-        no = terrain_band_row(width * height, width, height, levels, row[0], row[1], row[2], &start, &length);
+        no = terrain_band_row(width * height, terrain_shape_of(width, height, levels), row[0], row[1], row[2], &start, &length);
         if (no) return no;
         memcpy(plane + start, line, length * sizeof *line);
     }
@@ -50,9 +50,9 @@ static inline uint32_t draw_rows(uint64_t state[16], int32_t *store, size_t stor
 static inline uint32_t write_plane(const uint16_t *heights, size_t width, size_t height, size_t levels, int32_t *plane)
 {
     uint64_t state[TERRAIN_STATE_LENGTH];
-    size_t store_len = terrain_store_length(width, levels), offered = 0, taken;
+    size_t store_len = terrain_store_length(terrain_shape_of(width, height, levels)), offered = 0, taken;
     int32_t *store = (int32_t *)malloc((store_len + width + 1) * sizeof *store), *line = store + store_len;
-    uint32_t no = store ? terrain_writer_set_up(state, width, levels, store, store_len) : NO_MEMORY;
+    uint32_t no = store ? terrain_writer_set_up(state, terrain_shape_of(width, height, levels), store, store_len) : NO_MEMORY;
     while (!no && offered < width * height) {
         no = terrain_writer_offer(state, store, store_len, heights + offered, width * height - offered, &taken);
         if (!no) offered += taken;
@@ -77,7 +77,7 @@ static inline uint32_t save_rows(PutRow *put, void *to, const int32_t *plane, si
         if (want[0] == TERRAIN_WANT_DRAW) {
             no = terrain_reader_draw(state, store, store_len, line, width, &length);
         } else {
-            no = terrain_band_row(width * height, width, height, levels, want[LEVEL], want[BAND], want[ROW], &start, &length);
+            no = terrain_band_row(width * height, terrain_shape_of(width, height, levels), want[LEVEL], want[BAND], want[ROW], &start, &length);
             if (!no && !put(to, plane + start, length)) no = NO_FILE;
             if (!no) no = terrain_reader_feed(state, store, store_len, plane + start, length);
         }
@@ -88,10 +88,10 @@ static inline uint32_t save_rows(PutRow *put, void *to, const int32_t *plane, si
 static inline uint32_t save_plane(PutRow *put, void *to, const int32_t *plane, size_t width, size_t height, size_t levels)
 {
     uint64_t state[TERRAIN_STATE_LENGTH];
-    size_t store_len = terrain_store_length(width, levels);
+    size_t store_len = terrain_store_length(terrain_shape_of(width, height, levels));
     int32_t *store = (int32_t *)malloc((store_len + 1) * sizeof *store);
     uint16_t *line = (uint16_t *)malloc(width * sizeof *line);
-    uint32_t no = store && line ? terrain_reader_set_up(state, width, height, levels, store, store_len) : NO_MEMORY;
+    uint32_t no = store && line ? terrain_reader_set_up(state, terrain_shape_of(width, height, levels), store, store_len) : NO_MEMORY;
     const int32_t size[3] = {(int32_t)width, (int32_t)height, (int32_t)levels};
     if (!no && !put(to, size, 3)) no = NO_FILE;
     if (!no) no = save_rows(put, to, plane, width, height, levels, state, store, store_len, line);
@@ -178,11 +178,11 @@ static inline uint32_t load_map(GetRow *get, void *from, size_t *width, size_t *
     if (!get(from, size, 3)) return NO_FILE;
     *width = (uint32_t)size[0];
     *height = (uint32_t)size[1];
-    size_t levels = (uint32_t)size[2], store_len = terrain_store_length(*width, levels);
+    size_t levels = (uint32_t)size[2], store_len = terrain_store_length(terrain_shape_of(*width, *height, levels));
     int32_t *store = (int32_t *)malloc((store_len + 1) * sizeof *store);
     if (!store) return NO_MEMORY;
     /* the reader's own questions tell a good header from a bad one: nothing is allocated by a size that it turned away */
-    uint32_t no = terrain_reader_set_up(state, *width, *height, levels, store, store_len);
+    uint32_t no = terrain_reader_set_up(state, terrain_shape_of(*width, *height, levels), store, store_len);
     if (!no) {
         int32_t *run = (int32_t *)malloc(*width * sizeof *run);
         *heights = (uint16_t *)malloc(*width * *height * sizeof **heights);

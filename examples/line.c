@@ -17,13 +17,13 @@ int main(void)
     const int32_t line[N] = {1, 4, 2, 7, 3};
     int32_t coefficients[N], again[N];
 
-    if (terrain_line_forward(line, N, coefficients, N) != 0) return 1;
+    if (terrain_line_forward(line, N, 0, coefficients, N) != 0) return 1;
     print("low", coefficients, (N + 1) / 2);
     print("high", coefficients + (N + 1) / 2, N / 2);
 
-    if (terrain_line_backward(coefficients, N, again, N) != 0) return 1;
+    if (terrain_line_backward(coefficients, N, 0, again, N) != 0) return 1;
     print("line", again, N);
 
-    printf("too short: %u\n", (unsigned)terrain_line_forward(line, N, again, N - 1));
+    printf("too short: %u\n", (unsigned)terrain_line_forward(line, N, 0, again, N - 1));
     return 0;
 }

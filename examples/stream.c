@@ -18,7 +18,7 @@ static int draw_all(uint64_t state[TERRAIN_STATE_LENGTH], int32_t *store)
     for (;;) {
         if (terrain_writer_draw(state, store, STORE, values, W, row) != 0) return 1;
         if (row[0] == 0) return 0;
-        if (terrain_band_row(W * H, W, H, LEVELS, (size_t)row[0], (size_t)row[1], (size_t)row[2], &start, &length) != 0) return 1;
+        if (terrain_band_row(W * H, terrain_shape_of(W, H, LEVELS), (size_t)row[0], (size_t)row[1], (size_t)row[2], &start, &length) != 0) return 1;
         printf("%d %s %d", (int)row[0], bands[row[1]], (int)row[2]);
         for (i = 0; i < length; i++) printf(" %d", (int)(plane[start + i] = values[i]));
         printf("\n");
@@ -29,7 +29,7 @@ static int write_map(const uint16_t *heights, uint64_t state[TERRAIN_STATE_LENGT
 {
     size_t at = 0, taken;
 
-    if (terrain_writer_set_up(state, W, LEVELS, store, STORE) != 0) return 1;
+    if (terrain_writer_set_up(state, terrain_shape_of(W, H, LEVELS), store, STORE) != 0) return 1;
     while (at < W * H) {
         if (terrain_writer_offer(state, store, STORE, heights + at, W * H - at, &taken) != 0) return 1;
         at += taken;
@@ -44,11 +44,11 @@ static int read_map(uint64_t state[TERRAIN_STATE_LENGTH], int32_t *store)
     uint64_t want[TERRAIN_WANT_LENGTH];
     size_t start, length, drawn, i;
 
-    if (terrain_reader_set_up(state, W, H, LEVELS, store, STORE) != 0) return 1;
+    if (terrain_reader_set_up(state, terrain_shape_of(W, H, LEVELS), store, STORE) != 0) return 1;
     for (;;) {
         if (terrain_reader_want(state, want) != 0) return 1;
         if (want[0] == TERRAIN_WANT_ROW) {
-            if (terrain_band_row(W * H, W, H, LEVELS, (size_t)want[1], (size_t)want[2], (size_t)want[3], &start, &length) != 0) return 1;
+            if (terrain_band_row(W * H, terrain_shape_of(W, H, LEVELS), (size_t)want[1], (size_t)want[2], (size_t)want[3], &start, &length) != 0) return 1;
             if (terrain_reader_feed(state, store, STORE, plane + start, length) != 0) return 1;
         } else if (want[0] == TERRAIN_WANT_DRAW) {
             if (terrain_reader_draw(state, store, STORE, line, W, &drawn) != 0) return 1;
@@ -65,6 +65,6 @@ int main(void)
     int32_t store[STORE];
     uint64_t state[TERRAIN_STATE_LENGTH];
 
-    if (terrain_store_length(W, LEVELS) != STORE) return 1;
+    if (terrain_store_length(terrain_shape_of(W, H, LEVELS)) != STORE) return 1;
     return write_map(heights, state, store) || read_map(state, store);
 }

@@ -97,10 +97,10 @@ int main(int argc, char **argv)
     if (argc > 1) rows = strtoull(argv[1], NULL, 10);
     if (argc > 2) width = (size_t)strtoull(argv[2], NULL, 10);
     if (argc > 3) levels = (size_t)strtoull(argv[3], NULL, 10);
-    len = terrain_store_length(width, levels);
+    len = terrain_store_length(terrain_shape_of(width, (size_t)rows, levels));
     if (width > WIDEST || !len) return 2;
-    no = terrain_writer_set_up(writer, width, levels, writer_store, len);
-    if (!no) no = terrain_reader_set_up(reader, width, (size_t)rows, levels, reader_store, len);
+    no = terrain_writer_set_up(writer, terrain_shape_of(width, (size_t)rows, levels), writer_store, len);
+    if (!no) no = terrain_reader_set_up(reader, terrain_shape_of(width, (size_t)rows, levels), reader_store, len);
     if (!no) no = stream(len, &done);
     printf("%" PRIu64 " rows of %zu heights at %zu levels: %016" PRIx64 " in, %016" PRIx64 " out\n", rows, width, levels, in, out);
     if (no) printf("turned away by question %" PRIu32 "\n", no);

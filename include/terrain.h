@@ -16,13 +16,16 @@
 
 /* The version of this interface: 10,000 for each major number, 100 for each minor one, and the patch. CHANGELOG.md says what each brings;
  * `terrain_version` answers the archive's. */
-#define TERRAIN_VERSION 200
-#define TERRAIN_VERSION_TEXT "0.2.0"
+#define TERRAIN_VERSION 300
+#define TERRAIN_VERSION_TEXT "0.3.0"
 
 /* The limits of a map. */
 #define TERRAIN_MAX_WIDTH 2049
 #define TERRAIN_MAX_HEIGHT 4294967295
 #define TERRAIN_MAX_LEVELS 5
+
+/* The largest coordinate at which a map may start, each way. */
+#define TERRAIN_MAX_ORIGIN 65535
 
 /* How many numbers a state has, the row that a draw names, and a want; and the longest line store that any map needs. */
 #define TERRAIN_STATE_LENGTH 16
@@ -64,6 +67,30 @@
 #define TERRAIN_INLINE static
 #endif
 
+/* ---- A map on its grid. */
+
+/* Width, height and levels of a map, and the coordinates of its first column and its first row. Even coordinates are low and odd ones high
+ * (ITU-T T.800), so a tile of a larger world has the world's own coefficients inside, if it starts where it lies there; a map that is no
+ * tile starts at 0. It is passed by value. Fields may be added at its end, and 0 in them will mean what they were not there for: set those
+ * that you know and leave the others 0, by `terrain_shape s = {0};`, by designated initializers, or by `terrain_shape_of`. */
+typedef struct terrain_shape {
+    size_t width;
+    size_t height;
+    size_t levels;
+    uint16_t x; /* of the first column */
+    uint16_t y; /* of the first row */
+} terrain_shape;
+
+/* A map of that size that starts at 0. */
+TERRAIN_INLINE terrain_shape terrain_shape_of(size_t width, size_t height, size_t levels)
+{
+    terrain_shape shape = {0, 0, 0, 0, 0};
+    shape.width = width;
+    shape.height = height;
+    shape.levels = levels;
+    return shape;
+}
+
 #ifdef __cplusplus
 extern "C" {
 #endif
@@ -74,18 +101,20 @@ extern "C" {
 TERRAIN_CHECKED
 uint32_t terrain_version(void);
 
-/* The lifting of one line: the reversible 5/3 transform of ITU-T T.800. Any numbers may stand in the line: sums are taken whole and
- * stored modulo 2^32 as signed, and going there and back gives the line again, whatever it holds. */
+/* The lifting of one line: the reversible 5/3 transform of ITU-T T.800. Any numbers may stand in the line: sums are taken whole and stored
+ * modulo 2^32 as signed. `start` is the coordinate of the line's first sample, any number, of which the parity counts: even coordinates
+ * become low values, odd ones high values. Going there and back gives the line again, whatever it holds; but a line of one sample at an odd
+ * coordinate, which becomes a high value of twice its size, comes back if its double fits 32 bits. */
 
-/* The line's low values, then its high values, at the front of `out`: (line_len + 1) / 2 low and line_len / 2 high ones.
- * 5: `out` is shorter than the line. No other number comes back but 0. */
+/* The line's low values, then its high values, at the front of `out`; of a line that starts at an even coordinate (line_len + 1) / 2 are low,
+ * at an odd one line_len / 2. 5: `out` is shorter than the line. No other number comes back but 0. */
 TERRAIN_CHECKED
-uint32_t terrain_line_forward(const int32_t *line, size_t line_len, int32_t *out, size_t out_len);
+uint32_t terrain_line_forward(const int32_t *line, size_t line_len, size_t start, int32_t *out, size_t out_len);
 
-/* Low values, then high values, back to their line, at the front of `out`.
- * 5: `out` is shorter than the coefficients. No other number comes back but 0. */
+/* Low values, then high values, back to their line, at the front of `out`. 5: `out` is shorter than the coefficients; 14: the only value, at
+ * an odd coordinate, is odd, and no line has it. Both change nothing. */
 TERRAIN_CHECKED
-uint32_t terrain_line_backward(const int32_t *coefficients, size_t coefficients_len, int32_t *out, size_t out_len);
+uint32_t terrain_line_backward(const int32_t *coefficients, size_t coefficients_len, size_t start, int32_t *out, size_t out_len);
 
 /* The smooth profile of one row of 1 to 2,049 heights, at the front of `out`, in the samples' own order: the 9/7 lifting of ITU-T T.800
  * without its scaling, in 32-bit floats. Four passes add c * (left + right), the bracket first, to the odd, even, odd and even samples, with
@@ -108,28 +137,28 @@ TERRAIN_CHECKED
 size_t terrain_picture_row(const uint16_t *heights, size_t heights_len, size_t from, uint8_t *out, size_t out_len);
 
 /* The whole map: `height` rows of `width` heights to the plane of its coefficients at `levels` levels, and back. Width 1 to 2,049,
- * height 1 to 4,294,967,295, levels 1 to 5; heights, plane and work area each have at least width * height elements, and where a call
- * passes (or gives 14) the first width * height elements of the work area are zero afterwards.
+ * height 1 to 4,294,967,295, levels 1 to 5, any origin; heights, plane and work area each have at least width * height elements, and where a
+ * call passes (or gives 14) the first width * height elements of the work area are zero afterwards.
  *
  * The plane, row by row: at level k the rows of LL (kept at the last level only) stand at the left of the first rows, HL to the right of
  * them, LH below them, HH below HL; `terrain_band_row` says where each one is.
  *
  * Both answer, in this order: 2 (width), 3 (height), 4 (levels), 5 (an area is too short). */
 TERRAIN_CHECKED
-uint32_t terrain_map_forward(const uint16_t *heights, size_t heights_len, size_t width, size_t height, size_t levels,
+uint32_t terrain_map_forward(const uint16_t *heights, size_t heights_len, terrain_shape shape,
                              int32_t *plane, size_t plane_len, int32_t *work, size_t work_len);
 
 /* And also: 7 (a coefficient is out of its level's range, +-65,535 * 4^level; nothing is changed), 14 (no map has this plane; the heights
  * and the work area are zeroed). 0 means that the heights are the one map that has this plane. */
 TERRAIN_CHECKED
-uint32_t terrain_map_backward(const int32_t *plane, size_t plane_len, size_t width, size_t height, size_t levels,
+uint32_t terrain_map_backward(const int32_t *plane, size_t plane_len, terrain_shape shape,
                               uint16_t *heights, size_t heights_len, int32_t *work, size_t work_len);
 
 /* Where row `row` of a band (0 LL, 1 HL, 2 LH, 3 HH) of a level (1 the finest) stands in a plane of `plane_len` elements: its first
- * element and how many there are. 2, 3, 4, 5 as above; 6: there is no such band row. Where a question says no, *start and *length stay. */
+ * element and how many there are. Rows of a band are counted from 0, wherever the map starts. 2, 3, 4, 5 as above; 6: there is no such band
+ * row. Where a question says no, *start and *length stay. */
 TERRAIN_CHECKED
-uint32_t terrain_band_row(size_t plane_len, size_t width, size_t height, size_t levels, size_t level, size_t band, size_t row,
-                          size_t *start, size_t *length);
+uint32_t terrain_band_row(size_t plane_len, terrain_shape shape, size_t level, size_t band, size_t row, size_t *start, size_t *length);
 
 /* Streams. A writer takes heights row by row, in runs cut anywhere, and gives the band rows of the map's plane as soon as they are due; a
  * reader takes band rows in the order that it wants and gives height rows. Both work in a line store that the caller lends to each call,
@@ -140,13 +169,15 @@ uint32_t terrain_band_row(size_t plane_len, size_t width, size_t height, size_t 
  * Scribbling in array or store cannot make a call write outside the areas lent to it, or run on. */
 
 /* The numbers that the line store of a writer or reader needs: 4 * (W(0) + ... + W(levels - 1)), W(0) being the width and each further
- * one half the one before, rounded up. 0 where the width is not 1 to 2,049 or levels not 1 to 5. */
+ * one the number of even columns of the one before (of a map that starts at 0: half of it, rounded up). The height does not count. 0 where
+ * the width is not 1 to 2,049 or levels not 1 to 5. */
 TERRAIN_CHECKED
-size_t terrain_store_length(size_t width, size_t levels);
+size_t terrain_store_length(terrain_shape shape);
 
-/* A fresh writer of maps of that width: the needed part of the store is zeroed. 2 (width), 4 (levels), 5 (the store is too short). */
+/* A fresh writer of maps of that shape, whose height it does not read: the needed part of the store is zeroed. 2 (width), 4 (levels),
+ * 5 (the store is too short). */
 TERRAIN_CHECKED
-uint32_t terrain_writer_set_up(uint64_t state[16], size_t width, size_t levels, int32_t *store, size_t store_len);
+uint32_t terrain_writer_set_up(uint64_t state[16], terrain_shape shape, int32_t *store, size_t store_len);
 
 /* The next heights of the map, row by row; a run may begin and end anywhere. It takes heights until a band row waits, 4,294,967,295
  * rows are complete or the run is used up, and says in *taken how many: offer the others again once every row that waits is drawn.
@@ -172,9 +203,10 @@ uint32_t terrain_writer_waits(const uint64_t state[16], uint64_t row[4]);
 TERRAIN_CHECKED
 uint32_t terrain_writer_finish(uint64_t state[16], int32_t *store, size_t store_len);
 
-/* A fresh reader of a map of that size: the needed part of the store is zeroed. 2, 3 (height), 4, 5. */
+/* A fresh reader of a map of that shape: the needed part of the store is zeroed. 2, 3 (height), 4, 5. The rows of a map that a writer made
+ * are fed to a reader of the same origin. */
 TERRAIN_CHECKED
-uint32_t terrain_reader_set_up(uint64_t state[16], size_t width, size_t height, size_t levels, int32_t *store, size_t store_len);
+uint32_t terrain_reader_set_up(uint64_t state[16], terrain_shape shape, int32_t *store, size_t store_len);
 
 /* What the reader wants: want[0] is 0 for a band row, whose level, band, number and length follow, 1 for a draw, 2 when all height rows
  * are drawn (Done), 3 after a 14 (Ended). Where no band row is wanted the last four numbers are 0. 1. */

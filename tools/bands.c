@@ -32,7 +32,7 @@ typedef void Paint(Canvas *canvas, const Plane *plane, size_t start, size_t leng
 
 static int next_row(const Plane *p, size_t level, size_t band, size_t row, size_t *start, size_t *length)
 {
-    return terrain_band_row(p->width * p->height, p->width, p->height, p->levels, level, band, row, start, length) == 0;
+    return terrain_band_row(p->width * p->height, terrain_shape_of(p->width, p->height, p->levels), level, band, row, start, length) == 0;
 }
 
 static void widen(Scale *scale, const Plane *p, size_t level, size_t band)
@@ -172,7 +172,7 @@ static int bands(const char *name, const Pgm *map, size_t levels, const char *pa
     if (!numbers || !work) {
         fprintf(stderr, "terrain: %s: there is not enough memory for it\n", name);
     } else {
-        uint32_t no = terrain_map_forward(map->heights, n, map->width, map->height, levels, numbers, n, work, n);
+        uint32_t no = terrain_map_forward(map->heights, n, terrain_shape_of(map->width, map->height, levels), numbers, n, work, n);
         Plane plane = {numbers, map->width, map->height, levels, pixels};
         if (no) fprintf(stderr, "terrain: %s: %s, and the map has %lu columns and %lu rows (question %u)\n", name, terrain_sentence(no),
                         (unsigned long)map->width, (unsigned long)map->height, (unsigned)no);

@@ -40,7 +40,7 @@ static uint32_t write_cut(Check *c, size_t levels, int32_t *plane, int32_t *stor
     const Pgm *map = c->map;
     uint64_t state[TERRAIN_STATE_LENGTH];
     size_t n = map->width * map->height, offered = 0;
-    uint32_t no = terrain_writer_set_up(state, map->width, levels, store, store_len);
+    uint32_t no = terrain_writer_set_up(state, terrain_shape_of(map->width, map->height, levels), store, store_len);
     while (!no && offered < n) {
         size_t run = below(3 * map->width) + below(2), taken = 0;
         if (run > n - offered) run = n - offered;
@@ -60,7 +60,7 @@ static uint32_t read_back(Check *c, size_t levels, const int32_t *plane, int32_t
     const Pgm *map = c->map;
     uint64_t state[TERRAIN_STATE_LENGTH], want[TERRAIN_WANT_LENGTH];
     size_t n = map->width * map->height, start, length;
-    uint32_t no = terrain_reader_set_up(state, map->width, map->height, levels, store, store_len);
+    uint32_t no = terrain_reader_set_up(state, terrain_shape_of(map->width, map->height, levels), store, store_len);
     for (*row = 0; !no;) {
         no = terrain_reader_want(state, want);
         if (no || want[0] == TERRAIN_WANT_DONE) break;
@@ -70,7 +70,7 @@ static uint32_t read_back(Check *c, size_t levels, const int32_t *plane, int32_t
             if (!no && memcmp(line, map->heights + *row * map->width, map->width * sizeof *line) != 0) break;
             if (!no) so_far(c, levels, 1, ++*row);
         } else {
-            no = terrain_band_row(n, map->width, map->height, levels, want[LEVEL], want[BAND], want[ROW], &start, &length);
+            no = terrain_band_row(n, terrain_shape_of(map->width, map->height, levels), want[LEVEL], want[BAND], want[ROW], &start, &length);
             if (!no) no = terrain_reader_feed(state, store, store_len, plane + start, length);
         }
     }
@@ -93,7 +93,7 @@ static int check(Check *c, int32_t *plane, int32_t *store, int32_t *line, uint16
 {
     size_t row = 0;
     for (size_t levels = 1; levels <= TERRAIN_MAX_LEVELS; levels++) {
-        size_t store_len = terrain_store_length(c->map->width, levels);
+        size_t store_len = terrain_store_length(terrain_shape_of(c->map->width, c->map->height, levels));
         uint32_t no = write_cut(c, levels, plane, store, store_len, line);
         if (!no) no = read_back(c, levels, plane, store, store_len, heights, &row);
         if (no || row != c->map->height) return different(c, levels, no, row);

@@ -134,8 +134,8 @@ static void set_up(Slot *s, int kind)
     s->store = NULL;
     new_store(s, needed + (more < 200 ? more % 4 : 0) - (needed && more >= 240 ? 1 : 0));
     lend(s);
-    uint32_t answer = kind == WRITER ? terrain_writer_set_up(lent_state, w, levels, lent_store, lent_len)
-                                     : terrain_reader_set_up(lent_state, w, h, levels, lent_store, lent_len);
+    uint32_t answer = kind == WRITER ? terrain_writer_set_up(lent_state, terrain_shape_of(w, h, levels), lent_store, lent_len)
+                                     : terrain_reader_set_up(lent_state, terrain_shape_of(w, h, levels), lent_store, lent_len);
     area_back(&state_area);
     area_back(&store_area);
     uint32_t first = w < 1 || w > MOST_WIDTH                           ? 2
@@ -402,7 +402,7 @@ static void line(void)
     model_line(expected, n, 1, forward);
     const int32_t *lent = area_lend(&run_area, values, n * sizeof *values, at_end());
     int32_t *out = area_lend(&out_area, NULL, len * sizeof *out, at_end());
-    uint32_t answer = (forward ? terrain_line_forward : terrain_line_backward)(lent, n, out, len);
+    uint32_t answer = (forward ? terrain_line_forward : terrain_line_backward)(lent, n, 0, out, len);
     area_back(&run_area);
     area_back(&out_area);
     HOLDS(area_is(&run_area, values));
@@ -478,7 +478,7 @@ static void map(void)
     const uint16_t *lent = area_lend(&run_area, heights, lens[0] * sizeof *heights, at_end());
     int32_t *out = area_lend(&out_area, NULL, lens[1] * sizeof *out, at_end());
     int32_t *work = area_lend(&more_area, NULL, lens[2] * sizeof *work, at_end());
-    uint32_t answer = terrain_map_forward(lent, lens[0], w, h, levels, out, lens[1], work, lens[2]);
+    uint32_t answer = terrain_map_forward(lent, lens[0], terrain_shape_of(w, h, levels), out, lens[1], work, lens[2]);
     area_back(&run_area);
     area_back(&out_area);
     area_back(&more_area);
@@ -500,7 +500,7 @@ static void map(void)
     const int32_t *lent_plane = area_lend(&out_area, plane, lens[1] * sizeof *plane, at_end());
     uint16_t *drawn = area_lend(&run_area, NULL, lens[0] * sizeof *drawn, at_end());
     work = area_lend(&more_area, NULL, lens[2] * sizeof *work, at_end());
-    answer = terrain_map_backward(lent_plane, lens[1], w, h, levels, drawn, lens[0], work, lens[2]);
+    answer = terrain_map_backward(lent_plane, lens[1], terrain_shape_of(w, h, levels), drawn, lens[0], work, lens[2]);
     area_back(&run_area);
     area_back(&out_area);
     area_back(&more_area);
@@ -518,7 +518,7 @@ static void band_row(void)
     size_t level = below(8) ? 1 + below(5) : number(), band = below(8) ? below(4) : number(), row = below(4) ? below(8) : number();
     size_t len = below(8) ? (w <= MOST_WIDTH && h <= MOST_HEIGHT ? w * h : 0) : number();
     size_t *start = area_lend(&small_area, NULL, sizeof *start, at_end()), *length = area_lend(&more_area, NULL, sizeof *length, at_end());
-    uint32_t answer = terrain_band_row(len, w, h, levels, level, band, row, start, length);
+    uint32_t answer = terrain_band_row(len, terrain_shape_of(w, h, levels), level, band, row, start, length);
     area_back(&small_area);
     area_back(&more_area);
     uint32_t first = shape(w, h, levels, len);
@@ -573,7 +573,7 @@ static void call(void)
     case 26: line(); break;
     case 27: map(); break;
     case 28: band_row(); break;
-    case 29: { size_t w = number(), levels = number(); HOLDS(terrain_store_length(w, levels) == model_store(w, levels)); break; }
+    case 29: { size_t w = number(), levels = number(); HOLDS(terrain_store_length(terrain_shape_of(w, 0, levels)) == model_store(w, levels)); break; }
     case 30: write_on(s); break;
     default: read_on(s); break;
     }

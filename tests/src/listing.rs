@@ -2,6 +2,7 @@
 //! `order`'s, their values the reference transform's.
 use crate::maps::forward;
 use crate::order::{place, BandRow, Writer};
+use terrain::Shape;
 
 const MAX_WIDTH: usize = 1_025;
 const MAX_HEIGHT: usize = 65_535;
@@ -55,7 +56,11 @@ fn head(s: &[u8]) -> Option<Head<'_>> {
 impl Head<'_> {
     /// One byte a sample below 256, two from 256 on.
     fn size(&self) -> usize {
-        if self.largest < 256 { 1 } else { 2 }
+        if self.largest < 256 {
+            1
+        } else {
+            2
+        }
     }
 
     /// The heights, and the question that turns the input away after them, if one does: 16 goes by the first sample that is too large.
@@ -92,7 +97,7 @@ fn refused(question: u8) -> String {
 
 /// The rows that the heights make due, and those of the finish.
 fn rows_due(h: &Head, heights: usize, finished: bool) -> Vec<BandRow> {
-    let mut writer = Writer::new(h.width, h.levels);
+    let mut writer = Writer::new(Shape::new(h.width, h.height, h.levels));
     let mut rows = Vec::new();
     let mut left = heights;
     while left > 0 {
@@ -110,8 +115,8 @@ fn rows_due(h: &Head, heights: usize, finished: bool) -> Vec<BandRow> {
     rows
 }
 
-fn line(plane: &[i32], width: usize, height: usize, r: BandRow) -> String {
-    let values = plane[place(width, height, r)].iter().map(|v| format!(" {v}")).collect::<String>();
+fn line(plane: &[i32], s: Shape, r: BandRow) -> String {
+    let values = plane[place(s, r)].iter().map(|v| format!(" {v}")).collect::<String>();
     format!("{} {} {}{}\n", r.level, ["LL", "HL", "LH", "HH"][r.band], r.row, values)
 }
 
@@ -134,10 +139,11 @@ pub fn listing(input: &[u8]) -> String {
     // rows made so far have the values of every map that begins with the heights taken: of this one, too, a good deal longer
     let rows = if finished { h.height } else { taken / h.width + 64 };
     heights.resize(h.width * rows, 12_345);
-    let plane = forward(&heights, h.width, rows, h.levels);
+    let s = Shape::new(h.width, rows, h.levels);
+    let plane = forward(&heights, s);
     let mut out = format!("{} {} {}\n", h.width, h.height, h.levels);
     for r in rows_due(&h, taken, finished) {
-        out += &line(&plane, h.width, rows, r);
+        out += &line(&plane, s, r);
     }
     refusal.map_or(out.clone(), |q| out + &refused(q))
 }

@@ -1,7 +1,8 @@
-//! A second transform of a whole map, written straight from T.800 and document 01 over the line reference: columns, then rows, level by
-//! level, in place of the bands of the plane. Sums stay whole: for a map nothing comes near 32 bits.
+//! A second transform of a whole map that starts anywhere on the grid, written straight from T.800 over the line reading of `grid`: columns,
+//! then rows, level by level, in place of the bands of the plane. Sums stay whole: for a map nothing comes near 32 bits.
+use crate::grid;
 use crate::random::Random;
-use crate::reference;
+use terrain::Shape;
 
 /// The limits of document 01.
 pub const MAX_WIDTH: usize = 2_049;
@@ -13,50 +14,92 @@ pub fn range(level: usize) -> i64 {
     65_535 << (2 * level)
 }
 
-/// W(k) of a side.
-pub fn side(mut n: usize, k: usize) -> usize {
-    for _ in 0..k {
-        n = n.div_ceil(2);
-    }
-    n
+/// A side on the grid: the coordinate where it starts, and how many rows or columns it has.
+#[derive(Clone, Copy, Debug, PartialEq, Eq)]
+pub struct Side {
+    pub start: usize,
+    pub length: usize,
 }
 
-/// The plane of a map: W × H coefficients.
-pub fn forward(heights: &[u16], width: usize, height: usize, levels: usize) -> Vec<i32> {
+impl Side {
+    /// The side of level k. T.800, B.5: each level's bounds are the ceilings of half those of the level before.
+    pub fn at(self, k: usize) -> Side {
+        let (mut from, mut to) = (self.start, self.start + self.length);
+        for _ in 0..k {
+            (from, to) = (from.div_ceil(2), to.div_ceil(2));
+        }
+        Side { start: from, length: to - from }
+    }
+
+    fn i0(self) -> i64 {
+        self.start as i64
+    }
+}
+
+/// The columns and the rows of a map.
+pub fn across(s: Shape) -> Side {
+    Side { start: s.x.into(), length: s.width }
+}
+
+pub fn down(s: Shape) -> Side {
+    Side { start: s.y.into(), length: s.height }
+}
+
+/// The plane of a map: as many coefficients as heights.
+pub fn forward(heights: &[u16], s: Shape) -> Vec<i32> {
     let mut plane: Vec<i32> = heights.iter().map(|&h| i32::from(h)).collect();
-    for k in 0..levels {
-        let (w, h) = (side(width, k), side(height, k));
-        for c in 0..w {
-            let column: Vec<i32> = (0..h).map(|r| plane[r * width + c]).collect();
-            for (r, v) in reference::in_halves(&reference::forward(&column)).into_iter().enumerate() {
-                plane[r * width + c] = v;
+    for k in 0..s.levels {
+        let (w, h) = (across(s).at(k), down(s).at(k));
+        for c in 0..w.length {
+            let column: Vec<i32> = (0..h.length).map(|r| plane[r * s.width + c]).collect();
+            for (r, v) in grid::in_halves(&grid::forward(&column, h.i0()), h.i0()).into_iter().enumerate() {
+                plane[r * s.width + c] = v;
             }
         }
-        for r in 0..h {
-            let row = reference::in_halves(&reference::forward(&plane[r * width..r * width + w]));
-            plane[r * width..r * width + w].copy_from_slice(&row);
+        for r in 0..h.length {
+            let row = &mut plane[r * s.width..r * s.width + w.length];
+            row.copy_from_slice(&grid::in_halves(&grid::forward(row, w.i0()), w.i0()));
         }
     }
     plane
 }
 
-/// The grids that have this plane over 32-bit words, whatever stands in it: that of level k, W(k) × H(k), for k from 0 to L − 1.
-pub fn rebuilt(plane: &[i32], width: usize, height: usize, levels: usize) -> Vec<Vec<i32>> {
+/// A line back from its values in halves, and whether a value that was halved on the way was even.
+fn line_back(values: &[i32], i0: i64) -> (Vec<i32>, bool) {
+    let values = grid::interleaved(values, i0);
+    grid::backward(&values, i0).map_or_else(|| (values.iter().map(|v| v.div_euclid(2)).collect(), false), |line| (line, true))
+}
+
+/// What a plane makes of a level over 32-bit words: its rows, and of each whether all values that were halved for it were even.
+#[derive(Clone, Debug, PartialEq, Eq)]
+pub struct Rebuilt {
+    pub rows: Vec<Vec<i32>>,
+    pub even: Vec<bool>,
+}
+
+/// The grids that have this plane, whatever stands in it: that of level k for k from 0 to L − 1.
+pub fn rebuilt(plane: &[i32], s: Shape) -> Vec<Rebuilt> {
     let mut area = plane.to_vec();
     let mut grids = Vec::new();
-    for k in (0..levels).rev() {
-        let (w, h) = (side(width, k), side(height, k));
-        for r in 0..h {
-            let row = reference::backward(&reference::interleaved(&area[r * width..r * width + w]));
-            area[r * width..r * width + w].copy_from_slice(&row);
+    for k in (0..s.levels).rev() {
+        let (w, h) = (across(s).at(k), down(s).at(k));
+        let mut even = Vec::new();
+        for r in 0..h.length {
+            let (row, good) = line_back(&area[r * s.width..r * s.width + w.length], w.i0());
+            area[r * s.width..r * s.width + w.length].copy_from_slice(&row);
+            even.push(i32::from(good));
         }
-        for c in 0..w {
-            let column: Vec<i32> = (0..h).map(|r| area[r * width + c]).collect();
-            for (r, v) in reference::backward(&reference::interleaved(&column)).into_iter().enumerate() {
-                area[r * width + c] = v;
+        even = grid::interleaved(&even, h.i0());
+        for c in 0..w.length {
+            let column: Vec<i32> = (0..h.length).map(|r| area[r * s.width + c]).collect();
+            let (column, good) = line_back(&column, h.i0());
+            for (r, v) in column.into_iter().enumerate() {
+                area[r * s.width + c] = v;
+                even[r] &= i32::from(good);
             }
         }
-        grids.push((0..h).flat_map(|r| area[r * width..r * width + w].to_vec()).collect());
+        let rows = (0..h.length).map(|r| area[r * s.width..r * s.width + w.length].to_vec()).collect();
+        grids.push(Rebuilt { rows, even: even.into_iter().map(|e| e == 1).collect() });
     }
     grids.reverse();
     grids
@@ -69,20 +112,31 @@ pub fn fits(level: usize, v: i32) -> bool {
 }
 
 /// The map that has this plane, by the definition: some map's plane is this one. `None` where no map has it.
-pub fn map_of(plane: &[i32], width: usize, height: usize, levels: usize) -> Option<Vec<u16>> {
-    let grids = rebuilt(plane, width, height, levels);
-    let heights: Option<Vec<u16>> = grids[0].iter().map(|&v| u16::try_from(v).ok()).collect();
-    heights.filter(|map| forward(map, width, height, levels) == plane)
+pub fn map_of(plane: &[i32], s: Shape) -> Option<Vec<u16>> {
+    let heights: Option<Vec<u16>> = rebuilt(plane, s)[0].rows.iter().flatten().map(|&v| u16::try_from(v).ok()).collect();
+    heights.filter(|map| forward(map, s) == plane)
 }
 
-/// The level whose coefficient stands at row r and column c of the plane.
-pub fn level_at(width: usize, height: usize, levels: usize, r: usize, c: usize) -> usize {
-    (1..=levels).find(|&k| r >= side(height, k) || c >= side(width, k)).unwrap_or(levels)
+/// The level whose coefficient stands at place i of the plane.
+pub fn level_at(s: Shape, i: usize) -> usize {
+    let outside = |k: &usize| i / s.width >= down(s).at(*k).length || i % s.width >= across(s).at(*k).length;
+    (1..=s.levels).find(outside).unwrap_or(s.levels)
 }
 
 /// Whether each coefficient lies in its level's range: question 7.
-pub fn in_range(plane: &[i32], width: usize, height: usize, levels: usize) -> bool {
-    (0..width * height).all(|i| i64::from(plane[i]).abs() <= range(level_at(width, height, levels, i / width, i % width)))
+pub fn in_range(plane: &[i32], s: Shape) -> bool {
+    (0..s.width * s.height).all(|i| i64::from(plane[i]).abs() <= range(level_at(s, i)))
+}
+
+/// Origins from 0 to 3 each way.
+pub fn origins() -> impl Iterator<Item = (u16, u16)> {
+    (0..4).flat_map(|x| (0..4).map(move |y| (x, y)))
+}
+
+/// An origin about 0, or about the largest.
+pub fn origin(random: &mut Random) -> (u16, u16) {
+    let mut one = || [0, 0, 1, 2, 3, 5, 65_534, 65_535][random.below(8)];
+    (one(), one())
 }
 
 /// Maps of a size: flat, the largest steps, slopes and noise.

@@ -1,7 +1,9 @@
-//! The writer's order and the reader's steps, straight from document 01's words: rows are counted and handed on one by one, and nothing is
-//! worked out from an index. Here stands also what each call must answer: by the arguments and answers before it, by no state.
-use crate::maps::{side, MAX_HEIGHT};
+//! The writer's order and the reader's steps, straight from the words of documents 01 and 02 (Q-3): rows are counted and handed on one by one,
+//! and sets go by grid coordinates: set n of a level has its rows at the coordinates 2n, low, and 2n + 1, high, where the level has them. Here
+//! stands also what each call must answer: by the arguments and answers before it, by no state.
+use crate::maps::{across, down, Side, MAX_HEIGHT};
 use std::collections::VecDeque;
+use terrain::Shape;
 
 pub const LL: usize = 0;
 pub const HL: usize = 1;
@@ -18,32 +20,57 @@ pub struct BandRow {
 }
 
 /// How many numbers a row of a band has: 0 where the band has no column.
-fn columns(width: usize, level: usize, band: usize) -> usize {
-    let low = side(width, level);
+fn columns(s: Shape, level: usize, band: usize) -> usize {
+    let low = across(s).at(level).length;
     if band == LL || band == LH {
         low
     } else {
-        side(width, level - 1) - low
+        across(s).at(level - 1).length - low
     }
 }
 
-/// Where a band row stands in the plane of a map of that height.
-pub fn place(width: usize, height: usize, r: BandRow) -> std::ops::Range<usize> {
-    let row = if r.band == LH || r.band == HH { side(height, r.level) + r.row } else { r.row };
-    let column = if r.band == HL || r.band == HH { side(width, r.level) } else { 0 };
-    let start = row * width + column;
+/// The number in its band of the row at a coordinate of a level that starts there: even coordinates are low, odd ones high.
+fn number(coordinate: usize, start: usize) -> usize {
+    if coordinate % 2 == 0 {
+        coordinate / 2 - start.div_ceil(2)
+    } else {
+        coordinate / 2 - start / 2
+    }
+}
+
+/// The rows of set n of the rows of a level, in the order in which they wait or are asked for; `last`: it is level L.
+fn rows_of(s: Shape, level: usize, rows: Side, n: usize) -> Vec<BandRow> {
+    let bands = if level == s.levels { LL..=HH } else { HL..=HH };
+    let there = bands.filter_map(|band| {
+        let coordinate = 2 * n + usize::from(band >= LH);
+        let inside = (rows.start..rows.start + rows.length).contains(&coordinate);
+        let length = columns(s, level, band);
+        (inside && length > 0).then(|| BandRow { level, band, row: number(coordinate, rows.start), length })
+    });
+    there.collect()
+}
+
+/// Whether set n has a row for the next level: a low row, of at least one number.
+fn goes_on(s: Shape, level: usize, rows: Side, n: usize) -> bool {
+    level < s.levels && rows.start <= 2 * n && columns(s, level, LL) > 0
+}
+
+/// Where a band row stands in the plane of a map.
+pub fn place(s: Shape, r: BandRow) -> std::ops::Range<usize> {
+    let row = if r.band == LH || r.band == HH { down(s).at(r.level).length + r.row } else { r.row };
+    let column = if r.band == HL || r.band == HH { across(s).at(r.level).length } else { 0 };
+    let start = row * s.width + column;
     start..start + r.length
 }
 
 /// The numbers that a line store needs.
-pub fn store_length(width: usize, levels: usize) -> usize {
-    4 * (0..levels).map(|k| side(width, k)).sum::<usize>()
+pub fn store_length(s: Shape) -> usize {
+    4 * (0..s.levels).map(|k| across(s).at(k).length).sum::<usize>()
 }
 
 /// What a writer must answer.
 pub struct Writer {
-    width: usize,
-    levels: usize,
+    shape: Shape,
     /// the heights of the row begun
     begun: usize,
     /// the complete rows of each level, from level 1
@@ -55,8 +82,15 @@ pub struct Writer {
 }
 
 impl Writer {
-    pub fn new(width: usize, levels: usize) -> Self {
-        Writer { width, levels, begun: 0, complete: vec![0; levels + 1], finished: false, waiting: VecDeque::new(), limit: MAX_HEIGHT }
+    /// Of the shape the height is not looked at.
+    pub fn new(shape: Shape) -> Self {
+        let complete = vec![0; shape.levels + 1];
+        Writer { shape, begun: 0, complete, finished: false, waiting: VecDeque::new(), limit: MAX_HEIGHT }
+    }
+
+    /// The rows of a level that are complete.
+    fn side(&self, level: usize) -> Side {
+        Side { start: down(self.shape).at(level - 1).start, length: self.complete[level] }
     }
 
     pub fn rows(&self) -> usize {
@@ -77,23 +111,19 @@ impl Writer {
 
     /// "Set n of a level is made when its row 2n+2 is complete."
     fn row_complete(&mut self, level: usize) {
-        let row = self.complete[level];
+        let coordinate = self.side(level).start + self.complete[level];
         self.complete[level] += 1;
-        if row >= 2 && row % 2 == 0 {
-            self.make(level, row / 2 - 1, true);
+        if coordinate % 2 == 0 && self.complete[level] > 1 {
+            self.make(level, coordinate / 2 - 1);
         }
     }
 
     /// "Its rows wait in the order HL, LH, HH (at level L: LL, HL, LH, HH). Then its LL row goes to the next level, and all that this makes
     /// there comes before anything else."
-    fn make(&mut self, level: usize, row: usize, high: bool) {
-        for band in if level == self.levels { LL..=HH } else { HL..=HH } {
-            let length = columns(self.width, level, band);
-            if length > 0 && (high || band < LH) {
-                self.waiting.push_back(BandRow { level, band, row, length });
-            }
-        }
-        if level < self.levels {
+    fn make(&mut self, level: usize, n: usize) {
+        let rows = self.side(level);
+        self.waiting.extend(rows_of(self.shape, level, rows, n));
+        if goes_on(self.shape, level, rows, n) {
             self.row_complete(level + 1);
         }
     }
@@ -113,7 +143,7 @@ impl Writer {
         while taken < run && self.waiting.is_empty() && self.rows() < self.limit {
             taken += 1;
             self.begun += 1;
-            if self.begun == self.width {
+            if self.begun == self.shape.width {
                 self.begun = 0;
                 self.row_complete(1);
             }
@@ -140,9 +170,11 @@ impl Writer {
             return Err(11);
         }
         self.finished = true;
-        for level in 1..=self.levels {
-            let rows = self.complete[level];
-            self.make(level, rows.div_ceil(2) - 1, rows % 2 == 0);
+        for level in 1..=self.shape.levels {
+            let rows = self.side(level);
+            if rows.length > 0 {
+                self.make(level, (rows.start + rows.length - 1) / 2);
+            }
         }
         Ok(())
     }
@@ -155,12 +187,14 @@ pub enum Step {
     Draw(usize),
 }
 
-/// Some rows that a set makes: rows `first` to `last` of the grid that level `level` + 1 parts, which for level 0 are height rows.
-#[derive(Clone, Copy, Debug)]
+/// A set worked out: rows `first` up to `end` of the grid that level `level` + 1 parts, which for level 0 are height rows, are made by it, and
+/// rows `own` are those that it holds.
+#[derive(Clone, Debug)]
 pub struct Made {
     pub level: usize,
     pub first: usize,
-    pub last: usize,
+    pub end: usize,
+    pub own: std::ops::Range<usize>,
 }
 
 /// A step and the sets worked out in its call, in their order.
@@ -171,10 +205,8 @@ pub struct Turn {
 
 /// The reader's steps as they come about.
 struct Steps {
-    width: usize,
-    height: usize,
-    levels: usize,
-    /// of each level, from 1: the sets that are complete, the rows that they made and that are not used yet
+    shape: Shape,
+    /// of each level, from 1: the next set, and the rows that those before it made and that are not used yet
     sets: Vec<usize>,
     unused: Vec<usize>,
     turns: Vec<Turn>,
@@ -190,7 +222,7 @@ impl Steps {
 
     /// "Made rows are used before another set is asked for."
     fn use_row(&mut self, level: usize) {
-        if self.unused[level] == 0 {
+        while self.unused[level] == 0 {
             self.complete_set(level);
         }
         self.unused[level] -= 1;
@@ -199,26 +231,23 @@ impl Steps {
     /// "Set n of level k needs its LL row (for k below L: the next row that level k+1 makes, which may ask for a set there first), then HL,
     /// LH, HH, skipping bands without rows."
     fn complete_set(&mut self, level: usize) {
-        let row = self.sets[level];
-        let rows = side(self.height, level - 1);
-        if level < self.levels {
+        let n = self.sets[level];
+        let rows = down(self.shape).at(level - 1);
+        if goes_on(self.shape, level, rows, n) {
             self.use_row(level + 1);
         }
-        let mut fed = false;
-        for band in if level == self.levels { LL..=HH } else { HL..=HH } {
-            let length = columns(self.width, level, band);
-            let there = band < LH || 2 * row + 1 < rows;
-            if length > 0 && there {
-                self.push(Step::Feed(BandRow { level, band, row, length }));
-                fed = true;
-            }
-        }
+        let feeds = rows_of(self.shape, level, rows, n);
+        let fed = !feeds.is_empty();
+        feeds.into_iter().for_each(|r| self.push(Step::Feed(r)));
         self.sets[level] += 1;
-        // "A complete set makes rows 2n−1 and 2n; set 0 makes row 0 only; the last set of an even height also makes the last row."
-        let first = if row == 0 { 0 } else { 2 * row - 1 };
-        let last = if 2 * row + 2 == rows { 2 * row + 1 } else { 2 * row };
-        self.unused[level] += last + 1 - first;
-        let made = Made { level: level - 1, first, last };
+        // "A complete set makes rows 2n−1 and 2n", those "that the level has", and the last set also a last row at an odd coordinate
+        let end = rows.start + rows.length;
+        let from = (2 * n).max(rows.start + 1) - 1;
+        let to = if 2 * n + 2 == end { end } else { 2 * n + 1 };
+        let (first, end) = (from - rows.start, to.max(from).min(end) - rows.start);
+        self.unused[level] += end - first;
+        let own = (2 * n).max(rows.start) - rows.start..(2 * n + 2).min(rows.start + rows.length) - rows.start;
+        let made = Made { level: level - 1, first, end, own };
         // "A set completed by a fed row is worked out in that feed."
         if fed {
             self.turns.last_mut().expect("a row was fed").made.push(made);
@@ -228,11 +257,11 @@ impl Steps {
     }
 }
 
-/// All steps of a reader of that size.
-pub fn steps(width: usize, height: usize, levels: usize) -> Vec<Turn> {
-    let none = vec![0; levels + 1];
-    let mut s = Steps { width, height, levels, sets: none.clone(), unused: none, turns: Vec::new(), lazy: Vec::new() };
-    for row in 0..height {
+/// All steps of a reader of that shape.
+pub fn steps(shape: Shape) -> Vec<Turn> {
+    let sets = (0..=shape.levels).map(|level| down(shape).at(level.max(1) - 1).start / 2).collect();
+    let mut s = Steps { shape, sets, unused: vec![0; shape.levels + 1], turns: Vec::new(), lazy: Vec::new() };
+    for row in 0..shape.height {
         s.use_row(1);
         s.push(Step::Draw(row));
     }
@@ -247,48 +276,54 @@ mod tests {
         format!("{} {} {}", r.level, ["LL", "HL", "LH", "HH"][r.band], r.row)
     }
 
-    fn wants(width: usize, height: usize, levels: usize) -> Vec<String> {
-        let feeds = steps(width, height, levels).into_iter().filter_map(|t| if let Step::Feed(r) = t.step { Some(name(r)) } else { None });
+    fn wants(s: Shape) -> Vec<String> {
+        let feeds = steps(s).into_iter().filter_map(|t| if let Step::Feed(r) = t.step { Some(name(r)) } else { None });
         feeds.collect()
     }
 
-    #[test]
-    fn the_column_of_the_scope() {
-        let mut w = Writer::new(1, 2);
+    /// The rows that a writer hands out of a map.
+    fn drawn(s: Shape) -> Vec<String> {
+        let mut w = Writer::new(s);
         let mut drawn = Vec::new();
-        for _ in 0..4 {
-            assert_eq!(w.offer(1), Ok(1));
-            while let Ok(Some(r)) = w.draw(1) {
+        let mut left = s.width * s.height;
+        while left > 0 {
+            left -= w.offer(left).expect("no row waits");
+            while let Ok(Some(r)) = w.draw(s.width) {
                 drawn.push(name(r));
             }
         }
         assert_eq!(w.finish(), Ok(()));
-        while let Ok(Some(r)) = w.draw(1) {
+        while let Ok(Some(r)) = w.draw(s.width) {
             drawn.push(name(r));
         }
-        assert_eq!(drawn, ["1 LH 0", "1 LH 1", "2 LL 0", "2 LH 0"]);
-        assert_eq!(wants(1, 4, 2), ["2 LL 0", "2 LH 0", "1 LH 0", "1 LH 1"]);
+        drawn
+    }
+
+    /// Every shape of some sizes and origins at every number of levels.
+    fn shapes(width: usize, height: usize) -> impl Iterator<Item = Shape> {
+        let origins = (0..4).flat_map(|x| (0..4).map(move |y| (x, y)));
+        origins.flat_map(move |(x, y)| (1..=5).map(move |levels| Shape { width, height, levels, x, y }))
+    }
+
+    #[test]
+    fn the_column_of_the_scope() {
+        assert_eq!(drawn(Shape::new(1, 4, 2)), ["1 LH 0", "1 LH 1", "2 LL 0", "2 LH 0"]);
+        assert_eq!(wants(Shape::new(1, 4, 2)), ["2 LL 0", "2 LH 0", "1 LH 0", "1 LH 1"]);
+    }
+
+    #[test]
+    fn a_high_row_alone_comes_before_the_next_level() {
+        let s = Shape { y: 1, ..Shape::new(1, 4, 2) };
+        assert_eq!(wants(s), ["1 LH 0", "2 LH 0", "2 LL 0", "1 LH 1"]);
+        assert_eq!(drawn(s), ["1 LH 0", "1 LH 1", "2 LH 0", "2 LL 0"]);
     }
 
     #[test]
     fn the_writer_s_rows_and_the_reader_s_wants_are_the_same() {
-        for width in 1..=9 {
-            for height in 1..=33 {
-                for levels in 1..=5 {
-                    let mut w = Writer::new(width, levels);
-                    let mut drawn = Vec::new();
-                    let mut left = width * height;
-                    while left > 0 {
-                        left -= w.offer(left).expect("no row waits");
-                        while let Ok(Some(r)) = w.draw(width) {
-                            drawn.push(name(r));
-                        }
-                    }
-                    assert_eq!(w.finish(), Ok(()));
-                    while let Ok(Some(r)) = w.draw(width) {
-                        drawn.push(name(r));
-                    }
-                    let mut wanted = wants(width, height, levels);
+        for width in 1..=5 {
+            for height in 1..=17 {
+                for s in shapes(width, height) {
+                    let (mut drawn, mut wanted) = (drawn(s), wants(s));
                     drawn.sort();
                     wanted.sort();
                     assert_eq!(drawn, wanted);
@@ -301,20 +336,22 @@ mod tests {
 
     #[test]
     fn every_row_of_every_level_is_made_once_and_before_its_use() {
-        for width in 1..=5 {
-            for height in 1..=33 {
-                for levels in 1..=5 {
-                    let mut made = vec![0; levels];
-                    for turn in steps(width, height, levels) {
+        for width in 1..=3 {
+            for height in 1..=17 {
+                for s in shapes(width, height) {
+                    let mut made = vec![0; s.levels];
+                    for turn in steps(s) {
                         for m in turn.made {
                             assert_eq!(m.first, made[m.level]);
-                            made[m.level] = m.last + 1;
+                            made[m.level] = m.end;
                         }
                         if let Step::Draw(row) = turn.step {
                             assert!(row < made[0]);
                         }
                     }
-                    assert!((0..levels).all(|k| made[k] == side(height, k)));
+                    // below a level that has no low column no row is needed
+                    let needed = |k: usize| k == 0 || across(s).at(k).length > 0;
+                    assert!((0..s.levels).all(|k| made[k] == if needed(k) { down(s).at(k).length } else { 0 }), "{s:?}");
                 }
             }
         }

@@ -13,10 +13,10 @@ pub enum Want {
 }
 
 pub fn set_up(state: &mut State, s: Shape, store: &mut [i32]) -> Result<(), u32> {
-    let made = numbered(Reader::new(s.width, s.height, s.levels, store).map(|r| r.state()), Call::ReaderSetUp);
+    let made = numbered(Reader::new(s, store).map(|r| r.state()), Call::ReaderSetUp);
     // and over whatever stands in the array
     let before = *state;
-    let number = raw::reader_set_up(state, s.width, s.height, s.levels, store);
+    let number = raw::reader_set_up(state, s, store);
     assert_eq!(number, made.err().unwrap_or(0));
     assert_eq!(*state, made.unwrap_or(before), "the whole array is set, or stays");
     made.map(|_| ())

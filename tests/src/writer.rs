@@ -3,13 +3,13 @@
 use crate::order::BandRow;
 use crate::{numbered, UNSET};
 use terrain::raw::{self, State};
-use terrain::{Call, Writer};
+use terrain::{Call, Shape, Writer};
 
-pub fn set_up(state: &mut State, width: usize, levels: usize, store: &mut [i32]) -> Result<(), u32> {
-    let made = numbered(Writer::new(width, levels, store).map(|w| w.state()), Call::WriterSetUp);
+pub fn set_up(state: &mut State, s: Shape, store: &mut [i32]) -> Result<(), u32> {
+    let made = numbered(Writer::new(s, store).map(|w| w.state()), Call::WriterSetUp);
     // and over whatever stands in the array
     let before = *state;
-    let number = raw::writer_set_up(state, width, levels, store);
+    let number = raw::writer_set_up(state, s, store);
     assert_eq!(number, made.err().unwrap_or(0));
     assert_eq!(*state, made.unwrap_or(before), "the whole array is set, or stays");
     made.map(|_| ())

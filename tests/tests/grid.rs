@@ -1,5 +1,6 @@
 //! The line calls with a start, against T.800's own extension procedure: lines that start at an even and at an odd coordinate, every length
 //! to 70 and some beyond, and the lone sample at an odd coordinate.
+use terrain::raw;
 use terrain_tests::areas::{lengths, lines, unset, Guarded};
 use terrain_tests::{grid, kernels};
 
@@ -27,18 +28,18 @@ fn from_area_to_area_it_is_the_extended_signal_filtered() {
         let (n, i0) = (lent.len(), parity(start));
         for surplus in [0, 3] {
             let mut out = Guarded::unset(n + surplus);
-            assert_eq!(kernels::forward(lent, start, out.lent()), 0);
+            assert_eq!(raw::line_forward(lent, start, out.lent()), 0);
             assert_eq!(out.content()[..n], grid::in_halves(&grid::forward(lent, i0), i0), "{n} numbers from {start}");
             assert!(out.is_unset_from(n), "the surplus is touched");
             let mut out = Guarded::unset(n + surplus);
             match grid::backward(&grid::interleaved(lent, i0), i0) {
                 Some(line) => {
-                    assert_eq!(kernels::backward(lent, start, out.lent()), 0);
+                    assert_eq!(raw::line_backward(lent, start, out.lent()), 0);
                     assert_eq!(out.content()[..n], line, "{n} numbers from {start}");
                     assert!(out.is_unset_from(n), "the surplus is touched");
                 }
                 None => {
-                    assert_eq!(kernels::backward(lent, start, out.lent()), 14);
+                    assert_eq!(raw::line_backward(lent, start, out.lent()), 14);
                     assert!(out.is_unset_from(0), "14 and something changed");
                 }
             }

@@ -49,6 +49,7 @@ fn in_rust(c_type: &str) -> String {
         "uint16_t" => "u16",
         "uint32_t" => "u32",
         "uint64_t" => "u64",
+        "terrain_shape" => "Shape",
         other => panic!("include/terrain.h: the type {other}"),
     }
     .to_string()
@@ -68,7 +69,8 @@ fn c_argument(words: &str) -> Argument {
     Argument { name: name.trim_start_matches('*').to_string(), pointer, of: in_rust(of), count }
 }
 
-fn header() -> Calls {
+/// The header without its comments.
+fn uncommented() -> String {
     let mut plain = String::new();
     let whole = text("include/terrain.h");
     let mut rest = whole.as_str();
@@ -76,8 +78,13 @@ fn header() -> Calls {
         plain.push_str(before);
         rest = after.split_once("*/").expect("a comment ends").1;
     }
-    plain.push_str(rest);
-    let plain = plain.split_once("TERRAIN_INLINE const").expect("the function that stands in the header comes last").0;
+    plain + rest
+}
+
+fn header() -> Calls {
+    let plain = uncommented();
+    let plain = plain.split_once("extern \"C\" {").expect("the calls are C's").1;
+    let plain = plain.split_once("TERRAIN_INLINE const").expect("the sentences come last").0;
     let lines: Vec<&str> = plain.lines().filter(|l| !l.starts_with('#') && !l.starts_with("extern") && !l.starts_with('}')).collect();
     let mut calls = Calls::new();
     for declaration in lines.join(" ").split(';').map(str::trim).filter(|d| !d.is_empty()) {
@@ -90,6 +97,31 @@ fn header() -> Calls {
         assert!(calls.insert(name.to_string(), signature).is_none(), "{name} is declared twice");
     }
     calls
+}
+
+/// The fields of a struct in Rust or Rattle text, by name and type; its attribute says that they stand as C's do.
+fn fields(text: &str) -> Vec<(String, String)> {
+    let (before, after) = text.split_once("pub struct Shape {").expect("a struct");
+    assert!(before.contains("#[repr(C)]"));
+    let body = after.split_once('}').expect("it ends").0;
+    let named =
+        body.lines().filter_map(|line| line.trim().strip_prefix("pub ")).map(|line| line.trim_end_matches(',').split_once(": ").expect("name and type"));
+    named.map(|(name, of)| (name.to_string(), of.to_string())).collect()
+}
+
+#[test]
+fn a_shape_is_the_same_in_all_three() {
+    let header = uncommented();
+    let body = header.split_once("typedef struct terrain_shape {").expect("the struct").1.split_once('}').expect("it ends").0;
+    let declared: Vec<(String, String)> = body
+        .split(';')
+        .map(str::trim)
+        .filter(|f| !f.is_empty())
+        .map(|f| f.split_once(' ').expect("type and name"))
+        .map(|(of, name)| (name.trim().to_string(), in_rust(of)))
+        .collect();
+    assert_eq!(declared, fields(&text("bindings/rust/src/map.rs")));
+    assert_eq!(declared, fields(&text("crates/wavelet/src/shape.rt")));
 }
 
 /// The functions in Rust or Rattle text after each `mark`.

@@ -1,9 +1,18 @@
 //! The line calls against the reference: from one area to another, and in place in halves.
-use terrain::{line_backward, line_forward, Call::Line, Question};
+use terrain::{Call::Line, Question};
 use terrain_tests::areas::{lengths, lines, unset, Guarded};
 use terrain_tests::{kernels, reference, refusal};
 
 type Call = fn(&[i32], &mut [i32]) -> Result<(), Question>;
+
+/// Lines that start at coordinate 0; those that start elsewhere have their tests in grid.rs.
+fn line_forward(line: &[i32], out: &mut [i32]) -> Result<(), Question> {
+    terrain::line_forward(line, 0, out)
+}
+
+fn line_backward(coefficients: &[i32], out: &mut [i32]) -> Result<(), Question> {
+    terrain::line_backward(coefficients, 0, out)
+}
 
 /// What the call leaves at the front of `out`.
 type Gives = fn(&[i32]) -> Vec<i32>;

@@ -2,7 +2,7 @@
 use terrain::Call::{MapBackward, MapForward, View};
 use terrain::{map_backward, map_forward, raw, view, Band, Question, Shape};
 use terrain_tests::areas::Guarded;
-use terrain_tests::maps::{self, forward, in_range, level_at, map_of, range, side, MAX_HEIGHT, MAX_LEVELS, MAX_WIDTH};
+use terrain_tests::maps::{self, across, down, forward, in_range, level_at, map_of, range, MAX_HEIGHT, MAX_LEVELS, MAX_WIDTH};
 use terrain_tests::random::Random;
 use terrain_tests::{refusal, UNSET};
 
@@ -12,7 +12,7 @@ fn there_and_back(heights: &[u16], s: Shape) {
     let mut plane = Guarded::unset(n + 3);
     let mut work = Guarded::unset(n + 2);
     assert_eq!(map_forward(heights, s, plane.lent(), work.lent()), Ok(()), "{s:?}");
-    assert_eq!(plane.content()[..n], forward(heights, s.width, s.height, s.levels), "{s:?}");
+    assert_eq!(plane.content()[..n], forward(heights, s), "{s:?}");
     assert!(work.content()[..n].iter().all(|&v| v == 0), "{s:?}: the work area is not zero");
     assert!(plane.is_unset_from(n) && work.is_unset_from(n), "{s:?}: a surplus is touched");
     let mut back = Guarded::<u16>::unset(n + 1);
@@ -23,13 +23,34 @@ fn there_and_back(heights: &[u16], s: Shape) {
     assert!(back.is_unset_from(n) && work.is_unset_from(n), "{s:?}: a surplus is touched");
 }
 
+/// A shape of sides up to `most`, at origins about 0 and at the largest.
+fn random_shape(random: &mut Random, most: usize) -> Shape {
+    let (x, y) = maps::origin(random);
+    Shape { width: 1 + random.below(most), height: 1 + random.below(most), levels: 1 + random.below(MAX_LEVELS), x, y }
+}
+
+#[test]
+fn every_small_size_at_every_origin() {
+    for width in 1..=9 {
+        for height in 1..=9 {
+            for levels in 1..=MAX_LEVELS {
+                for heights in maps::maps(width, height) {
+                    for (x, y) in maps::origins() {
+                        there_and_back(&heights, Shape { width, height, levels, x, y });
+                    }
+                }
+            }
+        }
+    }
+}
+
 #[test]
 fn every_small_size_at_every_level_count() {
     for width in 1..=12 {
         for height in 1..=12 {
             for levels in 1..=MAX_LEVELS {
                 for heights in maps::maps(width, height) {
-                    there_and_back(&heights, Shape { width, height, levels });
+                    there_and_back(&heights, Shape::new(width, height, levels));
                 }
             }
         }
@@ -40,16 +61,19 @@ fn every_small_size_at_every_level_count() {
 fn larger_and_odd_sizes() {
     let mut random = Random::new(1);
     for _ in 0..100 {
-        let (width, height) = (1 + random.below(90), 1 + random.below(90));
-        let levels = 1 + random.below(MAX_LEVELS);
-        for heights in maps::maps(width, height) {
-            there_and_back(&heights, Shape { width, height, levels });
+        let s = random_shape(&mut random, 90);
+        for heights in maps::maps(s.width, s.height) {
+            there_and_back(&heights, s);
         }
     }
-    for (width, height) in [(1, 1), (1, 2), (2, 1), (1, 333), (333, 1), (2, 200), (200, 2), (2_049, 1), (2_049, 2), (2_049, 7), (2_048, 5), (1, 65_535), (2, 40_001)] {
+    for (width, height) in
+        [(1, 1), (1, 2), (2, 1), (1, 333), (333, 1), (2, 200), (200, 2), (2_049, 1), (2_049, 2), (2_049, 7), (2_048, 5), (1, 65_535), (2, 40_001)]
+    {
         for levels in [1, 2, 5] {
             for heights in maps::maps(width, height) {
-                there_and_back(&heights, Shape { width, height, levels });
+                for (x, y) in [(0, 0), (1, 0), (0, 1), (65_535, 65_535)] {
+                    there_and_back(&heights, Shape { width, height, levels, x, y });
+                }
             }
         }
     }
@@ -64,13 +88,13 @@ fn check_backward(plane: &[i32], s: Shape) -> u32 {
     let answer = map_backward(lent.content(), s, heights.lent(), work.lent()).map_or_else(|q| q.number, |()| 0);
     assert_eq!(lent.content(), plane, "the plane is changed");
     assert!(heights.is_unset_from(n) && work.is_unset_from(n), "{s:?}: a surplus is touched");
-    match map_of(&plane[..n], s.width, s.height, s.levels) {
+    match map_of(&plane[..n], s) {
         Some(map) => {
             assert_eq!(answer, 0, "{s:?}: a map has this plane");
             assert_eq!(heights.content()[..n], map[..]);
             assert!(work.content()[..n].iter().all(|&v| v == 0));
         }
-        None if in_range(plane, s.width, s.height, s.levels) => {
+        None if in_range(plane, s) => {
             assert_eq!(answer, 14, "{s:?}: no map has this plane");
             assert!(heights.content()[..n].iter().all(|&v| v == 0), "14 zeroes the heights");
             assert!(work.content()[..n].iter().all(|&v| v == 0), "14 zeroes the work area");
@@ -88,12 +112,12 @@ fn damaged_planes_are_turned_away_exactly_when_no_map_has_them() {
     let mut random = Random::new(77);
     let mut seen = [0usize; 3];
     for _ in 0..6_000 {
-        let s = Shape { width: 1 + random.below(9), height: 1 + random.below(9), levels: 1 + random.below(MAX_LEVELS) };
+        let s = random_shape(&mut random, 9);
         let all = maps::maps(s.width, s.height);
-        let mut plane = forward(&all[random.below(all.len())], s.width, s.height, s.levels);
+        let mut plane = forward(&all[random.below(all.len())], s);
         for _ in 0..1 + random.below(3) {
             let i = random.below(plane.len());
-            let reach = range(level_at(s.width, s.height, s.levels, i / s.width, i % s.width)) as i32;
+            let reach = range(level_at(s, i)) as i32;
             plane[i] = match random.below(8) {
                 0 => reach,
                 1 => -reach,
@@ -116,30 +140,50 @@ fn damaged_planes_are_turned_away_exactly_when_no_map_has_them() {
 
 #[test]
 fn the_samples_of_the_scope() {
-    let s = Shape { width: 2, height: 2, levels: 1 };
+    let s = Shape::new(2, 2, 1);
     let mut plane = [0; 4];
     assert_eq!(map_forward(&[0, 2, 1, 1], s, &mut plane, &mut [0; 4]), Ok(()));
     assert_eq!(plane, [2, 1, 0, -2], "LL, HL, LH, HH");
-    let column = Shape { width: 1, height: 4, levels: 2 };
+    let column = Shape::new(1, 4, 2);
     assert_eq!(map_forward(&[1, 4, 2, 7], column, &mut plane, &mut [0; 4]), Ok(()));
     assert_eq!(plane, [4, 1, 3, 5], "2 LL 0, 2 LH 0, 1 LH 0, 1 LH 1");
-    let one = Shape { width: 1, height: 1, levels: 5 };
+    let one = Shape::new(1, 1, 5);
     assert_eq!(map_forward(&[65_535], one, &mut plane, &mut [0; 4]), Ok(()));
     assert_eq!(plane[0], 65_535);
     assert_eq!(check_backward(&[65_535], one), 0);
     assert_eq!(check_backward(&[65_536], one), 14);
-    let flat = Shape { width: 2, height: 1, levels: 1 };
+    let flat = Shape::new(2, 1, 1);
     assert_ne!(check_backward(&[0, 262_140], flat), 7);
     assert_eq!(check_backward(&[0, 262_141], flat), 7);
     assert_ne!(check_backward(&[0, -262_140], flat), 7);
     assert_eq!(check_backward(&[0, -262_141], flat), 7);
 }
 
+/// Maps at odd origins, worked out by hand from document 02's words.
+#[test]
+fn the_samples_of_an_odd_origin() {
+    let mut plane = [0; 4];
+    let one = Shape { x: 1, y: 1, ..Shape::new(1, 1, 1) };
+    assert_eq!(map_forward(&[65_535], one, &mut plane, &mut [0; 4]), Ok(()));
+    assert_eq!(plane[0], 262_140, "HH, doubled each way");
+    assert_eq!(check_backward(&[262_140], one), 0);
+    assert_eq!(check_backward(&[2], one), 14, "2 is halved to 1, and 1 can not be halved");
+    assert_eq!(check_backward(&[3], one), 14);
+    assert_eq!(check_backward(&[4], one), 0);
+    // two columns at (0, 1): LH 8, HH 6 are even, but not the columns that they are lifted back to
+    let row = Shape { y: 1, ..Shape::new(2, 1, 1) };
+    assert_eq!(check_backward(&[8, 6], row), 14);
+    // a line 1, 4, 2 that starts at 1: high 1 - 4 and 2 - 4, low 4 + floor((-3 - 2 + 2) / 4)
+    let line = Shape { x: 1, ..Shape::new(3, 1, 1) };
+    assert_eq!(map_forward(&[1, 4, 2], line, &mut plane, &mut [0; 4]), Ok(()));
+    assert_eq!(plane[..3], [3, -3, -2], "LL, HL");
+}
+
 /// Start and length, or the number of the question that says no. The raw call takes any code of a band, and sets nothing where it is turned
 /// away; where there is such a band, the wrapper says the same.
 fn band_row(plane_len: usize, s: Shape, level: usize, band: usize, row: usize) -> Result<(usize, usize), u32> {
     let (mut start, mut length) = (UNSET, UNSET);
-    let number = raw::band_row(plane_len, s.width, s.height, s.levels, level, band, row, &mut start, &mut length);
+    let number = raw::band_row(plane_len, s, level, band, row, &mut start, &mut length);
     if number != 0 {
         assert_eq!((start, length), (UNSET, UNSET), "a refusal changes nothing");
     }
@@ -171,11 +215,11 @@ fn refused(s: Shape, lens: [usize; 3], number: u32) {
 
 #[test]
 fn the_questions_in_their_order() {
-    let ok = Shape { width: 3, height: 3, levels: 2 };
+    let ok = Shape::new(3, 3, 2);
     for width in [0, MAX_WIDTH + 1, usize::MAX] {
         for height in [0, 3, usize::MAX] {
             for levels in [0, 2, 6] {
-                refused(Shape { width, height, levels }, [9, 9, 9], 2);
+                refused(Shape::new(width, height, levels), [9, 9, 9], 2);
             }
         }
     }
@@ -193,7 +237,7 @@ fn the_questions_in_their_order() {
     let mut work = Guarded::unset(8);
     assert_eq!(map_forward(&[1; 9], ok, plane.lent(), work.lent()), refusal(MapForward, 5));
     assert!(plane.is_unset_from(0) && work.is_unset_from(0));
-    let wide = Shape { width: MAX_WIDTH, height: 1, levels: MAX_LEVELS };
+    let wide = Shape::new(MAX_WIDTH, 1, MAX_LEVELS);
     there_and_back(&vec![7; MAX_WIDTH], wide);
 }
 
@@ -202,20 +246,22 @@ fn the_view_is_the_plane_s_band_row() {
     for width in 1..=9 {
         for height in 1..=9 {
             for levels in 1..=MAX_LEVELS {
-                let s = Shape { width, height, levels };
-                let mut covered = vec![0; width * height];
-                for level in 0..=levels + 1 {
-                    for band in [0, 1, 2, 3, 4, 255, 256, 257, usize::MAX] {
-                        for row in (0..=height).chain([usize::MAX]) {
-                            let got = band_row(width * height + 2, s, level, band, row);
-                            assert_eq!(got, expected(s, level, band, row).ok_or(6), "{s:?} {level} {band} {row}");
-                            if let Ok((start, length)) = got {
-                                covered[start..start + length].iter_mut().for_each(|n| *n += 1);
+                for (x, y) in [(0, 0), (0, 1), (1, 0), (1, 1), (2, 3), (3, 2), (3, 3)] {
+                    let s = Shape { x, y, ..Shape::new(width, height, levels) };
+                    let mut covered = vec![0; width * height];
+                    for level in 0..=levels + 1 {
+                        for band in [0, 1, 2, 3, 4, 255, 256, 257, usize::MAX] {
+                            for row in (0..=height).chain([usize::MAX]) {
+                                let got = band_row(width * height + 2, s, level, band, row);
+                                assert_eq!(got, expected(s, level, band, row).ok_or(6), "{s:?} {level} {band} {row}");
+                                if let Ok((start, length)) = got {
+                                    covered[start..start + length].iter_mut().for_each(|n| *n += 1);
+                                }
                             }
                         }
                     }
+                    assert!(covered.iter().all(|&n| n == 1), "{s:?}: each place stands in one band row");
                 }
-                assert!(covered.iter().all(|&n| n == 1), "{s:?}: each place stands in one band row");
             }
         }
     }
@@ -226,9 +272,10 @@ fn the_view_of_the_longest_maps() {
     for width in [1, 2, 3, 1_000, MAX_WIDTH] {
         for height in [MAX_HEIGHT - 1, MAX_HEIGHT] {
             for levels in 1..=MAX_LEVELS {
-                let s = Shape { width, height, levels };
+                let s = Shape { x: 65_535, y: 65_535, ..Shape::new(width, height, levels) };
                 for (level, band) in (1..=levels).flat_map(|k| (0..4).map(move |b| (k, b))) {
-                    let (low, high) = (side(height, level), side(height, level - 1) / 2);
+                    let low = down(s).at(level).length;
+                    let high = down(s).at(level - 1).length - low;
                     for row in [0, 1, 65_535, 65_536, high - 1, high, low - 1, low, height - 1, height, 1 << 32] {
                         let got = band_row(width * height, s, level, band, row);
                         assert_eq!(got, expected(s, level, band, row).ok_or(6), "{s:?} {level} {band} {row}");
@@ -238,7 +285,7 @@ fn the_view_of_the_longest_maps() {
             }
         }
     }
-    assert_eq!(band_row(usize::MAX, Shape { width: 1, height: MAX_HEIGHT + 1, levels: 1 }, 1, 2, 0), Err(3));
+    assert_eq!(band_row(usize::MAX, Shape::new(1, MAX_HEIGHT + 1, 1), 1, 2, 0), Err(3));
 }
 
 /// Start and length by document 01, "The plane".
@@ -246,8 +293,8 @@ fn expected(s: Shape, level: usize, band: usize, row: usize) -> Option<(usize, u
     if level < 1 || level > s.levels || band > 3 || (band == 0 && level < s.levels) {
         return None;
     }
-    let (w, h) = (side(s.width, level), side(s.height, level));
-    let (right, below) = (side(s.width, level - 1) - w, side(s.height, level - 1) - h);
+    let (w, h) = (across(s).at(level).length, down(s).at(level).length);
+    let (right, below) = (across(s).at(level - 1).length - w, down(s).at(level - 1).length - h);
     let (high_across, high_down) = (band % 2 == 1, band >= 2);
     let (rows, length) = (if high_down { below } else { h }, if high_across { right } else { w });
     if row >= rows || length == 0 {

@@ -3,7 +3,7 @@
 use std::collections::BTreeMap;
 use std::path::{Path, PathBuf};
 use std::process::Command;
-use terrain::{raw, Band};
+use terrain::{raw, Band, Shape};
 
 fn root() -> PathBuf {
     Path::new(env!("CARGO_MANIFEST_DIR")).parent().expect("tests/ stands in the repository").to_path_buf()
@@ -25,10 +25,11 @@ fn the_limits() {
     let names = names();
     let (width, height, levels) = (names["MAX_WIDTH"], names["MAX_HEIGHT"], names["MAX_LEVELS"]);
     assert_eq!((width, height, levels), (terrain::MAX_WIDTH, terrain::MAX_HEIGHT, terrain::MAX_LEVELS));
+    assert_eq!(names["MAX_ORIGIN"], usize::from(u16::MAX));
     let mut store = vec![0; names["MAX_STORE_LENGTH"]];
-    let mut set_up = |w, h, l| raw::reader_set_up(&mut [0; 16], w, h, l, &mut store);
+    let mut set_up = |w, h, l| raw::reader_set_up(&mut [0; 16], Shape::new(w, h, l), &mut store);
     assert_eq!([set_up(width, height, levels), set_up(width + 1, 1, 1), set_up(1, height + 1, 1), set_up(1, 1, levels + 1)], [0, 2, 3, 4]);
-    let longest = (1..=width).flat_map(|w| (1..=levels).map(move |l| raw::store_length(w, l))).max();
+    let longest = (1..=width).flat_map(|w| (1..=levels).map(move |l| raw::store_length(Shape::new(w, 1, l)))).max();
     assert_eq!(longest, Some(names["MAX_STORE_LENGTH"]));
 }
 
@@ -42,7 +43,7 @@ fn bands_wants_and_lengths() {
     assert_eq!((names["STATE_LENGTH"], names["ROW_LENGTH"], names["WANT_LENGTH"]), (state.len(), row.len(), want.len()));
     let (mut store, mut kinds) = ([0; 8], Vec::new());
     for coefficient in [9, 65_536] {
-        assert_eq!(raw::reader_set_up(&mut state, 1, 1, 1, &mut store), 0);
+        assert_eq!(raw::reader_set_up(&mut state, Shape::new(1, 1, 1), &mut store), 0);
         for turn in 0..3 {
             assert_eq!(raw::reader_want(&state, &mut want), 0);
             kinds.push(want[0] as usize);
@@ -92,7 +93,7 @@ fn compiled(name: &str, source: &str, compiler: &str, language: &str, standard: 
 fn every_standard() {
     let looks = "#include <terrain.h>\nint main(void) { return terrain_version() != TERRAIN_VERSION || !terrain_sentence(3); }\n";
     let unused = "#include <terrain.h>\nint main(void) { return 0; }\n";
-    let drops = "#include <terrain.h>\nint main(void) { size_t a, b; terrain_band_row(1, 1, 1, 1, 1, 0, 0, &a, &b); return 0; }\n";
+    let drops = "#include <terrain.h>\nint main(void) { size_t a, b; terrain_band_row(1, terrain_shape_of(1, 1, 1), 1, 0, 0, &a, &b); return 0; }\n";
     let c = ["c89", "gnu89", "c99", "c11", "c17", "c2x"].map(|s| ("cc", "c", s));
     let cpp = ["c++98", "c++11", "c++14", "c++17", "c++20"].map(|s| ("c++", "c++", s));
     for (compiler, language, standard) in c.into_iter().chain(cpp) {

@@ -2,6 +2,7 @@
 //! coefficient of the independent transform has the grey that the scale of its level gives it.
 use std::path::{Path, PathBuf};
 use std::process::Command;
+use terrain::Shape;
 use terrain_tests::maps::forward;
 
 fn root() -> PathBuf {
@@ -120,7 +121,7 @@ fn each_number_has_its_grey() {
     let map = std::fs::read(root().join("examples/hill.pgm")).expect("the map");
     let samples = map.strip_prefix(b"P5\n129 97\n65535\n").expect("its header");
     let heights: Vec<u16> = samples.chunks_exact(2).map(|b| u16::from_be_bytes([b[0], b[1]])).collect();
-    let plane = forward(&heights, width, height, levels);
+    let plane = forward(&heights, Shape::new(width, height, levels));
     let (pgm, said) = picture(&program("bands-of-the-hill"), levels, &root().join("examples/hill.pgm"), "greys.pgm");
     let pixels = pgm.strip_prefix(format!("P5\n{} {}\n65535\n", width * side, height * side).as_bytes()).expect("its header");
     let pixel = |x: usize, y: usize| i64::from(u16::from_be_bytes([pixels[2 * (y * width * side + x)], pixels[2 * (y * width * side + x) + 1]]));

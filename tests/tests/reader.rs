@@ -3,7 +3,7 @@ use std::collections::HashMap;
 use terrain::raw::State;
 use terrain::{map_backward, Reader, Shape, Writer};
 use terrain_tests::areas::Guarded;
-use terrain_tests::maps::{self, MAX_HEIGHT, MAX_LEVELS, MAX_WIDTH};
+use terrain_tests::maps::{self, Rebuilt, MAX_HEIGHT, MAX_LEVELS, MAX_WIDTH};
 use terrain_tests::order::{self, BandRow, Step, Turn};
 use terrain_tests::random::Random;
 use terrain_tests::reader::{self, Want};
@@ -24,7 +24,7 @@ struct Play<'a> {
     shape: Shape,
     plane: &'a [i32],
     /// what the plane makes of each level over 32-bit words
-    grids: Vec<Vec<i32>>,
+    grids: Vec<Rebuilt>,
     turns: Vec<Turn>,
     at: usize,
     ended: bool,
@@ -36,13 +36,12 @@ struct Play<'a> {
 
 impl<'a> Play<'a> {
     fn new(plane: &'a [i32], shape: Shape) -> Self {
-        let Shape { width, height, levels } = shape;
-        let needed = order::store_length(width, levels);
+        let needed = order::store_length(shape);
         let mut store = Guarded::unset(needed + SURPLUS);
         let mut state = [u64::MAX; 16];
         assert_eq!(reader::set_up(&mut state, shape, store.lent()), Ok(()), "{shape:?}");
         assert!(store.content()[..needed].iter().all(|&v| v == 0), "set-up zeroes the needed part");
-        let (grids, turns) = (maps::rebuilt(plane, width, height, levels), order::steps(width, height, levels));
+        let (grids, turns) = (maps::rebuilt(plane, shape), order::steps(shape));
         Play { shape, plane, grids, turns, at: 0, ended: false, skipped: 0, state, store }
     }
 
@@ -51,14 +50,15 @@ impl<'a> Play<'a> {
     }
 
     fn row(&self, r: BandRow) -> Vec<i32> {
-        self.plane[order::place(self.shape.width, self.shape.height, r)].to_vec()
+        self.plane[order::place(self.shape, r)].to_vec()
     }
 
     /// Question 14 of the next step: whether all rows fit that its call makes.
     fn fits(&self) -> bool {
         self.turns[self.at].made.iter().all(|m| {
-            let w = maps::side(self.shape.width, m.level);
-            self.grids[m.level][m.first * w..(m.last + 1) * w].iter().all(|&v| maps::fits(m.level, v))
+            let grid = &self.grids[m.level];
+            let fits = grid.rows[m.first..m.end].iter().flatten().all(|&v| maps::fits(m.level, v));
+            fits && grid.even[m.own.clone()].iter().all(|&even| even)
         })
     }
 
@@ -116,7 +116,7 @@ impl<'a> Play<'a> {
         let mut out = Guarded::<u16>::unset(room);
         self.call(answer, |state, store| reader::draw(state, store, out.lent()));
         if let (Ok(1..), Some(Step::Draw(row))) = (answer, self.step()) {
-            let expected: Vec<u16> = self.grids[0][row * width..(row + 1) * width].iter().map(|&v| u16::try_from(v).unwrap()).collect();
+            let expected: Vec<u16> = self.grids[0].rows[row].iter().map(|&v| u16::try_from(v).unwrap()).collect();
             assert_eq!(out.content()[..width], expected, "{:?}: height row {row}", self.shape);
             self.at += 1;
         }
@@ -194,14 +194,17 @@ impl<'a> Play<'a> {
 }
 
 #[test]
-fn every_small_size_at_every_level_count() {
+fn every_small_size_at_every_origin() {
     let mut random = Random::new(21);
     for width in 1..=9 {
         for height in 1..=9 {
             for levels in 1..=MAX_LEVELS {
                 for heights in maps::maps(width, height) {
-                    let plane = maps::forward(&heights, width, height, levels);
-                    assert_eq!(Play::new(&plane, Shape { width, height, levels }).run(&mut random), 0);
+                    for (x, y) in maps::origins() {
+                        let s = Shape::new(width, height, levels).at(x, y);
+                        let plane = maps::forward(&heights, s);
+                        assert_eq!(Play::new(&plane, s).run(&mut random), 0);
+                    }
                 }
             }
         }
@@ -214,9 +217,12 @@ fn single_columns_and_single_rows() {
     for long in (1..=70).chain([127, 128, 129, 333, 1_025]) {
         for levels in 1..=MAX_LEVELS {
             for (width, height) in [(1, long), (long, 1), (2, long), (long, 2)] {
-                let mut all = maps::maps(width, height);
-                let plane = maps::forward(&all.swap_remove(random.below(all.len())), width, height, levels);
-                assert_eq!(Play::new(&plane, Shape { width, height, levels }).run(&mut random), 0);
+                for (x, y) in [(0, 0), (1, 0), (0, 1), (1, 1), (3, 3)] {
+                    let s = Shape::new(width, height, levels).at(x, y);
+                    let mut all = maps::maps(width, height);
+                    let plane = maps::forward(&all.swap_remove(random.below(all.len())), s);
+                    assert_eq!(Play::new(&plane, s).run(&mut random), 0);
+                }
             }
         }
     }
@@ -231,8 +237,10 @@ fn larger_and_odd_sizes() {
     for (width, height) in shapes {
         for levels in [1, 2 + random.below(3), MAX_LEVELS] {
             let mut all = maps::maps(width, height);
-            let plane = maps::forward(&all.swap_remove(random.below(all.len())), width, height, levels);
-            assert_eq!(Play::new(&plane, Shape { width, height, levels }).run(&mut random), 0);
+            let (x, y) = maps::origin(&mut random);
+            let s = Shape::new(width, height, levels).at(x, y);
+            let plane = maps::forward(&all.swap_remove(random.below(all.len())), s);
+            assert_eq!(Play::new(&plane, s).run(&mut random), 0);
         }
     }
 }
@@ -259,9 +267,9 @@ fn near_the_limit<'a>(plane: &'a [i32], shape: Shape) -> Play<'a> {
 fn the_row_limit() {
     let mut random = Random::new(27);
     for (width, levels) in [(1, 1), (1, 5), (2, 3), (5, 2), (9, 5)] {
-        let shape = Shape { width, height: 3 * (4 << levels) - 1, levels };
+        let shape = Shape::new(width, 3 * (4 << levels) - 1, levels);
         for heights in maps::maps(width, shape.height) {
-            let plane = maps::forward(&heights, width, shape.height, levels);
+            let plane = maps::forward(&heights, shape);
             let mut play = near_the_limit(&plane, shape);
             assert_eq!(play.run(&mut random), 0);
             assert_eq!(play.state[HEIGHT..=DRAWN], [MAX_HEIGHT as u64, levels as u64, MAX_HEIGHT as u64]);
@@ -271,8 +279,8 @@ fn the_row_limit() {
 
 #[test]
 fn past_the_row_limit() {
-    let shape = Shape { width: 3, height: 47, levels: 2 };
-    let plane = maps::forward(&[5; 3 * 47], 3, 47, 2);
+    let shape = Shape::new(3, 47, 2);
+    let plane = maps::forward(&[5; 3 * 47], shape);
     let play = near_the_limit(&plane, shape);
     let most = MAX_HEIGHT as u64;
     for (height, drawn, fits) in [(most - 1, most - 1, true), (most, most - 1, true), (most, most, true), (most + 1, 0, false), (most, most + 1, false)] {
@@ -291,10 +299,10 @@ fn past_the_row_limit() {
 /// A plane with one to three numbers changed: to the ends of their range, past them, a little, or to anything.
 fn damaged(s: Shape, random: &mut Random) -> Vec<i32> {
     let all = maps::maps(s.width, s.height);
-    let mut plane = maps::forward(&all[random.below(all.len())], s.width, s.height, s.levels);
+    let mut plane = maps::forward(&all[random.below(all.len())], s);
     for _ in 0..1 + random.below(3) {
         let i = random.below(plane.len());
-        let reach = maps::range(maps::level_at(s.width, s.height, s.levels, i / s.width, i % s.width)) as i32;
+        let reach = maps::range(maps::level_at(s, i)) as i32;
         plane[i] = match random.below(8) {
             0 => reach,
             1 => -reach,
@@ -314,7 +322,7 @@ fn same_verdict(plane: &[i32], s: Shape, random: &mut Random) -> u32 {
     let n = s.width * s.height;
     let whole = map_backward(plane, s, &mut vec![0; n], &mut vec![0; n]);
     assert_eq!(number == 0, whole.is_ok(), "{s:?}: the reader gives {number}, the whole map {whole:?}");
-    assert_eq!(number == 0, maps::map_of(plane, s.width, s.height, s.levels).is_some(), "{s:?}");
+    assert_eq!(number == 0, maps::map_of(plane, s).is_some(), "{s:?}");
     assert!([0, 7, 14].contains(&number), "{s:?}: {number}");
     number
 }
@@ -327,7 +335,8 @@ fn damaged_planes() {
         let (a, b, levels) = (1 + random.below(9), 1 + random.below(9), 1 + random.below(MAX_LEVELS));
         // one column and one row above all: sets without a fed row of their own
         let (width, height) = [(a, b), (1, b), (1, 4 * b + a), (a, 1)][random.below(4)];
-        let s = Shape { width, height, levels };
+        let (x, y) = maps::origin(&mut random);
+        let s = Shape::new(width, height, levels).at(x, y);
         let plane = damaged(s, &mut random);
         seen[same_verdict(&plane, s, &mut random) as usize] += 1;
     }
@@ -338,10 +347,11 @@ fn damaged_planes() {
 fn planes_of_noise() {
     let mut random = Random::new(25);
     for _ in 0..3_000 {
-        let s = Shape { width: 1 + random.below(4), height: 1 + random.below(9), levels: 1 + random.below(MAX_LEVELS) };
+        let (x, y) = maps::origin(&mut random);
+        let s = Shape::new(1 + random.below(4), 1 + random.below(9), 1 + random.below(MAX_LEVELS)).at(x, y);
         let plane: Vec<i32> = (0..s.width * s.height)
             .map(|i| {
-                let reach = maps::range(maps::level_at(s.width, s.height, s.levels, i / s.width, i % s.width)) as i32;
+                let reach = maps::range(maps::level_at(s, i)) as i32;
                 [random.below(65_536) as i32, random.below(9) as i32 - 4, reach, -reach][random.below(4)]
             })
             .collect();
@@ -351,7 +361,7 @@ fn planes_of_noise() {
 
 #[test]
 fn the_samples_of_the_scope() {
-    let column = Shape { width: 1, height: 4, levels: 2 };
+    let column = Shape::new(1, 4, 2);
     let plane = [4, 1, 3, 5];
     let mut play = Play::new(&plane, column);
     let mut wants = Vec::new();
@@ -363,16 +373,37 @@ fn the_samples_of_the_scope() {
         }
     }
     assert_eq!(wants, [(2, order::LL, 0), (2, order::LH, 0), (1, order::LH, 0), (1, order::LH, 1)]);
-    assert_eq!(play.grids[0], [1, 4, 2, 7]);
-    let one = Shape { width: 1, height: 1, levels: 5 };
+    assert_eq!(play.grids[0].rows, [[1], [4], [2], [7]]);
+    let one = Shape::new(1, 1, 5);
     assert_eq!(Play::new(&[65_535], one).run(&mut Random::new(1)), 0);
     assert_eq!(Play::new(&[65_536], one).run(&mut Random::new(1)), 14);
 }
 
+/// Document 02, Q-3: an odd value that is due to be halved gives 14 when its set is worked out, also where that set makes no row.
+#[test]
+fn an_odd_lone_value_gives_14_in_the_feed_of_its_set() {
+    let s = Shape::new(1, 3, 1).at(1, 1);
+    let plane = maps::forward(&[5, 6, 7], s);
+    for (row, value) in [(0, 3), (1, -1)] {
+        let mut damaged = plane.clone();
+        let r = order::steps(s)
+            .iter()
+            .find_map(|t| match t.step {
+                Step::Feed(r) if r.band == order::HH && r.row == row => Some(r),
+                _ => None,
+            })
+            .expect("HH has two rows");
+        damaged[order::place(s, r)][0] = value;
+        let mut play = Play::new(&damaged, s);
+        assert_eq!(play.run(&mut Random::new(3)), 14);
+        assert_eq!(play.step(), Some(Step::Feed(r)), "in its own feed");
+    }
+}
+
 /// Through a writer and a reader, with nothing between them but the rows: the heights again.
 fn round_trip(heights: &[u16], s: Shape) {
-    let mut store = Guarded::unset(order::store_length(s.width, s.levels));
-    let mut writer = Writer::new(s.width, s.levels, store.lent()).unwrap();
+    let mut store = Guarded::unset(order::store_length(s));
+    let mut writer = Writer::new(s, store.lent()).unwrap();
     let mut rows: HashMap<terrain::BandRow, Vec<i32>> = HashMap::new();
     let mut out = vec![0; s.width];
     let mut rest = heights;
@@ -385,7 +416,7 @@ fn round_trip(heights: &[u16], s: Shape) {
             break;
         }
     }
-    let mut reader = Reader::new(s.width, s.height, s.levels, store.lent()).unwrap();
+    let mut reader = Reader::new(s, store.lent()).unwrap();
     let mut drawn: Vec<u16> = Vec::new();
     let mut line = vec![0; s.width];
     loop {
@@ -407,7 +438,9 @@ fn round_trips() {
         for height in 1..=12 {
             for levels in 1..=MAX_LEVELS {
                 for heights in maps::maps(width, height) {
-                    round_trip(&heights, Shape { width, height, levels });
+                    for (x, y) in [(0, 0), (1, 0), (0, 1), (1, 1), (2, 3), (3, 2)] {
+                        round_trip(&heights, Shape::new(width, height, levels).at(x, y));
+                    }
                 }
             }
         }
@@ -415,7 +448,7 @@ fn round_trips() {
     for (width, height) in [(2_049, 65), (2_048, 33), (1_000, 100), (1, 65_535), (3, 9_999), (2_049, 1)] {
         for levels in [1, 3, MAX_LEVELS] {
             for heights in maps::maps(width, height) {
-                round_trip(&heights, Shape { width, height, levels });
+                round_trip(&heights, Shape::new(width, height, levels));
             }
         }
     }
@@ -428,11 +461,11 @@ fn the_questions_of_set_up() {
         assert_eq!(reader::set_up(&mut [7; 16], s, store.lent()), Err(number), "{s:?} {len}");
         assert!(store.is_unset_from(0));
     };
-    let ok = Shape { width: 3, height: 3, levels: 2 };
+    let ok = Shape::new(3, 3, 2);
     for width in [0, MAX_WIDTH + 1, 1 << 32, usize::MAX] {
         for height in [0, 3, usize::MAX] {
             for levels in [0, 2, 6] {
-                refused(Shape { width, height, levels }, 0, 2);
+                refused(Shape::new(width, height, levels), 0, 2);
             }
         }
     }
@@ -447,12 +480,14 @@ fn the_questions_of_set_up() {
     for width in [1, 2, 3, 9, MAX_WIDTH] {
         for height in [1, 2, MAX_HEIGHT] {
             for levels in 1..=MAX_LEVELS {
-                let s = Shape { width, height, levels };
-                let needed = order::store_length(width, levels);
-                refused(s, needed - 1, 5);
-                let mut store = Guarded::unset(needed);
-                assert_eq!(reader::set_up(&mut [7; 16], s, store.lent()), Ok(()));
-                assert!(store.content().iter().all(|&v| v == 0));
+                for (x, y) in maps::origins() {
+                    let s = Shape::new(width, height, levels).at(x, y);
+                    let needed = order::store_length(s);
+                    refused(s, needed - 1, 5);
+                    let mut store = Guarded::unset(needed);
+                    assert_eq!(reader::set_up(&mut [7; 16], s, store.lent()), Ok(()));
+                    assert!(store.content().iter().all(|&v| v == 0));
+                }
             }
         }
     }
@@ -462,7 +497,8 @@ fn the_questions_of_set_up() {
 fn a_made_row_is_drawn_modulo_65_536_whatever_the_store_holds() {
     let mut random = Random::new(26);
     for _ in 0..500 {
-        let s = Shape { width: 1 + random.below(9), height: 1 + random.below(9), levels: 1 + random.below(MAX_LEVELS) };
+        let (x, y) = maps::origin(&mut random);
+        let s = Shape::new(1 + random.below(9), 1 + random.below(9), 1 + random.below(MAX_LEVELS)).at(x, y);
         let plane = vec![0; s.width * s.height];
         let mut play = Play::new(&plane, s);
         let until = random.below(play.turns.len());
@@ -486,7 +522,7 @@ fn a_made_row_is_drawn_modulo_65_536_whatever_the_store_holds() {
 
 /// The counts of a reader, as docs/STATE.md lists them: whether question 1 passes.
 fn counts_fit(s: &State) -> bool {
-    let [kind, width, height, levels, drawn, level, band, ended, ..] = *s;
+    let [kind, width, height, levels, drawn, level, band, ended, x, y, alone, ..] = *s;
     kind == 2
         && (1..=2_049).contains(&width)
         && (1..=MAX_HEIGHT as u64).contains(&height)
@@ -495,13 +531,16 @@ fn counts_fit(s: &State) -> bool {
         && level <= levels
         && band <= 4
         && ended <= 1
-        && s[8..].iter().all(|&n| n == 0)
+        && x <= 65_535
+        && y <= 65_535
+        && alone <= 1
+        && s[11..].iter().all(|&n| n == 0)
 }
 
 /// All calls on a state and a store, whatever they hold: each returns, answers 1 or 5 exactly where it must, and stays in its areas.
 fn bear(state: &State, store: &[i32], random: &mut Random) {
     let fit = counts_fit(state);
-    let needed = if fit { order::store_length(state[1] as usize, state[3] as usize) } else { 0 };
+    let needed = if fit { order::store_length(Shape::new(state[1] as usize, 1, state[3] as usize).at(state[8] as u16, 0)) } else { 0 };
     let first = if !fit {
         Some(1)
     } else if store.len() < needed {
@@ -555,8 +594,9 @@ fn states_nobody_reached_and_scribbled_stores() {
         let height = [1 + random.below(12), 1 + random.below(MAX_HEIGHT), MAX_HEIGHT][random.below(3)] as u64;
         let levels = 1 + random.below(5) as u64;
         let up_to = |random: &mut Random, n: u64| random.below(n as usize + 1) as u64;
+        let (x, y) = maps::origin(&mut random);
         let mut state = [0; 16];
-        state[..8].copy_from_slice(&[
+        state[..11].copy_from_slice(&[
             2,
             width,
             height,
@@ -565,13 +605,16 @@ fn states_nobody_reached_and_scribbled_stores() {
             up_to(&mut random, levels),
             up_to(&mut random, 4),
             u64::from(random.below(8) == 0),
+            x.into(),
+            y.into(),
+            up_to(&mut random, 1),
         ]);
         if random.below(3) == 0 {
             let i = random.below(16);
             state[i] = [0, 1, 2, 6, 2_050, 65_536, 1 << 32, u64::MAX][random.below(8)];
         }
         passed += usize::from(counts_fit(&state));
-        let needed = order::store_length(width as usize, levels as usize);
+        let needed = order::store_length(Shape::new(width as usize, 1, levels as usize).at(x, y));
         let len = needed + [0, 3, 11][random.below(3)] - usize::from(random.below(5) == 0);
         let store: Vec<i32> = match random.below(3) {
             0 => vec![[i32::MIN, i32::MAX, -1][random.below(3)]; len],
@@ -587,7 +630,8 @@ fn states_nobody_reached_and_scribbled_stores() {
 fn a_store_scribbled_in_between_two_calls() {
     let mut random = Random::new(28);
     for _ in 0..3_000 {
-        let s = Shape { width: 1 + random.below(9), height: 1 + random.below(12), levels: 1 + random.below(MAX_LEVELS) };
+        let (x, y) = maps::origin(&mut random);
+        let s = Shape::new(1 + random.below(9), 1 + random.below(12), 1 + random.below(MAX_LEVELS)).at(x, y);
         let plane = vec![32_768; s.width * s.height];
         let mut play = Play::new(&plane, s);
         // wants never depend on what the store holds, and every call returns: it goes on, or ends in 14
@@ -616,10 +660,10 @@ fn a_store_scribbled_in_between_two_calls() {
 
 #[test]
 fn a_writer_s_state_is_no_reader_s() {
-    let mut store = vec![0; order::store_length(3, 2)];
+    let mut store = vec![0; order::store_length(Shape::new(3, 1, 2))];
     let (mut of_writer, mut of_reader) = ([0; 16], [0; 16]);
-    assert_eq!(writer::set_up(&mut of_writer, 3, 2, &mut store), Ok(()));
-    assert_eq!(reader::set_up(&mut of_reader, Shape { width: 3, height: 3, levels: 2 }, &mut store), Ok(()));
+    assert_eq!(writer::set_up(&mut of_writer, Shape::new(3, 3, 2), &mut store), Ok(()));
+    assert_eq!(reader::set_up(&mut of_reader, Shape::new(3, 3, 2), &mut store), Ok(()));
     assert_eq!(reader::want(&of_writer), Err(1));
     assert_eq!(reader::feed(&mut of_writer, &mut store, &[0, 0]), Err(1));
     assert_eq!(reader::draw(&mut of_writer, &mut store, &mut [0; 3]), Err(1));

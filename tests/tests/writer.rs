@@ -29,13 +29,13 @@ struct Play<'a> {
 
 impl<'a> Play<'a> {
     fn new(heights: &'a [u16], shape: Shape) -> Self {
-        let plane = maps::forward(heights, shape.width, shape.height, shape.levels);
-        let needed = order::store_length(shape.width, shape.levels);
+        let plane = maps::forward(heights, shape);
+        let needed = order::store_length(shape);
         let mut store = Guarded::unset(needed + SURPLUS);
         let mut state = [u64::MAX; 16];
-        assert_eq!(writer::set_up(&mut state, shape.width, shape.levels, store.lent()), Ok(()), "{shape:?}");
+        assert_eq!(writer::set_up(&mut state, shape, store.lent()), Ok(()), "{shape:?}");
         assert!(store.content()[..needed].iter().all(|&v| v == 0), "set-up zeroes the needed part");
-        let model = order::Writer::new(shape.width, shape.levels);
+        let model = order::Writer::new(shape);
         Play { shape, heights, plane, state, store, model, taken: 0, drawn: 0, skipped: 0 }
     }
 
@@ -63,7 +63,7 @@ impl<'a> Play<'a> {
         let later = answer.map(|r| r.map(|r| BandRow { row: r.row + (self.skipped >> r.level), ..r }));
         self.call(later, |state, store| writer::draw(state, store, out.lent()));
         if let Some(r) = row {
-            let place = order::place(self.shape.width, self.shape.height, r);
+            let place = order::place(self.shape, r);
             assert_eq!(out.content()[..r.length], self.plane[place], "{:?} {r:?}", self.shape);
             self.drawn += 1;
         }
@@ -77,7 +77,7 @@ impl<'a> Play<'a> {
 
     /// Each call on a store that is one too short.
     fn lend_too_little(&mut self) {
-        let short = order::store_length(self.shape.width, self.shape.levels) - 1;
+        let short = order::store_length(self.shape) - 1;
         let mut out = Guarded::unset(self.shape.width);
         self.call(Err(5), |state, store| writer::offer(state, &mut store[..short], &[1]));
         self.call(Err(5), |state, store| writer::draw(state, &mut store[..short], out.lent()));
@@ -122,22 +122,21 @@ impl<'a> Play<'a> {
         self.draw(self.shape.width);
         self.offer(0);
         self.finish();
-        let rows: usize = order::steps(self.shape.width, self.shape.height, self.shape.levels)
-            .iter()
-            .filter(|t| matches!(t.step, order::Step::Feed(_)))
-            .count();
+        let rows: usize = order::steps(self.shape).iter().filter(|t| matches!(t.step, order::Step::Feed(_))).count();
         assert_eq!(self.drawn, rows, "{:?}: every band row is drawn", self.shape);
     }
 }
 
 #[test]
-fn every_small_size_at_every_level_count() {
+fn every_small_size_at_every_origin() {
     let mut random = Random::new(11);
     for width in 1..=9 {
         for height in 1..=9 {
             for levels in 1..=MAX_LEVELS {
                 for heights in maps::maps(width, height) {
-                    Play::new(&heights, Shape { width, height, levels }).run(&mut random, 9);
+                    for (x, y) in maps::origins() {
+                        Play::new(&heights, Shape::new(width, height, levels).at(x, y)).run(&mut random, 9);
+                    }
                 }
             }
         }
@@ -154,7 +153,8 @@ fn larger_and_odd_sizes() {
         for levels in [1, 2 + random.below(3), MAX_LEVELS] {
             let mut all = maps::maps(width, height);
             let heights = all.swap_remove(random.below(all.len()));
-            Play::new(&heights, Shape { width, height, levels }).run(&mut random, 3 * width);
+            let (x, y) = maps::origin(&mut random);
+            Play::new(&heights, Shape::new(width, height, levels).at(x, y)).run(&mut random, 3 * width);
         }
     }
 }
@@ -168,7 +168,7 @@ fn period(levels: usize) -> usize {
 /// then is what it answers without, but for the row numbers, up to the limit.
 fn near_the_limit<'a>(heights: &'a [u16], width: usize, levels: usize, random: &mut Random) -> Play<'a> {
     let height = heights.len() / width;
-    let mut play = Play::new(heights, Shape { width, height, levels });
+    let mut play = Play::new(heights, Shape::new(width, height, levels));
     while play.model.rows() < period(levels) {
         play.offer(1 + random.below(3 * width));
         while play.model.waits().is_some() {
@@ -233,7 +233,7 @@ fn past_the_row_limit() {
 #[test]
 fn a_run_is_taken_up_to_the_first_row_that_waits() {
     let heights: Vec<u16> = (0..40).map(|i| i * i).collect();
-    let mut play = Play::new(&heights, Shape { width: 4, height: 10, levels: 2 });
+    let mut play = Play::new(&heights, Shape::new(4, 10, 2));
     play.offer(40);
     assert_eq!(play.taken, 12, "the third row makes set 0");
     play.offer(0);
@@ -253,8 +253,9 @@ fn the_column_of_the_scope() {
             drawn.push((r.level, r.band, r.row, values.to_vec()));
         }
     }
-    let mut store = vec![9; store_length(1, 2)];
-    let mut writer = Writer::new(1, 2, &mut store).unwrap();
+    let column = Shape::new(1, 4, 2);
+    let mut store = vec![9; store_length(column)];
+    let mut writer = Writer::new(column, &mut store).unwrap();
     let mut drawn = Vec::new();
     for height in [1, 4, 2, 7] {
         assert_eq!(writer.offer(&[height]), Ok(1));
@@ -268,32 +269,39 @@ fn the_column_of_the_scope() {
 
 #[test]
 fn the_questions_of_set_up() {
+    // a writer does not read the height
+    let shape = |width: usize, levels: usize| Shape::new(width, 0, levels);
     let refused = |width: usize, levels: usize, len: usize, number: u32| {
         let mut store = Guarded::unset(len);
-        assert_eq!(writer::set_up(&mut [7; 16], width, levels, store.lent()), Err(number), "{width} {levels} {len}");
+        assert_eq!(writer::set_up(&mut [7; 16], shape(width, levels), store.lent()), Err(number), "{width} {levels} {len}");
         assert!(store.is_unset_from(0));
     };
     for width in [0, MAX_WIDTH + 1, 1 << 32, usize::MAX] {
         for levels in [0, 1, 6, usize::MAX] {
             refused(width, levels, 0, 2);
-            assert_eq!(store_length(width, levels), 0);
+            assert_eq!(store_length(shape(width, levels)), 0);
         }
     }
     for width in [1, 9, MAX_WIDTH] {
         for levels in [0, MAX_LEVELS + 1, 1 << 32, usize::MAX] {
             refused(width, levels, 0, 4);
-            assert_eq!(store_length(width, levels), 0);
+            assert_eq!(store_length(shape(width, levels)), 0);
         }
     }
     for width in (1..=40).chain([1_024, 1_025, MAX_WIDTH]) {
         for levels in 1..=MAX_LEVELS {
-            let needed = order::store_length(width, levels);
-            assert_eq!(store_length(width, levels), needed);
+            let needed = order::store_length(shape(width, levels));
             refused(width, levels, needed - 1, 5);
             refused(width, levels, 0, 5);
-            let mut store = Guarded::unset(needed);
-            assert_eq!(writer::set_up(&mut [7; 16], width, levels, store.lent()), Ok(()));
-            assert!(store.content().iter().all(|&v| v == 0));
+            for (x, y) in maps::origins() {
+                let s = shape(width, levels).at(x, y);
+                let needed = order::store_length(s);
+                assert_eq!(store_length(s), needed);
+                let mut store = Guarded::unset(needed);
+                assert_eq!(writer::set_up(&mut [7; 16], s, store.lent()), Ok(()));
+                assert!(store.content().iter().all(|&v| v == 0));
+                assert_eq!(writer::set_up(&mut [7; 16], s, &mut store.lent()[1..]), Err(5));
+            }
         }
     }
 }
@@ -308,13 +316,17 @@ fn most_left(levels: u64, level: u64) -> u64 {
 }
 
 /// Where the stretch of a level begins in the line store; 0 where there is no level.
-fn start_of(width: u64, level: u64) -> u64 {
-    if level < 2 { 0 } else { order::store_length(width as usize, level as usize - 1) as u64 }
+fn start_of(width: u64, x: u64, level: u64) -> u64 {
+    if level < 2 {
+        0
+    } else {
+        order::store_length(Shape::new(width as usize, 1, level as usize - 1).at(x as u16, 0)) as u64
+    }
 }
 
 /// The counts of a writer, as docs/STATE.md lists them: whether question 1 passes.
 fn counts_fit(s: &State) -> bool {
-    let [kind, width, levels, rows, column, finished, closed, level, left, offset, ..] = *s;
+    let [kind, width, levels, rows, column, finished, closed, level, left, offset, x, y, ..] = *s;
     kind == 1
         && (1..=2_049).contains(&width)
         && (1..=5).contains(&levels)
@@ -324,13 +336,15 @@ fn counts_fit(s: &State) -> bool {
         && closed <= levels
         && level <= levels
         && left <= most_left(levels, level)
-        && offset == start_of(width, level)
-        && s[10..].iter().all(|&n| n == 0)
+        && x <= 65_535
+        && y <= 65_535
+        && offset == start_of(width, x, level)
+        && s[12..].iter().all(|&n| n == 0)
 }
 
 /// All calls on a state and a store, whatever they hold: each returns, answers 1 or 5 exactly where it must, and stays in its areas.
 fn bear(state: &State, store: &[i32], random: &mut Random) {
-    let needed = if counts_fit(state) { order::store_length(state[1] as usize, state[2] as usize) } else { 0 };
+    let needed = if counts_fit(state) { order::store_length(Shape::new(state[1] as usize, 1, state[2] as usize).at(state[10] as u16, 0)) } else { 0 };
     let first = if !counts_fit(state) {
         Some(1)
     } else if store.len() < needed {
@@ -379,8 +393,9 @@ fn states_nobody_reached_and_scribbled_stores() {
         let up_to = |random: &mut Random, n: u64| random.below(n as usize + 1) as u64;
         let level = up_to(&mut random, levels);
         let most = if random.below(6) == 0 { 4 } else { most_left(levels, level) };
+        let (x, y) = maps::origin(&mut random);
         let mut state = [0; 16];
-        state[..10].copy_from_slice(&[
+        state[..12].copy_from_slice(&[
             1,
             width,
             levels,
@@ -390,20 +405,19 @@ fn states_nobody_reached_and_scribbled_stores() {
             up_to(&mut random, levels),
             level,
             up_to(&mut random, most),
-            if random.below(6) == 0 { up_to(&mut random, 8 * width) } else { start_of(width, level) },
+            if random.below(6) == 0 { up_to(&mut random, 8 * width) } else { start_of(width, x.into(), level) },
+            x.into(),
+            y.into(),
         ]);
         if random.below(3) == 0 {
             let i = random.below(16);
             state[i] = [0, 1, 2, 6, 2_050, 65_536, 1 << 32, u64::MAX][random.below(8)];
         }
         passed += usize::from(counts_fit(&state));
-        let needed = order::store_length(width as usize, levels as usize);
+        let needed = order::store_length(Shape::new(width as usize, 1, levels as usize).at(x, y));
         let len = needed + [0, 3, 11][random.below(3)] - usize::from(random.below(5) == 0);
-        let store: Vec<i32> = if random.below(2) == 0 {
-            vec![[i32::MIN, i32::MAX, -1][random.below(3)]; len]
-        } else {
-            (0..len).map(|_| random.word()).collect()
-        };
+        let store: Vec<i32> =
+            if random.below(2) == 0 { vec![[i32::MIN, i32::MAX, -1][random.below(3)]; len] } else { (0..len).map(|_| random.word()).collect() };
         bear(&state, &store, &mut random);
     }
     assert!(passed > 30_000, "{passed} states pass question 1");
@@ -413,12 +427,13 @@ fn states_nobody_reached_and_scribbled_stores() {
 fn a_store_scribbled_in_between_two_calls() {
     let mut random = Random::new(14);
     for _ in 0..2_000 {
-        let (width, levels) = (1 + random.below(20), 1 + random.below(MAX_LEVELS));
-        let needed = order::store_length(width, levels);
+        let (x, y) = maps::origin(&mut random);
+        let s = Shape::new(1 + random.below(20), 1, 1 + random.below(MAX_LEVELS)).at(x, y);
+        let (width, needed) = (s.width, order::store_length(s));
         let mut store = Guarded::unset(needed + SURPLUS);
         let mut state = [0; 16];
-        assert_eq!(writer::set_up(&mut state, width, levels, store.lent()), Ok(()));
-        let mut model = order::Writer::new(width, levels);
+        assert_eq!(writer::set_up(&mut state, s, store.lent()), Ok(()));
+        let mut model = order::Writer::new(s);
         for _ in 0..60 {
             store.lent()[..needed].iter_mut().for_each(|v| *v = random.word());
             // answers never depend on what the store holds

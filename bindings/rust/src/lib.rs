@@ -6,15 +6,15 @@
 //! changed nothing that was lent to it, but for question 14, which ends a [`Reader`].
 //!
 //! ```
-//! use terrain::{store_length, Reader, Want, Writer};
+//! use terrain::{store_length, Reader, Shape, Want, Writer};
 //!
 //! # fn main() -> Result<(), terrain::Question> {
-//! let (width, height, levels) = (1, 4, 2);
-//! let mut store = vec![0; store_length(width, levels)];
-//! let mut line = vec![0; width];
+//! let shape = Shape::new(1, 4, 2);
+//! let mut store = vec![0; store_length(shape)];
+//! let mut line = vec![0; shape.width];
 //! let mut rows = Vec::new();
 //!
-//! let mut writer = Writer::new(width, levels, &mut store)?;
+//! let mut writer = Writer::new(shape, &mut store)?;
 //! let mut heights: &[u16] = &[1, 4, 2, 7];
 //! while !heights.is_empty() {
 //!     let taken = writer.offer(heights)?;
@@ -28,8 +28,8 @@
 //!     rows.push((row, values.to_vec()));
 //! }
 //!
-//! let mut reader = Reader::new(width, height, levels, &mut store)?;
-//! let mut line = vec![0; width];
+//! let mut reader = Reader::new(shape, &mut store)?;
+//! let mut line = vec![0; shape.width];
 //! let mut again = Vec::new();
 //! loop {
 //!     match reader.want()? {
@@ -67,7 +67,7 @@ pub use writer::Writer;
 pub use owned::{OwnedReader, OwnedWriter};
 
 /// The version of the interface that this crate was written for: 10,000 for each major number, 100 for each minor one, and the patch.
-pub const VERSION: u32 = 200;
+pub const VERSION: u32 = 300;
 /// The largest width of a map.
 pub const MAX_WIDTH: usize = 2_049;
 /// The largest height of a map.
@@ -106,7 +106,7 @@ pub fn version() -> u32 {
     raw::version()
 }
 
-/// How many numbers the line store of a writer or reader needs; 0 where no set-up passes.
-pub fn store_length(width: usize, levels: usize) -> usize {
-    raw::store_length(width, levels)
+/// How many numbers the line store of a writer or reader needs, whatever the height; 0 where no set-up passes.
+pub fn store_length(shape: Shape) -> usize {
+    raw::store_length(shape)
 }

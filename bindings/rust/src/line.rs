@@ -1,12 +1,12 @@
 //! The lifting of one line.
 use crate::{raw, Call, Question};
 
-/// The line's low values, then its high values, at the front of `out`.
-pub fn line_forward(line: &[i32], out: &mut [i32]) -> Result<(), Question> {
-    Question::of(Call::Line, raw::line_forward(line, out))
+/// The values of a line that starts at a coordinate, of which the parity counts: the low ones, then the high ones, at the front of `out`.
+pub fn line_forward(line: &[i32], start: usize, out: &mut [i32]) -> Result<(), Question> {
+    Question::of(Call::Line, raw::line_forward(line, start, out))
 }
 
-/// Low values, then high values, back to their line, at the front of `out`.
-pub fn line_backward(coefficients: &[i32], out: &mut [i32]) -> Result<(), Question> {
-    Question::of(Call::Line, raw::line_backward(coefficients, out))
+/// Low values, then high values, back to their line, at the front of `out`. 14: a value alone at an odd coordinate that is odd is no line's.
+pub fn line_backward(coefficients: &[i32], start: usize, out: &mut [i32]) -> Result<(), Question> {
+    Question::of(Call::Line, raw::line_backward(coefficients, start, out))
 }

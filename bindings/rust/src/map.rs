@@ -2,29 +2,44 @@
 use crate::{raw, Band, Call, Question};
 use std::ops::Range;
 
-/// Width, height and levels of a map.
-#[derive(Clone, Copy, Debug, PartialEq, Eq, Hash)]
+/// A map on its grid: width, height and levels, and the coordinates of its first column and its first row. A map that is no tile of a larger
+/// one starts at 0: [`Shape::new`]. More fields may come, in which 0 means what they were not there for.
+#[repr(C)]
+#[derive(Clone, Copy, Debug, Default, PartialEq, Eq, Hash)]
 pub struct Shape {
     pub width: usize,
     pub height: usize,
     pub levels: usize,
+    pub x: u16,
+    pub y: u16,
+}
+
+impl Shape {
+    /// A map of that size that starts at 0.
+    pub fn new(width: usize, height: usize, levels: usize) -> Shape {
+        Shape { width, height, levels, ..Shape::default() }
+    }
+
+    /// The same map with its first column and its first row at these coordinates.
+    pub fn at(self, x: u16, y: u16) -> Shape {
+        Shape { x, y, ..self }
+    }
 }
 
 /// The plane of a map's coefficients. Each area has at least width times height numbers, and those of `work` are zero afterwards.
 pub fn map_forward(heights: &[u16], s: Shape, plane: &mut [i32], work: &mut [i32]) -> Result<(), Question> {
-    Question::of(Call::MapForward, raw::map_forward(heights, s.width, s.height, s.levels, plane, work))
+    Question::of(Call::MapForward, raw::map_forward(heights, s, plane, work))
 }
 
 /// The one map that has this plane, or 7 or 14: none has it. 14 zeroes `heights` and `work`.
 pub fn map_backward(plane: &[i32], s: Shape, heights: &mut [u16], work: &mut [i32]) -> Result<(), Question> {
-    Question::of(Call::MapBackward, raw::map_backward(plane, s.width, s.height, s.levels, heights, work))
+    Question::of(Call::MapBackward, raw::map_backward(plane, s, heights, work))
 }
 
 /// Where a band row stands in a plane of `plane_len` numbers.
 pub fn band_row(plane_len: usize, s: Shape, level: usize, band: Band, row: usize) -> Result<Range<usize>, Question> {
     let (mut start, mut length) = (0, 0);
-    let answer =
-        raw::band_row(plane_len, s.width, s.height, s.levels, level, band as usize, row, &mut start, &mut length);
+    let answer = raw::band_row(plane_len, s, level, band as usize, row, &mut start, &mut length);
     Question::of(Call::View, answer)?;
     Ok(start..start + length)
 }

@@ -1,12 +1,12 @@
 //! A writer and a reader that own what they work in: the state, the line store and the row last drawn.
 use crate::raw::State;
-use crate::{store_length, BandRow, Question, Reader, Want, Writer, MAX_WIDTH};
+use crate::{store_length, BandRow, Question, Reader, Shape, Want, Writer, MAX_WIDTH};
 
 /// A [`Writer`] that owns its line store, and the area that its rows are drawn into. A clone goes on by itself.
 ///
 /// ```
 /// # fn main() -> Result<(), terrain::Question> {
-/// let mut writer = terrain::OwnedWriter::new(1, 2)?;
+/// let mut writer = terrain::OwnedWriter::new(terrain::Shape::new(1, 4, 2))?;
 /// let mut heights: &[u16] = &[1, 4, 2, 7];
 /// let mut finished = false;
 /// while !finished {
@@ -31,11 +31,11 @@ pub struct OwnedWriter {
 }
 
 impl OwnedWriter {
-    /// A writer of maps of that width.
-    pub fn new(width: usize, levels: usize) -> Result<Self, Question> {
-        let mut store = vec![0; store_length(width, levels)];
-        let state = Writer::new(width, levels, &mut store)?.state();
-        Ok(OwnedWriter { state, store, row: vec![0; width.div_ceil(2)] })
+    /// A writer of maps of that shape, whose height it does not read.
+    pub fn new(shape: Shape) -> Result<Self, Question> {
+        let mut store = vec![0; store_length(shape)];
+        let state = Writer::new(shape, &mut store)?.state();
+        Ok(OwnedWriter { state, store, row: vec![0; shape.width.div_ceil(2)] })
     }
 
     /// As [`Writer::resume`].
@@ -89,11 +89,11 @@ pub struct OwnedReader {
 }
 
 impl OwnedReader {
-    /// A reader of a map of that size.
-    pub fn new(width: usize, height: usize, levels: usize) -> Result<Self, Question> {
-        let mut store = vec![0; store_length(width, levels)];
-        let state = Reader::new(width, height, levels, &mut store)?.state();
-        Ok(OwnedReader { state, store, row: vec![0; width] })
+    /// A reader of a map of that shape.
+    pub fn new(shape: Shape) -> Result<Self, Question> {
+        let mut store = vec![0; store_length(shape)];
+        let state = Reader::new(shape, &mut store)?.state();
+        Ok(OwnedReader { state, store, row: vec![0; shape.width] })
     }
 
     /// As [`Reader::resume`].

@@ -52,7 +52,7 @@ impl Question {
             (5, Call::Line) => "the output is shorter than the line",
             (5, Call::Profile) => "the output is shorter than the row",
             (5, Call::WriterSetUp | Call::ReaderSetUp) => {
-                "the line store is too short: lend it store_length(width, levels) numbers"
+                "the line store is too short: lend it store_length(shape) numbers"
             }
             (5, Call::MapForward | Call::MapBackward) => {
                 "heights, plane or work area is shorter than width times height"

@@ -8,13 +8,24 @@
 /// A writer or reader as the library keeps it. Any numbers may be lent: those that are no state of the call's kind are answered by 1.
 pub type State = [u64; 16];
 
+use crate::Shape;
+
 mod c {
+    use super::Shape;
+
     extern "C" {
         pub fn terrain_version() -> u32;
-        pub fn terrain_line_forward(line: *const i32, line_len: usize, out: *mut i32, out_len: usize) -> u32;
+        pub fn terrain_line_forward(
+            line: *const i32,
+            line_len: usize,
+            start: usize,
+            out: *mut i32,
+            out_len: usize,
+        ) -> u32;
         pub fn terrain_line_backward(
             coefficients: *const i32,
             coefficients_len: usize,
+            start: usize,
             out: *mut i32,
             out_len: usize,
         ) -> u32;
@@ -37,9 +48,7 @@ mod c {
         pub fn terrain_map_forward(
             heights: *const u16,
             heights_len: usize,
-            width: usize,
-            height: usize,
-            levels: usize,
+            shape: Shape,
             plane: *mut i32,
             plane_len: usize,
             work: *mut i32,
@@ -48,9 +57,7 @@ mod c {
         pub fn terrain_map_backward(
             plane: *const i32,
             plane_len: usize,
-            width: usize,
-            height: usize,
-            levels: usize,
+            shape: Shape,
             heights: *mut u16,
             heights_len: usize,
             work: *mut i32,
@@ -58,23 +65,15 @@ mod c {
         ) -> u32;
         pub fn terrain_band_row(
             plane_len: usize,
-            width: usize,
-            height: usize,
-            levels: usize,
+            shape: Shape,
             level: usize,
             band: usize,
             row: usize,
             start: *mut usize,
             length: *mut usize,
         ) -> u32;
-        pub fn terrain_store_length(width: usize, levels: usize) -> usize;
-        pub fn terrain_writer_set_up(
-            state: *mut [u64; 16],
-            width: usize,
-            levels: usize,
-            store: *mut i32,
-            store_len: usize,
-        ) -> u32;
+        pub fn terrain_store_length(shape: Shape) -> usize;
+        pub fn terrain_writer_set_up(state: *mut [u64; 16], shape: Shape, store: *mut i32, store_len: usize) -> u32;
         pub fn terrain_writer_offer(
             state: *mut [u64; 16],
             store: *mut i32,
@@ -93,14 +92,7 @@ mod c {
         ) -> u32;
         pub fn terrain_writer_waits(state: *const [u64; 16], row: *mut [u64; 4]) -> u32;
         pub fn terrain_writer_finish(state: *mut [u64; 16], store: *mut i32, store_len: usize) -> u32;
-        pub fn terrain_reader_set_up(
-            state: *mut [u64; 16],
-            width: usize,
-            height: usize,
-            levels: usize,
-            store: *mut i32,
-            store_len: usize,
-        ) -> u32;
+        pub fn terrain_reader_set_up(state: *mut [u64; 16], shape: Shape, store: *mut i32, store_len: usize) -> u32;
         pub fn terrain_reader_want(state: *const [u64; 16], want: *mut [u64; 5]) -> u32;
         pub fn terrain_reader_feed(
             state: *mut [u64; 16],
@@ -127,12 +119,12 @@ pub fn version() -> u32 {
     unsafe { c::terrain_version() }
 }
 
-pub fn line_forward(line: &[i32], out: &mut [i32]) -> u32 {
-    unsafe { c::terrain_line_forward(line.as_ptr(), line.len(), out.as_mut_ptr(), out.len()) }
+pub fn line_forward(line: &[i32], start: usize, out: &mut [i32]) -> u32 {
+    unsafe { c::terrain_line_forward(line.as_ptr(), line.len(), start, out.as_mut_ptr(), out.len()) }
 }
 
-pub fn line_backward(coefficients: &[i32], out: &mut [i32]) -> u32 {
-    unsafe { c::terrain_line_backward(coefficients.as_ptr(), coefficients.len(), out.as_mut_ptr(), out.len()) }
+pub fn line_backward(coefficients: &[i32], start: usize, out: &mut [i32]) -> u32 {
+    unsafe { c::terrain_line_backward(coefficients.as_ptr(), coefficients.len(), start, out.as_mut_ptr(), out.len()) }
 }
 
 pub fn profile(row: &[u16], out: &mut [f32]) -> u32 {
@@ -147,51 +139,34 @@ pub fn picture_row(heights: &[u16], from: usize, out: &mut [u8]) -> usize {
     unsafe { c::terrain_picture_row(heights.as_ptr(), heights.len(), from, out.as_mut_ptr(), out.len()) }
 }
 
-pub fn map_forward(
-    heights: &[u16],
-    width: usize,
-    height: usize,
-    levels: usize,
-    plane: &mut [i32],
-    work: &mut [i32],
-) -> u32 {
+pub fn map_forward(heights: &[u16], shape: Shape, plane: &mut [i32], work: &mut [i32]) -> u32 {
     let (from, to, between) = (heights.as_ptr(), plane.as_mut_ptr(), work.as_mut_ptr());
-    unsafe { c::terrain_map_forward(from, heights.len(), width, height, levels, to, plane.len(), between, work.len()) }
+    unsafe { c::terrain_map_forward(from, heights.len(), shape, to, plane.len(), between, work.len()) }
 }
 
-pub fn map_backward(
-    plane: &[i32],
-    width: usize,
-    height: usize,
-    levels: usize,
-    heights: &mut [u16],
-    work: &mut [i32],
-) -> u32 {
+pub fn map_backward(plane: &[i32], shape: Shape, heights: &mut [u16], work: &mut [i32]) -> u32 {
     let (from, to, between) = (plane.as_ptr(), heights.as_mut_ptr(), work.as_mut_ptr());
-    unsafe { c::terrain_map_backward(from, plane.len(), width, height, levels, to, heights.len(), between, work.len()) }
+    unsafe { c::terrain_map_backward(from, plane.len(), shape, to, heights.len(), between, work.len()) }
 }
 
-#[allow(clippy::too_many_arguments)]
 pub fn band_row(
     plane_len: usize,
-    width: usize,
-    height: usize,
-    levels: usize,
+    shape: Shape,
     level: usize,
     band: usize,
     row: usize,
     start: &mut usize,
     length: &mut usize,
 ) -> u32 {
-    unsafe { c::terrain_band_row(plane_len, width, height, levels, level, band, row, start, length) }
+    unsafe { c::terrain_band_row(plane_len, shape, level, band, row, start, length) }
 }
 
-pub fn store_length(width: usize, levels: usize) -> usize {
-    unsafe { c::terrain_store_length(width, levels) }
+pub fn store_length(shape: Shape) -> usize {
+    unsafe { c::terrain_store_length(shape) }
 }
 
-pub fn writer_set_up(state: &mut State, width: usize, levels: usize, store: &mut [i32]) -> u32 {
-    unsafe { c::terrain_writer_set_up(state, width, levels, store.as_mut_ptr(), store.len()) }
+pub fn writer_set_up(state: &mut State, shape: Shape, store: &mut [i32]) -> u32 {
+    unsafe { c::terrain_writer_set_up(state, shape, store.as_mut_ptr(), store.len()) }
 }
 
 pub fn writer_offer(state: &mut State, store: &mut [i32], run: &[u16], taken: &mut usize) -> u32 {
@@ -210,8 +185,8 @@ pub fn writer_finish(state: &mut State, store: &mut [i32]) -> u32 {
     unsafe { c::terrain_writer_finish(state, store.as_mut_ptr(), store.len()) }
 }
 
-pub fn reader_set_up(state: &mut State, width: usize, height: usize, levels: usize, store: &mut [i32]) -> u32 {
-    unsafe { c::terrain_reader_set_up(state, width, height, levels, store.as_mut_ptr(), store.len()) }
+pub fn reader_set_up(state: &mut State, shape: Shape, store: &mut [i32]) -> u32 {
+    unsafe { c::terrain_reader_set_up(state, shape, store.as_mut_ptr(), store.len()) }
 }
 
 pub fn reader_want(state: &State, want: &mut [u64; 5]) -> u32 {

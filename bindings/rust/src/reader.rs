@@ -1,6 +1,6 @@
 //! Band rows in, heights out.
 use crate::raw::{self, State};
-use crate::{BandRow, Call, Question};
+use crate::{BandRow, Call, Question, Shape};
 
 /// What a reader wants next.
 #[derive(Clone, Copy, Debug, PartialEq, Eq, Hash)]
@@ -23,10 +23,10 @@ pub struct Reader<'s> {
 }
 
 impl<'s> Reader<'s> {
-    /// A reader of a map of that size. The store has at least [`crate::store_length`] numbers; what stood in them is lost.
-    pub fn new(width: usize, height: usize, levels: usize, store: &'s mut [i32]) -> Result<Self, Question> {
+    /// A reader of a map of that shape. The store has at least [`crate::store_length`] numbers; what stood in them is lost.
+    pub fn new(shape: Shape, store: &'s mut [i32]) -> Result<Self, Question> {
         let mut state = [0; 16];
-        Question::of(Call::ReaderSetUp, raw::reader_set_up(&mut state, width, height, levels, store))?;
+        Question::of(Call::ReaderSetUp, raw::reader_set_up(&mut state, shape, store))?;
         Ok(Reader { state, store })
     }
 

@@ -1,6 +1,6 @@
 //! Heights in, band rows out.
 use crate::raw::{self, State};
-use crate::{BandRow, Call, Question};
+use crate::{BandRow, Call, Question, Shape};
 
 /// A writer and the line store lent to it.
 #[derive(Debug)]
@@ -10,10 +10,11 @@ pub struct Writer<'s> {
 }
 
 impl<'s> Writer<'s> {
-    /// A writer of maps of that width. The store has at least [`crate::store_length`] numbers; what stood in them is lost.
-    pub fn new(width: usize, levels: usize, store: &'s mut [i32]) -> Result<Self, Question> {
+    /// A writer of maps of that shape, whose height it does not read: the map has the rows that are offered before the finish. The store has at
+    /// least [`crate::store_length`] numbers; what stood in them is lost.
+    pub fn new(shape: Shape, store: &'s mut [i32]) -> Result<Self, Question> {
         let mut state = [0; 16];
-        Question::of(Call::WriterSetUp, raw::writer_set_up(&mut state, width, levels, store))?;
+        Question::of(Call::WriterSetUp, raw::writer_set_up(&mut state, shape, store))?;
         Ok(Writer { state, store })
     }
 

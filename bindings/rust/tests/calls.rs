@@ -14,9 +14,9 @@ fn draw_all(writer: &mut Writer, line: &mut [i32], rows: &mut HashMap<BandRow, V
 
 /// The rows of a map through a writer, in offers of `cut` heights.
 fn rows_of(heights: &[u16], s: Shape, cut: usize) -> HashMap<BandRow, Vec<i32>> {
-    let mut store = vec![7; store_length(s.width, s.levels) + 3];
+    let mut store = vec![7; store_length(s) + 3];
     let (mut line, mut rows) = (vec![0; s.width], HashMap::new());
-    let mut writer = Writer::new(s.width, s.levels, &mut store).unwrap();
+    let mut writer = Writer::new(s, &mut store).unwrap();
     let mut rest = heights;
     while !rest.is_empty() {
         let taken = writer.offer(&rest[..cut.min(rest.len())]).unwrap();
@@ -30,8 +30,8 @@ fn rows_of(heights: &[u16], s: Shape, cut: usize) -> HashMap<BandRow, Vec<i32>> 
 }
 
 fn heights_of(rows: &HashMap<BandRow, Vec<i32>>, s: Shape) -> Result<Vec<u16>, Question> {
-    let mut store = vec![0; store_length(s.width, s.levels)];
-    let mut reader = Reader::new(s.width, s.height, s.levels, &mut store)?;
+    let mut store = vec![0; store_length(s)];
+    let mut reader = Reader::new(s, &mut store)?;
     let (mut line, mut heights) = (vec![0; s.width], Vec::new());
     loop {
         match reader.want()? {
@@ -47,7 +47,7 @@ fn heights_of(rows: &HashMap<BandRow, Vec<i32>>, s: Shape) -> Result<Vec<u16>, Q
 fn writer_reader_and_whole_map_agree() {
     for (width, height) in [(1, 1), (1, 4), (4, 1), (2, 2), (5, 3), (9, 17), (33, 20)] {
         for levels in 1..=MAX_LEVELS {
-            let s = Shape { width, height, levels };
+            let s = Shape::new(width, height, levels);
             let heights = map(width, height);
             let n = width * height;
             let (mut plane, mut work) = (vec![0; n], vec![1; n]);
@@ -71,10 +71,10 @@ fn writer_reader_and_whole_map_agree() {
 /// Saved after every call, and on from the copy: the same rows and the same heights.
 #[test]
 fn a_stream_is_its_numbers_and_its_store() {
-    let s = Shape { width: 5, height: 9, levels: 2 };
+    let s = Shape::new(5, 9, 2);
     let heights = map(s.width, s.height);
-    let mut store = vec![0; store_length(s.width, s.levels)];
-    let writer = Writer::new(s.width, s.levels, &mut store).unwrap();
+    let mut store = vec![0; store_length(s)];
+    let writer = Writer::new(s, &mut store).unwrap();
     let (mut state, mut saved) = (writer.state(), writer.store().to_vec());
     let (mut line, mut rows, mut taken) = (vec![0; s.width], HashMap::new(), 0);
     loop {
@@ -91,7 +91,7 @@ fn a_stream_is_its_numbers_and_its_store() {
     }
     assert_eq!(rows, rows_of(&heights, s, 1));
 
-    let reader = Reader::new(s.width, s.height, s.levels, &mut store).unwrap();
+    let reader = Reader::new(s, &mut store).unwrap();
     let (mut state, mut saved) = (reader.state(), reader.store().to_vec());
     let (mut line, mut again) = (vec![0; s.width], Vec::new());
     loop {
@@ -112,11 +112,11 @@ fn a_stream_is_its_numbers_and_its_store() {
 #[test]
 fn a_line() {
     let (mut out, mut again) = ([0; 5], [0; 5]);
-    line_forward(&[1, 4, 2, 7, 3], &mut out).unwrap();
+    line_forward(&[1, 4, 2, 7, 3], 0, &mut out).unwrap();
     assert_eq!(out, [3, 4, 6, 3, 5]);
-    line_backward(&out, &mut again).unwrap();
+    line_backward(&out, 0, &mut again).unwrap();
     assert_eq!(again, [1, 4, 2, 7, 3]);
-    assert_eq!(line_forward(&[1, 2], &mut out[..1]).unwrap_err().number, 5);
+    assert_eq!(line_forward(&[1, 2], 0, &mut out[..1]).unwrap_err().number, 5);
 }
 
 #[test]
@@ -132,14 +132,17 @@ fn a_profile() {
 fn the_questions() {
     let number = |e: Question| e.number;
     let mut store = [0; 40];
-    assert_eq!(Writer::new(0, 1, &mut store).unwrap_err().number, 2);
-    assert_eq!(Reader::new(1, MAX_HEIGHT + 1, 1, &mut store).unwrap_err().number, 3);
-    assert_eq!(Writer::new(1, 6, &mut store).unwrap_err().number, 4);
-    assert_eq!(Writer::new(3, 2, &mut store[..19]).unwrap_err().number, 5);
-    assert_eq!((store_length(3, 2), store_length(2_050, 1), store_length(3, 0)), (20, 0, 0));
+    assert_eq!(Writer::new(Shape::new(0, 1, 1), &mut store).unwrap_err().number, 2);
+    assert_eq!(Reader::new(Shape::new(1, MAX_HEIGHT + 1, 1), &mut store).unwrap_err().number, 3);
+    assert_eq!(Writer::new(Shape::new(1, 1, 6), &mut store).unwrap_err().number, 4);
+    assert_eq!(Writer::new(Shape::new(3, 1, 2), &mut store[..19]).unwrap_err().number, 5);
+    assert_eq!(
+        (store_length(Shape::new(3, 1, 2)), store_length(Shape::new(2_050, 1, 1)), store_length(Shape::new(3, 1, 0))),
+        (20, 0, 0)
+    );
 
     let (mut line, mut heights) = ([0; 3], [0; 3]);
-    let mut writer = Writer::new(3, 1, &mut store).unwrap();
+    let mut writer = Writer::new(Shape::new(3, 1, 1), &mut store).unwrap();
     assert_eq!(writer.finish().map_err(number), Err(11));
     assert_eq!(writer.offer(&[1, 2]), Ok(2));
     assert_eq!(writer.finish().map_err(number), Err(11));
@@ -150,11 +153,11 @@ fn the_questions() {
     assert_eq!(writer.draw(&mut line[..1]).map_err(number), Err(12));
     let row = BandRow { level: 1, band: Band::Ll, row: 0, length: 2 };
     assert_eq!(writer.draw(&mut line), Ok(Some((row, &[1, 3][..]))));
-    let mut writer = Writer::new(1, 1, &mut store).unwrap();
+    let mut writer = Writer::new(Shape::new(1, 1, 1), &mut store).unwrap();
     assert_eq!(writer.offer(&[1, 2, 3, 4]), Ok(3));
     assert_eq!(writer.offer(&[4]).map_err(number), Err(8));
 
-    let mut reader = Reader::new(1, 1, 1, &mut store).unwrap();
+    let mut reader = Reader::new(Shape::new(1, 1, 1), &mut store).unwrap();
     assert_eq!(reader.draw(&mut heights), Ok(None));
     assert_eq!(reader.feed(&[1, 2]).map_err(number), Err(13));
     assert_eq!(reader.feed(&[262_141]).map_err(number), Err(7));
@@ -164,13 +167,13 @@ fn the_questions() {
     assert_eq!(reader.draw(&mut heights), Ok(Some(&[9][..])));
     assert_eq!(reader.want(), Ok(Want::Done));
 
-    let mut reader = Reader::new(1, 1, 1, &mut store).unwrap();
+    let mut reader = Reader::new(Shape::new(1, 1, 1), &mut store).unwrap();
     assert_eq!(reader.feed(&[65_536]).map_err(number), Err(14));
     assert_eq!(reader.want(), Ok(Want::Ended));
     assert_eq!(reader.feed(&[1]).map_err(number), Err(9));
     assert_eq!(reader.draw(&mut heights).map_err(number), Err(9));
 
-    let s = Shape { width: 2, height: 1, levels: 1 };
+    let s = Shape::new(2, 1, 1);
     assert_eq!(view(&[0; 2], s, 1, Band::Hl, 0), Ok(&[0][..]));
     assert_eq!(view(&[0; 2], s, 1, Band::Lh, 0).map_err(number), Err(6));
     assert_eq!(view(&[0; 1], s, 1, Band::Hl, 0).map_err(number), Err(5));
@@ -178,10 +181,10 @@ fn the_questions() {
 
 #[test]
 fn a_question_prints_a_sentence() {
-    let e = Writer::new(0, 1, &mut []).unwrap_err();
+    let e = Writer::new(Shape::new(0, 1, 1), &mut []).unwrap_err();
     assert_eq!(e.to_string(), "the width is not 1 to 2,049 (question 2)");
     let mut store = [0; 8];
-    let mut reader = Reader::new(1, 1, 1, &mut store).unwrap();
+    let mut reader = Reader::new(Shape::new(1, 1, 1), &mut store).unwrap();
     let e: Box<dyn std::error::Error> = Box::new(reader.feed(&[]).unwrap_err());
     assert_eq!(e.to_string(), "the run has not exactly the length of the band row that is wanted (question 13)");
     reader.feed(&[1]).unwrap();

@@ -16,7 +16,7 @@ fn draw_all(writer: &mut OwnedWriter, rows: &mut HashMap<BandRow, Vec<i32>>) {
 
 /// The rows of a map, and the writer as it was when half of the heights were taken.
 fn rows_of(heights: &[u16], s: Shape) -> (HashMap<BandRow, Vec<i32>>, OwnedWriter) {
-    let (mut writer, mut rows) = (OwnedWriter::new(s.width, s.levels).unwrap(), HashMap::new());
+    let (mut writer, mut rows) = (OwnedWriter::new(s).unwrap(), HashMap::new());
     let (mut taken, mut half) = (0, writer.clone());
     while taken < heights.len() {
         taken += writer.offer(&heights[taken..]).unwrap();
@@ -46,7 +46,7 @@ fn heights_of(rows: &HashMap<BandRow, Vec<i32>>, reader: &mut OwnedReader) -> Ve
 fn there_and_back() {
     for (width, height) in [(1, 1), (4, 1), (5, 3), (33, 20)] {
         for levels in 1..=MAX_LEVELS {
-            let s = Shape { width, height, levels };
+            let s = Shape::new(width, height, levels);
             let (heights, n) = (map(width, height), width * height);
             let (mut plane, mut work) = (vec![0; n], vec![0; n]);
             map_forward(&heights, s, &mut plane, &mut work).unwrap();
@@ -54,7 +54,7 @@ fn there_and_back() {
             for (r, values) in &rows {
                 assert_eq!(view(&plane, s, r.level, r.band, r.row).unwrap(), values, "{s:?} {r:?}");
             }
-            let mut reader = OwnedReader::new(width, height, levels).unwrap();
+            let mut reader = OwnedReader::new(s).unwrap();
             assert_eq!(heights_of(&rows, &mut reader.clone()), heights, "{s:?}");
             assert_eq!(heights_of(&rows, &mut reader), heights, "{s:?}");
             // on from a copy of the numbers
@@ -66,8 +66,8 @@ fn there_and_back() {
 
 #[test]
 fn a_saved_writer_goes_on() {
-    let (s, heights) = (Shape { width: 5, height: 9, levels: 2 }, map(5, 9));
-    let mut writer = OwnedWriter::new(s.width, s.levels).unwrap();
+    let (s, heights) = (Shape::new(5, 9, 2), map(5, 9));
+    let mut writer = OwnedWriter::new(s).unwrap();
     let (mut taken, mut rows) = (0, HashMap::new());
     while taken < heights.len() {
         taken += writer.offer(&heights[taken..]).unwrap();
@@ -81,12 +81,12 @@ fn a_saved_writer_goes_on() {
 
 #[test]
 fn the_questions() {
-    assert_eq!(OwnedWriter::new(0, 1).unwrap_err().number, 2);
-    assert_eq!(OwnedWriter::new(1, 6).unwrap_err().number, 4);
-    assert_eq!(OwnedReader::new(1, 0, 1).unwrap_err().number, 3);
-    assert_eq!(OwnedReader::new(usize::MAX, 1, 1).unwrap_err().number, 2);
+    assert_eq!(OwnedWriter::new(Shape::new(0, 1, 1)).unwrap_err().number, 2);
+    assert_eq!(OwnedWriter::new(Shape::new(1, 1, 6)).unwrap_err().number, 4);
+    assert_eq!(OwnedReader::new(Shape::new(1, 0, 1)).unwrap_err().number, 3);
+    assert_eq!(OwnedReader::new(Shape::new(usize::MAX, 1, 1)).unwrap_err().number, 2);
     assert_eq!(OwnedReader::resume([0; 16], Vec::new()).want().unwrap_err().number, 1);
-    let mut reader = OwnedReader::new(1, 1, 1).unwrap();
+    let mut reader = OwnedReader::new(Shape::new(1, 1, 1)).unwrap();
     assert_eq!(reader.draw(), Ok(None));
     assert_eq!(reader.feed(&[65_536]).unwrap_err().number, 14);
     assert_eq!(reader.with(|reader| reader.want()), Ok(Want::Ended));

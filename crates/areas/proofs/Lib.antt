@@ -1,4 +1,5 @@
 pub mod AreaLaws
-pub mod HeightLaws
-pub mod WeaveLaws
 pub mod PartLaws
+pub mod WeaveLaws
+pub mod HeightLaws
+pub mod Splices

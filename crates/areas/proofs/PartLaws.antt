@@ -1,57 +1,143 @@
--- A line laid in halves: what each of the two passes leaves at a place, a turn of the second, and what they come to together. Assumes nothing.
-use mathlib.Core.Path.{_≡_, sym, ap, _∙_}
+-- A row in halves whose line starts at any coordinate: its even places are one half and its odd places the other, whichever these are. Assumes nothing.
+use mathlib.Core.Path.{_≡_, refl, sym, ap, _∙_, subst}
 use mathlib.Core.List.{List}
-use Prim.Native.Nat.{ℕ, _+_, _-_, _*_, _≤_, _<_}
+use Prim.Native.Nat.{ℕ, _+_, _-_, _*_, _/_, _%_, _≤_, _<_}
+use native.Mathlib.Decide.{ℕ-discrete}
 use native.Mathlib.Omega.{arith}
 use lib.IntN.{ℤ}
 use lib.ListN.{set}
 use Rattle.numbers.specs.Signal.{spliced}
 use Rattle.numbers.proofs.Sweep.{Swept, store}
 use Rattle.numbers.proofs.Parts.{splice-below, splice-in, splice-past}
-use Rattle.lifting.specs.Line.{lo, hi, count, parted}
-use Rattle.lifting.specs.Halves.{inHalves, fronted}
-use Rattle.lifting.proofs.LineLaws.{counts, halves-are}
-use Rattle.areas.proofs.AreaLaws.{front-at, front-rest}
+use Rattle.lifting.specs.Line.{Half, lo, hi}
+use Rattle.lifting.specs.Grid.{Side, half, count, place, parted, joined}
+use Rattle.lifting.specs.GridHalves.{halvesOf, inHalves, partedInto}
+use Rattle.lifting.proofs.GridLaws.{count-lo, count-hi, half-even, half-odd, halves-are}
+use Rattle.areas.specs.Areas.{begins}
 
--- ---- a line x of N numbers laid in halves in memory z: its even places at the front, and its odd places after them
-module _ (N : ℕ) (x z : ℕ → ℤ) where
-  abbrev evensLaid : ℕ → ℤ
-  evensLaid = fronted (count lo N) (parted x lo) z
+-- ---- m numbers f laid in memory z from place a on
+module _ (a m : ℕ) (f z : ℕ → ℤ) where
+  splice-at : (p n : ℕ) → p ≡ a + n → n < m → spliced a m f z p ≡ f n
+  splice-at p n e h = splice-in a m f z p (omega arith) (omega arith) ∙ ap f (omega arith)
 
-  abbrev oddsLaid : ℕ → ℤ
-  oddsLaid = spliced (count lo N) (count hi N) (parted x hi) z
+  -- a turn of the loop that does it
+  pub splice-turn : (L n : ℕ) (l : List ℤ) → n < m → a + m ≤ L → Swept L (spliced a m f z) z (a + n) l →
+      Swept L (spliced a m f z) z (a + (n + 1)) (set l (a + n) (f n))
+  splice-turn L n l h room sw =
+      subst (λ (k : ℕ). Swept L (spliced a m f z) z k (set l (a + n) (f n))) (omega arith) (store (f n) sw (omega arith) (sym (splice-at (a + n) n refl h)))
 
-  pub evens-in : (j : ℕ) → j < count lo N → evensLaid j ≡ x (2 * j)
-  unfolding parted
-  evens-in j h = front-at (count lo N) (parted x lo) z j h
+-- ---- the halves of a line
+module _ (S : Side) where
+  -- the half of the even places, and of the odd ones
+  abbrev pub evens : Half
+  evens = half (S .start)
 
-  pub odds-low : (j : ℕ) → j < count lo N → oddsLaid j ≡ z j
-  odds-low j h = splice-below (count lo N) (count hi N) (parted x hi) z j h
+  abbrev pub odds : Half
+  odds = half (S .start + 1)
 
-  odds-high : (n : ℕ) → n < count hi N → oddsLaid (count lo N + n) ≡ x (2 * n + 1)
-  unfolding parted
-  odds-high n h =
-      let k : count lo N + n - count lo N ≡ n = omega arith in
-      splice-in (count lo N) (count hi N) (parted x hi) z (count lo N + n) (omega arith) (omega arith) ∙ ap (parted x hi) k
+  by-parity : (P : Half → Half → Type 0) → (S .start % 2 ≡ 0 → P lo hi) → (S .start % 2 ≡ 1 → P hi lo) → P evens odds
+  by-parity P f g =
+      elim (ℕ-discrete (S .start % 2) 0) [
+        | yes e ↦ rw (half-even (S .start) e, half-odd (S .start + 1) (omega arith)) (f e)
+        | no d ↦ rw (half-odd (S .start) (omega arith), half-even (S .start + 1) (omega arith)) (g (omega arith))
+      ]
 
-  pub odds-past : (j : ℕ) → N ≤ j → oddsLaid j ≡ z j
-  odds-past j h = let both = counts N in splice-past (count lo N) (count hi N) (parted x hi) z j (omega arith)
+  -- where they begin in the row
+  pub evens-first : S .start % 2 ≡ 0 → 0 ≡ begins S evens
+  unfolding begins
+  evens-first e = rw (half-even (S .start) e) refl
 
-  -- a turn of the second loop, whose places begin at low
-  pub odds-turn : (L low n : ℕ) (l : List ℤ) → low ≡ count lo N → n < count hi N → N ≤ L → Swept L oddsLaid z (low + n) l →
-      Swept L oddsLaid z (low + (n + 1)) (set l (low + n) (x (2 * n + 1)))
-  odds-turn L low n l e h fit sw =
-      let both = counts N in
-      let k : low + n + 1 ≡ low + (n + 1) = omega arith in
-      rw k at (store (x (2 * n + 1)) sw (omega arith) (rw e (sym (odds-high n h))))
+  pub odds-last : S .start % 2 ≡ 0 → S .length - S .length / 2 ≡ begins S odds
+  unfolding begins
+  odds-last e = rw (half-odd (S .start + 1) (omega arith)) (sym (count-lo S e))
 
-pub parted-is : (N : ℕ) (x z : ℕ → ℤ) → inHalves N (parted x) z ≡
-    spliced (count lo N) (count hi N) (parted x hi) (fronted (count lo N) (parted x lo) z)
-unfolding parted
-parted-is N x z =
-    let sum = counts N in
-    let w = fronted (count lo N) (parted x lo) z in
-    halves-are N (parted x) z _
-    (λ n h. sym (odds-low N x w n h ∙ evens-in N x z n h))
-    (λ n h. sym (odds-high N x w n h))
-    (λ j h. sym (odds-past N x w j h ∙ front-rest (count lo N) (parted x lo) z j (omega arith)))
+  pub evens-last : S .start % 2 ≡ 1 → S .length / 2 ≡ begins S evens
+  unfolding begins
+  evens-last e = rw (half-odd (S .start) e) (sym (count-hi S e))
+
+  pub odds-first : S .start % 2 ≡ 1 → 0 ≡ begins S odds
+  unfolding begins
+  odds-first e = rw (half-even (S .start + 1) (omega arith)) refl
+
+  -- each half within the row
+  pub evens-fit : begins S evens + (S .length - S .length / 2) ≤ S .length
+  unfolding begins count
+  evens-fit = by-parity (λ e o. begins S e + (S .length - S .length / 2) ≤ S .length) (λ z. omega arith) (λ z. omega arith)
+
+  pub odds-fit : begins S odds + S .length / 2 ≤ S .length
+  unfolding begins count
+  odds-fit = by-parity (λ e o. begins S o + S .length / 2 ≤ S .length) (λ z. omega arith) (λ z. omega arith)
+
+  pub evens-within : (a : ℕ) → a ≡ begins S evens → a + (S .length - S .length / 2) ≤ S .length
+  evens-within a e = rw e evens-fit
+
+  pub odds-within : (b : ℕ) → b ≡ begins S odds → b + S .length / 2 ≤ S .length
+  odds-within b e = rw e odds-fit
+
+  -- the numbers of a half, by their place in the row
+  pub half-at : (y : ℕ → ℤ) (h : Half) (n : ℕ) → halvesOf S y h n ≡ y (begins S h + n)
+  unfolding halvesOf begins
+  half-at y lo n = ap y (omega arith)
+  half-at y hi n = refl
+
+  -- the places of a line, by its halves
+  pub even-place : (p : Half → ℕ → ℤ) (j : ℕ) → joined S p (2 * j) ≡ p evens j
+  unfolding joined half
+  even-place p j =
+      let e : (S .start + 2 * j) % 2 ≡ S .start % 2 = omega arith in
+      let k : 2 * j / 2 ≡ j = omega arith in
+      rw (e, k) refl
+
+  pub odd-place : (p : Half → ℕ → ℤ) (j : ℕ) → joined S p (2 * j + 1) ≡ p odds j
+  unfolding joined half
+  odd-place p j =
+      let e : (S .start + (2 * j + 1)) % 2 ≡ (S .start + 1) % 2 = omega arith in
+      let k : (2 * j + 1) / 2 ≡ j = omega arith in
+      rw (e, k) refl
+
+-- what a loop over the pairs of a row at place `from` knows of where its even and its odd places begin
+pub record Halves (S : Side) (from e o : ℕ) : Type 0 where
+  pub even : e ≡ from + begins S (evens S)
+  pub odd : o ≡ from + begins S (odds S)
+  pub even-fits : e + (S .length - S .length / 2) ≤ from + S .length
+  pub odd-fits : o + S .length / 2 ≤ from + S .length
+
+pub halves-of : (S : Side) (from e o : ℕ) → e ≡ from + begins S (evens S) → o ≡ from + begins S (odds S) → Halves S from e o
+halves-of S from e o i j =
+    let h = evens-fit S in
+    let k = odds-fit S in
+    record { even = i; odd = j; even-fits = omega arith; odd-fits = omega arith }
+
+-- ---- a line x laid in halves in memory z: its even places first, then its odd places
+module _ (S : Side) (x z : ℕ → ℤ) where
+  abbrev evensLaid : Half → ℕ → ℤ
+  evensLaid e = spliced (begins S e) (S .length - S .length / 2) (λ j. x (2 * j)) z
+
+  abbrev bothLaid : Half → Half → ℕ → ℤ
+  bothLaid e o = spliced (begins S o) (S .length / 2) (λ j. x (2 * j + 1)) (evensLaid e)
+
+  from-even : S .start % 2 ≡ 0 → inHalves S (parted S x) z ≡ bothLaid lo hi
+  unfolding parted place begins count
+  from-even e =
+      let N = S .length in
+      let low = (N + 1 - S .start % 2) / 2 in
+      halves-are S (parted S x) z _
+      (λ n h. ap x (omega arith)
+      ∙ sym (splice-below low (N / 2) _ _ n (omega arith) ∙ splice-at 0 (N - N / 2) (λ j. x (2 * j)) z n n (omega arith) (omega arith)))
+      (λ n h. ap x (omega arith) ∙ sym (splice-at low (N / 2) (λ j. x (2 * j + 1)) _ (low + n) n refl (omega arith)))
+      (λ j h. sym (splice-past low (N / 2) _ _ j (omega arith) ∙ splice-past 0 (N - N / 2) _ z j (omega arith)))
+
+  from-odd : S .start % 2 ≡ 1 → inHalves S (parted S x) z ≡ bothLaid hi lo
+  unfolding parted place begins count
+  from-odd e =
+      let N = S .length in
+      let low = (N + 1 - S .start % 2) / 2 in
+      halves-are S (parted S x) z _
+      (λ n h. ap x (omega arith) ∙ sym (splice-at 0 (N / 2) (λ j. x (2 * j + 1)) _ n n (omega arith) (omega arith)))
+      (λ n h. ap x (omega arith)
+      ∙ sym (splice-past 0 (N / 2) _ _ (low + n) (omega arith) ∙ splice-at low (N - N / 2) (λ j. x (2 * j)) z (low + n) n refl (omega arith)))
+      (λ j h. sym (splice-past 0 (N / 2) _ _ j (omega arith) ∙ splice-past low (N - N / 2) _ z j (omega arith)))
+
+  pub parted-is : partedInto S x z ≡ bothLaid (evens S) (odds S)
+  unfolding partedInto
+  parted-is = by-parity S (λ e o. inHalves S (parted S x) z ≡ bothLaid e o) from-even from-odd

@@ -1,9 +1,9 @@
 // The whole map, forward and back, against the second arithmetic.
 use second::area;
 use second::heights;
-use second::heights::Shape;
 use second::t800;
 use second::tally::Tally;
+use wavelet::shape::Shape;
 
 // Numbers that each area has more than it needs.
 const SURPLUS: usize = 3;
@@ -19,7 +19,7 @@ fn forward(
 ) -> u64 {
     area::mark(plane);
     area::mark(work);
-    let no = whole_map::forward(map, s.width, s.height, s.levels, plane, work);
+    let no = whole_map::forward(map, s, plane, work);
     let mut found = no as u64;
     found = area::sum(found, area::differences(plane, n, book, 0));
     found = area::sum(found, area::unmarked(plane, n));
@@ -38,7 +38,7 @@ fn backward(
 ) -> u64 {
     area::mark_heights(heights);
     area::mark(work);
-    let no = whole_map::backward(plane, s.width, s.height, s.levels, heights, work);
+    let no = whole_map::backward(plane, s, heights, work);
     let mut found = no as u64;
     found = area::sum(found, area::height_differences(heights, n, map, 0));
     found = area::sum(found, area::unmarked_heights(heights, n));

@@ -6,10 +6,10 @@ use reader::SetUp;
 use reader::Wanted;
 use second::area;
 use second::heights;
-use second::heights::Shape;
 use second::order;
 use second::t800;
 use second::tally::Tally;
+use wavelet::shape::Shape;
 
 const TURNS: usize = 100000;
 
@@ -160,9 +160,7 @@ fn feed_step(
     let a = feed_refusals(t.reader, plane, store, out);
     let run = wavelet::view::band_row(
         plane,
-        s.width,
-        s.height,
-        s.levels,
+        s,
         order::level_of(code),
         order::band_of(code),
         order::row_of(code),
@@ -357,7 +355,7 @@ fn read(
     plane: &[i32],
     store: &mut [i32],
 ) -> Tally {
-    match Reader::set_up(s.width, s.height, s.levels, store) {
+    match Reader::set_up(s, store) {
         SetUp::Ready(reader) => {
             let start = fresh(reader, s, i, total);
             let mut out = [0u16; 6160];
@@ -372,7 +370,7 @@ fn read(
 fn prepare(i: usize, s: Shape, map: &mut [u16], book: &mut [u64], plane: &mut [i32]) -> u8 {
     let mut work = [0i32; 6160];
     t800::prepare(i, map, book);
-    whole_map::forward(map, s.width, s.height, s.levels, plane, &mut work)
+    whole_map::forward(map, s, plane, &mut work)
 }
 
 // Map number i; the line store has no number more than it needs, and begins with marks in it.

@@ -1,10 +1,10 @@
 // The writer, its input cut in several ways, against the second arithmetic and the order of document 01.
 use second::area;
 use second::heights;
-use second::heights::Shape;
 use second::order;
 use second::t800;
 use second::tally::Tally;
+use wavelet::shape::Shape;
 use writer::BandRow;
 use writer::Drawn;
 use writer::Finished;
@@ -400,7 +400,7 @@ fn write(
     store: &mut [i32],
     out: &mut [i32],
 ) -> Tally {
-    match Writer::set_up(s.width, s.levels, store) {
+    match Writer::set_up(s, store) {
         SetUp::Ready(writer) => {
             let start = Turn {
                 writer,

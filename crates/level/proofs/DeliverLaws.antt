@@ -1,61 +1,155 @@
--- The LL row that goes to the next level, in pairs: its even numbers, and past them its odd ones. Assumes nothing.
-use mathlib.Core.Path.{_≡_, sym, ap, _∙_}
-use Prim.Native.Nat.{ℕ, _+_, _-_, _*_, _≤_, _<_}
+-- The LL row that goes to the next level: parted into its halves by pairs of numbers. Where it starts at an odd coordinate, the first of a pair is a high one.
+-- Assumes nothing.
+use mathlib.Core.Path.{_≡_, refl, sym, ap, _∙_}
+use Prim.Native.Nat.{ℕ, _+_, _-_, _*_, _/_, _%_, _≤_, _<_}
+use native.Mathlib.Decide.{ℕ-discrete}
 use native.Mathlib.Omega.{arith}
 use lib.IntN.{ℤ}
-use Rattle.numbers.specs.Signal.{spliced, stored}
-use Rattle.lifting.specs.Line.{lo, hi, count}
-use Rattle.lifting.proofs.LineLaws.{counts}
-use Rattle.wavelet.proofs.SizeLaws.{count-lo}
+use lib.Dec.{eqb}
+use borrow.Author.Tests.{eq-eqb, ne-eqb}
+use Rattle.numbers.specs.Signal.{pick, spliced, stored}
+use Rattle.lifting.specs.Line.{lo, hi}
+use Rattle.lifting.specs.Grid.{Side, side, place, count, parted}
+use Rattle.lifting.specs.GridHalves.{partedInto}
+use Rattle.lifting.proofs.GridLaws.{counts, count-lo, count-hi, halves-low, halves-high}
+use Rattle.wavelet.specs.Levels.{next}
+use Rattle.level.specs.Level.{rest}
 use Rattle.level.specs.FiveThreeLevel.{slot, rowPut, bandPlace}
 use Rattle.level.specs.Making.{separated, delivered}
-use Rattle.level.proofs.Places.{slot-room}
-use Rattle.level.proofs.RestLaws.{join-splice, splice-halves}
+use Rattle.level.proofs.RestLaws.{join-splice, first-second, second-first}
 use Rattle.level.proofs.PairLaws.{separated-below, separated-last}
 
-module _ (w n : ℕ) (x : ℕ → ℤ) where
+-- where the first number of a row in halves stands, and where the second
+module _ (start v o : ℕ) (eo : o ≡ pick (eqb (start % 2) 0) 0 (count lo (side start v))) where
+  pub first-even : start % 2 ≡ 0 → (o ≡ 0) × (count lo (side start v) ≡ v - v / 2)
+  first-even e = (eo ∙ simp (eq-eqb (start % 2) 0 e), count-lo (side start v) e)
+
+  pub first-odd : start % 2 ≡ 1 → (o ≡ v / 2) × (count lo (side start v) ≡ v / 2)
+  first-odd e =
+      let c = count-hi (side start v) e in
+      (eo ∙ simp (ne-eqb (start % 2) 0 (omega arith)) c, c)
+
+  pub record FirstAt (low : ℕ) : Type 0 where
+    pub within : o ≤ low
+    pub above : low ≤ v
+    pub apart : v / 2 ≤ (low - o - o) + (o - (low - o))
+    pub first-in : o + (v - v / 2) ≤ v
+    pub second-in : low - o + v / 2 ≤ v
+    -- the last number by itself is none of the seconds
+    pub last : 2 * (v / 2) < v → low - o ≤ o + v / 2 → low - o ≤ o
+
+  pub first-at : FirstAt (count lo (side start v))
+  first-at =
+      elim (ℕ-discrete (start % 2) 0) [
+        | yes e ↦
+            let t = first-even e in
+            record {
+              within = omega arith;
+              above = omega arith;
+              apart = omega arith;
+              first-in = omega arith;
+              second-in = omega arith;
+              last = λ g h. omega arith;
+            }
+        | no d ↦
+            let t = first-odd (omega (arith, d)) in
+            record {
+              within = omega arith;
+              above = omega arith;
+              apart = omega arith;
+              first-in = omega arith;
+              second-in = omega arith;
+              last = λ g h. omega arith;
+            }
+      ]
+
+-- the v numbers from place a on, a row that starts at coordinate `start`, parted from place b on
+module _ (a b start v : ℕ) (x : ℕ → ℤ) where
+  abbrev S : Side
+  S = side start v
+
   abbrev row : ℕ → ℤ
-  row i = x (slot w (2 * n) + i)
+  row i = x (a + i)
 
-  abbrev at : ℕ
-  at = 4 * w + slot (count lo w) n
+  abbrev E : ℕ → ℤ
+  E j = x (a + 2 * j)
 
-  -- the LL row, written straight into its place
-  written : delivered w n x
-      ≡ spliced (at + count lo (count lo w)) (count hi (count lo w)) (λ j. row (2 * j + 1)) (spliced at (count lo (count lo w)) (λ j. row (2 * j)) x)
-  unfolding delivered rowPut bandPlace
-  written =
-      join-splice (4 * w) (slot (count lo w) n) (count lo w) _ x
-      ∙ splice-halves at (count lo w) row _ x
+  abbrev O : ℕ → ℤ
+  O j = x (a + (2 * j + 1))
 
-  module _ (v low k from to : ℕ) (ev : v ≡ count lo w) (el : low ≡ count lo v) (ek : k ≡ v - low)
-      (ef : from ≡ slot w (2 * n)) (et : to ≡ 4 * w + slot v n) where
-    halved : spliced (to + low) k (λ j. x (from + (2 * j + 1))) (spliced to low (λ j. x (from + 2 * j)) x) ≡ delivered w n x
-    halved =
-        let both = counts (count lo w) in
-        let kt : to ≡ at = et ∙ ap (λ (u : ℕ). 4 * w + slot u n) ev in
-        let kl : low ≡ count lo (count lo w) = el ∙ ap (count lo) ev in
-        let kk : k ≡ count hi (count lo w) = omega arith in
-        rw (kt, kl, kk, ef) (sym written)
+  low-part : (z : ℕ → ℤ) (i : ℕ) → i < count lo S → partedInto S row z i ≡ row (2 * i + start % 2)
+  unfolding partedInto parted place
+  low-part z i h = halves-low S (parted S row) z i h
 
-    -- an even number of columns is pairs, an odd one has another after them
-    pub delivered-even : (x₁ : ℕ → ℤ) → low ≤ k → x₁ ≡ separated from to (to + low) k x → x₁ ≡ delivered w n x
-    unfolding separated
-    delivered-even x₁ h e =
-        let c = count-lo v in
-        let m : k ≡ low = omega arith in
-        e ∙ ap (λ (z : ℕ). spliced (to + low) k (λ j. x (from + (2 * j + 1))) (spliced to z (λ j. x (from + 2 * j)) x)) m ∙ halved
+  high-part : (z : ℕ → ℤ) (i : ℕ) → i < count hi S → partedInto S row z (count lo S + i) ≡ row (2 * i + (1 - start % 2))
+  unfolding partedInto parted place
+  high-part z i h =
+      let k : count lo S + i - count lo S ≡ i = omega arith in
+      halves-high S (parted S row) z (count lo S + i) (omega arith) (omega (arith, counts S)) ∙ ap (λ (n : ℕ). row (2 * n + (1 - start % 2))) k
 
-    pub delivered-odd : (x₁ x₂ : ℕ → ℤ) → k < low → x₁ ≡ separated from to (to + low) k x → x₂ ≡ stored (to + k) (x₁ (from + 2 * k)) x₁ → x₂ ≡ delivered w n x
-    delivered-odd x₁ x₂ h e e₂ =
-        let room = slot-room w (2 * n) in
-        let c₁ = count-lo w in
-        let c₂ = count-lo v in
-        let m : k + 1 ≡ low = omega arith in
-        let u : x₁ (from + 2 * k) ≡ x (from + 2 * k) =
-        ap (λ (y : ℕ → ℤ). y (from + 2 * k)) e ∙ separated-below from to (to + low) k x (from + 2 * k) (omega arith) (omega arith) in
-        e₂
-        ∙ rw u (ap (stored (to + k) (x (from + 2 * k))) e)
-        ∙ separated-last from to (to + low) k x (omega arith)
-        ∙ ap (λ (z : ℕ). spliced (to + low) k (λ j. x (from + (2 * j + 1))) (spliced to z (λ j. x (from + 2 * j)) x)) m
-        ∙ halved
+  module _ (o : ℕ) (eo : o ≡ pick (eqb (start % 2) 0) 0 (count lo S)) where
+    -- by firsts and seconds
+    parted-as : (z : ℕ → ℤ) → spliced (b + (count lo S - o)) (v / 2) O (spliced (b + o) (v - v / 2) E x) ≡ spliced b v (partedInto S row z) x
+    parted-as z =
+        let sum = counts S in
+        elim (ℕ-discrete (start % 2) 0) [
+          | yes e ↦
+              let t = first-even start v o eo e in
+              let f : b + o ≡ b = omega arith in
+              let g : b + (count lo S - o) ≡ b + count lo S = omega arith in
+              let k : v - v / 2 ≡ count lo S = sym (t .1) in
+              let l : v / 2 ≡ count hi S = omega arith in
+              rw (f, g, k, l)
+              (sym
+              (first-second b (count lo S) (count hi S) (partedInto S row z) E O x
+              (λ i h. low-part z i h ∙ ap x (omega arith)) (λ i h. high-part z i h ∙ ap x (omega arith)))
+              ∙ ap (λ (n : ℕ). spliced b n (partedInto S row z) x) sum)
+          | no d ↦
+              let t = first-odd start v o eo (omega (arith, d)) in
+              let f : b + o ≡ b + count lo S = omega arith in
+              let g : b + (count lo S - o) ≡ b = omega arith in
+              let k : v - v / 2 ≡ count hi S = omega arith in
+              let l : v / 2 ≡ count lo S = sym (t .1) in
+              rw (f, g, k, l)
+              (sym
+              (second-first b (count lo S) (count hi S) (partedInto S row z) O E x
+              (λ i h. low-part z i h ∙ ap x (omega (arith, d))) (λ i h. high-part z i h ∙ ap x (omega (arith, d))))
+              ∙ ap (λ (n : ℕ). spliced b n (partedInto S row z) x) sum)
+        ]
+
+    -- an even number of numbers is pairs, an odd one has another after them
+    module _ (low k f s : ℕ) (el : low ≡ count lo S) (ek : k ≡ v / 2) (ef : f ≡ b + o) (es : s ≡ b + (low - o)) where
+      whole : spliced s k O (spliced f (v - v / 2) E x) ≡ spliced b v (partedInto S row x) x
+      whole = rw (es, ef, el, ek) (parted-as x)
+
+      pub parted-even : (x₁ : ℕ → ℤ) → v ≤ 2 * k → x₁ ≡ separated a f s k x → x₁ ≡ spliced b v (partedInto S row x) x
+      unfolding separated
+      parted-even x₁ h e =
+          let m : k ≡ v - v / 2 = omega arith in
+          e ∙ ap (λ (z : ℕ). spliced s k O (spliced f z E x)) m ∙ whole
+
+      pub parted-odd : (x₁ x₂ : ℕ → ℤ) → a + v ≤ b → 2 * k < v → x₁ ≡ separated a f s k x
+          → x₂ ≡ stored (f + k) (x₁ (a + 2 * k)) x₁ → x₂ ≡ spliced b v (partedInto S row x) x
+      parted-odd x₁ x₂ past h e e₂ =
+          let t = first-at start v o eo in
+          let m : k + 1 ≡ v - v / 2 = omega arith in
+          let u : x₁ (a + 2 * k) ≡ x (a + 2 * k) =
+          ap (λ (y : ℕ → ℤ). y (a + 2 * k)) e ∙ separated-below a f s k x (a + 2 * k) (omega arith) (omega arith) in
+          e₂
+          ∙ rw u (ap (stored (f + k) (x (a + 2 * k))) e)
+          ∙ separated-last a f s k x (λ g. let r = t .last (omega arith) (omega arith) in omega arith)
+          ∙ ap (λ (z : ℕ). spliced s k O (spliced f z E x)) m
+          ∙ whole
+
+  -- what is parted does not hang on what stood there
+  pub parted-any : (z z′ : ℕ → ℤ) → spliced b v (partedInto S row z) x ≡ spliced b v (partedInto S row z′) x
+  parted-any z z′ = sym (parted-as _ refl z) ∙ parted-as _ refl z′
+
+-- the LL row, written straight into its place
+pub delivered-as : (W : Side) (n q a b start v : ℕ) (x y : ℕ → ℤ) → a ≡ slot (W .length) (2 * n) → v ≡ count lo W → b ≡ 4 * W .length + slot v q
+    → start ≡ next W .start → y ≡ spliced b v (partedInto (side start v) (λ i. x (a + i)) x) x → y ≡ delivered W n q x
+unfolding delivered rowPut bandPlace next
+delivered-as W n q a b start v x y ea ev eb es e =
+    e
+    ∙ parted-any a b start v x x (rest (4 * W .length) x)
+    ∙ rw (ea, eb, es, ev) (sym (join-splice (4 * W .length) (slot (count lo W) q) (count lo W) _ x))

@@ -1,5 +1,6 @@
 -- The way forward.
 pub mod Places
+pub mod SetRows
 pub mod Slots
 pub mod LevelLaws
 pub mod SetLaws
@@ -8,14 +9,17 @@ pub mod PairLaws
 pub mod DeliverLaws
 pub mod FillLaws
 -- The way back.
+pub mod LoneTests
 pub mod OpenedSets
 pub mod SlotLaws
 pub mod AdmitLaws
 pub mod WorkLaws
 pub mod KeptLaws
+pub mod PairMade
 pub mod WorkedPast
 pub mod RowsIn
 pub mod SetMade
 pub mod RebuildingLaws
+pub mod LevelHas
 pub mod ReaderLaws
 pub mod FiveThreeBackLaws

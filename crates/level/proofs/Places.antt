@@ -5,8 +5,9 @@ use native.Mathlib.Decide.{ℕ-discrete}
 use native.Mathlib.Omega.{arith}
 use native.Mathlib.Nat.{mul-le-mul-right}
 use borrow.Author.Tests.{eq-eqb, ne-eqb}
-use Rattle.lifting.specs.Line.{lo, count}
-use Rattle.wavelet.proofs.SizeLaws.{count-lo}
+use Rattle.lifting.specs.Line.{lo}
+use Rattle.lifting.specs.Grid.{Side, count}
+use Rattle.wavelet.proofs.SideLaws.{count-lo}
 use Rattle.level.specs.Level.{prev}
 use Rattle.level.specs.FiveThreeLevel.{slot, cellOf, before}
 
@@ -55,34 +56,34 @@ pub free-slot : (n : ℕ) → (2 * (n % 2) + 3) % 4 ≡ (2 * n + 3) % 4
 free-slot n = omega arith
 
 -- ---- the places of columns
-module _ (w m c : ℕ) where
-  pub cell-even : c % 2 ≡ 0 → cellOf w m c ≡ slot w m + c / 2
+module _ (W : Side) (q c : ℕ) where
+  pub cell-even : (W .start % 2 + c) % 2 ≡ 0 → cellOf W q c ≡ slot (W .length) q + c / 2
   unfolding cellOf
-  cell-even e = simp (eq-eqb (c % 2) 0 e)
+  cell-even e = simp (eq-eqb ((W .start % 2 + c) % 2) 0 e)
 
-  pub cell-odd : (c % 2 ≡ 0 → ⊥) → cellOf w m c ≡ slot w m + (count lo w + c / 2)
+  pub cell-odd : ((W .start % 2 + c) % 2 ≡ 0 → ⊥) → cellOf W q c ≡ slot (W .length) q + (count lo W + c / 2)
   unfolding cellOf
-  cell-odd e = simp (ne-eqb (c % 2) 0 e)
+  cell-odd e = simp (ne-eqb ((W .start % 2 + c) % 2) 0 e)
 
-  pub cell-in : c < w → cellOf w m c < 4 * w
+  pub cell-in : c < W .length → cellOf W q c < 4 * W .length
   cell-in h =
-      let s = slot-room w m in
-      let n = count-lo w in
-      elim (ℕ-discrete (c % 2) 0) [
+      let s = slot-room (W .length) q in
+      let n = count-lo W in
+      elim (ℕ-discrete ((W .start % 2 + c) % 2) 0) [
         | yes e ↦ omega (arith, cell-even e)
         | no e ↦ omega (arith, cell-odd e, e)
       ]
 
 -- two columns on is one place on
-pub cell-on : (w m c j : ℕ) → cellOf w m (c + 2 * j) ≡ cellOf w m c + j
-cell-on w m c j =
-    elim (ℕ-discrete (c % 2) 0) [
+pub cell-on : (W : Side) (q c j : ℕ) → cellOf W q (c + 2 * j) ≡ cellOf W q c + j
+cell-on W q c j =
+    elim (ℕ-discrete ((W .start % 2 + c) % 2) 0) [
       | yes e ↦
-          let d : (c + 2 * j) % 2 ≡ 0 = omega arith in
-          let q : (c + 2 * j) / 2 ≡ c / 2 + j = omega arith in
-          omega (arith, cell-even w m (c + 2 * j) d, cell-even w m c e, q)
+          let d : (W .start % 2 + (c + 2 * j)) % 2 ≡ 0 = omega arith in
+          let h : (c + 2 * j) / 2 ≡ c / 2 + j = omega arith in
+          omega (arith, cell-even W q (c + 2 * j) d, cell-even W q c e, h)
       | no e ↦
-          let d : (c + 2 * j) % 2 ≡ 1 = omega (arith, e) in
-          let q : (c + 2 * j) / 2 ≡ c / 2 + j = omega arith in
-          omega (arith, cell-odd w m (c + 2 * j) (λ z. omega arith), cell-odd w m c e, q)
+          let d : (W .start % 2 + (c + 2 * j)) % 2 ≡ 1 = omega (arith, e) in
+          let h : (c + 2 * j) / 2 ≡ c / 2 + j = omega arith in
+          omega (arith, cell-odd W q (c + 2 * j) (λ z. omega arith), cell-odd W q c e, h)
     ]

@@ -1,50 +1,56 @@
 -- What the theorems above ask of a level on the way back, whatever it does: `ReaderLaws`. The 5/3 level meets it: `five-three-back-laws` (FiveThreeBackLaws).
--- Assumes nothing.
+-- They are laws of any bands p of the level: a grid's, or numbers that no grid has. Assumes nothing.
 use mathlib.Core.Path.{_≡_}
 use mathlib.Core.Bool.{true, false}
-use Prim.Native.Nat.{ℕ, suc, _+_, _≤_, _<_}
+use Prim.Native.Nat.{ℕ, suc, _+_, _-_, _≤_, _<_}
 use lib.IntN.{ℤ}
-use mir.Syntax.{w32}
-use mir.Val.{SFits}
 use Rattle.numbers.specs.Word.{wrap32}
-use Rattle.lifting.specs.Line.{lo, count}
-use Rattle.wavelet.specs.Bands.{Grid, Band, LL, across, down, subband}
+use Rattle.lifting.specs.Line.{lo}
+use Rattle.lifting.specs.Grid.{Side, count}
+use Rattle.wavelet.specs.Bands.{Grid, Band, LL, across, levelBack}
 use Rattle.wavelet.specs.Maps.{valueFits}
-use Rattle.wavelet.proofs.LevelTheory.{OnCells}
+use Rattle.wavelet.specs.Levels.{next}
+use Rattle.wavelet.specs.Order.{firstSet, lastSet, setRow, setHas}
 use Rattle.level.specs.ReaderLevel.{ReaderLevel}
-use Rattle.level.specs.Stands.{BackMeaning}
+use Rattle.level.specs.Stands.{SetHas, BackMeaning}
 use Rattle.level.proofs.SetMade.{Outcome, FitAll}
 
 pub record ReaderLaws (K : ReaderLevel) (M : BackMeaning) : Type 0 where
   -- all this is in the level's stretch
-  pub leaves-reads : (k w h : ℕ) (G : Grid) (n : ℕ) (x y : ℕ → ℤ) → ((j : ℕ) → j < K .stretch w → y j ≡ x j) → M .Leaves k w h G n x → M .Leaves k w h G n y
-  pub before-reads : (w h : ℕ) (G : Grid) (n : ℕ) (x y : ℕ → ℤ) → ((j : ℕ) → j < K .stretch w → y j ≡ x j) → M .Before w h G n x → M .Before w h G n y
-  pub got-reads : (w h : ℕ) (G : Grid) (n : ℕ) (c : Band) (x y : ℕ → ℤ) → ((j : ℕ) → j < K .stretch w → y j ≡ x j) → M .Got w h G n x c → M .Got w h G n y c
-  pub feed-past : (w : ℕ) (c : Band) (n : ℕ) (v x : ℕ → ℤ) (j : ℕ) → K .stretch w ≤ j → K .feed w c n v x j ≡ x j
+  pub leaves-reads : (k : ℕ) (W H : Side) (p : Band → Grid) (n : ℕ) (x y : ℕ → ℤ) → ((j : ℕ) → j < K .stretch W → y j ≡ x j) → M .Leaves k W H p n x →
+      M .Leaves k W H p n y
+  pub before-reads : (W H : Side) (p : Band → Grid) (n : ℕ) (x y : ℕ → ℤ) → ((j : ℕ) → j < K .stretch W → y j ≡ x j) → M .Before W H p n x →
+      M .Before W H p n y
+  pub got-reads : (W H : Side) (p : Band → Grid) (n : ℕ) (c : Band) (x y : ℕ → ℤ) → ((j : ℕ) → j < K .stretch W → y j ≡ x j) → M .Got W H p n x c →
+      M .Got W H p n y c
+  pub feed-past : (W : Side) (s : ℕ) (c : Band) (n : ℕ) (v x : ℕ → ℤ) (j : ℕ) → K .stretch W ≤ j → K .feed W s c n v x j ≡ x j
   -- a band row fed: it is there, and what was there still is. A band without a row has none to be there.
-  pub feed-before : (w h : ℕ) (G : Grid) (n : ℕ) (c : Band) (v x : ℕ → ℤ) → M .Before w h G n x → M .Before w h G n (K .feed w c n v x)
-  pub feed-old : (w h : ℕ) (G : Grid) (n : ℕ) (c e : Band) (v x : ℕ → ℤ) → (c ≡ e → ⊥) → M .Got w h G n x e → M .Got w h G n (K .feed w c n v x) e
-  pub feed-new : (w h : ℕ) (G : Grid) (n : ℕ) (c : Band) (v x : ℕ → ℤ) → ((i : ℕ) → i < count (across c) w → v i ≡ subband wrap32 w h G c n i) →
-      M .Got w h G n (K .feed w c n v x) c
-  pub got-none : (w h : ℕ) (G : Grid) (n : ℕ) (c : Band) (x : ℕ → ℤ) → (n < count (down c) h → 0 < count (across c) w → ⊥) → M .Got w h G n x c
-  -- which set a row is of
-  pub set-first : (h : ℕ) → K .set h 0 ≡ 0
-  pub set-there : (h r : ℕ) → r < h → K .set h r < count lo h
-  pub set-next : (h r : ℕ) → suc r < h → K .opens h (suc r) ≡ true → K .set h (suc r) ≡ suc (K .set h r)
-  pub set-same : (h r : ℕ) → suc r < h → K .opens h (suc r) ≡ false → K .set h (suc r) ≡ K .set h r
+  pub feed-before : (W H : Side) (p : Band → Grid) (n : ℕ) (c : Band) (v x : ℕ → ℤ) → M .Before W H p n x → M .Before W H p n (K .feed W (H .start) c n v x)
+  pub feed-old : (W H : Side) (p : Band → Grid) (n : ℕ) (c e : Band) (v x : ℕ → ℤ) → (c ≡ e → ⊥) → M .Got W H p n x e →
+      M .Got W H p n (K .feed W (H .start) c n v x) e
+  pub feed-new : (W H : Side) (p : Band → Grid) (n : ℕ) (c : Band) (v x : ℕ → ℤ) → ((i : ℕ) → i < count (across c) W → v i ≡ p c (setRow H c n) i) →
+      M .Got W H p n (K .feed W (H .start) c n v x) c
+  pub got-none : (W H : Side) (p : Band → Grid) (n : ℕ) (c : Band) (x : ℕ → ℤ) → setHas W H c n ≡ false → M .Got W H p n x c
+  -- which set a row is of: row 0 is of set 0, or of set 1 where set 0 has a high row alone
+  pub set-first : (H : Side) → K .set H 0 ≤ firstSet H lo
+  pub set-there : (H : Side) (r : ℕ) → K .set H r ≤ lastSet H
+  pub set-next : (H : Side) (r : ℕ) → suc r < H .length → K .opens H (suc r) ≡ true → K .set H (suc r) ≡ suc (K .set H r)
+  pub set-same : (H : Side) (r : ℕ) → suc r < H .length → K .opens H (suc r) ≡ false → K .set H (suc r) ≡ K .set H r
   -- the first set needs nothing, and each has what it needs of those before it once the one before it is worked out
-  pub before-first : (w h : ℕ) (G : Grid) (x : ℕ → ℤ) → M .Before w h G 0 x
-  pub before-next : (k w h : ℕ) (G : Grid) (n : ℕ) (x : ℕ → ℤ) → suc n < count lo h → M .Leaves k w h G n x → M .Before w h G (suc n) x
-  -- Set n worked out, for any grid of 32-bit numbers: it makes rows of the grid. If a value is refused, the grid has one that does not fit.
-  pub work-last : (k w h : ℕ) (G : Grid) (n : ℕ) (x : ℕ → ℤ) (good : OnCells (SFits w32) w h G) → n < count lo h → M .Before w h G n x →
-      ((c : Band) → M .Got w h G n x c) →
-      Outcome (FitAll k w h G good) (λ y. M .Leaves k w h G n y × ((j : ℕ) → K .stretch w ≤ j → y j ≡ x j)) (K .work true k w h n x)
-  pub work-on : (k w h : ℕ) (G : Grid) (n : ℕ) (x : ℕ → ℤ) (good : OnCells (SFits w32) w h G) → n < count lo h → M .Before w h G n x →
-      ((c : Band) → (c ≡ LL → ⊥) → M .Got w h G n x c) →
-      ((i : ℕ) → i < count lo w → K .made (count lo w) n (λ j. x (K .stretch w + j)) i ≡ subband wrap32 w h G LL n i) →
-      Outcome (FitAll k w h G good) (λ y. M .Leaves k w h G n y × ((j : ℕ) → K .stretch w ≤ j → y j ≡ x j)) (K .work false k w h n x)
-  -- the rows that it makes
-  pub made-is : (k w h : ℕ) (G : Grid) (n : ℕ) (x : ℕ → ℤ) → M .Leaves k w h G n x → (r : ℕ) → r < h → K .set h r ≡ n → (c : ℕ) → c < w →
-      K .made w r x c ≡ G r c
-  pub made-fits : (k w h : ℕ) (G : Grid) (n : ℕ) (x : ℕ → ℤ) → M .Leaves k w h G n x → (r : ℕ) → r < h → K .set h r ≡ n → (c : ℕ) → c < w →
-      valueFits k (G r c) ≡ true
+  pub before-first : (W H : Side) (p : Band → Grid) (x : ℕ → ℤ) → M .Before W H p 0 x
+  pub before-next : (k : ℕ) (W H : Side) (p : Band → Grid) (n : ℕ) (x : ℕ → ℤ) → suc n ≤ lastSet H → M .Leaves k W H p n x → M .Before W H p (suc n) x
+  -- Set n worked out: it makes the rows of the way back. If a number is refused, a row does not fit, or one that is halved is odd.
+  pub work-last : (k : ℕ) (W H : Side) (p : Band → Grid) (n : ℕ) (x : ℕ → ℤ) → 0 < H .length → n ≤ lastSet H → M .Before W H p n x →
+      ((c : Band) → M .Got W H p n x c) →
+      Outcome (FitAll k W H p) (λ y. M .Leaves k W H p n y × ((j : ℕ) → K .stretch W ≤ j → y j ≡ x j)) (K .work true k W H n x)
+  pub work-on : (k : ℕ) (W H : Side) (p : Band → Grid) (n : ℕ) (x : ℕ → ℤ) → 0 < H .length → n ≤ lastSet H → M .Before W H p n x →
+      ((c : Band) → (c ≡ LL → ⊥) → M .Got W H p n x c) →
+      (firstSet H lo ≤ n → (i : ℕ) → i < count lo W →
+      K .made (next W) (next H .start) (n - firstSet H lo) (λ j. x (K .stretch W + j)) i ≡ p LL (n - firstSet H lo) i) →
+      Outcome (FitAll k W H p) (λ y. M .Leaves k W H p n y × ((j : ℕ) → K .stretch W ≤ j → y j ≡ x j)) (K .work false k W H n x)
+  -- the rows that it makes, and that no number that it halved is odd
+  pub made-is : (k : ℕ) (W H : Side) (p : Band → Grid) (n : ℕ) (x : ℕ → ℤ) → M .Leaves k W H p n x → (r : ℕ) → r < H .length → K .set H r ≡ n → (c : ℕ) →
+      c < W .length → K .made W (H .start) r x c ≡ levelBack wrap32 W H p r c
+  pub made-fits : (k : ℕ) (W H : Side) (p : Band → Grid) (n : ℕ) (x : ℕ → ℤ) → M .Leaves k W H p n x → (r : ℕ) → r < H .length → K .set H r ≡ n → (c : ℕ) →
+      c < W .length → valueFits k (levelBack wrap32 W H p r c) ≡ true
+  pub made-has : (k : ℕ) (W H : Side) (p : Band → Grid) (n : ℕ) (x : ℕ → ℤ) → M .Leaves k W H p n x → SetHas W H p n

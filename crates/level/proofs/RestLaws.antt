@@ -1,7 +1,7 @@
 -- The rest of a store from place a on, as a signal: lent, `at-rest`, and come back, `at-join`; and numbers written within it. Assumes nothing.
 use mathlib.Core.Path.{_≡_, refl, sym, ap, _∙_, fun-ext}
 use mathlib.Core.List.{List, _++_, append-nil}
-use Prim.Native.Nat.{ℕ, _+_, _-_, _*_, _≤_, _<_}
+use Prim.Native.Nat.{ℕ, _+_, _-_, _≤_, _<_}
 use native.Mathlib.Decide.{decLt}
 use native.Mathlib.Omega.{arith}
 use lib.IntN.{ℤ, pos}
@@ -11,9 +11,6 @@ use borrow.Author.Tests.{lt-ltb, le-ltb}
 use borrow.Rule.Slice.PartMut.{midOf, putMid, post-is}
 use Rattle.numbers.specs.Signal.{at, spliced}
 use Rattle.numbers.proofs.Parts.{splice-below, splice-in, splice-past}
-use Rattle.lifting.specs.Line.{lo, hi, count, parted}
-use Rattle.lifting.specs.Halves.{inHalves, partedInto}
-use Rattle.lifting.proofs.LineLaws.{counts}
 use Rattle.level.specs.Level.{rest, joinAt}
 
 pub rest-at : (a : ℕ) (x : ℕ → ℤ) (j : ℕ) → rest a x j ≡ x (a + j)
@@ -93,37 +90,42 @@ join-splice a b n y x =
           ]
     ]
 
--- a row in halves, written as its even and then its odd columns
-pub splice-halves : (b v : ℕ) (row z x : ℕ → ℤ) → spliced b v (partedInto v row z) x
-    ≡ spliced (b + count lo v) (count hi v) (λ j. row (2 * j + 1)) (spliced b (count lo v) (λ j. row (2 * j)) x)
-splice-halves b v row z x =
-    let both = counts v in
-    let low : ℕ → ℤ = spliced b (count lo v) (λ j. row (2 * j)) x in
-    fun-ext λ j.
-    elim (decLt j b) [
-      | yes p ↦ splice-below b v _ x j p ∙ sym (splice-below (b + count lo v) (count hi v) _ low j (omega arith) ∙ splice-below b (count lo v) _ x j p)
-      | no d ↦
-          elim (decLt j (b + v)) [
-            | yes q ↦
-                splice-in b v _ x j (omega arith) q
-                ∙ elim (decLt (j - b) (count lo v)) [
-                  | yes r ↦
-                      even (j - b) r
-                      ∙ sym (splice-below (b + count lo v) (count hi v) _ low j (omega arith) ∙ splice-in b (count lo v) _ x j (omega arith) (omega arith))
-                  | no r ↦
-                      let k : j - b - count lo v ≡ j - (b + count lo v) = omega arith in
-                      odd (j - b) (omega arith) (omega arith)
-                      ∙ ap (λ (i : ℕ). row (2 * i + 1)) k
-                      ∙ sym (splice-in (b + count lo v) (count hi v) _ low j (omega arith) (omega arith))
-                ]
-            | no q ↦
-                splice-past b v _ x j (omega arith)
-                ∙ sym (splice-past (b + count lo v) (count hi v) _ low j (omega arith) ∙ splice-past b (count lo v) _ x j (omega arith))
-          ]
-    ]
-  where
-    even : (i : ℕ) → i < count lo v → partedInto v row z i ≡ row (2 * i)
-    even i h = unfold partedInto inHalves parted in simp (lt-ltb i (count lo v) h)
+-- n + m numbers y, written as the first n and the m after them, in either order
+module _ (b n m : ℕ) (y p q x : ℕ → ℤ) (e : (i : ℕ) → i < n → y i ≡ p i) (d : (i : ℕ) → i < m → y (n + i) ≡ q i) where
+  parts : (z : ℕ → ℤ) (j : ℕ) → (j < b → z j ≡ x j) → (b ≤ j → j < b + n → z j ≡ p (j - b)) → (b + n ≤ j → j < b + n + m → z j ≡ q (j - (b + n)))
+      → (b + n + m ≤ j → z j ≡ x j) → spliced b (n + m) y x j ≡ z j
+  parts z j before first second past =
+      elim (decLt j b) [
+        | yes h ↦ splice-below b (n + m) y x j h ∙ sym (before h)
+        | no h ↦
+            elim (decLt j (b + n)) [
+              | yes k ↦ splice-in b (n + m) y x j (omega arith) (omega arith) ∙ e (j - b) (omega arith) ∙ sym (first (omega arith) k)
+              | no k ↦
+                  elim (decLt j (b + n + m)) [
+                    | yes l ↦
+                        let i : j - b ≡ n + (j - (b + n)) = omega arith in
+                        splice-in b (n + m) y x j (omega arith) (omega arith) ∙ ap y i ∙ d (j - (b + n)) (omega arith) ∙ sym (second (omega arith) l)
+                    | no l ↦ splice-past b (n + m) y x j (omega arith) ∙ sym (past (omega arith))
+                  ]
+            ]
+      ]
 
-    odd : (i : ℕ) → count lo v ≤ i → i < v → partedInto v row z i ≡ row (2 * (i - count lo v) + 1)
-    odd i g h = unfold partedInto inHalves parted in simp (le-ltb i (count lo v) g, lt-ltb i v h)
+  pub first-second : spliced b (n + m) y x ≡ spliced (b + n) m q (spliced b n p x)
+  first-second =
+      fun-ext λ j.
+      let z : ℕ → ℤ = spliced b n p x in
+      parts (spliced (b + n) m q z) j
+      (λ h. splice-below (b + n) m q z j (omega arith) ∙ splice-below b n p x j h)
+      (λ h k. splice-below (b + n) m q z j k ∙ splice-in b n p x j h k)
+      (λ h k. splice-in (b + n) m q z j h k)
+      (λ h. splice-past (b + n) m q z j h ∙ splice-past b n p x j (omega arith))
+
+  pub second-first : spliced b (n + m) y x ≡ spliced b n p (spliced (b + n) m q x)
+  second-first =
+      fun-ext λ j.
+      let z : ℕ → ℤ = spliced (b + n) m q x in
+      parts (spliced b n p z) j
+      (λ h. splice-below b n p z j h ∙ splice-below (b + n) m q x j (omega arith))
+      (λ h k. splice-in b n p z j h k)
+      (λ h k. splice-past b n p z j h ∙ splice-in (b + n) m q x j h k)
+      (λ h. splice-past b n p z j (omega arith) ∙ splice-past (b + n) m q x j h)

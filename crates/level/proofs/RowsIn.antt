@@ -1,27 +1,27 @@
 -- A level's memory, row by row: what a row fed, a row lifted back, a row changed by others, and a row taken from the next level leave of every row.
--- A row is told by its two halves, c : Half → ℕ → ℤ: the numbers of two bands, or the even and the odd places of a line. Assumes nothing.
-use mathlib.Core.Path.{_≡_, refl, sym, ap, _∙_}
+-- A row is told by its two halves, c : Half → ℕ → ℤ: the numbers of two bands, or the even and the odd coordinates of a line. Assumes nothing.
+use mathlib.Core.Path.{_≡_, refl, sym, ap, subst, _∙_}
 use Prim.Native.Nat.{ℕ, _+_, _-_, _*_, _/_, _≤_, _<_}
 use native.Mathlib.Decide.{decLt}
 use native.Mathlib.Omega.{arith}
 use lib.IntN.{ℤ}
-use mir.Syntax.{w32}
-use mir.Val.{SFits}
+use lib.Signed.{shrZ}
 use Rattle.numbers.specs.Signal.{windowed, spliced}
 use Rattle.numbers.specs.Word.{wrap32}
 use Rattle.numbers.proofs.Parts.{window-in, splice-below, splice-in, splice-past}
-use Rattle.lifting.specs.Line.{Half, lo, hi, count, parted, joined, lineForward, lineHalvesBack, lineBack}
-use Rattle.lifting.specs.Halves.{halvesOf, inHalves, unliftedInPlace}
-use Rattle.lifting.proofs.Filter.{place, place-in, in-place, by-place}
-use Rattle.lifting.proofs.LineNear.{joined-place}
-use Rattle.lifting.proofs.LineTheorems.{back-forward, halves-back-reads}
-use Rattle.lifting.proofs.LineLaws.{halves-low, halves-high}
+use Rattle.lifting.specs.Line.{Half, lo, hi}
+use Rattle.lifting.specs.Grid.{Side, place, count, parted, joined, lineHalvesBack, lineBack, hasLine}
+use Rattle.lifting.specs.GridHalves.{halvesOf, inHalves, unliftedInPlace, hasLineIn}
+use Rattle.lifting.proofs.GridLaws as grid
+use Rattle.lifting.proofs.GridLaws.{counts, place-in, joined-place, joined-parted, halves-low, halves-high}
+use Rattle.lifting.proofs.GridReads.{halves-back-reads}
+use Rattle.lifting.proofs.LoneLaws.{has-reads}
 use Rattle.lifting.proofs.RowLaws.{row-order, row-at, row-past, row-other}
 use Rattle.wavelet.specs.Bands.{Band, across, down}
-use Rattle.wavelet.proofs.SizeLaws.{count-lo, count-hi}
-use Rattle.wavelet.proofs.LevelTheory.{placed, by-half}
+use Rattle.wavelet.specs.Levels.{next}
+use Rattle.wavelet.specs.Order.{firstSet}
 use Rattle.level.specs.Stands.{RowStands}
-use Rattle.level.specs.Slots.{slot, rowPlace, setRow, halfPlace, bandFed, rowIn, rowUnlifted, rowBy, lowRowTaken}
+use Rattle.level.specs.Slots.{slot, rowPlace, local, rowOfSet, halfPlace, bandFed, rowIn, rowUnlifted, rowHasLine, rowBy, rowHalved, lowRowTaken}
 
 -- ---- slots
 no-half : (a b : ℕ) → 4 * b ≡ 4 * a + 2 → ⊥
@@ -38,24 +38,23 @@ slot-lt : (r : ℕ) → slot r < 4
 slot-lt r = omega arith
 
 -- ---- the places of a row by its halves
-pub half-end : (h : Half) (w : ℕ) → halfPlace h w + count h w ≤ w
+pub half-end : (h : Half) (W : Side) → halfPlace h W + count h W ≤ W .length
 unfolding halfPlace
-half-end lo w = omega (arith, count-lo w)
-half-end hi w = omega (arith, count-lo w, count-hi w)
+half-end lo W = omega (arith, counts W)
+half-end hi W = omega (arith, counts W)
 
-pub half-inside : (h : Half) (w i : ℕ) → i < count h w → halfPlace h w + i < w
-half-inside h w i b = omega (arith, half-end h w)
+pub half-inside : (h : Half) (W : Side) (i : ℕ) → i < count h W → halfPlace h W + i < W .length
+half-inside h W i b = omega (arith, half-end h W)
 
-pub by-halves : (w : ℕ) (P : ℕ → Type 0) → ((h : Half) (i : ℕ) → i < count h w → P (halfPlace h w + i)) → (j : ℕ) → j < w → P j
-unfolding halfPlace placed
-by-halves w P f = by-half w P (λ h i b. at h i (f h i b))
-  where
-    at : (h : Half) (i : ℕ) → P (halfPlace h w + i) → P (placed h w i)
-    at lo i p = let z : 0 + i ≡ i = omega arith in rw z at p
-    at hi i p = p
+pub by-halves : (W : Side) (P : ℕ → Type 0) → ((h : Half) (i : ℕ) → i < count h W → P (halfPlace h W + i)) → (j : ℕ) → j < W .length → P j
+unfolding halfPlace
+by-halves W P f j b = elim (decLt j (count lo W)) [
+  | yes l ↦ subst P (omega arith) (f lo j l)
+  | no l ↦ subst P (omega arith) (f hi (j - count lo W) (omega (arith, counts W)))
+]
 
--- ---- the row that stands in the slot of row r
-abbrev pub Is : ℕ → (ℕ → ℤ) → ℕ → (Half → ℕ → ℤ) → Type 0
+-- ---- the row that stands in the slot of the row at q
+abbrev pub Is : Side → (ℕ → ℤ) → ℕ → (Half → ℕ → ℤ) → Type 0
 Is = RowStands
 
 -- y differs from x in the slot of row t alone, of the four
@@ -91,131 +90,140 @@ module _ (w t : ℕ) where
     past = λ j h. row-past f w w (slot t) (slot l) (slot r) x j (omega (arith, row-order w (slot t) 4 (slot-lt t)));
   }
 
-  pub is-old : (x y : ℕ → ℤ) (q : ℕ) (c : Half → ℕ → ℤ) → Only w t x y → (slot t ≡ slot q → ⊥) → Is w x q c → Is w y q c
-  is-old x y q c o d e h i b = o .row q (halfPlace h w + i) d (half-inside h w i b) ∙ e h i b
+-- what stands in another slot still does
+pub is-old : (W : Side) (t : ℕ) (x y : ℕ → ℤ) (q : ℕ) (c : Half → ℕ → ℤ) → Only (W .length) t x y → (slot t ≡ slot q → ⊥) → Is W x q c → Is W y q c
+is-old W t x y q c o d e h i b = o .row q (halfPlace h W + i) d (half-inside h W i b) ∙ e h i b
 
 -- ---- a band row fed
-module _ (w : ℕ) (b : Band) (n : ℕ) (v x : ℕ → ℤ) where
-  pub only-fed : Only w (setRow (down b) n) x (bandFed w b n v x)
-  unfolding bandFed
-  only-fed = only-splice w (setRow (down b) n) _ _ (omega arith) (omega (arith, half-end (across b) w)) v x
+module _ (W : Side) (b : Band) (n : ℕ) (v x : ℕ → ℤ) where
+  abbrev row : ℕ
+  row = rowPlace (W .length) (rowOfSet (down b) n)
 
-  pub fed-here : (h : Half) → across b ≡ h → (i : ℕ) → i < count h w → bandFed w b n v x (rowPlace w (setRow (down b) n) + (halfPlace h w + i)) ≡ v i
+  pub only-fed : Only (W .length) (rowOfSet (down b) n) x (bandFed W b n v x)
+  unfolding bandFed
+  only-fed = only-splice (W .length) (rowOfSet (down b) n) _ _ (omega arith) (omega (arith, half-end (across b) W)) v x
+
+  pub fed-here : (h : Half) → across b ≡ h → (i : ℕ) → i < count h W → bandFed W b n v x (row + (halfPlace h W + i)) ≡ v i
   unfolding bandFed
   fed-here h e i p =
-      let f : rowPlace w (setRow (down b) n) + (halfPlace h w + i) ≡ rowPlace w (setRow (down b) n) + halfPlace (across b) w + i =
-      omega (arith, ap (λ (u : Half). halfPlace u w) e) in
-      let q : i < count (across b) w = rw e p in
-      let g : rowPlace w (setRow (down b) n) + halfPlace (across b) w + i - (rowPlace w (setRow (down b) n) + halfPlace (across b) w) ≡ i = omega arith in
+      let f : row + (halfPlace h W + i) ≡ row + halfPlace (across b) W + i = omega (arith, ap (λ (u : Half). halfPlace u W) e) in
+      let q : i < count (across b) W = rw e p in
+      let g : row + halfPlace (across b) W + i - (row + halfPlace (across b) W) ≡ i = omega arith in
       ap (spliced _ _ v x) f ∙ splice-in _ _ v x _ (omega arith) (omega arith) ∙ ap v g
 
-  pub fed-beside : (h : Half) → (across b ≡ h → ⊥) → (i : ℕ) → i < count h w →
-      bandFed w b n v x (rowPlace w (setRow (down b) n) + (halfPlace h w + i)) ≡ x (rowPlace w (setRow (down b) n) + (halfPlace h w + i))
+  pub fed-beside : (h : Half) → (across b ≡ h → ⊥) → (i : ℕ) → i < count h W → bandFed W b n v x (row + (halfPlace h W + i)) ≡ x (row + (halfPlace h W + i))
   unfolding bandFed
   fed-beside h d i p = go (across b) h d p
     where
-      go : (a h : Half) → (a ≡ h → ⊥) → i < count h w →
-          spliced (rowPlace w (setRow (down b) n) + halfPlace a w) (count a w) v x (rowPlace w (setRow (down b) n) + (halfPlace h w + i)) ≡ x
-          (rowPlace w (setRow (down b) n) + (halfPlace h w + i))
+      go : (a h : Half) → (a ≡ h → ⊥) → i < count h W →
+          spliced (row + halfPlace a W) (count a W) v x (row + (halfPlace h W + i)) ≡ x (row + (halfPlace h W + i))
       go lo lo d p = absurd (d refl)
       go lo hi d p = splice-past _ _ v x _ (unfold halfPlace in omega arith)
       go hi lo d p = splice-below _ _ v x _ (unfold halfPlace in omega arith)
       go hi hi d p = absurd (d refl)
 
 -- ---- a row lifted back
-in-halves : (w : ℕ) (p : Half → ℕ → ℤ) (z : ℕ → ℤ) (h : Half) (i : ℕ) → i < count h w → inHalves w p z (halfPlace h w + i) ≡ p h i
+in-halves : (W : Side) (p : Half → ℕ → ℤ) (z : ℕ → ℤ) (h : Half) (i : ℕ) → i < count h W → inHalves W p z (halfPlace h W + i) ≡ p h i
 unfolding halfPlace
-in-halves w p z lo i b = let e : 0 + i ≡ i = omega arith in rw e (halves-low w p z i b)
-in-halves w p z hi i b =
-    let e : count lo w + i - count lo w ≡ i = omega arith in
-    halves-high w p z (count lo w + i) (omega arith) (omega (arith, count-lo w, count-hi w)) ∙ ap (p hi) e
+in-halves W p z lo i b = let e : 0 + i ≡ i = omega arith in rw e (halves-low W p z i b)
+in-halves W p z hi i b =
+    let e : count lo W + i - count lo W ≡ i = omega arith in
+    halves-high W p z (count lo W + i) (omega arith) (omega (arith, counts W)) ∙ ap (p hi) e
 
-halves-at : (w : ℕ) (y : ℕ → ℤ) (h : Half) (i : ℕ) → halvesOf w y h i ≡ y (halfPlace h w + i)
+halves-at : (W : Side) (y : ℕ → ℤ) (h : Half) (i : ℕ) → halvesOf W y h i ≡ y (halfPlace h W + i)
 unfolding halvesOf halfPlace
-halves-at w y lo i = let e : 0 + i ≡ i = omega arith in rw e refl
-halves-at w y hi i = refl
+halves-at W y lo i = let e : 0 + i ≡ i = omega arith in rw e refl
+halves-at W y hi i = refl
 
 -- the halves of a row, as they are read from memory
-pub row-halves : (w : ℕ) (x : ℕ → ℤ) (r : ℕ) (c : Half → ℕ → ℤ) → Is w x r c → (h : Half) (i : ℕ) → i < count h w → halvesOf w (rowIn w r x) h i ≡ c h i
+pub row-halves : (W : Side) (x : ℕ → ℤ) (q : ℕ) (c : Half → ℕ → ℤ) → Is W x q c → (h : Half) (i : ℕ) → i < count h W →
+    halvesOf W (rowIn (W .length) q x) h i ≡ c h i
 unfolding rowIn
-row-halves w x r c e h i b = halves-at w _ h i ∙ window-in (rowPlace w r) w x (halfPlace h w + i) (half-inside h w i b) ∙ e h i b
+row-halves W x q c e h i b =
+    halves-at W _ h i ∙ window-in (rowPlace (W .length) q) (W .length) x (halfPlace h W + i) (half-inside h W i b) ∙ e h i b
 
-pub halves-back-forward : (N : ℕ) (x : ℕ → ℤ) → ((i : ℕ) → i < N → SFits w32 (x i)) → (h : Half) (n : ℕ) → n < count h N →
-    lineHalvesBack wrap32 N (lineForward wrap32 N x) h n ≡ parted x h n
-unfolding lineBack parted
-halves-back-forward N x fits lo n b = sym (joined-place (lineHalvesBack wrap32 N (lineForward wrap32 N x)) lo n)
-    ∙ back-forward N x fits (2 * n) (place-in lo lo N n b)
-halves-back-forward N x fits hi n b = sym (joined-place (lineHalvesBack wrap32 N (lineForward wrap32 N x)) hi n)
-    ∙ back-forward N x fits (2 * n + 1) (place-in lo hi N n b)
-
-module _ (w r : ℕ) (x : ℕ → ℤ) where
-  pub only-unlifted : Only w r x (rowUnlifted w r x)
+module _ (W : Side) (q : ℕ) (x : ℕ → ℤ) where
+  pub only-unlifted : Only (W .length) q x (rowUnlifted W q x)
   unfolding rowUnlifted
-  only-unlifted = only-splice w r _ _ (omega arith) (omega arith) _ x
+  only-unlifted = only-splice (W .length) q _ _ (omega arith) (omega arith) _ x
 
-  -- the two bands of a line become the line
-  pub unlifted-is : (row : ℕ → ℤ) → ((i : ℕ) → i < w → SFits w32 (row i)) → Is w x r (lineForward wrap32 w row) → Is w (rowUnlifted w r x) r (parted row)
-  unfolding rowUnlifted unliftedInPlace
-  unlifted-is row fits e h i b =
-      let f : rowPlace w r + (halfPlace h w + i) - rowPlace w r ≡ (halfPlace h w + i) = omega arith in
-      splice-in _ _ _ x _ (omega arith) (omega (arith, half-inside h w i b))
-      ∙ ap (unliftedInPlace w (rowIn w r x)) f
-      ∙ in-halves w _ _ h i b
-      ∙ halves-back-reads wrap32 w _ (lineForward wrap32 w row) (row-halves w x r _ e) h i b
-      ∙ halves-back-forward w row fits h i b
+  -- the two bands of a row become the line that has them
+  pub unlifted-is : (c : Half → ℕ → ℤ) → Is W x q c → Is W (rowUnlifted W q x) q (parted W (lineBack wrap32 W c))
+  unfolding rowUnlifted unliftedInPlace parted lineBack
+  unlifted-is c e h i b =
+      let f : rowPlace (W .length) q + (halfPlace h W + i) - rowPlace (W .length) q ≡ (halfPlace h W + i) = omega arith in
+      splice-in _ _ _ x _ (omega arith) (omega (arith, half-inside h W i b))
+      ∙ ap (unliftedInPlace W (rowIn (W .length) q x)) f
+      ∙ in-halves W _ _ h i b
+      ∙ halves-back-reads wrap32 W _ c (row-halves W x q _ e) h i b
+      ∙ sym (joined-place W (lineHalvesBack wrap32 W c) h i)
+
+  -- and the test tells whether there is one
+  pub line-is : (c : Half → ℕ → ℤ) → Is W x q c → rowHasLine W q x ≡ hasLine W c
+  unfolding rowHasLine hasLineIn
+  line-is c e = has-reads W _ c (row-halves W x q _ e)
 
 -- ---- a row changed by two others
-pub by-is : (f : ℤ → ℤ → ℤ → ℤ) (w t l r : ℕ) (x : ℕ → ℤ) (a b c : Half → ℕ → ℤ) → Is w x t a → Is w x l b → Is w x r c →
-    Is w (rowBy f w t l r x) t (λ h i. f (a h i) (b h i) (c h i))
+pub by-is : (f : ℤ → ℤ → ℤ → ℤ) (W : Side) (t l r : ℕ) (x : ℕ → ℤ) (a b c : Half → ℕ → ℤ) → Is W x t a → Is W x l b → Is W x r c →
+    Is W (rowBy f (W .length) t l r x) t (λ h i. f (a h i) (b h i) (c h i))
 unfolding rowBy rowPlace
-by-is f w t l r x a b c p q s h i z =
-    row-at f w w (slot t) (slot l) (slot r) x (halfPlace h w + i) (half-inside h w i z)
+by-is f W t l r x a b c p q s h i z =
+    row-at f (W .length) (W .length) (slot t) (slot l) (slot r) x (halfPlace h W + i) (half-inside h W i z)
     ∙ (λ j. f (p h i z j) (q h i z j) (s h i z j))
 
--- ---- a line by its halves
-part-place : (x : ℕ → ℤ) (h : Half) (n : ℕ) → parted x h n ≡ x (place lo h n)
-unfolding parted
-part-place x lo n = refl
-part-place x hi n = refl
+-- ---- a row halved
+module _ (W : Side) (q : ℕ) (x : ℕ → ℤ) where
+  pub only-halved : Only (W .length) q x (rowHalved (W .length) q x)
+  unfolding rowHalved
+  only-halved = only-splice (W .length) q _ _ (omega arith) (omega arith) _ x
 
-pub joined-reads : (N : ℕ) (p : Half → ℕ → ℤ) (row : ℕ → ℤ) → ((h : Half) (i : ℕ) → i < count h N → p h i ≡ parted row h i) → (i : ℕ) → i < N →
-    joined p i ≡ row i
-joined-reads N p row e =
-    by-place lo (λ i. i < N → joined p i ≡ row i)
-    (λ h n b. joined-place p h n ∙ e h n (in-place lo h N n b) ∙ part-place row h n)
+  pub halved-is : (c : Half → ℕ → ℤ) → Is W x q c → Is W (rowHalved (W .length) q x) q (λ h i. shrZ (c h i) 2)
+  unfolding rowHalved rowIn
+  halved-is c e h i b =
+      let f : rowPlace (W .length) q + (halfPlace h W + i) - rowPlace (W .length) q ≡ (halfPlace h W + i) = omega arith in
+      splice-in _ _ _ x _ (omega arith) (omega (arith, half-inside h W i b))
+      ∙ ap (λ (j : ℕ). shrZ (windowed (rowPlace (W .length) q) (W .length) x j) 2) f
+      ∙ ap (λ (v : ℤ). shrZ v 2) (window-in (rowPlace (W .length) q) (W .length) x (halfPlace h W + i) (half-inside h W i b) ∙ e h i b)
+
+-- ---- a line by its halves
+pub joined-reads : (S : Side) (p : Half → ℕ → ℤ) (row : ℕ → ℤ) → ((h : Half) (i : ℕ) → i < count h S → p h i ≡ parted S row h i) → (i : ℕ) → i < S .length →
+    joined S p i ≡ row i
+joined-reads S p row e i b = grid.joined-reads S p (parted S row) e i b ∙ joined-parted S row i
 
 -- and a line read out of its slot says what stands there by halves
-pub half-reads : (w : ℕ) (x : ℕ → ℤ) (r : ℕ) (row : ℕ → ℤ) → ((i : ℕ) → i < w → joined (halvesOf w (rowIn w r x)) i ≡ row i) → (h : Half) (i : ℕ) →
-    i < count h w →
-    x (rowPlace w r + (halfPlace h w + i)) ≡ parted row h i
-unfolding rowIn
-half-reads w x r row e h i b =
-    sym (halves-at w _ h i ∙ window-in (rowPlace w r) w x (halfPlace h w + i) (half-inside h w i b))
-    ∙ sym (joined-place (halvesOf w (windowed (rowPlace w r) w x)) h i) ∙ e (place lo h i) (place-in lo h w i b) ∙ sym (part-place row h i)
+pub half-reads : (W : Side) (x : ℕ → ℤ) (q : ℕ) (row : ℕ → ℤ) → ((i : ℕ) → i < W .length → joined W (halvesOf W (rowIn (W .length) q x)) i ≡ row i) →
+    (h : Half) (i : ℕ) → i < count h W → x (rowPlace (W .length) q + (halfPlace h W + i)) ≡ parted W row h i
+unfolding rowIn parted
+half-reads W x q row e h i b =
+    sym (halves-at W _ h i ∙ window-in (rowPlace (W .length) q) (W .length) x (halfPlace h W + i) (half-inside h W i b))
+    ∙ sym (joined-place W (halvesOf W (windowed (rowPlace (W .length) q) (W .length) x)) h i) ∙ e (place W h i) (place-in W h i b)
 
 -- ---- the low-low row taken from the next level
-module _ (w n : ℕ) (x : ℕ → ℤ) where
-  pub only-taken : Only w (2 * n) x (lowRowTaken w n x)
+module _ (W H : Side) (n : ℕ) (x : ℕ → ℤ) where
+  pub only-taken : Only (W .length) (2 * n) x (lowRowTaken W H n x)
   unfolding lowRowTaken
-  only-taken = only-splice w (2 * n) _ _ (omega arith) (omega (arith, count-lo w)) _ x
+  only-taken = only-splice (W .length) (2 * n) _ _ (omega arith) (omega (arith, counts W)) _ x
 
-  pub taken-is : (row : ℕ → ℤ) → ((h : Half) (i : ℕ) → i < count h (count lo w) →
-      x (4 * w + (rowPlace (count lo w) n + (halfPlace h (count lo w) + i))) ≡ parted row h i) → (i : ℕ) → i < count lo w →
-      lowRowTaken w n x (rowPlace w (2 * n) + (halfPlace lo w + i)) ≡ row i
-  unfolding lowRowTaken halfPlace
+  abbrev from : ℕ
+  from = rowPlace (count lo W) (local (next H .start) (n - firstSet H lo))
+
+  pub taken-is : (row : ℕ → ℤ) →
+      ((h : Half) (i : ℕ) → i < count h (next W) → x (4 * W .length + (from + (halfPlace h (next W) + i))) ≡ parted (next W) row h i) →
+      (i : ℕ) → i < count lo W → lowRowTaken W H n x (rowPlace (W .length) (2 * n) + (halfPlace lo W + i)) ≡ row i
+  unfolding lowRowTaken halfPlace next
   taken-is row e i b =
-      let f : rowPlace w (2 * n) + (0 + i) - rowPlace w (2 * n) ≡ i = omega arith in
+      let f : rowPlace (W .length) (2 * n) + (0 + i) - rowPlace (W .length) (2 * n) ≡ i = omega arith in
       splice-in _ _ _ x _ (omega arith) (omega arith)
-      ∙ ap (joined _) f
-      ∙ joined-reads (count lo w) _ row read i b
+      ∙ ap (joined (next W) _) f
+      ∙ joined-reads (next W) _ row read i b
     where
-      read : (h : Half) (i : ℕ) → i < count h (count lo w) →
-          halvesOf (count lo w) (windowed (4 * w + rowPlace (count lo w) n) (count lo w) x) h i ≡ parted row h i
+      read : (h : Half) (i : ℕ) → i < count h (next W) →
+          halvesOf (next W) (windowed (4 * W .length + from) (count lo W) x) h i ≡ parted (next W) row h i
       read h i b =
-          let g : 4 * w + rowPlace (count lo w) n + (halfPlace h (count lo w) + i) ≡ 4 * w + (rowPlace (count lo w) n + (halfPlace h (count lo w) + i)) =
-          omega arith in
-          halves-at (count lo w) _ h i ∙ window-in _ (count lo w) x (halfPlace h (count lo w) + i) (half-inside h (count lo w) i b) ∙ ap x g ∙ e h i b
+          let g : 4 * W .length + from + (halfPlace h (next W) + i) ≡ 4 * W .length + (from + (halfPlace h (next W) + i)) = omega arith in
+          halves-at (next W) _ h i ∙ window-in _ (count lo W) x (halfPlace h (next W) + i) (half-inside h (next W) i b) ∙ ap x g ∙ e h i b
 
-  pub taken-beside : (i : ℕ) → i < count hi w → lowRowTaken w n x (rowPlace w (2 * n) + (halfPlace hi w + i)) ≡ x (rowPlace w (2 * n) + (halfPlace hi w + i))
+  pub taken-beside : (i : ℕ) → i < count hi W →
+      lowRowTaken W H n x (rowPlace (W .length) (2 * n) + (halfPlace hi W + i)) ≡ x (rowPlace (W .length) (2 * n) + (halfPlace hi W + i))
   unfolding lowRowTaken halfPlace
   taken-beside i b = splice-past _ _ _ x _ (omega arith)

@@ -1,37 +1,42 @@
 -- The laws of the sets of a 5/3 level: what the calls on the store come to, over plain variables. Assumes nothing.
-use mathlib.Core.Path.{_≡_, refl, sym, ap, _∙_}
+use mathlib.Core.Path.{_≡_, refl, sym, ap, _∙_, fun-ext}
 use mathlib.Core.List.{List}
 use mathlib.Core.Bool.{true, false}
 use Prim.Native.Nat.{ℕ, zero, suc, _+_, _-_, _*_, _/_, _%_, _≤_, _<_}
 use native.Mathlib.Decide.{decLt}
 use native.Mathlib.Omega.{arith}
-use lib.IntN.{ℤ}
+use lib.IntN.{ℤ, pos, _+ℤ_, _*ℤ_}
+use lib.Signed.{shrZ}
 use lib.ListN.{length}
-use lib.Dec.{leb}
+use lib.Dec.{leb, ltb}
 use borrow.Rule.Slice.PartMut.{midOf, putMid}
-use borrow.Author.Tests.{eq-eqb, ne-eqb, le-leb, lt-leb, leb-true}
+use borrow.Author.Tests.{eq-eqb, ne-eqb, lt-ltb, le-ltb, le-leb, lt-leb, leb-true}
 use Rattle.numbers.specs.Signal.{at, pick}
 use Rattle.numbers.specs.Word.{wrap32}
 use Rattle.numbers.proofs.Parts.{length-mid, at-mid, at-put}
-use Rattle.lifting.specs.Line.{lo, count, updated}
-use Rattle.lifting.specs.Halves.{liftedInPlace}
+use Rattle.numbers.proofs.Integers.{each, lin}
+use Rattle.lifting.specs.Line.{lo, predicted, unpredicted, updated}
+use Rattle.lifting.specs.Grid.{Side, side, count}
+use Rattle.lifting.specs.GridHalves.{liftedInPlace}
 use Rattle.lifting.specs.Rows.{rowChanged, rowsChanged}
 use Rattle.lifting.proofs.RowLaws.{rows-fit, changed}
 use Rattle.lifting.proofs.ColumnLaws.{pair-fits}
 use Rattle.lifting.specs.Pairs.{first, pairFits, pairLifted, pairCopied}
-use Rattle.level.specs.Level.{prev}
-use Rattle.level.specs.FiveThreeLevel.{slot, before, rowPredicted, rowUpdated, rowCopied, rowLifted, setWith, setMade, lowAlone, lastSet}
+use Rattle.wavelet.specs.Order.{lastSet}
+use Rattle.level.specs.FiveThreeLevel.{slot, before, rowPredicted, rowUpdated, doubled, rowDoubled, rowCopied, rowLifted}
+use Rattle.level.specs.FiveThreeLevel.{setWith, setMade, lowAlone, highAlone, setClosed}
 use Rattle.level.specs.Making.{levelFits, nextFits, delivered, setColumns}
 use Rattle.level.proofs.Places.{slot-index, slot-same, row-room, before-first, before-is}
 use Rattle.level.proofs.Slots.{slots-apart′}
 
 -- a row lifted in a part of the store that is lent
-pub lift-part : (w r a k : ℕ) (l z : List ℤ) → a ≡ slot w r → k ≡ w → a + w ≤ length l → length z ≡ k →
-    at z ≡ liftedInPlace (length (midOf a k l)) (at (midOf a k l)) → at (putMid a k l z) ≡ rowLifted w r (at l)
+pub lift-part : (W : Side) (q a k : ℕ) (l z : List ℤ) → a ≡ slot (W .length) q → k ≡ W .length → a + W .length ≤ length l → length z ≡ k →
+    at z ≡ liftedInPlace (side (W .start) (length (midOf a k l))) (at (midOf a k l)) → at (putMid a k l z) ≡ rowLifted W q (at l)
 unfolding rowLifted
-lift-part w r a k l z e d h s q =
-    let mid = length-mid a k l (omega arith) in
-    cc (d, e, mid, q, at-mid a k l, at-put a k l z s (omega arith))
+lift-part W q a k l z e d h s f =
+    let mid : length (midOf a k l) ≡ W .length = length-mid a k l (omega arith) ∙ d in
+    let g : at z ≡ liftedInPlace W (at (midOf a k l)) = rw mid at f in
+    cc (d, e, g, at-mid a k l, at-put a k l z s (omega arith))
 
 -- a row call on rows that are slots
 pub row-call : (f : ℤ → ℤ → ℤ → ℤ) (n w t l r : ℕ) (x : ℕ → ℤ) → 4 * w ≤ n → t < 4 → l < 4 → r < 4 → rowsChanged f n w w t l r x ≡ rowChanged f w w t l r x
@@ -70,47 +75,100 @@ module _ (w n r k h l f : ℕ) (eh : h ≡ (2 * n + 1) % 4) (el : l ≡ 2 * n % 
       round a = omega arith
 
 -- rows four apart are one row, lifted or read
-lifted-same : (w a b : ℕ) (x : ℕ → ℤ) → a % 4 ≡ b % 4 → rowLifted w a x ≡ rowLifted w b x
+lifted-same : (W : Side) (a b : ℕ) (x : ℕ → ℤ) → a % 4 ≡ b % 4 → rowLifted W a x ≡ rowLifted W b x
 unfolding rowLifted
-lifted-same w a b x e = rw (slot-same w a b e) refl
+lifted-same W a b x e = rw (slot-same (W .length) a b e) refl
 
-pub with-same : (w n r q : ℕ) (x : ℕ → ℤ) → r % 4 ≡ q % 4 → setWith w n r x ≡ setWith w n q x
+with-same : (W : Side) (n r q : ℕ) (x : ℕ → ℤ) → r % 4 ≡ q % 4 → setWith W n r x ≡ setWith W n q x
 unfolding setWith rowPredicted
-with-same w n r q x e = rw e refl
+with-same W n r q x e = rw e refl
 
 -- set n: its columns, then its two rows along the row
-pub set-made : (w n r a b : ℕ) (x₀ x₁ x₂ x₃ : ℕ → ℤ) → a % 4 ≡ 2 * n % 4 → b % 4 ≡ (2 * n + 3) % 4 →
-    x₁ ≡ setColumns w n r x₀ → x₂ ≡ rowLifted w a x₁ → x₃ ≡ rowLifted w b x₂ → x₃ ≡ setWith w n r x₀
+pub set-made : (W : Side) (n r a b : ℕ) (x₀ x₁ x₂ x₃ : ℕ → ℤ) → a % 4 ≡ 2 * n % 4 → b % 4 ≡ (2 * n + 3) % 4 →
+    x₁ ≡ setColumns (W .length) n r x₀ → x₂ ≡ rowLifted W a x₁ → x₃ ≡ rowLifted W b x₂ → x₃ ≡ setWith W n r x₀
 unfolding setWith setColumns
-set-made w n r a b x₀ x₁ x₂ x₃ ea eb e₁ e₂ e₃ =
-    let f₂ = lifted-same w a (2 * n) x₁ ea in
-    let f₃ = lifted-same w b (2 * n + 3) x₂ eb in
+set-made W n r a b x₀ x₁ x₂ x₃ ea eb e₁ e₂ e₃ =
+    let f₂ = lifted-same W a (2 * n) x₁ ea in
+    let f₃ = lifted-same W b (2 * n + 3) x₂ eb in
     cc (e₁, e₂, e₃, f₂, f₃)
 
 -- set n without a high row
-pub low-first : (w n : ℕ) (x₀ x₁ : ℕ → ℤ) → n ≡ 0 → x₁ ≡ rowLifted w 0 x₀ → x₁ ≡ lowAlone w n x₀
+pub low-first : (W : Side) (n : ℕ) (x₀ x₁ : ℕ → ℤ) → n ≡ 0 → x₁ ≡ rowLifted W 0 x₀ → x₁ ≡ lowAlone W n x₀
 unfolding lowAlone
-low-first w zero x₀ x₁ z e = e
-low-first w (suc n) x₀ x₁ z e = absurd (omega arith)
+low-first W zero x₀ x₁ z e = e
+low-first W (suc n) x₀ x₁ z e = absurd (omega arith)
 
-pub low-later : (w n l f k : ℕ) (x₀ x₁ x₂ : ℕ → ℤ) → l ≡ 2 * n % 4 → f ≡ (2 * n + 3) % 4 → 4 * w ≤ k → 0 < n →
-    x₁ ≡ rowsChanged (updated wrap32) k w w l f f x₀ → x₂ ≡ rowLifted w l x₁ → x₂ ≡ lowAlone w n x₀
+pub low-later : (W : Side) (n l f k : ℕ) (x₀ x₁ x₂ : ℕ → ℤ) → l ≡ 2 * n % 4 → f ≡ (2 * n + 3) % 4 → 4 * W .length ≤ k → 0 < n →
+    x₁ ≡ rowsChanged (updated wrap32) k (W .length) (W .length) l f f x₀ → x₂ ≡ rowLifted W l x₁ → x₂ ≡ lowAlone W n x₀
 unfolding lowAlone rowUpdated
-low-later w zero l f k x₀ x₁ x₂ el ef h z e₁ e₂ = absurd (omega arith)
-low-later w (suc n) l f k x₀ x₁ x₂ el ef h z e₁ e₂ =
-    let a₁ = row-call (updated wrap32) k w l f f x₀ h (omega arith) (omega arith) (omega arith) in
-    let f₂ = lifted-same w l (2 * suc n) x₁ (omega arith) in
+low-later W zero l f k x₀ x₁ x₂ el ef h z e₁ e₂ = absurd (omega arith)
+low-later W (suc n) l f k x₀ x₁ x₂ el ef h z e₁ e₂ =
+    let a₁ = row-call (updated wrap32) k (W .length) l f f x₀ h (omega arith) (omega arith) (omega arith) in
+    let f₂ = lifted-same W l (2 * suc n) x₁ (omega arith) in
     let b : f ≡ (2 * n + 1) % 4 = omega arith in
     cc (e₁, e₂, a₁, f₂, el, b)
 
--- the last set
-pub last-even : (w m n q : ℕ) (x y : ℕ → ℤ) → n ≡ prev (count lo m) → q % 4 ≡ 2 * n % 4 → m % 2 ≡ 0 → y ≡ setWith w n q x → y ≡ lastSet w m x
-unfolding lastSet
-last-even w m n q x y e d z p = simp (eq-eqb (m % 2) 0 z) (rw (← e) (p ∙ with-same w n q (2 * n) x d))
+-- set 0 without a low row: copied and lifted,
+pub high-done : (W : Side) (x₀ x₁ x₂ : ℕ → ℤ) → x₁ ≡ rowChanged first (W .length) (W .length) 3 1 1 x₀ → x₂ ≡ rowLifted W 3 x₁ → x₂ ≡ highAlone W x₀
+unfolding highAlone rowCopied
+high-done W x₀ x₁ x₂ e₁ e₂ = cc (e₁, e₂)
 
-pub last-odd : (w m n : ℕ) (x y : ℕ → ℤ) → n ≡ prev (count lo m) → (m % 2 ≡ 0 → ⊥) → y ≡ lowAlone w n x → y ≡ lastSet w m x
-unfolding lastSet
-last-odd w m n x y e z p = simp (ne-eqb (m % 2) 0 z) (rw (← e) p)
+-- by the row after it,
+pub first-done : (W : Side) (k : ℕ) (x₀ x₁ x₂ : ℕ → ℤ) → 4 * W .length ≤ k → x₁ ≡ rowsChanged (predicted wrap32) k (W .length) (W .length) 1 2 2 x₀
+    → x₂ ≡ highAlone W x₁ → x₂ ≡ highAlone W (rowPredicted (W .length) 1 2 2 x₀)
+unfolding rowPredicted
+first-done W k x₀ x₁ x₂ h e₁ e₂ =
+    let a₁ = row-call (predicted wrap32) k (W .length) 1 2 2 x₀ h (omega arith) (omega arith) (omega arith) in
+    cc (e₁, e₂, a₁)
+
+-- or doubled: a number and the mean of itself and itself
+twice : (v : ℤ) → unpredicted wrap32 v v v ≡ wrap32 (pos 2 *ℤ v)
+twice v = unfold unpredicted in ap wrap32 (mean v)
+  where
+    mean : (v : ℤ) → v +ℤ shrZ (v +ℤ v) 2 ≡ pos 2 *ℤ v
+    mean = each _ λ p q. simp lin (omega arith)
+
+row-doubled : (w t : ℕ) (x : ℕ → ℤ) → rowChanged (unpredicted wrap32) w w t t t x ≡ rowChanged doubled w w t t t x
+unfolding rowChanged
+row-doubled w t x =
+    fun-ext λ j.
+    elim (decLt j (t * w)) [
+      | yes p ↦ simp (lt-leb (t * w) j p)
+      | no d ↦
+          let k : t * w + (j - t * w) ≡ j = omega arith in
+          rw (k) (ap (λ (v : ℤ). pick (leb (t * w) j) (pick (ltb j (t * w + w)) v (x j)) (x j)) (twice (x j)))
+    ]
+
+pub only-done : (W : Side) (k : ℕ) (x₀ x₁ x₂ : ℕ → ℤ) → 4 * W .length ≤ k → x₁ ≡ rowsChanged (unpredicted wrap32) k (W .length) (W .length) 1 1 1 x₀
+    → x₂ ≡ highAlone W x₁ → x₂ ≡ highAlone W (rowDoubled (W .length) 1 x₀)
+unfolding rowDoubled
+only-done W k x₀ x₁ x₂ h e₁ e₂ =
+    let a₁ = row-call (unpredicted wrap32) k (W .length) 1 1 1 x₀ h (omega arith) (omega arith) (omega arith) in
+    cc (e₁, e₂, a₁, row-doubled (W .length) 1 x₀)
+
+-- set n of a level whose rows start at s
+module _ (W : Side) (s n : ℕ) (x y : ℕ → ℤ) where
+  pub made-one : n < s % 2 → y ≡ highAlone W (rowPredicted (W .length) 1 2 2 x) → y ≡ setMade W s n x
+  unfolding setMade
+  made-one h e = simp (lt-ltb n (s % 2) h) e
+
+  pub made-two : (r : ℕ) → s % 2 ≤ n → r % 4 ≡ (2 * n + 2) % 4 → y ≡ setWith W n r x → y ≡ setMade W s n x
+  unfolding setMade
+  made-two r h d e = simp (le-ltb n (s % 2) h) (e ∙ with-same W n r (2 * n + 2) x d)
+
+-- the last set
+module _ (W H : Side) (n : ℕ) (x y : ℕ → ℤ) (z : n ≡ lastSet H) where
+  pub last-low : ((H .start % 2 + H .length) % 2 ≡ 0 → ⊥) → y ≡ lowAlone W n x → y ≡ setClosed W H x
+  unfolding setClosed
+  last-low d e = simp (ne-eqb ((H .start % 2 + H .length) % 2) 0 d) (rw (← z) e)
+
+  pub last-only : (H .start % 2 + H .length) % 2 ≡ 0 → n < H .start % 2 → y ≡ highAlone W (rowDoubled (W .length) 1 x) → y ≡ setClosed W H x
+  unfolding setClosed
+  last-only d h e = rw (eq-eqb ((H .start % 2 + H .length) % 2) 0 d, ← z, lt-ltb n (H .start % 2) h) e
+
+  pub last-two : (q : ℕ) → (H .start % 2 + H .length) % 2 ≡ 0 → H .start % 2 ≤ n → q % 4 ≡ 2 * n % 4 → y ≡ setWith W n q x → y ≡ setClosed W H x
+  unfolding setClosed
+  last-two q d h f e = rw (eq-eqb ((H .start % 2 + H .length) % 2) 0 d, ← z, le-ltb n (H .start % 2) h) (e ∙ with-same W n q (2 * n) x f)
 
 -- ---- what the calls ask, and what they leave where it is so
 module _ (n w : ℕ) where
@@ -122,14 +180,6 @@ module _ (n w : ℕ) where
   unfolding levelFits
   level-fits h = le-leb _ _ h
 
-  pub next-in : nextFits n w ≡ true → 4 * w + 4 * count lo w ≤ n
-  unfolding nextFits
-  next-in e = leb-true _ _ e
-
-  pub next-fits : 4 * w + 4 * count lo w ≤ n → nextFits n w ≡ true
-  unfolding nextFits
-  next-fits h = le-leb _ _ h
-
   -- by division
   pub quarter : leb w (n / 4) ≡ leb (4 * w) n
   quarter =
@@ -138,24 +188,35 @@ module _ (n w : ℕ) where
         | no d ↦ simp (le-leb w (n / 4) (omega arith), le-leb (4 * w) n (omega arith))
       ]
 
-  pub next-quarter : (v : ℕ) → w ≤ n / 4 → v ≡ count lo w → leb v ((n - 4 * w) / 4) ≡ nextFits n w
+  -- a call that passes
+  pub made-done : (x s k : ℕ) (y z : ℕ → ℤ) → 4 * w ≤ n → z ≡ pick (levelFits n w) (setMade (side x w) s k y) y → z ≡ setMade (side x w) s k y
+  made-done x s k y z h e = rw (level-fits h) at e
+
+  pub closed-done : (x s m : ℕ) (y z : ℕ → ℤ) → 4 * w ≤ n → z ≡ pick (levelFits n w) (setClosed (side x w) (side s m) y) y
+      → z ≡ setClosed (side x w) (side s m) y
+  closed-done x s m y z h e = rw (level-fits h) at e
+
+-- the next level's stretch
+module _ (n : ℕ) (W : Side) where
+  pub next-in : nextFits n W ≡ true → 4 * W .length + 4 * count lo W ≤ n
+  unfolding nextFits
+  next-in e = leb-true _ _ e
+
+  pub next-fits : 4 * W .length + 4 * count lo W ≤ n → nextFits n W ≡ true
+  unfolding nextFits
+  next-fits h = le-leb _ _ h
+
+  pub next-quarter : (v : ℕ) → W .length ≤ n / 4 → v ≡ count lo W → leb v ((n - 4 * W .length) / 4) ≡ nextFits n W
   unfolding nextFits
   next-quarter v h e =
-      elim (decLt ((n - 4 * w) / 4) v) [
-        | yes p ↦ simp (lt-leb v ((n - 4 * w) / 4) p, lt-leb (4 * w + 4 * count lo w) n (omega arith))
-        | no d ↦ simp (le-leb v ((n - 4 * w) / 4) (omega arith), le-leb (4 * w + 4 * count lo w) n (omega arith))
+      elim (decLt ((n - 4 * W .length) / 4) v) [
+        | yes p ↦ simp (lt-leb v ((n - 4 * W .length) / 4) p, lt-leb (4 * W .length + 4 * count lo W) n (omega arith))
+        | no d ↦ simp (le-leb v ((n - 4 * W .length) / 4) (omega arith), le-leb (4 * W .length + 4 * count lo W) n (omega arith))
       ]
 
-  pub next-none : n / 4 < w → false ≡ nextFits n w
+  pub next-none : n / 4 < W .length → false ≡ nextFits n W
   unfolding nextFits
-  next-none h = sym (lt-leb (4 * w + 4 * count lo w) n (omega arith))
+  next-none h = sym (lt-leb (4 * W .length + 4 * count lo W) n (omega arith))
 
-  -- a call that passes
-  pub made-done : (k : ℕ) (x y : ℕ → ℤ) → 4 * w ≤ n → y ≡ pick (levelFits n w) (setMade w k x) x → y ≡ setMade w k x
-  made-done k x y h e = rw (level-fits h) at e
-
-  pub closed-done : (m : ℕ) (x y : ℕ → ℤ) → 4 * w ≤ n → y ≡ pick (levelFits n w) (lastSet w m x) x → y ≡ lastSet w m x
-  closed-done m x y h e = rw (level-fits h) at e
-
-  pub delivered-done : (k : ℕ) (x y : ℕ → ℤ) → 4 * w + 4 * count lo w ≤ n → y ≡ pick (nextFits n w) (delivered w k x) x → y ≡ delivered w k x
-  delivered-done k x y h e = rw (next-fits h) at e
+  pub delivered-done : (k q : ℕ) (x y : ℕ → ℤ) → 4 * W .length + 4 * count lo W ≤ n → y ≡ pick (nextFits n W) (delivered W k q x) x → y ≡ delivered W k q x
+  delivered-done k q x y h e = rw (next-fits h) at e

@@ -1,32 +1,36 @@
 -- Working out a set. If the level's memory holds the set's rows, and of the set before it the even row and the high row of the columns, then what is made are
--- rows of the grid; and if a value is refused, the grid has one that does not fit.
--- Over words, for any grid of 32-bit numbers: no range is asked. Assumes nothing.
+-- the rows of the way back; and if a number is refused, a row does not fit, or one that is halved is odd.
+-- Over words, for any bands: nothing is asked of their numbers. Assumes nothing.
 use mathlib.Core.Bool.{Bool, true, false}
-use mathlib.Core.Path.{_≡_, refl, sym, subst, _∙_}
-use Prim.Native.Nat.{ℕ, zero, suc, _+_, _-_, _*_, min, _≤_, _<_}
+use mathlib.Core.Path.{_≡_, refl, sym, ap, subst, _∙_}
+use Prim.Native.Nat.{ℕ, zero, suc, _+_, _-_, _*_, _/_, _%_, min, _≤_, _<_}
 use native.Mathlib.Decide.{ℕ-discrete, decLt}
 use native.Mathlib.Omega.{arith}
 use lib.IntN.{ℤ}
-use lib.Dec.{T, ltb, eqb}
-use mir.Syntax.{w32}
-use mir.Val.{SFits}
-use borrow.Author.Tests.{lt-ltb, le-ltb, eq-eqb, ne-eqb}
+use lib.Signed.{shrZ}
+use lib.Dec.{T, ltb, leb, eqb}
+use borrow.Author.Tests.{lt-ltb, le-ltb, le-leb, lt-leb, eq-eqb, ne-eqb}
 use Rattle.numbers.specs.Signal.{pick}
+use Rattle.numbers.specs.Tests.{every}
 use Rattle.numbers.specs.Word.{wrap32}
-use Rattle.lifting.specs.Line.{Half, lo, hi, count, parted, unupdated, unpredicted, lineForward, lineHalvesBack}
-use Rattle.lifting.proofs.Filter.{place, place-in, in-place, by-place}
-use Rattle.lifting.proofs.LineTheorems.{forward-fits}
-use Rattle.lifting.proofs.LineLaws.{even-is, odd-is, low-one}
-use Rattle.wavelet.specs.Bands.{Grid, columnsLifted}
-use Rattle.wavelet.specs.Maps.{valueFits}
-use Rattle.wavelet.proofs.LevelTheory.{OnCells}
+use Rattle.numbers.proofs.Sweep.{both as both-hold}
 use Rattle.numbers.proofs.TestLaws.{every-each, each-every}
-use Rattle.level.specs.Sets.{setOf}
+use Rattle.lifting.specs.Line.{Half, lo, hi, unupdated, unpredicted}
+use Rattle.lifting.specs.Grid.{Side, place, count, parted, lineHalvesBack, lineBack, loneHigh, isEven, hasLine}
+use Rattle.lifting.specs.Passes.{near}
+use Rattle.lifting.proofs.GridLaws.{place-in, in-place, by-place, joined-place, even-near, odd-near, even-one, odd-one}
+use Rattle.lifting.proofs.LoneLaws.{lone-high, lone-odd, has-lone, has-other}
+use Rattle.wavelet.specs.Bands.{Grid, Band, bandOf, rowsUnlifted, levelBack, rowsHave, columnsHave, levelHas}
+use Rattle.wavelet.specs.Maps.{valueFits}
+use Rattle.wavelet.specs.Order.{firstSet, lastSet}
+use Rattle.wavelet.specs.Steps.{setOf}
 use Rattle.level.specs.Tried.{Tried, failed, passed, bind}
-use Rattle.level.specs.Slots.{slot, rowPlace, rowUnlifted, rowBy, halfPlace}
-use Rattle.level.specs.Stands.{SetLeaves}
-use Rattle.level.specs.Work.{rowFits, admitted, setUnlifted, evenRow, oddRow, evenMade, oddMade, lastMade, setMade}
-use Rattle.level.proofs.RowsIn.{apart, parity, Is, only-by, is-old, only-unlifted, unlifted-is, by-is, halves-back-forward, half-inside, by-halves}
+use Rattle.level.specs.Slots.{rowPlace, local, rowUnlifted, rowHasLine, rowBy, rowHalved, rowIsEven, halfPlace}
+use Rattle.level.specs.Stands.{SetHas, SetLeaves}
+use Rattle.level.specs.Work.{endOf, hasLow, lowNear, highNear, lineTried, lowTried, highTried, setUnlifted, evenRow, oddRow, rowFits, admitted}
+use Rattle.level.specs.Work.{evenMade, oddMade, loneMade, lastMade, rowsMade, setMade}
+use Rattle.level.proofs.RowsIn.{apart, parity, Is, Only, only-by, is-old, only-unlifted, unlifted-is, line-is, by-is, only-halved, halved-is}
+use Rattle.level.proofs.RowsIn.{half-inside, by-halves}
 
 -- ---- what trying comes to: a memory with a property, or a value that does not fit where N says that all do
 pub data Outcome (N : Type 0) (P : (ℕ → ℤ) → Type 0) : Tried → Type 0 where
@@ -39,298 +43,631 @@ unfolding bind
 bind-outcome _ f (stops n) g = stops n
 bind-outcome _ f (goes y p) g = g y p
 
--- ---- one level: a grid of w columns and h rows, the low-low part of level k
-module _ (k w h : ℕ) (G : Grid) (good : OnCells (SFits w32) w h G) where
-  abbrev pub FitRow : ℕ → Type 0
-  FitRow r = (c : ℕ) → c < w → valueFits k (G r c) ≡ true
+not-false : (t : Bool) → t ≡ true → t ≡ false → ⊥
+not-false t e f = subst T (sym e ∙ f) tt
 
-  abbrev pub FitAll : Type 0
-  FitAll = (r c : ℕ) → r < h → c < w → valueFits k (G r c) ≡ true
+-- every value of the way back fits as a low-low value of level k, and none that is halved is odd
+pub record FitAll (k : ℕ) (W H : Side) (p : Band → Grid) : Type 0 where
+  pub has : levelHas W H p ≡ true
+  pub fit : (r c : ℕ) → r < H .length → c < W .length → valueFits k (levelBack wrap32 W H p r c) ≡ true
 
-  -- row n of a half of the columns
+pub has-row : (W H : Side) (p : Band → Grid) → levelHas W H p ≡ true → (h : Half) (r : ℕ) → r < count h H → hasLine W (λ a. p (bandOf a h) r) ≡ true
+unfolding levelHas rowsHave
+has-row W H p e = go
+  where
+    lines : (h : Half) → ℕ → Bool
+    lines h r = hasLine W (λ a. p (bandOf a h) r)
+
+    rows : (every (count lo H) (lines lo) ≡ true) × (every (count hi H) (lines hi) ≡ true)
+    rows = both-hold (every (count lo H) (lines lo)) (every (count hi H) (lines hi)) (both-hold (rowsHave W H p) (columnsHave W H p) e .0)
+
+    go : (h : Half) (r : ℕ) → r < count h H → lines h r ≡ true
+    go lo r b = every-each (count lo H) (lines lo) (rows .0) r b
+    go hi r b = every-each (count hi H) (lines hi) (rows .1) r b
+
+pub has-column : (W H : Side) (p : Band → Grid) → levelHas W H p ≡ true → (c : ℕ) → c < W .length →
+    hasLine H (λ h i. rowsUnlifted wrap32 W p h i c) ≡ true
+unfolding levelHas columnsHave
+has-column W H p e c b = every-each (W .length) _ (both-hold (rowsHave W H p) (columnsHave W H p) e .1) c b
+
+-- ---- one level: the bands p of the columns W and the rows H, whose rows are low-low values of level k
+module _ (k : ℕ) (W H : Side) (p : Band → Grid) where
+  -- the grid, and row n of a half of its columns
+  abbrev pub G : Grid
+  G = levelBack wrap32 W H p
+
   abbrev pub cols : Half → ℕ → ℕ → ℤ
-  cols y n = columnsLifted wrap32 h G y n
+  cols y n = rowsUnlifted wrap32 W p y n
 
-  cols-fit : (y : Half) (n : ℕ) → n < count y h → (c : ℕ) → c < w → SFits w32 (cols y n c)
-  unfolding columnsLifted
-  cols-fit y n p c q = forward-fits h (λ i. G i c) (λ i u. good i c u q) y n p
+  abbrev pub FitRow : ℕ → Type 0
+  FitRow r = (c : ℕ) → c < W .length → valueFits k (G r c) ≡ true
+
+  abbrev b₀ : ℕ
+  b₀ = firstSet H lo
 
   -- ---- a sample from the two halves of its column
-  column-back : (y : Half) (n c : ℕ) → n < count y h → c < w → lineHalvesBack wrap32 h (λ a m. cols a m c) y n ≡ G (place lo y n) c
-  unfolding columnsLifted parted
-  column-back lo n c p q = halves-back-forward h (λ i. G i c) (λ i u. good i c u q) lo n p
-  column-back hi n c p q = halves-back-forward h (λ i. G i c) (λ i u. good i c u q) hi n p
+  column-back : (y : Half) (n c : ℕ) → G (place H y n) c ≡ lineHalvesBack wrap32 H (λ a m. cols a m c) y n
+  unfolding levelBack lineBack
+  column-back y n c = joined-place H (lineHalvesBack wrap32 H (λ a m. cols a m c)) y n
 
-  even-value : (n c : ℕ) → 1 < h → n < count lo h → c < w →
-      unupdated wrap32 (cols lo n c) (cols hi (n - 1) c) (cols hi (min n (count hi h - 1)) c) ≡ G (2 * n) c
-  unfolding lineHalvesBack
-  even-value n c g p q = sym (even-is wrap32 h g (λ m. cols lo m c) (λ m. cols hi m c) n p) ∙ column-back lo n c p q
+  low-row : (n : ℕ) → b₀ ≤ n → place H lo (n - b₀) ≡ 2 * n - b₀
+  unfolding place firstSet
+  low-row n b = omega arith
 
-  odd-value : (m c : ℕ) → m < count hi h → c < w → unpredicted wrap32 (cols hi m c) (G (2 * m) c) (G (2 * min (m + 1) (count lo h - 1)) c) ≡ G (2 * m + 1) c
-  unfolding lineHalvesBack count
-  odd-value m c p q =
-      (λ i. unpredicted wrap32 (cols hi m c) (sym (column-back lo m c (omega arith) q) i)
-      (sym (column-back lo (min (m + 1) (count lo h - 1)) c (omega arith) q) i))
-      ∙ sym (odd-is wrap32 h (omega arith) (λ i. cols lo i c) (λ i. cols hi i c) m p)
-      ∙ column-back hi m c p q
+  high-row : (m : ℕ) → place H hi m ≡ 2 * m + 1 - b₀
+  unfolding place firstSet
+  high-row m = omega arith
 
-  one-value : (n c : ℕ) → h ≤ 1 → cols lo n c ≡ G (2 * n) c
-  unfolding columnsLifted lineForward
-  one-value n c g = low-one wrap32 h g (λ i. G i c) n
+  even-back : (n c : ℕ) → b₀ ≤ n → G (2 * n - b₀) c ≡ lineHalvesBack wrap32 H (λ a m. cols a m c) lo (n - b₀)
+  even-back n c b = ap (λ (r : ℕ). G r c) (sym (low-row n b)) ∙ column-back lo (n - b₀) c
+
+  odd-back : (m c : ℕ) → G (2 * m + 1 - b₀) c ≡ lineHalvesBack wrap32 H (λ a i. cols a i c) hi m
+  odd-back m c = ap (λ (r : ℕ). G r c) (sym (high-row m)) ∙ column-back hi m c
+
+  even-value : (n c : ℕ) → 1 < H .length → b₀ ≤ n → n - b₀ < count lo H →
+      unupdated wrap32 (cols lo (n - b₀) c) (cols hi (highNear H (n - 1)) c) (cols hi (highNear H n) c) ≡ G (2 * n - b₀) c
+  unfolding highNear firstSet
+  even-value n c g b l =
+      (λ i. unupdated wrap32 (cols lo (n - b₀) c) (cols hi (one i) c) (cols hi (two i) c))
+      ∙ sym (even-near H g wrap32 (λ a m. cols a m c) (n - b₀) l)
+      ∙ sym (even-back n c b)
+    where
+      one : highNear H (n - 1) ≡ highNear H (n - b₀ + H .start % 2 - 1)
+      one = ap (highNear H) (omega arith)
+
+      two : highNear H n ≡ highNear H (n - b₀ + H .start % 2)
+      two = ap (highNear H) (omega arith)
+
+  near-low : (i : ℕ) → b₀ ≤ lowNear H i
+  unfolding lowNear
+  near-low i = omega arith
+
+  odd-value : (m c : ℕ) → 1 < H .length → m < count hi H →
+      unpredicted wrap32 (cols hi m c) (G (2 * lowNear H m - b₀) c) (G (2 * lowNear H (m + 1) - b₀) c) ≡ G (2 * m + 1 - b₀) c
+  unfolding lowNear firstSet
+  odd-value m c g l =
+      (λ i. unpredicted wrap32 (cols hi m c) ((even-back (lowNear H m) c (near-low m) ∙ ap back one) i)
+      ((even-back (lowNear H (m + 1)) c (near-low (m + 1)) ∙ ap back two) i))
+      ∙ sym (odd-near H g wrap32 (λ a i. cols a i c) m l)
+      ∙ sym (odd-back m c)
+    where
+      back : ℕ → ℤ
+      back i = lineHalvesBack wrap32 H (λ a j. cols a j c) lo i
+
+      drop : (b i : ℕ) → b + i - b ≡ i
+      drop b i = omega arith
+
+      before : m - H .start % 2 ≡ m + (1 - H .start % 2) - 1
+      before = omega arith
+
+      after : m + 1 - H .start % 2 ≡ m + (1 - H .start % 2)
+      after = omega arith
+
+      one : lowNear H m - b₀ ≡ near (count lo H) (m + (1 - H .start % 2) - 1)
+      one = drop b₀ _ ∙ ap (near (count lo H)) before
+
+      two : lowNear H (m + 1) - b₀ ≡ near (count lo H) (m + (1 - H .start % 2))
+      two = drop b₀ _ ∙ ap (near (count lo H)) after
+
+  one-value : (n c : ℕ) → H .length ≤ 1 → b₀ ≤ n → cols lo (n - b₀) c ≡ G (2 * n - b₀) c
+  one-value n c g b = sym (even-back n c b ∙ even-one H g wrap32 (λ a m. cols a m c) (n - b₀))
+
+  lone-value : (m c : ℕ) → H .length ≤ 1 → shrZ (cols hi m c) 2 ≡ G (2 * m + 1 - b₀) c
+  lone-value m c g = sym (odd-back m c ∙ odd-one H g wrap32 (λ a i. cols a i c) m)
 
   -- rows of the level, told by their columns
-  by-columns : (f : ℤ → ℤ → ℤ → ℤ) (r₁ r₂ r₃ r₄ : ℕ → ℤ) → ((c : ℕ) → c < w → f (r₁ c) (r₂ c) (r₃ c) ≡ r₄ c) → (a : Half) (i : ℕ) → i < count a w →
-      f (parted r₁ a i) (parted r₂ a i) (parted r₃ a i) ≡ parted r₄ a i
+  by-columns : (f : ℤ → ℤ → ℤ → ℤ) (r₁ r₂ r₃ r₄ : ℕ → ℤ) → ((c : ℕ) → c < W .length → f (r₁ c) (r₂ c) (r₃ c) ≡ r₄ c) → (a : Half) (i : ℕ) → i < count a W →
+      f (parted W r₁ a i) (parted W r₂ a i) (parted W r₃ a i) ≡ parted W r₄ a i
   unfolding parted
-  by-columns f r₁ r₂ r₃ r₄ e lo i b = e (2 * i) (place-in lo lo w i b)
-  by-columns f r₁ r₂ r₃ r₄ e hi i b = e (2 * i + 1) (place-in lo hi w i b)
+  by-columns f r₁ r₂ r₃ r₄ e a i b = e (place W a i) (place-in W a i b)
 
-  same-row : (x : ℕ → ℤ) (r : ℕ) (r₁ r₂ : ℕ → ℤ) → ((c : ℕ) → c < w → r₁ c ≡ r₂ c) → Is w x r (parted r₁) → Is w x r (parted r₂)
-  same-row x r r₁ r₂ e s a i b = s a i b ∙ by-columns (λ v _ _. v) r₁ r₁ r₁ r₂ e a i b
+  same-row : (x : ℕ → ℤ) (q : ℕ) (r₁ r₂ : ℕ → ℤ) → ((c : ℕ) → c < W .length → r₁ c ≡ r₂ c) → Is W x q (parted W r₁) → Is W x q (parted W r₂)
+  same-row x q r₁ r₂ e s a i b = s a i b ∙ by-columns (λ v _ _. v) r₁ r₁ r₁ r₂ e a i b
+
+  -- ---- a test of every number of a row, of those that stand there
+  fits-parted : (row : ℕ → ℤ) (P : ℤ → Bool) → ((a : Half) (i : ℕ) → i < count a W → P (parted W row a i) ≡ true) → (c : ℕ) → c < W .length → P (row c) ≡ true
+  unfolding parted
+  fits-parted row P f = by-place W (λ c. c < W .length → P (row c) ≡ true) (λ a i b. f a i (in-place W a i b))
+
+  each-stands : (P : ℤ → Bool) (q : ℕ) (x row : ℕ → ℤ) → Is W x q (parted W row) →
+      ((i : ℕ) → i < W .length → P (x (rowPlace (W .length) q + i)) ≡ true) →
+      (c : ℕ) → c < W .length → P (row c) ≡ true
+  each-stands P q x row s f = fits-parted row P (λ a i b. subst (λ v. P v ≡ true) (s a i b) (f (halfPlace a W + i) (half-inside a W i b)))
+
+  stands-each : (P : ℤ → Bool) (q : ℕ) (x row : ℕ → ℤ) → Is W x q (parted W row) → ((c : ℕ) → c < W .length → P (row c) ≡ true) →
+      (i : ℕ) → i < W .length →
+      P (x (rowPlace (W .length) q + i)) ≡ true
+  unfolding parted
+  stands-each P q x row s f =
+      by-halves W (λ j. P (x (rowPlace (W .length) q + j)) ≡ true)
+      (λ a i b. subst (λ v. P v ≡ true) (sym (s a i b)) (f (place W a i) (place-in W a i b)))
 
   -- ---- the test of 14
-  parted-fits : (r : ℕ) (a : Half) (i : ℕ) → i < count a w → FitRow r → valueFits k (parted (G r) a i) ≡ true
-  unfolding parted
-  parted-fits r lo i b f = f (2 * i) (place-in lo lo w i b)
-  parted-fits r hi i b f = f (2 * i + 1) (place-in lo hi w i b)
-
-  fits-parted : (r : ℕ) → ((a : Half) (i : ℕ) → i < count a w → valueFits k (parted (G r) a i) ≡ true) → FitRow r
-  unfolding parted
-  fits-parted r f = by-place lo (λ c. c < w → valueFits k (G r c) ≡ true) (λ a i b. at a i (f a i (in-place lo a w i b)))
-    where
-      at : (a : Half) (i : ℕ) → valueFits k (parted (G r) a i) ≡ true → valueFits k (G r (place lo a i)) ≡ true
-      at lo i e = e
-      at hi i e = e
-
-  not-false : (t : Bool) → t ≡ true → t ≡ false → ⊥
-  not-false t e f = subst T (sym e ∙ f) tt
-
-  admit : (P : (ℕ → ℤ) → Type 0) (r : ℕ) (x : ℕ → ℤ) → r < h → Is w x r (parted (G r)) → (FitRow r → P x) → Outcome FitAll P (admitted k w r x)
+  admit : (P : (ℕ → ℤ) → Type 0) (q r : ℕ) (x : ℕ → ℤ) → r < H .length → Is W x q (parted W (G r)) → (FitRow r → P x) →
+      Outcome (FitAll k W H p) P (admitted k (W .length) q x)
   unfolding admitted rowFits
-  admit P r x b s f = go (rowFits k w r x) refl
+  admit P q r x b s f = go (rowFits k (W .length) q x) refl
     where
-      go : (t : Bool) → rowFits k w r x ≡ t → Outcome FitAll P (pick t (passed x) failed)
-      go true e = goes x (f (fits-parted r (λ a i p. subst (λ v. valueFits k v ≡ true) (s a i p) (every-each w _ e (halfPlace a w + i) (half-inside a w i p)))))
-      go false e = stops (λ all. not-false (rowFits k w r x)
-          (each-every w _ (by-halves w (λ j. valueFits k (x (rowPlace w r + j)) ≡ true)
-          (λ a i p. subst (λ v. valueFits k v ≡ true) (sym (s a i p)) (parted-fits r a i p (λ c q. all r c b q))))) e)
+      go : (t : Bool) → rowFits k (W .length) q x ≡ t → Outcome (FitAll k W H p) P (pick t (passed x) failed)
+      go true e = goes x (f (each-stands (valueFits k) q x (G r) s (every-each (W .length) _ e)))
+      go false e = stops (λ all. not-false (rowFits k (W .length) q x)
+          (each-every (W .length) _ (stands-each (valueFits k) q x (G r) s (λ c u. all .fit r c b u))) e)
 
   -- ---- what a set needs
   pub record Needs (n : ℕ) (x : ℕ → ℤ) : Type 0 where
-    pub low : Is w x (2 * n) (lineForward wrap32 w (cols lo n))
-    pub high : n < count hi h → Is w x (2 * n + 1) (lineForward wrap32 w (cols hi n))
-    pub even-before : (p : ℕ) → n ≡ suc p → Is w x (2 * p) (parted (G (2 * p)))
-    pub high-before : (p : ℕ) → n ≡ suc p → Is w x (2 * p + 1) (parted (cols hi p))
+    pub low : b₀ ≤ n → Is W x (2 * n) (λ a. p (bandOf a lo) (n - b₀))
+    pub high : n < count hi H → Is W x (2 * n + 1) (λ a. p (bandOf a hi) n)
+    pub even-before : (m : ℕ) → n ≡ suc m → b₀ ≤ m → Is W x (2 * m) (parted W (G (2 * m - b₀)))
+    pub high-before : (m : ℕ) → n ≡ suc m → Is W x (2 * m + 1) (parted W (cols hi m))
 
   abbrev pub Leaves : ℕ → (ℕ → ℤ) → Type 0
-  Leaves n x = SetLeaves k w h G n x
+  Leaves n x = SetLeaves k W H p n x
+
+  -- the rows of the set are lines'
+  record Lines (n : ℕ) : Type 0 where
+    low : b₀ ≤ n → hasLine W (λ a. p (bandOf a lo) (n - b₀)) ≡ true
+    high : n < count hi H → hasLine W (λ a. p (bandOf a hi) n) ≡ true
+
+  -- ---- numbers
+  in-lows : (n : ℕ) → 0 < H .length → n ≤ lastSet H → b₀ ≤ n → n - b₀ < count lo H
+  unfolding lastSet count firstSet
+  in-lows n g l b = omega arith
+
+  in-highs : (n : ℕ) → 2 * n + 1 < endOf H → n < count hi H
+  unfolding endOf count
+  in-highs n l = omega arith
+
+  past-highs : (n : ℕ) → endOf H ≤ 2 * n + 1 → count hi H ≤ n
+  unfolding endOf count
+  past-highs n l = omega arith
 
   module _ (x₀ : ℕ → ℤ) where
     -- nothing past the level's four rows has changed
     abbrev pub Past : (ℕ → ℤ) → Type 0
-    Past y = (j : ℕ) → 4 * w ≤ j → y j ≡ x₀ j
+    Past y = (j : ℕ) → 4 * W .length ≤ j → y j ≡ x₀ j
 
-    -- along the rows
+    -- ---- along the rows
+    -- a row tried: what stands in the other slots still does
+    line-tried : (P : (ℕ → ℤ) → Type 0) (h : Half) (r q : ℕ) (x : ℕ → ℤ) → r < count h H → Is W x q (λ a. p (bandOf a h) r) →
+        (hasLine W (λ a. p (bandOf a h) r) ≡ true → Is W (rowUnlifted W q x) q (parted W (cols h r)) → P (rowUnlifted W q x)) →
+        Outcome (FitAll k W H p) P (lineTried W q x)
+    unfolding lineTried rowsUnlifted
+    line-tried P h r q x b s f = go (rowHasLine W q x) refl
+      where
+        go : (t : Bool) → rowHasLine W q x ≡ t → Outcome (FitAll k W H p) P (pick t (passed (rowUnlifted W q x)) failed)
+        go true e = goes (rowUnlifted W q x) (f (sym (line-is W q x _ s) ∙ e) (unlifted-is W q x _ s))
+        go false e = stops (λ all. not-false (rowHasLine W q x) (line-is W q x _ s ∙ has-row W H p (all .has) h r b) e)
+
+    -- the low row lifted back
+    record Low (n : ℕ) (x : ℕ → ℤ) : Type 0 where
+      line : b₀ ≤ n → hasLine W (λ a. p (bandOf a lo) (n - b₀)) ≡ true
+      low : b₀ ≤ n → Is W x (2 * n) (parted W (cols lo (n - b₀)))
+      high : n < count hi H → Is W x (2 * n + 1) (λ a. p (bandOf a hi) n)
+      even-before : (m : ℕ) → n ≡ suc m → b₀ ≤ m → Is W x (2 * m) (parted W (G (2 * m - b₀)))
+      high-before : (m : ℕ) → n ≡ suc m → Is W x (2 * m + 1) (parted W (cols hi m))
+      past : Past x
+
+    low-tried : (n : ℕ) (x : ℕ → ℤ) → 0 < H .length → n ≤ lastSet H → Past x → Needs n x → Outcome (FitAll k W H p) (Low n) (lowTried W H n x)
+    unfolding lowTried hasLow
+    low-tried n x g l z s = go (decLt n b₀)
+      where
+        go : Dec (n < b₀) → Outcome (FitAll k W H p) (Low n) (pick (leb b₀ n) (lineTried W (2 * n) x) (passed x))
+        go (yes u) = rw (lt-leb b₀ n u) (goes x (record {
+          line = λ v. absurd (omega arith);
+          low = λ v. absurd (omega arith);
+          high = s .high;
+          even-before = s .even-before;
+          high-before = s .high-before;
+          past = z;
+        }))
+        go (no u) =
+            let o = only-unlifted W (2 * n) x in
+            rw (le-leb b₀ n (omega arith))
+            (line-tried (Low n) lo (n - b₀) (2 * n) x (in-lows n g l (omega arith)) (s .low (omega arith)) (λ e m. record {
+              line = λ _. e;
+              low = λ _. m;
+              high = λ v. is-old W (2 * n) x _ (2 * n + 1) _ o (parity (2 * n) (2 * n + 1) n n (omega arith) (omega arith)) (s .high v);
+              even-before = λ i v w. is-old W (2 * n) x _ (2 * i) _ o (λ y. apart (2 * i) (2 * n) (omega arith) (sym y)) (s .even-before i v w);
+              high-before = λ i v. is-old W (2 * n) x _ (2 * i + 1) _ o (parity (2 * n) (2 * i + 1) n i (omega arith) (omega arith)) (s .high-before i v);
+              past = λ j v. o .past j v ∙ z j v;
+            }))
+
+    -- both
     record Rows (n : ℕ) (x : ℕ → ℤ) : Type 0 where
-      low : Is w x (2 * n) (parted (cols lo n))
-      high : (i : ℕ) → i < count hi h → i ≤ n → n ≤ suc i → Is w x (2 * i + 1) (parted (cols hi i))
-      even-before : (p : ℕ) → n ≡ suc p → Is w x (2 * p) (parted (G (2 * p)))
+      lines : Lines n
+      low : b₀ ≤ n → Is W x (2 * n) (parted W (cols lo (n - b₀)))
+      high : (i : ℕ) → i < count hi H → i ≤ n → n ≤ suc i → Is W x (2 * i + 1) (parted W (cols hi i))
+      even-before : (m : ℕ) → n ≡ suc m → b₀ ≤ m → Is W x (2 * m) (parted W (G (2 * m - b₀)))
       past : Past x
 
-    unlifted : (n : ℕ) (x : ℕ → ℤ) → 2 * n < h → Past x → Needs n x → Rows n (setUnlifted w h n x)
-    unfolding setUnlifted count
-    unlifted n x b z s = go (decLt (2 * n + 1) h)
+    high-tried : (n : ℕ) (x : ℕ → ℤ) → Low n x → Outcome (FitAll k W H p) (Rows n) (highTried W H n x)
+    unfolding highTried
+    high-tried n x s = go (decLt (2 * n + 1) (endOf H))
       where
-        one : ℕ → ℤ
-        one = rowUnlifted w (2 * n) x
+        go : Dec (2 * n + 1 < endOf H) → Outcome (FitAll k W H p) (Rows n) (pick (ltb (2 * n + 1) (endOf H)) (lineTried W (2 * n + 1) x) (passed x))
+        go (yes u) =
+            let o = only-unlifted W (2 * n + 1) x in
+            let v = in-highs n u in
+            rw (lt-ltb (2 * n + 1) (endOf H) u)
+            (line-tried (Rows n) hi n (2 * n + 1) x v (s .high v) (λ e m. record {
+              lines = record { low = s .line; high = λ _. e };
+              low = λ b. is-old W (2 * n + 1) x _ (2 * n) _ o (λ y. parity (2 * n) (2 * n + 1) n n (omega arith) (omega arith) (sym y)) (s .low b);
+              high = λ i b c d. elim (ℕ-discrete i n) [
+                | yes y ↦ rw y m
+                | no y ↦ is-old W (2 * n + 1) x _ (2 * i + 1) _ o (λ y′. apart (2 * i + 1) (2 * n + 1) (omega (arith, y)) (sym y′))
+                    (s .high-before i (omega (arith, y)))
+              ];
+              even-before = λ i b c. is-old W (2 * n + 1) x _ (2 * i) _ o (λ y. parity (2 * i) (2 * n + 1) i n (omega arith) (omega arith) (sym y))
+                  (s .even-before i b c);
+              past = λ j b. o .past j b ∙ s .past j b;
+            }))
+        go (no u) = rw (le-ltb (2 * n + 1) (endOf H) (omega arith)) (goes x (record {
+          lines = record { low = s .line; high = λ b. absurd (omega (arith, past-highs n (omega arith))) };
+          low = s .low;
+          high = λ i b c d. s .high-before i (omega (arith, past-highs n (omega arith)));
+          even-before = s .even-before;
+          past = s .past;
+        }))
 
-        low-one : Is w one (2 * n) (parted (cols lo n))
-        low-one = unlifted-is w (2 * n) x (cols lo n) (cols-fit lo n (omega arith)) (s .low)
+    unlifted : (n : ℕ) (x : ℕ → ℤ) → 0 < H .length → n ≤ lastSet H → Past x → Needs n x → Outcome (FitAll k W H p) (Rows n) (setUnlifted W H n x)
+    unfolding setUnlifted
+    unlifted n x g l z s = bind-outcome (lowTried W H n x) _ (low-tried n x g l z s) (high-tried n)
 
-        kept : (q : ℕ) (c : Half → ℕ → ℤ) → (slot (2 * n) ≡ slot q → ⊥) → Is w x q c → Is w one q c
-        kept q c d = is-old w (2 * n) x one q c (only-unlifted w (2 * n) x) d
-
-        before : (p : ℕ) → n ≡ suc p → Is w one (2 * p) (parted (G (2 * p)))
-        before p e = kept (2 * p) _ (λ z. apart (2 * p) (2 * n) (omega arith) (sym z)) (s .even-before p e)
-
-        high-old : (i : ℕ) → n ≡ suc i → Is w one (2 * i + 1) (parted (cols hi i))
-        high-old i e = kept (2 * i + 1) _ (parity (2 * n) (2 * i + 1) n i (omega arith) (omega arith)) (s .high-before i e)
-
-        past-one : Past one
-        past-one j p = only-unlifted w (2 * n) x .past j p ∙ z j p
-
-        go : Dec (2 * n + 1 < h) → Rows n (pick (ltb (2 * n + 1) h) (rowUnlifted w (2 * n + 1) one) one)
-        go (yes q) = rw (lt-ltb (2 * n + 1) h q) (record {
-          low = is-old w (2 * n + 1) one _ (2 * n) _ (only-unlifted w (2 * n + 1) one)
-              (λ e. parity (2 * n) (2 * n + 1) n n (omega arith) (omega arith) (sym e)) low-one;
-          high = λ i p u v. elim (ℕ-discrete i n) [
-            | yes e ↦ rw e (unlifted-is w (2 * n + 1) one (cols hi n) (cols-fit hi n (omega arith))
-                (kept (2 * n + 1) _ (parity (2 * n) (2 * n + 1) n n (omega arith) (omega arith)) (s .high (omega arith))))
-            | no e ↦ let e′ : n ≡ suc i = omega (arith, e) in
-                is-old w (2 * n + 1) one _ (2 * i + 1) _ (only-unlifted w (2 * n + 1) one) (λ z. apart (2 * i + 1) (2 * n + 1) (omega arith) (sym z))
-                (high-old i e′)
-          ];
-          even-before = λ p e. is-old w (2 * n + 1) one _ (2 * p) _ (only-unlifted w (2 * n + 1) one)
-              (λ z. parity (2 * p) (2 * n + 1) p n (omega arith) (omega arith) (sym z)) (before p e);
-          past = λ j p. only-unlifted w (2 * n + 1) one .past j p ∙ past-one j p;
-        })
-        go (no q) = rw (le-ltb (2 * n + 1) h (omega arith)) (record {
-          low = low-one;
-          high = λ i p u v. high-old i (omega (arith, q));
-          even-before = before;
-          past = past-one;
-        })
-
-    -- the even rows
+    -- ---- the even rows
     record Evens (n : ℕ) (x : ℕ → ℤ) : Type 0 where
-      even : (i : ℕ) → i ≤ n → n ≤ suc i → Is w x (2 * i) (parted (G (2 * i)))
-      high : (i : ℕ) → i < count hi h → i ≤ n → n ≤ suc i → Is w x (2 * i + 1) (parted (cols hi i))
+      even : (i : ℕ) → b₀ ≤ i → i ≤ n → n ≤ suc i → Is W x (2 * i) (parted W (G (2 * i - b₀)))
+      high : (i : ℕ) → i < count hi H → i ≤ n → n ≤ suc i → Is W x (2 * i + 1) (parted W (cols hi i))
       past : Past x
 
-    evened : (n : ℕ) (x : ℕ → ℤ) → 2 * n < h → Rows n x → Evens n (evenRow w h n x)
-    unfolding evenRow count
-    evened n x b s = go (decLt 1 h)
+    near-before : (n : ℕ) → 0 < H .length → n ≤ lastSet H → b₀ ≤ n → 1 < H .length →
+        (highNear H (n - 1) < count hi H) × (highNear H (n - 1) ≤ n) × (n ≤ suc (highNear H (n - 1)))
+    unfolding highNear lastSet count firstSet
+    near-before n g l b m = (omega arith, omega arith, omega arith)
+
+    near-here : (n : ℕ) → 0 < H .length → n ≤ lastSet H → b₀ ≤ n → 1 < H .length →
+        (highNear H n < count hi H) × (highNear H n ≤ n) × (n ≤ suc (highNear H n))
+    unfolding highNear lastSet count firstSet
+    near-here n g l b m = (omega arith, omega arith, omega arith)
+
+    -- an only row is of set 0, or of set 1 of a level that starts at an odd coordinate and has no such row
+    only-set : (n : ℕ) → 0 < H .length → n ≤ lastSet H → b₀ ≤ n → H .length ≤ 1 → (i : ℕ) → b₀ ≤ i → i ≤ n → i ≡ n
+    unfolding lastSet firstSet
+    only-set n g l b m i c d = omega arith
+
+    evened : (n : ℕ) (x : ℕ → ℤ) → 0 < H .length → n ≤ lastSet H → b₀ ≤ n → Rows n x → Evens n (evenRow (W .length) H n x)
+    unfolding evenRow
+    evened n x g l b s = go (decLt 1 (H .length))
       where
-        go : Dec (1 < h) → Evens n (pick (ltb 1 h) (rowBy (unupdated wrap32) w (2 * n) (2 * (n - 1) + 1) (2 * min n (count hi h - 1) + 1) x) x)
-        go (yes g) = rw (lt-ltb 1 h g) (record {
-          even = λ i q r. elim (ℕ-discrete i n) [
-            | yes e ↦ rw e (λ a j p.
-                by-is (unupdated wrap32) w (2 * n) (2 * (n - 1) + 1) (2 * min n (count hi h - 1) + 1) x _ _ _ (s .low)
-                (s .high (n - 1) (omega arith) (omega arith) (omega arith)) (s .high (min n (count hi h - 1)) (omega arith) (omega arith) (omega arith)) a
-                j p
-                ∙ by-columns (unupdated wrap32) _ _ _ (G (2 * n)) (λ c u. even-value n c g (omega arith) u) a j p)
-            | no e ↦ is-old w (2 * n) x _ (2 * i) _ (only-by w (2 * n) (unupdated wrap32) _ _ x) (λ z. apart (2 * i) (2 * n) (omega (arith, e)) (sym z))
-                (s .even-before i (omega (arith, e)))
-          ];
-          high = λ i p q r. is-old w (2 * n) x _ (2 * i + 1) _ (only-by w (2 * n) (unupdated wrap32) _ _ x)
-              (parity (2 * n) (2 * i + 1) n i (omega arith) (omega arith)) (s .high i p q r);
-          past = λ j p. only-by w (2 * n) (unupdated wrap32) _ _ x .past j p ∙ s .past j p;
-        })
-        go (no g) = rw (le-ltb 1 h (omega arith)) (record {
-          even = λ i q r. let e : i ≡ n = omega arith in rw e (same-row x (2 * n) (cols lo n) (G (2 * n)) (λ c _. one-value n c (omega arith)) (s .low));
+        go : Dec (1 < H .length) →
+            Evens n (pick (ltb 1 (H .length)) (rowBy (unupdated wrap32) (W .length) (2 * n) (2 * highNear H (n - 1) + 1) (2 * highNear H n + 1) x) x)
+        go (yes m) =
+            let o = only-by (W .length) (2 * n) (unupdated wrap32) (2 * highNear H (n - 1) + 1) (2 * highNear H n + 1) x in
+            let u = near-before n g l b m in
+            let v = near-here n g l b m in
+            rw (lt-ltb 1 (H .length) m) (record {
+              even = λ i c q r. elim (ℕ-discrete i n) [
+                | yes e ↦ rw e (λ a j t.
+                    by-is (unupdated wrap32) W (2 * n) (2 * highNear H (n - 1) + 1) (2 * highNear H n + 1) x _ _ _ (s .low b)
+                    (s .high (highNear H (n - 1)) (u .0) (u .1) (u .2)) (s .high (highNear H n) (v .0) (v .1) (v .2)) a j t
+                    ∙ by-columns (unupdated wrap32) _ _ _ (G (2 * n - b₀)) (λ d _. even-value n d m b (in-lows n g l b)) a j t)
+                | no e ↦ is-old W (2 * n) x _ (2 * i) _ o (λ z. apart (2 * i) (2 * n) (omega (arith, e)) (sym z)) (s .even-before i (omega (arith, e)) c)
+              ];
+              high = λ i c q r. is-old W (2 * n) x _ (2 * i + 1) _ o (parity (2 * n) (2 * i + 1) n i (omega arith) (omega arith)) (s .high i c q r);
+              past = λ j c. o .past j c ∙ s .past j c;
+            })
+        go (no m) = rw (le-ltb 1 (H .length) (omega arith)) (record {
+          even = λ i c q r. let e = only-set n g l b (omega arith) i c q in
+              rw e (same-row x (2 * n) (cols lo (n - b₀)) (G (2 * n - b₀)) (λ d _. one-value n d (omega arith) b) (s .low b));
           high = s .high;
           past = s .past;
         })
 
-    -- row 2n has passed the test
+    -- the row at 2n has passed the test
     record Even (n : ℕ) (x : ℕ → ℤ) : Type 0 where
+      lines : Lines n
       rows : Evens n x
-      fit : FitRow (2 * n)
+      fit : b₀ ≤ n → FitRow (2 * n - b₀)
 
-    even-made : (n : ℕ) (x : ℕ → ℤ) → 2 * n < h → Past x → Needs n x → Outcome FitAll (Even n) (evenMade admitted k w h n x)
-    unfolding evenMade
-    even-made n x b z s =
-        let e = evened n _ b (unlifted n x b z s) in
-        admit (Even n) (2 * n) _ b (e .even n (omega arith) (omega arith)) (λ f. record { rows = e; fit = f })
+    low-in : (n : ℕ) → 0 < H .length → n ≤ lastSet H → b₀ ≤ n → 2 * n - b₀ < H .length
+    unfolding lastSet firstSet
+    low-in n g l b = omega arith
 
-    -- an odd row, from the even rows beside it
-    odd-is-made : (p : ℕ) (x : ℕ → ℤ) → 2 * p + 1 < h → Is w x (2 * p) (parted (G (2 * p))) → (2 * p + 2 < h → Is w x (2 * suc p) (parted (G (2 * suc p)))) →
-        Is w x (2 * p + 1) (parted (cols hi p)) → Is w (oddRow w h p x) (2 * p + 1) (parted (G (2 * p + 1)))
-    unfolding oddRow count
-    odd-is-made p x b e f s a j q =
-        by-is (unpredicted wrap32) w (2 * p + 1) (2 * p) (2 * min (p + 1) (count lo h - 1)) x _ _ _ s e
-        (at (min (p + 1) (count lo h - 1)) (omega arith) (omega arith) (omega arith)) a j q
-        ∙ by-columns (unpredicted wrap32) _ _ _ (G (2 * p + 1)) (λ c u. odd-value p c (omega arith) u) a j q
+    no-low : (n : ℕ) → n < b₀ → n ≡ 0
+    unfolding firstSet
+    no-low n u = omega arith
+
+    even-made : (n : ℕ) (x : ℕ → ℤ) → 0 < H .length → n ≤ lastSet H → Rows n x → Outcome (FitAll k W H p) (Even n) (evenMade admitted k (W .length) H n x)
+    unfolding evenMade hasLow
+    even-made n x g l s = go (decLt n b₀)
       where
-        at : (i : ℕ) → 2 * i < h → p ≤ i → i ≤ suc p → Is w x (2 * i) (parted (G (2 * i)))
-        at i l q r = elim (ℕ-discrete i p) [
-          | yes z ↦ rw z e
-          | no z ↦ let z′ : i ≡ suc p = omega (arith, z) in rw z′ (f (omega arith))
-        ]
+        go : Dec (n < b₀) → Outcome (FitAll k W H p) (Even n) (pick (leb b₀ n) (admitted k (W .length) (2 * n) (evenRow (W .length) H n x)) (passed x))
+        go (yes u) = rw (lt-leb b₀ n u) (goes x (record {
+          lines = s .lines;
+          rows = record { even = λ i b c d. absurd (omega arith); high = s .high; past = s .past };
+          fit = λ b. absurd (omega arith);
+        }))
+        go (no u) =
+            let b : b₀ ≤ n = omega arith in
+            let e = evened n x g l b s in
+            rw (le-leb b₀ n b)
+            (admit (Even n) (2 * n) (2 * n - b₀) _ (low-in n g l b) (e .even n b (omega arith) (omega arith)) (λ f. record {
+              lines = s .lines;
+              rows = e;
+              fit = λ _. f;
+            }))
 
-    -- rows 2n and 2n − 1
+    -- ---- an odd row, from the even rows beside it
+    odd-is-made : (m : ℕ) (x : ℕ → ℤ) → 1 < H .length → m < count hi H → Is W x (2 * lowNear H m) (parted W (G (2 * lowNear H m - b₀))) →
+        Is W x (2 * lowNear H (m + 1)) (parted W (G (2 * lowNear H (m + 1) - b₀))) → Is W x (2 * m + 1) (parted W (cols hi m)) →
+        Is W (oddRow (W .length) H m x) (2 * m + 1) (parted W (G (2 * m + 1 - b₀)))
+    unfolding oddRow
+    odd-is-made m x g b e f s a j q =
+        by-is (unpredicted wrap32) W (2 * m + 1) (2 * lowNear H m) (2 * lowNear H (m + 1)) x _ _ _ s e f a j q
+        ∙ by-columns (unpredicted wrap32) _ _ _ (G (2 * m + 1 - b₀)) (λ c _. odd-value m c g b) a j q
+
+    only-odd : (m : ℕ) (x : ℕ → ℤ) → Only (W .length) (2 * m + 1) x (oddRow (W .length) H m x)
+    unfolding oddRow
+    only-odd m x = only-by (W .length) (2 * m + 1) (unpredicted wrap32) (2 * lowNear H m) (2 * lowNear H (m + 1)) x
+
+    -- the rows at 2n and 2n − 1
     record Most (n : ℕ) (x : ℕ → ℤ) : Type 0 where
-      even : Is w x (2 * n) (parted (G (2 * n)))
-      odd : (p : ℕ) → n ≡ suc p → Is w x (2 * p + 1) (parted (G (2 * p + 1)))
-      high : n < count hi h → Is w x (2 * n + 1) (parted (cols hi n))
-      even-fit : FitRow (2 * n)
-      odd-fit : (p : ℕ) → n ≡ suc p → FitRow (2 * p + 1)
+      lines : Lines n
+      even : b₀ ≤ n → Is W x (2 * n) (parted W (G (2 * n - b₀)))
+      odd : (m : ℕ) → n ≡ suc m → Is W x (2 * m + 1) (parted W (G (2 * m + 1 - b₀)))
+      high : n < count hi H → Is W x (2 * n + 1) (parted W (cols hi n))
+      even-fit : b₀ ≤ n → FitRow (2 * n - b₀)
+      odd-fit : (m : ℕ) → n ≡ suc m → FitRow (2 * m + 1 - b₀)
       past : Past x
 
-    odd-made : (n : ℕ) (x : ℕ → ℤ) → 2 * n < h → Even n x → Outcome FitAll (Most n) (oddMade admitted k w h n x)
-    unfolding oddMade oddRow count
-    odd-made zero x b s = goes x (record {
-      even = s .rows .even 0 (omega arith) (omega arith);
-      odd = λ p e. absurd (omega arith);
+    -- of set m + 1 the even rows beside the row at 2m + 1 are its own and that before it, if there is one
+    near-two : (m : ℕ) → 0 < H .length → suc m ≤ lastSet H →
+        (1 < H .length) × (m < count hi H) × (2 * m + 1 - b₀ < H .length) × (b₀ ≤ suc m)
+    unfolding lastSet count firstSet
+    near-two m g l = (omega arith, omega arith, omega arith, omega arith)
+
+    near-left : (m : ℕ) → 0 < H .length → suc m ≤ lastSet H → (lowNear H m ≤ suc m) × (suc m ≤ suc (lowNear H m))
+    unfolding lowNear lastSet count firstSet
+    near-left m g l = (omega arith, omega arith)
+
+    near-right : (m : ℕ) → 0 < H .length → suc m ≤ lastSet H → (lowNear H (m + 1) ≤ suc m) × (suc m ≤ suc (lowNear H (m + 1)))
+    unfolding lowNear lastSet count firstSet
+    near-right m g l = (omega arith, omega arith)
+
+    odd-made : (n : ℕ) (x : ℕ → ℤ) → 0 < H .length → n ≤ lastSet H → Even n x → Outcome (FitAll k W H p) (Most n) (oddMade admitted k (W .length) H n x)
+    unfolding oddMade
+    odd-made zero x g l s = goes x (record {
+      lines = s .lines;
+      even = λ b. s .rows .even 0 b (omega arith) (omega arith);
+      odd = λ m e. absurd (omega arith);
       high = λ q. s .rows .high 0 q (omega arith) (omega arith);
       even-fit = s .fit;
-      odd-fit = λ p e. absurd (omega arith);
+      odd-fit = λ m e. absurd (omega arith);
       past = s .rows .past;
     })
-    odd-made (suc m) x b s =
-        admit (Most (suc m)) (2 * m + 1) (oddRow w h m x) (omega arith) made (λ f. record {
-          even = is-old w (2 * m + 1) x _ (2 * suc m) _ (only-by w (2 * m + 1) (unpredicted wrap32) _ _ x)
-              (λ z. parity (2 * suc m) (2 * m + 1) (suc m) m (omega arith) (omega arith) (sym z)) (s .rows .even (suc m) (omega arith) (omega arith));
-          odd = λ p e. let e′ : p ≡ m = omega arith in rw e′ made;
-          high = λ q. is-old w (2 * m + 1) x _ (2 * suc m + 1) _ (only-by w (2 * m + 1) (unpredicted wrap32) _ _ x)
-              (apart (2 * m + 1) (2 * suc m + 1) (omega arith)) (s .rows .high (suc m) q (omega arith) (omega arith));
+    odd-made (suc m) x g l s =
+        let o = only-odd m x in
+        admit (Most (suc m)) (2 * m + 1) (2 * m + 1 - b₀) (oddRow (W .length) H m x) (near-two m g l .2) made (λ f. record {
+          lines = s .lines;
+          even = λ b. is-old W (2 * m + 1) x _ (2 * suc m) _ o (λ z. parity (2 * suc m) (2 * m + 1) (suc m) m (omega arith) (omega arith) (sym z))
+              (s .rows .even (suc m) b (omega arith) (omega arith));
+          odd = λ i e. let e′ : i ≡ m = omega arith in rw e′ made;
+          high = λ q. is-old W (2 * m + 1) x _ (2 * suc m + 1) _ o (apart (2 * m + 1) (2 * suc m + 1) (omega arith))
+              (s .rows .high (suc m) q (omega arith) (omega arith));
           even-fit = s .fit;
-          odd-fit = λ p e. let e′ : p ≡ m = omega arith in rw e′ f;
-          past = λ j p. only-by w (2 * m + 1) (unpredicted wrap32) _ _ x .past j p ∙ s .rows .past j p;
+          odd-fit = λ i e. let e′ : i ≡ m = omega arith in rw e′ f;
+          past = λ j q. o .past j q ∙ s .rows .past j q;
         })
       where
-        made : Is w (oddRow w h m x) (2 * m + 1) (parted (G (2 * m + 1)))
-        made = odd-is-made m x (omega arith) (s .rows .even m (omega arith) (omega arith)) (λ _. s .rows .even (suc m) (omega arith) (omega arith))
-            (s .rows .high m (omega arith) (omega arith) (omega arith))
+        made : Is W (oddRow (W .length) H m x) (2 * m + 1) (parted W (G (2 * m + 1 - b₀)))
+        made =
+            let t = near-two m g l in
+            let u = near-left m g l in
+            let v = near-right m g l in
+            odd-is-made m x (t .0) (t .1)
+            (s .rows .even (lowNear H m) (near-low m) (u .0) (u .1))
+            (s .rows .even (lowNear H (m + 1)) (near-low (m + 1)) (v .0) (v .1))
+            (s .rows .high m (t .1) (omega arith) (omega arith))
 
-    made-odd : (n r : ℕ) → r < h → setOf h r ≡ n → (r ≡ 2 * n → ⊥) → (r ≡ 2 * n + 1 → ⊥) → suc r ≡ 2 * n
-    unfolding setOf count
-    made-odd n r b q z y = omega (arith, z, y)
+    -- ---- the rows of a set: those at 2n and 2n − 1, and the last at 2n + 1
+    at-low : (n r : ℕ) → local (H .start) r ≡ 2 * n → (b₀ ≤ n) × (r ≡ 2 * n - b₀)
+    unfolding local firstSet
+    at-low n r e = (omega arith, omega arith)
 
-    -- the rows of a set: 2n, 2n − 1, and the last of an even height
-    by-set : (P : ℕ → Type 0) (n : ℕ) → 2 * n < h → P (2 * n) → ((p : ℕ) → n ≡ suc p → P (2 * p + 1)) → (2 * n + 2 ≡ h → P (2 * n + 1)) → (r : ℕ) → r < h →
-        setOf h r ≡ n → P r
-    unfolding setOf count
-    by-set P n b e o l r u q = elim (ℕ-discrete r (2 * n)) [
-      | yes z ↦ rw z e
-      | no z ↦ elim (ℕ-discrete r (2 * n + 1)) [
-        | yes y ↦ rw y (l (omega arith))
-        | no y ↦ odd (made-odd n r u q z y)
+    at-last : (n r : ℕ) → r < H .length → setOf H r ≡ n → local (H .start) r ≡ 2 * n + 1 → (2 * n + 2 ≡ endOf H) × (r ≡ 2 * n + 1 - b₀)
+    unfolding local firstSet setOf lastSet endOf
+    at-last n r b s e = (omega arith, omega arith)
+
+    odd-of : (q n last : ℕ) → min ((q + 1) / 2) last ≡ n → q ≤ 2 * last + 1 → (q ≡ 2 * n → ⊥) → (q ≡ 2 * n + 1 → ⊥) → suc q ≡ 2 * n
+    odd-of q n last s b e f = omega (arith, e, f)
+
+    row-of : (b r n : ℕ) → suc (b + r) ≡ 2 * n → (n ≡ suc (n - 1)) × (r ≡ 2 * (n - 1) + 1 - b)
+    row-of b r n e = (omega arith, omega arith)
+
+    in-sets : (r : ℕ) → r < H .length → H .start % 2 + r ≤ 2 * lastSet H + 1
+    unfolding lastSet
+    in-sets r b = omega arith
+
+    at-odd : (n r : ℕ) → r < H .length → setOf H r ≡ n → (local (H .start) r ≡ 2 * n → ⊥) → (local (H .start) r ≡ 2 * n + 1 → ⊥) →
+        (n ≡ suc (n - 1)) × (r ≡ 2 * (n - 1) + 1 - b₀)
+    unfolding local firstSet setOf
+    at-odd n r b s e f = row-of (H .start % 2) r n (odd-of (H .start % 2 + r) n (lastSet H) s (in-sets r b) e f)
+
+    by-set : (P : ℕ → Type 0) (n : ℕ) → (b₀ ≤ n → P (2 * n - b₀)) → ((m : ℕ) → n ≡ suc m → P (2 * m + 1 - b₀)) → (2 * n + 2 ≡ endOf H → P (2 * n + 1 - b₀)) →
+        (r : ℕ) → r < H .length → setOf H r ≡ n → P r
+    by-set P n e o l r u q = elim (ℕ-discrete (local (H .start) r) (2 * n)) [
+      | yes z ↦ let t = at-low n r z in subst P (sym (t .1)) (e (t .0))
+      | no z ↦ elim (ℕ-discrete (local (H .start) r) (2 * n + 1)) [
+        | yes y ↦ let t = at-last n r u q y in subst P (sym (t .1)) (l (t .0))
+        | no y ↦ let t = at-odd n r u q z y in subst P (sym (t .1)) (o (n - 1) (t .0))
       ]
     ]
-      where
-        odd : suc r ≡ 2 * n → P r
-        odd e = let z : r ≡ 2 * (n - 1) + 1 = omega arith in rw z (o (n - 1) (omega arith))
+
+    -- where they stand
+    low-at : (n : ℕ) → b₀ ≤ n → local (H .start) (2 * n - b₀) ≡ 2 * n
+    unfolding local firstSet
+    low-at n b = omega arith
+
+    high-at : (m : ℕ) → local (H .start) (2 * m + 1 - b₀) ≡ 2 * m + 1
+    unfolding local firstSet
+    high-at m = omega arith
+
+    made-by : (n : ℕ) (x : ℕ → ℤ) → (b₀ ≤ n → Is W x (2 * n) (parted W (G (2 * n - b₀)))) →
+        ((m : ℕ) → n ≡ suc m → Is W x (2 * m + 1) (parted W (G (2 * m + 1 - b₀)))) →
+        (2 * n + 2 ≡ endOf H → Is W x (2 * n + 1) (parted W (G (2 * n + 1 - b₀)))) → (r : ℕ) → r < H .length → setOf H r ≡ n →
+        Is W x (local (H .start) r) (parted W (G r))
+    made-by n x e o l =
+        by-set (λ r. Is W x (local (H .start) r) (parted W (G r))) n
+        (λ b. subst (λ (q : ℕ). Is W x q (parted W (G (2 * n - b₀)))) (sym (low-at n b)) (e b))
+        (λ m z. subst (λ (q : ℕ). Is W x q (parted W (G (2 * m + 1 - b₀)))) (sym (high-at m)) (o m z))
+        (λ z. subst (λ (q : ℕ). Is W x q (parted W (G (2 * n + 1 - b₀)))) (sym (high-at n)) (l z))
 
     abbrev pub Worked : ℕ → (ℕ → ℤ) → Type 0
     Worked n y = Leaves n y × Past y
 
-    last-made : (n : ℕ) (x : ℕ → ℤ) → 2 * n < h → Most n x → Outcome FitAll (Worked n) (lastMade admitted k w h n x)
-    unfolding lastMade oddRow count
-    last-made n x b s = go (ℕ-discrete (2 * n + 2) h)
+    -- the columns are lines' where there is more than an only row at an odd coordinate
+    has-of : (n : ℕ) → Lines n → ((c : ℕ) → c < W .length → hasLine H (λ h i. cols h i c) ≡ true) → SetHas W H p n
+    has-of n s f = record { low = s .low; high = s .high; columns = λ r b q c v. f c v }
+
+    -- ---- the last row
+    last-in : (n : ℕ) → 0 < H .length → 2 * n + 2 ≡ endOf H → (n < count hi H) × (2 * n + 1 - b₀ < H .length)
+    unfolding endOf count firstSet
+    last-in n g e = (omega arith, omega arith)
+
+    not-lone : (n : ℕ) → 2 * n + 2 ≡ endOf H → loneHigh H ≡ false → (1 < H .length) × (b₀ ≤ n)
+    unfolding endOf firstSet
+    not-lone n e f = elim (ℕ-discrete (H .start % 2) 1) [
+      | yes o ↦ elim (ℕ-discrete (H .length) 1) [
+        | yes m ↦ absurd (not-false (eqb (H .length) 1) (eq-eqb (H .length) 1 m) (sym (lone-odd H o) ∙ f))
+        | no m ↦ (omega (arith, m), omega (arith, m))
+      ]
+      | no o ↦ (omega (arith, o), omega (arith, o))
+    ]
+
+    near-last : (n : ℕ) → 2 * n + 2 ≡ endOf H → b₀ ≤ n → (lowNear H n ≡ n) × (lowNear H (n + 1) ≡ n)
+    unfolding lowNear endOf count firstSet
+    near-last n e b = (omega arith, omega arith)
+
+    only-halved-once : (n : ℕ) → 2 * n + 2 ≡ endOf H → H .length ≡ 1 → n ≡ 0
+    unfolding endOf
+    only-halved-once n e l = omega arith
+
+    -- a row beside others
+    beside-made : (n : ℕ) (x : ℕ → ℤ) → 0 < H .length → 2 * n + 2 ≡ endOf H → loneHigh H ≡ false → Most n x →
+        Outcome (FitAll k W H p) (Worked n) (admitted k (W .length) (2 * n + 1) (oddRow (W .length) H n x))
+    beside-made n x g e f s =
+        admit (Worked n) (2 * n + 1) (2 * n + 1 - b₀) y (last-in n g e .1) last (λ t. (
+          record {
+            made = made-by n y
+                (λ b. is-old W (2 * n + 1) x y (2 * n) _ o (λ z. parity (2 * n) (2 * n + 1) n n (omega arith) (omega arith) (sym z)) (s .even b))
+                (λ m z. is-old W (2 * n + 1) x y (2 * m + 1) _ o (λ u. apart (2 * m + 1) (2 * n + 1) (omega arith) (sym u)) (s .odd m z))
+                (λ _. last);
+            fit = by-set FitRow n (s .even-fit) (s .odd-fit) (λ _. t);
+            high = λ l. absurd (omega arith);
+            has = has-of n (s .lines) (λ c _. has-other H _ f);
+          },
+          λ j q. o .past j q ∙ s .past j q,
+        ))
       where
         y : ℕ → ℤ
-        y = oddRow w h n x
+        y = oddRow (W .length) H n x
 
-        kept : (q : ℕ) (c : Half → ℕ → ℤ) → (slot (2 * n + 1) ≡ slot q → ⊥) → Is w x q c → Is w y q c
-        kept q c d = is-old w (2 * n + 1) x y q c (only-by w (2 * n + 1) (unpredicted wrap32) _ _ x) d
+        o : Only (W .length) (2 * n + 1) x y
+        o = only-odd n x
 
-        last : 2 * n + 2 ≡ h → Is w y (2 * n + 1) (parted (G (2 * n + 1)))
-        last e = odd-is-made n x (omega arith) (s .even) (λ l. absurd (omega arith)) (s .high (omega arith))
+        last : Is W y (2 * n + 1) (parted W (G (2 * n + 1 - b₀)))
+        last =
+            let m = not-lone n e f in
+            let t = near-last n e (m .1) in
+            odd-is-made n x (m .0) (last-in n g e .0) (rw (t .0) (s .even (m .1))) (rw (t .1) (s .even (m .1))) (s .high (last-in n g e .0))
 
-        go : Dec (2 * n + 2 ≡ h) → Outcome FitAll (Worked n) (pick (eqb (2 * n + 2) h) (admitted k w (2 * n + 1) y) (passed x))
-        go (yes e) = rw (eq-eqb (2 * n + 2) h e) (admit (Worked n) (2 * n + 1) y (omega arith) (last e) (λ f. (
+    -- an only row, at an odd coordinate
+    lone-made : (n : ℕ) (x : ℕ → ℤ) → 0 < H .length → 2 * n + 2 ≡ endOf H → loneHigh H ≡ true → Most n x →
+        Outcome (FitAll k W H p) (Worked n) (loneMade admitted k (W .length) (2 * n + 1) x)
+    unfolding loneMade rowIsEven
+    lone-made n x g e f s = go (rowIsEven (W .length) (2 * n + 1) x) refl
+      where
+        y : ℕ → ℤ
+        y = rowHalved (W .length) (2 * n + 1) x
+
+        one : H .length ≡ 1
+        one = lone-high H f .0
+
+        first : n ≡ 0
+        first = only-halved-once n e one
+
+        high : Is W x (2 * n + 1) (parted W (cols hi n))
+        high = s .high (last-in n g e .0)
+
+        o : Only (W .length) (2 * n + 1) x y
+        o = only-halved W (2 * n + 1) x
+
+        last : Is W y (2 * n + 1) (parted W (G (2 * n + 1 - b₀)))
+        last a i b =
+            halved-is W (2 * n + 1) x _ high a i b
+            ∙ by-columns (λ v _ _. shrZ v 2) (cols hi n) (cols hi n) (cols hi n) (G (2 * n + 1 - b₀)) (λ c _. lone-value n c (omega (arith, one))) a i b
+
+        column : (c : ℕ) → hasLine H (λ h i. cols h i c) ≡ isEven (cols hi n c)
+        column c = has-lone H _ f ∙ ap (λ (i : ℕ). isEven (cols hi i c)) (sym first)
+
+        go : (t : Bool) → rowIsEven (W .length) (2 * n + 1) x ≡ t →
+            Outcome (FitAll k W H p) (Worked n) (pick t (admitted k (W .length) (2 * n + 1) y) failed)
+        go true even =
+            admit (Worked n) (2 * n + 1) (2 * n + 1 - b₀) y (last-in n g e .1) last (λ t. (
+              record {
+                made = made-by n y
+                    (λ b. is-old W (2 * n + 1) x y (2 * n) _ o (λ z. parity (2 * n) (2 * n + 1) n n (omega arith) (omega arith) (sym z)) (s .even b))
+                    (λ m z. absurd (omega (arith, first)))
+                    (λ _. last);
+                fit = by-set FitRow n (s .even-fit) (s .odd-fit) (λ _. t);
+                high = λ l. absurd (omega arith);
+                has = has-of n (s .lines) (λ c v. column c ∙ each-stands isEven (2 * n + 1) x (cols hi n) high (every-each (W .length) _ even) c v);
+              },
+              λ j q. o .past j q ∙ s .past j q,
+            ))
+        go false odd = stops (λ all. not-false (rowIsEven (W .length) (2 * n + 1) x)
+            (each-every (W .length) _ (stands-each isEven (2 * n + 1) x (cols hi n) high (λ c v. sym (column c) ∙ has-column W H p (all .has) c v))) odd)
+
+    none-lone : (n : ℕ) → n ≤ lastSet H → (2 * n + 2 ≡ endOf H → ⊥) → loneHigh H ≡ true → ⊥
+    unfolding lastSet endOf count
+    none-lone n l e f = let a = lone-high H f .0 in let b = lone-high H f .2 in e (omega arith)
+
+    last-made : (n : ℕ) (x : ℕ → ℤ) → 0 < H .length → n ≤ lastSet H → Most n x → Outcome (FitAll k W H p) (Worked n) (lastMade admitted k (W .length) H n x)
+    unfolding lastMade
+    last-made n x g l s = go (ℕ-discrete (2 * n + 2) (endOf H))
+      where
+        high-in : 2 * n + 2 < endOf H → n < count hi H
+        high-in b = in-highs n (omega arith)
+
+        lone : (t : Bool) → loneHigh H ≡ t → 2 * n + 2 ≡ endOf H → Outcome (FitAll k W H p) (Worked n)
+            (pick t (loneMade admitted k (W .length) (2 * n + 1) x) (admitted k (W .length) (2 * n + 1) (oddRow (W .length) H n x)))
+        lone true f e = lone-made n x g e f s
+        lone false f e = beside-made n x g e f s
+
+        has-none : (t : Bool) → loneHigh H ≡ t → (2 * n + 2 ≡ endOf H → ⊥) → SetHas W H p n
+        has-none true f e = absurd (none-lone n l e f)
+        has-none false f e = has-of n (s .lines) (λ c _. has-other H _ f)
+
+        go : Dec (2 * n + 2 ≡ endOf H) → Outcome (FitAll k W H p) (Worked n)
+            (pick (eqb (2 * n + 2) (endOf H))
+            (pick (loneHigh H) (loneMade admitted k (W .length) (2 * n + 1) x) (admitted k (W .length) (2 * n + 1) (oddRow (W .length) H n x)))
+            (passed x))
+        go (yes e) = rw (eq-eqb (2 * n + 2) (endOf H) e) (lone (loneHigh H) refl e)
+        go (no e) = rw (ne-eqb (2 * n + 2) (endOf H) e) (goes x (
           record {
-            made = by-set (λ r. Is w y r (parted (G r))) n b
-                (kept (2 * n) _ (λ z. parity (2 * n) (2 * n + 1) n n (omega arith) (omega arith) (sym z)) (s .even))
-                (λ p z. kept (2 * p + 1) _ (λ u. apart (2 * p + 1) (2 * n + 1) (omega arith) (sym u)) (s .odd p z))
-                (λ _. last e);
-            fit = by-set FitRow n b (s .even-fit) (s .odd-fit) (λ _. f);
-            high = λ l. absurd (omega arith);
-          },
-          λ j p. only-by w (2 * n + 1) (unpredicted wrap32) _ _ x .past j p ∙ s .past j p,
-        )))
-        go (no e) = rw (ne-eqb (2 * n + 2) h e) (goes x (
-          record {
-            made = by-set (λ r. Is w x r (parted (G r))) n b (s .even) (s .odd) (λ z. absurd (e z));
-            fit = by-set FitRow n b (s .even-fit) (s .odd-fit) (λ z. absurd (e z));
-            high = λ l. s .high (omega arith);
+            made = made-by n x (s .even) (s .odd) (λ z. absurd (e z));
+            fit = by-set FitRow n (s .even-fit) (s .odd-fit) (λ z. absurd (e z));
+            high = λ b. s .high (high-in b);
+            has = has-none (loneHigh H) refl e;
           },
           s .past,
         ))
 
-    -- ---- a set worked out makes rows of the grid
-    pub set-made : (n : ℕ) (x : ℕ → ℤ) → 2 * n < h → Past x → Needs n x → Outcome FitAll (Worked n) (setMade admitted k w h n x)
+    -- ---- a set worked out makes rows of the way back
+    rows-made : (n : ℕ) (x : ℕ → ℤ) → 0 < H .length → n ≤ lastSet H → Rows n x → Outcome (FitAll k W H p) (Worked n) (rowsMade admitted k (W .length) H n x)
+    unfolding rowsMade
+    rows-made n x g l s = bind-outcome (evenMade admitted k (W .length) H n x) _ (even-made n x g l s)
+        (λ y e. bind-outcome (oddMade admitted k (W .length) H n y) _ (odd-made n y g l e) (λ u m. last-made n u g l m))
+
+    pub set-made : (n : ℕ) (x : ℕ → ℤ) → 0 < H .length → n ≤ lastSet H → Past x → Needs n x → Outcome (FitAll k W H p) (Worked n) (setMade admitted k W H n x)
     unfolding setMade
-    set-made n x b z s = bind-outcome (evenMade admitted k w h n x) _ (even-made n x b z s)
-        (λ y e. bind-outcome (oddMade admitted k w h n y) _ (odd-made n y b e) (λ u m. last-made n u b m))
+    set-made n x g l z s = bind-outcome (setUnlifted W H n x) _ (unlifted n x g l z s) (λ y r. rows-made n y g l r)

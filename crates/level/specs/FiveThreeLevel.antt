@@ -1,97 +1,127 @@
--- The 5/3 level: four rows of w numbers, row r of the level in slot r mod 4, each row in halves (its even columns first).
---     set n:  row 2n + 1 becomes d(n) by rows 2n and 2n + 2; row 2n becomes s(n) by d(n−1), which stands where row 2n − 1 stood, and d(n), of the first set
+-- The 5/3 level: four rows of as many numbers as the level has columns, each row in halves (its even coordinates first). A row is told by its coordinate past
+-- the last even one that is not after the level's start: row m of a level that starts at s has the coordinate q = s mod 2 + m, and stands in slot q mod 4.
+--     set n:  row 2n + 1 becomes d(n) by rows 2n and 2n + 2; row 2n becomes s(n) by d(n−1), which stands where row 2n − 1 stood, and d(n), of a first set
 --             d(0) twice; d(n) is copied to the slot of row 2n + 3 and stays itself for the next set; s(n) and the copy are lifted along the row: they are the
 --             rows that wait, LL|HL and LH|HH.
---     last set of an even height: row 2n counts for row 2n + 2. Of an odd height: s(n) by d(n−1) twice; a single row stays; there is no high row.
+--     first set of an odd start: row 1 alone. It becomes d(0) by row 2 twice; as the only row it is doubled.
+--     last set, its last row at an odd coordinate: row 2n counts for row 2n + 2. At an even one: s(n) by d(n−1) twice; an only row stays; there is no high row.
 use mathlib.Core.Path.{_≡_}
-use Prim.Native.Nat.{ℕ, zero, suc, _+_, _*_, _/_, _%_, _≤_, _<_}
-use lib.IntN.{ℤ}
-use lib.Dec.{eqb}
+use Prim.Native.Nat.{ℕ, zero, suc, _+_, _-_, _*_, _/_, _%_, _≤_, _<_}
+use lib.IntN.{ℤ, pos, _*ℤ_}
+use lib.Dec.{ltb, eqb}
 use Rattle.numbers.specs.Signal.{pick, windowed, spliced}
 use Rattle.numbers.specs.Word.{wrap32}
-use Rattle.lifting.specs.Line.{lo, hi, count, predicted, updated}
-use Rattle.lifting.specs.Halves.{partedInto, liftedInPlace}
+use Rattle.lifting.specs.Line.{lo, hi, predicted, updated}
+use Rattle.lifting.specs.Grid.{Side, count}
+use Rattle.lifting.specs.GridHalves.{partedInto, liftedInPlace}
 use Rattle.lifting.specs.Rows.{rowChanged}
 use Rattle.lifting.specs.Pairs.{first}
 use Rattle.wavelet.specs.Bands.{Grid, Band, LL, HL, LH, HH, columnsLifted}
-use Rattle.level.specs.Level.{Memory, LevelKind, prev}
+use Rattle.wavelet.specs.Order.{lastSet}
+use Rattle.level.specs.Level.{Memory, LevelKind}
 
--- where the slot of row r begins
+-- where the slot of row q of w numbers begins
 unfoldable pub slot : ℕ → ℕ → ℕ
-slot w r = r % 4 * w
+slot w q = q % 4 * w
 
--- column c of row m: the even columns stand first
-unfoldable pub cellOf : ℕ → ℕ → ℕ → ℕ
-cellOf w m c = slot w m + pick (eqb (c % 2) 0) (c / 2) (count lo w + c / 2)
+-- column c of row q: the even coordinates stand first
+unfoldable pub cellOf : Side → ℕ → ℕ → ℕ
+cellOf W q c = slot (W .length) q + pick (eqb ((W .start % 2 + c) % 2) 0) (c / 2) (count lo W + c / 2)
 
-unfoldable pub rowPut : ℕ → ℕ → (ℕ → ℤ) → Memory → Memory
-rowPut w m row x = spliced (slot w m) w (partedInto w row x) x
+unfoldable pub rowPut : Side → ℕ → (ℕ → ℤ) → Memory → Memory
+rowPut W q row x = spliced (slot (W .length) q) (W .length) (partedInto W row x) x
 
--- row t predicted, or updated, by rows l and r
+-- row t of w numbers predicted, or updated, by rows l and r
 unfoldable pub rowPredicted : ℕ → ℕ → ℕ → ℕ → Memory → Memory
 rowPredicted w t l r = rowChanged (predicted wrap32) w w (t % 4) (l % 4) (r % 4)
 
 unfoldable pub rowUpdated : ℕ → ℕ → ℕ → ℕ → Memory → Memory
 rowUpdated w t l r = rowChanged (updated wrap32) w w (t % 4) (l % 4) (r % 4)
 
+-- row t doubled
+abbrev pub doubled : ℤ → ℤ → ℤ → ℤ
+doubled v a b = wrap32 (pos 2 *ℤ v)
+
+unfoldable pub rowDoubled : ℕ → ℕ → Memory → Memory
+rowDoubled w t = rowChanged doubled w w (t % 4) (t % 4) (t % 4)
+
 -- row a copied to the slot of row b
 unfoldable pub rowCopied : ℕ → ℕ → ℕ → Memory → Memory
 rowCopied w a b = rowChanged first w w (b % 4) (a % 4) (a % 4)
 
--- row r lifted along the row
-unfoldable pub rowLifted : ℕ → ℕ → Memory → Memory
-rowLifted w r x = spliced (slot w r) w (liftedInPlace w (windowed (slot w r) w x)) x
+-- row q lifted along the row
+unfoldable pub rowLifted : Side → ℕ → Memory → Memory
+rowLifted W q x = spliced (slot (W .length) q) (W .length) (liftedInPlace W (windowed (slot (W .length) q) (W .length) x)) x
 
--- the row where d(n−1) stands, for the first set d(0)
+-- the row where d(n−1) stands, for a first set d(0)
 unfoldable pub before : ℕ → ℕ
 before zero = 1
 before (suc n) = 2 * n + 1
 
 -- set n, r being the even row after it
-unfoldable pub setWith : ℕ → ℕ → ℕ → Memory → Memory
-setWith w n r x =
-    rowLifted w (2 * n + 3)
-    (rowLifted w (2 * n)
-    (rowCopied w (2 * n + 1) (2 * n + 3)
-    (rowUpdated w (2 * n) (before n) (2 * n + 1)
-    (rowPredicted w (2 * n + 1) (2 * n) r x))))
+unfoldable pub setWith : Side → ℕ → ℕ → Memory → Memory
+setWith W n r x =
+    rowLifted W (2 * n + 3)
+    (rowLifted W (2 * n)
+    (rowCopied (W .length) (2 * n + 1) (2 * n + 3)
+    (rowUpdated (W .length) (2 * n) (before n) (2 * n + 1)
+    (rowPredicted (W .length) (2 * n + 1) (2 * n) r x))))
 
 -- set n without a high row
-unfoldable pub lowAlone : ℕ → ℕ → Memory → Memory
-lowAlone w zero x = rowLifted w 0 x
-lowAlone w (suc n) x = rowLifted w (2 * suc n) (rowUpdated w (2 * suc n) (2 * n + 1) (2 * n + 1) x)
+unfoldable pub lowAlone : Side → ℕ → Memory → Memory
+lowAlone W zero x = rowLifted W 0 x
+lowAlone W (suc n) x = rowLifted W (2 * suc n) (rowUpdated (W .length) (2 * suc n) (2 * n + 1) (2 * n + 1) x)
 
-unfoldable pub setMade : ℕ → ℕ → Memory → Memory
-setMade w n = setWith w n (2 * n + 2)
+-- set 0 without a low row, d(0) being there
+unfoldable pub highAlone : Side → Memory → Memory
+highAlone W x = rowLifted W 3 (rowCopied (W .length) 1 3 x)
 
--- the last set of m rows is number ⌈m / 2⌉ − 1
-unfoldable pub lastSet : ℕ → ℕ → Memory → Memory
-lastSet w m x =
-    pick (eqb (m % 2) 0)
-    (setWith w (prev (count lo m)) (2 * prev (count lo m)) x)
-    (lowAlone w (prev (count lo m)) x)
+-- set n of a level whose rows start at s: with no low row where n is before the first that has one
+unfoldable pub setMade : Side → ℕ → ℕ → Memory → Memory
+setMade W s n x =
+    pick (ltb n (s % 2))
+    (highAlone W (rowPredicted (W .length) 1 2 2 x))
+    (setWith W n (2 * n + 2) x)
 
-unfoldable pub bandPlace : ℕ → ℕ → Band → ℕ
-bandPlace w n LL = slot w (2 * n)
-bandPlace w n HL = slot w (2 * n) + count lo w
-bandPlace w n LH = slot w (2 * n + 3)
-bandPlace w n HH = slot w (2 * n + 3) + count lo w
+-- the last set of the rows H
+unfoldable pub setClosed : Side → Side → Memory → Memory
+setClosed W H x =
+    pick (eqb ((H .start % 2 + H .length) % 2) 0)
+    (pick (ltb (lastSet H) (H .start % 2))
+    (highAlone W (rowDoubled (W .length) 1 x))
+    (setWith W (lastSet H) (2 * lastSet H) x))
+    (lowAlone W (lastSet H) x)
+
+unfoldable pub bandPlace : Side → ℕ → Band → ℕ
+bandPlace W n LL = slot (W .length) (2 * n)
+bandPlace W n HL = slot (W .length) (2 * n) + count lo W
+bandPlace W n LH = slot (W .length) (2 * n + 3)
+bandPlace W n HH = slot (W .length) (2 * n + 3) + count lo W
 
 abbrev pub fiveThree : LevelKind
-fiveThree = record { stretch = λ w. 4 * w; cell = cellOf; put = rowPut; make = setMade; close = lastSet; place = bandPlace }
+fiveThree = record {
+  stretch = λ W. 4 * W .length;
+  cell = λ W s m c. cellOf W (s % 2 + m) c;
+  put = λ W s m row x. rowPut W (s % 2 + m) row x;
+  make = setMade;
+  close = setClosed;
+  place = λ W s n b. bandPlace W n b;
+}
 
 -- ---- what its store means
--- the first c columns of row y stand in the slot of row r
-abbrev pub RowStands : ℕ → ℕ → ℕ → (ℕ → ℤ) → Memory → Type 0
-RowStands w r c y x = (i : ℕ) → i < c → x (cellOf w r i) ≡ y i
+-- the first c columns of row y stand in the slot of row q
+abbrev pub RowStands : Side → ℕ → ℕ → (ℕ → ℤ) → Memory → Type 0
+RowStands W q c y x = (i : ℕ) → i < c → x (cellOf W q i) ≡ y i
 
--- what a level of w columns holds after m rows of the grid g and c columns of row m
-pub record Kept (w H : ℕ) (g : Grid) (m c : ℕ) (x : Memory) : Type 0 where
+-- what a level of the columns W holds after m rows of the grid g and c columns of row m
+pub record Kept (W H : Side) (g : Grid) (m c : ℕ) (x : Memory) : Type 0 where
   -- the last even row, until its set is made
-  pub even : (n : ℕ) → 2 * n + 1 ≤ m → m ≤ 2 * n + 2 → RowStands w (2 * n) w (g (2 * n)) x
+  pub even : (n : ℕ) → H .start % 2 ≤ n → 2 * n + 1 ≤ H .start % 2 + m → H .start % 2 + m ≤ 2 * n + 2
+      → RowStands W (2 * n) (W .length) (g (2 * n - H .start % 2)) x
   -- the odd row after it
-  pub odd : (n : ℕ) → m ≡ 2 * n + 2 → RowStands w (2 * n + 1) w (g (2 * n + 1)) x
+  pub odd : (n : ℕ) → H .start % 2 + m ≡ 2 * n + 2 → RowStands W (2 * n + 1) (W .length) (g (2 * n + 1 - H .start % 2)) x
   -- d(n) of the last set made
-  pub high : (n : ℕ) → 2 * n + 3 ≤ m → m ≤ 2 * n + 4 → RowStands w (2 * n + 1) w (columnsLifted wrap32 H g hi n) x
+  pub high : (n : ℕ) → 2 * n + 3 ≤ H .start % 2 + m → H .start % 2 + m ≤ 2 * n + 4
+      → RowStands W (2 * n + 1) (W .length) (columnsLifted wrap32 H g hi n) x
   -- the row begun
-  pub begun : RowStands w m c (g m) x
+  pub begun : RowStands W (H .start % 2 + m) c (g m) x

@@ -3,8 +3,10 @@ use mathlib.Core.Bool.{Bool}
 use Prim.Native.Nat.{ℕ, _+_, _*_}
 use lib.Dec.{leb}
 use Rattle.numbers.specs.Signal.{spliced}
-use Rattle.lifting.specs.Line.{lo, count}
+use Rattle.lifting.specs.Line.{lo}
+use Rattle.lifting.specs.Grid.{Side, count}
 use Rattle.wavelet.specs.Bands.{LL}
+use Rattle.wavelet.specs.Levels.{next}
 use Rattle.level.specs.Level.{Memory, rest, joinAt}
 use Rattle.level.specs.FiveThreeLevel.{rowPut, before, rowPredicted, rowUpdated, rowCopied, bandPlace}
 
@@ -12,12 +14,12 @@ use Rattle.level.specs.FiveThreeLevel.{rowPut, before, rowPredicted, row
 unfoldable pub levelFits : ℕ → ℕ → Bool
 levelFits n w = leb (4 * w) n
 
-unfoldable pub nextFits : ℕ → ℕ → Bool
-nextFits n w = leb (4 * w + 4 * count lo w) n
+unfoldable pub nextFits : ℕ → Side → Bool
+nextFits n W = leb (4 * W .length + 4 * count lo W) n
 
--- the LL row of set n put into its place at the next level
-unfoldable pub delivered : ℕ → ℕ → Memory → Memory
-delivered w n x = joinAt (4 * w) x (rowPut (count lo w) n (λ i. x (bandPlace w n LL + i)) (rest (4 * w) x))
+-- the LL row of set n put into its place at the next level, as row q there
+unfoldable pub delivered : Side → ℕ → ℕ → Memory → Memory
+delivered W n q x = joinAt (4 * W .length) x (rowPut (next W) q (λ i. x (bandPlace W n LL + i)) (rest (4 * W .length) x))
 
 -- ---- Cited by private functions alone.
 -- the columns of set n, r being the even row after it

@@ -5,9 +5,12 @@ use Prim.Native.Nat.{ℕ, zero, suc, _+_, _*_, _≤_}
 use lib.IntN.{ℤ, pos, _-ℤ_}
 use lib.Dec.{leb, ltb}
 use Rattle.numbers.specs.Signal.{pick, both}
-use Rattle.lifting.specs.Line.{lo, count}
+use Rattle.lifting.specs.Line.{lo}
+use Rattle.lifting.specs.Grid.{Side, count}
+use Rattle.lifting.specs.Halves.{fronted}
 use Rattle.wavelet.specs.Limits.{maxLevels, range}
-use Rattle.level.specs.Tried.{Tried, fits}
+use Rattle.wavelet.specs.Order.{lastSet}
+use Rattle.level.specs.Tried.{Tried, fits, memory}
 
 -- the longest row, and the most rows, of a level that the calls take: 2^16 and 2^32 − 1, so small that no place in memory overflows
 abbrev pub widest : ℕ
@@ -16,18 +19,27 @@ widest = 65536
 abbrev pub tallest : ℕ
 tallest = 4294967295
 
--- the memory that a level of w columns works in: its own four rows and, below the last level, those of the next, whose row it takes
-abbrev pub workLength : Bool → ℕ → ℕ
-workLength last w = 4 * w + 4 * pick last 0 (count lo w)
+-- the memory that a level of the columns W works in: its own four rows and, below the last level, those of the next, whose row it takes
+abbrev pub workLength : Bool → Side → ℕ
+workLength last W = 4 * W .length + 4 * pick last 0 (count lo W)
 
--- set n of a level of w columns and h rows can be worked out in a memory of m numbers; its rows are low-low values of level k
-unfoldable pub workable : Bool → ℕ → ℕ → ℕ → ℕ → ℕ → Bool
-workable last k w h n m =
-    both (leb k maxLevels) (both (leb w widest) (both (leb h tallest) (both (ltb n (count lo h)) (leb (workLength last w) m))))
+-- set n of a level of the columns W and the rows H can be worked out in a memory of m numbers; its rows are low-low values of level k
+unfoldable pub workable : Bool → ℕ → Side → Side → ℕ → ℕ → Bool
+workable last k W H n m =
+    both (leb k maxLevels)
+    (both (leb (W .length) widest)
+    (both (leb (H .length) tallest)
+    (both (ltb 0 (H .length))
+    (both (leb n (lastSet H))
+    (leb (workLength last W) m)))))
 
--- the answer of working it out: 5 where it can not, 14 where a row that it makes does not fit
+-- the answer of working it out: 5 where it can not, 14 where a row that it makes does not fit or has an odd number that would be halved
 abbrev pub workAnswer : Bool → Tried → ℕ
 workAnswer room t = pick room (pick (fits t) 0 14) 5
+
+-- what stands there afterwards, x before: the set worked out; zeros in the level's own stretch where a number does not fit
+unfoldable pub workLeft : Side → Bool → Tried → (ℕ → ℤ) → ℕ → ℤ
+workLeft W room t x = pick room (memory (fronted (4 * W .length) (λ _. pos 0) x) t) x
 
 -- nothing changed from place n on
 pub record Kept (n : ℕ) (x y : ℕ → ℤ) : Type 0 where

@@ -1,50 +1,70 @@
--- A level's memory: four rows of w numbers, each in halves. Row r of the level stands in slot r mod 4: there its coefficients are collected, and there they
--- become the row.
-use Prim.Native.Nat.{ℕ, _+_, _*_, _%_}
+-- A level's memory: four rows of as many numbers as it has columns, each in halves. The level's rows are told by their coordinates past the last even
+-- coordinate that is not after its start: row r is at start % 2 + r, and set n has the rows at 2n (low) and 2n + 1 (high). The row at q stands in slot q mod 4:
+-- there its coefficients are collected, and there they become the row.
+use mathlib.Core.Bool.{Bool}
+use Prim.Native.Nat.{ℕ, _+_, _-_, _*_, _%_}
 use lib.IntN.{ℤ}
+use lib.Signed.{shrZ}
 use Rattle.numbers.specs.Signal.{windowed, spliced}
-use Rattle.lifting.specs.Line.{Half, lo, hi, count, joined}
-use Rattle.lifting.specs.Halves.{halvesOf, unliftedInPlace}
+use Rattle.numbers.specs.Tests.{every}
+use Rattle.lifting.specs.Line.{Half, lo, hi}
+use Rattle.lifting.specs.Grid.{Side, count, joined, isEven}
+use Rattle.lifting.specs.GridHalves.{halvesOf, unliftedInPlace, hasLineIn}
 use Rattle.lifting.specs.Rows.{rowChanged}
 use Rattle.wavelet.specs.Bands.{Band, across, down}
+use Rattle.wavelet.specs.Levels.{next}
+use Rattle.wavelet.specs.Order.{firstSet}
 
 abbrev pub slot : ℕ → ℕ
-slot r = r % 4
+slot q = q % 4
 
--- where row r begins
+-- where the row at q begins, of w columns
 unfoldable pub rowPlace : ℕ → ℕ → ℕ
-rowPlace w r = slot r * w
+rowPlace w q = slot q * w
 
--- the row that the low row n, or the high row n, of a set becomes
-unfoldable pub setRow : Half → ℕ → ℕ
-setRow lo n = 2 * n
-setRow hi n = 2 * n + 1
+-- where row r is, of rows that start at coordinate s
+unfoldable pub local : ℕ → ℕ → ℕ
+local s r = s % 2 + r
+
+-- where the low row, or the high row, of set n is
+unfoldable pub rowOfSet : Half → ℕ → ℕ
+rowOfSet lo n = 2 * n
+rowOfSet hi n = 2 * n + 1
 
 -- where a half of a row begins
-unfoldable pub halfPlace : Half → ℕ → ℕ
-halfPlace lo w = 0
-halfPlace hi w = count lo w
+unfoldable pub halfPlace : Half → Side → ℕ
+halfPlace lo W = 0
+halfPlace hi W = count lo W
 
--- row n of a band, the numbers v, fed
-unfoldable pub bandFed : ℕ → Band → ℕ → (ℕ → ℤ) → (ℕ → ℤ) → ℕ → ℤ
-bandFed w b n v x = spliced (rowPlace w (setRow (down b) n) + halfPlace (across b) w) (count (across b) w) v x
+-- the row of a band of set n, the numbers v, fed
+unfoldable pub bandFed : Side → Band → ℕ → (ℕ → ℤ) → (ℕ → ℤ) → ℕ → ℤ
+bandFed W b n v x = spliced (rowPlace (W .length) (rowOfSet (down b) n) + halfPlace (across b) W) (count (across b) W) v x
 
--- the row in halves that stands in the slot of row r
+-- the row in halves that stands in the slot of the row at q
 unfoldable pub rowIn : ℕ → ℕ → (ℕ → ℤ) → ℕ → ℤ
-rowIn w r x = windowed (rowPlace w r) w x
+rowIn w q x = windowed (rowPlace w q) w x
 
--- row r lifted back along the row
-unfoldable pub rowUnlifted : ℕ → ℕ → (ℕ → ℤ) → ℕ → ℤ
-rowUnlifted w r x = spliced (rowPlace w r) w (unliftedInPlace w (rowIn w r x)) x
+-- the row at q lifted back along the row, and whether it is a line's
+unfoldable pub rowUnlifted : Side → ℕ → (ℕ → ℤ) → ℕ → ℤ
+rowUnlifted W q x = spliced (rowPlace (W .length) q) (W .length) (unliftedInPlace W (rowIn (W .length) q x)) x
 
--- row t changed by f of its own numbers and those of rows l and r in the same columns
+unfoldable pub rowHasLine : Side → ℕ → (ℕ → ℤ) → Bool
+rowHasLine W q x = hasLineIn W (rowIn (W .length) q x)
+
+-- the row at t changed by f of its own numbers and those of the rows at l and r in the same columns
 unfoldable pub rowBy : (ℤ → ℤ → ℤ → ℤ) → ℕ → ℕ → ℕ → ℕ → (ℕ → ℤ) → ℕ → ℤ
 rowBy f w t l r x = rowChanged f w w (slot t) (slot l) (slot r) x
 
--- The low-low row of set n is row n of the next level, whose memory, four rows half as wide, follows this one: from halves into its own order, to the low
--- half of row 2n.
-unfoldable pub lowRowTaken : ℕ → ℕ → (ℕ → ℤ) → ℕ → ℤ
-lowRowTaken w n x =
-    spliced (rowPlace w (2 * n)) (count lo w)
-    (joined (halvesOf (count lo w) (windowed (4 * w + rowPlace (count lo w) n) (count lo w) x)))
+-- the row at q halved, and whether each of its numbers is even
+unfoldable pub rowHalved : ℕ → ℕ → (ℕ → ℤ) → ℕ → ℤ
+rowHalved w q x = spliced (rowPlace w q) w (λ i. shrZ (rowIn w q x i) 2) x
+
+unfoldable pub rowIsEven : ℕ → ℕ → (ℕ → ℤ) → Bool
+rowIsEven w q x = every w (λ i. isEven (x (rowPlace w q + i)))
+
+-- The low-low row of set n is a row of the next level, whose memory follows this one: from halves into its own order, to the low half of the row at 2n.
+unfoldable pub lowRowTaken : Side → Side → ℕ → (ℕ → ℤ) → ℕ → ℤ
+lowRowTaken W H n x =
+    spliced (rowPlace (W .length) (2 * n)) (count lo W)
+    (joined (next W) (halvesOf (next W) (windowed (4 * W .length + rowPlace (count lo W) (local (next H .start) (n - firstSet H lo))) (count lo W) x)))
     x

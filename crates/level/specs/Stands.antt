@@ -1,43 +1,55 @@
--- What stands in a level's memory x, for a grid G of w columns and h rows that the level splits. The numbers are 32-bit words (`wrap32`).
+-- What stands in a level's memory x, of the columns W and the rows H, for bands p of the level: any numbers, a grid's bands or not. The rows made are those of
+-- the way back (`levelBack`), over 32-bit words (`wrap32`).
 use mathlib.Core.Path.{_≡_}
 use mathlib.Core.Bool.{true}
-use Prim.Native.Nat.{ℕ, suc, _+_, _*_, _<_}
+use Prim.Native.Nat.{ℕ, suc, _+_, _-_, _*_, _≤_, _<_}
 use lib.IntN.{ℤ}
 use Rattle.numbers.specs.Word.{wrap32}
-use Rattle.lifting.specs.Line.{Half, hi, count, parted}
-use Rattle.wavelet.specs.Bands.{Grid, Band, across, down, columnsLifted, subband}
+use Rattle.lifting.specs.Line.{Half, lo, hi}
+use Rattle.lifting.specs.Grid.{Side, count, parted, hasLine}
+use Rattle.wavelet.specs.Bands.{Grid, Band, across, down, bandOf, rowsUnlifted, levelBack}
 use Rattle.wavelet.specs.Maps.{valueFits}
-use Rattle.level.specs.Sets.{setOf}
-use Rattle.level.specs.Slots.{rowPlace, setRow, halfPlace}
+use Rattle.wavelet.specs.Order.{firstSet, setRow, setHas}
+use Rattle.wavelet.specs.Steps.{setOf}
+use Rattle.level.specs.Slots.{rowPlace, local, rowOfSet, halfPlace}
+use Rattle.level.specs.Work.{endOf}
 
--- in the slot of row r stands a row by its halves: two band rows, or the even and the odd places of a line
-abbrev pub RowStands : ℕ → (ℕ → ℤ) → ℕ → (Half → ℕ → ℤ) → Type 0
-RowStands w x r c = (h : Half) (i : ℕ) → i < count h w → x (rowPlace w r + (halfPlace h w + i)) ≡ c h i
+-- in the slot of the row at q stands a row by its halves: two band rows, or the even and the odd coordinates of a line
+abbrev pub RowStands : Side → (ℕ → ℤ) → ℕ → (Half → ℕ → ℤ) → Type 0
+RowStands W x q c = (h : Half) (i : ℕ) → i < count h W → x (rowPlace (W .length) q + (halfPlace h W + i)) ≡ c h i
+
+-- no number that set n halves is odd: its band rows are lines', and so are the columns of the rows that it makes
+pub record SetHas (W H : Side) (p : Band → Grid) (n : ℕ) : Type 0 where
+  pub low : firstSet H lo ≤ n → hasLine W (λ a. p (bandOf a lo) (n - firstSet H lo)) ≡ true
+  pub high : n < count hi H → hasLine W (λ a. p (bandOf a hi) n) ≡ true
+  pub columns : (r : ℕ) → r < H .length → setOf H r ≡ n → (c : ℕ) → c < W .length → hasLine H (λ h i. rowsUnlifted wrap32 W p h i c) ≡ true
 
 -- what set n leaves: the rows that it makes, which fit as low-low values of level k, and its high row of the columns for the next set
-pub record SetLeaves (k w h : ℕ) (G : Grid) (n : ℕ) (x : ℕ → ℤ) : Type 0 where
-  pub made : (r : ℕ) → r < h → setOf h r ≡ n → RowStands w x r (parted (G r))
-  pub fit : (r : ℕ) → r < h → setOf h r ≡ n → (c : ℕ) → c < w → valueFits k (G r c) ≡ true
-  pub high : 2 * n + 2 < h → RowStands w x (2 * n + 1) (parted (columnsLifted wrap32 h G hi n))
+pub record SetLeaves (k : ℕ) (W H : Side) (p : Band → Grid) (n : ℕ) (x : ℕ → ℤ) : Type 0 where
+  pub made : (r : ℕ) → r < H .length → setOf H r ≡ n → RowStands W x (local (H .start) r) (parted W (levelBack wrap32 W H p r))
+  pub fit : (r : ℕ) → r < H .length → setOf H r ≡ n → (c : ℕ) → c < W .length → valueFits k (levelBack wrap32 W H p r c) ≡ true
+  pub high : 2 * n + 2 < endOf H → RowStands W x (2 * n + 1) (parted W (rowsUnlifted wrap32 W p hi n))
+  pub has : SetHas W H p n
 
--- what set n needs of the set before it: its even row, and its high row
-pub record SetBefore (w h : ℕ) (G : Grid) (n : ℕ) (x : ℕ → ℤ) : Type 0 where
-  pub even : (p : ℕ) → n ≡ suc p → RowStands w x (2 * p) (parted (G (2 * p)))
-  pub high : (p : ℕ) → n ≡ suc p → RowStands w x (2 * p + 1) (parted (columnsLifted wrap32 h G hi p))
+-- what set n needs of the set before it: its even row, if it has one, and its high row
+pub record SetBefore (W H : Side) (p : Band → Grid) (n : ℕ) (x : ℕ → ℤ) : Type 0 where
+  pub even : (m : ℕ) → n ≡ suc m → firstSet H lo ≤ m → RowStands W x (2 * m) (parted W (levelBack wrap32 W H p (2 * m - firstSet H lo)))
+  pub high : (m : ℕ) → n ≡ suc m → RowStands W x (2 * m + 1) (parted W (rowsUnlifted wrap32 W p hi m))
 
--- row n of band c, if there is one
-abbrev pub BandStands : ℕ → ℕ → Grid → ℕ → (ℕ → ℤ) → Band → Type 0
-BandStands w h G n x c =
-    n < count (down c) h → (i : ℕ) → i < count (across c) w → x (rowPlace w (setRow (down c) n) + (halfPlace (across c) w + i)) ≡ subband wrap32 w h G c n i
+-- the row of band c of set n, if there is one
+abbrev pub BandStands : Side → Side → (Band → Grid) → ℕ → (ℕ → ℤ) → Band → Type 0
+BandStands W H p n x c =
+    setHas W H c n ≡ true → (i : ℕ) → i < count (across c) W →
+    x (rowPlace (W .length) (rowOfSet (down c) n) + (halfPlace (across c) W + i)) ≡ p c (setRow H c n) i
 
 -- ---- what stands in a level's memory, whatever the level does
 pub record BackMeaning : Type 1 where
-  -- Leaves k w h G n x: what set n leaves
-  pub Leaves : ℕ → ℕ → ℕ → Grid → ℕ → (ℕ → ℤ) → Type 0
-  -- Before w h G n x: what set n needs of those before it
-  pub Before : ℕ → ℕ → Grid → ℕ → (ℕ → ℤ) → Type 0
-  -- Got w h G n x c: row n of band c is there, if there is one
-  pub Got : ℕ → ℕ → Grid → ℕ → (ℕ → ℤ) → Band → Type 0
+  -- Leaves k W H p n x: what set n leaves
+  pub Leaves : ℕ → Side → Side → (Band → Grid) → ℕ → (ℕ → ℤ) → Type 0
+  -- Before W H p n x: what set n needs of those before it
+  pub Before : Side → Side → (Band → Grid) → ℕ → (ℕ → ℤ) → Type 0
+  -- Got W H p n x c: the row of band c of set n is there, if there is one
+  pub Got : Side → Side → (Band → Grid) → ℕ → (ℕ → ℤ) → Band → Type 0
 
 abbrev pub fiveThreeStands : BackMeaning
 fiveThreeStands = record { Leaves = SetLeaves; Before = SetBefore; Got = BandStands }

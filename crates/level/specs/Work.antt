@@ -1,60 +1,101 @@
--- Working out set n of a level that splits a grid of w columns and h rows. Its rows are low-low values of level k (k = 0: heights), and each is admitted as
+-- Working out set n of a level that splits the columns W and the rows H. Its rows are low-low values of level k (k = 0: heights), and each is admitted as
 -- soon as it is made: here it passes the test of 14.
 -- Document 01, "Back: rows, then columns": along the row, then the even row from its low row and the high rows next to it, then the odd rows.
+-- Q-3: an only column, or an only row, at an odd coordinate is halved; where a number of it is odd, nothing goes on (14).
 use mathlib.Core.Bool.{Bool}
-use Prim.Native.Nat.{ℕ, zero, suc, _+_, _-_, _*_, min}
+use Prim.Native.Nat.{ℕ, zero, suc, _+_, _-_, _*_, _%_}
 use lib.IntN.{ℤ}
-use lib.Dec.{ltb, eqb}
+use lib.Dec.{ltb, leb, eqb}
 use Rattle.numbers.specs.Signal.{pick}
-use Rattle.numbers.specs.Word.{wrap32}
-use Rattle.lifting.specs.Line.{lo, hi, count, unupdated, unpredicted}
 use Rattle.numbers.specs.Tests.{every}
+use Rattle.numbers.specs.Word.{wrap32}
+use Rattle.lifting.specs.Line.{lo, hi, unupdated, unpredicted}
+use Rattle.lifting.specs.Grid.{Side, count, loneHigh}
+use Rattle.lifting.specs.Passes.{near}
 use Rattle.wavelet.specs.Maps.{valueFits}
-use Rattle.level.specs.Tried.{Tried, passed, outcome, bind}
-use Rattle.level.specs.Slots.{rowPlace, rowUnlifted, rowBy, lowRowTaken}
+use Rattle.wavelet.specs.Order.{firstSet}
+use Rattle.level.specs.Tried.{Tried, passed, failed, outcome, bind}
+use Rattle.level.specs.Slots.{rowPlace, rowUnlifted, rowHasLine, rowBy, rowHalved, rowIsEven, lowRowTaken}
 
--- along the row: the low row of the set, and its high row if it has one
-unfoldable pub setUnlifted : ℕ → ℕ → ℕ → (ℕ → ℤ) → ℕ → ℤ
-setUnlifted w h n x = pick (ltb (2 * n + 1) h) (rowUnlifted w (2 * n + 1) (rowUnlifted w (2 * n) x)) (rowUnlifted w (2 * n) x)
+-- the first place past the rows, counted as the places of rows are
+unfoldable pub endOf : Side → ℕ
+endOf H = H .start % 2 + H .length
 
--- row 2n by the high rows n − 1 and n, the nearest one twice at an end; a column of one number stays
-unfoldable pub evenRow : ℕ → ℕ → ℕ → (ℕ → ℤ) → ℕ → ℤ
-evenRow w h n x =
-    pick (ltb 1 h) (rowBy (unupdated wrap32) w (2 * n) (2 * (n - 1) + 1) (2 * min n (count hi h - 1) + 1) x) x
+-- does set n have a low row? The first set of a level that starts at an odd coordinate has none.
+unfoldable pub hasLow : Side → ℕ → Bool
+hasLow H n = leb (firstSet H lo) n
 
--- row 2m + 1 by the even rows 2m and 2m + 2, the nearest one twice at the end
-unfoldable pub oddRow : ℕ → ℕ → ℕ → (ℕ → ℤ) → ℕ → ℤ
-oddRow w h m x = rowBy (unpredicted wrap32) w (2 * m + 1) (2 * m) (2 * min (m + 1) (count lo h - 1)) x
+-- the set nearest to set i that has a low row, or a high row
+unfoldable pub lowNear : Side → ℕ → ℕ
+lowNear H i = firstSet H lo + near (count lo H) (i - firstSet H lo)
 
--- What is done to row r, a row of low-low values of level k that has just been made, before it is used: it is left, or changed, or nothing goes on.
+unfoldable pub highNear : Side → ℕ → ℕ
+highNear H i = near (count hi H) i
+
+-- along the row: one row, and the rows of the set
+unfoldable pub lineTried : Side → ℕ → (ℕ → ℤ) → Tried
+lineTried W q x = outcome (rowHasLine W q x) (rowUnlifted W q x)
+
+unfoldable pub lowTried : Side → Side → ℕ → (ℕ → ℤ) → Tried
+lowTried W H n x = pick (hasLow H n) (lineTried W (2 * n) x) (passed x)
+
+unfoldable pub highTried : Side → Side → ℕ → (ℕ → ℤ) → Tried
+highTried W H n x = pick (ltb (2 * n + 1) (endOf H)) (lineTried W (2 * n + 1) x) (passed x)
+
+unfoldable pub setUnlifted : Side → Side → ℕ → (ℕ → ℤ) → Tried
+setUnlifted W H n x = bind (lowTried W H n x) (highTried W H n)
+
+-- the row at 2n by the high rows next to it, the nearest one twice at an end; an only row stays
+unfoldable pub evenRow : ℕ → Side → ℕ → (ℕ → ℤ) → ℕ → ℤ
+evenRow w H n x = pick (ltb 1 (H .length)) (rowBy (unupdated wrap32) w (2 * n) (2 * highNear H (n - 1) + 1) (2 * highNear H n + 1) x) x
+
+-- the row at 2m + 1 by the even rows next to it, the nearest one twice at an end
+unfoldable pub oddRow : ℕ → Side → ℕ → (ℕ → ℤ) → ℕ → ℤ
+oddRow w H m x = rowBy (unpredicted wrap32) w (2 * m + 1) (2 * lowNear H m) (2 * lowNear H (m + 1)) x
+
+-- What is done to the row at q, a row of low-low values of level k that has just been made, before it is used: it is left, or changed, or nothing goes on.
 abbrev pub Admission : Type 0
 Admission = ℕ → ℕ → ℕ → (ℕ → ℤ) → Tried
 
 -- the test of 14: the row is left if all of it fits
 unfoldable pub rowFits : ℕ → ℕ → ℕ → (ℕ → ℤ) → Bool
-rowFits k w r x = every w (λ i. valueFits k (x (rowPlace w r + i)))
+rowFits k w q x = every w (λ i. valueFits k (x (rowPlace w q + i)))
 
 unfoldable pub admitted : Admission
-admitted k w r x = outcome (rowFits k w r x) x
+admitted k w q x = outcome (rowFits k w q x) x
 
 -- ---- the rows of set n, one after another, each admitted as `admit` says
 module _ (admit : Admission) where
-  -- row 2n
-  unfoldable pub evenMade : ℕ → ℕ → ℕ → ℕ → (ℕ → ℤ) → Tried
-  evenMade k w h n x = admit k w (2 * n) (evenRow w h n (setUnlifted w h n x))
+  -- the row at 2n, if the set has a low row
+  unfoldable pub evenMade : ℕ → ℕ → Side → ℕ → (ℕ → ℤ) → Tried
+  evenMade k w H n x = pick (hasLow H n) (admit k w (2 * n) (evenRow w H n x)) (passed x)
 
-  -- row 2n − 1, if there is one
-  unfoldable pub oddMade : ℕ → ℕ → ℕ → ℕ → (ℕ → ℤ) → Tried
-  oddMade k w h zero x = passed x
-  oddMade k w h (suc m) x = admit k w (2 * m + 1) (oddRow w h m x)
+  -- the row at 2n − 1, if there is one
+  unfoldable pub oddMade : ℕ → ℕ → Side → ℕ → (ℕ → ℤ) → Tried
+  oddMade k w H zero x = passed x
+  oddMade k w H (suc m) x = admit k w (2 * m + 1) (oddRow w H m x)
 
-  -- row 2n + 1, if it is the last of an even height
-  unfoldable pub lastMade : ℕ → ℕ → ℕ → ℕ → (ℕ → ℤ) → Tried
-  lastMade k w h n x = pick (eqb (2 * n + 2) h) (admit k w (2 * n + 1) (oddRow w h n x)) (passed x)
+  -- both, one after the other
+  unfoldable pub pairMade : ℕ → ℕ → Side → ℕ → (ℕ → ℤ) → Tried
+  pairMade k w H n x = bind (evenMade k w H n x) (oddMade k w H n)
 
-  unfoldable pub setMade : ℕ → ℕ → ℕ → ℕ → (ℕ → ℤ) → Tried
-  setMade k w h n x = bind (evenMade k w h n x) (λ y. bind (oddMade k w h n y) (lastMade k w h n))
+  -- an only row, at an odd coordinate
+  unfoldable pub loneMade : ℕ → ℕ → ℕ → (ℕ → ℤ) → Tried
+  loneMade k w q x = pick (rowIsEven w q x) (admit k w q (rowHalved w q x)) failed
 
-  -- the whole of it: below level L the low-low row is taken from the next level first
-  unfoldable pub setWorked : Bool → ℕ → ℕ → ℕ → ℕ → (ℕ → ℤ) → Tried
-  setWorked last k w h n x = setMade k w h n (pick last x (lowRowTaken w n x))
+  -- the row at 2n + 1, if it is the last
+  unfoldable pub lastMade : ℕ → ℕ → Side → ℕ → (ℕ → ℤ) → Tried
+  lastMade k w H n x =
+      pick (eqb (2 * n + 2) (endOf H))
+      (pick (loneHigh H) (loneMade k w (2 * n + 1) x) (admit k w (2 * n + 1) (oddRow w H n x)))
+      (passed x)
+
+  unfoldable pub rowsMade : ℕ → ℕ → Side → ℕ → (ℕ → ℤ) → Tried
+  rowsMade k w H n x = bind (evenMade k w H n x) (λ y. bind (oddMade k w H n y) (lastMade k w H n))
+
+  unfoldable pub setMade : ℕ → Side → Side → ℕ → (ℕ → ℤ) → Tried
+  setMade k W H n x = bind (setUnlifted W H n x) (rowsMade k (W .length) H n)
+
+  -- the whole of it: below level L the low-low row, if there is one, is taken from the next level first
+  unfoldable pub setWorked : Bool → ℕ → Side → Side → ℕ → (ℕ → ℤ) → Tried
+  setWorked last k W H n x = setMade k W H n (pick last x (pick (hasLow H n) (lowRowTaken W H n x) x))

@@ -1,25 +1,52 @@
 // The copies within a store, one pass over the numbers each. The module is private: only this crate, which meets what is required, can call it.
 use wavelet::sizes;
 ghost use mathlib.Core.Path.{_≡_};
-ghost use Prim.Native.Nat.{_≤_, _+_, _*_};
+ghost use Prim.Native.Nat.{_≤_, _+_, _-_, _*_, _%_};
 ghost use lib.ListN.{length};
-ghost use Rattle.numbers.specs.Signal.{at};
-ghost use Rattle.lifting.specs.Line.{lo, count};
+ghost use lib.Dec.{eqb};
+ghost use Rattle.numbers.specs.Signal.{at, pick, spliced};
+ghost use Rattle.lifting.specs.Line.{lo};
+ghost use Rattle.lifting.specs.Grid.{side, count};
+ghost use Rattle.lifting.specs.GridHalves.{partedInto};
 ghost use Rattle.lifting.specs.Rows.{rowChanged};
 ghost use Rattle.lifting.specs.Pairs.{first};
 ghost use Rattle.level.specs.Making.{separated, delivered};
 
-// `count` pairs of numbers from `from` on: the first of each to the places from `evens` on, the second to those from `odds` on, past what is read.
+// `count` pairs of numbers from `from` on: the first of each to the places from `firsts` on, the second to those from `seconds` on, past what is read.
 // One loop stores both: the compiler then reads whole vectors.
-fn separate(store: &mut [i32], from: usize, evens: usize, odds: usize, count: usize)
-    requires { ⌜ (from + 2 * count ≤ evens) × (evens + count ≤ odds) × (odds + count ≤ length (now store)) ⌝ }
-    ensures { λ _. ⌜ at (now (store .exit)) ≡ separated from evens odds count (at (now (store .entry))) ⌝ }
+fn separate(store: &mut [i32], from: usize, firsts: usize, seconds: usize, count: usize)
+    requires { ⌜ (from + 2 * count ≤ firsts) × (from + 2 * count ≤ seconds) × (count ≤ (seconds - firsts) + (firsts - seconds))
+        × (firsts + count ≤ length (now store)) × (seconds + count ≤ length (now store)) ⌝ }
+    ensures { λ _. ⌜ at (now (store .exit)) ≡ separated from firsts seconds count (at (now (store .entry))) ⌝ }
 {
     let mut j = 0;
     while j < count {
-        store[evens + j] = store[from + 2 * j];
-        store[odds + j] = store[from + 2 * j + 1];
+        store[firsts + j] = store[from + 2 * j];
+        store[seconds + j] = store[from + 2 * j + 1];
         j += 1;
+    }
+}
+
+// Where the first number of a row goes that is parted into its halves, `low` of it low: a row that starts at an odd coordinate begins with a high one.
+fn first_place(start: usize, low: usize) -> usize
+    ensures { λ r. ⌜ r ≡ pick (eqb (start % 2) 0) 0 low ⌝ }
+{
+    if start % 2 == 0 { 0 } else { low }
+}
+
+// The v numbers from `from` on, a row that starts at coordinate `start`, parted into its halves from place `to` on, past what is read: pairs, and the last
+// by itself where v is odd.
+fn part_row(store: &mut [i32], from: usize, to: usize, start: usize, v: usize)
+    requires { ⌜ (from + v ≤ to) × (to + v ≤ length (now store)) ⌝ }
+    ensures { λ _. ⌜ at (now (store .exit)) ≡
+        spliced to v (partedInto (side start v) (λ i. at (now (store .entry)) (from + i)) (at (now (store .entry)))) (at (now (store .entry))) ⌝ }
+{
+    let low = sizes::low_count(start, v);
+    let o = first_place(start, low);
+    let pairs = v / 2;
+    separate(store, from, to + o, to + (low - o), pairs);
+    if 2 * pairs < v {
+        store[to + o + pairs] = store[from + 2 * pairs];
     }
 }
 
@@ -37,18 +64,13 @@ pub fn copy_row(store: &mut [i32], w: usize, from: usize, to: usize)
     }
 }
 
-// The LL row of set n becomes row n of the next level.
-pub fn deliver(store: &mut [i32], w: usize, n: usize)
-    requires { ⌜ 4 * w + 4 * count lo w ≤ length (now store) ⌝ }
-    ensures { λ _. ⌜ at (now (store .exit)) ≡ delivered w n (at (now (store .entry))) ⌝ }
+// The LL row of set n becomes row q of the next level.
+pub fn deliver(store: &mut [i32], w: usize, x: usize, n: usize, q: usize)
+    requires { ⌜ 4 * w + 4 * count lo (side x w) ≤ length (now store) ⌝ }
+    ensures { λ _. ⌜ at (now (store .exit)) ≡ delivered (side x w) n q (at (now (store .entry))) ⌝ }
 {
-    let v = sizes::half(w);
-    let low = sizes::half(v);
+    let v = sizes::low_count(x, w);
     let from = 2 * (n % 2) * w;
-    let to = 4 * w + n % 4 * v;
-    let pairs = v - low;
-    separate(store, from, to, to + low, pairs);
-    if pairs < low {
-        store[to + pairs] = store[from + 2 * pairs];
-    }
+    let to = 4 * w + q % 4 * v;
+    part_row(store, from, to, sizes::next_start(x), v);
 }

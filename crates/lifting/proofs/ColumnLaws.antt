@@ -20,7 +20,7 @@ use Rattle.lifting.specs.Pairs.{first, pairFits, pairLifted, pairCopied,
 use Rattle.lifting.proofs.RowLaws.{RowIn, RowsIn, row-in, row-fits, rows-in, rows-fit, row-at, row-before, row-past, row-other, row-order}
 
 -- places in different columns differ
-columns-apart : (s q t i c : ℕ) → c < i → i < s → t * s + c ≡ q * s + i → ⊥
+pub columns-apart : (s q t i c : ℕ) → c < i → i < s → t * s + c ≡ q * s + i → ⊥
 columns-apart s q t i c h g e =
     elim (ℕ-discrete t q) [
       | yes p ↦ let k : t * s ≡ q * s = ap (λ (z : ℕ). z * s) p in omega arith
@@ -50,7 +50,7 @@ module _ (f : ℤ → ℤ → ℤ → ℤ) (s t l r i : ℕ) (h : i < s) where
       ]
 
   -- one column more is the step in that column
-  column-more : (x : ℕ → ℤ) → rowChanged f s (i + 1) t l r x ≡ changedAt f (t * s + i) (l * s + i) (r * s + i) (rowChanged f s i t l r x)
+  pub column-more : (x : ℕ → ℤ) → rowChanged f s (i + 1) t l r x ≡ changedAt f (t * s + i) (l * s + i) (r * s + i) (rowChanged f s i t l r x)
   column-more x = grown ∙ rw (column-left x t, column-left x l, column-left x r) refl
     where
       v : ℤ
@@ -111,7 +111,7 @@ module _ (f : ℤ → ℤ → ℤ → ℤ) (s t l r i : ℕ) (h : i < s) where
       ]
 
   -- and so can a step in it
-  column-swap : (g : ℤ → ℤ → ℤ → ℤ) (x : ℕ → ℤ) (q a b : ℕ) →
+  pub column-swap : (g : ℤ → ℤ → ℤ → ℤ) (x : ℕ → ℤ) (q a b : ℕ) →
       rowChanged f s i t l r (changedAt g (q * s + i) (a * s + i) (b * s + i) x) ≡ changedAt g (q * s + i) (a * s + i) (b * s + i) (rowChanged f s i t l r x)
   column-swap g x q a b = store-swap x q _ ∙ rw (column-left x q, column-left x a, column-left x b) refl
 
@@ -155,7 +155,7 @@ module _ (s h l r b i : ℕ) (x : ℕ → ℤ) (g : i < s) where
       ∙ ap (changedAt (updated wrap32) (l * s + i) (b * s + i) (h * s + i)) (column-swap first s b h h i g (predicted wrap32) _ h l r))
 
 -- no column yet
-row-none : (f : ℤ → ℤ → ℤ → ℤ) (s t l r : ℕ) (x : ℕ → ℤ) → rowChanged f s 0 t l r x ≡ x
+pub row-none : (f : ℤ → ℤ → ℤ → ℤ) (s t l r : ℕ) (x : ℕ → ℤ) → rowChanged f s 0 t l r x ≡ x
 row-none f s t l r x =
     fun-ext λ j.
     elim (decLt j (t * s)) [

@@ -2,6 +2,10 @@ pub mod Fits
 pub mod GridLaws
 pub mod GridReads
 pub mod Filter
+pub mod Keeping
+pub mod TwoSteps
+pub mod Neighbours
+pub mod TwoStepsInMemory
 pub mod LoneLaws
 pub mod FiveThree
 pub mod GridTheorems
@@ -17,3 +21,4 @@ pub mod LiftLaws
 pub mod GridThereAndBack
 pub mod ThereAndBack
 pub mod ColumnLaws
+pub mod BackLaws

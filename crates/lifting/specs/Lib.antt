@@ -5,3 +5,4 @@ pub mod Grid
 pub mod GridHalves
 pub mod Passes
 pub mod Pairs
+pub mod Ranges

@@ -4,10 +4,11 @@ use crate::sample;
 ghost use mathlib.Core.Path.{_≡_};
 ghost use Prim.Native.Nat.{ℕ, _<_};
 ghost use lib.ListN.{length, set};
-ghost use Rattle.numbers.specs.Signal.{at};
+ghost use Rattle.numbers.specs.Signal.{at, both};
 ghost use Rattle.numbers.specs.Word.{wrap32};
 ghost use Rattle.lifting.specs.Line.{lo, predicted, unpredicted, updated, unupdated};
-ghost use Rattle.lifting.specs.Pairs.{first, changedAt, liftedAt};
+ghost use Rattle.lifting.specs.Pairs.{first, changedAt, liftedAt, unliftedAt};
+ghost use Rattle.lifting.specs.Ranges.{within};
 ghost use Rattle.lifting.specs.Grid.{side, count, loneHigh};
 ghost use Rattle.lifting.specs.Passes.{near};
 
@@ -63,6 +64,29 @@ pub fn lift_copy_at(area: &mut [i32], h: usize, l: usize, r: usize, b: usize)
 {
     let d = lift_at(area, h, l, r, b);
     area[b] = d;
+}
+
+// The way back: a low number without its update by two high ones, the first of these without its prediction by another low number and this one. It answers
+// whether both lie from `least` to `most`.
+pub fn unlift_at(
+    area: &mut [i32],
+    h: usize,
+    l: usize,
+    r: usize,
+    b: usize,
+    least: i32,
+    most: i32,
+) -> bool
+    requires { ⌜ (h < length (now area)) × (l < length (now area)) × (r < length (now area)) × (b < length (now area)) × (l ≡ h → ⊥) ⌝ }
+    ensures { λ ok. ⌜ ok ≡ both (within least most (at (now (area .exit)) l)) (within least most (at (now (area .exit)) h)) ⌝ }
+    ensures { λ _. ⌜ at (now (area .exit)) ≡ unliftedAt h l r b (at (now (area .entry))) ⌝ }
+{
+    let d = area[h];
+    let s = sample::unupdate(area[l], d, area[r]);
+    area[l] = s;
+    let x = sample::unpredict(d, area[b], s);
+    area[h] = x;
+    sample::is_within(s, least, most) & sample::is_within(x, least, most)
 }
 
 // How many of n samples are low, the first of them at coordinate `start`.

@@ -6,6 +6,7 @@ ghost use lib.Signed.{shrZ};
 ghost use Rattle.numbers.specs.Word.{wrap32};
 ghost use Rattle.lifting.specs.Line.{predicted, unpredicted, updated, unupdated};
 ghost use Rattle.lifting.specs.Grid.{isEven};
+ghost use Rattle.lifting.specs.Ranges.{within};
 
 // z as 32 bits keep it, without a branch
 fn wrap(z: i64) -> i32
@@ -16,13 +17,14 @@ fn wrap(z: i64) -> i32
     (z - 4294967296 * k) as i32
 }
 
-fn more(x: i32, f: i32) -> i32
+// x with f, and without it.
+pub fn more(x: i32, f: i32) -> i32
     ensures { λ r. ⌜ r ≡ wrap32 (x +ℤ f) ⌝ }
 {
     wrap(x as i64 + f as i64)
 }
 
-fn less(x: i32, f: i32) -> i32
+pub fn less(x: i32, f: i32) -> i32
     ensures { λ r. ⌜ r ≡ wrap32 (x -ℤ f) ⌝ }
 {
     wrap(x as i64 - f as i64)
@@ -86,4 +88,11 @@ pub fn is_even(x: i32) -> bool
 {
     let h = x >> 1;
     h + h == x
+}
+
+// Whether a sample lies from `least` to `most`, without a branch.
+pub fn is_within(x: i32, least: i32, most: i32) -> bool
+    ensures { λ r. ⌜ r ≡ within least most x ⌝ }
+{
+    (least <= x) & (x <= most)
 }

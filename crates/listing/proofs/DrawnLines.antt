@@ -8,6 +8,7 @@ use native.Mathlib.Omega.{arith}
 use lib.IntN.{ℤ}
 use lib.ListN.{length, drop, getD}
 use Rattle.numbers.specs.Word.{whole}
+use Rattle.lifting.specs.Grid.{side}
 use Rattle.wavelet.specs.Limits.{maxHeight, maxSample}
 use Rattle.wavelet.specs.Bands.{Grid, Band, LL, HL, LH, HH, code}
 use Rattle.wavelet.specs.Levels.{levelBand}
@@ -48,12 +49,12 @@ lineAs r y = headText (headPart (r .level) (r .band) (r .row) (r .length)) ++ (s
 module _ (W H : ℕ) (g : Grid) where
   -- how many values the row of a name has, and which
   abbrev columns : RowName → ℕ
-  columns x = bandColumns W (x .level) (x .band)
+  columns x = bandColumns (side 0 W) (x .level) (x .band)
 
   abbrev valuesOf : RowName → ℕ → ℤ
-  valuesOf x = levelBand whole W H g (x .level) (x .band) (x .row)
+  valuesOf x = levelBand whole (side 0 W) (side 0 H) g (x .level) (x .band) (x .row)
 
-  pub line-same : (d : DrawnRow) (x : RowName) → d .row ≡ answered W x → HasValues W H g d → drawnLine d ≡ lineOf W H g x
+  pub line-same : (d : DrawnRow) (x : RowName) → d .row ≡ answered (side 0 W) x → HasValues (side 0 W) 0 H g d → drawnLine d ≡ lineOf W H g x
   unfolding drawnLine lineOf rowLine
   line-same d x e v =
       ap (λ r. lineAs r (d .values)) e
@@ -64,11 +65,11 @@ module _ (W H : ℕ) (g : Grid) where
       same i p =
           let n : d .row .length ≡ columns x = ap (λ r. r .length) e in
           v .are (x .band) (ap (λ r. r .band) e) i (omega arith)
-          ∙ ap (λ r. levelBand whole W H g (r .level) (x .band) (r .row) i) e
+          ∙ ap (λ r. levelBand whole (side 0 W) (side 0 H) g (r .level) (x .band) (r .row) i) e
 
   -- ---- the lines of rows drawn, and of those after them
-  pub lines-same : (l : List DrawnRow) (m : List RowName) → All (HasValues W H g) l
-      → map (λ d. d .row) l ++ map (answered W) (drop (length l) m) ≡ map (answered W) m
+  pub lines-same : (l : List DrawnRow) (m : List RowName) → All (HasValues (side 0 W) 0 H g) l
+      → map (λ d. d .row) l ++ map (answered (side 0 W)) (drop (length l) m) ≡ map (answered (side 0 W)) m
       → drawnText l ++ linesOf W H g (drop (length l) m) ≡ linesOf W H g m
   unfolding drawnText linesOf
   lines-same [] m a e = refl
@@ -83,7 +84,7 @@ unfolding gridOf maxSample
 grid-map W H l a = record { heights = λ r c _ _. height-range (getD l (r * W + c) 0) (all-at 0 (omega arith) a (r * W + c)) }
 
 pub grid-map-of : (W H : ℕ) (es : List Event) → 1 ≤ H → H ≤ maxHeight → All (λ h. h ≤ maxSample) (taken es) → length (taken es) ≤ W * H
-    → (finishedBy es ≡ true → length (taken es) ≡ W * H) → MapOf W H (gridOf W (taken es)) es
+    → (finishedBy es ≡ true → length (taken es) ≡ W * H) → MapOf (side 0 W) H (gridOf W (taken es)) es
 unfolding gridOf
 grid-map-of W H es some limit small within all = record {
   begins = record { some = some; limit = limit; map = grid-map W H (taken es) small; within = within; heights = λ _ _ _ _. refl };
@@ -91,9 +92,9 @@ grid-map-of W H es some limit small within all = record {
 }
 
 -- ---- the lines of any list of calls on a fresh writer
-module _ (W L n : ℕ) (x : Memory) (ready : setUpQuestion W L n ≡ 0) (cs : List Call) (H : ℕ) where
+module _ (W L n : ℕ) (x : Memory) (ready : setUpQuestion (side 0 W) L n ≡ 0) (cs : List Call) (H : ℕ) where
   abbrev es : List Event
-  es = events cs (freshWorld W L n x)
+  es = events cs (freshWorld (side 0 W) 0 L n x)
 
   abbrev q : Shape
   q = record { width = W; height = H; levels = L }
@@ -101,19 +102,19 @@ module _ (W L n : ℕ) (x : Memory) (ready : setUpQuestion W L n ≡ 0) (cs : Li
   module _ (some : 1 ≤ H) (limit : H ≤ maxHeight) (small : All (λ h. h ≤ maxSample) (taken es)) (within : length (taken es) ≤ W * H)
       (all : finishedBy es ≡ true → length (taken es) ≡ W * H) where
     -- the lines drawn, and those of the rows that wait
-    pub lines-all : (sizeLine W H L ++ drawnText (drawn es)) ++ linesOf W H (gridOf W (taken es)) (waitingOf W L es) ≡ linesDue q (taken es) (finishedBy es)
+    pub lines-all : (sizeLine W H L ++ drawnText (drawn es)) ++ linesOf W H (gridOf W (taken es)) (waitingOf (side 0 W) 0 L es) ≡ linesDue q (taken es) (finishedBy es)
     unfolding linesDue waitingOf madeOf wholeRows
     lines-all =
-        let d = demand-3 W L n x ready cs .1 in
+        let d = demand-3 (side 0 W) 0 L n x (omega arith) (omega arith) ready cs .1 in
         append-assoc (sizeLine W H L) (drawnText (drawn es)) _
         ∙ ap (λ t. sizeLine W H L ++ t)
-        (lines-same W H (gridOf W (taken es)) (drawn es) (madeOf W L es) (d .values H (gridOf W (taken es)) (grid-map-of W H es some limit small within all))
+        (lines-same W H (gridOf W (taken es)) (drawn es) (madeOf (side 0 W) 0 L es) (d .values H (gridOf W (taken es)) (grid-map-of W H es some limit small within all))
         (d .in-order))
 
     pub lines-prefix : (r : List ℕ) × ((sizeLine W H L ++ drawnText (drawn es)) ++ r ≡ linesDue q (taken es) (finishedBy es))
-    lines-prefix = (linesOf W H (gridOf W (taken es)) (waitingOf W L es), lines-all)
+    lines-prefix = (linesOf W H (gridOf W (taken es)) (waitingOf (side 0 W) 0 L es), lines-all)
 
-    pub lines-due : waitingOf W L es ≡ [] → sizeLine W H L ++ drawnText (drawn es) ≡ linesDue q (taken es) (finishedBy es)
+    pub lines-due : waitingOf (side 0 W) 0 L es ≡ [] → sizeLine W H L ++ drawnText (drawn es) ≡ linesDue q (taken es) (finishedBy es)
     unfolding linesOf
     lines-due z =
         sym (append-nil (sizeLine W H L ++ drawnText (drawn es)))

@@ -6,6 +6,7 @@ use mathlib.Core.List.{List, [], _++_, append-assoc, append-nil}
 use Prim.Native.Nat.{ℕ, zero, suc, _+_, _*_, _≤_, _<_}
 use native.Mathlib.Omega.{arith}
 use lib.ListN.{length}
+use Rattle.lifting.specs.Grid.{side}
 use Rattle.wavelet.specs.Store.{storeLength}
 use Rattle.calls.specs.Lists.{All}
 use Rattle.level.specs.Level.{Memory}
@@ -38,7 +39,7 @@ module _ {i : Input} {c : ℕ} {hs : List ℕ} {number : ℕ} {f : Bool} where
   heights-all (reads a b p e) z = absurd (differ (sym b ∙ z))
   heights-all (shut p h g) z = g z
 
-module _ (n : ℕ) (store : storeLength maxPictureWidth 5 ≤ n) (W H L : ℕ) (hs : List ℕ) (f : Bool) (ds : List DrawnRow) (w : Writer) (x : Memory)
+module _ (n : ℕ) (store : storeLength (side 0 maxPictureWidth) 5 ≤ n) (W H L : ℕ) (hs : List ℕ) (f : Bool) (ds : List DrawnRow) (w : Writer) (x : Memory)
     (b : ShapeIn W H L)
     (small : All (λ h. h ≤ maxSample) hs) (few : length hs ≤ W * H) (all : f ≡ true → length hs ≡ W * H) (r : Ran W L n hs f ds w x) where
   abbrev q : Shape
@@ -50,7 +51,7 @@ module _ (n : ℕ) (store : storeLength maxPictureWidth 5 ≤ n) (W H L : ℕ) (
       ∙ lines-due W L n (r .before) (set-up-in n store b) (r .calls) H (b .some-rows) (b .rows) (subst (All (λ h. h ≤ maxSample)) (sym (r .heights)) small)
       (rw (r .heights) few)
       (λ z. ap length (r .heights) ∙ all (sym (r .ended) ∙ z)) (waiting-is W L n hs f ds w x r ∙ e)
-      ∙ ap (λ h. linesDue q h (finishedBy (events (r .calls) (freshWorld W L n (r .before))))) (r .heights)
+      ∙ ap (λ h. linesDue q h (finishedBy (events (r .calls) (freshWorld (side 0 W) 0 L n (r .before))))) (r .heights)
       ∙ ap (linesDue q hs) (r .ended)
 
   ran-prefix : (t : List ℕ) × ((sizeLine W H L ++ drawnText ds) ++ t ≡ linesDue q hs f)
@@ -61,11 +62,11 @@ module _ (n : ℕ) (store : storeLength maxPictureWidth 5 ≤ n) (W H L : ℕ) (
       (λ z. ap length (r .heights) ∙ all (sym (r .ended) ∙ z)) in (
         p .0,
         ap (λ d. (sizeLine W H L ++ drawnText d) ++ p .0) (sym (r .rows)) ∙ p .1
-            ∙ ap (λ h. linesDue q h (finishedBy (events (r .calls) (freshWorld W L n (r .before))))) (r .heights)
+            ∙ ap (λ h. linesDue q h (finishedBy (events (r .calls) (freshWorld (side 0 W) 0 L n (r .before))))) (r .heights)
             ∙ ap (linesDue q hs) (r .ended),
       )
 
-module _ (n k : ℕ) (store : storeLength maxPictureWidth 5 ≤ n) (s : State) where
+module _ (n k : ℕ) (store : storeLength (side 0 maxPictureWidth) 5 ≤ n) (s : State) where
   -- nothing waits
   begun-due : (W H L : ℕ) (hs : List ℕ) (number : ℕ) (f : Bool) (o : List ℕ) → ShapeIn W H L → All (λ h. h ≤ maxSample) hs
       → InputAt (s .listing .input) (W * H) hs number f → Begun n k W H L hs number f o s → lineOn s .part < 3

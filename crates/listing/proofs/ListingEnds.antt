@@ -7,6 +7,7 @@ use native.Mathlib.Omega.{arith}
 use native.Mathlib.Decide.{decLt}
 use lib.ListN.{length}
 use borrow.Author.Tests.{le-ltb}
+use Rattle.lifting.specs.Grid.{side}
 use Rattle.wavelet.specs.Store.{storeLength}
 use Rattle.calls.specs.Lists.{All}
 use Rattle.writer.specs.Calls.{finishStore}
@@ -57,7 +58,7 @@ refusal-first : textOf false (refusal 15 ∷ []) ≡ textOf false [] ++ refusedL
 unfolding textOf
 refusal-first = refl
 
-module _ (n k : ℕ) (store : storeLength maxPictureWidth 5 ≤ n) (row : maxPictureWidth ≤ k) (s : State) (idle : Idle s) (sane : Sane (s .listing .input)) where
+module _ (n k : ℕ) (store : storeLength (side 0 maxPictureWidth) 5 ≤ n) (row : maxPictureWidth ≤ k) (s : State) (idle : Idle s) (sane : Sane (s .listing .input)) where
   abbrev i : Input
   i = s .listing .input
 

@@ -4,6 +4,7 @@ use mathlib.Core.Bool.{Bool, false}
 use mathlib.Core.List.{List, [], _∷_, _++_, append-assoc, append-nil}
 use Prim.Native.Nat.{ℕ, _+_, _-_, _≤_}
 use native.Mathlib.Omega.{arith}
+use Rattle.lifting.specs.Grid.{side}
 use Rattle.wavelet.specs.Store.{storeLength}
 use Rattle.level.specs.Level.{Memory}
 use Rattle.calls.specs.Lists.{All, all-none, all-more}
@@ -33,7 +34,7 @@ all-back (x ∷ s) t (all-more p a) = all-back s t a
 all-first : {P : ℕ → Type 0} (b : ℕ) (s : List ℕ) → All P (b ∷ s) → P b
 all-first b s (all-more p a) = p
 
-module _ (n k : ℕ) (store : storeLength maxPictureWidth 5 ≤ n) (row : maxPictureWidth ≤ k) where
+module _ (n k : ℕ) (store : storeLength (side 0 maxPictureWidth) 5 ≤ n) (row : maxPictureWidth ≤ k) where
   -- nothing was read
   unchanged : {E : List Event} {f : Bool} {o : List ℕ} {s : State} (i : Input) → Reached n k E f o s → s .listing .input ≡ i → Sane i
       → ReachedBy n k E f o (readAll i []) s

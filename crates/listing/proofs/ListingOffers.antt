@@ -6,6 +6,7 @@ use mathlib.Core.List.{List, [], _∷_, _++_, map, map-append, append-nil}
 use Prim.Native.Nat.{ℕ, zero, suc, _+_, _-_, _*_, _≤_, _<_}
 use native.Mathlib.Omega.{arith}
 use lib.ListN.{length, take}
+use Rattle.lifting.specs.Grid.{side}
 use Rattle.wavelet.specs.Limits.{maxHeight}
 use Rattle.wavelet.specs.Store.{storeLength}
 use Rattle.level.specs.Level.{Memory}
@@ -90,10 +91,10 @@ turned-begun n k W H L hs f o s i q some e b = record {
   room = λ h. absurd (omega arith);
 }
 
-module _ (n k : ℕ) (store : storeLength maxPictureWidth 5 ≤ n) (row : maxPictureWidth ≤ k) where
+module _ (n k : ℕ) (store : storeLength (side 0 maxPictureWidth) 5 ≤ n) (row : maxPictureWidth ≤ k) where
   -- ---- the head is there
-  begin-is : (i : Input) (w : Writer) (W H : ℕ) (x z : Memory) → setUpQuestion W (i .levels) n ≡ 0
-      → beginState n i w W H x z ≡ stateOf (listed i (fresh W (i .levels)) (sizePart W H (i .levels))) (setUpStore W (i .levels) n x) z
+  begin-is : (i : Input) (w : Writer) (W H : ℕ) (x z : Memory) → setUpQuestion (side 0 W) (i .levels) n ≡ 0
+      → beginState n i w W H x z ≡ stateOf (listed i (fresh (side 0 W) 0 (i .levels)) (sizePart W H (i .levels))) (setUpStore (side 0 W) (i .levels) n x) z
   unfolding beginState setUpReply
   begin-is i w W H x z e = rw e refl
 

@@ -6,6 +6,7 @@ use Prim.Native.Nat.{ℕ, _+_, _-_, _*_, _≤_, _<_}
 use native.Mathlib.Omega.{arith}
 use lib.ListN.{length, take, length-append}
 use lib.Seq.{length-take-le}
+use Rattle.lifting.specs.Grid.{side}
 use Rattle.wavelet.specs.Store.{storeLength}
 use Rattle.pgm.specs.Samples.{sampleSize, heightsOf}
 use Rattle.pgm.proofs.RunReads.{heights-first}
@@ -41,7 +42,7 @@ pub record ReachedBy (n k : ℕ) (E : List Event) (f : Bool) (o : List ℕ) (h :
   pub input : s .listing .input ≡ h .input
   pub sane : Sane (h .input)
 
-module _ (n k : ℕ) (store : storeLength maxPictureWidth 5 ≤ n) (row : maxPictureWidth ≤ k) (s : State) (idle : Idle s) where
+module _ (n k : ℕ) (store : storeLength (side 0 maxPictureWidth) 5 ≤ n) (row : maxPictureWidth ≤ k) (s : State) (idle : Idle s) where
   abbrev i : Input
   i = s .listing .input
 

@@ -3,11 +3,12 @@
 use mathlib.Core.Path.{_≡_, refl}
 use mathlib.Core.List.{List, [], _∷_, _++_}
 use Prim.Native.Nat.{ℕ}
-use Rattle.lifting.specs.Line.{predicted, updated, mirror, high, highAt, low, count, lineForward}
+use Rattle.lifting.specs.Line.{predicted, updated, mirror}
+use Rattle.lifting.specs.Grid.{place, before, after, highAt, lowAt, count, lineForward}
 use Rattle.wavelet.specs.Bands.{across, down, columnsLifted, subband}
-use Rattle.wavelet.specs.Levels.{size, approximation, levelBand}
+use Rattle.wavelet.specs.Order.{handedOut, inTurn, firstSet, lastSet, setRow, setHas, rowsOf, setRows, madeBy, closing, made}
+use Rattle.wavelet.specs.Levels.{next, sideAt, approximation, levelBand}
 use Rattle.wavelet.specs.View.{bandColumns}
-use Rattle.wavelet.specs.Order.{handedOut, hasRow, rowsOf, setRows, madeBy, closing, inTurn, made}
 use Rattle.wavelet.specs.Questions.{within}
 use Rattle.pgm.specs.Characters.{space, lineEnd, digit}
 use Rattle.pgm.specs.Header.{one, comment, gap, afterGaps, numberFrom, field, side, sized, headerEnd, headerOf}
@@ -27,9 +28,9 @@ whole : listingOf (input ++ (7 ∷ [])) ≡ 49 ∷ 32 ∷ 52 ∷ 32 ∷ 50 ∷ 1
     ∷ 10 ∷ 50 ∷ 32 ∷ 76 ∷ 76 ∷ 32 ∷ 48 ∷ 32 ∷ 52 ∷ 10 ∷ 50 ∷ 32 ∷ 76 ∷ 72 ∷ 32 ∷ 48 ∷ 32 ∷ 49 ∷ 10 ∷ []
 unfolding listingOf headOf levelDigit maxField maxPictureWidth maxPictureHeight upTo sizeFits headEnd heightsTaken tooLarge gridOf linesDue bodyOf one
     comment gap afterGaps numberFrom field side sized headerEnd headerOf space lineEnd digit wide sampleSize pairsOf samplesOf fitting exceeds
-    heightsOf refusedLine within made inTurn closing madeBy setRows rowsOf hasRow handedOut linesOf lineOf rowLine rowHead spaced sizeLine integer
-    numeral digitsOf levelBand approximation size bandColumns subband columnsLifted across down lineForward low high highAt mirror predicted updated
-    count
+    heightsOf refusedLine within made inTurn closing madeBy setRows rowsOf setHas setRow firstSet lastSet handedOut linesOf lineOf rowLine rowHead spaced
+    sizeLine integer numeral digitsOf levelBand approximation sideAt next bandColumns subband columnsLifted across down lineForward lowAt highAt before after
+    place mirror predicted updated count
 whole = refl
 
 -- the lines that three rows make due, then the refusal
@@ -37,9 +38,9 @@ short : listingOf input ≡ 49 ∷ 32 ∷ 52 ∷ 32 ∷ 50 ∷ 10 ∷ 49 ∷ 32 
     ∷ 53 ∷ 10 ∷ []
 unfolding listingOf headOf levelDigit maxField maxPictureWidth maxPictureHeight upTo sizeFits headEnd heightsTaken tooLarge gridOf linesDue bodyOf one
     comment gap afterGaps numberFrom field side sized headerEnd headerOf space lineEnd digit wide sampleSize pairsOf samplesOf fitting exceeds
-    heightsOf refusedLine within made inTurn closing madeBy setRows rowsOf hasRow handedOut linesOf lineOf rowLine rowHead spaced sizeLine integer
-    numeral digitsOf levelBand approximation size bandColumns subband columnsLifted across down lineForward low high highAt mirror predicted updated
-    count
+    heightsOf refusedLine within made inTurn closing madeBy setRows rowsOf setHas setRow firstSet lastSet handedOut linesOf lineOf rowLine rowHead spaced
+    sizeLine integer numeral digitsOf levelBand approximation sideAt next bandColumns subband columnsLifted across down lineForward lowAt highAt before after
+    place mirror predicted updated count
 short = refl
 
 -- the same column as a paint tool may write it: P5 # LF 1 TAB 4 CR LF LF 255 # CR, one byte a sample
@@ -48,9 +49,9 @@ painted : listingOf (50 ∷ 10 ∷ 80 ∷ 53 ∷ 35 ∷ 10 ∷ 49 ∷ 9 ∷ 52 �
     ∷ 32 ∷ 48 ∷ 32 ∷ 49 ∷ 10 ∷ []
 unfolding listingOf headOf levelDigit maxField maxPictureWidth maxPictureHeight upTo sizeFits headEnd heightsTaken tooLarge gridOf linesDue bodyOf one
     comment gap afterGaps numberFrom field side sized headerEnd headerOf space lineEnd digit wide sampleSize pairsOf samplesOf fitting exceeds
-    heightsOf refusedLine within made inTurn closing madeBy setRows rowsOf hasRow handedOut linesOf lineOf rowLine rowHead spaced sizeLine integer
-    numeral digitsOf levelBand approximation size bandColumns subband columnsLifted across down lineForward low high highAt mirror predicted updated
-    count
+    heightsOf refusedLine within made inTurn closing madeBy setRows rowsOf setHas setRow firstSet lastSet handedOut linesOf lineOf rowLine rowHead spaced
+    sizeLine integer numeral digitsOf levelBand approximation sideAt next bandColumns subband columnsLifted across down lineForward lowAt highAt before after
+    place mirror predicted updated count
 painted = refl
 
 -- with the largest value 3 the second sample is refused, and question 15 is not asked of what follows
@@ -58,7 +59,7 @@ exceeding : listingOf (50 ∷ 10 ∷ 80 ∷ 53 ∷ 32 ∷ 49 ∷ 32 ∷ 52 ∷ 3
     ∷ 101 ∷ 100 ∷ 32 ∷ 49 ∷ 54 ∷ 10 ∷ []
 unfolding listingOf headOf levelDigit maxField maxPictureWidth maxPictureHeight upTo sizeFits headEnd heightsTaken tooLarge gridOf linesDue bodyOf one
     comment gap afterGaps numberFrom field side sized headerEnd headerOf space lineEnd digit wide sampleSize pairsOf samplesOf fitting exceeds
-    heightsOf refusedLine within made inTurn closing madeBy setRows rowsOf hasRow handedOut linesOf lineOf rowLine rowHead spaced sizeLine integer
-    numeral digitsOf levelBand approximation size bandColumns subband columnsLifted across down lineForward low high highAt mirror predicted updated
-    count
+    heightsOf refusedLine within made inTurn closing madeBy setRows rowsOf setHas setRow firstSet lastSet handedOut linesOf lineOf rowLine rowHead spaced
+    sizeLine integer numeral digitsOf levelBand approximation sideAt next bandColumns subband columnsLifted across down lineForward lowAt highAt before after
+    place mirror predicted updated count
 exceeding = refl

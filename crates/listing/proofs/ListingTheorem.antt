@@ -13,6 +13,7 @@ use Prim.Native.Nat.{ℕ, _+_, _≤_, _<_}
 use native.Mathlib.Omega.{arith}
 use lib.ListN.{take, drop}
 use lib.Seq.{take-at}
+use Rattle.lifting.specs.Grid.{side}
 use Rattle.wavelet.specs.Store.{storeLength}
 use Rattle.level.specs.Level.{Memory}
 use Rattle.calls.specs.Lists.{All}
@@ -44,7 +45,7 @@ after-refusal-events i (b ∷ v) p =
     ∙ after-refusal-events i v p
 
 -- ---- whatever the moves
-module _ (n k : ℕ) (store : storeLength maxPictureWidth 5 ≤ n) (row : maxPictureWidth ≤ k) (x z : Memory) {u o : List ℕ} {s : State}
+module _ (n k : ℕ) (store : storeLength (side 0 maxPictureWidth) 5 ≤ n) (row : maxPictureWidth ≤ k) (x z : Memory) {u o : List ℕ} {s : State}
     (bytes : All (λ b. b ≤ 255) u) (reads : Goes n k (stateOf started x z) u o s) where
   reached : ReachedBy n k [] false o (readAll atStart u) s
   reached = begun-reached n k store row x z bytes reads
@@ -108,7 +109,7 @@ session-goes {n} {k} {s} (call {s₂ = s₂} {u = u} {t = t} g c) =
     subst₂ (λ v w. Goes n k s (u ++ v) (t ++ w) s₂) (sym (call-read c)) (sym (call-wrote c)) (goes-on (session-goes g) (c .goes))
 
 -- ---- whatever the calls
-module _ (n k : ℕ) (store : storeLength maxPictureWidth 5 ≤ n) (row : maxPictureWidth ≤ k) (x z : Memory) {u o : List ℕ} {s : State}
+module _ (n k : ℕ) (store : storeLength (side 0 maxPictureWidth) 5 ≤ n) (row : maxPictureWidth ≤ k) (x z : Memory) {u o : List ℕ} {s : State}
     (bytes : All (λ b. b ≤ 255) u) (reads : Session n k (stateOf started x z) u o s) where
   pub due : Idle s → o ≡ dueOf u
   due = moves-due n k store row x z bytes (session-goes reads)

@@ -7,6 +7,7 @@ use native.Mathlib.Omega.{arith}
 use native.Mathlib.Decide.{decLt, ℕ-discrete}
 use lib.ListN.{length}
 use borrow.Author.Tests.{lt-ltb, le-ltb, eq-eqb, ne-eqb}
+use Rattle.lifting.specs.Grid.{side}
 use Rattle.wavelet.specs.Store.{storeLength}
 use Rattle.writer.specs.Questions.{setUpQuestion}
 use Rattle.text.specs.Refusal.{answerLine}
@@ -68,7 +69,7 @@ module _ (n k : ℕ) (s : State) where
     room = λ _. e .room g;
   }
 
-  module _ {W H L : ℕ} {hs : List ℕ} {number : ℕ} {f : Bool} {o : List ℕ} (q : setUpQuestion W L n ≡ 0) (wide : W ≤ k)
+  module _ {W H L : ℕ} {hs : List ℕ} {number : ℕ} {f : Bool} {o : List ℕ} (q : setUpQuestion (side 0 W) L n ≡ 0) (wide : W ≤ k)
       (e : Begun n k W H L hs number f o s) (p : 0 < l .part) where
     not-refused : 3 ≤ l .part → number ≡ 0
     not-refused g = go number (e .last)
@@ -126,7 +127,7 @@ module _ (n k : ℕ) (s : State) where
           ]
         ]
 
-  pub wholly-reached : storeLength maxPictureWidth 5 ≤ n → maxPictureWidth ≤ k → 0 < l .part → {E : List Event} {f : Bool} {o : List ℕ}
+  pub wholly-reached : storeLength (side 0 maxPictureWidth) 5 ≤ n → maxPictureWidth ≤ k → 0 < l .part → {E : List Event} {f : Bool} {o : List ℕ}
       → Reached n k E f o s → Reached n k E f (o ++ leftOn k s) (advanceState n k s)
   wholly-reached store row p (quiet a b c d e) = absurd (omega arith)
   wholly-reached store row p {E} {f} {o} (refused q a b c d e) =
@@ -135,7 +136,7 @@ module _ (n k : ℕ) (s : State) where
       begun W H L hs number a b c (subst (λ y. InputAt y (W * H) hs number f) (sym (wholly-input (set-up-in n store b) (omega (arith, b .columns)) e p)) d)
       (wholly-begun (set-up-in n store b) (omega (arith, b .columns)) e p)
 
-  pub reached-input : storeLength maxPictureWidth 5 ≤ n → maxPictureWidth ≤ k → 0 < l .part → {E : List Event} {f : Bool} {o : List ℕ}
+  pub reached-input : storeLength (side 0 maxPictureWidth) 5 ≤ n → maxPictureWidth ≤ k → 0 < l .part → {E : List Event} {f : Bool} {o : List ℕ}
       → Reached n k E f o s → advanceState n k s .listing .input ≡ s .listing .input
   reached-input store row p (quiet a b c d e) = absurd (omega arith)
   reached-input store row p (refused q a b c d e) = ap (λ y. y .listing .input) (to-none d)

@@ -9,11 +9,12 @@ use native.Mathlib.Omega.{arith}
 use lib.ListN.{length, drop}
 use borrow.Author.Tests.{le-leb}
 use Rattle.numbers.specs.Signal.{pick}
+use Rattle.lifting.specs.Grid.{side}
 use Rattle.wavelet.specs.Bands.{across}
-use Rattle.wavelet.specs.Levels.{size}
+use Rattle.wavelet.specs.Levels.{sideAt}
 use Rattle.wavelet.specs.View.{bandColumns}
-use Rattle.wavelet.specs.Order.{RowName, made, inTurn}
-use Rattle.wavelet.proofs.SizeLaws.{count-le, size-le}
+use Rattle.wavelet.specs.Order.{RowName, inTurn, made}
+use Rattle.wavelet.proofs.SideLaws.{count-le, size-le}
 use Rattle.calls.specs.Lists.{Reply, gives, refused, seen, Area}
 use Rattle.calls.proofs.ListLaws.{either-no, gathered-snoc, ever-snoc, events-snoc, final-snoc}
 use Rattle.level.specs.Level.{Memory}
@@ -33,18 +34,18 @@ worldOf n w x = record { writer = w; length = n; store = x }
 
 -- the rows that wait: made of the heights hs (and of the finish, f), and not among the rows drawn
 unfoldable pub waits : ℕ → ℕ → List ℕ → Bool → List DrawnRow → List RowName
-waits W L hs f ds = drop (length ds) (made W L (length hs / W) f)
+waits W L hs f ds = drop (length ds) (made (side 0 W) 0 L (length hs / W) f)
 
 pub record Ran (W L n : ℕ) (hs : List ℕ) (f : Bool) (ds : List DrawnRow) (w : Writer) (x : Memory) : Type 0 where
   pub before : Memory
   pub calls : List Call
-  pub world : final calls (freshWorld W L n before) ≡ worldOf n w x
-  pub heights : taken (events calls (freshWorld W L n before)) ≡ hs
-  pub ended : finishedBy (events calls (freshWorld W L n before)) ≡ f
-  pub rows : drawn (events calls (freshWorld W L n before)) ≡ ds
+  pub world : final calls (freshWorld (side 0 W) 0 L n before) ≡ worldOf n w x
+  pub heights : taken (events calls (freshWorld (side 0 W) 0 L n before)) ≡ hs
+  pub ended : finishedBy (events calls (freshWorld (side 0 W) 0 L n before)) ≡ f
+  pub rows : drawn (events calls (freshWorld (side 0 W) 0 L n before)) ≡ ds
 
 module _ (W L n : ℕ) where
-  pub fresh-ran : (x : Memory) → Ran W L n [] false [] (fresh W L) (setUpStore W L n x)
+  pub fresh-ran : (x : Memory) → Ran W L n [] false [] (fresh (side 0 W) 0 L) (setUpStore (side 0 W) L n x)
   unfolding lists.final lists.events lists.gathered lists.ever
   fresh-ran x = record { before = x; calls = []; world = refl; heights = refl; ended = refl; rows = refl }
 
@@ -52,18 +53,18 @@ module _ (W L n : ℕ) where
   unfolding waits made inTurn
   fresh-waits = go (0 / W) (zero-div W)
     where
-      go : (m : ℕ) → m ≡ 0 → made W L m false ≡ []
+      go : (m : ℕ) → m ≡ 0 → made (side 0 W) 0 L m false ≡ []
       go zero e = refl
       go (suc m) e = absurd (omega arith)
 
   module _ (hs : List ℕ) (f : Bool) (ds : List DrawnRow) (w : Writer) (x : Memory) (r : Ran W L n hs f ds w x) where
     abbrev w₀ : World
-    w₀ = freshWorld W L n (r .before)
+    w₀ = freshWorld (side 0 W) 0 L n (r .before)
 
     abbrev es : List Event
     es = events (r .calls) w₀
 
-    pub waiting-is : waitingOf W L es ≡ waits W L hs f ds
+    pub waiting-is : waitingOf (side 0 W) 0 L es ≡ waits W L hs f ds
     unfolding waitingOf madeOf wholeRows waits
     waiting-is = rw (r .heights, r .ended, r .rows) refl
 
@@ -119,28 +120,28 @@ module _ (W L n : ℕ) where
           subst (λ h. Ran W L n h f (ds ++ (record { row = b; values = after } ∷ [])) u (drawStore w n k x)) (append-nil hs)
           (subst (λ t. Ran W L n (hs ++ []) t (ds ++ (record { row = b; values = after } ∷ [])) u (drawStore w n k x)) (either-no f) a)
 
-      says : setUpQuestion W L n ≡ 0 → seen given (drawReply w n k x) ≡ drawSays W (waits W L hs f ds) k
+      says : setUpQuestion (side 0 W) L n ≡ 0 → seen given (drawReply w n k x) ≡ drawSays (side 0 W) (waits W L hs f ds) k
       says s =
-          let d = demand-3 W L n (r .before) s (r .calls) .1 .draws (area z) in
-          let e : drew (area z) (seen given (drawReply w n k x)) (area after) ≡ drew (area z) (drawSays W (waitingOf W L es) k) (d .area) =
+          let d = demand-3 (side 0 W) 0 L n (r .before) (omega arith) (omega arith) s (r .calls) .1 .draws (area z) in
+          let e : drew (area z) (seen given (drawReply w n k x)) (area after) ≡ drew (area z) (drawSays (side 0 W) (waitingOf (side 0 W) 0 L es) k) (d .area) =
           sym (drew-is (drawReply w n k x) refl) ∙ ap (event (draw (area z))) (sym (r .world)) ∙ d .says in
-          cc (e, ap (λ l. drawSays W l k) waiting-is)
+          cc (e, ap (λ l. drawSays (side 0 W) l k) waiting-is)
 
-      pub draw-out : setUpQuestion W L n ≡ 0 → W ≤ k → DrawOut (drawReply w n k x)
+      pub draw-out : setUpQuestion (side 0 W) L n ≡ 0 → W ≤ k → DrawOut (drawReply w n k x)
       draw-out s long = go (waits W L hs f ds) refl (drawReply w n k x) refl (says s)
         where
-          fits : (y : RowName) → bandColumns W (y .level) (y .band) ≤ k
-          fits y = unfold bandColumns in omega (arith, count-le (across (y .band)) (size (y .level - 1) W), size-le (y .level - 1) W)
+          fits : (y : RowName) → bandColumns (side 0 W) (y .level) (y .band) ≤ k
+          fits y = unfold bandColumns in omega (arith, count-le (across (y .band)) (sideAt (y .level - 1) (side 0 W)), size-le (y .level - 1) (side 0 W))
 
-          go : (l : List RowName) → waits W L hs f ds ≡ l → (y : Reply Handed) → drawReply w n k x ≡ y → seen given y ≡ drawSays W l k → DrawOut y
+          go : (l : List RowName) → waits W L hs f ds ≡ l → (y : Reply Handed) → drawReply w n k x ≡ y → seen given y ≡ drawSays (side 0 W) l k → DrawOut y
           go [] p (gives nothing) e q = all-out p (none-ran e)
           go [] p (gives (aRow b u)) e q = let o : _≡_ {A = ℕ} 0 1 = cc in absurd (omega arith)
           go [] p (refused c) e q = let o : _≡_ {A = ℕ} 0 1 = cc in absurd (omega arith)
-          go (y ∷ l) p v e q = some v e (q ∙ ap (λ t. pick t (gives (row (answered W y))) (refused 12)) (le-leb _ k (fits y)))
+          go (y ∷ l) p v e q = some v e (q ∙ ap (λ t. pick t (gives (row (answered (side 0 W) y))) (refused 12)) (le-leb _ k (fits y)))
             where
-              some : (v : Reply Handed) → drawReply w n k x ≡ v → seen given v ≡ gives (row (answered W y)) → DrawOut v
+              some : (v : Reply Handed) → drawReply w n k x ≡ v → seen given v ≡ gives (row (answered (side 0 W) y)) → DrawOut v
               some (gives nothing) e q = let o : _≡_ {A = ℕ} 0 1 = cc in absurd (omega arith)
               some (refused c) e q = let o : _≡_ {A = ℕ} 0 1 = cc in absurd (omega arith)
               some (gives (aRow b u)) e q =
-                  let same : b .length ≡ bandColumns W (y .level) (y .band) = cc in
+                  let same : b .length ≡ bandColumns (side 0 W) (y .level) (y .band) = cc in
                   one-out b u (omega (arith, fits y)) (row-ran b u e)

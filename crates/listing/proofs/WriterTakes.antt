@@ -3,19 +3,18 @@
 use mathlib.Core.Path.{_≡_, refl, sym, ap, subst, _∙_}
 use mathlib.Core.Bool.{true, false}
 use mathlib.Core.List.{List, [], _++_, append-nil}
-use Prim.Native.Nat.{ℕ, zero, suc, _+_, _-_, _*_, _/_, _%_, _≤_, _<_}
+use Prim.Native.Nat.{ℕ, _+_, _*_, _/_, _%_, _≤_, _<_}
 use native.Mathlib.Nat.{mul-comm, div-lt-iff-lt-mul, mul-div-cancel-left, mul-mod-right}
 use native.Mathlib.Omega.{arith}
 use native.Mathlib.Decide.{ℕ-discrete}
 use lib.Dec.{ltb, eqb}
 use lib.ListN.{length, take}
 use borrow.Author.Tests.{le-leb, lt-ltb, eq-eqb, ne-eqb}
+use Rattle.lifting.specs.Grid.{side}
 use Rattle.wavelet.specs.Limits.{maxWidth, maxHeight, maxLevels}
 use Rattle.wavelet.specs.Questions.{within}
-use Rattle.wavelet.specs.Levels.{size}
 use Rattle.wavelet.specs.Store.{storeLength}
-use Rattle.wavelet.proofs.SizeLaws.{count-lo, size-zero, size-suc}
-use Rattle.wavelet.proofs.StoreLaws.{store-none, store-more}
+use Rattle.wavelet.proofs.StoreLaws.{store-in, store-grows}
 use Rattle.calls.specs.Lists.{Reply, gives, refused, unless}
 use Rattle.level.specs.Level.{Memory}
 use Rattle.writer.specs.Questions.{either, setUpQuestion}
@@ -29,39 +28,26 @@ use Rattle.pgm.specs.Limits.{maxPictureWidth}
 use Rattle.listing.proofs.WriterRan.{worldOf, waits, Ran, waiting-is, ran-next}
 
 -- ---- the set-up
-size-grows : (k U W : ℕ) → U ≤ W → size k U ≤ size k W
-size-grows zero U W h = omega (arith, size-zero U, size-zero W)
-size-grows (suc k) U W h = omega (arith, size-suc k U, size-suc k W, count-lo (size k U), count-lo (size k W), size-grows k U W h)
-
-store-wide : (L U W : ℕ) → U ≤ W → storeLength U L ≤ storeLength W L
-store-wide zero U W h = omega (arith, store-none U, store-none W)
-store-wide (suc L) U W h = omega (arith, store-more U L, store-more W L, store-wide L U W h, size-grows L U W h)
-
-store-deep : (d L W : ℕ) → storeLength W L ≤ storeLength W (L + d)
-store-deep zero L W = let e : L + 0 ≡ L = omega arith in rw e (omega arith)
-store-deep (suc d) L W = let e : L + suc d ≡ suc (L + d) = omega arith in rw e (omega (arith, store-more W (L + d), store-deep d L W))
-
 -- the writer takes every width that is read
 narrow : maxPictureWidth ≤ maxWidth
 unfolding maxPictureWidth maxWidth
 narrow = omega arith
 
-pub set-up-passes : (W L n : ℕ) → storeLength maxPictureWidth 5 ≤ n → 1 ≤ W → W ≤ maxPictureWidth → 1 ≤ L → L ≤ 5 → setUpQuestion W L n ≡ 0
+pub set-up-passes : (W L n : ℕ) → storeLength (side 0 maxPictureWidth) 5 ≤ n → 1 ≤ W → W ≤ maxPictureWidth → 1 ≤ L → L ≤ 5 → setUpQuestion (side 0 W) L n ≡ 0
 unfolding setUpQuestion within maxLevels
 set-up-passes W L n h a b c d =
-    let e : L + (5 - L) ≡ 5 = omega arith in
-    let f : storeLength W L ≤ n = omega (arith, rw e at (store-deep (5 - L) L W), store-wide 5 W maxPictureWidth b) in
-    rw (le-leb 1 W a, le-leb W maxWidth (omega (arith, narrow)), le-leb 1 L c, le-leb L 5 d, le-leb (storeLength W L) n f)
+    let f : storeLength (side 0 W) L ≤ n = omega (arith, store-in (side 0 W) L 5 d, store-grows 5 0 W maxPictureWidth b) in
+    rw (le-leb 1 W a, le-leb W maxWidth (omega (arith, narrow)), le-leb 1 L c, le-leb L 5 d, le-leb (storeLength (side 0 W) L) n f)
 
-module _ (W L n : ℕ) (s : setUpQuestion W L n ≡ 0) (hs : List ℕ) (ds : List DrawnRow) (w : Writer) (x : Memory) (r : Ran W L n hs false ds w x)
+module _ (W L n : ℕ) (s : setUpQuestion (side 0 W) L n ≡ 0) (hs : List ℕ) (ds : List DrawnRow) (w : Writer) (x : Memory) (r : Ran W L n hs false ds w x)
     (idle : waits W L hs false ds ≡ []) where
   abbrev es : List Event
-  es = events (r .calls) (freshWorld W L n (r .before))
+  es = events (r .calls) (freshWorld (side 0 W) 0 L n (r .before))
 
-  nothing-waits : waitingOf W L es ≡ []
+  nothing-waits : waitingOf (side 0 W) 0 L es ≡ []
   nothing-waits = waiting-is W L n hs false ds w x r ∙ idle
 
-  rows-are : wholeRows W es ≡ length hs / W
+  rows-are : wholeRows (side 0 W) es ≡ length hs / W
   unfolding wholeRows
   rows-are = ap (λ l. length l / W) (r .heights)
 
@@ -81,22 +67,22 @@ module _ (W L n : ℕ) (s : setUpQuestion W L n ≡ 0) (hs : List ℕ) (ds : Lis
         (unfold next in rw e refl))
 
     module _ (H : ℕ) (wide : 0 < W) (high : H ≤ maxHeight) (room : length hs + length run ≤ W * H) where
-      low : either (eqb (length run) 0) (ltb (wholeRows W es) maxHeight) ≡ true
+      low : either (eqb (length run) 0) (ltb (wholeRows (side 0 W) es) maxHeight) ≡ true
       low =
           elim (ℕ-discrete (length run) 0) [
             | yes p ↦ rw (eq-eqb (length run) 0 p) refl
             | no p ↦
                 let e : length hs / W < H = div-lt-iff-lt-mul {k = W} {x = length hs} {y = H} wide .1 (omega (arith, p, mul-comm W H)) in
-                rw (ne-eqb (length run) 0 p, lt-ltb (wholeRows W es) maxHeight (omega (arith, rows-are))) refl
+                rw (ne-eqb (length run) 0 p, lt-ltb (wholeRows (side 0 W) es) maxHeight (omega (arith, rows-are))) refl
           ]
 
-      not-turned : offerTurned W L es (length run) ≡ 0
+      not-turned : offerTurned (side 0 W) 0 L es (length run) ≡ 0
       unfolding offerTurned
       not-turned = rw (r .ended, nothing-waits, low) refl
 
       pub offer-out : OfferOut
       offer-out =
-          let d = demand-3 W L n (r .before) s (r .calls) .1 .offers-taken run not-turned in
+          let d = demand-3 (side 0 W) 0 L n (r .before) (omega arith) (omega arith) s (r .calls) .1 .offers-taken run not-turned in
           go (offerReply w n run x) refl (d .0) (ap (event (offer run)) (sym (r .world)) ∙ d .1) (d .2 .most) (d .2 .some)
         where
           go : (y : Reply Took) → offerReply w n run x ≡ y → (m : ℕ) → event (offer run) (worldOf n w x) ≡ offered run (gives m) → m ≤ length run
@@ -119,16 +105,16 @@ module _ (W L n : ℕ) (s : setUpQuestion W L n ≡ 0) (hs : List ℕ) (ds : Lis
     pub ran : Ran W L n hs true ds writer (finishStore w n x)
 
   module _ (H : ℕ) (wide : 0 < W) (some : 1 ≤ H) (whole : length hs ≡ W * H) where
-    passes : finishTurned W L es ≡ 0
+    passes : finishTurned (side 0 W) 0 L es ≡ 0
     unfolding finishTurned
     passes =
         let a : length hs / W ≡ H = ap (λ m. m / W) whole ∙ mul-div-cancel-left H wide in
         let b : length (taken es) % W ≡ 0 = ap (λ l. length l % W) (r .heights) ∙ ap (λ m. m % W) whole ∙ mul-mod-right W H in
-        rw (r .ended, nothing-waits, lt-ltb 0 (wholeRows W es) (omega (arith, rows-are)), eq-eqb (length (taken es) % W) 0 b) refl
+        rw (r .ended, nothing-waits, lt-ltb 0 (wholeRows (side 0 W) es) (omega (arith, rows-are)), eq-eqb (length (taken es) % W) 0 b) refl
 
     pub finish-out : FinishOut
     finish-out =
-        let d = demand-3 W L n (r .before) s (r .calls) .1 .finishes in
+        let d = demand-3 (side 0 W) 0 L n (r .before) (omega arith) (omega arith) s (r .calls) .1 .finishes in
         go (finishReply w n x) refl (ap (event finish) (sym (r .world)) ∙ d ∙ ap (λ q. finished (unless q tt)) passes)
       where
         go : (y : Reply Writer) → finishReply w n x ≡ y → event finish (worldOf n w x) ≡ finished (gives tt) → FinishOut

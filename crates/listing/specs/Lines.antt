@@ -5,6 +5,7 @@ use mathlib.Core.List.{List, [], _∷_, _++_}
 use Prim.Native.Nat.{ℕ, zero, suc}
 use lib.IntN.{ℤ}
 use Rattle.numbers.specs.Word.{whole}
+use Rattle.lifting.specs.Grid.{side}
 use Rattle.wavelet.specs.Bands.{Grid, Band, LL, HL, LH, HH}
 use Rattle.wavelet.specs.Levels.{levelBand}
 use Rattle.wavelet.specs.View.{bandColumns}
@@ -34,7 +35,7 @@ rowLine k b r n y = rowHead k b r ++ spaced n y ++ (10 ∷ [])
 -- the line of a band row of the W × H map g: T.800's whole numbers
 unfoldable pub lineOf : ℕ → ℕ → Grid → RowName → List ℕ
 lineOf W H g x =
-    rowLine (x .level) (x .band) (x .row) (bandColumns W (x .level) (x .band)) (levelBand whole W H g (x .level) (x .band) (x .row))
+    rowLine (x .level) (x .band) (x .row) (bandColumns (side 0 W) (x .level) (x .band)) (levelBand whole (side 0 W) (side 0 H) g (x .level) (x .band) (x .row))
 
 unfoldable pub linesOf : ℕ → ℕ → Grid → List RowName → List ℕ
 linesOf W H g [] = []

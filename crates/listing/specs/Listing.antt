@@ -7,6 +7,7 @@ use lib.IntN.{pos}
 use lib.ListN.{length, getD}
 use lib.Dec.{eqb}
 use Rattle.numbers.specs.Signal.{pick}
+use Rattle.lifting.specs.Grid.{side}
 use Rattle.wavelet.specs.Bands.{Grid}
 use Rattle.wavelet.specs.Order.{made}
 use Rattle.wavelet.specs.Questions.{within}
@@ -54,7 +55,7 @@ gridOf W hs i j = pos (getD hs (i * W + j) 0)
 unfoldable pub linesDue : Shape → List ℕ → Bool → List ℕ
 linesDue q hs finished =
     sizeLine (q .width) (q .height) (q .levels)
-    ++ linesOf (q .width) (q .height) (gridOf (q .width) hs) (made (q .width) (q .levels) (length hs / q .width) finished)
+    ++ linesOf (q .width) (q .height) (gridOf (q .width) hs) (made (side 0 (q .width)) 0 (q .levels) (length hs / q .width) finished)
 
 -- "Asked again before the finish: are the height bytes neither too few nor too many?" A refusal comes "on a line after all lines that the heights
 -- before it made due".

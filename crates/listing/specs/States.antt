@@ -5,6 +5,7 @@ use Prim.Native.Nat.{ℕ, _+_}
 use lib.Dec.{ltb, eqb}
 use lib.ListN.{length}
 use Rattle.numbers.specs.Signal.{pick}
+use Rattle.lifting.specs.Grid.{side}
 use Rattle.level.specs.Level.{Memory}
 use Rattle.calls.specs.Lists.{Reply, gives, refused}
 use Rattle.writer.specs.Answers.{Took, Handed, aRow, nothing}
@@ -39,7 +40,7 @@ listed i w l = record { input = i; writer = w; line = l }
 
 -- before the first byte: the writer is none yet
 abbrev pub started : Listing
-started = listed atStart (fresh 1 1) noLine
+started = listed atStart (fresh (side 0 1) 0 1) noLine
 
 -- a refusal, whatever its number: no more is read
 abbrev pub refusedTo : Input → Writer → ℕ → Listing
@@ -60,7 +61,7 @@ begunTo i w W H (gives u) = listed i u (sizePart W H (i .levels))
 begunTo i w W H (refused q) = refusedTo i w q
 
 unfoldable pub beginState : ℕ → Input → Writer → ℕ → ℕ → Memory → Memory → State
-beginState n i w W H x z = stateOf (begunTo i w W H (setUpReply W (i .levels) n)) (setUpStore W (i .levels) n x) z
+beginState n i w W H x z = stateOf (begunTo i w W H (setUpReply (side 0 W) 0 (i .levels) n)) (setUpStore (side 0 W) (i .levels) n x) z
 
 -- ---- a height, and the finish
 abbrev pub tookTo : (ℕ → ℕ → Input → Writer → Memory → Memory → State) → ℕ → ℕ → Input → Writer → Memory → Memory → Reply Took → State

@@ -11,6 +11,7 @@ ghost use mathlib.Core.Path.{_≡_};
 ghost use Prim.Native.Nat.{_≤_};
 ghost use lib.ListN.{length};
 ghost use Rattle.numbers.specs.Signal.{at};
+ghost use Rattle.lifting.specs.Grid.{side};
 ghost use Rattle.wavelet.specs.Store.{storeLength};
 ghost use Rattle.pgm.specs.Limits.{maxPictureWidth};
 ghost use Rattle.listing.specs.States.{stateOf, Leaves, started, endState};
@@ -39,7 +40,7 @@ impl Listing {
 
     // The constants, each pinned to the definition's number.
     pub fn store_length() -> usize
-        ensures { λ r. ⌜ r ≡ storeLength maxPictureWidth 5 ⌝ }
+        ensures { λ r. ⌜ r ≡ storeLength (side 0 maxPictureWidth) 5 ⌝ }
     {
         Listing::STORE
     }
@@ -65,6 +66,8 @@ impl Listing {
                 level: 0,
                 left: 0,
                 offset: 0,
+                x: 0,
+                y: 0,
             },
             line: Line::none(),
         }

@@ -4,6 +4,7 @@ use crate::input::Input;
 use crate::input::Step;
 use crate::line::Line;
 use crate::listing::Listing;
+use wavelet::shape::Shape;
 use writer::Drawn;
 use writer::Finished;
 use writer::Offered;
@@ -12,6 +13,7 @@ use writer::Writer;
 ghost use mathlib.Core.Path.{_≡_};
 ghost use lib.ListN.{length};
 ghost use Rattle.numbers.specs.Signal.{at};
+ghost use Rattle.lifting.specs.Grid.{side};
 ghost use Rattle.writer.specs.Calls.{setUpReply, setUpStore};
 ghost use Rattle.listing.specs.States.{stateOf, Leaves, refusedTo, drawState, begunTo, offerState, finishState, readState, valuePart, advanceState};
 
@@ -46,13 +48,20 @@ pub fn draw(input: Input, writer: Writer, store: &mut [i32], row: &mut [i32]) ->
     }
 }
 
-// The head is read: a fresh writer, and the line of W, H and L.
+// The head is read: a fresh writer, and the line of W, H and L. A picture starts at coordinate 0.
 fn begin(input: Input, writer: Writer, width: usize, height: usize, store: &mut [i32]) -> Listing
-    ensures { λ r. ⌜ r ≡ begunTo input writer width height (setUpReply width (input .levels) (length (now (store .entry)))) ⌝ }
-    ensures { λ r. ⌜ at (now (store .exit)) ≡ setUpStore width (input .levels) (length (now (store .entry))) (at (now (store .entry))) ⌝ }
+    ensures { λ r. ⌜ r ≡ begunTo input writer width height (setUpReply (side 0 width) 0 (input .levels) (length (now (store .entry)))) ⌝ }
+    ensures { λ r. ⌜ at (now (store .exit)) ≡ setUpStore (side 0 width) (input .levels) (length (now (store .entry))) (at (now (store .entry))) ⌝ }
 {
     let levels = input.levels;
-    match Writer::set_up(width, levels, store) {
+    let shape = Shape {
+        width,
+        height,
+        levels,
+        x: 0,
+        y: 0,
+    };
+    match Writer::set_up(shape, store) {
         SetUp::Ready(fresh) => Listing {
             input,
             writer: fresh,

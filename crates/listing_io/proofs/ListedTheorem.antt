@@ -13,6 +13,7 @@ use native.Mathlib.Omega.{arith}
 use lib.Dec.{ltb, eqb}
 use lib.ListN.{take}
 use borrow.Author.Tests.{ltb-true, eqb-true, lt-ltb, le-ltb}
+use Rattle.lifting.specs.Grid.{side}
 use Rattle.wavelet.specs.Store.{storeLength}
 use Rattle.calls.specs.Lists.{All, all-none, all-more}
 use Rattle.level.specs.Level.{Memory}
@@ -100,7 +101,7 @@ all-front (x ∷ s) t (all-more p a) = all-more p (all-front s t a)
 abbrev Bytes : List ℕ → Type 0
 Bytes = All (λ b. b ≤ 255)
 
-module _ (n k : ℕ) (store : storeLength maxPictureWidth 5 ≤ n) (row : maxPictureWidth ≤ k) (x z : Memory) {s : State} {c : List ℕ} {r : Run}
+module _ (n k : ℕ) (store : storeLength (side 0 maxPictureWidth) 5 ≤ n) (row : maxPictureWidth ≤ k) (x z : Memory) {s : State} {c : List ℕ} {r : Run}
     (ran : Ran n k (stateOf started x z) s c r) where
   abbrev p : List ℕ
   p = leftIn c (r .left)

@@ -1,139 +1,225 @@
--- The first band that a set asks for, by what every set has: a low column and a low row. Assumes nothing.
+-- The first band that a set asks for, as the code tests it: columns of each half, a low row, a high row. Assumes nothing.
 use mathlib.Core.Bool.{Bool, true, false, _&&_}
-use mathlib.Core.Path.{_≡_, refl, sym, subst, _∙_}
-use Prim.Native.Nat.{ℕ, _/_, _%_, _≤_, _<_}
+use mathlib.Core.Path.{_≡_, refl, sym, ap, ap₂, _∙_}
+use mathlib.Core.List.{List, [], _∷_}
+use Prim.Native.Nat.{ℕ, zero, suc, _+_, _-_, _*_, _%_, _≤_, _<_}
+use native.Mathlib.Decide.{decLt, ℕ-discrete}
 use native.Mathlib.Omega.{arith}
-use lib.Dec.{T, leb, ltb, eqb}
-use borrow.Author.Tests.{ltb-true, ltb-false, eqb-true, eqb-false, le-leb, lt-leb}
-use Rattle.numbers.specs.Signal.{both}
-use Rattle.lifting.specs.Line.{lo, hi, count}
-use Rattle.wavelet.proofs.SizeLaws.{count-lo, count-hi}
-use Rattle.reader.specs.Asked.{asked, named, nextBand}
-use Rattle.reader.proofs.SetLaws.{across-even, across-odd, down-low, down-high, asks-none, asks-few, asks-kept, next-0, next-1, next-2, next-3, next-4}
+use lib.Dec.{leb, ltb, eqb}
+use borrow.Author.Tests.{lt-leb, le-leb, lt-ltb, le-ltb, eq-eqb, ne-eqb}
+use Rattle.numbers.specs.Signal.{pick, both}
+use Rattle.lifting.specs.Line.{lo, hi}
+use Rattle.lifting.specs.Grid.{Side, count}
+use Rattle.wavelet.specs.Bands.{Band, LL, HL, LH, HH, code, across, down}
+use Rattle.wavelet.specs.Order.{firstSet, setRow, setHas}
+use Rattle.reader.specs.Asked.{keptAt, asked, bandsFrom, those, look, firstCode, nextBand}
 
-never : {A : Type 0} → false ≡ true → A
-never z = absurd (subst T (sym z) tt)
+-- ---- the first band asked for
+first-pick : (t : Bool) (b : Band) (bs : List Band) → firstCode (pick t (b ∷ bs) bs) ≡ pick t (code b) (firstCode bs)
+unfolding firstCode
+first-pick true b bs = refl
+first-pick false b bs = refl
 
-both-false : (a : Bool) → both a false ≡ false
-both-false true = refl
-both-false false = refl
+module _ (p : Band → Bool) where
+  abbrev one : Band → List Band → ℕ
+  one b bs = pick (p b) (code b) (firstCode (those p bs))
 
-module _ (last : Bool) (w h n b : ℕ) where
-  abbrev from : ℕ → Bool
-  from c = both (leb b c) (asked last w h n (named c))
+  step : (b : Band) (bs : List Band) → firstCode (those p (b ∷ bs)) ≡ one b bs
+  unfolding those
+  step b bs = first-pick (p b) b (those p bs)
 
-  -- a band before b; one that is not asked for; one that is
-  passed-by : (c : ℕ) → c < b → from c ≡ false
-  passed-by c g = rw (lt-leb b c g)
+  last-one : one HH [] ≡ pick (p HH) 3 4
+  unfolding those firstCode code
+  last-one = refl
 
-  none : (c : ℕ) → false ≡ asked last w h n (named c) → from c ≡ false
-  none c e = rw (← e) (both-false (leb b c))
+  from-high : firstCode (those p (LH ∷ HH ∷ [])) ≡ pick (p LH) 2 (pick (p HH) 3 4)
+  unfolding code
+  from-high = step LH (HH ∷ []) ∙ ap (pick (p LH) 2) (step HH [] ∙ last-one)
 
-  one : (c : ℕ) → b ≤ c → true ≡ asked last w h n (named c) → from c ≡ true
-  one c g e = rw (le-leb b c g, ← e)
+  from-wide : firstCode (those p (HL ∷ LH ∷ HH ∷ [])) ≡ pick (p HL) 1 (pick (p LH) 2 (pick (p HH) 3 4))
+  unfolding code
+  from-wide = step HL (LH ∷ HH ∷ []) ∙ ap (pick (p HL) 1) from-high
 
-  module _ (some : 0 < w) (low : n < count lo h) where
-    low-low : last ≡ asked last w h n (named 0)
-    low-low =
-        asks-kept last w h n 0 (count lo w) (count lo h) (sym (across-even w 0 (omega arith) (omega arith))) (λ z. omega (arith, count-lo w))
-        (sym (down-low h 0 (omega arith))) low
+  first-is : (b : ℕ) → firstCode (those p (bandsFrom b)) ≡ pick (both (leb b 0) (p LL)) 0
+      (pick (both (leb b 1) (p HL)) 1 (pick (both (leb b 2) (p LH)) 2 (pick (both (leb b 3) (p HH)) 3 4)))
+  unfolding bandsFrom code
+  first-is zero = step LL (HL ∷ LH ∷ HH ∷ []) ∙ ap (pick (p LL) 0) from-wide
+  first-is (suc zero) = from-wide
+  first-is (suc (suc zero)) = from-high
+  first-is (suc (suc (suc zero))) = step HH [] ∙ last-one
+  first-is (suc (suc (suc (suc b)))) = none ∙ rw (
+    lt-leb (suc (suc (suc (suc b)))) 0 (omega arith),
+    lt-leb (suc (suc (suc (suc b)))) 1 (omega arith),
+    lt-leb (suc (suc (suc (suc b)))) 2 (omega arith),
+    lt-leb (suc (suc (suc (suc b)))) 3 (omega arith),
+  )
+    where
+      none : firstCode (those p []) ≡ 4
+      none = unfold those firstCode in refl
 
-    -- two columns: HL is asked for; one: neither HL nor HH
-    wide : 1 < w → true ≡ asked last w h n (named 1)
-    wide g =
-        asks-kept last w h n 1 (count hi w) (count lo h) (sym (across-odd w 1 (omega arith) (λ z. omega arith))) (λ z. omega (arith, count-hi w))
-        (sym (down-low h 1 (omega arith))) low
+-- ---- the tests of the code
+leb-less : (a b c d : ℕ) → (a ≤ b → c < d) → (c < d → a ≤ b) → leb a b ≡ ltb c d
+leb-less a b c d f g = elim (decLt c d) [
+  | yes p ↦ le-leb a b (g p) ∙ sym (lt-ltb c d p)
+  | no p ↦ lt-leb a b (not-le (λ q. p (f q))) ∙ sym (le-ltb c d (omega arith))
+]
+  where
+    not-le : (a ≤ b → ⊥) → b < a
+    not-le n = omega (arith, n)
 
-    narrow : (c : ℕ) → c < 4 → (c % 2 ≡ 0 → ⊥) → w ≤ 1 → false ≡ asked last w h n (named c)
-    narrow c few odd g = asks-none last w h n c (count hi w) 0 (sym (across-odd w c few odd)) (omega (arith, count-hi w))
+ltb-same : (a b c d : ℕ) → (a < b → c < d) → (c < d → a < b) → ltb a b ≡ ltb c d
+ltb-same a b c d f g = elim (decLt c d) [
+  | yes p ↦ lt-ltb a b (g p) ∙ sym (lt-ltb c d p)
+  | no p ↦ le-ltb a b (not-lt (λ q. p (f q))) ∙ sym (le-ltb c d (omega arith))
+]
+  where
+    not-lt : (a < b → ⊥) → b ≤ a
+    not-lt n = omega (arith, n)
 
-    -- a high row: LH is asked for, and HH with two columns; none: neither of them
-    tall : n < h / 2 → true ≡ asked last w h n (named 2)
-    tall g =
-        asks-kept last w h n 2 (count lo w) (count hi h) (sym (across-even w 2 (omega arith) (omega arith))) (λ z. omega (arith, count-lo w))
-        (sym (down-high h 2 (omega arith))) (omega (arith, count-hi h))
+zero-is : (b : ℕ) → eqb b 0 ≡ leb b 0
+zero-is b = elim (ℕ-discrete b 0) [
+  | yes e ↦ eq-eqb b 0 e ∙ sym (le-leb b 0 (omega arith))
+  | no e ↦ ne-eqb b 0 e ∙ sym (lt-leb b 0 (omega (arith, e)))
+]
 
-    corner : 1 < w → n < h / 2 → true ≡ asked last w h n (named 3)
-    corner g t =
-        asks-kept last w h n 3 (count hi w) (count hi h) (sym (across-odd w 3 (omega arith) (λ z. omega arith))) (λ z. omega (arith, count-hi w))
-        (sym (down-high h 3 (omega arith))) (omega (arith, count-hi h))
+-- a column of each half, and a row
+abbrev pub left : Side → Bool
+left W = ltb (W .start % 2) (W .length)
 
-    flat-low : h / 2 ≤ n → false ≡ asked last w h n (named 2)
-    flat-low g =
-        asks-few last w h n 2 (count lo w) (count hi h) (sym (across-even w 2 (omega arith) (omega arith))) (λ z. omega (arith, count-lo w))
-        (sym (down-high h 2 (omega arith))) (omega (arith, count-hi h))
+abbrev pub right : Side → Bool
+right W = ltb 1 (W .start % 2 + W .length)
 
-    flat-high : 1 < w → h / 2 ≤ n → false ≡ asked last w h n (named 3)
-    flat-high t g =
-        asks-few last w h n 3 (count hi w) (count hi h) (sym (across-odd w 3 (omega arith) (λ z. omega arith))) (λ z. omega (arith, count-hi w))
-        (sym (down-high h 3 (omega arith))) (omega (arith, count-hi h))
+abbrev pub low : Side → ℕ → Bool
+low H n = leb (H .start % 2) n && ltb (2 * n) (H .start % 2 + H .length)
 
-    -- ---- the tests, as the code makes them
-    yes-0 : (t u : Bool) → last ≡ t → eqb b 0 ≡ u → t && u ≡ true → from 0 ≡ true
-    yes-0 true true et eu e = let z = eqb-true b 0 eu in one 0 (omega arith) (sym et ∙ low-low)
-    yes-0 true false et eu e = never e
-    yes-0 false u et eu e = never e
+abbrev pub high : Side → ℕ → Bool
+high H n = ltb (2 * n + 1) (H .start % 2 + H .length)
 
-    no-0 : (t u : Bool) → last ≡ t → eqb b 0 ≡ u → t && u ≡ false → from 0 ≡ false
-    no-0 true true et eu e = never (sym e)
-    no-0 true false et eu e = passed-by 0 (positive (eqb-false b 0 eu))
-      where
-        positive : (b ≡ 0 → ⊥) → 0 < b
-        positive z = omega arith
-    no-0 false u et eu e = none 0 (sym et ∙ low-low)
+left-is : (W : Side) → ltb 0 (count lo W) ≡ left W
+unfolding count
+left-is W = ltb-same 0 (count lo W) (W .start % 2) (W .length) (λ p. omega arith) (λ p. omega arith)
 
-    yes-1 : (t u : Bool) → ltb 1 w ≡ t → ltb b 2 ≡ u → t && u ≡ true → from 1 ≡ true
-    yes-1 true true et eu e = let g = ltb-true b 2 eu in one 1 (omega arith) (wide (ltb-true 1 w et))
-    yes-1 true false et eu e = never e
-    yes-1 false u et eu e = never e
+right-is : (W : Side) → ltb 0 (count hi W) ≡ right W
+unfolding count
+right-is W = ltb-same 0 (count hi W) 1 (W .start % 2 + W .length) (λ p. omega arith) (λ p. omega arith)
 
-    no-1 : (t u : Bool) → ltb 1 w ≡ t → ltb b 2 ≡ u → t && u ≡ false → from 1 ≡ false
-    no-1 true true et eu e = never (sym e)
-    no-1 true false et eu e = let g = ltb-false b 2 eu in passed-by 1 (omega arith)
-    no-1 false u et eu e = none 1 (narrow 1 (omega arith) (λ z. omega arith) (ltb-false 1 w et))
+low-row : (H : Side) (n : ℕ) → H .start % 2 ≤ n → ltb (n - H .start % 2) (count lo H) ≡ ltb (2 * n) (H .start % 2 + H .length)
+unfolding count
+low-row H n b = ltb-same (n - H .start % 2) (count lo H) (2 * n) (H .start % 2 + H .length) (λ p. omega arith) (λ p. omega arith)
 
-    yes-3 : (t u : Bool) → ltb 1 w ≡ t → eqb b 3 ≡ u → n < h / 2 → t && u ≡ true → from 3 ≡ true
-    yes-3 true true et eu g e = let z = eqb-true b 3 eu in one 3 (omega arith) (corner (ltb-true 1 w et) g)
-    yes-3 true false et eu g e = never e
-    yes-3 false u et eu g e = never e
+low-is : (H : Side) (n : ℕ) → both (leb (H .start % 2) n) (ltb (n - H .start % 2) (count lo H)) ≡ low H n
+low-is H n = elim (decLt n (H .start % 2)) [
+  | yes p ↦ rw (lt-leb (H .start % 2) n p) refl
+  | no p ↦ rw (le-leb (H .start % 2) n (omega arith)) (low-row H n (omega arith))
+]
 
-    no-3 : (t u : Bool) → ltb 1 w ≡ t → eqb b 3 ≡ u → 3 ≤ b → t && u ≡ false → from 3 ≡ false
-    no-3 true true et eu g e = never (sym e)
-    no-3 true false et eu g e = passed-by 3 (more (eqb-false b 3 eu))
-      where
-        more : (b ≡ 3 → ⊥) → 3 < b
-        more z = omega arith
-    no-3 false u et eu g e = none 3 (narrow 3 (omega arith) (λ z. omega arith) (ltb-false 1 w et))
+high-is : (H : Side) (n : ℕ) → both (leb 0 n) (ltb (n - 0) (count hi H)) ≡ high H n
+unfolding count
+high-is H n = rw (le-leb 0 n (omega arith)) (ltb-same (n - 0) (count hi H) (2 * n + 1) (H .start % 2 + H .length) (λ p. omega arith) (λ p. omega arith))
 
-    -- without a high row
-    flat-3 : (t : Bool) → ltb 1 w ≡ t → h / 2 ≤ n → from 3 ≡ false
-    flat-3 true et g = none 3 (flat-high (ltb-true 1 w et) g)
-    flat-3 false et g = none 3 (narrow 3 (omega arith) (λ z. omega arith) (ltb-false 1 w et))
+module _ (W H : Side) (n : ℕ) where
+  has-0 : setHas W H LL n ≡ both (left W) (low H n)
+  unfolding setHas setRow across down firstSet
+  has-0 = ap₂ both (left-is W) (low-is H n)
 
-    -- ---- what the code returns
-    pub band-0 : last && eqb b 0 ≡ true → 0 ≡ nextBand last w h n b
-    band-0 e = next-0 last w h n b (yes-0 _ _ refl refl e)
+  has-1 : setHas W H HL n ≡ both (right W) (low H n)
+  unfolding setHas setRow across down firstSet
+  has-1 = ap₂ both (right-is W) (low-is H n)
 
-    module _ (zeroth : last && eqb b 0 ≡ false) where
-      pub band-1 : ltb 1 w && ltb b 2 ≡ true → 1 ≡ nextBand last w h n b
-      band-1 e = next-1 last w h n b (no-0 _ _ refl refl zeroth) (yes-1 _ _ refl refl e)
+  has-2 : setHas W H LH n ≡ both (left W) (high H n)
+  unfolding setHas setRow across down firstSet
+  has-2 = ap₂ both (left-is W) (high-is H n)
 
-      module _ (first : ltb 1 w && ltb b 2 ≡ false) where
-        pub band-flat : h / 2 ≤ n → 4 ≡ nextBand last w h n b
-        band-flat g =
-            next-4 last w h n b (no-0 _ _ refl refl zeroth) (no-1 _ _ refl refl first) (none 2 (flat-low g)) (flat-3 _ refl g)
+  has-3 : setHas W H HH n ≡ both (right W) (high H n)
+  unfolding setHas setRow across down firstSet
+  has-3 = ap₂ both (right-is W) (high-is H n)
 
-        module _ (high : n < h / 2) where
-          pub band-2 : b < 3 → 2 ≡ nextBand last w h n b
-          band-2 g = next-2 last w h n b (no-0 _ _ refl refl zeroth) (no-1 _ _ refl refl first) (one 2 (omega arith) (tall high))
+-- ---- one test after another
+first-test : (z last left low : Bool) → ((last && z) && left) && low ≡ both z (both last (both left low))
+first-test true true true low = refl
+first-test true true false low = refl
+first-test true false left low = refl
+first-test false true left low = refl
+first-test false false left low = refl
 
-          module _ (past : 3 ≤ b) where
-            pub band-3 : ltb 1 w && eqb b 3 ≡ true → 3 ≡ nextBand last w h n b
-            band-3 e =
-                next-3 last w h n b (no-0 _ _ refl refl zeroth) (no-1 _ _ refl refl first) (passed-by 2 (omega arith))
-                (yes-3 _ _ refl refl high e)
+second-test : (z right low : Bool) → (z && right) && low ≡ both z (both right low)
+second-test true true low = refl
+second-test true false low = refl
+second-test false right low = refl
 
-            pub band-4 : ltb 1 w && eqb b 3 ≡ false → 4 ≡ nextBand last w h n b
-            band-4 e =
-                next-4 last w h n b (no-0 _ _ refl refl zeroth) (no-1 _ _ refl refl first) (passed-by 2 (omega arith))
-                (no-3 _ _ refl refl past e)
+-- without a high row; with one
+no-high : (y z left right : Bool) → _≡_ {A = ℕ} 4 (pick (both y (both left false)) 2 (pick (both z (both right false)) 3 4))
+no-high true z true right = no-right z right
+  where
+    no-right : (z right : Bool) → _≡_ {A = ℕ} 4 (pick (both z (both right false)) 3 4)
+    no-right true true = refl
+    no-right true false = refl
+    no-right false right = refl
+no-high true true false true = refl
+no-high true true false false = refl
+no-high true false false right = refl
+no-high false true left true = refl
+no-high false true left false = refl
+no-high false false left right = refl
+
+and-both : (z t : Bool) → z && t ≡ both z (both t true)
+and-both true true = refl
+and-both true false = refl
+and-both false t = refl
+
+-- ---- what the code returns
+module _ (last : Bool) (W H : Side) (n b : ℕ) where
+  abbrev zeroth : Bool
+  zeroth = ((last && eqb b 0) && left W) && low H n
+
+  abbrev first : Bool
+  first = (ltb b 2 && right W) && low H n
+
+  is : nextBand last W H n b ≡ pick zeroth 0 (pick first 1
+      (pick (both (ltb b 3) (both (left W) (high H n))) 2 (pick (both (ltb b 4) (both (right W) (high H n))) 3 4)))
+  unfolding nextBand look asked keptAt
+  is =
+      first-is (asked last W H n) b
+      ∙ rw (
+        has-0 W H n,
+        has-1 W H n,
+        has-2 W H n,
+        has-3 W H n,
+        first-test (eqb b 0) last (left W) (low H n),
+        second-test (ltb b 2) (right W) (low H n),
+        zero-is b,
+        leb-less b 1 b 2 (λ p. omega arith) (λ p. omega arith),
+        leb-less b 2 b 3 (λ p. omega arith) (λ p. omega arith),
+        leb-less b 3 b 4 (λ p. omega arith) (λ p. omega arith),
+      ) refl
+
+  pub band-0 : zeroth ≡ true → 0 ≡ nextBand last W H n b
+  band-0 e = sym (is ∙ rw e refl)
+
+  module _ (no-0 : zeroth ≡ false) where
+    pub band-1 : first ≡ true → 1 ≡ nextBand last W H n b
+    band-1 e = sym (is ∙ rw (no-0, e) refl)
+
+    module _ (no-1 : first ≡ false) where
+      rest : nextBand last W H n b ≡ pick (both (ltb b 3) (both (left W) (high H n))) 2 (pick (both (ltb b 4) (both (right W) (high H n))) 3 4)
+      rest = is ∙ rw (no-0, no-1) refl
+
+      pub band-flat : H .start % 2 + H .length ≤ 2 * n + 1 → 4 ≡ nextBand last W H n b
+      band-flat g =
+          no-high (ltb b 3) (ltb b 4) (left W) (right W)
+          ∙ sym (rest ∙ rw (le-ltb (2 * n + 1) (H .start % 2 + H .length) g) refl)
+
+      module _ (tall : 2 * n + 1 < H .start % 2 + H .length) where
+        with-high : nextBand last W H n b ≡ pick (ltb b 3 && left W) 2 (pick (ltb b 4 && right W) 3 4)
+        with-high =
+            rest ∙ rw (lt-ltb (2 * n + 1) (H .start % 2 + H .length) tall, and-both (ltb b 3) (left W), and-both (ltb b 4) (right W)) refl
+
+        pub band-2 : ltb b 3 && left W ≡ true → 2 ≡ nextBand last W H n b
+        band-2 e = sym (with-high ∙ rw e refl)
+
+        module _ (no-2 : ltb b 3 && left W ≡ false) where
+          pub band-3 : ltb b 4 && right W ≡ true → 3 ≡ nextBand last W H n b
+          band-3 e = sym (with-high ∙ rw (no-2, e) refl)
+
+          pub band-4 : ltb b 4 && right W ≡ false → 4 ≡ nextBand last W H n b
+          band-4 e = sym (with-high ∙ rw (no-2, e) refl)

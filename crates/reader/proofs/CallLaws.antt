@@ -1,8 +1,8 @@
 -- The calls, case by case: the number, the answer and what stands in each area. Assumes nothing.
-use mathlib.Core.Path.{_≡_, sym, ap, _∙_, fun-ext}
+use mathlib.Core.Path.{_≡_, sym, ap, subst, _∙_, fun-ext}
 use mathlib.Core.List.{List, [], _∷_}
 use mathlib.Core.Bool.{Bool, true, false, not}
-use Prim.Native.Nat.{ℕ, suc, _+_, _≤_, _<_}
+use Prim.Native.Nat.{ℕ, suc, _+_, _-_, _%_, _≤_, _<_}
 use native.Mathlib.Decide.{decLt}
 use native.Mathlib.Omega.{arith}
 use native.Mathlib.Numerals.{add-one}
@@ -13,8 +13,9 @@ use borrow.Author.Tests.{le-leb, lt-leb, lt-ltb, le-ltb, eq-eqb, ne-eqb}
 use borrow.Rule.Slice.PartMut.{midOf}
 use Rattle.numbers.specs.Signal.{at, pick, windowed}
 use Rattle.numbers.proofs.Parts.{length-mid, at-mid}
-use Rattle.lifting.specs.Line.{joined}
-use Rattle.lifting.specs.Halves.{halvesOf, fronted}
+use Rattle.lifting.specs.Grid.{Side, side, joined}
+use Rattle.lifting.specs.Halves.{fronted}
+use Rattle.lifting.specs.GridHalves.{halvesOf}
 use Rattle.wavelet.specs.Questions.{ask}
 use Rattle.calls.specs.Lists.{all-none, all-more}
 use Rattle.calls.proofs.QuestionLaws.{asks, asks-no, asks-yes, asks-none}
@@ -23,12 +24,12 @@ use Rattle.reader.specs.declared.walk.Spot.{Spot}
 use Rattle.areas.specs.Areas.{height16}
 use Rattle.reader.specs.Answers.{gives, refused, impossible, Want, row, drawNow, done, ended, aRow, nothing}
 use Rattle.level.specs.Tried.{Tried, failed, passed, fits, memory}
-use Rattle.level.specs.Slots.{rowPlace, rowIn}
+use Rattle.level.specs.Slots.{rowPlace, local, rowIn}
 use Rattle.wavelet.specs.Store.{storeLength}
 use Rattle.reader.specs.Store.{zeroed}
-use Rattle.reader.specs.Machine.{place, enter, placeFed}
-use Rattle.reader.specs.State.{next, nextRow, nextLength, unfinished, rowDue, drawDue, wants, settles, feeds, movedTo, fedReader, drawnReader}
-use Rattle.reader.specs.State.{endedReader}
+use Rattle.reader.specs.Machine.{place, dive, enter, placeFed}
+use Rattle.reader.specs.State.{columns, rows, next, nextRow, nextLength, unfinished, rowDue, drawDue, wants, settles, feeds, movedTo}
+use Rattle.reader.specs.State.{fedReader, drawnReader, endedReader}
 use Rattle.reader.specs.Questions.{countsFit, storeFits, runFits, wantQuestion, feedQuestion, drawQuestion}
 use Rattle.reader.specs.Calls.{fresh, setUpReply, setUpStore, wantReply, feedReply, storeAfter, feedStore, drawReply, drawStore, heightRow, drawArea}
 use Rattle.reader.specs.Inside.{Is, storeQuestion, rowQuestion}
@@ -37,7 +38,7 @@ use Rattle.areas.proofs.AreaLaws.{front-at, front-rest}
 use Rattle.reader.proofs.StepLaws.{place-of}
 
 -- ---- a store zeroed after places past n were kept
-pub zero-kept : (W L n : ℕ) (x y z : ℕ → ℤ) → n ≡ storeLength W L → Kept (storeLength W L) x y → z ≡ fronted n (λ _. pos 0) y → z ≡ zeroed W L x
+pub zero-kept : (W : Side) (L n : ℕ) (x y z : ℕ → ℤ) → n ≡ storeLength W L → Kept (storeLength W L) x y → z ≡ fronted n (λ _. pos 0) y → z ≡ zeroed W L x
 unfolding zeroed
 zero-kept W L n x y z e a is =
     let N = storeLength W L in
@@ -47,15 +48,15 @@ zero-kept W L n x y z e a is =
     ]
 
 -- ---- set-up
-module _ (W H L Q : ℕ) (x : ℕ → ℤ) where
+module _ (W H : Side) (L Q : ℕ) (x : ℕ → ℤ) where
   pub set-up-no : (r : ℕ) → r ≡ Q → (r ≡ 0 → ⊥) → (refused r ≡ setUpReply W H L Q) × (x ≡ setUpStore W L Q x)
   unfolding setUpReply setUpStore
   set-up-no r e n = let f = ne-eqb r 0 n in (rw (← e, f), rw (← e, f))
 
-  pub set-up-yes : (y : ℕ → ℤ) (n : ℕ) → Q ≡ 0 → n ≡ storeLength W L → y ≡ fronted n (λ _. pos 0) x →
-      (gives (fresh W H L) ≡ setUpReply W H L Q) × (y ≡ setUpStore W L Q x)
+  pub set-up-yes : (s : Reader) (y : ℕ → ℤ) (n : ℕ) → s ≡ fresh W H L → Q ≡ 0 → n ≡ storeLength W L → y ≡ fronted n (λ _. pos 0) x →
+      (gives s ≡ setUpReply W H L Q) × (y ≡ setUpStore W L Q x)
   unfolding setUpReply setUpStore zeroed
-  set-up-yes y n e en ey = let t = eq-eqb Q 0 e in (rw t, rw t (ey ∙ ap (λ (i : ℕ). fronted i (λ _. pos 0) x) en))
+  set-up-yes s y n es e en ey = let t = eq-eqb Q 0 e in (rw t (ap gives es), rw t (ey ∙ ap (λ (i : ℕ). fronted i (λ _. pos 0) x) en))
 
 -- ---- want
 module _ (s : Reader) where
@@ -100,7 +101,7 @@ module _ (s : Reader) where
 -- questions 1, 5 and 9
 module _ (s : Reader) (n : ℕ) where
   abbrev early : List (Bool × ℕ)
-  early = (countsFit s, 0) ∷ (storeFits (s .width) (s .levels) n, 4) ∷ (not (s .ended), 8) ∷ []
+  early = (countsFit s, 0) ∷ (storeFits (columns s) (s .levels) n, 4) ∷ (not (s .ended), 8) ∷ []
 
 -- 8, 13 and 7
 module _ (s : Reader) (m : ℕ) (v : ℕ → ℤ) where
@@ -177,22 +178,22 @@ module _ (s : Reader) (Q : ℕ) (v x : ℕ → ℤ) where
   unfolding feedReply feedStore storeAfter
   feed-yes t y e et is = (rw (← e) (ap gives et), rw (← e) (memory-is (feeds s v x) x y is))
 
-  pub feed-end : (t : Reader) (z : ℕ → ℤ) → 14 ≡ Q → t ≡ endedReader s → z ≡ zeroed (s .width) (s .levels) x →
+  pub feed-end : (t : Reader) (z : ℕ → ℤ) → 14 ≡ Q → t ≡ endedReader s → z ≡ zeroed (columns s) (s .levels) x →
       (impossible t ≡ feedReply s Q) × (z ≡ feedStore s Q v x)
   unfolding feedReply feedStore storeAfter
   feed-end t z e et is = (rw (← e) (ap impossible et), rw (← e) is)
 
-pub fed-reader : (s t : Reader) (p : Spot) → Is (placeFed (s .width) (s .height) (s .levels) (s .drawn) (next s .level) (next s .band)) p →
-    t ≡ movedTo s (s .drawn) (place (p .level) (p .band)) → t ≡ fedReader s
+pub fed-reader : (s t : Reader) (p : Spot) → Is (placeFed (columns s) (rows s) (s .levels) (s .drawn) (next s .level) (next s .alone) (next s .band)) p →
+    t ≡ movedTo s (s .drawn) (place (p .level) (p .alone) (p .band)) → t ≡ fedReader s
 unfolding fedReader
 fed-reader s t p is e = e ∙ ap (movedTo s (s .drawn)) (place-of _ p is)
 
-pub drawn-reader : (s t : Reader) (d : ℕ) (p : Spot) → d ≡ s .drawn + 1 → Is (enter (s .width) (s .height) (s .levels) d) p →
-    t ≡ movedTo s d (place (p .level) (p .band)) → t ≡ drawnReader s
+pub drawn-reader : (s t : Reader) (d : ℕ) (p : Spot) → d ≡ s .drawn + 1 → Is (enter (columns s) (rows s) (s .levels) d) p →
+    t ≡ movedTo s d (place (p .level) (p .alone) (p .band)) → t ≡ drawnReader s
 unfolding drawnReader
 drawn-reader s t d p ed is e =
     let n : d ≡ suc (s .drawn) = ed ∙ add-one (s .drawn) in
-    e ∙ ap (movedTo s d) (place-of _ p is) ∙ ap (λ (i : ℕ). movedTo s i (enter (s .width) (s .height) (s .levels) i)) n
+    e ∙ ap (movedTo s d) (place-of _ p is) ∙ ap (λ (i : ℕ). movedTo s i (enter (columns s) (rows s) (s .levels) i)) n
 
 -- ---- draw
 module _ (s : Reader) (Q : ℕ) (x z : ℕ → ℤ) where
@@ -205,26 +206,51 @@ module _ (s : Reader) (Q : ℕ) (x z : ℕ → ℤ) where
   draw-nothing e d = (rw (← e, d), (rw (← e, d), rw (← e, d)))
 
   pub draw-yes : (t : Reader) (y u : ℕ → ℤ) → 0 ≡ Q → drawDue s ≡ true → t ≡ drawnReader s → passed y ≡ settles s x →
-      u ≡ fronted (s .width) (heightRow (s .width) (s .drawn) y) z →
+      u ≡ fronted (s .width) (heightRow s y) z →
       (gives (aRow (s .width) t) ≡ drawReply s Q) × ((y ≡ drawStore s Q x) × (u ≡ drawArea s Q x z))
   unfolding drawReply drawStore storeAfter drawArea
   draw-yes t y u e d et is made =
       let m = memory-is (settles s x) x y is in
-      let area = made ∙ ap (λ (f : ℕ → ℤ). fronted (s .width) (heightRow (s .width) (s .drawn) f) z) m in
+      let area = made ∙ ap (λ (f : ℕ → ℤ). fronted (s .width) (heightRow s f) z) m in
       (rw (← e, d) (ap (λ (r : Reader). gives (aRow (s .width) r)) et), (rw (← e, d) m, rw (← e, d) area))
 
-  pub draw-end : (t : Reader) (y : ℕ → ℤ) → 14 ≡ Q → t ≡ endedReader s → y ≡ zeroed (s .width) (s .levels) x →
+  pub draw-end : (t : Reader) (y : ℕ → ℤ) → 14 ≡ Q → t ≡ endedReader s → y ≡ zeroed (columns s) (s .levels) x →
       (impossible t ≡ drawReply s Q) × ((y ≡ drawStore s Q x) × (z ≡ drawArea s Q x z))
   unfolding drawReply drawStore storeAfter drawArea
   draw-end t y e et is = (rw (← e) (ap impossible et), (rw (← e) is, rw (← e)))
 
 -- the heights of the row that is lent
-pub drawn-row : (W d a k : ℕ) (l : List ℤ) (z u : ℕ → ℤ) → a ≡ rowPlace W d → k ≡ W → a + k ≤ length l →
-    u ≡ fronted (length (midOf a k l)) (λ c. height16 (joined (halvesOf (length (midOf a k l)) (at (midOf a k l))) c)) z →
-    u ≡ fronted W (heightRow W d (at l)) z
-unfolding heightRow rowIn
-drawn-row W d a k l z u ea ek room made =
+pub drawn-row : (s : Reader) (a k : ℕ) (l : List ℤ) (z u : ℕ → ℤ) → a ≡ rowPlace (s .width) (s .y % 2 + s .drawn) → k ≡ s .width → a + k ≤ length l →
+    u ≡ fronted (length (midOf a k l)) (λ c. height16 (joined (side (s .x) (length (midOf a k l)))
+    (halvesOf (side (s .x) (length (midOf a k l))) (at (midOf a k l))) c)) z →
+    u ≡ fronted (s .width) (heightRow s (at l)) z
+unfolding heightRow rowIn local
+drawn-row s a k l z u ea ek room made =
+    let W = s .width in
+    let d = s .y % 2 + s .drawn in
     made
-    ∙ ap (λ (i : ℕ). fronted i (λ c. height16 (joined (halvesOf i (at (midOf a k l))) c)) z) (length-mid a k l room ∙ ek)
-    ∙ ap (λ (f : ℕ → ℤ). fronted W (λ c. height16 (joined (halvesOf W f) c)) z) (at-mid a k l ∙ ap (λ (i : ℕ). windowed i k (at l)) ea
-    ∙ ap (λ (i : ℕ). windowed (rowPlace W d) i (at l)) ek)
+    ∙ ap (λ (i : ℕ). fronted i (λ c. height16 (joined (side (s .x) i) (halvesOf (side (s .x) i) (at (midOf a k l))) c)) z) (length-mid a k l room ∙ ek)
+    ∙ ap (λ (f : ℕ → ℤ). fronted W (λ c. height16 (joined (columns s) (halvesOf (columns s) f) c)) z) (at-mid a k l
+    ∙ ap (λ (i : ℕ). windowed i k (at l)) ea ∙ ap (λ (i : ℕ). windowed (rowPlace W d) i (at l)) ek)
+
+-- where a height row begins, from level 0 on
+pub enter-is : (W H : Side) (L d : ℕ) (p : Spot) → Is (dive (L - 0) 0 W H d) p → Is (enter W H L d) p
+unfolding enter
+enter-is W H L d p is = let z : L - 0 ≡ L = omega arith in subst (λ (m : ℕ). Is (dive m 0 W H d) p) z is
+
+-- where a fresh reader begins
+pub fresh-at : (W H : Side) (L : ℕ) (s : Reader) (p : Spot) → Is (enter W H L 0) p →
+    s ≡ record {
+      width = W .length;
+      height = H .length;
+      levels = L;
+      x = W .start;
+      y = H .start;
+      drawn = 0;
+      level = p .level;
+      alone = p .alone;
+      band = p .band;
+      ended = false;
+    } → s ≡ fresh W H L
+unfolding fresh
+fresh-at W H L s p is e = e ∙ rw (is .level, is .alone, is .band)

@@ -3,61 +3,65 @@ use mathlib.Core.Bool.{Bool, true, false}
 use mathlib.Core.Path.{_≡_, refl, sym, ap, ap₂, subst, _∙_}
 use mathlib.Core.List.{List, [], _∷_, _++_, append-nil, append-assoc}
 use Prim.Native.Nat.{ℕ, zero, suc, _+_, _-_, _≤_, _<_}
+use native.Mathlib.Decide.{ℕ-discrete}
 use native.Mathlib.Omega.{arith}
 use lib.IntN.{ℤ}
 use lib.ListN.{length}
-use lib.Dec.{T, eqb, leb, ltb}
+use lib.Dec.{T, eqb, leb}
 use mir.Syntax.{w32}
 use mir.Val.{SFits}
-use borrow.Author.Tests.{le-ltb, lt-ltb, eq-eqb, ltb-true, leb-false, eqb-true}
+use borrow.Author.Tests.{le-ltb, lt-ltb, eq-eqb, leb-false}
 use Rattle.numbers.specs.Signal.{pick}
 use Rattle.numbers.specs.Word.{wrap32, whole}
-use Rattle.numbers.proofs.Sweep.{both}
-use Rattle.lifting.specs.Line.{count}
+use Rattle.lifting.specs.Grid.{Side, count}
 use Rattle.lifting.specs.Halves.{fronted}
-use Rattle.wavelet.specs.Limits.{maxWidth, maxHeight, maxLevels}
-use Rattle.wavelet.specs.Bands.{Grid, Band, LL, code, across, down}
-use Rattle.wavelet.specs.Levels.{size, approximation, levelBand}
-use Rattle.wavelet.specs.View.{bandColumns}
-use Rattle.wavelet.specs.ViewCall.{bandRowExists}
-use Rattle.wavelet.specs.Maps.{IsMap}
+use Rattle.wavelet.specs.Limits.{maxWidth, maxHeight, maxLevels, maxOrigin}
+use Rattle.wavelet.specs.Bands.{Grid, Band, code, across, down, levelHas}
+use Rattle.wavelet.specs.Maps.{IsMap, valueFits}
 use Rattle.wavelet.specs.Questions.{ask, within}
-use Rattle.wavelet.specs.Order.{RowName, rowName, times}
-use Rattle.wavelet.specs.Steps.{Step, steps, bandRowsOf}
+use Rattle.wavelet.specs.Order.{RowName, rowName, times, setRow, setHas}
+use Rattle.wavelet.specs.Steps.{Step, bandRowsOf, steps}
 use Rattle.wavelet.specs.Steps as step
-use Rattle.wavelet.proofs.LevelTheory.{OnCells}
-use Rattle.wavelet.proofs.Bridge.{map-fits, map-band, map-approximation, map-approximation-range}
 use Rattle.wavelet.proofs.MapTheorems.{height-fits, low-fits}
 use Rattle.wavelet.proofs.QuestionLaws.{within-true}
+use Rattle.wavelet.specs.Levels.{sideAt, approximation, levelBand}
+use Rattle.wavelet.specs.View.{bandColumns}
+use Rattle.wavelet.specs.ViewCall.{bandRowExists}
+use Rattle.wavelet.proofs.Bridge.{map-band, map-approximation, map-approximation-range}
 use Rattle.wavelet.proofs.StepLaws.{steps-once, steps-heights}
 use Rattle.calls.specs.Lists.{Reply, gives, refused, Area, All, all-none, all-more}
 use Rattle.calls.specs.Lists as lists
-use Rattle.calls.proofs.AllLaws.{all-left, all-last, all-in, in-all}
+use Rattle.calls.proofs.AllLaws.{In, all-left, all-last, all-in, in-all}
 use Rattle.calls.proofs.ListLaws.{either-swap, gathered-snoc, ever-snoc, list-reached}
 use Rattle.calls.proofs.QuestionLaws.{asked-yes}
 use Rattle.reader.specs.declared.Reader.{Reader}
 use Rattle.reader.specs.Asked.{keptAt, asked}
+use Rattle.reader.specs.Rebuilt.{Rows, rebuilt, bandsAt, partAt, SetFits}
+use Rattle.reader.specs.Store.{hasCells}
+use Rattle.reader.specs.Holds.{Tested}
 use Rattle.reader.specs.Answers.{done}
-use Rattle.reader.specs.Sets.{rowAt}
+use Rattle.reader.specs.Sets.{needsTwo, rowAt, setAt}
 use Rattle.level.specs.Tried.{Tried, failed, passed, fits}
-use Rattle.reader.specs.Machine.{place, bandAt, lastOfSet, nextAt, beyond}
+use Rattle.reader.specs.Machine.{Place, place, bandAt, aloneAt, nowAt, lastOfSet, nextUp, nextAt, past, beyond, dive, enter}
 use Rattle.reader.specs.State.{drawDue, feeds, settles}
 use Rattle.reader.specs.Questions.{countsFit, setUpQuestion, feedQuestion, drawQuestion}
 use Rattle.reader.specs.Calls.{fresh, feedReply, drawReply, drawArea}
 use Rattle.reader.specs.Demand3.{Call, want, feed, draw, Given, heights, nothing, Event, wanted, fed, drew, said, given}
 use Rattle.reader.specs.Demand3.{World, event, events, final, freshWorld, leftBy, left, ends, endedBy, FedRow, fedBy, fedRows, drawnBy, drawnRows}
-use Rattle.reader.specs.Demand3.{HasRow, FirstRows, IsWordRow, SetsFit, goesOnSet, workedAbove, wantSays, feedTurned, drawSays}
+use Rattle.reader.specs.Demand3.{HasRow, FirstRows, HasFedRow, SetsFit, FeedFits, setNumber, goesOnSet, wantSays, feedTurned, drawSays}
 use Rattle.reader.specs.Demand3.{OneOf, this, that, written, Draws, Demand3, OfCalls}
 use Rattle.reader.specs.Demand3 as demand
-use Rattle.reader.proofs.StepsLeft.{stepsLeft, left-first}
+use Rattle.reader.proofs.StepsLeft.{stepsLeft, left-first, not-alone, still-alone}
 use Rattle.level.proofs.SetMade.{Outcome}
-use Rattle.reader.proofs.CallLaws.{fits-no}
-use Rattle.reader.proofs.Outcomes.{outcome-passed, settles-outcome, feeds-outcome}
-use Rattle.reader.proofs.Holds.{Fits, Held, first-holds}
-use Rattle.reader.proofs.CallViews.{Limits, limits, here, View, at-end, at-height, at-row, view, counts, want-says, FeedView, feed-away}
-use Rattle.reader.proofs.CallViews.{feed-onward, feed-view, DrawView, draw-away, draw-idle, draw-onward, draw-view}
-use Rattle.reader.proofs.Reached.{namesOf, Good, HasWords, Agrees, Kept, Reached, reached, world, call-reached}
-use Rattle.reader.proofs.Rebuilt.{lookup, lookup-words, found, rebuilt-words, back, back-has}
+use Rattle.reader.proofs.Outcomes.{outcome-passed, settles-outcome, feeds-outcome, kept-last}
+use Rattle.reader.proofs.Holds.{Live, Fits, LeavesAt, Held, HeldAt, first-holds}
+use Rattle.reader.proofs.CallViews.{Limits, limits, here, nextOf, nameOf, Due, View, at-end, at-height, at-row, view, counts, want-says}
+use Rattle.reader.proofs.CallViews.{FeedView, feed-away, feed-onward, feed-view, DrawView, draw-away, draw-idle, draw-onward, draw-view}
+use Rattle.reader.proofs.Reached.{namesOf, Good, dive-le, dive-deep, Agrees, Kept, Reached, reached, world, call-reached}
+use Rattle.reader.proofs.Rebuilt.{lookup, lookup-words, found, back, back-has, rowsOf, part-same, bands-have}
+use Rattle.reader.proofs.CellLaws.{cells-are, has-cells, asked-has, has-row}
+use Rattle.level.proofs.LevelHas.{sets-have}
+use Rattle.reader.proofs.OpenedSets.{Two, two-is, last-set, set-is, setAt-is}
 
 -- ---- the steps left and the rows fed, one list of events after another
 pub left-append : (t : List Step) (es fs : List Event) → left t (es ++ fs) ≡ left (left t es) fs
@@ -79,7 +83,7 @@ unfolding fedRows
 fed-snoc t es e = fed-append t es (e ∷ []) ∙ ap (λ r. fedRows t es ++ r) (append-nil (fedBy (left t es) e))
 
 -- Done is said with no step left, and not after 14
-pub done-only : (W : ℕ) (u : Bool) (v : List Step) → wantSays W u v ≡ done → (u ≡ false) × (v ≡ [])
+pub done-only : (W : Side) (u : Bool) (v : List Step) → wantSays W u v ≡ done → (u ≡ false) × (v ≡ [])
 unfolding wantSays
 done-only W true v z = absurd (let p : _≡_ {A = ℕ} 0 1 = cc in omega arith)
 done-only W false [] z = (refl, refl)
@@ -87,13 +91,13 @@ done-only W false (step.feed y ∷ v) z = absurd (let p : _≡_ {A = ℕ} 0 1 = 
 done-only W false (step.draw r ∷ v) z = absurd (let p : _≡_ {A = ℕ} 0 1 = cc in omega arith)
 
 -- a set-up of no levels does not pass
-no-levels : (W H n : ℕ) → setUpQuestion W H 0 n ≡ 0 → ⊥
+no-levels : (W H : Side) (n : ℕ) → setUpQuestion W H 0 n ≡ 0 → ⊥
 unfolding setUpQuestion
 no-levels W H n e =
-    let a = asked-yes (within 1 maxHeight H) _ _ (asked-yes (within 1 maxWidth W) _ _ e .1) in
+    let a = asked-yes (within 1 maxHeight (H .length)) _ _ (asked-yes (within 1 maxWidth (W .length)) _ _ e .1) in
     omega (arith, within-true 1 maxLevels 0 (asked-yes (within 1 maxLevels 0) _ _ (a .1) .0) .0)
 
-module _ (W H l n : ℕ) (lim : Limits W H l n) where
+module _ (W H : Side) (l n : ℕ) (lim : Limits W H l n) where
   abbrev T₀ : List Step
   T₀ = steps W H (suc l)
 
@@ -107,87 +111,102 @@ module _ (W H l n : ℕ) (lim : Limits W H l n) where
       rw (ever-snoc ends es e, either-swap (endedBy es) (ends e), left-snoc T₀ es e, fed-snoc T₀ es e, gathered-snoc drawnBy es e)
       (call-reached W H l n lim c w (endedBy es) (left T₀ es) (fedRows T₀ es) (drawnRows es) r)
 
-  tall : 0 < H
-  tall = within-true 1 maxHeight H (lim .high) .0
+  tall : 0 < H .length
+  tall = within-true 1 maxHeight (H .length) (lim .high) .0
+
+  broad : 0 < W .length
+  broad = within-true 1 maxWidth (W .length) (lim .wide) .0
 
   few : suc l ≤ maxLevels
   few = within-true 1 maxLevels (suc l) (lim .deep) .1
 
   fresh-reached : (x : ℕ → ℤ) → Reached W H l n lim (freshWorld W H (suc l) n x) false (steps W H (suc l)) [] []
   unfolding fresh
-  fresh-reached x = reached 0 (suc l) 0 false _ (steps W H (suc l)) [] [] (record {
+  fresh-reached x = reached 0 (enter W H (suc l) 0) false _ (steps W H (suc l)) [] [] (record {
     drawn-le = omega arith;
-    level-le = omega arith;
-    band-le = omega arith;
-    left = left-first W H l tall;
+    level-le = first-le .0;
+    band-le = first-le .1;
+    left = left-first W H l;
     drawn = refl;
     good = all-none;
     names = λ _. refl;
-    grids = λ g words _. record {
+    rows = λ P _. record {
       fit = λ r c p q. absurd (omega arith);
       shows = λ r c p q. absurd (omega arith);
-      holds = λ _ _. first-holds W H l g words _;
+      has = λ r p k live m q. absurd (omega arith);
+      holds = λ _ _. first-holds W H l P _;
       refuses = λ z. absurd (subst T (sym z) tt);
     };
   })
+    where
+      first-le : (enter W H (suc l) 0 .level ≤ suc l) × (enter W H (suc l) 0 .band ≤ 4)
+      first-le = unfold enter in dive-le l (suc l) 0 W H 0 (omega arith)
 
   then-reached : (x : ℕ → ℤ) (cs : List Call) → (let w = freshWorld W H (suc l) n x in Then (events cs w) (final cs w))
   unfolding lists.ever lists.gathered left fedRows
   then-reached x cs = list-reached event demand.next Then step-reached cs [] (freshWorld W H (suc l) n x) (fresh-reached x)
 
   -- ---- what a row fed says of a map, over words and over whole numbers
-  asked-row : (t : Bool) (w h r : ℕ) (b : Band) → asked t w h r b ≡ true → (keptAt t b ≡ true) × (r < count (down b) h)
-  unfolding asked
-  asked-row t w h r b e =
-      let a = both (keptAt t b) _ e in
-      let c = both (ltb 0 (count (across b) w)) _ (a .1) in
-      (a .0, ltb-true r (count (down b) h) (c .1))
-
   -- the cells of a row fed are cells of its band
-  in-band : (f : FedRow) (P : ℕ → ℕ → Type 0) (good : Good W H l f) → ((i : ℕ) → i < count (across (f .row .band)) (size (good .k) W) → P (suc (good .k)) i) →
-      (i : ℕ) → i < bandColumns W (f .row .level) (f .row .band) → P (f .row .level) i
+  in-band : (f : FedRow) (R : ℕ → ℕ → Type 0) (good : Good W H l f) →
+      ((i : ℕ) → i < count (across (f .row .band)) (sideAt (good .k) W) → R (suc (good .k)) i) →
+      (i : ℕ) → i < bandColumns W (f .row .level) (f .row .band) → R (f .row .level) i
   unfolding bandColumns
-  in-band f P good h i p =
+  in-band f R good h i p =
       let z : suc (good .k) - 1 ≡ good .k = omega arith in
-      let q : i < count (across (f .row .band)) (size (suc (good .k) - 1) W) =
-      subst (λ v. i < count (across (f .row .band)) (size (v - 1) W)) (good .level) p in
-      subst (λ v. P v i) (sym (good .level)) (h i (rw z at q))
+      let q : i < count (across (f .row .band)) (sideAt (suc (good .k) - 1) W) =
+      subst (λ v. i < count (across (f .row .band)) (sideAt (v - 1) W)) (good .level) p in
+      subst (λ v. R v i) (sym (good .level)) (h i (rw z at q))
 
-  exact : (g : Grid) → IsMap W H g → (f : FedRow) → Good W H l f → (i : ℕ) → i < bandColumns W (f .row .level) (f .row .band) →
+  abbrev Map : Grid → Type 0
+  Map g = IsMap (W .length) (H .length) g
+
+  -- the rows of its plane over words
+  abbrev own : (g : Grid) → Map g → Rows
+  own g m = rowsOf W H g m l few
+
+  exact : (g : Grid) → Map g → (f : FedRow) → Good W H l f → (i : ℕ) → i < bandColumns W (f .row .level) (f .row .band) →
       levelBand wrap32 W H g (f .row .level) (f .row .band) (f .row .row) i ≡ levelBand whole W H g (f .row .level) (f .row .band) (f .row .row) i
   exact g m f good =
       in-band f (λ v i. levelBand wrap32 W H g v (f .row .band) (f .row .row) i ≡ levelBand whole W H g v (f .row .band) (f .row .row) i) good
-      (λ i p. map-band W H g m (good .k) (omega (arith, good .inside, few)) (f .row .band) (f .row .row) i (asked-row _ _ _ _ _ (good .asks) .1) p)
+      (λ i p. map-band W H g m (good .k) (omega (arith, good .inside, few)) (f .row .band) (f .row .row) i (good .in-rows) p)
 
-  words-of : (g : Grid) → IsMap W H g → (fs : List FedRow) → All (Good W H l) fs → All (HasRow W H g) fs → All (HasWords W H l g) fs
+  words-of : (g : Grid) (m : Map g) (fs : List FedRow) → All (Good W H l) fs → All (HasRow W H g) fs → All (HasFedRow W (own g m)) fs
   words-of g m [] all-none all-none = all-none
   words-of g m (f ∷ fs) (all-more good gs) (all-more h hs) = all-more (λ i p. h .values i p ∙ sym (exact g m f good i p)) (words-of g m fs gs hs)
 
-  wholes-of : (g : Grid) → IsMap W H g → (fs : List FedRow) → All (Good W H l) fs → All (HasWords W H l g) fs → All (HasRow W H g) fs
+  wholes-of : (g : Grid) (m : Map g) (fs : List FedRow) → All (Good W H l) fs → All (HasFedRow W (own g m)) fs → All (HasRow W H g) fs
   wholes-of g m [] all-none all-none = all-none
   wholes-of g m (f ∷ fs) (all-more good gs) (all-more h hs) =
       all-more (record { size = good .size; values = λ i p. h i p ∙ exact g m f good i p }) (wholes-of g m fs gs hs)
 
   -- every value of a map and of its low-low parts fits
-  map-fitting : (g : Grid) (m : IsMap W H g) → Fits W H l g (map-fits W H g m)
-  unfolding approximation size
-  map-fitting g m zero r c h p q = height-fits (g r c) .1 (m .heights r c p q)
-  map-fitting g m (suc k) r c h p q = low-fits k _ .1
+  map-value : (g : Grid) (m : Map g) (k r c : ℕ) → k ≤ l → r < sideAt k H .length → c < sideAt k W .length →
+      valueFits k (approximation wrap32 W H g k r c) ≡ true
+  unfolding approximation sideAt
+  map-value g m zero r c h p q = height-fits (g r c) .1 (m .heights r c p q)
+  map-value g m (suc k) r c h p q = low-fits k _ .1
       (rw (map-approximation W H g m (suc k) (omega (arith, few)) r c p q) (map-approximation-range W H g m (suc k) r c p q))
 
-  -- ---- each part of the claim, for a world that is reached
-  module _ (d lev b : ℕ) (e : Bool) (x : ℕ → ℤ) (t : List Step) (fs : List FedRow) (ds : List (ℕ → ℤ)) (kept : Kept W H l d lev b e x t fs ds) where
-    viewed : View W H l d lev b t
-    viewed = subst (View W H l d lev b) (kept .left) (view W H l d lev b)
+  map-fitting : (g : Grid) (m : Map g) → Fits W H l (own g m)
+  map-fitting g m k live = record {
+    fit = λ r c p q. subst (λ v. valueFits k v ≡ true) (sym (part-same W H g m l few k (live .0) r c p q)) (map-value g m k r c (live .0) p q);
+    has = bands-have W H g m l few k (live .0);
+  }
 
-    want-is : event want (world W H l n lim d lev b e x) ≡ wanted (gives (wantSays W e t))
+  -- ---- each part of the claim, for a world that is reached
+  module _ (d : ℕ) (p : Place) (e : Bool) (x : ℕ → ℤ) (t : List Step) (fs : List FedRow) (ds : List (ℕ → ℤ)) (kept : Kept W H l d p e x t fs ds) where
+    viewed : View W H l d p t
+    viewed = subst (View W H l d p) (kept .left) (view W H l d p (kept .level-le))
+
+    want-is : event want (world W H l n lim d p e x) ≡ wanted (gives (wantSays W e t))
     unfolding event
-    want-is = ap wanted (want-says W H l n lim d lev b (kept .drawn-le) (kept .level-le) (kept .band-le) e t viewed)
+    want-is = ap wanted (want-says W H l n lim d p (kept .drawn-le) (kept .level-le) (kept .band-le) e t viewed)
 
     -- ---- feed
     module _ (a : Area) where
       abbrev seenFeed : ℕ → Event
-      seenFeed q = fed a (said (λ _. tt) (feedReply (here W H l d lev b e) q))
+      seenFeed q = fed a (said (λ _. tt) (feedReply (here W H l d p e) q))
 
       seen-away : (q : ℕ) → eqb q 0 ≡ false → eqb q 14 ≡ false → seenFeed q ≡ fed a (refused q)
       unfolding feedReply
@@ -201,36 +220,36 @@ module _ (W H l n : ℕ) (lim : Limits W H l n) where
       unfolding feedReply
       seen-stops = refl
 
-      feed-turned : (q : ℕ) → feedTurned W e t a ≡ suc q → event (feed a) (world W H l n lim d lev b e x) ≡ fed a (refused (suc q))
+      feed-turned : (q : ℕ) → feedTurned W e t a ≡ suc q → event (feed a) (world W H l n lim d p e x) ≡ fed a (refused (suc q))
       unfolding event
-      feed-turned q h = go (feed-view W H l n lim d lev b (kept .drawn-le) (kept .level-le) (kept .band-le) e t x a viewed)
+      feed-turned q h = go (feed-view W H l n lim d p (kept .drawn-le) (kept .level-le) (kept .band-le) e t x a viewed)
         where
-          go : FeedView W H l n lim d lev b (kept .drawn-le) (kept .level-le) (kept .band-le) e t x a →
-              seenFeed (feedQuestion (here W H l d lev b e) n x (a .size) (a .numbers)) ≡ fed a (refused (suc q))
+          go : FeedView W H l n lim d p (kept .drawn-le) (kept .level-le) (kept .band-le) e t x a →
+              seenFeed (feedQuestion (here W H l d p e) n x (a .size) (a .numbers)) ≡ fed a (refused (suc q))
           go (feed-away p f z z′ at) = ap seenFeed at ∙ seen-away p z z′ ∙ ap (λ i. fed a (refused i)) (sym f ∙ h)
-          go (feed-onward k c live due below asks is-row head long in-range f at) = absurd (omega (arith, f, h))
+          go (feed-onward k u c live o head long in-range f at) = absurd (omega (arith, f, h))
 
-      feed-on : feedTurned W e t a ≡ 0 → OneOf (event (feed a) (world W H l n lim d lev b e x)) (fed a (gives tt)) (fed a (refused 14))
+      feed-on : feedTurned W e t a ≡ 0 → OneOf (event (feed a) (world W H l n lim d p e x)) (fed a (gives tt)) (fed a (refused 14))
       unfolding event
-      feed-on h = go (feed-view W H l n lim d lev b (kept .drawn-le) (kept .level-le) (kept .band-le) e t x a viewed)
+      feed-on h = go (feed-view W H l n lim d p (kept .drawn-le) (kept .level-le) (kept .band-le) e t x a viewed)
         where
           zero-away : (q : ℕ) → q ≡ 0 → eqb q 0 ≡ false → ⊥
           zero-away q f z = subst T (ap (λ i. eqb i 0) (sym f) ∙ z) tt
 
-          go : FeedView W H l n lim d lev b (kept .drawn-le) (kept .level-le) (kept .band-le) e t x a →
-              OneOf (seenFeed (feedQuestion (here W H l d lev b e) n x (a .size) (a .numbers))) (fed a (gives tt)) (fed a (refused 14))
+          go : FeedView W H l n lim d p (kept .drawn-le) (kept .level-le) (kept .band-le) e t x a →
+              OneOf (seenFeed (feedQuestion (here W H l d p e) n x (a .size) (a .numbers))) (fed a (gives tt)) (fed a (refused 14))
           go (feed-away p f z z′ at) = absurd (zero-away p (sym f ∙ h) z)
-          go (feed-onward k c live due below asks is-row head long in-range f at) = tried (fits (feeds (here W H l d lev b e) (a .numbers) x)) at
+          go (feed-onward k u c live o head long in-range f at) = tried (fits (feeds (here W H l d p e) (a .numbers) x)) at
             where
-              tried : (u : Bool) → feedQuestion (here W H l d lev b e) n x (a .size) (a .numbers) ≡ ask u 14 0 →
-                  OneOf (seenFeed (feedQuestion (here W H l d lev b e) n x (a .size) (a .numbers))) (fed a (gives tt)) (fed a (refused 14))
+              tried : (u : Bool) → feedQuestion (here W H l d p e) n x (a .size) (a .numbers) ≡ ask u 14 0 →
+                  OneOf (seenFeed (feedQuestion (here W H l d p e) n x (a .size) (a .numbers))) (fed a (gives tt)) (fed a (refused 14))
               tried true z = this (ap seenFeed z ∙ seen-goes)
               tried false z = that (ap seenFeed z ∙ seen-stops)
 
     -- ---- draw
     module _ (a : Area) where
       abbrev s : Reader
-      s = here W H l d lev b e
+      s = here W H l d p e
 
       abbrev seenDraw : ℕ → Event
       seenDraw q = drew a (said given (drawReply s q)) (record { size = a .size; numbers = drawArea s q x (a .numbers) })
@@ -262,7 +281,7 @@ module _ (W H l n : ℕ) (lim : Limits W H l n) where
         possible = λ r. absurd (let p : _≡_ {A = ℕ} 0 1 = cc in omega arith);
       })
 
-      drawn-stops : drawSays W e t (a .size) ≡ gives (heights W) → Draws W e t a (seenDraw 14)
+      drawn-stops : drawSays W e t (a .size) ≡ gives (heights (W .length)) → Draws W e t a (seenDraw 14)
       unfolding drawReply drawArea
       drawn-stops says = record {
         answer = refused 14;
@@ -274,23 +293,23 @@ module _ (W H l n : ℕ) (lim : Limits W H l n) where
         possible = λ _. says;
       }
 
-      drawn-goes : drawDue s ≡ true → drawSays W e t (a .size) ≡ gives (heights W) → Draws W e t a (seenDraw 0)
+      drawn-goes : drawDue s ≡ true → drawSays W e t (a .size) ≡ gives (heights (W .length)) → Draws W e t a (seenDraw 0)
       unfolding drawReply drawArea written
       drawn-goes z says = rw z (record {
-        answer = gives (heights W);
-        after = record { size = a .size; numbers = fronted W _ (a .numbers) };
+        answer = gives (heights (W .length));
+        after = record { size = a .size; numbers = fronted (W .length) _ (a .numbers) };
         is = refl;
         size = refl;
-        untouched = λ i p. unfold fronted in rw (le-ltb i W p) refl;
+        untouched = λ i p. unfold fronted in rw (le-ltb i (W .length) p) refl;
         says = this (sym says);
         possible = λ r. absurd (let p : _≡_ {A = ℕ} 0 1 = cc in omega arith);
       })
 
-      draw-is : Draws W e t a (event (draw a) (world W H l n lim d lev b e x))
+      draw-is : Draws W e t a (event (draw a) (world W H l n lim d p e x))
       unfolding event
-      draw-is = go (draw-view W H l n lim d lev b (kept .drawn-le) (kept .level-le) (kept .band-le) e t x a viewed)
+      draw-is = go (draw-view W H l n lim d p (kept .drawn-le) (kept .level-le) (kept .band-le) e t x a viewed)
         where
-          go : DrawView W H l n lim d lev b (kept .drawn-le) (kept .level-le) (kept .band-le) e t x a → Draws W e t a (seenDraw (drawQuestion s n x (a .size)))
+          go : DrawView W H l n lim d p (kept .drawn-le) (kept .level-le) (kept .band-le) e t x a → Draws W e t a (seenDraw (drawQuestion s n x (a .size)))
           go (draw-away q z f says at) = subst (λ i. Draws W e t a (seenDraw i)) (sym at) (drawn-away q z f says)
           go (draw-idle live z says at) = subst (λ i. Draws W e t a (seenDraw i)) (sym at) (drawn-idle z says)
           go (draw-onward live due is-height head to-draw says at) = subst (λ i. Draws W e t a (seenDraw i)) (sym at) (tried (fits (settles s x)))
@@ -300,134 +319,248 @@ module _ (W H l n : ℕ) (lim : Limits W H l n) where
               tried false = drawn-stops says
 
     -- ---- maps that have the rows fed
-    agrees : (g : Grid) (m : IsMap W H g) → All (HasRow W H g) fs → Agrees W H l g (map-fits W H g m) d lev b e x ds
-    agrees g m has = kept .grids g (map-fits W H g m) (words-of g m fs (kept .good) has)
+    agrees : (g : Grid) (m : Map g) → All (HasRow W H g) fs → Agrees W H l (own g m) d p e x ds
+    agrees g m has = kept .rows (own g m) (words-of g m fs (kept .good) has)
 
-    first-rows : (g : Grid) → IsMap W H g → All (HasRow W H g) fs → FirstRows W g ds
-    first-rows g m has = record { are = λ r c p q. agrees g m has .shows r c (omega (arith, kept .drawn)) q }
+    first-rows : (g : Grid) → Map g → All (HasRow W H g) fs → FirstRows W g ds
+    unfolding approximation sideAt
+    first-rows g m has = record {
+      are = λ r c b q. agrees g m has .shows r c (omega (arith, kept .drawn)) q
+          ∙ part-same W H g m l few 0 (omega arith) r c (omega (arith, kept .drawn, kept .drawn-le)) q;
+    }
 
-    none-has : e ≡ true → (g : Grid) → IsMap W H g → All (HasRow W H g) fs → ⊥
+    none-has : e ≡ true → (g : Grid) → Map g → All (HasRow W H g) fs → ⊥
     none-has z g m has = agrees g m has .refuses z (map-fitting g m)
 
     -- ---- what a call that goes on has worked out
+    -- the set of a row that is asked for
+    set-of-row : (k : ℕ) (u : Bool) (c : Band) → asked (eqb (suc k) (suc l)) (sideAt k W) (sideAt k H) (nowAt W H (suc l) d k u) c ≡ true →
+        setNumber H (nameOf W H l d k u c) ≡ nowAt W H (suc l) d k u
+    unfolding setNumber setRow
+    set-of-row k u c asks =
+        let z : suc k - 1 ≡ k = omega arith in
+        let a = has-row (sideAt k W) (sideAt k H) c (nowAt W H (suc l) d k u) (asked-has _ _ _ _ _ asks .1) .first in
+        rw z (omega (arith, a))
+
     -- where row c does not complete its set, the next step is a row of it
-    set-goes-on : (k : ℕ) (c : Band) → d < H → lastOfSet W H (suc l) d k (code c) ≡ false →
-        goesOnSet (rowName (suc k) c (rowAt H d (suc k))) (stepsLeft W H l d (place (suc k) (code c + 1))) ≡ true
-    unfolding lastOfSet nextAt goesOnSet
-    set-goes-on k c due more-left = go _ (view W H l d (suc k) (code c + 1))
+    next-is : (k c : ℕ) (u : Bool) → (u ≡ true → needsTwo (sideAt k H) (rowAt H d k) ≡ true) →
+        lastOfSet W H (suc l) d k (nowAt W H (suc l) d k u) c ≡ false →
+        nextOf W H l d (place (suc k) u (c + 1)) ≡ place (suc k) u (bandAt W H (suc l) d k (nowAt W H (suc l) d k u) (c + 1))
+    unfolding nextAt nowAt
+    next-is k c true two more = let z : suc k - 1 ≡ k = omega arith in rw (still-alone W H l d k c (two refl) more, z) refl
+    next-is k c false two more =
+        rw (not-alone W H (suc l) d (suc k) (c + 1)) (unfold nextUp in rw (lt-ltb (bandAt W H (suc l) d k (setAt H d k) (c + 1)) 4 small) refl)
       where
         under : (m i : ℕ) → m ≤ 4 → leb m i ≡ false → i < 4
-        under m i p z = omega (arith, leb-false m i z)
+        under m i b z = omega (arith, leb-false m i z)
 
-        small : bandAt W H (suc l) d k (code c + 1) < 4
-        small = under _ _ (omega arith) more-left
+        small : bandAt W H (suc l) d k (setAt H d k) (c + 1) < 4
+        small = unfold lastOfSet in under _ _ (omega arith) more
 
-        next-is : nextAt W H (suc l) d (suc k) (code c + 1) ≡ place (suc k) (bandAt W H (suc l) d k (code c + 1))
-        next-is = rw (lt-ltb (bandAt W H (suc l) d k (code c + 1)) 4 small) refl
+    set-goes-on : (k : ℕ) (u : Bool) (c : Band) → Due W H l d p k u c → lastOfSet W H (suc l) d k (nowAt W H (suc l) d k u) (code c) ≡ false →
+        goesOnSet H (nameOf W H l d k u c) (stepsLeft W H l d (place (suc k) u (code c + 1))) ≡ true
+    unfolding goesOnSet
+    set-goes-on k u c o more = go _ (view W H l d (place (suc k) u (code c + 1)) (omega (arith, o .below, kept .level-le)))
+      where
+        is : nextOf W H l d (place (suc k) u (code c + 1)) ≡ place (suc k) u (bandAt W H (suc l) d k (nowAt W H (suc l) d k u) (code c + 1))
+        is = next-is k (code c) u (o .two) more
 
-        go : (v : List Step) → View W H l d (suc k) (code c + 1) v → goesOnSet (rowName (suc k) c (rowAt H d (suc k))) v ≡ true
-        go _ (at-end h) = absurd (omega arith)
-        go _ (at-height _ q) = let z : suc k ≡ 0 = ap (λ p. p .level) (sym next-is ∙ q) in absurd (omega arith)
-        go _ (at-row j b _ h i q) =
-            let z : suc k ≡ suc j = ap (λ p. p .level) (sym next-is ∙ q) in
-            rw (eq-eqb (suc j) (suc k) (sym z), eq-eqb (rowAt H d (suc j)) (rowAt H d (suc k)) (ap (rowAt H d) (sym z))) refl
+        go : (v : List Step) → View W H l d (place (suc k) u (code c + 1)) v → goesOnSet H (nameOf W H l d k u c) v ≡ true
+        go _ (at-end h) = absurd (omega (arith, o .due))
+        go _ (at-height _ q) = let z : suc k ≡ 0 = ap (λ r. r .level) (sym is ∙ q) in absurd (omega arith)
+        go _ (at-row j v b w) =
+            let z : suc k ≡ suc j = ap (λ r. r .level) (sym is ∙ w .is) in
+            let y : u ≡ v = ap (λ r. r .alone) (sym is ∙ w .is) in
+            let z′ : k ≡ j = omega arith in
+            let n : nowAt W H (suc l) d j v ≡ nowAt W H (suc l) d k u = ap₂ (nowAt W H (suc l) d) (sym z′) (sym y) in
+            rw (
+              eq-eqb (suc j) (suc k) (sym z),
+              eq-eqb (setNumber H (nameOf W H l d j v b)) (setNumber H (nameOf W H l d k u c))
+                  (set-of-row j v b (w .asks) ∙ n ∙ sym (set-of-row k u c (o .asks))),
+            ) refl
+
+    -- the set that a level has left
+    leaves-fit : (P : Rows) (k i : ℕ) (y : ℕ → ℤ) → LeavesAt W H l P k i y → SetFits W H P (suc l) k i
+    leaves-fit P k i y s = record { fit = λ r c b q q′. s .0 .fit r b q c q′; has = s .0 .has }
 
     -- the sets of the levels that a store is past
-    sets-fit : (g : Grid) (words : OnCells (SFits w32) W H g) (lev′ b′ k : ℕ) (y : ℕ → ℤ) → lev′ ≤ k → Held W H l g words d lev′ b′ y →
-        SetsFit W H (suc l) g d k
-    sets-fit g words lev′ b′ k y h held = record { fit = λ j r c p q i m n. held .below j (omega arith) (omega arith) .fit r i m c n }
+    sets-fit : (P : Rows) (q : Place) (k : ℕ) (y : ℕ → ℤ) → q .level ≤ k → Held W H l P d (q .level) false (q .band) y → SetsFit W H (suc l) P d k
+    sets-fit P q k y h held = record { fit = λ j b i cells. leaves-fit P j (setAt H d j) _ (held .below refl j (omega arith, cells) (omega arith)) }
 
-    fed-fits : (k : ℕ) (c : Band) → d < H → (g : Grid) (words : OnCells (SFits w32) W H g) (y : ℕ → ℤ) →
-        Held W H l g words d (beyond W H (suc l) d k (code c) .level) (beyond W H (suc l) d k (code c) .band) y →
-        SetsFit W H (suc l) g d (workedAbove (rowName (suc k) c (rowAt H d (suc k))) (stepsLeft W H l d (beyond W H (suc l) d k (code c))))
-    unfolding beyond workedAbove
-    fed-fits k c due g words y = go (lastOfSet W H (suc l) d k (code c)) refl
+    -- a high row alone that is past has been tested; it makes no row
+    alone-fits : (P : Rows) (k : ℕ) (y : ℕ → ℤ) → Live W H l P k → needsTwo (sideAt k H) (rowAt H d k) ≡ true →
+        HeldAt W H l P d (dive (suc l - suc k) (suc k) (sideAt (suc k) W) (sideAt (suc k) H) (rowAt H d (suc k))) y → SetFits W H P (suc l) k 0
+    alone-fits P k y live two held = record {
+      fit = λ r c b q i. absurd (omega (arith, q, set-is (sideAt k H) r, s .odd, s .long));
+      has = tested (deep .0) (deep .1) 0 (omega arith);
+    }
       where
-        go : (u : Bool) → lastOfSet W H (suc l) d k (code c) ≡ u →
-            Held W H l g words d (pick u (place k 1) (place (suc k) (code c + 1)) .level) (pick u (place k 1) (place (suc k) (code c + 1)) .band) y →
-            SetsFit W H (suc l) g d (pick (goesOnSet (rowName (suc k) c (rowAt H d (suc k)))
-            (stepsLeft W H l d (pick u (place k 1) (place (suc k) (code c + 1))))) (suc k) (suc k - 1))
-        go true e held = sets-fit g words k 1 _ y (low (goesOnSet _ _)) held
-          where
-            low : (v : Bool) → k ≤ pick v (suc k) (suc k - 1)
-            low true = omega arith
-            low false = omega arith
-        go false e held = rw (set-goes-on k c due e) (sets-fit g words (suc k) (code c + 1) (suc k) y (omega arith) held)
+        s : Two (sideAt k H) (rowAt H d k)
+        s = two-is (sideAt k H) (rowAt H d k) two
 
-    feed-works-here : (a : Area) (y : RowName) (t′ : List Step) → t ≡ step.feed y ∷ t′ → event (feed a) (world W H l n lim d lev b e x) ≡ fed a (gives tt) →
-        (g : Grid) → demand.HasWords W H g (fs ++ (record { row = y; run = a } ∷ [])) → SetsFit W H (suc l) g d (workedAbove y t′)
+        one : setAt H d k ≡ 1
+        one = setAt-is H d k ∙ s .set
+
+        q : Place
+        q = dive (suc l - suc k) (suc k) (sideAt (suc k) W) (sideAt (suc k) H) (rowAt H d (suc k))
+
+        deep : (suc k ≤ q .level) × (suc k ≡ q .level → q .alone ≡ false)
+        deep = dive-deep (suc l - suc k) (suc k) (sideAt (suc k) W) (sideAt (suc k) H) (rowAt H d (suc k))
+
+        tested : suc k ≤ q .level → (suc k ≡ q .level → q .alone ≡ false) → Tested (sideAt k W) (sideAt k H) (bandsAt W H P (suc l) k) 1
+        tested a b = elim (ℕ-discrete (suc k) (q .level)) [
+          | yes z ↦ subst (Tested (sideAt k W) (sideAt k H) (bandsAt W H P (suc l) k)) (now-one (q .level) (q .alone) (b z)) (held .here k live z .1)
+          | no z ↦ subst (Tested (sideAt k W) (sideAt k H) (bandsAt W H P (suc l) k)) one (held .before k live (omega (arith, z)) .1)
+        ]
+          where
+            now-one : (i : ℕ) (v : Bool) → v ≡ false → nowAt W H (suc l) d k (aloneAt W H (suc l) d i v (q .band)) ≡ 1
+            now-one i v z = rw (z, not-alone W H (suc l) d i (q .band)) (unfold nowAt in one)
+
+    -- after a set that is done
+    own-fits : (P : Rows) (k : ℕ) (y : ℕ → ℤ) (u : Bool) → Live W H l P k → (u ≡ true → needsTwo (sideAt k H) (rowAt H d k) ≡ true) →
+        HeldAt W H l P d (past W H (suc l) d k u) y → SetFits W H P (suc l) k (nowAt W H (suc l) d k u)
+    unfolding past nowAt
+    own-fits P k y true live two held = alone-fits P k y live (two refl) held
+    own-fits P k y false live two held =
+        leaves-fit P k (setAt H d k) _ (held .below (not-alone W H (suc l) d k 1) k live (omega arith))
+
+    not-alone-set : (k : ℕ) → needsTwo (sideAt k H) (rowAt H d k) ≡ true → _≡_ {A = ℕ} 0 (setAt H d k) → ⊥
+    not-alone-set k two z = omega (arith, z, setAt-is H d k, two-is (sideAt k H) (rowAt H d k) two .set)
+
+    above-past : (P : Rows) (k : ℕ) (y : ℕ → ℤ) (u : Bool) → (u ≡ true → needsTwo (sideAt k H) (rowAt H d k) ≡ true) →
+        nowAt W H (suc l) d k u ≡ setAt H d k → HeldAt W H l P d (past W H (suc l) d k u) y → SetsFit W H (suc l) P d (suc k)
+    unfolding past nowAt
+    above-past P k y true two z held = absurd (not-alone-set k (two refl) z)
+    above-past P k y false two z held =
+        sets-fit P (place k false 1) (suc k) y (omega arith) (subst (λ v. Held W H l P d k v 1 y) (not-alone W H (suc l) d k 1) held)
+
+    above-still : (P : Rows) (k b : ℕ) (y : ℕ → ℤ) (u : Bool) → (u ≡ true → needsTwo (sideAt k H) (rowAt H d k) ≡ true) →
+        nowAt W H (suc l) d k u ≡ setAt H d k → HeldAt W H l P d (place (suc k) u b) y → SetsFit W H (suc l) P d (suc k)
+    unfolding nowAt
+    above-still P k b y true two z held = absurd (not-alone-set k (two refl) z)
+    above-still P k b y false two z held =
+        sets-fit P (place (suc k) false b) (suc k) y (omega arith) (subst (λ v. Held W H l P d (suc k) v b y) (not-alone W H (suc l) d (suc k) b) held)
+
+    fed-fits : (P : Rows) (k : ℕ) (u : Bool) (c : Band) → Due W H l d p k u c → (y : ℕ → ℤ) → HeldAt W H l P d (beyond W H (suc l) d k u (code c)) y →
+        FeedFits W H (suc l) P d (nameOf W H l d k u c) (stepsLeft W H l d (beyond W H (suc l) d k u (code c)))
+    unfolding beyond
+    fed-fits P k u c o y = go (lastOfSet W H (suc l) d k n′ (code c)) refl
+      where
+        n′ : ℕ
+        n′ = nowAt W H (suc l) d k u
+
+        back-one : suc k - 1 ≡ k
+        back-one = omega arith
+
+        ask : (keptAt (eqb (suc k) (suc l)) c ≡ true) × (setHas (sideAt k W) (sideAt k H) c n′ ≡ true)
+        ask = asked-has (eqb (suc k) (suc l)) (sideAt k W) (sideAt k H) n′ c (o .asks)
+
+        live : Live W H l P k
+        live = (omega (arith, o .below, kept .level-le), has-cells (sideAt k W) (sideAt k H) c n′ (ask .1))
+
+        name : RowName
+        name = nameOf W H l d k u c
+
+        number : setNumber H name ≡ n′
+        number = set-of-row k u c (o .asks)
+
+        same : setNumber H name ≡ setAt H d (suc k - 1) → n′ ≡ setAt H d k
+        same z = sym number ∙ z ∙ ap (setAt H d) back-one
+
+        differ : true ≡ false → ⊥
+        differ z = subst T z tt
+
+        go : (v : Bool) → lastOfSet W H (suc l) d k n′ (code c) ≡ v →
+            HeldAt W H l P d (pick v (past W H (suc l) d k u) (place (suc k) u (code c + 1))) y →
+            FeedFits W H (suc l) P d name (stepsLeft W H l d (pick v (past W H (suc l) d k u) (place (suc k) u (code c + 1))))
+        go true z held = record {
+          own = λ _. rw (back-one, number) (own-fits P k y u live (o .two) held);
+          above = λ q. above-past P k y u (o .two) (same q) held;
+        }
+        go false z held = record {
+          own = λ q. absurd (differ (sym (set-goes-on k u c o z) ∙ q));
+          above = λ q. above-still P k (code c + 1) y u (o .two) (same q) held;
+        }
+
+    fits-no : (v : Tried) → failed ≡ v → 14 ≡ ask (fits v) 14 0
+    unfolding fits
+    fits-no v z = ap (λ (w : Tried). ask (fits w) 14 0) z
+
+    feed-works-here : (a : Area) (y : RowName) (t′ : List Step) → t ≡ step.feed y ∷ t′ → event (feed a) (world W H l n lim d p e x) ≡ fed a (gives tt) →
+        (P : Rows) → All (HasFedRow W P) (fs ++ (record { row = y; run = a } ∷ [])) → FeedFits W H (suc l) P d y t′
     unfolding event
-    feed-works-here a y t′ first passes g has = go (feed-view W H l n lim d lev b (kept .drawn-le) (kept .level-le) (kept .band-le) e t x a viewed)
+    feed-works-here a y t′ first passes P has = go (feed-view W H l n lim d p (kept .drawn-le) (kept .level-le) (kept .band-le) e t x a viewed)
       where
         s′ : Reader
-        s′ = here W H l d lev b e
+        s′ = here W H l d p e
 
         differ : (q : ℕ) → _≡_ {A = Event} (fed a (refused q)) (fed a (gives tt)) → ⊥
-        differ q z = let p : _≡_ {A = ℕ} 0 1 = cc in omega arith
+        differ q z = let b : _≡_ {A = ℕ} 0 1 = cc in omega arith
 
-        go : FeedView W H l n lim d lev b (kept .drawn-le) (kept .level-le) (kept .band-le) e t x a → SetsFit W H (suc l) g d (workedAbove y t′)
-        go (feed-away p f z z′ at) = absurd (differ p (sym (ap (seenFeed a) at ∙ seen-away a p z z′) ∙ passes))
-        go (feed-onward k c live due below asks is-row head long in-range f at) = tried (feeds s′ (a .numbers) x) refl
+        go : FeedView W H l n lim d p (kept .drawn-le) (kept .level-le) (kept .band-le) e t x a → FeedFits W H (suc l) P d y t′
+        go (feed-away q f z z′ at) = absurd (differ q (sym (ap (seenFeed a) at ∙ seen-away a q z z′) ∙ passes))
+        go (feed-onward k u c live o head long in-range f at) = tried (feeds s′ (a .numbers) x) refl
           where
-            named-same : _≡_ {A = List Step} (step.feed (rowName (suc k) c (rowAt H d (suc k))) ∷ stepsLeft W H l d (beyond W H (suc l) d k (code c)))
-                (step.feed y ∷ t′)
+            to : Place
+            to = beyond W H (suc l) d k u (code c)
+
+            named-same : _≡_ {A = List Step} (step.feed (nameOf W H l d k u c) ∷ stepsLeft W H l d to) (step.feed y ∷ t′)
             named-same = sym head ∙ first
 
-            name-is : rowName (suc k) c (rowAt H d (suc k)) ≡ y
+            name-is : nameOf W H l d k u c ≡ y
             name-is = cc
 
-            rest-is : stepsLeft W H l d (beyond W H (suc l) d k (code c)) ≡ t′
+            rest-is : stepsLeft W H l d to ≡ t′
             rest-is = cc
 
-            held : Outcome (Fits W H l g (has .words))
-                (Held W H l g (has .words) d (beyond W H (suc l) d k (code c) .level) (beyond W H (suc l) d k (code c) .band)) (feeds s′ (a .numbers) x)
+            held : Outcome (Fits W H l P) (HeldAt W H l P d to) (feeds s′ (a .numbers) x)
             held =
-                feeds-outcome W H l d lev b due (kept .level-le) g (has .words) x (kept .grids g (has .words) (all-left fs _ (has .rows)) .holds live due) e k
-                c below is-row (a .numbers)
-                (subst (λ v. IsWordRow W H g (record { row = v; run = a })) (sym name-is) (all-last fs _ (has .rows)))
+                feeds-outcome W H l d p (o .due) (kept .level-le) P x (kept .rows P (all-left fs _ has) .holds live (o .due)) e k u c o (a .numbers)
+                (subst (λ v. HasFedRow W P (record { row = v; run = a })) (sym name-is) (all-last fs _ has))
 
-            tried : (o : Tried) → feeds s′ (a .numbers) x ≡ o → SetsFit W H (suc l) g d (workedAbove y t′)
+            tried : (v : Tried) → feeds s′ (a .numbers) x ≡ v → FeedFits W H (suc l) P d y t′
             tried failed z = absurd (differ 14 (sym (ap (seenFeed a) (at ∙ sym (fits-no _ (sym z))) ∙ seen-stops a) ∙ passes))
             tried (passed m) z =
-                subst (SetsFit W H (suc l) g d) (ap₂ workedAbove name-is rest-is)
-                (fed-fits k c due g (has .words) m (outcome-passed m (subst (Outcome (Fits W H l g (has .words)) _) z held)))
+                subst (λ v. FeedFits W H (suc l) P d v t′) name-is
+                (subst (FeedFits W H (suc l) P d (nameOf W H l d k u c)) rest-is
+                (fed-fits P k u c o m (outcome-passed m (subst (Outcome (Fits W H l P) _) z held))))
 
-    draw-works-here : (a z : Area) → event (draw a) (world W H l n lim d lev b e x) ≡ drew a (gives (heights W)) z →
-        (g : Grid) → demand.HasWords W H g fs → SetsFit W H (suc l) g d 0
+    draw-works-here : (a z : Area) → event (draw a) (world W H l n lim d p e x) ≡ drew a (gives (heights (W .length))) z →
+        (P : Rows) → All (HasFedRow W P) fs → SetsFit W H (suc l) P d 0
     unfolding event
-    draw-works-here a after passes g has = go (draw-view W H l n lim d lev b (kept .drawn-le) (kept .level-le) (kept .band-le) e t x a viewed)
+    draw-works-here a after passes P has = go (draw-view W H l n lim d p (kept .drawn-le) (kept .level-le) (kept .band-le) e t x a viewed)
       where
         s′ : Reader
-        s′ = here W H l d lev b e
+        s′ = here W H l d p e
 
-        given-is : (q : ℕ) → drawQuestion s′ n x (a .size) ≡ q → said given (drawReply s′ q) ≡ gives (heights W)
-        given-is q at = let z : seenDraw a q ≡ drew a (gives (heights W)) after = sym (ap (seenDraw a) at) ∙ passes in cc
+        given-is : (q : ℕ) → drawQuestion s′ n x (a .size) ≡ q → said given (drawReply s′ q) ≡ gives (heights (W .length))
+        given-is q at = let z : seenDraw a q ≡ drew a (gives (heights (W .length))) after = sym (ap (seenDraw a) at) ∙ passes in cc
 
-        no-row : (v : Reply Given) → ((v ≡ gives (heights W)) → ⊥) → (q : ℕ) → said given (drawReply s′ q) ≡ v → drawQuestion s′ n x (a .size) ≡ q → ⊥
+        no-row : (v : Reply Given) → ((v ≡ gives (heights (W .length))) → ⊥) → (q : ℕ) → said given (drawReply s′ q) ≡ v →
+            drawQuestion s′ n x (a .size) ≡ q → ⊥
         no-row v not-this q says at = not-this (sym says ∙ given-is q at)
 
-        go : DrawView W H l n lim d lev b (kept .drawn-le) (kept .level-le) (kept .band-le) e t x a → SetsFit W H (suc l) g d 0
-        go (draw-away q z f says at) = absurd (no-row (refused q) (λ r. let p : _≡_ {A = ℕ} 0 1 = cc in omega arith) q (unfold drawReply in rw (z, f) refl) at)
-        go (draw-idle live z says at) = absurd (no-row (gives nothing) (λ r. let p : _≡_ {A = ℕ} 0 1 = cc in omega arith) 0 (unfold drawReply in rw z refl) at)
+        go : DrawView W H l n lim d p (kept .drawn-le) (kept .level-le) (kept .band-le) e t x a → SetsFit W H (suc l) P d 0
+        go (draw-away q z f says at) = absurd (no-row (refused q) (λ r. let b : _≡_ {A = ℕ} 0 1 = cc in omega arith) q (unfold drawReply in rw (z, f) refl) at)
+        go (draw-idle live z says at) = absurd (no-row (gives nothing) (λ r. let b : _≡_ {A = ℕ} 0 1 = cc in omega arith) 0 (unfold drawReply in rw z refl) at)
         go (draw-onward live due is-height head to-draw says at) = tried (settles s′ x) refl
           where
-            held : Outcome (Fits W H l g (has .words)) (Held W H l g (has .words) d 0 4) (settles s′ x)
-            held = settles-outcome W H l d lev b due (kept .level-le) g (has .words) x (kept .grids g (has .words) (has .rows) .holds live due) e
-                (place 0 4) is-height
+            held : Outcome (Fits W H l P) (Held W H l P d 0 false 4) (settles s′ x)
+            held = settles-outcome W H l d p due (kept .level-le) P x (kept .rows P has .holds live due) e (place 0 false 4) is-height
 
-            tried : (o : Tried) → settles s′ x ≡ o → SetsFit W H (suc l) g d 0
-            tried failed z = absurd (no-row (refused 14) (λ r. let p : _≡_ {A = ℕ} 0 1 = cc in omega arith) 14 (unfold drawReply in
+            tried : (v : Tried) → settles s′ x ≡ v → SetsFit W H (suc l) P d 0
+            tried failed z = absurd (no-row (refused 14) (λ r. let b : _≡_ {A = ℕ} 0 1 = cc in omega arith) 14 (unfold drawReply in
                 refl) (at ∙ sym (fits-no _ (sym z))))
-            tried (passed m) z = sets-fit g (has .words) 0 4 0 m (omega arith) (outcome-passed m (subst (Outcome (Fits W H l g (has .words)) _) z held))
+            tried (passed m) z = sets-fit P (place 0 false 4) 0 m (omega arith) (outcome-passed m (subst (Outcome (Fits W H l P) _) z held))
 
     -- ---- Done
-    all-drawn : View W H l d lev b [] → H ≤ d
+    all-drawn : View W H l d p [] → H .length ≤ d
     all-drawn (at-end h) = h
 
-    none-left : (v : List Step) → View W H l d lev b v → H ≤ d → v ≡ []
-    none-left _ (at-end h) p = refl
-    none-left _ (at-height due q) p = absurd (omega arith)
-    none-left _ (at-row k c due h i q) p = absurd (omega arith)
+    none-left : (v : List Step) → View W H l d p v → H .length ≤ d → v ≡ []
+    none-left _ (at-end h) b = refl
+    none-left _ (at-height due q) b = absurd (omega arith)
+    none-left _ (at-row k u c o) b = absurd (omega (arith, o .due))
 
     -- the grid that has the rows fed
     module _ (live : e ≡ false) (over : t ≡ []) where
@@ -435,55 +568,64 @@ module _ (W H l n : ℕ) (lim : Limits W H l n) where
       unfolding bandRowsOf
       all-names = sym (append-nil (namesOf fs)) ∙ ap (λ v. namesOf fs ++ bandRowsOf v) (sym over) ∙ kept .names live
 
-      words-at : (k : ℕ) (c : Band) (r i : ℕ) → k ≤ l → r < count (down c) (size k H) → i < count (across c) (size k W) →
-          SFits w32 (lookup fs (rowName (suc k) c r) i)
-      unfolding bandColumns
-      words-at k c r i h p q = let z : suc k - 1 ≡ k = omega arith in lookup-words W H l few fs (kept .good) (rowName (suc k) c r) i (rw z q)
-
-      abbrev grid : Grid
-      grid = back W H l (lookup fs) words-at
-
-      grid-words : OnCells (SFits w32) W H grid
-      unfolding size
-      grid-words = rebuilt-words W H l (lookup fs) words-at (suc l) 0 (omega arith)
-
       once : (f : FedRow) → times (f .row) (namesOf fs) ≤ 1
-      once f = rw (all-names, steps-once W H (suc l) tall (omega arith) (f .row)) (go (bandRowExists W H (suc l) (f .row .level) (f .row .band) (f .row .row)))
+      once f = rw (all-names, steps-once W H (suc l) (omega arith) (f .row)) (go (bandRowExists W H (suc l) (f .row .level) (f .row .band) (f .row .row)))
         where
           go : (u : Bool) → pick u 1 0 ≤ 1
           go true = omega arith
           go false = omega arith
 
-      kept-last : (k : ℕ) (c : Band) → keptAt (eqb (suc k) (suc l)) c ≡ true → c ≡ LL → k ≡ l
-      unfolding keptAt
-      kept-last k c h z = let q : keptAt (eqb (suc k) (suc l)) LL ≡ true = subst (λ v. keptAt (eqb (suc k) (suc l)) v ≡ true) z h in
-          let p = eqb-true (suc k) (suc l) q in omega arith
+      found-in : (f : FedRow) → In f fs → lookup fs (f .row) ≡ f .run .numbers
+      found-in f i = found f fs i (once f)
 
-      grid-has : All (HasWords W H l grid) fs
-      grid-has = all-in fs (λ f i. one f (in-all f fs i (kept .good)) (found f fs i (once f)))
+      fed-has : All (HasFedRow W (lookup fs)) fs
+      fed-has = all-in fs (λ f i j b. ap (λ (u : ℕ → ℤ). u j) (sym (found-in f i)))
+
+      fed-agrees : Agrees W H l (lookup fs) d p e x ds
+      fed-agrees = kept .rows (lookup fs) fed-has
+
+      d-is : d ≡ H .length
+      d-is = omega (arith, kept .drawn-le, all-drawn (subst (View W H l d p) over viewed))
+
+      words-at : (k : ℕ) (c : Band) (r i : ℕ) → k ≤ l → r < count (down c) (sideAt k H) → i < count (across c) (sideAt k W) →
+          SFits w32 (lookup fs (rowName (suc k) c r) i)
+      unfolding bandColumns
+      words-at k c r i h b q = let z : suc k - 1 ≡ k = omega arith in lookup-words W H l few fs (kept .good) (rowName (suc k) c r) i (rw z q)
+
+      -- the last row drawn has had every set of every level worked out
+      lines-at : (k : ℕ) → k ≤ l → hasCells (sideAt k W) (sideAt k H) ≡ true → levelHas (sideAt k W) (sideAt k H) (bandsAt W H (lookup fs) (suc l) k) ≡ true
+      lines-at k h cells = sets-have (sideAt k W) (sideAt k H) _ (λ m q.
+          fed-agrees .has (H .length - 1) (omega (arith, d-is, tall)) k (h, cells) m
+          (omega (arith, q, last-set H k (cells-are (sideAt k W) (sideAt k H) cells .1))))
+
+      abbrev grid : Grid
+      grid = back W H l (lookup fs) words-at lines-at
+
+      grid-is : grid ≡ partAt W H (lookup fs) (suc l) 0
+      unfolding rebuilt
+      grid-is = let z : suc l - 1 ≡ l = omega arith in rw z refl
+
+      grid-map : Map grid
+      grid-map = record {
+        heights = λ r c b q. height-fits (grid r c) .0
+            (subst (λ (g : Grid). valueFits 0 (g r c) ≡ true) (sym grid-is) (fed-agrees .fit r c (omega (arith, d-is)) q));
+      }
+
+      grid-has : All (HasFedRow W (own grid grid-map)) fs
+      grid-has = all-in fs (λ f i. one f (in-all f fs i (kept .good)) (found-in f i))
         where
-          one : (f : FedRow) → Good W H l f → lookup fs (f .row) ≡ f .run .numbers → HasWords W H l grid f
-          one f good eq i p =
+          one : (f : FedRow) → Good W H l f → lookup fs (f .row) ≡ f .run .numbers → HasFedRow W (own grid grid-map) f
+          one f good eq i b =
               sym (in-band f (λ v j. levelBand wrap32 W H grid v (f .row .band) (f .row .row) j ≡ lookup fs (rowName v (f .row .band) (f .row .row)) j) good
-              (λ j q. let a = asked-row _ _ _ _ _ (good .asks) in
-              back-has W H l (lookup fs) words-at (good .k) (f .row .band) (good .inside) (kept-last (good .k) (f .row .band) (a .0)) (f .row .row) j
-              (a .1) q) i p
+              (λ j q. back-has W H l (lookup fs) words-at lines-at (good .k) (f .row .band) (good .inside)
+              (kept-last (good .k) l (f .row .band) (good .kept)) (f .row .row) j (good .in-rows) q) i b
               ∙ ap (λ u. u i) eq)
-
-      grid-agrees : Agrees W H l grid grid-words d lev b e x ds
-      grid-agrees = kept .grids grid grid-words grid-has
-
-      d-is : d ≡ H
-      d-is = omega (arith, kept .drawn-le, all-drawn (subst (View W H l d lev b) over viewed))
-
-      grid-map : IsMap W H grid
-      grid-map = record { heights = λ r c p q. height-fits (grid r c) .0 (grid-agrees .fit r c (omega (arith, d-is)) q) }
 
       grid-rows : All (HasRow W H grid) fs
       grid-rows = wholes-of grid grid-map fs (kept .good) grid-has
 
-    finished-then : event want (world W H l n lim d lev b e x) ≡ wanted (gives done) →
-        (g : Grid) × IsMap W H g × All (HasRow W H g) fs × (length ds ≡ H) × FirstRows W g ds
+    finished-then : event want (world W H l n lim d p e x) ≡ wanted (gives done) →
+        (g : Grid) × Map g × All (HasRow W H g) fs × (length ds ≡ H .length) × FirstRows W g ds
     finished-then z =
         let w : _≡_ {A = Event} (wanted (gives (wantSays W e t))) (wanted (gives done)) = sym want-is ∙ z in
         let v : wantSays W e t ≡ done = cc in
@@ -500,7 +642,7 @@ module _ (W H l n : ℕ) (lim : Limits W H l n) where
     not-ended true h = absurd (h refl)
     not-ended false h = refl
 
-    then-finished : (g : Grid) → IsMap W H g → All (HasRow W H g) fs → length ds ≡ H → event want (world W H l n lim d lev b e x) ≡ wanted (gives done)
+    then-finished : (g : Grid) → Map g → All (HasRow W H g) fs → length ds ≡ H .length → event want (world W H l n lim d p e x) ≡ wanted (gives done)
     unfolding wantSays
     then-finished g m has all =
         let live : e ≡ false = not-ended e (λ z. none-has z g m has) in
@@ -509,32 +651,34 @@ module _ (W H l n : ℕ) (lim : Limits W H l n) where
 
   -- ---- the claim, for a world that is reached
   claim : (w : World) (es : List Event) → Then es w → (countsFit (w .reader) ≡ true) × Demand3 W H (suc l) es (λ c. event c w)
-  claim _ es (reached d lev b e x t fs ds kept) = (
-    counts W H l n lim d lev b (kept .drawn-le) (kept .level-le) (kept .band-le) e,
+  claim _ es (reached d p e x t fs ds kept) = (
+    counts W H l n lim d p (kept .drawn-le) (kept .level-le) (kept .band-le) e,
     record {
-      rows-once = steps-once W H (suc l) tall (omega arith);
+      rows-once = steps-once W H (suc l) (omega arith);
       heights-once = steps-heights W H (suc l);
-      wants = want-is d lev b e x t fs ds kept;
-      feeds-turned = feed-turned d lev b e x t fs ds kept;
-      feeds-on = feed-on d lev b e x t fs ds kept;
-      draws = draw-is d lev b e x t fs ds kept;
-      first = λ g has. first-rows d lev b e x t fs ds kept g (has .map) (has .rows);
-      feed-works = λ a y t′ goes g has.
-          subst (λ i. SetsFit W H (suc l) g i (workedAbove y t′)) (sym (kept .drawn))
-          (feed-works-here d lev b e x t fs ds kept a y t′ (goes .next) (goes .passes) g has);
-      draw-works = λ a z passes g has.
-          subst (λ i. SetsFit W H (suc l) g i 0) (sym (kept .drawn)) (draw-works-here d lev b e x t fs ds kept a z passes g has);
-      impossible = λ z g has. none-has d lev b e x t fs ds kept z g (has .map) (has .rows);
+      wants = want-is d p e x t fs ds kept;
+      feeds-turned = feed-turned d p e x t fs ds kept;
+      feeds-on = feed-on d p e x t fs ds kept;
+      draws = draw-is d p e x t fs ds kept;
+      first = λ g has. first-rows d p e x t fs ds kept g (has .map) (has .rows);
+      feed-works = λ a y t′ goes P has.
+          subst (λ i. FeedFits W H (suc l) P i y t′) (sym (kept .drawn))
+          (feed-works-here d p e x t fs ds kept a y t′ (goes .next) (goes .passes) P has);
+      draw-works = λ a z passes P has.
+          subst (λ i. SetsFit W H (suc l) P i 0) (sym (kept .drawn)) (draw-works-here d p e x t fs ds kept a z passes P has);
+      impossible = λ z g has. none-has d p e x t fs ds kept z g (has .map) (has .rows);
       finished = (
-        λ z. let f = finished-then d lev b e x t fs ds kept z in record { map = f .0; has = record { map = f .1; rows = f .2 }; all = f .3; first = f .4 },
-        λ f. then-finished d lev b e x t fs ds kept (f .map) (f .has .map) (f .has .rows) (f .all),
+        λ z. let f = finished-then d p e x t fs ds kept z in record { map = f .0; has = record { map = f .1; rows = f .2 }; all = f .3; first = f .4 },
+        λ f. then-finished d p e x t fs ds kept (f .map) (f .has .map) (f .has .rows) (f .all),
       );
     },
   )
 
--- ---- demand 3: a set-up that passes, on a store of n numbers in which x stood, then any calls
-pub demand-3 : (W H L n : ℕ) → setUpQuestion W H L n ≡ 0 → (x : ℕ → ℤ) (cs : List Call) → OfCalls W H L n x cs
-demand-3 W H zero n ok x cs = absurd (no-levels W H n ok)
-demand-3 W H (suc l) n ok x cs =
-    let c = claim W H l n (limits W H l n ok) _ _ (then-reached W H l n (limits W H l n ok) x cs) in
+-- ---- demand 3: a set-up that passes, of a map that starts on the grid, on a store of n numbers in which x stood, then any calls
+pub demand-3 : (W H : Side) (L n : ℕ) → W .start ≤ maxOrigin → H .start ≤ maxOrigin → setUpQuestion W H L n ≡ 0 → (x : ℕ → ℤ) (cs : List Call) →
+    OfCalls W H L n x cs
+demand-3 W H zero n across down ok x cs = absurd (no-levels W H n ok)
+demand-3 W H (suc l) n across down ok x cs =
+    let lim = limits W H l n across down ok in
+    let c = claim W H l n lim _ _ (then-reached W H l n lim x cs) in
     record { in-range = c .0; claim = c .1 }

@@ -1,79 +1,81 @@
--- The place where a height row begins, found from level 0 on. Assumes nothing.
+-- The place where a row begins, found level by level. Assumes nothing.
+use mathlib.Core.Bool.{true, false}
 use mathlib.Core.Path.{_≡_, refl, sym, ap, _∙_}
-use Prim.Native.Nat.{ℕ, suc, _+_, _-_, _*_, _≤_, _<_}
+use Prim.Native.Nat.{ℕ, suc, _+_, _-_, _≤_, _<_}
 use native.Mathlib.Omega.{arith}
-use borrow.Author.Tests.{eq-eqb, ne-eqb}
-use Rattle.lifting.specs.Line.{lo, count}
-use Rattle.wavelet.specs.Levels.{size}
-use Rattle.wavelet.proofs.SizeLaws.{count-lo, size-zero, size-suc}
-use Rattle.level.specs.Sets.{setOf, opens}
-use Rattle.reader.specs.Sets.{rowAt}
-use Rattle.reader.specs.Machine.{place, dive, enter}
-use Rattle.reader.proofs.SetLaws.{set-in, row-zero, row-suc}
+use Rattle.numbers.specs.Signal.{pick, both}
+use Rattle.numbers.proofs.Sweep.{both as halves}
+use Rattle.lifting.specs.Line.{lo}
+use Rattle.lifting.specs.Grid.{Side, side, count}
+use Rattle.wavelet.specs.Levels.{next}
+use Rattle.level.specs.Sets.{opens}
+use Rattle.reader.specs.Sets.{rowBelow, needsTwo}
+use Rattle.reader.specs.Store.{hasCells}
+use Rattle.reader.specs.Machine.{Place, place, dive}
+use Rattle.reader.specs.declared.walk.Spot.{Spot}
+use Rattle.reader.specs.Inside.{Is}
+use Rattle.reader.proofs.OpenedSets.{set-is, low-is, below-is}
+use Rattle.reader.proofs.CellLaws.{cells-are}
 
--- after k levels: the row r of h rows that is looked at, and where the search goes on
-pub record Down (W H L d k r h : ℕ) : Type 0 where
+-- at level k: the sides and the row that are looked at, and where the search, which is for q, goes on
+pub record Down (L w₀ h₀ k wx w hy h r : ℕ) (q : Place) : Type 0 where
   pub deep : k ≤ L
-  pub row : r ≡ rowAt H d k
-  pub high : h ≡ size k H
-  pub some : 0 < h
-  pub most : h ≤ H
-  pub near : r ≤ H
-  pub goes : dive W H L d (L - k) k ≡ enter W H L d
+  pub narrow : w ≤ w₀
+  pub most : h ≤ h₀
+  pub near : r ≤ h
+  pub goes : dive (L - k) k (side wx w) (side hy h) r ≡ q
 
-pub down-start : (W H L d : ℕ) → 0 < H → d ≤ H → Down W H L d 0 d H
-unfolding enter
-down-start W H L d h g =
-    let e : L - 0 ≡ L = omega arith in
-    record {
-      deep = omega arith;
-      row = sym (row-zero H d);
-      high = sym (size-zero H);
-      some = h;
-      most = omega arith;
-      near = g;
-      goes =
-          ap (λ (m : ℕ). dive W H L d m 0) e;
-    }
+pub down-start : (L k x w y h r : ℕ) → k ≤ L → r ≤ h → Down L w h k x w y h r (dive (L - k) k (side x w) (side y h) r)
+down-start L k x w y h r d n = record { deep = d; narrow = omega arith; most = omega arith; near = n; goes = refl }
 
-module _ (W H L d k r h n : ℕ) (s : Down W H L d k r h) (set : n ≡ setOf h r) where
-  opened : setOf (size k H) (rowAt H d k) ≡ n
-  opened = cc (set, s .row, s .high)
+below-in : (S : Side) (r : ℕ) → 0 < S .length → rowBelow S r ≤ count lo S
+below-in S r some = omega (arith, below-is S r, set-is S r, low-is S)
 
-  dive-in : (m : ℕ) → r ≡ 2 * n - 1 → dive W H L d (suc m) k ≡ dive W H L d m (suc k)
-  unfolding dive opens
-  dive-in m e =
-      let q : rowAt H d k ≡ 2 * setOf (size k H) (rowAt H d k) - 1 = omega (arith, s .row, opened) in
-      rw (eq-eqb (rowAt H d k) (2 * setOf (size k H) (rowAt H d k) - 1) q)
+module _ (L w₀ h₀ k wx w hy h r : ℕ) (q : Place) (s : Down L w₀ h₀ k wx w hy h r q) (more : k < L) where
+  abbrev W : Side
+  W = side wx w
 
-  dive-out : (m : ℕ) → (r ≡ 2 * n - 1 → ⊥) → dive W H L d (suc m) k ≡ place k 1
-  unfolding dive opens
-  dive-out m e = rw (ne-eqb (rowAt H d k) (2 * setOf (size k H) (rowAt H d k) - 1) (λ q. e (omega (arith, s .row, opened))))
+  abbrev H : Side
+  H = side hy h
 
-  pub down-on : (h′ : ℕ) → k < L → r ≡ 2 * n - 1 → h′ ≡ count lo h → Down W H L d (k + 1) n h′
-  down-on h′ more e eh =
-      let next : k + 1 ≡ suc k = omega arith in
-      let left : L - k ≡ suc (L - suc k) = omega arith in
-      let some = s .some in
-      let most = s .most in
-      rw next
-      record {
-        deep = omega arith;
-        row = sym (row-suc H d k ∙ opened);
-        high = cc (eh, s .high, size-suc k H);
-        some = omega (arith, count-lo h);
-        most = omega (arith, count-lo h);
-        near = omega (arith, set, set-in h r (s .some), count-lo h);
-        goes = sym (dive-in (L - suc k) e) ∙ ap (λ (m : ℕ). dive W H L d m k) (sym left) ∙ s .goes;
-      }
+  left : L - k ≡ suc (L - suc k)
+  left = omega arith
 
-  pub down-out : k < L → (r ≡ 2 * n - 1 → ⊥) → place k 1 ≡ enter W H L d
-  down-out more e =
-      let left : L - k ≡ suc (L - suc k) = omega arith in
-      sym (dive-out (L - suc k) e) ∙ ap (λ (m : ℕ). dive W H L d m k) (sym left) ∙ s .goes
+  here : q ≡ pick (both (hasCells W H) (opens H r)) (pick (needsTwo H r) (place (suc k) true 1) (dive (L - suc k) (suc k) (next W) (next H) (rowBelow H r)))
+      (place k false 1)
+  here = sym (s .goes) ∙ ap (λ (m : ℕ). dive m k W H r) left ∙ unfold dive in refl
 
-pub down-end : (W H L d k r h : ℕ) → Down W H L d k r h → L ≤ k → place k 0 ≡ enter W H L d
-down-end W H L d k r h s end =
+  pub down-out : both (hasCells W H) (opens H r) ≡ false → place k false 1 ≡ q
+  down-out e = sym (here ∙ rw e refl)
+
+  module _ (into : both (hasCells W H) (opens H r) ≡ true) where
+    pub down-two : needsTwo H r ≡ true → place (k + 1) true 1 ≡ q
+    down-two e = let one : k + 1 ≡ suc k = omega arith in sym (here ∙ rw (into, e, one) refl)
+
+    pub down-on : needsTwo H r ≡ false → (wx′ w′ hy′ h′ r′ : ℕ) → r′ ≡ rowBelow H r → w′ ≡ count lo W → wx′ ≡ next W .start → h′ ≡ count lo H →
+        hy′ ≡ next H .start → Down L w₀ h₀ (k + 1) wx′ w′ hy′ h′ r′ q
+    unfolding next
+    down-on e wx′ w′ hy′ h′ r′ er ew ex eh ey =
+        let one : k + 1 ≡ suc k = omega arith in
+        let cells = cells-are W H (halves (hasCells W H) (opens H r) into .0) in
+        let below = below-in H r (cells .1) in
+        rw one
+        record {
+          deep = omega arith;
+          narrow = omega (arith, s .narrow, ew, low-is W);
+          most = omega (arith, s .most, eh, low-is H);
+          near = omega (arith, er, eh);
+          goes = rw (er, ew, ex, eh, ey) (sym (here ∙ rw (into, e) refl));
+        }
+
+pub down-end : (L w₀ h₀ k wx w hy h r : ℕ) (q : Place) → Down L w₀ h₀ k wx w hy h r q → L ≤ k → place k false 0 ≡ q
+down-end L w₀ h₀ k wx w hy h r q s end =
     let deep = s .deep in
     let left : L - k ≡ 0 = omega arith in
-    sym (ap (λ (m : ℕ). dive W H L d m k) left ∙ unfold dive in refl) ∙ s .goes
+    sym (ap (λ (m : ℕ). dive m k (side wx w) (side hy h) r) left ∙ unfold dive in refl) ∙ s .goes
+
+-- the search from the next sides on, as the code has them
+pub next-dive : (W H : Side) (m k wx w hy h : ℕ) (p : Spot) → wx ≡ next W .start → w ≡ count lo W → hy ≡ next H .start → h ≡ count lo H →
+    Is (dive m k (side wx w) (side hy h) 0) p → Is (dive m k (next W) (next H) 0) p
+unfolding next
+next-dive W H m k wx w hy h p ex ew ey eh is = rw (ex, ew, ey, eh) at is

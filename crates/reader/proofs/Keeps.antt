@@ -1,57 +1,70 @@
 -- Each call keeps what the store holds: `set-up-holds`, `feed-keeps`, `draw-keeps`, for every state, store, run and area. Assumes nothing.
 use mathlib.Core.Bool.{Bool, true, false}
 use mathlib.Core.Path.{_≡_, refl, sym, ap, subst, _∙_}
-use mathlib.Core.List.{[]}
-use Prim.Native.Nat.{ℕ, zero, suc, _≤_, _<_}
+use Prim.Native.Nat.{ℕ, zero, suc, _-_, _≤_, _<_}
 use native.Mathlib.Omega.{arith}
 use lib.IntN.{ℤ}
 use lib.Dec.{T, leb, eqb}
 use borrow.Author.Tests.{leb-true, eqb-true}
 use Rattle.numbers.specs.Signal.{pick}
-use Rattle.numbers.specs.Word.{wrap32}
 use Rattle.numbers.proofs.Sweep.{both}
-use Rattle.wavelet.specs.Limits.{maxWidth, maxHeight, maxLevels}
-use Rattle.wavelet.specs.Bands.{Grid, Band, code}
-use Rattle.wavelet.specs.Levels.{levelBand}
+use Rattle.wavelet.specs.Limits.{maxWidth, maxHeight, maxLevels, maxOrigin}
+use Rattle.lifting.specs.Grid.{Side, side}
+use Rattle.wavelet.specs.Bands.{Band, code}
+use Rattle.wavelet.proofs.QuestionLaws.{within-true}
 use Rattle.wavelet.specs.View.{bandColumns}
 use Rattle.wavelet.specs.Questions.{ask, within}
 use Rattle.calls.specs.Lists.{Area}
 use Rattle.reader.specs.declared.Reader.{Reader}
 use Rattle.reader.specs.Answers.{Reply, gives, refused, impossible, Handed, aRow, nothing}
-use Rattle.reader.specs.Sets.{rowAt}
+use Rattle.reader.specs.Rebuilt.{Rows, partAt}
 use Rattle.level.specs.Tried.{Tried, failed, passed, fits, memory}
-use Rattle.reader.specs.Machine.{place, nextAt, placeFed, beyond, enter}
-use Rattle.reader.specs.State.{next, nextRow, nextLength, settles, feeds, drawDue, fedReader, drawnReader, endedReader}
+use Rattle.reader.specs.Machine.{Place, place, placeFed, beyond, enter}
+use Rattle.reader.specs.State.{columns, next, nextRow, nextLength, settles, feeds, drawDue, fedReader, drawnReader, endedReader}
 use Rattle.reader.specs.Questions.{countsFit, storeFits, setUpQuestion, feedQuestion, drawQuestion}
 use Rattle.lifting.specs.Halves.{fronted}
 use Rattle.reader.specs.Calls.{fresh, setUpReply, setUpStore, feedReply, feedStore, storeAfter, drawReply, drawStore, drawArea, heightRow}
-use Rattle.reader.specs.Holds.{Holds, Words, AllFit, IsWanted, SetUpHolds, FeedKeeps, DrawKeeps}
-use Rattle.reader.proofs.OpenedSets.{rowAt-first}
-use Rattle.reader.proofs.StepsLeft.{named-code, stepsLeft}
+use Rattle.reader.specs.Holds.{Holds, AllFit, IsWanted, SetUpHolds, FeedKeeps, DrawKeeps}
+use Rattle.reader.proofs.Looks.{named-code}
+use Rattle.reader.proofs.StepsLeft.{stepsLeft}
 use Rattle.level.proofs.SetMade.{Outcome}
-use Rattle.reader.proofs.Holds.{Fits, Held, enter-holds}
-use Rattle.reader.proofs.CallViews.{Limits, here, view, FeedView, feed-away, feed-onward, feed-view, DrawView, draw-away, draw-idle, draw-onward}
+use Rattle.reader.proofs.Holds.{Fits, Held, HeldAt, first-holds, enter-holds}
+use Rattle.reader.proofs.CallViews.{Limits, here, nextOf, nameOf, Due, view, FeedView, feed-away, feed-onward, feed-view}
+use Rattle.reader.proofs.CallViews.{DrawView, draw-away, draw-idle, draw-onward}
 use Rattle.reader.proofs.CallViews.{draw-view}
 use Rattle.reader.proofs.Outcomes.{outcome-failed, outcome-passed, settles-outcome, feeds-outcome, row-out}
 
 -- ---- question 1, part by part
-pub record Inside (W H l d lev b : ℕ) : Type 0 where
-  wide : within 1 maxWidth W ≡ true
-  high : within 1 maxHeight H ≡ true
+pub record Inside (W H : Side) (l d : ℕ) (p : Place) : Type 0 where
+  wide : within 1 maxWidth (W .length) ≡ true
+  high : within 1 maxHeight (H .length) ≡ true
   deep : within 1 maxLevels (suc l) ≡ true
-  drawn-le : d ≤ H
-  level-le : lev ≤ suc l
-  band-le : b ≤ 4
+  across : W .start ≤ maxOrigin
+  down : H .start ≤ maxOrigin
+  drawn-le : d ≤ H .length
+  level-le : p .level ≤ suc l
+  band-le : p .band ≤ 4
 
-inside : (W H l d lev b : ℕ) (e : Bool) → countsFit (here W H l d lev b e) ≡ true → Inside W H l d lev b
+inside : (W H : Side) (l d : ℕ) (p : Place) (e : Bool) → countsFit (here W H l d p e) ≡ true → Inside W H l d p
 unfolding countsFit
-inside W H l d lev b e h =
-    let a = both (within 1 maxWidth W) _ h in
-    let c = both (within 1 maxHeight H) _ (a .1) in
+inside W H l d p e h =
+    let a = both (within 1 maxWidth (W .length)) _ h in
+    let c = both (within 1 maxHeight (H .length)) _ (a .1) in
     let f = both (within 1 maxLevels (suc l)) _ (c .1) in
-    let g = both (leb d H) _ (f .1) in
-    let i = both (leb lev (suc l)) _ (g .1) in
-    record { wide = a .0; high = c .0; deep = f .0; drawn-le = leb-true _ _ (g .0); level-le = leb-true _ _ (i .0); band-le = leb-true _ _ (i .1) }
+    let m = both (leb (W .start) maxOrigin) _ (f .1) in
+    let n = both (leb (H .start) maxOrigin) _ (m .1) in
+    let g = both (leb d (H .length)) _ (n .1) in
+    let i = both (leb (p .level) (suc l)) _ (g .1) in
+    record {
+      wide = a .0;
+      high = c .0;
+      deep = f .0;
+      across = leb-true _ _ (m .0);
+      down = leb-true _ _ (n .0);
+      drawn-le = leb-true _ _ (g .0);
+      level-le = leb-true _ _ (i .0);
+      band-le = leb-true _ _ (i .1);
+    }
 
 -- a call that questions 1 and 5 do not turn away
 two-yes : (t u : Bool) (r q : ℕ) → ask t 1 (ask u 5 r) ≡ q → (q ≡ 1 → ⊥) → (q ≡ 5 → ⊥) → (t ≡ true) × (u ≡ true)
@@ -110,29 +123,34 @@ drawn-fourteen s r t = go (eqb r 0) (drawDue s) (eqb r 14) refl
     go false u true h k = eqb-true r 14 h
     go false u false h k = absurd (let o : _≡_ {A = ℕ} 0 1 = cc in omega arith)
 
-module _ (W H l d lev b : ℕ) (e : Bool) where
+module _ (W H : Side) (l d : ℕ) (p : Place) (e : Bool) where
   abbrev s : Reader
-  s = here W H l d lev b e
+  s = here W H l d p e
 
   -- ---- the definition, and the laws' own form of it
-  held : (g : Grid) (words : Words g s) (x : ℕ → ℤ) → d < H → Holds g s x → Held W H l g words d lev b x
-  held g words x due h = record {
-    below = λ k p q. h .below due k (omega arith) q;
-    before = λ k p q. h .before due k (omega arith) q;
-    got = λ k p q c kept less. h .got due k (omega arith) q c kept less;
+  held : (P : Rows) (x : ℕ → ℤ) → d < H .length → Holds P s x → HeldAt W H l P d p x
+  held P x due h = record {
+    below = λ u k i q. h .below due u k (record { inside = omega (arith, i .0); cells = i .1 }) q;
+    before = λ k i q. h .before due k (record { inside = omega (arith, i .0); cells = i .1 }) q;
+    here = λ k i q. h .here due k (record { inside = omega (arith, i .0); cells = i .1 }) q;
+    got = λ k i q c kept less. h .got due k (record { inside = omega (arith, i .0); cells = i .1 }) q c kept less;
   }
 
-holds : (W H l d lev b : ℕ) (e : Bool) (g : Grid) (words : Words g (here W H l d lev b e)) (x : ℕ → ℤ) → (d < H → Held W H l g words d lev b x) →
-    Holds g (here W H l d lev b e) x
-holds W H l d lev b e g words x h = record {
-  below = λ due k p q. h due .below k (omega arith) q;
-  before = λ due k p q. h due .before k (omega arith) q;
-  got = λ due k p q c kept less. h due .got k (omega arith) q c kept less;
+holds : (W H : Side) (l d : ℕ) (p : Place) (e : Bool) (P : Rows) (x : ℕ → ℤ) → (d < H .length → HeldAt W H l P d p x) → Holds P (here W H l d p e) x
+holds W H l d p e P x h = record {
+  below = λ due u k i q. h due .below u k (omega (arith, i .inside), i .cells) q;
+  before = λ due k i q. h due .before k (omega (arith, i .inside), i .cells) q;
+  here = λ due k i q. h due .here k (omega (arith, i .inside), i .cells) q;
+  got = λ due k i q c kept less. h due .got k (omega (arith, i .inside), i .cells) q c kept less;
 }
 
-module _ (W H l d lev b : ℕ) (e : Bool) (n : ℕ) (x : ℕ → ℤ) where
-  limits-of : Inside W H l d lev b → storeFits W (suc l) n ≡ true → Limits W H l n
-  limits-of i r = record { wide = i .wide; high = i .high; deep = i .deep; room = r }
+-- all levels fit
+all-fits : (W H : Side) (l d : ℕ) (p : Place) (e : Bool) (P : Rows) → AllFit P (here W H l d p e) → Fits W H l P
+all-fits W H l d p e P all k i = all k (record { inside = omega (arith, i .0); cells = i .1 })
+
+module _ (W H : Side) (l d : ℕ) (p : Place) (e : Bool) (n : ℕ) (x : ℕ → ℤ) where
+  limits-of : Inside W H l d p → storeFits W (suc l) n ≡ true → Limits W H l n
+  limits-of i r = record { across = i .across; down = i .down; wide = i .wide; high = i .high; deep = i .deep; room = r }
 
   -- ---- feed
   module _ (a : Area) where
@@ -140,207 +158,220 @@ module _ (W H l d lev b : ℕ) (e : Bool) (n : ℕ) (x : ℕ → ℤ) where
     v = a .numbers
 
     abbrev q : ℕ
-    q = feedQuestion (s W H l d lev b e) n x (a .size) v
+    q = feedQuestion (s W H l d p e) n x (a .size) v
 
     -- what a feed that passed, or gave 14, was asked
     pub record Onward : Type 0 where
       k : ℕ
+      u : Bool
       c : Band
-      due : d < H
-      level-le : lev ≤ suc l
-      below : k < lev
-      at-row : nextAt W H (suc l) d lev b ≡ place (suc k) (code c)
-      asks : q ≡ ask (fits (feeds (s W H l d lev b e) v x)) 14 0
+      level-le : p .level ≤ suc l
+      row : Due W H l d p k u c
+      asks : q ≡ ask (fits (feeds (s W H l d p e) v x)) 14 0
 
     onward : (eqb q 0 ≡ false → eqb q 14 ≡ false → ⊥) → (q ≡ 1 → ⊥) → (q ≡ 5 → ⊥) → Onward
     unfolding feedQuestion
     onward never f g =
-        let t = two-yes (countsFit (s W H l d lev b e)) (storeFits W (suc l) n) _ q refl f g in
-        let i = inside W H l d lev b e (t .0) in
-        go i (feed-view W H l n (limits-of i (t .1)) d lev b (i .drawn-le) (i .level-le) (i .band-le) e (stepsLeft W H l d (place lev b)) x a
-        (view W H l d lev b))
+        let t = two-yes (countsFit (s W H l d p e)) (storeFits W (suc l) n) _ q refl f g in
+        let i = inside W H l d p e (t .0) in
+        go i (feed-view W H l n (limits-of i (t .1)) d p (i .drawn-le) (i .level-le) (i .band-le) e (stepsLeft W H l d p) x a
+        (view W H l d p (i .level-le)))
       where
-        go : (i : Inside W H l d lev b) {lim : Limits W H l n} →
-            FeedView W H l n lim d lev b (i .drawn-le) (i .level-le) (i .band-le) e (stepsLeft W H l d (place lev b)) x a → Onward
-        go i (feed-away p _ z y at) = absurd (never (ap (λ j. eqb j 0) at ∙ z) (ap (λ j. eqb j 14) at ∙ y))
-        go i (feed-onward k c live due below asks at-row head long in-range _ at) =
-            record { k = k; c = c; due = due; level-le = i .level-le; below = below; at-row = at-row; asks = at }
+        go : (i : Inside W H l d p) {lim : Limits W H l n} →
+            FeedView W H l n lim d p (i .drawn-le) (i .level-le) (i .band-le) e (stepsLeft W H l d p) x a → Onward
+        go i (feed-away r _ z y at) = absurd (never (ap (λ j. eqb j 0) at ∙ z) (ap (λ j. eqb j 14) at ∙ y))
+        go i (feed-onward k u c live o head long in-range _ at) = record { k = k; u = u; c = c; level-le = i .level-le; row = o; asks = at }
 
     -- the run is the row that is named
-    wanted-row : (g : Grid) (o : Onward) → IsWanted g (s W H l d lev b e) v → (i : ℕ) → i < bandColumns W (suc (o .k)) (o .c) →
-        v i ≡ levelBand wrap32 W H g (suc (o .k)) (o .c) (rowAt H d (suc (o .k))) i
+    wanted-row : (P : Rows) (o : Onward) → IsWanted P (s W H l d p e) v → (i : ℕ) → i < bandColumns W (suc (o .k)) (o .c) →
+        v i ≡ P (nameOf W H l d (o .k) (o .u) (o .c)) i
     unfolding next nextRow nextLength
-    wanted-row g o h = rw (o .at-row, named-code (o .c)) at h
+    wanted-row P o h = let z : suc (o .k) - 1 ≡ o .k = omega arith in rw (o .row .is, named-code (o .c), z) at h
 
     -- the store and the reader that a passed feed leaves
-    store-is : (y : ℕ → ℤ) → feeds (s W H l d lev b e) v x ≡ passed y → feedStore (s W H l d lev b e) 0 v x ≡ y
+    store-is : (y : ℕ → ℤ) → feeds (s W H l d p e) v x ≡ passed y → feedStore (s W H l d p e) 0 v x ≡ y
     unfolding feedStore storeAfter memory
-    store-is y p = ap (memory x) p
+    store-is y z = ap (memory x) z
 
-    reader-is : (o : Onward) → fedReader (s W H l d lev b e) ≡ here W H l d (beyond W H (suc l) d (o .k) (code (o .c)) .level)
-        (beyond W H (suc l) d (o .k) (code (o .c)) .band) false
+    abbrev to : Onward → Place
+    to o = beyond W H (suc l) d (o .k) (o .u) (code (o .c))
+
+    reader-is : (o : Onward) → fedReader (s W H l d p e) ≡ here W H l d (to o) false
     unfolding fedReader next placeFed
-    reader-is o = rw (o .at-row) refl
+    reader-is o = rw (o .row .is) refl
 
     -- a feed that gave neither 0 nor what its test says
-    no-mix : (u : Tried) (r : ℕ) → q ≡ r → q ≡ ask (fits (feeds (s W H l d lev b e) v x)) 14 0 → feeds (s W H l d lev b e) v x ≡ u → ask (fits u) 14 0 ≡ r
-    no-mix u r z a p = sym (ap (λ w. ask (fits w) 14 0) p) ∙ sym a ∙ z
+    no-mix : (u : Tried) (r : ℕ) → q ≡ r → q ≡ ask (fits (feeds (s W H l d p e) v x)) 14 0 → feeds (s W H l d p e) v x ≡ u → ask (fits u) 14 0 ≡ r
+    no-mix u r z a h = sym (ap (λ w. ask (fits w) 14 0) h) ∙ sym a ∙ z
 
-    feed-at : FeedKeeps (s W H l d lev b e) v x (feedReply (s W H l d lev b e) q) (feedStore (s W H l d lev b e) q v x)
+    feed-at : FeedKeeps (s W H l d p e) v x (feedReply (s W H l d p e) q) (feedStore (s W H l d p e) q v x)
     feed-at = record { passed = on; ended = stopped }
       where
-        outcome-of : (o : Onward) (g : Grid) (words : Words g (s W H l d lev b e)) → IsWanted g (s W H l d lev b e) v → Holds g (s W H l d lev b e) x →
-            (u : Tried) → feeds (s W H l d lev b e) v x ≡ u →
-            Outcome (Fits W H l g words) (Held W H l g words d (beyond W H (suc l) d (o .k) (code (o .c)) .level)
-            (beyond W H (suc l) d (o .k) (code (o .c)) .band)) u
-        outcome-of o g words row h u z = subst (Outcome (Fits W H l g words) _) z
-            (feeds-outcome W H l d lev b (o .due) (o .level-le) g words x (held W H l d lev b e g words x (o .due) h) e (o .k) (o .c) (o .below) (o .at-row) v
-            (wanted-row g o row))
+        outcome-of : (o : Onward) (P : Rows) → IsWanted P (s W H l d p e) v → Holds P (s W H l d p e) x → (u : Tried) → feeds (s W H l d p e) v x ≡ u →
+            Outcome (Fits W H l P) (HeldAt W H l P d (to o)) u
+        outcome-of o P row h u z = subst (Outcome (Fits W H l P) _) z
+            (feeds-outcome W H l d p (o .row .due) (o .level-le) P x (held W H l d p e P x (o .row .due) h) e (o .k) (o .u) (o .c) (o .row) v
+            (wanted-row P o row))
 
-        tried : (o : Onward) → q ≡ 0 → (t : Reader) → t ≡ fedReader (s W H l d lev b e) → (g : Grid) → Words g (s W H l d lev b e) →
-            IsWanted g (s W H l d lev b e) v → Holds g (s W H l d lev b e) x → (u : Tried) → feeds (s W H l d lev b e) v x ≡ u →
-            Holds g t (feedStore (s W H l d lev b e) q v x)
-        tried o z t same g words row h failed p = absurd (omega (arith, no-mix failed 0 z (o .asks) p, ask-failed))
-        tried o z t same g words row h (passed y) p =
-            subst (λ r. Holds g r (feedStore (s W H l d lev b e) q v x)) (sym (same ∙ reader-is o))
-            (subst (Holds g _) (sym (ap (λ r. feedStore (s W H l d lev b e) r v x) z ∙ store-is y p))
-            (holds W H l d _ _ false g words y (λ _. outcome-passed y (outcome-of o g words row h (passed y) p))))
+        tried : (o : Onward) → q ≡ 0 → (t : Reader) → t ≡ fedReader (s W H l d p e) → (P : Rows) → IsWanted P (s W H l d p e) v →
+            Holds P (s W H l d p e) x → (u : Tried) → feeds (s W H l d p e) v x ≡ u → Holds P t (feedStore (s W H l d p e) q v x)
+        tried o z t same P row h failed g = absurd (omega (arith, no-mix failed 0 z (o .asks) g, ask-failed))
+        tried o z t same P row h (passed y) g =
+            subst (λ r. Holds P r (feedStore (s W H l d p e) q v x)) (sym (same ∙ reader-is o))
+            (subst (Holds P _) (sym (ap (λ r. feedStore (s W H l d p e) r v x) z ∙ store-is y g))
+            (holds W H l d (to o) false P y (λ _. outcome-passed y (outcome-of o P row h (passed y) g))))
 
-        on : (t : Reader) → feedReply (s W H l d lev b e) q ≡ gives t → (g : Grid) → Words g (s W H l d lev b e) → IsWanted g (s W H l d lev b e) v →
-            Holds g (s W H l d lev b e) x → Holds g t (feedStore (s W H l d lev b e) q v x)
-        on t r g words row h =
-            let p = feed-passed (s W H l d lev b e) q t r in
-            let o = onward (λ z _. subst T (sym (ap (λ j. eqb j 0) (p .0)) ∙ z) tt) (λ z. omega (arith, p .0)) (λ z. omega (arith, p .0)) in
-            tried o (p .0) t (p .1) g words row h (feeds (s W H l d lev b e) v x) refl
+        on : (t : Reader) → feedReply (s W H l d p e) q ≡ gives t → (P : Rows) → IsWanted P (s W H l d p e) v →
+            Holds P (s W H l d p e) x → Holds P t (feedStore (s W H l d p e) q v x)
+        on t r P row h =
+            let k = feed-passed (s W H l d p e) q t r in
+            let o = onward (λ z _. subst T (sym (ap (λ j. eqb j 0) (k .0)) ∙ z) tt) (λ z. omega (arith, k .0)) (λ z. omega (arith, k .0)) in
+            tried o (k .0) t (k .1) P row h (feeds (s W H l d p e) v x) refl
 
-        not-fit : (o : Onward) → q ≡ 14 → (g : Grid) (words : Words g (s W H l d lev b e)) → IsWanted g (s W H l d lev b e) v → Holds g (s W H l d lev b e) x →
-            AllFit g (s W H l d lev b e) → (u : Tried) → feeds (s W H l d lev b e) v x ≡ u → ⊥
-        not-fit o z g words row h all failed p = outcome-failed (outcome-of o g words row h failed p) (λ k r c i. all k r c (omega arith))
-        not-fit o z g words row h all (passed y) p = omega (arith, no-mix (passed y) 14 z (o .asks) p, ask-passed y)
+        not-fit : (o : Onward) → q ≡ 14 → (P : Rows) → IsWanted P (s W H l d p e) v → Holds P (s W H l d p e) x →
+            AllFit P (s W H l d p e) → (u : Tried) → feeds (s W H l d p e) v x ≡ u → ⊥
+        not-fit o z P row h all failed g = outcome-failed (outcome-of o P row h failed g) (all-fits W H l d p e P all)
+        not-fit o z P row h all (passed y) g = omega (arith, no-mix (passed y) 14 z (o .asks) g, ask-passed y)
 
-        stopped : (t : Reader) → feedReply (s W H l d lev b e) q ≡ impossible t → (g : Grid) → Words g (s W H l d lev b e) → IsWanted g (s W H l d lev b e) v →
-            Holds g (s W H l d lev b e) x → AllFit g (s W H l d lev b e) → ⊥
-        stopped t r g words row h all =
-            let z = feed-fourteen (s W H l d lev b e) q t r in
+        stopped : (t : Reader) → feedReply (s W H l d p e) q ≡ impossible t → (P : Rows) → IsWanted P (s W H l d p e) v →
+            Holds P (s W H l d p e) x → AllFit P (s W H l d p e) → ⊥
+        stopped t r P row h all =
+            let z = feed-fourteen (s W H l d p e) q t r in
             let o = onward (λ _ y. subst T (sym (ap (λ j. eqb j 14) z) ∙ y) tt) (λ y. omega (arith, z)) (λ y. omega (arith, z)) in
-            not-fit o z g words row h all (feeds (s W H l d lev b e) v x) refl
+            not-fit o z P row h all (feeds (s W H l d p e) v x) refl
 
   -- ---- draw
   module _ (a : Area) where
-    abbrev p : ℕ
-    p = drawQuestion (s W H l d lev b e) n x (a .size)
+    abbrev o₀ : ℕ
+    o₀ = drawQuestion (s W H l d p e) n x (a .size)
 
     pub record Drawing : Type 0 where
-      due : d < H
-      level-le : lev ≤ suc l
-      at-height : nextAt W H (suc l) d lev b ≡ place 0 4
-      to-draw : drawDue (s W H l d lev b e) ≡ true
-      asks : p ≡ ask (fits (settles (s W H l d lev b e) x)) 14 0
+      due : d < H .length
+      broad : 0 < W .length
+      level-le : p .level ≤ suc l
+      at-height : nextOf W H l d p ≡ place 0 false 4
+      to-draw : drawDue (s W H l d p e) ≡ true
+      asks : o₀ ≡ ask (fits (settles (s W H l d p e) x)) 14 0
 
     -- what a draw was asked that gave a row, or 14
-    drawing : (eqb p 0 ≡ false → eqb p 14 ≡ false → ⊥) → (p ≡ 1 → ⊥) → (p ≡ 5 → ⊥) → (drawDue (s W H l d lev b e) ≡ false → p ≡ 0 → ⊥) → Drawing
+    drawing : (eqb o₀ 0 ≡ false → eqb o₀ 14 ≡ false → ⊥) → (o₀ ≡ 1 → ⊥) → (o₀ ≡ 5 → ⊥) → (drawDue (s W H l d p e) ≡ false → o₀ ≡ 0 → ⊥) → Drawing
     unfolding drawQuestion
     drawing never f g idle =
-        let t = two-yes (countsFit (s W H l d lev b e)) (storeFits W (suc l) n) _ p refl f g in
-        let i = inside W H l d lev b e (t .0) in
-        go i (draw-view W H l n (limits-of i (t .1)) d lev b (i .drawn-le) (i .level-le) (i .band-le) e (stepsLeft W H l d (place lev b)) x a
-        (view W H l d lev b))
+        let t = two-yes (countsFit (s W H l d p e)) (storeFits W (suc l) n) _ o₀ refl f g in
+        let i = inside W H l d p e (t .0) in
+        go i (draw-view W H l n (limits-of i (t .1)) d p (i .drawn-le) (i .level-le) (i .band-le) e (stepsLeft W H l d p) x a
+        (view W H l d p (i .level-le)))
       where
-        go : (i : Inside W H l d lev b) {lim : Limits W H l n} →
-            DrawView W H l n lim d lev b (i .drawn-le) (i .level-le) (i .band-le) e (stepsLeft W H l d (place lev b)) x a → Drawing
+        go : (i : Inside W H l d p) {lim : Limits W H l n} →
+            DrawView W H l n lim d p (i .drawn-le) (i .level-le) (i .band-le) e (stepsLeft W H l d p) x a → Drawing
         go i (draw-away r z y _ at) = absurd (never (ap (λ j. eqb j 0) at ∙ z) (ap (λ j. eqb j 14) at ∙ y))
         go i (draw-idle live z _ at) = absurd (idle z at)
         go i (draw-onward live due at-height head to-draw _ at) =
-            record { due = due; level-le = i .level-le; at-height = at-height; to-draw = to-draw; asks = at }
+            let broad = within-true 1 maxWidth (W .length) (i .wide) .0 in
+            record { due = due; broad = broad; level-le = i .level-le; at-height = at-height; to-draw = to-draw; asks = at }
 
     -- the store, the area and the reader that a draw of a row leaves
-    drawn-store : (y : ℕ → ℤ) → drawDue (s W H l d lev b e) ≡ true → settles (s W H l d lev b e) x ≡ passed y → drawStore (s W H l d lev b e) 0 x ≡ y
+    drawn-store : (y : ℕ → ℤ) → drawDue (s W H l d p e) ≡ true → settles (s W H l d p e) x ≡ passed y → drawStore (s W H l d p e) 0 x ≡ y
     unfolding drawStore storeAfter memory
     drawn-store y u k = rw (u, k) refl
 
-    drawn-area : (y : ℕ → ℤ) → drawDue (s W H l d lev b e) ≡ true → settles (s W H l d lev b e) x ≡ passed y →
-        drawArea (s W H l d lev b e) 0 x (a .numbers) ≡ fronted W (heightRow W d y) (a .numbers)
+    drawn-area : (y : ℕ → ℤ) → drawDue (s W H l d p e) ≡ true → settles (s W H l d p e) x ≡ passed y →
+        drawArea (s W H l d p e) 0 x (a .numbers) ≡ fronted (W .length) (heightRow (s W H l d p e) y) (a .numbers)
     unfolding drawArea memory
     drawn-area y u k = rw (u, k) refl
 
-    drawn-reader : drawnReader (s W H l d lev b e) ≡ here W H l (suc d) (enter W H (suc l) (suc d) .level) (enter W H (suc l) (suc d) .band) false
+    drawn-reader : drawnReader (s W H l d p e) ≡ here W H l (suc d) (enter W H (suc l) (suc d)) false
     unfolding drawnReader
     drawn-reader = refl
 
-    same-test : (u : Tried) (r : ℕ) → p ≡ r → p ≡ ask (fits (settles (s W H l d lev b e) x)) 14 0 → settles (s W H l d lev b e) x ≡ u → ask (fits u) 14 0 ≡ r
+    same-test : (u : Tried) (r : ℕ) → o₀ ≡ r → o₀ ≡ ask (fits (settles (s W H l d p e) x)) 14 0 → settles (s W H l d p e) x ≡ u → ask (fits u) 14 0 ≡ r
     same-test u r z k h = sym (ap (λ w. ask (fits w) 14 0) h) ∙ sym k ∙ z
 
-    draw-at : DrawKeeps (s W H l d lev b e) x (drawReply (s W H l d lev b e) p) (drawStore (s W H l d lev b e) p x)
-        (drawArea (s W H l d lev b e) p x (a .numbers))
+    draw-at : DrawKeeps (s W H l d p e) x (drawReply (s W H l d p e) o₀) (drawStore (s W H l d p e) o₀ x)
+        (drawArea (s W H l d p e) o₀ x (a .numbers))
     draw-at = record { passed = on; ended = stopped }
       where
-        outcome-of : (o : Drawing) (g : Grid) (words : Words g (s W H l d lev b e)) → Holds g (s W H l d lev b e) x → (u : Tried) →
-            settles (s W H l d lev b e) x ≡ u → Outcome (Fits W H l g words) (Held W H l g words d 0 4) u
-        outcome-of o g words h u z = subst (Outcome (Fits W H l g words) _) z
-            (settles-outcome W H l d lev b (o .due) (o .level-le) g words x (held W H l d lev b e g words x (o .due) h) e (place 0 4) (o .at-height))
+        outcome-of : (o : Drawing) (P : Rows) → Holds P (s W H l d p e) x → (u : Tried) →
+            settles (s W H l d p e) x ≡ u → Outcome (Fits W H l P) (Held W H l P d 0 false 4) u
+        outcome-of o P h u z = subst (Outcome (Fits W H l P) _) z
+            (settles-outcome W H l d p (o .due) (o .level-le) P x (held W H l d p e P x (o .due) h) e (place 0 false 4) (o .at-height))
 
-        tried : (o : Drawing) → p ≡ 0 → (t : Reader) → t ≡ drawnReader (s W H l d lev b e) → (g : Grid) → Words g (s W H l d lev b e) →
-            Holds g (s W H l d lev b e) x → (u : Tried) → settles (s W H l d lev b e) x ≡ u →
-            Holds g t (drawStore (s W H l d lev b e) p x) × ((c : ℕ) → c < W → drawArea (s W H l d lev b e) p x (a .numbers) c ≡ g d c)
-        tried o z t same g words h failed k = absurd (omega (arith, same-test failed 0 z (o .asks) k, ask-failed))
-        tried o z t same g words h (passed y) k =
-            let is : Held W H l g words d 0 4 y = outcome-passed y (outcome-of o g words h (passed y) k) in (
-              subst (λ r. Holds g r (drawStore (s W H l d lev b e) p x)) (sym (same ∙ drawn-reader))
-                  (subst (Holds g _) (sym (ap (λ r. drawStore (s W H l d lev b e) r x) z ∙ drawn-store y (o .to-draw) k))
-                  (holds W H l (suc d) _ _ false g words y (λ more. enter-holds W H l g words d more y is))),
-              λ c i. ap (λ r. drawArea (s W H l d lev b e) r x (a .numbers) c) z ∙ ap (λ f. f c) (drawn-area y (o .to-draw) k)
-                  ∙ row-out W H l d (o .due) g words y is (a .numbers) c i,
+        tried : (o : Drawing) → o₀ ≡ 0 → (t : Reader) → t ≡ drawnReader (s W H l d p e) → (P : Rows) →
+            Holds P (s W H l d p e) x → (u : Tried) → settles (s W H l d p e) x ≡ u →
+            Holds P t (drawStore (s W H l d p e) o₀ x)
+            × ((c : ℕ) → c < W .length → drawArea (s W H l d p e) o₀ x (a .numbers) c ≡ partAt W H P (suc l) 0 d c)
+        tried o z t same P h failed k = absurd (omega (arith, same-test failed 0 z (o .asks) k, ask-failed))
+        tried o z t same P h (passed y) k =
+            let is : Held W H l P d 0 false 4 y = outcome-passed y (outcome-of o P h (passed y) k) in (
+              subst (λ r. Holds P r (drawStore (s W H l d p e) o₀ x)) (sym (same ∙ drawn-reader))
+                  (subst (Holds P _) (sym (ap (λ r. drawStore (s W H l d p e) r x) z ∙ drawn-store y (o .to-draw) k))
+                  (holds W H l (suc d) _ false P y (λ more. enter-holds W H l P d more y is))),
+              λ c i. ap (λ r. drawArea (s W H l d p e) r x (a .numbers) c) z ∙ ap (λ f. f c) (drawn-area y (o .to-draw) k)
+                  ∙ row-out W H l d p e (o .due) (o .broad) P y is (a .numbers) c i,
             )
 
-        on : (m : ℕ) (t : Reader) → drawReply (s W H l d lev b e) p ≡ gives (aRow m t) → (g : Grid) → Words g (s W H l d lev b e) →
-            Holds g (s W H l d lev b e) x → Holds g t (drawStore (s W H l d lev b e) p x) × ((c : ℕ) → c < W →
-            drawArea (s W H l d lev b e) p x (a .numbers) c ≡ g d c)
-        on m t r g words h =
-            let k = heights-only (s W H l d lev b e) p m t r in
+        on : (m : ℕ) (t : Reader) → drawReply (s W H l d p e) o₀ ≡ gives (aRow m t) → (P : Rows) →
+            Holds P (s W H l d p e) x → Holds P t (drawStore (s W H l d p e) o₀ x)
+            × ((c : ℕ) → c < W .length → drawArea (s W H l d p e) o₀ x (a .numbers) c ≡ partAt W H P (suc l) 0 d c)
+        on m t r P h =
+            let k = heights-only (s W H l d p e) o₀ m t r in
             let o = drawing (λ z _. subst T (sym (ap (λ j. eqb j 0) (k .0)) ∙ z) tt) (λ z. omega (arith, k .0)) (λ z. omega (arith, k .0)) (λ z _. k .2 z) in
-            tried o (k .0) t (k .1) g words h (settles (s W H l d lev b e) x) refl
+            tried o (k .0) t (k .1) P h (settles (s W H l d p e) x) refl
 
-        not-fit : (o : Drawing) → p ≡ 14 → (g : Grid) (words : Words g (s W H l d lev b e)) → Holds g (s W H l d lev b e) x → AllFit g (s W H l d lev b e) →
-            (u : Tried) → settles (s W H l d lev b e) x ≡ u → ⊥
-        not-fit o z g words h all failed k = outcome-failed (outcome-of o g words h failed k) (λ j r c i. all j r c (omega arith))
-        not-fit o z g words h all (passed y) k = omega (arith, same-test (passed y) 14 z (o .asks) k, ask-passed y)
+        not-fit : (o : Drawing) → o₀ ≡ 14 → (P : Rows) → Holds P (s W H l d p e) x → AllFit P (s W H l d p e) →
+            (u : Tried) → settles (s W H l d p e) x ≡ u → ⊥
+        not-fit o z P h all failed k = outcome-failed (outcome-of o P h failed k) (all-fits W H l d p e P all)
+        not-fit o z P h all (passed y) k = omega (arith, same-test (passed y) 14 z (o .asks) k, ask-passed y)
 
-        stopped : (t : Reader) → drawReply (s W H l d lev b e) p ≡ impossible t → (g : Grid) → Words g (s W H l d lev b e) → Holds g (s W H l d lev b e) x →
-            AllFit g (s W H l d lev b e) → ⊥
-        stopped t r g words h all =
-            let z = drawn-fourteen (s W H l d lev b e) p t r in
+        stopped : (t : Reader) → drawReply (s W H l d p e) o₀ ≡ impossible t → (P : Rows) → Holds P (s W H l d p e) x →
+            AllFit P (s W H l d p e) → ⊥
+        stopped t r P h all =
+            let z = drawn-fourteen (s W H l d p e) o₀ t r in
             let o = drawing (λ _ y. subst T (sym (ap (λ j. eqb j 14) z) ∙ y) tt) (λ y. omega (arith, z)) (λ y. omega (arith, z)) (λ _ y. omega (arith, z, y)) in
-            not-fit o z g words h all (settles (s W H l d lev b e) x) refl
+            not-fit o z P h all (settles (s W H l d p e) x) refl
 
 -- ---- every state: one of no levels passes no question 1
-no-levels : (W H d lev b : ℕ) (e : Bool) → countsFit (record { width = W; height = H; levels = 0; drawn = d; level = lev; band = b; ended = e }) ≡ true → ⊥
+abbrev at-levels : ℕ → Reader → Reader
+at-levels L s = record {
+  width = s .width;
+  height = s .height;
+  levels = L;
+  x = s .x;
+  y = s .y;
+  drawn = s .drawn;
+  level = s .level;
+  alone = s .alone;
+  band = s .band;
+  ended = s .ended;
+}
+
+no-levels : (s : Reader) → countsFit (at-levels 0 s) ≡ true → ⊥
 unfolding countsFit within
-no-levels W H d lev b e h =
-    let a = both (within 1 maxWidth W) _ h in
-    let c = both (within 1 maxHeight H) _ (a .1) in
+no-levels s h =
+    let a = both (within 1 maxWidth (s .width)) _ h in
+    let c = both (within 1 maxHeight (s .height)) _ (a .1) in
     subst T (sym (c .1)) tt
 
 pub feed-counts : (s : Reader) (n m : ℕ) (x v : ℕ → ℤ) → (feedQuestion s n x m v ≡ 1 → ⊥) → (feedQuestion s n x m v ≡ 5 → ⊥) → countsFit s ≡ true
 unfolding feedQuestion
-feed-counts s n m x v f g = two-yes (countsFit s) (storeFits (s .width) (s .levels) n) _ (feedQuestion s n x m v) refl f g .0
+feed-counts s n m x v f g = two-yes (countsFit s) (storeFits (columns s) (s .levels) n) _ (feedQuestion s n x m v) refl f g .0
 
 pub draw-counts : (s : Reader) (n m : ℕ) (x : ℕ → ℤ) → (drawQuestion s n x m ≡ 1 → ⊥) → (drawQuestion s n x m ≡ 5 → ⊥) → countsFit s ≡ true
 unfolding drawQuestion
-draw-counts s n m x f g = two-yes (countsFit s) (storeFits (s .width) (s .levels) n) _ (drawQuestion s n x m) refl f g .0
+draw-counts s n m x f g = two-yes (countsFit s) (storeFits (columns s) (s .levels) n) _ (drawQuestion s n x m) refl f g .0
 
 -- nothing is needed of the store of a fresh reader
-fresh-holds : (W H L : ℕ) (g : Grid) (y : ℕ → ℤ) → Holds g (fresh W H L) y
+fresh-holds : (W H : Side) (L : ℕ) (P : Rows) (y : ℕ → ℤ) → Holds P (fresh W H L) y
 unfolding fresh
-fresh-holds W H L g y = record {
-  below = λ _ k p q. absurd (omega arith);
-  before = λ _ k p q. record {
-    even = λ i e. absurd (omega (arith, rowAt-first H (suc k)));
-    high = λ i e. absurd (omega (arith, rowAt-first H (suc k)));
-  };
-  got = λ _ k p q c kept less. absurd (omega arith);
+fresh-holds W H zero P y = record {
+  below = λ _ _ k i q. absurd (omega (arith, i .inside));
+  before = λ _ k i q. absurd (omega (arith, i .inside));
+  here = λ _ k i q. absurd (omega (arith, i .inside));
+  got = λ _ k i q c kept less. absurd (omega (arith, i .inside));
 }
+fresh-holds W H (suc l) P y = holds W H l 0 (enter W H (suc l) 0) false P y (λ _. first-holds W H l P y)
 
-ready-only : (W H L q : ℕ) (s : Reader) → setUpReply W H L q ≡ gives s → s ≡ fresh W H L
+ready-only : (W H : Side) (L q : ℕ) (s : Reader) → setUpReply W H L q ≡ gives s → s ≡ fresh W H L
 unfolding setUpReply
 ready-only W H L q s = go (eqb q 0)
   where
@@ -349,47 +380,51 @@ ready-only W H L q s = go (eqb q 0)
     go false e = absurd (let o : _≡_ {A = ℕ} 0 1 = cc in omega arith)
 
 -- ---- the theorems
-pub set-up-holds : (W H L n : ℕ) (x : ℕ → ℤ) → SetUpHolds (setUpReply W H L (setUpQuestion W H L n)) (setUpStore W L (setUpQuestion W H L n) x)
+pub set-up-holds : (W H : Side) (L n : ℕ) (x : ℕ → ℤ) →
+    SetUpHolds (setUpReply W H L (setUpQuestion W H L n)) (setUpStore W L (setUpQuestion W H L n) x)
 set-up-holds W H L n x = record {
-  ready = λ s r g. subst (λ t. Holds g t (setUpStore W L (setUpQuestion W H L n) x)) (sym (ready-only W H L _ s r))
-      (fresh-holds W H L g _);
+  ready = λ s r P. subst (λ t. Holds P t (setUpStore W L (setUpQuestion W H L n) x)) (sym (ready-only W H L _ s r))
+      (fresh-holds W H L P _);
 }
 
 -- a feed of m numbers v on a store of n numbers
 pub feed-keeps : (s : Reader) (n m : ℕ) (x v : ℕ → ℤ) → FeedKeeps s v x (feedReply s (feedQuestion s n x m v)) (feedStore s (feedQuestion s n x m v) v x)
-feed-keeps s n m x v = at (s .width) (s .height) (s .levels) (s .drawn) (s .level) (s .band) (s .ended)
+feed-keeps s n m x v = at (s .levels)
   where
-    at : (W H L d lev b : ℕ) (e : Bool) → (let u : Reader = record { width = W; height = H; levels = L; drawn = d; level = lev; band = b; ended = e } in
-        FeedKeeps u v x (feedReply u (feedQuestion u n x m v)) (feedStore u (feedQuestion u n x m v) v x))
-    at W H (suc l) d lev b e = feed-at W H l d lev b e n x (record { size = m; numbers = v })
-    at W H zero d lev b e =
-        let u : Reader = record { width = W; height = H; levels = 0; drawn = d; level = lev; band = b; ended = e } in
+    at : (L : ℕ) → (let u = at-levels L s in FeedKeeps u v x (feedReply u (feedQuestion u n x m v)) (feedStore u (feedQuestion u n x m v) v x))
+    at (suc l) =
+        feed-at (side (s .x) (s .width)) (side (s .y) (s .height)) l (s .drawn) (place (s .level) (s .alone) (s .band)) (s .ended) n x
+        (record { size = m; numbers = v })
+    at zero =
+        let u = at-levels 0 s in
         record {
           passed = λ t r. let z = feed-passed u (feedQuestion u n x m v) t r .0 in
-              absurd (no-levels W H d lev b e (feed-counts u n m x v (λ y. omega (arith, y, z)) (λ y. omega (arith, y, z))));
+              absurd (no-levels s (feed-counts u n m x v (λ y. omega (arith, y, z)) (λ y. omega (arith, y, z))));
           ended = λ t r. let z = feed-fourteen u (feedQuestion u n x m v) t r in
-              absurd (no-levels W H d lev b e (feed-counts u n m x v (λ y. omega (arith, y, z)) (λ y. omega (arith, y, z))));
+              absurd (no-levels s (feed-counts u n m x v (λ y. omega (arith, y, z)) (λ y. omega (arith, y, z))));
         }
 
 -- a draw into the area z of m heights
 pub draw-keeps : (s : Reader) (n m : ℕ) (x z : ℕ → ℤ) →
     DrawKeeps s x (drawReply s (drawQuestion s n x m)) (drawStore s (drawQuestion s n x m) x) (drawArea s (drawQuestion s n x m) x z)
-draw-keeps s n m x z = at (s .width) (s .height) (s .levels) (s .drawn) (s .level) (s .band) (s .ended)
+draw-keeps s n m x z = at (s .levels)
   where
-    at : (W H L d lev b : ℕ) (e : Bool) → (let u : Reader = record { width = W; height = H; levels = L; drawn = d; level = lev; band = b; ended = e } in
+    at : (L : ℕ) → (let u = at-levels L s in
         DrawKeeps u x (drawReply u (drawQuestion u n x m)) (drawStore u (drawQuestion u n x m) x) (drawArea u (drawQuestion u n x m) x z))
-    at W H (suc l) d lev b e = draw-at W H l d lev b e n x (record { size = m; numbers = z })
-    at W H zero d lev b e =
-        let u : Reader = record { width = W; height = H; levels = 0; drawn = d; level = lev; band = b; ended = e } in
+    at (suc l) =
+        draw-at (side (s .x) (s .width)) (side (s .y) (s .height)) l (s .drawn) (place (s .level) (s .alone) (s .band)) (s .ended) n x
+        (record { size = m; numbers = z })
+    at zero =
+        let u = at-levels 0 s in
         record {
           passed = λ k t r. let q = heights-only u (drawQuestion u n x m) k t r .0 in
-              absurd (no-levels W H d lev b e (draw-counts u n m x (λ y. omega (arith, y, q)) (λ y. omega (arith, y, q))));
+              absurd (no-levels s (draw-counts u n m x (λ y. omega (arith, y, q)) (λ y. omega (arith, y, q))));
           ended = λ t r. let q = drawn-fourteen u (drawQuestion u n x m) t r in
-              absurd (no-levels W H d lev b e (draw-counts u n m x (λ y. omega (arith, y, q)) (λ y. omega (arith, y, q))));
+              absurd (no-levels s (draw-counts u n m x (λ y. omega (arith, y, q)) (λ y. omega (arith, y, q))));
         }
 
 -- ---- the clauses of a call's contract, and then that it keeps what the store holds
-pub set-up-also : (W H L n : ℕ) (x : ℕ → ℤ) {r : Reply Reader} {x′ : ℕ → ℤ} →
+pub set-up-also : (W H : Side) (L n : ℕ) (x : ℕ → ℤ) {r : Reply Reader} {x′ : ℕ → ℤ} →
     (r ≡ setUpReply W H L (setUpQuestion W H L n)) × (x′ ≡ setUpStore W L (setUpQuestion W H L n) x) →
     (r ≡ setUpReply W H L (setUpQuestion W H L n)) × ((x′ ≡ setUpStore W L (setUpQuestion W H L n) x) × SetUpHolds r x′)
 set-up-also W H L n x t = (t .0, (t .1, rw (t .0, t .1) (set-up-holds W H L n x)))

@@ -1,31 +1,31 @@
--- What the sets that wait, a feed and a draw come to, for a grid that the store holds. Assumes nothing.
-use mathlib.Core.Bool.{Bool}
-use mathlib.Core.Path.{_≡_, sym, ap, subst, _∙_}
+-- What the sets that wait, a feed and a draw come to, for rows that the store holds. Assumes nothing.
+use mathlib.Core.Bool.{Bool, true, false}
+use mathlib.Core.Path.{_≡_, refl, sym, ap, subst, _∙_}
 use Prim.Native.Nat.{ℕ, suc, _-_, _≤_, _<_}
 use native.Mathlib.Omega.{arith}
 use lib.IntN.{ℤ}
-use mir.Syntax.{w32}
-use mir.Val.{SFits}
-use borrow.Author.Tests.{lt-ltb}
-use Rattle.numbers.specs.Word.{wrap32}
-use Rattle.lifting.specs.Line.{count}
+use lib.Dec.{eqb}
+use borrow.Author.Tests.{lt-ltb, eqb-true}
+use Rattle.lifting.specs.Grid.{Side, count}
 use Rattle.lifting.specs.Halves.{fronted}
 use Rattle.wavelet.specs.Limits.{maxSample}
-use Rattle.wavelet.specs.Bands.{Grid, Band, code, across}
-use Rattle.wavelet.specs.Levels.{size, levelBand}
-use Rattle.wavelet.specs.View.{bandColumns}
-use Rattle.wavelet.proofs.LevelTheory.{OnCells}
+use Rattle.wavelet.specs.Bands.{Band, LL, HL, LH, HH, code, across}
+use Rattle.wavelet.specs.Order.{rowName, setRow}
 use Rattle.wavelet.proofs.MapTheorems.{height-fits}
+use Rattle.wavelet.specs.Levels.{sideAt}
+use Rattle.wavelet.specs.View.{bandColumns}
 use Rattle.areas.specs.Areas.{height16}
 use Rattle.areas.proofs.HeightLaws.{height-kept}
-use Rattle.reader.specs.Sets.{rowAt}
+use Rattle.reader.specs.Asked.{keptAt}
+use Rattle.reader.specs.Rebuilt.{Rows, bandsBy, rebuilt, bandsAt, partAt}
 use Rattle.level.specs.Tried.{failed, passed, bind}
-use Rattle.reader.specs.Machine.{Place, place, nextAt, settled, fedOn, beyond}
+use Rattle.reader.specs.Machine.{Place, nowAt, settled, fedOn, beyond}
 use Rattle.reader.specs.State.{next, settles, feeds}
 use Rattle.reader.specs.Calls.{heightRow}
 use Rattle.level.proofs.SetMade.{Outcome, stops, goes, bind-outcome}
-use Rattle.reader.proofs.Holds.{Fits, Held, settle-holds, fed-holds, height-made, height-fit}
-use Rattle.reader.proofs.CallViews.{here}
+use Rattle.reader.proofs.CellLaws.{has-cells, asked-has}
+use Rattle.reader.proofs.Holds.{Live, Fits, Held, HeldAt, HeldNext, settle-holds, fed-holds, height-made, height-fit}
+use Rattle.reader.proofs.CallViews.{here, nextOf, nameOf, Due}
 
 pub outcome-failed : {N : Type 0} {P : (ℕ → ℤ) → Type 0} → Outcome N P failed → N → ⊥
 outcome-failed (stops n) = n
@@ -34,32 +34,51 @@ pub outcome-passed : {N : Type 0} {P : (ℕ → ℤ) → Type 0} (y : ℕ → �
 outcome-passed _ (goes _ p) = p
 
 -- the height row that is drawn
-pub row-out : (W H l d : ℕ) → d < H → (g : Grid) (words : OnCells (SFits w32) W H g) (y : ℕ → ℤ) → Held W H l g words d 0 4 y → (z : ℕ → ℤ) (c : ℕ) → c < W →
-    fronted W (heightRow W d y) z c ≡ g d c
+pub row-out : (W H : Side) (l d : ℕ) (p : Place) (e : Bool) → d < H .length → 0 < W .length → (P : Rows) (y : ℕ → ℤ) → Held W H l P d 0 false 4 y →
+    (z : ℕ → ℤ) (c : ℕ) → c < W .length → fronted (W .length) (heightRow (here W H l d p e) y) z c ≡ partAt W H P (suc l) 0 d c
 unfolding fronted heightRow maxSample
-row-out W H l d due g words y h z c p =
-    let fit = height-fits (g d c) .0 (height-fit W H l g words d y due h c p) in
-    rw (lt-ltb c W p) (ap height16 (height-made W H l g words d y due h c p) ∙ height-kept (g d c) (fit .0) (fit .1))
+row-out W H l d p e due wide P y h z c b =
+    let g = partAt W H P (suc l) 0 in
+    let fit = height-fits (g d c) .0 (height-fit W H l P d y due wide h c b) in
+    rw (lt-ltb c (W .length) b) (ap height16 (height-made W H l P d y due wide h c b) ∙ height-kept (g d c) (fit .0) (fit .1))
 
-module _ (W H l d lev b : ℕ) (due : d < H) (level-le : lev ≤ suc l) (g : Grid) (words : OnCells (SFits w32) W H g) (x : ℕ → ℤ)
-    (held : Held W H l g words d lev b x) where
-  pub settles-outcome : (e : Bool) (p : Place) → nextAt W H (suc l) d lev b ≡ p →
-      Outcome (Fits W H l g words) (Held W H l g words d (p .level) (p .band)) (settles (here W H l d lev b e) x)
+-- a row that is kept stands among the bands by its name
+pub kept-last : (k l : ℕ) (c : Band) → keptAt (eqb (suc k) (suc l)) c ≡ true → c ≡ LL → k ≡ l
+unfolding keptAt
+kept-last k l c h z = let q : keptAt (eqb (suc k) (suc l)) LL ≡ true = subst (λ v. keptAt (eqb (suc k) (suc l)) v ≡ true) z h in
+    let p = eqb-true (suc k) (suc l) q in omega arith
+
+pub band-named : (W H : Side) (l : ℕ) (P : Rows) (k : ℕ) (c : Band) (r : ℕ) → keptAt (eqb (suc k) (suc l)) c ≡ true →
+    bandsAt W H P (suc l) k c r ≡ P (rowName (suc k) c r)
+unfolding bandsBy
+band-named W H l P k LL r h =
+    let e = kept-last k l LL h refl in
+    let z : suc l - suc k ≡ 0 = omega arith in
+    rw z (unfold rebuilt in refl)
+band-named W H l P k HL r h = refl
+band-named W H l P k LH r h = refl
+band-named W H l P k HH r h = refl
+
+module _ (W H : Side) (l d : ℕ) (p : Place) (due : d < H .length) (level-le : p .level ≤ suc l) (P : Rows) (x : ℕ → ℤ) (held : HeldAt W H l P d p x) where
+  pub settles-outcome : (e : Bool) (q : Place) → nextOf W H l d p ≡ q → Outcome (Fits W H l P) (HeldNext W H l P d q) (settles (here W H l d p e) x)
   unfolding settles next
-  settles-outcome e p q =
-      subst (λ u. Outcome (Fits W H l g words) (Held W H l g words d (u .level) (u .band)) (settled W H (suc l) d (nextAt W H (suc l) d lev b .level) lev x)) q
-      (settle-holds W H l g words d lev b x due level-le held)
+  settles-outcome e q z =
+      subst (λ u. Outcome (Fits W H l P) (HeldNext W H l P d u) (settled W H (suc l) d (nextOf W H l d p .level) (p .level) x)) z
+      (settle-holds W H l P d (p .level) (p .alone) (p .band) x due level-le held)
 
-  pub feeds-outcome : (e : Bool) (k : ℕ) (c : Band) → k < lev → nextAt W H (suc l) d lev b ≡ place (suc k) (code c) → (v : ℕ → ℤ) →
-      ((i : ℕ) → i < bandColumns W (suc k) c → v i ≡ levelBand wrap32 W H g (suc k) c (rowAt H d (suc k)) i) →
-      Outcome (Fits W H l g words) (Held W H l g words d (beyond W H (suc l) d k (code c) .level) (beyond W H (suc l) d k (code c) .band))
-      (feeds (here W H l d lev b e) v x)
-  unfolding feeds settles next levelBand bandColumns
-  feeds-outcome e k c below q v row =
+  pub feeds-outcome : (e : Bool) (k : ℕ) (a : Bool) (c : Band) → Due W H l d p k a c → (v : ℕ → ℤ) →
+      ((i : ℕ) → i < bandColumns W (suc k) c → v i ≡ P (nameOf W H l d k a c) i) →
+      Outcome (Fits W H l P) (HeldAt W H l P d (beyond W H (suc l) d k a (code c))) (feeds (here W H l d p e) v x)
+  unfolding feeds settles next bandColumns
+  feeds-outcome e k a c o v row =
       let z : suc k - 1 ≡ k = omega arith in
-      let row′ : (i : ℕ) → i < count (across c) (size k W) → v i ≡ levelBand wrap32 W H g (suc k) c (rowAt H d (suc k)) i = rw z at row in
-      let set = subst (λ p. Outcome (Fits W H l g words) (Held W H l g words d (p .level) (p .band)) (settled W H (suc l) d (p .level) lev x)) q
-      (settle-holds W H l g words d lev b x due level-le held) in
-      subst (λ p. Outcome (Fits W H l g words) (Held W H l g words d (beyond W H (suc l) d k (code c) .level) (beyond W H (suc l) d k (code c) .band))
-      (bind (settled W H (suc l) d (p .level) lev x) (fedOn W H (suc l) d (p .level) (p .band) v))) (sym q)
-      (bind-outcome (settled W H (suc l) d (suc k) lev x) _ set (λ y h. fed-holds W H l g words d k c v y due (omega arith) row′ h))
+      let ask = asked-has (eqb (suc k) (suc l)) (sideAt k W) (sideAt k H) (nowAt W H (suc l) d k a) c (o .asks) in
+      let live : Live W H l P k = (omega (arith, o .below), has-cells (sideAt k W) (sideAt k H) c (nowAt W H (suc l) d k a) (ask .1)) in
+      let row′ : (i : ℕ) → i < count (across c) (sideAt k W) → v i ≡ P (nameOf W H l d k a c) i = rw z at row in
+      let named = band-named W H l P k c (setRow (sideAt k H) c (nowAt W H (suc l) d k a)) (ask .0) in
+      let set = subst (λ q. Outcome (Fits W H l P) (HeldNext W H l P d q) (settled W H (suc l) d (q .level) (p .level) x)) (o .is)
+      (settle-holds W H l P d (p .level) (p .alone) (p .band) x due level-le held) in
+      subst (λ q. Outcome (Fits W H l P) (HeldAt W H l P d (beyond W H (suc l) d k a (code c)))
+      (bind (settled W H (suc l) d (q .level) (p .level) x) (fedOn W H (suc l) d (q .level) (q .alone) (q .band) v))) (sym (o .is))
+      (bind-outcome (settled W H (suc l) d (suc k) (p .level) x) _ set
+      (λ y h. fed-holds W H l P d k a c v y due live (o .two) (λ i b. row′ i b ∙ ap (λ (f : ℕ → ℤ). f i) (sym named)) h))

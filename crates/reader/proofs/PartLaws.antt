@@ -1,7 +1,7 @@
 -- A level's stretch of the store, lent and come back: as signals, from place a on. Assumes nothing.
-use mathlib.Core.Path.{_≡_, refl, sym, ap, _∙_, fun-ext}
+use mathlib.Core.Path.{_≡_, refl, sym, ap, ap₂, _∙_, fun-ext}
 use mathlib.Core.List.{List}
-use mathlib.Core.Bool.{Bool, true, false}
+use mathlib.Core.Bool.{Bool, true, false, _||_}
 use Prim.Native.Nat.{ℕ, suc, _+_, _-_, _*_, _≤_, _<_, _^_}
 use native.Mathlib.Decide.{decLt, ℕ-discrete}
 use native.Mathlib.Omega.{arith}
@@ -13,25 +13,28 @@ use borrow.Author.Tests.{lt-ltb, le-ltb, eq-eqb, ne-eqb}
 use borrow.Rule.Slice.PartMut.{midOf, putMid}
 use Rattle.numbers.specs.Signal.{at, pick, spliced}
 use Rattle.numbers.proofs.Parts.{window-in, window-past, splice-below, splice-in, splice-past, at-mid, at-put}
-use Rattle.lifting.specs.Line.{lo, count}
+use Rattle.lifting.specs.Line.{lo}
+use Rattle.lifting.specs.Grid.{Side, side, count}
 use Rattle.lifting.specs.Halves.{fronted}
 use Rattle.wavelet.specs.Bands.{across, down}
-use Rattle.wavelet.specs.Levels.{size}
+use Rattle.wavelet.specs.Levels.{sideAt}
+use Rattle.wavelet.specs.Order.{lastSet}
 use Rattle.wavelet.specs.Store.{storeLength}
-use Rattle.wavelet.proofs.SizeLaws.{size-suc, size-le, count-le}
-use Rattle.reader.specs.declared.walk.Level.{Level}
-use Rattle.reader.specs.Sets.{rowAt}
-use Rattle.reader.specs.Asked.{named}
-use Rattle.level.specs.Tried.{outcome, onto}
-use Rattle.level.specs.Slots.{rowPlace, setRow, halfPlace, bandFed}
-use Rattle.level.specs.Work.{admitted, setWorked}
-use Rattle.reader.specs.Store.{stretchAt, from, behind, fedAt, workedAt}
-use Rattle.reader.specs.Inside.{IsLevel}
+use Rattle.wavelet.proofs.SideLaws.{length-suc, size-le}
 use Rattle.areas.proofs.AreaLaws.{front-at}
-use Rattle.reader.proofs.StoreLaws.{stretch-suc, stretch-in, stretch-is, stretch-small}
-use Rattle.reader.proofs.SetLaws.{row-in}
+use Rattle.level.specs.Tried.{Tried, passed, outcome, onto}
+use Rattle.level.specs.Slots.{rowPlace, rowOfSet, halfPlace, bandFed}
+use Rattle.level.specs.Work.{admitted, setWorked}
 use Rattle.level.proofs.SlotLaws.{slot-room, place-is}
 use Rattle.level.proofs.RowsIn.{half-end}
+use Rattle.reader.specs.declared.walk.Level.{Level}
+use Rattle.reader.specs.Asked.{named}
+use Rattle.reader.specs.Store.{stretchAt, from, behind, fedAt, workedAt}
+use Rattle.reader.specs.Inside.{IsLevel}
+use Rattle.reader.proofs.OpenedSets.{last-is}
+use Rattle.reader.proofs.SetLaws.{none-of}
+use Rattle.reader.proofs.StoreLaws.{stretch-suc, stretch-in, stretch-is, stretch-small}
+use Rattle.reader.proofs.CellLaws.{Empty, empty-not, cells-yes}
 
 module _ (a : ℕ) (x y : ℕ → ℤ) (j : ℕ) where
   pub behind-below : j < a → behind a x y j ≡ x j
@@ -98,16 +101,23 @@ behind-splice a p n v x = fun-ext λ j. elim (decLt j a) [
           ]
         ]
 
+-- ---- the sides of a level
+pub level-wide : (W H : Side) (k : ℕ) (l : Level) → IsLevel W H k l → side (l .x) (l .width) ≡ sideAt k W
+level-wide W H k l is = ap₂ side (is .x) (is .width)
+
+pub level-high : (W H : Side) (k : ℕ) (l : Level) → IsLevel W H k l → side (l .y) (l .height) ≡ sideAt k H
+level-high W H k l is = ap₂ side (is .y) (is .height)
+
 -- ---- a band row put
-pub put-is : (W H d k c : ℕ) (l : Level) (a p m : ℕ) (v : List ℤ) (s ys : List ℤ) → IsLevel W H d k l →
-    p ≡ rowPlace (l .width) (setRow (down (named c)) (l .set)) + halfPlace (across (named c)) (l .width) → a ≡ l .start + p → m ≡ length v →
-    length v ≡ count (across (named c)) (size k W) → a + m ≤ length s → length ys ≡ m → at ys ≡ fronted (length v) (at v) (at (midOf a m s)) →
-    at (putMid a m s ys) ≡ fedAt W H d k c (at v) (at s)
+pub put-is : (W H : Side) (k c : ℕ) (l : Level) (a p m : ℕ) (v : List ℤ) (s ys : List ℤ) → IsLevel W H k l →
+    p ≡ rowPlace (l .width) (rowOfSet (down (named c)) (l .set)) + halfPlace (across (named c)) (side (l .x) (l .width)) → a ≡ l .start + p → m ≡ length v →
+    length v ≡ count (across (named c)) (sideAt k W) → a + m ≤ length s → length ys ≡ m → at ys ≡ fronted (length v) (at v) (at (midOf a m s)) →
+    at (putMid a m s ys) ≡ fedAt W H k (l .set) c (at v) (at s)
 unfolding fedAt bandFed
-put-is W H d k c l a p m v s ys is ep ea em en room long made =
-    let n = count (across (named c)) (size k W) in
-    let q = rowPlace (size k W) (setRow (down (named c)) (rowAt H d (suc k))) + halfPlace (across (named c)) (size k W) in
-    let place : a ≡ stretchAt W k + q = cc (ea, ep, is .start, is .width, is .set) in
+put-is W H k c l a p m v s ys is ep ea em en room long made =
+    let n = count (across (named c)) (sideAt k W) in
+    let q = rowPlace (sideAt k W .length) (rowOfSet (down (named c)) (l .set)) + halfPlace (across (named c)) (sideAt k W) in
+    let place : a ≡ stretchAt W k + q = cc (ea, ep, is .start, is .width, level-wide W H k l is) in
     let size : m ≡ n = em ∙ en in
     let z = at (midOf a m s) in
     let step : at ys ≡ fronted n (at v) z = cc (made, en) in
@@ -124,45 +134,59 @@ unfolding onto
 onto-outcome f true y = refl
 onto-outcome f false y = refl
 
-pub work-is : (W H L d k : ℕ) (l : Level) (a n : ℕ) (s ys : List ℤ) (ok : Bool) → IsLevel W H d k l → a ≡ l .start → a + n ≡ length s → length ys ≡ n →
-    outcome ok (at ys) ≡ setWorked admitted (eqb (k + 1) L) k (l .width) (l .height) (l .set) (at (midOf a n s)) →
-    outcome ok (at (putMid a n s ys)) ≡ workedAt W H L d k (at s)
+-- an empty level
+pub work-empty : (W H : Side) (L k : ℕ) (l : Level) (x : ℕ → ℤ) → IsLevel W H k l → Empty (sideAt k W) (sideAt k H) → passed x ≡ workedAt W H L k (l .set) x
 unfolding workedAt
-work-is W H L d k l a n s ys ok is ea whole long made =
+work-empty W H L k l x is e = rw (empty-not (sideAt k W) (sideAt k H) e) refl
+
+pub work-is : (W H : Side) (L k : ℕ) (l : Level) (a n : ℕ) (s ys : List ℤ) (ok : Bool) → IsLevel W H k l → 0 < l .width → 0 < l .height → a ≡ l .start →
+    a + n ≡ length s → length ys ≡ n →
+    outcome ok (at ys) ≡ setWorked admitted (eqb (k + 1) L) k (side (l .x) (l .width)) (side (l .y) (l .height)) (l .set) (at (midOf a n s)) →
+    outcome ok (at (putMid a n s ys)) ≡ workedAt W H L k (l .set) (at s)
+unfolding workedAt
+work-is W H L k l a n s ys ok is wide high ea whole long made =
     let place : a ≡ stretchAt W k = ea ∙ is .start in
+    let cells = cells-yes (sideAt k W) (sideAt k H) (omega (arith, is .width)) (omega (arith, is .height)) in
+    let worked : Tried = onto (behind (stretchAt W k) (at s)) (setWorked admitted (eqb (suc k) L) k (sideAt k W) (sideAt k H) (l .set)
+    (from (stretchAt W k) (at s))) in
     ap (outcome ok) (at-put-rest a n s whole ys long)
     ∙ onto-outcome (behind a (at s)) ok (at ys)
-    ∙ ap (onto (behind a (at s))) (made ∙ cc (is .width, is .height, is .set, add-one k, at-rest a n s whole))
-    ∙ ap (λ (i : ℕ). onto (behind i (at s)) (setWorked admitted (eqb (suc k) L) k (size k W) (size k H) (rowAt H d (suc k)) (from i (at s)))) place
+    ∙ ap (onto (behind a (at s))) (made ∙ cc (level-wide W H k l is, level-high W H k l is, add-one k, at-rest a n s whole))
+    ∙ ap (λ (i : ℕ). onto (behind i (at s)) (setWorked admitted (eqb (suc k) L) k (sideAt k W) (sideAt k H) (l .set) (from i (at s)))) place
+    ∙ sym (ap (λ (t : Bool). pick t worked (passed (at s))) cells)
 
 -- the stretch, and below the last level the next one's, lie within the store
-pub stretch-room : (W k L : ℕ) → k < L → stretchAt W k + (4 * size k W + 4 * pick (eqb (k + 1) L) 0 (count lo (size k W))) ≤ stretchAt W L
+pub stretch-room : (W : Side) (k L : ℕ) → k < L → stretchAt W k + (4 * sideAt k W .length + 4 * pick (eqb (k + 1) L) 0 (count lo (sideAt k W))) ≤ stretchAt W L
 stretch-room W k L h = elim (ℕ-discrete (k + 1) L) [
   | yes e ↦ rw (eq-eqb (k + 1) L e) (omega (arith, stretch-suc W k, stretch-in W (suc k) L (omega arith)))
-  | no d ↦ rw (ne-eqb (k + 1) L d) (omega (arith, stretch-suc W k, stretch-suc W (suc k), size-suc k W, stretch-in W (suc (suc k)) L (omega arith)))
+  | no d ↦ rw (ne-eqb (k + 1) L d) (omega (arith, stretch-suc W k, stretch-suc W (suc k), length-suc k W, stretch-in W (suc (suc k)) L (omega arith)))
 ]
 
 -- ---- the same of a level
-module _ (W H d k : ℕ) (l : Level) (is : IsLevel W H d k l) where
-  pub level-in : 0 < H → W ≤ 2 ^ 16 → H < 2 ^ 32 → (l .start ≤ 2 ^ 18 * k) × (l .width ≤ 2 ^ 16) × (l .height < 2 ^ 32) × (l .set < count lo (l .height)) ×
-      (l .set < 2 ^ 32)
-  level-in some wide high =
-      let set : l .set < count lo (l .height) = rw (is .set, is .height) (row-in H d k some) in (
-        rw (is .start) (stretch-small W k wide),
-        omega (arith, is .width, size-le k W),
-        omega (arith, is .height, size-le k H),
-        set,
-        omega (arith, set, is .height, size-le k H, count-le lo (l .height)),
-      )
+module _ (W H : Side) (k : ℕ) (l : Level) (is : IsLevel W H k l) where
+  pub level-in : W .length ≤ 2 ^ 16 → H .length < 2 ^ 32 → (l .start ≤ 2 ^ 18 * k) × (l .width ≤ 2 ^ 16) × (l .height < 2 ^ 32) × (l .set < 2 ^ 32)
+  level-in wide high = (
+    rw (is .start) (stretch-small W k wide),
+    omega (arith, is .width, size-le k W),
+    omega (arith, is .height, size-le k H),
+    omega (arith, is .set, last-is (sideAt k H), size-le k H),
+  )
 
-  pub work-room : (L : ℕ) → k < L → l .start + (4 * l .width + 4 * pick (eqb (k + 1) L) 0 (count lo (l .width))) ≤ storeLength W L
-  work-room L h = rw (is .start, is .width, ← stretch-is W L) (stretch-room W k L h)
+  pub work-room : (L : ℕ) → k < L → l .start + (4 * l .width + 4 * pick (eqb (k + 1) L) 0 (count lo (side (l .x) (l .width)))) ≤ storeLength W L
+  work-room L h = rw (is .start, is .width, is .x, ← stretch-is W L) (stretch-room W k L h)
 
-  pub put-room : (c p n : ℕ) → p ≡ rowPlace (l .width) (setRow (down (named c)) (l .set)) + halfPlace (across (named c)) (l .width) →
-      n ≡ count (across (named c)) (size k W) → l .start + p + n ≤ storeLength W (k + 1)
+  pub put-room : (c p n : ℕ) → p ≡ rowPlace (l .width) (rowOfSet (down (named c)) (l .set)) + halfPlace (across (named c)) (side (l .x) (l .width)) →
+      n ≡ count (across (named c)) (sideAt k W) → l .start + p + n ≤ storeLength W (k + 1)
   put-room c p n ep en =
-      let w = l .width in
-      let r = setRow (down (named c)) (l .set) in
-      let half = half-end (across (named c)) w in
-      let columns : n ≡ count (across (named c)) w = rw (is .width) en in
-      rw (← stretch-is W (k + 1), add-one k, stretch-suc W k) (omega (arith, is .start, is .width, place-is w r, slot-room w r))
+      let S = side (l .x) (l .width) in
+      let r = rowOfSet (down (named c)) (l .set) in
+      let half = half-end (across (named c)) S in
+      let columns : n ≡ count (across (named c)) S = en ∙ ap (count (across (named c))) (sym (level-wide W H k l is)) in
+      rw (← stretch-is W (k + 1), add-one k, stretch-suc W k) (omega (arith, is .start, is .width, place-is (l .width) r, slot-room (l .width) r))
+
+-- ---- a level as the code has it: without cells, and at one of its sets
+pub level-none : (W H : Side) (k : ℕ) (l : Level) → IsLevel W H k l → eqb (l .width) 0 || eqb (l .height) 0 ≡ true → Empty (sideAt k W) (sideAt k H)
+level-none W H k l is e = none-of (sideAt k W) (sideAt k H) (rw (is .width, is .height) at e)
+
+pub level-last : (W H : Side) (k : ℕ) (l : Level) → IsLevel W H k l → l .set ≤ lastSet (side (l .y) (l .height))
+level-last W H k l is = rw (level-high W H k l is) (is .set)

@@ -11,17 +11,18 @@ use borrow.Author.Tests.{le-leb, eq-eqb, leb-true, ltb-true}
 use Rattle.numbers.specs.Signal.{pick}
 use Rattle.numbers.specs.Word.{whole}
 use Rattle.wavelet.specs.Bands.{Grid, Band}
+use Rattle.lifting.specs.Grid.{Side}
 use Rattle.wavelet.specs.Levels.{levelBand}
 use Rattle.numbers.proofs.Sweep.{both}
-use Rattle.wavelet.specs.Limits.{range}
+use Rattle.wavelet.specs.Limits.{maxOrigin, range}
 use Rattle.wavelet.specs.View.{bandRows, bandColumns}
+use Rattle.wavelet.specs.ViewCall.{bandRowExists, keptAt}
+use Rattle.wavelet.specs.Steps.{steps, Step, bandRowsOf}
 use Rattle.wavelet.specs.Questions.{within}
-use Rattle.wavelet.specs.ViewCall.{keptAt, bandRowExists}
 use Rattle.wavelet.proofs.Bridge.{map-band-range}
 use Rattle.numbers.proofs.TestLaws.{each-every}
 use Rattle.wavelet.specs.Maps.{IsMap}
 use Rattle.wavelet.specs.Order.{RowName, rowName, sameName, times}
-use Rattle.wavelet.specs.Steps.{Step, steps, bandRowsOf}
 use Rattle.wavelet.specs.Steps as step
 use Rattle.calls.specs.Lists.{Reply, gives, refused, Area, All, all-none, all-more}
 use Rattle.calls.specs.Lists as lists
@@ -34,7 +35,7 @@ use Rattle.reader.specs.Demand3.{final, freshWorld, goesOn, rest, leftBy
 use Rattle.reader.specs.Demand3.{IsRow, HasFed, wantSays, feedTurned, drawSays, OneOf, this, that, Draws, Demand3}
 use Rattle.reader.specs.Demand3 as demand
 use Rattle.reader.specs.Played.{asWanted, answering, played, Sized, HasAll, Back, Stopped, Refusal, seven, fed-fourteen, drawn-fourteen, after, Played}
-use Rattle.reader.proofs.StepsLeft.{named-code}
+use Rattle.reader.proofs.Looks.{named-code}
 use Rattle.reader.proofs.Reached.{namesOf}
 use Rattle.reader.proofs.Rebuilt.{same-name, same-self}
 use Rattle.reader.proofs.Demand3.{left-append, fed-append, done-only, demand-3}
@@ -99,7 +100,7 @@ refusal-after [] fs r = r
 refusal-after (e ∷ es) fs r = after (refusal-after es fs r)
 
 -- ---- a row of a map is in range
-pub exists-parts : (W H L k : ℕ) (b : Band) (r : ℕ) → bandRowExists W H L k b r ≡ true →
+pub exists-parts : (W H : Side) (L k : ℕ) (b : Band) (r : ℕ) → bandRowExists W H L k b r ≡ true →
     (1 ≤ k) × (r < bandRows H k b) × (k ≤ L) × (keptAt L k b ≡ true)
 unfolding bandRowExists within
 exists-parts W H L k b r e =
@@ -109,7 +110,8 @@ exists-parts W H L k b r e =
     let f = both (ltb 0 (bandColumns W k b)) _ (d .1) in
     (leb-true 1 k (c .0), ltb-true r (bandRows H k b) (f .1), leb-true k L (c .1), d .0)
 
-row-in-range : (W H L : ℕ) (g : Grid) → IsMap W H g → (y : RowName) → bandRowExists W H L (y .level) (y .band) (y .row) ≡ true → (i : ℕ) →
+row-in-range : (W H : Side) (L : ℕ) (g : Grid) → IsMap (W .length) (H .length) g → (y : RowName) →
+    bandRowExists W H L (y .level) (y .band) (y .row) ≡ true → (i : ℕ) →
     i < bandColumns W (y .level) (y .band) → natAbs (levelBand whole W H g (y .level) (y .band) (y .row) i) ≤ range (y .level)
 unfolding bandRows bandColumns
 row-in-range W H L g m y e = let p = exists-parts W H L (y .level) (y .band) (y .row) e in at (y .level) (p .0) (p .1)
@@ -121,8 +123,8 @@ row-in-range W H L g m y e = let p = exists-parts W H L (y .level) (y .band) (y 
         let z : suc k - 1 ≡ k = omega arith in
         map-band-range W H g m k (y .band) (y .row) i (rw z at r) (rw z at p)
 
-module _ (W H L n : ℕ) (ok : setUpQuestion W H L n ≡ 0) (rows : RowName → Area) (sized : Sized W H L rows) (outs : ℕ → Area)
-    (room : (i : ℕ) → W ≤ outs i .size) (x : ℕ → ℤ) where
+module _ (W H : Side) (L n : ℕ) (across : W .start ≤ maxOrigin) (down : H .start ≤ maxOrigin) (ok : setUpQuestion W H L n ≡ 0) (rows : RowName → Area)
+    (sized : Sized W H L rows) (outs : ℕ → Area) (room : (i : ℕ) → W .length ≤ outs i .size) (x : ℕ → ℤ) where
   abbrev w₀ : World
   w₀ = freshWorld W H L n x
 
@@ -130,7 +132,7 @@ module _ (W H L n : ℕ) (ok : setUpQuestion W H L n ≡ 0) (rows : RowName → 
   T₀ = steps W H L
 
   claim : (cs : List Call) → Demand3 W H L (events cs w₀) (λ c. event c (final cs w₀))
-  claim cs = demand-3 W H L n ok x cs .claim
+  claim cs = demand-3 W H L n across down ok x cs .claim
 
   -- all went on so far, and each row fed is the one of that name
   record Fair (es : List Event) : Type 0 where
@@ -157,20 +159,21 @@ module _ (W H L n : ℕ) (ok : setUpQuestion W H L n ≡ 0) (rows : RowName → 
       (in-right y (namesOf (fedRows T₀ es)) _ (subst (λ v. In y (bandRowsOf v)) (sym e) first)))
 
   -- a map that has all the rows has those fed
-  has-fed : (es : List Event) → Fair es → (g : Grid) → IsMap W H g → HasAll W H L g rows → All (HasRow W H g) (fedRows T₀ es)
+  has-fed : (es : List Event) → Fair es → (g : Grid) → IsMap (W .length) (H .length) g → HasAll W H L g rows → All (HasRow W H g) (fedRows T₀ es)
   has-fed es fair g m h =
       all-in (fedRows T₀ es) (λ f i. subst (IsRow W H g (f .row)) (sym (in-all f (fedRows T₀ es) i (fair .from-rows)))
       (h .are (f .row) (fed-exists es fair f i)))
 
   -- ---- one turn
   -- no map has all rows where 14 comes
-  none-fourteen : (cs : List Call) (c : Call) → endedBy (events (cs ++ (c ∷ [])) w₀) ≡ true → (g : Grid) → IsMap W H g →
+  none-fourteen : (cs : List Call) (c : Call) → endedBy (events (cs ++ (c ∷ [])) w₀) ≡ true → (g : Grid) → IsMap (W .length) (H .length) g →
       All (HasRow W H g) (fedRows T₀ (events (cs ++ (c ∷ [])) w₀)) → ⊥
   none-fourteen cs c e g m h = claim (cs ++ (c ∷ [])) .impossible e g (record { map = m; rows = h })
 
   data Verdict (cs : List Call) : Type 0 where
     fine : Fair (events cs w₀) → left T₀ (events cs w₀) ≡ [] → Verdict cs
-    bad : Refusal (events cs w₀) → (event want (final cs w₀) ≡ wanted (gives done) → ⊥) → ((g : Grid) → IsMap W H g → HasAll W H L g rows → ⊥) → Verdict cs
+    bad : Refusal (events cs w₀) → (event want (final cs w₀) ≡ wanted (gives done) → ⊥) →
+        ((g : Grid) → IsMap (W .length) (H .length) g → HasAll W H L g rows → ⊥) → Verdict cs
 
   said-done : (cs : List Call) → event want (final cs w₀) ≡ wanted (gives done) → left T₀ (events cs w₀) ≡ []
   said-done cs z =
@@ -193,7 +196,7 @@ module _ (W H L n : ℕ) (ok : setUpQuestion W H L n ≡ 0) (rows : RowName → 
       omega (arith, ap length h, events-length event demand.next ps (demand.next c (final cs w₀)))
 
   -- a row of a map is not refused by 7
-  run-fits : (y : RowName) → bandRowExists W H L (y .level) (y .band) (y .row) ≡ true → (g : Grid) → IsMap W H g → HasAll W H L g rows →
+  run-fits : (y : RowName) → bandRowExists W H L (y .level) (y .band) (y .row) ≡ true → (g : Grid) → IsMap (W .length) (H .length) g → HasAll W H L g rows →
       runFits (y .level) (rows y .size) (rows y .numbers) ≡ true
   unfolding runFits
   run-fits y e g m h =
@@ -242,7 +245,7 @@ module _ (W H L n : ℕ) (ok : setUpQuestion W H L n ≡ 0) (rows : RowName → 
           names-more = ap (λ u. namesOf (fedRows T₀ es) ++ u) (sym (ap bandRowsOf head ∙ unfold bandRowsOf in refl))
 
       -- where 14 comes no map has all rows
-      fed-none : event (feed (rows y)) w ≡ fed (rows y) (refused 14) → (g : Grid) → IsMap W H g → HasAll W H L g rows → ⊥
+      fed-none : event (feed (rows y)) w ≡ fed (rows y) (refused 14) → (g : Grid) → IsMap (W .length) (H .length) g → HasAll W H L g rows → ⊥
       fed-none e g m h =
           none-fourteen cs (feed (rows y)) (ap endedBy on ∙ ever-append ends es _ ∙ rw (fair .live) (unfold lists.ever ends in refl)) g m
           (subst (All (HasRow W H g)) (sym (ap (fedRows T₀) on ∙ rows-are))
@@ -259,7 +262,7 @@ module _ (W H L n : ℕ) (ok : setUpQuestion W H L n ≡ 0) (rows : RowName → 
       drawn-same : (v : Reply Given) → fedRows T₀ (es ++ (drew a v b ∷ [])) ≡ fedRows T₀ es
       drawn-same v = fed-append T₀ es _ ∙ (unfold fedRows fedBy in append-nil (fedRows T₀ es))
 
-      drawn-goes : Fair (es ++ (drew a (gives (heights W)) b ∷ [])) × (left T₀ (es ++ (drew a (gives (heights W)) b ∷ [])) ≡ t)
+      drawn-goes : Fair (es ++ (drew a (gives (heights (W .length))) b ∷ [])) × (left T₀ (es ++ (drew a (gives (heights (W .length))) b ∷ [])) ≡ t)
       drawn-goes = (
         record {
           live = ever-append ends es _ ∙ rw (fair .live) (unfold lists.ever ends in refl);
@@ -269,13 +272,13 @@ module _ (W H L n : ℕ) (ok : setUpQuestion W H L n ≡ 0) (rows : RowName → 
         left-is,
       )
         where
-          left-is : left T₀ (es ++ (drew a (gives (heights W)) b ∷ [])) ≡ t
-          left-is = left-append T₀ es _ ∙ ap (λ u. left u (drew a (gives (heights W)) b ∷ [])) head ∙ unfold left leftBy goesOn in refl
+          left-is : left T₀ (es ++ (drew a (gives (heights (W .length))) b ∷ [])) ≡ t
+          left-is = left-append T₀ es _ ∙ ap (λ u. left u (drew a (gives (heights (W .length))) b ∷ [])) head ∙ unfold left leftBy goesOn in refl
 
           names-same : namesOf (fedRows T₀ es) ++ bandRowsOf t ≡ namesOf (fedRows T₀ es) ++ bandRowsOf (left T₀ es)
           names-same = ap (λ u. namesOf (fedRows T₀ es) ++ u) (sym (ap bandRowsOf head ∙ unfold bandRowsOf in refl))
 
-      drawn-none : event (draw a) w ≡ drew a (refused 14) b → (g : Grid) → IsMap W H g → HasAll W H L g rows → ⊥
+      drawn-none : event (draw a) w ≡ drew a (refused 14) b → (g : Grid) → IsMap (W .length) (H .length) g → HasAll W H L g rows → ⊥
       drawn-none e g m h =
           none-fourteen cs (draw a) (ap endedBy on ∙ ever-append ends es _ ∙ rw (fair .live) (unfold lists.ever ends in refl)) g m
           (subst (All (HasRow W H g)) (sym (ap (fedRows T₀) on ∙ drawn-same _)) (has-fed es fair g m h))
@@ -317,7 +320,7 @@ module _ (W H L n : ℕ) (ok : setUpQuestion W H L n ≡ 0) (rows : RowName → 
         subst Verdict (sym (later-calls m c a)) (ih (cs ++ (c ∷ [])) (ap (λ u. length (left T₀ u)) z ∙ ap length is ∙ len) (subst Fair (sym z) on))
 
     refuses : (m : ℕ) (c : Call) (v : Event) → answering rows (outs m) (event want w) ≡ c ∷ [] → event c w ≡ v → length (left T₀ es) ≡ suc m →
-        goesOn v ≡ false → ((vs : List Event) → Refusal (v ∷ vs)) → ((g : Grid) → IsMap W H g → HasAll W H L g rows → ⊥) →
+        goesOn v ≡ false → ((vs : List Event) → Refusal (v ∷ vs)) → ((g : Grid) → IsMap (W .length) (H .length) g → HasAll W H L g rows → ⊥) →
         Verdict (cs ++ played rows outs (suc m) w)
     refuses m c v a e len off r no-g =
         subst Verdict (ap (λ u. cs ++ u) (sym (played-on m c a)))
@@ -334,14 +337,14 @@ module _ (W H L n : ℕ) (ok : setUpQuestion W H L n ≡ 0) (rows : RowName → 
           Verdict (cs ++ played rows outs (suc m) (final cs w₀))
       at-draw r t head d = says (d .says)
         where
-          gave : drawSays W (endedBy (events cs w₀)) (left T₀ (events cs w₀)) (outs m .size) ≡ gives (heights W)
-          gave = ap₂ (λ u v. drawSays W u v (outs m .size)) (fair .live) head ∙ (unfold drawSays in rw (le-leb W (outs m .size) (room m)) refl)
+          gave : drawSays W (endedBy (events cs w₀)) (left T₀ (events cs w₀)) (outs m .size) ≡ gives (heights (W .length))
+          gave = ap₂ (λ u v. drawSays W u v (outs m .size)) (fair .live) head ∙ (unfold drawSays in rw (le-leb (W .length) (outs m .size) (room m)) refl)
 
           says : OneOf (d .answer) (drawSays W (endedBy (events cs w₀)) (left T₀ (events cs w₀)) (outs m .size)) (refused 14) →
               Verdict (cs ++ played rows outs (suc m) (final cs w₀))
           says (this e) =
               let on = drawn-goes cs fair (outs m) (d .after) r t head in
-              goes cs fair m (draw (outs m)) (drew (outs m) (gives (heights W)) (d .after)) t (wanted-draw cs fair (outs m) r t head) (d .is
+              goes cs fair m (draw (outs m)) (drew (outs m) (gives (heights (W .length))) (d .after)) t (wanted-draw cs fair (outs m) r t head) (d .is
               ∙ ap (λ u. drew (outs m) u (d .after)) (e ∙ gave)) (on .0) (on .1) (omega (arith, ap length head)) ih
           says (that e) =
               let is : event (draw (outs m)) (final cs w₀) ≡ drew (outs m) (refused 14) (d .after) = d .is ∙ ap (λ u. drew (outs m) u (d .after)) e in
@@ -419,26 +422,27 @@ module _ (W H L n : ℕ) (ok : setUpQuestion W H L n ≡ 0) (rows : RowName → 
           subst (λ v. IsRow W H g v (rows v)) (r .2)
           (subst (IsRow W H g (r .0 .row)) (in-all (r .0) fs (r .1) (fair .from-rows)) (in-all (r .0) fs (r .1) (has .rows)))
 
-  handed-back : (g : Grid) → IsMap W H g → HasAll W H L g rows → Verdict all → Back W H g (events all w₀) (λ c. event c (final all w₀))
+  handed-back : (g : Grid) → IsMap (W .length) (H .length) g → HasAll W H L g rows → Verdict all → Back W H g (events all w₀) (λ c. event c (final all w₀))
   handed-back g m h (fine fair over) =
       let z = done-then fair over in
       record { all = claim all .finished .0 z .all; heights = claim all .first g (record { map = m; rows = has-fed (events all w₀) fair g m h }); says = z }
   handed-back g m h (bad _ _ no-g) = absurd (no-g g m h)
 
-  refused-by : ((g : Grid) → IsMap W H g → HasAll W H L g rows → ⊥) → Verdict all → Stopped (events all w₀) (λ c. event c (final all w₀))
+  refused-by : ((g : Grid) → IsMap (W .length) (H .length) g → HasAll W H L g rows → ⊥) → Verdict all → Stopped (events all w₀) (λ c. event c (final all w₀))
   refused-by none-has (bad r d _) = record { refusal = r; not-done = d }
   refused-by none-has (fine fair over) =
       let f = claim all .finished .0 (done-then fair over) in
       absurd (none-has (f .map) (f .has .map) (has-all fair over (f .map) (f .has)))
 
 -- ---- the theorem
-module _ (W H L n : ℕ) (ok : setUpQuestion W H L n ≡ 0) (rows : RowName → Area) (outs : ℕ → Area) (room : (i : ℕ) → W ≤ outs i .size) (x : ℕ → ℤ) where
+module _ (W H : Side) (L n : ℕ) (across : W .start ≤ maxOrigin) (down : H .start ≤ maxOrigin) (ok : setUpQuestion W H L n ≡ 0) (rows : RowName → Area)
+    (outs : ℕ → Area) (room : (i : ℕ) → W .length ≤ outs i .size) (x : ℕ → ℤ) where
   abbrev turnsOf : List Call
   turnsOf = played rows outs (length (steps W H L)) (freshWorld W H L n x)
 
   pub played-holds : Played W H L rows (events turnsOf (freshWorld W H L n x)) (λ c. event c (final turnsOf (freshWorld W H L n x)))
   played-holds = record {
     map-back = λ g m h. let sized : Sized W H L rows = record { size = λ y e. h .are y e .size } in
-        handed-back W H L n ok rows sized outs room x g m h (verdict W H L n ok rows sized outs room x);
-    no-map = λ sized none-has. refused-by W H L n ok rows sized outs room x none-has (verdict W H L n ok rows sized outs room x);
+        handed-back W H L n across down ok rows sized outs room x g m h (verdict W H L n across down ok rows sized outs room x);
+    no-map = λ sized none-has. refused-by W H L n across down ok rows sized outs room x none-has (verdict W H L n across down ok rows sized outs room x);
   }

@@ -8,20 +8,22 @@ use lib.Dec.{leb, ltb, eqb}
 use borrow.Author.Tests.{le-leb, lt-leb, lt-ltb, le-ltb, eq-eqb, ne-eqb, leb-true, ltb-true, eqb-true}
 use Rattle.numbers.specs.Signal.{pick, both}
 use Rattle.numbers.proofs.Sweep.{both as halves}
-use Rattle.wavelet.specs.Limits.{maxWidth, maxHeight, maxLevels}
+use Rattle.lifting.specs.Grid.{Side}
+use Rattle.wavelet.specs.Limits.{maxWidth, maxHeight, maxLevels, maxOrigin}
 use Rattle.wavelet.specs.Questions.{ask, within}
-use Rattle.wavelet.proofs.LimitLaws.{width-small, height-small}
+use Rattle.wavelet.proofs.LimitLaws.{width-small, height-small, origin-small}
 use Rattle.wavelet.proofs.QuestionLaws.{within-true, within-yes}
-use Rattle.reader.proofs.StoreLaws.{length-is, store-most}
-use Rattle.reader.specs.declared.Reader.{Reader}
 use Rattle.wavelet.specs.Store.{storeLength}
-use Rattle.reader.specs.State.{next, nextLength, unfinished, rowDue, drawDue}
+use Rattle.wavelet.proofs.StoreLaws.{store-most}
+use Rattle.reader.proofs.StoreLaws.{length-is}
+use Rattle.reader.specs.declared.Reader.{Reader}
+use Rattle.reader.specs.State.{columns, rows, next, nextLength, unfinished, rowDue, drawDue}
 use Rattle.reader.specs.Questions.{countsFit, storeFits, runFits, setUpQuestion}
-use Rattle.reader.specs.Inside.{Counts, Shape, storeQuestion, rowQuestion}
+use Rattle.reader.specs.Inside.{Counts, Small, storeQuestion, rowQuestion}
 
 -- the length that the code asks for, 0 outside the limits
-abbrev pub asked : ℕ → ℕ → ℕ
-asked W L = pick (both (within 1 maxWidth W) (within 1 maxLevels L)) (storeLength W L) 0
+abbrev pub asked : Side → ℕ → ℕ
+asked W L = pick (both (within 1 maxWidth (W .length)) (within 1 maxLevels L)) (storeLength W L) 0
 
 -- ---- question 1
 module _ (s : Reader) where
@@ -40,17 +42,42 @@ module _ (s : Reader) where
       counts-3 b = rw (one, two, b)
 
       module _ (three : within 1 maxLevels (s .levels) ≡ true) where
-        pub counts-4 : s .height < s .drawn → false ≡ countsFit s
+        pub counts-x : maxOrigin < s .x → false ≡ countsFit s
         unfolding countsFit
-        counts-4 h = rw (one, two, three, lt-leb (s .drawn) (s .height) h)
+        counts-x h = rw (one, two, three, lt-leb (s .x) maxOrigin h)
 
-        pub counts-5 : s .drawn ≤ s .height → s .levels < s .level → false ≡ countsFit s
+        pub counts-y : s .x ≤ maxOrigin → maxOrigin < s .y → false ≡ countsFit s
         unfolding countsFit
-        counts-5 g h = rw (one, two, three, le-leb (s .drawn) (s .height) g, lt-leb (s .level) (s .levels) h)
+        counts-y g h = rw (one, two, three, le-leb (s .x) maxOrigin g, lt-leb (s .y) maxOrigin h)
 
-        pub counts-6 : s .drawn ≤ s .height → s .level ≤ s .levels → leb (s .band) 4 ≡ countsFit s
-        unfolding countsFit
-        counts-6 g h = rw (one, two, three, le-leb (s .drawn) (s .height) g, le-leb (s .level) (s .levels) h)
+        module _ (across : s .x ≤ maxOrigin) (down : s .y ≤ maxOrigin) where
+          pub counts-4 : s .height < s .drawn → false ≡ countsFit s
+          unfolding countsFit
+          counts-4 h = rw (one, two, three, le-leb (s .x) maxOrigin across, le-leb (s .y) maxOrigin down, lt-leb (s .drawn) (s .height) h)
+
+          pub counts-5 : s .drawn ≤ s .height → s .levels < s .level → false ≡ countsFit s
+          unfolding countsFit
+          counts-5 g h = rw (
+            one,
+            two,
+            three,
+            le-leb (s .x) maxOrigin across,
+            le-leb (s .y) maxOrigin down,
+            le-leb (s .drawn) (s .height) g,
+            lt-leb (s .level) (s .levels) h,
+          )
+
+          pub counts-6 : s .drawn ≤ s .height → s .level ≤ s .levels → leb (s .band) 4 ≡ countsFit s
+          unfolding countsFit
+          counts-6 g h = rw (
+            one,
+            two,
+            three,
+            le-leb (s .x) maxOrigin across,
+            le-leb (s .y) maxOrigin down,
+            le-leb (s .drawn) (s .height) g,
+            le-leb (s .level) (s .levels) h,
+          )
 
   pub counts-in : countsFit s ≡ true → Counts s
   unfolding countsFit
@@ -58,40 +85,46 @@ module _ (s : Reader) where
       let a = halves (within 1 maxWidth (s .width)) _ e in
       let b = halves (within 1 maxHeight (s .height)) _ (a .1) in
       let c = halves (within 1 maxLevels (s .levels)) _ (b .1) in
-      let f = halves (leb (s .drawn) (s .height)) _ (c .1) in
+      let u = halves (leb (s .x) maxOrigin) _ (c .1) in
+      let v = halves (leb (s .y) maxOrigin) _ (u .1) in
+      let f = halves (leb (s .drawn) (s .height)) _ (v .1) in
       let g = halves (leb (s .level) (s .levels)) _ (f .1) in
       record {
         wide = within-true 1 maxWidth (s .width) (a .0);
         high = within-true 1 maxHeight (s .height) (b .0);
         deep = within-true 1 maxLevels (s .levels) (c .0);
+        across = leb-true _ _ (u .0);
+        down = leb-true _ _ (v .0);
         drew = leb-true _ _ (f .0);
         at = leb-true _ _ (g .0);
         next = leb-true _ _ (g .1);
       }
 
-  pub counts-length : Counts s → (m : ℕ) → m ≡ asked (s .width) (s .levels) → m ≡ storeLength (s .width) (s .levels)
-  counts-length c m e = e ∙ length-is (s .width) (s .levels) (within-yes 1 maxWidth (s .width) (c .wide .0) (c .wide .1))
+  pub counts-length : Counts s → (m : ℕ) → m ≡ asked (columns s) (s .levels) → m ≡ storeLength (columns s) (s .levels)
+  counts-length c m e = e ∙ length-is (columns s) (s .levels) (within-yes 1 maxWidth (s .width) (c .wide .0) (c .wide .1))
       (within-yes 1 maxLevels (s .levels) (c .deep .0) (c .deep .1))
 
-  pub counts-shape : Counts s → Shape (s .width) (s .height) (s .drawn)
-  counts-shape c =
+  pub counts-small : Counts s → Small (columns s) (rows s) (s .drawn)
+  counts-small c =
       let w = c .wide in
       let h = c .high in
       let d = c .drew in
-      (omega arith, omega (arith, width-small), omega arith, omega (arith, height-small), omega arith)
+      let x = c .across in
+      let y = c .down in
+      (omega (arith, width-small), omega (arith, origin-small), omega (arith, height-small), omega (arith, origin-small), omega arith)
 
 -- ---- the set-up
-module _ (W H L n : ℕ) where
-  pub up-2 : within 1 maxWidth W ≡ false → 2 ≡ setUpQuestion W H L n
+module _ (W H : Side) (L n : ℕ) where
+  pub up-2 : within 1 maxWidth (W .length) ≡ false → 2 ≡ setUpQuestion W H L n
   unfolding setUpQuestion
   up-2 a = rw a
 
-  module _ (one : within 1 maxWidth W ≡ true) where
-    pub up-3 : within 1 maxHeight H ≡ false → 3 ≡ setUpQuestion W H L n
+  module _ (one : within 1 maxWidth (W .length) ≡ true) where
+    pub up-3 : within 1 maxHeight (H .length) ≡ false → 3 ≡ setUpQuestion W H L n
     unfolding setUpQuestion
     up-3 b = rw (one, b)
 
-    module _ (two : within 1 maxHeight H ≡ true) where
+    module _ (two : within 1 maxHeight (H .length) ≡ true) where
       pub up-4 : within 1 maxLevels L ≡ false → 4 ≡ setUpQuestion W H L n
       unfolding setUpQuestion
       up-4 b = rw (one, two, b)
@@ -110,13 +143,15 @@ module _ (W H L n : ℕ) where
         up-0 m e h = rw (one, two, three, le-leb (storeLength W L) n (omega (arith, up-length m e)))
 
   -- a set-up that passes
-  pub up-in : setUpQuestion W H L n ≡ 0 → (within 1 maxWidth W ≡ true) × (within 1 maxLevels L ≡ true) × (storeLength W L ≤ n)
+  pub up-in : setUpQuestion W H L n ≡ 0 →
+      (within 1 maxWidth (W .length) ≡ true) × (within 1 maxLevels L ≡ true) × (storeLength W L ≤ n) × (within 1 maxHeight (H .length) ≡ true)
   unfolding setUpQuestion storeFits
-  up-in e = go (within 1 maxWidth W) (within 1 maxHeight H) (within 1 maxLevels L) (leb (storeLength W L) n) refl refl refl refl e
+  up-in e = go (within 1 maxWidth (W .length)) (within 1 maxHeight (H .length)) (within 1 maxLevels L) (leb (storeLength W L) n) refl refl refl refl e
     where
-      go : (a b c d : Bool) → within 1 maxWidth W ≡ a → within 1 maxHeight H ≡ b → within 1 maxLevels L ≡ c → leb (storeLength W L) n ≡ d →
-          ask a 2 (ask b 3 (ask c 4 (ask d 5 0))) ≡ 0 → (within 1 maxWidth W ≡ true) × (within 1 maxLevels L ≡ true) × (storeLength W L ≤ n)
-      go true true true true ea eb ec ed e = (ea, ec, leb-true _ _ ed)
+      go : (a b c d : Bool) → within 1 maxWidth (W .length) ≡ a → within 1 maxHeight (H .length) ≡ b → within 1 maxLevels L ≡ c → leb (storeLength W L) n ≡ d →
+          ask a 2 (ask b 3 (ask c 4 (ask d 5 0))) ≡ 0 →
+          (within 1 maxWidth (W .length) ≡ true) × (within 1 maxLevels L ≡ true) × (storeLength W L ≤ n) × (within 1 maxHeight (H .length) ≡ true)
+      go true true true true ea eb ec ed e = (ea, ec, leb-true _ _ ed, eb)
       go true true true false ea eb ec ed e = absurd (omega arith)
       go true true false d ea eb ec ed e = absurd (omega arith)
       go true false c d ea eb ec ed e = absurd (omega arith)
@@ -129,11 +164,11 @@ module _ (s : Reader) (n : ℕ) where
   store-1 a = rw a
 
   module _ (one : countsFit s ≡ true) where
-    pub store-5 : storeFits (s .width) (s .levels) n ≡ false → 5 ≡ storeQuestion s n
+    pub store-5 : storeFits (columns s) (s .levels) n ≡ false → 5 ≡ storeQuestion s n
     unfolding storeQuestion
     store-5 h = rw (one, h)
 
-    module _ (two : storeFits (s .width) (s .levels) n ≡ true) where
+    module _ (two : storeFits (columns s) (s .levels) n ≡ true) where
       pub store-9 : s .ended ≡ true → 9 ≡ storeQuestion s n
       unfolding storeQuestion
       store-9 f = rw (one, two, f)
@@ -144,20 +179,20 @@ module _ (s : Reader) (n : ℕ) where
 
   -- question 5 by the most that a store needs, and by what this one needs
   module _ (counts : Counts s) where
-    pub store-any : (31 * s .width + 52) / 4 ≤ n → true ≡ storeFits (s .width) (s .levels) n
+    pub store-any : (31 * s .width + 52) / 4 ≤ n → true ≡ storeFits (columns s) (s .levels) n
     unfolding storeFits
-    store-any h = sym (le-leb (storeLength (s .width) (s .levels)) n (omega (arith, store-most (s .width) (s .levels) (counts .deep .1))))
+    store-any h = sym (le-leb (storeLength (columns s) (s .levels)) n (omega (arith, store-most (columns s) (s .levels) (counts .deep .1))))
 
-    pub store-own : (m : ℕ) → m ≡ asked (s .width) (s .levels) → leb m n ≡ storeFits (s .width) (s .levels) n
+    pub store-own : (m : ℕ) → m ≡ asked (columns s) (s .levels) → leb m n ≡ storeFits (columns s) (s .levels) n
     unfolding storeFits
     store-own m e = ap (λ (i : ℕ). leb i n) (counts-length s counts m e)
 
-  pub store-in : storeQuestion s n ≡ 0 → Counts s × (storeLength (s .width) (s .levels) ≤ n) × (s .ended ≡ false)
+  pub store-in : storeQuestion s n ≡ 0 → Counts s × (storeLength (columns s) (s .levels) ≤ n) × (s .ended ≡ false)
   unfolding storeQuestion storeFits
-  store-in e = go (countsFit s) (leb (storeLength (s .width) (s .levels)) n) (s .ended) refl refl refl e
+  store-in e = go (countsFit s) (leb (storeLength (columns s) (s .levels)) n) (s .ended) refl refl refl e
     where
-      go : (a b c : Bool) → countsFit s ≡ a → leb (storeLength (s .width) (s .levels)) n ≡ b → s .ended ≡ c → ask a 1 (ask b 5 (ask (not c) 9 0)) ≡ 0 →
-          Counts s × (storeLength (s .width) (s .levels) ≤ n) × (s .ended ≡ false)
+      go : (a b c : Bool) → countsFit s ≡ a → leb (storeLength (columns s) (s .levels)) n ≡ b → s .ended ≡ c → ask a 1 (ask b 5 (ask (not c) 9 0)) ≡ 0 →
+          Counts s × (storeLength (columns s) (s .levels) ≤ n) × (s .ended ≡ false)
       go true true false ea eb ec e = (counts-in s ea, leb-true _ _ eb, ec)
       go true true true ea eb ec e = absurd (omega arith)
       go true false c ea eb ec e = absurd (omega arith)

@@ -4,49 +4,54 @@
 use mathlib.Core.Bool.{Bool, true, false, true≢false, false≢true}
 use mathlib.Core.Path.{_≡_, refl, sym, ap, subst, _∙_}
 use mathlib.Core.List.{List, [], _∷_, _++_, map, map-append, append-nil, append-assoc}
-use Prim.Native.Nat.{ℕ, zero, suc, _+_, _≤_, _<_}
+use Prim.Native.Nat.{ℕ, zero, suc, _+_, _-_, _≤_, _<_}
 use native.Mathlib.Decide.{ℕ-discrete}
 use native.Mathlib.Omega.{arith}
 use lib.IntN.{ℤ, pos, natAbs}
 use lib.ListN.{length, length-append, getD, List·getD-append}
 use lib.Seq.{getD-append-add}
 use lib.Dec.{eqb}
-use mir.Syntax.{w32}
-use mir.Val.{SFits}
 use borrow.Author.Tests.{leb-true}
-use Rattle.numbers.specs.Signal.{pick}
-use Rattle.numbers.specs.Word.{wrap32}
+use Rattle.numbers.specs.Signal.{pick, both}
+use Rattle.wavelet.proofs.QuestionLaws.{within-true}
+use Rattle.lifting.specs.Grid.{Side, count}
 use Rattle.lifting.specs.Halves.{fronted}
-use Rattle.wavelet.specs.Limits.{range}
-use Rattle.wavelet.specs.Bands.{Grid, Band, code}
-use Rattle.wavelet.specs.Levels.{size, levelBand}
+use Rattle.wavelet.specs.Limits.{maxWidth, range}
+use Rattle.wavelet.specs.Bands.{Grid, Band, code, down}
+use Rattle.wavelet.specs.Levels.{next, sideAt}
 use Rattle.wavelet.specs.View.{bandColumns}
+use Rattle.wavelet.specs.Steps.{steps, Step, bandRowsOf}
 use Rattle.wavelet.specs.Maps.{valueFits}
 use Rattle.wavelet.specs.Questions.{ask}
-use Rattle.wavelet.specs.Order.{RowName, rowName}
-use Rattle.wavelet.specs.Steps.{Step, steps, bandRowsOf}
+use Rattle.wavelet.specs.Order.{RowName}
 use Rattle.wavelet.specs.Steps as step
-use Rattle.wavelet.proofs.LevelTheory.{OnCells}
 use Rattle.numbers.proofs.TestLaws.{every-each}
 use Rattle.calls.specs.Lists.{Area, All, all-none, all-more}
 use Rattle.calls.proofs.AllLaws.{all-append, all-left, all-last}
 use Rattle.reader.specs.declared.Reader.{Reader}
 use Rattle.level.specs.Sets.{opens}
-use Rattle.reader.specs.Sets.{rowAt}
-use Rattle.reader.specs.Asked.{asked}
+use Rattle.level.specs.Stands.{SetHas}
+use Rattle.reader.specs.Sets.{rowBelow, needsTwo, rowAt, setAt}
+use Rattle.reader.specs.Asked.{keptAt}
+use Rattle.reader.specs.Rebuilt.{Rows, bandsAt, partAt}
+use Rattle.reader.specs.Store.{hasCells}
 use Rattle.level.specs.Tried.{Tried, failed, passed, fits, memory}
-use Rattle.reader.specs.Machine.{Place, place, lastOfSet, nextAt, placeFed, beyond, dive, enter}
-use Rattle.reader.specs.State.{next, settles, feeds, drawDue, fedReader, drawnReader, endedReader}
+use Rattle.reader.specs.Machine.{Place, place, nowAt, lastOfSet, placeFed, past, beyond, dive, enter}
+use Rattle.reader.specs.State as state
+use Rattle.reader.specs.State.{settles, feeds, drawDue, fedReader, drawnReader, endedReader}
 use Rattle.reader.specs.Questions.{runFits, feedQuestion, drawQuestion}
 use Rattle.reader.specs.Calls.{feedReply, feedStore, storeAfter, drawReply, drawStore, drawArea, heightRow}
 use Rattle.reader.specs.Demand3.{Call, want, feed, draw, Event, fed, drew, World, event, goesOn, leftBy, ends, FedRow, fedAs, fedBy, drawnBy, said}
-use Rattle.reader.specs.Demand3.{given, leaves, drawnTo}
+use Rattle.reader.specs.Demand3.{given, leaves, drawnTo, HasFedRow}
 use Rattle.reader.specs.Demand3 as demand
-use Rattle.reader.proofs.StepsLeft.{code-lt, stepsLeft}
+use Rattle.reader.proofs.Looks.{code-lt}
+use Rattle.reader.proofs.CellLaws.{asked-has, has-row}
+use Rattle.reader.proofs.StepsLeft.{stepsLeft}
 use Rattle.level.proofs.SetMade.{Outcome}
-use Rattle.reader.proofs.Holds.{Fits, Held, enter-holds, height-fit}
+use Rattle.reader.proofs.Holds.{Live, Fits, Held, HeldAt, enter-holds, height-fit, sets-tested}
 use Rattle.reader.proofs.Outcomes.{outcome-failed, outcome-passed, settles-outcome, feeds-outcome, row-out}
-use Rattle.reader.proofs.CallViews.{Limits, here, View, view, FeedView, feed-away, feed-onward, feed-view, DrawView, draw-away, draw-idle, draw-onward}
+use Rattle.reader.proofs.CallViews.{Limits, here, nextOf, nameOf, Due, View, view, FeedView, feed-away, feed-onward, feed-view}
+use Rattle.reader.proofs.CallViews.{DrawView, draw-away, draw-idle, draw-onward}
 use Rattle.reader.proofs.CallViews.{draw-view}
 
 -- the names of rows
@@ -54,66 +59,80 @@ abbrev pub namesOf : List FedRow → List RowName
 namesOf = map (λ f. f .row)
 
 -- where a row begins, the numbers are inside their ranges
-dive-le : (W H l d m k : ℕ) → k + m ≡ suc l → (dive W H (suc l) d m k .level ≤ suc l) × (dive W H (suc l) d m k .band ≤ 4)
+pub dive-le : (l m k : ℕ) (W H : Side) (r : ℕ) → k + m ≡ suc l → (dive m k W H r .level ≤ suc l) × (dive m k W H r .band ≤ 4)
 unfolding dive
-dive-le W H l d zero k e = (omega arith, omega arith)
-dive-le W H l d (suc m) k e = go (opens (size k H) (rowAt H d k)) (dive-le W H l d m (suc k) (omega arith))
+dive-le l zero k W H r e = (omega arith, omega arith)
+dive-le l (suc m) k W H r e = go (both (hasCells W H) (opens H r)) (needsTwo H r) _ (dive-le l m (suc k) (next W) (next H) (rowBelow H r) (omega arith))
   where
-    go : (t : Bool) → (dive W H (suc l) d m (suc k) .level ≤ suc l) × (dive W H (suc l) d m (suc k) .band ≤ 4) →
-        (pick t (dive W H (suc l) d m (suc k)) (place k 1) .level ≤ suc l) × (pick t (dive W H (suc l) d m (suc k)) (place k 1) .band ≤ 4)
-    go true ih = ih
-    go false ih = (omega arith, omega arith)
+    go : (t u : Bool) (q : Place) → (q .level ≤ suc l) × (q .band ≤ 4) →
+        (pick t (pick u (place (suc k) true 1) q) (place k false 1) .level ≤ suc l) × (pick t (pick u (place (suc k) true 1) q) (place k false 1) .band ≤ 4)
+    go true true q ih = (omega arith, omega arith)
+    go true false q ih = ih
+    go false u q ih = (omega arith, omega arith)
 
-module _ (W H l : ℕ) where
+-- and no level before it is left out
+pub dive-deep : (m k : ℕ) (W H : Side) (r : ℕ) → (k ≤ dive m k W H r .level) × (k ≡ dive m k W H r .level → dive m k W H r .alone ≡ false)
+unfolding dive
+dive-deep zero k W H r = (omega arith, λ _. refl)
+dive-deep (suc m) k W H r = go (both (hasCells W H) (opens H r)) (needsTwo H r) _ (dive-deep m (suc k) (next W) (next H) (rowBelow H r))
+  where
+    go : (t u : Bool) (q : Place) → (suc k ≤ q .level) × (suc k ≡ q .level → q .alone ≡ false) →
+        (k ≤ pick t (pick u (place (suc k) true 1) q) (place k false 1) .level)
+        × (k ≡ pick t (pick u (place (suc k) true 1) q) (place k false 1) .level → pick t (pick u (place (suc k) true 1) q) (place k false 1) .alone ≡ false)
+    go true true q ih = (omega arith, λ z. absurd (omega (arith, z)))
+    go true false q ih = (omega (arith, ih .0), λ z. absurd (omega (arith, z, ih .0)))
+    go false u q ih = (omega arith, λ _. refl)
+
+module _ (W H : Side) (l : ℕ) where
   -- what is known of a row fed: it is a row of the plane, its run has its length and is in range
   pub record Good (f : FedRow) : Type 0 where
     pub k : ℕ
     pub inside : k ≤ l
     pub level : f .row .level ≡ suc k
-    pub asks : asked (eqb (suc k) (suc l)) (size k W) (size k H) (f .row .row) (f .row .band) ≡ true
+    pub kept : keptAt (eqb (suc k) (suc l)) (f .row .band) ≡ true
+    pub in-rows : f .row .row < count (down (f .row .band)) (sideAt k H)
     pub size : f .run .size ≡ bandColumns W (f .row .level) (f .row .band)
     pub range-of : (i : ℕ) → i < f .run .size → natAbs (f .run .numbers i) ≤ range (f .row .level)
 
-  -- g has a row over words
-  abbrev pub HasWords : Grid → FedRow → Type 0
-  HasWords g f = (i : ℕ) → i < bandColumns W (f .row .level) (f .row .band) →
-      f .run .numbers i ≡ levelBand wrap32 W H g (f .row .level) (f .row .band) (f .row .row) i
+  -- what holds of rows that have those fed
+  pub record Agrees (P : Rows) (d : ℕ) (p : Place) (e : Bool) (x : ℕ → ℤ) (ds : List (ℕ → ℤ)) : Type 0 where
+    pub fit : (r c : ℕ) → r < d → c < W .length → valueFits 0 (partAt W H P (suc l) 0 r c) ≡ true
+    pub shows : (r c : ℕ) → r < d → c < W .length → getD ds r (λ _. pos 0) c ≡ partAt W H P (suc l) 0 r c
+    pub has : (r : ℕ) → r < d → (k : ℕ) → Live W H l P k → (m : ℕ) → m ≤ setAt H r k → SetHas (sideAt k W) (sideAt k H) (bandsAt W H P (suc l) k) m
+    pub holds : e ≡ false → d < H .length → HeldAt W H l P d p x
+    pub refuses : e ≡ true → Fits W H l P → ⊥
 
-  -- what holds of a grid that has the rows fed
-  pub record Agrees (g : Grid) (words : OnCells (SFits w32) W H g) (d lev b : ℕ) (e : Bool) (x : ℕ → ℤ) (ds : List (ℕ → ℤ)) : Type 0 where
-    pub fit : (r c : ℕ) → r < d → c < W → valueFits 0 (g r c) ≡ true
-    pub shows : (r c : ℕ) → r < d → c < W → getD ds r (λ _. pos 0) c ≡ g r c
-    pub holds : e ≡ false → d < H → Held W H l g words d lev b x
-    pub refuses : e ≡ true → Fits W H l g words → ⊥
-
-  pub record Kept (d lev b : ℕ) (e : Bool) (x : ℕ → ℤ) (t : List Step) (fs : List FedRow) (ds : List (ℕ → ℤ)) : Type 0 where
-    pub drawn-le : d ≤ H
-    pub level-le : lev ≤ suc l
-    pub band-le : b ≤ 4
-    pub left : stepsLeft W H l d (place lev b) ≡ t
+  pub record Kept (d : ℕ) (p : Place) (e : Bool) (x : ℕ → ℤ) (t : List Step) (fs : List FedRow) (ds : List (ℕ → ℤ)) : Type 0 where
+    pub drawn-le : d ≤ H .length
+    pub level-le : p .level ≤ suc l
+    pub band-le : p .band ≤ 4
+    pub left : stepsLeft W H l d p ≡ t
     pub drawn : length ds ≡ d
     pub good : All Good fs
     pub names : e ≡ false → namesOf fs ++ bandRowsOf t ≡ bandRowsOf (steps W H (suc l))
-    pub grids : (g : Grid) (words : OnCells (SFits w32) W H g) → All (HasWords g) fs → Agrees g words d lev b e x ds
+    pub rows : (P : Rows) → All (HasFedRow W P) fs → Agrees P d p e x ds
 
   module _ (n : ℕ) (lim : Limits W H l n) where
-    abbrev pub world : ℕ → ℕ → ℕ → Bool → (ℕ → ℤ) → World
-    world d lev b e x = record { reader = here W H l d lev b e; length = n; store = x }
+    abbrev pub world : ℕ → Place → Bool → (ℕ → ℤ) → World
+    world d p e x = record { reader = here W H l d p e; length = n; store = x }
+
+    wide : 0 < W .length
+    wide = within-true 1 maxWidth (W .length) (lim .wide) .0
 
     pub data Reached : World → Bool → List Step → List FedRow → List (ℕ → ℤ) → Type 0 where
-      reached : (d lev b : ℕ) (e : Bool) (x : ℕ → ℤ) (t : List Step) (fs : List FedRow) (ds : List (ℕ → ℤ)) → Kept d lev b e x t fs ds →
-          Reached (world d lev b e x) e t fs ds
+      reached : (d : ℕ) (p : Place) (e : Bool) (x : ℕ → ℤ) (t : List Step) (fs : List FedRow) (ds : List (ℕ → ℤ)) → Kept d p e x t fs ds →
+          Reached (world d p e x) e t fs ds
 
-    module _ (d lev b : ℕ) (e : Bool) (x : ℕ → ℤ) (t : List Step) (fs : List FedRow) (ds : List (ℕ → ℤ)) (kept : Kept d lev b e x t fs ds) where
+    module _ (d : ℕ) (p : Place) (e : Bool) (x : ℕ → ℤ) (t : List Step) (fs : List FedRow) (ds : List (ℕ → ℤ)) (kept : Kept d p e x t fs ds) where
       abbrev s : Reader
-      s = here W H l d lev b e
+      s = here W H l d p e
 
-      viewed : View W H l d lev b t
-      viewed = subst (View W H l d lev b) (kept .left) (view W H l d lev b)
+      viewed : View W H l d p t
+      viewed = subst (View W H l d p) (kept .left) (view W H l d p (kept .level-le))
 
       -- nothing has changed
-      stays : Reached (world d lev b e x) e t (fs ++ []) (ds ++ [])
-      stays = rw (append-nil fs, append-nil ds) (reached d lev b e x t fs ds kept)
+      stays : Reached (world d p e x) e t (fs ++ []) (ds ++ [])
+      stays = rw (append-nil fs, append-nil ds) (reached d p e x t fs ds kept)
 
       -- ---- a feed
       module _ (a : Area) where
@@ -129,45 +148,45 @@ module _ (W H l : ℕ) where
         fed-away q z f = rw (z, f) (rw f stays)
 
         -- the row that is fed
-        module _ (k : ℕ) (c : Band) (live : e ≡ false) (due : d < H) (below : k < lev)
-            (asks : asked (eqb (suc k) (suc l)) (size k W) (size k H) (rowAt H d (suc k)) c ≡ true)
-            (at-row : nextAt W H (suc l) d lev b ≡ place (suc k) (code c))
-            (head : t ≡ step.feed (rowName (suc k) c (rowAt H d (suc k))) ∷ stepsLeft W H l d (beyond W H (suc l) d k (code c)))
+        module _ (k : ℕ) (u : Bool) (c : Band) (live : e ≡ false) (o : Due W H l d p k u c)
+            (head : t ≡ step.feed (nameOf W H l d k u c) ∷ stepsLeft W H l d (beyond W H (suc l) d k u (code c)))
             (long : a .size ≡ bandColumns W (suc k) c) (in-range : runFits (suc k) (a .size) (a .numbers) ≡ true) where
           abbrev f : FedRow
-          f = record { row = rowName (suc k) c (rowAt H d (suc k)); run = a }
+          f = record { row = nameOf W H l d k u c; run = a }
 
           inside : k ≤ l
-          inside = omega (arith, kept .level-le)
+          inside = omega (arith, kept .level-le, o .below)
 
           good-f : Good f
           unfolding runFits
-          good-f = record {
-            k = k;
-            inside = inside;
-            level = refl;
-            asks = asks;
-            size = long;
-            range-of =
-                λ i p. leb-true _ _ (every-each (a .size) _ in-range i p);
-          }
+          good-f =
+              let ask = asked-has (eqb (suc k) (suc l)) (sideAt k W) (sideAt k H) (nowAt W H (suc l) d k u) c (o .asks) in
+              record {
+                k = k;
+                inside = inside;
+                level = refl;
+                kept = ask .0;
+                in-rows = has-row (sideAt k W) (sideAt k H) c (nowAt W H (suc l) d k u) (ask .1) .row;
+                size = long;
+                range-of =
+                    λ i b. leb-true _ _ (every-each (a .size) _ in-range i b);
+              }
 
           good-all : All Good (fs ++ (f ∷ []))
           good-all = all-append (kept .good) (all-more good-f all-none)
 
           -- what the feed comes to, for a grid that has the row too
-          outcome-is : (g : Grid) (words : OnCells (SFits w32) W H g) → All (HasWords g) (fs ++ (f ∷ [])) →
-              Outcome (Fits W H l g words) (Held W H l g words d (beyond W H (suc l) d k (code c) .level) (beyond W H (suc l) d k (code c) .band))
-              (feeds s (a .numbers) x)
-          outcome-is g words has =
-              feeds-outcome W H l d lev b due (kept .level-le) g words x (kept .grids g words (all-left fs (f ∷ []) has) .holds live due) e k c below at-row
+          outcome-is : (P : Rows) → All (HasFedRow W P) (fs ++ (f ∷ [])) →
+              Outcome (Fits W H l P) (HeldAt W H l P d (beyond W H (suc l) d k u (code c))) (feeds s (a .numbers) x)
+          outcome-is P has =
+              feeds-outcome W H l d p (o .due) (kept .level-le) P x (kept .rows P (all-left fs (f ∷ []) has) .holds live (o .due)) e k u c o
               (a .numbers) (all-last fs f has)
 
           -- 14
           abbrev zeros : ℕ → ℤ
           zeros = feedStore s 14 (a .numbers) x
 
-          ended-kept : feeds s (a .numbers) x ≡ failed → Kept d lev b true zeros t (fs ++ (f ∷ [])) ds
+          ended-kept : feeds s (a .numbers) x ≡ failed → Kept d p true zeros t (fs ++ (f ∷ [])) ds
           ended-kept z₁ = record {
             drawn-le = kept .drawn-le;
             level-le = kept .level-le;
@@ -176,34 +195,40 @@ module _ (W H l : ℕ) where
             drawn = kept .drawn;
             good = good-all;
             names = λ z. absurd (true≢false z);
-            grids = λ g words has.
-                let old = kept .grids g words (all-left fs (f ∷ []) has) in
+            rows = λ P has.
+                let old = kept .rows P (all-left fs (f ∷ []) has) in
                 record {
                   fit = old .fit;
                   shows = old .shows;
+                  has = old .has;
                   holds = λ z _. absurd (true≢false z);
-                  refuses = λ _. outcome-failed (subst (Outcome (Fits W H l g words) _) z₁ (outcome-is g words has));
+                  refuses = λ _. outcome-failed (subst (Outcome (Fits W H l P) _) z₁ (outcome-is P has));
                 };
           }
 
           fed-stops : feeds s (a .numbers) x ≡ failed → FedTo 14
           unfolding feedReply ends leftBy goesOn fedBy drawnBy endedReader
-          fed-stops z₁ = rw (append-nil ds) (subst (λ u. Reached (world d lev b true zeros) true t (fs ++ fedAs u a) ds) (sym head)
-              (reached d lev b true zeros t (fs ++ (f ∷ [])) ds (ended-kept z₁)))
+          fed-stops z₁ = rw (append-nil ds) (subst (λ u. Reached (world d p true zeros) true t (fs ++ fedAs u a) ds) (sym head)
+              (reached d p true zeros t (fs ++ (f ∷ [])) ds (ended-kept z₁)))
 
           -- it goes on
           abbrev to : Place
-          to = beyond W H (suc l) d k (code c)
+          to = beyond W H (suc l) d k u (code c)
 
           beyond-le : (to .level ≤ suc l) × (to .band ≤ 4)
-          unfolding beyond
-          beyond-le = go (lastOfSet W H (suc l) d k (code c))
+          unfolding beyond past
+          beyond-le = go (lastOfSet W H (suc l) d k (nowAt W H (suc l) d k u) (code c)) u
             where
-              go : (u : Bool) → (pick u (place k 1) (place (suc k) (code c + 1)) .level ≤ suc l) × (pick u (place k 1) (place (suc k) (code c + 1)) .band ≤ 4)
-              go true = (omega (arith, inside), omega arith)
-              go false = (omega (arith, inside), omega (arith, code-lt c))
+              into : Place
+              into = dive (suc l - suc k) (suc k) (sideAt (suc k) W) (sideAt (suc k) H) (rowAt H d (suc k))
 
-          on-kept : (y : ℕ → ℤ) → feeds s (a .numbers) x ≡ passed y → Kept d (to .level) (to .band) false y (stepsLeft W H l d to) (fs ++ (f ∷ [])) ds
+              go : (v w : Bool) → (pick v (pick w into (place k false 1)) (place (suc k) u (code c + 1)) .level ≤ suc l)
+                  × (pick v (pick w into (place k false 1)) (place (suc k) u (code c + 1)) .band ≤ 4)
+              go true true = dive-le l (suc l - suc k) (suc k) _ _ _ (omega (arith, inside))
+              go true false = (omega (arith, inside), omega arith)
+              go false w = (omega (arith, inside), omega (arith, code-lt c))
+
+          on-kept : (y : ℕ → ℤ) → feeds s (a .numbers) x ≡ passed y → Kept d to false y (stepsLeft W H l d to) (fs ++ (f ∷ [])) ds
           unfolding bandRowsOf
           on-kept y z₁ = record {
             drawn-le = kept .drawn-le;
@@ -213,12 +238,13 @@ module _ (W H l : ℕ) where
             drawn = kept .drawn;
             good = good-all;
             names = λ _. rename ∙ kept .names live;
-            grids = λ g words has.
-                let old = kept .grids g words (all-left fs (f ∷ []) has) in
+            rows = λ P has.
+                let old = kept .rows P (all-left fs (f ∷ []) has) in
                 record {
                   fit = old .fit;
                   shows = old .shows;
-                  holds = λ _ _. outcome-passed y (subst (Outcome (Fits W H l g words) _) z₁ (outcome-is g words has));
+                  has = old .has;
+                  holds = λ _ _. outcome-passed y (subst (Outcome (Fits W H l P) _) z₁ (outcome-is P has));
                   refuses = λ z. absurd (false≢true z);
                 };
           }
@@ -228,21 +254,21 @@ module _ (W H l : ℕ) where
                   ∙ ap (λ u. namesOf fs ++ bandRowsOf u) (sym head)
 
           fed-goes : (y : ℕ → ℤ) → feeds s (a .numbers) x ≡ passed y → FedTo 0
-          unfolding feedReply feedStore storeAfter ends leftBy goesOn fedBy drawnBy fedReader next placeFed
+          unfolding feedReply feedStore storeAfter ends leftBy goesOn fedBy drawnBy fedReader state.next placeFed
           fed-goes y z₁ =
-              rw (append-nil ds, z₁, at-row, head, live) (unfold memory in
-              reached d (to .level) (to .band) false y (stepsLeft W H l d to) (fs ++ (f ∷ [])) ds (on-kept y z₁))
+              rw (append-nil ds, z₁, o .is, head, live) (unfold memory in
+              reached d to false y (stepsLeft W H l d to) (fs ++ (f ∷ [])) ds (on-kept y z₁))
 
         feed-reached : FedTo (feedQuestion s n x (a .size) (a .numbers))
-        feed-reached = go (feed-view W H l n lim d lev b (kept .drawn-le) (kept .level-le) (kept .band-le) e t x a viewed)
+        feed-reached = go (feed-view W H l n lim d p (kept .drawn-le) (kept .level-le) (kept .band-le) e t x a viewed)
           where
-            go : FeedView W H l n lim d lev b (kept .drawn-le) (kept .level-le) (kept .band-le) e t x a → FedTo (feedQuestion s n x (a .size) (a .numbers))
+            go : FeedView W H l n lim d p (kept .drawn-le) (kept .level-le) (kept .band-le) e t x a → FedTo (feedQuestion s n x (a .size) (a .numbers))
             go (feed-away q _ z f at) = subst FedTo (sym at) (fed-away q z f)
-            go (feed-onward k c live due below asks at-row head long in-range _ at) = subst FedTo (sym at) (tried (feeds s (a .numbers) x) refl)
+            go (feed-onward k u c live o head long in-range _ at) = subst FedTo (sym at) (tried (feeds s (a .numbers) x) refl)
               where
-                tried : (o : Tried) → feeds s (a .numbers) x ≡ o → FedTo (ask (fits o) 14 0)
-                tried failed z = unfold fits in fed-stops k c live due below asks at-row head long in-range z
-                tried (passed y) z = unfold fits in fed-goes k c live due below asks at-row head long in-range y z
+                tried : (v : Tried) → feeds s (a .numbers) x ≡ v → FedTo (ask (fits v) 14 0)
+                tried failed z = unfold fits in fed-stops k u c live o head long in-range z
+                tried (passed y) z = unfold fits in fed-goes k u c live o head long in-range y z
 
       -- ---- a draw
       module _ (a : Area) where
@@ -261,18 +287,16 @@ module _ (W H l : ℕ) where
         unfolding drawReply drawStore storeAfter ends leftBy goesOn fedBy drawnBy
         drawn-idle z = rw z stays
 
-        module _ (live : e ≡ false) (due : d < H) (at-height : nextAt W H (suc l) d lev b ≡ place 0 4)
+        module _ (live : e ≡ false) (due : d < H .length) (at-height : nextOf W H l d p ≡ place 0 false 4)
             (head : t ≡ step.draw d ∷ stepsLeft W H l (suc d) (enter W H (suc l) (suc d))) (to-draw : drawDue s ≡ true) where
-          settles-is : (g : Grid) (words : OnCells (SFits w32) W H g) → All (HasWords g) fs →
-              Outcome (Fits W H l g words) (Held W H l g words d 0 4) (settles s x)
-          settles-is g words has =
-              settles-outcome W H l d lev b due (kept .level-le) g words x (kept .grids g words has .holds live due) e (place 0 4) at-height
+          settles-is : (P : Rows) → All (HasFedRow W P) fs → Outcome (Fits W H l P) (Held W H l P d 0 false 4) (settles s x)
+          settles-is P has = settles-outcome W H l d p due (kept .level-le) P x (kept .rows P has .holds live due) e (place 0 false 4) at-height
 
           -- 14
           abbrev zeros-drawn : ℕ → ℤ
           zeros-drawn = drawStore s 14 x
 
-          stopped : settles s x ≡ failed → Kept d lev b true zeros-drawn t fs ds
+          stopped : settles s x ≡ failed → Kept d p true zeros-drawn t fs ds
           stopped z₁ = record {
             drawn-le = kept .drawn-le;
             level-le = kept .level-le;
@@ -281,35 +305,36 @@ module _ (W H l : ℕ) where
             drawn = kept .drawn;
             good = kept .good;
             names = λ z. absurd (true≢false z);
-            grids = λ g words has.
-                let old = kept .grids g words has in
+            rows = λ P has.
+                let old = kept .rows P has in
                 record {
                   fit = old .fit;
                   shows = old .shows;
+                  has = old .has;
                   holds = λ z _. absurd (true≢false z);
-                  refuses = λ _. outcome-failed (subst (Outcome (Fits W H l g words) _) z₁ (settles-is g words has));
+                  refuses = λ _. outcome-failed (subst (Outcome (Fits W H l P) _) z₁ (settles-is P has));
                 };
           }
 
           drawn-stops : settles s x ≡ failed → DrawnTo 14
           unfolding drawReply ends leftBy goesOn fedBy drawnBy endedReader
-          drawn-stops z₁ = rw (append-nil ds, append-nil fs) (reached d lev b true zeros-drawn t fs ds (stopped z₁))
+          drawn-stops z₁ = rw (append-nil ds, append-nil fs) (reached d p true zeros-drawn t fs ds (stopped z₁))
 
           -- the row is given
           module _ (y : ℕ → ℤ) (made : settles s x ≡ passed y) where
             abbrev out : ℕ → ℤ
-            out = fronted W (heightRow W d y) (a .numbers)
+            out = fronted (W .length) (heightRow s y) (a .numbers)
 
             abbrev into : Place
             into = enter W H (suc l) (suc d)
 
-            out-is : (g : Grid) (words : OnCells (SFits w32) W H g) → Held W H l g words d 0 4 y → (c : ℕ) → c < W → out c ≡ g d c
-            out-is g words h = row-out W H l d due g words y h (a .numbers)
+            out-is : (P : Rows) → Held W H l P d 0 false 4 y → (c : ℕ) → c < W .length → out c ≡ partAt W H P (suc l) 0 d c
+            out-is P h = row-out W H l d p e due wide P y h (a .numbers)
 
             -- the rows drawn before, and it
-            row-at : (g : Grid) → ((c : ℕ) → c < W → out c ≡ g d c) → ((r c : ℕ) → r < d → c < W → getD ds r (λ _. pos 0) c ≡ g r c) → (r c : ℕ) → r < suc d →
-                c < W → getD (ds ++ (out ∷ [])) r (λ _. pos 0) c ≡ g r c
-            row-at g new old r c p q = elim (ℕ-discrete r d) [
+            row-at : (g : Grid) → ((c : ℕ) → c < W .length → out c ≡ g d c) → ((r c : ℕ) → r < d → c < W .length → getD ds r (λ _. pos 0) c ≡ g r c) →
+                (r c : ℕ) → r < suc d → c < W .length → getD (ds ++ (out ∷ [])) r (λ _. pos 0) c ≡ g r c
+            row-at g new old r c b q = elim (ℕ-discrete r d) [
               | yes z ↦ let e₁ : r ≡ length ds + 0 = omega (arith, kept .drawn) in
                   ap (λ i. getD (ds ++ (out ∷ [])) i (λ _. pos 0) c) e₁ ∙ ap (λ u. u c) (getD-append-add ds (out ∷ []) 0 (λ _. pos 0)) ∙ new c q
                   ∙ ap (λ i. g i c) (sym z)
@@ -318,9 +343,9 @@ module _ (W H l : ℕ) where
 
             enter-le : (into .level ≤ suc l) × (into .band ≤ 4)
             unfolding enter
-            enter-le = dive-le W H l (suc d) (suc l) 0 (omega arith)
+            enter-le = dive-le l (suc l) 0 W H (suc d) (omega arith)
 
-            given-kept : Kept (suc d) (into .level) (into .band) false y (stepsLeft W H l (suc d) into) fs (ds ++ (out ∷ []))
+            given-kept : Kept (suc d) into false y (stepsLeft W H l (suc d) into) fs (ds ++ (out ∷ []))
             given-kept = record {
               drawn-le = due;
               level-le = enter-le .0;
@@ -329,13 +354,20 @@ module _ (W H l : ℕ) where
               drawn = length-append ds (out ∷ []) ∙ omega (arith, kept .drawn);
               good = kept .good;
               names = λ _. names-same ∙ kept .names live;
-              grids = λ g words has.
-                  let old = kept .grids g words has in
-                  let h : Held W H l g words d 0 4 y = outcome-passed y (subst (Outcome (Fits W H l g words) _) made (settles-is g words has)) in
+              rows = λ P has.
+                  let old = kept .rows P has in
+                  let h : Held W H l P d 0 false 4 y = outcome-passed y (subst (Outcome (Fits W H l P) _) made (settles-is P has)) in
                   record {
-                    fit = λ r c p q. elim (ℕ-discrete r d) [ yes z ↦ rw z (height-fit W H l g words d y due h c q) | no z ↦ old .fit r c (omega (arith, z)) q ];
-                    shows = row-at g (out-is g words h) (old .shows);
-                    holds = λ _ more. enter-holds W H l g words d more y h;
+                    fit = λ r c b q. elim (ℕ-discrete r d) [
+                      | yes z ↦ rw z (height-fit W H l P d y due wide h c q)
+                      | no z ↦ old .fit r c (omega (arith, z)) q
+                    ];
+                    shows = row-at (partAt W H P (suc l) 0) (out-is P h) (old .shows);
+                    has = λ r b k live m q. elim (ℕ-discrete r d) [
+                      | yes z ↦ sets-tested W H l P d 4 y h k live m (subst (λ i. m ≤ setAt H i k) z q)
+                      | no z ↦ old .has r (omega (arith, z)) k live m q
+                    ];
+                    holds = λ _ more. enter-holds W H l P d more y h;
                     refuses = λ z. absurd (false≢true z);
                   };
             }
@@ -344,14 +376,14 @@ module _ (W H l : ℕ) where
                 names-same = ap (λ u. namesOf fs ++ u) (sym (ap bandRowsOf head ∙ unfold bandRowsOf in refl))
 
             drawn-goes : DrawnTo 0
-            unfolding drawReply drawStore storeAfter drawArea ends leftBy goesOn fedBy drawnBy drawnReader memory
+            unfolding drawReply drawStore storeAfter drawArea ends leftBy goesOn fedBy drawnBy drawnReader memory heightRow
             drawn-goes = rw (to-draw, made, head, live, append-nil fs)
-                (reached (suc d) (into .level) (into .band) false y (stepsLeft W H l (suc d) into) fs (ds ++ (out ∷ [])) given-kept)
+                (reached (suc d) into false y (stepsLeft W H l (suc d) into) fs (ds ++ (out ∷ [])) given-kept)
 
         draw-reached : DrawnTo (drawQuestion s n x (a .size))
-        draw-reached = go (draw-view W H l n lim d lev b (kept .drawn-le) (kept .level-le) (kept .band-le) e t x a viewed)
+        draw-reached = go (draw-view W H l n lim d p (kept .drawn-le) (kept .level-le) (kept .band-le) e t x a viewed)
           where
-            go : DrawView W H l n lim d lev b (kept .drawn-le) (kept .level-le) (kept .band-le) e t x a → DrawnTo (drawQuestion s n x (a .size))
+            go : DrawView W H l n lim d p (kept .drawn-le) (kept .level-le) (kept .band-le) e t x a → DrawnTo (drawQuestion s n x (a .size))
             go (draw-away q z f _ at) = subst DrawnTo (sym at) (drawn-away q z f)
             go (draw-idle live z _ at) = subst DrawnTo (sym at) (drawn-idle z)
             go (draw-onward live due at-height head to-draw _ at) = subst DrawnTo (sym at) (tried (settles s x) refl)
@@ -364,6 +396,6 @@ module _ (W H l : ℕ) where
     pub call-reached : (c : Call) (w : World) (e : Bool) (t : List Step) (fs : List FedRow) (ds : List (ℕ → ℤ)) → Reached w e t fs ds →
         Reached (demand.next c w) (pick (ends (event c w)) true e) (leftBy t (event c w)) (fs ++ fedBy t (event c w)) (ds ++ drawnBy (event c w))
     unfolding demand.next event
-    call-reached want _ e t fs ds (reached d lev b _ x _ _ _ kept) = unfold ends leftBy goesOn fedBy drawnBy in stays d lev b e x t fs ds kept
-    call-reached (feed a) _ e t fs ds (reached d lev b _ x _ _ _ kept) = feed-reached d lev b e x t fs ds kept a
-    call-reached (draw a) _ e t fs ds (reached d lev b _ x _ _ _ kept) = draw-reached d lev b e x t fs ds kept a
+    call-reached want _ e t fs ds (reached d p _ x _ _ _ kept) = unfold ends leftBy goesOn fedBy drawnBy in stays d p e x t fs ds kept
+    call-reached (feed a) _ e t fs ds (reached d p _ x _ _ _ kept) = feed-reached d p e x t fs ds kept a
+    call-reached (draw a) _ e t fs ds (reached d p _ x _ _ _ kept) = draw-reached d p e x t fs ds kept a

@@ -1,4 +1,5 @@
--- The grid that has given rows for its plane: the way back over words, level by level. Assumes nothing.
+-- The way back from band rows by their names, over words, level by level: from the rows of a map it is the map; and what it makes has the rows, where no number
+-- that is halved is odd. Assumes nothing.
 use mathlib.Core.Bool.{Bool, true, false}
 use mathlib.Core.Path.{_≡_, refl, sym, ap, subst, _∙_}
 use mathlib.Core.List.{List, [], _∷_}
@@ -13,65 +14,131 @@ use Rattle.numbers.specs.Signal.{pick}
 use Rattle.numbers.specs.Word.{wrap32}
 use Rattle.numbers.proofs.Words.{abs-fits}
 use Rattle.numbers.proofs.Sweep.{both}
-use Rattle.lifting.specs.Line.{count}
+use Rattle.lifting.specs.Line.{Half, lo, hi}
+use Rattle.lifting.specs.Grid.{Side, count}
 use Rattle.wavelet.specs.Limits.{maxLevels, range}
-use Rattle.wavelet.specs.Bands.{Grid, Band, LL, HL, LH, HH, code, across, down, subband, levelBack}
-use Rattle.wavelet.specs.Levels.{size, approximation, levelBand}
-use Rattle.wavelet.specs.View.{bandColumns}
+use Rattle.wavelet.specs.Bands.{Grid, Band, LL, HL, LH, HH, code, across, down, subband, levelBack, levelHas}
+use Rattle.wavelet.specs.Maps.{IsMap}
 use Rattle.wavelet.specs.Order.{RowName, rowName, sameName, times}
-use Rattle.wavelet.proofs.LevelTheory.{OnCells, Same, SameBands, over, over-all, level-back-fits, words-forward-back, subband-same, same-low}
-use Rattle.wavelet.proofs.Bridge.{range-small}
+use Rattle.wavelet.proofs.Bridge.{range-small, map-words, map-doubles, map-level-has}
+use Rattle.wavelet.specs.Levels.{next, sideAt, approximation, levelBand}
+use Rattle.wavelet.specs.View.{bandColumns}
+use Rattle.wavelet.proofs.LevelTheory.{OnCells, OnBands, Same, SameBands, level-back-fits, level-back-reads, level-has-reads, words-back-forward}
+use Rattle.wavelet.proofs.LevelTheory.{words-forward-back, subband-same, same-low}
 use Rattle.calls.specs.Lists.{All, all-none, all-more}
 use Rattle.calls.proofs.AllLaws.{In, first, later}
 use Rattle.reader.specs.Asked.{named}
+use Rattle.reader.specs.Rebuilt.{Rows, bandsBy, rebuilt, bandsAt, partAt}
+use Rattle.reader.specs.Store.{hasCells}
 use Rattle.reader.specs.Demand3.{FedRow}
-use Rattle.reader.proofs.StepsLeft.{named-code}
+use Rattle.reader.proofs.Looks.{named-code}
+use Rattle.reader.proofs.CellLaws.{Empty, wide, high, cells-not}
 use Rattle.reader.proofs.Reached.{namesOf, Good}
 
--- ---- from rows P by name
-module _ (W H l : ℕ) (P : RowName → ℕ → ℤ) (words : (k : ℕ) (b : Band) (r c : ℕ) → k ≤ l → r < count (down b) (size k H) → c < count (across b) (size k W) →
-    SFits w32 (P (rowName (suc k) b r) c)) where
-  -- the low-low part of level k, with m levels from there on
-  unfoldable pub rebuilt : ℕ → ℕ → Grid
-  rebuilt zero k = λ r. P (rowName k LL r)
-  rebuilt (suc m) k = levelBack wrap32 (size k W) (size k H) (over (rebuilt m (suc k)) (λ b r. P (rowName (suc k) b r)))
+-- the way back from level k on is the low-low part that the bands of level k + 1 make
+pub part-is : (W H : Side) (P : Rows) (l k : ℕ) → k ≤ l → rebuilt W H P (suc l - k) k ≡ partAt W H P (suc l) k
+unfolding rebuilt
+part-is W H P l k h = let z : suc l - k ≡ suc (suc l - suc k) = omega arith in rw z refl
 
-  pub rebuilt-words : (m k : ℕ) → k + m ≡ suc l → OnCells (SFits w32) (size k W) (size k H) (rebuilt m k)
-  unfolding rebuilt size across down
-  rebuilt-words zero k e = let z : k ≡ suc l = omega arith in rw z (λ r c p q. words l LL r c (omega arith) p q)
-  rebuilt-words (suc m) k e = level-back-fits (size k W) (size k H) _
-      (over-all (SFits w32) (size k W) (size k H) _ _ (rebuilt-words m (suc k) (omega arith)) (λ b r c p q. words k b r c (omega arith) p q))
+-- ---- the rows of a map
+module _ (W H : Side) (g : Grid) (m : IsMap (W .length) (H .length) g) (l : ℕ) (few : suc l ≤ maxLevels) where
+  -- the rows of its plane, over words
+  abbrev pub rowsOf : Rows
+  rowsOf x i = levelBand wrap32 W H g (x .level) (x .band) (x .row) i
+
+  abbrev part : ℕ → Grid
+  part k = approximation wrap32 W H g k
+
+  bands-same : (k : ℕ) (a : Grid) → Same (sideAt (suc k) W) (sideAt (suc k) H) a (part (suc k)) →
+      SameBands (sideAt k W) (sideAt k H) (bandsBy rowsOf (suc k) a) (subband wrap32 (sideAt k W) (sideAt k H) (part k))
+  unfolding bandsBy levelBand approximation sideAt next across down
+  bands-same k a e LL r c p q = e r c p q
+  bands-same k a e HL r c p q = refl
+  bands-same k a e LH r c p q = refl
+  bands-same k a e HH r c p q = refl
+
+  level-same : (k : ℕ) (a : Grid) → suc k ≤ maxLevels → Same (sideAt (suc k) W) (sideAt (suc k) H) a (part (suc k)) →
+      Same (sideAt k W) (sideAt k H) (levelBack wrap32 (sideAt k W) (sideAt k H) (bandsBy rowsOf (suc k) a)) (part k)
+  level-same k a h e r c p q =
+      level-back-reads wrap32 (sideAt k W) (sideAt k H) _ _ (bands-same k a e) r c p q
+      ∙ words-back-forward (sideAt k W) (sideAt k H) (part k) (map-words W H g m k (omega arith)) (map-doubles W H g m k h) r c p q
+
+  back-same : (i k : ℕ) → k + i ≡ suc l → Same (sideAt k W) (sideAt k H) (rebuilt W H rowsOf i k) (part k)
+  unfolding rebuilt
+  back-same zero k e = let z : k ≡ suc l = omega arith in rw z (unfold levelBand approximation in λ r c p q. refl)
+  back-same (suc i) k e = level-same k (rebuilt W H rowsOf i (suc k)) (omega arith) (back-same i (suc k) (omega arith))
+
+  pub part-same : (k : ℕ) → k ≤ l → Same (sideAt k W) (sideAt k H) (partAt W H rowsOf (suc l) k) (part k)
+  part-same k h = level-same k (rebuilt W H rowsOf (suc l - suc k) (suc k)) (omega arith) (back-same (suc l - suc k) (suc k) (omega arith))
+
+  pub bands-have : (k : ℕ) → k ≤ l → levelHas (sideAt k W) (sideAt k H) (bandsAt W H rowsOf (suc l) k) ≡ true
+  bands-have k h =
+      level-has-reads (sideAt k W) (sideAt k H) _ _ (bands-same k _ (back-same (suc l - suc k) (suc k) (omega arith)))
+      ∙ unfold levelBand in map-level-has W H g m k (omega arith)
+
+no-cell : (h : Half) (S : Side) → S .length ≡ 0 → (i : ℕ) → i < count h S → ⊥
+unfolding count
+no-cell lo S e i p = omega arith
+no-cell hi S e i p = omega arith
+
+-- ---- from rows P that are words
+module _ (W H : Side) (l : ℕ) (P : Rows)
+    (words : (k : ℕ) (b : Band) (r c : ℕ) → k ≤ l → r < count (down b) (sideAt k H) → c < count (across b) (sideAt k W) → SFits w32 (P (rowName (suc k) b r) c))
+    (has : (k : ℕ) → k ≤ l → hasCells (sideAt k W) (sideAt k H) ≡ true → levelHas (sideAt k W) (sideAt k H) (bandsAt W H P (suc l) k) ≡ true) where
+  bands-words : (m k : ℕ) → k ≤ l → OnCells (SFits w32) (sideAt (suc k) W) (sideAt (suc k) H) (rebuilt W H P m (suc k)) →
+      OnBands (SFits w32) (sideAt k W) (sideAt k H) (bandsBy P (suc k) (rebuilt W H P m (suc k)))
+  unfolding bandsBy sideAt next across down
+  bands-words m k h f LL r c p q = f r c p q
+  bands-words m k h f HL r c p q = words k HL r c h p q
+  bands-words m k h f LH r c p q = words k LH r c h p q
+  bands-words m k h f HH r c p q = words k HH r c h p q
+
+  rebuilt-words : (m k : ℕ) → k + m ≡ suc l → OnCells (SFits w32) (sideAt k W) (sideAt k H) (rebuilt W H P m k)
+  unfolding rebuilt
+  rebuilt-words zero k e = let z : k ≡ suc l = omega arith in rw z (unfold sideAt next across down in λ r c p q. words l LL r c (omega arith) p q)
+  rebuilt-words (suc m) k e = level-back-fits (sideAt k W) (sideAt k H) _ (bands-words m k (omega arith) (rebuilt-words m (suc k) (omega arith)))
 
   abbrev pub back : Grid
-  back = rebuilt (suc l) 0
+  back = rebuilt W H P (suc l) 0
 
-  bands-of : (k m : ℕ) → k + suc m ≡ suc l → Same (size k W) (size k H) (approximation wrap32 W H back k) (rebuilt (suc m) k) →
-      SameBands (size k W) (size k H) (subband wrap32 (size k W) (size k H) (approximation wrap32 W H back k))
-      (over (rebuilt m (suc k)) (λ b r. P (rowName (suc k) b r)))
-  unfolding rebuilt size
-  bands-of k m e a b r c p q =
-      subband-same wrap32 (size k W) (size k H) _ _ a b r c p q
-      ∙ words-forward-back (size k W) (size k H) _ (over-all (SFits w32) (size k W) (size k H) _ _ (rebuilt-words m (suc k) (omega arith))
-      (λ b r c p q. words k b r c (omega arith) p q)) b r c p q
+  -- the bands of an empty level have no cell
+  none-same : (k : ℕ) (p q : Band → Grid) → Empty (sideAt k W) (sideAt k H) → SameBands (sideAt k W) (sideAt k H) p q
+  none-same k p q (wide e) b r c u v = absurd (no-cell (across b) (sideAt k W) e c v)
+  none-same k p q (high e) b r c u v = absurd (no-cell (down b) (sideAt k H) e r u)
 
-  approximation-is : (k m : ℕ) → k + m ≡ suc l → Same (size k W) (size k H) (approximation wrap32 W H back k) (rebuilt m k)
-  unfolding approximation size over
+  bands-of : (k m : ℕ) → k + suc m ≡ suc l → Same (sideAt k W) (sideAt k H) (approximation wrap32 W H back k) (rebuilt W H P (suc m) k) →
+      SameBands (sideAt k W) (sideAt k H) (subband wrap32 (sideAt k W) (sideAt k H) (approximation wrap32 W H back k))
+      (bandsBy P (suc k) (rebuilt W H P m (suc k)))
+  bands-of k m e a = go (hasCells (sideAt k W) (sideAt k H)) refl
+    where
+      left : suc l - suc k ≡ m
+      left = omega arith
+
+      lines : hasCells (sideAt k W) (sideAt k H) ≡ true → levelHas (sideAt k W) (sideAt k H) (bandsBy P (suc k) (rebuilt W H P m (suc k))) ≡ true
+      lines c = subst (λ i. levelHas (sideAt k W) (sideAt k H) (bandsBy P (suc k) (rebuilt W H P i (suc k))) ≡ true) left (has k (omega arith) c)
+
+      go : (c : Bool) → hasCells (sideAt k W) (sideAt k H) ≡ c →
+          SameBands (sideAt k W) (sideAt k H) (subband wrap32 (sideAt k W) (sideAt k H) (approximation wrap32 W H back k))
+          (bandsBy P (suc k) (rebuilt W H P m (suc k)))
+      go false c = none-same k _ _ (cells-not (sideAt k W) (sideAt k H) c)
+      go true c = λ b r i p q.
+          subband-same wrap32 (sideAt k W) (sideAt k H) _ _ a b r i p q ∙ unfold rebuilt in
+          words-forward-back (sideAt k W) (sideAt k H) _ (bands-words m k (omega arith) (rebuilt-words m (suc k) (omega arith))) (lines c) b r i p q
+
+  approximation-is : (k m : ℕ) → k + m ≡ suc l → Same (sideAt k W) (sideAt k H) (approximation wrap32 W H back k) (rebuilt W H P m k)
+  unfolding approximation sideAt bandsBy
   approximation-is zero m e = let z : m ≡ suc l = omega arith in rw z (λ r c p q. refl)
-  approximation-is (suc k) m e = same-low (size k W) (size k H) _ _ (bands-of k m (omega arith) (approximation-is k (suc m) (omega arith)))
-
-  bands-are : (k m : ℕ) → k + suc m ≡ suc l → SameBands (size k W) (size k H) (levelBand wrap32 W H back (suc k))
-      (over (rebuilt m (suc k)) (λ b r. P (rowName (suc k) b r)))
-  unfolding levelBand
-  bands-are k m e = bands-of k m e (approximation-is k (suc m) e)
+  approximation-is (suc k) m e =
+      same-low (sideAt k W) (sideAt k H) _ _ (bands-of k m (omega arith) (approximation-is k (suc m) (omega arith)))
 
   -- ---- its plane has them
-  pub back-has : (k : ℕ) (b : Band) → k ≤ l → (b ≡ LL → k ≡ l) → (r c : ℕ) → r < count (down b) (size k H) → c < count (across b) (size k W) →
+  pub back-has : (k : ℕ) (b : Band) → k ≤ l → (b ≡ LL → k ≡ l) → (r c : ℕ) → r < count (down b) (sideAt k H) → c < count (across b) (sideAt k W) →
       levelBand wrap32 W H back (suc k) b r c ≡ P (rowName (suc k) b r) c
-  unfolding over rebuilt
-  back-has k LL h last r c p q = bands-are k 0 (omega (arith, last refl)) LL r c p q
-  back-has k HL h last r c p q = bands-are k (l - k) (omega arith) HL r c p q
-  back-has k LH h last r c p q = bands-are k (l - k) (omega arith) LH r c p q
-  back-has k HH h last r c p q = bands-are k (l - k) (omega arith) HH r c p q
+  unfolding bandsBy rebuilt levelBand
+  back-has k LL h last r c p q = bands-of k 0 (omega (arith, last refl)) (approximation-is k 1 (omega (arith, last refl))) LL r c p q
+  back-has k HL h last r c p q = bands-of k (l - k) (omega arith) (approximation-is k (suc (l - k)) (omega arith)) HL r c p q
+  back-has k LH h last r c p q = bands-of k (l - k) (omega arith) (approximation-is k (suc (l - k)) (omega arith)) LH r c p q
+  back-has k HH h last r c p q = bands-of k (l - k) (omega arith) (approximation-is k (suc (l - k)) (omega arith)) HH r c p q
 
 -- ---- rows fed, by name
 pub same-name : (x y : RowName) → sameName x y ≡ true → x ≡ y
@@ -111,7 +178,8 @@ found f (g ∷ fs) (later i) h = go (sameName (f .row) (g .row)) h (found f fs i
 zero-fits : SFits w32 (pos 0)
 zero-fits = abs-fits (pos 0) 0 (omega arith) (omega arith)
 
-pub lookup-words : (W H l : ℕ) → suc l ≤ maxLevels → (fs : List FedRow) → All (Good W H l) fs → (x : RowName) (i : ℕ) → i < bandColumns W (x .level) (x .band) →
+pub lookup-words : (W H : Side) (l : ℕ) → suc l ≤ maxLevels → (fs : List FedRow) → All (Good W H l) fs → (x : RowName) (i : ℕ) →
+    i < bandColumns W (x .level) (x .band) →
     SFits w32 (lookup fs x i)
 unfolding lookup
 lookup-words W H l few [] all-none x i p = zero-fits

@@ -3,162 +3,89 @@
 use mathlib.Core.Bool.{Bool, true, false}
 use mathlib.Core.Path.{_≡_, refl, sym, ap, subst, _∙_}
 use mathlib.Core.List.{List, [], _∷_, _++_, append-nil, append-assoc}
-use Prim.Native.Nat.{ℕ, zero, suc, _+_, _-_, _≤_, _<_}
+use Prim.Native.Nat.{ℕ, zero, suc, _+_, _-_, _%_, _≤_, _<_}
+use native.Mathlib.Decide.{decLe}
 use native.Mathlib.Omega.{arith}
 use lib.Dec.{T, leb, ltb, eqb}
-use borrow.Author.Tests.{lt-ltb, eq-eqb, ne-eqb, leb-true}
-use Rattle.numbers.specs.Signal.{pick}
-use Rattle.lifting.specs.Line.{lo, count}
-use Rattle.wavelet.specs.Bands.{Band, LL, HL, LH, HH, code}
-use Rattle.wavelet.specs.Levels.{size}
-use Rattle.wavelet.specs.Order.{RowName, rowName, handedOut, hasRow, rowsOf, setRows, inTurn}
-use Rattle.wavelet.specs.Steps.{Step, feed, draw, feedAll, rowSteps, setSteps, steps}
-use Rattle.level.specs.Sets.{setOf, opens}
-use Rattle.reader.specs.Sets.{rowAt}
-use Rattle.reader.specs.Asked.{keptAt, asked, bandsFrom, those, look, firstCode, nextBand, named}
-use Rattle.reader.specs.Machine.{Place, place, bandAt, lastOfSet, nextAt, beyond, dive, enter}
-use Rattle.level.proofs.OpenedSets.{opens-row, opens-set, opens-first}
-use Rattle.reader.proofs.OpenedSets.{rowAt-next, rowAt-there, rowAt-first}
-
--- ---- the bands that a set still asks for
-pub named-code : (b : Band) → named (code b) ≡ b
-unfolding named code
-named-code LL = refl
-named-code HL = refl
-named-code LH = refl
-named-code HH = refl
-
-pub code-lt : (b : Band) → code b < 4
-unfolding code
-code-lt LL = omega arith
-code-lt HL = omega arith
-code-lt LH = omega arith
-code-lt HH = omega arith
-
-not-both : {A : Type 0} (t : Bool) → t ≡ true → t ≡ false → A
-not-both t e f = absurd (subst T (sym e ∙ f) tt)
-
-module _ (p : Band → Bool) where
-  -- none, or a first one and those after it
-  pub data Look : List Band → Type 0 where
-    nothing : Look []
-    first : (b : Band) → p b ≡ true → Look (b ∷ those p (bandsFrom (code b + 1)))
-
-  look-step : (b : Band) (bs : List Band) → bandsFrom (code b + 1) ≡ bs → Look (those p bs) → Look (those p (b ∷ bs))
-  unfolding those
-  look-step b bs e f = go (p b) refl
-    where
-      go : (t : Bool) → p b ≡ t → Look (pick t (b ∷ those p bs) (those p bs))
-      go true q = subst (λ r. Look (b ∷ those p r)) e (first b q)
-      go false q = f
-
-  look-three : Look (those p (bandsFrom 3))
-  unfolding bandsFrom code
-  look-three = look-step HH [] refl (unfold those in nothing)
-
-  look-two : Look (those p (bandsFrom 2))
-  unfolding bandsFrom code
-  look-two = look-step LH (HH ∷ []) refl look-three
-
-  look-one : Look (those p (bandsFrom 1))
-  unfolding bandsFrom code
-  look-one = look-step HL (LH ∷ HH ∷ []) refl look-two
-
-  pub look-is : (b : ℕ) → Look (those p (bandsFrom b))
-  unfolding bandsFrom code
-  look-is zero = look-step LL (HL ∷ LH ∷ HH ∷ []) refl look-one
-  look-is (suc zero) = look-one
-  look-is (suc (suc zero)) = look-two
-  look-is (suc (suc (suc zero))) = look-three
-  look-is (suc (suc (suc (suc b)))) = unfold those in nothing
-
-  -- of two bands, the second asked for and the first not
-  after : (b c : Band) → p c ≡ true → p b ≡ false → code b ≤ code c → code b < code c
-  unfolding code
-  after LL LL x y z = not-both (p LL) x y
-  after LL HL x y z = omega arith
-  after LL LH x y z = omega arith
-  after LL HH x y z = omega arith
-  after HL LL x y z = absurd (omega arith)
-  after HL HL x y z = not-both (p HL) x y
-  after HL LH x y z = omega arith
-  after HL HH x y z = omega arith
-  after LH LL x y z = absurd (omega arith)
-  after LH HL x y z = absurd (omega arith)
-  after LH LH x y z = not-both (p LH) x y
-  after LH HH x y z = omega arith
-  after HH LL x y z = absurd (omega arith)
-  after HH HL x y z = absurd (omega arith)
-  after HH LH x y z = absurd (omega arith)
-  after HH HH x y z = not-both (p HH) x y
-
-  -- the first is the first: a band from b on that is asked for is not before it
-  first-step : (b c : Band) (bs : List Band) → p c ≡ true → code b ≤ code c → (code b < code c → firstCode (those p bs) ≤ code c) →
-      firstCode (those p (b ∷ bs)) ≤ code c
-  unfolding those firstCode
-  first-step b c bs e h f = go (p b) refl
-    where
-      go : (t : Bool) → p b ≡ t → firstCode (pick t (b ∷ those p bs) (those p bs)) ≤ code c
-      go true q = h
-      go false q = f (after b c e q h)
-
-  first-three : (c : Band) → p c ≡ true → 3 ≤ code c → firstCode (those p (bandsFrom 3)) ≤ code c
-  unfolding bandsFrom
-  first-three c e h = first-step HH c [] e (unfold code in omega arith) (λ q. absurd (unfold code in omega (arith, code-lt c)))
-
-  first-two : (c : Band) → p c ≡ true → 2 ≤ code c → firstCode (those p (bandsFrom 2)) ≤ code c
-  unfolding bandsFrom
-  first-two c e h = first-step LH c (HH ∷ []) e (unfold code in omega arith) (λ q. first-three c e (unfold code in omega arith))
-
-  first-one : (c : Band) → p c ≡ true → 1 ≤ code c → firstCode (those p (bandsFrom 1)) ≤ code c
-  unfolding bandsFrom
-  first-one c e h = first-step HL c (LH ∷ HH ∷ []) e (unfold code in omega arith) (λ q. first-two c e (unfold code in omega arith))
-
-  pub first-le : (b : ℕ) (c : Band) → p c ≡ true → b ≤ code c → firstCode (those p (bandsFrom b)) ≤ code c
-  unfolding bandsFrom
-  first-le zero c e h = first-step LL c (HL ∷ LH ∷ HH ∷ []) e (unfold code in omega arith) (λ q. first-one c e (unfold code in omega arith))
-  first-le (suc zero) c e h = first-one c e h
-  first-le (suc (suc zero)) c e h = first-two c e h
-  first-le (suc (suc (suc zero))) c e h = first-three c e h
-  first-le (suc (suc (suc (suc b)))) c e h = absurd (omega (arith, code-lt c))
+use borrow.Author.Tests.{lt-ltb, eq-eqb, ne-eqb, leb-true, leb-false, ltb-true, lt-leb, le-leb}
+use Rattle.numbers.specs.Signal.{pick, both}
+use Rattle.numbers.proofs.Sweep.{both as halves}
+use Rattle.lifting.specs.Line.{lo}
+use Rattle.lifting.specs.Grid.{Side, count}
+use Rattle.wavelet.specs.Bands.{Band, LL, HL, LH, HH, code, down}
+use Rattle.wavelet.specs.Order.{RowName, rowName, handedOut, inTurn, firstSet, setRow, setHas, rowsOf, setRows}
+use Rattle.wavelet.specs.Steps.{Step, feed, draw, feedAll, setOf, setsBefore, rowSteps, setSteps, steps}
+use Rattle.wavelet.specs.Levels.{next, sideAt}
+use Rattle.level.specs.Sets.{opens}
+use Rattle.reader.specs.Sets.{rowBelow, needsTwo, rowAt, setAt}
+use Rattle.reader.specs.Asked.{keptAt, asked, bandsFrom, those, look, firstCode, nextBand}
+use Rattle.reader.specs.Store.{hasCells}
+use Rattle.reader.specs.Machine.{Place, place, bandAt, aloneAt, nowAt, lastOfSet, nextUp, nextAt, past, beyond, dive, enter}
+use Rattle.reader.proofs.Looks.{code-lt, Look, nothing, first, look-is}
+use Rattle.reader.proofs.OpenedSets.{set-is, first-low, low-is, Two, two-is, sets-none, sets-one, sets-two}
+use Rattle.reader.proofs.CellLaws.{cells-not, Empty, empty-row, empty-set, alone-low, alone-asks, no-low-empty}
 
 pub data Each {A : Type 0} (P : A → Type 0) : List A → Type 0 where
   none : Each P []
   more : {x : A} {xs : List A} → P x → Each P xs → Each P (x ∷ xs)
 
 -- ---- the rows of a set, by name
-unfoldable pub names : ℕ → ℕ → List Band → List RowName
-names k n [] = []
-names k n (b ∷ bs) = rowName k b n ∷ names k n bs
+unfoldable pub names : ℕ → Side → ℕ → List Band → List RowName
+names k H n [] = []
+names k H n (b ∷ bs) = rowName k b (setRow H b n) ∷ names k H n bs
 
-rows-names : (k w h n : ℕ) (p : Band → Bool) (bs : List Band) → Each (λ b. p b ≡ hasRow w h b n) bs → rowsOf k w h n bs ≡ names k n (those p bs)
+rows-names : (k : ℕ) (W H : Side) (n : ℕ) (p : Band → Bool) (bs : List Band) → Each (λ b. p b ≡ setHas W H b n) bs →
+    rowsOf k W H n bs ≡ names k H n (those p bs)
 unfolding rowsOf names those
-rows-names k w h n p [] none = refl
-rows-names k w h n p (b ∷ bs) (more q e) = rw (← q) (go (p b) (rows-names k w h n p bs e))
+rows-names k W H n p [] none = refl
+rows-names k W H n p (b ∷ bs) (more q e) = rw (← q) (go (p b) (rows-names k W H n p bs e))
   where
-    go : (t : Bool) → rowsOf k w h n bs ≡ names k n (those p bs) →
-        pick t (rowName k b n ∷ rowsOf k w h n bs) (rowsOf k w h n bs) ≡ names k n (pick t (b ∷ those p bs) (those p bs))
-    go true f = ap (λ r. rowName k b n ∷ r) f
+    go : (t : Bool) → rowsOf k W H n bs ≡ names k H n (those p bs) →
+        pick t (rowName k b (setRow H b n) ∷ rowsOf k W H n bs) (rowsOf k W H n bs) ≡ names k H n (pick t (b ∷ those p bs) (those p bs))
+    go true f = ap (λ r. rowName k b (setRow H b n) ∷ r) f
     go false f = f
 
 -- all the rows of a set: at the last level those from LL on, else those from HL on
-last-names : (k w h n : ℕ) → setRows 0 k w h n ≡ names k n (look true w h n 0)
-unfolding setRows handedOut look bandsFrom asked keptAt hasRow
-last-names k w h n = rows-names k w h n (asked true w h n) (LL ∷ HL ∷ LH ∷ HH ∷ []) (more refl (more refl (more refl (more refl none))))
+last-names : (k : ℕ) (W H : Side) (n : ℕ) → setRows 0 k W H n ≡ names k H n (look true W H n 0)
+unfolding setRows handedOut look bandsFrom asked keptAt
+last-names k W H n = rows-names k W H n (asked true W H n) (LL ∷ HL ∷ LH ∷ HH ∷ []) (more refl (more refl (more refl (more refl none))))
 
-set-names : (l k w h n : ℕ) → setRows (suc l) k w h n ≡ names k n (look false w h n 1)
-unfolding setRows handedOut look bandsFrom asked keptAt hasRow
-set-names l k w h n = rows-names k w h n (asked false w h n) (HL ∷ LH ∷ HH ∷ []) (more refl (more refl (more refl none)))
+set-names : (l k : ℕ) (W H : Side) (n : ℕ) → setRows (suc l) k W H n ≡ names k H n (look false W H n 1)
+unfolding setRows handedOut look bandsFrom asked keptAt
+set-names l k W H n = rows-names k W H n (asked false W H n) (HL ∷ LH ∷ HH ∷ []) (more refl (more refl (more refl none)))
+
+-- a high row alone has no LL row
+alone-names : (W H : Side) → asked true W H 0 LL ≡ false → look true W H 0 0 ≡ look true W H 0 1
+unfolding look bandsFrom those
+alone-names W H e = rw e refl
+
+-- ---- the tests of a place
+pub not-alone : (W H : Side) (L d k b : ℕ) → aloneAt W H L d k false b ≡ false
+unfolding aloneAt
+not-alone W H L d zero b = refl
+not-alone W H L d (suc k) b = refl
 
 -- ---- what is left, at suc l levels
-module _ (W H l : ℕ) where
+module _ (W H : Side) (l : ℕ) where
+  -- the rows that set n at level k + 1 still asks for, and all the steps of it
+  abbrev pub rowsLeft : ℕ → ℕ → ℕ → List Step
+  rowsLeft k n b = feedAll (names (suc k) (sideAt k H) n (look (eqb (suc k) (suc l)) (sideAt k W) (sideAt k H) n b))
+
+  abbrev setLeft : ℕ → ℕ → ℕ → List Step
+  setLeft m k n = setSteps m (suc k) (sideAt k W) (sideAt k H) n
+
   -- until row d is drawn: the rows that the set at this level still asks for, then those of each finer level
   unfoldable pub tail : ℕ → ℕ → ℕ → List Step
   tail d zero b = draw d ∷ []
-  tail d (suc k) b = feedAll (names (suc k) (rowAt H d (suc k)) (look (eqb (suc k) (suc l)) (size k W) (size k H) (rowAt H d (suc k)) b)) ++ tail d k 1
+  tail d (suc k) b = rowsLeft k (setAt H d k) b ++ tail d k 1
 
-  abbrev tailAt : ℕ → Place → List Step
-  tailAt d p = tail d (p .level) (p .band)
+  -- at a high row alone: its rows, then all of the set that makes the row
+  unfoldable pub aloneTail : ℕ → ℕ → ℕ → List Step
+  aloneTail d k b = rowsLeft k 0 b ++ (setLeft (l - k) k (setAt H d k) ++ tail d k 1)
+
+  unfoldable pub tailAt : ℕ → Place → List Step
+  tailAt d p =
+      pick (aloneAt W H (suc l) d (p .level) (p .alone) (p .band)) (aloneTail d (p .level - 1) (p .band)) (tail d (p .level) (p .band))
 
   -- row r with what it needs, and c rows from row d on
   abbrev turn : ℕ → List Step
@@ -174,143 +101,313 @@ module _ (W H l : ℕ) where
 
   -- the steps left when d rows are drawn and the reader is at that place
   unfoldable pub stepsLeft : ℕ → Place → List Step
-  stepsLeft d p = leftFor (H - d) d p
+  stepsLeft d p = leftFor (H .length - d) d p
 
-  -- ---- the want is the first
-  -- what the machine says is next, and what is left then: a height row, or a band row
-  pub data Ahead (d lev b : ℕ) : Place → Type 0 where
-    height : tail d lev b ≡ draw d ∷ [] → Ahead d lev b (place 0 4)
-    row : (k : ℕ) (c : Band) → k < lev → asked (eqb (suc k) (suc l)) (size k W) (size k H) (rowAt H d (suc k)) c ≡ true →
-        tail d lev b ≡ feed (rowName (suc k) c (rowAt H d (suc k))) ∷ tailAt d (beyond W H (suc l) d k (code c)) → Ahead d lev b (place (suc k) (code c))
+  -- ---- a place that is not at a high row alone, and one that is
+  tail-up : (d k b : ℕ) → tailAt d (place k false b) ≡ tail d k b
+  unfolding tailAt
+  tail-up d k b = rw (not-alone W H (suc l) d k b) refl
 
-  tail-none : (d k b : ℕ) → look (eqb (suc k) (suc l)) (size k W) (size k H) (rowAt H d (suc k)) b ≡ [] → tail d (suc k) b ≡ tail d k 1
-  unfolding tail names feedAll
-  tail-none d k b e = ap (λ xs. feedAll (names (suc k) (rowAt H d (suc k)) xs) ++ tail d k 1) e
+  tail-alone : (d k b : ℕ) → aloneAt W H (suc l) d (suc k) true b ≡ true → tailAt d (place (suc k) true b) ≡ aloneTail d k b
+  unfolding tailAt
+  tail-alone d k b e = let z : suc k - 1 ≡ k = omega arith in rw (e, z) refl
 
-  tail-some : (d k b : ℕ) (c : Band) (cs : List Band) → look (eqb (suc k) (suc l)) (size k W) (size k H) (rowAt H d (suc k)) b ≡ c ∷ cs →
-      cs ≡ look (eqb (suc k) (suc l)) (size k W) (size k H) (rowAt H d (suc k)) (code c + 1) →
-      tail d (suc k) b ≡ feed (rowName (suc k) c (rowAt H d (suc k))) ∷ tail d (suc k) (code c + 1)
-  unfolding tail names feedAll
-  tail-some d k b c cs e f = ap (λ xs. feedAll (names (suc k) (rowAt H d (suc k)) xs) ++ tail d k 1) (e ∙ ap (λ r. c ∷ r) f)
+  -- ---- the rows left of a set
+  abbrev tests : ℕ → ℕ → Band → Bool
+  tests k n = asked (eqb (suc k) (suc l)) (sideAt k W) (sideAt k H) n
+
+  rows-none : (k n b : ℕ) → look (eqb (suc k) (suc l)) (sideAt k W) (sideAt k H) n b ≡ [] → rowsLeft k n b ≡ []
+  unfolding names feedAll
+  rows-none k n b e = ap (λ xs. feedAll (names (suc k) (sideAt k H) n xs)) e
+
+  rows-some : (k n b : ℕ) (c : Band) → look (eqb (suc k) (suc l)) (sideAt k W) (sideAt k H) n b ≡ c ∷ look (eqb (suc k) (suc l)) (sideAt k W) (sideAt k H) n
+      (code c + 1) → rowsLeft k n b ≡ feed (rowName (suc k) c (setRow (sideAt k H) c n)) ∷ rowsLeft k n (code c + 1)
+  unfolding names feedAll
+  rows-some k n b c e = ap (λ xs. feedAll (names (suc k) (sideAt k H) n xs)) e
 
   -- a row that completes its set leaves none of it
-  pub last-none : (d k c : ℕ) → lastOfSet W H (suc l) d k c ≡ true → look (eqb (suc k) (suc l)) (size k W) (size k H) (rowAt H d (suc k)) (c + 1) ≡ []
+  pub last-none : (d k n c : ℕ) → lastOfSet W H (suc l) d k n c ≡ true → look (eqb (suc k) (suc l)) (sideAt k W) (sideAt k H) n (c + 1) ≡ []
   unfolding lastOfSet bandAt nextBand
-  last-none d k c e = no-more _ (omega arith) _ e
+  last-none d k n c e = no-more _ (omega arith) _ e
     where
       no-more : (m : ℕ) → 4 ≤ m → (xs : List Band) → leb m (firstCode xs) ≡ true → xs ≡ []
       no-more m h [] e = refl
       no-more m h (b ∷ bs) e = let p : m ≤ code b = unfold firstCode in leb-true _ _ e in absurd (omega (arith, code-lt b))
 
-  -- past a set that asks for nothing more the same is left at the next finer level
-  beyond-tail : (d k c : ℕ) → tail d (suc k) (c + 1) ≡ tailAt d (beyond W H (suc l) d k c)
-  unfolding beyond
-  beyond-tail d k c = go (lastOfSet W H (suc l) d k c) refl
+  -- ---- the steps of a set
+  -- at the last level they are its rows
+  last-steps : (k n : ℕ) → k ≡ l → setLeft 0 k n ≡ rowsLeft k n 0
+  unfolding setSteps
+  last-steps k n e = rw (eq-eqb (suc k) (suc l) (omega arith), last-names (suc k) (sideAt k W) (sideAt k H) n) refl
+
+  -- else what its low row needs of the next level, and its rows
+  abbrev rowsBelow : ℕ → ℕ → ℕ → List Step
+  rowsBelow m k r = rowSteps (sideAt k H) (setSteps m (suc k) (sideAt k W) (sideAt k H)) r
+
+  no-rows : (m k r : ℕ) → Empty (sideAt k W) (sideAt k H) → rowsBelow m k r ≡ []
+  no-rows m k r e = empty-row (sideAt k H) _ r (λ n. empty-set m (suc k) (sideAt k W) (sideAt k H) n e)
+
+  low-steps : (d m k : ℕ) → pick (leb (firstSet (sideAt k H) lo) (setAt H d k))
+      (rowSteps (next (sideAt k H)) (setSteps m (suc (suc k)) (next (sideAt k W)) (next (sideAt k H))) (setAt H d k - firstSet (sideAt k H) lo)) []
+      ≡ rowsBelow m (suc k) (rowAt H d (suc k))
+  unfolding sideAt rowAt rowBelow setAt
+  low-steps d m k = go (decLe (firstSet (sideAt k H) lo) (setOf (sideAt k H) (rowAt H d k)))
     where
-      go : (t : Bool) → lastOfSet W H (suc l) d k c ≡ t → tail d (suc k) (c + 1) ≡ tailAt d (pick t (place k 1) (place (suc k) (c + 1)))
-      go true e = tail-none d k (c + 1) (last-none d k c e)
-      go false e = refl
+      S : Side
+      S = sideAt k H
 
-  pub ahead : (d lev b : ℕ) → Ahead d lev b (nextAt W H (suc l) d lev b)
-  unfolding nextAt bandAt nextBand look
-  ahead d zero b = height (unfold tail in refl)
-  ahead d (suc k) b = go (those p (bandsFrom b)) refl (look-is p b) (ahead d k 1)
+      r : ℕ
+      r = rowAt H d k
+
+      go : Dec (firstSet S lo ≤ setOf S r) → pick (leb (firstSet S lo) (setOf S r))
+          (rowSteps (next S) (setSteps m (suc (suc k)) (next (sideAt k W)) (next S)) (setOf S r - firstSet S lo)) []
+          ≡ rowSteps (next S) (setSteps m (suc (suc k)) (next (sideAt k W)) (next S)) (setOf S r - firstSet S lo)
+      go (yes p) = rw (le-leb (firstSet S lo) (setOf S r) p) refl
+      go (no p) =
+          let few : count lo S ≡ 0 = omega (arith, p, first-low S, set-is S r, low-is S) in
+          rw (lt-leb (firstSet S lo) (setOf S r) (omega (arith, p)))
+          (sym (empty-row (next S) _ _ (λ n. empty-set m (suc (suc k)) (next (sideAt k W)) (next S) n (no-low-empty (sideAt k W) S few))))
+
+  on-steps : (d m k : ℕ) → k + suc m ≡ l → setLeft (suc m) k (setAt H d k) ≡ rowsBelow m (suc k) (rowAt H d (suc k)) ++ rowsLeft k (setAt H d k) 1
+  unfolding setSteps
+  on-steps d m k e =
+      rw (low-steps d m k, ne-eqb (suc k) (suc l) (λ z. omega arith), set-names m (suc k) (sideAt k W) (sideAt k H) (setAt H d k)) refl
+
+  -- the steps of a set of a high row alone
+  alone-steps : (m k : ℕ) → k + m ≡ l → sideAt k H .start % 2 ≡ 1 → setLeft m k 0 ≡ rowsLeft k 0 1
+  alone-steps zero k e odd =
+      let z : k ≡ l = omega arith in
+      last-steps k 0 z
+      ∙ ap (λ xs. feedAll (names (suc k) (sideAt k H) 0 xs))
+      (rw (eq-eqb (suc k) (suc l) (omega arith)) (alone-names (sideAt k W) (sideAt k H) (no-low (sideAt k W) (sideAt k H) odd)))
     where
-      p : Band → Bool
-      p = asked (eqb (suc k) (suc l)) (size k W) (size k H) (rowAt H d (suc k))
-
-      finer : (q : Place) → tail d (suc k) b ≡ tail d k 1 → Ahead d k 1 q → Ahead d (suc k) b q
-      finer _ e (height f) = height (e ∙ f)
-      finer _ e (row j c h a f) = row j c (omega arith) a (e ∙ f)
-
-      go : (xs : List Band) → those p (bandsFrom b) ≡ xs → Look p xs → Ahead d k 1 (nextAt W H (suc l) d k 1) →
-          Ahead d (suc k) b (pick (ltb (firstCode xs) 4) (place (suc k) (firstCode xs)) (nextAt W H (suc l) d k 1))
-      go _ e nothing ih = unfold firstCode in finer _ (tail-none d k b e) ih
-      go _ e (first c a) ih = unfold firstCode in rw (lt-ltb (code c) 4 (code-lt c))
-          (row k c (omega arith) a (tail-some d k b c _ e refl ∙ ap (λ t. feed (rowName (suc k) c (rowAt H d (suc k))) ∷ t) (beyond-tail d k (code c))))
+      no-low : (W H : Side) → H .start % 2 ≡ 1 → asked true W H 0 LL ≡ false
+      no-low W H odd = unfold asked keptAt down in alone-low W H odd LL refl
+  alone-steps (suc m) k e odd = on m e
+    where
+      on : (m : ℕ) → k + suc m ≡ l → setLeft (suc m) k 0 ≡ rowsLeft k 0 1
+      on m e = unfold setSteps firstSet in
+          rw (odd, ne-eqb (suc k) (suc l) (λ z. omega arith), set-names m (suc k) (sideAt k W) (sideAt k H) 0) refl
 
   -- ---- where a row begins, what is left is what it needs and it
-  abbrev rowsBelow : ℕ → ℕ → ℕ → List Step
-  rowsBelow m k r = rowSteps (size k H) (setSteps m (suc k) (size k W) (size k H)) r
+  below-no : (m k r : ℕ) → opens (sideAt k H) r ≡ false → rowsBelow m k r ≡ []
+  unfolding rowSteps inTurn
+  below-no m k r o = rw (sets-none (sideAt k H) r o) refl
 
-  below-no : (m k r : ℕ) → r < size k H → opens (size k H) r ≡ false → rowsBelow m k r ≡ []
-  unfolding rowSteps
-  below-no m k r h o = rw (← opens-row (size k H) r h, o) refl
+  below-one : (m k r : ℕ) → opens (sideAt k H) r ≡ true → needsTwo (sideAt k H) r ≡ false → rowsBelow m k r ≡ setLeft m k (setOf (sideAt k H) r)
+  unfolding rowSteps inTurn
+  below-one m k r o f =
+      let s = sets-one (sideAt k H) r o f in
+      let z : setsBefore (sideAt k H) r + 0 ≡ setOf (sideAt k H) r = omega (arith, s .is) in
+      rw (s .one) (ap (setLeft m k) z)
 
-  below-yes : (m k r : ℕ) → r < size k H → opens (size k H) r ≡ true → rowsBelow m k r ≡ setSteps m (suc k) (size k W) (size k H) (setOf (size k H) r)
-  unfolding rowSteps
-  below-yes m k r h o = rw (← opens-row (size k H) r h, o, opens-set (size k H) r h o) refl
+  below-two : (m k r : ℕ) → Two (sideAt k H) r → rowsBelow m k r ≡ setLeft m k 0 ++ setLeft m k (setOf (sideAt k H) r)
+  unfolding rowSteps inTurn
+  below-two m k r t =
+      let s = sets-two (sideAt k H) r t in
+      let y : setsBefore (sideAt k H) r + 0 ≡ 0 = omega (arith, s .1) in
+      let z : setsBefore (sideAt k H) r + 1 ≡ setOf (sideAt k H) r = omega (arith, s .1, t .set) in
+      rw (s .0) (rw (y, z) refl)
 
-  -- the tail of a level from its first band on is its set's rows
-  tail-last : (d k : ℕ) → k ≡ l → tail d (suc k) 0 ≡ setSteps 0 (suc k) (size k W) (size k H) (rowAt H d (suc k)) ++ tail d k 1
-  unfolding tail setSteps
-  tail-last d k e = rw (eq-eqb (suc k) (suc l) (omega arith), last-names (suc k) (size k W) (size k H) (rowAt H d (suc k))) refl
+  -- at a high row alone
+  alone-is : (d k : ℕ) → hasCells (sideAt k W) (sideAt k H) ≡ true → needsTwo (sideAt k H) (rowAt H d k) ≡ true →
+      aloneAt W H (suc l) d (suc k) true 1 ≡ true
+  unfolding aloneAt bandAt
+  alone-is d k cells two =
+      let t = two-is (sideAt k H) (rowAt H d k) two in
+      rw (two, lt-ltb _ 4 (alone-asks (sideAt k W) (sideAt k H) (t .odd) (eqb (suc k) (suc l)) cells)) refl
 
-  tail-on : (d k m : ℕ) → k + suc m ≡ l → rowsBelow m (suc k) (rowAt H d (suc k)) ++ tail d (suc k) 1 ≡ setSteps (suc m) (suc k) (size k W) (size k H)
-      (rowAt H d (suc k)) ++ tail d k 1
-  unfolding tail setSteps size
-  tail-on d k m e =
-      rw (ne-eqb (suc k) (suc l) (λ z. omega arith), set-names m (suc k) (size k W) (size k H) (rowAt H d (suc k)))
-      (sym (append-assoc (rowSteps (count lo (size k H)) (setSteps m (suc (suc k)) (count lo (size k W)) (count lo (size k H))) (rowAt H d (suc k))) _
-      (tail d k 1)))
-
-  -- a row that opens its set begins at the next level, any other has its set
-  dive-step : (d : ℕ) → d < H → (m k : ℕ) → tailAt d (dive W H (suc l) d m (suc k)) ≡ setSteps m (suc k) (size k W) (size k H)
-      (rowAt H d (suc k)) ++ tail d k 1 → tailAt d (dive W H (suc l) d (suc m) k) ≡ rowsBelow m k (rowAt H d k) ++ tail d k 1
-  unfolding dive
-  dive-step d b m k f = go (opens (size k H) (rowAt H d k)) refl
+  -- where a row begins at level k, if the steps of its set are left where that set begins
+  dive-step : (d m k : ℕ) → k + m ≡ l → tailAt d (dive m (suc k) (sideAt (suc k) W) (sideAt (suc k) H) (rowAt H d (suc k)))
+      ≡ setLeft m k (setAt H d k) ++ tail d k 1 →
+      tailAt d (dive (suc m) k (sideAt k W) (sideAt k H) (rowAt H d k)) ≡ rowsBelow m k (rowAt H d k) ++ tail d k 1
+  unfolding dive sideAt rowAt setAt aloneTail
+  dive-step d m k e f =
+      go (hasCells (sideAt k W) (sideAt k H)) refl (opens (sideAt k H) (rowAt H d k)) refl (needsTwo (sideAt k H) (rowAt H d k)) refl
     where
-      there : rowAt H d k < size k H
-      there = rowAt-there H d b k
+      r : ℕ
+      r = rowAt H d k
 
-      go : (t : Bool) → opens (size k H) (rowAt H d k) ≡ t →
-          tailAt d (pick t (dive W H (suc l) d m (suc k)) (place k 1)) ≡ rowsBelow m k (rowAt H d k) ++ tail d k 1
-      go false o = sym (ap (λ r. r ++ tail d k 1) (below-no m k (rowAt H d k) there o))
-      go true o = f ∙ sym (ap (λ r. r ++ tail d k 1) (below-yes m k (rowAt H d k) there o
-          ∙ ap (setSteps m (suc k) (size k W) (size k H)) (sym (rowAt-next H d k))))
+      to : Place
+      to = dive m (suc k) (next (sideAt k W)) (next (sideAt k H)) (rowBelow (sideAt k H) r)
 
-  dive-tail : (d : ℕ) → d < H → (m k : ℕ) → k + m ≡ l → tailAt d (dive W H (suc l) d (suc m) k) ≡ rowsBelow m k (rowAt H d k) ++ tail d k 1
-  dive-tail d b zero k e = dive-step d b 0 k (unfold dive in tail-last d k (omega arith))
-  dive-tail d b (suc m) k e = dive-step d b (suc m) k (dive-tail d b m (suc k) (omega arith) ∙ tail-on d k m e)
+      stays : rowsBelow m k r ≡ [] → tailAt d (place k false 1) ≡ rowsBelow m k r ++ tail d k 1
+      stays n = tail-up d k 1 ∙ ap (λ t. t ++ tail d k 1) (sym n)
 
-  enter-tail : (d : ℕ) → d < H → tailAt d (enter W H (suc l) d) ≡ turn d
-  unfolding enter tail rowAt size
-  enter-tail d b = dive-tail d b l 0 (omega arith)
+      go : (c : Bool) → hasCells (sideAt k W) (sideAt k H) ≡ c → (o : Bool) → opens (sideAt k H) r ≡ o → (t : Bool) → needsTwo (sideAt k H) r ≡ t →
+          tailAt d (pick (both c o) (pick t (place (suc k) true 1) to) (place k false 1)) ≡ rowsBelow m k r ++ tail d k 1
+      go false c o _ t _ = stays (no-rows m k r (cells-not (sideAt k W) (sideAt k H) c))
+      go true c false o t _ = stays (below-no m k r o)
+      go true c true o false t = f ∙ ap (λ u. u ++ tail d k 1) (sym (below-one m k r o t))
+      go true c true o true t =
+          let two = two-is (sideAt k H) r t in
+          let left : l - k ≡ m = omega arith in
+          tail-alone d k 1 (alone-is d k c t)
+          ∙ ap (λ i. rowsLeft k 0 1 ++ (setLeft i k (setOf (sideAt k H) r) ++ tail d k 1)) left
+          ∙ sym (append-assoc (rowsLeft k 0 1) (setLeft m k (setOf (sideAt k H) r)) (tail d k 1))
+          ∙ ap (λ u. (u ++ setLeft m k (setOf (sideAt k H) r)) ++ tail d k 1) (sym (alone-steps m k e (two .odd)))
+          ∙ ap (λ u. u ++ tail d k 1) (sym (below-two m k r two))
+
+  -- where the set that makes a row begins, its steps are left
+  dive-set : (d m k : ℕ) → k + m ≡ l → tailAt d (dive m (suc k) (sideAt (suc k) W) (sideAt (suc k) H) (rowAt H d (suc k)))
+      ≡ setLeft m k (setAt H d k) ++ tail d k 1
+  dive-set d zero k e = unfold dive tail in
+      tail-up d (suc k) 0 ∙ ap (λ t. t ++ tail d k 1) (sym (last-steps k (setAt H d k) (omega arith)))
+  dive-set d (suc m) k e =
+      dive-step d m (suc k) (omega arith) (dive-set d m (suc k) (omega arith))
+      ∙ unfold tail in sym (append-assoc (rowsBelow m (suc k) (rowAt H d (suc k))) (rowsLeft k (setAt H d k) 1) (tail d k 1))
+      ∙ ap (λ t. t ++ tail d k 1) (sym (on-steps d m k e))
+
+  enter-tail : (d : ℕ) → tailAt d (enter W H (suc l) d) ≡ turn d
+  unfolding enter tail sideAt rowAt
+  enter-tail d = dive-step d l 0 (omega arith) (dive-set d l 0 (omega arith))
+
+  -- ---- the want is the first
+  -- past a set that asks for nothing more, what is left is what the reader goes on with
+  beyond-up : (d k c : ℕ) → tail d (suc k) (c + 1) ≡ tailAt d (beyond W H (suc l) d k false c)
+  unfolding beyond past nowAt tail
+  beyond-up d k c = go (lastOfSet W H (suc l) d k (setAt H d k) c) refl
+    where
+      go : (t : Bool) → lastOfSet W H (suc l) d k (setAt H d k) c ≡ t →
+          rowsLeft k (setAt H d k) (c + 1) ++ tail d k 1 ≡ tailAt d (pick t (place k false 1) (place (suc k) false (c + 1)))
+      go true e = ap (λ t. t ++ tail d k 1) (rows-none k (setAt H d k) (c + 1) (last-none d k (setAt H d k) c e)) ∙ sym (tail-up d k 1)
+      go false e = sym (tail-up d (suc k) (c + 1))
+
+  -- a row of a high row alone that is not the last of it
+  pub still-alone : (d k c : ℕ) → needsTwo (sideAt k H) (rowAt H d k) ≡ true → lastOfSet W H (suc l) d k 0 c ≡ false →
+      aloneAt W H (suc l) d (suc k) true (c + 1) ≡ true
+  unfolding aloneAt lastOfSet
+  still-alone d k c two e = rw (two, lt-ltb (bandAt W H (suc l) d k 0 (c + 1)) 4 (under _ _ (omega arith) e)) refl
+    where
+      under : (m i : ℕ) → m ≤ 4 → leb m i ≡ false → i < 4
+      under m i b z = omega (arith, leb-false m i z)
+
+  beyond-alone : (d k c : ℕ) → k ≤ l → needsTwo (sideAt k H) (rowAt H d k) ≡ true → aloneTail d k (c + 1) ≡ tailAt d (beyond W H (suc l) d k true c)
+  unfolding beyond past nowAt aloneTail
+  beyond-alone d k c h two = go (lastOfSet W H (suc l) d k 0 c) refl
+    where
+      to : Place
+      to = dive (suc l - suc k) (suc k) (sideAt (suc k) W) (sideAt (suc k) H) (rowAt H d (suc k))
+
+      go : (t : Bool) → lastOfSet W H (suc l) d k 0 c ≡ t →
+          rowsLeft k 0 (c + 1) ++ (setLeft (l - k) k (setAt H d k) ++ tail d k 1) ≡ tailAt d (pick t to (place (suc k) true (c + 1)))
+      go true e =
+          let z : l - k ≡ suc l - suc k = omega arith in
+          ap (λ t. t ++ (setLeft (l - k) k (setAt H d k) ++ tail d k 1)) (rows-none k 0 (c + 1) (last-none d k 0 c e))
+          ∙ ap (λ i. setLeft i k (setAt H d k) ++ tail d k 1) z ∙ sym (dive-set d (suc l - suc k) k (omega arith))
+      go false e = sym (tail-alone d k (c + 1) (still-alone d k c two e))
+
+  -- what the machine says is next, and what is left then: a height row, or a band row
+  pub data Ahead (d lev : ℕ) (t : List Step) : Place → Type 0 where
+    height : t ≡ draw d ∷ [] → Ahead d lev t (place 0 false 4)
+    row : (k : ℕ) (a : Bool) (c : Band) → k < lev → (a ≡ true → needsTwo (sideAt k H) (rowAt H d k) ≡ true) →
+        asked (eqb (suc k) (suc l)) (sideAt k W) (sideAt k H) (nowAt W H (suc l) d k a) c ≡ true →
+        t ≡ feed (rowName (suc k) c (setRow (sideAt k H) c (nowAt W H (suc l) d k a))) ∷ tailAt d (beyond W H (suc l) d k a (code c)) →
+        Ahead d lev t (place (suc k) a (code c))
+
+  up-ahead : (d lev b : ℕ) → Ahead d lev (tail d lev b) (nextUp W H (suc l) d lev b)
+  unfolding nextUp bandAt nextBand look nowAt
+  up-ahead d zero b = height (unfold tail in refl)
+  up-ahead d (suc k) b = go (those p (bandsFrom b)) refl (look-is p b) (up-ahead d k 1)
+    where
+      n : ℕ
+      n = setAt H d k
+
+      p : Band → Bool
+      p = asked (eqb (suc k) (suc l)) (sideAt k W) (sideAt k H) n
+
+      finer : (q : Place) → tail d (suc k) b ≡ tail d k 1 → Ahead d k (tail d k 1) q → Ahead d (suc k) (tail d (suc k) b) q
+      finer _ e (height f) = height (e ∙ f)
+      finer _ e (row j a c h two ask f) = row j a c (omega arith) two ask (e ∙ f)
+
+      go : (xs : List Band) → those p (bandsFrom b) ≡ xs → Look p xs → Ahead d k (tail d k 1) (nextUp W H (suc l) d k 1) →
+          Ahead d (suc k) (tail d (suc k) b) (pick (ltb (firstCode xs) 4) (place (suc k) false (firstCode xs)) (nextUp W H (suc l) d k 1))
+      go _ e nothing ih = unfold firstCode tail in finer _ (ap (λ t. t ++ tail d k 1) (rows-none k n b (unfold look in e))) ih
+      go _ e (first c a) ih = unfold firstCode tail in rw (lt-ltb (code c) 4 (code-lt c))
+          (row k false c (omega arith) (λ z. absurd (differ z)) a
+          (ap (λ t. t ++ tail d k 1) (rows-some k n b c (unfold look in e))
+          ∙ ap (λ t. feed (rowName (suc k) c (setRow (sideAt k H) c n)) ∷ t) (beyond-up d k (code c))))
+        where
+          differ : false ≡ true → ⊥
+          differ z = subst T (sym z) tt
+
+  alone-ahead : (d k b : ℕ) → k ≤ l → needsTwo (sideAt k H) (rowAt H d k) ≡ true → bandAt W H (suc l) d k 0 b < 4 →
+      Ahead d (suc k) (aloneTail d k b) (place (suc k) true (bandAt W H (suc l) d k 0 b))
+  unfolding bandAt nextBand look nowAt aloneTail
+  alone-ahead d k b h two less = go (those p (bandsFrom b)) refl (look-is p b) less
+    where
+      p : Band → Bool
+      p = asked (eqb (suc k) (suc l)) (sideAt k W) (sideAt k H) 0
+
+      more : List Step
+      more = setLeft (l - k) k (setAt H d k) ++ tail d k 1
+
+      go : (xs : List Band) → those p (bandsFrom b) ≡ xs → Look p xs → firstCode xs < 4 →
+          Ahead d (suc k) (rowsLeft k 0 b ++ more) (place (suc k) true (firstCode xs))
+      go _ e nothing q = let z : 4 < 4 = unfold firstCode in q in absurd (omega (arith, z))
+      go _ e (first c a) q = unfold firstCode in
+          row k true c (omega arith) (λ _. two) a
+          (ap (λ t. t ++ more) (rows-some k 0 b c (unfold look in e))
+          ∙ ap (λ t. feed (rowName (suc k) c (setRow (sideAt k H) c 0)) ∷ t) (beyond-alone d k (code c) h two))
+
+  pub alone-two : (d k : ℕ) (a : Bool) (b : ℕ) → aloneAt W H (suc l) d (suc k) a b ≡ true →
+      (a ≡ true) × (needsTwo (sideAt k H) (rowAt H d k) ≡ true) × (bandAt W H (suc l) d k 0 b < 4)
+  unfolding aloneAt
+  alone-two d k a b e =
+      let p = halves a _ e in
+      let q = halves (needsTwo (sideAt k H) (rowAt H d k)) _ (p .1) in
+      (p .0, q .0, ltb-true (bandAt W H (suc l) d k 0 b) 4 (q .1))
+
+  pub ahead : (d lev : ℕ) (a : Bool) (b : ℕ) → lev ≤ suc l → Ahead d lev (tailAt d (place lev a b)) (nextAt W H (suc l) d lev a b)
+  unfolding nextAt tailAt
+  ahead d lev a b h = go lev h (aloneAt W H (suc l) d lev a b) refl
+    where
+      go : (k : ℕ) → k ≤ suc l → (t : Bool) → aloneAt W H (suc l) d k a b ≡ t → Ahead d k (pick t (aloneTail d (k - 1) b) (tail d k b))
+          (pick t (place k true (bandAt W H (suc l) d (k - 1) 0 b)) (nextUp W H (suc l) d k b))
+      go k h false e = up-ahead d k b
+      go zero h true e = let z : false ≡ true = unfold aloneAt in e in absurd (subst T (sym z) tt)
+      go (suc k) h true e =
+          let q = alone-two d k a b e in
+          let z : suc k - 1 ≡ k = omega arith in
+          rw z (alone-ahead d k b (omega arith) (q .1) (q .2))
 
   -- ---- so the steps left go on from row to row
   -- a row fed, or drawn, takes off the first
-  module _ (d c : ℕ) (rest : H - d ≡ suc c) where
+  module _ (d c : ℕ) (rest : H .length - d ≡ suc c) where
     pub left-now : (p : Place) → stepsLeft d p ≡ tailAt d p ++ later c (suc d)
     unfolding stepsLeft leftFor
     left-now p = ap (λ q. leftFor q d p) rest
 
     pub left-enter : stepsLeft d (enter W H (suc l) d) ≡ later (suc c) d
     unfolding later
-    left-enter = left-now (enter W H (suc l) d) ∙ ap (λ t. t ++ later c (suc d)) (enter-tail d (omega arith))
+    left-enter = left-now (enter W H (suc l) d) ∙ ap (λ t. t ++ later c (suc d)) (enter-tail d)
 
-  left-end : (d : ℕ) (p : Place) → H ≤ d → stepsLeft d p ≡ []
+  left-end : (d : ℕ) (p : Place) → H .length ≤ d → stepsLeft d p ≡ []
   unfolding stepsLeft leftFor
-  left-end d p h = let e : H - d ≡ 0 = omega arith in ap (λ q. leftFor q d p) e
+  left-end d p h = let e : H .length - d ≡ 0 = omega arith in ap (λ q. leftFor q d p) e
 
-  left-later : (d c : ℕ) → H - d ≡ c → stepsLeft d (enter W H (suc l) d) ≡ later c d
+  left-later : (d c : ℕ) → H .length - d ≡ c → stepsLeft d (enter W H (suc l) d) ≡ later c d
   left-later d zero e = left-end d _ (omega arith) ∙ unfold later in refl
   left-later d (suc c) e = left-enter d c e
 
-  pub left-row : (d lev b k : ℕ) (c : Band) → d < H → tail d lev b ≡ feed (rowName (suc k) c (rowAt H d (suc k))) ∷ tailAt d (beyond W H (suc l) d k (code c)) →
-      stepsLeft d (place lev b) ≡ feed (rowName (suc k) c (rowAt H d (suc k))) ∷ stepsLeft d (beyond W H (suc l) d k (code c))
-  left-row d lev b k c h e =
-      let rest : H - d ≡ suc (H - d - 1) = omega arith in
-      left-now d _ rest (place lev b)
-      ∙ ap (λ t. t ++ later (H - d - 1) (suc d)) e
-      ∙ ap (λ t. feed (rowName (suc k) c (rowAt H d (suc k))) ∷ t) (sym (left-now d _ rest (beyond W H (suc l) d k (code c))))
+  pub left-row : (d : ℕ) (q : Place) (k : ℕ) (a : Bool) (c : Band) → d < H .length →
+      tailAt d q ≡ feed (rowName (suc k) c (setRow (sideAt k H) c (nowAt W H (suc l) d k a))) ∷ tailAt d (beyond W H (suc l) d k a (code c)) →
+      stepsLeft d q ≡ feed (rowName (suc k) c (setRow (sideAt k H) c (nowAt W H (suc l) d k a))) ∷ stepsLeft d (beyond W H (suc l) d k a (code c))
+  left-row d q k a c h e =
+      let rest : H .length - d ≡ suc (H .length - d - 1) = omega arith in
+      left-now d _ rest q
+      ∙ ap (λ t. t ++ later (H .length - d - 1) (suc d)) e
+      ∙ ap (λ t. feed (rowName (suc k) c (setRow (sideAt k H) c (nowAt W H (suc l) d k a))) ∷ t)
+      (sym (left-now d _ rest (beyond W H (suc l) d k a (code c))))
 
-  pub left-height : (d lev b : ℕ) → d < H → tail d lev b ≡ draw d ∷ [] → stepsLeft d (place lev b) ≡ draw d ∷ stepsLeft (suc d) (enter W H (suc l) (suc d))
-  left-height d lev b h e =
-      let rest : H - d ≡ suc (H - d - 1) = omega arith in
-      left-now d _ rest (place lev b) ∙ ap (λ t. t ++ later (H - d - 1) (suc d)) e ∙ ap (λ t. draw d ∷ t) (sym (left-later (suc d) (H - d - 1) (omega arith)))
+  pub left-height : (d : ℕ) (q : Place) → d < H .length → tailAt d q ≡ draw d ∷ [] → stepsLeft d q ≡ draw d ∷ stepsLeft (suc d) (enter W H (suc l) (suc d))
+  left-height d q h e =
+      let rest : H .length - d ≡ suc (H .length - d - 1) = omega arith in
+      left-now d _ rest q ∙ ap (λ t. t ++ later (H .length - d - 1) (suc d)) e
+      ∙ ap (λ t. draw d ∷ t) (sym (left-later (suc d) (H .length - d - 1) (omega arith)))
 
-  pub left-done : (d lev b : ℕ) → H ≤ d → stepsLeft d (place lev b) ≡ []
-  left-done d lev b h = left-end d (place lev b) h
+  pub left-done : (d : ℕ) (q : Place) → H .length ≤ d → stepsLeft d q ≡ []
+  left-done d q h = left-end d q h
 
   -- ---- at first all steps are left
   turns-later : (c d : ℕ) → inTurn d turn ++ later c d ≡ inTurn (d + c) turn
@@ -319,21 +416,11 @@ module _ (W H l : ℕ) where
   turns-later (suc c) d = let e : suc d + c ≡ d + suc c = omega arith in sym (append-assoc (inTurn d turn) _ _) ∙ turns-later c (suc d)
       ∙ ap (λ n. inTurn n turn) e
 
-  later-steps : later H 0 ≡ steps W H (suc l)
+  later-steps : later (H .length) 0 ≡ steps W H (suc l)
   unfolding steps inTurn
-  later-steps = let e : 0 + H ≡ H = omega arith in let f : suc l - 1 ≡ l = omega arith in
-      turns-later H 0 ∙ ap (λ n. inTurn n turn) e ∙ ap (λ q. inTurn H (λ r. rowSteps H (setSteps q 1 W H) r ++ (draw r ∷ []))) (sym f)
+  later-steps = let e : 0 + H .length ≡ H .length = omega arith in let f : suc l - 1 ≡ l = omega arith in
+      turns-later (H .length) 0 ∙ ap (λ n. inTurn n turn) e
+      ∙ ap (λ q. inTurn (H .length) (λ r. rowSteps H (setSteps q 1 W H) r ++ (draw r ∷ []))) (sym f)
 
-  dive-first : (m k : ℕ) → dive W H (suc l) 0 m k ≡ place (k + m) 0
-  unfolding dive
-  dive-first zero k = let e : k ≡ k + 0 = omega arith in ap (λ q. place q 0) e
-  dive-first (suc m) k =
-      let e : suc k + m ≡ k + suc m = omega arith in
-      rw (rowAt-first H k, opens-first (size k H)) (dive-first m (suc k) ∙ ap (λ q. place q 0) e)
-
-  pub left-first : 0 < H → stepsLeft 0 (place (suc l) 0) ≡ steps W H (suc l)
-  unfolding enter
-  left-first h =
-      let e : 0 + suc l ≡ suc l = omega arith in
-      let f : H - 0 ≡ H = omega arith in
-      ap (stepsLeft 0) (sym (dive-first (suc l) 0 ∙ ap (λ q. place q 0) e)) ∙ left-later 0 H f ∙ later-steps
+  pub left-first : stepsLeft 0 (enter W H (suc l) 0) ≡ steps W H (suc l)
+  left-first = let f : H .length - 0 ≡ H .length = omega arith in left-later 0 (H .length) f ∙ later-steps

@@ -8,18 +8,20 @@ use lib.IntN.{ℤ, pos}
 use lib.Dec.{ltb, eqb}
 use borrow.Author.Tests.{eqb-true}
 use Rattle.numbers.specs.Signal.{pick}
-use Rattle.wavelet.specs.Levels.{size}
+use Rattle.lifting.specs.Grid.{Side}
+use Rattle.wavelet.specs.Levels.{sideAt}
 use Rattle.wavelet.specs.Store.{storeLength}
 use Rattle.reader.specs.declared.Reader.{Reader}
-use Rattle.reader.specs.Sets.{rowAt}
+use Rattle.reader.specs.Sets.{K, setAt}
 use Rattle.level.specs.Tried.{Tried, passed, bind, onto, memory}
-use Rattle.reader.specs.Store.{stretchAt, from, behind, zeroed, fedAt, workedAt}
-use Rattle.reader.specs.Machine.{lastOfSet, settled, finished, fedOn}
-use Rattle.reader.specs.State.{next, settles, feeds, drawDue}
+use Rattle.reader.specs.Store.{stretchAt, from, behind, zeroed, hasCells, fedAt, workedAt}
+use Rattle.reader.specs.Machine.{nowAt, lastOfSet, settled, finished, fedOn}
+use Rattle.reader.specs.State.{columns, rows, next, settles, feeds, drawDue}
 use Rattle.reader.specs.Questions.{setUpQuestion, feedQuestion, drawQuestion}
 use Rattle.reader.specs.Calls.{setUpStore, storeAfter, feedStore, drawStore}
 use Rattle.areas.proofs.AreaLaws.{front-rest}
-use Rattle.reader.proofs.StoreLaws.{stretch-suc, stretch-in, stretch-is, store-in}
+use Rattle.wavelet.proofs.StoreLaws.{store-in}
+use Rattle.reader.proofs.StoreLaws.{stretch-suc, stretch-in, stretch-is}
 use Rattle.reader.proofs.PartLaws.{behind-past, from-at}
 use Rattle.level.proofs.KeptLaws.{kept-none, kept-more}
 use Rattle.level.proofs.WorkedPast.{Keeps, stops, goes, after, bound, worked-past}
@@ -29,14 +31,14 @@ use Rattle.reader.proofs.QuestionLaws.{counts-in}
 use Rattle.reader.proofs.Keeps.{feed-counts, draw-counts}
 
 -- ---- in the store
-module _ (W H L d : ℕ) where
+module _ (W H : Side) (L d : ℕ) where
   abbrev N : ℕ
   N = storeLength W L
 
-  stretch-within : (k : ℕ) → k < L → stretchAt W k + 4 * size k W ≤ N
+  stretch-within : (k : ℕ) → k < L → stretchAt W k + 4 * sideAt k W .length ≤ N
   stretch-within k h = omega (arith, stretch-suc W k, stretch-in W (suc k) L h, stretch-is W L)
 
-  put-past : (k : ℕ) (x : ℕ → ℤ) (t : Tried) → k < L → Keeps (4 * size k W) (from (stretchAt W k) x) t → Keeps N x (onto (behind (stretchAt W k) x) t)
+  put-past : (k : ℕ) (x : ℕ → ℤ) (t : Tried) → k < L → Keeps (4 * sideAt k W .length) (from (stretchAt W k) x) t → Keeps N x (onto (behind (stretchAt W k) x) t)
   unfolding onto
   put-past k x _ h stops = stops
   put-past k x _ h (goes {y} a) =
@@ -48,68 +50,75 @@ module _ (W H L d : ℕ) where
             behind-past b x y j (omega arith) ∙ a .same (j - b) (omega arith) ∙ from-at b x (j - b) ∙ ap x back;
       })
 
-  worked-at-past : (k : ℕ) (x : ℕ → ℤ) → k < L → Keeps N x (workedAt W H L d k x)
+  worked-at-past : (k n : ℕ) (x : ℕ → ℤ) → k < L → Keeps N x (workedAt W H L k n x)
   unfolding workedAt
-  worked-at-past k x h = put-past k x _ h (worked-past k (size k W) (size k H) (eqb (suc k) L) (rowAt H d (suc k)) (from (stretchAt W k) x))
+  worked-at-past k n x h = go (hasCells (sideAt k W) (sideAt k H))
+    where
+      go : (t : Bool) → Keeps N x (pick t
+          (onto (behind (stretchAt W k) x) (K .work (eqb (suc k) L) k (sideAt k W) (sideAt k H) n (from (stretchAt W k) x))) (passed x))
+      go true = put-past k x _ h (worked-past k (sideAt k W) (sideAt k H) (eqb (suc k) L) n (from (stretchAt W k) x))
+      go false = goes (kept-none N x)
 
   settled-past : (to k : ℕ) (x : ℕ → ℤ) → k ≤ L → Keeps N x (settled W H L d to k x)
   unfolding settled
   settled-past to zero x h = goes (kept-none N x)
   settled-past to (suc k) x h = go (ltb to (suc k)) (λ y. settled-past to k y (omega arith))
     where
-      go : (t : Bool) → ((y : ℕ → ℤ) → Keeps N y (settled W H L d to k y)) → Keeps N x (pick t (bind (workedAt W H L d k x) (settled W H L d to k)) (passed x))
-      go true ih = bound N x _ _ (worked-at-past k x (omega arith)) ih
+      go : (t : Bool) → ((y : ℕ → ℤ) → Keeps N y (settled W H L d to k y)) →
+          Keeps N x (pick t (bind (workedAt W H L k (setAt H d k) x) (settled W H L d to k)) (passed x))
+      go true ih = bound N x _ _ (worked-at-past k (setAt H d k) x (omega arith)) ih
       go false ih = goes (kept-none N x)
 
-  finished-past : (k c : ℕ) (x : ℕ → ℤ) → k < L → Keeps N x (finished W H L d k c x)
+  finished-past : (k n c : ℕ) (x : ℕ → ℤ) → k < L → Keeps N x (finished W H L d k n c x)
   unfolding finished
-  finished-past k c x h = go (lastOfSet W H L d k c)
+  finished-past k n c x h = go (lastOfSet W H L d k n c)
     where
-      go : (t : Bool) → Keeps N x (pick t (workedAt W H L d k x) (passed x))
-      go true = worked-at-past k x h
+      go : (t : Bool) → Keeps N x (pick t (workedAt W H L k n x) (passed x))
+      go true = worked-at-past k n x h
       go false = goes (kept-none N x)
 
-  fed-past : (k c : ℕ) (v x : ℕ → ℤ) → k ≤ L → Keeps N x (fedOn W H L d k c v x)
+  fed-past : (k : ℕ) (a : Bool) (c : ℕ) (v x : ℕ → ℤ) → k ≤ L → Keeps N x (fedOn W H L d k a c v x)
   unfolding fedOn
-  fed-past zero c v x h = goes (kept-none N x)
-  fed-past (suc k) c v x h =
-      let y = fedAt W H d k c v x in
+  fed-past zero a c v x h = goes (kept-none N x)
+  fed-past (suc k) a c v x h =
+      let n = nowAt W H L d k a in
+      let y = fedAt W H k n c v x in
       let room : storeLength W (k + 1) ≤ N = store-in W (k + 1) L (omega arith) in
-      after N x y _ (kept-more (storeLength W (k + 1)) N x y room (fed-kept W H d k c v x)) (finished-past k c y (omega arith))
+      after N x y _ (kept-more (storeLength W (k + 1)) N x y room (fed-kept W H k n c v x)) (finished-past k n c y (omega arith))
 
 -- ---- a reader whose level is one of its own
 module _ (s : Reader) (deep : s .level ≤ s .levels) where
-  settles-past : (x : ℕ → ℤ) → Keeps (storeLength (s .width) (s .levels)) x (settles s x)
+  settles-past : (x : ℕ → ℤ) → Keeps (storeLength (columns s) (s .levels)) x (settles s x)
   unfolding settles
-  settles-past x = settled-past (s .width) (s .height) (s .levels) (s .drawn) (next s .level) (s .level) x deep
+  settles-past x = settled-past (columns s) (rows s) (s .levels) (s .drawn) (next s .level) (s .level) x deep
 
-  feeds-past : (v x : ℕ → ℤ) → Keeps (storeLength (s .width) (s .levels)) x (feeds s v x)
+  feeds-past : (v x : ℕ → ℤ) → Keeps (storeLength (columns s) (s .levels)) x (feeds s v x)
   unfolding feeds
   feeds-past v x =
-      bound (storeLength (s .width) (s .levels)) x (settles s x) _ (settles-past x)
-      (λ y. fed-past (s .width) (s .height) (s .levels) (s .drawn) (next s .level) (next s .band) v y (omega (arith, near s .within)))
+      bound (storeLength (columns s) (s .levels)) x (settles s x) _ (settles-past x)
+      (λ y. fed-past (columns s) (rows s) (s .levels) (s .drawn) (next s .level) (next s .alone) (next s .band) v y (omega (arith, near s .within)))
 
 remembered : (n : ℕ) (x : ℕ → ℤ) (t : Tried) → Keeps n x t → (j : ℕ) → n ≤ j → memory x t j ≡ x j
 unfolding memory
 remembered n x _ stops j p = refl
 remembered n x _ (goes a) j p = a .same j p
 
-zeroed-past : (W L : ℕ) (x : ℕ → ℤ) (j : ℕ) → storeLength W L ≤ j → zeroed W L x j ≡ x j
+zeroed-past : (W : Side) (L : ℕ) (x : ℕ → ℤ) (j : ℕ) → storeLength W L ≤ j → zeroed W L x j ≡ x j
 unfolding zeroed
 zeroed-past W L x j p = front-rest (storeLength W L) (λ _. pos 0) x j p
 
 -- y is what stands there where the call passed
-after-past : (s : Reader) (q : ℕ) (y x : ℕ → ℤ) (j : ℕ) → storeLength (s .width) (s .levels) ≤ j → (q ≡ 0 → y j ≡ x j) → storeAfter s q y x j ≡ x j
+after-past : (s : Reader) (q : ℕ) (y x : ℕ → ℤ) (j : ℕ) → storeLength (columns s) (s .levels) ≤ j → (q ≡ 0 → y j ≡ x j) → storeAfter s q y x j ≡ x j
 unfolding storeAfter
 after-past s q y x j p yes′ = go (eqb q 0) refl (eqb q 14)
   where
-    go : (t : Bool) → eqb q 0 ≡ t → (u : Bool) → pick t y (pick u (zeroed (s .width) (s .levels) x) x) j ≡ x j
+    go : (t : Bool) → eqb q 0 ≡ t → (u : Bool) → pick t y (pick u (zeroed (columns s) (s .levels) x) x) j ≡ x j
     go true e u = yes′ (eqb-true q 0 e)
-    go false e true = zeroed-past (s .width) (s .levels) x j p
+    go false e true = zeroed-past (columns s) (s .levels) x j p
     go false e false = refl
 
 -- ---- the calls
-pub set-up-surplus : (W H L n : ℕ) (x : ℕ → ℤ) (j : ℕ) → storeLength W L ≤ j → setUpStore W L (setUpQuestion W H L n) x j ≡ x j
+pub set-up-surplus : (W H : Side) (L n : ℕ) (x : ℕ → ℤ) (j : ℕ) → storeLength W L ≤ j → setUpStore W L (setUpQuestion W H L n) x j ≡ x j
 unfolding setUpStore
 set-up-surplus W H L n x j p = go (eqb (setUpQuestion W H L n) 0)
   where
@@ -118,7 +127,7 @@ set-up-surplus W H L n x j p = go (eqb (setUpQuestion W H L n) 0)
     go false = refl
 
 -- a feed of m numbers v on a store of n numbers
-pub feed-surplus : (s : Reader) (n m : ℕ) (x v : ℕ → ℤ) (j : ℕ) → storeLength (s .width) (s .levels) ≤ j →
+pub feed-surplus : (s : Reader) (n m : ℕ) (x v : ℕ → ℤ) (j : ℕ) → storeLength (columns s) (s .levels) ≤ j →
     feedStore s (feedQuestion s n x m v) v x j ≡ x j
 unfolding feedStore
 feed-surplus s n m x v j p = after-past s (feedQuestion s n x m v) (memory x (feeds s v x)) x j p passes
@@ -126,10 +135,10 @@ feed-surplus s n m x v j p = after-past s (feedQuestion s n x m v) (memory x (fe
     passes : feedQuestion s n x m v ≡ 0 → memory x (feeds s v x) j ≡ x j
     passes e =
         let c = counts-in s (feed-counts s n m x v (λ z. omega (arith, e, z)) (λ z. omega (arith, e, z))) in
-        remembered (storeLength (s .width) (s .levels)) x (feeds s v x) (feeds-past s (c .at) v x) j p
+        remembered (storeLength (columns s) (s .levels)) x (feeds s v x) (feeds-past s (c .at) v x) j p
 
 -- a draw into an area of m heights
-pub draw-surplus : (s : Reader) (n m : ℕ) (x : ℕ → ℤ) (j : ℕ) → storeLength (s .width) (s .levels) ≤ j →
+pub draw-surplus : (s : Reader) (n m : ℕ) (x : ℕ → ℤ) (j : ℕ) → storeLength (columns s) (s .levels) ≤ j →
     drawStore s (drawQuestion s n x m) x j ≡ x j
 unfolding drawStore
 draw-surplus s n m x j p = after-past s (drawQuestion s n x m) (pick (drawDue s) (memory x (settles s x)) x) x j p passes
@@ -140,5 +149,5 @@ draw-surplus s n m x j p = after-past s (drawQuestion s n x m) (pick (drawDue s)
         go : (t : Bool) → pick t (memory x (settles s x)) x j ≡ x j
         go true =
             let c = counts-in s (draw-counts s n m x (λ z. omega (arith, e, z)) (λ z. omega (arith, e, z))) in
-            remembered (storeLength (s .width) (s .levels)) x (settles s x) (settles-past s (c .at) x) j p
+            remembered (storeLength (columns s) (s .levels)) x (settles s x) (settles-past s (c .at) x) j p
         go false = refl

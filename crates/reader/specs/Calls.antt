@@ -5,24 +5,37 @@ use lib.IntN.{ℤ}
 use lib.Dec.{eqb}
 use Rattle.numbers.specs.Signal.{pick}
 use Rattle.lifting.specs.Halves.{fronted}
+use Rattle.lifting.specs.Grid.{Side}
 use Rattle.reader.specs.declared.Reader.{Reader}
 use Rattle.areas.specs.Areas.{height16}
 use Rattle.level.specs.Tried.{memory}
 use Rattle.reader.specs.Sets.{K}
 use Rattle.reader.specs.Store.{zeroed}
 use Rattle.reader.specs.Answers.{Reply, gives, refused, impossible, Want, Handed, aRow, nothing}
-use Rattle.reader.specs.State.{wants, settles, feeds, drawDue, fedReader, drawnReader, endedReader}
+use Rattle.reader.specs.Machine.{enter}
+use Rattle.reader.specs.State.{columns, wants, settles, feeds, drawDue, fedReader, drawnReader, endedReader}
 
 -- ---- set-up
--- a fresh reader: nothing drawn, and level L starts with its LL row
-unfoldable pub fresh : ℕ → ℕ → ℕ → Reader
-fresh W H L = record { width = W; height = H; levels = L; drawn = 0; level = L; band = 0; ended = false }
+-- a fresh reader: nothing drawn, and row 0 begins
+unfoldable pub fresh : Side → Side → ℕ → Reader
+fresh W H L = record {
+  width = W .length;
+  height = H .length;
+  levels = L;
+  x = W .start;
+  y = H .start;
+  drawn = 0;
+  level = enter W H L 0 .level;
+  alone = enter W H L 0 .alone;
+  band = enter W H L 0 .band;
+  ended = false;
+}
 
-unfoldable pub setUpReply : ℕ → ℕ → ℕ → ℕ → Reply Reader
+unfoldable pub setUpReply : Side → Side → ℕ → ℕ → Reply Reader
 setUpReply W H L q = pick (eqb q 0) (gives (fresh W H L)) (refused q)
 
 -- "whose needed part set-up zeroes"
-unfoldable pub setUpStore : ℕ → ℕ → ℕ → (ℕ → ℤ) → ℕ → ℤ
+unfoldable pub setUpStore : Side → ℕ → ℕ → (ℕ → ℤ) → ℕ → ℤ
 setUpStore W L q x = pick (eqb q 0) (zeroed W L x) x
 
 -- ---- want
@@ -35,7 +48,7 @@ feedReply s q = pick (eqb q 0) (gives (fedReader s)) (pick (eqb q 14) (impossibl
 
 -- y where the call passes, zeroed where it gives 14, as it was where another question turns it away
 unfoldable pub storeAfter : Reader → ℕ → (ℕ → ℤ) → (ℕ → ℤ) → ℕ → ℤ
-storeAfter s q y x = pick (eqb q 0) y (pick (eqb q 14) (zeroed (s .width) (s .levels) x) x)
+storeAfter s q y x = pick (eqb q 0) y (pick (eqb q 14) (zeroed (columns s) (s .levels) x) x)
 
 unfoldable pub feedStore : Reader → ℕ → (ℕ → ℤ) → (ℕ → ℤ) → ℕ → ℤ
 feedStore s q v x = storeAfter s q (memory x (feeds s v x)) x
@@ -51,10 +64,9 @@ unfoldable pub drawStore : Reader → ℕ → (ℕ → ℤ) → ℕ → ℤ
 drawStore s q x = storeAfter s q (pick (drawDue s) (memory x (settles s x)) x) x
 
 -- the height row that stands in the store x: row d of level 1
-unfoldable pub heightRow : ℕ → ℕ → (ℕ → ℤ) → ℕ → ℤ
-heightRow W d x c = height16 (K .made W d x c)
+unfoldable pub heightRow : Reader → (ℕ → ℤ) → ℕ → ℤ
+heightRow s x c = height16 (K .made (columns s) (s .y) (s .drawn) x c)
 
 -- the output area z afterwards
 unfoldable pub drawArea : Reader → ℕ → (ℕ → ℤ) → (ℕ → ℤ) → ℕ → ℤ
-drawArea s q x z =
-    pick (eqb q 0) (pick (drawDue s) (fronted (s .width) (heightRow (s .width) (s .drawn) (memory x (settles s x))) z) z) z
+drawArea s q x z = pick (eqb q 0) (pick (drawDue s) (fronted (s .width) (heightRow s (memory x (settles s x))) z) z) z

@@ -5,28 +5,28 @@ use mathlib.Core.Path.{_≡_}
 use mathlib.Core.Logic.{_↔_}
 use mathlib.Core.Bool.{Bool, true, false}
 use mathlib.Core.List.{List, [], _∷_, _++_}
-use Prim.Native.Nat.{ℕ, suc, _-_, _≤_, _<_}
+use Prim.Native.Nat.{ℕ, suc, _+_, _-_, _≤_, _<_}
 use lib.IntN.{ℤ, pos}
 use lib.ListN.{length, getD}
 use lib.Dec.{leb, eqb}
-use mir.Syntax.{w32}
-use mir.Val.{SFits}
 use Rattle.numbers.specs.Signal.{pick, both}
-use Rattle.numbers.specs.Word.{wrap32, whole}
-use Rattle.wavelet.specs.Bands.{Grid, code}
-use Rattle.wavelet.specs.Levels.{size, approximation, levelBand}
+use Rattle.numbers.specs.Word.{whole}
+use Rattle.lifting.specs.Grid.{Side}
+use Rattle.wavelet.specs.Bands.{Grid, code, down}
+use Rattle.wavelet.specs.Maps.{IsMap}
+use Rattle.wavelet.specs.Levels.{sideAt, levelBand}
 use Rattle.wavelet.specs.View.{bandColumns}
 use Rattle.wavelet.specs.ViewCall.{bandRowExists}
-use Rattle.wavelet.specs.Maps.{IsMap, valueFits}
+use Rattle.wavelet.specs.Order.{firstSet, RowName, inTurn, times}
+use Rattle.wavelet.specs.Steps.{steps, Step, bandRowsOf, heightRowsOf}
 use Rattle.wavelet.specs.Questions.{ask}
-use Rattle.wavelet.specs.Order.{RowName, inTurn, times}
-use Rattle.wavelet.specs.Steps.{Step, steps, bandRowsOf, heightRowsOf}
 use Rattle.wavelet.specs.Steps as step
 use Rattle.calls.specs.Lists.{Reply, gives, refused, Area, All, gathered, ever}
 use Rattle.calls.specs.Lists as lists
 use Rattle.reader.specs.declared.Reader.{Reader}
-use Rattle.level.specs.Sets.{setOf}
-use Rattle.reader.specs.Sets.{rowAt}
+use Rattle.reader.specs.Sets.{setAt}
+use Rattle.reader.specs.Rebuilt.{Rows, SetFits}
+use Rattle.reader.specs.Store.{hasCells}
 use Rattle.reader.specs.Answers.{Want, row, drawNow, done, ended, Handed, aRow}
 use Rattle.reader.specs.Answers as answer
 use Rattle.reader.specs.Questions.{runFits, countsFit, wantQuestion, feedQuestion, drawQuestion}
@@ -113,8 +113,8 @@ events = lists.events event next
 abbrev pub final : List Call → World → World
 final = lists.final next
 
--- "Fresh means the state and line store of a set-up that passed": of W × H at L levels, on a store of n numbers in which x stood
-abbrev pub freshWorld : ℕ → ℕ → ℕ → ℕ → (ℕ → ℤ) → World
+-- "Fresh means the state and line store of a set-up that passed": of the columns W and the rows H at L levels, on a store of n numbers in which x stood
+abbrev pub freshWorld : Side → Side → ℕ → ℕ → (ℕ → ℤ) → World
 freshWorld W H L n x = record { reader = fresh W H L; length = n; store = setUpStore W L 0 x }
 
 -- ---- how far the steps are gone
@@ -184,38 +184,38 @@ drawnRows = gathered drawnBy
 
 -- ---- "A map has them if it fits the set-up, in H too, and its plane at the set-up's levels has them as these rows."
 -- a run a is band row x of a map g: its length, and T.800's whole numbers
-pub record IsRow (W H : ℕ) (g : Grid) (x : RowName) (a : Area) : Type 0 where
+pub record IsRow (W H : Side) (g : Grid) (x : RowName) (a : Area) : Type 0 where
   pub size : a .size ≡ bandColumns W (x .level) (x .band)
   pub values : (i : ℕ) → i < bandColumns W (x .level) (x .band) → a .numbers i ≡ levelBand whole W H g (x .level) (x .band) (x .row) i
 
-abbrev pub HasRow : ℕ → ℕ → Grid → FedRow → Type 0
+abbrev pub HasRow : Side → Side → Grid → FedRow → Type 0
 HasRow W H g f = IsRow W H g (f .row) (f .run)
 
-pub record HasFed (W H L : ℕ) (g : Grid) (es : List Event) : Type 0 where
-  pub map : IsMap W H g
+pub record HasFed (W H : Side) (L : ℕ) (g : Grid) (es : List Event) : Type 0 where
+  pub map : IsMap (W .length) (H .length) g
   pub rows : All (HasRow W H g) (fedRows (steps W H L) es)
 
 -- the rows ys are the first rows of the map
-pub record FirstRows (W : ℕ) (g : Grid) (ys : List (ℕ → ℤ)) : Type 0 where
-  pub are : (r c : ℕ) → r < length ys → c < W → getD ys r (λ _. pos 0) c ≡ g r c
+pub record FirstRows (W : Side) (g : Grid) (ys : List (ℕ → ℤ)) : Type 0 where
+  pub are : (r c : ℕ) → r < length ys → c < W .length → getD ys r (λ _. pos 0) c ≡ g r c
 
 -- they are all the rows of a map that has the rows fed
-pub record AllDrawn (W H L : ℕ) (es : List Event) : Type 0 where
+pub record AllDrawn (W H : Side) (L : ℕ) (es : List Event) : Type 0 where
   pub map : Grid
   pub has : HasFed W H L map es
-  pub all : length (drawnRows es) ≡ H
+  pub all : length (drawnRows es) ≡ H .length
   pub first : FirstRows W map (drawnRows es)
 
 -- ---- the next call, with these steps left; e: 14 was given
 -- "The want is the next step, Done after the last, Ended after 14."
-unfoldable pub wantSays : ℕ → Bool → List Step → Want
+unfoldable pub wantSays : Side → Bool → List Step → Want
 wantSays W true t = ended
 wantSays W false [] = done
 wantSays W false (step.feed x ∷ t) = row (x .level) (code (x .band)) (x .row) (bandColumns W (x .level) (x .band))
 wantSays W false (step.draw r ∷ t) = drawNow
 
 -- the number of the question before 14 that turns a feed away: 9, 8, 13, 7, or 0
-unfoldable pub feedTurned : ℕ → Bool → List Step → Area → ℕ
+unfoldable pub feedTurned : Side → Bool → List Step → Area → ℕ
 feedTurned W true t a = 9
 feedTurned W false [] a = 8
 feedTurned W false (step.draw r ∷ t) a = 8
@@ -225,11 +225,11 @@ feedTurned W false (step.feed x ∷ t) a =
     0)
 
 -- what a draw into an area of m heights gives, unless it gives 14: 9, 12, a row or Nothing
-unfoldable pub drawSays : ℕ → Bool → List Step → ℕ → Reply Given
+unfoldable pub drawSays : Side → Bool → List Step → ℕ → Reply Given
 drawSays W true t m = refused 9
 drawSays W false [] m = gives nothing
 drawSays W false (step.feed x ∷ t) m = gives nothing
-drawSays W false (step.draw r ∷ t) m = pick (leb W m) (gives (heights W)) (refused 12)
+drawSays W false (step.draw r ∷ t) m = pick (leb (W .length) m) (gives (heights (W .length))) (refused 12)
 
 -- one of two answers
 pub data OneOf {A : Type 0} (x : A) (a b : A) : Type 0 where
@@ -243,7 +243,7 @@ written (gives nothing) = 0
 written (refused q) = 0
 
 -- what is seen of a draw into a: its answer, or 14 in place of a row; the area past what was written is as it was
-pub record Draws (W : ℕ) (e : Bool) (t : List Step) (a : Area) (seen : Event) : Type 0 where
+pub record Draws (W : Side) (e : Bool) (t : List Step) (a : Area) (seen : Event) : Type 0 where
   pub answer : Reply Given
   pub after : Area
   pub is : seen ≡ drew a answer after
@@ -251,47 +251,43 @@ pub record Draws (W : ℕ) (e : Bool) (t : List Step) (a : Area) (seen : Event) 
   pub untouched : (i : ℕ) → written answer ≤ i → after .numbers i ≡ a .numbers i
   pub says : OneOf answer (drawSays W e t (a .size)) (refused 14)
   -- 14 only where a row would be given
-  pub possible : answer ≡ refused 14 → drawSays W e t (a .size) ≡ gives (heights W)
+  pub possible : answer ≡ refused 14 → drawSays W e t (a .size) ≡ gives (heights (W .length))
 
 -- ---- "A set completed by a fed row is worked out in that feed", one without a fed row of its own in the next call that goes on
--- a grid of 32-bit numbers has these rows, in the arithmetic of words
-abbrev pub IsWordRow : ℕ → ℕ → Grid → FedRow → Type 0
-IsWordRow W H g f =
-    (i : ℕ) → i < bandColumns W (f .row .level) (f .row .band) → f .run .numbers i ≡ levelBand wrap32 W H g (f .row .level) (f .row .band) (f .row .row) i
+-- band rows by their names that have those fed
+abbrev pub HasFedRow : Side → Rows → FedRow → Type 0
+HasFedRow W P f = (i : ℕ) → i < bandColumns W (f .row .level) (f .row .band) → f .run .numbers i ≡ P (f .row) i
 
-pub record HasWords (W H : ℕ) (g : Grid) (fs : List FedRow) : Type 0 where
-  pub words : (r c : ℕ) → r < H → c < W → SFits w32 (g r c)
-  pub rows : All (IsWordRow W H g) fs
-
--- while row d is waited for, the rows that the sets of the levels above k make fit (`rowAt`: the set that each level is at; `setOf`: the set that makes a row)
-pub record SetsFit (W H L : ℕ) (g : Grid) (d k : ℕ) : Type 0 where
-  pub fit : (j r c : ℕ) → k ≤ j → j < L → r < size j H → setOf (size j H) r ≡ rowAt H d (suc j) → c < size j W →
-      valueFits j (approximation wrap32 W H g j r c) ≡ true
-
--- of every grid that has the rows fs
-abbrev pub Worked : ℕ → ℕ → ℕ → List FedRow → ℕ → ℕ → Type 0
-Worked W H L fs d k = (g : Grid) → HasWords W H g fs → SetsFit W H L g d k
+-- the set of a row of level k + 1
+unfoldable pub setNumber : Side → RowName → ℕ
+setNumber H x = x .row + firstSet (sideAt (x .level - 1) H) (down (x .band))
 
 -- the next of the steps t is a row of the same set as x
-unfoldable pub goesOnSet : RowName → List Step → Bool
-goesOnSet x [] = false
-goesOnSet x (step.feed y ∷ t) = both (eqb (y .level) (x .level)) (eqb (y .row) (x .row))
-goesOnSet x (step.draw r ∷ t) = false
+unfoldable pub goesOnSet : Side → RowName → List Step → Bool
+goesOnSet H x [] = false
+goesOnSet H x (step.feed y ∷ t) = both (eqb (y .level) (x .level)) (eqb (setNumber H y) (setNumber H x))
+goesOnSet H x (step.draw r ∷ t) = false
 
--- a feed of row x, with the steps t after it: its own set is worked out with it if x is the last of it
-unfoldable pub workedAbove : RowName → List Step → ℕ
-workedAbove x t = pick (goesOnSet x t) (x .level) (x .level - 1)
+-- While row d is waited for, the sets of the levels above k fit: `setAt` is the set of each that makes what is waited for.
+pub record SetsFit (W H : Side) (L : ℕ) (P : Rows) (d k : ℕ) : Type 0 where
+  pub fit : (j : ℕ) → k ≤ j → j < L → hasCells (sideAt j W) (sideAt j H) ≡ true → SetFits W H P L j (setAt H d j)
+
+-- A feed of row x, with the steps t after it. Its own set fits if x is the last of it; and the sets of the levels above, which made what its set waited for:
+-- where it is not that of a high row alone before the set that makes a row.
+pub record FeedFits (W H : Side) (L : ℕ) (P : Rows) (d : ℕ) (x : RowName) (t : List Step) : Type 0 where
+  pub own : goesOnSet H x t ≡ false → SetFits W H P L (x .level - 1) (setNumber H x)
+  pub above : setNumber H x ≡ setAt H d (x .level - 1) → SetsFit W H L P d (x .level)
 
 -- a feed of the run a as row x goes on, with the steps t after it
-pub record FeedGoes (W H L : ℕ) (es : List Event) (then : Call → Event) (a : Area) (x : RowName) (t : List Step) : Type 0 where
+pub record FeedGoes (W H : Side) (L : ℕ) (es : List Event) (then : Call → Event) (a : Area) (x : RowName) (t : List Step) : Type 0 where
   pub next : left (steps W H L) es ≡ step.feed x ∷ t
   pub passes : then (feed a) ≡ fed a (gives tt)
 
 -- ---- the claim, of the events es of any list of calls; `then` is what would be seen of a further call
-pub record Demand3 (W H L : ℕ) (es : List Event) (then : Call → Event) : Type 0 where
+pub record Demand3 (W H : Side) (L : ℕ) (es : List Event) (then : Call → Event) : Type 0 where
   -- "one list of steps: each band row to feed, once, and each height row to draw, once"
   pub rows-once : (x : RowName) → times x (bandRowsOf (steps W H L)) ≡ pick (bandRowExists W H L (x .level) (x .band) (x .row)) 1 0
-  pub heights-once : heightRowsOf (steps W H L) ≡ inTurn H (λ r. r ∷ [])
+  pub heights-once : heightRowsOf (steps W H L) ≡ inTurn (H .length) (λ r. r ∷ [])
   -- the want
   pub wants : then want ≡ wanted (gives (wantSays W (endedBy es) (left (steps W H L) es)))
   -- "A feed of the length that the want names goes one step on or gives 7 or 14"; any other is turned away
@@ -305,12 +301,14 @@ pub record Demand3 (W H L : ℕ) (es : List Event) (then : Call → Event) : Typ
   pub impossible : endedBy es ≡ true → (g : Grid) → HasFed W H L g es → ⊥
   -- a call that goes on has worked out what is due, and it fits: 14 comes no later
   pub feed-works : (a : Area) (x : RowName) (t : List Step) → FeedGoes W H L es then a x t →
-      Worked W H L (fedRows (steps W H L) es ++ (record { row = x; run = a } ∷ [])) (length (drawnRows es)) (workedAbove x t)
-  pub draw-works : (a b : Area) → then (draw a) ≡ drew a (gives (heights W)) b → Worked W H L (fedRows (steps W H L) es) (length (drawnRows es)) 0
+      (P : Rows) → All (HasFedRow W P) (fedRows (steps W H L) es ++ (record { row = x; run = a } ∷ [])) →
+      FeedFits W H L P (length (drawnRows es)) x t
+  pub draw-works : (a b : Area) → then (draw a) ≡ drew a (gives (heights (W .length))) b →
+      (P : Rows) → All (HasFedRow W P) (fedRows (steps W H L) es) → SetsFit W H L P (length (drawnRows es)) 0
   -- it says Done exactly when the heights drawn are all of such a map
   pub finished : then want ≡ wanted (gives done) ↔ AllDrawn W H L es
 
 -- of a list of calls on a fresh reader: "a state reached by calls always passes" question 1, and the claim
-pub record OfCalls (W H L n : ℕ) (x : ℕ → ℤ) (cs : List Call) : Type 0 where
+pub record OfCalls (W H : Side) (L n : ℕ) (x : ℕ → ℤ) (cs : List Call) : Type 0 where
   pub in-range : countsFit (final cs (freshWorld W H L n x) .reader) ≡ true
   pub claim : Demand3 W H L (events cs (freshWorld W H L n x)) (λ c. event c (final cs (freshWorld W H L n x)))

@@ -1,62 +1,80 @@
--- What stands in the line store of a reader, `Holds g s x`, for a grid g of 32-bit numbers that has the rows fed; and what each call keeps of it.
--- The numbers are 32-bit words (`wrap32`); for a map they are T.800's whole numbers.
+-- What stands in the line store of a reader, `Holds P s x`, for band rows P, by their names, that have the rows fed; and what each call keeps of it.
+-- The numbers are 32-bit words; for the rows of a map they are T.800's whole numbers, and the way back from them is the map.
 use mathlib.Core.Path.{_≡_}
-use mathlib.Core.Bool.{true}
+use mathlib.Core.Bool.{Bool, true, false}
 use Prim.Native.Nat.{ℕ, suc, _≤_, _<_}
 use lib.IntN.{ℤ}
 use lib.Dec.{eqb}
-use mir.Syntax.{w32}
-use mir.Val.{SFits}
-use Rattle.numbers.specs.Word.{wrap32}
+use Rattle.lifting.specs.Grid.{Side}
 use Rattle.wavelet.specs.Bands.{Grid, Band, code}
-use Rattle.wavelet.specs.Levels.{size, approximation, levelBand}
-use Rattle.wavelet.specs.Maps.{valueFits}
+use Rattle.wavelet.specs.Order.{rowName}
+use Rattle.wavelet.specs.Levels.{sideAt}
 use Rattle.reader.specs.declared.Reader.{Reader}
 use Rattle.reader.specs.Answers.{Reply, gives, impossible, Handed, aRow}
-use Rattle.reader.specs.Sets.{rowAt}
+use Rattle.reader.specs.Sets.{setAt}
 use Rattle.reader.specs.Asked.{keptAt, named}
-use Rattle.level.specs.Stands.{SetLeaves, SetBefore, BandStands}
-use Rattle.reader.specs.Store.{stretchAt, from}
-use Rattle.reader.specs.State.{next, nextRow, nextLength}
+use Rattle.reader.specs.Machine.{aloneAt, nowAt}
+use Rattle.level.specs.Stands.{SetHas, SetLeaves, SetBefore, BandStands, BackMeaning}
+use Rattle.reader.specs.Rebuilt.{Rows, bandsAt, partAt, LevelFits}
+use Rattle.reader.specs.Store.{stretchAt, from, hasCells}
+use Rattle.reader.specs.State.{columns, rows, next, nextRow, nextLength}
+
+-- ---- what stands in a level's memory: of the sets before set n also that none of them halved an odd number
+abbrev pub Tested : Side → Side → (Band → Grid) → ℕ → Type 0
+Tested W H p n = (m : ℕ) → m < n → SetHas W H p m
+
+abbrev pub M : BackMeaning
+M = record {
+  Leaves = λ k W H p n x. SetLeaves k W H p n x × Tested W H p n;
+  Before = λ W H p n x. SetBefore W H p n x × Tested W H p n;
+  Got = BandStands;
+}
 
 -- ---- the reader's store, while row `drawn` is waited for: levels coarser than `level` have their set, it has the bands before `band`, finer ones wait
-module _ (g : Grid) (s : Reader) where
-  abbrev pub part : ℕ → Grid
-  part k = approximation wrap32 (s .width) (s .height) g k
+module _ (P : Rows) (s : Reader) where
+  -- level k + 1 is one of the reader's, and not empty
+  pub record Level (k : ℕ) : Type 0 where
+    pub inside : k < s .levels
+    pub cells : hasCells (sideAt k (columns s)) (sideAt k (rows s)) ≡ true
 
-  abbrev pub set : ℕ → ℕ
-  set k = rowAt (s .height) (s .drawn) (suc k)
+  -- at a high row alone, the coarser levels have not begun
+  abbrev pub isAlone : Bool
+  isAlone = aloneAt (columns s) (rows s) (s .levels) (s .drawn) (s .level) (s .alone) (s .band)
+
+  abbrev pub now : ℕ → ℕ
+  now k = nowAt (columns s) (rows s) (s .levels) (s .drawn) k isAlone
 
   pub record Holds (x : ℕ → ℤ) : Type 0 where
-    pub below : s .drawn < s .height → (k : ℕ) → k < s .levels → s .level ≤ k →
-        SetLeaves k (size k (s .width)) (size k (s .height)) (part k) (set k) (from (stretchAt (s .width) k) x)
-    pub before : s .drawn < s .height → (k : ℕ) → k < s .levels → k < s .level →
-        SetBefore (size k (s .width)) (size k (s .height)) (part k) (set k) (from (stretchAt (s .width) k) x)
-    pub got : s .drawn < s .height → (k : ℕ) → k < s .levels → suc k ≡ s .level → (c : Band) → keptAt (eqb (suc k) (s .levels)) c ≡ true → code c < s .band →
-        BandStands (size k (s .width)) (size k (s .height)) (part k) (set k) (from (stretchAt (s .width) k) x) c
+    pub below : s .drawn < s .height → isAlone ≡ false → (k : ℕ) → Level k → s .level ≤ k →
+        M .Leaves k (sideAt k (columns s)) (sideAt k (rows s)) (bandsAt (columns s) (rows s) P (s .levels) k) (setAt (rows s) (s .drawn) k)
+        (from (stretchAt (columns s) k) x)
+    pub before : s .drawn < s .height → (k : ℕ) → Level k → suc k < s .level →
+        M .Before (sideAt k (columns s)) (sideAt k (rows s)) (bandsAt (columns s) (rows s) P (s .levels) k) (setAt (rows s) (s .drawn) k)
+        (from (stretchAt (columns s) k) x)
+    pub here : s .drawn < s .height → (k : ℕ) → Level k → suc k ≡ s .level →
+        M .Before (sideAt k (columns s)) (sideAt k (rows s)) (bandsAt (columns s) (rows s) P (s .levels) k) (now k) (from (stretchAt (columns s) k) x)
+    pub got : s .drawn < s .height → (k : ℕ) → Level k → suc k ≡ s .level → (c : Band) → keptAt (eqb (suc k) (s .levels)) c ≡ true → code c < s .band →
+        M .Got (sideAt k (columns s)) (sideAt k (rows s)) (bandsAt (columns s) (rows s) P (s .levels) k) (now k) (from (stretchAt (columns s) k) x) c
 
-  -- g is a grid of 32-bit numbers; it and its low-low parts below level L fit
-  abbrev pub Words : Type 0
-  Words = (r c : ℕ) → r < s .height → c < s .width → SFits w32 (g r c)
-
+  -- every level's part fits, and no number that is halved is odd
   abbrev pub AllFit : Type 0
-  AllFit = (k r c : ℕ) → k < s .levels → r < size k (s .height) → c < size k (s .width) → valueFits k (part k r c) ≡ true
+  AllFit = (k : ℕ) → Level k → LevelFits (columns s) (rows s) P (s .levels) k
 
-  -- v is the row of g that is wanted
+  -- v is the row of P that is wanted
   abbrev pub IsWanted : (ℕ → ℤ) → Type 0
-  IsWanted v = (i : ℕ) → i < nextLength s → v i ≡ levelBand wrap32 (s .width) (s .height) g (next s .level) (named (next s .band)) (nextRow s) i
+  IsWanted v = (i : ℕ) → i < nextLength s → v i ≡ P (rowName (next s .level) (named (next s .band)) (nextRow s)) i
 
--- ---- what each call keeps, by its answer, for every grid: x and x′ are the store before and after
+-- ---- what each call keeps, by its answer, for all rows P: x and x′ are the store before and after
 pub record SetUpHolds (r : Reply Reader) (x : ℕ → ℤ) : Type 0 where
-  pub ready : (s : Reader) → r ≡ gives s → (g : Grid) → Holds g s x
+  pub ready : (s : Reader) → r ≡ gives s → (P : Rows) → Holds P s x
 
--- a feed of g's row goes on to hold g; it gives 14 only if g has a value that does not fit
+-- a feed of P's row goes on to hold P; it gives 14 only if the way back from P has a value that does not fit, or halves an odd number
 pub record FeedKeeps (s : Reader) (v x : ℕ → ℤ) (r : Reply Reader) (x′ : ℕ → ℤ) : Type 0 where
-  pub passed : (t : Reader) → r ≡ gives t → (g : Grid) → Words g s → IsWanted g s v → Holds g s x → Holds g t x′
-  pub ended : (t : Reader) → r ≡ impossible t → (g : Grid) → Words g s → IsWanted g s v → Holds g s x → AllFit g s → ⊥
+  pub passed : (t : Reader) → r ≡ gives t → (P : Rows) → IsWanted P s v → Holds P s x → Holds P t x′
+  pub ended : (t : Reader) → r ≡ impossible t → (P : Rows) → IsWanted P s v → Holds P s x → AllFit P s → ⊥
 
--- a draw gives g's row in the area z′, and goes on to hold g; 14 likewise
+-- a draw gives the row of the way back from P in the area z′, and goes on to hold P; 14 likewise
 pub record DrawKeeps (s : Reader) (x : ℕ → ℤ) (r : Reply Handed) (x′ z′ : ℕ → ℤ) : Type 0 where
-  pub passed : (n : ℕ) (t : Reader) → r ≡ gives (aRow n t) → (g : Grid) → Words g s → Holds g s x →
-      Holds g t x′ × ((c : ℕ) → c < s .width → z′ c ≡ g (s .drawn) c)
-  pub ended : (t : Reader) → r ≡ impossible t → (g : Grid) → Words g s → Holds g s x → AllFit g s → ⊥
+  pub passed : (n : ℕ) (t : Reader) → r ≡ gives (aRow n t) → (P : Rows) → Holds P s x →
+      Holds P t x′ × ((c : ℕ) → c < s .width → z′ c ≡ partAt (columns s) (rows s) P (s .levels) 0 (s .drawn) c)
+  pub ended : (t : Reader) → r ≡ impossible t → (P : Rows) → Holds P s x → AllFit P s → ⊥

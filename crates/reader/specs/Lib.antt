@@ -7,6 +7,7 @@ pub mod State
 pub mod Questions
 pub mod Calls
 pub mod Inside
+pub mod Rebuilt
 pub mod Holds
 pub mod Demand3
 pub mod Played

@@ -8,6 +8,7 @@ use mathlib.Core.List.{List, [], _∷_, _++_}
 use Prim.Native.Nat.{ℕ, zero, suc}
 use lib.ListN.{length}
 use Rattle.wavelet.specs.Bands.{Grid}
+use Rattle.lifting.specs.Grid.{Side}
 use Rattle.wavelet.specs.View.{bandColumns}
 use Rattle.wavelet.specs.ViewCall.{bandRowExists}
 use Rattle.wavelet.specs.Maps.{IsMap}
@@ -38,11 +39,11 @@ module _ (rows : RowName → Area) where
 
 -- ---- the rows of a plane
 -- each has its length
-pub record Sized (W H L : ℕ) (rows : RowName → Area) : Type 0 where
+pub record Sized (W H : Side) (L : ℕ) (rows : RowName → Area) : Type 0 where
   pub size : (x : RowName) → bandRowExists W H L (x .level) (x .band) (x .row) ≡ true → rows x .size ≡ bandColumns W (x .level) (x .band)
 
 -- a map has all of them for its plane
-pub record HasAll (W H L : ℕ) (g : Grid) (rows : RowName → Area) : Type 0 where
+pub record HasAll (W H : Side) (L : ℕ) (g : Grid) (rows : RowName → Area) : Type 0 where
   pub are : (x : RowName) → bandRowExists W H L (x .level) (x .band) (x .row) ≡ true → IsRow W H g x (rows x)
 
 -- ---- one of the calls gave 7 or 14
@@ -53,8 +54,8 @@ pub data Refusal : List Event → Type 0 where
   after : {e : Event} {es : List Event} → Refusal es → Refusal (e ∷ es)
 
 -- every height of the map g was handed back, in order, and then Done is said
-pub record Back (W H : ℕ) (g : Grid) (es : List Event) (then : Call → Event) : Type 0 where
-  pub all : length (drawnRows es) ≡ H
+pub record Back (W H : Side) (g : Grid) (es : List Event) (then : Call → Event) : Type 0 where
+  pub all : length (drawnRows es) ≡ H .length
   pub heights : FirstRows W g (drawnRows es)
   pub says : then want ≡ wanted (gives done)
 
@@ -64,6 +65,6 @@ pub record Stopped (es : List Event) (then : Call → Event) : Type 0 where
   pub not-done : then want ≡ wanted (gives done) → ⊥
 
 -- ---- of the rows of a map it hands back that map; of rows that no map has, each of its length, it stops
-pub record Played (W H L : ℕ) (rows : RowName → Area) (es : List Event) (then : Call → Event) : Type 0 where
-  pub map-back : (g : Grid) → IsMap W H g → HasAll W H L g rows → Back W H g es then
-  pub no-map : Sized W H L rows → ((g : Grid) → IsMap W H g → HasAll W H L g rows → ⊥) → Stopped es then
+pub record Played (W H : Side) (L : ℕ) (rows : RowName → Area) (es : List Event) (then : Call → Event) : Type 0 where
+  pub map-back : (g : Grid) → IsMap (W .length) (H .length) g → HasAll W H L g rows → Back W H g es then
+  pub no-map : Sized W H L rows → ((g : Grid) → IsMap (W .length) (H .length) g → HasAll W H L g rows → ⊥) → Stopped es then

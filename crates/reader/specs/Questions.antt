@@ -4,13 +4,14 @@ use Prim.Native.Nat.{ℕ}
 use lib.IntN.{ℤ, natAbs}
 use lib.Dec.{leb, eqb}
 use Rattle.numbers.specs.Signal.{pick, both}
-use Rattle.wavelet.specs.Limits.{maxWidth, maxHeight, maxLevels, range}
+use Rattle.wavelet.specs.Limits.{maxWidth, maxHeight, maxLevels, range, maxOrigin}
 use Rattle.numbers.specs.Tests.{every}
 use Rattle.wavelet.specs.Questions.{ask, within}
+use Rattle.lifting.specs.Grid.{Side}
 use Rattle.wavelet.specs.Store.{storeLength}
 use Rattle.reader.specs.declared.Reader.{Reader}
 use Rattle.level.specs.Tried.{fits}
-use Rattle.reader.specs.State.{next, nextLength, rowDue, drawDue, settles, feeds}
+use Rattle.reader.specs.State.{columns, next, nextLength, rowDue, drawDue, settles, feeds}
 
 -- question 1: "Is every count in the state inside its range?"
 unfoldable pub countsFit : Reader → Bool
@@ -18,12 +19,14 @@ countsFit s =
     both (within 1 maxWidth (s .width))
     (both (within 1 maxHeight (s .height))
     (both (within 1 maxLevels (s .levels))
+    (both (leb (s .x) maxOrigin)
+    (both (leb (s .y) maxOrigin)
     (both (leb (s .drawn) (s .height))
     (both (leb (s .level) (s .levels))
-    (leb (s .band) 4)))))
+    (leb (s .band) 4)))))))
 
 -- question 5: is a line store of n numbers long enough?
-unfoldable pub storeFits : ℕ → ℕ → ℕ → Bool
+unfoldable pub storeFits : Side → ℕ → ℕ → Bool
 storeFits W L n = leb (storeLength W L) n
 
 -- question 7: "Is each coefficient in its level's range?", of n numbers v for level k
@@ -31,10 +34,10 @@ unfoldable pub runFits : ℕ → ℕ → (ℕ → ℤ) → Bool
 runFits k n v = every n (λ i. leb (natAbs (v i)) (range k))
 
 -- n is the length of the store
-unfoldable pub setUpQuestion : ℕ → ℕ → ℕ → ℕ → ℕ
+unfoldable pub setUpQuestion : Side → Side → ℕ → ℕ → ℕ
 setUpQuestion W H L n =
-    ask (within 1 maxWidth W) 2
-    (ask (within 1 maxHeight H) 3
+    ask (within 1 maxWidth (W .length)) 2
+    (ask (within 1 maxHeight (H .length)) 3
     (ask (within 1 maxLevels L) 4
     (ask (storeFits W L n) 5
     0)))
@@ -46,7 +49,7 @@ wantQuestion s = ask (countsFit s) 1 0
 unfoldable pub feedQuestion : Reader → ℕ → (ℕ → ℤ) → ℕ → (ℕ → ℤ) → ℕ
 feedQuestion s n x m v =
     ask (countsFit s) 1
-    (ask (storeFits (s .width) (s .levels) n) 5
+    (ask (storeFits (columns s) (s .levels) n) 5
     (ask (not (s .ended)) 9
     (ask (rowDue s) 8
     (ask (eqb m (nextLength s)) 13
@@ -58,7 +61,7 @@ feedQuestion s n x m v =
 unfoldable pub drawQuestion : Reader → ℕ → (ℕ → ℤ) → ℕ → ℕ
 drawQuestion s n x m =
     ask (countsFit s) 1
-    (ask (storeFits (s .width) (s .levels) n) 5
+    (ask (storeFits (columns s) (s .levels) n) 5
     (ask (not (s .ended)) 9
     (pick (drawDue s)
     (ask (leb (s .width) m) 12

@@ -1,6 +1,12 @@
--- The reader's levels: what each is, and the set that it is at while a height row is waited for.
-use Prim.Native.Nat.{ℕ, zero, suc}
-use Rattle.wavelet.specs.Levels.{size}
+-- The reader's levels: what each is, and the set that it is at while a height row is waited for. H is the side of a level's rows.
+use mathlib.Core.Bool.{Bool}
+use Prim.Native.Nat.{ℕ, zero, suc, _-_}
+use lib.Dec.{ltb, eqb}
+use Rattle.numbers.specs.Signal.{both}
+use Rattle.lifting.specs.Line.{lo}
+use Rattle.lifting.specs.Grid.{Side}
+use Rattle.wavelet.specs.Levels.{sideAt}
+use Rattle.wavelet.specs.Order.{firstSet}
 use Rattle.level.specs.Work.{admitted}
 use Rattle.level.specs.ReaderLevel.{ReaderLevel}
 use Rattle.level.specs.FiveThreeBack.{fiveThreeBack}
@@ -9,7 +15,19 @@ use Rattle.level.specs.FiveThreeBack.{fiveThreeBack}
 abbrev pub K : ReaderLevel
 K = fiveThreeBack admitted
 
--- The row of level k's low-low part on which row d of a map of H rows waits (level 0: the map itself). For k from 1 it is also the set that level k is at.
-unfoldable pub rowAt : ℕ → ℕ → ℕ → ℕ
+-- while row r of a level is waited for: the row of the next level that its set takes
+unfoldable pub rowBelow : Side → ℕ → ℕ
+rowBelow H r = K .set H r - firstSet H lo
+
+-- Does row r need a set before the one that makes it? Row 0 of a level that starts at an odd coordinate does: the set of its first high row alone, set 0.
+unfoldable pub needsTwo : Side → ℕ → Bool
+needsTwo H r = both (eqb r 0) (ltb 0 (K .set H r))
+
+-- The row of level k's low-low part on which row d of a map of the rows H waits (level 0: the map itself),
+unfoldable pub rowAt : Side → ℕ → ℕ → ℕ
 rowAt H d zero = d
-rowAt H d (suc k) = K .set (size k H) (rowAt H d k)
+rowAt H d (suc k) = rowBelow (sideAt k H) (rowAt H d k)
+
+-- and the set of level k + 1 that makes it
+unfoldable pub setAt : Side → ℕ → ℕ → ℕ
+setAt H d k = K .set (sideAt k H) (rowAt H d k)

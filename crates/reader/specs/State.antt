@@ -1,28 +1,38 @@
 -- What a reader's state says: the row that it wants, and what a feed or a draw makes of the store x.
 use mathlib.Core.Bool.{Bool, true, false}
-use Prim.Native.Nat.{ℕ, suc}
+use Prim.Native.Nat.{ℕ, suc, _-_}
 use lib.IntN.{ℤ}
 use lib.Dec.{ltb, eqb}
 use Rattle.numbers.specs.Signal.{pick, both}
+use Rattle.lifting.specs.Grid.{Side, side}
+use Rattle.wavelet.specs.Levels.{sideAt}
+use Rattle.wavelet.specs.Order.{setRow}
 use Rattle.wavelet.specs.View.{bandColumns}
 use Rattle.reader.specs.declared.Reader.{Reader}
-use Rattle.reader.specs.Sets.{rowAt}
 use Rattle.reader.specs.Asked.{named}
 use Rattle.reader.specs.Answers.{Want, row, drawNow, done, ended}
 use Rattle.level.specs.Tried.{Tried, bind}
-use Rattle.reader.specs.Machine.{Place, nextAt, settled, fedOn, placeFed, enter}
+use Rattle.reader.specs.Machine.{Place, nowAt, nextAt, settled, fedOn, placeFed, enter}
+
+-- its map's columns and rows
+abbrev pub columns : Reader → Side
+columns s = side (s .x) (s .width)
+
+abbrev pub rows : Reader → Side
+rows s = side (s .y) (s .height)
 
 module _ (s : Reader) where
   -- the place of the row wanted; level 0: there is none
   unfoldable pub next : Place
-  next = nextAt (s .width) (s .height) (s .levels) (s .drawn) (s .level) (s .band)
+  next = nextAt (columns s) (rows s) (s .levels) (s .drawn) (s .level) (s .alone) (s .band)
 
   -- its number, and its length
   unfoldable pub nextRow : ℕ
-  nextRow = rowAt (s .height) (s .drawn) (next .level)
+  nextRow =
+      setRow (sideAt (next .level - 1) (rows s)) (named (next .band)) (nowAt (columns s) (rows s) (s .levels) (s .drawn) (next .level - 1) (next .alone))
 
   unfoldable pub nextLength : ℕ
-  nextLength = bandColumns (s .width) (next .level) (named (next .band))
+  nextLength = bandColumns (columns s) (next .level) (named (next .band))
 
   -- a height row is left; a band row is wanted; a height row can be drawn
   unfoldable pub unfinished : Bool
@@ -44,22 +54,44 @@ module _ (s : Reader) where
 
   -- the sets that wait, worked out
   unfoldable pub settles : (ℕ → ℤ) → Tried
-  settles x = settled (s .width) (s .height) (s .levels) (s .drawn) (next .level) (s .level) x
+  settles x = settled (columns s) (rows s) (s .levels) (s .drawn) (next .level) (s .level) x
 
   -- "ahead of that call's own work": then the run v is fed
   unfoldable pub feeds : (ℕ → ℤ) → (ℕ → ℤ) → Tried
-  feeds v x = bind (settles x) (fedOn (s .width) (s .height) (s .levels) (s .drawn) (next .level) (next .band) v)
+  feeds v x = bind (settles x) (fedOn (columns s) (rows s) (s .levels) (s .drawn) (next .level) (next .alone) (next .band) v)
 
   -- ---- the reader after it
   abbrev pub movedTo : ℕ → Place → Reader
-  movedTo d p = record { width = s .width; height = s .height; levels = s .levels; drawn = d; level = p .level; band = p .band; ended = false }
+  movedTo d p = record {
+    width = s .width;
+    height = s .height;
+    levels = s .levels;
+    x = s .x;
+    y = s .y;
+    drawn = d;
+    level = p .level;
+    alone = p .alone;
+    band = p .band;
+    ended = false;
+  }
 
   unfoldable pub fedReader : Reader
-  fedReader = movedTo (s .drawn) (placeFed (s .width) (s .height) (s .levels) (s .drawn) (next .level) (next .band))
+  fedReader = movedTo (s .drawn) (placeFed (columns s) (rows s) (s .levels) (s .drawn) (next .level) (next .alone) (next .band))
 
   unfoldable pub drawnReader : Reader
-  drawnReader = movedTo (suc (s .drawn)) (enter (s .width) (s .height) (s .levels) (suc (s .drawn)))
+  drawnReader = movedTo (suc (s .drawn)) (enter (columns s) (rows s) (s .levels) (suc (s .drawn)))
 
   -- "a no ends the reader"; its other numbers stay
   unfoldable pub endedReader : Reader
-  endedReader = record { width = s .width; height = s .height; levels = s .levels; drawn = s .drawn; level = s .level; band = s .band; ended = true }
+  endedReader = record {
+    width = s .width;
+    height = s .height;
+    levels = s .levels;
+    x = s .x;
+    y = s .y;
+    drawn = s .drawn;
+    level = s .level;
+    alone = s .alone;
+    band = s .band;
+    ended = true;
+  }

@@ -1,20 +1,22 @@
 -- The line store: the levels' memories one after another, level 1 first. Document 01: it "needs 4 × (W(0) + ... + W(L−1)) numbers", and "each level works in
 -- its own stretch".
+use mathlib.Core.Bool.{Bool}
 use Prim.Native.Nat.{ℕ, zero, suc, _+_, _-_}
 use lib.IntN.{ℤ, pos}
 use lib.Dec.{ltb, eqb}
-use Rattle.numbers.specs.Signal.{pick}
+use Rattle.numbers.specs.Signal.{pick, both}
 use Rattle.lifting.specs.Halves.{fronted}
-use Rattle.wavelet.specs.Levels.{size}
+use Rattle.lifting.specs.Grid.{Side}
+use Rattle.wavelet.specs.Levels.{sideAt}
 use Rattle.wavelet.specs.Store.{storeLength}
-use Rattle.level.specs.Tried.{Tried, onto}
-use Rattle.reader.specs.Sets.{K, rowAt}
+use Rattle.level.specs.Tried.{Tried, passed, onto}
+use Rattle.reader.specs.Sets.{K}
 use Rattle.reader.specs.Asked.{named}
 
 -- where the stretch of level k + 1 begins: past those of the levels before it
-unfoldable pub stretchAt : ℕ → ℕ → ℕ
+unfoldable pub stretchAt : Side → ℕ → ℕ
 stretchAt W zero = 0
-stretchAt W (suc k) = stretchAt W k + K .stretch (size k W)
+stretchAt W (suc k) = stretchAt W k + K .stretch (sideAt k W)
 
 -- the store from place a on, and the store x with y from place a on
 unfoldable pub from : ℕ → (ℕ → ℤ) → ℕ → ℤ
@@ -24,16 +26,22 @@ unfoldable pub behind : ℕ → (ℕ → ℤ) → (ℕ → ℤ) → ℕ → ℤ
 behind a x y j = pick (ltb j a) (x j) (y (j - a))
 
 -- the needed part zeroed
-unfoldable pub zeroed : ℕ → ℕ → (ℕ → ℤ) → ℕ → ℤ
+unfoldable pub zeroed : Side → ℕ → (ℕ → ℤ) → ℕ → ℤ
 zeroed W L x = fronted (storeLength W L) (λ _. pos 0) x
 
--- ---- at level k + 1, which splits a grid of size k W columns and size k H rows, while row d of the map is waited for
--- the row with band code c of its set fed
-unfoldable pub fedAt : ℕ → ℕ → ℕ → ℕ → ℕ → (ℕ → ℤ) → (ℕ → ℤ) → ℕ → ℤ
-fedAt W H d k c v x = behind (stretchAt W k) x (K .feed (size k W) (named c) (rowAt H d (suc k)) v (from (stretchAt W k) x))
+-- columns and rows that have a number between them: "a level may be empty, after which no further level has rows"
+unfoldable pub hasCells : Side → Side → Bool
+hasCells W H = both (ltb 0 (W .length)) (ltb 0 (H .length))
 
--- its set worked out
-unfoldable pub workedAt : ℕ → ℕ → ℕ → ℕ → ℕ → (ℕ → ℤ) → Tried
-workedAt W H L d k x =
-    onto (behind (stretchAt W k) x)
-    (K .work (eqb (suc k) L) k (size k W) (size k H) (rowAt H d (suc k)) (from (stretchAt W k) x))
+-- ---- at level k + 1, which splits the columns sideAt k W and the rows sideAt k H
+-- the row with band code c of set n fed
+unfoldable pub fedAt : Side → Side → ℕ → ℕ → ℕ → (ℕ → ℤ) → (ℕ → ℤ) → ℕ → ℤ
+fedAt W H k n c v x =
+    behind (stretchAt W k) x (K .feed (sideAt k W) (sideAt k H .start) (named c) n v (from (stretchAt W k) x))
+
+-- set n worked out; an empty level has none
+unfoldable pub workedAt : Side → Side → ℕ → ℕ → ℕ → (ℕ → ℤ) → Tried
+workedAt W H L k n x =
+    pick (hasCells (sideAt k W) (sideAt k H))
+    (onto (behind (stretchAt W k) x) (K .work (eqb (suc k) L) k (sideAt k W) (sideAt k H) n (from (stretchAt W k) x)))
+    (passed x)

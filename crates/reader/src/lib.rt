@@ -5,13 +5,15 @@ mod steps;
 mod walk;
 
 use areas::copies;
-use areas::heights;
+use areas::height_rows;
 use level::rebuilding;
 use walk::Spot;
+use wavelet::shape::Shape;
 ghost use mathlib.Core.Path.{_≡_};
 ghost use lib.ListN.{length};
 ghost use Rattle.numbers.specs.Signal.{at};
-ghost use Rattle.wavelet.specs.Limits.{maxWidth, maxHeight, maxLevels};
+ghost use Rattle.wavelet.specs.Limits.{maxWidth, maxHeight, maxLevels, maxOrigin};
+ghost use Rattle.wavelet.specs.Shape as shape;
 ghost use Rattle.areas.specs.Areas.{heightsAt};
 ghost use Rattle.reader.specs.Machine.{place};
 ghost use Rattle.reader.specs.State.{movedTo, endedReader};
@@ -20,14 +22,18 @@ ghost use Rattle.reader.specs.Holds.{SetUpHolds, FeedKeeps, DrawKeeps};
 ghost use Rattle.reader.specs.Answers.{ofSetUp, ofWanted, ofFed, ofDrawn};
 ghost use Rattle.reader.specs.Calls.{setUpReply, setUpStore, wantReply, feedReply, feedStore, drawReply, drawStore, drawArea};
 
-// The counts of a reader; docs/STATE.md gives their ranges. `drawn` height rows are drawn; rows of `level` are collected (0: a height row can be drawn), and
-// `band` is the code of the first band that may be next.
+// The counts of a reader; docs/STATE.md gives their ranges. Its map starts at (x, y). `drawn` height rows are drawn; rows of `level` are collected (0: a height
+// row can be drawn), and `band` is the code of the first band that may be next. `alone`: they are rows of the level's set 0, a high row alone, before the set
+// that makes its row 0.
 pub struct Reader {
     pub width: usize,
     pub height: usize,
     pub levels: usize,
+    pub x: usize,
+    pub y: usize,
     pub drawn: usize,
     pub level: usize,
+    pub alone: bool,
     pub band: usize,
     pub ended: bool,
 }
@@ -68,6 +74,8 @@ impl Reader {
 
     pub const MAX_LEVELS: usize = 5;
 
+    pub const MAX_ORIGIN: usize = 65535;
+
     // A contract that names a constant follows an edit of it, so each is pinned to the definition's number.
     pub fn max_width() -> usize
         ensures { λ r. ⌜ r ≡ maxWidth ⌝ }
@@ -87,26 +95,41 @@ impl Reader {
         Reader::MAX_LEVELS
     }
 
+    pub fn max_origin() -> usize
+        ensures { λ r. ⌜ r ≡ maxOrigin ⌝ }
+    {
+        Reader::MAX_ORIGIN
+    }
+
     // A fresh reader; the needed part of the line store is zeroed. The questions are 2, 3, 4 and 5.
-    pub fn set_up(width: usize, height: usize, levels: usize, store: &mut [i32]) -> SetUp
-        ensures answer { λ r. ⌜ ofSetUp r ≡ setUpReply width height levels (setUpQuestion width height levels (length (now (store .entry)))) ⌝ }
+    pub fn set_up(map: Shape, store: &mut [i32]) -> SetUp
+        ensures answer { λ r. ⌜ ofSetUp r ≡
+            setUpReply (shape.columns map) (shape.rows map) (map .levels)
+            (setUpQuestion (shape.columns map) (shape.rows map) (map .levels) (length (now (store .entry)))) ⌝ }
         ensures kept { λ _. ⌜ at (now (store .exit)) ≡
-            setUpStore width levels (setUpQuestion width height levels (length (now (store .entry)))) (at (now (store .entry))) ⌝ }
+            setUpStore (shape.columns map) (map .levels)
+            (setUpQuestion (shape.columns map) (shape.rows map) (map .levels) (length (now (store .entry)))) (at (now (store .entry))) ⌝ }
         ensures meaning { λ r. ⌜ SetUpHolds (ofSetUp r) (at (now (store .exit))) ⌝ }
     {
-        let q = questions::set_up_question(width, height, levels, store.len());
+        let x = map.x as usize;
+        let y = map.y as usize;
+        let q = questions::set_up_question(map.width, map.height, map.levels, x, y, store.len());
         if q != 0 {
             return SetUp::Refused(q);
         }
-        let n = wavelet::store::store_length(width, levels);
+        let n = wavelet::store::store_length(map.width, x, map.levels);
         copies::clear(store, n);
+        let p = walk::dive_from(map.levels, 0, x, map.width, y, map.height, 0);
         SetUp::Ready(Reader {
-            width,
-            height,
-            levels,
+            width: map.width,
+            height: map.height,
+            levels: map.levels,
+            x,
+            y,
             drawn: 0,
-            level: levels,
-            band: 0,
+            level: p.level,
+            alone: p.alone,
+            band: p.band,
             ended: false,
         })
     }
@@ -160,7 +183,7 @@ impl Reader {
         if steps::feed_row(self, store, next, complete, run) {
             return Fed::Passed(self.moved(self.drawn, steps::place_fed(self, next, complete)));
         }
-        let n = wavelet::store::store_length(self.width, self.levels);
+        let n = wavelet::store::store_length(self.width, self.x, self.levels);
         copies::clear(store, n);
         Fed::Impossible(self.over())
     }
@@ -190,30 +213,31 @@ impl Reader {
             return Drawn::Refused(12);
         }
         if steps::settle(self, store, next) {
-            let a = rebuilding::row_place(w, self.drawn);
+            let a = rebuilding::row_place(w, self.y % 2 + self.drawn);
             let e = a + w;
-            heights::draw_heights(&store[a..e], out);
+            height_rows::draw_heights(&store[a..e], self.x, out);
             let d = self.drawn + 1;
-            return Drawn::Heights(
-                w,
-                self.moved(d, walk::enter_of(w, self.height, self.levels, d)),
-            );
+            let p = walk::dive_from(self.levels, 0, self.x, w, self.y, self.height, d);
+            return Drawn::Heights(w, self.moved(d, p));
         }
-        let n = wavelet::store::store_length(w, self.levels);
+        let n = wavelet::store::store_length(w, self.x, self.levels);
         copies::clear(store, n);
         Drawn::Impossible(self.over())
     }
 
     // The reader at another place.
     fn moved(self, drawn: usize, p: Spot) -> Reader
-        ensures { λ r. ⌜ r ≡ movedTo self drawn (place (p .level) (p .band)) ⌝ }
+        ensures { λ r. ⌜ r ≡ movedTo self drawn (place (p .level) (p .alone) (p .band)) ⌝ }
     {
         Reader {
             width: self.width,
             height: self.height,
             levels: self.levels,
+            x: self.x,
+            y: self.y,
             drawn,
             level: p.level,
+            alone: p.alone,
             band: p.band,
             ended: false,
         }
@@ -227,8 +251,11 @@ impl Reader {
             width: self.width,
             height: self.height,
             levels: self.levels,
+            x: self.x,
+            y: self.y,
             drawn: self.drawn,
             level: self.level,
+            alone: self.alone,
             band: self.band,
             ended: true,
         }

@@ -11,7 +11,8 @@ ghost use Prim.Native.Nat.{_≤_};
 ghost use lib.ListN.{length};
 ghost use Rattle.wavelet.specs.Limits.{maxLevels};
 ghost use Rattle.numbers.specs.Signal.{at};
-ghost use Rattle.reader.specs.State.{drawDue};
+ghost use Rattle.lifting.specs.Grid.{side};
+ghost use Rattle.reader.specs.State.{columns, drawDue};
 ghost use Rattle.reader.specs.Questions.{countsFit, storeFits, runFits, setUpQuestion};
 ghost use Rattle.reader.specs.Inside.{Counts, Due, storeQuestion, rowQuestion};
 
@@ -28,6 +29,12 @@ pub fn counts_fit(s: Reader) -> bool
     if !limits::is_within(s.levels, Reader::MAX_LEVELS) {
         return false;
     }
+    if Reader::MAX_ORIGIN < s.x {
+        return false;
+    }
+    if Reader::MAX_ORIGIN < s.y {
+        return false;
+    }
     if s.height < s.drawn {
         return false;
     }
@@ -38,8 +45,15 @@ pub fn counts_fit(s: Reader) -> bool
 }
 
 // Questions 2, 3, 4 and 5 of a set-up, whose line store has `length` numbers.
-pub fn set_up_question(width: usize, height: usize, levels: usize, length: usize) -> u8
-    ensures { λ r. ⌜ r ≡ setUpQuestion width height levels length ⌝ }
+pub fn set_up_question(
+    width: usize,
+    height: usize,
+    levels: usize,
+    x: usize,
+    y: usize,
+    length: usize,
+) -> u8
+    ensures { λ r. ⌜ r ≡ setUpQuestion (side x width) (side y height) levels length ⌝ }
 {
     if !limits::is_within(width, Reader::MAX_WIDTH) {
         return 2;
@@ -50,7 +64,7 @@ pub fn set_up_question(width: usize, height: usize, levels: usize, length: usize
     if !limits::is_within(levels, Reader::MAX_LEVELS) {
         return 4;
     }
-    if length < store::store_length(width, levels) {
+    if length < store::store_length(width, x, levels) {
         return 5;
     }
     0
@@ -69,12 +83,12 @@ fn run_fits(run: &[i32], level: usize) -> bool
 // just as many, so the sizes are seldom added up.
 fn store_fits(s: Reader, length: usize) -> bool
     requires { ⌜ Counts s ⌝ }
-    ensures { λ r. ⌜ r ≡ storeFits (s .width) (s .levels) length ⌝ }
+    ensures { λ r. ⌜ r ≡ storeFits (columns s) (s .levels) length ⌝ }
 {
     if (31 * s.width + 52) / 4 <= length {
         return true;
     }
-    store::store_length(s.width, s.levels) <= length
+    store::store_length(s.width, s.x, s.levels) <= length
 }
 
 // Questions 1, 5 and 9 of a feed or a draw.

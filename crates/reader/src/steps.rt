@@ -6,22 +6,61 @@ use crate::walk;
 use crate::walk::Next;
 use crate::walk::Spot;
 ghost use mathlib.Core.Path.{_≡_};
+ghost use mathlib.Core.Bool.{true};
 ghost use Prim.Native.Nat.{_<_, _≤_};
 ghost use lib.ListN.{length};
 ghost use Rattle.numbers.specs.Signal.{at};
 ghost use Rattle.level.specs.Tried.{outcome};
 ghost use Rattle.wavelet.specs.Store.{storeLength};
-ghost use Rattle.reader.specs.Machine.{placeFed};
-ghost use Rattle.reader.specs.State.{next, nextRow, nextLength, settles, feeds};
-ghost use Rattle.reader.specs.Inside.{Counts, Is, Due, Completing};
+ghost use Rattle.reader.specs.Machine.{nextUp, placeFed};
+ghost use Rattle.reader.specs.State.{columns, rows, next, nextRow, nextLength, settles, feeds};
+ghost use Rattle.reader.specs.Inside.{Counts, Is, IsNext, Due, Completing};
 ghost use Rattle.level.specs.Rebuilding.{Kept};
+
+// The row wanted by a reader that may be at a high row alone: one of it, or n, which is wanted otherwise.
+fn next_either(s: Reader, n: Next) -> Next
+    requires { ⌜ Counts s × (s .alone ≡ true) ×
+        IsNext (columns s) (rows s) (s .levels) (s .drawn) (nextUp (columns s) (rows s) (s .levels) (s .drawn) (s .level) (s .band)) n ⌝ }
+    ensures { λ r. ⌜ Due s r ⌝ }
+{
+    if s.level == 0 {
+        return n;
+    }
+    let first = walk::next_alone(
+        s.x,
+        s.width,
+        s.y,
+        s.height,
+        s.levels,
+        s.drawn,
+        s.level,
+        s.band,
+    );
+    if first.spot.level == 0 {
+        return n;
+    }
+    first
+}
 
 // The row wanted; level 0: there is none.
 pub fn next_of(s: Reader) -> Next
     requires { ⌜ Counts s ⌝ }
     ensures { λ n. ⌜ Due s n ⌝ }
 {
-    walk::next_at(s.width, s.height, s.levels, s.drawn, s.level, s.band)
+    let n = walk::next_up(
+        s.x,
+        s.width,
+        s.y,
+        s.height,
+        s.levels,
+        s.drawn,
+        s.level,
+        s.band,
+    );
+    if s.alone {
+        return next_either(s, n);
+    }
+    n
 }
 
 // The length of the row wanted, and its number.
@@ -29,14 +68,14 @@ pub fn row_length(s: Reader, n: Next) -> usize
     requires { ⌜ Due s n × (0 < n .spot .level) ⌝ }
     ensures { λ r. ⌜ r ≡ nextLength s ⌝ }
 {
-    sets::band_columns(n.at.width, n.spot.band)
+    sets::band_columns(n.at.x, n.at.width, n.spot.band)
 }
 
 pub fn row_number(s: Reader, n: Next) -> usize
     requires { ⌜ Due s n × (0 < n .spot .level) ⌝ }
     ensures { λ r. ⌜ r ≡ nextRow s ⌝ }
 {
-    n.at.set
+    sets::band_row(n.at.y, n.at.height, n.at.set, n.spot.band)
 }
 
 // Whether that row completes its set: no band after it is left to feed.
@@ -45,7 +84,9 @@ pub fn completes(s: Reader, n: Next) -> bool
     ensures { λ r. ⌜ Completing s n r ⌝ }
 {
     let c = walk::band_at(
+        s.x,
         s.width,
+        s.y,
         s.height,
         s.levels,
         s.drawn,
@@ -58,12 +99,14 @@ pub fn completes(s: Reader, n: Next) -> bool
 
 // The sets that wait worked out.
 pub fn settle(s: Reader, store: &mut [i32], n: Next) -> bool
-    requires { ⌜ Counts s × Due s n × (storeLength (s .width) (s .levels) ≤ length (now store)) ⌝ }
+    requires { ⌜ Counts s × Due s n × (storeLength (columns s) (s .levels) ≤ length (now store)) ⌝ }
     ensures { λ ok. ⌜ outcome ok (at (now (store .exit))) ≡ settles s (at (now (store .entry))) ⌝ }
-    ensures { λ _. ⌜ Kept (storeLength (s .width) (s .levels)) (at (now (store .entry))) (at (now (store .exit))) ⌝ }
+    ensures { λ _. ⌜ Kept (storeLength (columns s) (s .levels)) (at (now (store .entry))) (at (now (store .exit))) ⌝ }
 {
     walk::settle(
+        s.x,
         s.width,
+        s.y,
         s.height,
         s.levels,
         s.drawn,
@@ -75,18 +118,31 @@ pub fn settle(s: Reader, store: &mut [i32], n: Next) -> bool
 
 // Then the run put where it belongs, and the set worked out if it completes it.
 pub fn feed_row(s: Reader, store: &mut [i32], n: Next, complete: bool, run: &[i32]) -> bool
-    requires { ⌜ Counts s × Due s n × (0 < n .spot .level) × Completing s n complete × (storeLength (s .width) (s .levels) ≤ length (now store)) ×
+    requires { ⌜ Counts s × Due s n × (0 < n .spot .level) × Completing s n complete × (storeLength (columns s) (s .levels) ≤ length (now store)) ×
         (length (now run) ≡ nextLength s) ⌝ }
     ensures { λ ok. ⌜ outcome ok (at (now (store .exit))) ≡ feeds s (at (now (run .entry))) (at (now (store .entry))) ⌝ }
-    ensures { λ _. ⌜ Kept (storeLength (s .width) (s .levels)) (at (now (store .entry))) (at (now (store .exit))) ⌝ }
+    ensures { λ _. ⌜ Kept (storeLength (columns s) (s .levels)) (at (now (store .entry))) (at (now (store .exit))) ⌝ }
 {
     if !settle(s, store, n) {
         return false;
     }
     let k = n.spot.level - 1;
-    walk::put_row(s.width, s.height, s.drawn, store, k, n.at, n.spot.band, run);
-    walk::finish(
+    walk::put_row(
+        s.x,
         s.width,
+        s.y,
+        s.height,
+        s.drawn,
+        store,
+        k,
+        n.at,
+        n.spot.band,
+        run,
+    );
+    walk::finish(
+        s.x,
+        s.width,
+        s.y,
         s.height,
         s.levels,
         s.drawn,
@@ -97,19 +153,24 @@ pub fn feed_row(s: Reader, store: &mut [i32], n: Next, complete: bool, run: &[i3
     )
 }
 
-// Where the reader goes on after that row: a finer level, or another band of this one.
+// Where the reader goes on after that row: another band of the set, a finer level, or after a high row alone the next set.
 pub fn place_fed(s: Reader, n: Next, complete: bool) -> Spot
-    requires { ⌜ Due s n × (0 < n .spot .level) × Completing s n complete ⌝ }
-    ensures { λ q. ⌜ Is (placeFed (s .width) (s .height) (s .levels) (s .drawn) (next s .level) (next s .band)) q ⌝ }
+    requires { ⌜ Counts s × Due s n × (0 < n .spot .level) × Completing s n complete ⌝ }
+    ensures { λ q. ⌜ Is (placeFed (columns s) (rows s) (s .levels) (s .drawn) (next s .level) (next s .alone) (next s .band)) q ⌝ }
 {
-    if complete {
+    if !complete {
         return Spot {
-            level: n.spot.level - 1,
-            band: 1,
+            level: n.spot.level,
+            alone: n.spot.alone,
+            band: n.spot.band + 1,
         };
     }
+    if n.spot.alone {
+        return walk::dive_past(s.levels, n.spot.level, n.at);
+    }
     Spot {
-        level: n.spot.level,
-        band: n.spot.band + 1,
+        level: n.spot.level - 1,
+        alone: false,
+        band: 1,
     }
 }

@@ -1,4 +1,4 @@
--- The round trip: the rows drawn from a finished writer with none waiting, fed to a reader of equal size and levels as it wants them.
+-- The round trip: the rows drawn from a finished writer with none waiting, fed to a reader of equal size, levels and origin as it wants them.
 use mathlib.Core.Path.{_≡_}
 use mathlib.Core.Bool.{Bool, true}
 use mathlib.Core.List.{List, [], _∷_}
@@ -7,12 +7,13 @@ use lib.IntN.{ℤ, pos}
 use lib.ListN.{length, getD}
 use lib.Dec.{eqb}
 use Rattle.numbers.specs.Signal.{pick, both}
-use Rattle.wavelet.specs.Limits.{maxSample}
+use Rattle.wavelet.specs.Limits.{maxSample, maxOrigin}
 use Rattle.wavelet.specs.Bands.{Grid, code}
 use Rattle.wavelet.specs.Plane.{cells}
+use Rattle.wavelet.specs.Order.{RowName}
+use Rattle.lifting.specs.Grid.{Side, side}
 use Rattle.wavelet.specs.View.{bandStart, bandColumns}
 use Rattle.wavelet.specs.Maps.{HasPlane}
-use Rattle.wavelet.specs.Order.{RowName}
 use Rattle.wavelet.specs.Steps.{steps}
 use Rattle.wavelet.specs.Store.{storeLength}
 use Rattle.calls.specs.Lists.{gives, Area, All}
@@ -33,29 +34,34 @@ unfoldable pub drawnAs : List writer.DrawnRow → RowName → Area
 drawnAs [] x = record { size = 0; numbers = λ _. pos 0 }
 drawnAs (d ∷ ds) x = pick (isNamed x (d .row)) (record { size = d .row .length; numbers = d .values }) (drawnAs ds x)
 
--- ---- any calls cs on a fresh writer of width W and L levels, whose store had n numbers
-module _ (W L n : ℕ) (x : ℕ → ℤ) (cs : List writer.Call) where
+-- ---- any calls cs on a fresh writer of the columns W and L levels, whose rows start at coordinate s and whose store had n numbers
+module _ (W : Side) (s L n : ℕ) (x : ℕ → ℤ) (cs : List writer.Call) where
   abbrev pub wrote : List writer.Event
-  wrote = writer.events cs (writer.freshWorld W L n x)
+  wrote = writer.events cs (writer.freshWorld W s L n x)
 
-  -- the map's height
+  -- the map's height, and its rows
   abbrev pub rowsWrote : ℕ
   rowsWrote = wholeRows W wrote
 
-  -- it is finished, none waits, and the heights taken were 16-bit numbers
+  abbrev pub sideWrote : Side
+  sideWrote = side s rowsWrote
+
+  -- its origin is a 16-bit number each way, it is finished, none waits, and the heights taken were 16-bit numbers
   pub record Finished : Type 0 where
+    pub across : W .start ≤ maxOrigin
+    pub down : s ≤ maxOrigin
     pub set-up : writer-asks.setUpQuestion W L n ≡ 0
     pub finished : writer.finishedBy wrote ≡ true
-    pub none-waits : waitingOf W L wrote ≡ []
+    pub none-waits : waitingOf W s L wrote ≡ []
     pub sixteen : All (λ h. h ≤ maxSample) (writer.taken wrote)
 
-  -- then a fresh reader of that size and as many levels, whose store has n′ numbers, as it wants, each row drawn into an area of its own
+  -- then a fresh reader of that size and origin and as many levels, whose store has n′ numbers, as it wants, each row drawn into an area of its own
   module _ (n′ : ℕ) (y : ℕ → ℤ) (outs : ℕ → Area) where
     abbrev pub freshReader : reader.World
-    freshReader = reader.freshWorld W rowsWrote L n′ y
+    freshReader = reader.freshWorld W sideWrote L n′ y
 
     abbrev pub turns : List reader.Call
-    turns = played (drawnAs (writer.drawn wrote)) outs (length (steps W rowsWrote L)) freshReader
+    turns = played (drawnAs (writer.drawn wrote)) outs (length (steps W sideWrote L)) freshReader
 
     abbrev pub read : List reader.Event
     read = reader.events turns freshReader
@@ -63,23 +69,23 @@ module _ (W L n : ℕ) (x : ℕ → ℤ) (cs : List writer.Call) where
     -- what is lent is long enough: question 5 of the set-up (2, 3 and 4 follow), and 12
     pub record Lent : Type 0 where
       pub store : storeLength W L ≤ n′
-      pub areas : (i : ℕ) → W ≤ outs i .size
+      pub areas : (i : ℕ) → W .length ≤ outs i .size
 
     -- the set-up passes; then the reader hands back every height in order and says Done
     pub record HandsBack : Type 0 where
-      pub set-up : reader-asks.setUpQuestion W rowsWrote L n′ ≡ 0
+      pub set-up : reader-asks.setUpQuestion W sideWrote L n′ ≡ 0
       pub rows : length (reader.drawnRows read) ≡ rowsWrote
-      pub all : length (writer.taken wrote) ≡ W * rowsWrote
-      pub heights : (r c : ℕ) → r < rowsWrote → c < W →
-          getD (reader.drawnRows read) r (λ _. pos 0) c ≡ pos (getD (writer.taken wrote) (r * W + c) 0)
+      pub all : length (writer.taken wrote) ≡ W .length * rowsWrote
+      pub heights : (r c : ℕ) → r < rowsWrote → c < W .length →
+          getD (reader.drawnRows read) r (λ _. pos 0) c ≡ pos (getD (writer.taken wrote) (r * W .length + c) 0)
       pub done : reader.event reader.want (reader.final turns freshReader) ≡ reader.wanted (gives done)
 
 -- ---- in that way from a plane: its band rows by their names
-unfoldable pub planeRows : ℕ → ℕ → (ℕ → ℤ) → RowName → Area
+unfoldable pub planeRows : Side → Side → (ℕ → ℤ) → RowName → Area
 planeRows W H plane x =
     record { size = bandColumns W (x .level) (x .band); numbers = λ i. plane (bandStart W H (x .level) (x .band) (x .row) + i) }
 
-module _ (W H L n : ℕ) (y : ℕ → ℤ) (plane : ℕ → ℤ) (outs : ℕ → Area) where
+module _ (W H : Side) (L n : ℕ) (y : ℕ → ℤ) (plane : ℕ → ℤ) (outs : ℕ → Area) where
   abbrev pub planeTurns : List reader.Call
   planeTurns = played (planeRows W H plane) outs (length (steps W H L)) (reader.freshWorld W H L n y)
 
@@ -91,5 +97,5 @@ module _ (W H L n : ℕ) (y : ℕ → ℤ) (plane : ℕ → ℤ) (outs : ℕ →
 
   -- of a map's plane it hands back that map and says Done; of a plane that no map has, it gives 7 or 14 and never says Done
   pub record FromPlane : Type 0 where
-    pub map-back : (g : Grid) → HasPlane L W H g (cells W plane) → Back W H g planeRead planeThen
-    pub no-map : ((g : Grid) → HasPlane L W H g (cells W plane) → ⊥) → Stopped planeRead planeThen
+    pub map-back : (g : Grid) → HasPlane L W H g (cells (W .length) plane) → Back W H g planeRead planeThen
+    pub no-map : ((g : Grid) → HasPlane L W H g (cells (W .length) plane) → ⊥) → Stopped planeRead planeThen

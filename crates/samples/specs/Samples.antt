@@ -1,4 +1,4 @@
--- The samples of document 01 that are marked P, in whole numbers: what each says, and the table of them.
+-- The samples of document 01 that are marked P, in whole numbers: what each says, and the table of them; and a table of samples at odd coordinates.
 use mathlib.Core.Path.{_≡_}
 use mathlib.Core.Bool.{true}
 use mathlib.Core.List.{List, [], _∷_, map as each}
@@ -7,75 +7,105 @@ use lib.IntN.{ℤ, pos, negℤ}
 use lib.ListN.{length}
 use Rattle.numbers.specs.Signal.{at}
 use Rattle.numbers.specs.Word.{whole}
-use Rattle.lifting.specs.Line.{Half, lo, hi, count, lineForward}
+use Rattle.lifting.specs.Line.{Half, lo, hi}
+use Rattle.lifting.specs.Grid.{Side, side, count, lineForward}
 use Rattle.wavelet.specs.Bands.{Grid, LL, LH}
+use Rattle.wavelet.specs.Plane.{cells, planeOf}
+use Rattle.wavelet.specs.Order.{RowName, rowName, made}
+use Rattle.wavelet.specs.Steps.{bandRowsOf, steps}
 use Rattle.wavelet.specs.Levels.{levelBand}
-use Rattle.wavelet.specs.Plane.{planeOf, cells}
 use Rattle.wavelet.specs.View.{bandColumns}
 use Rattle.whole_map.specs.Calls.{backwardQuestion}
-use Rattle.wavelet.specs.Order.{RowName, rowName, made}
-use Rattle.wavelet.specs.Steps.{steps, bandRowsOf}
 
 -- the first n numbers of a signal
 unfoldable pub listed : ℕ → (ℕ → ℤ) → List ℤ
 listed zero x = []
 listed (suc n) x = x 0 ∷ listed n (λ i. x (suc i))
 
--- all values of one half of a line
-unfoldable pub values : Half → List ℤ → List ℤ
-values h l = listed (count h (length l)) (lineForward whole (length l) (at l) h)
+-- all values of one half of a line that starts at coordinate s
+unfoldable pub values : Half → ℕ → List ℤ → List ℤ
+values h s l = listed (count h (side s (length l))) (lineForward whole (side s (length l)) (at l) h)
 
 -- a band row: its level, band and number, and its values
 pub record BandRow : Type 0 where
   pub name : RowName
   pub values : List ℤ
 
--- the band row of that name, of a map of W × H
-unfoldable pub bandRow : ℕ → ℕ → Grid → RowName → BandRow
+-- the band row of that name, of a map of the columns W and the rows H
+unfoldable pub bandRow : Side → Side → Grid → RowName → BandRow
 bandRow W H g x =
     record { name = x; values = listed (bandColumns W (x .level) (x .band)) (levelBand whole W H g (x .level) (x .band) (x .row)) }
 
 -- a kind of sample
 pub data Sample : Type 0 where
-  -- a line, its low values and its high values
-  line : List ℤ → List ℤ → List ℤ → Sample
-  -- levels, width, height, a map row by row, and its plane
-  map : ℕ → ℕ → ℕ → List ℤ → List ℤ → Sample
-  -- levels, width, height, a plane, and the number that the whole map's way back gives for it
-  answer : ℕ → ℕ → ℕ → List ℤ → ℕ → Sample
-  -- levels, width, height, a map row by row, and its band rows in the writer's order
-  order : ℕ → ℕ → ℕ → List ℤ → List BandRow → Sample
-  -- levels, width and height of a map, and the band rows that the reader wants for it, in their order
-  wants : ℕ → ℕ → ℕ → List RowName → Sample
+  -- where a line starts, the line, its low values and its high values
+  line : ℕ → List ℤ → List ℤ → List ℤ → Sample
+  -- levels, columns, rows, a map row by row, and its plane
+  map : ℕ → Side → Side → List ℤ → List ℤ → Sample
+  -- levels, columns, rows, a plane, and the number that the whole map's way back gives for it
+  answer : ℕ → Side → Side → List ℤ → ℕ → Sample
+  -- levels, columns, rows, a map row by row, and its band rows in the writer's order
+  order : ℕ → Side → Side → List ℤ → List BandRow → Sample
+  -- levels, columns and rows of a map, and the band rows that the reader wants for it, in their order
+  wants : ℕ → Side → Side → List RowName → Sample
 
 -- what makes a sample of each kind hold
 pub data Holds : Sample → Type 0 where
-  holds-line : {l low high : List ℤ} → values lo l ≡ low → values hi l ≡ high → Holds (line l low high)
-  holds-map : {L W H : ℕ} {g p : List ℤ} → listed (W * H) (planeOf whole L W H (cells W (at g))) ≡ p → Holds (map L W H g p)
-  holds-answer : {L W H q : ℕ} {p : List ℤ} → backwardQuestion W H L (length p) (W * H) (W * H) (cells W (at p)) ≡ q → Holds (answer L W H p q)
-  holds-order : {L W H : ℕ} {g : List ℤ} {l : List BandRow} → each (bandRow W H (cells W (at g))) (made W L H true) ≡ l → Holds (order L W H g l)
-  holds-wants : {L W H : ℕ} {l : List RowName} → bandRowsOf (steps W H L) ≡ l → Holds (wants L W H l)
+  holds-line : {s : ℕ} {l low high : List ℤ} → values lo s l ≡ low → values hi s l ≡ high → Holds (line s l low high)
+  holds-map : {L : ℕ} {W H : Side} {g p : List ℤ} → listed (W .length * H .length) (planeOf whole L W H (cells (W .length) (at g))) ≡ p → Holds (map L W H g p)
+  holds-answer : {L : ℕ} {W H : Side} {q : ℕ} {p : List ℤ} →
+      backwardQuestion W H L (length p) (W .length * H .length) (W .length * H .length) (cells (W .length) (at p)) ≡ q → Holds (answer L W H p q)
+  holds-order : {L : ℕ} {W H : Side} {g : List ℤ} {l : List BandRow} →
+      each (bandRow W H (cells (W .length) (at g))) (made W (H .start) L (H .length) true) ≡ l → Holds (order L W H g l)
+  holds-wants : {L : ℕ} {W H : Side} {l : List RowName} → bandRowsOf (steps W H L) ≡ l → Holds (wants L W H l)
+
+-- a side of n that starts at 0
+abbrev pub zeroed : ℕ → Side
+zeroed n = side 0 n
 
 abbrev pub table : List Sample
 table =
-    line (pos 1 ∷ pos 4 ∷ pos 2 ∷ pos 7 ∷ pos 3 ∷ []) (pos 3 ∷ pos 4 ∷ pos 6 ∷ []) (pos 3 ∷ pos 5 ∷ [])
-    ∷ line (pos 2 ∷ pos 0 ∷ []) (pos 1 ∷ []) (negℤ (pos 2) ∷ [])
-    ∷ line (pos 5 ∷ pos 0 ∷ []) (pos 3 ∷ []) (negℤ (pos 5) ∷ [])
-    ∷ line (pos 9 ∷ []) (pos 9 ∷ []) []
+    line 0 (pos 1 ∷ pos 4 ∷ pos 2 ∷ pos 7 ∷ pos 3 ∷ []) (pos 3 ∷ pos 4 ∷ pos 6 ∷ []) (pos 3 ∷ pos 5 ∷ [])
+    ∷ line 0 (pos 2 ∷ pos 0 ∷ []) (pos 1 ∷ []) (negℤ (pos 2) ∷ [])
+    ∷ line 0 (pos 5 ∷ pos 0 ∷ []) (pos 3 ∷ []) (negℤ (pos 5) ∷ [])
+    ∷ line 0 (pos 9 ∷ []) (pos 9 ∷ []) []
     -- rows (0, 2), (1, 1) at L = 1: LL 2, HL 1, LH 0, HH −2
-    ∷ map 1 2 2 (pos 0 ∷ pos 2 ∷ pos 1 ∷ pos 1 ∷ []) (pos 2 ∷ pos 1 ∷ pos 0 ∷ negℤ (pos 2) ∷ [])
+    ∷ map 1 (zeroed 2) (zeroed 2) (pos 0 ∷ pos 2 ∷ pos 1 ∷ pos 1 ∷ []) (pos 2 ∷ pos 1 ∷ pos 0 ∷ negℤ (pos 2) ∷ [])
     -- the column 1, 4, 2, 7 at L = 2: 2 LL 4, 2 LH 1, 1 LH 3 and 5
-    ∷ map 2 1 4 (pos 1 ∷ pos 4 ∷ pos 2 ∷ pos 7 ∷ []) (pos 4 ∷ pos 1 ∷ pos 3 ∷ pos 5 ∷ [])
-    ∷ order 2 1 4 (pos 1 ∷ pos 4 ∷ pos 2 ∷ pos 7 ∷ [])
+    ∷ map 2 (zeroed 1) (zeroed 4) (pos 1 ∷ pos 4 ∷ pos 2 ∷ pos 7 ∷ []) (pos 4 ∷ pos 1 ∷ pos 3 ∷ pos 5 ∷ [])
+    ∷ order 2 (zeroed 1) (zeroed 4) (pos 1 ∷ pos 4 ∷ pos 2 ∷ pos 7 ∷ [])
     (record { name = rowName 1 LH 0; values = pos 3 ∷ [] }
     ∷ record { name = rowName 1 LH 1; values = pos 5 ∷ [] }
     ∷ record { name = rowName 2 LL 0; values = pos 4 ∷ [] }
     ∷ record { name = rowName 2 LH 0; values = pos 1 ∷ [] }
     ∷ [])
-    ∷ wants 2 1 4 (rowName 2 LL 0 ∷ rowName 2 LH 0 ∷ rowName 1 LH 0 ∷ rowName 1 LH 1 ∷ [])
-    ∷ map 5 1 1 (pos 65535 ∷ []) (pos 65535 ∷ [])
-    ∷ answer 5 1 1 (pos 65535 ∷ []) 0
-    ∷ answer 5 1 1 (pos 65536 ∷ []) 14
+    ∷ wants 2 (zeroed 1) (zeroed 4) (rowName 2 LL 0 ∷ rowName 2 LH 0 ∷ rowName 1 LH 0 ∷ rowName 1 LH 1 ∷ [])
+    ∷ map 5 (zeroed 1) (zeroed 1) (pos 65535 ∷ []) (pos 65535 ∷ [])
+    ∷ answer 5 (zeroed 1) (zeroed 1) (pos 65535 ∷ []) 0
+    ∷ answer 5 (zeroed 1) (zeroed 1) (pos 65536 ∷ []) 14
+    ∷ []
+
+-- samples of document 02, Q-3
+abbrev pub oddTable : List Sample
+oddTable =
+    -- from coordinate 1 on: d(1) = 1 − 4, d(3) = 2 − 4, s(2) = 4 + ⌊(−3 − 2 + 2) / 4⌋
+    line 1 (pos 1 ∷ pos 4 ∷ pos 2 ∷ []) (pos 3 ∷ []) (negℤ (pos 3) ∷ negℤ (pos 2) ∷ [])
+    -- "a line of one sample at an odd coordinate becomes a high value of twice its size"
+    ∷ line 1 (pos 5 ∷ []) [] (pos 10 ∷ [])
+    ∷ map 1 (side 1 1) (side 1 1) (pos 65535 ∷ []) (pos 262140 ∷ [])
+    ∷ answer 1 (side 1 1) (side 1 1) (pos 262140 ∷ []) 0
+    -- halved once along the row, 2 is odd along the column
+    ∷ answer 1 (side 1 1) (side 1 1) (pos 2 ∷ []) 14
+    -- LH 8 and HH 6 are even, what the row is lifted back to is not
+    ∷ answer 1 (zeroed 2) (side 1 1) (pos 8 ∷ pos 6 ∷ []) 14
+    -- the column 1, 4, 2, 7 from coordinate 1 on: set 0 is a high row alone, at both levels
+    ∷ order 2 (zeroed 1) (side 1 4) (pos 1 ∷ pos 4 ∷ pos 2 ∷ pos 7 ∷ [])
+    (record { name = rowName 1 LH 0; values = negℤ (pos 3) ∷ [] }
+    ∷ record { name = rowName 1 LH 1; values = negℤ (pos 3) ∷ [] }
+    ∷ record { name = rowName 2 LH 0; values = negℤ (pos 3) ∷ [] }
+    ∷ record { name = rowName 2 LL 0; values = pos 5 ∷ [] }
+    ∷ [])
+    ∷ wants 2 (zeroed 1) (side 1 4) (rowName 1 LH 0 ∷ rowName 2 LH 0 ∷ rowName 2 LL 0 ∷ rowName 1 LH 1 ∷ [])
     ∷ []
 
 -- every entry holds

@@ -72,15 +72,23 @@ pub fn half(n: usize) -> usize {
     n - n / 2
 }
 
-// The side of level k: W(k) of W.
-pub fn side(n: usize, level: usize) -> usize {
-    let mut s = n;
+// T.800, B.5: where a level's part of a side begins, or ends, of a side that begins, or ends, at coordinate c: ⌈c / 2^level⌉.
+pub fn bound(c: usize, level: usize) -> usize {
+    let mut s = c;
     let mut k = 0;
     while k < level {
         s = half(s);
         k += 1;
     }
     s
+}
+
+// a − b, and 0 where that is less.
+pub fn less(a: usize, b: usize) -> usize {
+    if a < b {
+        return 0;
+    }
+    a - b
 }
 
 fn product(a: usize, b: usize) -> usize

@@ -1,23 +1,33 @@
-// The maps that are compared: their sizes, and heights of several kinds.
+// The maps that are compared: their sizes, where they start on the grid, and heights of several kinds.
 use crate::area;
-
-pub struct Shape {
-    pub width: usize,
-    pub height: usize,
-    pub levels: usize,
-}
+use wavelet::shape::Shape;
 
 // Kinds of heights.
 const KINDS: usize = 6;
 
-// 97 sizes (9 × 9 small ones and the 16 of `large`), at 1 to 5 levels, with heights of 6 kinds.
-pub const MAPS: usize = 2910;
+// 97 sizes (9 × 9 small ones and the 16 of `large`), at 1 to 5 levels, with heights of 6 kinds: once at origin 0,
+pub const AT_ZERO: usize = 2910;
+
+// and once more at origins from 0 to 3 each way.
+pub const MAPS: usize = 5820;
 
 fn shape_of(width: usize, height: usize, levels: usize) -> Shape {
     Shape {
         width,
         height,
         levels,
+        x: 0,
+        y: 0,
+    }
+}
+
+fn placed(s: Shape, x: u16, y: u16) -> Shape {
+    Shape {
+        width: s.width,
+        height: s.height,
+        levels: s.levels,
+        x,
+        y,
     }
 }
 
@@ -42,14 +52,23 @@ fn large(i: usize, levels: usize) -> Shape {
     }
 }
 
-// The size and the levels of map number i.
-pub fn shape_at(i: usize) -> Shape {
+// The size and the levels of map number i at origin 0.
+fn size_at(i: usize) -> Shape {
     let size = i / (5 * KINDS);
     let levels = i % 5 + 1;
     if size < 81 {
         return shape_of(size % 9 + 1, size / 9 + 1, levels);
     }
     large(size - 81, levels)
+}
+
+// The size, the levels and the origin of map number i.
+pub fn shape_at(i: usize) -> Shape {
+    if i < AT_ZERO {
+        return size_at(i);
+    }
+    let j = i - AT_ZERO;
+    placed(size_at(j), (j % 4) as u16, (j / 4 % 4) as u16)
 }
 
 // How many heights a map has.
@@ -112,12 +131,25 @@ pub fn load(map: &[u16], book: &mut [u64], n: usize) {
     }
 }
 
+// How many columns and rows the low-low part of a level has; of level 0 it is the map.
+pub fn columns_at(s: Shape, level: usize) -> usize {
+    let x = s.x as usize;
+    let end = std::num::wrapping_add_usize(x, s.width);
+    area::less(area::bound(end, level), area::bound(x, level))
+}
+
+pub fn rows_at(s: Shape, level: usize) -> usize {
+    let y = s.y as usize;
+    let end = std::num::wrapping_add_usize(y, s.height);
+    area::less(area::bound(end, level), area::bound(y, level))
+}
+
 // 4 × (W(0) + ... + W(L−1))
 pub fn store_length(s: Shape) -> usize {
     let mut sum = 0;
     let mut k = 0;
     while k < s.levels {
-        sum = std::num::wrapping_add_usize(sum, area::cell(area::side(s.width, k), 4, 0));
+        sum = std::num::wrapping_add_usize(sum, area::cell(columns_at(s, k), 4, 0));
         k += 1;
     }
     sum

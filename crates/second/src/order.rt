@@ -1,7 +1,8 @@
-// The order of band rows, from the words of document 01: the rows that a writer makes, and the steps of a reader.
+// The order of band rows, from the words of documents 01 and 02: the rows that a writer makes, and the steps of a reader. Rows and sets go by grid
+// coordinates: set n of a level has its rows at 2n, low, and 2n + 1, high, where the level has them, and its low row is row n of the next level.
 // A list has a number for each step: (4 × level + band) × 65,536 + row for a band row, 0 for a height row to draw.
 use crate::area;
-use crate::heights::Shape;
+use wavelet::shape::Shape;
 
 pub const DRAW: usize = 0;
 
@@ -33,18 +34,48 @@ pub fn differ(code: usize, level: usize, band: usize, row: usize) -> u64 {
     }
 }
 
-// The side of the part that a level lifts.
-fn lifted_side(n: usize, level: usize) -> usize {
+// Where the part that a level lifts begins, or ends, of a side that begins, or ends, at coordinate c.
+fn lifted_bound(c: usize, level: usize) -> usize {
     if level == 0 {
-        return n;
+        return c;
     }
-    area::side(n, level - 1)
+    area::bound(c, level - 1)
 }
 
-// How many of a side's places a band of a level has: its low ones or its high ones.
-fn places(n: usize, level: usize, is_high: bool) -> usize {
-    let s = lifted_side(n, level);
-    if is_high { s / 2 } else { area::half(s) }
+// The coordinates of a side: `from` up to `to`.
+struct Side {
+    from: usize,
+    to: usize,
+}
+
+// The columns and the rows of the part that a level lifts.
+fn columns_of(s: Shape, level: usize) -> Side {
+    let x = s.x as usize;
+    Side {
+        from: lifted_bound(x, level),
+        to: lifted_bound(std::num::wrapping_add_usize(x, s.width), level),
+    }
+}
+
+fn rows_of(s: Shape, level: usize) -> Side {
+    let y = s.y as usize;
+    Side {
+        from: lifted_bound(y, level),
+        to: lifted_bound(std::num::wrapping_add_usize(y, s.height), level),
+    }
+}
+
+// How many of a side's places are low or high.
+fn places(d: Side, is_high: bool) -> usize {
+    if is_high {
+        return area::less(d.to / 2, d.from / 2);
+    }
+    area::less(area::half(d.to), area::half(d.from))
+}
+
+// Whether a side has a coordinate.
+fn has(d: Side, c: usize) -> bool {
+    d.from <= c && c < d.to
 }
 
 // High along rows: HL, HH. High along columns: LH, HH.
@@ -58,16 +89,12 @@ fn is_bottom(band: usize) -> bool {
 
 // How many numbers a row of a band has.
 pub fn length_of(s: Shape, code: usize) -> usize {
-    places(s.width, level_of(code), is_right(band_of(code)))
+    places(columns_of(s, level_of(code)), is_right(band_of(code)))
 }
 
-fn rows_of(s: Shape, code: usize) -> usize {
-    places(s.height, level_of(code), is_bottom(band_of(code)))
-}
-
-fn offset(n: usize, level: usize, is_high: bool) -> usize {
+fn offset(d: Side, is_high: bool) -> usize {
     if is_high {
-        return places(n, level, false);
+        return places(d, false);
     }
     0
 }
@@ -76,8 +103,8 @@ fn offset(n: usize, level: usize, is_high: bool) -> usize {
 pub fn start_of(s: Shape, code: usize) -> usize {
     let level = level_of(code);
     let band = band_of(code);
-    let top = offset(s.height, level, is_bottom(band));
-    let left = offset(s.width, level, is_right(band));
+    let top = offset(rows_of(s, level), is_bottom(band));
+    let left = offset(columns_of(s, level), is_right(band));
     area::cell(
         s.width,
         std::num::wrapping_add_usize(top, row_of(code)),
@@ -94,13 +121,34 @@ fn push(book: &mut [u64], n: usize, code: usize) -> usize {
     n
 }
 
+// The coordinate of a set's low row, or of its high row.
+fn coordinate(set: usize, is_high: bool) -> usize {
+    if is_high {
+        return std::num::wrapping_add_usize(twice(set), 1);
+    }
+    twice(set)
+}
+
+fn twice(n: usize) -> usize {
+    std::num::wrapping_add_usize(n, n)
+}
+
+// The number of a set's row in its band: those before it that the level has are counted.
+fn row_in_band(d: Side, set: usize, is_high: bool) -> usize {
+    if is_high {
+        return area::less(set, d.from / 2);
+    }
+    area::less(set, area::half(d.from))
+}
+
 // A row of a set, if its band has one.
-fn push_band(book: &mut [u64], n: usize, s: Shape, level: usize, band: usize, row: usize) -> usize {
-    let c = code(level, band, row);
+fn push_band(book: &mut [u64], n: usize, s: Shape, level: usize, band: usize, set: usize) -> usize {
+    let d = rows_of(s, level);
+    let c = code(level, band, row_in_band(d, set, is_bottom(band)));
     if length_of(s, c) == 0 {
         return n;
     }
-    if row < rows_of(s, c) {
+    if has(d, coordinate(set, is_bottom(band))) {
         return push(book, n, c);
     }
     n
@@ -122,56 +170,65 @@ fn push_set(book: &mut [u64], n: usize, s: Shape, level: usize, set: usize) -> u
     push_band(book, lh, s, level, 3, set)
 }
 
-// Does a row make a set? "Set n of a level is made when its row 2n+2 is complete."
-fn makes_set(row: usize) -> bool {
-    if row < 2 {
+// Does the row at a coordinate make a set of a level whose rows begin at `from`? "Set n of a level is made when its row 2n+2 is complete."
+fn makes_set(c: usize, from: usize) -> bool {
+    if c <= from {
         return false;
     }
-    row % 2 == 0
+    c % 2 == 0
 }
 
 // The set that row 2n + 2 makes: n.
-fn set_before(row: usize) -> usize {
-    if row < 2 {
-        return 0;
-    }
-    row / 2 - 1
+fn set_before(c: usize) -> usize {
+    area::less(c / 2, 1)
 }
 
-// A row is complete of what stands below `done` levels: "Then its LL row goes to the next level, and all that this makes there comes before
+// Has a set of a level a low row? It is row `set` of the next level.
+fn has_low(s: Shape, level: usize, set: usize) -> bool {
+    has(rows_of(s, level), twice(set))
+}
+
+// The row at a coordinate is complete of what stands below `done` levels: "Then its LL row goes to the next level, and all that this makes there comes before
 // anything else."
 fn push_row(book: &mut [u64], n: usize, s: Shape, done: usize, row: usize) -> usize {
     let mut at = n;
-    let mut r = row;
+    let mut c = row;
     let mut k = done;
     while k < s.levels {
-        if !makes_set(r) {
+        if !makes_set(c, area::bound(s.y as usize, k)) {
             return at;
         }
-        r = set_before(r);
+        c = set_before(c);
         k += 1;
-        at = push_set(book, at, s, k, r);
+        at = push_set(book, at, s, k, c);
+        if !has_low(s, k, c) {
+            return at;
+        }
     }
     at
 }
 
-// The last set of a level whose part has `rows` rows.
-fn last_set(rows: usize) -> usize {
-    if rows == 0 {
-        return 0;
-    }
-    (rows - 1) / 2
+// The last set of a side that ends before a coordinate.
+fn last_set(to: usize) -> usize {
+    area::less(to, 1) / 2
 }
 
-// "At the finish level 1 closes first, then level 2, and so on."
+// "At the finish level 1 closes first, then level 2, and so on." What is left of a level: its last set, and what that one's low row makes.
+fn push_last(book: &mut [u64], n: usize, s: Shape, level: usize) -> usize {
+    let set = last_set(rows_of(s, level).to);
+    let at = push_set(book, n, s, level, set);
+    if has_low(s, level, set) {
+        return push_row(book, at, s, level, set);
+    }
+    at
+}
+
 fn push_finish(book: &mut [u64], n: usize, s: Shape) -> usize {
     let mut at = n;
     let mut k = 0;
     while k < s.levels {
-        let set = last_set(area::side(s.height, k));
         k += 1;
-        at = push_set(book, at, s, k, set);
-        at = push_row(book, at, s, k, set);
+        at = push_last(book, at, s, k);
     }
     at
 }
@@ -196,58 +253,92 @@ pub fn writer_rows(book: &mut [u64], s: Shape) -> usize {
     let mut r = 0;
     set_due(book, 0, 0);
     while r < s.height {
-        at = push_row(book, at, s, 0, r);
+        at = push_row(
+            book,
+            at,
+            s,
+            0,
+            std::num::wrapping_add_usize(s.y as usize, r),
+        );
         r += 1;
         set_due(book, r, at);
     }
     push_finish(book, at, s)
 }
 
-// The set that makes a row: "rows 2n−1 and 2n; set 0 makes row 0 only; the last set of an even height also makes the last row."
-fn set_with(row: usize, rows: usize) -> usize {
-    let n = row / 2 + row % 2;
-    let last = last_set(rows);
+// The set that makes the row at a coordinate of a level whose rows end before `to`: "rows 2n−1 and 2n", and the last set a last row at an odd coordinate.
+fn set_with(c: usize, to: usize) -> usize {
+    let n = area::half(c);
+    let last = last_set(to);
     if last < n { last } else { n }
 }
 
-// Is a row the first that its set makes?
-fn is_first(row: usize, rows: usize) -> bool {
-    let set = set_with(row, rows);
-    if set == 0 {
-        return row == 0;
+// Does the row at a coordinate need a set that no row before it needs?
+fn opens(d: Side, c: usize) -> bool {
+    if c == d.from {
+        return true;
     }
-    row % 2 == 1 && row / 2 + 1 == set
+    c % 2 == 1 && c / 2 + 1 == set_with(c, d.to)
 }
 
-// The row of level k's LL part, and so the set of level k, that height row r needs.
-fn set_of_level(s: Shape, row: usize, level: usize) -> usize {
-    let mut r = row;
+// The coordinate at level k, from 0, of the row that the row at a coordinate of the map needs: each is the set of the level before.
+fn row_at_level(s: Shape, row: usize, level: usize) -> usize {
+    let mut c = row;
     let mut k = 0;
     while k < level {
-        r = set_with(r, area::side(s.height, k));
         k += 1;
+        c = set_with(c, rows_of(s, k).to);
     }
-    r
+    c
 }
 
-// How many levels are asked for a set before height row r can be drawn: "Made rows are used before another set is asked for."
+// How many levels are asked for a set before the row at a coordinate can be drawn: "Made rows are used before another set is asked for." A set without a low
+// row asks nothing of the next level.
 fn depth(s: Shape, row: usize) -> usize {
     let mut k = 0;
     while k < s.levels {
-        if !is_first(set_of_level(s, row, k), area::side(s.height, k)) {
+        let c = row_at_level(s, row, k);
+        k += 1;
+        let d = rows_of(s, k);
+        if !opens(d, c) {
+            return k - 1;
+        }
+        if !has_low(s, k, set_with(c, d.to)) {
             return k;
         }
-        k += 1;
     }
     k
 }
 
-// The band rows that height row r needs and no row before it: the coarsest level first.
-fn push_wants(book: &mut [u64], n: usize, s: Shape, row: usize) -> usize {
+// A level's first set, where it is a high row alone and the row needs another set of that level too.
+fn push_high(book: &mut [u64], n: usize, s: Shape, level: usize, row: usize) -> usize {
+    let d = rows_of(s, level);
+    let c = row_at_level(s, row, area::less(level, 1));
+    let first = d.from / 2;
+    if c == d.from && first != set_with(c, d.to) {
+        return push_set(book, n, s, level, first);
+    }
+    n
+}
+
+// The high rows alone that the row at a coordinate needs, the finest level first: each "before anything of the next level".
+fn push_highs(book: &mut [u64], n: usize, s: Shape, row: usize, levels: usize) -> usize {
     let mut at = n;
-    let mut k = depth(s, row);
+    let mut k = 0;
+    while k < levels {
+        k += 1;
+        at = push_high(book, at, s, k, row);
+    }
+    at
+}
+
+// The other band rows that it needs and no row before it, the coarsest level first.
+fn push_wants(book: &mut [u64], n: usize, s: Shape, row: usize) -> usize {
+    let deepest = depth(s, row);
+    let mut at = push_highs(book, n, s, row, deepest);
+    let mut k = deepest;
     while 0 < k {
-        at = push_set(book, at, s, k, set_of_level(s, row, k));
+        at = push_set(book, at, s, k, row_at_level(s, row, k));
         k -= 1;
     }
     at
@@ -258,7 +349,7 @@ pub fn reader_steps(book: &mut [u64], s: Shape) -> usize {
     let mut at = 0;
     let mut r = 0;
     while r < s.height {
-        at = push_wants(book, at, s, r);
+        at = push_wants(book, at, s, std::num::wrapping_add_usize(s.y as usize, r));
         at = push(book, at, DRAW);
         r += 1;
     }

@@ -3,13 +3,15 @@
 // A number z is held as z + 2^40. So no division has a negative number, and each rounds down, toward minus infinity.
 use crate::area;
 use crate::heights;
+use wavelet::shape::Shape;
 ghost use Prim.Native.Nat.{_≤_};
 
-// A line of a plane: the place of its first sample, the step to the next one, and how many it has.
+// A line of a plane: the place of its first sample, the step to the next one, how many it has, and the coordinate of the first.
 struct Line {
     start: usize,
     step: usize,
     count: usize,
+    from: usize,
 }
 
 // Where sample i − 2 of a line of n stands, the line going on mirrored on both sides. Two more, so that no index is negative.
@@ -81,89 +83,128 @@ fn low(a: &[u64], line: Line, i: usize) -> u64
     minus(x + (before + after + 2) / 4, area::BASE / 2)
 }
 
+// Whether place i of a line that starts at a coordinate has an even coordinate.
+fn is_even(i: usize, from: usize) -> bool {
+    i % 2 == from % 2
+}
+
+// The only value of a line: the sample, or twice the sample where its coordinate is odd.
+fn only(a: &[u64], line: Line, i: usize) -> u64 {
+    let x = sample(a, line, 2);
+    if is_even(i, line.from) {
+        return x;
+    }
+    minus(2 * x, area::BASE)
+}
+
 // What a lifted line has at its place i, low and high values interleaved.
 fn lifted(a: &[u64], line: Line, i: usize) -> u64 {
     if area::FAR / 2 < i {
         return 0;
     }
     if line.count < 2 {
-        return sample(a, line, i + 2);
+        return only(a, line, i);
     }
-    if i % 2 == 0 {
+    if is_even(i, line.from) {
         return low(a, line, i + 2);
     }
     high(a, line, i + 2)
 }
 
-// Where place i of an interleaved line of n goes: the low values first, then the high ones.
-fn parted(i: usize, n: usize) -> usize {
-    if i % 2 == 0 {
+// Where place i of an interleaved line goes that has n values from a coordinate on: the low values first, then the high ones.
+fn parted(i: usize, n: usize, from: usize) -> usize {
+    if is_even(i, from) {
         return i / 2;
     }
-    std::num::wrapping_add_usize(area::half(n), i / 2)
+    let end = std::num::wrapping_add_usize(from, n);
+    let low = area::less(area::half(end), area::half(from));
+    std::num::wrapping_add_usize(low, i / 2)
+}
+
+// A part of the plane that is lifted: its rows are `across` apart, and it has these columns and rows from these coordinates on.
+struct Part {
+    across: usize,
+    x: usize,
+    w: usize,
+    y: usize,
+    h: usize,
+}
+
+// The low-low part of a level; of level 0 the map.
+fn part_at(s: Shape, level: usize) -> Part {
+    Part {
+        across: s.width,
+        x: area::bound(s.x as usize, level),
+        w: heights::columns_at(s, level),
+        y: area::bound(s.y as usize, level),
+        h: heights::rows_at(s, level),
+    }
 }
 
 // One value of the columns' lift, from the plane to the second area.
-fn lift_column_place(book: &mut [u64], width: usize, w: usize, h: usize, j: usize) {
-    if w == 0 {
+fn lift_column_place(book: &mut [u64], p: Part, j: usize) {
+    if p.w == 0 {
         return;
     }
-    let r = j / w;
-    let c = j % w;
+    let r = j / p.w;
+    let c = j % p.w;
     let line = Line {
         start: c,
-        step: width,
-        count: h,
+        step: p.across,
+        count: p.h,
+        from: p.y,
     };
     let v = lifted(book, line, r);
-    area::write(book, area::OTHER + area::cell(width, r, c), v);
+    area::write(book, area::OTHER + area::cell(p.across, r, c), v);
 }
 
-// All columns of the w × h part of a plane.
-fn lift_columns(book: &mut [u64], width: usize, w: usize, h: usize) {
-    let n = area::cell(w, h, 0);
+// All columns of a part of a plane.
+fn lift_columns(book: &mut [u64], p: Part) {
+    let n = area::cell(p.w, p.h, 0);
     let mut j = 0;
     while j < n {
-        lift_column_place(book, width, w, h, j);
+        lift_column_place(book, p, j);
         j += 1;
     }
 }
 
 // One value of the rows' lift, from the second area to where its band stands in the plane.
-fn lift_row_place(book: &mut [u64], width: usize, w: usize, h: usize, j: usize) {
-    if w == 0 {
+fn lift_row_place(book: &mut [u64], p: Part, j: usize) {
+    if p.w == 0 {
         return;
     }
-    let r = j / w;
-    let c = j % w;
+    let r = j / p.w;
+    let c = j % p.w;
     let line = Line {
-        start: area::OTHER + area::cell(width, r, 0),
+        start: area::OTHER + area::cell(p.across, r, 0),
         step: 1,
-        count: w,
+        count: p.w,
+        from: p.x,
     };
     let v = lifted(book, line, c);
-    area::write(book, area::cell(width, parted(r, h), parted(c, w)), v);
+    area::write(
+        book,
+        area::cell(p.across, parted(r, p.h, p.y), parted(c, p.w, p.x)),
+        v,
+    );
 }
 
-fn lift_rows(book: &mut [u64], width: usize, w: usize, h: usize) {
-    let n = area::cell(w, h, 0);
+fn lift_rows(book: &mut [u64], p: Part) {
+    let n = area::cell(p.w, p.h, 0);
     let mut j = 0;
     while j < n {
-        lift_row_place(book, width, w, h, j);
+        lift_row_place(book, p, j);
         j += 1;
     }
 }
 
 // The plane of the map that stands at the front of the book.
-pub fn transform(book: &mut [u64], width: usize, height: usize, levels: usize) {
-    let mut w = width;
-    let mut h = height;
+pub fn transform(book: &mut [u64], s: Shape) {
     let mut k = 0;
-    while k < levels {
-        lift_columns(book, width, w, h);
-        lift_rows(book, width, w, h);
-        w = area::half(w);
-        h = area::half(h);
+    while k < s.levels {
+        let p = part_at(s, k);
+        lift_columns(book, p);
+        lift_rows(book, p);
         k += 1;
     }
 }
@@ -173,5 +214,5 @@ pub fn prepare(i: usize, map: &mut [u16], book: &mut [u64]) {
     let s = heights::shape_at(i);
     heights::fill(map, i);
     heights::load(map, book, heights::count(s));
-    transform(book, s.width, s.height, s.levels);
+    transform(book, s);
 }

@@ -1,5 +1,5 @@
 -- What is packed into a state array is what is unpacked from it, and the array is one of its kind: a call finds what the call before it left. Assumes nothing.
-use mathlib.Core.Path.{_≡_, refl, ap}
+use mathlib.Core.Path.{_≡_, refl, ap, ap₂}
 use mathlib.Core.Bool.{Bool, true, false}
 use lib.Dec.{eqb}
 use Rattle.writer.specs.declared.Writer.{Writer}
@@ -26,6 +26,8 @@ writer-back w =
       level = w .level;
       left = w .left;
       offset = w .offset;
+      x = w .x;
+      y = w .y;
     })
     (flag-back (w .finished))
 
@@ -40,14 +42,27 @@ writer-is w = go (w .finished) refl
 -- ---- a reader
 pub reader-back : (r : Reader) → readerOf (readerWords r) ≡ r
 reader-back r =
-    ap
-    (λ (b : Bool). record { width = r .width; height = r .height; levels = r .levels; drawn = r .drawn; level = r .level; band = r .band; ended = b })
-    (flag-back (r .ended))
+    ap₂
+    (λ (b a : Bool). record {
+      width = r .width;
+      height = r .height;
+      levels = r .levels;
+      x = r .x;
+      y = r .y;
+      drawn = r .drawn;
+      level = r .level;
+      alone = a;
+      band = r .band;
+      ended = b;
+    })
+    (flag-back (r .ended)) (flag-back (r .alone))
 
 pub reader-is : (r : Reader) → isReader (readerWords r) ≡ true
 unfolding isState zeroFrom zeroNext
-reader-is r = go (r .ended) refl
+reader-is r = go (r .ended) (r .alone) refl refl
   where
-    go : (b : Bool) → r .ended ≡ b → isReader (readerWords r) ≡ true
-    go true e = rw e refl
-    go false e = rw e refl
+    go : (b a : Bool) → r .ended ≡ b → r .alone ≡ a → isReader (readerWords r) ≡ true
+    go true true e f = rw (e, f) refl
+    go true false e f = rw (e, f) refl
+    go false true e f = rw (e, f) refl
+    go false false e f = rw (e, f) refl

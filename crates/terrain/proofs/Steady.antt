@@ -20,6 +20,8 @@ use Rattle.writer.specs.Calls.{took, offerReply, waits, afterDraw, handed, draw
 pub record Steady (s t : Writer) : Type 0 where
   pub width : t .width ≡ s .width
   pub levels : t .levels ≡ s .levels
+  pub x : t .x ≡ s .x
+  pub y : t .y ≡ s .y
   pub finished : t .finished ≡ s .finished
   pub closed : t .closed ≡ s .closed
 
@@ -29,16 +31,16 @@ either-way s false p q a e = e
 
 offering-steady : (K : LevelKind) (run : List ℕ) (s : Writer) (x : Memory) → Steady s (offering K run s x .writer)
 unfolding offering
-offering-steady K [] s x = record { width = refl; levels = refl; finished = refl; closed = refl }
+offering-steady K [] s x = record { width = refl; levels = refl; x = refl; y = refl; finished = refl; closed = refl }
 offering-steady K (h ∷ run) s x =
     let y = heightPut K h s x in
     let a = offering-steady K run (begun s) y in
     let b = offering-steady K run (complete s (rowMakes K s y)) (rowMakes K s y .store) in
     either-way s (takes s) _ (none s x)
     (either-way s (ltb (s .column + 1) (s .width)) (offering K run (begun s) y) (offering K run (complete s (rowMakes K s y)) (rowMakes K s y .store))
-    (record { width = a .width; levels = a .levels; finished = a .finished; closed = a .closed })
-    (record { width = b .width; levels = b .levels; finished = b .finished; closed = b .closed }))
-    (record { width = refl; levels = refl; finished = refl; closed = refl })
+    (record { width = a .width; levels = a .levels; x = a .x; y = a .y; finished = a .finished; closed = a .closed })
+    (record { width = b .width; levels = b .levels; x = b .x; y = b .y; finished = b .finished; closed = b .closed }))
+    (record { width = refl; levels = refl; x = refl; y = refl; finished = refl; closed = refl })
 
 -- what is given is what no question turned away
 given : {A : Type 0} (q : ℕ) (a t : A) → unless q a ≡ gives t → a ≡ t

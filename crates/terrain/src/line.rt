@@ -1,27 +1,32 @@
-// The line calls. What they say of a line is `lifting`'s: its definitions give the answer and what stands in `out` afterwards, for every line and every area.
+// The line calls. What they say of a line is `lifting`'s: its definitions give the answer and what stands in `out` afterwards, for every line, every start and
+// every area.
 use lifting::line;
 ghost use mathlib.Core.Path.{_≡_};
 ghost use lib.ListN.{length};
 ghost use lib.Dec.{leb};
-ghost use Rattle.numbers.specs.Signal.{at, pick};
-ghost use Rattle.lifting.specs.Halves.{forwardInto, backwardInto};
+ghost use Rattle.numbers.specs.Signal.{at, pick, both};
+ghost use Rattle.lifting.specs.Grid.{side};
+ghost use Rattle.lifting.specs.GridHalves.{forwardInto, backwardInto, hasLineIn};
 
 // A line to its low values, then its high values, at the front of `out`. 5, and nothing changed, where `out` is shorter than the line.
 #[no_mangle]
-pub extern "C" fn terrain_line_forward(line: &[i32], out: &mut [i32]) -> u32
+pub extern "C" fn terrain_line_forward(line: &[i32], start: usize, out: &mut [i32]) -> u32
     ensures { λ r. ⌜ r ≡ pick (leb (length (now (line .entry))) (length (now (out .entry)))) 0 5 ⌝ }
     ensures { λ r. ⌜ at (now (out .exit)) ≡ pick (leb (length (now (line .entry))) (length (now (out .entry))))
-        (forwardInto (length (now (line .entry))) (at (now (line .entry))) (at (now (out .entry)))) (at (now (out .entry))) ⌝ }
+        (forwardInto (side start (length (now (line .entry)))) (at (now (line .entry))) (at (now (out .entry)))) (at (now (out .entry))) ⌝ }
 {
-    line::forward(line, 0, out) as u32
+    line::forward(line, start, out) as u32
 }
 
-// Low values, then high values, to the line that has them, at the front of `out`. 5, and nothing changed, where `out` is shorter.
+// Low values, then high values, to the line that has them, at the front of `out`. With nothing changed 5, where `out` is shorter, then 14, for an only high
+// value that is odd.
 #[no_mangle]
-pub extern "C" fn terrain_line_backward(coefficients: &[i32], out: &mut [i32]) -> u32
-    ensures { λ r. ⌜ r ≡ pick (leb (length (now (coefficients .entry))) (length (now (out .entry)))) 0 5 ⌝ }
-    ensures { λ r. ⌜ at (now (out .exit)) ≡ pick (leb (length (now (coefficients .entry))) (length (now (out .entry))))
-        (backwardInto (length (now (coefficients .entry))) (at (now (coefficients .entry))) (at (now (out .entry)))) (at (now (out .entry))) ⌝ }
+pub extern "C" fn terrain_line_backward(coefficients: &[i32], start: usize, out: &mut [i32]) -> u32
+    ensures { λ r. ⌜ r ≡ pick (leb (length (now (coefficients .entry))) (length (now (out .entry))))
+        (pick (hasLineIn (side start (length (now (coefficients .entry)))) (at (now (coefficients .entry)))) 0 14) 5 ⌝ }
+    ensures { λ r. ⌜ at (now (out .exit)) ≡ pick (both (leb (length (now (coefficients .entry))) (length (now (out .entry))))
+        (hasLineIn (side start (length (now (coefficients .entry)))) (at (now (coefficients .entry)))))
+        (backwardInto (side start (length (now (coefficients .entry)))) (at (now (coefficients .entry))) (at (now (out .entry)))) (at (now (out .entry))) ⌝ }
 {
-    line::backward(coefficients, 0, out) as u32
+    line::backward(coefficients, start, out) as u32
 }

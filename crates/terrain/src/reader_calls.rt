@@ -5,10 +5,12 @@ use reader::Fed;
 use reader::Reader;
 use reader::SetUp;
 use reader::Wanted;
+use wavelet::shape::Shape;
 ghost use mathlib.Core.Path.{_≡_};
 ghost use lib.ListN.{length};
 ghost use Rattle.numbers.specs.Signal.{at};
 ghost use Rattle.areas.specs.Areas.{heightsAt};
+ghost use Rattle.wavelet.specs.Shape.{columns, rows};
 ghost use Rattle.reader.specs.Questions.{setUpQuestion};
 ghost use Rattle.reader.specs.Answers.{number};
 ghost use Rattle.reader.specs.Calls.{setUpReply, setUpStore};
@@ -18,18 +20,22 @@ ghost use Rattle.terrain.specs.ReaderCalls.{stateOf, wanting, wantOf, fe
 #[no_mangle]
 pub extern "C" fn terrain_reader_set_up(
     state: &mut [u64; 16],
-    width: usize,
-    height: usize,
-    levels: usize,
+    shape: Shape,
     store: &mut [i32],
 ) -> u32
-    ensures { λ r. ⌜ r ≡ number (setUpReply width height levels (setUpQuestion width height levels (length (now (store .entry))))) ⌝ }
+    ensures { λ r. ⌜ r ≡
+        number
+        (setUpReply (columns shape) (rows shape) (shape .levels)
+        (setUpQuestion (columns shape) (rows shape) (shape .levels) (length (now (store .entry))))) ⌝ }
     ensures { λ _. ⌜ now (state .exit) ≡
-        stateOf (setUpReply width height levels (setUpQuestion width height levels (length (now (store .entry))))) (now (state .entry)) ⌝ }
+        stateOf
+        (setUpReply (columns shape) (rows shape) (shape .levels)
+        (setUpQuestion (columns shape) (rows shape) (shape .levels) (length (now (store .entry))))) (now (state .entry)) ⌝ }
     ensures { λ _. ⌜ at (now (store .exit)) ≡
-        setUpStore width levels (setUpQuestion width height levels (length (now (store .entry)))) (at (now (store .entry))) ⌝ }
+        setUpStore (columns shape) (shape .levels)
+        (setUpQuestion (columns shape) (rows shape) (shape .levels) (length (now (store .entry)))) (at (now (store .entry))) ⌝ }
 {
-    match Reader::set_up(width, height, levels, store) {
+    match Reader::set_up(shape, store) {
         SetUp::Ready(r) => {
             reader_state::pack_reader(r, state);
             0

@@ -8,13 +8,16 @@ ghost use Rattle.terrain.specs.ReaderState.{isReader, readerOf, readerWo
 pub fn is_reader(s: &[u64; 16]) -> bool
     ensures { λ r. ⌜ r ≡ isReader (now (s .entry)) ⌝ }
 {
+    if 1 < s[10] {
+        return false;
+    }
     if s[0] != 2 {
         return false;
     }
     if 1 < s[7] {
         return false;
     }
-    states::zero_from(s, 8)
+    states::zero_from(s, 11)
 }
 
 // The reader that the array holds.
@@ -29,6 +32,9 @@ pub fn unpack_reader(s: &[u64; 16]) -> Reader
         level: s[5] as usize,
         band: s[6] as usize,
         ended: s[7] == 1,
+        x: s[8] as usize,
+        y: s[9] as usize,
+        alone: s[10] == 1,
     }
 }
 
@@ -37,6 +43,7 @@ pub fn pack_reader(r: Reader, s: &mut [u64; 16])
     ensures { λ _. ⌜ now (s .exit) ≡ readerWords r ⌝ }
 {
     let ended = states::flag_of(r.ended);
+    let alone = states::flag_of(r.alone);
     *s = [
         2,
         r.width as u64,
@@ -46,9 +53,9 @@ pub fn pack_reader(r: Reader, s: &mut [u64; 16])
         r.level as u64,
         r.band as u64,
         ended,
-        0,
-        0,
-        0,
+        r.x as u64,
+        r.y as u64,
+        alone,
         0,
         0,
         0,

@@ -7,5 +7,5 @@ ghost use Rattle.terrain.specs.Version.{version};
 pub extern "C" fn terrain_version() -> u32
     ensures { λ r. ⌜ r ≡ version ⌝ }
 {
-    200
+    300
 }

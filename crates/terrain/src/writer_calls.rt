@@ -1,5 +1,6 @@
 // The writer's calls. The state is the caller's array: `writer_state` unpacks and packs it.
 use crate::writer_state;
+use wavelet::shape::Shape;
 use wavelet::store;
 use writer::Drawn;
 use writer::Finished;
@@ -12,32 +13,34 @@ ghost use lib.ListN.{length};
 ghost use Rattle.numbers.specs.Signal.{at, pick, both};
 ghost use Rattle.wavelet.specs.Limits.{maxWidth, maxLevels};
 ghost use Rattle.wavelet.specs.Questions.{within};
+ghost use Rattle.wavelet.specs.Shape.{columns};
 ghost use Rattle.wavelet.specs.Store.{storeLength};
 ghost use Rattle.writer.specs.Calls.{setUpReply, setUpStore};
 ghost use Rattle.terrain.specs.WriterCalls.{number, stateOf, offered, offeredStore, stateTook, takenOf, drawn, drawnStore, drawnArea, stateHanded, rowOf};
 ghost use Rattle.terrain.specs.WriterCalls.{waiting, lookOf, finished, finishedStore};
 
-// The numbers that the line store of a writer or a reader needs; 0 where set-up would give 2 or 4.
+// The numbers that the line store of a writer or a reader needs; 0 where set-up would give 2 or 4. The height does not count.
 #[no_mangle]
-pub extern "C" fn terrain_store_length(width: usize, levels: usize) -> usize
-    ensures { λ r. ⌜ r ≡ pick (both (within 1 maxWidth width) (within 1 maxLevels levels)) (storeLength width levels) 0 ⌝ }
+pub extern "C" fn terrain_store_length(shape: Shape) -> usize
+    ensures { λ r. ⌜ r ≡ pick (both (within 1 maxWidth (shape .width)) (within 1 maxLevels (shape .levels))) (storeLength (columns shape) (shape .levels)) 0 ⌝ }
 {
-    store::store_length(width, levels)
+    store::store_length(shape.width, shape.x as usize, shape.levels)
 }
 
-// A fresh writer. The questions are 2, 4 and 5.
+// A fresh writer. The questions are 2, 4 and 5. The height is not read.
 #[no_mangle]
 pub extern "C" fn terrain_writer_set_up(
     state: &mut [u64; 16],
-    width: usize,
-    levels: usize,
+    shape: Shape,
     store: &mut [i32],
 ) -> u32
-    ensures { λ r. ⌜ r ≡ number (setUpReply width levels (length (now (store .entry)))) ⌝ }
-    ensures { λ r. ⌜ now (state .exit) ≡ stateOf (setUpReply width levels (length (now (store .entry)))) (now (state .entry)) ⌝ }
-    ensures { λ r. ⌜ at (now (store .exit)) ≡ setUpStore width levels (length (now (store .entry))) (at (now (store .entry))) ⌝ }
+    ensures { λ r. ⌜ r ≡ number (setUpReply (columns shape) (shape .y) (shape .levels) (length (now (store .entry)))) ⌝ }
+    ensures { λ r. ⌜ now (state .exit) ≡
+        stateOf (setUpReply (columns shape) (shape .y) (shape .levels) (length (now (store .entry)))) (now (state .entry)) ⌝ }
+    ensures { λ r. ⌜ at (now (store .exit)) ≡
+        setUpStore (columns shape) (shape .levels) (length (now (store .entry))) (at (now (store .entry))) ⌝ }
 {
-    match Writer::set_up(width, levels, store) {
+    match Writer::set_up(shape, store) {
         SetUp::Ready(w) => {
             writer_state::pack_writer(w, state);
             0

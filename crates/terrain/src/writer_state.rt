@@ -15,7 +15,7 @@ pub fn is_writer(s: &[u64; 16]) -> bool
     if 1 < s[5] {
         return false;
     }
-    states::zero_from(s, 10)
+    states::zero_from(s, 12)
 }
 
 // The writer that the array holds.
@@ -32,6 +32,8 @@ pub fn unpack_writer(s: &[u64; 16]) -> Writer
         level: s[7] as usize,
         left: s[8] as usize,
         offset: s[9] as usize,
+        x: s[10] as usize,
+        y: s[11] as usize,
     }
 }
 
@@ -51,8 +53,8 @@ pub fn pack_writer(w: Writer, s: &mut [u64; 16])
         w.level as u64,
         w.left as u64,
         w.offset as u64,
-        0,
-        0,
+        w.x as u64,
+        w.y as u64,
         0,
         0,
         0,

@@ -1,10 +1,9 @@
 -- The laws of a signal as rows of s numbers, `cells`, and of rows of s numbers as a signal, `flat`. Assumes nothing.
-use mathlib.Core.Path.{_≡_, sym, ap, _∙_, fun-ext}
+use mathlib.Core.Path.{_≡_, sym, ap, _∙_}
 use Prim.Native.Nat.{ℕ, _+_, _*_, _/_, _%_, _≤_, _<_}
 use native.Mathlib.Omega.{arith}
-use native.Mathlib.Nat.{div-add-mod', mul-le-mul-right, div-lt-iff-lt-mul}
+use native.Mathlib.Nat.{mul-le-mul-right, div-lt-iff-lt-mul}
 use lib.Arith.{digits-div, digits-mod}
-use lib.IntN.{ℤ}
 use Rattle.wavelet.specs.Bands.{Grid}
 use Rattle.wavelet.specs.Plane.{cells, flat}
 
@@ -37,7 +36,3 @@ flat-at s g r c h = rw (row-of s r c h, column-of s r c h)
 pub cells-flat : (s : ℕ) (g : Grid) (r c : ℕ) → c < s → cells s (flat s g) r c ≡ g r c
 unfolding cells
 cells-flat s g r c h = flat-at s g r c h
-
-pub flat-cells : (s : ℕ) (x : ℕ → ℤ) → flat s (cells s x) ≡ x
-unfolding cells flat
-flat-cells s x = fun-ext λ j. ap x (div-add-mod' j s)

@@ -1,4 +1,4 @@
--- The theory of levels, over the definitions of specs/Bands and specs/Plane.
+-- The theory of levels of maps on the grid, over the definitions of specs/Bands and specs/Plane.
 -- A law with any `keep` holds for words and for whole numbers. A law over `K : Keeping keep` asks that the numbers are good, which is "a 32-bit number" for
 -- `words` and nothing for `wholes`; its word form stands after it.
 --     subband-reads, subband-inner, level-back-reads    what one level reads
@@ -6,25 +6,36 @@
 --     plane-at, level-at, map-back-at                   the plane, its levels and the way back, band by band
 --     plane-reads, map-back-reads                       what all levels read
 --     map-back-plane, plane-map-back, plane-unique      all levels are undone, both ways
+-- A side of one sample at an odd coordinate is doubled. There and back it comes again where its double is good (`Doubles`); back and there where each value
+-- that is halved is even (`Has`, which is `levelHas` for words).
 -- Assumes nothing.
 use mathlib.Core.Path.{_≡_, refl, sym, ap, _∙_, fun-ext}
-use Prim.Native.Nat.{ℕ, zero, suc, _+_, _-_, _*_, _≤_, _<_}
+use mathlib.Core.Bool.{Bool, true}
+use mathlib.Core.Logic.{_↔_}
+use Prim.Native.Nat.{ℕ, zero, suc, _+_, _-_, _≤_, _<_}
 use native.Mathlib.Decide.{decLt}
 use native.Mathlib.Omega.{arith}
-use lib.IntN.{ℤ}
+use lib.IntN.{ℤ, pos, _*ℤ_}
 use mir.Syntax.{w32}
 use mir.Val.{SFits}
 use borrow.Author.Tests.{lt-ltb, le-ltb}
-use Rattle.numbers.specs.Word.{wrap32}
-use Rattle.lifting.specs.Line.{Half, lo, hi, count, lineForward, lineBack}
-use Rattle.lifting.proofs.FiveThree.{Keeping, words}
-use Rattle.lifting.proofs.LineTheorems.{forward-good, back-good, line-back-forward, line-forward-back, forward-reads, forward-inner, back-reads}
-use Rattle.wavelet.specs.Bands.{Grid, Band, LL, HL, LH, HH, across, down, bandOf, columnsLifted, subband, rowsUnlifted, levelBack}
-use Rattle.wavelet.specs.Plane.{halfAt, placeIn, planeCell, levelAt, mapBack}
-use Rattle.wavelet.proofs.SizeLaws.{count-lo, count-hi, count-le}
+use Rattle.numbers.specs.Tests.{every}
+use Rattle.numbers.specs.Word.{wrap32, whole}
+use Rattle.numbers.proofs.Sweep.{both}
+use Rattle.numbers.proofs.TestLaws.{every-each, each-every, every-same}
+use Rattle.lifting.specs.Line.{Half, lo, hi}
+use Rattle.lifting.specs.Grid.{Side, side, place, count, lineForward, lineBack, loneHigh, hasLine}
+use Rattle.lifting.proofs.FiveThree.{Keeping, words, wholes, forward-good, back-good, line-back-forward, line-forward-back}
+use Rattle.lifting.proofs.GridReads.{forward-reads, back-reads}
+use Rattle.lifting.proofs.GridTheorems.{forward-inner, forward-has}
+use Rattle.lifting.proofs.LoneLaws.{has-reads}
+use Rattle.wavelet.specs.Bands.{Grid, Band, LL, HL, LH, HH, across, down, bandOf, columnsLifted, subband, rowsUnlifted, levelBack, rowsHave, columnsHave}
+use Rattle.wavelet.specs.Bands.{levelHas}
 use Rattle.wavelet.proofs.BandPlaces.{band-of}
+use Rattle.wavelet.specs.Levels.{next}
+use Rattle.wavelet.specs.Plane.{halfAt, placeIn, inCorner, planeCell, levelAt, planeBands, mapBack}
+use Rattle.wavelet.proofs.SideLaws.{count-sum, count-le, next-le}
 
--- ---- bands are pairs of halves
 pub across-of : (a h : Half) → across (bandOf a h) ≡ a
 unfolding bandOf across
 across-of lo lo = refl
@@ -40,144 +51,217 @@ down-of hi lo = refl
 down-of hi hi = refl
 
 -- ---- statements of the cells of a grid, and of the bands of a level
--- every cell of H rows of W
-abbrev pub OnCells : (ℤ → Type 0) → ℕ → ℕ → Grid → Type 0
-OnCells P W H g = (r c : ℕ) → r < H → c < W → P (g r c)
+-- every cell of the rows H of the columns W
+abbrev pub OnCells : (ℤ → Type 0) → Side → Side → Grid → Type 0
+OnCells P W H g = (r c : ℕ) → r < H .length → c < W .length → P (g r c)
 
--- every cell of the four bands of a W × H grid
-abbrev pub OnBands : (ℤ → Type 0) → ℕ → ℕ → (Band → Grid) → Type 0
+-- every cell of the four bands of such a grid
+abbrev pub OnBands : (ℤ → Type 0) → Side → Side → (Band → Grid) → Type 0
 OnBands P W H p = (b : Band) (r c : ℕ) → r < count (down b) H → c < count (across b) W → P (p b r c)
 
-abbrev pub Same : ℕ → ℕ → Grid → Grid → Type 0
-Same W H g g′ = (r c : ℕ) → r < H → c < W → g r c ≡ g′ r c
+abbrev pub Same : Side → Side → Grid → Grid → Type 0
+Same W H g g′ = (r c : ℕ) → r < H .length → c < W .length → g r c ≡ g′ r c
 
-abbrev pub SameBands : ℕ → ℕ → (Band → Grid) → (Band → Grid) → Type 0
+abbrev pub SameBands : Side → Side → (Band → Grid) → (Band → Grid) → Type 0
 SameBands W H p q = (b : Band) (r c : ℕ) → r < count (down b) H → c < count (across b) W → p b r c ≡ q b r c
 
--- ---- what one level reads: cells that are there, of rows up to 2r+2
-pub columns-reads : (keep : ℤ → ℤ) (W H : ℕ) (g g′ : Grid) (h : Half) (r c : ℕ) → r < count h H → c < W →
-    ((i j : ℕ) → i < H → i ≤ 2 * r + 2 → j < W → g i j ≡ g′ i j) → columnsLifted keep H g h r c ≡ columnsLifted keep H g′ h r c
+-- ---- what one level reads: cells that are there, of rows up to that of low row r + 1
+pub columns-reads : (keep : ℤ → ℤ) (W H : Side) (g g′ : Grid) (h : Half) (r c : ℕ) → r < count h H → c < W .length →
+    ((i j : ℕ) → i < H .length → i ≤ place H lo (r + 1) → j < W .length → g i j ≡ g′ i j) → columnsLifted keep H g h r c ≡ columnsLifted keep H g′ h r c
 unfolding columnsLifted
 columns-reads keep W H g g′ h r c p q e = forward-reads keep H (λ i. g i c) (λ i. g′ i c) h r p (λ i u v. e i c u v q)
 
-pub subband-reads : (keep : ℤ → ℤ) (W H : ℕ) (g g′ : Grid) (b : Band) (r c : ℕ) → r < count (down b) H → c < count (across b) W →
-    ((i j : ℕ) → i < H → i ≤ 2 * r + 2 → j < W → g i j ≡ g′ i j) → subband keep W H g b r c ≡ subband keep W H g′ b r c
+pub subband-reads : (keep : ℤ → ℤ) (W H : Side) (g g′ : Grid) (b : Band) (r c : ℕ) → r < count (down b) H → c < count (across b) W →
+    ((i j : ℕ) → i < H .length → i ≤ place H lo (r + 1) → j < W .length → g i j ≡ g′ i j) → subband keep W H g b r c ≡ subband keep W H g′ b r c
 unfolding subband
 subband-reads keep W H g g′ b r c p q e =
     forward-reads keep W (columnsLifted keep H g (down b) r) (columnsLifted keep H g′ (down b) r) (across b) c q
     (λ j u _. columns-reads keep W H g g′ (down b) r j p u e)
 
-pub subband-same : (keep : ℤ → ℤ) (W H : ℕ) (g g′ : Grid) → Same W H g g′ → SameBands W H (subband keep W H g) (subband keep W H g′)
+pub subband-same : (keep : ℤ → ℤ) (W H : Side) (g g′ : Grid) → Same W H g g′ → SameBands W H (subband keep W H g) (subband keep W H g′)
 subband-same keep W H g g′ e b r c p q = subband-reads keep W H g g′ b r c p q (λ i j u _ v. e i j u v)
 
 -- away from the end of the columns it does not see the height
-pub subband-inner : (keep : ℤ → ℤ) (W H H′ : ℕ) (g : Grid) (b : Band) (r : ℕ) → 2 * r + 2 < H → 2 * r + 2 < H′ →
-    subband keep W H g b r ≡ subband keep W H′ g b r
+pub subband-inner : (keep : ℤ → ℤ) (W : Side) (s N N′ : ℕ) (g : Grid) (b : Band) (r : ℕ) → place (side s N) lo (r + 1) < N → place (side s N′) lo (r + 1) < N′ →
+    subband keep W (side s N) g b r ≡ subband keep W (side s N′) g b r
 unfolding subband columnsLifted
-subband-inner keep W H H′ g b r p q =
-    ap (λ (x : ℕ → ℤ). lineForward keep W x (across b)) (fun-ext λ c. forward-inner keep H H′ (λ i. g i c) (down b) r p q)
+subband-inner keep W s N N′ g b r p q =
+    ap (λ (x : ℕ → ℤ). lineForward keep W x (across b)) (fun-ext λ c. forward-inner keep s N N′ (λ i. g i c) (down b) r p q)
 
 -- the way back reads the bands' own cells
-pub level-back-reads : (keep : ℤ → ℤ) (W H : ℕ) (p q : Band → Grid) → SameBands W H p q → Same W H (levelBack keep W H p) (levelBack keep W H q)
-unfolding levelBack rowsUnlifted
+pub rows-reads : (keep : ℤ → ℤ) (W H : Side) (p q : Band → Grid) → SameBands W H p q → (h : Half) (r c : ℕ) → r < count h H → c < W .length →
+    rowsUnlifted keep W p h r c ≡ rowsUnlifted keep W q h r c
+unfolding rowsUnlifted
+rows-reads keep W H p q e h r c s v =
+    back-reads keep W (λ a. p (bandOf a h) r) (λ a. q (bandOf a h) r) (λ a j t. e (bandOf a h) r j (rw (down-of a h) s) (rw (across-of a h) t)) c v
+
+pub level-back-reads : (keep : ℤ → ℤ) (W H : Side) (p q : Band → Grid) → SameBands W H p q → Same W H (levelBack keep W H p) (levelBack keep W H q)
+unfolding levelBack
 level-back-reads keep W H p q e r c u v =
-    back-reads keep H (λ h i. lineBack keep W (λ a. p (bandOf a h) i) c) (λ h i. lineBack keep W (λ a. q (bandOf a h) i) c)
-    (λ h i s. back-reads keep W (λ a. p (bandOf a h) i) (λ a. q (bandOf a h) i)
-    (λ a j t. e (bandOf a h) i j (rw (down-of a h) s) (rw (across-of a h) t)) c v) r u
+    back-reads keep H (λ h i. rowsUnlifted keep W p h i c) (λ h i. rowsUnlifted keep W q h i c) (λ h i s. rows-reads keep W H p q e h i c s v) r u
+
+-- ---- 14: each row of the bands is a line's, and then each column
+pub record Has (keep : ℤ → ℤ) (W H : Side) (p : Band → Grid) : Type 0 where
+  pub rows : (h : Half) (r : ℕ) → r < count h H → hasLine W (λ a. p (bandOf a h) r) ≡ true
+  pub columns : (c : ℕ) → c < W .length → hasLine H (λ h i. rowsUnlifted keep W p h i c) ≡ true
+
+module _ (W H : Side) (p : Band → Grid) where
+  abbrev row-has : Half → ℕ → Bool
+  row-has h r = hasLine W (λ a. p (bandOf a h) r)
+
+  abbrev column-has : ℕ → Bool
+  column-has c = hasLine H (λ h i. rowsUnlifted wrap32 W p h i c)
+
+  pub level-has : levelHas W H p ≡ true ↔ Has wrap32 W H p
+  unfolding levelHas rowsHave columnsHave
+  level-has = (
+    λ e.
+        let a = both (rowsHave W H p) (columnsHave W H p) e in
+        let b = both (every (count lo H) (row-has lo)) (every (count hi H) (row-has hi)) (a .0) in
+        record {
+          rows = λ h. elim h [ lo ↦ every-each (count lo H) (row-has lo) (b .0) | hi ↦ every-each (count hi H) (row-has hi) (b .1) ];
+          columns = every-each (W .length) column-has (a .1);
+        },
+    λ h.
+        simp (
+          each-every (count lo H) (row-has lo) (h .rows lo),
+          each-every (count hi H) (row-has hi) (h .rows hi),
+          each-every (W .length) column-has (h .columns),
+        ),
+  )
+
+-- it reads the bands' own cells
+pub level-has-reads : (W H : Side) (p q : Band → Grid) → SameBands W H p q → levelHas W H p ≡ levelHas W H q
+unfolding levelHas rowsHave columnsHave
+level-has-reads W H p q e =
+    let rows : (h : Half) (r : ℕ) → r < count h H → row-has W H p h r ≡ row-has W H q h r =
+    λ h r s. has-reads W _ _ (λ a j t. e (bandOf a h) r j (rw (down-of a h) s) (rw (across-of a h) t)) in
+    rw (
+      every-same (count lo H) (row-has W H p lo) (row-has W H q lo) (rows lo),
+      every-same (count hi H) (row-has W H p hi) (row-has W H q hi) (rows hi),
+      every-same (W .length) (column-has W H p) (column-has W H q)
+          (λ c v. has-reads H _ _ (λ h i s. rows-reads wrap32 W H p q e h i c s v)),
+    ) refl
 
 -- ---- one level and its way back
+-- what is doubled stays good: the samples of a lone row, and what the lifted columns leave of a lone column
+pub record Doubles {keep : ℤ → ℤ} (K : Keeping keep) (W H : Side) (g : Grid) : Type 0 where
+  pub columns : loneHigh H ≡ true → (c : ℕ) → c < W .length → K .Good (pos 2 *ℤ g 0 c)
+  pub rows : loneHigh W ≡ true → (h : Half) (r : ℕ) → r < count h H → K .Good (pos 2 *ℤ columnsLifted keep H g h r 0)
+
 module _ {keep : ℤ → ℤ} (K : Keeping keep) where
   open Keeping K using (Good)
 
-  columns-good : (W H : ℕ) (g : Grid) → OnCells Good W H g → (h : Half) (r c : ℕ) → r < count h H → c < W → Good (columnsLifted keep H g h r c)
+  columns-good : (W H : Side) (g : Grid) → OnCells Good W H g → (h : Half) (r c : ℕ) → r < count h H → c < W .length → Good (columnsLifted keep H g h r c)
   unfolding columnsLifted
   columns-good W H g good h r c p q = forward-good K H (λ i. g i c) (λ i u. good i c u q) h r p
 
-  rows-good : (W H : ℕ) (p : Band → Grid) → OnBands Good W H p → (h : Half) (r c : ℕ) → r < count h H → c < W → Good (rowsUnlifted keep W p h r c)
+  rows-good : (W H : Side) (p : Band → Grid) → OnBands Good W H p → (h : Half) (r c : ℕ) → r < count h H → c < W .length → Good (rowsUnlifted keep W p h r c)
   unfolding rowsUnlifted
   rows-good W H p good h r c u v =
       back-good K W (λ a. p (bandOf a h) r) (λ a n t. good (bandOf a h) r n (rw (down-of a h) u) (rw (across-of a h) t)) c v
 
-  pub subband-good : (W H : ℕ) (g : Grid) → OnCells Good W H g → OnBands Good W H (subband keep W H g)
+  pub subband-good : (W H : Side) (g : Grid) → OnCells Good W H g → OnBands Good W H (subband keep W H g)
   unfolding subband
   subband-good W H g good b r c p q =
       forward-good K W (columnsLifted keep H g (down b) r) (λ j u. columns-good W H g good (down b) r j p u) (across b) c q
 
-  pub level-back-good : (W H : ℕ) (p : Band → Grid) → OnBands Good W H p → OnCells Good W H (levelBack keep W H p)
+  pub level-back-good : (W H : Side) (p : Band → Grid) → OnBands Good W H p → OnCells Good W H (levelBack keep W H p)
   unfolding levelBack
   level-back-good W H p good r c u v =
       back-good K H (λ h i. rowsUnlifted keep W p h i c) (λ h i s. rows-good W H p good h i c s v) r u
 
-  -- the rows of the bands, lifted back, are the lifted columns
-  rows-columns : (W H : ℕ) (g : Grid) → OnCells Good W H g → (h : Half) (r c : ℕ) → r < count h H → c < W →
-      rowsUnlifted keep W (subband keep W H g) h r c ≡ columnsLifted keep H g h r c
-  unfolding rowsUnlifted subband
-  rows-columns W H g good h r c p q =
-      ap (λ (x : Half → ℕ → ℤ). lineBack keep W x c)
-      (fun-ext λ a. rw (down-of a h, across-of a h) refl)
-      ∙ line-back-forward K W (columnsLifted keep H g h r) (λ j u. columns-good W H g good h r j p u) c q
+  -- row r of half h of a grid's bands is the lifted columns' row, lifted
+  row-of-bands : (W H : Side) (g : Grid) (h : Half) (r : ℕ) → _≡_ {A = Half → ℕ → ℤ} (λ a. subband keep W H g (bandOf a h) r)
+      (lineForward keep W (columnsLifted keep H g h r))
+  unfolding subband
+  row-of-bands W H g h r = fun-ext λ a. rw (down-of a h, across-of a h) refl
 
-  columns-rows : (W H : ℕ) (p : Band → Grid) → OnBands Good W H p → (h : Half) (r c : ℕ) → r < count h H → c < W →
+  -- the rows of the bands, lifted back, are the lifted columns
+  pub rows-columns : (W H : Side) (g : Grid) → OnCells Good W H g → Doubles K W H g → (h : Half) (r c : ℕ) → r < count h H → c < W .length →
+      rowsUnlifted keep W (subband keep W H g) h r c ≡ columnsLifted keep H g h r c
+  unfolding rowsUnlifted
+  rows-columns W H g good twice h r c p q =
+      ap (λ (x : Half → ℕ → ℤ). lineBack keep W x c) (row-of-bands W H g h r)
+      ∙ line-back-forward K W (columnsLifted keep H g h r) (λ j u. columns-good W H g good h r j p u) (λ e. twice .rows e h r p) c q
+
+  columns-rows : (W H : Side) (p : Band → Grid) → OnBands Good W H p → Has keep W H p → (h : Half) (r c : ℕ) → r < count h H → c < W .length →
       columnsLifted keep H (levelBack keep W H p) h r c ≡ rowsUnlifted keep W p h r c
   unfolding columnsLifted levelBack
-  columns-rows W H p good h r c u v =
-      line-forward-back K H (λ y i. rowsUnlifted keep W p y i c) (λ y i s. rows-good W H p good y i c s v) h r u
+  columns-rows W H p good has h r c u v =
+      line-forward-back K H (λ y i. rowsUnlifted keep W p y i c) (λ y i s. rows-good W H p good y i c s v) (has .columns c v) h r u
 
-  pub level-back-forward : (W H : ℕ) (g : Grid) → OnCells Good W H g → Same W H (levelBack keep W H (subband keep W H g)) g
+  pub level-back-forward : (W H : Side) (g : Grid) → OnCells Good W H g → Doubles K W H g → Same W H (levelBack keep W H (subband keep W H g)) g
   unfolding levelBack columnsLifted
-  level-back-forward W H g good r c u v =
+  level-back-forward W H g good twice r c u v =
       back-reads keep H (λ h i. rowsUnlifted keep W (subband keep W H g) h i c) (lineForward keep H (λ i. g i c))
-      (λ h i s. rows-columns W H g good h i c s v) r u
-      ∙ line-back-forward K H (λ i. g i c) (λ i t. good i c t v) r u
+      (λ h i s. rows-columns W H g good twice h i c s v) r u
+      ∙ line-back-forward K H (λ i. g i c) (λ i t. good i c t v) (λ e. twice .columns e c v) r u
 
-  pub level-forward-back : (W H : ℕ) (p : Band → Grid) → OnBands Good W H p → SameBands W H (subband keep W H (levelBack keep W H p)) p
+  pub level-forward-back : (W H : Side) (p : Band → Grid) → OnBands Good W H p → Has keep W H p → SameBands W H (subband keep W H (levelBack keep W H p)) p
   unfolding subband rowsUnlifted
-  level-forward-back W H p good b r c u v =
+  level-forward-back W H p good has b r c u v =
       forward-reads keep W (columnsLifted keep H (levelBack keep W H p) (down b) r) (rowsUnlifted keep W p (down b) r) (across b) c v
-      (λ j s _. columns-rows W H p good (down b) r j u s)
+      (λ j s _. columns-rows W H p good has (down b) r j u s)
       ∙ line-forward-back K W (λ a. p (bandOf a (down b)) r)
-      (λ a n t. good (bandOf a (down b)) r n (rw (down-of a (down b)) u) (rw (across-of a (down b)) t)) (across b) c v
+      (λ a n t. good (bandOf a (down b)) r n (rw (down-of a (down b)) u) (rw (across-of a (down b)) t)) (has .rows (down b) r u) (across b) c v
       ∙ ap (λ (d : Band). p d r c) (band-of b)
 
 -- the same for words
-pub subband-fits : (W H : ℕ) (g : Grid) → OnCells (SFits w32) W H g → OnBands (SFits w32) W H (subband wrap32 W H g)
-subband-fits = subband-good words
-
-pub level-back-fits : (W H : ℕ) (p : Band → Grid) → OnBands (SFits w32) W H p → OnCells (SFits w32) W H (levelBack wrap32 W H p)
+pub level-back-fits : (W H : Side) (p : Band → Grid) → OnBands (SFits w32) W H p → OnCells (SFits w32) W H (levelBack wrap32 W H p)
 level-back-fits = level-back-good words
 
-pub words-back-forward : (W H : ℕ) (g : Grid) → OnCells (SFits w32) W H g → (r c : ℕ) → r < H → c < W → levelBack wrap32 W H (subband wrap32 W H g) r c ≡ g r c
+pub words-back-forward : (W H : Side) (g : Grid) → OnCells (SFits w32) W H g → Doubles words W H g → (r c : ℕ) → r < H .length → c < W .length →
+    levelBack wrap32 W H (subband wrap32 W H g) r c ≡ g r c
 words-back-forward = level-back-forward words
 
-pub words-forward-back : (W H : ℕ) (p : Band → Grid) → OnBands (SFits w32) W H p → (b : Band) (r c : ℕ) → r < count (down b) H → c < count (across b) W →
-    subband wrap32 W H (levelBack wrap32 W H p) b r c ≡ p b r c
-words-forward-back = level-forward-back words
+pub words-forward-back : (W H : Side) (p : Band → Grid) → OnBands (SFits w32) W H p → levelHas W H p ≡ true → (b : Band) (r c : ℕ) →
+    r < count (down b) H → c < count (across b) W → subband wrap32 W H (levelBack wrap32 W H p) b r c ≡ p b r c
+words-forward-back W H p fits has = level-forward-back words W H p fits (level-has W H p .0 has)
+
+-- the bands of a grid never give 14
+pub subband-has : (W H : Side) (g : Grid) → OnCells (SFits w32) W H g → Doubles words W H g → levelHas W H (subband wrap32 W H g) ≡ true
+unfolding columnsLifted
+subband-has W H g fits twice =
+    level-has W H (subband wrap32 W H g) .1
+    record {
+      rows = λ h r p. ap (hasLine W) (row-of-bands words W H g h r) ∙ forward-has W (columnsLifted wrap32 H g h r);
+      columns = λ c v.
+          has-reads H _ (lineForward wrap32 H (λ i. g i c)) (λ h i s. rows-columns words W H g fits twice h i c s v) ∙ forward-has H (λ i. g i c);
+    }
+
+-- in whole numbers a double is a number
+pub whole-doubles : (W H : Side) (g : Grid) → Doubles wholes W H g
+whole-doubles W H g = record { columns = λ _ _ _. tt; rows = λ _ _ _ _. tt }
+
+pub whole-back-forward : (W H : Side) (g : Grid) → Same W H (levelBack whole W H (subband whole W H g)) g
+whole-back-forward W H g = level-back-forward wholes W H g (λ _ _ _ _. tt) (whole-doubles W H g)
 
 -- ---- the plane, band by band
--- where number n of half h of a side of N stands in the plane: the low half at the front, the high half after it
-unfoldable pub placed : Half → ℕ → ℕ → ℕ
-placed lo N n = n
-placed hi N n = count lo N + n
+-- where number n of half h of a side stands in the plane: the low half at the front, the high half after it
+unfoldable pub placed : Half → Side → ℕ → ℕ
+placed lo S n = n
+placed hi S n = count lo S + n
 
-pub placed-in : (h : Half) (N n : ℕ) → n < count h N → placed h N n < N
+pub placed-in : (h : Half) (S : Side) (n : ℕ) → n < count h S → placed h S n < S .length
 unfolding placed
-placed-in lo N n p = omega (arith, count-lo N)
-placed-in hi N n p = omega (arith, count-lo N, count-hi N)
+placed-in lo S n p = omega (arith, count-le lo S)
+placed-in hi S n p = omega (arith, count-sum S)
 
 -- every place of a side is the place of a number of a half
-pub by-half : (N : ℕ) (P : ℕ → Type 0) → ((h : Half) (n : ℕ) → n < count h N → P (placed h N n)) → (i : ℕ) → i < N → P i
+pub by-half : (S : Side) (P : ℕ → Type 0) → ((h : Half) (n : ℕ) → n < count h S → P (placed h S n)) → (i : ℕ) → i < S .length → P i
 unfolding placed
-by-half N P f i p =
-    elim (decLt i (count lo N)) [
+by-half S P f i p =
+    elim (decLt i (count lo S)) [
       | yes q ↦ f lo i q
       | no d ↦
-          let e : count lo N + (i - count lo N) ≡ i = omega arith in
-          rw e at (f hi (i - count lo N) (omega (arith, count-lo N, count-hi N)))
+          let e : count lo S + (i - count lo S) ≡ i = omega arith in
+          rw e at (f hi (i - count lo S) (omega (arith, count-sum S)))
     ]
 
 -- and every cell of the plane the cell of a band
-pub by-band : (W H : ℕ) (P : ℕ → ℕ → Type 0) → ((b : Band) (r c : ℕ) → r < count (down b) H → c < count (across b) W →
-    P (placed (down b) H r) (placed (across b) W c)) → (r c : ℕ) → r < H → c < W → P r c
+pub by-band : (W H : Side) (P : ℕ → ℕ → Type 0) → ((b : Band) (r c : ℕ) → r < count (down b) H → c < count (across b) W →
+    P (placed (down b) H r) (placed (across b) W c)) → (r c : ℕ) → r < H .length → c < W .length → P r c
 by-band W H P f r c p q =
     by-half H (λ i. P i c)
     (λ h n u. by-half W (P (placed h H n)) (λ a m v. at a h n m (f (bandOf a h) n m (rw (down-of a h) u) (rw (across-of a h) v))) c q) r p
@@ -193,15 +277,20 @@ module _ {A : Type 0} where
   over g p LH = p LH
   over g p HH = p HH
 
--- band b as it stands in a plane x of W × H
-unfoldable pub bandIn : ℕ → ℕ → Grid → Band → Grid
+-- band b as it stands in a plane x of the columns W and the rows H
+unfoldable pub bandIn : Side → Side → Grid → Band → Grid
 bandIn W H x b r c = x (placed (down b) H r) (placed (across b) W c)
 
-module _ (keep : ℤ → ℤ) (L W H : ℕ) where
+-- the bands of a level in the plane, its low-low part being another grid
+pub plane-bands : (W H : Side) (a x : Grid) → planeBands W H a x ≡ over a (bandIn W H x)
+unfolding planeBands over bandIn placed across down
+plane-bands W H a x = fun-ext λ b. elim b [ LL ↦ refl | HL ↦ refl | LH ↦ refl | HH ↦ refl ]
+
+module _ (keep : ℤ → ℤ) (L : ℕ) (W H : Side) where
   -- level 1 of the plane: its three bands, and in the low-low corner the plane of the low-low part
   pub plane-at : (g : Grid) → SameBands W H (bandIn W H (planeCell keep (suc L) W H g))
-      (over (planeCell keep L (count lo W) (count lo H) (subband keep W H g LL)) (subband keep W H g))
-  unfolding bandIn planeCell over placed halfAt placeIn across down bandOf
+      (over (planeCell keep L (next W) (next H) (subband keep W H g LL)) (subband keep W H g))
+  unfolding bandIn planeCell inCorner over placed halfAt placeIn across down bandOf
   plane-at g LL r c p q = simp (lt-ltb r (count lo H) p, lt-ltb c (count lo W) q)
   plane-at g HL r c p q =
       let e : count lo W + c - count lo W ≡ c = omega arith in
@@ -214,42 +303,42 @@ module _ (keep : ℤ → ℤ) (L W H : ℕ) where
       let d : count lo W + c - count lo W ≡ c = omega arith in
       simp (le-ltb (count lo H + r) (count lo H) (omega arith), le-ltb (count lo W + c) (count lo W) (omega arith), e, d)
 
-  pub map-back-at : (x : Grid) → mapBack keep (suc L) W H x ≡ levelBack keep W H (over (mapBack keep L (count lo W) (count lo H) x) (bandIn W H x))
-  unfolding mapBack over bandIn placed across down
-  map-back-at x = ap (levelBack keep W H) (fun-ext λ b. elim b [ LL ↦ refl | HL ↦ refl | LH ↦ refl | HH ↦ refl ])
+  pub map-back-at : (x : Grid) → mapBack keep (suc L) W H x ≡ levelBack keep W H (over (mapBack keep L (next W) (next H) x) (bandIn W H x))
+  unfolding mapBack
+  map-back-at x = ap (levelBack keep W H) (plane-bands W H (mapBack keep L (next W) (next H) x) x)
 
-pub level-at : (L W H : ℕ) (b : Band) (r c : ℕ) → r < count (down b) H → c < count (across b) W →
-    levelAt (suc L) W H (placed (down b) H r) (placed (across b) W c) ≡ over (λ i j. 1 + levelAt L (count lo W) (count lo H) i j) (λ d i j. 1) b r c
-unfolding levelAt over placed across down
+pub level-at : (L : ℕ) (W H : Side) (b : Band) (r c : ℕ) → r < count (down b) H → c < count (across b) W →
+    levelAt (suc L) W H (placed (down b) H r) (placed (across b) W c) ≡ over (λ i j. 1 + levelAt L (next W) (next H) i j) (λ d i j. 1) b r c
+unfolding levelAt inCorner over placed across down
 level-at L W H LL r c p q = simp (lt-ltb r (count lo H) p, lt-ltb c (count lo W) q)
 level-at L W H HL r c p q = simp (lt-ltb r (count lo H) p, le-ltb (count lo W + c) (count lo W) (omega arith))
 level-at L W H LH r c p q = simp (le-ltb (count lo H + r) (count lo H) (omega arith))
 level-at L W H HH r c p q = simp (le-ltb (count lo H + r) (count lo H) (omega arith))
 
 -- ---- what holds of a plane holds of its corner and of its bands
-pub corner : (P : ℤ → Type 0) (W H : ℕ) (x : Grid) → OnCells P W H x → OnCells P (count lo W) (count lo H) x
-corner P W H x f r c p q = f r c (omega (arith, count-le lo H)) (omega (arith, count-le lo W))
+pub corner : (P : ℤ → Type 0) (W H : Side) (x : Grid) → OnCells P W H x → OnCells P (next W) (next H) x
+corner P W H x f r c p q = f r c (omega (arith, next-le H)) (omega (arith, next-le W))
 
-pub in-bands : (P : ℤ → Type 0) (W H : ℕ) (x : Grid) → OnCells P W H x → OnBands P W H (bandIn W H x)
+pub in-bands : (P : ℤ → Type 0) (W H : Side) (x : Grid) → OnCells P W H x → OnBands P W H (bandIn W H x)
 unfolding bandIn
 in-bands P W H x f b r c p q = f (placed (down b) H r) (placed (across b) W c) (placed-in (down b) H r p) (placed-in (across b) W c q)
 
-pub over-all : (P : ℤ → Type 0) (W H : ℕ) (g : Grid) (p : Band → Grid) → OnCells P (count lo W) (count lo H) g → OnBands P W H p → OnBands P W H (over g p)
-unfolding over across down
+pub over-all : (P : ℤ → Type 0) (W H : Side) (g : Grid) (p : Band → Grid) → OnCells P (next W) (next H) g → OnBands P W H p → OnBands P W H (over g p)
+unfolding over across down next
 over-all P W H g p f f′ LL = f
 over-all P W H g p f f′ HL = f′ HL
 over-all P W H g p f f′ LH = f′ LH
 over-all P W H g p f f′ HH = f′ HH
 
-pub same-corner : (W H : ℕ) (x y : Grid) → Same W H x y → Same (count lo W) (count lo H) x y
-same-corner W H x y e r c p q = e r c (omega (arith, count-le lo H)) (omega (arith, count-le lo W))
+pub same-corner : (W H : Side) (x y : Grid) → Same W H x y → Same (next W) (next H) x y
+same-corner W H x y e r c p q = e r c (omega (arith, next-le H)) (omega (arith, next-le W))
 
-pub same-in-bands : (W H : ℕ) (x y : Grid) → Same W H x y → SameBands W H (bandIn W H x) (bandIn W H y)
+pub same-in-bands : (W H : Side) (x y : Grid) → Same W H x y → SameBands W H (bandIn W H x) (bandIn W H y)
 unfolding bandIn
 same-in-bands W H x y e b r c p q = e (placed (down b) H r) (placed (across b) W c) (placed-in (down b) H r p) (placed-in (across b) W c q)
 
-pub over-same : (W H : ℕ) (g g′ : Grid) (p q : Band → Grid) → Same (count lo W) (count lo H) g g′ → SameBands W H p q → SameBands W H (over g p) (over g′ q)
-unfolding over across down
+pub over-same : (W H : Side) (g g′ : Grid) (p q : Band → Grid) → Same (next W) (next H) g g′ → SameBands W H p q → SameBands W H (over g p) (over g′ q)
+unfolding over across down next
 over-same W H g g′ p q e e′ LL = e
 over-same W H g g′ p q e e′ HL = e′ HL
 over-same W H g g′ p q e e′ LH = e′ LH
@@ -263,140 +352,162 @@ over-twice g p HL = refl
 over-twice g p LH = refl
 over-twice g p HH = refl
 
-over-band : (W H : ℕ) (x g : Grid) (b : Band) → over x (over g (bandIn W H x)) b ≡ bandIn W H x b
+over-band : (W H : Side) (x g : Grid) (b : Band) → over x (over g (bandIn W H x)) b ≡ bandIn W H x b
 unfolding bandIn placed across down
 over-band W H x g = over-twice g (bandIn W H x)
 
 -- what holds of the bands holds of the low-low one
-pub low-all : (P : ℤ → Type 0) (W H : ℕ) (p : Band → Grid) → OnBands P W H p → OnCells P (count lo W) (count lo H) (p LL)
-unfolding across down
+pub low-all : (P : ℤ → Type 0) (W H : Side) (p : Band → Grid) → OnBands P W H p → OnCells P (next W) (next H) (p LL)
+unfolding across down next
 low-all P W H p f = f LL
 
-pub same-low : (W H : ℕ) (p q : Band → Grid) → SameBands W H p q → Same (count lo W) (count lo H) (p LL) (q LL)
-unfolding across down
+pub same-low : (W H : Side) (p q : Band → Grid) → SameBands W H p q → Same (next W) (next H) (p LL) (q LL)
+unfolding across down next
 same-low W H p q e = e LL
 
 -- planes are the same where their bands are
-pub same-bands : (W H : ℕ) (x y : Grid) → SameBands W H (bandIn W H x) (bandIn W H y) → Same W H x y
+pub same-bands : (W H : Side) (x y : Grid) → SameBands W H (bandIn W H x) (bandIn W H y) → Same W H x y
 unfolding bandIn
 same-bands W H x y = by-band W H (λ r c. x r c ≡ y r c)
 
-pub plane-corner : (keep : ℤ → ℤ) (L W H : ℕ) (g : Grid) →
-    Same (count lo W) (count lo H) (planeCell keep (suc L) W H g) (planeCell keep L (count lo W) (count lo H) (subband keep W H g LL))
-unfolding bandIn over placed across down
+pub plane-corner : (keep : ℤ → ℤ) (L : ℕ) (W H : Side) (g : Grid) →
+    Same (next W) (next H) (planeCell keep (suc L) W H g) (planeCell keep L (next W) (next H) (subband keep W H g LL))
+unfolding bandIn over placed across down next
 plane-corner keep L W H g = plane-at keep L W H g LL
 
 -- ---- what all levels read: the cells that are there
-pub plane-reads : (keep : ℤ → ℤ) (L W H : ℕ) (g g′ : Grid) → Same W H g g′ → Same W H (planeCell keep L W H g) (planeCell keep L W H g′)
+pub plane-reads : (keep : ℤ → ℤ) (L : ℕ) (W H : Side) (g g′ : Grid) → Same W H g g′ → Same W H (planeCell keep L W H g) (planeCell keep L W H g′)
 unfolding planeCell
 plane-reads keep zero W H g g′ e = e
 plane-reads keep (suc L) W H g g′ e =
     let one = subband-same keep W H g g′ e in
-    let rest = plane-reads keep L (count lo W) (count lo H) _ _ (same-low W H _ _ one) in
+    let rest = plane-reads keep L (next W) (next H) _ _ (same-low W H _ _ one) in
     let both = over-same W H _ _ _ _ rest one in
     same-bands W H _ _ (λ b r c p q. plane-at keep L W H g b r c p q ∙ both b r c p q ∙ sym (plane-at keep L W H g′ b r c p q))
 
-pub map-back-reads : (keep : ℤ → ℤ) (L W H : ℕ) (x y : Grid) → Same W H x y → Same W H (mapBack keep L W H x) (mapBack keep L W H y)
+pub map-back-reads : (keep : ℤ → ℤ) (L : ℕ) (W H : Side) (x y : Grid) → Same W H x y → Same W H (mapBack keep L W H x) (mapBack keep L W H y)
 unfolding mapBack
 map-back-reads keep zero W H x y e = e
 map-back-reads keep (suc L) W H x y e =
-    let rest = map-back-reads keep L (count lo W) (count lo H) x y (same-corner W H x y e) in
+    let rest = map-back-reads keep L (next W) (next H) x y (same-corner W H x y e) in
     λ r c p q.
     ap (λ (g : Grid). g r c) (map-back-at keep L W H x)
     ∙ level-back-reads keep W H _ _ (over-same W H _ _ _ _ rest (same-in-bands W H x y e)) r c p q
     ∙ ap (λ (g : Grid). g r c) (sym (map-back-at keep L W H y))
 
 -- ---- all levels and their way back
+-- at each level what is doubled stays good
+pub data AllDouble {keep : ℤ → ℤ} (K : Keeping keep) : ℕ → Side → Side → Grid → Type 0 where
+  none : {W H : Side} {g : Grid} → AllDouble K zero W H g
+  more : {L : ℕ} {W H : Side} {g : Grid} → Doubles K W H g → AllDouble K L (next W) (next H) (subband keep W H g LL) → AllDouble K (suc L) W H g
+
+-- the bands of level 1 in the plane x, with the low-low part that the levels left give
+abbrev pub bandsBack : (ℤ → ℤ) → ℕ → Side → Side → Grid → Band → Grid
+bandsBack keep L W H x = over (mapBack keep L (next W) (next H) x) (bandIn W H x)
+
+-- at each level each value that is halved is even
+pub data AllHave (keep : ℤ → ℤ) : ℕ → Side → Side → Grid → Type 0 where
+  none : {W H : Side} {x : Grid} → AllHave keep zero W H x
+  more : {L : ℕ} {W H : Side} {x : Grid} → AllHave keep L (next W) (next H) x → Has keep W H (bandsBack keep L W H x) → AllHave keep (suc L) W H x
+
 module _ {keep : ℤ → ℤ} (K : Keeping keep) where
   open Keeping K using (Good)
 
-  pub plane-good : (L W H : ℕ) (g : Grid) → OnCells Good W H g → OnCells Good W H (planeCell keep L W H g)
+  pub plane-good : (L : ℕ) (W H : Side) (g : Grid) → OnCells Good W H g → OnCells Good W H (planeCell keep L W H g)
   unfolding planeCell bandIn
   plane-good zero W H g good = good
   plane-good (suc L) W H g good =
       let one = subband-good K W H g good in
-      let rest = plane-good L (count lo W) (count lo H) _ (low-all Good W H _ one) in
+      let rest = plane-good L (next W) (next H) _ (low-all Good W H _ one) in
       by-band W H (λ r c. Good (planeCell keep (suc L) W H g r c))
       (λ b r c p q. rw (plane-at keep L W H g b r c p q) (over-all Good W H _ _ rest one b r c p q))
 
-  pub map-back-good : (L W H : ℕ) (x : Grid) → OnCells Good W H x → OnCells Good W H (mapBack keep L W H x)
+  pub map-back-good : (L : ℕ) (W H : Side) (x : Grid) → OnCells Good W H x → OnCells Good W H (mapBack keep L W H x)
   unfolding mapBack
   map-back-good zero W H x good = good
   map-back-good (suc L) W H x good =
-      let rest = map-back-good L (count lo W) (count lo H) x (corner Good W H x good) in
+      let rest = map-back-good L (next W) (next H) x (corner Good W H x good) in
       rw (map-back-at keep L W H x) (level-back-good K W H _ (over-all Good W H _ _ rest (in-bands Good W H x good)))
 
-  pub map-back-plane : (L W H : ℕ) (g : Grid) → OnCells Good W H g → Same W H (mapBack keep L W H (planeCell keep L W H g)) g
-  unfolding mapBack planeCell
-  map-back-plane zero W H g good = λ r c p q. refl
-  map-back-plane (suc L) W H g good =
+  pub bands-back-good : (L : ℕ) (W H : Side) (x : Grid) → OnCells Good W H x → OnBands Good W H (bandsBack keep L W H x)
+  bands-back-good L W H x good = over-all Good W H _ _ (map-back-good L (next W) (next H) x (corner Good W H x good)) (in-bands Good W H x good)
+
+  -- the bands in the plane of a grid are the grid's, if the plane of its low-low part gives that part back
+  bands-in-plane : (L : ℕ) (W H : Side) (g : Grid) →
+      Same (next W) (next H) (mapBack keep L (next W) (next H) (planeCell keep L (next W) (next H) (subband keep W H g LL))) (subband keep W H g LL) →
+      SameBands W H (bandsBack keep L W H (planeCell keep (suc L) W H g)) (subband keep W H g)
+  bands-in-plane L W H g back b r c p q =
       let x = planeCell keep (suc L) W H g in
       let ll = subband keep W H g LL in
-      let ih = map-back-plane L (count lo W) (count lo H) ll (low-all Good W H (subband keep W H g) (subband-good K W H g good)) in
-      let low : Same (count lo W) (count lo H) (mapBack keep L (count lo W) (count lo H) x) ll =
-      λ r c p q. map-back-reads keep L (count lo W) (count lo H) x (planeCell keep L (count lo W) (count lo H) ll) (plane-corner keep L W H g) r c p q ∙
-      ih r c p q in
-      let bands : SameBands W H (over (mapBack keep L (count lo W) (count lo H) x) (bandIn W H x)) (subband keep W H g) =
-      λ b r c p q.
+      let low : Same (next W) (next H) (mapBack keep L (next W) (next H) x) ll =
+      λ r c p q. map-back-reads keep L (next W) (next H) x (planeCell keep L (next W) (next H) ll) (plane-corner keep L W H g) r c p q ∙ back r c p q in
       over-same W H _ _ _ _ low (plane-at keep L W H g) b r c p q
-      ∙ ap (λ (f : Grid). f r c) (over-twice _ (subband keep W H g) b) in
+      ∙ ap (λ (f : Grid). f r c) (over-twice _ (subband keep W H g) b)
+
+  pub map-back-plane : (L : ℕ) (W H : Side) (g : Grid) → OnCells Good W H g → AllDouble K L W H g → Same W H (mapBack keep L W H (planeCell keep L W H g)) g
+  unfolding mapBack planeCell
+  map-back-plane zero W H g good none = λ r c p q. refl
+  map-back-plane (suc L) W H g good (more twice left) =
+      let ih = map-back-plane L (next W) (next H) (subband keep W H g LL) (low-all Good W H (subband keep W H g) (subband-good K W H g good)) left in
       λ r c p q.
-      ap (λ (f : Grid). f r c) (map-back-at keep L W H x)
-      ∙ level-back-reads keep W H _ _ bands r c p q
-      ∙ level-back-forward K W H g good r c p q
+      ap (λ (f : Grid). f r c) (map-back-at keep L W H (planeCell keep (suc L) W H g))
+      ∙ level-back-reads keep W H _ _ (bands-in-plane L W H g ih) r c p q
+      ∙ level-back-forward K W H g good twice r c p q
+
+  pub bands-plane : (L : ℕ) (W H : Side) (g : Grid) → OnCells Good W H g → AllDouble K L (next W) (next H) (subband keep W H g LL) →
+      SameBands W H (bandsBack keep L W H (planeCell keep (suc L) W H g)) (subband keep W H g)
+  bands-plane L W H g good left =
+      bands-in-plane L W H g (map-back-plane L (next W) (next H) _ (low-all Good W H (subband keep W H g) (subband-good K W H g good)) left)
 
   -- the bands of the grid that a plane gives: those that stand in it
-  pub bands-map-back : (L W H : ℕ) (x : Grid) → OnCells Good W H x →
-      SameBands W H (subband keep W H (mapBack keep (suc L) W H x)) (over (mapBack keep L (count lo W) (count lo H) x) (bandIn W H x))
-  bands-map-back L W H x good =
-      let rest = map-back-good L (count lo W) (count lo H) x (corner Good W H x good) in
-      rw (map-back-at keep L W H x) (level-forward-back K W H _ (over-all Good W H _ _ rest (in-bands Good W H x good)))
+  pub bands-map-back : (L : ℕ) (W H : Side) (x : Grid) → OnCells Good W H x → Has keep W H (bandsBack keep L W H x) →
+      SameBands W H (subband keep W H (mapBack keep (suc L) W H x)) (bandsBack keep L W H x)
+  bands-map-back L W H x good has =
+      rw (map-back-at keep L W H x) (level-forward-back K W H _ (bands-back-good L W H x good) has)
 
-  pub low-map-back : (L W H : ℕ) (x : Grid) → OnCells Good W H x →
-      Same (count lo W) (count lo H) (subband keep W H (mapBack keep (suc L) W H x) LL) (mapBack keep L (count lo W) (count lo H) x)
+  pub low-map-back : (L : ℕ) (W H : Side) (x : Grid) → OnCells Good W H x → Has keep W H (bandsBack keep L W H x) →
+      Same (next W) (next H) (subband keep W H (mapBack keep (suc L) W H x) LL) (mapBack keep L (next W) (next H) x)
   unfolding over
-  low-map-back L W H x good = same-low W H (subband keep W H (mapBack keep (suc L) W H x)) _ (bands-map-back L W H x good)
+  low-map-back L W H x good has = same-low W H (subband keep W H (mapBack keep (suc L) W H x)) _ (bands-map-back L W H x good has)
 
-  pub plane-map-back : (L W H : ℕ) (x : Grid) → OnCells Good W H x → Same W H (planeCell keep L W H (mapBack keep L W H x)) x
+  pub plane-map-back : (L : ℕ) (W H : Side) (x : Grid) → OnCells Good W H x → AllHave keep L W H x → Same W H (planeCell keep L W H (mapBack keep L W H x)) x
   unfolding mapBack planeCell
-  plane-map-back zero W H x good = λ r c p q. refl
-  plane-map-back (suc L) W H x good =
+  plane-map-back zero W H x good none = λ r c p q. refl
+  plane-map-back (suc L) W H x good (more left has) =
       let m = mapBack keep (suc L) W H x in
-      let one = bands-map-back L W H x good in
-      let ih = plane-map-back L (count lo W) (count lo H) x (corner Good W H x good) in
-      let low : Same (count lo W) (count lo H) (planeCell keep L (count lo W) (count lo H) (subband keep W H m LL)) x =
+      let one = bands-map-back L W H x good has in
+      let ih = plane-map-back L (next W) (next H) x (corner Good W H x good) left in
+      let low : Same (next W) (next H) (planeCell keep L (next W) (next H) (subband keep W H m LL)) x =
       λ r c p q.
-      plane-reads keep L (count lo W) (count lo H) (subband keep W H m LL) (mapBack keep L (count lo W) (count lo H) x) (low-map-back L W H x good) r c p q
+      plane-reads keep L (next W) (next H) (subband keep W H m LL) (mapBack keep L (next W) (next H) x) (low-map-back L W H x good has) r c p q
       ∙ ih r c p q in
       same-bands W H (planeCell keep (suc L) W H m) x
       (λ b r c p q.
       plane-at keep L W H m b r c p q
       ∙ over-same W H _ _ _ _ low one b r c p q
-      ∙ ap (λ (f : Grid). f r c) (over-band W H x (mapBack keep L (count lo W) (count lo H) x) b))
+      ∙ ap (λ (f : Grid). f r c) (over-band W H x (mapBack keep L (next W) (next H) x) b))
 
   -- so grids with the same plane are the same
-  pub plane-unique : (L W H : ℕ) (g g′ : Grid) → OnCells Good W H g → OnCells Good W H g′ → Same W H (planeCell keep L W H g) (planeCell keep L W H g′) →
-      Same W H g g′
-  plane-unique L W H g g′ good good′ e r c p q =
-      sym (map-back-plane L W H g good r c p q)
+  pub plane-unique : (L : ℕ) (W H : Side) (g g′ : Grid) → OnCells Good W H g → OnCells Good W H g′ → AllDouble K L W H g → AllDouble K L W H g′ →
+      Same W H (planeCell keep L W H g) (planeCell keep L W H g′) → Same W H g g′
+  plane-unique L W H g g′ good good′ twice twice′ e r c p q =
+      sym (map-back-plane L W H g good twice r c p q)
       ∙ map-back-reads keep L W H _ _ e r c p q
-      ∙ map-back-plane L W H g′ good′ r c p q
+      ∙ map-back-plane L W H g′ good′ twice′ r c p q
 
--- ---- the same for words: the transform and its way back are inverse to each other, for every grid and every plane of 32-bit numbers
-pub plane-fits : (L W H : ℕ) (g : Grid) → OnCells (SFits w32) W H g → OnCells (SFits w32) W H (planeCell wrap32 L W H g)
-plane-fits = plane-good words
-
-pub map-back-fits : (L W H : ℕ) (x : Grid) → OnCells (SFits w32) W H x → OnCells (SFits w32) W H (mapBack wrap32 L W H x)
-map-back-fits = map-back-good words
-
-pub words-map-back-plane : (L W H : ℕ) (g : Grid) → OnCells (SFits w32) W H g → (r c : ℕ) → r < H → c < W →
+-- ---- the same for words
+pub words-map-back-plane : (L : ℕ) (W H : Side) (g : Grid) → OnCells (SFits w32) W H g → AllDouble words L W H g → (r c : ℕ) → r < H .length → c < W .length →
     mapBack wrap32 L W H (planeCell wrap32 L W H g) r c ≡ g r c
 words-map-back-plane = map-back-plane words
 
-pub words-plane-map-back : (L W H : ℕ) (x : Grid) → OnCells (SFits w32) W H x → (r c : ℕ) → r < H → c < W →
+pub words-plane-map-back : (L : ℕ) (W H : Side) (x : Grid) → OnCells (SFits w32) W H x → AllHave wrap32 L W H x → (r c : ℕ) → r < H .length → c < W .length →
     planeCell wrap32 L W H (mapBack wrap32 L W H x) r c ≡ x r c
 words-plane-map-back = plane-map-back words
 
-pub words-plane-unique : (L W H : ℕ) (g g′ : Grid) → OnCells (SFits w32) W H g → OnCells (SFits w32) W H g′ →
-    Same W H (planeCell wrap32 L W H g) (planeCell wrap32 L W H g′) → Same W H g g′
-words-plane-unique = plane-unique words
+-- and for whole numbers: the plane of any grid gives it back
+pub whole-all-double : (L : ℕ) (W H : Side) (g : Grid) → AllDouble wholes L W H g
+whole-all-double zero W H g = none
+whole-all-double (suc L) W H g = more (whole-doubles W H g) (whole-all-double L (next W) (next H) _)
+
+pub whole-map-back-plane : (L : ℕ) (W H : Side) (g : Grid) → Same W H (mapBack whole L W H (planeCell whole L W H g)) g
+whole-map-back-plane L W H g = map-back-plane wholes L W H g (λ _ _ _ _. tt) (whole-all-double L W H g)

@@ -1,7 +1,7 @@
 -- What arithmetic needs of the limits. No other law or proof knows their numbers. Assumes nothing.
 use Prim.Native.Nat.{_*_, _^_, _<_}
 use native.Mathlib.Omega.{arith}
-use Rattle.wavelet.specs.Limits.{maxWidth, maxHeight, maxLevels, maxSample, range}
+use Rattle.wavelet.specs.Limits.{maxWidth, maxHeight, maxLevels, maxSample, maxOrigin, range}
 
 pub width-small : maxWidth < 2 ^ 16
 unfolding maxWidth
@@ -24,6 +24,11 @@ stride-small = omega arith
 pub sample-small : maxSample < 2 ^ 16
 unfolding maxSample
 sample-small = omega arith
+
+-- a coordinate of a map's first column or row as a 16-bit number
+pub origin-small : maxOrigin < 2 ^ 16
+unfolding maxOrigin
+origin-small = omega arith
 
 -- the range of the last level, as a 32-bit number
 pub range-last : range maxLevels < 2 ^ 31

@@ -1,4 +1,4 @@
--- Maps and the planes they have, over the definitions of specs/Maps, for up to maxLevels levels.
+-- Maps on the grid and the planes they have, over the definitions of specs/Maps, for every origin and up to maxLevels levels.
 --     plane-in-range, plane-rebuilt, plane-back    of a plane that a map has: questions 7 and 14 are answered yes, and the way back gives the map
 --     rebuilt-plane                                a plane that is answered so is the plane of the map that the way back gives
 --     some-map, no-map, one-map                    so both are answered yes exactly where some map has the plane, and that map is one
@@ -11,7 +11,7 @@ use Prim.Native.Nat.{ℕ, zero, suc, _+_, _*_, _^_, _≤_, _<_}
 use native.Mathlib.Omega.{arith}
 use lib.IntN.{ℤ, pos, natAbs}
 use lib.Signed.{_≤ℤ_, leZ}
-use lib.Dec.{T, leb, ltb}
+use lib.Dec.{T, leb}
 use mir.Syntax.{w32}
 use mir.Val.{SFits}
 use borrow.Author.Tests.{leb-true, le-leb}
@@ -20,14 +20,18 @@ use Rattle.numbers.specs.Word.{wrap32, whole}
 use Rattle.numbers.proofs.Words.{abs-fits}
 use Rattle.numbers.proofs.Sweep.{both}
 pub use Rattle.numbers.proofs.TestLaws.{every-each, each-every, every-same}
-use Rattle.lifting.specs.Line.{lo, count}
+use Rattle.lifting.specs.Grid.{Side}
+use Rattle.lifting.proofs.FiveThree.{words}
 use Rattle.wavelet.specs.Limits.{maxLevels, maxSample, range}
-use Rattle.wavelet.specs.Bands.{Grid, LL, subband}
-use Rattle.wavelet.specs.Plane.{planeCell, levelAt, mapBack}
-use Rattle.wavelet.specs.Maps.{IsMap, HasPlane, every, everyCell, inRange, valueFits, rebuiltFits}
-use Rattle.wavelet.proofs.LevelTheory.{OnCells, Same, low-all, same-low, same-corner, plane-corner, plane-reads, map-back-reads, words-map-back-plane}
-use Rattle.wavelet.proofs.LevelTheory.{words-plane-map-back}
-use Rattle.wavelet.proofs.Bridge.{Within, subband-range, subband-exact, range-suc, range-small, map-height, map-fits, map-plane, map-plane-range}
+use Rattle.wavelet.specs.Bands.{Grid, LL, subband, levelHas}
+use Rattle.wavelet.specs.Maps.{IsMap, every, everyCell, valueFits, HasPlane, inRange, rebuiltFits}
+use Rattle.wavelet.specs.Levels.{next}
+use Rattle.wavelet.specs.Plane.{inCorner, planeCell, levelAt, planeBands, mapBack}
+use Rattle.wavelet.proofs.LevelTheory.{OnCells, Same, SameBands, AllHave, none, more, bandsBack, plane-bands, same-corner, same-in-bands, over-same}
+use Rattle.wavelet.proofs.LevelTheory.{plane-corner, plane-reads, map-back-reads, level-has, level-has-reads, subband-has, bands-plane}
+use Rattle.wavelet.proofs.LevelTheory.{words-map-back-plane, words-plane-map-back}
+use Rattle.wavelet.proofs.Bridge.{Within, grown-first, range-suc, range-small, word-cells, word-doubles, word-all-double, low-within, map-height}
+use Rattle.wavelet.proofs.Bridge.{map-fits, map-plane, map-plane-range, map-all-double}
 
 -- ---- a test of every cell
 pub cells-each : (W H : ℕ) (p : ℕ → ℕ → Bool) → everyCell W H p ≡ true → (r c : ℕ) → r < H → c < W → p r c ≡ true
@@ -66,106 +70,149 @@ fits-within zero v e = let a = height-fits v .0 e in map-height v (a .0) (a .1)
 fits-within (suc k) v e = low-fits k v .0 e
 
 -- ---- the questions read the cells that are there
-pub in-range-reads : (L W H : ℕ) (x y : Grid) → Same W H x y → inRange L W H x ≡ inRange L W H y
+pub in-range-reads : (L : ℕ) (W H : Side) (x y : Grid) → Same W H x y → inRange L W H x ≡ inRange L W H y
 unfolding inRange
 in-range-reads L W H x y e =
-    cells-same W H _ _ (λ r c p q. ap (λ (v : ℤ). leb (natAbs v) (range (levelAt L W H r c))) (e r c p q))
+    cells-same (W .length) (H .length) _ _ (λ r c p q. ap (λ (v : ℤ). leb (natAbs v) (range (levelAt L W H r c))) (e r c p q))
 
-pub rebuilt-reads : (k L W H : ℕ) (x y : Grid) → Same W H x y → rebuiltFits k L W H x ≡ rebuiltFits k L W H y
+-- the bands that are lifted back, as question 14 has them
+bands-are : (L : ℕ) (W H : Side) (x : Grid) → planeBands W H (mapBack wrap32 L (next W) (next H) x) x ≡ bandsBack wrap32 L W H x
+bands-are L W H x = plane-bands W H (mapBack wrap32 L (next W) (next H) x) x
+
+bands-reads : (L : ℕ) (W H : Side) (x y : Grid) → Same W H x y → SameBands W H (bandsBack wrap32 L W H x) (bandsBack wrap32 L W H y)
+bands-reads L W H x y e =
+    over-same W H _ _ _ _ (map-back-reads wrap32 L (next W) (next H) x y (same-corner W H x y e)) (same-in-bands W H x y e)
+
+pub rebuilt-reads : (k L : ℕ) (W H : Side) (x y : Grid) → Same W H x y → rebuiltFits k L W H x ≡ rebuiltFits k L W H y
 unfolding rebuiltFits
 rebuilt-reads k zero W H x y e = refl
 rebuilt-reads k (suc L) W H x y e =
     rw (
-      rebuilt-reads (suc k) L (count lo W) (count lo H) x y (same-corner W H x y e),
-      cells-same W H (λ r c. valueFits k (mapBack wrap32 (suc L) W H x r c)) (λ r c. valueFits k (mapBack wrap32 (suc L) W H y r c))
+      rebuilt-reads (suc k) L (next W) (next H) x y (same-corner W H x y e),
+      bands-are L W H x,
+      bands-are L W H y,
+      level-has-reads W H (bandsBack wrap32 L W H x) (bandsBack wrap32 L W H y) (bands-reads L W H x y e),
+      cells-same (W .length) (H .length) (λ r c. valueFits k (mapBack wrap32 (suc L) W H x r c)) (λ r c. valueFits k (mapBack wrap32 (suc L) W H y r c))
           (λ r c p q. ap (valueFits k) (map-back-reads wrap32 (suc L) W H x y e r c p q)),
     )
 
 -- ---- question 14, for a grid whose values fit at level k and that has the plane x
-pub rebuilt-yes : (k L W H : ℕ) (g x : Grid) → k + L ≤ maxLevels → OnCells (λ v. valueFits k v ≡ true) W H g → Same W H x (planeCell wrap32 L W H g) →
-    rebuiltFits k L W H x ≡ true
+range-left : (k L : ℕ) → k + L ≤ maxLevels → range k * 4 ^ L < 2 ^ 31
+range-left k zero h = let a = range-small k (omega arith) in omega arith
+range-left k (suc L) h = rw (← grown-first (range k) L, ← range-suc k) (range-left (suc k) L (omega arith))
+
+pub rebuilt-yes : (k L : ℕ) (W H : Side) (g x : Grid) → k + L ≤ maxLevels → OnCells (λ v. valueFits k v ≡ true) W H g →
+    Same W H x (planeCell wrap32 L W H g) → rebuiltFits k L W H x ≡ true
 unfolding rebuiltFits
 rebuilt-yes k zero W H g x h fit e = refl
 rebuilt-yes k (suc L) W H g x h fit e =
-    let small : range (suc k) < 2 ^ 31 = range-small (suc k) (omega arith) in
-    let small′ : 4 * range k < 2 ^ 31 = omega (arith, range-suc k) in
+    let small : 4 * range k < 2 ^ 31 = omega (arith, range-suc k, range-small (suc k) (omega arith)) in
+    let left : 4 * range k * 4 ^ L < 2 ^ 31 = rw (← range-suc k) (range-left (suc k) L (omega arith)) in
     let within : OnCells (Within (range k)) W H g = λ r c p q. fits-within k (g r c) (fit r c p q) in
-    let words : OnCells (SFits w32) W H g = λ r c p q. abs-fits (g r c) (range k) (omega arith) (within r c p q) in
+    let fits = word-cells (range k) W H g (omega arith) within in
     let back : Same W H (mapBack wrap32 (suc L) W H x) g =
-    λ r c p q. map-back-reads wrap32 (suc L) W H x (planeCell wrap32 (suc L) W H g) e r c p q ∙ words-map-back-plane (suc L) W H g words r c p q in
-    let exact = same-low W H (subband wrap32 W H g) (subband whole W H g) (subband-exact (range k) W H g small′ within) in
-    let low = low-all (Within (4 * range k)) W H (subband whole W H g) (subband-range (range k) W H g within) in
+    λ r c p q.
+    map-back-reads wrap32 (suc L) W H x (planeCell wrap32 (suc L) W H g) e r c p q
+    ∙ words-map-back-plane (suc L) W H g fits (word-all-double (range k) (suc L) W H g (range-left k (suc L) h) within) r c p q in
+    let low = low-within (range k) W H g small within in
     let rest =
-    rebuilt-yes (suc k) L (count lo W) (count lo H) (subband wrap32 W H g LL) x (omega arith)
-    (λ r c p q. low-fits k (subband wrap32 W H g LL r c) .1 (rw (exact r c p q, range-suc k) (low r c p q)))
+    rebuilt-yes (suc k) L (next W) (next H) (subband wrap32 W H g LL) x (omega arith)
+    (λ r c p q. low-fits k (subband wrap32 W H g LL r c) .1 (rw (range-suc k) (low r c p q)))
     (λ r c p q. same-corner W H x (planeCell wrap32 (suc L) W H g) e r c p q ∙ plane-corner wrap32 L W H g r c p q) in
-    simp (rest, each-cells W H (λ r c. valueFits k (mapBack wrap32 (suc L) W H x r c)) (λ r c p q. rw (back r c p q) (fit r c p q)))
+    let bands : SameBands W H (bandsBack wrap32 L W H x) (subband wrap32 W H g) =
+    λ b r c p q.
+    bands-reads L W H x (planeCell wrap32 (suc L) W H g) e b r c p q
+    ∙ bands-plane words L W H g fits (word-all-double (4 * range k) L (next W) (next H) (subband wrap32 W H g LL) left low) b r c p q in
+    let has : levelHas W H (planeBands W H (mapBack wrap32 L (next W) (next H) x) x) ≡ true =
+    ap (levelHas W H) (bands-are L W H x)
+    ∙ level-has-reads W H (bandsBack wrap32 L W H x) (subband wrap32 W H g) bands
+    ∙ subband-has W H g fits (word-doubles (range k) W H g small within) in
+    simp (rest, has, each-cells (W .length) (H .length) (λ r c. valueFits k (mapBack wrap32 (suc L) W H x r c)) (λ r c p q. rw (back r c p q) (fit r c p q)))
 
 -- ---- a plane that a map has
-module _ (L W H : ℕ) (g x : Grid) (few : L ≤ maxLevels) (has : HasPlane L W H g x) where
+module _ (L : ℕ) (W H : Side) (g x : Grid) (few : L ≤ maxLevels) (has : HasPlane L W H g x) where
   pub plane-words : Same W H x (planeCell wrap32 L W H g)
   plane-words r c p q = has .coefficients r c p q ∙ sym (map-plane W H g (has .map) L few r c p q)
 
-  pub plane-within : (r c : ℕ) → r < H → c < W → natAbs (x r c) ≤ range (levelAt L W H r c)
+  pub plane-within : (r c : ℕ) → r < H .length → c < W .length → natAbs (x r c) ≤ range (levelAt L W H r c)
   plane-within r c p q = rw (has .coefficients r c p q) (map-plane-range W H g (has .map) L r c p q)
 
   pub plane-in-range : inRange L W H x ≡ true
   unfolding inRange
-  plane-in-range = each-cells W H (λ r c. leb (natAbs (x r c)) (range (levelAt L W H r c))) (λ r c p q. le-leb _ _ (plane-within r c p q))
+  plane-in-range =
+      each-cells (W .length) (H .length) (λ r c. leb (natAbs (x r c)) (range (levelAt L W H r c))) (λ r c p q. le-leb _ _ (plane-within r c p q))
 
   pub plane-rebuilt : rebuiltFits 0 L W H x ≡ true
   plane-rebuilt =
       rebuilt-yes 0 L W H g x (omega arith) (λ r c p q. height-fits (g r c) .1 (has .map .heights r c p q)) plane-words
 
-  pub plane-back : (r c : ℕ) → r < H → c < W → mapBack wrap32 L W H x r c ≡ g r c
+  pub plane-back : (r c : ℕ) → r < H .length → c < W .length → mapBack wrap32 L W H x r c ≡ g r c
   plane-back r c p q =
       map-back-reads wrap32 L W H x (planeCell wrap32 L W H g) plane-words r c p q
-      ∙ words-map-back-plane L W H g (map-fits W H g (has .map)) r c p q
+      ∙ words-map-back-plane L W H g (map-fits W H g (has .map)) (map-all-double W H g (has .map) L few) r c p q
 
 -- ---- a plane whose rebuilt values fit
 pick-le : (t : Bool) (m n k : ℕ) → m ≤ k → n ≤ k → pick t m n ≤ k
 pick-le true m n k h h′ = h
 pick-le false m n k h h′ = h′
 
-pub level-le : (L W H r c : ℕ) → levelAt L W H r c ≤ L
+pub level-le : (L : ℕ) (W H : Side) (r c : ℕ) → levelAt L W H r c ≤ L
 unfolding levelAt
 level-le zero W H r c = omega arith
 level-le (suc L) W H r c =
-    let a = level-le L (count lo W) (count lo H) r c in
-    pick-le (pick (ltb r (count lo H)) (ltb c (count lo W)) false) (1 + levelAt L (count lo W) (count lo H) r c) 1 (suc L) (omega arith) (omega arith)
+    let a = level-le L (next W) (next H) r c in
+    pick-le (inCorner W H r c) (1 + levelAt L (next W) (next H) r c) 1 (suc L) (omega arith) (omega arith)
 
 -- a plane in range is one of 32-bit numbers
-pub range-words : (L W H : ℕ) (x : Grid) → L ≤ maxLevels → inRange L W H x ≡ true → OnCells (SFits w32) W H x
+pub range-words : (L : ℕ) (W H : Side) (x : Grid) → L ≤ maxLevels → inRange L W H x ≡ true → OnCells (SFits w32) W H x
 unfolding inRange
 range-words L W H x few e r c p q =
-    let a = leb-true _ _ (cells-each W H _ e r c p q) in
+    let a = leb-true _ _ (cells-each (W .length) (H .length) _ e r c p q) in
     abs-fits (x r c) (range (levelAt L W H r c)) (range-small (levelAt L W H r c) (omega (arith, level-le L W H r c))) a
 
-pub rebuilt-fits : (k L W H : ℕ) (x : Grid) → 1 ≤ L → rebuiltFits k L W H x ≡ true → OnCells (λ v. valueFits k v ≡ true) W H (mapBack wrap32 L W H x)
+-- what question 14 asks of one level
+pub rebuilt-parts : (k L : ℕ) (W H : Side) (x : Grid) → rebuiltFits k (suc L) W H x ≡ true → (rebuiltFits (suc k) L (next W) (next H) x ≡ true)
+    × (levelHas W H (bandsBack wrap32 L W H x) ≡ true) × OnCells (λ v. valueFits k v ≡ true) W H (mapBack wrap32 (suc L) W H x)
 unfolding rebuiltFits
-rebuilt-fits k zero W H x some e = absurd (omega arith)
-rebuilt-fits k (suc L) W H x some e =
-    cells-each W H (λ r c. valueFits k (mapBack wrap32 (suc L) W H x r c)) (both (rebuiltFits (suc k) L (count lo W) (count lo H) x) _ e .1)
+rebuilt-parts k L W H x e =
+    let a = both (rebuiltFits (suc k) L (next W) (next H) x) _ e in
+    let b = both (levelHas W H (planeBands W H (mapBack wrap32 L (next W) (next H) x) x)) _ (a .1) in (
+      a .0,
+      ap (levelHas W H) (sym (bands-are L W H x)) ∙ b .0,
+      cells-each (W .length) (H .length) (λ r c. valueFits k (mapBack wrap32 (suc L) W H x r c)) (b .1),
+    )
 
-module _ (L W H : ℕ) (x : Grid) (some : 1 ≤ L) (few : L ≤ maxLevels) (fits : OnCells (SFits w32) W H x) (rebuilt : rebuiltFits 0 L W H x ≡ true) where
-  pub rebuilt-map : IsMap W H (mapBack wrap32 L W H x)
+pub rebuilt-fits : (k L : ℕ) (W H : Side) (x : Grid) → 1 ≤ L → rebuiltFits k L W H x ≡ true → OnCells (λ v. valueFits k v ≡ true) W H (mapBack wrap32 L W H x)
+rebuilt-fits k zero W H x some e = absurd (omega arith)
+rebuilt-fits k (suc L) W H x some e = rebuilt-parts k L W H x e .2
+
+pub rebuilt-have : (k L : ℕ) (W H : Side) (x : Grid) → rebuiltFits k L W H x ≡ true → AllHave wrap32 L W H x
+rebuilt-have k zero W H x e = none
+rebuilt-have k (suc L) W H x e =
+    let a = rebuilt-parts k L W H x e in
+    more (rebuilt-have (suc k) L (next W) (next H) x (a .0)) (level-has W H (bandsBack wrap32 L W H x) .0 (a .1))
+
+module _ (L : ℕ) (W H : Side) (x : Grid) (some : 1 ≤ L) (few : L ≤ maxLevels) (fits : OnCells (SFits w32) W H x) (rebuilt : rebuiltFits 0 L W H x ≡ true) where
+  pub rebuilt-map : IsMap (W .length) (H .length) (mapBack wrap32 L W H x)
   rebuilt-map = record { heights = λ r c p q. height-fits (mapBack wrap32 L W H x r c) .0 (rebuilt-fits 0 L W H x some rebuilt r c p q) }
 
   pub rebuilt-plane : HasPlane L W H (mapBack wrap32 L W H x) x
   rebuilt-plane = record {
     map = rebuilt-map;
     coefficients = λ r c p q.
-        sym (words-plane-map-back L W H x fits r c p q) ∙ map-plane W H (mapBack wrap32 L W H x) rebuilt-map L few r c p q;
+        sym (words-plane-map-back L W H x fits (rebuilt-have 0 L W H x rebuilt) r c p q)
+        ∙ map-plane W H (mapBack wrap32 L W H x) rebuilt-map L few r c p q;
   }
 
 -- ---- so both questions are answered yes exactly where some map has the plane, and no other map has it
-pub some-map : (L W H : ℕ) (x : Grid) → 1 ≤ L → L ≤ maxLevels → (inRange L W H x ≡ true) × (rebuiltFits 0 L W H x ≡ true) ↔ (g : Grid) × HasPlane L W H g x
+pub some-map : (L : ℕ) (W H : Side) (x : Grid) → 1 ≤ L → L ≤ maxLevels →
+    (inRange L W H x ≡ true) × (rebuiltFits 0 L W H x ≡ true) ↔ (g : Grid) × HasPlane L W H g x
 some-map L W H x some few = (
   λ h. (mapBack wrap32 L W H x, rebuilt-plane L W H x some few (range-words L W H x few (h .0)) (h .1)),
   λ m. (plane-in-range L W H (m .0) x few (m .1), plane-rebuilt L W H (m .0) x few (m .1)),
 )
 
-pub one-map : (L W H : ℕ) (g g′ x : Grid) → L ≤ maxLevels → HasPlane L W H g x → HasPlane L W H g′ x → Same W H g g′
+pub one-map : (L : ℕ) (W H : Side) (g g′ x : Grid) → L ≤ maxLevels → HasPlane L W H g x → HasPlane L W H g′ x → Same W H g g′
 one-map L W H g g′ x few m m′ r c p q = sym (plane-back L W H g x few m r c p q) ∙ plane-back L W H g′ x few m′ r c p q
 
 -- and one of them no exactly where no map has it
@@ -174,7 +221,7 @@ both-no true true = (λ e h. subst T e tt, λ h. absurd (h (refl, refl)))
 both-no true false = (λ e h. subst T (sym (h .1)) tt, λ h. refl)
 both-no false b = (λ e h. subst T (sym (h .0)) tt, λ h. refl)
 
-pub no-map : (L W H : ℕ) (x : Grid) → 1 ≤ L → L ≤ maxLevels →
+pub no-map : (L : ℕ) (W H : Side) (x : Grid) → 1 ≤ L → L ≤ maxLevels →
     pick (inRange L W H x) (rebuiltFits 0 L W H x) false ≡ false ↔ ((g : Grid) → HasPlane L W H g x → ⊥)
 no-map L W H x some few =
     let asked = both-no (inRange L W H x) (rebuiltFits 0 L W H x) in
@@ -182,22 +229,18 @@ no-map L W H x some few =
     (λ e g m. asked .0 e (maps .1 (g, m)), λ h. asked .1 (λ a. let m = maps .0 a in h (m .0) (m .1)))
 
 -- ---- maps and planes by their cells
-pub same-map : (W H : ℕ) (g g′ : Grid) → Same W H g g′ → IsMap W H g → IsMap W H g′
+pub same-map : (W H : Side) (g g′ : Grid) → Same W H g g′ → IsMap (W .length) (H .length) g → IsMap (W .length) (H .length) g′
 same-map W H g g′ e m = record { heights = λ r c p q. rw (sym (e r c p q)) (m .heights r c p q) }
 
-pub same-plane : (L W H : ℕ) (g g′ x y : Grid) → Same W H g g′ → Same W H x y → HasPlane L W H g x → HasPlane L W H g′ y
+pub same-plane : (L : ℕ) (W H : Side) (g g′ x y : Grid) → Same W H g g′ → Same W H x y → HasPlane L W H g x → HasPlane L W H g′ y
 same-plane L W H g g′ x y e d has = record {
   map = same-map W H g g′ e (has .map);
   coefficients = λ r c p q. sym (d r c p q) ∙ has .coefficients r c p q ∙ plane-reads whole L W H g g′ e r c p q;
 }
 
--- a map has the plane that its word transform is
-pub own-plane : (L W H : ℕ) (g : Grid) → L ≤ maxLevels → IsMap W H g → HasPlane L W H g (planeCell wrap32 L W H g)
-own-plane L W H g few m = record { map = m; coefficients = map-plane W H g m L few }
-
 -- the way back gives the map, with both questions answered yes, exactly where the plane is that map's
-pub back-exactly : (L W H : ℕ) (g x : Grid) → 1 ≤ L → L ≤ maxLevels → HasPlane L W H g x ↔ (inRange L W H x ≡ true) × (rebuiltFits 0 L W H x ≡ true) ×
-    Same W H (mapBack wrap32 L W H x) g
+pub back-exactly : (L : ℕ) (W H : Side) (g x : Grid) → 1 ≤ L → L ≤ maxLevels →
+    HasPlane L W H g x ↔ (inRange L W H x ≡ true) × (rebuiltFits 0 L W H x ≡ true) × Same W H (mapBack wrap32 L W H x) g
 back-exactly L W H g x some few = (
   λ has. (plane-in-range L W H g x few has, plane-rebuilt L W H g x few has, plane-back L W H g x few has),
   λ h. same-plane L W H (mapBack wrap32 L W H x) g x x (h .2) (λ r c p q. refl)

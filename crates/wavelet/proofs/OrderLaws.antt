@@ -1,57 +1,98 @@
--- The laws of the order: what each row makes, by parity; the sets of a level one after the other; the rows of a map and its finish together.
+-- The laws of the order: what each row makes, by its coordinate; the sets of a level one after the other; the rows of a map and its finish together. None asks
+-- that a level has rows.
 -- Assumes nothing.
+use mathlib.Core.Bool.{Bool, true, false}
 use mathlib.Core.Path.{_≡_, refl, sym, ap, ap₂, _∙_}
 use mathlib.Core.List.{List, [], _∷_, _++_, append-nil, append-assoc}
 use Prim.Native.Nat.{ℕ, zero, suc, _+_, _-_, _*_, _/_, _%_, _≤_, _<_}
-use native.Mathlib.Decide.{decLt}
+use native.Mathlib.Decide.{decLt, ℕ-discrete}
 use native.Mathlib.Omega.{arith}
-use borrow.Author.Tests.{lt-ltb}
-use Rattle.lifting.specs.Line.{Half, lo, hi, count}
-use Rattle.lifting.proofs.Filter.{place, by-place}
-use Rattle.wavelet.specs.Bands.{Band, down}
-use Rattle.wavelet.specs.Order.{RowName, handedOut, hasRow, rowsOf, setRows, madeBy, closing, inTurn}
-use Rattle.wavelet.proofs.SizeLaws.{count-lo, count-hi}
+use native.Mathlib.Numerals.{add-one}
+use lib.Dec.{leb, ltb}
+use borrow.Author.Tests.{lt-ltb, le-ltb, le-leb, lt-leb, eq-eqb, ne-eqb}
+use Rattle.numbers.specs.Signal.{pick, both}
+use Rattle.lifting.specs.Line.{Half, lo, hi}
+use Rattle.lifting.specs.Grid.{Side, side, count}
+use Rattle.wavelet.specs.Bands.{Band, across, down}
+use Rattle.wavelet.specs.Order.{RowName, rowName, handedOut, inTurn, firstSet, lastSet, setRow, setHas, rowsOf, setRows, madeBy, closing}
+use Rattle.wavelet.specs.Levels.{next}
+use Rattle.wavelet.proofs.SideLaws.{count-lo, count-none, next-length}
 
--- set n of level k with what its LL row makes below
-abbrev pub makes : ℕ → ℕ → ℕ → ℕ → ℕ → List RowName
-makes l k w m n = setRows l k w m n ++ madeBy l (suc k) (count lo w) n
+-- what the LL row of set n makes below, where the set has one; and the set with it
+abbrev pub passed : ℕ → ℕ → Side → Side → ℕ → List RowName
+passed l k W H n = pick (leb (firstSet H lo) n) (madeBy l (suc k) (next W) (next H .start) (n - firstSet H lo)) []
 
--- ---- what a row makes
-pub made-first : (L k w : ℕ) → madeBy L k w 0 ≡ []
+abbrev pub makes : ℕ → ℕ → Side → Side → ℕ → List RowName
+makes l k W H n = setRows l k W H n ++ passed l k W H n
+
+-- ---- what a row makes: nothing at the coordinates 0 and 1 past the last even one, and at the odd ones
+pub made-first : (L k : ℕ) (W : Side) (s r : ℕ) → s % 2 + r ≤ 1 → madeBy L k W s r ≡ []
 unfolding madeBy
-made-first zero k w = refl
-made-first (suc l) k w = refl
+made-first zero k W s r h = refl
+made-first (suc l) k W s r h =
+    elim (ℕ-discrete ((s % 2 + r) % 2) 0) [
+      | yes e ↦ simp (eq-eqb ((s % 2 + r) % 2) 0 e, le-ltb 1 (s % 2 + r) h)
+      | no e ↦ simp (ne-eqb ((s % 2 + r) % 2) 0 e)
+    ]
 
-pub made-odd : (L k w n : ℕ) → madeBy L k w (2 * n + 1) ≡ []
+pub made-odd : (L k : ℕ) (W : Side) (s r : ℕ) → (s % 2 + r) % 2 ≡ 1 → madeBy L k W s r ≡ []
 unfolding madeBy
-made-odd zero k w n = refl
-made-odd (suc l) k w n = let e : (2 * n + 1) % 2 ≡ 1 = omega arith in simp e
+made-odd zero k W s r h = refl
+made-odd (suc l) k W s r h = simp (ne-eqb ((s % 2 + r) % 2) 0 (omega arith))
 
-pub made-even : (l k w n : ℕ) → madeBy (suc l) k w (2 * n + 2) ≡ makes l k w (2 * n + 3) n
-unfolding madeBy
-made-even l k w n =
-    let e : (2 * n + 2) % 2 ≡ 0 = omega arith in
-    let h : (2 * n + 2) / 2 - 1 ≡ n = omega arith in
-    let s : 2 * n + 2 + 1 ≡ 2 * n + 3 = omega arith in
-    simp (e, lt-ltb 0 (2 * n + 2) (omega arith), h, s)
+-- set n at coordinate 2n + 2
+pub made-even : (l k : ℕ) (W : Side) (s r n : ℕ) → s % 2 + r ≡ 2 * n + 2 → madeBy (suc l) k W s r ≡ makes l k W (side s (r + 1)) n
+unfolding madeBy firstSet next
+made-even l k W s r n h =
+    let e : (s % 2 + r) / 2 - 1 ≡ n = omega arith in
+    simp (eq-eqb ((s % 2 + r) % 2) 0 (omega arith), lt-ltb 1 (s % 2 + r) (omega arith), e)
 
--- ---- a band has row n as soon as 2n + 3 rows are there
-pub has-early : (w m m′ : ℕ) (b : Band) (n : ℕ) → 2 * n + 2 < m → 2 * n + 2 < m′ → hasRow w m b n ≡ hasRow w m′ b n
-unfolding hasRow
-has-early w m m′ b n p q = simp (lt-ltb n (count (down b) m) (there (down b) m p), lt-ltb n (count (down b) m′) (there (down b) m′ q))
-  where
-    there : (h : Half) (N : ℕ) → 2 * n + 2 < N → n < count h N
-    there lo N r = omega (arith, count-lo N)
-    there hi N r = omega (arith, count-hi N)
+-- ---- the sets
+pub last-set : (H : Side) → lastSet H ≡ (H .start % 2 + (H .length - 1)) / 2
+unfolding lastSet
+last-set H = refl
 
-pub rows-same : (k w m m′ n : ℕ) → ((b : Band) → hasRow w m b n ≡ hasRow w m′ b n) → (bs : List Band) → rowsOf k w m n bs ≡ rowsOf k w m′ n bs
-unfolding rowsOf
-rows-same k w m m′ n e [] = refl
-rows-same k w m m′ n e (b ∷ bs) = rw (e b, rows-same k w m m′ n e bs) refl
+pub first-low : (H : Side) → firstSet H lo ≡ H .start % 2
+unfolding firstSet
+first-low H = refl
 
-pub set-early : (l k w m m′ n : ℕ) → 2 * n + 2 < m → 2 * n + 2 < m′ → setRows l k w m n ≡ setRows l k w m′ n
-unfolding setRows
-set-early l k w m m′ n p q = rows-same k w m m′ n (λ b. has-early w m m′ b n p q) (handedOut l)
+pub first-high : (H : Side) → firstSet H hi ≡ 0
+unfolding firstSet
+first-high H = refl
+
+-- the low rows are in the sets from the first that has one to the last
+pub low-sets : (H : Side) → 0 < H .length → lastSet H + 1 - firstSet H lo ≡ count lo H
+low-sets H h = omega (arith, last-set H, first-low H, count-lo H)
+
+-- ---- a band has its row of set n as soon as the row at coordinate 2n + 2 is there
+module _ (s m m′ n : ℕ) (p : 2 * n + 2 < s % 2 + m) (q : 2 * n + 2 < s % 2 + m′) where
+  row-early : (h : Half) → firstSet (side s m) h ≡ firstSet (side s m′) h
+  unfolding firstSet
+  row-early lo = refl
+  row-early hi = refl
+
+  there : (h : Half) (N : ℕ) → 2 * n + 2 < s % 2 + N → n - firstSet (side s N) h < count h (side s N)
+  unfolding firstSet count
+  there lo N b = omega arith
+  there hi N b = omega arith
+
+  pub has-early : (W : Side) (b : Band) → setHas W (side s m) b n ≡ setHas W (side s m′) b n
+  unfolding setHas setRow
+  has-early W b =
+      simp (
+        lt-ltb (n - firstSet (side s m) (down b)) (count (down b) (side s m)) (there (down b) m p),
+        lt-ltb (n - firstSet (side s m′) (down b)) (count (down b) (side s m′)) (there (down b) m′ q),
+      )
+      (ap (λ i. both (ltb 0 (count (across b) W)) (both (leb i n) true)) (row-early (down b)))
+
+  rows-early : (k : ℕ) (W : Side) (bs : List Band) → rowsOf k W (side s m) n bs ≡ rowsOf k W (side s m′) n bs
+  unfolding rowsOf setRow
+  rows-early k W [] = refl
+  rows-early k W (b ∷ bs) = rw (has-early W b, row-early (down b), rows-early k W bs) refl
+
+  pub set-early : (l k : ℕ) (W : Side) → setRows l k W (side s m) n ≡ setRows l k W (side s m′) n
+  unfolding setRows
+  set-early l k W = rows-early k W (handedOut l)
 
 -- ---- lists one after the other
 module _ {A : Type 0} where
@@ -85,48 +126,132 @@ module _ {A : Type 0} where
         | no p ↦ let e : m ≡ suc n = omega arith in ([], append-nil _ ∙ ap (λ i. inTurn i f) e)
       ]
 
+  -- each p places later, with nothing before
+  pub turn-from : (p n : ℕ) (f : ℕ → List A) → inTurn n (λ i. pick (leb p i) (f (i - p)) []) ≡ inTurn (n - p) f
+  turn-from p zero f = let e : 0 - p ≡ 0 = omega arith in rw e (turn-zero _ ∙ sym (turn-zero f))
+  turn-from p (suc n) f =
+      turn-suc n (λ i. pick (leb p i) (f (i - p)) [])
+      ∙ ap (λ t. t ++ pick (leb p n) (f (n - p)) []) (turn-from p n f)
+      ∙ elim (decLt n p) [
+        | yes b ↦
+            let e : suc n - p ≡ n - p = omega arith in
+            rw (lt-leb p n b, e) (append-nil _)
+        | no b ↦
+            let e : suc n - p ≡ suc (n - p) = omega arith in
+            rw (le-leb p n (omega arith), e) (sym (turn-suc (n - p) f))
+      ]
+
+  pub turn-add : (n m : ℕ) (f : ℕ → List A) → inTurn (n + m) f ≡ inTurn n f ++ inTurn m (λ i. f (n + i))
+  turn-add n zero f = let e : n + 0 ≡ n = omega arith in rw e (sym (ap (λ t. inTurn n f ++ t) (turn-zero _) ∙ append-nil _))
+  turn-add n (suc m) f =
+      let e : n + suc m ≡ suc (n + m) = omega arith in
+      rw e
+      (turn-suc (n + m) f
+      ∙ ap (λ t. t ++ f (n + m)) (turn-add n m f)
+      ∙ append-assoc (inTurn n f) _ (f (n + m))
+      ∙ ap (λ t. inTurn n f ++ t) (sym (turn-suc m (λ i. f (n + i)))))
+
 -- ---- of a level's rows each sets off a set, the last set is made at the finish
-module _ (l k w : ℕ) where
-  -- set n with what its LL row makes, as row 2n + 2 sets it off
-  abbrev off : ℕ → List RowName
-  off n = makes l k w (2 * n + 3) n
+module _ (l k : ℕ) (W : Side) where
+  module _ (s : ℕ) where
+    -- set n with what its LL row makes, as the row at coordinate 2n + 2 sets it off
+    abbrev off : ℕ → List RowName
+    off n = makes l k W (side s (2 * n + 3 - s % 2)) n
 
-  rows-odd : (n : ℕ) → inTurn (2 * n + 1) (madeBy (suc l) k w) ≡ inTurn n off
-  unfolding inTurn
-  rows-odd zero = made-first (suc l) k w
-  rows-odd (suc n) =
-      let e : 2 * suc n + 1 ≡ suc (suc (2 * n + 1)) = omega arith in
-      let f : suc (2 * n + 1) ≡ 2 * n + 2 = omega arith in
-      rw (e, f, made-odd (suc l) k w n, made-even l k w n, rows-odd n, append-nil) refl
+    one-more : (m : ℕ) → inTurn (lastSet (side s m)) off ++ madeBy (suc l) k W s m ≡ inTurn (lastSet (side s (suc m))) off
+    one-more m =
+        elim (ℕ-discrete ((s % 2 + m) % 2) 1) [
+          | yes o ↦
+              let e : lastSet (side s m) ≡ lastSet (side s (suc m)) = omega (arith, last-set (side s m), last-set (side s (suc m))) in
+              rw (made-odd (suc l) k W s m o, e) (append-nil _)
+          | no o ↦
+              elim (decLt 1 (s % 2 + m)) [
+                | yes g ↦
+                    let n = (s % 2 + m) / 2 - 1 in
+                    let a : lastSet (side s m) ≡ n = omega (arith, last-set (side s m)) in
+                    let b : lastSet (side s (suc m)) ≡ suc n = omega (arith, last-set (side s (suc m))) in
+                    let d : m + 1 ≡ 2 * n + 3 - s % 2 = omega arith in
+                    rw (made-even l k W s m n (omega arith), a, b, d) (sym (turn-suc n off))
+                | no g ↦
+                    let e : lastSet (side s m) ≡ lastSet (side s (suc m)) = omega (arith, last-set (side s m), last-set (side s (suc m))) in
+                    rw (made-first (suc l) k W s m (omega arith), e) (append-nil _)
+              ]
+        ]
 
-  rows-even : (n : ℕ) → inTurn (2 * n + 2) (madeBy (suc l) k w) ≡ inTurn n off
-  unfolding inTurn
-  rows-even n =
-      let e : 2 * n + 2 ≡ suc (2 * n + 1) = omega arith in
-      rw (e, made-odd (suc l) k w n, rows-odd n, append-nil) refl
+    rows-made : (m : ℕ) → inTurn m (madeBy (suc l) k W s) ≡ inTurn (lastSet (side s m)) off
+    rows-made zero =
+        let e : lastSet (side s 0) ≡ 0 = omega (arith, last-set (side s 0)) in
+        rw e (turn-zero (madeBy (suc l) k W s) ∙ sym (turn-zero off))
+    rows-made (suc m) =
+        turn-suc m (madeBy (suc l) k W s)
+        ∙ ap (λ t. t ++ madeBy (suc l) k W s m) (rows-made m)
+        ∙ one-more m
 
-  -- H rows set off all sets but the last
-  pub rows-made : (H : ℕ) → 0 < H → inTurn H (madeBy (suc l) k w) ≡ inTurn (count lo H - 1) off
-  rows-made = by-place lo (λ H. 0 < H → inTurn H (madeBy (suc l) k w) ≡ inTurn (count lo H - 1) off) each
+  off-early : (H : Side) (i : ℕ) → i < lastSet H → off (H .start) i ≡ makes l k W H i
+  unfolding firstSet next
+  off-early H i b =
+      ap (λ t. t ++ passed l k W H i)
+      (set-early (H .start) (2 * i + 3 - H .start % 2) (H .length) i (omega arith) (omega (arith, last-set H)) l k W)
+
+  -- with the finish, all of its sets
+  pub map-made : (H : Side) → inTurn (H .length) (madeBy (suc l) k W (H .start)) ++ closing (suc l) k W H ≡ inTurn (lastSet H + 1) (makes l k W H)
+      ++ closing l (suc k) (next W) (next H)
+  unfolding closing
+  map-made H =
+      let n = lastSet H in
+      let rest = closing l (suc k) (next W) (next H) in
+      sym (append-assoc (inTurn (H .length) (madeBy (suc l) k W (H .start))) (makes l k W H n) rest)
+      ∙ ap (λ t. t ++ rest)
+      (ap (λ t. t ++ makes l k W H n) (rows-made (H .start) (H .length) ∙ turn-same n (off (H .start)) (makes l k W H) (off-early H))
+      ∙ sym (ap (λ i. inTurn i (makes l k W H)) (add-one n) ∙ turn-suc n (makes l k W H)))
+
+  -- and their LL rows are the rows of the next level: an empty level has one set, without rows
+  pub passed-all : (H : Side) → inTurn (lastSet H + 1) (passed l k W H) ≡ inTurn (next H .length) (madeBy l (suc k) (next W) (next H .start))
+  passed-all H =
+      turn-from (firstSet H lo) (lastSet H + 1) f
+      ∙ elim (decLt 0 (H .length)) [
+        | yes b ↦ ap (λ i. inTurn i f) (low-sets H b ∙ sym (next-length H))
+        | no b ↦
+            let z : next H .length ≡ 0 = omega (arith, next-length H, count-lo H) in
+            rw z
+            (elim (ℕ-discrete (H .start % 2) 0) [
+              | yes e ↦
+                  ap (λ i. inTurn i f) (omega (arith, last-set H, first-low H))
+                  ∙ turn-suc 0 f
+                  ∙ ap (λ t. inTurn 0 f ++ t) (made-first l (suc k) (next W) (next H .start) 0 (omega arith))
+                  ∙ append-nil _
+              | no e ↦ ap (λ i. inTurn i f) (omega (arith, last-set H, first-low H))
+            ])
+      ]
     where
-      each : (y : Half) (n : ℕ) → 0 < place lo y n → inTurn (place lo y n) (madeBy (suc l) k w) ≡ inTurn (count lo (place lo y n) - 1) off
-      each lo zero p = absurd (omega arith)
-      each lo (suc n) p =
-          let e : 2 * suc n ≡ 2 * n + 2 = omega arith in
-          rw e (rows-even n ∙ ap (λ i. inTurn i off) (omega (arith, count-lo (2 * n + 2))))
-      each hi n p = rows-odd n ∙ ap (λ i. inTurn i off) (omega (arith, count-lo (2 * n + 1)))
+      f : ℕ → List RowName
+      f = madeBy l (suc k) (next W) (next H .start)
 
-  -- and the finish makes the last
-  pub map-made : (H : ℕ) → 0 < H → inTurn H (madeBy (suc l) k w) ++ closing (suc l) k w H ≡ inTurn (count lo H) (makes l k w H) ++ closing l (suc k)
-      (count lo w) (count lo H)
-  unfolding closing inTurn
-  map-made H h =
-      let n = count lo H - 1 in
-      let e : count lo H ≡ suc (count lo H - 1) = omega (arith, count-lo H) in
-      sym (append-assoc (inTurn H (madeBy (suc l) k w)) (makes l k w H n) (closing l (suc k) (count lo w) (count lo H)))
-      ∙ ap (λ r. r ++ closing l (suc k) (count lo w) (count lo H))
-      (ap (λ r. r ++ makes l k w H n)
-      (rows-made H h
-      ∙ turn-same n off (makes l k w H)
-      (λ i p. ap (λ r. r ++ madeBy l (suc k) (count lo w) i) (set-early l k w (2 * i + 3) H i (omega arith) (omega (arith, count-lo H)))))
-      ∙ sym (ap (λ i. inTurn i (makes l k w H)) e))
+-- ---- a level without rows: its sets have none, and its finish makes nothing
+pub rows-empty : (k : ℕ) (W H : Side) → H .length ≡ 0 → (n : ℕ) (bs : List Band) → rowsOf k W H n bs ≡ []
+unfolding rowsOf setHas
+rows-empty k W H e n [] = refl
+rows-empty k W H e n (b ∷ bs) =
+    simp (le-ltb (setRow H b n) (count (down b) H) (omega (arith, count-none H e (down b))))
+    (go (ltb 0 (count (across b) W)) (leb (firstSet H (down b)) n) ∙ rows-empty k W H e n bs)
+  where
+    go : (s t : Bool) → pick (both s (both t false)) (rowName k b (setRow H b n) ∷ rowsOf k W H n bs) (rowsOf k W H n bs) ≡ rowsOf k W H n bs
+    go true true = refl
+    go true false = refl
+    go false t = refl
+
+pub set-empty : (l k : ℕ) (W H : Side) → H .length ≡ 0 → (n : ℕ) → setRows l k W H n ≡ []
+unfolding setRows
+set-empty l k W H e n = rows-empty k W H e n (handedOut l)
+
+pub closing-empty : (L k : ℕ) (W H : Side) → H .length ≡ 0 → closing L k W H ≡ []
+unfolding closing
+closing-empty zero k W H e = refl
+closing-empty (suc l) k W H e =
+    let z : next H .length ≡ 0 = next-length H ∙ count-none H e lo in
+    let n : lastSet H ≡ 0 = omega (arith, last-set H) in
+    rw (set-empty l k W H e (lastSet H), closing-empty l (suc k) (next W) (next H) z) (append-nil _ ∙ go (leb (firstSet H lo) (lastSet H)) (lastSet H) n)
+  where
+    go : (t : Bool) (i : ℕ) → i ≡ 0 → pick t (madeBy l (suc k) (next W) (next H .start) (i - firstSet H lo)) [] ≡ []
+    go true i d = made-first l (suc k) (next W) (next H .start) (i - firstSet H lo) (omega arith)
+    go false i d = refl

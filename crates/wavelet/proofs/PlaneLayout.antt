@@ -5,25 +5,22 @@ use mathlib.Core.Bool.{Bool, true, false}
 use Prim.Native.Nat.{ℕ, zero, suc, _+_, _*_, _≤_, _<_}
 use native.Mathlib.Omega.{arith}
 use lib.IntN.{ℤ}
-use lib.Dec.{ltb}
 use borrow.Author.Tests.{lt-ltb}
-use Rattle.numbers.specs.Signal.{both}
-use Rattle.lifting.specs.Line.{lo, hi, count}
+use Rattle.lifting.specs.Line.{lo, hi}
+use Rattle.lifting.specs.Grid.{Side, count}
 use Rattle.wavelet.specs.Bands.{Grid, Band, LL, HL, LH, HH, across, down, bandOf, subband}
-use Rattle.wavelet.specs.Levels.{levelBand}
-use Rattle.wavelet.specs.Plane.{planeCell, planeOf, levelAt, halfAt, placeIn}
+use Rattle.wavelet.specs.Levels.{next, levelBand}
+use Rattle.wavelet.specs.Plane.{inCorner, planeCell, planeOf, levelAt, halfAt, placeIn}
 use Rattle.wavelet.specs.View.{bandRows, bandColumns, bandStart}
 use Rattle.wavelet.proofs.GridLaws.{flat-at}
+use Rattle.wavelet.proofs.SideLaws.{next-length}
 use Rattle.wavelet.proofs.SidePlaces.{offset, extent, extent-end, offset-inner, inner-below, extent-first, low-test, half-at, place-in}
-use Rattle.wavelet.proofs.BandPlaces.{band-start, band-of, rows-in, columns-in}
+use Rattle.wavelet.proofs.BandPlaces.{band-start, rows-in, columns-in, band-of}
 use Rattle.wavelet.proofs.LevelLaws.{level-first, level-inner}
 
 -- ---- the low-low corner of a level, and the rest
--- the definitions' test
-abbrev corner : ℕ → ℕ → ℕ → ℕ → Bool
-corner W H r c = both (ltb r (count lo H)) (ltb c (count lo W))
-
-corner-in : (W H r c : ℕ) → r < count lo H → c < count lo W → corner W H r c ≡ true
+corner-in : (W H : Side) (r c : ℕ) → r < count lo H → c < count lo W → inCorner W H r c ≡ true
+unfolding inCorner
 corner-in W H r c p q = simp (lt-ltb r (count lo H) p, lt-ltb c (count lo W) q)
 
 -- the three bands beside the corner
@@ -36,51 +33,51 @@ beside HH = true
 not-LL : (b : Band) → beside b ≡ true → b ≡ LL → ⊥
 not-LL b h e = let z : _≡_ {A = ℕ} 0 1 = cc (ap beside e) in omega arith
 
-corner-out : (W H : ℕ) (b : Band) (r c : ℕ) → beside b ≡ true → r < count (down b) H → c < count (across b) W →
-    corner W H (offset (down b) 1 H + r) (offset (across b) 1 W + c) ≡ false
-unfolding down across
+corner-out : (W H : Side) (b : Band) (r c : ℕ) → beside b ≡ true → r < count (down b) H → c < count (across b) W →
+    inCorner W H (offset (down b) 1 H + r) (offset (across b) 1 W + c) ≡ false
+unfolding inCorner down across
 corner-out W H LL r c h p q = absurd (not-LL LL h refl)
 corner-out W H HL r c h p q = rw (low-test H r lo p, low-test W c hi q)
 corner-out W H LH r c h p q = rw (low-test H r hi p)
 corner-out W H HH r c h p q = rw (low-test H r hi p)
 
 -- level k + 1 stands in the corner
-corner-inner : (k W H : ℕ) (b : Band) (r c : ℕ) → r < extent (down b) (suc k) (count lo H) → c < extent (across b) (suc k) (count lo W) →
-    corner W H (offset (down b) (suc k) (count lo H) + r) (offset (across b) (suc k) (count lo W) + c) ≡ true
+corner-inner : (k : ℕ) (W H : Side) (b : Band) (r c : ℕ) → r < extent (down b) (suc k) (next H) → c < extent (across b) (suc k) (next W) →
+    inCorner W H (offset (down b) (suc k) (next H) + r) (offset (across b) (suc k) (next W) + c) ≡ true
 corner-inner k W H b r c p q =
     corner-in W H _ _
-    (omega (arith, extent-end (down b) (suc k) (count lo H) (omega arith)))
-    (omega (arith, extent-end (across b) (suc k) (count lo W) (omega arith)))
+    (omega (arith, next-length H, extent-end (down b) (suc k) (next H) (omega arith)))
+    (omega (arith, next-length W, extent-end (across b) (suc k) (next W) (omega arith)))
 
 -- ---- the coefficient at a place
-module _ (keep : ℤ → ℤ) (L W H : ℕ) (g : Grid) (r c : ℕ) where
-  cell-in : corner W H r c ≡ true → planeCell keep (suc L) W H g r c ≡ planeCell keep L (count lo W) (count lo H) (subband keep W H g LL) r c
+module _ (keep : ℤ → ℤ) (L : ℕ) (W H : Side) (g : Grid) (r c : ℕ) where
+  cell-in : inCorner W H r c ≡ true → planeCell keep (suc L) W H g r c ≡ planeCell keep L (next W) (next H) (subband keep W H g LL) r c
   unfolding planeCell
   cell-in e = rw e
 
-  cell-out : corner W H r c ≡ false → planeCell keep (suc L) W H g r c ≡ subband keep W H g (bandOf (halfAt W c) (halfAt H r)) (placeIn H r) (placeIn W c)
+  cell-out : inCorner W H r c ≡ false → planeCell keep (suc L) W H g r c ≡ subband keep W H g (bandOf (halfAt W c) (halfAt H r)) (placeIn H r) (placeIn W c)
   unfolding planeCell
   cell-out e = rw e
 
-cell-none : (keep : ℤ → ℤ) (W H : ℕ) (g : Grid) (r c : ℕ) → planeCell keep 0 W H g r c ≡ g r c
+cell-none : (keep : ℤ → ℤ) (W H : Side) (g : Grid) (r c : ℕ) → planeCell keep 0 W H g r c ≡ g r c
 unfolding planeCell
 cell-none keep W H g r c = refl
 
-cell-LL : (keep : ℤ → ℤ) (L W H : ℕ) (g : Grid) (r c : ℕ) → r < count lo H → c < count lo W → L ≡ 0 →
+cell-LL : (keep : ℤ → ℤ) (L : ℕ) (W H : Side) (g : Grid) (r c : ℕ) → r < count lo H → c < count lo W → L ≡ 0 →
     planeCell keep (suc L) W H g r c ≡ subband keep W H g LL r c
 cell-LL keep L W H g r c p q e =
     cell-in keep L W H g r c (corner-in W H r c p q)
-    ∙ ap (λ (l : ℕ). planeCell keep l (count lo W) (count lo H) (subband keep W H g LL) r c) e
-    ∙ cell-none keep (count lo W) (count lo H) (subband keep W H g LL) r c
+    ∙ ap (λ (l : ℕ). planeCell keep l (next W) (next H) (subband keep W H g LL) r c) e
+    ∙ cell-none keep (next W) (next H) (subband keep W H g LL) r c
 
-cell-beside : (keep : ℤ → ℤ) (L W H : ℕ) (g : Grid) (b : Band) (r c : ℕ) → beside b ≡ true → r < count (down b) H → c < count (across b) W →
+cell-beside : (keep : ℤ → ℤ) (L : ℕ) (W H : Side) (g : Grid) (b : Band) (r c : ℕ) → beside b ≡ true → r < count (down b) H → c < count (across b) W →
     planeCell keep (suc L) W H g (offset (down b) 1 H + r) (offset (across b) 1 W + c) ≡ subband keep W H g b r c
 cell-beside keep L W H g b r c h p q =
     cell-out keep L W H g _ _ (corner-out W H b r c h p q)
     ∙ rw (half-at W c (across b) q, half-at H r (down b) p, place-in H r (down b) p, place-in W c (across b) q, band-of b)
 
 -- the finest level, and then every level by the low-low part of the finest
-cell-first : (keep : ℤ → ℤ) (L W H : ℕ) (g : Grid) (b : Band) (r c : ℕ) → r < count (down b) H → c < count (across b) W → (b ≡ LL → L ≡ 0) →
+cell-first : (keep : ℤ → ℤ) (L : ℕ) (W H : Side) (g : Grid) (b : Band) (r c : ℕ) → r < count (down b) H → c < count (across b) W → (b ≡ LL → L ≡ 0) →
     planeCell keep (suc L) W H g (offset (down b) 1 H + r) (offset (across b) 1 W + c) ≡ subband keep W H g b r c
 unfolding down across offset
 cell-first keep L W H g LL r c p q l =
@@ -91,7 +88,7 @@ cell-first keep L W H g HL r c p q l = cell-beside keep L W H g HL r c refl p q
 cell-first keep L W H g LH r c p q l = cell-beside keep L W H g LH r c refl p q
 cell-first keep L W H g HH r c p q l = cell-beside keep L W H g HH r c refl p q
 
-cell-is : (keep : ℤ → ℤ) (k L W H : ℕ) (g : Grid) (b : Band) (r c : ℕ) → k < L → (b ≡ LL → suc k ≡ L) → r < extent (down b) (suc k) H →
+cell-is : (keep : ℤ → ℤ) (k L : ℕ) (W H : Side) (g : Grid) (b : Band) (r c : ℕ) → k < L → (b ≡ LL → suc k ≡ L) → r < extent (down b) (suc k) H →
     c < extent (across b) (suc k) W →
     planeCell keep L W H g (offset (down b) (suc k) H + r) (offset (across b) (suc k) W + c) ≡ levelBand keep W H g (suc k) b r c
 cell-is keep k zero W H g b r c h l p q = absurd (omega arith)
@@ -102,32 +99,32 @@ cell-is keep (suc k) (suc L) W H g b r c h l p q =
     let p′ = inner-below (down b) k H r p in
     let q′ = inner-below (across b) k W c q in
     ap (λ (x : ℕ). planeCell keep (suc L) W H g (x + r) (offset (across b) (suc (suc k)) W + c)) (offset-inner (down b) (suc k) H)
-    ∙ ap (λ (x : ℕ). planeCell keep (suc L) W H g (offset (down b) (suc k) (count lo H) + r) (x + c)) (offset-inner (across b) (suc k) W)
+    ∙ ap (λ (x : ℕ). planeCell keep (suc L) W H g (offset (down b) (suc k) (next H) + r) (x + c)) (offset-inner (across b) (suc k) W)
     ∙ cell-in keep L W H g _ _ (corner-inner k W H b r c p′ q′)
-    ∙ cell-is keep k L (count lo W) (count lo H) (subband keep W H g LL) b r c (omega arith) (λ e. let d = l e in omega arith) p′ q′
+    ∙ cell-is keep k L (next W) (next H) (subband keep W H g LL) b r c (omega arith) (λ e. let d = l e in omega arith) p′ q′
     ∙ sym (ap (λ (f : Grid). f r c) (level-inner keep W H g k b))
 
 -- ---- the level at a place
-module _ (L W H r c : ℕ) where
-  level-in : corner W H r c ≡ true → levelAt (suc L) W H r c ≡ suc (levelAt L (count lo W) (count lo H) r c)
+module _ (L : ℕ) (W H : Side) (r c : ℕ) where
+  level-in : inCorner W H r c ≡ true → levelAt (suc L) W H r c ≡ suc (levelAt L (next W) (next H) r c)
   unfolding levelAt
   level-in e = rw e (omega arith)
 
-  level-out : corner W H r c ≡ false → levelAt (suc L) W H r c ≡ 1
+  level-out : inCorner W H r c ≡ false → levelAt (suc L) W H r c ≡ 1
   unfolding levelAt
   level-out e = rw e
 
-level-none : (W H r c : ℕ) → levelAt 0 W H r c ≡ 0
+level-none : (W H : Side) (r c : ℕ) → levelAt 0 W H r c ≡ 0
 unfolding levelAt
 level-none W H r c = refl
 
-level-LL : (L W H r c : ℕ) → r < count lo H → c < count lo W → L ≡ 0 → levelAt (suc L) W H r c ≡ 1
+level-LL : (L : ℕ) (W H : Side) (r c : ℕ) → r < count lo H → c < count lo W → L ≡ 0 → levelAt (suc L) W H r c ≡ 1
 level-LL L W H r c p q e =
     level-in L W H r c (corner-in W H r c p q)
-    ∙ ap (λ (l : ℕ). suc (levelAt l (count lo W) (count lo H) r c)) e
-    ∙ ap suc (level-none (count lo W) (count lo H) r c)
+    ∙ ap (λ (l : ℕ). suc (levelAt l (next W) (next H) r c)) e
+    ∙ ap suc (level-none (next W) (next H) r c)
 
-level-finest : (L W H : ℕ) (b : Band) (r c : ℕ) → r < count (down b) H → c < count (across b) W → (b ≡ LL → L ≡ 0) →
+level-finest : (L : ℕ) (W H : Side) (b : Band) (r c : ℕ) → r < count (down b) H → c < count (across b) W → (b ≡ LL → L ≡ 0) →
     levelAt (suc L) W H (offset (down b) 1 H + r) (offset (across b) 1 W + c) ≡ 1
 unfolding down across offset
 level-finest L W H LL r c p q l =
@@ -138,7 +135,7 @@ level-finest L W H HL r c p q l = level-out L W H _ _ (corner-out W H HL r c ref
 level-finest L W H LH r c p q l = level-out L W H _ _ (corner-out W H LH r c refl p q)
 level-finest L W H HH r c p q l = level-out L W H _ _ (corner-out W H HH r c refl p q)
 
-level-is : (k L W H : ℕ) (b : Band) (r c : ℕ) → k < L → (b ≡ LL → suc k ≡ L) → r < extent (down b) (suc k) H → c < extent (across b) (suc k) W →
+level-is : (k L : ℕ) (W H : Side) (b : Band) (r c : ℕ) → k < L → (b ≡ LL → suc k ≡ L) → r < extent (down b) (suc k) H → c < extent (across b) (suc k) W →
     levelAt L W H (offset (down b) (suc k) H + r) (offset (across b) (suc k) W + c) ≡ suc k
 level-is k zero W H b r c h l p q = absurd (omega arith)
 level-is zero (suc L) W H b r c h l p q =
@@ -147,13 +144,13 @@ level-is (suc k) (suc L) W H b r c h l p q =
     let p′ = inner-below (down b) k H r p in
     let q′ = inner-below (across b) k W c q in
     ap (λ (x : ℕ). levelAt (suc L) W H (x + r) (offset (across b) (suc (suc k)) W + c)) (offset-inner (down b) (suc k) H)
-    ∙ ap (λ (x : ℕ). levelAt (suc L) W H (offset (down b) (suc k) (count lo H) + r) (x + c)) (offset-inner (across b) (suc k) W)
+    ∙ ap (λ (x : ℕ). levelAt (suc L) W H (offset (down b) (suc k) (next H) + r) (x + c)) (offset-inner (across b) (suc k) W)
     ∙ level-in L W H _ _ (corner-inner k W H b r c p′ q′)
-    ∙ ap suc (level-is k L (count lo W) (count lo H) b r c (omega arith) (λ e. let d = l e in omega arith) p′ q′)
+    ∙ ap suc (level-is k L (next W) (next H) b r c (omega arith) (λ e. let d = l e in omega arith) p′ q′)
 
 -- ---- the kept band rows
 -- place c of row r of band b of level k, kept at L levels
-pub record Stands (L W H k : ℕ) (b : Band) (r c : ℕ) : Type 0 where
+pub record Stands (L : ℕ) (W H : Side) (k : ℕ) (b : Band) (r c : ℕ) : Type 0 where
   pub deep : 1 ≤ k
   pub most : k ≤ L
   pub last : b ≡ LL → k ≡ L
@@ -161,22 +158,22 @@ pub record Stands (L W H k : ℕ) (b : Band) (r c : ℕ) : Type 0 where
   pub column : c < bandColumns W k b
 
 -- its row and its column in the plane
-abbrev pub planeRow : ℕ → ℕ → Band → ℕ → ℕ
+abbrev pub planeRow : Side → ℕ → Band → ℕ → ℕ
 planeRow H k b r = offset (down b) k H + r
 
-abbrev pub planeColumn : ℕ → ℕ → Band → ℕ → ℕ
+abbrev pub planeColumn : Side → ℕ → Band → ℕ → ℕ
 planeColumn W k b c = offset (across b) k W + c
 
-pub place-is : (W H k : ℕ) (b : Band) (r c : ℕ) → bandStart W H k b r + c ≡ planeRow H k b r * W + planeColumn W k b c
+pub place-is : (W H : Side) (k : ℕ) (b : Band) (r c : ℕ) → bandStart W H k b r + c ≡ planeRow H k b r * W .length + planeColumn W k b c
 place-is W H k b r c = omega (arith, band-start W H k b r)
 
-pub column-in : (L W H k : ℕ) (b : Band) (r c : ℕ) → Stands L W H k b r c → planeColumn W k b c < W
+pub column-in : (L : ℕ) (W H : Side) (k : ℕ) (b : Band) (r c : ℕ) → Stands L W H k b r c → planeColumn W k b c < W .length
 column-in L W H k b r c s = omega (arith, columns-in W H k b (s .deep), s .column)
 
-pub row-in : (L W H k : ℕ) (b : Band) (r c : ℕ) → Stands L W H k b r c → planeRow H k b r < H
+pub row-in : (L : ℕ) (W H : Side) (k : ℕ) (b : Band) (r c : ℕ) → Stands L W H k b r c → planeRow H k b r < H .length
 row-in L W H k b r c s = omega (arith, rows-in W H k b (s .deep), s .row)
 
-module _ (keep : ℤ → ℤ) (L W H : ℕ) (g : Grid) where
+module _ (keep : ℤ → ℤ) (L : ℕ) (W H : Side) (g : Grid) where
   pub cell-places : (k : ℕ) (b : Band) (r c : ℕ) → Stands L W H k b r c →
       planeCell keep L W H g (planeRow H k b r) (planeColumn W k b c) ≡ levelBand keep W H g k b r c
   unfolding bandRows bandColumns
@@ -188,10 +185,10 @@ module _ (keep : ℤ → ℤ) (L W H : ℕ) (g : Grid) where
   unfolding planeOf
   plane-places k b r c s =
       ap (planeOf keep L W H g) (place-is W H k b r c)
-      ∙ flat-at W (planeCell keep L W H g) _ _ (column-in L W H k b r c s)
+      ∙ flat-at (W .length) (planeCell keep L W H g) _ _ (column-in L W H k b r c s)
       ∙ cell-places k b r c s
 
-pub level-places : (L W H k : ℕ) (b : Band) (r c : ℕ) → Stands L W H k b r c → levelAt L W H (planeRow H k b r) (planeColumn W k b c) ≡ k
+pub level-places : (L : ℕ) (W H : Side) (k : ℕ) (b : Band) (r c : ℕ) → Stands L W H k b r c → levelAt L W H (planeRow H k b r) (planeColumn W k b c) ≡ k
 unfolding bandRows bandColumns
 level-places L W H zero b r c s = absurd (omega (arith, s .deep))
 level-places L W H (suc k) b r c s = level-is k L W H b r c (s .most) (s .last) (s .row) (s .column)

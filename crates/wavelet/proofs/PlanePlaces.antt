@@ -3,24 +3,25 @@ use mathlib.Core.Path.{_≡_, refl, sym, ap, _∙_, subst}
 use Prim.Native.Nat.{ℕ, zero, suc, _+_, _-_, _*_, _<_}
 use native.Mathlib.Decide.{decLt}
 use native.Mathlib.Omega.{arith}
-use Rattle.lifting.specs.Line.{Half, lo, hi, count}
+use Rattle.lifting.specs.Line.{Half, lo, hi}
+use Rattle.lifting.specs.Grid.{Side, count}
 use Rattle.wavelet.specs.Bands.{Band, LL, across, down, bandOf}
-use Rattle.wavelet.specs.Levels.{size}
+use Rattle.wavelet.specs.Levels.{next, sideAt}
 use Rattle.wavelet.specs.Plane.{levelAt}
 use Rattle.wavelet.specs.View.{bandRows, bandColumns, bandStart}
-use Rattle.wavelet.proofs.SizeLaws.{count-sum}
+use Rattle.wavelet.proofs.SideLaws.{count-sum, next-length}
 use Rattle.wavelet.proofs.GridLaws.{place-apart}
 use Rattle.wavelet.proofs.SidePlaces.{offset, offset-inner, extent-inner, one-half}
 use Rattle.wavelet.proofs.BandPlaces.{band-of}
 use Rattle.wavelet.proofs.PlaneLayout.{Stands, planeRow, planeColumn, place-is, column-in, level-places}
 
 -- ---- exactly one: two kept places that are one place of the plane are one
-pub place-once : (L W H k k′ : ℕ) (b b′ : Band) (r r′ c c′ : ℕ) → Stands L W H k b r c → Stands L W H k′ b′ r′ c′ →
+pub place-once : (L : ℕ) (W H : Side) (k k′ : ℕ) (b b′ : Band) (r r′ c c′ : ℕ) → Stands L W H k b r c → Stands L W H k′ b′ r′ c′ →
     bandStart W H k b r + c ≡ bandStart W H k′ b′ r′ + c′ → (k ≡ k′) × (b ≡ b′) × (r ≡ r′) × (c ≡ c′)
 unfolding bandRows bandColumns
 place-once L W H k k′ b b′ r r′ c c′ s t e =
     let apart =
-    place-apart W (planeRow H k b r) (planeRow H k′ b′ r′) (planeColumn W k b c) (planeColumn W k′ b′ c′)
+    place-apart (W .length) (planeRow H k b r) (planeRow H k′ b′ r′) (planeColumn W k b c) (planeColumn W k′ b′ c′)
     (column-in L W H k b r c s) (column-in L W H k′ b′ r′ c′ t)
     (sym (place-is W H k b r c) ∙ e ∙ place-is W H k′ b′ r′ c′)
     in
@@ -29,14 +30,14 @@ place-once L W H k k′ b b′ r r′ c c′ s t e =
     let columns = one-half (across b) (across b′) k k′ W c c′ (s .deep) levels (s .column) (t .column) (apart .1) in
     (levels, sym (band-of b) ∙ halves _ _ _ _ (columns .0) (rows .0) ∙ band-of b′, rows .1, columns .1)
   where
-    same : (L W H r r′ c c′ : ℕ) → r ≡ r′ → c ≡ c′ → levelAt L W H r c ≡ levelAt L W H r′ c′
+    same : (L : ℕ) (W H : Side) (r r′ c c′ : ℕ) → r ≡ r′ → c ≡ c′ → levelAt L W H r c ≡ levelAt L W H r′ c′
     same L W H r r′ c c′ p q = cc
 
     halves : (a a′ d d′ : Half) → a ≡ a′ → d ≡ d′ → bandOf a d ≡ bandOf a′ d′
     halves a a′ d d′ p q = cc
 
 -- ---- at least one
-pub record Found (L W H r c : ℕ) : Type 0 where
+pub record Found (L : ℕ) (W H : Side) (r c : ℕ) : Type 0 where
   pub level : ℕ
   pub band : Band
   pub row : ℕ
@@ -46,28 +47,28 @@ pub record Found (L W H r c : ℕ) : Type 0 where
   pub column-is : planeColumn W level band column ≡ c
 
 -- the half of a side, and the place in it
-record Part (N i : ℕ) : Type 0 where
+record Part (S : Side) (i : ℕ) : Type 0 where
   half : Half
   place : ℕ
-  within : place < count half N
-  is : offset half 1 N + place ≡ i
+  within : place < count half S
+  is : offset half 1 S + place ≡ i
 
-part : (N i : ℕ) → i < N → Part N i
-unfolding offset size
-part N i p =
-    elim (decLt i (count lo N)) [
+part : (S : Side) (i : ℕ) → i < S .length → Part S i
+unfolding offset sideAt next
+part S i p =
+    elim (decLt i (count lo S)) [
       | yes q ↦ record { half = lo; place = i; within = q; is = omega arith }
-      | no d ↦ record { half = hi; place = i - count lo N; within = omega (arith, count-sum N); is = omega arith }
+      | no d ↦ record { half = hi; place = i - count lo S; within = omega (arith, count-sum S); is = omega arith }
     ]
 
-low-place : (N i x : ℕ) → x < count lo N → offset lo 1 N + x ≡ i → i < count lo N
+low-place : (S : Side) (i x : ℕ) → x < count lo S → offset lo 1 S + x ≡ i → i < count lo S
 unfolding offset
-low-place N i x w j = omega arith
+low-place S i x w j = omega arith
 
-part-low : (N i : ℕ) (p : Part N i) → p .half ≡ lo → i < count lo N
-part-low N i p e =
-    low-place N i (p .place) (subst (λ (h : Half). p .place < count h N) e (p .within))
-    (subst (λ (h : Half). offset h 1 N + p .place ≡ i) e (p .is))
+part-low : (S : Side) (i : ℕ) (p : Part S i) → p .half ≡ lo → i < count lo S
+part-low S i p e =
+    low-place S i (p .place) (subst (λ (h : Half). p .place < count h S) e (p .within))
+    (subst (λ (h : Half). offset h 1 S + p .place ≡ i) e (p .is))
 
 across-of : (a d : Half) → across (bandOf a d) ≡ a
 unfolding across bandOf
@@ -84,8 +85,8 @@ down-of lo hi = refl
 down-of hi hi = refl
 
 -- a place that the finest level keeps
-finest : (L W H r c : ℕ) (p : Part H r) (q : Part W c) → (bandOf (q .half) (p .half) ≡ LL → L ≡ 0) → Found (suc L) W H r c
-unfolding bandRows bandColumns size
+finest : (L : ℕ) (W H : Side) (r c : ℕ) (p : Part H r) (q : Part W c) → (bandOf (q .half) (p .half) ≡ LL → L ≡ 0) → Found (suc L) W H r c
+unfolding bandRows bandColumns sideAt
 finest L W H r c p q l =
     record {
       level = 1;
@@ -104,7 +105,7 @@ finest L W H r c p q l =
     }
 
 -- a place of the low-low part's plane
-inner : (L W H r c : ℕ) → Found L (count lo W) (count lo H) r c → Found (suc L) W H r c
+inner : (L : ℕ) (W H : Side) (r c : ℕ) → Found L (next W) (next H) r c → Found (suc L) W H r c
 unfolding bandRows bandColumns
 inner L W H r c f =
     let s = f .stands in
@@ -125,19 +126,19 @@ inner L W H r c f =
     }
 
 -- outside the corner no band is LL
-no-corner : (W H r c : ℕ) (p : Part H r) (q : Part W c) → (r < count lo H → c < count lo W → ⊥) → bandOf (q .half) (p .half) ≡ LL → ⊥
+no-corner : (W H : Side) (r c : ℕ) (p : Part H r) (q : Part W c) → (r < count lo H → c < count lo W → ⊥) → bandOf (q .half) (p .half) ≡ LL → ⊥
 unfolding down across
 no-corner W H r c p q n e =
     n (part-low H r p (sym (down-of (q .half) (p .half)) ∙ ap down e)) (part-low W c q (sym (across-of (q .half) (p .half)) ∙ ap across e))
 
-pub found : (L W H r c : ℕ) → 0 < L → r < H → c < W → Found L W H r c
+pub found : (L : ℕ) (W H : Side) (r c : ℕ) → 0 < L → r < H .length → c < W .length → Found L W H r c
 found zero W H r c h p q = absurd (omega arith)
 found (suc zero) W H r c h p q = finest 0 W H r c (part H r p) (part W c q) (λ e. refl)
 found (suc (suc L)) W H r c h p q =
     elim (decLt r (count lo H)) [
       | yes a ↦
           elim (decLt c (count lo W)) [
-            | yes b ↦ inner (suc L) W H r c (found (suc L) (count lo W) (count lo H) r c (omega arith) a b)
+            | yes b ↦ inner (suc L) W H r c (found (suc L) (next W) (next H) r c (omega arith) (omega (arith, next-length H)) (omega (arith, next-length W)))
             | no b ↦ beside (λ x y. b y)
           ]
       | no a ↦ beside (λ x y. a x)
@@ -147,14 +148,14 @@ found (suc (suc L)) W H r c h p q =
     beside n = finest (suc L) W H r c (part H r p) (part W c q) (λ e. absurd (no-corner W H r c (part H r p) (part W c q) n e))
 
 -- so every place of the plane is one of a kept band row
-pub found-place : (L W H r c : ℕ) (f : Found L W H r c) → bandStart W H (f .level) (f .band) (f .row) + f .column ≡ r * W + c
+pub found-place : (L : ℕ) (W H : Side) (r c : ℕ) (f : Found L W H r c) → bandStart W H (f .level) (f .band) (f .row) + f .column ≡ r * W .length + c
 found-place L W H r c f = place-is W H (f .level) (f .band) (f .row) (f .column) ∙ alike _ _ _ _ (f .row-is) (f .column-is)
   where
-    alike : (x x′ y y′ : ℕ) → x ≡ x′ → y ≡ y′ → x * W + y ≡ x′ * W + y′
+    alike : (x x′ y y′ : ℕ) → x ≡ x′ → y ≡ y′ → x * W .length + y ≡ x′ * W .length + y′
     alike x x′ y y′ p q = cc
 
 -- and the level there is that row's
-pub found-level : (L W H r c : ℕ) (f : Found L W H r c) → levelAt L W H r c ≡ f .level
+pub found-level : (L : ℕ) (W H : Side) (r c : ℕ) (f : Found L W H r c) → levelAt L W H r c ≡ f .level
 found-level L W H r c f = alike _ _ _ _ (sym (f .row-is)) (sym (f .column-is)) ∙ level-places L W H (f .level) (f .band) (f .row) (f .column) (f .stands)
   where
     alike : (x x′ y y′ : ℕ) → x ≡ x′ → y ≡ y′ → levelAt L W H x y ≡ levelAt L W H x′ y′

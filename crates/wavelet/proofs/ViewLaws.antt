@@ -12,17 +12,18 @@ use lib.Dec.{leb, ltb, eqb}
 use borrow.Author.Tests.{le-ltb, lt-ltb, le-leb, lt-leb, eq-eqb, ne-eqb, ltb-true, leb-true, eqb-true}
 use Rattle.numbers.specs.Signal.{pick}
 use Rattle.numbers.proofs.Sweep.{both}
-use Rattle.lifting.specs.Line.{lo, hi, count}
+use Rattle.lifting.specs.Line.{lo, hi}
+use Rattle.lifting.specs.Grid.{Side, count}
 use Rattle.wavelet.specs.Limits.{maxWidth, maxHeight}
 use Rattle.wavelet.specs.Bands.{Band, LL, HL, LH, HH, code, across, down}
-use Rattle.wavelet.specs.Levels.{size}
+use Rattle.wavelet.specs.Levels.{sideAt}
 use Rattle.wavelet.specs.View.{bandRows, bandColumns, bandStart}
 use Rattle.wavelet.specs.Questions.{ask, within, sizeQuestion, Sized}
 use Rattle.wavelet.specs.ViewCall.{named, keptAt, bandRowExists, viewQuestion, viewStart, viewLength, viewRow, viewPlace}
 use Rattle.wavelet.specs.Span.{keptSpan, stretchOf, spanOf}
 use Rattle.wavelet.specs.declared.view.Span.{Span}
 use Rattle.wavelet.specs.declared.view.Span.the-variants.{At, Refused}
-use Rattle.wavelet.proofs.SizeLaws.{size-le, size-back, count-le, count-sum}
+use Rattle.wavelet.proofs.SideLaws.{size-le, length-back, count-le, count-sum}
 use Rattle.wavelet.proofs.LimitLaws.{width-small, height-small}
 use Rattle.wavelet.proofs.QuestionLaws.{within-true, within-yes, sized, size-no, size-yes}
 use Rattle.wavelet.proofs.BandPlaces.{stretch-in}
@@ -63,7 +64,7 @@ named-true c f e = go (eqb c 0) (eqb c 1) (eqb c 2) (eqb c 3) refl refl refl ref
 
 -- ---- question 6
 -- row r of band b of level k, kept at L levels
-pub record Kept (W H L k : ℕ) (b : Band) (r : ℕ) : Type 0 where
+pub record Kept (W H : Side) (L k : ℕ) (b : Band) (r : ℕ) : Type 0 where
   pub deep : 1 ≤ k
   pub most : k ≤ L
   pub last : b ≡ LL → k ≡ L
@@ -84,7 +85,7 @@ last-kept L k HL h = refl
 last-kept L k LH h = refl
 last-kept L k HH h = refl
 
-module _ (W H L k : ℕ) (b : Band) (r : ℕ) where
+module _ (W H : Side) (L k : ℕ) (b : Band) (r : ℕ) where
   pub exists-kept : bandRowExists W H L k b r ≡ true → Kept W H L k b r
   unfolding bandRowExists
   exists-kept e =
@@ -114,12 +115,12 @@ module _ (W H L k : ℕ) (b : Band) (r : ℕ) where
   unfolding bandRowExists
   not-level e = rw e
 
-  pub not-row : H ≤ r → bandRowExists W H L k b r ≡ false
+  pub not-row : H .length ≤ r → bandRowExists W H L k b r ≡ false
   unfolding bandRowExists bandRows
   not-row h =
       let s = size-le (k - 1) H in
-      let n = count-le (down b) (size (k - 1) H) in
-      none (within 1 L k) (keptAt L k b) (ltb 0 (bandColumns W k b)) (le-ltb r (count (down b) (size (k - 1) H)) (omega arith))
+      let n = count-le (down b) (sideAt (k - 1) H) in
+      none (within 1 L k) (keptAt L k b) (ltb 0 (bandColumns W k b)) (le-ltb r (count (down b) (sideAt (k - 1) H)) (omega arith))
     where
       none : (x y z : Bool) {t : Bool} → t ≡ false → pick x (pick y (pick z t false) false) false ≡ false
       none true true true e = e
@@ -161,50 +162,49 @@ module _ (W H L k : ℕ) (b : Band) (r : ℕ) where
       ∙ sym stretch-at
       ∙ ap (λ (x : ℕ). stretchOf W H L k x r) (sym e)
 
--- the side of level k − 1 and its low half, as the code works them out, are within the plane, and so are the places of its rows
-pub side-in : (k N n low : ℕ) → n ≡ size (k - 1) N → low ≡ count lo n → (low ≤ n) × (n ≤ N)
-side-in k N n low en el = (omega (arith, count-le lo n), omega (arith, size-le (k - 1) N))
+-- the sides of levels k − 1 and k, as the code works them out, are within the plane
+pub side-in : (L k : ℕ) (S : Side) (n low : ℕ) → within 1 L k ≡ true → n ≡ sideAt (k - 1) S .length → low ≡ sideAt k S .length → (low ≤ n) × (n ≤ S .length)
+side-in L k S n low h en el =
+    (omega (arith, length-back k S (within-true 1 L k h .0), count-le lo (sideAt (k - 1) S)), omega (arith, size-le (k - 1) S))
 
 pub product : (a b : ℕ) → a ≤ 2 * maxHeight → b ≤ maxWidth → a * b ≤ 2 ^ 49
 product a b h g = mul-le-mul {n₁ = a} {m₁ = b} {n₂ = 2 ^ 33} {m₂ = 2 ^ 16} (omega (arith, height-small)) (omega (arith, width-small))
 
--- the arms of the match, with w and h of level k − 1 and their low halves
-module _ (W H L k c r w h low top : ℕ) (ew : w ≡ size (k - 1) W) (eh : h ≡ size (k - 1) H) (el : low ≡ count lo w) (et : top ≡ count lo h)
-    (l : within 1 L k ≡ true) where
-  low-is : low ≡ size k W
-  low-is = el ∙ ap (count lo) ew ∙ sym (size-back k W (within-true 1 L k l .0))
+-- the arms of the match, with the lengths of levels k − 1 and k
+module _ (W H : Side) (L k c r w h low top : ℕ) (ew : w ≡ sideAt (k - 1) W .length) (eh : h ≡ sideAt (k - 1) H .length) (el : low ≡ sideAt k W .length)
+    (et : top ≡ sideAt k H .length) (l : within 1 L k ≡ true) where
+  low-is : low ≡ count lo (sideAt (k - 1) W)
+  low-is = el ∙ length-back k W (within-true 1 L k l .0)
 
-  top-is : top ≡ size k H
-  top-is = et ∙ ap (count lo) eh ∙ sym (size-back k H (within-true 1 L k l .0))
+  top-is : top ≡ count lo (sideAt (k - 1) H)
+  top-is = et ∙ length-back k H (within-true 1 L k l .0)
 
-  right-is : w - low ≡ count hi (size (k - 1) W)
-  right-is = omega (arith, count-sum (size (k - 1) W), ap (count lo) ew)
+  right-is : w - low ≡ count hi (sideAt (k - 1) W)
+  right-is = omega (arith, count-sum (sideAt (k - 1) W), low-is)
 
-  bottom-is : h - top ≡ count hi (size (k - 1) H)
-  bottom-is = omega (arith, count-sum (size (k - 1) H), ap (count lo) eh)
+  bottom-is : h - top ≡ count hi (sideAt (k - 1) H)
+  bottom-is = omega (arith, count-sum (sideAt (k - 1) H), top-is)
 
-  pub arm-LL : c ≡ 0 → L ≤ k → keptSpan r top (r * W) low ≡ stretchOf W H L k c r
+  pub arm-LL : c ≡ 0 → L ≤ k → keptSpan r top (r * W .length) low ≡ stretchOf W H L k c r
   unfolding code keptAt bandRows bandColumns bandStart across down
-  arm-LL e g =
-      arm W H L k LL r c top (r * W) low e l (eq-eqb k L (omega (arith, within-true 1 L k l .1)))
-      (et ∙ ap (count lo) eh) refl (el ∙ ap (count lo) ew)
+  arm-LL e g = arm W H L k LL r c top (r * W .length) low e l (eq-eqb k L (omega (arith, within-true 1 L k l .1))) top-is refl low-is
 
-  pub arm-HL : c ≡ 1 → keptSpan r top (r * W + low) (w - low) ≡ stretchOf W H L k c r
+  pub arm-HL : c ≡ 1 → keptSpan r top (r * W .length + low) (w - low) ≡ stretchOf W H L k c r
   unfolding code keptAt bandRows bandColumns bandStart across down
-  arm-HL e = arm W H L k HL r c top (r * W + low) (w - low) e l refl (et ∙ ap (count lo) eh) (omega (arith, low-is)) right-is
+  arm-HL e = arm W H L k HL r c top (r * W .length + low) (w - low) e l refl top-is (omega arith) right-is
 
-  pub arm-LH : c ≡ 2 → keptSpan r (h - top) ((top + r) * W) low ≡ stretchOf W H L k c r
+  pub arm-LH : c ≡ 2 → keptSpan r (h - top) ((top + r) * W .length) low ≡ stretchOf W H L k c r
   unfolding code keptAt bandRows bandColumns bandStart across down
-  arm-LH e = arm W H L k LH r c (h - top) ((top + r) * W) low e l refl bottom-is (ap (λ (x : ℕ). (x + r) * W) top-is) (el ∙ ap (count lo) ew)
+  arm-LH e = arm W H L k LH r c (h - top) ((top + r) * W .length) low e l refl bottom-is (ap (λ (x : ℕ). (x + r) * W .length) et) low-is
 
-  pub arm-HH : c ≡ 3 → keptSpan r (h - top) ((top + r) * W + low) (w - low) ≡ stretchOf W H L k c r
+  pub arm-HH : c ≡ 3 → keptSpan r (h - top) ((top + r) * W .length + low) (w - low) ≡ stretchOf W H L k c r
   unfolding code keptAt bandRows bandColumns bandStart across down
   arm-HH e =
-      arm W H L k HH r c (h - top) ((top + r) * W + low) (w - low) e l refl bottom-is
-      (ap (λ (x : ℕ). (x + r) * W + low) top-is ∙ ap (λ (x : ℕ). (size k H + r) * W + x) low-is) right-is
+      arm W H L k HH r c (h - top) ((top + r) * W .length + low) (w - low) e l refl bottom-is
+      (ap (λ (x : ℕ). (x + r) * W .length + low) et ∙ ap (λ (x : ℕ). (sideAt k H .length + r) * W .length + x) el) right-is
 
 -- where no band's row exists
-module _ (W H L k c r : ℕ) where
+module _ (W H : Side) (L k c r : ℕ) where
   refused : named c (λ b. bandRowExists W H L k b r) false ≡ false → Refused 6 ≡ stretchOf W H L k c r
   unfolding stretchOf
   refused e = ap (λ (t : Bool). pick t (At (viewStart W H k c r) (viewLength W k c)) (Refused 6)) (sym e)
@@ -212,7 +212,7 @@ module _ (W H L k c r : ℕ) where
   pub refused-level : within 1 L k ≡ false → Refused 6 ≡ stretchOf W H L k c r
   refused-level h = refused (named-none c (λ b. bandRowExists W H L k b r) λ b. not-level W H L k b r h)
 
-  pub refused-row : H ≤ r → Refused 6 ≡ stretchOf W H L k c r
+  pub refused-row : H .length ≤ r → Refused 6 ≡ stretchOf W H L k c r
   refused-row h = refused (named-none c (λ b. bandRowExists W H L k b r) λ b. not-row W H L k b r h)
 
   pub refused-last : c ≡ code LL → k < L → Refused 6 ≡ stretchOf W H L k c r
@@ -226,23 +226,23 @@ module _ (W H L k c r : ℕ) where
   refused-code n0 n1 n2 n3 = refused (named-other c (λ b. bandRowExists W H L k b r) n0 n1 n2 n3)
 
 -- ---- the questions in their order
-module _ (n W H L k c r : ℕ) where
+module _ (n : ℕ) (W H : Side) (L k c r : ℕ) where
   abbrev exists : Bool
   exists = named c (λ b. bandRowExists W H L k b r) false
 
-  pub question-size : (sizeQuestion W H L ≡ 0 → ⊥) → viewQuestion n W H L k c r ≡ sizeQuestion W H L
+  pub question-size : (sizeQuestion (W .length) (H .length) L ≡ 0 → ⊥) → viewQuestion n W H L k c r ≡ sizeQuestion (W .length) (H .length) L
   unfolding viewQuestion
-  question-size h = size-no W H L (ask (leb (W * H) n) 5 (ask exists 6 0)) h
+  question-size h = size-no (W .length) (H .length) L (ask (leb (W .length * H .length) n) 5 (ask exists 6 0)) h
 
-  question-more : sizeQuestion W H L ≡ 0 → viewQuestion n W H L k c r ≡ ask (leb (W * H) n) 5 (ask exists 6 0)
+  question-more : sizeQuestion (W .length) (H .length) L ≡ 0 → viewQuestion n W H L k c r ≡ ask (leb (W .length * H .length) n) 5 (ask exists 6 0)
   unfolding viewQuestion
-  question-more h = size-yes W H L (ask (leb (W * H) n) 5 (ask exists 6 0)) h
+  question-more h = size-yes (W .length) (H .length) L (ask (leb (W .length * H .length) n) 5 (ask exists 6 0)) h
 
-  pub question-area : sizeQuestion W H L ≡ 0 → n < W * H → viewQuestion n W H L k c r ≡ 5
-  question-area h g = question-more h ∙ ap (λ (t : Bool). ask t 5 (ask exists 6 0)) (lt-leb (W * H) n g)
+  pub question-area : sizeQuestion (W .length) (H .length) L ≡ 0 → n < W .length * H .length → viewQuestion n W H L k c r ≡ 5
+  question-area h g = question-more h ∙ ap (λ (t : Bool). ask t 5 (ask exists 6 0)) (lt-leb (W .length * H .length) n g)
 
-  pub question-row : sizeQuestion W H L ≡ 0 → W * H ≤ n → viewQuestion n W H L k c r ≡ ask exists 6 0
-  question-row h g = question-more h ∙ ap (λ (t : Bool). ask t 5 (ask exists 6 0)) (le-leb (W * H) n g)
+  pub question-row : sizeQuestion (W .length) (H .length) L ≡ 0 → W .length * H .length ≤ n → viewQuestion n W H L k c r ≡ ask exists 6 0
+  question-row h g = question-more h ∙ ap (λ (t : Bool). ask t 5 (ask exists 6 0)) (le-leb (W .length * H .length) n g)
 
   -- the span that they leave
   abbrev place : Span
@@ -252,7 +252,7 @@ module _ (n W H L k c r : ℕ) where
   unfolding spanOf
   span-no q e h = sym (ap (λ (x : ℕ). pick (eqb x 0) place (Refused x)) e ∙ ap (λ (t : Bool). pick t place (Refused q)) (ne-eqb q 0 h))
 
-  pub span-stretch : sizeQuestion W H L ≡ 0 → W * H ≤ n → stretchOf W H L k c r ≡ spanOf n W H L k c r
+  pub span-stretch : sizeQuestion (W .length) (H .length) L ≡ 0 → W .length * H .length ≤ n → stretchOf W H L k c r ≡ spanOf n W H L k c r
   unfolding spanOf stretchOf
   span-stretch h g = go exists ∙ ap (λ (x : ℕ). pick (eqb x 0) place (Refused x)) (sym (question-row h g))
     where
@@ -284,26 +284,26 @@ module _ (n W H L k c r : ℕ) where
       go false d h = (cc, d)
 
 -- a view that passes is of a kept row, and of a plane that has it
-pub record Viewed (n W H L k c r : ℕ) : Type 0 where
-  pub sizes : Sized W H L
-  pub area : W * H ≤ n
+pub record Viewed (n : ℕ) (W H : Side) (L k c r : ℕ) : Type 0 where
+  pub sizes : Sized (W .length) (H .length) L
+  pub area : W .length * H .length ≤ n
   pub band : Band
   pub code-is : c ≡ code band
   pub kept : Kept W H L k band r
 
-pub viewed : (n W H L k c r : ℕ) → viewQuestion n W H L k c r ≡ 0 → Viewed n W H L k c r
-viewed n W H L k c r e = elim (ℕ-discrete (sizeQuestion W H L) 0) [
-  | yes s ↦ area s (leb (W * H) n) (named c (λ b. bandRowExists W H L k b r) false) refl refl (sym (question-more n W H L k c r s) ∙ e)
+pub viewed : (n : ℕ) (W H : Side) (L k c r : ℕ) → viewQuestion n W H L k c r ≡ 0 → Viewed n W H L k c r
+viewed n W H L k c r e = elim (ℕ-discrete (sizeQuestion (W .length) (H .length) L) 0) [
+  | yes s ↦ area s (leb (W .length * H .length) n) (named c (λ b. bandRowExists W H L k b r) false) refl refl (sym (question-more n W H L k c r s) ∙ e)
   | no d ↦ absurd (d (sym (question-size n W H L k c r d) ∙ e))
 ]
   where
-    area : sizeQuestion W H L ≡ 0 → (t u : Bool) → leb (W * H) n ≡ t → named c (λ b. bandRowExists W H L k b r) false ≡ u → ask t 5 (ask u 6 0) ≡ 0 →
-        Viewed n W H L k c r
+    area : sizeQuestion (W .length) (H .length) L ≡ 0 → (t u : Bool) → leb (W .length * H .length) n ≡ t
+        → named c (λ b. bandRowExists W H L k b r) false ≡ u → ask t 5 (ask u 6 0) ≡ 0 → Viewed n W H L k c r
     area s true true et eu h =
         let b = named-true c (λ b. bandRowExists W H L k b r) eu in
         record {
-          sizes = sized W H L s;
-          area = leb-true (W * H) n et;
+          sizes = sized (W .length) (H .length) L s;
+          area = leb-true (W .length * H .length) n et;
           band = b .0;
           code-is = b .1;
           kept = exists-kept W H L k (b .0) r (b .2);
@@ -311,7 +311,7 @@ viewed n W H L k c r e = elim (ℕ-discrete (sizeQuestion W H L) 0) [
     area s true false et eu h = absurd (omega arith)
     area s false u et eu h = absurd (omega arith)
 
-module _ (n W H L k c r : ℕ) (v : Viewed n W H L k c r) where
+module _ (n : ℕ) (W H : Side) (L k c r : ℕ) (v : Viewed n W H L k c r) where
   pub start-is : viewStart W H k c r ≡ bandStart W H k (v .band) r
   unfolding viewStart
   start-is = ap (λ (x : ℕ). named x (λ b. bandStart W H k b r) 0) (v .code-is) ∙ named-at (v .band) (λ b. bandStart W H k b r) 0
@@ -326,7 +326,7 @@ module _ (n W H L k c r : ℕ) (v : Viewed n W H L k c r) where
       omega (arith, start-is, length-is, v .area)
 
 -- ---- the two calls
-module _ (plane : List ℤ) (W H L k c r : ℕ) where
+module _ (plane : List ℤ) (W H : Side) (L k c r : ℕ) where
   pub located-in : (a m : ℕ) → spanOf (length plane) W H L k c r ≡ At a m → a + m ≤ length plane
   located-in a m e =
       let l = span-at (length plane) W H L k c r a m e in

@@ -8,6 +8,7 @@ use lib.ListN.{length, take, drop}
 use borrow.Author.Tests.{eq-eqb, ne-eqb}
 use Rattle.numbers.specs.Signal.{at}
 use Rattle.numbers.proofs.Parts.{length-mid, at-mid, window-in}
+use Rattle.lifting.specs.Grid.{Side}
 use Rattle.wavelet.specs.Bands.{Grid, Band, code}
 use Rattle.wavelet.specs.Levels.{levelBand}
 use Rattle.wavelet.specs.Plane.{planeOf}
@@ -17,7 +18,7 @@ use Rattle.wavelet.proofs.BandPlaces.{stretch-in}
 use Rattle.wavelet.proofs.ViewLaws.{Viewed, viewed, start-is, length-is, view-in}
 use Rattle.wavelet.proofs.PlaneLayout.{Stands, plane-places}
 
-module _ (plane : List ℤ) (W H L k c r : ℕ) where
+module _ (plane : List ℤ) (W H : Side) (L k c r : ℕ) where
   pub view-refused : (viewQuestion (length plane) W H L k c r ≡ 0 → ⊥) → viewRow plane W H L k c r ≡ []
   unfolding viewRow
   view-refused h = rw (ne-eqb (viewQuestion (length plane) W H L k c r) 0 h)
@@ -49,8 +50,8 @@ module _ (plane : List ℤ) (W H L k c r : ℕ) where
     unfolding view-band
     view-some = omega (arith, view-length, view .kept .columns)
 
-    pub view-values : (keep : ℤ → ℤ) (g : Grid) → ((j : ℕ) → j < W * H → at plane j ≡ planeOf keep L W H g j) → (i : ℕ) → i < bandColumns W k view-band →
-        at (viewRow plane W H L k c r) i ≡ levelBand keep W H g k view-band r i
+    pub view-values : (keep : ℤ → ℤ) (g : Grid) → ((j : ℕ) → j < W .length * H .length → at plane j ≡ planeOf keep L W H g j)
+        → (i : ℕ) → i < bandColumns W k view-band → at (viewRow plane W H L k c r) i ≡ levelBand keep W H g k view-band r i
     unfolding view-band
     view-values keep g same i h =
         let b = view .band in

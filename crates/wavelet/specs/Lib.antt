@@ -1,12 +1,13 @@
 pub mod Limits
+pub mod Questions
 pub mod Bands
 pub mod Levels
 pub mod Plane
-pub mod View
 pub mod Maps
-pub mod Questions
-pub mod Store
+pub mod View
 pub mod ViewCall
 pub mod Span
+pub mod Store
+pub mod Shape
 pub mod Order
 pub mod Steps

@@ -1,44 +1,50 @@
--- The plane: W × H coefficients, row by row. Document 01, "The plane".
-use mathlib.Core.Bool.{Bool, true, false}
+-- The plane of a map on the grid: as many coefficients as heights, row by row. Document 01, "The plane".
+use mathlib.Core.Bool.{Bool}
 use Prim.Native.Nat.{ℕ, zero, suc, _+_, _-_, _*_, _/_, _%_}
 use lib.IntN.{ℤ}
 use lib.Dec.{ltb}
 use Rattle.numbers.specs.Signal.{pick, both}
-use Rattle.lifting.specs.Line.{Half, lo, hi, count}
+use Rattle.lifting.specs.Line.{Half, lo, hi}
+use Rattle.lifting.specs.Grid.{Side, count}
 use Rattle.wavelet.specs.Bands.{Grid, Band, LL, HL, LH, HH, bandOf, subband, levelBack}
+use Rattle.wavelet.specs.Levels.{next}
 
--- which half a row or column of the plane belongs to, of a level whose side is N long, and its number in that half
-unfoldable pub halfAt : ℕ → ℕ → Half
-halfAt N i = pick (ltb i (count lo N)) lo hi
+-- which half a row or column of the plane belongs to, of a level with side S, and its number in that half
+unfoldable pub halfAt : Side → ℕ → Half
+halfAt S i = pick (ltb i (count lo S)) lo hi
 
-unfoldable pub placeIn : ℕ → ℕ → ℕ
-placeIn N i = pick (ltb i (count lo N)) i (i - count lo N)
+unfoldable pub placeIn : Side → ℕ → ℕ
+placeIn S i = pick (ltb i (count lo S)) i (i - count lo S)
 
--- The coefficient at row r and column c of the plane of a W × H grid at L levels. The low-low corner of a level has the plane of the low-low part at the
--- levels left; where none is left, that part itself.
-unfoldable pub planeCell : (ℤ → ℤ) → ℕ → ℕ → ℕ → Grid → Grid
+-- is a place of the plane in the low-low corner?
+unfoldable pub inCorner : Side → Side → ℕ → ℕ → Bool
+inCorner W H r c = both (ltb r (count lo H)) (ltb c (count lo W))
+
+-- The coefficient at row r and column c of the plane of a grid at L levels. The low-low corner of a level has the plane of the low-low part at the levels left;
+-- where none is left, that part itself. An empty corner has no place.
+unfoldable pub planeCell : (ℤ → ℤ) → ℕ → Side → Side → Grid → Grid
 planeCell keep zero W H g r c = g r c
 planeCell keep (suc L) W H g r c =
-    pick (both (ltb r (count lo H)) (ltb c (count lo W)))
-    (planeCell keep L (count lo W) (count lo H) (subband keep W H g LL) r c)
+    pick (inCorner W H r c)
+    (planeCell keep L (next W) (next H) (subband keep W H g LL) r c)
     (subband keep W H g (bandOf (halfAt W c) (halfAt H r)) (placeIn H r) (placeIn W c))
 
 -- The level, from 1, whose coefficient stands there.
-unfoldable pub levelAt : ℕ → ℕ → ℕ → ℕ → ℕ → ℕ
+unfoldable pub levelAt : ℕ → Side → Side → ℕ → ℕ → ℕ
 levelAt zero W H r c = 0
-levelAt (suc L) W H r c =
-    pick (both (ltb r (count lo H)) (ltb c (count lo W))) (1 + levelAt L (count lo W) (count lo H) r c) 1
+levelAt (suc L) W H r c = pick (inCorner W H r c) (1 + levelAt L (next W) (next H) r c) 1
+
+-- the bands of a level that stand in the plane x, its low-low part being a
+unfoldable pub planeBands : Side → Side → Grid → Grid → Band → Grid
+planeBands W H a x LL r c = a r c
+planeBands W H a x HL r c = x r (count lo W + c)
+planeBands W H a x LH r c = x (count lo H + r) c
+planeBands W H a x HH r c = x (count lo H + r) (count lo W + c)
 
 -- The way back, from the plane x: the bands of level 1, its low-low part being what the levels left give, and the grid that has them.
-unfoldable pub mapBack : (ℤ → ℤ) → ℕ → ℕ → ℕ → Grid → Grid
+unfoldable pub mapBack : (ℤ → ℤ) → ℕ → Side → Side → Grid → Grid
 mapBack keep zero W H x = x
-mapBack keep (suc L) W H x =
-    levelBack keep W H (λ b. elim b [
-      | LL ↦ mapBack keep L (count lo W) (count lo H) x
-      | HL ↦ λ r c. x r (count lo W + c)
-      | LH ↦ λ r c. x (count lo H + r) c
-      | HH ↦ λ r c. x (count lo H + r) (count lo W + c)
-    ])
+mapBack keep (suc L) W H x = levelBack keep W H (planeBands W H (mapBack keep L (next W) (next H) x) x)
 
 -- A signal as rows of s numbers, and rows of s numbers as a signal.
 unfoldable pub cells : ℕ → (ℕ → ℤ) → Grid
@@ -48,5 +54,5 @@ unfoldable pub flat : ℕ → Grid → ℕ → ℤ
 flat s g j = g (j / s) (j % s)
 
 -- the plane of a map, as the coefficients follow each other in memory
-unfoldable pub planeOf : (ℤ → ℤ) → ℕ → ℕ → ℕ → Grid → ℕ → ℤ
-planeOf keep L W H g = flat W (planeCell keep L W H g)
+unfoldable pub planeOf : (ℤ → ℤ) → ℕ → Side → Side → Grid → ℕ → ℤ
+planeOf keep L W H g = flat (W .length) (planeCell keep L W H g)

@@ -1,5 +1,7 @@
-// The wavelet transform of a map: definitions and theory, the limits and sizes, and the view of one band row of a plane.
+// The wavelet transform of a map that starts anywhere on the grid: definitions and theory, the limits, the sides of the levels, and the view of one band row of
+// a plane.
 pub mod limits;
+pub mod shape;
 pub mod sizes;
 pub mod store;
 pub mod view;

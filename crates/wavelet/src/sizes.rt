@@ -1,38 +1,70 @@
-// The sizes of the levels, and the range of their coefficients.
+// The sides of the levels, where each starts and how long it is, and the range of their coefficients.
 use crate::limits;
 ghost use mathlib.Core.Path.{_≡_};
-ghost use Prim.Native.Nat.{min};
+ghost use Prim.Native.Nat.{ℕ, min};
 ghost use lib.IntN.{pos};
-ghost use Rattle.lifting.specs.Line.{lo, count};
+ghost use Rattle.lifting.specs.Line.{lo, hi};
+ghost use Rattle.lifting.specs.Grid.{side, count};
 ghost use Rattle.wavelet.specs.Limits.{maxLevels, range};
-ghost use Rattle.wavelet.specs.Levels.{size};
+ghost use Rattle.wavelet.specs.Levels.{next, sideAt};
 
-// ⌈n / 2⌉, for every n: n + 1 might not fit.
-pub fn half(n: usize) -> usize
-    ensures { λ r. ⌜ r ≡ count lo n ⌝ }
+// The even coordinates of a side, ⌈n / 2⌉ or ⌊n / 2⌋, for every n: n + 1 might not fit.
+pub fn low_count(start: usize, n: usize) -> usize
+    ensures { λ r. ⌜ r ≡ count lo (side start n) ⌝ }
 {
-    n - n / 2
+    if start % 2 == 0 { n - n / 2 } else { n / 2 }
 }
 
-// The lesser of a number of halvings and 64: after 64 a side below 2^64 is 1 or 0, and stays.
+// The odd ones.
+pub fn high_count(start: usize, n: usize) -> usize
+    ensures { λ r. ⌜ r ≡ count hi (side start n) ⌝ }
+{
+    if start % 2 == 0 { n / 2 } else { n - n / 2 }
+}
+
+// Where the next level starts, however long the side is.
+pub fn next_start(start: usize) -> usize
+    ensures { λ r. ⌜ ((n : ℕ) → r ≡ next (side start n) .start) ⌝ }
+{
+    start - start / 2
+}
+
+// The lesser of a number of halvings and 65. After 64 a side starts at 0 or 1 and has one coordinate or none; a lone 1 is gone after another, and then the side
+// stays.
 fn turns(level: usize) -> usize
-    ensures { λ r. ⌜ r ≡ min level 64 ⌝ }
+    ensures { λ r. ⌜ r ≡ min level 65 ⌝ }
 {
-    if level < 64 { level } else { 64 }
+    if level < 65 { level } else { 65 }
 }
 
-// The side of level `level` of a side of n: W(level) of W = n.
-pub fn size_at(level: usize, n: usize) -> usize
-    ensures { λ r. ⌜ r ≡ size level n ⌝ }
+// Where level `level` starts, however long the side is.
+pub fn start_at(level: usize, start: usize) -> usize
+    ensures { λ r. ⌜ ((n : ℕ) → r ≡ sideAt level (side start n) .start) ⌝ }
 {
-    let mut side = n;
+    let mut from = start;
     let last = turns(level);
     let mut k = 0;
     while k < last {
-        side = half(side);
+        from = next_start(from);
         k += 1;
     }
-    side
+    from
+}
+
+// How long level `level` of a side is: W(level) of the columns from x on.
+pub fn size_at(level: usize, start: usize, n: usize) -> usize
+    ensures { λ r. ⌜ r ≡ sideAt level (side start n) .length ⌝ }
+{
+    let mut from = start;
+    let mut length = n;
+    let last = turns(level);
+    let mut k = 0;
+    while k < last {
+        length = low_count(from, length);
+        from = next_start(from);
+        k += 1;
+    }
+    length
 }
 
 // The lesser of a level and the last.

@@ -2,31 +2,34 @@
 use crate::limits;
 use crate::sizes;
 ghost use mathlib.Core.Path.{_≡_};
-ghost use Prim.Native.Nat.{ℕ, _≤_};
+ghost use Prim.Native.Nat.{_≤_};
 ghost use Rattle.numbers.specs.Signal.{pick, both};
+ghost use Rattle.lifting.specs.Grid.{side};
 ghost use Rattle.wavelet.specs.Limits.{maxWidth, maxLevels};
 ghost use Rattle.wavelet.specs.Questions.{within};
 ghost use Rattle.wavelet.specs.Store.{storeLength};
 
-// 4 × (W(0) + ... + W(levels − 1)), W being the width.
-fn needed(width: usize, levels: usize) -> usize
+// 4 × (W(0) + ... + W(levels − 1)) of the columns from x on.
+fn needed(width: usize, x: usize, levels: usize) -> usize
     requires { ⌜ (width ≤ maxWidth) × (levels ≤ maxLevels) ⌝ }
-    ensures { λ r. ⌜ r ≡ storeLength width levels ⌝ }
+    ensures { λ r. ⌜ r ≡ storeLength (side x width) levels ⌝ }
 {
     let mut sum = 0;
-    let mut side = width;
+    let mut from = x;
+    let mut length = width;
     let mut k = 0;
     while k < levels {
-        sum += 4 * side;
-        side = sizes::half(side);
+        sum += 4 * length;
+        length = sizes::low_count(from, length);
+        from = sizes::next_start(from);
         k += 1;
     }
     sum
 }
 
 // The same for every width and number of levels within the limits; 0 for any other.
-pub fn store_length(width: usize, levels: usize) -> usize
-    ensures { λ r. ⌜ r ≡ pick (both (within 1 maxWidth width) (within 1 maxLevels levels)) (storeLength width levels) 0 ⌝ }
+pub fn store_length(width: usize, x: usize, levels: usize) -> usize
+    ensures { λ r. ⌜ r ≡ pick (both (within 1 maxWidth width) (within 1 maxLevels levels)) (storeLength (side x width) levels) 0 ⌝ }
 {
     if !limits::is_within(width, limits::MAX_WIDTH) {
         return 0;
@@ -34,5 +37,5 @@ pub fn store_length(width: usize, levels: usize) -> usize
     if !limits::is_within(levels, limits::MAX_LEVELS) {
         return 0;
     }
-    needed(width, levels)
+    needed(width, x, levels)
 }

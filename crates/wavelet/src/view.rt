@@ -1,11 +1,13 @@
 // The view of one band row: a stretch of the caller's plane, not a copy.
 use crate::limits;
+use crate::shape::Shape;
 use crate::sizes;
 ghost use mathlib.Core.Path.{_≡_};
 ghost use Prim.Native.Nat.{_≤_, _*_};
 ghost use denote.Ref.{ptr};
 ghost use lib.ListN.{length};
 ghost use Rattle.wavelet.specs.Limits.{maxWidth, maxHeight};
+ghost use Rattle.wavelet.specs.Shape.{columns, rows};
 ghost use Rattle.wavelet.specs.ViewCall.{viewQuestion, viewRow, viewPlace, addressOf};
 ghost use Rattle.wavelet.specs.Span.{keptSpan, stretchOf, spanOf};
 
@@ -28,29 +30,25 @@ fn keep(row: usize, rows: usize, start: usize, length: usize) -> Span
 }
 
 // Question 6, and the stretch: of a plane within the limits.
-fn stretch(
-    width: usize,
-    height: usize,
-    levels: usize,
-    level: usize,
-    band: usize,
-    row: usize,
-) -> Span
-    requires { ⌜ (width ≤ maxWidth) × (height ≤ maxHeight) ⌝ }
-    ensures { λ r. ⌜ r ≡ stretchOf width height levels level band row ⌝ }
+fn stretch(shape: Shape, level: usize, band: usize, row: usize) -> Span
+    requires { ⌜ (shape .width ≤ maxWidth) × (shape .height ≤ maxHeight) ⌝ }
+    ensures { λ r. ⌜ r ≡ stretchOf (columns shape) (rows shape) (shape .levels) level band row ⌝ }
 {
+    let width = shape.width;
+    let height = shape.height;
+    let levels = shape.levels;
+    let x = shape.x as usize;
+    let y = shape.y as usize;
     if !limits::is_within(level, levels) {
         return Span::Refused(6);
     }
     if height <= row {
         return Span::Refused(6);
     }
-    let w = sizes::size_at(level - 1, width);
-    let h = sizes::size_at(level - 1, height);
-    let low = sizes::half(w);
-    let right = w - low;
-    let top = sizes::half(h);
-    let bottom = h - top;
+    let low = sizes::size_at(level, x, width);
+    let right = sizes::size_at(level - 1, x, width) - low;
+    let top = sizes::size_at(level, y, height);
+    let bottom = sizes::size_at(level - 1, y, height) - top;
     match band {
         0 => {
             if level < levels {
@@ -66,40 +64,24 @@ fn stretch(
 }
 
 // Where the named band row stands in a plane of `length` numbers. The questions are 2, 3, 4, 5 and 6.
-pub fn locate(
-    length: usize,
-    width: usize,
-    height: usize,
-    levels: usize,
-    level: usize,
-    band: usize,
-    row: usize,
-) -> Span
-    ensures { λ r. ⌜ r ≡ spanOf length width height levels level band row ⌝ }
+pub fn locate(length: usize, shape: Shape, level: usize, band: usize, row: usize) -> Span
+    ensures { λ r. ⌜ r ≡ spanOf length (columns shape) (rows shape) (shape .levels) level band row ⌝ }
 {
-    let no = limits::size_question(width, height, levels);
+    let no = limits::size_question(shape.width, shape.height, shape.levels);
     if no != 0 {
         return Span::Refused(no);
     }
-    if length < width * height {
+    if length < shape.width * shape.height {
         return Span::Refused(5);
     }
-    stretch(width, height, levels, level, band, row)
+    stretch(shape, level, band, row)
 }
 
 // The number of the question that turns the view of this band row away, or 0.
-pub fn band_row_question(
-    plane: &[i32],
-    width: usize,
-    height: usize,
-    levels: usize,
-    level: usize,
-    band: usize,
-    row: usize,
-) -> u8
-    ensures { λ r. ⌜ r ≡ viewQuestion (length (now (plane .entry))) width height levels level band row ⌝ }
+pub fn band_row_question(plane: &[i32], shape: Shape, level: usize, band: usize, row: usize) -> u8
+    ensures { λ r. ⌜ r ≡ viewQuestion (length (now (plane .entry))) (columns shape) (rows shape) (shape .levels) level band row ⌝ }
 {
-    match locate(plane.len(), width, height, levels, level, band, row) {
+    match locate(plane.len(), shape, level, band, row) {
         Span::At(_, _) => 0,
         Span::Refused(no) => no,
     }
@@ -108,17 +90,16 @@ pub fn band_row_question(
 // The band row, or the empty stretch where a question turns the view away.
 pub fn band_row<'a>(
     plane: &'a [i32],
-    width: usize,
-    height: usize,
-    levels: usize,
+    shape: Shape,
     level: usize,
     band: usize,
     row: usize,
 ) -> &'a [i32]
-    ensures { λ r. ⌜ now r ≡ viewRow (now (plane .entry)) width height levels level band row ⌝ }
-    ensures { λ r. ⌜ ptr r ≡ addressOf (ptr (plane .entry)) (viewPlace (length (now (plane .entry))) width height levels level band row) ⌝ }
+    ensures { λ r. ⌜ now r ≡ viewRow (now (plane .entry)) (columns shape) (rows shape) (shape .levels) level band row ⌝ }
+    ensures { λ r. ⌜ ptr r ≡
+        addressOf (ptr (plane .entry)) (viewPlace (length (now (plane .entry))) (columns shape) (rows shape) (shape .levels) level band row) ⌝ }
 {
-    match locate(plane.len(), width, height, levels, level, band, row) {
+    match locate(plane.len(), shape, level, band, row) {
         Span::At(start, count) => &plane[start..start + count],
         Span::Refused(_) => &plane[0..0],
     }

@@ -1,5 +1,5 @@
 -- What the two calls come to: their questions, and the areas that they leave. Assumes nothing.
-use mathlib.Core.Path.{_≡_, refl, sym, ap, _∙_, fun-ext}
+use mathlib.Core.Path.{_≡_, refl, sym, ap, ap₂, _∙_, fun-ext}
 use mathlib.Core.Bool.{Bool, true, false}
 use mathlib.Core.List.{List}
 use Prim.Native.Nat.{ℕ, zero, suc, _+_, _-_, _*_, _/_, _%_, _^_, _≤_, _<_}
@@ -11,20 +11,22 @@ use lib.Signed.{_≤ℤ_}
 use lib.ListN.{getD}
 use lib.Dec.{leb, le→leb}
 use borrow.Author.Tests.{le-leb, lt-leb, eq-eqb, ne-eqb}
-use Rattle.numbers.specs.Signal.{both}
+use Rattle.numbers.specs.Signal.{pick, both}
 use Rattle.numbers.specs.Word.{wrap32, whole}
 use Rattle.lifting.specs.Halves.{fronted}
+use Rattle.lifting.specs.Grid.{Side}
 use Rattle.wavelet.specs.Limits.{maxWidth, maxHeight, maxLevels, maxSample, range}
 use Rattle.wavelet.specs.Questions.{ask, within, sizeQuestion, Sized}
-use Rattle.wavelet.specs.Bands.{Grid}
-use Rattle.wavelet.specs.Plane.{cells, flat, planeCell, planeOf, mapBack}
-use Rattle.wavelet.specs.Maps.{IsMap, inRange, rebuiltFits}
+use Rattle.wavelet.specs.Bands.{Grid, levelHas}
+use Rattle.wavelet.specs.Plane.{cells, flat, planeCell, planeOf, planeBands, mapBack}
+use Rattle.wavelet.specs.Maps.{IsMap, everyCell, valueFits, inRange, rebuiltFits}
 use Rattle.wavelet.proofs.GridLaws.{cells-flat, row-below}
 use Rattle.wavelet.proofs.LimitLaws.{stride-small}
 use Rattle.wavelet.proofs.QuestionLaws.{sized, size-no, size-yes}
+use Rattle.wavelet.proofs.MapTheorems.{cells-same}
+use Rattle.wavelet.specs.Levels.{next}
 use Rattle.wavelet.proofs.LevelTheory.{plane-reads}
 use Rattle.wavelet.proofs.Bridge.{map-plane}
-use Rattle.wavelet.proofs.MapTheorems.{cells-same}
 use Rattle.whole_map.specs.Rowwise.{heightsAt}
 use Rattle.whole_map.specs.Passes.{within as inside}
 use Rattle.whole_map.specs.Passes.{Rows, KeptFrom, rowsMapped, gridHalved, rowsReturned}
@@ -34,7 +36,7 @@ use Rattle.areas.proofs.AreaLaws.{front-at, front-rest}
 use Rattle.whole_map.proofs.CellLaws.{flat-same, by-within, past-rows, kept-then, halved-grid, halved-out, returned-in, returned-out, mapped-out}
 use Rattle.whole_map.proofs.GridSweep.{mapped-in}
 use Rattle.whole_map.proofs.LevelsMath.{written-in, written-out}
-use Rattle.whole_map.proofs.TestLaws.{false-true, rebuilt-cells, fits-more}
+use Rattle.whole_map.proofs.TestLaws.{false-true, both-both, rebuilt-cells, fits-more}
 
 -- ---- the questions of the sizes
 -- question 5
@@ -228,43 +230,47 @@ heights-map W H l f = record { heights = λ r c _ _. height (getD l (r * W + c) 
     height n b = (record { le = le→leb 0 n (omega arith) }, record { le = le→leb n maxSample (omega arith) })
 
 -- z₁ is the plane loaded with the heights l, z₂ the plane after the levels
-module _ (W H L : ℕ) (l : List ℕ) (z₀ z₁ : ℕ → ℤ) (s : Sized W H L) (e : z₁ ≡ flat W (gridHalved W H (cells W (heightsAt l)) (cells W z₀))) where
+module _ (W H : Side) (L : ℕ) (l : List ℕ) (z₀ z₁ : ℕ → ℤ) (s : Sized (W .length) (H .length) L)
+    (e : z₁ ≡ flat (W .length) (gridHalved W H (cells (W .length) (heightsAt l)) (cells (W .length) z₀))) where
+  abbrev w : ℕ
+  w = W .length
+
   abbrev heights : Grid
-  heights = cells W (heightsAt l)
+  heights = cells w (heightsAt l)
 
   -- what stood past the map still does
-  over : (g : Grid) → flat W (planeWritten L W H g (cells W z₁)) ≡ flat W (planeWritten L W H g (cells W z₀))
+  over : (g : Grid) → flat w (planeWritten L W H g (cells w z₁)) ≡ flat w (planeWritten L W H g (cells w z₀))
   over g =
-      flat-same W _ _ (s .width .0)
+      flat-same w _ _ (s .width .0)
       (λ r c cw.
-      by-within W H r c
-      (λ rh cv. written-in L W H g (cells W z₁) r c rh cv ∙ sym (written-in L W H g (cells W z₀) r c rh cv))
+      by-within w (H .length) r c
+      (λ rh cv. written-in L W H g (cells w z₁) r c rh cv ∙ sym (written-in L W H g (cells w z₀) r c rh cv))
       (λ o.
-      written-out L W H g (cells W z₁) r c o
-      ∙ ap (λ (z : ℕ → ℤ). cells W z r c) e
-      ∙ cells-flat W _ r c cw
-      ∙ halved-out W H heights (cells W z₀) r c o
-      ∙ sym (written-out L W H g (cells W z₀) r c o)))
+      written-out L W H g (cells w z₁) r c o
+      ∙ ap (λ (z : ℕ → ℤ). cells w z r c) e
+      ∙ cells-flat w _ r c cw
+      ∙ halved-out W H heights (cells w z₀) r c o
+      ∙ sym (written-out L W H g (cells w z₀) r c o)))
 
-  pub plane-made : (z₂ : ℕ → ℤ) → ((i : ℕ) → getD l i 0 < 65536) → z₂ ≡ flat W (planeWritten L W H (cornerGrid W H (cells W z₁)) (cells W z₁)) →
-      z₂ ≡ fronted (W * H) (planeOf whole L W H heights) z₀
-  unfolding planeOf maxLevels
+  pub plane-made : (z₂ : ℕ → ℤ) → ((i : ℕ) → getD l i 0 < 65536) → z₂ ≡ flat w (planeWritten L W H (cornerGrid W H (cells w z₁)) (cells w z₁)) →
+      z₂ ≡ fronted (w * H .length) (planeOf whole L W H heights) z₀
+  unfolding planeOf
   plane-made z₂ fits f =
-      let g = cornerGrid W H (cells W z₁) in
-      f ∙ over g ∙ map-places W H _ (planeCell whole L W H heights) z₀ (s .width .0) (s .height .0)
+      let g = cornerGrid W H (cells w z₁) in
+      f ∙ over g ∙ map-places w (H .length) _ (planeCell whole L W H heights) z₀ (s .width .0) (s .height .0)
       (λ r c rh cw.
-      written-in L W H g (cells W z₀) r c rh cw
-      ∙ plane-reads wrap32 L W H g heights (halved-grid W W H heights (cells W z₀) z₁ (omega arith) e) r c rh cw
-      ∙ map-plane W H heights (heights-map W H l fits) L (s .levels .1) r c rh cw)
-      (λ r c o. written-out L W H g (cells W z₀) r c o)
+      written-in L W H g (cells w z₀) r c rh cw
+      ∙ plane-reads wrap32 L W H g heights (halved-grid w W H heights (cells w z₀) z₁ (omega arith) e) r c rh cw
+      ∙ map-plane W H heights (heights-map w (H .length) l fits) L (s .levels .1) r c rh cw)
+      (λ r c o. written-out L W H g (cells w z₀) r c o)
 
 -- ---- backward
-pub region-one : (L W H : ℕ) (x : Grid) → regionInRange 1 L W H x ≡ inRange L W H x
+pub region-one : (L : ℕ) (W H : Side) (x : Grid) → regionInRange 1 L W H x ≡ inRange L W H x
 unfolding regionInRange inRange
 region-one L W H x =
-    cells-same W H _ _ (λ r c _ _. ap (λ (k : ℕ). leb (natAbs (x r c)) (range k)) (omega arith))
+    cells-same (W .length) (H .length) _ _ (λ r c _ _. ap (λ (k : ℕ). leb (natAbs (x r c)) (range k)) (omega arith))
 
-module _ (W H L : ℕ) (x : Grid) (ok : Bool) (e : ok ≡ regionInRange 1 L W H x) where
+module _ (W H : Side) (L : ℕ) (x : Grid) (ok : Bool) (e : ok ≡ regionInRange 1 L W H x) where
   pub out-of-range : ok ≡ false → 7 ≡ planeQuestions W H L x
   unfolding planeQuestions
   out-of-range f = let g = sym (region-one L W H x) ∙ sym e ∙ f in rw g
@@ -284,13 +290,14 @@ module _ (W H L : ℕ) (x : Grid) (ok : Bool) (e : ok ≡ regionInRange 1 L W H 
         let g′ = sym e′ ∙ f in
         rw (g, g′)
 
-module _ (W H L : ℕ) (x X : Grid) (s : Sized W H L) (B : Rebuilt L W H x X) where
+module _ (W H : Side) (L : ℕ) (x X : Grid) (s : Sized (W .length) (H .length) L) (B : Rebuilt L W H x X) where
   -- the rebuilt rows, returned
-  pub map-returned : (h h′ : ℕ → ℤ) → h′ ≡ flat W (rowsReturned W H X (cells W h)) → h′ ≡ fronted (W * H) (flat W (mapBack wrap32 L W H x)) h
+  pub map-returned : (h h′ : ℕ → ℤ) → h′ ≡ flat (W .length) (rowsReturned W (H .length) X (cells (W .length) h)) →
+      h′ ≡ fronted (W .length * H .length) (flat (W .length) (mapBack wrap32 L W H x)) h
   map-returned h h′ e =
-      e ∙ map-places W H _ (mapBack wrap32 L W H x) h (s .width .0) (s .height .0)
-      (λ r c rh cw. returned-in W H X (cells W h) r c rh cw ∙ B .cell r c rh cw)
-      (returned-out W H X (cells W h))
+      e ∙ map-places (W .length) (H .length) _ (mapBack wrap32 L W H x) h (s .width .0) (s .height .0)
+      (λ r c rh cw. returned-in W (H .length) X (cells (W .length) h) r c rh cw ∙ B .cell r c rh cw)
+      (returned-out W (H .length) X (cells (W .length) h))
 
 -- the rows cleared, each by itself
 map-cleared : (W H : ℕ) (x : ℕ → ℤ) → 0 < W → 0 < H → flat W (rowsMapped (fronted W zeros) W H (cells W x)) ≡ fronted (W * H) zeros x
@@ -300,31 +307,47 @@ map-cleared W H x w h =
     (λ r c rh cw. mapped-in (fronted W zeros) W H (cells W x) r c rh cw ∙ front-at W zeros _ c cw)
     (λ r c o. mapped-out W H (cells W x) r c o (fronted W zeros))
 
+-- 14 of a map: of the low-low part and of what level 1 halves, `done`, and of the heights, t
+map-fits : (W H : Side) (L : ℕ) (x : Grid) (done t : Bool) → 0 < L →
+    done ≡ pick (rebuiltFits (0 + 1) (L - 1) (next W) (next H) x) (levelHas W H (planeBands W H (mapBack wrap32 (L - 1) (next W) (next H) x) x)) false →
+    t ≡ everyCell (W .length) (H .length) (λ r c. valueFits 0 (mapBack wrap32 L W H x r c)) → pick done t false ≡ rebuiltFits 0 L W H x
+map-fits W H L x done t some e f =
+    let A = rebuiltFits (0 + 1) (L - 1) (next W) (next H) x in
+    let B = levelHas W H (planeBands W H (mapBack wrap32 (L - 1) (next W) (next H) x) x) in
+    let C = everyCell (W .length) (H .length) (λ r c. valueFits 0 (mapBack wrap32 L W H x r c)) in
+    ap₂ (λ (p q : Bool). pick p q false) e f
+    ∙ sym (both-both A B C)
+    ∙ sym (fits-more 0 L W H x some)
+
 -- what the levels and the last test come to: z is the plane, y₁ the work area that the levels left
-module _ (W H L : ℕ) (z g₀ y₀ y₁ : ℕ → ℤ) (s : Sized W H L) where
-  pub map-no : (done : Bool) → done ≡ false → LevelsBack done 0 L W W W H z y₀ y₁ → MapRebuilt false W H L z g₀ g₀ y₀ y₁
+module _ (W H : Side) (L : ℕ) (z g₀ y₀ y₁ : ℕ → ℤ) (s : Sized (W .length) (H .length) L) where
+  abbrev plane : Grid
+  plane = cells (W .length) z
+
+  pub map-no : (done : Bool) → done ≡ false → LevelsBack done 0 L (W .length) (W .length) W H z y₀ y₁ → MapRebuilt false W H L z g₀ g₀ y₀ y₁
   map-no done it b =
       let l = s .levels in
-      let e = sym (b .answer) ∙ it in
+      let f = map-fits W H L plane done _ (l .0) (b .answer) refl in
       record {
-        answer = sym (fits-more 0 L W H (cells W z) (l .0) ∙ rw e);
+        answer = (rw it at f);
         heights = λ t. absurd (false-true t);
         cleared = λ t. absurd (false-true t);
         kept = b .kept;
         keptHeights = record { kept = λ j q. refl };
       }
 
-  pub map-yes : (ok done : Bool) (g y : ℕ → ℤ) → done ≡ true → LevelsBack done 0 L W W W H z y₀ y₁ → Finished ok W H y₁ y g₀ g → MapRebuilt ok W H L z g₀ g y₀ y
+  pub map-yes : (ok done : Bool) (g y : ℕ → ℤ) → done ≡ true → LevelsBack done 0 L (W .length) (W .length) W H z y₀ y₁ →
+      Finished ok W (H .length) y₁ y g₀ g → MapRebuilt ok W H L z g₀ g y₀ y
   map-yes ok done g y it b f =
       let l = s .levels in
       let B = b .grid it in
-      let e = sym (b .answer) ∙ it in
       let w = s .width .0 in
       let h = s .height .0 in
+      let all = map-fits W H L plane done ok (l .0) (b .answer) (f .answer ∙ rebuilt-cells 0 L W H plane (cells (W .length) y₁) B) in
       record {
-        answer = f .answer ∙ rebuilt-cells 0 L W H (cells W z) (cells W y₁) B ∙ sym (fits-more 0 L W H (cells W z) (l .0) ∙ rw e);
-        heights = λ t. map-returned W H L (cells W z) (cells W y₁) s B g₀ g (f .heights t);
-        cleared = λ t. cleared W H y₀ y₁ y h (b .kept) (f .cleared t ∙ map-cleared W H y₁ w h);
+        answer = (rw it at all);
+        heights = λ t. map-returned W H L plane (cells (W .length) y₁) s B g₀ g (f .heights t);
+        cleared = λ t. cleared (W .length) (H .length) y₀ y₁ y h (b .kept) (f .cleared t ∙ map-cleared (W .length) (H .length) y₁ w h);
         kept = kept-then (b .kept) (f .kept) (omega arith);
         keptHeights = f .keptHeights;
       }

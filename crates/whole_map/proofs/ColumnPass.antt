@@ -7,92 +7,97 @@ use Prim.Native.Nat.{ℕ, _+_, _*_, _%_, _≤_, _<_}
 use native.Mathlib.Decide.{decLt, ℕ-discrete}
 use native.Mathlib.Omega.{arith}
 use lib.IntN.{ℤ}
-use borrow.Author.Tests.{lt-ltb, le-ltb, eq-eqb, ne-eqb}
+use borrow.Author.Tests.{lt-ltb, le-ltb}
 use Rattle.numbers.specs.Signal.{at}
+use Rattle.lifting.specs.Grid.{Side}
 use Rattle.lifting.specs.Rows.{rowChanged, rowsChanged}
 use Rattle.lifting.proofs.RowLaws.{rows-fit, changed, row-at, row-other, row-past}
 use Rattle.wavelet.specs.Bands.{Grid}
-use Rattle.whole_map.specs.Passes.{Rows, within, even, before, after, oddRowsChanged, evenRowsChanged, nextChanged, pairChanged}
+use Rattle.whole_map.specs.Passes.{Rows, within, before, after, highRowsChanged, lowRowsChanged, nextChanged, pairChanged}
 use Rattle.whole_map.proofs.GridSweep.{RowSwept, row-room, store-row}
+use Rattle.whole_map.proofs.CellLaws.{is-low, is-high}
 
--- ---- the neighbours
-pub after-is : (h r : ℕ) → 1 < h → r < h → (after h r < h) × (after h r % 2 ≢ r % 2)
+-- ---- the neighbours: b is where the rows start
+pub after-is : (b h r : ℕ) → 1 < h → r < h → (after h r < h) × ((b + after h r) % 2 ≢ (b + r) % 2)
 unfolding after
-after-is h r g lt =
+after-is b h r g lt =
     elim (decLt (r + 1) h) [
       | yes p ↦ simp (lt-ltb (r + 1) h p) (p, λ e. omega arith)
       | no d ↦ simp (le-ltb (r + 1) h (omega arith)) (omega arith, λ e. omega arith)
     ]
 
-pub before-is : (h r : ℕ) → 1 < h → r < h → (before r < h) × (before r % 2 ≢ r % 2)
+pub before-is : (b h r : ℕ) → 1 < h → r < h → (before r < h) × ((b + before r) % 2 ≢ (b + r) % 2)
 unfolding before
-before-is h r g lt =
+before-is b h r g lt =
     elim (decLt 0 r) [
       | yes p ↦ simp (lt-ltb 0 r p) (omega arith, λ e. omega arith)
       | no d ↦ simp (le-ltb 0 r (omega arith)) (omega arith, λ e. omega arith)
     ]
 
 -- ---- what a pass makes of X
-pub record Column (f : ℤ → ℤ → ℤ → ℤ) (q w h : ℕ) (Y X : Grid) : Type 0 where
-  pub hit : (r c : ℕ) → r < h → c < w → r % 2 ≡ q → Y r c ≡ f (X r c) (X (before r) c) (X (after h r) c)
+pub record Column (f : ℤ → ℤ → ℤ → ℤ) (q b w h : ℕ) (Y X : Grid) : Type 0 where
+  pub hit : (r c : ℕ) → r < h → c < w → (b + r) % 2 ≡ q → Y r c ≡ f (X r c) (X (before r) c) (X (after h r) c)
   pub wide : (r c : ℕ) → w ≤ c → Y r c ≡ X r c
   pub past : (r c : ℕ) → h ≤ r → Y r c ≡ X r c
-  pub other : (r c : ℕ) → r % 2 ≢ q → Y r c ≡ X r c
+  pub other : (r c : ℕ) → (b + r) % 2 ≢ q → Y r c ≡ X r c
 
-module _ (f : ℤ → ℤ → ℤ → ℤ) (w h : ℕ) (X : Grid) where
-  odd-past : (r c : ℕ) → h ≤ r → oddRowsChanged f w h X r c ≡ X r c
-  unfolding oddRowsChanged within
-  odd-past r c p = simp (le-ltb r h p)
+module _ (f : ℤ → ℤ → ℤ → ℤ) (w : ℕ) (H : Side) (X : Grid) where
+  abbrev h : ℕ
+  h = H .length
 
-  odd-wide : (r c : ℕ) → w ≤ c → oddRowsChanged f w h X r c ≡ X r c
-  unfolding oddRowsChanged within
-  odd-wide r c q = elim (decLt r h) [ yes p ↦ simp (lt-ltb r h p, le-ltb c w q) | no d ↦ odd-past r c (omega arith) ]
+  high-past : (r c : ℕ) → h ≤ r → highRowsChanged f w H X r c ≡ X r c
+  unfolding highRowsChanged within
+  high-past r c p = simp (le-ltb r h p)
 
-  odd-hit : (r c : ℕ) → r < h → c < w → r % 2 ≡ 1 → oddRowsChanged f w h X r c ≡ f (X r c) (X (before r) c) (X (after h r) c)
-  unfolding oddRowsChanged within even
-  odd-hit r c p q e = simp (lt-ltb r h p, lt-ltb c w q, ne-eqb (r % 2) 0 (omega arith))
+  high-wide : (r c : ℕ) → w ≤ c → highRowsChanged f w H X r c ≡ X r c
+  unfolding highRowsChanged within
+  high-wide r c q = elim (decLt r h) [ yes p ↦ simp (lt-ltb r h p, le-ltb c w q) | no d ↦ high-past r c (omega arith) ]
 
-  odd-other : (r c : ℕ) → r % 2 ≢ 1 → oddRowsChanged f w h X r c ≡ X r c
-  unfolding oddRowsChanged within even
-  odd-other r c ne =
+  high-hit : (r c : ℕ) → r < h → c < w → (H .start + r) % 2 ≡ 1 → highRowsChanged f w H X r c ≡ f (X r c) (X (before r) c) (X (after h r) c)
+  unfolding highRowsChanged within
+  high-hit r c p q e = simp (lt-ltb r h p, lt-ltb c w q, is-high H r e)
+
+  high-other : (r c : ℕ) → (H .start + r) % 2 ≢ 1 → highRowsChanged f w H X r c ≡ X r c
+  unfolding highRowsChanged within
+  high-other r c ne =
       elim (decLt r h) [
         | yes p ↦
             elim (decLt c w) [
-              | yes q ↦ simp (lt-ltb r h p, lt-ltb c w q, eq-eqb (r % 2) 0 (omega arith))
-              | no q ↦ odd-wide r c (omega arith)
+              | yes q ↦ simp (lt-ltb r h p, lt-ltb c w q, is-low H r (omega arith))
+              | no q ↦ high-wide r c (omega arith)
             ]
-        | no d ↦ odd-past r c (omega arith)
+        | no d ↦ high-past r c (omega arith)
       ]
 
-  pub odd-column : Column f 1 w h (oddRowsChanged f w h X) X
-  odd-column = record { hit = odd-hit; wide = odd-wide; past = odd-past; other = odd-other }
+  pub high-column : Column f 1 (H .start) w h (highRowsChanged f w H X) X
+  high-column = record { hit = high-hit; wide = high-wide; past = high-past; other = high-other }
 
-  even-past : (r c : ℕ) → h ≤ r → evenRowsChanged f w h X r c ≡ X r c
-  unfolding evenRowsChanged within
-  even-past r c p = simp (le-ltb r h p)
+  low-past : (r c : ℕ) → h ≤ r → lowRowsChanged f w H X r c ≡ X r c
+  unfolding lowRowsChanged within
+  low-past r c p = simp (le-ltb r h p)
 
-  even-wide : (r c : ℕ) → w ≤ c → evenRowsChanged f w h X r c ≡ X r c
-  unfolding evenRowsChanged within
-  even-wide r c q = elim (decLt r h) [ yes p ↦ simp (lt-ltb r h p, le-ltb c w q) | no d ↦ even-past r c (omega arith) ]
+  low-wide : (r c : ℕ) → w ≤ c → lowRowsChanged f w H X r c ≡ X r c
+  unfolding lowRowsChanged within
+  low-wide r c q = elim (decLt r h) [ yes p ↦ simp (lt-ltb r h p, le-ltb c w q) | no d ↦ low-past r c (omega arith) ]
 
-  even-hit : (r c : ℕ) → r < h → c < w → r % 2 ≡ 0 → evenRowsChanged f w h X r c ≡ f (X r c) (X (before r) c) (X (after h r) c)
-  unfolding evenRowsChanged within even
-  even-hit r c p q e = simp (lt-ltb r h p, lt-ltb c w q, eq-eqb (r % 2) 0 e)
+  low-hit : (r c : ℕ) → r < h → c < w → (H .start + r) % 2 ≡ 0 → lowRowsChanged f w H X r c ≡ f (X r c) (X (before r) c) (X (after h r) c)
+  unfolding lowRowsChanged within
+  low-hit r c p q e = simp (lt-ltb r h p, lt-ltb c w q, is-low H r e)
 
-  even-other : (r c : ℕ) → r % 2 ≢ 0 → evenRowsChanged f w h X r c ≡ X r c
-  unfolding evenRowsChanged within even
-  even-other r c ne =
+  low-other : (r c : ℕ) → (H .start + r) % 2 ≢ 0 → lowRowsChanged f w H X r c ≡ X r c
+  unfolding lowRowsChanged within
+  low-other r c ne =
       elim (decLt r h) [
         | yes p ↦
             elim (decLt c w) [
-              | yes q ↦ simp (lt-ltb r h p, lt-ltb c w q, ne-eqb (r % 2) 0 ne)
-              | no q ↦ even-wide r c (omega arith)
+              | yes q ↦ simp (lt-ltb r h p, lt-ltb c w q, is-high H r (omega arith))
+              | no q ↦ low-wide r c (omega arith)
             ]
-        | no d ↦ even-past r c (omega arith)
+        | no d ↦ low-past r c (omega arith)
       ]
 
-  pub even-column : Column f 0 w h (evenRowsChanged f w h X) X
-  even-column = record { hit = even-hit; wide = even-wide; past = even-past; other = even-other }
+  pub low-column : Column f 0 (H .start) w h (lowRowsChanged f w H X) X
+  low-column = record { hit = low-hit; wide = low-wide; past = low-past; other = low-other }
 
 -- the neighbours are near
 pub after-near : (h r : ℕ) → after h r ≤ r + 1
@@ -117,15 +122,15 @@ before-next r = simp (lt-ltb 0 (r + 1) (omega arith)) (omega arith)
 
 -- ---- a turn of the loop: row i + 1 changed by f, then row i by g. M is the grid once all the rows like i + 1 are changed, and Y once
 -- those like i are too. Below row i all is done; from row i on nothing is.
-module _ (f g : ℤ → ℤ → ℤ → ℤ) (p q s w h : ℕ) (X M Y : Grid) (first : Column f p w h M X) (second : Column g q w h Y M)
-    (i : ℕ) (o : i % 2 ≡ q) (two : p + q ≡ 1) (more : 1 < h) (lt : i < h) (n : ℕ) (R : Rows n s w h) (x : ℕ → ℤ) (sw : RowSwept s Y X i x) where
+module _ (f g : ℤ → ℤ → ℤ → ℤ) (p q o s w h : ℕ) (X M Y : Grid) (first : Column f p o w h M X) (second : Column g q o w h Y M)
+    (i : ℕ) (par : (o + i) % 2 ≡ q) (two : p + q ≡ 1) (more : 1 < h) (lt : i < h) (n : ℕ) (R : Rows n s w h) (x : ℕ → ℤ) (sw : RowSwept s Y X i x) where
   abbrev x₁ : ℕ → ℤ
   x₁ = nextChanged f n s w h i x
 
   next-made : i + 1 < h → x₁ ≡ rowChanged f s w (i + 1) i (after h (i + 1)) x
   unfolding nextChanged
   next-made b =
-      let far = after-is h (i + 1) more b in
+      let far = after-is o h (i + 1) more b in
       let fit = rows-fit n s w (i + 1) i (after h (i + 1)) (R .wide) (row-room n s w h (i + 1) R b) (row-room n s w h i R lt)
       (row-room n s w h (after h (i + 1)) R (far .0)) in
       simp (lt-ltb (i + 1) h b) (changed f s w (i + 1) i (after h (i + 1)) x n fit)
@@ -167,7 +172,7 @@ module _ (f g : ℤ → ℤ → ℤ → ℤ) (p q s w h : ℕ) (X M Y : Grid) (f
   same-row : (c : ℕ) → c < s → x₁ (i * s + c) ≡ M i c
   same-row c cs = next-other i c cs (omega arith) ∙ sw .rest i c cs (omega arith) ∙ sym (first .other i c (omega arith))
 
-  near-row : (r c : ℕ) → c < s → r ≤ i + 1 → r % 2 ≢ q → x₁ (r * s + c) ≡ M r c
+  near-row : (r c : ℕ) → c < s → r ≤ i + 1 → (o + r) % 2 ≢ q → x₁ (r * s + c) ≡ M r c
   near-row r c cs b d =
       elim (decLt r (i + 1)) [
         | yes a ↦ next-other r c cs (omega arith) ∙ sw .done r c cs (omega arith) ∙ second .other r c d
@@ -179,8 +184,8 @@ module _ (f g : ℤ → ℤ → ℤ → ℤ) (p q s w h : ℕ) (X M Y : Grid) (f
   pair-turn x₂ e₂ =
       let a = before i in
       let b = after h i in
-      let near = before-is h i more lt in
-      let far = after-is h i more lt in
+      let near = before-is o h i more lt in
+      let far = after-is o h i more lt in
       let wide = R .wide in
       let fit = rows-fit n s w i a b wide (row-room n s w h i R lt) (row-room n s w h a R (near .0)) (row-room n s w h b R (far .0)) in
       let made : (j : ℕ) → x₂ j ≡ rowChanged g s w i a b x₁ j = λ j. ap (λ (y : ℕ → ℤ). y j) (e₂ ∙ changed g s w i a b x₁ n fit) in
@@ -192,10 +197,10 @@ module _ (f g : ℤ → ℤ → ℤ → ℤ) (p q s w h : ℕ) (X M Y : Grid) (f
             cc (
               made (i * s + c),
               row-at g s w i a b x₁ c l,
-              second .hit i c lt l o,
+              second .hit i c lt l par,
               same-row c cs,
-              near-row (before i) c cs (before-near i) (λ e. near .1 (e ∙ sym o)),
-              near-row (after h i) c cs (after-near h i) (λ e. far .1 (e ∙ sym o)),
+              near-row (before i) c cs (before-near i) (λ e. near .1 (e ∙ sym par)),
+              near-row (after h i) c cs (after-near h i) (λ e. far .1 (e ∙ sym par)),
             )
         | no l ↦ made (i * s + c) ∙ row-past g s w i a b x₁ (i * s + c) (omega arith) ∙ same-row c cs ∙ sym (second .wide i c (omega arith))
       ] in
@@ -213,11 +218,12 @@ module _ (f g : ℤ → ℤ → ℤ → ℤ) (p q s w h : ℕ) (X M Y : Grid) (f
         rest = λ r c cs b. other r c cs (omega arith) ∙ next-other r c cs (omega arith) ∙ sw .rest r c cs (omega arith);
       }
 
--- the first row of the way back, before the loop
-pub first-turn : (f : ℤ → ℤ → ℤ → ℤ) (g : ℤ → ℤ → ℤ → ℤ) (n s w h : ℕ) (X M Y : Grid) (x x′ : ℕ → ℤ) → Column f 0 w h M X → Column g 1 w h Y M → 1 < h →
+-- a first row that is low, before the loop of the way back
+pub first-turn : (f : ℤ → ℤ → ℤ → ℤ) (g : ℤ → ℤ → ℤ → ℤ) (o n s w h : ℕ) (X M Y : Grid) (x x′ : ℕ → ℤ) → o % 2 ≡ 0 → Column f 0 o w h M X →
+    Column g 1 o w h Y M → 1 < h →
     Rows n s w h → x′ ≡ rowsChanged f n s w 0 1 1 x → RowSwept s Y X 0 x → RowSwept s Y X 1 x′
 unfolding before after
-first-turn f g n s w h X M Y x x′ first second more R is sw =
+first-turn f g o n s w h X M Y x x′ even first second more R is sw =
     let wide = R .wide in
     let one = row-room n s w h 1 R more in
     let nil = row-room n s w h 0 R (omega arith) in

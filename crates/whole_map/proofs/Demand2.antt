@@ -1,10 +1,10 @@
--- Demand 2 for the whole map, over the definitions that the contracts of `forward` and `backward` cite.
+-- Demand 2 for the whole map that starts anywhere on the grid, over the definitions that the contracts of `forward` and `backward` cite.
 --     forward-gives        the plane that forward leaves is the map's: T.800's whole numbers, at every place
 --     backward-gives       backward answers 0 and leaves this map exactly where the plane is this map's
 --     backward-passes      it answers 0 exactly where some map has the plane, and only one map has it (`one-map`)
 --     backward-refuses     it answers 7 or 14 exactly where no map has the plane
 --     there-and-back       from the plane that forward leaves of a map, backward gives this map
--- Proved from the theorems of maps and planes (wavelet's MapTheorems). Assumes nothing.
+-- Proved from the theorems of maps and planes (grid's MapTheorems). Assumes nothing.
 use mathlib.Core.Path.{_≡_, refl, sym, ap, _∙_}
 use mathlib.Core.Bool.{Bool, true, false}
 use mathlib.Core.Logic.{_↔_}
@@ -14,6 +14,7 @@ use native.Mathlib.Omega.{arith}
 use lib.IntN.{ℤ}
 use Rattle.numbers.specs.Word.{wrap32, whole}
 use Rattle.lifting.specs.Halves.{fronted}
+use Rattle.lifting.specs.Grid.{Side}
 use Rattle.wavelet.specs.Limits.{maxLevels}
 use Rattle.wavelet.specs.Questions.{ask}
 use Rattle.wavelet.specs.Bands.{Grid}
@@ -48,49 +49,55 @@ refuses true true = (λ s n. elim s [ seven e ↦ omega arith | fourteen e ↦ o
 refuses true false = (λ s n. omega arith, λ n. fourteen refl)
 refuses false q = (λ s n. omega arith, λ n. seven refl)
 
--- a map of W × H at L levels, in areas of a, b and c numbers that pass questions 2 to 5
-module _ (W H L a b c : ℕ) (pass : sizeQuestions W H L a b c 0 ≡ 0) where
+-- a map of the columns W and the rows H at L levels, in areas of a, b and c numbers that pass questions 2 to 5
+module _ (W H : Side) (L a b c : ℕ) (pass : sizeQuestions (W .length) (H .length) L a b c 0 ≡ 0) where
+  abbrev w : ℕ
+  w = W .length
+
+  abbrev h : ℕ
+  h = H .length
+
   pub forward-passes : forwardQuestion W H L a b c ≡ 0
   unfolding forwardQuestion
   forward-passes = pass
 
   -- z is the plane's area before the call
-  pub forward-gives : (g : Grid) (z : ℕ → ℤ) → IsMap W H g → HasPlane L W H g (cells W (passed (forwardQuestion W H L a b c) (W * H) (planeOf whole L W H g) z))
+  pub forward-gives : (g : Grid) (z : ℕ → ℤ) → IsMap w h g → HasPlane L W H g (cells w (passed (forwardQuestion W H L a b c) (w * h) (planeOf whole L W H g) z))
   unfolding planeOf
   forward-gives g z m =
       record {
         map = m;
         coefficients = λ r c rh cw.
-            ap (λ (y : ℕ → ℤ). cells W y r c) (passed-yes (W * H) (planeOf whole L W H g) z _ forward-passes)
-            ∙ front-cells W H (planeCell whole L W H g) z r c rh cw;
+            ap (λ (u : ℕ → ℤ). cells w u r c) (passed-yes (w * h) (planeOf whole L W H g) z _ forward-passes)
+            ∙ front-cells w h (planeCell whole L W H g) z r c rh cw;
       }
 
-  -- x is the plane, h the heights' area before the call
-  module _ (x : Grid) (h : ℕ → ℤ) where
+  -- x is the plane, y the heights' area before the call
+  module _ (x : Grid) (y : ℕ → ℤ) where
     abbrev answer : ℕ
     answer = backwardQuestion W H L a b c x
 
     abbrev heightsAfter : ℕ → ℤ
-    heightsAfter = rebuilt answer (W * H) (flat W (mapBack wrap32 L W H x)) h
+    heightsAfter = rebuilt answer (w * h) (flat w (mapBack wrap32 L W H x)) y
 
     answer-is : answer ≡ ask (inRange L W H x) 7 (ask (rebuiltFits 0 L W H x) 14 0)
     unfolding backwardQuestion planeQuestions
-    answer-is = asked-on W H L a b c _ pass
+    answer-is = asked-on w h L a b c _ pass
 
     asked : answer ≡ 0 ↔ (inRange L W H x ≡ true) × (rebuiltFits 0 L W H x ≡ true)
     asked = let p = passes (inRange L W H x) (rebuiltFits 0 L W H x) in (λ e. p .0 (sym answer-is ∙ e), λ e. answer-is ∙ p .1 e)
 
     -- what stands in the heights' area after a call that passes
-    left : answer ≡ 0 → Same W H (cells W heightsAfter) (mapBack wrap32 L W H x)
+    left : answer ≡ 0 → Same W H (cells w heightsAfter) (mapBack wrap32 L W H x)
     left e r c rh cw =
-        ap (λ (q : ℕ). cells W (rebuilt q (W * H) (flat W (mapBack wrap32 L W H x)) h) r c) e
-        ∙ ap (λ (y : ℕ → ℤ). cells W y r c) (rebuilt-yes (W * H) (flat W (mapBack wrap32 L W H x)) h)
-        ∙ front-cells W H (mapBack wrap32 L W H x) h r c rh cw
+        ap (λ (q : ℕ). cells w (rebuilt q (w * h) (flat w (mapBack wrap32 L W H x)) y) r c) e
+        ∙ ap (λ (u : ℕ → ℤ). cells w u r c) (rebuilt-yes (w * h) (flat w (mapBack wrap32 L W H x)) y)
+        ∙ front-cells w h (mapBack wrap32 L W H x) y r c rh cw
 
-    pub backward-gives : (g : Grid) → HasPlane L W H g x ↔ (answer ≡ 0) × Same W H (cells W heightsAfter) g
+    pub backward-gives : (g : Grid) → HasPlane L W H g x ↔ (answer ≡ 0) × Same W H (cells w heightsAfter) g
     unfolding maxLevels
     backward-gives g =
-        let s = roomy-is W H L a b c pass .size in
+        let s = roomy-is w h L a b c pass .size in
         let m = back-exactly L W H g x (s .levels .0) (s .levels .1) in (
           λ has.
               let k = m .0 has in
@@ -104,13 +111,13 @@ module _ (W H L a b c : ℕ) (pass : sizeQuestions W H L a b c 0 ≡ 0) where
     pub backward-passes : answer ≡ 0 ↔ (g : Grid) × HasPlane L W H g x
     unfolding maxLevels
     backward-passes =
-        let s = roomy-is W H L a b c pass .size in
+        let s = roomy-is w h L a b c pass .size in
         let m = some-map L W H x (s .levels .0) (s .levels .1) in
         (λ e. m .0 (asked .0 e), λ k. asked .1 (m .1 k))
 
     pub one-map-only : (g g′ : Grid) → HasPlane L W H g x → HasPlane L W H g′ x → Same W H g g′
     unfolding maxLevels
-    one-map-only g g′ = let s = roomy-is W H L a b c pass .size in one-map L W H g g′ x (s .levels .1)
+    one-map-only g g′ = let s = roomy-is w h L a b c pass .size in one-map L W H g g′ x (s .levels .1)
 
     pub backward-refuses : SevenOrFourteen answer ↔ ((g : Grid) → HasPlane L W H g x → ⊥)
     backward-refuses =
@@ -119,9 +126,9 @@ module _ (W H L a b c : ℕ) (pass : sizeQuestions W H L a b c 0 ≡ 0) where
           λ n. rw answer-is (r .1 (λ e. let m = backward-passes .0 (answer-is ∙ e) in n (m .0) (m .1))),
         )
 
-  pub there-and-back : (g : Grid) (z h : ℕ → ℤ) → IsMap W H g →
-      let x = cells W (passed (forwardQuestion W H L a b c) (W * H) (planeOf whole L W H g) z) in
-      (answer x h ≡ 0) × Same W H (cells W (heightsAfter x h)) g
-  there-and-back g z h m =
-      let x = cells W (passed (forwardQuestion W H L a b c) (W * H) (planeOf whole L W H g) z) in
-      backward-gives x h g .0 (forward-gives g z m)
+  pub there-and-back : (g : Grid) (z y : ℕ → ℤ) → IsMap w h g →
+      let x = cells w (passed (forwardQuestion W H L a b c) (w * h) (planeOf whole L W H g) z) in
+      (answer x y ≡ 0) × Same W H (cells w (heightsAfter x y)) g
+  there-and-back g z y m =
+      let x = cells w (passed (forwardQuestion W H L a b c) (w * h) (planeOf whole L W H g) z) in
+      backward-gives x y g .0 (forward-gives g z m)

@@ -197,6 +197,38 @@ module _ (s low : ℕ) (Y X : Grid) where
           restHighs = λ r c cs b. other (low + r) c cs (omega arith) ∙ low-other (low + r) c cs (omega arith) ∙ sw .restHighs r c cs (omega arith);
         }
 
+-- the last high row, where there is one more
+pub fronts-high : (s low : ℕ) (Y X : Grid) (w k h : ℕ) (y x x₁ : ℕ → ℤ) → 0 < s → w ≤ s → k ≡ low → h ≡ low + k + 1 →
+    x₁ ≡ spliced ((low + k) * s) w y x → ((c : ℕ) → c < w → y c ≡ Y (low + k) c) → ((c : ℕ) → w ≤ c → Y (low + k) c ≡ X (low + k) c) →
+    ((r c : ℕ) → h ≤ r → Y r c ≡ X r c) → Fronts s low Y X k x → x₁ ≡ flat s Y
+fronts-high s low Y X w k h y x x₁ apart ws ek eh e₁ in₁ out₁ past sw =
+    let t = low + k in
+    let put₁ : (j : ℕ) → x₁ j ≡ spliced (t * s) w y x j = λ j. ap (λ (u : ℕ → ℤ). u j) e₁ in
+    let other : (r c : ℕ) → c < s → r ≢ t → x₁ (r * s + c) ≡ x (r * s + c) = λ r c cs d. put₁ (r * s + c) ∙ put-other s w t y x ws r c cs d in
+    let here : (c : ℕ) → c < s → x₁ (t * s + c) ≡ Y t c =
+    λ c cs.
+    put₁ (t * s + c)
+    ∙ elim (decLt c w) [
+      | yes l ↦ put-in s w t y x ws c l ∙ in₁ c l
+      | no l ↦ put-wide s w t y x ws c (omega arith) ∙ sw .restHighs k c cs (omega arith) ∙ sym (out₁ c (omega arith))
+    ] in
+    let swept : RowSwept s Y X h x₁ = record {
+      done = λ r c cs rh.
+          elim (ℕ-discrete r t) [
+            | yes e ↦ rw e (here c cs)
+            | no d ↦
+                other r c cs d
+                ∙ elim (decLt r low) [
+                  | yes l ↦ sw .lows r c cs (omega arith)
+                  | no l ↦ let e : low + (r - low) ≡ r = omega arith in rw e at (sw .highs (r - low) c cs (omega arith))
+                ]
+          ];
+      rest = λ r c cs hr.
+          let e : low + (r - low) ≡ r = omega arith in
+          other r c cs (omega arith) ∙ (rw e at (sw .restHighs (r - low) c cs (omega arith)));
+    } in
+    finish apart swept past
+
 -- ---- the loop over an area, l₀ being the area at its start and l the area before row k
 pub record Passed (s w h : ℕ) (Y : Grid) (l₀ : List ℤ) (k : ℕ) (l : List ℤ) : Type 0 where
   pub rows : Rows (length l₀) s w h

@@ -12,8 +12,9 @@ use borrow.Author.Tests.{leb-true}
 use borrow.Rule.Slice.PartMut.{midOf, putMid}
 use Rattle.numbers.proofs.Integers.{each, lin}
 use Rattle.numbers.proofs.Sweep.{both}
-use Rattle.lifting.specs.Line.{joined}
-use Rattle.lifting.specs.Halves.{halvesOf, fronted}
+use Rattle.lifting.specs.Halves.{fronted}
+use Rattle.lifting.specs.Grid.{Side, joined}
+use Rattle.lifting.specs.GridHalves.{halvesOf}
 use Rattle.areas.specs.Areas.{wholes, height16}
 use Rattle.areas.proofs.AreaLaws.{front-at, front-rest}
 use Rattle.wavelet.specs.Limits.{maxSample}
@@ -55,16 +56,17 @@ height-kept (pos n) h = kept-by n (pos n) (omega (
 )) refl
 height-kept (negsuc n) h = let z : _≡_ {A = ℕ} 0 1 = cc in absurd (omega arith)
 
-pub drawn-heights : (N : ℕ) (y z : ℕ → ℤ) → every N (λ i. valueFits 0 (y i)) ≡ true →
-    fronted N (λ c. height16 (joined (halvesOf N y) c)) z ≡ fronted N (joined (halvesOf N y)) z
-drawn-heights N y z fits =
+pub drawn-heights : (S : Side) (y z : ℕ → ℤ) → every (S .length) (λ i. valueFits 0 (y i)) ≡ true →
+    fronted (S .length) (λ c. height16 (joined S (halvesOf S y) c)) z ≡ fronted (S .length) (joined S (halvesOf S y)) z
+drawn-heights S y z fits =
+    let N = S .length in
     fun-ext λ j.
     elim (decLt j N) [
       | yes b ↦
-          let e = joined-at N y j in
+          let e = joined-at S y j in
           front-at N _ z j b
           ∙ ap height16 e
-          ∙ height-kept (y (placed N j)) (every-each N _ fits (placed N j) (placed-in N j b))
+          ∙ height-kept (y (placed S j)) (every-each N _ fits (placed S j) (placed-in S j b))
           ∙ sym (front-at N _ z j b ∙ e)
       | no d ↦ front-rest N _ z j (omega arith) ∙ sym (front-rest N _ z j (omega arith))
     ]

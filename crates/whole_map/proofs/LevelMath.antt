@@ -1,155 +1,192 @@
 -- One level in an area is one level of the definition: the passes over rows in halves, forward and back. Assumes nothing.
-use mathlib.Core.Path.{_≡_, sym, ap, _∙_, fun-ext}
-use Prim.Native.Nat.{ℕ, _+_, _-_, _*_, _/_, _%_, _<_, min}
-use native.Mathlib.Decide.{decLt, ℕ-discrete}
+use mathlib.Core.Path.{_≡_, refl, sym, ap, _∙_, fun-ext}
+use mathlib.Core.Bool.{true, false}
+use Prim.Native.Nat.{ℕ, _+_, _-_, _%_, _≤_, _<_}
+use native.Mathlib.Decide.{decLt}
 use native.Mathlib.Omega.{arith}
-use lib.IntN.{ℤ}
+use lib.IntN.{ℤ, pos, natAbs, _-ℤ_}
+use lib.Signed.{shrZ}
 use borrow.Author.Tests.{lt-ltb, le-ltb}
 use Rattle.numbers.specs.Word.{wrap32}
-use Rattle.lifting.specs.Line.{Half, lo, hi, count, unupdated, unpredicted, backEven, parted, joined, lineForward, lineHalvesBack, lineBack}
-use Rattle.lifting.specs.Halves.{halvesOf, liftedInPlace, unliftedInPlace}
-use Rattle.lifting.proofs.LineLaws.{counts, count-lo, count-hi, joined-even, joined-odd, even-is, odd-is, even-one}
-use Rattle.lifting.proofs.LineTheorems.{forward-reads, back-reads}
+use Rattle.numbers.proofs.Integers.{dif, dif-natAbs}
+use Rattle.lifting.specs.Line.{Half, lo, hi, mirror, unupdated, unpredicted}
+use Rattle.lifting.specs.Grid.{Side, place, count, parted, joined, evenAt, oddAt, lineForward, lineHalvesBack, lineBack, loneHigh}
+use Rattle.lifting.specs.Grid.{before as placeBefore, after as placeAfter}
+use Rattle.lifting.specs.GridHalves.{halvesOf, liftedInPlace, unliftedInPlace}
+use Rattle.lifting.proofs.GridLaws.{place-in, in-place, by-place, joined-place, joined-parted, front-in}
+use Rattle.lifting.proofs.GridReads.{forward-reads, back-reads}
+use Rattle.lifting.proofs.LoneLaws.{lone-high, lone-none}
 use Rattle.wavelet.specs.Bands.{Grid, Band, bandOf, columnsLifted, subband, rowsUnlifted, levelBack}
-use Rattle.wavelet.specs.Plane.{halfAt, placeIn}
-use Rattle.whole_map.specs.Rowwise.{cut}
-use Rattle.whole_map.specs.Passes.{evenRowsChanged, rowsMapped}
-use Rattle.whole_map.specs.LevelPasses.{levelGrid, cornerGrid, columnsLiftedInPlace, levelLifted, columnsUnliftedInPlace, levelUnlifted}
 use Rattle.wavelet.proofs.LevelTheory.{across-of, down-of}
+use Rattle.wavelet.specs.Plane.{halfAt, placeIn}
+use Rattle.whole_map.specs.Rowwise.{cut, halvedInPlace}
+use Rattle.whole_map.specs.Passes.{before, after, lowRowsChanged, rowsMapped}
+use Rattle.whole_map.specs.LevelPasses.{levelGrid, cornerGrid, columnsLiftedInPlace, levelLifted, columnsUnliftedInPlace, levelUnlifted}
 use Rattle.whole_map.proofs.GridSweep.{mapped-in}
-use Rattle.whole_map.proofs.CellLaws.{placed, placed-in, joined-at, grid-at, halves-at, halves-half, place-in, within-in, odd-in, odd-even, even-in}
-use Rattle.whole_map.proofs.CellLaws.{even-odd, cut-in, before-odd, before-even, after-odd, after-even}
+use Rattle.whole_map.proofs.RowwiseLaws.{halves-cut}
+use Rattle.whole_map.proofs.ColumnPass.{before-is, after-is}
+use Rattle.whole_map.proofs.CellLaws.{placed, placed-in, joined-at, grid-at, halves-at, halves-half, half-in, within-in, low-coordinate}
+use Rattle.whole_map.proofs.CellLaws.{high-coordinate, high-in, high-low, low-in, low-high, cut-in}
 
--- ---- columns: each is a line of h numbers, its even rows the low half and its odd rows the high half
-module _ (w h : ℕ) (X : Grid) (c : ℕ) (cw : c < w) where
+-- ---- the rows next to row r are the places next to place r of a column
+previous : (k : ℕ) → natAbs (pos k -ℤ pos 1) ≡ (k - 1) + (1 - k)
+unfolding dif
+previous k = dif-natAbs k 1
+
+module _ (h r : ℕ) (g : 1 < h) (rh : r < h) where
+  before-at : before r ≡ placeBefore h r
+  unfolding before placeBefore mirror
+  before-at =
+      let e = previous r in
+      elim (decLt 0 r) [ yes b ↦ simp (lt-ltb 0 r b) (omega arith) | no b ↦ simp (le-ltb 0 r (omega arith)) (omega arith) ]
+
+  after-at : after h r ≡ placeAfter h r
+  unfolding after placeAfter mirror
+  after-at =
+      elim (decLt (r + 1) h) [ yes b ↦ simp (lt-ltb (r + 1) h b) (omega arith) | no b ↦ simp (le-ltb (r + 1) h (omega arith)) (omega arith) ]
+
+-- an only row is high exactly where the level has a high row
+lone-is : (H : Side) → H .length ≤ 1 → 0 < count hi H → loneHigh H ≡ true
+lone-is H g b = elim (loneHigh H) as (λ t. loneHigh H ≡ t → loneHigh H ≡ true) [
+  | true ↦ λ e. e
+  | false ↦ λ e. absurd (omega (arith, lone-none H (omega arith) e))
+] refl
+
+lone-not : (H : Side) → 0 < count lo H → loneHigh H ≡ false
+lone-not H b = elim (loneHigh H) as (λ t. loneHigh H ≡ t → loneHigh H ≡ false) [
+  | true ↦ λ e. let t = lone-high H e in absurd (omega arith)
+  | false ↦ λ e. e
+] refl
+
+-- ---- columns: each is a line, the rows at even coordinates its low half and the others its high half
+module _ (w : ℕ) (H : Side) (X : Grid) (c : ℕ) (cw : c < w) where
   abbrev column : Grid → ℕ → ℤ
   column Z i = Z i c
 
-  unupdated-row : 1 < h → (n : ℕ) → n < count lo h →
-      evenRowsChanged (unupdated wrap32) w h X (2 * n) c ≡ backEven wrap32 h (parted (column X) lo) (parted (column X) hi) n
-  unfolding parted
-  unupdated-row g n b =
-      let both = counts h in
-      let l = count-hi h in
-      cc (
-        even-in (unupdated wrap32) w h X c cw (2 * n) (omega arith) (omega arith),
-        before-even n,
-        after-even h n g b,
-        even-is wrap32 h g (parted (column X) lo) (parted (column X) hi) n b,
+  abbrev lows : Grid
+  lows = lowRowsChanged (unupdated wrap32) w H X
+
+  low-back : 1 < H .length → (r : ℕ) → r < H .length → (H .start + r) % 2 ≡ 0 → lows r c ≡ evenAt wrap32 (H .length) (column X) r
+  unfolding evenAt
+  low-back g r rh e =
+      low-in (unupdated wrap32) w H X c cw r rh e ∙ rw (before-at (H .length) r g rh, after-at (H .length) r g rh)
+
+  high-back : 1 < H .length → (r : ℕ) → r < H .length → (H .start + r) % 2 ≡ 1 →
+      unpredicted wrap32 (lows r c) (lows (before r) c) (lows (after (H .length) r) c) ≡ oddAt wrap32 (H .length) (column X) r
+  unfolding oddAt
+  high-back g r rh e =
+      let h = H .length in
+      let near = before-is (H .start) h r g rh in
+      let far = after-is (H .start) h r g rh in
+      rw (
+        low-high (unupdated wrap32) w H X c cw r rh e,
+        low-back g (before r) (near .0) (omega (arith, near .1)),
+        low-back g (after h r) (far .0) (omega (arith, far .1)),
+        before-at h r g rh,
+        after-at h r g rh,
       )
 
-  columns-halves-back : (d : Half) (n : ℕ) → n < count d h →
-      parted (column (columnsUnliftedInPlace w h X)) d n ≡ lineHalvesBack wrap32 h (parted (column X)) d n
-  unfolding parted columnsUnliftedInPlace lineHalvesBack
+  halved : (q : ℕ) → q < H .length → rowsMapped (halvedInPlace w) w (H .length) X q c ≡ shrZ (X q c) 2
+  unfolding halvedInPlace
+  halved q qb =
+      mapped-in (halvedInPlace w) w (H .length) X q c qb cw
+      ∙ front-in w (λ i. shrZ (cut w (X q) i) 2) (cut w (X q)) c cw
+      ∙ ap (λ (v : ℤ). shrZ v 2) (cut-in w (X q) c cw)
+
+  columns-halves-back : (d : Half) (n : ℕ) → n < count d H →
+      columnsUnliftedInPlace w H X (place H d n) c ≡ lineHalvesBack wrap32 H (parted H (column X)) d n
+  unfolding columnsUnliftedInPlace lineHalvesBack parted
   columns-halves-back lo n b =
-      let both = counts h in
-      let l = count-hi h in
-      let Z = evenRowsChanged (unupdated wrap32) w h X in
-      elim (decLt 1 h) [
-        | yes g ↦ simp (lt-ltb 1 h g) (odd-even (unpredicted wrap32) w h Z c cw (2 * n) (omega arith) (omega arith) ∙ unupdated-row g n b)
-        | no g ↦ simp (le-ltb 1 h (omega arith)) (sym (even-one wrap32 h (omega arith) (parted (column X) lo) (parted (column X) hi) n))
+      let q = place H lo n in
+      let qb = place-in H lo n b in
+      elim (decLt 1 (H .length)) [
+        | yes g ↦
+            simp (lt-ltb 1 (H .length) g)
+            (high-low (unpredicted wrap32) w H lows c cw q qb (low-coordinate H n)
+            ∙ low-back g q qb (low-coordinate H n)
+            ∙ sym (ap (λ (y : ℕ → ℤ). evenAt wrap32 (H .length) y q) (fun-ext (joined-parted H (column X)))))
+        | no g ↦ simp (le-ltb 1 (H .length) (omega arith), lone-not H (omega arith))
       ]
   columns-halves-back hi n b =
-      let both = counts h in
-      let l = count-lo h in
-      let Z = evenRowsChanged (unupdated wrap32) w h X in
-      let g : 1 < h = omega arith in
-      let m = min (n + 1) (count lo h - 1) in
-      simp (lt-ltb 1 h g)
-      (cc (
-        odd-in (unpredicted wrap32) w h Z c cw (2 * n + 1) (omega arith) (omega arith),
-        before-odd n,
-        after-odd h n b,
-        even-odd (unupdated wrap32) w h X c cw (2 * n + 1) (omega arith) (omega arith),
-        unupdated-row g n (omega arith),
-        unupdated-row g m (omega arith),
-        odd-is wrap32 h g (parted (column X) lo) (parted (column X) hi) n b,
-      ))
-
-  pub columns-back : (r : ℕ) → r < h → columnsUnliftedInPlace w h X r c ≡ lineBack wrap32 h (parted (column X)) r
-  unfolding parted lineBack
-  columns-back r b =
-      let l = count-lo h in
-      let both = counts h in
-      let p = lineHalvesBack wrap32 h (parted (column X)) in
-      elim (ℕ-discrete (r % 2) 0) [
-        | yes e ↦
-            let k : r ≡ 2 * (r / 2) = omega arith in
-            ap (column (columnsUnliftedInPlace w h X)) k ∙ columns-halves-back lo (r / 2) (omega arith) ∙ sym (ap (joined p) k ∙ joined-even p (r / 2))
-        | no d ↦
-            let k : r ≡ 2 * (r / 2) + 1 = omega arith in
-            ap (column (columnsUnliftedInPlace w h X)) k ∙ columns-halves-back hi (r / 2) (omega arith) ∙ sym (ap (joined p) k ∙ joined-odd p (r / 2))
+      let q = place H hi n in
+      let qb = place-in H hi n b in
+      elim (decLt 1 (H .length)) [
+        | yes g ↦
+            simp (lt-ltb 1 (H .length) g)
+            (high-in (unpredicted wrap32) w H lows c cw q qb (high-coordinate H n)
+            ∙ high-back g q qb (high-coordinate H n)
+            ∙ sym (ap (λ (y : ℕ → ℤ). oddAt wrap32 (H .length) y q) (fun-ext (joined-parted H (column X)))))
+        | no g ↦ simp (le-ltb 1 (H .length) (omega arith), lone-is H (omega arith) (omega arith)) (halved q qb)
       ]
 
--- ---- rows: each is a line of w numbers in halves
-module _ (w h : ℕ) (X : Grid) (r : ℕ) (rh : r < h) where
-  pub rows-forward : (C : ℕ) → C < w → rowsMapped (liftedInPlace w) w h X r C ≡ lineForward wrap32 w (levelGrid w X r) (halfAt w C) (placeIn w C)
+  pub columns-back : (r : ℕ) → r < H .length → columnsUnliftedInPlace w H X r c ≡ lineBack wrap32 H (parted H (column X)) r
+  unfolding lineBack
+  columns-back =
+      let p = lineHalvesBack wrap32 H (parted H (column X)) in
+      by-place H (λ r. r < H .length → columnsUnliftedInPlace w H X r c ≡ joined H p r)
+      (λ d n b. columns-halves-back d n (in-place H d n b) ∙ sym (joined-place H p d n))
+
+-- ---- rows: each is a line in halves
+module _ (W : Side) (h : ℕ) (X : Grid) (r : ℕ) (rh : r < h) where
+  pub rows-forward : (C : ℕ) → C < W .length →
+      rowsMapped (liftedInPlace W) (W .length) h X r C ≡ lineForward wrap32 W (levelGrid W X r) (halfAt W C) (placeIn W C)
   unfolding liftedInPlace
   rows-forward C cw =
-      mapped-in (liftedInPlace w) w h X r C rh cw
-      ∙ halves-half w (lineForward wrap32 w (joined (halvesOf w (cut w (X r))))) (cut w (X r)) C cw
-      ∙ forward-reads wrap32 w _ _ (halfAt w C) (placeIn w C) (place-in w C cw)
-      (λ i b _. joined-at w (cut w (X r)) i ∙ cut-in w (X r) (placed w i) (placed-in w i b) ∙ sym (grid-at w X r i))
+      let row = cut (W .length) (X r) in
+      mapped-in (liftedInPlace W) (W .length) h X r C rh cw
+      ∙ halves-half W (lineForward wrap32 W (joined W (halvesOf W row))) row C cw
+      ∙ forward-reads wrap32 W _ _ (halfAt W C) (placeIn W C) (half-in W C cw)
+      (λ i b _. joined-at W row i ∙ cut-in (W .length) (X r) (placed W i) (placed-in W i b) ∙ sym (grid-at W X r i))
 
-  pub rows-back : (c : ℕ) → c < w → rowsMapped (unliftedInPlace w) w h X r (placed w c) ≡ lineBack wrap32 w (halvesOf w (cut w (X r))) c
+  pub rows-back : (c : ℕ) → c < W .length →
+      rowsMapped (unliftedInPlace W) (W .length) h X r (placed W c) ≡ lineBack wrap32 W (halvesOf W (cut (W .length) (X r))) c
   unfolding unliftedInPlace lineBack
   rows-back c cw =
-      mapped-in (unliftedInPlace w) w h X r (placed w c) rh (placed-in w c cw)
-      ∙ halves-at w (lineHalvesBack wrap32 w (halvesOf w (cut w (X r)))) (cut w (X r)) c cw
+      let row = cut (W .length) (X r) in
+      mapped-in (unliftedInPlace W) (W .length) h X r (placed W c) rh (placed-in W c cw)
+      ∙ halves-at W (lineHalvesBack wrap32 W (halvesOf W row)) row c cw
 
 -- ---- one level forward, where it stands
-module _ (w h : ℕ) (X : Grid) where
-  columns-forward : (R c : ℕ) → R < h → c < w → columnsLiftedInPlace w h X R c ≡ lineForward wrap32 h (joined (halvesOf h (λ i. X i c))) (halfAt h R)
-      (placeIn h R)
+module _ (W H : Side) (X : Grid) where
+  columns-forward : (R c : ℕ) → R < H .length → c < W .length →
+      columnsLiftedInPlace (W .length) H X R c ≡ lineForward wrap32 H (joined H (halvesOf H (λ i. X i c))) (halfAt H R) (placeIn H R)
   unfolding columnsLiftedInPlace liftedInPlace
-  columns-forward R c rh cw = simp (within-in w h R c rh cw) (halves-half h (lineForward wrap32 h (joined (halvesOf h (λ i. X i c)))) (λ i. X i c) R rh)
+  columns-forward R c rh cw =
+      simp (within-in (W .length) (H .length) R c rh cw) (halves-half H (lineForward wrap32 H (joined H (halvesOf H (λ i. X i c)))) (λ i. X i c) R rh)
 
-  pub level-forward : (R C : ℕ) → R < h → C < w → levelLifted w h X R C ≡ subband wrap32 w h (cornerGrid w h X) (bandOf (halfAt w C) (halfAt h R)) (placeIn h R)
-      (placeIn w C)
+  pub level-forward : (R C : ℕ) → R < H .length → C < W .length →
+      levelLifted W H X R C ≡ subband wrap32 W H (cornerGrid W H X) (bandOf (halfAt W C) (halfAt H R)) (placeIn H R) (placeIn W C)
   unfolding levelLifted subband columnsLifted cornerGrid
   level-forward R C rh cw =
-      let Z = columnsLiftedInPlace w h X in
-      let d = halfAt h R in
-      let i = placeIn h R in
-      rows-forward w h Z R rh C cw
-      ∙ forward-reads wrap32 w _ _ (halfAt w C) (placeIn w C) (place-in w C cw)
+      let Z = columnsLiftedInPlace (W .length) H X in
+      let d = halfAt H R in
+      let i = placeIn H R in
+      rows-forward W (H .length) Z R rh C cw
+      ∙ forward-reads wrap32 W _ _ (halfAt W C) (placeIn W C) (half-in W C cw)
       (λ c b _.
-      grid-at w Z R c
-      ∙ columns-forward R (placed w c) rh (placed-in w c b)
-      ∙ ap (λ (y : ℕ → ℤ). lineForward wrap32 h (joined (halvesOf h y)) d i) (fun-ext λ j. sym (grid-at w X j c)))
-      ∙ rw (across-of (halfAt w C) (halfAt h R), down-of (halfAt w C) (halfAt h R))
+      grid-at W Z R c
+      ∙ columns-forward R (placed W c) rh (placed-in W c b)
+      ∙ ap (λ (y : ℕ → ℤ). lineForward wrap32 H (joined H (halvesOf H y)) d i) (fun-ext λ j. sym (grid-at W X j c)))
+      ∙ rw (across-of (halfAt W C) (halfAt H R), down-of (halfAt W C) (halfAt H R))
 
--- ---- one level back, where the area has the bands p: the low ones in its even rows, the high ones in its odd rows
-pub record BandsIn (w h : ℕ) (p : Band → Grid) (X : Grid) : Type 0 where
-  pub evens : (a : Half) (i n : ℕ) → i < count lo h → n < count a w → halvesOf w (X (2 * i)) a n ≡ p (bandOf a lo) i n
-  pub odds : (a : Half) (i n : ℕ) → i < count hi h → n < count a w → halvesOf w (X (2 * i + 1)) a n ≡ p (bandOf a hi) i n
+-- ---- one level back, where the area has the bands p: the low ones in its rows at even coordinates, the high ones in the others
+pub record BandsIn (W H : Side) (p : Band → Grid) (X : Grid) : Type 0 where
+  pub bands : (d a : Half) (i n : ℕ) → i < count d H → n < count a W → halvesOf W (X (place H d i)) a n ≡ p (bandOf a d) i n
 
-halves-cut : (w : ℕ) (y : ℕ → ℤ) (a : Half) (n : ℕ) → n < count a w → halvesOf w (cut w y) a n ≡ halvesOf w y a n
-unfolding halvesOf
-halves-cut w y lo n b = let both = counts w in cut-in w y n (omega arith)
-halves-cut w y hi n b = let both = counts w in cut-in w y (count lo w + n) (omega arith)
-
-module _ (w h : ℕ) (p : Band → Grid) (X : Grid) (b : BandsIn w h p X) where
+module _ (W H : Side) (p : Band → Grid) (X : Grid) (b : BandsIn W H p X) where
   -- a row of the area, lifted back
-  row-back : (d : Half) (r i : ℕ) → r < h → ((a : Half) (n : ℕ) → n < count a w → halvesOf w (X r) a n ≡ p (bandOf a d) i n) → (c : ℕ) → c < w →
-      rowsMapped (unliftedInPlace w) w h X r (placed w c) ≡ lineBack wrap32 w (λ a. p (bandOf a d) i) c
-  row-back d r i rh e c cw =
-      rows-back w h X r rh c cw ∙ back-reads wrap32 w _ _ (λ a n nb. halves-cut w (X r) a n nb ∙ e a n nb) c cw
+  pub row-back : (d : Half) (i c : ℕ) → i < count d H → c < W .length →
+      rowsMapped (unliftedInPlace W) (W .length) (H .length) X (place H d i) (placed W c) ≡ rowsUnlifted wrap32 W p d i c
+  unfolding rowsUnlifted
+  row-back d i c ib cw =
+      let r = place H d i in
+      rows-back W (H .length) X r (place-in H d i ib) c cw ∙
+      back-reads wrap32 W _ _ (λ a n nb. halves-cut W (X r) a n nb ∙ b .bands d a i n ib nb) c cw
 
-  column-bands : (c : ℕ) → c < w → (d : Half) (i : ℕ) → i < count d h →
-      parted (λ j. rowsMapped (unliftedInPlace w) w h X j (placed w c)) d i ≡ lineBack wrap32 w (λ a. p (bandOf a d) i) c
-  unfolding parted
-  column-bands c cw lo i ib =
-      let l = count-lo h in
-      row-back lo (2 * i) i (omega arith) (λ a n nb. b .evens a i n ib nb) c cw
-  column-bands c cw hi i ib =
-      let l = count-hi h in
-      row-back hi (2 * i + 1) i (omega arith) (λ a n nb. b .odds a i n ib nb) c cw
-
-  pub level-back : (r c : ℕ) → r < h → c < w → levelGrid w (levelUnlifted w h X) r c ≡ levelBack wrap32 w h p r c
-  unfolding levelUnlifted levelBack rowsUnlifted
+  pub level-back : (r c : ℕ) → r < H .length → c < W .length → levelGrid W (levelUnlifted W H X) r c ≡ levelBack wrap32 W H p r c
+  unfolding levelUnlifted levelBack parted
   level-back r c rh cw =
-      let Z = rowsMapped (unliftedInPlace w) w h X in
-      grid-at w (columnsUnliftedInPlace w h Z) r c
-      ∙ columns-back w h Z (placed w c) (placed-in w c cw) r rh
-      ∙ back-reads wrap32 h _ _ (column-bands c cw) r rh
+      let Z = rowsMapped (unliftedInPlace W) (W .length) (H .length) X in
+      grid-at W (columnsUnliftedInPlace (W .length) H Z) r c
+      ∙ columns-back (W .length) H Z (placed W c) (placed-in W c cw) r rh
+      ∙ back-reads wrap32 H _ _ (λ d i ib. row-back d i c ib cw) r rh

@@ -1,28 +1,34 @@
--- One level and the levels left: what a call of the levels comes to, from what its own calls give. Assumes nothing.
+-- One level back and the levels left: what a call of the levels comes to, from what its own calls give. Assumes nothing.
 use mathlib.Core.Path.{_≡_, refl, sym, ap, _∙_}
 use mathlib.Core.Bool.{Bool, true, false}
-use Prim.Native.Nat.{ℕ, zero, suc, _+_, _-_, _*_, _^_, _≤_, _<_, min}
-use native.Mathlib.Nat.{pow-suc, mul-le-mul-left, mul-le-mul-right, one-le-pow}
+use Prim.Native.Nat.{ℕ, zero, suc, _+_, _-_, _*_, _%_, _^_, _≤_, _<_, min}
+use native.Mathlib.Nat.{pow-suc, mul-le-mul-left, one-le-pow}
+use native.Mathlib.Decide.{decLt}
 use native.Mathlib.Omega.{arith}
 use lib.IntN.{ℤ, pos, negℤ, _-ℤ_}
 use mir.Syntax.{w32}
 use mir.Val.{SFits}
-use Rattle.numbers.specs.Signal.{pick}
+use Rattle.numbers.specs.Signal.{pick, windowed, spliced}
 use Rattle.numbers.specs.Word.{wrap32}
 use Rattle.numbers.proofs.Integers.{each, lin}
-use Rattle.lifting.specs.Line.{lo, count}
-use Rattle.lifting.proofs.LineLaws.{count-lo}
+use Rattle.numbers.proofs.Parts.{window-in, splice-in, splice-past}
+use Rattle.lifting.specs.Line.{lo}
+use Rattle.lifting.specs.Grid.{Side, side, place, count}
+use Rattle.lifting.proofs.GridLaws.{counts}
 use Rattle.wavelet.specs.Limits.{maxLevels, range}
-use Rattle.wavelet.specs.Bands.{Grid}
-use Rattle.wavelet.specs.Plane.{cells, flat, mapBack}
+use Rattle.wavelet.specs.Bands.{Grid, levelHas}
+use Rattle.wavelet.specs.Plane.{cells, flat, planeBands, mapBack}
 use Rattle.wavelet.specs.Maps.{everyCell, valueFits, rebuiltFits}
+use Rattle.wavelet.proofs.GridLaws.{flat-at}
+use Rattle.wavelet.specs.Levels.{next}
 use Rattle.whole_map.specs.Rowwise.{wovenInPlace}
-use Rattle.whole_map.specs.Passes.{Rows, KeptFrom, rowsMapped, rowsFetched, gridHalved, gridCopied}
-use Rattle.whole_map.specs.LevelPasses.{cornerGrid, levelLifted, levelUnlifted, planeWritten, Rebuilt, rowsBetween, regionInRange, Doubling, LevelsBack}
-use Rattle.whole_map.proofs.CellLaws.{copied-out, mapped-out, fetched-out, unlifted-out, kept-flat, kept-then, next-end, next-rows, fewer-rows}
-use Rattle.whole_map.proofs.CellLaws.{fewer-columns}
-use Rattle.whole_map.proofs.LevelsMath.{forward-last, forward-more, back-last, back-more}
-use Rattle.whole_map.proofs.TestLaws.{false-true, rebuilt-test, fits-more, fits-none, region-more, region-last}
+use Rattle.whole_map.specs.Passes.{Rows, KeptFrom, rowsMapped}
+use Rattle.whole_map.specs.LevelPasses.{levelGrid, Rebuilt, goesOn, rowsBetween, regionInRange, Doubling, LevelMade, LevelsBack}
+use Rattle.whole_map.proofs.CellLaws.{mapped-out, kept-flat, kept-then, next-end, next-rows, fewer-rows, fewer-columns}
+use Rattle.whole_map.proofs.GridSweep.{row-room}
+use Rattle.whole_map.proofs.LevelsMath.{bandsBack, bands-fetched, level-rebuilt, woven-in}
+use Rattle.whole_map.proofs.TestLaws.{false-true, both-both, goes-no, rebuilt-test, fits-more, fits-none, rows-even, columns-even}
+use Rattle.whole_map.proofs.TestLaws.{region-more, region-last}
 
 -- ---- sizes
 pub stride-small : (L s w : ℕ) → Doubling L s w → 2 * s < 2 ^ 32
@@ -33,147 +39,206 @@ stride-small (suc L) s w d =
     let a : s * 2 ≤ s * (2 ^ L * 2) = mul-le-mul-left s (omega (arith, one-le-pow L 2 (omega arith))) in
     omega (arith, rw p at e)
 
-pub doubled : (L s w w′ : ℕ) → Doubling L s w → 2 ≤ L → w′ ≡ count lo w → Doubling (L - 1) (2 * s) w′
-doubled zero s w w′ d b e = absurd (omega arith)
-doubled (suc L) s w w′ d b e =
+pub doubled : (L s : ℕ) (W : Side) (w′ : ℕ) → Doubling L s (W .length) → 2 ≤ L → w′ ≡ count lo W → Doubling (L - 1) (2 * s) w′
+doubled zero s W w′ d b e = absurd (omega arith)
+doubled (suc L) s W w′ d b e =
     let k : suc L - 1 ≡ L = omega arith in
     let f = d .small in
     let p : 2 ^ suc L ≡ 2 ^ L * 2 = pow-suc 2 L in
     let q : 2 * s * 2 ^ L ≡ s * (2 ^ L * 2) = omega arith in
-    let l = count-lo w in
+    let l = counts W in
     rw k (record { some = omega arith; small = omega (arith, rw p at f); narrow = omega (arith, d .narrow) })
 
--- rows of the next level, in the area and in the plane, whose lengths the calls keep
-module _ (n n′ s w h w′ h′ : ℕ) (size : n′ ≡ n) (ew : w′ ≡ count lo w) (eh : h′ ≡ count lo h) (R : Rows n s w h) where
-  pub rows-next : Rows n′ (2 * s) w′ h′
-  rows-next = rw (size, ew, eh) (next-rows n s w h R)
+pub lows-few : (S : Side) → count lo S + count lo S ≤ S .length + 1
+unfolding count
+lows-few S = omega arith
 
-  pub rows-corner : Rows n′ s w′ h′
-  rows-corner =
-      let lw = count-lo w in
-      let lh = count-lo h in
-      rw (size, ew, eh) (fewer-columns n s w (count lo h) (count lo w) (fewer-rows n s w h (count lo h) R (omega (arith, R .some)) (omega arith)) (omega arith))
+-- the side of the next level, from its start and its length
+pub next-side : (S : Side) (u w : ℕ) → ((n : ℕ) → u ≡ next (side (S .start) n) .start) → w ≡ count lo S → side u w ≡ next S
+unfolding next
+next-side S u w e f = let g = e 0 in rw (g, f)
 
--- rows of its own width, and those of the low-low part: no more of them, and no longer
-pub own-end : (w h : ℕ) → 0 < h → (count lo h - 1) * count lo w + count lo w ≤ (h - 1) * w + w
-own-end w h some =
-    let l = count-lo h in
-    let k = count-lo w in
-    let a : (count lo h - 1) * count lo w ≤ (h - 1) * count lo w = mul-le-mul-right (count lo w) (omega arith) in
-    let b : (h - 1) * count lo w ≤ (h - 1) * w = mul-le-mul-left (h - 1) (omega arith) in
-    omega arith
+abbrev length-of : Side → ℕ
+length-of S = S .length
 
-pub own-rows : (n n′ w h w′ h′ : ℕ) → n′ ≡ n → w′ ≡ count lo w → h′ ≡ count lo h → Rows n w w h → Rows n′ w′ w′ h′
-own-rows n n′ w h w′ h′ size ew eh R =
-    let l = count-lo h in
-    let k = count-lo w in
-    rw (size, ew, eh) (record {
-      apart = omega (arith, R .apart);
-      wide = omega arith;
-      some = omega (arith, R .some);
-      room =
-          omega (arith, own-end w h (R .some), R .room);
-    })
+-- rows of the next level, in the part of the area that begins at the first of them, and in the plane, whose lengths the calls keep
+module _ (n n′ s : ℕ) (W H : Side) (w′ h′ : ℕ) (ew : w′ ≡ count lo W) (eh : h′ ≡ count lo H) (some : 0 < h′) (R : Rows n s (W .length) (H .length)) where
+  pub rows-next : n′ ≡ n - H .start % 2 * s → Rows n′ (2 * s) w′ h′
+  rows-next size = rw (size, ew, eh) (next-rows s W H (omega arith) n R)
 
--- ---- forward: z₁ is the plane with the level lifted
-module _ (A w h : ℕ) (z₀ z₁ : ℕ → ℤ) (wa : w ≤ A) (some : 0 < A) (f₁ : z₁ ≡ flat A (levelLifted w h (cells A z₀))) where
-  pub forward-end : (L : ℕ) → 0 < L → L < 2 → z₁ ≡ flat A (planeWritten L w h (cornerGrid w h (cells A z₀)) (cells A z₀))
-  forward-end L a b = let k : L ≡ 1 = omega arith in rw k (forward-last A w h z₀ z₁ wa some f₁)
+  pub rows-corner : n′ ≡ n → Rows n′ s w′ h′
+  rows-corner size =
+      let lw = counts W in
+      let lh = counts H in
+      rw (size, ew, eh) (fewer-columns n s (W .length) (count lo H) (count lo W) (fewer-rows n s (W .length) (H .length) (count lo H) R (omega arith)
+      (omega arith)) (omega arith))
 
-  -- x₁ is the work area with the low-low part, z₂ the plane with it in halves, z₃ and x₃ what the levels left leave
-  pub forward-step : (n L w′ h′ : ℕ) (x₀ x₁ x₃ z₂ z₃ : ℕ → ℤ) → Rows n w w h → 2 ≤ L → w′ ≡ count lo w → h′ ≡ count lo h →
-      x₁ ≡ flat w′ (gridCopied w′ h′ (cells A z₁) (cells w′ x₀)) → z₂ ≡ flat A (gridHalved w′ h′ (cells w′ x₁) (cells A z₁)) →
-      z₃ ≡ flat A (planeWritten (L - 1) w′ h′ (cornerGrid w′ h′ (cells A z₂)) (cells A z₂)) → KeptFrom ((h′ - 1) * w′ + w′) x₁ x₃ →
-      (z₃ ≡ flat A (planeWritten L w h (cornerGrid w h (cells A z₀)) (cells A z₀))) × KeptFrom ((h - 1) * w + w) x₀ x₃
-  forward-step n L w′ h′ x₀ x₁ x₃ z₂ z₃ R b ew eh e₁ f₂ f₃ k₃ =
-      let end = own-end w h (R .some) in
-      let R′ = own-rows n n w h w′ h′ refl ew eh R in
-      let k = kept-flat n w′ w′ h′ x₀ x₁ _ R′ e₁ (copied-out w′ h′ (cells A z₁) (cells w′ x₀)) in
-      let e : x₁ ≡ flat (count lo w) (gridCopied (count lo w) (count lo h) (cells A z₁) (cells (count lo w) x₀)) = rw (ew, eh) at e₁ in
-      let f : z₂ ≡ flat A (gridHalved (count lo w) (count lo h) (cells (count lo w) x₁) (cells A z₁)) = rw (ew, eh) at f₂ in
-      let f′ : z₃ ≡ flat A (planeWritten (L - 1) (count lo w) (count lo h) (cornerGrid (count lo w) (count lo h) (cells A z₂)) (cells A z₂)) =
-      rw (ew, eh) at f₃ in
-      let all : KeptFrom ((count lo h - 1) * count lo w + count lo w) x₀ x₃ = rw (ew, eh) at (kept-then k k₃ (omega arith)) in (
-        forward-more A w h z₀ z₁ wa some f₁ x₀ x₁ z₂ e f L z₃ b f′,
-        record { kept = λ j g. all .kept j (omega arith) },
-      )
+-- that part lies in the area
+pub part-room : (n s : ℕ) (W H : Side) → 0 < count lo H → Rows n s (W .length) (H .length) → H .start % 2 * s ≤ n
+part-room n s W H some R = omega (arith, next-end s W H some, R .room)
 
--- ---- back: y₀ is the work area before the level's rows are fetched
-module _ (n s A w h from : ℕ) (z y₀ y : ℕ → ℤ) (R : Rows n s w h)
-    (b : y ≡ flat s (levelUnlifted w h (cells s (flat s (rowsFetched from w h (cells A z) (cells s y₀)))))) where
-  abbrev fetchedRows : ℕ → ℤ
-  fetchedRows = flat s (rowsFetched from w h (cells A z) (cells s y₀))
+-- ---- back: one level, its low-low part being rebuilt before column `from`, and in the plane from there on; y₀ is the work area before its rows are fetched
+back-none : (L : ℕ) (W H : Side) (x : Grid) (r c : ℕ) → L ≡ 0 → x r c ≡ mapBack wrap32 L W H x r c
+unfolding mapBack
+back-none L W H x r c z = rw z refl
 
-  back-kept : KeptFrom ((h - 1) * s + w) y₀ y
-  back-kept =
-      kept-then
-      (kept-flat n s w h y₀ fetchedRows _ R refl (λ r c o. fetched-out w h (cells s y₀) r c o from (cells A z)))
-      (kept-flat n s w h fetchedRows y _ R b (unlifted-out w h (cells s fetchedRows)))
-      (omega arith)
+module _ (s A L from : ℕ) (W H : Side) (ok : Bool) (z y₀ y : ℕ → ℤ) (ws : W .length ≤ s) (some : 0 < L) (few : from ≤ count lo W)
+    (left : (i n : ℕ) → i < count lo H → n < from → cells s y₀ (place H lo i) n ≡ mapBack wrap32 (L - 1) (next W) (next H) (cells A z) i n)
+    (new : (i n : ℕ) → i < count lo H → n < count lo W → from ≤ n → cells A z i n ≡ mapBack wrap32 (L - 1) (next W) (next H) (cells A z) i n)
+    (m : LevelMade ok from s W H (cells A z) y₀ y) where
+  level-answer : ok ≡ levelHas W H (bandsBack (L - 1) W H (cells A z))
+  unfolding levelHas
+  level-answer =
+      m .answer
+      ∙ sym (cc (
+        rows-even W H (mapBack wrap32 (L - 1) (next W) (next H) (cells A z)) (cells A z),
+        columns-even W H (bandsBack (L - 1) W H (cells A z)) _ (bands-fetched from W H (cells A z) (cells s y₀) few (L - 1) left new),
+      ))
 
-pub back-end : (n s A w h k L : ℕ) (z y₀ y : ℕ → ℤ) → Rows n s w h → 0 < L → L < 2 →
-    y ≡ flat s (levelUnlifted w h (cells s (flat s (rowsFetched 0 w h (cells A z) (cells s y₀))))) → LevelsBack true k L s A w h z y₀ y
-back-end n s A w h k L z y₀ y R a c b =
-    let e : L ≡ 1 = omega arith in
-    let B : Rebuilt 1 w h (cells A z) (cells s y) = back-last s w h (cells A z) y₀ _ y (R .wide) refl b in
-    rw e (record {
-      answer = sym (fits-none (k + 1) (count lo w) (count lo h) (cells A z));
-      grid = λ _. B;
-      kept = back-kept n s A w h 0 z y₀ y R b;
-    })
+  level-grid : ok ≡ true → Rebuilt L W H (cells A z) (cells s y)
+  level-grid t =
+      let k : suc (L - 1) ≡ L = omega arith in
+      let g = level-rebuilt from W H (cells A z) (cells s y₀) few (L - 1) left new s y ws (m .rows t) in
+      rw k at g
 
--- the low-low part: y₁ is the work area that its levels left, `done` their answer
-module _ (n s A w h k L w′ h′ : ℕ) (done : Bool) (z y₀ y₁ : ℕ → ℤ) (R : Rows n s w h) (a : 2 ≤ L) (ew : w′ ≡ count lo w) (eh : h′ ≡ count lo h)
-    (b : LevelsBack done (k + 1) (L - 1) (2 * s) A w′ h′ z y₀ y₁) where
+-- no more levels follow
+pub back-end : (s A k L : ℕ) (W H : Side) (ok : Bool) (z y₀ y : ℕ → ℤ) → W .length ≤ s → 0 < L → goesOn L (count lo W) (count lo H) ≡ false →
+    LevelMade ok 0 s W H (cells A z) y₀ y → LevelsBack ok k L s A W H z y₀ y
+back-end s A k L W H ok z y₀ y ws some e m =
+    let x = cells A z in
+    let left : (i n : ℕ) → i < count lo H → n < 0 → cells s y₀ (place H lo i) n ≡ mapBack wrap32 (L - 1) (next W) (next H) x i n = λ i n ib nb.
+    absurd (omega arith) in
+    let new : (i n : ℕ) → i < count lo H → n < count lo W → 0 ≤ n → x i n ≡ mapBack wrap32 (L - 1) (next W) (next H) x i n = λ i n ib nb b.
+    let f = goes-no L (count lo W) (count lo H) e (omega arith) (omega arith) in
+    back-none (L - 1) (next W) (next H) x i n (omega arith) in
+    let f = fits-none (k + 1) L W H x some e in
+    record {
+      answer = rw f (level-answer s A L 0 W H ok z y₀ y ws some (omega arith) left new m);
+      grid = level-grid s A L 0 W H ok z y₀ y ws some (omega arith) left new m;
+      kept = m .kept;
+    }
+
+-- a part of an area that keeps what is past its own end
+part-kept : (a m e f : ℕ) (p x y : ℕ → ℤ) → y ≡ spliced a m p x → KeptFrom e (windowed a m x) p → a + e ≤ f → KeptFrom f x y
+part-kept a m e f p x y is k b =
+    record {
+      kept = λ j g.
+          ap (λ (u : ℕ → ℤ). u j) is
+          ∙ elim (decLt j (a + m)) [
+            | yes q ↦
+                let i : a + (j - a) ≡ j = omega arith in
+                splice-in a m p x j (omega arith) q ∙ k .kept (j - a) (omega arith) ∙ window-in a m x (j - a) (omega arith) ∙ ap x i
+            | no q ↦ splice-past a m p x j (omega arith)
+          ];
+    }
+
+-- the low-low part, in the part p₀ of m numbers at place a of the work area y₀ where its rows begin: p₁ is that part as its levels left it, `done` their
+-- answer, y₁ the work area then
+module _ (n s A k L a m : ℕ) (W H W′ H′ : Side) (done : Bool) (z y₀ p₀ p₁ y₁ : ℕ → ℤ) (R : Rows n s (W .length) (H .length)) (b : 2 ≤ L)
+    (ch : 0 < count lo H) (ew : W′ ≡ next W) (eh : H′ ≡ next H) (ea : a ≡ H .start % 2 * s) (em : m ≡ n - a) (e₀ : p₀ ≡ windowed a m y₀)
+    (l′ : LevelsBack done (k + 1) (L - 1) (2 * s) A W′ H′ z p₀ p₁) (e₁ : y₁ ≡ spliced a m p₁ y₀) where
+  abbrev x : Grid
+  x = cells A z
+
   abbrev lowBack : Type 0
-  lowBack = LevelsBack done (k + 1) (L - 1) (2 * s) A (count lo w) (count lo h) z y₀ y₁
+  lowBack = LevelsBack done (k + 1) (L - 1) (2 * s) A (next W) (next H) z (windowed a m y₀) p₁
 
   low-back : lowBack
-  low-back = rw (ew, eh) at b
+  low-back = rw (ew, eh, e₀) at l′
 
   abbrev lowFits : Bool
-  lowFits = rebuiltFits (k + 1) (L - 1) (count lo w) (count lo h) (cells A z)
+  lowFits = rebuiltFits (k + 1) (L - 1) (next W) (next H) x
 
-  low-fits : lowFits ≡ pick done (everyCell (count lo w) (count lo h)
-      (λ r c. valueFits (k + 1) (mapBack wrap32 (L - 1) (count lo w) (count lo h) (cells A z) r c))) false
-  low-fits = let e = low-back .answer in fits-more (k + 1) (L - 1) (count lo w) (count lo h) (cells A z) (omega arith) ∙ rw (← e)
+  low-fits : lowFits ≡ pick done (everyCell (next W .length) (next H .length)
+      (λ r c. valueFits (k + 1) (mapBack wrap32 (L - 1) (next W) (next H) x r c))) false
+  low-fits =
+      let e = low-back .answer in
+      let W₁ = next W in
+      let H₁ = next H in
+      fits-more (k + 1) (L - 1) W₁ H₁ x (omega arith)
+      ∙ both-both (rebuiltFits (k + 1 + 1) (L - 1 - 1) (next W₁) (next H₁) x)
+      (levelHas W₁ H₁ (planeBands W₁ H₁ (mapBack wrap32 (L - 1 - 1) (next W₁) (next H₁) x) x))
+      (everyCell (W₁ .length) (H₁ .length) (λ r c. valueFits (k + 1) (mapBack wrap32 (L - 1) W₁ H₁ x r c)))
+      ∙ rw (← e)
 
-  low-kept : KeptFrom ((h - 1) * s + w) y₀ y₁
-  low-kept = let end = next-end s w h (R .some) in record { kept = λ j g. low-back .kept .kept j (omega arith) }
+  low-kept : KeptFrom ((H .length - 1) * s + W .length) y₀ y₁
+  unfolding next
+  low-kept =
+      let end = next-end s W H ch in
+      part-kept a m ((count lo H - 1) * (2 * s) + count lo W) _ p₁ y₀ y₁ e₁ (low-back .kept) (omega arith)
 
-  no-answer : (y : ℕ → ℤ) → lowFits ≡ false → KeptFrom ((h - 1) * s + w) y₀ y → LevelsBack false k L s A w h z y₀ y
-  no-answer y e kept = record { answer = sym e; grid = λ f. absurd (false-true f); kept = kept }
+  no-answer : (y : ℕ → ℤ) → lowFits ≡ false → KeptFrom ((H .length - 1) * s + W .length) y₀ y → LevelsBack false k L s A W H z y₀ y
+  no-answer y e kept = record { answer = rw e refl; grid = λ f. absurd (false-true f); kept = kept }
 
   -- a level of it does not fit
-  pub back-no : done ≡ false → LevelsBack false k L s A w h z y₀ y₁
+  pub back-no : done ≡ false → LevelsBack false k L s A W H z y₀ y₁
   back-no it = no-answer y₁ (low-fits ∙ rw it) low-kept
 
-  -- its levels fit; y₂ is the work area with its rows in their own order, `ok` the test of its own numbers on the way
-  module _ (it : done ≡ true) (ok : Bool) (y₂ : ℕ → ℤ)
-      (t : ok ≡ rowsBetween 0 (count lo h) 0 (count lo w) (negℤ (pos (range (k + 1)))) (pos (range (k + 1))) (cells (2 * s) y₁))
-      (e₂ : y₂ ≡ flat (2 * s) (rowsMapped (wovenInPlace (count lo w)) (count lo w) (count lo h) (cells (2 * s) y₁))) where
+  -- its levels fit; q₁ is the part again, q₂ with its rows in their own order, `ok` the test of its own numbers on the way, y₂ the work area then
+  module _ (it : done ≡ true) (ok : Bool) (q₁ q₂ y₂ : ℕ → ℤ) (eq : q₁ ≡ windowed a m y₁) (same : q₁ ≡ p₁)
+      (t : ok ≡ rowsBetween 0 (H′ .length) 0 (W′ .length) (negℤ (pos (range (k + 1)))) (pos (range (k + 1))) (cells (2 * s) q₁))
+      (e₂ : q₂ ≡ flat (2 * s) (rowsMapped (wovenInPlace W′) (W′ .length) (H′ .length) (cells (2 * s) q₁)))
+      (f₂ : y₂ ≡ spliced a m q₂ y₁) where
+    woven : q₂ ≡ flat (2 * s) (rowsMapped (wovenInPlace (next W)) (next W .length) (next H .length) (cells (2 * s) q₁))
+    woven = rw (ew, eh) at e₂
+
     tested : ok ≡ lowFits
-    tested = t ∙ rebuilt-test k (L - 1) (count lo w) (count lo h) (cells A z) (cells (2 * s) y₁) (low-back .grid it) ∙ sym (low-fits ∙ rw it)
+    tested =
+        let t′ : ok ≡ rowsBetween 0 (next H .length) 0 (next W .length) (negℤ (pos (range (k + 1)))) (pos (range (k + 1))) (cells (2 * s) q₁) =
+        rw (ew, eh) at t in
+        t′
+        ∙ ap (λ (p : ℕ → ℤ). rowsBetween 0 (next H .length) 0 (next W .length) (negℤ (pos (range (k + 1)))) (pos (range (k + 1))) (cells (2 * s) p)) same
+        ∙ rebuilt-test k (L - 1) (next W) (next H) x (cells (2 * s) p₁) (low-back .grid it)
+        ∙ sym (low-fits ∙ rw it)
 
-    woven-kept : KeptFrom ((h - 1) * s + w) y₀ y₂
+    low-rows : Rows m (2 * s) (count lo W) (count lo H)
+    low-rows = let e : m ≡ n - H .start % 2 * s = omega arith in rw e (next-rows s W H ch n R)
+
+    woven-kept : KeptFrom ((H .length - 1) * s + W .length) y₀ y₂
+    unfolding next
     woven-kept =
+        let end = next-end s W H ch in
         kept-then low-kept
-        (kept-flat n (2 * s) (count lo w) (count lo h) y₁ y₂ _ (next-rows n s w h R) e₂
-        (λ r c o. mapped-out (count lo w) (count lo h) (cells (2 * s) y₁) r c o (wovenInPlace (count lo w))))
-        (next-end s w h (R .some))
+        (part-kept a m ((count lo H - 1) * (2 * s) + count lo W) ((H .length - 1) * s + W .length) q₂ y₁ y₂ f₂
+        (rw (← eq) (kept-flat m (2 * s) (count lo W) (count lo H) q₁ q₂ _ low-rows woven
+        (λ r c o. mapped-out (count lo W) (count lo H) (cells (2 * s) q₁) r c o (wovenInPlace (next W)))))
+        (omega arith))
+        (omega arith)
 
-    pub back-low : ok ≡ false → LevelsBack false k L s A w h z y₀ y₂
+    pub back-low : ok ≡ false → LevelsBack false k L s A W H z y₀ y₂
     back-low no′ = no-answer y₂ (sym tested ∙ no′) woven-kept
 
-    -- they fit too
-    pub back-step : (y : ℕ → ℤ) → ok ≡ true → y ≡ flat s (levelUnlifted w h (cells s (flat s (rowsFetched w′ w h (cells A z) (cells s y₂))))) →
-        LevelsBack true k L s A w h z y₀ y
-    back-step y yes′ c =
-        let c′ : y ≡ flat s (levelUnlifted w h (cells s (flat s (rowsFetched (count lo w) w h (cells A z) (cells s y₂))))) = rw ew at c in
+    -- the low-low part, as it stands in the work area
+    low-cell : (i c : ℕ) → i < count lo H → c < count lo W → cells s y₂ (place H lo i) c ≡ mapBack wrap32 (L - 1) (next W) (next H) x i c
+    unfolding cells place next
+    low-cell i c ib cb =
+        let room = row-room m (2 * s) (count lo W) (count lo H) i low-rows ib in
+        let wide = low-rows .wide in
+        let j : (2 * i + H .start % 2) * s + c ≡ a + (i * (2 * s) + c) = omega arith in
+        let d : a + (i * (2 * s) + c) - a ≡ i * (2 * s) + c = omega arith in
+        ap y₂ j
+        ∙ ap (λ (u : ℕ → ℤ). u (a + (i * (2 * s) + c))) f₂
+        ∙ splice-in a m q₂ y₁ (a + (i * (2 * s) + c)) (omega arith) (omega arith)
+        ∙ ap q₂ d
+        ∙ ap (λ (u : ℕ → ℤ). u (i * (2 * s) + c)) woven
+        ∙ flat-at (2 * s) _ i c (omega arith)
+        ∙ woven-in (next W) (count lo H) (cells (2 * s) q₁) i c ib cb
+        ∙ ap (λ (p : ℕ → ℤ). levelGrid (next W) (cells (2 * s) p) i c) same
+        ∙ low-back .grid it .cell i c ib cb
+
+    -- they fit too: this level
+    pub back-step : (d : Bool) (y : ℕ → ℤ) → ok ≡ true → LevelMade d (W′ .length) s W H (cells A z) y₂ y → LevelsBack d k L s A W H z y₀ y
+    unfolding next
+    back-step d y yes′ c =
+        let f : W′ .length ≡ count lo W = ap length-of ew in
+        let c′ : LevelMade d (count lo W) s W H (cells A z) y₂ y = rw f at c in
+        let fits : lowFits ≡ true = sym tested ∙ yes′ in
+        let new : (i j : ℕ) → i < count lo H → j < count lo W → count lo W ≤ j → x i j ≡ mapBack wrap32 (L - 1) (next W) (next H) x i j = λ i j ib jb g.
+        absurd (omega arith) in
         record {
-          answer = sym (sym tested ∙ yes′);
-          grid = λ _. back-more s w h (cells A z) y₁ y₂ _ y L (R .wide) a (low-back .grid it) e₂ refl c′;
-          kept = kept-then woven-kept (back-kept n s A w h (count lo w) z y₂ y R c′) (omega arith);
+          answer = rw fits (level-answer s A L (count lo W) W H d z y₂ y (R .wide) (omega arith) (omega arith) low-cell new c′);
+          grid = level-grid s A L (count lo W) W H d z y₂ y (R .wide) (omega arith) (omega arith) low-cell new c′;
+          kept = kept-then woven-kept (c′ .kept) (omega arith);
         }
 
 -- ---- ranges
@@ -191,26 +256,29 @@ pub neg-is : (z : ℤ) → pos 0 -ℤ z ≡ negℤ z
 neg-is = each _ λ p q. simp lin (omega arith)
 
 -- ---- question 7, test by test: of the low-low part, of the rows beside it, of the rows below
-module _ (k L w h w′ h′ : ℕ) (x : Grid) (a : Bool) (one : 0 < k) (more : 2 ≤ L) (ew : w′ ≡ count lo w) (eh : h′ ≡ count lo h)
-    (ea : a ≡ regionInRange (k + 1) (L - 1) w′ h′ x) where
-  low-test : a ≡ regionInRange (k + 1) (L - 1) (count lo w) (count lo h) x
+module _ (k L : ℕ) (W H W′ H′ : Side) (x : Grid) (a : Bool) (one : 0 < k) (more : 2 ≤ L) (ew : W′ ≡ next W) (eh : H′ ≡ next H)
+    (ea : a ≡ regionInRange (k + 1) (L - 1) W′ H′ x) where
+  low-test : a ≡ regionInRange (k + 1) (L - 1) (next W) (next H) x
   low-test = rw (ew, eh) at ea
 
-  pub range-first : a ≡ false → false ≡ regionInRange k L w h x
-  range-first no′ = sym (region-more k L w h x one more ∙ rw (← low-test, no′))
+  pub range-first : a ≡ false → false ≡ regionInRange k L W H x
+  range-first no′ = sym (region-more k L W H x one more ∙ rw (← low-test, no′))
 
-  module _ (yes′ : a ≡ true) (b : Bool) (eb : b ≡ rowsBetween 0 h′ w′ w (negℤ (pos (range k))) (pos (range k)) x) where
-    beside-test : b ≡ rowsBetween 0 (count lo h) (count lo w) w (negℤ (pos (range k))) (pos (range k)) x
-    beside-test = rw (ew, eh) at eb
+  module _ (yes′ : a ≡ true) (b : Bool) (eb : b ≡ rowsBetween 0 (H′ .length) (W′ .length) (W .length) (negℤ (pos (range k))) (pos (range k)) x) where
+    beside-test : b ≡ rowsBetween 0 (count lo H) (count lo W) (W .length) (negℤ (pos (range k))) (pos (range k)) x
+    unfolding next
+    beside-test = let f = ap length-of ew in let g = ap length-of eh in rw (f, g) at eb
 
-    pub range-second : b ≡ false → false ≡ regionInRange k L w h x
-    range-second no′ = sym (region-more k L w h x one more ∙ rw (← low-test, yes′, ← beside-test, no′))
+    pub range-second : b ≡ false → false ≡ regionInRange k L W H x
+    range-second no′ = sym (region-more k L W H x one more ∙ rw (← low-test, yes′, ← beside-test, no′))
 
-    pub range-third : b ≡ true → (d : Bool) → d ≡ rowsBetween h′ h 0 w (negℤ (pos (range k))) (pos (range k)) x → d ≡ regionInRange k L w h x
+    pub range-third : b ≡ true → (d : Bool) → d ≡ rowsBetween (H′ .length) (H .length) 0 (W .length) (negℤ (pos (range k))) (pos (range k)) x →
+        d ≡ regionInRange k L W H x
+    unfolding next
     range-third yes″ d ed =
-        let below : d ≡ rowsBetween (count lo h) h 0 w (negℤ (pos (range k))) (pos (range k)) x = rw eh at ed in
-        below ∙ sym (region-more k L w h x one more ∙ rw (← low-test, yes′, ← beside-test, yes″))
+        let below : d ≡ rowsBetween (count lo H) (H .length) 0 (W .length) (negℤ (pos (range k))) (pos (range k)) x = rw eh at ed in
+        below ∙ sym (region-more k L W H x one more ∙ rw (← low-test, yes′, ← beside-test, yes″))
 
-pub range-end : (k L w h : ℕ) (x : Grid) (d : Bool) → 0 < k → 0 < L → L < 2 → d ≡ rowsBetween 0 h 0 w (negℤ (pos (range k))) (pos (range k)) x →
-    d ≡ regionInRange k L w h x
-range-end k L w h x d one a b e = let j : L ≡ 1 = omega arith in rw j (e ∙ sym (region-last k w h x one))
+pub range-end : (k L : ℕ) (W H : Side) (x : Grid) (d : Bool) → 0 < k → 0 < L → goesOn L (count lo W) (count lo H) ≡ false →
+    d ≡ rowsBetween 0 (H .length) 0 (W .length) (negℤ (pos (range k))) (pos (range k)) x → d ≡ regionInRange k L W H x
+range-end k L W H x d one some go e = e ∙ sym (region-last k L W H x one some go)

@@ -1,225 +1,223 @@
 -- The levels in an area and a plane are the levels of the definition: from one level to the next, forward and back. Assumes nothing.
-use mathlib.Core.Path.{_≡_, refl, sym, ap, _∙_, fun-ext}
+use mathlib.Core.Path.{_≡_, refl, sym, ap, _∙_}
 use mathlib.Core.Bool.{false}
-use Prim.Native.Nat.{ℕ, zero, suc, _+_, _-_, _*_, _≤_, _<_}
+use Prim.Native.Nat.{ℕ, zero, suc, _+_, _-_, _*_, _%_, _≤_, _<_}
 use native.Mathlib.Omega.{arith}
 use lib.IntN.{ℤ}
 use borrow.Author.Tests.{lt-ltb}
+use native.Mathlib.Decide.{decLt}
 use Rattle.numbers.specs.Word.{wrap32}
-use Rattle.lifting.specs.Line.{lo, hi, count, joined}
-use Rattle.lifting.specs.Halves.{halvesOf, liftedInPlace}
-use Rattle.lifting.proofs.LineLaws.{counts, count-lo, count-hi, front-in}
-use Rattle.wavelet.specs.Bands.{Grid, Band, LL, HL, LH, HH, bandOf, subband, levelBack}
-use Rattle.wavelet.specs.Plane.{cells, flat, halfAt, placeIn, planeCell, mapBack}
+use Rattle.lifting.specs.Line.{lo, hi}
+use Rattle.lifting.specs.Grid.{Side, place, count, joined}
+use Rattle.lifting.specs.GridHalves.{halvesOf, liftedInPlace}
+use Rattle.lifting.proofs.GridLaws.{counts, place-in, front-in}
+use Rattle.wavelet.specs.Bands.{Grid, Band, LL, bandOf, subband}
+use Rattle.wavelet.specs.Plane.{cells, flat, halfAt, placeIn, inCorner, planeCell, planeBands, mapBack}
+use Rattle.wavelet.proofs.GridLaws.{cells-flat}
+use Rattle.wavelet.specs.Levels.{next}
+use Rattle.wavelet.proofs.LevelTheory.{plane-reads}
 use Rattle.whole_map.specs.Rowwise.{cut, wovenInPlace}
 use Rattle.whole_map.specs.Passes.{within, rowsMapped, rowsFetched, gridHalved, gridCopied}
-use Rattle.whole_map.specs.LevelPasses.{levelGrid, cornerGrid, levelLifted, levelUnlifted, planeWritten, Rebuilt}
-use Rattle.wavelet.proofs.GridLaws.{cells-flat}
-use Rattle.wavelet.proofs.LevelTheory.{plane-reads}
+use Rattle.whole_map.specs.LevelPasses.{levelGrid, cornerGrid, levelLifted, levelUnlifted, planeWritten, goesOn, Rebuilt}
 use Rattle.whole_map.proofs.GridSweep.{mapped-in}
-use Rattle.whole_map.proofs.CellLaws.{halved-out, halved-grid, copied-in, mapped-out, fetched-new, fetched-made, made-even, made-odd, plane-even}
-use Rattle.whole_map.proofs.CellLaws.{plane-odd, flat-same, placed, placed-in, joined-at, grid-at, half-low, cut-in, within-in, by-within}
-use Rattle.whole_map.proofs.ColumnLift.{column-out}
+use Rattle.whole_map.proofs.CellLaws.{column-out, halved-out, halved-grid, copied-in, mapped-out, fetched-new, fetched-made, made-low, made-high}
+use Rattle.whole_map.proofs.CellLaws.{placed-low, placed-high, flat-same, placed, placed-in, joined-at, grid-at, half-low, cut-in, within-in, by-within}
 use Rattle.whole_map.proofs.LevelMath.{BandsIn, level-forward, level-back}
+use Rattle.whole_map.proofs.TestLaws.{goes-no}
 
 -- ---- the plane, by cells
-module _ (keep : ℤ → ℤ) where
-  plane-corner : (L w h : ℕ) (g : Grid) (r c : ℕ) → r < count lo h → c < count lo w →
-      planeCell keep (suc L) w h g r c ≡ planeCell keep L (count lo w) (count lo h) (subband keep w h g LL) r c
+module _ (keep : ℤ → ℤ) (W H : Side) (g : Grid) (r c : ℕ) where
+  plane-corner : (L : ℕ) → r < count lo H → c < count lo W →
+      planeCell keep (suc L) W H g r c ≡ planeCell keep L (next W) (next H) (subband keep W H g LL) r c
+  unfolding planeCell inCorner
+  plane-corner L rb cb = simp (lt-ltb r (count lo H) rb, lt-ltb c (count lo W) cb)
+
+  plane-rest : (L : ℕ) → within (count lo W) (count lo H) r c ≡ false →
+      planeCell keep (suc L) W H g r c ≡ subband keep W H g (bandOf (halfAt W c) (halfAt H r)) (placeIn H r) (placeIn W c)
+  unfolding planeCell inCorner within
+  plane-rest L e = simp e
+
+  plane-none : (L : ℕ) → L ≡ 0 → planeCell keep L (next W) (next H) (subband keep W H g LL) r c ≡ subband keep W H g LL r c
   unfolding planeCell
-  plane-corner L w h g r c rb cb = simp (lt-ltb r (count lo h) rb, lt-ltb c (count lo w) cb)
+  plane-none L z = rw z refl
 
-  plane-rest : (L w h : ℕ) (g : Grid) (r c : ℕ) → within (count lo w) (count lo h) r c ≡ false →
-      planeCell keep (suc L) w h g r c ≡ subband keep w h g (bandOf (halfAt w c) (halfAt h r)) (placeIn h r) (placeIn w c)
-  unfolding planeCell within
-  plane-rest L w h g r c e = simp e
-
-  -- the last level: the corner is its low-low band
-  plane-last : (w h : ℕ) (g : Grid) (r c : ℕ) → planeCell keep 1 w h g r c ≡ subband keep w h g (bandOf (halfAt w c) (halfAt h r)) (placeIn h r) (placeIn w c)
-  unfolding planeCell bandOf
-  plane-last w h g r c =
-      by-within (count lo w) (count lo h) r c
+  -- the last level: the corner is its low-low band, or empty
+  plane-last : (L : ℕ) → 0 < L → goesOn L (count lo W) (count lo H) ≡ false →
+      planeCell keep L W H g r c ≡ subband keep W H g (bandOf (halfAt W c) (halfAt H r)) (placeIn H r) (placeIn W c)
+  unfolding bandOf
+  plane-last zero some e = absurd (omega arith)
+  plane-last (suc L) some e =
+      by-within (count lo W) (count lo H) r c
       (λ rb cb.
-      plane-corner 0 w h g r c rb cb
-      ∙ sym (rw (half-low w c cb .0, half-low h r rb .0, half-low w c cb .1, half-low h r rb .1)))
-      (plane-rest 0 w h g r c)
+      let f = goes-no (suc L) (count lo W) (count lo H) e (omega arith) (omega arith) in
+      plane-corner L rb cb
+      ∙ plane-none L (omega arith)
+      ∙ sym (rw (half-low W c cb .0, half-low H r rb .0, half-low W c cb .1, half-low H r rb .1)))
+      (plane-rest L)
 
-module _ (L w h : ℕ) (g z : Grid) (r c : ℕ) where
-  pub written-in : r < h → c < w → planeWritten L w h g z r c ≡ planeCell wrap32 L w h g r c
+module _ (L : ℕ) (W H : Side) (g z : Grid) (r c : ℕ) where
+  pub written-in : r < H .length → c < W .length → planeWritten L W H g z r c ≡ planeCell wrap32 L W H g r c
   unfolding planeWritten
-  written-in rh cw = simp (within-in w h r c rh cw)
+  written-in rh cw = simp (within-in (W .length) (H .length) r c rh cw)
 
-  pub written-out : within w h r c ≡ false → planeWritten L w h g z r c ≡ z r c
+  pub written-out : within (W .length) (H .length) r c ≡ false → planeWritten L W H g z r c ≡ z r c
   unfolding planeWritten
   written-out e = simp e
 
 -- ---- forward: z₀ is the plane at the start, z₁ the plane with the level lifted
-module _ (A w h : ℕ) (z₀ z₁ : ℕ → ℤ) (wa : w ≤ A) (some : 0 < A) (f₁ : z₁ ≡ flat A (levelLifted w h (cells A z₀))) where
+module _ (A : ℕ) (W H : Side) (z₀ z₁ : ℕ → ℤ) (wa : W .length ≤ A) (some : 0 < A) (f₁ : z₁ ≡ flat A (levelLifted W H (cells A z₀))) where
   abbrev g : Grid
-  g = cornerGrid w h (cells A z₀)
+  g = cornerGrid W H (cells A z₀)
 
-  level-cell : (r c : ℕ) → c < A → cells A z₁ r c ≡ levelLifted w h (cells A z₀) r c
-  level-cell r c ca = ap (λ (z : ℕ → ℤ). cells A z r c) f₁ ∙ cells-flat A (levelLifted w h (cells A z₀)) r c ca
+  level-cell : (r c : ℕ) → c < A → cells A z₁ r c ≡ levelLifted W H (cells A z₀) r c
+  level-cell r c ca = ap (λ (z : ℕ → ℤ). cells A z r c) f₁ ∙ cells-flat A (levelLifted W H (cells A z₀)) r c ca
 
-  level-out : (r c : ℕ) → within w h r c ≡ false → levelLifted w h (cells A z₀) r c ≡ cells A z₀ r c
+  level-out : (r c : ℕ) → within (W .length) (H .length) r c ≡ false → levelLifted W H (cells A z₀) r c ≡ cells A z₀ r c
   unfolding levelLifted
-  level-out r c o = mapped-out w h _ r c o (liftedInPlace w) ∙ column-out w h (cells A z₀) r c o
+  level-out r c o = mapped-out (W .length) (H .length) _ r c o (liftedInPlace W) ∙ column-out (W .length) H (cells A z₀) r c o
 
-  pub forward-last : z₁ ≡ flat A (planeWritten 1 w h g (cells A z₀))
-  forward-last =
+  pub forward-last : (L : ℕ) → 0 < L → goesOn L (count lo W) (count lo H) ≡ false → z₁ ≡ flat A (planeWritten L W H g (cells A z₀))
+  forward-last L l e =
       f₁ ∙ flat-same A _ _ some
       (λ r c _.
-      by-within w h r c
-      (λ rh cw. level-forward w h (cells A z₀) r c rh cw ∙ sym (written-in 1 w h g (cells A z₀) r c rh cw ∙ plane-last wrap32 w h g r c))
-      (λ o. level-out r c o ∙ sym (written-out 1 w h g (cells A z₀) r c o)))
+      by-within (W .length) (H .length) r c
+      (λ rh cw. level-forward W H (cells A z₀) r c rh cw ∙ sym (written-in L W H g (cells A z₀) r c rh cw ∙ plane-last wrap32 W H g r c L l e))
+      (λ o. level-out r c o ∙ sym (written-out L W H g (cells A z₀) r c o)))
 
   -- the low-low part copied to the rows x₁ of its own width, and laid in the corner again, in halves: z₂
-  module _ (x₀ x₁ z₂ : ℕ → ℤ) (e₁ : x₁ ≡ flat (count lo w) (gridCopied (count lo w) (count lo h) (cells A z₁) (cells (count lo w) x₀)))
-      (f₂ : z₂ ≡ flat A (gridHalved (count lo w) (count lo h) (cells (count lo w) x₁) (cells A z₁))) where
-    next-grid : (r c : ℕ) → r < count lo h → c < count lo w → cornerGrid (count lo w) (count lo h) (cells A z₂) r c ≡ subband wrap32 w h g LL r c
-    unfolding bandOf
+  module _ (x₀ x₁ z₂ : ℕ → ℤ) (e₁ : x₁ ≡ flat (count lo W) (gridCopied (count lo W) (count lo H) (cells A z₁) (cells (count lo W) x₀)))
+      (f₂ : z₂ ≡ flat A (gridHalved (next W) (next H) (cells (count lo W) x₁) (cells A z₁))) where
+    next-grid : (r c : ℕ) → r < count lo H → c < count lo W → cornerGrid (next W) (next H) (cells A z₂) r c ≡ subband wrap32 W H g LL r c
+    unfolding bandOf next
     next-grid r c rb cb =
-        let both = counts w in
-        let l = count-lo h in
-        let w′ = count lo w in
-        let h′ = count lo h in
-        halved-grid A w′ h′ (cells w′ x₁) (cells A z₁) z₂ (omega arith) f₂ r c rb cb
+        let both = counts W in
+        let l = counts H in
+        let w′ = count lo W in
+        let h′ = count lo H in
+        halved-grid A (next W) (next H) (cells w′ x₁) (cells A z₁) z₂ (omega arith) f₂ r c rb cb
         ∙ ap (λ (x : ℕ → ℤ). cells w′ x r c) e₁
         ∙ cells-flat w′ _ r c cb
         ∙ copied-in w′ h′ (cells A z₁) (cells w′ x₀) r c rb cb
         ∙ level-cell r c (omega arith)
-        ∙ level-forward w h (cells A z₀) r c (omega arith) (omega arith)
-        ∙ rw (half-low w c cb .0, half-low h r rb .0, half-low w c cb .1, half-low h r rb .1)
+        ∙ level-forward W H (cells A z₀) r c (omega arith) (omega arith)
+        ∙ rw (half-low W c cb .0, half-low H r rb .0, half-low W c cb .1, half-low H r rb .1)
 
-    pub forward-more : (L : ℕ) (z₃ : ℕ → ℤ) → 1 < L → z₃ ≡ flat A
-        (planeWritten (L - 1) (count lo w) (count lo h) (cornerGrid (count lo w) (count lo h) (cells A z₂)) (cells A z₂)) →
-        z₃ ≡ flat A (planeWritten L w h g (cells A z₀))
+    pub forward-more : (L : ℕ) (z₃ : ℕ → ℤ) → 1 < L →
+        z₃ ≡ flat A (planeWritten (L - 1) (next W) (next H) (cornerGrid (next W) (next H) (cells A z₂)) (cells A z₂)) →
+        z₃ ≡ flat A (planeWritten L W H g (cells A z₀))
+    unfolding next
     forward-more zero z₃ b f₃ = absurd (omega arith)
     forward-more (suc L) z₃ b f₃ =
-        let both = counts w in
-        let l = count-lo h in
-        let w′ = count lo w in
-        let h′ = count lo h in
-        let g′ = cornerGrid w′ h′ (cells A z₂) in
+        let both = counts W in
+        let l = counts H in
+        let W′ = next W in
+        let H′ = next H in
+        let w′ = count lo W in
+        let h′ = count lo H in
+        let g′ = cornerGrid W′ H′ (cells A z₂) in
         let k : suc L - 1 ≡ L = omega arith in
         f₃ ∙ rw k refl ∙ flat-same A _ _ some
         (λ r c ca.
         by-within w′ h′ r c
         (λ rb cb.
-        written-in L w′ h′ g′ (cells A z₂) r c rb cb
-        ∙ plane-reads wrap32 L w′ h′ g′ (subband wrap32 w h g LL) next-grid r c rb cb
-        ∙ sym (written-in (suc L) w h g (cells A z₀) r c (omega arith) (omega arith) ∙ plane-corner wrap32 L w h g r c rb cb))
+        written-in L W′ H′ g′ (cells A z₂) r c rb cb
+        ∙ plane-reads wrap32 L W′ H′ g′ (subband wrap32 W H g LL) next-grid r c rb cb
+        ∙ sym (written-in (suc L) W H g (cells A z₀) r c (omega arith) (omega arith) ∙ plane-corner wrap32 W H g r c L rb cb))
         (λ e.
-        written-out L w′ h′ g′ (cells A z₂) r c e
+        written-out L W′ H′ g′ (cells A z₂) r c e
         ∙ ap (λ (z : ℕ → ℤ). cells A z r c) f₂
         ∙ cells-flat A _ r c ca
-        ∙ halved-out w′ h′ (cells w′ x₁) (cells A z₁) r c e
+        ∙ halved-out W′ H′ (cells w′ x₁) (cells A z₁) r c e
         ∙ level-cell r c ca
-        ∙ by-within w h r c
-        (λ rh cw. level-forward w h (cells A z₀) r c rh cw ∙ sym (written-in (suc L) w h g (cells A z₀) r c rh cw ∙ plane-rest wrap32 L w h g r c e))
-        (λ o. level-out r c o ∙ sym (written-out (suc L) w h g (cells A z₀) r c o))))
+        ∙ by-within (W .length) (H .length) r c
+        (λ rh cw. level-forward W H (cells A z₀) r c rh cw ∙ sym (written-in (suc L) W H g (cells A z₀) r c rh cw ∙ plane-rest wrap32 W H g r c L e))
+        (λ o. level-out r c o ∙ sym (written-out (suc L) W H g (cells A z₀) r c o))))
 
 -- ---- back
--- every second row of an area is a row at twice the stride
-pub twice : (s : ℕ) (x : ℕ → ℤ) (r c : ℕ) → cells (2 * s) x r c ≡ cells s x (2 * r) c
-unfolding cells
-twice s x r c = let k : r * (2 * s) ≡ 2 * r * s = omega arith in rw k
+-- every second row of an area from the first low one on is a row at twice the stride
+pub twice : (s : ℕ) (H : Side) (x : ℕ → ℤ) (r c : ℕ) → cells (2 * s) (λ j. x (H .start % 2 * s + j)) r c ≡ cells s x (place H lo r) c
+unfolding cells place
+twice s H x r c = let k : H .start % 2 * s + (r * (2 * s) + c) ≡ (2 * r + H .start % 2) * s + c = omega arith in rw k
 
 -- the bands that the plane x and the levels left give
-unfoldable pub bandsBack : ℕ → ℕ → ℕ → Grid → Band → Grid
-bandsBack L w h x LL = mapBack wrap32 L (count lo w) (count lo h) x
-bandsBack L w h x HL = λ r c. x r (count lo w + c)
-bandsBack L w h x LH = λ r c. x (count lo h + r) c
-bandsBack L w h x HH = λ r c. x (count lo h + r) (count lo w + c)
-
-pub back-is : (L w h : ℕ) (x : Grid) → mapBack wrap32 (suc L) w h x ≡ levelBack wrap32 w h (bandsBack L w h x)
-unfolding mapBack bandsBack
-back-is L w h x = ap (levelBack wrap32 w h) (fun-ext (λ b. elim b [ LL ↦ refl | HL ↦ refl | LH ↦ refl | HH ↦ refl ]))
+abbrev pub bandsBack : ℕ → Side → Side → Grid → Band → Grid
+bandsBack L W H x = planeBands W H (mapBack wrap32 L (next W) (next H) x) x
 
 -- what is fetched from the plane, and what is left
-module _ (from w h : ℕ) (z x : Grid) (c : ℕ) (cw : c < w) (i : ℕ) where
-  fetched-odd : i < count hi h → rowsFetched from w h z x (2 * i + 1) c ≡ z (count lo h + i) c
-  fetched-odd b =
-      let l = count-hi h in
-      fetched-new from w h z x (2 * i + 1) c (omega arith) cw (rw (made-odd h i from) (omega arith)) ∙ ap (λ (r : ℕ). z r c) (plane-odd h i)
+module _ (from w : ℕ) (H : Side) (z x : Grid) (c : ℕ) (cw : c < w) (i : ℕ) where
+  fetched-high : i < count hi H → rowsFetched from w H z x (place H hi i) c ≡ z (count lo H + i) c
+  fetched-high b =
+      fetched-new from w H z x (place H hi i) c (place-in H hi i b) cw (rw (made-high H i from) (omega arith)) ∙ ap (λ (r : ℕ). z r c) (placed-high H i)
 
-  fetched-even : i < count lo h → from ≤ c → rowsFetched from w h z x (2 * i) c ≡ z i c
-  fetched-even b f =
-      let l = count-lo h in
-      fetched-new from w h z x (2 * i) c (omega arith) cw (rw (made-even h i from) f) ∙ ap (λ (r : ℕ). z r c) (plane-even h i)
+  fetched-low : i < count lo H → from ≤ c → rowsFetched from w H z x (place H lo i) c ≡ z i c
+  fetched-low b f =
+      fetched-new from w H z x (place H lo i) c (place-in H lo i b) cw (rw (made-low H i from) f) ∙ ap (λ (r : ℕ). z r c) (placed-low H i)
 
-  fetched-left : i < count lo h → c < from → rowsFetched from w h z x (2 * i) c ≡ x (2 * i) c
-  fetched-left b f = let l = count-lo h in fetched-made from w h z x (2 * i) c (omega arith) cw (rw (made-even h i from) f)
+  fetched-left : i < count lo H → c < from → rowsFetched from w H z x (place H lo i) c ≡ x (place H lo i) c
+  fetched-left b f = fetched-made from w H z x (place H lo i) c (place-in H lo i b) cw (rw (made-low H i from) f)
 
 -- rows in halves brought into their own order are the grid
-pub woven-in : (w h : ℕ) (X : Grid) (r c : ℕ) → r < h → c < w → rowsMapped (wovenInPlace w) w h X r c ≡ levelGrid w X r c
+pub woven-in : (W : Side) (h : ℕ) (X : Grid) (r c : ℕ) → r < h → c < W .length → rowsMapped (wovenInPlace W) (W .length) h X r c ≡ levelGrid W X r c
 unfolding wovenInPlace
-woven-in w h X r c rh cw =
-    mapped-in (wovenInPlace w) w h X r c rh cw
-    ∙ front-in w (halvesOf w (cut w (X r))) (cut w (X r)) (joined (halvesOf w (cut w (X r)))) c cw
-    ∙ joined-at w (cut w (X r)) c
-    ∙ cut-in w (X r) (placed w c) (placed-in w c cw)
-    ∙ sym (grid-at w X r c)
+woven-in W h X r c rh cw =
+    let row = cut (W .length) (X r) in
+    mapped-in (wovenInPlace W) (W .length) h X r c rh cw
+    ∙ front-in (W .length) (joined W (halvesOf W row)) row c cw
+    ∙ joined-at W row c
+    ∙ cut-in (W .length) (X r) (placed W c) (placed-in W c cw)
+    ∙ sym (grid-at W X r c)
 
--- y₂ is the area before the plane's rows are fetched, y₃ with them, y₄ the level lifted back
-module _ (s from w h : ℕ) (x : Grid) (y₂ y₃ y₄ : ℕ → ℤ) (ws : w ≤ s) (few : from ≤ count lo w)
-    (e₃ : y₃ ≡ flat s (rowsFetched from w h x (cells s y₂))) (e₄ : y₄ ≡ flat s (levelUnlifted w h (cells s y₃))) where
-  fetched : (r c : ℕ) → c < w → cells s y₃ r c ≡ rowsFetched from w h x (cells s y₂) r c
-  fetched r c cw = ap (λ (y : ℕ → ℤ). cells s y r c) e₃ ∙ cells-flat s (rowsFetched from w h x (cells s y₂)) r c (omega arith)
+-- X is the area before the plane's rows x are fetched; from column `from` on the low-low part comes from the plane, and before it from X
+module _ (from : ℕ) (W H : Side) (x X : Grid) (few : from ≤ count lo W) (L : ℕ)
+    (left : (i n : ℕ) → i < count lo H → n < from → X (place H lo i) n ≡ mapBack wrap32 L (next W) (next H) x i n)
+    (new : (i n : ℕ) → i < count lo H → n < count lo W → from ≤ n → x i n ≡ mapBack wrap32 L (next W) (next H) x i n) where
+  abbrev fetchedRows : Grid
+  fetchedRows = rowsFetched from (W .length) H x X
 
-  module _ (L : ℕ) (corner : (i n : ℕ) → i < count lo h → n < count lo w → cells s y₃ (2 * i) n ≡ mapBack wrap32 L (count lo w) (count lo h) x i n) where
-    bands : BandsIn w h (bandsBack L w h x) (cells s y₃)
-    unfolding halvesOf bandsBack bandOf
-    bands =
-        let both = counts w in
+  pub bands-fetched : BandsIn W H (bandsBack L W H x) fetchedRows
+  unfolding halvesOf planeBands bandOf
+  bands-fetched =
+      let both = counts W in
+      let w = W .length in
+      record {
+        bands = λ d a i n. elim d [
+          | lo ↦ λ ib. elim a [
+            | lo ↦ λ nb.
+                elim (decLt n from) [
+                  | yes b ↦ fetched-left from w H x X n (omega arith) i ib b ∙ left i n ib b
+                  | no b ↦ fetched-low from w H x X n (omega arith) i ib (omega arith) ∙ new i n ib nb (omega arith)
+                ]
+            | hi ↦ λ nb. fetched-low from w H x X (count lo W + n) (omega arith) i ib (omega arith)
+          ]
+          | hi ↦ λ ib. elim a [
+            | lo ↦ λ nb. fetched-high from w H x X n (omega arith) i ib
+            | hi ↦ λ nb. fetched-high from w H x X (count lo W + n) (omega arith) i ib
+          ]
+        ];
+      }
+
+  -- y is the level lifted back
+  module _ (s : ℕ) (y : ℕ → ℤ) (ws : W .length ≤ s) (e : y ≡ flat s (levelUnlifted W H (cells s (flat s fetchedRows)))) where
+    bands-cells : BandsIn W H (bandsBack L W H x) (cells s (flat s fetchedRows))
+    unfolding halvesOf
+    bands-cells =
+        let both = counts W in
         record {
-          evens = λ a i n ib. elim a [
-            | lo ↦ λ nb. corner i n ib nb
-            | hi ↦ λ nb. fetched (2 * i) (count lo w + n) (omega arith) ∙ fetched-even from w h x (cells s y₂) (count lo w + n) (omega arith) i ib (omega arith)
-          ];
-          odds = λ a i n ib. elim a [
-            | lo ↦ λ nb. fetched (2 * i + 1) n (omega arith) ∙ fetched-odd from w h x (cells s y₂) n (omega arith) i ib
-            | hi ↦ λ nb. fetched (2 * i + 1) (count lo w + n) (omega arith) ∙ fetched-odd from w h x (cells s y₂) (count lo w + n) (omega arith) i ib
+          bands = λ d a i n. elim a [
+            | lo ↦ λ ib nb. cells-flat s fetchedRows (place H d i) n (omega arith) ∙ bands-fetched .bands d lo i n ib nb
+            | hi ↦ λ ib nb. cells-flat s fetchedRows (place H d i) (count lo W + n) (omega arith) ∙ bands-fetched .bands d hi i n ib nb
           ];
         }
 
-    pub rebuilt : Rebuilt (suc L) w h x (cells s y₄)
-    rebuilt =
+    pub level-rebuilt : Rebuilt (suc L) W H x (cells s y)
+    unfolding mapBack
+    level-rebuilt =
         record {
           cell = λ r c rh cw.
-              let m = placed-in w c cw in
-              grid-at w (cells s y₄) r c
-              ∙ ap (λ (y : ℕ → ℤ). cells s y r (placed w c)) e₄
-              ∙ cells-flat s (levelUnlifted w h (cells s y₃)) r (placed w c) (omega arith)
-              ∙ sym (grid-at w (levelUnlifted w h (cells s y₃)) r c)
-              ∙ level-back w h (bandsBack L w h x) (cells s y₃) bands r c rh cw
-              ∙ sym (ap (λ (G : Grid). G r c) (back-is L w h x));
+              let m = placed-in W c cw in
+              grid-at W (cells s y) r c
+              ∙ ap (λ (u : ℕ → ℤ). cells s u r (placed W c)) e
+              ∙ cells-flat s (levelUnlifted W H (cells s (flat s fetchedRows))) r (placed W c) (omega arith)
+              ∙ sym (grid-at W (levelUnlifted W H (cells s (flat s fetchedRows))) r c)
+              ∙ level-back W H (bandsBack L W H x) (cells s (flat s fetchedRows)) bands-cells r c rh cw;
         }
-
-pub back-last : (s w h : ℕ) (x : Grid) (y₂ y₃ y₄ : ℕ → ℤ) → w ≤ s → y₃ ≡ flat s (rowsFetched 0 w h x (cells s y₂)) →
-    y₄ ≡ flat s (levelUnlifted w h (cells s y₃)) → Rebuilt 1 w h x (cells s y₄)
-unfolding mapBack
-back-last s w h x y₂ y₃ y₄ ws e₃ e₄ =
-    let both = counts w in
-    rebuilt s 0 w h x y₂ y₃ y₄ ws (omega arith) e₃ e₄ 0
-    (λ i n ib nb. fetched s 0 w h x y₂ y₃ y₄ ws (omega arith) e₃ e₄ (2 * i) n (omega arith) ∙
-    fetched-even 0 w h x (cells s y₂) n (omega arith) i ib (omega arith))
-
--- y₁ is the area with the low-low part in halves, y₂ with it in its own order
-pub back-more : (s w h : ℕ) (x : Grid) (y₁ y₂ y₃ y₄ : ℕ → ℤ) (L : ℕ) → w ≤ s → 1 < L → Rebuilt (L - 1) (count lo w) (count lo h) x (cells (2 * s) y₁) →
-    y₂ ≡ flat (2 * s) (rowsMapped (wovenInPlace (count lo w)) (count lo w) (count lo h) (cells (2 * s) y₁)) →
-    y₃ ≡ flat s (rowsFetched (count lo w) w h x (cells s y₂)) → y₄ ≡ flat s (levelUnlifted w h (cells s y₃)) → Rebuilt L w h x (cells s y₄)
-back-more s w h x y₁ y₂ y₃ y₄ zero ws b R e₂ e₃ e₄ = absurd (omega arith)
-back-more s w h x y₁ y₂ y₃ y₄ (suc L) ws b R e₂ e₃ e₄ =
-    let both = counts w in
-    let k : suc L - 1 ≡ L = omega arith in
-    let R′ : Rebuilt L (count lo w) (count lo h) x (cells (2 * s) y₁) = rw k at R in
-    rebuilt s (count lo w) w h x y₂ y₃ y₄ ws (omega arith) e₃ e₄ L
-    (λ i n ib nb.
-    fetched s (count lo w) w h x y₂ y₃ y₄ ws (omega arith) e₃ e₄ (2 * i) n (omega arith)
-    ∙ fetched-left (count lo w) w h x (cells s y₂) n (omega arith) i ib nb
-    ∙ sym (twice s y₂ i n)
-    ∙ ap (λ (y : ℕ → ℤ). cells (2 * s) y i n) e₂
-    ∙ cells-flat (2 * s) _ i n (omega arith)
-    ∙ woven-in (count lo w) (count lo h) (cells (2 * s) y₁) i n ib nb
-    ∙ R′ .cell i n ib nb)

@@ -9,7 +9,9 @@ pub mod LevelMath
 pub mod LevelsMath
 pub mod TestLaws
 pub mod LevelCalls
+pub mod ForwardCalls
 pub mod BackPass
 pub mod LevelSteps
+pub mod ForwardSteps
 pub mod CallLaws
 pub mod Demand2

@@ -2,7 +2,7 @@
 use mathlib.Core.Path.{_≡_, refl, sym, ap, _∙_, fun-ext}
 use mathlib.Core.List.{List}
 use mathlib.Core.Bool.{Bool, true, false, _&&_}
-use Prim.Native.Nat.{ℕ, suc, _+_, _-_, _*_, _≤_, _<_}
+use Prim.Native.Nat.{ℕ, suc, _+_, _-_, _≤_, _<_}
 use native.Mathlib.Decide.{decLt}
 use native.Mathlib.Omega.{arith}
 use lib.IntN.{ℤ, pos}
@@ -13,10 +13,11 @@ use Rattle.areas.proofs.AreaLaws.{front-at, did}
 use Rattle.numbers.specs.Signal.{at, pick, windowed, both}
 use borrow.Rule.Slice.PartMut.{midOf}
 use Rattle.numbers.proofs.Parts.{window-in, window-past, length-mid, at-mid}
-use Rattle.lifting.specs.Line.{lo, hi, count, parted, joined}
-use Rattle.lifting.specs.Halves.{halvesOf, inHalves, fronted}
-use Rattle.lifting.proofs.LineLaws.{counts, count-hi, joined-even, joined-odd, halves-low}
-use Rattle.lifting.proofs.LineLaws.{halves-high, halves-past, halves-are, front-in, front-past, front-are}
+use Rattle.lifting.specs.Line.{Half, lo, hi}
+use Rattle.lifting.specs.Halves.{fronted}
+use Rattle.lifting.specs.Grid.{Side, side, place, count, parted, joined}
+use Rattle.lifting.specs.GridHalves.{halvesOf, inHalves}
+use Rattle.lifting.proofs.GridLaws.{counts, place-in, joined-reads, halves-low, halves-high, halves-past, halves-are, front-in, front-past}
 use Rattle.wavelet.specs.Maps.{every}
 use Rattle.whole_map.specs.Rowwise.{cut, wovenInPlace, between}
 
@@ -44,36 +45,43 @@ lent-front n k x z l e h is =
     ∙ rw e
     (window-cut 0 n (at l) x (λ c q. let j : 0 + c ≡ c = omega arith in rw j (ap (λ (f : ℕ → ℤ). f c) is ∙ front-at n x z c q)))
 
-pub cut-parted : (n : ℕ) (x z : ℕ → ℤ) → inHalves n (parted (cut n x)) z ≡ inHalves n (parted x) z
-unfolding parted
-cut-parted n x z =
-    let sum = counts n in
-    let c = count-hi n in
-    halves-are n (parted (cut n x)) z _
-    (λ m h. cut-in n x (2 * m) (omega arith) ∙ sym (halves-low n (parted x) z m h))
-    (λ m h.
-    let k : count lo n + m - count lo n ≡ m = omega arith in
-    cut-in n x (2 * m + 1) (omega arith) ∙ sym (halves-high n (parted x) z (count lo n + m) (omega arith) (omega arith) ∙ ap (parted x hi) k))
-    (λ j h. sym (halves-past n (parted x) z j h))
-
-pub cut-woven : (n : ℕ) (x z : ℕ → ℤ) → fronted n (joined (halvesOf n (cut n x))) z ≡ fronted n (joined (halvesOf n x)) z
+-- a line's halves are within its length
+pub halves-cut : (S : Side) (y : ℕ → ℤ) (a : Half) (n : ℕ) → n < count a S → halvesOf S (cut (S .length) y) a n ≡ halvesOf S y a n
 unfolding halvesOf
-cut-woven n x z =
-    let sum = counts n in
-    let c = count-hi n in
-    let p = halvesOf n x in
-    front-are n (halvesOf n (cut n x)) z _
-    (λ m h. cut-in n x m (omega arith) ∙ sym (front-in n p z (joined p) (2 * m) (omega arith) ∙ joined-even p m))
-    (λ m h. cut-in n x (count lo n + m) (omega arith) ∙ sym (front-in n p z (joined p) (2 * m + 1) (omega arith) ∙ joined-odd p m))
-    (λ j h. sym (front-past n p z (joined p) j h))
+halves-cut S y lo n b = let both = counts S in cut-in (S .length) y n (omega arith)
+halves-cut S y hi n b = let both = counts S in cut-in (S .length) y (count lo S + n) (omega arith)
 
-module _ (n k : ℕ) (y x z : ℕ → ℤ) (l : List ℤ) (e : k ≡ n) (h : n ≤ length l) (is : at l ≡ fronted n x z) where
-  pub weave-through : (m : ℕ) → m ≡ n → y ≡ pick (leb (length (midOf 0 k l)) m)
-      (fronted (length (midOf 0 k l)) (joined (halvesOf (length (midOf 0 k l)) (at (midOf 0 k l)))) x) x → y ≡ wovenInPlace n x
+pub cut-parted : (S : Side) (x z : ℕ → ℤ) → inHalves S (parted S (cut (S .length) x)) z ≡ inHalves S (parted S x) z
+unfolding parted
+cut-parted S x z =
+    let sum = counts S in
+    halves-are S (parted S (cut (S .length) x)) z _
+    (λ m h. cut-in (S .length) x (place S lo m) (place-in S lo m h) ∙ sym (halves-low S (parted S x) z m h))
+    (λ m h.
+    let k : count lo S + m - count lo S ≡ m = omega arith in
+    cut-in (S .length) x (place S hi m) (place-in S hi m h) ∙ sym (halves-high S (parted S x) z (count lo S + m) (omega arith) (omega arith) ∙
+    ap (parted S x hi) k))
+    (λ j h. sym (halves-past S (parted S x) z j h))
+
+pub cut-woven : (S : Side) (x z : ℕ → ℤ) → fronted (S .length) (joined S (halvesOf S (cut (S .length) x))) z ≡ fronted (S .length) (joined S (halvesOf S x)) z
+cut-woven S x z =
+    fun-ext λ j.
+    elim (decLt j (S .length)) [
+      | yes b ↦ front-in (S .length) _ z j b ∙ joined-reads S _ _ (halves-cut S x) j b ∙ sym (front-in (S .length) _ z j b)
+      | no b ↦ front-past (S .length) _ z j (omega arith) ∙ sym (front-past (S .length) _ z j (omega arith))
+    ]
+
+module _ (S : Side) (k : ℕ) (y x z : ℕ → ℤ) (l : List ℤ) (e : k ≡ S .length) (h : S .length ≤ length l) (is : at l ≡ fronted (S .length) x z) where
+  pub weave-through : (m : ℕ) → m ≡ S .length → y ≡ pick (leb (length (midOf 0 k l)) m)
+      (fronted (length (midOf 0 k l)) (joined (side (S .start) (length (midOf 0 k l))) (halvesOf (side (S .start) (length (midOf 0 k l))) (at (midOf 0 k l))))
+      x) x → y ≡ wovenInPlace S x
   unfolding wovenInPlace
   weave-through m em made =
+      let n = S .length in
       let mid = length-mid 0 k l (omega arith) in
-      cc (did _ _ _ _ (le-leb (length (midOf 0 k l)) m (omega arith)) made, mid ∙ e, lent-front n k x z l e h is, cut-woven n x x)
+      let is′ : y ≡ fronted n (joined S (halvesOf S (at (midOf 0 k l)))) x =
+      rw (mid ∙ e) at (did _ _ _ _ (le-leb (length (midOf 0 k l)) m (omega arith)) made) in
+      is′ ∙ ap (λ (u : ℕ → ℤ). fronted n (joined S (halvesOf S u)) x) (lent-front n k x z l e h is) ∙ cut-woven S x x
 
 -- ---- a test of every number, gathered row by row: t is the test of row i
 and-both : (a b : Bool) → a && b ≡ both a b

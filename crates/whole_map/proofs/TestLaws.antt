@@ -7,26 +7,32 @@ use native.Mathlib.Nat.{mul-comm}
 use native.Mathlib.Omega.{arith}
 use lib.IntN.{ℤ, pos, negℤ, natAbs}
 use lib.Signed.{leZ}
-use lib.Dec.{leb}
-use borrow.Author.Tests.{lt-ltb, le-leb, leb-true}
+use lib.Dec.{leb, ltb}
+use borrow.Author.Tests.{lt-ltb, le-leb, leb-true, ltb-true}
 use Rattle.numbers.specs.Signal.{pick}
 use Rattle.numbers.specs.Word.{wrap32}
 use Rattle.numbers.proofs.Integers.{each, lin}
 use Rattle.numbers.proofs.Sweep.{both}
-use Rattle.lifting.specs.Line.{lo, count}
-use Rattle.lifting.proofs.LineLaws.{counts, count-lo}
+use Rattle.lifting.specs.Line.{lo, hi}
+use Rattle.lifting.specs.Grid.{Side, place, count, loneHigh, isEven, hasLine}
+use Rattle.lifting.specs.GridHalves.{unliftedInPlace}
+use Rattle.lifting.proofs.GridLaws.{counts, place-in}
+use Rattle.lifting.proofs.LoneLaws.{lone-high, has-lone, has-other}
 use Rattle.wavelet.specs.Limits.{maxSample, range}
-use Rattle.wavelet.specs.Bands.{Grid}
-use Rattle.wavelet.specs.Plane.{levelAt, mapBack, cells}
+use Rattle.wavelet.specs.Bands.{Grid, Band, bandOf, rowsHave, columnsHave, levelHas}
+use Rattle.wavelet.specs.Plane.{cells, inCorner, levelAt, planeBands, mapBack}
 use Rattle.wavelet.specs.Maps.{every, everyCell, valueFits, rebuiltFits}
-use Rattle.whole_map.specs.Rowwise.{cut, between}
-use Rattle.whole_map.specs.Passes.{within}
-use Rattle.whole_map.specs.LevelPasses.{Rebuilt, rowsBetween, regionInRange}
 use Rattle.wavelet.proofs.Bridge.{range-le}
 use Rattle.wavelet.proofs.GridLaws.{place-below}
 use Rattle.wavelet.proofs.MapTheorems.{every-each, each-every, every-same, cells-each, each-cells}
+use Rattle.wavelet.specs.Levels.{next}
+use Rattle.wavelet.proofs.SideLaws.{count-none}
+use Rattle.whole_map.specs.Rowwise.{cut, between}
+use Rattle.whole_map.specs.Passes.{within, rowsMapped}
+use Rattle.whole_map.specs.LevelPasses.{Rebuilt, goesOn, rowsEven, columnsEven, rowsBetween, regionInRange}
 use Rattle.whole_map.proofs.RowwiseLaws.{cut-in}
-use Rattle.whole_map.proofs.CellLaws.{placed, placed-in, placed-even, placed-odd, grid-at, by-within}
+use Rattle.whole_map.proofs.CellLaws.{placed, placed-in, placed-low, placed-high, grid-at, by-within}
+use Rattle.whole_map.proofs.LevelMath.{BandsIn, row-back}
 
 pub false-true : false ≡ true → ⊥
 false-true e = let z : _≡_ {A = ℕ} 0 1 = cc in omega arith
@@ -39,23 +45,48 @@ bool-same false false f g = refl
 pub both-is : (a b : Bool) → a ≡ true → b ≡ true → pick a b false ≡ true
 both-is a b e f = rw (e, f)
 
+pub both-both : (a b c : Bool) → pick a (pick b c false) false ≡ pick (pick a b false) c false
+both-both true b c = refl
+both-both false b c = refl
+
 -- one no is enough
 pub not-every : (n : ℕ) (p : ℕ → Bool) (i : ℕ) → i < n → p i ≡ false → every n p ≡ false
 not-every n p i h e = bool-same (every n p) false (λ a. sym e ∙ every-each n p a i h) (λ a. absurd (false-true a))
 
 -- in whatever order they stand: every number of a row, and every number of the row in halves
-pub every-placed : (w : ℕ) (p : ℕ → Bool) → every w (λ c. p (placed w c)) ≡ every w p
-every-placed w p =
-    let l = count-lo w in
+pub every-placed : (S : Side) (p : ℕ → Bool) → every (S .length) (λ c. p (placed S c)) ≡ every (S .length) p
+every-placed S p =
+    let l = counts S in
+    let w = S .length in
     bool-same _ _
     (λ e. each-every w p (λ j h.
-    elim (decLt j (count lo w)) [
-      | yes a ↦ sym (ap p (placed-even w j)) ∙ every-each w _ e (2 * j) (omega arith)
+    elim (decLt j (count lo S)) [
+      | yes a ↦ sym (ap p (placed-low S j)) ∙ every-each w _ e (place S lo j) (place-in S lo j a)
       | no a ↦
-          let k : count lo w + (j - count lo w) ≡ j = omega arith in
-          sym (ap p (placed-odd w (j - count lo w) ∙ k)) ∙ every-each w _ e (2 * (j - count lo w) + 1) (omega arith)
+          let k : count lo S + (j - count lo S) ≡ j = omega arith in
+          sym (ap p (placed-high S (j - count lo S) ∙ k)) ∙ every-each w _ e (place S hi (j - count lo S)) (place-in S hi (j - count lo S) (omega arith))
     ]))
-    (λ e. each-every w _ (λ c h. every-each w p e (placed w c) (placed-in w c h)))
+    (λ e. each-every w _ (λ c h. every-each w p e (placed S c) (placed-in S c h)))
+
+-- ---- whether more levels follow
+module _ (L w h : ℕ) where
+  pub goes-no : goesOn L w h ≡ false → 0 < w → 0 < h → L < 2
+  unfolding goesOn
+  goes-no e a b = elim (decLt 1 L) [
+    | yes l ↦ absurd (false-true (sym e ∙ simp (lt-ltb 1 L l, lt-ltb 0 w a, lt-ltb 0 h b)))
+    | no l ↦ omega arith
+  ]
+
+  pub goes-yes : goesOn L w h ≡ true → (2 ≤ L) × (0 < w) × (0 < h)
+  unfolding goesOn
+  goes-yes e =
+      let one = both (ltb 1 L) _ e in
+      let two = both (ltb 0 w) (ltb 0 h) (one .1) in
+      (ltb-true 1 L (one .0), ltb-true 0 w (two .0), ltb-true 0 h (two .1))
+
+-- the test, where the sizes are those of the low-low part
+pub goes-as : (L w h w′ h′ : ℕ) (r b : Bool) → w ≡ w′ → h ≡ h′ → r ≡ goesOn L w h → r ≡ b → goesOn L w′ h′ ≡ b
+goes-as L w h w′ h′ r b ew eh e f = let g : r ≡ goesOn L w′ h′ = rw (ew, eh) at e in sym g ∙ f
 
 -- ---- ranges
 abs-between : (N : ℕ) (m v : ℤ) → m ≡ pos N → leZ (negℤ m) v ≡ true → leZ v m ≡ true → natAbs v ≤ N
@@ -102,36 +133,151 @@ pub between-fits : (k : ℕ) (v : ℤ) → between (negℤ (pos (range (k + 1)))
 between-fits k v = let e : k + 1 ≡ suc k = omega arith in rw e (level-fits k v)
 
 -- the numbers of a rebuilt level, in halves, are the grid's
-module _ (k L w h : ℕ) (x X : Grid) (R : Rebuilt L w h x X) where
-  pub rebuilt-cells : everyCell w h (λ r c. valueFits k (X r c)) ≡ everyCell w h (λ r c. valueFits k (mapBack wrap32 L w h x r c))
+module _ (k L : ℕ) (W H : Side) (x X : Grid) (R : Rebuilt L W H x X) where
+  pub rebuilt-cells : everyCell (W .length) (H .length) (λ r c. valueFits k (X r c)) ≡
+      everyCell (W .length) (H .length) (λ r c. valueFits k (mapBack wrap32 L W H x r c))
   unfolding everyCell
   rebuilt-cells =
-      every-same h _ _ (λ r rh.
-      sym (every-placed w (λ c. valueFits k (X r c)))
-      ∙ every-same w _ _ (λ c cw. ap (valueFits k) (sym (grid-at w X r c) ∙ R .cell r c rh cw)))
+      every-same (H .length) _ _ (λ r rh.
+      sym (every-placed W (λ c. valueFits k (X r c)))
+      ∙ every-same (W .length) _ _ (λ c cw. ap (valueFits k) (sym (grid-at W X r c) ∙ R .cell r c rh cw)))
 
-pub rebuilt-test : (k L w h : ℕ) (x X : Grid) → Rebuilt L w h x X →
-    rowsBetween 0 h 0 w (negℤ (pos (range (k + 1)))) (pos (range (k + 1))) X ≡ everyCell w h (λ r c. valueFits (k + 1) (mapBack wrap32 L w h x r c))
+pub rebuilt-test : (k L : ℕ) (W H : Side) (x X : Grid) → Rebuilt L W H x X →
+    rowsBetween 0 (H .length) 0 (W .length) (negℤ (pos (range (k + 1)))) (pos (range (k + 1))) X ≡
+    everyCell (W .length) (H .length) (λ r c. valueFits (k + 1) (mapBack wrap32 L W H x r c))
 unfolding rowsBetween everyCell
-rebuilt-test k L w h x X R =
-    let kw : w - 0 ≡ w = omega arith in
-    let kh : h - 0 ≡ h = omega arith in
+rebuilt-test k L W H x X R =
+    let kw : W .length - 0 ≡ W .length = omega arith in
+    let kh : H .length - 0 ≡ H .length = omega arith in
     rw (kw, kh)
-    (every-same h _ _ (λ r rh.
-    every-same w _ _ (λ c cw. let a : 0 + r ≡ r = omega arith in let b : 0 + c ≡ c = omega arith in rw (a, b) (between-fits k (X r c))))
-    ∙ rebuilt-cells (k + 1) L w h x X R)
+    (every-same (H .length) _ _ (λ r rh.
+    every-same (W .length) _ _ (λ c cw. let a : 0 + r ≡ r = omega arith in let b : 0 + c ≡ c = omega arith in rw (a, b) (between-fits k (X r c))))
+    ∙ rebuilt-cells (k + 1) L W H x X R)
 
--- 14 at every level: first of the low-low part, then of this level
-pub fits-more : (k L w h : ℕ) (x : Grid) → 0 < L →
-    rebuiltFits k L w h x ≡ pick (rebuiltFits (k + 1) (L - 1) (count lo w) (count lo h) x) (everyCell w h (λ r c. valueFits k (mapBack wrap32 L w h x r c)))
-    false
+-- 14 at every level: first of the low-low part, then of what this level halves, then of its own numbers
+pub fits-more : (k L : ℕ) (W H : Side) (x : Grid) → 0 < L →
+    rebuiltFits k L W H x ≡ pick (rebuiltFits (k + 1) (L - 1) (next W) (next H) x)
+    (pick (levelHas W H (planeBands W H (mapBack wrap32 (L - 1) (next W) (next H) x) x))
+    (everyCell (W .length) (H .length) (λ r c. valueFits k (mapBack wrap32 L W H x r c))) false) false
 unfolding rebuiltFits
-fits-more k zero w h x b = absurd (omega arith)
-fits-more k (suc L) w h x b = let a : suc L - 1 ≡ L = omega arith in let e : k + 1 ≡ suc k = omega arith in rw (a, e)
+fits-more k zero W H x b = absurd (omega arith)
+fits-more k (suc L) W H x b = let a : suc L - 1 ≡ L = omega arith in let e : k + 1 ≡ suc k = omega arith in rw (a, e)
 
-pub fits-none : (k w h : ℕ) (x : Grid) → rebuiltFits k (1 - 1) w h x ≡ true
-unfolding rebuiltFits
-fits-none k w h x = refl
+-- a lone high sample is alone
+pub lone-wide : (S : Side) → (S .length ≡ 1 → ⊥) → loneHigh S ≡ false
+lone-wide S n = elim (loneHigh S) as (λ t. loneHigh S ≡ t → loneHigh S ≡ false) [
+  | true ↦ λ e. let t = lone-high S e in absurd (n (t .0))
+  | false ↦ λ e. e
+] refl
+
+none-lone : (S : Side) → S .length ≡ 0 → loneHigh S ≡ false
+none-lone S z = lone-wide S (λ e. omega arith)
+
+-- an empty grid fits
+module _ (W H : Side) (p : Band → Grid) where
+  rows-hold-lone : loneHigh W ≡ false → rowsHave W H p ≡ true
+  unfolding rowsHave
+  rows-hold-lone e = both-is _ _ (each-every (count lo H) _ (λ r b. has-other W _ e)) (each-every (count hi H) _ (λ r b. has-other W _ e))
+
+  columns-hold-lone : loneHigh H ≡ false → columnsHave W H p ≡ true
+  unfolding columnsHave
+  columns-hold-lone e = each-every (W .length) _ (λ c b. has-other H _ e)
+
+  no-columns-have : W .length ≡ 0 → levelHas W H p ≡ true
+  unfolding levelHas columnsHave
+  no-columns-have z = both-is _ _ (rows-hold-lone (none-lone W z)) (each-every (W .length) _ (λ c b. absurd (omega arith)))
+
+  no-rows-have : H .length ≡ 0 → levelHas W H p ≡ true
+  unfolding levelHas rowsHave
+  no-rows-have z =
+      let l = count-none H z lo in
+      let m = count-none H z hi in
+      both-is _ _ (both-is _ _ (each-every (count lo H) _ (λ r b. absurd (omega arith))) (each-every (count hi H) _ (λ r b. absurd (omega arith))))
+      (columns-hold-lone (none-lone H z))
+
+no-columns-fit : (k L : ℕ) (W H : Side) (x : Grid) → W .length ≡ 0 → rebuiltFits k L W H x ≡ true
+unfolding rebuiltFits next
+no-columns-fit k zero W H x z = refl
+no-columns-fit k (suc L) W H x z =
+    both-is _ _ (no-columns-fit (suc k) L (next W) (next H) x (count-none W z lo))
+    (both-is _ _ (no-columns-have W H _ z) (each-cells (W .length) (H .length) _ (λ r c rh cw. absurd (omega arith))))
+
+no-rows-fit : (k L : ℕ) (W H : Side) (x : Grid) → H .length ≡ 0 → rebuiltFits k L W H x ≡ true
+unfolding rebuiltFits next
+no-rows-fit k zero W H x z = refl
+no-rows-fit k (suc L) W H x z =
+    both-is _ _ (no-rows-fit (suc k) L (next W) (next H) x (count-none H z lo))
+    (both-is _ _ (no-rows-have W H _ z) (each-cells (W .length) (H .length) _ (λ r c rh cw. absurd (omega arith))))
+
+-- nothing is asked of a low-low part where no more levels follow
+pub fits-none : (k L : ℕ) (W H : Side) (x : Grid) → 0 < L → goesOn L (count lo W) (count lo H) ≡ false → rebuiltFits k (L - 1) (next W) (next H) x ≡ true
+unfolding next rebuiltFits
+fits-none k L W H x some e =
+    elim (decLt 0 (count lo W)) [
+      | no a ↦ no-columns-fit k (L - 1) (next W) (next H) x (omega arith)
+      | yes a ↦
+          elim (decLt 0 (count lo H)) [
+            | no b ↦ no-rows-fit k (L - 1) (next W) (next H) x (omega arith)
+            | yes b ↦ let f = goes-no L (count lo W) (count lo H) e a b in let z : L - 1 ≡ 0 = omega arith in rw z refl
+          ]
+    ]
+
+-- ---- the values that are halved
+-- the bands of a lone high column, as they stand in the plane
+pub rows-even : (W H : Side) (a x : Grid) → rowsHave W H (planeBands W H a x) ≡ rowsEven W (H .length) x
+unfolding rowsHave rowsEven planeBands bandOf
+rows-even W H a x =
+    elim (loneHigh W) as (λ t. loneHigh W ≡ t → rowsHave W H (planeBands W H a x) ≡ rowsEven W (H .length) x) [
+      | false ↦ λ l. rows-hold-lone W H (planeBands W H a x) l ∙ simp l
+      | true ↦ λ l.
+          let t = lone-high W l in
+          let s = counts H in
+          let here : (r : ℕ) → x r (count lo W + 0) ≡ x r 0 = λ r. ap (x r) (omega arith) in
+          let low : (r : ℕ) → hasLine W (λ b. planeBands W H a x (bandOf b lo) r) ≡ isEven (x r 0) = λ r. has-lone W _ l ∙ ap isEven (here r) in
+          let high : (r : ℕ) → hasLine W (λ b. planeBands W H a x (bandOf b hi) r) ≡ isEven (x (count lo H + r) 0) = λ r. has-lone W _ l ∙
+          ap isEven (here (count lo H + r)) in
+          bool-same _ _
+          (λ e.
+          let two = both (every (count lo H) (λ r. hasLine W (λ b. planeBands W H a x (bandOf b lo) r))) _ e in
+          simp l
+          (each-every (H .length) _ (λ r rh.
+          elim (decLt r (count lo H)) [
+            | yes b ↦ sym (low r) ∙ every-each (count lo H) _ (two .0) r b
+            | no b ↦
+                let k : count lo H + (r - count lo H) ≡ r = omega arith in
+                ap (λ (i : ℕ). isEven (x i 0)) (sym k) ∙ sym (high (r - count lo H)) ∙ every-each (count hi H) _ (two .1) (r - count lo H) (omega arith)
+          ])))
+          (λ e.
+          let f : every (H .length) (λ r. isEven (x r 0)) ≡ true = simp l at e in
+          both-is _ _
+          (each-every (count lo H) _ (λ r b. low r ∙ every-each (H .length) _ f r (omega arith)))
+          (each-every (count hi H) _ (λ r b. high r ∙ every-each (H .length) _ f (count lo H + r) (omega arith))))
+    ] refl
+
+-- a lone high row is the first
+first-high : (H : Side) → loneHigh H ≡ true → place H hi 0 ≡ 0
+unfolding place
+first-high H l =
+    let t = lone-high H l in
+    let b = place-in H hi 0 (omega arith) in
+    omega arith
+
+-- a lone high row, lifted back, where the area has the bands p
+pub columns-even : (W H : Side) (p : Band → Grid) (X : Grid) → BandsIn W H p X →
+    columnsHave W H p ≡ columnsEven (W .length) H (rowsMapped (unliftedInPlace W) (W .length) (H .length) X)
+unfolding columnsHave columnsEven
+columns-even W H p X b =
+    let Z = rowsMapped (unliftedInPlace W) (W .length) (H .length) X in
+    elim (loneHigh H) as (λ t. loneHigh H ≡ t → columnsHave W H p ≡ columnsEven (W .length) H Z) [
+      | false ↦ λ l. columns-hold-lone W H p l ∙ simp l
+      | true ↦ λ l.
+          let t = lone-high H l in
+          let k : place H hi 0 ≡ 0 = first-high H l in
+          simp l
+          (every-same (W .length) _ _ (λ c cw.
+          has-lone H _ l ∙ ap isEven (sym (row-back W H p X b hi 0 c (omega arith) cw) ∙ ap (λ (r : ℕ). Z r (placed W c)) k))
+          ∙ every-placed W (λ c. isEven (Z 0 c)))
+    ] refl
 
 -- ---- question 7
 -- rows of a region within ±N
@@ -152,19 +298,26 @@ module _ (first last from to N : ℕ) (x : Grid) where
       each-cells (to - from) (last - first) _
       (λ r c rh cw. between-is N (x (first + r) (from + c)) ∙ f (first + r) (from + c) (omega arith) (omega arith) (omega arith) (omega arith))
 
-module _ (L w h : ℕ) (r c : ℕ) where
-  level-corner : r < count lo h → c < count lo w → levelAt (suc L) w h r c ≡ 1 + levelAt L (count lo w) (count lo h) r c
-  unfolding levelAt
-  level-corner rb cb = simp (lt-ltb r (count lo h) rb, lt-ltb c (count lo w) cb)
+module _ (L : ℕ) (W H : Side) (r c : ℕ) where
+  level-corner : r < count lo H → c < count lo W → levelAt (suc L) W H r c ≡ 1 + levelAt L (next W) (next H) r c
+  unfolding levelAt inCorner
+  level-corner rb cb = simp (lt-ltb r (count lo H) rb, lt-ltb c (count lo W) cb)
 
-  level-rest : within (count lo w) (count lo h) r c ≡ false → levelAt (suc L) w h r c ≡ 1
-  unfolding levelAt within
+  level-rest : within (count lo W) (count lo H) r c ≡ false → levelAt (suc L) W H r c ≡ 1
+  unfolding levelAt inCorner within
   level-rest e = simp e
 
-level-last : (w h r c : ℕ) → levelAt 1 w h r c ≡ 1
+-- where no more levels follow
+level-last : (L : ℕ) (W H : Side) (r c : ℕ) → 0 < L → goesOn L (count lo W) (count lo H) ≡ false → levelAt L W H r c ≡ 1
 unfolding levelAt
-level-last w h r c =
-    by-within (count lo w) (count lo h) r c (λ rb cb. level-corner 0 w h r c rb cb) (λ e. level-rest 0 w h r c e)
+level-last zero W H r c some e = absurd (omega arith)
+level-last (suc L) W H r c some e =
+    by-within (count lo W) (count lo H) r c
+    (λ rb cb.
+    let f = goes-no (suc L) (count lo W) (count lo H) e (omega arith) (omega arith) in
+    let z : L ≡ 0 = omega arith in
+    level-corner L W H r c rb cb ∙ rw z refl)
+    (λ o. level-rest L W H r c o)
 
 outside : (w h r c : ℕ) → (r < h → c < w → ⊥) → within w h r c ≡ false
 outside w h r c f = by-within w h r c (λ a b. absurd (f a b)) (λ e. e)
@@ -172,35 +325,40 @@ outside w h r c f = by-within w h r c (λ a b. absurd (f a b)) (λ e. e)
 abbrev rangeTest : Grid → ℕ → ℕ → ℕ → Bool
 rangeTest x r c k = leb (natAbs (x r c)) (range k)
 
-pub region-last : (k w h : ℕ) (x : Grid) → 0 < k → regionInRange k 1 w h x ≡ rowsBetween 0 h 0 w (negℤ (pos (range k))) (pos (range k)) x
+pub region-last : (k L : ℕ) (W H : Side) (x : Grid) → 0 < k → 0 < L → goesOn L (count lo W) (count lo H) ≡ false →
+    regionInRange k L W H x ≡ rowsBetween 0 (H .length) 0 (W .length) (negℤ (pos (range k))) (pos (range k)) x
 unfolding regionInRange
-region-last k w h x b =
-    let here : (r c : ℕ) → k - 1 + levelAt 1 w h r c ≡ k = λ r c. omega (arith, level-last w h r c) in
+region-last k L W H x b some e =
+    let w = W .length in
+    let h = H .length in
+    let here : (r c : ℕ) → k - 1 + levelAt L W H r c ≡ k = λ r c. omega (arith, level-last L W H r c some e) in
     bool-same _ _
     (λ e. rows-are 0 h 0 w (range k) x (λ r c _ rh _ cw. sym (ap (rangeTest x r c) (here r c)) ∙ cells-each w h _ e r c rh cw))
     (λ e. each-cells w h _ (λ r c rh cw. ap (rangeTest x r c) (here r c) ∙ rows-hold 0 h 0 w (range k) x e r c (omega arith) rh (omega arith) cw))
 
-module _ (k L w h : ℕ) (x : Grid) where
+module _ (k L : ℕ) (W H : Side) (x : Grid) where
   abbrev inner : Bool
-  inner = regionInRange (k + 1) L (count lo w) (count lo h) x
+  inner = regionInRange (k + 1) L (next W) (next H) x
 
   abbrev right : Bool
-  right = rowsBetween 0 (count lo h) (count lo w) w (negℤ (pos (range k))) (pos (range k)) x
+  right = rowsBetween 0 (count lo H) (count lo W) (W .length) (negℤ (pos (range k))) (pos (range k)) x
 
   abbrev below : Bool
-  below = rowsBetween (count lo h) h 0 w (negℤ (pos (range k))) (pos (range k)) x
+  below = rowsBetween (count lo H) (H .length) 0 (W .length) (negℤ (pos (range k))) (pos (range k)) x
 
-  region-suc : 0 < k → regionInRange k (suc L) w h x ≡ pick inner (pick right below false) false
-  unfolding regionInRange
+  region-suc : 0 < k → regionInRange k (suc L) W H x ≡ pick inner (pick right below false) false
+  unfolding regionInRange next
   region-suc b =
-      let bw = counts w in
-      let bh = counts h in
-      let w′ = count lo w in
-      let h′ = count lo h in
-      let corner : (r c : ℕ) → r < h′ → c < w′ → k - 1 + levelAt (suc L) w h r c ≡ k + 1 - 1 + levelAt L w′ h′ r c =
-      λ r c rb cb. omega (arith, level-corner L w h r c rb cb) in
-      let rest : (r c : ℕ) → within w′ h′ r c ≡ false → k - 1 + levelAt (suc L) w h r c ≡ k =
-      λ r c e. omega (arith, level-rest L w h r c e) in
+      let bw = counts W in
+      let bh = counts H in
+      let w = W .length in
+      let h = H .length in
+      let w′ = count lo W in
+      let h′ = count lo H in
+      let corner : (r c : ℕ) → r < h′ → c < w′ → k - 1 + levelAt (suc L) W H r c ≡ k + 1 - 1 + levelAt L (next W) (next H) r c =
+      λ r c rb cb. omega (arith, level-corner L W H r c rb cb) in
+      let rest : (r c : ℕ) → within w′ h′ r c ≡ false → k - 1 + levelAt (suc L) W H r c ≡ k =
+      λ r c e. omega (arith, level-rest L W H r c e) in
       bool-same _ _
       (λ e.
       let all = cells-each w h _ e in
@@ -225,25 +383,28 @@ module _ (k L w h : ℕ) (x : Grid) where
             rows-hold h′ h 0 w (range k) x (two .1) r c (omega arith) rh (omega arith) cw
       ]))
 
-pub region-more : (k L w h : ℕ) (x : Grid) → 0 < k → 1 < L →
-    regionInRange k L w h x ≡ pick (inner k (L - 1) w h x) (pick (right k (L - 1) w h x) (below k (L - 1) w h x) false) false
-region-more k zero w h x b m = absurd (omega arith)
-region-more k (suc L) w h x b m = let a : suc L - 1 ≡ L = omega arith in rw a (region-suc k L w h x b)
+pub region-more : (k L : ℕ) (W H : Side) (x : Grid) → 0 < k → 1 < L →
+    regionInRange k L W H x ≡ pick (inner k (L - 1) W H x) (pick (right k (L - 1) W H x) (below k (L - 1) W H x) false) false
+region-more k zero W H x b m = absurd (omega arith)
+region-more k (suc L) W H x b m = let a : suc L - 1 ≡ L = omega arith in rw a (region-suc k L W H x b)
 
--- the least range is that of level 1: n = W * H numbers that keep it, as one row of them, are a plane in range
-level-some : (L W H r c : ℕ) → 0 < L → 1 ≤ levelAt L W H r c
+-- the least range is that of level 1: the numbers of a plane that keep it, as one row of them, are in range
+level-some : (L : ℕ) (W H : Side) (r c : ℕ) → 0 < L → 1 ≤ levelAt L W H r c
 level-some zero W H r c h = absurd (omega arith)
 level-some (suc L) W H r c h =
     by-within (count lo W) (count lo H) r c (λ rb cb. omega (arith, level-corner L W H r c rb cb)) (λ e. omega (arith, level-rest L W H r c e))
 
-pub region-least : (L W H : ℕ) (x : ℕ → ℤ) → 0 < L → rowsBetween 0 1 0 (W * H) (negℤ (pos (range 1))) (pos (range 1)) (cells (W * H) x) ≡ true →
-    regionInRange 1 L W H (cells W x) ≡ true
+pub region-least : (L : ℕ) (W H : Side) (x : ℕ → ℤ) → 0 < L →
+    rowsBetween 0 1 0 (W .length * H .length) (negℤ (pos (range 1))) (pos (range 1)) (cells (W .length * H .length) x) ≡ true →
+    regionInRange 1 L W H (cells (W .length) x) ≡ true
 unfolding regionInRange cells
 region-least L W H x some e =
-    each-cells W H _ (λ r c rh cw.
-    let j : 0 * (W * H) + (r * W + c) ≡ r * W + c = omega arith in
-    let place = place-below W H r c rh cw in
-    let swap : H * W ≡ W * H = mul-comm H W in
-    let held = rows-hold 0 1 0 (W * H) (range 1) (cells (W * H) x) e 0 (r * W + c) (omega arith) (omega arith) (omega arith) (omega arith) in
+    let w = W .length in
+    let h = H .length in
+    each-cells w h _ (λ r c rh cw.
+    let j : 0 * (w * h) + (r * w + c) ≡ r * w + c = omega arith in
+    let place = place-below w h r c rh cw in
+    let swap : h * w ≡ w * h = mul-comm h w in
+    let held = rows-hold 0 1 0 (w * h) (range 1) (cells (w * h) x) e 0 (r * w + c) (omega arith) (omega arith) (omega arith) (omega arith) in
     let least : range 1 ≤ range (1 - 1 + levelAt L W H r c) = range-le 1 (1 - 1 + levelAt L W H r c) (omega (arith, level-some L W H r c some)) in
-    le-leb (natAbs (x (r * W + c))) (range (1 - 1 + levelAt L W H r c)) (omega (arith, leb-true (natAbs (x (r * W + c))) (range 1) (rw j at held))))
+    le-leb (natAbs (x (r * w + c))) (range (1 - 1 + levelAt L W H r c)) (omega (arith, leb-true (natAbs (x (r * w + c))) (range 1) (rw j at held))))

@@ -1,15 +1,16 @@
--- What the two calls answer and leave: document 01, "The plane" and "The gate questions".
+-- What the two calls answer and leave, for a map of the columns W and the rows H: document 01, "The plane" and "The gate questions"; document 02, Q-3.
 use Prim.Native.Nat.{ℕ, _*_}
 use lib.IntN.{ℤ, pos}
 use lib.Dec.{leb, eqb}
 use Rattle.numbers.specs.Signal.{pick, both}
 use Rattle.lifting.specs.Halves.{fronted}
+use Rattle.lifting.specs.Grid.{Side}
 use Rattle.wavelet.specs.Limits.{maxWidth, maxHeight, maxLevels}
 use Rattle.wavelet.specs.Questions.{ask, within}
 use Rattle.wavelet.specs.Bands.{Grid}
 use Rattle.wavelet.specs.Maps.{inRange, rebuiltFits}
 
--- questions 2, 3, 4 and 5, of areas of a, b and c numbers, and then `rest`
+-- questions 2, 3, 4 and 5, of areas of a, b and c numbers, and then `rest`; where the map starts is not asked
 unfoldable pub sizeQuestions : ℕ → ℕ → ℕ → ℕ → ℕ → ℕ → ℕ → ℕ
 sizeQuestions W H L a b c rest =
     ask (within 1 maxWidth W) 2
@@ -18,15 +19,15 @@ sizeQuestions W H L a b c rest =
     (ask (both (leb (W * H) a) (both (leb (W * H) b) (leb (W * H) c))) 5
     rest)))
 
-unfoldable pub forwardQuestion : ℕ → ℕ → ℕ → ℕ → ℕ → ℕ → ℕ
-forwardQuestion W H L heights plane work = sizeQuestions W H L heights plane work 0
+unfoldable pub forwardQuestion : Side → Side → ℕ → ℕ → ℕ → ℕ → ℕ
+forwardQuestion W H L heights plane work = sizeQuestions (W .length) (H .length) L heights plane work 0
 
 -- 7 and 14, of the plane x
-unfoldable pub planeQuestions : ℕ → ℕ → ℕ → Grid → ℕ
+unfoldable pub planeQuestions : Side → Side → ℕ → Grid → ℕ
 planeQuestions W H L x = ask (inRange L W H x) 7 (ask (rebuiltFits 0 L W H x) 14 0)
 
-unfoldable pub backwardQuestion : ℕ → ℕ → ℕ → ℕ → ℕ → ℕ → Grid → ℕ
-backwardQuestion W H L plane heights work x = sizeQuestions W H L plane heights work (planeQuestions W H L x)
+unfoldable pub backwardQuestion : Side → Side → ℕ → ℕ → ℕ → ℕ → Grid → ℕ
+backwardQuestion W H L plane heights work x = sizeQuestions (W .length) (H .length) L plane heights work (planeQuestions W H L x)
 
 abbrev pub zeros : ℕ → ℤ
 zeros _ = pos 0

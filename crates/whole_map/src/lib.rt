@@ -5,14 +5,17 @@ mod passes;
 mod rowwise;
 
 use wavelet::limits;
+use wavelet::shape::Shape;
 ghost use mathlib.Core.Path.{_≡_};
 ghost use Prim.Native.Nat.{_*_, _≤_};
 ghost use lib.ListN.{length};
 ghost use Rattle.numbers.specs.Signal.{at};
 ghost use Rattle.numbers.specs.Word.{whole, wrap32};
 ghost use Rattle.lifting.specs.Halves.{fronted};
-ghost use Rattle.wavelet.specs.Plane.{planeOf, mapBack, cells, flat};
+ghost use Rattle.lifting.specs.Grid.{side};
+ghost use Rattle.wavelet.specs.Plane.{cells, flat, planeOf, mapBack};
 ghost use Rattle.wavelet.specs.Questions.{Sized};
+ghost use Rattle.wavelet.specs.Shape.{columns, rows};
 ghost use Rattle.whole_map.specs.Rowwise.{heightsAt};
 ghost use Rattle.whole_map.specs.LevelPasses.{MapRebuilt};
 ghost use Rattle.whole_map.specs.Calls.{sizeQuestions, forwardQuestion, planeQuestions, backwardQuestion, zeros, passed, rebuilt};
@@ -41,7 +44,9 @@ fn size_question(width: usize, height: usize, levels: usize, a: usize, b: usize,
 // The map's plane, all questions passed.
 fn transform(
     heights: &[u16],
+    x: usize,
     width: usize,
+    y: usize,
     height: usize,
     levels: usize,
     plane: &mut [i32],
@@ -50,32 +55,30 @@ fn transform(
     requires { ⌜ Sized width height levels × (width * height ≤ length (now heights)) × (width * height ≤ length (now plane))
         × (width * height ≤ length (now work)) ⌝ }
     ensures { λ _. ⌜ at (now (plane .exit)) ≡
-        fronted (width * height) (planeOf whole levels width height (cells width (heightsAt (now (heights .entry))))) (at (now (plane .entry))) ⌝ }
+        fronted (width * height) (planeOf whole levels (side x width) (side y height) (cells width (heightsAt (now (heights .entry)))))
+        (at (now (plane .entry))) ⌝ }
     ensures { λ _. ⌜ at (now (work .exit)) ≡ fronted (width * height) zeros (at (now (work .entry))) ⌝ }
 {
-    heights::load_rows(heights, plane, width, height);
-    levels::forward_levels(plane, work, width, width, height, levels);
+    heights::load_rows(heights, plane, x, width, y, height);
+    levels::forward_levels(plane, work, width, x, width, y, height, levels);
     areas::copies::clear(work, width * height);
 }
 
 // The plane of a map of heights, by the levels of T.800. It answers 0, or the number of the question that turned it away.
-pub fn forward(
-    heights: &[u16],
-    width: usize,
-    height: usize,
-    levels: usize,
-    plane: &mut [i32],
-    work: &mut [i32],
-) -> u8
-    ensures { λ r. ⌜ r ≡ forwardQuestion width height levels (length (now (heights .entry))) (length (now (plane .entry))) (length (now (work .entry))) ⌝ }
+pub fn forward(heights: &[u16], shape: Shape, plane: &mut [i32], work: &mut [i32]) -> u8
+    ensures { λ r. ⌜ r ≡
+        forwardQuestion (columns shape) (rows shape) (shape .levels) (length (now (heights .entry))) (length (now (plane .entry)))
+        (length (now (work .entry))) ⌝ }
     ensures { λ r. ⌜ at (now (plane .exit)) ≡
-        passed r (width * height) (planeOf whole levels width height (cells width (heightsAt (now (heights .entry))))) (at (now (plane .entry))) ⌝ }
-    ensures { λ r. ⌜ at (now (work .exit)) ≡ passed r (width * height) zeros (at (now (work .entry))) ⌝ }
+        passed r (shape .width * shape .height)
+        (planeOf whole (shape .levels) (columns shape) (rows shape) (cells (shape .width) (heightsAt (now (heights .entry)))))
+        (at (now (plane .entry))) ⌝ }
+    ensures { λ r. ⌜ at (now (work .exit)) ≡ passed r (shape .width * shape .height) zeros (at (now (work .entry))) ⌝ }
 {
     let q = size_question(
-        width,
-        height,
-        levels,
+        shape.width,
+        shape.height,
+        shape.levels,
         heights.len(),
         plane.len(),
         work.len(),
@@ -83,14 +86,25 @@ pub fn forward(
     if q != 0 {
         return q;
     }
-    transform(heights, width, height, levels, plane, work);
+    transform(
+        heights,
+        shape.x as usize,
+        shape.width,
+        shape.y as usize,
+        shape.height,
+        shape.levels,
+        plane,
+        work,
+    );
     0
 }
 
 // The map of a plane, where its rebuilt values fit, and work zero; else false, and what stands in both areas is for the caller to clear.
 fn rebuild(
     plane: &[i32],
+    x: usize,
     width: usize,
+    y: usize,
     height: usize,
     levels: usize,
     heights: &mut [u16],
@@ -98,19 +112,21 @@ fn rebuild(
 ) -> bool
     requires { ⌜ Sized width height levels × (width * height ≤ length (now plane)) × (width * height ≤ length (now heights))
         × (width * height ≤ length (now work)) ⌝ }
-    ensures { λ ok. ⌜ MapRebuilt ok width height levels (at (now (plane .entry))) (heightsAt (now (heights .entry))) (heightsAt (now (heights .exit)))
-        (at (now (work .entry))) (at (now (work .exit))) ⌝ }
+    ensures { λ ok. ⌜ MapRebuilt ok (side x width) (side y height) levels (at (now (plane .entry))) (heightsAt (now (heights .entry)))
+        (heightsAt (now (heights .exit))) (at (now (work .entry))) (at (now (work .exit))) ⌝ }
 {
-    if !levels::back_levels(plane, work, width, width, width, height, levels, 0) {
+    if !levels::back_levels(plane, work, width, width, x, width, y, height, levels, 0) {
         return false;
     }
-    heights::finish_rows(work, heights, width, height)
+    heights::finish_rows(work, heights, x, width, height)
 }
 
 // The map of a plane in range, where its rebuilt values fit; else 14, and heights and work are zero.
 fn restore(
     plane: &[i32],
+    x: usize,
     width: usize,
+    y: usize,
     height: usize,
     levels: usize,
     heights: &mut [u16],
@@ -118,17 +134,17 @@ fn restore(
 ) -> u8
     requires { ⌜ Sized width height levels × (width * height ≤ length (now plane)) × (width * height ≤ length (now heights))
         × (width * height ≤ length (now work)) ⌝ }
-    ensures { λ r. ⌜ r ≡ planeQuestions width height levels (cells width (at (now (plane .entry)))) ⌝ }
+    ensures { λ r. ⌜ r ≡ planeQuestions (side x width) (side y height) levels (cells width (at (now (plane .entry)))) ⌝ }
     ensures { λ r. ⌜ heightsAt (now (heights .exit)) ≡
-        rebuilt r (width * height) (flat width (mapBack wrap32 levels width height (cells width (at (now (plane .entry))))))
+        rebuilt r (width * height) (flat width (mapBack wrap32 levels (side x width) (side y height) (cells width (at (now (plane .entry))))))
         (heightsAt (now (heights .entry))) ⌝ }
     ensures { λ r. ⌜ at (now (work .exit)) ≡ rebuilt r (width * height) zeros (at (now (work .entry))) ⌝ }
 {
-    if !levels::plane_in_range(plane, width, height, levels) {
+    if !levels::plane_in_range(plane, x, width, y, height, levels) {
         return 7;
     }
-    if !rebuild(plane, width, height, levels, heights, work) {
-        areas::heights::clear_heights(heights, width * height);
+    if !rebuild(plane, x, width, y, height, levels, heights, work) {
+        areas::height_rows::clear_heights(heights, width * height);
         areas::copies::clear(work, width * height);
         return 14;
     }
@@ -136,26 +152,20 @@ fn restore(
 }
 
 // The map that has a plane. It answers 0, or the number of the question that turned it away: 7 or 14 where no map has it.
-pub fn backward(
-    plane: &[i32],
-    width: usize,
-    height: usize,
-    levels: usize,
-    heights: &mut [u16],
-    work: &mut [i32],
-) -> u8
+pub fn backward(plane: &[i32], shape: Shape, heights: &mut [u16], work: &mut [i32]) -> u8
     ensures { λ r. ⌜ r ≡
-        backwardQuestion width height levels (length (now (plane .entry))) (length (now (heights .entry))) (length (now (work .entry)))
-        (cells width (at (now (plane .entry)))) ⌝ }
+        backwardQuestion (columns shape) (rows shape) (shape .levels) (length (now (plane .entry))) (length (now (heights .entry)))
+        (length (now (work .entry))) (cells (shape .width) (at (now (plane .entry)))) ⌝ }
     ensures { λ r. ⌜ heightsAt (now (heights .exit)) ≡
-        rebuilt r (width * height) (flat width (mapBack wrap32 levels width height (cells width (at (now (plane .entry))))))
+        rebuilt r (shape .width * shape .height)
+        (flat (shape .width) (mapBack wrap32 (shape .levels) (columns shape) (rows shape) (cells (shape .width) (at (now (plane .entry))))))
         (heightsAt (now (heights .entry))) ⌝ }
-    ensures { λ r. ⌜ at (now (work .exit)) ≡ rebuilt r (width * height) zeros (at (now (work .entry))) ⌝ }
+    ensures { λ r. ⌜ at (now (work .exit)) ≡ rebuilt r (shape .width * shape .height) zeros (at (now (work .entry))) ⌝ }
 {
     let q = size_question(
-        width,
-        height,
-        levels,
+        shape.width,
+        shape.height,
+        shape.levels,
         plane.len(),
         heights.len(),
         work.len(),
@@ -163,5 +173,14 @@ pub fn backward(
     if q != 0 {
         return q;
     }
-    restore(plane, width, height, levels, heights, work)
+    restore(
+        plane,
+        shape.x as usize,
+        shape.width,
+        shape.y as usize,
+        shape.height,
+        shape.levels,
+        heights,
+        work,
+    )
 }

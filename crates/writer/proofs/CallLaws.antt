@@ -11,6 +11,7 @@ use Rattle.numbers.proofs.Sweep.{both as split-both}
 use Rattle.lifting.specs.Halves.{fronted}
 use Rattle.wavelet.specs.Limits.{maxWidth, maxHeight, maxLevels}
 use Rattle.wavelet.specs.Questions.{ask, within}
+use Rattle.lifting.specs.Grid.{Side}
 use Rattle.wavelet.specs.Store.{storeLength}
 use Rattle.calls.specs.Lists.{gives, refused, unless, changedUnless}
 use Rattle.calls.proofs.QuestionLaws.{asked-yes, not-yes}
@@ -21,7 +22,7 @@ use Rattle.writer.specs.declared.closing.Closure.{Closure}
 use Rattle.writer.specs.declared.draws.Spot.{Spot}
 use Rattle.writer.specs.Closing.{Shut, shut}
 use Rattle.writer.specs.Counts.{startOf}
-use Rattle.writer.specs.Taking.{takes}
+use Rattle.writer.specs.Taking.{columnsOf, takes}
 use Rattle.writer.specs.Questions.{either, inRanges, longEnough, waitingRow, setUpQuestion, offerQuestion, drawQuestion, finishQuestion}
 use Rattle.writer.specs.Gate.{stateQuestion}
 use Rattle.writer.specs.Answers.{Handed, aRow, nothing}
@@ -50,32 +51,33 @@ changed-yes zero a b h = refl
 changed-yes (suc q) a b h = absurd (omega arith)
 
 -- ---- set-up
-pub set-up-passed : (W L n : ℕ) → setUpQuestion W L n ≡ 0 → (within 1 maxWidth W ≡ true) × (within 1 maxLevels L ≡ true) × (storeLength W L ≤ n)
+pub set-up-passed : (W : Side) (L n : ℕ) → setUpQuestion W L n ≡ 0 → (within 1 maxWidth (W .length) ≡ true) × (within 1 maxLevels L ≡ true) ×
+    (storeLength W L ≤ n)
 unfolding setUpQuestion
 set-up-passed W L n e =
-    let a = asked-yes (within 1 maxWidth W) _ _ e in
+    let a = asked-yes (within 1 maxWidth (W .length)) _ _ e in
     let b = asked-yes (within 1 maxLevels L) _ _ (a .1) in
     (a .0, b .0, leb-true (storeLength W L) n (asked-yes _ _ _ (b .1) .0))
 
-pub record Fits (W L n k : ℕ) : Type 0 where
+pub record Fits (W : Side) (L n k : ℕ) : Type 0 where
   pub needed : k ≡ storeLength W L
   pub room : k ≤ n
 
-module _ (W L n q : ℕ) (e : q ≡ setUpQuestion W L n) where
-  pub set-up-fits : (k : ℕ) → q ≡ 0 → k ≡ pick (both (within 1 maxWidth W) (within 1 maxLevels L)) (storeLength W L) 0 → Fits W L n k
+module _ (W : Side) (L n q : ℕ) (e : q ≡ setUpQuestion W L n) where
+  pub set-up-fits : (k : ℕ) → q ≡ 0 → k ≡ pick (both (within 1 maxWidth (W .length)) (within 1 maxLevels L)) (storeLength W L) 0 → Fits W L n k
   set-up-fits k z f =
       let t = set-up-passed W L n (sym e ∙ z) in
       let g : k ≡ storeLength W L = f ∙ simp (t .0, t .1) in
       record { needed = g; room = omega (arith, t .2) }
 
-  pub set-up-no : (x : Memory) → 0 < q → (refused q ≡ setUpReply W L n) × (x ≡ setUpStore W L n x)
+  pub set-up-no : (s : ℕ) (x : Memory) → 0 < q → (refused q ≡ setUpReply W s L n) × (x ≡ setUpStore W L n x)
   unfolding setUpReply setUpStore
-  set-up-no x h = rw (← e) (unless-no q _ h, changed-no q _ x h)
+  set-up-no s x h = rw (← e) (unless-no q _ h, changed-no q _ x h)
 
-  pub set-up-yes : (k : ℕ) (x y : Memory) → q ≡ 0 → Fits W L n k → y ≡ fronted k (λ _. pos 0) x →
-      (gives (fresh W L) ≡ setUpReply W L n) × (y ≡ setUpStore W L n x)
+  pub set-up-yes : (s k : ℕ) (x y : Memory) → q ≡ 0 → Fits W L n k → y ≡ fronted k (λ _. pos 0) x →
+      (gives (fresh W s L) ≡ setUpReply W s L n) × (y ≡ setUpStore W L n x)
   unfolding setUpReply setUpStore
-  set-up-yes k x y z f g = rw (← e) (unless-yes q _ z, g ∙ ap (λ (k : ℕ). fronted k (λ _. pos 0) x) (f .needed) ∙ changed-yes q _ x z)
+  set-up-yes s k x y z f g = rw (← e) (unless-yes q _ z, g ∙ ap (λ (k : ℕ). fronted k (λ _. pos 0) x) (f .needed) ∙ changed-yes q _ x z)
 
 -- ---- a call that passed: its state is sound
 front : (a b : Bool) (x : ℕ) → ask a 1 (ask b 5 x) ≡ 0 → ask a 1 (ask b 5 0) ≡ 0
@@ -113,8 +115,20 @@ module _ (s : Writer) (n : ℕ) where
 
 -- ---- finish
 pub waits-same : (f : Bool) (s : Writer) (r : Shut) (c v i o : ℕ) → c ≡ r .closed → v ≡ r .out .level → i ≡ r .out .left →
-    o ≡ startOf (s .width) (r .out .level) →
-    record { width = s .width; levels = s .levels; rows = s .rows; column = s .column; finished = f; closed = c; level = v; left = i; offset = o } ≡ waits f s r
+    o ≡ startOf (columnsOf s) (r .out .level) →
+    record {
+      x = s .x;
+      y = s .y;
+      width = s .width;
+      levels = s .levels;
+      rows = s .rows;
+      column = s .column;
+      finished = f;
+      closed = c;
+      level = v;
+      left = i;
+      offset = o;
+    } ≡ waits f s r
 waits-same f s r c v i o a b d e = rw (a, b, d, e) refl
 
 module _ (s : Writer) (n q : ℕ) (x : Memory) (e : q ≡ finishQuestion s n) where
@@ -122,8 +136,10 @@ module _ (s : Writer) (n q : ℕ) (x : Memory) (e : q ≡ finishQuestion s n) wh
   unfolding finishReply finishStore
   finish-no h = rw (← e) (unless-no q _ h, changed-no q _ x h)
 
-  pub finish-yes : (r : Closure) (y : Memory) → q ≡ 0 → Closed (s .levels) (s .width) (shut fiveThree (s .levels) (s .width) 0 (s .rows) x) r y →
+  pub finish-yes : (r : Closure) (y : Memory) → q ≡ 0 → Closed (s .levels) (columnsOf s) (shut fiveThree (s .levels) (columnsOf s) (s .y) 0 (s .rows) x) r y →
       (gives (record {
+        x = s .x;
+        y = s .y;
         width = s .width;
         levels = s .levels;
         rows = s .rows;
@@ -143,7 +159,7 @@ module _ (s : Writer) (n q : ℕ) (x : Memory) (e : q ≡ finishQuestion s n) wh
       )
 
 -- ---- what a draw leaves
-module _ (s : Writer) (x y : Memory) (r : Wait) (l : Left (s .levels) (s .width) (pulled s x) r y) where
+module _ (s : Writer) (x y : Memory) (r : Wait) (l : Left (s .levels) (columnsOf s) (pulled s x) r y) where
   resumed-open : (f : Bool) (v : ℕ) → f ≡ false → resumed f s (pulled s x) v ≡ record { closed = s .closed; out = pulled s x }
   unfolding resumed
   resumed-open false v e = refl
@@ -155,7 +171,7 @@ module _ (s : Writer) (x y : Memory) (r : Wait) (l : Left (s .levels) (s .width)
   resumed-waits true zero e h = absurd (omega arith)
   resumed-waits true (suc v) e h = refl
 
-  resumed-closes : (f : Bool) (v : ℕ) → f ≡ true → v ≡ 0 → resumed f s (pulled s x) v ≡ shut fiveThree (s .levels) (s .width) (s .closed) (s .rows)
+  resumed-closes : (f : Bool) (v : ℕ) → f ≡ true → v ≡ 0 → resumed f s (pulled s x) v ≡ shut fiveThree (s .levels) (columnsOf s) (s .y) (s .closed) (s .rows)
       (pulled s x .store)
   unfolding resumed
   resumed-closes false v e h = let z : _≡_ {A = ℕ} 0 1 = cc in absurd (omega arith)
@@ -163,8 +179,10 @@ module _ (s : Writer) (x y : Memory) (r : Wait) (l : Left (s .levels) (s .width)
   resumed-closes true (suc v) e h = absurd (omega arith)
 
   drew : (c v i o : ℕ) (z : Memory) (q : Shut) → afterDraw s x ≡ q → c ≡ q .closed → v ≡ q .out .level → i ≡ q .out .left →
-      o ≡ startOf (s .width) (q .out .level) → z ≡ q .out .store →
+      o ≡ startOf (columnsOf s) (q .out .level) → z ≡ q .out .store →
       Drew s x (record {
+        x = s .x;
+        y = s .y;
         width = s .width;
         levels = s .levels;
         rows = s .rows;
@@ -183,6 +201,8 @@ module _ (s : Writer) (x y : Memory) (r : Wait) (l : Left (s .levels) (s .width)
 
   pub drew-open : s .finished ≡ false →
       Drew s x (record {
+        x = s .x;
+        y = s .y;
         width = s .width;
         levels = s .levels;
         rows = s .rows;
@@ -198,6 +218,8 @@ module _ (s : Writer) (x y : Memory) (r : Wait) (l : Left (s .levels) (s .width)
 
   pub drew-waits : s .finished ≡ true → 0 < r .level →
       Drew s x (record {
+        x = s .x;
+        y = s .y;
         width = s .width;
         levels = s .levels;
         rows = s .rows;
@@ -212,8 +234,10 @@ module _ (s : Writer) (x y : Memory) (r : Wait) (l : Left (s .levels) (s .width)
       (omega (arith, l .level))) refl (l .level) (l .left) (l .offset) (l .store)
 
   pub drew-closes : (q : Closure) (z : Memory) → s .finished ≡ true → r .level ≡ 0 →
-      Closed (s .levels) (s .width) (shut fiveThree (s .levels) (s .width) (s .closed) (s .rows) y) q z →
+      Closed (s .levels) (columnsOf s) (shut fiveThree (s .levels) (columnsOf s) (s .y) (s .closed) (s .rows) y) q z →
       Drew s x (record {
+        x = s .x;
+        y = s .y;
         width = s .width;
         levels = s .levels;
         rows = s .rows;
@@ -274,7 +298,7 @@ module _ (s : Writer) (n k q : ℕ) (x z : Memory) (e : q ≡ stateQuestion s n)
   pub draw-nothing : q ≡ 0 → s .level ≡ 0 → (gives nothing ≡ drawReply s n k x) × (x ≡ drawStore s n k x) × (z ≡ drawArea s n k x z)
   draw-nothing y h = let t = handed-none s x z (s .level) h in passes nothing x z (draw-none s n k (sym e ∙ y) h) (t .0) (t .1) (t .2)
 
-  module _ (r : Spot) (f : Found (s .levels) (s .width) (waitingRow s) r) (y : q ≡ 0) (h : 0 < s .level) where
+  module _ (r : Spot) (f : Found (s .levels) (columnsOf s) (waitingRow s) r) (y : q ≡ 0) (h : 0 < s .level) where
     long : r .length ≡ waitingRow s .length
     long = ap (λ (r : Spot). r .length) (f .spot)
 

@@ -20,14 +20,14 @@ use borrow.Author.Tests.{lt-ltb, le-leb, eq-eqb, ne-eqb, ltb-true, ltb-false, eq
 use Rattle.numbers.specs.Signal.{pick, both, stored}
 use Rattle.numbers.specs.Word.{wrap32}
 use Rattle.numbers.proofs.Sweep.{both as split-both}
-use Rattle.lifting.specs.Line.{count}
-use Rattle.wavelet.specs.Limits.{maxWidth, maxHeight, maxLevels}
+use Rattle.lifting.specs.Grid.{Side, side, count}
+use Rattle.wavelet.specs.Limits.{maxWidth, maxHeight, maxLevels, maxOrigin}
 use Rattle.wavelet.specs.Bands.{Grid, Band, code, across, down}
-use Rattle.wavelet.specs.Levels.{size, levelBand}
-use Rattle.wavelet.specs.View.{bandColumns}
 use Rattle.wavelet.specs.Questions.{within}
-use Rattle.wavelet.specs.Order.{RowName, rowName, madeBy, closing, inTurn, made}
+use Rattle.wavelet.specs.Order.{RowName, rowName, inTurn, madeBy, closing, made}
 use Rattle.wavelet.proofs.OrderLaws.{turn-suc}
+use Rattle.wavelet.specs.Levels.{sideAt, levelBand}
+use Rattle.wavelet.specs.View.{bandColumns}
 use Rattle.calls.specs.Lists.{All, all-none, all-more}
 use Rattle.calls.proofs.AllLaws.{all-append}
 use Rattle.writer.specs.Counts.{mostLeft, startOf}
@@ -67,160 +67,161 @@ rows-all W H r c p z e = sym (mul-div-cancel r p) ∙ ap (λ a. a / W) (omega ar
 
 -- ---- histories and grids
 -- a grid of H rows begins with the heights taken; once finished it is they
-pub record Fits (W H : ℕ) (g : Grid) (ts : List ℕ) (f : Bool) : Type 0 where
-  pub within : length ts ≤ W * H
-  pub heights : (r c : ℕ) → c < W → r * W + c < length ts → g r c ≡ pos (getD ts (r * W + c) 0)
-  pub whole : f ≡ true → length ts ≡ W * H
+pub record Fits (W : Side) (H : ℕ) (g : Grid) (ts : List ℕ) (f : Bool) : Type 0 where
+  pub within : length ts ≤ W .length * H
+  pub heights : (r c : ℕ) → c < W .length → r * W .length + c < length ts → g r c ≡ pos (getD ts (r * W .length + c) 0)
+  pub whole : f ≡ true → length ts ≡ W .length * H
 
-pub fits-back : (W H : ℕ) (g : Grid) (ts us : List ℕ) (f : Bool) → Fits W H g (ts ++ us) f → Fits W H g ts false
+pub fits-back : (W : Side) (H : ℕ) (g : Grid) (ts us : List ℕ) (f : Bool) → Fits W H g (ts ++ us) f → Fits W H g ts false
 fits-back W H g ts us f t = record {
   within = omega (arith, t .within, length-append ts us);
-  heights = λ r c p q. t .heights r c p (omega (arith, length-append ts us)) ∙ ap pos (List·getD-append ts us 0 (r * W + c) q);
+  heights = λ r c p q. t .heights r c p (omega (arith, length-append ts us)) ∙ ap pos (List·getD-append ts us 0 (r * W .length + c) q);
   whole = λ e. absurd (differ e);
 }
 
-fits-height : (W H : ℕ) (g : Grid) (ts : List ℕ) (h : ℕ) (us : List ℕ) (f : Bool) (r c : ℕ) → length ts ≡ r * W + c → c < W →
+fits-height : (W : Side) (H : ℕ) (g : Grid) (ts : List ℕ) (h : ℕ) (us : List ℕ) (f : Bool) (r c : ℕ) → length ts ≡ r * W .length + c → c < W .length →
     Fits W H g (ts ++ h ∷ us) f → (g r c ≡ pos h) × (r < H)
 fits-height W H g ts h us f r c e p t =
     let len : length (ts ++ h ∷ us) ≡ length ts + suc (length us) = length-append ts (h ∷ us) in
-    (t .heights r c p (omega arith) ∙ ap pos (getD-at ts h us 0 (r * W + c) e), rows-below W H r c (omega (arith, t .within)))
+    (t .heights r c p (omega arith) ∙ ap pos (getD-at ts h us 0 (r * W .length + c) e), rows-below (W .length) H r c (omega (arith, t .within)))
 
 -- ---- what is to come without a further row
-unfoldable pub coming : (L W : ℕ) → Bool → (cl v i r : ℕ) → List RowName
-coming L W false cl v i r = pend L 1 W cl v i r
-coming L W true cl v i r = pend L 1 W cl v i r ++ later L 1 W r cl
+unfoldable pub coming : (L : ℕ) (W : Side) (top : ℕ) → Bool → (cl v i r : ℕ) → List RowName
+coming L W top false cl v i r = pend L 1 W top cl v i r
+coming L W top true cl v i r = pend L 1 W top cl v i r ++ later L 1 W (side top r) cl
 
-coming-open : (L W cl v i r : ℕ) → coming L W false cl v i r ≡ pend L 1 W cl v i r
+coming-open : (L : ℕ) (W : Side) (top cl v i r : ℕ) → coming L W top false cl v i r ≡ pend L 1 W top cl v i r
 unfolding coming
-coming-open L W cl v i r = refl
+coming-open L W top cl v i r = refl
 
-coming-closed : (L W cl v i r : ℕ) → coming L W true cl v i r ≡ pend L 1 W cl v i r ++ later L 1 W r cl
+coming-closed : (L : ℕ) (W : Side) (top cl v i r : ℕ) → coming L W top true cl v i r ≡ pend L 1 W top cl v i r ++ later L 1 W (side top r) cl
 unfolding coming
-coming-closed L W cl v i r = refl
+coming-closed L W top cl v i r = refl
 
 -- a drawn row is the row of the grid's word transform that its answer names
-pub record Right (L W H : ℕ) (g : Grid) (d : DrawnRow) : Type 0 where
+pub record Right (L : ℕ) (W : Side) (top H : ℕ) (g : Grid) (d : DrawnRow) : Type 0 where
   pub depth : ℕ
   pub deep : depth < L
   pub band : Band
   pub level-is : d .row .level ≡ suc depth
   pub band-is : d .row .band ≡ code band
-  pub length-is : d .row .length ≡ count (across band) (size depth W)
-  pub row-in : d .row .row < count (down band) (size depth H)
-  pub values : (i : ℕ) → i < d .row .length → d .values i ≡ levelBand wrap32 W H g (suc depth) band (d .row .row) i
+  pub length-is : d .row .length ≡ count (across band) (sideAt depth W)
+  pub row-in : d .row .row < count (down band) (sideAt depth (side top H))
+  pub values : (i : ℕ) → i < d .row .length → d .values i ≡ levelBand wrap32 W (side top H) g (suc depth) band (d .row .row) i
 
-pub record Sound (L W H : ℕ) (g : Grid) (f : Bool) (ds : List DrawnRow) (r c cl v i : ℕ) (x : Memory) : Type 0 where
-  pub holds : Holds H g (st W L r c f cl v i) x
+pub record Sound (L : ℕ) (W : Side) (top H : ℕ) (g : Grid) (f : Bool) (ds : List DrawnRow) (r c cl v i : ℕ) (x : Memory) : Type 0 where
+  pub holds : Holds H g (st W top L r c f cl v i) x
   pub names : List RowName
   pub named : map (λ d. d .row) ds ≡ map (answered W) names
-  pub order : names ++ coming L W f cl v i r ≡ made W L r f
-  pub values : All (Right L W H g) ds
+  pub order : names ++ coming L W top f cl v i r ≡ made W top L r f
+  pub values : All (Right L W top H g) ds
 
-pub record Early (L W : ℕ) (ts : List ℕ) (ds : List DrawnRow) (r : ℕ) : Type 0 where
-  pub drawn : length (made W L r false) ≤ length ds
-  pub right : (H : ℕ) (g : Grid) → Fits W H g ts false → All (Right L W H g) (take (length (made W L r false)) ds)
+pub record Early (L : ℕ) (W : Side) (top : ℕ) (ts : List ℕ) (ds : List DrawnRow) (r : ℕ) : Type 0 where
+  pub drawn : length (made W top L r false) ≤ length ds
+  pub right : (H : ℕ) (g : Grid) → Fits W H g ts false → All (Right L W top H g) (take (length (made W top L r false)) ds)
 
-pub record At (L W : ℕ) (ts : List ℕ) (f : Bool) (ds : List DrawnRow) (r c cl v i : ℕ) (x : Memory) : Type 0 where
-  pub counted : length ts ≡ r * W + c
-  pub column-in : c < W
+pub record At (L : ℕ) (W : Side) (top : ℕ) (ts : List ℕ) (f : Bool) (ds : List DrawnRow) (r c cl v i : ℕ) (x : Memory) : Type 0 where
+  pub counted : length ts ≡ r * W .length + c
+  pub column-in : c < W .length
   pub rows-in : r ≤ maxHeight
   pub room : 0 < c → r < maxHeight
   pub ended : f ≡ true → (0 < r) × (c ≡ 0)
-  pub sound : (H : ℕ) (g : Grid) → Fits W H g ts f → Sound L W H g f ds r c cl v i x
+  pub sound : (H : ℕ) (g : Grid) → Fits W H g ts f → Sound L W top H g f ds r c cl v i x
   -- the rows made before the finish are drawn, and right for every grid that begins with the heights
-  pub early : f ≡ true → Early L W ts ds r
+  pub early : f ≡ true → Early L W top ts ds r
 
 -- ---- there is such a grid: the heights taken themselves
-abbrev pub own : ℕ → List ℕ → Grid
-own W ts r c = pos (getD ts (r * W + c) 0)
+abbrev pub own : Side → List ℕ → Grid
+own W ts r c = pos (getD ts (r * W .length + c) 0)
 
 unfoldable pub own-height : Bool → ℕ → ℕ
 own-height false r = suc r
 own-height true r = r
 
-module _ {L W : ℕ} {ts : List ℕ} {f : Bool} {ds : List DrawnRow} {r c cl v i : ℕ} {x : Memory} (a : At L W ts f ds r c cl v i x) where
+module _ {L : ℕ} {W : Side} {top : ℕ} {ts : List ℕ} {f : Bool} {ds : List DrawnRow} {r c cl v i : ℕ} {x : Memory} (a : At L W top ts f ds r c cl v i x) where
   pub own-fits : Fits W (own-height f r) (own W ts) ts f
   own-fits = record { within = go f refl; heights = λ _ _ _ _. refl; whole = all f refl }
     where
-      go : (t : Bool) → f ≡ t → length ts ≤ W * own-height t r
-      go false e = unfold own-height in omega (arith, a .counted, a .column-in, mul-suc W r, mul-comm r W)
-      go true e = unfold own-height in omega (arith, a .counted, a .ended e .1, mul-comm r W)
+      go : (t : Bool) → f ≡ t → length ts ≤ W .length * own-height t r
+      go false e = unfold own-height in omega (arith, a .counted, a .column-in, mul-suc (W .length) r, mul-comm r (W .length))
+      go true e = unfold own-height in omega (arith, a .counted, a .ended e .1, mul-comm r (W .length))
 
-      all : (t : Bool) → f ≡ t → t ≡ true → length ts ≡ W * own-height t r
+      all : (t : Bool) → f ≡ t → t ≡ true → length ts ≡ W .length * own-height t r
       all false e z = absurd (differ z)
-      all true e z = unfold own-height in omega (arith, a .counted, a .ended e .1, mul-comm r W)
+      all true e z = unfold own-height in omega (arith, a .counted, a .ended e .1, mul-comm r (W .length))
 
-  pub own-sound : Sound L W (own-height f r) (own W ts) f ds r c cl v i x
+  pub own-sound : Sound L W top (own-height f r) (own W ts) f ds r c cl v i x
   own-sound = a .sound _ _ own-fits
 
-  pub whole-rows : length ts / W ≡ r
-  whole-rows = ap (λ n. n / W) (a .counted) ∙ rows-of W r c (a .column-in)
+  pub whole-rows : length ts / W .length ≡ r
+  whole-rows = ap (λ n. n / W .length) (a .counted) ∙ rows-of (W .length) r c (a .column-in)
 
-  pub begun-row : length ts % W ≡ c
-  begun-row = ap (λ n. n % W) (a .counted) ∙ column-of W r c (a .column-in)
+  pub begun-row : length ts % W .length ≡ c
+  begun-row = ap (λ n. n % W .length) (a .counted) ∙ column-of (W .length) r c (a .column-in)
 
   -- every count is in its range
-  pub in-ranges : within 1 maxWidth W ≡ true → within 1 maxLevels L ≡ true → inRanges (st W L r c f cl v i) ≡ true
+  pub in-ranges : W .start ≤ maxOrigin → top ≤ maxOrigin → within 1 maxWidth (W .length) ≡ true → within 1 maxLevels L ≡ true →
+      inRanges (st W top L r c f cl v i) ≡ true
   unfolding inRanges
-  in-ranges p q =
+  in-ranges from low p q =
       let s = own-sound in
       simp (
+        le-leb (W .start) maxOrigin from,
+        le-leb top maxOrigin low,
         p,
         q,
         le-leb r maxHeight (a .rows-in),
-        lt-ltb c W (a .column-in),
+        lt-ltb c (W .length) (a .column-in),
         le-leb cl L
             (closed-le fiveThree Kept five-three-laws L _ _ _ _ _ _ _ _ _ (s .holds .levels)),
         le-leb v L
             (level-le fiveThree Kept five-three-laws L _ _ _ _ _ _ _ _ _ (s .holds .levels)),
         le-leb i (mostLeft L v) (s .holds .few),
-        eq-eqb
-            (startOf W v) (startOf W v) refl,
-      )
+      ) (eq-eqb (startOf W v) (startOf W v) refl)
 
   -- what waits, by the history: made and not drawn
-  pub waiting-is : drop (length ds) (made W L r f) ≡ coming L W f cl v i r
+  pub waiting-is : drop (length ds) (made W top L r f) ≡ coming L W top f cl v i r
   waiting-is =
       let s = own-sound in
       ap (drop (length ds)) (sym (s .order))
-      ∙ drop-at (s .names) (coming L W f cl v i r) (length ds)
+      ∙ drop-at (s .names) (coming L W top f cl v i r) (length ds)
       (sym (sym (length-map ds (λ d. d .row)) ∙ ap length (s .named) ∙ length-map (s .names) (answered W)))
 
   -- nothing waits exactly at level 0
-  pub none-waits : v ≡ 0 → coming L W f cl v i r ≡ []
+  pub none-waits : v ≡ 0 → coming L W top f cl v i r ≡ []
   none-waits z = go f (λ e. own-sound .holds .ended e .2 z)
     where
-      none : pend L 1 W cl v i r ≡ []
-      none = ap (λ a. pend L 1 W cl a i r) z ∙ pend-none L 1 W cl i r
+      none : pend L 1 W top cl v i r ≡ []
+      none = ap (λ a. pend L 1 W top cl a i r) z ∙ pend-none L 1 W top cl i r
 
-      go : (t : Bool) → (t ≡ true → cl ≡ L) → coming L W t cl v i r ≡ []
-      go false q = coming-open L W cl v i r ∙ none
-      go true q = coming-closed L W cl v i r ∙ ap₂ _++_ none (ap (later L 1 W r) (q refl) ∙ later-all L 1 W r)
+      go : (t : Bool) → (t ≡ true → cl ≡ L) → coming L W top t cl v i r ≡ []
+      go false q = coming-open L W top cl v i r ∙ none
+      go true q = coming-closed L W top cl v i r ∙ ap₂ _++_ none (ap (later L 1 W (side top r)) (q refl) ∙ later-all L 1 W (side top r))
 
 -- ---- one height more
-module _ (l W : ℕ) (ds : List DrawnRow) where
+module _ (l : ℕ) (W : Side) (top : ℕ) (ds : List DrawnRow) where
   abbrev L : ℕ
   L = suc l
 
   abbrev K : LevelKind
   K = fiveThree
 
-  module _ (ts : List ℕ) (r c cl v i : ℕ) (x : Memory) (a : At L W ts false ds r c cl v i x) (z : v ≡ 0) (h : ℕ) where
+  module _ (ts : List ℕ) (r c cl v i : ℕ) (x : Memory) (a : At L W top ts false ds r c cl v i x) (z : v ≡ 0) (h : ℕ) where
     abbrev x′ : Memory
-    x′ = stored (cellOf W r c) (pos h) x
+    x′ = stored (cellOf W (top % 2 + r) c) (pos h) x
 
     longer : length (ts ++ h ∷ []) ≡ suc (length ts)
     longer = length-append ts (h ∷ []) ∙ omega arith
 
     -- what holds of a grid that has the height too
     module _ (H : ℕ) (g : Grid) (t : Fits W H g (ts ++ h ∷ []) false) where
-      before : Sound L W H g false ds r c cl v i x
+      before : Sound L W top H g false ds r c cl v i x
       before = a .sound H g (fits-back W H g ts (h ∷ []) false t)
 
       here : (g r c ≡ pos h) × (r < H)
       here = fits-height W H g ts h [] false r c (a .counted) (a .column-in) t
 
-    pub begun-at : r < maxHeight → c + 1 < W → At L W (ts ++ h ∷ []) false ds r (c + 1) cl v i x′
+    pub begun-at : r < maxHeight → c + 1 < W .length → At L W top (ts ++ h ∷ []) false ds r (c + 1) cl v i x′
     begun-at q p = record {
       counted = omega (arith, longer, a .counted);
       column-in = p;
@@ -228,7 +229,9 @@ module _ (l W : ℕ) (ds : List DrawnRow) where
       room = λ _. q;
       ended = λ e. absurd (differ e);
       sound = λ H g t. let s = before H g t in record {
-        holds = subst (λ d. Holds H g (st W L r (c + 1) false cl v i) (stored (cellOf W r c) d x)) (here H g t .0) (begun-holds H g W l r c cl v i x
+        holds =
+            subst (λ d. Holds H g (st W top L r (c + 1) false cl v i) (stored (cellOf W (top % 2 + r) c) d x)) (here H g t .0)
+            (begun-holds H g W top l r c cl v i x
             (s .holds) z (a .column-in));
         names = s .names;
         named = s .named;
@@ -240,44 +243,47 @@ module _ (l W : ℕ) (ds : List DrawnRow) where
 
     -- the row is complete: o is what it makes
     abbrev o : Out
-    o = arrive K L W r x′
+    o = arrive K L W top r x′
 
-    made-next : (names : List RowName) → names ++ coming L W false cl v i r ≡ made W L r false → (todo : List RowName) → todo ≡ madeBy L 1 W r →
-        names ++ todo ≡ made W L (r + 1) false
+    made-next : (names : List RowName) → names ++ coming L W top false cl v i r ≡ made W top L r false → (todo : List RowName) → todo ≡ madeBy L 1 W top r →
+        names ++ todo ≡ made W top L (r + 1) false
     unfolding made
     made-next names e todo q =
-        let n : names ≡ inTurn r (madeBy L 1 W) ++ [] = sym (append-nil names) ∙ ap (λ b. names ++ b) (sym (none-waits a z)) ∙ e in
-        ap₂ _++_ (n ∙ append-nil (inTurn r (madeBy L 1 W))) q
-        ∙ sym (turn-suc r (madeBy L 1 W))
-        ∙ ap (λ b. inTurn b (madeBy L 1 W)) (omega arith)
+        let n : names ≡ inTurn r (madeBy L 1 W top) ++ [] = sym (append-nil names) ∙ ap (λ b. names ++ b) (sym (none-waits a z)) ∙ e in
+        ap₂ _++_ (n ∙ append-nil (inTurn r (madeBy L 1 W top))) q
+        ∙ sym (turn-suc r (madeBy L 1 W top))
+        ∙ ap (λ b. inTurn b (madeBy L 1 W top)) (omega arith)
         ∙ sym (append-nil _)
 
-    complete-sound : (H : ℕ) (g : Grid) → Fits W H g (ts ++ h ∷ []) false → W ≤ c + 1 → Sound L W H g false ds (r + 1) 0 cl (o .level) (o .left) (o .store)
+    complete-sound : (H : ℕ) (g : Grid) → Fits W H g (ts ++ h ∷ []) false → W .length ≤ c + 1 →
+        Sound L W top H g false ds (r + 1) 0 cl (o .level) (o .left) (o .store)
     complete-sound H g t p =
         let s = before H g t in
         let q = here H g t in
-        let e : c + 1 ≡ W = omega (arith, a .column-in) in
+        let e : c + 1 ≡ W .length = omega (arith, a .column-in) in
         let k =
-        subst (λ d. Good K Kept five-three-laws L 1 W H g 0 (suc r) (arrive K L W r (stored (cellOf W r c) d x)) (madeBy L 1 W r)) (q .0)
-        (arrived-by H g W l r c cl v i x (s .holds) z (a .column-in) e (q .1)) in
+        subst (λ d. Good K Kept five-three-laws L 1 W (side top H) g 0 (suc r) (arrive K L W top r (stored (cellOf W (top % 2 + r) c) d x))
+        (madeBy L 1 W top r)) (q .0)
+        (arrived-by H g W top l r c cl v i x (s .holds) z (a .column-in) e (q .1)) in
         record {
           holds =
-              subst (λ d. let b = arrive K L W r (stored (cellOf W r c) d x) in Holds H g (st W L (r + 1) 0 false cl (b .level) (b .left)) (b .store)) (q .0)
-              (complete-holds H g W l r c cl v i x (s .holds) z (a .column-in) e (q .1));
+              subst (λ d. let b = arrive K L W top r (stored (cellOf W (top % 2 + r) c) d x) in
+              Holds H g (st W top L (r + 1) 0 false cl (b .level) (b .left)) (b .store)) (q .0)
+              (complete-holds H g W top l r c cl v i x (s .holds) z (a .column-in) e (q .1));
           names = s .names;
           named = s .named;
           order =
               made-next (s .names) (s .order) _
-              (coming-open L W cl (o .level) (o .left) (r + 1) ∙ ap₂ (λ b d. pend L 1 W b (o .level) (o .left) d) (s .holds .before refl)
+              (coming-open L W top cl (o .level) (o .left) (r + 1) ∙ ap₂ (λ b d. pend L 1 W top b (o .level) (o .left) d) (s .holds .before refl)
               (omega arith) ∙ k .rows);
           values = s .values;
         }
 
-    pub complete-at : r < maxHeight → W ≤ c + 1 → At L W (ts ++ h ∷ []) false ds (r + 1) 0 cl (o .level) (o .left) (o .store)
+    pub complete-at : r < maxHeight → W .length ≤ c + 1 → At L W top (ts ++ h ∷ []) false ds (r + 1) 0 cl (o .level) (o .left) (o .store)
     complete-at q p =
         let next : r + 1 ≡ suc r = omega arith in
         record {
-          counted = longer ∙ omega (arith, a .counted, a .column-in, suc-mul r W, ap (λ b. b * W) next);
+          counted = longer ∙ omega (arith, a .counted, a .column-in, suc-mul r (W .length), ap (λ b. b * W .length) next);
           column-in = omega (arith, a .column-in);
           rows-in = omega arith;
           room = λ e. absurd (omega arith);
@@ -287,31 +293,32 @@ module _ (l W : ℕ) (ds : List DrawnRow) where
         }
 
   -- ---- a row waits where a set is being handed out
-  pub some-wait : (ts : List ℕ) (f : Bool) (r c cl v i : ℕ) (x : Memory) → At L W ts f ds r c cl (suc v) i x → isNone (coming L W f cl (suc v) i r) ≡ false
+  pub some-wait : (ts : List ℕ) (f : Bool) (r c cl v i : ℕ) (x : Memory) → At L W top ts f ds r c cl (suc v) i x →
+      isNone (coming L W top f cl (suc v) i r) ≡ false
   some-wait ts f r c cl v i x a = go f
     where
-      s : Sound L W (own-height f r) (own W ts) f ds r c cl (suc v) i x
+      s : Sound L W top (own-height f r) (own W ts) f ds r c cl (suc v) i x
       s = own-sound a
 
-      P : Pulled K Kept five-three-laws L 1 W (own-height f r) (own W ts) cl v i r x
-      P = pulled-by _ _ W L r c f cl v i x (s .holds)
+      P : Pulled K Kept five-three-laws L 1 W (side top (own-height f r)) (own W ts) cl v i r x
+      P = pulled-by _ _ W top L r c f cl v i x (s .holds)
 
-      go : (t : Bool) → isNone (coming L W t cl (suc v) i r) ≡ false
-      go false = ap isNone (coming-open L W cl (suc v) i r ∙ P .first)
-      go true = ap isNone (coming-closed L W cl (suc v) i r ∙ ap (λ l. l ++ later L 1 W r cl) (P .first))
+      go : (t : Bool) → isNone (coming L W top t cl (suc v) i r) ≡ false
+      go false = ap isNone (coming-open L W top cl (suc v) i r ∙ P .first)
+      go true = ap isNone (coming-closed L W top cl (suc v) i r ∙ ap (λ l. l ++ later L 1 W (side top r) cl) (P .first))
 
-  pub none-eqb : (ts : List ℕ) (f : Bool) (r c cl v i : ℕ) (x : Memory) → At L W ts f ds r c cl v i x → isNone (coming L W f cl v i r) ≡ eqb v 0
+  pub none-eqb : (ts : List ℕ) (f : Bool) (r c cl v i : ℕ) (x : Memory) → At L W top ts f ds r c cl v i x → isNone (coming L W top f cl v i r) ≡ eqb v 0
   none-eqb ts f r c cl zero i x a = ap isNone (none-waits a refl) ∙ sym (eq-eqb 0 0 refl)
   none-eqb ts f r c cl (suc v) i x a = some-wait ts f r c cl v i x a ∙ sym (ne-eqb (suc v) 0 (λ e. omega arith))
 
   -- after so many heights no row waits, and the limit is not reached
   abbrev pub takesAt : ℕ → Bool
-  takesAt m = both (isNone (drop (length ds) (made W L (m / W) false))) (ltb (m / W) maxHeight)
+  takesAt m = both (isNone (drop (length ds) (made W top L (m / W .length) false))) (ltb (m / W .length) maxHeight)
 
-  takes-is : (ts : List ℕ) (r c cl v i : ℕ) (x : Memory) → At L W ts false ds r c cl v i x → takes (st W L r c false cl v i) ≡ takesAt (length ts)
+  takes-is : (ts : List ℕ) (r c cl v i : ℕ) (x : Memory) → At L W top ts false ds r c cl v i x → takes (st W top L r c false cl v i) ≡ takesAt (length ts)
   unfolding takes
   takes-is ts r c cl v i x a =
-      sym (ap (λ m. both (isNone (drop (length ds) (made W L m false))) (ltb m maxHeight)) (whole-rows a)
+      sym (ap (λ m. both (isNone (drop (length ds) (made W top L m false))) (ltb m maxHeight)) (whole-rows a)
       ∙ ap (λ b. both b (ltb r maxHeight)) (ap isNone (waiting-is a) ∙ none-eqb ts false r c cl v i x a))
 
   -- ---- an offer
@@ -321,14 +328,15 @@ module _ (l W : ℕ) (ds : List DrawnRow) where
     pub closed : ℕ
     pub level : ℕ
     pub left : ℕ
-    pub writer-is : t .writer ≡ st W L rows column false closed level left
-    pub at : At L W (ts ++ take (t .taken) run) false ds rows column closed level left (t .store)
+    pub writer-is : t .writer ≡ st W top L rows column false closed level left
+    pub at : At L W top (ts ++ take (t .taken) run) false ds rows column closed level left (t .store)
     pub most : t .taken ≤ length run
     pub until : (j : ℕ) → j < t .taken → takesAt (length ts + j) ≡ true
     pub stop : t .taken < length run → takesAt (length ts + t .taken) ≡ false
 
   abbrev Offers : List ℕ → Type 0
-  Offers run = (ts : List ℕ) (r c cl v i : ℕ) (x : Memory) → At L W ts false ds r c cl v i x → Offered run ts (offering K run (st W L r c false cl v i) x)
+  Offers run =
+      (ts : List ℕ) (r c cl v i : ℕ) (x : Memory) → At L W top ts false ds r c cl v i x → Offered run ts (offering K run (st W top L r c false cl v i) x)
 
   -- one height, then the others
   one-more : (h : ℕ) (run ts : List ℕ) (t : Taking) → takesAt (length ts) ≡ true → Offered run (ts ++ h ∷ []) t →
@@ -340,7 +348,7 @@ module _ (l W : ℕ) (ds : List DrawnRow) where
     level = k .level;
     left = k .left;
     writer-is = k .writer-is;
-    at = subst (λ b. At L W b false ds (k .rows) (k .column) (k .closed) (k .level) (k .left) (t .store)) (append-assoc ts (h ∷ [])
+    at = subst (λ b. At L W top b false ds (k .rows) (k .column) (k .closed) (k .level) (k .left) (t .store)) (append-assoc ts (h ∷ [])
         (take (t .taken) run)) (k .at);
     most = omega (arith, k .most);
     until = first;
@@ -354,8 +362,8 @@ module _ (l W : ℕ) (ds : List DrawnRow) where
       first zero p = ap takesAt (omega arith) ∙ e
       first (suc j) p = ap takesAt (omega (arith, len)) ∙ k .until j (omega arith)
 
-  none-more : (run ts : List ℕ) (r c cl v i : ℕ) (x : Memory) → At L W ts false ds r c cl v i x → (0 < length run → takesAt (length ts) ≡ false) →
-      Offered run ts (record { taken = 0; writer = st W L r c false cl v i; store = x })
+  none-more : (run ts : List ℕ) (r c cl v i : ℕ) (x : Memory) → At L W top ts false ds r c cl v i x → (0 < length run → takesAt (length ts) ≡ false) →
+      Offered run ts (record { taken = 0; writer = st W top L r c false cl v i; store = x })
   none-more run ts r c cl v i x a e = record {
     rows = r;
     column = c;
@@ -363,7 +371,7 @@ module _ (l W : ℕ) (ds : List DrawnRow) where
     level = v;
     left = i;
     writer-is = refl;
-    at = subst (λ b. At L W b false ds r c cl v i x) (sym (append-nil ts)) a;
+    at = subst (λ b. At L W top b false ds r c cl v i x) (sym (append-nil ts)) a;
     most = omega arith;
     until = λ j p. absurd (omega arith);
     stop = λ p. ap takesAt (omega arith) ∙ e p;
@@ -371,27 +379,27 @@ module _ (l W : ℕ) (ds : List DrawnRow) where
 
   offer-more : (h : ℕ) (run : List ℕ) → Offers run → Offers (h ∷ run)
   unfolding offering
-  offer-more h run ih ts r c cl v i x a = go (takes (st W L r c false cl v i)) refl
+  offer-more h run ih ts r c cl v i x a = go (takes (st W top L r c false cl v i)) refl
     where
       y : Memory
-      y = stored (cellOf W r c) (pos h) x
+      y = stored (cellOf W (top % 2 + r) c) (pos h) x
 
       o : Out
-      o = arrive K L W r y
+      o = arrive K L W top r y
 
       b : Taking
-      b = offering K run (st W L r (c + 1) false cl v i) y
+      b = offering K run (st W top L r (c + 1) false cl v i) y
 
       d : Taking
-      d = offering K run (st W L (r + 1) 0 false cl (o .level) (o .left)) (o .store)
+      d = offering K run (st W top L (r + 1) 0 false cl (o .level) (o .left)) (o .store)
 
       more : Taking → Taking
       more t = record { taken = suc (t .taken); writer = t .writer; store = t .store }
 
-      go : (t : Bool) → takes (st W L r c false cl v i) ≡ t →
-          Offered (h ∷ run) ts (pick t (more (pick (ltb (c + 1) W) b d)) (record { taken = 0; writer = st W L r c false cl v i; store = x }))
+      go : (t : Bool) → takes (st W top L r c false cl v i) ≡ t →
+          Offered (h ∷ run) ts (pick t (more (pick (ltb (c + 1) (W .length)) b d)) (record { taken = 0; writer = st W top L r c false cl v i; store = x }))
       go false e = none-more (h ∷ run) ts r c cl v i x a (λ _. sym (takes-is ts r c cl v i x a) ∙ e)
-      go true e = inner (ltb (c + 1) W) refl
+      go true e = inner (ltb (c + 1) (W .length)) refl
         where
           free : v ≡ 0
           free = unfold takes in eqb-true v 0 (split-both (eqb v 0) (ltb r maxHeight) e .0)
@@ -402,7 +410,7 @@ module _ (l W : ℕ) (ds : List DrawnRow) where
           open-here : takesAt (length ts) ≡ true
           open-here = sym (takes-is ts r c cl v i x a) ∙ e
 
-          inner : (t : Bool) → ltb (c + 1) W ≡ t → Offered (h ∷ run) ts (more (pick t b d))
+          inner : (t : Bool) → ltb (c + 1) (W .length) ≡ t → Offered (h ∷ run) ts (more (pick t b d))
           inner true q = one-more h run ts b open-here (ih (ts ++ h ∷ []) r (c + 1) cl v i y (begun-at ts r c cl v i x a free h low (ltb-true _ _ q)))
           inner false q = one-more h run ts d open-here (ih (ts ++ h ∷ []) (r + 1) 0 cl (o .level) (o .left) (o .store)
               (complete-at ts r c cl v i x a free h low (ltb-false _ _ q)))
@@ -412,22 +420,22 @@ module _ (l W : ℕ) (ds : List DrawnRow) where
   offering-good (h ∷ run) ts r c cl v i x a = offer-more h run (offering-good run) ts r c cl v i x a
 
   -- ---- a draw: q is the row that waits, z what stands in the output area afterwards
-  module _ (ts : List ℕ) (f : Bool) (r c cl v i : ℕ) (x : Memory) (a : At L W ts f ds r c cl (suc v) i x) where
+  module _ (ts : List ℕ) (f : Bool) (r c cl v i : ℕ) (x : Memory) (a : At L W top ts f ds r c cl (suc v) i x) where
     abbrev q : Waiting
-    q = waiting K L W cl (suc v) i r
+    q = waiting K L W top cl (suc v) i r
 
     abbrev out : Out
-    out = pull K L W cl (suc v) i r x
+    out = pull K L W top cl (suc v) i r x
 
     abbrev left : Shut
-    left = resumed f (st W L r c f cl (suc v) i) out (out .level)
+    left = resumed f (st W top L r c f cl (suc v) i) out (out .level)
 
     module _ (H : ℕ) (g : Grid) (t : Fits W H g ts f) where
-      abbrev s : Sound L W H g f ds r c cl (suc v) i x
+      abbrev s : Sound L W top H g f ds r c cl (suc v) i x
       s = a .sound H g t
 
-      P : Pulled K Kept five-three-laws L 1 W H g cl v i r x
-      P = pulled-by H g W L r c f cl v i x (s .holds)
+      P : Pulled K Kept five-three-laws L 1 W (side top H) g cl v i r x
+      P = pulled-by H g W top L r c f cl v i x (s .holds)
 
       abbrev name : RowName
       name = rowName (1 + P .depth) (q .band) (q .row)
@@ -437,39 +445,47 @@ module _ (l W : ℕ) (ds : List DrawnRow) where
       answer-is =
           let e : 1 + P .depth - 1 ≡ P .depth = omega arith in
           ap₂ (λ b d. record { level = b; band = code (q .band); row = q .row; length = d }) (P .is .level-is ∙ omega arith)
-          (P .is .length-is ∙ ap (λ k. count (across (q .band)) (size k W)) (sym e))
+          (P .is .length-is ∙ ap (λ k. count (across (q .band)) (sideAt k W)) (sym e))
 
       -- what is still to come after the draw
-      still : (b : Bool) → f ≡ b → (let k = resumed b (st W L r c b cl (suc v) i) out (out .level) in
-          coming L W b cl (suc v) i r ≡ name ∷ coming L W b (k .closed) (k .out .level) (k .out .left) r)
+      still : (b : Bool) → f ≡ b → (let k = resumed b (st W top L r c b cl (suc v) i) out (out .level) in
+          coming L W top b cl (suc v) i r ≡ name ∷ coming L W top b (k .closed) (k .out .level) (k .out .left) r)
       still false e =
           unfold resumed in
-          (coming-open L W cl (suc v) i r ∙ P .first ∙ ap (λ l. name ∷ l) (sym (coming-open L W cl (out .level) (out .left) r ∙ P .good .rows)))
-      still true e = coming-closed L W cl (suc v) i r ∙ ap (λ l. l ++ later L 1 W r cl) (P .first) ∙ ap (λ l. name ∷ l) (sym (go (out .level) refl))
+          (coming-open L W top cl (suc v) i r ∙ P .first ∙ ap (λ l. name ∷ l) (sym (coming-open L W top cl (out .level) (out .left) r ∙ P .good .rows)))
+      still true e =
+          coming-closed L W top cl (suc v) i r ∙ ap (λ l. l ++ later L 1 W (side top r) cl) (P .first) ∙ ap (λ l. name ∷ l) (sym (go (out .level) refl))
         where
-          h : Holds H g (st W L r c true cl (suc v) i) x
-          h = subst (λ b. Holds H g (st W L r c b cl (suc v) i) x) e (s .holds)
+          h : Holds H g (st W top L r c true cl (suc v) i) x
+          h = subst (λ b. Holds H g (st W top L r c b cl (suc v) i) x) e (s .holds)
 
-          go : (b : ℕ) → out .level ≡ b → (let k = resumed true (st W L r c true cl (suc v) i) out b in
-              coming L W true (k .closed) (k .out .level) (k .out .left) r ≡ P .todo ++ later L 1 W r cl)
+          ended : r ≡ H
+          ended = h .ended refl .0
+
+          go : (b : ℕ) → out .level ≡ b → (let k = resumed true (st W top L r c true cl (suc v) i) out b in
+              coming L W top true (k .closed) (k .out .level) (k .out .left) r ≡ P .todo ++ later L 1 W (side top r) cl)
           go zero y =
               unfold resumed in
-              (coming-closed L W _ _ _ r
-              ∙ shut-on H g W L r c cl v i x h y .rows
-              ∙ ap (λ l. l ++ later L 1 W r cl) (sym (sym (P .good .rows) ∙ ap (λ b. pend L 1 W cl b (out .left) r) y ∙ pend-none L 1 W cl (out .left) r)))
-          go (suc b) y = unfold resumed in (coming-closed L W cl (out .level) (out .left) r ∙ ap (λ l. l ++ later L 1 W r cl) (P .good .rows))
+              (let k : Shut = shut K L W top cl r (out .store) in
+              coming-closed L W top _ _ _ r
+              ∙ ap (λ m. pend L 1 W top (k .closed) (k .out .level) (k .out .left) r ++ later L 1 W (side top m) (k .closed)) ended
+              ∙ shut-on H g W top L r c cl v i x h y .rows
+              ∙ ap (λ m. later L 1 W (side top m) cl) (sym ended)
+              ∙ ap (λ l. l ++ later L 1 W (side top r) cl)
+              (sym (sym (P .good .rows) ∙ ap (λ b. pend L 1 W top cl b (out .left) r) y ∙ pend-none L 1 W top cl (out .left) r)))
+          go (suc b) y = unfold resumed in (coming-closed L W top cl (out .level) (out .left) r ∙ ap (λ l. l ++ later L 1 W (side top r) cl) (P .good .rows))
 
       drawn-sound : (z : ℕ → ℤ) → ((j : ℕ) → j < q .length → z j ≡ x (q .start + j)) →
-          Sound L W H g f (ds ++ (record { row = bandRow q; values = z } ∷ [])) r c (left .closed) (left .out .level) (left .out .left) (left .out .store)
+          Sound L W top H g f (ds ++ (record { row = bandRow q; values = z } ∷ [])) r c (left .closed) (left .out .level) (left .out .left) (left .out .store)
       drawn-sound z e = record {
-        holds = draw-holds H g W L r c f cl v i x (s .holds);
+        holds = draw-holds H g W top L r c f cl v i x (s .holds);
         names = s .names ++ (name ∷ []);
         named = map-append (λ d. d .row) ds _ ∙ ap₂ (λ b d. b ++ (d ∷ [])) (s .named) answer-is ∙ sym (map-append (answered W) (s .names) _);
         order = append-assoc (s .names) (name ∷ []) _ ∙ ap (λ l. s .names ++ l) (sym (still f refl)) ∙ s .order;
         values = all-append (s .values) (all-more right all-none);
       }
         where
-          right : Right L W H g (record { row = bandRow q; values = z })
+          right : Right L W top H g (record { row = bandRow q; values = z })
           right = record {
             depth = P .depth;
             deep = P .deep;
@@ -482,11 +498,11 @@ module _ (l W : ℕ) (ds : List DrawnRow) where
           }
 
     -- what waits is named by the answer
-    pub head-is : (n : RowName) × (l : List RowName) × (coming L W f cl (suc v) i r ≡ n ∷ l) × (bandRow q ≡ answered W n)
+    pub head-is : (n : RowName) × (l : List RowName) × (coming L W top f cl (suc v) i r ≡ n ∷ l) × (bandRow q ≡ answered W n)
     head-is = (name _ _ (own-fits a), _, still _ _ (own-fits a) f refl, answer-is _ _ (own-fits a))
 
     pub draw-good : (z : ℕ → ℤ) → ((j : ℕ) → j < q .length → z j ≡ x (q .start + j)) →
-        At L W ts f (ds ++ (record { row = bandRow q; values = z } ∷ [])) r c (left .closed) (left .out .level) (left .out .left) (left .out .store)
+        At L W top ts f (ds ++ (record { row = bandRow q; values = z } ∷ [])) r c (left .closed) (left .out .level) (left .out .left) (left .out .store)
     draw-good z e = record {
       counted = a .counted;
       column-in = a .column-in;
@@ -496,52 +512,56 @@ module _ (l W : ℕ) (ds : List DrawnRow) where
       sound = λ H g t. drawn-sound H g t z e;
       early = λ y. let k = a .early y in record {
         drawn = omega (arith, k .drawn, length-append ds (record { row = bandRow q; values = z } ∷ []));
-        right = λ H g t. subst (All (Right L W H g)) (sym (take-append-le _ ds _ (k .drawn))) (k .right H g t);
+        right = λ H g t. subst (All (Right L W top H g)) (sym (take-append-le _ ds _ (k .drawn))) (k .right H g t);
       };
     }
 
   -- ---- the finish
-  module _ (ts : List ℕ) (r c cl v i : ℕ) (x : Memory) (a : At L W ts false ds r c cl v i x) (z : v ≡ 0) (p : 0 < r) (n : c ≡ 0) where
+  module _ (ts : List ℕ) (r c cl v i : ℕ) (x : Memory) (a : At L W top ts false ds r c cl v i x) (z : v ≡ 0) (p : 0 < r) (n : c ≡ 0) where
     abbrev k : Shut
-    k = shut K L W 0 r x
+    k = shut K L W top 0 r x
 
-    made-whole : (names : List RowName) → names ++ coming L W false cl v i r ≡ made W L r false → (l : List RowName) → l ≡ closing L 1 W r →
-        names ++ l ≡ made W L r true
+    made-whole : (names : List RowName) → names ++ coming L W top false cl v i r ≡ made W top L r false → (l : List RowName) → l ≡ closing L 1 W (side top r) →
+        names ++ l ≡ made W top L r true
     unfolding made
     made-whole names e l q =
-        let m : names ≡ inTurn r (madeBy L 1 W) ++ [] = sym (append-nil names) ∙ ap (λ b. names ++ b) (sym (none-waits a z)) ∙ e in
-        ap₂ _++_ (m ∙ append-nil (inTurn r (madeBy L 1 W))) q
+        let m : names ≡ inTurn r (madeBy L 1 W top) ++ [] = sym (append-nil names) ∙ ap (λ b. names ++ b) (sym (none-waits a z)) ∙ e in
+        ap₂ _++_ (m ∙ append-nil (inTurn r (madeBy L 1 W top))) q
 
-    finish-sound : (H : ℕ) (g : Grid) → Fits W H g ts true → Sound L W H g true ds r c (k .closed) (k .out .level) (k .out .left) (k .out .store)
+    finish-sound : (H : ℕ) (g : Grid) → Fits W H g ts true → Sound L W top H g true ds r c (k .closed) (k .out .level) (k .out .left) (k .out .store)
     finish-sound H g t =
         let s = a .sound H g (record { within = t .within; heights = t .heights; whole = λ e. absurd (differ e) }) in
-        let e : r ≡ H = rows-all W H r c (omega (arith, a .column-in)) n (sym (a .counted) ∙ t .whole refl) in
+        let e : r ≡ H = rows-all (W .length) H r c (omega (arith, a .column-in)) n (sym (a .counted) ∙ t .whole refl) in
         record {
-          holds = finish-holds H g W L r c cl v i x (s .holds) z p n e;
+          holds = finish-holds H g W top L r c cl v i x (s .holds) z p n e;
           names = s .names;
           named = s .named;
           order =
               made-whole (s .names) (s .order) _
-              (coming-closed L W (k .closed) (k .out .level) (k .out .left) r ∙ shut-first H g W L r c cl v i x (s .holds) z p n e .rows ∙ later-none L 1 W r);
+              (coming-closed L W top (k .closed) (k .out .level) (k .out .left) r
+              ∙ ap (λ m. pend L 1 W top (k .closed) (k .out .level) (k .out .left) r ++ later L 1 W (side top m) (k .closed)) e
+              ∙ shut-first H g W top L r c cl v i x (s .holds) z p n e .rows
+              ∙ later-none L 1 W (side top H)
+              ∙ ap (λ m. closing L 1 W (side top m)) (sym e));
           values = s .values;
         }
 
     -- all rows made before the finish are drawn
-    all-early : Early L W ts ds r
+    all-early : Early L W top ts ds r
     all-early =
         let s = own-sound a in
-        let e : length ds ≡ length (made W L r false) =
+        let e : length ds ≡ length (made W top L r false) =
         sym (length-map ds (λ d. d .row))
         ∙ ap length (s .named)
         ∙ length-map (s .names) (answered W)
         ∙ ap length (sym (append-nil (s .names)) ∙ ap (λ b. s .names ++ b) (sym (none-waits a z)) ∙ s .order) in
         record {
           drawn = omega arith;
-          right = λ H g t. subst (All (Right L W H g)) (sym (take-all (length (made W L r false)) ds (omega arith)))
+          right = λ H g t. subst (All (Right L W top H g)) (sym (take-all (length (made W top L r false)) ds (omega arith)))
               (a .sound H g t .values);
         }
 
-    pub finish-good : At L W ts true ds r c (k .closed) (k .out .level) (k .out .left) (k .out .store)
+    pub finish-good : At L W top ts true ds r c (k .closed) (k .out .level) (k .out .left) (k .out .store)
     finish-good = record {
       counted = a .counted;
       column-in = a .column-in;
@@ -553,22 +573,22 @@ module _ (l W : ℕ) (ds : List DrawnRow) where
     }
 
 -- ---- at first
-none-made : (W L : ℕ) → made W L 0 false ≡ []
+none-made : (W : Side) (top L : ℕ) → made W top L 0 false ≡ []
 unfolding made inTurn
-none-made W L = refl
+none-made W top L = refl
 
-pub fresh-at : (L W : ℕ) (x : Memory) → 0 < W → At L W [] false [] 0 0 0 0 0 x
-fresh-at L W x p = record {
+pub fresh-at : (L : ℕ) (W : Side) (top : ℕ) (x : Memory) → 0 < W .length → At L W top [] false [] 0 0 0 0 0 x
+fresh-at L W top x p = record {
   counted = omega arith;
   column-in = p;
   rows-in = omega arith;
   room = λ e. absurd (omega arith);
   ended = λ e. absurd (differ e);
   sound = λ H g t. record {
-    holds = fresh-holds H g W L x;
+    holds = fresh-holds H g W top L x;
     names = [];
     named = refl;
-    order = coming-open L W 0 0 0 0 ∙ pend-none L 1 W 0 0 0 ∙ sym (none-made W L);
+    order = coming-open L W top 0 0 0 0 ∙ pend-none L 1 W top 0 0 0 ∙ sym (none-made W top L);
     values = all-none;
   };
   early = λ e. absurd (differ e);

@@ -1,13 +1,17 @@
 -- The machine's steps at the 5/3 level, as the code's branches meet them. Assumes nothing.
 use mathlib.Core.Path.{_≡_, refl, sym, ap, _∙_}
-use Prim.Native.Nat.{ℕ, zero, suc, _+_, _-_, _*_, _/_, _%_, _<_, _^_}
+use mathlib.Core.Bool.{Bool, true, false, not}
+use Prim.Native.Nat.{ℕ, zero, suc, _+_, _-_, _*_, _/_, _%_, _<_, _≤_, _^_}
 use native.Mathlib.Omega.{arith}
-use borrow.Author.Tests.{eq-eqb, ne-eqb, lt-ltb, le-ltb}
-use Rattle.lifting.specs.Line.{lo, count}
-use Rattle.level.specs.Level.{Memory, prev, rest, joinAt}
+use lib.Dec.{ltb, leb}
+use borrow.Author.Tests.{not-true, not-false, le-leb, lt-ltb, ltb-true, leb-true}
+use Rattle.numbers.specs.Signal.{both}
+use Rattle.numbers.proofs.Sweep as sweep
+use Rattle.lifting.specs.Grid.{Side, side}
+use Rattle.wavelet.specs.Levels.{next}
+use Rattle.level.specs.Level.{Memory, completes, rest, joinAt}
 use Rattle.level.specs.FiveThreeLevel.{fiveThree, setMade}
 use Rattle.level.specs.Making.{delivered}
-use Rattle.level.proofs.Places.{prev-is}
 use Rattle.level.proofs.RestLaws.{rest-join, join-again}
 use Rattle.writer.specs.declared.cascade.Wait.{Wait}
 use Rattle.writer.specs.Counts.{deeper, further, most, skip, startOf}
@@ -16,34 +20,36 @@ use Rattle.writer.specs.Steps.{Left}
 use Rattle.writer.proofs.CountLaws.{deeper-le, start-first, start-deeper, start-le}
 
 -- ---- what a step leaves
-pub left-still : (l w : ℕ) (o : Out) (x : Memory) → o ≡ still x → Left l w o (record { level = 0; left = 0; offset = 0 }) x
+pub left-still : (l : ℕ) (w : Side) (o : Out) (x : Memory) → o ≡ still x → Left l w o (record { level = 0; left = 0; offset = 0 }) x
 left-still l w o x e = rw e (record { level = refl; left = refl; offset = sym (start-first w 0 (omega arith)); store = refl; within = omega arith })
 
-pub left-waits : (l w i : ℕ) (o : Out) (x : Memory) → 0 < l → o ≡ record { store = x; level = 1; left = i } →
+pub left-waits : (l : ℕ) (w : Side) (i : ℕ) (o : Out) (x : Memory) → 0 < l → o ≡ record { store = x; level = 1; left = i } →
     Left l w o (record { level = 1; left = i; offset = 0 }) x
 left-waits l w i o x h e = rw e (record { level = refl; left = refl; offset = sym (start-first w 1 (omega arith)); store = refl; within = omega arith })
 
-pub left-same : (l w : ℕ) (o o′ : Out) (r : Wait) (x : Memory) → o ≡ o′ → Left l w o′ r x → Left l w o r x
+pub left-same : (l : ℕ) (w : Side) (o o′ : Out) (r : Wait) (x : Memory) → o ≡ o′ → Left l w o′ r x → Left l w o r x
 left-same l w o o′ r x e f = rw e f
 
 -- an offset is far from what a number holds
-pub left-small : (l w : ℕ) (o : Out) (r : Wait) (x : Memory) → w < 2 ^ 16 → l < 2 ^ 16 → Left l w o r x → r .offset < 4294967296
+pub left-small : (l : ℕ) (w : Side) (o : Out) (r : Wait) (x : Memory) → w .length < 2 ^ 16 → l < 2 ^ 16 → Left l w o r x → r .offset < 4294967296
 left-small l w o r x h g f = omega (arith, f .offset, f .level, f .within, start-le w (o .level))
 
 -- what waits of the level above: seen from there
-pub under-offset : (w : ℕ) (o r v : ℕ) → r ≡ v → o ≡ startOf (count lo w) v → further r (4 * w) o ≡ startOf w (deeper v)
-under-offset w o r v e f = ap (λ (r : ℕ). further r (4 * w) o) e ∙ ap (further v (4 * w)) f ∙ sym (start-deeper w v)
+pub under-offset : (w : Side) (o r v : ℕ) → r ≡ v → o ≡ startOf (next w) v → further r (4 * w .length) o ≡ startOf w (deeper v)
+under-offset w o r v e f = ap (λ (r : ℕ). further r (4 * w .length) o) e ∙ ap (further v (4 * w .length)) f ∙ sym (start-deeper w v)
 
 -- the levels below, from the end of the first one's stretch on: y is the store with the row that went there, t what they leave
-pub left-under : (l k w d b : ℕ) (x y u t z : Memory) (o : Out) (r : Wait) → l ≡ k + 1 → y ≡ joinAt (4 * w) x u → z ≡ joinAt (4 * w) y t →
+pub left-under : (l k : ℕ) (w : Side) (d b : ℕ) (x y u t z : Memory) (o : Out) (r : Wait) → l ≡ k + 1 → y ≡ joinAt (4 * w .length) x u →
+    z ≡ joinAt (4 * w .length) y t →
     d ≡ deeper (r .level) →
-    b ≡ further (r .level) (4 * w) (r .offset) → Left k (count lo w) o r t → Left l w (under (4 * w) x o) (record { level = d; left = r .left; offset = b }) z
+    b ≡ further (r .level) (4 * w .length) (r .offset) → Left k (next w) o r t →
+    Left l w (under (4 * w .length) x o) (record { level = d; left = r .left; offset = b }) z
 left-under l k w d b x y u t z o r el ey ez ed eb f =
     record {
       level = ed ∙ ap deeper (f .level);
       left = f .left;
       offset = eb ∙ under-offset w (r .offset) (r .level) (o .level) (f .level) (f .offset);
-      store = ez ∙ ap (λ (m : Memory). joinAt (4 * w) m t) ey ∙ join-again (4 * w) x u t ∙ ap (joinAt (4 * w) x) (f .store);
+      store = ez ∙ ap (λ (m : Memory). joinAt (4 * w .length) m t) ey ∙ join-again (4 * w .length) x u t ∙ ap (joinAt (4 * w .length) x) (f .store);
       within = omega (arith, deeper-le (r .level) k (f .within));
     }
 
@@ -59,83 +65,107 @@ settled-goes pass n zero x h = refl
 settled-goes pass n (suc i) x h = absurd (omega arith)
 
 -- ---- its LL row
-module _ (w n : ℕ) (x : Memory) where
-  -- below the next level's stretch it changes nothing
-  pub delivered-join : delivered w n x ≡ joinAt (4 * w) x (rest (4 * w) (delivered w n x))
-  unfolding delivered
-  delivered-join = ap (joinAt (4 * w) x) (sym (rest-join (4 * w) x _))
+module _ (W : Side) (s n : ℕ) (x : Memory) where
+  abbrev to : ℕ
+  to = (s + 1) / 2 % 2 + (n - s % 2)
 
-  pub pass-none : (l : ℕ) → l ≡ 0 → passOn fiveThree l w n x ≡ still x
+  -- below the next level's stretch it changes nothing
+  pub delivered-join : delivered W n to x ≡ joinAt (4 * W .length) x (rest (4 * W .length) (delivered W n to x))
+  unfolding delivered
+  delivered-join = ap (joinAt (4 * W .length) x) (sym (rest-join (4 * W .length) x _))
+
+  -- no level is below, or the set has no low row
+  pub pass-none : (l : ℕ) → both (ltb 0 l) (leb (s % 2) n) ≡ false → passOn fiveThree l W s n x ≡ still x
   unfolding passed
   pass-none zero e = refl
-  pass-none (suc l) e = absurd (omega arith)
+  pass-none (suc l) e = simp (more e)
+    where
+      more : both (ltb 0 (suc l)) (leb (s % 2) n) ≡ false → leb (s % 2) n ≡ false
+      more e = sym (ap (λ t. both t (leb (s % 2) n)) (lt-ltb 0 (suc l) (omega arith))) ∙ e
 
-  pub pass-goes : (l : ℕ) → 0 < l → passOn fiveThree l w n x ≡ under (4 * w) x (arrive fiveThree l (count lo w) n (rest (4 * w) (delivered w n x)))
+  pub pass-goes : (l : ℕ) → 0 < l → s % 2 ≤ n → passOn fiveThree l W s n x
+      ≡ under (4 * W .length) x (arrive fiveThree l (next W) ((s + 1) / 2) (n - s % 2) (rest (4 * W .length) (delivered W n to x)))
   unfolding passed delivered
-  pass-goes zero h = absurd (omega arith)
-  pass-goes (suc l) h = ap (λ (t : Memory). under (4 * w) x (arrive fiveThree (suc l) (count lo w) n t)) (sym (rest-join (4 * w) x _))
+  pass-goes zero h f = absurd (omega arith)
+  pass-goes (suc l) h f =
+      simp (le-leb (s % 2) n f)
+      (ap (λ (t : Memory). under (4 * W .length) x (arrive fiveThree (suc l) (next W) ((s + 1) / 2) (n - s % 2) t))
+      (sym (rest-join (4 * W .length) x _)))
+
+-- where a row goes on
+pub goes : (l s n : ℕ) (t : Bool) → t ≡ both (ltb 0 l) (leb (s % 2) n) → not t ≡ false → (0 < l) × (s % 2 ≤ n)
+goes l s n t e h =
+    let p = sweep.both (ltb 0 l) (leb (s % 2) n) (sym e ∙ not-false t h) in
+    (ltb-true 0 l (p .0), leb-true (s % 2) n (p .1))
+
+-- the numbers of the next level: its columns and where its rows start
+pub record Below (W : Side) (s n : ℕ) (v a b k : ℕ) : Type 0 where
+  pub columns : side a v ≡ next W
+  pub start : b ≡ (s + 1) / 2
+  pub row : k ≡ n - s % 2
 
 -- the LL row has gone on to the levels below, which leave t
-pub passed-goes : (l w n v d b : ℕ) (x y t z : Memory) (r : Wait) → 0 < l → v ≡ count lo w → y ≡ delivered w n x →
-    Left l v (arrive fiveThree l v n (rest (4 * w) y)) r t →
-    z ≡ joinAt (4 * w) y t → d ≡ deeper (r .level) → b ≡ further (r .level) (4 * w) (r .offset) → Left (l + 1) w (passOn fiveThree l w n x)
-    (record { level = d; left = r .left; offset = b }) z
-passed-goes l w n v d b x y t z r h ev e f ez ed eb =
-    left-same (l + 1) w _ _ _ z (pass-goes w n x l h)
-    (left-under (l + 1) l w d b x y _ t z _ r refl (e ∙ delivered-join w n x) ez ed eb (rw (ev, e) at f))
+pub passed-goes : (l : ℕ) (W : Side) (s n v a b k d o p : ℕ) (x y t z : Memory) (r : Wait) → 0 < l → s % 2 ≤ n → Below W s n v a b k → p ≡ b % 2 + k →
+    y ≡ delivered W n p x → Left l (side a v) (arrive fiveThree l (side a v) b k (rest (4 * W .length) y)) r t → z ≡ joinAt (4 * W .length) y t →
+    d ≡ deeper (r .level) → o ≡ further (r .level) (4 * W .length) (r .offset) → Left (l + 1) W (passOn fiveThree l W s n x)
+    (record { level = d; left = r .left; offset = o }) z
+passed-goes l W s n v a b k d o p x y t z r h f g ep e u ez ed eo =
+    let place : p ≡ (s + 1) / 2 % 2 + (n - s % 2) = ep ∙ ap (λ (i : ℕ). i % 2 + k) (g .start) ∙ ap (λ (i : ℕ). (s + 1) / 2 % 2 + i) (g .row) in
+    let y-is : y ≡ delivered W n ((s + 1) / 2 % 2 + (n - s % 2)) x = e ∙ ap (λ (i : ℕ). delivered W n i x) place in
+    left-same (l + 1) W _ _ _ z (pass-goes W s n x l h f)
+    (left-under (l + 1) l W d o x y _ t z _ r refl (y-is ∙ delivered-join W s n x) ez ed eo (rw (g .columns, g .start, g .row, y-is) at u))
 
 -- ---- a row that comes
-module _ (l w m : ℕ) (x : Memory) where
-  pub arrive-none : l ≡ 0 → arrive fiveThree l w m x ≡ still x
+module _ (l : ℕ) (W : Side) (s m : ℕ) (x : Memory) where
+  pub arrive-none : l ≡ 0 → arrive fiveThree l W s m x ≡ still x
   unfolding arrive
   arrive-none e = rw e refl
 
-  pub arrive-odd : m % 2 ≡ 1 → arrive fiveThree l w m x ≡ still x
-  arrive-odd e = go l
+  pub arrive-still : completes s m ≡ false → arrive fiveThree l W s m x ≡ still x
+  arrive-still e = go l
     where
-      go : (l : ℕ) → arrive fiveThree l w m x ≡ still x
+      go : (l : ℕ) → arrive fiveThree l W s m x ≡ still x
       go zero = unfold arrive in refl
-      go (suc l) = unfold arrive arrived in simp (ne-eqb (m % 2) 0 (omega arith))
+      go (suc l) = unfold arrive arrived in simp e
 
-  pub arrive-first : m ≡ 0 → arrive fiveThree l w m x ≡ still x
-  arrive-first e = go l
+  pub arrive-set : 0 < l → completes s m ≡ true → arrive fiveThree l W s m x ≡ settled (passOn fiveThree (l - 1) W s)
+      ((s % 2 + m) / 2 - 1) (setMade W s ((s % 2 + m) / 2 - 1) x) (skip W (side s (m + 1)) ((s % 2 + m) / 2 - 1) (most (l - 1)))
+  arrive-set h e = go l h
     where
-      go : (l : ℕ) → arrive fiveThree l w m x ≡ still x
-      go zero = unfold arrive in refl
-      go (suc l) = unfold arrive arrived in simp (eq-eqb (m % 2) 0 (omega arith), le-ltb 0 m (omega arith))
+      n : ℕ
+      n = (s % 2 + m) / 2 - 1
 
-  pub arrive-even : (n : ℕ) → 0 < l → m ≡ 2 * n + 2 → arrive fiveThree l w m x ≡ settled (passOn fiveThree (l - 1) w) n (setMade w n x)
-      (skip w (m + 1) n (most (l - 1)))
-  arrive-even n h e = go l h
-    where
-      p : prev (m / 2) ≡ n
-      p = omega (arith, prev-is (m / 2))
-
-      go : (l : ℕ) → 0 < l → arrive fiveThree l w m x ≡ settled (passOn fiveThree (l - 1) w) n (setMade w n x) (skip w (m + 1) n (most (l - 1)))
+      go : (l : ℕ) → 0 < l → arrive fiveThree l W s m x ≡ settled (passOn fiveThree (l - 1) W s) n (setMade W s n x)
+          (skip W (side s (m + 1)) n (most (l - 1)))
       go zero h = absurd (omega arith)
-      go (suc l) h =
-          let q : suc l - 1 ≡ l = omega arith in
-          rw q
-          (unfold arrive arrived in
-          simp (eq-eqb (m % 2) 0 (omega arith), lt-ltb 0 m (omega arith), p))
+      go (suc l) h = let q : suc l - 1 ≡ l = omega arith in rw q (unfold arrive arrived in simp e)
 
 -- ---- the same, as what `arrive` leaves
-module _ (l w m n : ℕ) (x x₁ : Memory) (i : ℕ) (hl : 0 < l) (e : m ≡ 2 * n + 2) (e₁ : x₁ ≡ setMade w n x) where
-  came : arrive fiveThree l w m x ≡ settled (passOn fiveThree (l - 1) w) n x₁ (skip w (m + 1) n (most (l - 1)))
-  came = arrive-even l w m x n hl e ∙ ap (λ (y : Memory). settled (passOn fiveThree (l - 1) w) n y (skip w (m + 1) n (most (l - 1)))) (sym e₁)
+module _ (l : ℕ) (W : Side) (s m n : ℕ) (x x₁ : Memory) (i : ℕ) (hl : 0 < l) (c : Bool) (ec : c ≡ completes s m) (sure : not c ≡ false)
+    (en : n ≡ (s % 2 + m) / 2 - 1) (e₁ : x₁ ≡ setMade W s n x) where
+  came : arrive fiveThree l W s m x ≡ settled (passOn fiveThree (l - 1) W s) n x₁ (skip W (side s (m + 1)) n (most (l - 1)))
+  came =
+      arrive-set l W s m x hl (sym ec ∙ not-false c sure)
+      ∙ ap (λ (k : ℕ). settled (passOn fiveThree (l - 1) W s) k (setMade W s k x) (skip W (side s (m + 1)) k (most (l - 1)))) (sym en)
+      ∙ ap (λ (y : Memory). settled (passOn fiveThree (l - 1) W s) n y (skip W (side s (m + 1)) n (most (l - 1)))) (sym e₁)
 
-  pub came-waits : i ≡ skip w (m + 1) n (most (l - 1)) → 0 < i → Left l w (arrive fiveThree l w m x) (record { level = 1; left = i; offset = 0 }) x₁
-  came-waits q h = left-waits l w i _ x₁ hl (came ∙ ap (settled (passOn fiveThree (l - 1) w) n x₁) (sym q) ∙ settled-waits _ n i x₁ h)
+  pub came-waits : i ≡ skip W (side s (m + 1)) n (most (l - 1)) → 0 < i →
+      Left l W (arrive fiveThree l W s m x) (record { level = 1; left = i; offset = 0 }) x₁
+  came-waits q h = left-waits l W i _ x₁ hl (came ∙ ap (settled (passOn fiveThree (l - 1) W s) n x₁) (sym q) ∙ settled-waits _ n i x₁ h)
 
-  goes : i ≡ skip w (m + 1) n (most (l - 1)) → i ≡ 0 → arrive fiveThree l w m x ≡ passOn fiveThree (l - 1) w n x₁
-  goes q h = came ∙ ap (settled (passOn fiveThree (l - 1) w) n x₁) (sym q) ∙ settled-goes _ n i x₁ h
+  goes-on : i ≡ skip W (side s (m + 1)) n (most (l - 1)) → i ≡ 0 → arrive fiveThree l W s m x ≡ passOn fiveThree (l - 1) W s n x₁
+  goes-on q h = came ∙ ap (settled (passOn fiveThree (l - 1) W s) n x₁) (sym q) ∙ settled-goes _ n i x₁ h
 
-  pub came-last : i ≡ skip w (m + 1) n (most (l - 1)) → i ≡ 0 → l ≡ 1 → Left l w (arrive fiveThree l w m x) (record { level = 0; left = 0; offset = 0 }) x₁
-  came-last q h z = left-still l w _ x₁ (goes q h ∙ pass-none w n x₁ (l - 1) (omega arith))
+  pub came-last : i ≡ skip W (side s (m + 1)) n (most (l - 1)) → i ≡ 0 → (t : Bool) → t ≡ both (ltb 0 (l - 1)) (leb (s % 2) n) → not t ≡ true →
+      Left l W (arrive fiveThree l W s m x) (record { level = 0; left = 0; offset = 0 }) x₁
+  came-last q h t et n₂ = left-still l W _ x₁ (goes-on q h ∙ pass-none W s n x₁ (l - 1) (sym et ∙ not-true t n₂))
 
-  pub came-goes : i ≡ skip w (m + 1) n (most (l - 1)) → i ≡ 0 → 1 < l → (v d b : ℕ) (x₂ t z : Memory) (r : Wait) → v ≡ count lo w → x₂ ≡ delivered w n x₁ →
-      Left (l - 1) v (arrive fiveThree (l - 1) v n (rest (4 * w) x₂)) r t → z ≡ joinAt (4 * w) x₂ t → d ≡ deeper (r .level) →
-      b ≡ further (r .level) (4 * w) (r .offset) → Left l w (arrive fiveThree l w m x) (record { level = d; left = r .left; offset = b }) z
-  came-goes q h g v d b x₂ t z r ev e₂ f ez ed eb =
-      let k : l - 1 + 1 ≡ l = omega arith in
-      rw k at (left-same (l - 1 + 1) w _ _ _ z (goes q h) (passed-goes (l - 1) w n v d b x₁ x₂ t z r (omega arith) ev e₂ f ez ed eb))
+  pub came-goes : i ≡ skip W (side s (m + 1)) n (most (l - 1)) → i ≡ 0 → (t : Bool) → t ≡ both (ltb 0 (l - 1)) (leb (s % 2) n) → not t ≡ false →
+      (v a b k d o p : ℕ) (x₂ y z : Memory) (r : Wait) → Below W s n v a b k → p ≡ b % 2 + k → x₂ ≡ delivered W n p x₁ →
+      Left (l - 1) (side a v) (arrive fiveThree (l - 1) (side a v) b k (rest (4 * W .length) x₂)) r y → z ≡ joinAt (4 * W .length) x₂ y →
+      d ≡ deeper (r .level) → o ≡ further (r .level) (4 * W .length) (r .offset) →
+      Left l W (arrive fiveThree l W s m x) (record { level = d; left = r .left; offset = o }) z
+  came-goes q h t et yes₂ v a b k d o p x₂ y z r g ep e₂ f ez ed eo =
+      let w = goes (l - 1) s n t et yes₂ in
+      let j : l - 1 + 1 ≡ l = omega arith in
+      rw j at (left-same (l - 1 + 1) W _ _ _ z (goes-on q h) (passed-goes (l - 1) W s n v a b k d o p x₁ x₂ y z r (w .0) (w .1) g ep e₂ f ez ed eo))

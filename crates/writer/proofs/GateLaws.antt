@@ -1,24 +1,22 @@
 -- What the gate questions say. Assumes nothing.
 use mathlib.Core.Path.{_≡_, refl, sym, ap, _∙_}
 use mathlib.Core.Bool.{Bool, true, false, not}
-use Prim.Native.Nat.{ℕ, zero, suc, _+_, _*_, _/_, _≤_, _<_, _-_}
+use Prim.Native.Nat.{ℕ, suc, _+_, _*_, _≤_, _<_, _-_}
 use native.Mathlib.Omega.{arith}
 use lib.Dec.{leb, ltb, eqb}
 use borrow.Author.Tests.{leb-true, ltb-true, le-leb, lt-leb, lt-ltb, le-ltb, eq-eqb, ne-eqb, eqb-true, eqb-false}
-use Rattle.numbers.specs.Signal.{pick, both}
+use Rattle.numbers.specs.Signal.{both}
 use Rattle.numbers.proofs.Sweep as sweep
-use Rattle.wavelet.specs.Limits.{maxWidth, maxHeight, maxLevels}
+use Rattle.wavelet.specs.Limits.{maxWidth, maxHeight, maxLevels, maxOrigin}
 use Rattle.wavelet.specs.Questions.{ask, within}
-use Rattle.wavelet.specs.Store.{storeLength}
-use Rattle.lifting.specs.Line.{lo, count}
+use Rattle.lifting.specs.Grid.{Side}
 use Rattle.wavelet.proofs.QuestionLaws.{within-true}
-use Rattle.wavelet.proofs.SizeLaws.{count-lo}
-use Rattle.wavelet.proofs.StoreLaws.{store-none, store-below}
-use Rattle.level.specs.Level.{prev}
-use Rattle.level.proofs.Places.{prev-is}
+use Rattle.wavelet.specs.Levels.{next}
+use Rattle.wavelet.specs.Store.{storeLength}
 use Rattle.writer.specs.declared.Writer.{Writer}
 use Rattle.writer.specs.Counts.{mostLeft, startOf}
-use Rattle.writer.specs.Questions.{either, inRanges, longEnough, offerQuestion, finishQuestion}
+use Rattle.writer.specs.Taking.{columnsOf}
+use Rattle.writer.specs.Questions.{either, onGrid, inRanges, longEnough, offerQuestion, finishQuestion}
 use Rattle.writer.specs.Gate.{stateQuestion, openQuestion}
 use Rattle.writer.proofs.CountLaws.{start-first, start-more}
 
@@ -43,11 +41,12 @@ module _ (p q : ℕ) where
   asked-all false b h = absurd (omega arith)
 
 -- ---- question 1, the tests of sizes and counts passed: what waits is left
-pub ranges-last : (s : Writer) → within 1 maxWidth (s .width) ≡ true → within 1 maxLevels (s .levels) ≡ true → s .rows ≤ maxHeight → s .column < s .width →
+pub ranges-last : (s : Writer) → onGrid (s .x) (s .y) ≡ true → within 1 maxWidth (s .width) ≡ true → within 1 maxLevels (s .levels) ≡ true →
+    s .rows ≤ maxHeight → s .column < s .width →
     s .closed ≤ s .levels → s .level ≤ s .levels → (b : Bool) → b ≡ both (leb (s .left) (mostLeft (s .levels) (s .level)))
-    (eqb (s .offset) (startOf (s .width) (s .level))) → b ≡ inRanges s
+    (eqb (s .offset) (startOf (columnsOf s) (s .level))) → b ≡ inRanges s
 unfolding inRanges
-ranges-last s a b d e f g t is = is ∙ simp (a, b, le-leb _ _ d, lt-ltb _ _ e, le-leb _ _ f, le-leb _ _ g)
+ranges-last s o a b d e f g t is = is ∙ simp (o, a, b, le-leb _ _ d, lt-ltb _ _ e, le-leb _ _ f, le-leb _ _ g)
 
 -- what waits: too many bands left, or a number of them that can be; k is how many can
 module _ (a k : ℕ) (t : Bool) where
@@ -58,50 +57,27 @@ module _ (a k : ℕ) (t : Bool) where
   left-yes m b e h f = f ∙ simp (le-leb a m (omega arith))
 
 -- ---- where a level's stretch begins, the stretches before it taken off o
-pub begins-short : (w k o : ℕ) → 1 < k → o < 4 * w → false ≡ eqb o (startOf w k)
+pub begins-short : (w : Side) (k o : ℕ) → 1 < k → o < 4 * w .length → false ≡ eqb o (startOf w k)
 begins-short w k o h g = sym (ne-eqb o (startOf w k) (λ e. absurd (omega (arith, start-more w k h))))
 
-pub begins-on : (w k o h : ℕ) → 1 < k → 4 * w ≤ o → h ≡ count lo w → eqb (o - 4 * w) (startOf h (k - 1)) ≡ eqb o (startOf w k)
+pub begins-on : (w : Side) (k o : ℕ) (h : Side) → 1 < k → 4 * w .length ≤ o → h ≡ next w → eqb (o - 4 * w .length) (startOf h (k - 1)) ≡ eqb o (startOf w k)
 begins-on w k o h g f e = go (eqb o (startOf w k)) refl
   where
-    more : 4 * w + startOf h (k - 1) ≡ startOf w k
+    more : 4 * w .length + startOf h (k - 1) ≡ startOf w k
     more = rw e (start-more w k g)
 
-    go : (t : Bool) → eqb o (startOf w k) ≡ t → eqb (o - 4 * w) (startOf h (k - 1)) ≡ t
-    go true d = eq-eqb (o - 4 * w) (startOf h (k - 1)) (omega (arith, eqb-true o (startOf w k) d, more))
-    go false d = ne-eqb (o - 4 * w) (startOf h (k - 1)) (λ (z : o - 4 * w ≡ startOf h (k - 1)). eqb-false o (startOf w k) d (omega (arith, more)))
+    go : (t : Bool) → eqb o (startOf w k) ≡ t → eqb (o - 4 * w .length) (startOf h (k - 1)) ≡ t
+    go true d = eq-eqb (o - 4 * w .length) (startOf h (k - 1)) (omega (arith, eqb-true o (startOf w k) d, more))
+    go false d =
+        ne-eqb (o - 4 * w .length) (startOf h (k - 1)) (λ (z : o - 4 * w .length ≡ startOf h (k - 1)). eqb-false o (startOf w k) d (omega (arith, more)))
 
-pub begins-first : (w k o : ℕ) → k ≤ 1 → eqb o 0 ≡ eqb o (startOf w k)
+pub begins-first : (w : Side) (k o : ℕ) → k ≤ 1 → eqb o 0 ≡ eqb o (startOf w k)
 begins-first w k o h = ap (eqb o) (sym (start-first w k h))
-
--- ---- the most that a store needs, level by level
-one : (W : ℕ) → storeLength W 1 ≤ 4 * W
-one W = omega (arith, store-below W 0, store-none (count lo W))
-
-two : (W : ℕ) → 2 * storeLength W 2 ≤ 12 * W + 4
-two W = omega (arith, store-below W 1, count-lo W, one (count lo W))
-
-three : (W : ℕ) → 4 * storeLength W 3 ≤ 28 * W + 20
-three W = omega (arith, store-below W 2, count-lo W, two (count lo W))
-
-four : (W : ℕ) → 8 * storeLength W 4 ≤ 60 * W + 68
-four W = omega (arith, store-below W 3, count-lo W, three (count lo W))
-
-five : (W : ℕ) → 16 * storeLength W 5 ≤ 124 * W + 196
-five W = omega (arith, store-below W 4, count-lo W, four (count lo W))
-
--- enough for every number of levels
-pub enough : (W L n : ℕ) → L ≤ 5 → (31 * W + 52) / 4 ≤ n → storeLength W L ≤ n
-enough W zero n h g = omega (arith, store-none W)
-enough W (suc zero) n h g = omega (arith, one W)
-enough W (suc (suc zero)) n h g = omega (arith, two W)
-enough W (suc (suc (suc zero))) n h g = omega (arith, three W)
-enough W (suc (suc (suc (suc zero)))) n h g = omega (arith, four W)
-enough W (suc (suc (suc (suc (suc zero))))) n h g = omega (arith, five W)
-enough W (suc (suc (suc (suc (suc (suc L)))))) n h g = absurd (omega arith)
 
 -- ---- a state that passes questions 1 and 5
 pub record Sound (s : Writer) (n : ℕ) : Type 0 where
+  pub across : s .x ≤ maxOrigin
+  pub down : s .y ≤ maxOrigin
   pub width : (1 ≤ s .width) × (s .width ≤ maxWidth)
   pub levels : (1 ≤ s .levels) × (s .levels ≤ 5)
   pub rows : s .rows ≤ maxHeight
@@ -109,8 +85,8 @@ pub record Sound (s : Writer) (n : ℕ) : Type 0 where
   pub closed : s .closed ≤ s .levels
   pub level : s .level ≤ s .levels
   pub left : s .left ≤ mostLeft (s .levels) (s .level)
-  pub placed : s .offset ≡ startOf (s .width) (s .level)
-  pub room : storeLength (s .width) (s .levels) ≤ n
+  pub placed : s .offset ≡ startOf (columnsOf s) (s .level)
+  pub room : storeLength (columnsOf s) (s .levels) ≤ n
 
 module _ (s : Writer) (n : ℕ) where
   pub state-no : (x : ℕ) → (stateQuestion s n ≡ 0 → ⊥) → ask (inRanges s) 1 (ask (longEnough n s) 5 x) ≡ stateQuestion s n
@@ -125,7 +101,9 @@ module _ (s : Writer) (n : ℕ) where
   unfolding stateQuestion inRanges longEnough maxLevels
   sound h =
       let e = asked-all 0 4 (inRanges s) (longEnough n s) h in
-      let a = sweep.both _ _ (e .0) in
+      let o = sweep.both _ _ (e .0) in
+      let p = sweep.both _ _ (o .0) in
+      let a = sweep.both _ _ (o .1) in
       let b = sweep.both _ _ (a .1) in
       let d = sweep.both _ _ (b .1) in
       let f = sweep.both _ _ (d .1) in
@@ -133,6 +111,8 @@ module _ (s : Writer) (n : ℕ) where
       let i = sweep.both _ _ (g .1) in
       let j = sweep.both _ _ (i .1) in
       record {
+        across = leb-true _ _ (p .0);
+        down = leb-true _ _ (p .1);
         width = within-true 1 maxWidth _ (a .0);
         levels = within-true 1 5 _ (b .0);
         rows = leb-true _ _ (d .0);

@@ -2,7 +2,7 @@
 use mathlib.Core.Path.{_≡_, refl, ap, _∙_, fun-ext, sym}
 use mathlib.Core.Bool.{Bool, true, false, not}
 use mathlib.Core.List.{List, [], _∷_}
-use Prim.Native.Nat.{ℕ, zero, suc, _+_, _-_, _≤_, _<_, min}
+use Prim.Native.Nat.{ℕ, zero, suc, _+_, _-_, _%_, _≤_, _<_, min}
 use native.Mathlib.Decide.{decLt}
 use native.Mathlib.Omega.{arith}
 use lib.IntN.{ℤ, pos}
@@ -21,7 +21,7 @@ use Rattle.level.specs.Heights.{heightAt, heightsPut}
 use Rattle.writer.specs.declared.Writer.{Writer}
 use Rattle.writer.specs.declared.cascade.Wait.{Wait}
 use Rattle.writer.specs.Machine.{arrive}
-use Rattle.writer.specs.Taking.{Taking, none, oneMore, takes, begun, complete, heightPut, rowMakes, offering}
+use Rattle.writer.specs.Taking.{columnsOf, Taking, none, oneMore, takes, begun, complete, heightPut, rowMakes, offering}
 use Rattle.writer.specs.Questions.{offerQuestion, either, inRanges, longEnough}
 use Rattle.writer.specs.Calls.{offerReply, offerStore}
 use Rattle.writer.specs.Steps.{Left}
@@ -149,7 +149,7 @@ offer-used s x = refl
 -- ---- a stretch
 module _ (run : List ℕ) (s : Writer) (x : Memory) (t : takes s ≡ true) where
   abbrev filled : ℕ → Memory
-  filled n = heightsPut (s .width) (s .rows) (s .column) n (heightAt run) x
+  filled n = heightsPut (columnsOf s) (s .y % 2 + s .rows) (s .column) n (heightAt run) x
 
   abbrev moved : ℕ → Writer
   moved n = atColumn s (s .column + n)
@@ -172,16 +172,16 @@ module _ (run : List ℕ) (s : Writer) (x : Memory) (t : takes s ≡ true) where
       ∙ cc (filled-more n, moved-more n)
 
   whole : (n : ℕ) → 0 < n → n ≤ length run → s .column + n ≡ s .width →
-      offering fiveThree run s x ≡ plus n (offering fiveThree (drop n run) (complete s (arrive fiveThree (s .levels) (s .width) (s .rows) (filled n)))
-      (arrive fiveThree (s .levels) (s .width) (s .rows) (filled n) .store))
+      offering fiveThree run s x ≡ plus n (offering fiveThree (drop n run) (complete s (arrive fiveThree (s .levels) (columnsOf s) (s .y) (s .rows) (filled n)))
+      (arrive fiveThree (s .levels) (columnsOf s) (s .y) (s .rows) (filled n) .store))
   whole zero g a b = absurd (omega arith)
   whole (suc n) g a b =
       inside n (omega arith) (omega arith)
       ∙ ap (λ (l : List ℕ). plus n (offering fiveThree l (moved n) (filled n))) (drop-cons run n 0 (omega arith))
       ∙ ap (plus n) (one-whole (getD run n 0) (drop (suc n) run) (moved n) (filled n) (takes-at s _ ∙ t) (omega arith))
       ∙ plus-more n _
-      ∙ ap (λ (y : Memory). plus (suc n) (offering fiveThree (drop (suc n) run) (complete s (arrive fiveThree (s .levels) (s .width) (s .rows) y))
-      (arrive fiveThree (s .levels) (s .width) (s .rows) y .store))) (filled-more n)
+      ∙ ap (λ (y : Memory). plus (suc n) (offering fiveThree (drop (suc n) run) (complete s (arrive fiveThree (s .levels) (columnsOf s) (s .y) (s .rows) y))
+      (arrive fiveThree (s .levels) (columnsOf s) (s .y) (s .rows) y .store))) (filled-more n)
 
 -- ---- how far an offer of `run` to s₀ has gone: k heights taken, and the writer and the store then
 abbrev pub Gone : List ℕ → Writer → Memory → ℕ → Writer → Memory → Type 0
@@ -290,15 +290,17 @@ sound-taker s l f =
     }
 
 -- ---- what a stretch leaves
-module _ (s : Writer) (run : List ℕ) (k n : ℕ) (x y : Memory) (l : ℕ) (t : Taker s l) (e : y ≡ heightsPut (s .width) (s .rows) (s .column) n
+module _ (s : Writer) (run : List ℕ) (k n : ℕ) (x y : Memory) (l : ℕ) (t : Taker s l) (e : y ≡ heightsPut (columnsOf s) (s .y % 2 + s .rows) (s .column) n
     (λ j. heightAt run (k + j)) x) where
   pub stretched-inside : s .column + n < s .width → Stretched s run k n x (atColumn s (s .column + n)) y l
   stretched-inside h = record { inside = λ g. (refl, e); whole = λ g. absurd (omega arith); taker = record { room = t .room; column = h; deep = t .deep } }
 
   pub stretched-whole : (o : Wait) (z : Memory) → s .column + n ≡ s .width → s .rows < maxHeight →
-      Left (s .levels) (s .width) (arrive fiveThree (s .levels) (s .width) (s .rows) y) o z →
+      Left (s .levels) (columnsOf s) (arrive fiveThree (s .levels) (columnsOf s) (s .y) (s .rows) y) o z →
       Stretched s run k n x
       (record {
+        x = s .x;
+        y = s .y;
         width = s .width;
         levels = s .levels;
         rows = s .rows + 1;

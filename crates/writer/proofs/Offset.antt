@@ -4,18 +4,19 @@
 use mathlib.Core.Bool.{Bool, true, false}
 use mathlib.Core.Path.{_≡_, refl, sym, ap, ap₂, _∙_}
 use mathlib.Core.List.{List, [], _∷_}
-use Prim.Native.Nat.{ℕ, zero, suc, _+_}
+use Prim.Native.Nat.{ℕ, zero, suc, _+_, _≤_}
 use lib.ListN.{length}
 use lib.Dec.{ltb, eqb}
 use borrow.Author.Tests.{eq-eqb}
 use Rattle.numbers.specs.Signal.{pick, both}
-use Rattle.wavelet.specs.Limits.{maxHeight}
+use Rattle.lifting.specs.Grid.{Side}
+use Rattle.wavelet.specs.Limits.{maxHeight, maxOrigin}
 use Rattle.calls.specs.Lists.{gives, unless, changedUnless, seen, Area}
 use Rattle.calls.specs.Lists as lists
 use Rattle.writer.specs.declared.Writer.{Writer}
 use Rattle.writer.specs.Counts.{startOf}
 use Rattle.writer.specs.Machine.{Out}
-use Rattle.writer.specs.Taking.{Taking, takes, offering}
+use Rattle.writer.specs.Taking.{columnsOf, Taking, takes, offering}
 use Rattle.writer.specs.Questions.{inRanges, longEnough, setUpQuestion, offerQuestion, drawQuestion, finishQuestion}
 use Rattle.writer.specs.Holds.{left, after}
 use Rattle.writer.specs.Calls.{setUpStore, took, waits, closing, resumed, handed, handedStore, handedArea, offerReply, offerStore, drawReply, drawStore}
@@ -24,13 +25,13 @@ use Rattle.writer.specs.History.{Call, offer, draw, finish, offered, dre
 use Rattle.writer.specs.Before as before
 use Rattle.writer.specs.Before.{Before}
 use Rattle.writer.proofs.StateHolds.{st, fresh-st}
-use Rattle.writer.proofs.Demand3.{width-kept}
+use Rattle.writer.proofs.Demand3.{columns-kept}
 use Rattle.level.specs.Level.{Memory}
 use Rattle.level.specs.FiveThreeLevel.{fiveThree}
 
 -- the writer before, with its offset
 abbrev carry : Before → Writer
-carry b = st (b .width) (b .levels) (b .rows) (b .column) (b .finished) (b .closed) (b .level) (b .left)
+carry b = st (b .columns) (b .start) (b .levels) (b .rows) (b .column) (b .finished) (b .closed) (b .level) (b .left)
 
 abbrev carries : before.World → World
 carries w = record { writer = carry (w .writer); length = w .length; store = w .store }
@@ -43,7 +44,7 @@ same-taking : (run : List ℕ) (b : Before) (x : Memory) → offering fiveThree 
 unfolding offering before.offering takes before.takes
 same-taking [] b x = refl
 same-taking (h ∷ run) b x =
-    go (both (eqb (b .level) 0) (ltb (b .rows) maxHeight)) (ltb (b .column + 1) (b .width)) (same-taking run (before.begun b) y)
+    go (both (eqb (b .level) 0) (ltb (b .rows) maxHeight)) (ltb (b .column + 1) (b .columns .length)) (same-taking run (before.begun b) y)
     (same-taking run (before.complete b o) (o .store))
   where
     y : Memory
@@ -69,7 +70,7 @@ both-yes false = refl
 module _ (b : Before) where
   same-ranges : inRanges (carry b) ≡ before.inRanges b
   unfolding inRanges before.inRanges
-  same-ranges = simp (eq-eqb (startOf (b .width) (b .level)) (startOf (b .width) (b .level)) refl, both-yes)
+  same-ranges = simp (eq-eqb (carry b .offset) (startOf (columnsOf (carry b)) (b .level)) refl, both-yes)
 
   same-offer : (n k : ℕ) → offerQuestion (carry b) n k ≡ before.offerQuestion b n k
   unfolding offerQuestion before.offerQuestion longEnough before.longEnough
@@ -169,24 +170,26 @@ unfolding lists.final
 list-final [] w = refl
 list-final (k ∷ cs) w = ap (final cs) (call-next (w .writer) (w .length) (w .store) k) ∙ list-final cs (before.next k w)
 
-fresh-carries : (W L n : ℕ) (x : Memory) → freshWorld W L n x ≡ carries (before.freshWorld W L n x)
-fresh-carries W L n x = ap (λ s. record { writer = s; length = n; store = setUpStore W L n x }) (fresh-st W L)
+fresh-carries : (W : Side) (top L n : ℕ) (x : Memory) → freshWorld W top L n x ≡ carries (before.freshWorld W top L n x)
+fresh-carries W top L n x = ap (λ s. record { writer = s; length = n; store = setUpStore W L n x }) (fresh-st W top L)
 
--- ---- the theorems: of a set-up of width W and L levels on a store of n numbers in which x stood, and any list of calls
-pub same-events : (W L n : ℕ) (x : Memory) (cs : List Call) → events cs (freshWorld W L n x) ≡ before.events cs (before.freshWorld W L n x)
-same-events W L n x cs = ap (events cs) (fresh-carries W L n x) ∙ list-events cs (before.freshWorld W L n x)
+-- ---- the theorems: of a set-up of the columns W, rows that start at `top`, and L levels on a store of n numbers in which x stood, and any list of calls
+pub same-events : (W : Side) (top L n : ℕ) (x : Memory) (cs : List Call) → events cs (freshWorld W top L n x) ≡ before.events cs (before.freshWorld W top L n x)
+same-events W top L n x cs = ap (events cs) (fresh-carries W top L n x) ∙ list-events cs (before.freshWorld W top L n x)
 
-same-final : (W L n : ℕ) (x : Memory) (cs : List Call) → final cs (freshWorld W L n x) ≡ carries (before.final cs (before.freshWorld W L n x))
-same-final W L n x cs = ap (final cs) (fresh-carries W L n x) ∙ list-final cs (before.freshWorld W L n x)
+same-final : (W : Side) (top L n : ℕ) (x : Memory) (cs : List Call) →
+    final cs (freshWorld W top L n x) ≡ carries (before.final cs (before.freshWorld W top L n x))
+same-final W top L n x cs = ap (final cs) (fresh-carries W top L n x) ∙ list-final cs (before.freshWorld W top L n x)
 
-pub same-store : (W L n : ℕ) (x : Memory) (cs : List Call) → final cs (freshWorld W L n x) .store ≡ before.final cs (before.freshWorld W L n x) .store
-same-store W L n x cs = ap (λ w. w .store) (same-final W L n x cs)
+pub same-store : (W : Side) (top L n : ℕ) (x : Memory) (cs : List Call) →
+    final cs (freshWorld W top L n x) .store ≡ before.final cs (before.freshWorld W top L n x) .store
+same-store W top L n x cs = ap (λ w. w .store) (same-final W top L n x cs)
 
 -- of a set-up that passed
-pub offset-is : (W L n : ℕ) (x : Memory) → setUpQuestion W L n ≡ 0 → (cs : List Call) →
-    (let s = final cs (freshWorld W L n x) .writer in s .offset ≡ startOf W (s .level))
-offset-is W L n x h cs =
-    let e = same-final W L n x cs in
+pub offset-is : (W : Side) (top L n : ℕ) (x : Memory) → W .start ≤ maxOrigin → top ≤ maxOrigin → setUpQuestion W L n ≡ 0 → (cs : List Call) →
+    (let s = final cs (freshWorld W top L n x) .writer in s .offset ≡ startOf W (s .level))
+offset-is W top L n x from low h cs =
+    let e = same-final W top L n x cs in
     ap (λ w. w .writer .offset) e
-    ∙ sym (ap (λ w. startOf (w .writer .width) (w .writer .level)) e)
-    ∙ ap (λ k. startOf k (final cs (freshWorld W L n x) .writer .level)) (width-kept W L n x h cs)
+    ∙ sym (ap (λ w. startOf (columnsOf (w .writer)) (w .writer .level)) e)
+    ∙ ap (λ k. startOf k (final cs (freshWorld W top L n x) .writer .level)) (columns-kept W top L n x from low h cs)

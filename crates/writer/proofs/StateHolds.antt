@@ -2,10 +2,11 @@
 -- Assumes nothing.
 use mathlib.Core.Bool.{Bool, true, false}
 use mathlib.Core.Path.{_≡_, refl, sym, ap, subst, subst₂}
-use Prim.Native.Nat.{ℕ, zero, suc, _+_, _≤_, _<_}
+use Prim.Native.Nat.{ℕ, zero, suc, _+_, _%_, _≤_, _<_}
 use native.Mathlib.Omega.{arith}
 use Rattle.numbers.specs.Signal.{pick, stored}
 use Rattle.wavelet.specs.Bands.{Grid}
+use Rattle.lifting.specs.Grid.{Side, side}
 use Rattle.wavelet.specs.Order.{madeBy}
 use Rattle.wavelet.proofs.StoreLaws.{store-none}
 use Rattle.level.specs.Level.{Memory, LevelKind}
@@ -16,6 +17,7 @@ use Rattle.writer.specs.Counts.{mostLeft, startOf}
 use Rattle.writer.specs.Machine.{Out, arrive}
 use Rattle.writer.specs.Draws.{pull}
 use Rattle.writer.specs.Closing.{Shut, shut}
+use Rattle.writer.specs.Taking.{columnsOf}
 use Rattle.writer.specs.Calls.{fresh, resumed}
 use Rattle.writer.specs.Holds.{LevelsHold, Holds}
 use Rattle.writer.proofs.CascadeHolds.{Good, Pulled, Closed, cell-good, arrive-good, pull-good, shut-good, fresh-good}
@@ -24,14 +26,28 @@ pub differ : false ≡ true → ⊥
 differ e = let z : _≡_ {A = ℕ} 0 1 = ap (λ t. pick t 1 0) e in omega arith
 
 -- the writer by its numbers; its offset is where the level's stretch begins
-abbrev pub st : (W L r c : ℕ) → Bool → (cl v i : ℕ) → Writer
-st W L r c f cl v i = record { width = W; levels = L; rows = r; column = c; finished = f; closed = cl; level = v; left = i; offset = startOf W v }
+abbrev pub st : Side → (s L r c : ℕ) → Bool → (cl v i : ℕ) → Writer
+st W s L r c f cl v i = record {
+  x = W .start;
+  y = s;
+  width = W .length;
+  levels = L;
+  rows = r;
+  column = c;
+  finished = f;
+  closed = cl;
+  level = v;
+  left = i;
+  offset = startOf W v;
+}
 
-pub placed-st : (s : Writer) → s .offset ≡ startOf (s .width) (s .level) → s ≡ st (s .width) (s .levels) (s .rows) (s .column) (s .finished)
+pub placed-st : (s : Writer) → s .offset ≡ startOf (columnsOf s) (s .level) → s ≡ st (columnsOf s) (s .y) (s .levels) (s .rows) (s .column) (s .finished)
     (s .closed) (s .level) (s .left)
 placed-st s e =
     ap
     (λ (o : ℕ). record {
+      x = s .x;
+      y = s .y;
       width = s .width;
       levels = s .levels;
       rows = s .rows;
@@ -44,18 +60,18 @@ placed-st s e =
     })
     e
 
-pub fresh-st : (W L : ℕ) → fresh W L ≡ st W L 0 0 false 0 0 0
-fresh-st W L = placed-st (fresh W L) (sym (store-none W))
+pub fresh-st : (W : Side) (s L : ℕ) → fresh W s L ≡ st W s L 0 0 false 0 0 0
+fresh-st W s L = placed-st (fresh W s L) (sym (store-none W))
 
 abbrev K : LevelKind
 K = fiveThree
 
-module _ (H : ℕ) (g : Grid) (W L : ℕ) where
+module _ (H : ℕ) (g : Grid) (W : Side) (s L : ℕ) where
   abbrev Inv : (cl v i r c : ℕ) → Memory → Type 0
-  Inv cl v i r c x = LevelsHold K Kept L W H g cl v i r c x
+  Inv cl v i r c x = LevelsHold K Kept L W (side s H) g cl v i r c x
 
   abbrev Has : (r c : ℕ) → Bool → (cl v i : ℕ) → Memory → Type 0
-  Has r c f cl v i x = Holds H g (st W L r c f cl v i) x
+  Has r c f cl v i x = Holds H g (st W s L r c f cl v i) x
 
   -- before the finish
   open-holds : (r c cl v i : ℕ) (x : Memory) → Inv cl v i r c x → i ≤ mostLeft L v → (0 < v → c ≡ 0) → cl ≡ 0 → Has r c false cl v i x
@@ -75,50 +91,50 @@ module _ (H : ℕ) (g : Grid) (W L : ℕ) where
   }
 
   pub fresh-holds : (x : Memory) → Has 0 0 false 0 0 0 x
-  fresh-holds x = open-holds 0 0 0 0 0 x (fresh-good K Kept five-three-laws L W H g x) (omega arith) (λ _. refl) refl
+  fresh-holds x = open-holds 0 0 0 0 0 x (fresh-good K Kept five-three-laws L W (side s H) g x) (omega arith) (λ _. refl) refl
 
   -- ---- a row is drawn
   module _ (r c : ℕ) (f : Bool) (cl v i : ℕ) (x : Memory) (h : Has r c f cl (suc v) i x) where
     pub none-begun : c ≡ 0
     none-begun = h .idle (omega arith)
 
-    pub pulled-by : Pulled K Kept five-three-laws L 1 W H g cl v i r x
-    pulled-by = pull-good K Kept five-three-laws L 1 W H g cl v i r c x (h .few) none-begun (h .levels)
+    pub pulled-by : Pulled K Kept five-three-laws L 1 W (side s H) g cl v i r x
+    pulled-by = pull-good K Kept five-three-laws L 1 W (side s H) g cl v i r c x (h .few) none-begun (h .levels)
 
     abbrev o : Out
-    o = pull K L W cl (suc v) i r x
+    o = pull K L W s cl (suc v) i r x
 
   -- the levels close on once nothing waits
-  pub shut-on : (r c cl v i : ℕ) (x : Memory) (h : Has r c true cl (suc v) i x) → (let o = pull K L W cl (suc v) i r x in o .level ≡ 0 →
-      Closed K Kept five-three-laws L 1 W H g cl r (shut K L W cl r (o .store)))
+  pub shut-on : (r c cl v i : ℕ) (x : Memory) (h : Has r c true cl (suc v) i x) → (let o = pull K L W s cl (suc v) i r x in o .level ≡ 0 →
+      Closed K Kept five-three-laws L 1 W (side s H) g cl r (shut K L W s cl r (o .store)))
   shut-on r c cl v i x h y =
-      let o = pull K L W cl (suc v) i r x in
+      let o = pull K L W s cl (suc v) i r x in
       let e = h .ended refl in
-      shut-good K Kept five-three-laws L 1 W H g cl r (o .left) (o .store) (e .0) (e .1) (subst (λ b. Inv cl b (o .left) r 0 (o .store)) y
+      shut-good K Kept five-three-laws L 1 W (side s H) g cl r (o .left) (o .store) (e .0) (subst (λ b. Inv cl b (o .left) r 0 (o .store)) y
       (pulled-by r c true cl v i x h .good .inv))
 
-  draw-open : (r c cl v i : ℕ) (x : Memory) → Has r c false cl (suc v) i x → (let o = pull K L W cl (suc v) i r x in
+  draw-open : (r c cl v i : ℕ) (x : Memory) → Has r c false cl (suc v) i x → (let o = pull K L W s cl (suc v) i r x in
       Has r c false cl (o .level) (o .left) (o .store))
   draw-open r c cl v i x h =
-      let o = pull K L W cl (suc v) i r x in
+      let o = pull K L W s cl (suc v) i r x in
       let k = pulled-by r c false cl v i x h .good in
       let z = none-begun r c false cl v i x h in
       open-holds r c cl (o .level) (o .left) (o .store) (subst (λ b. Inv cl (o .level) (o .left) r b (o .store)) (sym z) (k .inv)) (k .few) (λ _. z)
       (h .before refl)
 
   draw-closed : (r c cl v i : ℕ) (x : Memory) (h : Has r c true cl (suc v) i x) →
-      (let o = pull K L W cl (suc v) i r x in (b : ℕ) → o .level ≡ b → (let k = resumed true (st W L r c true cl (suc v) i) o b in
+      (let o = pull K L W s cl (suc v) i r x in (b : ℕ) → o .level ≡ b → (let k = resumed true (st W s L r c true cl (suc v) i) o b in
       Has r c true (k .closed) (k .out .level) (k .out .left) (k .out .store)))
   unfolding resumed
   draw-closed r c cl v i x h zero y =
       let k = shut-on r c cl v i x h y in
-      let q : Shut = shut K L W cl r (pull K L W cl (suc v) i r x .store) in
+      let q : Shut = shut K L W s cl r (pull K L W s cl (suc v) i r x .store) in
       let z = none-begun r c true cl v i x h in
       let e = h .ended refl in
       closed-holds r c (q .closed) (q .out .level) (q .out .left) (q .out .store)
       (subst (λ b. Inv (q .closed) (q .out .level) (q .out .left) r b (q .out .store)) (sym z) (k .inv)) (k .few) (λ _. z) (e .0) (e .1) (k .all)
   draw-closed r c cl v i x h (suc b) y =
-      let o = pull K L W cl (suc v) i r x in
+      let o = pull K L W s cl (suc v) i r x in
       let k = pulled-by r c true cl v i x h .good in
       let z = none-begun r c true cl v i x h in
       let e = h .ended refl in
@@ -126,7 +142,7 @@ module _ (H : ℕ) (g : Grid) (W L : ℕ) where
       (e .0) (e .1) (λ a. absurd (omega arith))
 
   pub draw-holds : (r c : ℕ) (f : Bool) (cl v i : ℕ) (x : Memory) → Has r c f cl (suc v) i x →
-      (let o = pull K L W cl (suc v) i r x in let k = resumed f (st W L r c f cl (suc v) i) o (o .level) in Has r c f (k .closed) (k .out .level)
+      (let o = pull K L W s cl (suc v) i r x in let k = resumed f (st W s L r c f cl (suc v) i) o (o .level) in Has r c f (k .closed) (k .out .level)
       (k .out .left) (k .out .store))
   draw-holds r c false cl v i x h = unfold resumed in draw-open r c cl v i x h
   draw-holds r c true cl v i x h = draw-closed r c cl v i x h _ refl
@@ -134,10 +150,10 @@ module _ (H : ℕ) (g : Grid) (W L : ℕ) where
   -- ---- the finish
   module _ (r c cl v i : ℕ) (x : Memory) (h : Has r c false cl v i x) (z : v ≡ 0) (p : 0 < r) (n : c ≡ 0) (e : r ≡ H) where
     abbrev k : Shut
-    k = shut K L W 0 r x
+    k = shut K L W s 0 r x
 
-    pub shut-first : Closed K Kept five-three-laws L 1 W H g 0 r k
-    shut-first = shut-good K Kept five-three-laws L 1 W H g 0 r i x e p (subst₂ (λ b d. Inv 0 b i r d x) z n (subst (λ b. Inv b v i r c x)
+    pub shut-first : Closed K Kept five-three-laws L 1 W (side s H) g 0 r k
+    shut-first = shut-good K Kept five-three-laws L 1 W (side s H) g 0 r i x e (subst₂ (λ b d. Inv 0 b i r d x) z n (subst (λ b. Inv b v i r c x)
         (h .before refl) (h .levels)))
 
     pub finish-holds : Has r c true (k .closed) (k .out .level) (k .out .left) (k .out .store)
@@ -146,29 +162,31 @@ module _ (H : ℕ) (g : Grid) (W L : ℕ) where
         (shut-first .few) (λ _. n) e p (shut-first .all)
 
 -- ---- one height more
-module _ (H : ℕ) (g : Grid) (W l r c cl v i : ℕ) (x : Memory) (h : Holds H g (st W (suc l) r c false cl v i) x) (z : v ≡ 0) (in-row : c < W) where
+module _ (H : ℕ) (g : Grid) (W : Side) (s l r c cl v i : ℕ) (x : Memory) (h : Holds H g (st W s (suc l) r c false cl v i) x) (z : v ≡ 0)
+    (in-row : c < W .length) where
   abbrev y : Memory
-  y = stored (cellOf W r c) (g r c) x
+  y = stored (cellOf W (s % 2 + r) c) (g r c) x
 
-  cell-inv : Inv H g W (suc l) 0 0 i r (suc c) y
-  cell-inv = cell-good K Kept five-three-laws l W H g i r c x in-row (subst₂ (λ e b. Inv H g W (suc l) e b i r c x) (h .before refl) z (h .levels))
+  cell-inv : Inv H g W s (suc l) 0 0 i r (suc c) y
+  cell-inv = cell-good K Kept five-three-laws l W (side s H) g i r c x in-row (subst₂ (λ e b. Inv H g W s (suc l) e b i r c x) (h .before refl) z (h .levels))
 
-  pub begun-holds : Holds H g (st W (suc l) r (c + 1) false cl v i) y
+  pub begun-holds : Holds H g (st W s (suc l) r (c + 1) false cl v i) y
   begun-holds =
-      open-holds H g W (suc l) r (c + 1) cl v i y
-      (subst₂ (λ e b. Inv H g W (suc l) e b i r (c + 1) y) (sym (h .before refl)) (sym z) (subst (λ b. Inv H g W (suc l) 0 0 i r b y) (omega arith) cell-inv))
+      open-holds H g W s (suc l) r (c + 1) cl v i y
+      (subst₂ (λ e b. Inv H g W s (suc l) e b i r (c + 1) y) (sym (h .before refl)) (sym z)
+      (subst (λ b. Inv H g W s (suc l) 0 0 i r b y) (omega arith) cell-inv))
       (h .few) (λ e. absurd (omega arith)) (h .before refl)
 
   -- the row is complete
   abbrev made : Out
-  made = arrive K (suc l) W r y
+  made = arrive K (suc l) W s r y
 
-  pub arrived-by : c + 1 ≡ W → r < H → Good K Kept five-three-laws (suc l) 1 W H g 0 (suc r) made (madeBy (suc l) 1 W r)
-  arrived-by e p = arrive-good K Kept five-three-laws (suc l) 1 W H g r y i p (subst (λ b. Inv H g W (suc l) 0 0 i r b y) (omega arith) cell-inv)
+  pub arrived-by : c + 1 ≡ W .length → r < H → Good K Kept five-three-laws (suc l) 1 W (side s H) g 0 (suc r) made (madeBy (suc l) 1 W s r)
+  arrived-by e p = arrive-good K Kept five-three-laws (suc l) 1 W (side s H) g r y i p (subst (λ b. Inv H g W s (suc l) 0 0 i r b y) (omega arith) cell-inv)
 
-  pub complete-holds : c + 1 ≡ W → r < H → Holds H g (st W (suc l) (r + 1) 0 false cl (made .level) (made .left)) (made .store)
+  pub complete-holds : c + 1 ≡ W .length → r < H → Holds H g (st W s (suc l) (r + 1) 0 false cl (made .level) (made .left)) (made .store)
   complete-holds e p =
       let k = arrived-by e p in
-      open-holds H g W (suc l) (r + 1) 0 cl (made .level) (made .left) (made .store)
-      (subst₂ (λ b d. Inv H g W (suc l) b (made .level) (made .left) d 0 (made .store)) (sym (h .before refl)) (omega arith) (k .inv))
+      open-holds H g W s (suc l) (r + 1) 0 cl (made .level) (made .left) (made .store)
+      (subst₂ (λ b d. Inv H g W s (suc l) b (made .level) (made .left) d 0 (made .store)) (sym (h .before refl)) (omega arith) (k .inv))
       (k .few) (λ _. refl) (h .before refl)

@@ -8,24 +8,29 @@ use Prim.Native.Nat.{ℕ, zero, suc, _+_, _-_, _*_, _/_, _%_, _≤_, _<_}
 use native.Mathlib.Omega.{arith}
 use lib.IntN.{pos}
 use lib.ListN.{length}
-use lib.Dec.{ltb, eqb}
+use lib.Dec.{ltb, leb}
 use borrow.Author.Tests.{le-ltb, ltb-true}
-use Rattle.numbers.specs.Signal.{pick, both}
-use Rattle.lifting.specs.Line.{lo, count}
+use Rattle.numbers.specs.Signal.{pick}
+use Rattle.lifting.specs.Line.{lo}
+use Rattle.lifting.specs.Grid.{Side, side, count}
 use Rattle.lifting.specs.Halves.{fronted}
+use Rattle.wavelet.specs.Levels.{next}
+use Rattle.wavelet.specs.Order.{lastSet}
 use Rattle.wavelet.specs.Store.{storeLength}
 use Rattle.wavelet.proofs.StoreLaws.{store-below}
+use Rattle.wavelet.specs.Bands.{LL}
 use Rattle.calls.specs.Lists.{changedUnless}
-use Rattle.level.specs.Level.{Memory, LevelKind, prev, rest, joinAt}
+use Rattle.level.specs.Level.{Memory, LevelKind, completes, prev, rest, joinAt}
 use Rattle.level.specs.FiveThreeLevel.{fiveThree}
 use Rattle.level.proofs.RestLaws.{rest-at, join-past}
-use Rattle.level.proofs.LevelLaws.{LevelLaws, five-three-laws}
+use Rattle.level.proofs.LevelLaws.{LevelLaws}
+use Rattle.level.proofs.LevelLaws.{five-three-laws}
 use Rattle.writer.specs.declared.Writer.{Writer}
-use Rattle.writer.specs.Counts.{made, most, skip}
+use Rattle.writer.specs.Counts.{made, lowRows, most, skip}
 use Rattle.writer.specs.Machine.{Out, still, under, passed, settled, arrived, arrive, passOn}
 use Rattle.writer.specs.Draws.{pull}
 use Rattle.writer.specs.Closing.{Shut, onward, closeLevel, shut}
-use Rattle.writer.specs.Taking.{none, oneMore, takes, begun, complete, heightPut, rowMakes, offering}
+use Rattle.writer.specs.Taking.{columnsOf, none, oneMore, takes, begun, complete, heightPut, rowMakes, offering}
 use Rattle.writer.specs.Questions.{setUpQuestion, offerQuestion, drawQuestion, finishQuestion}
 use Rattle.writer.specs.Calls.{setUpStore, offerStore, resumed, handedStore, drawStore, finishStore}
 use Rattle.writer.proofs.CallLaws.{offer-sound}
@@ -38,80 +43,94 @@ K = fiveThree
 abbrev Past : ℕ → Memory → Memory → Type 0
 Past n x y = (j : ℕ) → n ≤ j → y j ≡ x j
 
-under-past : (l w : ℕ) (x t : Memory) → Past (storeLength (count lo w) l) (rest (4 * w) x) t → Past (storeLength w (suc l)) x (joinAt (4 * w) x t)
+under-past : (l : ℕ) (w : Side) (x t : Memory) → Past (storeLength (next w) l) (rest (4 * w .length) x) t →
+    Past (storeLength w (suc l)) x (joinAt (4 * w .length) x t)
 under-past l w x t h j p =
-    let q : 4 * w + storeLength (count lo w) l ≤ j = omega (arith, store-below w l) in
-    let k : 4 * w + (j - 4 * w) ≡ j = omega arith in
-    join-past (4 * w) x t j (omega arith) ∙ h (j - 4 * w) (omega arith) ∙ rest-at (4 * w) x (j - 4 * w) ∙ ap x k
+    let a : ℕ = 4 * w .length in
+    let q : a + storeLength (next w) l ≤ j = omega (arith, store-below w l) in
+    let k : a + (j - a) ≡ j = omega arith in
+    join-past a x t j (omega arith) ∙ h (j - a) (omega arith) ∙ rest-at a x (j - a) ∙ ap x k
 
 -- ---- a row goes down the levels
 abbrev Arrives : ℕ → Type 0
-Arrives L = (w m : ℕ) (x : Memory) → Past (storeLength w L) x (arrive K L w m x .store)
+Arrives L = (w : Side) (s m : ℕ) (x : Memory) → Past (storeLength w L) x (arrive K L w s m x .store)
 
-pass-past : (l : ℕ) → Arrives l → (w n : ℕ) (x : Memory) → Past (storeLength w (suc l)) x (passOn K l w n x .store)
+pass-past : (l : ℕ) → Arrives l → (w : Side) (s n : ℕ) (x : Memory) → Past (storeLength w (suc l)) x (passOn K l w s n x .store)
 unfolding passed
-pass-past zero ih w n x j p = refl
-pass-past (suc l) ih w n x j p =
-    under-past (suc l) w x _
-    (λ i q. ih (count lo w) n _ i q ∙ put-past (count lo w) n _ (rest (4 * w) x) i (omega (arith, store-below (count lo w) l))) j p
+pass-past zero ih w s n x j p = refl
+pass-past (suc l) ih w s n x j p = go (leb (s % 2) n)
+  where
+    o : Out
+    o = arrive K (suc l) (next w) ((s + 1) / 2) (n - s % 2) (K .put (next w) ((s + 1) / 2) (n - s % 2) (λ i. x (K .place w s n LL + i))
+        (rest (4 * w .length) x))
 
-settle-past : (l : ℕ) → Arrives l → (w n : ℕ) (x y : Memory) → Past (storeLength w (suc l)) x y → (i : ℕ) →
-    Past (storeLength w (suc l)) x (settled (passOn K l w) n y i .store)
+    go : (t : Bool) → pick t (under (4 * w .length) x o) (still x) .store j ≡ x j
+    go true =
+        under-past (suc l) w x _
+        (λ i q. ih (next w) ((s + 1) / 2) (n - s % 2) _ i q
+        ∙ put-past (next w) ((s + 1) / 2) (n - s % 2) _ (rest (4 * w .length) x) i (omega (arith, store-below (next w) l))) j p
+    go false = refl
+
+settle-past : (l : ℕ) → Arrives l → (w : Side) (s n : ℕ) (x y : Memory) → Past (storeLength w (suc l)) x y → (i : ℕ) →
+    Past (storeLength w (suc l)) x (settled (passOn K l w s) n y i .store)
 unfolding settled
-settle-past l ih w n x y h zero j p = pass-past l ih w n y j p ∙ h j p
-settle-past l ih w n x y h (suc i) j p = h j p
+settle-past l ih w s n x y h zero j p = pass-past l ih w s n y j p ∙ h j p
+settle-past l ih w s n x y h (suc i) j p = h j p
 
 pub arrive-past : (L : ℕ) → Arrives L
 unfolding arrive arrived
-arrive-past zero w m x j p = refl
-arrive-past (suc l) w m x j p = go (arrive-past l) (both (eqb (m % 2) 0) (ltb 0 m))
+arrive-past zero w s m x j p = refl
+arrive-past (suc l) w s m x j p = go (arrive-past l) (completes s m)
   where
+    n : ℕ
+    n = (s % 2 + m) / 2 - 1
+
     o : Out
-    o = settled (passOn K l w) (prev (m / 2)) (K .make w (prev (m / 2)) x) (skip w (m + 1) (prev (m / 2)) (most l))
+    o = settled (passOn K l w s) n (K .make w s n x) (skip w (side s (m + 1)) n (most l))
 
     go : Arrives l → (b : Bool) → pick b o (still x) .store j ≡ x j
     go ih true =
-        settle-past l ih w (prev (m / 2)) x _ (λ i q. make-past w (prev (m / 2)) x i (omega (arith, store-below w l)))
-        (skip w (m + 1) (prev (m / 2)) (most l)) j p
+        settle-past l ih w s n x _ (λ i q. make-past w s n x i (omega (arith, store-below w l))) (skip w (side s (m + 1)) n (most l)) j p
     go ih false = refl
 
 -- ---- a row is drawn
-pub pull-past : (L w c v i m : ℕ) (x : Memory) → Past (storeLength w L) x (pull K L w c v i m x .store)
+pub pull-past : (L : ℕ) (w : Side) (s c v i m : ℕ) (x : Memory) → Past (storeLength w L) x (pull K L w s c v i m x .store)
 unfolding pull
-pull-past zero w c v i m x j p = refl
-pull-past (suc l) w c zero i m x j p = refl
-pull-past (suc l) w c (suc zero) i m x j p =
-    settle-past l (arrive-past l) w (prev (made c m)) x x (λ _ _. refl) (skip w m (prev (made c m)) (prev i)) j p
-pull-past (suc l) w c (suc (suc v)) i m x j p =
-    under-past l w x _ (λ a q. pull-past l (count lo w) (prev c) (suc v) i (made c m) (rest (4 * w) x) a q) j p
+pull-past zero w s c v i m x j p = refl
+pull-past (suc l) w s c zero i m x j p = refl
+pull-past (suc l) w s c (suc zero) i m x j p =
+    settle-past l (arrive-past l) w s (prev (made c s m)) x x (λ _ _. refl) (skip w (side s m) (prev (made c s m)) (prev i)) j p
+pull-past (suc l) w s c (suc (suc v)) i m x j p =
+    under-past l w x _ (λ a q. pull-past l (next w) ((s + 1) / 2) (prev c) (suc v) i (lowRows s (made c s m)) (rest (4 * w .length) x) a q) j p
 
 -- ---- levels are closed
-level-past : (l w c m : ℕ) (x : Memory) → Past (storeLength w (suc l)) x (closeLevel K l w c m x .store)
+level-past : (l : ℕ) (w : Side) (s c m : ℕ) (x : Memory) → Past (storeLength w (suc l)) x (closeLevel K l w s c m x .store)
 unfolding closeLevel
-level-past l w zero zero x j p = refl
-level-past l w zero (suc m) x j p =
-    settle-past l (arrive-past l) w (prev (count lo (suc m))) x _ (λ i q. close-past w (suc m) x i (omega (arith, store-below w l)))
-    (skip w (suc m) (prev (count lo (suc m))) (most l)) j p
-level-past l w (suc c) m x j p = refl
+level-past l w s zero zero x j p = refl
+level-past l w s zero (suc m) x j p =
+    settle-past l (arrive-past l) w s (lastSet (side s (suc m))) x _ (λ i q. close-past w (side s (suc m)) x i (omega (arith, store-below w l)))
+    (skip w (side s (suc m)) (lastSet (side s (suc m))) (most l)) j p
+level-past l w s (suc c) m x j p = refl
 
-pub shut-past : (L w c m : ℕ) (x : Memory) → Past (storeLength w L) x (shut K L w c m x .out .store)
+pub shut-past : (L : ℕ) (w : Side) (s c m : ℕ) (x : Memory) → Past (storeLength w L) x (shut K L w s c m x .out .store)
 unfolding shut onward
-shut-past zero w c m x j p = refl
-shut-past (suc l) w c m x j p = go (shut-past l (count lo w) (prev c) (count lo m)) (closeLevel K l w c m x .level)
+shut-past zero w s c m x j p = refl
+shut-past (suc l) w s c m x j p =
+    go (shut-past l (next w) ((s + 1) / 2) (prev c) (count lo (side s m))) (closeLevel K l w s c m x .level)
   where
     o : Out
-    o = closeLevel K l w c m x
+    o = closeLevel K l w s c m x
 
     below : Memory → Shut
-    below y = shut K l (count lo w) (prev c) (count lo m) y
+    below y = shut K l (next w) ((s + 1) / 2) (prev c) (count lo (side s m)) y
 
-    go : ((y : Memory) → Past (storeLength (count lo w) l) y (below y .out .store)) → (v : ℕ) → onward (4 * w) below o v .out .store j ≡ x j
-    go ih zero = under-past l w (o .store) _ (ih (rest (4 * w) (o .store))) j p ∙ level-past l w c m x j p
-    go ih (suc v) = level-past l w c m x j p
+    go : ((y : Memory) → Past (storeLength (next w) l) y (below y .out .store)) → (v : ℕ) → onward (4 * w .length) below o v .out .store j ≡ x j
+    go ih zero = under-past l w (o .store) _ (ih (rest (4 * w .length) (o .store))) j p ∙ level-past l w s c m x j p
+    go ih (suc v) = level-past l w s c m x j p
 
 -- ---- heights are taken
 abbrev Taken : ℕ → List ℕ → Type 0
-Taken n run = (s : Writer) (x : Memory) → 4 * s .width ≤ n → storeLength (s .width) (s .levels) ≤ n → s .column < s .width →
+Taken n run = (s : Writer) (x : Memory) → 4 * s .width ≤ n → storeLength (columnsOf s) (s .levels) ≤ n → s .column < s .width →
     Past n x (offering K run s x .store)
 
 offering-past : (n : ℕ) (run : List ℕ) → Taken n run
@@ -123,7 +142,7 @@ offering-past n (e ∷ run) s x a b h j p = go (offering-past n run) (takes s) (
     y = heightPut K e s x
 
     put : y j ≡ x j
-    put = cell-past (s .width) (s .rows) (s .column) (pos e) x j h (omega arith)
+    put = cell-past (columnsOf s) (s .y) (s .rows) (s .column) (pos e) x j h (omega arith)
 
     o : Out
     o = rowMakes K s y
@@ -133,10 +152,10 @@ offering-past n (e ∷ run) s x a b h j p = go (offering-past n run) (takes s) (
     go ih false c q = refl
     go ih true true q = ih (begun s) y a b (ltb-true _ _ q) j p ∙ put
     go ih true false q =
-        ih (complete s o) (o .store) a b (omega arith) j p ∙ arrive-past (s .levels) (s .width) (s .rows) y j (omega arith) ∙ put
+        ih (complete s o) (o .store) a b (omega arith) j p ∙ arrive-past (s .levels) (columnsOf s) (s .y) (s .rows) y j (omega arith) ∙ put
 
 -- ---- the calls
-pub set-up-surplus : (W L n : ℕ) (x : Memory) (j : ℕ) → storeLength W L ≤ j → setUpStore W L n x j ≡ x j
+pub set-up-surplus : (W : Side) (L n : ℕ) (x : Memory) (j : ℕ) → storeLength W L ≤ j → setUpStore W L n x j ≡ x j
 unfolding setUpStore fronted
 set-up-surplus W L n x j p = go (setUpQuestion W L n)
   where
@@ -144,42 +163,42 @@ set-up-surplus W L n x j p = go (setUpQuestion W L n)
     go zero = unfold fronted in simp (le-ltb j (storeLength W L) p)
     go (suc q) = refl
 
-pub offer-surplus : (s : Writer) (n : ℕ) (run : List ℕ) (x : Memory) (j : ℕ) → storeLength (s .width) (s .levels) ≤ j →
+pub offer-surplus : (s : Writer) (n : ℕ) (run : List ℕ) (x : Memory) (j : ℕ) → storeLength (columnsOf s) (s .levels) ≤ j →
     offerStore s n run x j ≡ x j
 unfolding offerStore
 offer-surplus s n run x j p = go (offerQuestion s n (length run)) refl
   where
-    wide : (l : ℕ) → 1 ≤ l → 4 * s .width ≤ storeLength (s .width) l
+    wide : (l : ℕ) → 1 ≤ l → 4 * s .width ≤ storeLength (columnsOf s) l
     wide zero h = absurd (omega arith)
-    wide (suc l) h = omega (arith, store-below (s .width) l)
+    wide (suc l) h = omega (arith, store-below (columnsOf s) l)
 
     go : (q : ℕ) → offerQuestion s n (length run) ≡ q → changedUnless q (offering fiveThree run s x .store) x j ≡ x j
     go zero e =
         let k = offer-sound s n (length run) e in
-        offering-past (storeLength (s .width) (s .levels)) run s x (wide (s .levels) (k .levels .0)) (omega arith) (k .column) j p
+        offering-past (storeLength (columnsOf s) (s .levels)) run s x (wide (s .levels) (k .levels .0)) (omega arith) (k .column) j p
     go (suc q) e = refl
 
-pub finish-surplus : (s : Writer) (n : ℕ) (x : Memory) (j : ℕ) → storeLength (s .width) (s .levels) ≤ j → finishStore s n x j ≡ x j
+pub finish-surplus : (s : Writer) (n : ℕ) (x : Memory) (j : ℕ) → storeLength (columnsOf s) (s .levels) ≤ j → finishStore s n x j ≡ x j
 unfolding finishStore
 finish-surplus s n x j p = go (finishQuestion s n)
   where
-    go : (q : ℕ) → changedUnless q (shut fiveThree (s .levels) (s .width) 0 (s .rows) x .out .store) x j ≡ x j
-    go zero = shut-past (s .levels) (s .width) 0 (s .rows) x j p
+    go : (q : ℕ) → changedUnless q (shut fiveThree (s .levels) (columnsOf s) (s .y) 0 (s .rows) x .out .store) x j ≡ x j
+    go zero = shut-past (s .levels) (columnsOf s) (s .y) 0 (s .rows) x j p
     go (suc q) = refl
 
-pub draw-surplus : (s : Writer) (n k : ℕ) (x : Memory) (j : ℕ) → storeLength (s .width) (s .levels) ≤ j → drawStore s n k x j ≡ x j
+pub draw-surplus : (s : Writer) (n k : ℕ) (x : Memory) (j : ℕ) → storeLength (columnsOf s) (s .levels) ≤ j → drawStore s n k x j ≡ x j
 unfolding drawStore resumed
 draw-surplus s n k x j p = go (drawQuestion s n k) (s .level)
   where
     o : Out
-    o = pull fiveThree (s .levels) (s .width) (s .closed) (s .level) (s .left) (s .rows) x
+    o = pull fiveThree (s .levels) (columnsOf s) (s .y) (s .closed) (s .level) (s .left) (s .rows) x
 
     pulled-past : o .store j ≡ x j
-    pulled-past = pull-past (s .levels) (s .width) (s .closed) (s .level) (s .left) (s .rows) x j p
+    pulled-past = pull-past (s .levels) (columnsOf s) (s .y) (s .closed) (s .level) (s .left) (s .rows) x j p
 
     on : (f : Bool) (v : ℕ) → resumed f s o v .out .store j ≡ x j
     on false v = pulled-past
-    on true zero = shut-past (s .levels) (s .width) (s .closed) (s .rows) (o .store) j p ∙ pulled-past
+    on true zero = shut-past (s .levels) (columnsOf s) (s .y) (s .closed) (s .rows) (o .store) j p ∙ pulled-past
     on true (suc v) = pulled-past
 
     go : (q v : ℕ) → changedUnless q (handedStore v s x) x j ≡ x j

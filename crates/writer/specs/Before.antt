@@ -1,12 +1,13 @@
--- The writer as it was before it carried an offset: eight counts, and the walk down the levels (`waiting`, `pull`) finds the level's stretch for every row.
+-- The writer without an offset: for every row, the walk down the levels (`waiting`, `pull`) finds the level's stretch.
 -- It is the reference of `same-events` and `same-store` (proofs/Offset.antt); no contract cites it.
 use mathlib.Core.Bool.{Bool, true, false, not}
 use mathlib.Core.List.{List, [], _∷_}
-use Prim.Native.Nat.{ℕ, zero, suc, _+_}
+use Prim.Native.Nat.{ℕ, zero, suc, _+_, _%_}
 use lib.IntN.{pos}
 use lib.ListN.{length}
 use lib.Dec.{leb, ltb, eqb}
 use Rattle.numbers.specs.Signal.{pick, both, stored}
+use Rattle.lifting.specs.Grid.{Side}
 use Rattle.lifting.specs.Halves.{fronted}
 use Rattle.wavelet.specs.Limits.{maxWidth, maxHeight, maxLevels}
 use Rattle.wavelet.specs.Questions.{ask, within}
@@ -19,12 +20,13 @@ use Rattle.writer.specs.Counts.{mostLeft}
 use Rattle.writer.specs.Machine.{Out, arrive}
 use Rattle.writer.specs.Draws.{Waiting, waiting, pull}
 use Rattle.writer.specs.Closing.{Shut, shut}
-use Rattle.writer.specs.Questions.{either}
+use Rattle.writer.specs.Questions.{either, onGrid}
 use Rattle.writer.specs.Calls.{setUpStore, bandRow}
 use Rattle.writer.specs.History.{Call, offer, draw, finish, Given, row, none, Event, offered, drew, finished}
 
 pub record Before : Type 0 where
-  pub width : ℕ
+  pub columns : Side
+  pub start : ℕ
   pub levels : ℕ
   pub rows : ℕ
   pub column : ℕ
@@ -33,8 +35,8 @@ pub record Before : Type 0 where
   pub level : ℕ
   pub left : ℕ
 
-abbrev pub at : (W L r c : ℕ) → Bool → (cl v i : ℕ) → Before
-at W L r c f cl v i = record { width = W; levels = L; rows = r; column = c; finished = f; closed = cl; level = v; left = i }
+abbrev pub at : Side → (s L r c : ℕ) → Bool → (cl v i : ℕ) → Before
+at W s L r c f cl v i = record { columns = W; start = s; levels = L; rows = r; column = c; finished = f; closed = cl; level = v; left = i }
 
 -- ---- heights taken
 pub record Taking : Type 0 where
@@ -46,10 +48,10 @@ unfoldable pub takes : Before → Bool
 takes s = both (eqb (s .level) 0) (ltb (s .rows) maxHeight)
 
 abbrev pub begun : Before → Before
-begun s = at (s .width) (s .levels) (s .rows) (s .column + 1) (s .finished) (s .closed) (s .level) (s .left)
+begun s = at (s .columns) (s .start) (s .levels) (s .rows) (s .column + 1) (s .finished) (s .closed) (s .level) (s .left)
 
 abbrev pub complete : Before → Out → Before
-complete s o = at (s .width) (s .levels) (s .rows + 1) 0 (s .finished) (s .closed) (o .level) (o .left)
+complete s o = at (s .columns) (s .start) (s .levels) (s .rows + 1) 0 (s .finished) (s .closed) (o .level) (o .left)
 
 abbrev pub untaken : Before → Memory → Taking
 untaken s x = record { taken = 0; writer = s; store = x }
@@ -58,17 +60,17 @@ abbrev pub oneMore : Taking → Taking
 oneMore t = record { taken = suc (t .taken); writer = t .writer; store = t .store }
 
 abbrev pub heightPut : ℕ → Before → Memory → Memory
-heightPut h s x = stored (cellOf (s .width) (s .rows) (s .column)) (pos h) x
+heightPut h s x = stored (cellOf (s .columns) (s .start % 2 + s .rows) (s .column)) (pos h) x
 
 abbrev pub rowMakes : Before → Memory → Out
-rowMakes s x = arrive fiveThree (s .levels) (s .width) (s .rows) x
+rowMakes s x = arrive fiveThree (s .levels) (s .columns) (s .start) (s .rows) x
 
 unfoldable pub offering : List ℕ → Before → Memory → Taking
 offering [] s x = untaken s x
 offering (h ∷ run) s x =
     pick (takes s)
     (oneMore
-    (pick (ltb (s .column + 1) (s .width))
+    (pick (ltb (s .column + 1) (s .columns .length))
     (offering run (begun s) (heightPut h s x))
     (offering run (complete s (rowMakes s (heightPut h s x))) (rowMakes s (heightPut h s x) .store))))
     (untaken s x)
@@ -76,19 +78,20 @@ offering (h ∷ run) s x =
 -- ---- the questions
 unfoldable pub inRanges : Before → Bool
 inRanges s =
-    both (within 1 maxWidth (s .width))
+    both (onGrid (s .columns .start) (s .start))
+    (both (within 1 maxWidth (s .columns .length))
     (both (within 1 maxLevels (s .levels))
     (both (leb (s .rows) maxHeight)
-    (both (ltb (s .column) (s .width))
+    (both (ltb (s .column) (s .columns .length))
     (both (leb (s .closed) (s .levels))
     (both (leb (s .level) (s .levels))
-    (leb (s .left) (mostLeft (s .levels) (s .level))))))))
+    (leb (s .left) (mostLeft (s .levels) (s .level)))))))))
 
 unfoldable pub longEnough : ℕ → Before → Bool
-longEnough n s = leb (storeLength (s .width) (s .levels)) n
+longEnough n s = leb (storeLength (s .columns) (s .levels)) n
 
 abbrev pub waitingRow : Before → Waiting
-waitingRow s = waiting fiveThree (s .levels) (s .width) (s .closed) (s .level) (s .left) (s .rows)
+waitingRow s = waiting fiveThree (s .levels) (s .columns) (s .start) (s .closed) (s .level) (s .left) (s .rows)
 
 unfoldable pub offerQuestion : Before → ℕ → ℕ → ℕ
 offerQuestion s n k =
@@ -117,18 +120,18 @@ finishQuestion s n =
 
 -- ---- what a finish and a draw leave
 abbrev pub waits : Bool → Before → Shut → Before
-waits f s r = at (s .width) (s .levels) (s .rows) (s .column) f (r .closed) (r .out .level) (r .out .left)
+waits f s r = at (s .columns) (s .start) (s .levels) (s .rows) (s .column) f (r .closed) (r .out .level) (r .out .left)
 
 abbrev pub closing : Before → Memory → Shut
-closing s x = shut fiveThree (s .levels) (s .width) 0 (s .rows) x
+closing s x = shut fiveThree (s .levels) (s .columns) (s .start) 0 (s .rows) x
 
 unfoldable pub resumed : Bool → Before → Out → ℕ → Shut
 resumed false s o v = record { closed = s .closed; out = o }
-resumed true s o zero = shut fiveThree (s .levels) (s .width) (s .closed) (s .rows) (o .store)
+resumed true s o zero = shut fiveThree (s .levels) (s .columns) (s .start) (s .closed) (s .rows) (o .store)
 resumed true s o (suc v) = record { closed = s .closed; out = o }
 
 abbrev pub pulled : Before → Memory → Out
-pulled s x = pull fiveThree (s .levels) (s .width) (s .closed) (s .level) (s .left) (s .rows) x
+pulled s x = pull fiveThree (s .levels) (s .columns) (s .start) (s .closed) (s .level) (s .left) (s .rows) x
 
 abbrev pub afterDraw : Before → Memory → Shut
 afterDraw s x = resumed (s .finished) s (pulled s x) (pulled s x .level)
@@ -204,5 +207,5 @@ abbrev pub final : List Call → World → World
 final = lists.final next
 
 -- a set-up that passed
-abbrev pub freshWorld : ℕ → ℕ → ℕ → Memory → World
-freshWorld W L n x = world (at W L 0 0 false 0 0 0) n (setUpStore W L n x)
+abbrev pub freshWorld : Side → ℕ → ℕ → ℕ → Memory → World
+freshWorld W s L n x = world (at W s L 0 0 false 0 0 0) n (setUpStore W L n x)

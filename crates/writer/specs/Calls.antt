@@ -6,6 +6,7 @@ use lib.IntN.{pos}
 use lib.ListN.{length}
 use Rattle.lifting.specs.Halves.{fronted}
 use Rattle.wavelet.specs.Bands.{code}
+use Rattle.lifting.specs.Grid.{Side}
 use Rattle.wavelet.specs.Store.{storeLength}
 use Rattle.calls.specs.Lists.{Reply, unless, changedUnless}
 use Rattle.level.specs.Level.{Memory, rest}
@@ -16,18 +17,31 @@ use Rattle.writer.specs.Counts.{startOf}
 use Rattle.writer.specs.Machine.{Out}
 use Rattle.writer.specs.Draws.{Waiting, pull}
 use Rattle.writer.specs.Closing.{Shut, shut}
-use Rattle.writer.specs.Taking.{Taking, offering}
+use Rattle.writer.specs.Taking.{columnsOf, Taking, offering}
 use Rattle.writer.specs.Questions.{waitingRow, setUpQuestion, offerQuestion, drawQuestion, waitsQuestion, finishQuestion}
 use Rattle.writer.specs.Answers.{Took, Handed, aRow, nothing}
 
 -- ---- set-up: "Set-up zeroes the needed part."
-abbrev pub fresh : ℕ → ℕ → Writer
-fresh W L = record { width = W; levels = L; rows = 0; column = 0; finished = false; closed = 0; level = 0; left = 0; offset = 0 }
+-- of a map whose columns are W and whose rows start at s
+abbrev pub fresh : Side → ℕ → ℕ → Writer
+fresh W s L = record {
+  x = W .start;
+  y = s;
+  width = W .length;
+  levels = L;
+  rows = 0;
+  column = 0;
+  finished = false;
+  closed = 0;
+  level = 0;
+  left = 0;
+  offset = 0;
+}
 
-unfoldable pub setUpReply : ℕ → ℕ → ℕ → Reply Writer
-setUpReply W L n = unless (setUpQuestion W L n) (fresh W L)
+unfoldable pub setUpReply : Side → ℕ → ℕ → ℕ → Reply Writer
+setUpReply W s L n = unless (setUpQuestion W L n) (fresh W s L)
 
-unfoldable pub setUpStore : ℕ → ℕ → ℕ → Memory → Memory
+unfoldable pub setUpStore : Side → ℕ → ℕ → Memory → Memory
 setUpStore W L n x = changedUnless (setUpQuestion W L n) (fronted (storeLength W L) (λ _. pos 0) x) x
 
 -- ---- offer
@@ -44,6 +58,8 @@ offerStore s n run x = changedUnless (offerQuestion s n (length run)) (offering 
 -- the writer with what waits, f: finished
 abbrev pub waits : Bool → Writer → Shut → Writer
 waits f s r = record {
+  x = s .x;
+  y = s .y;
   width = s .width;
   levels = s .levels;
   rows = s .rows;
@@ -52,11 +68,11 @@ waits f s r = record {
   closed = r .closed;
   level = r .out .level;
   left = r .out .left;
-  offset = startOf (s .width) (r .out .level);
+  offset = startOf (columnsOf s) (r .out .level);
 }
 
 abbrev pub closing : Writer → Memory → Shut
-closing s x = shut fiveThree (s .levels) (s .width) 0 (s .rows) x
+closing s x = shut fiveThree (s .levels) (columnsOf s) (s .y) 0 (s .rows) x
 
 unfoldable pub finishReply : Writer → ℕ → Memory → Reply Writer
 finishReply s n x = unless (finishQuestion s n) (waits true s (closing s x))
@@ -67,11 +83,11 @@ finishStore s n x = changedUnless (finishQuestion s n) (closing s x .out .store)
 -- ---- draw: the row is handed out; once finished and nothing waits, the levels close on
 unfoldable pub resumed : Bool → Writer → Out → ℕ → Shut
 resumed false s o v = record { closed = s .closed; out = o }
-resumed true s o zero = shut fiveThree (s .levels) (s .width) (s .closed) (s .rows) (o .store)
+resumed true s o zero = shut fiveThree (s .levels) (columnsOf s) (s .y) (s .closed) (s .rows) (o .store)
 resumed true s o (suc v) = record { closed = s .closed; out = o }
 
 abbrev pub pulled : Writer → Memory → Out
-pulled s x = pull fiveThree (s .levels) (s .width) (s .closed) (s .level) (s .left) (s .rows) x
+pulled s x = pull fiveThree (s .levels) (columnsOf s) (s .y) (s .closed) (s .level) (s .left) (s .rows) x
 
 abbrev pub afterDraw : Writer → Memory → Shut
 afterDraw s x = resumed (s .finished) s (pulled s x) (pulled s x .level)

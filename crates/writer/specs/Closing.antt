@@ -1,6 +1,9 @@
 -- The finish: "level 1 closes first, then level 2, and so on", each once nothing waits at any level.
-use Prim.Native.Nat.{ℕ, zero, suc}
-use Rattle.lifting.specs.Line.{lo, count}
+use Prim.Native.Nat.{ℕ, zero, suc, _+_, _/_}
+use Rattle.lifting.specs.Line.{lo}
+use Rattle.lifting.specs.Grid.{Side, side, count}
+use Rattle.wavelet.specs.Levels.{next}
+use Rattle.wavelet.specs.Order.{lastSet}
 use Rattle.level.specs.Level.{Memory, LevelKind, prev, rest}
 use Rattle.writer.specs.Counts.{most, skip}
 use Rattle.writer.specs.Machine.{Out, still, under, settled, passOn}
@@ -17,13 +20,13 @@ onward a f o (suc v) = record { closed = 1; out = o }
 
 module _ (K : LevelKind) where
   -- the level itself: its last set is made, if it is not closed yet (and has a row)
-  unfoldable pub closeLevel : (l w c m : ℕ) → Memory → Out
-  closeLevel l w zero zero x = still x
-  closeLevel l w zero (suc m) x =
-      settled (passOn K l w) (prev (count lo (suc m))) (K .close w (suc m) x) (skip w (suc m) (prev (count lo (suc m))) (most l))
-  closeLevel l w (suc c) m x = still x
+  unfoldable pub closeLevel : (l : ℕ) (W : Side) (s c m : ℕ) → Memory → Out
+  closeLevel l W s zero zero x = still x
+  closeLevel l W s zero (suc m) x =
+      settled (passOn K l W s) (lastSet (side s (suc m))) (K .close W (side s (suc m)) x) (skip W (side s (suc m)) (lastSet (side s (suc m))) (most l))
+  closeLevel l W s (suc c) m x = still x
 
-  unfoldable pub shut : (L w c m : ℕ) → Memory → Shut
-  shut zero w c m x = record { closed = c; out = still x }
-  shut (suc l) w c m x =
-      onward (K .stretch w) (shut l (count lo w) (prev c) (count lo m)) (closeLevel l w c m x) (closeLevel l w c m x .level)
+  unfoldable pub shut : (L : ℕ) (W : Side) (s c m : ℕ) → Memory → Shut
+  shut zero W s c m x = record { closed = c; out = still x }
+  shut (suc l) W s c m x =
+      onward (K .stretch W) (shut l (next W) ((s + 1) / 2) (prev c) (count lo (side s m))) (closeLevel l W s c m x) (closeLevel l W s c m x .level)

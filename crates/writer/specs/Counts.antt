@@ -1,10 +1,11 @@
 -- The numbers that the writer derives on its way down the levels. Of them the state keeps where the stretch of its level begins (`startOf`).
-use Prim.Native.Nat.{ℕ, zero, suc, _+_, _-_, _/_}
+-- s is the coordinate that a level's rows start at.
+use Prim.Native.Nat.{ℕ, zero, suc, _+_, _-_, _/_, _%_}
 use Rattle.numbers.specs.Signal.{pick}
-use Rattle.lifting.specs.Line.{lo, count}
+use Rattle.lifting.specs.Grid.{Side}
 use Rattle.wavelet.specs.Bands.{Band, LL, HL, LH, HH}
 use Rattle.wavelet.specs.Store.{storeLength}
-use Rattle.wavelet.specs.Order.{hasRow}
+use Rattle.wavelet.specs.Order.{setHas}
 use Rattle.level.specs.Level.{prev}
 
 -- A level's number seen from the level above it, and from k levels above it; 0 is no level.
@@ -22,10 +23,14 @@ further zero a o = 0
 further (suc v) a o = a + o
 
 -- How many sets a level has made that has received m rows; c = 0: and that is not closed. "Set n of a level is made when its row 2n+2 is complete, or
--- when the map is finished."
-unfoldable pub made : ℕ → ℕ → ℕ
-made zero m = (m - 1) / 2
-made (suc c) m = count lo m
+-- when the map is finished." A set of a high row alone counts as made in a closed level without a row, too.
+unfoldable pub made : ℕ → ℕ → ℕ → ℕ
+made zero s m = (s % 2 + (m - 1)) / 2
+made (suc c) s m = (s % 2 + m + 1) / 2
+
+-- How many low rows the first n sets have: the rows that they give the next level. Where the rows start at an odd coordinate, set 0 has none.
+abbrev pub lowRows : ℕ → ℕ → ℕ
+lowRows s n = n - s % 2
 
 -- The bands of a set, from the last: HH, LH, HL, LL.
 unfoldable pub bandAt : ℕ → Band
@@ -44,11 +49,11 @@ unfoldable pub mostLeft : ℕ → ℕ → ℕ
 mostLeft L zero = 0
 mostLeft L (suc v) = most (L - suc v)
 
--- Of the last i bands of set n, those from the first that has row n on, at a level of w columns that has received m rows.
-unfoldable pub skip : ℕ → ℕ → ℕ → ℕ → ℕ
-skip w m n zero = zero
-skip w m n (suc i) = pick (hasRow w m (bandAt i) n) (suc i) (skip w m n i)
+-- Of the last i bands of set n, those from the first on that has a row in it, at a level of the columns W that has received the rows H.
+unfoldable pub skip : Side → Side → ℕ → ℕ → ℕ
+skip W H n zero = zero
+skip W H n (suc i) = pick (setHas W H (bandAt i) n) (suc i) (skip W H n i)
 
 -- Where the stretch of level v begins, v from 1: the store of the levels before it ends there. 0 where v is no level.
-abbrev pub startOf : ℕ → ℕ → ℕ
+abbrev pub startOf : Side → ℕ → ℕ
 startOf W v = storeLength W (prev v)

@@ -1,5 +1,5 @@
 -- Demand 3 for the writer: document 01, "The lists of demand 3". One claim about a whole list of calls on a fresh writer and its line store,
--- by the calls' arguments and answers alone.
+-- by the calls' arguments and answers alone. The writer's columns are W, its rows start at coordinate s, and it has L levels.
 use mathlib.Core.Path.{_≡_}
 use mathlib.Core.Bool.{Bool, true, false, not}
 use mathlib.Core.List.{List, [], _∷_, _++_, map}
@@ -9,14 +9,15 @@ use lib.ListN.{length, take, drop, getD}
 use lib.Dec.{leb, ltb, eqb}
 use Rattle.numbers.specs.Signal.{pick, both}
 use Rattle.numbers.specs.Word.{whole}
+use Rattle.lifting.specs.Grid.{Side, side}
 use Rattle.wavelet.specs.Limits.{maxHeight, maxSample}
 use Rattle.wavelet.specs.Bands.{Grid, Band, code}
+use Rattle.wavelet.specs.Maps.{IsMap}
+use Rattle.wavelet.specs.Questions.{ask}
+use Rattle.wavelet.specs.Order.{RowName, times, made}
 use Rattle.wavelet.specs.Levels.{levelBand}
 use Rattle.wavelet.specs.View.{bandColumns}
 use Rattle.wavelet.specs.ViewCall.{bandRowExists}
-use Rattle.wavelet.specs.Maps.{IsMap}
-use Rattle.wavelet.specs.Questions.{ask}
-use Rattle.wavelet.specs.Order.{RowName, made, times}
 use Rattle.calls.specs.Lists.{Reply, gives, refused, unless, Area, All}
 use Rattle.writer.specs.declared.BandRow.{BandRow}
 use Rattle.writer.specs.Questions.{either}
@@ -24,50 +25,50 @@ use Rattle.writer.specs.History.{Call, offer, draw, finish, Given, row, 
 use Rattle.writer.specs.History.{taken, finishedBy, DrawnRow, drawn}
 
 -- "Made: the rows that the writer's rules make of the whole rows taken and, once a finish passed, of the finish, in the order of those rules."
-unfoldable pub wholeRows : ℕ → List Event → ℕ
-wholeRows W es = length (taken es) / W
+unfoldable pub wholeRows : Side → List Event → ℕ
+wholeRows W es = length (taken es) / W .length
 
-unfoldable pub madeOf : ℕ → ℕ → List Event → List RowName
-madeOf W L es = made W L (wholeRows W es) (finishedBy es)
+unfoldable pub madeOf : Side → ℕ → ℕ → List Event → List RowName
+madeOf W s L es = made W s L (wholeRows W es) (finishedBy es)
 
 -- "Waiting: made and not drawn."
-unfoldable pub waitingOf : ℕ → ℕ → List Event → List RowName
-waitingOf W L es = drop (length (drawn es)) (madeOf W L es)
+unfoldable pub waitingOf : Side → ℕ → ℕ → List Event → List RowName
+waitingOf W s L es = drop (length (drawn es)) (madeOf W s L es)
 
 -- a name as an answer gives it
-abbrev pub answered : ℕ → RowName → BandRow
+abbrev pub answered : Side → RowName → BandRow
 answered W x = record { level = x .level; band = code (x .band); row = x .row; length = bandColumns W (x .level) (x .band) }
 
 -- what a look at the rows that wait answers: the first of them, or level 0
-abbrev pub nextRow : ℕ → List RowName → BandRow
+abbrev pub nextRow : Side → List RowName → BandRow
 nextRow W [] = record { level = 0; band = 0; row = 0; length = 0 }
 nextRow W (x ∷ l) = answered W x
 
 -- ---- "A map begins with them if it fits the set-up, has H within the limit, and has these heights first"
-pub record Begins (W H : ℕ) (g : Grid) (es : List Event) : Type 0 where
+pub record Begins (W : Side) (H : ℕ) (g : Grid) (es : List Event) : Type 0 where
   pub some : 1 ≤ H
   pub limit : H ≤ maxHeight
-  pub map : IsMap W H g
-  pub within : length (taken es) ≤ W * H
-  pub heights : (r c : ℕ) → c < W → r * W + c < length (taken es) → g r c ≡ pos (getD (taken es) (r * W + c) 0)
+  pub map : IsMap (W .length) H g
+  pub within : length (taken es) ≤ W .length * H
+  pub heights : (r c : ℕ) → c < W .length → r * W .length + c < length (taken es) → g r c ≡ pos (getD (taken es) (r * W .length + c) 0)
 
 -- and once a finish passed, it is they
-pub record MapOf (W H : ℕ) (g : Grid) (es : List Event) : Type 0 where
+pub record MapOf (W : Side) (H : ℕ) (g : Grid) (es : List Event) : Type 0 where
   pub begins : Begins W H g es
-  pub all : finishedBy es ≡ true → length (taken es) ≡ W * H
+  pub all : finishedBy es ≡ true → length (taken es) ≡ W .length * H
 
 -- the values of a drawn row are the map's, T.800's whole numbers
-pub record HasValues (W H : ℕ) (g : Grid) (d : DrawnRow) : Type 0 where
+pub record HasValues (W : Side) (s H : ℕ) (g : Grid) (d : DrawnRow) : Type 0 where
   pub are : (b : Band) → d .row .band ≡ code b → (i : ℕ) → i < d .row .length →
-      d .values i ≡ levelBand whole W H g (d .row .level) b (d .row .row) i
+      d .values i ≡ levelBand whole W (side s H) g (d .row .level) b (d .row .row) i
 
 -- "The rows drawn then are exactly the plane's band rows, each once."
-pub record PlaneDrawn (W L : ℕ) (es : List Event) : Type 0 where
+pub record PlaneDrawn (W : Side) (s L : ℕ) (es : List Event) : Type 0 where
   -- their names
   pub names : List RowName
   pub answers : map (λ d. d .row) (drawn es) ≡ map (answered W) names
   -- a name is among them once if the plane has such a band row, and else not
-  pub once : (x : RowName) → times x names ≡ pick (bandRowExists W (wholeRows W es) L (x .level) (x .band) (x .row)) 1 0
+  pub once : (x : RowName) → times x names ≡ pick (bandRowExists W (side s (wholeRows W es)) L (x .level) (x .band) (x .row)) 1 0
 
 -- ---- the next call
 abbrev pub isNone : {A : Type 0} → List A → Bool
@@ -75,7 +76,7 @@ isNone [] = true
 isNone (x ∷ l) = false
 
 -- a draw into an area of k numbers: "Nothing is answered exactly when none waits." Else the next row that waits, or 12
-abbrev pub drawSays : ℕ → List RowName → ℕ → Reply Given
+abbrev pub drawSays : Side → List RowName → ℕ → Reply Given
 drawSays W [] k = gives none
 drawSays W (x ∷ l) k = pick (leb (bandColumns W (x .level) (x .band)) k) (gives (row (answered W x))) (refused 12)
 
@@ -86,63 +87,64 @@ written (gives none) = 0
 written (refused q) = 0
 
 -- what is seen of it: the answer, and the output area afterwards, its surplus untouched
-pub record DrawSeen (W L : ℕ) (es : List Event) (a : Area) (e : Event) : Type 0 where
+pub record DrawSeen (W : Side) (s L : ℕ) (es : List Event) (a : Area) (e : Event) : Type 0 where
   pub area : Area
-  pub says : e ≡ drew a (drawSays W (waitingOf W L es) (a .size)) area
+  pub says : e ≡ drew a (drawSays W (waitingOf W s L es) (a .size)) area
   pub size-is : area .size ≡ a .size
-  pub surplus : (i : ℕ) → written (drawSays W (waitingOf W L es) (a .size)) ≤ i → area .numbers i ≡ a .numbers i
+  pub surplus : (i : ℕ) → written (drawSays W (waitingOf W s L es) (a .size)) ≤ i → area .numbers i ≡ a .numbers i
 
 -- after j heights more no row would wait, and the row limit is not reached
-unfoldable pub takesOn : ℕ → ℕ → List Event → ℕ → Bool
-takesOn W L es j =
-    both (isNone (drop (length (drawn es)) (made W L ((length (taken es) + j) / W) false)))
-    (ltb ((length (taken es) + j) / W) maxHeight)
+unfoldable pub takesOn : Side → ℕ → ℕ → List Event → ℕ → Bool
+takesOn W s L es j =
+    both (isNone (drop (length (drawn es)) (made W s L ((length (taken es) + j) / W .length) false)))
+    (ltb ((length (taken es) + j) / W .length) maxHeight)
 
 -- an offer of k heights: 9, 8, 10, or it takes "heights until a band row waits, the row limit is reached or the run is used up"
-unfoldable pub offerTurned : ℕ → ℕ → List Event → ℕ → ℕ
-offerTurned W L es k =
+unfoldable pub offerTurned : Side → ℕ → ℕ → List Event → ℕ → ℕ
+offerTurned W s L es k =
     ask (not (finishedBy es)) 9
-    (ask (isNone (waitingOf W L es)) 8
+    (ask (isNone (waitingOf W s L es)) 8
     (ask (either (eqb k 0) (ltb (wholeRows W es) maxHeight)) 10
     0))
 
-pub record Takes (W L : ℕ) (es : List Event) (k n : ℕ) : Type 0 where
+pub record Takes (W : Side) (s L : ℕ) (es : List Event) (k n : ℕ) : Type 0 where
   pub most : n ≤ k
   pub some : 0 < k → 0 < n
-  pub until : (j : ℕ) → j < n → takesOn W L es j ≡ true
-  pub stop : n < k → takesOn W L es n ≡ false
+  pub until : (j : ℕ) → j < n → takesOn W s L es j ≡ true
+  pub stop : n < k → takesOn W s L es n ≡ false
 
 -- a finish: 9, 8, 11
-unfoldable pub finishTurned : ℕ → ℕ → List Event → ℕ
-finishTurned W L es =
+unfoldable pub finishTurned : Side → ℕ → ℕ → List Event → ℕ
+finishTurned W s L es =
     ask (not (finishedBy es)) 9
-    (ask (isNone (waitingOf W L es)) 8
-    (ask (both (ltb 0 (wholeRows W es)) (eqb (length (taken es) % W) 0)) 11
+    (ask (isNone (waitingOf W s L es)) 8
+    (ask (both (ltb 0 (wholeRows W es)) (eqb (length (taken es) % W .length) 0)) 11
     0))
 
 -- ---- the claim, of the events es of any list of calls; `then` is what would be seen of a further call
-pub record Demand3 (W L : ℕ) (es : List Event) (then : Call → Event) : Type 0 where
+pub record Demand3 (W : Side) (s L : ℕ) (es : List Event) (then : Call → Event) : Type 0 where
   -- the rows drawn, then those waiting, are the rows made, in the order of the rules; each is answered with its level, band, number, length
-  pub in-order : map (λ d. d .row) (drawn es) ++ map (answered W) (waitingOf W L es) ≡ map (answered W) (madeOf W L es)
+  pub in-order : map (λ d. d .row) (drawn es) ++ map (answered W) (waitingOf W s L es) ≡ map (answered W) (madeOf W s L es)
   -- they have the values of every map that begins with the heights taken: until a finish passes all of them, then those made before it;
   -- of the map that was finished all of them
-  pub values : (H : ℕ) (g : Grid) → MapOf W H g es → All (HasValues W H g) (drawn es)
+  pub values : (H : ℕ) (g : Grid) → MapOf W H g es → All (HasValues W s H g) (drawn es)
   pub early-values : (H : ℕ) (g : Grid) → Begins W H g es →
-      All (HasValues W H g) (take (length (made W L (wholeRows W es) false)) (drawn es))
+      All (HasValues W s H g) (take (length (made W s L (wholeRows W es) false)) (drawn es))
   -- and are the first in that map's order
   pub first : (H : ℕ) (g : Grid) → MapOf W H g es →
-      (r : List RowName) × (map (λ d. d .row) (drawn es) ++ map (answered W) r ≡ map (answered W) (made W L H true))
+      (r : List RowName) × (map (λ d. d .row) (drawn es) ++ map (answered W) r ≡ map (answered W) (made W s L H true))
   -- there is such a map, the heights taken being 16-bit numbers
   pub some-map : All (λ h. h ≤ maxSample) (taken es) → (H : ℕ) × (g : Grid) × MapOf W H g es
   -- once finished, the heights taken are a map
   pub finished-map : finishedBy es ≡ true →
-      (1 ≤ wholeRows W es) × (wholeRows W es ≤ maxHeight) × (length (taken es) ≡ W * wholeRows W es)
+      (1 ≤ wholeRows W es) × (wholeRows W es ≤ maxHeight) × (length (taken es) ≡ W .length * wholeRows W es)
   -- and once none waits, the rows drawn are its plane's band rows, each once
-  pub all-drawn : finishedBy es ≡ true → waitingOf W L es ≡ [] → PlaneDrawn W L es
+  pub all-drawn : finishedBy es ≡ true → waitingOf W s L es ≡ [] → PlaneDrawn W s L es
   -- a draw
-  pub draws : (a : Area) → DrawSeen W L es a (then (draw a))
+  pub draws : (a : Area) → DrawSeen W s L es a (then (draw a))
   -- an offer
-  pub offers-turned : (run : List ℕ) (q : ℕ) → offerTurned W L es (length run) ≡ suc q → then (offer run) ≡ offered run (refused (suc q))
-  pub offers-taken : (run : List ℕ) → offerTurned W L es (length run) ≡ 0 → (n : ℕ) × (then (offer run) ≡ offered run (gives n)) × Takes W L es (length run) n
+  pub offers-turned : (run : List ℕ) (q : ℕ) → offerTurned W s L es (length run) ≡ suc q → then (offer run) ≡ offered run (refused (suc q))
+  pub offers-taken : (run : List ℕ) → offerTurned W s L es (length run) ≡ 0 →
+      (n : ℕ) × (then (offer run) ≡ offered run (gives n)) × Takes W s L es (length run) n
   -- a finish
-  pub finishes : then finish ≡ finished (unless (finishTurned W L es) tt)
+  pub finishes : then finish ≡ finished (unless (finishTurned W s L es) tt)

@@ -1,12 +1,14 @@
 -- The row that waits, and what a draw of it leaves.
-use Prim.Native.Nat.{ℕ, zero, suc, _+_}
-use Rattle.lifting.specs.Line.{lo, count}
+use Prim.Native.Nat.{ℕ, zero, suc, _+_, _/_}
+use Rattle.lifting.specs.Grid.{Side, side, count}
 use Rattle.wavelet.specs.Bands.{Band, HH, across}
+use Rattle.wavelet.specs.Levels.{next}
+use Rattle.wavelet.specs.Order.{setRow}
 use Rattle.level.specs.Level.{Memory, LevelKind, prev, rest}
-use Rattle.writer.specs.Counts.{made, bandAt, skip}
+use Rattle.writer.specs.Counts.{made, lowRows, bandAt, skip}
 use Rattle.writer.specs.Machine.{Out, still, under, settled, passOn}
 
--- a band row that waits: its level from 1, 0: none, and where in the store its numbers begin
+-- a band row that waits: its level from 1, 0: none, its number in its band, and where in the store its numbers begin
 pub record Waiting : Type 0 where
   pub level : ℕ
   pub band : Band
@@ -21,19 +23,22 @@ abbrev pub lower : ℕ → Waiting → Waiting
 lower a r = record { level = suc (r .level); band = r .band; row = r .row; length = r .length; start = a + r .start }
 
 module _ (K : LevelKind) where
-  abbrev pub rowOf : ℕ → ℕ → Band → Waiting
-  rowOf w n b = record { level = 1; band = b; row = n; length = count (across b) w; start = K .place w n b }
+  -- the row of band b that set n has, of the columns W and the rows H
+  abbrev pub rowOf : Side → Side → ℕ → Band → Waiting
+  rowOf W H n b = record { level = 1; band = b; row = setRow H b n; length = count (across b) W; start = K .place W (H .start) n b }
 
   -- the set of level v (from 1) is being handed out, and i bands of it are left
-  unfoldable pub waiting : (L w c v i m : ℕ) → Waiting
-  waiting zero w c v i m = nothing
-  waiting (suc l) w c zero i m = nothing
-  waiting (suc l) w c (suc zero) i m = rowOf w (prev (made c m)) (bandAt (prev i))
-  waiting (suc l) w c (suc (suc v)) i m = lower (K .stretch w) (waiting l (count lo w) (prev c) (suc v) i (made c m))
+  unfoldable pub waiting : (L : ℕ) (W : Side) (s c v i m : ℕ) → Waiting
+  waiting zero W s c v i m = nothing
+  waiting (suc l) W s c zero i m = nothing
+  waiting (suc l) W s c (suc zero) i m = rowOf W (side s m) (prev (made c s m)) (bandAt (prev i))
+  waiting (suc l) W s c (suc (suc v)) i m =
+      lower (K .stretch W) (waiting l (next W) ((s + 1) / 2) (prev c) (suc v) i (lowRows s (made c s m)))
 
-  -- it is drawn: the next band of the set that has such a row waits, or the set's LL row goes on
-  unfoldable pub pull : (L w c v i m : ℕ) → Memory → Out
-  pull zero w c v i m x = still x
-  pull (suc l) w c zero i m x = still x
-  pull (suc l) w c (suc zero) i m x = settled (passOn K l w) (prev (made c m)) x (skip w m (prev (made c m)) (prev i))
-  pull (suc l) w c (suc (suc v)) i m x = under (K .stretch w) x (pull l (count lo w) (prev c) (suc v) i (made c m) (rest (K .stretch w) x))
+  -- it is drawn: the next band of the set that has a row in it waits, or the set's LL row goes on
+  unfoldable pub pull : (L : ℕ) (W : Side) (s c v i m : ℕ) → Memory → Out
+  pull zero W s c v i m x = still x
+  pull (suc l) W s c zero i m x = still x
+  pull (suc l) W s c (suc zero) i m x = settled (passOn K l W s) (prev (made c s m)) x (skip W (side s m) (prev (made c s m)) (prev i))
+  pull (suc l) W s c (suc (suc v)) i m x =
+      under (K .stretch W) x (pull l (next W) ((s + 1) / 2) (prev c) (suc v) i (lowRows s (made c s m)) (rest (K .stretch W) x))

@@ -1,10 +1,11 @@
 -- Calls on a writer, what is seen of each, and of a list of them what was taken and drawn: document 01, "The lists of demand 3".
 -- "The words below go by the calls' arguments and answers, by nothing in the state."
 use mathlib.Core.Bool.{Bool, true, false}
-use mathlib.Core.List.{List, [], _∷_, _++_}
+use mathlib.Core.List.{List, [], _∷_}
 use Prim.Native.Nat.{ℕ}
 use lib.IntN.{ℤ}
 use lib.ListN.{take}
+use Rattle.lifting.specs.Grid.{Side}
 use Rattle.calls.specs.Lists.{Reply, gives, refused, seen, Area, gathered, ever}
 use Rattle.calls.specs.Lists as lists
 use Rattle.writer.specs.declared.Writer.{Writer}
@@ -13,7 +14,6 @@ use Rattle.writer.specs.Answers.{Handed, aRow, nothing}
 use Rattle.writer.specs.Holds.{left, after}
 use Rattle.writer.specs.Calls.{fresh, setUpStore, offerReply, offerStore, drawReply, drawStore, drawArea, finishReply, finishStore}
 use Rattle.level.specs.Level.{Memory}
-use Rattle.writer.specs.Questions.{either}
 
 -- ---- calls, and what is seen of them
 -- a call with its arguments
@@ -76,9 +76,10 @@ events = lists.events event next
 abbrev pub final : List Call → World → World
 final = lists.final next
 
--- "Fresh means the state and line store of a set-up that passed": of width W and L levels, on a store of n numbers in which x stood
-abbrev pub freshWorld : ℕ → ℕ → ℕ → Memory → World
-freshWorld W L n x = record { writer = fresh W L; length = n; store = setUpStore W L n x }
+-- "Fresh means the state and line store of a set-up that passed": of the columns W, rows that start at s and L levels, on a store of n numbers in which x
+-- stood
+abbrev pub freshWorld : Side → ℕ → ℕ → ℕ → Memory → World
+freshWorld W s L n x = record { writer = fresh W s L; length = n; store = setUpStore W L n x }
 
 -- ---- "Taken: of each passed offer's run the first heights, as many as its answer says, run after run."
 abbrev pub takenBy : Event → List ℕ

@@ -8,55 +8,56 @@ use Prim.Native.Nat.{ℕ, zero, suc, _+_, _*_, _/_, _%_, _≤_, _<_}
 use lib.IntN.{pos}
 use lib.ListN.{getD}
 use Rattle.numbers.specs.Word.{wrap32}
-use Rattle.lifting.specs.Line.{lo, hi, count}
-use Rattle.wavelet.specs.Bands.{Grid, Band, LL, code, across, down, columnsLifted, subband}
-use Rattle.wavelet.specs.Levels.{levelBand}
-use Rattle.wavelet.specs.Order.{hasRow}
+use Rattle.lifting.specs.Grid.{Side, side}
+use Rattle.wavelet.specs.Bands.{Grid, Band, LL, code, subband}
+use Rattle.wavelet.specs.Levels.{next, levelBand}
+use Rattle.wavelet.specs.Order.{setHas}
 use Rattle.calls.specs.Lists.{Reply, gives, refused}
 use Rattle.writer.specs.declared.Writer.{Writer}
 use Rattle.writer.specs.declared.BandRow.{BandRow}
-use Rattle.writer.specs.Counts.{made, mostLeft, bandAt, startOf}
+use Rattle.writer.specs.Counts.{made, lowRows, mostLeft, bandAt, startOf}
+use Rattle.writer.specs.Taking.{columnsOf}
 use Rattle.writer.specs.Answers.{Took, Handed, aRow, nothing}
 use Rattle.level.specs.Level.{Memory, LevelKind, prev, rest, Meaning, SetStands}
 use Rattle.level.specs.FiveThreeLevel.{fiveThree, Kept}
 
--- ---- all levels, whatever a level does and holds (Held)
+-- ---- all levels, whatever a level does and holds (Held). The rows of the first level start at s, those of its grid g are H; it has received m of them.
 -- how many rows the next level has received: the set that is being handed out (v = 1: of this level) has not gone on to it
-unfoldable pub below : ℕ → ℕ → ℕ → ℕ
-below c zero m = made c m
-below c (suc zero) m = prev (made c m)
-below c (suc (suc v)) m = made c m
+unfoldable pub below : ℕ → ℕ → ℕ → ℕ → ℕ
+below c zero s m = lowRows s (made c s m)
+below c (suc zero) s m = lowRows s (prev (made c s m))
+below c (suc (suc v)) s m = lowRows s (made c s m)
 
--- the set that is being handed out: i bands of it are left, and the first of these has the row
-pub record Waits (K : LevelKind) (w H : ℕ) (g : Grid) (c i m : ℕ) (x : Memory) : Type 0 where
+-- the set that is being handed out: i bands of it are left, and the first of these has a row in it
+pub record Waits (K : LevelKind) (W H : Side) (g : Grid) (c i m : ℕ) (x : Memory) : Type 0 where
   pub some-left : 1 ≤ i
-  pub has : hasRow w m (bandAt (prev i)) (prev (made c m)) ≡ true
-  pub one : 1 ≤ made c m
-  pub stands : SetStands K w H g (prev (made c m)) x
+  pub has : setHas W (side (H .start) m) (bandAt (prev i)) (prev (made c (H .start) m)) ≡ true
+  pub one : 1 ≤ made c (H .start) m
+  pub stands : SetStands K W H g (prev (made c (H .start) m)) x
 
 -- the numbers of the first level: c = 0: it is not closed; v = 1: its set is being handed out; j columns of its row m are there
-unfoldable pub LevelHolds : Meaning → (w H : ℕ) → Grid → (c m j : ℕ) → Memory → Type 0
-LevelHolds Held w H g zero m j x = (m ≤ H) × Held w H g m j x
-LevelHolds Held w H g (suc c) m j x = (m ≡ H) × (j ≡ 0)
+unfoldable pub LevelHolds : Meaning → (W H : Side) → Grid → (c m j : ℕ) → Memory → Type 0
+LevelHolds Held W H g zero m j x = (m ≤ H .length) × Held W H g m j x
+LevelHolds Held W H g (suc c) m j x = (m ≡ H .length) × (j ≡ 0)
 
-unfoldable pub SetWaits : LevelKind → (w H : ℕ) → Grid → (c v i m : ℕ) → Memory → Type 0
-SetWaits K w H g c zero i m x = Unit {0}
-SetWaits K w H g c (suc zero) i m x = Waits K w H g c i m x
-SetWaits K w H g c (suc (suc v)) i m x = Unit {0}
+unfoldable pub SetWaits : LevelKind → (W H : Side) → Grid → (c v i m : ℕ) → Memory → Type 0
+SetWaits K W H g c zero i m x = Unit {0}
+SetWaits K W H g c (suc zero) i m x = Waits K W H g c i m x
+SetWaits K W H g c (suc (suc v)) i m x = Unit {0}
 
 -- and of the levels below it, whose map is its low-low band
-unfoldable pub LevelsHold : LevelKind → Meaning → (L w H : ℕ) → Grid → (c v i m j : ℕ) → Memory → Type 0
-LevelsHold K Held zero w H g c v i m j x = (c ≡ 0) × (v ≡ 0)
-LevelsHold K Held (suc l) w H g c v i m j x =
-    LevelHolds Held w H g c m j x
-    × SetWaits K w H g c v i m x
-    × LevelsHold K Held l (count lo w) (count lo H) (subband wrap32 w H g LL) (prev c) (prev v) i (below c v m) 0 (rest (K .stretch w) x)
+unfoldable pub LevelsHold : LevelKind → Meaning → ℕ → (W H : Side) → Grid → (c v i m j : ℕ) → Memory → Type 0
+LevelsHold K Held zero W H g c v i m j x = (c ≡ 0) × (v ≡ 0)
+LevelsHold K Held (suc l) W H g c v i m j x =
+    LevelHolds Held W H g c m j x
+    × SetWaits K W H g c v i m x
+    × LevelsHold K Held l (next W) (next H) (subband wrap32 W H g LL) (prev c) (prev v) i (below c v (H .start) m) 0 (rest (K .stretch W) x)
 
 -- ---- the writer's store
 pub record Holds (H : ℕ) (g : Grid) (s : Writer) (x : Memory) : Type 0 where
-  pub levels : LevelsHold fiveThree Kept (s .levels) (s .width) H g (s .closed) (s .level) (s .left) (s .rows) (s .column) x
+  pub levels : LevelsHold fiveThree Kept (s .levels) (columnsOf s) (side (s .y) H) g (s .closed) (s .level) (s .left) (s .rows) (s .column) x
   -- the offset is where the stretch of the level being handed out begins
-  pub placed : s .offset ≡ startOf (s .width) (s .level)
+  pub placed : s .offset ≡ startOf (columnsOf s) (s .level)
   -- at most the bands of a set are left that are handed out at its level
   pub few : s .left ≤ mostLeft (s .levels) (s .level)
   -- while a band row waits, no row is begun
@@ -82,7 +83,7 @@ pub record GoesOn (s : Writer) (run : List ℕ) (k : ℕ) (H : ℕ) (g : Grid) :
   pub heights : (j : ℕ) → j < k → g ((s .rows * s .width + s .column + j) / s .width) ((s .rows * s .width + s .column + j) % s .width) ≡ pos (getD run j 0)
 
 -- the numbers of a band row, at the front of y
-pub record MapRow (W H : ℕ) (g : Grid) (b : BandRow) (y : Memory) : Type 0 where
+pub record MapRow (W H : Side) (g : Grid) (b : BandRow) (y : Memory) : Type 0 where
   pub are : (c : Band) → b .band ≡ code c → (i : ℕ) → i < b .length → y i ≡ levelBand wrap32 W H g (b .level) c (b .row) i
 
 -- the state that a call leaves: the one before where it was turned away or gave Nothing; and how many heights it took
@@ -102,7 +103,7 @@ tookOf (refused q) = 0
 pub record DrawKeeps (s : Writer) (x : Memory) (r : Reply Handed) (x′ y : Memory) : Type 0 where
   pub store : Keeps AnyMap s x (left (after s) s r) x′
   -- the row that is answered stands at the front of the area, and its values are the map's
-  pub values : (H : ℕ) (g : Grid) → Holds H g s x → (b : BandRow) (t : Writer) → r ≡ gives (aRow b t) → MapRow (s .width) H g b y
+  pub values : (H : ℕ) (g : Grid) → Holds H g s x → (b : BandRow) (t : Writer) → r ≡ gives (aRow b t) → MapRow (columnsOf s) (side (s .y) H) g b y
 
 abbrev pub FinishKeeps : Writer → Memory → Reply Writer → Memory → Type 0
 FinishKeeps s x r x′ = Keeps (AllRows s) s x (left (λ t. t) s r) x′

@@ -3,40 +3,47 @@ use mathlib.Core.Bool.{Bool, true, not}
 use Prim.Native.Nat.{ℕ}
 use lib.Dec.{leb, ltb, eqb}
 use Rattle.numbers.specs.Signal.{pick, both}
-use Rattle.wavelet.specs.Limits.{maxWidth, maxHeight, maxLevels}
+use Rattle.wavelet.specs.Limits.{maxWidth, maxHeight, maxLevels, maxOrigin}
 use Rattle.wavelet.specs.Questions.{ask, within}
+use Rattle.lifting.specs.Grid.{Side}
 use Rattle.wavelet.specs.Store.{storeLength}
 use Rattle.level.specs.FiveThreeLevel.{fiveThree}
 use Rattle.writer.specs.declared.Writer.{Writer}
 use Rattle.writer.specs.Counts.{mostLeft, startOf}
 use Rattle.writer.specs.Draws.{Waiting, waiting}
+use Rattle.writer.specs.Taking.{columnsOf}
 
 abbrev pub either : Bool → Bool → Bool
 either a b = pick a true b
 
+-- a map starts at coordinates of the grid
+abbrev pub onGrid : ℕ → ℕ → Bool
+onGrid x y = both (leb x maxOrigin) (leb y maxOrigin)
+
 -- question 1: the ranges that docs/STATE.md lists
 unfoldable pub inRanges : Writer → Bool
 inRanges s =
-    both (within 1 maxWidth (s .width))
+    both (onGrid (s .x) (s .y))
+    (both (within 1 maxWidth (s .width))
     (both (within 1 maxLevels (s .levels))
     (both (leb (s .rows) maxHeight)
     (both (ltb (s .column) (s .width))
     (both (leb (s .closed) (s .levels))
     (both (leb (s .level) (s .levels))
     (both (leb (s .left) (mostLeft (s .levels) (s .level)))
-    (eqb (s .offset) (startOf (s .width) (s .level)))))))))
+    (eqb (s .offset) (startOf (columnsOf s) (s .level))))))))))
 
 -- question 5
 unfoldable pub longEnough : ℕ → Writer → Bool
-longEnough n s = leb (storeLength (s .width) (s .levels)) n
+longEnough n s = leb (storeLength (columnsOf s) (s .levels)) n
 
 -- the row that waits
 abbrev pub waitingRow : Writer → Waiting
-waitingRow s = waiting fiveThree (s .levels) (s .width) (s .closed) (s .level) (s .left) (s .rows)
+waitingRow s = waiting fiveThree (s .levels) (columnsOf s) (s .y) (s .closed) (s .level) (s .left) (s .rows)
 
-unfoldable pub setUpQuestion : ℕ → ℕ → ℕ → ℕ
+unfoldable pub setUpQuestion : Side → ℕ → ℕ → ℕ
 setUpQuestion W L n =
-    ask (within 1 maxWidth W) 2
+    ask (within 1 maxWidth (W .length)) 2
     (ask (within 1 maxLevels L) 4
     (ask (leb (storeLength W L) n) 5
     0))

@@ -5,11 +5,16 @@ use Prim.Native.Nat.{ℕ, suc, _+_}
 use lib.IntN.{pos}
 use lib.Dec.{ltb, eqb}
 use Rattle.numbers.specs.Signal.{pick, both, stored}
+use Rattle.lifting.specs.Grid.{Side, side}
 use Rattle.wavelet.specs.Limits.{maxHeight}
 use Rattle.level.specs.Level.{Memory, LevelKind}
 use Rattle.writer.specs.declared.Writer.{Writer}
 use Rattle.writer.specs.Counts.{startOf}
 use Rattle.writer.specs.Machine.{Out, arrive}
+
+-- the writer's columns, where they start and how many they are
+abbrev pub columnsOf : Writer → Side
+columnsOf s = side (s .x) (s .width)
 
 -- how many were taken, and the writer and the store then
 pub record Taking : Type 0 where
@@ -30,6 +35,8 @@ takes s = both (eqb (s .level) 0) (ltb (s .rows) maxHeight)
 -- the row begun has a height more; the row is complete, and o is what it makes
 abbrev pub begun : Writer → Writer
 begun s = record {
+  x = s .x;
+  y = s .y;
   width = s .width;
   levels = s .levels;
   rows = s .rows;
@@ -43,6 +50,8 @@ begun s = record {
 
 abbrev pub complete : Writer → Out → Writer
 complete s o = record {
+  x = s .x;
+  y = s .y;
   width = s .width;
   levels = s .levels;
   rows = s .rows + 1;
@@ -51,17 +60,17 @@ complete s o = record {
   closed = s .closed;
   level = o .level;
   left = o .left;
-  offset = startOf (s .width) (o .level);
+  offset = startOf (columnsOf s) (o .level);
 }
 
 module _ (K : LevelKind) where
   -- height h is put into its place
   abbrev pub heightPut : ℕ → Writer → Memory → Memory
-  heightPut h s x = stored (K .cell (s .width) (s .rows) (s .column)) (pos h) x
+  heightPut h s x = stored (K .cell (columnsOf s) (s .y) (s .rows) (s .column)) (pos h) x
 
   -- what the row makes that it completes
   abbrev pub rowMakes : Writer → Memory → Out
-  rowMakes s x = arrive K (s .levels) (s .width) (s .rows) x
+  rowMakes s x = arrive K (s .levels) (columnsOf s) (s .y) (s .rows) x
 
   -- one height after the other
   unfoldable pub offering : List ℕ → Writer → Memory → Taking

@@ -15,10 +15,12 @@ pub fn draw_on(s: Writer, from: Level, store: &mut [i32]) -> Writer
     let r = draws::pull(s, from, store);
     if s.finished {
         if r.level == 0 {
-            let q = closing::shut(store, s.levels, s.width, s.closed, s.rows);
+            let q = closing::shut(store, s.levels, s.width, s.x, s.y, s.closed, s.rows);
             return Writer {
                 width: s.width,
                 levels: s.levels,
+                x: s.x,
+                y: s.y,
                 rows: s.rows,
                 column: s.column,
                 finished: s.finished,
@@ -32,6 +34,8 @@ pub fn draw_on(s: Writer, from: Level, store: &mut [i32]) -> Writer
     Writer {
         width: s.width,
         levels: s.levels,
+        x: s.x,
+        y: s.y,
         rows: s.rows,
         column: s.column,
         finished: s.finished,

@@ -1,4 +1,5 @@
 // What a row makes, down the levels. Each level works in its own stretch of the store; the rest of the store is lent on to the levels below.
+// A level has w columns, the first at coordinate x; its rows start at coordinate y.
 // The module is private: only this crate, which meets what is required, can call it.
 use crate::counts;
 use level::making;
@@ -6,6 +7,7 @@ use wavelet::sizes;
 ghost use Prim.Native.Nat.{_+_};
 ghost use lib.ListN.{length};
 ghost use Rattle.numbers.specs.Signal.{at};
+ghost use Rattle.lifting.specs.Grid.{side};
 ghost use Rattle.level.specs.FiveThreeLevel.{fiveThree};
 ghost use Rattle.writer.specs.Machine.{arrive, passOn};
 ghost use Rattle.writer.specs.Steps.{Left, Room};
@@ -19,9 +21,9 @@ pub struct Wait {
 }
 
 // Row m of a level stands in its slot; the level and those below it are l.
-pub fn arrive(store: &mut [i32], l: usize, w: usize, m: usize) -> Wait
-    requires { ⌜ Room l w m (length (now store)) ⌝ }
-    ensures { λ r. ⌜ Left l w (arrive fiveThree l w m (at (now (store .entry)))) r (at (now (store .exit))) ⌝ }
+pub fn arrive(store: &mut [i32], l: usize, w: usize, x: usize, y: usize, m: usize) -> Wait
+    requires { ⌜ Room l (side x w) m (length (now store)) ⌝ }
+    ensures { λ r. ⌜ Left l (side x w) (arrive fiveThree l (side x w) y m (at (now (store .entry)))) r (at (now (store .exit))) ⌝ }
 {
     if l == 0 {
         return Wait {
@@ -30,23 +32,16 @@ pub fn arrive(store: &mut [i32], l: usize, w: usize, m: usize) -> Wait
             offset: 0,
         };
     }
-    if m % 2 == 1 {
+    if !counts::completes(y, m) {
         return Wait {
             level: 0,
             left: 0,
             offset: 0,
         };
     }
-    if m == 0 {
-        return Wait {
-            level: 0,
-            left: 0,
-            offset: 0,
-        };
-    }
-    let n = m / 2 - 1;
-    making::make(store, w, n);
-    let i = counts::next_band(w, m + 1, n, counts::most(l - 1));
+    let n = (y % 2 + m) / 2 - 1;
+    making::make(store, w, x, y, n);
+    let i = counts::next_band(w, x, m + 1, y, n, counts::most(l - 1));
     if 0 < i {
         return Wait {
             level: 1,
@@ -54,16 +49,25 @@ pub fn arrive(store: &mut [i32], l: usize, w: usize, m: usize) -> Wait
             offset: 0,
         };
     }
-    if l == 1 {
+    if !counts::goes_on(l - 1, y, n) {
         return Wait {
             level: 0,
             left: 0,
             offset: 0,
         };
     }
-    making::deliver(store, w, n);
+    let k = n - y % 2;
+    let s = sizes::next_start(y);
+    making::deliver(store, w, x, n, s % 2 + k);
     let a = 4 * w;
-    let r = arrive(&mut store[a..], l - 1, sizes::half(w), n);
+    let r = arrive(
+        &mut store[a..],
+        l - 1,
+        sizes::low_count(x, w),
+        sizes::next_start(x),
+        s,
+        k,
+    );
     Wait {
         level: counts::deeper(r.level),
         left: r.left,
@@ -71,21 +75,30 @@ pub fn arrive(store: &mut [i32], l: usize, w: usize, m: usize) -> Wait
     }
 }
 
-// The LL row of set n goes to the l levels below.
-pub fn pass_on(store: &mut [i32], l: usize, w: usize, n: usize) -> Wait
-    requires { ⌜ Room (l + 1) w n (length (now store)) ⌝ }
-    ensures { λ r. ⌜ Left (l + 1) w (passOn fiveThree l w n (at (now (store .entry)))) r (at (now (store .exit))) ⌝ }
+// The LL row of set n, if it has one, goes to the l levels below.
+pub fn pass_on(store: &mut [i32], l: usize, w: usize, x: usize, y: usize, n: usize) -> Wait
+    requires { ⌜ Room (l + 1) (side x w) n (length (now store)) ⌝ }
+    ensures { λ r. ⌜ Left (l + 1) (side x w) (passOn fiveThree l (side x w) y n (at (now (store .entry)))) r (at (now (store .exit))) ⌝ }
 {
-    if l == 0 {
+    if !counts::goes_on(l, y, n) {
         return Wait {
             level: 0,
             left: 0,
             offset: 0,
         };
     }
-    making::deliver(store, w, n);
+    let k = n - y % 2;
+    let s = sizes::next_start(y);
+    making::deliver(store, w, x, n, s % 2 + k);
     let a = 4 * w;
-    let r = arrive(&mut store[a..], l, sizes::half(w), n);
+    let r = arrive(
+        &mut store[a..],
+        l,
+        sizes::low_count(x, w),
+        sizes::next_start(x),
+        s,
+        k,
+    );
     Wait {
         level: counts::deeper(r.level),
         left: r.left,

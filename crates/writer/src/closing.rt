@@ -1,4 +1,5 @@
 // The finish: the levels close in turn, each once nothing waits at any level.
+// A level has w columns, the first at coordinate x; its rows start at coordinate y.
 // The module is private: only this crate, which meets what is required, can call it.
 use crate::cascade;
 use crate::cascade::Wait;
@@ -8,6 +9,7 @@ use wavelet::sizes;
 ghost use Prim.Native.Nat.{_<_, _≤_, _+_};
 ghost use lib.ListN.{length};
 ghost use Rattle.numbers.specs.Signal.{at};
+ghost use Rattle.lifting.specs.Grid.{side};
 ghost use Rattle.level.specs.FiveThreeLevel.{fiveThree};
 ghost use Rattle.writer.specs.Closing.{closeLevel, shut};
 ghost use Rattle.writer.specs.Steps.{Room, Left, Closed};
@@ -20,10 +22,18 @@ pub struct Closure {
     pub offset: usize,
 }
 
-// The level's last set is made, if it is not closed yet; l levels are below.
-fn close_level(store: &mut [i32], l: usize, w: usize, c: usize, m: usize) -> Wait
-    requires { ⌜ Room (l + 1) w m (length (now store)) ⌝ }
-    ensures { λ r. ⌜ Left (l + 1) w (closeLevel fiveThree l w c m (at (now (store .entry)))) r (at (now (store .exit))) ⌝ }
+// The last set of the level's m rows is made, if it is not closed yet; l levels are below.
+fn close_level(
+    store: &mut [i32],
+    l: usize,
+    w: usize,
+    x: usize,
+    y: usize,
+    c: usize,
+    m: usize,
+) -> Wait
+    requires { ⌜ Room (l + 1) (side x w) m (length (now store)) ⌝ }
+    ensures { λ r. ⌜ Left (l + 1) (side x w) (closeLevel fiveThree l (side x w) y c m (at (now (store .entry)))) r (at (now (store .exit))) ⌝ }
 {
     if 0 < c {
         return Wait {
@@ -39,9 +49,9 @@ fn close_level(store: &mut [i32], l: usize, w: usize, c: usize, m: usize) -> Wai
             offset: 0,
         };
     }
-    let n = counts::prev(sizes::half(m));
-    making::close(store, w, m);
-    let i = counts::next_band(w, m, n, counts::most(l));
+    let n = (y % 2 + (m - 1)) / 2;
+    making::close(store, w, x, y, m);
+    let i = counts::next_band(w, x, m, y, n, counts::most(l));
     if 0 < i {
         return Wait {
             level: 1,
@@ -49,13 +59,21 @@ fn close_level(store: &mut [i32], l: usize, w: usize, c: usize, m: usize) -> Wai
             offset: 0,
         };
     }
-    cascade::pass_on(store, l, w, n)
+    cascade::pass_on(store, l, w, x, y, n)
 }
 
 // The l levels close, of which c are closed, until a row waits.
-pub fn shut(store: &mut [i32], l: usize, w: usize, c: usize, m: usize) -> Closure
-    requires { ⌜ Room l w m (length (now store)) × (c ≤ l) ⌝ }
-    ensures { λ r. ⌜ Closed l w (shut fiveThree l w c m (at (now (store .entry)))) r (at (now (store .exit))) ⌝ }
+pub fn shut(
+    store: &mut [i32],
+    l: usize,
+    w: usize,
+    x: usize,
+    y: usize,
+    c: usize,
+    m: usize,
+) -> Closure
+    requires { ⌜ Room l (side x w) m (length (now store)) × (c ≤ l) ⌝ }
+    ensures { λ r. ⌜ Closed l (side x w) (shut fiveThree l (side x w) y c m (at (now (store .entry)))) r (at (now (store .exit))) ⌝ }
 {
     if l == 0 {
         return Closure {
@@ -65,7 +83,7 @@ pub fn shut(store: &mut [i32], l: usize, w: usize, c: usize, m: usize) -> Closur
             offset: 0,
         };
     }
-    let o = close_level(store, l - 1, w, c, m);
+    let o = close_level(store, l - 1, w, x, y, c, m);
     if 0 < o.level {
         return Closure {
             closed: 1,
@@ -78,9 +96,11 @@ pub fn shut(store: &mut [i32], l: usize, w: usize, c: usize, m: usize) -> Closur
     let r = shut(
         &mut store[a..],
         l - 1,
-        sizes::half(w),
+        sizes::low_count(x, w),
+        sizes::next_start(x),
+        sizes::next_start(y),
         counts::prev(c),
-        sizes::half(m),
+        sizes::low_count(y, m),
     );
     Closure {
         closed: r.closed + 1,

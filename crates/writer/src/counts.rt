@@ -1,16 +1,18 @@
-// The numbers that the writer derives on its way down the levels. The module is private: only this crate, which meets what is required, can call it.
+// The numbers that the writer derives on its way down the levels. A level has w columns, the first at coordinate x, and has received m rows, the first at
+// coordinate y. The module is private: only this crate, which meets what is required, can call it.
 use level::rows;
 use wavelet::sizes;
 ghost use mathlib.Core.Path.{_≡_};
-ghost use Prim.Native.Nat.{_<_, _≤_, _+_, _*_, _/_};
-ghost use lib.Dec.{ltb};
+ghost use Prim.Native.Nat.{_<_, _+_, _/_, _%_, _^_};
+ghost use lib.Dec.{ltb, leb};
 ghost use Rattle.numbers.specs.Signal.{both};
-ghost use Rattle.lifting.specs.Line.{count};
+ghost use Rattle.lifting.specs.Line.{hi};
+ghost use Rattle.lifting.specs.Grid.{side, count};
 ghost use Rattle.wavelet.specs.Bands.{across, down, code};
-ghost use Rattle.wavelet.specs.Order.{hasRow};
-ghost use Rattle.level.specs.Level.{prev};
+ghost use Rattle.wavelet.specs.Order.{firstSet, setRow, setHas};
+ghost use Rattle.level.specs.Level.{prev, completes};
 ghost use Rattle.level.specs.FiveThreeLevel.{slot};
-ghost use Rattle.writer.specs.Counts.{deeper, deeperBy, further, made, most, mostLeft, bandAt, skip};
+ghost use Rattle.writer.specs.Counts.{deeper, deeperBy, further, made, lowRows, most, bandAt, skip};
 
 // One less, and 0 of 0.
 pub fn prev(n: usize) -> usize
@@ -43,14 +45,47 @@ pub fn further(v: usize, a: usize, o: usize) -> usize
     if 0 < v { a + o } else { 0 }
 }
 
-// How many sets a level has made that has received m rows; c = 0: and is not closed.
-pub fn made(c: usize, m: usize) -> usize
-    ensures { λ r. ⌜ r ≡ made c m ⌝ }
+// How many sets a level has made; c = 0: and is not closed.
+pub fn made(c: usize, y: usize, m: usize) -> usize
+    requires { ⌜ m < 2 ^ 32 ⌝ }
+    ensures { λ r. ⌜ r ≡ made c y m ⌝ }
 {
     if c == 0 {
-        return prev(m) / 2;
+        return (y % 2 + prev(m)) / 2;
     }
-    sizes::half(m)
+    (y % 2 + m + 1) / 2
+}
+
+// How many rows n sets give the next level.
+pub fn low_rows(y: usize, n: usize) -> usize
+    ensures { λ r. ⌜ r ≡ lowRows y n ⌝ }
+{
+    if n == 0 {
+        return 0;
+    }
+    n - y % 2
+}
+
+// Whether row m completes a set.
+pub fn completes(y: usize, m: usize) -> bool
+    requires { ⌜ m < 2 ^ 32 ⌝ }
+    ensures { λ r. ⌜ r ≡ completes y m ⌝ }
+{
+    let q = y % 2 + m;
+    if q < 2 {
+        return false;
+    }
+    q % 2 == 0
+}
+
+// Whether set n gives a row to the l levels below.
+pub fn goes_on(l: usize, y: usize, n: usize) -> bool
+    ensures { λ r. ⌜ r ≡ both (ltb 0 l) (leb (y % 2) n) ⌝ }
+{
+    if l == 0 {
+        return false;
+    }
+    y % 2 <= n
 }
 
 // How many bands are handed out of a set of a level with l levels below it.
@@ -72,57 +107,85 @@ pub fn code(i: usize) -> usize
     }
 }
 
-// How many columns it has of w, and how many rows of m.
-pub fn columns(w: usize, i: usize) -> usize
-    ensures { λ r. ⌜ r ≡ count (across (bandAt i)) w ⌝ }
+// How many columns it has, and how many rows.
+pub fn columns(w: usize, x: usize, i: usize) -> usize
+    ensures { λ r. ⌜ r ≡ count (across (bandAt i)) (side x w) ⌝ }
 {
     match i {
-        0 => w / 2,
-        1 => sizes::half(w),
-        2 => w / 2,
-        _ => sizes::half(w),
+        0 => sizes::high_count(x, w),
+        1 => sizes::low_count(x, w),
+        2 => sizes::high_count(x, w),
+        _ => sizes::low_count(x, w),
     }
 }
 
-fn rows(m: usize, i: usize) -> usize
-    ensures { λ r. ⌜ r ≡ count (down (bandAt i)) m ⌝ }
+fn rows(m: usize, y: usize, i: usize) -> usize
+    ensures { λ r. ⌜ r ≡ count (down (bandAt i)) (side y m) ⌝ }
 {
     if i < 2 {
-        return m / 2;
+        return sizes::high_count(y, m);
     }
-    sizes::half(m)
+    sizes::low_count(y, m)
 }
 
-// Whether it has row n.
-fn has_row(w: usize, m: usize, i: usize, n: usize) -> bool
-    ensures { λ r. ⌜ r ≡ hasRow w m (bandAt i) n ⌝ }
+// The first set that has a row of it.
+fn first_set(m: usize, y: usize, i: usize) -> usize
+    ensures { λ r. ⌜ r ≡ firstSet (side y m) (down (bandAt i)) ⌝ }
 {
-    if columns(w, i) == 0 {
+    if i < 2 {
+        return 0;
+    }
+    y % 2
+}
+
+// Its row in set n.
+pub fn set_row(m: usize, y: usize, n: usize, i: usize) -> usize
+    ensures { λ r. ⌜ r ≡ setRow (side y m) (bandAt i) n ⌝ }
+{
+    let f = first_set(m, y, i);
+    if n < f {
+        return 0;
+    }
+    n - f
+}
+
+// Whether it has one.
+fn has_row(w: usize, x: usize, m: usize, y: usize, n: usize, i: usize) -> bool
+    ensures { λ r. ⌜ r ≡ setHas (side x w) (side y m) (bandAt i) n ⌝ }
+{
+    if columns(w, x, i) == 0 {
         return false;
     }
-    n < rows(m, i)
+    let f = first_set(m, y, i);
+    if n < f {
+        return false;
+    }
+    n - f < rows(m, y, i)
 }
 
-// Whether every band has row n.
-fn all_have(w: usize, m: usize, n: usize) -> bool
-    ensures { λ r. ⌜ r ≡ both (ltb 1 w) (ltb n (m / 2)) ⌝ }
+// Whether every band has a row in set n.
+fn all_have(w: usize, m: usize, y: usize, n: usize) -> bool
+    ensures { λ r. ⌜ r ≡ both (ltb 1 w) (both (leb (y % 2) n) (ltb n (count hi (side y m)))) ⌝ }
 {
     if w <= 1 {
         return false;
     }
-    n < m / 2
+    if n < y % 2 {
+        return false;
+    }
+    n < sizes::high_count(y, m)
 }
 
-// Of the last i bands of set n, those from the first that has row n on: all of them but at one column and at the last of an odd number of rows.
-pub fn next_band(w: usize, m: usize, n: usize, i: usize) -> usize
-    ensures { λ r. ⌜ r ≡ skip w m n i ⌝ }
+// Of the last i bands of set n, those from the first on that has a row in it: all of them but at one column, and where the set lacks its low or its high row.
+pub fn next_band(w: usize, x: usize, m: usize, y: usize, n: usize, i: usize) -> usize
+    ensures { λ r. ⌜ r ≡ skip (side x w) (side y m) n i ⌝ }
 {
-    if all_have(w, m, n) {
+    if all_have(w, m, y, n) {
         return i;
     }
     let mut k = i;
     while k > 0 {
-        if has_row(w, m, k - 1, n) {
+        if has_row(w, x, m, y, n, k - 1) {
             return k;
         }
         k -= 1;
@@ -130,10 +193,10 @@ pub fn next_band(w: usize, m: usize, n: usize, i: usize) -> usize
     0
 }
 
-// Where the slot of row r begins.
-pub fn slot(w: usize, r: usize) -> usize
+// Where the slot of row q begins.
+pub fn slot(w: usize, q: usize) -> usize
     requires { ⌜ w < 4294967296 ⌝ }
-    ensures { λ s. ⌜ s ≡ slot w r ⌝ }
+    ensures { λ s. ⌜ s ≡ slot w q ⌝ }
 {
-    rows::slot(w, r)
+    rows::slot(w, q)
 }

@@ -8,9 +8,11 @@ ghost use mathlib.Core.Path.{_≡_};
 ghost use Prim.Native.Nat.{_<_, _+_, _*_, _^_};
 ghost use lib.ListN.{length};
 ghost use Rattle.numbers.specs.Signal.{at};
+ghost use Rattle.lifting.specs.Grid.{side};
 ghost use Rattle.level.specs.FiveThreeLevel.{bandPlace};
 ghost use Rattle.writer.specs.Counts.{bandAt};
 ghost use Rattle.writer.specs.Questions.{waitingRow};
+ghost use Rattle.writer.specs.Taking.{columnsOf};
 ghost use Rattle.writer.specs.Calls.{pulled};
 ghost use Rattle.writer.specs.Steps.{Left, Walk, Reaches, Placed, Reached, Found, Drawable};
 
@@ -23,72 +25,82 @@ pub struct Spot {
     pub start: usize,
 }
 
-// Where the row of the band that i bands come after stands, of set n of a level of w columns.
-fn place(w: usize, n: usize, i: usize) -> usize
-    requires { ⌜ (w < 2 ^ 16) × (n < 2 ^ 32) ⌝ }
-    ensures { λ r. ⌜ r ≡ bandPlace w n (bandAt i) ⌝ }
+// Where the row of the band that i bands come after stands, of set n of a level of w columns, the first at coordinate x.
+fn place(w: usize, x: usize, n: usize, i: usize) -> usize
+    requires { ⌜ (w < 2 ^ 16) × (n < 2 ^ 33) ⌝ }
+    ensures { λ r. ⌜ r ≡ bandPlace (side x w) n (bandAt i) ⌝ }
 {
     match i {
-        0 => counts::slot(w, 2 * n + 3) + sizes::half(w),
+        0 => counts::slot(w, 2 * n + 3) + sizes::low_count(x, w),
         1 => counts::slot(w, 2 * n + 3),
-        2 => counts::slot(w, 2 * n) + sizes::half(w),
+        2 => counts::slot(w, 2 * n) + sizes::low_count(x, w),
         _ => counts::slot(w, 2 * n),
     }
 }
 
-// A level that a set is handed out of: the levels below it, its columns, the rows that it has received, and the number of the set.
+// A level that a set is handed out of: the levels below it, its columns and the first one's coordinate, the rows that it has received and the first one's
+// coordinate, and the number of the set.
 pub struct Level {
     pub below: usize,
     pub width: usize,
+    pub x: usize,
     pub rows: usize,
+    pub y: usize,
     pub set: usize,
 }
 
-// Level v of l levels, the first of w columns and m rows, of which c are closed. Numbers alone: where it stands in the store, the writer carries.
-pub fn level_of(l: usize, w: usize, c: usize, v: usize, m: usize) -> Level
-    requires { ⌜ Walk l w v m ⌝ }
-    ensures { λ r. ⌜ Reaches l w c v m r ⌝ }
+// Level v of l levels, the first of w columns from x on and m rows from y on, of which c are closed. Numbers alone: where it stands in the store, the writer
+// carries.
+pub fn level_of(l: usize, w: usize, x: usize, y: usize, c: usize, v: usize, m: usize) -> Level
+    requires { ⌜ Walk l (side x w) v m ⌝ }
+    ensures { λ r. ⌜ Reaches l (side x w) y c v m r ⌝ }
 {
     let mut width = w;
-    let mut closed = c;
+    let mut column = x;
     let mut rows = m;
+    let mut row = y;
+    let mut closed = c;
     let mut k = v;
     while 1 < k {
-        rows = counts::made(closed, rows);
+        rows = counts::low_rows(row, counts::made(closed, row, rows));
+        row = sizes::next_start(row);
         closed = counts::prev(closed);
-        width = sizes::half(width);
+        width = sizes::low_count(column, width);
+        column = sizes::next_start(column);
         k -= 1;
     }
-    let set = counts::prev(counts::made(closed, rows));
+    let set = counts::prev(counts::made(closed, row, rows));
     Level {
         below: l - v,
         width,
+        x: column,
         rows,
+        y: row,
         set,
     }
 }
 
 // The row that waits, at level q.
 pub fn waiting(s: Writer, q: Level) -> Spot
-    requires { ⌜ Walk (s .levels) (s .width) (s .level) (s .rows) × Placed s × Reached s q ⌝ }
-    ensures { λ r. ⌜ Found (s .levels) (s .width) (waitingRow s) r ⌝ }
+    requires { ⌜ Walk (s .levels) (columnsOf s) (s .level) (s .rows) × Placed s × Reached s q ⌝ }
+    ensures { λ r. ⌜ Found (s .levels) (columnsOf s) (waitingRow s) r ⌝ }
 {
     let i = counts::prev(s.left);
     Spot {
         level: s.level,
         band: counts::code(i),
-        row: q.set,
-        length: counts::columns(q.width, i),
-        start: s.offset + place(q.width, q.set, i),
+        row: counts::set_row(q.rows, q.y, q.set, i),
+        length: counts::columns(q.width, q.x, i),
+        start: s.offset + place(q.width, q.x, q.set, i),
     }
 }
 
-// It is drawn: the next band of the set that has such a row waits, or the set's LL row goes on.
+// It is drawn: the next band of the set that has a row in it waits, or the set's LL row goes on.
 pub fn pull(s: Writer, q: Level, store: &mut [i32]) -> Wait
     requires { ⌜ Drawable s (length (now store)) × Reached s q ⌝ }
-    ensures { λ r. ⌜ Left (s .levels) (s .width) (pulled s (at (now (store .entry)))) r (at (now (store .exit))) ⌝ }
+    ensures { λ r. ⌜ Left (s .levels) (columnsOf s) (pulled s (at (now (store .entry)))) r (at (now (store .exit))) ⌝ }
 {
-    let i = counts::next_band(q.width, q.rows, q.set, counts::prev(s.left));
+    let i = counts::next_band(q.width, q.x, q.rows, q.y, q.set, counts::prev(s.left));
     let a = s.offset;
     if 0 < i {
         return Wait {
@@ -97,7 +109,7 @@ pub fn pull(s: Writer, q: Level, store: &mut [i32]) -> Wait
             offset: a,
         };
     }
-    let r = cascade::pass_on(&mut store[a..], q.below, q.width, q.set);
+    let r = cascade::pass_on(&mut store[a..], q.below, q.width, q.x, q.y, q.set);
     Wait {
         level: counts::deeper_by(s.level - 1, r.level),
         left: r.left,

@@ -8,16 +8,19 @@ ghost use mathlib.Core.Path.{_≡_};
 ghost use Prim.Native.Nat.{_+_, _*_, _/_, _^_, _<_, _≤_};
 ghost use lib.Dec.{leb, eqb};
 ghost use Rattle.numbers.specs.Signal.{both};
+ghost use Rattle.lifting.specs.Grid.{side};
 ghost use Rattle.writer.specs.Counts.{mostLeft, startOf};
-ghost use Rattle.writer.specs.Questions.{inRanges, setUpQuestion, offerQuestion, finishQuestion};
+ghost use Rattle.writer.specs.Taking.{columnsOf};
+ghost use Rattle.writer.specs.Questions.{onGrid, inRanges, setUpQuestion, offerQuestion, finishQuestion};
 ghost use Rattle.writer.specs.Gate.{stateQuestion, openQuestion};
 
 // Does the stretch of level v begin at place o? The stretches before it are taken off: added up first, they would cost the short calls more.
-fn begins(w: usize, v: usize, o: usize) -> bool
+fn begins(w: usize, x: usize, v: usize, o: usize) -> bool
     requires { ⌜ (w < 2 ^ 16) × (0 < v) ⌝ }
-    ensures { λ r. ⌜ r ≡ eqb o (startOf w v) ⌝ }
+    ensures { λ r. ⌜ r ≡ eqb o (startOf (side x w) v) ⌝ }
 {
     let mut width = w;
+    let mut column = x;
     let mut rest = o;
     let mut k = v;
     while 1 < k {
@@ -26,7 +29,8 @@ fn begins(w: usize, v: usize, o: usize) -> bool
             return false;
         }
         rest -= a;
-        width = sizes::half(width);
+        width = sizes::low_count(column, width);
+        column = sizes::next_start(column);
         k -= 1;
     }
     rest == 0
@@ -35,7 +39,7 @@ fn begins(w: usize, v: usize, o: usize) -> bool
 // What waits: the bands that are left, and where its level's stretch begins; where nothing waits, as most often, neither is looked for.
 fn waits_in_range(s: Writer) -> bool
     requires { ⌜ (s .width < 2 ^ 16) × (s .level ≤ s .levels) ⌝ }
-    ensures { λ r. ⌜ r ≡ both (leb (s .left) (mostLeft (s .levels) (s .level))) (eqb (s .offset) (startOf (s .width) (s .level))) ⌝ }
+    ensures { λ r. ⌜ r ≡ both (leb (s .left) (mostLeft (s .levels) (s .level))) (eqb (s .offset) (startOf (columnsOf s) (s .level))) ⌝ }
 {
     if s.level == 0 {
         if 0 < s.left {
@@ -46,13 +50,26 @@ fn waits_in_range(s: Writer) -> bool
     if counts::most(s.levels - s.level) < s.left {
         return false;
     }
-    begins(s.width, s.level, s.offset)
+    begins(s.width, s.x, s.level, s.offset)
+}
+
+// Whether a map starts on the grid.
+fn on_grid(x: usize, y: usize) -> bool
+    ensures { λ r. ⌜ r ≡ onGrid x y ⌝ }
+{
+    if Writer::MAX_ORIGIN < x {
+        return false;
+    }
+    y <= Writer::MAX_ORIGIN
 }
 
 // Question 1: the counts' ranges.
 pub fn in_ranges(s: Writer) -> bool
     ensures { λ r. ⌜ r ≡ inRanges s ⌝ }
 {
+    if !on_grid(s.x, s.y) {
+        return false;
+    }
     if !limits::is_within(s.width, Writer::MAX_WIDTH) {
         return false;
     }
@@ -92,7 +109,7 @@ pub fn state_question(s: Writer, n: usize) -> u8
     if holds_any(s.width, n) {
         return 0;
     }
-    if n < store::store_length(s.width, s.levels) {
+    if n < store::store_length(s.width, s.x, s.levels) {
         return 5;
     }
     0
@@ -111,8 +128,9 @@ fn open_question(s: Writer) -> u8
     0
 }
 
-pub fn set_up_question(width: usize, levels: usize, n: usize) -> u8
-    ensures { λ r. ⌜ r ≡ setUpQuestion width levels n ⌝ }
+// Of columns from x on.
+pub fn set_up_question(width: usize, x: usize, levels: usize, n: usize) -> u8
+    ensures { λ r. ⌜ r ≡ setUpQuestion (side x width) levels n ⌝ }
 {
     if !limits::is_within(width, Writer::MAX_WIDTH) {
         return 2;
@@ -120,7 +138,7 @@ pub fn set_up_question(width: usize, levels: usize, n: usize) -> u8
     if !limits::is_within(levels, Writer::MAX_LEVELS) {
         return 4;
     }
-    if n < store::store_length(width, levels) {
+    if n < store::store_length(width, x, levels) {
         return 5;
     }
     0

@@ -8,11 +8,13 @@ mod draws;
 mod gate;
 mod offers;
 
+use wavelet::shape::Shape;
 use wavelet::store;
 ghost use mathlib.Core.Path.{_≡_};
 ghost use lib.ListN.{length};
 ghost use Rattle.numbers.specs.Signal.{at};
-ghost use Rattle.wavelet.specs.Limits.{maxWidth, maxHeight, maxLevels};
+ghost use Rattle.wavelet.specs.Limits.{maxWidth, maxHeight, maxLevels, maxOrigin};
+ghost use Rattle.wavelet.specs.Shape.{columns};
 ghost use Rattle.writer.specs.Answers.{ofSetUp, ofOffered, ofDrawn, ofLook, ofFinished};
 ghost use Rattle.writer.specs.Calls.{setUpReply, setUpStore, offerReply, offerStore, drawReply, drawStore, drawArea, waitsReply, finishReply};
 ghost use Rattle.writer.specs.Calls.{finishStore};
@@ -22,6 +24,9 @@ ghost use Rattle.writer.specs.Holds.{SetUpHolds, OfferKeeps, DrawKeeps, 
 pub struct Writer {
     pub width: usize,
     pub levels: usize,
+    // the coordinates of the first column and of the first row
+    pub x: usize,
+    pub y: usize,
     // rows taken whole
     pub rows: usize,
     // heights taken of the row begun
@@ -78,6 +83,8 @@ impl Writer {
 
     pub const MAX_LEVELS: usize = 5;
 
+    pub const MAX_ORIGIN: usize = 65535;
+
     // The constants, each pinned to the definition's number.
     pub fn max_width() -> usize
         ensures { λ r. ⌜ r ≡ maxWidth ⌝ }
@@ -97,21 +104,30 @@ impl Writer {
         Writer::MAX_LEVELS
     }
 
-    // A fresh writer, and zeros in the part of the store that it needs.
-    pub fn set_up(width: usize, levels: usize, store: &mut [i32]) -> SetUp
-        ensures { λ r. ⌜ ofSetUp r ≡ setUpReply width levels (length (now (store .entry))) ⌝ }
-        ensures { λ r. ⌜ at (now (store .exit)) ≡ setUpStore width levels (length (now (store .entry))) (at (now (store .entry))) ⌝ }
+    pub fn max_origin() -> usize
+        ensures { λ r. ⌜ r ≡ maxOrigin ⌝ }
+    {
+        Writer::MAX_ORIGIN
+    }
+
+    // A fresh writer, and zeros in the part of the store that it needs. A writer need not know how many rows will come: it does not read the shape's height.
+    pub fn set_up(shape: Shape, store: &mut [i32]) -> SetUp
+        ensures { λ r. ⌜ ofSetUp r ≡ setUpReply (columns shape) (shape .y) (shape .levels) (length (now (store .entry))) ⌝ }
+        ensures { λ r. ⌜ at (now (store .exit)) ≡ setUpStore (columns shape) (shape .levels) (length (now (store .entry))) (at (now (store .entry))) ⌝ }
         ensures { λ r. ⌜ SetUpHolds (ofSetUp r) (at (now (store .exit))) ⌝ }
     {
-        let no = gate::set_up_question(width, levels, store.len());
+        let x = shape.x as usize;
+        let no = gate::set_up_question(shape.width, x, shape.levels, store.len());
         if 0 < no {
             return SetUp::Refused(no);
         }
-        let n = store::store_length(width, levels);
+        let n = store::store_length(shape.width, x, shape.levels);
         copies::clear(store, n);
         SetUp::Ready(Writer {
-            width,
-            levels,
+            width: shape.width,
+            levels: shape.levels,
+            x,
+            y: shape.y as usize,
             rows: 0,
             column: 0,
             finished: false,
@@ -158,7 +174,15 @@ impl Writer {
         if self.level == 0 {
             return Drawn::Nothing;
         }
-        let q = draws::level_of(self.levels, self.width, self.closed, self.level, self.rows);
+        let q = draws::level_of(
+            self.levels,
+            self.width,
+            self.x,
+            self.y,
+            self.closed,
+            self.level,
+            self.rows,
+        );
         let spot = draws::waiting(self, q);
         if out.len() < spot.length {
             return Drawn::Refused(12);
@@ -184,7 +208,15 @@ impl Writer {
             return Look::Refused(1);
         }
         if 0 < self.level {
-            let q = draws::level_of(self.levels, self.width, self.closed, self.level, self.rows);
+            let q = draws::level_of(
+                self.levels,
+                self.width,
+                self.x,
+                self.y,
+                self.closed,
+                self.level,
+                self.rows,
+            );
             let spot = draws::waiting(self, q);
             return Look::Row(BandRow {
                 level: spot.level,
@@ -211,10 +243,12 @@ impl Writer {
         if 0 < no {
             return Finished::Refused(no);
         }
-        let r = closing::shut(store, self.levels, self.width, 0, self.rows);
+        let r = closing::shut(store, self.levels, self.width, self.x, self.y, 0, self.rows);
         Finished::Closed(Writer {
             width: self.width,
             levels: self.levels,
+            x: self.x,
+            y: self.y,
             rows: self.rows,
             column: self.column,
             finished: true,

@@ -3,7 +3,7 @@ use crate::Writer;
 use crate::cascade;
 use level::heights;
 ghost use mathlib.Core.Path.{_≡_};
-ghost use Prim.Native.Nat.{_+_, _<_, _≤_, _-_, _*_, _^_, min};
+ghost use Prim.Native.Nat.{_+_, _<_, _≤_, _-_, min};
 ghost use lib.ListN.{length};
 ghost use Rattle.numbers.specs.Signal.{at};
 ghost use Rattle.wavelet.specs.Limits.{maxHeight};
@@ -47,12 +47,15 @@ pub fn stretch(s: Writer, store: &mut [i32], run: &[u16], from: usize, n: usize)
     requires { ⌜ Taker s (length (now store)) × (s .rows < maxHeight) × (s .column + n ≤ s .width) × (from + n ≤ length (now run)) ⌝ }
     ensures { λ r. ⌜ Stretched s (now (run .entry)) from n (at (now (store .entry))) r (at (now (store .exit))) (length (now (store .entry))) ⌝ }
 {
-    heights::put(store, s.width, s.rows, s.column, run, from, n);
+    let q = s.y % 2 + s.rows;
+    heights::put(store, s.width, s.x, q, s.column, run, from, n);
     let column = s.column + n;
     if column < s.width {
         return Writer {
             width: s.width,
             levels: s.levels,
+            x: s.x,
+            y: s.y,
             rows: s.rows,
             column,
             finished: s.finished,
@@ -62,10 +65,12 @@ pub fn stretch(s: Writer, store: &mut [i32], run: &[u16], from: usize, n: usize)
             offset: s.offset,
         };
     }
-    let r = cascade::arrive(store, s.levels, s.width, s.rows);
+    let r = cascade::arrive(store, s.levels, s.width, s.x, s.y, s.rows);
     Writer {
         width: s.width,
         levels: s.levels,
+        x: s.x,
+        y: s.y,
         rows: s.rows + 1,
         column: 0,
         finished: s.finished,

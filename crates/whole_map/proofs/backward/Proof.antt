@@ -16,16 +16,23 @@ returns : tie.Need-returns
 unfolding backwardQuestion
 returns c =
     let a = c .before .before .before .args in
+    let s = a .shape in
     let q = c .before .size-question .ensures in
     let few : c .before .size-question .result ≤ 5 = rw q
-    (asked-few (a .width) (a .height) (a .levels) (length (a .plane .now)) (length (a .heights .now)) (length (a .work .now))) in (
-      q ∙ sym (asked-no (a .width) (a .height) (a .levels) _ _ _ _ (λ e. c .if1 .taken (q ∙ e))),
+    (asked-few (s .width) (s .height) (s .levels) (length (a .plane .now)) (length (a .heights .now)) (length (a .work .now))) in (
+      q ∙ sym (asked-no (s .width) (s .height) (s .levels) _ _ _ _ (λ e. c .if1 .taken (q ∙ e))),
       (rebuilt-no _ _ _ _ (c .if1 .taken) (λ e. omega arith), rebuilt-no _ _ _ _ (c .if1 .taken) (λ e. omega arith)),
     )
 
+cast-restore : tie.Need-cast-restore
+cast-restore c = search needs
+
+cast-restore-2 : tie.Need-cast-restore-2
+cast-restore-2 c = search needs
+
 restore-requires : tie.Need-restore-requires
 restore-requires c κs =
-    let q = c .before .before in
+    let q = c .before .before .before .before in
     let r = roomy-is _ _ _ _ _ _ (sym (q .before .size-question .ensures) ∙ q .if1 .left) in
     (r .size, r .first, r .second, r .third)
 
@@ -39,7 +46,7 @@ returns-2 : tie.Need-returns-2
 unfolding backwardQuestion
 returns-2 c =
     let made = c .before .before .before in
-    let q = made .before .before .before in (
+    let q = made .before .before .before .before .before in (
       made .restore .ensures .0 ∙ sym (asked-on _ _ _ _ _ _ _ (sym (q .before .size-question .ensures) ∙ q .if1 .left)),
       made .restore .ensures .1,
     )
@@ -47,4 +54,4 @@ returns-2 c =
 pub backward-spec : {M : Type 1} → statement M
 backward-spec =
     tie.close
-    (tie.spec size-question-requires returns restore-requires same-length same-length-2 returns-2)
+    (tie.spec size-question-requires returns cast-restore cast-restore-2 restore-requires same-length same-length-2 returns-2)

@@ -14,9 +14,15 @@ unfolding forwardQuestion
 returns c =
     (c .before .size-question .ensures, (passed-no _ _ _ _ (c .if1 .taken), passed-no _ _ _ _ (c .if1 .taken)))
 
+cast-transform : tie.Need-cast-transform
+cast-transform c = search needs
+
+cast-transform-2 : tie.Need-cast-transform-2
+cast-transform-2 c = search needs
+
 transform-requires : tie.Need-transform-requires
 transform-requires c κs =
-    let q = c .before .before in
+    let q = c .before .before .before .before in
     let r = roomy-is _ _ _ _ _ _ (sym (q .before .size-question .ensures) ∙ q .if1 .left) in
     (r .size, r .first, r .second, r .third)
 
@@ -30,7 +36,7 @@ returns-2 : tie.Need-returns-2
 unfolding forwardQuestion
 returns-2 c =
     let made = c .before .before in
-    let q = made .before .before .before in (
+    let q = made .before .before .before .before .before in (
       sym (q .if1 .left) ∙ q .before .size-question .ensures,
       (made .transform .ensures .0 ∙ sym (passed-yes _ _ _ 0 refl), made .transform .ensures .1 ∙ sym (passed-yes _ _ _ 0 refl)),
     )
@@ -41,6 +47,8 @@ forward-spec =
     (tie.spec
     size-question-requires
     returns
+    cast-transform
+    cast-transform-2
     transform-requires
     same-length
     same-length-2

@@ -56,9 +56,9 @@ returns-2 c =
       not-rebuilt _ _ _ _ _ (range .plane-in-range .ensures) (not-false _ (good .if1 .left)) _ (b .answer) (not-true _ (bad .if2 .taken)),
       (
         cleared _ _ _ _ _ (start .pre .0 .height .0) (b .keptHeights)
-            (did _ _ _ _ (room _ _ (map .rebuild .kept .1 .1 .1 .1 .0) (start .pre .2)) (heights .clear-heights .ensures .1)) ∙ sym (rebuilt-zero _ _ _),
+            (did _ _ _ _ (room _ _ (map .rebuild .kept .1 .1 .1 .1 .1 .1 .0) (start .pre .2)) (heights .clear-heights .ensures .1)) ∙ sym (rebuilt-zero _ _ _),
         cleared _ _ _ _ _ (start .pre .0 .height .0) (b .kept)
-            (did _ _ _ _ (room _ _ (map .rebuild .kept .1 .1 .1 .1 .1 .0) (start .pre .3)) (clear .clear .ensures .1)) ∙ sym (rebuilt-zero _ _ _),
+            (did _ _ _ _ (room _ _ (map .rebuild .kept .1 .1 .1 .1 .1 .1 .1 .0) (start .pre .3)) (clear .clear .ensures .1)) ∙ sym (rebuilt-zero _ _ _),
       ),
     )
 

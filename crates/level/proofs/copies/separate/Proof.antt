@@ -10,13 +10,13 @@ use Rattle.level.proofs.copies.separate.Statement.{statement}
 use Rattle.level.proofs.copies.separate.Tie as tie
 
 abbrev Inv-loop : tie.InvT-loop
-Inv-loop store₀ from evens odds count j₀ store j = Pairs from evens odds count store₀ j store
+Inv-loop store₀ from firsts seconds count j₀ store j = Pairs from firsts seconds count store₀ j store
 
 abbrev μ-loop : tie.MeasureT-loop
-μ-loop store₀ from evens odds count j₀ store j = count - j
+μ-loop store₀ from firsts seconds count j₀ store j = count - j
 
 loop-holds : tie.Need-loop-holds Inv-loop μ-loop
-loop-holds c = pairs-start _ _ _ _ _ (omega arith) (omega arith) (omega arith)
+loop-holds c = pairs-start _ _ _ _ _ (omega arith) (omega arith) (omega arith) (omega arith) (omega arith)
 
 mul-store : tie.Need-mul-store Inv-loop μ-loop
 mul-store c = omega arith
@@ -75,8 +75,8 @@ loop-again c =
     let a = c .before .before .before .before .args in
     let p = a .from + 2 * l .j in
     let k : p + 1 ≡ a .from + (2 * l .j + 1) = omega arith in
-    let read = pairs-read (a .from) (a .evens) (a .odds) (a .count) (a .store .now) (l .j) (l .store) (l .inv) p (omega arith) in
-    let again = pairs-again (a .from) (a .evens) (a .odds) (a .count) (a .store .now) (l .j) (l .store) _ (l .inv) (p + 1) (omega arith) in
+    let read = pairs-read (a .from) (a .firsts) (a .seconds) (a .count) (a .store .now) (l .j) (l .store) (l .inv) p (omega arith) in
+    let again = pairs-again (a .from) (a .firsts) (a .seconds) (a .count) (a .store .now) (l .j) (l .store) _ (l .inv) (p + 1) (omega arith) in
     let v = read-back _ (c .before .store .given) ∙ read in
     let u = read-back _ (c .store2 .given) ∙ again ∙ ap (at (a .store .now)) k in
     pairs-turn _ _ _ _ _ _ _ _ _ (l .inv) (omega arith) v u

@@ -4,6 +4,7 @@ use Prim.Native.Nat.{ℕ, _+_, _*_, _-_, _^_, _≤_, _<_}
 use native.Mathlib.Omega.{arith}
 use lib.ListN.{length, getD, length-set}
 use Rattle.numbers.specs.Signal.{at}
+use Rattle.lifting.specs.Grid.{side}
 use Rattle.level.specs.FiveThreeLevel.{cellOf}
 use Rattle.level.specs.Heights.{heightAt, heightsPut}
 use Rattle.level.proofs.FillLaws.{height-fits, height-read, Put, put-none, put-pair, put-place}
@@ -12,13 +13,13 @@ use Rattle.level.proofs.heights.fill_pairs.Tie as tie
 
 -- the bounds, the two places, and the heights put
 abbrev Inv-loop : tie.InvT-loop
-Inv-loop store₀ w m column run from pairs first second j₀ store j =
-    (j ≤ pairs) × (w < 2 ^ 62) × (column + 2 * pairs ≤ w) × (from + 2 * pairs ≤ length run)
-    × (first ≡ cellOf w m column) × (second ≡ cellOf w m (column + 1))
-    × Put w m column (2 * j) (λ i. heightAt run (from + i)) store₀ store
+Inv-loop store₀ w x q column run pairs first second j₀ store j =
+    (j ≤ pairs) × (w < 2 ^ 62) × (column + 2 * pairs ≤ w) × (2 * pairs ≤ length run)
+    × (first ≡ cellOf (side x w) q column) × (second ≡ cellOf (side x w) q (column + 1))
+    × Put (side x w) q column (2 * j) (heightAt run) store₀ store
 
 abbrev μ-loop : tie.MeasureT-loop
-μ-loop store₀ w m column run from pairs first second j₀ store j = pairs - j
+μ-loop store₀ w x q column run pairs first second j₀ store j = pairs - j
 
 cell-requires : tie.Need-cell-requires Inv-loop μ-loop
 cell-requires c κs = omega arith
@@ -38,14 +39,11 @@ loop-holds c =
       omega arith,
       c .before .cell .ensures,
       c .cell2 .ensures,
-      put-none (a .w) (a .m) (a .column) _ (a .store .now) (omega arith),
+      put-none (side (a .x) (a .w)) (a .q) (a .column) _ (a .store .now) (omega arith),
     )
 
 mul-store : tie.Need-mul-store Inv-loop μ-loop
 mul-store c = omega arith
-
-add-store : tie.Need-add-store Inv-loop μ-loop
-add-store c = omega arith
 
 mul-store-2 : tie.Need-mul-store-2 Inv-loop μ-loop
 mul-store-2 c = omega arith
@@ -57,34 +55,31 @@ cast-store : tie.Need-cast-store Inv-loop μ-loop
 cast-store c =
     let l = c .before .before .loop in
     let a = c .before .before .before .before .before .before .args in
-    height-fits _ (omega (arith, c .shared-slice-known2 .given (a .from + 2 * l .j)))
+    height-fits _ (omega (arith, c .shared-slice-known2 .given (2 * l .j)))
 
-add-store-2 : tie.Need-add-store-2 Inv-loop μ-loop
-add-store-2 c =
+add-store : tie.Need-add-store Inv-loop μ-loop
+add-store c =
     let l = c .before .before .loop in
     let a = c .before .before .before .before .before .before .args in
-    omega (arith, put-place (a .w) (a .m) (a .column) (l .j) _ (omega arith) (l .inv .4))
+    omega (arith, put-place (side (a .x) (a .w)) (a .q) (a .column) (l .j) _ (omega arith) (l .inv .4))
 
 mul-store-3 : tie.Need-mul-store-3 Inv-loop μ-loop
 mul-store-3 c =
     let l = c .before .before .loop in
     let a = c .before .before .before .before .before .before .args in
-    omega (arith, put-place (a .w) (a .m) (a .column) (l .j) _ (omega arith) (l .inv .4))
+    omega (arith, put-place (side (a .x) (a .w)) (a .q) (a .column) (l .j) _ (omega arith) (l .inv .4))
 
 slice-set-from-store : tie.Need-slice-set-from-store Inv-loop μ-loop
 slice-set-from-store c =
     let l = c .before .before .loop in
     let a = c .before .before .before .before .before .before .args in
-    omega (arith, put-place (a .w) (a .m) (a .column) (l .j) _ (omega arith) (l .inv .4), l .inv .6 .room, l .inv .6 .size)
+    omega (arith, put-place (side (a .x) (a .w)) (a .q) (a .column) (l .j) _ (omega arith) (l .inv .4), l .inv .6 .room, l .inv .6 .size)
 
 mul-store-4 : tie.Need-mul-store-4 Inv-loop μ-loop
 mul-store-4 c = omega arith
 
-add-store-3 : tie.Need-add-store-3 Inv-loop μ-loop
-add-store-3 c = omega arith
-
-add-store-4 : tie.Need-add-store-4 Inv-loop μ-loop
-add-store-4 c = omega arith
+add-store-2 : tie.Need-add-store-2 Inv-loop μ-loop
+add-store-2 c = omega arith
 
 mul-store-5 : tie.Need-mul-store-5 Inv-loop μ-loop
 mul-store-5 c = omega arith
@@ -96,25 +91,25 @@ cast-store-2 : tie.Need-cast-store-2 Inv-loop μ-loop
 cast-store-2 c =
     let l = c .before .before .before .loop in
     let a = c .before .before .before .before .before .before .before .args in
-    height-fits _ (omega (arith, c .shared-slice-known3 .given (a .from + 2 * l .j + 1)))
+    height-fits _ (omega (arith, c .shared-slice-known3 .given (2 * l .j + 1)))
 
-add-t15 : tie.Need-add-t15 Inv-loop μ-loop
-add-t15 c =
+add-t14 : tie.Need-add-t14 Inv-loop μ-loop
+add-t14 c =
     let l = c .before .before .before .loop in
     let a = c .before .before .before .before .before .before .before .args in
-    omega (arith, put-place (a .w) (a .m) (a .column + 1) (l .j) _ (omega arith) (l .inv .5))
+    omega (arith, put-place (side (a .x) (a .w)) (a .q) (a .column + 1) (l .j) _ (omega arith) (l .inv .5))
 
-mul-t23 : tie.Need-mul-t23 Inv-loop μ-loop
-mul-t23 c =
+mul-t22 : tie.Need-mul-t22 Inv-loop μ-loop
+mul-t22 c =
     let l = c .before .before .before .loop in
     let a = c .before .before .before .before .before .before .before .args in
-    omega (arith, put-place (a .w) (a .m) (a .column + 1) (l .j) _ (omega arith) (l .inv .5))
+    omega (arith, put-place (side (a .x) (a .w)) (a .q) (a .column + 1) (l .j) _ (omega arith) (l .inv .5))
 
 slice-set-from-store-2 : tie.Need-slice-set-from-store-2 Inv-loop μ-loop
 slice-set-from-store-2 c =
     let l = c .before .before .before .loop in
     let a = c .before .before .before .before .before .before .before .args in
-    let p = put-place (a .w) (a .m) (a .column + 1) (l .j) _ (omega arith) (l .inv .5) in
+    let p = put-place (side (a .x) (a .w)) (a .q) (a .column + 1) (l .j) _ (omega arith) (l .inv .5) in
     let r = l .inv .6 in
     simp length-set (omega (arith, p, r .room, r .size))
 
@@ -129,17 +124,16 @@ loop-again c =
     let l = c .before .before .before .loop in
     let a = c .before .before .before .before .before .before .before .args in
     let i = l .inv in
-    let p = a .from + 2 * l .j in
-    let k : a .from + (2 * l .j + 1) ≡ p + 1 = omega arith in
+    let p = 2 * l .j in
     let v = height-read (getD (a .run .now) p 0) (omega (arith, c .before .shared-slice-known2 .given p)) in
-    let u = height-read (getD (a .run .now) (p + 1) 0) (omega (arith, c .shared-slice-known3 .given (p + 1))) ∙ sym (ap (heightAt (a .run .now)) k) in (
+    let u = height-read (getD (a .run .now) (p + 1) 0) (omega (arith, c .shared-slice-known3 .given (p + 1))) in (
       omega arith,
       omega arith,
       omega arith,
       omega arith,
       i .4,
       i .5,
-      put-pair (a .w) (a .m) (a .column) _ (a .store .now) (l .j) _ _ _ _ _ (i .6) (omega arith) (i .4) (i .5) v u,
+      put-pair (side (a .x) (a .w)) (a .q) (a .column) _ (a .store .now) (l .j) _ _ _ _ _ (i .6) (omega arith) (i .4) (i .5) v u,
     )
 
 same-length : tie.Need-same-length Inv-loop μ-loop
@@ -150,7 +144,8 @@ returns c =
     let l = c .before .loop in
     let a = c .before .before .before .before .before .args in
     let e : l .j ≡ a .pairs = omega arith in
-    l .inv .6 .value ∙ ap (λ (k : ℕ). heightsPut (a .w) (a .m) (a .column) (2 * k) (λ i. heightAt (a .run .now) (a .from + i)) (at (a .store .now))) e
+    l .inv .6 .value
+    ∙ ap (λ (k : ℕ). heightsPut (side (a .x) (a .w)) (a .q) (a .column) (2 * k) (heightAt (a .run .now)) (at (a .store .now))) e
 
 pub fill-pairs-spec : {M : Type 1} → statement M
 fill-pairs-spec =
@@ -163,21 +158,19 @@ fill-pairs-spec =
     cell-requires-2
     loop-holds
     mul-store
-    add-store
     mul-store-2
     shared-slice-read-store
     cast-store
-    add-store-2
+    add-store
     mul-store-3
     slice-set-from-store
     mul-store-4
-    add-store-3
-    add-store-4
+    add-store-2
     mul-store-5
     shared-slice-read-store-2
     cast-store-2
-    add-t15
-    mul-t23
+    add-t14
+    mul-t22
     slice-set-from-store-2
     add-j
     loop-less

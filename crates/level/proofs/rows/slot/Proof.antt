@@ -7,10 +7,10 @@ use Rattle.level.proofs.rows.slot.Statement.{statement}
 use Rattle.level.proofs.rows.slot.Tie as tie
 
 mul-result : tie.Need-mul-result
-mul-result c = omega (arith, row-room (c .before .args .w) (c .before .args .r % 4) (slot-index _))
+mul-result c = omega (arith, row-room (c .before .args .w) (c .before .args .q % 4) (slot-index _))
 
 returns : tie.Need-returns
-returns c = let a = c .before .args in simp (lt-ltb (a .w) (2 ^ 62) (omega arith)) (slot-is (a .w) (a .r))
+returns c = let a = c .before .args in simp (lt-ltb (a .w) (2 ^ 62) (omega arith)) (slot-is (a .w) (a .q))
 
 returns-2 : tie.Need-returns-2
 returns-2 c = let a = c .before .args in simp (le-ltb (a .w) (2 ^ 62) (omega arith))

@@ -1,6 +1,7 @@
 -- `sets::low_alone` meets its contract: its calls one after the other. Assumes nothing.
 use native.Mathlib.Omega.{arith}
 use lib.ListN.{length}
+use Rattle.lifting.specs.Grid.{side}
 use Rattle.level.proofs.Places.{low-slot, free-slot}
 use Rattle.level.proofs.SetLaws.{low-first, low-later}
 use borrow.Author.Needs.{needs}
@@ -29,14 +30,14 @@ returns : tie.Need-returns
 returns c =
     let updated = c .before .before .before .before in
     let a = updated .before .before .before .args in
-    low-later (a .w) (a .n) _ _ (length (a .store .now)) _ _ _ (low-slot (a .n)) (free-slot (a .n)) (omega arith) (omega arith)
+    low-later (side (a .x) (a .w)) (a .n) _ _ (length (a .store .now)) _ _ _ (low-slot (a .n)) (free-slot (a .n)) (omega arith) (omega arith)
     (updated .update-row .ensures .1) (c .before .lift-row .ensures)
 
 same-length-2 : tie.Need-same-length-2
 same-length-2 c = search needs
 
 returns-2 : tie.Need-returns-2
-returns-2 c = let a = c .before .before .before .before .args in low-first (a .w) (a .n) _ _ (omega arith) (c .before .lift-row2 .ensures)
+returns-2 c = let a = c .before .before .before .before .args in low-first (side (a .x) (a .w)) (a .n) _ _ (omega arith) (c .before .lift-row2 .ensures)
 
 pub low-alone-spec : {M : Type 1} → statement M
 low-alone-spec =

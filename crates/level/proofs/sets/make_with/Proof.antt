@@ -2,6 +2,7 @@
 use mathlib.Core.Path.{_≡_}
 use Prim.Native.Nat.{ℕ, _+_, _*_, _%_}
 use native.Mathlib.Omega.{arith}
+use Rattle.lifting.specs.Grid.{side}
 use Rattle.level.proofs.SetLaws.{set-made}
 use borrow.Author.Needs.{needs}
 use Rattle.level.proofs.sets.make_with.Statement.{statement}
@@ -35,7 +36,7 @@ returns : tie.Need-returns
 returns c =
     let m = c .before .before .before .before .before .before .before in
     let a = m .before .before .args in
-    set-made (a .w) (a .n) (a .r) _ _ _ _ _ _ (low (a .n)) (free (a .n)) (m .make-columns .ensures)
+    set-made (side (a .x) (a .w)) (a .n) (a .r) _ _ _ _ _ _ (low (a .n)) (free (a .n)) (m .make-columns .ensures)
     (c .before .before .before .before .lift-row .ensures) (c .before .lift-row2 .ensures)
 
 pub make-with-spec : {M : Type 1} → statement M

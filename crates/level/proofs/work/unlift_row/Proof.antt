@@ -1,10 +1,8 @@
 -- `level::work::unlift_row` meets its contract: the line call on the part that is the row. Assumes nothing.
-use mathlib.Core.Path.{_∙_}
 use Prim.Native.Nat.{_+_, _-_}
 use native.Mathlib.Omega.{arith}
 use borrow.Author.Needs.{needs}
-use Rattle.lifting.proofs.AtZero.{unlift-zero}
-use Rattle.level.proofs.SlotLaws.{unlift-part}
+use Rattle.level.proofs.SlotLaws.{unlift-part, part-kept}
 use Rattle.level.proofs.work.unlift_row.Statement.{statement}
 use Rattle.level.proofs.work.unlift_row.Tie as tie
 
@@ -37,9 +35,12 @@ returns c =
     let call = c .before in
     let place = call .before .before in
     let a = place .before .args in
-    let at = place .row-place .result in
-    unlift-part (a .w) (a .r) at (at + a .w - at) (a .stretch .now) (call .unlift .last .0) (place .row-place .ensures .0) (omega arith) (omega arith)
-    (omega arith) (call .unlift .ensures .1 ∙ unlift-zero _ _)
+    let at = place .row-place .result in (
+      unlift-part (a .w) (a .q) at (at + a .w - at) (a .stretch .now) (place .row-place .ensures .0) (omega arith) (omega arith)
+          (a .x) (call .unlift .result) (call .unlift .last .0) (omega arith) (call .unlift .ensures .0) (call .unlift .ensures .1),
+      part-kept (a .w) (a .q) at (at + a .w - at) (a .stretch .now) (place .row-place .ensures .0) (omega arith) (omega arith) (call .unlift .last .0)
+          (omega arith),
+    )
 
 pub unlift-row-spec : {M : Type 1} → statement M
 unlift-row-spec =

@@ -1,67 +1,48 @@
--- `level::work::unlift_set` meets its contract: one row, and the other where there is one. Assumes nothing.
-use mathlib.Core.Path.{sym, ap, _∙_}
-use Prim.Native.Nat.{_+_, _*_}
-use Rattle.numbers.specs.Signal.{at}
+-- `level::work::unlift_set` meets its contract: one row after the other, as long as they are lines'. Assumes nothing.
+use mathlib.Core.Path.{_∙_}
 use borrow.Author.Needs.{needs}
-use Rattle.level.specs.Slots.{rowUnlifted}
-use Rattle.level.proofs.SlotLaws.{unlifted-both, unlifted-one}
+use borrow.Author.Tests.{not-true, not-false}
+use Rattle.numbers.specs.Signal.{at}
+use Rattle.lifting.specs.Grid.{side}
+use Rattle.level.proofs.WorkLaws.{told-no, told-yes, set-low, set-high}
+use Rattle.level.proofs.KeptLaws.{kept-both}
 use Rattle.level.proofs.work.unlift_set.Statement.{statement}
 use Rattle.level.proofs.work.unlift_set.Tie as tie
 
-mul-unlift-row : tie.Need-mul-unlift-row
-mul-unlift-row c = search needs
-
-unlift-row-requires : tie.Need-unlift-row-requires
-unlift-row-requires c κs = search needs
-
-mul-if1 : tie.Need-mul-if1
-mul-if1 c = search needs
-
-add-if1 : tie.Need-add-if1
-add-if1 c = search needs
-
-mul-unlift-row-2 : tie.Need-mul-unlift-row-2
-mul-unlift-row-2 c = search needs
-
-add-unlift-row : tie.Need-add-unlift-row
-add-unlift-row c = search needs
-
-unlift-row-requires-2 : tie.Need-unlift-row-requires-2
-unlift-row-requires-2 c κs = search needs
+unlift-low-requires : tie.Need-unlift-low-requires
+unlift-low-requires c κs = search needs
 
 same-length : tie.Need-same-length
-same-length c = c .before .unlift-row2 .kept .0 ∙ c .before .before .before .before .before .unlift-row .kept .0
+same-length c = c .before .before .unlift-low .kept .0
 
 returns : tie.Need-returns
 returns c =
-    let two = c .before in
-    let taken = two .before .before in
-    let one = taken .before .before in
-    let a = one .before .before .args in
-    two .unlift-row2 .ensures ∙ ap (rowUnlifted (a .w) (2 * a .n + 1)) (one .unlift-row .ensures)
-    ∙ sym (unlifted-both (a .w) (a .h) (a .n) (at (a .stretch .now)) (taken .if1 .taken))
+    let one = c .before .before in
+    let a = one .before .before .args in (
+      set-low (side (a .x) (a .w)) (side (a .y) (a .h)) (a .n) _
+          (told-no (one .unlift-low .result) (at (one .unlift-low .last .0)) _ (one .unlift-low .ensures .0) (not-true _ (c .if1 .taken))),
+      one .unlift-low .ensures .1,
+    )
+
+unlift-high-requires : tie.Need-unlift-high-requires
+unlift-high-requires c κs = search needs
 
 same-length-2 : tie.Need-same-length-2
-same-length-2 c = c .before .before .unlift-row .kept .0
+same-length-2 c = c .before .unlift-high .kept .0 ∙ c .before .before .before .before .before .unlift-low .kept .0
 
 returns-2 : tie.Need-returns-2
 returns-2 c =
-    let one = c .before .before in
-    let a = one .before .before .args in
-    one .unlift-row .ensures ∙ sym (unlifted-one (a .w) (a .h) (a .n) (at (a .stretch .now)) (c .if1 .left))
+    let two = c .before in
+    let went = two .before .before in
+    let one = went .before .before in
+    let a = one .before .before .args in (
+      two .unlift-high .ensures .0
+          ∙ set-high (side (a .x) (a .w)) (side (a .y) (a .h)) (a .n) _ _
+          (told-yes (one .unlift-low .result) (at (one .unlift-low .last .0)) _ (one .unlift-low .ensures .0) (not-false _ (went .if1 .left))),
+      kept-both _ _ _ _ (one .unlift-low .ensures .1) (two .unlift-high .ensures .1),
+    )
 
 pub unlift-set-spec : {M : Type 1} → statement M
 unlift-set-spec =
     tie.close
-    (tie.spec
-    mul-unlift-row
-    unlift-row-requires
-    mul-if1
-    add-if1
-    mul-unlift-row-2
-    add-unlift-row
-    unlift-row-requires-2
-    same-length
-    returns
-    same-length-2
-    returns-2)
+    (tie.spec unlift-low-requires same-length returns unlift-high-requires same-length-2 returns-2)

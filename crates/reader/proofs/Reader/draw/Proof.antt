@@ -11,10 +11,11 @@ use Rattle.numbers.proofs.Parts.{length-mid}
 use Rattle.areas.proofs.AreaLaws.{did}
 use Rattle.level.specs.Rebuilding.{widest}
 use Rattle.level.proofs.WorkLaws.{told-no, told-yes}
-use Rattle.reader.proofs.StoreLaws.{first-room}
-use Rattle.reader.proofs.QuestionLaws.{counts-shape, counts-length, store-in, due-in}
+use Rattle.wavelet.proofs.StoreLaws.{first-room}
+use Rattle.reader.specs.State.{columns}
+use Rattle.reader.proofs.QuestionLaws.{counts-small, counts-length, store-in, due-in}
 use Rattle.reader.proofs.CallLaws.{store-14, draw-early, draw-none, draw-12, draw-last, draw-no, draw-nothing, draw-yes, draw-end, fits-yes, fits-no}
-use Rattle.reader.proofs.CallLaws.{drawn-reader, drawn-row, zero-kept}
+use Rattle.reader.proofs.CallLaws.{drawn-reader, drawn-row, enter-is, zero-kept}
 use Rattle.reader.proofs.Keeps.{draw-also}
 use Rattle.reader.proofs.Reader.draw.Statement.{statement}
 use Rattle.reader.proofs.Reader.draw.Tie as tie
@@ -67,9 +68,9 @@ settle-requires c κs =
 row-place-requires : tie.Need-row-place-requires
 row-place-requires c κs = tt
 
-add-e : tie.Need-add-e
-add-e c =
-    let call = c .before .before .before in
+add-row-place : tie.Need-add-row-place
+add-row-place c =
+    let call = c .before .before .before .before in
     let fits = call .before .before in
     let due = fits .before in
     let next = due .before .before in
@@ -78,12 +79,26 @@ add-e c =
     let a = start .args in
     let s = a .self in
     let one = store-in s _ (sym (ok .before .store-question .ensures) ∙ ok .if1 .left) in
-    let shape = counts-shape s (one .0) in
-    omega (arith, shape .1, c .row-place .ensures .1)
+    let shape = counts-small s (one .0) in
+    omega (arith, shape .2, shape .4)
+
+add-e : tie.Need-add-e
+add-e c =
+    let call = c .before .before .before .before .before in
+    let fits = call .before .before in
+    let due = fits .before in
+    let next = due .before .before in
+    let ok = next .before in
+    let start = ok .before .before .before in
+    let a = start .args in
+    let s = a .self in
+    let one = store-in s _ (sym (ok .before .store-question .ensures) ∙ ok .if1 .left) in
+    let shape = counts-small s (one .0) in
+    omega (arith, shape .0, c .row-place .ensures .1)
 
 mul-draw-heights : tie.Need-mul-draw-heights
 mul-draw-heights c =
-    let call = c .before .before .before in
+    let call = c .before .before .before .before .before in
     let fits = call .before .before in
     let due = fits .before in
     let next = due .before .before in
@@ -92,15 +107,15 @@ mul-draw-heights c =
     let a = start .args in
     let s = a .self in
     let one = store-in s _ (sym (ok .before .store-question .ensures) ∙ ok .if1 .left) in
-    let shape = counts-shape s (one .0) in
-    omega (arith, shape .1, c .row-place .ensures .1)
+    let shape = counts-small s (one .0) in
+    omega (arith, shape .0, c .row-place .ensures .1)
 
 sub-draw-heights : tie.Need-sub-draw-heights
 sub-draw-heights c = omega arith
 
 part-draw-heights-start : tie.Need-part-draw-heights-start
 part-draw-heights-start c =
-    let call = c .before .before .before .before in
+    let call = c .before .before .before .before .before .before in
     let fits = call .before .before in
     let due = fits .before in
     let next = due .before .before in
@@ -109,12 +124,12 @@ part-draw-heights-start c =
     let a = start .args in
     let s = a .self in
     let one = store-in s _ (sym (ok .before .store-question .ensures) ∙ ok .if1 .left) in
-    let shape = counts-shape s (one .0) in
-    omega (arith, shape .1, c .before .row-place .ensures .1, one .1, first-room (s .width) (s .levels) (one .0 .deep .0), call .settle .kept .1 .0)
+    let shape = counts-small s (one .0) in
+    omega (arith, shape .0, c .before .row-place .ensures .1, one .1, first-room (columns s) (s .levels) (one .0 .deep .0), call .settle .kept .1 .0)
 
 part-draw-heights-end : tie.Need-part-draw-heights-end
 part-draw-heights-end c =
-    let call = c .before .before .before .before in
+    let call = c .before .before .before .before .before .before in
     let fits = call .before .before in
     let due = fits .before in
     let next = due .before .before in
@@ -123,15 +138,15 @@ part-draw-heights-end c =
     let a = start .args in
     let s = a .self in
     let one = store-in s _ (sym (ok .before .store-question .ensures) ∙ ok .if1 .left) in
-    let shape = counts-shape s (one .0) in
-    omega (arith, shape .1, c .before .row-place .ensures .1, one .1, first-room (s .width) (s .levels) (one .0 .deep .0), call .settle .kept .1 .0)
+    let shape = counts-small s (one .0) in
+    omega (arith, shape .0, c .before .row-place .ensures .1, one .1, first-room (columns s) (s .levels) (one .0 .deep .0), call .settle .kept .1 .0)
 
 draw-heights-requires : tie.Need-draw-heights-requires
 draw-heights-requires c κs = tt
 
 add-d : tie.Need-add-d
 add-d c =
-    let call = c .before .before .before .before .before .before .before .before .before .before in
+    let call = c .before .before .before .before .before .before .before .before .before .before .before .before in
     let fits = call .before .before in
     let due = fits .before in
     let next = due .before .before in
@@ -140,12 +155,12 @@ add-d c =
     let a = start .args in
     let s = a .self in
     let one = store-in s _ (sym (ok .before .store-question .ensures) ∙ ok .if1 .left) in
-    let shape = counts-shape s (one .0) in
-    omega (arith, shape .3, shape .4)
+    let shape = counts-small s (one .0) in
+    omega (arith, shape .2, shape .4)
 
-enter-of-requires : tie.Need-enter-of-requires
-enter-of-requires c κs =
-    let call = c .before .before .before .before .before .before .before .before .before .before in
+dive-from-requires : tie.Need-dive-from-requires
+dive-from-requires c κs =
+    let call = c .before .before .before .before .before .before .before .before .before .before .before .before in
     let fits = call .before .before in
     let due = fits .before in
     let next = due .before .before in
@@ -154,22 +169,22 @@ enter-of-requires c κs =
     let a = start .args in
     let s = a .self in
     let one = store-in s _ (sym (ok .before .store-question .ensures) ∙ ok .if1 .left) in
-    let shape = counts-shape s (one .0) in
+    let shape = counts-small s (one .0) in
     let draws = due-in s (sym (due .before .draw-due .ensures) ∙ not-false _ (due .if2 .left)) in
-    ((shape .0, shape .1, shape .2, shape .3, omega (arith, draws .0)), one .0 .deep .1)
+    (omega arith, one .0 .deep .1, shape .0, shape .2, omega (arith, draws .0))
 
 moved-requires : tie.Need-moved-requires
 moved-requires c κs = tt
 
 same-length : tie.Need-same-length
-same-length c = c .before .before .before .before .before .before .before .before .before .before .before .before .settle .kept .1 .0
+same-length c = c .before .before .before .before .before .before .before .before .before .before .before .before .before .before .settle .kept .1 .0
 
 same-length-2 : tie.Need-same-length-2
-same-length-2 c = c .before .before .before .before .before .draw-heights .kept .1 .0
+same-length-2 c = c .before .before .before .before .before .draw-heights .kept .1 .1 .0
 
 returns-4 : tie.Need-returns-4
 returns-4 c =
-    let call = c .before .before .before .before .before .before .before .before .before .before .before .before in
+    let call = c .before .before .before .before .before .before .before .before .before .before .before .before .before .before in
     let fits = call .before .before in
     let due = fits .before in
     let next = due .before .before in
@@ -180,15 +195,15 @@ returns-4 c =
     let enter = c .before in
     let drawing = c .before .before .before .before .before in
     let place = drawing .before .before .before .before in
-    let settled = place .before in
+    let settled = place .before .before .before in
     let one = store-in s _ (sym (ok .before .store-question .ensures) ∙ ok .if1 .left) in
     let n = length (a .store .now) in
     let m = length (a .out .now) in
     let p = place .row-place .result in
     let y = call .settle .last .1 .0 in
     let w = s .width in
-    let room = first-room w (s .levels) (one .0 .deep .0) in
-    let stands = did _ _ _ _ (le-leb w widest (counts-shape s (one .0) .1)) (place .row-place .ensures .0) in
+    let room = first-room (columns s) (s .levels) (one .0 .deep .0) in
+    let stands = did _ _ _ _ (le-leb w widest (counts-small s (one .0) .0)) (place .row-place .ensures .0) in
     let part : p + (p + w - p) ≤ length y = omega (arith, place .row-place .ensures .1, one .1, room, call .settle .kept .1 .0) in
     let fits-out = le-leb (length (midOf p (p + w - p) y)) m (omega (arith, length-mid p (p + w - p) y part)) in
     let made = told-yes (call .settle .result) (at y) _ (call .settle .ensures .0) (settled .if4 .taken) in
@@ -197,9 +212,9 @@ returns-4 c =
     (draw-yes s _ _ _ _ _ _
     (fits-yes _ _ made ∙ draw-last s n m (at (a .store .now)) (sym (ok .before .store-question .ensures) ∙ ok .if1 .left) is-due (omega arith))
     is-due
-    (drawn-reader s (c .moved .result) _ (enter .enter-of .result) refl (enter .enter-of .ensures) (c .moved .ensures))
+    (drawn-reader s (c .moved .result) _ (enter .dive-from .result) refl (enter-is _ _ _ _ _ (enter .dive-from .ensures)) (c .moved .ensures))
     made
-    (drawn-row w (s .drawn) p (p + w - p) y _ _ stands (omega arith) part (did _ _ _ _ fits-out (drawing .draw-heights .ensures .1))))
+    (drawn-row s p (p + w - p) y _ _ stands (omega arith) part (did _ _ _ _ fits-out (drawing .draw-heights .ensures .1))))
 
 store-length-requires : tie.Need-store-length-requires
 store-length-requires c κs = tt
@@ -237,7 +252,7 @@ returns-5 c =
     (fits-no _ made ∙ draw-last s n m (at (a .store .now)) (sym (ok .before .store-question .ensures) ∙ ok .if1 .left)
     (sym (due .before .draw-due .ensures) ∙ not-false _ (due .if2 .left)) (omega arith))
     (c .over .ensures)
-    (zero-kept (s .width) (s .levels) _ _ _ _ long-is (call .settle .ensures .1) (did _ _ _ _ room (clear .clear .ensures .1))))
+    (zero-kept (columns s) (s .levels) _ _ _ _ long-is (call .settle .ensures .1) (did _ _ _ _ room (clear .clear .ensures .1))))
 
 pub draw-spec : {M : Type 1} → statement M
 draw-spec =
@@ -250,6 +265,7 @@ draw-spec =
     returns-2
     returns-3
     settle-requires
+    add-row-place
     row-place-requires
     add-e
     mul-draw-heights
@@ -258,7 +274,7 @@ draw-spec =
     part-draw-heights-end
     draw-heights-requires
     add-d
-    enter-of-requires
+    dive-from-requires
     moved-requires
     same-length
     same-length-2

@@ -5,6 +5,7 @@ use lib.ListN.{length}
 use borrow.Author.Tests.{le-leb}
 use Rattle.areas.proofs.AreaLaws.{did}
 use Rattle.numbers.specs.Signal.{at}
+use Rattle.reader.specs.State.{columns}
 use Rattle.level.proofs.WorkLaws.{told-no, told-yes}
 use Rattle.reader.proofs.QuestionLaws.{counts-length, store-in, row-asked}
 use Rattle.reader.proofs.CallLaws.{store-14, row-14, feed-early, feed-late, feed-last, feed-no, feed-yes, feed-end}
@@ -71,8 +72,9 @@ place-fed-requires c κs =
     let last = c .before .before .before .before in
     let asked = last .before in
     let next = asked .before .before in
+    let one = store-in _ _ (sym (next .before .before .store-question .ensures) ∙ next .before .if1 .left) in
     let two = row-asked _ _ _ (sym (asked .before .row-question .ensures) ∙ asked .if2 .left) in
-    (next .next-of .ensures, omega (arith, next .next-of .ensures .spot .level, two .0), last .completes .ensures)
+    (one .0, next .next-of .ensures, omega (arith, next .next-of .ensures .spot .level, two .0), last .completes .ensures)
 
 moved-requires : tie.Need-moved-requires
 moved-requires c κs = tt
@@ -134,7 +136,7 @@ returns-4 c =
     let made = told-no (call .feed-row .result) (at (call .feed-row .last .1 .0)) _ (call .feed-row .ensures .0) (failed .if3 .left) in
     let v = at (a .run .now) in
     let x = at (a .store .now) in
-    let zeroed = zero-kept (s .width) (s .levels) _ _ _ _ long-is (call .feed-row .ensures .1) (did _ _ _ _ room (clear .clear .ensures .1)) in
+    let zeroed = zero-kept (columns s) (s .levels) _ _ _ _ long-is (call .feed-row .ensures .1) (did _ _ _ _ room (clear .clear .ensures .1)) in
     feed-also (a .self) n m x v (feed-end s _ _ _ _ _ (fits-no _ made ∙ feed-last s n m v x one two) (c .over .ensures) zeroed)
 
 pub feed-spec : {M : Type 1} → statement M

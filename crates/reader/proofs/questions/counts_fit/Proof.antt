@@ -2,8 +2,8 @@
 use mathlib.Core.Path.{_∙_, sym}
 use native.Mathlib.Omega.{arith}
 use borrow.Author.Tests.{not-true, not-false}
-use Rattle.wavelet.specs.Limits.{maxWidth, maxHeight, maxLevels}
-use Rattle.reader.proofs.QuestionLaws.{counts-1, counts-2, counts-3, counts-4, counts-5, counts-6}
+use Rattle.wavelet.specs.Limits.{maxWidth, maxHeight, maxLevels, maxOrigin}
+use Rattle.reader.proofs.QuestionLaws.{counts-1, counts-2, counts-3, counts-x, counts-y, counts-4, counts-5, counts-6}
 use Rattle.reader.proofs.questions.counts_fit.Statement.{statement}
 use Rattle.reader.proofs.questions.counts_fit.Tie as tie
 
@@ -35,34 +35,59 @@ returns-3 c =
     (sym (c .before .is-within3 .ensures) ∙ not-true _ (c .if3 .taken))
 
 returns-4 : tie.Need-returns-4
-unfolding maxWidth maxHeight maxLevels
+unfolding maxWidth maxHeight maxLevels maxOrigin
 returns-4 c =
     let d = c .before .before in
     let b = d .before .before in
     let a = b .before .before in
-    counts-4 _ (sym (a .before .is-within .ensures) ∙ not-false _ (a .if1 .left)) (sym (b .before .is-within2 .ensures) ∙ not-false _ (b .if2 .left))
+    counts-x _ (sym (a .before .is-within .ensures) ∙ not-false _ (a .if1 .left)) (sym (b .before .is-within2 .ensures) ∙ not-false _ (b .if2 .left))
     (sym (d .before .is-within3 .ensures) ∙ not-false _ (d .if3 .left)) (c .if4 .taken)
 
 returns-5 : tie.Need-returns-5
-unfolding maxWidth maxHeight maxLevels
+unfolding maxWidth maxHeight maxLevels maxOrigin
 returns-5 c =
-    let f = c .before .before in
-    let d = f .before .before in
+    let e = c .before .before in
+    let d = e .before .before in
     let b = d .before .before in
     let a = b .before .before in
-    counts-5 _ (sym (a .before .is-within .ensures) ∙ not-false _ (a .if1 .left)) (sym (b .before .is-within2 .ensures) ∙ not-false _ (b .if2 .left))
+    counts-y _ (sym (a .before .is-within .ensures) ∙ not-false _ (a .if1 .left)) (sym (b .before .is-within2 .ensures) ∙ not-false _ (b .if2 .left))
     (sym (d .before .is-within3 .ensures) ∙ not-false _ (d .if3 .left)) (omega arith) (c .if5 .taken)
 
 returns-6 : tie.Need-returns-6
-unfolding maxWidth maxHeight maxLevels
+unfolding maxWidth maxHeight maxLevels maxOrigin
 returns-6 c =
-    let g = c .before in
+    let f = c .before .before in
+    let e = f .before .before in
+    let d = e .before .before in
+    let b = d .before .before in
+    let a = b .before .before in
+    counts-4 _ (sym (a .before .is-within .ensures) ∙ not-false _ (a .if1 .left)) (sym (b .before .is-within2 .ensures) ∙ not-false _ (b .if2 .left))
+    (sym (d .before .is-within3 .ensures) ∙ not-false _ (d .if3 .left)) (omega arith) (omega arith) (c .if6 .taken)
+
+returns-7 : tie.Need-returns-7
+unfolding maxWidth maxHeight maxLevels maxOrigin
+returns-7 c =
+    let g = c .before .before in
     let f = g .before .before in
-    let d = f .before .before in
+    let e = f .before .before in
+    let d = e .before .before in
+    let b = d .before .before in
+    let a = b .before .before in
+    counts-5 _ (sym (a .before .is-within .ensures) ∙ not-false _ (a .if1 .left)) (sym (b .before .is-within2 .ensures) ∙ not-false _ (b .if2 .left))
+    (sym (d .before .is-within3 .ensures) ∙ not-false _ (d .if3 .left)) (omega arith) (omega arith) (omega arith) (c .if7 .taken)
+
+returns-8 : tie.Need-returns-8
+unfolding maxWidth maxHeight maxLevels maxOrigin
+returns-8 c =
+    let h = c .before in
+    let g = h .before .before in
+    let f = g .before .before in
+    let e = f .before .before in
+    let d = e .before .before in
     let b = d .before .before in
     let a = b .before .before in
     counts-6 _ (sym (a .before .is-within .ensures) ∙ not-false _ (a .if1 .left)) (sym (b .before .is-within2 .ensures) ∙ not-false _ (b .if2 .left))
-    (sym (d .before .is-within3 .ensures) ∙ not-false _ (d .if3 .left)) (omega arith) (omega arith)
+    (sym (d .before .is-within3 .ensures) ∙ not-false _ (d .if3 .left)) (omega arith) (omega arith) (omega arith) (omega arith)
 
 pub counts-fit-spec : {M : Type 1} → statement M
 counts-fit-spec =
@@ -76,4 +101,6 @@ counts-fit-spec =
     returns-3
     returns-4
     returns-5
-    returns-6)
+    returns-6
+    returns-7
+    returns-8)

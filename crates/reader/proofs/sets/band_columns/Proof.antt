@@ -1,18 +1,27 @@
--- `reader::sets::band_columns` meets its contract: half of the side, by the band's code. Assumes nothing.
+-- `reader::sets::band_columns` meets its contract: a half of the side, by the band's code. Assumes nothing.
 use mathlib.Core.Path.{sym, _∙_}
-use Rattle.wavelet.proofs.SizeLaws.{count-hi}
+use Rattle.lifting.specs.Grid.{side}
 use Rattle.reader.proofs.SetLaws.{across-even, across-odd}
 use Rattle.reader.proofs.sets.band_columns.Statement.{statement}
 use Rattle.reader.proofs.sets.band_columns.Tie as tie
 
-half-requires : tie.Need-half-requires
-half-requires c κs = tt
+low-count-requires : tie.Need-low-count-requires
+low-count-requires c κs = tt
+
+high-count-requires : tie.Need-high-count-requires
+high-count-requires c κs = tt
 
 returns : tie.Need-returns
-returns c = c .half .ensures ∙ sym (across-even _ _ (c .before .before .pre) (c .before .if1 .taken))
+returns c =
+    let even = c .before in
+    let a = even .before .args in
+    c .low-count .ensures ∙ sym (across-even (side (a .x) (a .w)) (a .band) (even .before .pre) (even .if1 .taken))
 
 returns-2 : tie.Need-returns-2
-returns-2 c = sym (across-odd _ _ (c .before .pre) (c .if1 .left) ∙ count-hi _)
+returns-2 c =
+    let odd = c .before in
+    let a = odd .before .args in
+    c .high-count .ensures ∙ sym (across-odd (side (a .x) (a .w)) (a .band) (odd .before .pre) (odd .if1 .left))
 
 pub band-columns-spec : {M : Type 1} → statement M
-band-columns-spec = tie.close (tie.spec half-requires returns returns-2)
+band-columns-spec = tie.close (tie.spec low-count-requires high-count-requires returns returns-2)

@@ -3,7 +3,7 @@ use mathlib.Core.Path.{ap}
 use native.Mathlib.Omega.{arith}
 use lib.Dec.{leb}
 use Rattle.reader.specs.Machine.{lastOfSet}
-use Rattle.reader.proofs.QuestionLaws.{counts-shape}
+use Rattle.reader.proofs.QuestionLaws.{counts-small}
 use Rattle.reader.proofs.StepLaws.{spot-in}
 use Rattle.reader.proofs.steps.completes.Statement.{statement}
 use Rattle.reader.proofs.steps.completes.Tie as tie
@@ -21,7 +21,7 @@ band-at-requires c κs =
     let start = c .before .before in
     let counts = start .pre .0 in
     let near = spot-in _ _ (start .pre .1 .spot) (start .pre .2) in
-    (counts-shape (start .args .s) counts, start .pre .1 .at (start .pre .2), omega (arith, near .0, counts .at, counts .deep .1))
+    (counts-small (start .args .s) counts, start .pre .1 .at (start .pre .2), omega (arith, near .0, counts .at, counts .deep .1))
 
 returns : tie.Need-returns
 unfolding lastOfSet

@@ -5,12 +5,13 @@ use borrow.Author.Tests.{not-true, not-false}
 use Prim.Native.Nat.{_+_, _-_}
 use Rattle.numbers.specs.Signal.{at}
 use Rattle.reader.specs.Machine.{finished}
+use Rattle.reader.specs.State.{columns, rows}
 use Rattle.level.proofs.WorkLaws.{told-no, told-yes}
 use Rattle.reader.proofs.WalkLaws.{finish-is}
-use Rattle.reader.proofs.StoreLaws.{store-in}
+use Rattle.wavelet.proofs.StoreLaws.{store-in}
 use Rattle.level.proofs.KeptLaws.{kept-both, kept-is, kept-more}
 use Rattle.reader.proofs.KeptLaws.{fed-kept}
-use Rattle.reader.proofs.QuestionLaws.{counts-shape}
+use Rattle.reader.proofs.QuestionLaws.{counts-small}
 use Rattle.reader.proofs.StepLaws.{spot-in, feed-failed, feed-on, length-back}
 use Rattle.reader.proofs.steps.feed_row.Statement.{statement}
 use Rattle.reader.proofs.steps.feed_row.Tie as tie
@@ -38,11 +39,11 @@ put-row-requires c κs =
     let near = spot-in _ _ (start .pre .1 .spot) (omega arith) in
     let counts = start .pre .0 in
     let call = c .before .before .before .before in (
-      counts-shape s counts,
+      counts-small s counts,
       omega (arith, near .0, counts .at, counts .deep .1),
       start .pre .1 .at (start .pre .2),
       near .1,
-      omega (arith, store-in (s .width) (start .args .n .spot .level - 1 + 1) (s .levels) (omega (arith, near .0, counts .at)), call .settle .kept .1 .0),
+      omega (arith, store-in (columns s) (start .args .n .spot .level - 1 + 1) (s .levels) (omega (arith, near .0, counts .at)), call .settle .kept .1 .0),
       start .pre .5 ∙ length-back s (start .args .n .spot) (start .pre .1 .spot),
     )
 
@@ -54,18 +55,18 @@ finish-requires c κs =
     let near = spot-in _ _ (start .pre .1 .spot) (omega arith) in
     let counts = start .pre .0 in
     let within = start .pre .1 .at (start .pre .2) in (
-      counts-shape (start .args .s) counts,
+      counts-small (start .args .s) counts,
       counts .deep .1,
       omega (arith, near .0, counts .at),
       within,
-      omega (arith, put .put-row .kept .1 .1 .1 .0, call .settle .kept .1 .0),
+      omega (arith, put .put-row .kept .1 .1 .1 .1 .1 .0, call .settle .kept .1 .0),
     )
 
 same-length-2 : tie.Need-same-length-2
 same-length-2 c =
     let done = c .before in
     let put = done .before .before .before in
-    done .finish .kept .1 .1 .1 .1 .0 ∙ put .put-row .kept .1 .1 .1 .0 ∙ put .before .before .before .before .before .settle .kept .1 .0
+    done .finish .kept .1 .1 .1 .1 .1 .1 .0 ∙ put .put-row .kept .1 .1 .1 .1 .1 .0 ∙ put .before .before .before .before .before .settle .kept .1 .0
 
 returns-2 : tie.Need-returns-2
 returns-2 c =
@@ -76,15 +77,17 @@ returns-2 c =
     let start = call .before .before in
     let s = start .args .s in
     let p = start .args .n .spot in
+    let n = start .args .n .at .set in
     let due = start .pre .1 .spot in
     let near = spot-in _ _ due (omega arith) in
     let settled = told-yes (call .settle .result) (at (call .settle .last .1 .0)) _ (call .settle .ensures .0) (not-false _ (on .if1 .left)) in
-    let room = store-in (s .width) (p .level - 1 + 1) (s .levels) (omega (arith, near .0, start .pre .0 .at)) in
-    let fed = kept-is _ _ _ _ (kept-more _ _ _ _ room (fed-kept (s .width) (s .height) (s .drawn) (p .level - 1) (p .band) _ _)) (put .put-row .ensures) in (
+    let room = store-in (columns s) (p .level - 1 + 1) (s .levels) (omega (arith, near .0, start .pre .0 .at)) in
+    let own = fed-kept (columns s) (rows s) (p .level - 1) n (p .band) _ _ in
+    let fed = kept-is _ _ _ _ (kept-more _ _ _ _ room own) (put .put-row .ensures) in (
       done .finish .ensures .0
-          ∙ finish-is (s .width) (s .height) (s .levels) (s .drawn) (p .level - 1) (p .band) _ (start .pre .3) _
-          ∙ ap (λ y. finished (s .width) (s .height) (s .levels) (s .drawn) (p .level - 1) (p .band) y) (put .put-row .ensures)
-          ∙ feed-on s p due _ _ _ (omega arith) settled,
+          ∙ finish-is (columns s) (rows s) (s .levels) (s .drawn) (p .level - 1) n (p .band) _ _ (start .pre .3)
+          ∙ ap (λ y. finished (columns s) (rows s) (s .levels) (s .drawn) (p .level - 1) n (p .band) y) (put .put-row .ensures)
+          ∙ feed-on s p due _ _ _ n (omega arith) (start .pre .1 .set (start .pre .2)) settled,
       kept-both _ _ _ _ (kept-both _ _ _ _ (call .settle .ensures .1) fed) (done .finish .ensures .1),
     )
 

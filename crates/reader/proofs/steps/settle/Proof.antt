@@ -1,7 +1,7 @@
 -- `reader::steps::settle` meets its contract: the walk down to the row wanted. Assumes nothing.
 use mathlib.Core.Path.{_∙_}
 use native.Mathlib.Omega.{arith}
-use Rattle.reader.proofs.QuestionLaws.{counts-shape}
+use Rattle.reader.proofs.QuestionLaws.{counts-small}
 use Rattle.reader.proofs.StepLaws.{settles-is}
 use Rattle.reader.proofs.steps.settle.Statement.{statement}
 use Rattle.reader.proofs.steps.settle.Tie as tie
@@ -10,10 +10,10 @@ settle-requires : tie.Need-settle-requires
 settle-requires c κs =
     let start = c .before in
     let counts = start .pre .0 in
-    (counts-shape (start .args .s) counts, counts .deep .1, counts .at, omega arith)
+    (counts-small (start .args .s) counts, counts .deep .1, counts .at, omega arith)
 
 same-length : tie.Need-same-length
-same-length c = c .before .settle .kept .1 .1 .1 .1 .0
+same-length c = c .before .settle .kept .1 .1 .1 .1 .1 .1 .0
 
 returns : tie.Need-returns
 returns c =

@@ -1,8 +1,8 @@
 -- `reader::walk::band_at` meets its contract: the first band that the level's set asks for. Assumes nothing.
 use mathlib.Core.Path.{_∙_}
 use native.Mathlib.Omega.{arith}
+use Rattle.lifting.specs.Grid.{side}
 use Rattle.wavelet.specs.Limits.{maxLevels}
-use Rattle.wavelet.proofs.SizeLaws.{size-positive}
 use Rattle.reader.proofs.PartLaws.{level-in}
 use Rattle.reader.proofs.WalkLaws.{band-is}
 use Rattle.reader.proofs.walk.band_at.Statement.{statement}
@@ -14,16 +14,14 @@ add-next-band c = omega arith
 
 next-band-requires : tie.Need-next-band-requires
 next-band-requires c κs =
-    let a = c .args in
-    let is = c .pre .1 in
-    let here = level-in _ _ _ _ (a .l) is (omega arith) (omega arith) (omega arith) in
-    (omega (arith, is .width, size-positive (a .k) (a .width) (c .pre .0 .0)), here .3)
+    let here = level-in _ _ _ (c .args .l) (c .pre .1) (omega arith) (omega arith) in
+    omega (arith, here .1, here .2, here .3)
 
 returns : tie.Need-returns
 returns c =
     let start = c .before in
     let a = start .args in
-    c .next-band .ensures ∙ band-is (a .width) (a .height) (a .levels) (a .drawn) (a .k) (a .band) (a .l) (start .pre .1)
+    c .next-band .ensures ∙ band-is (side (a .x) (a .width)) (side (a .y) (a .height)) (a .levels) (a .drawn) (a .k) (a .band) (a .l) (start .pre .1)
 
 pub band-at-spec : {M : Type 1} → statement M
 band-at-spec = tie.close (tie.spec add-next-band next-band-requires returns)

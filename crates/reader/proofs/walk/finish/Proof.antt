@@ -1,4 +1,5 @@
 -- `reader::walk::finish` meets its contract: nothing, or the set worked out. Assumes nothing.
+use borrow.Author.Needs.{needs}
 use mathlib.Core.Path.{refl}
 use borrow.Author.Tests.{not-true, not-false}
 use Rattle.level.proofs.KeptLaws.{kept-none}
@@ -12,7 +13,7 @@ work-at-requires : tie.Need-work-at-requires
 work-at-requires c κs = c .before .before .pre
 
 same-length : tie.Need-same-length
-same-length c = c .before .work-at .kept .1 .1 .1 .1 .0
+same-length c = search needs
 
 returns-2 : tie.Need-returns-2
 returns-2 c =

@@ -1,30 +1,33 @@
 -- `reader::walk::half_place` meets its contract: the slot, and the half of it. Assumes nothing.
 use mathlib.Core.Path.{_∙_, ap}
 use native.Mathlib.Omega.{arith}
-use borrow.Author.Needs.{needs}
 use borrow.Author.Tests.{le-leb}
 use Rattle.areas.proofs.AreaLaws.{did}
+use Rattle.lifting.specs.Grid.{side}
+use Rattle.lifting.proofs.GridLaws.{counts}
 use Rattle.level.specs.Rebuilding.{widest}
-use Rattle.wavelet.proofs.SizeLaws.{count-lo}
 use Rattle.level.specs.Slots.{rowPlace}
 use Rattle.reader.proofs.SetLaws.{set-row, half-even, half-odd}
 use Rattle.reader.proofs.walk.half_place.Statement.{statement}
 use Rattle.reader.proofs.walk.half_place.Tie as tie
 
 mul-row-place : tie.Need-mul-row-place
-mul-row-place c = search needs
+mul-row-place c = omega arith
 
 add-row-place : tie.Need-add-row-place
-add-row-place c = search needs
+add-row-place c = omega arith
 
 row-place-requires : tie.Need-row-place-requires
 row-place-requires c κs = tt
 
-half-requires : tie.Need-half-requires
-half-requires c κs = tt
+low-count-requires : tie.Need-low-count-requires
+low-count-requires c κs = tt
 
 add-result : tie.Need-add-result
-add-result c = omega (arith, count-lo (c .before .before .before .args .w), c .before .before .row-place .ensures .1)
+add-result c =
+    let place = c .before .before in
+    let a = place .before .args in
+    omega (arith, counts (side (a .x) (a .w)), c .low-count .ensures, place .row-place .ensures .1)
 
 returns : tie.Need-returns
 returns c =
@@ -32,7 +35,7 @@ returns c =
     let a = start .args in
     let is = did _ _ _ _ (le-leb (a .w) widest (omega arith)) (c .before .row-place .ensures .0) in
     let place = is ∙ ap (rowPlace (a .w)) (set-row (a .n) (a .band) (start .pre .0)) in
-    omega (arith, place, half-even (a .w) (a .band) (start .pre .0) (c .if1 .taken))
+    omega (arith, place, half-even (side (a .x) (a .w)) (a .band) (start .pre .0) (c .if1 .taken))
 
 returns-2 : tie.Need-returns-2
 returns-2 c =
@@ -41,7 +44,7 @@ returns-2 c =
     let a = start .args in
     let is = did _ _ _ _ (le-leb (a .w) widest (omega arith)) (odd .before .row-place .ensures .0) in
     let place = is ∙ ap (rowPlace (a .w)) (set-row (a .n) (a .band) (start .pre .0)) in
-    omega (arith, place, c .half .ensures, half-odd (a .w) (a .band) (start .pre .0) (odd .if1 .left))
+    omega (arith, place, c .low-count .ensures, half-odd (side (a .x) (a .w)) (a .band) (start .pre .0) (odd .if1 .left))
 
 pub half-place-spec : {M : Type 1} → statement M
 half-place-spec =
@@ -50,7 +53,7 @@ half-place-spec =
     mul-row-place
     add-row-place
     row-place-requires
-    half-requires
+    low-count-requires
     add-result
     returns
     returns-2)

@@ -1,42 +1,60 @@
 -- `reader::walk::level_at` meets its contract: a walk from level 1 on. Assumes nothing.
-use mathlib.Core.Path.{_≡_, _∙_, ap}
-use Prim.Native.Nat.{ℕ, _-_, _≤_, _<_, _^_}
+use mathlib.Core.Path.{_≡_}
+use Prim.Native.Nat.{_-_, _≤_, _<_, _^_}
 use native.Mathlib.Omega.{arith}
+use Rattle.lifting.specs.Grid.{side}
 use Rattle.wavelet.specs.Limits.{maxLevels}
-use Rattle.wavelet.specs.Levels.{size}
-use Rattle.reader.specs.Store.{stretchAt}
-use Rattle.reader.proofs.StoreLaws.{Walked, walk-start, walk-on, row-halved, stretch-small}
+use Rattle.reader.proofs.StoreLaws.{Ends, ends-start, ends-on, walked-level, stretch-small}
 use Rattle.reader.proofs.walk.level_at.Statement.{statement}
 use Rattle.reader.proofs.walk.level_at.Tie as tie
 
 abbrev Inv-loop : tie.InvT-loop
-Inv-loop width height drawn k start₀ w₀ h₀ r₀ i₀ start w h r i =
-    (i ≤ k) × (k ≤ maxLevels) × (width ≤ 2 ^ 16) × (drawn < 2 ^ 32) × Walked width height drawn i start w h r
+Inv-loop x width y height drawn k start₀ left₀ right₀ top₀ bottom₀ row₀ i₀ start left right top bottom row i =
+    (i ≤ k) × (k ≤ maxLevels) × (width ≤ 2 ^ 16) × (height < 2 ^ 32) × (drawn ≤ height)
+    × Ends (side x width) (side y height) drawn i start left right top bottom row
 
 abbrev μ-loop : tie.MeasureT-loop
-μ-loop width height drawn k start₀ w₀ h₀ r₀ i₀ start w h r i = k - i
+μ-loop x width y height drawn k start₀ left₀ right₀ top₀ bottom₀ row₀ i₀ start left right top bottom row i = k - i
+
+add-right : tie.Need-add-right Inv-loop μ-loop
+add-right c = omega arith
+
+add-bottom : tie.Need-add-bottom Inv-loop μ-loop
+add-bottom c = omega arith
+
+add-row : tie.Need-add-row Inv-loop μ-loop
+add-row c = omega arith
 
 loop-holds : tie.Need-loop-holds Inv-loop μ-loop
-loop-holds c = (omega arith, omega arith, omega arith, omega arith, walk-start _ _ _ (omega arith))
+loop-holds c = (omega arith, omega arith, omega arith, omega arith, omega arith, ends-start _ _ _)
+
+sub-start : tie.Need-sub-start Inv-loop μ-loop
+sub-start c = let a = c .before .loop .inv .5 in omega (arith, a .across)
 
 mul-start : tie.Need-mul-start Inv-loop μ-loop
-mul-start c = let a = c .before .loop .inv .4 in omega (arith, a .narrow)
+mul-start c = let a = c .before .loop .inv .5 in omega (arith, a .walked .narrow)
 
 add-start : tie.Need-add-start Inv-loop μ-loop
 unfolding maxLevels
 add-start c =
-    let a = c .before .loop .inv .4 in
+    let a = c .before .loop .inv .5 .walked in
     let args = c .before .before .args in
-    omega (arith, a .narrow, a .begins, stretch-small (args .width) (c .before .loop .i) (omega arith))
+    omega (arith, a .narrow, a .begins, stretch-small (side (args .x) (args .width)) (c .before .loop .i) (omega arith))
 
-half-requires : tie.Need-half-requires Inv-loop μ-loop
-half-requires c κs = tt
+next-start-requires : tie.Need-next-start-requires Inv-loop μ-loop
+next-start-requires c κs = tt
 
-half-requires-2 : tie.Need-half-requires-2 Inv-loop μ-loop
-half-requires-2 c κs = tt
+next-start-requires-2 : tie.Need-next-start-requires-2 Inv-loop μ-loop
+next-start-requires-2 c κs = tt
 
-half-requires-3 : tie.Need-half-requires-3 Inv-loop μ-loop
-half-requires-3 c κs = tt
+next-start-requires-3 : tie.Need-next-start-requires-3 Inv-loop μ-loop
+next-start-requires-3 c κs = tt
+
+next-start-requires-4 : tie.Need-next-start-requires-4 Inv-loop μ-loop
+next-start-requires-4 c κs = tt
+
+next-start-requires-5 : tie.Need-next-start-requires-5 Inv-loop μ-loop
+next-start-requires-5 c κs = tt
 
 add-i : tie.Need-add-i Inv-loop μ-loop
 unfolding maxLevels
@@ -47,32 +65,39 @@ loop-less c = omega arith
 
 loop-again : tie.Need-loop-again Inv-loop μ-loop
 loop-again c =
-    let two = c .before in
-    let one = two .before in
-    let inv = one .before .before .loop .inv in
-    (omega arith, inv .1, inv .2, inv .3, walk-on _ _ _ _ _ _ _ _ _ _ _ (inv .4) (one .half .ensures) (two .half2 .ensures) (c .half3 .ensures))
+    let bottom = c .before in
+    let top = bottom .before in
+    let right = top .before in
+    let left = right .before in
+    let inv = left .before .before .loop .inv in (
+      omega arith,
+      inv .1,
+      inv .2,
+      inv .3,
+      inv .4,
+      ends-on _ _ _ _ _ _ _ _ _ _ (inv .5) _ _ _ _ _ (left .next-start .ensures) (right .next-start2 .ensures) (top .next-start3 .ensures)
+          (bottom .next-start4 .ensures) (c .next-start5 .ensures),
+    )
+
+sub-h : tie.Need-sub-h Inv-loop μ-loop
+sub-h c = let a = c .before .loop .inv .5 in omega (arith, a .down)
+
+sub-r : tie.Need-sub-r Inv-loop μ-loop
+sub-r c = let a = c .before .loop .inv .5 in omega (arith, a .at)
 
 set-of-requires : tie.Need-set-of-requires Inv-loop μ-loop
-set-of-requires c κs = let inv = c .before .loop .inv in omega (arith, inv .4 .some, inv .4 .near, inv .3)
+set-of-requires c κs = let inv = c .before .loop .inv in omega (arith, inv .5 .walked .short, inv .5 .walked .near)
+
+sub-t20 : tie.Need-sub-t20 Inv-loop μ-loop
+sub-t20 c = let a = c .before .before .loop .inv .5 in omega (arith, a .across)
 
 returns : tie.Need-returns Inv-loop μ-loop
 returns c =
     let head = c .before .before in
-    let start = head .before in
-    let W = start .args .width in
-    let H = start .args .height in
-    let d = start .args .drawn in
-    let k = start .args .k in
-    let a = head .loop .inv .4 in
-    let e : head .loop .i ≡ k = omega arith in
-    let h : head .loop .h ≡ size k H = a .high ∙ ap (λ (i : ℕ). size i H) e in
-    let r : head .loop .r ≡ size k d = a .row ∙ ap (λ (i : ℕ). size i d) e in
-    record {
-      start = a .begins ∙ ap (stretchAt W) e;
-      width = a .wide ∙ ap (λ (i : ℕ). size i W) e;
-      height = h;
-      set = c .set-of .ensures ∙ cc (h, r, row-halved H d k (omega arith));
-    }
+    let a = head .before .args in
+    let e : head .loop .i ≡ a .k = omega arith in
+    walked-level (side (a .x) (a .width)) (side (a .y) (a .height)) (a .drawn) (a .k) _ _ _ _ _ _ _ e (head .loop .inv .5 .walked) (c .set-of .result)
+    (c .set-of .ensures)
 
 pub level-at-spec : {M : Type 1} → statement M
 level-at-spec =
@@ -80,14 +105,23 @@ level-at-spec =
     (tie.spec
     Inv-loop
     μ-loop
+    add-right
+    add-bottom
+    add-row
     loop-holds
+    sub-start
     mul-start
     add-start
-    half-requires
-    half-requires-2
-    half-requires-3
+    next-start-requires
+    next-start-requires-2
+    next-start-requires-3
+    next-start-requires-4
+    next-start-requires-5
     add-i
     loop-less
     loop-again
+    sub-h
+    sub-r
     set-of-requires
+    sub-t20
     returns)

@@ -5,25 +5,27 @@ use native.Mathlib.Omega.{arith}
 use lib.ListN.{length}
 use borrow.Author.Tests.{not-true, not-false}
 use Rattle.numbers.specs.Signal.{at}
+use Rattle.lifting.specs.Grid.{side}
 use Rattle.wavelet.specs.Limits.{maxLevels}
 use Rattle.wavelet.specs.Store.{storeLength}
-use Rattle.reader.specs.Machine.{settled}
-use Rattle.reader.specs.Inside.{Shape}
 use Rattle.level.specs.Rebuilding.{Kept}
 use Rattle.level.proofs.WorkLaws.{told-no, told-yes}
-use Rattle.reader.proofs.WalkLaws.{settle-none, settle-failed, settle-on}
 use Rattle.level.proofs.KeptLaws.{kept-none, kept-both}
+use Rattle.reader.specs.Machine.{settled}
+use Rattle.reader.specs.Inside.{Small}
+use Rattle.reader.proofs.WalkLaws.{settle-none, settle-failed, settle-on}
 use Rattle.reader.proofs.walk.settle.Statement.{statement}
 use Rattle.reader.proofs.walk.settle.Tie as tie
 
 abbrev Inv-loop : tie.InvT-loop
-Inv-loop width height levels drawn store₀ from to k₀ store k =
-    Shape width height drawn × (levels ≤ maxLevels) × (k ≤ levels) × (storeLength width levels ≤ length store₀) × (length store ≡ length store₀)
-    × (settled width height levels drawn to k (at store) ≡ settled width height levels drawn to from (at store₀))
-    × Kept (storeLength width levels) (at store₀) (at store)
+Inv-loop x width y height levels drawn store₀ from to k₀ store k =
+    Small (side x width) (side y height) drawn × (levels ≤ maxLevels) × (k ≤ levels) × (storeLength (side x width) levels ≤ length store₀)
+    × (length store ≡ length store₀)
+    × (settled (side x width) (side y height) levels drawn to k (at store) ≡ settled (side x width) (side y height) levels drawn to from (at store₀))
+    × Kept (storeLength (side x width) levels) (at store₀) (at store)
 
 abbrev μ-loop : tie.MeasureT-loop
-μ-loop width height levels drawn store₀ from to k₀ store k = k
+μ-loop x width y height levels drawn store₀ from to k₀ store k = k
 
 loop-holds : tie.Need-loop-holds Inv-loop μ-loop
 loop-holds c = (c .pre .0, omega arith, omega arith, omega arith, refl, refl, kept-none _ _)
@@ -38,18 +40,21 @@ work-at-requires : tie.Need-work-at-requires Inv-loop μ-loop
 work-at-requires c κs =
     let level = c .before in
     let inv = level .before .before .loop .inv in
-    (inv .0, omega arith, omega arith, level .level-at .ensures, omega arith)
+    (inv .0, omega arith, omega arith, level .level-at .ensures .level, omega arith)
 
 same-length : tie.Need-same-length Inv-loop μ-loop
-same-length c = let call = c .before .before in call .work-at .kept .1 .1 .1 .1 .0 ∙ call .before .before .before .before .loop .inv .4
+same-length c =
+    let call = c .before .before in
+    call .work-at .kept .1 .1 .1 .1 .1 .1 .0 ∙ call .before .before .before .before .loop .inv .4
 
 returns : tie.Need-returns Inv-loop μ-loop
 returns c =
     let call = c .before .before in
-    let test = call .before .before .before in
+    let level = call .before .before in
+    let test = level .before in
     let l = test .before .loop in
-    let failed = told-no (call .work-at .result) (at (call .work-at .last .1 .1 .1 .1 .0)) _ (call .work-at .ensures .0) (not-true _ (c .if1 .taken)) in (
-      settle-failed _ _ _ _ _ (l .k) (at (l .store)) (test .loop-test .taken) failed ∙ l .inv .5,
+    let failed = told-no (call .work-at .result) (at (call .work-at .last .1 .1 .1 .1 .1 .1 .0)) _ (call .work-at .ensures .0) (not-true _ (c .if1 .taken)) in (
+      settle-failed _ _ _ _ _ (l .k) _ (at (l .store)) (test .loop-test .taken) (level .level-at .ensures .now) failed ∙ l .inv .5,
       kept-both _ _ _ _ (l .inv .6) (call .work-at .ensures .1),
     )
 
@@ -59,16 +64,18 @@ loop-less c = omega arith
 loop-again : tie.Need-loop-again Inv-loop μ-loop
 loop-again c =
     let call = c .before .before in
-    let test = call .before .before .before in
+    let level = call .before .before in
+    let test = level .before in
     let l = test .before .loop in
     let inv = l .inv in
-    let worked = told-yes (call .work-at .result) (at (call .work-at .last .1 .1 .1 .1 .0)) _ (call .work-at .ensures .0) (not-false _ (c .if1 .left)) in (
+    let left = at (call .work-at .last .1 .1 .1 .1 .1 .1 .0) in
+    let worked = told-yes (call .work-at .result) left _ (call .work-at .ensures .0) (not-false _ (c .if1 .left)) in (
       inv .0,
       inv .1,
       omega arith,
       inv .3,
-      call .work-at .kept .1 .1 .1 .1 .0 ∙ inv .4,
-      settle-on _ _ _ _ _ (l .k) (at (l .store)) _ (test .loop-test .taken) worked ∙ inv .5,
+      call .work-at .kept .1 .1 .1 .1 .1 .1 .0 ∙ inv .4,
+      settle-on _ _ _ _ _ (l .k) _ (at (l .store)) _ (test .loop-test .taken) (level .level-at .ensures .now) worked ∙ inv .5,
       kept-both _ _ _ _ (inv .6) (call .work-at .ensures .1),
     )
 

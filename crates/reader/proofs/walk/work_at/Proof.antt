@@ -1,31 +1,48 @@
--- `reader::walk::work_at` meets its contract: the level's stretch lent on to be worked in. Assumes nothing.
+-- `reader::walk::work_at` meets its contract: nothing, or the level's stretch lent on to be worked in. Assumes nothing.
 use mathlib.Core.Path.{_∙_, refl}
 use Prim.Native.Nat.{_+_, _-_}
 use native.Mathlib.Omega.{arith}
 use lib.Dec.{eqb}
 use lib.ListN.{length}
+use borrow.Author.Needs.{needs}
 use borrow.Rule.Slice.PartMut.{midOf}
 use Rattle.areas.proofs.AreaLaws.{did}
+use Rattle.lifting.specs.Grid.{side}
 use Rattle.level.proofs.RebuildingLaws.{workable-is}
-use borrow.Author.Needs.{needs}
+use Rattle.level.proofs.KeptLaws.{kept-none}
 use Rattle.numbers.proofs.Parts.{length-mid}
 use Rattle.wavelet.specs.Limits.{maxLevels}
-use Rattle.reader.proofs.PartLaws.{level-in, work-room, work-is}
+use Rattle.reader.proofs.PartLaws.{level-in, level-none, level-last, work-room, work-empty, work-is}
+use Rattle.reader.proofs.SetLaws.{some-of}
 use Rattle.reader.proofs.KeptLaws.{part-kept}
 use Rattle.reader.proofs.walk.work_at.Statement.{statement}
 use Rattle.reader.proofs.walk.work_at.Tie as tie
 
+returns : tie.Need-returns
+returns c =
+    let start = c .before .before .before in
+    let a = start .args in
+    let is = start .pre .3 in
+    (work-empty _ _ _ _ (a .l) _ is (level-none _ _ _ (a .l) is (c .if1 .taken)), kept-none _ _)
+
 mul-work-set : tie.Need-mul-work-set
 unfolding maxLevels
 mul-work-set c =
-    let here = level-in _ _ _ _ (c .args .l) (c .pre .3) (omega arith) (omega arith) (omega arith) in
+    let start = c .before .before .before in
+    let here = level-in _ _ _ (start .args .l) (start .pre .3) (omega arith) (omega arith) in
     omega (arith, here .0)
 
 sub-work-set : tie.Need-sub-work-set
-sub-work-set c = let a = c .args in omega (arith, work-room _ _ _ _ (a .l) (c .pre .3) (a .levels) (omega arith))
+sub-work-set c =
+    let start = c .before .before .before in
+    let a = start .args in
+    omega (arith, work-room _ _ _ (a .l) (start .pre .3) (a .levels) (omega arith))
 
 part-work-set-start : tie.Need-part-work-set-start
-part-work-set-start c = let a = c .args in omega (arith, work-room _ _ _ _ (a .l) (c .pre .3) (a .levels) (omega arith))
+part-work-set-start c =
+    let start = c .before .before .before in
+    let a = start .args in
+    omega (arith, work-room _ _ _ (a .l) (start .pre .3) (a .levels) (omega arith))
 
 part-work-set-end : tie.Need-part-work-set-end
 part-work-set-end c = search needs
@@ -39,30 +56,34 @@ work-set-requires c κs = tt
 same-length : tie.Need-same-length
 same-length c = search needs
 
-returns : tie.Need-returns
-returns c =
+returns-2 : tie.Need-returns-2
+returns-2 c =
     let call = c .before in
-    let start = call .before .before in
+    let cells = call .before .before in
+    let start = cells .before .before .before in
     let a = start .args in
     let l = a .l in
     let is = start .pre .3 in
-    let room = work-room _ _ _ _ l is (a .levels) (omega arith) in
+    let some = some-of (side (l .x) (l .width)) (side (l .y) (l .height)) (cells .if1 .left) in
+    let room = work-room _ _ _ l is (a .levels) (omega arith) in
     let n = length (a .store .now) - l .start in
     let long = length-mid (l .start) n (a .store .now) (omega arith) in
-    let here = level-in _ _ _ _ l is (omega arith) (omega arith) (omega arith) in
+    let here = level-in _ _ _ l is (omega arith) (omega arith) in
     let back = call .work-set .kept .0 ∙ long in
-    let can = workable-is (eqb (a .k + 1) (a .levels)) (a .k) (l .width) (l .height) (l .set) (length (midOf (l .start) n (a .store .now)))
-    (omega arith, here .1, omega (arith, here .2), here .3, omega (arith, room, long)) in (
-      work-is (a .width) (a .height) (a .levels) (a .drawn) (a .k) l (l .start) n (a .store .now) (call .work-set .last .0)
-          (eqb (call .work-set .result) 0) is refl (omega arith) back (did _ _ _ _ can (call .work-set .ensures .1 .0)),
-      part-kept (a .width) (a .height) (a .drawn) (a .k) (a .levels) l is n (a .store .now) (call .work-set .last .0) (omega arith) (omega arith) back
-          (call .work-set .ensures .1 .1 .0),
+    let can = workable-is (eqb (a .k + 1) (a .levels)) (a .k) (side (l .x) (l .width)) (side (l .y) (l .height)) (l .set)
+    (length (midOf (l .start) n (a .store .now)))
+    (omega arith, here .1, omega (arith, here .2), some .1, level-last _ _ _ l is, omega (arith, room, long)) in (
+      work-is (side (a .x) (a .width)) (side (a .y) (a .height)) (a .levels) (a .k) l (l .start) n (a .store .now) (call .work-set .last .0)
+          (eqb (call .work-set .result) 0) is (some .0) (some .1) refl (omega arith) back (did _ _ _ _ can (call .work-set .ensures .1 .0)),
+      part-kept (side (a .x) (a .width)) (side (a .y) (a .height)) (a .k) (a .levels) l is n (a .store .now) (call .work-set .last .0) (omega arith)
+          (omega arith) back (call .work-set .ensures .1 .1 .0),
     )
 
 pub work-at-spec : {M : Type 1} → statement M
 work-at-spec =
     tie.close
     (tie.spec
+    returns
     mul-work-set
     sub-work-set
     part-work-set-start
@@ -70,4 +91,4 @@ work-at-spec =
     add-work-set
     work-set-requires
     same-length
-    returns)
+    returns-2)

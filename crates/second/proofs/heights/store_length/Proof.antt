@@ -14,8 +14,8 @@ abbrev μ-loop : tie.MeasureT-loop
 loop-holds : tie.Need-loop-holds Inv-loop μ-loop
 loop-holds c = search needs
 
-side-requires : tie.Need-side-requires Inv-loop μ-loop
-side-requires c κs = tt
+columns-at-requires : tie.Need-columns-at-requires Inv-loop μ-loop
+columns-at-requires c κs = tt
 
 cell-requires : tie.Need-cell-requires Inv-loop μ-loop
 cell-requires c κs = tt
@@ -42,7 +42,7 @@ store-length-spec =
     Inv-loop
     μ-loop
     loop-holds
-    side-requires
+    columns-at-requires
     cell-requires
     wrapping-add-usize-requires
     add-k

@@ -16,20 +16,11 @@ abbrev μ-loop : tie.MeasureT-loop
 loop-holds : tie.Need-loop-holds Inv-loop μ-loop
 loop-holds c = search needs
 
-side-requires : tie.Need-side-requires Inv-loop μ-loop
-side-requires c κs = tt
-
-last-set-requires : tie.Need-last-set-requires Inv-loop μ-loop
-last-set-requires c κs = tt
-
 add-k : tie.Need-add-k Inv-loop μ-loop
 add-k c = omega arith
 
-push-set-requires : tie.Need-push-set-requires Inv-loop μ-loop
-push-set-requires c κs = tt
-
-push-row-requires : tie.Need-push-row-requires Inv-loop μ-loop
-push-row-requires c κs = tt
+push-last-requires : tie.Need-push-last-requires Inv-loop μ-loop
+push-last-requires c κs = tt
 
 loop-less : tie.Need-loop-less Inv-loop μ-loop
 loop-less c = omega arith
@@ -50,11 +41,8 @@ push-finish-spec =
     Inv-loop
     μ-loop
     loop-holds
-    side-requires
-    last-set-requires
     add-k
-    push-set-requires
-    push-row-requires
+    push-last-requires
     loop-less
     loop-again
     same-length

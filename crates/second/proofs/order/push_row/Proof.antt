@@ -8,13 +8,19 @@ use Rattle.second.proofs.order.push_row.Statement.{statement}
 use Rattle.second.proofs.order.push_row.Tie as tie
 
 abbrev Inv-loop : tie.InvT-loop
-Inv-loop book₀ n s done row at₀ r₀ k₀ book at r k = (length book ≡ length book₀)
+Inv-loop book₀ n s done row at₀ c₀ k₀ book at c k = (length book ≡ length book₀)
 
 abbrev μ-loop : tie.MeasureT-loop
-μ-loop book₀ n s done row at₀ r₀ k₀ book at r k = s .levels - k
+μ-loop book₀ n s done row at₀ c₀ k₀ book at c k = s .levels - k
 
 loop-holds : tie.Need-loop-holds Inv-loop μ-loop
 loop-holds c = search needs
+
+cast-bound : tie.Need-cast-bound Inv-loop μ-loop
+cast-bound c = search needs
+
+bound-requires : tie.Need-bound-requires Inv-loop μ-loop
+bound-requires c κs = tt
 
 makes-set-requires : tie.Need-makes-set-requires Inv-loop μ-loop
 makes-set-requires c κs = tt
@@ -34,17 +40,26 @@ add-k c = omega arith
 push-set-requires : tie.Need-push-set-requires Inv-loop μ-loop
 push-set-requires c κs = tt
 
-loop-less : tie.Need-loop-less Inv-loop μ-loop
-loop-less c = omega arith
-
-loop-again : tie.Need-loop-again Inv-loop μ-loop
-loop-again c = search needs
+has-low-requires : tie.Need-has-low-requires Inv-loop μ-loop
+has-low-requires c κs = tt
 
 same-length-2 : tie.Need-same-length-2 Inv-loop μ-loop
 same-length-2 c = search needs
 
 returns-2 : tie.Need-returns-2 Inv-loop μ-loop
 returns-2 c = tt
+
+loop-less : tie.Need-loop-less Inv-loop μ-loop
+loop-less c = omega arith
+
+loop-again : tie.Need-loop-again Inv-loop μ-loop
+loop-again c = search needs
+
+same-length-3 : tie.Need-same-length-3 Inv-loop μ-loop
+same-length-3 c = search needs
+
+returns-3 : tie.Need-returns-3 Inv-loop μ-loop
+returns-3 c = tt
 
 pub push-row-spec : {M : Type 1} → statement M
 push-row-spec =
@@ -53,13 +68,18 @@ push-row-spec =
     Inv-loop
     μ-loop
     loop-holds
+    cast-bound
+    bound-requires
     makes-set-requires
     same-length
     returns
     set-before-requires
     add-k
     push-set-requires
+    has-low-requires
+    same-length-2
+    returns-2
     loop-less
     loop-again
-    same-length-2
-    returns-2)
+    same-length-3
+    returns-3)

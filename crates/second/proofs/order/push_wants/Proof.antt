@@ -8,19 +8,22 @@ use Rattle.second.proofs.order.push_wants.Statement.{statement}
 use Rattle.second.proofs.order.push_wants.Tie as tie
 
 abbrev Inv-loop : tie.InvT-loop
-Inv-loop book₀ n s row at₀ k₀ book at k = (length book ≡ length book₀)
+Inv-loop book₀ n s row deepest at₀ k₀ book at k = (length book ≡ length book₀)
 
 abbrev μ-loop : tie.MeasureT-loop
-μ-loop book₀ n s row at₀ k₀ book at k = k
+μ-loop book₀ n s row deepest at₀ k₀ book at k = k
 
 depth-requires : tie.Need-depth-requires Inv-loop μ-loop
 depth-requires c κs = tt
 
+push-highs-requires : tie.Need-push-highs-requires Inv-loop μ-loop
+push-highs-requires c κs = tt
+
 loop-holds : tie.Need-loop-holds Inv-loop μ-loop
 loop-holds c = search needs
 
-set-of-level-requires : tie.Need-set-of-level-requires Inv-loop μ-loop
-set-of-level-requires c κs = tt
+row-at-level-requires : tie.Need-row-at-level-requires Inv-loop μ-loop
+row-at-level-requires c κs = tt
 
 push-set-requires : tie.Need-push-set-requires Inv-loop μ-loop
 push-set-requires c κs = tt
@@ -47,8 +50,9 @@ push-wants-spec =
     Inv-loop
     μ-loop
     depth-requires
+    push-highs-requires
     loop-holds
-    set-of-level-requires
+    row-at-level-requires
     push-set-requires
     sub-k
     loop-less

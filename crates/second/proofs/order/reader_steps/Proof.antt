@@ -16,6 +16,12 @@ abbrev μ-loop : tie.MeasureT-loop
 loop-holds : tie.Need-loop-holds Inv-loop μ-loop
 loop-holds c = search needs
 
+cast-wrapping-add-usize : tie.Need-cast-wrapping-add-usize Inv-loop μ-loop
+cast-wrapping-add-usize c = search needs
+
+wrapping-add-usize-requires : tie.Need-wrapping-add-usize-requires Inv-loop μ-loop
+wrapping-add-usize-requires c κs = tt
+
 push-wants-requires : tie.Need-push-wants-requires Inv-loop μ-loop
 push-wants-requires c κs = tt
 
@@ -44,6 +50,8 @@ reader-steps-spec =
     Inv-loop
     μ-loop
     loop-holds
+    cast-wrapping-add-usize
+    wrapping-add-usize-requires
     push-wants-requires
     push-requires
     add-r

@@ -1,4 +1,4 @@
--- `second::order::writer_rows` is safe and ends. In the loop the areas keep their lengths. Assumes nothing.
+-- `second::order::writer_rows` is safe and ends. In the loop the area keeps its length. Assumes nothing.
 use mathlib.Core.Path.{_≡_}
 use Prim.Native.Nat.{_≤_, _-_}
 use native.Mathlib.Omega.{arith}
@@ -18,6 +18,12 @@ set-due-requires c κs = tt
 
 loop-holds : tie.Need-loop-holds Inv-loop μ-loop
 loop-holds c = search needs
+
+cast-wrapping-add-usize : tie.Need-cast-wrapping-add-usize Inv-loop μ-loop
+cast-wrapping-add-usize c = search needs
+
+wrapping-add-usize-requires : tie.Need-wrapping-add-usize-requires Inv-loop μ-loop
+wrapping-add-usize-requires c κs = tt
 
 push-row-requires : tie.Need-push-row-requires Inv-loop μ-loop
 push-row-requires c κs = tt
@@ -51,6 +57,8 @@ writer-rows-spec =
     μ-loop
     set-due-requires
     loop-holds
+    cast-wrapping-add-usize
+    wrapping-add-usize-requires
     push-row-requires
     add-r
     set-due-requires-2

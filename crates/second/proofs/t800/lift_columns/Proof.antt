@@ -8,10 +8,10 @@ use Rattle.second.proofs.t800.lift_columns.Statement.{statement}
 use Rattle.second.proofs.t800.lift_columns.Tie as tie
 
 abbrev Inv-loop : tie.InvT-loop
-Inv-loop book₀ width w h n j₀ book j = (length book ≡ length book₀)
+Inv-loop book₀ p n j₀ book j = (length book ≡ length book₀)
 
 abbrev μ-loop : tie.MeasureT-loop
-μ-loop book₀ width w h n j₀ book j = n - j
+μ-loop book₀ p n j₀ book j = n - j
 
 cell-requires : tie.Need-cell-requires Inv-loop μ-loop
 cell-requires c κs = tt

@@ -1,4 +1,4 @@
--- `second::t800::transform` is safe and ends. In the loop the areas keep their lengths. Assumes nothing.
+-- `second::t800::transform` is safe and ends. In the loop the area keeps its length. Assumes nothing.
 use mathlib.Core.Path.{_≡_}
 use Prim.Native.Nat.{_≤_, _-_}
 use native.Mathlib.Omega.{arith}
@@ -8,25 +8,22 @@ use Rattle.second.proofs.t800.transform.Statement.{statement}
 use Rattle.second.proofs.t800.transform.Tie as tie
 
 abbrev Inv-loop : tie.InvT-loop
-Inv-loop book₀ width height levels w₀ h₀ k₀ book w h k = (length book ≡ length book₀)
+Inv-loop book₀ s k₀ book k = (length book ≡ length book₀)
 
 abbrev μ-loop : tie.MeasureT-loop
-μ-loop book₀ width height levels w₀ h₀ k₀ book w h k = levels - k
+μ-loop book₀ s k₀ book k = s .levels - k
 
 loop-holds : tie.Need-loop-holds Inv-loop μ-loop
 loop-holds c = search needs
+
+part-at-requires : tie.Need-part-at-requires Inv-loop μ-loop
+part-at-requires c κs = tt
 
 lift-columns-requires : tie.Need-lift-columns-requires Inv-loop μ-loop
 lift-columns-requires c κs = tt
 
 lift-rows-requires : tie.Need-lift-rows-requires Inv-loop μ-loop
 lift-rows-requires c κs = tt
-
-half-requires : tie.Need-half-requires Inv-loop μ-loop
-half-requires c κs = tt
-
-half-requires-2 : tie.Need-half-requires-2 Inv-loop μ-loop
-half-requires-2 c κs = tt
 
 add-k : tie.Need-add-k Inv-loop μ-loop
 add-k c = omega arith
@@ -50,10 +47,9 @@ transform-spec =
     Inv-loop
     μ-loop
     loop-holds
+    part-at-requires
     lift-columns-requires
     lift-rows-requires
-    half-requires
-    half-requires-2
     add-k
     loop-less
     loop-again

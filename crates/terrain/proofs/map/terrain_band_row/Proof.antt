@@ -4,6 +4,7 @@ use mathlib.Core.Bool.{false}
 use Prim.Native.Nat.{ℕ}
 use lib.Dec.{eqb}
 use borrow.Author.Needs.{needs}
+use Rattle.wavelet.specs.Shape.{columns, rows}
 use Rattle.wavelet.proofs.ViewLaws.{span-at, span-refused}
 use Rattle.terrain.proofs.StateLaws.{pick-no}
 use Rattle.terrain.proofs.map.terrain_band_row.Statement.{statement}
@@ -26,7 +27,7 @@ returns c =
     let l = c .before .before .before in
     let a = l .before .args in
     let e = c .before .first .given in
-    let s = span-at (a .len) (a .width) (a .height) (a .levels) (a .level) (a .band) (a .row) (e .0 .0) (e .0 .1 .0) (sym (l .locate .ensures) ∙ e .1) in
+    let s = span-at (a .len) (columns (a .shape)) (rows (a .shape)) (a .shape .levels) (a .level) (a .band) (a .row) (e .0 .0) (e .0 .1 .0) (sym (l .locate .ensures) ∙ e .1) in
     (sym (s .passes), (sym (s .starts), sym (s .counts)))
 
 returns-2 : tie.Need-returns-2
@@ -34,7 +35,7 @@ returns-2 c =
     let l = c .before .before .before in
     let a = l .before .args in
     let e = c .before .no .given in
-    let s = span-refused (a .len) (a .width) (a .height) (a .levels) (a .level) (a .band) (a .row) (e .0 .0) (sym (l .locate .ensures) ∙ e .1) in
+    let s = span-refused (a .len) (columns (a .shape)) (rows (a .shape)) (a .shape .levels) (a .level) (a .band) (a .row) (e .0 .0) (sym (l .locate .ensures) ∙ e .1) in
     let n : eqb (e .0 .0) 0 ≡ false = ap (λ (q : ℕ). eqb q 0) (sym (s .0)) ∙ s .1 in
     (sym (s .0), (sym (pick-no (eqb (e .0 .0) 0) _ _ n), sym (pick-no (eqb (e .0 .0) 0) _ _ n)))
 

@@ -2,6 +2,7 @@
 use mathlib.Core.Path.{_≡_, sym, ap, _∙_}
 use lib.ListN.{length}
 use borrow.Author.Needs.{needs}
+use Rattle.wavelet.specs.Shape.{columns, rows}
 use Rattle.reader.specs.declared.Reader.{Reader}
 use Rattle.reader.specs.Answers.{Reply, number, ofSetUp}
 use Rattle.reader.specs.Questions.{setUpQuestion}
@@ -32,7 +33,8 @@ returns : tie.Need-returns
 returns c =
     let o = c .before .before .before .before .before in
     let a = o .before .before .before .args in
-    let e : setUpReply (a .width) (a .height) (a .levels) (setUpQuestion (a .width) (a .height) (a .levels) (length (a .store .now))) ≡ _ =
+    let e : setUpReply (columns (a .shape)) (rows (a .shape)) (a .shape .levels)
+    (setUpQuestion (columns (a .shape)) (rows (a .shape)) (a .shape .levels) (length (a .store .now))) ≡ _ =
     sym (o .before .set-up .ensures .0) ∙ ap ofSetUp (c .before .before .before .r .given .1) in (
       sym (ap number e),
       (
@@ -48,7 +50,8 @@ returns-2 : tie.Need-returns-2
 returns-2 c =
     let o = c .before .before .before in
     let a = o .before .before .before .args in
-    let e : setUpReply (a .width) (a .height) (a .levels) (setUpQuestion (a .width) (a .height) (a .levels) (length (a .store .now))) ≡ _ =
+    let e : setUpReply (columns (a .shape)) (rows (a .shape)) (a .shape .levels)
+    (setUpQuestion (columns (a .shape)) (rows (a .shape)) (a .shape .levels) (length (a .store .now))) ≡ _ =
     sym (o .before .set-up .ensures .0) ∙ ap ofSetUp (c .before .no .given .1) in (
       sym (ap number e),
       (

@@ -5,6 +5,7 @@ use lib.ListN.{length}
 use borrow.Author.Needs.{needs}
 use Rattle.numbers.specs.Signal.{at}
 use Rattle.calls.specs.Lists.{Reply}
+use Rattle.wavelet.specs.Shape.{columns}
 use Rattle.writer.specs.declared.Writer.{Writer}
 use Rattle.writer.specs.Answers.{ofSetUp}
 use Rattle.writer.specs.Calls.{setUpReply}
@@ -35,7 +36,8 @@ returns c =
     let o = c .before .before .before .before .before in
     let a = o .before .before .before .args in
     let g = c .before .before .before .w .given in
-    let e : setUpReply (a .width) (a .levels) (length (a .store .now)) ≡ _ = sym (o .before .set-up .ensures .0) ∙ ap ofSetUp (g .1) in (
+    let e : setUpReply (columns (a .shape)) (a .shape .y) (a .shape .levels) (length (a .store .now)) ≡ _ =
+    sym (o .before .set-up .ensures .0) ∙ ap ofSetUp (g .1) in (
       sym (ap number e),
       (
         c .pack-writer .ensures ∙ sym (ap (λ (q : Reply Writer). stateOf q (a .state .now)) e),
@@ -51,7 +53,8 @@ returns-2 c =
     let o = c .before .before .before in
     let a = o .before .before .before .args in
     let g = c .before .no .given in
-    let e : setUpReply (a .width) (a .levels) (length (a .store .now)) ≡ _ = sym (o .before .set-up .ensures .0) ∙ ap ofSetUp (g .1) in (
+    let e : setUpReply (columns (a .shape)) (a .shape .y) (a .shape .levels) (length (a .store .now)) ≡ _ =
+    sym (o .before .set-up .ensures .0) ∙ ap ofSetUp (g .1) in (
       sym (ap number e),
       (
         sym (ap (λ (q : Reply Writer). stateOf q (a .state .now)) e),

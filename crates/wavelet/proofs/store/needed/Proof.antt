@@ -1,37 +1,59 @@
--- `store::needed` meets its contract. The loop's invariant: `sum` is what the first k levels need, and `side` is W(k). Assumes nothing.
-use mathlib.Core.Path.{_≡_, sym, ap, _∙_}
-use Prim.Native.Nat.{_≤_, _<_, _-_, _^_}
+-- `store::needed` meets its contract. The loop's invariant: `sum` is what the first k levels need, and `from` and `length` are the side of level k. Assumes
+-- nothing.
+use mathlib.Core.Path.{_≡_, sym, ap, ap₂, _∙_}
+use Prim.Native.Nat.{ℕ, _≤_, _<_, _+_, _-_, _*_, _^_}
 use native.Mathlib.Omega.{arith}
 use native.Mathlib.Numerals.{add-one}
-use borrow.Author.Needs.{needs}
-use Rattle.wavelet.specs.Levels.{size}
-use Rattle.wavelet.specs.Store.{storeLength}
+use Rattle.lifting.specs.Grid.{Side, side}
 use Rattle.wavelet.proofs.LimitLaws.{width-small, levels-small}
-use Rattle.wavelet.proofs.SizeLaws.{size-zero, size-suc, size-le}
+use Rattle.wavelet.specs.Levels.{next, sideAt}
+use Rattle.wavelet.specs.Store.{storeLength}
+use Rattle.wavelet.proofs.SideLaws.{size-zero, size-suc, next-length, size-le}
 use Rattle.wavelet.proofs.StoreLaws.{store-none, store-more, store-le}
 use Rattle.wavelet.proofs.store.needed.Statement.{statement}
 use Rattle.wavelet.proofs.store.needed.Tie as tie
 
+record Summed (width x levels sum from length k : ℕ) : Type 0 where
+  most : k ≤ levels
+  narrow : width < 2 ^ 16
+  few : levels < 2 ^ 16
+  total : sum ≡ storeLength (side x width) k
+  level : side from length ≡ sideAt k (side x width)
+  shorter : length ≤ width
+
+length-is : (k width x from length : ℕ) → side from length ≡ sideAt k (side x width) → length ≡ sideAt k (side x width) .length
+length-is k width x from length e = ap (λ (S : Side). S .length) e
+
 abbrev Inv-loop : tie.InvT-loop
-Inv-loop width levels sum₀ side₀ k₀ sum side k = (k ≤ levels) × (width < 2 ^ 16) × (levels < 2 ^ 16) × (sum ≡ storeLength width k) × (side ≡ size k width)
+Inv-loop width x levels sum₀ from₀ length₀ k₀ sum from length k = Summed width x levels sum from length k
 
 abbrev μ-loop : tie.MeasureT-loop
-μ-loop width levels sum₀ side₀ k₀ sum side k = levels - k
+μ-loop width x levels sum₀ from₀ length₀ k₀ sum from length k = levels - k
 
 loop-holds : tie.Need-loop-holds Inv-loop μ-loop
-loop-holds c = (omega arith, omega (arith, width-small), omega (arith, levels-small), sym (store-none _), sym (size-zero _))
+loop-holds c =
+    record {
+      most = omega arith;
+      narrow = omega (arith, width-small);
+      few = omega (arith, levels-small);
+      total = sym (store-none _);
+      level = sym (size-zero _);
+      shorter = omega arith;
+    }
 
 mul-sum : tie.Need-mul-sum Inv-loop μ-loop
-mul-sum c = omega (arith, size-le (c .before .loop .k) (c .before .before .args .width))
+mul-sum c = omega arith
 
 add-sum : tie.Need-add-sum Inv-loop μ-loop
 add-sum c =
-    let k = c .before .loop .k in
-    let W = c .before .before .args .width in
-    omega (arith, size-le k W, store-le W k)
+    let a = c .before .before .args in
+    omega (arith, store-le (side (a .x) (a .width)) (c .before .loop .k))
 
-half-requires : tie.Need-half-requires Inv-loop μ-loop
-half-requires c κs = search needs
+low-count-requires : tie.Need-low-count-requires Inv-loop μ-loop
+low-count-requires c κs = tt
+
+next-start-requires : tie.Need-next-start-requires Inv-loop μ-loop
+next-start-requires c κs = tt
 
 add-k : tie.Need-add-k Inv-loop μ-loop
 add-k c = omega arith
@@ -39,23 +61,36 @@ add-k c = omega arith
 loop-less : tie.Need-loop-less Inv-loop μ-loop
 loop-less c = omega arith
 
+-- one level more
+turn : (width x levels sum from length k from′ length′ : ℕ) → Summed width x levels sum from length k → k < levels → from′ ≡ next (side from length) .start
+    → length′ ≡ next (side from length) .length → Summed width x levels (sum + 4 * length) from′ length′ (k + 1)
+turn width x levels sum from length k from′ length′ v b es el =
+    let W = side x width in
+    let next-is : side from′ length′ ≡ sideAt (k + 1) W = rw add-one (ap₂ side es el ∙ ap next (v .level) ∙ sym (size-suc k W)) in
+    record {
+      most = omega arith;
+      narrow = v .narrow;
+      few = v .few;
+      total = rw add-one (omega (arith, store-more W k, length-is k width x from length (v .level), v .total));
+      level = next-is;
+      shorter = omega (arith, size-le (k + 1) W, length-is (k + 1) width x from′ length′ next-is);
+    }
+
 loop-again : tie.Need-loop-again Inv-loop μ-loop
 loop-again c =
-    let head = c .before .before in
-    let k = head .loop .k in
-    let W = head .before .args .width in (
-      omega arith,
-      omega arith,
-      omega arith,
-      rw (add-one, store-more) (cc),
-      rw (add-one, size-suc) (cc),
-    )
+    let h = c .before .before .before in
+    let l = h .loop in
+    let a = h .before .args in
+    turn (a .width) (a .x) (a .levels) (l .sum) (l .from) (l .length) (l .k) _ _ (l .inv) (c .before .before .loop-test .taken)
+    (c .next-start .ensures (l .length))
+    (c .before .low-count .ensures ∙ sym (next-length (side (l .from) (l .length))))
 
 returns : tie.Need-returns Inv-loop μ-loop
 returns c =
     let l = c .before .loop in
-    let e : l .k ≡ c .before .before .args .levels = omega arith in
-    l .inv .3 ∙ ap (storeLength (c .before .before .args .width)) e
+    let a = c .before .before .args in
+    let e : l .k ≡ a .levels = omega arith in
+    l .inv .total ∙ ap (storeLength (side (a .x) (a .width))) e
 
 pub needed-spec : {M : Type 1} → statement M
 needed-spec =
@@ -66,7 +101,8 @@ needed-spec =
     loop-holds
     mul-sum
     add-sum
-    half-requires
+    low-count-requires
+    next-start-requires
     add-k
     loop-less
     loop-again

@@ -3,12 +3,13 @@ use mathlib.Core.Path.{sym, ap, _∙_}
 use native.Mathlib.Omega.{arith}
 use borrow.Author.Needs.{needs}
 use Rattle.wavelet.specs.ViewCall.{addressOf}
+use Rattle.wavelet.specs.Shape.{columns, rows}
 use Rattle.wavelet.proofs.ViewLaws.{located-in, row-at, row-none, place-at, place-none}
 use Rattle.wavelet.proofs.view.band_row.Statement.{statement}
 use Rattle.wavelet.proofs.view.band_row.Tie as tie
 
 locate-requires : tie.Need-locate-requires
-locate-requires c κs = search needs
+locate-requires c κs = tt
 
 enum-known-start : tie.Need-enum-known-start
 enum-known-start c = search needs
@@ -18,8 +19,10 @@ add-result c =
     let s = c .before .start .given in
     let l = c .before .before .before in
     let a = l .before .args in
-    let p = located-in (a .plane .now) (a .width) (a .height) (a .levels) (a .level) (a .band) (a .row) (s .0 .0) (s .0 .1 .0) (sym (l .locate .ensures) ∙ s .1)
-    in
+    let W = columns (a .shape) in
+    let H = rows (a .shape) in
+    let p = located-in (a .plane .now) W H (a .shape .levels) (a .level) (a .band) (a .row) (s .0 .0) (s .0 .1 .0)
+    (sym (l .locate .ensures) ∙ s .1) in
     omega arith
 
 mul-result : tie.Need-mul-result
@@ -27,8 +30,10 @@ mul-result c =
     let s = c .before .start .given in
     let l = c .before .before .before in
     let a = l .before .args in
-    let p = located-in (a .plane .now) (a .width) (a .height) (a .levels) (a .level) (a .band) (a .row) (s .0 .0) (s .0 .1 .0) (sym (l .locate .ensures) ∙ s .1)
-    in
+    let W = columns (a .shape) in
+    let H = rows (a .shape) in
+    let p = located-in (a .plane .now) W H (a .shape .levels) (a .level) (a .band) (a .row) (s .0 .0) (s .0 .1 .0)
+    (sym (l .locate .ensures) ∙ s .1) in
     omega arith
 
 sub-result : tie.Need-sub-result
@@ -42,7 +47,9 @@ part-result-end c =
     let s = c .before .start .given in
     let l = c .before .before .before in
     let a = l .before .args in
-    located-in (a .plane .now) (a .width) (a .height) (a .levels) (a .level) (a .band) (a .row) (s .0 .0) (s .0 .1 .0) (sym (l .locate .ensures) ∙ s .1)
+    let W = columns (a .shape) in
+    let H = rows (a .shape) in
+    located-in (a .plane .now) W H (a .shape .levels) (a .level) (a .band) (a .row) (s .0 .0) (s .0 .1 .0) (sym (l .locate .ensures) ∙ s .1)
 
 enum-told : tie.Need-enum-told
 enum-told c = search needs
@@ -62,9 +69,11 @@ returns c =
     let s = c .before .before .start .given in
     let l = c .before .before .before .before in
     let a = l .before .args in
+    let W = columns (a .shape) in
+    let H = rows (a .shape) in
     let e = sym (l .locate .ensures) ∙ s .1 in (
-      row-at (a .plane .now) (a .width) (a .height) (a .levels) (a .level) (a .band) (a .row) (s .0 .0) (s .0 .1 .0) e,
-      ap (addressOf (a .plane .ptr)) (place-at (a .plane .now) (a .width) (a .height) (a .levels) (a .level) (a .band) (a .row) (s .0 .0) (s .0 .1 .0) e),
+      row-at (a .plane .now) W H (a .shape .levels) (a .level) (a .band) (a .row) (s .0 .0) (s .0 .1 .0) e,
+      ap (addressOf (a .plane .ptr)) (place-at (a .plane .now) W H (a .shape .levels) (a .level) (a .band) (a .row) (s .0 .0) (s .0 .1 .0) e),
     )
 
 returns-2 : tie.Need-returns-2
@@ -72,10 +81,12 @@ unfolding addressOf
 returns-2 c =
     let l = c .before .before .before in
     let a = l .before .args in
+    let W = columns (a .shape) in
+    let H = rows (a .shape) in
     let g = c .before .enum-told .given in
     let e = sym (l .locate .ensures) ∙ g .1 in (
-      row-none (a .plane .now) (a .width) (a .height) (a .levels) (a .level) (a .band) (a .row) (g .0 .0) e,
-      ap (addressOf (a .plane .ptr)) (place-none (a .plane .now) (a .width) (a .height) (a .levels) (a .level) (a .band) (a .row) (g .0 .0) e),
+      row-none (a .plane .now) W H (a .shape .levels) (a .level) (a .band) (a .row) (g .0 .0) e,
+      ap (addressOf (a .plane .ptr)) (place-none (a .plane .now) W H (a .shape .levels) (a .level) (a .band) (a .row) (g .0 .0) e),
     )
 
 pub band-row-spec : {M : Type 1} → statement M

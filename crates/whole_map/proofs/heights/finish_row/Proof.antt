@@ -5,6 +5,7 @@ use lib.ListN.{length}
 use borrow.Author.Needs.{needs}
 use borrow.Author.Tests.{le-leb}
 use Rattle.numbers.specs.Signal.{at}
+use Rattle.lifting.specs.Grid.{side}
 use Rattle.areas.proofs.AreaLaws.{did}
 use Rattle.whole_map.proofs.HeightLaws.{drawn-heights}
 use Rattle.whole_map.proofs.heights.finish_row.Statement.{statement}
@@ -28,7 +29,8 @@ returns c =
     let start = c .before .before .before .before .before .before .before .before .before in
     let row = start .args .row .now in
     let n = length row in (
-      did _ _ _ _ (le-leb n (length (start .args .heights .now)) (omega arith)) (drawn .ensures .1) ∙ drawn-heights n (at row) _ (start .pre .1),
+      did _ _ _ _ (le-leb n (length (start .args .heights .now)) (omega arith)) (drawn .ensures .1) ∙
+          drawn-heights (side (start .args .x) n) (at row) _ (start .pre .1),
       did _ _ _ _ (le-leb n n (omega arith)) (c .before .clear .ensures .1),
     )
 

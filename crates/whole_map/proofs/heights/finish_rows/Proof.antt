@@ -5,6 +5,7 @@ use native.Mathlib.Omega.{arith}
 use lib.ListN.{length}
 use borrow.Author.Needs.{needs}
 use borrow.Author.Tests.{not-true, not-false}
+use Rattle.lifting.specs.Grid.{side}
 use Rattle.wavelet.specs.Limits.{maxSample}
 use Rattle.whole_map.proofs.GridSweep.{pass-room, row-length}
 use Rattle.whole_map.proofs.HeightRows.{swept-room, swept-length, swept-size, row-heights, Finishing, finish-start, finish-no, finish-turn, finish-yes}
@@ -12,10 +13,10 @@ use Rattle.whole_map.proofs.heights.finish_rows.Statement.{statement}
 use Rattle.whole_map.proofs.heights.finish_rows.Tie as tie
 
 abbrev Inv-loop : tie.InvT-loop
-Inv-loop work₀ heights₀ width height r₀ work heights r = Finishing width height work₀ heights₀ r work heights
+Inv-loop work₀ heights₀ x width height r₀ work heights r = Finishing (side x width) height work₀ heights₀ r work heights
 
 abbrev μ-loop : tie.MeasureT-loop
-μ-loop work₀ heights₀ width height r₀ work heights r = height - r
+μ-loop work₀ heights₀ x width height r₀ work heights r = height - r
 
 loop-holds : tie.Need-loop-holds Inv-loop μ-loop
 loop-holds c = finish-start _ _ _ _ (c .before .pre .0) (c .before .pre .1)
@@ -61,10 +62,11 @@ returns c =
     let test = c .before in
     let row = test .before .before .before in
     let head = row .before in
-    let w = head .before .before .args .width in
+    let args = head .before .before .args in
+    let w = args .width in
     let a = head .loop .r * w in
-    finish-no w _ _ _ _ _ (head .loop .heights) (head .loop .inv) (a + w - a) (omega arith) (row .loop-test .taken) _ (test .all-between .ensures)
-    (not-true _ (c .if1 .taken))
+    finish-no (side (args .x) w) _ _ _ _ _ (head .loop .heights) (head .loop .inv) (a + w - a) (omega arith) (row .loop-test .taken) _
+    (test .all-between .ensures) (not-true _ (c .if1 .taken))
 
 mul-finish-row : tie.Need-mul-finish-row Inv-loop μ-loop
 mul-finish-row c = omega (arith, room (c .before .before .before .before))
@@ -121,11 +123,12 @@ loop-again c =
     let test = good .before in
     let row = test .before .before .before in
     let head = row .before in
-    let w = head .before .before .args .width in
+    let args = head .before .before .args in
+    let w = args .width in
     let a = head .loop .r * w in
-    finish-turn w _ _ _ _ _ (head .loop .heights) (head .loop .inv) (a + w - a) (omega arith) (row .loop-test .taken) _ (test .all-between .ensures)
-    (done .finish-row .last .0) (done .finish-row .last .1 .0) (not-false _ (good .if1 .left)) (done .finish-row .kept .0) (done .finish-row .kept .1 .0)
-    (done .finish-row .ensures .0) (done .finish-row .ensures .1)
+    finish-turn (side (args .x) w) _ _ _ _ _ (head .loop .heights) (head .loop .inv) (a + w - a) (omega arith) (row .loop-test .taken) _
+    (test .all-between .ensures) (done .finish-row .last .0) (done .finish-row .last .1 .1 .0) (not-false _ (good .if1 .left))
+    (done .finish-row .kept .0) (done .finish-row .kept .1 .1 .0) (done .finish-row .ensures .0) (done .finish-row .ensures .1)
 
 same-length-3 : tie.Need-same-length-3 Inv-loop μ-loop
 same-length-3 c = c .before .loop .inv .rows .size

@@ -1,7 +1,7 @@
 -- `whole_map::heights::load_to` meets its contract: the part lent, loaded and come back. Assumes nothing.
 use Prim.Native.Nat.{_+_, _-_, _*_}
 use native.Mathlib.Omega.{arith}
-use Rattle.whole_map.proofs.LevelCalls.{height-part}
+use Rattle.whole_map.proofs.ForwardCalls.{height-part}
 use borrow.Author.Needs.{needs}
 use Rattle.whole_map.proofs.heights.load_to.Statement.{statement}
 use Rattle.whole_map.proofs.heights.load_to.Tie as tie
@@ -56,8 +56,8 @@ returns c =
     let w = args .width in
     let a = args .m * w in
     let b = args .r * w in
-    height-part w (args .m) (args .r) (b + w - b) (a + w - a) (args .heights .now) (args .plane .now) (called .last .1 .0) (start .pre .0) (omega arith)
-    (omega arith) (start .pre .1) (start .pre .2) (called .kept .1 .0) (called .ensures .1)
+    height-part (args .x) w (args .m) (args .r) (b + w - b) (a + w - a) (args .heights .now) (args .plane .now) (called .last .1 .1 .0) (start .pre .0)
+    (omega arith) (omega arith) (start .pre .1) (start .pre .2) (called .kept .1 .1 .0) (called .ensures .1)
 
 pub load-to-spec : {M : Type 1} → statement M
 load-to-spec =

@@ -9,7 +9,7 @@ returns : tie.Need-returns
 returns c = simp (le-ltb _ _ (c .if1 .taken))
 
 fetch-row-requires : tie.Need-fetch-row-requires
-fetch-row-requires c κs = let start = c .before .before in (start .pre .0, start .pre .1, start .pre .2, omega arith)
+fetch-row-requires c κs = let start = c .before .before in (start .pre .0, start .pre .1, start .pre .2, omega arith, start .pre .3)
 
 same-length : tie.Need-same-length
 same-length c = search needs

@@ -1,7 +1,7 @@
 -- `levels::halve_part` meets its contract: the part lent, brought into halves and come back. Assumes nothing.
 use Prim.Native.Nat.{_+_, _-_}
 use native.Mathlib.Omega.{arith}
-use Rattle.whole_map.proofs.LevelCalls.{halved-part}
+use Rattle.whole_map.proofs.ForwardCalls.{halved-part}
 use borrow.Author.Needs.{needs}
 use Rattle.whole_map.proofs.levels.halve_part.Statement.{statement}
 use Rattle.whole_map.proofs.levels.halve_part.Tie as tie
@@ -46,8 +46,8 @@ returns : tie.Need-returns
 returns c =
     let start = c .before .before .before .before in
     let a = start .args in
-    halved-part (a .a) (a .b) (a .n) (a .b + a .n - a .b) (a .a + a .n - a .a) (a .from .now) (a .to .now) (c .before .part-line .last .1 .0)
-    (omega arith) (omega arith) (start .pre .0) (start .pre .1) (c .before .part-line .kept .1 .0) (c .before .part-line .ensures .1)
+    halved-part (a .x) (a .a) (a .b) (a .n) (a .b + a .n - a .b) (a .a + a .n - a .a) (a .from .now) (a .to .now) (c .before .part-line .last .1 .1 .0)
+    (omega arith) (omega arith) (start .pre .0) (start .pre .1) (c .before .part-line .kept .1 .1 .0) (c .before .part-line .ensures .1)
 
 pub halve-part-spec : {M : Type 1} → statement M
 halve-part-spec =

@@ -1,36 +1,56 @@
 -- `levels::level_row` meets its contract: the definition's two cases. Assumes nothing.
-use mathlib.Core.Path.{sym}
+use mathlib.Core.Path.{sym, ap, _∙_}
 use native.Mathlib.Omega.{arith}
-use borrow.Author.Needs.{needs}
-use Rattle.lifting.proofs.LineLaws.{count-lo}
+use Rattle.lifting.specs.Line.{hi}
+use Rattle.lifting.specs.Grid.{side, count, place}
 use Rattle.whole_map.proofs.CellLaws.{level-low, level-high}
 use Rattle.whole_map.proofs.levels.level_row.Statement.{statement}
 use Rattle.whole_map.proofs.levels.level_row.Tie as tie
 
-half-requires : tie.Need-half-requires
-half-requires c κs = search needs
+low-count-requires : tie.Need-low-count-requires
+low-count-requires c κs = tt
 
 mul-result : tie.Need-mul-result
-mul-result c = omega (arith, count-lo (c .before .before .args .height))
-
-returns : tie.Need-returns
-returns c =
-    let a = c .before .before .args in
-    let l = count-lo (a .height) in
-    (sym (level-low (a .height) (a .r) (omega arith)), omega arith)
-
-mul-result-2 : tie.Need-mul-result-2
-mul-result-2 c = omega (arith, count-lo (c .before .before .args .height))
+unfolding count
+mul-result c = omega arith
 
 add-result : tie.Need-add-result
-add-result c = omega (arith, count-lo (c .before .before .args .height))
+unfolding count
+add-result c = omega arith
+
+returns : tie.Need-returns
+unfolding count place
+returns c =
+    let args = c .before .before .args in
+    (sym (level-low (side (args .y) (args .height)) (args .r) (omega arith)), omega arith)
+
+mul-result-2 : tie.Need-mul-result-2
+unfolding count
+mul-result-2 c = omega arith
+
+sub-result : tie.Need-sub-result
+sub-result c = omega arith
+
+add-result-2 : tie.Need-add-result-2
+unfolding count
+add-result-2 c = omega arith
 
 returns-2 : tie.Need-returns-2
+unfolding count place
 returns-2 c =
-    let a = c .before .before .args in
-    let l = count-lo (a .height) in
-    (cc (level-high (a .height) (a .r) (omega arith)), omega arith)
+    let args = c .before .before .args in
+    let S = side (args .y) (args .height) in
+    (sym (level-high S (args .r) (omega arith) ∙ ap (place S hi) (omega arith)), omega arith)
 
 pub level-row-spec : {M : Type 1} → statement M
 level-row-spec =
-    tie.close (tie.spec half-requires mul-result returns mul-result-2 add-result returns-2)
+    tie.close
+    (tie.spec
+    low-count-requires
+    mul-result
+    add-result
+    returns
+    mul-result-2
+    sub-result
+    add-result-2
+    returns-2)

@@ -1,29 +1,28 @@
 -- `levels::plane_row` meets its contract: the definition's two cases. Assumes nothing.
 use native.Mathlib.Omega.{arith}
 use borrow.Author.Needs.{needs}
-use Prim.Native.Nat.{_%_}
-use borrow.Author.Tests.{eq-eqb, ne-eqb}
-use Rattle.lifting.proofs.LineLaws.{count-lo}
-use Rattle.whole_map.specs.Passes.{planeRow, even}
+use Rattle.lifting.specs.Grid.{side, count}
+use Rattle.whole_map.specs.Passes.{planeRow}
+use Rattle.whole_map.proofs.CellLaws.{is-low, is-high}
 use Rattle.whole_map.proofs.levels.plane_row.Statement.{statement}
 use Rattle.whole_map.proofs.levels.plane_row.Tie as tie
 
 returns : tie.Need-returns
-unfolding planeRow even
-returns c = (simp (eq-eqb (c .before .args .r % 2) 0 (c .if1 .taken)), omega arith)
+unfolding planeRow
+returns c = let a = c .before .args in (simp (is-low (side (a .y) (a .height)) (a .r) (omega (arith, c .if1 .taken))), omega arith)
 
-half-requires : tie.Need-half-requires
-half-requires c κs = search needs
+low-count-requires : tie.Need-low-count-requires
+low-count-requires c κs = search needs
 
 add-result : tie.Need-add-result
-add-result c = omega (arith, count-lo (c .before .before .args .height))
+unfolding count
+add-result c = omega (arith, c .low-count .ensures)
 
 returns-2 : tie.Need-returns-2
-unfolding planeRow even
+unfolding planeRow count
 returns-2 c =
     let a = c .before .before .args in
-    let l = count-lo (a .height) in
-    (simp (ne-eqb (a .r % 2) 0 (c .before .if1 .left), c .half .ensures), omega arith)
+    (simp (is-high (side (a .y) (a .height)) (a .r) (omega (arith, c .before .if1 .left)), c .low-count .ensures), omega (arith, c .low-count .ensures))
 
 pub plane-row-spec : {M : Type 1} → statement M
-plane-row-spec = tie.close (tie.spec returns half-requires add-result returns-2)
+plane-row-spec = tie.close (tie.spec returns low-count-requires add-result returns-2)

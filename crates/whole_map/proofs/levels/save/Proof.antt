@@ -8,7 +8,7 @@ use Rattle.wavelet.specs.Plane.{cells}
 use Rattle.whole_map.specs.Passes.{Rows, gridCopied}
 use Rattle.whole_map.proofs.GridSweep.{RowSwept, row-room, start, finish}
 use Rattle.whole_map.proofs.CellLaws.{copied-out, outside-rows}
-use Rattle.whole_map.proofs.LevelCalls.{copied-turn}
+use Rattle.whole_map.proofs.ForwardCalls.{copied-turn}
 use Rattle.whole_map.proofs.levels.save.Statement.{statement}
 use Rattle.whole_map.proofs.levels.save.Tie as tie
 

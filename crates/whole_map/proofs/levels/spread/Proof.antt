@@ -5,24 +5,25 @@ use native.Mathlib.Omega.{arith}
 use lib.ListN.{length}
 use borrow.Author.Needs.{needs}
 use Rattle.numbers.specs.Signal.{at}
+use Rattle.lifting.specs.Grid.{side}
 use Rattle.wavelet.specs.Plane.{cells}
 use Rattle.whole_map.specs.Passes.{Rows, gridHalved}
 use Rattle.whole_map.proofs.GridSweep.{RowSwept, row-room, start, finish}
 use Rattle.whole_map.proofs.CellLaws.{halved-out, outside-rows}
-use Rattle.whole_map.proofs.LevelCalls.{halved-turn}
+use Rattle.whole_map.proofs.ForwardCalls.{halved-turn}
 use Rattle.whole_map.proofs.levels.spread.Statement.{statement}
 use Rattle.whole_map.proofs.levels.spread.Tie as tie
 
 abbrev Inv-loop : tie.InvT-loop
-Inv-loop work plane₀ across width height r₀ plane r =
+Inv-loop work plane₀ across x width y height r₀ plane r =
     (r ≤ height)
     × (length plane ≡ length plane₀)
     × Rows (length work) width width height
     × Rows (length plane₀) across width height
-    × RowSwept across (gridHalved width height (cells width (at work)) (cells across (at plane₀))) (cells across (at plane₀)) r (at plane)
+    × RowSwept across (gridHalved (side x width) (side y height) (cells width (at work)) (cells across (at plane₀))) (cells across (at plane₀)) r (at plane)
 
 abbrev μ-loop : tie.MeasureT-loop
-μ-loop work plane₀ across width height r₀ plane r = height - r
+μ-loop work plane₀ across x width y height r₀ plane r = height - r
 
 loop-holds : tie.Need-loop-holds Inv-loop μ-loop
 loop-holds c = (omega arith, refl, c .pre .0, c .pre .1, start _ _ 0 _ (λ r k lt. absurd (omega arith)))

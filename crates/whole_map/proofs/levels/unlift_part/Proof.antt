@@ -1,12 +1,6 @@
 -- `levels::unlift_part` meets its contract: the part lent, lifted back and come back. Assumes nothing.
-use mathlib.Core.Path.{_∙_}
 use Prim.Native.Nat.{_+_, _-_}
 use native.Mathlib.Omega.{arith}
-use lib.ListN.{length}
-use lib.Dec.{leb}
-use borrow.Rule.Slice.PartMut.{midOf}
-use Rattle.numbers.specs.Signal.{at}
-use Rattle.lifting.proofs.AtZero.{unlift-by-zero}
 use Rattle.whole_map.proofs.LevelCalls.{unlifted-part}
 use borrow.Author.Needs.{needs}
 use Rattle.whole_map.proofs.levels.unlift_part.Statement.{statement}
@@ -55,11 +49,8 @@ returns c =
     let call = c .before .unlift-by in
     let k = a .b + a .n - a .b in
     let m = a .a + a .n - a .a in
-    let l = midOf (a .a) m (a .from .now) in
-    let o = midOf (a .b) k (a .to .now) in
     unlifted-part (a .a) (a .b) (a .n) k m (a .from .now) (a .to .now) (call .last .1 .1 .0) (omega arith) (omega arith) (start .pre .0) (start .pre .1)
-    (call .kept .1 .1 .0)
-    (call .ensures .1 ∙ unlift-by-zero (leb (length l) (length o)) (length l) (at l) (at o))
+    (call .kept .1 .1 .0) (a .x) (start .pre .2) (call .ensures .1)
 
 pub unlift-part-spec : {M : Type 1} → statement M
 unlift-part-spec =

@@ -4,26 +4,29 @@ use borrow.Author.Needs.{needs}
 use Rattle.whole_map.proofs.passes.lift_pair.Statement.{statement}
 use Rattle.whole_map.proofs.passes.lift_pair.Tie as tie
 
-add-predict-row : tie.Need-add-predict-row
-add-predict-row c = omega arith
+add-high : tie.Need-add-high
+add-high c = omega arith
+
+add-high-2 : tie.Need-add-high-2
+add-high-2 c = omega arith
 
 next-low-requires : tie.Need-next-low-requires
 next-low-requires c κs = search needs
 
 predict-row-requires : tie.Need-predict-row-requires
-predict-row-requires c κs = search needs
+predict-row-requires c κs = tt
+
+add-high-before : tie.Need-add-high-before
+add-high-before c = omega arith
 
 high-before-requires : tie.Need-high-before-requires
-high-before-requires c κs = search needs
+high-before-requires c κs = tt
 
 add-update-row : tie.Need-add-update-row
 add-update-row c = omega arith
 
-add-update-row-2 : tie.Need-add-update-row-2
-add-update-row-2 c = omega arith
-
 update-row-requires : tie.Need-update-row-requires
-update-row-requires c κs = search needs
+update-row-requires c κs = tt
 
 same-length : tie.Need-same-length
 same-length c = search needs
@@ -40,12 +43,13 @@ pub lift-pair-spec : {M : Type 1} → statement M
 lift-pair-spec =
     tie.close
     (tie.spec
-    add-predict-row
+    add-high
+    add-high-2
     next-low-requires
     predict-row-requires
+    add-high-before
     high-before-requires
     add-update-row
-    add-update-row-2
     update-row-requires
     same-length
     returns)

@@ -1,9 +1,7 @@
 -- `passes::lift_row` meets its contract: the part lent, lifted and come back. Assumes nothing.
-use mathlib.Core.Path.{_∙_}
 use Prim.Native.Nat.{_+_, _-_, _*_}
 use native.Mathlib.Omega.{arith}
-use Rattle.lifting.proofs.AtZero.{lifted-zero}
-use Rattle.whole_map.proofs.LevelCalls.{lifted-part}
+use Rattle.whole_map.proofs.ForwardCalls.{lifted-part}
 use borrow.Author.Needs.{needs}
 use Rattle.whole_map.proofs.passes.lift_row.Statement.{statement}
 use Rattle.whole_map.proofs.passes.lift_row.Tie as tie
@@ -38,8 +36,8 @@ returns c =
     let start = c .before .before .before in
     let args = start .args in
     let a = args .r * args .stride in
-    lifted-part a (args .width) (a + args .width - a) (args .area .now) (called .last .0) (omega arith) (start .pre .1) (called .kept .0)
-    (called .ensures ∙ lifted-zero _ _)
+    lifted-part (args .x) a (args .width) (a + args .width - a) (args .area .now) (called .last .0) (omega arith) (start .pre .1) (called .kept .0)
+    (called .ensures)
 
 pub lift-row-spec : {M : Type 1} → statement M
 lift-row-spec =

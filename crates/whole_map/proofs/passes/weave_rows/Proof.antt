@@ -1,13 +1,13 @@
 -- `whole_map::passes::weave_rows` meets its contract: a pass over all rows, each lent as a part. Assumes nothing.
 use mathlib.Core.Path.{_≡_, refl, sym, _∙_}
-use Prim.Native.Nat.{_+_, _-_, _*_, _≤_}
+use Prim.Native.Nat.{_+_, _-_, _*_, _/_, _≤_}
 use native.Mathlib.Omega.{arith}
 use lib.ListN.{length}
 use mir.Syntax.{w32}
 use mir.Val.{toZ}
 use mir.ValLaws.{toZ-ofZ}
 use Rattle.numbers.specs.Signal.{at}
-use Rattle.lifting.specs.Line.{lo, count}
+use Rattle.lifting.specs.Grid.{side}
 use Rattle.wavelet.specs.Limits.{maxWidth}
 use Rattle.whole_map.specs.Rowwise.{wovenInPlace, between}
 use Rattle.wavelet.specs.Plane.{cells}
@@ -22,17 +22,17 @@ use Rattle.whole_map.proofs.passes.weave_rows.Statement.{statement}
 use Rattle.whole_map.proofs.passes.weave_rows.Tie as tie
 
 abbrev Inv-loop : tie.InvT-loop
-Inv-loop area₀ stride width height low high line₀ ok₀ r₀ area line ok r =
+Inv-loop area₀ stride x width height low high line₀ ok₀ r₀ area line ok r =
     (r ≤ height)
-    × (length line ≡ count lo maxWidth)
+    × (length line ≡ maxWidth - maxWidth / 2)
     × (ok ≡ every r (λ i. every width (λ k. between (toZ w32 low) (toZ w32 high) (cells stride (at area₀) i k))))
-    × Passed stride width height (rowsMapped (wovenInPlace width) width height (cells stride (at area₀))) area₀ r area
+    × Passed stride width height (rowsMapped (wovenInPlace (side x width)) width height (cells stride (at area₀))) area₀ r area
 
 abbrev μ-loop : tie.MeasureT-loop
-μ-loop area₀ stride width height low high line₀ ok₀ r₀ area line ok r = height - r
+μ-loop area₀ stride x width height low high line₀ ok₀ r₀ area line ok r = height - r
 
 loop-holds : tie.Need-loop-holds Inv-loop μ-loop
-unfolding maxWidth count
+unfolding maxWidth
 loop-holds c = (omega arith, refl, between-start _, pass-start _ _ _ _ _ 0 (c .pre .0) (λ r k lt. absurd (omega arith)))
 
 room : (c : tie.In-loop Inv-loop μ-loop) → c .before .loop .r * c .before .before .args .stride + c .before .before .args .width ≤ length
@@ -58,7 +58,7 @@ part-weave-end : tie.Need-part-weave-end Inv-loop μ-loop
 part-weave-end c = omega (arith, room c)
 
 slice-aggregate-weave : tie.Need-slice-aggregate-weave Inv-loop μ-loop
-unfolding maxWidth count
+unfolding maxWidth
 slice-aggregate-weave c = sym (c .before .before .before .loop .inv .1)
 
 weave-requires : tie.Need-weave-requires Inv-loop μ-loop
@@ -87,14 +87,14 @@ loop-again c =
     let args = head .before .args in
     let a = head .loop .r * args .stride in (
       omega arith,
-      part .kept .1 .0 ∙ head .loop .inv .1,
+      part .kept .1 .1 .0 ∙ head .loop .inv .1,
       gather-turn _ _ (head .loop .r) _ (head .loop .inv .2)
           (part .ensures .0
           ∙ row-between _ _ (args .width) (head .loop .r) _ (cells (args .stride) (at (args .area .now))) _
           (row-length _ _ _ _ _ _ (a + args .width - a) _ (omega arith) (row .loop-test .taken) (head .loop .inv .3))
           (lent-row _ _ _ _ _ _ (a + args .width - a) _ (omega arith) (head .loop .inv .3))),
-      map-turn wovenInPlace _ _ _ _ _ (a + args .width - a) _ (part .last .0) (omega arith) (row .loop-test .taken) (part .kept .0) (part .ensures .1)
-          (head .loop .inv .3),
+      map-turn (λ n. wovenInPlace (side (args .x) n)) _ _ _ _ _ (a + args .width - a) _ (part .last .0) (omega arith) (row .loop-test .taken) (part .kept .0)
+          (part .ensures .1) (head .loop .inv .3),
     )
 
 same-length : tie.Need-same-length Inv-loop μ-loop

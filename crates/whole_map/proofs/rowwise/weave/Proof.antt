@@ -6,6 +6,7 @@ use mir.ValLaws.{toZ-ofZ}
 use Prim.Native.Nat.{_-_}
 use lib.ListN.{length}
 use Rattle.numbers.specs.Signal.{at}
+use Rattle.lifting.specs.Grid.{side}
 use Rattle.whole_map.proofs.RowwiseLaws.{weave-through, between-read}
 use borrow.Author.Needs.{needs}
 use Rattle.whole_map.proofs.rowwise.weave.Statement.{statement}
@@ -40,8 +41,8 @@ returns c =
     let row = start .args .row .now in
     let n = length row in (
       copied .ensures .0 ∙ between-read n (at row) (toZ-ofZ w32 _ (start .fits .low)) (toZ-ofZ w32 _ (start .fits .high)),
-      weave-through n (n - 0) _ (at row) _ (copied .last .1 .0) (omega arith) (omega (arith, copied .kept .1 .0)) (copied .ensures .1) n refl
-          (c .before .weave-line .ensures .1),
+      weave-through (side (start .args .x) n) (n - 0) _ (at row) _ (copied .last .1 .0) (omega arith) (omega (arith, copied .kept .1 .0)) (copied .ensures .1) n
+          refl (c .before .weave-line .ensures .1),
     )
 
 pub weave-spec : {M : Type 1} → statement M

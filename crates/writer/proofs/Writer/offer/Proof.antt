@@ -1,6 +1,6 @@
 -- `Writer::offer` meets its contract. The loop goes stretch by stretch: what is taken, the writer and the store so far are those of the offer height by
 -- height. Assumes nothing.
-use mathlib.Core.Path.{_≡_, sym, _∙_}
+use mathlib.Core.Path.{_≡_}
 use Prim.Native.Nat.{_-_}
 use native.Mathlib.Omega.{arith}
 use lib.ListN.{length}

@@ -1,58 +1,91 @@
 -- `cascade::pass_on` meets its contract: the LL row delivered, and what it makes below. Assumes nothing.
-use mathlib.Core.Path.{ap}
-use Prim.Native.Nat.{ℕ, _+_, _*_}
+use mathlib.Core.Path.{sym, ap, refl, _∙_}
+use Prim.Native.Nat.{_+_, _-_, _*_}
 use native.Mathlib.Omega.{arith}
 use lib.ListN.{length}
+use borrow.Author.Tests.{not-true}
 use Rattle.numbers.specs.Signal.{at}
-use Rattle.lifting.specs.Line.{lo, count}
+use Rattle.lifting.specs.Grid.{Side, side}
+use Rattle.wavelet.specs.Levels.{next}
 use Rattle.wavelet.specs.Store.{storeLength}
-use Rattle.wavelet.proofs.SizeLaws.{count-lo}
+use Rattle.wavelet.proofs.SideLaws.{count-lo, next-length}
 use Rattle.wavelet.proofs.StoreLaws.{store-next, store-back}
 use Rattle.level.proofs.SetLaws.{delivered-done}
 use Rattle.level.proofs.RestLaws.{at-rest, at-join}
-use Rattle.writer.proofs.CascadeLaws.{left-still, left-small, pass-none, passed-goes}
+use Rattle.writer.proofs.CountLaws.{next-is, start-is}
+use Rattle.writer.proofs.CascadeLaws.{left-still, left-small, goes, pass-none, passed-goes}
 use borrow.Author.Needs.{needs}
 use Rattle.writer.proofs.cascade.pass_on.Statement.{statement}
 use Rattle.writer.proofs.cascade.pass_on.Tie as tie
 
+goes-on-requires : tie.Need-goes-on-requires
+goes-on-requires c κs = tt
+
 returns : tie.Need-returns
-returns c = let a = c .before .args in left-still (a .l + 1) (a .w) _ _ (pass-none (a .w) (a .n) _ (a .l) (omega arith))
+returns c =
+    let a = c .before .before .args in
+    left-still (a .l + 1) (side (a .x) (a .w)) _ _
+    (pass-none (side (a .x) (a .w)) (a .y) (a .n) _ (a .l) (sym (c .before .goes-on .ensures) ∙ not-true _ (c .if1 .taken)))
+
+sub-k : tie.Need-sub-k
+sub-k c = let a = c .before .before .args in omega (arith, goes (a .l) (a .y) (a .n) _ (c .before .goes-on .ensures) (c .if1 .left))
+
+next-start-requires : tie.Need-next-start-requires
+next-start-requires c κs = tt
+
+add-deliver : tie.Need-add-deliver
+add-deliver c = omega arith
 
 deliver-requires : tie.Need-deliver-requires
 deliver-requires c κs = tt
 
 mul-a : tie.Need-mul-a
-mul-a c = search needs
+mul-a c = omega arith
 
 mul-arrive : tie.Need-mul-arrive
-mul-arrive c = search needs
+mul-arrive c = omega arith
 
 sub-arrive : tie.Need-sub-arrive
-sub-arrive c = omega (arith, store-next (c .before .before .before .before .args .w) (c .before .before .before .before .args .l))
+sub-arrive c = let a = c .before .before .before .before .before .before .args in omega (arith, store-next (side (a .x) (a .w)) (a .l))
 
 part-arrive-start : tie.Need-part-arrive-start
-part-arrive-start c = omega (arith, store-next (c .before .before .before .before .args .w) (c .before .before .before .before .args .l))
+part-arrive-start c = let a = c .before .before .before .before .before .before .args in omega (arith, store-next (side (a .x) (a .w)) (a .l))
 
 part-arrive-end : tie.Need-part-arrive-end
 part-arrive-end c = search needs
 
-half-requires : tie.Need-half-requires
-half-requires c κs = search needs
+low-count-requires : tie.Need-low-count-requires
+low-count-requires c κs = tt
+
+next-start-requires-2 : tie.Need-next-start-requires-2
+next-start-requires-2 c κs = tt
 
 arrive-requires : tie.Need-arrive-requires
 arrive-requires c κs =
-    let a = c .before .before .before .before .before .before .args in
-    omega (arith, store-next (a .w) (a .l), count-lo (a .w), ap (λ (v : ℕ). storeLength v (a .l)) (c .half .ensures))
+    let a = c .before .before .before .before .before .before .before .before .before .args in
+    let v = next-is (a .x) (a .w) _ _ (c .next-start2 .ensures) (c .before .low-count .ensures) in
+    omega (
+      arith,
+      store-next (side (a .x) (a .w)) (a .l),
+      count-lo (side (a .x) (a .w)),
+      c .before .low-count .ensures,
+      ap
+          (λ (S : Side). storeLength S (a .l)) v,
+    )
 
 deeper-requires : tie.Need-deeper-requires
-deeper-requires c κs = search needs
+deeper-requires c κs =
+    omega (arith, c .before .arrive .ensures .within, c .before .before .before .before .before .before .before .before .before .before .before .pre)
 
 further-requires : tie.Need-further-requires
 further-requires c κs =
-    let a = c .before .before .before .before .before .before .before .before .before .args in
-    let w = c .before .before .before .half in
-    let b = left-small (a .l) (w .result) _ _ _ (omega (arith, w .ensures, count-lo (a .w))) (omega arith) (c .before .before .arrive .ensures) in
-    omega arith
+    let start = c .before .before .before .before .before .before .before .before .before .before .before .before in
+    let a = start .args in
+    let v = c .before .before .before .before .low-count in
+    let o =
+    left-small (a .l) (side _ (v .result)) _ _ _ (omega (arith, start .pre, v .ensures, count-lo (side (a .x) (a .w)))) (omega (arith, start .pre))
+    (c .before .before .arrive .ensures) in
+    omega (arith, start .pre)
 
 same-length : tie.Need-same-length
 same-length c = search needs
@@ -60,28 +93,44 @@ same-length c = search needs
 returns-2 : tie.Need-returns-2
 returns-2 c =
     let e = c .before in
-    let a = e .before .before .before .before .before .before .before .before .before .args in
-    let l = e .before .before .before .before .before .before .deliver .last .0 in
-    let s = store-next (a .w) (a .l) in
-    let q = store-back (count lo (a .w)) (a .l) (omega arith) in
-    passed-goes (a .l) (a .w) (a .n) _ _ _ _ (at l) (at (e .before .before .arrive .last .0)) _ _ (omega arith)
-    (e .before .before .before .half .ensures) (delivered-done (length (a .store .now)) (a .w) _ _ _ (omega arith)
-    (e .before .before .before .before .before .before .deliver .ensures .1))
-    (rw (at-rest (4 * a .w) l) at (e .before .before .arrive .ensures)) (at-join (4 * a .w) l (e .before .before .arrive .last .0) (omega arith))
+    let below = e .before .before in
+    let sent = below .before .before .before .before .before in
+    let first = sent .before .before in
+    let on = first .before in
+    let start = on .before .before in
+    let a = start .args in
+    let l = sent .deliver .last .0 in
+    let g = goes (a .l) (a .y) (a .n) _ (on .before .goes-on .ensures) (on .if1 .left) in
+    let s = store-next (side (a .x) (a .w)) (a .l) in
+    let q = store-back (next (side (a .x) (a .w))) (a .l) (g .0) in
+    let h = next-length (side (a .x) (a .w)) in
+    passed-goes (a .l) (side (a .x) (a .w)) (a .y) (a .n) _ _ _ _ _ _ _ _ (at l) (at (below .arrive .last .0)) _ _ (g .0) (g .1)
+    (record {
+      columns = next-is (a .x) (a .w) _ _ (below .before .next-start2 .ensures) (below .before .before .low-count .ensures);
+      start = start-is (a .y) _ (first .next-start .ensures);
+      row = refl;
+    }) refl
+    (delivered-done (length (a .store .now)) (side (a .x) (a .w)) (a .n) _ _ _ (omega (arith, start .pre)) (sent .deliver .ensures .1))
+    (rw (at-rest (4 * a .w) l) at (below .arrive .ensures)) (at-join (4 * a .w) l (below .arrive .last .0) (omega (arith, start .pre, sent .deliver)))
     (e .deeper .ensures) (c .further .ensures)
 
 pub pass-on-spec : {M : Type 1} → statement M
 pass-on-spec =
     tie.close
     (tie.spec
+    goes-on-requires
     returns
+    sub-k
+    next-start-requires
+    add-deliver
     deliver-requires
     mul-a
     mul-arrive
     sub-arrive
     part-arrive-start
     part-arrive-end
-    half-requires
+    low-count-requires
+    next-start-requires-2
     arrive-requires
     deeper-requires
     further-requires

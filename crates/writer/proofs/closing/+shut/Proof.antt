@@ -3,19 +3,22 @@ use mathlib.Core.Path.{_≡_, ap}
 use Prim.Native.Nat.{ℕ, _+_, _-_, _*_, _<_}
 use native.Mathlib.Omega.{arith}
 use borrow.Author.Needs.{needs}
+use borrow.Fn.Kinds.{In}
+use borrow.Fn.PlainCycle.{Measures, is, falls, and}
 use Rattle.numbers.specs.Signal.{at}
+use Rattle.lifting.specs.Grid.{Side, side}
 use Rattle.wavelet.specs.Store.{storeLength}
-use Rattle.wavelet.proofs.SizeLaws.{count-lo}
+use Rattle.wavelet.proofs.SideLaws.{count-lo}
 use Rattle.wavelet.proofs.StoreLaws.{store-back}
 use Rattle.level.proofs.Places.{prev-is}
 use Rattle.level.proofs.RestLaws.{at-rest, at-join}
+use Rattle.writer.proofs.CountLaws.{next-is, start-is}
 use Rattle.writer.proofs.ClosingLaws.{closed-small, shut-none, shut-waits, shut-goes}
-use borrow.Fn.Kinds.{In}
-use borrow.Fn.PlainCycle.{Measures, is, falls, and}
 use Rattle.writer.proofs.closing.shut.Reads as shut
 use Rattle.writer.proofs.closing.shut.Kinds as shut-kinds
 use Rattle.writer.proofs.closing.+shut.Lts-shut as shut-lts
-use Rattle.wavelet.proofs.sizes.half.Reads as half-reads
+use Rattle.wavelet.proofs.sizes.low_count.Reads as low-count-reads
+use Rattle.wavelet.proofs.sizes.next_start.Reads as next-start-reads
 use Rattle.writer.proofs.closing.close_level.Reads as close-level-reads
 use Rattle.writer.proofs.counts.deeper.Reads as deeper-reads
 use Rattle.writer.proofs.counts.further.Reads as further-reads
@@ -37,8 +40,10 @@ abbrev claims : ℕ → shut-lts.Claims
 claims t = (
   close-level-reads.Asked,
   close-level-reads.Learnt,
-  half-reads.Asked,
-  half-reads.Learnt,
+  low-count-reads.Asked,
+  low-count-reads.Learnt,
+  next-start-reads.Asked,
+  next-start-reads.Learnt,
   prev-reads.Asked,
   prev-reads.Learnt,
   shut-below t,
@@ -50,84 +55,102 @@ claims t = (
 )
 
 shut-returns : (t : ℕ) → shut-lts.Need-returns (claims t) (shut-at t) shut.Post
-shut-returns t c = let a = c .before .args in shut-none (a .l) (a .w) (a .c) (a .m) _ (omega arith) (omega arith)
+shut-returns t c = let a = c .before .args in shut-none (a .l) (side (a .x) (a .w)) (a .y) (a .c) (a .m) _ (omega arith) (omega arith)
 
 shut-sub-close-level : (t : ℕ) → shut-lts.Need-sub-close-level (claims t) (shut-at t) shut.Post
-shut-sub-close-level t c = search needs
+shut-sub-close-level t c = omega arith
 
 shut-close-level-requires : (t : ℕ) → shut-lts.Need-close-level-requires (claims t) (shut-at t) shut.Post
 shut-close-level-requires t c κs =
     let a = c .before .before .args in
     let k : a .l - 1 + 1 ≡ a .l = omega arith in
-    omega (arith, ap (storeLength (a .w)) k)
+    omega (arith, ap (storeLength (side (a .x) (a .w))) k)
 
 shut-same-length : (t : ℕ) → shut-lts.Need-same-length (claims t) (shut-at t) shut.Post
 shut-same-length t c = search needs
 
 shut-returns-2 : (t : ℕ) → shut-lts.Need-returns-2 (claims t) (shut-at t) shut.Post
-shut-returns-2 t c = let a = c .before .before .before .before .before .before .args in shut-waits (a .l) (a .w) (a .c) (a .m) _ _ _ (omega arith)
-    (c .before .before .before .close-level .ensures) (omega arith)
+shut-returns-2 t c =
+    let a = c .before .before .before .before .before .before .args in
+    shut-waits (a .l) (side (a .x) (a .w)) (a .y) (a .c) (a .m) _ _ _ (omega arith) (c .before .before .before .close-level .ensures) (omega arith)
 
 shut-mul-a : (t : ℕ) → shut-lts.Need-mul-a (claims t) (shut-at t) shut.Post
-shut-mul-a t c = search needs
+shut-mul-a t c = omega arith
 
 shut-mul-shut : (t : ℕ) → shut-lts.Need-mul-shut (claims t) (shut-at t) shut.Post
-shut-mul-shut t c = search needs
+shut-mul-shut t c = omega arith
 
 shut-sub-shut : (t : ℕ) → shut-lts.Need-sub-shut (claims t) (shut-at t) shut.Post
-shut-sub-shut t c = omega (
-  arith,
-  store-back (c .before .before .before .before .before .before .args .w)
-      (c .before .before .before .before .before .before .args .l) (omega arith),
-)
+shut-sub-shut t c = let a = c .before .before .before .before .before .before .args in omega (arith, store-back (side (a .x) (a .w)) (a .l) (omega arith))
 
 shut-part-shut-start : (t : ℕ) → shut-lts.Need-part-shut-start (claims t) (shut-at t) shut.Post
-shut-part-shut-start t c = omega (
-  arith,
-  store-back (c .before .before .before .before .before .before .args .w)
-      (c .before .before .before .before .before .before .args .l) (omega arith),
-)
+shut-part-shut-start t c =
+    let a = c .before .before .before .before .before .before .args in omega (arith, store-back (side (a .x) (a .w)) (a .l) (omega arith))
 
 shut-part-shut-end : (t : ℕ) → shut-lts.Need-part-shut-end (claims t) (shut-at t) shut.Post
 shut-part-shut-end t c = search needs
 
 shut-sub-shut-2 : (t : ℕ) → shut-lts.Need-sub-shut-2 (claims t) (shut-at t) shut.Post
-shut-sub-shut-2 t c = search needs
+shut-sub-shut-2 t c = omega arith
 
-shut-half-requires : (t : ℕ) → shut-lts.Need-half-requires (claims t) (shut-at t) shut.Post
-shut-half-requires t c κs = search needs
+shut-low-count-requires : (t : ℕ) → shut-lts.Need-low-count-requires (claims t) (shut-at t) shut.Post
+shut-low-count-requires t c κs = tt
+
+shut-next-start-requires : (t : ℕ) → shut-lts.Need-next-start-requires (claims t) (shut-at t) shut.Post
+shut-next-start-requires t c κs = tt
+
+shut-next-start-requires-2 : (t : ℕ) → shut-lts.Need-next-start-requires-2 (claims t) (shut-at t) shut.Post
+shut-next-start-requires-2 t c κs = tt
 
 shut-prev-requires : (t : ℕ) → shut-lts.Need-prev-requires (claims t) (shut-at t) shut.Post
-shut-prev-requires t c κs = search needs
+shut-prev-requires t c κs = tt
 
-shut-half-requires-2 : (t : ℕ) → shut-lts.Need-half-requires-2 (claims t) (shut-at t) shut.Post
-shut-half-requires-2 t c κs = search needs
+shut-low-count-requires-2 : (t : ℕ) → shut-lts.Need-low-count-requires-2 (claims t) (shut-at t) shut.Post
+shut-low-count-requires-2 t c κs = tt
 
 shut-shut-requires : (t : ℕ) → shut-lts.Need-shut-requires (claims t) (shut-at t) shut.Post
 shut-shut-requires t c κs =
-    let a = c .before .before .before .before .before .before .before .before .before .before .args in
+    let a = c .before .before .before .before .before .before .before .before .before .before .before .before .args in
+    let width = c .before .before .before .before .low-count in
+    let v = next-is (a .x) (a .w) _ _ (c .before .before .before .next-start .ensures) (width .ensures) in
     omega (
       arith,
-      store-back (a .w) (a .l) (omega arith),
-      count-lo (a .w),
-      count-lo (a .m),
+      c .before .before .before .before .before .before .before .before .before .before .before .before .pre,
+      store-back (side (a .x) (a .w)) (a .l) (omega arith),
+      count-lo (side (a .x) (a .w)),
+      width .ensures,
+      count-lo (side (a .y) (a .m)),
+      c .low-count2 .ensures,
+      c .before .prev .ensures,
       prev-is (a .c),
-      ap (λ (v : ℕ). storeLength v (a .l - 1))
-          (c .before .before .half .ensures),
+      ap (λ (S : Side). storeLength S (a .l - 1)) v,
     )
 
-shut-add-t12 : (t : ℕ) → shut-lts.Need-add-t12 (claims t) (shut-at t) shut.Post
-shut-add-t12 t c = search needs
+shut-add-t14 : (t : ℕ) → shut-lts.Need-add-t14 (claims t) (shut-at t) shut.Post
+shut-add-t14 t c =
+    omega (
+      arith,
+      c .before .before .shut .ensures .all,
+      c .before .before .before .before .before .before .before .before .before .before .before .before .before .before .before .pre,
+    )
 
 shut-deeper-requires : (t : ℕ) → shut-lts.Need-deeper-requires (claims t) (shut-at t) shut.Post
-shut-deeper-requires t c κs = search needs
+shut-deeper-requires t c κs =
+    omega (
+      arith,
+      c .before .before .shut .ensures .within,
+      c .before .before .before .before .before .before .before .before .before .before .before .before .before .before .before .pre,
+    )
 
 shut-further-requires : (t : ℕ) → shut-lts.Need-further-requires (claims t) (shut-at t) shut.Post
 shut-further-requires t c κs =
-    let a = c .before .before .before .before .before .before .before .before .before .before .before .before .before .before .args in
-    let w = c .before .before .before .before .before .before .half in
-    let b = closed-small (a .l - 1) (w .result) _ _ _ (omega (arith, w .ensures, count-lo (a .w))) (omega arith) (c .before .before .before .shut .ensures) in
-    omega arith
+    let start = c .before .before .before .before .before .before .before .before .before .before .before .before .before .before .before .before in
+    let a = start .args in
+    let v = c .before .before .before .before .before .before .before .before .low-count in
+    let o =
+    closed-small (a .l - 1) (side _ (v .result)) _ _ _ (omega (arith, start .pre, v .ensures, count-lo (side (a .x) (a .w)))) (omega (arith, start .pre))
+    (c .before .before .before .shut .ensures) in
+    omega (arith, start .pre)
 
 shut-same-length-2 : (t : ℕ) → shut-lts.Need-same-length-2 (claims t) (shut-at t) shut.Post
 shut-same-length-2 t c = search needs
@@ -135,16 +158,20 @@ shut-same-length-2 t c = search needs
 shut-returns-3 : (t : ℕ) → shut-lts.Need-returns-3 (claims t) (shut-at t) shut.Post
 shut-returns-3 t c =
     let e = c .before in
-    let a = e .before .before .before .before .before .before .before .before .before .before .before .before .before .before .args in
-    let l = e .before .before .before .before .before .before .before .before .before .before .before .close-level .last .0 in
-    let s = store-back (a .w) (a .l) (omega (arith, e .before)) in
-    shut-goes (a .l) (a .w) (a .c) (a .m) _ (at l) _ (omega (arith, e .before))
-    (e .before .before .before .before .before .before .before .before .before .before .before .close-level .ensures) _ _ _ _ _
-    (at (e .before .before .before .shut .last .0)) _ _ (omega (arith, e .before))
-    (e .before .before .before .before .before .before .half .ensures) (e .before .before .before .before .before .prev .ensures)
-    (e .before .before .before .before .half2 .ensures)
-    (rw (at-rest (4 * a .w) l) at (e .before .before .before .shut .ensures)) (at-join (4 * a .w) l (e .before .before .before .shut .last .0)
-    (omega (arith, e .before))) (e .deeper .ensures) (c .further .ensures)
+    let below = e .before .before .before in
+    let level = below .before .before .before .before .before .before .before .before .before .before in
+    let start = level .before .before .before in
+    let a = start .args in
+    let l = level .close-level .last .0 in
+    let s = store-back (side (a .x) (a .w)) (a .l) (omega (arith, e .before)) in
+    let prev = below .before .before in
+    let from = prev .before .before in
+    shut-goes (a .l) (side (a .x) (a .w)) (a .y) (a .c) (a .m) _ (at l) _ (omega (arith, e .before)) (level .close-level .ensures) _ _ _ _ _ _
+    (at (below .shut .last .0)) _ _ (omega (arith, e .before))
+    (next-is (a .x) (a .w) _ _ (from .next-start .ensures) (from .before .low-count .ensures)) (start-is (a .y) _ (prev .before .next-start2 .ensures))
+    (prev .prev .ensures) (below .before .low-count2 .ensures)
+    (rw (at-rest (4 * a .w) l) at (below .shut .ensures)) (at-join (4 * a .w) l (below .shut .last .0) (omega (arith, e .before)))
+    (e .deeper .ensures) (c .further .ensures)
 
 pub +shut-spec : {M : Type 1} → statement M
 +shut-spec =
@@ -165,11 +192,13 @@ pub +shut-spec : {M : Type 1} → statement M
     (shut-part-shut-start t)
     (shut-part-shut-end t)
     (shut-sub-shut-2 t)
-    (shut-half-requires t)
+    (shut-low-count-requires t)
+    (shut-next-start-requires t)
+    (shut-next-start-requires-2 t)
     (shut-prev-requires t)
-    (shut-half-requires-2 t)
+    (shut-low-count-requires-2 t)
     (shut-shut-requires t)
-    (shut-add-t12 t)
+    (shut-add-t14 t)
     (shut-deeper-requires t)
     (shut-further-requires t)
     (shut-same-length-2 t)

@@ -1,17 +1,17 @@
 -- `counts::next_band` meets its contract. The loop's invariant: what k bands come to is what i bands come to. Assumes nothing.
 use mathlib.Core.Path.{_≡_, refl, sym, ap, _∙_}
 use native.Mathlib.Omega.{arith}
-use borrow.Author.Needs.{needs}
+use Rattle.lifting.specs.Grid.{side}
 use Rattle.writer.specs.Counts.{skip}
 use Rattle.writer.proofs.CountLaws.{skip-all, skip-stop, skip-go, skip-none}
 use Rattle.writer.proofs.counts.next_band.Statement.{statement}
 use Rattle.writer.proofs.counts.next_band.Tie as tie
 
 abbrev Inv-loop : tie.InvT-loop
-Inv-loop w m n i k₀ k = skip w m n k ≡ skip w m n i
+Inv-loop w x m y n i k₀ k = skip (side x w) (side y m) n k ≡ skip (side x w) (side y m) n i
 
 abbrev μ-loop : tie.MeasureT-loop
-μ-loop w m n i k₀ k = k
+μ-loop w x m y n i k₀ k = k
 
 all-have-requires : tie.Need-all-have-requires Inv-loop μ-loop
 all-have-requires c κs = tt
@@ -26,7 +26,7 @@ sub-has-row : tie.Need-sub-has-row Inv-loop μ-loop
 sub-has-row c = omega arith
 
 has-row-requires : tie.Need-has-row-requires Inv-loop μ-loop
-has-row-requires c κs = search needs
+has-row-requires c κs = tt
 
 returns-2 : tie.Need-returns-2 Inv-loop μ-loop
 returns-2 c =
@@ -49,7 +49,7 @@ returns-3 c =
     let a = c .before .before .before .before .args in
     let l = c .before .loop in
     let z : l .k ≡ 0 = omega arith in
-    skip-none (a .w) (a .m) (a .n) ∙ ap (skip (a .w) (a .m) (a .n)) (sym z) ∙ l .inv
+    skip-none (side (a .x) (a .w)) (side (a .y) (a .m)) (a .n) ∙ ap (skip (side (a .x) (a .w)) (side (a .y) (a .m)) (a .n)) (sym z) ∙ l .inv
 
 pub next-band-spec : {M : Type 1} → statement M
 next-band-spec =

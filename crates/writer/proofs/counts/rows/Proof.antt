@@ -1,35 +1,38 @@
 -- `counts::rows` meets its contract. Assumes nothing.
 use mathlib.Core.Path.{_≡_, _∙_, refl}
-use Prim.Native.Nat.{ℕ, zero, suc, _/_, _<_, _≤_}
+use Prim.Native.Nat.{ℕ, zero, suc, _<_, _≤_}
 use native.Mathlib.Omega.{arith}
-use borrow.Author.Needs.{needs}
-use Rattle.lifting.specs.Line.{lo, count}
+use Rattle.lifting.specs.Line.{lo, hi}
+use Rattle.lifting.specs.Grid.{Side, count}
 use Rattle.wavelet.specs.Bands.{down}
 use Rattle.writer.specs.Counts.{bandAt}
 use Rattle.writer.proofs.counts.rows.Statement.{statement}
 use Rattle.writer.proofs.counts.rows.Tie as tie
 
-high : (m i : ℕ) → i < 2 → m / 2 ≡ count (down (bandAt i)) m
-unfolding count down bandAt
-high m zero h = refl
-high m (suc zero) h = refl
-high m (suc (suc i)) h = absurd (omega arith)
-
-low : (m i : ℕ) → 2 ≤ i → count lo m ≡ count (down (bandAt i)) m
+high : (H : Side) (i : ℕ) → i < 2 → count hi H ≡ count (down (bandAt i)) H
 unfolding down bandAt
-low m zero h = absurd (omega arith)
-low m (suc zero) h = absurd (omega arith)
-low m (suc (suc zero)) h = refl
-low m (suc (suc (suc i))) h = refl
+high H zero h = refl
+high H (suc zero) h = refl
+high H (suc (suc i)) h = absurd (omega arith)
+
+low : (H : Side) (i : ℕ) → 2 ≤ i → count lo H ≡ count (down (bandAt i)) H
+unfolding down bandAt
+low H zero h = absurd (omega arith)
+low H (suc zero) h = absurd (omega arith)
+low H (suc (suc zero)) h = refl
+low H (suc (suc (suc i))) h = refl
+
+high-count-requires : tie.Need-high-count-requires
+high-count-requires c κs = tt
 
 returns : tie.Need-returns
-returns c = high _ _ (omega arith)
+returns c = c .high-count .ensures ∙ high _ _ (omega arith)
 
-half-requires : tie.Need-half-requires
-half-requires c κs = search needs
+low-count-requires : tie.Need-low-count-requires
+low-count-requires c κs = tt
 
 returns-2 : tie.Need-returns-2
-returns-2 c = c .half .ensures ∙ low _ _ (omega arith)
+returns-2 c = c .low-count .ensures ∙ low _ _ (omega arith)
 
 pub rows-spec : {M : Type 1} → statement M
-rows-spec = tie.close (tie.spec returns half-requires returns-2)
+rows-spec = tie.close (tie.spec high-count-requires returns low-count-requires returns-2)

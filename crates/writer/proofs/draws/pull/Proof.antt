@@ -1,14 +1,14 @@
 -- `draws::pull` meets its contract: from the offset on, the next band of the set, or its LL row gone on. Assumes nothing.
 use Prim.Native.Nat.{_+_, _-_}
 use native.Mathlib.Omega.{arith}
-use borrow.Author.Needs.{needs}
 use Rattle.numbers.specs.Signal.{at}
 use Rattle.wavelet.proofs.StoreLaws.{store-le}
-use Rattle.level.proofs.Places.{prev-is}
 use Rattle.level.proofs.RestLaws.{at-rest, at-join}
-use Rattle.writer.proofs.CountLaws.{made-le}
+use Rattle.writer.specs.Taking.{columnsOf}
+use Rattle.writer.specs.Steps.{columns}
 use Rattle.writer.proofs.CascadeLaws.{left-small}
 use Rattle.writer.proofs.DrawLaws.{pull-waits, pull-goes}
+use borrow.Author.Needs.{needs}
 use Rattle.writer.proofs.draws.pull.Statement.{statement}
 use Rattle.writer.proofs.draws.pull.Tie as tie
 
@@ -58,8 +58,8 @@ further-requires c κs =
     let s = e .args .s in
     let d = e .pre .0 in
     let f = e .pre .1 in
-    let o = left-small (q .below + 1) (q .width) _ _ _ (f .wide) (omega (arith, f .deep, d .walk)) (p .pass-on .ensures) in
-    omega (arith, store-le (s .width) (s .levels), f .room, d .placed, d .walk .wide, d .walk .deep)
+    let o = left-small (q .below + 1) (columns q) _ _ _ (f .wide) (omega (arith, f .deep, d .walk)) (p .pass-on .ensures) in
+    omega (arith, store-le (columnsOf s) (s .levels), f .room, d .placed, d .walk .wide, d .walk .deep)
 
 same-length : tie.Need-same-length
 same-length c = search needs

@@ -3,17 +3,20 @@ use mathlib.Core.Path.{_≡_, refl, _∙_}
 use Prim.Native.Nat.{_<_, _^_}
 use native.Mathlib.Omega.{arith}
 use lib.Dec.{eqb}
-use Rattle.wavelet.proofs.SizeLaws.{count-lo}
+use Rattle.lifting.specs.Grid.{side}
+use Rattle.wavelet.proofs.SideLaws.{count-lo}
 use Rattle.writer.specs.Counts.{startOf}
+use Rattle.writer.proofs.CountLaws.{next-is}
 use Rattle.writer.proofs.GateLaws.{begins-short, begins-on, begins-first}
 use Rattle.writer.proofs.gate.begins.Statement.{statement}
 use Rattle.writer.proofs.gate.begins.Tie as tie
 
 abbrev Inv-loop : tie.InvT-loop
-Inv-loop w v o width₀ rest₀ k₀ width rest k = (width < 2 ^ 16) × (0 < k) × (eqb rest (startOf width k) ≡ eqb o (startOf w v))
+Inv-loop w x v o width₀ column₀ rest₀ k₀ width column rest k =
+    (width < 2 ^ 16) × (0 < k) × (eqb rest (startOf (side column width) k) ≡ eqb o (startOf (side x w) v))
 
 abbrev μ-loop : tie.MeasureT-loop
-μ-loop w v o width₀ rest₀ k₀ width rest k = k
+μ-loop w x v o width₀ column₀ rest₀ k₀ width column rest k = k
 
 loop-holds : tie.Need-loop-holds Inv-loop μ-loop
 loop-holds c = (c .pre .0, c .pre .1, refl)
@@ -24,8 +27,11 @@ mul-a c = omega arith
 returns : tie.Need-returns Inv-loop μ-loop
 returns c = let l = c .before .before .loop in begins-short _ _ _ (c .before .loop-test .taken) (omega arith) ∙ l .inv .2
 
-half-requires : tie.Need-half-requires Inv-loop μ-loop
-half-requires c κs = tt
+low-count-requires : tie.Need-low-count-requires Inv-loop μ-loop
+low-count-requires c κs = tt
+
+next-start-requires : tie.Need-next-start-requires Inv-loop μ-loop
+next-start-requires c κs = tt
 
 sub-k : tie.Need-sub-k Inv-loop μ-loop
 sub-k c = omega arith
@@ -35,14 +41,15 @@ loop-less c = omega arith
 
 loop-again : tie.Need-loop-again Inv-loop μ-loop
 loop-again c =
-    let l = c .before .before .before .loop in (
-      omega (arith, count-lo (l .width)),
+    let l = c .before .before .before .before .loop in (
+      omega (arith, c .before .low-count .ensures, count-lo (side (l .column) (l .width))),
       omega arith,
-      begins-on (l .width) (l .k) (l .rest) _ (omega arith) (omega arith) (c .half .ensures) ∙ l .inv .2,
+      begins-on (side (l .column) (l .width)) (l .k) (l .rest) _ (omega arith) (omega arith)
+          (next-is (l .column) (l .width) _ _ (c .next-start .ensures) (c .before .low-count .ensures)) ∙ l .inv .2,
     )
 
 returns-2 : tie.Need-returns-2 Inv-loop μ-loop
-returns-2 c = let l = c .before .loop in begins-first (l .width) (l .k) (l .rest) (omega arith) ∙ l .inv .2
+returns-2 c = let l = c .before .loop in begins-first (side (l .column) (l .width)) (l .k) (l .rest) (omega arith) ∙ l .inv .2
 
 pub begins-spec : {M : Type 1} → statement M
 begins-spec =
@@ -53,7 +60,8 @@ begins-spec =
     loop-holds
     mul-a
     returns
-    half-requires
+    low-count-requires
+    next-start-requires
     sub-k
     loop-less
     loop-again

@@ -1,11 +1,11 @@
 -- `gate::set_up_question` meets its contract: each test is the definition's, in its order. Assumes nothing.
 use mathlib.Core.Path.{_≡_, sym, _∙_}
 use mathlib.Core.Bool.{true}
-use native.Mathlib.Omega.{arith}
-use borrow.Author.Needs.{needs}
 use Prim.Native.Nat.{ℕ, _<_, _≤_}
+use native.Mathlib.Omega.{arith}
 use borrow.Author.Tests.{not-true, not-false, le-leb, lt-leb}
 use Rattle.numbers.specs.Signal.{pick, both}
+use Rattle.lifting.specs.Grid.{Side}
 use Rattle.wavelet.specs.Limits.{maxWidth, maxLevels}
 use Rattle.wavelet.specs.Questions.{within}
 use Rattle.wavelet.specs.Store.{storeLength}
@@ -13,8 +13,8 @@ use Rattle.writer.specs.Questions.{setUpQuestion}
 use Rattle.writer.proofs.gate.set_up_question.Statement.{statement}
 use Rattle.writer.proofs.gate.set_up_question.Tie as tie
 
-module _ (W L n k : ℕ) (w : within 1 maxWidth W ≡ true) (l : within 1 maxLevels L ≡ true)
-    (e : k ≡ pick (both (within 1 maxWidth W) (within 1 maxLevels L)) (storeLength W L) 0) where
+module _ (W : Side) (L n k : ℕ) (w : within 1 maxWidth (W .length) ≡ true) (l : within 1 maxLevels L ≡ true)
+    (e : k ≡ pick (both (within 1 maxWidth (W .length)) (within 1 maxLevels L)) (storeLength W L) 0) where
   needed : k ≡ storeLength W L
   needed = e ∙ simp (w, l)
 
@@ -27,14 +27,14 @@ module _ (W L n k : ℕ) (w : within 1 maxWidth W ≡ true) (l : within 1 maxLev
   long g = simp (w, l, le-leb (storeLength W L) n (omega (arith, needed)))
 
 is-within-requires : tie.Need-is-within-requires
-is-within-requires c κs = search needs
+is-within-requires c κs = tt
 
 returns : tie.Need-returns
 unfolding setUpQuestion maxWidth maxLevels
 returns c = simp (sym (c .before .is-within .ensures) ∙ not-true _ (c .if1 .taken))
 
 is-within-requires-2 : tie.Need-is-within-requires-2
-is-within-requires-2 c κs = search needs
+is-within-requires-2 c κs = tt
 
 returns-2 : tie.Need-returns-2
 unfolding setUpQuestion maxWidth maxLevels
@@ -45,7 +45,7 @@ returns-2 c = simp (
 )
 
 store-length-requires : tie.Need-store-length-requires
-store-length-requires c κs = search needs
+store-length-requires c κs = tt
 
 returns-3 : tie.Need-returns-3
 unfolding maxWidth maxLevels

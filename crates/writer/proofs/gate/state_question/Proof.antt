@@ -1,57 +1,62 @@
 -- `gate::state_question` meets its contract: each test is the definition's, in its order. Assumes nothing.
 use mathlib.Core.Path.{_≡_, sym, _∙_}
 use mathlib.Core.Bool.{true}
-use native.Mathlib.Omega.{arith}
-use borrow.Author.Needs.{needs}
 use Prim.Native.Nat.{ℕ, _+_, _*_, _/_, _^_, _<_, _≤_}
+use native.Mathlib.Omega.{arith}
 use lib.Dec.{leb}
 use borrow.Author.Tests.{not-true, not-false, le-leb, lt-leb, leb-true}
 use Rattle.numbers.specs.Signal.{pick, both}
 use Rattle.numbers.proofs.Sweep as sweep
 use Rattle.wavelet.specs.Limits.{maxWidth, maxLevels}
 use Rattle.wavelet.specs.Questions.{within}
-use Rattle.wavelet.specs.Store.{storeLength}
 use Rattle.wavelet.proofs.LimitLaws.{width-small}
 use Rattle.wavelet.proofs.QuestionLaws.{within-true}
+use Rattle.wavelet.specs.Store.{storeLength}
+use Rattle.wavelet.proofs.StoreLaws.{store-most}
 use Rattle.writer.specs.declared.Writer.{Writer}
-use Rattle.writer.specs.Questions.{inRanges, longEnough}
+use Rattle.writer.specs.Taking.{columnsOf}
+use Rattle.writer.specs.Questions.{onGrid, inRanges, longEnough}
 use Rattle.writer.specs.Gate.{stateQuestion}
-use Rattle.writer.proofs.GateLaws.{enough}
 use Rattle.writer.proofs.gate.state_question.Statement.{statement}
 use Rattle.writer.proofs.gate.state_question.Tie as tie
 
+-- the width and the number of levels are within the limits
+within-limits : (s : Writer) → inRanges s ≡ true → (within 1 maxWidth (s .width) ≡ true) × (within 1 maxLevels (s .levels) ≡ true)
+unfolding inRanges
+within-limits s h =
+    let o = sweep.both (onGrid (s .x) (s .y)) _ h in
+    let a = sweep.both (within 1 maxWidth (s .width)) _ (o .1) in
+    (a .0, sweep.both (within 1 maxLevels (s .levels)) _ (a .1) .0)
+
 module _ (s : Writer) (n : ℕ) (h : inRanges s ≡ true) where
   wide : s .width < 2 ^ 16
-  unfolding inRanges
-  wide = let a = sweep.both (within 1 maxWidth (s .width)) _ h in omega (arith, within-true 1 maxWidth _ (a .0), width-small)
+  wide = omega (arith, within-true 1 maxWidth _ (within-limits s h .0), width-small)
 
   any : leb ((31 * s .width + 52) / 4) n ≡ true → 0 ≡ stateQuestion s n
-  unfolding stateQuestion longEnough inRanges maxLevels
+  unfolding stateQuestion longEnough
   any g =
-      let a = sweep.both (within 1 maxWidth (s .width)) _ h in
-      let b = sweep.both (within 1 maxLevels (s .levels)) _ (a .1) in
-      let l = within-true 1 5 _ (b .0) in
-      simp (h, le-leb (storeLength (s .width) (s .levels)) n (enough (s .width) (s .levels) n (l .1) (leb-true _ _ g)))
+      let l = within-true 1 maxLevels _ (within-limits s h .1) in
+      simp (
+        h,
+        le-leb (storeLength (columnsOf s) (s .levels)) n
+            (omega (arith, store-most (columnsOf s) (s .levels) (l .1), leb-true ((31 * s .width + 52) / 4) n g)),
+      )
 
 module _ (s : Writer) (n k : ℕ) (h : inRanges s ≡ true)
-    (e : k ≡ pick (both (within 1 maxWidth (s .width)) (within 1 maxLevels (s .levels))) (storeLength (s .width) (s .levels)) 0) where
-  needed : k ≡ storeLength (s .width) (s .levels)
-  unfolding inRanges
-  needed =
-      let a = sweep.both (within 1 maxWidth (s .width)) _ h in
-      let b = sweep.both (within 1 maxLevels (s .levels)) _ (a .1) in
-      e ∙ simp (a .0, b .0)
+    (e : k ≡ pick (both (within 1 maxWidth (s .width)) (within 1 maxLevels (s .levels))) (storeLength (columnsOf s) (s .levels)) 0) where
+  needed : k ≡ storeLength (columnsOf s) (s .levels)
+  needed = let a = within-limits s h in e ∙ simp (a .0, a .1)
 
   short : n < k → 5 ≡ stateQuestion s n
   unfolding stateQuestion longEnough
-  short g = simp (h, lt-leb (storeLength (s .width) (s .levels)) n (omega (arith, needed)))
+  short g = simp (h, lt-leb (storeLength (columnsOf s) (s .levels)) n (omega (arith, needed)))
 
   long : k ≤ n → 0 ≡ stateQuestion s n
   unfolding stateQuestion longEnough
-  long g = simp (h, le-leb (storeLength (s .width) (s .levels)) n (omega (arith, needed)))
+  long g = simp (h, le-leb (storeLength (columnsOf s) (s .levels)) n (omega (arith, needed)))
 
 in-ranges-requires : tie.Need-in-ranges-requires
-in-ranges-requires c κs = search needs
+in-ranges-requires c κs = tt
 
 returns : tie.Need-returns
 unfolding stateQuestion
@@ -66,7 +71,7 @@ returns-2 c =
     any _ _ (sym (r .before .in-ranges .ensures) ∙ not-false _ (r .if1 .left)) (sym (c .before .holds-any .ensures) ∙ c .if2 .taken)
 
 store-length-requires : tie.Need-store-length-requires
-store-length-requires c κs = search needs
+store-length-requires c κs = tt
 
 returns-3 : tie.Need-returns-3
 returns-3 c =

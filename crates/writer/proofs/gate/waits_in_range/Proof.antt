@@ -1,7 +1,8 @@
 -- `gate::waits_in_range` meets its contract. Assumes nothing.
 use mathlib.Core.Path.{sym, ap, _∙_}
-use lib.Dec.{eqb}
 use native.Mathlib.Omega.{arith}
+use lib.Dec.{eqb}
+use Rattle.writer.specs.Taking.{columnsOf}
 use Rattle.writer.proofs.CountLaws.{left-none, left-some, start-first}
 use Rattle.writer.proofs.GateLaws.{left-no, left-yes}
 use Rattle.writer.proofs.gate.waits_in_range.Statement.{statement}
@@ -14,7 +15,7 @@ returns-2 : tie.Need-returns-2
 returns-2 c =
     let s = c .before .before .before .before .before .args .s in
     left-yes (s .left) 0 _ _ _ (left-none (s .levels) (s .level) (omega arith)) (omega arith)
-    (ap (eqb (s .offset)) (sym (start-first (s .width) (s .level) (omega arith))))
+    (ap (eqb (s .offset)) (sym (start-first (columnsOf s) (s .level) (omega arith))))
 
 sub-most : tie.Need-sub-most
 sub-most c = omega arith
@@ -36,4 +37,6 @@ returns-4 c =
     left-yes (s .left) _ _ _ _ (c .before .before .before .most .ensures ∙ left-some (s .levels) (s .level) (omega arith)) (omega arith) (c .begins .ensures)
 
 pub waits-in-range-spec : {M : Type 1} → statement M
-waits-in-range-spec = tie.close (tie.spec returns returns-2 sub-most most-requires returns-3 begins-requires returns-4)
+waits-in-range-spec =
+    tie.close
+    (tie.spec returns returns-2 sub-most most-requires returns-3 begins-requires returns-4)

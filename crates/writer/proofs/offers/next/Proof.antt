@@ -1,6 +1,5 @@
 -- `offers::next` meets its contract. Assumes nothing.
 use native.Mathlib.Omega.{arith}
-use borrow.Author.Needs.{needs}
 use Rattle.wavelet.specs.Limits.{maxHeight}
 use Rattle.writer.proofs.OfferLaws.{takes-yes, takes-waits, takes-full, next-none, next-some, next-empty}
 use Rattle.writer.proofs.offers.next.Statement.{statement}

@@ -1,30 +1,35 @@
 -- `offers::stretch` meets its contract: the heights put, and where they complete the row, what that makes. Assumes nothing.
 use mathlib.Core.Path.{_≡_}
 use mathlib.Core.List.{List}
-use Prim.Native.Nat.{ℕ, _+_, _≤_}
+use Prim.Native.Nat.{ℕ, _+_, _%_, _≤_}
 use native.Mathlib.Omega.{arith}
 use lib.IntN.{ℤ}
 use lib.ListN.{length}
-use borrow.Author.Needs.{needs}
-use Rattle.lifting.specs.Line.{lo, count}
-use Rattle.wavelet.proofs.LimitLaws.{height-small}
-use Rattle.wavelet.proofs.StoreLaws.{store-none, store-below, store-back}
 use Rattle.numbers.specs.Signal.{pick}
+use Rattle.wavelet.proofs.LimitLaws.{height-small}
+use Rattle.wavelet.specs.Levels.{next}
+use Rattle.wavelet.proofs.StoreLaws.{store-none, store-below, store-back}
 use Rattle.level.specs.Heights.{heightAt, heightsPut, heightsFit}
 use Rattle.level.proofs.FillLaws.{put-done}
 use Rattle.writer.specs.declared.Writer.{Writer}
+use Rattle.writer.specs.Taking.{columnsOf}
 use Rattle.writer.specs.Stretch.{Taker}
 use Rattle.writer.proofs.OfferLaws.{stretched-inside, stretched-whole}
+use borrow.Author.Needs.{needs}
 use Rattle.writer.proofs.offers.stretch.Statement.{statement}
 use Rattle.writer.proofs.offers.stretch.Tie as tie
 
 -- the heights are put: the store has room for every level, and so for level 1 alone
 put-there : (s : Writer) (run : List ℕ) (from n k : ℕ) (x y : ℕ → ℤ) → Taker s k → s .column + n ≤ s .width → from + n ≤ length run →
-    y ≡ pick (heightsFit k (s .width) (s .column) n (length run) from) (heightsPut (s .width) (s .rows) (s .column) n (λ j. heightAt run (from + j)) x) x →
-    y ≡ heightsPut (s .width) (s .rows) (s .column) n (λ j. heightAt run (from + j)) x
+    y ≡ pick (heightsFit k (s .width) (s .column) n (length run) from)
+    (heightsPut (columnsOf s) (s .y % 2 + s .rows) (s .column) n (λ j. heightAt run (from + j)) x) x →
+    y ≡ heightsPut (columnsOf s) (s .y % 2 + s .rows) (s .column) n (λ j. heightAt run (from + j)) x
 put-there s run from n k x y t p q e =
-    put-done k (s .width) (s .rows) (s .column) n (length run) from _ x y
-    (omega (arith, t .room .room, t .deep, store-back (s .width) (s .levels) (t .deep))) p q e
+    put-done (columnsOf s) k (s .y % 2 + s .rows) (s .column) n (length run) from _ x y
+    (omega (arith, t .room .room, t .deep, store-back (columnsOf s) (s .levels) (t .deep))) p q e
+
+add-q : tie.Need-add-q
+add-q c = omega (arith, height-small)
 
 put-requires : tie.Need-put-requires
 put-requires c κs = tt
@@ -38,7 +43,7 @@ same-length c = search needs
 returns : tie.Need-returns
 returns c =
     let put = c .before .before .before .before in
-    let start = put .before .before .before in
+    let start = put .before .before .before .before .before in
     let a = start .args in
     let t = start .pre .0 in
     stretched-inside (a .s) (a .run .now) (a .from) (a .n) _ _ (length (a .store .now)) t
@@ -46,11 +51,11 @@ returns c =
 
 arrive-requires : tie.Need-arrive-requires
 arrive-requires c κs =
-    let s = c .before .before .before .before .before .before .before .before .args .s in
-    omega (arith, store-back (s .width) (s .levels) (omega arith), store-below (s .width) 0, store-none (count lo (s .width)))
+    let s = c .before .before .before .before .before .before .before .before .before .before .args .s in
+    omega (arith, store-back (columnsOf s) (s .levels) (omega arith), store-below (columnsOf s) 0, store-none (next (columnsOf s)))
 
-add-t14 : tie.Need-add-t14
-add-t14 c = omega (arith, height-small)
+add-t9 : tie.Need-add-t9
+add-t9 c = omega (arith, height-small)
 
 same-length-2 : tie.Need-same-length-2
 same-length-2 c = search needs
@@ -58,7 +63,7 @@ same-length-2 c = search needs
 returns-2 : tie.Need-returns-2
 returns-2 c =
     let put = c .before .before .before .before .before .before .before .before in
-    let start = put .before .before .before in
+    let start = put .before .before .before .before .before in
     let a = start .args in
     let t = start .pre .0 in
     stretched-whole (a .s) (a .run .now) (a .from) (a .n) _ _ (length (a .store .now)) t
@@ -69,11 +74,12 @@ pub stretch-spec : {M : Type 1} → statement M
 stretch-spec =
     tie.close
     (tie.spec
+    add-q
     put-requires
     add-column
     same-length
     returns
     arrive-requires
-    add-t14
+    add-t9
     same-length-2
     returns-2)

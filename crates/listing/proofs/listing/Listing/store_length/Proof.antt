@@ -1,14 +1,14 @@
 -- `Listing::store_length` meets its contract: the definition's number. Assumes nothing.
 use mathlib.Core.Path.{refl}
-use Rattle.lifting.specs.Line.{count}
-use Rattle.wavelet.specs.Levels.{size}
+use Rattle.lifting.specs.Grid.{count}
+use Rattle.wavelet.specs.Levels.{next, sideAt}
 use Rattle.wavelet.specs.Store.{widths, storeLength}
 use Rattle.pgm.specs.Limits.{maxPictureWidth}
 use Rattle.listing.proofs.listing.Listing.store_length.Statement.{statement}
 use Rattle.listing.proofs.listing.Listing.store_length.Tie as tie
 
 returns : tie.Need-returns
-unfolding maxPictureWidth storeLength widths size count
+unfolding maxPictureWidth storeLength widths sideAt next count
 returns c = refl
 
 pub store-length-spec : {M : Type 1} → statement M

@@ -1,0 +1,41 @@
+// A level of one row, at an odd coordinate: its numbers are halved on the way back. The module is private.
+use lifting::sample;
+ghost use mathlib.Core.Path.{_≡_};
+ghost use lib.ListN.{length};
+ghost use lib.Signed.{shrZ};
+ghost use Rattle.numbers.specs.Signal.{at};
+ghost use Rattle.numbers.specs.Tests.{every};
+ghost use Rattle.lifting.specs.Grid.{side, loneHigh, isEven};
+ghost use Rattle.lifting.specs.Halves.{fronted};
+
+// Whether h rows that start at y are one row at an odd coordinate.
+pub fn is_lone(h: usize, y: usize) -> bool
+    ensures { λ r. ⌜ r ≡ loneHigh (side y h) ⌝ }
+{
+    if y % 2 == 1 { h == 1 } else { false }
+}
+
+// Whether every number of a row is even.
+pub fn all_even(row: &[i32]) -> bool
+    ensures { λ r. ⌜ r ≡ every (length (now (row .entry))) (λ i. isEven (at (now (row .entry)) i)) ⌝ }
+{
+    let mut ok = true;
+    let mut i = 0;
+    while i < row.len() {
+        ok = ok & sample::is_even(row[i]);
+        i += 1;
+    }
+    ok
+}
+
+// Every number of a row halved.
+pub fn halve_all(row: &mut [i32])
+    ensures { λ _. ⌜ at (now (row .exit)) ≡
+        fronted (length (now (row .entry))) (λ i. shrZ (at (now (row .entry)) i) 2) (at (now (row .entry))) ⌝ }
+{
+    let mut i = 0;
+    while i < row.len() {
+        row[i] = sample::halve(row[i]);
+        i += 1;
+    }
+}

@@ -1,0 +1,186 @@
+-- Levels with cells and without: an empty level has no band row, and no level after it has one. A set of a high row alone asks for a row. Assumes nothing.
+use mathlib.Core.Bool.{Bool, true, false}
+use mathlib.Core.Path.{_≡_, refl, sym, subst, _∙_}
+use mathlib.Core.List.{List, [], _∷_, _++_}
+use Prim.Native.Nat.{ℕ, zero, suc, _+_, _-_, _%_, _≤_, _<_}
+use native.Mathlib.Decide.{ℕ-discrete, decLt}
+use native.Mathlib.Omega.{arith}
+use lib.Dec.{T, ltb, leb}
+use borrow.Author.Tests.{ltb-true, leb-true, lt-ltb, le-ltb, lt-leb, le-leb}
+use Rattle.numbers.specs.Signal.{pick, both}
+use Rattle.numbers.proofs.Sweep.{both as halves}
+use Rattle.lifting.specs.Line.{Half, lo, hi}
+use Rattle.lifting.specs.Grid.{Side, count}
+use Rattle.wavelet.specs.Bands.{Band, LH, HH, code, across, down}
+use Rattle.wavelet.specs.Order.{inTurn, firstSet, setRow, setHas, rowsOf, setRows}
+use Rattle.wavelet.specs.Steps.{Step, feedAll, setSteps, rowSteps}
+use Rattle.wavelet.specs.Levels.{next, sideAt}
+use Rattle.reader.specs.Asked.{keptAt, asked, bandsFrom, those, look, firstCode, nextBand}
+use Rattle.reader.specs.Store.{hasCells}
+use Rattle.reader.proofs.Looks.{code-lt, first-le}
+
+both-no : (a b : Bool) → b ≡ false → both a b ≡ false
+both-no true b e = e
+both-no false b e = refl
+
+count-long : (h : Half) (S : Side) → 0 < count h S → 0 < S .length
+unfolding count
+count-long lo S p = omega arith
+count-long hi S p = omega arith
+
+count-none : (h : Half) (S : Side) → S .length ≡ 0 → count h S ≡ 0
+unfolding count
+count-none lo S p = omega arith
+count-none hi S p = omega arith
+
+-- ---- cells
+pub cells-yes : (W H : Side) → 0 < W .length → 0 < H .length → hasCells W H ≡ true
+unfolding hasCells
+cells-yes W H p q = rw (lt-ltb 0 (W .length) p, lt-ltb 0 (H .length) q) refl
+
+pub cells-are : (W H : Side) → hasCells W H ≡ true → (0 < W .length) × (0 < H .length)
+unfolding hasCells
+cells-are W H e = let a = halves (ltb 0 (W .length)) _ e in (ltb-true 0 (W .length) (a .0), ltb-true 0 (H .length) (a .1))
+
+-- one of the sides is empty
+pub data Empty (W H : Side) : Type 0 where
+  wide : W .length ≡ 0 → Empty W H
+  high : H .length ≡ 0 → Empty W H
+
+pub cells-not : (W H : Side) → hasCells W H ≡ false → Empty W H
+cells-not W H e = elim (decLt 0 (W .length)) [
+  | no p ↦ wide (omega (arith, p))
+  | yes p ↦ elim (decLt 0 (H .length)) [
+    | no q ↦ high (omega (arith, q))
+    | yes q ↦ absurd (differ (sym (cells-yes W H p q) ∙ e))
+  ]
+]
+  where
+    differ : true ≡ false → ⊥
+    differ z = subst T z tt
+
+pub empty-not : (W H : Side) → Empty W H → hasCells W H ≡ false
+unfolding hasCells
+empty-not W H (wide e) = rw (le-ltb 0 (W .length) (omega arith)) refl
+empty-not W H (high e) = both-no (ltb 0 (W .length)) _ (le-ltb 0 (H .length) (omega arith))
+
+pub empty-next : (W H : Side) → Empty W H → Empty (next W) (next H)
+unfolding next
+empty-next W H (wide e) = wide (count-none lo W e)
+empty-next W H (high e) = high (count-none lo H e)
+
+-- what a level has, those before it have
+pub cells-before : (W H : Side) (k j : ℕ) → k ≤ j → hasCells (sideAt j W) (sideAt j H) ≡ true → hasCells (sideAt k W) (sideAt k H) ≡ true
+unfolding sideAt next
+cells-before W H k zero h e = let z : k ≡ 0 = omega arith in rw z e
+cells-before W H k (suc j) h e = elim (ℕ-discrete k (suc j)) [
+  | yes z ↦ rw z e
+  | no z ↦
+      let a = cells-are (sideAt (suc j) W) (sideAt (suc j) H) e in
+      cells-before W H k j (omega (arith, z)) (cells-yes (sideAt j W) (sideAt j H) (count-long lo (sideAt j W) (a .0)) (count-long lo (sideAt j H) (a .1)))
+]
+
+-- ---- a band row is a row of cells
+pub record HasRow (W H : Side) (b : Band) (n : ℕ) : Type 0 where
+  pub columns : 0 < count (across b) W
+  pub first : firstSet H (down b) ≤ n
+  pub row : setRow H b n < count (down b) H
+
+pub has-row : (W H : Side) (b : Band) (n : ℕ) → setHas W H b n ≡ true → HasRow W H b n
+unfolding setHas
+has-row W H b n e =
+    let a = halves (ltb 0 (count (across b) W)) _ e in
+    let c = halves (leb (firstSet H (down b)) n) _ (a .1) in
+    record { columns = ltb-true _ _ (a .0); first = leb-true _ _ (c .0); row = ltb-true _ _ (c .1) }
+
+pub row-has : (W H : Side) (b : Band) (n : ℕ) → HasRow W H b n → setHas W H b n ≡ true
+unfolding setHas
+row-has W H b n a =
+    rw (lt-ltb 0 (count (across b) W) (a .columns), le-leb (firstSet H (down b)) n (a .first), lt-ltb (setRow H b n) (count (down b) H) (a .row)) refl
+
+pub has-cells : (W H : Side) (b : Band) (n : ℕ) → setHas W H b n ≡ true → hasCells W H ≡ true
+has-cells W H b n e =
+    let a = has-row W H b n e in
+    cells-yes W H (count-long (across b) W (a .columns)) (count-long (down b) H (omega (arith, a .row)))
+
+pub asked-has : (t : Bool) (W H : Side) (n : ℕ) (b : Band) → asked t W H n b ≡ true → (keptAt t b ≡ true) × (setHas W H b n ≡ true)
+unfolding asked
+asked-has t W H n b e = halves (keptAt t b) _ e
+
+pub empty-has : (W H : Side) (b : Band) (n : ℕ) → Empty W H → setHas W H b n ≡ false
+unfolding setHas
+empty-has W H b n (wide e) = let z = count-none (across b) W e in rw (le-ltb 0 (count (across b) W) (omega arith)) refl
+empty-has W H b n (high e) =
+    let z = count-none (down b) H e in
+    both-no (ltb 0 (count (across b) W)) _ (both-no (leb (firstSet H (down b)) n) _ (le-ltb (setRow H b n) (count (down b) H) (omega arith)))
+
+-- ---- an empty level has no steps
+empty-rows : (k n : ℕ) (W H : Side) (bs : List Band) → Empty W H → rowsOf k W H n bs ≡ []
+unfolding rowsOf
+empty-rows k n W H [] e = refl
+empty-rows k n W H (b ∷ bs) e = rw (empty-has W H b n e) (empty-rows k n W H bs e)
+
+turn-none : (n : ℕ) (f : ℕ → List Step) → ((i : ℕ) → f i ≡ []) → inTurn n f ≡ []
+unfolding inTurn
+turn-none zero f e = refl
+turn-none (suc n) f e = rw (turn-none n f e, e n) refl
+
+pub empty-row : (H : Side) (set : ℕ → List Step) (r : ℕ) → ((n : ℕ) → set n ≡ []) → rowSteps H set r ≡ []
+unfolding rowSteps
+empty-row H set r e = turn-none _ _ (λ i. e _)
+
+pub empty-set : (l k : ℕ) (W H : Side) (n : ℕ) → Empty W H → setSteps l k W H n ≡ []
+unfolding setSteps setRows feedAll
+empty-set zero k W H n e = rw (empty-rows k n W H _ e) refl
+empty-set (suc l) k W H n e =
+    rw (
+      empty-rows k n W H _ e,
+      empty-row (next H) (setSteps l (suc k) (next W) (next H)) (n - firstSet H lo)
+          (λ m. empty-set l (suc k) (next W) (next H) m (empty-next W H e)),
+    ) (same (leb (firstSet H lo) n))
+  where
+    same : (t : Bool) → _≡_ {A = List Step} (pick t [] [] ++ []) []
+    same true = refl
+    same false = refl
+
+-- ---- a high row alone
+module _ (W H : Side) (odd : H .start % 2 ≡ 1) where
+  not-first : firstSet H lo ≤ 0 → ⊥
+  unfolding firstSet
+  not-first h = omega arith
+
+  pub alone-low : (b : Band) → down b ≡ lo → setHas W H b 0 ≡ false
+  unfolding setHas firstSet
+  alone-low b e = both-no (ltb 0 (count (across b) W)) _ (rw e (rw (lt-leb (H .start % 2) 0 (omega arith)) refl))
+
+  high-row : (b : Band) → down b ≡ hi → 0 < H .length → firstSet H (down b) ≤ 0 × (setRow H b 0 < count (down b) H)
+  unfolding setRow firstSet count
+  high-row b e p = rw e (omega arith, omega arith)
+
+  asks : (t : Bool) (b : Band) → keptAt t b ≡ true → down b ≡ hi → 0 < H .length → 0 < count (across b) W → asked t W H 0 b ≡ true
+  unfolding asked
+  asks t b k d q p = let h = high-row b d q in rw (k, row-has W H b 0 (record { columns = p; first = h .0; row = h .1 })) refl
+
+  by : (t : Bool) (b : Band) → keptAt t b ≡ true → down b ≡ hi → 1 ≤ code b → 0 < H .length → 0 < count (across b) W →
+      firstCode (those (asked t W H 0) (bandsFrom 1)) < 4
+  by t b k d i q p = omega (arith, first-le (asked t W H 0) 1 b (asks t b k d q p) i, code-lt b)
+
+  one-half : 0 < W .length → (0 < count lo W → ⊥) → 0 < count hi W
+  unfolding count
+  one-half p n = omega (arith, n)
+
+  pub alone-asks : (t : Bool) → hasCells W H ≡ true → nextBand t W H 0 1 < 4
+  unfolding nextBand look keptAt down across code
+  alone-asks t e = go (decLt 0 (count lo W))
+    where
+      c : (0 < W .length) × (0 < H .length)
+      c = cells-are W H e
+
+      go : Dec (0 < count lo W) → firstCode (those (asked t W H 0) (bandsFrom 1)) < 4
+      go (yes p) = by t LH refl refl (omega arith) (c .1) p
+      go (no p) = by t HH refl refl (omega arith) (c .1) (one-half (c .0) p)
+
+-- without a low row in set n, the next level has no rows
+pub no-low-empty : (W H : Side) → count lo H ≡ 0 → Empty (next W) (next H)
+unfolding next
+no-low-empty W H e = high e

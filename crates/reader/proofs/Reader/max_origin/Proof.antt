@@ -1,0 +1,12 @@
+-- `reader::Reader::max_origin` meets its contract: the definition's number. Assumes nothing.
+use mathlib.Core.Path.{refl}
+use Rattle.wavelet.specs.Limits.{maxOrigin}
+use Rattle.reader.proofs.Reader.max_origin.Statement.{statement}
+use Rattle.reader.proofs.Reader.max_origin.Tie as tie
+
+returns : tie.Need-returns
+unfolding maxOrigin
+returns c = refl
+
+pub max-origin-spec : {M : Type 1} → statement M
+max-origin-spec = tie.close (tie.spec returns)
