@@ -91,3 +91,56 @@ pair_calls!(
     lift_pair => kernel_lift_pair,
     lift_and_copy => kernel_lift_and_copy
 );
+
+/// The same calls of the integer 9/7.
+pub mod ccsds {
+    use super::Rows;
+
+    extern "C" {
+        fn ccsds_lift(line: *mut i32, line_len: usize, start: usize);
+        fn ccsds_unlift(line: *mut i32, line_len: usize, start: usize) -> u32;
+        fn ccsds_forward(line: *const i32, line_len: usize, start: usize, out: *mut i32, out_len: usize) -> u32;
+        fn ccsds_backward(coefficients: *const i32, coefficients_len: usize, start: usize, out: *mut i32, out_len: usize) -> u32;
+    }
+
+    pub fn lift(line: &mut [i32], start: usize) {
+        // SAFETY: the area is a whole slice.
+        unsafe { ccsds_lift(line.as_mut_ptr(), line.len(), start) }
+    }
+
+    pub fn unlift(line: &mut [i32], start: usize) -> u32 {
+        // SAFETY: as above.
+        unsafe { ccsds_unlift(line.as_mut_ptr(), line.len(), start) }
+    }
+
+    pub fn forward(line: &[i32], start: usize, out: &mut [i32]) -> u32 {
+        // SAFETY: both areas are whole slices, and no one else has `out`.
+        unsafe { ccsds_forward(line.as_ptr(), line.len(), start, out.as_mut_ptr(), out.len()) }
+    }
+
+    pub fn backward(coefficients: &[i32], start: usize, out: &mut [i32]) -> u32 {
+        // SAFETY: as above.
+        unsafe { ccsds_backward(coefficients.as_ptr(), coefficients.len(), start, out.as_mut_ptr(), out.len()) }
+    }
+
+    macro_rules! row_calls {
+        ($($name:ident => $symbol:ident($($more:ident),*)),+) => {
+            extern "C" {
+                $(fn $symbol(
+                    area: *mut i32, area_len: usize, stride: usize, width: usize, target: usize, left: usize, right: usize $(, $more: usize)*
+                ) -> u32;)+
+            }
+            $(pub fn $name(area: &mut [i32], r: Rows $(, $more: usize)*) -> u32 {
+                // SAFETY: the area is a whole slice.
+                unsafe { $symbol(area.as_mut_ptr(), area.len(), r.stride, r.width, r.target, r.left, r.right $(, $more)*) }
+            })+
+        };
+    }
+
+    row_calls!(
+        predict_row => ccsds_predict_row(before, after),
+        unpredict_row => ccsds_unpredict_row(before, after),
+        update_row => ccsds_update_row(),
+        unupdate_row => ccsds_unupdate_row()
+    );
+}

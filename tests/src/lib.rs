@@ -5,6 +5,7 @@ pub mod grid;
 pub mod kernels;
 pub mod listing;
 pub mod maps;
+pub mod nine_seven;
 pub mod order;
 pub mod random;
 pub mod reader;

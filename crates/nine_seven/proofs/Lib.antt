@@ -1,0 +1,11 @@
+pub mod Fits
+pub mod MirrorLaws
+pub mod FiveRows
+pub mod HighLaws
+pub mod NineSevenLaws
+pub mod NineSeven
+pub mod NineSevenReads
+pub mod NineSevenTheorems
+pub mod LiftLaws
+pub mod PutLaws
+pub mod ThereAndBack

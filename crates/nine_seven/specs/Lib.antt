@@ -1,0 +1,4 @@
+pub mod NineSeven
+pub mod Memory
+pub mod Passes
+pub mod Rows

@@ -1,0 +1,160 @@
+//! The calls of the integer 9/7: lines that start at an even and at an odd coordinate, every length to 70 and some beyond, against document
+//! 02's formulas, and its row calls, number by number.
+use terrain_tests::areas::{lengths, lines, Guarded};
+use terrain_tests::kernels::{ccsds, Rows};
+use terrain_tests::random::Random;
+use terrain_tests::{grid, nine_seven};
+
+/// Only the parity of a start counts.
+const STARTS: [usize; 6] = [0, 1, 2, 65_535, usize::MAX - 1, usize::MAX];
+
+fn parity(start: usize) -> i64 {
+    (start % 2) as i64
+}
+
+/// The line or the values in `lent`, one of them at each length and start.
+fn each(check: impl Fn(&[i32], usize)) {
+    for n in lengths() {
+        for lent in lines(n) {
+            for start in STARTS {
+                check(&lent, start);
+            }
+        }
+    }
+}
+
+#[test]
+fn from_area_to_area_it_is_the_mirrored_line_lifted() {
+    each(|lent, start| {
+        let (n, i0) = (lent.len(), parity(start));
+        for surplus in [0, 3] {
+            let mut out = Guarded::unset(n + surplus);
+            assert_eq!(ccsds::forward(lent, start, out.lent()), 0);
+            assert_eq!(out.content()[..n], grid::in_halves(&nine_seven::forward(lent, i0), i0), "{n} numbers from {start}");
+            assert!(out.is_unset_from(n), "the surplus is touched");
+            let mut out = Guarded::unset(n + surplus);
+            match nine_seven::backward(&grid::interleaved(lent, i0), i0) {
+                Some(line) => {
+                    assert_eq!(ccsds::backward(lent, start, out.lent()), 0);
+                    assert_eq!(out.content()[..n], line, "{n} numbers from {start}");
+                    assert!(out.is_unset_from(n), "the surplus is touched");
+                }
+                None => {
+                    assert_eq!(ccsds::backward(lent, start, out.lent()), 14);
+                    assert!(out.is_unset_from(0), "14 and something changed");
+                }
+            }
+        }
+    });
+}
+
+#[test]
+fn in_place_too() {
+    each(|lent, start| {
+        let (n, i0) = (lent.len(), parity(start));
+        let mut area = Guarded::new(&grid::in_halves(lent, i0));
+        ccsds::lift(area.lent(), start);
+        assert_eq!(area.content(), grid::in_halves(&nine_seven::forward(lent, i0), i0), "{n} numbers from {start}");
+
+        let mut area = Guarded::new(lent);
+        let answer = ccsds::unlift(area.lent(), start);
+        match nine_seven::backward(&grid::interleaved(lent, i0), i0) {
+            Some(line) => assert_eq!((answer, area.content()), (0, &grid::in_halves(&line, i0)[..]), "{n} numbers from {start}"),
+            None => assert_eq!((answer, area.content()), (14, lent)),
+        }
+    });
+}
+
+#[test]
+fn there_and_back_is_the_line_and_back_and_there_the_values() {
+    each(|lent, start| {
+        let n = lent.len();
+        let (mut between, mut again) = (vec![0; n], vec![0; n]);
+        let lone = n == 1 && start % 2 == 1;
+        assert_eq!(ccsds::forward(lent, start, &mut between), 0);
+        assert_eq!(ccsds::backward(&between, start, &mut again), 0);
+        if !lone || lent[0].checked_mul(2).is_some() {
+            assert_eq!(again, lent);
+        }
+        if !lone || lent[0] % 2 == 0 {
+            assert_eq!(ccsds::backward(lent, start, &mut between), 0);
+            assert_eq!(ccsds::forward(&between, start, &mut again), 0);
+            assert_eq!(again, lent);
+        }
+    });
+}
+
+#[test]
+fn an_area_too_short_gives_5_and_stays() {
+    for n in 1..=20 {
+        for start in [0, 1] {
+            for short in 0..n {
+                for call in [ccsds::forward, ccsds::backward] {
+                    let mut out = Guarded::unset(short);
+                    assert_eq!(call(&vec![i32::MAX; n], start, out.lent()), 5);
+                    assert!(out.is_unset_from(0));
+                }
+            }
+        }
+    }
+}
+
+/// Samples within M give values within (9M + 2) / 4: no line here passes it, and two directions no more than 6M.
+#[test]
+fn the_range_of_a_line() {
+    let mut random = Random::new(3);
+    for m in [0, 1, 2, 7, 65_535, 393_210] {
+        for n in 1..=12 {
+            for start in [0, 1] {
+                for _ in 0..50 {
+                    let line: Vec<i32> = (0..n).map(|_| if random.word() < 0 { -m } else { m }).collect();
+                    let most = |values: &[i32]| values.iter().map(|v| v.unsigned_abs()).max().unwrap_or(0) as i64;
+                    let values = nine_seven::forward(&line, start);
+                    assert!(most(&values) <= (9 * m as i64 + 2) / 4);
+                    assert!(most(&nine_seven::forward(&values, start)) <= 6 * m as i64);
+                }
+            }
+        }
+    }
+}
+
+/// A row and those that it goes by, each formula number by number; 5 and nothing changed where one does not fit.
+#[test]
+fn the_row_calls() {
+    let mut random = Random::new(2);
+    let foretold = |a: i128, b: i128, c: i128, e: i128| (9 * (a + b) - (c + e) + 8).div_euclid(16);
+    for _ in 0..4000 {
+        let pick = |random: &mut Random, n: u32| (random.word() as u32 % n) as usize;
+        let len = pick(&mut random, 60);
+        let area: Vec<i32> = (0..len).map(|_| random.word()).collect();
+        let (stride, width) = (pick(&mut random, 9), pick(&mut random, 9));
+        let rows: Vec<usize> = (0..5).map(|_| pick(&mut random, 7)).collect();
+        let r = Rows { stride, width, target: rows[0], left: rows[1], right: rows[2] };
+        let fit = |of: &[usize]| width <= stride && of.iter().all(|t| t * stride + width <= len);
+        let old = |t: usize, i: usize| area[t * stride + i] as i128;
+        for call in 0..4 {
+            let mut lent = Guarded::new(&area);
+            let answer = match call {
+                0 => ccsds::predict_row(lent.lent(), r, rows[3], rows[4]),
+                1 => ccsds::unpredict_row(lent.lent(), r, rows[3], rows[4]),
+                2 => ccsds::update_row(lent.lent(), r),
+                _ => ccsds::unupdate_row(lent.lent(), r),
+            };
+            let mut after = area.clone();
+            let fits = fit(if call < 2 { &rows } else { &rows[..3] });
+            if fits {
+                for i in 0..width {
+                    let of = |k: usize| old(rows[k], i);
+                    let sum = match call {
+                        0 => of(0) - foretold(of(1), of(2), of(3), of(4)),
+                        1 => of(0) + foretold(of(1), of(2), of(3), of(4)),
+                        2 => of(0) - (2 - of(1) - of(2)).div_euclid(4),
+                        _ => of(0) + (2 - of(1) - of(2)).div_euclid(4),
+                    };
+                    after[rows[0] * stride + i] = sum.rem_euclid(1 << 32) as u32 as i32;
+                }
+            }
+            assert_eq!((answer, lent.content()), (if fits { 0 } else { 5 }, &after[..]), "call {call}, {r:?} of {rows:?} in {len} numbers");
+        }
+    }
+}
