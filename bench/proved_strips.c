@@ -1,7 +1,6 @@
-/* Streams of a map of any width and height by the proved calls, a row at a time. */
+/* Streams of a map of any shape by the proved calls, a row at a time. */
 #include "strips.h"
 #include "../include/terrain.h"
-#include "maps.h"
 #include <stdio.h>
 #include <stdlib.h>
 #include <string.h>
@@ -18,55 +17,55 @@ static void check(uint32_t answer)
     }
 }
 
-static void ready(size_t W, size_t H)
+static void ready(terrain_shape map)
 {
-    store_len = terrain_store_length(terrain_shape_of(W, H, LEVELS));
-    store = realloc(store, store_len * sizeof *store), out = realloc(out, W * sizeof *out);
+    store_len = terrain_store_length(map);
+    store = realloc(store, store_len * sizeof *store), out = realloc(out, map.width * sizeof *out);
     if (!store || !out) exit(1);
 }
 
-static int32_t *place(int32_t *plane, size_t W, size_t H, const uint64_t row[4])
+static int32_t *place(int32_t *plane, terrain_shape map, const uint64_t row[4])
 {
     size_t start, length;
-    check(terrain_band_row(W * H, terrain_shape_of(W, H, LEVELS), row[0], row[1], row[2], &start, &length));
+    check(terrain_band_row(map.width * map.height, map, row[0], row[1], row[2], &start, &length));
     return plane + start;
 }
 
-static void draw_all(int32_t *plane, size_t W, size_t H)
+static void draw_all(int32_t *plane, terrain_shape map)
 {
     uint64_t row[4];
     for (;;) {
-        check(terrain_writer_draw(state, store, store_len, out, W, row));
+        check(terrain_writer_draw(state, store, store_len, out, map.width, row));
         if (!row[0]) return;
-        memcpy(place(plane, W, H, row), out, row[3] * sizeof *out);
+        memcpy(place(plane, map, row), out, row[3] * sizeof *out);
     }
 }
 
-void strip_write(const uint16_t *heights, size_t W, size_t H, int32_t *plane)
+void strip_write(const uint16_t *heights, terrain_shape map, int32_t *plane)
 {
-    ready(W, H);
-    check(terrain_writer_set_up(state, terrain_shape_of(W, H, LEVELS), store, store_len));
-    for (size_t r = 0; r < H; r++) {
+    ready(map);
+    check(terrain_writer_set_up(state, map, store, store_len));
+    for (size_t r = 0; r < map.height; r++) {
         size_t taken;
-        check(terrain_writer_offer(state, store, store_len, heights + r * W, W, &taken));
-        draw_all(plane, W, H);
+        check(terrain_writer_offer(state, store, store_len, heights + r * map.width, map.width, &taken));
+        draw_all(plane, map);
     }
     check(terrain_writer_finish(state, store, store_len));
-    draw_all(plane, W, H);
+    draw_all(plane, map);
 }
 
-void strip_read(const int32_t *plane, size_t W, size_t H, uint16_t *heights)
+void strip_read(const int32_t *plane, terrain_shape map, uint16_t *heights)
 {
     uint64_t want[5];
     size_t drawn, r = 0;
-    ready(W, H);
-    check(terrain_reader_set_up(state, terrain_shape_of(W, H, LEVELS), store, store_len));
+    ready(map);
+    check(terrain_reader_set_up(state, map, store, store_len));
     for (;;) {
         check(terrain_reader_want(state, want));
         if (want[0] == 0)
-            check(terrain_reader_feed(state, store, store_len, place((int32_t *)plane, W, H, want + 1), want[4]));
+            check(terrain_reader_feed(state, store, store_len, place((int32_t *)plane, map, want + 1), want[4]));
         else if (want[0] == 1)
-            check(terrain_reader_draw(state, store, store_len, heights + W * r++, W, &drawn));
+            check(terrain_reader_draw(state, store, store_len, heights + map.width * r++, map.width, &drawn));
         else
             return;
     }
