@@ -6,7 +6,7 @@ use Prim.Native.Nat.{ℕ}
 use Rattle.lifting.specs.Line.{predicted, updated, mirror}
 use Rattle.lifting.specs.Grid.{place, before, after, highAt, lowAt, count, lineForward}
 use Rattle.wavelet.specs.Bands.{across, down, columnsLifted, subband}
-use Rattle.wavelet.specs.Order.{handedOut, inTurn, firstSet, lastSet, setRow, setHas, rowsOf, setRows, madeBy, closing, made}
+use Rattle.wavelet.specs.Order.{handedOut, inTurn, firstSet, lastSet, setRow, setHas, rowsOf, setRows, madeBy, unmade, closing, made}
 use Rattle.wavelet.specs.Levels.{next, sideAt, approximation, levelBand}
 use Rattle.wavelet.specs.View.{bandColumns}
 use Rattle.wavelet.specs.Questions.{within}
@@ -28,7 +28,7 @@ whole : listingOf (input ++ (7 ∷ [])) ≡ 49 ∷ 32 ∷ 52 ∷ 32 ∷ 50 ∷ 1
     ∷ 10 ∷ 50 ∷ 32 ∷ 76 ∷ 76 ∷ 32 ∷ 48 ∷ 32 ∷ 52 ∷ 10 ∷ 50 ∷ 32 ∷ 76 ∷ 72 ∷ 32 ∷ 48 ∷ 32 ∷ 49 ∷ 10 ∷ []
 unfolding listingOf headOf levelDigit maxField maxPictureWidth maxPictureHeight upTo sizeFits headEnd heightsTaken tooLarge gridOf linesDue bodyOf one
     comment gap afterGaps numberFrom field side sized headerEnd headerOf space lineEnd digit wide sampleSize pairsOf samplesOf fitting exceeds
-    heightsOf refusedLine within made inTurn closing madeBy setRows rowsOf setHas setRow firstSet lastSet handedOut linesOf lineOf rowLine rowHead spaced
+    heightsOf refusedLine within made inTurn closing unmade madeBy setRows rowsOf setHas setRow firstSet lastSet handedOut linesOf lineOf rowLine rowHead spaced
     sizeLine integer numeral digitsOf levelBand approximation sideAt next bandColumns subband columnsLifted across down lineForward lowAt highAt before after
     place mirror predicted updated count
 whole = refl
@@ -38,7 +38,7 @@ short : listingOf input ≡ 49 ∷ 32 ∷ 52 ∷ 32 ∷ 50 ∷ 10 ∷ 49 ∷ 32 
     ∷ 53 ∷ 10 ∷ []
 unfolding listingOf headOf levelDigit maxField maxPictureWidth maxPictureHeight upTo sizeFits headEnd heightsTaken tooLarge gridOf linesDue bodyOf one
     comment gap afterGaps numberFrom field side sized headerEnd headerOf space lineEnd digit wide sampleSize pairsOf samplesOf fitting exceeds
-    heightsOf refusedLine within made inTurn closing madeBy setRows rowsOf setHas setRow firstSet lastSet handedOut linesOf lineOf rowLine rowHead spaced
+    heightsOf refusedLine within made inTurn closing unmade madeBy setRows rowsOf setHas setRow firstSet lastSet handedOut linesOf lineOf rowLine rowHead spaced
     sizeLine integer numeral digitsOf levelBand approximation sideAt next bandColumns subband columnsLifted across down lineForward lowAt highAt before after
     place mirror predicted updated count
 short = refl
@@ -49,7 +49,7 @@ painted : listingOf (50 ∷ 10 ∷ 80 ∷ 53 ∷ 35 ∷ 10 ∷ 49 ∷ 9 ∷ 52 �
     ∷ 32 ∷ 48 ∷ 32 ∷ 49 ∷ 10 ∷ []
 unfolding listingOf headOf levelDigit maxField maxPictureWidth maxPictureHeight upTo sizeFits headEnd heightsTaken tooLarge gridOf linesDue bodyOf one
     comment gap afterGaps numberFrom field side sized headerEnd headerOf space lineEnd digit wide sampleSize pairsOf samplesOf fitting exceeds
-    heightsOf refusedLine within made inTurn closing madeBy setRows rowsOf setHas setRow firstSet lastSet handedOut linesOf lineOf rowLine rowHead spaced
+    heightsOf refusedLine within made inTurn closing unmade madeBy setRows rowsOf setHas setRow firstSet lastSet handedOut linesOf lineOf rowLine rowHead spaced
     sizeLine integer numeral digitsOf levelBand approximation sideAt next bandColumns subband columnsLifted across down lineForward lowAt highAt before after
     place mirror predicted updated count
 painted = refl
@@ -59,7 +59,7 @@ exceeding : listingOf (50 ∷ 10 ∷ 80 ∷ 53 ∷ 32 ∷ 49 ∷ 32 ∷ 52 ∷ 3
     ∷ 101 ∷ 100 ∷ 32 ∷ 49 ∷ 54 ∷ 10 ∷ []
 unfolding listingOf headOf levelDigit maxField maxPictureWidth maxPictureHeight upTo sizeFits headEnd heightsTaken tooLarge gridOf linesDue bodyOf one
     comment gap afterGaps numberFrom field side sized headerEnd headerOf space lineEnd digit wide sampleSize pairsOf samplesOf fitting exceeds
-    heightsOf refusedLine within made inTurn closing madeBy setRows rowsOf setHas setRow firstSet lastSet handedOut linesOf lineOf rowLine rowHead spaced
+    heightsOf refusedLine within made inTurn closing unmade madeBy setRows rowsOf setHas setRow firstSet lastSet handedOut linesOf lineOf rowLine rowHead spaced
     sizeLine integer numeral digitsOf levelBand approximation sideAt next bandColumns subband columnsLifted across down lineForward lowAt highAt before after
     place mirror predicted updated count
 exceeding = refl

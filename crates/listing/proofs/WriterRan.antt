@@ -34,7 +34,7 @@ worldOf n w x = record { writer = w; length = n; store = x }
 
 -- the rows that wait: made of the heights hs (and of the finish, f), and not among the rows drawn
 unfoldable pub waits : ℕ → ℕ → List ℕ → Bool → List DrawnRow → List RowName
-waits W L hs f ds = drop (length ds) (made (side 0 W) 0 L (length hs / W) f)
+waits W L hs f ds = drop (length ds) (made 1 (side 0 W) 0 L (length hs / W) f)
 
 pub record Ran (W L n : ℕ) (hs : List ℕ) (f : Bool) (ds : List DrawnRow) (w : Writer) (x : Memory) : Type 0 where
   pub before : Memory
@@ -53,7 +53,7 @@ module _ (W L n : ℕ) where
   unfolding waits made inTurn
   fresh-waits = go (0 / W) (zero-div W)
     where
-      go : (m : ℕ) → m ≡ 0 → made (side 0 W) 0 L m false ≡ []
+      go : (m : ℕ) → m ≡ 0 → made 1 (side 0 W) 0 L m false ≡ []
       go zero e = refl
       go (suc m) e = absurd (omega arith)
 

@@ -55,7 +55,7 @@ gridOf W hs i j = pos (getD hs (i * W + j) 0)
 unfoldable pub linesDue : Shape → List ℕ → Bool → List ℕ
 linesDue q hs finished =
     sizeLine (q .width) (q .height) (q .levels)
-    ++ linesOf (q .width) (q .height) (gridOf (q .width) hs) (made (side 0 (q .width)) 0 (q .levels) (length hs / q .width) finished)
+    ++ linesOf (q .width) (q .height) (gridOf (q .width) hs) (made 1 (side 0 (q .width)) 0 (q .levels) (length hs / q .width) finished)
 
 -- "Asked again before the finish: are the height bytes neither too few nor too many?" A refusal comes "on a line after all lines that the heights
 -- before it made due".

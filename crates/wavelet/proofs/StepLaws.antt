@@ -104,24 +104,24 @@ module _ (v : RowName → ℕ) where
 
   -- what the sets of a level set off weighs what the order has of the level and of those below it
   abbrev LevelWeighs : ℕ → ℕ → Side → Side → Type 0
-  LevelWeighs l k W H = weigh v (inTurn (setsBefore H (H .length)) (λ n. bandRowsOf (setSteps l k W H n))) ≡ weigh v (ordered (suc l) k W H)
+  LevelWeighs l k W H = weigh v (inTurn (setsBefore H (H .length)) (λ n. bandRowsOf (setSteps l k W H n))) ≡ weigh v (ordered 1 (suc l) k W H)
 
   level-none : (l k : ℕ) (W H : Side) → H .length ≡ 0 → LevelWeighs l k W H
   level-none l k W H e =
       let f : ℕ → List RowName = λ n. bandRowsOf (setSteps l k W H n) in
-      let g = madeBy (suc l) k W (H .start) in
+      let g = madeBy 1 (suc l) k W (H .start) in
       ap (weigh v)
       (ap (λ i. inTurn i f) (ap (setsBefore H) e ∙ before-zero H)
       ∙ turn-zero f
-      ∙ sym (ap₂ _++_ (ap (λ i. inTurn i g) e ∙ turn-zero g) (closing-empty (suc l) k W H e)))
+      ∙ sym (ap₂ _++_ (ap (λ i. inTurn i g) e ∙ turn-zero g) (closing-empty 1 (suc l) k W H (omega arith) e)))
 
   level-last : (k : ℕ) (W H : Side) → 0 < H .length → LevelWeighs 0 k W H
   level-last k W H p =
       let N = lastSet H + 1 in
       ap (λ i. weigh v (inTurn i (λ n. bandRowsOf (setSteps 0 k W H n)))) (before-all H p)
       ∙ weigh-same N _ (setRows 0 k W H) (set-last k W H)
-      ∙ sym (ordered-weighs v 0 k W H
-      ∙ ap (λ t. weigh v (inTurn N (setRows 0 k W H)) + weigh v t) (ordered-none (suc k) (next W) (next H))
+      ∙ sym (ordered-weighs v 1 0 k W H (omega arith)
+      ∙ ap (λ t. weigh v (inTurn N (setRows 0 k W H)) + weigh v t) (ordered-none 1 (suc k) (next W) (next H))
       ∙ unfold weigh in omega arith)
 
   level-on : (l k : ℕ) (W H : Side) → 0 < H .length → LevelWeighs l (suc k) (next W) (next H) → LevelWeighs (suc l) k W H
@@ -133,7 +133,7 @@ module _ (v : RowName → ℕ) where
       ∙ ap (λ i. i + weigh v (inTurn N (setRows (suc l) k W H)))
       (ap (weigh v) (sym (rows-turn N _) ∙ ap bandRowsOf (needed-all l k W H p) ∙ rows-turn _ _) ∙ below)
       ∙ omega arith
-      ∙ sym (ordered-weighs v (suc l) k W H)
+      ∙ sym (ordered-weighs v 1 (suc l) k W H (omega arith))
 
   level-weighs : (l k : ℕ) (W H : Side) → LevelWeighs l k W H
   level-weighs zero k W H = elim (decLt 0 (H .length)) [ yes p ↦ level-last k W H p | no p ↦ level-none 0 k W H (omega arith) ]
@@ -146,7 +146,7 @@ module _ (v : RowName → ℕ) where
   unfolding bandRowsOf
   row-weighs f n = weigh-same n _ _ (λ r. rows-append (f r) (draw r ∷ []) ∙ append-nil _)
 
-  steps-weigh : (W H : Side) (l : ℕ) → weigh v (bandRowsOf (steps W H (suc l))) ≡ weigh v (made W (H .start) (suc l) (H .length) true)
+  steps-weigh : (W H : Side) (l : ℕ) → weigh v (bandRowsOf (steps W H (suc l))) ≡ weigh v (made 1 W (H .start) (suc l) (H .length) true)
   unfolding steps made
   steps-weigh W H l =
       let e : suc l - 1 ≡ l = omega arith in
@@ -159,7 +159,7 @@ module _ (v : RowName → ℕ) where
 pub steps-once : (W H : Side) (L : ℕ) → 0 < L → (x : RowName)
     → times x (bandRowsOf (steps W H L)) ≡ pick (bandRowExists W H L (x .level) (x .band) (x .row)) 1 0
 steps-once W H zero q x = absurd (omega arith)
-steps-once W H (suc l) q x = times-weigh x _ ∙ steps-weigh _ W H l ∙ sym (times-weigh x _) ∙ made-once W H (suc l) x
+steps-once W H (suc l) q x = times-weigh x _ ∙ steps-weigh _ W H l ∙ sym (times-weigh x _) ∙ made-once 1 (omega arith) W H (suc l) x
 
 -- ---- each height row once, in order
 heights-append : (s t : List Step) → heightRowsOf (s ++ t) ≡ heightRowsOf s ++ heightRowsOf t

@@ -29,7 +29,7 @@ unfoldable pub wholeRows : Side → List Event → ℕ
 wholeRows W es = length (taken es) / W .length
 
 unfoldable pub madeOf : Side → ℕ → ℕ → List Event → List RowName
-madeOf W s L es = made W s L (wholeRows W es) (finishedBy es)
+madeOf W s L es = made 1 W s L (wholeRows W es) (finishedBy es)
 
 -- "Waiting: made and not drawn."
 unfoldable pub waitingOf : Side → ℕ → ℕ → List Event → List RowName
@@ -96,7 +96,7 @@ pub record DrawSeen (W : Side) (s L : ℕ) (es : List Event) (a : Area) (e : Eve
 -- after j heights more no row would wait, and the row limit is not reached
 unfoldable pub takesOn : Side → ℕ → ℕ → List Event → ℕ → Bool
 takesOn W s L es j =
-    both (isNone (drop (length (drawn es)) (made W s L ((length (taken es) + j) / W .length) false)))
+    both (isNone (drop (length (drawn es)) (made 1 W s L ((length (taken es) + j) / W .length) false)))
     (ltb ((length (taken es) + j) / W .length) maxHeight)
 
 -- an offer of k heights: 9, 8, 10, or it takes "heights until a band row waits, the row limit is reached or the run is used up"
@@ -129,10 +129,10 @@ pub record Demand3 (W : Side) (s L : ℕ) (es : List Event) (then : Call → Eve
   -- of the map that was finished all of them
   pub values : (H : ℕ) (g : Grid) → MapOf W H g es → All (HasValues W s H g) (drawn es)
   pub early-values : (H : ℕ) (g : Grid) → Begins W H g es →
-      All (HasValues W s H g) (take (length (made W s L (wholeRows W es) false)) (drawn es))
+      All (HasValues W s H g) (take (length (made 1 W s L (wholeRows W es) false)) (drawn es))
   -- and are the first in that map's order
   pub first : (H : ℕ) (g : Grid) → MapOf W H g es →
-      (r : List RowName) × (map (λ d. d .row) (drawn es) ++ map (answered W) r ≡ map (answered W) (made W s L H true))
+      (r : List RowName) × (map (λ d. d .row) (drawn es) ++ map (answered W) r ≡ map (answered W) (made 1 W s L H true))
   -- there is such a map, the heights taken being 16-bit numbers
   pub some-map : All (λ h. h ≤ maxSample) (taken es) → (H : ℕ) × (g : Grid) × MapOf W H g es
   -- once finished, the heights taken are a map
