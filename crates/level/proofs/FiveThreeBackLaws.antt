@@ -21,7 +21,7 @@ use Rattle.level.specs.Slots.{slot, rowPlace, local, rowOfSet, halfPlace
 use Rattle.level.specs.Work.{endOf, hasLow, admitted, setWorked, setMade}
 use Rattle.level.specs.Stands.{SetLeaves, SetBefore, BandStands, fiveThreeStands}
 use Rattle.level.specs.FiveThreeBack.{rowMade, fiveThreeBack}
-use Rattle.level.proofs.OpenedSets.{setOf-first, setOf-there, opens-next, same-set}
+use Rattle.wavelet.proofs.StepLaws.{set-one}
 use Rattle.level.proofs.RowsIn.{apart, parity, row-end, Is, Only, is-old, only-fed, fed-here, fed-beside, only-taken, taken-is, taken-beside}
 use Rattle.level.proofs.RowsIn.{half-inside}
 use Rattle.level.proofs.RowsIn.{row-halves, half-reads, joined-reads}
@@ -214,9 +214,9 @@ module _ (W H : Side) (p : Band → Grid) (n : ℕ) where
 
 -- what a set leaves is what the next needs
 even-left : (H : Side) (m : ℕ) → suc m ≤ lastSet H → firstSet H lo ≤ m →
-    (2 * m - firstSet H lo < H .length) × (setOf H (2 * m - firstSet H lo) ≡ m) × (local (H .start) (2 * m - firstSet H lo) ≡ 2 * m)
-unfolding setOf lastSet firstSet local
-even-left H m l b = (omega arith, omega arith, omega arith)
+    (2 * m - firstSet H lo < H .length) × (setOf 1 H (2 * m - firstSet H lo) ≡ m) × (local (H .start) (2 * m - firstSet H lo) ≡ 2 * m)
+unfolding lastSet firstSet local
+even-left H m l b = (omega arith, omega (arith, set-one H (2 * m - firstSet H lo)), omega arith)
 
 high-left : (H : Side) (m : ℕ) → suc m ≤ lastSet H → 2 * m + 2 < endOf H
 unfolding lastSet endOf
@@ -241,10 +241,7 @@ five-three-back-laws = record {
   feed-old = λ W H p n c e v x d s. got-old W H p n c e v x d s;
   feed-new = λ W H p n c v x e. got-new W H p n c v x e;
   got-none = λ W H p n c x none t i q. absurd (no-true (setHas W H c n) none t);
-  set-first = setOf-first;
-  set-there = setOf-there;
-  set-next = opens-next;
-  set-same = same-set;
+  looks = omega arith;
   before-first = λ W H p x. record { even = λ m e b. absurd (omega arith); high = λ m e. absurd (omega arith) };
   before-next = leaves-before;
   work-last = λ k W H p n x some there before got. last-done W H p n k x some there before got;

@@ -24,6 +24,7 @@ use Rattle.wavelet.specs.Bands.{Grid, Band, bandOf, rowsUnlifted, levelBack, ro
 use Rattle.wavelet.specs.Maps.{valueFits}
 use Rattle.wavelet.specs.Order.{firstSet, lastSet}
 use Rattle.wavelet.specs.Steps.{setOf}
+use Rattle.wavelet.proofs.StepLaws.{set-one}
 use Rattle.level.specs.Tried.{Tried, failed, passed, bind}
 use Rattle.level.specs.Slots.{rowPlace, local, rowUnlifted, rowHasLine, rowBy, rowHalved, rowIsEven, halfPlace}
 use Rattle.level.specs.Stands.{SetHas, SetLeaves}
@@ -473,9 +474,9 @@ module _ (k : ℕ) (W H : Side) (p : Band → Grid) where
     unfolding local firstSet
     at-low n r e = (omega arith, omega arith)
 
-    at-last : (n r : ℕ) → r < H .length → setOf H r ≡ n → local (H .start) r ≡ 2 * n + 1 → (2 * n + 2 ≡ endOf H) × (r ≡ 2 * n + 1 - b₀)
-    unfolding local firstSet setOf lastSet endOf
-    at-last n r b s e = (omega arith, omega arith)
+    at-last : (n r : ℕ) → r < H .length → setOf 1 H r ≡ n → local (H .start) r ≡ 2 * n + 1 → (2 * n + 2 ≡ endOf H) × (r ≡ 2 * n + 1 - b₀)
+    unfolding local firstSet lastSet endOf
+    at-last n r b s e = (omega (arith, set-one H r), omega (arith, set-one H r))
 
     odd-of : (q n last : ℕ) → min ((q + 1) / 2) last ≡ n → q ≤ 2 * last + 1 → (q ≡ 2 * n → ⊥) → (q ≡ 2 * n + 1 → ⊥) → suc q ≡ 2 * n
     odd-of q n last s b e f = omega (arith, e, f)
@@ -487,13 +488,13 @@ module _ (k : ℕ) (W H : Side) (p : Band → Grid) where
     unfolding lastSet
     in-sets r b = omega arith
 
-    at-odd : (n r : ℕ) → r < H .length → setOf H r ≡ n → (local (H .start) r ≡ 2 * n → ⊥) → (local (H .start) r ≡ 2 * n + 1 → ⊥) →
+    at-odd : (n r : ℕ) → r < H .length → setOf 1 H r ≡ n → (local (H .start) r ≡ 2 * n → ⊥) → (local (H .start) r ≡ 2 * n + 1 → ⊥) →
         (n ≡ suc (n - 1)) × (r ≡ 2 * (n - 1) + 1 - b₀)
-    unfolding local firstSet setOf
-    at-odd n r b s e f = row-of (H .start % 2) r n (odd-of (H .start % 2 + r) n (lastSet H) s (in-sets r b) e f)
+    unfolding local firstSet
+    at-odd n r b s e f = row-of (H .start % 2) r n (odd-of (H .start % 2 + r) n (lastSet H) (sym (set-one H r) ∙ s) (in-sets r b) e f)
 
     by-set : (P : ℕ → Type 0) (n : ℕ) → (b₀ ≤ n → P (2 * n - b₀)) → ((m : ℕ) → n ≡ suc m → P (2 * m + 1 - b₀)) → (2 * n + 2 ≡ endOf H → P (2 * n + 1 - b₀)) →
-        (r : ℕ) → r < H .length → setOf H r ≡ n → P r
+        (r : ℕ) → r < H .length → setOf 1 H r ≡ n → P r
     by-set P n e o l r u q = elim (ℕ-discrete (local (H .start) r) (2 * n)) [
       | yes z ↦ let t = at-low n r z in subst P (sym (t .1)) (e (t .0))
       | no z ↦ elim (ℕ-discrete (local (H .start) r) (2 * n + 1)) [
@@ -513,7 +514,7 @@ module _ (k : ℕ) (W H : Side) (p : Band → Grid) where
 
     made-by : (n : ℕ) (x : ℕ → ℤ) → (b₀ ≤ n → Is W x (2 * n) (parted W (G (2 * n - b₀)))) →
         ((m : ℕ) → n ≡ suc m → Is W x (2 * m + 1) (parted W (G (2 * m + 1 - b₀)))) →
-        (2 * n + 2 ≡ endOf H → Is W x (2 * n + 1) (parted W (G (2 * n + 1 - b₀)))) → (r : ℕ) → r < H .length → setOf H r ≡ n →
+        (2 * n + 2 ≡ endOf H → Is W x (2 * n + 1) (parted W (G (2 * n + 1 - b₀)))) → (r : ℕ) → r < H .length → setOf 1 H r ≡ n →
         Is W x (local (H .start) r) (parted W (G r))
     made-by n x e o l =
         by-set (λ r. Is W x (local (H .start) r) (parted W (G r))) n
@@ -525,7 +526,7 @@ module _ (k : ℕ) (W H : Side) (p : Band → Grid) where
     Worked n y = Leaves n y × Past y
 
     -- the columns are lines' where there is more than an only row at an odd coordinate
-    has-of : (n : ℕ) → Lines n → ((c : ℕ) → c < W .length → hasLine H (λ h i. cols h i c) ≡ true) → SetHas W H p n
+    has-of : (n : ℕ) → Lines n → ((c : ℕ) → c < W .length → hasLine H (λ h i. cols h i c) ≡ true) → SetHas 1 W H p n
     has-of n s f = record { low = s .low; high = s .high; columns = λ r b q c v. f c v }
 
     -- ---- the last row
@@ -643,7 +644,7 @@ module _ (k : ℕ) (W H : Side) (p : Band → Grid) where
         lone true f e = lone-made n x g e f s
         lone false f e = beside-made n x g e f s
 
-        has-none : (t : Bool) → loneHigh H ≡ t → (2 * n + 2 ≡ endOf H → ⊥) → SetHas W H p n
+        has-none : (t : Bool) → loneHigh H ≡ t → (2 * n + 2 ≡ endOf H → ⊥) → SetHas 1 W H p n
         has-none true f e = absurd (none-lone n l e f)
         has-none false f e = has-of n (s .lines) (λ c _. has-other H _ f)
 

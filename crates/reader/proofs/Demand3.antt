@@ -99,7 +99,7 @@ no-levels W H n e =
 
 module _ (W H : Side) (l n : ℕ) (lim : Limits W H l n) where
   abbrev T₀ : List Step
-  T₀ = steps W H (suc l)
+  T₀ = steps 1 W H (suc l)
 
   -- what is reached after the events es
   abbrev Then : List Event → World → Type 0
@@ -120,9 +120,9 @@ module _ (W H : Side) (l n : ℕ) (lim : Limits W H l n) where
   few : suc l ≤ maxLevels
   few = within-true 1 maxLevels (suc l) (lim .deep) .1
 
-  fresh-reached : (x : ℕ → ℤ) → Reached W H l n lim (freshWorld W H (suc l) n x) false (steps W H (suc l)) [] []
+  fresh-reached : (x : ℕ → ℤ) → Reached W H l n lim (freshWorld W H (suc l) n x) false (steps 1 W H (suc l)) [] []
   unfolding fresh
-  fresh-reached x = reached 0 (enter W H (suc l) 0) false _ (steps W H (suc l)) [] [] (record {
+  fresh-reached x = reached 0 (enter W H (suc l) 0) false _ (steps 1 W H (suc l)) [] [] (record {
     drawn-le = omega arith;
     level-le = first-le .0;
     band-le = first-le .1;
@@ -564,12 +564,12 @@ module _ (W H : Side) (l n : ℕ) (lim : Limits W H l n) where
 
     -- the grid that has the rows fed
     module _ (live : e ≡ false) (over : t ≡ []) where
-      all-names : namesOf fs ≡ bandRowsOf (steps W H (suc l))
+      all-names : namesOf fs ≡ bandRowsOf (steps 1 W H (suc l))
       unfolding bandRowsOf
       all-names = sym (append-nil (namesOf fs)) ∙ ap (λ v. namesOf fs ++ bandRowsOf v) (sym over) ∙ kept .names live
 
       once : (f : FedRow) → times (f .row) (namesOf fs) ≤ 1
-      once f = rw (all-names, steps-once W H (suc l) (omega arith) (f .row)) (go (bandRowExists W H (suc l) (f .row .level) (f .row .band) (f .row .row)))
+      once f = rw (all-names, steps-once 1 (omega arith) W H (suc l) (omega arith) (f .row)) (go (bandRowExists W H (suc l) (f .row .level) (f .row .band) (f .row .row)))
         where
           go : (u : Bool) → pick u 1 0 ≤ 1
           go true = omega arith
@@ -594,7 +594,7 @@ module _ (W H : Side) (l n : ℕ) (lim : Limits W H l n) where
 
       -- the last row drawn has had every set of every level worked out
       lines-at : (k : ℕ) → k ≤ l → hasCells (sideAt k W) (sideAt k H) ≡ true → levelHas (sideAt k W) (sideAt k H) (bandsAt W H (lookup fs) (suc l) k) ≡ true
-      lines-at k h cells = sets-have (sideAt k W) (sideAt k H) _ (λ m q.
+      lines-at k h cells = sets-have 1 (sideAt k W) (sideAt k H) _ (λ m q.
           fed-agrees .has (H .length - 1) (omega (arith, d-is, tall)) k (h, cells) m
           (omega (arith, q, last-set H k (cells-are (sideAt k W) (sideAt k H) cells .1))))
 
@@ -654,8 +654,8 @@ module _ (W H : Side) (l n : ℕ) (lim : Limits W H l n) where
   claim _ es (reached d p e x t fs ds kept) = (
     counts W H l n lim d p (kept .drawn-le) (kept .level-le) (kept .band-le) e,
     record {
-      rows-once = steps-once W H (suc l) (omega arith);
-      heights-once = steps-heights W H (suc l);
+      rows-once = steps-once 1 (omega arith) W H (suc l) (omega arith);
+      heights-once = steps-heights 1 W H (suc l);
       wants = want-is d p e x t fs ds kept;
       feeds-turned = feed-turned d p e x t fs ds kept;
       feeds-on = feed-on d p e x t fs ds kept;

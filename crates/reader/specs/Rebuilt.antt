@@ -38,8 +38,8 @@ module _ (W H : Side) (P : Rows) where
 
   -- the rows that set n of level k + 1 makes fit, and no number that it halves is odd
   pub record SetFits (L k n : ℕ) : Type 0 where
-    pub fit : (r c : ℕ) → r < sideAt k H .length → setOf (sideAt k H) r ≡ n → c < sideAt k W .length → valueFits k (partAt L k r c) ≡ true
-    pub has : SetHas (sideAt k W) (sideAt k H) (bandsAt L k) n
+    pub fit : (r c : ℕ) → r < sideAt k H .length → setOf 1 (sideAt k H) r ≡ n → c < sideAt k W .length → valueFits k (partAt L k r c) ≡ true
+    pub has : SetHas 1 (sideAt k W) (sideAt k H) (bandsAt L k) n
 
   -- so of all of level k + 1
   pub record LevelFits (L k : ℕ) : Type 0 where

@@ -61,7 +61,7 @@ module _ (W : Side) (s L n : ℕ) (x : ℕ → ℤ) (cs : List writer.Call) wher
     freshReader = reader.freshWorld W sideWrote L n′ y
 
     abbrev pub turns : List reader.Call
-    turns = played (drawnAs (writer.drawn wrote)) outs (length (steps W sideWrote L)) freshReader
+    turns = played (drawnAs (writer.drawn wrote)) outs (length (steps 1 W sideWrote L)) freshReader
 
     abbrev pub read : List reader.Event
     read = reader.events turns freshReader
@@ -87,7 +87,7 @@ planeRows W H plane x =
 
 module _ (W H : Side) (L n : ℕ) (y : ℕ → ℤ) (plane : ℕ → ℤ) (outs : ℕ → Area) where
   abbrev pub planeTurns : List reader.Call
-  planeTurns = played (planeRows W H plane) outs (length (steps W H L)) (reader.freshWorld W H L n y)
+  planeTurns = played (planeRows W H plane) outs (length (steps 1 W H L)) (reader.freshWorld W H L n y)
 
   abbrev pub planeRead : List reader.Event
   planeRead = reader.events planeTurns (reader.freshWorld W H L n y)

@@ -57,7 +57,7 @@ pub data Holds : Sample → Type 0 where
       backwardQuestion W H L (length p) (W .length * H .length) (W .length * H .length) (cells (W .length) (at p)) ≡ q → Holds (answer L W H p q)
   holds-order : {L : ℕ} {W H : Side} {g : List ℤ} {l : List BandRow} →
       each (bandRow W H (cells (W .length) (at g))) (made 1 W (H .start) L (H .length) true) ≡ l → Holds (order L W H g l)
-  holds-wants : {L : ℕ} {W H : Side} {l : List RowName} → bandRowsOf (steps W H L) ≡ l → Holds (wants L W H l)
+  holds-wants : {L : ℕ} {W H : Side} {l : List RowName} → bandRowsOf (steps 1 W H L) ≡ l → Holds (wants L W H l)
 
 -- a side of n that starts at 0
 abbrev pub zeroed : ℕ → Side
