@@ -25,6 +25,7 @@ pub record FilterLaws (F : Filter) : Type 1 where
       → hasLine S c ≡ true → (h : Half) (n : ℕ) → n < count h S → F .forward keep S (lineBackBy F keep S c) h n ≡ c h n
   pub forward-has : (S : Side) (x : ℕ → ℤ) → hasLine S (F .forward wrap32 S x) ≡ true
   -- number n reads no place after that of low number n + ahead, the way back the values that are there,
+  pub ahead-some : 1 ≤ F .ahead
   pub forward-reads : (keep : ℤ → ℤ) (S : Side) (x y : ℕ → ℤ) (h : Half) (n : ℕ) → n < count h S
       → ((i : ℕ) → i < S .length → i ≤ place S lo (n + F .ahead) → x i ≡ y i) → F .forward keep S x h n ≡ F .forward keep S y h n
   pub back-reads : (keep : ℤ → ℤ) (S : Side) (c c′ : Half → ℕ → ℤ) → ((h : Half) (n : ℕ) → n < count h S → c h n ≡ c′ h n)

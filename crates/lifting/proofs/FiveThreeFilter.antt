@@ -16,6 +16,7 @@ five-three-laws = record {
   line-back-forward = line-back-forward;
   line-forward-back = line-forward-back;
   forward-has = forward-has;
+  ahead-some = omega arith;
   forward-reads = forward-reads;
   back-reads = back-reads;
   forward-inner = forward-inner;

@@ -15,6 +15,7 @@ nine-seven-laws = record {
   line-back-forward = line-back-forward;
   line-forward-back = line-forward-back;
   forward-has = forward-has;
+  ahead-some = omega arith;
   forward-reads = forward-reads;
   back-reads = back-reads;
   forward-inner = forward-inner;
