@@ -1,6 +1,9 @@
 -- What arithmetic needs of the limits. No other law or proof knows their numbers. Assumes nothing.
-use Prim.Native.Nat.{_*_, _^_, _<_}
+use Prim.Native.Nat.{ℕ, _*_, _^_, _≤_, _<_}
 use native.Mathlib.Omega.{arith}
+use Rattle.lifting.specs.Filter.{Filter}
+use Rattle.lifting.specs.FiveThree.{fiveThreeFilter}
+use Rattle.lifting.proofs.FilterLaws.{FilterLaws}
 use Rattle.wavelet.specs.Limits.{maxWidth, maxHeight, maxLevels, maxSample, maxOrigin, range}
 
 pub width-small : maxWidth < 2 ^ 16
@@ -30,7 +33,12 @@ pub origin-small : maxOrigin < 2 ^ 16
 unfolding maxOrigin
 origin-small = omega arith
 
--- the range of the last level, as a 32-bit number
-pub range-last : range maxLevels < 2 ^ 31
-unfolding range maxSample maxLevels
-range-last = omega arith
+-- the range of the last level that a filter has, as a 32-bit number
+pub range-last : (F : Filter) → FilterLaws F → range F (F .levels) < 2 ^ 31
+unfolding range maxSample
+range-last F laws = omega (arith, laws .words-enough)
+
+-- the 5/3 has as many levels as any filter
+pub five-three-few : {L : ℕ} → L ≤ maxLevels → L ≤ fiveThreeFilter .levels
+unfolding maxLevels
+five-three-few h = h
