@@ -15,6 +15,7 @@ use Rattle.numbers.specs.Signal.{pick, both}
 use Rattle.numbers.specs.Word.{wrap32}
 use Rattle.lifting.specs.Line.{lo}
 use Rattle.lifting.specs.Grid.{Side, count}
+use Rattle.lifting.specs.FiveThree.{fiveThreeFilter}
 use Rattle.wavelet.specs.Bands.{Grid, Band, LL, HL, LH, HH, Band-discrete, code, across, down, levelBack}
 use Rattle.wavelet.specs.Maps.{valueFits}
 use Rattle.wavelet.specs.Levels.{next, sideAt}
@@ -303,7 +304,7 @@ module _ (W H : Side) (l : ℕ) (P : Rows) where
         omega (arith, f, c .1, first-low (sideAt k H), setAt-is H d k, set-is (sideAt k H) (rowAt H d k), low-is (sideAt k H)) in
         (q, cells-yes (sideAt (suc k) W) (sideAt (suc k) H) (omega arith) some)
 
-    low-part : k < l → (r i : ℕ) → levelBack wrap32 (sideAt (suc k) W) (sideAt (suc k) H) (B (suc k)) r i ≡ B k LL r i
+    low-part : k < l → (r i : ℕ) → levelBack fiveThreeFilter wrap32 (sideAt (suc k) W) (sideAt (suc k) H) (B (suc k)) r i ≡ B k LL r i
     unfolding bandsBy rebuilt
     low-part q r i = let z : suc l - suc k ≡ suc (suc l - suc (suc k)) = omega arith in rw z refl
 
@@ -315,7 +316,7 @@ module _ (W H : Side) (l : ℕ) (P : Rows) where
         ∙ there i (unfold next in b) ∙ low-part q (rowAt H d (suc k)) i
       where
         there : (i : ℕ) → i < next (sideAt k W) .length → K .made (next (sideAt k W)) (next (sideAt k H) .start) (rowAt H d (suc k)) (mem W (suc k) x) i
-            ≡ levelBack wrap32 (sideAt (suc k) W) (sideAt (suc k) H) (B (suc k)) (rowAt H d (suc k)) i
+            ≡ levelBack fiveThreeFilter wrap32 (sideAt (suc k) W) (sideAt (suc k) H) (B (suc k)) (rowAt H d (suc k)) i
         there = laws .made-is (suc k) (sideAt (suc k) W) (sideAt (suc k) H) (B (suc k)) (setAt H d (suc k)) (mem W (suc k) x) s (rowAt H d (suc k))
             (rowAt-there H d due (suc k) (cells-are (sideAt (suc k) W) (sideAt (suc k) H) (on .1) .1)) (sym (setAt-is H d (suc k)))
 
@@ -759,7 +760,7 @@ module _ (W H : Side) (l : ℕ) (P : Rows) where
         ap (λ (z : ℕ → ℤ). K .made W (H .start) d z c) (sym (first-mem W x))
         ∙ laws .made-is 0 W H (B 0) (setAt H d 0) (mem W 0 x) (s .below refl 0 top (omega arith)) d due refl c p
 
-    pub height-fit : (c : ℕ) → c < W .length → valueFits 0 (partAt W H P (suc l) 0 d c) ≡ true
+    pub height-fit : (c : ℕ) → c < W .length → valueFits fiveThreeFilter 0 (partAt W H P (suc l) 0 d c) ≡ true
     unfolding sideAt rowAt setAt
     height-fit = laws .made-fits 0 W H (B 0) (setAt H d 0) (mem W 0 x) (s .below refl 0 top (omega arith)) d due refl
 

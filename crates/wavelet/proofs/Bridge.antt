@@ -93,7 +93,8 @@ module _ (F : Filter) (laws : FilterLaws F) where
   unfolding columnsLifted
   columns-exact M W H g small w h r c p q = forward-exact M H (omega (arith, gain-below F laws M)) (λ i. g i c) (λ i u. w i c u q) h r p
 
-  pub subband-exact : (M : ℕ) (W H : Side) (g : Grid) → G * M < 2 ^ 31 → OnCells (Within M) W H g → SameBands W H (subband F wrap32 W H g) (subband F whole W H g)
+  pub subband-exact : (M : ℕ) (W H : Side) (g : Grid) → G * M < 2 ^ 31 → OnCells (Within M) W H g
+      → SameBands W H (subband F wrap32 W H g) (subband F whole W H g)
   unfolding subband
   subband-exact M W H g small w b r c p q =
       forward-reads wrap32 W (columnsLifted F wrap32 H g (down b) r) (columnsLifted F whole H g (down b) r) (across b) c q
@@ -117,7 +118,8 @@ module _ (F : Filter) (laws : FilterLaws F) where
         let t = lone-high W e in
         let a : natAbs (columnsLifted F wrap32 H g h r 0) ≤ gain M =
         rw (columns-exact M W H g small w h r 0 p (omega arith)) (columns-range M W H g w h r 0 p (omega arith)) in
-        abs-fits (pos 2 *ℤ columnsLifted F wrap32 H g h r 0) (2 * gain M) (omega (arith, gain-below F laws M)) (double-within (gain M) (columnsLifted F wrap32 H g h r 0) a);
+        abs-fits (pos 2 *ℤ columnsLifted F wrap32 H g h r 0) (2 * gain M) (omega (arith, gain-below F laws M))
+        (double-within (gain M) (columnsLifted F wrap32 H g h r 0) a);
   }
 
   -- ---- k levels, for any grid within ±M
@@ -141,7 +143,8 @@ module _ (F : Filter) (laws : FilterLaws F) where
     approximation-exact (suc k) small =
         let s : G * (M * G ^ k) < 2 ^ 31 = rw (grown G M k) small in
         same-low (sideAt k W) (sideAt k H)
-        (subband F wrap32 (sideAt k W) (sideAt k H) (approximation F wrap32 W H g k)) (subband F whole (sideAt k W) (sideAt k H) (approximation F whole W H g k))
+        (subband F wrap32 (sideAt k W) (sideAt k H) (approximation F wrap32 W H g k))
+        (subband F whole (sideAt k W) (sideAt k H) (approximation F whole W H g k))
         (subband-bridge (M * G ^ k) (sideAt k W) (sideAt k H) (approximation F wrap32 W H g k) (approximation F whole W H g k) s
         (approximation-range k) (approximation-exact k (omega (arith, one-more G (M * G ^ k) (growth-some F laws)))))
 

@@ -276,7 +276,8 @@ module _ (F : Filter) (laws : FilterLaws F) where
 
   -- ---- what one level reads: cells that are there, of rows up to that of low row r + ahead
   pub columns-reads : (keep : ℤ → ℤ) (W H : Side) (g g′ : Grid) (h : Half) (r c : ℕ) → r < count h H → c < W .length →
-      ((i j : ℕ) → i < H .length → i ≤ place H lo (r + F .ahead) → j < W .length → g i j ≡ g′ i j) → columnsLifted F keep H g h r c ≡ columnsLifted F keep H g′ h r c
+      ((i j : ℕ) → i < H .length → i ≤ place H lo (r + F .ahead) → j < W .length → g i j ≡ g′ i j)
+      → columnsLifted F keep H g h r c ≡ columnsLifted F keep H g′ h r c
   unfolding columnsLifted
   columns-reads keep W H g g′ h r c p q e = forward-reads keep H (λ i. g i c) (λ i. g′ i c) h r p (λ i u v. e i c u v q)
 
@@ -291,7 +292,8 @@ module _ (F : Filter) (laws : FilterLaws F) where
   subband-same keep W H g g′ e b r c p q = subband-reads keep W H g g′ b r c p q (λ i j u _ v. e i j u v)
 
   -- away from the end of the columns it does not see the height
-  pub subband-inner : (keep : ℤ → ℤ) (W : Side) (s N N′ : ℕ) (g : Grid) (b : Band) (r : ℕ) → place (side s N) lo (r + F .ahead) < N → place (side s N′) lo (r + F .ahead) < N′ →
+  pub subband-inner : (keep : ℤ → ℤ) (W : Side) (s N N′ : ℕ) (g : Grid) (b : Band) (r : ℕ) → place (side s N) lo (r + F .ahead) < N
+      → place (side s N′) lo (r + F .ahead) < N′ →
       subband F keep W (side s N) g b r ≡ subband F keep W (side s N′) g b r
   unfolding subband columnsLifted
   subband-inner keep W s N N′ g b r p q =
@@ -330,7 +332,8 @@ module _ (F : Filter) (laws : FilterLaws F) where
     unfolding columnsLifted
     columns-good W H g good h r c p q = forward-good K H (λ i. g i c) (λ i u. good i c u q) h r p
 
-    rows-good : (W H : Side) (p : Band → Grid) → OnBands Good W H p → (h : Half) (r c : ℕ) → r < count h H → c < W .length → Good (rowsUnlifted F keep W p h r c)
+    rows-good : (W H : Side) (p : Band → Grid) → OnBands Good W H p → (h : Half) (r c : ℕ) → r < count h H → c < W .length
+        → Good (rowsUnlifted F keep W p h r c)
     unfolding rowsUnlifted
     rows-good W H p good h r c u v =
         back-good K W (λ a. p (bandOf a h) r) (λ a n t. good (bandOf a h) r n (rw (down-of a h) u) (rw (across-of a h) t)) c v
@@ -366,7 +369,8 @@ module _ (F : Filter) (laws : FilterLaws F) where
         (λ h i s. rows-columns W H g good twice h i c s v) r u
         ∙ line-back-forward K H (λ i. g i c) (λ i t. good i c t v) (λ e. twice .columns e c v) r u
 
-    pub level-forward-back : (W H : Side) (p : Band → Grid) → OnBands Good W H p → Has F keep W H p → SameBands W H (subband F keep W H (levelBack F keep W H p)) p
+    pub level-forward-back : (W H : Side) (p : Band → Grid) → OnBands Good W H p → Has F keep W H p
+        → SameBands W H (subband F keep W H (levelBack F keep W H p)) p
     unfolding subband rowsUnlifted
     level-forward-back W H p good has b r c u v =
         forward-reads keep W (columnsLifted F keep H (levelBack F keep W H p) (down b) r) (rowsUnlifted F keep W p (down b) r) (across b) c v
@@ -456,7 +460,8 @@ module _ (F : Filter) (laws : FilterLaws F) where
         over-same W H _ _ _ _ low (plane-at F keep L W H g) b r c p q
         ∙ ap (λ (f : Grid). f r c) (over-twice _ (subband F keep W H g) b)
 
-    pub map-back-plane : (L : ℕ) (W H : Side) (g : Grid) → OnCells Good W H g → AllDouble F K L W H g → Same W H (mapBack F keep L W H (planeCell F keep L W H g)) g
+    pub map-back-plane : (L : ℕ) (W H : Side) (g : Grid) → OnCells Good W H g → AllDouble F K L W H g
+        → Same W H (mapBack F keep L W H (planeCell F keep L W H g)) g
     unfolding mapBack planeCell
     map-back-plane zero W H g good none = λ r c p q. refl
     map-back-plane (suc L) W H g good (more twice left) =
@@ -482,7 +487,8 @@ module _ (F : Filter) (laws : FilterLaws F) where
     unfolding over
     low-map-back L W H x good has = same-low W H (subband F keep W H (mapBack F keep (suc L) W H x)) _ (bands-map-back L W H x good has)
 
-    pub plane-map-back : (L : ℕ) (W H : Side) (x : Grid) → OnCells Good W H x → AllHave F keep L W H x → Same W H (planeCell F keep L W H (mapBack F keep L W H x)) x
+    pub plane-map-back : (L : ℕ) (W H : Side) (x : Grid) → OnCells Good W H x → AllHave F keep L W H x
+        → Same W H (planeCell F keep L W H (mapBack F keep L W H x)) x
     unfolding mapBack planeCell
     plane-map-back zero W H x good none = λ r c p q. refl
     plane-map-back (suc L) W H x good (more left has) =
@@ -508,11 +514,13 @@ module _ (F : Filter) (laws : FilterLaws F) where
         ∙ map-back-plane L W H g′ good′ twice′ r c p q
 
   -- ---- the same for words
-  pub words-map-back-plane : (L : ℕ) (W H : Side) (g : Grid) → OnCells (SFits w32) W H g → AllDouble F words L W H g → (r c : ℕ) → r < H .length → c < W .length →
+  pub words-map-back-plane : (L : ℕ) (W H : Side) (g : Grid) → OnCells (SFits w32) W H g → AllDouble F words L W H g → (r c : ℕ) → r < H .length
+      → c < W .length →
       mapBack F wrap32 L W H (planeCell F wrap32 L W H g) r c ≡ g r c
   words-map-back-plane = map-back-plane words
 
-  pub words-plane-map-back : (L : ℕ) (W H : Side) (x : Grid) → OnCells (SFits w32) W H x → AllHave F wrap32 L W H x → (r c : ℕ) → r < H .length → c < W .length →
+  pub words-plane-map-back : (L : ℕ) (W H : Side) (x : Grid) → OnCells (SFits w32) W H x → AllHave F wrap32 L W H x → (r c : ℕ) → r < H .length
+      → c < W .length →
       planeCell F wrap32 L W H (mapBack F wrap32 L W H x) r c ≡ x r c
   words-plane-map-back = plane-map-back words
 

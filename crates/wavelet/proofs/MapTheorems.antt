@@ -32,7 +32,8 @@ use Rattle.wavelet.specs.Plane.{inCorner, planeCell, levelAt, planeBands
 use Rattle.wavelet.proofs.LevelTheory.{OnCells, Same, SameBands, AllHave, none, more, bandsBack, plane-bands, same-corner, same-in-bands, over-same}
 use Rattle.wavelet.proofs.LevelTheory.{plane-corner, plane-reads, map-back-reads, level-has, level-has-reads, subband-has, bands-plane}
 use Rattle.wavelet.proofs.LevelTheory.{words-map-back-plane, words-plane-map-back}
-use Rattle.wavelet.proofs.Bridge.{Within, grown-none, grown-first, range-zero, range-suc, range-small, word-cells, word-doubles, word-all-double, low-within, map-height}
+use Rattle.wavelet.proofs.Bridge.{Within, grown-none, grown-first, range-zero, range-suc, range-small, word-cells}
+use Rattle.wavelet.proofs.Bridge.{word-doubles, word-all-double, low-within, map-height}
 use Rattle.wavelet.proofs.Bridge.{map-fits, map-plane, map-plane-range, map-all-double}
 
 -- ---- a test of every cell
@@ -108,7 +109,8 @@ module _ (F : Filter) (laws : FilterLaws F) where
         bands-are L W H x,
         bands-are L W H y,
         level-has-reads F laws W H (bandsBack F wrap32 L W H x) (bandsBack F wrap32 L W H y) (bands-reads L W H x y e),
-        cells-same (W .length) (H .length) (λ r c. valueFits F k (mapBack F wrap32 (suc L) W H x r c)) (λ r c. valueFits F k (mapBack F wrap32 (suc L) W H y r c))
+        cells-same (W .length) (H .length) (λ r c. valueFits F k (mapBack F wrap32 (suc L) W H x r c))
+            (λ r c. valueFits F k (mapBack F wrap32 (suc L) W H y r c))
             (λ r c p q. ap (valueFits F k) (map-back-reads F laws wrap32 (suc L) W H x y e r c p q)),
       )
 
@@ -143,7 +145,12 @@ module _ (F : Filter) (laws : FilterLaws F) where
       ap (levelHas F W H) (bands-are L W H x)
       ∙ level-has-reads F laws W H (bandsBack F wrap32 L W H x) (subband F wrap32 W H g) bands
       ∙ subband-has F laws W H g fits (word-doubles F laws (range F k) W H g small within) in
-      simp (rest, has, each-cells (W .length) (H .length) (λ r c. valueFits F k (mapBack F wrap32 (suc L) W H x r c)) (λ r c p q. rw (back r c p q) (fit r c p q)))
+      simp (
+        rest,
+        has,
+        each-cells (W .length) (H .length) (λ r c. valueFits F k (mapBack F wrap32 (suc L) W H x r c))
+            (λ r c p q. rw (back r c p q) (fit r c p q)),
+      )
 
   -- ---- a plane that a map has
   module _ (L : ℕ) (W H : Side) (g x : Grid) (few : L ≤ F .levels) (has : HasPlane F L W H g x) where
@@ -198,7 +205,8 @@ module _ (F : Filter) (laws : FilterLaws F) where
         cells-each (W .length) (H .length) (λ r c. valueFits F k (mapBack F wrap32 (suc L) W H x r c)) (b .1),
       )
 
-  pub rebuilt-fits : (k L : ℕ) (W H : Side) (x : Grid) → 1 ≤ L → rebuiltFits F k L W H x ≡ true → OnCells (λ v. valueFits F k v ≡ true) W H (mapBack F wrap32 L W H x)
+  pub rebuilt-fits : (k L : ℕ) (W H : Side) (x : Grid) → 1 ≤ L → rebuiltFits F k L W H x ≡ true
+      → OnCells (λ v. valueFits F k v ≡ true) W H (mapBack F wrap32 L W H x)
   rebuilt-fits k zero W H x some e = absurd (omega arith)
   rebuilt-fits k (suc L) W H x some e = rebuilt-parts k L W H x e .2
 
@@ -208,7 +216,8 @@ module _ (F : Filter) (laws : FilterLaws F) where
       let a = rebuilt-parts k L W H x e in
       more (rebuilt-have (suc k) L (next W) (next H) x (a .0)) (level-has F W H (bandsBack F wrap32 L W H x) .0 (a .1))
 
-  module _ (L : ℕ) (W H : Side) (x : Grid) (some : 1 ≤ L) (few : L ≤ F .levels) (fits : OnCells (SFits w32) W H x) (rebuilt : rebuiltFits F 0 L W H x ≡ true) where
+  module _ (L : ℕ) (W H : Side) (x : Grid) (some : 1 ≤ L) (few : L ≤ F .levels) (fits : OnCells (SFits w32) W H x)
+      (rebuilt : rebuiltFits F 0 L W H x ≡ true) where
     pub rebuilt-map : IsMap (W .length) (H .length) (mapBack F wrap32 L W H x)
     rebuilt-map = record { heights = λ r c p q. height-fits F (mapBack F wrap32 L W H x r c) .0 (rebuilt-fits 0 L W H x some rebuilt r c p q) }
 

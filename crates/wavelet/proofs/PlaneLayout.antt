@@ -71,14 +71,16 @@ cell-LL F keep L W H g r c p q e =
     ∙ ap (λ (l : ℕ). planeCell F keep l (next W) (next H) (subband F keep W H g LL) r c) e
     ∙ cell-none F keep (next W) (next H) (subband F keep W H g LL) r c
 
-cell-beside : (F : Filter) (keep : ℤ → ℤ) (L : ℕ) (W H : Side) (g : Grid) (b : Band) (r c : ℕ) → beside b ≡ true → r < count (down b) H → c < count (across b) W →
+cell-beside : (F : Filter) (keep : ℤ → ℤ) (L : ℕ) (W H : Side) (g : Grid) (b : Band) (r c : ℕ) → beside b ≡ true → r < count (down b) H
+    → c < count (across b) W →
     planeCell F keep (suc L) W H g (offset (down b) 1 H + r) (offset (across b) 1 W + c) ≡ subband F keep W H g b r c
 cell-beside F keep L W H g b r c h p q =
     cell-out F keep L W H g _ _ (corner-out W H b r c h p q)
     ∙ rw (half-at W c (across b) q, half-at H r (down b) p, place-in H r (down b) p, place-in W c (across b) q, band-of b)
 
 -- the finest level, and then every level by the low-low part of the finest
-cell-first : (F : Filter) (keep : ℤ → ℤ) (L : ℕ) (W H : Side) (g : Grid) (b : Band) (r c : ℕ) → r < count (down b) H → c < count (across b) W → (b ≡ LL → L ≡ 0) →
+cell-first : (F : Filter) (keep : ℤ → ℤ) (L : ℕ) (W H : Side) (g : Grid) (b : Band) (r c : ℕ) → r < count (down b) H → c < count (across b) W
+    → (b ≡ LL → L ≡ 0) →
     planeCell F keep (suc L) W H g (offset (down b) 1 H + r) (offset (across b) 1 W + c) ≡ subband F keep W H g b r c
 unfolding down across offset
 cell-first F keep L W H g LL r c p q l =

@@ -1,4 +1,4 @@
--- The limits of document 01, "Ground covered", and of document 02, Q-3, Q-5 and Q-8, each said once. A filter has its own number of levels (`levels` of Filter).
+-- The limits of document 01, "Ground covered", and of document 02, Q-3, Q-5 and Q-8, each said once.
 use Prim.Native.Nat.{ℕ, _*_, _^_}
 use Rattle.lifting.specs.Filter.{Filter}
 
@@ -8,7 +8,7 @@ maxWidth = 2049
 unfoldable pub maxHeight : ℕ
 maxHeight = 4294967295
 
--- the most levels that any filter has
+-- the most levels that any filter has; each has its own number of them (`levels` of Filter)
 unfoldable pub maxLevels : ℕ
 maxLevels = 5
 

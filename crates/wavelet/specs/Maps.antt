@@ -1,4 +1,4 @@
--- Maps on the grid and the planes they have: what demand 2 speaks of, for every origin.
+-- Maps on the grid and the planes they have: what demand 2 speaks of, for every origin and filter.
 use mathlib.Core.Path.{_≡_}
 use mathlib.Core.Bool.{Bool, true}
 use Prim.Native.Nat.{ℕ, zero, suc, _<_}
@@ -19,7 +19,7 @@ use Rattle.wavelet.specs.Plane.{planeCell, levelAt, planeBands, mapBack}
 pub record IsMap (W H : ℕ) (g : Grid) : Type 0 where
   pub heights : (r c : ℕ) → r < H → c < W → (pos 0 ≤ℤ g r c) × (g r c ≤ℤ pos maxSample)
 
--- plane x is that map's, at L levels: T.800's whole numbers, at every place
+-- plane x is that map's, at L levels by filter F: the filter's own whole numbers, at every place
 pub record HasPlane (F : Filter) (L : ℕ) (W H : Side) (g x : Grid) : Type 0 where
   pub map : IsMap (W .length) (H .length) g
   pub coefficients : (r c : ℕ) → r < H .length → c < W .length → x r c ≡ planeCell F whole L W H g r c

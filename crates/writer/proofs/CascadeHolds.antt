@@ -19,6 +19,7 @@ use Rattle.numbers.specs.Word.{wrap32}
 use Rattle.numbers.proofs.Sweep.{both as split-both}
 use Rattle.lifting.specs.Line.{Half, lo, hi}
 use Rattle.lifting.specs.Grid.{Side, side, count}
+use Rattle.lifting.specs.FiveThree.{fiveThreeFilter}
 use Rattle.wavelet.specs.Bands.{Grid, Band, LL, across, down, subband}
 use Rattle.wavelet.specs.Order.{RowName, rowName, firstSet, lastSet, setRow, setHas, rowsOf, setRows, madeBy}
 use Rattle.wavelet.specs.Levels.{next, sideAt, approximation, levelBand}
@@ -43,29 +44,30 @@ unfolding rest
 rest-same a x y e = fun-ext λ j. e (a + j) (omega arith)
 
 -- ---- the levels of the low-low part are the levels after the first
-pub approximation-inner : (keep : ℤ → ℤ) (k : ℕ) (W H : Side) (g : Grid) → approximation keep (next W) (next H)
-    (subband keep W H g LL) k ≡ approximation keep W H g (suc k)
+pub approximation-inner : (keep : ℤ → ℤ) (k : ℕ) (W H : Side) (g : Grid) → approximation fiveThreeFilter keep (next W) (next H)
+    (subband fiveThreeFilter keep W H g LL) k ≡ approximation fiveThreeFilter keep W H g (suc k)
 unfolding approximation sideAt
 approximation-inner keep zero W H g = refl
 approximation-inner keep (suc k) W H g =
-    ap (λ a. subband keep (sideAt k (next W)) (sideAt k (next H)) a LL) (approximation-inner keep k W H g)
-    ∙ ap₂ (λ a b. subband keep a b (approximation keep W H g (suc k)) LL) (sym (size-inner k W)) (sym (size-inner k H))
+    ap (λ a. subband fiveThreeFilter keep (sideAt k (next W)) (sideAt k (next H)) a LL) (approximation-inner keep k W H g)
+    ∙ ap₂ (λ a b. subband fiveThreeFilter keep a b (approximation fiveThreeFilter keep W H g (suc k)) LL) (sym (size-inner k W)) (sym (size-inner k H))
 
-pub band-inner : (keep : ℤ → ℤ) (k : ℕ) (W H : Side) (g : Grid) (b : Band) → levelBand keep (next W) (next H) (subband keep W H g LL)
-    (suc k) b ≡ levelBand keep W H g (suc (suc k)) b
+pub band-inner : (keep : ℤ → ℤ) (k : ℕ) (W H : Side) (g : Grid) (b : Band)
+    → levelBand fiveThreeFilter keep (next W) (next H) (subband fiveThreeFilter keep W H g LL)
+    (suc k) b ≡ levelBand fiveThreeFilter keep W H g (suc (suc k)) b
 unfolding levelBand
 band-inner keep k W H g b =
-    ap (λ a. subband keep (sideAt k (next W)) (sideAt k (next H)) a b) (approximation-inner keep k W H g)
-    ∙ ap₂ (λ c d. subband keep c d (approximation keep W H g (suc k)) b) (sym (size-inner k W)) (sym (size-inner k H))
+    ap (λ a. subband fiveThreeFilter keep (sideAt k (next W)) (sideAt k (next H)) a b) (approximation-inner keep k W H g)
+    ∙ ap₂ (λ c d. subband fiveThreeFilter keep c d (approximation fiveThreeFilter keep W H g (suc k)) b) (sym (size-inner k W)) (sym (size-inner k H))
 
 -- a row that waits is the row of the map's transform that its name says
 pub record IsRow (W H : Side) (g : Grid) (r : Waiting) (d : ℕ) (x : Memory) : Type 0 where
   pub level-is : r .level ≡ suc d
   pub length-is : r .length ≡ count (across (r .band)) (sideAt d W)
   pub row-in : r .row < count (down (r .band)) (sideAt d H)
-  pub values : (i : ℕ) → i < r .length → x (r .start + i) ≡ levelBand wrap32 W H g (suc d) (r .band) (r .row) i
+  pub values : (i : ℕ) → i < r .length → x (r .start + i) ≡ levelBand fiveThreeFilter wrap32 W H g (suc d) (r .band) (r .row) i
 
-is-under : (W H : Side) (g : Grid) (r : Waiting) (d a : ℕ) (x : Memory) → IsRow (next W) (next H) (subband wrap32 W H g LL) r d (rest a x) →
+is-under : (W H : Side) (g : Grid) (r : Waiting) (d a : ℕ) (x : Memory) → IsRow (next W) (next H) (subband fiveThreeFilter wrap32 W H g LL) r d (rest a x) →
     IsRow W H g (lower a r) (suc d) x
 unfolding rest
 is-under W H g r d a x s = record {
@@ -118,7 +120,7 @@ module _ (K : LevelKind) (Held : Meaning) (laws : LevelLaws K Held) where
   Inv = LevelsHold K Held
 
   abbrev lowMap : Side → Side → Grid → Grid
-  lowMap W H g = subband wrap32 W H g LL
+  lowMap W H g = subband fiveThreeFilter wrap32 W H g LL
 
   -- ---- what is read of a store
   module _ (W H : Side) (g : Grid) (x y : Memory) (e : (j : ℕ) → j < K .stretch W → y j ≡ x j) where
@@ -448,7 +450,7 @@ module _ (K : LevelKind) (Held : Meaning) (laws : LevelLaws K Held) where
       row-in = unfold sideAt in row-there;
       values = λ a h. unfold levelBand sideAt approximation in
           (v .1 .stands b a set-there (subst (λ r. r < count (down b) H) same row-there) h
-          ∙ ap (λ r. subband wrap32 W H g b r a) (sym same));
+          ∙ ap (λ r. subband fiveThreeFilter wrap32 W H g b r a) (sym same));
     };
     first = unfold lasts in (ap (λ r. r ++ later-rows) (rows-yes k W M n b (lasts i) (v .1 .has))
         ∙ ap (λ a. rowName a b (setRow M b n) ∷ (rowsOf k W M n (lasts i) ++ later-rows)) (omega arith));

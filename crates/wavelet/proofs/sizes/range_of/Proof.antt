@@ -23,7 +23,8 @@ four-is : (N : ℕ) (z : ℤ) → z ≡ pos N → pos 4 *ℤ z ≡ pos (4 * N)
 four-is N = each _ λ p q. simp lin (omega arith)
 
 next-small : (k last : ℕ) → k < last → last ≤ maxLevels → 4 * range fiveThreeFilter k < 2 ^ 31
-next-small k last h few = omega (arith, range-suc fiveThreeFilter five-three-laws k, range-small fiveThreeFilter five-three-laws (suc k) (five-three-few (omega arith)))
+next-small k last h few =
+    omega (arith, range-suc fiveThreeFilter five-three-laws k, range-small fiveThreeFilter five-three-laws (suc k) (five-three-few (omega arith)))
 
 abbrev Inv-loop : tie.InvT-loop
 Inv-loop level last most₀ k₀ most k = (k ≤ last) × (last ≤ maxLevels) × (toZ w32 most ≡ pos (range fiveThreeFilter k))
