@@ -1,5 +1,6 @@
 -- What arithmetic needs of the limits. No other law or proof knows their numbers. Assumes nothing.
 use Prim.Native.Nat.{ℕ, _*_, _^_, _≤_, _<_}
+use native.Mathlib.Nat.{pow-le-pow-right}
 use native.Mathlib.Omega.{arith}
 use Rattle.lifting.specs.Filter.{Filter}
 use Rattle.lifting.specs.FiveThree.{fiveThreeFilter}
@@ -17,6 +18,13 @@ height-small = omega arith
 pub levels-small : maxLevels < 2 ^ 16
 unfolding maxLevels
 levels-small = omega arith
+
+unit-last : 2 ^ maxLevels < 2 ^ 16
+unfolding maxLevels
+unit-last = omega arith
+
+pub unit-small : (k : ℕ) → k ≤ maxLevels → 2 ^ k < 2 ^ 16
+unit-small k h = omega (arith, pow-le-pow-right {n = 2} (omega arith) h, unit-last)
 
 -- the stride of the last level of a map's rows
 pub stride-small : maxWidth * 2 ^ maxLevels < 2 ^ 32
