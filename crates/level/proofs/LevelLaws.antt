@@ -15,6 +15,7 @@ use Rattle.lifting.specs.Line.{lo, hi, predicted, updated}
 use Rattle.lifting.specs.Grid.{Side, count, place, parted}
 use Rattle.lifting.specs.GridHalves.{partedInto}
 use Rattle.lifting.proofs.GridLaws.{halves-low, halves-high}
+use Rattle.lifting.specs.FiveThree.{fiveThreeFilter}
 use Rattle.wavelet.specs.Bands.{Grid, Band, LL, HL, LH, HH, across, columnsLifted}
 use Rattle.wavelet.specs.Order.{lastSet, unmade}
 use Rattle.wavelet.proofs.OrderLaws.{unmade-is}
@@ -31,7 +32,7 @@ use Rattle.level.proofs.Slots.{next-stays, set-past, high-stays, set-st
 -- Held W H g m c x: what a level holds after m rows of g and c columns of row m; Ended W H g n x: once all rows are there, n being the first set not made
 pub record LevelLaws (K : LevelKind) (Held : Meaning) (Ended : Ending) : Type 0 where
   -- a set is made by a row after it
-  pub ahead-some : 1 ≤ K .ahead
+  pub ahead-some : 1 ≤ K .filter .ahead
   -- at first, whatever stands in the store
   pub held-none : (W H : Side) (g : Grid) (x : Memory) → Held W H g 0 0 x
   -- a number of row m more, or all of row m
@@ -40,14 +41,14 @@ pub record LevelLaws (K : LevelKind) (Held : Meaning) (Ended : Ending) : Type 0 
   pub held-put : (W H : Side) (g : Grid) (m : ℕ) (row : ℕ → ℤ) (x : Memory) → ((i : ℕ) → i < W .length → row i ≡ g m i)
       → Held W H g m 0 x → Held W H g m (W .length) (K .put W (H .start) m row x)
   -- row m is there: a row more, and it may complete a set
-  pub held-still : (W H : Side) (g : Grid) (m : ℕ) (x : Memory) → m < H .length → completes (K .ahead) (H .start) m ≡ false
+  pub held-still : (W H : Side) (g : Grid) (m : ℕ) (x : Memory) → m < H .length → completes (K .filter .ahead) (H .start) m ≡ false
       → Held W H g m (W .length) x → Held W H g (m + 1) 0 x
-  pub held-make : (W H : Side) (g : Grid) (m n : ℕ) (x : Memory) → H .start % 2 + m ≡ 2 * n + 2 * K .ahead → m < H .length
+  pub held-make : (W H : Side) (g : Grid) (m n : ℕ) (x : Memory) → H .start % 2 + m ≡ 2 * n + 2 * K .filter .ahead → m < H .length
       → Held W H g m (W .length) x → Held W H g (m + 1) 0 (K .make W (H .start) n x)
-  pub make-stands : (W H : Side) (g : Grid) (m n : ℕ) (x : Memory) → H .start % 2 + m ≡ 2 * n + 2 * K .ahead → m < H .length
+  pub make-stands : (W H : Side) (g : Grid) (m n : ℕ) (x : Memory) → H .start % 2 + m ≡ 2 * n + 2 * K .filter .ahead → m < H .length
       → Held W H g m (W .length) x → SetStands K W H g n (K .make W (H .start) n x)
   -- all rows are there: the sets left are made, one after the other
-  pub held-ended : (W H : Side) (g : Grid) (x : Memory) → 0 < H .length → Held W H g (H .length) 0 x → Ended W H g (unmade (K .ahead) H) x
+  pub held-ended : (W H : Side) (g : Grid) (x : Memory) → 0 < H .length → Held W H g (H .length) 0 x → Ended W H g (unmade (K .filter .ahead) H) x
   pub close-ended : (W H : Side) (g : Grid) (n : ℕ) (x : Memory) → n ≤ lastSet H → Ended W H g n x → Ended W H g (suc n) (K .close W H n x)
   pub close-stands : (W H : Side) (g : Grid) (n : ℕ) (x : Memory) → n ≤ lastSet H → Ended W H g n x → SetStands K W H g n (K .close W H n x)
   -- all this is in the level's stretch
@@ -164,20 +165,20 @@ module _ (W H : Side) (g : Grid) (m n : ℕ) (x : Memory) (t : H .start % 2 + m 
     even-stands : RowStands W (2 * n) (W .length) (g (2 * n - H .start % 2)) x
     even-stands = k .even n f (omega arith) (omega arith)
 
-    earlier-stands : (i : ℕ) → n ≡ suc i → RowStands W (2 * i + 1) (W .length) (columnsLifted wrap32 H g hi i) x
+    earlier-stands : (i : ℕ) → n ≡ suc i → RowStands W (2 * i + 1) (W .length) (columnsLifted fiveThreeFilter wrap32 H g hi i) x
     earlier-stands i z = k .high i (omega arith) (omega arith)
 
-    mid-high : (i : ℕ) → columnsLifted wrap32 H g hi n i
+    mid-high : (i : ℕ) → columnsLifted fiveThreeFilter wrap32 H g hi n i
         ≡ predicted wrap32 (g (2 * n + 1 - H .start % 2) i) (g (2 * n - H .start % 2) i) (g (2 * n + 2 - H .start % 2) i)
     unfolding columnsLifted
     mid-high i = high-mid wrap32 H (λ r. g r i) n f (omega arith)
 
-    mid-low : (i : ℕ) → columnsLifted wrap32 H g lo (n - H .start % 2) i
-        ≡ updated wrap32 (g (2 * n - H .start % 2) i) (columnsLifted wrap32 H g hi (n - 1) i) (columnsLifted wrap32 H g hi n i)
+    mid-low : (i : ℕ) → columnsLifted fiveThreeFilter wrap32 H g lo (n - H .start % 2) i
+        ≡ updated wrap32 (g (2 * n - H .start % 2) i) (columnsLifted fiveThreeFilter wrap32 H g hi (n - 1) i) (columnsLifted fiveThreeFilter wrap32 H g hi n i)
     unfolding columnsLifted
     mid-low i = low-mid wrap32 H (λ r. g r i) n f (omega arith)
 
-    two-high : RowStands W (2 * n + 1) (W .length) (columnsLifted wrap32 H g hi n) (setWith W n (2 * n + 2) x)
+    two-high : RowStands W (2 * n + 1) (W .length) (columnsLifted fiveThreeFilter wrap32 H g hi n) (setWith W n (2 * n + 2) x)
     two-high =
         high-stays W H g n (2 * n + 2) x _ _ _ even-stands odd-stands earlier-stands after-stands mid-high mid-low
 
@@ -203,14 +204,14 @@ module _ (W H : Side) (g : Grid) (m n : ℕ) (x : Memory) (t : H .start % 2 + m 
     row-two : RowStands W 2 (W .length) (g 1) x
     row-two = begun-as W H g m x k 2 1 (omega arith) (omega arith)
 
-    first-high : RowStands W 1 (W .length) (columnsLifted wrap32 H g hi 0) x1
+    first-high : RowStands W 1 (W .length) (columnsLifted fiveThreeFilter wrap32 H g hi 0) x1
     unfolding rowPredicted columnsLifted
     first-high i b =
         changed-cell (predicted wrap32) W 1 2 2 x i b
         ∙ ap₃ (predicted wrap32) (row-one i b) (row-two i b) (row-two i b)
         ∙ sym (high-first wrap32 H (λ r. g r i) (omega arith) (omega arith))
 
-    one-high : RowStands W (2 * n + 1) (W .length) (columnsLifted wrap32 H g hi n) (highAlone W x1)
+    one-high : RowStands W (2 * n + 1) (W .length) (columnsLifted fiveThreeFilter wrap32 H g hi n) (highAlone W x1)
     one-high = let z : n ≡ 0 = omega arith in rw z (high-keeps W H g x1 1 (W .length) _ (λ e. omega arith) (omega arith) first-high)
 
     one-after : RowStands W (2 * n + 2) (W .length) (g (2 * n + 2 - H .start % 2)) (highAlone W x1)
@@ -225,7 +226,7 @@ module _ (W H : Side) (g : Grid) (m n : ℕ) (x : Memory) (t : H .start % 2 + m 
     one-stands = let z : n ≡ 0 = omega arith in rw z (high-alone-stands W H g x1 (omega arith) first-high)
 
   -- ---- of either
-  kept-next : (y : Memory) → RowStands W (2 * n + 1) (W .length) (columnsLifted wrap32 H g hi n) y
+  kept-next : (y : Memory) → RowStands W (2 * n + 1) (W .length) (columnsLifted fiveThreeFilter wrap32 H g hi n) y
       → RowStands W (2 * n + 2) (W .length) (g (2 * n + 2 - H .start % 2)) y → Kept W H g (m + 1) 0 y
   kept-next y high next = record {
     even = λ i f p r. let z : 2 * i ≡ 2 * n + 2 = omega arith in rw z next;
@@ -260,18 +261,20 @@ module _ (W H : Side) (g : Grid) (x : Memory) (h : 0 < H .length) (k : Kept W H 
   last-is = refl
 
   last-earlier : 2 * n + 2 ≤ H .start % 2 + H .length + 1 → H .start % 2 + H .length ≤ 2 * n + 2
-      → (i : ℕ) → n ≡ suc i → RowStands W (2 * i + 1) (W .length) (columnsLifted wrap32 H g hi i) x
+      → (i : ℕ) → n ≡ suc i → RowStands W (2 * i + 1) (W .length) (columnsLifted fiveThreeFilter wrap32 H g hi i) x
   last-earlier a b i z = k .high i (omega arith) (omega arith)
 
   -- its last row at an odd coordinate
   last-mid : H .start % 2 + H .length ≡ 2 * n + 2 → H .start % 2 ≤ n → (i : ℕ)
-      → columnsLifted wrap32 H g lo (n - H .start % 2) i ≡ updated wrap32 (g (2 * n - H .start % 2) i) (columnsLifted wrap32 H g hi (n - 1) i)
-      (columnsLifted wrap32 H g hi n i)
+      → columnsLifted fiveThreeFilter wrap32 H g lo (n - H .start % 2) i
+      ≡ updated wrap32 (g (2 * n - H .start % 2) i) (columnsLifted fiveThreeFilter wrap32 H g hi (n - 1) i)
+      (columnsLifted fiveThreeFilter wrap32 H g hi n i)
   unfolding columnsLifted
   last-mid z f i = low-mid wrap32 H (λ r. g r i) n f (omega arith)
 
   last-high : H .start % 2 + H .length ≡ 2 * n + 2 → H .start % 2 ≤ n → (i : ℕ)
-      → columnsLifted wrap32 H g hi n i ≡ predicted wrap32 (g (2 * n + 1 - H .start % 2) i) (g (2 * n - H .start % 2) i) (g (2 * n - H .start % 2) i)
+      → columnsLifted fiveThreeFilter wrap32 H g hi n i
+      ≡ predicted wrap32 (g (2 * n + 1 - H .start % 2) i) (g (2 * n - H .start % 2) i) (g (2 * n - H .start % 2) i)
   unfolding columnsLifted
   last-high z f i = high-end wrap32 H (λ r. g r i) n f z
 
@@ -281,7 +284,8 @@ module _ (W H : Side) (g : Grid) (x : Memory) (h : 0 < H .length) (k : Kept W H 
       let row : RowStands W (2 * n) (W .length) (g (2 * n - H .start % 2)) x = k .even n f (omega arith) (omega arith) in
       set-stands W H g n (2 * n) x _ _ _ row (k .odd n z) (last-earlier (omega arith) (omega arith)) row (last-high z f) (last-mid z f)
 
-  only-high : (H .start % 2 + H .length) % 2 ≡ 0 → n < H .start % 2 → RowStands W 1 (W .length) (columnsLifted wrap32 H g hi 0) (rowDoubled (W .length) 1 x)
+  only-high : (H .start % 2 + H .length) % 2 ≡ 0 → n < H .start % 2
+      → RowStands W 1 (W .length) (columnsLifted fiveThreeFilter wrap32 H g hi 0) (rowDoubled (W .length) 1 x)
   unfolding rowDoubled columnsLifted
   only-high e f i b =
       let l : H .length ≡ 1 = omega (arith, last-is) in
@@ -293,13 +297,14 @@ module _ (W H : Side) (g : Grid) (x : Memory) (h : 0 < H .length) (k : Kept W H 
   last-only e f = let z : n ≡ 0 = omega arith in rw z (high-alone-stands W H g (rowDoubled (W .length) 1 x) (omega arith) (only-high e f))
 
   -- at an even one
-  low-first : n ≡ 0 → H .start % 2 ≤ n → H .length ≡ 1 → (i : ℕ) → columnsLifted wrap32 H g lo (n - H .start % 2) i ≡ g (2 * n - H .start % 2) i
+  low-first : n ≡ 0 → H .start % 2 ≤ n → H .length ≡ 1 → (i : ℕ) → columnsLifted fiveThreeFilter wrap32 H g lo (n - H .start % 2) i ≡ g (2 * n - H .start % 2) i
   unfolding columnsLifted
   low-first y f l i = low-only wrap32 H (λ r. g r i) n f y l
 
   low-later : 0 < n → H .start % 2 + H .length ≡ 2 * n + 1 → H .start % 2 ≤ n → (i : ℕ)
-      → columnsLifted wrap32 H g lo (n - H .start % 2) i ≡ updated wrap32 (g (2 * n - H .start % 2) i) (columnsLifted wrap32 H g hi (n - 1) i)
-      (columnsLifted wrap32 H g hi (n - 1) i)
+      → columnsLifted fiveThreeFilter wrap32 H g lo (n - H .start % 2) i
+      ≡ updated wrap32 (g (2 * n - H .start % 2) i) (columnsLifted fiveThreeFilter wrap32 H g hi (n - 1) i)
+      (columnsLifted fiveThreeFilter wrap32 H g hi (n - 1) i)
   unfolding columnsLifted
   low-later y z f i = low-end wrap32 H (λ r. g r i) n f y z
 

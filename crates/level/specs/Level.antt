@@ -9,6 +9,7 @@ use lib.Dec.{ltb, leb, eqb}
 use Rattle.numbers.specs.Signal.{pick, both}
 use Rattle.numbers.specs.Word.{wrap32}
 use Rattle.lifting.specs.Grid.{Side, count}
+use Rattle.lifting.specs.Filter.{Filter}
 use Rattle.wavelet.specs.Bands.{Grid, Band, across, down, subband}
 use Rattle.wavelet.specs.Order.{firstSet, setRow}
 
@@ -16,8 +17,8 @@ abbrev pub Memory : Type 0
 Memory = ℕ → ℤ
 
 pub record LevelKind : Type 0 where
-  -- the look-ahead: set n is made once the row at coordinate 2n + 2 × ahead is there
-  pub ahead : ℕ
+  -- its filter; by the look-ahead of that, set n is made once the row at coordinate 2n + 2 × ahead is there
+  pub filter : Filter
   -- stretch W: how many numbers the level keeps; the next level's stretch begins there
   pub stretch : Side → ℕ
   -- cell W s m c: where column c of row m is put
@@ -47,7 +48,7 @@ Ending = (W H : Side) → Grid → (n : ℕ) → Memory → Type 0
 abbrev pub SetStands : LevelKind → Side → Side → Grid → ℕ → Memory → Type 0
 SetStands K W H g n x =
     (b : Band) (i : ℕ) → firstSet H (down b) ≤ n → setRow H b n < count (down b) H → i < count (across b) W
-    → x (K .place W (H .start) n b + i) ≡ subband wrap32 W H g b (setRow H b n) i
+    → x (K .place W (H .start) n b + i) ≡ subband (K .filter) wrap32 W H g b (setRow H b n) i
 
 -- ---- the store from place a on, and the store with t from place a on
 unfoldable pub rest : ℕ → Memory → Memory

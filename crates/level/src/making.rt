@@ -13,7 +13,7 @@ ghost use Rattle.level.specs.Making.{levelFits, nextFits, delivered};
 
 // The look-ahead: set n is made once the row at coordinate 2n + 2 × ahead is there, so that ahead sets at most are left when all rows are.
 pub fn ahead() -> usize
-    ensures { λ r. ⌜ r ≡ fiveThree .ahead ⌝ }
+    ensures { λ r. ⌜ r ≡ fiveThree .filter .ahead ⌝ }
 {
     1
 }

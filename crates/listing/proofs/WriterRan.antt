@@ -1,7 +1,7 @@
 -- A writer as calls on a fresh one have left it: the heights taken, whether it was finished, and the rows drawn (`Ran`), and what the next call does
 -- to these. Assumes nothing.
 use mathlib.Core.Path.{_≡_, refl, sym, ap, subst, subst₂, _∙_}
-use mathlib.Core.Bool.{Bool, true, false}
+use mathlib.Core.Bool.{Bool, false}
 use mathlib.Core.List.{List, [], _∷_, _++_, append-nil}
 use Prim.Native.Nat.{ℕ, zero, suc, _+_, _-_, _/_, _≤_}
 use native.Mathlib.Nat.{zero-div}

@@ -10,10 +10,11 @@ use Rattle.numbers.specs.Signal.{pick}
 use Rattle.lifting.specs.Grid.{side}
 use Rattle.wavelet.specs.Bands.{Grid}
 use Rattle.wavelet.specs.Order.{made}
-use Rattle.wavelet.specs.Questions.{within}
+use Rattle.wavelet.specs.Limits.{maxLevels}
 use Rattle.pgm.specs.Characters.{digitValue}
 use Rattle.pgm.specs.Header.{Read, found, short, wrong, andThen, is, one, headerOf}
 use Rattle.pgm.specs.Limits.{sizeFits}
+use Rattle.pgm.specs.InputSteps.{levelDigit}
 use Rattle.pgm.specs.Heights.{heightsTaken, tooLarge, bytesOf, refusalIn}
 use Rattle.text.specs.Refusal.{refusedLine, answerLine}
 use Rattle.listing.specs.Lines.{linesOf, sizeLine}
@@ -25,9 +26,6 @@ pub record Shape : Type 0 where
   pub height : ℕ
   pub levels : ℕ
 
-unfoldable pub levelDigit : ℕ → Bool
-levelDigit b = within 49 53 b
-
 -- the map's shape and the largest value of a sample
 pub record Head : Type 0 where
   pub shape : Shape
@@ -38,7 +36,7 @@ headEnd L W H m s = pick (sizeFits W H) (found (record { shape = record { width 
 
 unfoldable pub headOf : List ℕ → Read Head
 headOf s =
-    andThen (one levelDigit s) λ d s.
+    andThen (one (levelDigit maxLevels) s) λ d s.
     andThen (one (is 10) s) λ _ s.
     andThen (headerOf s) λ z s.
     headEnd (digitValue d) (z .width) (z .height) (z .largest) s

@@ -21,6 +21,7 @@ use Rattle.numbers.specs.Signal.{pick, both, stored}
 use Rattle.numbers.specs.Word.{wrap32}
 use Rattle.numbers.proofs.Sweep.{both as split-both}
 use Rattle.lifting.specs.Grid.{Side, side, count}
+use Rattle.lifting.specs.FiveThree.{fiveThreeFilter}
 use Rattle.wavelet.specs.Limits.{maxWidth, maxHeight, maxLevels, maxOrigin}
 use Rattle.wavelet.specs.Bands.{Grid, Band, code, across, down}
 use Rattle.wavelet.specs.Questions.{within}
@@ -87,7 +88,7 @@ fits-height W H g ts h us f r c e p t =
 
 -- the look-ahead
 abbrev A : ℕ
-A = fiveThree .ahead
+A = fiveThree .filter .ahead
 
 -- ---- what is to come without a further row
 unfoldable pub coming : (L : ℕ) (W : Side) (top : ℕ) → Bool → (cl v i r : ℕ) → List RowName
@@ -111,7 +112,7 @@ pub record Right (L : ℕ) (W : Side) (top H : ℕ) (g : Grid) (d : DrawnRow) : 
   pub band-is : d .row .band ≡ code band
   pub length-is : d .row .length ≡ count (across band) (sideAt depth W)
   pub row-in : d .row .row < count (down band) (sideAt depth (side top H))
-  pub values : (i : ℕ) → i < d .row .length → d .values i ≡ levelBand wrap32 W (side top H) g (suc depth) band (d .row .row) i
+  pub values : (i : ℕ) → i < d .row .length → d .values i ≡ levelBand fiveThreeFilter wrap32 W (side top H) g (suc depth) band (d .row .row) i
 
 pub record Sound (L : ℕ) (W : Side) (top H : ℕ) (g : Grid) (f : Bool) (ds : List DrawnRow) (r c cl v i : ℕ) (x : Memory) : Type 0 where
   pub holds : Holds H g (st W top L r c f cl v i) x

@@ -20,6 +20,7 @@ use Rattle.numbers.specs.Word.{wrap32}
 use Rattle.numbers.proofs.Sweep.{both as split-both}
 use Rattle.lifting.specs.Line.{Half, lo, hi}
 use Rattle.lifting.specs.Grid.{Side, side, count}
+use Rattle.lifting.specs.Filter.{Filter}
 use Rattle.wavelet.specs.Bands.{Grid, Band, LL, across, down, subband}
 use Rattle.wavelet.specs.Order.{RowName, rowName, firstSet, lastSet, setRow, setHas, rowsOf, setRows, madeBy}
 use Rattle.wavelet.specs.Levels.{next, sideAt, approximation, levelBand}
@@ -45,36 +46,37 @@ unfolding rest
 rest-same a x y e = fun-ext λ j. e (a + j) (omega arith)
 
 -- ---- the levels of the low-low part are the levels after the first
-pub approximation-inner : (keep : ℤ → ℤ) (k : ℕ) (W H : Side) (g : Grid) → approximation keep (next W) (next H)
-    (subband keep W H g LL) k ≡ approximation keep W H g (suc k)
+pub approximation-inner : (F : Filter) (keep : ℤ → ℤ) (k : ℕ) (W H : Side) (g : Grid) → approximation F keep (next W) (next H)
+    (subband F keep W H g LL) k ≡ approximation F keep W H g (suc k)
 unfolding approximation sideAt
-approximation-inner keep zero W H g = refl
-approximation-inner keep (suc k) W H g =
-    ap (λ a. subband keep (sideAt k (next W)) (sideAt k (next H)) a LL) (approximation-inner keep k W H g)
-    ∙ ap₂ (λ a b. subband keep a b (approximation keep W H g (suc k)) LL) (sym (size-inner k W)) (sym (size-inner k H))
+approximation-inner F keep zero W H g = refl
+approximation-inner F keep (suc k) W H g =
+    ap (λ a. subband F keep (sideAt k (next W)) (sideAt k (next H)) a LL) (approximation-inner F keep k W H g)
+    ∙ ap₂ (λ a b. subband F keep a b (approximation F keep W H g (suc k)) LL) (sym (size-inner k W)) (sym (size-inner k H))
 
-pub band-inner : (keep : ℤ → ℤ) (k : ℕ) (W H : Side) (g : Grid) (b : Band) → levelBand keep (next W) (next H) (subband keep W H g LL)
-    (suc k) b ≡ levelBand keep W H g (suc (suc k)) b
+pub band-inner : (F : Filter) (keep : ℤ → ℤ) (k : ℕ) (W H : Side) (g : Grid) (b : Band)
+    → levelBand F keep (next W) (next H) (subband F keep W H g LL)
+    (suc k) b ≡ levelBand F keep W H g (suc (suc k)) b
 unfolding levelBand
-band-inner keep k W H g b =
-    ap (λ a. subband keep (sideAt k (next W)) (sideAt k (next H)) a b) (approximation-inner keep k W H g)
-    ∙ ap₂ (λ c d. subband keep c d (approximation keep W H g (suc k)) b) (sym (size-inner k W)) (sym (size-inner k H))
+band-inner F keep k W H g b =
+    ap (λ a. subband F keep (sideAt k (next W)) (sideAt k (next H)) a b) (approximation-inner F keep k W H g)
+    ∙ ap₂ (λ c d. subband F keep c d (approximation F keep W H g (suc k)) b) (sym (size-inner k W)) (sym (size-inner k H))
 
 -- a row that waits is the row of the map's transform that its name says
-pub record IsRow (W H : Side) (g : Grid) (r : Waiting) (d : ℕ) (x : Memory) : Type 0 where
+pub record IsRow (F : Filter) (W H : Side) (g : Grid) (r : Waiting) (d : ℕ) (x : Memory) : Type 0 where
   pub level-is : r .level ≡ suc d
   pub length-is : r .length ≡ count (across (r .band)) (sideAt d W)
   pub row-in : r .row < count (down (r .band)) (sideAt d H)
-  pub values : (i : ℕ) → i < r .length → x (r .start + i) ≡ levelBand wrap32 W H g (suc d) (r .band) (r .row) i
+  pub values : (i : ℕ) → i < r .length → x (r .start + i) ≡ levelBand F wrap32 W H g (suc d) (r .band) (r .row) i
 
-is-under : (W H : Side) (g : Grid) (r : Waiting) (d a : ℕ) (x : Memory) → IsRow (next W) (next H) (subband wrap32 W H g LL) r d (rest a x) →
-    IsRow W H g (lower a r) (suc d) x
+is-under : (F : Filter) (W H : Side) (g : Grid) (r : Waiting) (d a : ℕ) (x : Memory) → IsRow F (next W) (next H) (subband F wrap32 W H g LL) r d (rest a x) →
+    IsRow F W H g (lower a r) (suc d) x
 unfolding rest
-is-under W H g r d a x s = record {
+is-under F W H g r d a x s = record {
   level-is = ap suc (s .level-is);
   length-is = s .length-is ∙ ap (count (across (r .band))) (sym (size-inner d W));
   row-in = subst (λ N. r .row < count (down (r .band)) N) (sym (size-inner d H)) (s .row-in);
-  values = λ i h. ap x (add-assoc a (r .start) i) ∙ s .values i h ∙ ap (λ f. f (r .row) i) (band-inner wrap32 d W H g (r .band));
+  values = λ i h. ap x (add-assoc a (r .start) i) ∙ s .values i h ∙ ap (λ f. f (r .row) i) (band-inner F wrap32 d W H g (r .band));
 }
 
 -- a set has its row among those received
@@ -125,13 +127,13 @@ module _ (K : LevelKind) (Held : Meaning) (Ended : Ending) (laws : LevelLaws K H
 
   -- the look-ahead
   abbrev A : ℕ
-  A = K .ahead
+  A = K .filter .ahead
 
   abbrev Here : (W H : Side) → Grid → (c m j : ℕ) → Memory → Type 0
   Here = LevelHolds K Held Ended
 
   abbrev lowMap : Side → Side → Grid → Grid
-  lowMap W H g = subband wrap32 W H g LL
+  lowMap W H g = subband (K .filter) wrap32 W H g LL
 
   -- ---- what is read of a store
   module _ (W H : Side) (g : Grid) (x y : Memory) (e : (j : ℕ) → j < K .stretch W → y j ≡ x j) where
@@ -441,7 +443,7 @@ module _ (K : LevelKind) (Held : Meaning) (Ended : Ending) (laws : LevelLaws K H
     pub depth : ℕ
     pub deep : depth < L
     pub todo : List RowName
-    pub is : IsRow W H g (waiting K L W (H .start) c (suc v) i m) depth x
+    pub is : IsRow (K .filter) W H g (waiting K L W (H .start) c (suc v) i m) depth x
     pub first : pend A L k W (H .start) c (suc v) i m ≡ rowName (k + depth) (waiting K L W (H .start) c (suc v) i m .band)
         (waiting K L W (H .start) c (suc v) i m .row) ∷ todo
     pub good : Good L k W H g c m (pull K L W (H .start) c (suc v) i m x) todo
@@ -460,7 +462,7 @@ module _ (K : LevelKind) (Held : Meaning) (Ended : Ending) (laws : LevelLaws K H
       row-in = unfold sideAt in row-there;
       values = λ a h. unfold levelBand sideAt approximation in
           (v .1 .stands b a set-there (subst (λ r. r < count (down b) H) same row-there) h
-          ∙ ap (λ r. subband wrap32 W H g b r a) (sym same));
+          ∙ ap (λ r. subband (K .filter) wrap32 W H g b r a) (sym same));
     };
     first = unfold lasts in (ap (λ r. r ++ later-rows) (rows-yes k W M n b (lasts i) (v .1 .has))
         ∙ ap (λ a. rowName a b (setRow M b n) ∷ (rowsOf k W M n (lasts i) ++ later-rows)) (omega arith));
@@ -509,7 +511,7 @@ module _ (K : LevelKind) (Held : Meaning) (Ended : Ending) (laws : LevelLaws K H
         depth = suc (r .depth);
         deep = omega (arith, r .deep);
         todo = r .todo;
-        is = is-under W H g _ (r .depth) (K .stretch W) x (r .is);
+        is = is-under (K .filter) W H g _ (r .depth) (K .stretch W) x (r .is);
         first = r .first ∙ ap (λ a. rowName a (q .band) (q .row) ∷ r .todo) (omega arith);
         good = good-under l k W H g c m x _ (r .todo) (subst (λ a. Here W H g c m a x) z (s .0)) (r .good);
       }

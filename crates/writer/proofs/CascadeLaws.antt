@@ -21,7 +21,7 @@ use Rattle.writer.proofs.CountLaws.{deeper-le, start-first, start-deepe
 
 -- the look-ahead
 abbrev A : ℕ
-A = fiveThree .ahead
+A = fiveThree .filter .ahead
 
 -- ---- what a step leaves
 pub left-still : (l : ℕ) (w : Side) (o : Out) (r : Wait) (x : Memory) → r ≡ noWait → o ≡ still x → Left l w o r x

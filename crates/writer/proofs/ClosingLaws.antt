@@ -23,7 +23,7 @@ use Rattle.writer.proofs.CascadeLaws.{left-waits, left-same, under-offs
 
 -- the look-ahead
 abbrev A : ℕ
-A = fiveThree .ahead
+A = fiveThree .filter .ahead
 
 -- ---- one step of a level
 module _ (l : ℕ) (w : Side) (s c m n : ℕ) (x : Memory) (en : n ≡ made A c s m) (t : Bool) (et : t ≡ both (ltb 0 m) (leb n (lastSet (side s m)))) where

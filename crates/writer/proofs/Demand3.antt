@@ -13,10 +13,13 @@ use lib.ListN.{length, take, getD}
 use lib.Dec.{leb, le→leb}
 use Rattle.numbers.specs.Signal.{pick}
 use Rattle.numbers.specs.Word.{whole}
+use Rattle.lifting.specs.FiveThree.{fiveThreeFilter}
+use Rattle.lifting.proofs.FiveThreeFilter.{five-three-laws}
 use Rattle.wavelet.specs.Limits.{maxWidth, maxHeight, maxLevels, maxSample, maxOrigin}
 use Rattle.wavelet.specs.Bands.{Grid}
 use Rattle.wavelet.specs.Questions.{within}
 use Rattle.wavelet.specs.Order.{RowName, inTurn, times, madeBy, closing, made}
+use Rattle.wavelet.proofs.LimitLaws.{five-three-few}
 use Rattle.wavelet.proofs.QuestionLaws.{within-true}
 use Rattle.wavelet.proofs.OrderLaws.{turn-prefix}
 use Rattle.lifting.specs.Grid.{Side, side}
@@ -51,8 +54,9 @@ right-values L W top H g few es m d t = record {
   are = λ b e j p.
       let same : b ≡ t .band = code-one b (t .band) (sym e ∙ t .band-is) in
       t .values j p
-      ∙ map-band W (side top H) g (m .map) (t .depth) (omega (arith, t .deep)) (t .band) (d .row .row) j (t .row-in) (subst (λ k. j < k) (t .length-is) p)
-      ∙ ap₂ (λ k c. levelBand whole W (side top H) g k c (d .row .row) j) (sym (t .level-is)) (sym same);
+      ∙ map-band fiveThreeFilter five-three-laws W (side top H) g (m .map) (t .depth) (five-three-few (omega (arith, t .deep))) (t .band) (d .row .row) j
+      (t .row-in) (subst (λ k. j < k) (t .length-is) p)
+      ∙ ap₂ (λ k c. levelBand fiveThreeFilter whole W (side top H) g k c (d .row .row) j) (sym (t .level-is)) (sym same);
 }
 
 -- a map that begins with the heights taken has at least the rows taken whole

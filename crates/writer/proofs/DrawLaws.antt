@@ -29,7 +29,7 @@ use Rattle.writer.proofs.CascadeLaws.{left-same, settled-waits, settled
 
 -- the look-ahead
 abbrev A : ℕ
-A = fiveThree .ahead
+A = fiveThree .filter .ahead
 
 module _ (w : Side) (s c i m : ℕ) where
   pub waiting-here : (l v : ℕ) → 0 < l → v ≡ 1 → waiting fiveThree l w s c v i m ≡ rowOf fiveThree w (side s m) (prev (made A c s m)) (bandAt (prev i))

@@ -78,7 +78,7 @@ module _ (H : ℕ) (g : Grid) (W : Side) (s L : ℕ) where
   open-holds r c cl v i x inv few idle z = record { levels = inv; placed = refl; few = few; idle = idle; before = λ _. z; ended = λ e. absurd (differ e) }
 
   -- after it
-  closed-holds : (r c cl v i : ℕ) (x : Memory) → Inv cl v i r c x → i ≤ mostLeft L v → (0 < v → c ≡ 0) → r ≡ H → 0 < r → (v ≡ 0 → cl ≡ fiveThree .ahead * L) →
+  closed-holds : (r c cl v i : ℕ) (x : Memory) → Inv cl v i r c x → i ≤ mostLeft L v → (0 < v → c ≡ 0) → r ≡ H → 0 < r → (v ≡ 0 → cl ≡ fiveThree .filter .ahead * L) →
       Has r c true cl v i x
   closed-holds r c cl v i x inv few idle e p all = record {
     levels = inv;

@@ -83,7 +83,7 @@ inRanges s =
     (both (within 1 maxLevels (s .levels))
     (both (leb (s .rows) maxHeight)
     (both (ltb (s .column) (s .columns .length))
-    (both (leb (s .closed) (fiveThree .ahead * s .levels))
+    (both (leb (s .closed) (fiveThree .filter .ahead * s .levels))
     (both (leb (s .level) (s .levels))
     (leb (s .left) (mostLeft (s .levels) (s .level)))))))))
 

@@ -10,6 +10,7 @@ use lib.Dec.{leb, ltb, eqb}
 use Rattle.numbers.specs.Signal.{pick, both}
 use Rattle.numbers.specs.Word.{whole}
 use Rattle.lifting.specs.Grid.{Side, side}
+use Rattle.lifting.specs.FiveThree.{fiveThreeFilter}
 use Rattle.wavelet.specs.Limits.{maxHeight, maxSample}
 use Rattle.wavelet.specs.Bands.{Grid, Band, code}
 use Rattle.wavelet.specs.Maps.{IsMap}
@@ -60,7 +61,7 @@ pub record MapOf (W : Side) (H : ℕ) (g : Grid) (es : List Event) : Type 0 wher
 -- the values of a drawn row are the map's, T.800's whole numbers
 pub record HasValues (W : Side) (s H : ℕ) (g : Grid) (d : DrawnRow) : Type 0 where
   pub are : (b : Band) → d .row .band ≡ code b → (i : ℕ) → i < d .row .length →
-      d .values i ≡ levelBand whole W (side s H) g (d .row .level) b (d .row .row) i
+      d .values i ≡ levelBand fiveThreeFilter whole W (side s H) g (d .row .level) b (d .row .row) i
 
 -- "The rows drawn then are exactly the plane's band rows, each once."
 pub record PlaneDrawn (W : Side) (s L : ℕ) (es : List Event) : Type 0 where

@@ -43,9 +43,9 @@ module _ (K : LevelKind) where
   -- Row m stands in its place; l levels are below.
   unfoldable pub arrived : (ℕ → Memory → Out) → ℕ → Side → ℕ → ℕ → Memory → Out
   arrived pass l W s m x =
-      pick (completes (K .ahead) s m)
-      (settled pass ((s % 2 + m) / 2 - K .ahead) (K .make W s ((s % 2 + m) / 2 - K .ahead) x)
-      (skip W (side s (m + 1)) ((s % 2 + m) / 2 - K .ahead) (most l)))
+      pick (completes (K .filter .ahead) s m)
+      (settled pass ((s % 2 + m) / 2 - K .filter .ahead) (K .make W s ((s % 2 + m) / 2 - K .filter .ahead) x)
+      (skip W (side s (m + 1)) ((s % 2 + m) / 2 - K .filter .ahead) (most l)))
       (still x)
 
   unfoldable pub arrive : (L : ℕ) (W : Side) (s m : ℕ) → Memory → Out

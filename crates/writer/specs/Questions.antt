@@ -28,7 +28,7 @@ inRanges s =
     (both (within 1 maxLevels (s .levels))
     (both (leb (s .rows) maxHeight)
     (both (ltb (s .column) (s .width))
-    (both (leb (s .closed) (fiveThree .ahead * s .levels))
+    (both (leb (s .closed) (fiveThree .filter .ahead * s .levels))
     (both (leb (s .level) (s .levels))
     (both (leb (s .left) (mostLeft (s .levels) (s .level)))
     (eqb (s .offset) (startOf (columnsOf s) (s .level))))))))))

@@ -54,7 +54,7 @@ fn close_level(
     m: usize,
 ) -> Closure
     requires { ⌜ Room (l + 1) (side x w) m (length (now store)) ⌝ }
-    ensures { λ r. ⌜ LevelClosed (l + 1) (side x w) (closeLevel fiveThree (fiveThree .ahead - c) l (side x w) y c m (at (now (store .entry)))) r
+    ensures { λ r. ⌜ LevelClosed (l + 1) (side x w) (closeLevel fiveThree (fiveThree .filter .ahead - c) l (side x w) y c m (at (now (store .entry)))) r
         (at (now (store .exit))) ⌝ }
 {
     let a = making::ahead();
@@ -89,7 +89,7 @@ pub fn shut(
     c: usize,
     m: usize,
 ) -> Closure
-    requires { ⌜ Room l (side x w) m (length (now store)) × (c ≤ fiveThree .ahead * l) ⌝ }
+    requires { ⌜ Room l (side x w) m (length (now store)) × (c ≤ fiveThree .filter .ahead * l) ⌝ }
     ensures { λ r. ⌜ Closed l (side x w) (shut fiveThree l (side x w) y c m (at (now (store .entry)))) r (at (now (store .exit))) ⌝ }
 {
     if l == 0 {

@@ -104,7 +104,7 @@ arrive-sub-n t c =
     let sure = c .before in
     let a = sure .before .before .args in
     let off = sets-off (a .l) (a .y) (a .m) _ (sure .before .sets-off .ensures) (sure .if1 .left) in
-    omega (arith, c .ahead .ensures, completes-set (fiveThree .ahead) (a .y) (a .m) (off .1))
+    omega (arith, c .ahead .ensures, completes-set (fiveThree .filter .ahead) (a .y) (a .m) (off .1))
 
 arrive-make-requires : (t : ℕ) → arrive-lts.Need-make-requires (claims t) (arrive-at t) arrive.Post
 arrive-make-requires t c κs = tt

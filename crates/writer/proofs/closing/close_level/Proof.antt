@@ -13,7 +13,7 @@ use Rattle.writer.proofs.closing.close_level.Tie as tie
 
 abbrev Inv-loop : tie.InvT-loop
 Inv-loop store₀ l w x y c m a k₀ store k =
-    (length store ≡ length store₀) × (a ≡ fiveThree .ahead) × (from l (side x w) y m k (at store) ≡ from l (side x w) y m c (at store₀))
+    (length store ≡ length store₀) × (a ≡ fiveThree .filter .ahead) × (from l (side x w) y m k (at store) ≡ from l (side x w) y m c (at store₀))
 
 abbrev μ-loop : tie.MeasureT-loop
 μ-loop store₀ l w x y c m a k₀ store k = a - k

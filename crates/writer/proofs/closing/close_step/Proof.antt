@@ -56,7 +56,7 @@ pass-on-requires : tie.Need-pass-on-requires
 pass-on-requires c κs =
     let made = c .before .before .before .before .before .before .before .before .before in
     let a = made .before .args in
-    omega (arith, made .made .ensures, made-most (fiveThree .ahead) (a .c) (a .y) (a .m))
+    omega (arith, made .made .ensures, made-most (fiveThree .filter .ahead) (a .c) (a .y) (a .m))
 
 same-length-2 : tie.Need-same-length-2
 same-length-2 c = search needs

@@ -19,7 +19,7 @@ returns : tie.Need-returns
 returns c =
     let a = c .before .before .args in
     let h = c .before .ahead .ensures in
-    omega (arith, h, made-shut (fiveThree .ahead) (a .c) (a .y) (a .m) (omega arith) (omega (arith, h)))
+    omega (arith, h, made-shut (fiveThree .filter .ahead) (a .c) (a .y) (a .m) (omega arith) (omega (arith, h)))
 
 prev-requires : tie.Need-prev-requires
 prev-requires c κs = tt
@@ -42,7 +42,7 @@ add-result c = omega arith
 returns-4 : tie.Need-returns-4
 returns-4 c =
     let a = c .before .before .before .before .args in
-    omega (arith, c .before .before .before .ahead .ensures, c .before .prev .ensures, prev-is (a .m), made-is (fiveThree .ahead) (a .c) (a .y) (a .m))
+    omega (arith, c .before .before .before .ahead .ensures, c .before .prev .ensures, prev-is (a .m), made-is (fiveThree .filter .ahead) (a .c) (a .y) (a .m))
 
 pub made-spec : {M : Type 1} → statement M
 made-spec =
