@@ -45,7 +45,7 @@ use Rattle.writer.proofs.Waiting.{pend, later, pend-none, later-all, la
 use Rattle.writer.proofs.CascadeHolds.{Good, Pulled, level-le, closed-le}
 use Rattle.writer.proofs.StateHolds.{differ, st, fresh-holds, pulled-by, shut-on, draw-holds, shut-first, finish-holds, begun-holds, arrived-by}
 use Rattle.writer.proofs.StateHolds.{complete-holds}
-use Rattle.level.specs.Level.{Memory, LevelKind}
+use Rattle.level.specs.Level.{Memory, LevelKind, ahead}
 use Rattle.level.specs.FiveThreeLevel.{cellOf, fiveThree, Kept, LastLeft}
 use Rattle.level.proofs.LevelLaws.{five-three-laws}
 
@@ -88,7 +88,7 @@ fits-height W H g ts h us f r c e p t =
 
 -- the look-ahead
 abbrev A : ℕ
-A = fiveThree .filter .ahead
+A = ahead fiveThree
 
 -- ---- what is to come without a further row
 unfoldable pub coming : (L : ℕ) (W : Side) (top : ℕ) → Bool → (cl v i r : ℕ) → List RowName
@@ -526,8 +526,8 @@ module _ (l : ℕ) (W : Side) (top : ℕ) (ds : List DrawnRow) where
     abbrev k : Shut
     k = shut K L W top 0 r x
 
-    made-whole : (names : List RowName) → names ++ coming L W top false cl v i r ≡ made A W top L r false → (l : List RowName) → l ≡ closing A L 1 W (side top r) →
-        names ++ l ≡ made A W top L r true
+    made-whole : (names : List RowName) → names ++ coming L W top false cl v i r ≡ made A W top L r false → (l : List RowName) →
+        l ≡ closing A L 1 W (side top r) → names ++ l ≡ made A W top L r true
     unfolding made
     made-whole names e l q =
         let m : names ≡ inTurn r (madeBy A L 1 W top) ++ [] = sym (append-nil names) ∙ ap (λ b. names ++ b) (sym (none-waits a z)) ∙ e in

@@ -9,7 +9,7 @@ use Rattle.wavelet.specs.Bands.{Grid}
 use Rattle.lifting.specs.Grid.{Side, side}
 use Rattle.wavelet.specs.Order.{madeBy}
 use Rattle.wavelet.proofs.StoreLaws.{store-none}
-use Rattle.level.specs.Level.{Memory, LevelKind}
+use Rattle.level.specs.Level.{Memory, LevelKind, ahead}
 use Rattle.level.specs.FiveThreeLevel.{cellOf, fiveThree, Kept, LastLeft}
 use Rattle.level.proofs.LevelLaws.{five-three-laws}
 use Rattle.writer.specs.declared.Writer.{Writer}
@@ -78,8 +78,8 @@ module _ (H : ℕ) (g : Grid) (W : Side) (s L : ℕ) where
   open-holds r c cl v i x inv few idle z = record { levels = inv; placed = refl; few = few; idle = idle; before = λ _. z; ended = λ e. absurd (differ e) }
 
   -- after it
-  closed-holds : (r c cl v i : ℕ) (x : Memory) → Inv cl v i r c x → i ≤ mostLeft L v → (0 < v → c ≡ 0) → r ≡ H → 0 < r → (v ≡ 0 → cl ≡ fiveThree .filter .ahead * L) →
-      Has r c true cl v i x
+  closed-holds : (r c cl v i : ℕ) (x : Memory) → Inv cl v i r c x → i ≤ mostLeft L v → (0 < v → c ≡ 0) → r ≡ H → 0 < r →
+      (v ≡ 0 → cl ≡ ahead fiveThree * L) → Has r c true cl v i x
   closed-holds r c cl v i x inv few idle e p all = record {
     levels = inv;
     placed = refl;
@@ -168,7 +168,8 @@ module _ (H : ℕ) (g : Grid) (W : Side) (s l r c cl v i : ℕ) (x : Memory) (h 
   y = stored (cellOf W (s % 2 + r) c) (g r c) x
 
   cell-inv : Inv H g W s (suc l) 0 0 i r (suc c) y
-  cell-inv = cell-good K Kept LastLeft five-three-laws l W (side s H) g i r c x in-row (subst₂ (λ e b. Inv H g W s (suc l) e b i r c x) (h .before refl) z (h .levels))
+  cell-inv = cell-good K Kept LastLeft five-three-laws l W (side s H) g i r c x in-row
+      (subst₂ (λ e b. Inv H g W s (suc l) e b i r c x) (h .before refl) z (h .levels))
 
   pub begun-holds : Holds H g (st W s (suc l) r (c + 1) false cl v i) y
   begun-holds =
@@ -182,7 +183,8 @@ module _ (H : ℕ) (g : Grid) (W : Side) (s l r c cl v i : ℕ) (x : Memory) (h 
   made = arrive K (suc l) W s r y
 
   pub arrived-by : c + 1 ≡ W .length → r < H → Good K Kept LastLeft five-three-laws (suc l) 1 W (side s H) g 0 (suc r) made (madeBy 1 (suc l) 1 W s r)
-  arrived-by e p = arrive-good K Kept LastLeft five-three-laws (suc l) 1 W (side s H) g r y i p (subst (λ b. Inv H g W s (suc l) 0 0 i r b y) (omega arith) cell-inv)
+  arrived-by e p = arrive-good K Kept LastLeft five-three-laws (suc l) 1 W (side s H) g r y i p
+      (subst (λ b. Inv H g W s (suc l) 0 0 i r b y) (omega arith) cell-inv)
 
   pub complete-holds : c + 1 ≡ W .length → r < H → Holds H g (st W s (suc l) (r + 1) 0 false cl (made .level) (made .left)) (made .store)
   complete-holds e p =

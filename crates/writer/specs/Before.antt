@@ -14,7 +14,7 @@ use Rattle.wavelet.specs.Questions.{ask, within}
 use Rattle.wavelet.specs.Store.{storeLength}
 use Rattle.calls.specs.Lists.{unless, changedUnless, Area}
 use Rattle.calls.specs.Lists as lists
-use Rattle.level.specs.Level.{Memory, rest}
+use Rattle.level.specs.Level.{Memory, rest, ahead}
 use Rattle.level.specs.FiveThreeLevel.{fiveThree, cellOf}
 use Rattle.writer.specs.Counts.{mostLeft}
 use Rattle.writer.specs.Machine.{Out, arrive}
@@ -83,7 +83,7 @@ inRanges s =
     (both (within 1 maxLevels (s .levels))
     (both (leb (s .rows) maxHeight)
     (both (ltb (s .column) (s .columns .length))
-    (both (leb (s .closed) (fiveThree .filter .ahead * s .levels))
+    (both (leb (s .closed) (ahead fiveThree * s .levels))
     (both (leb (s .level) (s .levels))
     (leb (s .left) (mostLeft (s .levels) (s .level)))))))))
 
