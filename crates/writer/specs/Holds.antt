@@ -9,18 +9,17 @@ use lib.IntN.{pos}
 use lib.ListN.{getD}
 use Rattle.numbers.specs.Word.{wrap32}
 use Rattle.lifting.specs.Grid.{Side, side}
-use Rattle.lifting.specs.FiveThree.{fiveThreeFilter}
 use Rattle.wavelet.specs.Bands.{Grid, Band, LL, code, subband}
 use Rattle.wavelet.specs.Levels.{next, levelBand}
 use Rattle.wavelet.specs.Order.{setHas}
 use Rattle.calls.specs.Lists.{Reply, gives, refused}
+use Rattle.writer.specs.Kind.{kind, Held, Ended}
 use Rattle.writer.specs.declared.Writer.{Writer}
 use Rattle.writer.specs.declared.BandRow.{BandRow}
 use Rattle.writer.specs.Counts.{made, lowRows, mostLeft, bandAt, startOf}
 use Rattle.writer.specs.Taking.{columnsOf}
 use Rattle.writer.specs.Answers.{Took, Handed, aRow, nothing}
 use Rattle.level.specs.Level.{Memory, LevelKind, prev, rest, Meaning, Ending, SetStands, ahead}
-use Rattle.level.specs.FiveThreeLevel.{fiveThree, Kept, LastLeft}
 
 -- ---- all levels, whatever a level does and holds (Held, and Ended once its rows are there). The rows of the first level start at s, those of its grid g are
 -- H; it has received m of them.
@@ -58,7 +57,7 @@ LevelsHold K Held Ended (suc l) W H g c v i m j x =
 
 -- ---- the writer's store
 pub record Holds (H : ℕ) (g : Grid) (s : Writer) (x : Memory) : Type 0 where
-  pub levels : LevelsHold fiveThree Kept LastLeft (s .levels) (columnsOf s) (side (s .y) H) g (s .closed) (s .level) (s .left) (s .rows) (s .column) x
+  pub levels : LevelsHold kind Held Ended (s .levels) (columnsOf s) (side (s .y) H) g (s .closed) (s .level) (s .left) (s .rows) (s .column) x
   -- the offset is where the stretch of the level being handed out begins
   pub placed : s .offset ≡ startOf (columnsOf s) (s .level)
   -- at most the bands of a set are left that are handed out at its level
@@ -68,7 +67,7 @@ pub record Holds (H : ℕ) (g : Grid) (s : Writer) (x : Memory) : Type 0 where
   -- before the finish no level closes
   pub before : s .finished ≡ false → s .closed ≡ 0
   -- after it the map has the rows taken, at least one, and once no band row waits all levels are closed
-  pub ended : s .finished ≡ true → (s .rows ≡ H) × (0 < s .rows) × (s .level ≡ 0 → s .closed ≡ ahead fiveThree * s .levels)
+  pub ended : s .finished ≡ true → (s .rows ≡ H) × (0 < s .rows) × (s .level ≡ 0 → s .closed ≡ ahead kind * s .levels)
 
 -- ---- what a call keeps: for every map of which Map says what the call asks of it
 pub record Keeps (Map : ℕ → Grid → Type 0) (s : Writer) (x : Memory) (s′ : Writer) (x′ : Memory) : Type 0 where
@@ -87,7 +86,7 @@ pub record GoesOn (s : Writer) (run : List ℕ) (k : ℕ) (H : ℕ) (g : Grid) :
 
 -- the numbers of a band row, at the front of y
 pub record MapRow (W H : Side) (g : Grid) (b : BandRow) (y : Memory) : Type 0 where
-  pub are : (c : Band) → b .band ≡ code c → (i : ℕ) → i < b .length → y i ≡ levelBand fiveThreeFilter wrap32 W H g (b .level) c (b .row) i
+  pub are : (c : Band) → b .band ≡ code c → (i : ℕ) → i < b .length → y i ≡ levelBand (kind .filter) wrap32 W H g (b .level) c (b .row) i
 
 -- the state that a call leaves: the one before where it was turned away or gave Nothing; and how many heights it took
 abbrev pub left : {A : Type 0} → (A → Writer) → Writer → Reply A → Writer
