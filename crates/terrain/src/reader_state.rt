@@ -69,12 +69,12 @@ pub fn pack_reader(r: Reader, s: &mut [u64; 16])
 pub fn pack_moved(r: Reader, s: &mut [u64; 16])
     ensures { λ _. ⌜ (now (s .exit) ≡ movedWords r (now (s .entry))) × (length (now (s .entry)) ≡ 16) ⌝ }
 {
-    let ended = states::flag_of(r.ended);
+    let over = states::flag_of(r.ended);
     let alone = states::flag_of(r.alone);
     states::sized(*s);
     s[4] = r.drawn as u64;
     s[5] = r.level as u64;
     s[6] = r.band as u64;
-    s[7] = ended;
+    s[7] = over;
     s[10] = alone;
 }
