@@ -1,31 +1,21 @@
-// The samples of document 01 on either side of a limit: W 2,049, 2,050 and 0; L 5 and 6; level-1 coefficients 262,140 and 262,141.
+// The samples of document 01 on either side of a limit: W, L, and the range of level-1 coefficients.
 use reader::Fed;
 use reader::Reader;
 use second::area;
+use second::heights;
 use second::tally::Tally;
-use wavelet::shape::Shape;
+use wavelet::limits;
 use writer::Writer;
 
-// A map of some rows at origin 0.
-fn shape_of(width: usize, height: usize, levels: usize) -> Shape {
-    Shape {
-        width,
-        height,
-        levels,
-        x: 0,
-        y: 0,
-    }
-}
-
 fn writer_answer(width: usize, levels: usize, store: &mut [i32]) -> u8 {
-    match Writer::set_up(shape_of(width, 1, levels), store) {
+    match Writer::set_up(heights::shape_of(width, 1, levels), store) {
         writer::SetUp::Ready(_) => 0,
         writer::SetUp::Refused(no) => no,
     }
 }
 
 fn reader_answer(width: usize, levels: usize, store: &mut [i32]) -> u8 {
-    match Reader::set_up(shape_of(width, 1, levels), store) {
+    match Reader::set_up(heights::shape_of(width, 1, levels), store) {
         reader::SetUp::Ready(_) => 0,
         reader::SetUp::Refused(no) => no,
     }
@@ -39,8 +29,18 @@ fn differ(answer: u8, expected: u8) -> u64 {
 fn map_answer(width: usize, levels: usize, plane: &mut [i32], expected: u8) -> u64 {
     let mut heights = [0u16; 2100];
     let mut work = [0i32; 2100];
-    let a = whole_map::forward(&heights, shape_of(width, 1, levels), plane, &mut work);
-    let b = whole_map::backward(plane, shape_of(width, 1, levels), &mut heights, &mut work);
+    let a = whole_map::forward(
+        &heights,
+        heights::shape_of(width, 1, levels),
+        plane,
+        &mut work,
+    );
+    let b = whole_map::backward(
+        plane,
+        heights::shape_of(width, 1, levels),
+        &mut heights,
+        &mut work,
+    );
     area::sum(differ(a, expected), differ(b, expected))
 }
 
@@ -56,7 +56,13 @@ fn size(t: Tally, width: usize, levels: usize, expected: u8) -> Tally {
     let mut plane = [0i32; 2100];
     let a = map_answer(width, levels, &mut plane, expected);
     let b = stream_answer(width, levels, expected);
-    let c = wavelet::view::band_row_question(&plane, shape_of(width, 1, levels), levels, 0, 0);
+    let c = wavelet::view::band_row_question(
+        &plane,
+        heights::shape_of(width, 1, levels),
+        levels,
+        0,
+        0,
+    );
     t.more(5, area::sum(differ(c, expected), area::sum(a, b)))
 }
 
@@ -97,7 +103,7 @@ fn feeds(r: Reader, store: &mut [i32], plane: &[i32]) -> u8 {
 
 fn feed_answer(plane: &[i32]) -> u8 {
     let mut store = [0i32; 16];
-    match Reader::set_up(shape_of(2, 2, 1), &mut store) {
+    match Reader::set_up(heights::shape_of(2, 2, 1), &mut store) {
         reader::SetUp::Ready(r) => feeds(r, &mut store, plane),
         reader::SetUp::Refused(no) => no,
     }
@@ -117,16 +123,19 @@ fn coefficient(t: Tally, band: usize, v: i32, expected: u8) -> Tally {
     ];
     let mut heights = [0u16; 4];
     let mut work = [0i32; 4];
-    let a = whole_map::backward(&plane, shape_of(2, 2, 1), &mut heights, &mut work);
+    let a = whole_map::backward(&plane, heights::shape_of(2, 2, 1), &mut heights, &mut work);
     let b = feed_answer(&plane);
     t.more(2, area::sum(differ(a, expected), differ(b, expected)))
 }
 
+// The range of a level-1 coefficient.
+const RANGE: i32 = 4 * limits::MAX_SAMPLE;
+
 fn either_side(t: Tally, band: usize) -> Tally {
-    let a = coefficient(t, band, 262140, 14);
-    let b = coefficient(a, band, 262141, 7);
-    let c = coefficient(b, band, -262140, 14);
-    coefficient(c, band, -262141, 7)
+    let a = coefficient(t, band, RANGE, 14);
+    let b = coefficient(a, band, RANGE + 1, 7);
+    let c = coefficient(b, band, -RANGE, 14);
+    coefficient(c, band, -RANGE - 1, 7)
 }
 
 // Just inside its range a coefficient passes question 7; no map has it, so the answer is 14.
@@ -139,15 +148,15 @@ fn coefficients(t: Tally) -> Tally {
 
 // W on either side of its limits.
 fn widths(t: Tally) -> Tally {
-    let a = size(t, 2049, 5, 0);
-    let b = size(a, 2050, 5, 2);
-    size(b, 0, 5, 2)
+    let a = size(t, limits::MAX_WIDTH, limits::MAX_LEVELS, 0);
+    let b = size(a, limits::MAX_WIDTH + 1, limits::MAX_LEVELS, 2);
+    size(b, 0, limits::MAX_LEVELS, 2)
 }
 
 // L on either side of its limit.
 fn levels(t: Tally) -> Tally {
-    let a = size(t, 1, 5, 0);
-    size(a, 1, 6, 4)
+    let a = size(t, 1, limits::MAX_LEVELS, 0);
+    size(a, 1, limits::MAX_LEVELS + 1, 4)
 }
 
 pub fn run() -> Tally {

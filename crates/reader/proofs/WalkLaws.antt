@@ -30,6 +30,11 @@ is-place q p e = record {
   band = ap (λ (r : Place). r .band) e;
 }
 
+-- a level by its numbers; whether its row needs two sets does not count
+pub level-plain : (W H : Side) (k : ℕ) (l : Level) → IsLevel W H k l →
+    IsLevel W H k (record { start = l .start; x = l .x; width = l .width; y = l .y; height = l .height; set = l .set; two = false })
+level-plain W H k l is = record { start = is .start; x = is .x; width = is .width; y = is .y; height = is .height; set = is .set }
+
 -- no row
 pub no-next : (W H : Side) (L d : ℕ) (q : Place) (n : Next) → place 0 false 4 ≡ q → n .spot .level ≡ 0 → n .spot .alone ≡ false → n .spot .band ≡ 4 →
     IsNext W H L d q n
@@ -126,9 +131,14 @@ module _ (W H : Side) (L d : ℕ) where
       (e ∙ ap (λ (m : ℕ). workedAt W H L (suc k - 1) m x) set ∙ ap (λ (j : ℕ). workedAt W H L j (setAt H d j) x) i))
 
   -- ---- the set that a row completes, and the place after it
-  pub finish-is : (k n c : ℕ) (t : Bool) (x : ℕ → ℤ) → t ≡ lastOfSet W H L d k n c → pick t (workedAt W H L k n x) (passed x) ≡ finished W H L d k n c x
-  unfolding finished
-  finish-is k n c t x is = rw is
+  module _ (k n c : ℕ) (t : Bool) (x : ℕ → ℤ) (is : t ≡ lastOfSet W H L d k n c) where
+    pub finish-not : t ≡ false → passed x ≡ finished W H L d k n c x
+    unfolding finished
+    finish-not e = let u : lastOfSet W H L d k n c ≡ false = sym is ∙ e in rw u
+
+    pub finish-set : t ≡ true → workedAt W H L k n x ≡ finished W H L d k n c x
+    unfolding finished
+    finish-set e = let u : lastOfSet W H L d k n c ≡ true = sym is ∙ e in rw u
 
   module _ (k n c : ℕ) (a t : Bool) (set : n ≡ nowAt W H L d k a) (is : t ≡ lastOfSet W H L d k n c) where
     complete : lastOfSet W H L d k (nowAt W H L d k a) c ≡ t
