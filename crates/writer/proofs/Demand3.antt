@@ -113,7 +113,8 @@ made-prefix W top L H r h =
     let q = turn-prefix H r (madeBy (ahead kind) L 1 W top) h in (
       q .0 ++ closing (ahead kind) L 1 W (side top H),
       ap (λ b. b ++ (q .0 ++ closing (ahead kind) L 1 W (side top H))) (append-nil (inTurn r (madeBy (ahead kind) L 1 W top)))
-          ∙ sym (append-assoc (inTurn r (madeBy (ahead kind) L 1 W top)) (q .0) (closing (ahead kind) L 1 W (side top H))) ∙ ap (λ b. b ++ closing (ahead kind) L 1 W (side top H)) (q .1),
+          ∙ sym (append-assoc (inTurn r (madeBy (ahead kind) L 1 W top)) (q .0) (closing (ahead kind) L 1 W (side top H)))
+          ∙ ap (λ b. b ++ closing (ahead kind) L 1 W (side top H)) (q .1),
     )
 
 module _ (l : ℕ) (W : Side) (top : ℕ) (from : W .start ≤ maxOrigin) (low : top ≤ maxOrigin) (wide : within 1 maxWidth (W .length) ≡ true)
@@ -189,7 +190,8 @@ module _ (l : ℕ) (W : Side) (top : ℕ) (from : W .start ≤ maxOrigin) (low :
       subst (λ k. All (HasValues W top H g) (take (length (made (ahead kind) W top M k false)) (drawn es))) (sym rows-here)
       (all-map (right-values M W top H g (few-levels l deep) es m) (go g₀ refl a))
     where
-      go : (b : Bool) → g₀ ≡ b → At M W top (taken es) g₀ (drawn es) r c cl v i x → All (Right M W top H g) (take (length (made (ahead kind) W top M r false)) (drawn es))
+      go : (b : Bool) → g₀ ≡ b → At M W top (taken es) g₀ (drawn es) r c cl v i x →
+          All (Right M W top H g) (take (length (made (ahead kind) W top M r false)) (drawn es))
       go false e h = all-take (length (made (ahead kind) W top M r false)) (subst (λ b. At M W top (taken es) b (drawn es) r c cl v i x) e h .sound H g
           (begins-fits W H g es m) .values)
       go true e h = h .early e .right H g (begins-fits W H g es m)

@@ -254,7 +254,8 @@ arrive-arrive-requires t c κs =
 arrive-deeper-requires : (t : ℕ) → arrive-lts.Need-deeper-requires (claims t) (arrive-at t) arrive.Post
 arrive-deeper-requires t c κs =
     let st = c .before .before .before .before .before in
-    omega (arith, c .before .arrive .ensures .within, st .before .before .before .before .before .before .before .before .before .before .before .before .before .before .before .before .pre)
+    let start = st .before .before .before .before .before .before .before .before .before .before .before .before .before .before .before .before in
+    omega (arith, c .before .arrive .ensures .within, start .pre)
 
 arrive-further-requires : (t : ℕ) → arrive-lts.Need-further-requires (claims t) (arrive-at t) arrive.Post
 arrive-further-requires t c κs =
