@@ -3,51 +3,40 @@
 use crate::Reader;
 use crate::sets;
 use crate::walk;
+use crate::walk::Level;
 use crate::walk::Next;
 use crate::walk::Spot;
 ghost use mathlib.Core.Path.{_≡_};
-ghost use mathlib.Core.Bool.{true};
-ghost use Prim.Native.Nat.{_<_, _≤_};
+ghost use Prim.Native.Nat.{_-_, _<_, _≤_};
 ghost use lib.ListN.{length};
 ghost use Rattle.numbers.specs.Signal.{at};
 ghost use Rattle.level.specs.Tried.{outcome};
 ghost use Rattle.wavelet.specs.Store.{storeLength};
-ghost use Rattle.reader.specs.Machine.{nextUp, placeFed};
+ghost use Rattle.reader.specs.Machine.{spot, placeOf, past, spotFed};
 ghost use Rattle.reader.specs.State.{columns, rows, next, nextRow, nextLength, settles, feeds};
-ghost use Rattle.reader.specs.Inside.{Counts, Is, IsNext, Due, Completing};
+ghost use Rattle.reader.specs.Inside.{Counts, Is, Due, Collected, Completing};
 ghost use Rattle.level.specs.Rebuilding.{Kept};
 
-// The row wanted by a reader that may be at a high row alone: one of it, or n, which is wanted otherwise.
-fn next_either(s: Reader, n: Next) -> Next
-    requires { ⌜ Counts s × (s .alone ≡ true) ×
-        IsNext (columns s) (rows s) (s .levels) (s .drawn) (nextUp (columns s) (rows s) (s .levels) (s .drawn) (s .level) (s .band)) n ⌝ }
-    ensures { λ r. ⌜ Due s r ⌝ }
+// The level that is collected, at its set; where there is none the first.
+pub fn level_of(s: Reader) -> Level
+    requires { ⌜ Counts s ⌝ }
+    ensures { λ l. ⌜ Collected s l ⌝ }
 {
-    if s.level == 0 {
-        return n;
-    }
-    let first = walk::next_alone(
-        s.x,
-        s.width,
-        s.y,
-        s.height,
-        s.levels,
-        s.drawn,
-        s.level,
-        s.band,
-    );
-    if first.spot.level == 0 {
-        return n;
-    }
-    first
+    let k = if s.level == 0 { 0 } else { s.level - 1 };
+    let l = walk::level_at(s.x, s.width, s.y, s.height, s.drawn, k);
+    let n = if l.last < s.back { 0 } else { l.last - s.back };
+    walk::at_set(l, n)
 }
 
-// The row wanted; level 0: there is none.
-pub fn next_of(s: Reader) -> Next
-    requires { ⌜ Counts s ⌝ }
+// The row wanted, where l is that level; level 0: there is none.
+pub fn next_of(s: Reader, l: Level) -> Next
+    requires { ⌜ Counts s × Collected s l ⌝ }
     ensures { λ n. ⌜ Due s n ⌝ }
 {
-    let n = walk::next_up(
+    if s.level == 0 {
+        return walk::no_row();
+    }
+    walk::next_up(
         s.x,
         s.width,
         s.y,
@@ -55,12 +44,9 @@ pub fn next_of(s: Reader) -> Next
         s.levels,
         s.drawn,
         s.level,
+        l,
         s.band,
-    );
-    if s.alone {
-        return next_either(s, n);
-    }
-    n
+    )
 }
 
 // The length of the row wanted, and its number.
@@ -98,8 +84,8 @@ pub fn completes(s: Reader, n: Next) -> bool
 }
 
 // The sets that wait worked out.
-pub fn settle(s: Reader, store: &mut [i32], n: Next) -> bool
-    requires { ⌜ Counts s × Due s n × (storeLength (columns s) (s .levels) ≤ length (now store)) ⌝ }
+pub fn settle(s: Reader, store: &mut [i32], l: Level, n: Next) -> bool
+    requires { ⌜ Counts s × Collected s l × Due s n × (storeLength (columns s) (s .levels) ≤ length (now store)) ⌝ }
     ensures { λ ok. ⌜ outcome ok (at (now (store .exit))) ≡ settles s (at (now (store .entry))) ⌝ }
     ensures { λ _. ⌜ Kept (storeLength (columns s) (s .levels)) (at (now (store .entry))) (at (now (store .exit))) ⌝ }
 {
@@ -112,18 +98,19 @@ pub fn settle(s: Reader, store: &mut [i32], n: Next) -> bool
         s.drawn,
         store,
         s.level,
+        l,
         n.spot.level,
     )
 }
 
 // Then the run put where it belongs, and the set worked out if it completes it.
-pub fn feed_row(s: Reader, store: &mut [i32], n: Next, complete: bool, run: &[i32]) -> bool
-    requires { ⌜ Counts s × Due s n × (0 < n .spot .level) × Completing s n complete × (storeLength (columns s) (s .levels) ≤ length (now store)) ×
-        (length (now run) ≡ nextLength s) ⌝ }
+pub fn feed_row(s: Reader, store: &mut [i32], l: Level, n: Next, complete: bool, run: &[i32]) -> bool
+    requires { ⌜ Counts s × Collected s l × Due s n × (0 < n .spot .level) × Completing s n complete ×
+        (storeLength (columns s) (s .levels) ≤ length (now store)) × (length (now run) ≡ nextLength s) ⌝ }
     ensures { λ ok. ⌜ outcome ok (at (now (store .exit))) ≡ feeds s (at (now (run .entry))) (at (now (store .entry))) ⌝ }
     ensures { λ _. ⌜ Kept (storeLength (columns s) (s .levels)) (at (now (store .entry))) (at (now (store .exit))) ⌝ }
 {
-    if !settle(s, store, n) {
+    if !settle(s, store, l, n) {
         return false;
     }
     let k = n.spot.level - 1;
@@ -153,24 +140,55 @@ pub fn feed_row(s: Reader, store: &mut [i32], n: Next, complete: bool, run: &[i3
     )
 }
 
-// Where the reader goes on after that row: another band of the set, a finer level, or after a high row alone the next set.
-pub fn place_fed(s: Reader, n: Next, complete: bool) -> Spot
+// Where the reader goes on after the set of n is worked out: to the next finer level, if a row is made that waits, else to the next set.
+fn spot_past(s: Reader, n: Next) -> Spot
+    requires { ⌜ Counts s × Due s n × (0 < n .spot .level) ⌝ }
+    ensures { λ q. ⌜ Is (past (columns s) (rows s) (s .levels) (n .spot .level - 1) (n .spot .set)) q ⌝ }
+{
+    let k = n.spot.level - 1;
+    if !sets::is_making(n.at.y, n.at.height, n.at.set) {
+        return walk::begin(s.levels, n.spot.level, n.at, n.at.set + 1);
+    }
+    let r = sets::first_row(n.at.y, n.at.height, n.at.set);
+    if k == 0 {
+        return Spot {
+            level: 0,
+            set: r,
+            band: 1,
+        };
+    }
+    let m = walk::finer(s.x, s.width, s.y, s.height, s.drawn, k, n.at);
+    Spot {
+        level: k,
+        set: m.set,
+        band: 1,
+    }
+}
+
+// Where the reader goes on after that row: another band of the set, or past the set.
+pub fn spot_fed(s: Reader, n: Next, complete: bool) -> Spot
     requires { ⌜ Counts s × Due s n × (0 < n .spot .level) × Completing s n complete ⌝ }
-    ensures { λ q. ⌜ Is (placeFed (columns s) (rows s) (s .levels) (s .drawn) (next s .level) (next s .alone) (next s .band)) q ⌝ }
+    ensures { λ q. ⌜ Is (spotFed (columns s) (rows s) (s .levels) (next s .level) (next s .set) (next s .band)) q ⌝ }
 {
     if !complete {
         return Spot {
             level: n.spot.level,
-            alone: n.spot.alone,
+            set: n.spot.set,
             band: n.spot.band + 1,
         };
     }
-    if n.spot.alone {
-        return walk::dive_past(s.levels, n.spot.level, n.at);
-    }
-    Spot {
-        level: n.spot.level - 1,
-        alone: false,
-        band: 1,
-    }
+    spot_past(s, n)
+}
+
+// How many sets the set of a place is before the last of its level that row d needs.
+pub fn back_of(s: Reader, d: usize, q: Spot) -> usize
+    requires { ⌜ Counts s × (d ≤ s .height) × (q .level ≤ s .levels) ⌝ }
+    ensures { λ b. ⌜ b ≡ placeOf (rows s) d (spot (q .level) (q .set) (q .band)) .back ⌝ }
+{
+    let last = if q.level == 0 {
+        d
+    } else {
+        walk::level_at(s.x, s.width, s.y, s.height, d, q.level - 1).last
+    };
+    if last < q.set { 0 } else { last - q.set }
 }
