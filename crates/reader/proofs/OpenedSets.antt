@@ -141,6 +141,14 @@ pub makes-last : (S : Side) (n : ℕ) → n ≡ lastSet S → makes S n ≡ true
 unfolding makes
 makes-last S n e = le-leb (setOf ahead S (firstRow S n)) n (omega (arith, set-there ahead S (firstRow S n)))
 
+-- a first set without a low row makes a row only where it is the last
+pub odd-first : (S : Side) (n : ℕ) → n < S .start % 2 → makes S n ≡ true → lastSet S ≡ 0
+unfolding makes firstRow
+odd-first S zero p e =
+    let a = leb-true (setOf ahead S 0) 0 e in
+    omega (arith, a, looks, set-of ahead S 0, to-at (S .start % 2 + 0) 0 (omega arith))
+odd-first S (suc n) p e = absurd (omega arith)
+
 -- ---- the sets that a row needs and no row before it
 pub opens-yes : (S : Side) (r : ℕ) → opens ahead S r ≡ true → setsBefore ahead S r ≤ setOf ahead S r
 unfolding opens
@@ -279,3 +287,25 @@ module _ (H : Side) where
           let a = set-mono S r (rowOf H k m) (omega arith) in
           let b = set-mono S (rowOf H k m) (r + (2 * ahead - 1)) (omega arith) in
           rw (ne-eqb 0 (suc k) (λ z. omega arith)) (omega (arith, a, row-makes S n (t .1)), omega (arith, b, far S r, row-before S n))
+
+-- ---- while the last row of a map is waited for, every level is at its last set
+last-from : (H : Side) (k : ℕ) → 0 < sideAt k H .length → rowOf H k (needed H 0 (H .length - 1) k) ≡ sideAt k H .length - 1 →
+    needed H 0 (H .length - 1) (suc k) ≡ lastSet (sideAt k H)
+last-from H k p e =
+    needed-next H 0 (H .length - 1) k (omega arith)
+    ∙ ap (setOf ahead (sideAt k H)) e ∙ set-last ahead (sideAt k H) (sideAt k H .length - 1) looks (omega arith)
+
+last-row : (H : Side) (k : ℕ) → 0 < sideAt k H .length → rowOf H k (needed H 0 (H .length - 1) k) ≡ sideAt k H .length - 1
+last-row H zero p = unfold rowOf needed sideAt in refl
+last-row H (suc k) p =
+    let S = sideAt k H in
+    let long = side-long k H in
+    let q : 0 < S .length = omega (arith, p, long, low-is S) in
+    below (last-from H k q (last-row H k q))
+  where
+    below : needed H 0 (H .length - 1) (suc k) ≡ lastSet (sideAt k H) → rowOf H (suc k) (needed H 0 (H .length - 1) (suc k)) ≡ sideAt (suc k) H .length - 1
+    below n = unfold rowOf in
+        omega (arith, n, p, side-long k H, low-is (sideAt k H), last-is (sideAt k H), first-low (sideAt k H))
+
+pub last-needed : (H : Side) (k : ℕ) → 0 < sideAt k H .length → needed H 0 (H .length - 1) (suc k) ≡ lastSet (sideAt k H)
+last-needed H k p = last-from H k p (last-row H k p)

@@ -129,7 +129,7 @@ module _ (W H : Side) (L n : ℕ) (across : W .start ≤ maxOrigin) (down : H .s
   w₀ = freshWorld W H L n x
 
   abbrev T₀ : List Step
-  T₀ = steps 1 W H L
+  T₀ = steps ahead W H L
 
   claim : (cs : List Call) → Demand3 W H L (events cs w₀) (λ c. event c (final cs w₀))
   claim cs = demand-3 W H L n across down ok x cs .claim
@@ -438,7 +438,7 @@ module _ (W H : Side) (L n : ℕ) (across : W .start ≤ maxOrigin) (down : H .s
 module _ (W H : Side) (L n : ℕ) (across : W .start ≤ maxOrigin) (down : H .start ≤ maxOrigin) (ok : setUpQuestion W H L n ≡ 0) (rows : RowName → Area)
     (outs : ℕ → Area) (room : (i : ℕ) → W .length ≤ outs i .size) (x : ℕ → ℤ) where
   abbrev turnsOf : List Call
-  turnsOf = played rows outs (length (steps 1 W H L)) (freshWorld W H L n x)
+  turnsOf = played rows outs (length (steps ahead W H L)) (freshWorld W H L n x)
 
   pub played-holds : Played W H L rows (events turnsOf (freshWorld W H L n x)) (λ c. event c (final turnsOf (freshWorld W H L n x)))
   played-holds = record {

@@ -1,11 +1,11 @@
 -- The places at which a reader can be: where a row begins, the next finer level, another band, the next set. Assumes nothing.
 use mathlib.Core.Bool.{Bool, true, false}
 use mathlib.Core.Path.{_≡_, refl, sym, ap, subst, _∙_}
-use Prim.Native.Nat.{ℕ, zero, suc, _+_, _-_, _≤_, _<_}
+use Prim.Native.Nat.{ℕ, zero, suc, _+_, _-_, _*_, _≤_, _<_}
 use native.Mathlib.Decide.{ℕ-discrete}
 use native.Mathlib.Omega.{arith}
 use lib.Dec.{T, leb, eqb}
-use borrow.Author.Tests.{leb-false}
+use borrow.Author.Tests.{leb-false, le-ltb}
 use Rattle.numbers.specs.Signal.{pick, both}
 use Rattle.lifting.specs.Line.{lo}
 use Rattle.lifting.specs.Grid.{Side, count}
@@ -13,16 +13,16 @@ use Rattle.wavelet.specs.Bands.{Band, code}
 use Rattle.wavelet.specs.Levels.{next, sideAt}
 use Rattle.wavelet.specs.Order.{firstSet, lastSet}
 use Rattle.wavelet.specs.Steps.{setOf, setsBefore}
-use Rattle.wavelet.proofs.StepLaws.{set-there}
+use Rattle.wavelet.proofs.StepLaws.{set-there, set-last, before-suc}
 use Rattle.level.specs.Sets.{opens}
-use Rattle.reader.specs.Sets.{ahead, hasRow, rowOf, taking, firstRow, makes, waiting, waitsAt}
+use Rattle.reader.specs.Sets.{ahead, hasRow, rowOf, taking, firstRow, makes, needed, waiting, waitsAt}
 use Rattle.reader.specs.Asked.{asked, bandsFrom, those, look, firstCode, nextBand}
 use Rattle.reader.specs.Store.{hasCells}
-use Rattle.reader.specs.Machine.{Spot, spot, bandAt, lastOfSet, past, beyond, dive, begins, enter}
+use Rattle.reader.specs.Machine.{Spot, spot, spotOf, placeOf, bandAt, lastOfSet, past, beyond, dive, begins, enter}
 use Rattle.reader.specs.Holds.{Ready}
 use Rattle.reader.proofs.Looks.{code-lt, first-le}
 use Rattle.reader.proofs.OpenedSets.{opens-yes, opened-row, row-next, makes-not, makes-last, taking-row, waits-here, waits-finer, There, taking-there}
-use Rattle.reader.proofs.OpenedSets.{waiting-there, looks}
+use Rattle.reader.proofs.OpenedSets.{waiting-there, in-back, looks}
 use Rattle.reader.proofs.CellLaws.{cells-are, cells-before, last-asks}
 
 differ : true ≡ false → ⊥
@@ -157,19 +157,53 @@ module _ (W H : Side) (l d : ℕ) where
           (waits-finer H k (suc n) 0 (omega arith) ∙ ap (λ i. waitsAt H k i 0) (ap (taking H k) (row-next (sideAt k H) n e))
           ∙ sym (waits-finer H k n 0 (omega arith)) ∙ s .top)
 
-  pub ready-beyond : (k n c : ℕ) → k ≤ l → At (spot (suc k) n c) → At (beyond W H (suc l) k n c)
-  unfolding beyond
-  ready-beyond k n c h s = go (lastOfSet W H (suc l) k n c) refl
+  -- another band of the same set
+  pub ready-still : (k n c : ℕ) → At (spot (suc k) n c) → lastOfSet W H (suc l) k n c ≡ false → At (spot (suc k) n (c + 1))
+  unfolding lastOfSet
+  ready-still k n c s e = record {
+    top = s .top;
+    cells = s .cells;
+    there = s .there;
+    asks = λ j z f. let y : j ≡ k = omega arith in
+        absurd (under _ (bandAt W H (suc l) k n (c + 1)) (omega arith) e (subst (λ i. bandAt W H (suc l) i n (c + 1) ≡ 4) y f));
+  }
     where
       under : (m i : ℕ) → m ≤ 4 → leb m i ≡ false → i ≡ 4 → ⊥
       under m i b z f = omega (arith, leb-false m i z, f)
 
+  pub ready-beyond : (k n c : ℕ) → k ≤ l → At (spot (suc k) n c) → At (beyond W H (suc l) k n c)
+  unfolding beyond
+  ready-beyond k n c h s = go (lastOfSet W H (suc l) k n c) refl
+    where
       go : (t : Bool) → lastOfSet W H (suc l) k n c ≡ t → At (pick t (past W H (suc l) k n) (spot (suc k) n (c + 1)))
       go true e = ready-past k n c h s
-      go false e = record {
-        top = s .top;
-        cells = s .cells;
-        there = s .there;
-        asks = λ j z f. let y : j ≡ k = omega arith in
-            absurd (under 4 (bandAt W H (suc l) k n (c + 1)) (omega arith) (unfold lastOfSet in e) (subst (λ i. bandAt W H (suc l) i n (c + 1) ≡ 4) y f));
-      }
+      go false e = ready-still k n c s e
+
+-- ---- a place as a state keeps it
+ready-there : (W H : Side) (L d k n b : ℕ) → d < H .length → Ready W H L d (spot k n b) → There H k n
+ready-there W H L d zero n b due s = let e : n ≡ d = unfold waitsAt in s .top in omega arith
+ready-there W H L d (suc k) n b due s = (cells-are (sideAt k W) (sideAt k H) (s .cells k refl) .1, s .there k refl)
+
+pub ready-back : (W H : Side) (L d : ℕ) (q : Spot) → d < H .length → Ready W H L d q →
+    (spotOf H d (placeOf H d q) ≡ q) × (placeOf H d q .back ≤ 2 * ahead - 1)
+ready-back W H L d q due s =
+    let r = in-back H d (q .level) (q .set) (ready-there W H L d (q .level) (q .set) (q .band) due s) (s .top) in
+    (ap (λ i. spot (q .level) i (q .band)) (omega (arith, r .0)), omega (arith, r .1))
+
+-- with all rows drawn no set is asked for
+pub enter-end : (W H : Side) (L d : ℕ) → 0 < H .length → d ≡ H .length → placeOf H d (enter W H L d) .back ≡ 0
+unfolding enter
+enter-end W H zero d p e = unfold dive needed in omega arith
+enter-end W H (suc l) d p e = unfold dive in go (hasCells W H) (opens ahead H d) (end d e) _
+  where
+    last : (r : ℕ) → suc r ≡ H .length → setsBefore ahead H (suc (suc r)) ≤ setsBefore ahead H (suc r)
+    last r e = omega (arith, before-suc ahead H r, before-suc ahead H (suc r), set-last ahead H r looks (omega arith), set-there ahead H (suc r))
+
+    end : (d : ℕ) → d ≡ H .length → opens ahead H d ≡ false
+    end zero e = absurd (omega arith)
+    end (suc r) e = unfold opens in le-ltb (setsBefore ahead H (suc r)) (setsBefore ahead H (suc (suc r))) (last r e)
+
+    go : (c o : Bool) → o ≡ false → (to : Spot) → placeOf H d (pick (both c o) to (spot 0 d 1)) .back ≡ 0
+    go true true z to = absurd (differ z)
+    go true false z to = unfold needed in omega arith
+    go false o z to = unfold needed in omega arith

@@ -189,7 +189,7 @@ module _ (W H : Side) (l : ℕ) where
       s = setsBefore ahead (sideAt k H) r
 
   -- where a set begins, as the search for it has it
-  begins-is : (m k n : ℕ) → k + m ≡ l → begins W H (suc l) (suc k) n ≡
+  pub begins-is : (m k n : ℕ) → k + m ≡ l → begins W H (suc l) (suc k) n ≡
       pick (leb (firstSet (sideAt k H) lo) n)
       (dive m (suc k) (next (sideAt k W)) (next (sideAt k H)) n (n - firstSet (sideAt k H) lo)) (spot (suc k) n 1)
   unfolding begins hasRow rowOf sideAt
