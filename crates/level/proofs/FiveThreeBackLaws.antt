@@ -12,6 +12,7 @@ use Rattle.numbers.specs.Word.{wrap32}
 use Rattle.numbers.proofs.Sweep.{both as both-hold}
 use Rattle.lifting.specs.Line.{Half, lo, hi, Half-discrete}
 use Rattle.lifting.specs.Grid.{Side, count, parted}
+use Rattle.lifting.specs.FiveThree.{fiveThreeFilter}
 use Rattle.wavelet.specs.Bands.{Grid, Band, LL, HL, LH, HH, code, across, down, bandOf, levelBack}
 use Rattle.wavelet.proofs.BandPlaces.{band-of}
 use Rattle.wavelet.specs.Levels.{next}
@@ -227,7 +228,8 @@ leaves-before k W H p n x b s = record {
   even = λ m e c.
       let z : m ≡ n = omega arith in
       let t = even-left H n b (omega arith) in
-      rw z (subst (λ (q : ℕ). Is W x q (parted W (levelBack wrap32 W H p (2 * n - firstSet H lo)))) (t .2) (s .made (2 * n - firstSet H lo) (t .0) (t .1)));
+      rw z (subst (λ (q : ℕ). Is W x q (parted W (levelBack fiveThreeFilter wrap32 W H p (2 * n - firstSet H lo)))) (t .2)
+      (s .made (2 * n - firstSet H lo) (t .0) (t .1)));
   high = λ m e. let z : m ≡ n = omega arith in rw z (s .high (high-left H n b));
 }
 
@@ -246,7 +248,7 @@ five-three-back-laws = record {
   before-next = leaves-before;
   work-last = λ k W H p n x some there before got. last-done W H p n k x some there before got;
   work-on = λ k W H p n x some there before got low. on-done W H p n k x some there before got low;
-  made-is = λ k W H p n x s r b q c t. joined-reads W _ (levelBack wrap32 W H p r) (row-halves W x (local (H .start) r) _ (s .made r b q)) c t;
+  made-is = λ k W H p n x s r b q c t. joined-reads W _ (levelBack fiveThreeFilter wrap32 W H p r) (row-halves W x (local (H .start) r) _ (s .made r b q)) c t;
   made-fits = λ k W H p n x s r b q c t. s .fit r b q c t;
   made-has = λ k W H p n x s. s .has;
 }

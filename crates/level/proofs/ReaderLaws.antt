@@ -7,6 +7,7 @@ use lib.IntN.{ℤ}
 use Rattle.numbers.specs.Word.{wrap32}
 use Rattle.lifting.specs.Line.{lo}
 use Rattle.lifting.specs.Grid.{Side, count}
+use Rattle.lifting.specs.FiveThree.{fiveThreeFilter}
 use Rattle.wavelet.specs.Bands.{Grid, Band, LL, across, levelBack}
 use Rattle.wavelet.specs.Maps.{valueFits}
 use Rattle.wavelet.specs.Levels.{next}
@@ -48,7 +49,7 @@ pub record ReaderLaws (K : ReaderLevel) (M : BackMeaning) : Type 0 where
       Outcome (FitAll k W H p) (λ y. M .Leaves k W H p n y × ((j : ℕ) → K .stretch W ≤ j → y j ≡ x j)) (K .work false k W H n x)
   -- the rows that it makes, and that no number that it halved is odd
   pub made-is : (k : ℕ) (W H : Side) (p : Band → Grid) (n : ℕ) (x : ℕ → ℤ) → M .Leaves k W H p n x → (r : ℕ) → r < H .length → setOf (K .ahead) H r ≡ n → (c : ℕ) →
-      c < W .length → K .made W (H .start) r x c ≡ levelBack wrap32 W H p r c
+      c < W .length → K .made W (H .start) r x c ≡ levelBack fiveThreeFilter wrap32 W H p r c
   pub made-fits : (k : ℕ) (W H : Side) (p : Band → Grid) (n : ℕ) (x : ℕ → ℤ) → M .Leaves k W H p n x → (r : ℕ) → r < H .length → setOf (K .ahead) H r ≡ n → (c : ℕ) →
-      c < W .length → valueFits k (levelBack wrap32 W H p r c) ≡ true
+      c < W .length → valueFits fiveThreeFilter k (levelBack fiveThreeFilter wrap32 W H p r c) ≡ true
   pub made-has : (k : ℕ) (W H : Side) (p : Band → Grid) (n : ℕ) (x : ℕ → ℤ) → M .Leaves k W H p n x → SetHas (K .ahead) W H p n

@@ -5,15 +5,15 @@ use mathlib.Core.List.{List, [], _∷_, _++_}
 use Prim.Native.Nat.{ℕ, zero, suc, _+_, _-_, _/_, _%_, _≤_, _<_, min}
 use native.Mathlib.Decide.{decLt, ℕ-discrete}
 use native.Mathlib.Omega.{arith}
-use lib.Dec.{ltb, eqb}
-use borrow.Author.Tests.{lt-ltb, le-ltb, eq-eqb, ne-eqb, le-leb}
+use lib.Dec.{ltb, leb, eqb}
+use borrow.Author.Tests.{lt-ltb, le-ltb, eq-eqb, ne-eqb, le-leb, lt-leb}
 use Rattle.numbers.specs.Signal.{pick, both}
 use Rattle.lifting.specs.Line.{Half, lo, hi}
 use Rattle.lifting.specs.Line as line
 use Rattle.lifting.specs.Grid.{Side, side, count}
 use Rattle.lifting.proofs.AtZero.{count-zero}
 use Rattle.wavelet.specs.Bands.{Band, across, down}
-use Rattle.wavelet.specs.Order.{handedOut, inTurn, firstSet, lastSet, setRow, setHas, rowsOf, setRows, madeBy, closing, made}
+use Rattle.wavelet.specs.Order.{handedOut, inTurn, firstSet, lastSet, setRow, setHas, rowsOf, setRows, madeBy, unmade, closing, made}
 use Rattle.wavelet.proofs.StepLaws.{set-one}
 use Rattle.wavelet.specs.Steps.{Step, draw, feedAll, setOf, setsBefore, rowSteps, setSteps, steps}
 use Rattle.origin_zero.specs.Order as order
@@ -49,18 +49,18 @@ unfolding setRows order.setRows
 set-rows-zero l k w m n = rows-of-zero k w m n (handedOut l)
 
 -- ---- the order
-made-test : (r : ℕ) → both (eqb (r % 2) 0) (ltb 1 r) ≡ both (eqb (r % 2) 0) (ltb 0 r)
+made-test : (r : ℕ) → both (eqb (r % 2) 0) (leb 2 r) ≡ both (eqb (r % 2) 0) (ltb 0 r)
 made-test r =
     elim (ℕ-discrete (r % 2) 0) [
       | yes e ↦
           elim (decLt 0 r) [
-            | yes p ↦ ap (both (eqb (r % 2) 0)) (lt-ltb 1 r (omega arith) ∙ sym (lt-ltb 0 r p))
-            | no d ↦ ap (both (eqb (r % 2) 0)) (le-ltb 1 r (omega arith) ∙ sym (le-ltb 0 r (omega arith)))
+            | yes p ↦ ap (both (eqb (r % 2) 0)) (le-leb 2 r (omega arith) ∙ sym (lt-ltb 0 r p))
+            | no d ↦ ap (both (eqb (r % 2) 0)) (lt-leb 2 r (omega arith) ∙ sym (le-ltb 0 r (omega arith)))
           ]
       | no d ↦ simp (ne-eqb (r % 2) 0 d)
     ]
 
-pub made-by-zero : (l k w r : ℕ) → madeBy l k (side 0 w) 0 r ≡ order.madeBy l k w r
+pub made-by-zero : (l k w r : ℕ) → madeBy 1 l k (side 0 w) 0 r ≡ order.madeBy l k w r
 unfolding madeBy order.madeBy
 made-by-zero zero k w r = refl
 made-by-zero (suc l) k w r =
@@ -76,14 +76,18 @@ made-by-zero (suc l) k w r =
       made-by-zero l (suc k) (line.count lo w) (r / 2 - 1),
     ) refl
 
-pub closing-zero : (l k w m : ℕ) → closing l k (side 0 w) (side 0 m) ≡ order.closing l k w m
-unfolding closing order.closing
+pub closing-zero : (l k w m : ℕ) → closing 1 l k (side 0 w) (side 0 m) ≡ order.closing l k w m
+unfolding closing unmade inTurn order.closing
 closing-zero zero k w m = refl
 closing-zero (suc l) k w m =
     let n = line.count lo m - 1 in
     let d : n - 0 ≡ n = omega arith in
+    let u : n + 1 - 1 + 0 ≡ n = omega arith in
+    let o : n + 1 - (n + 1 - 1) ≡ 1 = omega arith in
     rw (
       last-set-zero m,
+      o,
+      u,
       first-set-zero m lo,
       set-rows-zero l k w m n,
       le-leb 0 n (omega arith),
@@ -94,7 +98,7 @@ closing-zero (suc l) k w m =
       closing-zero l (suc k) (line.count lo w) (line.count lo m),
     ) refl
 
-pub made-zero : (W L rows : ℕ) (finished : Bool) → made (side 0 W) 0 L rows finished ≡ order.made W L rows finished
+pub made-zero : (W L rows : ℕ) (finished : Bool) → made 1 (side 0 W) 0 L rows finished ≡ order.made W L rows finished
 unfolding made order.made
 made-zero W L rows finished =
     ap₂ (λ f l. inTurn rows f ++ pick finished l []) (fun-ext λ r. made-by-zero L 1 W r) (closing-zero L 1 W rows)

@@ -15,6 +15,7 @@ use Rattle.numbers.specs.Signal.{pick, both}
 use Rattle.numbers.specs.Word.{wrap32}
 use Rattle.lifting.specs.Line.{lo}
 use Rattle.lifting.specs.Grid.{Side, count}
+use Rattle.lifting.specs.FiveThree.{fiveThreeFilter}
 use Rattle.wavelet.specs.Bands.{Grid, Band, LL, HL, LH, HH, Band-discrete, code, across, down, levelBack}
 use Rattle.wavelet.specs.Maps.{valueFits}
 use Rattle.wavelet.specs.Levels.{next, sideAt}
@@ -275,7 +276,7 @@ module _ (W H : Side) (l : ℕ) (P : Rows) where
   other-kept LH d t = refl
   other-kept HH d t = refl
 
-  low-part : (k : ℕ) → k < l → (r i : ℕ) → levelBack wrap32 (sideAt (suc k) W) (sideAt (suc k) H) (B (suc k)) r i ≡ B k LL r i
+  low-part : (k : ℕ) → k < l → (r i : ℕ) → levelBack fiveThreeFilter wrap32 (sideAt (suc k) W) (sideAt (suc k) H) (B (suc k)) r i ≡ B k LL r i
   unfolding bandsBy rebuilt
   low-part k q r i = let z : suc l - suc k ≡ suc (suc l - suc (suc k)) = omega arith in rw z refl
 
@@ -324,7 +325,7 @@ module _ (W H : Side) (l : ℕ) (P : Rows) where
         row-is = sym (needed-from H (suc k) n)
 
         there-row : (i : ℕ) → i < next (sideAt k W) .length → K .made (next (sideAt k W)) (next (sideAt k H) .start) r (mem W (suc k) x) i
-            ≡ levelBack wrap32 (sideAt (suc k) W) (sideAt (suc k) H) (B (suc k)) r i
+            ≡ levelBack fiveThreeFilter wrap32 (sideAt (suc k) W) (sideAt (suc k) H) (B (suc k)) r i
         there-row = laws .made-is (suc k) (sideAt (suc k) W) (sideAt (suc k) H) (B (suc k)) (needed H (suc k) n (suc (suc k))) (mem W (suc k) x)
             (s .below (le-leb (firstSet (sideAt k H) lo) n f) (suc k) on (omega arith)) r (low-there f) row-is
 
@@ -707,7 +708,7 @@ module _ (W H : Side) (l : ℕ) (P : Rows) where
         ap (λ (z : ℕ → ℤ). K .made W (H .start) d z c) (sym (first-mem W x))
         ∙ laws .made-is 0 W H (B 0) (needed H 0 d 1) (mem W 0 x) top-leaves d due top-set c p
 
-    pub height-fit : (c : ℕ) → c < W .length → valueFits 0 (partAt W H P (suc l) 0 d c) ≡ true
+    pub height-fit : (c : ℕ) → c < W .length → valueFits fiveThreeFilter 0 (partAt W H P (suc l) 0 d c) ≡ true
     unfolding sideAt ahead
     height-fit = laws .made-fits 0 W H (B 0) (needed H 0 d 1) (mem W 0 x) top-leaves d due top-set
 

@@ -13,6 +13,7 @@ use lib.Seq.{getD-append-add}
 use lib.Dec.{leb, eqb}
 use borrow.Author.Tests.{leb-true}
 use Rattle.numbers.specs.Signal.{pick, both}
+use Rattle.lifting.specs.FiveThree.{fiveThreeFilter}
 use Rattle.wavelet.proofs.QuestionLaws.{within-true}
 use Rattle.lifting.specs.Line.{lo}
 use Rattle.lifting.specs.Grid.{Side, count}
@@ -111,11 +112,11 @@ module _ (W H : Side) (l : ℕ) where
     pub kept : keptAt (eqb (suc k) (suc l)) (f .row .band) ≡ true
     pub in-rows : f .row .row < count (down (f .row .band)) (sideAt k H)
     pub size : f .run .size ≡ bandColumns W (f .row .level) (f .row .band)
-    pub range-of : (i : ℕ) → i < f .run .size → natAbs (f .run .numbers i) ≤ range (f .row .level)
+    pub range-of : (i : ℕ) → i < f .run .size → natAbs (f .run .numbers i) ≤ range fiveThreeFilter (f .row .level)
 
   -- what holds of rows that have those fed
   pub record Agrees (P : Rows) (d : ℕ) (p : Place) (e : Bool) (x : ℕ → ℤ) (ds : List (ℕ → ℤ)) : Type 0 where
-    pub fit : (r c : ℕ) → r < d → c < W .length → valueFits 0 (partAt W H P (suc l) 0 r c) ≡ true
+    pub fit : (r c : ℕ) → r < d → c < W .length → valueFits fiveThreeFilter 0 (partAt W H P (suc l) 0 r c) ≡ true
     pub shows : (r c : ℕ) → r < d → c < W .length → getD ds r (λ _. pos 0) c ≡ partAt W H P (suc l) 0 r c
     pub has : (r : ℕ) → r < d → (k : ℕ) → Live W H l P k → (m : ℕ) → m ≤ needed H 0 r (suc k) → SetHas ahead (sideAt k W) (sideAt k H) (bandsAt W H P (suc l) k) m
     pub holds : e ≡ false → d < H .length → HeldAt W H l P (at W H l d p) x

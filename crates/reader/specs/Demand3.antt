@@ -12,6 +12,7 @@ use lib.Dec.{leb, eqb}
 use Rattle.numbers.specs.Signal.{pick, both}
 use Rattle.numbers.specs.Word.{whole}
 use Rattle.lifting.specs.Grid.{Side}
+use Rattle.lifting.specs.FiveThree.{fiveThreeFilter}
 use Rattle.wavelet.specs.Bands.{Grid, code, down}
 use Rattle.wavelet.specs.Maps.{IsMap}
 use Rattle.wavelet.specs.Levels.{sideAt, levelBand}
@@ -186,7 +187,7 @@ drawnRows = gathered drawnBy
 -- a run a is band row x of a map g: its length, and T.800's whole numbers
 pub record IsRow (W H : Side) (g : Grid) (x : RowName) (a : Area) : Type 0 where
   pub size : a .size ≡ bandColumns W (x .level) (x .band)
-  pub values : (i : ℕ) → i < bandColumns W (x .level) (x .band) → a .numbers i ≡ levelBand whole W H g (x .level) (x .band) (x .row) i
+  pub values : (i : ℕ) → i < bandColumns W (x .level) (x .band) → a .numbers i ≡ levelBand fiveThreeFilter whole W H g (x .level) (x .band) (x .row) i
 
 abbrev pub HasRow : Side → Side → Grid → FedRow → Type 0
 HasRow W H g f = IsRow W H g (f .row) (f .run)

@@ -65,7 +65,7 @@ pub record IsNext (W H : Side) (d : ℕ) (q : machine.Spot) (n : Next) : Type 0 
 
 -- l is the level that is collected, at its set
 abbrev pub Collected : Reader → Level → Type 0
-Collected s l = 0 < s .level → IsLevel (columns s) (rows s) (s .drawn) (s .level - 1) l × (l .set ≡ spotNow s .set)
+Collected s l = IsLevel (columns s) (rows s) (s .drawn) (s .level - 1) l × (l .set ≡ spotNow s .set)
 
 -- n is the row wanted; t says whether it completes its set
 abbrev pub Due : Reader → Next → Type 0

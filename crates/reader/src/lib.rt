@@ -7,21 +7,23 @@ mod walk;
 use areas::copies;
 use areas::height_rows;
 use level::rebuilding;
+use walk::Next;
 use walk::Spot;
 use wavelet::shape::Shape;
 ghost use mathlib.Core.Path.{_≡_};
+ghost use mathlib.Core.Bool.{false};
+ghost use Prim.Native.Nat.{_<_, _≤_};
 ghost use lib.ListN.{length};
 ghost use Rattle.numbers.specs.Signal.{at};
 ghost use Rattle.wavelet.specs.Limits.{maxWidth, maxHeight, maxLevels, maxOrigin};
 ghost use Rattle.wavelet.specs.Shape as shape;
 ghost use Rattle.areas.specs.Areas.{heightsAt};
-ghost use Prim.Native.Nat.{_≤_};
 ghost use Rattle.reader.specs.Machine.{spot, placeOf};
-ghost use Rattle.reader.specs.State.{rows, movedTo, endedReader};
-ghost use Rattle.reader.specs.Inside.{Counts};
+ghost use Rattle.reader.specs.Inside.{Counts, Due};
+ghost use Rattle.reader.specs.State.{rows, wants, movedTo, endedReader};
 ghost use Rattle.reader.specs.Questions.{setUpQuestion, wantQuestion, feedQuestion, drawQuestion};
 ghost use Rattle.reader.specs.Holds.{SetUpHolds, FeedKeeps, DrawKeeps};
-ghost use Rattle.reader.specs.Answers.{ofSetUp, ofWanted, ofFed, ofDrawn};
+ghost use Rattle.reader.specs.Answers.{gives, ofSetUp, ofWanted, ofFed, ofDrawn};
 ghost use Rattle.reader.specs.Calls.{setUpReply, setUpStore, wantReply, feedReply, feedStore, drawReply, drawStore, drawArea};
 
 // The counts of a reader; docs/STATE.md gives their ranges. Its map starts at (x, y). `drawn` height rows are drawn; rows of `level` are collected (0: a height
@@ -150,15 +152,37 @@ impl Reader {
         if self.height <= self.drawn {
             return Wanted::Done;
         }
-        let next = steps::next_of(self, steps::level_of(self));
-        if next.spot.level == 0 {
+        if self.level == 0 {
+            return Wanted::Draw;
+        }
+        let l = steps::own_level(self);
+        let c = steps::own_band(self, l);
+        if c < 4 {
+            return self.told(Next {
+                spot: Spot {
+                    level: self.level,
+                    set: l.set,
+                    band: c,
+                },
+                at: l,
+            });
+        }
+        self.told(steps::next_from(self, l))
+    }
+
+    // What is wanted, n being the row wanted if there is one.
+    fn told(self, n: Next) -> Wanted
+        requires { ⌜ Due self n × (self .ended ≡ false) × (self .drawn < self .height) ⌝ }
+        ensures { λ r. ⌜ ofWanted r ≡ gives (wants self) ⌝ }
+    {
+        if n.spot.level == 0 {
             return Wanted::Draw;
         }
         Wanted::Row(
-            next.spot.level,
-            next.spot.band,
-            steps::row_number(self, next),
-            steps::row_length(self, next),
+            n.spot.level,
+            n.spot.band,
+            steps::row_number(self, n),
+            steps::row_length(self, n),
         )
     }
 
@@ -177,14 +201,13 @@ impl Reader {
         if q != 0 {
             return Fed::Refused(q);
         }
-        let l = steps::level_of(self);
-        let next = steps::next_of(self, l);
+        let next = steps::next_of(self);
         let r = questions::row_question(self, next, run);
         if r != 0 {
             return Fed::Refused(r);
         }
         let complete = steps::completes(self, next);
-        if steps::feed_row(self, store, l, next, complete, run) {
+        if steps::feed_row(self, store, next, complete, run) {
             return Fed::Passed(self.moved(self.drawn, steps::spot_fed(self, next, complete)));
         }
         let n = wavelet::store::store_length(self.width, self.x, self.levels);
@@ -208,16 +231,14 @@ impl Reader {
         if q != 0 {
             return Drawn::Refused(q);
         }
-        let l = steps::level_of(self);
-        let next = steps::next_of(self, l);
-        if !questions::draw_due(self, next) {
+        if !questions::draw_due(self) {
             return Drawn::Nothing;
         }
         let w = self.width;
         if out.len() < w {
             return Drawn::Refused(12);
         }
-        if steps::settle(self, store, l, next) {
+        if steps::settle_all(self, store) {
             let a = rebuilding::row_place(w, self.y % 2 + self.drawn);
             let e = a + w;
             height_rows::draw_heights(&store[a..e], self.x, out);

@@ -131,13 +131,16 @@ pub fn row_question(s: Reader, n: Next, run: &[i32]) -> u8
     0
 }
 
-// Whether a height row can be drawn, where n is the row wanted.
-pub fn draw_due(s: Reader, n: Next) -> bool
-    requires { ⌜ Due s n ⌝ }
+// Whether a height row can be drawn; most often at level 0.
+pub fn draw_due(s: Reader) -> bool
+    requires { ⌜ Counts s ⌝ }
     ensures { λ r. ⌜ r ≡ drawDue s ⌝ }
 {
     if s.height <= s.drawn {
         return false;
     }
-    n.spot.level == 0
+    if s.level == 0 {
+        return true;
+    }
+    steps::next_of(s).spot.level == 0
 }

@@ -14,28 +14,42 @@ ghost use Rattle.level.specs.Tried.{outcome};
 ghost use Rattle.wavelet.specs.Store.{storeLength};
 ghost use Rattle.reader.specs.Machine.{spot, placeOf, past, spotFed};
 ghost use Rattle.reader.specs.State.{columns, rows, next, nextRow, nextLength, settles, feeds};
-ghost use Rattle.reader.specs.Inside.{Counts, Is, Due, Collected, Completing};
+ghost use Rattle.reader.specs.Inside.{Counts, Is, Collected, Due, Completing};
 ghost use Rattle.level.specs.Rebuilding.{Kept};
 
-// The level that is collected, at its set; where there is none the first.
-pub fn level_of(s: Reader) -> Level
-    requires { ⌜ Counts s ⌝ }
+// The reader's own level, at the set that is collected.
+pub fn own_level(s: Reader) -> Level
+    requires { ⌜ Counts s × (0 < s .level) ⌝ }
     ensures { λ l. ⌜ Collected s l ⌝ }
 {
-    let k = if s.level == 0 { 0 } else { s.level - 1 };
-    let l = walk::level_at(s.x, s.width, s.y, s.height, s.drawn, k);
+    let l = walk::level_at(s.x, s.width, s.y, s.height, s.drawn, s.level - 1);
     let n = if l.last < s.back { 0 } else { l.last - s.back };
     walk::at_set(l, n)
 }
 
-// The row wanted, where l is that level; level 0: there is none.
-pub fn next_of(s: Reader, l: Level) -> Next
-    requires { ⌜ Counts s × Collected s l ⌝ }
+// The band that is wanted of it, l; 4 where the row wanted is another one, which is rare.
+pub fn own_band(s: Reader, l: Level) -> usize
+    requires { ⌜ Counts s × (0 < s .level) × Collected s l ⌝ }
+    ensures { λ c. ⌜ (c < 4 → spot (s .level) (l .set) c ≡ next s) ⌝ }
+{
+    walk::band_at(
+        s.x,
+        s.width,
+        s.y,
+        s.height,
+        s.levels,
+        s.drawn,
+        s.level - 1,
+        l,
+        s.band,
+    )
+}
+
+// The row wanted, from it on; level 0: there is none.
+pub fn next_from(s: Reader, l: Level) -> Next
+    requires { ⌜ Counts s × (0 < s .level) × Collected s l ⌝ }
     ensures { λ n. ⌜ Due s n ⌝ }
 {
-    if s.level == 0 {
-        return walk::no_row();
-    }
     walk::next_up(
         s.x,
         s.width,
@@ -47,6 +61,29 @@ pub fn next_of(s: Reader, l: Level) -> Next
         l,
         s.band,
     )
+}
+
+// The row wanted; level 0: there is none.
+pub fn next_of(s: Reader) -> Next
+    requires { ⌜ Counts s ⌝ }
+    ensures { λ n. ⌜ Due s n ⌝ }
+{
+    if s.level == 0 {
+        return walk::no_row();
+    }
+    let l = own_level(s);
+    let c = own_band(s, l);
+    if c < 4 {
+        return Next {
+            spot: Spot {
+                level: s.level,
+                set: l.set,
+                band: c,
+            },
+            at: l,
+        };
+    }
+    next_from(s, l)
 }
 
 // The length of the row wanted, and its number.
@@ -83,12 +120,15 @@ pub fn completes(s: Reader, n: Next) -> bool
     4 <= c
 }
 
-// The sets that wait worked out.
-pub fn settle(s: Reader, store: &mut [i32], l: Level, n: Next) -> bool
-    requires { ⌜ Counts s × Collected s l × Due s n × (storeLength (columns s) (s .levels) ≤ length (now store)) ⌝ }
+// The sets that wait worked out; most often none does.
+pub fn settle(s: Reader, store: &mut [i32], n: Next) -> bool
+    requires { ⌜ Counts s × Due s n × (storeLength (columns s) (s .levels) ≤ length (now store)) ⌝ }
     ensures { λ ok. ⌜ outcome ok (at (now (store .exit))) ≡ settles s (at (now (store .entry))) ⌝ }
     ensures { λ _. ⌜ Kept (storeLength (columns s) (s .levels)) (at (now (store .entry))) (at (now (store .exit))) ⌝ }
 {
+    if s.level <= n.spot.level {
+        return true;
+    }
     walk::settle(
         s.x,
         s.width,
@@ -98,19 +138,42 @@ pub fn settle(s: Reader, store: &mut [i32], l: Level, n: Next) -> bool
         s.drawn,
         store,
         s.level,
-        l,
+        own_level(s),
         n.spot.level,
     )
 }
 
+// The same before a draw, where no row is wanted.
+pub fn settle_all(s: Reader, store: &mut [i32]) -> bool
+    requires { ⌜ Counts s × (next s .level ≡ 0) × (storeLength (columns s) (s .levels) ≤ length (now store)) ⌝ }
+    ensures { λ ok. ⌜ outcome ok (at (now (store .exit))) ≡ settles s (at (now (store .entry))) ⌝ }
+    ensures { λ _. ⌜ Kept (storeLength (columns s) (s .levels)) (at (now (store .entry))) (at (now (store .exit))) ⌝ }
+{
+    if s.level == 0 {
+        return true;
+    }
+    walk::settle(
+        s.x,
+        s.width,
+        s.y,
+        s.height,
+        s.levels,
+        s.drawn,
+        store,
+        s.level,
+        own_level(s),
+        0,
+    )
+}
+
 // Then the run put where it belongs, and the set worked out if it completes it.
-pub fn feed_row(s: Reader, store: &mut [i32], l: Level, n: Next, complete: bool, run: &[i32]) -> bool
-    requires { ⌜ Counts s × Collected s l × Due s n × (0 < n .spot .level) × Completing s n complete ×
-        (storeLength (columns s) (s .levels) ≤ length (now store)) × (length (now run) ≡ nextLength s) ⌝ }
+pub fn feed_row(s: Reader, store: &mut [i32], n: Next, complete: bool, run: &[i32]) -> bool
+    requires { ⌜ Counts s × Due s n × (0 < n .spot .level) × Completing s n complete × (storeLength (columns s) (s .levels) ≤ length (now store)) ×
+        (length (now run) ≡ nextLength s) ⌝ }
     ensures { λ ok. ⌜ outcome ok (at (now (store .exit))) ≡ feeds s (at (now (run .entry))) (at (now (store .entry))) ⌝ }
     ensures { λ _. ⌜ Kept (storeLength (columns s) (s .levels)) (at (now (store .entry))) (at (now (store .exit))) ⌝ }
 {
-    if !settle(s, store, l, n) {
+    if !settle(s, store, n) {
         return false;
     }
     let k = n.spot.level - 1;
@@ -126,7 +189,10 @@ pub fn feed_row(s: Reader, store: &mut [i32], l: Level, n: Next, complete: bool,
         n.spot.band,
         run,
     );
-    walk::finish(
+    if !complete {
+        return true;
+    }
+    walk::work_at(
         s.x,
         s.width,
         s.y,
@@ -136,7 +202,6 @@ pub fn feed_row(s: Reader, store: &mut [i32], l: Level, n: Next, complete: bool,
         store,
         k,
         n.at,
-        complete,
     )
 }
 

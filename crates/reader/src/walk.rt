@@ -228,7 +228,7 @@ pub fn put_row(
 }
 
 // The set of l, level k + 1, worked out in the level's own stretch; an empty level has none.
-fn work_at(
+pub fn work_at(
     x: usize,
     width: usize,
     y: usize,
@@ -294,31 +294,6 @@ pub fn settle(
         }
     }
     true
-}
-
-// The set of l, level k + 1, worked out if it is complete.
-pub fn finish(
-    x: usize,
-    width: usize,
-    y: usize,
-    height: usize,
-    levels: usize,
-    drawn: usize,
-    store: &mut [i32],
-    k: usize,
-    l: Level,
-    complete: bool,
-) -> bool
-    requires { ⌜ Small (side x width) (side y height) drawn × (levels ≤ maxLevels) × (k < levels) × IsLevel (side x width) (side y height) drawn k l ×
-        (storeLength (side x width) levels ≤ length (now store)) ⌝ }
-    ensures { λ ok. ⌜ outcome ok (at (now (store .exit))) ≡
-        pick complete (workedAt (side x width) (side y height) levels k (l .set) (at (now (store .entry)))) (passed (at (now (store .entry)))) ⌝ }
-    ensures { λ _. ⌜ Kept (storeLength (side x width) levels) (at (now (store .entry))) (at (now (store .exit))) ⌝ }
-{
-    if !complete {
-        return true;
-    }
-    work_at(x, width, y, height, levels, drawn, store, k, l)
 }
 
 // Where number n of level `level` begins, which takes row `row` of the level's low-low part, of the columns from x on and the rows from y on: past each level

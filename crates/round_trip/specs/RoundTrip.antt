@@ -7,6 +7,7 @@ use lib.IntN.{ℤ, pos}
 use lib.ListN.{length, getD}
 use lib.Dec.{eqb}
 use Rattle.numbers.specs.Signal.{pick, both}
+use Rattle.lifting.specs.FiveThree.{fiveThreeFilter}
 use Rattle.wavelet.specs.Limits.{maxSample, maxOrigin}
 use Rattle.wavelet.specs.Bands.{Grid, code}
 use Rattle.wavelet.specs.Plane.{cells}
@@ -97,5 +98,5 @@ module _ (W H : Side) (L n : ℕ) (y : ℕ → ℤ) (plane : ℕ → ℤ) (outs 
 
   -- of a map's plane it hands back that map and says Done; of a plane that no map has, it gives 7 or 14 and never says Done
   pub record FromPlane : Type 0 where
-    pub map-back : (g : Grid) → HasPlane L W H g (cells (W .length) plane) → Back W H g planeRead planeThen
-    pub no-map : ((g : Grid) → HasPlane L W H g (cells (W .length) plane) → ⊥) → Stopped planeRead planeThen
+    pub map-back : (g : Grid) → HasPlane fiveThreeFilter L W H g (cells (W .length) plane) → Back W H g planeRead planeThen
+    pub no-map : ((g : Grid) → HasPlane fiveThreeFilter L W H g (cells (W .length) plane) → ⊥) → Stopped planeRead planeThen

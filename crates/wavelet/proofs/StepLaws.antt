@@ -147,24 +147,24 @@ module _ (a : ℕ) (o : 1 ≤ a) (v : RowName → ℕ) where
 
   -- what the sets of a level set off weighs what the order has of the level and of those below it
   abbrev LevelWeighs : ℕ → ℕ → Side → Side → Type 0
-  LevelWeighs l k W H = weigh v (inTurn (setsBefore a H (H .length)) (λ n. bandRowsOf (setSteps a l k W H n))) ≡ weigh v (ordered (suc l) k W H)
+  LevelWeighs l k W H = weigh v (inTurn (setsBefore a H (H .length)) (λ n. bandRowsOf (setSteps a l k W H n))) ≡ weigh v (ordered a (suc l) k W H)
 
   level-none : (l k : ℕ) (W H : Side) → H .length ≡ 0 → LevelWeighs l k W H
   level-none l k W H e =
       let f : ℕ → List RowName = λ n. bandRowsOf (setSteps a l k W H n) in
-      let g = madeBy (suc l) k W (H .start) in
+      let g = madeBy a (suc l) k W (H .start) in
       ap (weigh v)
       (ap (λ i. inTurn i f) (ap (setsBefore a H) e ∙ before-zero a H)
       ∙ turn-zero f
-      ∙ sym (ap₂ _++_ (ap (λ i. inTurn i g) e ∙ turn-zero g) (closing-empty (suc l) k W H e)))
+      ∙ sym (ap₂ _++_ (ap (λ i. inTurn i g) e ∙ turn-zero g) (closing-empty a (suc l) k W H o e)))
 
   level-last : (k : ℕ) (W H : Side) → 0 < H .length → LevelWeighs 0 k W H
   level-last k W H p =
       let N = lastSet H + 1 in
       ap (λ i. weigh v (inTurn i (λ n. bandRowsOf (setSteps a 0 k W H n)))) (before-all a H o p)
       ∙ weigh-same N _ (setRows 0 k W H) (rows-last a k W H)
-      ∙ sym (ordered-weighs v 0 k W H
-      ∙ ap (λ t. weigh v (inTurn N (setRows 0 k W H)) + weigh v t) (ordered-none (suc k) (next W) (next H))
+      ∙ sym (ordered-weighs v a 0 k W H o
+      ∙ ap (λ t. weigh v (inTurn N (setRows 0 k W H)) + weigh v t) (ordered-none a (suc k) (next W) (next H))
       ∙ unfold weigh in omega arith)
 
   level-on : (l k : ℕ) (W H : Side) → 0 < H .length → LevelWeighs l (suc k) (next W) (next H) → LevelWeighs (suc l) k W H
@@ -176,7 +176,7 @@ module _ (a : ℕ) (o : 1 ≤ a) (v : RowName → ℕ) where
       ∙ ap (λ i. i + weigh v (inTurn N (setRows (suc l) k W H)))
       (ap (weigh v) (sym (rows-turn N _) ∙ ap bandRowsOf (needed-all a l k W H p) ∙ rows-turn _ _) ∙ below)
       ∙ omega arith
-      ∙ sym (ordered-weighs v (suc l) k W H)
+      ∙ sym (ordered-weighs v a (suc l) k W H o)
 
   level-weighs : (l k : ℕ) (W H : Side) → LevelWeighs l k W H
   level-weighs zero k W H = elim (decLt 0 (H .length)) [ yes p ↦ level-last k W H p | no p ↦ level-none 0 k W H (omega arith) ]
@@ -189,7 +189,7 @@ module _ (a : ℕ) (o : 1 ≤ a) (v : RowName → ℕ) where
   unfolding bandRowsOf
   row-weighs f n = weigh-same n _ _ (λ r. rows-append (f r) (draw r ∷ []) ∙ append-nil _)
 
-  steps-weigh : (W H : Side) (l : ℕ) → weigh v (bandRowsOf (steps a W H (suc l))) ≡ weigh v (made W (H .start) (suc l) (H .length) true)
+  steps-weigh : (W H : Side) (l : ℕ) → weigh v (bandRowsOf (steps a W H (suc l))) ≡ weigh v (made a W (H .start) (suc l) (H .length) true)
   unfolding steps made
   steps-weigh W H l =
       let e : suc l - 1 ≡ l = omega arith in
@@ -202,7 +202,7 @@ module _ (a : ℕ) (o : 1 ≤ a) (v : RowName → ℕ) where
 pub steps-once : (a : ℕ) → 1 ≤ a → (W H : Side) (L : ℕ) → 0 < L → (x : RowName)
     → times x (bandRowsOf (steps a W H L)) ≡ pick (bandRowExists W H L (x .level) (x .band) (x .row)) 1 0
 steps-once a o W H zero q x = absurd (omega arith)
-steps-once a o W H (suc l) q x = times-weigh x _ ∙ steps-weigh a o _ W H l ∙ sym (times-weigh x _) ∙ made-once W H (suc l) x
+steps-once a o W H (suc l) q x = times-weigh x _ ∙ steps-weigh a o _ W H l ∙ sym (times-weigh x _) ∙ made-once a o W H (suc l) x
 
 -- ---- each height row once, in order
 heights-append : (s t : List Step) → heightRowsOf (s ++ t) ≡ heightRowsOf s ++ heightRowsOf t
