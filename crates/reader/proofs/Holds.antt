@@ -26,7 +26,7 @@ use Rattle.reader.specs.Rebuilt.{Rows, bandsBy, rebuilt, bandsAt, partAt
 use Rattle.reader.specs.Holds.{Tested, M, Ready}
 use Rattle.level.specs.Tried.{Tried, passed, bind, onto}
 use Rattle.level.specs.Stands.{SetHas, fiveThreeStands}
-use Rattle.reader.specs.Store.{stretchAt, from, behind, hasCells, fedAt, workedAt}
+use Rattle.reader.specs.Store.{stretchAt, from, behind, hasCells, fedAt, workedAt, hasSet}
 use Rattle.reader.specs.Machine.{Spot, spot, bandAt, lastOfSet, nextUp, settled, finished, past, beyond, fedOn, dive, begins, enter}
 use Rattle.reader.proofs.Looks.{named-code, code-lt, first-le}
 use Rattle.reader.proofs.OpenedSets.{last-is, first-low, low-is, side-long, odd-first, makes-yes, makes-not, row-makes, row-next, opens-yes}
@@ -337,8 +337,8 @@ module _ (W H : Side) (l : ℕ) (P : Rows) where
     }
 
     work-made : Outcome Fits (Worked k n) (workedAt W H (suc l) k n x)
-    unfolding workedAt
-    work-made = rw (live .1) (onto-outcome _ _ _ _ (behind (stretchAt W k) x) _ (λ f. record { has = f k live .has; fit = f k live .fit })
+    unfolding workedAt hasSet
+    work-made = rw (live .1, le-leb n (lastSet (sideAt k H)) there) (onto-outcome _ _ _ _ (behind (stretchAt W k) x) _ (λ f. record { has = f k live .has; fit = f k live .fit })
         worked-of (go (ℕ-discrete k l)))
       where
         some : 0 < sideAt k H .length

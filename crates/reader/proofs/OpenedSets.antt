@@ -100,6 +100,10 @@ pub row-there : (S : Side) (n : ℕ) → 0 < S .length → firstRow S n < S .len
 row-there S zero p = unfold firstRow in p
 row-there S (suc n) p = omega (arith, row-is S n)
 
+pub row-in : (S : Side) (n : ℕ) → firstRow S n ≤ S .length
+row-in S zero = unfold firstRow in omega arith
+row-in S (suc n) = omega (arith, row-is S n)
+
 -- no other row is so
 to-only : (S : Side) (n r : ℕ) → setsBefore ahead S r ≤ suc n → suc n ≤ setOf ahead S r → rowTo S n ≡ r
 to-only S n zero b m = at (S .start % 2) refl

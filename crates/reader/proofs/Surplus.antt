@@ -14,7 +14,7 @@ use Rattle.wavelet.specs.Store.{storeLength}
 use Rattle.reader.specs.declared.Reader.{Reader}
 use Rattle.reader.specs.Sets.{K, waiting}
 use Rattle.level.specs.Tried.{Tried, passed, bind, onto, memory}
-use Rattle.reader.specs.Store.{stretchAt, from, behind, zeroed, hasCells, fedAt, workedAt}
+use Rattle.reader.specs.Store.{stretchAt, from, behind, zeroed, hasSet, fedAt, workedAt}
 use Rattle.reader.specs.Machine.{lastOfSet, settled, finished, fedOn}
 use Rattle.reader.specs.State.{columns, rows, spotNow, next, settles, feeds, drawDue}
 use Rattle.reader.specs.Questions.{setUpQuestion, feedQuestion, drawQuestion}
@@ -52,7 +52,7 @@ module _ (W H : Side) (L : ℕ) where
 
   worked-at-past : (k n : ℕ) (x : ℕ → ℤ) → k < L → Keeps N x (workedAt W H L k n x)
   unfolding workedAt
-  worked-at-past k n x h = go (hasCells (sideAt k W) (sideAt k H))
+  worked-at-past k n x h = go (hasSet (sideAt k W) (sideAt k H) n)
     where
       go : (t : Bool) → Keeps N x (pick t
           (onto (behind (stretchAt W k) x) (K .work (eqb (suc k) L) k (sideAt k W) (sideAt k H) n (from (stretchAt W k) x))) (passed x))

@@ -19,8 +19,8 @@ ghost use Rattle.wavelet.specs.Limits.{maxWidth, maxHeight, maxLevels, maxOrigi
 ghost use Rattle.wavelet.specs.Shape as shape;
 ghost use Rattle.areas.specs.Areas.{heightsAt};
 ghost use Rattle.reader.specs.Machine.{spot, placeOf};
-ghost use Rattle.reader.specs.Inside.{Counts, Due};
-ghost use Rattle.reader.specs.State.{rows, wants, movedTo, endedReader};
+ghost use Rattle.reader.specs.Inside.{Small, Due};
+ghost use Rattle.reader.specs.State.{columns, rows, wants, movedTo, endedReader};
 ghost use Rattle.reader.specs.Questions.{setUpQuestion, wantQuestion, feedQuestion, drawQuestion};
 ghost use Rattle.reader.specs.Holds.{SetUpHolds, FeedKeeps, DrawKeeps};
 ghost use Rattle.reader.specs.Answers.{gives, ofSetUp, ofWanted, ofFed, ofDrawn};
@@ -253,7 +253,7 @@ impl Reader {
 
     // The reader at another place.
     fn moved(self, drawn: usize, p: Spot) -> Reader
-        requires { ⌜ Counts self × (drawn ≤ self .height) × (p .level ≤ self .levels) ⌝ }
+        requires { ⌜ Small (columns self) (rows self) drawn × (p .level ≤ maxLevels) ⌝ }
         ensures { λ r. ⌜ r ≡ movedTo self drawn (placeOf (rows self) drawn (spot (p .level) (p .set) (p .band))) ⌝ }
     {
         Reader {

@@ -14,13 +14,21 @@ ghost use Rattle.reader.specs.Sets.{ahead, firstRow, makes};
 ghost use Rattle.reader.specs.Asked.{named, nextBand};
 ghost use Rattle.reader.specs.Store.{hasCells};
 
-// How far a level looks ahead, and the last set of a level.
+// How far a level looks ahead.
 pub fn look_ahead() -> usize
     ensures { λ a. ⌜ a ≡ ahead ⌝ }
 {
     1
 }
 
+// a less b, 0 where b is more.
+pub fn less(a: usize, b: usize) -> usize
+    ensures { λ r. ⌜ r ≡ a - b ⌝ }
+{
+    if a < b { 0 } else { a - b }
+}
+
+// The last set of a level.
 pub fn last_set(y: usize, h: usize) -> usize
     requires { ⌜ h < 2 ^ 32 ⌝ }
     ensures { λ n. ⌜ n ≡ lastSet (side y h) ⌝ }
@@ -69,9 +77,7 @@ pub fn first_row(y: usize, h: usize, n: usize) -> usize
     if (n == 0) | (h == 0) {
         return 0;
     }
-    let a = look_ahead();
-    let t = if n < a { 0 } else { n - a };
-    let r = 2 * t + 1 - y % 2;
+    let r = 2 * less(n, look_ahead()) + 1 - y % 2;
     if r < h { r } else { h - 1 }
 }
 
@@ -86,8 +92,7 @@ pub fn is_making(y: usize, h: usize, n: usize) -> bool
 pub fn row_below(y: usize, n: usize) -> usize
     ensures { λ q. ⌜ ((h : ℕ) → q ≡ n - firstSet (side y h) lo) ⌝ }
 {
-    let p = y % 2;
-    if n < p { 0 } else { n - p }
+    less(n, y % 2)
 }
 
 // The columns of a band.

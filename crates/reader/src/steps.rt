@@ -11,10 +11,12 @@ ghost use Prim.Native.Nat.{_-_, _<_, _≤_};
 ghost use lib.ListN.{length};
 ghost use Rattle.numbers.specs.Signal.{at};
 ghost use Rattle.level.specs.Tried.{outcome};
+ghost use Rattle.wavelet.specs.Limits.{maxLevels};
 ghost use Rattle.wavelet.specs.Store.{storeLength};
+ghost use Rattle.reader.specs.Sets.{needed};
 ghost use Rattle.reader.specs.Machine.{spot, placeOf, past, spotFed};
 ghost use Rattle.reader.specs.State.{columns, rows, next, nextRow, nextLength, settles, feeds};
-ghost use Rattle.reader.specs.Inside.{Counts, Is, Collected, Due, Completing};
+ghost use Rattle.reader.specs.Inside.{Counts, Small, Is, Collected, Due, Completing};
 ghost use Rattle.level.specs.Rebuilding.{Kept};
 
 // The reader's own level, at the set that is collected.
@@ -23,8 +25,7 @@ pub fn own_level(s: Reader) -> Level
     ensures { λ l. ⌜ Collected s l ⌝ }
 {
     let l = walk::level_at(s.x, s.width, s.y, s.height, s.drawn, s.level - 1);
-    let n = if l.last < s.back { 0 } else { l.last - s.back };
-    walk::at_set(l, n)
+    walk::at_set(l, sets::less(l.last, s.back))
 }
 
 // The band that is wanted of it, l; 4 where the row wanted is another one, which is rare.
@@ -245,15 +246,21 @@ pub fn spot_fed(s: Reader, n: Next, complete: bool) -> Spot
     spot_past(s, n)
 }
 
+// The last set of a level that row d needs; of level 0 row d.
+fn last_of(s: Reader, d: usize, level: usize) -> usize
+    requires { ⌜ Small (columns s) (rows s) d × (level ≤ maxLevels) ⌝ }
+    ensures { λ n. ⌜ n ≡ needed (rows s) 0 d level ⌝ }
+{
+    if level == 0 {
+        return d;
+    }
+    walk::level_at(s.x, s.width, s.y, s.height, d, level - 1).last
+}
+
 // How many sets the set of a place is before the last of its level that row d needs.
 pub fn back_of(s: Reader, d: usize, q: Spot) -> usize
-    requires { ⌜ Counts s × (d ≤ s .height) × (q .level ≤ s .levels) ⌝ }
+    requires { ⌜ Small (columns s) (rows s) d × (q .level ≤ maxLevels) ⌝ }
     ensures { λ b. ⌜ b ≡ placeOf (rows s) d (spot (q .level) (q .set) (q .band)) .back ⌝ }
 {
-    let last = if q.level == 0 {
-        d
-    } else {
-        walk::level_at(s.x, s.width, s.y, s.height, d, q.level - 1).last
-    };
-    if last < q.set { 0 } else { last - q.set }
+    sets::less(last_of(s, d, q.level), q.set)
 }

@@ -248,6 +248,9 @@ pub fn work_at(
     if (l.width == 0) | (l.height == 0) {
         return true;
     }
+    if sets::last_set(l.y, l.height) < l.set {
+        return true;
+    }
     let a = l.start;
     rebuilding::work_set(
         &mut store[a..],
