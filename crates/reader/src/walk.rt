@@ -104,7 +104,15 @@ pub fn at_set(l: Level, n: usize) -> Level
 }
 
 // Level k, at the set that waits while l, level k + 1, is at its own.
-pub fn finer(x: usize, width: usize, y: usize, height: usize, drawn: usize, k: usize, l: Level) -> Level
+pub fn finer(
+    x: usize,
+    width: usize,
+    y: usize,
+    height: usize,
+    drawn: usize,
+    k: usize,
+    l: Level,
+) -> Level
     requires { ⌜ Small (side x width) (side y height) drawn × IsLevel (side x width) (side y height) drawn k l × (0 < k) × (k ≤ maxLevels) ⌝ }
     ensures { λ m. ⌜ IsLevel (side x width) (side y height) drawn (k - 1) m × (m .set ≡ waiting (side y height) k (l .set)) ⌝ }
 {

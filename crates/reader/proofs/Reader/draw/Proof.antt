@@ -176,8 +176,7 @@ moved-requires c κs =
     let one = store-in s _ (sym (ok .before .store-question .ensures) ∙ ok .if1 .left) in
     let shape = counts-small s (one .0) in
     let draws = due-in s (sym (due .before .draw-due .ensures) ∙ not-false _ (due .if2 .left)) in
-    let deep = dive-level (s .levels - 0) 0 (columns s) (rows s) (s .drawn + 1) (s .drawn + 1) in
-    (
+    let deep = dive-level (s .levels - 0) 0 (columns s) (rows s) (s .drawn + 1) (s .drawn + 1) in (
       (shape .0, shape .1, shape .2, shape .3, omega (arith, draws .0)),
       omega (arith, deep, c .dive-from .ensures .level, one .0 .deep .1),
     )

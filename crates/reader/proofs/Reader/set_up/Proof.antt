@@ -2,7 +2,9 @@
 use mathlib.Core.Path.{_∙_, sym, refl}
 use Prim.Native.Nat.{_-_}
 use native.Mathlib.Omega.{arith}
+use mathlib.Core.Bool.{false}
 use lib.ListN.{length}
+use Rattle.reader.specs.declared.Reader.{Reader}
 use borrow.Author.Needs.{needs}
 use borrow.Author.Tests.{le-leb}
 use Rattle.numbers.specs.Signal.{at}
@@ -62,8 +64,7 @@ moved-requires c κs =
     let w = within-true 1 maxWidth (a .map .width) (ok .0) in
     let l = within-true 1 maxLevels (a .map .levels) (ok .1) in
     let h = within-true 1 maxHeight (a .map .height) (ok .3) in
-    let deep = dive-level (a .map .levels - 0) 0 (side (a .map .x) (a .map .width)) (side (a .map .y) (a .map .height)) 0 0 in
-    (
+    let deep = dive-level (a .map .levels - 0) 0 (side (a .map .x) (a .map .width)) (side (a .map .y) (a .map .height)) 0 0 in (
       (omega (arith, w .1, width-small), omega arith, omega (arith, h .1, height-small), omega arith, omega arith),
       omega (arith, l .1, deep, c .dive-from .ensures .level),
     )
@@ -84,7 +85,19 @@ returns-2 c =
     let ok = up-in W H (a .map .levels) _ asked in
     let n = long .store-length .ensures ∙ length-is W (a .map .levels) (ok .0) (ok .1) in
     let room = le-leb (long .store-length .result) (length (a .store .now)) (omega (arith, ok .2, n)) in
-    let there = fresh-at W H (a .map .levels) _ (c .moved .result) (dive .dive-from .result) (enter-is W H (a .map .levels) 0 _ (dive .dive-from .ensures)) refl refl
+    let s : Reader = record {
+      width = a .map .width;
+      height = a .map .height;
+      levels = a .map .levels;
+      x = a .map .x;
+      y = a .map .y;
+      drawn = 0;
+      level = 0;
+      back = 0;
+      band = 0;
+      ended = false;
+    } in
+    let there = fresh-at W H (a .map .levels) s (c .moved .result) (dive .dive-from .result) (enter-is W H (a .map .levels) 0 _ (dive .dive-from .ensures)) refl refl
     refl (c .moved .ensures) in
     set-up-also W H (a .map .levels) (length (a .store .now)) (at (a .store .now))
     (set-up-yes W H (a .map .levels) _ _ _ _ _ there asked n (did _ _ _ _ room (call .clear .ensures .1)))

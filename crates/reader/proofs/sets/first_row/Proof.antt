@@ -33,8 +33,11 @@ returns-2 c =
     let some = t .before .before in
     let a = some .before .args in
     let h = row-high (side (a .y) (a .h)) (a .n) (some .if1 .left) in
-    omega (arith, row-some (side (a .y) (a .h)) (a .n) (t .less .result) (2 * t .less .result + 1 - a .y % 2) (h .0)
-    (omega (arith, t .less .ensures, t .before .look-ahead .ensures)) (omega arith))
+    omega (
+      arith,
+      row-some (side (a .y) (a .h)) (a .n) (t .less .result) (2 * t .less .result + 1 - a .y % 2) (h .0)
+          (omega (arith, t .less .ensures, t .before .look-ahead .ensures)) (omega arith),
+    )
 
 returns-3 : tie.Need-returns-3
 returns-3 c =
@@ -42,8 +45,11 @@ returns-3 c =
     let some = t .before .before in
     let a = some .before .args in
     let h = row-high (side (a .y) (a .h)) (a .n) (some .if1 .left) in
-    omega (arith, row-some (side (a .y) (a .h)) (a .n) (t .less .result) (2 * t .less .result + 1 - a .y % 2) (h .0)
-    (omega (arith, t .less .ensures, t .before .look-ahead .ensures)) (omega arith))
+    omega (
+      arith,
+      row-some (side (a .y) (a .h)) (a .n) (t .less .result) (2 * t .less .result + 1 - a .y % 2) (h .0)
+          (omega (arith, t .less .ensures, t .before .look-ahead .ensures)) (omega arith),
+    )
 
 pub first-row-spec : {M : Type 1} → statement M
 first-row-spec =

@@ -29,15 +29,21 @@ returns-2 : tie.Need-returns-2
 returns-2 c =
     let last = c .before in
     let a = last .before .before .before .args in
-    omega (arith, set-later (side (a .y) (a .h)) (a .r) ((a .y % 2 + a .r - 1) / 2 + last .before .look-ahead .result) (last .last-set .result) (omega arith)
-    (omega (arith, last .before .look-ahead .ensures)) (last .last-set .ensures))
+    omega (
+      arith,
+      set-later (side (a .y) (a .h)) (a .r) ((a .y % 2 + a .r - 1) / 2 + last .before .look-ahead .result) (last .last-set .result) (omega arith)
+          (omega (arith, last .before .look-ahead .ensures)) (last .last-set .ensures),
+    )
 
 returns-3 : tie.Need-returns-3
 returns-3 c =
     let last = c .before in
     let a = last .before .before .before .args in
-    omega (arith, set-later (side (a .y) (a .h)) (a .r) ((a .y % 2 + a .r - 1) / 2 + last .before .look-ahead .result) (last .last-set .result) (omega arith)
-    (omega (arith, last .before .look-ahead .ensures)) (last .last-set .ensures))
+    omega (
+      arith,
+      set-later (side (a .y) (a .h)) (a .r) ((a .y % 2 + a .r - 1) / 2 + last .before .look-ahead .result) (last .last-set .result) (omega arith)
+          (omega (arith, last .before .look-ahead .ensures)) (last .last-set .ensures),
+    )
 
 pub set-of-spec : {M : Type 1} → statement M
 set-of-spec =

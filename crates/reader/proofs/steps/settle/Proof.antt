@@ -34,8 +34,7 @@ returns-2 : tie.Need-returns-2
 returns-2 c =
     let call = c .before in
     let level = call .before in
-    let start = level .before .before .before .before .before in
-    (
+    let start = level .before .before .before .before .before in (
       call .settle .ensures .0 ∙ settles-is (start .args .s) (start .args .n .spot) (start .pre .1 .spot) _ (level .own-level .ensures .1) _,
       call .settle .ensures .1,
     )
