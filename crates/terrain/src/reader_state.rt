@@ -8,9 +8,6 @@ ghost use Rattle.terrain.specs.ReaderState.{isReader, readerOf, readerWo
 pub fn is_reader(s: &[u64; 16]) -> bool
     ensures { λ r. ⌜ r ≡ isReader (now (s .entry)) ⌝ }
 {
-    if 1 < s[10] {
-        return false;
-    }
     if s[0] != 2 {
         return false;
     }
@@ -34,7 +31,7 @@ pub fn unpack_reader(s: &[u64; 16]) -> Reader
         ended: s[7] == 1,
         x: s[8] as usize,
         y: s[9] as usize,
-        alone: s[10] == 1,
+        back: s[10] as usize,
     }
 }
 
@@ -43,7 +40,6 @@ pub fn pack_reader(r: Reader, s: &mut [u64; 16])
     ensures { λ _. ⌜ now (s .exit) ≡ readerWords r ⌝ }
 {
     let ended = states::flag_of(r.ended);
-    let alone = states::flag_of(r.alone);
     *s = [
         2,
         r.width as u64,
@@ -55,7 +51,7 @@ pub fn pack_reader(r: Reader, s: &mut [u64; 16])
         ended,
         r.x as u64,
         r.y as u64,
-        alone,
+        r.back as u64,
         0,
         0,
         0,
