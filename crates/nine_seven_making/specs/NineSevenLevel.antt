@@ -82,6 +82,10 @@ highWaits W H n x = pick (hasRow H hi n) (rowLifted W (2 * n + 7) (rowCopied (W 
 unfoldable pub setMade : Side → Side → ℕ → Memory → Memory
 setMade W H n x = highWaits W H n (lowWaits W H n (highMade (W .length) H n x))
 
+-- Row m completes a set, the one whose row 2n + 4 it is.
+unfoldable pub completes97 : ℕ → ℕ → Bool
+completes97 s m = both (eqb ((s % 2 + m) % 2) 0) (ltb 3 (s % 2 + m))
+
 -- the rows that start at s, up to row 2n + 4
 abbrev pub rowsTo : ℕ → ℕ → Side
 rowsTo s n = side s (2 * n + 5 - s % 2)
@@ -91,3 +95,46 @@ bandPlace W n LL = slot (W .length) (2 * n + 6)
 bandPlace W n HL = slot (W .length) (2 * n + 6) + count lo W
 bandPlace W n LH = slot (W .length) (2 * n + 7)
 bandPlace W n HH = slot (W .length) (2 * n + 7) + count lo W
+
+-- ---- what its store means
+-- the first c columns of row y stand in the slot of row q
+abbrev pub RowStands : Side → ℕ → ℕ → (ℕ → ℤ) → Memory → Type 0
+RowStands W q c y x = (i : ℕ) → i < c → x (cellOf W q i) ≡ y i
+
+-- a grid's columns lifted, then its rows, by the 9/7
+unfoldable pub columnsLifted97 : (ℤ → ℤ) → Side → Grid → Half → Grid
+columnsLifted97 keep H g h r c = lineForward keep H (λ i. g i c) h r
+
+unfoldable pub subband97 : (ℤ → ℤ) → Side → Side → Grid → Band → Grid
+subband97 keep W H g b r = lineForward keep W (columnsLifted97 keep H g (down b) r) (across b)
+
+-- what a level of the columns W holds after m rows of the grid g and c columns of row m
+pub record Kept (W H : Side) (g : Grid) (m c : ℕ) (x : Memory) : Type 0 where
+  -- the even rows, until the set after their own is made
+  pub even : (n : ℕ) → H .start % 2 ≤ n → 2 * n + 1 ≤ H .start % 2 + m → H .start % 2 + m ≤ 2 * n + 6
+      → RowStands W (2 * n) (W .length) (g (2 * n - H .start % 2)) x
+  -- the odd rows, until their own set is made
+  pub odd : (n : ℕ) → 2 * n + 2 ≤ H .start % 2 + m → H .start % 2 + m ≤ 2 * n + 4
+      → RowStands W (2 * n + 1) (W .length) (g (2 * n + 1 - H .start % 2)) x
+  -- d(n) of the last set made
+  pub high : (n : ℕ) → 2 * n + 5 ≤ H .start % 2 + m → H .start % 2 + m ≤ 2 * n + 6
+      → RowStands W (2 * n + 1) (W .length) (columnsLifted97 wrap32 H g hi n) x
+  -- the row begun
+  pub begun : RowStands W (H .start % 2 + m) c (g m) x
+
+-- what it holds when all rows H are there and the sets before n are made
+pub record Left (W H : Side) (g : Grid) (n : ℕ) (x : Memory) : Type 0 where
+  -- there is no row past 2n + 4
+  pub near : H .start % 2 + H .length ≤ 2 * n + 5
+  -- the even rows from 2n − 2 on
+  pub even : (i : ℕ) → H .start % 2 ≤ i → n ≤ i + 1 → 2 * i < H .start % 2 + H .length → RowStands W (2 * i) (W .length) (g (2 * i - H .start % 2)) x
+  -- the odd rows from 2n + 1 on
+  pub odd : (i : ℕ) → n ≤ i → 2 * i + 1 < H .start % 2 + H .length → RowStands W (2 * i + 1) (W .length) (g (2 * i + 1 - H .start % 2)) x
+  -- d(n − 1)
+  pub high : (i : ℕ) → n ≡ suc i → 2 * i + 1 < H .start % 2 + H .length → RowStands W (2 * i + 1) (W .length) (columnsLifted97 wrap32 H g hi i) x
+
+-- the rows of set n stand where they wait
+abbrev pub SetStands97 : Side → Side → Grid → ℕ → Memory → Type 0
+SetStands97 W H g n x =
+    (b : Band) (i : ℕ) → firstSet H (down b) ≤ n → setRow H b n < count (down b) H → i < count (across b) W
+    → x (bandPlace W n b + i) ≡ subband97 wrap32 W H g b (setRow H b n) i
