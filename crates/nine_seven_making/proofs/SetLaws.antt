@@ -139,7 +139,7 @@ module _ (s n : ℕ) (f : 2 ≤ n) where
   highs : count hi R ≡ n + 2
   highs = omega (arith, count-hi R)
 
-  lows : count lo R ≡ n + 3 - s % 2
+  lows : n + 2 ≤ s % 2 + count lo R
   lows = omega (arith, count-lo R)
 
   has-high : hasRow R hi n ≡ true
@@ -161,7 +161,7 @@ module _ (s n : ℕ) (f : 2 ≤ n) where
 
   three-after : rowAfter R 3 (2 * n + 1) ≡ 2 * n + 4
   three-after =
-      far-after-high R long n (omega (arith, highs)) ∙ omega (arith, far-less (count lo R) (count hi R) (1 - s % 2) n (omega (arith, highs)), lows)
+      far-after-high R long n (omega (arith, highs)) ∙ omega (arith, far-less (count lo R) (count hi R) (1 - s % 2) n (omega (arith, highs)), count-lo R)
 
   low-before : rowBefore R 1 (2 * n) ≡ 2 * n - 1
   low-before = before-low R long n (omega arith) (omega (arith, lows)) ∙ omega (arith, highs)
