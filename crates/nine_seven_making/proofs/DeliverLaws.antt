@@ -14,7 +14,7 @@ use Rattle.wavelet.specs.Levels.{next}
 use Rattle.level.specs.Level.{rest}
 use Rattle.level.proofs.RestLaws.{join-splice}
 use Rattle.level.proofs.DeliverLaws.{parted-any}
-use Rattle.nine_seven_making.specs.NineSevenLevel.{slot, rowPut, bandPlace}
+use Rattle.nine_seven_making.specs.NineSevenLevel.{slot, rowPut, waitsAt, bandPlace}
 use Rattle.nine_seven_making.specs.Making.{delivered}
 
 -- the row is parted past what is read, within the store
@@ -22,7 +22,7 @@ pub part-fits : (a b v k : ℕ) → a + v ≤ b → b + v ≤ k → both (leb (a
 part-fits a b v k f g = simp (le-leb (a + v) b f, le-leb (b + v) k g)
 
 -- written straight into its place
-pub delivered-as : (W : Side) (n q a b start v : ℕ) (x y : ℕ → ℤ) → a ≡ slot (W .length) (2 * n + 6) → v ≡ count lo W → b ≡ 8 * W .length + slot v q
+pub delivered-as : (W : Side) (n q a b start v : ℕ) (x y : ℕ → ℤ) → a ≡ slot (W .length) (waitsAt lo n) → v ≡ count lo W → b ≡ 8 * W .length + slot v q
     → start ≡ next W .start → y ≡ spliced b v (partedInto (side start v) (λ i. x (a + i)) x) x → y ≡ delivered W n q x
 unfolding delivered rowPut bandPlace next
 delivered-as W n q a b start v x y ea ev eb es e =

@@ -6,9 +6,9 @@ use Prim.Native.Nat.{ℕ, suc, _+_, _-_, _*_, _/_, _%_, _≤_, _<_}
 use native.Mathlib.Decide.{decLt, ℕ-discrete}
 use native.Mathlib.Omega.{arith}
 use lib.IntN.{ℤ}
-use lib.Dec.{eqb, ltb}
-use borrow.Author.Tests.{eq-eqb, ltb-false}
-use Rattle.numbers.specs.Signal.{both, stored}
+use lib.Dec.{leb}
+use borrow.Author.Tests.{eq-eqb, leb-false}
+use Rattle.numbers.specs.Signal.{stored}
 use Rattle.numbers.specs.Word.{wrap32}
 use Rattle.numbers.proofs.Stores.{stored-at, stored-off}
 use Rattle.lifting.specs.Line.{Half, lo, hi}
@@ -16,14 +16,14 @@ use Rattle.lifting.specs.Grid.{Side, side, place, count}
 use Rattle.lifting.proofs.TwoSteps as two
 use Rattle.nine_seven.specs.NineSeven.{lineForward}
 use Rattle.nine_seven.proofs.NineSeven.{nine-seven}
-use Rattle.wavelet.specs.Bands.{Grid, Band, LL, HL, LH, HH, across, down}
-use Rattle.wavelet.specs.Order.{firstSet, lastSet, setRow}
-use Rattle.wavelet.proofs.SideLaws.{count-sum}
+use Rattle.nine_seven.specs.NineSevenFilter.{nineSevenFilter}
+use Rattle.wavelet.specs.Bands.{Grid, Band, across, down, columnsLifted, subband}
+use Rattle.wavelet.specs.Order.{firstSet, lastSet, setRow, unmade}
 use Rattle.level.specs.Level.{Memory}
 use Rattle.level.proofs.Slots.{spot-apart}
 use Rattle.nine_seven_making.specs.NineSevenLevel.{cellOf, rowPut, setMade, rowsTo, bandPlace, completes97}
-use Rattle.nine_seven_making.specs.NineSevenLevel.{RowStands, columnsLifted97, subband97, Kept, Left, SetStands97}
-use Rattle.nine_seven_making.proofs.Places.{slot-room}
+use Rattle.nine_seven_making.specs.NineSevenLevel.{RowStands, Kept, Left, SetStands97}
+use Rattle.nine_seven_making.proofs.Places.{place-room}
 use Rattle.nine_seven_making.proofs.Slots.{cell-spot, cell-in, apart, Only, only-past, only-row, put-only, put-row, stored-only}
 use Rattle.nine_seven_making.proofs.SetMade.{made-past, set-stands, set-left}
 
@@ -99,19 +99,19 @@ module _ (W H : Side) (g : Grid) (m : ℕ) (x : Memory) (k : Kept W H g m (W .le
 
   pub held-still : completes97 (H .start) m ≡ false → Kept W H g (m + 1) 0 x
   unfolding completes97
-  held-still e = held-more (λ z. let t : ltb 3 q ≡ false = rw (eq-eqb (q % 2) 0 z) at e in omega (arith, ltb-false 3 q t))
+  held-still e = held-more (λ z. let t : leb 4 q ≡ false = rw (eq-eqb (q % 2) 0 z) at e in omega (arith, leb-false 4 q t))
 
 -- it completes set n: the rows up to it are all that the set sees
 module _ (W H : Side) (g : Grid) (m n : ℕ) (t : H .start % 2 + m ≡ 2 * n + 4) (l : m < H .length) where
   abbrev R : Side
   R = rowsTo (H .start) n
 
-  same-row : (h : Half) (j : ℕ) → firstSet H h + j ≤ n → columnsLifted97 wrap32 H g h j ≡ columnsLifted97 wrap32 R g h j
-  unfolding columnsLifted97 firstSet place
+  same-row : (h : Half) (j : ℕ) → firstSet H h + j ≤ n → columnsLifted nineSevenFilter wrap32 H g h j ≡ columnsLifted nineSevenFilter wrap32 R g h j
+  unfolding columnsLifted firstSet place
   same-row lo j b = fun-ext λ c. two.forward-inner nine-seven wrap32 (H .start) (H .length) (R .length) (λ r. g r c) lo j (omega arith) (omega arith)
   same-row hi j b = fun-ext λ c. two.forward-inner nine-seven wrap32 (H .start) (H .length) (R .length) (λ r. g r c) hi j (omega arith) (omega arith)
 
-  same-high : (j : ℕ) → j ≤ n → columnsLifted97 wrap32 H g hi j ≡ columnsLifted97 wrap32 R g hi j
+  same-high : (j : ℕ) → j ≤ n → columnsLifted nineSevenFilter wrap32 H g hi j ≡ columnsLifted nineSevenFilter wrap32 R g hi j
   unfolding firstSet
   same-high j b = same-row hi j (omega arith)
 
@@ -138,8 +138,8 @@ module _ (W H : Side) (g : Grid) (m n : ℕ) (t : H .start % 2 + m ≡ 2 * n + 4
           begun = λ i p. absurd (omega arith);
         }
 
-    same-band : (b : Band) (i : ℕ) → firstSet H (down b) ≤ n → subband97 wrap32 W R g b (setRow H b n) i ≡ subband97 wrap32 W H g b (setRow H b n) i
-    unfolding subband97 setRow
+    same-band : (b : Band) (i : ℕ) → firstSet H (down b) ≤ n → subband nineSevenFilter wrap32 W R g b (setRow H b n) i ≡ subband nineSevenFilter wrap32 W H g b (setRow H b n) i
+    unfolding subband setRow
     same-band b i f =
         ap (λ (y : ℕ → ℤ). lineForward wrap32 W y (across b) i) (sym (same-row (down b) (n - firstSet H (down b)) (omega arith)))
 
@@ -162,12 +162,12 @@ module _ (W H : Side) (g : Grid) (m n : ℕ) (t : H .start % 2 + m ≡ 2 * n + 4
     make-stands b i f c h =
         let e = same-first (down b) in
         set-stands W R g n x left-so-far b i (omega arith) (rw e (in-both (down b) f)) h
-        ∙ ap (λ (j : ℕ). subband97 wrap32 W R g b j i) (same-number b)
+        ∙ ap (λ (j : ℕ). subband nineSevenFilter wrap32 W R g b j i) (same-number b)
         ∙ same-band b i f
 
 -- ---- all rows are there: the sets left are the last two, or the last
-pub held-ended : (W H : Side) (g : Grid) (x : Memory) → 0 < H .length → Kept W H g (H .length) 0 x → Left W H g (lastSet H - 1) x
-unfolding lastSet
+pub held-ended : (W H : Side) (g : Grid) (x : Memory) → 0 < H .length → Kept W H g (H .length) 0 x → Left W H g (unmade 2 H) x
+unfolding unmade lastSet
 held-ended W H g x h k = record {
   near = omega arith;
   even = λ i f a b. k .even i f (omega arith) (omega arith);
@@ -203,11 +203,7 @@ module _ (W H : Side) (g : Grid) (x y : Memory) (e : (j : ℕ) → j < 8 * W .le
   }
 
 pub place-in : (W : Side) (n : ℕ) (b : Band) (i : ℕ) → i < count (across b) W → bandPlace W n b + i < 8 * W .length
-unfolding bandPlace across
-place-in W n LL i h = omega (arith, slot-room (W .length) (2 * n + 6), count-sum W)
-place-in W n HL i h = omega (arith, slot-room (W .length) (2 * n + 6), count-sum W)
-place-in W n LH i h = omega (arith, slot-room (W .length) (2 * n + 7), count-sum W)
-place-in W n HH i h = omega (arith, slot-room (W .length) (2 * n + 7), count-sum W)
+place-in W n b i h = omega (arith, place-room W n b)
 
 pub cell-past : (W : Side) (s m c : ℕ) (v : ℤ) (x : Memory) (j : ℕ) → c < W .length → 8 * W .length ≤ j → stored (cellOf W (s % 2 + m) c) v x j ≡ x j
 cell-past W s m c v x j l h = only-past (stored-only W (s % 2 + m) c v x l) j h

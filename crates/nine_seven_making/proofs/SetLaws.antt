@@ -29,9 +29,9 @@ use Rattle.wavelet.specs.Order.{firstSet}
 use Rattle.wavelet.proofs.SideLaws.{count-lo, count-hi}
 use Rattle.level.proofs.SetLaws.{row-doubled}
 use Rattle.nine_seven_making.specs.NineSevenLevel.{slot, rowBefore, rowAfter, rowHigh, rowLow, rowCopied, rowLifted, hasRow}
-use Rattle.nine_seven_making.specs.NineSevenLevel.{highMade, lowWaits, highWaits, setMade, rowsTo}
+use Rattle.nine_seven_making.specs.NineSevenLevel.{highMade, lowWaits, highWaits, setMade, rowsTo, waitsAt}
 use Rattle.nine_seven_making.specs.Making.{levelFits, nextFits}
-use Rattle.nine_seven_making.proofs.Places.{slot-same, row-room, low-slot}
+use Rattle.nine_seven_making.proofs.Places.{slot-same, row-room, low-slot, by-four}
 use Rattle.nine_seven_making.proofs.NearRows.{before-high, after-high, far-before-high, far-after-high, before-low, after-low, has-row}
 
 -- a row lifted in a part of the store that is lent
@@ -77,14 +77,14 @@ module _ (w k : ℕ) (H : Side) (n h : ℕ) (x₀ x₁ : ℕ → ℤ) (room : 8 
 
 -- the copy of row 2n updated, or left
 module _ (w k : ℕ) (H : Side) (n : ℕ) (x₀ x₁ : ℕ → ℤ) where
-  pub low-done : (t l r : ℕ) → 8 * w ≤ k → 1 < H .length → t ≡ (2 * n + 6) % 8 → l ≡ rowBefore H 1 (2 * n) % 8 → r ≡ rowAfter H 1 (2 * n) % 8
-      → x₁ ≡ rowsChanged (updated wrap32) k w w t l r x₀ → x₁ ≡ rowLow w H (2 * n + 6) (2 * n) x₀
+  pub low-done : (t l r : ℕ) → 8 * w ≤ k → 1 < H .length → t ≡ waitsAt lo n % 8 → l ≡ rowBefore H 1 (2 * n) % 8 → r ≡ rowAfter H 1 (2 * n) % 8
+      → x₁ ≡ rowsChanged (updated wrap32) k w w t l r x₀ → x₁ ≡ rowLow w H (waitsAt lo n) (2 * n) x₀
   unfolding rowLow
   low-done t l r room g et el er e =
       let c = row-call (updated wrap32) k w t l r x₀ room (omega arith) (omega arith) (omega arith) in
       simp (lt-ltb 1 (H .length) g) (rw (← et, ← el, ← er) (e ∙ c))
 
-pub low-left : (w : ℕ) (H : Side) (n : ℕ) (x : ℕ → ℤ) → H .length ≤ 1 → x ≡ rowLow w H (2 * n + 6) (2 * n) x
+pub low-left : (w : ℕ) (H : Side) (n : ℕ) (x : ℕ → ℤ) → H .length ≤ 1 → x ≡ rowLow w H (waitsAt lo n) (2 * n) x
 unfolding rowLow
 low-left w H n x g = simp (le-ltb 1 (H .length) g)
 
@@ -98,25 +98,25 @@ module _ (W H : Side) (k n : ℕ) (x₀ : ℕ → ℤ) where
   unfolding highMade
   high-none t = simp t
 
-  pub low-laid : (x₁ x₂ x₃ : ℕ → ℤ) (l t b : ℕ) → hasRow H lo n ≡ true → 8 * W .length ≤ k → l ≡ 2 * n % 8 → t ≡ (2 * n + 6) % 8 → b % 8 ≡ (2 * n + 6) % 8
-      → x₁ ≡ rowsChanged first k (W .length) (W .length) t l l x₀ → x₂ ≡ rowLow (W .length) H (2 * n + 6) (2 * n) x₁ → x₃ ≡ rowLifted W b x₂
+  pub low-laid : (x₁ x₂ x₃ : ℕ → ℤ) (l t b : ℕ) → hasRow H lo n ≡ true → 8 * W .length ≤ k → l ≡ 2 * n % 8 → t ≡ waitsAt lo n % 8 → b % 8 ≡ waitsAt lo n % 8
+      → x₁ ≡ rowsChanged first k (W .length) (W .length) t l l x₀ → x₂ ≡ rowLow (W .length) H (waitsAt lo n) (2 * n) x₁ → x₃ ≡ rowLifted W b x₂
       → x₃ ≡ lowWaits W H n x₀
   unfolding lowWaits rowCopied
   low-laid x₁ x₂ x₃ l t b has room el et eb e₁ e₂ e₃ =
       let c = row-call first k (W .length) t l l x₀ room (omega arith) (omega arith) (omega arith) in
-      let f = lifted-same W b (2 * n + 6) x₂ eb in
+      let f = lifted-same W b (waitsAt lo n) x₂ eb in
       simp has (rw (← el, ← et) (cc (e₁, e₂, e₃, c, f)))
 
   pub low-none : hasRow H lo n ≡ false → x₀ ≡ lowWaits W H n x₀
   unfolding lowWaits
   low-none t = simp t
 
-  pub high-laid : (x₁ x₂ : ℕ → ℤ) (h t b : ℕ) → hasRow H hi n ≡ true → 8 * W .length ≤ k → h ≡ (2 * n + 1) % 8 → t ≡ (2 * n + 7) % 8 → b % 8 ≡ (2 * n + 7) % 8
+  pub high-laid : (x₁ x₂ : ℕ → ℤ) (h t b : ℕ) → hasRow H hi n ≡ true → 8 * W .length ≤ k → h ≡ (2 * n + 1) % 8 → t ≡ waitsAt hi n % 8 → b % 8 ≡ waitsAt hi n % 8
       → x₁ ≡ rowsChanged first k (W .length) (W .length) t h h x₀ → x₂ ≡ rowLifted W b x₁ → x₂ ≡ highWaits W H n x₀
   unfolding highWaits rowCopied
   high-laid x₁ x₂ h t b has room eh et eb e₁ e₂ =
       let c = row-call first k (W .length) t h h x₀ room (omega arith) (omega arith) (omega arith) in
-      let f = lifted-same W b (2 * n + 7) x₁ eb in
+      let f = lifted-same W b (waitsAt hi n) x₁ eb in
       simp has (rw (← eh, ← et) (cc (e₁, e₂, c, f)))
 
   pub high-unlaid : hasRow H hi n ≡ false → x₀ ≡ highWaits W H n x₀
@@ -169,10 +169,6 @@ module _ (s n : ℕ) (f : 2 ≤ n) where
   low-after : rowAfter R 1 (2 * n) ≡ 2 * n + 1
   low-after = after-low R long n (omega arith) (omega (arith, lows)) ∙ omega (arith, highs)
 
--- slots by a set's number modulo 4
-by-four : (n d : ℕ) → (2 * (n % 4) + d) % 8 ≡ (2 * n + d) % 8
-by-four n d = omega arith
-
 around : (n d : ℕ) → d ≤ 2 → 2 ≤ n → (2 * n - d) % 8 ≡ (2 * n + (8 - d)) % 8
 around n d h f = omega arith
 
@@ -220,7 +216,7 @@ module _ (W : Side) (s n k : ℕ) (a : 2 ≤ n) (b : 2 ≤ k) (e : n % 4 ≡ k %
   unfolding lowWaits rowLow rowCopied
   same-low x =
       let e₁ = here n k e in
-      let e₂ = on n k e 6 in
+      let e₂ : waitsAt lo n % 8 ≡ waitsAt lo k % 8 = on n k e _ in
       let e₃ = back n k e 1 (omega arith) a b in
       let e₄ = on n k e 1 in
       rw (
@@ -237,14 +233,14 @@ module _ (W : Side) (s n k : ℕ) (a : 2 ≤ n) (b : 2 ≤ k) (e : n % 4 ≡ k %
         e₃,
         e₄,
       )
-      (lifted-same W (2 * n + 6) (2 * k + 6) _ e₂)
+      (lifted-same W (waitsAt lo n) (waitsAt lo k) _ e₂)
 
   same-waits : (x : ℕ → ℤ) → highWaits W (rowsTo s n) n x ≡ highWaits W (rowsTo s k) k x
   unfolding highWaits rowCopied
   same-waits x =
       let e₁ = on n k e 1 in
-      let e₂ = on n k e 7 in
-      rw (has-high s n a, has-high s k b, e₁, e₂) (lifted-same W (2 * n + 7) (2 * k + 7) _ e₂)
+      let e₂ : waitsAt hi n % 8 ≡ waitsAt hi k % 8 = on n k e _ in
+      rw (has-high s n a, has-high s k b, e₁, e₂) (lifted-same W (waitsAt hi n) (waitsAt hi k) _ e₂)
 
   same-set : (x : ℕ → ℤ) → setMade W (rowsTo s n) n x ≡ setMade W (rowsTo s k) k x
   unfolding setMade

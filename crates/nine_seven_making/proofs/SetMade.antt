@@ -16,14 +16,15 @@ use Rattle.lifting.proofs.Neighbours.{left, right, left-in, right-in}
 use Rattle.nine_seven.specs.NineSeven.{predicted, updated, lineForward}
 use Rattle.nine_seven.proofs.MirrorLaws.{farBefore, farAfter, far-before-in, far-after-in, far-first, far-more, far-last, far-less}
 use Rattle.nine_seven.proofs.NineSevenLaws.{high-near, low-near, low-one, high-one}
-use Rattle.wavelet.specs.Bands.{Grid, LL, HL, LH, HH, across, down}
+use Rattle.nine_seven.specs.NineSevenFilter.{nineSevenFilter}
+use Rattle.wavelet.specs.Bands.{Grid, LL, HL, LH, HH, across, down, columnsLifted, subband}
 use Rattle.wavelet.specs.Order.{firstSet, setRow}
 use Rattle.wavelet.proofs.SideLaws.{count-lo, count-hi, count-sum}
 use Rattle.level.specs.Level.{Memory}
 use Rattle.level.specs.FiveThreeLevel.{doubled}
 use Rattle.level.proofs.SetRows.{ap₃}
 use Rattle.nine_seven_making.specs.NineSevenLevel.{slot, cellOf, rowBefore, rowAfter, rowHigh, rowLow, rowCopied, rowLifted, hasRow}
-use Rattle.nine_seven_making.specs.NineSevenLevel.{highMade, lowWaits, highWaits, setMade, bandPlace, RowStands, columnsLifted97, subband97, Left, SetStands97}
+use Rattle.nine_seven_making.specs.NineSevenLevel.{highMade, lowWaits, highWaits, setMade, waitsAt, bandPlace, RowStands, Left, SetStands97}
 use Rattle.nine_seven_making.proofs.NearRows.{high-place, low-place, before-high, after-high, far-before-high, far-after-high, before-low, after-low}
 use Rattle.nine_seven_making.proofs.NearRows.{has-row, no-row}
 use Rattle.nine_seven_making.proofs.Slots.{apart, apart′, Only, only-none, only-then, only-if, only-either, only-slot, only-past, only-row}
@@ -41,29 +42,29 @@ module _ (W H : Side) (n : ℕ) where
   unfolding rowHigh
   high-only x = only-either (ltb 1 (H .length)) (four-only _ W (2 * n + 1) _ _ _ _ x) (changed-only doubled W (2 * n + 1) (2 * n + 1) (2 * n + 1) x)
 
-  low-only : (x : Memory) → Only w (2 * n + 6) x (rowLow w H (2 * n + 6) (2 * n) x)
+  low-only : (x : Memory) → Only w (waitsAt lo n) x (rowLow w H (waitsAt lo n) (2 * n) x)
   unfolding rowLow
-  low-only x = only-if (ltb 1 (H .length)) (changed-only _ W (2 * n + 6) _ _ x)
+  low-only x = only-if (ltb 1 (H .length)) (changed-only _ W (waitsAt lo n) _ _ x)
 
   pub made-only : (x : Memory) → Only w (2 * n + 1) x (highMade w H n x)
   unfolding highMade
   made-only x = only-if (hasRow H hi n) (high-only x)
 
-  pub low-waits-only : (x : Memory) → Only w (2 * n + 6) x (lowWaits W H n x)
+  pub low-waits-only : (x : Memory) → Only w (waitsAt lo n) x (lowWaits W H n x)
   unfolding lowWaits
   low-waits-only x =
-      only-if (hasRow H lo n) (only-then (only-then (copied-only W (2 * n) (2 * n + 6) x) (low-only _)) (lifted-only W (2 * n + 6) _))
+      only-if (hasRow H lo n) (only-then (only-then (copied-only W (2 * n) (waitsAt lo n) x) (low-only _)) (lifted-only W (waitsAt lo n) _))
 
-  pub high-waits-only : (x : Memory) → Only w (2 * n + 7) x (highWaits W H n x)
+  pub high-waits-only : (x : Memory) → Only w (waitsAt hi n) x (highWaits W H n x)
   unfolding highWaits
-  high-waits-only x = only-if (hasRow H hi n) (only-then (copied-only W (2 * n + 1) (2 * n + 7) x) (lifted-only W (2 * n + 7) _))
+  high-waits-only x = only-if (hasRow H hi n) (only-then (copied-only W (2 * n + 1) (waitsAt hi n) x) (lifted-only W (waitsAt hi n) _))
 
   pub made-past : (x : Memory) (j : ℕ) → 8 * w ≤ j → setMade W H n x j ≡ x j
   unfolding setMade
   made-past x j h = only-past (high-waits-only _) j h ∙ only-past (low-waits-only _) j h ∙ only-past (made-only x) j h
 
   -- any other row stays
-  pub made-row : (x : Memory) (q c : ℕ) (y : ℕ → ℤ) → (q % 8 ≡ (2 * n + 1) % 8 → ⊥) → (q % 8 ≡ (2 * n + 6) % 8 → ⊥) → (q % 8 ≡ (2 * n + 7) % 8 → ⊥)
+  pub made-row : (x : Memory) (q c : ℕ) (y : ℕ → ℤ) → (q % 8 ≡ (2 * n + 1) % 8 → ⊥) → (q % 8 ≡ (waitsAt lo n) % 8 → ⊥) → (q % 8 ≡ (waitsAt hi n) % 8 → ⊥)
       → c ≤ w → RowStands W q c y x → RowStands W q c y (setMade W H n x)
   unfolding setMade
   made-row x q c y a b d h s =
@@ -75,11 +76,11 @@ module _ (W H : Side) (g : Grid) (n : ℕ) (x : Memory) (k : Left W H g n x) whe
   p = H .start % 2
 
   abbrev high : ℕ → ℕ → ℤ
-  high j = columnsLifted97 wrap32 H g hi j
+  high j = columnsLifted nineSevenFilter wrap32 H g hi j
 
   -- the low row of set n
   abbrev low : ℕ → ℤ
-  low = columnsLifted97 wrap32 H g lo (n - p)
+  low = columnsLifted nineSevenFilter wrap32 H g lo (n - p)
 
   abbrev x1 : Memory
   x1 = highMade (W .length) H n x
@@ -123,7 +124,7 @@ module _ (W H : Side) (g : Grid) (n : ℕ) (x : Memory) (k : Left W H g n x) whe
           ]
 
       four-high : RowStands W (2 * n + 1) (W .length) (high n) (rowHigh (W .length) H (2 * n + 1) x)
-      unfolding rowHigh columnsLifted97
+      unfolding rowHigh columnsLifted
       four-high i h =
           rw (lt-ltb 1 (H .length) l)
           (four-cell (predicted wrap32) W (2 * n + 1) (rowBefore H 1 (2 * n + 1)) (rowAfter H 1 (2 * n + 1)) (rowBefore H 3 (2 * n + 1))
@@ -136,7 +137,7 @@ module _ (W H : Side) (g : Grid) (n : ℕ) (x : Memory) (k : Left W H g n x) whe
           ∙ sym (high-near H l wrap32 (λ r. g r i) n b))
 
     one-high : H .length ≤ 1 → RowStands W (2 * n + 1) (W .length) (high n) (rowHigh (W .length) H (2 * n + 1) x)
-    unfolding rowHigh columnsLifted97
+    unfolding rowHigh columnsLifted
     one-high l i h =
         rw (le-ltb 1 (H .length) l)
         (changed-cell doubled W (2 * n + 1) (2 * n + 1) (2 * n + 1) x i h
@@ -160,37 +161,37 @@ module _ (W H : Side) (g : Grid) (n : ℕ) (x : Memory) (k : Left W H g n x) whe
     pub high-stays : RowStands W (2 * n + 1) (W .length) (high n) (setMade W H n x)
     unfolding setMade
     high-stays =
-        only-row W (high-waits-only W H n x2) (2 * n + 1) (W .length) (high n) (apart (2 * n + 1) (2 * n + 7) (omega arith) (omega arith)) (omega arith)
-        (only-row W (low-waits-only W H n x1) (2 * n + 1) (W .length) (high n) (apart (2 * n + 1) (2 * n + 6) (omega arith) (omega arith)) (omega arith) high-1)
+        only-row W (high-waits-only W H n x2) (2 * n + 1) (W .length) (high n) (apart (2 * n + 1) (waitsAt hi n) (omega arith) (omega arith)) (omega arith)
+        (only-row W (low-waits-only W H n x1) (2 * n + 1) (W .length) (high n) (apart (2 * n + 1) (waitsAt lo n) (omega arith) (omega arith)) (omega arith) high-1)
 
-    copy-3 : RowStands W (2 * n + 7) (W .length) (high n) (rowCopied (W .length) (2 * n + 1) (2 * n + 7) x2)
+    copy-3 : RowStands W (waitsAt hi n) (W .length) (high n) (rowCopied (W .length) (2 * n + 1) (waitsAt hi n) x2)
     copy-3 =
-        copied-row W (2 * n + 1) (2 * n + 7) x2 (W .length) (high n) (omega arith)
-        (only-row W (low-waits-only W H n x1) (2 * n + 1) (W .length) (high n) (apart (2 * n + 1) (2 * n + 6) (omega arith) (omega arith)) (omega arith) high-1)
+        copied-row W (2 * n + 1) (waitsAt hi n) x2 (W .length) (high n) (omega arith)
+        (only-row W (low-waits-only W H n x1) (2 * n + 1) (W .length) (high n) (apart (2 * n + 1) (waitsAt lo n) (omega arith) (omega arith)) (omega arith) high-1)
 
-    pub waits-low-high : (i : ℕ) → i < count lo W → setMade W H n x (slot (W .length) (2 * n + 7) + i) ≡ lineForward wrap32 W (high n) lo i
+    pub waits-low-high : (i : ℕ) → i < count lo W → setMade W H n x (slot (W .length) (waitsAt hi n) + i) ≡ lineForward wrap32 W (high n) lo i
     unfolding setMade highWaits
-    waits-low-high i h = rw has-high (lifted-low W (2 * n + 7) (high n) _ copy-3 i h)
+    waits-low-high i h = rw has-high (lifted-low W (waitsAt hi n) (high n) _ copy-3 i h)
 
-    pub waits-high-high : (i : ℕ) → i < count hi W → setMade W H n x (slot (W .length) (2 * n + 7) + count lo W + i) ≡ lineForward wrap32 W (high n) hi i
+    pub waits-high-high : (i : ℕ) → i < count hi W → setMade W H n x (slot (W .length) (waitsAt hi n) + count lo W + i) ≡ lineForward wrap32 W (high n) hi i
     unfolding setMade highWaits
-    waits-high-high i h = rw has-high (lifted-high W (2 * n + 7) (high n) _ copy-3 i h)
+    waits-high-high i h = rw has-high (lifted-high W (waitsAt hi n) (high n) _ copy-3 i h)
 
   -- the low row made
   module _ (f : p ≤ n) (b : n - p < count lo H) where
     abbrev y1 : Memory
-    y1 = rowCopied (W .length) (2 * n) (2 * n + 6) x1
+    y1 = rowCopied (W .length) (2 * n) (waitsAt lo n) x1
 
     abbrev y2 : Memory
-    y2 = rowLow (W .length) H (2 * n + 6) (2 * n) y1
+    y2 = rowLow (W .length) H (waitsAt lo n) (2 * n) y1
 
-    copy-only : Only (W .length) (2 * n + 6) x1 y1
-    copy-only = copied-only W (2 * n) (2 * n + 6) x1
+    copy-only : Only (W .length) (waitsAt lo n) x1 y1
+    copy-only = copied-only W (2 * n) (waitsAt lo n) x1
 
-    copy-1 : RowStands W (2 * n + 6) (W .length) (g (place H lo (n - p))) y1
+    copy-1 : RowStands W (waitsAt lo n) (W .length) (g (place H lo (n - p))) y1
     unfolding place
     copy-1 =
-        copied-row W (2 * n) (2 * n + 6) x1 (W .length) _ (omega arith)
+        copied-row W (2 * n) (waitsAt lo n) x1 (W .length) _ (omega arith)
         (only-row W (made-only W H n x) (2 * n) (W .length) _ (apart (2 * n) (2 * n + 1) (omega arith) (omega arith)) (omega arith)
         (even-row (n - p) (2 * n) (omega arith) b (omega arith)))
 
@@ -201,10 +202,10 @@ module _ (W H : Side) (g : Grid) (n : ℕ) (x : Memory) (k : Left W H g n x) whe
         (elim (ℕ-discrete j n) [
           | yes d ↦
               rw d
-              (only-row W copy-only (2 * n + 1) (W .length) (high n) (apart (2 * n + 1) (2 * n + 6) (omega arith) (omega arith)) (omega arith)
+              (only-row W copy-only (2 * n + 1) (W .length) (high n) (apart (2 * n + 1) (waitsAt lo n) (omega arith) (omega arith)) (omega arith)
               (high-1 (omega arith)))
           | no d ↦
-              only-row W copy-only (2 * j + 1) (W .length) (high j) (apart (2 * j + 1) (2 * n + 6) (omega arith) (omega arith)) (omega arith)
+              only-row W copy-only (2 * j + 1) (W .length) (high j) (apart (2 * j + 1) (waitsAt lo n) (omega arith) (omega arith)) (omega arith)
               (only-row W (made-only W H n x) (2 * j + 1) (W .length) (high j) (apart (2 * j + 1) (2 * n + 1) (omega arith) (omega arith)) (omega arith)
               (k .high j (omega arith) (omega (arith, count-hi H))))
         ])
@@ -216,21 +217,21 @@ module _ (W H : Side) (g : Grid) (n : ℕ) (x : Memory) (k : Left W H g n x) whe
       right-beside : (n ≤ right hi H (n - p) + 1) × (right hi H (n - p) ≤ n)
       right-beside = omega (arith, count-lo H, count-hi H, b)
 
-      two-low : RowStands W (2 * n + 6) (W .length) low y2
-      unfolding rowLow columnsLifted97
+      two-low : RowStands W (waitsAt lo n) (W .length) low y2
+      unfolding rowLow columnsLifted
       two-low i h =
           rw (lt-ltb 1 (H .length) l)
-          (changed-cell (updated wrap32) W (2 * n + 6) (rowBefore H 1 (2 * n)) (rowAfter H 1 (2 * n)) y1 i h
+          (changed-cell (updated wrap32) W (waitsAt lo n) (rowBefore H 1 (2 * n)) (rowAfter H 1 (2 * n)) y1 i h
           ∙ ap₃ (updated wrap32) (copy-1 i h)
           (beside (left hi H (n - p)) _ (before-low H l n f b) (left-in hi H (n - p) l b .0) (left-beside .0) (left-beside .1) i h)
           (beside (right hi H (n - p)) _ (after-low H l n f b) (right-in hi H (n - p) l b .0) (right-beside .0) (right-beside .1) i h)
           ∙ sym (low-near H l wrap32 (λ r. g r i) (n - p) b))
 
-    one-low : H .length ≤ 1 → RowStands W (2 * n + 6) (W .length) low y2
-    unfolding rowLow columnsLifted97
+    one-low : H .length ≤ 1 → RowStands W (waitsAt lo n) (W .length) low y2
+    unfolding rowLow columnsLifted
     one-low l i h = rw (le-ltb 1 (H .length) l) (copy-1 i h ∙ sym (low-one H l wrap32 (λ r. g r i) (n - p)))
 
-    low-2 : RowStands W (2 * n + 6) (W .length) low y2
+    low-2 : RowStands W (waitsAt lo n) (W .length) low y2
     low-2 =
         elim (decLt 1 (H .length)) [
           | yes l ↦ two-low l
@@ -241,26 +242,26 @@ module _ (W H : Side) (g : Grid) (n : ℕ) (x : Memory) (k : Left W H g n x) whe
     unfolding firstSet
     has-low = has-row H lo n f b
 
-    waits-still : (j : ℕ) → j < W .length → setMade W H n x (slot (W .length) (2 * n + 6) + j) ≡ rowLifted W (2 * n + 6) y2 (slot (W .length) (2 * n + 6) + j)
+    waits-still : (j : ℕ) → j < W .length → setMade W H n x (slot (W .length) (waitsAt lo n) + j) ≡ rowLifted W (waitsAt lo n) y2 (slot (W .length) (waitsAt lo n) + j)
     unfolding setMade lowWaits
     waits-still j h =
-        only-slot (high-waits-only W H n x2) (2 * n + 6) j (apart (2 * n + 6) (2 * n + 7) (omega arith) (omega arith)) h
-        ∙ ap (λ (t : _). pick t (rowLifted W (2 * n + 6) y2) x1 (slot (W .length) (2 * n + 6) + j)) has-low
+        only-slot (high-waits-only W H n x2) (waitsAt lo n) j (apart (waitsAt lo n) (waitsAt hi n) (omega arith) (omega arith)) h
+        ∙ ap (λ (t : _). pick t (rowLifted W (waitsAt lo n) y2) x1 (slot (W .length) (waitsAt lo n) + j)) has-low
 
-    pub waits-low-low : (i : ℕ) → i < count lo W → setMade W H n x (slot (W .length) (2 * n + 6) + i) ≡ lineForward wrap32 W low lo i
-    waits-low-low i h = waits-still i (omega (arith, count-sum W)) ∙ lifted-low W (2 * n + 6) low y2 low-2 i h
+    pub waits-low-low : (i : ℕ) → i < count lo W → setMade W H n x (slot (W .length) (waitsAt lo n) + i) ≡ lineForward wrap32 W low lo i
+    waits-low-low i h = waits-still i (omega (arith, count-sum W)) ∙ lifted-low W (waitsAt lo n) low y2 low-2 i h
 
-    pub waits-high-low : (i : ℕ) → i < count hi W → setMade W H n x (slot (W .length) (2 * n + 6) + count lo W + i) ≡ lineForward wrap32 W low hi i
+    pub waits-high-low : (i : ℕ) → i < count hi W → setMade W H n x (slot (W .length) (waitsAt lo n) + count lo W + i) ≡ lineForward wrap32 W low hi i
     waits-high-low i h =
-        let e : slot (W .length) (2 * n + 6) + count lo W + i ≡ slot (W .length) (2 * n + 6) + (count lo W + i) = omega arith in
+        let e : slot (W .length) (waitsAt lo n) + count lo W + i ≡ slot (W .length) (waitsAt lo n) + (count lo W + i) = omega arith in
         ap (setMade W H n x) e
         ∙ waits-still (count lo W + i) (omega (arith, count-sum W))
-        ∙ ap (rowLifted W (2 * n + 6) y2) (sym e)
-        ∙ lifted-high W (2 * n + 6) low y2 low-2 i h
+        ∙ ap (rowLifted W (waitsAt lo n) y2) (sym e)
+        ∙ lifted-high W (waitsAt lo n) low y2 low-2 i h
 
   -- its rows stand where they wait
   pub set-stands : SetStands97 W H g n (setMade W H n x)
-  unfolding bandPlace subband97 across down setRow firstSet
+  unfolding bandPlace subband across down setRow firstSet
   set-stands LL i f b h = waits-low-low f b i h
   set-stands HL i f b h = waits-high-low f b i h
   set-stands LH i f b h = let z : n - 0 ≡ n = omega arith in rw z (waits-low-high (omega arith) i h)
@@ -273,11 +274,11 @@ module _ (W H : Side) (g : Grid) (n : ℕ) (x : Memory) (k : Left W H g n x) whe
       record {
         near = omega arith;
         even = λ i f l m.
-            made-row W H n x (2 * i) (W .length) _ (odd-even i n) (apart (2 * i) (2 * n + 6) (omega arith) (omega arith))
-            (apart (2 * i) (2 * n + 7) (omega arith) (omega arith)) (omega arith) (k .even i f (omega arith) m);
+            made-row W H n x (2 * i) (W .length) _ (odd-even i n) (apart (2 * i) (waitsAt lo n) (omega arith) (omega arith))
+            (apart (2 * i) (waitsAt hi n) (omega arith) (omega arith)) (omega arith) (k .even i f (omega arith) m);
         odd = λ i l m.
             made-row W H n x (2 * i + 1) (W .length) _ (apart′ (2 * i + 1) (2 * n + 1) (omega arith) (omega arith))
-            (apart (2 * i + 1) (2 * n + 6) (omega arith) (omega arith)) (apart (2 * i + 1) (2 * n + 7) (omega arith) (omega arith)) (omega arith)
+            (apart (2 * i + 1) (waitsAt lo n) (omega arith) (omega arith)) (apart (2 * i + 1) (waitsAt hi n) (omega arith) (omega arith)) (omega arith)
             (k .odd i (omega arith) m);
         high = λ i l m. let z : i ≡ n = omega arith in rw z (high-stays (omega (arith, count-hi H)));
       }

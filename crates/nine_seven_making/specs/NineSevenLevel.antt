@@ -19,10 +19,11 @@ use Rattle.lifting.specs.Grid.{Side, side, count}
 use Rattle.lifting.specs.GridHalves.{partedInto}
 use Rattle.lifting.specs.Rows.{rowChanged}
 use Rattle.lifting.specs.Pairs.{first}
-use Rattle.nine_seven.specs.NineSeven.{predicted, updated, before, after, lineForward}
+use Rattle.nine_seven.specs.NineSeven.{predicted, updated, before, after}
+use Rattle.nine_seven.specs.NineSevenFilter.{nineSevenFilter}
 use Rattle.nine_seven.specs.Memory.{liftedInPlace}
 use Rattle.nine_seven.specs.Rows.{rowBy}
-use Rattle.wavelet.specs.Bands.{Grid, Band, LL, HL, LH, HH, across, down}
+use Rattle.wavelet.specs.Bands.{Grid, Band, LL, HL, LH, HH, across, down, columnsLifted, subband}
 use Rattle.wavelet.specs.Order.{firstSet, setRow}
 use Rattle.level.specs.Level.{Memory}
 use Rattle.level.specs.FiveThreeLevel.{doubled}
@@ -68,45 +69,43 @@ rowLow w H t q x = pick (ltb 1 (H .length)) (rowChanged (updated wrap32) w w (t 
 unfoldable pub hasRow : Side → Half → ℕ → Bool
 hasRow H h n = both (leb (firstSet H h) n) (ltb (n - firstSet H h) (count h H))
 
+-- the rows in whose slots the low and the high row of set n wait: where row 2n − 2 and d(n − 1) stood, by which no row goes any more
+abbrev pub waitsAt : Half → ℕ → ℕ
+waitsAt lo n = 2 * n + 6
+waitsAt hi n = 2 * n + 7
+
 -- set n of the rows H: its high row, then the low row put where it waits, and the high row
 unfoldable pub highMade : ℕ → Side → ℕ → Memory → Memory
 highMade w H n x = pick (hasRow H hi n) (rowHigh w H (2 * n + 1) x) x
 
 unfoldable pub lowWaits : Side → Side → ℕ → Memory → Memory
 lowWaits W H n x =
-    pick (hasRow H lo n) (rowLifted W (2 * n + 6) (rowLow (W .length) H (2 * n + 6) (2 * n) (rowCopied (W .length) (2 * n) (2 * n + 6) x))) x
+    pick (hasRow H lo n) (rowLifted W (waitsAt lo n) (rowLow (W .length) H (waitsAt lo n) (2 * n) (rowCopied (W .length) (2 * n) (waitsAt lo n) x))) x
 
 unfoldable pub highWaits : Side → Side → ℕ → Memory → Memory
-highWaits W H n x = pick (hasRow H hi n) (rowLifted W (2 * n + 7) (rowCopied (W .length) (2 * n + 1) (2 * n + 7) x)) x
+highWaits W H n x = pick (hasRow H hi n) (rowLifted W (waitsAt hi n) (rowCopied (W .length) (2 * n + 1) (waitsAt hi n) x)) x
 
 unfoldable pub setMade : Side → Side → ℕ → Memory → Memory
 setMade W H n x = highWaits W H n (lowWaits W H n (highMade (W .length) H n x))
 
 -- Row m completes a set, the one whose row 2n + 4 it is.
 unfoldable pub completes97 : ℕ → ℕ → Bool
-completes97 s m = both (eqb ((s % 2 + m) % 2) 0) (ltb 3 (s % 2 + m))
+completes97 s m = both (eqb ((s % 2 + m) % 2) 0) (leb 4 (s % 2 + m))
 
 -- the rows that start at s, up to row 2n + 4
 abbrev pub rowsTo : ℕ → ℕ → Side
 rowsTo s n = side s (2 * n + 5 - s % 2)
 
 unfoldable pub bandPlace : Side → ℕ → Band → ℕ
-bandPlace W n LL = slot (W .length) (2 * n + 6)
-bandPlace W n HL = slot (W .length) (2 * n + 6) + count lo W
-bandPlace W n LH = slot (W .length) (2 * n + 7)
-bandPlace W n HH = slot (W .length) (2 * n + 7) + count lo W
+bandPlace W n LL = slot (W .length) (waitsAt lo n)
+bandPlace W n HL = slot (W .length) (waitsAt lo n) + count lo W
+bandPlace W n LH = slot (W .length) (waitsAt hi n)
+bandPlace W n HH = slot (W .length) (waitsAt hi n) + count lo W
 
 -- ---- what its store means
 -- the first c columns of row y stand in the slot of row q
 abbrev pub RowStands : Side → ℕ → ℕ → (ℕ → ℤ) → Memory → Type 0
 RowStands W q c y x = (i : ℕ) → i < c → x (cellOf W q i) ≡ y i
-
--- a grid's columns lifted, then its rows, by the 9/7
-unfoldable pub columnsLifted97 : (ℤ → ℤ) → Side → Grid → Half → Grid
-columnsLifted97 keep H g h r c = lineForward keep H (λ i. g i c) h r
-
-unfoldable pub subband97 : (ℤ → ℤ) → Side → Side → Grid → Band → Grid
-subband97 keep W H g b r = lineForward keep W (columnsLifted97 keep H g (down b) r) (across b)
 
 -- what a level of the columns W holds after m rows of the grid g and c columns of row m
 pub record Kept (W H : Side) (g : Grid) (m c : ℕ) (x : Memory) : Type 0 where
@@ -118,7 +117,7 @@ pub record Kept (W H : Side) (g : Grid) (m c : ℕ) (x : Memory) : Type 0 where
       → RowStands W (2 * n + 1) (W .length) (g (2 * n + 1 - H .start % 2)) x
   -- d(n) of the last set made
   pub high : (n : ℕ) → 2 * n + 5 ≤ H .start % 2 + m → H .start % 2 + m ≤ 2 * n + 6
-      → RowStands W (2 * n + 1) (W .length) (columnsLifted97 wrap32 H g hi n) x
+      → RowStands W (2 * n + 1) (W .length) (columnsLifted nineSevenFilter wrap32 H g hi n) x
   -- the row begun
   pub begun : RowStands W (H .start % 2 + m) c (g m) x
 
@@ -131,10 +130,10 @@ pub record Left (W H : Side) (g : Grid) (n : ℕ) (x : Memory) : Type 0 where
   -- the odd rows from 2n + 1 on
   pub odd : (i : ℕ) → n ≤ i → 2 * i + 1 < H .start % 2 + H .length → RowStands W (2 * i + 1) (W .length) (g (2 * i + 1 - H .start % 2)) x
   -- d(n − 1)
-  pub high : (i : ℕ) → n ≡ suc i → 2 * i + 1 < H .start % 2 + H .length → RowStands W (2 * i + 1) (W .length) (columnsLifted97 wrap32 H g hi i) x
+  pub high : (i : ℕ) → n ≡ suc i → 2 * i + 1 < H .start % 2 + H .length → RowStands W (2 * i + 1) (W .length) (columnsLifted nineSevenFilter wrap32 H g hi i) x
 
 -- the rows of set n stand where they wait
 abbrev pub SetStands97 : Side → Side → Grid → ℕ → Memory → Type 0
 SetStands97 W H g n x =
     (b : Band) (i : ℕ) → firstSet H (down b) ≤ n → setRow H b n < count (down b) H → i < count (across b) W
-    → x (bandPlace W n b + i) ≡ subband97 wrap32 W H g b (setRow H b n) i
+    → x (bandPlace W n b + i) ≡ subband nineSevenFilter wrap32 W H g b (setRow H b n) i

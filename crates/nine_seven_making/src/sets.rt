@@ -12,7 +12,7 @@ ghost use lib.ListN.{length};
 ghost use Rattle.numbers.specs.Signal.{at};
 ghost use Rattle.lifting.specs.Line.{lo, hi};
 ghost use Rattle.lifting.specs.Grid.{side};
-ghost use Rattle.nine_seven_making.specs.NineSevenLevel.{rowLifted, rowHigh, rowLow, hasRow, highMade, lowWaits, highWaits, setMade};
+ghost use Rattle.nine_seven_making.specs.NineSevenLevel.{rowLifted, rowHigh, rowLow, hasRow, highMade, lowWaits, highWaits, setMade, waitsAt};
 
 // Row q lifted along the row; x is where the level's columns start.
 fn lift_row(store: &mut [i32], w: usize, x: usize, q: usize)
@@ -62,7 +62,7 @@ fn make_high(store: &mut [i32], w: usize, y: usize, m: usize, n: usize)
 // The copy of row 2n by the high rows beside that row.
 fn update_copy(store: &mut [i32], w: usize, y: usize, m: usize, n: usize)
     requires { ⌜ (8 * w ≤ length (now store)) × (hasRow (side y m) lo n ≡ true) ⌝ }
-    ensures { λ _. ⌜ at (now (store .exit)) ≡ rowLow w (side y m) (2 * n + 6) (2 * n) (at (now (store .entry))) ⌝ }
+    ensures { λ _. ⌜ at (now (store .exit)) ≡ rowLow w (side y m) (waitsAt lo n) (2 * n) (at (now (store .entry))) ⌝ }
 {
     if 1 < m {
         let t = (2 * (n % 4) + 6) % 8;

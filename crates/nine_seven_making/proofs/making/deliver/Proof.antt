@@ -6,16 +6,16 @@ use lib.ListN.{length}
 use Rattle.lifting.specs.Line.{lo}
 use Rattle.lifting.specs.Grid.{side, count}
 use Rattle.wavelet.proofs.SideLaws.{count-le}
-use Rattle.nine_seven_making.specs.NineSevenLevel.{slot}
-use Rattle.nine_seven_making.proofs.Places.{slot-is, slot-room, low-waits}
+use Rattle.nine_seven_making.specs.NineSevenLevel.{slot, waitsAt}
+use Rattle.nine_seven_making.proofs.Places.{slot-is, slot-room, by-four}
 use Rattle.nine_seven_making.proofs.SetLaws.{next-in}
 use Rattle.nine_seven_making.proofs.DeliverLaws.{part-fits, delivered-as}
 use borrow.Author.Needs.{needs}
 use Rattle.nine_seven_making.proofs.making.deliver.Statement.{statement}
 use Rattle.nine_seven_making.proofs.making.deliver.Tie as tie
 
-from-slot : (w n : ℕ) → (2 * (n % 4) + 6) % 8 * w ≡ slot w (2 * n + 6)
-from-slot w n = ap (λ (t : ℕ). t * w) (low-waits n) ∙ slot-is w (2 * n + 6)
+from-slot : (w n : ℕ) → (2 * (n % 4) + 6) % 8 * w ≡ slot w (waitsAt lo n)
+from-slot w n = ap (λ (t : ℕ). t * w) (by-four n _) ∙ slot-is w (waitsAt lo n)
 
 to-slot : (w v q : ℕ) → 8 * w + q % 8 * v ≡ 8 * w + slot v q
 to-slot w v q = ap (λ (t : ℕ). 8 * w + t) (slot-is v q)
@@ -40,7 +40,7 @@ fits c =
     let h = count-le lo (side (a .x) (a .w)) in
     let f = from-slot (a .w) (a .n) in
     let s = slot-is v (a .q) in
-    let i = slot-room (a .w) (2 * a .n + 6) in
+    let i = slot-room (a .w) (waitsAt lo (a .n)) in
     let j = slot-room v (a .q) in
     record { next = e; room = omega arith; half = omega arith; before = omega arith; after = omega arith }
 

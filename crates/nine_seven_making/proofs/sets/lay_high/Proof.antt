@@ -3,7 +3,7 @@ use mathlib.Core.Path.{sym, _∙_}
 use native.Mathlib.Omega.{arith}
 use lib.ListN.{length}
 use Rattle.lifting.specs.Grid.{side}
-use Rattle.nine_seven_making.proofs.Places.{high-slot, high-waits}
+use Rattle.nine_seven_making.proofs.Places.{high-slot, by-four}
 use Rattle.nine_seven_making.proofs.SetLaws.{high-laid, high-unlaid}
 use borrow.Author.Needs.{needs}
 use Rattle.nine_seven_making.proofs.sets.lay_high.Statement.{statement}
@@ -41,7 +41,7 @@ returns c =
     let s = t .before .before in
     let a = s .args in
     high-laid (side (a .x) (a .w)) (side (a .y) (a .m)) (length (a .store .now)) (a .n) _ _ _ _ _ _ (sym (t .before .has-high .ensures) ∙ t .if1 .taken)
-    (s .pre) (high-slot (a .n)) (high-waits (a .n)) (high-waits (a .n)) (d .copy-row .ensures .1) (l .lift-row .ensures)
+    (s .pre) (high-slot (a .n)) (by-four (a .n) _) (by-four (a .n) _) (d .copy-row .ensures .1) (l .lift-row .ensures)
 
 returns-2 : tie.Need-returns-2
 returns-2 c = let a = c .before .before .args in high-unlaid (side (a .x) (a .w)) (side (a .y) (a .m)) 0 (a .n) _ (sym (c .before .has-high .ensures) ∙ c .if1 .left)

@@ -3,7 +3,7 @@ use mathlib.Core.Path.{sym, _∙_}
 use native.Mathlib.Omega.{arith}
 use lib.ListN.{length}
 use Rattle.lifting.specs.Grid.{side}
-use Rattle.nine_seven_making.proofs.Places.{low-slot, low-waits}
+use Rattle.nine_seven_making.proofs.Places.{low-slot, by-four}
 use Rattle.nine_seven_making.proofs.SetLaws.{low-laid, low-none}
 use borrow.Author.Needs.{needs}
 use Rattle.nine_seven_making.proofs.sets.lay_low.Statement.{statement}
@@ -44,7 +44,7 @@ returns c =
     let s = t .before .before in
     let a = s .args in
     low-laid (side (a .x) (a .w)) (side (a .y) (a .m)) (length (a .store .now)) (a .n) _ _ _ _ _ _ _ (sym (t .before .has-low .ensures) ∙ t .if1 .taken)
-    (s .pre) (low-slot (a .n)) (low-waits (a .n)) (low-waits (a .n)) (d .copy-row .ensures .1) (u .update-copy .ensures) (l .lift-row .ensures)
+    (s .pre) (low-slot (a .n)) (by-four (a .n) _) (by-four (a .n) _) (d .copy-row .ensures .1) (u .update-copy .ensures) (l .lift-row .ensures)
 
 returns-2 : tie.Need-returns-2
 returns-2 c = let a = c .before .before .args in low-none (side (a .x) (a .w)) (side (a .y) (a .m)) 0 (a .n) _ (sym (c .before .has-low .ensures) ∙ c .if1 .left)

@@ -2,7 +2,7 @@
 use native.Mathlib.Omega.{arith}
 use lib.ListN.{length}
 use Rattle.lifting.specs.Grid.{side}
-use Rattle.nine_seven_making.proofs.Places.{low-waits}
+use Rattle.nine_seven_making.proofs.Places.{by-four}
 use Rattle.nine_seven_making.proofs.NearRows.{low-in}
 use Rattle.nine_seven_making.proofs.SetLaws.{low-done, low-left}
 use borrow.Author.Needs.{needs}
@@ -35,7 +35,7 @@ returns c =
     let t = b .before in
     let s = t .before in
     low-done (s .args .w) (length (s .args .store .now)) (side (s .args .y) (s .args .m)) (s .args .n) _ _ _ _ _ (s .pre .0) (t .if1 .taken)
-    (low-waits (s .args .n)) (b .before-low .ensures) (a .after-low .ensures) (r .update-row .ensures .1)
+    (by-four (s .args .n) _) (b .before-low .ensures) (a .after-low .ensures) (r .update-row .ensures .1)
 
 returns-2 : tie.Need-returns-2
 returns-2 c = let a = c .before .args in low-left (a .w) (side (a .y) (a .m)) (a .n) _ (omega arith)
