@@ -9,3 +9,5 @@ pub mod DeliverLaws
 -- A set made, and what is asked of a level.
 pub mod SetMade
 pub mod LevelLaws
+-- Where a row waits, told by a band's code.
+pub mod BandPlaces

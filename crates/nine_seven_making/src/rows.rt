@@ -35,11 +35,12 @@ fn placed(w: usize, x: usize, n: usize, band: usize) -> usize
     ensures { λ r. ⌜ r ≡ named band (bandPlace (side x w) n) 0 ⌝ }
 {
     let low = (2 * (n % 4) + 6) % 8;
+    let high = (2 * (n % 4) + 7) % 8;
     match band {
         0 => low * w,
         1 => low * w + sizes::low_count(x, w),
-        2 => (low + 1) * w,
-        3 => (low + 1) * w + sizes::low_count(x, w),
+        2 => high * w,
+        3 => high * w + sizes::low_count(x, w),
         _ => 0,
     }
 }
