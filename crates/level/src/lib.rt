@@ -4,6 +4,7 @@ mod copies;
 pub mod heights;
 mod lone;
 pub mod making;
+pub mod moves;
 pub mod rebuilding;
 pub mod rows;
 mod sets;
