@@ -1,0 +1,4 @@
+pub mod Fronts
+pub mod RaiseLaws
+pub mod LowerLaws
+pub mod CallLaws
