@@ -3,3 +3,4 @@ pub mod PartLaws
 pub mod WeaveLaws
 pub mod HeightLaws
 pub mod Splices
+pub mod LoneLaws

@@ -1,2 +1,3 @@
 pub mod Areas
 pub mod Moves
+pub mod Lone

@@ -2,3 +2,4 @@ pub mod Fronts
 pub mod RaiseLaws
 pub mod LowerLaws
 pub mod CallLaws
+pub mod ShortColumns

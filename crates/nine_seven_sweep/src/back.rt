@@ -50,14 +50,7 @@ fn unpredict(area: &mut [i32], stride: usize, width: usize, y: usize, height: us
 }
 
 // The same in turn n: where there is a low row n,
-fn unupdate_next(
-    area: &mut [i32],
-    stride: usize,
-    width: usize,
-    y: usize,
-    height: usize,
-    n: usize,
-)
+fn unupdate_next(area: &mut [i32], stride: usize, width: usize, y: usize, height: usize, n: usize)
     requires { ⌜ (1 < height) × (height ≤ length (now area) + 1) ⌝ }
     ensures { λ _. ⌜ at (now (area .exit)) ≡
         lowTurn (unupdated wrap32) (place (side y height)) (length (now (area .entry))) stride width (side y height) n 0 (at (now (area .entry))) ⌝ }

@@ -55,14 +55,7 @@ fn predict_next(area: &mut [i32], stride: usize, width: usize, y: usize, height:
 }
 
 // and the low row that no high row after n goes by.
-fn update_behind(
-    area: &mut [i32],
-    stride: usize,
-    width: usize,
-    y: usize,
-    height: usize,
-    n: usize,
-)
+fn update_behind(area: &mut [i32], stride: usize, width: usize, y: usize, height: usize, n: usize)
     requires { ⌜ (1 < height) × (n ≤ count lo (side y height) + y % 2) ⌝ }
     ensures { λ _. ⌜ at (now (area .exit)) ≡
         lowTurn (updated wrap32) (inHalf (side y height)) (length (now (area .entry))) stride width (side y height) n (1 + y % 2) (at (now (area .entry))) ⌝ }

@@ -4,7 +4,7 @@
 ghost use mathlib.Core.Path.{_≡_};
 ghost use Prim.Native.Nat.{ℕ, _+_, _-_, _<_, _≤_};
 ghost use Rattle.lifting.specs.Line.{lo};
-ghost use Rattle.lifting.specs.Grid.{side, count};
+ghost use Rattle.lifting.specs.Grid.{side, count, loneHigh};
 ghost use Rattle.lifting.specs.Passes.{near};
 ghost use Rattle.nine_seven.specs.Passes.{farLeft, farRight};
 
@@ -67,4 +67,14 @@ pub fn far_right(low: usize, high: usize, o: usize, n: usize) -> usize
         return 0;
     }
     low - 2
+}
+
+// Whether n rows are an only one, at an odd coordinate.
+pub fn lone_high(n: usize, start: usize) -> bool
+    ensures { λ r. ⌜ r ≡ loneHigh (side start n) ⌝ }
+{
+    if start % 2 == 1 {
+        return n == 1;
+    }
+    false
 }

@@ -83,14 +83,8 @@ module _ (S : Side) (k : ℕ) (y x z : ℕ → ℤ) (l : List ℤ) (e : k ≡ S 
       rw (mid ∙ e) at (did _ _ _ _ (le-leb (length (midOf 0 k l)) m (omega arith)) made) in
       is′ ∙ ap (λ (u : ℕ → ℤ). fronted n (joined S (halvesOf S u)) x) (lent-front n k x z l e h is) ∙ cut-woven S x x
 
--- ---- a test of every number, gathered row by row: t is the test of row i
-and-both : (a b : Bool) → a && b ≡ both a b
-and-both true b = refl
-and-both false b = refl
-
-pub gather-turn : (ok t : Bool) (i : ℕ) (p : ℕ → Bool) → ok ≡ every i p → t ≡ p i → ok && t ≡ every (i + 1) p
-unfolding every
-gather-turn ok t i p is it = let e : i + 1 ≡ suc i = omega arith in rw e (and-both ok t ∙ cc (is, it))
+-- ---- a test of every number, gathered row by row
+pub use Rattle.areas.proofs.LoneLaws.{gather-turn}
 
 -- the bounds read back
 pub between-read : (n : ℕ) (x : ℕ → ℤ) {low low′ high high′ : ℤ} → low ≡ low′ → high ≡ high′ →

@@ -3,7 +3,6 @@
 // the first low row. The plane's rows are `across` apart at every level. x and y are where the level starts on the grid.
 // The module is private: only this crate, which meets what is required, can call it.
 use crate::passes;
-use crate::rowwise;
 use lifting::halves;
 use lifting::rows;
 use lifting::sample;
@@ -346,7 +345,7 @@ fn unlift_lone(work: &mut [i32], width: usize, y: usize) -> bool
     if y % 2 == 0 {
         return true;
     }
-    rowwise::halve_row(&mut work[0..width])
+    areas::lone::halve_row(&mut work[0..width])
 }
 
 // The first rows of a level of more than one: a low one is lifted back along the columns by the high one after it.

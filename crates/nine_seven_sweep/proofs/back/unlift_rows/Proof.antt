@@ -78,7 +78,7 @@ loop-again c =
       inv .1,
       second .unpredict-behind .kept .0 ∙ size ∙ inv .2,
       lower-turn _ _ _ _ _ (rows-kept (inv .2) (start .pre .0)) (start .pre .1) _ _ _ _ (omega (arith, inv .1)) (first .unupdate-next .ensures)
-      (rw size at (second .unpredict-behind .ensures)) (inv .3),
+          (rw size at (second .unpredict-behind .ensures)) (inv .3),
     )
 
 same-length : tie.Need-same-length Inv-loop μ-loop

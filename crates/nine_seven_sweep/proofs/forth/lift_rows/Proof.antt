@@ -67,7 +67,7 @@ loop-again c =
       inv .1,
       second .update-behind .kept .0 ∙ size ∙ inv .2,
       raise-turn _ _ _ _ _ (rows-kept (inv .2) (start .pre .0)) (start .pre .1) _ _ _ _ (omega arith) (first .predict-next .ensures)
-      (rw size at (second .update-behind .ensures)) (inv .3),
+          (rw size at (second .update-behind .ensures)) (inv .3),
     )
 
 same-length : tie.Need-same-length Inv-loop μ-loop

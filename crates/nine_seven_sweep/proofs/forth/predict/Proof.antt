@@ -50,7 +50,7 @@ same-length : tie.Need-same-length
 same-length c = c .before .predict-row .kept .0
 
 returns : tie.Need-returns
-returns c = 
+returns c =
     let row = c .before in
     let after = row .before .before in
     let before = after .before in

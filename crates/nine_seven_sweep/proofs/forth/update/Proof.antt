@@ -39,7 +39,7 @@ same-length : tie.Need-same-length
 same-length c = c .before .update-row .kept .0
 
 returns : tie.Need-returns
-returns c = 
+returns c =
     let row = c .before in
     let right = row .before .before in
     let left = right .before in

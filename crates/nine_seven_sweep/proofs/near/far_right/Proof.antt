@@ -1,4 +1,4 @@
--- `nine_seven::place::far_right` meets its contract, case by case. Assumes nothing.
+-- `near::far_right` meets its contract, case by case. Assumes nothing.
 use mathlib.Core.Path.{sym, _∙_}
 use native.Mathlib.Omega.{arith}
 use Rattle.nine_seven.proofs.MirrorLaws.{far-last, far-less}

@@ -1,4 +1,4 @@
--- `nine_seven::place::lows` meets its contract, by the parity of the start. Assumes nothing.
+-- `near::lows` meets its contract, by the parity of the start. Assumes nothing.
 use native.Mathlib.Omega.{arith}
 use Rattle.lifting.specs.Grid.{count}
 use Rattle.nine_seven_sweep.proofs.near.lows.Statement.{statement}

@@ -1,4 +1,4 @@
--- `whole_map::rowwise::double_row` meets its contract: a sweep over the row. Assumes nothing.
+-- `areas::lone::double_row` meets its contract: a sweep over the row. Assumes nothing.
 use mathlib.Core.Path.{_≡_, sym, ap, _∙_}
 use Prim.Native.Nat.{_-_, _≤_}
 use native.Mathlib.Omega.{arith}
@@ -8,10 +8,10 @@ use Rattle.numbers.specs.Signal.{at}
 use Rattle.numbers.specs.Word.{wrap32}
 use Rattle.numbers.proofs.Words.{read-back}
 use Rattle.numbers.proofs.Sweep.{Swept, start, store, finish}
 use Rattle.areas.proofs.AreaLaws.{front-at, front-rest}
-use Rattle.whole_map.specs.Rowwise.{doubledInPlace}
-use Rattle.whole_map.proofs.rowwise.double_row.Statement.{statement}
-use Rattle.whole_map.proofs.rowwise.double_row.Tie as tie
+use Rattle.areas.specs.Lone.{doubledInPlace}
+use Rattle.areas.proofs.lone.double_row.Statement.{statement}
+use Rattle.areas.proofs.lone.double_row.Tie as tie
 
 abbrev Inv-loop : tie.InvT-loop
 Inv-loop row₀ n i₀ row i = (i ≤ n) × (n ≡ length row₀) × Swept (length row₀) (doubledInPlace (length row₀) (at row₀)) (at row₀) i row

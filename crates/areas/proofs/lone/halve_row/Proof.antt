@@ -1,4 +1,4 @@
--- `whole_map::rowwise::halve_row` meets its contract: a sweep over the row, and the answer that of the numbers passed. Assumes nothing.
+-- `areas::lone::halve_row` meets its contract: a sweep over the row, and the answer that of the numbers passed. Assumes nothing.
 use mathlib.Core.Path.{_≡_, sym, ap, _∙_}
 use Prim.Native.Nat.{_-_, _≤_}
 use native.Mathlib.Omega.{arith}
@@ -9,13 +9,13 @@ use Rattle.numbers.specs.Signal.{at}
 use Rattle.numbers.proofs.Words.{read-back}
 use Rattle.numbers.proofs.Sweep.{Swept, start, store, finish}
 use Rattle.lifting.specs.Grid.{isEven}
-use Rattle.wavelet.specs.Maps.{every}
-use Rattle.wavelet.proofs.MapTheorems.{each-every}
+use Rattle.numbers.specs.Tests.{every}
+use Rattle.numbers.proofs.TestLaws.{each-every}
 use Rattle.areas.proofs.AreaLaws.{front-at, front-rest}
-use Rattle.whole_map.specs.Rowwise.{halvedInPlace}
-use Rattle.whole_map.proofs.RowwiseLaws.{gather-turn}
-use Rattle.whole_map.proofs.rowwise.halve_row.Statement.{statement}
-use Rattle.whole_map.proofs.rowwise.halve_row.Tie as tie
+use Rattle.areas.specs.Lone.{halvedInPlace}
+use Rattle.areas.proofs.LoneLaws.{gather-turn}
+use Rattle.areas.proofs.lone.halve_row.Statement.{statement}
+use Rattle.areas.proofs.lone.halve_row.Tie as tie
 
 abbrev Inv-loop : tie.InvT-loop
 Inv-loop row₀ n ok₀ i₀ row ok i =
