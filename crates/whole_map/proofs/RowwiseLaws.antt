@@ -1,8 +1,7 @@
 -- The laws of what is done to one row: what each pass leaves at a place, a turn of its loop, and what two passes come to together. Assumes nothing.
-use mathlib.Core.Path.{_≡_, refl, sym, ap, _∙_, fun-ext}
+use mathlib.Core.Path.{_≡_, sym, ap, _∙_, fun-ext}
 use mathlib.Core.List.{List}
-use mathlib.Core.Bool.{Bool, true, false, _&&_}
-use Prim.Native.Nat.{ℕ, suc, _+_, _-_, _≤_, _<_}
+use Prim.Native.Nat.{ℕ, _+_, _-_, _≤_, _<_}
 use native.Mathlib.Decide.{decLt}
 use native.Mathlib.Omega.{arith}
 use lib.IntN.{ℤ, pos}
@@ -82,9 +81,6 @@ module _ (S : Side) (k : ℕ) (y x z : ℕ → ℤ) (l : List ℤ) (e : k ≡ S 
       let is′ : y ≡ fronted n (joined S (halvesOf S (at (midOf 0 k l)))) x =
       rw (mid ∙ e) at (did _ _ _ _ (le-leb (length (midOf 0 k l)) m (omega arith)) made) in
       is′ ∙ ap (λ (u : ℕ → ℤ). fronted n (joined S (halvesOf S u)) x) (lent-front n k x z l e h is) ∙ cut-woven S x x
-
--- ---- a test of every number, gathered row by row
-pub use Rattle.areas.proofs.LoneLaws.{gather-turn}
 
 -- the bounds read back
 pub between-read : (n : ℕ) (x : ℕ → ℤ) {low low′ high high′ : ℤ} → low ≡ low′ → high ≡ high′ →
