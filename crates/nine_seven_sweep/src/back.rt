@@ -82,16 +82,28 @@ fn unpredict_behind(
     unpredict(area, stride, width, y, height, n - behind);
 }
 
+// Both. That it is called twice, in the loop and once behind it, keeps it from being inlined: in one loop over rows of one area the compiler asks once for all
+// rows whether they overlap, and then leaves vector code (docs/PROVING.md).
+fn unlift_turn(area: &mut [i32], stride: usize, width: usize, y: usize, height: usize, n: usize)
+    requires { ⌜ (1 < height) × (n ≤ count hi (side y height) + (1 - y % 2)) × (height ≤ length (now area) + 1) ⌝ }
+    ensures { λ _. ⌜ at (now (area .exit)) ≡
+        highTurn (unpredicted wrap32) (place (side y height)) (length (now (area .entry))) stride width (side y height) n (2 - y % 2)
+        (lowTurn (unupdated wrap32) (place (side y height)) (length (now (area .entry))) stride width (side y height) n 0 (at (now (area .entry)))) ⌝ }
+{
+    unupdate_next(area, stride, width, y, height, n);
+    unpredict_behind(area, stride, width, y, height, n);
+}
+
 // All columns of more than one row. The high row whose last low row has been lifted back comes next, while they are near.
 pub fn unlift_rows(area: &mut [i32], stride: usize, width: usize, y: usize, height: usize)
     requires { ⌜ Rows (length (now area)) stride width height × (1 < height) ⌝ }
     ensures { λ _. ⌜ at (now (area .exit)) ≡ columnsBack stride width (side y height) (at (now (area .entry))) ⌝ }
 {
-    let end = height - near::lows(height, y) + 2 - y % 2;
+    let last = height - near::lows(height, y) + 1 - y % 2;
     let mut n = 0;
-    while n < end {
-        unupdate_next(area, stride, width, y, height, n);
-        unpredict_behind(area, stride, width, y, height, n);
+    while n < last {
+        unlift_turn(area, stride, width, y, height, n);
         n += 1;
     }
+    unlift_turn(area, stride, width, y, height, last);
 }

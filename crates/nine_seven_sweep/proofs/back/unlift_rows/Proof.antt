@@ -14,51 +14,43 @@ use Rattle.nine_seven_sweep.proofs.back.unlift_rows.Statement.{statemen
 use Rattle.nine_seven_sweep.proofs.back.unlift_rows.Tie as tie
 
 abbrev Inv-loop : tie.InvT-loop
-Inv-loop area₀ stride width y height end n₀ area n =
-    (n ≤ end)
-    × (end ≡ count hi (side y height) + 2 - y % 2)
+Inv-loop area₀ stride width y height last n₀ area n =
+    (n ≤ last)
+    × (last ≡ count hi (side y height) + 1 - y % 2)
     × (length area ≡ length area₀)
     × Lowered stride width (side y height) (at area₀) n (at area)
 
 abbrev μ-loop : tie.MeasureT-loop
-μ-loop area₀ stride width y height end n₀ area n = end - n
+μ-loop area₀ stride width y height last n₀ area n = last - n
 
 lows-requires : tie.Need-lows-requires Inv-loop μ-loop
 lows-requires c κs = tt
 
-sub-end : tie.Need-sub-end Inv-loop μ-loop
+sub-last : tie.Need-sub-last Inv-loop μ-loop
 unfolding count
-sub-end c = omega (arith, c .lows .ensures)
+sub-last c = omega (arith, c .lows .ensures)
 
-add-end : tie.Need-add-end Inv-loop μ-loop
+add-last : tie.Need-add-last Inv-loop μ-loop
 unfolding count
-add-end c = omega (arith, c .lows .ensures, few _ _ _ _ (c .before .pre .0))
+add-last c = omega (arith, c .lows .ensures, few _ _ _ _ (c .before .pre .0))
 
-sub-end-2 : tie.Need-sub-end-2 Inv-loop μ-loop
-sub-end-2 c = omega arith
+sub-last-2 : tie.Need-sub-last-2 Inv-loop μ-loop
+sub-last-2 c = omega arith
 
 loop-holds : tie.Need-loop-holds Inv-loop μ-loop
 unfolding count
 loop-holds c = (omega arith, omega (arith, c .lows .ensures), refl, lower-start _ _ _ _)
 
-unupdate-next-requires : tie.Need-unupdate-next-requires Inv-loop μ-loop
-unupdate-next-requires c κs =
+unlift-turn-requires : tie.Need-unlift-turn-requires Inv-loop μ-loop
+unlift-turn-requires c κs =
     let head = c .before .before in
     let start = head .before .before in
-    (start .pre .1, omega (arith, head .loop .inv .2, few _ _ _ _ (start .pre .0)))
-
-unpredict-behind-requires : tie.Need-unpredict-behind-requires Inv-loop μ-loop
-unfolding count
-unpredict-behind-requires c κs =
-    let first = c .before .before in
-    let head = first .before .before .before in
-    let start = head .before .before in
-    (start .pre .1, omega (arith, head .loop .inv .1), omega (arith, first .unupdate-next .kept .0, head .loop .inv .2, few _ _ _ _ (start .pre .0)))
+    (start .pre .1, omega (arith, head .loop .inv .1), omega (arith, head .loop .inv .2, few _ _ _ _ (start .pre .0)))
 
 add-n : tie.Need-add-n Inv-loop μ-loop
 unfolding count
 add-n c =
-    let head = c .before .before .before .before .before .before .before in
+    let head = c .before .before .before .before in
     let start = head .before .before in
     omega (arith, head .loop .inv .1, few _ _ _ _ (start .pre .0))
 
@@ -68,27 +60,41 @@ loop-less c = omega arith
 loop-again : tie.Need-loop-again Inv-loop μ-loop
 unfolding count
 loop-again c =
-    let second = c .before in
-    let first = second .before .before .before in
-    let head = first .before .before .before in
+    let turn = c .before in
+    let head = turn .before .before .before in
     let start = head .before .before in
-    let inv = head .loop .inv in
-    let size = first .unupdate-next .kept .0 in (
+    let inv = head .loop .inv in (
       omega arith,
       inv .1,
-      second .unpredict-behind .kept .0 ∙ size ∙ inv .2,
-      lower-turn _ _ _ _ _ (rows-kept (inv .2) (start .pre .0)) (start .pre .1) _ _ _ _ (omega (arith, inv .1)) (first .unupdate-next .ensures)
-          (rw size at (second .unpredict-behind .ensures)) (inv .3),
+      turn .unlift-turn .kept .0 ∙ inv .2,
+      lower-turn _ _ _ _ _ (rows-kept (inv .2) (start .pre .0)) (start .pre .1) _ _ _ _ (omega (arith, inv .1)) refl (turn .unlift-turn .ensures) (inv .3),
     )
 
+unlift-turn-requires-2 : tie.Need-unlift-turn-requires-2 Inv-loop μ-loop
+unlift-turn-requires-2 c κs =
+    let head = c .before .before in
+    let start = head .before .before in
+    (start .pre .1, omega (arith, head .loop .inv .1), omega (arith, head .loop .inv .2, few _ _ _ _ (start .pre .0)))
+
 same-length : tie.Need-same-length Inv-loop μ-loop
-same-length c = c .before .loop .inv .2
+same-length c =
+    let turn = c .before in
+    let head = turn .before .before .before in
+    turn .unlift-turn2 .kept .0 ∙ head .loop .inv .2
 
 returns : tie.Need-returns Inv-loop μ-loop
 returns c =
-    let inv = c .before .loop .inv in
-    let start = c .before .before .before in
-    lower-end _ _ _ _ _ (start .pre .0) (start .pre .1) _ _ (omega (arith, inv .1)) (inv .3)
+    let turn = c .before in
+    let head = turn .before .before .before in
+    let start = head .before .before in
+    let inv = head .loop .inv in
+    let R = start .pre .0 in
+    let more = start .pre .1 in
+    let end = inv .1 in
+    let last = start .args .height - head .before .lows .result + 1 - start .args .y % 2 in
+    let all : head .loop .n ≡ last = omega arith in
+    let done = lower-turn _ _ _ _ _ (rows-kept (inv .2) R) more last _ _ _ (omega (arith, end)) refl (turn .unlift-turn2 .ensures) (rw all at (inv .3)) in
+    lower-end _ _ _ _ _ R more _ _ (omega (arith, end)) done
 
 pub unlift-rows-spec : {M : Type 1} → statement M
 unlift-rows-spec =
@@ -97,14 +103,14 @@ unlift-rows-spec =
     Inv-loop
     μ-loop
     lows-requires
-    sub-end
-    add-end
-    sub-end-2
+    sub-last
+    add-last
+    sub-last-2
     loop-holds
-    unupdate-next-requires
-    unpredict-behind-requires
+    unlift-turn-requires
     add-n
     loop-less
     loop-again
+    unlift-turn-requires-2
     same-length
     returns)
