@@ -3,4 +3,3 @@ pub mod PartLaws
 pub mod WeaveLaws
 pub mod HeightLaws
 pub mod Splices
-pub mod LoneLaws

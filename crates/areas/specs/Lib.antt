@@ -1,3 +1,2 @@
 pub mod Areas
 pub mod Moves
-pub mod Lone

@@ -3,6 +3,5 @@
 pub mod copies;
 pub mod height_rows;
 pub mod lines;
-pub mod lone;
 mod place;
 pub mod ranges;

@@ -3,3 +3,4 @@ pub mod RaiseLaws
 pub mod LowerLaws
 pub mod CallLaws
 pub mod ShortColumns
+pub mod LoneLaws

@@ -23,7 +23,7 @@ use Rattle.nine_seven.specs.NineSeven.{lineForward, lineHalvesBack, lineBack}
 use Rattle.nine_seven.specs.Memory.{liftedInPlace}
 use Rattle.nine_seven.proofs.LiftLaws.{lifted-short}
 use Rattle.nine_seven.proofs.NineSevenLaws.{high-one, even-one, odd-one}
-use Rattle.areas.specs.Lone.{doubledInPlace, halvedInPlace}
+use Rattle.nine_seven_sweep.specs.Lone.{doubledInPlace, halvedInPlace}
 use Rattle.nine_seven_sweep.specs.Columns.{columnsFit, column, columnsBy, columnsLifted, columnsBack, columnsHave}
 use Rattle.nine_seven_sweep.specs.Passes.{Rows}
 

@@ -2,4 +2,5 @@
 mod back;
 pub mod columns;
 mod forth;
+pub mod lone;
 mod near;

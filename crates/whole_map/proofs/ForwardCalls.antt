@@ -58,6 +58,23 @@ lifted-part x a n k l z e room size is =
     let is′ : at z ≡ liftedInPlace (side x n) (windowed a n (at l)) = cc (is, mid, lent-part a n k l e) in
     moved-part a n k l z _ e room size (λ i h. ap (λ (y : ℕ → ℤ). y i) is′)
 
+-- each number of a part at the front changed by f
+pub mapped-part : (f : ℤ → ℤ) (n k : ℕ) (l z : List ℤ) → k ≡ n → n ≤ length l → length z ≡ length (midOf 0 k l) →
+    at z ≡ fronted (length (midOf 0 k l)) (λ i. f (at (midOf 0 k l) i)) (at (midOf 0 k l)) → at (putMid 0 k l z) ≡ fronted n (λ i. f (at l i)) (at l)
+mapped-part f n k l z e room size is =
+    let mid : length (midOf 0 k l) ≡ n = length-mid 0 k l (omega arith) ∙ e in
+    moved-part 0 n k l z (λ i. f (at l i)) e (omega arith) size
+    (λ i h.
+    let t : 0 + i ≡ i = omega arith in
+    ap (λ (u : ℕ → ℤ). u i) is
+    ∙ front-at _ _ _ i (omega arith)
+    ∙ ap f (ap (λ (u : ℕ → ℤ). u i) (lent-part 0 n k l e) ∙ window-in 0 n (at l) i h ∙ ap (at l) t))
+    ∙ fun-ext λ j.
+    elim (decLt j n) [
+      | yes a ↦ splice-in 0 n _ (at l) j (omega arith) (omega arith) ∙ ap (λ (i : ℕ). f (at l i)) (omega arith) ∙ sym (front-at n _ _ j a)
+      | no a ↦ splice-past 0 n _ (at l) j (omega arith) ∙ sym (front-rest n _ _ j (omega arith))
+    ]
+
 -- ---- heights g, row m of them laid in halves in row i of the plane
 pub height-part : (x w m i k k′ : ℕ) (g : List ℕ) (l z : List ℤ) → 0 < w → k ≡ w → k′ ≡ w → m * w + w ≤ length g → i * w + w ≤ length l →
     length z ≡ length (midOf (i * w) k l) →

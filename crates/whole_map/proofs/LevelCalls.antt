@@ -168,6 +168,16 @@ module _ (a m : ℕ) (l z : List ℤ) (room : a + m ≤ length l) (size : length
         | no b ↦ window-past a m (at (putMid a m l z)) j (omega arith) ∙ sym (List·getD-eq-default z (pos 0) (omega arith))
       ]
 
+-- a test of a part at the front
+pub front-test : (f : ℤ → Bool) (n k : ℕ) (l : List ℤ) → k ≡ n → n ≤ length l →
+    every (length (midOf 0 k l)) (λ i. f (at (midOf 0 k l) i)) ≡ every n (λ i. f (at l i))
+front-test f n k l e room =
+    let mid : length (midOf 0 k l) ≡ n = length-mid 0 k l (omega arith) ∙ e in
+    ap (λ (m : ℕ). every m (λ i. f (at (midOf 0 k l) i))) mid
+    ∙ every-same n _ _ (λ i b.
+    let t : 0 + i ≡ i = omega arith in
+    ap f (ap (λ (u : ℕ → ℤ). u i) (lent-part 0 n k l e) ∙ window-in 0 n (at l) i b ∙ ap (at l) t))
+
 -- ---- row i of an area: n numbers y put in from column `made` on, where the pass leaves those before and those past
 pub copy-turn : (s w made n i p : ℕ) (Y Z : Grid) (y x x′ : ℕ → ℤ) → w ≤ s → made + n ≡ w → p ≡ i * s + made → x′ ≡ spliced p n y x →
     ((c : ℕ) → c < n → y c ≡ Y i (made + c)) → ((c : ℕ) → c < made → Y i c ≡ Z i c) → ((c : ℕ) → w ≤ c → Y i c ≡ Z i c) → RowSwept s Y Z i x →

@@ -1,7 +1,8 @@
 -- The laws of what is done to one row: what each pass leaves at a place, a turn of its loop, and what two passes come to together. Assumes nothing.
-use mathlib.Core.Path.{_≡_, sym, ap, _∙_, fun-ext}
+use mathlib.Core.Path.{_≡_, refl, sym, ap, _∙_, fun-ext}
 use mathlib.Core.List.{List}
-use Prim.Native.Nat.{ℕ, _+_, _-_, _≤_, _<_}
+use mathlib.Core.Bool.{Bool, true, false, _&&_}
+use Prim.Native.Nat.{ℕ, suc, _+_, _-_, _≤_, _<_}
 use native.Mathlib.Decide.{decLt}
 use native.Mathlib.Omega.{arith}
 use lib.IntN.{ℤ, pos}
@@ -81,6 +82,15 @@ module _ (S : Side) (k : ℕ) (y x z : ℕ → ℤ) (l : List ℤ) (e : k ≡ S 
       let is′ : y ≡ fronted n (joined S (halvesOf S (at (midOf 0 k l)))) x =
       rw (mid ∙ e) at (did _ _ _ _ (le-leb (length (midOf 0 k l)) m (omega arith)) made) in
       is′ ∙ ap (λ (u : ℕ → ℤ). fronted n (joined S (halvesOf S u)) x) (lent-front n k x z l e h is) ∙ cut-woven S x x
+
+-- ---- a test of every number, gathered row by row: t is the test of row i
+and-both : (a b : Bool) → a && b ≡ both a b
+and-both true b = refl
+and-both false b = refl
+
+pub gather-turn : (ok t : Bool) (i : ℕ) (p : ℕ → Bool) → ok ≡ every i p → t ≡ p i → ok && t ≡ every (i + 1) p
+unfolding every
+gather-turn ok t i p is it = let e : i + 1 ≡ suc i = omega arith in rw e (and-both ok t ∙ cc (is, it))
 
 -- the bounds read back
 pub between-read : (n : ℕ) (x : ℕ → ℤ) {low low′ high high′ : ℤ} → low ≡ low′ → high ≡ high′ →

@@ -168,7 +168,7 @@ fn lift_lone(area: &mut [i32], width: usize, y: usize)
     ensures { λ _. ⌜ at (now (area .exit)) ≡ pick (loneHigh (side y 1)) (doubledInPlace width (at (now (area .entry)))) (at (now (area .entry))) ⌝ }
 {
     if y % 2 == 1 {
-        areas::lone::double_row(&mut area[0..width]);
+        rowwise::double_row(&mut area[0..width]);
     }
 }
 

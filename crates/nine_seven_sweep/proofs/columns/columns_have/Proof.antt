@@ -5,7 +5,7 @@ use Prim.Native.Nat.{_-_}
 use native.Mathlib.Omega.{arith}
 use borrow.Author.Tests.{not-true, not-false}
 use Rattle.lifting.specs.Grid.{side, isEven}
-use Rattle.areas.proofs.LoneLaws.{front-test}
+use Rattle.nine_seven_sweep.proofs.LoneLaws.{front-test}
 use Rattle.nine_seven_sweep.proofs.ShortColumns.{have-other, have-lone}
 use Rattle.nine_seven_sweep.proofs.columns.columns_have.Statement.{statement}
 use Rattle.nine_seven_sweep.proofs.columns.columns_have.Tie as tie

@@ -7,8 +7,8 @@ use lib.IntN.{pos, _*ℤ_}
 use borrow.Author.Tests.{not-true, not-false}
 use Rattle.numbers.specs.Word.{wrap32}
 use Rattle.lifting.specs.Grid.{side}
-use Rattle.areas.specs.Lone.{doubledInPlace}
-use Rattle.areas.proofs.LoneLaws.{mapped-part}
+use Rattle.nine_seven_sweep.specs.Lone.{doubledInPlace}
+use Rattle.nine_seven_sweep.proofs.LoneLaws.{mapped-part}
 use Rattle.nine_seven_sweep.proofs.ShortColumns.{lone-lifted, short-lifted}
 use Rattle.nine_seven_sweep.proofs.columns.lift_all.Statement.{statement}
 use Rattle.nine_seven_sweep.proofs.columns.lift_all.Tie as tie

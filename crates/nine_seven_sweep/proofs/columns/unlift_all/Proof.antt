@@ -6,8 +6,8 @@ use native.Mathlib.Omega.{arith}
 use lib.Signed.{shrZ}
 use borrow.Author.Tests.{not-true, not-false}
 use Rattle.lifting.specs.Grid.{side}
-use Rattle.areas.specs.Lone.{halvedInPlace}
-use Rattle.areas.proofs.LoneLaws.{mapped-part}
+use Rattle.nine_seven_sweep.specs.Lone.{halvedInPlace}
+use Rattle.nine_seven_sweep.proofs.LoneLaws.{mapped-part}
 use Rattle.nine_seven_sweep.proofs.ShortColumns.{lone-back, short-back}
 use Rattle.nine_seven_sweep.proofs.columns.unlift_all.Statement.{statement}
 use Rattle.nine_seven_sweep.proofs.columns.unlift_all.Tie as tie

@@ -8,7 +8,8 @@ use borrow.Author.Tests.{eq-eqb}
 use Rattle.lifting.specs.Grid.{side, isEven}
 use Rattle.lifting.proofs.LoneLaws.{lone-odd, lone-even}
 use Rattle.whole_map.specs.Rowwise.{halvedInPlace}
-use Rattle.areas.proofs.LoneLaws.{mapped-part, front-test}
+use Rattle.whole_map.proofs.LevelCalls.{front-test}
+use Rattle.whole_map.proofs.ForwardCalls.{mapped-part}
 use Rattle.whole_map.proofs.levels.unlift_lone.Statement.{statement}
 use Rattle.whole_map.proofs.levels.unlift_lone.Tie as tie
 
@@ -39,8 +40,8 @@ returns-2 c =
     let a = start .args in
     let odd = lone-odd (side (a .y) 1) (omega (arith, left .if1 .left)) ∙ eq-eqb 1 1 refl in
     simp odd (
-      called .ensures .0 ∙ front-test (a .width) (a .width - 0) (a .work .now) (omega arith) (start .pre) isEven,
-      mapped-part (a .width) (a .width - 0) (a .work .now) (omega arith) (start .pre) (λ v. shrZ v 2) (called .last .0) (called .kept .0) (called .ensures .1),
+      called .ensures .0 ∙ front-test isEven (a .width) (a .width - 0) (a .work .now) (omega arith) (start .pre),
+      mapped-part (λ v. shrZ v 2) (a .width) (a .width - 0) (a .work .now) (called .last .0) (omega arith) (start .pre) (called .kept .0) (called .ensures .1),
     )
 
 pub unlift-lone-spec : {M : Type 1} → statement M

@@ -9,7 +9,7 @@ use Rattle.numbers.specs.Word.{wrap32}
 use Rattle.lifting.specs.Grid.{side}
 use Rattle.lifting.proofs.LoneLaws.{lone-odd, lone-even}
 use Rattle.whole_map.specs.Rowwise.{doubledInPlace}
-use Rattle.areas.proofs.LoneLaws.{mapped-part}
+use Rattle.whole_map.proofs.ForwardCalls.{mapped-part}
 use Rattle.whole_map.proofs.passes.lift_lone.Statement.{statement}
 use Rattle.whole_map.proofs.passes.lift_lone.Tie as tie
 
@@ -37,7 +37,7 @@ returns c =
     let args = start .args in
     let odd = lone-odd (side (args .y) 1) (omega arith) ∙ eq-eqb 1 1 refl in
     simp odd
-    (mapped-part (args .width) (args .width - 0) (args .area .now) (omega arith) (start .pre) (λ v. wrap32 (pos 2 *ℤ v)) (called .last .0) (called .kept .0)
+    (mapped-part (λ v. wrap32 (pos 2 *ℤ v)) (args .width) (args .width - 0) (args .area .now) (called .last .0) (omega arith) (start .pre) (called .kept .0)
     (called .ensures))
 
 returns-2 : tie.Need-returns-2

@@ -15,7 +15,7 @@ use Rattle.wavelet.specs.Maps.{every}
 use Rattle.whole_map.specs.Passes.{rowsMapped}
 use Rattle.whole_map.proofs.GridSweep.{Passed, pass-start, pass-room, pass-end, row-length, lent-row, mapped-past, map-turn}
 use Rattle.areas.proofs.AreaLaws.{between-start}
-use Rattle.areas.proofs.LoneLaws.{gather-turn}
+use Rattle.whole_map.proofs.RowwiseLaws.{gather-turn}
 use Rattle.whole_map.proofs.TestLaws.{row-between, all-rows}
 use Rattle.whole_map.proofs.LevelSteps.{between-by}
 use Rattle.whole_map.proofs.passes.weave_rows.Statement.{statement}
