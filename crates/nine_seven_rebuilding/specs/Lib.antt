@@ -1,0 +1,6 @@
+pub mod Filter
+pub mod Slots
+pub mod Work
+pub mod Rebuilding
+pub mod Stands
+pub mod NineSevenBack
