@@ -4,3 +4,6 @@ pub mod AdmitLaws
 pub mod KeptLaws
 pub mod WorkLaws
 pub mod RebuildingLaws
+pub mod RowsIn
+pub mod RowSets
+pub mod SetMade
