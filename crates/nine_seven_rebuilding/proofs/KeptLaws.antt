@@ -20,6 +20,13 @@ use Rattle.nine_seven_rebuilding.specs.Slots.{rowPlace, rowUnlifted, row
 use Rattle.nine_seven_rebuilding.specs.Work.{evenRow, oddRow, evenDone}
 use Rattle.nine_seven_rebuilding.proofs.SlotLaws.{slot-room, place-is, even-one}
 
+pub unlifted-kept : (W : Side) (q : ℕ) (x : ℕ → ℤ) → Kept (8 * W .length) x (rowUnlifted W q x)
+unfolding rowUnlifted
+unlifted-kept W q x =
+    let room = slot-room (W .length) q in
+    let place = place-is (W .length) q in
+    record { same = λ j h. splice-past (rowPlace (W .length) q) (W .length) _ x j (omega arith) }
+
 pub low-kept : (W H : Side) (n : ℕ) (x : ℕ → ℤ) → Kept (8 * W .length) x (lowRowTaken W H n x)
 unfolding lowRowTaken
 low-kept W H n x =

@@ -7,3 +7,6 @@ pub mod RebuildingLaws
 pub mod RowsIn
 pub mod RowSets
 pub mod SetMade
+pub mod WorkedPast
+pub mod LevelHas
+pub mod NineSevenBackLaws
