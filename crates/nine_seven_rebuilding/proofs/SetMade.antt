@@ -33,7 +33,7 @@ use Rattle.level.proofs.SetMade.{Outcome, stops, goes, bind-outcome}
 use Rattle.nine_seven_rebuilding.specs.Filter.{valueFits, rowsUnlifted, levelBack, columnsHave, levelHas, setOf}
 use Rattle.nine_seven_rebuilding.specs.Slots.{rowPlace, rowUnlifted, rowHasLine, rowByTwo, rowHalved, rowIsEven}
 use Rattle.nine_seven_rebuilding.specs.Work.{rowBefore, rowAfter, lineTried, lowTried, highTried, setUnlifted, evenRow, oddRow, evenDone, rowFits}
-use Rattle.nine_seven_rebuilding.specs.Work.{admitted, pairMade, firstMade, earlierMade, ownMade, loneMade, lastMade, restMade, rowsMade, setMade}
+use Rattle.nine_seven_rebuilding.specs.Work.{admitted, pairMade, firstMade, earlierPair, earlierMade, ownMade, loneMade, lastMade, restMade, rowsMade, setMade}
 use Rattle.nine_seven_rebuilding.specs.Stands.{SetHas, SetBefore, SetLeaves}
 use Rattle.nine_seven_rebuilding.proofs.WorkLaws.{others}
 use Rattle.nine_seven_rebuilding.proofs.RowSets.{low-before, low-after, high-before, high-after, high-far-before, high-far-after}
@@ -467,8 +467,8 @@ module _ (k : ℕ) (W H : Side) (p : Band → Grid) where
         go (no e) = rw (ne-eqb (H .start % 2 + n) 0 e) (goes x (record { held = s; fit = λ r b q u. absurd (e (at-zero n r q u .0)) }))
 
     -- ---- the earlier rows
-    near-earlier : (n : ℕ) → 2 * n < endOf H → 2 ≤ n → Near n (n - 2)
-    unfolding endOf count
+    near-earlier : (n : ℕ) → 2 * n < endOf H → 2 ≤ n → Near n (earlierPair n)
+    unfolding endOf count earlierPair
     near-earlier n l b = (omega arith, omega arith, omega arith, l, omega arith, λ z. absurd (z (omega arith)))
 
     stage-is : (n d e f g : ℕ) (x : ℕ → ℤ) → d ≡ e → g ≤ f → Stage n d f x → Stage n e g x
@@ -480,14 +480,14 @@ module _ (k : ℕ) (W H : Side) (p : Band → Grid) where
 
     earlier-made : (n : ℕ) (x : ℕ → ℤ) → 2 * n < endOf H → Stage n (n - 2) 1 x →
         Outcome (FitAll k W H p) (Stage n (n - 1) (suc (2 * n - 2))) (earlierMade k (W .length) H n x)
-    unfolding earlierMade
+    unfolding earlierMade earlierPair
     earlier-made n x l s = go (decLt n 2)
       where
-        go : Dec (n < 2) → Outcome (FitAll k W H p) (Stage n (n - 1) (suc (2 * n - 2))) (pick (ltb n 2) (passed x) (pairMade k (W .length) H (n - 2) x))
+        go : Dec (n < 2) → Outcome (FitAll k W H p) (Stage n (n - 1) (suc (2 * n - 2))) (pick (ltb n 2) (passed x) (pairMade k (W .length) H (earlierPair n) x))
         go (yes u) = rw (lt-ltb n 2 u) (goes x (stage-is n (n - 2) (n - 1) 1 (suc (2 * n - 2)) x (omega arith) (omega arith) s))
         go (no u) = rw (le-ltb n 2 (omega arith))
-            (weaken _ (λ y t. stage-is n (suc (n - 2)) (n - 1) (2 * (n - 2) + 3) (suc (2 * n - 2)) y (omega arith) (omega arith) t)
-            (pair-made n 1 (n - 2) x (near-earlier n l (omega arith)) (omega arith) (λ r b q v. let w = set-low H n r b q in absurd (omega arith)) s))
+            (weaken _ (λ y t. stage-is n (suc (earlierPair n)) (n - 1) (2 * earlierPair n + 3) (suc (2 * n - 2)) y (omega arith) (omega arith) t)
+            (pair-made n 1 (earlierPair n) x (near-earlier n l (omega arith)) (omega arith) (λ r b q v. let w = set-low H n r b q in absurd (omega arith)) s))
 
     -- ---- all that is left
     abbrev Worked : ℕ → (ℕ → ℤ) → Type 0

@@ -20,7 +20,7 @@ use Rattle.level.specs.Work.{endOf, hasLow}
 use Rattle.level.proofs.WorkLaws.{told-no, told-yes, bind-failed, bind-passed, low-first, low-there}
 use Rattle.nine_seven_rebuilding.specs.Slots.{rowPlace, rowHalved, rowIsEven, lowRowTaken}
 use Rattle.nine_seven_rebuilding.specs.Work.{lineTried, lowTried, highTried, setUnlifted, evenRow, oddRow, evenDone, rowFits, admitted, pairMade}
-use Rattle.nine_seven_rebuilding.specs.Work.{firstMade, earlierMade, ownMade, loneMade, lastMade, restMade, rowsMade, setMade, lowTaken, setWorked}
+use Rattle.nine_seven_rebuilding.specs.Work.{firstMade, earlierPair, earlierMade, ownMade, loneMade, lastMade, restMade, rowsMade, setMade, lowTaken, setWorked}
 
 -- ---- along the rows, and the even row
 module _ (W H : Side) (n : ℕ) (x : ℕ → ℤ) where
@@ -87,9 +87,9 @@ module _ (k w : ℕ) (H : Side) (n : ℕ) (x : ℕ → ℤ) where
   unfolding earlierMade
   earlier-none b = rw (lt-ltb n 2 b) refl
 
-  pub earlier-pair : 2 ≤ n → pairMade k w H (n - 2) x ≡ earlierMade k w H n x
+  pub earlier-pair : (m : ℕ) → m ≡ earlierPair n → 2 ≤ n → pairMade k w H m x ≡ earlierMade k w H n x
   unfolding earlierMade
-  earlier-pair b = rw (le-ltb n 2 b) refl
+  earlier-pair m e b = rw (le-ltb n 2 b, e) refl
 
   pub own-none : n < 1 → passed x ≡ ownMade k w H n x
   unfolding ownMade

@@ -12,7 +12,7 @@ use Rattle.level.proofs.KeptLaws.{kept-none}
 use Rattle.level.proofs.WorkedPast.{Keeps, stops, goes, after, bound}
 use Rattle.nine_seven_rebuilding.specs.Slots.{rowUnlifted, rowHasLine, rowHalved, rowIsEven, lowRowTaken}
 use Rattle.nine_seven_rebuilding.specs.Work.{lineTried, lowTried, highTried, setUnlifted, evenDone, oddRow, rowFits, admitted, pairMade, firstMade}
-use Rattle.nine_seven_rebuilding.specs.Work.{earlierMade, ownMade, loneMade, lastMade, restMade, rowsMade, setMade, lowTaken, setWorked}
+use Rattle.nine_seven_rebuilding.specs.Work.{earlierPair, earlierMade, ownMade, loneMade, lastMade, restMade, rowsMade, setMade, lowTaken, setWorked}
 use Rattle.nine_seven_rebuilding.proofs.KeptLaws.{unlifted-kept, low-kept, halved-kept, odd-kept, done-kept}
 
 module _ (n : ℕ) where
@@ -68,7 +68,7 @@ module _ (k : ℕ) (W H : Side) where
 
   earlier-past : (n : ℕ) (x : ℕ → ℤ) → Keeps room x (earlierMade k w H n x)
   unfolding earlierMade
-  earlier-past n x = either room x _ _ (none x) (pair-past (n - 2) x) (ltb n 2)
+  earlier-past n x = either room x _ _ (none x) (pair-past (earlierPair n) x) (ltb n 2)
 
   own-past : (n : ℕ) (x : ℕ → ℤ) → Keeps room x (ownMade k w H n x)
   unfolding ownMade

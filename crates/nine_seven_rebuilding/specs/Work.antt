@@ -65,9 +65,12 @@ pairMade k w H m x = bind (admitted k w (2 * m + 1) (oddRow w H (2 * m + 1) x)) 
 unfoldable pub firstMade : ℕ → ℕ → Side → ℕ → (ℕ → ℤ) → Tried
 firstMade k w H n x = pick (eqb (H .start % 2 + n) 0) (admitted k w 0 x) (passed x)
 
--- the rows at 2n − 3 and 2n − 2, if there are such
+-- the rows at 2n − 3 and 2n − 2, if there are such: those at 2m + 1 and 2m + 2 for this m
+unfoldable pub earlierPair : ℕ → ℕ
+earlierPair n = n - 2
+
 unfoldable pub earlierMade : ℕ → ℕ → Side → ℕ → (ℕ → ℤ) → Tried
-earlierMade k w H n x = pick (ltb n 2) (passed x) (pairMade k w H (n - 2) x)
+earlierMade k w H n x = pick (ltb n 2) (passed x) (pairMade k w H (earlierPair n) x)
 
 -- those at 2n − 1 and 2n,
 unfoldable pub ownMade : ℕ → ℕ → Side → ℕ → (ℕ → ℤ) → Tried
