@@ -1,5 +1,5 @@
--- A level's memory of eight rows, row by row: what a row fed, a row lifted back, a row changed by others, and a row taken from the next level leave of every row.
--- A row is told by its two halves, c : Half → ℕ → ℤ, as at the 5/3 (RowsIn of `level`). Assumes nothing.
+-- A level's memory of eight rows, row by row: what a row fed, a row lifted back, a row changed by others, and a row taken from the next level leave of every
+-- row. A row is told by its two halves, c : Half → ℕ → ℤ, as at the 5/3 (RowsIn of `level`). Assumes nothing.
 use mathlib.Core.Path.{_≡_, refl, sym, ap, _∙_}
 use Prim.Native.Nat.{ℕ, _+_, _-_, _*_, _/_, _≤_, _<_}
 use native.Mathlib.Decide.{decLt}

@@ -1,5 +1,5 @@
--- Working out a set. If the level's memory holds the set's rows, and of the sets before it the rebuilt even rows and the high rows of the columns that it needs,
--- then what is made are the rows of the way back; and if a number is refused, a row does not fit, or one that is halved is odd.
+-- Working out a set. If the level's memory holds the set's rows, and of the sets before it the rebuilt even rows and the high rows of the columns that it
+-- needs, then what is made are the rows of the way back; and if a number is refused, a row does not fit, or one that is halved is odd.
 -- Over words, for any bands: nothing is asked of their numbers. Assumes nothing.
 use mathlib.Core.Bool.{Bool, true, false}
 use mathlib.Core.Path.{_≡_, refl, sym, ap, subst, _∙_}
@@ -33,7 +33,8 @@ use Rattle.level.proofs.SetMade.{Outcome, stops, goes, bind-outcome}
 use Rattle.nine_seven_rebuilding.specs.Filter.{valueFits, rowsUnlifted, levelBack, columnsHave, levelHas, setOf}
 use Rattle.nine_seven_rebuilding.specs.Slots.{rowPlace, rowUnlifted, rowHasLine, rowByTwo, rowHalved, rowIsEven}
 use Rattle.nine_seven_rebuilding.specs.Work.{rowBefore, rowAfter, lineTried, lowTried, highTried, setUnlifted, evenRow, oddRow, evenDone, rowFits}
-use Rattle.nine_seven_rebuilding.specs.Work.{admitted, pairMade, firstMade, earlierPair, earlierMade, ownMade, loneMade, lastMade, restMade, rowsMade, setMade}
+use Rattle.nine_seven_rebuilding.specs.Work.{admitted, pairMade, firstMade, earlierPair, earlierMade, ownMade, loneMade, lastMade, restMade}
+use Rattle.nine_seven_rebuilding.specs.Work.{rowsMade, setMade}
 use Rattle.nine_seven_rebuilding.specs.Stands.{SetHas, SetBefore, SetLeaves}
 use Rattle.nine_seven_rebuilding.proofs.WorkLaws.{others}
 use Rattle.nine_seven_rebuilding.proofs.RowSets.{low-before, low-after, high-before, high-after, high-far-before, high-far-after}
@@ -329,12 +330,15 @@ module _ (k : ℕ) (W H : Side) (p : Band → Grid) where
                 | yes z ↦ rw z (λ a j t.
                     two-is (unupdated wrap32) W (2 * n) (rowBefore H 1 (2 * n)) (rowAfter H 1 (2 * n)) x _ _ _ (s .low b)
                     (moved x _ _ (cols hi (left hi H (n - b₀))) (low-before H n m b c) (s .high (left hi H (n - b₀)) (u .0) (u .1) (omega (arith, u .2))))
-                    (moved x _ _ (cols hi (right hi H (n - b₀))) (low-after H n m b c) (s .high (right hi H (n - b₀)) (v .0) (v .1) (omega (arith, v .2)))) a j t
+                    (moved x _ _ (cols hi (right hi H (n - b₀))) (low-after H n m b c)
+                    (s .high (right hi H (n - b₀)) (v .0) (v .1) (omega (arith, v .2)))) a j t
                     ∙ by-columns (λ y₁ y₂ y₃ _ _. unupdated wrap32 y₁ y₂ y₃) _ _ _ (G 0) (G 0) (G (row (2 * n))) (λ d _. even-value n d m b c) a j t)
-                | no z ↦ is-old W (2 * n) x _ (2 * i) _ o (apart (2 * n) (2 * i) (λ y. omega (arith, z)) (omega arith) (omega arith)) (s .even i (omega (arith, z)) r e)
+                | no z ↦ is-old W (2 * n) x _ (2 * i) _ o (apart (2 * n) (2 * i) (λ y. omega (arith, z)) (omega arith) (omega arith))
+                    (s .even i (omega (arith, z)) r e)
               ];
               odd = λ i e q r. absurd (omega arith);
-              high = λ i e q r t. is-old W (2 * n) x _ (2 * i + 1) _ o (apart (2 * n) (2 * i + 1) (λ y. omega arith) (omega arith) (omega arith)) (s .high i e r t);
+              high = λ i e q r t. is-old W (2 * n) x _ (2 * i + 1) _ o (apart (2 * n) (2 * i + 1) (λ y. omega arith) (omega arith) (omega arith))
+                  (s .high i e r t);
               past = λ j e. o .past j e ∙ s .past j e;
             })
         go (no m) = rw (le-ltb 1 (H .length) (omega arith)) (record {
@@ -373,7 +377,8 @@ module _ (k : ℕ) (W H : Side) (p : Band → Grid) where
     unfolding oddRow
     odd-is-made n m x g s a j q =
         let t = evens-in H n m (g .0) (g .1) (g .2) (g .3) (g .4) (g .5) in
-        four-is (unpredicted wrap32) W (2 * m + 1) (rowBefore H 1 (2 * m + 1)) (rowAfter H 1 (2 * m + 1)) (rowBefore H 3 (2 * m + 1)) (rowAfter H 3 (2 * m + 1)) x
+        four-is (unpredicted wrap32) W (2 * m + 1) (rowBefore H 1 (2 * m + 1)) (rowAfter H 1 (2 * m + 1)) (rowBefore H 3 (2 * m + 1))
+        (rowAfter H 3 (2 * m + 1)) x
         _ _ _ _ _ (s .high m (g .0) (omega arith) (g .2) (g .4))
         (moved x _ _ (G (row (2 * (left lo H m + b₀)))) (high-before H m (g .1) (g .0)) (there (left lo H m) (t .0)))
         (moved x _ _ (G (row (2 * (right lo H m + b₀)))) (high-after H m (g .1) (g .0)) (there (right lo H m) (t .1)))
@@ -433,7 +438,8 @@ module _ (k : ℕ) (W H : Side) (p : Band → Grid) where
     unfolding pairMade
     pair-made n f m x g u more s =
         bind-outcome (admitted k (W .length) (2 * m + 1) (oddRow (W .length) H (2 * m + 1) x)) _
-        (admit (λ y. Held n (suc m) y × FitRow (row (2 * m + 1))) (2 * m + 1) (row (2 * m + 1)) _ (row-in (2 * m + 1) (omega (arith, g .3)) (omega (arith, few)))
+        (admit (λ y. Held n (suc m) y × FitRow (row (2 * m + 1))) (2 * m + 1) (row (2 * m + 1)) _
+        (row-in (2 * m + 1) (omega (arith, g .3)) (omega (arith, few)))
         (h .odd m (g .0) (omega arith) (g .4)) (λ t. (h, t)))
         (λ y e. admit (Stage n (suc m) (2 * m + 3)) (2 * m + 2) (row (2 * m + 2)) y (row-in (2 * m + 2) (omega (arith, g .3)) (omega (arith, few)))
         (rw twice (e .0 .even (suc m) (omega (arith, few)) u (omega (arith, g .4))))

@@ -20,7 +20,8 @@ use Rattle.level.specs.Work.{endOf, hasLow}
 use Rattle.level.proofs.WorkLaws.{told-no, told-yes, bind-failed, bind-passed, low-first, low-there}
 use Rattle.nine_seven_rebuilding.specs.Slots.{rowPlace, rowHalved, rowIsEven, lowRowTaken}
 use Rattle.nine_seven_rebuilding.specs.Work.{lineTried, lowTried, highTried, setUnlifted, evenRow, oddRow, evenDone, rowFits, admitted, pairMade}
-use Rattle.nine_seven_rebuilding.specs.Work.{firstMade, earlierPair, earlierMade, ownMade, loneMade, lastMade, restMade, rowsMade, setMade, lowTaken, setWorked}
+use Rattle.nine_seven_rebuilding.specs.Work.{firstMade, earlierPair, earlierMade, ownMade, loneMade, lastMade, restMade, rowsMade, setMade}
+use Rattle.nine_seven_rebuilding.specs.Work.{lowTaken, setWorked}
 
 -- ---- along the rows, and the even row
 module _ (W H : Side) (n : ℕ) (x : ℕ → ℤ) where

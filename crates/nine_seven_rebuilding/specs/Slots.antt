@@ -1,6 +1,6 @@
--- A level's memory: eight rows of as many numbers as it has columns, each in halves. Rows are told, and sets counted, as the 5/3's are (Slots of `level`): row r
--- is at start % 2 + r, and set n has the rows at 2n (low) and 2n + 1 (high). The row at q stands in slot q mod 8: there its coefficients are collected, and there
--- they become the row.
+-- A level's memory: eight rows of as many numbers as it has columns, each in halves. Rows are told, and sets counted, as the 5/3's are (Slots of `level`):
+-- row r is at start % 2 + r, and set n has the rows at 2n (low) and 2n + 1 (high). The row at q stands in slot q mod 8: there its coefficients are collected,
+-- and there they become the row.
 use mathlib.Core.Bool.{Bool}
 use Prim.Native.Nat.{ℕ, _+_, _-_, _*_, _%_}
 use lib.IntN.{ℤ}

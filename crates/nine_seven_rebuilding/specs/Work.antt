@@ -1,8 +1,8 @@
 -- Working out set n of a level that splits the columns W and the rows H by the integer 9/7. Its rows are low-low values of level k (k = 0: heights).
--- Document 01, "Back: rows, then columns"; document 02, Q-8. Along the row first. Then the even row at 2n, by its low row and the high rows next to it; it stands
--- there for the odd rows, and passes the test of 14 with the set that makes it. An odd row is rebuilt, and tested, with the set that makes it: the last even
--- row that it goes by is that set's. "Set n makes rows 2n − 3 and 2n − 2, a first row at an even coordinate is made by its own set, the last set makes all
--- that is left." Q-3: an only column, or an only row, at an odd coordinate is halved; where a number of it is odd, nothing goes on (14).
+-- Document 01, "Back: rows, then columns"; document 02, Q-8. Along the row first. Then the even row at 2n, by its low row and the high rows next to it; it
+-- stands there for the odd rows, and passes the test of 14 with the set that makes it. An odd row is rebuilt, and tested, with the set that makes it: the last
+-- even row that it goes by is that set's. Set n makes the rows at 2n − 3 and 2n − 2, a first row at an even coordinate is made by its own set, the last set
+-- makes all that is left. Q-3: an only column, or an only row, at an odd coordinate is halved; where a number of it is odd, nothing goes on (14).
 use mathlib.Core.Bool.{Bool}
 use Prim.Native.Nat.{ℕ, _+_, _-_, _*_, _%_}
 use lib.IntN.{ℤ}

@@ -82,8 +82,8 @@ fn can_work(
 }
 
 // Set n of a level that splits w columns from x on and h rows from y on worked out in its stretch; `last` says that it is level L. Its rows are low-low values
-// of level k (k = 0: heights). 14, and zeros in the level's own numbers, where one of those that it makes does not fit or a number that is halved is odd. 5, and
-// nothing changed, where the set can not be worked out there.
+// of level k (k = 0: heights). 14, and zeros in the level's own numbers, where one of those that it makes does not fit or a number that is halved is odd.
+// 5, and nothing changed, where the set can not be worked out there.
 pub fn work_set(
     stretch: &mut [i32],
     last: bool,

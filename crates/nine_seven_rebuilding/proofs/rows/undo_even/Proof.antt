@@ -26,7 +26,8 @@ returns c =
     let tall = before .before in
     let a = tall .before .args in
     call .unupdate-row .ensures .1
-    ∙ even-by (a .w) (side (a .y) (a .h)) (a .q) _ _ _ _ (tall .before .pre .1) (tall .if1 .taken) (before .row-before .ensures .0) (after .row-after .ensures .0)
+    ∙ even-by (a .w) (side (a .y) (a .h)) (a .q) _ _ _ _ (tall .before .pre .1) (tall .if1 .taken) (before .row-before .ensures .0)
+    (after .row-after .ensures .0)
 
 returns-2 : tie.Need-returns-2
 returns-2 c = let a = c .before .args in sym (even-one (a .w) (side (a .y) (a .h)) (a .q) _ (omega arith))
