@@ -14,6 +14,7 @@ use borrow.Rule.Slice.PartMut.{midOf}
 use Rattle.numbers.specs.Signal.{at, both}
 use Rattle.numbers.proofs.Integers.{each, lin, dif, dif-pos, dif-natAbs, dif-leZ}
 use Rattle.numbers.proofs.Parts.{length-mid, at-mid, window-in}
+use Rattle.lifting.specs.FiveThree.{fiveThreeFilter}
 use Rattle.wavelet.specs.Limits.{maxSample, maxLevels, range}
 use Rattle.numbers.specs.Tests.{every}
 use Rattle.wavelet.specs.Maps.{valueFits}
@@ -61,7 +62,7 @@ pub low-zero : (k : ℕ) → k ≡ 0 → pos 0 ≡ lowestOf k
 unfolding lowestOf
 low-zero k e = rw e
 
-pub low-more : (k : ℕ) → (k ≡ 0 → ⊥) → pos 0 -ℤ pos (range k) ≡ lowestOf k
+pub low-more : (k : ℕ) → (k ≡ 0 → ⊥) → pos 0 -ℤ pos (range fiveThreeFilter k) ≡ lowestOf k
 unfolding lowestOf
 low-more zero h = absurd (h refl)
 low-more (suc k) h = refl
@@ -72,16 +73,17 @@ neg-fits z n e h = let g : SFits w32 (pos n) = rw (← e) h in rw (e, least-is n
     go : (n : ℕ) → SFits w32 (pos n) → SFits w32 (dif 0 n)
     go n = simp lin (omega arith)
 
-pub value-between : (k : ℕ) (v : ℤ) → valueFits k v ≡ between (lowestOf k) (pos (range k)) v
+pub value-between : (k : ℕ) (v : ℤ) → valueFits fiveThreeFilter k v ≡ between (lowestOf k) (pos (range fiveThreeFilter k)) v
 unfolding valueFits
 value-between zero v = unfold lowestOf between range maxSample in refl
-value-between (suc k) v = abs-between (range (suc k)) v ∙ unfold lowestOf in refl
+value-between (suc k) v = abs-between (range fiveThreeFilter (suc k)) v ∙ unfold lowestOf in refl
 
-pub same-range : (k : ℕ) → k ≤ maxLevels → pos (range (min k maxLevels)) ≡ pos (range k)
-same-range k h = let e : min k maxLevels ≡ k = omega arith in ap (λ (i : ℕ). pos (range i)) e
+pub same-range : (k : ℕ) → k ≤ maxLevels → pos (range fiveThreeFilter (min k maxLevels)) ≡ pos (range fiveThreeFilter k)
+same-range k h = let e : min k maxLevels ≡ k = omega arith in ap (λ (i : ℕ). pos (range fiveThreeFilter i)) e
 
 -- ---- a row's test, made on the part that is lent
-pub admit-is : (k w r a m : ℕ) (l : List ℤ) (low high : ℤ) → a ≡ rowPlace w r → m ≡ w → a + m ≤ length l → low ≡ lowestOf k → high ≡ pos (range k) →
+pub admit-is : (k w r a m : ℕ) (l : List ℤ) (low high : ℤ) → a ≡ rowPlace w r → m ≡ w → a + m ≤ length l → low ≡ lowestOf k
+    → high ≡ pos (range fiveThreeFilter k) →
     every (length (midOf a m l)) (λ i. between low high (at (midOf a m l) i)) ≡ rowFits k w r (at l)
 unfolding rowFits
 admit-is k w r a m l low high ea em room el eh =

@@ -15,6 +15,7 @@ use Rattle.lifting.specs.Line.{lo, hi, predicted, updated}
 use Rattle.lifting.specs.Grid.{Side, count, place, parted}
 use Rattle.lifting.specs.GridHalves.{partedInto}
 use Rattle.lifting.proofs.GridLaws.{halves-low, halves-high}
+use Rattle.lifting.specs.FiveThree.{fiveThreeFilter}
 use Rattle.wavelet.specs.Bands.{Grid, Band, LL, HL, LH, HH, across, columnsLifted}
 use Rattle.wavelet.specs.Order.{lastSet}
 use Rattle.wavelet.proofs.SideLaws.{count-lo, count-sum}
@@ -159,20 +160,20 @@ module _ (W H : Side) (g : Grid) (m n : ℕ) (x : Memory) (t : H .start % 2 + m 
     even-stands : RowStands W (2 * n) (W .length) (g (2 * n - H .start % 2)) x
     even-stands = k .even n f (omega arith) (omega arith)
 
-    earlier-stands : (i : ℕ) → n ≡ suc i → RowStands W (2 * i + 1) (W .length) (columnsLifted wrap32 H g hi i) x
+    earlier-stands : (i : ℕ) → n ≡ suc i → RowStands W (2 * i + 1) (W .length) (columnsLifted fiveThreeFilter wrap32 H g hi i) x
     earlier-stands i z = k .high i (omega arith) (omega arith)
 
-    mid-high : (i : ℕ) → columnsLifted wrap32 H g hi n i
+    mid-high : (i : ℕ) → columnsLifted fiveThreeFilter wrap32 H g hi n i
         ≡ predicted wrap32 (g (2 * n + 1 - H .start % 2) i) (g (2 * n - H .start % 2) i) (g (2 * n + 2 - H .start % 2) i)
     unfolding columnsLifted
     mid-high i = high-mid wrap32 H (λ r. g r i) n f (omega arith)
 
-    mid-low : (i : ℕ) → columnsLifted wrap32 H g lo (n - H .start % 2) i
-        ≡ updated wrap32 (g (2 * n - H .start % 2) i) (columnsLifted wrap32 H g hi (n - 1) i) (columnsLifted wrap32 H g hi n i)
+    mid-low : (i : ℕ) → columnsLifted fiveThreeFilter wrap32 H g lo (n - H .start % 2) i
+        ≡ updated wrap32 (g (2 * n - H .start % 2) i) (columnsLifted fiveThreeFilter wrap32 H g hi (n - 1) i) (columnsLifted fiveThreeFilter wrap32 H g hi n i)
     unfolding columnsLifted
     mid-low i = low-mid wrap32 H (λ r. g r i) n f (omega arith)
 
-    two-high : RowStands W (2 * n + 1) (W .length) (columnsLifted wrap32 H g hi n) (setWith W n (2 * n + 2) x)
+    two-high : RowStands W (2 * n + 1) (W .length) (columnsLifted fiveThreeFilter wrap32 H g hi n) (setWith W n (2 * n + 2) x)
     two-high =
         high-stays W H g n (2 * n + 2) x _ _ _ even-stands odd-stands earlier-stands after-stands mid-high mid-low
 
@@ -198,14 +199,14 @@ module _ (W H : Side) (g : Grid) (m n : ℕ) (x : Memory) (t : H .start % 2 + m 
     row-two : RowStands W 2 (W .length) (g 1) x
     row-two = begun-as W H g m x k 2 1 (omega arith) (omega arith)
 
-    first-high : RowStands W 1 (W .length) (columnsLifted wrap32 H g hi 0) x1
+    first-high : RowStands W 1 (W .length) (columnsLifted fiveThreeFilter wrap32 H g hi 0) x1
     unfolding rowPredicted columnsLifted
     first-high i b =
         changed-cell (predicted wrap32) W 1 2 2 x i b
         ∙ ap₃ (predicted wrap32) (row-one i b) (row-two i b) (row-two i b)
         ∙ sym (high-first wrap32 H (λ r. g r i) (omega arith) (omega arith))
 
-    one-high : RowStands W (2 * n + 1) (W .length) (columnsLifted wrap32 H g hi n) (highAlone W x1)
+    one-high : RowStands W (2 * n + 1) (W .length) (columnsLifted fiveThreeFilter wrap32 H g hi n) (highAlone W x1)
     one-high = let z : n ≡ 0 = omega arith in rw z (high-keeps W H g x1 1 (W .length) _ (λ e. omega arith) (omega arith) first-high)
 
     one-after : RowStands W (2 * n + 2) (W .length) (g (2 * n + 2 - H .start % 2)) (highAlone W x1)
@@ -220,7 +221,7 @@ module _ (W H : Side) (g : Grid) (m n : ℕ) (x : Memory) (t : H .start % 2 + m 
     one-stands = let z : n ≡ 0 = omega arith in rw z (high-alone-stands W H g x1 (omega arith) first-high)
 
   -- ---- of either
-  kept-next : (y : Memory) → RowStands W (2 * n + 1) (W .length) (columnsLifted wrap32 H g hi n) y
+  kept-next : (y : Memory) → RowStands W (2 * n + 1) (W .length) (columnsLifted fiveThreeFilter wrap32 H g hi n) y
       → RowStands W (2 * n + 2) (W .length) (g (2 * n + 2 - H .start % 2)) y → Kept W H g (m + 1) 0 y
   kept-next y high next = record {
     even = λ i f p r. let z : 2 * i ≡ 2 * n + 2 = omega arith in rw z next;
@@ -255,18 +256,20 @@ module _ (W H : Side) (g : Grid) (x : Memory) (h : 0 < H .length) (k : Kept W H 
   last-is = refl
 
   last-earlier : 2 * n + 2 ≤ H .start % 2 + H .length + 1 → H .start % 2 + H .length ≤ 2 * n + 2
-      → (i : ℕ) → n ≡ suc i → RowStands W (2 * i + 1) (W .length) (columnsLifted wrap32 H g hi i) x
+      → (i : ℕ) → n ≡ suc i → RowStands W (2 * i + 1) (W .length) (columnsLifted fiveThreeFilter wrap32 H g hi i) x
   last-earlier a b i z = k .high i (omega arith) (omega arith)
 
   -- its last row at an odd coordinate
   last-mid : H .start % 2 + H .length ≡ 2 * n + 2 → H .start % 2 ≤ n → (i : ℕ)
-      → columnsLifted wrap32 H g lo (n - H .start % 2) i ≡ updated wrap32 (g (2 * n - H .start % 2) i) (columnsLifted wrap32 H g hi (n - 1) i)
-      (columnsLifted wrap32 H g hi n i)
+      → columnsLifted fiveThreeFilter wrap32 H g lo (n - H .start % 2) i
+      ≡ updated wrap32 (g (2 * n - H .start % 2) i) (columnsLifted fiveThreeFilter wrap32 H g hi (n - 1) i)
+      (columnsLifted fiveThreeFilter wrap32 H g hi n i)
   unfolding columnsLifted
   last-mid z f i = low-mid wrap32 H (λ r. g r i) n f (omega arith)
 
   last-high : H .start % 2 + H .length ≡ 2 * n + 2 → H .start % 2 ≤ n → (i : ℕ)
-      → columnsLifted wrap32 H g hi n i ≡ predicted wrap32 (g (2 * n + 1 - H .start % 2) i) (g (2 * n - H .start % 2) i) (g (2 * n - H .start % 2) i)
+      → columnsLifted fiveThreeFilter wrap32 H g hi n i
+      ≡ predicted wrap32 (g (2 * n + 1 - H .start % 2) i) (g (2 * n - H .start % 2) i) (g (2 * n - H .start % 2) i)
   unfolding columnsLifted
   last-high z f i = high-end wrap32 H (λ r. g r i) n f z
 
@@ -276,7 +279,8 @@ module _ (W H : Side) (g : Grid) (x : Memory) (h : 0 < H .length) (k : Kept W H 
       let row : RowStands W (2 * n) (W .length) (g (2 * n - H .start % 2)) x = k .even n f (omega arith) (omega arith) in
       set-stands W H g n (2 * n) x _ _ _ row (k .odd n z) (last-earlier (omega arith) (omega arith)) row (last-high z f) (last-mid z f)
 
-  only-high : (H .start % 2 + H .length) % 2 ≡ 0 → n < H .start % 2 → RowStands W 1 (W .length) (columnsLifted wrap32 H g hi 0) (rowDoubled (W .length) 1 x)
+  only-high : (H .start % 2 + H .length) % 2 ≡ 0 → n < H .start % 2
+      → RowStands W 1 (W .length) (columnsLifted fiveThreeFilter wrap32 H g hi 0) (rowDoubled (W .length) 1 x)
   unfolding rowDoubled columnsLifted
   only-high e f i b =
       let l : H .length ≡ 1 = omega (arith, last-is) in
@@ -288,13 +292,14 @@ module _ (W H : Side) (g : Grid) (x : Memory) (h : 0 < H .length) (k : Kept W H 
   last-only e f = let z : n ≡ 0 = omega arith in rw z (high-alone-stands W H g (rowDoubled (W .length) 1 x) (omega arith) (only-high e f))
 
   -- at an even one
-  low-first : n ≡ 0 → H .start % 2 ≤ n → H .length ≡ 1 → (i : ℕ) → columnsLifted wrap32 H g lo (n - H .start % 2) i ≡ g (2 * n - H .start % 2) i
+  low-first : n ≡ 0 → H .start % 2 ≤ n → H .length ≡ 1 → (i : ℕ) → columnsLifted fiveThreeFilter wrap32 H g lo (n - H .start % 2) i ≡ g (2 * n - H .start % 2) i
   unfolding columnsLifted
   low-first y f l i = low-only wrap32 H (λ r. g r i) n f y l
 
   low-later : 0 < n → H .start % 2 + H .length ≡ 2 * n + 1 → H .start % 2 ≤ n → (i : ℕ)
-      → columnsLifted wrap32 H g lo (n - H .start % 2) i ≡ updated wrap32 (g (2 * n - H .start % 2) i) (columnsLifted wrap32 H g hi (n - 1) i)
-      (columnsLifted wrap32 H g hi (n - 1) i)
+      → columnsLifted fiveThreeFilter wrap32 H g lo (n - H .start % 2) i
+      ≡ updated wrap32 (g (2 * n - H .start % 2) i) (columnsLifted fiveThreeFilter wrap32 H g hi (n - 1) i)
+      (columnsLifted fiveThreeFilter wrap32 H g hi (n - 1) i)
   unfolding columnsLifted
   low-later y z f i = low-end wrap32 H (λ r. g r i) n f y z
 

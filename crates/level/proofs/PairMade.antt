@@ -18,6 +18,7 @@ use Rattle.lifting.specs.Ranges.{within}
 use Rattle.lifting.specs.Pairs.{pairFits, pairUnlifted, pairWithin}
 use Rattle.lifting.proofs.RowLaws.{row-other}
 use Rattle.lifting.proofs.ColumnLaws.{pair-fits}
+use Rattle.lifting.specs.FiveThree.{fiveThreeFilter}
 use Rattle.wavelet.specs.Limits.{range}
 use Rattle.wavelet.specs.Maps.{valueFits}
 use Rattle.areas.specs.Areas.{between}
@@ -43,7 +44,7 @@ unfolding every
 every-both zero p q = refl
 every-both (suc n) p q = ap (λ (t : Bool). both t (both (p n) (q n))) (every-both n p q) ∙ both-four (every n p) (every n q) (p n) (q n)
 
-within-fits : (k : ℕ) (low high v : ℤ) → low ≡ lowestOf k → high ≡ pos (range k) → within low high v ≡ valueFits k v
+within-fits : (k : ℕ) (low high v : ℤ) → low ≡ lowestOf k → high ≡ pos (range fiveThreeFilter k) → within low high v ≡ valueFits fiveThreeFilter k v
 within-fits k low high v el eh = rw (el, eh) (unfold within between in sym (value-between k v))
 
 -- ---- set n with both rows
@@ -90,14 +91,14 @@ module _ (w : ℕ) (H : Side) (n : ℕ) (some : 0 < n) (there : 2 * n < H .start
   even-stays : (y : ℕ → ℤ) (i : ℕ) → i < w → oddRow w H (n - 1) y (2 * n % 4 * w + i) ≡ y (2 * n % 4 * w + i)
   even-stays y i h = ap (λ (f : ℕ → ℤ). f (2 * n % 4 * w + i)) (sym (odd-is y)) ∙ row-other _ w w _ _ _ y (2 * n % 4) i slots-apart (omega arith) h
 
-  pub pair-fitting : (k : ℕ) (low high : ℤ) (x z : ℕ → ℤ) → low ≡ lowestOf k → high ≡ pos (range k) → z ≡ oddRow w H (n - 1) (evenRow w H n x)
+  pub pair-fitting : (k : ℕ) (low high : ℤ) (x z : ℕ → ℤ) → low ≡ lowestOf k → high ≡ pos (range fiveThreeFilter k) → z ≡ oddRow w H (n - 1) (evenRow w H n x)
       → pairWithin low high w w ((2 * n - 1) % 4) (2 * n % 4) z ≡ both (rowFits k w (2 * n) (evenRow w H n x)) (rowFits k w (2 * n - 1) z)
   unfolding pairWithin rowFits rowPlace
   pair-fitting k low high x z el eh ez =
       let y = evenRow w H n x in
-      let E : (ℕ → ℤ) → ℕ → Bool = λ u i. valueFits k (u (2 * n % 4 * w + i)) in
-      let O : ℕ → Bool = λ i. valueFits k (z ((2 * n - 1) % 4 * w + i)) in
-      let e : (i : ℕ) → i < w → E z i ≡ E y i = λ i h. ap (valueFits k) (ap (λ (f : ℕ → ℤ). f (2 * n % 4 * w + i)) ez ∙ even-stays y i h) in
+      let E : (ℕ → ℤ) → ℕ → Bool = λ u i. valueFits fiveThreeFilter k (u (2 * n % 4 * w + i)) in
+      let O : ℕ → Bool = λ i. valueFits fiveThreeFilter k (z ((2 * n - 1) % 4 * w + i)) in
+      let e : (i : ℕ) → i < w → E z i ≡ E y i = λ i h. ap (valueFits fiveThreeFilter k) (ap (λ (f : ℕ → ℤ). f (2 * n % 4 * w + i)) ez ∙ even-stays y i h) in
       every-same w _ (λ i. both (E z i) (O i)) (λ i h. cc (
         within-fits k low high (z (2 * n % 4 * w + i)) el eh,
         within-fits k low high (z ((2 * n - 1) % 4 * w + i)) el eh,
@@ -152,7 +153,8 @@ answer-is true false ok r f e g = g ∙ rw e refl
 answer-is false t ok r f e g = absurd (false≢true f)
 
 module _ (k w : ℕ) (H : Side) (n : ℕ) (some : 0 < n) (there : 2 * n < H .start % 2 + H .length) where
-  pub pair-call : (N a b r : ℕ) (low high : ℤ) (x z : ℕ → ℤ) → 4 * w ≤ N → a ≡ highNear H n → b ≡ lowNear H (n - 1) → low ≡ lowestOf k → high ≡ pos (range k)
+  pub pair-call : (N a b r : ℕ) (low high : ℤ) (x z : ℕ → ℤ) → 4 * w ≤ N → a ≡ highNear H n → b ≡ lowNear H (n - 1) → low ≡ lowestOf k
+      → high ≡ pos (range fiveThreeFilter k)
       → r ≡ pick (pairFits N w w ((2 * n - 1) % 4) (2 * n % 4) ((2 * a + 1) % 4) (2 * b % 4))
       (pick (pairWithin low high w w ((2 * n - 1) % 4) (2 * n % 4) z) 0 14) 5
       → z ≡ pick (pairFits N w w ((2 * n - 1) % 4) (2 * n % 4) ((2 * a + 1) % 4) (2 * b % 4))

@@ -7,10 +7,12 @@ use lib.IntN.{ℤ}
 use Rattle.numbers.specs.Word.{wrap32}
 use Rattle.lifting.specs.Line.{lo}
 use Rattle.lifting.specs.Grid.{Side, count}
+use Rattle.lifting.specs.FiveThree.{fiveThreeFilter}
 use Rattle.wavelet.specs.Bands.{Grid, Band, LL, across, levelBack}
 use Rattle.wavelet.specs.Maps.{valueFits}
 use Rattle.wavelet.specs.Levels.{next}
 use Rattle.wavelet.specs.Order.{firstSet, lastSet, setRow, setHas}
+use Rattle.wavelet.specs.Steps.{setOf}
 use Rattle.level.specs.ReaderLevel.{ReaderLevel}
 use Rattle.level.specs.Stands.{SetHas, BackMeaning}
 use Rattle.level.proofs.SetMade.{Outcome, FitAll}
@@ -31,11 +33,8 @@ pub record ReaderLaws (K : ReaderLevel) (M : BackMeaning) : Type 0 where
   pub feed-new : (W H : Side) (p : Band → Grid) (n : ℕ) (c : Band) (v x : ℕ → ℤ) → ((i : ℕ) → i < count (across c) W → v i ≡ p c (setRow H c n) i) →
       M .Got W H p n (K .feed W (H .start) c n v x) c
   pub got-none : (W H : Side) (p : Band → Grid) (n : ℕ) (c : Band) (x : ℕ → ℤ) → setHas W H c n ≡ false → M .Got W H p n x c
-  -- which set a row is of: row 0 is of set 0, or of set 1 where set 0 has a high row alone
-  pub set-first : (H : Side) → K .set H 0 ≤ firstSet H lo
-  pub set-there : (H : Side) (r : ℕ) → K .set H r ≤ lastSet H
-  pub set-next : (H : Side) (r : ℕ) → suc r < H .length → K .opens H (suc r) ≡ true → K .set H (suc r) ≡ suc (K .set H r)
-  pub set-same : (H : Side) (r : ℕ) → suc r < H .length → K .opens H (suc r) ≡ false → K .set H (suc r) ≡ K .set H r
+  -- it looks ahead, so that its last set makes its last row
+  pub looks : 1 ≤ K .ahead
   -- the first set needs nothing, and each has what it needs of those before it once the one before it is worked out
   pub before-first : (W H : Side) (p : Band → Grid) (x : ℕ → ℤ) → M .Before W H p 0 x
   pub before-next : (k : ℕ) (W H : Side) (p : Band → Grid) (n : ℕ) (x : ℕ → ℤ) → suc n ≤ lastSet H → M .Leaves k W H p n x → M .Before W H p (suc n) x
@@ -49,8 +48,8 @@ pub record ReaderLaws (K : ReaderLevel) (M : BackMeaning) : Type 0 where
       K .made (next W) (next H .start) (n - firstSet H lo) (λ j. x (K .stretch W + j)) i ≡ p LL (n - firstSet H lo) i) →
       Outcome (FitAll k W H p) (λ y. M .Leaves k W H p n y × ((j : ℕ) → K .stretch W ≤ j → y j ≡ x j)) (K .work false k W H n x)
   -- the rows that it makes, and that no number that it halved is odd
-  pub made-is : (k : ℕ) (W H : Side) (p : Band → Grid) (n : ℕ) (x : ℕ → ℤ) → M .Leaves k W H p n x → (r : ℕ) → r < H .length → K .set H r ≡ n → (c : ℕ) →
-      c < W .length → K .made W (H .start) r x c ≡ levelBack wrap32 W H p r c
-  pub made-fits : (k : ℕ) (W H : Side) (p : Band → Grid) (n : ℕ) (x : ℕ → ℤ) → M .Leaves k W H p n x → (r : ℕ) → r < H .length → K .set H r ≡ n → (c : ℕ) →
-      c < W .length → valueFits k (levelBack wrap32 W H p r c) ≡ true
-  pub made-has : (k : ℕ) (W H : Side) (p : Band → Grid) (n : ℕ) (x : ℕ → ℤ) → M .Leaves k W H p n x → SetHas W H p n
+  pub made-is : (k : ℕ) (W H : Side) (p : Band → Grid) (n : ℕ) (x : ℕ → ℤ) → M .Leaves k W H p n x → (r : ℕ) → r < H .length → setOf (K .ahead) H r ≡ n → (c : ℕ) →
+      c < W .length → K .made W (H .start) r x c ≡ levelBack fiveThreeFilter wrap32 W H p r c
+  pub made-fits : (k : ℕ) (W H : Side) (p : Band → Grid) (n : ℕ) (x : ℕ → ℤ) → M .Leaves k W H p n x → (r : ℕ) → r < H .length → setOf (K .ahead) H r ≡ n → (c : ℕ) →
+      c < W .length → valueFits fiveThreeFilter k (levelBack fiveThreeFilter wrap32 W H p r c) ≡ true
+  pub made-has : (k : ℕ) (W H : Side) (p : Band → Grid) (n : ℕ) (x : ℕ → ℤ) → M .Leaves k W H p n x → SetHas (K .ahead) W H p n

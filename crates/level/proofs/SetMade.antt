@@ -20,10 +20,12 @@ use Rattle.lifting.specs.Grid.{Side, place, count, parted, lineHalvesBack, line
 use Rattle.lifting.specs.Passes.{near}
 use Rattle.lifting.proofs.GridLaws.{place-in, in-place, by-place, joined-place, even-near, odd-near, even-one, odd-one}
 use Rattle.lifting.proofs.LoneLaws.{lone-high, lone-odd, has-lone, has-other}
+use Rattle.lifting.specs.FiveThree.{fiveThreeFilter}
 use Rattle.wavelet.specs.Bands.{Grid, Band, bandOf, rowsUnlifted, levelBack, rowsHave, columnsHave, levelHas}
 use Rattle.wavelet.specs.Maps.{valueFits}
 use Rattle.wavelet.specs.Order.{firstSet, lastSet}
 use Rattle.wavelet.specs.Steps.{setOf}
+use Rattle.wavelet.proofs.StepLaws.{set-one}
 use Rattle.level.specs.Tried.{Tried, failed, passed, bind}
 use Rattle.level.specs.Slots.{rowPlace, local, rowUnlifted, rowHasLine, rowBy, rowHalved, rowIsEven, halfPlace}
 use Rattle.level.specs.Stands.{SetHas, SetLeaves}
@@ -48,10 +50,11 @@ not-false t e f = subst T (sym e ∙ f) tt
 
 -- every value of the way back fits as a low-low value of level k, and none that is halved is odd
 pub record FitAll (k : ℕ) (W H : Side) (p : Band → Grid) : Type 0 where
-  pub has : levelHas W H p ≡ true
-  pub fit : (r c : ℕ) → r < H .length → c < W .length → valueFits k (levelBack wrap32 W H p r c) ≡ true
+  pub has : levelHas fiveThreeFilter W H p ≡ true
+  pub fit : (r c : ℕ) → r < H .length → c < W .length → valueFits fiveThreeFilter k (levelBack fiveThreeFilter wrap32 W H p r c) ≡ true
 
-pub has-row : (W H : Side) (p : Band → Grid) → levelHas W H p ≡ true → (h : Half) (r : ℕ) → r < count h H → hasLine W (λ a. p (bandOf a h) r) ≡ true
+pub has-row : (W H : Side) (p : Band → Grid) → levelHas fiveThreeFilter W H p ≡ true → (h : Half) (r : ℕ) → r < count h H
+    → hasLine W (λ a. p (bandOf a h) r) ≡ true
 unfolding levelHas rowsHave
 has-row W H p e = go
   where
@@ -59,28 +62,28 @@ has-row W H p e = go
     lines h r = hasLine W (λ a. p (bandOf a h) r)
 
     rows : (every (count lo H) (lines lo) ≡ true) × (every (count hi H) (lines hi) ≡ true)
-    rows = both-hold (every (count lo H) (lines lo)) (every (count hi H) (lines hi)) (both-hold (rowsHave W H p) (columnsHave W H p) e .0)
+    rows = both-hold (every (count lo H) (lines lo)) (every (count hi H) (lines hi)) (both-hold (rowsHave W H p) (columnsHave fiveThreeFilter W H p) e .0)
 
     go : (h : Half) (r : ℕ) → r < count h H → lines h r ≡ true
     go lo r b = every-each (count lo H) (lines lo) (rows .0) r b
     go hi r b = every-each (count hi H) (lines hi) (rows .1) r b
 
-pub has-column : (W H : Side) (p : Band → Grid) → levelHas W H p ≡ true → (c : ℕ) → c < W .length →
-    hasLine H (λ h i. rowsUnlifted wrap32 W p h i c) ≡ true
+pub has-column : (W H : Side) (p : Band → Grid) → levelHas fiveThreeFilter W H p ≡ true → (c : ℕ) → c < W .length →
+    hasLine H (λ h i. rowsUnlifted fiveThreeFilter wrap32 W p h i c) ≡ true
 unfolding levelHas columnsHave
-has-column W H p e c b = every-each (W .length) _ (both-hold (rowsHave W H p) (columnsHave W H p) e .1) c b
+has-column W H p e c b = every-each (W .length) _ (both-hold (rowsHave W H p) (columnsHave fiveThreeFilter W H p) e .1) c b
 
 -- ---- one level: the bands p of the columns W and the rows H, whose rows are low-low values of level k
 module _ (k : ℕ) (W H : Side) (p : Band → Grid) where
   -- the grid, and row n of a half of its columns
   abbrev pub G : Grid
-  G = levelBack wrap32 W H p
+  G = levelBack fiveThreeFilter wrap32 W H p
 
   abbrev pub cols : Half → ℕ → ℕ → ℤ
-  cols y n = rowsUnlifted wrap32 W p y n
+  cols y n = rowsUnlifted fiveThreeFilter wrap32 W p y n
 
   abbrev pub FitRow : ℕ → Type 0
-  FitRow r = (c : ℕ) → c < W .length → valueFits k (G r c) ≡ true
+  FitRow r = (c : ℕ) → c < W .length → valueFits fiveThreeFilter k (G r c) ≡ true
 
   abbrev b₀ : ℕ
   b₀ = firstSet H lo
@@ -189,9 +192,9 @@ module _ (k : ℕ) (W H : Side) (p : Band → Grid) where
   admit P q r x b s f = go (rowFits k (W .length) q x) refl
     where
       go : (t : Bool) → rowFits k (W .length) q x ≡ t → Outcome (FitAll k W H p) P (pick t (passed x) failed)
-      go true e = goes x (f (each-stands (valueFits k) q x (G r) s (every-each (W .length) _ e)))
+      go true e = goes x (f (each-stands (valueFits fiveThreeFilter k) q x (G r) s (every-each (W .length) _ e)))
       go false e = stops (λ all. not-false (rowFits k (W .length) q x)
-          (each-every (W .length) _ (stands-each (valueFits k) q x (G r) s (λ c u. all .fit r c b u))) e)
+          (each-every (W .length) _ (stands-each (valueFits fiveThreeFilter k) q x (G r) s (λ c u. all .fit r c b u))) e)
 
   -- ---- what a set needs
   pub record Needs (n : ℕ) (x : ℕ → ℤ) : Type 0 where
@@ -231,7 +234,7 @@ module _ (k : ℕ) (W H : Side) (p : Band → Grid) where
     line-tried : (P : (ℕ → ℤ) → Type 0) (h : Half) (r q : ℕ) (x : ℕ → ℤ) → r < count h H → Is W x q (λ a. p (bandOf a h) r) →
         (hasLine W (λ a. p (bandOf a h) r) ≡ true → Is W (rowUnlifted W q x) q (parted W (cols h r)) → P (rowUnlifted W q x)) →
         Outcome (FitAll k W H p) P (lineTried W q x)
-    unfolding lineTried rowsUnlifted
+    unfolding lineTried rowsUnlifted lineBack
     line-tried P h r q x b s f = go (rowHasLine W q x) refl
       where
         go : (t : Bool) → rowHasLine W q x ≡ t → Outcome (FitAll k W H p) P (pick t (passed (rowUnlifted W q x)) failed)
@@ -473,9 +476,9 @@ module _ (k : ℕ) (W H : Side) (p : Band → Grid) where
     unfolding local firstSet
     at-low n r e = (omega arith, omega arith)
 
-    at-last : (n r : ℕ) → r < H .length → setOf H r ≡ n → local (H .start) r ≡ 2 * n + 1 → (2 * n + 2 ≡ endOf H) × (r ≡ 2 * n + 1 - b₀)
-    unfolding local firstSet setOf lastSet endOf
-    at-last n r b s e = (omega arith, omega arith)
+    at-last : (n r : ℕ) → r < H .length → setOf 1 H r ≡ n → local (H .start) r ≡ 2 * n + 1 → (2 * n + 2 ≡ endOf H) × (r ≡ 2 * n + 1 - b₀)
+    unfolding local firstSet lastSet endOf
+    at-last n r b s e = (omega (arith, set-one H r), omega (arith, set-one H r))
 
     odd-of : (q n last : ℕ) → min ((q + 1) / 2) last ≡ n → q ≤ 2 * last + 1 → (q ≡ 2 * n → ⊥) → (q ≡ 2 * n + 1 → ⊥) → suc q ≡ 2 * n
     odd-of q n last s b e f = omega (arith, e, f)
@@ -487,13 +490,13 @@ module _ (k : ℕ) (W H : Side) (p : Band → Grid) where
     unfolding lastSet
     in-sets r b = omega arith
 
-    at-odd : (n r : ℕ) → r < H .length → setOf H r ≡ n → (local (H .start) r ≡ 2 * n → ⊥) → (local (H .start) r ≡ 2 * n + 1 → ⊥) →
+    at-odd : (n r : ℕ) → r < H .length → setOf 1 H r ≡ n → (local (H .start) r ≡ 2 * n → ⊥) → (local (H .start) r ≡ 2 * n + 1 → ⊥) →
         (n ≡ suc (n - 1)) × (r ≡ 2 * (n - 1) + 1 - b₀)
-    unfolding local firstSet setOf
-    at-odd n r b s e f = row-of (H .start % 2) r n (odd-of (H .start % 2 + r) n (lastSet H) s (in-sets r b) e f)
+    unfolding local firstSet
+    at-odd n r b s e f = row-of (H .start % 2) r n (odd-of (H .start % 2 + r) n (lastSet H) (sym (set-one H r) ∙ s) (in-sets r b) e f)
 
     by-set : (P : ℕ → Type 0) (n : ℕ) → (b₀ ≤ n → P (2 * n - b₀)) → ((m : ℕ) → n ≡ suc m → P (2 * m + 1 - b₀)) → (2 * n + 2 ≡ endOf H → P (2 * n + 1 - b₀)) →
-        (r : ℕ) → r < H .length → setOf H r ≡ n → P r
+        (r : ℕ) → r < H .length → setOf 1 H r ≡ n → P r
     by-set P n e o l r u q = elim (ℕ-discrete (local (H .start) r) (2 * n)) [
       | yes z ↦ let t = at-low n r z in subst P (sym (t .1)) (e (t .0))
       | no z ↦ elim (ℕ-discrete (local (H .start) r) (2 * n + 1)) [
@@ -513,7 +516,7 @@ module _ (k : ℕ) (W H : Side) (p : Band → Grid) where
 
     made-by : (n : ℕ) (x : ℕ → ℤ) → (b₀ ≤ n → Is W x (2 * n) (parted W (G (2 * n - b₀)))) →
         ((m : ℕ) → n ≡ suc m → Is W x (2 * m + 1) (parted W (G (2 * m + 1 - b₀)))) →
-        (2 * n + 2 ≡ endOf H → Is W x (2 * n + 1) (parted W (G (2 * n + 1 - b₀)))) → (r : ℕ) → r < H .length → setOf H r ≡ n →
+        (2 * n + 2 ≡ endOf H → Is W x (2 * n + 1) (parted W (G (2 * n + 1 - b₀)))) → (r : ℕ) → r < H .length → setOf 1 H r ≡ n →
         Is W x (local (H .start) r) (parted W (G r))
     made-by n x e o l =
         by-set (λ r. Is W x (local (H .start) r) (parted W (G r))) n
@@ -525,7 +528,7 @@ module _ (k : ℕ) (W H : Side) (p : Band → Grid) where
     Worked n y = Leaves n y × Past y
 
     -- the columns are lines' where there is more than an only row at an odd coordinate
-    has-of : (n : ℕ) → Lines n → ((c : ℕ) → c < W .length → hasLine H (λ h i. cols h i c) ≡ true) → SetHas W H p n
+    has-of : (n : ℕ) → Lines n → ((c : ℕ) → c < W .length → hasLine H (λ h i. cols h i c) ≡ true) → SetHas 1 W H p n
     has-of n s f = record { low = s .low; high = s .high; columns = λ r b q c v. f c v }
 
     -- ---- the last row
@@ -643,7 +646,7 @@ module _ (k : ℕ) (W H : Side) (p : Band → Grid) where
         lone true f e = lone-made n x g e f s
         lone false f e = beside-made n x g e f s
 
-        has-none : (t : Bool) → loneHigh H ≡ t → (2 * n + 2 ≡ endOf H → ⊥) → SetHas W H p n
+        has-none : (t : Bool) → loneHigh H ≡ t → (2 * n + 2 ≡ endOf H → ⊥) → SetHas 1 W H p n
         has-none true f e = absurd (none-lone n l e f)
         has-none false f e = has-of n (s .lines) (λ c _. has-other H _ f)
 

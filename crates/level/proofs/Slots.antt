@@ -20,6 +20,7 @@ use Rattle.lifting.specs.Pairs.{first}
 use Rattle.lifting.proofs.RowLaws.{row-order, row-at, row-before, row-past}
 use Rattle.lifting.proofs.GridLaws.{half-even, half-odd, halves-low, halves-high}
 use Rattle.lifting.proofs.GridReads.{forward-reads}
+use Rattle.lifting.specs.FiveThree.{fiveThreeFilter}
 use Rattle.wavelet.specs.Bands.{Grid, LL, HL, LH, HH, across, down, columnsLifted, subband}
 use Rattle.wavelet.specs.Order.{firstSet, setRow}
 use Rattle.wavelet.proofs.SideLaws.{count-lo, count-hi, count-sum}
@@ -179,11 +180,11 @@ module _ (W H : Side) (g : Grid) where
   w = W .length
 
   abbrev high : ℕ → ℕ → ℤ
-  high n = columnsLifted wrap32 H g hi n
+  high n = columnsLifted fiveThreeFilter wrap32 H g hi n
 
   -- the low row of set n
   abbrev low : ℕ → ℕ → ℤ
-  low n = columnsLifted wrap32 H g lo (n - H .start % 2)
+  low n = columnsLifted fiveThreeFilter wrap32 H g lo (n - H .start % 2)
 
   module _ (n r : ℕ) (x : Memory) where
     abbrev x1 : Memory

@@ -3,8 +3,6 @@ use Prim.Native.Nat.{ℕ, _*_}
 use lib.IntN.{ℤ}
 use Rattle.lifting.specs.Grid.{Side, joined}
 use Rattle.lifting.specs.GridHalves.{halvesOf}
-use Rattle.wavelet.specs.Steps.{setOf}
-use Rattle.level.specs.Sets.{opens}
 use Rattle.level.specs.Slots.{bandFed, rowIn, local}
 use Rattle.level.specs.Work.{Admission, setWorked}
 use Rattle.level.specs.ReaderLevel.{ReaderLevel}
@@ -17,9 +15,8 @@ rowMade W s r x = joined W (halvesOf W (rowIn (W .length) (local s r) x))
 abbrev pub fiveThreeBack : Admission → ReaderLevel
 fiveThreeBack admit =
     record {
+      ahead = 1;
       stretch = λ W. 4 * W .length;
-      set = setOf;
-      opens = opens;
       feed = λ W s. bandFed W;
       work = setWorked admit;
       made = rowMade;

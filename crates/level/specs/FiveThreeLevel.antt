@@ -16,6 +16,7 @@ use Rattle.lifting.specs.Grid.{Side, count}
 use Rattle.lifting.specs.GridHalves.{partedInto, liftedInPlace}
 use Rattle.lifting.specs.Rows.{rowChanged}
 use Rattle.lifting.specs.Pairs.{first}
+use Rattle.lifting.specs.FiveThree.{fiveThreeFilter}
 use Rattle.wavelet.specs.Bands.{Grid, Band, LL, HL, LH, HH, columnsLifted}
 use Rattle.wavelet.specs.Order.{lastSet}
 use Rattle.level.specs.Level.{Memory, LevelKind}
@@ -122,6 +123,6 @@ pub record Kept (W H : Side) (g : Grid) (m c : ℕ) (x : Memory) : Type 0 where
   pub odd : (n : ℕ) → H .start % 2 + m ≡ 2 * n + 2 → RowStands W (2 * n + 1) (W .length) (g (2 * n + 1 - H .start % 2)) x
   -- d(n) of the last set made
   pub high : (n : ℕ) → 2 * n + 3 ≤ H .start % 2 + m → H .start % 2 + m ≤ 2 * n + 4
-      → RowStands W (2 * n + 1) (W .length) (columnsLifted wrap32 H g hi n) x
+      → RowStands W (2 * n + 1) (W .length) (columnsLifted fiveThreeFilter wrap32 H g hi n) x
   -- the row begun
   pub begun : RowStands W (H .start % 2 + m) c (g m) x

@@ -9,6 +9,7 @@ use lib.Dec.{ltb, eqb}
 use Rattle.numbers.specs.Signal.{pick, both}
 use Rattle.numbers.specs.Word.{wrap32}
 use Rattle.lifting.specs.Grid.{Side, count}
+use Rattle.lifting.specs.FiveThree.{fiveThreeFilter}
 use Rattle.wavelet.specs.Bands.{Grid, Band, across, down, subband}
 use Rattle.wavelet.specs.Order.{firstSet, setRow}
 
@@ -41,7 +42,7 @@ Meaning = (W H : Side) → Grid → (m c : ℕ) → Memory → Type 0
 abbrev pub SetStands : LevelKind → Side → Side → Grid → ℕ → Memory → Type 0
 SetStands K W H g n x =
     (b : Band) (i : ℕ) → firstSet H (down b) ≤ n → setRow H b n < count (down b) H → i < count (across b) W
-    → x (K .place W (H .start) n b + i) ≡ subband wrap32 W H g b (setRow H b n) i
+    → x (K .place W (H .start) n b + i) ≡ subband fiveThreeFilter wrap32 W H g b (setRow H b n) i
 
 -- ---- the store from place a on, and the store with t from place a on
 unfoldable pub rest : ℕ → Memory → Memory

@@ -9,12 +9,10 @@ use Rattle.wavelet.specs.Bands.{Band}
 use Rattle.level.specs.Tried.{Tried}
 
 pub record ReaderLevel : Type 0 where
+  -- the look-ahead of its filter: row r is made by set setOf ahead H r (wavelet/specs/Steps)
+  pub ahead : ℕ
   -- stretch W: how many numbers the level keeps; the next level's stretch begins there
   pub stretch : Side → ℕ
-  -- set H r: the set that makes row r
-  pub set : Side → ℕ → ℕ
-  -- opens H r: row r needs a set that no row before it needs
-  pub opens : Side → ℕ → Bool
   -- feed W s b n v: the row of band b of set n, the numbers v, is put; the level's rows start at s
   pub feed : Side → ℕ → Band → ℕ → (ℕ → ℤ) → (ℕ → ℤ) → ℕ → ℤ
   -- work last k W H n: set n is worked out, its bands and the sets before it being there. Its rows are low-low values of level k, and each is admitted before

@@ -8,6 +8,7 @@ use Rattle.numbers.specs.Signal.{pick, both}
 use Rattle.lifting.specs.Line.{lo}
 use Rattle.lifting.specs.Grid.{Side, count}
 use Rattle.lifting.specs.Halves.{fronted}
+use Rattle.lifting.specs.FiveThree.{fiveThreeFilter}
 use Rattle.wavelet.specs.Limits.{maxLevels, range}
 use Rattle.wavelet.specs.Order.{lastSet}
 use Rattle.level.specs.Tried.{Tried, fits, memory}
@@ -48,4 +49,4 @@ pub record Kept (n : ℕ) (x y : ℕ → ℤ) : Type 0 where
 -- the least value that the rows of level k's low-low part may have: 0 for heights, k = 0
 unfoldable pub lowestOf : ℕ → ℤ
 lowestOf zero = pos 0
-lowestOf (suc k) = pos 0 -ℤ pos (range (suc k))
+lowestOf (suc k) = pos 0 -ℤ pos (range fiveThreeFilter (suc k))

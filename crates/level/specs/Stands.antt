@@ -7,6 +7,7 @@ use lib.IntN.{ℤ}
 use Rattle.numbers.specs.Word.{wrap32}
 use Rattle.lifting.specs.Line.{Half, lo, hi}
 use Rattle.lifting.specs.Grid.{Side, count, parted, hasLine}
+use Rattle.lifting.specs.FiveThree.{fiveThreeFilter}
 use Rattle.wavelet.specs.Bands.{Grid, Band, across, down, bandOf, rowsUnlifted, levelBack}
 use Rattle.wavelet.specs.Maps.{valueFits}
 use Rattle.wavelet.specs.Order.{firstSet, setRow, setHas}
@@ -18,23 +19,23 @@ use Rattle.level.specs.Work.{endOf}
 abbrev pub RowStands : Side → (ℕ → ℤ) → ℕ → (Half → ℕ → ℤ) → Type 0
 RowStands W x q c = (h : Half) (i : ℕ) → i < count h W → x (rowPlace (W .length) q + (halfPlace h W + i)) ≡ c h i
 
--- no number that set n halves is odd: its band rows are lines', and so are the columns of the rows that it makes
-pub record SetHas (W H : Side) (p : Band → Grid) (n : ℕ) : Type 0 where
-  pub low : firstSet H lo ≤ n → hasLine W (λ a. p (bandOf a lo) (n - firstSet H lo)) ≡ true
-  pub high : n < count hi H → hasLine W (λ a. p (bandOf a hi) n) ≡ true
-  pub columns : (r : ℕ) → r < H .length → setOf H r ≡ n → (c : ℕ) → c < W .length → hasLine H (λ h i. rowsUnlifted wrap32 W p h i c) ≡ true
+-- no number that set n halves is odd: its band rows are lines', and so are the columns of the rows that it makes, at the look-ahead a
+pub record SetHas (a : ℕ) (W H : Side) (p : Band → Grid) (n : ℕ) : Type 0 where
+  pub low : firstSet H lo ≤ n → hasLine W (λ h. p (bandOf h lo) (n - firstSet H lo)) ≡ true
+  pub high : n < count hi H → hasLine W (λ h. p (bandOf h hi) n) ≡ true
+  pub columns : (r : ℕ) → r < H .length → setOf a H r ≡ n → (c : ℕ) → c < W .length → hasLine H (λ h i. rowsUnlifted fiveThreeFilter wrap32 W p h i c) ≡ true
 
 -- what set n leaves: the rows that it makes, which fit as low-low values of level k, and its high row of the columns for the next set
 pub record SetLeaves (k : ℕ) (W H : Side) (p : Band → Grid) (n : ℕ) (x : ℕ → ℤ) : Type 0 where
-  pub made : (r : ℕ) → r < H .length → setOf H r ≡ n → RowStands W x (local (H .start) r) (parted W (levelBack wrap32 W H p r))
-  pub fit : (r : ℕ) → r < H .length → setOf H r ≡ n → (c : ℕ) → c < W .length → valueFits k (levelBack wrap32 W H p r c) ≡ true
-  pub high : 2 * n + 2 < endOf H → RowStands W x (2 * n + 1) (parted W (rowsUnlifted wrap32 W p hi n))
-  pub has : SetHas W H p n
+  pub made : (r : ℕ) → r < H .length → setOf 1 H r ≡ n → RowStands W x (local (H .start) r) (parted W (levelBack fiveThreeFilter wrap32 W H p r))
+  pub fit : (r : ℕ) → r < H .length → setOf 1 H r ≡ n → (c : ℕ) → c < W .length → valueFits fiveThreeFilter k (levelBack fiveThreeFilter wrap32 W H p r c) ≡ true
+  pub high : 2 * n + 2 < endOf H → RowStands W x (2 * n + 1) (parted W (rowsUnlifted fiveThreeFilter wrap32 W p hi n))
+  pub has : SetHas 1 W H p n
 
 -- what set n needs of the set before it: its even row, if it has one, and its high row
 pub record SetBefore (W H : Side) (p : Band → Grid) (n : ℕ) (x : ℕ → ℤ) : Type 0 where
-  pub even : (m : ℕ) → n ≡ suc m → firstSet H lo ≤ m → RowStands W x (2 * m) (parted W (levelBack wrap32 W H p (2 * m - firstSet H lo)))
-  pub high : (m : ℕ) → n ≡ suc m → RowStands W x (2 * m + 1) (parted W (rowsUnlifted wrap32 W p hi m))
+  pub even : (m : ℕ) → n ≡ suc m → firstSet H lo ≤ m → RowStands W x (2 * m) (parted W (levelBack fiveThreeFilter wrap32 W H p (2 * m - firstSet H lo)))
+  pub high : (m : ℕ) → n ≡ suc m → RowStands W x (2 * m + 1) (parted W (rowsUnlifted fiveThreeFilter wrap32 W p hi m))
 
 -- the row of band c of set n, if there is one
 abbrev pub BandStands : Side → Side → (Band → Grid) → ℕ → (ℕ → ℤ) → Band → Type 0

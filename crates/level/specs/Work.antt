@@ -12,6 +12,7 @@ use Rattle.numbers.specs.Word.{wrap32}
 use Rattle.lifting.specs.Line.{lo, hi, unupdated, unpredicted}
 use Rattle.lifting.specs.Grid.{Side, count, loneHigh}
 use Rattle.lifting.specs.Passes.{near}
+use Rattle.lifting.specs.FiveThree.{fiveThreeFilter}
 use Rattle.wavelet.specs.Maps.{valueFits}
 use Rattle.wavelet.specs.Order.{firstSet}
 use Rattle.level.specs.Tried.{Tried, passed, failed, outcome, bind}
@@ -59,7 +60,7 @@ Admission = ℕ → ℕ → ℕ → (ℕ → ℤ) → Tried
 
 -- the test of 14: the row is left if all of it fits
 unfoldable pub rowFits : ℕ → ℕ → ℕ → (ℕ → ℤ) → Bool
-rowFits k w q x = every w (λ i. valueFits k (x (rowPlace w q + i)))
+rowFits k w q x = every w (λ i. valueFits fiveThreeFilter k (x (rowPlace w q + i)))
 
 unfoldable pub admitted : Admission
 admitted k w q x = outcome (rowFits k w q x) x

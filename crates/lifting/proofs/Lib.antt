@@ -9,6 +9,8 @@ pub mod TwoStepsInMemory
 pub mod LoneLaws
 pub mod FiveThree
 pub mod GridTheorems
+pub mod FilterLaws
+pub mod FiveThreeFilter
 pub mod LineNear
 pub mod AtZero
 pub mod LineTheorems

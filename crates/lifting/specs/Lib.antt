@@ -3,6 +3,8 @@ pub mod Halves
 pub mod Rows
 pub mod Grid
 pub mod GridHalves
+pub mod Filter
+pub mod FiveThree
 pub mod Passes
 pub mod Pairs
 pub mod Ranges

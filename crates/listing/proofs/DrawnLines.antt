@@ -9,6 +9,7 @@ use lib.IntN.{ℤ}
 use lib.ListN.{length, drop, getD}
 use Rattle.numbers.specs.Word.{whole}
 use Rattle.lifting.specs.Grid.{side}
+use Rattle.lifting.specs.FiveThree.{fiveThreeFilter}
 use Rattle.wavelet.specs.Limits.{maxHeight, maxSample}
 use Rattle.wavelet.specs.Bands.{Grid, Band, LL, HL, LH, HH, code}
 use Rattle.wavelet.specs.Levels.{levelBand}
@@ -52,7 +53,7 @@ module _ (W H : ℕ) (g : Grid) where
   columns x = bandColumns (side 0 W) (x .level) (x .band)
 
   abbrev valuesOf : RowName → ℕ → ℤ
-  valuesOf x = levelBand whole (side 0 W) (side 0 H) g (x .level) (x .band) (x .row)
+  valuesOf x = levelBand fiveThreeFilter whole (side 0 W) (side 0 H) g (x .level) (x .band) (x .row)
 
   pub line-same : (d : DrawnRow) (x : RowName) → d .row ≡ answered (side 0 W) x → HasValues (side 0 W) 0 H g d → drawnLine d ≡ lineOf W H g x
   unfolding drawnLine lineOf rowLine
@@ -65,7 +66,7 @@ module _ (W H : ℕ) (g : Grid) where
       same i p =
           let n : d .row .length ≡ columns x = ap (λ r. r .length) e in
           v .are (x .band) (ap (λ r. r .band) e) i (omega arith)
-          ∙ ap (λ r. levelBand whole (side 0 W) (side 0 H) g (r .level) (x .band) (r .row) i) e
+          ∙ ap (λ r. levelBand fiveThreeFilter whole (side 0 W) (side 0 H) g (r .level) (x .band) (r .row) i) e
 
   -- ---- the lines of rows drawn, and of those after them
   pub lines-same : (l : List DrawnRow) (m : List RowName) → All (HasValues (side 0 W) 0 H g) l

@@ -5,34 +5,31 @@ use mathlib.Core.Bool.{Bool, true, false}
 use mathlib.Core.List.{List, [], _∷_, _++_}
 use Prim.Native.Nat.{ℕ, zero, suc, _+_, _-_, _*_, _<_}
 use native.Mathlib.Omega.{arith}
-use native.Mathlib.Numerals.{sub-one}
 use lib.Dec.{leb, ltb, eqb}
 use lib.ListN.{length}
 use borrow.Author.Tests.{lt-ltb, le-ltb, ne-eqb}
+use Rattle.wavelet.specs.Limits.{maxLevels}
 use Rattle.numbers.specs.Signal.{pick}
 use Rattle.pgm.specs.Characters.{digitValue}
 use Rattle.pgm.specs.Header.{Read, found, short, wrong, andThen, is, one, Size, headerOf}
 use Rattle.pgm.specs.Steps.{begun, stepOf, feed, stepped, readBy}
-use Rattle.pgm.specs.Samples.{wide, sampleSize, pairsOf, samplesOf, fitting, exceeds, heightsOf, sampled, sampleOf}
+use Rattle.pgm.specs.Samples.{wide, sampleSize, pairsOf, samplesOf, fitting, exceeds, heightsOf}
 use Rattle.pgm.specs.declared.header.Header.{Header}
 use Rattle.pgm.specs.declared.header.Next.{Next}
 use Rattle.pgm.specs.declared.header.Next.the-variants as next
 use Rattle.pgm.specs.Limits.{sizeFits}
 use Rattle.pgm.specs.Heights.{heightsTaken, tooLarge, refusalIn}
 use Rattle.pgm.proofs.HeaderReads.{reads}
+use Rattle.pgm.proofs.InputReads.{at, first-byte, Lasts, second-byte, lone-byte}
 use Rattle.pgm.proofs.HeightLaws.{Leads, leads-two, leads-one, more-lt, more-eq, no-sample, some-byte, bytes-none}
-use Rattle.listing.specs.Listing.{Head, levelDigit, headEnd, headOf}
-use Rattle.listing.specs.InputSteps.{atStart, levelsRead, lineFeedRead, shapeRead, nextRead, headerRead, heightRead}
-use Rattle.listing.specs.InputSteps.{readByte, inputEnded}
+use Rattle.listing.specs.Listing.{Head, headEnd, headOf}
+use Rattle.pgm.specs.InputSteps.{startAt, levelsRead, lineFeedRead, shapeRead, nextRead, headerRead, heightRead}
+use Rattle.pgm.specs.InputSteps.{levelDigit, readByte, inputEnded}
 use Rattle.listing.specs.Events.{begins, height, refusal, whole, over, Reading, withEvent, heightsReading}
 use Rattle.listing.specs.Events.{nothingYet, refusedReading, headReading, readingOf, andOn, stepThen, readAll, sum}
-use Rattle.listing.specs.declared.input.Input.{Input}
-use Rattle.listing.specs.declared.input.Step.{Step}
-use Rattle.listing.specs.declared.input.Step.the-variants as steps
-
--- the input's state at a phase
-abbrev pub at : ℕ → ℕ → Header → ℕ → ℕ → Bool → ℕ → Input
-at p L h n m half v = record { phase = p; levels = L; header = h; left = n; samples = record { largest = m; half = half; high = v } }
+use Rattle.pgm.specs.declared.input.Input.{Input}
+use Rattle.pgm.specs.declared.input.Step.{Step}
+use Rattle.pgm.specs.declared.input.Step.the-variants as steps
 
 -- ---- nothing more is read
 after-refusal : (L : ℕ) (h : Header) (n m : ℕ) (x : Bool) (v : ℕ) (s : List ℕ) → sum (readAll (at 4 L h n m x v) s) ≡ record { events = []; ending = over }
@@ -80,24 +77,6 @@ unfolding heightsReading heightsTaken tooLarge refusalIn exceeds
 all-there m = rw (bytes-none m)
 
 -- ---- and byte by byte
-module _ (L : ℕ) (h : Header) (n m : ℕ) where
-  pub first-byte : (v b : ℕ) → wide m ≡ true → readByte (at 3 L h (suc n) m false v) b ≡ steps.More (at 3 L h (suc n) m true b)
-  unfolding readByte heightRead sampleOf
-  first-byte v b e = rw (ne-eqb (suc n) 0 (λ z. omega arith), e)
-
-  -- the last byte of a sample u
-  abbrev pub Lasts : Bool → ℕ → ℕ → ℕ → Type 0
-  Lasts x v b u = (leb u m ≡ true → readByte (at 3 L h (suc n) m x v) b ≡ steps.Height (at 3 L h n m false 0) u)
-      × (leb u m ≡ false → readByte (at 3 L h (suc n) m x v) b ≡ steps.Refused (at 4 L h (suc n) m x v) 16)
-
-  pub second-byte : (v b : ℕ) → wide m ≡ true → Lasts true v b (256 * v + b)
-  unfolding readByte heightRead sampleOf sampled
-  second-byte v b e = (λ f. rw (ne-eqb (suc n) 0 (λ z. omega arith), e, f, sub-one (suc n)), λ f. rw (ne-eqb (suc n) 0 (λ z. omega arith), e, f))
-
-  pub lone-byte : (x : Bool) (v b : ℕ) → wide m ≡ false → Lasts x v b b
-  unfolding readByte heightRead sampleOf sampled
-  lone-byte x v b e = (λ f. rw (ne-eqb (suc n) 0 (λ z. omega arith), e, f, sub-one (suc n)), λ f. rw (ne-eqb (suc n) 0 (λ z. omega arith), e, f))
-
 -- the end, with heights still to come
 too-few : (L : ℕ) (h : Header) (n m : ℕ) (x : Bool) (v : ℕ) → sum (readAll (at 3 L h (suc n) m x v) []) ≡ nothingYet
 unfolding readAll inputEnded
@@ -108,8 +87,8 @@ abbrev then : List ℕ → Step → Reading
 then s x = sum (stepThen (λ j. readAll j s) x)
 
 -- after the last byte of a sample
-lasts : (L : ℕ) (h : Header) (n m : ℕ) (x : Bool) (v b u : ℕ) (s r : List ℕ) (f : Bool) → leb u m ≡ f → Lasts L h n m x v b u → Leads m u s r
-    → sum (readAll (at 3 L h n m false 0) r) ≡ heightsReading m n r → then r (readByte (at 3 L h (suc n) m x v) b) ≡ heightsReading m (suc n) s
+lasts : (L : ℕ) (h : Header) (n m : ℕ) (x : Bool) (v b u : ℕ) (s r : List ℕ) (f : Bool) → leb u m ≡ f → Lasts maxLevels L h n m x v b u → Leads m u s r
+    → sum (readAll (at 3 L h n m false 0) r) ≡ heightsReading m n r → then r (readByte maxLevels (at 3 L h (suc n) m x v) b) ≡ heightsReading m (suc n) s
 lasts L h n m x v b u s r true e d l g = ap (then r) (d .0 e) ∙ ap (withEvent (height u)) g ∙ one-more m n u s r l e
 lasts L h n m x v b u s r false e d l g = ap (then r) (d .1 e) ∙ refused 16 L h (suc n) m x v r ∙ too-large m n u s r l e
 
@@ -118,10 +97,10 @@ unfolding readAll readByte heightRead inputEnded
 pairs L h m w [] zero v = all-there m
 pairs L h m w [] (suc n) v = too-few L h n m false v ∙ none-short m n
 pairs L h m w (b ∷ r) zero v = refused 15 L h zero m false v r ∙ surplus m b r
-pairs L h m w (b ∷ []) (suc n) v = ap (then []) (first-byte L h n m v b w) ∙ too-few L h n m true b ∙ half-short m n b w
+pairs L h m w (b ∷ []) (suc n) v = ap (then []) (first-byte maxLevels L h n m v b w) ∙ too-few L h n m true b ∙ half-short m n b w
 pairs L h m w (b ∷ c ∷ r) (suc n) v =
-    ap (then (c ∷ r)) (first-byte L h n m v b w)
-    ∙ lasts L h n m true b c (256 * b + c) (b ∷ c ∷ r) r (leb (256 * b + c) m) refl (second-byte L h n m b c w) (leads-two m b c r w) (pairs L h m w r n 0)
+    ap (then (c ∷ r)) (first-byte maxLevels L h n m v b w)
+    ∙ lasts L h n m true b c (256 * b + c) (b ∷ c ∷ r) r (leb (256 * b + c) m) refl (second-byte maxLevels L h n m b c w) (leads-two m b c r w) (pairs L h m w r n 0)
 
 singles : (L : ℕ) (h : Header) (m : ℕ) → wide m ≡ false → (r : List ℕ) (n v : ℕ) → sum (readAll (at 3 L h n m false v) r) ≡ heightsReading m n r
 unfolding readAll readByte heightRead inputEnded
@@ -129,7 +108,7 @@ singles L h m w [] zero v = all-there m
 singles L h m w [] (suc n) v = too-few L h n m false v ∙ none-short m n
 singles L h m w (b ∷ r) zero v = refused 15 L h zero m false v r ∙ surplus m b r
 singles L h m w (b ∷ r) (suc n) v =
-    lasts L h n m false v b b (b ∷ r) r (leb b m) refl (lone-byte L h n m false v b w) (leads-one m b r w) (singles L h m w r n 0)
+    lasts L h n m false v b b (b ∷ r) r (leb b m) refl (lone-byte maxLevels L h n m false v b w) (leads-one m b r w) (singles L h m w r n 0)
 
 heights : (r : List ℕ) (L : ℕ) (h : Header) (n m v : ℕ) → sum (readAll (at 3 L h n m false v) r) ≡ heightsReading m n r
 heights r L h n m v = go (wide m) refl
@@ -189,16 +168,16 @@ unfolding readAll readByte inputEnded one
 line-feed [] L = refl
 line-feed (b ∷ s) L = feeds L b s (eqb b 10) refl
 
-digits : (b : ℕ) (s : List ℕ) (t : Bool) → levelDigit b ≡ t
-    → sum (stepThen (λ j. readAll j s) (levelsRead atStart b)) ≡ readingOf (b ∷ s)
+digits : (b : ℕ) (s : List ℕ) (t : Bool) → levelDigit maxLevels b ≡ t
+    → sum (stepThen (λ j. readAll j s) (levelsRead maxLevels (startAt 0) b)) ≡ readingOf (b ∷ s)
 unfolding levelsRead readingOf headOf one
 digits b s true e = rw e (line-feed s (digitValue b))
 digits b s false e = rw e (refused 15 0 (begun 0) 0 0 false 0 s)
 
-pub read-all : (s : List ℕ) → sum (readAll atStart s) ≡ readingOf s
+pub read-all : (s : List ℕ) → sum (readAll (startAt 0) s) ≡ readingOf s
 unfolding readAll readByte inputEnded readingOf headOf one
 read-all [] = refl
-read-all (b ∷ s) = digits b s (levelDigit b) refl
+read-all (b ∷ s) = digits b s (levelDigit maxLevels b) refl
 
 -- ---- cut anywhere
 events-step : (x : Step) (s t : List ℕ) → ((i : Input) → readAll i (s ++ t) .events ≡ readAll i s .events ++ readAll (readAll i s .input) t .events)
@@ -218,9 +197,9 @@ input-step (steps.Refused i q) s t e = e i
 pub cut-events : (s t : List ℕ) (i : Input) → readAll i (s ++ t) .events ≡ readAll i s .events ++ readAll (readAll i s .input) t .events
 unfolding readAll
 cut-events [] t i = refl
-cut-events (b ∷ s) t i = events-step (readByte i b) s t (cut-events s t)
+cut-events (b ∷ s) t i = events-step (readByte maxLevels i b) s t (cut-events s t)
 
 pub cut-input : (s t : List ℕ) (i : Input) → readAll i (s ++ t) .input ≡ readAll (readAll i s .input) t .input
 unfolding readAll
 cut-input [] t i = refl
-cut-input (b ∷ s) t i = input-step (readByte i b) s t (cut-input s t)
+cut-input (b ∷ s) t i = input-step (readByte maxLevels i b) s t (cut-input s t)

@@ -1,5 +1,4 @@
 pub mod ListingSample
-pub mod InputCases
 pub mod InputReads
 pub mod StateLaws
 pub mod SpellLaws

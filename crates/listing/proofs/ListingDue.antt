@@ -7,20 +7,18 @@ use Prim.Native.Nat.{ℕ, zero, suc, _+_, _*_, _≤_, _<_}
 use native.Mathlib.Omega.{arith}
 use lib.ListN.{length}
 use Rattle.lifting.specs.Grid.{side}
-use Rattle.wavelet.specs.Store.{storeLength}
 use Rattle.calls.specs.Lists.{All}
 use Rattle.level.specs.Level.{Memory}
 use Rattle.writer.specs.History.{DrawnRow, events, freshWorld, finishedBy, drawn}
 use Rattle.writer.specs.declared.Writer.{Writer}
 use Rattle.text.specs.Refusal.{answerLine}
-use Rattle.pgm.specs.Limits.{maxPictureWidth}
 use Rattle.wavelet.specs.Limits.{maxSample}
 use Rattle.listing.specs.Lines.{sizeLine}
 use Rattle.listing.specs.Listing.{Shape, linesDue}
-use Rattle.listing.specs.States.{State}
+use Rattle.listing.specs.States.{mapStore, State}
 use Rattle.listing.specs.Moves.{lineOn, Idle}
 use Rattle.listing.specs.Events.{Event}
-use Rattle.listing.specs.declared.input.Input.{Input}
+use Rattle.pgm.specs.declared.input.Input.{Input}
 use Rattle.listing.proofs.DrawnText.{drawnText, textOf}
 use Rattle.listing.proofs.DrawnLines.{lines-prefix, lines-due}
 use Rattle.listing.proofs.EventText.{text-of}
@@ -39,7 +37,7 @@ module _ {i : Input} {c : ℕ} {hs : List ℕ} {number : ℕ} {f : Bool} where
   heights-all (reads a b p e) z = absurd (differ (sym b ∙ z))
   heights-all (shut p h g) z = g z
 
-module _ (n : ℕ) (store : storeLength (side 0 maxPictureWidth) 5 ≤ n) (W H L : ℕ) (hs : List ℕ) (f : Bool) (ds : List DrawnRow) (w : Writer) (x : Memory)
+module _ (n : ℕ) (store : mapStore ≤ n) (W H L : ℕ) (hs : List ℕ) (f : Bool) (ds : List DrawnRow) (w : Writer) (x : Memory)
     (b : ShapeIn W H L)
     (small : All (λ h. h ≤ maxSample) hs) (few : length hs ≤ W * H) (all : f ≡ true → length hs ≡ W * H) (r : Ran W L n hs f ds w x) where
   abbrev q : Shape
@@ -66,7 +64,7 @@ module _ (n : ℕ) (store : storeLength (side 0 maxPictureWidth) 5 ≤ n) (W H L
             ∙ ap (linesDue q hs) (r .ended),
       )
 
-module _ (n k : ℕ) (store : storeLength (side 0 maxPictureWidth) 5 ≤ n) (s : State) where
+module _ (n k : ℕ) (store : mapStore ≤ n) (s : State) where
   -- nothing waits
   begun-due : (W H L : ℕ) (hs : List ℕ) (number : ℕ) (f : Bool) (o : List ℕ) → ShapeIn W H L → All (λ h. h ≤ maxSample) hs
       → InputAt (s .listing .input) (W * H) hs number f → Begun n k W H L hs number f o s → lineOn s .part < 3

@@ -7,8 +7,6 @@ use native.Mathlib.Omega.{arith}
 use native.Mathlib.Decide.{decLt}
 use lib.ListN.{length}
 use borrow.Author.Tests.{le-ltb}
-use Rattle.lifting.specs.Grid.{side}
-use Rattle.wavelet.specs.Store.{storeLength}
 use Rattle.calls.specs.Lists.{All}
 use Rattle.writer.specs.Calls.{finishStore}
 use Rattle.writer.specs.declared.Writer.{Writer}
@@ -16,15 +14,15 @@ use Rattle.text.specs.Refusal.{refusedLine}
 use Rattle.pgm.specs.Limits.{maxPictureWidth}
 use Rattle.wavelet.specs.Limits.{maxSample}
 use Rattle.listing.specs.Listing.{Shape, linesDue}
-use Rattle.listing.specs.InputSteps.{phased, inputEnded}
+use Rattle.pgm.specs.InputSteps.{phased, inputEnded}
 use Rattle.listing.specs.Parts.{refusedPart}
-use Rattle.listing.specs.States.{State, drawState, finishState, endTo, endState}
+use Rattle.listing.specs.States.{mapStore, State, drawState, finishState, endTo, endState}
 use Rattle.listing.specs.Moves.{lineOn, Idle}
 use Rattle.listing.specs.Events.{Event, height, refusal, Ending, whole, few, over, endingOf}
-use Rattle.listing.specs.declared.input.Input.{Input}
-use Rattle.listing.specs.declared.input.Ended.{Ended}
-use Rattle.listing.specs.declared.input.Ended.the-variants as ended
-use Rattle.listing.proofs.InputCases.{end-over, end-early, end-few, end-whole}
+use Rattle.pgm.specs.declared.input.Input.{Input}
+use Rattle.pgm.specs.declared.input.Ended.{Ended}
+use Rattle.pgm.specs.declared.input.Ended.the-variants as ended
+use Rattle.pgm.proofs.InputCases.{end-over, end-early, end-few, end-whole}
 use Rattle.listing.proofs.DrawnText.{textOf}
 use Rattle.listing.proofs.EventText.{text-of}
 use Rattle.listing.proofs.LineLeft.{lineLeft, left-refused}
@@ -58,7 +56,7 @@ refusal-first : textOf false (refusal 15 ∷ []) ≡ textOf false [] ++ refusedL
 unfolding textOf
 refusal-first = refl
 
-module _ (n k : ℕ) (store : storeLength (side 0 maxPictureWidth) 5 ≤ n) (row : maxPictureWidth ≤ k) (s : State) (idle : Idle s) (sane : Sane (s .listing .input)) where
+module _ (n k : ℕ) (store : mapStore ≤ n) (row : maxPictureWidth ≤ k) (s : State) (idle : Idle s) (sane : Sane (s .listing .input)) where
   abbrev i : Input
   i = s .listing .input
 

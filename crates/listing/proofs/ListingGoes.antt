@@ -4,16 +4,14 @@ use mathlib.Core.Bool.{Bool, false}
 use mathlib.Core.List.{List, [], _∷_, _++_, append-assoc, append-nil}
 use Prim.Native.Nat.{ℕ, _+_, _-_, _≤_}
 use native.Mathlib.Omega.{arith}
-use Rattle.lifting.specs.Grid.{side}
-use Rattle.wavelet.specs.Store.{storeLength}
 use Rattle.level.specs.Level.{Memory}
 use Rattle.calls.specs.Lists.{All, all-none, all-more}
 use Rattle.pgm.specs.Limits.{maxPictureWidth}
-use Rattle.listing.specs.InputSteps.{atStart}
-use Rattle.listing.specs.States.{State, stateOf, started}
+use Rattle.pgm.specs.InputSteps.{startAt}
+use Rattle.listing.specs.States.{mapStore, State, stateOf, started}
 use Rattle.listing.specs.Moves.{Move, partly, wholly, readByte, takes, Goes, stays, then}
 use Rattle.listing.specs.Events.{Event, readAll}
-use Rattle.listing.specs.declared.input.Input.{Input}
+use Rattle.pgm.specs.declared.input.Input.{Input}
 use Rattle.listing.proofs.InputReads.{cut-events, cut-input}
 use Rattle.listing.proofs.StepHow.{Sane, start-sane}
 use Rattle.listing.proofs.ListingReached.{Reached, quiet, partly-reached}
@@ -34,7 +32,7 @@ all-back (x ∷ s) t (all-more p a) = all-back s t a
 all-first : {P : ℕ → Type 0} (b : ℕ) (s : List ℕ) → All P (b ∷ s) → P b
 all-first b s (all-more p a) = p
 
-module _ (n k : ℕ) (store : storeLength (side 0 maxPictureWidth) 5 ≤ n) (row : maxPictureWidth ≤ k) where
+module _ (n k : ℕ) (store : mapStore ≤ n) (row : maxPictureWidth ≤ k) where
   -- nothing was read
   unchanged : {E : List Event} {f : Bool} {o : List ℕ} {s : State} (i : Input) → Reached n k E f o s → s .listing .input ≡ i → Sane i
       → ReachedBy n k E f o (readAll i []) s
@@ -76,5 +74,5 @@ module _ (n k : ℕ) (store : storeLength (side 0 maxPictureWidth) 5 ≤ n) (row
 
   -- from the beginning
   pub begun-reached : {u o : List ℕ} {s : State} (x z : Memory) → Bytes u → Goes n k (stateOf started x z) u o s
-      → ReachedBy n k [] false o (readAll atStart u) s
+      → ReachedBy n k [] false o (readAll (startAt 0) u) s
   begun-reached x z bs g = goes-reached (quiet refl refl (omega arith) refl refl) start-sane bs g

@@ -7,8 +7,7 @@ use Prim.Native.Nat.{ℕ, zero, suc, _+_, _-_, _*_, _≤_, _<_}
 use native.Mathlib.Omega.{arith}
 use lib.ListN.{length, take}
 use Rattle.lifting.specs.Grid.{side}
-use Rattle.wavelet.specs.Limits.{maxHeight}
-use Rattle.wavelet.specs.Store.{storeLength}
+use Rattle.wavelet.specs.Limits.{maxLevels, maxHeight}
 use Rattle.level.specs.Level.{Memory}
 use Rattle.writer.specs.Questions.{setUpQuestion}
 use Rattle.calls.specs.Lists.{gives, all-none}
@@ -20,10 +19,10 @@ use Rattle.listing.specs.Lines.{sizeLine}
 use Rattle.pgm.specs.Limits.{maxPictureWidth, maxPictureHeight, sizeFits}
 use Rattle.pgm.proofs.LimitLaws.{size-fits}
 use Rattle.listing.specs.Parts.{noLine, sizePart}
-use Rattle.listing.specs.States.{State, stateOf, listed, refusedTo, drawState, beginState, offerState}
+use Rattle.listing.specs.States.{mapStore, State, stateOf, listed, refusedTo, drawState, beginState, offerState}
 use Rattle.listing.specs.Moves.{lineOn, Idle}
 use Rattle.listing.specs.Events.{begins, height, refusal}
-use Rattle.listing.specs.declared.input.Input.{Input}
+use Rattle.pgm.specs.declared.input.Input.{Input}
 use Rattle.listing.proofs.DrawnText.{drawnText}
 use Rattle.listing.proofs.LineLeft.{left-none, left-size, left-refused}
 use Rattle.listing.proofs.WriterRan.{fresh-ran, fresh-waits}
@@ -36,7 +35,7 @@ listed-low : maxPictureHeight ≤ maxHeight
 unfolding maxPictureHeight maxHeight
 listed-low = omega arith
 
-pub shape-in : (W H L : ℕ) → sizeFits W H ≡ true → 1 ≤ L → L ≤ 5 → ShapeIn W H L
+pub shape-in : (W H L : ℕ) → sizeFits W H ≡ true → 1 ≤ L → L ≤ maxLevels → ShapeIn W H L
 shape-in W H L e a b =
     let f = size-fits W H e in
     record {
@@ -91,7 +90,7 @@ turned-begun n k W H L hs f o s i q some e b = record {
   room = λ h. absurd (omega arith);
 }
 
-module _ (n k : ℕ) (store : storeLength (side 0 maxPictureWidth) 5 ≤ n) (row : maxPictureWidth ≤ k) where
+module _ (n k : ℕ) (store : mapStore ≤ n) (row : maxPictureWidth ≤ k) where
   -- ---- the head is there
   begin-is : (i : Input) (w : Writer) (W H : ℕ) (x z : Memory) → setUpQuestion (side 0 W) (i .levels) n ≡ 0
       → beginState n i w W H x z ≡ stateOf (listed i (fresh (side 0 W) 0 (i .levels)) (sizePart W H (i .levels))) (setUpStore (side 0 W) (i .levels) n x) z

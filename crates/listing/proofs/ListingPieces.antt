@@ -14,14 +14,12 @@ use lib.ListN.{length, take, drop, length-append}
 use lib.Seq.{drop-length}
 use borrow.Author.Tests.{lt-ltb}
 use Rattle.numbers.specs.Signal.{pick}
-use Rattle.lifting.specs.Grid.{side}
-use Rattle.wavelet.specs.Store.{storeLength}
 use Rattle.pgm.specs.Steps.{joined}
 use Rattle.level.specs.Level.{Memory}
 use Rattle.calls.specs.Lists.{All, all-none}
 use Rattle.pgm.specs.Limits.{maxPictureWidth}
 use Rattle.listing.specs.Listing.{listingOf, dueOf}
-use Rattle.listing.specs.States.{State, stateOf, started, endState}
+use Rattle.listing.specs.States.{mapStore, State, stateOf, started, endState}
 use Rattle.listing.specs.Moves.{Idle, Goes, stays, Stops, full, idle}
 use Rattle.listing.specs.Pieces.{Piece, last, again, Pieces, none, next, pausesIn, pauses}
 use Rattle.listing.proofs.MoveLaws.{goes-on}
@@ -74,7 +72,7 @@ module _ {n k : ℕ} where
   pieces-pauses (next {t = t} {t′ = t′} f g) = omega (arith, length-append t t′, piece-pauses f, pieces-pauses g)
 
 -- ---- the theorem
-module _ (n k : ℕ) (store : storeLength (side 0 maxPictureWidth) 5 ≤ n) (row : maxPictureWidth ≤ k) (x z : Memory) {ps : List (List ℕ)} {t : List ℕ} {s : State}
+module _ (n k : ℕ) (store : mapStore ≤ n) (row : maxPictureWidth ≤ k) (x z : Memory) {ps : List (List ℕ)} {t : List ℕ} {s : State}
     (bytes : All (λ b. b ≤ 255) (joined ps)) (fed : Pieces n k (stateOf started x z) ps t s) where
   pub pieces-due : t ≡ dueOf (joined ps)
   pieces-due = moves-due n k store row x z bytes (pieces-go fed) (pieces-idle refl fed)

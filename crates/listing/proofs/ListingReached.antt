@@ -7,8 +7,7 @@ use Prim.Native.Nat.{ℕ, _+_, _-_, _*_, _≤_, _<_}
 use native.Mathlib.Omega.{arith}
 use lib.ListN.{length, take}
 use Rattle.lifting.specs.Grid.{side}
-use Rattle.wavelet.specs.Limits.{maxSample, maxHeight}
-use Rattle.wavelet.specs.Store.{storeLength}
+use Rattle.wavelet.specs.Limits.{maxLevels, maxSample, maxHeight}
 use Rattle.calls.specs.Lists.{Reply, All}
 use Rattle.level.specs.Level.{Memory}
 use Rattle.writer.specs.Questions.{setUpQuestion}
@@ -21,10 +20,10 @@ use Rattle.text.specs.Refusal.{refusedLine, answerLine}
 use Rattle.pgm.specs.Limits.{maxPictureWidth}
 use Rattle.listing.specs.Lines.{sizeLine}
 use Rattle.listing.specs.Parts.{noLine, headPart}
-use Rattle.listing.specs.States.{State, stateOf, drawnTo, drawState}
+use Rattle.listing.specs.States.{mapStore, State, stateOf, drawnTo, drawState}
 use Rattle.listing.specs.Moves.{lineOn, Idle, leftOn, writtenOn}
 use Rattle.listing.specs.Events.{Event, begins, height, refusal, answerEvents}
-use Rattle.listing.specs.declared.input.Input.{Input}
+use Rattle.pgm.specs.declared.input.Input.{Input}
 use Rattle.listing.proofs.DrawnText.{drawnLine, drawnText}
 use Rattle.listing.proofs.LineLeft.{lineLeft, left-none, left-head, left-partly}
 use Rattle.listing.proofs.WriterRan.{waits, Ran, DrawOut, all-out, one-out, draw-out}
@@ -38,9 +37,9 @@ pub record ShapeIn (W H L : ℕ) : Type 0 where
   pub some-rows : 1 ≤ H
   pub rows : H ≤ maxHeight
   pub some-levels : 1 ≤ L
-  pub levels : L ≤ 5
+  pub levels : L ≤ maxLevels
 
-pub set-up-in : (n : ℕ) {W H L : ℕ} → storeLength (side 0 maxPictureWidth) 5 ≤ n → ShapeIn W H L → setUpQuestion (side 0 W) L n ≡ 0
+pub set-up-in : (n : ℕ) {W H L : ℕ} → mapStore ≤ n → ShapeIn W H L → setUpQuestion (side 0 W) L n ≡ 0
 set-up-in n {W} {H} {L} h b = set-up-passes W L n h (b .some-columns) (b .columns) (b .some-levels) (b .levels)
 
 -- the input after hs of c heights, and a refusal (its number, or 0) or the finish (f)

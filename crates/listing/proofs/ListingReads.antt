@@ -6,8 +6,6 @@ use Prim.Native.Nat.{ℕ, _+_, _-_, _*_, _≤_, _<_}
 use native.Mathlib.Omega.{arith}
 use lib.ListN.{length, take, length-append}
 use lib.Seq.{length-take-le}
-use Rattle.lifting.specs.Grid.{side}
-use Rattle.wavelet.specs.Store.{storeLength}
 use Rattle.pgm.specs.Samples.{sampleSize, heightsOf}
 use Rattle.pgm.proofs.RunReads.{heights-first}
 use Rattle.calls.specs.Lists.{gives, All, all-none, all-more}
@@ -17,14 +15,14 @@ use Rattle.writer.specs.declared.Writer.{Writer}
 use Rattle.calls.proofs.AllLaws.{all-append}
 use Rattle.text.specs.Refusal.{refusedLine}
 use Rattle.pgm.specs.Limits.{maxPictureWidth}
-use Rattle.wavelet.specs.Limits.{maxSample}
-use Rattle.listing.specs.InputSteps.{readByte, heightsCame}
+use Rattle.wavelet.specs.Limits.{maxLevels, maxSample}
+use Rattle.pgm.specs.InputSteps.{readByte, heightsCame}
 use Rattle.listing.specs.Parts.{noLine, refusedPart}
-use Rattle.listing.specs.States.{State, drawState, offerState, stepTo, readState}
+use Rattle.listing.specs.States.{mapStore, State, drawState, offerState, stepTo, readState}
 use Rattle.listing.specs.Moves.{Idle}
 use Rattle.listing.specs.Events.{Event, height, refusal, Progress, stepThen, readAll}
-use Rattle.listing.specs.declared.input.Input.{Input}
-use Rattle.listing.specs.declared.input.Step.{Step}
+use Rattle.pgm.specs.declared.input.Input.{Input}
+use Rattle.pgm.specs.declared.input.Step.{Step}
 use Rattle.listing.proofs.LineLeft.{lineLeft, left-none, left-refused}
 use Rattle.listing.proofs.RunSteps.{small-heights, run-read}
 use Rattle.listing.proofs.StepHow.{Sane, StepIs, on, begins as begins-so, half, height as height-so, turned, after-refusal, SaneThen, more}
@@ -42,7 +40,7 @@ pub record ReachedBy (n k : ℕ) (E : List Event) (f : Bool) (o : List ℕ) (h :
   pub input : s .listing .input ≡ h .input
   pub sane : Sane (h .input)
 
-module _ (n k : ℕ) (store : storeLength (side 0 maxPictureWidth) 5 ≤ n) (row : maxPictureWidth ≤ k) (s : State) (idle : Idle s) where
+module _ (n k : ℕ) (store : mapStore ≤ n) (row : maxPictureWidth ≤ k) (s : State) (idle : Idle s) where
   abbrev i : Input
   i = s .listing .input
 
@@ -154,7 +152,7 @@ module _ (n k : ℕ) (store : storeLength (side 0 maxPictureWidth) 5 ≤ n) (row
   pub read-reached : {E : List Event} {f : Bool} {o : List ℕ} → Reached n k E f o s → Sane i → (b : ℕ) → b ≤ 255
       → ReachedBy n k E f o (readAll i (b ∷ [])) (readState n k b s)
   unfolding readAll readState
-  read-reached t v b small = reached-as t (readByte i b) (step-how i v b small)
+  read-reached t v b small = reached-as t (readByte maxLevels i b) (step-how i v b small)
 
   -- ---- heights that came together
   module _ (bytes : List ℕ) (j : Took) where

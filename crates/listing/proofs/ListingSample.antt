@@ -6,10 +6,10 @@ use Prim.Native.Nat.{ℕ}
 use Rattle.lifting.specs.Line.{predicted, updated, mirror}
 use Rattle.lifting.specs.Grid.{place, before, after, highAt, lowAt, count, lineForward}
 use Rattle.wavelet.specs.Bands.{across, down, columnsLifted, subband}
-use Rattle.wavelet.specs.Order.{handedOut, inTurn, firstSet, lastSet, setRow, setHas, rowsOf, setRows, madeBy, closing, made}
+use Rattle.wavelet.specs.Order.{handedOut, inTurn, firstSet, lastSet, setRow, setHas, rowsOf, setRows, madeBy, unmade, closing, made}
 use Rattle.wavelet.specs.Levels.{next, sideAt, approximation, levelBand}
 use Rattle.wavelet.specs.View.{bandColumns}
-use Rattle.wavelet.specs.Questions.{within}
+use Rattle.wavelet.specs.Limits.{maxLevels}
 use Rattle.pgm.specs.Characters.{space, lineEnd, digit}
 use Rattle.pgm.specs.Header.{one, comment, gap, afterGaps, numberFrom, field, side, sized, headerEnd, headerOf}
 use Rattle.pgm.specs.Samples.{wide, sampleSize, pairsOf, samplesOf, fitting, exceeds, heightsOf}
@@ -17,8 +17,9 @@ use Rattle.text.specs.Decimal.{digitsOf, numeral, integer}
 use Rattle.text.specs.Refusal.{refusedLine}
 use Rattle.listing.specs.Lines.{spaced, rowHead, rowLine, lineOf, linesOf, sizeLine}
 use Rattle.pgm.specs.Limits.{maxField, maxPictureWidth, maxPictureHeight, upTo, sizeFits}
+use Rattle.pgm.specs.InputSteps.{levelDigit}
 use Rattle.pgm.specs.Heights.{heightsTaken, tooLarge}
-use Rattle.listing.specs.Listing.{levelDigit, headEnd, headOf, gridOf, linesDue, bodyOf, listingOf}
+use Rattle.listing.specs.Listing.{headEnd, headOf, gridOf, linesDue, bodyOf, listingOf}
 
 -- 2, P5 1 4 65535, and the heights 1, 4, 2 and the first byte of 7
 abbrev input : List ℕ
@@ -26,9 +27,9 @@ input = 50 ∷ 10 ∷ 80 ∷ 53 ∷ 32 ∷ 49 ∷ 32 ∷ 52 ∷ 32 ∷ 54 ∷ 53
 
 whole : listingOf (input ++ (7 ∷ [])) ≡ 49 ∷ 32 ∷ 52 ∷ 32 ∷ 50 ∷ 10 ∷ 49 ∷ 32 ∷ 76 ∷ 72 ∷ 32 ∷ 48 ∷ 32 ∷ 51 ∷ 10 ∷ 49 ∷ 32 ∷ 76 ∷ 72 ∷ 32 ∷ 49 ∷ 32 ∷ 53
     ∷ 10 ∷ 50 ∷ 32 ∷ 76 ∷ 76 ∷ 32 ∷ 48 ∷ 32 ∷ 52 ∷ 10 ∷ 50 ∷ 32 ∷ 76 ∷ 72 ∷ 32 ∷ 48 ∷ 32 ∷ 49 ∷ 10 ∷ []
-unfolding listingOf headOf levelDigit maxField maxPictureWidth maxPictureHeight upTo sizeFits headEnd heightsTaken tooLarge gridOf linesDue bodyOf one
+unfolding listingOf headOf levelDigit maxLevels maxField maxPictureWidth maxPictureHeight upTo sizeFits headEnd heightsTaken tooLarge gridOf linesDue bodyOf one
     comment gap afterGaps numberFrom field side sized headerEnd headerOf space lineEnd digit wide sampleSize pairsOf samplesOf fitting exceeds
-    heightsOf refusedLine within made inTurn closing madeBy setRows rowsOf setHas setRow firstSet lastSet handedOut linesOf lineOf rowLine rowHead spaced
+    heightsOf refusedLine made inTurn closing unmade madeBy setRows rowsOf setHas setRow firstSet lastSet handedOut linesOf lineOf rowLine rowHead spaced
     sizeLine integer numeral digitsOf levelBand approximation sideAt next bandColumns subband columnsLifted across down lineForward lowAt highAt before after
     place mirror predicted updated count
 whole = refl
@@ -36,9 +37,9 @@ whole = refl
 -- the lines that three rows make due, then the refusal
 short : listingOf input ≡ 49 ∷ 32 ∷ 52 ∷ 32 ∷ 50 ∷ 10 ∷ 49 ∷ 32 ∷ 76 ∷ 72 ∷ 32 ∷ 48 ∷ 32 ∷ 51 ∷ 10 ∷ 114 ∷ 101 ∷ 102 ∷ 117 ∷ 115 ∷ 101 ∷ 100 ∷ 32 ∷ 49
     ∷ 53 ∷ 10 ∷ []
-unfolding listingOf headOf levelDigit maxField maxPictureWidth maxPictureHeight upTo sizeFits headEnd heightsTaken tooLarge gridOf linesDue bodyOf one
+unfolding listingOf headOf levelDigit maxLevels maxField maxPictureWidth maxPictureHeight upTo sizeFits headEnd heightsTaken tooLarge gridOf linesDue bodyOf one
     comment gap afterGaps numberFrom field side sized headerEnd headerOf space lineEnd digit wide sampleSize pairsOf samplesOf fitting exceeds
-    heightsOf refusedLine within made inTurn closing madeBy setRows rowsOf setHas setRow firstSet lastSet handedOut linesOf lineOf rowLine rowHead spaced
+    heightsOf refusedLine made inTurn closing unmade madeBy setRows rowsOf setHas setRow firstSet lastSet handedOut linesOf lineOf rowLine rowHead spaced
     sizeLine integer numeral digitsOf levelBand approximation sideAt next bandColumns subband columnsLifted across down lineForward lowAt highAt before after
     place mirror predicted updated count
 short = refl
@@ -47,9 +48,9 @@ short = refl
 painted : listingOf (50 ∷ 10 ∷ 80 ∷ 53 ∷ 35 ∷ 10 ∷ 49 ∷ 9 ∷ 52 ∷ 13 ∷ 10 ∷ 10 ∷ 50 ∷ 53 ∷ 53 ∷ 35 ∷ 13 ∷ 1 ∷ 4 ∷ 2 ∷ 7 ∷ []) ≡ 49 ∷ 32 ∷ 52 ∷ 32 ∷ 50 ∷ 10
     ∷ 49 ∷ 32 ∷ 76 ∷ 72 ∷ 32 ∷ 48 ∷ 32 ∷ 51 ∷ 10 ∷ 49 ∷ 32 ∷ 76 ∷ 72 ∷ 32 ∷ 49 ∷ 32 ∷ 53 ∷ 10 ∷ 50 ∷ 32 ∷ 76 ∷ 76 ∷ 32 ∷ 48 ∷ 32 ∷ 52 ∷ 10 ∷ 50 ∷ 32 ∷ 76 ∷ 72
     ∷ 32 ∷ 48 ∷ 32 ∷ 49 ∷ 10 ∷ []
-unfolding listingOf headOf levelDigit maxField maxPictureWidth maxPictureHeight upTo sizeFits headEnd heightsTaken tooLarge gridOf linesDue bodyOf one
+unfolding listingOf headOf levelDigit maxLevels maxField maxPictureWidth maxPictureHeight upTo sizeFits headEnd heightsTaken tooLarge gridOf linesDue bodyOf one
     comment gap afterGaps numberFrom field side sized headerEnd headerOf space lineEnd digit wide sampleSize pairsOf samplesOf fitting exceeds
-    heightsOf refusedLine within made inTurn closing madeBy setRows rowsOf setHas setRow firstSet lastSet handedOut linesOf lineOf rowLine rowHead spaced
+    heightsOf refusedLine made inTurn closing unmade madeBy setRows rowsOf setHas setRow firstSet lastSet handedOut linesOf lineOf rowLine rowHead spaced
     sizeLine integer numeral digitsOf levelBand approximation sideAt next bandColumns subband columnsLifted across down lineForward lowAt highAt before after
     place mirror predicted updated count
 painted = refl
@@ -57,9 +58,9 @@ painted = refl
 -- with the largest value 3 the second sample is refused, and question 15 is not asked of what follows
 exceeding : listingOf (50 ∷ 10 ∷ 80 ∷ 53 ∷ 32 ∷ 49 ∷ 32 ∷ 52 ∷ 32 ∷ 51 ∷ 10 ∷ 1 ∷ 4 ∷ []) ≡ 49 ∷ 32 ∷ 52 ∷ 32 ∷ 50 ∷ 10 ∷ 114 ∷ 101 ∷ 102 ∷ 117 ∷ 115
     ∷ 101 ∷ 100 ∷ 32 ∷ 49 ∷ 54 ∷ 10 ∷ []
-unfolding listingOf headOf levelDigit maxField maxPictureWidth maxPictureHeight upTo sizeFits headEnd heightsTaken tooLarge gridOf linesDue bodyOf one
+unfolding listingOf headOf levelDigit maxLevels maxField maxPictureWidth maxPictureHeight upTo sizeFits headEnd heightsTaken tooLarge gridOf linesDue bodyOf one
     comment gap afterGaps numberFrom field side sized headerEnd headerOf space lineEnd digit wide sampleSize pairsOf samplesOf fitting exceeds
-    heightsOf refusedLine within made inTurn closing madeBy setRows rowsOf setHas setRow firstSet lastSet handedOut linesOf lineOf rowLine rowHead spaced
+    heightsOf refusedLine made inTurn closing unmade madeBy setRows rowsOf setHas setRow firstSet lastSet handedOut linesOf lineOf rowLine rowHead spaced
     sizeLine integer numeral digitsOf levelBand approximation sideAt next bandColumns subband columnsLifted across down lineForward lowAt highAt before after
     place mirror predicted updated count
 exceeding = refl

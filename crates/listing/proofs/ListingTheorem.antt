@@ -13,19 +13,18 @@ use Prim.Native.Nat.{ℕ, _+_, _≤_, _<_}
 use native.Mathlib.Omega.{arith}
 use lib.ListN.{take, drop}
 use lib.Seq.{take-at}
-use Rattle.lifting.specs.Grid.{side}
-use Rattle.wavelet.specs.Store.{storeLength}
+use Rattle.wavelet.specs.Limits.{maxLevels}
 use Rattle.level.specs.Level.{Memory}
 use Rattle.calls.specs.Lists.{All}
 use Rattle.pgm.specs.Limits.{maxPictureWidth}
 use Rattle.listing.specs.Listing.{listingOf, dueOf}
-use Rattle.listing.specs.InputSteps.{atStart, inputEnded}
-use Rattle.listing.specs.States.{State, stateOf, started, endState}
+use Rattle.pgm.specs.InputSteps.{startAt, inputEnded}
+use Rattle.listing.specs.States.{mapStore, State, stateOf, started, endState}
 use Rattle.listing.specs.Moves.{Idle, Goes, stays, Went, Session, begun, call}
 use Rattle.listing.specs.Events.{Event, Ending, stepThen, readAll, endingOf}
-use Rattle.listing.specs.declared.input.Input.{Input}
+use Rattle.pgm.specs.declared.input.Input.{Input}
 use Rattle.listing.proofs.InputReads.{read-all}
-use Rattle.listing.proofs.InputCases.{phase-on}
+use Rattle.pgm.proofs.InputCases.{phase-on}
 use Rattle.listing.proofs.DrawnText.{textOf, endText}
 use Rattle.listing.proofs.EventText.{due-events, listing-events}
 use Rattle.listing.proofs.StepHow.{Sane}
@@ -41,16 +40,16 @@ after-refusal-events : (i : Input) (v : List ℕ) → 3 < i .phase → readAll i
 unfolding readAll
 after-refusal-events i [] p = refl
 after-refusal-events i (b ∷ v) p =
-    ap (λ y. stepThen (λ j. readAll j v) y .events) (sym (phase-on i b (λ e. omega arith) (λ e. omega arith) (λ e. omega arith) (λ e. omega arith)))
+    ap (λ y. stepThen (λ j. readAll j v) y .events) (sym (phase-on maxLevels i b (λ e. omega arith) (λ e. omega arith) (λ e. omega arith) (λ e. omega arith)))
     ∙ after-refusal-events i v p
 
 -- ---- whatever the moves
-module _ (n k : ℕ) (store : storeLength (side 0 maxPictureWidth) 5 ≤ n) (row : maxPictureWidth ≤ k) (x z : Memory) {u o : List ℕ} {s : State}
+module _ (n k : ℕ) (store : mapStore ≤ n) (row : maxPictureWidth ≤ k) (x z : Memory) {u o : List ℕ} {s : State}
     (bytes : All (λ b. b ≤ 255) u) (reads : Goes n k (stateOf started x z) u o s) where
-  reached : ReachedBy n k [] false o (readAll atStart u) s
+  reached : ReachedBy n k [] false o (readAll (startAt 0) u) s
   reached = begun-reached n k store row x z bytes reads
 
-  due-is : textOf false (readAll atStart u .events) ≡ dueOf u
+  due-is : textOf false (readAll (startAt 0) u .events) ≡ dueOf u
   due-is = sym (due-events u ∙ ap (λ t. textOf false (t .events)) (sym (read-all u)))
 
   pub moves-due : Idle s → o ≡ dueOf u
@@ -64,7 +63,7 @@ module _ (n k : ℕ) (store : storeLength (side 0 maxPictureWidth) 5 ≤ n) (row
     abbrev ending : Ending
     ending = endingOf (inputEnded (s .listing .input))
 
-    out : EndOut n k (readAll atStart u .events) o (endState n k s) ending
+    out : EndOut n k (readAll (startAt 0) u .events) o (endState n k s) ending
     out = end-reached n k store row s idle (subst Sane (sym (reached .input)) (reached .sane)) (reached .reached)
 
     on : {E : List Event} {f : Bool} → Reached n k E f o (endState n k s) → Reached n k E f (o ++ o₂) s₂
@@ -72,16 +71,16 @@ module _ (n k : ℕ) (store : storeLength (side 0 maxPictureWidth) 5 ≤ n) (row
         subst (λ l. Reached n k l f (o ++ o₂) s₂) (ap (λ l. E ++ l) (after-refusal-events _ v (out .after-refusal)) ∙ append-nil E)
         (goes-reached n k store row t (out .sane) more writes .reached)
 
-    all-is : endText (record { events = readAll atStart u .events; ending = ending }) ≡ listingOf u
+    all-is : endText (record { events = readAll (startAt 0) u .events; ending = ending }) ≡ listingOf u
     all-is =
         sym (listing-events u ∙ ap endText (sym (read-all u))
-        ∙ ap (λ i. endText (record { events = readAll atStart u .events; ending = endingOf (inputEnded i) })) (sym (reached .input)))
+        ∙ ap (λ i. endText (record { events = readAll (startAt 0) u .events; ending = endingOf (inputEnded i) })) (sym (reached .input)))
 
     pub moves-whole : Idle s₂ → o ++ o₂ ≡ listingOf u
     moves-whole i = go (out .reached) ∙ all-is
       where
-        go : {y : Ending} → EndReached n k (readAll atStart u .events) o (endState n k s) y
-            → o ++ o₂ ≡ endText (record { events = readAll atStart u .events; ending = y })
+        go : {y : Ending} → EndReached n k (readAll (startAt 0) u .events) o (endState n k s) y
+            → o ++ o₂ ≡ endText (record { events = readAll (startAt 0) u .events; ending = y })
         go (all-came t) = reached-due n k store s₂ (on t) i
         go (few-came t e) = reached-due n k store s₂ (on t) i ∙ e
         go (was-over t) = reached-due n k store s₂ (on t) i
@@ -89,8 +88,8 @@ module _ (n k : ℕ) (store : storeLength (side 0 maxPictureWidth) 5 ≤ n) (row
     pub moves-partly : (r : List ℕ) × ((o ++ o₂) ++ r ≡ listingOf u)
     moves-partly = let p = go (out .reached) in (p .0, p .1 ∙ all-is)
       where
-        go : {y : Ending} → EndReached n k (readAll atStart u .events) o (endState n k s) y
-            → (r : List ℕ) × ((o ++ o₂) ++ r ≡ endText (record { events = readAll atStart u .events; ending = y }))
+        go : {y : Ending} → EndReached n k (readAll (startAt 0) u .events) o (endState n k s) y
+            → (r : List ℕ) × ((o ++ o₂) ++ r ≡ endText (record { events = readAll (startAt 0) u .events; ending = y }))
         go (all-came t) = reached-prefix n k store s₂ (on t)
         go (few-came t e) = let p = reached-prefix n k store s₂ (on t) in (p .0, p .1 ∙ e)
         go (was-over t) = reached-prefix n k store s₂ (on t)
@@ -109,7 +108,7 @@ session-goes {n} {k} {s} (call {s₂ = s₂} {u = u} {t = t} g c) =
     subst₂ (λ v w. Goes n k s (u ++ v) (t ++ w) s₂) (sym (call-read c)) (sym (call-wrote c)) (goes-on (session-goes g) (c .goes))
 
 -- ---- whatever the calls
-module _ (n k : ℕ) (store : storeLength (side 0 maxPictureWidth) 5 ≤ n) (row : maxPictureWidth ≤ k) (x z : Memory) {u o : List ℕ} {s : State}
+module _ (n k : ℕ) (store : mapStore ≤ n) (row : maxPictureWidth ≤ k) (x z : Memory) {u o : List ℕ} {s : State}
     (bytes : All (λ b. b ≤ 255) u) (reads : Session n k (stateOf started x z) u o s) where
   pub due : Idle s → o ≡ dueOf u
   due = moves-due n k store row x z bytes (session-goes reads)

@@ -8,13 +8,12 @@ use native.Mathlib.Decide.{decLt, ℕ-discrete}
 use lib.ListN.{length}
 use borrow.Author.Tests.{lt-ltb, le-ltb, eq-eqb, ne-eqb}
 use Rattle.lifting.specs.Grid.{side}
-use Rattle.wavelet.specs.Store.{storeLength}
 use Rattle.writer.specs.Questions.{setUpQuestion}
 use Rattle.text.specs.Refusal.{answerLine}
 use Rattle.pgm.specs.Limits.{maxPictureWidth}
 use Rattle.listing.specs.Lines.{sizeLine}
 use Rattle.listing.specs.Parts.{noLine}
-use Rattle.listing.specs.States.{State, stateOf, listed, drawState, valuePart, advanceState}
+use Rattle.listing.specs.States.{mapStore, State, stateOf, listed, drawState, valuePart, advanceState}
 use Rattle.listing.specs.Moves.{lineOn, leftOn}
 use Rattle.listing.specs.Events.{Event}
 use Rattle.listing.specs.declared.line.Line.{Line}
@@ -127,7 +126,7 @@ module _ (n k : ℕ) (s : State) where
           ]
         ]
 
-  pub wholly-reached : storeLength (side 0 maxPictureWidth) 5 ≤ n → maxPictureWidth ≤ k → 0 < l .part → {E : List Event} {f : Bool} {o : List ℕ}
+  pub wholly-reached : mapStore ≤ n → maxPictureWidth ≤ k → 0 < l .part → {E : List Event} {f : Bool} {o : List ℕ}
       → Reached n k E f o s → Reached n k E f (o ++ leftOn k s) (advanceState n k s)
   wholly-reached store row p (quiet a b c d e) = absurd (omega arith)
   wholly-reached store row p {E} {f} {o} (refused q a b c d e) =
@@ -136,7 +135,7 @@ module _ (n k : ℕ) (s : State) where
       begun W H L hs number a b c (subst (λ y. InputAt y (W * H) hs number f) (sym (wholly-input (set-up-in n store b) (omega (arith, b .columns)) e p)) d)
       (wholly-begun (set-up-in n store b) (omega (arith, b .columns)) e p)
 
-  pub reached-input : storeLength (side 0 maxPictureWidth) 5 ≤ n → maxPictureWidth ≤ k → 0 < l .part → {E : List Event} {f : Bool} {o : List ℕ}
+  pub reached-input : mapStore ≤ n → maxPictureWidth ≤ k → 0 < l .part → {E : List Event} {f : Bool} {o : List ℕ}
       → Reached n k E f o s → advanceState n k s .listing .input ≡ s .listing .input
   reached-input store row p (quiet a b c d e) = absurd (omega arith)
   reached-input store row p (refused q a b c d e) = ap (λ y. y .listing .input) (to-none d)

@@ -22,9 +22,9 @@ use Rattle.writer.specs.declared.Writer.{Writer}
 use Rattle.writer.proofs.CallLaws.{offer-may}
 use Rattle.writer.proofs.Reached.{takes-one}
 use Rattle.listing.specs.Moves.{Idle, largestOn, readByte, takes as offers, Reads}
-use Rattle.listing.specs.InputSteps.{heightsCame}
+use Rattle.pgm.specs.InputSteps.{heightsCame}
 use Rattle.listing.specs.States.{Leaves, State, stateOf, drawState, readState}
-use Rattle.listing.specs.declared.input.Input.{Input}
+use Rattle.pgm.specs.declared.input.Input.{Input}
 use Rattle.listing.specs.declared.listing.Listing.{Listing}
 use Rattle.listing.proofs.MoveLaws.{one}
 use Rattle.listing.proofs.NextLaws.{is-some}

@@ -9,14 +9,14 @@ use lib.ListN.{length, take}
 use Rattle.numbers.specs.Signal.{pick}
 use Rattle.pgm.specs.Samples.{wide, sampleSize, pairsOf, samplesOf, fitting, heightsOf}
 use Rattle.pgm.specs.declared.header.Header.{Header}
-use Rattle.wavelet.specs.Limits.{maxSample}
+use Rattle.wavelet.specs.Limits.{maxLevels, maxSample}
 use Rattle.calls.specs.Lists.{All, all-none, all-more}
-use Rattle.listing.specs.InputSteps.{heightsCame}
+use Rattle.pgm.specs.InputSteps.{heightsCame}
 use Rattle.listing.specs.Events.{height, Progress, andOn, stepThen, readAll}
-use Rattle.listing.specs.declared.input.Input.{Input}
+use Rattle.pgm.specs.declared.input.Input.{Input}
 use Rattle.pgm.proofs.HeightLaws.{Leads, leads-two, leads-one, no-sample}
 use Rattle.listing.proofs.StepHow.{two-bytes, one-byte}
-use Rattle.listing.proofs.InputReads.{at, first-byte, second-byte, lone-byte}
+use Rattle.pgm.proofs.InputReads.{at, first-byte, second-byte, lone-byte}
 
 -- ---- bytes and heights
 small-pairs : (s : List ℕ) → All (λ b. b ≤ 255) s → All (λ h. h ≤ maxSample) (pairsOf s)
@@ -98,14 +98,14 @@ module _ (L : ℕ) (h : Header) (m : ℕ) where
   unfolding readAll sampleSize
   step-two n u j a b s w e =
       rw (w, twice j)
-      (ap (stepThen (λ i. readAll i (b ∷ take (2 * j) s))) (first-byte L h n m u a w)
-      ∙ ap (stepThen (λ i. readAll i (take (2 * j) s))) (second-byte L h n m a b w .0 e))
+      (ap (stepThen (λ i. readAll i (b ∷ take (2 * j) s))) (first-byte maxLevels L h n m u a w)
+      ∙ ap (stepThen (λ i. readAll i (take (2 * j) s))) (second-byte maxLevels L h n m a b w .0 e))
 
   step-one : (n u j b : ℕ) (s : List ℕ) → wide m ≡ false → leb b m ≡ true
       → readAll (at 3 L h (suc n) m false u) (take (sampleSize m * suc j) (b ∷ s)) ≡ andOn (height b)
       (readAll (at 3 L h n m false 0) (take (sampleSize m * j) s))
   unfolding readAll sampleSize
-  step-one n u j b s w e = rw (w, once j) (ap (stepThen (λ i. readAll i (take (1 * j) s))) (lone-byte L h n m false u b w .0 e))
+  step-one n u j b s w e = rw (w, once j) (ap (stepThen (λ i. readAll i (take (1 * j) s))) (lone-byte maxLevels L h n m false u b w .0 e))
 
   no-more : (n u : ℕ) (s : List ℕ) → u ≡ 0 → Runs 0 n u s
   unfolding readAll

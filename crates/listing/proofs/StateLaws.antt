@@ -4,19 +4,20 @@ use mathlib.Core.List.{[], _∷_}
 use Prim.Native.Nat.{ℕ, _+_, _≤_, _<_}
 use native.Mathlib.Omega.{arith}
 use borrow.Author.Tests.{lt-ltb, le-ltb, eq-eqb, ne-eqb}
+use Rattle.wavelet.specs.Limits.{maxLevels}
 use Rattle.lifting.specs.Grid.{side}
 use Rattle.calls.specs.Lists.{Reply, gives, refused}
 use Rattle.writer.specs.Answers.{Took, Handed}
 use Rattle.level.specs.Level.{Memory}
 use Rattle.writer.specs.Calls.{setUpReply, setUpStore, offerReply, offerStore, drawReply, drawStore, drawArea, finishReply, finishStore}
 use Rattle.writer.specs.declared.Writer.{Writer}
-use Rattle.listing.specs.InputSteps.{readByte, inputEnded}
+use Rattle.pgm.specs.InputSteps.{readByte, inputEnded}
 use Rattle.listing.specs.Parts.{noLine}
 use Rattle.listing.specs.States.{State, Leaves, refusedTo, drawnTo, drawState, begunTo, beginState, offerState, finishState}
 use Rattle.listing.specs.States.{stepTo, readState, endTo, endState, listed, valuePart, advanceState}
-use Rattle.listing.specs.declared.input.Input.{Input}
-use Rattle.listing.specs.declared.input.Step.{Step}
-use Rattle.listing.specs.declared.input.Ended.{Ended}
+use Rattle.pgm.specs.declared.input.Input.{Input}
+use Rattle.pgm.specs.declared.input.Step.{Step}
+use Rattle.pgm.specs.declared.input.Ended.{Ended}
 use Rattle.listing.specs.declared.line.Line.{Line}
 use Rattle.listing.specs.declared.listing.Listing.{Listing}
 
@@ -56,7 +57,7 @@ module _ (n k : ℕ) (i : Input) (w : Writer) (x z : Memory) where
   not-closed q l e f g = rw (← e) (record { listing = f; store = g; row = refl })
 
 -- a byte was read as y
-pub read-as : (n k b : ℕ) (s : State) (y : Step) (l : Listing) {x′ z′ : Memory} → y ≡ readByte (s .listing .input) b
+pub read-as : (n k b : ℕ) (s : State) (y : Step) (l : Listing) {x′ z′ : Memory} → y ≡ readByte maxLevels (s .listing .input) b
     → Leaves (stepTo n k (s .listing .writer) (s .store) (s .row) y) l x′ z′ → Leaves (readState n k b s) l x′ z′
 unfolding readState
 read-as n k b s y l {x′} {z′} e p = subst (λ y. Leaves (stepTo n k (s .listing .writer) (s .store) (s .row) y) l x′ z′) e p

@@ -4,22 +4,22 @@ use mathlib.Core.Bool.{Bool, true, false}
 use Prim.Native.Nat.{ℕ, zero, suc, _+_, _-_, _*_, _≤_, _<_}
 use native.Mathlib.Omega.{arith}
 use lib.Dec.{leb, eqb}
-use borrow.Author.Tests.{leb-true, eqb-true, eqb-false}
+use borrow.Author.Tests.{eqb-true, eqb-false}
 use Rattle.numbers.specs.Signal.{pick, both}
-use Rattle.wavelet.specs.Limits.{maxSample}
-use Rattle.wavelet.specs.Questions.{within}
+use Rattle.wavelet.specs.Limits.{maxLevels, maxSample}
 use Rattle.pgm.specs.Steps.{stepOf}
 use Rattle.pgm.specs.Samples.{wide, noByte, sampled, sampleOf}
 use Rattle.pgm.specs.declared.header.Next.{Next}
 use Rattle.pgm.specs.declared.header.Next.the-variants as next
 use Rattle.pgm.specs.declared.samples.Sample.the-variants as sample
-use Rattle.pgm.specs.Limits.{sizeFits}
-use Rattle.listing.specs.Listing.{levelDigit}
-use Rattle.listing.specs.InputSteps.{atStart, phased, refuse15, levelsRead, lineFeedRead, shapeRead, nextRead, headerRead, sampleRead, heightRead}
-use Rattle.listing.specs.InputSteps.{readByte, heightsCame}
-use Rattle.listing.specs.declared.input.Input.{Input}
-use Rattle.listing.specs.declared.input.Step.{Step}
-use Rattle.listing.specs.declared.input.Step.the-variants as steps
+use Rattle.pgm.specs.Limits.{upTo, sizeFits}
+use Rattle.pgm.specs.Characters.{digit, digitValue}
+use Rattle.pgm.proofs.LimitLaws.{up-to}
+use Rattle.pgm.specs.InputSteps.{startAt, phased, refuse15, levelsRead, lineFeedRead, shapeRead, nextRead, headerRead, sampleRead, heightRead}
+use Rattle.pgm.specs.InputSteps.{levelDigit, readByte, heightsCame}
+use Rattle.pgm.specs.declared.input.Input.{Input}
+use Rattle.pgm.specs.declared.input.Step.{Step}
+use Rattle.pgm.specs.declared.input.Step.the-variants as steps
 
 -- a sample of one byte or two is a height
 pub two-bytes : (a b : ℕ) → a ≤ 255 → b ≤ 255 → 256 * a + b ≤ maxSample
@@ -33,7 +33,7 @@ one-byte b p = omega arith
 -- the byte kept is a byte, and once the digit was read it is one of the levels
 pub record Sane (i : Input) : Type 0 where
   pub byte : i .samples .high ≤ 255
-  pub levels : 0 < i .phase → i .phase < 4 → (1 ≤ i .levels) × (i .levels ≤ 5)
+  pub levels : 0 < i .phase → i .phase < 4 → (1 ≤ i .levels) × (i .levels ≤ maxLevels)
 
 pub data StepIs (i : Input) : Step → Type 0 where
   -- of the head
@@ -56,7 +56,7 @@ pub data SaneThen : Step → Type 0 where
 abbrev pub How : Input → Step → Type 0
 How i y = StepIs i y × SaneThen y
 
-pub start-sane : Sane atStart
+pub start-sane : Sane (startAt 0)
 start-sane = record { byte = omega arith; levels = λ p q. absurd (omega arith) }
 
 pub came-sane : (j : ℕ) (i : Input) → Sane i → Sane (heightsCame j i)
@@ -73,20 +73,17 @@ module _ (i : Input) (s : Sane i) where
   refuse-how p = (turned (phased 4 i) 15 p refl (omega arith), refused (phased-sane i s))
 
   module _ (b : ℕ) (small : b ≤ 255) where
-    levels-how : i .phase ≡ 0 → How i (levelsRead i b)
-    unfolding levelsRead levelDigit within
-    levels-how e = go (leb 49 b) refl (leb b 53) refl
+    levels-how : i .phase ≡ 0 → How i (levelsRead maxLevels i b)
+    unfolding levelsRead levelDigit
+    levels-how e = go (digit b) (upTo maxLevels (digitValue b)) refl
       where
         j : Input
-        j = record { phase = 1; levels = b - 48; header = i .header; left = i .left; samples = i .samples }
+        j = record { phase = 1; levels = digitValue b; header = i .header; left = i .left; samples = i .samples }
 
-        go : (x : Bool) → leb 49 b ≡ x → (y : Bool) → leb b 53 ≡ y → How i (pick (both x y) (steps.More j) (refuse15 i))
-        go false p y q = refuse-how (omega arith)
-        go true p false q = refuse-how (omega arith)
-        go true p true q =
-            let f : 49 ≤ b = leb-true 49 b p in
-            let g : b ≤ 53 = leb-true b 53 q in
-            (on j (omega arith) (omega arith), more {j = j} (record { byte = s .byte; levels = λ _ _. (omega arith, omega arith) }))
+        go : (x y : Bool) → upTo maxLevels (digitValue b) ≡ y → How i (pick (both x y) (steps.More j) (refuse15 i))
+        go false y q = refuse-how (omega arith)
+        go true false q = refuse-how (omega arith)
+        go true true q = (on j (omega arith) (omega arith), more {j = j} (record { byte = s .byte; levels = λ _ _. up-to maxLevels (digitValue b) q }))
 
     feed-how : i .phase ≡ 1 → How i (lineFeedRead i b)
     unfolding lineFeedRead
@@ -127,7 +124,7 @@ module _ (i : Input) (s : Sane i) where
         m : ℕ
         m = i .samples .largest
 
-        L : (1 ≤ i .levels) × (i .levels ≤ 5)
+        L : (1 ≤ i .levels) × (i .levels ≤ maxLevels)
         L = s .levels (omega arith) (omega arith)
 
         gone : Input
@@ -159,12 +156,12 @@ module _ (i : Input) (s : Sane i) where
             positive zero d = absurd (d refl)
             positive (suc m) d = omega arith
 
-    pub step-how : How i (readByte i b)
+    pub step-how : How i (readByte maxLevels i b)
     unfolding readByte
     step-how = go (eqb (i .phase) 0) refl (eqb (i .phase) 1) refl (eqb (i .phase) 2) refl (eqb (i .phase) 3) refl
       where
         go : (x : Bool) → eqb (i .phase) 0 ≡ x → (y : Bool) → eqb (i .phase) 1 ≡ y → (z : Bool) → eqb (i .phase) 2 ≡ z → (w : Bool) → eqb (i .phase) 3 ≡ w
-            → How i (pick x (levelsRead i b) (pick y (lineFeedRead i b) (pick z (headerRead i b) (pick w (heightRead i b) (steps.More i)))))
+            → How i (pick x (levelsRead maxLevels i b) (pick y (lineFeedRead i b) (pick z (headerRead i b) (pick w (heightRead i b) (steps.More i)))))
         go true p y q z r w t = levels-how (eqb-true (i .phase) 0 p)
         go false p true q z r w t = feed-how (eqb-true (i .phase) 1 q)
         go false p false q true r w t = header-how (eqb-true (i .phase) 2 r)

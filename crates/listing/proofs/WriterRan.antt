@@ -1,7 +1,7 @@
 -- A writer as calls on a fresh one have left it: the heights taken, whether it was finished, and the rows drawn (`Ran`), and what the next call does
 -- to these. Assumes nothing.
 use mathlib.Core.Path.{_≡_, refl, sym, ap, subst, subst₂, _∙_}
-use mathlib.Core.Bool.{Bool, true, false}
+use mathlib.Core.Bool.{Bool, false}
 use mathlib.Core.List.{List, [], _∷_, _++_, append-nil}
 use Prim.Native.Nat.{ℕ, zero, suc, _+_, _-_, _/_, _≤_}
 use native.Mathlib.Nat.{zero-div}
@@ -34,7 +34,7 @@ worldOf n w x = record { writer = w; length = n; store = x }
 
 -- the rows that wait: made of the heights hs (and of the finish, f), and not among the rows drawn
 unfoldable pub waits : ℕ → ℕ → List ℕ → Bool → List DrawnRow → List RowName
-waits W L hs f ds = drop (length ds) (made (side 0 W) 0 L (length hs / W) f)
+waits W L hs f ds = drop (length ds) (made 1 (side 0 W) 0 L (length hs / W) f)
 
 pub record Ran (W L n : ℕ) (hs : List ℕ) (f : Bool) (ds : List DrawnRow) (w : Writer) (x : Memory) : Type 0 where
   pub before : Memory
@@ -53,7 +53,7 @@ module _ (W L n : ℕ) where
   unfolding waits made inTurn
   fresh-waits = go (0 / W) (zero-div W)
     where
-      go : (m : ℕ) → m ≡ 0 → made (side 0 W) 0 L m false ≡ []
+      go : (m : ℕ) → m ≡ 0 → made 1 (side 0 W) 0 L m false ≡ []
       go zero e = refl
       go (suc m) e = absurd (omega arith)
 

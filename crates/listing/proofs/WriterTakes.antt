@@ -26,6 +26,7 @@ use Rattle.writer.specs.declared.Writer.{Writer}
 use Rattle.writer.proofs.Demand3.{demand-3}
 use Rattle.pgm.specs.Limits.{maxPictureWidth}
 use Rattle.listing.proofs.WriterRan.{worldOf, waits, Ran, waiting-is, ran-next}
+use Rattle.listing.specs.States.{mapStore}
 
 -- ---- the set-up
 -- the writer takes every width that is read
@@ -33,11 +34,11 @@ narrow : maxPictureWidth ≤ maxWidth
 unfolding maxPictureWidth maxWidth
 narrow = omega arith
 
-pub set-up-passes : (W L n : ℕ) → storeLength (side 0 maxPictureWidth) 5 ≤ n → 1 ≤ W → W ≤ maxPictureWidth → 1 ≤ L → L ≤ 5 → setUpQuestion (side 0 W) L n ≡ 0
-unfolding setUpQuestion within maxLevels
+pub set-up-passes : (W L n : ℕ) → mapStore ≤ n → 1 ≤ W → W ≤ maxPictureWidth → 1 ≤ L → L ≤ maxLevels → setUpQuestion (side 0 W) L n ≡ 0
+unfolding setUpQuestion within
 set-up-passes W L n h a b c d =
-    let f : storeLength (side 0 W) L ≤ n = omega (arith, store-in (side 0 W) L 5 d, store-grows 5 0 W maxPictureWidth b) in
-    rw (le-leb 1 W a, le-leb W maxWidth (omega (arith, narrow)), le-leb 1 L c, le-leb L 5 d, le-leb (storeLength (side 0 W) L) n f)
+    let f : storeLength (side 0 W) L ≤ n = omega (arith, store-in (side 0 W) L maxLevels d, store-grows maxLevels 0 W maxPictureWidth b) in
+    rw (le-leb 1 W a, le-leb W maxWidth (omega (arith, narrow)), le-leb 1 L c, le-leb L maxLevels d, le-leb (storeLength (side 0 W) L) n f)
 
 module _ (W L n : ℕ) (s : setUpQuestion (side 0 W) L n ≡ 0) (hs : List ℕ) (ds : List DrawnRow) (w : Writer) (x : Memory) (r : Ran W L n hs false ds w x)
     (idle : waits W L hs false ds ≡ []) where

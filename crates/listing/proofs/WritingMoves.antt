@@ -20,7 +20,7 @@ use Rattle.text.specs.Refusal.{refusedLine}
 use Rattle.listing.specs.Parts.{first, second, sizeText, refusedText, headText, valueText, partText, donePart, startOf, leftOf, Spelled}
 use Rattle.listing.specs.States.{State, stateOf, Leaves, listed, valuePart, advanceState}
 use Rattle.listing.specs.Moves.{lineOn, textOn, leftOn, Move, partly, wholly, Goes, then, Writes, WritesOnly}
-use Rattle.listing.specs.declared.input.Input.{Input}
+use Rattle.pgm.specs.declared.input.Input.{Input}
 use Rattle.listing.specs.declared.line.Line.{Line}
 use Rattle.listing.specs.declared.listing.Listing.{Listing}
 use Rattle.listing.specs.declared.spelling.Spelt.{Spelt}

@@ -5,15 +5,16 @@ use Prim.Native.Nat.{ℕ, zero, suc}
 use lib.Dec.{ltb, eqb}
 use lib.ListN.{length}
 use Rattle.numbers.specs.Signal.{pick}
+use Rattle.wavelet.specs.Limits.{maxLevels}
 use Rattle.pgm.specs.Header.{Read, found, short, wrong}
 use Rattle.pgm.specs.Heights.{heightsTaken, tooLarge, bytesOf, refusalIn}
 use Rattle.listing.specs.Listing.{Shape, Head, cells, headOf}
-use Rattle.listing.specs.InputSteps.{readByte, inputEnded}
-use Rattle.listing.specs.declared.input.Input.{Input}
-use Rattle.listing.specs.declared.input.Step.{Step}
-use Rattle.listing.specs.declared.input.Step.the-variants as steps
-use Rattle.listing.specs.declared.input.Ended.{Ended}
-use Rattle.listing.specs.declared.input.Ended.the-variants as ended
+use Rattle.pgm.specs.InputSteps.{readByte, inputEnded}
+use Rattle.pgm.specs.declared.input.Input.{Input}
+use Rattle.pgm.specs.declared.input.Step.{Step}
+use Rattle.pgm.specs.declared.input.Step.the-variants as steps
+use Rattle.pgm.specs.declared.input.Ended.{Ended}
+use Rattle.pgm.specs.declared.input.Ended.the-variants as ended
 
 -- the head is there, a height is there, a question (15 or 16) says no
 pub data Event : Type 0 where
@@ -77,7 +78,7 @@ stepThen f (steps.Refused i q) = andOn (refusal q) (f i)
 
 unfoldable pub readAll : Input → List ℕ → Progress
 readAll i [] = record { events = []; input = i }
-readAll i (b ∷ s) = stepThen (λ j. readAll j s) (readByte i b)
+readAll i (b ∷ s) = stepThen (λ j. readAll j s) (readByte maxLevels i b)
 
 abbrev pub endingOf : Ended → Ending
 endingOf (ended.Whole i) = whole

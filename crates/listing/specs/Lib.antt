@@ -1,6 +1,5 @@
 pub mod Lines
 pub mod Listing
-pub mod InputSteps
 pub mod Events
 pub mod Parts
 pub mod States

@@ -6,6 +6,7 @@ use Prim.Native.Nat.{ℕ, zero, suc}
 use lib.IntN.{ℤ}
 use Rattle.numbers.specs.Word.{whole}
 use Rattle.lifting.specs.Grid.{side}
+use Rattle.lifting.specs.FiveThree.{fiveThreeFilter}
 use Rattle.wavelet.specs.Bands.{Grid, Band, LL, HL, LH, HH}
 use Rattle.wavelet.specs.Levels.{levelBand}
 use Rattle.wavelet.specs.View.{bandColumns}
@@ -35,7 +36,8 @@ rowLine k b r n y = rowHead k b r ++ spaced n y ++ (10 ∷ [])
 -- the line of a band row of the W × H map g: T.800's whole numbers
 unfoldable pub lineOf : ℕ → ℕ → Grid → RowName → List ℕ
 lineOf W H g x =
-    rowLine (x .level) (x .band) (x .row) (bandColumns (side 0 W) (x .level) (x .band)) (levelBand whole (side 0 W) (side 0 H) g (x .level) (x .band) (x .row))
+    rowLine (x .level) (x .band) (x .row) (bandColumns (side 0 W) (x .level) (x .band))
+    (levelBand fiveThreeFilter whole (side 0 W) (side 0 H) g (x .level) (x .band) (x .row))
 
 unfoldable pub linesOf : ℕ → ℕ → Grid → List RowName → List ℕ
 linesOf W H g [] = []

@@ -10,10 +10,11 @@ use Rattle.numbers.specs.Signal.{pick}
 use Rattle.lifting.specs.Grid.{side}
 use Rattle.wavelet.specs.Bands.{Grid}
 use Rattle.wavelet.specs.Order.{made}
-use Rattle.wavelet.specs.Questions.{within}
+use Rattle.wavelet.specs.Limits.{maxLevels}
 use Rattle.pgm.specs.Characters.{digitValue}
 use Rattle.pgm.specs.Header.{Read, found, short, wrong, andThen, is, one, headerOf}
 use Rattle.pgm.specs.Limits.{sizeFits}
+use Rattle.pgm.specs.InputSteps.{levelDigit}
 use Rattle.pgm.specs.Heights.{heightsTaken, tooLarge, bytesOf, refusalIn}
 use Rattle.text.specs.Refusal.{refusedLine, answerLine}
 use Rattle.listing.specs.Lines.{linesOf, sizeLine}
@@ -25,9 +26,6 @@ pub record Shape : Type 0 where
   pub height : ℕ
   pub levels : ℕ
 
-unfoldable pub levelDigit : ℕ → Bool
-levelDigit b = within 49 53 b
-
 -- the map's shape and the largest value of a sample
 pub record Head : Type 0 where
   pub shape : Shape
@@ -38,7 +36,7 @@ headEnd L W H m s = pick (sizeFits W H) (found (record { shape = record { width 
 
 unfoldable pub headOf : List ℕ → Read Head
 headOf s =
-    andThen (one levelDigit s) λ d s.
+    andThen (one (levelDigit maxLevels) s) λ d s.
     andThen (one (is 10) s) λ _ s.
     andThen (headerOf s) λ z s.
     headEnd (digitValue d) (z .width) (z .height) (z .largest) s
@@ -55,7 +53,7 @@ gridOf W hs i j = pos (getD hs (i * W + j) 0)
 unfoldable pub linesDue : Shape → List ℕ → Bool → List ℕ
 linesDue q hs finished =
     sizeLine (q .width) (q .height) (q .levels)
-    ++ linesOf (q .width) (q .height) (gridOf (q .width) hs) (made (side 0 (q .width)) 0 (q .levels) (length hs / q .width) finished)
+    ++ linesOf (q .width) (q .height) (gridOf (q .width) hs) (made 1 (side 0 (q .width)) 0 (q .levels) (length hs / q .width) finished)
 
 -- "Asked again before the finish: are the height bytes neither too few nor too many?" A refusal comes "on a line after all lines that the heights
 -- before it made due".

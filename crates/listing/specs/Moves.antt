@@ -10,7 +10,7 @@ use Rattle.calls.specs.Lists.{gives}
 use Rattle.writer.specs.Answers.{Took}
 use Rattle.level.specs.Level.{Memory}
 use Rattle.writer.specs.Calls.{offerReply, offerStore}
-use Rattle.listing.specs.InputSteps.{heightsCame}
+use Rattle.pgm.specs.InputSteps.{heightsCame}
 use Rattle.text.specs.Text.{Wrote}
 use Rattle.listing.specs.Parts.{partText, startOf, leftOf, donePart}
 use Rattle.listing.specs.States.{State, stateOf, listed, drawState, readState, advanceState}

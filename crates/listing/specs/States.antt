@@ -6,20 +6,27 @@ use lib.Dec.{ltb, eqb}
 use lib.ListN.{length}
 use Rattle.numbers.specs.Signal.{pick}
 use Rattle.lifting.specs.Grid.{side}
+use Rattle.wavelet.specs.Limits.{maxLevels}
+use Rattle.wavelet.specs.Store.{storeLength}
+use Rattle.pgm.specs.Limits.{maxPictureWidth}
 use Rattle.level.specs.Level.{Memory}
 use Rattle.calls.specs.Lists.{Reply, gives, refused}
 use Rattle.writer.specs.Answers.{Took, Handed, aRow, nothing}
 use Rattle.writer.specs.Calls.{fresh, setUpReply, setUpStore, offerReply, offerStore, drawReply, drawStore, drawArea, finishReply, finishStore}
 use Rattle.writer.specs.declared.Writer.{Writer}
-use Rattle.listing.specs.InputSteps.{atStart, phased, readByte, inputEnded}
+use Rattle.pgm.specs.InputSteps.{startAt, phased, readByte, inputEnded}
 use Rattle.listing.specs.Parts.{noLine, sizePart, refusedPart, headPart}
-use Rattle.listing.specs.declared.input.Input.{Input}
-use Rattle.listing.specs.declared.input.Step.{Step}
-use Rattle.listing.specs.declared.input.Ended.{Ended}
+use Rattle.pgm.specs.declared.input.Input.{Input}
+use Rattle.pgm.specs.declared.input.Step.{Step}
+use Rattle.pgm.specs.declared.input.Ended.{Ended}
 use Rattle.listing.specs.declared.line.Line.{Line}
 use Rattle.listing.specs.declared.listing.Listing.{Listing}
-use Rattle.listing.specs.declared.input.Step.the-variants as steps
-use Rattle.listing.specs.declared.input.Ended.the-variants as ended
+use Rattle.pgm.specs.declared.input.Step.the-variants as steps
+use Rattle.pgm.specs.declared.input.Ended.the-variants as ended
+
+-- a line store in which every map that is listed has room
+abbrev pub mapStore : ℕ
+mapStore = storeLength (side 0 maxPictureWidth) maxLevels
 
 pub record State : Type 0 where
   pub listing : Listing
@@ -40,7 +47,7 @@ listed i w l = record { input = i; writer = w; line = l }
 
 -- before the first byte: the writer is none yet
 abbrev pub started : Listing
-started = listed atStart (fresh (side 0 1) 0 1) noLine
+started = listed (startAt 0) (fresh (side 0 1) 0 1) noLine
 
 -- a refusal, whatever its number: no more is read
 abbrev pub refusedTo : Input → Writer → ℕ → Listing
@@ -86,7 +93,7 @@ stepTo n k w x z (steps.Height i v) = offerState n k i w v x z
 stepTo n k w x z (steps.Refused i q) = stateOf (refusedTo i w q) x z
 
 unfoldable pub readState : ℕ → ℕ → ℕ → State → State
-readState n k b s = stepTo n k (s .listing .writer) (s .store) (s .row) (readByte (s .listing .input) b)
+readState n k b s = stepTo n k (s .listing .writer) (s .store) (s .row) (readByte maxLevels (s .listing .input) b)
 
 -- ---- the end of the input, once no line is being written
 abbrev pub endTo : ℕ → ℕ → State → Ended → State

@@ -1,20 +1,18 @@
 // The listing: bytes of the input in, bytes of the lines out. Each band row that comes due is written as a line before more input is read.
-use crate::input::Ended;
-use crate::input::Input;
 use crate::line::Line;
 use crate::reading;
 use crate::states;
 use crate::writing;
+use pgm::input::Ended;
+use pgm::input::Input;
 use pgm::limits;
 use writer::Writer;
 ghost use mathlib.Core.Path.{_≡_};
 ghost use Prim.Native.Nat.{_≤_};
 ghost use lib.ListN.{length};
 ghost use Rattle.numbers.specs.Signal.{at};
-ghost use Rattle.lifting.specs.Grid.{side};
-ghost use Rattle.wavelet.specs.Store.{storeLength};
 ghost use Rattle.pgm.specs.Limits.{maxPictureWidth};
-ghost use Rattle.listing.specs.States.{stateOf, Leaves, started, endState};
+ghost use Rattle.listing.specs.States.{mapStore, stateOf, Leaves, started, endState};
 ghost use Rattle.listing.specs.Moves.{Went, Stops, Onward};
 
 pub struct Listing {
@@ -32,15 +30,15 @@ pub struct Fed {
 }
 
 impl Listing {
-    // How many numbers the lent areas have to hold so that no map listed is refused: the line store of the largest width and five levels, and the
-    // longest band row.
+    // How many numbers the lent areas have to hold so that no map listed is refused: the line store of the largest width and number of levels, and
+    // the longest band row.
     pub const STORE: usize = 7956;
 
     pub const ROW: usize = limits::MAX_WIDTH;
 
     // The constants, each pinned to the definition's number.
     pub fn store_length() -> usize
-        ensures { λ r. ⌜ r ≡ storeLength (side 0 maxPictureWidth) 5 ⌝ }
+        ensures { λ r. ⌜ r ≡ mapStore ⌝ }
     {
         Listing::STORE
     }
@@ -55,7 +53,7 @@ impl Listing {
         ensures { λ r. ⌜ r ≡ started ⌝ }
     {
         Listing {
-            input: Input::start(),
+            input: Input::start(0),
             writer: Writer {
                 width: 1,
                 levels: 1,

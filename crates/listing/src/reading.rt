@@ -1,8 +1,8 @@
 // What comes in while no line is being written: heights that came together are offered together, any other byte is read by itself. The module is
 // private: only this crate, which meets what is required, can call it.
-use crate::input::Input;
 use crate::listing::Listing;
 use crate::states;
+use pgm::input::Input;
 use pgm::samples;
 use text::bytes;
 use writer::Offered;

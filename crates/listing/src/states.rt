@@ -1,9 +1,10 @@
 // The steps of a listing, each on the whole state: what was read goes to the writer, and the next band row that waits becomes the line. The module is
 // private: `listing` has the calls.
-use crate::input::Input;
-use crate::input::Step;
 use crate::line::Line;
 use crate::listing::Listing;
+use pgm::input::Input;
+use pgm::input::Step;
+use wavelet::limits;
 use wavelet::shape::Shape;
 use writer::Drawn;
 use writer::Finished;
@@ -99,7 +100,7 @@ pub fn read(listing: Listing, byte: u8, store: &mut [i32], row: &mut [i32]) -> L
 {
     let input = listing.input;
     let writer = listing.writer;
-    match input.read(byte) {
+    match input.read(byte, limits::MAX_LEVELS) {
         Step::More(next) => Listing {
             input: next,
             writer,

@@ -13,8 +13,7 @@ use native.Mathlib.Omega.{arith}
 use lib.Dec.{ltb, eqb}
 use lib.ListN.{take}
 use borrow.Author.Tests.{ltb-true, eqb-true, lt-ltb, le-ltb}
-use Rattle.lifting.specs.Grid.{side}
-use Rattle.wavelet.specs.Store.{storeLength}
+use Rattle.wavelet.specs.Limits.{maxLevels}
 use Rattle.calls.specs.Lists.{All, all-none, all-more}
 use Rattle.level.specs.Level.{Memory}
 use Rattle.descriptors.specs.Left.{leftIn}
@@ -22,11 +21,11 @@ use Rattle.descriptors.specs.declared.input.Left.{Left}
 use Rattle.descriptors.proofs.LeftLaws.{none-left, fills-left, fills-within, used-left}
 use Rattle.pgm.specs.Limits.{maxPictureWidth}
 use Rattle.listing.specs.Listing.{listingOf, dueOf}
-use Rattle.listing.specs.InputSteps.{inputEnded}
-use Rattle.listing.specs.States.{State, stateOf, started, readState, endState}
+use Rattle.pgm.specs.InputSteps.{inputEnded}
+use Rattle.listing.specs.States.{mapStore, State, stateOf, started, readState, endState}
 use Rattle.listing.specs.Moves.{Idle, readByte, Goes, stays, then}
 use Rattle.listing.specs.declared.listing.Listing.{Listing}
-use Rattle.listing.proofs.InputCases.{phase-on}
+use Rattle.pgm.proofs.InputCases.{phase-on}
 use Rattle.listing.proofs.MoveLaws.{goes-on}
 use Rattle.listing.proofs.ListingTheorem.{call-wrote, moves-prefix, moves-whole}
 use Rattle.listing_io.specs.Rounds.{over, ends, Round, Rounds, Ran}
@@ -80,7 +79,7 @@ pub record AfterRefusal (n k : ℕ) (s : State) (v : List ℕ) : Type 0 where
 
 after-refusal-one : (n k b : ℕ) (s : State) → 3 < s .listing .input .phase → (Idle (readState n k b s)) × (3 < readState n k b s .listing .input .phase)
 unfolding readState
-after-refusal-one n k b s h = rw (sym (phase-on (s .listing .input) b (λ e. omega arith) (λ e. omega arith) (λ e. omega arith) (λ e. omega arith))) (refl, h)
+after-refusal-one n k b s h = rw (sym (phase-on maxLevels (s .listing .input) b (λ e. omega arith) (λ e. omega arith) (λ e. omega arith) (λ e. omega arith))) (refl, h)
 
 after-refusal-all : (n k : ℕ) (v : List ℕ) (s : State) → Idle s → 3 < s .listing .input .phase → AfterRefusal n k s v
 after-refusal-all n k [] s i h = record { state = s; goes = stays s; idle = i; phase = h }
@@ -101,7 +100,7 @@ all-front (x ∷ s) t (all-more p a) = all-more p (all-front s t a)
 abbrev Bytes : List ℕ → Type 0
 Bytes = All (λ b. b ≤ 255)
 
-module _ (n k : ℕ) (store : storeLength (side 0 maxPictureWidth) 5 ≤ n) (row : maxPictureWidth ≤ k) (x z : Memory) {s : State} {c : List ℕ} {r : Run}
+module _ (n k : ℕ) (store : mapStore ≤ n) (row : maxPictureWidth ≤ k) (x z : Memory) {s : State} {c : List ℕ} {r : Run}
     (ran : Ran n k (stateOf started x z) s c r) where
   abbrev p : List ℕ
   p = leftIn c (r .left)

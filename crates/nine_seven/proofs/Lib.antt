@@ -6,6 +6,7 @@ pub mod NineSevenLaws
 pub mod NineSeven
 pub mod NineSevenReads
 pub mod NineSevenTheorems
+pub mod NineSevenFilter
 pub mod LiftLaws
 pub mod PutLaws
 pub mod ThereAndBack

@@ -1,4 +1,5 @@
 pub mod NineSeven
+pub mod NineSevenFilter
 pub mod Memory
 pub mod Passes
 pub mod Rows

@@ -12,27 +12,28 @@ use Rattle.numbers.specs.Tests.{every}
 use Rattle.numbers.proofs.Parts.{length-mid, at-mid, window-in}
 use Rattle.numbers.proofs.TestLaws.{every-same}
 use Rattle.areas.specs.Areas.{between}
-use Rattle.wavelet.specs.Limits.{maxSample}
+use Rattle.wavelet.specs.Limits.{maxSample, range}
 use Rattle.level.proofs.AdmitLaws.{abs-between}
-use Rattle.nine_seven_rebuilding.specs.Filter.{maxLevels, range, valueFits}
+use Rattle.wavelet.specs.Maps.{valueFits}
+use Rattle.nine_seven.specs.NineSevenFilter.{nineSevenFilter}
 use Rattle.nine_seven_rebuilding.specs.Slots.{rowPlace}
 use Rattle.nine_seven_rebuilding.specs.Work.{rowFits}
-use Rattle.nine_seven_rebuilding.specs.Rebuilding.{lowestOf}
+use Rattle.nine_seven_rebuilding.specs.Rebuilding.{lowestOf, maxLevels}
 
 -- ---- the range of a level
-pub range-suc : (k : ℕ) → range (suc k) ≡ 6 * range k
+pub range-suc : (k : ℕ) → range nineSevenFilter (suc k) ≡ 6 * range nineSevenFilter k
 unfolding range
 range-suc k = rw pow-suc (omega arith)
 
-range-last : range maxLevels < 2 ^ 31
+range-last : range nineSevenFilter maxLevels < 2 ^ 31
 unfolding range maxSample maxLevels
 range-last = omega arith
 
-range-le : (j k : ℕ) → j ≤ k → range j ≤ range k
+range-le : (j k : ℕ) → j ≤ k → range nineSevenFilter j ≤ range nineSevenFilter k
 unfolding range
 range-le j k h = mul-le-mul-left maxSample (pow-le-pow-right {n = 6} (omega arith) h)
 
-pub range-small : (k : ℕ) → k ≤ maxLevels → range k < 2 ^ 31
+pub range-small : (k : ℕ) → k ≤ maxLevels → range nineSevenFilter k < 2 ^ 31
 range-small k h = omega (arith, range-le k maxLevels h, range-last)
 
 pub levels-small : maxLevels < 2 ^ 32
@@ -44,18 +45,18 @@ pub low-zero : (k : ℕ) → k ≡ 0 → pos 0 ≡ lowestOf k
 unfolding lowestOf
 low-zero k e = rw e
 
-pub low-more : (k : ℕ) → (k ≡ 0 → ⊥) → pos 0 -ℤ pos (range k) ≡ lowestOf k
+pub low-more : (k : ℕ) → (k ≡ 0 → ⊥) → pos 0 -ℤ pos (range nineSevenFilter k) ≡ lowestOf k
 unfolding lowestOf
 low-more zero h = absurd (h refl)
 low-more (suc k) h = refl
 
-pub value-between : (k : ℕ) (v : ℤ) → valueFits k v ≡ between (lowestOf k) (pos (range k)) v
+pub value-between : (k : ℕ) (v : ℤ) → valueFits nineSevenFilter k v ≡ between (lowestOf k) (pos (range nineSevenFilter k)) v
 unfolding valueFits
 value-between zero v = unfold lowestOf between range maxSample in refl
-value-between (suc k) v = abs-between (range (suc k)) v ∙ unfold lowestOf in refl
+value-between (suc k) v = abs-between (range nineSevenFilter (suc k)) v ∙ unfold lowestOf in refl
 
 -- ---- a row's test, made on the part that is lent
-pub admit-is : (k w r a m : ℕ) (l : List ℤ) (low high : ℤ) → a ≡ rowPlace w r → m ≡ w → a + m ≤ length l → low ≡ lowestOf k → high ≡ pos (range k) →
+pub admit-is : (k w r a m : ℕ) (l : List ℤ) (low high : ℤ) → a ≡ rowPlace w r → m ≡ w → a + m ≤ length l → low ≡ lowestOf k → high ≡ pos (range nineSevenFilter k) →
     every (length (midOf a m l)) (λ i. between low high (at (midOf a m l) i)) ≡ rowFits k w r (at l)
 unfolding rowFits
 admit-is k w r a m l low high ea em room el eh =

@@ -12,7 +12,7 @@ use Rattle.numbers.specs.Word.{wrap32}
 use Rattle.numbers.proofs.Sweep.{both as both-hold}
 use Rattle.lifting.specs.Line.{Half, lo, hi, Half-discrete}
 use Rattle.lifting.specs.Grid.{Side, count, parted}
-use Rattle.wavelet.specs.Bands.{Grid, Band, LL, HL, LH, HH, code, across, down, bandOf}
+use Rattle.wavelet.specs.Bands.{Grid, Band, LL, HL, LH, HH, code, across, down, bandOf, levelBack}
 use Rattle.wavelet.proofs.BandPlaces.{band-of}
 use Rattle.wavelet.specs.Levels.{next}
 use Rattle.wavelet.specs.Order.{firstSet, lastSet, setRow, setHas}
@@ -20,7 +20,9 @@ use Rattle.level.specs.Slots.{local, rowOfSet, halfPlace}
 use Rattle.level.specs.Work.{endOf, hasLow}
 use Rattle.level.proofs.RowsIn.{half-inside, joined-reads}
 use Rattle.level.proofs.SetMade.{Outcome}
-use Rattle.nine_seven_rebuilding.specs.Filter.{valueFits, levelBack, setOf}
+use Rattle.wavelet.specs.Maps.{valueFits}
+use Rattle.wavelet.specs.Steps.{setOf}
+use Rattle.nine_seven.specs.NineSevenFilter.{nineSevenFilter}
 use Rattle.nine_seven_rebuilding.specs.Slots.{slot, rowPlace, bandFed, lowRowTaken}
 use Rattle.nine_seven_rebuilding.specs.Work.{lowTaken, setWorked, setMade}
 use Rattle.nine_seven_rebuilding.specs.Stands.{SetHas, SetLeaves, SetBefore, BandStands}
@@ -214,9 +216,9 @@ module _ (W H : Side) (p : Band → Grid) (n : ℕ) where
           go (no b) = rw (le-leb (firstSet H lo) n (omega arith)) (taken-done (low (omega arith)))
 
 -- ---- the rows that a set makes
-pub made-is : (k : ℕ) (W H : Side) (p : Band → Grid) (n : ℕ) (x : ℕ → ℤ) → SetLeaves k W H p n x → (r : ℕ) → r < H .length → setOf H r ≡ n → (c : ℕ) →
-    c < W .length → rowMade W (H .start) r x c ≡ levelBack wrap32 W H p r c
-made-is k W H p n x s r b q c t = joined-reads W _ (levelBack wrap32 W H p r) (row-halves W x (local (H .start) r) _ (s .made r b q)) c t
+pub made-is : (k : ℕ) (W H : Side) (p : Band → Grid) (n : ℕ) (x : ℕ → ℤ) → SetLeaves k W H p n x → (r : ℕ) → r < H .length → setOf 2 H r ≡ n → (c : ℕ) →
+    c < W .length → rowMade W (H .start) r x c ≡ levelBack nineSevenFilter wrap32 W H p r c
+made-is k W H p n x s r b q c t = joined-reads W _ (levelBack nineSevenFilter wrap32 W H p r) (row-halves W x (local (H .start) r) _ (s .made r b q)) c t
 
 -- ---- a band without a row has none to be there, and the first set needs nothing
 pub got-none : (W H : Side) (p : Band → Grid) (n : ℕ) (c : Band) (x : ℕ → ℤ) → setHas W H c n ≡ false → BandStands W H p n x c

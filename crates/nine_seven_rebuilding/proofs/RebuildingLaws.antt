@@ -16,7 +16,7 @@ use Rattle.wavelet.specs.Order.{lastSet}
 use Rattle.level.specs.Tried.{Tried, failed, passed, memory}
 use Rattle.level.specs.Rebuilding.{widest, tallest, Kept}
 use Rattle.level.proofs.RebuildingLaws.{no-test}
-use Rattle.nine_seven_rebuilding.specs.Filter.{maxLevels}
+use Rattle.nine_seven_rebuilding.specs.Rebuilding.{maxLevels}
 use Rattle.nine_seven_rebuilding.specs.Rebuilding.{workLength, workable, workLeft}
 
 module _ (last : Bool) (k : ℕ) (W H : Side) (n m : ℕ) where

@@ -1,9 +1,8 @@
 -- The rows that a row goes by as rows of sets, and the rows that a set makes. Assumes nothing.
 use mathlib.Core.Path.{_≡_, refl, sym, ap, _∙_}
-use Prim.Native.Nat.{ℕ, suc, _+_, _-_, _*_, _/_, _%_, min, _≤_, _<_}
+use Prim.Native.Nat.{ℕ, zero, suc, _+_, _-_, _*_, _/_, _%_, min, _≤_, _<_}
 use native.Mathlib.Decide.{ℕ-discrete}
 use native.Mathlib.Omega.{arith}
-use borrow.Author.Tests.{eq-eqb, ne-eqb}
 use Rattle.lifting.specs.Line.{Half, lo, hi}
 use Rattle.lifting.specs.Grid.{Side, place, count}
 use Rattle.lifting.proofs.GridLaws.{ahead}
@@ -13,7 +12,7 @@ use Rattle.nine_seven.proofs.MirrorLaws.{farBefore, farAfter, before-is, after-
 use Rattle.wavelet.specs.Order.{firstSet, lastSet}
 use Rattle.level.specs.Slots.{local}
 use Rattle.level.specs.Work.{endOf}
-use Rattle.nine_seven_rebuilding.specs.Filter.{setOf}
+use Rattle.wavelet.specs.Steps.{setTo, setOf}
 use Rattle.nine_seven_rebuilding.specs.Work.{rowBefore, rowAfter}
 
 -- ---- where a row is
@@ -138,20 +137,30 @@ module _ (H : Side) (n m : ℕ) (l : m < count hi H) (g : 1 < H .length) (b : m 
   evens-in = (left-in, right-in, far-left-in, far-right-in)
 
 -- ---- the rows that a set makes
+first-to : (q : ℕ) → q ≡ 0 → setTo 2 q ≡ 0
+unfolding setTo
+first-to zero e = refl
+first-to (suc q) e = absurd (omega arith)
+
+later-to : (q : ℕ) → (q ≡ 0 → ⊥) → setTo 2 q ≡ (q + 3) / 2
+unfolding setTo
+later-to zero e = absurd (e refl)
+later-to (suc q) e = omega arith
+
 module _ (H : Side) (n r : ℕ) where
   abbrev at : ℕ
   at = H .start % 2 + r
 
-  set-zero : at ≡ 0 → setOf H r ≡ n → n ≡ 0
+  set-zero : at ≡ 0 → setOf 2 H r ≡ n → n ≡ 0
   unfolding setOf
-  set-zero e s = let z = eq-eqb at 0 e in let y = rw z at s in omega arith
+  set-zero e s = let z = first-to at e in omega arith
 
-  set-more : (at ≡ 0 → ⊥) → setOf H r ≡ n → min ((at + 3) / 2) (lastSet H) ≡ n
+  set-more : (at ≡ 0 → ⊥) → setOf 2 H r ≡ n → min ((at + 3) / 2) (lastSet H) ≡ n
   unfolding setOf
-  set-more e s = let z = ne-eqb at 0 e in rw z at s
+  set-more e s = let z = later-to at e in omega arith
 
   -- none of them is before the row at 2n − 3,
-  pub set-low : r < H .length → setOf H r ≡ n → 2 * n ≤ local (H .start) r + 3
+  pub set-low : r < H .length → setOf 2 H r ≡ n → 2 * n ≤ local (H .start) r + 3
   unfolding local
   set-low b s = elim (ℕ-discrete at 0) [
     | yes z ↦ omega (arith, set-zero z s)
@@ -159,7 +168,7 @@ module _ (H : Side) (n r : ℕ) where
   ]
 
   -- none of a set that is not the last past the row at 2n − 2, but a first row at an even coordinate
-  pub set-high : r < H .length → setOf H r ≡ n → suc n ≤ lastSet H → local (H .start) r < suc (2 * n - 2)
+  pub set-high : r < H .length → setOf 2 H r ≡ n → suc n ≤ lastSet H → local (H .start) r < suc (2 * n - 2)
   unfolding local
   set-high b s l = elim (ℕ-discrete at 0) [
     | yes z ↦ omega arith
@@ -167,13 +176,10 @@ module _ (H : Side) (n r : ℕ) where
   ]
 
   -- which is of set 0
-  pub set-first : setOf H r ≡ n → local (H .start) r < 1 → (H .start % 2 + n ≡ 0) × (r ≡ 0)
+  pub set-first : setOf 2 H r ≡ n → local (H .start) r < 1 → (H .start % 2 + n ≡ 0) × (r ≡ 0)
   unfolding local
   set-first s l = let z = set-zero (omega arith) s in (omega arith, omega arith)
 
-pub set-there : (H : Side) (r : ℕ) → setOf H r ≤ lastSet H
+pub set-there : (H : Side) (r : ℕ) → setOf 2 H r ≤ lastSet H
 unfolding setOf
-set-there H r = elim (ℕ-discrete (H .start % 2 + r) 0) [
-  | yes z ↦ rw (eq-eqb (H .start % 2 + r) 0 z) (omega arith)
-  | no z ↦ rw (ne-eqb (H .start % 2 + r) 0 z) (omega arith)
-]
+set-there H r = omega arith

@@ -23,14 +23,16 @@ use Rattle.lifting.proofs.Neighbours.{left, right}
 use Rattle.nine_seven.specs.NineSeven.{unupdated, unpredicted, lineHalvesBack, lineBack}
 use Rattle.nine_seven.proofs.MirrorLaws.{farBefore, farAfter}
 use Rattle.nine_seven.proofs.NineSevenLaws.{even-near, odd-near, even-one, odd-one}
-use Rattle.wavelet.specs.Bands.{Grid, Band, bandOf, rowsHave}
+use Rattle.wavelet.specs.Bands.{Grid, Band, bandOf, rowsHave, rowsUnlifted, levelBack, columnsHave, levelHas}
 use Rattle.wavelet.specs.Order.{firstSet, lastSet}
 use Rattle.level.specs.Tried.{Tried, failed, passed, bind}
 use Rattle.level.specs.Slots.{local, halfPlace}
 use Rattle.level.specs.Work.{endOf, hasLow}
 use Rattle.level.proofs.RowsIn.{half-inside, by-halves}
 use Rattle.level.proofs.SetMade.{Outcome, stops, goes, bind-outcome}
-use Rattle.nine_seven_rebuilding.specs.Filter.{valueFits, rowsUnlifted, levelBack, columnsHave, levelHas, setOf}
+use Rattle.wavelet.specs.Maps.{valueFits}
+use Rattle.wavelet.specs.Steps.{setOf}
+use Rattle.nine_seven.specs.NineSevenFilter.{nineSevenFilter}
 use Rattle.nine_seven_rebuilding.specs.Slots.{rowPlace, rowUnlifted, rowHasLine, rowByTwo, rowHalved, rowIsEven}
 use Rattle.nine_seven_rebuilding.specs.Work.{rowBefore, rowAfter, lineTried, lowTried, highTried, setUnlifted, evenRow, oddRow, evenDone, rowFits}
 use Rattle.nine_seven_rebuilding.specs.Work.{admitted, pairMade, firstMade, earlierPair, earlierMade, ownMade, loneMade, lastMade, restMade}
@@ -47,10 +49,10 @@ not-false t e f = subst T (sym e ∙ f) tt
 
 -- every value of the way back fits as a low-low value of level k, and none that is halved is odd
 pub record FitAll (k : ℕ) (W H : Side) (p : Band → Grid) : Type 0 where
-  pub has : levelHas W H p ≡ true
-  pub fit : (r c : ℕ) → r < H .length → c < W .length → valueFits k (levelBack wrap32 W H p r c) ≡ true
+  pub has : levelHas nineSevenFilter W H p ≡ true
+  pub fit : (r c : ℕ) → r < H .length → c < W .length → valueFits nineSevenFilter k (levelBack nineSevenFilter wrap32 W H p r c) ≡ true
 
-has-row : (W H : Side) (p : Band → Grid) → levelHas W H p ≡ true → (h : Half) (r : ℕ) → r < count h H → hasLine W (λ a. p (bandOf a h) r) ≡ true
+has-row : (W H : Side) (p : Band → Grid) → levelHas nineSevenFilter W H p ≡ true → (h : Half) (r : ℕ) → r < count h H → hasLine W (λ a. p (bandOf a h) r) ≡ true
 unfolding levelHas rowsHave
 has-row W H p e = go
   where
@@ -58,28 +60,28 @@ has-row W H p e = go
     lines h r = hasLine W (λ a. p (bandOf a h) r)
 
     rows : (every (count lo H) (lines lo) ≡ true) × (every (count hi H) (lines hi) ≡ true)
-    rows = both-hold (every (count lo H) (lines lo)) (every (count hi H) (lines hi)) (both-hold (rowsHave W H p) (columnsHave W H p) e .0)
+    rows = both-hold (every (count lo H) (lines lo)) (every (count hi H) (lines hi)) (both-hold (rowsHave W H p) (columnsHave nineSevenFilter W H p) e .0)
 
     go : (h : Half) (r : ℕ) → r < count h H → lines h r ≡ true
     go lo r b = every-each (count lo H) (lines lo) (rows .0) r b
     go hi r b = every-each (count hi H) (lines hi) (rows .1) r b
 
-has-column : (W H : Side) (p : Band → Grid) → levelHas W H p ≡ true → (c : ℕ) → c < W .length →
-    hasLine H (λ h i. rowsUnlifted wrap32 W p h i c) ≡ true
+has-column : (W H : Side) (p : Band → Grid) → levelHas nineSevenFilter W H p ≡ true → (c : ℕ) → c < W .length →
+    hasLine H (λ h i. rowsUnlifted nineSevenFilter wrap32 W p h i c) ≡ true
 unfolding levelHas columnsHave
-has-column W H p e c b = every-each (W .length) _ (both-hold (rowsHave W H p) (columnsHave W H p) e .1) c b
+has-column W H p e c b = every-each (W .length) _ (both-hold (rowsHave W H p) (columnsHave nineSevenFilter W H p) e .1) c b
 
 -- ---- one level: the bands p of the columns W and the rows H, whose rows are low-low values of level k
 module _ (k : ℕ) (W H : Side) (p : Band → Grid) where
   -- the grid, and row n of a half of its columns
   abbrev G : Grid
-  G = levelBack wrap32 W H p
+  G = levelBack nineSevenFilter wrap32 W H p
 
   abbrev cols : Half → ℕ → ℕ → ℤ
-  cols y n = rowsUnlifted wrap32 W p y n
+  cols y n = rowsUnlifted nineSevenFilter wrap32 W p y n
 
   abbrev FitRow : ℕ → Type 0
-  FitRow r = (c : ℕ) → c < W .length → valueFits k (G r c) ≡ true
+  FitRow r = (c : ℕ) → c < W .length → valueFits nineSevenFilter k (G r c) ≡ true
 
   abbrev b₀ : ℕ
   b₀ = firstSet H lo
@@ -170,9 +172,9 @@ module _ (k : ℕ) (W H : Side) (p : Band → Grid) where
   admit P q r x b s f = go (rowFits k (W .length) q x) refl
     where
       go : (t : Bool) → rowFits k (W .length) q x ≡ t → Outcome (FitAll k W H p) P (pick t (passed x) failed)
-      go true e = goes x (f (each-stands (valueFits k) q x (G r) s (every-each (W .length) _ e)))
+      go true e = goes x (f (each-stands (valueFits nineSevenFilter k) q x (G r) s (every-each (W .length) _ e)))
       go false e = stops (λ all. not-false (rowFits k (W .length) q x)
-          (each-every (W .length) _ (stands-each (valueFits k) q x (G r) s (λ c u. all .fit r c b u))) e)
+          (each-every (W .length) _ (stands-each (valueFits nineSevenFilter k) q x (G r) s (λ c u. all .fit r c b u))) e)
 
   -- ---- what a set needs
   pub record Needs (n : ℕ) (x : ℕ → ℤ) : Type 0 where
@@ -216,7 +218,7 @@ module _ (k : ℕ) (W H : Side) (p : Band → Grid) where
     line-tried : (P : (ℕ → ℤ) → Type 0) (h : Half) (r q : ℕ) (x : ℕ → ℤ) → r < count h H → Is W x q (λ a. p (bandOf a h) r) →
         (hasLine W (λ a. p (bandOf a h) r) ≡ true → Is W (rowUnlifted W q x) q (parted W (cols h r)) → P (rowUnlifted W q x)) →
         Outcome (FitAll k W H p) P (lineTried W q x)
-    unfolding lineTried rowsUnlifted
+    unfolding lineTried rowsUnlifted lineBack
     line-tried P h r q x b s f = go (rowHasLine W q x) refl
       where
         go : (t : Bool) → rowHasLine W q x ≡ t → Outcome (FitAll k W H p) P (pick t (passed (rowUnlifted W q x)) failed)
@@ -408,7 +410,7 @@ module _ (k : ℕ) (W H : Side) (p : Band → Grid) where
 
     -- ---- the rows of a set that have passed the test: those before the one at f
     abbrev Fit : ℕ → ℕ → Type 0
-    Fit n f = (r : ℕ) → r < H .length → setOf H r ≡ n → local (H .start) r < f → FitRow r
+    Fit n f = (r : ℕ) → r < H .length → setOf 2 H r ≡ n → local (H .start) r < f → FitRow r
 
     record Stage (n d f : ℕ) (x : ℕ → ℤ) : Type 0 where
       held : Held n d x
@@ -418,7 +420,7 @@ module _ (k : ℕ) (W H : Side) (p : Band → Grid) where
     unfolding local firstSet
     at-row q r e = omega arith
 
-    fit-pair : (n f m : ℕ) → Fit n f → ((r : ℕ) → r < H .length → setOf H r ≡ n → local (H .start) r < 2 * m + 1 → local (H .start) r < f) →
+    fit-pair : (n f m : ℕ) → Fit n f → ((r : ℕ) → r < H .length → setOf 2 H r ≡ n → local (H .start) r < 2 * m + 1 → local (H .start) r < f) →
         FitRow (row (2 * m + 1)) → FitRow (row (2 * m + 2)) → Fit n (2 * m + 3)
     fit-pair n f m old more one two r b s l = elim (decLt (local (H .start) r) (2 * m + 1)) [
       | yes u ↦ old r b s (more r b s u)
@@ -433,7 +435,7 @@ module _ (k : ℕ) (W H : Side) (p : Band → Grid) where
     twice m = omega arith
 
     pair-made : (n f m : ℕ) (x : ℕ → ℤ) → Near n m → suc m ≤ n →
-        ((r : ℕ) → r < H .length → setOf H r ≡ n → local (H .start) r < 2 * m + 1 → local (H .start) r < f) → Stage n m f x →
+        ((r : ℕ) → r < H .length → setOf 2 H r ≡ n → local (H .start) r < 2 * m + 1 → local (H .start) r < f) → Stage n m f x →
         Outcome (FitAll k W H p) (Stage n (suc m) (2 * m + 3)) (pairMade k (W .length) H m x)
     unfolding pairMade
     pair-made n f m x g u more s =
@@ -449,7 +451,7 @@ module _ (k : ℕ) (W H : Side) (p : Band → Grid) where
         h = odd-held n m x g (s .held)
 
     -- ---- the first row
-    at-zero : (n r : ℕ) → setOf H r ≡ n → local (H .start) r < 1 → (H .start % 2 + n ≡ 0) × (r ≡ 0)
+    at-zero : (n r : ℕ) → setOf 2 H r ≡ n → local (H .start) r < 1 → (H .start % 2 + n ≡ 0) × (r ≡ 0)
     at-zero n r s l = set-first H n r s l
 
     zero-row : 0 < endOf H → H .start % 2 ≡ 0 → (row 0 < H .length) × (b₀ ≤ 0) × (row 0 ≡ 0)

@@ -1,4 +1,3 @@
-pub mod Filter
 pub mod Slots
 pub mod Work
 pub mod Rebuilding

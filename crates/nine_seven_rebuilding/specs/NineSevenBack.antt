@@ -5,7 +5,6 @@ use Rattle.lifting.specs.Grid.{Side, joined}
 use Rattle.lifting.specs.GridHalves.{halvesOf}
 use Rattle.level.specs.Slots.{local}
 use Rattle.level.specs.ReaderLevel.{ReaderLevel}
-use Rattle.nine_seven_rebuilding.specs.Filter.{setOf, opens}
 use Rattle.nine_seven_rebuilding.specs.Slots.{bandFed, rowIn}
 use Rattle.nine_seven_rebuilding.specs.Work.{setWorked}
 
@@ -16,9 +15,8 @@ rowMade W s r x = joined W (halvesOf W (rowIn (W .length) (local s r) x))
 abbrev pub nineSevenBack : ReaderLevel
 nineSevenBack =
     record {
+      ahead = 2;
       stretch = λ W. 8 * W .length;
-      set = setOf;
-      opens = opens;
       feed = λ W s. bandFed W;
       work = setWorked;
       made = rowMade;

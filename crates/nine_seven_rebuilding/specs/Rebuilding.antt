@@ -10,7 +10,12 @@ use Rattle.lifting.specs.Halves.{fronted}
 use Rattle.wavelet.specs.Order.{lastSet}
 use Rattle.level.specs.Tried.{Tried, memory}
 use Rattle.level.specs.Rebuilding.{widest, tallest}
-use Rattle.nine_seven_rebuilding.specs.Filter.{maxLevels, range}
+use Rattle.wavelet.specs.Limits.{range}
+use Rattle.nine_seven.specs.NineSevenFilter.{nineSevenFilter}
+
+-- the most levels
+unfoldable pub maxLevels : ℕ
+maxLevels = nineSevenFilter .levels
 
 -- the memory that a level of the columns W works in: its own eight rows and, below the last level, those of the next, whose row it takes
 abbrev pub workLength : Bool → Side → ℕ
@@ -33,4 +38,4 @@ workLeft W room t x = pick room (memory (fronted (8 * W .length) (λ _. pos 0) x
 -- the least value that the rows of level k's low-low part may have: 0 for heights, k = 0
 unfoldable pub lowestOf : ℕ → ℤ
 lowestOf zero = pos 0
-lowestOf (suc k) = pos 0 -ℤ pos (range (suc k))
+lowestOf (suc k) = pos 0 -ℤ pos (range nineSevenFilter (suc k))

@@ -14,7 +14,8 @@ use Rattle.lifting.specs.Grid.{Side, loneHigh}
 use Rattle.nine_seven.specs.NineSeven.{before, after, unupdated, unpredicted}
 use Rattle.level.specs.Tried.{Tried, passed, failed, outcome, bind}
 use Rattle.level.specs.Work.{endOf, hasLow}
-use Rattle.nine_seven_rebuilding.specs.Filter.{valueFits}
+use Rattle.wavelet.specs.Maps.{valueFits}
+use Rattle.nine_seven.specs.NineSevenFilter.{nineSevenFilter}
 use Rattle.nine_seven_rebuilding.specs.Slots.{rowPlace, rowUnlifted, rowHasLine, rowByTwo, rowByFour, rowHalved, rowIsEven, lowRowTaken}
 
 -- the rows k before and k after the row at q, the rows mirrored about the first and the last
@@ -51,7 +52,7 @@ evenDone w H n x = pick (hasLow H n) (evenRow w H (2 * n) x) x
 
 -- the test of 14 of the row at q, low-low values of level k
 unfoldable pub rowFits : ℕ → ℕ → ℕ → (ℕ → ℤ) → Bool
-rowFits k w q x = every w (λ i. valueFits k (x (rowPlace w q + i)))
+rowFits k w q x = every w (λ i. valueFits nineSevenFilter k (x (rowPlace w q + i)))
 
 unfoldable pub admitted : ℕ → ℕ → ℕ → (ℕ → ℤ) → Tried
 admitted k w q x = outcome (rowFits k w q x) x

@@ -2,7 +2,9 @@
 ghost use mathlib.Core.Path.{_≡_};
 ghost use Prim.Native.Nat.{_≤_};
 ghost use lib.IntN.{pos};
-ghost use Rattle.nine_seven_rebuilding.specs.Filter.{maxLevels, range};
+ghost use Rattle.nine_seven_rebuilding.specs.Rebuilding.{maxLevels};
+ghost use Rattle.wavelet.specs.Limits.{range};
+ghost use Rattle.nine_seven.specs.NineSevenFilter.{nineSevenFilter};
 ghost use Rattle.nine_seven_rebuilding.specs.Rebuilding.{lowestOf};
 
 // The most levels. A contract that names a constant follows an edit of it, so it is pinned to the definition's number.
@@ -17,7 +19,7 @@ pub fn max_levels() -> usize
 // The largest magnitude of a coefficient of a level, 65,535 × 6^level.
 pub fn range_of(level: usize) -> i32
     requires { ⌜ level ≤ maxLevels ⌝ }
-    ensures { λ r. ⌜ r ≡ pos (range level) ⌝ }
+    ensures { λ r. ⌜ r ≡ pos (range nineSevenFilter level) ⌝ }
 {
     let mut most = 65535;
     let mut k = 0;

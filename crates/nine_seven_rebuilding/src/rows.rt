@@ -18,7 +18,7 @@ ghost use Rattle.lifting.specs.Grid.{side, count};
 ghost use Rattle.wavelet.specs.Order.{firstSet};
 ghost use Rattle.level.specs.Tried.{outcome};
 ghost use Rattle.level.specs.Rebuilding.{Kept};
-ghost use Rattle.nine_seven_rebuilding.specs.Filter.{maxLevels};
+ghost use Rattle.nine_seven_rebuilding.specs.Rebuilding.{maxLevels};
 ghost use Rattle.nine_seven_rebuilding.specs.Slots.{rowPlace, lowRowTaken};
 ghost use Rattle.nine_seven_rebuilding.specs.Work.{lineTried, evenRow, oddRow, rowFits, loneMade};
 

@@ -5,15 +5,16 @@ use mathlib.Core.List.{List, [], _∷_, _++_}
 use Prim.Native.Nat.{ℕ, zero, suc, _+_, _-_, _/_, _%_, _≤_, _<_, min}
 use native.Mathlib.Decide.{decLt, ℕ-discrete}
 use native.Mathlib.Omega.{arith}
-use lib.Dec.{ltb, eqb}
-use borrow.Author.Tests.{lt-ltb, le-ltb, eq-eqb, ne-eqb, le-leb}
+use lib.Dec.{ltb, leb, eqb}
+use borrow.Author.Tests.{lt-ltb, le-ltb, eq-eqb, ne-eqb, le-leb, lt-leb}
 use Rattle.numbers.specs.Signal.{pick, both}
 use Rattle.lifting.specs.Line.{Half, lo, hi}
 use Rattle.lifting.specs.Line as line
 use Rattle.lifting.specs.Grid.{Side, side, count}
 use Rattle.lifting.proofs.AtZero.{count-zero}
 use Rattle.wavelet.specs.Bands.{Band, across, down}
-use Rattle.wavelet.specs.Order.{handedOut, inTurn, firstSet, lastSet, setRow, setHas, rowsOf, setRows, madeBy, closing, made}
+use Rattle.wavelet.specs.Order.{handedOut, inTurn, firstSet, lastSet, setRow, setHas, rowsOf, setRows, madeBy, unmade, closing, made}
+use Rattle.wavelet.proofs.StepLaws.{set-one}
 use Rattle.wavelet.specs.Steps.{Step, draw, feedAll, setOf, setsBefore, rowSteps, setSteps, steps}
 use Rattle.origin_zero.specs.Order as order
 use Rattle.origin_zero.specs.Steps.{opensSet}
@@ -48,18 +49,18 @@ unfolding setRows order.setRows
 set-rows-zero l k w m n = rows-of-zero k w m n (handedOut l)
 
 -- ---- the order
-made-test : (r : ℕ) → both (eqb (r % 2) 0) (ltb 1 r) ≡ both (eqb (r % 2) 0) (ltb 0 r)
+made-test : (r : ℕ) → both (eqb (r % 2) 0) (leb 2 r) ≡ both (eqb (r % 2) 0) (ltb 0 r)
 made-test r =
     elim (ℕ-discrete (r % 2) 0) [
       | yes e ↦
           elim (decLt 0 r) [
-            | yes p ↦ ap (both (eqb (r % 2) 0)) (lt-ltb 1 r (omega arith) ∙ sym (lt-ltb 0 r p))
-            | no d ↦ ap (both (eqb (r % 2) 0)) (le-ltb 1 r (omega arith) ∙ sym (le-ltb 0 r (omega arith)))
+            | yes p ↦ ap (both (eqb (r % 2) 0)) (le-leb 2 r (omega arith) ∙ sym (lt-ltb 0 r p))
+            | no d ↦ ap (both (eqb (r % 2) 0)) (lt-leb 2 r (omega arith) ∙ sym (le-ltb 0 r (omega arith)))
           ]
       | no d ↦ simp (ne-eqb (r % 2) 0 d)
     ]
 
-pub made-by-zero : (l k w r : ℕ) → madeBy l k (side 0 w) 0 r ≡ order.madeBy l k w r
+pub made-by-zero : (l k w r : ℕ) → madeBy 1 l k (side 0 w) 0 r ≡ order.madeBy l k w r
 unfolding madeBy order.madeBy
 made-by-zero zero k w r = refl
 made-by-zero (suc l) k w r =
@@ -75,14 +76,18 @@ made-by-zero (suc l) k w r =
       made-by-zero l (suc k) (line.count lo w) (r / 2 - 1),
     ) refl
 
-pub closing-zero : (l k w m : ℕ) → closing l k (side 0 w) (side 0 m) ≡ order.closing l k w m
-unfolding closing order.closing
+pub closing-zero : (l k w m : ℕ) → closing 1 l k (side 0 w) (side 0 m) ≡ order.closing l k w m
+unfolding closing unmade inTurn order.closing
 closing-zero zero k w m = refl
 closing-zero (suc l) k w m =
     let n = line.count lo m - 1 in
     let d : n - 0 ≡ n = omega arith in
+    let u : n + 1 - 1 + 0 ≡ n = omega arith in
+    let o : n + 1 - (n + 1 - 1) ≡ 1 = omega arith in
     rw (
       last-set-zero m,
+      o,
+      u,
       first-set-zero m lo,
       set-rows-zero l k w m n,
       le-leb 0 n (omega arith),
@@ -93,31 +98,31 @@ closing-zero (suc l) k w m =
       closing-zero l (suc k) (line.count lo w) (line.count lo m),
     ) refl
 
-pub made-zero : (W L rows : ℕ) (finished : Bool) → made (side 0 W) 0 L rows finished ≡ order.made W L rows finished
+pub made-zero : (W L rows : ℕ) (finished : Bool) → made 1 (side 0 W) 0 L rows finished ≡ order.made W L rows finished
 unfolding made order.made
 made-zero W L rows finished =
     ap₂ (λ f l. inTurn rows f ++ pick finished l []) (fun-ext λ r. made-by-zero L 1 W r) (closing-zero L 1 W rows)
 
 -- ---- the steps
-sets-zero : (h r : ℕ) → setsBefore (side 0 h) (suc r) ≡ min ((r + 1) / 2) ((h - 1) / 2) + 1
-unfolding setsBefore setOf lastSet
-sets-zero h r = omega arith
+sets-zero : (h r : ℕ) → setsBefore 1 (side 0 h) (suc r) ≡ min ((r + 1) / 2) ((h - 1) / 2) + 1
+unfolding setsBefore lastSet
+sets-zero h r = omega (arith, set-one (side 0 h) r)
 
-none-before : (H : Side) → setsBefore H 0 ≡ 0
+none-before : (H : Side) → setsBefore 1 H 0 ≡ 0
 unfolding setsBefore
 none-before H = refl
 
 -- the sets that row r asks for: one set n, or none
-asks-one : (H : Side) (set : ℕ → List Step) (r n : ℕ) → setsBefore H r ≡ n → setsBefore H (suc r) ≡ n + 1 → rowSteps H set r ≡ set n
+asks-one : (H : Side) (set : ℕ → List Step) (r n : ℕ) → setsBefore 1 H r ≡ n → setsBefore 1 H (suc r) ≡ n + 1 → rowSteps 1 H set r ≡ set n
 unfolding rowSteps inTurn
 asks-one H set r n e d =
-    let one : setsBefore H (suc r) - setsBefore H r ≡ 1 = omega arith in
-    let first : setsBefore H r + 0 ≡ n = omega arith in
+    let one : setsBefore 1 H (suc r) - setsBefore 1 H r ≡ 1 = omega arith in
+    let first : setsBefore 1 H r + 0 ≡ n = omega arith in
     rw (one, first) refl
 
-asks-none : (H : Side) (set : ℕ → List Step) (r : ℕ) → setsBefore H r ≡ setsBefore H (suc r) → rowSteps H set r ≡ []
+asks-none : (H : Side) (set : ℕ → List Step) (r : ℕ) → setsBefore 1 H r ≡ setsBefore 1 H (suc r) → rowSteps 1 H set r ≡ []
 unfolding rowSteps inTurn
-asks-none H set r e = let none : setsBefore H (suc r) - setsBefore H r ≡ 0 = omega arith in rw none refl
+asks-none H set r e = let none : setsBefore 1 H (suc r) - setsBefore 1 H r ≡ 0 = omega arith in rw none refl
 
 first-opens : (h : ℕ) → opensSet h 0 ≡ true
 unfolding opensSet
@@ -135,7 +140,7 @@ last-opens-none : (h r : ℕ) → r % 2 ≡ 1 → h ≤ r + 1 → opensSet h r �
 unfolding opensSet
 last-opens-none h r e l = simp (ne-eqb r 0 (omega arith), eq-eqb (r % 2) 1 e, le-ltb (r + 1) h l)
 
-pub row-steps-zero : (h : ℕ) (set : ℕ → List Step) (r : ℕ) → rowSteps (side 0 h) set r ≡ step.rowSteps h set r
+pub row-steps-zero : (h : ℕ) (set : ℕ → List Step) (r : ℕ) → rowSteps 1 (side 0 h) set r ≡ step.rowSteps h set r
 unfolding step.rowSteps
 row-steps-zero h set zero =
     let e = sets-zero h 0 in
@@ -153,12 +158,12 @@ row-steps-zero h set (suc r) =
           ]
     ]
 
-pub set-steps-zero : (l k w h n : ℕ) → setSteps l k (side 0 w) (side 0 h) n ≡ step.setSteps l k w h n
+pub set-steps-zero : (l k w h n : ℕ) → setSteps 1 l k (side 0 w) (side 0 h) n ≡ step.setSteps l k w h n
 unfolding setSteps step.setSteps
 set-steps-zero zero k w h n = ap feedAll (set-rows-zero zero k w h n)
 set-steps-zero (suc l) k w h n =
     let d : n - 0 ≡ n = omega arith in
-    let below : setSteps l (suc k) (side 0 (line.count lo w)) (side 0 (line.count lo h)) ≡ step.setSteps l (suc k) (line.count lo w) (line.count lo h) =
+    let below : setSteps 1 l (suc k) (side 0 (line.count lo w)) (side 0 (line.count lo h)) ≡ step.setSteps l (suc k) (line.count lo w) (line.count lo h) =
     fun-ext (set-steps-zero l (suc k) (line.count lo w) (line.count lo h)) in
     rw (
       first-set-zero h lo,
@@ -166,16 +171,16 @@ set-steps-zero (suc l) k w h n =
       d,
       next-zero w,
       next-zero h,
-      row-steps-zero (line.count lo h) (setSteps l (suc k) (side 0 (line.count lo w)) (side 0 (line.count lo h))) n,
+      row-steps-zero (line.count lo h) (setSteps 1 l (suc k) (side 0 (line.count lo w)) (side 0 (line.count lo h))) n,
       below,
       set-rows-zero (suc l) k w h n,
     ) refl
 
-pub steps-zero : (W H L : ℕ) → steps (side 0 W) (side 0 H) L ≡ step.steps W H L
+pub steps-zero : (W H L : ℕ) → steps 1 (side 0 W) (side 0 H) L ≡ step.steps W H L
 unfolding steps step.steps
 steps-zero W H L =
     ap (inTurn H)
     (fun-ext λ r.
     ap (λ (l : List Step). l ++ (draw r ∷ []))
-    (row-steps-zero H (setSteps (L - 1) 1 (side 0 W) (side 0 H)) r
+    (row-steps-zero H (setSteps 1 (L - 1) 1 (side 0 W) (side 0 H)) r
     ∙ ap (λ (set : ℕ → List Step). step.rowSteps H set r) (fun-ext (set-steps-zero (L - 1) 1 W H))))

@@ -7,6 +7,7 @@ use lib.Dec.{leb}
 use Rattle.numbers.specs.Signal.{both}
 use Rattle.numbers.specs.Word.{whole, wrap32}
 use Rattle.lifting.specs.Line.{lo, count}
+use Rattle.lifting.specs.FiveThree.{fiveThreeFilter}
 use Rattle.wavelet.specs.Limits.{range}
 use Rattle.wavelet.specs.Bands.{Grid}
 use Rattle.wavelet.specs.Maps.{IsMap, everyCell, valueFits}
@@ -19,7 +20,7 @@ pub record HasPlane (L W H : ℕ) (g x : Grid) : Type 0 where
 
 -- question 7: "Is each coefficient in its level's range?"
 unfoldable pub inRange : ℕ → ℕ → ℕ → Grid → Bool
-inRange L W H x = everyCell W H (λ r c. leb (natAbs (x r c)) (range (levelAt L W H r c)))
+inRange L W H x = everyCell W H (λ r c. leb (natAbs (x r c)) (range fiveThreeFilter (levelAt L W H r c)))
 
 -- question 14: "Do all rebuilt values fit: heights 0 to 65,535, LL values of level k in that level's range?"
 -- k is the level that the rebuilt W × H grid is the low-low part of, 0 for the map
@@ -27,4 +28,4 @@ unfoldable pub rebuiltFits : ℕ → ℕ → ℕ → ℕ → Grid → Bool
 rebuiltFits k zero W H x = true
 rebuiltFits k (suc L) W H x =
     both (rebuiltFits (suc k) L (count lo W) (count lo H) x)
-    (everyCell W H (λ r c. valueFits k (mapBack wrap32 (suc L) W H x r c)))
+    (everyCell W H (λ r c. valueFits fiveThreeFilter k (mapBack wrap32 (suc L) W H x r c)))

@@ -3,3 +3,5 @@ pub mod HeaderReads
 pub mod RunReads
 pub mod SampleReads
 pub mod HeightLaws
+pub mod InputCases
+pub mod InputReads

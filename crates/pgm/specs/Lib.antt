@@ -4,3 +4,4 @@ pub mod Header
 pub mod Steps
 pub mod Samples
 pub mod Heights
+pub mod InputSteps

@@ -49,7 +49,7 @@ pub fn with_digit(number: usize, byte: u8) -> usize
 }
 
 // 0 of a byte below the digits.
-fn digit_value(byte: u8) -> usize
+pub fn digit_value(byte: u8) -> usize
     ensures { λ r. ⌜ r ≡ digitValue byte ⌝ }
 {
     if byte < b'0' {

@@ -2,5 +2,6 @@
 // input may be cut anywhere.
 mod characters;
 pub mod header;
+pub mod input;
 pub mod limits;
 pub mod samples;

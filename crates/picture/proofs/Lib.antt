@@ -1,7 +1,6 @@
 pub mod FormLaws
 pub mod FormReads
 pub mod RewritingSame
-pub mod InputCases
 pub mod MachineLaws
 pub mod PartLaws
 pub mod GoneLaws

@@ -7,34 +7,43 @@ use native.Mathlib.Omega.{arith}
 use lib.Dec.{eqb}
 use lib.ListN.{length, take, drop, set, take-append-drop}
 use lib.Seq.{drop-drop}
-use borrow.Author.Tests.{eq-eqb, ne-eqb, le-leb, lt-leb}
+use borrow.Author.Tests.{eq-eqb, ne-eqb, lt-ltb, le-ltb, le-leb, lt-leb}
 use Rattle.numbers.specs.Signal.{pick}
-use Rattle.picture.specs.InputSteps.{phased, readByte, inputEnded}
-use Rattle.picture.specs.Machine.{partOf, noPart, partText, rewriting, textOn, leftOn, settled, doneOn, rowPart, heightKept, stepTo}
-use Rattle.picture.specs.Machine.{byteRead, owed, endTo, endOf}
-use Rattle.picture.specs.declared.input.Input.{Input}
-use Rattle.picture.specs.declared.input.Step.{Step}
-use Rattle.picture.specs.declared.input.Step.the-variants as steps
-use Rattle.picture.specs.declared.input.Ended.{Ended}
-use Rattle.picture.specs.declared.input.Ended.the-variants as ended
+use Rattle.pgm.specs.InputSteps.{phased, readByte, inputEnded}
+use Rattle.picture.specs.Machine.{partOf, noPart, partText, rewriting, moved, textOn, leftOn, settled, doneOn, rowPart, begunOn, heightKept}
+use Rattle.picture.specs.Machine.{stepTo, byteRead, owed, endTo, endOf}
+use Rattle.pgm.specs.declared.input.Input.{Input}
+use Rattle.pgm.specs.declared.input.Step.{Step}
+use Rattle.pgm.specs.declared.input.Step.the-variants as steps
+use Rattle.pgm.specs.declared.input.Ended.{Ended}
+use Rattle.pgm.specs.declared.input.Ended.the-variants as ended
 use Rattle.picture.specs.declared.parts.Part.{Part}
 use Rattle.picture.specs.declared.rewriting.Rewriting.{Rewriting}
 
 -- ---- the code's choices
-pub settles : (r : Rewriting) (f : ℕ) (p : Part) → f ≡ pick (eqb (r .part .kind) 2) 0 (r .filled) → p ≡ noPart → rewriting (r .input) f p ≡ settled r
+pub settles : (r : Rewriting) (f : ℕ) (p : Part) → f ≡ pick (eqb (r .part .kind) 2) 0 (r .filled) → p ≡ noPart → moved r (r .input) f p ≡ settled r
 unfolding settled
 settles r f p e g = rw (e, g)
 
-module _ (i : Input) (f v : ℕ) (z : List ℕ) where
-  pub kept-none : (j : Input) (p : Part) → length z ≤ f → j ≡ phased 2 i → p ≡ partOf 3 5
-      → (rewriting j f p ≡ heightKept i f v z .state) × (z ≡ heightKept i f v z .row)
-  unfolding heightKept
-  kept-none j p h e g = (rw (le-leb (length z) f h, e, g), rw (le-leb (length z) f h))
+module _ (r : Rewriting) (i : Input) (W H room : ℕ) where
+  pub begun-short : (j : Input) (p : Part) → room < W → j ≡ phased 4 i → p ≡ partOf 3 5 → moved r j (r .filled) p ≡ begunOn r i W H room
+  unfolding begunOn
+  begun-short j p h e g = rw (lt-ltb room W h, e, g)
 
-  pub kept-some : (p : Part) → f < length z → p ≡ rowPart (f + 1) (i .width)
-      → (rewriting i (f + 1) p ≡ heightKept i f v z .state) × (set z f v ≡ heightKept i f v z .row)
+  pub begun-room : (p : Part) → W ≤ room → p ≡ partOf 1 0 → rewriting i W H 0 p ≡ begunOn r i W H room
+  unfolding begunOn
+  begun-room p h g = rw (le-ltb room W h, g)
+
+module _ (r : Rewriting) (i : Input) (v : ℕ) (z : List ℕ) where
+  pub kept-none : (j : Input) (p : Part) → length z ≤ r .filled → j ≡ phased 4 i → p ≡ partOf 3 5
+      → (moved r j (r .filled) p ≡ heightKept r i v z .state) × (z ≡ heightKept r i v z .row)
   unfolding heightKept
-  kept-some p h g = (rw (lt-leb (length z) f h, g), rw (lt-leb (length z) f h))
+  kept-none j p h e g = (rw (le-leb (length z) (r .filled) h, e, g), rw (le-leb (length z) (r .filled) h))
+
+  pub kept-some : (p : Part) → r .filled < length z → p ≡ rowPart (r .filled + 1) (r .width)
+      → (moved r i (r .filled + 1) p ≡ heightKept r i v z .state) × (set z (r .filled) v ≡ heightKept r i v z .row)
+  unfolding heightKept
+  kept-some p h g = (rw (lt-leb (length z) (r .filled) h, g), rw (lt-leb (length z) (r .filled) h))
 
 pub ends-on : (r : Rewriting) → (r .part .kind ≡ 0 → ⊥) → r ≡ endOf r
 unfolding endOf
@@ -44,7 +53,7 @@ pub ends-as : (r : Rewriting) (y : Ended) → r .part .kind ≡ 0 → y ≡ inpu
 unfolding endOf
 ends-as r y d e = rw (eq-eqb (r .part .kind) 0 d) (ap (endTo r) e)
 
-module _ (r : Rewriting) (z : List ℕ) (b : ℕ) (y : Step) (e : y ≡ readByte (r .input) (length z) b) where
+module _ (r : Rewriting) (z : List ℕ) (b : ℕ) (y : Step) (e : y ≡ readByte 0 (r .input) b) where
   pub step-state : stepTo r z y .state ≡ byteRead r z b .state
   unfolding byteRead
   step-state = ap (λ y. stepTo r z y .state) e
@@ -107,18 +116,19 @@ end-settled : (r : Rewriting) → r .part .kind ≡ 0 → endOf (settled r) ≡ 
 unfolding endOf settled
 end-settled r k = rw (eq-eqb (r .part .kind) 0 k, ne-eqb (r .part .kind) 2 (λ d. omega arith)) (same (inputEnded (r .input)))
   where
-    same : (y : Ended) → endTo (rewriting (r .input) (r .filled) noPart) y ≡ endTo r y
-    same (ended.Over i) = refl
+    same : (y : Ended) → endTo (moved r (r .input) (r .filled) noPart) y ≡ endTo r y
+    same (ended.Whole i) = refl
     same (ended.Short i) = refl
+    same ended.Before = refl
 
 -- a byte is read
 read-settled : (r : Rewriting) (z : List ℕ) (b : ℕ) → r .part .kind ≡ 0 → byteRead (settled r) z b ≡ byteRead r z b
-unfolding byteRead settled
-read-settled r z b e = rw (ne-eqb (r .part .kind) 2 (λ d. omega arith)) (same (readByte (r .input) (length z) b))
+unfolding byteRead settled begunOn heightKept
+read-settled r z b e = rw (ne-eqb (r .part .kind) 2 (λ d. omega arith)) (same (readByte 0 (r .input) b))
   where
-    same : (y : Step) → stepTo (rewriting (r .input) (r .filled) noPart) z y ≡ stepTo r z y
+    same : (y : Step) → stepTo (moved r (r .input) (r .filled) noPart) z y ≡ stepTo r z y
     same (steps.More i) = refl
-    same (steps.Begun i) = refl
+    same (steps.Begun i W H) = refl
     same (steps.Height i v) = refl
     same (steps.Refused i q) = refl
 

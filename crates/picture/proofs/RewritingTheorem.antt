@@ -6,7 +6,6 @@ use mathlib.Core.List.{List, [], _∷_, _++_, append-nil, append-assoc}
 use Prim.Native.Nat.{ℕ, zero, suc, _+_, _*_, _/_, _%_, _≤_, _<_}
 use native.Mathlib.Omega.{arith}
 use native.Mathlib.Decide.{decLt, ℕ-discrete}
-use native.Mathlib.Numerals.{sub-one}
 use native.Mathlib.Nat.{mul-add-div, mul-one, zero-mul, suc-mul, add-comm, div-eq-of-lt}
 use lib.Dec.{leb}
 use lib.ListN.{length, take, drop, set, length-set, length-append}
@@ -15,7 +14,7 @@ use borrow.Author.Tests.{lt-ltb, le-ltb, eq-eqb, ne-eqb}
 use Rattle.numbers.specs.Signal.{pick}
 use Rattle.pgm.specs.Header.{Read, found, short, wrong, andThen, Size, headerOf}
 use Rattle.pgm.specs.Steps.{begun, stepOf, feed, stepped, readBy}
-use Rattle.pgm.specs.Samples.{wide, sampleSize, pairsOf, samplesOf, fitting, exceeds, heightsOf, sampled, sampleOf}
+use Rattle.pgm.specs.Samples.{wide, sampleSize, pairsOf, samplesOf, fitting, exceeds, heightsOf}
 use Rattle.pgm.specs.declared.header.Header.{Header}
 use Rattle.pgm.specs.declared.header.Next.{Next}
 use Rattle.pgm.specs.declared.header.Next.the-variants as next
@@ -28,56 +27,57 @@ use Rattle.pgm.proofs.HeightLaws.{too-large-says, short-says, surplus-says, who
 use Rattle.picture.specs.Form.{formHead, rowBytes}
 use Rattle.text.specs.Refusal.{refusedLine, answerLine}
 use Rattle.picture.specs.Rewriting.{sizeEnd, pictureOf, cells, heightsIn, wholeRows, rowsOf, bodyOf, rewritingOf, bodyDue, dueOf}
-use Rattle.picture.specs.InputSteps.{phased, refuse15, begins, shapeRead, nextRead, heightRead, readByte, inputEnded}
-use Rattle.picture.specs.Machine.{partOf, noPart, partText, rewriting, started, leftOn, settled, rowPart, heightKept, stepTo, byteRead}
-use Rattle.picture.specs.Machine.{endTo, endOf, owed, Ran, none, call}
-use Rattle.picture.specs.declared.input.Input.{Input}
-use Rattle.picture.specs.declared.input.Step.{Step}
-use Rattle.picture.specs.declared.input.Step.the-variants as steps
-use Rattle.picture.specs.declared.input.Ended.{Ended}
-use Rattle.picture.specs.declared.input.Ended.the-variants as ended
+use Rattle.pgm.specs.InputSteps.{phased, refuse15, shapeRead, nextRead, readByte, inputEnded}
+use Rattle.picture.specs.Machine.{partOf, noPart, partText, rewriting, started, leftOn, settled, rowPart, heightKept}
+use Rattle.picture.specs.Machine.{stepTo, byteRead, endTo, endOf, owed, Ran, none, call}
+use Rattle.pgm.specs.declared.input.Input.{Input}
+use Rattle.pgm.specs.declared.input.Step.{Step}
+use Rattle.pgm.specs.declared.input.Step.the-variants as steps
+use Rattle.pgm.specs.declared.input.Ended.{Ended}
+use Rattle.pgm.specs.declared.input.Ended.the-variants as ended
 use Rattle.picture.specs.declared.parts.Part.{Part}
 use Rattle.picture.specs.declared.rewriting.Rewriting.{Rewriting}
-use Rattle.picture.proofs.InputCases.{header-case, height-none, phase-0, phase-1, phase-on, end-early, end-over, end-few, end-whole}
-use Rattle.picture.proofs.MachineLaws.{kept-some, left-none, settle-owed, read-owed, ends-as, end-owed, idle-owed}
+use Rattle.pgm.proofs.InputCases.{header-case, height-none, phase-2, phase-3, phase-on, end-early, end-over, end-few, end-whole}
+use Rattle.pgm.proofs.InputReads.{at, first-byte, Lasts, second-byte, lone-byte}
+use Rattle.picture.proofs.MachineLaws.{begun-room, kept-some, left-none, settle-owed, read-owed, ends-as, end-owed, idle-owed}
 
-abbrev idle : Input → ℕ → Rewriting
-idle i f = rewriting i f noPart
+abbrev idle : Input → ℕ → ℕ → ℕ → Rewriting
+idle i W H f = rewriting i W H f noPart
 
 -- a byte read as y
-read-as : (e : Bool) (i : Input) (f : ℕ) (z : List ℕ) (b : ℕ) (u : List ℕ) (y : Step) → readByte i (length z) b ≡ y
-    → owed e (idle i f) z (b ∷ u) ≡ owed e (stepTo (idle i f) z y .state) (stepTo (idle i f) z y .row) u
+read-as : (e : Bool) (i : Input) (W H f : ℕ) (z : List ℕ) (b : ℕ) (u : List ℕ) (y : Step) → readByte 0 i b ≡ y
+    → owed e (idle i W H f) z (b ∷ u) ≡ owed e (stepTo (idle i W H f) z y .state) (stepTo (idle i W H f) z y .row) u
 unfolding byteRead
-read-as e i f z b u y h = read-owed e (idle i f) z b u refl ∙ ap (λ y. owed e (stepTo (idle i f) z y .state) (stepTo (idle i f) z y .row) u) h
+read-as e i W H f z b u y h = read-owed e (idle i W H f) z b u refl ∙ ap (λ y. owed e (stepTo (idle i W H f) z y .state) (stepTo (idle i W H f) z y .row) u) h
 
 -- the end of the input, read as y
-ends-to : (i : Input) (f : ℕ) (z : List ℕ) (y : Ended) → y ≡ inputEnded i → owed true (idle i f) z [] ≡ leftOn (endTo (idle i f) y) z
+ends-to : (i : Input) (W H f : ℕ) (z : List ℕ) (y : Ended) → y ≡ inputEnded i → owed true (idle i W H f) z [] ≡ leftOn (endTo (idle i W H f) y) z
 unfolding owed
-ends-to i f z y h =
-    end-owed (idle i f) z refl
-    ∙ append-nil (leftOn (endOf (idle i f)) z)
-    ∙ ap (λ r. leftOn r z) (sym (ends-as (idle i f) y refl h))
+ends-to i W H f z y h =
+    end-owed (idle i W H f) z refl
+    ∙ append-nil (leftOn (endOf (idle i W H f)) z)
+    ∙ ap (λ r. leftOn r z) (sym (ends-as (idle i W H f) y refl h))
 
 -- ---- after a refusal nothing is read
-after-refusal : (e : Bool) (i : Input) (f : ℕ) (z u : List ℕ) → i .phase ≡ 2 → owed e (idle i f) z u ≡ []
-after-refusal true i f z [] h =
-    ends-to i f z (ended.Over (phased 2 i)) (end-over i (λ d. omega arith) (λ d. omega arith)) ∙ left-none (idle (phased 2 i) f) z refl
-after-refusal false i f z [] h = idle-owed (idle i f) z refl
-after-refusal e i f z (b ∷ u) h =
-    read-as e i f z b u (steps.More i) (sym (phase-on i (length z) b (λ d. omega arith) (λ d. omega arith))) ∙ after-refusal e i f z u h
+after-refusal : (e : Bool) (i : Input) (W H f : ℕ) (z u : List ℕ) → i .phase ≡ 4 → owed e (idle i W H f) z u ≡ []
+after-refusal true i W H f z [] h =
+    ends-to i W H f z ended.Before (end-over i (omega arith)) ∙ left-none (idle i W H f) z refl
+after-refusal false i W H f z [] h = idle-owed (idle i W H f) z refl
+after-refusal e i W H f z (b ∷ u) h =
+    read-as e i W H f z b u (steps.More i) (sym (phase-on 0 i b (λ d. omega arith) (λ d. omega arith) (λ d. omega arith) (λ d. omega arith))) ∙ after-refusal e i W H f z u h
 
-refused-left : (i : Input) (f q : ℕ) (z : List ℕ) → leftOn (rewriting i f (partOf 3 q)) z ≡ refusedLine q
+refused-left : (i : Input) (W H f q : ℕ) (z : List ℕ) → leftOn (rewriting i W H f (partOf 3 q)) z ≡ refusedLine q
 unfolding leftOn partText
-refused-left i f q z = refl
+refused-left i W H f q z = refl
 
-refused-settled : (i : Input) (f q : ℕ) → settled (rewriting i f (partOf 3 q)) ≡ idle i f
+refused-settled : (i : Input) (W H f q : ℕ) → settled (rewriting i W H f (partOf 3 q)) ≡ idle i W H f
 unfolding settled
-refused-settled i f q = refl
+refused-settled i W H f q = refl
 
-refused : (e : Bool) (i : Input) (f q : ℕ) (z u : List ℕ) → i .phase ≡ 2 → owed e (rewriting i f (partOf 3 q)) z u ≡ refusedLine q
-refused e i f q z u h =
-    settle-owed e (rewriting i f (partOf 3 q)) z u
-    ∙ ap₂ _++_ (refused-left i f q z) (ap (λ r. owed e r z u) (refused-settled i f q) ∙ after-refusal e i f z u h)
+refused : (e : Bool) (i : Input) (W H f q : ℕ) (z u : List ℕ) → i .phase ≡ 4 → owed e (rewriting i W H f (partOf 3 q)) z u ≡ refusedLine q
+refused e i W H f q z u h =
+    settle-owed e (rewriting i W H f (partOf 3 q)) z u
+    ∙ ap₂ _++_ (refused-left i W H f q z) (ap (λ r. owed e r z u) (refused-settled i W H f q) ∙ after-refusal e i W H f z u h)
     ∙ append-nil (refusedLine q)
 
 -- ---- whole rows
@@ -149,45 +149,24 @@ module _ (e : Bool) (W : ℕ) (some : 0 < W) (g : List ℕ) (few : length g < W)
   all-there = no-more 0 [] 0 refl (whole-says e m)
 
 -- ---- and byte by byte
-abbrev at : ℕ → Header → ℕ → ℕ → ℕ → ℕ → Bool → ℕ → Input
-at p h W H n m half v = record { phase = p; header = h; width = W; height = H; left = n; samples = record { largest = m; half = half; high = v } }
-
-module _ (h : Header) (W H n m room : ℕ) where
-  first-byte : (v b : ℕ) → wide m ≡ true → readByte (at 1 h W H (suc n) m false v) room b ≡ steps.More (at 1 h W H (suc n) m true b)
-  unfolding readByte heightRead sampleOf
-  first-byte v b e = rw (ne-eqb (suc n) 0 (λ z. omega arith), e)
-
-  -- the last byte of a sample u
-  abbrev Lasts : Bool → ℕ → ℕ → ℕ → Type 0
-  Lasts x v b u = (leb u m ≡ true → readByte (at 1 h W H (suc n) m x v) room b ≡ steps.Height (at 1 h W H n m false 0) u)
-      × (leb u m ≡ false → readByte (at 1 h W H (suc n) m x v) room b ≡ steps.Refused (at 2 h W H (suc n) m x v) 16)
-
-  second-byte : (v b : ℕ) → wide m ≡ true → Lasts true v b (256 * v + b)
-  unfolding readByte heightRead sampleOf sampled
-  second-byte v b e = (λ f. rw (ne-eqb (suc n) 0 (λ z. omega arith), e, f, sub-one (suc n)), λ f. rw (ne-eqb (suc n) 0 (λ z. omega arith), e, f))
-
-  lone-byte : (x : Bool) (v b : ℕ) → wide m ≡ false → Lasts x v b b
-  unfolding readByte heightRead sampleOf sampled
-  lone-byte x v b e = (λ f. rw (ne-eqb (suc n) 0 (λ z. omega arith), e, f, sub-one (suc n)), λ f. rw (ne-eqb (suc n) 0 (λ z. omega arith), e, f))
-
 -- the end, with heights still to come
-too-few : (e : Bool) (h : Header) (W H n m : ℕ) (x : Bool) (v f : ℕ) (z : List ℕ) → owed e (idle (at 1 h W H (suc n) m x v) f) z [] ≡ answerLine (pick e 15 0)
+too-few : (e : Bool) (h : Header) (W H n m : ℕ) (x : Bool) (v f : ℕ) (z : List ℕ) → owed e (idle (at 3 0 h (suc n) m x v) W H f) z [] ≡ answerLine (pick e 15 0)
 too-few true h W H n m x v f z =
-    let i : Input = at 1 h W H (suc n) m x v in
-    ends-to i f z (ended.Short (phased 2 i)) (end-few i (λ d. omega arith) refl (omega arith)) ∙ refused-left (phased 2 i) f 15 z
-too-few false h W H n m x v f z = idle-owed (idle (at 1 h W H (suc n) m x v) f) z refl
+    let i : Input = at 3 0 h (suc n) m x v in
+    ends-to i W H f z (ended.Short (phased 4 i)) (end-few i (omega arith) (omega arith) (omega arith)) ∙ refused-left (phased 4 i) W H f 15 z
+too-few false h W H n m x v f z = idle-owed (idle (at 3 0 h (suc n) m x v) W H f) z refl
 
 -- and with none to come
-enough : (e : Bool) (h : Header) (W H m : ℕ) (x : Bool) (v f : ℕ) (z : List ℕ) → owed e (idle (at 1 h W H 0 m x v) f) z [] ≡ []
+enough : (e : Bool) (h : Header) (W H m : ℕ) (x : Bool) (v f : ℕ) (z : List ℕ) → owed e (idle (at 3 0 h 0 m x v) W H f) z [] ≡ []
 enough true h W H m x v f z =
-    let i : Input = at 1 h W H 0 m x v in
-    ends-to i f z (ended.Over (phased 2 i)) (end-whole i (λ d. omega arith) refl (omega arith)) ∙ left-none (idle (phased 2 i) f) z refl
-enough false h W H m x v f z = idle-owed (idle (at 1 h W H 0 m x v) f) z refl
+    let i : Input = at 3 0 h 0 m x v in
+    ends-to i W H f z (ended.Whole (phased 4 i)) (end-whole i (omega arith) (omega arith) (omega arith)) ∙ left-none (idle (phased 4 i) W H f) z refl
+enough false h W H m x v f z = idle-owed (idle (at 3 0 h 0 m x v) W H f) z refl
 
-beyond : (e : Bool) (h : Header) (W H m : ℕ) (x : Bool) (v f b : ℕ) (z u : List ℕ) → owed e (idle (at 1 h W H 0 m x v) f) z (b ∷ u) ≡ refusedLine 15
+beyond : (e : Bool) (h : Header) (W H m : ℕ) (x : Bool) (v f b : ℕ) (z u : List ℕ) → owed e (idle (at 3 0 h 0 m x v) W H f) z (b ∷ u) ≡ refusedLine 15
 beyond e h W H m x v f b z u =
-    let i : Input = at 1 h W H 0 m x v in
-    read-as e i f z b u (refuse15 i) (sym (height-none i b refl ∙ phase-1 i (length z) b (λ d. omega arith) refl)) ∙ refused e (phased 2 i) f 15 z u refl
+    let i : Input = at 3 0 h 0 m x v in
+    read-as e i W H f z b u (refuse15 i) (sym (height-none i b refl ∙ phase-3 0 i b refl)) ∙ refused e (phased 4 i) W H f 15 z u refl
 
 -- ---- a height goes into the row
 set-taken : (z : List ℕ) (f u : ℕ) (l : List ℕ) → f < length z → take (f + 1) (set z f u) ++ l ≡ take f z ++ (u ∷ l)
@@ -206,21 +185,22 @@ row-begun : (f W : ℕ) → (f ≡ W → ⊥) → noPart ≡ rowPart f W
 unfolding rowPart
 row-begun f W h = rw (ne-eqb f W h)
 
-row-left : (i : Input) (f : ℕ) (z : List ℕ) → leftOn (rewriting i f (partOf 2 0)) z ≡ rowBytes (take (i .width) z)
+row-left : (i : Input) (W H f : ℕ) (z : List ℕ) → leftOn (rewriting i W H f (partOf 2 0)) z ≡ rowBytes (take W z)
 unfolding leftOn partText
-row-left i f z = refl
+row-left i W H f z = refl
 
-row-settled : (i : Input) (f : ℕ) → settled (rewriting i f (partOf 2 0)) ≡ idle i 0
+row-settled : (i : Input) (W H f : ℕ) → settled (rewriting i W H f (partOf 2 0)) ≡ idle i W H 0
 unfolding settled
-row-settled i f = refl
+row-settled i W H f = refl
 
 -- what is owed of the bytes r with n heights to come, f of the begun row in the row area z
 abbrev Owes : Bool → Header → ℕ → ℕ → ℕ → ℕ → List ℕ → Type 0
-Owes e h W H m n r = (v f : ℕ) (z : List ℕ) → f < W → W ≤ length z → owed e (idle (at 1 h W H n m false v) f) z r ≡ heightsDue e W (take f z) m n r
+Owes e h W H m n r = (v f : ℕ) (z : List ℕ) → f < W → W ≤ length z → owed e (idle (at 3 0 h n m false v) W H f) z r ≡ heightsDue e W (take f z) m n r
 
-module _ (e : Bool) (h : Header) (W H : ℕ) (some : 0 < W) (m n f u : ℕ) (z r : List ℕ) (a : f < W) (b : W ≤ length z) (g : Owes e h W H m n r) where
+module _ (e : Bool) (h : Header) (W H : ℕ) (some : 0 < W) (m n f u : ℕ) (z r : List ℕ) (a : f < W) (b : W ≤ length z) (g : Owes e h W H m n r)
+    (k : Input) where
   abbrev i : Input
-  i = at 1 h W H n m false 0
+  i = at 3 0 h n m false 0
 
   abbrev y : List ℕ
   y = set z f u
@@ -240,25 +220,25 @@ module _ (e : Bool) (h : Header) (W H : ℕ) (some : 0 < W) (m n f u : ℕ) (z r
   same : take (f + 1) y ++ hs ≡ take f z ++ (u ∷ hs)
   same = set-taken z f u hs (omega arith)
 
-  at-part : (p : Part) → p ≡ rowPart (f + 1) W → owed e (heightKept i f u z .state) (heightKept i f u z .row) r ≡ owed e (rewriting i (f + 1) p) y r
-  at-part p k =
-      let d = kept-some i f u z p (omega arith) k in
+  at-part : (p : Part) → p ≡ rowPart (f + 1) W → owed e (heightKept (idle k W H f) i u z .state) (heightKept (idle k W H f) i u z .row) r ≡ owed e (rewriting i W H (f + 1) p) y r
+  at-part p q =
+      let d = kept-some (idle k W H f) i u z p (omega arith) q in
       ap₂ (λ s l. owed e s l r) (sym (d .0)) (sym (d .1))
 
-  row-on : (f + 1 ≡ W → ⊥) → owed e (idle i (f + 1)) y r ≡ due
+  row-on : (f + 1 ≡ W → ⊥) → owed e (idle i W H (f + 1)) y r ≡ due
   row-on d = g 0 (f + 1) y (omega arith) (omega (arith, size)) ∙ ap (λ l. rowBytes (wholeRows W l) ++ says) same
 
-  row-ends : f + 1 ≡ W → owed e (rewriting i (f + 1) (partOf 2 0)) y r ≡ due
+  row-ends : f + 1 ≡ W → owed e (rewriting i W H (f + 1) (partOf 2 0)) y r ≡ due
   row-ends d =
-      settle-owed e (rewriting i (f + 1) (partOf 2 0)) y r
-      ∙ ap₂ _++_ (row-left i (f + 1) y) (ap (λ s. owed e s y r) (row-settled i (f + 1)) ∙ g 0 0 y (omega arith) (omega (arith, size)))
+      settle-owed e (rewriting i W H (f + 1) (partOf 2 0)) y r
+      ∙ ap₂ _++_ (row-left i W H (f + 1) y) (ap (λ s. owed e s y r) (row-settled i W H (f + 1)) ∙ g 0 0 y (omega arith) (omega (arith, size)))
       ∙ sym (append-assoc (rowBytes (take W y)) (rowBytes (wholeRows W hs)) says)
       ∙ ap (λ l. l ++ says) (sym (row-append (take W y) (wholeRows W hs)))
       ∙ ap (λ l. rowBytes l ++ says) (sym (one-whole W some (take W y) hs (length-take-le W y (omega (arith, size)))))
       ∙ ap (λ k. rowBytes (wholeRows W (take k y ++ hs)) ++ says) (sym d)
       ∙ ap (λ l. rowBytes (wholeRows W l) ++ says) same
 
-  put-height : owed e (heightKept i f u z .state) (heightKept i f u z .row) r ≡ due
+  put-height : owed e (heightKept (idle k W H f) i u z .state) (heightKept (idle k W H f) i u z .row) r ≡ due
   put-height =
       elim (ℕ-discrete (f + 1) W) [
         | yes d ↦ at-part (partOf 2 0) (row-whole (f + 1) W d) ∙ row-ends d
@@ -272,15 +252,15 @@ module _ (e : Bool) (h : Header) (W H : ℕ) (some : 0 < W) (m : ℕ) where
 
   -- after the last byte of a sample
   lasts : (n f : ℕ) (z : List ℕ) (x : Bool) (v b u : ℕ) (s r : List ℕ) (t : Bool) → leb u m ≡ t
-      → Lasts h W H n m (length z) x v b u → Leads m u s r → f < W → W ≤ length z → Owes e h W H m n r
-      → owed e (idle (at 1 h W H (suc n) m x v) f) z (b ∷ r) ≡ heightsDue e W (take f z) m (suc n) s
+      → Lasts 0 0 h n m x v b u → Leads m u s r → f < W → W ≤ length z → Owes e h W H m n r
+      → owed e (idle (at 3 0 h (suc n) m x v) W H f) z (b ∷ r) ≡ heightsDue e W (take f z) m (suc n) s
   lasts n f z x v b u s r true k d l a c g =
-      read-as e (at 1 h W H (suc n) m x v) f z b r (steps.Height (at 1 h W H n m false 0) u) (d .0 k)
-      ∙ put-height e h W H some m n f u z r a c g
+      read-as e (at 3 0 h (suc n) m x v) W H f z b r (steps.Height (at 3 0 h n m false 0) u) (d .0 k)
+      ∙ put-height e h W H some m n f u z r a c g (at 3 0 h (suc n) m x v)
       ∙ sym (one-more e W some (take f z) (row-few f z a c) m n u s r l k)
   lasts n f z x v b u s r false k d l a c g =
-      read-as e (at 1 h W H (suc n) m x v) f z b r (steps.Refused (at 2 h W H (suc n) m x v) 16) (d .1 k)
-      ∙ refused e (at 2 h W H (suc n) m x v) f 16 z r refl
+      read-as e (at 3 0 h (suc n) m x v) W H f z b r (steps.Refused (at 4 0 h (suc n) m x v) 16) (d .1 k)
+      ∙ refused e (at 4 0 h (suc n) m x v) W H f 16 z r refl
       ∙ sym (too-large e W some (take f z) (row-few f z a c) m n u s r l k)
 
   pairs : wide m ≡ true → (r : List ℕ) (n : ℕ) → Owes e h W H m n r
@@ -288,12 +268,12 @@ module _ (e : Bool) (h : Header) (W H : ℕ) (some : 0 < W) (m : ℕ) where
   pairs w [] (suc n) v f z a c = too-few e h W H n m false v f z ∙ sym (none-short e W some (take f z) (row-few f z a c) m n)
   pairs w (b ∷ r) zero v f z a c = beyond e h W H m false v f b z r ∙ sym (surplus e W some (take f z) (row-few f z a c) m b r)
   pairs w (b ∷ []) (suc n) v f z a c =
-      read-as e (at 1 h W H (suc n) m false v) f z b [] (steps.More (at 1 h W H (suc n) m true b)) (first-byte h W H n m (length z) v b w)
+      read-as e (at 3 0 h (suc n) m false v) W H f z b [] (steps.More (at 3 0 h (suc n) m true b)) (first-byte 0 0 h n m v b w)
       ∙ too-few e h W H n m true b f z
       ∙ sym (half-short e W some (take f z) (row-few f z a c) m n b w)
   pairs w (b ∷ k ∷ r) (suc n) v f z a c =
-      read-as e (at 1 h W H (suc n) m false v) f z b (k ∷ r) (steps.More (at 1 h W H (suc n) m true b)) (first-byte h W H n m (length z) v b w)
-      ∙ lasts n f z true b k (256 * b + k) (b ∷ k ∷ r) r (leb (256 * b + k) m) refl (second-byte h W H n m (length z) b k w) (leads-two m b k r w)
+      read-as e (at 3 0 h (suc n) m false v) W H f z b (k ∷ r) (steps.More (at 3 0 h (suc n) m true b)) (first-byte 0 0 h n m v b w)
+      ∙ lasts n f z true b k (256 * b + k) (b ∷ k ∷ r) r (leb (256 * b + k) m) refl (second-byte 0 0 h n m b k w) (leads-two m b k r w)
       a c (pairs w r n)
 
   singles : wide m ≡ false → (r : List ℕ) (n : ℕ) → Owes e h W H m n r
@@ -301,7 +281,7 @@ module _ (e : Bool) (h : Header) (W H : ℕ) (some : 0 < W) (m : ℕ) where
   singles w [] (suc n) v f z a c = too-few e h W H n m false v f z ∙ sym (none-short e W some (take f z) (row-few f z a c) m n)
   singles w (b ∷ r) zero v f z a c = beyond e h W H m false v f b z r ∙ sym (surplus e W some (take f z) (row-few f z a c) m b r)
   singles w (b ∷ r) (suc n) v f z a c =
-      lasts n f z false v b b (b ∷ r) r (leb b m) refl (lone-byte h W H n m (length z) false v b w) (leads-one m b r w) a c (singles w r n)
+      lasts n f z false v b b (b ∷ r) r (leb b m) refl (lone-byte 0 0 h n m false v b w) (leads-one m b r w) a c (singles w r n)
 
   heights : (r : List ℕ) (n : ℕ) → Owes e h W H m n r
   heights r n = go (wide m) refl
@@ -311,13 +291,13 @@ module _ (e : Bool) (h : Header) (W H : ℕ) (some : 0 < W) (m : ℕ) where
       go false k = singles k r n
 
 -- ---- the header
-head-left : (i : Input) (f : ℕ) (z : List ℕ) → leftOn (rewriting i f (partOf 1 0)) z ≡ formHead (i .width) (i .height)
+head-left : (i : Input) (W H f : ℕ) (z : List ℕ) → leftOn (rewriting i W H f (partOf 1 0)) z ≡ formHead W H
 unfolding leftOn partText
-head-left i f z = refl
+head-left i W H f z = refl
 
-head-settled : (i : Input) (f : ℕ) → settled (rewriting i f (partOf 1 0)) ≡ idle i f
+head-settled : (i : Input) (W H f : ℕ) → settled (rewriting i W H f (partOf 1 0)) ≡ idle i W H f
 unfolding settled
-head-settled i f = refl
+head-settled i W H f = refl
 
 -- what is due of a picture's header and the bytes after it
 abbrev pictureDue : Bool → Read Size → List ℕ
@@ -326,47 +306,48 @@ pictureDue e short = answerLine (pick e 15 0)
 pictureDue e wrong = refusedLine 15
 
 abbrev early : Header → Input
-early k = at 0 k 0 0 0 0 false 0
+early k = at 2 0 k 0 0 false 0
 
 module _ (e : Bool) (z : List ℕ) (room : maxPictureWidth ≤ length z) where
   -- what is owed of the bytes s after a byte of the header
   abbrev after : Header → List ℕ → Step → List ℕ
-  after k s y = owed e (stepTo (idle (early k) 0) z y .state) (stepTo (idle (early k) 0) z y .row) s
+  after k s y = owed e (stepTo (idle (early k) 0 0 0) z y .state) (stepTo (idle (early k) 0 0 0) z y .row) s
 
   begun-due : (k : Header) (w h m : ℕ) (r : List ℕ) → 0 < w → w ≤ maxPictureWidth
-      → after k r (steps.Begun (begins (early k) w h m)) ≡ bodyDue e (record { width = w; height = h; largest = m }) r
+      → after k r (steps.Begun (at 3 0 k (w * h) m false 0) w h) ≡ bodyDue e (record { width = w; height = h; largest = m }) r
   unfolding bodyDue rowsOf
   begun-due k w h m r a b =
-      let i : Input = begins (early k) w h m in
+      let i : Input = at 3 0 k (w * h) m false 0 in
       let hs : List ℕ = heightsTaken m (w * h) r in
-      settle-owed e (rewriting i 0 (partOf 1 0)) z r
-      ∙ ap₂ _++_ (head-left i 0 z) (ap (λ s. owed e s z r) (head-settled i 0) ∙ heights e k w h a m r (w * h) 0 0 z a (omega arith))
+      ap (λ s. owed e s z r) (sym (begun-room (idle (early k) 0 0 0) i w h (length z) (partOf 1 0) (omega arith) refl))
+      ∙ settle-owed e (rewriting i w h 0 (partOf 1 0)) z r
+      ∙ ap₂ _++_ (head-left i w h 0 z) (ap (λ s. owed e s z r) (head-settled i w h 0) ∙ heights e k w h a m r (w * h) 0 0 z a (omega arith))
       ∙ sym (append-assoc (formHead w h) (rowBytes (wholeRows w hs)) (answerLine (refusalIn e m (w * h) r)))
 
   shape : (k : Header) (w h m : ℕ) (r : List ℕ) (t : Bool) → sizeFits w h ≡ t
-      → after k r (shapeRead (early k) (length z) w h m) ≡ pictureDue e (sizeEnd (record { width = w; height = h; largest = m }) r)
+      → after k r (shapeRead (early k) w h m) ≡ pictureDue e (sizeEnd (record { width = w; height = h; largest = m }) r)
   unfolding shapeRead sizeEnd
   shape k w h m r true d =
       let f = size-fits w h d .columns in
-      rw (d, le-ltb (length z) w (omega arith)) (begun-due k w h m r (f .0) (f .1))
-  shape k w h m r false d = rw d (refused e (phased 2 (early k)) 0 15 z r refl)
+      rw d (begun-due k w h m r (f .0) (f .1))
+  shape k w h m r false d = rw d (refused e (phased 4 (early k)) 0 0 0 15 z r refl)
 
-  step-due : (k : Header) (x : Next) (s : List ℕ) → ((k : Header) → owed e (idle (early k) 0) z s ≡ pictureDue e (andThen (readBy (feed k s)) sizeEnd))
-      → after k s (nextRead (early k) (length z) x) ≡ pictureDue e (andThen (readBy (stepped (λ y. feed y s) s x)) sizeEnd)
+  step-due : (k : Header) (x : Next) (s : List ℕ) → ((k : Header) → owed e (idle (early k) 0 0 0) z s ≡ pictureDue e (andThen (readBy (feed k s)) sizeEnd))
+      → after k s (nextRead (early k) x) ≡ pictureDue e (andThen (readBy (stepped (λ y. feed y s) s x)) sizeEnd)
   step-due k (next.More y) s g = g y
   step-due k (next.Done w h m) s g = shape k w h m s (sizeFits w h) refl
-  step-due k next.Refused s g = refused e (phased 2 (early k)) 0 15 z s refl
+  step-due k next.Refused s g = refused e (phased 4 (early k)) 0 0 0 15 z s refl
 
-  ends-early : (d : Bool) (k : Header) → owed d (idle (early k) 0) z [] ≡ answerLine (pick d 15 0)
-  ends-early true k = ends-to (early k) 0 z (ended.Short (phased 2 (early k))) (end-early (early k) refl) ∙ refused-left (phased 2 (early k)) 0 15 z
-  ends-early false k = idle-owed (idle (early k) 0) z refl
+  ends-early : (d : Bool) (k : Header) → owed d (idle (early k) 0 0 0) z [] ≡ answerLine (pick d 15 0)
+  ends-early true k = ends-to (early k) 0 0 0 z (ended.Short (phased 4 (early k))) (end-early (early k) (omega arith)) ∙ refused-left (phased 4 (early k)) 0 0 0 15 z
+  ends-early false k = idle-owed (idle (early k) 0 0 0) z refl
 
-  header : (s : List ℕ) (k : Header) → owed e (idle (early k) 0) z s ≡ pictureDue e (andThen (readBy (feed k s)) sizeEnd)
+  header : (s : List ℕ) (k : Header) → owed e (idle (early k) 0 0 0) z s ≡ pictureDue e (andThen (readBy (feed k s)) sizeEnd)
   unfolding feed
   header [] k = ends-early e k
   header (b ∷ s) k =
-      let y : Step = nextRead (early k) (length z) (stepOf k b) in
-      read-as e (early k) 0 z b s y (sym (header-case (early k) (length z) b (stepOf k b) refl ∙ phase-0 (early k) (length z) b refl))
+      let y : Step = nextRead (early k) (stepOf k b) in
+      read-as e (early k) 0 0 0 z b s y (sym (header-case (early k) b (stepOf k b) refl ∙ phase-2 0 (early k) b refl))
       ∙ step-due k (stepOf k b) s (header s)
 
 as-due : (e : Bool) (s : List ℕ) → pictureDue e (andThen (headerOf s) sizeEnd) ≡ dueOf e s

@@ -1,4 +1,3 @@
 pub mod Form
 pub mod Rewriting
-pub mod InputSteps
 pub mod Machine

@@ -4,18 +4,18 @@ use mathlib.Core.Path.{_≡_}
 use mathlib.Core.Bool.{Bool, true, false}
 use mathlib.Core.List.{List, [], _∷_, _++_}
 use Prim.Native.Nat.{ℕ, _+_, _*_, _≤_, _<_}
-use lib.Dec.{leb, eqb}
+use lib.Dec.{leb, ltb, eqb}
 use lib.ListN.{length, take, drop, set}
 use Rattle.numbers.specs.Signal.{pick}
 use Rattle.text.specs.Text.{Wrote}
 use Rattle.picture.specs.Form.{formHead, rowBytes}
 use Rattle.text.specs.Refusal.{refusedLine}
-use Rattle.picture.specs.InputSteps.{atStart, phased, readByte, inputEnded}
-use Rattle.picture.specs.declared.input.Input.{Input}
-use Rattle.picture.specs.declared.input.Step.{Step}
-use Rattle.picture.specs.declared.input.Step.the-variants as steps
-use Rattle.picture.specs.declared.input.Ended.{Ended}
-use Rattle.picture.specs.declared.input.Ended.the-variants as ended
+use Rattle.pgm.specs.InputSteps.{startAt, phased, readByte, inputEnded}
+use Rattle.pgm.specs.declared.input.Input.{Input}
+use Rattle.pgm.specs.declared.input.Step.{Step}
+use Rattle.pgm.specs.declared.input.Step.the-variants as steps
+use Rattle.pgm.specs.declared.input.Ended.{Ended}
+use Rattle.pgm.specs.declared.input.Ended.the-variants as ended
 use Rattle.picture.specs.declared.parts.Part.{Part}
 use Rattle.picture.specs.declared.rewriting.Rewriting.{Rewriting}
 
@@ -34,14 +34,20 @@ partText W H z k q =
     (pick (eqb k 3) (refusedLine q)
     []))
 
-abbrev pub rewriting : Input → ℕ → Part → Rewriting
-rewriting i f p = record { input = i; filled = f; part = p }
+-- of a W × H picture, f heights of the begun row in the row area
+abbrev pub rewriting : Input → ℕ → ℕ → ℕ → Part → Rewriting
+rewriting i W H f p = record { input = i; width = W; height = H; filled = f; part = p }
 
+-- there is no line for the levels
 abbrev pub started : Rewriting
-started = rewriting atStart 0 noPart
+started = rewriting (startAt 2) 0 0 0 noPart
+
+-- the size stays
+abbrev pub moved : Rewriting → Input → ℕ → Part → Rewriting
+moved r i f p = rewriting i (r .width) (r .height) f p
 
 abbrev pub textOn : Rewriting → List ℕ → List ℕ
-textOn r z = partText (r .input .width) (r .input .height) z (r .part .kind) (r .part .number)
+textOn r z = partText (r .width) (r .height) z (r .part .kind) (r .part .number)
 
 -- what is left of the part
 unfoldable pub leftOn : Rewriting → List ℕ → List ℕ
@@ -49,11 +55,11 @@ leftOn r z = drop (r .part .done) (textOn r z)
 
 -- the part is written: after a row the next one begins
 unfoldable pub settled : Rewriting → Rewriting
-settled r = rewriting (r .input) (pick (eqb (r .part .kind) 2) 0 (r .filled)) noPart
+settled r = moved r (r .input) (pick (eqb (r .part .kind) 2) 0 (r .filled)) noPart
 
 -- d bytes of the part are written
 abbrev pub doneOn : ℕ → Rewriting → Rewriting
-doneOn d r = rewriting (r .input) (r .filled) (record { kind = r .part .kind; number = r .part .number; done = d })
+doneOn d r = moved r (r .input) (r .filled) (record { kind = r .part .kind; number = r .part .number; done = d })
 
 -- ---- a byte
 pub record Kept : Type 0 where
@@ -67,27 +73,32 @@ kept r z = record { state = r; row = z }
 unfoldable pub rowPart : ℕ → ℕ → Part
 rowPart f w = pick (eqb f w) (partOf 2 0) noPart
 
+-- the header of a W × H picture is read: `room` is how many heights the row area holds
+unfoldable pub begunOn : Rewriting → Input → ℕ → ℕ → ℕ → Rewriting
+begunOn r i W H room = pick (ltb room W) (moved r (phased 4 i) (r .filled) (partOf 3 5)) (rewriting i W H 0 (partOf 1 0))
+
 -- a height goes to its place in the row area; a state that was made up may have none
-unfoldable pub heightKept : Input → ℕ → ℕ → List ℕ → Kept
-heightKept i f v z =
-    pick (leb (length z) f)
-    (kept (rewriting (phased 2 i) f (partOf 3 5)) z)
-    (kept (rewriting i (f + 1) (rowPart (f + 1) (i .width))) (set z f v))
+unfoldable pub heightKept : Rewriting → Input → ℕ → List ℕ → Kept
+heightKept r i v z =
+    pick (leb (length z) (r .filled))
+    (kept (moved r (phased 4 i) (r .filled) (partOf 3 5)) z)
+    (kept (moved r i (r .filled + 1) (rowPart (r .filled + 1) (r .width))) (set z (r .filled) v))
 
 abbrev pub stepTo : Rewriting → List ℕ → Step → Kept
-stepTo r z (steps.More i) = kept (rewriting i (r .filled) noPart) z
-stepTo r z (steps.Begun i) = kept (rewriting i 0 (partOf 1 0)) z
-stepTo r z (steps.Height i v) = heightKept i (r .filled) v z
-stepTo r z (steps.Refused i q) = kept (rewriting i (r .filled) (partOf 3 q)) z
+stepTo r z (steps.More i) = kept (moved r i (r .filled) noPart) z
+stepTo r z (steps.Begun i W H) = kept (begunOn r i W H (length z)) z
+stepTo r z (steps.Height i v) = heightKept r i v z
+stepTo r z (steps.Refused i q) = kept (moved r i (r .filled) (partOf 3 q)) z
 
 unfoldable pub byteRead : Rewriting → List ℕ → ℕ → Kept
-byteRead r z b = stepTo r z (readByte (r .input) (length z) b)
+byteRead r z b = stepTo r z (readByte 0 (r .input) b)
 
 -- ---- the end of the input
 -- once nothing is being written
 abbrev pub endTo : Rewriting → Ended → Rewriting
-endTo r (ended.Over i) = rewriting i (r .filled) noPart
-endTo r (ended.Short i) = rewriting i (r .filled) (partOf 3 15)
+endTo r (ended.Whole i) = moved r i (r .filled) noPart
+endTo r (ended.Short i) = moved r i (r .filled) (partOf 3 15)
+endTo r ended.Before = moved r (r .input) (r .filled) noPart
 
 unfoldable pub endOf : Rewriting → Rewriting
 endOf r = pick (eqb (r .part .kind) 0) (endTo r (inputEnded (r .input))) r

@@ -2,6 +2,5 @@
 // writes it, `rewriting` turns any PGM into it.
 pub mod form;
 mod heads;
-pub mod input;
 mod parts;
 pub mod rewriting;

@@ -1,9 +1,9 @@
 // The rewriting: bytes of a PGM in, bytes of the fixed form out. Each row is written when it is whole, before more input is read.
-use crate::input::Ended;
-use crate::input::Input;
-use crate::input::Step;
 use crate::parts;
 use crate::parts::Part;
+use pgm::input::Ended;
+use pgm::input::Input;
+use pgm::input::Step;
 use pgm::limits;
 ghost use mathlib.Core.Path.{_≡_};
 ghost use Prim.Native.Nat.{_<_, _≤_};
@@ -11,10 +11,14 @@ ghost use lib.Dec.{eqb};
 ghost use lib.ListN.{length, getD};
 ghost use Rattle.numbers.specs.Signal.{pick};
 ghost use Rattle.pgm.specs.Limits.{maxPictureWidth};
-ghost use Rattle.picture.specs.Machine.{partOf, started, settled, doneOn, rowPart, heightKept, byteRead, Writes, Went, Stops, Onward, endOf};
+ghost use Rattle.picture.specs.Machine.{partOf, started, moved, settled, doneOn, rowPart, begunOn, heightKept, byteRead, Writes, Went, Stops};
+ghost use Rattle.picture.specs.Machine.{Onward, endOf};
 
 pub struct Rewriting {
     pub input: Input,
+    // the picture's, once its header is read
+    pub width: usize,
+    pub height: usize,
     // heights of the begun row that stand in the row area
     pub filled: usize,
     pub part: Part,
@@ -47,23 +51,16 @@ fn after_part(kind: usize, filled: usize) -> usize
 }
 
 // A height goes to its place in the row area; a state that was made up may have none.
-fn keep(input: Input, filled: usize, height: u16, row: &mut [u16]) -> Rewriting
-    ensures { λ r. ⌜ r ≡ heightKept input filled height (now (row .entry)) .state ⌝ }
-    ensures { λ r. ⌜ now (row .exit) ≡ heightKept input filled height (now (row .entry)) .row ⌝ }
+fn keep(rewriting: Rewriting, input: Input, height: u16, row: &mut [u16]) -> Rewriting
+    ensures { λ r. ⌜ r ≡ heightKept rewriting input height (now (row .entry)) .state ⌝ }
+    ensures { λ r. ⌜ now (row .exit) ≡ heightKept rewriting input height (now (row .entry)) .row ⌝ }
 {
+    let filled = rewriting.filled;
     if row.len() <= filled {
-        return Rewriting {
-            input: input.at_phase(2),
-            filled,
-            part: part_of(3, 5),
-        };
+        return rewriting.moved(input.at_phase(4), filled, part_of(3, 5));
     }
     row[filled] = height;
-    Rewriting {
-        input,
-        filled: filled + 1,
-        part: row_part(filled + 1, input.width),
-    }
+    rewriting.moved(input, filled + 1, row_part(filled + 1, rewriting.width))
 }
 
 impl Rewriting {
@@ -80,9 +77,24 @@ impl Rewriting {
         ensures { λ r. ⌜ r ≡ started ⌝ }
     {
         Rewriting {
-            input: Input::start(),
+            input: Input::start(2),
+            width: 0,
+            height: 0,
             filled: 0,
             part: part_of(0, 0),
+        }
+    }
+
+    // The size stays.
+    fn moved(self, input: Input, filled: usize, part: Part) -> Self
+        ensures { λ r. ⌜ r ≡ moved self input filled part ⌝ }
+    {
+        Rewriting {
+            input,
+            width: self.width,
+            height: self.height,
+            filled,
+            part,
         }
     }
 
@@ -90,39 +102,42 @@ impl Rewriting {
     fn settle(self) -> Self
         ensures { λ r. ⌜ r ≡ settled self ⌝ }
     {
-        let input = self.input;
         let part = self.part;
+        self.moved(
+            self.input,
+            after_part(part.kind, self.filled),
+            part_of(0, 0),
+        )
+    }
+
+    // The header is read; the row area has room for so many heights.
+    fn begin(self, input: Input, width: usize, height: usize, room: usize) -> Self
+        ensures { λ r. ⌜ r ≡ begunOn self input width height room ⌝ }
+    {
+        if room < width {
+            return self.moved(input.at_phase(4), self.filled, part_of(3, 5));
+        }
         Rewriting {
             input,
-            filled: after_part(part.kind, self.filled),
-            part: part_of(0, 0),
+            width,
+            height,
+            filled: 0,
+            part: part_of(1, 0),
         }
     }
 
-    // One byte of the input, while nothing is being written.
+    // One byte of the input, while nothing is being written. There is no line for the levels.
     fn read(self, byte: u8, row: &mut [u16]) -> Self
         ensures { λ r. ⌜ r ≡ byteRead self (now (row .entry)) byte .state ⌝ }
         ensures { λ r. ⌜ now (row .exit) ≡ byteRead self (now (row .entry)) byte .row ⌝ }
     {
         let input = self.input;
         let filled = self.filled;
-        match input.read(byte, row.len()) {
-            Step::More(next) => Rewriting {
-                input: next,
-                filled,
-                part: part_of(0, 0),
-            },
-            Step::Begun(next) => Rewriting {
-                input: next,
-                filled: 0,
-                part: part_of(1, 0),
-            },
-            Step::Height(next, height) => keep(next, filled, height, row),
-            Step::Refused(next, number) => Rewriting {
-                input: next,
-                filled,
-                part: part_of(3, number),
-            },
+        match input.read(byte, 0) {
+            Step::More(next) => self.moved(next, filled, part_of(0, 0)),
+            Step::Begun(next, width, height) => self.begin(next, width, height, row.len()),
+            Step::Height(next, height) => keep(self, next, height, row),
+            Step::Refused(next, number) => self.moved(next, filled, part_of(3, number)),
         }
     }
 
@@ -130,17 +145,16 @@ impl Rewriting {
     fn with_done(self, done: usize) -> Self
         ensures { λ r. ⌜ r ≡ doneOn done self ⌝ }
     {
-        let input = self.input;
         let part = self.part;
-        Rewriting {
-            input,
-            filled: self.filled,
-            part: Part {
+        self.moved(
+            self.input,
+            self.filled,
+            Part {
                 kind: part.kind,
                 number: part.number,
                 done,
             },
-        }
+        )
     }
 
     // Reads a piece of the input and writes what it brings, until the area is full, or the piece is used up and nothing is left to write. The rest of
@@ -182,16 +196,9 @@ impl Rewriting {
             return self;
         }
         match input.end() {
-            Ended::Over(next) => Rewriting {
-                input: next,
-                filled,
-                part: part_of(0, 0),
-            },
-            Ended::Short(next) => Rewriting {
-                input: next,
-                filled,
-                part: part_of(3, 15),
-            },
+            Ended::Whole(next) => self.moved(next, filled, part_of(0, 0)),
+            Ended::Short(next) => self.moved(next, filled, part_of(3, 15)),
+            Ended::Before => self.moved(input, filled, part_of(0, 0)),
         }
     }
 }
@@ -230,13 +237,12 @@ fn write_on(rewriting: Rewriting, row: &[u16], out: &mut [u8], at: usize) -> Wri
     ensures { λ r. ⌜ Writes rewriting (now (row .entry)) (now (out .entry)) (now (out .exit)) at (r .place) (r .rewriting) ⌝ }
 {
     let part = rewriting.part;
-    let input = rewriting.input;
     let n = parts::put_part(
         part.kind,
         part.number,
         part.done,
-        input.width,
-        input.height,
+        rewriting.width,
+        rewriting.height,
         row,
         &mut out[at..],
     );

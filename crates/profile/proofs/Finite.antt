@@ -17,6 +17,8 @@ use lib.Ieee.Digits.{size-le}
 use lib.Ieee.Fits.{kept-lt, nearest-le, round-is, down-pos}
 use lib.Ieee.Exact.{HasValue, units-val}
 use lib.Ieee.Scale.{finite}
+use Rattle.wavelet.specs.Limits.{maxSample}
+use Rattle.wavelet.proofs.LimitLaws.{sample-small}
 use Rattle.numbers.specs.Signal.{pick}
 use Rattle.profile.specs.Profile.{alpha, beta, gamma, delta, lifted, before, after, pass, fourPasses, profile}
 use Rattle.profile.specs.Calls.{heights}
@@ -134,11 +136,11 @@ delta-below : Below 1 delta
 unfolding delta ofBits Below
 delta-below = omega arith
 
-height-below : (h : ℕ) → h ≤ 65535 → Below 17 (ofInt binary32 (pos h))
+height-below : (h : ℕ) → h ≤ maxSample → Below 17 (ofInt binary32 (pos h))
 unfolding ofInt
-height-below h g = round-below 16 false h 1 (omega arith) (omega arith) (omega arith)
+height-below h g = round-below 16 false h 1 (omega arith) (omega arith) (omega (arith, sample-small))
 
-module _ (n : ℕ) (l : List ℕ) (g : (i : ℕ) → getD l i 0 ≤ 65535) where
+module _ (n : ℕ) (l : List ℕ) (g : (i : ℕ) → getD l i 0 ≤ maxSample) where
   row-below : (i : ℕ) → Below 17 (heights l i)
   unfolding heights
   row-below i = height-below (getD l i 0) (g i)

@@ -1,5 +1,5 @@
 -- The calls, case by case: the number, the answer and what stands in each area. Assumes nothing.
-use mathlib.Core.Path.{_≡_, sym, ap, subst, _∙_, fun-ext}
+use mathlib.Core.Path.{_≡_, refl, sym, ap, subst, _∙_, fun-ext}
 use mathlib.Core.List.{List, [], _∷_}
 use mathlib.Core.Bool.{Bool, true, false, not}
 use Prim.Native.Nat.{ℕ, suc, _+_, _-_, _%_, _≤_, _<_}
@@ -35,7 +35,7 @@ use Rattle.reader.specs.Calls.{fresh, setUpReply, setUpStore, wantReply,
 use Rattle.reader.specs.Inside.{Is, storeQuestion, rowQuestion}
 use Rattle.level.specs.Rebuilding.{Kept}
 use Rattle.areas.proofs.AreaLaws.{front-at, front-rest}
-use Rattle.reader.proofs.StepLaws.{place-of}
+use Rattle.reader.proofs.StepLaws.{place-of, next-draw}
 
 -- ---- a store zeroed after places past n were kept
 pub zero-kept : (W : Side) (L n : ℕ) (x y z : ℕ → ℤ) → n ≡ storeLength W L → Kept (storeLength W L) x y → z ≡ fronted n (λ _. pos 0) y → z ≡ zeroed W L x
@@ -96,6 +96,11 @@ module _ (s : Reader) where
         let t : ltb 0 (next s .level) ≡ true = lt-ltb 0 (next s .level) (omega arith) in
         let same : row (p .level) (p .band) r n ≡ named-row = cc (is .level, is .band, er, en) in
         same ∙ ap (λ (b : Bool). pick b named-row drawNow) (sym t) ∙ wants-live
+
+  pub wants-top : s .level ≡ 0 → s .ended ≡ false → s .drawn < s .height → drawNow ≡ wants s
+  wants-top e live more =
+      wants-draw (record { level = 0; alone = next s .alone; band = next s .band }) (record { level = sym (next-draw s e); alone = refl; band = refl }) live more
+      refl
 
 -- ---- the number of the question that says no
 -- questions 1, 5 and 9

@@ -125,17 +125,17 @@ unfolding inTurn
 turn-none zero f e = refl
 turn-none (suc n) f e = rw (turn-none n f e, e n) refl
 
-pub empty-row : (H : Side) (set : ℕ → List Step) (r : ℕ) → ((n : ℕ) → set n ≡ []) → rowSteps H set r ≡ []
+pub empty-row : (H : Side) (set : ℕ → List Step) (r : ℕ) → ((n : ℕ) → set n ≡ []) → rowSteps 1 H set r ≡ []
 unfolding rowSteps
 empty-row H set r e = turn-none _ _ (λ i. e _)
 
-pub empty-set : (l k : ℕ) (W H : Side) (n : ℕ) → Empty W H → setSteps l k W H n ≡ []
+pub empty-set : (l k : ℕ) (W H : Side) (n : ℕ) → Empty W H → setSteps 1 l k W H n ≡ []
 unfolding setSteps setRows feedAll
 empty-set zero k W H n e = rw (empty-rows k n W H _ e) refl
 empty-set (suc l) k W H n e =
     rw (
       empty-rows k n W H _ e,
-      empty-row (next H) (setSteps l (suc k) (next W) (next H)) (n - firstSet H lo)
+      empty-row (next H) (setSteps 1 l (suc k) (next W) (next H)) (n - firstSet H lo)
           (λ m. empty-set l (suc k) (next W) (next H) m (empty-next W H e)),
     ) (same (leb (firstSet H lo) n))
   where

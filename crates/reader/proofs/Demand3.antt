@@ -15,6 +15,8 @@ use Rattle.numbers.specs.Signal.{pick}
 use Rattle.numbers.specs.Word.{wrap32, whole}
 use Rattle.lifting.specs.Grid.{Side, count}
 use Rattle.lifting.specs.Halves.{fronted}
+use Rattle.lifting.specs.FiveThree.{fiveThreeFilter}
+use Rattle.lifting.proofs.FiveThreeFilter.{five-three-laws}
 use Rattle.wavelet.specs.Limits.{maxWidth, maxHeight, maxLevels, maxOrigin}
 use Rattle.wavelet.specs.Bands.{Grid, Band, code, across, down, levelHas}
 use Rattle.wavelet.specs.Maps.{IsMap, valueFits}
@@ -22,6 +24,7 @@ use Rattle.wavelet.specs.Questions.{ask, within}
 use Rattle.wavelet.specs.Order.{RowName, rowName, times, setRow, setHas}
 use Rattle.wavelet.specs.Steps.{Step, bandRowsOf, steps}
 use Rattle.wavelet.specs.Steps as step
+use Rattle.wavelet.proofs.LimitLaws.{five-three-few}
 use Rattle.wavelet.proofs.MapTheorems.{height-fits, low-fits}
 use Rattle.wavelet.proofs.QuestionLaws.{within-true}
 use Rattle.wavelet.specs.Levels.{sideAt, approximation, levelBand}
@@ -99,7 +102,7 @@ no-levels W H n e =
 
 module _ (W H : Side) (l n : ℕ) (lim : Limits W H l n) where
   abbrev T₀ : List Step
-  T₀ = steps W H (suc l)
+  T₀ = steps 1 W H (suc l)
 
   -- what is reached after the events es
   abbrev Then : List Event → World → Type 0
@@ -120,9 +123,9 @@ module _ (W H : Side) (l n : ℕ) (lim : Limits W H l n) where
   few : suc l ≤ maxLevels
   few = within-true 1 maxLevels (suc l) (lim .deep) .1
 
-  fresh-reached : (x : ℕ → ℤ) → Reached W H l n lim (freshWorld W H (suc l) n x) false (steps W H (suc l)) [] []
+  fresh-reached : (x : ℕ → ℤ) → Reached W H l n lim (freshWorld W H (suc l) n x) false (steps 1 W H (suc l)) [] []
   unfolding fresh
-  fresh-reached x = reached 0 (enter W H (suc l) 0) false _ (steps W H (suc l)) [] [] (record {
+  fresh-reached x = reached 0 (enter W H (suc l) 0) false _ (steps 1 W H (suc l)) [] [] (record {
     drawn-le = omega arith;
     level-le = first-le .0;
     band-le = first-le .1;
@@ -166,10 +169,13 @@ module _ (W H : Side) (l n : ℕ) (lim : Limits W H l n) where
   own g m = rowsOf W H g m l few
 
   exact : (g : Grid) → Map g → (f : FedRow) → Good W H l f → (i : ℕ) → i < bandColumns W (f .row .level) (f .row .band) →
-      levelBand wrap32 W H g (f .row .level) (f .row .band) (f .row .row) i ≡ levelBand whole W H g (f .row .level) (f .row .band) (f .row .row) i
+      levelBand fiveThreeFilter wrap32 W H g (f .row .level) (f .row .band) (f .row .row) i
+      ≡ levelBand fiveThreeFilter whole W H g (f .row .level) (f .row .band) (f .row .row) i
   exact g m f good =
-      in-band f (λ v i. levelBand wrap32 W H g v (f .row .band) (f .row .row) i ≡ levelBand whole W H g v (f .row .band) (f .row .row) i) good
-      (λ i p. map-band W H g m (good .k) (omega (arith, good .inside, few)) (f .row .band) (f .row .row) i (good .in-rows) p)
+      in-band f (λ v i. levelBand fiveThreeFilter wrap32 W H g v (f .row .band) (f .row .row) i
+      ≡ levelBand fiveThreeFilter whole W H g v (f .row .band) (f .row .row) i) good
+      (λ i p. map-band fiveThreeFilter five-three-laws W H g m (good .k) (five-three-few (omega (arith, good .inside, few))) (f .row .band) (f .row .row) i
+      (good .in-rows) p)
 
   words-of : (g : Grid) (m : Map g) (fs : List FedRow) → All (Good W H l) fs → All (HasRow W H g) fs → All (HasFedRow W (own g m)) fs
   words-of g m [] all-none all-none = all-none
@@ -182,15 +188,16 @@ module _ (W H : Side) (l n : ℕ) (lim : Limits W H l n) where
 
   -- every value of a map and of its low-low parts fits
   map-value : (g : Grid) (m : Map g) (k r c : ℕ) → k ≤ l → r < sideAt k H .length → c < sideAt k W .length →
-      valueFits k (approximation wrap32 W H g k r c) ≡ true
+      valueFits fiveThreeFilter k (approximation fiveThreeFilter wrap32 W H g k r c) ≡ true
   unfolding approximation sideAt
-  map-value g m zero r c h p q = height-fits (g r c) .1 (m .heights r c p q)
-  map-value g m (suc k) r c h p q = low-fits k _ .1
-      (rw (map-approximation W H g m (suc k) (omega (arith, few)) r c p q) (map-approximation-range W H g m (suc k) r c p q))
+  map-value g m zero r c h p q = height-fits fiveThreeFilter (g r c) .1 (m .heights r c p q)
+  map-value g m (suc k) r c h p q = low-fits fiveThreeFilter k _ .1
+      (rw (map-approximation fiveThreeFilter five-three-laws W H g m (suc k) (five-three-few (omega (arith, few))) r c p q)
+      (map-approximation-range fiveThreeFilter five-three-laws W H g m (suc k) r c p q))
 
   map-fitting : (g : Grid) (m : Map g) → Fits W H l (own g m)
   map-fitting g m k live = record {
-    fit = λ r c p q. subst (λ v. valueFits k v ≡ true) (sym (part-same W H g m l few k (live .0) r c p q)) (map-value g m k r c (live .0) p q);
+    fit = λ r c p q. subst (λ v. valueFits fiveThreeFilter k v ≡ true) (sym (part-same W H g m l few k (live .0) r c p q)) (map-value g m k r c (live .0) p q);
     has = bands-have W H g m l few k (live .0);
   }
 
@@ -564,12 +571,12 @@ module _ (W H : Side) (l n : ℕ) (lim : Limits W H l n) where
 
     -- the grid that has the rows fed
     module _ (live : e ≡ false) (over : t ≡ []) where
-      all-names : namesOf fs ≡ bandRowsOf (steps W H (suc l))
+      all-names : namesOf fs ≡ bandRowsOf (steps 1 W H (suc l))
       unfolding bandRowsOf
       all-names = sym (append-nil (namesOf fs)) ∙ ap (λ v. namesOf fs ++ bandRowsOf v) (sym over) ∙ kept .names live
 
       once : (f : FedRow) → times (f .row) (namesOf fs) ≤ 1
-      once f = rw (all-names, steps-once W H (suc l) (omega arith) (f .row)) (go (bandRowExists W H (suc l) (f .row .level) (f .row .band) (f .row .row)))
+      once f = rw (all-names, steps-once 1 (omega arith) W H (suc l) (omega arith) (f .row)) (go (bandRowExists W H (suc l) (f .row .level) (f .row .band) (f .row .row)))
         where
           go : (u : Bool) → pick u 1 0 ≤ 1
           go true = omega arith
@@ -593,8 +600,8 @@ module _ (W H : Side) (l n : ℕ) (lim : Limits W H l n) where
       words-at k c r i h b q = let z : suc k - 1 ≡ k = omega arith in lookup-words W H l few fs (kept .good) (rowName (suc k) c r) i (rw z q)
 
       -- the last row drawn has had every set of every level worked out
-      lines-at : (k : ℕ) → k ≤ l → hasCells (sideAt k W) (sideAt k H) ≡ true → levelHas (sideAt k W) (sideAt k H) (bandsAt W H (lookup fs) (suc l) k) ≡ true
-      lines-at k h cells = sets-have (sideAt k W) (sideAt k H) _ (λ m q.
+      lines-at : (k : ℕ) → k ≤ l → hasCells (sideAt k W) (sideAt k H) ≡ true → levelHas fiveThreeFilter (sideAt k W) (sideAt k H) (bandsAt W H (lookup fs) (suc l) k) ≡ true
+      lines-at k h cells = sets-have 1 (sideAt k W) (sideAt k H) _ (λ m q.
           fed-agrees .has (H .length - 1) (omega (arith, d-is, tall)) k (h, cells) m
           (omega (arith, q, last-set H k (cells-are (sideAt k W) (sideAt k H) cells .1))))
 
@@ -607,8 +614,8 @@ module _ (W H : Side) (l n : ℕ) (lim : Limits W H l n) where
 
       grid-map : Map grid
       grid-map = record {
-        heights = λ r c b q. height-fits (grid r c) .0
-            (subst (λ (g : Grid). valueFits 0 (g r c) ≡ true) (sym grid-is) (fed-agrees .fit r c (omega (arith, d-is)) q));
+        heights = λ r c b q. height-fits fiveThreeFilter (grid r c) .0
+            (subst (λ (g : Grid). valueFits fiveThreeFilter 0 (g r c) ≡ true) (sym grid-is) (fed-agrees .fit r c (omega (arith, d-is)) q));
       }
 
       grid-has : All (HasFedRow W (own grid grid-map)) fs
@@ -616,7 +623,8 @@ module _ (W H : Side) (l n : ℕ) (lim : Limits W H l n) where
         where
           one : (f : FedRow) → Good W H l f → lookup fs (f .row) ≡ f .run .numbers → HasFedRow W (own grid grid-map) f
           one f good eq i b =
-              sym (in-band f (λ v j. levelBand wrap32 W H grid v (f .row .band) (f .row .row) j ≡ lookup fs (rowName v (f .row .band) (f .row .row)) j) good
+              sym (in-band f (λ v j. levelBand fiveThreeFilter wrap32 W H grid v (f .row .band) (f .row .row) j
+              ≡ lookup fs (rowName v (f .row .band) (f .row .row)) j) good
               (λ j q. back-has W H l (lookup fs) words-at lines-at (good .k) (f .row .band) (good .inside)
               (kept-last (good .k) l (f .row .band) (good .kept)) (f .row .row) j (good .in-rows) q) i b
               ∙ ap (λ u. u i) eq)
@@ -654,8 +662,8 @@ module _ (W H : Side) (l n : ℕ) (lim : Limits W H l n) where
   claim _ es (reached d p e x t fs ds kept) = (
     counts W H l n lim d p (kept .drawn-le) (kept .level-le) (kept .band-le) e,
     record {
-      rows-once = steps-once W H (suc l) (omega arith);
-      heights-once = steps-heights W H (suc l);
+      rows-once = steps-once 1 (omega arith) W H (suc l) (omega arith);
+      heights-once = steps-heights 1 W H (suc l);
       wants = want-is d p e x t fs ds kept;
       feeds-turned = feed-turned d p e x t fs ds kept;
       feeds-on = feed-on d p e x t fs ds kept;

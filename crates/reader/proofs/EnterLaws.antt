@@ -41,14 +41,14 @@ module _ (L w₀ h₀ k wx w hy h r : ℕ) (q : Place) (s : Down L w₀ h₀ k w
   left : L - k ≡ suc (L - suc k)
   left = omega arith
 
-  here : q ≡ pick (both (hasCells W H) (opens H r)) (pick (needsTwo H r) (place (suc k) true 1) (dive (L - suc k) (suc k) (next W) (next H) (rowBelow H r)))
+  here : q ≡ pick (both (hasCells W H) (opens 1 H r)) (pick (needsTwo H r) (place (suc k) true 1) (dive (L - suc k) (suc k) (next W) (next H) (rowBelow H r)))
       (place k false 1)
   here = sym (s .goes) ∙ ap (λ (m : ℕ). dive m k W H r) left ∙ unfold dive in refl
 
-  pub down-out : both (hasCells W H) (opens H r) ≡ false → place k false 1 ≡ q
+  pub down-out : both (hasCells W H) (opens 1 H r) ≡ false → place k false 1 ≡ q
   down-out e = sym (here ∙ rw e refl)
 
-  module _ (into : both (hasCells W H) (opens H r) ≡ true) where
+  module _ (into : both (hasCells W H) (opens 1 H r) ≡ true) where
     pub down-two : needsTwo H r ≡ true → place (k + 1) true 1 ≡ q
     down-two e = let one : k + 1 ≡ suc k = omega arith in sym (here ∙ rw (into, e, one) refl)
 
@@ -57,7 +57,7 @@ module _ (L w₀ h₀ k wx w hy h r : ℕ) (q : Place) (s : Down L w₀ h₀ k w
     unfolding next
     down-on e wx′ w′ hy′ h′ r′ er ew ex eh ey =
         let one : k + 1 ≡ suc k = omega arith in
-        let cells = cells-are W H (halves (hasCells W H) (opens H r) into .0) in
+        let cells = cells-are W H (halves (hasCells W H) (opens 1 H r) into .0) in
         let below = below-in H r (cells .1) in
         rw one
         record {

@@ -15,6 +15,7 @@ use Rattle.numbers.specs.Signal.{pick, both}
 use Rattle.numbers.specs.Word.{wrap32}
 use Rattle.lifting.specs.Line.{lo}
 use Rattle.lifting.specs.Grid.{Side, count}
+use Rattle.lifting.specs.FiveThree.{fiveThreeFilter}
 use Rattle.wavelet.specs.Bands.{Grid, Band, LL, HL, LH, HH, Band-discrete, code, across, down, levelBack}
 use Rattle.wavelet.specs.Maps.{valueFits}
 use Rattle.wavelet.specs.Levels.{next, sideAt}
@@ -29,11 +30,14 @@ use Rattle.reader.specs.Store.{stretchAt, from, behind, hasCells, fedAt,
 use Rattle.reader.specs.Machine.{Place, place, bandAt, aloneAt, nowAt, lastOfSet, nextUp, nextAt, settled, finished, past, beyond, fedOn, dive, enter}
 use Rattle.reader.proofs.Looks.{named-code, code-lt, first-le}
 use Rattle.reader.proofs.OpenedSets.{set-is, last-is, first-low, low-is, below-is, Two, two-is, two-zero, two-later, rowAt-next, setAt-is}
-use Rattle.reader.proofs.OpenedSets.{rowAt-there, below-zero}
+use Rattle.reader.proofs.OpenedSets.{rowAt-there, below-zero, one-more}
 use Rattle.reader.proofs.CellLaws.{cells-yes, cells-are, cells-before, alone-low, alone-asks}
 use Rattle.reader.proofs.StepsLeft.{last-none, not-alone, alone-two, still-alone}
 use Rattle.level.proofs.SetMade.{Outcome, stops, goes, bind-outcome, FitAll}
-use Rattle.level.proofs.OpenedSets.{opens-first}
+use Rattle.wavelet.proofs.StepLaws.{set-there}
+use Rattle.wavelet.specs.Steps.{setOf}
+use Rattle.level.specs.Sets.{opens}
+use Rattle.level.proofs.OpenedSets.{opens-first, same-set}
 use Rattle.level.proofs.ReaderLaws.{ReaderLaws}
 use Rattle.level.proofs.FiveThreeBackLaws.{five-three-back-laws}
 
@@ -43,8 +47,8 @@ five = five-three-back-laws
 
 module _ (W H : Side) (p : Band → Grid) (n : ℕ) (tested : Tested W H p n) where
   -- a set that is worked out has been tested too
-  tested-next : SetHas W H p n → Tested W H p (suc n)
-  tested-next h m b = elim (ℕ-discrete m n) [ yes e ↦ subst (SetHas W H p) (sym e) h | no e ↦ tested m (omega (arith, e)) ]
+  tested-next : SetHas 1 W H p n → Tested W H p (suc n)
+  tested-next h m b = elim (ℕ-discrete m n) [ yes e ↦ subst (SetHas 1 W H p) (sym e) h | no e ↦ tested m (omega (arith, e)) ]
 
 -- what is left by a set worked out, with what was tested before
 with-tested : (N : Type 0) (P Q : (ℕ → ℤ) → Type 0) (t : Tried) → ((y : ℕ → ℤ) → P y → Q y) → Outcome N P t → Outcome N Q t
@@ -61,10 +65,7 @@ laws = record {
   feed-old = five .feed-old;
   feed-new = five .feed-new;
   got-none = five .got-none;
-  set-first = five .set-first;
-  set-there = five .set-there;
-  set-next = five .set-next;
-  set-same = five .set-same;
+  looks = five .looks;
   before-first = λ W H p x. (five .before-first W H p x, λ m b. absurd (omega arith));
   before-next = λ k W H p n x b s. (five .before-next k W H p n x b (s .0), tested-next W H p n (s .1) (five .made-has k W H p n x (s .0)));
   work-last = λ k W H p n x some there before got. with-tested _ _ _ _ (λ y a. ((a .0, before .1), a .1))
@@ -272,7 +273,7 @@ module _ (W H : Side) (l : ℕ) (P : Rows) where
     now-there : (u : Bool) → nowAt W H (suc l) d k u ≤ lastSet (sideAt k H)
     unfolding nowAt setAt
     now-there true = omega arith
-    now-there false = laws .set-there (sideAt k H) (rowAt H d k)
+    now-there false = set-there 1 (sideAt k H) (rowAt H d k)
 
     got-kept : (c : Band) → keptAt (eqb (suc k) (suc l)) c ≡ true → Got k n m c
     got-kept c kept = s .got k live refl c kept (code-lt c)
@@ -303,7 +304,7 @@ module _ (W H : Side) (l : ℕ) (P : Rows) where
         omega (arith, f, c .1, first-low (sideAt k H), setAt-is H d k, set-is (sideAt k H) (rowAt H d k), low-is (sideAt k H)) in
         (q, cells-yes (sideAt (suc k) W) (sideAt (suc k) H) (omega arith) some)
 
-    low-part : k < l → (r i : ℕ) → levelBack wrap32 (sideAt (suc k) W) (sideAt (suc k) H) (B (suc k)) r i ≡ B k LL r i
+    low-part : k < l → (r i : ℕ) → levelBack fiveThreeFilter wrap32 (sideAt (suc k) W) (sideAt (suc k) H) (B (suc k)) r i ≡ B k LL r i
     unfolding bandsBy rebuilt
     low-part q r i = let z : suc l - suc k ≡ suc (suc l - suc (suc k)) = omega arith in rw z refl
 
@@ -315,7 +316,7 @@ module _ (W H : Side) (l : ℕ) (P : Rows) where
         ∙ there i (unfold next in b) ∙ low-part q (rowAt H d (suc k)) i
       where
         there : (i : ℕ) → i < next (sideAt k W) .length → K .made (next (sideAt k W)) (next (sideAt k H) .start) (rowAt H d (suc k)) (mem W (suc k) x) i
-            ≡ levelBack wrap32 (sideAt (suc k) W) (sideAt (suc k) H) (B (suc k)) (rowAt H d (suc k)) i
+            ≡ levelBack fiveThreeFilter wrap32 (sideAt (suc k) W) (sideAt (suc k) H) (B (suc k)) (rowAt H d (suc k)) i
         there = laws .made-is (suc k) (sideAt (suc k) W) (sideAt (suc k) H) (B (suc k)) (setAt H d (suc k)) (mem W (suc k) x) s (rowAt H d (suc k))
             (rowAt-there H d due (suc k) (cells-are (sideAt (suc k) W) (sideAt (suc k) H) (on .1) .1)) (sym (setAt-is H d (suc k)))
 
@@ -453,16 +454,16 @@ module _ (W H : Side) (l : ℕ) (P : Rows) where
         to : Place
         to = dive m (suc k) (next (sideAt k W)) (next (sideAt k H)) (rowBelow (sideAt k H) (rowAt H d k))
 
-        opens : K .opens (sideAt k H) (rowAt H d k) ≡ true
-        opens = rw zero-row (opens-first (sideAt k H))
+        fresh : opens 1 (sideAt k H) (rowAt H d k) ≡ true
+        fresh = rw zero-row (opens-first 1 (sideAt k H))
 
         go : (c : Bool) → hasCells (sideAt k W) (sideAt k H) ≡ c → (t : Bool) → needsTwo (sideAt k H) (rowAt H d k) ≡ t → (Waits (suc k) → HeldAt d to x) →
-            HeldAt d (pick (both c (K .opens (sideAt k H) (rowAt H d k))) (pick t (place (suc k) true 1) to) (place k false 1)) x
+            HeldAt d (pick (both c (opens 1 (sideAt k H) (rowAt H d k))) (pick t (place (suc k) true 1) to) (place k false 1)) x
         go false c t _ ih = up-held d k 1 x (rests k (omega arith) c f)
-        go true c false t ih = rw opens (ih (zero-waits k (zero-set k zero-row t) f))
+        go true c false t ih = rw fresh (ih (zero-waits k (zero-set k zero-row t) f))
         go true c true t ih =
             let live : Live k = (omega arith, c) in
-            rw opens (rw (alone-place k live t) (alone-waits k (omega arith) (two-is (sideAt k H) (rowAt H d k) t .odd) f))
+            rw fresh (rw (alone-place k live t) (alone-waits k (omega arith) (two-is (sideAt k H) (rowAt H d k) t .odd) f))
 
   -- ---- the first: nothing is needed
   pub first-holds : (x : ℕ → ℤ) → HeldAt 0 (enter W H (suc l) 0) x
@@ -686,7 +687,7 @@ module _ (W H : Side) (l : ℕ) (P : Rows) where
     unfolding dive sideAt rowAt
     dive-holds zero k e new f = let z : k ≡ suc l = omega arith in rw z (up-held (suc d) (suc l) 0 x (last-waits (suc d) x (rw z at f)))
     dive-holds (suc m) k e new f =
-        go (hasCells (sideAt k W) (sideAt k H)) refl (K .opens (sideAt k H) (rowAt H (suc d) k)) refl (dive-holds m (suc k) (omega arith))
+        go (hasCells (sideAt k W) (sideAt k H)) refl (opens 1 (sideAt k H) (rowAt H (suc d) k)) refl (dive-holds m (suc k) (omega arith))
       where
         S : Side
         S = sideAt k H
@@ -701,9 +702,9 @@ module _ (W H : Side) (l : ℕ) (P : Rows) where
         one = two-later (sideAt k H) (rowAt H (suc d) k) (omega (arith, new))
 
         -- the set after the one that was
-        next-set : hasCells (sideAt k W) (sideAt k H) ≡ true → K .opens (sideAt k H) (rowAt H (suc d) k) ≡ true → setAt H (suc d) k ≡ suc (setAt H d k)
+        next-set : hasCells (sideAt k W) (sideAt k H) ≡ true → opens 1 (sideAt k H) (rowAt H (suc d) k) ≡ true → setAt H (suc d) k ≡ suc (setAt H d k)
         next-set c o =
-            setAt-is H (suc d) k ∙ ap (K .set S) new ∙ laws .set-next S (rowAt H d k) (there c) (rw new at o) ∙ ap suc (sym (setAt-is H d k))
+            setAt-is H (suc d) k ∙ ap (setOf 1 S) new ∙ one-more S (rowAt H d k) (rw new at o) ∙ ap suc (sym (setAt-is H d k))
 
         next-row : hasCells (sideAt k W) (sideAt k H) ≡ true → setAt H (suc d) k ≡ suc (setAt H d k) →
             rowBelow (sideAt k H) (rowAt H (suc d) k) ≡ suc (rowBelow (sideAt k H) (rowAt H d k))
@@ -721,12 +722,12 @@ module _ (W H : Side) (l : ℕ) (P : Rows) where
         waits : hasCells (sideAt k W) (sideAt k H) ≡ true → setAt H (suc d) k ≡ suc (setAt H d k) → Waits (suc d) x (suc k)
         waits c z j live q = elim (ℕ-discrete j k) [
           | yes y ↦ rw (y, z) (laws .before-next k (sideAt k W) (sideAt k H) (B k) (setAt H d k) (mem W k x)
-              (omega (arith, z, setAt-is H (suc d) k, laws .set-there S (rowAt H (suc d) k))) (s .below refl k (omega arith, c) (omega arith)))
+              (omega (arith, z, setAt-is H (suc d) k, set-there 1 S (rowAt H (suc d) k))) (s .below refl k (omega arith, c) (omega arith)))
           | no y ↦ f j live (omega (arith, y))
         ]
 
-        same-set : hasCells (sideAt k W) (sideAt k H) ≡ true → K .opens (sideAt k H) (rowAt H (suc d) k) ≡ false → setAt H (suc d) k ≡ setAt H d k
-        same-set c o = setAt-is H (suc d) k ∙ ap (K .set S) new ∙ laws .set-same S (rowAt H d k) (there c) (rw new at o) ∙ sym (setAt-is H d k)
+        stays-set : hasCells (sideAt k W) (sideAt k H) ≡ true → opens 1 (sideAt k H) (rowAt H (suc d) k) ≡ false → setAt H (suc d) k ≡ setAt H d k
+        stays-set c o = setAt-is H (suc d) k ∙ ap (setOf 1 S) new ∙ same-set 1 S (rowAt H d k) (rw new at o) ∙ sym (setAt-is H d k)
 
         stays : setAt H (suc d) k ≡ setAt H d k → Held (suc d) k false 1 x
         stays z = record {
@@ -736,11 +737,11 @@ module _ (W H : Side) (l : ℕ) (P : Rows) where
           got = λ j live q c kept less. absurd (no-first j (omega arith) c kept less);
         }
 
-        go : (c : Bool) → hasCells (sideAt k W) (sideAt k H) ≡ c → (o : Bool) → K .opens (sideAt k H) (rowAt H (suc d) k) ≡ o →
+        go : (c : Bool) → hasCells (sideAt k W) (sideAt k H) ≡ c → (o : Bool) → opens 1 (sideAt k H) (rowAt H (suc d) k) ≡ o →
             (rowBelow (sideAt k H) (rowAt H (suc d) k) ≡ suc (rowBelow (sideAt k H) (rowAt H d k)) → Waits (suc d) x (suc k) → HeldAt (suc d) to x) →
             HeldAt (suc d) (pick (both c o) (pick (needsTwo (sideAt k H) (rowAt H (suc d) k)) (place (suc k) true 1) to) (place k false 1)) x
         go false c o _ ih = up-held (suc d) k 1 x (rests (suc d) x k (omega arith) c f)
-        go true c false o ih = up-held (suc d) k 1 x (stays (same-set c o))
+        go true c false o ih = up-held (suc d) k 1 x (stays (stays-set c o))
         go true c true o ih = rw one (let z = next-set c o in ih (next-row c z) (waits c z))
 
     pub enter-holds : HeldAt (suc d) (enter W H (suc l) (suc d)) x
@@ -759,12 +760,12 @@ module _ (W H : Side) (l : ℕ) (P : Rows) where
         ap (λ (z : ℕ → ℤ). K .made W (H .start) d z c) (sym (first-mem W x))
         ∙ laws .made-is 0 W H (B 0) (setAt H d 0) (mem W 0 x) (s .below refl 0 top (omega arith)) d due refl c p
 
-    pub height-fit : (c : ℕ) → c < W .length → valueFits 0 (partAt W H P (suc l) 0 d c) ≡ true
+    pub height-fit : (c : ℕ) → c < W .length → valueFits fiveThreeFilter 0 (partAt W H P (suc l) 0 d c) ≡ true
     unfolding sideAt rowAt setAt
     height-fit = laws .made-fits 0 W H (B 0) (setAt H d 0) (mem W 0 x) (s .below refl 0 top (omega arith)) d due refl
 
   -- ---- the sets that were worked out
-  pub sets-tested : (d b : ℕ) (x : ℕ → ℤ) → Held d 0 false b x → (k : ℕ) → Live k → (m : ℕ) → m ≤ setAt H d k → SetHas (sideAt k W) (sideAt k H) (B k) m
+  pub sets-tested : (d b : ℕ) (x : ℕ → ℤ) → Held d 0 false b x → (k : ℕ) → Live k → (m : ℕ) → m ≤ setAt H d k → SetHas 1 (sideAt k W) (sideAt k H) (B k) m
   sets-tested d b x s k live m h =
       let q = s .below refl k live (omega arith) in
       tested-next (sideAt k W) (sideAt k H) (B k) (setAt H d k) (q .1)

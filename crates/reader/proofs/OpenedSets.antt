@@ -12,12 +12,14 @@ use Rattle.wavelet.specs.Levels.{next, sideAt}
 use Rattle.wavelet.specs.Order.{firstSet, lastSet}
 use Rattle.wavelet.specs.Steps.{setOf, setsBefore}
 use Rattle.level.specs.Sets.{opens}
+use Rattle.wavelet.proofs.StepLaws.{set-one}
+use Rattle.level.proofs.OpenedSets.{opens-next}
 use Rattle.reader.specs.Sets.{rowBelow, needsTwo, rowAt, setAt}
 
 -- ---- the set of a row, by numbers
-pub set-is : (S : Side) (r : ℕ) → setOf S r ≡ min ((S .start % 2 + r + 1) / 2) ((S .start % 2 + (S .length - 1)) / 2)
-unfolding setOf lastSet
-set-is S r = refl
+pub set-is : (S : Side) (r : ℕ) → setOf 1 S r ≡ min ((S .start % 2 + r + 1) / 2) ((S .start % 2 + (S .length - 1)) / 2)
+unfolding lastSet
+set-is S r = set-one S r
 
 pub last-is : (S : Side) → lastSet S ≡ (S .start % 2 + (S .length - 1)) / 2
 unfolding lastSet
@@ -31,7 +33,7 @@ pub low-is : (S : Side) → count lo S ≡ (S .length + 1 - S .start % 2) / 2
 unfolding count
 low-is S = refl
 
-pub below-is : (S : Side) (r : ℕ) → rowBelow S r ≡ setOf S r - S .start % 2
+pub below-is : (S : Side) (r : ℕ) → rowBelow S r ≡ setOf 1 S r - S .start % 2
 unfolding rowBelow firstSet
 below-is S r = refl
 
@@ -44,7 +46,7 @@ unfolding sideAt next
 side-long k S = refl
 
 -- ---- a row that needs two sets
-two-parts : (S : Side) (r : ℕ) → needsTwo S r ≡ true → (r ≡ 0) × (0 < setOf S r)
+two-parts : (S : Side) (r : ℕ) → needsTwo S r ≡ true → (r ≡ 0) × (0 < setOf 1 S r)
 unfolding needsTwo
 two-parts S r e = let a = halves (eqb r 0) _ e in (eqb-true r 0 (a .0), above _ _ (a .1))
   where
@@ -54,7 +56,7 @@ two-parts S r e = let a = halves (eqb r 0) _ e in (eqb-true r 0 (a .0), above _ 
 pub record Two (S : Side) (r : ℕ) : Type 0 where
   pub row : r ≡ 0
   pub odd : S .start % 2 ≡ 1
-  pub set : setOf S r ≡ 1
+  pub set : setOf 1 S r ≡ 1
   pub long : 1 < S .length
 
 pub two-is : (S : Side) (r : ℕ) → needsTwo S r ≡ true → Two S r
@@ -64,7 +66,7 @@ two-is S r e =
     let p = a .1 in
     record { row = z; odd = omega (arith, set-is S r, p); set = omega (arith, set-is S r, p); long = omega (arith, set-is S r, p) }
 
-pub two-zero : (S : Side) → needsTwo S 0 ≡ false → setOf S 0 ≡ 0
+pub two-zero : (S : Side) → needsTwo S 0 ≡ false → setOf 1 S 0 ≡ 0
 unfolding needsTwo
 two-zero S e = none _ _ (omega arith) e
   where
@@ -76,25 +78,29 @@ unfolding needsTwo
 two-later S r p = rw (ne-eqb r 0 (λ z. omega arith)) refl
 
 -- ---- the sets that a row needs
-pub sets-none : (S : Side) (r : ℕ) → opens S r ≡ false → setsBefore S (suc r) - setsBefore S r ≡ 0
+pub sets-none : (S : Side) (r : ℕ) → opens 1 S r ≡ false → setsBefore 1 S (suc r) - setsBefore 1 S r ≡ 0
 unfolding opens
-sets-none S r e = let p = ltb-false (setsBefore S r) (setsBefore S (suc r)) e in omega arith
+sets-none S r e = let p = ltb-false (setsBefore 1 S r) (setsBefore 1 S (suc r)) e in omega arith
 
 pub record One (S : Side) (r : ℕ) : Type 0 where
-  pub one : setsBefore S (suc r) - setsBefore S r ≡ 1
-  pub is : setsBefore S r ≡ setOf S r
+  pub one : setsBefore 1 S (suc r) - setsBefore 1 S r ≡ 1
+  pub is : setsBefore 1 S r ≡ setOf 1 S r
 
-pub sets-one : (S : Side) (r : ℕ) → opens S r ≡ true → needsTwo S r ≡ false → One S r
+pub sets-one : (S : Side) (r : ℕ) → opens 1 S r ≡ true → needsTwo S r ≡ false → One S r
 unfolding opens setsBefore
 sets-one S zero e f = let z = two-zero S f in record { one = omega arith; is = omega arith }
 sets-one S (suc q) e f =
-    let p : setOf S q + 1 < setOf S (suc q) + 1 = ltb-true _ _ e in
+    let p : setOf 1 S q + 1 < setOf 1 S (suc q) + 1 = ltb-true _ _ e in
     record { one = omega (arith, set-is S q, set-is S (suc q)); is = omega (arith, set-is S q, set-is S (suc q)) }
 
-pub sets-two : (S : Side) (r : ℕ) → Two S r → (setsBefore S (suc r) - setsBefore S r ≡ 2) × (setsBefore S r ≡ 0)
+pub sets-two : (S : Side) (r : ℕ) → Two S r → (setsBefore 1 S (suc r) - setsBefore 1 S r ≡ 2) × (setsBefore 1 S r ≡ 0)
 unfolding setsBefore
 sets-two S zero t = (omega (arith, t .set), omega arith)
 sets-two S (suc q) t = absurd (omega (arith, t .row))
+
+-- a row after the first needs one set more, or none
+pub one-more : (S : Side) (r : ℕ) → opens 1 S (suc r) ≡ true → setOf 1 S (suc r) ≡ suc (setOf 1 S r)
+one-more S r e = omega (arith, opens-next 1 S r e, set-is S r, set-is S (suc r))
 
 -- ---- the rows that row d waits for
 pub below-there : (S : Side) (r : ℕ) → 0 < count lo S → rowBelow S r < count lo S
@@ -108,7 +114,7 @@ module _ (H : Side) (d : ℕ) where
   unfolding rowAt
   rowAt-next k = refl
 
-  pub setAt-is : (k : ℕ) → setAt H d k ≡ setOf (sideAt k H) (rowAt H d k)
+  pub setAt-is : (k : ℕ) → setAt H d k ≡ setOf 1 (sideAt k H) (rowAt H d k)
   unfolding setAt
   setAt-is k = refl
 

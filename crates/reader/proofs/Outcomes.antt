@@ -8,6 +8,7 @@ use lib.Dec.{eqb}
 use borrow.Author.Tests.{lt-ltb, eqb-true}
 use Rattle.lifting.specs.Grid.{Side, count}
 use Rattle.lifting.specs.Halves.{fronted}
+use Rattle.lifting.specs.FiveThree.{fiveThreeFilter}
 use Rattle.wavelet.specs.Limits.{maxSample}
 use Rattle.wavelet.specs.Bands.{Band, LL, HL, LH, HH, code, across}
 use Rattle.wavelet.specs.Order.{rowName, setRow}
@@ -39,7 +40,7 @@ pub row-out : (W H : Side) (l d : ℕ) (p : Place) (e : Bool) → d < H .length 
 unfolding fronted heightRow maxSample
 row-out W H l d p e due wide P y h z c b =
     let g = partAt W H P (suc l) 0 in
-    let fit = height-fits (g d c) .0 (height-fit W H l P d y due wide h c b) in
+    let fit = height-fits fiveThreeFilter (g d c) .0 (height-fit W H l P d y due wide h c b) in
     rw (lt-ltb c (W .length) b) (ap height16 (height-made W H l P d y due wide h c b) ∙ height-kept (g d c) (fit .0) (fit .1))
 
 -- a row that is kept stands among the bands by its name

@@ -10,6 +10,8 @@ use lib.Dec.{T, leb, ltb}
 use borrow.Author.Tests.{le-leb, eq-eqb, leb-true, ltb-true}
 use Rattle.numbers.specs.Signal.{pick}
 use Rattle.numbers.specs.Word.{whole}
+use Rattle.lifting.specs.FiveThree.{fiveThreeFilter}
+use Rattle.lifting.proofs.FiveThreeFilter.{five-three-laws}
 use Rattle.wavelet.specs.Bands.{Grid, Band}
 use Rattle.lifting.specs.Grid.{Side}
 use Rattle.wavelet.specs.Levels.{levelBand}
@@ -112,16 +114,16 @@ exists-parts W H L k b r e =
 
 row-in-range : (W H : Side) (L : ℕ) (g : Grid) → IsMap (W .length) (H .length) g → (y : RowName) →
     bandRowExists W H L (y .level) (y .band) (y .row) ≡ true → (i : ℕ) →
-    i < bandColumns W (y .level) (y .band) → natAbs (levelBand whole W H g (y .level) (y .band) (y .row) i) ≤ range (y .level)
+    i < bandColumns W (y .level) (y .band) → natAbs (levelBand fiveThreeFilter whole W H g (y .level) (y .band) (y .row) i) ≤ range fiveThreeFilter (y .level)
 unfolding bandRows bandColumns
 row-in-range W H L g m y e = let p = exists-parts W H L (y .level) (y .band) (y .row) e in at (y .level) (p .0) (p .1)
   where
     at : (v : ℕ) → 1 ≤ v → y .row < bandRows H v (y .band) → (i : ℕ) → i < bandColumns W v (y .band) →
-        natAbs (levelBand whole W H g v (y .band) (y .row) i) ≤ range v
+        natAbs (levelBand fiveThreeFilter whole W H g v (y .band) (y .row) i) ≤ range fiveThreeFilter v
     at zero h r i p = absurd (omega arith)
     at (suc k) h r i p =
         let z : suc k - 1 ≡ k = omega arith in
-        map-band-range W H g m k (y .band) (y .row) i (rw z at r) (rw z at p)
+        map-band-range fiveThreeFilter five-three-laws W H g m k (y .band) (y .row) i (rw z at r) (rw z at p)
 
 module _ (W H : Side) (L n : ℕ) (across : W .start ≤ maxOrigin) (down : H .start ≤ maxOrigin) (ok : setUpQuestion W H L n ≡ 0) (rows : RowName → Area)
     (sized : Sized W H L rows) (outs : ℕ → Area) (room : (i : ℕ) → W .length ≤ outs i .size) (x : ℕ → ℤ) where
@@ -129,7 +131,7 @@ module _ (W H : Side) (L n : ℕ) (across : W .start ≤ maxOrigin) (down : H .s
   w₀ = freshWorld W H L n x
 
   abbrev T₀ : List Step
-  T₀ = steps W H L
+  T₀ = steps 1 W H L
 
   claim : (cs : List Call) → Demand3 W H L (events cs w₀) (λ c. event c (final cs w₀))
   claim cs = demand-3 W H L n across down ok x cs .claim
@@ -201,7 +203,7 @@ module _ (W H : Side) (L n : ℕ) (across : W .start ≤ maxOrigin) (down : H .s
   unfolding runFits
   run-fits y e g m h =
       each-every (rows y .size) _ (λ i p. let q : i < bandColumns W (y .level) (y .band) = rw (h .are y e .size) at p in
-      le-leb (natAbs (rows y .numbers i)) (range (y .level)) (rw (h .are y e .values i q) (row-in-range W H L g m y e i q)))
+      le-leb (natAbs (rows y .numbers i)) (range fiveThreeFilter (y .level)) (rw (h .are y e .values i q) (row-in-range W H L g m y e i q)))
 
   module _ (cs : List Call) (fair : Fair (events cs w₀)) where
     abbrev es : List Event
@@ -438,7 +440,7 @@ module _ (W H : Side) (L n : ℕ) (across : W .start ≤ maxOrigin) (down : H .s
 module _ (W H : Side) (L n : ℕ) (across : W .start ≤ maxOrigin) (down : H .start ≤ maxOrigin) (ok : setUpQuestion W H L n ≡ 0) (rows : RowName → Area)
     (outs : ℕ → Area) (room : (i : ℕ) → W .length ≤ outs i .size) (x : ℕ → ℤ) where
   abbrev turnsOf : List Call
-  turnsOf = played rows outs (length (steps W H L)) (freshWorld W H L n x)
+  turnsOf = played rows outs (length (steps 1 W H L)) (freshWorld W H L n x)
 
   pub played-holds : Played W H L rows (events turnsOf (freshWorld W H L n x)) (λ c. event c (final turnsOf (freshWorld W H L n x)))
   played-holds = record {

@@ -13,6 +13,7 @@ use lib.Seq.{getD-append-add}
 use lib.Dec.{eqb}
 use borrow.Author.Tests.{leb-true}
 use Rattle.numbers.specs.Signal.{pick, both}
+use Rattle.lifting.specs.FiveThree.{fiveThreeFilter}
 use Rattle.wavelet.proofs.QuestionLaws.{within-true}
 use Rattle.lifting.specs.Grid.{Side, count}
 use Rattle.lifting.specs.Halves.{fronted}
@@ -62,7 +63,7 @@ namesOf = map (λ f. f .row)
 pub dive-le : (l m k : ℕ) (W H : Side) (r : ℕ) → k + m ≡ suc l → (dive m k W H r .level ≤ suc l) × (dive m k W H r .band ≤ 4)
 unfolding dive
 dive-le l zero k W H r e = (omega arith, omega arith)
-dive-le l (suc m) k W H r e = go (both (hasCells W H) (opens H r)) (needsTwo H r) _ (dive-le l m (suc k) (next W) (next H) (rowBelow H r) (omega arith))
+dive-le l (suc m) k W H r e = go (both (hasCells W H) (opens 1 H r)) (needsTwo H r) _ (dive-le l m (suc k) (next W) (next H) (rowBelow H r) (omega arith))
   where
     go : (t u : Bool) (q : Place) → (q .level ≤ suc l) × (q .band ≤ 4) →
         (pick t (pick u (place (suc k) true 1) q) (place k false 1) .level ≤ suc l) × (pick t (pick u (place (suc k) true 1) q) (place k false 1) .band ≤ 4)
@@ -74,7 +75,7 @@ dive-le l (suc m) k W H r e = go (both (hasCells W H) (opens H r)) (needsTwo H r
 pub dive-deep : (m k : ℕ) (W H : Side) (r : ℕ) → (k ≤ dive m k W H r .level) × (k ≡ dive m k W H r .level → dive m k W H r .alone ≡ false)
 unfolding dive
 dive-deep zero k W H r = (omega arith, λ _. refl)
-dive-deep (suc m) k W H r = go (both (hasCells W H) (opens H r)) (needsTwo H r) _ (dive-deep m (suc k) (next W) (next H) (rowBelow H r))
+dive-deep (suc m) k W H r = go (both (hasCells W H) (opens 1 H r)) (needsTwo H r) _ (dive-deep m (suc k) (next W) (next H) (rowBelow H r))
   where
     go : (t u : Bool) (q : Place) → (suc k ≤ q .level) × (suc k ≡ q .level → q .alone ≡ false) →
         (k ≤ pick t (pick u (place (suc k) true 1) q) (place k false 1) .level)
@@ -92,13 +93,13 @@ module _ (W H : Side) (l : ℕ) where
     pub kept : keptAt (eqb (suc k) (suc l)) (f .row .band) ≡ true
     pub in-rows : f .row .row < count (down (f .row .band)) (sideAt k H)
     pub size : f .run .size ≡ bandColumns W (f .row .level) (f .row .band)
-    pub range-of : (i : ℕ) → i < f .run .size → natAbs (f .run .numbers i) ≤ range (f .row .level)
+    pub range-of : (i : ℕ) → i < f .run .size → natAbs (f .run .numbers i) ≤ range fiveThreeFilter (f .row .level)
 
   -- what holds of rows that have those fed
   pub record Agrees (P : Rows) (d : ℕ) (p : Place) (e : Bool) (x : ℕ → ℤ) (ds : List (ℕ → ℤ)) : Type 0 where
-    pub fit : (r c : ℕ) → r < d → c < W .length → valueFits 0 (partAt W H P (suc l) 0 r c) ≡ true
+    pub fit : (r c : ℕ) → r < d → c < W .length → valueFits fiveThreeFilter 0 (partAt W H P (suc l) 0 r c) ≡ true
     pub shows : (r c : ℕ) → r < d → c < W .length → getD ds r (λ _. pos 0) c ≡ partAt W H P (suc l) 0 r c
-    pub has : (r : ℕ) → r < d → (k : ℕ) → Live W H l P k → (m : ℕ) → m ≤ setAt H r k → SetHas (sideAt k W) (sideAt k H) (bandsAt W H P (suc l) k) m
+    pub has : (r : ℕ) → r < d → (k : ℕ) → Live W H l P k → (m : ℕ) → m ≤ setAt H r k → SetHas 1 (sideAt k W) (sideAt k H) (bandsAt W H P (suc l) k) m
     pub holds : e ≡ false → d < H .length → HeldAt W H l P d p x
     pub refuses : e ≡ true → Fits W H l P → ⊥
 
@@ -109,7 +110,7 @@ module _ (W H : Side) (l : ℕ) where
     pub left : stepsLeft W H l d p ≡ t
     pub drawn : length ds ≡ d
     pub good : All Good fs
-    pub names : e ≡ false → namesOf fs ++ bandRowsOf t ≡ bandRowsOf (steps W H (suc l))
+    pub names : e ≡ false → namesOf fs ++ bandRowsOf t ≡ bandRowsOf (steps 1 W H (suc l))
     pub rows : (P : Rows) → All (HasFedRow W P) fs → Agrees P d p e x ds
 
   module _ (n : ℕ) (lim : Limits W H l n) where

@@ -16,10 +16,13 @@ use Rattle.numbers.proofs.Words.{abs-fits}
 use Rattle.numbers.proofs.Sweep.{both}
 use Rattle.lifting.specs.Line.{Half, lo, hi}
 use Rattle.lifting.specs.Grid.{Side, count}
+use Rattle.lifting.specs.FiveThree.{fiveThreeFilter}
+use Rattle.lifting.proofs.FiveThreeFilter.{five-three-laws}
 use Rattle.wavelet.specs.Limits.{maxLevels, range}
 use Rattle.wavelet.specs.Bands.{Grid, Band, LL, HL, LH, HH, code, across, down, subband, levelBack, levelHas}
 use Rattle.wavelet.specs.Maps.{IsMap}
 use Rattle.wavelet.specs.Order.{RowName, rowName, sameName, times}
+use Rattle.wavelet.proofs.LimitLaws.{five-three-few}
 use Rattle.wavelet.proofs.Bridge.{range-small, map-words, map-doubles, map-level-has}
 use Rattle.wavelet.specs.Levels.{next, sideAt, approximation, levelBand}
 use Rattle.wavelet.specs.View.{bandColumns}
@@ -44,13 +47,13 @@ part-is W H P l k h = let z : suc l - k ≡ suc (suc l - suc k) = omega arith in
 module _ (W H : Side) (g : Grid) (m : IsMap (W .length) (H .length) g) (l : ℕ) (few : suc l ≤ maxLevels) where
   -- the rows of its plane, over words
   abbrev pub rowsOf : Rows
-  rowsOf x i = levelBand wrap32 W H g (x .level) (x .band) (x .row) i
+  rowsOf x i = levelBand fiveThreeFilter wrap32 W H g (x .level) (x .band) (x .row) i
 
   abbrev part : ℕ → Grid
-  part k = approximation wrap32 W H g k
+  part k = approximation fiveThreeFilter wrap32 W H g k
 
   bands-same : (k : ℕ) (a : Grid) → Same (sideAt (suc k) W) (sideAt (suc k) H) a (part (suc k)) →
-      SameBands (sideAt k W) (sideAt k H) (bandsBy rowsOf (suc k) a) (subband wrap32 (sideAt k W) (sideAt k H) (part k))
+      SameBands (sideAt k W) (sideAt k H) (bandsBy rowsOf (suc k) a) (subband fiveThreeFilter wrap32 (sideAt k W) (sideAt k H) (part k))
   unfolding bandsBy levelBand approximation sideAt next across down
   bands-same k a e LL r c p q = e r c p q
   bands-same k a e HL r c p q = refl
@@ -58,10 +61,11 @@ module _ (W H : Side) (g : Grid) (m : IsMap (W .length) (H .length) g) (l : ℕ)
   bands-same k a e HH r c p q = refl
 
   level-same : (k : ℕ) (a : Grid) → suc k ≤ maxLevels → Same (sideAt (suc k) W) (sideAt (suc k) H) a (part (suc k)) →
-      Same (sideAt k W) (sideAt k H) (levelBack wrap32 (sideAt k W) (sideAt k H) (bandsBy rowsOf (suc k) a)) (part k)
+      Same (sideAt k W) (sideAt k H) (levelBack fiveThreeFilter wrap32 (sideAt k W) (sideAt k H) (bandsBy rowsOf (suc k) a)) (part k)
   level-same k a h e r c p q =
-      level-back-reads wrap32 (sideAt k W) (sideAt k H) _ _ (bands-same k a e) r c p q
-      ∙ words-back-forward (sideAt k W) (sideAt k H) (part k) (map-words W H g m k (omega arith)) (map-doubles W H g m k h) r c p q
+      level-back-reads fiveThreeFilter five-three-laws wrap32 (sideAt k W) (sideAt k H) _ _ (bands-same k a e) r c p q
+      ∙ words-back-forward fiveThreeFilter five-three-laws (sideAt k W) (sideAt k H) (part k) (map-words fiveThreeFilter five-three-laws W H g m k
+      (five-three-few (omega arith))) (map-doubles fiveThreeFilter five-three-laws W H g m k (five-three-few h)) r c p q
 
   back-same : (i k : ℕ) → k + i ≡ suc l → Same (sideAt k W) (sideAt k H) (rebuilt W H rowsOf i k) (part k)
   unfolding rebuilt
@@ -71,10 +75,10 @@ module _ (W H : Side) (g : Grid) (m : IsMap (W .length) (H .length) g) (l : ℕ)
   pub part-same : (k : ℕ) → k ≤ l → Same (sideAt k W) (sideAt k H) (partAt W H rowsOf (suc l) k) (part k)
   part-same k h = level-same k (rebuilt W H rowsOf (suc l - suc k) (suc k)) (omega arith) (back-same (suc l - suc k) (suc k) (omega arith))
 
-  pub bands-have : (k : ℕ) → k ≤ l → levelHas (sideAt k W) (sideAt k H) (bandsAt W H rowsOf (suc l) k) ≡ true
+  pub bands-have : (k : ℕ) → k ≤ l → levelHas fiveThreeFilter (sideAt k W) (sideAt k H) (bandsAt W H rowsOf (suc l) k) ≡ true
   bands-have k h =
-      level-has-reads (sideAt k W) (sideAt k H) _ _ (bands-same k _ (back-same (suc l - suc k) (suc k) (omega arith)))
-      ∙ unfold levelBand in map-level-has W H g m k (omega arith)
+      level-has-reads fiveThreeFilter five-three-laws (sideAt k W) (sideAt k H) _ _ (bands-same k _ (back-same (suc l - suc k) (suc k) (omega arith)))
+      ∙ unfold levelBand in map-level-has fiveThreeFilter five-three-laws W H g m k (five-three-few (omega arith))
 
 no-cell : (h : Half) (S : Side) → S .length ≡ 0 → (i : ℕ) → i < count h S → ⊥
 unfolding count
@@ -84,7 +88,8 @@ no-cell hi S e i p = omega arith
 -- ---- from rows P that are words
 module _ (W H : Side) (l : ℕ) (P : Rows)
     (words : (k : ℕ) (b : Band) (r c : ℕ) → k ≤ l → r < count (down b) (sideAt k H) → c < count (across b) (sideAt k W) → SFits w32 (P (rowName (suc k) b r) c))
-    (has : (k : ℕ) → k ≤ l → hasCells (sideAt k W) (sideAt k H) ≡ true → levelHas (sideAt k W) (sideAt k H) (bandsAt W H P (suc l) k) ≡ true) where
+    (has : (k : ℕ) → k ≤ l → hasCells (sideAt k W) (sideAt k H) ≡ true
+    → levelHas fiveThreeFilter (sideAt k W) (sideAt k H) (bandsAt W H P (suc l) k) ≡ true) where
   bands-words : (m k : ℕ) → k ≤ l → OnCells (SFits w32) (sideAt (suc k) W) (sideAt (suc k) H) (rebuilt W H P m (suc k)) →
       OnBands (SFits w32) (sideAt k W) (sideAt k H) (bandsBy P (suc k) (rebuilt W H P m (suc k)))
   unfolding bandsBy sideAt next across down
@@ -96,7 +101,8 @@ module _ (W H : Side) (l : ℕ) (P : Rows)
   rebuilt-words : (m k : ℕ) → k + m ≡ suc l → OnCells (SFits w32) (sideAt k W) (sideAt k H) (rebuilt W H P m k)
   unfolding rebuilt
   rebuilt-words zero k e = let z : k ≡ suc l = omega arith in rw z (unfold sideAt next across down in λ r c p q. words l LL r c (omega arith) p q)
-  rebuilt-words (suc m) k e = level-back-fits (sideAt k W) (sideAt k H) _ (bands-words m k (omega arith) (rebuilt-words m (suc k) (omega arith)))
+  rebuilt-words (suc m) k e = level-back-fits fiveThreeFilter five-three-laws (sideAt k W) (sideAt k H) _
+      (bands-words m k (omega arith) (rebuilt-words m (suc k) (omega arith)))
 
   abbrev pub back : Grid
   back = rebuilt W H P (suc l) 0
@@ -106,26 +112,29 @@ module _ (W H : Side) (l : ℕ) (P : Rows)
   none-same k p q (wide e) b r c u v = absurd (no-cell (across b) (sideAt k W) e c v)
   none-same k p q (high e) b r c u v = absurd (no-cell (down b) (sideAt k H) e r u)
 
-  bands-of : (k m : ℕ) → k + suc m ≡ suc l → Same (sideAt k W) (sideAt k H) (approximation wrap32 W H back k) (rebuilt W H P (suc m) k) →
-      SameBands (sideAt k W) (sideAt k H) (subband wrap32 (sideAt k W) (sideAt k H) (approximation wrap32 W H back k))
+  bands-of : (k m : ℕ) → k + suc m ≡ suc l → Same (sideAt k W) (sideAt k H) (approximation fiveThreeFilter wrap32 W H back k) (rebuilt W H P (suc m) k) →
+      SameBands (sideAt k W) (sideAt k H) (subband fiveThreeFilter wrap32 (sideAt k W) (sideAt k H) (approximation fiveThreeFilter wrap32 W H back k))
       (bandsBy P (suc k) (rebuilt W H P m (suc k)))
   bands-of k m e a = go (hasCells (sideAt k W) (sideAt k H)) refl
     where
       left : suc l - suc k ≡ m
       left = omega arith
 
-      lines : hasCells (sideAt k W) (sideAt k H) ≡ true → levelHas (sideAt k W) (sideAt k H) (bandsBy P (suc k) (rebuilt W H P m (suc k))) ≡ true
-      lines c = subst (λ i. levelHas (sideAt k W) (sideAt k H) (bandsBy P (suc k) (rebuilt W H P i (suc k))) ≡ true) left (has k (omega arith) c)
+      lines : hasCells (sideAt k W) (sideAt k H) ≡ true
+          → levelHas fiveThreeFilter (sideAt k W) (sideAt k H) (bandsBy P (suc k) (rebuilt W H P m (suc k))) ≡ true
+      lines c = subst (λ i. levelHas fiveThreeFilter (sideAt k W) (sideAt k H) (bandsBy P (suc k) (rebuilt W H P i (suc k))) ≡ true) left
+          (has k (omega arith) c)
 
       go : (c : Bool) → hasCells (sideAt k W) (sideAt k H) ≡ c →
-          SameBands (sideAt k W) (sideAt k H) (subband wrap32 (sideAt k W) (sideAt k H) (approximation wrap32 W H back k))
+          SameBands (sideAt k W) (sideAt k H) (subband fiveThreeFilter wrap32 (sideAt k W) (sideAt k H) (approximation fiveThreeFilter wrap32 W H back k))
           (bandsBy P (suc k) (rebuilt W H P m (suc k)))
       go false c = none-same k _ _ (cells-not (sideAt k W) (sideAt k H) c)
       go true c = λ b r i p q.
-          subband-same wrap32 (sideAt k W) (sideAt k H) _ _ a b r i p q ∙ unfold rebuilt in
-          words-forward-back (sideAt k W) (sideAt k H) _ (bands-words m k (omega arith) (rebuilt-words m (suc k) (omega arith))) (lines c) b r i p q
+          subband-same fiveThreeFilter five-three-laws wrap32 (sideAt k W) (sideAt k H) _ _ a b r i p q ∙ unfold rebuilt in
+          words-forward-back fiveThreeFilter five-three-laws (sideAt k W) (sideAt k H) _
+          (bands-words m k (omega arith) (rebuilt-words m (suc k) (omega arith))) (lines c) b r i p q
 
-  approximation-is : (k m : ℕ) → k + m ≡ suc l → Same (sideAt k W) (sideAt k H) (approximation wrap32 W H back k) (rebuilt W H P m k)
+  approximation-is : (k m : ℕ) → k + m ≡ suc l → Same (sideAt k W) (sideAt k H) (approximation fiveThreeFilter wrap32 W H back k) (rebuilt W H P m k)
   unfolding approximation sideAt bandsBy
   approximation-is zero m e = let z : m ≡ suc l = omega arith in rw z (λ r c p q. refl)
   approximation-is (suc k) m e =
@@ -133,7 +142,7 @@ module _ (W H : Side) (l : ℕ) (P : Rows)
 
   -- ---- its plane has them
   pub back-has : (k : ℕ) (b : Band) → k ≤ l → (b ≡ LL → k ≡ l) → (r c : ℕ) → r < count (down b) (sideAt k H) → c < count (across b) (sideAt k W) →
-      levelBand wrap32 W H back (suc k) b r c ≡ P (rowName (suc k) b r) c
+      levelBand fiveThreeFilter wrap32 W H back (suc k) b r c ≡ P (rowName (suc k) b r) c
   unfolding bandsBy rebuilt levelBand
   back-has k LL h last r c p q = bands-of k 0 (omega (arith, last refl)) (approximation-is k 1 (omega (arith, last refl))) LL r c p q
   back-has k HL h last r c p q = bands-of k (l - k) (omega arith) (approximation-is k (suc (l - k)) (omega arith)) HL r c p q
@@ -189,5 +198,6 @@ lookup-words W H l few (f ∷ fs) (all-more g gs) x i p = go (sameName x (f .row
     go true e ih =
         let z = same-name x (f .row) e in
         let q : i < f .run .size = rw (g .size) (subst (λ y. i < bandColumns W (y .level) (y .band)) z p) in
-        abs-fits _ (range (f .row .level)) (range-small (f .row .level) (omega (arith, g .level, g .inside))) (g .range-of i q)
+        abs-fits _ (range fiveThreeFilter (f .row .level))
+        (range-small fiveThreeFilter five-three-laws (f .row .level) (five-three-few (omega (arith, g .level, g .inside)))) (g .range-of i q)
     go false e ih = ih

@@ -22,33 +22,33 @@ use Rattle.reader.proofs.OpenedSets.{set-is}
 use Rattle.reader.proofs.CellLaws.{Empty, wide, high, empty-not, cells-yes}
 
 -- ---- whether a row needs a set that no row before it needs
-module _ (S : Side) (r n : ℕ) (set : n ≡ setOf S r) where
-  opens-odd : (q : ℕ) → r ≡ suc q → r + S .start % 2 + 1 ≡ 2 * n → setOf S q + 1 < setOf S (suc q) + 1
-  opens-odd q e o = omega (arith, set-is S q, set-is S r, ap (setOf S) e)
+module _ (S : Side) (r n : ℕ) (set : n ≡ setOf 1 S r) where
+  opens-odd : (q : ℕ) → r ≡ suc q → r + S .start % 2 + 1 ≡ 2 * n → setOf 1 S q + 1 < setOf 1 S (suc q) + 1
+  opens-odd q e o = omega (arith, set-is S q, set-is S r, ap (setOf 1 S) e)
 
-  opens-not : (q : ℕ) → r ≡ suc q → (r + S .start % 2 + 1 ≡ 2 * n → ⊥) → setOf S (suc q) + 1 ≤ setOf S q + 1
-  opens-not q e o = omega (arith, o, set-is S q, set-is S r, ap (setOf S) e)
+  opens-not : (q : ℕ) → r ≡ suc q → (r + S .start % 2 + 1 ≡ 2 * n → ⊥) → setOf 1 S (suc q) + 1 ≤ setOf 1 S q + 1
+  opens-not q e o = omega (arith, o, set-is S q, set-is S r, ap (setOf 1 S) e)
 
-pub opens-later : (S : Side) (r n : ℕ) → n ≡ setOf S r → (r ≡ 0 → ⊥) → eqb (r + S .start % 2 + 1) (2 * n) ≡ opens S r
+pub opens-later : (S : Side) (r n : ℕ) → n ≡ setOf 1 S r → (r ≡ 0 → ⊥) → eqb (r + S .start % 2 + 1) (2 * n) ≡ opens 1 S r
 unfolding opens setsBefore
 opens-later S zero n set some = absurd (some refl)
 opens-later S (suc q) n set some = elim (ℕ-discrete (suc q + S .start % 2 + 1) (2 * n)) [
-  | yes e ↦ eq-eqb (suc q + S .start % 2 + 1) (2 * n) e ∙ sym (lt-ltb (setOf S q + 1) (setOf S (suc q) + 1) (opens-odd S (suc q) n set q refl e))
-  | no e ↦ ne-eqb (suc q + S .start % 2 + 1) (2 * n) e ∙ sym (le-ltb (setOf S q + 1) (setOf S (suc q) + 1) (opens-not S (suc q) n set q refl e))
+  | yes e ↦ eq-eqb (suc q + S .start % 2 + 1) (2 * n) e ∙ sym (lt-ltb (setOf 1 S q + 1) (setOf 1 S (suc q) + 1) (opens-odd S (suc q) n set q refl e))
+  | no e ↦ ne-eqb (suc q + S .start % 2 + 1) (2 * n) e ∙ sym (le-ltb (setOf 1 S q + 1) (setOf 1 S (suc q) + 1) (opens-not S (suc q) n set q refl e))
 ]
 
-pub down-none : (W H : Side) (r : ℕ) → Empty W H → false ≡ both (hasCells W H) (opens H r)
-down-none W H r e = sym (ap (λ (t : Bool). both t (opens H r)) (empty-not W H e))
+pub down-none : (W H : Side) (r : ℕ) → Empty W H → false ≡ both (hasCells W H) (opens 1 H r)
+down-none W H r e = sym (ap (λ (t : Bool). both t (opens 1 H r)) (empty-not W H e))
 
-pub down-first : (W H : Side) (r : ℕ) → 0 < W .length → 0 < H .length → r ≡ 0 → true ≡ both (hasCells W H) (opens H r)
-down-first W H r w h e = sym (rw (cells-yes W H w h, e) (opens-first H))
+pub down-first : (W H : Side) (r : ℕ) → 0 < W .length → 0 < H .length → r ≡ 0 → true ≡ both (hasCells W H) (opens 1 H r)
+down-first W H r w h e = sym (rw (cells-yes W H w h, e) (opens-first 1 H))
 
-pub down-later : (W H : Side) (r n : ℕ) → 0 < W .length → 0 < H .length → n ≡ setOf H r → (r ≡ 0 → ⊥) →
-    eqb (r + H .start % 2 + 1) (2 * n) ≡ both (hasCells W H) (opens H r)
-down-later W H r n w h set some = opens-later H r n set some ∙ sym (ap (λ (t : Bool). both t (opens H r)) (cells-yes W H w h))
+pub down-later : (W H : Side) (r n : ℕ) → 0 < W .length → 0 < H .length → n ≡ setOf 1 H r → (r ≡ 0 → ⊥) →
+    eqb (r + H .start % 2 + 1) (2 * n) ≡ both (hasCells W H) (opens 1 H r)
+down-later W H r n w h set some = opens-later H r n set some ∙ sym (ap (λ (t : Bool). both t (opens 1 H r)) (cells-yes W H w h))
 
 -- ---- whether it needs two
-pub two-first : (S : Side) (r n : ℕ) → n ≡ setOf S r → r ≡ 0 → ltb 0 n ≡ needsTwo S r
+pub two-first : (S : Side) (r n : ℕ) → n ≡ setOf 1 S r → r ≡ 0 → ltb 0 n ≡ needsTwo S r
 unfolding needsTwo
 two-first S r n set e = rw (← set, eq-eqb r 0 e) refl
 

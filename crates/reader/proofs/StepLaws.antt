@@ -72,6 +72,13 @@ module _ (s : Reader) where
   unfolding next
   near = next-in _ _ _ _ (s .level) (s .alone) (s .band)
 
+  pub settles-all : next s .level ≡ 0 → (x : ℕ → ℤ) → settled (columns s) (rows s) (s .levels) (s .drawn) 0 (s .level) x ≡ settles s x
+  unfolding settles
+  settles-all e x = rw e
+
+  pub next-draw : s .level ≡ 0 → next s .level ≡ 0
+  next-draw e = omega (arith, near .within)
+
   module _ (p : Spot) (is : Is (next s) p) where
     pub spot-in : 0 < p .level → (p .level ≤ s .level) × (p .band < 4) × (0 < next s .level)
     spot-in h =
@@ -205,6 +212,10 @@ pub next-plain : (s : Reader) (n : Next) → s .alone ≡ false →
     IsNext (columns s) (rows s) (s .levels) (s .drawn) (next s) n
 unfolding next nextAt
 next-plain s n e up = rw e (rw (not-alone (columns s) (rows s) (s .levels) (s .drawn) (s .level) (s .band)) up)
+
+pub next-own : (s : Reader) → s .alone ≡ false → nextUp (columns s) (rows s) (s .levels) (s .drawn) (s .level) (s .band) ≡ next s
+unfolding next nextAt
+next-own s e = rw (e, not-alone (columns s) (rows s) (s .levels) (s .drawn) (s .level) (s .band))
 
 -- ---- a level is no larger than the map
 pub level-small : (s : Reader) → Counts s → (k : ℕ) (l : Level) → IsLevel (columns s) (rows s) k l → (l .width ≤ 2 ^ 16) × (l .height < 2 ^ 32)

@@ -72,7 +72,7 @@ module _ (W H : Side) (l : ℕ) where
   rowsLeft k n b = feedAll (names (suc k) (sideAt k H) n (look (eqb (suc k) (suc l)) (sideAt k W) (sideAt k H) n b))
 
   abbrev setLeft : ℕ → ℕ → ℕ → List Step
-  setLeft m k n = setSteps m (suc k) (sideAt k W) (sideAt k H) n
+  setLeft m k n = setSteps 1 m (suc k) (sideAt k W) (sideAt k H) n
 
   -- until row d is drawn: the rows that the set at this level still asks for, then those of each finer level
   unfoldable pub tail : ℕ → ℕ → ℕ → List Step
@@ -89,7 +89,7 @@ module _ (W H : Side) (l : ℕ) where
 
   -- row r with what it needs, and c rows from row d on
   abbrev turn : ℕ → List Step
-  turn r = rowSteps H (setSteps l 1 W H) r ++ (draw r ∷ [])
+  turn r = rowSteps 1 H (setSteps 1 l 1 W H) r ++ (draw r ∷ [])
 
   unfoldable pub later : ℕ → ℕ → List Step
   later zero d = []
@@ -142,16 +142,16 @@ module _ (W H : Side) (l : ℕ) where
 
   -- else what its low row needs of the next level, and its rows
   abbrev rowsBelow : ℕ → ℕ → ℕ → List Step
-  rowsBelow m k r = rowSteps (sideAt k H) (setSteps m (suc k) (sideAt k W) (sideAt k H)) r
+  rowsBelow m k r = rowSteps 1 (sideAt k H) (setSteps 1 m (suc k) (sideAt k W) (sideAt k H)) r
 
   no-rows : (m k r : ℕ) → Empty (sideAt k W) (sideAt k H) → rowsBelow m k r ≡ []
   no-rows m k r e = empty-row (sideAt k H) _ r (λ n. empty-set m (suc k) (sideAt k W) (sideAt k H) n e)
 
   low-steps : (d m k : ℕ) → pick (leb (firstSet (sideAt k H) lo) (setAt H d k))
-      (rowSteps (next (sideAt k H)) (setSteps m (suc (suc k)) (next (sideAt k W)) (next (sideAt k H))) (setAt H d k - firstSet (sideAt k H) lo)) []
+      (rowSteps 1 (next (sideAt k H)) (setSteps 1 m (suc (suc k)) (next (sideAt k W)) (next (sideAt k H))) (setAt H d k - firstSet (sideAt k H) lo)) []
       ≡ rowsBelow m (suc k) (rowAt H d (suc k))
   unfolding sideAt rowAt rowBelow setAt
-  low-steps d m k = go (decLe (firstSet (sideAt k H) lo) (setOf (sideAt k H) (rowAt H d k)))
+  low-steps d m k = go (decLe (firstSet (sideAt k H) lo) (setOf 1 (sideAt k H) (rowAt H d k)))
     where
       S : Side
       S = sideAt k H
@@ -159,13 +159,13 @@ module _ (W H : Side) (l : ℕ) where
       r : ℕ
       r = rowAt H d k
 
-      go : Dec (firstSet S lo ≤ setOf S r) → pick (leb (firstSet S lo) (setOf S r))
-          (rowSteps (next S) (setSteps m (suc (suc k)) (next (sideAt k W)) (next S)) (setOf S r - firstSet S lo)) []
-          ≡ rowSteps (next S) (setSteps m (suc (suc k)) (next (sideAt k W)) (next S)) (setOf S r - firstSet S lo)
-      go (yes p) = rw (le-leb (firstSet S lo) (setOf S r) p) refl
+      go : Dec (firstSet S lo ≤ setOf 1 S r) → pick (leb (firstSet S lo) (setOf 1 S r))
+          (rowSteps 1 (next S) (setSteps 1 m (suc (suc k)) (next (sideAt k W)) (next S)) (setOf 1 S r - firstSet S lo)) []
+          ≡ rowSteps 1 (next S) (setSteps 1 m (suc (suc k)) (next (sideAt k W)) (next S)) (setOf 1 S r - firstSet S lo)
+      go (yes p) = rw (le-leb (firstSet S lo) (setOf 1 S r) p) refl
       go (no p) =
           let few : count lo S ≡ 0 = omega (arith, p, first-low S, set-is S r, low-is S) in
-          rw (lt-leb (firstSet S lo) (setOf S r) (omega (arith, p)))
+          rw (lt-leb (firstSet S lo) (setOf 1 S r) (omega (arith, p)))
           (sym (empty-row (next S) _ _ (λ n. empty-set m (suc (suc k)) (next (sideAt k W)) (next S) n (no-low-empty (sideAt k W) S few))))
 
   on-steps : (d m k : ℕ) → k + suc m ≡ l → setLeft (suc m) k (setAt H d k) ≡ rowsBelow m (suc k) (rowAt H d (suc k)) ++ rowsLeft k (setAt H d k) 1
@@ -190,23 +190,23 @@ module _ (W H : Side) (l : ℕ) where
           rw (odd, ne-eqb (suc k) (suc l) (λ z. omega arith), set-names m (suc k) (sideAt k W) (sideAt k H) 0) refl
 
   -- ---- where a row begins, what is left is what it needs and it
-  below-no : (m k r : ℕ) → opens (sideAt k H) r ≡ false → rowsBelow m k r ≡ []
+  below-no : (m k r : ℕ) → opens 1 (sideAt k H) r ≡ false → rowsBelow m k r ≡ []
   unfolding rowSteps inTurn
   below-no m k r o = rw (sets-none (sideAt k H) r o) refl
 
-  below-one : (m k r : ℕ) → opens (sideAt k H) r ≡ true → needsTwo (sideAt k H) r ≡ false → rowsBelow m k r ≡ setLeft m k (setOf (sideAt k H) r)
+  below-one : (m k r : ℕ) → opens 1 (sideAt k H) r ≡ true → needsTwo (sideAt k H) r ≡ false → rowsBelow m k r ≡ setLeft m k (setOf 1 (sideAt k H) r)
   unfolding rowSteps inTurn
   below-one m k r o f =
       let s = sets-one (sideAt k H) r o f in
-      let z : setsBefore (sideAt k H) r + 0 ≡ setOf (sideAt k H) r = omega (arith, s .is) in
+      let z : setsBefore 1 (sideAt k H) r + 0 ≡ setOf 1 (sideAt k H) r = omega (arith, s .is) in
       rw (s .one) (ap (setLeft m k) z)
 
-  below-two : (m k r : ℕ) → Two (sideAt k H) r → rowsBelow m k r ≡ setLeft m k 0 ++ setLeft m k (setOf (sideAt k H) r)
+  below-two : (m k r : ℕ) → Two (sideAt k H) r → rowsBelow m k r ≡ setLeft m k 0 ++ setLeft m k (setOf 1 (sideAt k H) r)
   unfolding rowSteps inTurn
   below-two m k r t =
       let s = sets-two (sideAt k H) r t in
-      let y : setsBefore (sideAt k H) r + 0 ≡ 0 = omega (arith, s .1) in
-      let z : setsBefore (sideAt k H) r + 1 ≡ setOf (sideAt k H) r = omega (arith, s .1, t .set) in
+      let y : setsBefore 1 (sideAt k H) r + 0 ≡ 0 = omega (arith, s .1) in
+      let z : setsBefore 1 (sideAt k H) r + 1 ≡ setOf 1 (sideAt k H) r = omega (arith, s .1, t .set) in
       rw (s .0) (rw (y, z) refl)
 
   -- at a high row alone
@@ -223,7 +223,7 @@ module _ (W H : Side) (l : ℕ) where
       tailAt d (dive (suc m) k (sideAt k W) (sideAt k H) (rowAt H d k)) ≡ rowsBelow m k (rowAt H d k) ++ tail d k 1
   unfolding dive sideAt rowAt setAt aloneTail
   dive-step d m k e f =
-      go (hasCells (sideAt k W) (sideAt k H)) refl (opens (sideAt k H) (rowAt H d k)) refl (needsTwo (sideAt k H) (rowAt H d k)) refl
+      go (hasCells (sideAt k W) (sideAt k H)) refl (opens 1 (sideAt k H) (rowAt H d k)) refl (needsTwo (sideAt k H) (rowAt H d k)) refl
     where
       r : ℕ
       r = rowAt H d k
@@ -234,7 +234,7 @@ module _ (W H : Side) (l : ℕ) where
       stays : rowsBelow m k r ≡ [] → tailAt d (place k false 1) ≡ rowsBelow m k r ++ tail d k 1
       stays n = tail-up d k 1 ∙ ap (λ t. t ++ tail d k 1) (sym n)
 
-      go : (c : Bool) → hasCells (sideAt k W) (sideAt k H) ≡ c → (o : Bool) → opens (sideAt k H) r ≡ o → (t : Bool) → needsTwo (sideAt k H) r ≡ t →
+      go : (c : Bool) → hasCells (sideAt k W) (sideAt k H) ≡ c → (o : Bool) → opens 1 (sideAt k H) r ≡ o → (t : Bool) → needsTwo (sideAt k H) r ≡ t →
           tailAt d (pick (both c o) (pick t (place (suc k) true 1) to) (place k false 1)) ≡ rowsBelow m k r ++ tail d k 1
       go false c o _ t _ = stays (no-rows m k r (cells-not (sideAt k W) (sideAt k H) c))
       go true c false o t _ = stays (below-no m k r o)
@@ -243,9 +243,9 @@ module _ (W H : Side) (l : ℕ) where
           let two = two-is (sideAt k H) r t in
           let left : l - k ≡ m = omega arith in
           tail-alone d k 1 (alone-is d k c t)
-          ∙ ap (λ i. rowsLeft k 0 1 ++ (setLeft i k (setOf (sideAt k H) r) ++ tail d k 1)) left
-          ∙ sym (append-assoc (rowsLeft k 0 1) (setLeft m k (setOf (sideAt k H) r)) (tail d k 1))
-          ∙ ap (λ u. (u ++ setLeft m k (setOf (sideAt k H) r)) ++ tail d k 1) (sym (alone-steps m k e (two .odd)))
+          ∙ ap (λ i. rowsLeft k 0 1 ++ (setLeft i k (setOf 1 (sideAt k H) r) ++ tail d k 1)) left
+          ∙ sym (append-assoc (rowsLeft k 0 1) (setLeft m k (setOf 1 (sideAt k H) r)) (tail d k 1))
+          ∙ ap (λ u. (u ++ setLeft m k (setOf 1 (sideAt k H) r)) ++ tail d k 1) (sym (alone-steps m k e (two .odd)))
           ∙ ap (λ u. u ++ tail d k 1) (sym (below-two m k r two))
 
   -- where the set that makes a row begins, its steps are left
@@ -416,11 +416,11 @@ module _ (W H : Side) (l : ℕ) where
   turns-later (suc c) d = let e : suc d + c ≡ d + suc c = omega arith in sym (append-assoc (inTurn d turn) _ _) ∙ turns-later c (suc d)
       ∙ ap (λ n. inTurn n turn) e
 
-  later-steps : later (H .length) 0 ≡ steps W H (suc l)
+  later-steps : later (H .length) 0 ≡ steps 1 W H (suc l)
   unfolding steps inTurn
   later-steps = let e : 0 + H .length ≡ H .length = omega arith in let f : suc l - 1 ≡ l = omega arith in
       turns-later (H .length) 0 ∙ ap (λ n. inTurn n turn) e
-      ∙ ap (λ q. inTurn (H .length) (λ r. rowSteps H (setSteps q 1 W H) r ++ (draw r ∷ []))) (sym f)
+      ∙ ap (λ q. inTurn (H .length) (λ r. rowSteps 1 H (setSteps 1 q 1 W H) r ++ (draw r ∷ []))) (sym f)
 
-  pub left-first : stepsLeft 0 (enter W H (suc l) 0) ≡ steps W H (suc l)
+  pub left-first : stepsLeft 0 (enter W H (suc l) 0) ≡ steps 1 W H (suc l)
   left-first = let f : H .length - 0 ≡ H .length = omega arith in left-later 0 (H .length) f ∙ later-steps

@@ -19,7 +19,7 @@ use Rattle.wavelet.proofs.StoreLaws as grid
 use Rattle.reader.specs.Sets.{rowBelow, needsTwo, rowAt, setAt}
 use Rattle.reader.specs.Store.{stretchAt}
 use Rattle.reader.specs.Inside.{IsAt}
-use Rattle.level.proofs.OpenedSets.{setOf-there}
+use Rattle.wavelet.proofs.StepLaws.{set-there}
 use Rattle.reader.proofs.OpenedSets.{set-is, low-is, below-is, rowAt-next, setAt-is}
 
 pub stretch-zero : (W : Side) → stretchAt W 0 ≡ 0
@@ -77,17 +77,17 @@ halved-on S r q (same e) = elim (decLt (r + 1) (S .length)) [
 ]
 halved-on S r q (late a b) = late (rows-late (S .start) r (S .length) a) (below-late S q b)
 
-late-set : (S : Side) (r : ℕ) → S .length ≤ r + 1 → setOf S r ≡ (S .start % 2 + (S .length - 1)) / 2
+late-set : (S : Side) (r : ℕ) → S .length ≤ r + 1 → setOf 1 S r ≡ (S .start % 2 + (S .length - 1)) / 2
 late-set S r b = omega (arith, set-is S r)
 
-pub halved-set : (S : Side) (r q : ℕ) → Halved S r q → setOf S r ≡ setOf S q
-halved-set S r q (same e) = ap (setOf S) (sym e)
+pub halved-set : (S : Side) (r q : ℕ) → Halved S r q → setOf 1 S r ≡ setOf 1 S q
+halved-set S r q (same e) = ap (setOf 1 S) (sym e)
 halved-set S r q (late a b) = late-set S r a ∙ sym (late-set S q b)
 
 late-two : (S : Side) (r : ℕ) → S .length ≤ r + 1 → needsTwo S r ≡ false
 unfolding needsTwo
 late-two S r b = elim (ℕ-discrete r 0) [
-  | yes e ↦ rw (eq-eqb r 0 e) (le-ltb 0 (setOf S r) (omega (arith, set-is S r)))
+  | yes e ↦ rw (eq-eqb r 0 e) (le-ltb 0 (setOf 1 S r) (omega (arith, set-is S r)))
   | no e ↦ rw (ne-eqb r 0 e) refl
 ]
 
@@ -99,7 +99,7 @@ and-both : (a b : Bool) → a && b ≡ both a b
 and-both true b = refl
 and-both false b = refl
 
-pub two-is : (S : Side) (r n : ℕ) → n ≡ setOf S r → eqb r 0 && ltb 0 n ≡ needsTwo S r
+pub two-is : (S : Side) (r n : ℕ) → n ≡ setOf 1 S r → eqb r 0 && ltb 0 n ≡ needsTwo S r
 unfolding needsTwo
 two-is S r n set = and-both (eqb r 0) (ltb 0 n) ∙ ap (λ (i : ℕ). both (eqb r 0) (ltb 0 i)) set
 
@@ -191,14 +191,14 @@ ends-on W H d i start a b t u c e a′ b′ t′ u′ c′ ea eb et eu ec =
     }
 
 -- the level come to, at the set that makes the row waited for
-pub walked-level : (W H : Side) (d k i start wx w hy h r : ℕ) → i ≡ k → Walked W H d i start wx w hy h r → (n : ℕ) → n ≡ setOf (side hy h) r →
+pub walked-level : (W H : Side) (d k i start wx w hy h r : ℕ) → i ≡ k → Walked W H d i start wx w hy h r → (n : ℕ) → n ≡ setOf 1 (side hy h) r →
     IsAt W H d k (record { start = start; x = wx; width = w; y = hy; height = h; set = n; two = eqb r 0 && ltb 0 n })
 walked-level W H d k i start wx w hy h r e a n set =
     let wide : side wx w ≡ sideAt k W = a .wide ∙ ap (λ (j : ℕ). sideAt j W) e in
     let high : side hy h ≡ sideAt k H = a .high ∙ ap (λ (j : ℕ). sideAt j H) e in
     let row : rowAt H d i ≡ rowAt H d k = ap (rowAt H d) e in
     let now : n ≡ setAt H d k =
-    set ∙ halved-set (side hy h) r (rowAt H d i) (a .row) ∙ ap₂ setOf high row ∙ sym (setAt-is H d k) in
+    set ∙ halved-set (side hy h) r (rowAt H d i) (a .row) ∙ ap₂ (setOf 1) high row ∙ sym (setAt-is H d k) in
     record {
       level = record {
         start = a .begins ∙ ap (stretchAt W) e;
@@ -206,7 +206,7 @@ walked-level W H d k i start wx w hy h r e a n set =
         width = ap (λ (S : Side). S .length) wide;
         y = ap (λ (S : Side). S .start) high;
         height = ap (λ (S : Side). S .length) high;
-        set = omega (arith, now, setAt-is H d k, setOf-there (sideAt k H) (rowAt H d k));
+        set = omega (arith, now, setAt-is H d k, set-there 1 (sideAt k H) (rowAt H d k));
       };
       now = now;
       two = two-is (side hy h) r n set ∙ halved-two (side hy h) r (rowAt H d i) (a .row) ∙ ap₂ needsTwo high row;

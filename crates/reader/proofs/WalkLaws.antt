@@ -126,9 +126,14 @@ module _ (W H : Side) (L d : ℕ) where
       (e ∙ ap (λ (m : ℕ). workedAt W H L (suc k - 1) m x) set ∙ ap (λ (j : ℕ). workedAt W H L j (setAt H d j) x) i))
 
   -- ---- the set that a row completes, and the place after it
-  pub finish-is : (k n c : ℕ) (t : Bool) (x : ℕ → ℤ) → t ≡ lastOfSet W H L d k n c → pick t (workedAt W H L k n x) (passed x) ≡ finished W H L d k n c x
-  unfolding finished
-  finish-is k n c t x is = rw is
+  module _ (k n c : ℕ) (t : Bool) (x : ℕ → ℤ) (is : t ≡ lastOfSet W H L d k n c) where
+    pub finish-not : t ≡ false → passed x ≡ finished W H L d k n c x
+    unfolding finished
+    finish-not e = let u : lastOfSet W H L d k n c ≡ false = sym is ∙ e in rw u
+
+    pub finish-set : t ≡ true → workedAt W H L k n x ≡ finished W H L d k n c x
+    unfolding finished
+    finish-set e = let u : lastOfSet W H L d k n c ≡ true = sym is ∙ e in rw u
 
   module _ (k n c : ℕ) (a t : Bool) (set : n ≡ nowAt W H L d k a) (is : t ≡ lastOfSet W H L d k n c) where
     complete : lastOfSet W H L d k (nowAt W H L d k a) c ≡ t

@@ -12,6 +12,7 @@ use lib.Dec.{leb, eqb}
 use Rattle.numbers.specs.Signal.{pick, both}
 use Rattle.numbers.specs.Word.{whole}
 use Rattle.lifting.specs.Grid.{Side}
+use Rattle.lifting.specs.FiveThree.{fiveThreeFilter}
 use Rattle.wavelet.specs.Bands.{Grid, code, down}
 use Rattle.wavelet.specs.Maps.{IsMap}
 use Rattle.wavelet.specs.Levels.{sideAt, levelBand}
@@ -186,14 +187,14 @@ drawnRows = gathered drawnBy
 -- a run a is band row x of a map g: its length, and T.800's whole numbers
 pub record IsRow (W H : Side) (g : Grid) (x : RowName) (a : Area) : Type 0 where
   pub size : a .size ≡ bandColumns W (x .level) (x .band)
-  pub values : (i : ℕ) → i < bandColumns W (x .level) (x .band) → a .numbers i ≡ levelBand whole W H g (x .level) (x .band) (x .row) i
+  pub values : (i : ℕ) → i < bandColumns W (x .level) (x .band) → a .numbers i ≡ levelBand fiveThreeFilter whole W H g (x .level) (x .band) (x .row) i
 
 abbrev pub HasRow : Side → Side → Grid → FedRow → Type 0
 HasRow W H g f = IsRow W H g (f .row) (f .run)
 
 pub record HasFed (W H : Side) (L : ℕ) (g : Grid) (es : List Event) : Type 0 where
   pub map : IsMap (W .length) (H .length) g
-  pub rows : All (HasRow W H g) (fedRows (steps W H L) es)
+  pub rows : All (HasRow W H g) (fedRows (steps 1 W H L) es)
 
 -- the rows ys are the first rows of the map
 pub record FirstRows (W : Side) (g : Grid) (ys : List (ℕ → ℤ)) : Type 0 where
@@ -280,31 +281,31 @@ pub record FeedFits (W H : Side) (L : ℕ) (P : Rows) (d : ℕ) (x : RowName) (t
 
 -- a feed of the run a as row x goes on, with the steps t after it
 pub record FeedGoes (W H : Side) (L : ℕ) (es : List Event) (then : Call → Event) (a : Area) (x : RowName) (t : List Step) : Type 0 where
-  pub next : left (steps W H L) es ≡ step.feed x ∷ t
+  pub next : left (steps 1 W H L) es ≡ step.feed x ∷ t
   pub passes : then (feed a) ≡ fed a (gives tt)
 
 -- ---- the claim, of the events es of any list of calls; `then` is what would be seen of a further call
 pub record Demand3 (W H : Side) (L : ℕ) (es : List Event) (then : Call → Event) : Type 0 where
   -- "one list of steps: each band row to feed, once, and each height row to draw, once"
-  pub rows-once : (x : RowName) → times x (bandRowsOf (steps W H L)) ≡ pick (bandRowExists W H L (x .level) (x .band) (x .row)) 1 0
-  pub heights-once : heightRowsOf (steps W H L) ≡ inTurn (H .length) (λ r. r ∷ [])
+  pub rows-once : (x : RowName) → times x (bandRowsOf (steps 1 W H L)) ≡ pick (bandRowExists W H L (x .level) (x .band) (x .row)) 1 0
+  pub heights-once : heightRowsOf (steps 1 W H L) ≡ inTurn (H .length) (λ r. r ∷ [])
   -- the want
-  pub wants : then want ≡ wanted (gives (wantSays W (endedBy es) (left (steps W H L) es)))
+  pub wants : then want ≡ wanted (gives (wantSays W (endedBy es) (left (steps 1 W H L) es)))
   -- "A feed of the length that the want names goes one step on or gives 7 or 14"; any other is turned away
-  pub feeds-turned : (a : Area) (q : ℕ) → feedTurned W (endedBy es) (left (steps W H L) es) a ≡ suc q → then (feed a) ≡ fed a (refused (suc q))
-  pub feeds-on : (a : Area) → feedTurned W (endedBy es) (left (steps W H L) es) a ≡ 0 → OneOf (then (feed a)) (fed a (gives tt)) (fed a (refused 14))
+  pub feeds-turned : (a : Area) (q : ℕ) → feedTurned W (endedBy es) (left (steps 1 W H L) es) a ≡ suc q → then (feed a) ≡ fed a (refused (suc q))
+  pub feeds-on : (a : Area) → feedTurned W (endedBy es) (left (steps 1 W H L) es) a ≡ 0 → OneOf (then (feed a)) (fed a (gives tt)) (fed a (refused 14))
   -- "a draw at Draw goes one step on or gives 12 or 14; no other call goes on"
-  pub draws : (a : Area) → Draws W (endedBy es) (left (steps W H L) es) a (then (draw a))
+  pub draws : (a : Area) → Draws W (endedBy es) (left (steps 1 W H L) es) a (then (draw a))
   -- the heights drawn are the first of every map that has the rows fed
   pub first : (g : Grid) → HasFed W H L g es → FirstRows W g (drawnRows es)
   -- "14 comes only if no map has them."
   pub impossible : endedBy es ≡ true → (g : Grid) → HasFed W H L g es → ⊥
   -- a call that goes on has worked out what is due, and it fits: 14 comes no later
   pub feed-works : (a : Area) (x : RowName) (t : List Step) → FeedGoes W H L es then a x t →
-      (P : Rows) → All (HasFedRow W P) (fedRows (steps W H L) es ++ (record { row = x; run = a } ∷ [])) →
+      (P : Rows) → All (HasFedRow W P) (fedRows (steps 1 W H L) es ++ (record { row = x; run = a } ∷ [])) →
       FeedFits W H L P (length (drawnRows es)) x t
   pub draw-works : (a b : Area) → then (draw a) ≡ drew a (gives (heights (W .length))) b →
-      (P : Rows) → All (HasFedRow W P) (fedRows (steps W H L) es) → SetsFit W H L P (length (drawnRows es)) 0
+      (P : Rows) → All (HasFedRow W P) (fedRows (steps 1 W H L) es) → SetsFit W H L P (length (drawnRows es)) 0
   -- it says Done exactly when the heights drawn are all of such a map
   pub finished : then want ≡ wanted (gives done) ↔ AllDrawn W H L es
 

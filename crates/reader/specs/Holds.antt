@@ -21,7 +21,7 @@ use Rattle.reader.specs.State.{columns, rows, next, nextRow, nextLength}
 
 -- ---- what stands in a level's memory: of the sets before set n also that none of them halved an odd number
 abbrev pub Tested : Side → Side → (Band → Grid) → ℕ → Type 0
-Tested W H p n = (m : ℕ) → m < n → SetHas W H p m
+Tested W H p n = (m : ℕ) → m < n → SetHas 1 W H p m
 
 abbrev pub M : BackMeaning
 M = record {

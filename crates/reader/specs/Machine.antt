@@ -9,7 +9,8 @@ use Rattle.numbers.specs.Signal.{pick, both}
 use Rattle.lifting.specs.Grid.{Side}
 use Rattle.wavelet.specs.Levels.{next, sideAt}
 use Rattle.level.specs.Tried.{Tried, passed, bind}
-use Rattle.reader.specs.Sets.{K, rowBelow, needsTwo, rowAt, setAt}
+use Rattle.level.specs.Sets.{opens}
+use Rattle.reader.specs.Sets.{rowBelow, needsTwo, rowAt, setAt}
 use Rattle.reader.specs.Asked.{nextBand}
 use Rattle.reader.specs.Store.{hasCells, fedAt, workedAt}
 
@@ -27,7 +28,7 @@ place k a b = record { level = k; alone = a; band = b }
 unfoldable pub dive : ℕ → ℕ → Side → Side → ℕ → Place
 dive zero k W H r = place k false 0
 dive (suc m) k W H r =
-    pick (both (hasCells W H) (K .opens H r))
+    pick (both (hasCells W H) (opens 1 H r))
     (pick (needsTwo H r) (place (suc k) true 1) (dive m (suc k) (next W) (next H) (rowBelow H r)))
     (place k false 1)
 

@@ -4,6 +4,7 @@ use Prim.Native.Nat.{ℕ}
 use lib.IntN.{ℤ, natAbs}
 use lib.Dec.{leb, eqb}
 use Rattle.numbers.specs.Signal.{pick, both}
+use Rattle.lifting.specs.FiveThree.{fiveThreeFilter}
 use Rattle.wavelet.specs.Limits.{maxWidth, maxHeight, maxLevels, range, maxOrigin}
 use Rattle.numbers.specs.Tests.{every}
 use Rattle.wavelet.specs.Questions.{ask, within}
@@ -31,7 +32,7 @@ storeFits W L n = leb (storeLength W L) n
 
 -- question 7: "Is each coefficient in its level's range?", of n numbers v for level k
 unfoldable pub runFits : ℕ → ℕ → (ℕ → ℤ) → Bool
-runFits k n v = every n (λ i. leb (natAbs (v i)) (range k))
+runFits k n v = every n (λ i. leb (natAbs (v i)) (range fiveThreeFilter k))
 
 -- n is the length of the store
 unfoldable pub setUpQuestion : Side → Side → ℕ → ℕ → ℕ

@@ -5,6 +5,7 @@ use Prim.Native.Nat.{ℕ, zero, suc, _-_, _<_}
 use lib.IntN.{ℤ}
 use Rattle.numbers.specs.Word.{wrap32}
 use Rattle.lifting.specs.Grid.{Side}
+use Rattle.lifting.specs.FiveThree.{fiveThreeFilter}
 use Rattle.wavelet.specs.Bands.{Grid, Band, LL, HL, LH, HH, levelBack, levelHas}
 use Rattle.wavelet.specs.Maps.{valueFits}
 use Rattle.wavelet.specs.Order.{RowName, rowName}
@@ -27,21 +28,21 @@ module _ (W H : Side) (P : Rows) where
   -- the low-low part of level k, with m levels from there on
   unfoldable pub rebuilt : ℕ → ℕ → Grid
   rebuilt zero k = λ r. P (rowName k LL r)
-  rebuilt (suc m) k = levelBack wrap32 (sideAt k W) (sideAt k H) (bandsBy P (suc k) (rebuilt m (suc k)))
+  rebuilt (suc m) k = levelBack fiveThreeFilter wrap32 (sideAt k W) (sideAt k H) (bandsBy P (suc k) (rebuilt m (suc k)))
 
   -- at L levels: the bands of level k + 1, and the low-low part of level k that they make
   abbrev pub bandsAt : ℕ → ℕ → Band → Grid
   bandsAt L k = bandsBy P (suc k) (rebuilt (L - suc k) (suc k))
 
   abbrev pub partAt : ℕ → ℕ → Grid
-  partAt L k = levelBack wrap32 (sideAt k W) (sideAt k H) (bandsAt L k)
+  partAt L k = levelBack fiveThreeFilter wrap32 (sideAt k W) (sideAt k H) (bandsAt L k)
 
   -- the rows that set n of level k + 1 makes fit, and no number that it halves is odd
   pub record SetFits (L k n : ℕ) : Type 0 where
-    pub fit : (r c : ℕ) → r < sideAt k H .length → setOf (sideAt k H) r ≡ n → c < sideAt k W .length → valueFits k (partAt L k r c) ≡ true
-    pub has : SetHas (sideAt k W) (sideAt k H) (bandsAt L k) n
+    pub fit : (r c : ℕ) → r < sideAt k H .length → setOf 1 (sideAt k H) r ≡ n → c < sideAt k W .length → valueFits fiveThreeFilter k (partAt L k r c) ≡ true
+    pub has : SetHas 1 (sideAt k W) (sideAt k H) (bandsAt L k) n
 
   -- so of all of level k + 1
   pub record LevelFits (L k : ℕ) : Type 0 where
-    pub fit : (r c : ℕ) → r < sideAt k H .length → c < sideAt k W .length → valueFits k (partAt L k r c) ≡ true
-    pub has : levelHas (sideAt k W) (sideAt k H) (bandsAt L k) ≡ true
+    pub fit : (r c : ℕ) → r < sideAt k H .length → c < sideAt k W .length → valueFits fiveThreeFilter k (partAt L k r c) ≡ true
+    pub has : levelHas fiveThreeFilter (sideAt k W) (sideAt k H) (bandsAt L k) ≡ true

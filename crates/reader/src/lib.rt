@@ -7,19 +7,23 @@ mod walk;
 use areas::copies;
 use areas::height_rows;
 use level::rebuilding;
+use walk::Next;
 use walk::Spot;
 use wavelet::shape::Shape;
 ghost use mathlib.Core.Path.{_≡_};
+ghost use mathlib.Core.Bool.{false};
+ghost use Prim.Native.Nat.{_<_};
 ghost use lib.ListN.{length};
 ghost use Rattle.numbers.specs.Signal.{at};
 ghost use Rattle.wavelet.specs.Limits.{maxWidth, maxHeight, maxLevels, maxOrigin};
 ghost use Rattle.wavelet.specs.Shape as shape;
 ghost use Rattle.areas.specs.Areas.{heightsAt};
 ghost use Rattle.reader.specs.Machine.{place};
-ghost use Rattle.reader.specs.State.{movedTo, endedReader};
+ghost use Rattle.reader.specs.Inside.{Due};
+ghost use Rattle.reader.specs.State.{wants, movedTo, endedReader};
 ghost use Rattle.reader.specs.Questions.{setUpQuestion, wantQuestion, feedQuestion, drawQuestion};
 ghost use Rattle.reader.specs.Holds.{SetUpHolds, FeedKeeps, DrawKeeps};
-ghost use Rattle.reader.specs.Answers.{ofSetUp, ofWanted, ofFed, ofDrawn};
+ghost use Rattle.reader.specs.Answers.{gives, ofSetUp, ofWanted, ofFed, ofDrawn};
 ghost use Rattle.reader.specs.Calls.{setUpReply, setUpStore, wantReply, feedReply, feedStore, drawReply, drawStore, drawArea};
 
 // The counts of a reader; docs/STATE.md gives their ranges. Its map starts at (x, y). `drawn` height rows are drawn; rows of `level` are collected (0: a height
@@ -147,15 +151,47 @@ impl Reader {
         if self.height <= self.drawn {
             return Wanted::Done;
         }
-        let next = steps::next_of(self);
-        if next.spot.level == 0 {
+        if self.level == 0 {
+            return Wanted::Draw;
+        }
+        let l = steps::own_level(self);
+        let c = steps::own_band(self, l);
+        if c < 4 {
+            return self.told(Next {
+                spot: Spot {
+                    level: self.level,
+                    alone: false,
+                    band: c,
+                },
+                at: l,
+            });
+        }
+        self.told(walk::next_at(
+            self.x,
+            self.width,
+            self.y,
+            self.height,
+            self.levels,
+            self.drawn,
+            self.level,
+            self.alone,
+            self.band,
+        ))
+    }
+
+    // What is wanted, n being the row wanted if there is one.
+    fn told(self, n: Next) -> Wanted
+        requires { ⌜ Due self n × (self .ended ≡ false) × (self .drawn < self .height) ⌝ }
+        ensures { λ r. ⌜ ofWanted r ≡ gives (wants self) ⌝ }
+    {
+        if n.spot.level == 0 {
             return Wanted::Draw;
         }
         Wanted::Row(
-            next.spot.level,
-            next.spot.band,
-            steps::row_number(self, next),
-            steps::row_length(self, next),
+            n.spot.level,
+            n.spot.band,
+            steps::row_number(self, n),
+            steps::row_length(self, n),
         )
     }
 
@@ -204,15 +240,14 @@ impl Reader {
         if q != 0 {
             return Drawn::Refused(q);
         }
-        let next = steps::next_of(self);
-        if !questions::draw_due(self, next) {
+        if !questions::draw_due(self) {
             return Drawn::Nothing;
         }
         let w = self.width;
         if out.len() < w {
             return Drawn::Refused(12);
         }
-        if steps::settle(self, store, next) {
+        if steps::settle_all(self, store) {
             let a = rebuilding::row_place(w, self.y % 2 + self.drawn);
             let e = a + w;
             height_rows::draw_heights(&store[a..e], self.x, out);

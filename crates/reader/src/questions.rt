@@ -1,6 +1,7 @@
 // The gate questions of the reader, in the order of document 01. The module is private, as `walk` is.
 use crate::Reader;
 use crate::steps;
+use crate::walk;
 use crate::walk::Next;
 use areas::ranges;
 use wavelet::limits;
@@ -127,13 +128,27 @@ pub fn row_question(s: Reader, n: Next, run: &[i32]) -> u8
     0
 }
 
-// Whether a height row can be drawn, where n is the row wanted.
-pub fn draw_due(s: Reader, n: Next) -> bool
-    requires { ⌜ Due s n ⌝ }
+// Whether a height row can be drawn; most often at level 0.
+pub fn draw_due(s: Reader) -> bool
+    requires { ⌜ Counts s ⌝ }
     ensures { λ r. ⌜ r ≡ drawDue s ⌝ }
 {
     if s.height <= s.drawn {
         return false;
     }
+    if s.level == 0 {
+        return true;
+    }
+    let n = walk::next_at(
+        s.x,
+        s.width,
+        s.y,
+        s.height,
+        s.levels,
+        s.drawn,
+        s.level,
+        s.alone,
+        s.band,
+    );
     n.spot.level == 0
 }

@@ -16,7 +16,7 @@ ghost use Rattle.reader.specs.Store.{hasCells};
 // The set that makes row r.
 pub fn set_of(y: usize, h: usize, r: usize) -> usize
     requires { ⌜ (h < 2 ^ 32) × (r ≤ 2 ^ 32) ⌝ }
-    ensures { λ n. ⌜ n ≡ setOf (side y h) r ⌝ }
+    ensures { λ n. ⌜ n ≡ setOf 1 (side y h) r ⌝ }
 {
     if h == 0 {
         return 0;
@@ -29,8 +29,8 @@ pub fn set_of(y: usize, h: usize, r: usize) -> usize
 
 // Whether row r of w columns is there and the first that needs set n, the one that makes it.
 pub fn goes_down(w: usize, y: usize, h: usize, r: usize, n: usize) -> bool
-    requires { ⌜ (r ≤ 2 ^ 32) × (n ≤ 2 ^ 32) × (r ≤ h) × (n ≡ setOf (side y h) r) ⌝ }
-    ensures { λ t. ⌜ ((x : ℕ) → t ≡ both (hasCells (side x w) (side y h)) (opens (side y h) r)) ⌝ }
+    requires { ⌜ (r ≤ 2 ^ 32) × (n ≤ 2 ^ 32) × (r ≤ h) × (n ≡ setOf 1 (side y h) r) ⌝ }
+    ensures { λ t. ⌜ ((x : ℕ) → t ≡ both (hasCells (side x w) (side y h)) (opens 1 (side y h) r)) ⌝ }
 {
     if (w == 0) | (h == 0) {
         return false;
@@ -43,7 +43,7 @@ pub fn goes_down(w: usize, y: usize, h: usize, r: usize, n: usize) -> bool
 
 // Whether it needs set 0 before it, a high row alone.
 pub fn is_two(y: usize, h: usize, r: usize, n: usize) -> bool
-    requires { ⌜ n ≡ setOf (side y h) r ⌝ }
+    requires { ⌜ n ≡ setOf 1 (side y h) r ⌝ }
     ensures { λ t. ⌜ t ≡ needsTwo (side y h) r ⌝ }
 {
     if r == 0 { 0 < n } else { false }
@@ -51,7 +51,7 @@ pub fn is_two(y: usize, h: usize, r: usize, n: usize) -> bool
 
 // The row of the next level that set n, which makes row r, takes.
 pub fn row_below(y: usize, h: usize, r: usize, n: usize) -> usize
-    requires { ⌜ n ≡ setOf (side y h) r ⌝ }
+    requires { ⌜ n ≡ setOf 1 (side y h) r ⌝ }
     ensures { λ q. ⌜ q ≡ rowBelow (side y h) r ⌝ }
 {
     let p = y % 2;

@@ -3,43 +3,48 @@
 use crate::Reader;
 use crate::sets;
 use crate::walk;
+use crate::walk::Level;
 use crate::walk::Next;
 use crate::walk::Spot;
 ghost use mathlib.Core.Path.{_≡_};
-ghost use mathlib.Core.Bool.{true};
-ghost use Prim.Native.Nat.{_<_, _≤_};
+ghost use mathlib.Core.Bool.{false};
+ghost use Prim.Native.Nat.{_-_, _<_, _≤_};
 ghost use lib.ListN.{length};
 ghost use Rattle.numbers.specs.Signal.{at};
 ghost use Rattle.level.specs.Tried.{outcome};
 ghost use Rattle.wavelet.specs.Store.{storeLength};
-ghost use Rattle.reader.specs.Machine.{nextUp, placeFed};
+ghost use Rattle.reader.specs.Machine.{place, placeFed};
 ghost use Rattle.reader.specs.State.{columns, rows, next, nextRow, nextLength, settles, feeds};
-ghost use Rattle.reader.specs.Inside.{Counts, Is, IsNext, Due, Completing};
+ghost use Rattle.reader.specs.Inside.{Counts, IsAt, Is, Due, Completing};
 ghost use Rattle.level.specs.Rebuilding.{Kept};
 
-// The row wanted by a reader that may be at a high row alone: one of it, or n, which is wanted otherwise.
-fn next_either(s: Reader, n: Next) -> Next
-    requires { ⌜ Counts s × (s .alone ≡ true) ×
-        IsNext (columns s) (rows s) (s .levels) (s .drawn) (nextUp (columns s) (rows s) (s .levels) (s .drawn) (s .level) (s .band)) n ⌝ }
-    ensures { λ r. ⌜ Due s r ⌝ }
+// The reader's own level, at the set that makes the row waited for.
+pub fn own_level(s: Reader) -> Level
+    requires { ⌜ Counts s × (0 < s .level) ⌝ }
+    ensures { λ l. ⌜ IsAt (columns s) (rows s) (s .drawn) (s .level - 1) l ⌝ }
 {
-    if s.level == 0 {
-        return n;
+    walk::level_at(s.x, s.width, s.y, s.height, s.drawn, s.level - 1)
+}
+
+// The band that is wanted of it, l; 4 where the row wanted is another one, which is rare.
+pub fn own_band(s: Reader, l: Level) -> usize
+    requires { ⌜ Counts s × (0 < s .level) × IsAt (columns s) (rows s) (s .drawn) (s .level - 1) l ⌝ }
+    ensures { λ c. ⌜ (c < 4 → place (s .level) false c ≡ next s) ⌝ }
+{
+    if s.alone {
+        return 4;
     }
-    let first = walk::next_alone(
+    walk::band_at(
         s.x,
         s.width,
         s.y,
         s.height,
         s.levels,
         s.drawn,
-        s.level,
+        s.level - 1,
+        l,
         s.band,
-    );
-    if first.spot.level == 0 {
-        return n;
-    }
-    first
+    )
 }
 
 // The row wanted; level 0: there is none.
@@ -47,7 +52,21 @@ pub fn next_of(s: Reader) -> Next
     requires { ⌜ Counts s ⌝ }
     ensures { λ n. ⌜ Due s n ⌝ }
 {
-    let n = walk::next_up(
+    if 0 < s.level {
+        let l = own_level(s);
+        let c = own_band(s, l);
+        if c < 4 {
+            return Next {
+                spot: Spot {
+                    level: s.level,
+                    alone: false,
+                    band: c,
+                },
+                at: l,
+            };
+        }
+    }
+    walk::next_at(
         s.x,
         s.width,
         s.y,
@@ -55,12 +74,9 @@ pub fn next_of(s: Reader) -> Next
         s.levels,
         s.drawn,
         s.level,
+        s.alone,
         s.band,
-    );
-    if s.alone {
-        return next_either(s, n);
-    }
-    n
+    )
 }
 
 // The length of the row wanted, and its number.
@@ -97,12 +113,15 @@ pub fn completes(s: Reader, n: Next) -> bool
     4 <= c
 }
 
-// The sets that wait worked out.
+// The sets that wait worked out; most often none does.
 pub fn settle(s: Reader, store: &mut [i32], n: Next) -> bool
     requires { ⌜ Counts s × Due s n × (storeLength (columns s) (s .levels) ≤ length (now store)) ⌝ }
     ensures { λ ok. ⌜ outcome ok (at (now (store .exit))) ≡ settles s (at (now (store .entry))) ⌝ }
     ensures { λ _. ⌜ Kept (storeLength (columns s) (s .levels)) (at (now (store .entry))) (at (now (store .exit))) ⌝ }
 {
+    if s.level <= n.spot.level {
+        return true;
+    }
     walk::settle(
         s.x,
         s.width,
@@ -113,6 +132,28 @@ pub fn settle(s: Reader, store: &mut [i32], n: Next) -> bool
         store,
         s.level,
         n.spot.level,
+    )
+}
+
+// The same before a draw, where no row is wanted.
+pub fn settle_all(s: Reader, store: &mut [i32]) -> bool
+    requires { ⌜ Counts s × (next s .level ≡ 0) × (storeLength (columns s) (s .levels) ≤ length (now store)) ⌝ }
+    ensures { λ ok. ⌜ outcome ok (at (now (store .exit))) ≡ settles s (at (now (store .entry))) ⌝ }
+    ensures { λ _. ⌜ Kept (storeLength (columns s) (s .levels)) (at (now (store .entry))) (at (now (store .exit))) ⌝ }
+{
+    if s.level == 0 {
+        return true;
+    }
+    walk::settle(
+        s.x,
+        s.width,
+        s.y,
+        s.height,
+        s.levels,
+        s.drawn,
+        store,
+        s.level,
+        0,
     )
 }
 
@@ -139,7 +180,10 @@ pub fn feed_row(s: Reader, store: &mut [i32], n: Next, complete: bool, run: &[i3
         n.spot.band,
         run,
     );
-    walk::finish(
+    if !complete {
+        return true;
+    }
+    walk::work_at(
         s.x,
         s.width,
         s.y,
@@ -149,7 +193,6 @@ pub fn feed_row(s: Reader, store: &mut [i32], n: Next, complete: bool, run: &[i3
         store,
         k,
         n.at,
-        complete,
     )
 }
 

@@ -20,7 +20,7 @@ ghost use Rattle.level.specs.Slots.{rowPlace, rowOfSet, halfPlace};
 ghost use Rattle.level.specs.Rebuilding.{Kept};
 ghost use Rattle.reader.specs.Asked.{named};
 ghost use Rattle.reader.specs.Store.{fedAt, workedAt};
-ghost use Rattle.reader.specs.Machine.{place, bandAt, aloneAt, nextUp, settled, dive};
+ghost use Rattle.reader.specs.Machine.{place, bandAt, aloneAt, nextUp, nextAt, settled, dive};
 ghost use Rattle.reader.specs.Inside.{Small, IsLevel, IsAt, Is, IsNext};
 
 // A level: where its stretch begins, the columns and rows that it splits, the set that it is at, and whether the row waited for needs set 0 before it.
@@ -208,6 +208,34 @@ pub fn next_up(
     no_row()
 }
 
+// The row wanted of a reader at this place: of a high row alone, if it is at one that asks for a row.
+pub fn next_at(
+    x: usize,
+    width: usize,
+    y: usize,
+    height: usize,
+    levels: usize,
+    drawn: usize,
+    level: usize,
+    alone: bool,
+    band: usize,
+) -> Next
+    requires { ⌜ Small (side x width) (side y height) drawn × (level ≤ maxLevels) ⌝ }
+    ensures { λ n. ⌜ IsNext (side x width) (side y height) levels drawn (nextAt (side x width) (side y height) levels drawn level alone band) n ⌝ }
+{
+    if !alone {
+        return next_up(x, width, y, height, levels, drawn, level, band);
+    }
+    if level == 0 {
+        return no_row();
+    }
+    let first = next_alone(x, width, y, height, levels, drawn, level, band);
+    if 0 < first.spot.level {
+        return first;
+    }
+    next_up(x, width, y, height, levels, drawn, level, band)
+}
+
 // Where the half row of a band of set n begins, in its level's stretch.
 fn half_place(x: usize, w: usize, n: usize, band: usize) -> usize
     requires { ⌜ (band < 4) × (w ≤ 2 ^ 16) × (n ≤ 2 ^ 32) ⌝ }
@@ -245,7 +273,7 @@ pub fn put_row(
 }
 
 // The set of l, level k + 1, worked out in the level's own stretch; an empty level has none.
-fn work_at(
+pub fn work_at(
     x: usize,
     width: usize,
     y: usize,
@@ -306,31 +334,6 @@ pub fn settle(
         }
     }
     true
-}
-
-// The set of l, level k + 1, worked out if it is complete.
-pub fn finish(
-    x: usize,
-    width: usize,
-    y: usize,
-    height: usize,
-    levels: usize,
-    drawn: usize,
-    store: &mut [i32],
-    k: usize,
-    l: Level,
-    complete: bool,
-) -> bool
-    requires { ⌜ Small (side x width) (side y height) drawn × (levels ≤ maxLevels) × (k < levels) × IsLevel (side x width) (side y height) k l ×
-        (storeLength (side x width) levels ≤ length (now store)) ⌝ }
-    ensures { λ ok. ⌜ outcome ok (at (now (store .exit))) ≡
-        pick complete (workedAt (side x width) (side y height) levels k (l .set) (at (now (store .entry)))) (passed (at (now (store .entry)))) ⌝ }
-    ensures { λ _. ⌜ Kept (storeLength (side x width) levels) (at (now (store .entry))) (at (now (store .exit))) ⌝ }
-{
-    if !complete {
-        return true;
-    }
-    work_at(x, width, y, height, levels, drawn, store, k, l)
 }
 
 // Where row `row` of level `level` begins, of the columns from x on and the rows from y on: past each level whose set it opens. A set of a high row alone comes

@@ -26,7 +26,7 @@ fn waits(rewriting: Rewriting) -> bool {
     let part = rewriting.part;
     let input = rewriting.input;
     if part.kind == 0 {
-        return input.phase < 2;
+        return input.phase < 4;
     }
     false
 }
@@ -35,7 +35,7 @@ fn is_over(rewriting: Rewriting) -> bool {
     let part = rewriting.part;
     let input = rewriting.input;
     if part.kind == 0 {
-        return 1 < input.phase;
+        return 3 < input.phase;
     }
     false
 }

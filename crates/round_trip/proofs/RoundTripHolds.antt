@@ -12,6 +12,7 @@ use borrow.Author.Tests.{le-leb, lt-ltb, eq-eqb, eqb-true}
 use Rattle.numbers.specs.Signal.{pick}
 use Rattle.numbers.specs.Word.{whole}
 use Rattle.numbers.proofs.Sweep.{both}
+use Rattle.lifting.specs.FiveThree.{fiveThreeFilter}
 use Rattle.wavelet.specs.Bands.{Grid, Band, LL, HL, LH, HH, code}
 use Rattle.wavelet.specs.Plane.{cells, planeCell}
 use Rattle.wavelet.specs.ViewCall.{keptAt, bandRowExists}
@@ -80,7 +81,7 @@ module _ (W : Side) (s H : ℕ) (g : Grid) where
         size = sym long;
         values = λ i p.
             has .are (x .band) (sym (n .band)) i (rw long at p)
-            ∙ ap₂ (λ q r. levelBand whole W (side s H) g q (x .band) r i) (sym (n .level)) (sym (n .row));
+            ∙ ap₂ (λ q r. levelBand fiveThreeFilter whole W (side s H) g q (x .band) r i) (sym (n .level)) (sym (n .row));
       }
 
   found-right : (ds : List writer.DrawnRow) (names : List RowName) → map (λ d. d .row) ds ≡ map (answered W) names →
@@ -206,19 +207,19 @@ module _ (W H : Side) (L : ℕ) (plane : ℕ → ℤ) (g : Grid) where
       let a = exists-parts W H L k b r e in
       record { deep = a .0; most = a .2; last = kept-last k b (a .3); row = a .1; column = p }
 
-  rows-plane : 0 < L → IsMap (W .length) (H .length) g → HasAll W H L g (planeRows W H plane) → HasPlane L W H g (cells (W .length) plane)
+  rows-plane : 0 < L → IsMap (W .length) (H .length) g → HasAll W H L g (planeRows W H plane) → HasPlane fiveThreeFilter L W H g (cells (W .length) plane)
   unfolding planeRows cells
   rows-plane some m h = record { map = m; coefficients = λ r c p q. at r c (found L W H r c some p q) }
     where
-      at : (r c : ℕ) → Found L W H r c → plane (r * W .length + c) ≡ planeCell whole L W H g r c
+      at : (r c : ℕ) → Found L W H r c → plane (r * W .length + c) ≡ planeCell fiveThreeFilter whole L W H g r c
       at r c f =
           ap plane (sym (found-place L W H r c f))
           ∙ h .are (record { level = f .level; band = f .band; row = f .row }) (exists-if (f .level) (f .band) (f .row) (f .column) (f .stands)) .values
           (f .column) (f .stands .column)
-          ∙ sym (cell-places whole L W H g (f .level) (f .band) (f .row) (f .column) (f .stands))
-          ∙ ap₂ (planeCell whole L W H g) (f .row-is) (f .column-is)
+          ∙ sym (cell-places fiveThreeFilter whole L W H g (f .level) (f .band) (f .row) (f .column) (f .stands))
+          ∙ ap₂ (planeCell fiveThreeFilter whole L W H g) (f .row-is) (f .column-is)
 
-  plane-rows : HasPlane L W H g (cells (W .length) plane) → HasAll W H L g (planeRows W H plane)
+  plane-rows : HasPlane fiveThreeFilter L W H g (cells (W .length) plane) → HasAll W H L g (planeRows W H plane)
   unfolding planeRows cells
   plane-rows has = record {
     are = λ y e. record {
@@ -227,7 +228,7 @@ module _ (W H : Side) (L : ℕ) (plane : ℕ → ℤ) (g : Grid) where
           let s = stands-if (y .level) (y .band) (y .row) i e p in
           ap plane (place-is W H (y .level) (y .band) (y .row) i)
           ∙ has .coefficients _ _ (row-in L W H (y .level) (y .band) (y .row) i s) (column-in L W H (y .level) (y .band) (y .row) i s)
-          ∙ cell-places whole L W H g (y .level) (y .band) (y .row) i s;
+          ∙ cell-places fiveThreeFilter whole L W H g (y .level) (y .band) (y .row) i s;
     };
   }
 

@@ -7,6 +7,7 @@ use lib.IntN.{ℤ, pos}
 use lib.ListN.{length, getD}
 use lib.Dec.{eqb}
 use Rattle.numbers.specs.Signal.{pick, both}
+use Rattle.lifting.specs.FiveThree.{fiveThreeFilter}
 use Rattle.wavelet.specs.Limits.{maxSample, maxOrigin}
 use Rattle.wavelet.specs.Bands.{Grid, code}
 use Rattle.wavelet.specs.Plane.{cells}
@@ -61,7 +62,7 @@ module _ (W : Side) (s L n : ℕ) (x : ℕ → ℤ) (cs : List writer.Call) wher
     freshReader = reader.freshWorld W sideWrote L n′ y
 
     abbrev pub turns : List reader.Call
-    turns = played (drawnAs (writer.drawn wrote)) outs (length (steps W sideWrote L)) freshReader
+    turns = played (drawnAs (writer.drawn wrote)) outs (length (steps 1 W sideWrote L)) freshReader
 
     abbrev pub read : List reader.Event
     read = reader.events turns freshReader
@@ -87,7 +88,7 @@ planeRows W H plane x =
 
 module _ (W H : Side) (L n : ℕ) (y : ℕ → ℤ) (plane : ℕ → ℤ) (outs : ℕ → Area) where
   abbrev pub planeTurns : List reader.Call
-  planeTurns = played (planeRows W H plane) outs (length (steps W H L)) (reader.freshWorld W H L n y)
+  planeTurns = played (planeRows W H plane) outs (length (steps 1 W H L)) (reader.freshWorld W H L n y)
 
   abbrev pub planeRead : List reader.Event
   planeRead = reader.events planeTurns (reader.freshWorld W H L n y)
@@ -97,5 +98,5 @@ module _ (W H : Side) (L n : ℕ) (y : ℕ → ℤ) (plane : ℕ → ℤ) (outs 
 
   -- of a map's plane it hands back that map and says Done; of a plane that no map has, it gives 7 or 14 and never says Done
   pub record FromPlane : Type 0 where
-    pub map-back : (g : Grid) → HasPlane L W H g (cells (W .length) plane) → Back W H g planeRead planeThen
-    pub no-map : ((g : Grid) → HasPlane L W H g (cells (W .length) plane) → ⊥) → Stopped planeRead planeThen
+    pub map-back : (g : Grid) → HasPlane fiveThreeFilter L W H g (cells (W .length) plane) → Back W H g planeRead planeThen
+    pub no-map : ((g : Grid) → HasPlane fiveThreeFilter L W H g (cells (W .length) plane) → ⊥) → Stopped planeRead planeThen

@@ -9,8 +9,9 @@ use Rattle.wavelet.specs.Questions.{within}
 use Rattle.wavelet.specs.Maps.{every, everyCell, valueFits, inRange, rebuiltFits}
 use Rattle.wavelet.specs.Bands.{across, down, bandOf, columnsLifted, subband, rowsUnlifted, levelBack, rowsHave, columnsHave, levelHas}
 use Rattle.wavelet.specs.Plane.{cells, flat, halfAt, placeIn, inCorner, planeCell, planeOf, levelAt, planeBands, mapBack}
-use Rattle.wavelet.specs.Order.{handedOut, inTurn, firstSet, lastSet, setRow, setHas, rowsOf, setRows, madeBy, closing, made}
-use Rattle.wavelet.specs.Steps.{feedAll, bandRowsOf, setOf, setsBefore, rowSteps, setSteps, steps}
+use Rattle.wavelet.specs.Order.{handedOut, inTurn, firstSet, lastSet, setRow, setHas, rowsOf, setRows, madeBy, unmade, closing}
+use Rattle.wavelet.specs.Order.{made}
+use Rattle.wavelet.specs.Steps.{feedAll, bandRowsOf, setTo, setOf, setsBefore, rowSteps, setSteps, steps}
 use Rattle.wavelet.specs.Levels.{next, sideAt, approximation, levelBand}
 use Rattle.wavelet.specs.View.{bandColumns}
 use Rattle.whole_map.specs.Calls.{sizeQuestions, planeQuestions, backwardQuestion}
@@ -19,8 +20,8 @@ use Rattle.samples.specs.Samples.{also}
 
 pub samples-hold : AllHold table
 unfolding values listed lineForward lowAt highAt before after half place mirror predicted updated count planeOf planeCell inCorner flat cells subband columnsLifted
-    across down bandOf halfAt placeIn bandRow bandColumns next sideAt approximation levelBand handedOut firstSet lastSet setRow setHas rowsOf setRows madeBy closing
-    inTurn made feedAll setOf setsBefore rowSteps setSteps steps bandRowsOf backwardQuestion sizeQuestions planeQuestions within maxWidth maxHeight maxLevels
+    across down bandOf halfAt placeIn bandRow bandColumns next sideAt approximation levelBand handedOut firstSet lastSet setRow setHas rowsOf setRows madeBy
+    unmade closing inTurn made feedAll setTo setOf setsBefore rowSteps setSteps steps bandRowsOf backwardQuestion sizeQuestions planeQuestions within maxWidth maxHeight maxLevels
     maxSample range inRange rebuiltFits everyCell every valueFits levelAt planeBands mapBack levelBack levelHas rowsHave columnsHave rowsUnlifted lineBack
     lineHalvesBack joined evenAt oddAt hasLine loneHigh isEven unupdated unpredicted wrap32
 samples-hold =
@@ -39,8 +40,8 @@ samples-hold =
 
 pub odd-samples-hold : AllHold oddTable
 unfolding values listed lineForward lowAt highAt before after half place mirror predicted updated count planeOf planeCell inCorner flat cells subband columnsLifted
-    across down bandOf halfAt placeIn bandRow bandColumns next sideAt approximation levelBand handedOut firstSet lastSet setRow setHas rowsOf setRows madeBy closing
-    inTurn made feedAll setOf setsBefore rowSteps setSteps steps bandRowsOf backwardQuestion sizeQuestions planeQuestions within maxWidth maxHeight maxLevels
+    across down bandOf halfAt placeIn bandRow bandColumns next sideAt approximation levelBand handedOut firstSet lastSet setRow setHas rowsOf setRows madeBy
+    unmade closing inTurn made feedAll setTo setOf setsBefore rowSteps setSteps steps bandRowsOf backwardQuestion sizeQuestions planeQuestions within maxWidth maxHeight maxLevels
     maxSample range inRange rebuiltFits everyCell every valueFits levelAt planeBands mapBack levelBack levelHas rowsHave columnsHave rowsUnlifted lineBack
     lineHalvesBack joined evenAt oddAt hasLine loneHigh isEven unupdated unpredicted wrap32
 odd-samples-hold =

@@ -9,6 +9,7 @@ use Rattle.numbers.specs.Signal.{at}
 use Rattle.numbers.specs.Word.{whole}
 use Rattle.lifting.specs.Line.{Half, lo, hi}
 use Rattle.lifting.specs.Grid.{Side, side, count, lineForward}
+use Rattle.lifting.specs.FiveThree.{fiveThreeFilter}
 use Rattle.wavelet.specs.Bands.{Grid, LL, LH}
 use Rattle.wavelet.specs.Plane.{cells, planeOf}
 use Rattle.wavelet.specs.Order.{RowName, rowName, made}
@@ -34,7 +35,7 @@ pub record BandRow : Type 0 where
 -- the band row of that name, of a map of the columns W and the rows H
 unfoldable pub bandRow : Side → Side → Grid → RowName → BandRow
 bandRow W H g x =
-    record { name = x; values = listed (bandColumns W (x .level) (x .band)) (levelBand whole W H g (x .level) (x .band) (x .row)) }
+    record { name = x; values = listed (bandColumns W (x .level) (x .band)) (levelBand fiveThreeFilter whole W H g (x .level) (x .band) (x .row)) }
 
 -- a kind of sample
 pub data Sample : Type 0 where
@@ -52,12 +53,13 @@ pub data Sample : Type 0 where
 -- what makes a sample of each kind hold
 pub data Holds : Sample → Type 0 where
   holds-line : {s : ℕ} {l low high : List ℤ} → values lo s l ≡ low → values hi s l ≡ high → Holds (line s l low high)
-  holds-map : {L : ℕ} {W H : Side} {g p : List ℤ} → listed (W .length * H .length) (planeOf whole L W H (cells (W .length) (at g))) ≡ p → Holds (map L W H g p)
+  holds-map : {L : ℕ} {W H : Side} {g p : List ℤ} → listed (W .length * H .length) (planeOf fiveThreeFilter whole L W H (cells (W .length) (at g))) ≡ p
+      → Holds (map L W H g p)
   holds-answer : {L : ℕ} {W H : Side} {q : ℕ} {p : List ℤ} →
       backwardQuestion W H L (length p) (W .length * H .length) (W .length * H .length) (cells (W .length) (at p)) ≡ q → Holds (answer L W H p q)
   holds-order : {L : ℕ} {W H : Side} {g : List ℤ} {l : List BandRow} →
-      each (bandRow W H (cells (W .length) (at g))) (made W (H .start) L (H .length) true) ≡ l → Holds (order L W H g l)
-  holds-wants : {L : ℕ} {W H : Side} {l : List RowName} → bandRowsOf (steps W H L) ≡ l → Holds (wants L W H l)
+      each (bandRow W H (cells (W .length) (at g))) (made 1 W (H .start) L (H .length) true) ≡ l → Holds (order L W H g l)
+  holds-wants : {L : ℕ} {W H : Side} {l : List RowName} → bandRowsOf (steps 1 W H L) ≡ l → Holds (wants L W H l)
 
 -- a side of n that starts at 0
 abbrev pub zeroed : ℕ → Side

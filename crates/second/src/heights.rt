@@ -1,15 +1,19 @@
 // The maps that are compared: their sizes, where they start on the grid, and heights of several kinds.
 use crate::area;
+use wavelet::limits;
 use wavelet::shape::Shape;
 
 // Kinds of heights.
 const KINDS: usize = 6;
 
-// 97 sizes (9 × 9 small ones and the 16 of `large`), at 1 to 5 levels, with heights of 6 kinds: once at origin 0,
-pub const AT_ZERO: usize = 2910;
+// 97 sizes: 9 × 9 small ones and the 16 of `large`.
+const SIZES: usize = 97;
+
+// At every number of levels, with heights of every kind: once at origin 0,
+pub const AT_ZERO: usize = SIZES * limits::MAX_LEVELS * KINDS;
 
 // and once more at origins from 0 to 3 each way.
-pub const MAPS: usize = 5820;
+pub const MAPS: usize = 2 * AT_ZERO;
 
 fn shape_of(width: usize, height: usize, levels: usize) -> Shape {
     Shape {
@@ -47,15 +51,15 @@ fn large(i: usize, levels: usize) -> Shape {
         11 => shape_of(64, 5, levels),
         12 => shape_of(3, 130, levels),
         13 => shape_of(1, 1025, levels),
-        14 => shape_of(2048, 2, levels),
-        _ => shape_of(2049, 3, levels),
+        14 => shape_of(limits::MAX_WIDTH - 1, 2, levels),
+        _ => shape_of(limits::MAX_WIDTH, 3, levels),
     }
 }
 
 // The size and the levels of map number i at origin 0.
 fn size_at(i: usize) -> Shape {
-    let size = i / (5 * KINDS);
-    let levels = i % 5 + 1;
+    let size = i / (limits::MAX_LEVELS * KINDS);
+    let levels = i % limits::MAX_LEVELS + 1;
     if size < 81 {
         return shape_of(size % 9 + 1, size / 9 + 1, levels);
     }
@@ -86,17 +90,17 @@ pub fn up_to(seed: u64, n: usize, times: usize) -> usize {
     (seed % (area::FAR as u64)) as usize % (area::cell(n, times, 0) + 1)
 }
 
-// A height of a kind: any; all 0; all 65,535; 0 or 65,535; small ones; a slope.
+// A height of a kind: any; all 0; all the largest; 0 or the largest; small ones; a slope.
 fn height(kind: usize, seed: u64, i: usize) -> u16 {
     match kind {
         0 => (seed % 65536) as u16,
         1 => 0,
-        2 => 65535,
+        2 => limits::MAX_SAMPLE as u16,
         3 => {
             if seed % 2 == 0 {
                 return 0;
             }
-            65535
+            limits::MAX_SAMPLE as u16
         }
         4 => (seed % 8) as u16,
         _ => ((i % 257) * 255) as u16,
@@ -112,7 +116,7 @@ fn set_height(map: &mut [u16], i: usize, v: u16) {
 // The heights of map number i at the front of `map`.
 pub fn fill(map: &mut [u16], i: usize) {
     let n = count(shape_at(i));
-    let kind = i / 5 % KINDS;
+    let kind = i / limits::MAX_LEVELS % KINDS;
     let mut seed = next(area::sum(i as u64, 1));
     let mut j = 0;
     while j < n {

@@ -8,6 +8,7 @@ ghost use lib.ListN.{length};
 ghost use lib.Dec.{eqb};
 ghost use Rattle.numbers.specs.Signal.{at, pick};
 ghost use Rattle.numbers.specs.Word.{whole, wrap32};
+ghost use Rattle.lifting.specs.FiveThree.{fiveThreeFilter};
 ghost use Rattle.wavelet.specs.Plane.{cells, flat, planeOf, mapBack};
 ghost use Rattle.wavelet.specs.Shape.{columns, rows};
 ghost use Rattle.wavelet.specs.ViewCall.{viewQuestion, viewStart, viewLength};
@@ -25,7 +26,8 @@ pub extern "C" fn terrain_map_forward(
     ensures { λ r. ⌜ r ≡ forwardQuestion (columns shape) (rows shape) (shape .levels) (length (now (heights .entry))) (length (now (plane .entry)))
         (length (now (work .entry))) ⌝ }
     ensures { λ r. ⌜ at (now (plane .exit)) ≡ passed r (shape .width * shape .height)
-        (planeOf whole (shape .levels) (columns shape) (rows shape) (cells (shape .width) (heightsAt (now (heights .entry))))) (at (now (plane .entry))) ⌝ }
+        (planeOf fiveThreeFilter whole (shape .levels) (columns shape) (rows shape) (cells (shape .width) (heightsAt (now (heights .entry)))))
+        (at (now (plane .entry))) ⌝ }
     ensures { λ r. ⌜ at (now (work .exit)) ≡ passed r (shape .width * shape .height) zeros (at (now (work .entry))) ⌝ }
 {
     whole_map::forward(heights, shape, plane, work) as u32
@@ -42,7 +44,7 @@ pub extern "C" fn terrain_map_backward(
     ensures { λ r. ⌜ r ≡ backwardQuestion (columns shape) (rows shape) (shape .levels) (length (now (plane .entry))) (length (now (heights .entry)))
         (length (now (work .entry))) (cells (shape .width) (at (now (plane .entry)))) ⌝ }
     ensures { λ r. ⌜ heightsAt (now (heights .exit)) ≡ rebuilt r (shape .width * shape .height)
-        (flat (shape .width) (mapBack wrap32 (shape .levels) (columns shape) (rows shape) (cells (shape .width) (at (now (plane .entry))))))
+        (flat (shape .width) (mapBack fiveThreeFilter wrap32 (shape .levels) (columns shape) (rows shape) (cells (shape .width) (at (now (plane .entry))))))
         (heightsAt (now (heights .entry))) ⌝ }
     ensures { λ r. ⌜ at (now (work .exit)) ≡ rebuilt r (shape .width * shape .height) zeros (at (now (work .entry))) ⌝ }
 {

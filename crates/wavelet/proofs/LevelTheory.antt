@@ -1,4 +1,5 @@
--- The theory of levels of maps on the grid, over the definitions of specs/Bands and specs/Plane.
+-- The theory of levels of maps on the grid, over the definitions of specs/Bands and specs/Plane, for every filter that meets its laws (FilterLaws of
+-- `lifting`): the 5/3 and the 9/7 do.
 -- A law with any `keep` holds for words and for whole numbers. A law over `K : Keeping keep` asks that the numbers are good, which is "a 32-bit number" for
 -- `words` and nothing for `wholes`; its word form stands after it.
 --     subband-reads, subband-inner, level-back-reads    what one level reads
@@ -9,7 +10,7 @@
 -- A side of one sample at an odd coordinate is doubled. There and back it comes again where its double is good (`Doubles`); back and there where each value
 -- that is halved is even (`Has`, which is `levelHas` for words).
 -- Assumes nothing.
-use mathlib.Core.Path.{_≡_, refl, sym, ap, _∙_, fun-ext}
+use mathlib.Core.Path.{_≡_, refl, sym, ap, ap₂, _∙_, fun-ext}
 use mathlib.Core.Bool.{Bool, true}
 use mathlib.Core.Logic.{_↔_}
 use Prim.Native.Nat.{ℕ, zero, suc, _+_, _-_, _≤_, _<_}
@@ -24,10 +25,9 @@ use Rattle.numbers.specs.Word.{wrap32, whole}
 use Rattle.numbers.proofs.Sweep.{both}
 use Rattle.numbers.proofs.TestLaws.{every-each, each-every, every-same}
 use Rattle.lifting.specs.Line.{Half, lo, hi}
-use Rattle.lifting.specs.Grid.{Side, side, place, count, lineForward, lineBack, loneHigh, hasLine}
-use Rattle.lifting.proofs.FiveThree.{Keeping, words, wholes, forward-good, back-good, line-back-forward, line-forward-back}
-use Rattle.lifting.proofs.GridReads.{forward-reads, back-reads}
-use Rattle.lifting.proofs.GridTheorems.{forward-inner, forward-has}
+use Rattle.lifting.specs.Grid.{Side, side, place, count, loneHigh, hasLine}
+use Rattle.lifting.specs.Filter.{Filter, lineBackBy}
+use Rattle.lifting.proofs.FilterLaws.{Keeping, words, wholes, FilterLaws}
 use Rattle.lifting.proofs.LoneLaws.{has-reads}
 use Rattle.wavelet.specs.Bands.{Grid, Band, LL, HL, LH, HH, across, down, bandOf, columnsLifted, subband, rowsUnlifted, levelBack, rowsHave, columnsHave}
 use Rattle.wavelet.specs.Bands.{levelHas}
@@ -64,178 +64,6 @@ Same W H g g′ = (r c : ℕ) → r < H .length → c < W .length → g r c ≡ 
 
 abbrev pub SameBands : Side → Side → (Band → Grid) → (Band → Grid) → Type 0
 SameBands W H p q = (b : Band) (r c : ℕ) → r < count (down b) H → c < count (across b) W → p b r c ≡ q b r c
-
--- ---- what one level reads: cells that are there, of rows up to that of low row r + 1
-pub columns-reads : (keep : ℤ → ℤ) (W H : Side) (g g′ : Grid) (h : Half) (r c : ℕ) → r < count h H → c < W .length →
-    ((i j : ℕ) → i < H .length → i ≤ place H lo (r + 1) → j < W .length → g i j ≡ g′ i j) → columnsLifted keep H g h r c ≡ columnsLifted keep H g′ h r c
-unfolding columnsLifted
-columns-reads keep W H g g′ h r c p q e = forward-reads keep H (λ i. g i c) (λ i. g′ i c) h r p (λ i u v. e i c u v q)
-
-pub subband-reads : (keep : ℤ → ℤ) (W H : Side) (g g′ : Grid) (b : Band) (r c : ℕ) → r < count (down b) H → c < count (across b) W →
-    ((i j : ℕ) → i < H .length → i ≤ place H lo (r + 1) → j < W .length → g i j ≡ g′ i j) → subband keep W H g b r c ≡ subband keep W H g′ b r c
-unfolding subband
-subband-reads keep W H g g′ b r c p q e =
-    forward-reads keep W (columnsLifted keep H g (down b) r) (columnsLifted keep H g′ (down b) r) (across b) c q
-    (λ j u _. columns-reads keep W H g g′ (down b) r j p u e)
-
-pub subband-same : (keep : ℤ → ℤ) (W H : Side) (g g′ : Grid) → Same W H g g′ → SameBands W H (subband keep W H g) (subband keep W H g′)
-subband-same keep W H g g′ e b r c p q = subband-reads keep W H g g′ b r c p q (λ i j u _ v. e i j u v)
-
--- away from the end of the columns it does not see the height
-pub subband-inner : (keep : ℤ → ℤ) (W : Side) (s N N′ : ℕ) (g : Grid) (b : Band) (r : ℕ) → place (side s N) lo (r + 1) < N → place (side s N′) lo (r + 1) < N′ →
-    subband keep W (side s N) g b r ≡ subband keep W (side s N′) g b r
-unfolding subband columnsLifted
-subband-inner keep W s N N′ g b r p q =
-    ap (λ (x : ℕ → ℤ). lineForward keep W x (across b)) (fun-ext λ c. forward-inner keep s N N′ (λ i. g i c) (down b) r p q)
-
--- the way back reads the bands' own cells
-pub rows-reads : (keep : ℤ → ℤ) (W H : Side) (p q : Band → Grid) → SameBands W H p q → (h : Half) (r c : ℕ) → r < count h H → c < W .length →
-    rowsUnlifted keep W p h r c ≡ rowsUnlifted keep W q h r c
-unfolding rowsUnlifted
-rows-reads keep W H p q e h r c s v =
-    back-reads keep W (λ a. p (bandOf a h) r) (λ a. q (bandOf a h) r) (λ a j t. e (bandOf a h) r j (rw (down-of a h) s) (rw (across-of a h) t)) c v
-
-pub level-back-reads : (keep : ℤ → ℤ) (W H : Side) (p q : Band → Grid) → SameBands W H p q → Same W H (levelBack keep W H p) (levelBack keep W H q)
-unfolding levelBack
-level-back-reads keep W H p q e r c u v =
-    back-reads keep H (λ h i. rowsUnlifted keep W p h i c) (λ h i. rowsUnlifted keep W q h i c) (λ h i s. rows-reads keep W H p q e h i c s v) r u
-
--- ---- 14: each row of the bands is a line's, and then each column
-pub record Has (keep : ℤ → ℤ) (W H : Side) (p : Band → Grid) : Type 0 where
-  pub rows : (h : Half) (r : ℕ) → r < count h H → hasLine W (λ a. p (bandOf a h) r) ≡ true
-  pub columns : (c : ℕ) → c < W .length → hasLine H (λ h i. rowsUnlifted keep W p h i c) ≡ true
-
-module _ (W H : Side) (p : Band → Grid) where
-  abbrev row-has : Half → ℕ → Bool
-  row-has h r = hasLine W (λ a. p (bandOf a h) r)
-
-  abbrev column-has : ℕ → Bool
-  column-has c = hasLine H (λ h i. rowsUnlifted wrap32 W p h i c)
-
-  pub level-has : levelHas W H p ≡ true ↔ Has wrap32 W H p
-  unfolding levelHas rowsHave columnsHave
-  level-has = (
-    λ e.
-        let a = both (rowsHave W H p) (columnsHave W H p) e in
-        let b = both (every (count lo H) (row-has lo)) (every (count hi H) (row-has hi)) (a .0) in
-        record {
-          rows = λ h. elim h [ lo ↦ every-each (count lo H) (row-has lo) (b .0) | hi ↦ every-each (count hi H) (row-has hi) (b .1) ];
-          columns = every-each (W .length) column-has (a .1);
-        },
-    λ h.
-        simp (
-          each-every (count lo H) (row-has lo) (h .rows lo),
-          each-every (count hi H) (row-has hi) (h .rows hi),
-          each-every (W .length) column-has (h .columns),
-        ),
-  )
-
--- it reads the bands' own cells
-pub level-has-reads : (W H : Side) (p q : Band → Grid) → SameBands W H p q → levelHas W H p ≡ levelHas W H q
-unfolding levelHas rowsHave columnsHave
-level-has-reads W H p q e =
-    let rows : (h : Half) (r : ℕ) → r < count h H → row-has W H p h r ≡ row-has W H q h r =
-    λ h r s. has-reads W _ _ (λ a j t. e (bandOf a h) r j (rw (down-of a h) s) (rw (across-of a h) t)) in
-    rw (
-      every-same (count lo H) (row-has W H p lo) (row-has W H q lo) (rows lo),
-      every-same (count hi H) (row-has W H p hi) (row-has W H q hi) (rows hi),
-      every-same (W .length) (column-has W H p) (column-has W H q)
-          (λ c v. has-reads H _ _ (λ h i s. rows-reads wrap32 W H p q e h i c s v)),
-    ) refl
-
--- ---- one level and its way back
--- what is doubled stays good: the samples of a lone row, and what the lifted columns leave of a lone column
-pub record Doubles {keep : ℤ → ℤ} (K : Keeping keep) (W H : Side) (g : Grid) : Type 0 where
-  pub columns : loneHigh H ≡ true → (c : ℕ) → c < W .length → K .Good (pos 2 *ℤ g 0 c)
-  pub rows : loneHigh W ≡ true → (h : Half) (r : ℕ) → r < count h H → K .Good (pos 2 *ℤ columnsLifted keep H g h r 0)
-
-module _ {keep : ℤ → ℤ} (K : Keeping keep) where
-  open Keeping K using (Good)
-
-  columns-good : (W H : Side) (g : Grid) → OnCells Good W H g → (h : Half) (r c : ℕ) → r < count h H → c < W .length → Good (columnsLifted keep H g h r c)
-  unfolding columnsLifted
-  columns-good W H g good h r c p q = forward-good K H (λ i. g i c) (λ i u. good i c u q) h r p
-
-  rows-good : (W H : Side) (p : Band → Grid) → OnBands Good W H p → (h : Half) (r c : ℕ) → r < count h H → c < W .length → Good (rowsUnlifted keep W p h r c)
-  unfolding rowsUnlifted
-  rows-good W H p good h r c u v =
-      back-good K W (λ a. p (bandOf a h) r) (λ a n t. good (bandOf a h) r n (rw (down-of a h) u) (rw (across-of a h) t)) c v
-
-  pub subband-good : (W H : Side) (g : Grid) → OnCells Good W H g → OnBands Good W H (subband keep W H g)
-  unfolding subband
-  subband-good W H g good b r c p q =
-      forward-good K W (columnsLifted keep H g (down b) r) (λ j u. columns-good W H g good (down b) r j p u) (across b) c q
-
-  pub level-back-good : (W H : Side) (p : Band → Grid) → OnBands Good W H p → OnCells Good W H (levelBack keep W H p)
-  unfolding levelBack
-  level-back-good W H p good r c u v =
-      back-good K H (λ h i. rowsUnlifted keep W p h i c) (λ h i s. rows-good W H p good h i c s v) r u
-
-  -- row r of half h of a grid's bands is the lifted columns' row, lifted
-  row-of-bands : (W H : Side) (g : Grid) (h : Half) (r : ℕ) → _≡_ {A = Half → ℕ → ℤ} (λ a. subband keep W H g (bandOf a h) r)
-      (lineForward keep W (columnsLifted keep H g h r))
-  unfolding subband
-  row-of-bands W H g h r = fun-ext λ a. rw (down-of a h, across-of a h) refl
-
-  -- the rows of the bands, lifted back, are the lifted columns
-  pub rows-columns : (W H : Side) (g : Grid) → OnCells Good W H g → Doubles K W H g → (h : Half) (r c : ℕ) → r < count h H → c < W .length →
-      rowsUnlifted keep W (subband keep W H g) h r c ≡ columnsLifted keep H g h r c
-  unfolding rowsUnlifted
-  rows-columns W H g good twice h r c p q =
-      ap (λ (x : Half → ℕ → ℤ). lineBack keep W x c) (row-of-bands W H g h r)
-      ∙ line-back-forward K W (columnsLifted keep H g h r) (λ j u. columns-good W H g good h r j p u) (λ e. twice .rows e h r p) c q
-
-  columns-rows : (W H : Side) (p : Band → Grid) → OnBands Good W H p → Has keep W H p → (h : Half) (r c : ℕ) → r < count h H → c < W .length →
-      columnsLifted keep H (levelBack keep W H p) h r c ≡ rowsUnlifted keep W p h r c
-  unfolding columnsLifted levelBack
-  columns-rows W H p good has h r c u v =
-      line-forward-back K H (λ y i. rowsUnlifted keep W p y i c) (λ y i s. rows-good W H p good y i c s v) (has .columns c v) h r u
-
-  pub level-back-forward : (W H : Side) (g : Grid) → OnCells Good W H g → Doubles K W H g → Same W H (levelBack keep W H (subband keep W H g)) g
-  unfolding levelBack columnsLifted
-  level-back-forward W H g good twice r c u v =
-      back-reads keep H (λ h i. rowsUnlifted keep W (subband keep W H g) h i c) (lineForward keep H (λ i. g i c))
-      (λ h i s. rows-columns W H g good twice h i c s v) r u
-      ∙ line-back-forward K H (λ i. g i c) (λ i t. good i c t v) (λ e. twice .columns e c v) r u
-
-  pub level-forward-back : (W H : Side) (p : Band → Grid) → OnBands Good W H p → Has keep W H p → SameBands W H (subband keep W H (levelBack keep W H p)) p
-  unfolding subband rowsUnlifted
-  level-forward-back W H p good has b r c u v =
-      forward-reads keep W (columnsLifted keep H (levelBack keep W H p) (down b) r) (rowsUnlifted keep W p (down b) r) (across b) c v
-      (λ j s _. columns-rows W H p good has (down b) r j u s)
-      ∙ line-forward-back K W (λ a. p (bandOf a (down b)) r)
-      (λ a n t. good (bandOf a (down b)) r n (rw (down-of a (down b)) u) (rw (across-of a (down b)) t)) (has .rows (down b) r u) (across b) c v
-      ∙ ap (λ (d : Band). p d r c) (band-of b)
-
--- the same for words
-pub level-back-fits : (W H : Side) (p : Band → Grid) → OnBands (SFits w32) W H p → OnCells (SFits w32) W H (levelBack wrap32 W H p)
-level-back-fits = level-back-good words
-
-pub words-back-forward : (W H : Side) (g : Grid) → OnCells (SFits w32) W H g → Doubles words W H g → (r c : ℕ) → r < H .length → c < W .length →
-    levelBack wrap32 W H (subband wrap32 W H g) r c ≡ g r c
-words-back-forward = level-back-forward words
-
-pub words-forward-back : (W H : Side) (p : Band → Grid) → OnBands (SFits w32) W H p → levelHas W H p ≡ true → (b : Band) (r c : ℕ) →
-    r < count (down b) H → c < count (across b) W → subband wrap32 W H (levelBack wrap32 W H p) b r c ≡ p b r c
-words-forward-back W H p fits has = level-forward-back words W H p fits (level-has W H p .0 has)
-
--- the bands of a grid never give 14
-pub subband-has : (W H : Side) (g : Grid) → OnCells (SFits w32) W H g → Doubles words W H g → levelHas W H (subband wrap32 W H g) ≡ true
-unfolding columnsLifted
-subband-has W H g fits twice =
-    level-has W H (subband wrap32 W H g) .1
-    record {
-      rows = λ h r p. ap (hasLine W) (row-of-bands words W H g h r) ∙ forward-has W (columnsLifted wrap32 H g h r);
-      columns = λ c v.
-          has-reads H _ (lineForward wrap32 H (λ i. g i c)) (λ h i s. rows-columns words W H g fits twice h i c s v) ∙ forward-has H (λ i. g i c);
-    }
-
--- in whole numbers a double is a number
-pub whole-doubles : (W H : Side) (g : Grid) → Doubles wholes W H g
-whole-doubles W H g = record { columns = λ _ _ _. tt; rows = λ _ _ _ _. tt }
-
-pub whole-back-forward : (W H : Side) (g : Grid) → Same W H (levelBack whole W H (subband whole W H g)) g
-whole-back-forward W H g = level-back-forward wholes W H g (λ _ _ _ _. tt) (whole-doubles W H g)
 
 -- ---- the plane, band by band
 -- where number n of half h of a side stands in the plane: the low half at the front, the high half after it
@@ -285,27 +113,6 @@ bandIn W H x b r c = x (placed (down b) H r) (placed (across b) W c)
 pub plane-bands : (W H : Side) (a x : Grid) → planeBands W H a x ≡ over a (bandIn W H x)
 unfolding planeBands over bandIn placed across down
 plane-bands W H a x = fun-ext λ b. elim b [ LL ↦ refl | HL ↦ refl | LH ↦ refl | HH ↦ refl ]
-
-module _ (keep : ℤ → ℤ) (L : ℕ) (W H : Side) where
-  -- level 1 of the plane: its three bands, and in the low-low corner the plane of the low-low part
-  pub plane-at : (g : Grid) → SameBands W H (bandIn W H (planeCell keep (suc L) W H g))
-      (over (planeCell keep L (next W) (next H) (subband keep W H g LL)) (subband keep W H g))
-  unfolding bandIn planeCell inCorner over placed halfAt placeIn across down bandOf
-  plane-at g LL r c p q = simp (lt-ltb r (count lo H) p, lt-ltb c (count lo W) q)
-  plane-at g HL r c p q =
-      let e : count lo W + c - count lo W ≡ c = omega arith in
-      simp (lt-ltb r (count lo H) p, le-ltb (count lo W + c) (count lo W) (omega arith), e)
-  plane-at g LH r c p q =
-      let e : count lo H + r - count lo H ≡ r = omega arith in
-      simp (lt-ltb c (count lo W) q, le-ltb (count lo H + r) (count lo H) (omega arith), e)
-  plane-at g HH r c p q =
-      let e : count lo H + r - count lo H ≡ r = omega arith in
-      let d : count lo W + c - count lo W ≡ c = omega arith in
-      simp (le-ltb (count lo H + r) (count lo H) (omega arith), le-ltb (count lo W + c) (count lo W) (omega arith), e, d)
-
-  pub map-back-at : (x : Grid) → mapBack keep (suc L) W H x ≡ levelBack keep W H (over (mapBack keep L (next W) (next H) x) (bandIn W H x))
-  unfolding mapBack
-  map-back-at x = ap (levelBack keep W H) (plane-bands W H (mapBack keep L (next W) (next H) x) x)
 
 pub level-at : (L : ℕ) (W H : Side) (b : Band) (r c : ℕ) → r < count (down b) H → c < count (across b) W →
     levelAt (suc L) W H (placed (down b) H r) (placed (across b) W c) ≡ over (λ i j. 1 + levelAt L (next W) (next H) i j) (λ d i j. 1) b r c
@@ -370,144 +177,353 @@ pub same-bands : (W H : Side) (x y : Grid) → SameBands W H (bandIn W H x) (ban
 unfolding bandIn
 same-bands W H x y = by-band W H (λ r c. x r c ≡ y r c)
 
-pub plane-corner : (keep : ℤ → ℤ) (L : ℕ) (W H : Side) (g : Grid) →
-    Same (next W) (next H) (planeCell keep (suc L) W H g) (planeCell keep L (next W) (next H) (subband keep W H g LL))
-unfolding bandIn over placed across down next
-plane-corner keep L W H g = plane-at keep L W H g LL
+-- ---- 14: each row of the bands is a line's, and then each column
+pub record Has (F : Filter) (keep : ℤ → ℤ) (W H : Side) (p : Band → Grid) : Type 0 where
+  pub rows : (h : Half) (r : ℕ) → r < count h H → hasLine W (λ a. p (bandOf a h) r) ≡ true
+  pub columns : (c : ℕ) → c < W .length → hasLine H (λ h i. rowsUnlifted F keep W p h i c) ≡ true
 
--- ---- what all levels read: the cells that are there
-pub plane-reads : (keep : ℤ → ℤ) (L : ℕ) (W H : Side) (g g′ : Grid) → Same W H g g′ → Same W H (planeCell keep L W H g) (planeCell keep L W H g′)
-unfolding planeCell
-plane-reads keep zero W H g g′ e = e
-plane-reads keep (suc L) W H g g′ e =
-    let one = subband-same keep W H g g′ e in
-    let rest = plane-reads keep L (next W) (next H) _ _ (same-low W H _ _ one) in
-    let both = over-same W H _ _ _ _ rest one in
-    same-bands W H _ _ (λ b r c p q. plane-at keep L W H g b r c p q ∙ both b r c p q ∙ sym (plane-at keep L W H g′ b r c p q))
+module _ (F : Filter) (W H : Side) (p : Band → Grid) where
+  abbrev row-has : Half → ℕ → Bool
+  row-has h r = hasLine W (λ a. p (bandOf a h) r)
 
-pub map-back-reads : (keep : ℤ → ℤ) (L : ℕ) (W H : Side) (x y : Grid) → Same W H x y → Same W H (mapBack keep L W H x) (mapBack keep L W H y)
-unfolding mapBack
-map-back-reads keep zero W H x y e = e
-map-back-reads keep (suc L) W H x y e =
-    let rest = map-back-reads keep L (next W) (next H) x y (same-corner W H x y e) in
-    λ r c p q.
-    ap (λ (g : Grid). g r c) (map-back-at keep L W H x)
-    ∙ level-back-reads keep W H _ _ (over-same W H _ _ _ _ rest (same-in-bands W H x y e)) r c p q
-    ∙ ap (λ (g : Grid). g r c) (sym (map-back-at keep L W H y))
+  abbrev column-has : ℕ → Bool
+  column-has c = hasLine H (λ h i. rowsUnlifted F wrap32 W p h i c)
 
--- ---- all levels and their way back
+  pub level-has : levelHas F W H p ≡ true ↔ Has F wrap32 W H p
+  unfolding levelHas rowsHave columnsHave
+  level-has = (
+    λ e.
+        let a = both (rowsHave W H p) (columnsHave F W H p) e in
+        let b = both (every (count lo H) (row-has lo)) (every (count hi H) (row-has hi)) (a .0) in
+        record {
+          rows = λ h. elim h [ lo ↦ every-each (count lo H) (row-has lo) (b .0) | hi ↦ every-each (count hi H) (row-has hi) (b .1) ];
+          columns = every-each (W .length) column-has (a .1);
+        },
+    λ h.
+        simp (
+          each-every (count lo H) (row-has lo) (h .rows lo),
+          each-every (count hi H) (row-has hi) (h .rows hi),
+          each-every (W .length) column-has (h .columns),
+        ),
+  )
+
+-- ---- what is doubled stays good: the samples of a lone row, and what the lifted columns leave of a lone column
+pub record Doubles (F : Filter) {keep : ℤ → ℤ} (K : Keeping keep) (W H : Side) (g : Grid) : Type 0 where
+  pub columns : loneHigh H ≡ true → (c : ℕ) → c < W .length → K .Good (pos 2 *ℤ g 0 c)
+  pub rows : loneHigh W ≡ true → (h : Half) (r : ℕ) → r < count h H → K .Good (pos 2 *ℤ columnsLifted F keep H g h r 0)
+
+-- ---- the same of all levels
 -- at each level what is doubled stays good
-pub data AllDouble {keep : ℤ → ℤ} (K : Keeping keep) : ℕ → Side → Side → Grid → Type 0 where
-  none : {W H : Side} {g : Grid} → AllDouble K zero W H g
-  more : {L : ℕ} {W H : Side} {g : Grid} → Doubles K W H g → AllDouble K L (next W) (next H) (subband keep W H g LL) → AllDouble K (suc L) W H g
+pub data AllDouble (F : Filter) {keep : ℤ → ℤ} (K : Keeping keep) : ℕ → Side → Side → Grid → Type 0 where
+  none : {W H : Side} {g : Grid} → AllDouble F K zero W H g
+  more : {L : ℕ} {W H : Side} {g : Grid} → Doubles F K W H g → AllDouble F K L (next W) (next H) (subband F keep W H g LL) → AllDouble F K (suc L) W H g
 
 -- the bands of level 1 in the plane x, with the low-low part that the levels left give
-abbrev pub bandsBack : (ℤ → ℤ) → ℕ → Side → Side → Grid → Band → Grid
-bandsBack keep L W H x = over (mapBack keep L (next W) (next H) x) (bandIn W H x)
+abbrev pub bandsBack : Filter → (ℤ → ℤ) → ℕ → Side → Side → Grid → Band → Grid
+bandsBack F keep L W H x = over (mapBack F keep L (next W) (next H) x) (bandIn W H x)
 
 -- at each level each value that is halved is even
-pub data AllHave (keep : ℤ → ℤ) : ℕ → Side → Side → Grid → Type 0 where
-  none : {W H : Side} {x : Grid} → AllHave keep zero W H x
-  more : {L : ℕ} {W H : Side} {x : Grid} → AllHave keep L (next W) (next H) x → Has keep W H (bandsBack keep L W H x) → AllHave keep (suc L) W H x
+pub data AllHave (F : Filter) (keep : ℤ → ℤ) : ℕ → Side → Side → Grid → Type 0 where
+  none : {W H : Side} {x : Grid} → AllHave F keep zero W H x
+  more : {L : ℕ} {W H : Side} {x : Grid} → AllHave F keep L (next W) (next H) x → Has F keep W H (bandsBack F keep L W H x) → AllHave F keep (suc L) W H x
 
-module _ {keep : ℤ → ℤ} (K : Keeping keep) where
-  open Keeping K using (Good)
+-- ---- what no law of the filter is needed for
+module _ (F : Filter) where
+  -- row r of half h of a grid's bands is the lifted columns' row, lifted
+  row-of-bands : (keep : ℤ → ℤ) (W H : Side) (g : Grid) (h : Half) (r : ℕ) → _≡_ {A = Half → ℕ → ℤ} (λ a. subband F keep W H g (bandOf a h) r)
+      (F .forward keep W (columnsLifted F keep H g h r))
+  unfolding subband
+  row-of-bands keep W H g h r =
+      fun-ext λ a. ap₂ (λ (d e : Half). F .forward keep W (columnsLifted F keep H g d r) e) (down-of a h) (across-of a h)
 
-  pub plane-good : (L : ℕ) (W H : Side) (g : Grid) → OnCells Good W H g → OnCells Good W H (planeCell keep L W H g)
-  unfolding planeCell bandIn
-  plane-good zero W H g good = good
-  plane-good (suc L) W H g good =
-      let one = subband-good K W H g good in
-      let rest = plane-good L (next W) (next H) _ (low-all Good W H _ one) in
-      by-band W H (λ r c. Good (planeCell keep (suc L) W H g r c))
-      (λ b r c p q. rw (plane-at keep L W H g b r c p q) (over-all Good W H _ _ rest one b r c p q))
+  -- in whole numbers a double is a number
+  pub whole-doubles : (W H : Side) (g : Grid) → Doubles F wholes W H g
+  whole-doubles W H g = record { columns = λ _ _ _. tt; rows = λ _ _ _ _. tt }
 
-  pub map-back-good : (L : ℕ) (W H : Side) (x : Grid) → OnCells Good W H x → OnCells Good W H (mapBack keep L W H x)
+  pub whole-all-double : (L : ℕ) (W H : Side) (g : Grid) → AllDouble F wholes L W H g
+  whole-all-double zero W H g = none
+  whole-all-double (suc L) W H g = more (whole-doubles W H g) (whole-all-double L (next W) (next H) _)
+
+  module _ (keep : ℤ → ℤ) (L : ℕ) (W H : Side) where
+    -- level 1 of the plane: its three bands, and in the low-low corner the plane of the low-low part
+    pub plane-at : (g : Grid) → SameBands W H (bandIn W H (planeCell F keep (suc L) W H g))
+        (over (planeCell F keep L (next W) (next H) (subband F keep W H g LL)) (subband F keep W H g))
+    unfolding bandIn planeCell inCorner over placed halfAt placeIn across down bandOf
+    plane-at g LL r c p q = simp (lt-ltb r (count lo H) p, lt-ltb c (count lo W) q)
+    plane-at g HL r c p q =
+        let e : count lo W + c - count lo W ≡ c = omega arith in
+        simp (lt-ltb r (count lo H) p, le-ltb (count lo W + c) (count lo W) (omega arith), e)
+    plane-at g LH r c p q =
+        let e : count lo H + r - count lo H ≡ r = omega arith in
+        simp (lt-ltb c (count lo W) q, le-ltb (count lo H + r) (count lo H) (omega arith), e)
+    plane-at g HH r c p q =
+        let e : count lo H + r - count lo H ≡ r = omega arith in
+        let d : count lo W + c - count lo W ≡ c = omega arith in
+        simp (le-ltb (count lo H + r) (count lo H) (omega arith), le-ltb (count lo W + c) (count lo W) (omega arith), e, d)
+
+    pub map-back-at : (x : Grid) → mapBack F keep (suc L) W H x ≡ levelBack F keep W H (over (mapBack F keep L (next W) (next H) x) (bandIn W H x))
+    unfolding mapBack
+    map-back-at x = ap (levelBack F keep W H) (plane-bands W H (mapBack F keep L (next W) (next H) x) x)
+
+  pub plane-corner : (keep : ℤ → ℤ) (L : ℕ) (W H : Side) (g : Grid) →
+      Same (next W) (next H) (planeCell F keep (suc L) W H g) (planeCell F keep L (next W) (next H) (subband F keep W H g LL))
+  unfolding bandIn over placed across down next
+  plane-corner keep L W H g = plane-at keep L W H g LL
+
+-- ---- what is proved over the laws of the filter
+module _ (F : Filter) (laws : FilterLaws F) where
+  open FilterLaws laws using (forward-good, back-good, line-back-forward, line-forward-back, forward-has, forward-reads, back-reads, forward-inner)
+
+  -- ---- what one level reads: cells that are there, of rows up to that of low row r + ahead
+  pub columns-reads : (keep : ℤ → ℤ) (W H : Side) (g g′ : Grid) (h : Half) (r c : ℕ) → r < count h H → c < W .length →
+      ((i j : ℕ) → i < H .length → i ≤ place H lo (r + F .ahead) → j < W .length → g i j ≡ g′ i j)
+      → columnsLifted F keep H g h r c ≡ columnsLifted F keep H g′ h r c
+  unfolding columnsLifted
+  columns-reads keep W H g g′ h r c p q e = forward-reads keep H (λ i. g i c) (λ i. g′ i c) h r p (λ i u v. e i c u v q)
+
+  pub subband-reads : (keep : ℤ → ℤ) (W H : Side) (g g′ : Grid) (b : Band) (r c : ℕ) → r < count (down b) H → c < count (across b) W →
+      ((i j : ℕ) → i < H .length → i ≤ place H lo (r + F .ahead) → j < W .length → g i j ≡ g′ i j) → subband F keep W H g b r c ≡ subband F keep W H g′ b r c
+  unfolding subband
+  subband-reads keep W H g g′ b r c p q e =
+      forward-reads keep W (columnsLifted F keep H g (down b) r) (columnsLifted F keep H g′ (down b) r) (across b) c q
+      (λ j u _. columns-reads keep W H g g′ (down b) r j p u e)
+
+  pub subband-same : (keep : ℤ → ℤ) (W H : Side) (g g′ : Grid) → Same W H g g′ → SameBands W H (subband F keep W H g) (subband F keep W H g′)
+  subband-same keep W H g g′ e b r c p q = subband-reads keep W H g g′ b r c p q (λ i j u _ v. e i j u v)
+
+  -- away from the end of the columns it does not see the height
+  pub subband-inner : (keep : ℤ → ℤ) (W : Side) (s N N′ : ℕ) (g : Grid) (b : Band) (r : ℕ) → place (side s N) lo (r + F .ahead) < N
+      → place (side s N′) lo (r + F .ahead) < N′ →
+      subband F keep W (side s N) g b r ≡ subband F keep W (side s N′) g b r
+  unfolding subband columnsLifted
+  subband-inner keep W s N N′ g b r p q =
+      ap (λ (x : ℕ → ℤ). F .forward keep W x (across b)) (fun-ext λ c. forward-inner keep s N N′ (λ i. g i c) (down b) r p q)
+
+  -- the way back reads the bands' own cells
+  pub rows-reads : (keep : ℤ → ℤ) (W H : Side) (p q : Band → Grid) → SameBands W H p q → (h : Half) (r c : ℕ) → r < count h H → c < W .length →
+      rowsUnlifted F keep W p h r c ≡ rowsUnlifted F keep W q h r c
+  unfolding rowsUnlifted
+  rows-reads keep W H p q e h r c s v =
+      back-reads keep W (λ a. p (bandOf a h) r) (λ a. q (bandOf a h) r) (λ a j t. e (bandOf a h) r j (rw (down-of a h) s) (rw (across-of a h) t)) c v
+
+  pub level-back-reads : (keep : ℤ → ℤ) (W H : Side) (p q : Band → Grid) → SameBands W H p q → Same W H (levelBack F keep W H p) (levelBack F keep W H q)
+  unfolding levelBack
+  level-back-reads keep W H p q e r c u v =
+      back-reads keep H (λ h i. rowsUnlifted F keep W p h i c) (λ h i. rowsUnlifted F keep W q h i c) (λ h i s. rows-reads keep W H p q e h i c s v) r u
+
+  -- and so does the question of 14
+  pub level-has-reads : (W H : Side) (p q : Band → Grid) → SameBands W H p q → levelHas F W H p ≡ levelHas F W H q
+  unfolding levelHas rowsHave columnsHave
+  level-has-reads W H p q e =
+      let rows : (h : Half) (r : ℕ) → r < count h H → row-has F W H p h r ≡ row-has F W H q h r =
+      λ h r s. has-reads W _ _ (λ a j t. e (bandOf a h) r j (rw (down-of a h) s) (rw (across-of a h) t)) in
+      rw (
+        every-same (count lo H) (row-has F W H p lo) (row-has F W H q lo) (rows lo),
+        every-same (count hi H) (row-has F W H p hi) (row-has F W H q hi) (rows hi),
+        every-same (W .length) (column-has F W H p) (column-has F W H q)
+            (λ c v. has-reads H _ _ (λ h i s. rows-reads wrap32 W H p q e h i c s v)),
+      ) refl
+
+  -- ---- one level and its way back
+  module _ {keep : ℤ → ℤ} (K : Keeping keep) where
+    open Keeping K using (Good)
+
+    columns-good : (W H : Side) (g : Grid) → OnCells Good W H g → (h : Half) (r c : ℕ) → r < count h H → c < W .length → Good (columnsLifted F keep H g h r c)
+    unfolding columnsLifted
+    columns-good W H g good h r c p q = forward-good K H (λ i. g i c) (λ i u. good i c u q) h r p
+
+    rows-good : (W H : Side) (p : Band → Grid) → OnBands Good W H p → (h : Half) (r c : ℕ) → r < count h H → c < W .length
+        → Good (rowsUnlifted F keep W p h r c)
+    unfolding rowsUnlifted
+    rows-good W H p good h r c u v =
+        back-good K W (λ a. p (bandOf a h) r) (λ a n t. good (bandOf a h) r n (rw (down-of a h) u) (rw (across-of a h) t)) c v
+
+    pub subband-good : (W H : Side) (g : Grid) → OnCells Good W H g → OnBands Good W H (subband F keep W H g)
+    unfolding subband
+    subband-good W H g good b r c p q =
+        forward-good K W (columnsLifted F keep H g (down b) r) (λ j u. columns-good W H g good (down b) r j p u) (across b) c q
+
+    pub level-back-good : (W H : Side) (p : Band → Grid) → OnBands Good W H p → OnCells Good W H (levelBack F keep W H p)
+    unfolding levelBack
+    level-back-good W H p good r c u v =
+        back-good K H (λ h i. rowsUnlifted F keep W p h i c) (λ h i s. rows-good W H p good h i c s v) r u
+
+    -- the rows of the bands, lifted back, are the lifted columns
+    pub rows-columns : (W H : Side) (g : Grid) → OnCells Good W H g → Doubles F K W H g → (h : Half) (r c : ℕ) → r < count h H → c < W .length →
+        rowsUnlifted F keep W (subband F keep W H g) h r c ≡ columnsLifted F keep H g h r c
+    unfolding rowsUnlifted
+    rows-columns W H g good twice h r c p q =
+        ap (λ (x : Half → ℕ → ℤ). lineBackBy F keep W x c) (row-of-bands F keep W H g h r)
+        ∙ line-back-forward K W (columnsLifted F keep H g h r) (λ j u. columns-good W H g good h r j p u) (λ e. twice .rows e h r p) c q
+
+    columns-rows : (W H : Side) (p : Band → Grid) → OnBands Good W H p → Has F keep W H p → (h : Half) (r c : ℕ) → r < count h H → c < W .length →
+        columnsLifted F keep H (levelBack F keep W H p) h r c ≡ rowsUnlifted F keep W p h r c
+    unfolding columnsLifted levelBack
+    columns-rows W H p good has h r c u v =
+        line-forward-back K H (λ y i. rowsUnlifted F keep W p y i c) (λ y i s. rows-good W H p good y i c s v) (has .columns c v) h r u
+
+    pub level-back-forward : (W H : Side) (g : Grid) → OnCells Good W H g → Doubles F K W H g → Same W H (levelBack F keep W H (subband F keep W H g)) g
+    unfolding levelBack columnsLifted
+    level-back-forward W H g good twice r c u v =
+        back-reads keep H (λ h i. rowsUnlifted F keep W (subband F keep W H g) h i c) (F .forward keep H (λ i. g i c))
+        (λ h i s. rows-columns W H g good twice h i c s v) r u
+        ∙ line-back-forward K H (λ i. g i c) (λ i t. good i c t v) (λ e. twice .columns e c v) r u
+
+    pub level-forward-back : (W H : Side) (p : Band → Grid) → OnBands Good W H p → Has F keep W H p
+        → SameBands W H (subband F keep W H (levelBack F keep W H p)) p
+    unfolding subband rowsUnlifted
+    level-forward-back W H p good has b r c u v =
+        forward-reads keep W (columnsLifted F keep H (levelBack F keep W H p) (down b) r) (rowsUnlifted F keep W p (down b) r) (across b) c v
+        (λ j s _. columns-rows W H p good has (down b) r j u s)
+        ∙ line-forward-back K W (λ a. p (bandOf a (down b)) r)
+        (λ a n t. good (bandOf a (down b)) r n (rw (down-of a (down b)) u) (rw (across-of a (down b)) t)) (has .rows (down b) r u) (across b) c v
+        ∙ ap (λ (d : Band). p d r c) (band-of b)
+
+  -- the same for words
+  pub level-back-fits : (W H : Side) (p : Band → Grid) → OnBands (SFits w32) W H p → OnCells (SFits w32) W H (levelBack F wrap32 W H p)
+  level-back-fits = level-back-good words
+
+  pub words-back-forward : (W H : Side) (g : Grid) → OnCells (SFits w32) W H g → Doubles F words W H g → (r c : ℕ) → r < H .length → c < W .length →
+      levelBack F wrap32 W H (subband F wrap32 W H g) r c ≡ g r c
+  words-back-forward = level-back-forward words
+
+  pub words-forward-back : (W H : Side) (p : Band → Grid) → OnBands (SFits w32) W H p → levelHas F W H p ≡ true → (b : Band) (r c : ℕ) →
+      r < count (down b) H → c < count (across b) W → subband F wrap32 W H (levelBack F wrap32 W H p) b r c ≡ p b r c
+  words-forward-back W H p fits has = level-forward-back words W H p fits (level-has F W H p .0 has)
+
+  -- the bands of a grid never give 14
+  pub subband-has : (W H : Side) (g : Grid) → OnCells (SFits w32) W H g → Doubles F words W H g → levelHas F W H (subband F wrap32 W H g) ≡ true
+  unfolding columnsLifted
+  subband-has W H g fits twice =
+      level-has F W H (subband F wrap32 W H g) .1
+      record {
+        rows = λ h r p. ap (hasLine W) (row-of-bands F wrap32 W H g h r) ∙ forward-has W (columnsLifted F wrap32 H g h r);
+        columns = λ c v.
+            has-reads H _ (F .forward wrap32 H (λ i. g i c)) (λ h i s. rows-columns words W H g fits twice h i c s v) ∙ forward-has H (λ i. g i c);
+      }
+
+  pub whole-back-forward : (W H : Side) (g : Grid) → Same W H (levelBack F whole W H (subband F whole W H g)) g
+  whole-back-forward W H g = level-back-forward wholes W H g (λ _ _ _ _. tt) (whole-doubles F W H g)
+
+  -- ---- what all levels read: the cells that are there
+  pub plane-reads : (keep : ℤ → ℤ) (L : ℕ) (W H : Side) (g g′ : Grid) → Same W H g g′ → Same W H (planeCell F keep L W H g) (planeCell F keep L W H g′)
+  unfolding planeCell
+  plane-reads keep zero W H g g′ e = e
+  plane-reads keep (suc L) W H g g′ e =
+      let one = subband-same keep W H g g′ e in
+      let rest = plane-reads keep L (next W) (next H) _ _ (same-low W H _ _ one) in
+      let both = over-same W H _ _ _ _ rest one in
+      same-bands W H _ _ (λ b r c p q. plane-at F keep L W H g b r c p q ∙ both b r c p q ∙ sym (plane-at F keep L W H g′ b r c p q))
+
+  pub map-back-reads : (keep : ℤ → ℤ) (L : ℕ) (W H : Side) (x y : Grid) → Same W H x y → Same W H (mapBack F keep L W H x) (mapBack F keep L W H y)
   unfolding mapBack
-  map-back-good zero W H x good = good
-  map-back-good (suc L) W H x good =
-      let rest = map-back-good L (next W) (next H) x (corner Good W H x good) in
-      rw (map-back-at keep L W H x) (level-back-good K W H _ (over-all Good W H _ _ rest (in-bands Good W H x good)))
-
-  pub bands-back-good : (L : ℕ) (W H : Side) (x : Grid) → OnCells Good W H x → OnBands Good W H (bandsBack keep L W H x)
-  bands-back-good L W H x good = over-all Good W H _ _ (map-back-good L (next W) (next H) x (corner Good W H x good)) (in-bands Good W H x good)
-
-  -- the bands in the plane of a grid are the grid's, if the plane of its low-low part gives that part back
-  bands-in-plane : (L : ℕ) (W H : Side) (g : Grid) →
-      Same (next W) (next H) (mapBack keep L (next W) (next H) (planeCell keep L (next W) (next H) (subband keep W H g LL))) (subband keep W H g LL) →
-      SameBands W H (bandsBack keep L W H (planeCell keep (suc L) W H g)) (subband keep W H g)
-  bands-in-plane L W H g back b r c p q =
-      let x = planeCell keep (suc L) W H g in
-      let ll = subband keep W H g LL in
-      let low : Same (next W) (next H) (mapBack keep L (next W) (next H) x) ll =
-      λ r c p q. map-back-reads keep L (next W) (next H) x (planeCell keep L (next W) (next H) ll) (plane-corner keep L W H g) r c p q ∙ back r c p q in
-      over-same W H _ _ _ _ low (plane-at keep L W H g) b r c p q
-      ∙ ap (λ (f : Grid). f r c) (over-twice _ (subband keep W H g) b)
-
-  pub map-back-plane : (L : ℕ) (W H : Side) (g : Grid) → OnCells Good W H g → AllDouble K L W H g → Same W H (mapBack keep L W H (planeCell keep L W H g)) g
-  unfolding mapBack planeCell
-  map-back-plane zero W H g good none = λ r c p q. refl
-  map-back-plane (suc L) W H g good (more twice left) =
-      let ih = map-back-plane L (next W) (next H) (subband keep W H g LL) (low-all Good W H (subband keep W H g) (subband-good K W H g good)) left in
+  map-back-reads keep zero W H x y e = e
+  map-back-reads keep (suc L) W H x y e =
+      let rest = map-back-reads keep L (next W) (next H) x y (same-corner W H x y e) in
       λ r c p q.
-      ap (λ (f : Grid). f r c) (map-back-at keep L W H (planeCell keep (suc L) W H g))
-      ∙ level-back-reads keep W H _ _ (bands-in-plane L W H g ih) r c p q
-      ∙ level-back-forward K W H g good twice r c p q
+      ap (λ (g : Grid). g r c) (map-back-at F keep L W H x)
+      ∙ level-back-reads keep W H _ _ (over-same W H _ _ _ _ rest (same-in-bands W H x y e)) r c p q
+      ∙ ap (λ (g : Grid). g r c) (sym (map-back-at F keep L W H y))
 
-  pub bands-plane : (L : ℕ) (W H : Side) (g : Grid) → OnCells Good W H g → AllDouble K L (next W) (next H) (subband keep W H g LL) →
-      SameBands W H (bandsBack keep L W H (planeCell keep (suc L) W H g)) (subband keep W H g)
-  bands-plane L W H g good left =
-      bands-in-plane L W H g (map-back-plane L (next W) (next H) _ (low-all Good W H (subband keep W H g) (subband-good K W H g good)) left)
+  -- ---- all levels and their way back
+  module _ {keep : ℤ → ℤ} (K : Keeping keep) where
+    open Keeping K using (Good)
 
-  -- the bands of the grid that a plane gives: those that stand in it
-  pub bands-map-back : (L : ℕ) (W H : Side) (x : Grid) → OnCells Good W H x → Has keep W H (bandsBack keep L W H x) →
-      SameBands W H (subband keep W H (mapBack keep (suc L) W H x)) (bandsBack keep L W H x)
-  bands-map-back L W H x good has =
-      rw (map-back-at keep L W H x) (level-forward-back K W H _ (bands-back-good L W H x good) has)
+    pub plane-good : (L : ℕ) (W H : Side) (g : Grid) → OnCells Good W H g → OnCells Good W H (planeCell F keep L W H g)
+    unfolding planeCell bandIn
+    plane-good zero W H g good = good
+    plane-good (suc L) W H g good =
+        let one = subband-good K W H g good in
+        let rest = plane-good L (next W) (next H) _ (low-all Good W H _ one) in
+        by-band W H (λ r c. Good (planeCell F keep (suc L) W H g r c))
+        (λ b r c p q. rw (plane-at F keep L W H g b r c p q) (over-all Good W H _ _ rest one b r c p q))
 
-  pub low-map-back : (L : ℕ) (W H : Side) (x : Grid) → OnCells Good W H x → Has keep W H (bandsBack keep L W H x) →
-      Same (next W) (next H) (subband keep W H (mapBack keep (suc L) W H x) LL) (mapBack keep L (next W) (next H) x)
-  unfolding over
-  low-map-back L W H x good has = same-low W H (subband keep W H (mapBack keep (suc L) W H x)) _ (bands-map-back L W H x good has)
+    pub map-back-good : (L : ℕ) (W H : Side) (x : Grid) → OnCells Good W H x → OnCells Good W H (mapBack F keep L W H x)
+    unfolding mapBack
+    map-back-good zero W H x good = good
+    map-back-good (suc L) W H x good =
+        let rest = map-back-good L (next W) (next H) x (corner Good W H x good) in
+        rw (map-back-at F keep L W H x) (level-back-good K W H _ (over-all Good W H _ _ rest (in-bands Good W H x good)))
 
-  pub plane-map-back : (L : ℕ) (W H : Side) (x : Grid) → OnCells Good W H x → AllHave keep L W H x → Same W H (planeCell keep L W H (mapBack keep L W H x)) x
-  unfolding mapBack planeCell
-  plane-map-back zero W H x good none = λ r c p q. refl
-  plane-map-back (suc L) W H x good (more left has) =
-      let m = mapBack keep (suc L) W H x in
-      let one = bands-map-back L W H x good has in
-      let ih = plane-map-back L (next W) (next H) x (corner Good W H x good) left in
-      let low : Same (next W) (next H) (planeCell keep L (next W) (next H) (subband keep W H m LL)) x =
-      λ r c p q.
-      plane-reads keep L (next W) (next H) (subband keep W H m LL) (mapBack keep L (next W) (next H) x) (low-map-back L W H x good has) r c p q
-      ∙ ih r c p q in
-      same-bands W H (planeCell keep (suc L) W H m) x
-      (λ b r c p q.
-      plane-at keep L W H m b r c p q
-      ∙ over-same W H _ _ _ _ low one b r c p q
-      ∙ ap (λ (f : Grid). f r c) (over-band W H x (mapBack keep L (next W) (next H) x) b))
+    pub bands-back-good : (L : ℕ) (W H : Side) (x : Grid) → OnCells Good W H x → OnBands Good W H (bandsBack F keep L W H x)
+    bands-back-good L W H x good = over-all Good W H _ _ (map-back-good L (next W) (next H) x (corner Good W H x good)) (in-bands Good W H x good)
 
-  -- so grids with the same plane are the same
-  pub plane-unique : (L : ℕ) (W H : Side) (g g′ : Grid) → OnCells Good W H g → OnCells Good W H g′ → AllDouble K L W H g → AllDouble K L W H g′ →
-      Same W H (planeCell keep L W H g) (planeCell keep L W H g′) → Same W H g g′
-  plane-unique L W H g g′ good good′ twice twice′ e r c p q =
-      sym (map-back-plane L W H g good twice r c p q)
-      ∙ map-back-reads keep L W H _ _ e r c p q
-      ∙ map-back-plane L W H g′ good′ twice′ r c p q
+    -- the bands in the plane of a grid are the grid's, if the plane of its low-low part gives that part back
+    bands-in-plane : (L : ℕ) (W H : Side) (g : Grid) →
+        Same (next W) (next H) (mapBack F keep L (next W) (next H) (planeCell F keep L (next W) (next H) (subband F keep W H g LL))) (subband F keep W H g LL) →
+        SameBands W H (bandsBack F keep L W H (planeCell F keep (suc L) W H g)) (subband F keep W H g)
+    bands-in-plane L W H g back b r c p q =
+        let x = planeCell F keep (suc L) W H g in
+        let ll = subband F keep W H g LL in
+        let low : Same (next W) (next H) (mapBack F keep L (next W) (next H) x) ll =
+        λ r c p q. map-back-reads keep L (next W) (next H) x (planeCell F keep L (next W) (next H) ll) (plane-corner F keep L W H g) r c p q ∙ back r c p q in
+        over-same W H _ _ _ _ low (plane-at F keep L W H g) b r c p q
+        ∙ ap (λ (f : Grid). f r c) (over-twice _ (subband F keep W H g) b)
 
--- ---- the same for words
-pub words-map-back-plane : (L : ℕ) (W H : Side) (g : Grid) → OnCells (SFits w32) W H g → AllDouble words L W H g → (r c : ℕ) → r < H .length → c < W .length →
-    mapBack wrap32 L W H (planeCell wrap32 L W H g) r c ≡ g r c
-words-map-back-plane = map-back-plane words
+    pub map-back-plane : (L : ℕ) (W H : Side) (g : Grid) → OnCells Good W H g → AllDouble F K L W H g
+        → Same W H (mapBack F keep L W H (planeCell F keep L W H g)) g
+    unfolding mapBack planeCell
+    map-back-plane zero W H g good none = λ r c p q. refl
+    map-back-plane (suc L) W H g good (more twice left) =
+        let ih = map-back-plane L (next W) (next H) (subband F keep W H g LL) (low-all Good W H (subband F keep W H g) (subband-good K W H g good)) left in
+        λ r c p q.
+        ap (λ (f : Grid). f r c) (map-back-at F keep L W H (planeCell F keep (suc L) W H g))
+        ∙ level-back-reads keep W H _ _ (bands-in-plane L W H g ih) r c p q
+        ∙ level-back-forward K W H g good twice r c p q
 
-pub words-plane-map-back : (L : ℕ) (W H : Side) (x : Grid) → OnCells (SFits w32) W H x → AllHave wrap32 L W H x → (r c : ℕ) → r < H .length → c < W .length →
-    planeCell wrap32 L W H (mapBack wrap32 L W H x) r c ≡ x r c
-words-plane-map-back = plane-map-back words
+    pub bands-plane : (L : ℕ) (W H : Side) (g : Grid) → OnCells Good W H g → AllDouble F K L (next W) (next H) (subband F keep W H g LL) →
+        SameBands W H (bandsBack F keep L W H (planeCell F keep (suc L) W H g)) (subband F keep W H g)
+    bands-plane L W H g good left =
+        bands-in-plane L W H g (map-back-plane L (next W) (next H) _ (low-all Good W H (subband F keep W H g) (subband-good K W H g good)) left)
 
--- and for whole numbers: the plane of any grid gives it back
-pub whole-all-double : (L : ℕ) (W H : Side) (g : Grid) → AllDouble wholes L W H g
-whole-all-double zero W H g = none
-whole-all-double (suc L) W H g = more (whole-doubles W H g) (whole-all-double L (next W) (next H) _)
+    -- the bands of the grid that a plane gives: those that stand in it
+    pub bands-map-back : (L : ℕ) (W H : Side) (x : Grid) → OnCells Good W H x → Has F keep W H (bandsBack F keep L W H x) →
+        SameBands W H (subband F keep W H (mapBack F keep (suc L) W H x)) (bandsBack F keep L W H x)
+    bands-map-back L W H x good has =
+        rw (map-back-at F keep L W H x) (level-forward-back K W H _ (bands-back-good L W H x good) has)
 
-pub whole-map-back-plane : (L : ℕ) (W H : Side) (g : Grid) → Same W H (mapBack whole L W H (planeCell whole L W H g)) g
-whole-map-back-plane L W H g = map-back-plane wholes L W H g (λ _ _ _ _. tt) (whole-all-double L W H g)
+    pub low-map-back : (L : ℕ) (W H : Side) (x : Grid) → OnCells Good W H x → Has F keep W H (bandsBack F keep L W H x) →
+        Same (next W) (next H) (subband F keep W H (mapBack F keep (suc L) W H x) LL) (mapBack F keep L (next W) (next H) x)
+    unfolding over
+    low-map-back L W H x good has = same-low W H (subband F keep W H (mapBack F keep (suc L) W H x)) _ (bands-map-back L W H x good has)
+
+    pub plane-map-back : (L : ℕ) (W H : Side) (x : Grid) → OnCells Good W H x → AllHave F keep L W H x
+        → Same W H (planeCell F keep L W H (mapBack F keep L W H x)) x
+    unfolding mapBack planeCell
+    plane-map-back zero W H x good none = λ r c p q. refl
+    plane-map-back (suc L) W H x good (more left has) =
+        let m = mapBack F keep (suc L) W H x in
+        let one = bands-map-back L W H x good has in
+        let ih = plane-map-back L (next W) (next H) x (corner Good W H x good) left in
+        let low : Same (next W) (next H) (planeCell F keep L (next W) (next H) (subband F keep W H m LL)) x =
+        λ r c p q.
+        plane-reads keep L (next W) (next H) (subband F keep W H m LL) (mapBack F keep L (next W) (next H) x) (low-map-back L W H x good has) r c p q
+        ∙ ih r c p q in
+        same-bands W H (planeCell F keep (suc L) W H m) x
+        (λ b r c p q.
+        plane-at F keep L W H m b r c p q
+        ∙ over-same W H _ _ _ _ low one b r c p q
+        ∙ ap (λ (f : Grid). f r c) (over-band W H x (mapBack F keep L (next W) (next H) x) b))
+
+    -- so grids with the same plane are the same
+    pub plane-unique : (L : ℕ) (W H : Side) (g g′ : Grid) → OnCells Good W H g → OnCells Good W H g′ → AllDouble F K L W H g → AllDouble F K L W H g′ →
+        Same W H (planeCell F keep L W H g) (planeCell F keep L W H g′) → Same W H g g′
+    plane-unique L W H g g′ good good′ twice twice′ e r c p q =
+        sym (map-back-plane L W H g good twice r c p q)
+        ∙ map-back-reads keep L W H _ _ e r c p q
+        ∙ map-back-plane L W H g′ good′ twice′ r c p q
+
+  -- ---- the same for words
+  pub words-map-back-plane : (L : ℕ) (W H : Side) (g : Grid) → OnCells (SFits w32) W H g → AllDouble F words L W H g → (r c : ℕ) → r < H .length
+      → c < W .length →
+      mapBack F wrap32 L W H (planeCell F wrap32 L W H g) r c ≡ g r c
+  words-map-back-plane = map-back-plane words
+
+  pub words-plane-map-back : (L : ℕ) (W H : Side) (x : Grid) → OnCells (SFits w32) W H x → AllHave F wrap32 L W H x → (r c : ℕ) → r < H .length
+      → c < W .length →
+      planeCell F wrap32 L W H (mapBack F wrap32 L W H x) r c ≡ x r c
+  words-plane-map-back = plane-map-back words
+
+  -- and for whole numbers: the plane of any grid gives it back
+  pub whole-map-back-plane : (L : ℕ) (W H : Side) (g : Grid) → Same W H (mapBack F whole L W H (planeCell F whole L W H g)) g
+  whole-map-back-plane L W H g = map-back-plane wholes L W H g (λ _ _ _ _. tt) (whole-all-double F L W H g)

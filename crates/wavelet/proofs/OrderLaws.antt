@@ -1,5 +1,5 @@
--- The laws of the order: what each row makes, by its coordinate; the sets of a level one after the other; the rows of a map and its finish together. None asks
--- that a level has rows.
+-- The laws of the order, for any look-ahead a from 1 on: what each row makes, by its coordinate; the sets of a level one after the other; the rows of a map
+-- and its finish together. None asks that a level has rows.
 -- Assumes nothing.
 use mathlib.Core.Bool.{Bool, true, false}
 use mathlib.Core.Path.{_≡_, refl, sym, ap, ap₂, _∙_}
@@ -7,50 +7,54 @@ use mathlib.Core.List.{List, [], _∷_, _++_, append-nil, append-assoc}
 use Prim.Native.Nat.{ℕ, zero, suc, _+_, _-_, _*_, _/_, _%_, _≤_, _<_}
 use native.Mathlib.Decide.{decLt, ℕ-discrete}
 use native.Mathlib.Omega.{arith}
-use native.Mathlib.Numerals.{add-one}
 use lib.Dec.{leb, ltb}
 use borrow.Author.Tests.{lt-ltb, le-ltb, le-leb, lt-leb, eq-eqb, ne-eqb}
 use Rattle.numbers.specs.Signal.{pick, both}
 use Rattle.lifting.specs.Line.{Half, lo, hi}
 use Rattle.lifting.specs.Grid.{Side, side, count}
 use Rattle.wavelet.specs.Bands.{Band, across, down}
-use Rattle.wavelet.specs.Order.{RowName, rowName, handedOut, inTurn, firstSet, lastSet, setRow, setHas, rowsOf, setRows, madeBy, closing}
+use Rattle.wavelet.specs.Order.{RowName, rowName, handedOut, inTurn, firstSet, lastSet, setRow, setHas, rowsOf, setRows, madeBy, unmade}
+use Rattle.wavelet.specs.Order.{closing}
 use Rattle.wavelet.specs.Levels.{next}
 use Rattle.wavelet.proofs.SideLaws.{count-lo, count-none, next-length}
 
 -- what the LL row of set n makes below, where the set has one; and the set with it
-abbrev pub passed : ℕ → ℕ → Side → Side → ℕ → List RowName
-passed l k W H n = pick (leb (firstSet H lo) n) (madeBy l (suc k) (next W) (next H .start) (n - firstSet H lo)) []
+abbrev pub passed : ℕ → ℕ → ℕ → Side → Side → ℕ → List RowName
+passed a l k W H n = pick (leb (firstSet H lo) n) (madeBy a l (suc k) (next W) (next H .start) (n - firstSet H lo)) []
 
-abbrev pub makes : ℕ → ℕ → Side → Side → ℕ → List RowName
-makes l k W H n = setRows l k W H n ++ passed l k W H n
+abbrev pub makes : ℕ → ℕ → ℕ → Side → Side → ℕ → List RowName
+makes a l k W H n = setRows l k W H n ++ passed a l k W H n
 
--- ---- what a row makes: nothing at the coordinates 0 and 1 past the last even one, and at the odd ones
-pub made-first : (L k : ℕ) (W : Side) (s r : ℕ) → s % 2 + r ≤ 1 → madeBy L k W s r ≡ []
+-- ---- what a row makes: nothing before coordinate 2a past the last even one, and at the odd ones
+pub made-early : (a L k : ℕ) (W : Side) (s r : ℕ) → s % 2 + r < 2 * a → madeBy a L k W s r ≡ []
 unfolding madeBy
-made-first zero k W s r h = refl
-made-first (suc l) k W s r h =
+made-early a zero k W s r h = refl
+made-early a (suc l) k W s r h =
     elim (ℕ-discrete ((s % 2 + r) % 2) 0) [
-      | yes e ↦ simp (eq-eqb ((s % 2 + r) % 2) 0 e, le-ltb 1 (s % 2 + r) h)
+      | yes e ↦ simp (eq-eqb ((s % 2 + r) % 2) 0 e, lt-leb (2 * a) (s % 2 + r) h)
       | no e ↦ simp (ne-eqb ((s % 2 + r) % 2) 0 e)
     ]
 
-pub made-odd : (L k : ℕ) (W : Side) (s r : ℕ) → (s % 2 + r) % 2 ≡ 1 → madeBy L k W s r ≡ []
+pub made-odd : (a L k : ℕ) (W : Side) (s r : ℕ) → (s % 2 + r) % 2 ≡ 1 → madeBy a L k W s r ≡ []
 unfolding madeBy
-made-odd zero k W s r h = refl
-made-odd (suc l) k W s r h = simp (ne-eqb ((s % 2 + r) % 2) 0 (omega arith))
+made-odd a zero k W s r h = refl
+made-odd a (suc l) k W s r h = simp (ne-eqb ((s % 2 + r) % 2) 0 (omega arith))
 
--- set n at coordinate 2n + 2
-pub made-even : (l k : ℕ) (W : Side) (s r n : ℕ) → s % 2 + r ≡ 2 * n + 2 → madeBy (suc l) k W s r ≡ makes l k W (side s (r + 1)) n
+-- set n at coordinate 2n + 2a
+pub made-even : (a l k : ℕ) (W : Side) (s r n : ℕ) → s % 2 + r ≡ 2 * n + 2 * a → madeBy a (suc l) k W s r ≡ makes a l k W (side s (r + 1)) n
 unfolding madeBy firstSet next
-made-even l k W s r n h =
-    let e : (s % 2 + r) / 2 - 1 ≡ n = omega arith in
-    simp (eq-eqb ((s % 2 + r) % 2) 0 (omega arith), lt-ltb 1 (s % 2 + r) (omega arith), e)
+made-even a l k W s r n h =
+    let e : (s % 2 + r) / 2 - a ≡ n = omega arith in
+    simp (eq-eqb ((s % 2 + r) % 2) 0 (omega arith), le-leb (2 * a) (s % 2 + r) (omega arith), e)
 
 -- ---- the sets
 pub last-set : (H : Side) → lastSet H ≡ (H .start % 2 + (H .length - 1)) / 2
 unfolding lastSet
 last-set H = refl
+
+pub unmade-is : (a : ℕ) (H : Side) → unmade a H ≡ lastSet H + 1 - a
+unfolding unmade
+unmade-is a H = refl
 
 pub first-low : (H : Side) → firstSet H lo ≡ H .start % 2
 unfolding firstSet
@@ -151,62 +155,73 @@ module _ {A : Type 0} where
       ∙ append-assoc (inTurn n f) _ (f (n + m))
       ∙ ap (λ t. inTurn n f ++ t) (sym (turn-suc m (λ i. f (n + i)))))
 
--- ---- of a level's rows each sets off a set, the last set is made at the finish
-module _ (l k : ℕ) (W : Side) where
+-- ---- of a level's rows each sets off a set, the last sets are made at the finish
+module _ (a l k : ℕ) (W : Side) (one : 1 ≤ a) where
   module _ (s : ℕ) where
-    -- set n with what its LL row makes, as the row at coordinate 2n + 2 sets it off
+    -- set n with what its LL row makes, as the row at coordinate 2n + 2a sets it off
     abbrev off : ℕ → List RowName
-    off n = makes l k W (side s (2 * n + 3 - s % 2)) n
+    off n = makes a l k W (side s (2 * n + 2 * a + 1 - s % 2)) n
 
-    one-more : (m : ℕ) → inTurn (lastSet (side s m)) off ++ madeBy (suc l) k W s m ≡ inTurn (lastSet (side s (suc m))) off
+    -- how many sets m rows make
+    abbrev before : ℕ → ℕ
+    before m = unmade a (side s m)
+
+    before-is : (m : ℕ) → before m ≡ (s % 2 + (m - 1)) / 2 + 1 - a
+    before-is m = unmade-is a (side s m) ∙ ap (λ i. i + 1 - a) (last-set (side s m))
+
+    one-more : (m : ℕ) → inTurn (before m) off ++ madeBy a (suc l) k W s m ≡ inTurn (before (suc m)) off
     one-more m =
         elim (ℕ-discrete ((s % 2 + m) % 2) 1) [
           | yes o ↦
-              let e : lastSet (side s m) ≡ lastSet (side s (suc m)) = omega (arith, last-set (side s m), last-set (side s (suc m))) in
-              rw (made-odd (suc l) k W s m o, e) (append-nil _)
+              let e : before m ≡ before (suc m) = omega (arith, before-is m, before-is (suc m)) in
+              rw (made-odd a (suc l) k W s m o, e) (append-nil _)
           | no o ↦
-              elim (decLt 1 (s % 2 + m)) [
+              elim (decLt (s % 2 + m) (2 * a)) [
                 | yes g ↦
-                    let n = (s % 2 + m) / 2 - 1 in
-                    let a : lastSet (side s m) ≡ n = omega (arith, last-set (side s m)) in
-                    let b : lastSet (side s (suc m)) ≡ suc n = omega (arith, last-set (side s (suc m))) in
-                    let d : m + 1 ≡ 2 * n + 3 - s % 2 = omega arith in
-                    rw (made-even l k W s m n (omega arith), a, b, d) (sym (turn-suc n off))
+                    let e : before m ≡ before (suc m) = omega (arith, before-is m, before-is (suc m)) in
+                    rw (made-early a (suc l) k W s m g, e) (append-nil _)
                 | no g ↦
-                    let e : lastSet (side s m) ≡ lastSet (side s (suc m)) = omega (arith, last-set (side s m), last-set (side s (suc m))) in
-                    rw (made-first (suc l) k W s m (omega arith), e) (append-nil _)
+                    let n = (s % 2 + m) / 2 - a in
+                    let b : before m ≡ n = omega (arith, before-is m) in
+                    let c : before (suc m) ≡ suc n = omega (arith, before-is (suc m)) in
+                    let d : m + 1 ≡ 2 * n + 2 * a + 1 - s % 2 = omega arith in
+                    rw (made-even a l k W s m n (omega arith), b, c, d) (sym (turn-suc n off))
               ]
         ]
 
-    rows-made : (m : ℕ) → inTurn m (madeBy (suc l) k W s) ≡ inTurn (lastSet (side s m)) off
+    rows-made : (m : ℕ) → inTurn m (madeBy a (suc l) k W s) ≡ inTurn (before m) off
     rows-made zero =
-        let e : lastSet (side s 0) ≡ 0 = omega (arith, last-set (side s 0)) in
-        rw e (turn-zero (madeBy (suc l) k W s) ∙ sym (turn-zero off))
+        let e : before 0 ≡ 0 = omega (arith, before-is 0) in
+        rw e (turn-zero (madeBy a (suc l) k W s) ∙ sym (turn-zero off))
     rows-made (suc m) =
-        turn-suc m (madeBy (suc l) k W s)
-        ∙ ap (λ t. t ++ madeBy (suc l) k W s m) (rows-made m)
+        turn-suc m (madeBy a (suc l) k W s)
+        ∙ ap (λ t. t ++ madeBy a (suc l) k W s m) (rows-made m)
         ∙ one-more m
 
-  off-early : (H : Side) (i : ℕ) → i < lastSet H → off (H .start) i ≡ makes l k W H i
+  off-early : (H : Side) (i : ℕ) → i < unmade a H → off (H .start) i ≡ makes a l k W H i
   unfolding firstSet next
   off-early H i b =
-      ap (λ t. t ++ passed l k W H i)
-      (set-early (H .start) (2 * i + 3 - H .start % 2) (H .length) i (omega arith) (omega (arith, last-set H)) l k W)
+      ap (λ t. t ++ passed a l k W H i)
+      (set-early (H .start) (2 * i + 2 * a + 1 - H .start % 2) (H .length) i (omega arith) (omega (arith, unmade-is a H, last-set H)) l k W)
 
   -- with the finish, all of its sets
-  pub map-made : (H : Side) → inTurn (H .length) (madeBy (suc l) k W (H .start)) ++ closing (suc l) k W H ≡ inTurn (lastSet H + 1) (makes l k W H)
-      ++ closing l (suc k) (next W) (next H)
+  pub map-made : (H : Side) → inTurn (H .length) (madeBy a (suc l) k W (H .start)) ++ closing a (suc l) k W H ≡ inTurn (lastSet H + 1) (makes a l k W H)
+      ++ closing a l (suc k) (next W) (next H)
   unfolding closing
   map-made H =
-      let n = lastSet H in
-      let rest = closing l (suc k) (next W) (next H) in
-      sym (append-assoc (inTurn (H .length) (madeBy (suc l) k W (H .start))) (makes l k W H n) rest)
+      let n = unmade a H in
+      let left = lastSet H + 1 - n in
+      let rest = closing a l (suc k) (next W) (next H) in
+      let all : n + left ≡ lastSet H + 1 = omega (arith, unmade-is a H) in
+      sym (append-assoc (inTurn (H .length) (madeBy a (suc l) k W (H .start))) (inTurn left (λ i. makes a l k W H (n + i))) rest)
       ∙ ap (λ t. t ++ rest)
-      (ap (λ t. t ++ makes l k W H n) (rows-made (H .start) (H .length) ∙ turn-same n (off (H .start)) (makes l k W H) (off-early H))
-      ∙ sym (ap (λ i. inTurn i (makes l k W H)) (add-one n) ∙ turn-suc n (makes l k W H)))
+      (ap (λ t. t ++ inTurn left (λ i. makes a l k W H (n + i)))
+      (rows-made (H .start) (H .length) ∙ turn-same n (off (H .start)) (makes a l k W H) (off-early H))
+      ∙ sym (turn-add n left (makes a l k W H))
+      ∙ ap (λ i. inTurn i (makes a l k W H)) all)
 
   -- and their LL rows are the rows of the next level: an empty level has one set, without rows
-  pub passed-all : (H : Side) → inTurn (lastSet H + 1) (passed l k W H) ≡ inTurn (next H .length) (madeBy l (suc k) (next W) (next H .start))
+  pub passed-all : (H : Side) → inTurn (lastSet H + 1) (passed a l k W H) ≡ inTurn (next H .length) (madeBy a l (suc k) (next W) (next H .start))
   passed-all H =
       turn-from (firstSet H lo) (lastSet H + 1) f
       ∙ elim (decLt 0 (H .length)) [
@@ -218,14 +233,14 @@ module _ (l k : ℕ) (W : Side) where
               | yes e ↦
                   ap (λ i. inTurn i f) (omega (arith, last-set H, first-low H))
                   ∙ turn-suc 0 f
-                  ∙ ap (λ t. inTurn 0 f ++ t) (made-first l (suc k) (next W) (next H .start) 0 (omega arith))
+                  ∙ ap (λ t. inTurn 0 f ++ t) (made-early a l (suc k) (next W) (next H .start) 0 (omega arith))
                   ∙ append-nil _
               | no e ↦ ap (λ i. inTurn i f) (omega (arith, last-set H, first-low H))
             ])
       ]
     where
       f : ℕ → List RowName
-      f = madeBy l (suc k) (next W) (next H .start)
+      f = madeBy a l (suc k) (next W) (next H .start)
 
 -- ---- a level without rows: its sets have none, and its finish makes nothing
 pub rows-empty : (k : ℕ) (W H : Side) → H .length ≡ 0 → (n : ℕ) (bs : List Band) → rowsOf k W H n bs ≡ []
@@ -244,14 +259,18 @@ pub set-empty : (l k : ℕ) (W H : Side) → H .length ≡ 0 → (n : ℕ) → s
 unfolding setRows
 set-empty l k W H e n = rows-empty k W H e n (handedOut l)
 
-pub closing-empty : (L k : ℕ) (W H : Side) → H .length ≡ 0 → closing L k W H ≡ []
+pub closing-empty : (a L k : ℕ) (W H : Side) → 1 ≤ a → H .length ≡ 0 → closing a L k W H ≡ []
 unfolding closing
-closing-empty zero k W H e = refl
-closing-empty (suc l) k W H e =
+closing-empty a zero k W H one e = refl
+closing-empty a (suc l) k W H one e =
     let z : next H .length ≡ 0 = next-length H ∙ count-none H e lo in
-    let n : lastSet H ≡ 0 = omega (arith, last-set H) in
-    rw (set-empty l k W H e (lastSet H), closing-empty l (suc k) (next W) (next H) z) (append-nil _ ∙ go (leb (firstSet H lo) (lastSet H)) (lastSet H) n)
+    let n : lastSet H + 1 - unmade a H ≡ 1 = omega (arith, last-set H, unmade-is a H) in
+    rw (closing-empty a l (suc k) (next W) (next H) one z, n)
+    (append-nil _ ∙ turn-suc 0 _ ∙ ap₂ _++_ (turn-zero _) (ap₂ _++_ (set-empty l k W H e _) (go (leb (firstSet H lo) (unmade a H + 0)))))
   where
-    go : (t : Bool) (i : ℕ) → i ≡ 0 → pick t (madeBy l (suc k) (next W) (next H .start) (i - firstSet H lo)) [] ≡ []
-    go true i d = made-first l (suc k) (next W) (next H .start) (i - firstSet H lo) (omega arith)
-    go false i d = refl
+    first : unmade a H + 0 - firstSet H lo ≡ 0
+    first = omega (arith, last-set H, unmade-is a H)
+
+    go : (t : Bool) → pick t (madeBy a l (suc k) (next W) (next H .start) (unmade a H + 0 - firstSet H lo)) [] ≡ []
+    go true = made-early a l (suc k) (next W) (next H .start) _ (omega (arith, first))
+    go false = refl

@@ -1,4 +1,4 @@
--- The order lists every band row that the plane of a map keeps exactly once, and nothing else: `made-once`.
+-- The order lists every band row that the plane of a map keeps exactly once, and nothing else, whatever the look-ahead: `made-once`.
 -- By weights: whatever the names weigh, the order weighs what the levels, one after the other, weigh; then each name is weighed. Assumes nothing.
 use mathlib.Core.Bool.{Bool, true, false}
 use mathlib.Core.Path.{_≡_, refl, sym, ap, ap₂, _∙_}
@@ -24,36 +24,36 @@ use Rattle.wavelet.proofs.Weights.{weigh, weigh-append, weigh-both, wei
 
 -- ---- the same names, level by level
 -- what the order has of a level and of those below it
-abbrev pub ordered : ℕ → ℕ → Side → Side → List RowName
-ordered l k W H = inTurn (H .length) (madeBy l k W (H .start)) ++ closing l k W H
+abbrev pub ordered : ℕ → ℕ → ℕ → Side → Side → List RowName
+ordered a l k W H = inTurn (H .length) (madeBy a l k W (H .start)) ++ closing a l k W H
 
-pub ordered-none : (k : ℕ) (W H : Side) → ordered 0 k W H ≡ []
+pub ordered-none : (a k : ℕ) (W H : Side) → ordered a 0 k W H ≡ []
 unfolding madeBy closing
-ordered-none k W H = append-nil _ ∙ turn-none (H .length)
+ordered-none a k W H = append-nil _ ∙ turn-none (H .length)
 
 -- it weighs what the sets of the level weigh, and what those below it weigh
-pub ordered-weighs : (f : RowName → ℕ) (l k : ℕ) (W H : Side) → weigh f (ordered (suc l) k W H) ≡ weigh f (inTurn (lastSet H + 1) (setRows l k W H)) + weigh f
-    (ordered l (suc k) (next W) (next H))
-ordered-weighs f l k W H =
+pub ordered-weighs : (f : RowName → ℕ) (a l k : ℕ) (W H : Side) → 1 ≤ a →
+    weigh f (ordered a (suc l) k W H) ≡ weigh f (inTurn (lastSet H + 1) (setRows l k W H)) + weigh f (ordered a l (suc k) (next W) (next H))
+ordered-weighs f a l k W H one =
     let N = lastSet H + 1 in
-    let rest = closing l (suc k) (next W) (next H) in
-    let below = inTurn (next H .length) (madeBy l (suc k) (next W) (next H .start)) in
-    ap (weigh f) (map-made l k W H)
-    ∙ weigh-append f (inTurn N (makes l k W H)) rest
+    let rest = closing a l (suc k) (next W) (next H) in
+    let below = inTurn (next H .length) (madeBy a l (suc k) (next W) (next H .start)) in
+    ap (weigh f) (map-made a l k W one H)
+    ∙ weigh-append f (inTurn N (makes a l k W H)) rest
     ∙ ap (λ i. i + weigh f rest)
-    (weigh-both f N (setRows l k W H) (passed l k W H) ∙ ap (λ t. weigh f (inTurn N (setRows l k W H)) + weigh f t) (passed-all l k W H))
+    (weigh-both f N (setRows l k W H) (passed a l k W H) ∙ ap (λ t. weigh f (inTurn N (setRows l k W H)) + weigh f t) (passed-all a l k W one H))
     ∙ omega (arith, weigh-append f below rest)
 
 unfoldable byLevels : ℕ → ℕ → Side → Side → List RowName
 byLevels zero k W H = []
 byLevels (suc l) k W H = inTurn (lastSet H + 1) (setRows l k W H) ++ byLevels l (suc k) (next W) (next H)
 
-whole-map : (f : RowName → ℕ) (L k : ℕ) (W H : Side) → weigh f (ordered L k W H) ≡ weigh f (byLevels L k W H)
+whole-map : (f : RowName → ℕ) (a L k : ℕ) (W H : Side) → 1 ≤ a → weigh f (ordered a L k W H) ≡ weigh f (byLevels L k W H)
 unfolding byLevels
-whole-map f zero k W H = ap (weigh f) (ordered-none k W H)
-whole-map f (suc l) k W H =
-    ordered-weighs f l k W H
-    ∙ ap (λ i. weigh f (inTurn (lastSet H + 1) (setRows l k W H)) + i) (whole-map f l (suc k) (next W) (next H))
+whole-map f a zero k W H one = ap (weigh f) (ordered-none a k W H)
+whole-map f a (suc l) k W H one =
+    ordered-weighs f a l k W H one
+    ∙ ap (λ i. weigh f (inTurn (lastSet H + 1) (setRows l k W H)) + i) (whole-map f a l (suc k) (next W) (next H) one)
     ∙ sym (weigh-append f (inTurn (lastSet H + 1) (setRows l k W H)) _)
 
 -- ---- one name
@@ -273,10 +273,10 @@ unfolding bandRowExists within
 exists-zero W H L b n = refl
 
 -- ---- the theorem
-pub made-once : (W H : Side) (L : ℕ) (x : RowName)
-    → times x (made W (H .start) L (H .length) true) ≡ pick (bandRowExists W H L (x .level) (x .band) (x .row)) 1 0
+pub made-once : (a : ℕ) → 1 ≤ a → (W H : Side) (L : ℕ) (x : RowName)
+    → times x (made a W (H .start) L (H .length) true) ≡ pick (bandRowExists W H L (x .level) (x .band) (x .row)) 1 0
 unfolding made
-made-once W H L x = times-weigh x _ ∙ whole-map (hit x) L 1 W H ∙ go (x .level) (x .band) (x .row)
+made-once a one W H L x = times-weigh x _ ∙ whole-map (hit x) a L 1 W H one ∙ go (x .level) (x .band) (x .row)
   where
     go : (v : ℕ) (b : Band) (n : ℕ) → weigh (hit (rowName v b n)) (byLevels L 1 W H) ≡ pick (bandRowExists W H L v b n) 1 0
     go zero b n = levels-before (rowName 0 b n) L 1 W H (omega arith) ∙ sym (ap (λ t. pick t 1 0) (exists-zero W H L b n))

@@ -8,6 +8,7 @@ use lib.IntN.{ℤ}
 use borrow.Author.Tests.{lt-ltb}
 use Rattle.lifting.specs.Line.{lo, hi}
 use Rattle.lifting.specs.Grid.{Side, count}
+use Rattle.lifting.specs.Filter.{Filter}
 use Rattle.wavelet.specs.Bands.{Grid, Band, LL, HL, LH, HH, across, down, bandOf, subband}
 use Rattle.wavelet.specs.Levels.{next, levelBand}
 use Rattle.wavelet.specs.Plane.{inCorner, planeCell, planeOf, levelAt, halfAt, placeIn}
@@ -50,59 +51,61 @@ corner-inner k W H b r c p q =
     (omega (arith, next-length W, extent-end (across b) (suc k) (next W) (omega arith)))
 
 -- ---- the coefficient at a place
-module _ (keep : ℤ → ℤ) (L : ℕ) (W H : Side) (g : Grid) (r c : ℕ) where
-  cell-in : inCorner W H r c ≡ true → planeCell keep (suc L) W H g r c ≡ planeCell keep L (next W) (next H) (subband keep W H g LL) r c
+module _ (F : Filter) (keep : ℤ → ℤ) (L : ℕ) (W H : Side) (g : Grid) (r c : ℕ) where
+  cell-in : inCorner W H r c ≡ true → planeCell F keep (suc L) W H g r c ≡ planeCell F keep L (next W) (next H) (subband F keep W H g LL) r c
   unfolding planeCell
   cell-in e = rw e
 
-  cell-out : inCorner W H r c ≡ false → planeCell keep (suc L) W H g r c ≡ subband keep W H g (bandOf (halfAt W c) (halfAt H r)) (placeIn H r) (placeIn W c)
+  cell-out : inCorner W H r c ≡ false → planeCell F keep (suc L) W H g r c ≡ subband F keep W H g (bandOf (halfAt W c) (halfAt H r)) (placeIn H r) (placeIn W c)
   unfolding planeCell
   cell-out e = rw e
 
-cell-none : (keep : ℤ → ℤ) (W H : Side) (g : Grid) (r c : ℕ) → planeCell keep 0 W H g r c ≡ g r c
+cell-none : (F : Filter) (keep : ℤ → ℤ) (W H : Side) (g : Grid) (r c : ℕ) → planeCell F keep 0 W H g r c ≡ g r c
 unfolding planeCell
-cell-none keep W H g r c = refl
+cell-none F keep W H g r c = refl
 
-cell-LL : (keep : ℤ → ℤ) (L : ℕ) (W H : Side) (g : Grid) (r c : ℕ) → r < count lo H → c < count lo W → L ≡ 0 →
-    planeCell keep (suc L) W H g r c ≡ subband keep W H g LL r c
-cell-LL keep L W H g r c p q e =
-    cell-in keep L W H g r c (corner-in W H r c p q)
-    ∙ ap (λ (l : ℕ). planeCell keep l (next W) (next H) (subband keep W H g LL) r c) e
-    ∙ cell-none keep (next W) (next H) (subband keep W H g LL) r c
+cell-LL : (F : Filter) (keep : ℤ → ℤ) (L : ℕ) (W H : Side) (g : Grid) (r c : ℕ) → r < count lo H → c < count lo W → L ≡ 0 →
+    planeCell F keep (suc L) W H g r c ≡ subband F keep W H g LL r c
+cell-LL F keep L W H g r c p q e =
+    cell-in F keep L W H g r c (corner-in W H r c p q)
+    ∙ ap (λ (l : ℕ). planeCell F keep l (next W) (next H) (subband F keep W H g LL) r c) e
+    ∙ cell-none F keep (next W) (next H) (subband F keep W H g LL) r c
 
-cell-beside : (keep : ℤ → ℤ) (L : ℕ) (W H : Side) (g : Grid) (b : Band) (r c : ℕ) → beside b ≡ true → r < count (down b) H → c < count (across b) W →
-    planeCell keep (suc L) W H g (offset (down b) 1 H + r) (offset (across b) 1 W + c) ≡ subband keep W H g b r c
-cell-beside keep L W H g b r c h p q =
-    cell-out keep L W H g _ _ (corner-out W H b r c h p q)
+cell-beside : (F : Filter) (keep : ℤ → ℤ) (L : ℕ) (W H : Side) (g : Grid) (b : Band) (r c : ℕ) → beside b ≡ true → r < count (down b) H
+    → c < count (across b) W →
+    planeCell F keep (suc L) W H g (offset (down b) 1 H + r) (offset (across b) 1 W + c) ≡ subband F keep W H g b r c
+cell-beside F keep L W H g b r c h p q =
+    cell-out F keep L W H g _ _ (corner-out W H b r c h p q)
     ∙ rw (half-at W c (across b) q, half-at H r (down b) p, place-in H r (down b) p, place-in W c (across b) q, band-of b)
 
 -- the finest level, and then every level by the low-low part of the finest
-cell-first : (keep : ℤ → ℤ) (L : ℕ) (W H : Side) (g : Grid) (b : Band) (r c : ℕ) → r < count (down b) H → c < count (across b) W → (b ≡ LL → L ≡ 0) →
-    planeCell keep (suc L) W H g (offset (down b) 1 H + r) (offset (across b) 1 W + c) ≡ subband keep W H g b r c
+cell-first : (F : Filter) (keep : ℤ → ℤ) (L : ℕ) (W H : Side) (g : Grid) (b : Band) (r c : ℕ) → r < count (down b) H → c < count (across b) W
+    → (b ≡ LL → L ≡ 0) →
+    planeCell F keep (suc L) W H g (offset (down b) 1 H + r) (offset (across b) 1 W + c) ≡ subband F keep W H g b r c
 unfolding down across offset
-cell-first keep L W H g LL r c p q l =
+cell-first F keep L W H g LL r c p q l =
     let er : 0 + r ≡ r = omega arith in
     let ec : 0 + c ≡ c = omega arith in
-    rw (er, ec) (cell-LL keep L W H g r c p q (l refl))
-cell-first keep L W H g HL r c p q l = cell-beside keep L W H g HL r c refl p q
-cell-first keep L W H g LH r c p q l = cell-beside keep L W H g LH r c refl p q
-cell-first keep L W H g HH r c p q l = cell-beside keep L W H g HH r c refl p q
+    rw (er, ec) (cell-LL F keep L W H g r c p q (l refl))
+cell-first F keep L W H g HL r c p q l = cell-beside F keep L W H g HL r c refl p q
+cell-first F keep L W H g LH r c p q l = cell-beside F keep L W H g LH r c refl p q
+cell-first F keep L W H g HH r c p q l = cell-beside F keep L W H g HH r c refl p q
 
-cell-is : (keep : ℤ → ℤ) (k L : ℕ) (W H : Side) (g : Grid) (b : Band) (r c : ℕ) → k < L → (b ≡ LL → suc k ≡ L) → r < extent (down b) (suc k) H →
+cell-is : (F : Filter) (keep : ℤ → ℤ) (k L : ℕ) (W H : Side) (g : Grid) (b : Band) (r c : ℕ) → k < L → (b ≡ LL → suc k ≡ L) → r < extent (down b) (suc k) H →
     c < extent (across b) (suc k) W →
-    planeCell keep L W H g (offset (down b) (suc k) H + r) (offset (across b) (suc k) W + c) ≡ levelBand keep W H g (suc k) b r c
-cell-is keep k zero W H g b r c h l p q = absurd (omega arith)
-cell-is keep zero (suc L) W H g b r c h l p q =
-    cell-first keep L W H g b r c (rw extent-first at p) (rw extent-first at q) (λ e. let d = l e in omega arith)
-    ∙ sym (ap (λ (f : Grid). f r c) (level-first keep W H g b))
-cell-is keep (suc k) (suc L) W H g b r c h l p q =
+    planeCell F keep L W H g (offset (down b) (suc k) H + r) (offset (across b) (suc k) W + c) ≡ levelBand F keep W H g (suc k) b r c
+cell-is F keep k zero W H g b r c h l p q = absurd (omega arith)
+cell-is F keep zero (suc L) W H g b r c h l p q =
+    cell-first F keep L W H g b r c (rw extent-first at p) (rw extent-first at q) (λ e. let d = l e in omega arith)
+    ∙ sym (ap (λ (f : Grid). f r c) (level-first F keep W H g b))
+cell-is F keep (suc k) (suc L) W H g b r c h l p q =
     let p′ = inner-below (down b) k H r p in
     let q′ = inner-below (across b) k W c q in
-    ap (λ (x : ℕ). planeCell keep (suc L) W H g (x + r) (offset (across b) (suc (suc k)) W + c)) (offset-inner (down b) (suc k) H)
-    ∙ ap (λ (x : ℕ). planeCell keep (suc L) W H g (offset (down b) (suc k) (next H) + r) (x + c)) (offset-inner (across b) (suc k) W)
-    ∙ cell-in keep L W H g _ _ (corner-inner k W H b r c p′ q′)
-    ∙ cell-is keep k L (next W) (next H) (subband keep W H g LL) b r c (omega arith) (λ e. let d = l e in omega arith) p′ q′
-    ∙ sym (ap (λ (f : Grid). f r c) (level-inner keep W H g k b))
+    ap (λ (x : ℕ). planeCell F keep (suc L) W H g (x + r) (offset (across b) (suc (suc k)) W + c)) (offset-inner (down b) (suc k) H)
+    ∙ ap (λ (x : ℕ). planeCell F keep (suc L) W H g (offset (down b) (suc k) (next H) + r) (x + c)) (offset-inner (across b) (suc k) W)
+    ∙ cell-in F keep L W H g _ _ (corner-inner k W H b r c p′ q′)
+    ∙ cell-is F keep k L (next W) (next H) (subband F keep W H g LL) b r c (omega arith) (λ e. let d = l e in omega arith) p′ q′
+    ∙ sym (ap (λ (f : Grid). f r c) (level-inner F keep W H g k b))
 
 -- ---- the level at a place
 module _ (L : ℕ) (W H : Side) (r c : ℕ) where
@@ -173,19 +176,19 @@ column-in L W H k b r c s = omega (arith, columns-in W H k b (s .deep), s .colum
 pub row-in : (L : ℕ) (W H : Side) (k : ℕ) (b : Band) (r c : ℕ) → Stands L W H k b r c → planeRow H k b r < H .length
 row-in L W H k b r c s = omega (arith, rows-in W H k b (s .deep), s .row)
 
-module _ (keep : ℤ → ℤ) (L : ℕ) (W H : Side) (g : Grid) where
+module _ (F : Filter) (keep : ℤ → ℤ) (L : ℕ) (W H : Side) (g : Grid) where
   pub cell-places : (k : ℕ) (b : Band) (r c : ℕ) → Stands L W H k b r c →
-      planeCell keep L W H g (planeRow H k b r) (planeColumn W k b c) ≡ levelBand keep W H g k b r c
+      planeCell F keep L W H g (planeRow H k b r) (planeColumn W k b c) ≡ levelBand F keep W H g k b r c
   unfolding bandRows bandColumns
   cell-places zero b r c s = absurd (omega (arith, s .deep))
-  cell-places (suc k) b r c s = cell-is keep k L W H g b r c (s .most) (s .last) (s .row) (s .column)
+  cell-places (suc k) b r c s = cell-is F keep k L W H g b r c (s .most) (s .last) (s .row) (s .column)
 
   -- every kept band row stands in the plane where document 01 says
-  pub plane-places : (k : ℕ) (b : Band) (r c : ℕ) → Stands L W H k b r c → planeOf keep L W H g (bandStart W H k b r + c) ≡ levelBand keep W H g k b r c
+  pub plane-places : (k : ℕ) (b : Band) (r c : ℕ) → Stands L W H k b r c → planeOf F keep L W H g (bandStart W H k b r + c) ≡ levelBand F keep W H g k b r c
   unfolding planeOf
   plane-places k b r c s =
-      ap (planeOf keep L W H g) (place-is W H k b r c)
-      ∙ flat-at (W .length) (planeCell keep L W H g) _ _ (column-in L W H k b r c s)
+      ap (planeOf F keep L W H g) (place-is W H k b r c)
+      ∙ flat-at (W .length) (planeCell F keep L W H g) _ _ (column-in L W H k b r c s)
       ∙ cell-places k b r c s
 
 pub level-places : (L : ℕ) (W H : Side) (k : ℕ) (b : Band) (r c : ℕ) → Stands L W H k b r c → levelAt L W H (planeRow H k b r) (planeColumn W k b c) ≡ k

@@ -1,6 +1,7 @@
 -- The laws of the sides of the levels: where each starts and how long it is. Assumes nothing.
 use mathlib.Core.Path.{_≡_, refl, ap, _∙_}
-use Prim.Native.Nat.{ℕ, zero, suc, _+_, _-_, _/_, _%_, _≤_, _<_}
+use Prim.Native.Nat.{ℕ, zero, suc, _+_, _-_, _*_, _/_, _%_, _^_, _≤_, _<_}
+use native.Mathlib.Nat.{pow-suc, add-div-right, div-div-eq-div-mul}
 use native.Mathlib.Omega.{arith}
 use Rattle.lifting.specs.Line.{Half, lo, hi}
 use Rattle.lifting.specs.Grid.{Side, side, count}
@@ -116,3 +117,35 @@ size-grows (suc k) s N N′ h =
       count-lo (sideAt k (side s N′)),
       size-grows k s N N′ h,
     )
+
+-- ---- both ends of a level's side at once: each is halved up from level to level, ⌈end / 2^k⌉
+pub unit-some : (k : ℕ) → 0 < 2 ^ k
+unit-some zero = omega arith
+unit-some (suc k) = omega (arith, pow-suc 2 k, unit-some k)
+
+unfoldable pub upTo : ℕ → ℕ → ℕ
+upTo k v = (v + (2 ^ k - 1)) / 2 ^ k
+
+up-zero : (v : ℕ) → v ≡ upTo 0 v
+unfolding upTo
+up-zero v = omega arith
+
+up-suc : (k v : ℕ) → (upTo k v + 1) / 2 ≡ upTo (suc k) v
+unfolding upTo
+up-suc k v =
+    let one : (v + (2 ^ k - 1) + 2 ^ k) / 2 ^ k ≡ (v + (2 ^ k - 1)) / 2 ^ k + 1 = add-div-right (v + (2 ^ k - 1)) (unit-some k) in
+    let twice : 2 ^ suc k ≡ 2 ^ k * 2 = pow-suc 2 k in
+    let sum : v + (2 ^ k - 1) + 2 ^ k ≡ v + (2 ^ k * 2 - 1) = omega (arith, unit-some k) in
+    rw (← one, div-div-eq-div-mul, sum, twice) refl
+
+pub side-end : (k : ℕ) (S : Side) → (sideAt k S .start ≡ upTo k (S .start)) × (sideAt k S .start + sideAt k S .length ≡ upTo k (S .start + S .length))
+unfolding sideAt
+side-end zero S = (up-zero (S .start), up-zero (S .start + S .length))
+side-end (suc k) S =
+    let e = side-end k S in (
+      next-start (sideAt k S) ∙ ap (λ (v : ℕ). (v + 1) / 2) (e .0) ∙ up-suc k (S .start),
+      next-end (sideAt k S) ∙ ap (λ (v : ℕ). (v + 1) / 2) (e .1) ∙ up-suc k (S .start + S .length),
+    )
+
+pub size-ends : (k s n : ℕ) → (upTo k s ≤ upTo k (s + n)) × (upTo k (s + n) - upTo k s ≡ sideAt k (side s n) .length)
+size-ends k s n = let e = side-end k (side s n) in (omega (arith, e .0, e .1), omega (arith, e .0, e .1))

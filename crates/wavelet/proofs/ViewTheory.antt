@@ -9,6 +9,7 @@ use borrow.Author.Tests.{eq-eqb, ne-eqb}
 use Rattle.numbers.specs.Signal.{at}
 use Rattle.numbers.proofs.Parts.{length-mid, at-mid, window-in}
 use Rattle.lifting.specs.Grid.{Side}
+use Rattle.lifting.specs.Filter.{Filter}
 use Rattle.wavelet.specs.Bands.{Grid, Band, code}
 use Rattle.wavelet.specs.Levels.{levelBand}
 use Rattle.wavelet.specs.Plane.{planeOf}
@@ -50,10 +51,10 @@ module _ (plane : List ℤ) (W H : Side) (L k c r : ℕ) where
     unfolding view-band
     view-some = omega (arith, view-length, view .kept .columns)
 
-    pub view-values : (keep : ℤ → ℤ) (g : Grid) → ((j : ℕ) → j < W .length * H .length → at plane j ≡ planeOf keep L W H g j)
-        → (i : ℕ) → i < bandColumns W k view-band → at (viewRow plane W H L k c r) i ≡ levelBand keep W H g k view-band r i
+    pub view-values : (F : Filter) (keep : ℤ → ℤ) (g : Grid) → ((j : ℕ) → j < W .length * H .length → at plane j ≡ planeOf F keep L W H g j)
+        → (i : ℕ) → i < bandColumns W k view-band → at (viewRow plane W H L k c r) i ≡ levelBand F keep W H g k view-band r i
     unfolding view-band
-    view-values keep g same i h =
+    view-values F keep g same i h =
         let b = view .band in
         let inside = stretch-in W H k b (view .kept .deep) r (view .kept .columns) (view .kept .row) in
         let start = start-is (length plane) W H L k c r view in
@@ -69,4 +70,4 @@ module _ (plane : List ℤ) (W H : Side) (L k c r : ℕ) where
         ∙ window-in (viewStart W H k c r) (viewLength W k c) (at plane) i (omega (arith, length-is (length plane) W H L k c r view))
         ∙ ap (λ (x : ℕ). at plane (x + i)) start
         ∙ same (bandStart W H k b r + i) (omega arith)
-        ∙ plane-places keep L W H g k b r i stands
+        ∙ plane-places F keep L W H g k b r i stands

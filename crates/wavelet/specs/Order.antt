@@ -4,7 +4,7 @@
 -- starts at an odd coordinate, its set 0 has a high row alone, and low row n is in set n + 1.
 use mathlib.Core.Bool.{Bool}
 use mathlib.Core.List.{List, [], _∷_, _++_}
-use Prim.Native.Nat.{ℕ, zero, suc, _+_, _-_, _/_, _%_}
+use Prim.Native.Nat.{ℕ, zero, suc, _+_, _-_, _*_, _/_, _%_}
 use lib.Dec.{ltb, leb, eqb}
 use Rattle.numbers.specs.Signal.{pick, both}
 use Rattle.lifting.specs.Line.{Half, lo, hi}
@@ -53,33 +53,40 @@ handedOut (suc l) = HL ∷ LH ∷ HH ∷ []
 unfoldable pub setRows : ℕ → ℕ → Side → Side → ℕ → List RowName
 setRows l k W H n = rowsOf k W H n (handedOut l)
 
--- "Set n of a level is made when its row 2n+2 is complete. Then its LL row goes to the next level, and all that this makes there comes before anything else.":
--- what row r makes of a level whose rows start at coordinate s. A set of a high row alone has no LL row.
-unfoldable pub madeBy : ℕ → ℕ → Side → ℕ → ℕ → List RowName
-madeBy zero k W s r = []
-madeBy (suc l) k W s r =
-    pick (both (eqb ((s % 2 + r) % 2) 0) (ltb 1 (s % 2 + r)))
-    (setRows l k W (side s (r + 1)) ((s % 2 + r) / 2 - 1)
-    ++ pick (leb (s % 2) ((s % 2 + r) / 2 - 1)) (madeBy l (suc k) (next W) ((s + 1) / 2) ((s % 2 + r) / 2 - 1 - s % 2)) [])
-    []
-
--- "or when the map is finished. At the finish level 1 closes first, then level 2, and so on.":
--- what the finish makes of the rows H of level k: its last set, what that set's LL row makes, then the closing of the next level
-unfoldable pub closing : ℕ → ℕ → Side → Side → List RowName
-closing zero k W H = []
-closing (suc l) k W H =
-    (setRows l k W H (lastSet H)
-    ++ pick (leb (firstSet H lo) (lastSet H)) (madeBy l (suc k) (next W) (next H .start) (lastSet H - firstSet H lo)) [])
-    ++ closing l (suc k) (next W) (next H)
-
 -- f 0, then f 1, to f (n − 1)
 unfoldable pub inTurn : {A : Type 0} → ℕ → (ℕ → List A) → List A
 inTurn zero f = []
 inTurn (suc n) f = inTurn n f ++ f n
 
+-- A level's look-ahead a is its filter's: 1 for the 5/3, 2 for the 9/7.
+-- "Set n of a level is made when its row 2n+2 is complete" (01; Q-8: "when row 2n+4 is complete"): the row at coordinate 2n + 2a. "Then its LL row goes to the
+-- next level, and all that this makes there comes before anything else.": what row r makes of a level whose rows start at coordinate s. A set of a high row
+-- alone has no LL row.
+unfoldable pub madeBy : ℕ → ℕ → ℕ → Side → ℕ → ℕ → List RowName
+madeBy a zero k W s r = []
+madeBy a (suc l) k W s r =
+    pick (both (eqb ((s % 2 + r) % 2) 0) (leb (2 * a) (s % 2 + r)))
+    (setRows l k W (side s (r + 1)) ((s % 2 + r) / 2 - a)
+    ++ pick (leb (s % 2) ((s % 2 + r) / 2 - a)) (madeBy a l (suc k) (next W) ((s + 1) / 2) ((s % 2 + r) / 2 - a - s % 2)) [])
+    []
+
+-- the first set that the rows H do not make: it and the sets after it, at most a, are left for the finish
+unfoldable pub unmade : ℕ → Side → ℕ
+unmade a H = lastSet H + 1 - a
+
+-- "or when the map is finished. At the finish level 1 closes first, then level 2, and so on." (Q-8: "at the finish, in order"):
+-- what the finish makes of the rows H of level k: each set left with what its LL row makes, then the closing of the next level
+unfoldable pub closing : ℕ → ℕ → ℕ → Side → Side → List RowName
+closing a zero k W H = []
+closing a (suc l) k W H =
+    inTurn (lastSet H + 1 - unmade a H)
+    (λ i. setRows l k W H (unmade a H + i)
+    ++ pick (leb (firstSet H lo) (unmade a H + i)) (madeBy a l (suc k) (next W) (next H .start) (unmade a H + i - firstSet H lo)) [])
+    ++ closing a l (suc k) (next W) (next H)
+
 -- the rows that the rules make of so many whole rows, the first at coordinate s, of the columns W at L levels, and of the finish if there was one
-unfoldable pub made : Side → ℕ → ℕ → ℕ → Bool → List RowName
-made W s L rows finished = inTurn rows (madeBy L 1 W s) ++ pick finished (closing L 1 W (side s rows)) []
+unfoldable pub made : ℕ → Side → ℕ → ℕ → ℕ → Bool → List RowName
+made a W s L rows finished = inTurn rows (madeBy a L 1 W s) ++ pick finished (closing a L 1 W (side s rows)) []
 
 -- ---- how often a name stands in a list
 unfoldable pub sameName : RowName → RowName → Bool

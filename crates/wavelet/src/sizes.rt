@@ -5,6 +5,7 @@ ghost use Prim.Native.Nat.{ℕ, min};
 ghost use lib.IntN.{pos};
 ghost use Rattle.lifting.specs.Line.{lo, hi};
 ghost use Rattle.lifting.specs.Grid.{side, count};
+ghost use Rattle.lifting.specs.FiveThree.{fiveThreeFilter};
 ghost use Rattle.wavelet.specs.Limits.{maxLevels, range};
 ghost use Rattle.wavelet.specs.Levels.{next, sideAt};
 
@@ -80,7 +81,7 @@ fn deepest(level: usize) -> usize
 
 // The largest magnitude of a coefficient of a level, 65,535 × 4^level; past the last level, that of the last.
 pub fn range_of(level: usize) -> i32
-    ensures { λ r. ⌜ r ≡ pos (range (min level maxLevels)) ⌝ }
+    ensures { λ r. ⌜ r ≡ pos (range fiveThreeFilter (min level maxLevels)) ⌝ }
 {
     let last = deepest(level);
     let mut most = limits::MAX_SAMPLE;

@@ -1,12 +1,13 @@
 // The view of one band row: a stretch of the caller's plane, not a copy.
 use crate::limits;
 use crate::shape::Shape;
-use crate::sizes;
 ghost use mathlib.Core.Path.{_≡_};
-ghost use Prim.Native.Nat.{_≤_, _*_};
+ghost use Prim.Native.Nat.{_≤_, _<_, _*_, _^_};
 ghost use denote.Ref.{ptr};
 ghost use lib.ListN.{length};
-ghost use Rattle.wavelet.specs.Limits.{maxWidth, maxHeight};
+ghost use Rattle.lifting.specs.Grid.{side};
+ghost use Rattle.wavelet.specs.Limits.{maxWidth, maxHeight, maxLevels};
+ghost use Rattle.wavelet.specs.Levels.{sideAt};
 ghost use Rattle.wavelet.specs.Shape.{columns, rows};
 ghost use Rattle.wavelet.specs.ViewCall.{viewQuestion, viewRow, viewPlace, addressOf};
 ghost use Rattle.wavelet.specs.Span.{keptSpan, stretchOf, spanOf};
@@ -29,9 +30,18 @@ fn keep(row: usize, rows: usize, start: usize, length: usize) -> Span
     Span::Refused(6)
 }
 
+// How long level `level` of a side is, within the limits: both ends are halved up from level to level, each to ⌈end / 2^level⌉.
+fn size_within(level: usize, start: usize, n: usize) -> usize
+    requires { ⌜ (level ≤ maxLevels) × (start < 2 ^ 16) × (n < 2 ^ 32) ⌝ }
+    ensures { λ r. ⌜ r ≡ sideAt level (side start n) .length ⌝ }
+{
+    let up = (1 << level) - 1;
+    ((start + n + up) >> level) - ((start + up) >> level)
+}
+
 // Question 6, and the stretch: of a plane within the limits.
 fn stretch(shape: Shape, level: usize, band: usize, row: usize) -> Span
-    requires { ⌜ (shape .width ≤ maxWidth) × (shape .height ≤ maxHeight) ⌝ }
+    requires { ⌜ (shape .width ≤ maxWidth) × (shape .height ≤ maxHeight) × (shape .levels ≤ maxLevels) ⌝ }
     ensures { λ r. ⌜ r ≡ stretchOf (columns shape) (rows shape) (shape .levels) level band row ⌝ }
 {
     let width = shape.width;
@@ -45,10 +55,10 @@ fn stretch(shape: Shape, level: usize, band: usize, row: usize) -> Span
     if height <= row {
         return Span::Refused(6);
     }
-    let low = sizes::size_at(level, x, width);
-    let right = sizes::size_at(level - 1, x, width) - low;
-    let top = sizes::size_at(level, y, height);
-    let bottom = sizes::size_at(level - 1, y, height) - top;
+    let low = size_within(level, x, width);
+    let right = size_within(level - 1, x, width) - low;
+    let top = size_within(level, y, height);
+    let bottom = size_within(level - 1, y, height) - top;
     match band {
         0 => {
             if level < levels {

@@ -15,13 +15,15 @@ use Rattle.numbers.specs.Signal.{pick, both}
 use Rattle.numbers.specs.Word.{wrap32, whole}
 use Rattle.lifting.specs.Halves.{fronted}
 use Rattle.lifting.specs.Grid.{Side}
+use Rattle.lifting.specs.FiveThree.{fiveThreeFilter}
+use Rattle.lifting.proofs.FiveThreeFilter.{five-three-laws}
 use Rattle.wavelet.specs.Limits.{maxWidth, maxHeight, maxLevels, maxSample, range}
 use Rattle.wavelet.specs.Questions.{ask, within, sizeQuestion, Sized}
 use Rattle.wavelet.specs.Bands.{Grid, levelHas}
 use Rattle.wavelet.specs.Plane.{cells, flat, planeCell, planeOf, planeBands, mapBack}
 use Rattle.wavelet.specs.Maps.{IsMap, everyCell, valueFits, inRange, rebuiltFits}
 use Rattle.wavelet.proofs.GridLaws.{cells-flat, row-below}
-use Rattle.wavelet.proofs.LimitLaws.{stride-small}
+use Rattle.wavelet.proofs.LimitLaws.{stride-small, five-three-few}
 use Rattle.wavelet.proofs.QuestionLaws.{sized, size-no, size-yes}
 use Rattle.wavelet.proofs.MapTheorems.{cells-same}
 use Rattle.wavelet.specs.Levels.{next}
@@ -253,29 +255,29 @@ module _ (W H : Side) (L : ℕ) (l : List ℕ) (z₀ z₁ : ℕ → ℤ) (s : Si
       ∙ sym (written-out L W H g (cells w z₀) r c o)))
 
   pub plane-made : (z₂ : ℕ → ℤ) → ((i : ℕ) → getD l i 0 < 65536) → z₂ ≡ flat w (planeWritten L W H (cornerGrid W H (cells w z₁)) (cells w z₁)) →
-      z₂ ≡ fronted (w * H .length) (planeOf whole L W H heights) z₀
+      z₂ ≡ fronted (w * H .length) (planeOf fiveThreeFilter whole L W H heights) z₀
   unfolding planeOf
   plane-made z₂ fits f =
       let g = cornerGrid W H (cells w z₁) in
-      f ∙ over g ∙ map-places w (H .length) _ (planeCell whole L W H heights) z₀ (s .width .0) (s .height .0)
+      f ∙ over g ∙ map-places w (H .length) _ (planeCell fiveThreeFilter whole L W H heights) z₀ (s .width .0) (s .height .0)
       (λ r c rh cw.
       written-in L W H g (cells w z₀) r c rh cw
-      ∙ plane-reads wrap32 L W H g heights (halved-grid w W H heights (cells w z₀) z₁ (omega arith) e) r c rh cw
-      ∙ map-plane W H heights (heights-map w (H .length) l fits) L (s .levels .1) r c rh cw)
+      ∙ plane-reads fiveThreeFilter five-three-laws wrap32 L W H g heights (halved-grid w W H heights (cells w z₀) z₁ (omega arith) e) r c rh cw
+      ∙ map-plane fiveThreeFilter five-three-laws W H heights (heights-map w (H .length) l fits) L (five-three-few (s .levels .1)) r c rh cw)
       (λ r c o. written-out L W H g (cells w z₀) r c o)
 
 -- ---- backward
-pub region-one : (L : ℕ) (W H : Side) (x : Grid) → regionInRange 1 L W H x ≡ inRange L W H x
+pub region-one : (L : ℕ) (W H : Side) (x : Grid) → regionInRange 1 L W H x ≡ inRange fiveThreeFilter L W H x
 unfolding regionInRange inRange
 region-one L W H x =
-    cells-same (W .length) (H .length) _ _ (λ r c _ _. ap (λ (k : ℕ). leb (natAbs (x r c)) (range k)) (omega arith))
+    cells-same (W .length) (H .length) _ _ (λ r c _ _. ap (λ (k : ℕ). leb (natAbs (x r c)) (range fiveThreeFilter k)) (omega arith))
 
 module _ (W H : Side) (L : ℕ) (x : Grid) (ok : Bool) (e : ok ≡ regionInRange 1 L W H x) where
   pub out-of-range : ok ≡ false → 7 ≡ planeQuestions W H L x
   unfolding planeQuestions
   out-of-range f = let g = sym (region-one L W H x) ∙ sym e ∙ f in rw g
 
-  module _ (t : ok ≡ true) (ok′ : Bool) (e′ : ok′ ≡ rebuiltFits 0 L W H x) where
+  module _ (t : ok ≡ true) (ok′ : Bool) (e′ : ok′ ≡ rebuiltFits fiveThreeFilter 0 L W H x) where
     pub not-rebuilt : ok′ ≡ false → 14 ≡ planeQuestions W H L x
     unfolding planeQuestions
     not-rebuilt f =
@@ -293,9 +295,9 @@ module _ (W H : Side) (L : ℕ) (x : Grid) (ok : Bool) (e : ok ≡ regionInRange
 module _ (W H : Side) (L : ℕ) (x X : Grid) (s : Sized (W .length) (H .length) L) (B : Rebuilt L W H x X) where
   -- the rebuilt rows, returned
   pub map-returned : (h h′ : ℕ → ℤ) → h′ ≡ flat (W .length) (rowsReturned W (H .length) X (cells (W .length) h)) →
-      h′ ≡ fronted (W .length * H .length) (flat (W .length) (mapBack wrap32 L W H x)) h
+      h′ ≡ fronted (W .length * H .length) (flat (W .length) (mapBack fiveThreeFilter wrap32 L W H x)) h
   map-returned h h′ e =
-      e ∙ map-places (W .length) (H .length) _ (mapBack wrap32 L W H x) h (s .width .0) (s .height .0)
+      e ∙ map-places (W .length) (H .length) _ (mapBack fiveThreeFilter wrap32 L W H x) h (s .width .0) (s .height .0)
       (λ r c rh cw. returned-in W (H .length) X (cells (W .length) h) r c rh cw ∙ B .cell r c rh cw)
       (returned-out W (H .length) X (cells (W .length) h))
 
@@ -309,12 +311,14 @@ map-cleared W H x w h =
 
 -- 14 of a map: of the low-low part and of what level 1 halves, `done`, and of the heights, t
 map-fits : (W H : Side) (L : ℕ) (x : Grid) (done t : Bool) → 0 < L →
-    done ≡ pick (rebuiltFits (0 + 1) (L - 1) (next W) (next H) x) (levelHas W H (planeBands W H (mapBack wrap32 (L - 1) (next W) (next H) x) x)) false →
-    t ≡ everyCell (W .length) (H .length) (λ r c. valueFits 0 (mapBack wrap32 L W H x r c)) → pick done t false ≡ rebuiltFits 0 L W H x
+    done ≡ pick (rebuiltFits fiveThreeFilter (0 + 1) (L - 1) (next W) (next H) x)
+    (levelHas fiveThreeFilter W H (planeBands W H (mapBack fiveThreeFilter wrap32 (L - 1) (next W) (next H) x) x)) false →
+    t ≡ everyCell (W .length) (H .length) (λ r c. valueFits fiveThreeFilter 0 (mapBack fiveThreeFilter wrap32 L W H x r c))
+    → pick done t false ≡ rebuiltFits fiveThreeFilter 0 L W H x
 map-fits W H L x done t some e f =
-    let A = rebuiltFits (0 + 1) (L - 1) (next W) (next H) x in
-    let B = levelHas W H (planeBands W H (mapBack wrap32 (L - 1) (next W) (next H) x) x) in
-    let C = everyCell (W .length) (H .length) (λ r c. valueFits 0 (mapBack wrap32 L W H x r c)) in
+    let A = rebuiltFits fiveThreeFilter (0 + 1) (L - 1) (next W) (next H) x in
+    let B = levelHas fiveThreeFilter W H (planeBands W H (mapBack fiveThreeFilter wrap32 (L - 1) (next W) (next H) x) x) in
+    let C = everyCell (W .length) (H .length) (λ r c. valueFits fiveThreeFilter 0 (mapBack fiveThreeFilter wrap32 L W H x r c)) in
     ap₂ (λ (p q : Bool). pick p q false) e f
     ∙ sym (both-both A B C)
     ∙ sym (fits-more 0 L W H x some)

@@ -15,11 +15,14 @@ use lib.IntN.{ℤ}
 use Rattle.numbers.specs.Word.{wrap32, whole}
 use Rattle.lifting.specs.Halves.{fronted}
 use Rattle.lifting.specs.Grid.{Side}
+use Rattle.lifting.specs.FiveThree.{fiveThreeFilter}
+use Rattle.lifting.proofs.FiveThreeFilter.{five-three-laws}
 use Rattle.wavelet.specs.Limits.{maxLevels}
 use Rattle.wavelet.specs.Questions.{ask}
 use Rattle.wavelet.specs.Bands.{Grid}
 use Rattle.wavelet.specs.Plane.{cells, flat, planeCell, planeOf, mapBack}
 use Rattle.wavelet.specs.Maps.{IsMap, HasPlane, inRange, rebuiltFits}
+use Rattle.wavelet.proofs.LimitLaws.{five-three-few}
 use Rattle.wavelet.proofs.GridLaws.{place-below, flat-at}
 use Rattle.wavelet.proofs.LevelTheory.{Same}
 use Rattle.wavelet.proofs.MapTheorems.{some-map, one-map, back-exactly}
@@ -62,14 +65,15 @@ module _ (W H : Side) (L a b c : ℕ) (pass : sizeQuestions (W .length) (H .leng
   forward-passes = pass
 
   -- z is the plane's area before the call
-  pub forward-gives : (g : Grid) (z : ℕ → ℤ) → IsMap w h g → HasPlane L W H g (cells w (passed (forwardQuestion W H L a b c) (w * h) (planeOf whole L W H g) z))
+  pub forward-gives : (g : Grid) (z : ℕ → ℤ) → IsMap w h g
+      → HasPlane fiveThreeFilter L W H g (cells w (passed (forwardQuestion W H L a b c) (w * h) (planeOf fiveThreeFilter whole L W H g) z))
   unfolding planeOf
   forward-gives g z m =
       record {
         map = m;
         coefficients = λ r c rh cw.
-            ap (λ (u : ℕ → ℤ). cells w u r c) (passed-yes (w * h) (planeOf whole L W H g) z _ forward-passes)
-            ∙ front-cells w h (planeCell whole L W H g) z r c rh cw;
+            ap (λ (u : ℕ → ℤ). cells w u r c) (passed-yes (w * h) (planeOf fiveThreeFilter whole L W H g) z _ forward-passes)
+            ∙ front-cells w h (planeCell fiveThreeFilter whole L W H g) z r c rh cw;
       }
 
   -- x is the plane, y the heights' area before the call
@@ -78,27 +82,27 @@ module _ (W H : Side) (L a b c : ℕ) (pass : sizeQuestions (W .length) (H .leng
     answer = backwardQuestion W H L a b c x
 
     abbrev heightsAfter : ℕ → ℤ
-    heightsAfter = rebuilt answer (w * h) (flat w (mapBack wrap32 L W H x)) y
+    heightsAfter = rebuilt answer (w * h) (flat w (mapBack fiveThreeFilter wrap32 L W H x)) y
 
-    answer-is : answer ≡ ask (inRange L W H x) 7 (ask (rebuiltFits 0 L W H x) 14 0)
+    answer-is : answer ≡ ask (inRange fiveThreeFilter L W H x) 7 (ask (rebuiltFits fiveThreeFilter 0 L W H x) 14 0)
     unfolding backwardQuestion planeQuestions
     answer-is = asked-on w h L a b c _ pass
 
-    asked : answer ≡ 0 ↔ (inRange L W H x ≡ true) × (rebuiltFits 0 L W H x ≡ true)
-    asked = let p = passes (inRange L W H x) (rebuiltFits 0 L W H x) in (λ e. p .0 (sym answer-is ∙ e), λ e. answer-is ∙ p .1 e)
+    asked : answer ≡ 0 ↔ (inRange fiveThreeFilter L W H x ≡ true) × (rebuiltFits fiveThreeFilter 0 L W H x ≡ true)
+    asked = let p = passes (inRange fiveThreeFilter L W H x) (rebuiltFits fiveThreeFilter 0 L W H x) in (λ e. p .0 (sym answer-is ∙ e), λ e. answer-is ∙ p .1 e)
 
     -- what stands in the heights' area after a call that passes
-    left : answer ≡ 0 → Same W H (cells w heightsAfter) (mapBack wrap32 L W H x)
+    left : answer ≡ 0 → Same W H (cells w heightsAfter) (mapBack fiveThreeFilter wrap32 L W H x)
     left e r c rh cw =
-        ap (λ (q : ℕ). cells w (rebuilt q (w * h) (flat w (mapBack wrap32 L W H x)) y) r c) e
-        ∙ ap (λ (u : ℕ → ℤ). cells w u r c) (rebuilt-yes (w * h) (flat w (mapBack wrap32 L W H x)) y)
-        ∙ front-cells w h (mapBack wrap32 L W H x) y r c rh cw
+        ap (λ (q : ℕ). cells w (rebuilt q (w * h) (flat w (mapBack fiveThreeFilter wrap32 L W H x)) y) r c) e
+        ∙ ap (λ (u : ℕ → ℤ). cells w u r c) (rebuilt-yes (w * h) (flat w (mapBack fiveThreeFilter wrap32 L W H x)) y)
+        ∙ front-cells w h (mapBack fiveThreeFilter wrap32 L W H x) y r c rh cw
 
-    pub backward-gives : (g : Grid) → HasPlane L W H g x ↔ (answer ≡ 0) × Same W H (cells w heightsAfter) g
+    pub backward-gives : (g : Grid) → HasPlane fiveThreeFilter L W H g x ↔ (answer ≡ 0) × Same W H (cells w heightsAfter) g
     unfolding maxLevels
     backward-gives g =
         let s = roomy-is w h L a b c pass .size in
-        let m = back-exactly L W H g x (s .levels .0) (s .levels .1) in (
+        let m = back-exactly fiveThreeFilter five-three-laws L W H g x (s .levels .0) (five-three-few (s .levels .1)) in (
           λ has.
               let k = m .0 has in
               let e = asked .1 (k .0, k .1) in
@@ -108,27 +112,27 @@ module _ (W H : Side) (L a b c : ℕ) (pass : sizeQuestions (W .length) (H .leng
               m .1 (t .0, t .1, λ r c rh cw. sym (left (k .0) r c rh cw) ∙ k .1 r c rh cw),
         )
 
-    pub backward-passes : answer ≡ 0 ↔ (g : Grid) × HasPlane L W H g x
+    pub backward-passes : answer ≡ 0 ↔ (g : Grid) × HasPlane fiveThreeFilter L W H g x
     unfolding maxLevels
     backward-passes =
         let s = roomy-is w h L a b c pass .size in
-        let m = some-map L W H x (s .levels .0) (s .levels .1) in
+        let m = some-map fiveThreeFilter five-three-laws L W H x (s .levels .0) (five-three-few (s .levels .1)) in
         (λ e. m .0 (asked .0 e), λ k. asked .1 (m .1 k))
 
-    pub one-map-only : (g g′ : Grid) → HasPlane L W H g x → HasPlane L W H g′ x → Same W H g g′
+    pub one-map-only : (g g′ : Grid) → HasPlane fiveThreeFilter L W H g x → HasPlane fiveThreeFilter L W H g′ x → Same W H g g′
     unfolding maxLevels
-    one-map-only g g′ = let s = roomy-is w h L a b c pass .size in one-map L W H g g′ x (s .levels .1)
+    one-map-only g g′ = let s = roomy-is w h L a b c pass .size in one-map fiveThreeFilter five-three-laws L W H g g′ x (five-three-few (s .levels .1))
 
-    pub backward-refuses : SevenOrFourteen answer ↔ ((g : Grid) → HasPlane L W H g x → ⊥)
+    pub backward-refuses : SevenOrFourteen answer ↔ ((g : Grid) → HasPlane fiveThreeFilter L W H g x → ⊥)
     backward-refuses =
-        let r = refuses (inRange L W H x) (rebuiltFits 0 L W H x) in (
+        let r = refuses (inRange fiveThreeFilter L W H x) (rebuiltFits fiveThreeFilter 0 L W H x) in (
           λ s g has. r .0 (rw answer-is at s) (sym answer-is ∙ backward-passes .1 (g, has)),
           λ n. rw answer-is (r .1 (λ e. let m = backward-passes .0 (answer-is ∙ e) in n (m .0) (m .1))),
         )
 
   pub there-and-back : (g : Grid) (z y : ℕ → ℤ) → IsMap w h g →
-      let x = cells w (passed (forwardQuestion W H L a b c) (w * h) (planeOf whole L W H g) z) in
+      let x = cells w (passed (forwardQuestion W H L a b c) (w * h) (planeOf fiveThreeFilter whole L W H g) z) in
       (answer x y ≡ 0) × Same W H (cells w (heightsAfter x y)) g
   there-and-back g z y m =
-      let x = cells w (passed (forwardQuestion W H L a b c) (w * h) (planeOf whole L W H g) z) in
+      let x = cells w (passed (forwardQuestion W H L a b c) (w * h) (planeOf fiveThreeFilter whole L W H g) z) in
       backward-gives x y g .0 (forward-gives g z m)

@@ -17,6 +17,7 @@ use Rattle.lifting.specs.Grid.{Side, joined}
 use Rattle.lifting.specs.GridHalves.{halvesOf}
 use Rattle.areas.specs.Areas.{wholes, height16}
 use Rattle.areas.proofs.AreaLaws.{front-at, front-rest}
+use Rattle.lifting.specs.FiveThree.{fiveThreeFilter}
 use Rattle.wavelet.specs.Limits.{maxSample}
 use Rattle.wavelet.specs.Maps.{every, valueFits}
 use Rattle.wavelet.proofs.LimitLaws.{sample-small}
@@ -46,7 +47,7 @@ kept-by : (N : ℕ) (v : ℤ) → N < 2 ^ 16 → v ≡ pos N → height16 v ≡ 
 unfolding height16
 kept-by N = each _ λ p q. simp lin (omega arith)
 
-height-kept : (v : ℤ) → valueFits 0 v ≡ true → height16 v ≡ v
+height-kept : (v : ℤ) → valueFits fiveThreeFilter 0 v ≡ true → height16 v ≡ v
 unfolding valueFits
 height-kept (pos n) h = kept-by n (pos n) (omega (
   arith,
@@ -56,7 +57,7 @@ height-kept (pos n) h = kept-by n (pos n) (omega (
 )) refl
 height-kept (negsuc n) h = let z : _≡_ {A = ℕ} 0 1 = cc in absurd (omega arith)
 
-pub drawn-heights : (S : Side) (y z : ℕ → ℤ) → every (S .length) (λ i. valueFits 0 (y i)) ≡ true →
+pub drawn-heights : (S : Side) (y z : ℕ → ℤ) → every (S .length) (λ i. valueFits fiveThreeFilter 0 (y i)) ≡ true →
     fronted (S .length) (λ c. height16 (joined S (halvesOf S y) c)) z ≡ fronted (S .length) (joined S (halvesOf S y)) z
 drawn-heights S y z fits =
     let N = S .length in

@@ -15,6 +15,7 @@ use Rattle.lifting.specs.Halves.{fronted}
 use Rattle.lifting.specs.Grid.{Side, side, count, joined}
 use Rattle.lifting.specs.GridHalves.{halvesOf, inHalves}
 use Rattle.lifting.proofs.GridLaws.{halves-low, halves-high}
+use Rattle.lifting.specs.FiveThree.{fiveThreeFilter}
 use Rattle.wavelet.specs.Limits.{maxSample}
 use Rattle.wavelet.specs.Bands.{Grid}
 use Rattle.wavelet.specs.Plane.{cells, flat}
@@ -75,12 +76,12 @@ module _ {s w h : ℕ} {Y : Grid} {l₀ : List ℤ} {i : ℕ} (g : List ℕ) (p 
 
 -- row i, lent as a part of n numbers y, its numbers being those of X: the test
 pub row-fits : (w i n : ℕ) (X : Grid) (y : ℕ → ℤ) → n ≡ w → y ≡ cut w (X i) →
-    every n (λ j. between (pos 0) (pos maxSample) (y j)) ≡ every w (λ c. valueFits 0 (X i c))
+    every n (λ j. between (pos 0) (pos maxSample) (y j)) ≡ every w (λ c. valueFits fiveThreeFilter 0 (X i c))
 row-fits w i n X y en ey =
     ap (λ (m : ℕ). every m (λ j. between (pos 0) (pos maxSample) (y j))) en
     ∙ every-same w _ _ (λ j q. ap (between (pos 0) (pos maxSample)) (ap (λ (f : ℕ → ℤ). f j) ey ∙ cut-in w (X i) j q) ∙ height-fits (X i j))
 
-pub row-heights : (n : ℕ) (y : ℕ → ℤ) → every n (λ j. between (pos 0) (pos maxSample) (y j)) ≡ true → every n (λ j. valueFits 0 (y j)) ≡ true
+pub row-heights : (n : ℕ) (y : ℕ → ℤ) → every n (λ j. between (pos 0) (pos maxSample) (y j)) ≡ true → every n (λ j. valueFits fiveThreeFilter 0 (y j)) ≡ true
 row-heights n y e = sym (every-same n _ _ (λ j q. height-fits (y j))) ∙ e
 
 -- and its heights z
@@ -117,7 +118,7 @@ pub record Finishing (W : Side) (h : ℕ) (l₀ : List ℤ) (g₀ : List ℕ) (i
   pub most : i ≤ h
   pub rows : Passed (W .length) (W .length) h (rowsMapped (fronted (W .length) (λ _. pos 0)) (W .length) h (cells (W .length) (at l₀))) l₀ i l
   pub heights : Passed (W .length) (W .length) h (rowsReturned W h (cells (W .length) (at l₀)) (cells (W .length) (at (wholes g₀)))) (wholes g₀) i (wholes g)
-  pub tested : every i (λ r. every (W .length) (λ c. valueFits 0 (cells (W .length) (at l₀) r c))) ≡ true
+  pub tested : every i (λ r. every (W .length) (λ c. valueFits fiveThreeFilter 0 (cells (W .length) (at l₀) r c))) ≡ true
 
 module _ (W : Side) (h : ℕ) (l₀ : List ℤ) (g₀ : List ℕ) where
   abbrev w : ℕ
@@ -145,7 +146,7 @@ module _ (W : Side) (h : ℕ) (l₀ : List ℤ) (g₀ : List ℕ) where
     -- the test of row i, lent as a part of k numbers
     module _ (k : ℕ) (e : k ≡ w) (lt : i < h) (ok : Bool)
         (is : ok ≡ every (length (midOf (i * w) k l)) (λ j. between (pos 0) (pos maxSample) (at (midOf (i * w) k l) j))) where
-      row-test : ok ≡ every w (λ c. valueFits 0 (cells w (at l₀) i c))
+      row-test : ok ≡ every w (λ c. valueFits fiveThreeFilter 0 (cells w (at l₀) i c))
       row-test = is ∙ row-fits w i _ (cells w (at l₀)) _ (row-length w w h _ l₀ i k l e lt (f .rows)) (lent-row w w h _ l₀ i k l e (f .rows))
 
       pub finish-no : ok ≡ false → Finished false W h (at l₀) (at l) (heightsAt g₀) (heightsAt g)

@@ -16,6 +16,7 @@ use Rattle.lifting.specs.GridHalves.{halvesOf, liftedInPlace, unliftedInPlace}
 use Rattle.lifting.proofs.GridLaws.{place-in, in-place, by-place, joined-place, joined-parted, front-in}
 use Rattle.lifting.proofs.GridReads.{forward-reads, back-reads}
 use Rattle.lifting.proofs.LoneLaws.{lone-high, lone-none}
+use Rattle.lifting.specs.FiveThree.{fiveThreeFilter}
 use Rattle.wavelet.specs.Bands.{Grid, Band, bandOf, columnsLifted, subband, rowsUnlifted, levelBack}
 use Rattle.wavelet.proofs.LevelTheory.{across-of, down-of}
 use Rattle.wavelet.specs.Plane.{halfAt, placeIn}
@@ -155,7 +156,7 @@ module _ (W H : Side) (X : Grid) where
       simp (within-in (W .length) (H .length) R c rh cw) (halves-half H (lineForward wrap32 H (joined H (halvesOf H (λ i. X i c)))) (λ i. X i c) R rh)
 
   pub level-forward : (R C : ℕ) → R < H .length → C < W .length →
-      levelLifted W H X R C ≡ subband wrap32 W H (cornerGrid W H X) (bandOf (halfAt W C) (halfAt H R)) (placeIn H R) (placeIn W C)
+      levelLifted W H X R C ≡ subband fiveThreeFilter wrap32 W H (cornerGrid W H X) (bandOf (halfAt W C) (halfAt H R)) (placeIn H R) (placeIn W C)
   unfolding levelLifted subband columnsLifted cornerGrid
   level-forward R C rh cw =
       let Z = columnsLiftedInPlace (W .length) H X in
@@ -176,15 +177,15 @@ pub record BandsIn (W H : Side) (p : Band → Grid) (X : Grid) : Type 0 where
 module _ (W H : Side) (p : Band → Grid) (X : Grid) (b : BandsIn W H p X) where
   -- a row of the area, lifted back
   pub row-back : (d : Half) (i c : ℕ) → i < count d H → c < W .length →
-      rowsMapped (unliftedInPlace W) (W .length) (H .length) X (place H d i) (placed W c) ≡ rowsUnlifted wrap32 W p d i c
-  unfolding rowsUnlifted
+      rowsMapped (unliftedInPlace W) (W .length) (H .length) X (place H d i) (placed W c) ≡ rowsUnlifted fiveThreeFilter wrap32 W p d i c
+  unfolding rowsUnlifted lineBack
   row-back d i c ib cw =
       let r = place H d i in
       rows-back W (H .length) X r (place-in H d i ib) c cw ∙
       back-reads wrap32 W _ _ (λ a n nb. halves-cut W (X r) a n nb ∙ b .bands d a i n ib nb) c cw
 
-  pub level-back : (r c : ℕ) → r < H .length → c < W .length → levelGrid W (levelUnlifted W H X) r c ≡ levelBack wrap32 W H p r c
-  unfolding levelUnlifted levelBack parted
+  pub level-back : (r c : ℕ) → r < H .length → c < W .length → levelGrid W (levelUnlifted W H X) r c ≡ levelBack fiveThreeFilter wrap32 W H p r c
+  unfolding levelUnlifted levelBack lineBack parted
   level-back r c rh cw =
       let Z = rowsMapped (unliftedInPlace W) (W .length) (H .length) X in
       grid-at W (columnsUnliftedInPlace (W .length) H Z) r c

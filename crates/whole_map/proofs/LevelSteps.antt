@@ -15,6 +15,7 @@ use Rattle.numbers.proofs.Parts.{window-in, splice-in, splice-past}
 use Rattle.lifting.specs.Line.{lo}
 use Rattle.lifting.specs.Grid.{Side, side, place, count}
 use Rattle.lifting.proofs.GridLaws.{counts}
+use Rattle.lifting.specs.FiveThree.{fiveThreeFilter}
 use Rattle.wavelet.specs.Limits.{maxLevels, range}
 use Rattle.wavelet.specs.Bands.{Grid, levelHas}
 use Rattle.wavelet.specs.Plane.{cells, flat, planeBands, mapBack}
@@ -78,20 +79,20 @@ pub part-room : (n s : ℕ) (W H : Side) → 0 < count lo H → Rows n s (W .len
 part-room n s W H some R = omega (arith, next-end s W H some, R .room)
 
 -- ---- back: one level, its low-low part being rebuilt before column `from`, and in the plane from there on; y₀ is the work area before its rows are fetched
-back-none : (L : ℕ) (W H : Side) (x : Grid) (r c : ℕ) → L ≡ 0 → x r c ≡ mapBack wrap32 L W H x r c
+back-none : (L : ℕ) (W H : Side) (x : Grid) (r c : ℕ) → L ≡ 0 → x r c ≡ mapBack fiveThreeFilter wrap32 L W H x r c
 unfolding mapBack
 back-none L W H x r c z = rw z refl
 
 module _ (s A L from : ℕ) (W H : Side) (ok : Bool) (z y₀ y : ℕ → ℤ) (ws : W .length ≤ s) (some : 0 < L) (few : from ≤ count lo W)
-    (left : (i n : ℕ) → i < count lo H → n < from → cells s y₀ (place H lo i) n ≡ mapBack wrap32 (L - 1) (next W) (next H) (cells A z) i n)
-    (new : (i n : ℕ) → i < count lo H → n < count lo W → from ≤ n → cells A z i n ≡ mapBack wrap32 (L - 1) (next W) (next H) (cells A z) i n)
+    (left : (i n : ℕ) → i < count lo H → n < from → cells s y₀ (place H lo i) n ≡ mapBack fiveThreeFilter wrap32 (L - 1) (next W) (next H) (cells A z) i n)
+    (new : (i n : ℕ) → i < count lo H → n < count lo W → from ≤ n → cells A z i n ≡ mapBack fiveThreeFilter wrap32 (L - 1) (next W) (next H) (cells A z) i n)
     (m : LevelMade ok from s W H (cells A z) y₀ y) where
-  level-answer : ok ≡ levelHas W H (bandsBack (L - 1) W H (cells A z))
+  level-answer : ok ≡ levelHas fiveThreeFilter W H (bandsBack (L - 1) W H (cells A z))
   unfolding levelHas
   level-answer =
       m .answer
       ∙ sym (cc (
-        rows-even W H (mapBack wrap32 (L - 1) (next W) (next H) (cells A z)) (cells A z),
+        rows-even W H (mapBack fiveThreeFilter wrap32 (L - 1) (next W) (next H) (cells A z)) (cells A z),
         columns-even W H (bandsBack (L - 1) W H (cells A z)) _ (bands-fetched from W H (cells A z) (cells s y₀) few (L - 1) left new),
       ))
 
@@ -106,9 +107,9 @@ pub back-end : (s A k L : ℕ) (W H : Side) (ok : Bool) (z y₀ y : ℕ → ℤ)
     LevelMade ok 0 s W H (cells A z) y₀ y → LevelsBack ok k L s A W H z y₀ y
 back-end s A k L W H ok z y₀ y ws some e m =
     let x = cells A z in
-    let left : (i n : ℕ) → i < count lo H → n < 0 → cells s y₀ (place H lo i) n ≡ mapBack wrap32 (L - 1) (next W) (next H) x i n = λ i n ib nb.
+    let left : (i n : ℕ) → i < count lo H → n < 0 → cells s y₀ (place H lo i) n ≡ mapBack fiveThreeFilter wrap32 (L - 1) (next W) (next H) x i n = λ i n ib nb.
     absurd (omega arith) in
-    let new : (i n : ℕ) → i < count lo H → n < count lo W → 0 ≤ n → x i n ≡ mapBack wrap32 (L - 1) (next W) (next H) x i n = λ i n ib nb b.
+    let new : (i n : ℕ) → i < count lo H → n < count lo W → 0 ≤ n → x i n ≡ mapBack fiveThreeFilter wrap32 (L - 1) (next W) (next H) x i n = λ i n ib nb b.
     let f = goes-no L (count lo W) (count lo H) e (omega arith) (omega arith) in
     back-none (L - 1) (next W) (next H) x i n (omega arith) in
     let f = fits-none (k + 1) L W H x some e in
@@ -147,18 +148,18 @@ module _ (n s A k L a m : ℕ) (W H W′ H′ : Side) (done : Bool) (z y₀ p₀
   low-back = rw (ew, eh, e₀) at l′
 
   abbrev lowFits : Bool
-  lowFits = rebuiltFits (k + 1) (L - 1) (next W) (next H) x
+  lowFits = rebuiltFits fiveThreeFilter (k + 1) (L - 1) (next W) (next H) x
 
   low-fits : lowFits ≡ pick done (everyCell (next W .length) (next H .length)
-      (λ r c. valueFits (k + 1) (mapBack wrap32 (L - 1) (next W) (next H) x r c))) false
+      (λ r c. valueFits fiveThreeFilter (k + 1) (mapBack fiveThreeFilter wrap32 (L - 1) (next W) (next H) x r c))) false
   low-fits =
       let e = low-back .answer in
       let W₁ = next W in
       let H₁ = next H in
       fits-more (k + 1) (L - 1) W₁ H₁ x (omega arith)
-      ∙ both-both (rebuiltFits (k + 1 + 1) (L - 1 - 1) (next W₁) (next H₁) x)
-      (levelHas W₁ H₁ (planeBands W₁ H₁ (mapBack wrap32 (L - 1 - 1) (next W₁) (next H₁) x) x))
-      (everyCell (W₁ .length) (H₁ .length) (λ r c. valueFits (k + 1) (mapBack wrap32 (L - 1) W₁ H₁ x r c)))
+      ∙ both-both (rebuiltFits fiveThreeFilter (k + 1 + 1) (L - 1 - 1) (next W₁) (next H₁) x)
+      (levelHas fiveThreeFilter W₁ H₁ (planeBands W₁ H₁ (mapBack fiveThreeFilter wrap32 (L - 1 - 1) (next W₁) (next H₁) x) x))
+      (everyCell (W₁ .length) (H₁ .length) (λ r c. valueFits fiveThreeFilter (k + 1) (mapBack fiveThreeFilter wrap32 (L - 1) W₁ H₁ x r c)))
       ∙ rw (← e)
 
   low-kept : KeptFrom ((H .length - 1) * s + W .length) y₀ y₁
@@ -176,7 +177,7 @@ module _ (n s A k L a m : ℕ) (W H W′ H′ : Side) (done : Bool) (z y₀ p₀
 
   -- its levels fit; q₁ is the part again, q₂ with its rows in their own order, `ok` the test of its own numbers on the way, y₂ the work area then
   module _ (it : done ≡ true) (ok : Bool) (q₁ q₂ y₂ : ℕ → ℤ) (eq : q₁ ≡ windowed a m y₁) (same : q₁ ≡ p₁)
-      (t : ok ≡ rowsBetween 0 (H′ .length) 0 (W′ .length) (negℤ (pos (range (k + 1)))) (pos (range (k + 1))) (cells (2 * s) q₁))
+      (t : ok ≡ rowsBetween 0 (H′ .length) 0 (W′ .length) (negℤ (pos (range fiveThreeFilter (k + 1)))) (pos (range fiveThreeFilter (k + 1))) (cells (2 * s) q₁))
       (e₂ : q₂ ≡ flat (2 * s) (rowsMapped (wovenInPlace W′) (W′ .length) (H′ .length) (cells (2 * s) q₁)))
       (f₂ : y₂ ≡ spliced a m q₂ y₁) where
     woven : q₂ ≡ flat (2 * s) (rowsMapped (wovenInPlace (next W)) (next W .length) (next H .length) (cells (2 * s) q₁))
@@ -184,10 +185,12 @@ module _ (n s A k L a m : ℕ) (W H W′ H′ : Side) (done : Bool) (z y₀ p₀
 
     tested : ok ≡ lowFits
     tested =
-        let t′ : ok ≡ rowsBetween 0 (next H .length) 0 (next W .length) (negℤ (pos (range (k + 1)))) (pos (range (k + 1))) (cells (2 * s) q₁) =
+        let t′ : ok ≡ rowsBetween 0 (next H .length) 0 (next W .length) (negℤ (pos (range fiveThreeFilter (k + 1)))) (pos (range fiveThreeFilter (k + 1)))
+        (cells (2 * s) q₁) =
         rw (ew, eh) at t in
         t′
-        ∙ ap (λ (p : ℕ → ℤ). rowsBetween 0 (next H .length) 0 (next W .length) (negℤ (pos (range (k + 1)))) (pos (range (k + 1))) (cells (2 * s) p)) same
+        ∙ ap (λ (p : ℕ → ℤ). rowsBetween 0 (next H .length) 0 (next W .length) (negℤ (pos (range fiveThreeFilter (k + 1))))
+        (pos (range fiveThreeFilter (k + 1))) (cells (2 * s) p)) same
         ∙ rebuilt-test k (L - 1) (next W) (next H) x (cells (2 * s) p₁) (low-back .grid it)
         ∙ sym (low-fits ∙ rw it)
 
@@ -209,7 +212,7 @@ module _ (n s A k L a m : ℕ) (W H W′ H′ : Side) (done : Bool) (z y₀ p₀
     back-low no′ = no-answer y₂ (sym tested ∙ no′) woven-kept
 
     -- the low-low part, as it stands in the work area
-    low-cell : (i c : ℕ) → i < count lo H → c < count lo W → cells s y₂ (place H lo i) c ≡ mapBack wrap32 (L - 1) (next W) (next H) x i c
+    low-cell : (i c : ℕ) → i < count lo H → c < count lo W → cells s y₂ (place H lo i) c ≡ mapBack fiveThreeFilter wrap32 (L - 1) (next W) (next H) x i c
     unfolding cells place next
     low-cell i c ib cb =
         let room = row-room m (2 * s) (count lo W) (count lo H) i low-rows ib in
@@ -233,7 +236,8 @@ module _ (n s A k L a m : ℕ) (W H W′ H′ : Side) (done : Bool) (z y₀ p₀
         let f : W′ .length ≡ count lo W = ap length-of ew in
         let c′ : LevelMade d (count lo W) s W H (cells A z) y₂ y = rw f at c in
         let fits : lowFits ≡ true = sym tested ∙ yes′ in
-        let new : (i j : ℕ) → i < count lo H → j < count lo W → count lo W ≤ j → x i j ≡ mapBack wrap32 (L - 1) (next W) (next H) x i j = λ i j ib jb g.
+        let new : (i j : ℕ) → i < count lo H → j < count lo W → count lo W ≤ j → x i j ≡ mapBack fiveThreeFilter wrap32 (L - 1) (next W) (next H) x i j =
+        λ i j ib jb g.
         absurd (omega arith) in
         record {
           answer = rw fits (level-answer s A L (count lo W) W H d z y₂ y (R .wide) (omega arith) (omega arith) low-cell new c′);
@@ -246,8 +250,8 @@ pub between-by : (first last from to : ℕ) (X : Grid) {low low′ high high′ 
     rowsBetween first last from to low high X ≡ rowsBetween first last from to low′ high′ X
 between-by first last from to X e f = λ i. rowsBetween first last from to (e i) (f i) X
 
-pub range-is : (k : ℕ) → k ≤ maxLevels → pos (range (min k maxLevels)) ≡ pos (range k)
-range-is k b = ap (λ (i : ℕ). pos (range i)) (omega arith)
+pub range-is : (k : ℕ) → k ≤ maxLevels → pos (range fiveThreeFilter (min k maxLevels)) ≡ pos (range fiveThreeFilter k)
+range-is k b = ap (λ (i : ℕ). pos (range fiveThreeFilter i)) (omega arith)
 
 pub neg-fits : (N : ℕ) (z : ℤ) → N < 2147483648 → z ≡ pos N → SFits w32 (pos 0 -ℤ z)
 neg-fits N = each _ λ p q. simp lin (omega arith)
@@ -264,21 +268,24 @@ module _ (k L : ℕ) (W H W′ H′ : Side) (x : Grid) (a : Bool) (one : 0 < k) 
   pub range-first : a ≡ false → false ≡ regionInRange k L W H x
   range-first no′ = sym (region-more k L W H x one more ∙ rw (← low-test, no′))
 
-  module _ (yes′ : a ≡ true) (b : Bool) (eb : b ≡ rowsBetween 0 (H′ .length) (W′ .length) (W .length) (negℤ (pos (range k))) (pos (range k)) x) where
-    beside-test : b ≡ rowsBetween 0 (count lo H) (count lo W) (W .length) (negℤ (pos (range k))) (pos (range k)) x
+  module _ (yes′ : a ≡ true) (b : Bool)
+      (eb : b ≡ rowsBetween 0 (H′ .length) (W′ .length) (W .length) (negℤ (pos (range fiveThreeFilter k))) (pos (range fiveThreeFilter k)) x) where
+    beside-test : b ≡ rowsBetween 0 (count lo H) (count lo W) (W .length) (negℤ (pos (range fiveThreeFilter k))) (pos (range fiveThreeFilter k)) x
     unfolding next
     beside-test = let f = ap length-of ew in let g = ap length-of eh in rw (f, g) at eb
 
     pub range-second : b ≡ false → false ≡ regionInRange k L W H x
     range-second no′ = sym (region-more k L W H x one more ∙ rw (← low-test, yes′, ← beside-test, no′))
 
-    pub range-third : b ≡ true → (d : Bool) → d ≡ rowsBetween (H′ .length) (H .length) 0 (W .length) (negℤ (pos (range k))) (pos (range k)) x →
+    pub range-third : b ≡ true → (d : Bool)
+        → d ≡ rowsBetween (H′ .length) (H .length) 0 (W .length) (negℤ (pos (range fiveThreeFilter k))) (pos (range fiveThreeFilter k)) x →
         d ≡ regionInRange k L W H x
     unfolding next
     range-third yes″ d ed =
-        let below : d ≡ rowsBetween (count lo H) (H .length) 0 (W .length) (negℤ (pos (range k))) (pos (range k)) x = rw eh at ed in
+        let below : d ≡ rowsBetween (count lo H) (H .length) 0 (W .length) (negℤ (pos (range fiveThreeFilter k))) (pos (range fiveThreeFilter k)) x =
+        rw eh at ed in
         below ∙ sym (region-more k L W H x one more ∙ rw (← low-test, yes′, ← beside-test, yes″))
 
 pub range-end : (k L : ℕ) (W H : Side) (x : Grid) (d : Bool) → 0 < k → 0 < L → goesOn L (count lo W) (count lo H) ≡ false →
-    d ≡ rowsBetween 0 (H .length) 0 (W .length) (negℤ (pos (range k))) (pos (range k)) x → d ≡ regionInRange k L W H x
+    d ≡ rowsBetween 0 (H .length) 0 (W .length) (negℤ (pos (range fiveThreeFilter k))) (pos (range fiveThreeFilter k)) x → d ≡ regionInRange k L W H x
 range-end k L W H x d one some go e = e ∙ sym (region-last k L W H x one some go)

@@ -11,6 +11,8 @@ use Rattle.lifting.specs.Line.{lo, hi}
 use Rattle.lifting.specs.Grid.{Side, place, count, joined}
 use Rattle.lifting.specs.GridHalves.{halvesOf, liftedInPlace}
 use Rattle.lifting.proofs.GridLaws.{counts, place-in, front-in}
+use Rattle.lifting.specs.FiveThree.{fiveThreeFilter}
+use Rattle.lifting.proofs.FiveThreeFilter.{five-three-laws}
 use Rattle.wavelet.specs.Bands.{Grid, Band, LL, bandOf, subband}
 use Rattle.wavelet.specs.Plane.{cells, flat, halfAt, placeIn, inCorner, planeCell, planeBands, mapBack}
 use Rattle.wavelet.proofs.GridLaws.{cells-flat}
@@ -28,22 +30,23 @@ use Rattle.whole_map.proofs.TestLaws.{goes-no}
 -- ---- the plane, by cells
 module _ (keep : ℤ → ℤ) (W H : Side) (g : Grid) (r c : ℕ) where
   plane-corner : (L : ℕ) → r < count lo H → c < count lo W →
-      planeCell keep (suc L) W H g r c ≡ planeCell keep L (next W) (next H) (subband keep W H g LL) r c
+      planeCell fiveThreeFilter keep (suc L) W H g r c ≡ planeCell fiveThreeFilter keep L (next W) (next H) (subband fiveThreeFilter keep W H g LL) r c
   unfolding planeCell inCorner
   plane-corner L rb cb = simp (lt-ltb r (count lo H) rb, lt-ltb c (count lo W) cb)
 
   plane-rest : (L : ℕ) → within (count lo W) (count lo H) r c ≡ false →
-      planeCell keep (suc L) W H g r c ≡ subband keep W H g (bandOf (halfAt W c) (halfAt H r)) (placeIn H r) (placeIn W c)
+      planeCell fiveThreeFilter keep (suc L) W H g r c ≡ subband fiveThreeFilter keep W H g (bandOf (halfAt W c) (halfAt H r)) (placeIn H r) (placeIn W c)
   unfolding planeCell inCorner within
   plane-rest L e = simp e
 
-  plane-none : (L : ℕ) → L ≡ 0 → planeCell keep L (next W) (next H) (subband keep W H g LL) r c ≡ subband keep W H g LL r c
+  plane-none : (L : ℕ) → L ≡ 0 → planeCell fiveThreeFilter keep L (next W) (next H) (subband fiveThreeFilter keep W H g LL) r c
+      ≡ subband fiveThreeFilter keep W H g LL r c
   unfolding planeCell
   plane-none L z = rw z refl
 
   -- the last level: the corner is its low-low band, or empty
   plane-last : (L : ℕ) → 0 < L → goesOn L (count lo W) (count lo H) ≡ false →
-      planeCell keep L W H g r c ≡ subband keep W H g (bandOf (halfAt W c) (halfAt H r)) (placeIn H r) (placeIn W c)
+      planeCell fiveThreeFilter keep L W H g r c ≡ subband fiveThreeFilter keep W H g (bandOf (halfAt W c) (halfAt H r)) (placeIn H r) (placeIn W c)
   unfolding bandOf
   plane-last zero some e = absurd (omega arith)
   plane-last (suc L) some e =
@@ -56,7 +59,7 @@ module _ (keep : ℤ → ℤ) (W H : Side) (g : Grid) (r c : ℕ) where
       (plane-rest L)
 
 module _ (L : ℕ) (W H : Side) (g z : Grid) (r c : ℕ) where
-  pub written-in : r < H .length → c < W .length → planeWritten L W H g z r c ≡ planeCell wrap32 L W H g r c
+  pub written-in : r < H .length → c < W .length → planeWritten L W H g z r c ≡ planeCell fiveThreeFilter wrap32 L W H g r c
   unfolding planeWritten
   written-in rh cw = simp (within-in (W .length) (H .length) r c rh cw)
 
@@ -87,7 +90,7 @@ module _ (A : ℕ) (W H : Side) (z₀ z₁ : ℕ → ℤ) (wa : W .length ≤ A)
   -- the low-low part copied to the rows x₁ of its own width, and laid in the corner again, in halves: z₂
   module _ (x₀ x₁ z₂ : ℕ → ℤ) (e₁ : x₁ ≡ flat (count lo W) (gridCopied (count lo W) (count lo H) (cells A z₁) (cells (count lo W) x₀)))
       (f₂ : z₂ ≡ flat A (gridHalved (next W) (next H) (cells (count lo W) x₁) (cells A z₁))) where
-    next-grid : (r c : ℕ) → r < count lo H → c < count lo W → cornerGrid (next W) (next H) (cells A z₂) r c ≡ subband wrap32 W H g LL r c
+    next-grid : (r c : ℕ) → r < count lo H → c < count lo W → cornerGrid (next W) (next H) (cells A z₂) r c ≡ subband fiveThreeFilter wrap32 W H g LL r c
     unfolding bandOf next
     next-grid r c rb cb =
         let both = counts W in
@@ -121,7 +124,7 @@ module _ (A : ℕ) (W H : Side) (z₀ z₁ : ℕ → ℤ) (wa : W .length ≤ A)
         by-within w′ h′ r c
         (λ rb cb.
         written-in L W′ H′ g′ (cells A z₂) r c rb cb
-        ∙ plane-reads wrap32 L W′ H′ g′ (subband wrap32 W H g LL) next-grid r c rb cb
+        ∙ plane-reads fiveThreeFilter five-three-laws wrap32 L W′ H′ g′ (subband fiveThreeFilter wrap32 W H g LL) next-grid r c rb cb
         ∙ sym (written-in (suc L) W H g (cells A z₀) r c (omega arith) (omega arith) ∙ plane-corner wrap32 W H g r c L rb cb))
         (λ e.
         written-out L W′ H′ g′ (cells A z₂) r c e
@@ -141,7 +144,7 @@ twice s H x r c = let k : H .start % 2 * s + (r * (2 * s) + c) ≡ (2 * r + H .s
 
 -- the bands that the plane x and the levels left give
 abbrev pub bandsBack : ℕ → Side → Side → Grid → Band → Grid
-bandsBack L W H x = planeBands W H (mapBack wrap32 L (next W) (next H) x) x
+bandsBack L W H x = planeBands W H (mapBack fiveThreeFilter wrap32 L (next W) (next H) x) x
 
 -- what is fetched from the plane, and what is left
 module _ (from w : ℕ) (H : Side) (z x : Grid) (c : ℕ) (cw : c < w) (i : ℕ) where
@@ -169,8 +172,8 @@ woven-in W h X r c rh cw =
 
 -- X is the area before the plane's rows x are fetched; from column `from` on the low-low part comes from the plane, and before it from X
 module _ (from : ℕ) (W H : Side) (x X : Grid) (few : from ≤ count lo W) (L : ℕ)
-    (left : (i n : ℕ) → i < count lo H → n < from → X (place H lo i) n ≡ mapBack wrap32 L (next W) (next H) x i n)
-    (new : (i n : ℕ) → i < count lo H → n < count lo W → from ≤ n → x i n ≡ mapBack wrap32 L (next W) (next H) x i n) where
+    (left : (i n : ℕ) → i < count lo H → n < from → X (place H lo i) n ≡ mapBack fiveThreeFilter wrap32 L (next W) (next H) x i n)
+    (new : (i n : ℕ) → i < count lo H → n < count lo W → from ≤ n → x i n ≡ mapBack fiveThreeFilter wrap32 L (next W) (next H) x i n) where
   abbrev fetchedRows : Grid
   fetchedRows = rowsFetched from (W .length) H x X
 

@@ -18,6 +18,8 @@ use Rattle.lifting.specs.Grid.{Side, place, count, loneHigh, isEven, hasLine}
 use Rattle.lifting.specs.GridHalves.{unliftedInPlace}
 use Rattle.lifting.proofs.GridLaws.{counts, place-in}
 use Rattle.lifting.proofs.LoneLaws.{lone-high, has-lone, has-other}
+use Rattle.lifting.specs.FiveThree.{fiveThreeFilter}
+use Rattle.lifting.proofs.FiveThreeFilter.{five-three-laws}
 use Rattle.wavelet.specs.Limits.{maxSample, range}
 use Rattle.wavelet.specs.Bands.{Grid, Band, bandOf, rowsHave, columnsHave, levelHas}
 use Rattle.wavelet.specs.Plane.{cells, inCorner, levelAt, planeBands, mapBack}
@@ -121,30 +123,32 @@ all-rows low high w h X =
     (every-same h _ _ (λ r rh. every-same w _ _ (λ c cw. let a : 0 + r ≡ r = omega arith in let b : 0 + c ≡ c = omega arith in rw (a, b))))
 
 -- ---- question 14
-pub height-fits : (v : ℤ) → between (pos 0) (pos maxSample) v ≡ valueFits 0 v
+pub height-fits : (v : ℤ) → between (pos 0) (pos maxSample) v ≡ valueFits fiveThreeFilter 0 v
 unfolding valueFits between
 height-fits v = refl
 
-level-fits : (k : ℕ) (v : ℤ) → between (negℤ (pos (range (suc k)))) (pos (range (suc k))) v ≡ valueFits (suc k) v
+level-fits : (k : ℕ) (v : ℤ) → between (negℤ (pos (range fiveThreeFilter (suc k)))) (pos (range fiveThreeFilter (suc k))) v
+    ≡ valueFits fiveThreeFilter (suc k) v
 unfolding valueFits
-level-fits k v = between-is (range (suc k)) v
+level-fits k v = between-is (range fiveThreeFilter (suc k)) v
 
-pub between-fits : (k : ℕ) (v : ℤ) → between (negℤ (pos (range (k + 1)))) (pos (range (k + 1))) v ≡ valueFits (k + 1) v
+pub between-fits : (k : ℕ) (v : ℤ)
+    → between (negℤ (pos (range fiveThreeFilter (k + 1)))) (pos (range fiveThreeFilter (k + 1))) v ≡ valueFits fiveThreeFilter (k + 1) v
 between-fits k v = let e : k + 1 ≡ suc k = omega arith in rw e (level-fits k v)
 
 -- the numbers of a rebuilt level, in halves, are the grid's
 module _ (k L : ℕ) (W H : Side) (x X : Grid) (R : Rebuilt L W H x X) where
-  pub rebuilt-cells : everyCell (W .length) (H .length) (λ r c. valueFits k (X r c)) ≡
-      everyCell (W .length) (H .length) (λ r c. valueFits k (mapBack wrap32 L W H x r c))
+  pub rebuilt-cells : everyCell (W .length) (H .length) (λ r c. valueFits fiveThreeFilter k (X r c)) ≡
+      everyCell (W .length) (H .length) (λ r c. valueFits fiveThreeFilter k (mapBack fiveThreeFilter wrap32 L W H x r c))
   unfolding everyCell
   rebuilt-cells =
       every-same (H .length) _ _ (λ r rh.
-      sym (every-placed W (λ c. valueFits k (X r c)))
-      ∙ every-same (W .length) _ _ (λ c cw. ap (valueFits k) (sym (grid-at W X r c) ∙ R .cell r c rh cw)))
+      sym (every-placed W (λ c. valueFits fiveThreeFilter k (X r c)))
+      ∙ every-same (W .length) _ _ (λ c cw. ap (valueFits fiveThreeFilter k) (sym (grid-at W X r c) ∙ R .cell r c rh cw)))
 
 pub rebuilt-test : (k L : ℕ) (W H : Side) (x X : Grid) → Rebuilt L W H x X →
-    rowsBetween 0 (H .length) 0 (W .length) (negℤ (pos (range (k + 1)))) (pos (range (k + 1))) X ≡
-    everyCell (W .length) (H .length) (λ r c. valueFits (k + 1) (mapBack wrap32 L W H x r c))
+    rowsBetween 0 (H .length) 0 (W .length) (negℤ (pos (range fiveThreeFilter (k + 1)))) (pos (range fiveThreeFilter (k + 1))) X ≡
+    everyCell (W .length) (H .length) (λ r c. valueFits fiveThreeFilter (k + 1) (mapBack fiveThreeFilter wrap32 L W H x r c))
 unfolding rowsBetween everyCell
 rebuilt-test k L W H x X R =
     let kw : W .length - 0 ≡ W .length = omega arith in
@@ -156,9 +160,9 @@ rebuilt-test k L W H x X R =
 
 -- 14 at every level: first of the low-low part, then of what this level halves, then of its own numbers
 pub fits-more : (k L : ℕ) (W H : Side) (x : Grid) → 0 < L →
-    rebuiltFits k L W H x ≡ pick (rebuiltFits (k + 1) (L - 1) (next W) (next H) x)
-    (pick (levelHas W H (planeBands W H (mapBack wrap32 (L - 1) (next W) (next H) x) x))
-    (everyCell (W .length) (H .length) (λ r c. valueFits k (mapBack wrap32 L W H x r c))) false) false
+    rebuiltFits fiveThreeFilter k L W H x ≡ pick (rebuiltFits fiveThreeFilter (k + 1) (L - 1) (next W) (next H) x)
+    (pick (levelHas fiveThreeFilter W H (planeBands W H (mapBack fiveThreeFilter wrap32 (L - 1) (next W) (next H) x) x))
+    (everyCell (W .length) (H .length) (λ r c. valueFits fiveThreeFilter k (mapBack fiveThreeFilter wrap32 L W H x r c))) false) false
 unfolding rebuiltFits
 fits-more k zero W H x b = absurd (omega arith)
 fits-more k (suc L) W H x b = let a : suc L - 1 ≡ L = omega arith in let e : k + 1 ≡ suc k = omega arith in rw (a, e)
@@ -179,15 +183,15 @@ module _ (W H : Side) (p : Band → Grid) where
   unfolding rowsHave
   rows-hold-lone e = both-is _ _ (each-every (count lo H) _ (λ r b. has-other W _ e)) (each-every (count hi H) _ (λ r b. has-other W _ e))
 
-  columns-hold-lone : loneHigh H ≡ false → columnsHave W H p ≡ true
+  columns-hold-lone : loneHigh H ≡ false → columnsHave fiveThreeFilter W H p ≡ true
   unfolding columnsHave
   columns-hold-lone e = each-every (W .length) _ (λ c b. has-other H _ e)
 
-  no-columns-have : W .length ≡ 0 → levelHas W H p ≡ true
+  no-columns-have : W .length ≡ 0 → levelHas fiveThreeFilter W H p ≡ true
   unfolding levelHas columnsHave
   no-columns-have z = both-is _ _ (rows-hold-lone (none-lone W z)) (each-every (W .length) _ (λ c b. absurd (omega arith)))
 
-  no-rows-have : H .length ≡ 0 → levelHas W H p ≡ true
+  no-rows-have : H .length ≡ 0 → levelHas fiveThreeFilter W H p ≡ true
   unfolding levelHas rowsHave
   no-rows-have z =
       let l = count-none H z lo in
@@ -195,14 +199,14 @@ module _ (W H : Side) (p : Band → Grid) where
       both-is _ _ (both-is _ _ (each-every (count lo H) _ (λ r b. absurd (omega arith))) (each-every (count hi H) _ (λ r b. absurd (omega arith))))
       (columns-hold-lone (none-lone H z))
 
-no-columns-fit : (k L : ℕ) (W H : Side) (x : Grid) → W .length ≡ 0 → rebuiltFits k L W H x ≡ true
+no-columns-fit : (k L : ℕ) (W H : Side) (x : Grid) → W .length ≡ 0 → rebuiltFits fiveThreeFilter k L W H x ≡ true
 unfolding rebuiltFits next
 no-columns-fit k zero W H x z = refl
 no-columns-fit k (suc L) W H x z =
     both-is _ _ (no-columns-fit (suc k) L (next W) (next H) x (count-none W z lo))
     (both-is _ _ (no-columns-have W H _ z) (each-cells (W .length) (H .length) _ (λ r c rh cw. absurd (omega arith))))
 
-no-rows-fit : (k L : ℕ) (W H : Side) (x : Grid) → H .length ≡ 0 → rebuiltFits k L W H x ≡ true
+no-rows-fit : (k L : ℕ) (W H : Side) (x : Grid) → H .length ≡ 0 → rebuiltFits fiveThreeFilter k L W H x ≡ true
 unfolding rebuiltFits next
 no-rows-fit k zero W H x z = refl
 no-rows-fit k (suc L) W H x z =
@@ -210,7 +214,8 @@ no-rows-fit k (suc L) W H x z =
     (both-is _ _ (no-rows-have W H _ z) (each-cells (W .length) (H .length) _ (λ r c rh cw. absurd (omega arith))))
 
 -- nothing is asked of a low-low part where no more levels follow
-pub fits-none : (k L : ℕ) (W H : Side) (x : Grid) → 0 < L → goesOn L (count lo W) (count lo H) ≡ false → rebuiltFits k (L - 1) (next W) (next H) x ≡ true
+pub fits-none : (k L : ℕ) (W H : Side) (x : Grid) → 0 < L → goesOn L (count lo W) (count lo H) ≡ false
+    → rebuiltFits fiveThreeFilter k (L - 1) (next W) (next H) x ≡ true
 unfolding next rebuiltFits
 fits-none k L W H x some e =
     elim (decLt 0 (count lo W)) [
@@ -264,11 +269,11 @@ first-high H l =
 
 -- a lone high row, lifted back, where the area has the bands p
 pub columns-even : (W H : Side) (p : Band → Grid) (X : Grid) → BandsIn W H p X →
-    columnsHave W H p ≡ columnsEven (W .length) H (rowsMapped (unliftedInPlace W) (W .length) (H .length) X)
+    columnsHave fiveThreeFilter W H p ≡ columnsEven (W .length) H (rowsMapped (unliftedInPlace W) (W .length) (H .length) X)
 unfolding columnsHave columnsEven
 columns-even W H p X b =
     let Z = rowsMapped (unliftedInPlace W) (W .length) (H .length) X in
-    elim (loneHigh H) as (λ t. loneHigh H ≡ t → columnsHave W H p ≡ columnsEven (W .length) H Z) [
+    elim (loneHigh H) as (λ t. loneHigh H ≡ t → columnsHave fiveThreeFilter W H p ≡ columnsEven (W .length) H Z) [
       | false ↦ λ l. columns-hold-lone W H p l ∙ simp l
       | true ↦ λ l.
           let t = lone-high H l in
@@ -323,28 +328,29 @@ outside : (w h r c : ℕ) → (r < h → c < w → ⊥) → within w h r c ≡ f
 outside w h r c f = by-within w h r c (λ a b. absurd (f a b)) (λ e. e)
 
 abbrev rangeTest : Grid → ℕ → ℕ → ℕ → Bool
-rangeTest x r c k = leb (natAbs (x r c)) (range k)
+rangeTest x r c k = leb (natAbs (x r c)) (range fiveThreeFilter k)
 
 pub region-last : (k L : ℕ) (W H : Side) (x : Grid) → 0 < k → 0 < L → goesOn L (count lo W) (count lo H) ≡ false →
-    regionInRange k L W H x ≡ rowsBetween 0 (H .length) 0 (W .length) (negℤ (pos (range k))) (pos (range k)) x
+    regionInRange k L W H x ≡ rowsBetween 0 (H .length) 0 (W .length) (negℤ (pos (range fiveThreeFilter k))) (pos (range fiveThreeFilter k)) x
 unfolding regionInRange
 region-last k L W H x b some e =
     let w = W .length in
     let h = H .length in
     let here : (r c : ℕ) → k - 1 + levelAt L W H r c ≡ k = λ r c. omega (arith, level-last L W H r c some e) in
     bool-same _ _
-    (λ e. rows-are 0 h 0 w (range k) x (λ r c _ rh _ cw. sym (ap (rangeTest x r c) (here r c)) ∙ cells-each w h _ e r c rh cw))
-    (λ e. each-cells w h _ (λ r c rh cw. ap (rangeTest x r c) (here r c) ∙ rows-hold 0 h 0 w (range k) x e r c (omega arith) rh (omega arith) cw))
+    (λ e. rows-are 0 h 0 w (range fiveThreeFilter k) x (λ r c _ rh _ cw. sym (ap (rangeTest x r c) (here r c)) ∙ cells-each w h _ e r c rh cw))
+    (λ e. each-cells w h _ (λ r c rh cw. ap (rangeTest x r c) (here r c)
+    ∙ rows-hold 0 h 0 w (range fiveThreeFilter k) x e r c (omega arith) rh (omega arith) cw))
 
 module _ (k L : ℕ) (W H : Side) (x : Grid) where
   abbrev inner : Bool
   inner = regionInRange (k + 1) L (next W) (next H) x
 
   abbrev right : Bool
-  right = rowsBetween 0 (count lo H) (count lo W) (W .length) (negℤ (pos (range k))) (pos (range k)) x
+  right = rowsBetween 0 (count lo H) (count lo W) (W .length) (negℤ (pos (range fiveThreeFilter k))) (pos (range fiveThreeFilter k)) x
 
   abbrev below : Bool
-  below = rowsBetween (count lo H) (H .length) 0 (W .length) (negℤ (pos (range k))) (pos (range k)) x
+  below = rowsBetween (count lo H) (H .length) 0 (W .length) (negℤ (pos (range fiveThreeFilter k))) (pos (range fiveThreeFilter k)) x
 
   region-suc : 0 < k → regionInRange k (suc L) W H x ≡ pick inner (pick right below false) false
   unfolding regionInRange next
@@ -365,9 +371,10 @@ module _ (k L : ℕ) (W H : Side) (x : Grid) where
       both-is inner _
       (each-cells w′ h′ _ (λ r c rb cb. sym (ap (rangeTest x r c) (corner r c rb cb)) ∙ all r c (omega arith) (omega arith)))
       (both-is right below
-      (rows-are 0 h′ w′ w (range k) x (λ r c _ rb wc cw. sym (ap (rangeTest x r c) (rest r c (outside w′ h′ r c (λ _ d. omega arith)))) ∙
+      (rows-are 0 h′ w′ w (range fiveThreeFilter k) x (λ r c _ rb wc cw. sym (ap (rangeTest x r c) (rest r c (outside w′ h′ r c (λ _ d. omega arith)))) ∙
       all r c (omega arith) cw))
-      (rows-are h′ h 0 w (range k) x (λ r c hr rh _ cw. sym (ap (rangeTest x r c) (rest r c (outside w′ h′ r c (λ d _. omega arith)))) ∙ all r c rh cw))))
+      (rows-are h′ h 0 w (range fiveThreeFilter k) x
+      (λ r c hr rh _ cw. sym (ap (rangeTest x r c) (rest r c (outside w′ h′ r c (λ d _. omega arith)))) ∙ all r c rh cw))))
       (λ e.
       let one = both inner _ e in
       let two = both right below (one .1) in
@@ -377,10 +384,10 @@ module _ (k L : ℕ) (W H : Side) (x : Grid) where
             elim (decLt c w′) [
               | yes cb ↦ ap (rangeTest x r c) (corner r c rb cb) ∙ cells-each w′ h′ _ (one .0) r c rb cb
               | no d ↦ ap (rangeTest x r c) (rest r c (outside w′ h′ r c (λ _ cb. d cb))) ∙
-                  rows-hold 0 h′ w′ w (range k) x (two .0) r c (omega arith) rb (omega arith) cw
+                  rows-hold 0 h′ w′ w (range fiveThreeFilter k) x (two .0) r c (omega arith) rb (omega arith) cw
             ]
         | no d ↦ ap (rangeTest x r c) (rest r c (outside w′ h′ r c (λ rb _. d rb))) ∙
-            rows-hold h′ h 0 w (range k) x (two .1) r c (omega arith) rh (omega arith) cw
+            rows-hold h′ h 0 w (range fiveThreeFilter k) x (two .1) r c (omega arith) rh (omega arith) cw
       ]))
 
 pub region-more : (k L : ℕ) (W H : Side) (x : Grid) → 0 < k → 1 < L →
@@ -395,7 +402,7 @@ level-some (suc L) W H r c h =
     by-within (count lo W) (count lo H) r c (λ rb cb. omega (arith, level-corner L W H r c rb cb)) (λ e. omega (arith, level-rest L W H r c e))
 
 pub region-least : (L : ℕ) (W H : Side) (x : ℕ → ℤ) → 0 < L →
-    rowsBetween 0 1 0 (W .length * H .length) (negℤ (pos (range 1))) (pos (range 1)) (cells (W .length * H .length) x) ≡ true →
+    rowsBetween 0 1 0 (W .length * H .length) (negℤ (pos (range fiveThreeFilter 1))) (pos (range fiveThreeFilter 1)) (cells (W .length * H .length) x) ≡ true →
     regionInRange 1 L W H (cells (W .length) x) ≡ true
 unfolding regionInRange cells
 region-least L W H x some e =
@@ -405,6 +412,8 @@ region-least L W H x some e =
     let j : 0 * (w * h) + (r * w + c) ≡ r * w + c = omega arith in
     let place = place-below w h r c rh cw in
     let swap : h * w ≡ w * h = mul-comm h w in
-    let held = rows-hold 0 1 0 (w * h) (range 1) (cells (w * h) x) e 0 (r * w + c) (omega arith) (omega arith) (omega arith) (omega arith) in
-    let least : range 1 ≤ range (1 - 1 + levelAt L W H r c) = range-le 1 (1 - 1 + levelAt L W H r c) (omega (arith, level-some L W H r c some)) in
-    le-leb (natAbs (x (r * w + c))) (range (1 - 1 + levelAt L W H r c)) (omega (arith, leb-true (natAbs (x (r * w + c))) (range 1) (rw j at held))))
+    let held = rows-hold 0 1 0 (w * h) (range fiveThreeFilter 1) (cells (w * h) x) e 0 (r * w + c) (omega arith) (omega arith) (omega arith) (omega arith) in
+    let least : range fiveThreeFilter 1 ≤ range fiveThreeFilter (1 - 1 + levelAt L W H r c) =
+    range-le fiveThreeFilter five-three-laws 1 (1 - 1 + levelAt L W H r c) (omega (arith, level-some L W H r c some)) in
+    le-leb (natAbs (x (r * w + c))) (range fiveThreeFilter (1 - 1 + levelAt L W H r c))
+    (omega (arith, leb-true (natAbs (x (r * w + c))) (range fiveThreeFilter 1) (rw j at held))))

@@ -12,6 +12,7 @@ use Rattle.lifting.specs.Halves.{fronted}
 use Rattle.lifting.specs.Grid.{Side, joined, loneHigh, isEven}
 use Rattle.lifting.specs.GridHalves.{halvesOf, liftedInPlace, unliftedInPlace}
 use Rattle.lifting.specs.Rows.{rowsChanged}
+use Rattle.lifting.specs.FiveThree.{fiveThreeFilter}
 use Rattle.wavelet.specs.Limits.{maxWidth, range}
 use Rattle.wavelet.specs.Bands.{Grid, levelHas}
 use Rattle.wavelet.specs.Plane.{cells, flat, planeCell, levelAt, planeBands, mapBack}
@@ -74,11 +75,11 @@ firstBack n from W H s z x =
 
 -- the plane z with the plane of the grid g, at L levels, in its corner
 unfoldable pub planeWritten : ℕ → Side → Side → Grid → Grid → Grid
-planeWritten L W H g z r c = pick (within (W .length) (H .length) r c) (planeCell wrap32 L W H g r c) (z r c)
+planeWritten L W H g z r c = pick (within (W .length) (H .length) r c) (planeCell fiveThreeFilter wrap32 L W H g r c) (z r c)
 
 -- the rows X are those of the grid that the plane's corner x gives back at L levels
 pub record Rebuilt (L : ℕ) (W H : Side) (x X : Grid) : Type 0 where
-  pub cell : (r c : ℕ) → r < H .length → c < W .length → levelGrid W X r c ≡ mapBack wrap32 L W H x r c
+  pub cell : (r c : ℕ) → r < H .length → c < W .length → levelGrid W X r c ≡ mapBack fiveThreeFilter wrap32 L W H x r c
 
 -- whether more levels follow on a low-low part of w columns and h rows: levels are left, and it is not empty
 unfoldable pub goesOn : ℕ → ℕ → ℕ → Bool
@@ -99,7 +100,7 @@ rowsBetween first last from to low high x =
 
 -- question 7 of the corner of a plane, k being the level of its own bands
 unfoldable pub regionInRange : ℕ → ℕ → Side → Side → Grid → Bool
-regionInRange k L W H x = everyCell (W .length) (H .length) (λ r c. leb (natAbs (x r c)) (range (k - 1 + levelAt L W H r c)))
+regionInRange k L W H x = everyCell (W .length) (H .length) (λ r c. leb (natAbs (x r c)) (range fiveThreeFilter (k - 1 + levelAt L W H r c)))
 
 -- L levels of rows of w numbers, s apart: strides double from level to level, and stay small
 pub record Doubling (L s w : ℕ) : Type 0 where
@@ -117,14 +118,14 @@ pub record LevelMade (ok : Bool) (from s : ℕ) (W H : Side) (z : Grid) (y₀ y 
 -- what all levels back leave of the work area y₀, and their answer, question 14 of the low-low part and of what this level halves: z is the plane, k the level
 -- that this grid is the low-low part of, 0 for the map
 pub record LevelsBack (ok : Bool) (k L s A : ℕ) (W H : Side) (z y₀ y : ℕ → ℤ) : Type 0 where
-  pub answer : ok ≡ both (rebuiltFits (k + 1) (L - 1) (next W) (next H) (cells A z))
-      (levelHas W H (planeBands W H (mapBack wrap32 (L - 1) (next W) (next H) (cells A z)) (cells A z)))
+  pub answer : ok ≡ both (rebuiltFits fiveThreeFilter (k + 1) (L - 1) (next W) (next H) (cells A z))
+      (levelHas fiveThreeFilter W H (planeBands W H (mapBack fiveThreeFilter wrap32 (L - 1) (next W) (next H) (cells A z)) (cells A z)))
   pub grid : ok ≡ true → Rebuilt L W H (cells A z) (cells s y)
   pub kept : KeptFrom ((H .length - 1) * s + W .length) y₀ y
 
 -- h rows of the columns W, y₀, each in halves, made heights: the answer, whether they all are heights; where it is yes the heights g, and the rows are cleared
 pub record Finished (ok : Bool) (W : Side) (h : ℕ) (y₀ y g₀ g : ℕ → ℤ) : Type 0 where
-  pub answer : ok ≡ everyCell (W .length) h (λ r c. valueFits 0 (cells (W .length) y₀ r c))
+  pub answer : ok ≡ everyCell (W .length) h (λ r c. valueFits fiveThreeFilter 0 (cells (W .length) y₀ r c))
   pub heights : ok ≡ true → g ≡ flat (W .length) (rowsReturned W h (cells (W .length) y₀) (cells (W .length) g₀))
   pub cleared : ok ≡ true → y ≡ flat (W .length) (rowsMapped (fronted (W .length) (λ _. pos 0)) (W .length) h (cells (W .length) y₀))
   pub kept : KeptFrom ((h - 1) * W .length + W .length) y₀ y
@@ -132,8 +133,8 @@ pub record Finished (ok : Bool) (W : Side) (h : ℕ) (y₀ y g₀ g : ℕ → �
 
 -- what the plane z leaves of the heights g₀ and of the work area y₀, and the answer, question 14
 pub record MapRebuilt (ok : Bool) (W H : Side) (L : ℕ) (z g₀ g y₀ y : ℕ → ℤ) : Type 0 where
-  pub answer : ok ≡ rebuiltFits 0 L W H (cells (W .length) z)
-  pub heights : ok ≡ true → g ≡ fronted (W .length * H .length) (flat (W .length) (mapBack wrap32 L W H (cells (W .length) z))) g₀
+  pub answer : ok ≡ rebuiltFits fiveThreeFilter 0 L W H (cells (W .length) z)
+  pub heights : ok ≡ true → g ≡ fronted (W .length * H .length) (flat (W .length) (mapBack fiveThreeFilter wrap32 L W H (cells (W .length) z))) g₀
   pub cleared : ok ≡ true → y ≡ fronted (W .length * H .length) (λ _. pos 0) y₀
   pub kept : KeptFrom ((H .length - 1) * W .length + W .length) y₀ y
   pub keptHeights : KeptFrom ((H .length - 1) * W .length + W .length) g₀ g

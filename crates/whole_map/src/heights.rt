@@ -9,6 +9,7 @@ ghost use Rattle.numbers.specs.Signal.{at, spliced};
 ghost use Rattle.lifting.specs.Grid.{side, joined};
 ghost use Rattle.lifting.specs.GridHalves.{halvesOf};
 ghost use Rattle.lifting.specs.Halves.{fronted};
+ghost use Rattle.lifting.specs.FiveThree.{fiveThreeFilter};
 ghost use Rattle.wavelet.specs.Plane.{cells, flat};
 ghost use Rattle.whole_map.specs.Rowwise.{heightsAt, partedInPlace};
 ghost use Rattle.whole_map.specs.Passes.{gridHalved, Rows};
@@ -59,7 +60,7 @@ pub fn load_rows(
 
 // A row in halves, whose numbers fit, to a row of heights as long, and cleared.
 fn finish_row(row: &mut [i32], x: usize, heights: &mut [u16])
-    requires { ⌜ (length (now row) ≡ length (now heights)) × (every (length (now row)) (λ i. valueFits 0 (at (now row) i)) ≡ true) ⌝ }
+    requires { ⌜ (length (now row) ≡ length (now heights)) × (every (length (now row)) (λ i. valueFits fiveThreeFilter 0 (at (now row) i)) ≡ true) ⌝ }
     ensures { λ _. ⌜ heightsAt (now (heights .exit)) ≡
         fronted (length (now (row .entry)))
         (joined (side x (length (now (row .entry)))) (halvesOf (side x (length (now (row .entry)))) (at (now (row .entry)))))

@@ -19,6 +19,7 @@ ghost use Rattle.numbers.specs.Tests.{every};
 ghost use Rattle.lifting.specs.Line.{lo};
 ghost use Rattle.lifting.specs.Grid.{side, count, loneHigh, isEven};
 ghost use Rattle.lifting.specs.GridHalves.{unliftedInPlace, hasLineIn, highsLaid};
+ghost use Rattle.lifting.specs.FiveThree.{fiveThreeFilter};
 ghost use Rattle.wavelet.specs.Limits.{maxWidth, maxLevels, range};
 ghost use Rattle.wavelet.specs.Plane.{cells, flat};
 ghost use Rattle.wavelet.specs.Questions.{Sized};
@@ -226,7 +227,7 @@ pub fn forward_levels(
 // The largest magnitude of a level's numbers, as the least of them.
 fn lowest(level: usize) -> i32
     requires { ⌜ level ≤ maxLevels ⌝ }
-    ensures { λ r. ⌜ r ≡ negℤ (pos (range level)) ⌝ }
+    ensures { λ r. ⌜ r ≡ negℤ (pos (range fiveThreeFilter level)) ⌝ }
 {
     0 - sizes::range_of(level)
 }
@@ -268,7 +269,8 @@ fn rows_in_range(
     level: usize,
 ) -> bool
     requires { ⌜ Rows (length (now plane)) across to last × (first ≤ last) × (from ≤ to) × (level ≤ maxLevels) ⌝ }
-    ensures { λ r. ⌜ r ≡ rowsBetween first last from to (negℤ (pos (range level))) (pos (range level)) (cells across (at (now (plane .entry)))) ⌝ }
+    ensures { λ r. ⌜ r ≡ rowsBetween first last from to (negℤ (pos (range fiveThreeFilter level))) (pos (range fiveThreeFilter level))
+        (cells across (at (now (plane .entry)))) ⌝ }
 {
     rows_between(
         plane,
@@ -292,7 +294,8 @@ fn weave_low(
     level: usize,
 ) -> bool
     requires { ⌜ Rows (length (now work)) stride width height × (width + width ≤ maxWidth + 1) × (level ≤ maxLevels) ⌝ }
-    ensures { λ r. ⌜ r ≡ rowsBetween 0 height 0 width (negℤ (pos (range level))) (pos (range level)) (cells stride (at (now (work .entry)))) ⌝ }
+    ensures { λ r. ⌜ r ≡ rowsBetween 0 height 0 width (negℤ (pos (range fiveThreeFilter level))) (pos (range fiveThreeFilter level))
+        (cells stride (at (now (work .entry)))) ⌝ }
     ensures { λ _. ⌜ at (now (work .exit)) ≡
         flat stride (rowsMapped (wovenInPlace (side x width)) width height (cells stride (at (now (work .entry))))) ⌝ }
 {

@@ -13,6 +13,7 @@ ghost use Rattle.numbers.specs.Signal.{at};
 ghost use Rattle.numbers.specs.Word.{whole, wrap32};
 ghost use Rattle.lifting.specs.Halves.{fronted};
 ghost use Rattle.lifting.specs.Grid.{side};
+ghost use Rattle.lifting.specs.FiveThree.{fiveThreeFilter};
 ghost use Rattle.wavelet.specs.Plane.{cells, flat, planeOf, mapBack};
 ghost use Rattle.wavelet.specs.Questions.{Sized};
 ghost use Rattle.wavelet.specs.Shape.{columns, rows};
@@ -55,7 +56,7 @@ fn transform(
     requires { ⌜ Sized width height levels × (width * height ≤ length (now heights)) × (width * height ≤ length (now plane))
         × (width * height ≤ length (now work)) ⌝ }
     ensures { λ _. ⌜ at (now (plane .exit)) ≡
-        fronted (width * height) (planeOf whole levels (side x width) (side y height) (cells width (heightsAt (now (heights .entry)))))
+        fronted (width * height) (planeOf fiveThreeFilter whole levels (side x width) (side y height) (cells width (heightsAt (now (heights .entry)))))
         (at (now (plane .entry))) ⌝ }
     ensures { λ _. ⌜ at (now (work .exit)) ≡ fronted (width * height) zeros (at (now (work .entry))) ⌝ }
 {
@@ -71,7 +72,7 @@ pub fn forward(heights: &[u16], shape: Shape, plane: &mut [i32], work: &mut [i32
         (length (now (work .entry))) ⌝ }
     ensures { λ r. ⌜ at (now (plane .exit)) ≡
         passed r (shape .width * shape .height)
-        (planeOf whole (shape .levels) (columns shape) (rows shape) (cells (shape .width) (heightsAt (now (heights .entry)))))
+        (planeOf fiveThreeFilter whole (shape .levels) (columns shape) (rows shape) (cells (shape .width) (heightsAt (now (heights .entry)))))
         (at (now (plane .entry))) ⌝ }
     ensures { λ r. ⌜ at (now (work .exit)) ≡ passed r (shape .width * shape .height) zeros (at (now (work .entry))) ⌝ }
 {
@@ -136,7 +137,7 @@ fn restore(
         × (width * height ≤ length (now work)) ⌝ }
     ensures { λ r. ⌜ r ≡ planeQuestions (side x width) (side y height) levels (cells width (at (now (plane .entry)))) ⌝ }
     ensures { λ r. ⌜ heightsAt (now (heights .exit)) ≡
-        rebuilt r (width * height) (flat width (mapBack wrap32 levels (side x width) (side y height) (cells width (at (now (plane .entry))))))
+        rebuilt r (width * height) (flat width (mapBack fiveThreeFilter wrap32 levels (side x width) (side y height) (cells width (at (now (plane .entry))))))
         (heightsAt (now (heights .entry))) ⌝ }
     ensures { λ r. ⌜ at (now (work .exit)) ≡ rebuilt r (width * height) zeros (at (now (work .entry))) ⌝ }
 {
@@ -158,7 +159,7 @@ pub fn backward(plane: &[i32], shape: Shape, heights: &mut [u16], work: &mut [i3
         (length (now (work .entry))) (cells (shape .width) (at (now (plane .entry)))) ⌝ }
     ensures { λ r. ⌜ heightsAt (now (heights .exit)) ≡
         rebuilt r (shape .width * shape .height)
-        (flat (shape .width) (mapBack wrap32 (shape .levels) (columns shape) (rows shape) (cells (shape .width) (at (now (plane .entry))))))
+        (flat (shape .width) (mapBack fiveThreeFilter wrap32 (shape .levels) (columns shape) (rows shape) (cells (shape .width) (at (now (plane .entry))))))
         (heightsAt (now (heights .entry))) ⌝ }
     ensures { λ r. ⌜ at (now (work .exit)) ≡ rebuilt r (shape .width * shape .height) zeros (at (now (work .entry))) ⌝ }
 {

@@ -21,6 +21,7 @@ use Rattle.numbers.specs.Signal.{pick, both, stored}
 use Rattle.numbers.specs.Word.{wrap32}
 use Rattle.numbers.proofs.Sweep.{both as split-both}
 use Rattle.lifting.specs.Grid.{Side, side, count}
+use Rattle.lifting.specs.FiveThree.{fiveThreeFilter}
 use Rattle.wavelet.specs.Limits.{maxWidth, maxHeight, maxLevels, maxOrigin}
 use Rattle.wavelet.specs.Bands.{Grid, Band, code, across, down}
 use Rattle.wavelet.specs.Questions.{within}
@@ -107,18 +108,18 @@ pub record Right (L : ℕ) (W : Side) (top H : ℕ) (g : Grid) (d : DrawnRow) : 
   pub band-is : d .row .band ≡ code band
   pub length-is : d .row .length ≡ count (across band) (sideAt depth W)
   pub row-in : d .row .row < count (down band) (sideAt depth (side top H))
-  pub values : (i : ℕ) → i < d .row .length → d .values i ≡ levelBand wrap32 W (side top H) g (suc depth) band (d .row .row) i
+  pub values : (i : ℕ) → i < d .row .length → d .values i ≡ levelBand fiveThreeFilter wrap32 W (side top H) g (suc depth) band (d .row .row) i
 
 pub record Sound (L : ℕ) (W : Side) (top H : ℕ) (g : Grid) (f : Bool) (ds : List DrawnRow) (r c cl v i : ℕ) (x : Memory) : Type 0 where
   pub holds : Holds H g (st W top L r c f cl v i) x
   pub names : List RowName
   pub named : map (λ d. d .row) ds ≡ map (answered W) names
-  pub order : names ++ coming L W top f cl v i r ≡ made W top L r f
+  pub order : names ++ coming L W top f cl v i r ≡ made 1 W top L r f
   pub values : All (Right L W top H g) ds
 
 pub record Early (L : ℕ) (W : Side) (top : ℕ) (ts : List ℕ) (ds : List DrawnRow) (r : ℕ) : Type 0 where
-  pub drawn : length (made W top L r false) ≤ length ds
-  pub right : (H : ℕ) (g : Grid) → Fits W H g ts false → All (Right L W top H g) (take (length (made W top L r false)) ds)
+  pub drawn : length (made 1 W top L r false) ≤ length ds
+  pub right : (H : ℕ) (g : Grid) → Fits W H g ts false → All (Right L W top H g) (take (length (made 1 W top L r false)) ds)
 
 pub record At (L : ℕ) (W : Side) (top : ℕ) (ts : List ℕ) (f : Bool) (ds : List DrawnRow) (r c cl v i : ℕ) (x : Memory) : Type 0 where
   pub counted : length ts ≡ r * W .length + c
@@ -180,7 +181,7 @@ module _ {L : ℕ} {W : Side} {top : ℕ} {ts : List ℕ} {f : Bool} {ds : List 
       ) (eq-eqb (startOf W v) (startOf W v) refl)
 
   -- what waits, by the history: made and not drawn
-  pub waiting-is : drop (length ds) (made W top L r f) ≡ coming L W top f cl v i r
+  pub waiting-is : drop (length ds) (made 1 W top L r f) ≡ coming L W top f cl v i r
   waiting-is =
       let s = own-sound in
       ap (drop (length ds)) (sym (s .order))
@@ -245,14 +246,14 @@ module _ (l : ℕ) (W : Side) (top : ℕ) (ds : List DrawnRow) where
     abbrev o : Out
     o = arrive K L W top r x′
 
-    made-next : (names : List RowName) → names ++ coming L W top false cl v i r ≡ made W top L r false → (todo : List RowName) → todo ≡ madeBy L 1 W top r →
-        names ++ todo ≡ made W top L (r + 1) false
+    made-next : (names : List RowName) → names ++ coming L W top false cl v i r ≡ made 1 W top L r false → (todo : List RowName) → todo ≡ madeBy 1 L 1 W top r →
+        names ++ todo ≡ made 1 W top L (r + 1) false
     unfolding made
     made-next names e todo q =
-        let n : names ≡ inTurn r (madeBy L 1 W top) ++ [] = sym (append-nil names) ∙ ap (λ b. names ++ b) (sym (none-waits a z)) ∙ e in
-        ap₂ _++_ (n ∙ append-nil (inTurn r (madeBy L 1 W top))) q
-        ∙ sym (turn-suc r (madeBy L 1 W top))
-        ∙ ap (λ b. inTurn b (madeBy L 1 W top)) (omega arith)
+        let n : names ≡ inTurn r (madeBy 1 L 1 W top) ++ [] = sym (append-nil names) ∙ ap (λ b. names ++ b) (sym (none-waits a z)) ∙ e in
+        ap₂ _++_ (n ∙ append-nil (inTurn r (madeBy 1 L 1 W top))) q
+        ∙ sym (turn-suc r (madeBy 1 L 1 W top))
+        ∙ ap (λ b. inTurn b (madeBy 1 L 1 W top)) (omega arith)
         ∙ sym (append-nil _)
 
     complete-sound : (H : ℕ) (g : Grid) → Fits W H g (ts ++ h ∷ []) false → W .length ≤ c + 1 →
@@ -263,7 +264,7 @@ module _ (l : ℕ) (W : Side) (top : ℕ) (ds : List DrawnRow) where
         let e : c + 1 ≡ W .length = omega (arith, a .column-in) in
         let k =
         subst (λ d. Good K Kept five-three-laws L 1 W (side top H) g 0 (suc r) (arrive K L W top r (stored (cellOf W (top % 2 + r) c) d x))
-        (madeBy L 1 W top r)) (q .0)
+        (madeBy 1 L 1 W top r)) (q .0)
         (arrived-by H g W top l r c cl v i x (s .holds) z (a .column-in) e (q .1)) in
         record {
           holds =
@@ -313,12 +314,12 @@ module _ (l : ℕ) (W : Side) (top : ℕ) (ds : List DrawnRow) where
 
   -- after so many heights no row waits, and the limit is not reached
   abbrev pub takesAt : ℕ → Bool
-  takesAt m = both (isNone (drop (length ds) (made W top L (m / W .length) false))) (ltb (m / W .length) maxHeight)
+  takesAt m = both (isNone (drop (length ds) (made 1 W top L (m / W .length) false))) (ltb (m / W .length) maxHeight)
 
   takes-is : (ts : List ℕ) (r c cl v i : ℕ) (x : Memory) → At L W top ts false ds r c cl v i x → takes (st W top L r c false cl v i) ≡ takesAt (length ts)
   unfolding takes
   takes-is ts r c cl v i x a =
-      sym (ap (λ m. both (isNone (drop (length ds) (made W top L m false))) (ltb m maxHeight)) (whole-rows a)
+      sym (ap (λ m. both (isNone (drop (length ds) (made 1 W top L m false))) (ltb m maxHeight)) (whole-rows a)
       ∙ ap (λ b. both b (ltb r maxHeight)) (ap isNone (waiting-is a) ∙ none-eqb ts false r c cl v i x a))
 
   -- ---- an offer
@@ -521,12 +522,12 @@ module _ (l : ℕ) (W : Side) (top : ℕ) (ds : List DrawnRow) where
     abbrev k : Shut
     k = shut K L W top 0 r x
 
-    made-whole : (names : List RowName) → names ++ coming L W top false cl v i r ≡ made W top L r false → (l : List RowName) → l ≡ closing L 1 W (side top r) →
-        names ++ l ≡ made W top L r true
+    made-whole : (names : List RowName) → names ++ coming L W top false cl v i r ≡ made 1 W top L r false → (l : List RowName) → l ≡ closing 1 L 1 W (side top r) →
+        names ++ l ≡ made 1 W top L r true
     unfolding made
     made-whole names e l q =
-        let m : names ≡ inTurn r (madeBy L 1 W top) ++ [] = sym (append-nil names) ∙ ap (λ b. names ++ b) (sym (none-waits a z)) ∙ e in
-        ap₂ _++_ (m ∙ append-nil (inTurn r (madeBy L 1 W top))) q
+        let m : names ≡ inTurn r (madeBy 1 L 1 W top) ++ [] = sym (append-nil names) ∙ ap (λ b. names ++ b) (sym (none-waits a z)) ∙ e in
+        ap₂ _++_ (m ∙ append-nil (inTurn r (madeBy 1 L 1 W top))) q
 
     finish-sound : (H : ℕ) (g : Grid) → Fits W H g ts true → Sound L W top H g true ds r c (k .closed) (k .out .level) (k .out .left) (k .out .store)
     finish-sound H g t =
@@ -542,7 +543,7 @@ module _ (l : ℕ) (W : Side) (top : ℕ) (ds : List DrawnRow) where
               ∙ ap (λ m. pend L 1 W top (k .closed) (k .out .level) (k .out .left) r ++ later L 1 W (side top m) (k .closed)) e
               ∙ shut-first H g W top L r c cl v i x (s .holds) z p n e .rows
               ∙ later-none L 1 W (side top H)
-              ∙ ap (λ m. closing L 1 W (side top m)) (sym e));
+              ∙ ap (λ m. closing 1 L 1 W (side top m)) (sym e));
           values = s .values;
         }
 
@@ -550,14 +551,14 @@ module _ (l : ℕ) (W : Side) (top : ℕ) (ds : List DrawnRow) where
     all-early : Early L W top ts ds r
     all-early =
         let s = own-sound a in
-        let e : length ds ≡ length (made W top L r false) =
+        let e : length ds ≡ length (made 1 W top L r false) =
         sym (length-map ds (λ d. d .row))
         ∙ ap length (s .named)
         ∙ length-map (s .names) (answered W)
         ∙ ap length (sym (append-nil (s .names)) ∙ ap (λ b. s .names ++ b) (sym (none-waits a z)) ∙ s .order) in
         record {
           drawn = omega arith;
-          right = λ H g t. subst (All (Right L W top H g)) (sym (take-all (length (made W top L r false)) ds (omega arith)))
+          right = λ H g t. subst (All (Right L W top H g)) (sym (take-all (length (made 1 W top L r false)) ds (omega arith)))
               (a .sound H g t .values);
         }
 
@@ -573,7 +574,7 @@ module _ (l : ℕ) (W : Side) (top : ℕ) (ds : List DrawnRow) where
     }
 
 -- ---- at first
-none-made : (W : Side) (top L : ℕ) → made W top L 0 false ≡ []
+none-made : (W : Side) (top L : ℕ) → made 1 W top L 0 false ≡ []
 unfolding made inTurn
 none-made W top L = refl
 

@@ -15,6 +15,7 @@ use Rattle.numbers.specs.Signal.{pick, stored}
 use Rattle.numbers.specs.Word.{wrap32}
 use Rattle.numbers.proofs.Sweep.{both as split-both}
 use Rattle.lifting.specs.Halves.{fronted}
+use Rattle.lifting.specs.FiveThree.{fiveThreeFilter}
 use Rattle.wavelet.specs.Limits.{maxHeight}
 use Rattle.wavelet.specs.Bands.{Grid}
 use Rattle.lifting.specs.Grid.{Side, side}
@@ -61,17 +62,19 @@ draw-keeps s n k x = record { keeps = λ H g _ h. go H g h (drawQuestion s n k) 
 
 -- the row that waits has the map's values
 draw-values : (s : Writer) (x : Memory) (H : ℕ) (g : Grid) → Holds H g s x → 0 < s .level → (i : ℕ) → i < waitingRow s .length →
-    x (waitingRow s .start + i) ≡ levelBand wrap32 (columnsOf s) (side (s .y) H) g (waitingRow s .level) (waitingRow s .band) (waitingRow s .row) i
+    x (waitingRow s .start + i) ≡ levelBand fiveThreeFilter wrap32 (columnsOf s) (side (s .y) H) g (waitingRow s .level) (waitingRow s .band)
+    (waitingRow s .row) i
 draw-values s x H g h p = go (s .level) (subst (λ t. Holds H g t x) (placed-st s (h .placed)) h) p
   where
     go : (v : ℕ) → (let s′ = st (columnsOf s) (s .y) (s .levels) (s .rows) (s .column) (s .finished) (s .closed) v (s .left) in
-        Holds H g s′ x → 0 < v → (i : ℕ) → i < waitingRow s′ .length → x (waitingRow s′ .start + i) ≡ levelBand wrap32 (columnsOf s) (side (s .y) H) g
+        Holds H g s′ x → 0 < v → (i : ℕ) → i < waitingRow s′ .length
+        → x (waitingRow s′ .start + i) ≡ levelBand fiveThreeFilter wrap32 (columnsOf s) (side (s .y) H) g
         (waitingRow s′ .level) (waitingRow s′ .band) (waitingRow s′ .row) i)
     go zero h p i b = absurd (omega arith)
     go (suc v) h p i b =
         let P = pulled-by H g (columnsOf s) (s .y) (s .levels) (s .rows) (s .column) (s .finished) (s .closed) v (s .left) x h in
         let q : Waiting = waitingRow (st (columnsOf s) (s .y) (s .levels) (s .rows) (s .column) (s .finished) (s .closed) (suc v) (s .left)) in
-        P .is .values i b ∙ ap (λ k. levelBand wrap32 (columnsOf s) (side (s .y) H) g k (q .band) (q .row) i) (sym (P .is .level-is))
+        P .is .values i b ∙ ap (λ k. levelBand fiveThreeFilter wrap32 (columnsOf s) (side (s .y) H) g k (q .band) (q .row) i) (sym (P .is .level-is))
 
 -- and so has the row that is answered, in the output area, where z stood before
 area-values : (s : Writer) (n k : ℕ) (x z : Memory) (H : ℕ) (g : Grid) → Holds H g s x → (b : BandRow) (t : Writer) →
@@ -91,7 +94,8 @@ area-values s n k x z H g h b t e = go (drawQuestion s n k) (s .level) refl e
     here : 0 < s .level → MapRow (columnsOf s) (side (s .y) H) g (bandRow q) y
     here p = record {
       are = λ c f i l.
-          front i l ∙ draw-values s x H g h p i l ∙ ap (λ d. levelBand wrap32 (columnsOf s) (side (s .y) H) g (q .level) d (q .row) i) (code-one (q .band) c f);
+          front i l ∙ draw-values s x H g h p i l
+          ∙ ap (λ d. levelBand fiveThreeFilter wrap32 (columnsOf s) (side (s .y) H) g (q .level) d (q .row) i) (code-one (q .band) c f);
     }
 
     go : (a v : ℕ) → s .level ≡ v → unless a (handed v s x) ≡ gives (aRow b t) →

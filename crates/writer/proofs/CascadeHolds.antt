@@ -19,9 +19,11 @@ use Rattle.numbers.specs.Word.{wrap32}
 use Rattle.numbers.proofs.Sweep.{both as split-both}
 use Rattle.lifting.specs.Line.{Half, lo, hi}
 use Rattle.lifting.specs.Grid.{Side, side, count}
+use Rattle.lifting.specs.FiveThree.{fiveThreeFilter}
 use Rattle.wavelet.specs.Bands.{Grid, Band, LL, across, down, subband}
 use Rattle.wavelet.specs.Order.{RowName, rowName, firstSet, lastSet, setRow, setHas, rowsOf, setRows, madeBy}
 use Rattle.wavelet.specs.Levels.{next, sideAt, approximation, levelBand}
+use Rattle.wavelet.proofs.OrderLaws.{closing-empty}
 use Rattle.wavelet.proofs.SideLaws.{count-lo, count-hi, size-inner, next-length}
 use Rattle.level.specs.Level.{Memory, LevelKind, completes, prev, rest, joinAt, Meaning, SetStands}
 use Rattle.level.proofs.Places.{prev-is}
@@ -34,7 +36,7 @@ use Rattle.writer.specs.Closing.{Shut, onward, closeLevel, shut}
 use Rattle.writer.specs.Holds.{below, LevelHolds, SetWaits, LevelsHold}
 use Rattle.writer.proofs.CountLaws.{left-first, left-under, left-next, completes-set, completes-no, low-shut}
 use Rattle.writer.proofs.Waiting.{lasts, lasts-most, rows-yes, skip-rows, skip-has, skip-le, onwards, pend, later, pend-none, pend-under, later-first}
-use Rattle.writer.proofs.Waiting.{later-none, made-still, made-set, closing-none}
+use Rattle.writer.proofs.Waiting.{later-none, made-still, made-set}
 
 -- ---- the store from a place on
 pub rest-same : (a : ℕ) (x y : Memory) → ((j : ℕ) → a ≤ j → y j ≡ x j) → rest a y ≡ rest a x
@@ -42,29 +44,30 @@ unfolding rest
 rest-same a x y e = fun-ext λ j. e (a + j) (omega arith)
 
 -- ---- the levels of the low-low part are the levels after the first
-pub approximation-inner : (keep : ℤ → ℤ) (k : ℕ) (W H : Side) (g : Grid) → approximation keep (next W) (next H)
-    (subband keep W H g LL) k ≡ approximation keep W H g (suc k)
+pub approximation-inner : (keep : ℤ → ℤ) (k : ℕ) (W H : Side) (g : Grid) → approximation fiveThreeFilter keep (next W) (next H)
+    (subband fiveThreeFilter keep W H g LL) k ≡ approximation fiveThreeFilter keep W H g (suc k)
 unfolding approximation sideAt
 approximation-inner keep zero W H g = refl
 approximation-inner keep (suc k) W H g =
-    ap (λ a. subband keep (sideAt k (next W)) (sideAt k (next H)) a LL) (approximation-inner keep k W H g)
-    ∙ ap₂ (λ a b. subband keep a b (approximation keep W H g (suc k)) LL) (sym (size-inner k W)) (sym (size-inner k H))
+    ap (λ a. subband fiveThreeFilter keep (sideAt k (next W)) (sideAt k (next H)) a LL) (approximation-inner keep k W H g)
+    ∙ ap₂ (λ a b. subband fiveThreeFilter keep a b (approximation fiveThreeFilter keep W H g (suc k)) LL) (sym (size-inner k W)) (sym (size-inner k H))
 
-pub band-inner : (keep : ℤ → ℤ) (k : ℕ) (W H : Side) (g : Grid) (b : Band) → levelBand keep (next W) (next H) (subband keep W H g LL)
-    (suc k) b ≡ levelBand keep W H g (suc (suc k)) b
+pub band-inner : (keep : ℤ → ℤ) (k : ℕ) (W H : Side) (g : Grid) (b : Band)
+    → levelBand fiveThreeFilter keep (next W) (next H) (subband fiveThreeFilter keep W H g LL)
+    (suc k) b ≡ levelBand fiveThreeFilter keep W H g (suc (suc k)) b
 unfolding levelBand
 band-inner keep k W H g b =
-    ap (λ a. subband keep (sideAt k (next W)) (sideAt k (next H)) a b) (approximation-inner keep k W H g)
-    ∙ ap₂ (λ c d. subband keep c d (approximation keep W H g (suc k)) b) (sym (size-inner k W)) (sym (size-inner k H))
+    ap (λ a. subband fiveThreeFilter keep (sideAt k (next W)) (sideAt k (next H)) a b) (approximation-inner keep k W H g)
+    ∙ ap₂ (λ c d. subband fiveThreeFilter keep c d (approximation fiveThreeFilter keep W H g (suc k)) b) (sym (size-inner k W)) (sym (size-inner k H))
 
 -- a row that waits is the row of the map's transform that its name says
 pub record IsRow (W H : Side) (g : Grid) (r : Waiting) (d : ℕ) (x : Memory) : Type 0 where
   pub level-is : r .level ≡ suc d
   pub length-is : r .length ≡ count (across (r .band)) (sideAt d W)
   pub row-in : r .row < count (down (r .band)) (sideAt d H)
-  pub values : (i : ℕ) → i < r .length → x (r .start + i) ≡ levelBand wrap32 W H g (suc d) (r .band) (r .row) i
+  pub values : (i : ℕ) → i < r .length → x (r .start + i) ≡ levelBand fiveThreeFilter wrap32 W H g (suc d) (r .band) (r .row) i
 
-is-under : (W H : Side) (g : Grid) (r : Waiting) (d a : ℕ) (x : Memory) → IsRow (next W) (next H) (subband wrap32 W H g LL) r d (rest a x) →
+is-under : (W H : Side) (g : Grid) (r : Waiting) (d a : ℕ) (x : Memory) → IsRow (next W) (next H) (subband fiveThreeFilter wrap32 W H g LL) r d (rest a x) →
     IsRow W H g (lower a r) (suc d) x
 unfolding rest
 is-under W H g r d a x s = record {
@@ -117,7 +120,7 @@ module _ (K : LevelKind) (Held : Meaning) (laws : LevelLaws K Held) where
   Inv = LevelsHold K Held
 
   abbrev lowMap : Side → Side → Grid → Grid
-  lowMap W H g = subband wrap32 W H g LL
+  lowMap W H g = subband fiveThreeFilter wrap32 W H g LL
 
   -- ---- what is read of a store
   module _ (W H : Side) (g : Grid) (x y : Memory) (e : (j : ℕ) → j < K .stretch W → y j ≡ x j) where
@@ -185,7 +188,7 @@ module _ (K : LevelKind) (Held : Meaning) (laws : LevelLaws K Held) where
 
   abbrev Receives : ℕ → Type 0
   Receives L = (k : ℕ) (W H : Side) (g : Grid) (m : ℕ) (x : Memory) (i : ℕ) → m < H .length → Inv L W H g 0 0 i m (W .length) x →
-      Good L k W H g 0 (suc m) (arrive K L W (H .start) m x) (madeBy L k W (H .start) m)
+      Good L k W H g 0 (suc m) (arrive K L W (H .start) m x) (madeBy 1 L k W (H .start) m)
 
   -- ---- a row is put into the first level
   put-inv : (l : ℕ) (W H : Side) (g : Grid) (i m : ℕ) (row : ℕ → ℤ) (x : Memory) → ((a : ℕ) → a < W .length → row a ≡ g m a) →
@@ -221,10 +224,10 @@ module _ (K : LevelKind) (Held : Meaning) (laws : LevelLaws K Held) where
     t = K .put W′ (H′ .start) r row (rest (K .stretch W) x)
 
     low-goes : H .start % 2 ≤ n → r < count lo H →
-        Good (suc (suc l)) k W H g c m (under (K .stretch W) x (arrive K (suc l) W′ (H′ .start) r t)) (madeBy (suc l) (suc k) W′ (H′ .start) r)
+        Good (suc (suc l)) k W H g c m (under (K .stretch W) x (arrive K (suc l) W′ (H′ .start) r t)) (madeBy 1 (suc l) (suc k) W′ (H′ .start) r)
     low-goes f low =
         good-under (suc l) k W H g c m x _ _ v
-        (subst₂ (λ a b. Good (suc l) (suc k) W′ H′ g′ a b (arrive K (suc l) W′ (H′ .start) r t) (madeBy (suc l) (suc k) W′ (H′ .start) r))
+        (subst₂ (λ a b. Good (suc l) (suc k) W′ H′ g′ a b (arrive K (suc l) W′ (H′ .start) r t) (madeBy 1 (suc l) (suc k) W′ (H′ .start) r))
         (sym unclosed) received
         (ih (suc k) W′ H′ g′ r t 0 there (put-inv l W′ H′ g′ 0 r row (rest (K .stretch W) x) agree
         (subst (λ a. Inv (suc l) W′ H′ g′ a 0 0 r 0 (rest (K .stretch W) x)) unclosed u))))
@@ -263,7 +266,7 @@ module _ (K : LevelKind) (Held : Meaning) (laws : LevelLaws K Held) where
     few = omega arith;
   }
     where
-      none : (t : Bool) → pick t (madeBy 0 (suc k) (next W) ((H .start + 1) / 2) (n - H .start % 2)) [] ≡ []
+      none : (t : Bool) → pick t (madeBy 1 0 (suc k) (next W) ((H .start + 1) / 2) (n - H .start % 2)) [] ≡ []
       none true = unfold madeBy in refl
       none false = refl
   pass-good (suc l) ih k W H g c m n x v e low s u = go (leb (H .start % 2) n) refl
@@ -275,7 +278,7 @@ module _ (K : LevelKind) (Held : Meaning) (laws : LevelLaws K Held) where
           (arrive K (suc l) (next W) ((H .start + 1) / 2) (n - H .start % 2) (K .put (next W) ((H .start + 1) / 2) (n - H .start % 2)
           (λ i. x (K .place W (H .start) n LL + i)) (rest (K .stretch W) x))))
           (still x))
-          (pick t (madeBy (suc l) (suc k) (next W) ((H .start + 1) / 2) (n - H .start % 2)) [])
+          (pick t (madeBy 1 (suc l) (suc k) (next W) ((H .start + 1) / 2) (n - H .start % 2)) [])
       go true z = let f = leb-true (H .start % 2) n z in unfold next in low-goes l ih k W H g c m n x v e s u f (low f)
       go false z = none-goes l ih k W H g c m n x v e s u (leb-false (H .start % 2) n z)
 
@@ -370,13 +373,13 @@ module _ (K : LevelKind) (Held : Meaning) (laws : LevelLaws K Held) where
             (settle-good l ih k W H g 0 (suc m) (most l) (omega arith) y here (omega (arith, sets)) n (omega (arith, sets, prev-is (made 0 s (suc m))))
             (make-stands W H g m n x e h held) sub)
 
-      got : Good (suc l) k W H g 0 (suc m) (arrive K (suc l) W s m x) (madeBy (suc l) k W s m)
+      got : Good (suc l) k W H g 0 (suc m) (arrive K (suc l) W s m x) (madeBy 1 (suc l) k W s m)
       got = go (completes s m) refl
         where
           n : ℕ
           n = (s % 2 + m) / 2 - 1
 
-          go : (t : Bool) → completes s m ≡ t → Good (suc l) k W H g 0 (suc m) (arrive K (suc l) W s m x) (madeBy (suc l) k W s m)
+          go : (t : Bool) → completes s m ≡ t → Good (suc l) k W H g 0 (suc m) (arrive K (suc l) W s m x) (madeBy 1 (suc l) k W s m)
           go false e = rw (made-still l k W s m e) (unfold arrive arrived in rw e (got-still e))
           go true e = rw (made-set l k W s m e) (unfold arrive arrived in rw (e, up) (got-set n (completes-set s m e)))
 
@@ -447,7 +450,7 @@ module _ (K : LevelKind) (Held : Meaning) (laws : LevelLaws K Held) where
       row-in = unfold sideAt in row-there;
       values = λ a h. unfold levelBand sideAt approximation in
           (v .1 .stands b a set-there (subst (λ r. r < count (down b) H) same row-there) h
-          ∙ ap (λ r. subband wrap32 W H g b r a) (sym same));
+          ∙ ap (λ r. subband fiveThreeFilter wrap32 W H g b r a) (sym same));
     };
     first = unfold lasts in (ap (λ r. r ++ later-rows) (rows-yes k W M n b (lasts i) (v .1 .has))
         ∙ ap (λ a. rowName a b (setRow M b n) ∷ (rowsOf k W M n (lasts i) ++ later-rows)) (omega arith));
@@ -626,8 +629,8 @@ module _ (K : LevelKind) (Held : Meaning) (laws : LevelLaws K Held) where
     none-later =
         unfold later in
         (later-none l (suc k) (next W) (next H)
-        ∙ closing-none l (suc k) (next W) (next H) (sym (next-rows H m e) ∙ unfold count in omega arith)
-        ∙ sym (closing-none (suc l) k W H (omega arith)))
+        ∙ closing-empty 1 l (suc k) (next W) (next H) (omega arith) (sym (next-rows H m e) ∙ unfold count in omega arith)
+        ∙ sym (closing-empty 1 (suc l) k W H (omega arith) (omega arith)))
 
     shut-empty : Closed (suc l) k W H g 0 m (onward (K .stretch W) (shut K l (next W) ((H .start + 1) / 2) 0 (count lo (side (H .start) m))) (still x) 0)
     shut-empty =

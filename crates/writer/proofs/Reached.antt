@@ -114,7 +114,7 @@ module _ (l : ℕ) (W : Side) (top : ℕ) (from : W .start ≤ maxOrigin) (low :
 
     pub waiting-coming : waitingOf W top L es ≡ coming L W top f cl v i r
     unfolding waitingOf madeOf
-    waiting-coming = ap (λ m. drop (length (drawn es)) (made W top L m f)) rows-are ∙ waiting-is a
+    waiting-coming = ap (λ m. drop (length (drawn es)) (made 1 W top L m f)) rows-are ∙ waiting-is a
 
     pub none-is : isNone (waitingOf W top L es) ≡ eqb v 0
     none-is = ap isNone waiting-coming ∙ none-eqb l W top (drawn es) (taken es) f r c cl v i x a

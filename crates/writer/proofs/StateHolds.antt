@@ -181,7 +181,7 @@ module _ (H : ℕ) (g : Grid) (W : Side) (s l r c cl v i : ℕ) (x : Memory) (h 
   abbrev made : Out
   made = arrive K (suc l) W s r y
 
-  pub arrived-by : c + 1 ≡ W .length → r < H → Good K Kept five-three-laws (suc l) 1 W (side s H) g 0 (suc r) made (madeBy (suc l) 1 W s r)
+  pub arrived-by : c + 1 ≡ W .length → r < H → Good K Kept five-three-laws (suc l) 1 W (side s H) g 0 (suc r) made (madeBy 1 (suc l) 1 W s r)
   arrived-by e p = arrive-good K Kept five-three-laws (suc l) 1 W (side s H) g r y i p (subst (λ b. Inv H g W s (suc l) 0 0 i r b y) (omega arith) cell-inv)
 
   pub complete-holds : c + 1 ≡ W .length → r < H → Holds H g (st W s (suc l) (r + 1) 0 false cl (made .level) (made .left)) (made .store)

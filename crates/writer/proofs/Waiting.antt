@@ -11,7 +11,8 @@ use borrow.Author.Tests.{le-ltb}
 use Rattle.lifting.specs.Line.{lo}
 use Rattle.lifting.specs.Grid.{Side, side, count}
 use Rattle.wavelet.specs.Bands.{Band, across, down}
-use Rattle.wavelet.specs.Order.{RowName, rowName, handedOut, firstSet, lastSet, setRow, setHas, rowsOf, setRows, madeBy, closing}
+use Rattle.wavelet.specs.Order.{RowName, rowName, handedOut, firstSet, lastSet, setRow, setHas, rowsOf, setRows, madeBy, unmade, closing}
+use Rattle.wavelet.specs.Order.{inTurn}
 use Rattle.wavelet.specs.Levels.{next}
 use Rattle.wavelet.proofs.SideLaws.{count-none, next-length}
 use Rattle.level.specs.Level.{prev, completes}
@@ -69,7 +70,7 @@ skip-le W H n (suc i) = go (setHas W H (bandAt i) n) (skip-le W H n i)
 
 -- what the LL row of set n makes at the l levels below: nothing, where the set has none
 unfoldable pub onwards : (l k : ℕ) (W : Side) (s n : ℕ) → List RowName
-onwards l k W s n = pick (leb (s % 2) n) (madeBy l (suc k) (next W) ((s + 1) / 2) (n - s % 2)) []
+onwards l k W s n = pick (leb (s % 2) n) (madeBy 1 l (suc k) (next W) ((s + 1) / 2) (n - s % 2)) []
 
 -- ---- rows to be drawn: c levels closed, i bands left of the set of level v, m rows received, the first at coordinate s
 unfoldable pub pend : (L k : ℕ) (W : Side) (s c v i m : ℕ) → List RowName
@@ -81,7 +82,7 @@ pend (suc l) k W s c (suc (suc v)) i m = pend l (suc k) (next W) ((s + 1) / 2) (
 -- and those that the levels not yet closed will make, of the rows H
 unfoldable pub later : (L k : ℕ) (W H : Side) (c : ℕ) → List RowName
 later zero k W H c = []
-later (suc l) k W H zero = closing (suc l) k W H
+later (suc l) k W H zero = closing 1 (suc l) k W H
 later (suc l) k W H (suc c) = later l (suc k) (next W) (next H) c
 
 pub pend-none : (L k : ℕ) (W : Side) (s c i m : ℕ) → pend L k W s c 0 i m ≡ []
@@ -100,7 +101,7 @@ unfolding later
 later-all zero k W H = refl
 later-all (suc l) k W H = later-all l (suc k) (next W) (next H)
 
-pub later-none : (L k : ℕ) (W H : Side) → later L k W H 0 ≡ closing L k W H
+pub later-none : (L k : ℕ) (W H : Side) → later L k W H 0 ≡ closing 1 L k W H
 unfolding later closing
 later-none zero k W H = refl
 later-none (suc l) k W H = refl
@@ -108,54 +109,19 @@ later-none (suc l) k W H = refl
 -- the last set of the first level, then the levels below it
 pub later-first : (l k : ℕ) (W H : Side) →
     later (suc l) k W H 0 ≡ (setRows l k W H (lastSet H) ++ onwards l k W (H .start) (lastSet H)) ++ later (suc l) k W H 1
-unfolding later closing onwards firstSet next
+unfolding later closing unmade inTurn onwards firstSet next
 later-first l k W H =
-    ap (λ r. (setRows l k W H (lastSet H) ++ onwards l k W (H .start) (lastSet H)) ++ r) (sym (later-none l (suc k) (next W) (next H)))
+    let n : lastSet H + 1 - 1 + 0 ≡ lastSet H = omega arith in
+    let o : lastSet H + 1 - (lastSet H + 1 - 1) ≡ 1 = omega arith in
+    rw (o, n) (ap (λ r. (setRows l k W H (lastSet H) ++ onwards l k W (H .start) (lastSet H)) ++ r) (sym (later-none l (suc k) (next W) (next H))))
 
 -- ---- what a row makes: nothing, or a set and what its LL row makes
 module _ (l k : ℕ) (W : Side) (s m : ℕ) where
-  pub made-still : completes s m ≡ false → madeBy (suc l) k W s m ≡ []
+  pub made-still : completes s m ≡ false → madeBy 1 (suc l) k W s m ≡ []
   unfolding madeBy completes
   made-still e = simp e
 
-  pub made-set : completes s m ≡ true → madeBy (suc l) k W s m ≡
+  pub made-set : completes s m ≡ true → madeBy 1 (suc l) k W s m ≡
       setRows l k W (side s (m + 1)) ((s % 2 + m) / 2 - 1) ++ onwards l k W s ((s % 2 + m) / 2 - 1)
   unfolding madeBy completes onwards
   made-set e = simp e
-
-pub made-first : (L k : ℕ) (W : Side) (s m : ℕ) → m ≡ 0 → madeBy L k W s m ≡ []
-made-first zero k W s m e = unfold madeBy in refl
-made-first (suc l) k W s m e = made-still l k W s m (completes-first s m (omega arith))
-
--- ---- no rows make none
-module _ (k : ℕ) (W H : Side) (n : ℕ) (e : H .length ≡ 0) where
-  set-none : (b : Band) → setHas W H b n ≡ false
-  unfolding setHas
-  set-none b =
-      go (ltb 0 (count (across b) W)) (leb (firstSet H (down b)) n)
-    where
-      none : ltb (setRow H b n) (count (down b) H) ≡ false
-      none = le-ltb (setRow H b n) (count (down b) H) (omega (arith, count-none H e (down b)))
-
-      go : (p q : Bool) → both p (both q (ltb (setRow H b n) (count (down b) H))) ≡ false
-      go true true = none
-      go true false = refl
-      go false q = refl
-
-  rows-none : (bs : List Band) → rowsOf k W H n bs ≡ []
-  rows-none [] = unfold rowsOf in refl
-  rows-none (b ∷ bs) = rows-no k W H n b bs (set-none b) ∙ rows-none bs
-
-pub closing-none : (L k : ℕ) (W H : Side) → H .length ≡ 0 → closing L k W H ≡ []
-closing-none zero k W H e = unfold closing in refl
-closing-none (suc l) k W H e = more (closing-none l (suc k) (next W) (next H) (next-length H ∙ count-none H e lo))
-  where
-    first : lastSet H - firstSet H lo ≡ 0
-    first = unfold lastSet firstSet in omega arith
-
-    go : (t : Bool) → (pick t (madeBy l (suc k) (next W) (next H .start) (lastSet H - firstSet H lo)) [] ++ []) ≡ []
-    go true = append-nil _ ∙ made-first l (suc k) (next W) (next H .start) _ first
-    go false = refl
-
-    more : closing l (suc k) (next W) (next H) ≡ [] → closing (suc l) k W H ≡ []
-    more below = unfold closing setRows in rw (rows-none k W H (lastSet H) e (handedOut l), below) (go (leb (firstSet H lo) (lastSet H)))

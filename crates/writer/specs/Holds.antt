@@ -9,6 +9,7 @@ use lib.IntN.{pos}
 use lib.ListN.{getD}
 use Rattle.numbers.specs.Word.{wrap32}
 use Rattle.lifting.specs.Grid.{Side, side}
+use Rattle.lifting.specs.FiveThree.{fiveThreeFilter}
 use Rattle.wavelet.specs.Bands.{Grid, Band, LL, code, subband}
 use Rattle.wavelet.specs.Levels.{next, levelBand}
 use Rattle.wavelet.specs.Order.{setHas}
@@ -51,7 +52,7 @@ LevelsHold K Held zero W H g c v i m j x = (c ≡ 0) × (v ≡ 0)
 LevelsHold K Held (suc l) W H g c v i m j x =
     LevelHolds Held W H g c m j x
     × SetWaits K W H g c v i m x
-    × LevelsHold K Held l (next W) (next H) (subband wrap32 W H g LL) (prev c) (prev v) i (below c v (H .start) m) 0 (rest (K .stretch W) x)
+    × LevelsHold K Held l (next W) (next H) (subband fiveThreeFilter wrap32 W H g LL) (prev c) (prev v) i (below c v (H .start) m) 0 (rest (K .stretch W) x)
 
 -- ---- the writer's store
 pub record Holds (H : ℕ) (g : Grid) (s : Writer) (x : Memory) : Type 0 where
@@ -84,7 +85,7 @@ pub record GoesOn (s : Writer) (run : List ℕ) (k : ℕ) (H : ℕ) (g : Grid) :
 
 -- the numbers of a band row, at the front of y
 pub record MapRow (W H : Side) (g : Grid) (b : BandRow) (y : Memory) : Type 0 where
-  pub are : (c : Band) → b .band ≡ code c → (i : ℕ) → i < b .length → y i ≡ levelBand wrap32 W H g (b .level) c (b .row) i
+  pub are : (c : Band) → b .band ≡ code c → (i : ℕ) → i < b .length → y i ≡ levelBand fiveThreeFilter wrap32 W H g (b .level) c (b .row) i
 
 -- the state that a call leaves: the one before where it was turned away or gave Nothing; and how many heights it took
 abbrev pub left : {A : Type 0} → (A → Writer) → Writer → Reply A → Writer

@@ -99,11 +99,12 @@ fn holds_any(width: usize, n: usize) -> bool
     (31 * width + 52) / 4 <= n
 }
 
-// Questions 1 and 5, n being the length of the store.
-pub fn state_question(s: Writer, n: usize) -> u8
+// Questions 1 and 5, n being the length of the store. The first is asked before: two small functions are put into each call, one of both would not be.
+pub fn state_question(s: Writer, fits: bool, n: usize) -> u8
+    requires { ⌜ fits ≡ inRanges s ⌝ }
     ensures { λ r. ⌜ r ≡ stateQuestion s n ⌝ }
 {
-    if !in_ranges(s) {
+    if !fits {
         return 1;
     }
     if holds_any(s.width, n) {
@@ -148,7 +149,8 @@ pub fn set_up_question(width: usize, x: usize, levels: usize, n: usize) -> u8
 pub fn offer_question(s: Writer, n: usize, k: usize) -> u8
     ensures { λ r. ⌜ r ≡ offerQuestion s n k ⌝ }
 {
-    let no = state_question(s, n);
+    let fits = in_ranges(s);
+    let no = state_question(s, fits, n);
     if 0 < no {
         return no;
     }
@@ -167,7 +169,8 @@ pub fn offer_question(s: Writer, n: usize, k: usize) -> u8
 pub fn finish_question(s: Writer, n: usize) -> u8
     ensures { λ r. ⌜ r ≡ finishQuestion s n ⌝ }
 {
-    let no = state_question(s, n);
+    let fits = in_ranges(s);
+    let no = state_question(s, fits, n);
     if 0 < no {
         return no;
     }

@@ -167,7 +167,8 @@ impl Writer {
             (at (now (out .entry))) ⌝ }
         ensures { λ r. ⌜ DrawKeeps self (at (now (store .entry))) (ofDrawn r) (at (now (store .exit))) (at (now (out .exit))) ⌝ }
     {
-        let no = gate::state_question(self, store.len());
+        let fits = gate::in_ranges(self);
+        let no = gate::state_question(self, fits, store.len());
         if 0 < no {
             return Drawn::Refused(no);
         }

@@ -1,5 +1,5 @@
 -- `compare_writer::writing::expected_take` is safe and ends. In the loop nothing is asked. Assumes nothing.
-use Prim.Native.Nat.{_≤_, _-_}
+use Prim.Native.Nat.{_-_}
 use native.Mathlib.Omega.{arith}
 use borrow.Author.Needs.{needs}
 use Rattle.compare_writer.proofs.writing.expected_take.Statement.{statement}

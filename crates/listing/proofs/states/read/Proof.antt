@@ -1,6 +1,7 @@
 -- `states::read` meets its contract: the cases of what was read. Assumes nothing.
 use mathlib.Core.Path.{refl, sym, ap, _∙_}
 use lib.ListN.{length}
+use Rattle.wavelet.specs.Limits.{maxLevels}
 use Rattle.numbers.specs.Signal.{at}
 use Rattle.listing.specs.States.{listed, stateOf}
 use Rattle.listing.proofs.StateLaws.{read-as, began}
@@ -36,6 +37,7 @@ refuse-requires : tie.Need-refuse-requires
 refuse-requires c κs = tt
 
 returns : tie.Need-returns
+unfolding maxLevels
 returns c =
     let h = c .before .before in
     let y = h .before .before in
@@ -45,6 +47,7 @@ same-length : tie.Need-same-length
 same-length c = search needs
 
 returns-2 : tie.Need-returns-2
+unfolding maxLevels
 returns-2 c =
     let b = c .before in
     let h = b .before .before .before in
@@ -60,6 +63,7 @@ same-length-3 : tie.Need-same-length-3
 same-length-3 c = search needs
 
 returns-3 : tie.Need-returns-3
+unfolding maxLevels
 returns-3 c =
     let o = c .before .before in
     let h = o .before .before .before .before in
@@ -67,6 +71,7 @@ returns-3 c =
     read-as _ _ _ _ _ _ (sym (h .next3 .given .1) ∙ y .read .ensures) (o .offer .ensures)
 
 returns-4 : tie.Need-returns-4
+unfolding maxLevels
 returns-4 c =
     let h = c .before .before in
     let y = h .before .before in

@@ -8,8 +8,9 @@ use mir.Syntax.{w32}
 use mir.Val.{SFits, toZ}
 use mir.ValLaws.{toZ-ofZ}
 use Rattle.numbers.proofs.Integers.{each, lin}
-use Rattle.wavelet.specs.Limits.{maxSample}
-use Rattle.nine_seven_rebuilding.specs.Filter.{maxLevels, range}
+use Rattle.wavelet.specs.Limits.{maxSample, range}
+use Rattle.nine_seven_rebuilding.specs.Rebuilding.{maxLevels}
+use Rattle.nine_seven.specs.NineSevenFilter.{nineSevenFilter}
 use Rattle.nine_seven_rebuilding.proofs.AdmitLaws.{levels-small, range-suc, range-small}
 use Rattle.nine_seven_rebuilding.proofs.range.range_of.Statement.{statement}
 use Rattle.nine_seven_rebuilding.proofs.range.range_of.Tie as tie
@@ -20,11 +21,11 @@ six-fits N = each _ λ p q. simp lin (omega arith)
 six-is : (N : ℕ) (z : ℤ) → z ≡ pos N → pos 6 *ℤ z ≡ pos (6 * N)
 six-is N = each _ λ p q. simp lin (omega arith)
 
-next-small : (k last : ℕ) → k < last → last ≤ maxLevels → 6 * range k < 2 ^ 31
+next-small : (k last : ℕ) → k < last → last ≤ maxLevels → 6 * range nineSevenFilter k < 2 ^ 31
 next-small k last h few = omega (arith, range-suc k, range-small (suc k) (omega arith))
 
 abbrev Inv-loop : tie.InvT-loop
-Inv-loop level most₀ k₀ most k = (k ≤ level) × (level ≤ maxLevels) × (toZ w32 most ≡ pos (range k))
+Inv-loop level most₀ k₀ most k = (k ≤ level) × (level ≤ maxLevels) × (toZ w32 most ≡ pos (range nineSevenFilter k))
 
 abbrev μ-loop : tie.MeasureT-loop
 μ-loop level most₀ k₀ most k = level - k
@@ -34,7 +35,7 @@ unfolding range maxSample
 loop-holds c = (omega arith, omega arith, refl)
 
 mul-most : tie.Need-mul-most Inv-loop μ-loop
-mul-most c = let inv = c .before .loop .inv in six-fits (range (c .before .loop .k)) _ (next-small _ _ (c .loop-test .taken) (inv .1)) (inv .2)
+mul-most c = let inv = c .before .loop .inv in six-fits (range nineSevenFilter (c .before .loop .k)) _ (next-small _ _ (c .loop-test .taken) (inv .1)) (inv .2)
 
 add-k : tie.Need-add-k Inv-loop μ-loop
 add-k c = omega (arith, levels-small)
@@ -47,13 +48,13 @@ loop-again c =
     let head = c .before in
     let k = head .loop .k in
     let inv = head .loop .inv in
-    (omega arith, inv .1, toZ-ofZ w32 _ (mul-most c) ∙ six-is (range k) _ (inv .2) ∙ rw (add-one, range-suc))
+    (omega arith, inv .1, toZ-ofZ w32 _ (mul-most c) ∙ six-is (range nineSevenFilter k) _ (inv .2) ∙ rw (add-one, range-suc))
 
 returns : tie.Need-returns Inv-loop μ-loop
 returns c =
     let l = c .before .loop in
     let e : l .k ≡ c .before .before .args .level = omega arith in
-    l .inv .2 ∙ ap (λ (k : ℕ). pos (range k)) e
+    l .inv .2 ∙ ap (λ (k : ℕ). pos (range nineSevenFilter k)) e
 
 pub range-of-spec : {M : Type 1} → statement M
 range-of-spec =

@@ -24,7 +24,7 @@ put-part-requires c κs = tt
 sub-if1 : tie.Need-sub-if1
 sub-if1 c =
     let p = c .before .before in
-    let s = p .before .before .before .before .before .before in
+    let s = p .before .before .before .before .before in
     let o = s .args .out .now in
     let a = s .args .at in
     let y = p .put-part .last .1 .1 .1 .1 .1 .1 .0 in
@@ -34,10 +34,10 @@ sub-if1 c =
 settle-requires : tie.Need-settle-requires
 settle-requires c κs = tt
 
-add-t15 : tie.Need-add-t15
-add-t15 c =
+add-t14 : tie.Need-add-t14
+add-t14 c =
     let p = c .before .before .before .before in
-    let s = p .before .before .before .before .before .before in
+    let s = p .before .before .before .before .before in
     let o = s .args .out .now in
     let a = s .args .at in
     let y = p .put-part .last .1 .1 .1 .1 .1 .1 .0 in
@@ -48,7 +48,7 @@ add-t15 c =
 same-length : tie.Need-same-length
 same-length c =
     let p = c .before .before .before .before in
-    let s = p .before .before .before .before .before .before in
+    let s = p .before .before .before .before .before in
     let o = s .args .out .now in
     let a = s .args .at in
     let y = p .put-part .last .1 .1 .1 .1 .1 .1 .0 in
@@ -58,7 +58,7 @@ same-length c =
 returns : tie.Need-returns
 returns c =
     let p = c .before .before .before .before in
-    let s = p .before .before .before .before .before .before in
+    let s = p .before .before .before .before .before in
     let o = s .args .out .now in
     let a = s .args .at in
     let y = p .put-part .last .1 .1 .1 .1 .1 .1 .0 in
@@ -72,10 +72,10 @@ add-with-done c = omega (arith, c .before .before .before .before .put-part .ens
 with-done-requires : tie.Need-with-done-requires
 with-done-requires c κs = tt
 
-add-t12 : tie.Need-add-t12
-add-t12 c =
+add-t11 : tie.Need-add-t11
+add-t11 c =
     let p = c .before .before .before .before .before in
-    let s = p .before .before .before .before .before .before in
+    let s = p .before .before .before .before .before in
     let o = s .args .out .now in
     let a = s .args .at in
     let y = p .put-part .last .1 .1 .1 .1 .1 .1 .0 in
@@ -86,7 +86,7 @@ add-t12 c =
 same-length-2 : tie.Need-same-length-2
 same-length-2 c =
     let p = c .before .before .before .before .before in
-    let s = p .before .before .before .before .before .before in
+    let s = p .before .before .before .before .before in
     let o = s .args .out .now in
     let a = s .args .at in
     let y = p .put-part .last .1 .1 .1 .1 .1 .1 .0 in
@@ -96,7 +96,7 @@ same-length-2 c =
 returns-2 : tie.Need-returns-2
 returns-2 c =
     let p = c .before .before .before .before .before in
-    let s = p .before .before .before .before .before .before in
+    let s = p .before .before .before .before .before in
     let o = s .args .out .now in
     let a = s .args .at in
     let y = p .put-part .last .1 .1 .1 .1 .1 .1 .0 in
@@ -115,11 +115,11 @@ write-on-spec =
     put-part-requires
     sub-if1
     settle-requires
-    add-t15
+    add-t14
     same-length
     returns
     add-with-done
     with-done-requires
-    add-t12
+    add-t11
     same-length-2
     returns-2)

@@ -33,15 +33,12 @@ returns c =
     (draw-no (a .self) _ _ _ _ (q ∙ draw-early (a .self) n m (at (a .store .now)) (λ e. c .if1 .taken (q ∙ e))) (c .if1 .taken)
     (λ e. store-14 (a .self) n m (at (a .store .now)) (at (a .store .now)) (sym q ∙ e)))
 
-next-of-requires : tie.Need-next-of-requires
-next-of-requires c κs = store-in _ _ (sym (c .before .store-question .ensures) ∙ c .if1 .left) .0
-
 draw-due-requires : tie.Need-draw-due-requires
-draw-due-requires c κs = c .next-of .ensures
+draw-due-requires c κs = store-in _ _ (sym (c .before .store-question .ensures) ∙ c .if1 .left) .0
 
 returns-2 : tie.Need-returns-2
 returns-2 c =
-    let ok = c .before .before .before in
+    let ok = c .before .before in
     let a = ok .before .before .before .args in
     let none = sym (c .before .draw-due .ensures) ∙ not-true _ (c .if2 .taken) in
     let one = sym (ok .before .store-question .ensures) ∙ ok .if1 .left in
@@ -51,19 +48,19 @@ returns-2 c =
 returns-3 : tie.Need-returns-3
 returns-3 c =
     let due = c .before in
-    let ok = due .before .before .before in
+    let ok = due .before .before in
     let a = ok .before .before .before .args in
     let one = sym (ok .before .store-question .ensures) ∙ ok .if1 .left in
     draw-also (a .self) (length (a .store .now)) (length (a .out .now)) (at (a .store .now)) (heightsAt (a .out .now))
     (draw-no (a .self) _ _ _ 12 (draw-12 (a .self) (length (a .store .now)) (length (a .out .now)) (at (a .store .now)) one
     (sym (due .before .draw-due .ensures) ∙ not-false _ (due .if2 .left)) (omega arith)) (omega arith) (omega arith))
 
-settle-requires : tie.Need-settle-requires
-settle-requires c κs =
-    let next = c .before .before .before .before in
-    let ok = next .before in
+settle-all-requires : tie.Need-settle-all-requires
+settle-all-requires c κs =
+    let due = c .before .before in
+    let ok = due .before .before in
     let one = store-in _ _ (sym (ok .before .store-question .ensures) ∙ ok .if1 .left) in
-    (one .0, next .next-of .ensures, one .1)
+    (one .0, due-in _ (sym (due .before .draw-due .ensures) ∙ not-false _ (due .if2 .left)) .1, one .1)
 
 row-place-requires : tie.Need-row-place-requires
 row-place-requires c κs = tt
@@ -73,8 +70,7 @@ add-row-place c =
     let call = c .before .before .before .before in
     let fits = call .before .before in
     let due = fits .before in
-    let next = due .before .before in
-    let ok = next .before in
+    let ok = due .before .before in
     let start = ok .before .before .before in
     let a = start .args in
     let s = a .self in
@@ -87,8 +83,7 @@ add-e c =
     let call = c .before .before .before .before .before in
     let fits = call .before .before in
     let due = fits .before in
-    let next = due .before .before in
-    let ok = next .before in
+    let ok = due .before .before in
     let start = ok .before .before .before in
     let a = start .args in
     let s = a .self in
@@ -101,8 +96,7 @@ mul-draw-heights c =
     let call = c .before .before .before .before .before in
     let fits = call .before .before in
     let due = fits .before in
-    let next = due .before .before in
-    let ok = next .before in
+    let ok = due .before .before in
     let start = ok .before .before .before in
     let a = start .args in
     let s = a .self in
@@ -118,28 +112,26 @@ part-draw-heights-start c =
     let call = c .before .before .before .before .before .before in
     let fits = call .before .before in
     let due = fits .before in
-    let next = due .before .before in
-    let ok = next .before in
+    let ok = due .before .before in
     let start = ok .before .before .before in
     let a = start .args in
     let s = a .self in
     let one = store-in s _ (sym (ok .before .store-question .ensures) ∙ ok .if1 .left) in
     let shape = counts-small s (one .0) in
-    omega (arith, shape .0, c .before .row-place .ensures .1, one .1, first-room (columns s) (s .levels) (one .0 .deep .0), call .settle .kept .1 .0)
+    omega (arith, shape .0, c .before .row-place .ensures .1, one .1, first-room (columns s) (s .levels) (one .0 .deep .0), call .settle-all .kept .1 .0)
 
 part-draw-heights-end : tie.Need-part-draw-heights-end
 part-draw-heights-end c =
     let call = c .before .before .before .before .before .before in
     let fits = call .before .before in
     let due = fits .before in
-    let next = due .before .before in
-    let ok = next .before in
+    let ok = due .before .before in
     let start = ok .before .before .before in
     let a = start .args in
     let s = a .self in
     let one = store-in s _ (sym (ok .before .store-question .ensures) ∙ ok .if1 .left) in
     let shape = counts-small s (one .0) in
-    omega (arith, shape .0, c .before .row-place .ensures .1, one .1, first-room (columns s) (s .levels) (one .0 .deep .0), call .settle .kept .1 .0)
+    omega (arith, shape .0, c .before .row-place .ensures .1, one .1, first-room (columns s) (s .levels) (one .0 .deep .0), call .settle-all .kept .1 .0)
 
 draw-heights-requires : tie.Need-draw-heights-requires
 draw-heights-requires c κs = tt
@@ -149,8 +141,7 @@ add-d c =
     let call = c .before .before .before .before .before .before .before .before .before .before .before .before in
     let fits = call .before .before in
     let due = fits .before in
-    let next = due .before .before in
-    let ok = next .before in
+    let ok = due .before .before in
     let start = ok .before .before .before in
     let a = start .args in
     let s = a .self in
@@ -163,8 +154,7 @@ dive-from-requires c κs =
     let call = c .before .before .before .before .before .before .before .before .before .before .before .before in
     let fits = call .before .before in
     let due = fits .before in
-    let next = due .before .before in
-    let ok = next .before in
+    let ok = due .before .before in
     let start = ok .before .before .before in
     let a = start .args in
     let s = a .self in
@@ -177,7 +167,7 @@ moved-requires : tie.Need-moved-requires
 moved-requires c κs = tt
 
 same-length : tie.Need-same-length
-same-length c = c .before .before .before .before .before .before .before .before .before .before .before .before .before .before .settle .kept .1 .0
+same-length c = c .before .before .before .before .before .before .before .before .before .before .before .before .before .before .settle-all .kept .1 .0
 
 same-length-2 : tie.Need-same-length-2
 same-length-2 c = c .before .before .before .before .before .draw-heights .kept .1 .1 .0
@@ -187,8 +177,7 @@ returns-4 c =
     let call = c .before .before .before .before .before .before .before .before .before .before .before .before .before .before in
     let fits = call .before .before in
     let due = fits .before in
-    let next = due .before .before in
-    let ok = next .before in
+    let ok = due .before .before in
     let start = ok .before .before .before in
     let a = start .args in
     let s = a .self in
@@ -200,13 +189,13 @@ returns-4 c =
     let n = length (a .store .now) in
     let m = length (a .out .now) in
     let p = place .row-place .result in
-    let y = call .settle .last .1 .0 in
+    let y = call .settle-all .last .1 .0 in
     let w = s .width in
     let room = first-room (columns s) (s .levels) (one .0 .deep .0) in
     let stands = did _ _ _ _ (le-leb w widest (counts-small s (one .0) .0)) (place .row-place .ensures .0) in
-    let part : p + (p + w - p) ≤ length y = omega (arith, place .row-place .ensures .1, one .1, room, call .settle .kept .1 .0) in
+    let part : p + (p + w - p) ≤ length y = omega (arith, place .row-place .ensures .1, one .1, room, call .settle-all .kept .1 .0) in
     let fits-out = le-leb (length (midOf p (p + w - p) y)) m (omega (arith, length-mid p (p + w - p) y part)) in
-    let made = told-yes (call .settle .result) (at y) _ (call .settle .ensures .0) (settled .if4 .taken) in
+    let made = told-yes (call .settle-all .result) (at y) _ (call .settle-all .ensures .0) (settled .if4 .taken) in
     let is-due = sym (due .before .draw-due .ensures) ∙ not-false _ (due .if2 .left) in
     draw-also (a .self) (length (a .store .now)) (length (a .out .now)) (at (a .store .now)) (heightsAt (a .out .now))
     (draw-yes s _ _ _ _ _ _
@@ -226,15 +215,14 @@ over-requires : tie.Need-over-requires
 over-requires c κs = tt
 
 same-length-3 : tie.Need-same-length-3
-same-length-3 c = c .before .before .clear .kept .0 ∙ c .before .before .before .before .before .before .before .settle .kept .1 .0
+same-length-3 c = c .before .before .clear .kept .0 ∙ c .before .before .before .before .before .before .before .settle-all .kept .1 .0
 
 returns-5 : tie.Need-returns-5
 returns-5 c =
     let call = c .before .before .before .before .before .before .before in
     let fits = call .before .before in
     let due = fits .before in
-    let next = due .before .before in
-    let ok = next .before in
+    let ok = due .before .before in
     let start = ok .before .before .before in
     let a = start .args in
     let s = a .self in
@@ -243,16 +231,16 @@ returns-5 c =
     let failed = long .before in
     let one = store-in s _ (sym (ok .before .store-question .ensures) ∙ ok .if1 .left) in
     let long-is = counts-length s (one .0) _ (long .store-length .ensures) in
-    let room = le-leb (long .store-length .result) (length (call .settle .last .1 .0)) (omega (arith, one .1, long-is, call .settle .kept .1 .0)) in
+    let room = le-leb (long .store-length .result) (length (call .settle-all .last .1 .0)) (omega (arith, one .1, long-is, call .settle-all .kept .1 .0)) in
     let n = length (a .store .now) in
     let m = length (a .out .now) in
-    let made = told-no (call .settle .result) (at (call .settle .last .1 .0)) _ (call .settle .ensures .0) (failed .if4 .left) in
+    let made = told-no (call .settle-all .result) (at (call .settle-all .last .1 .0)) _ (call .settle-all .ensures .0) (failed .if4 .left) in
     draw-also (a .self) (length (a .store .now)) (length (a .out .now)) (at (a .store .now)) (heightsAt (a .out .now))
     (draw-end s _ _ _ _ _
     (fits-no _ made ∙ draw-last s n m (at (a .store .now)) (sym (ok .before .store-question .ensures) ∙ ok .if1 .left)
     (sym (due .before .draw-due .ensures) ∙ not-false _ (due .if2 .left)) (omega arith))
     (c .over .ensures)
-    (zero-kept (columns s) (s .levels) _ _ _ _ long-is (call .settle .ensures .1) (did _ _ _ _ room (clear .clear .ensures .1))))
+    (zero-kept (columns s) (s .levels) _ _ _ _ long-is (call .settle-all .ensures .1) (did _ _ _ _ room (clear .clear .ensures .1))))
 
 pub draw-spec : {M : Type 1} → statement M
 draw-spec =
@@ -260,11 +248,10 @@ draw-spec =
     (tie.spec
     store-question-requires
     returns
-    next-of-requires
     draw-due-requires
     returns-2
     returns-3
-    settle-requires
+    settle-all-requires
     add-row-place
     row-place-requires
     add-e

@@ -1,9 +1,11 @@
 -- `reader::Reader::want` meets its contract: the definition's tests, in its order. Assumes nothing.
-use mathlib.Core.Path.{_∙_, sym}
+use mathlib.Core.Path.{_∙_, sym, refl}
 use native.Mathlib.Omega.{arith}
 use borrow.Author.Tests.{not-true, not-false}
-use Rattle.reader.proofs.QuestionLaws.{counts-in}
-use Rattle.reader.proofs.CallLaws.{want-no, want-yes, wants-ended, wants-done, wants-draw, wants-row}
+use Rattle.reader.proofs.QuestionLaws.{counts-in, counts-small}
+use Rattle.reader.specs.State.{columns, rows, next}
+use Rattle.reader.proofs.WalkLaws.{up-next}
+use Rattle.reader.proofs.CallLaws.{want-no, want-yes, wants-ended, wants-done, wants-top}
 use Rattle.reader.proofs.Reader.want.Statement.{statement}
 use Rattle.reader.proofs.Reader.want.Tie as tie
 
@@ -24,36 +26,56 @@ returns-3 c =
     let fit = live .before in
     want-yes _ _ (sym (fit .before .counts-fit .ensures) ∙ not-false _ (fit .if1 .left)) (wants-done _ (live .if2 .left) (c .if3 .taken))
 
-next-of-requires : tie.Need-next-of-requires
-next-of-requires c κs =
-    let fit = c .before .before .before in
-    counts-in _ (sym (fit .before .counts-fit .ensures) ∙ not-false _ (fit .if1 .left))
-
 returns-4 : tie.Need-returns-4
 returns-4 c =
-    let next = c .before .before in
-    let more = next .before in
-    let live = more .before .before in
+    let live = c .before .before .before .before in
     let fit = live .before in
-    want-yes _ _ (sym (fit .before .counts-fit .ensures) ∙ not-false _ (fit .if1 .left))
-    (wants-draw _ (next .next-of .result .spot) (next .next-of .ensures .spot) (live .if2 .left) (omega arith) (c .if4 .taken))
+    want-yes _ _ (sym (fit .before .counts-fit .ensures) ∙ not-false _ (fit .if1 .left)) (wants-top _ (c .if4 .taken) (live .if2 .left) (omega arith))
 
-row-number-requires : tie.Need-row-number-requires
-row-number-requires c κs = (c .before .before .next-of .ensures, omega arith)
+own-level-requires : tie.Need-own-level-requires
+own-level-requires c κs =
+    let fit = c .before .before .before .before .before in
+    (counts-in _ (sym (fit .before .counts-fit .ensures) ∙ not-false _ (fit .if1 .left)), omega arith)
 
-row-length-requires : tie.Need-row-length-requires
-row-length-requires c κs = (c .before .before .before .next-of .ensures, omega arith)
+own-band-requires : tie.Need-own-band-requires
+own-band-requires c κs =
+    let fit = c .before .before .before .before .before .before in
+    (counts-in _ (sym (fit .before .counts-fit .ensures) ∙ not-false _ (fit .if1 .left)), omega arith, c .own-level .ensures)
+
+told-requires : tie.Need-told-requires
+told-requires c κs =
+    let band = c .before in
+    let level = band .before in
+    let live = level .before .before .before .before .before in
+    let s = live .before .before .before .args .self in (
+      up-next (columns s) (rows s) (s .levels) (s .drawn) (next s) (s .level) (band .own-band .result) (level .own-level .result) (level .own-level .ensures)
+          (band .own-band .ensures (c .if5 .taken)),
+      live .if2 .left,
+      omega arith,
+    )
 
 returns-5 : tie.Need-returns-5
 returns-5 c =
-    let number = c .before in
-    let next = number .before .before .before in
-    let more = next .before in
-    let live = more .before .before in
-    let fit = live .before in
-    want-yes _ _ (sym (fit .before .counts-fit .ensures) ∙ not-false _ (fit .if1 .left))
-    (wants-row _ (next .next-of .result .spot) (next .next-of .ensures .spot) (live .if2 .left) (omega arith) _ _ (omega arith) (number .row-number .ensures)
-    (c .row-length .ensures))
+    let fit = c .before .before .before .before .before .before .before .before .before in
+    c .told .ensures ∙ want-yes _ _ (sym (fit .before .counts-fit .ensures) ∙ not-false _ (fit .if1 .left)) refl
+
+next-at-requires : tie.Need-next-at-requires
+next-at-requires c κs =
+    let fit = c .before .before .before .before .before .before .before .before in
+    let s = fit .before .before .args .self in
+    let counts = counts-in s (sym (fit .before .counts-fit .ensures) ∙ not-false _ (fit .if1 .left)) in
+    (counts-small s counts, omega (arith, counts .at, counts .deep .1))
+
+told-requires-2 : tie.Need-told-requires-2
+unfolding next
+told-requires-2 c κs =
+    let live = c .before .before .before .before .before .before .before .before in
+    (c .next-at .ensures, live .if2 .left, omega arith)
+
+returns-6 : tie.Need-returns-6
+returns-6 c =
+    let fit = c .before .before .before .before .before .before .before .before .before .before in
+    c .told2 .ensures ∙ want-yes _ _ (sym (fit .before .counts-fit .ensures) ∙ not-false _ (fit .if1 .left)) refl
 
 pub want-spec : {M : Type 1} → statement M
 want-spec =
@@ -63,8 +85,11 @@ want-spec =
     returns
     returns-2
     returns-3
-    next-of-requires
     returns-4
-    row-number-requires
-    row-length-requires
-    returns-5)
+    own-level-requires
+    own-band-requires
+    told-requires
+    returns-5
+    next-at-requires
+    told-requires-2
+    returns-6)

@@ -7,7 +7,7 @@ use Rattle.numbers.specs.Signal.{at}
 use Rattle.reader.specs.Machine.{finished}
 use Rattle.reader.specs.State.{columns, rows}
 use Rattle.level.proofs.WorkLaws.{told-no, told-yes}
-use Rattle.reader.proofs.WalkLaws.{finish-is}
+use Rattle.reader.proofs.WalkLaws.{finish-not, finish-set}
 use Rattle.wavelet.proofs.StoreLaws.{store-in}
 use Rattle.level.proofs.KeptLaws.{kept-both, kept-is, kept-more}
 use Rattle.reader.proofs.KeptLaws.{fed-kept}
@@ -47,31 +47,14 @@ put-row-requires c κs =
       start .pre .5 ∙ length-back s (start .args .n .spot) (start .pre .1 .spot),
     )
 
-finish-requires : tie.Need-finish-requires
-finish-requires c κs =
-    let put = c .before .before in
-    let call = put .before .before .before .before .before in
-    let start = call .before .before in
-    let near = spot-in _ _ (start .pre .1 .spot) (omega arith) in
-    let counts = start .pre .0 in
-    let within = start .pre .1 .at (start .pre .2) in (
-      counts-small (start .args .s) counts,
-      counts .deep .1,
-      omega (arith, near .0, counts .at),
-      within,
-      omega (arith, put .put-row .kept .1 .1 .1 .1 .1 .0, call .settle .kept .1 .0),
-    )
-
 same-length-2 : tie.Need-same-length-2
 same-length-2 c =
-    let done = c .before in
-    let put = done .before .before .before in
-    done .finish .kept .1 .1 .1 .1 .1 .1 .0 ∙ put .put-row .kept .1 .1 .1 .1 .1 .0 ∙ put .before .before .before .before .before .settle .kept .1 .0
+    let put = c .before .before in
+    put .put-row .kept .1 .1 .1 .1 .1 .0 ∙ put .before .before .before .before .before .settle .kept .1 .0
 
 returns-2 : tie.Need-returns-2
 returns-2 c =
-    let done = c .before in
-    let put = done .before .before .before in
+    let put = c .before .before in
     let on = put .before .before .before in
     let call = on .before .before in
     let start = call .before .before in
@@ -84,11 +67,55 @@ returns-2 c =
     let room = store-in (columns s) (p .level - 1 + 1) (s .levels) (omega (arith, near .0, start .pre .0 .at)) in
     let own = fed-kept (columns s) (rows s) (p .level - 1) n (p .band) _ _ in
     let fed = kept-is _ _ _ _ (kept-more _ _ _ _ room own) (put .put-row .ensures) in (
-      done .finish .ensures .0
-          ∙ finish-is (columns s) (rows s) (s .levels) (s .drawn) (p .level - 1) n (p .band) _ _ (start .pre .3)
+      finish-not (columns s) (rows s) (s .levels) (s .drawn) (p .level - 1) n (p .band) _ _ (start .pre .3) (not-true _ (c .if2 .taken))
           ∙ ap (λ y. finished (columns s) (rows s) (s .levels) (s .drawn) (p .level - 1) n (p .band) y) (put .put-row .ensures)
           ∙ feed-on s p due _ _ _ n (omega arith) (start .pre .1 .set (start .pre .2)) settled,
-      kept-both _ _ _ _ (kept-both _ _ _ _ (call .settle .ensures .1) fed) (done .finish .ensures .1),
+      kept-both _ _ _ _ (call .settle .ensures .1) fed,
+    )
+
+work-at-requires : tie.Need-work-at-requires
+work-at-requires c κs =
+    let put = c .before .before .before in
+    let call = put .before .before .before .before .before in
+    let start = call .before .before in
+    let near = spot-in _ _ (start .pre .1 .spot) (omega arith) in
+    let counts = start .pre .0 in
+    let within = start .pre .1 .at (start .pre .2) in (
+      counts-small (start .args .s) counts,
+      counts .deep .1,
+      omega (arith, near .0, counts .at),
+      within,
+      omega (arith, put .put-row .kept .1 .1 .1 .1 .1 .0, call .settle .kept .1 .0),
+    )
+
+same-length-3 : tie.Need-same-length-3
+same-length-3 c =
+    let done = c .before in
+    let put = done .before .before .before .before in
+    done .work-at .kept .1 .1 .1 .1 .1 .1 .0 ∙ put .put-row .kept .1 .1 .1 .1 .1 .0 ∙ put .before .before .before .before .before .settle .kept .1 .0
+
+returns-3 : tie.Need-returns-3
+returns-3 c =
+    let done = c .before in
+    let set = done .before .before in
+    let put = set .before .before in
+    let on = put .before .before .before in
+    let call = on .before .before in
+    let start = call .before .before in
+    let s = start .args .s in
+    let p = start .args .n .spot in
+    let n = start .args .n .at .set in
+    let due = start .pre .1 .spot in
+    let near = spot-in _ _ due (omega arith) in
+    let settled = told-yes (call .settle .result) (at (call .settle .last .1 .0)) _ (call .settle .ensures .0) (not-false _ (on .if1 .left)) in
+    let room = store-in (columns s) (p .level - 1 + 1) (s .levels) (omega (arith, near .0, start .pre .0 .at)) in
+    let own = fed-kept (columns s) (rows s) (p .level - 1) n (p .band) _ _ in
+    let fed = kept-is _ _ _ _ (kept-more _ _ _ _ room own) (put .put-row .ensures) in (
+      done .work-at .ensures .0
+          ∙ finish-set (columns s) (rows s) (s .levels) (s .drawn) (p .level - 1) n (p .band) _ _ (start .pre .3) (not-false _ (set .if2 .left))
+          ∙ ap (λ y. finished (columns s) (rows s) (s .levels) (s .drawn) (p .level - 1) n (p .band) y) (put .put-row .ensures)
+          ∙ feed-on s p due _ _ _ n (omega arith) (start .pre .1 .set (start .pre .2)) settled,
+      kept-both _ _ _ _ (kept-both _ _ _ _ (call .settle .ensures .1) fed) (done .work-at .ensures .1),
     )
 
 pub feed-row-spec : {M : Type 1} → statement M
@@ -100,6 +127,8 @@ feed-row-spec =
     returns
     sub-k
     put-row-requires
-    finish-requires
     same-length-2
-    returns-2)
+    returns-2
+    work-at-requires
+    same-length-3
+    returns-3)

@@ -1,25 +1,34 @@
--- `reader::steps::next_of` meets its contract: the walk from the reader's place, unless it may be at a high row alone. Assumes nothing.
+-- `reader::steps::next_of` meets its contract: a row of the reader's own level, or the walk from its place. Assumes nothing.
 use native.Mathlib.Omega.{arith}
+use Rattle.reader.specs.State.{columns, rows, next}
 use Rattle.reader.proofs.QuestionLaws.{counts-small}
-use Rattle.reader.proofs.StepLaws.{next-plain}
+use Rattle.reader.proofs.WalkLaws.{up-next}
 use Rattle.reader.proofs.steps.next_of.Statement.{statement}
 use Rattle.reader.proofs.steps.next_of.Tie as tie
 
-next-up-requires : tie.Need-next-up-requires
-next-up-requires c κs = let counts = c .pre in (counts-small (c .args .s) counts, omega (arith, counts .at, counts .deep .1))
+own-level-requires : tie.Need-own-level-requires
+own-level-requires c κs = (c .before .before .pre, omega arith)
 
-next-either-requires : tie.Need-next-either-requires
-next-either-requires c κs =
-    let up = c .before in
-    (up .before .pre, c .if1 .taken, up .next-up .ensures)
+own-band-requires : tie.Need-own-band-requires
+own-band-requires c κs = let start = c .before .before .before in (start .pre, omega arith, c .own-level .ensures)
 
 returns : tie.Need-returns
-returns c = c .next-either .ensures
+returns c =
+    let band = c .before in
+    let level = band .before in
+    let s = level .before .before .before .args .s in
+    up-next (columns s) (rows s) (s .levels) (s .drawn) (next s) (s .level) (band .own-band .result) (level .own-level .result) (level .own-level .ensures)
+    (band .own-band .ensures (c .if2 .taken))
+
+next-at-requires : tie.Need-next-at-requires
+next-at-requires c κs =
+    let start = c .before .before in
+    let counts = start .pre in
+    (counts-small (start .args .s) counts, omega (arith, counts .at, counts .deep .1))
 
 returns-2 : tie.Need-returns-2
-returns-2 c =
-    let up = c .before in
-    next-plain (up .before .args .s) (up .next-up .result) (c .if1 .left) (up .next-up .ensures)
+unfolding next
+returns-2 c = c .next-at .ensures
 
 pub next-of-spec : {M : Type 1} → statement M
-next-of-spec = tie.close (tie.spec next-up-requires next-either-requires returns returns-2)
+next-of-spec = tie.close (tie.spec own-level-requires own-band-requires returns next-at-requires returns-2)

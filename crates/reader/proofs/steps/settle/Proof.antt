@@ -1,25 +1,37 @@
--- `reader::steps::settle` meets its contract: the walk down to the row wanted. Assumes nothing.
+-- `reader::steps::settle` meets its contract: nothing, or the walk down to the row wanted. Assumes nothing.
 use mathlib.Core.Path.{_∙_}
 use native.Mathlib.Omega.{arith}
+use Rattle.level.proofs.KeptLaws.{kept-none}
+use Rattle.reader.specs.State.{columns, rows}
 use Rattle.reader.proofs.QuestionLaws.{counts-small}
+use Rattle.reader.proofs.WalkLaws.{settle-none}
 use Rattle.reader.proofs.StepLaws.{settles-is}
 use Rattle.reader.proofs.steps.settle.Statement.{statement}
 use Rattle.reader.proofs.steps.settle.Tie as tie
 
+returns : tie.Need-returns
+returns c =
+    let start = c .before .before .before in
+    let s = start .args .s in (
+      settle-none (columns s) (rows s) (s .levels) (s .drawn) _ (s .level) _ (c .if1 .taken)
+          ∙ settles-is s (start .args .n .spot) (start .pre .1 .spot) _,
+      kept-none _ _,
+    )
+
 settle-requires : tie.Need-settle-requires
 settle-requires c κs =
-    let start = c .before in
+    let start = c .before .before .before .before in
     let counts = start .pre .0 in
     (counts-small (start .args .s) counts, counts .deep .1, counts .at, omega arith)
 
 same-length : tie.Need-same-length
 same-length c = c .before .settle .kept .1 .1 .1 .1 .1 .1 .0
 
-returns : tie.Need-returns
-returns c =
+returns-2 : tie.Need-returns-2
+returns-2 c =
     let call = c .before in
-    let start = call .before .before in
+    let start = call .before .before .before .before .before in
     (call .settle .ensures .0 ∙ settles-is (start .args .s) (start .args .n .spot) (start .pre .1 .spot) _, call .settle .ensures .1)
 
 pub settle-spec : {M : Type 1} → statement M
-settle-spec = tie.close (tie.spec settle-requires same-length returns)
+settle-spec = tie.close (tie.spec returns settle-requires same-length returns-2)

@@ -1,5 +1,5 @@
 -- `second::heights::store_length` is safe and ends. In the loop nothing is asked. Assumes nothing.
-use Prim.Native.Nat.{_≤_, _-_}
+use Prim.Native.Nat.{_-_}
 use native.Mathlib.Omega.{arith}
 use borrow.Author.Needs.{needs}
 use Rattle.second.proofs.heights.store_length.Statement.{statement}

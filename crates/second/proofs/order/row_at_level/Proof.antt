@@ -1,5 +1,5 @@
 -- `second::order::row_at_level` is safe and ends. In the loop nothing is asked. Assumes nothing.
-use Prim.Native.Nat.{_≤_, _-_}
+use Prim.Native.Nat.{_-_}
 use native.Mathlib.Omega.{arith}
 use borrow.Author.Needs.{needs}
 use Rattle.second.proofs.order.row_at_level.Statement.{statement}

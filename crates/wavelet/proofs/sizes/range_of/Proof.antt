@@ -8,8 +8,10 @@ use mir.Syntax.{w32}
 use mir.Val.{SFits, toZ}
 use mir.ValLaws.{toZ-ofZ}
 use Rattle.numbers.proofs.Integers.{each, lin}
+use Rattle.lifting.specs.FiveThree.{fiveThreeFilter}
+use Rattle.lifting.proofs.FiveThreeFilter.{five-three-laws}
 use Rattle.wavelet.specs.Limits.{maxLevels, maxSample, range}
-use Rattle.wavelet.proofs.LimitLaws.{levels-small}
+use Rattle.wavelet.proofs.LimitLaws.{levels-small, five-three-few}
 use Rattle.wavelet.proofs.Bridge.{range-suc, range-small}
 use Rattle.wavelet.proofs.sizes.range_of.Statement.{statement}
 use Rattle.wavelet.proofs.sizes.range_of.Tie as tie
@@ -20,11 +22,12 @@ four-fits N = each _ λ p q. simp lin (omega arith)
 four-is : (N : ℕ) (z : ℤ) → z ≡ pos N → pos 4 *ℤ z ≡ pos (4 * N)
 four-is N = each _ λ p q. simp lin (omega arith)
 
-next-small : (k last : ℕ) → k < last → last ≤ maxLevels → 4 * range k < 2 ^ 31
-next-small k last h few = omega (arith, range-suc k, range-small (suc k) (omega arith))
+next-small : (k last : ℕ) → k < last → last ≤ maxLevels → 4 * range fiveThreeFilter k < 2 ^ 31
+next-small k last h few =
+    omega (arith, range-suc fiveThreeFilter five-three-laws k, range-small fiveThreeFilter five-three-laws (suc k) (five-three-few (omega arith)))
 
 abbrev Inv-loop : tie.InvT-loop
-Inv-loop level last most₀ k₀ most k = (k ≤ last) × (last ≤ maxLevels) × (toZ w32 most ≡ pos (range k))
+Inv-loop level last most₀ k₀ most k = (k ≤ last) × (last ≤ maxLevels) × (toZ w32 most ≡ pos (range fiveThreeFilter k))
 
 abbrev μ-loop : tie.MeasureT-loop
 μ-loop level last most₀ k₀ most k = last - k
@@ -37,7 +40,7 @@ unfolding range maxSample
 loop-holds c = (omega arith, omega arith, refl)
 
 mul-most : tie.Need-mul-most Inv-loop μ-loop
-mul-most c = let inv = c .before .loop .inv in four-fits (range (c .before .loop .k)) _ (next-small _ _ (c .loop-test .taken) (inv .1)) (inv .2)
+mul-most c = let inv = c .before .loop .inv in four-fits (range fiveThreeFilter (c .before .loop .k)) _ (next-small _ _ (c .loop-test .taken) (inv .1)) (inv .2)
 
 add-k : tie.Need-add-k Inv-loop μ-loop
 add-k c = omega (arith, levels-small)
@@ -50,13 +53,13 @@ loop-again c =
     let head = c .before in
     let k = head .loop .k in
     let inv = head .loop .inv in
-    (omega arith, inv .1, toZ-ofZ w32 _ (mul-most c) ∙ four-is (range k) _ (inv .2) ∙ rw (add-one, range-suc))
+    (omega arith, inv .1, toZ-ofZ w32 _ (mul-most c) ∙ four-is (range fiveThreeFilter k) _ (inv .2) ∙ rw (add-one, range-suc fiveThreeFilter five-three-laws))
 
 returns : tie.Need-returns Inv-loop μ-loop
 returns c =
     let l = c .before .loop in
     let e : l .k ≡ min (c .before .before .before .args .level) maxLevels = omega arith in
-    l .inv .2 ∙ ap (λ (k : ℕ). pos (range k)) e
+    l .inv .2 ∙ ap (λ (k : ℕ). pos (range fiveThreeFilter k)) e
 
 pub range-of-spec : {M : Type 1} → statement M
 range-of-spec =

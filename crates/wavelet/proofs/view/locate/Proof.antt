@@ -43,7 +43,7 @@ stretch-requires c κs =
     let b = c .before .before .before in
     let a = b .before .args in
     let s = sized (a .shape .width) (a .shape .height) (a .shape .levels) (sym (b .size-question .ensures) ∙ c .before .before .if1 .left) in
-    (s .width .1, s .height .1)
+    (s .width .1, s .height .1, s .levels .1)
 
 returns-3 : tie.Need-returns-3
 returns-3 c =

@@ -44,41 +44,53 @@ returns-2 c =
     let a = c .before .before .before .before .before .args in
     refused-row (columns (a .shape)) (rows (a .shape)) (a .shape .levels) (a .level) (a .band) (a .row) (c .if2 .taken)
 
-size-at-requires : tie.Need-size-at-requires
-size-at-requires c κs = tt
+size-within-requires : tie.Need-size-within-requires
+size-within-requires c κs =
+    let b = c .before in
+    let near = within-true 1 _ _ (sym (b .before .is-within .ensures) ∙ not-false _ (b .if1 .left)) in
+    (omega (arith, near .1), omega arith, omega (arith, width-small, height-small))
 
-sub-size-at : tie.Need-sub-size-at
-sub-size-at c =
+sub-size-within : tie.Need-sub-size-within
+sub-size-within c =
     let b = c .before .before in
     omega (arith, within-true 1 _ _ (sym (b .before .is-within .ensures) ∙ not-false _ (b .if1 .left)) .0)
 
-size-at-requires-2 : tie.Need-size-at-requires-2
-size-at-requires-2 c κs = tt
+size-within-requires-2 : tie.Need-size-within-requires-2
+size-within-requires-2 c κs =
+    let b = c .before .before in
+    let near = within-true 1 _ _ (sym (b .before .is-within .ensures) ∙ not-false _ (b .if1 .left)) in
+    (omega (arith, near .1), omega arith, omega (arith, width-small, height-small))
 
 sub-right : tie.Need-sub-right
 sub-right c =
     let b = c .before .before .before in
     let a = b .before .before .before .before .args in
     let w = sym (b .before .is-within .ensures) ∙ not-false _ (b .if1 .left) in
-    side-in (a .shape .levels) (a .level) (columns (a .shape)) _ _ w (c .size-at2 .ensures) (c .before .size-at .ensures) .0
+    side-in (a .shape .levels) (a .level) (columns (a .shape)) _ _ w (c .size-within2 .ensures) (c .before .size-within .ensures) .0
 
-size-at-requires-3 : tie.Need-size-at-requires-3
-size-at-requires-3 c κs = tt
+size-within-requires-3 : tie.Need-size-within-requires-3
+size-within-requires-3 c κs =
+    let b = c .before .before .before in
+    let near = within-true 1 _ _ (sym (b .before .is-within .ensures) ∙ not-false _ (b .if1 .left)) in
+    (omega (arith, near .1), omega arith, omega (arith, width-small, height-small))
 
-sub-size-at-2 : tie.Need-sub-size-at-2
-sub-size-at-2 c =
+sub-size-within-2 : tie.Need-sub-size-within-2
+sub-size-within-2 c =
     let b = c .before .before .before .before in
     omega (arith, within-true 1 _ _ (sym (b .before .is-within .ensures) ∙ not-false _ (b .if1 .left)) .0)
 
-size-at-requires-4 : tie.Need-size-at-requires-4
-size-at-requires-4 c κs = tt
+size-within-requires-4 : tie.Need-size-within-requires-4
+size-within-requires-4 c κs =
+    let b = c .before .before .before .before in
+    let near = within-true 1 _ _ (sym (b .before .is-within .ensures) ∙ not-false _ (b .if1 .left)) in
+    (omega (arith, near .1), omega arith, omega (arith, width-small, height-small))
 
 sub-bottom : tie.Need-sub-bottom
 sub-bottom c =
     let b = c .before .before .before .before .before in
     let a = b .before .before .before .before .args in
     let w = sym (b .before .is-within .ensures) ∙ not-false _ (b .if1 .left) in
-    side-in (a .shape .levels) (a .level) (rows (a .shape)) _ _ w (c .size-at4 .ensures) (c .before .size-at3 .ensures) .0
+    side-in (a .shape .levels) (a .level) (rows (a .shape)) _ _ w (c .size-within4 .ensures) (c .before .size-within3 .ensures) .0
 
 returns-3 : tie.Need-returns-3
 unfolding code
@@ -105,8 +117,8 @@ add-keep c =
     let b = m .before .before .before .before .before in
     let a = b .before .before .before .before .args in
     let w = sym (b .before .is-within .ensures) ∙ not-false _ (b .if1 .left) in
-    let s = side-in (a .shape .levels) (a .level) (columns (a .shape)) _ _ w (m .before .before .size-at2 .ensures)
-    (m .before .before .before .size-at .ensures) in
+    let s = side-in (a .shape .levels) (a .level) (columns (a .shape)) _ _ w (m .before .before .size-within2 .ensures)
+    (m .before .before .before .size-within .ensures) in
     omega (arith, width-small, height-small, product (a .row) (a .shape .width) (omega arith) (omega arith))
 
 keep-requires-2 : tie.Need-keep-requires-2
@@ -118,7 +130,7 @@ add-keep-2 c =
     let b = m .before .before .before .before .before in
     let a = b .before .before .before .before .args in
     let w = sym (b .before .is-within .ensures) ∙ not-false _ (b .if1 .left) in
-    let s = side-in (a .shape .levels) (a .level) (rows (a .shape)) _ _ w (m .size-at4 .ensures) (m .before .size-at3 .ensures) in
+    let s = side-in (a .shape .levels) (a .level) (rows (a .shape)) _ _ w (m .size-within4 .ensures) (m .before .size-within3 .ensures) in
     omega (arith, height-small)
 
 mul-keep-3 : tie.Need-mul-keep-3
@@ -127,8 +139,8 @@ mul-keep-3 c =
     let b = m .before .before .before .before .before in
     let a = b .before .before .before .before .args in
     let w = sym (b .before .is-within .ensures) ∙ not-false _ (b .if1 .left) in
-    let s = side-in (a .shape .levels) (a .level) (rows (a .shape)) _ _ w (m .size-at4 .ensures) (m .before .size-at3 .ensures) in
-    omega (arith, width-small, height-small, product (m .before .size-at3 .result + a .row) (a .shape .width) (omega arith) (omega arith))
+    let s = side-in (a .shape .levels) (a .level) (rows (a .shape)) _ _ w (m .size-within4 .ensures) (m .before .size-within3 .ensures) in
+    omega (arith, width-small, height-small, product (m .before .size-within3 .result + a .row) (a .shape .width) (omega arith) (omega arith))
 
 keep-requires-3 : tie.Need-keep-requires-3
 keep-requires-3 c κs = tt
@@ -139,7 +151,7 @@ add-keep-3 c =
     let b = m .before .before .before .before .before in
     let a = b .before .before .before .before .args in
     let w = sym (b .before .is-within .ensures) ∙ not-false _ (b .if1 .left) in
-    let s = side-in (a .shape .levels) (a .level) (rows (a .shape)) _ _ w (m .size-at4 .ensures) (m .before .size-at3 .ensures) in
+    let s = side-in (a .shape .levels) (a .level) (rows (a .shape)) _ _ w (m .size-within4 .ensures) (m .before .size-within3 .ensures) in
     omega (arith, height-small)
 
 mul-keep-4 : tie.Need-mul-keep-4
@@ -148,8 +160,8 @@ mul-keep-4 c =
     let b = m .before .before .before .before .before in
     let a = b .before .before .before .before .args in
     let w = sym (b .before .is-within .ensures) ∙ not-false _ (b .if1 .left) in
-    let s = side-in (a .shape .levels) (a .level) (rows (a .shape)) _ _ w (m .size-at4 .ensures) (m .before .size-at3 .ensures) in
-    omega (arith, width-small, height-small, product (m .before .size-at3 .result + a .row) (a .shape .width) (omega arith) (omega arith))
+    let s = side-in (a .shape .levels) (a .level) (rows (a .shape)) _ _ w (m .size-within4 .ensures) (m .before .size-within3 .ensures) in
+    omega (arith, width-small, height-small, product (m .before .size-within3 .result + a .row) (a .shape .width) (omega arith) (omega arith))
 
 add-keep-4 : tie.Need-add-keep-4
 add-keep-4 c =
@@ -157,10 +169,10 @@ add-keep-4 c =
     let b = m .before .before .before .before .before in
     let a = b .before .before .before .before .args in
     let w = sym (b .before .is-within .ensures) ∙ not-false _ (b .if1 .left) in
-    let s = side-in (a .shape .levels) (a .level) (rows (a .shape)) _ _ w (m .size-at4 .ensures) (m .before .size-at3 .ensures) in
-    let t = side-in (a .shape .levels) (a .level) (columns (a .shape)) _ _ w (m .before .before .size-at2 .ensures)
-    (m .before .before .before .size-at .ensures) in
-    omega (arith, width-small, height-small, product (m .before .size-at3 .result + a .row) (a .shape .width) (omega arith) (omega arith))
+    let s = side-in (a .shape .levels) (a .level) (rows (a .shape)) _ _ w (m .size-within4 .ensures) (m .before .size-within3 .ensures) in
+    let t = side-in (a .shape .levels) (a .level) (columns (a .shape)) _ _ w (m .before .before .size-within2 .ensures)
+    (m .before .before .before .size-within .ensures) in
+    omega (arith, width-small, height-small, product (m .before .size-within3 .result + a .row) (a .shape .width) (omega arith) (omega arith))
 
 keep-requires-4 : tie.Need-keep-requires-4
 keep-requires-4 c κs = tt
@@ -172,7 +184,7 @@ returns-4 c =
     let a = b .before .before .before .before .args in
     c .keep .ensures
     ∙ arm-LL (columns (a .shape)) (rows (a .shape)) (a .shape .levels) (a .level) (a .band) (a .row) _ _ _ _
-    (m .before .before .size-at2 .ensures) (m .size-at4 .ensures) (m .before .before .before .size-at .ensures) (m .before .size-at3 .ensures)
+    (m .before .before .size-within2 .ensures) (m .size-within4 .ensures) (m .before .before .before .size-within .ensures) (m .before .size-within3 .ensures)
     (sym (b .before .is-within .ensures) ∙ not-false _ (b .if1 .left)) (c .before .before .match .keys1) (c .before .if3 .left)
 
 returns-5 : tie.Need-returns-5
@@ -182,7 +194,7 @@ returns-5 c =
     let a = b .before .before .before .before .args in
     c .keep2 .ensures
     ∙ arm-HL (columns (a .shape)) (rows (a .shape)) (a .shape .levels) (a .level) (a .band) (a .row) _ _ _ _
-    (m .before .before .size-at2 .ensures) (m .size-at4 .ensures) (m .before .before .before .size-at .ensures) (m .before .size-at3 .ensures)
+    (m .before .before .size-within2 .ensures) (m .size-within4 .ensures) (m .before .before .before .size-within .ensures) (m .before .size-within3 .ensures)
     (sym (b .before .is-within .ensures) ∙ not-false _ (b .if1 .left)) (c .before .match .keys2)
 
 returns-6 : tie.Need-returns-6
@@ -192,7 +204,7 @@ returns-6 c =
     let a = b .before .before .before .before .args in
     c .keep3 .ensures
     ∙ arm-LH (columns (a .shape)) (rows (a .shape)) (a .shape .levels) (a .level) (a .band) (a .row) _ _ _ _
-    (m .before .before .size-at2 .ensures) (m .size-at4 .ensures) (m .before .before .before .size-at .ensures) (m .before .size-at3 .ensures)
+    (m .before .before .size-within2 .ensures) (m .size-within4 .ensures) (m .before .before .before .size-within .ensures) (m .before .size-within3 .ensures)
     (sym (b .before .is-within .ensures) ∙ not-false _ (b .if1 .left)) (c .before .match .keys3)
 
 returns-7 : tie.Need-returns-7
@@ -202,7 +214,7 @@ returns-7 c =
     let a = b .before .before .before .before .args in
     c .keep4 .ensures
     ∙ arm-HH (columns (a .shape)) (rows (a .shape)) (a .shape .levels) (a .level) (a .band) (a .row) _ _ _ _
-    (m .before .before .size-at2 .ensures) (m .size-at4 .ensures) (m .before .before .before .size-at .ensures) (m .before .size-at3 .ensures)
+    (m .before .before .size-within2 .ensures) (m .size-within4 .ensures) (m .before .before .before .size-within .ensures) (m .before .size-within3 .ensures)
     (sym (b .before .is-within .ensures) ∙ not-false _ (b .if1 .left)) (c .before .match .keys4)
 
 returns-8 : tie.Need-returns-8
@@ -220,13 +232,13 @@ stretch-spec =
     is-within-requires
     returns
     returns-2
-    size-at-requires
-    sub-size-at
-    size-at-requires-2
+    size-within-requires
+    sub-size-within
+    size-within-requires-2
     sub-right
-    size-at-requires-3
-    sub-size-at-2
-    size-at-requires-4
+    size-within-requires-3
+    sub-size-within-2
+    size-within-requires-4
     sub-bottom
     returns-3
     mul-keep

@@ -7,7 +7,10 @@ use mir.Val.{toZ, ofZ}
 use mir.ValLaws.{toZ-ofZ}
 use borrow.Author.Needs.{needs}
 use Rattle.numbers.proofs.Words.{read-back}
+use Rattle.lifting.specs.FiveThree.{fiveThreeFilter}
+use Rattle.lifting.proofs.FiveThreeFilter.{five-three-laws}
 use Rattle.wavelet.specs.Limits.{range}
+use Rattle.wavelet.proofs.LimitLaws.{five-three-few}
 use Rattle.wavelet.proofs.Bridge.{range-small}
 use Rattle.whole_map.proofs.LevelSteps.{range-is, neg-fits, neg-is}
 use Rattle.whole_map.proofs.levels.lowest.Statement.{statement}
@@ -19,8 +22,8 @@ range-of-requires c κs = search needs
 sub-result : tie.Need-sub-result
 sub-result c =
     let k = c .before .args .level in
-    let small : range k < 2147483648 = range-small k (c .before .pre) in
-    neg-fits (range k) _ small (read-back _ (c .range-of .ok) ∙ c .range-of .ensures ∙ range-is k (c .before .pre))
+    let small : range fiveThreeFilter k < 2147483648 = range-small fiveThreeFilter five-three-laws k (five-three-few (c .before .pre)) in
+    neg-fits (range fiveThreeFilter k) _ small (read-back _ (c .range-of .ok) ∙ c .range-of .ensures ∙ range-is k (c .before .pre))
 
 returns : tie.Need-returns
 returns c =

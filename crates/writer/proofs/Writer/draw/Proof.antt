@@ -13,8 +13,11 @@ use Rattle.writer.proofs.CallsKeep.{draw-kept}
 use Rattle.writer.proofs.Writer.draw.Statement.{statement}
 use Rattle.writer.proofs.Writer.draw.Tie as tie
 
+in-ranges-requires : tie.Need-in-ranges-requires
+in-ranges-requires c κs = tt
+
 state-question-requires : tie.Need-state-question-requires
-state-question-requires c κs = search needs
+state-question-requires c κs = c .in-ranges .ensures
 
 returns : tie.Need-returns
 returns c = let t = draw-refused _ _ _ _ _ _ (c .before .state-question .ensures) (omega arith) in
@@ -26,21 +29,21 @@ returns-2 c = let t = draw-nothing _ _ _ _ _ _ (c .before .before .before .state
 
 level-of-requires : tie.Need-level-of-requires
 level-of-requires c κs =
-    let a = c .before .before .before .before .args in
+    let a = c .before .before .before .before .before .args in
     let q : stateQuestion (a .self) (length (a .store .now)) ≡ 0 = omega arith in
     let f = sound (a .self) (length (a .store .now)) q in
     omega (arith, width-small, height-small)
 
 waiting-requires : tie.Need-waiting-requires
 waiting-requires c κs =
-    let a = c .before .before .before .before .before .args in
+    let a = c .before .before .before .before .before .before .args in
     let q : stateQuestion (a .self) (length (a .store .now)) ≡ 0 = omega arith in
     let f = sound (a .self) (length (a .store .now)) q in
     (omega (arith, width-small, height-small), f .placed, c .level-of .ensures)
 
 returns-3 : tie.Need-returns-3
 returns-3 c =
-    let a = c .before .before .before .before .before .before .before .before .args in
+    let a = c .before .before .before .before .before .before .before .before .before .args in
     let t = draw-no-room (a .self) (length (a .store .now)) (length (a .out .now)) _ (at (a .store .now)) (at (a .out .now))
     (c .before .before .before .before .before .before .before .state-question .ensures) _ (c .before .before .waiting .ensures) (omega arith)
     (omega arith) (omega arith) in
@@ -48,14 +51,14 @@ returns-3 c =
 
 hand-out-requires : tie.Need-hand-out-requires
 hand-out-requires c κs =
-    let a = c .before .before .before .before .before .before .before .before .before .before .args in
+    let a = c .before .before .before .before .before .before .before .before .before .before .before .args in
     let q : stateQuestion (a .self) (length (a .store .now)) ≡ 0 = omega arith in
     let f = sound (a .self) (length (a .store .now)) q in
     omega arith
 
 draw-on-requires : tie.Need-draw-on-requires
 draw-on-requires c κs =
-    let a = c .before .before .before .before .before .before .before .before .before .before .before .before .before .args in
+    let a = c .before .before .before .before .before .before .before .before .before .before .before .before .before .before .args in
     let q : stateQuestion (a .self) (length (a .store .now)) ≡ 0 = omega arith in
     let f = sound (a .self) (length (a .store .now)) q in
     (omega (arith, width-small, height-small), c .before .before .before .before .before .before .before .before .level-of .ensures)
@@ -69,7 +72,7 @@ same-length-2 c = search needs
 returns-4 : tie.Need-returns-4
 unfolding rest
 returns-4 c =
-    let a = c .before .before .before .before .before .before .before .before .before .before .before .before .before .before .before .args in
+    let a = c .before .before .before .before .before .before .before .before .before .before .before .before .before .before .before .before .args in
     let t = draw-row (a .self) (length (a .store .now)) (length (a .out .now)) _ (at (a .store .now)) (at (a .out .now))
     (c .before .before .before .before .before .before .before .before .before .before .before .before .before .before .state-question .ensures) _
     (c .before .before .before .before .before .before .before .before .before .waiting .ensures) (omega arith) (omega arith) _ _ _
@@ -80,6 +83,7 @@ pub draw-spec : {M : Type 1} → statement M
 draw-spec =
     tie.close
     (tie.spec
+    in-ranges-requires
     state-question-requires
     returns
     returns-2

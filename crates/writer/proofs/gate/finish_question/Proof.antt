@@ -1,19 +1,21 @@
 -- `gate::finish_question` meets its contract: the questions in the definition's order. Assumes nothing.
 use mathlib.Core.Path.{_∙_}
 use native.Mathlib.Omega.{arith}
-use borrow.Author.Needs.{needs}
 use Rattle.writer.proofs.GateLaws.{finish-state, finish-open, finish-none, finish-begun, finish-passes}
 use Rattle.writer.proofs.gate.finish_question.Statement.{statement}
 use Rattle.writer.proofs.gate.finish_question.Tie as tie
 
+in-ranges-requires : tie.Need-in-ranges-requires
+in-ranges-requires c κs = tt
+
 state-question-requires : tie.Need-state-question-requires
-state-question-requires c κs = search needs
+state-question-requires c κs = c .in-ranges .ensures
 
 returns : tie.Need-returns
 returns c = c .before .state-question .ensures ∙ finish-state _ _ (λ z. omega arith)
 
 open-question-requires : tie.Need-open-question-requires
-open-question-requires c κs = search needs
+open-question-requires c κs = tt
 
 returns-2 : tie.Need-returns-2
 returns-2 c = c .before .open-question .ensures ∙ finish-open _ _ (omega arith) (λ z. omega arith)
@@ -31,6 +33,7 @@ pub finish-question-spec : {M : Type 1} → statement M
 finish-question-spec =
     tie.close
     (tie.spec
+    in-ranges-requires
     state-question-requires
     returns
     open-question-requires

@@ -55,20 +55,17 @@ module _ (s : Writer) (n k : ℕ) (h : inRanges s ≡ true)
   unfolding stateQuestion longEnough
   long g = simp (h, le-leb (storeLength (columnsOf s) (s .levels)) n (omega (arith, needed)))
 
-in-ranges-requires : tie.Need-in-ranges-requires
-in-ranges-requires c κs = tt
-
 returns : tie.Need-returns
 unfolding stateQuestion
-returns c = simp (sym (c .before .in-ranges .ensures) ∙ not-true _ (c .if1 .taken))
+returns c = simp (sym (c .before .pre) ∙ not-true _ (c .if1 .taken))
 
 holds-any-requires : tie.Need-holds-any-requires
-holds-any-requires c κs = wide _ 0 (sym (c .before .in-ranges .ensures) ∙ not-false _ (c .if1 .left))
+holds-any-requires c κs = wide _ 0 (sym (c .before .pre) ∙ not-false _ (c .if1 .left))
 
 returns-2 : tie.Need-returns-2
 returns-2 c =
     let r = c .before .before in
-    any _ _ (sym (r .before .in-ranges .ensures) ∙ not-false _ (r .if1 .left)) (sym (c .before .holds-any .ensures) ∙ c .if2 .taken)
+    any _ _ (sym (r .before .pre) ∙ not-false _ (r .if1 .left)) (sym (c .before .holds-any .ensures) ∙ c .if2 .taken)
 
 store-length-requires : tie.Need-store-length-requires
 store-length-requires c κs = tt
@@ -76,18 +73,17 @@ store-length-requires c κs = tt
 returns-3 : tie.Need-returns-3
 returns-3 c =
     let r = c .before .before .before .before in
-    short _ _ _ (sym (r .before .in-ranges .ensures) ∙ not-false _ (r .if1 .left)) (c .before .store-length .ensures) (omega arith)
+    short _ _ _ (sym (r .before .pre) ∙ not-false _ (r .if1 .left)) (c .before .store-length .ensures) (omega arith)
 
 returns-4 : tie.Need-returns-4
 returns-4 c =
     let r = c .before .before .before .before in
-    long _ _ _ (sym (r .before .in-ranges .ensures) ∙ not-false _ (r .if1 .left)) (c .before .store-length .ensures) (omega arith)
+    long _ _ _ (sym (r .before .pre) ∙ not-false _ (r .if1 .left)) (c .before .store-length .ensures) (omega arith)
 
 pub state-question-spec : {M : Type 1} → statement M
 state-question-spec =
     tie.close
     (tie.spec
-    in-ranges-requires
     returns
     holds-any-requires
     returns-2

@@ -1,6 +1,7 @@
 -- `Listing::store_length` meets its contract: the definition's number. Assumes nothing.
 use mathlib.Core.Path.{refl}
 use Rattle.lifting.specs.Grid.{count}
+use Rattle.wavelet.specs.Limits.{maxLevels}
 use Rattle.wavelet.specs.Levels.{next, sideAt}
 use Rattle.wavelet.specs.Store.{widths, storeLength}
 use Rattle.pgm.specs.Limits.{maxPictureWidth}
@@ -8,7 +9,7 @@ use Rattle.listing.proofs.listing.Listing.store_length.Statement.{state
 use Rattle.listing.proofs.listing.Listing.store_length.Tie as tie
 
 returns : tie.Need-returns
-unfolding maxPictureWidth storeLength widths sideAt next count
+unfolding maxLevels maxPictureWidth storeLength widths sideAt next count
 returns c = refl
 
 pub store-length-spec : {M : Type 1} → statement M

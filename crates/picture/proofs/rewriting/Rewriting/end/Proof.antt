@@ -18,23 +18,47 @@ enum-known-next c = search needs
 part-of-requires : tie.Need-part-of-requires
 part-of-requires c κs = tt
 
+moved-requires : tie.Need-moved-requires
+moved-requires c κs = tt
+
 enum-known-next-2 : tie.Need-enum-known-next-2
 enum-known-next-2 c = search needs
 
 part-of-requires-2 : tie.Need-part-of-requires-2
 part-of-requires-2 c κs = tt
 
+moved-requires-2 : tie.Need-moved-requires-2
+moved-requires-2 c κs = tt
+
+enum-told : tie.Need-enum-told
+enum-told c = search needs
+
+part-of-requires-3 : tie.Need-part-of-requires-3
+part-of-requires-3 c κs = tt
+
+moved-requires-3 : tie.Need-moved-requires-3
+moved-requires-3 c κs = tt
+
 returns-2 : tie.Need-returns-2
 returns-2 c =
-    let h = c .before .before in
+    let p = c .before in
+    let h = p .before .before in
     let e = h .before .before in
-    ap (rewriting _ _) (c .part-of .ensures) ∙ ends-as _ _ (e .before .if1 .left) (sym (h .next .given .1) ∙ e .end .ensures)
+    c .moved .ensures ∙ ap (rewriting _ _ _ _) (p .part-of .ensures) ∙ ends-as _ _ (e .before .if1 .left) (sym (h .next .given .1) ∙ e .end .ensures)
 
 returns-3 : tie.Need-returns-3
 returns-3 c =
-    let h = c .before .before in
+    let p = c .before in
+    let h = p .before .before in
     let e = h .before .before in
-    ap (rewriting _ _) (c .part-of2 .ensures) ∙ ends-as _ _ (e .before .if1 .left) (sym (h .next2 .given .1) ∙ e .end .ensures)
+    c .moved2 .ensures ∙ ap (rewriting _ _ _ _) (p .part-of2 .ensures) ∙ ends-as _ _ (e .before .if1 .left) (sym (h .next2 .given .1) ∙ e .end .ensures)
+
+returns-4 : tie.Need-returns-4
+returns-4 c =
+    let p = c .before in
+    let h = p .before in
+    let e = h .before .before in
+    c .moved3 .ensures ∙ ap (rewriting _ _ _ _) (p .part-of3 .ensures) ∙ ends-as _ _ (e .before .if1 .left) (sym (h .enum-told .given .1) ∙ e .end .ensures)
 
 pub end-spec : {M : Type 1} → statement M
 end-spec =
@@ -44,7 +68,13 @@ end-spec =
     end-requires
     enum-known-next
     part-of-requires
+    moved-requires
     enum-known-next-2
     part-of-requires-2
+    moved-requires-2
+    enum-told
+    part-of-requires-3
+    moved-requires-3
     returns-2
-    returns-3)
+    returns-3
+    returns-4)

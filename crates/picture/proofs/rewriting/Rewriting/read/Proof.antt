@@ -15,11 +15,14 @@ enum-known-next c = search needs
 part-of-requires : tie.Need-part-of-requires
 part-of-requires c κs = tt
 
+moved-requires : tie.Need-moved-requires
+moved-requires c κs = tt
+
 enum-known-next-2 : tie.Need-enum-known-next-2
 enum-known-next-2 c = search needs
 
-part-of-requires-2 : tie.Need-part-of-requires-2
-part-of-requires-2 c κs = tt
+begin-requires : tie.Need-begin-requires
+begin-requires c κs = tt
 
 enum-known-next-3 : tie.Need-enum-known-next-3
 enum-known-next-3 c = search needs
@@ -30,22 +33,26 @@ keep-requires c κs = tt
 enum-known-next-4 : tie.Need-enum-known-next-4
 enum-known-next-4 c = search needs
 
-part-of-requires-3 : tie.Need-part-of-requires-3
-part-of-requires-3 c κs = tt
+part-of-requires-2 : tie.Need-part-of-requires-2
+part-of-requires-2 c κs = tt
+
+moved-requires-2 : tie.Need-moved-requires-2
+moved-requires-2 c κs = tt
 
 returns : tie.Need-returns
 returns c =
-    let h = c .before .before in
+    let p = c .before in
+    let h = p .before .before in
     let y = h .before .before in
     let e = sym (h .next .given .1) ∙ y .read .ensures in
-    (ap (rewriting _ _) (c .part-of .ensures) ∙ step-state _ _ _ _ e, step-row _ _ _ _ e)
+    (c .moved .ensures ∙ ap (rewriting _ _ _ _) (p .part-of .ensures) ∙ step-state _ _ _ _ e, step-row _ _ _ _ e)
 
 returns-2 : tie.Need-returns-2
 returns-2 c =
     let h = c .before .before in
     let y = h .before .before in
     let e = sym (h .next2 .given .1) ∙ y .read .ensures in
-    (ap (rewriting _ _) (c .part-of2 .ensures) ∙ step-state _ _ _ _ e, step-row _ _ _ _ e)
+    (c .begin .ensures ∙ step-state _ _ _ _ e, step-row _ _ _ _ e)
 
 same-length : tie.Need-same-length
 same-length c = search needs
@@ -60,10 +67,11 @@ returns-3 c =
 
 returns-4 : tie.Need-returns-4
 returns-4 c =
-    let h = c .before .before in
+    let p = c .before in
+    let h = p .before .before in
     let y = h .before .before in
     let e = sym (h .next4 .given .1) ∙ y .read .ensures in
-    (ap (rewriting _ _) (c .part-of3 .ensures) ∙ step-state _ _ _ _ e, step-row _ _ _ _ e)
+    (c .moved2 .ensures ∙ ap (rewriting _ _ _ _) (p .part-of2 .ensures) ∙ step-state _ _ _ _ e, step-row _ _ _ _ e)
 
 pub read-spec : {M : Type 1} → statement M
 read-spec =
@@ -72,12 +80,14 @@ read-spec =
     read-requires
     enum-known-next
     part-of-requires
+    moved-requires
     enum-known-next-2
-    part-of-requires-2
+    begin-requires
     enum-known-next-3
     keep-requires
     enum-known-next-4
-    part-of-requires-3
+    part-of-requires-2
+    moved-requires-2
     returns
     returns-2
     same-length
