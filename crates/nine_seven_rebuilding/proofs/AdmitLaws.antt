@@ -56,8 +56,8 @@ value-between zero v = unfold lowestOf between range maxSample in refl
 value-between (suc k) v = abs-between (range nineSevenFilter (suc k)) v ∙ unfold lowestOf in refl
 
 -- ---- a row's test, made on the part that is lent
-pub admit-is : (k w r a m : ℕ) (l : List ℤ) (low high : ℤ) → a ≡ rowPlace w r → m ≡ w → a + m ≤ length l → low ≡ lowestOf k → high ≡ pos (range nineSevenFilter k) →
-    every (length (midOf a m l)) (λ i. between low high (at (midOf a m l) i)) ≡ rowFits k w r (at l)
+pub admit-is : (k w r a m : ℕ) (l : List ℤ) (low high : ℤ) → a ≡ rowPlace w r → m ≡ w → a + m ≤ length l → low ≡ lowestOf k →
+    high ≡ pos (range nineSevenFilter k) → every (length (midOf a m l)) (λ i. between low high (at (midOf a m l) i)) ≡ rowFits k w r (at l)
 unfolding rowFits
 admit-is k w r a m l low high ea em room el eh =
     ap (λ (n : ℕ). every n (λ i. between low high (at (midOf a m l) i))) (length-mid a m l room ∙ em)

@@ -34,7 +34,8 @@ pub record SetBefore (W H : Side) (p : Band → Grid) (n : ℕ) (x : ℕ → ℤ
 -- what set n leaves: the rows that it makes, which fit as low-low values of level k, and what the next set needs
 pub record SetLeaves (k : ℕ) (W H : Side) (p : Band → Grid) (n : ℕ) (x : ℕ → ℤ) : Type 0 where
   pub made : (r : ℕ) → r < H .length → setOf 2 H r ≡ n → RowStands W x (local (H .start) r) (parted W (levelBack nineSevenFilter wrap32 W H p r))
-  pub fit : (r : ℕ) → r < H .length → setOf 2 H r ≡ n → (c : ℕ) → c < W .length → valueFits nineSevenFilter k (levelBack nineSevenFilter wrap32 W H p r c) ≡ true
+  pub fit : (r : ℕ) → r < H .length → setOf 2 H r ≡ n → (c : ℕ) → c < W .length →
+      valueFits nineSevenFilter k (levelBack nineSevenFilter wrap32 W H p r c) ≡ true
   pub more : suc n ≤ lastSet H → SetBefore W H p (suc n) x
   pub has : SetHas W H p n
 
