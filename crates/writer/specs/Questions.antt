@@ -1,6 +1,6 @@
 -- The gate questions of the writer's calls, in the order of document 01: 0, or the number of the first that says no. n is the length of the line store.
 use mathlib.Core.Bool.{Bool, true, not}
-use Prim.Native.Nat.{ℕ}
+use Prim.Native.Nat.{ℕ, _*_}
 use lib.Dec.{leb, ltb, eqb}
 use Rattle.numbers.specs.Signal.{pick, both}
 use Rattle.wavelet.specs.Limits.{maxWidth, maxHeight, maxLevels, maxOrigin}
@@ -28,7 +28,7 @@ inRanges s =
     (both (within 1 maxLevels (s .levels))
     (both (leb (s .rows) maxHeight)
     (both (ltb (s .column) (s .width))
-    (both (leb (s .closed) (s .levels))
+    (both (leb (s .closed) (fiveThree .filter .ahead * s .levels))
     (both (leb (s .level) (s .levels))
     (both (leb (s .left) (mostLeft (s .levels) (s .level)))
     (eqb (s .offset) (startOf (columnsOf s) (s .level))))))))))
