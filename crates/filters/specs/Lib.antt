@@ -1,0 +1,2 @@
+-- The way forward.
+pub mod Forward
