@@ -1,9 +1,10 @@
 -- The laws of a level by its filter's number: those of the 5/3's and of the 9/7's, case by case. Assumes nothing.
 use mathlib.Core.Path.{_≡_, refl}
-use Prim.Native.Nat.{ℕ, zero, suc, _+_, _%_, _<_}
+use mathlib.Core.Bool.{Bool}
+use Prim.Native.Nat.{ℕ, zero, suc, _+_, _-_, _%_, _<_}
 use native.Mathlib.Omega.{arith}
 use lib.IntN.{ℤ}
-use Rattle.numbers.specs.Signal.{stored}
+use Rattle.numbers.specs.Signal.{pick, stored}
 use Rattle.lifting.specs.Grid.{Side}
 use Rattle.wavelet.specs.Bands.{LL}
 use Rattle.wavelet.specs.Levels.{next}
@@ -38,10 +39,18 @@ unfolding delivered five-making.delivered nine-making.delivered
 passed-on zero W s n t m x = refl
 passed-on (suc f) W s n t m x = refl
 
--- ---- the calls: f is 0, or not
-pub by-zero : (P : ℕ → Type 0) (f : ℕ) → f ≡ 0 → P 0 → P f
-by-zero P f e p = rw e p
+-- ---- the calls: f is 0, or not. What they give is a number, or an answer by a test and a store
+module _ (f : ℕ) where
+  pub zero-is : (v : ℕ → ℕ) (r : ℕ) → f ≡ 0 → r ≡ v 0 → r ≡ v f
+  zero-is v r e d = rw e d
 
-pub by-other : (P : ℕ → Type 0) (f : ℕ) → 0 < f → ((i : ℕ) → P (suc i)) → P f
-by-other P zero h p = absurd (omega arith)
-by-other P (suc f) h p = p f
+  pub other-is : (v : ℕ → ℕ) (r : ℕ) → 0 < f → ((i : ℕ) → r ≡ v (suc i)) → r ≡ v f
+  other-is v r h d = let e : f ≡ suc (f - 1) = omega arith in rw e (d (f - 1))
+
+  module _ (t : ℕ → Bool) (y : ℕ → Memory) (x z : Memory) (r : ℕ) where
+    pub zero-both : f ≡ 0 → r ≡ pick (t 0) 0 5 → z ≡ pick (t 0) (y 0) x → (r ≡ pick (t f) 0 5) × (z ≡ pick (t f) (y f) x)
+    zero-both e a b = rw e (a, b)
+
+    pub other-both : 0 < f → ((i : ℕ) → r ≡ pick (t (suc i)) 0 5) → ((i : ℕ) → z ≡ pick (t (suc i)) (y (suc i)) x)
+        → (r ≡ pick (t f) 0 5) × (z ≡ pick (t f) (y f) x)
+    other-both h a b = let e : f ≡ suc (f - 1) = omega arith in rw e (a (f - 1), b (f - 1))
