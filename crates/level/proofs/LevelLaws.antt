@@ -20,7 +20,7 @@ use Rattle.wavelet.specs.Bands.{Grid, Band, LL, HL, LH, HH, across, columnsLift
 use Rattle.wavelet.specs.Order.{lastSet, unmade}
 use Rattle.wavelet.proofs.OrderLaws.{unmade-is}
 use Rattle.wavelet.proofs.SideLaws.{count-lo, count-sum}
-use Rattle.level.specs.Level.{Memory, LevelKind, completes, Meaning, Ending, SetStands}
+use Rattle.level.specs.Level.{Memory, LevelKind, completes, Meaning, Ending, SetStands, ahead}
 use Rattle.level.specs.FiveThreeLevel.{cellOf, rowPut, rowPredicted, doubled, rowDoubled, setWith, lowAlone, highAlone, setMade, setClosed}
 use Rattle.level.specs.FiveThreeLevel.{bandPlace, fiveThree, RowStands, Kept, LastLeft}
 use Rattle.level.proofs.Places.{slot-room, place-room}
@@ -32,7 +32,7 @@ use Rattle.level.proofs.Slots.{next-stays, set-past, high-stays, set-st
 -- Held W H g m c x: what a level holds after m rows of g and c columns of row m; Ended W H g n x: once all rows are there, n being the first set not made
 pub record LevelLaws (K : LevelKind) (Held : Meaning) (Ended : Ending) : Type 0 where
   -- a set is made by a row after it
-  pub ahead-some : 1 ≤ K .filter .ahead
+  pub ahead-some : 1 ≤ ahead K
   -- at first, whatever stands in the store
   pub held-none : (W H : Side) (g : Grid) (x : Memory) → Held W H g 0 0 x
   -- a number of row m more, or all of row m
@@ -41,14 +41,14 @@ pub record LevelLaws (K : LevelKind) (Held : Meaning) (Ended : Ending) : Type 0 
   pub held-put : (W H : Side) (g : Grid) (m : ℕ) (row : ℕ → ℤ) (x : Memory) → ((i : ℕ) → i < W .length → row i ≡ g m i)
       → Held W H g m 0 x → Held W H g m (W .length) (K .put W (H .start) m row x)
   -- row m is there: a row more, and it may complete a set
-  pub held-still : (W H : Side) (g : Grid) (m : ℕ) (x : Memory) → m < H .length → completes (K .filter .ahead) (H .start) m ≡ false
+  pub held-still : (W H : Side) (g : Grid) (m : ℕ) (x : Memory) → m < H .length → completes (ahead K) (H .start) m ≡ false
       → Held W H g m (W .length) x → Held W H g (m + 1) 0 x
-  pub held-make : (W H : Side) (g : Grid) (m n : ℕ) (x : Memory) → H .start % 2 + m ≡ 2 * n + 2 * K .filter .ahead → m < H .length
+  pub held-make : (W H : Side) (g : Grid) (m n : ℕ) (x : Memory) → H .start % 2 + m ≡ 2 * n + 2 * ahead K → m < H .length
       → Held W H g m (W .length) x → Held W H g (m + 1) 0 (K .make W (H .start) n x)
-  pub make-stands : (W H : Side) (g : Grid) (m n : ℕ) (x : Memory) → H .start % 2 + m ≡ 2 * n + 2 * K .filter .ahead → m < H .length
+  pub make-stands : (W H : Side) (g : Grid) (m n : ℕ) (x : Memory) → H .start % 2 + m ≡ 2 * n + 2 * ahead K → m < H .length
       → Held W H g m (W .length) x → SetStands K W H g n (K .make W (H .start) n x)
   -- all rows are there: the sets left are made, one after the other
-  pub held-ended : (W H : Side) (g : Grid) (x : Memory) → 0 < H .length → Held W H g (H .length) 0 x → Ended W H g (unmade (K .filter .ahead) H) x
+  pub held-ended : (W H : Side) (g : Grid) (x : Memory) → 0 < H .length → Held W H g (H .length) 0 x → Ended W H g (unmade (ahead K) H) x
   pub close-ended : (W H : Side) (g : Grid) (n : ℕ) (x : Memory) → n ≤ lastSet H → Ended W H g n x → Ended W H g (suc n) (K .close W H n x)
   pub close-stands : (W H : Side) (g : Grid) (n : ℕ) (x : Memory) → n ≤ lastSet H → Ended W H g n x → SetStands K W H g n (K .close W H n x)
   -- all this is in the level's stretch

@@ -115,8 +115,14 @@ module _ (W : Side) (n : ℕ) where
     unfolding bandPlace slot code
     place-last e d = place-at HH c _ e (ap₂ (λ (t u : ℕ). t * W .length + u) (free-slot n) d)
 
+  -- a code that names no band
+  pub place-none : (c : ℕ) → 3 < c → 0 ≡ named c (bandPlace W n) 0
+  unfolding code
+  place-none c h = simp (ne-eqb c 0 (λ e. omega arith), ne-eqb c 1 (λ e. omega arith), ne-eqb c 2 (λ e. omega arith), ne-eqb c 3 (λ e. omega arith))
+
   -- as a caller finds it, the stretch being countable
-  pub place-code : (b : Band) (c r : ℕ) → W .length < 2 ^ 62 → c ≡ code b → r ≡ pick (ltb (W .length) (2 ^ 62)) (named c (bandPlace W n) 0) 0 → r ≡ bandPlace W n b
+  pub place-code : (b : Band) (c r : ℕ) → W .length < 2 ^ 62 → c ≡ code b →
+      r ≡ pick (ltb (W .length) (2 ^ 62)) (named c (bandPlace W n) 0) 0 → r ≡ bandPlace W n b
   place-code b c r h e d =
       d ∙ ap (λ t. pick t (named c (bandPlace W n) 0) 0) (lt-ltb (W .length) (2 ^ 62) h) ∙ ap (λ (i : ℕ). named i (bandPlace W n) 0) e
       ∙ named-at b (bandPlace W n) 0

@@ -17,7 +17,7 @@ abbrev pub Memory : Type 0
 Memory = ℕ → ℤ
 
 pub record LevelKind : Type 0 where
-  -- its filter; by the look-ahead of that, set n is made once the row at coordinate 2n + 2 × ahead is there
+  -- its filter: set n is made once the row at coordinate 2n + 2 × the filter's look-ahead is there
   pub filter : Filter
   -- stretch W: how many numbers the level keeps; the next level's stretch begins there
   pub stretch : Side → ℕ
@@ -31,6 +31,10 @@ pub record LevelKind : Type 0 where
   pub close : Side → Side → ℕ → Memory → Memory
   -- place W s n b: where the row of band b of set n stands while it waits
   pub place : Side → ℕ → ℕ → Band → ℕ
+
+-- the look-ahead of a level
+abbrev pub ahead : LevelKind → ℕ
+ahead K = K .filter .ahead
 
 -- Row m completes a set, at the look-ahead a: it stands at an even coordinate 2n + 2a, and the set is n.
 unfoldable pub completes : ℕ → ℕ → ℕ → Bool

@@ -44,9 +44,9 @@ named-none c f h =
     either true p q = p
     either false p q = q
 
-pub named-other {ℓ} : {A : Type ℓ} (c : ℕ) (f : Band → A) (z : A) → (c ≡ 0 → ⊥) → (c ≡ 1 → ⊥) → (c ≡ 2 → ⊥) → (c ≡ 3 → ⊥) → named c f z ≡ z
+pub named-other : (c : ℕ) (f : Band → Bool) → (c ≡ 0 → ⊥) → (c ≡ 1 → ⊥) → (c ≡ 2 → ⊥) → (c ≡ 3 → ⊥) → named c f false ≡ false
 unfolding code
-named-other c f z n0 n1 n2 n3 = simp (ne-eqb c 0 n0, ne-eqb c 1 n1, ne-eqb c 2 n2, ne-eqb c 3 n3)
+named-other c f n0 n1 n2 n3 = simp (ne-eqb c 0 n0, ne-eqb c 1 n1, ne-eqb c 2 n2, ne-eqb c 3 n3)
 
 -- a band that a code names has it
 pub named-true : (c : ℕ) (f : Band → Bool) → named c f false ≡ true → (b : Band) × (c ≡ code b) × (f b ≡ true)
@@ -223,7 +223,7 @@ module _ (W H : Side) (L k c r : ℕ) where
       ∙ not-last W H L k LL r refl h)
 
   pub refused-code : (c ≡ 0 → ⊥) → (c ≡ 1 → ⊥) → (c ≡ 2 → ⊥) → (c ≡ 3 → ⊥) → Refused 6 ≡ stretchOf W H L k c r
-  refused-code n0 n1 n2 n3 = refused (named-other c (λ b. bandRowExists W H L k b r) false n0 n1 n2 n3)
+  refused-code n0 n1 n2 n3 = refused (named-other c (λ b. bandRowExists W H L k b r) n0 n1 n2 n3)
 
 -- ---- the questions in their order
 module _ (n : ℕ) (W H : Side) (L k c r : ℕ) where

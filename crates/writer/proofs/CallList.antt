@@ -21,7 +21,6 @@ use Rattle.numbers.specs.Signal.{pick, both, stored}
 use Rattle.numbers.specs.Word.{wrap32}
 use Rattle.numbers.proofs.Sweep.{both as split-both}
 use Rattle.lifting.specs.Grid.{Side, side, count}
-use Rattle.lifting.specs.FiveThree.{fiveThreeFilter}
 use Rattle.wavelet.specs.Limits.{maxWidth, maxHeight, maxLevels, maxOrigin}
 use Rattle.wavelet.specs.Bands.{Grid, Band, code, across, down}
 use Rattle.wavelet.specs.Questions.{within}
@@ -31,6 +30,7 @@ use Rattle.wavelet.specs.Levels.{sideAt, levelBand}
 use Rattle.wavelet.specs.View.{bandColumns}
 use Rattle.calls.specs.Lists.{All, all-none, all-more}
 use Rattle.calls.proofs.AllLaws.{all-append}
+use Rattle.writer.specs.Kind.{kind, Held, Ended}
 use Rattle.writer.specs.Counts.{mostLeft, startOf}
 use Rattle.writer.specs.Machine.{Out, arrive}
 use Rattle.writer.specs.Draws.{Waiting, waiting, pull}
@@ -41,13 +41,12 @@ use Rattle.writer.specs.Calls.{resumed, bandRow}
 use Rattle.writer.specs.Holds.{Holds}
 use Rattle.writer.specs.History.{DrawnRow}
 use Rattle.writer.specs.Demand3.{answered, isNone}
+use Rattle.writer.proofs.KindLaws.{kind-laws}
 use Rattle.writer.proofs.Waiting.{pend, later, pend-none, later-all, later-none}
 use Rattle.writer.proofs.CascadeHolds.{Good, Pulled, level-le, closed-le}
 use Rattle.writer.proofs.StateHolds.{differ, st, fresh-holds, pulled-by, shut-on, draw-holds, shut-first, finish-holds, begun-holds, arrived-by}
 use Rattle.writer.proofs.StateHolds.{complete-holds}
-use Rattle.level.specs.Level.{Memory, LevelKind}
-use Rattle.level.specs.FiveThreeLevel.{cellOf, fiveThree, Kept, LastLeft}
-use Rattle.level.proofs.LevelLaws.{five-three-laws}
+use Rattle.level.specs.Level.{Memory, LevelKind, ahead}
 
 -- ---- numbers
 pub rows-below : (W H r c : ℕ) → r * W + c < W * H → r < H
@@ -88,7 +87,7 @@ fits-height W H g ts h us f r c e p t =
 
 -- the look-ahead
 abbrev A : ℕ
-A = fiveThree .filter .ahead
+A = ahead kind
 
 -- ---- what is to come without a further row
 unfoldable pub coming : (L : ℕ) (W : Side) (top : ℕ) → Bool → (cl v i r : ℕ) → List RowName
@@ -112,7 +111,7 @@ pub record Right (L : ℕ) (W : Side) (top H : ℕ) (g : Grid) (d : DrawnRow) : 
   pub band-is : d .row .band ≡ code band
   pub length-is : d .row .length ≡ count (across band) (sideAt depth W)
   pub row-in : d .row .row < count (down band) (sideAt depth (side top H))
-  pub values : (i : ℕ) → i < d .row .length → d .values i ≡ levelBand fiveThreeFilter wrap32 W (side top H) g (suc depth) band (d .row .row) i
+  pub values : (i : ℕ) → i < d .row .length → d .values i ≡ levelBand (kind .filter) wrap32 W (side top H) g (suc depth) band (d .row .row) i
 
 pub record Sound (L : ℕ) (W : Side) (top H : ℕ) (g : Grid) (f : Bool) (ds : List DrawnRow) (r c cl v i : ℕ) (x : Memory) : Type 0 where
   pub holds : Holds H g (st W top L r c f cl v i) x
@@ -178,9 +177,9 @@ module _ {L : ℕ} {W : Side} {top : ℕ} {ts : List ℕ} {f : Bool} {ds : List 
         le-leb r maxHeight (a .rows-in),
         lt-ltb c (W .length) (a .column-in),
         le-leb cl (A * L)
-            (closed-le fiveThree Kept LastLeft five-three-laws L _ _ _ _ _ _ _ _ _ (s .holds .levels)),
+            (closed-le kind Held Ended kind-laws L _ _ _ _ _ _ _ _ _ (s .holds .levels)),
         le-leb v L
-            (level-le fiveThree Kept LastLeft five-three-laws L _ _ _ _ _ _ _ _ _ (s .holds .levels)),
+            (level-le kind Held Ended kind-laws L _ _ _ _ _ _ _ _ _ (s .holds .levels)),
         le-leb i (mostLeft L v) (s .holds .few),
       ) (eq-eqb (startOf W v) (startOf W v) refl)
 
@@ -209,11 +208,11 @@ module _ (l : ℕ) (W : Side) (top : ℕ) (ds : List DrawnRow) where
   L = suc l
 
   abbrev K : LevelKind
-  K = fiveThree
+  K = kind
 
   module _ (ts : List ℕ) (r c cl v i : ℕ) (x : Memory) (a : At L W top ts false ds r c cl v i x) (z : v ≡ 0) (h : ℕ) where
     abbrev x′ : Memory
-    x′ = stored (cellOf W (top % 2 + r) c) (pos h) x
+    x′ = stored (kind .cell W top r c) (pos h) x
 
     longer : length (ts ++ h ∷ []) ≡ suc (length ts)
     longer = length-append ts (h ∷ []) ∙ omega arith
@@ -235,7 +234,7 @@ module _ (l : ℕ) (W : Side) (top : ℕ) (ds : List DrawnRow) where
       ended = λ e. absurd (differ e);
       sound = λ H g t. let s = before H g t in record {
         holds =
-            subst (λ d. Holds H g (st W top L r (c + 1) false cl v i) (stored (cellOf W (top % 2 + r) c) d x)) (here H g t .0)
+            subst (λ d. Holds H g (st W top L r (c + 1) false cl v i) (stored (kind .cell W top r c) d x)) (here H g t .0)
             (begun-holds H g W top l r c cl v i x
             (s .holds) z (a .column-in));
         names = s .names;
@@ -267,12 +266,12 @@ module _ (l : ℕ) (W : Side) (top : ℕ) (ds : List DrawnRow) where
         let q = here H g t in
         let e : c + 1 ≡ W .length = omega (arith, a .column-in) in
         let k =
-        subst (λ d. Good K Kept LastLeft five-three-laws L 1 W (side top H) g 0 (suc r) (arrive K L W top r (stored (cellOf W (top % 2 + r) c) d x))
+        subst (λ d. Good kind Held Ended kind-laws L 1 W (side top H) g 0 (suc r) (arrive K L W top r (stored (kind .cell W top r c) d x))
         (madeBy A L 1 W top r)) (q .0)
         (arrived-by H g W top l r c cl v i x (s .holds) z (a .column-in) e (q .1)) in
         record {
           holds =
-              subst (λ d. let b = arrive K L W top r (stored (cellOf W (top % 2 + r) c) d x) in
+              subst (λ d. let b = arrive K L W top r (stored (kind .cell W top r c) d x) in
               Holds H g (st W top L (r + 1) 0 false cl (b .level) (b .left)) (b .store)) (q .0)
               (complete-holds H g W top l r c cl v i x (s .holds) z (a .column-in) e (q .1));
           names = s .names;
@@ -305,7 +304,7 @@ module _ (l : ℕ) (W : Side) (top : ℕ) (ds : List DrawnRow) where
       s : Sound L W top (own-height f r) (own W ts) f ds r c cl (suc v) i x
       s = own-sound a
 
-      P : Pulled K Kept LastLeft five-three-laws L 1 W (side top (own-height f r)) (own W ts) cl v i r x
+      P : Pulled kind Held Ended kind-laws L 1 W (side top (own-height f r)) (own W ts) cl v i r x
       P = pulled-by _ _ W top L r c f cl v i x (s .holds)
 
       go : (t : Bool) → isNone (coming L W top t cl (suc v) i r) ≡ false
@@ -387,7 +386,7 @@ module _ (l : ℕ) (W : Side) (top : ℕ) (ds : List DrawnRow) where
   offer-more h run ih ts r c cl v i x a = go (takes (st W top L r c false cl v i)) refl
     where
       y : Memory
-      y = stored (cellOf W (top % 2 + r) c) (pos h) x
+      y = stored (kind .cell W top r c) (pos h) x
 
       o : Out
       o = arrive K L W top r y
@@ -439,7 +438,7 @@ module _ (l : ℕ) (W : Side) (top : ℕ) (ds : List DrawnRow) where
       abbrev s : Sound L W top H g f ds r c cl (suc v) i x
       s = a .sound H g t
 
-      P : Pulled K Kept LastLeft five-three-laws L 1 W (side top H) g cl v i r x
+      P : Pulled kind Held Ended kind-laws L 1 W (side top H) g cl v i r x
       P = pulled-by H g W top L r c f cl v i x (s .holds)
 
       abbrev name : RowName
@@ -526,8 +525,8 @@ module _ (l : ℕ) (W : Side) (top : ℕ) (ds : List DrawnRow) where
     abbrev k : Shut
     k = shut K L W top 0 r x
 
-    made-whole : (names : List RowName) → names ++ coming L W top false cl v i r ≡ made A W top L r false → (l : List RowName) → l ≡ closing A L 1 W (side top r) →
-        names ++ l ≡ made A W top L r true
+    made-whole : (names : List RowName) → names ++ coming L W top false cl v i r ≡ made A W top L r false → (l : List RowName) →
+        l ≡ closing A L 1 W (side top r) → names ++ l ≡ made A W top L r true
     unfolding made
     made-whole names e l q =
         let m : names ≡ inTurn r (madeBy A L 1 W top) ++ [] = sym (append-nil names) ∙ ap (λ b. names ++ b) (sym (none-waits a z)) ∙ e in

@@ -26,7 +26,7 @@ use Rattle.wavelet.specs.Order.{RowName, rowName, firstSet, lastSet, setRow, se
 use Rattle.wavelet.specs.Levels.{next, sideAt, approximation, levelBand}
 use Rattle.wavelet.proofs.OrderLaws.{last-set, unmade-is}
 use Rattle.wavelet.proofs.SideLaws.{count-lo, count-hi, size-inner, next-length}
-use Rattle.level.specs.Level.{Memory, LevelKind, completes, prev, rest, joinAt, Meaning, Ending, SetStands}
+use Rattle.level.specs.Level.{Memory, LevelKind, completes, prev, rest, joinAt, Meaning, Ending, SetStands, ahead}
 use Rattle.level.proofs.Places.{prev-is}
 use Rattle.level.proofs.RestLaws.{rest-join, join-below}
 use Rattle.level.proofs.LevelLaws.{LevelLaws}
@@ -127,7 +127,7 @@ module _ (K : LevelKind) (Held : Meaning) (Ended : Ending) (laws : LevelLaws K H
 
   -- the look-ahead
   abbrev A : ℕ
-  A = K .filter .ahead
+  A = ahead K
 
   abbrev Here : (W H : Side) → Grid → (c m j : ℕ) → Memory → Type 0
   Here = LevelHolds K Held Ended

@@ -9,7 +9,7 @@ use Rattle.numbers.specs.Signal.{both}
 use Rattle.numbers.proofs.Sweep as sweep
 use Rattle.lifting.specs.Grid.{Side, side}
 use Rattle.wavelet.specs.Levels.{next}
-use Rattle.level.specs.Level.{Memory, completes, rest, joinAt}
+use Rattle.level.specs.Level.{Memory, completes, rest, joinAt, ahead}
 use Rattle.level.specs.FiveThreeLevel.{fiveThree, setMade}
 use Rattle.level.specs.Making.{delivered}
 use Rattle.level.proofs.RestLaws.{rest-join, join-again}
@@ -21,7 +21,7 @@ use Rattle.writer.proofs.CountLaws.{deeper-le, start-first, start-deepe
 
 -- the look-ahead
 abbrev A : ℕ
-A = fiveThree .filter .ahead
+A = ahead fiveThree
 
 -- ---- what a step leaves
 pub left-still : (l : ℕ) (w : Side) (o : Out) (r : Wait) (x : Memory) → r ≡ noWait → o ≡ still x → Left l w o r x

@@ -10,7 +10,7 @@ use Rattle.lifting.specs.Line.{lo}
 use Rattle.lifting.specs.Grid.{Side, side, count}
 use Rattle.wavelet.specs.Levels.{next}
 use Rattle.wavelet.specs.Order.{lastSet}
-use Rattle.level.specs.Level.{Memory, rest, joinAt}
+use Rattle.level.specs.Level.{Memory, rest, joinAt, ahead}
 use Rattle.level.specs.FiveThreeLevel.{fiveThree, setClosed}
 use Rattle.writer.specs.declared.cascade.Wait.{Wait}
 use Rattle.writer.specs.declared.closing.Closure.{Closure}
@@ -23,7 +23,7 @@ use Rattle.writer.proofs.CascadeLaws.{left-waits, left-same, under-offs
 
 -- the look-ahead
 abbrev A : ℕ
-A = fiveThree .filter .ahead
+A = ahead fiveThree
 
 -- ---- one step of a level
 module _ (l : ℕ) (w : Side) (s c m n : ℕ) (x : Memory) (en : n ≡ made A c s m) (t : Bool) (et : t ≡ both (ltb 0 m) (leb n (lastSet (side s m)))) where
@@ -170,20 +170,22 @@ module _ (l : ℕ) (w : Side) (s c m : ℕ) (x y : Memory) (r : Closure) (h : 0 
         all = omega (arith, f .some g);
       })
 
-  pub shut-goes : (v : Side) (a p k d b e j : ℕ) (t z : Memory) (q : Closure) → r .level ≡ 0 → j ≡ fiveThree .stretch w → v ≡ next w → a ≡ (s + 1) / 2 → p ≡ c - A →
+  pub shut-goes : (v : Side) (a p k d b e j : ℕ) (t z : Memory) (q : Closure) → r .level ≡ 0 → j ≡ fiveThree .stretch w →
+      v ≡ next w → a ≡ (s + 1) / 2 → p ≡ c - A →
       k ≡ count lo (side s m) → Closed (l - 1) v (shut fiveThree (l - 1) v a p k (rest j y)) q t → z ≡ joinAt j y t →
       e ≡ A → d ≡ deeper (q .level) → b ≡ further (q .level) j (q .offset) → Closed l w (shut fiveThree l w s c m x)
       (record { closed = e + q .closed; level = d; left = q .left; offset = b }) z
   shut-goes v a p k d b e j t z q g ej ev ea ep ek u ez ee ed eb =
-      let below : Closed (l - 1) (next w) (shut fiveThree (l - 1) (next w) ((s + 1) / 2) (c - A) (count lo (side s m)) (rest (4 * w .length) (o .out .store))) q t =
-      rw (ev, ea, ep, ek, ej, f .store) at u in
+      let below : Closed (l - 1) (next w) (shut fiveThree (l - 1) (next w) ((s + 1) / 2) (c - A) (count lo (side s m))
+      (rest (4 * w .length) (o .out .store))) q t = rw (ev, ea, ep, ek, ej, f .store) at u in
       let is = shut-is l w s c m x h ∙ onward-goes _ _ _ o (o .out .level) (sym (f .level) ∙ g) in
       rw is (record {
         closed = ap (λ (i : ℕ). i + q .closed) ee ∙ ap (λ (i : ℕ). A + i) (below .closed);
         level = ed ∙ ap deeper (below .level);
         left = below .left;
         offset = eb ∙ ap (λ (i : ℕ). further (q .level) i (q .offset)) ej ∙ under-offset w (q .offset) (q .level) _ (below .level) (below .offset);
-        store = ez ∙ ap (λ (i : ℕ). joinAt i y t) ej ∙ ap (λ (m : Memory). joinAt (4 * w .length) m t) (f .store) ∙ ap (joinAt (4 * w .length) (o .out .store)) (below .store);
+        store = ez ∙ ap (λ (i : ℕ). joinAt i y t) ej ∙ ap (λ (m : Memory). joinAt (4 * w .length) m t) (f .store)
+            ∙ ap (joinAt (4 * w .length) (o .out .store)) (below .store);
         within = omega (arith, deeper-le (q .level) (l - 1) (below .within));
         all = omega (arith, below .all);
       })

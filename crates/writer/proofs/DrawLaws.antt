@@ -9,7 +9,7 @@ use Rattle.wavelet.specs.Levels.{next}
 use Rattle.wavelet.specs.Order.{setRow}
 use Rattle.wavelet.proofs.SideLaws.{next-le}
 use Rattle.wavelet.proofs.StoreLaws.{store-back, store-next}
-use Rattle.level.specs.Level.{Memory, prev, rest, joinAt}
+use Rattle.level.specs.Level.{Memory, prev, rest, joinAt, ahead}
 use Rattle.level.specs.FiveThreeLevel.{fiveThree, bandPlace}
 use Rattle.level.proofs.Places.{place-room, prev-is}
 use Rattle.level.proofs.RestLaws.{rest-at, join-below, join-past}
@@ -29,7 +29,7 @@ use Rattle.writer.proofs.CascadeLaws.{left-same, settled-waits, settled
 
 -- the look-ahead
 abbrev A : ℕ
-A = fiveThree .filter .ahead
+A = ahead fiveThree
 
 module _ (w : Side) (s c i m : ℕ) where
   pub waiting-here : (l v : ℕ) → 0 < l → v ≡ 1 → waiting fiveThree l w s c v i m ≡ rowOf fiveThree w (side s m) (prev (made A c s m)) (bandAt (prev i))

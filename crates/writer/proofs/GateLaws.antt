@@ -13,6 +13,7 @@ use Rattle.lifting.specs.Grid.{Side}
 use Rattle.wavelet.proofs.QuestionLaws.{within-true}
 use Rattle.wavelet.specs.Levels.{next}
 use Rattle.wavelet.specs.Store.{storeLength}
+use Rattle.level.specs.Level.{ahead}
 use Rattle.level.specs.FiveThreeLevel.{fiveThree}
 use Rattle.writer.specs.declared.Writer.{Writer}
 use Rattle.writer.specs.Counts.{mostLeft, startOf}
@@ -44,7 +45,7 @@ module _ (p q : ℕ) where
 -- ---- question 1, the tests of sizes and counts passed: what waits is left
 pub ranges-last : (s : Writer) → onGrid (s .x) (s .y) ≡ true → within 1 maxWidth (s .width) ≡ true → within 1 maxLevels (s .levels) ≡ true →
     s .rows ≤ maxHeight → s .column < s .width →
-    s .closed ≤ fiveThree .filter .ahead * s .levels → s .level ≤ s .levels → (b : Bool) → b ≡ both (leb (s .left) (mostLeft (s .levels) (s .level)))
+    s .closed ≤ ahead fiveThree * s .levels → s .level ≤ s .levels → (b : Bool) → b ≡ both (leb (s .left) (mostLeft (s .levels) (s .level)))
     (eqb (s .offset) (startOf (columnsOf s) (s .level))) → b ≡ inRanges s
 unfolding inRanges
 ranges-last s o a b d e f g t is = is ∙ simp (o, a, b, le-leb _ _ d, lt-ltb _ _ e, le-leb _ _ f, le-leb _ _ g)
@@ -82,7 +83,7 @@ pub record Sound (s : Writer) (n : ℕ) : Type 0 where
   pub levels : (1 ≤ s .levels) × (s .levels ≤ 5)
   pub rows : s .rows ≤ maxHeight
   pub column : s .column < s .width
-  pub closed : s .closed ≤ fiveThree .filter .ahead * s .levels
+  pub closed : s .closed ≤ ahead fiveThree * s .levels
   pub level : s .level ≤ s .levels
   pub left : s .left ≤ mostLeft (s .levels) (s .level)
   pub placed : s .offset ≡ startOf (columnsOf s) (s .level)

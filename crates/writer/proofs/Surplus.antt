@@ -20,7 +20,7 @@ use Rattle.wavelet.specs.Store.{storeLength}
 use Rattle.wavelet.proofs.StoreLaws.{store-below}
 use Rattle.wavelet.specs.Bands.{LL}
 use Rattle.calls.specs.Lists.{changedUnless}
-use Rattle.level.specs.Level.{Memory, LevelKind, completes, prev, rest, joinAt}
+use Rattle.level.specs.Level.{Memory, LevelKind, completes, prev, rest, joinAt, ahead}
 use Rattle.level.specs.FiveThreeLevel.{fiveThree}
 use Rattle.level.proofs.RestLaws.{rest-at, join-past}
 use Rattle.level.proofs.LevelLaws.{LevelLaws}
@@ -80,10 +80,10 @@ settle-past l ih w s n x y h (suc i) j p = h j p
 pub arrive-past : (L : ℕ) → Arrives L
 unfolding arrive arrived
 arrive-past zero w s m x j p = refl
-arrive-past (suc l) w s m x j p = go (arrive-past l) (completes (K .filter .ahead) s m)
+arrive-past (suc l) w s m x j p = go (arrive-past l) (completes (ahead K) s m)
   where
     n : ℕ
-    n = (s % 2 + m) / 2 - K .filter .ahead
+    n = (s % 2 + m) / 2 - ahead K
 
     o : Out
     o = settled (passOn K l w s) n (K .make w s n x) (skip w (side s (m + 1)) n (most l))
@@ -99,9 +99,9 @@ unfolding pull
 pull-past zero w s c v i m x j p = refl
 pull-past (suc l) w s c zero i m x j p = refl
 pull-past (suc l) w s c (suc zero) i m x j p =
-    settle-past l (arrive-past l) w s (prev (made (K .filter .ahead) c s m)) x x (λ _ _. refl) (skip w (side s m) (prev (made (K .filter .ahead) c s m)) (prev i)) j p
+    settle-past l (arrive-past l) w s (prev (made (ahead K) c s m)) x x (λ _ _. refl) (skip w (side s m) (prev (made (ahead K) c s m)) (prev i)) j p
 pull-past (suc l) w s c (suc (suc v)) i m x j p =
-    under-past l w x _ (λ a q. pull-past l (next w) ((s + 1) / 2) (c - K .filter .ahead) (suc v) i (lowRows s (made (K .filter .ahead) c s m)) (rest (4 * w .length) x) a q) j p
+    under-past l w x _ (λ a q. pull-past l (next w) ((s + 1) / 2) (c - ahead K) (suc v) i (lowRows s (made (ahead K) c s m)) (rest (4 * w .length) x) a q) j p
 
 -- ---- levels close
 step-past : (l : ℕ) (w : Side) (s c m : ℕ) (x : Memory) → Past (storeLength w (suc l)) x (closeStep K l w s c m x .store)
@@ -109,7 +109,7 @@ unfolding closeStep
 step-past l w s c m x j p = go (both (ltb 0 m) (leb n (lastSet (side s m))))
   where
     n : ℕ
-    n = made (K .filter .ahead) c s m
+    n = made (ahead K) c s m
 
     go : (t : Bool) → pick t (settled (passOn K l w s) n (K .close w (side s m) n x) (skip w (side s m) n (most l))) (still x) .store j ≡ x j
     go true =
@@ -135,18 +135,18 @@ pub shut-past : (L : ℕ) (w : Side) (s c m : ℕ) (x : Memory) → Past (storeL
 unfolding shut onward
 shut-past zero w s c m x j p = refl
 shut-past (suc l) w s c m x j p =
-    go (shut-past l (next w) ((s + 1) / 2) (c - K .filter .ahead) (count lo (side s m))) (o .out .level)
+    go (shut-past l (next w) ((s + 1) / 2) (c - ahead K) (count lo (side s m))) (o .out .level)
   where
     o : Shut
-    o = closeLevel K (K .filter .ahead - c) l w s c m x
+    o = closeLevel K (ahead K - c) l w s c m x
 
     below : Memory → Shut
-    below y = shut K l (next w) ((s + 1) / 2) (c - K .filter .ahead) (count lo (side s m)) y
+    below y = shut K l (next w) ((s + 1) / 2) (c - ahead K) (count lo (side s m)) y
 
     closed : o .out .store j ≡ x j
-    closed = level-past (K .filter .ahead - c) l w s c m x j p
+    closed = level-past (ahead K - c) l w s c m x j p
 
-    go : ((y : Memory) → Past (storeLength (next w) l) y (below y .out .store)) → (v : ℕ) → onward (K .filter .ahead) (4 * w .length) below o v .out .store j ≡ x j
+    go : ((y : Memory) → Past (storeLength (next w) l) y (below y .out .store)) → (v : ℕ) → onward (ahead K) (4 * w .length) below o v .out .store j ≡ x j
     go ih zero = under-past l w (o .out .store) _ (ih (rest (4 * w .length) (o .out .store))) j p ∙ closed
     go ih (suc v) = closed
 

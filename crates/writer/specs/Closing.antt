@@ -7,7 +7,7 @@ use Rattle.lifting.specs.Line.{lo}
 use Rattle.lifting.specs.Grid.{Side, side, count}
 use Rattle.wavelet.specs.Levels.{next}
 use Rattle.wavelet.specs.Order.{lastSet}
-use Rattle.level.specs.Level.{Memory, LevelKind, rest}
+use Rattle.level.specs.Level.{Memory, LevelKind, rest, ahead}
 use Rattle.writer.specs.Counts.{made, most, skip}
 use Rattle.writer.specs.Machine.{Out, still, under, settled, passOn}
 
@@ -30,9 +30,9 @@ module _ (K : LevelKind) where
   -- step c of a level that has received m rows
   unfoldable pub closeStep : (l : ℕ) (W : Side) (s c m : ℕ) → Memory → Out
   closeStep l W s c m x =
-      pick (both (ltb 0 m) (leb (made (K .filter .ahead) c s m) (lastSet (side s m))))
-      (settled (passOn K l W s) (made (K .filter .ahead) c s m) (K .close W (side s m) (made (K .filter .ahead) c s m) x)
-      (skip W (side s m) (made (K .filter .ahead) c s m) (most l)))
+      pick (both (ltb 0 m) (leb (made (ahead K) c s m) (lastSet (side s m))))
+      (settled (passOn K l W s) (made (ahead K) c s m) (K .close W (side s m) (made (ahead K) c s m) x)
+      (skip W (side s m) (made (ahead K) c s m) (most l)))
       (still x)
 
   -- the f steps from step c on
@@ -43,5 +43,5 @@ module _ (K : LevelKind) where
   unfoldable pub shut : (L : ℕ) (W : Side) (s c m : ℕ) → Memory → Shut
   shut zero W s c m x = record { closed = c; out = still x }
   shut (suc l) W s c m x =
-      onward (K .filter .ahead) (K .stretch W) (shut l (next W) ((s + 1) / 2) (c - K .filter .ahead) (count lo (side s m))) (closeLevel (K .filter .ahead - c) l W s c m x)
-      (closeLevel (K .filter .ahead - c) l W s c m x .out .level)
+      onward (ahead K) (K .stretch W) (shut l (next W) ((s + 1) / 2) (c - ahead K) (count lo (side s m))) (closeLevel (ahead K - c) l W s c m x)
+      (closeLevel (ahead K - c) l W s c m x .out .level)

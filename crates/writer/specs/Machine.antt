@@ -8,7 +8,7 @@ use Rattle.numbers.specs.Signal.{pick}
 use Rattle.lifting.specs.Grid.{Side, side}
 use Rattle.wavelet.specs.Bands.{LL}
 use Rattle.wavelet.specs.Levels.{next}
-use Rattle.level.specs.Level.{Memory, LevelKind, completes, rest, joinAt}
+use Rattle.level.specs.Level.{Memory, LevelKind, completes, rest, joinAt, ahead}
 use Rattle.writer.specs.Counts.{deeper, most, skip}
 
 -- the store, the level (from 1) whose set is being handed out, 0: nothing waits, and how many bands of that set are left
@@ -43,9 +43,9 @@ module _ (K : LevelKind) where
   -- Row m stands in its place; l levels are below.
   unfoldable pub arrived : (ℕ → Memory → Out) → ℕ → Side → ℕ → ℕ → Memory → Out
   arrived pass l W s m x =
-      pick (completes (K .filter .ahead) s m)
-      (settled pass ((s % 2 + m) / 2 - K .filter .ahead) (K .make W s ((s % 2 + m) / 2 - K .filter .ahead) x)
-      (skip W (side s (m + 1)) ((s % 2 + m) / 2 - K .filter .ahead) (most l)))
+      pick (completes (ahead K) s m)
+      (settled pass ((s % 2 + m) / 2 - ahead K) (K .make W s ((s % 2 + m) / 2 - ahead K) x)
+      (skip W (side s (m + 1)) ((s % 2 + m) / 2 - ahead K) (most l)))
       (still x)
 
   unfoldable pub arrive : (L : ℕ) (W : Side) (s m : ℕ) → Memory → Out

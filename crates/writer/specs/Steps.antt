@@ -5,7 +5,7 @@ use Rattle.lifting.specs.Grid.{Side, side, count}
 use Rattle.wavelet.specs.Bands.{across, code}
 use Rattle.wavelet.specs.Order.{setRow}
 use Rattle.wavelet.specs.Store.{storeLength}
-use Rattle.level.specs.Level.{Memory, prev, rest, joinAt}
+use Rattle.level.specs.Level.{Memory, prev, rest, joinAt, ahead}
 use Rattle.level.specs.FiveThreeLevel.{fiveThree, bandPlace}
 use Rattle.writer.specs.declared.Writer.{Writer}
 use Rattle.writer.specs.declared.cascade.Wait.{Wait}
@@ -109,7 +109,7 @@ pub record LevelClosed (l : ℕ) (W : Side) (o : Shut) (r : Closure) (x : Memory
   pub store : x ≡ o .out .store
   pub within : r .level ≤ l
   -- while a row waits, no more steps than the level has are done
-  pub some : 0 < r .level → r .closed ≤ fiveThree .filter .ahead
+  pub some : 0 < r .level → r .closed ≤ ahead fiveThree
 
 -- what the finish of l levels leaves, the first of the columns W
 pub record Closed (l : ℕ) (W : Side) (o : Shut) (r : Closure) (x : Memory) : Type 0 where
@@ -119,14 +119,14 @@ pub record Closed (l : ℕ) (W : Side) (o : Shut) (r : Closure) (x : Memory) : T
   pub offset : r .offset ≡ startOf W (o .out .level)
   pub store : x ≡ o .out .store
   pub within : r .level ≤ l
-  pub all : r .closed ≤ fiveThree .filter .ahead * l
+  pub all : r .closed ≤ ahead fiveThree * l
 
 -- a row waits in a writer whose store has n numbers
 pub record Drawable (s : Writer) (n : ℕ) : Type 0 where
   pub room : Room (s .levels) (columnsOf s) (s .rows) n
   pub walk : Walk (s .levels) (columnsOf s) (s .level) (s .rows)
   pub placed : Placed s
-  pub closed : s .closed ≤ fiveThree .filter .ahead * s .levels
+  pub closed : s .closed ≤ ahead fiveThree * s .levels
 
 -- what the draw leaves: the writer r and the store y
 pub record Drew (s : Writer) (x : Memory) (r : Writer) (y : Memory) : Type 0 where

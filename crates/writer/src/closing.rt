@@ -10,6 +10,7 @@ ghost use Prim.Native.Nat.{_≤_, _+_, _-_, _*_};
 ghost use lib.ListN.{length};
 ghost use Rattle.numbers.specs.Signal.{at};
 ghost use Rattle.lifting.specs.Grid.{side};
+ghost use Rattle.level.specs.Level.{ahead};
 ghost use Rattle.level.specs.FiveThreeLevel.{fiveThree};
 ghost use Rattle.writer.specs.Closing.{closeStep, closeLevel, shut};
 ghost use Rattle.writer.specs.Steps.{Room, Left, LevelClosed, Closed};
@@ -54,7 +55,7 @@ fn close_level(
     m: usize,
 ) -> Closure
     requires { ⌜ Room (l + 1) (side x w) m (length (now store)) ⌝ }
-    ensures { λ r. ⌜ LevelClosed (l + 1) (side x w) (closeLevel fiveThree (fiveThree .filter .ahead - c) l (side x w) y c m (at (now (store .entry)))) r
+    ensures { λ r. ⌜ LevelClosed (l + 1) (side x w) (closeLevel fiveThree (ahead fiveThree - c) l (side x w) y c m (at (now (store .entry)))) r
         (at (now (store .exit))) ⌝ }
 {
     let a = making::ahead();
@@ -89,7 +90,7 @@ pub fn shut(
     c: usize,
     m: usize,
 ) -> Closure
-    requires { ⌜ Room l (side x w) m (length (now store)) × (c ≤ fiveThree .filter .ahead * l) ⌝ }
+    requires { ⌜ Room l (side x w) m (length (now store)) × (c ≤ ahead fiveThree * l) ⌝ }
     ensures { λ r. ⌜ Closed l (side x w) (shut fiveThree l (side x w) y c m (at (now (store .entry)))) r (at (now (store .exit))) ⌝ }
 {
     if l == 0 {

@@ -11,7 +11,7 @@ ghost use Rattle.lifting.specs.Line.{hi};
 ghost use Rattle.lifting.specs.Grid.{side, count};
 ghost use Rattle.wavelet.specs.Bands.{across, down, code};
 ghost use Rattle.wavelet.specs.Order.{firstSet, lastSet, setRow, setHas};
-ghost use Rattle.level.specs.Level.{prev, completes};
+ghost use Rattle.level.specs.Level.{prev, completes, ahead};
 ghost use Rattle.level.specs.FiveThreeLevel.{fiveThree};
 ghost use Rattle.writer.specs.Counts.{deeper, deeperBy, further, made, lowRows, most, bandAt, skip};
 
@@ -49,7 +49,7 @@ pub fn further(v: usize, a: usize, o: usize) -> usize
 // How many sets a level has made, c steps of its closing being done: all of them, or all but those that are left for the steps to come.
 pub fn made(c: usize, y: usize, m: usize) -> usize
     requires { ⌜ m < 2 ^ 32 ⌝ }
-    ensures { λ r. ⌜ r ≡ made (fiveThree .filter .ahead) c y m ⌝ }
+    ensures { λ r. ⌜ r ≡ made (ahead fiveThree) c y m ⌝ }
 {
     let a = making::ahead();
     let all = (y % 2 + m + 1) / 2;
@@ -78,7 +78,7 @@ pub fn is_left(y: usize, m: usize, n: usize) -> bool
 
 // How many steps of the closing are done below a level, of c: the level itself has as many as its look-ahead.
 pub fn closed_below(c: usize) -> usize
-    ensures { λ r. ⌜ r ≡ c - fiveThree .filter .ahead ⌝ }
+    ensures { λ r. ⌜ r ≡ c - ahead fiveThree ⌝ }
 {
     let a = making::ahead();
     if c < a {
@@ -100,7 +100,7 @@ pub fn low_rows(y: usize, n: usize) -> usize
 // Whether row m completes a set.
 pub fn completes(y: usize, m: usize) -> bool
     requires { ⌜ m < 2 ^ 32 ⌝ }
-    ensures { λ r. ⌜ r ≡ completes (fiveThree .filter .ahead) y m ⌝ }
+    ensures { λ r. ⌜ r ≡ completes (ahead fiveThree) y m ⌝ }
 {
     let q = y % 2 + m;
     if q < 2 * making::ahead() {
@@ -112,7 +112,7 @@ pub fn completes(y: usize, m: usize) -> bool
 // Whether row m sets off a set of the first of l levels.
 pub fn sets_off(l: usize, y: usize, m: usize) -> bool
     requires { ⌜ m < 2 ^ 32 ⌝ }
-    ensures { λ r. ⌜ r ≡ both (ltb 0 l) (completes (fiveThree .filter .ahead) y m) ⌝ }
+    ensures { λ r. ⌜ r ≡ both (ltb 0 l) (completes (ahead fiveThree) y m) ⌝ }
 {
     if l == 0 {
         return false;

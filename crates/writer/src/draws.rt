@@ -33,8 +33,8 @@ pub struct Level {
     pub set: usize,
 }
 
-// Level v of l levels, the first of w columns from x on and m rows from y on, c steps of the closing being done. Numbers alone: where it stands in the store, the writer
-// carries.
+// Level v of l levels, the first of w columns from x on and m rows from y on, c steps of the closing being done. Numbers alone: where it stands in the store,
+// the writer carries.
 pub fn level_of(l: usize, w: usize, x: usize, y: usize, c: usize, v: usize, m: usize) -> Level
     requires { ⌜ Walk l (side x w) v m ⌝ }
     ensures { λ r. ⌜ Reaches l (side x w) y c v m r ⌝ }

@@ -1,12 +1,9 @@
 -- `rows::placed` meets its contract: each band's place is the definition's. Assumes nothing.
-use mathlib.Core.Path.{sym}
 use Prim.Native.Nat.{_+_, _*_, _%_}
 use native.Mathlib.Omega.{arith}
 use Rattle.lifting.specs.Grid.{side}
 use Rattle.wavelet.proofs.SideLaws.{count-lo}
-use Rattle.wavelet.proofs.ViewLaws.{named-other}
-use Rattle.level.specs.FiveThreeLevel.{bandPlace}
-use Rattle.level.proofs.Places.{row-room, place-low, place-right, place-high, place-last}
+use Rattle.level.proofs.Places.{row-room, place-low, place-right, place-high, place-last, place-none}
 use Rattle.level.proofs.rows.placed.Statement.{statement}
 use Rattle.level.proofs.rows.placed.Tie as tie
 
@@ -58,7 +55,7 @@ returns-4 c = let a = c .before .before .args in place-last (side (a .x) (a .w))
 returns-5 : tie.Need-returns-5
 returns-5 c =
     let a = c .before .args in
-    sym (named-other (a .band) (bandPlace (side (a .x) (a .w)) (a .n)) 0 (λ e. omega arith) (λ e. omega arith) (λ e. omega arith) (λ e. omega arith))
+    place-none (side (a .x) (a .w)) (a .n) (a .band) (omega arith)
 
 pub placed-spec : {M : Type 1} → statement M
 placed-spec =

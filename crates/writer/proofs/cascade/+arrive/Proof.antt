@@ -15,6 +15,7 @@ use Rattle.wavelet.proofs.SideLaws.{count-lo, next-length}
 use Rattle.wavelet.proofs.StoreLaws.{store-back}
 use Rattle.level.proofs.SetLaws.{made-done, delivered-done}
 use Rattle.level.proofs.RestLaws.{at-rest, at-join}
+use Rattle.level.specs.Level.{ahead}
 use Rattle.level.specs.FiveThreeLevel.{fiveThree}
 use Rattle.writer.specs.Counts.{skip}
 use Rattle.writer.proofs.CountLaws.{completes-set, next-is, start-is}
@@ -104,7 +105,7 @@ arrive-sub-n t c =
     let sure = c .before in
     let a = sure .before .before .args in
     let off = sets-off (a .l) (a .y) (a .m) _ (sure .before .sets-off .ensures) (sure .if1 .left) in
-    omega (arith, c .ahead .ensures, completes-set (fiveThree .filter .ahead) (a .y) (a .m) (off .1))
+    omega (arith, c .ahead .ensures, completes-set (ahead fiveThree) (a .y) (a .m) (off .1))
 
 arrive-make-requires : (t : ℕ) → arrive-lts.Need-make-requires (claims t) (arrive-at t) arrive.Post
 arrive-make-requires t c κs = tt
@@ -138,7 +139,8 @@ arrive-returns-2 t c =
     let n = (a .y % 2 + a .m) / 2 - ah .ahead .result in
     let off = sets-off (a .l) (a .y) (a .m) _ (sure .before .sets-off .ensures) (sure .if1 .left) in
     let room = store-back (side (a .x) (a .w)) (a .l) (off .0) in
-    came-waits (a .l) (side (a .x) (a .w)) (a .y) (a .m) n _ _ _ _ (sure .before .sets-off .ensures) (sure .if1 .left) (ap (λ (i : ℕ). (a .y % 2 + a .m) / 2 - i) (ah .ahead .ensures))
+    came-waits (a .l) (side (a .x) (a .w)) (a .y) (a .m) n _ _ _ _ (sure .before .sets-off .ensures) (sure .if1 .left)
+    (ap (λ (i : ℕ). (a .y % 2 + a .m) / 2 - i) (ah .ahead .ensures))
     (made-done (length (a .store .now)) (a .w) (a .x) (a .y) n _ _ (omega (arith, start .pre)) (made .make .ensures .1))
     (band .next-band .ensures ∙ ap (skip (side (a .x) (a .w)) (side (a .y) (a .m + 1)) n) (band .before .most .ensures)) (omega arith)
 
@@ -169,7 +171,8 @@ arrive-returns-3 t c =
     let n = (a .y % 2 + a .m) / 2 - ah .ahead .result in
     let off = sets-off (a .l) (a .y) (a .m) _ (sure .before .sets-off .ensures) (sure .if1 .left) in
     let room = store-back (side (a .x) (a .w)) (a .l) (off .0) in
-    came-last (a .l) (side (a .x) (a .w)) (a .y) (a .m) n _ _ _ _ (sure .before .sets-off .ensures) (sure .if1 .left) (ap (λ (i : ℕ). (a .y % 2 + a .m) / 2 - i) (ah .ahead .ensures))
+    came-last (a .l) (side (a .x) (a .w)) (a .y) (a .m) n _ _ _ _ (sure .before .sets-off .ensures) (sure .if1 .left)
+    (ap (λ (i : ℕ). (a .y % 2 + a .m) / 2 - i) (ah .ahead .ensures))
     (made-done (length (a .store .now)) (a .w) (a .x) (a .y) n _ _ (omega (arith, start .pre)) (made .make .ensures .1))
     (band .next-band .ensures ∙ ap (skip (side (a .x) (a .w)) (side (a .y) (a .m + 1)) n) (band .before .most .ensures))
     (omega arith) _ (on .goes-on .ensures) (c .before .if3 .taken) _ (c .nothing2 .ensures)
@@ -250,14 +253,15 @@ arrive-arrive-requires t c κs =
 
 arrive-deeper-requires : (t : ℕ) → arrive-lts.Need-deeper-requires (claims t) (arrive-at t) arrive.Post
 arrive-deeper-requires t c κs =
-    omega (arith, c .before .arrive .ensures .within, c .before .before .before .before .before .before .before .before .before .before .before .before .before .before .before .before .before .before .before .before .before .pre)
+    let st = c .before .before .before .before .before in
+    omega (arith, c .before .arrive .ensures .within, st .before .before .before .before .before .before .before .before .before .before .before .before .before .before .before .before .pre)
 
 arrive-further-requires : (t : ℕ) → arrive-lts.Need-further-requires (claims t) (arrive-at t) arrive.Post
 arrive-further-requires t c κs =
-    let start = c .before .before .before .before .before .before .before .before .before .before .before .before .before .before .before .before .before .before .before .before .before .before in
+    let st = c .before .before .before .before .before .before in
+    let start = st .before .before .before .before .before .before .before .before .before .before .before .before .before .before .before .before in
     let a = start .args in
     let v = c .before .before .before .before .low-count in
-    let st = c .before .before .before .before .before .before in
     let e : st .stretch .result ≡ 4 * a .w = st .stretch .ensures in
     let b =
     left-small (a .l - 1) (side _ (v .result)) _ _ _ (omega (arith, start .pre, v .ensures, count-lo (side (a .x) (a .w)))) (omega (arith, start .pre))
@@ -289,7 +293,8 @@ arrive-returns-4 t c =
     let q = store-back (next (side (a .x) (a .w))) (a .l - 1) (g .0) in
     let h = next-length (side (a .x) (a .w)) in
     let j : st .stretch .result ≡ 4 * a .w = st .stretch .ensures in
-    came-goes (a .l) (side (a .x) (a .w)) (a .y) (a .m) n _ _ _ _ (sure .before .sets-off .ensures) (sure .if1 .left) (ap (λ (i : ℕ). (a .y % 2 + a .m) / 2 - i) (ah .ahead .ensures))
+    came-goes (a .l) (side (a .x) (a .w)) (a .y) (a .m) n _ _ _ _ (sure .before .sets-off .ensures) (sure .if1 .left)
+    (ap (λ (i : ℕ). (a .y % 2 + a .m) / 2 - i) (ah .ahead .ensures))
     (made-done (length (a .store .now)) (a .w) (a .x) (a .y) n _ _ (omega (arith, start .pre)) (made .make .ensures .1))
     (band .next-band .ensures ∙ ap (skip (side (a .x) (a .w)) (side (a .y) (a .m + 1)) n) (band .before .most .ensures))
     (omega (arith, e .before)) _ (on .before .goes-on .ensures) (on .if3 .left)

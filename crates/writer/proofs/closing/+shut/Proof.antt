@@ -145,10 +145,13 @@ shut-ahead-requires t c κs = tt
 
 shut-add-t24 : (t : ℕ) → shut-lts.Need-add-t24 (claims t) (shut-at t) shut.Post
 shut-add-t24 t c =
-    omega (arith, c .before .ahead .ensures, c .before .before .before .shut .ensures .all, c .before .before .before .before .before .before .before .before .before .before .before .before .before .before .before .before .before .pre)
+    let below = c .before .before .before in
+    omega (arith, c .before .ahead .ensures, below .shut .ensures .all, below .before .before .before .before .before .before .before .before .before .before .before .before .before .before .pre)
 
 shut-deeper-requires : (t : ℕ) → shut-lts.Need-deeper-requires (claims t) (shut-at t) shut.Post
-shut-deeper-requires t c κs = omega (arith, c .before .before .before .shut .ensures .within, c .before .before .before .before .before .before .before .before .before .before .before .before .before .before .before .before .before .pre)
+shut-deeper-requires t c κs =
+    let below = c .before .before .before in
+    omega (arith, below .shut .ensures .within, below .before .before .before .before .before .before .before .before .before .before .before .before .before .before .pre)
 
 shut-further-requires : (t : ℕ) → shut-lts.Need-further-requires (claims t) (shut-at t) shut.Post
 shut-further-requires t c κs =

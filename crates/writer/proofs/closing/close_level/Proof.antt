@@ -6,6 +6,7 @@ use lib.ListN.{length}
 use borrow.Author.Needs.{needs}
 use Rattle.numbers.specs.Signal.{at}
 use Rattle.lifting.specs.Grid.{side}
+use Rattle.level.specs.Level.{ahead}
 use Rattle.level.specs.FiveThreeLevel.{fiveThree}
 use Rattle.writer.proofs.ClosingLaws.{from, level-done, level-waits, level-on}
 use Rattle.writer.proofs.closing.close_level.Statement.{statement}
@@ -13,7 +14,7 @@ use Rattle.writer.proofs.closing.close_level.Tie as tie
 
 abbrev Inv-loop : tie.InvT-loop
 Inv-loop store₀ l w x y c m a k₀ store k =
-    (length store ≡ length store₀) × (a ≡ fiveThree .filter .ahead) × (from l (side x w) y m k (at store) ≡ from l (side x w) y m c (at store₀))
+    (length store ≡ length store₀) × (a ≡ ahead fiveThree) × (from l (side x w) y m k (at store) ≡ from l (side x w) y m c (at store₀))
 
 abbrev μ-loop : tie.MeasureT-loop
 μ-loop store₀ l w x y c m a k₀ store k = a - k

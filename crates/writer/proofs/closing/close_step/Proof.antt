@@ -4,6 +4,7 @@ use native.Mathlib.Omega.{arith}
 use lib.ListN.{length}
 use Rattle.lifting.specs.Grid.{side}
 use Rattle.wavelet.proofs.StoreLaws.{store-next}
+use Rattle.level.specs.Level.{ahead}
 use Rattle.level.specs.FiveThreeLevel.{fiveThree}
 use Rattle.level.proofs.SetLaws.{closed-done}
 use Rattle.writer.proofs.CountLaws.{made-most}
@@ -56,7 +57,7 @@ pass-on-requires : tie.Need-pass-on-requires
 pass-on-requires c κs =
     let made = c .before .before .before .before .before .before .before .before .before in
     let a = made .before .args in
-    omega (arith, made .made .ensures, made-most (fiveThree .filter .ahead) (a .c) (a .y) (a .m))
+    omega (arith, made .made .ensures, made-most (ahead fiveThree) (a .c) (a .y) (a .m))
 
 same-length-2 : tie.Need-same-length-2
 same-length-2 c = search needs

@@ -1,5 +1,6 @@
 -- `counts::made` meets its contract. Assumes nothing.
 use native.Mathlib.Omega.{arith}
+use Rattle.level.specs.Level.{ahead}
 use Rattle.level.specs.FiveThreeLevel.{fiveThree}
 use Rattle.level.proofs.Places.{prev-is}
 use Rattle.writer.proofs.CountLaws.{made-is, made-shut}
@@ -19,7 +20,7 @@ returns : tie.Need-returns
 returns c =
     let a = c .before .before .args in
     let h = c .before .ahead .ensures in
-    omega (arith, h, made-shut (fiveThree .filter .ahead) (a .c) (a .y) (a .m) (omega arith) (omega (arith, h)))
+    omega (arith, h, made-shut (ahead fiveThree) (a .c) (a .y) (a .m) (omega arith) (omega (arith, h)))
 
 prev-requires : tie.Need-prev-requires
 prev-requires c κs = tt
@@ -42,7 +43,7 @@ add-result c = omega arith
 returns-4 : tie.Need-returns-4
 returns-4 c =
     let a = c .before .before .before .before .args in
-    omega (arith, c .before .before .before .ahead .ensures, c .before .prev .ensures, prev-is (a .m), made-is (fiveThree .filter .ahead) (a .c) (a .y) (a .m))
+    omega (arith, c .before .before .before .ahead .ensures, c .before .prev .ensures, prev-is (a .m), made-is (ahead fiveThree) (a .c) (a .y) (a .m))
 
 pub made-spec : {M : Type 1} → statement M
 made-spec =

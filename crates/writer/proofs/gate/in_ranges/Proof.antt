@@ -114,7 +114,8 @@ returns-8 c =
     let w = sym (e .before .is-within .ensures) ∙ not-false _ (e .if2 .left) in
     let l = sym (d .before .is-within2 .ensures) ∙ not-false _ (d .if3 .left) in
     ranges-last (e .before .before .before .before .args .s) o w l (omega arith) (omega arith)
-    (rw (c .before .before .before .before .before .before .ahead .ensures) at (c .before .before .before .if6 .left)) (omega arith) _ (c .waits-in-range .ensures)
+    (rw (c .before .before .before .before .before .before .ahead .ensures) at (c .before .before .before .if6 .left)) (omega arith)
+    _ (c .waits-in-range .ensures)
 
 pub in-ranges-spec : {M : Type 1} → statement M
 in-ranges-spec =
