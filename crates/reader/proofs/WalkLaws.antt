@@ -30,6 +30,11 @@ is-place q p e = record {
   band = ap (λ (r : Place). r .band) e;
 }
 
+-- a level by its numbers; whether its row needs two sets does not count
+pub level-plain : (W H : Side) (k : ℕ) (l : Level) → IsLevel W H k l →
+    IsLevel W H k (record { start = l .start; x = l .x; width = l .width; y = l .y; height = l .height; set = l .set; two = false })
+level-plain W H k l is = record { start = is .start; x = is .x; width = is .width; y = is .y; height = is .height; set = is .set }
+
 -- no row
 pub no-next : (W H : Side) (L d : ℕ) (q : Place) (n : Next) → place 0 false 4 ≡ q → n .spot .level ≡ 0 → n .spot .alone ≡ false → n .spot .band ≡ 4 →
     IsNext W H L d q n

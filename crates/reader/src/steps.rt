@@ -183,7 +183,7 @@ pub fn feed_row(s: Reader, store: &mut [i32], n: Next, complete: bool, run: &[i3
     if !complete {
         return true;
     }
-    walk::work_at(
+    walk::work_on(
         s.x,
         s.width,
         s.y,
@@ -192,7 +192,12 @@ pub fn feed_row(s: Reader, store: &mut [i32], n: Next, complete: bool, run: &[i3
         s.drawn,
         store,
         k,
-        n.at,
+        n.at.start,
+        n.at.x,
+        n.at.width,
+        n.at.y,
+        n.at.height,
+        n.at.set,
     )
 }
 

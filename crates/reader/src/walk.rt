@@ -273,7 +273,7 @@ pub fn put_row(
 }
 
 // The set of l, level k + 1, worked out in the level's own stretch; an empty level has none.
-pub fn work_at(
+fn work_at(
     x: usize,
     width: usize,
     y: usize,
@@ -307,6 +307,43 @@ pub fn work_at(
         == 0
 }
 
+// The same, the level's numbers handed on one by one: a structure would be laid into memory by every feed, also by one that completes no set.
+pub fn work_on(
+    x: usize,
+    width: usize,
+    y: usize,
+    height: usize,
+    levels: usize,
+    drawn: usize,
+    store: &mut [i32],
+    k: usize,
+    start: usize,
+    left: usize,
+    w: usize,
+    top: usize,
+    h: usize,
+    set: usize,
+) -> bool
+    requires { ⌜ Small (side x width) (side y height) drawn × (levels ≤ maxLevels) × (k < levels) ×
+        IsLevel (side x width) (side y height) k
+        (record { start = start; x = left; width = w; y = top; height = h; set = set; two = false }) ×
+        (storeLength (side x width) levels ≤ length (now store)) ⌝ }
+    ensures { λ ok. ⌜ outcome ok (at (now (store .exit))) ≡
+        workedAt (side x width) (side y height) levels k set (at (now (store .entry))) ⌝ }
+    ensures { λ _. ⌜ Kept (storeLength (side x width) levels) (at (now (store .entry))) (at (now (store .exit))) ⌝ }
+{
+    let l = Level {
+        start,
+        x: left,
+        width: w,
+        y: top,
+        height: h,
+        set,
+        two: false,
+    };
+    work_at(x, width, y, height, levels, drawn, store, k, l)
+}
+
 // The sets of the levels from `from` down to above `to`, the coarsest first.
 pub fn settle(
     x: usize,
@@ -329,7 +366,22 @@ pub fn settle(
     while to < k {
         k -= 1;
         let l = level_at(x, width, y, height, drawn, k);
-        if !work_at(x, width, y, height, levels, drawn, store, k, l) {
+        if !work_on(
+            x,
+            width,
+            y,
+            height,
+            levels,
+            drawn,
+            store,
+            k,
+            l.start,
+            l.x,
+            l.width,
+            l.y,
+            l.height,
+            l.set,
+        ) {
             return false;
         }
     }

@@ -3,7 +3,7 @@ use mathlib.Core.Bool.{Bool}
 use mathlib.Core.List.{List, [], _∷_}
 use Prim.Native.Nat.{ℕ}
 use lib.Dec.{eqb, leb}
-use lib.ListN.{getD}
+use lib.ListN.{getD, set}
 use Rattle.numbers.specs.Signal.{both}
 use Rattle.reader.specs.declared.Reader.{Reader}
 use Rattle.terrain.specs.States.{flag, isState}
@@ -26,6 +26,10 @@ readerOf s =
       y = getD s 9 0;
       alone = eqb (getD s 10 0) 1;
     }
+
+-- what a feed or a draw that passes writes of the array: the other words stand there already
+abbrev pub movedWords : Reader → List ℕ → List ℕ
+movedWords r s = set (set (set (set (set s 4 (r .drawn)) 5 (r .level)) 6 (r .band)) 7 (flag (r .ended))) 10 (flag (r .alone))
 
 abbrev pub readerWords : Reader → List ℕ
 readerWords r =

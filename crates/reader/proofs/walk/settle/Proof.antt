@@ -13,7 +13,7 @@ use Rattle.level.proofs.WorkLaws.{told-no, told-yes}
 use Rattle.level.proofs.KeptLaws.{kept-none, kept-both}
 use Rattle.reader.specs.Machine.{settled}
 use Rattle.reader.specs.Inside.{Small}
-use Rattle.reader.proofs.WalkLaws.{settle-none, settle-failed, settle-on}
+use Rattle.reader.proofs.WalkLaws.{level-plain, settle-none, settle-failed, settle-on}
 use Rattle.reader.proofs.walk.settle.Statement.{statement}
 use Rattle.reader.proofs.walk.settle.Tie as tie
 
@@ -36,16 +36,16 @@ sub-k c = omega arith
 level-at-requires : tie.Need-level-at-requires Inv-loop μ-loop
 level-at-requires c κs = (c .before .loop .inv .0, omega arith)
 
-work-at-requires : tie.Need-work-at-requires Inv-loop μ-loop
-work-at-requires c κs =
+work-on-requires : tie.Need-work-on-requires Inv-loop μ-loop
+work-on-requires c κs =
     let level = c .before in
     let inv = level .before .before .loop .inv in
-    (inv .0, omega arith, omega arith, level .level-at .ensures .level, omega arith)
+    (inv .0, omega arith, omega arith, level-plain _ _ _ _ (level .level-at .ensures .level), omega arith)
 
 same-length : tie.Need-same-length Inv-loop μ-loop
 same-length c =
     let call = c .before .before in
-    call .work-at .kept .1 .1 .1 .1 .1 .1 .0 ∙ call .before .before .before .before .loop .inv .4
+    call .work-on .kept .1 .1 .1 .1 .1 .1 .0 ∙ call .before .before .before .before .loop .inv .4
 
 returns : tie.Need-returns Inv-loop μ-loop
 returns c =
@@ -53,9 +53,9 @@ returns c =
     let level = call .before .before in
     let test = level .before in
     let l = test .before .loop in
-    let failed = told-no (call .work-at .result) (at (call .work-at .last .1 .1 .1 .1 .1 .1 .0)) _ (call .work-at .ensures .0) (not-true _ (c .if1 .taken)) in (
+    let failed = told-no (call .work-on .result) (at (call .work-on .last .1 .1 .1 .1 .1 .1 .0)) _ (call .work-on .ensures .0) (not-true _ (c .if1 .taken)) in (
       settle-failed _ _ _ _ _ (l .k) _ (at (l .store)) (test .loop-test .taken) (level .level-at .ensures .now) failed ∙ l .inv .5,
-      kept-both _ _ _ _ (l .inv .6) (call .work-at .ensures .1),
+      kept-both _ _ _ _ (l .inv .6) (call .work-on .ensures .1),
     )
 
 loop-less : tie.Need-loop-less Inv-loop μ-loop
@@ -68,15 +68,15 @@ loop-again c =
     let test = level .before in
     let l = test .before .loop in
     let inv = l .inv in
-    let left = at (call .work-at .last .1 .1 .1 .1 .1 .1 .0) in
-    let worked = told-yes (call .work-at .result) left _ (call .work-at .ensures .0) (not-false _ (c .if1 .left)) in (
+    let left = at (call .work-on .last .1 .1 .1 .1 .1 .1 .0) in
+    let worked = told-yes (call .work-on .result) left _ (call .work-on .ensures .0) (not-false _ (c .if1 .left)) in (
       inv .0,
       inv .1,
       omega arith,
       inv .3,
-      call .work-at .kept .1 .1 .1 .1 .1 .1 .0 ∙ inv .4,
+      call .work-on .kept .1 .1 .1 .1 .1 .1 .0 ∙ inv .4,
       settle-on _ _ _ _ _ (l .k) _ (at (l .store)) _ (test .loop-test .taken) (level .level-at .ensures .now) worked ∙ inv .5,
-      kept-both _ _ _ _ (inv .6) (call .work-at .ensures .1),
+      kept-both _ _ _ _ (inv .6) (call .work-on .ensures .1),
     )
 
 same-length-2 : tie.Need-same-length-2 Inv-loop μ-loop
@@ -94,7 +94,7 @@ settle-spec =
     loop-holds
     sub-k
     level-at-requires
-    work-at-requires
+    work-on-requires
     same-length
     returns
     loop-less
