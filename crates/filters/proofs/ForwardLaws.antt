@@ -6,6 +6,7 @@ use native.Mathlib.Omega.{arith}
 use lib.IntN.{ℤ}
 use Rattle.numbers.specs.Signal.{pick, stored}
 use Rattle.lifting.specs.Grid.{Side}
+use Rattle.nine_seven.specs.Filters.{filterOf}
 use Rattle.wavelet.specs.Bands.{LL}
 use Rattle.wavelet.specs.Levels.{next}
 use Rattle.level.specs.Level.{Memory, rest, joinAt}
@@ -20,6 +21,11 @@ use Rattle.filters.specs.Forward.{kindOf, heldOf, endedOf, delivered, he
 pub laws-of : (f : ℕ) → LevelLaws (kindOf f) (heldOf f) (endedOf f)
 laws-of zero = five-three-laws
 laws-of (suc f) = nine-seven-laws
+
+pub kind-filter : (f : ℕ) → kindOf f .filter ≡ filterOf f
+unfolding filterOf
+kind-filter zero = refl
+kind-filter (suc f) = refl
 
 -- ---- by what a level is to the streams: a height more, and the LL row passed on
 pub height-more : (f : ℕ) (W : Side) (s m c n : ℕ) (h x : ℕ → ℤ)

@@ -1,2 +1,2 @@
--- The way forward.
+pub mod BackLaws
 pub mod ForwardLaws

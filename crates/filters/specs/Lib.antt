@@ -1,2 +1,2 @@
--- The way forward.
+pub mod Back
 pub mod Forward

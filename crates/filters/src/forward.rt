@@ -16,16 +16,6 @@ ghost use Rattle.wavelet.specs.ViewCall.{named};
 ghost use Rattle.level.specs.Heights.{heightAt};
 ghost use Rattle.filters.specs.Forward.{kindOf, levelFits, nextFits, countable, delivered, heightsPut, heightsFit};
 
-// The look-ahead: set n is made once the row at coordinate 2n + 2 × ahead is there.
-pub fn ahead(filter: usize) -> usize
-    ensures { λ r. ⌜ r ≡ kindOf filter .filter .ahead ⌝ }
-{
-    if filter == 0 {
-        return five::ahead();
-    }
-    nine::ahead()
-}
-
 // Heights into row q.
 pub fn put(
     filter: usize,

@@ -1,2 +1,4 @@
-// A level of either filter, by the filter's number: 0 is the 5/3, any other the integer 9/7.
+// What a level does by the number of its filter: 0 the 5/3, 1 the integer 9/7. Any other number counts as 1 here; question 18 is asked above.
+pub mod back;
+pub mod figures;
 pub mod forward;
