@@ -1,14 +1,16 @@
 -- A level by the number of its filter, case by case: what is asked and left is what the filter's own level asks and leaves. Assumes nothing.
 use mathlib.Core.Path.{_≡_, refl}
 use mathlib.Core.Bool.{Bool}
-use Prim.Native.Nat.{ℕ, zero, suc, _+_, _*_, _≤_}
+use Prim.Native.Nat.{ℕ, zero, suc, _+_, _*_, _≤_, min}
 use native.Mathlib.Omega.{arith}
-use lib.IntN.{ℤ}
+use lib.IntN.{ℤ, pos}
 use lib.Dec.{leb, eqb}
 use Rattle.numbers.specs.Signal.{pick}
 use Rattle.lifting.specs.Grid.{Side}
+use Rattle.lifting.specs.FiveThree.{fiveThreeFilter}
+use Rattle.nine_seven.specs.NineSevenFilter.{nineSevenFilter}
 use Rattle.nine_seven.specs.Filters.{filterOf}
-use Rattle.wavelet.specs.Limits.{maxLevels}
+use Rattle.wavelet.specs.Limits.{maxLevels, range}
 use Rattle.level.specs.Tried.{failed, outcome}
 use Rattle.level.specs.Slots as slots
 use Rattle.level.specs.Work.{admitted, setWorked}
@@ -42,6 +44,19 @@ pub second-figures : (f : ℕ) → (f ≡ 0 → ⊥) → Figures f 4 8 2
 unfolding filterOf
 second-figures zero d = absurd (d refl)
 second-figures (suc f) d = (refl, refl, refl)
+
+abbrev Ranged : ℕ → ℕ → ℤ → Type 0
+Ranged f k z = z ≡ pos (range (filterOf f) (min k (filterOf f .levels)))
+
+pub first-ranged : (f k : ℕ) (z : ℤ) → f ≡ 0 → z ≡ pos (range fiveThreeFilter (min k maxLevels)) → Ranged f k z
+unfolding filterOf maxLevels
+first-ranged zero k z e p = p
+first-ranged (suc f) k z e p = absurd (omega arith)
+
+pub second-ranged : (f k : ℕ) (z : ℤ) → (f ≡ 0 → ⊥) → z ≡ pos (range nineSevenFilter (min k rebuilding97.maxLevels)) → Ranged f k z
+unfolding filterOf rebuilding97.maxLevels
+second-ranged zero k z d p = absurd (d refl)
+second-ranged (suc f) k z d p = p
 
 -- ---- where a row begins
 abbrev Placed : ℕ → ℕ → ℕ → ℕ → Type 0

@@ -19,10 +19,11 @@ use Rattle.nine_seven.proofs.NineSeven.{nine-seven}
 use Rattle.nine_seven.specs.NineSevenFilter.{nineSevenFilter}
 use Rattle.wavelet.specs.Bands.{Grid, Band, across, down, columnsLifted, subband}
 use Rattle.wavelet.specs.Order.{firstSet, lastSet, setRow, unmade}
-use Rattle.level.specs.Level.{Memory}
+use Rattle.level.specs.Level.{Memory, completes, SetStands}
+use Rattle.level.proofs.LevelLaws.{LevelLaws}
 use Rattle.level.proofs.Slots.{spot-apart}
-use Rattle.nine_seven_making.specs.NineSevenLevel.{cellOf, rowPut, setMade, rowsTo, bandPlace, completes97}
-use Rattle.nine_seven_making.specs.NineSevenLevel.{RowStands, Kept, Left, SetStands97}
+use Rattle.nine_seven_making.specs.NineSevenLevel.{cellOf, rowPut, setMade, rowsTo, bandPlace}
+use Rattle.nine_seven_making.specs.NineSevenLevel.{RowStands, Kept, Left, nineSevenLevel}
 use Rattle.nine_seven_making.proofs.Places.{place-room}
 use Rattle.nine_seven_making.proofs.Slots.{cell-spot, cell-in, apart, Only, only-past, only-row, put-only, put-row, stored-only}
 use Rattle.nine_seven_making.proofs.SetMade.{made-past, set-stands, set-left}
@@ -97,9 +98,9 @@ module _ (W H : Side) (g : Grid) (m : ℕ) (x : Memory) (k : Kept W H g m (W .le
     begun = λ i p. absurd (omega arith);
   }
 
-  pub held-still : completes97 (H .start) m ≡ false → Kept W H g (m + 1) 0 x
-  unfolding completes97
-  held-still e = held-more (λ z. let t : leb 4 q ≡ false = rw (eq-eqb (q % 2) 0 z) at e in omega (arith, leb-false 4 q t))
+  pub held-still : completes 2 (H .start) m ≡ false → Kept W H g (m + 1) 0 x
+  unfolding completes
+  held-still e = held-more (λ z. let t : leb (2 * 2) q ≡ false = rw (eq-eqb (q % 2) 0 z) at e in omega (arith, leb-false (2 * 2) q t))
 
 -- it completes set n: the rows up to it are all that the set sees
 module _ (W H : Side) (g : Grid) (m n : ℕ) (t : H .start % 2 + m ≡ 2 * n + 4) (l : m < H .length) where
@@ -157,7 +158,7 @@ module _ (W H : Side) (g : Grid) (m n : ℕ) (t : H .start % 2 + m ≡ 2 * n + 4
     unfolding setRow
     same-number b = ap (λ (j : ℕ). n - j) (same-first (down b))
 
-    pub make-stands : SetStands97 W H g n (setMade W R n x)
+    pub make-stands : SetStands nineSevenLevel W H g n (setMade W R n x)
     unfolding setRow
     make-stands b i f c h =
         let e = same-first (down b) in
@@ -175,7 +176,7 @@ held-ended W H g x h k = record {
   high = λ i a b. k .high i (omega arith) (omega arith);
 }
 
-pub close-stands : (W H : Side) (g : Grid) (n : ℕ) (x : Memory) → Left W H g n x → SetStands97 W H g n (setMade W H n x)
+pub close-stands : (W H : Side) (g : Grid) (n : ℕ) (x : Memory) → Left W H g n x → SetStands nineSevenLevel W H g n (setMade W H n x)
 close-stands = set-stands
 
 pub close-ended : (W H : Side) (g : Grid) (n : ℕ) (x : Memory) → Left W H g n x → Left W H g (suc n) (setMade W H n x)
@@ -216,3 +217,24 @@ make-past W s n x j h = made-past W (rowsTo s n) n x j h
 
 pub close-past : (W H : Side) (n : ℕ) (x : Memory) (j : ℕ) → 8 * W .length ≤ j → setMade W H n x j ≡ x j
 close-past = made-past
+
+pub nine-seven-laws : LevelLaws nineSevenLevel Kept Left
+nine-seven-laws = record {
+  ahead-some = omega arith;
+  held-none = held-none;
+  held-cell = held-cell;
+  held-put = held-put;
+  held-still = λ W H g m x _ e k. held-still W H g m x k e;
+  held-make = λ W H g m n x t l k. held-make W H g m n t l x k;
+  make-stands = λ W H g m n x t l k. make-stands W H g m n t l x k;
+  held-ended = held-ended;
+  close-ended = λ W H g n x _ k. close-ended W H g n x k;
+  close-stands = λ W H g n x _ k. close-stands W H g n x k;
+  held-reads = λ W H g m c x y l e k. held-reads W H g x y e m c l k;
+  ended-reads = λ W H g n x y e k. ended-reads W H g x y e n k;
+  place-in = λ W s. place-in W;
+  cell-past = cell-past;
+  put-past = put-past;
+  make-past = make-past;
+  close-past = close-past;
+}

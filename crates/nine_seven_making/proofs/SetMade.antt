@@ -20,11 +20,11 @@ use Rattle.nine_seven.specs.NineSevenFilter.{nineSevenFilter}
 use Rattle.wavelet.specs.Bands.{Grid, LL, HL, LH, HH, across, down, columnsLifted, subband}
 use Rattle.wavelet.specs.Order.{firstSet, setRow}
 use Rattle.wavelet.proofs.SideLaws.{count-lo, count-hi, count-sum}
-use Rattle.level.specs.Level.{Memory}
+use Rattle.level.specs.Level.{Memory, SetStands}
 use Rattle.level.specs.FiveThreeLevel.{doubled}
 use Rattle.level.proofs.SetRows.{ap₃}
 use Rattle.nine_seven_making.specs.NineSevenLevel.{slot, cellOf, rowBefore, rowAfter, rowHigh, rowLow, rowCopied, rowLifted, hasRow}
-use Rattle.nine_seven_making.specs.NineSevenLevel.{highMade, lowWaits, highWaits, setMade, waitsAt, bandPlace, RowStands, Left, SetStands97}
+use Rattle.nine_seven_making.specs.NineSevenLevel.{highMade, lowWaits, highWaits, setMade, waitsAt, bandPlace, RowStands, Left, nineSevenLevel}
 use Rattle.nine_seven_making.proofs.NearRows.{high-place, low-place, before-high, after-high, far-before-high, far-after-high, before-low, after-low}
 use Rattle.nine_seven_making.proofs.NearRows.{has-row, no-row}
 use Rattle.nine_seven_making.proofs.Slots.{apart, apart′, Only, only-none, only-then, only-if, only-either, only-slot, only-past, only-row}
@@ -260,7 +260,7 @@ module _ (W H : Side) (g : Grid) (n : ℕ) (x : Memory) (k : Left W H g n x) whe
         ∙ lifted-high W (waitsAt lo n) low y2 low-2 i h
 
   -- its rows stand where they wait
-  pub set-stands : SetStands97 W H g n (setMade W H n x)
+  pub set-stands : SetStands nineSevenLevel W H g n (setMade W H n x)
   unfolding bandPlace subband across down setRow firstSet
   set-stands LL i f b h = waits-low-low f b i h
   set-stands HL i f b h = waits-high-low f b i h

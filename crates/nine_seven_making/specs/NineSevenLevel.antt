@@ -23,9 +23,9 @@ use Rattle.nine_seven.specs.NineSeven.{predicted, updated, before, after}
 use Rattle.nine_seven.specs.NineSevenFilter.{nineSevenFilter}
 use Rattle.nine_seven.specs.Memory.{liftedInPlace}
 use Rattle.nine_seven.specs.Rows.{rowBy}
-use Rattle.wavelet.specs.Bands.{Grid, Band, LL, HL, LH, HH, across, down, columnsLifted, subband}
-use Rattle.wavelet.specs.Order.{firstSet, setRow}
-use Rattle.level.specs.Level.{Memory}
+use Rattle.wavelet.specs.Bands.{Grid, Band, LL, HL, LH, HH, columnsLifted}
+use Rattle.wavelet.specs.Order.{firstSet}
+use Rattle.level.specs.Level.{Memory, LevelKind}
 use Rattle.level.specs.FiveThreeLevel.{doubled}
 
 -- where the slot of row q of w numbers begins
@@ -88,10 +88,6 @@ highWaits W H n x = pick (hasRow H hi n) (rowLifted W (waitsAt hi n) (rowCopied 
 unfoldable pub setMade : Side → Side → ℕ → Memory → Memory
 setMade W H n x = highWaits W H n (lowWaits W H n (highMade (W .length) H n x))
 
--- Row m completes a set, the one whose row 2n + 4 it is.
-unfoldable pub completes97 : ℕ → ℕ → Bool
-completes97 s m = both (eqb ((s % 2 + m) % 2) 0) (leb 4 (s % 2 + m))
-
 -- the rows that start at s, up to row 2n + 4
 abbrev pub rowsTo : ℕ → ℕ → Side
 rowsTo s n = side s (2 * n + 5 - s % 2)
@@ -101,6 +97,17 @@ bandPlace W n LL = slot (W .length) (waitsAt lo n)
 bandPlace W n HL = slot (W .length) (waitsAt lo n) + count lo W
 bandPlace W n LH = slot (W .length) (waitsAt hi n)
 bandPlace W n HH = slot (W .length) (waitsAt hi n) + count lo W
+
+abbrev pub nineSevenLevel : LevelKind
+nineSevenLevel = record {
+  filter = nineSevenFilter;
+  stretch = λ W. 8 * W .length;
+  cell = λ W s m c. cellOf W (s % 2 + m) c;
+  put = λ W s m row x. rowPut W (s % 2 + m) row x;
+  make = λ W s n x. setMade W (rowsTo s n) n x;
+  close = setMade;
+  place = λ W s n b. bandPlace W n b;
+}
 
 -- ---- what its store means
 -- the first c columns of row y stand in the slot of row q
@@ -131,9 +138,3 @@ pub record Left (W H : Side) (g : Grid) (n : ℕ) (x : Memory) : Type 0 where
   pub odd : (i : ℕ) → n ≤ i → 2 * i + 1 < H .start % 2 + H .length → RowStands W (2 * i + 1) (W .length) (g (2 * i + 1 - H .start % 2)) x
   -- d(n − 1)
   pub high : (i : ℕ) → n ≡ suc i → 2 * i + 1 < H .start % 2 + H .length → RowStands W (2 * i + 1) (W .length) (columnsLifted nineSevenFilter wrap32 H g hi i) x
-
--- the rows of set n stand where they wait
-abbrev pub SetStands97 : Side → Side → Grid → ℕ → Memory → Type 0
-SetStands97 W H g n x =
-    (b : Band) (i : ℕ) → firstSet H (down b) ≤ n → setRow H b n < count (down b) H → i < count (across b) W
-    → x (bandPlace W n b + i) ≡ subband nineSevenFilter wrap32 W H g b (setRow H b n) i

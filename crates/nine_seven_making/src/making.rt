@@ -10,8 +10,15 @@ ghost use lib.ListN.{length};
 ghost use lib.Dec.{ltb};
 ghost use Rattle.numbers.specs.Signal.{at, pick};
 ghost use Rattle.lifting.specs.Grid.{side};
-ghost use Rattle.nine_seven_making.specs.NineSevenLevel.{rowsTo, setMade};
+ghost use Rattle.nine_seven_making.specs.NineSevenLevel.{nineSevenLevel, rowsTo, setMade};
 ghost use Rattle.nine_seven_making.specs.Making.{levelFits, nextFits, delivered};
+
+// The look-ahead: set n is made once the row at coordinate 2n + 2 × ahead is there, so that ahead sets at most are left when all rows are.
+pub fn ahead() -> usize
+    ensures { λ r. ⌜ r ≡ nineSevenLevel .filter .ahead ⌝ }
+{
+    2
+}
 
 // Whether the stretch lies within n numbers, and whether the next level's does: by division, so that no product can overflow.
 fn level_fits(n: usize, w: usize) -> bool

@@ -1,7 +1,7 @@
 -- The test of 14 as a test of two bounds, at the ranges of the 9/7. Assumes nothing.
 use mathlib.Core.Path.{_≡_, refl, ap, _∙_}
 use mathlib.Core.List.{List}
-use Prim.Native.Nat.{ℕ, zero, suc, _+_, _*_, _^_, _≤_, _<_}
+use Prim.Native.Nat.{ℕ, zero, suc, _+_, _*_, _^_, _≤_, _<_, min}
 use native.Mathlib.Nat.{pow-suc, pow-le-pow-right, mul-le-mul-left}
 use native.Mathlib.Omega.{arith}
 use lib.IntN.{ℤ, pos, _-ℤ_}
@@ -39,6 +39,14 @@ range-small k h = omega (arith, range-le k maxLevels h, range-last)
 pub levels-small : maxLevels < 2 ^ 32
 unfolding maxLevels
 levels-small = omega arith
+
+pub same-range : (k : ℕ) → k ≤ maxLevels → (pos (range nineSevenFilter (min k maxLevels)) ≡ pos (range nineSevenFilter k)) × (lowestOf (min k maxLevels) ≡ lowestOf k)
+same-range k h = let e : min k maxLevels ≡ k = omega arith in (ap (λ (i : ℕ). pos (range nineSevenFilter i)) e, ap lowestOf e)
+
+-- the lesser of a level and the last is 0 for level 0 alone
+pub some-level : (k : ℕ) → min k maxLevels ≡ 0 → k ≡ 0
+unfolding maxLevels
+some-level k e = omega arith
 
 -- ---- the bounds of 14
 pub low-zero : (k : ℕ) → k ≡ 0 → pos 0 ≡ lowestOf k

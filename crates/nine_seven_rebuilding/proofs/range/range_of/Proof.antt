@@ -1,6 +1,6 @@
 -- `nine_seven_rebuilding::range::range_of` meets its contract. The loop's invariant: `most` is the range of level k. Assumes nothing.
 use mathlib.Core.Path.{_≡_, refl, ap, _∙_}
-use Prim.Native.Nat.{ℕ, suc, _-_, _*_, _^_, _≤_, _<_}
+use Prim.Native.Nat.{ℕ, suc, _-_, _*_, _^_, _≤_, _<_, min}
 use native.Mathlib.Omega.{arith}
 use native.Mathlib.Numerals.{add-one}
 use lib.IntN.{ℤ, pos, _*ℤ_}
@@ -25,10 +25,13 @@ next-small : (k last : ℕ) → k < last → last ≤ maxLevels → 6 * range ni
 next-small k last h few = omega (arith, range-suc k, range-small (suc k) (omega arith))
 
 abbrev Inv-loop : tie.InvT-loop
-Inv-loop level most₀ k₀ most k = (k ≤ level) × (level ≤ maxLevels) × (toZ w32 most ≡ pos (range nineSevenFilter k))
+Inv-loop level last most₀ k₀ most k = (k ≤ last) × (last ≤ maxLevels) × (toZ w32 most ≡ pos (range nineSevenFilter k))
 
 abbrev μ-loop : tie.MeasureT-loop
-μ-loop level most₀ k₀ most k = level - k
+μ-loop level last most₀ k₀ most k = last - k
+
+deepest-requires : tie.Need-deepest-requires Inv-loop μ-loop
+deepest-requires c κs = tt
 
 loop-holds : tie.Need-loop-holds Inv-loop μ-loop
 unfolding range maxSample
@@ -53,9 +56,9 @@ loop-again c =
 returns : tie.Need-returns Inv-loop μ-loop
 returns c =
     let l = c .before .loop in
-    let e : l .k ≡ c .before .before .args .level = omega arith in
+    let e : l .k ≡ min (c .before .before .before .args .level) maxLevels = omega arith in
     l .inv .2 ∙ ap (λ (k : ℕ). pos (range nineSevenFilter k)) e
 
 pub range-of-spec : {M : Type 1} → statement M
 range-of-spec =
-    tie.close (tie.spec Inv-loop μ-loop loop-holds mul-most add-k loop-less loop-again returns)
+    tie.close (tie.spec Inv-loop μ-loop deepest-requires loop-holds mul-most add-k loop-less loop-again returns)

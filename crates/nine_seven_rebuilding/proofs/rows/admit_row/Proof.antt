@@ -4,7 +4,7 @@ use Prim.Native.Nat.{_+_, _-_}
 use native.Mathlib.Omega.{arith}
 use borrow.Author.Needs.{needs}
 use Rattle.numbers.proofs.Words.{read-back}
-use Rattle.nine_seven_rebuilding.proofs.AdmitLaws.{admit-is}
+use Rattle.nine_seven_rebuilding.proofs.AdmitLaws.{admit-is, same-range}
 use Rattle.nine_seven_rebuilding.proofs.rows.admit_row.Statement.{statement}
 use Rattle.nine_seven_rebuilding.proofs.rows.admit_row.Tie as tie
 
@@ -27,10 +27,10 @@ part-all-between-end : tie.Need-part-all-between-end
 part-all-between-end c = search needs
 
 lowest-of-requires : tie.Need-lowest-of-requires
-lowest-of-requires c κs = search needs
+lowest-of-requires c κs = tt
 
 range-of-requires : tie.Need-range-of-requires
-range-of-requires c κs = search needs
+range-of-requires c κs = tt
 
 all-between-requires : tie.Need-all-between-requires
 all-between-requires c κs = tt
@@ -45,8 +45,8 @@ returns c =
     let at = place .row-place .result in
     c .all-between .ensures
     ∙ admit-is (a .k) (a .w) (a .q) at (at + a .w - at) (a .stretch .now) _ _ (place .row-place .ensures .0) (omega arith) (omega arith)
-    (read-back (low .lowest-of .result) (low .lowest-of .ok) ∙ low .lowest-of .ensures)
-    (read-back (high .range-of .result) (high .range-of .ok) ∙ high .range-of .ensures)
+    (read-back (low .lowest-of .result) (low .lowest-of .ok) ∙ low .lowest-of .ensures ∙ same-range (a .k) (start .pre .2) .1)
+    (read-back (high .range-of .result) (high .range-of .ok) ∙ high .range-of .ensures ∙ same-range (a .k) (start .pre .2) .0)
 
 pub admit-row-spec : {M : Type 1} → statement M
 admit-row-spec =
