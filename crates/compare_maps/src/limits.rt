@@ -2,31 +2,20 @@
 use reader::Fed;
 use reader::Reader;
 use second::area;
+use second::heights;
 use second::tally::Tally;
 use wavelet::limits;
-use wavelet::shape::Shape;
 use writer::Writer;
 
-// A map of some rows at origin 0.
-fn shape_of(width: usize, height: usize, levels: usize) -> Shape {
-    Shape {
-        width,
-        height,
-        levels,
-        x: 0,
-        y: 0,
-    }
-}
-
 fn writer_answer(width: usize, levels: usize, store: &mut [i32]) -> u8 {
-    match Writer::set_up(shape_of(width, 1, levels), store) {
+    match Writer::set_up(heights::shape_of(width, 1, levels), store) {
         writer::SetUp::Ready(_) => 0,
         writer::SetUp::Refused(no) => no,
     }
 }
 
 fn reader_answer(width: usize, levels: usize, store: &mut [i32]) -> u8 {
-    match Reader::set_up(shape_of(width, 1, levels), store) {
+    match Reader::set_up(heights::shape_of(width, 1, levels), store) {
         reader::SetUp::Ready(_) => 0,
         reader::SetUp::Refused(no) => no,
     }
@@ -40,8 +29,18 @@ fn differ(answer: u8, expected: u8) -> u64 {
 fn map_answer(width: usize, levels: usize, plane: &mut [i32], expected: u8) -> u64 {
     let mut heights = [0u16; 2100];
     let mut work = [0i32; 2100];
-    let a = whole_map::forward(&heights, shape_of(width, 1, levels), plane, &mut work);
-    let b = whole_map::backward(plane, shape_of(width, 1, levels), &mut heights, &mut work);
+    let a = whole_map::forward(
+        &heights,
+        heights::shape_of(width, 1, levels),
+        plane,
+        &mut work,
+    );
+    let b = whole_map::backward(
+        plane,
+        heights::shape_of(width, 1, levels),
+        &mut heights,
+        &mut work,
+    );
     area::sum(differ(a, expected), differ(b, expected))
 }
 
@@ -57,7 +56,13 @@ fn size(t: Tally, width: usize, levels: usize, expected: u8) -> Tally {
     let mut plane = [0i32; 2100];
     let a = map_answer(width, levels, &mut plane, expected);
     let b = stream_answer(width, levels, expected);
-    let c = wavelet::view::band_row_question(&plane, shape_of(width, 1, levels), levels, 0, 0);
+    let c = wavelet::view::band_row_question(
+        &plane,
+        heights::shape_of(width, 1, levels),
+        levels,
+        0,
+        0,
+    );
     t.more(5, area::sum(differ(c, expected), area::sum(a, b)))
 }
 
@@ -98,7 +103,7 @@ fn feeds(r: Reader, store: &mut [i32], plane: &[i32]) -> u8 {
 
 fn feed_answer(plane: &[i32]) -> u8 {
     let mut store = [0i32; 16];
-    match Reader::set_up(shape_of(2, 2, 1), &mut store) {
+    match Reader::set_up(heights::shape_of(2, 2, 1), &mut store) {
         reader::SetUp::Ready(r) => feeds(r, &mut store, plane),
         reader::SetUp::Refused(no) => no,
     }
@@ -118,7 +123,7 @@ fn coefficient(t: Tally, band: usize, v: i32, expected: u8) -> Tally {
     ];
     let mut heights = [0u16; 4];
     let mut work = [0i32; 4];
-    let a = whole_map::backward(&plane, shape_of(2, 2, 1), &mut heights, &mut work);
+    let a = whole_map::backward(&plane, heights::shape_of(2, 2, 1), &mut heights, &mut work);
     let b = feed_answer(&plane);
     t.more(2, area::sum(differ(a, expected), differ(b, expected)))
 }

@@ -15,7 +15,8 @@ pub const AT_ZERO: usize = SIZES * limits::MAX_LEVELS * KINDS;
 // and once more at origins from 0 to 3 each way.
 pub const MAPS: usize = 2 * AT_ZERO;
 
-fn shape_of(width: usize, height: usize, levels: usize) -> Shape {
+// A map at origin 0.
+pub fn shape_of(width: usize, height: usize, levels: usize) -> Shape {
     Shape {
         width,
         height,

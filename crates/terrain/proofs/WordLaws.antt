@@ -23,7 +23,7 @@ use Rattle.terrain.specs.WriterCalls.{offered, drawn}
 use Rattle.terrain.proofs.Steady.{Steady, offer-steady, draw-steady}
 
 -- sixteen words, spelt out
-spelt : (s : List ℕ) → length s ≡ 16 →
+pub spelt : (s : List ℕ) → length s ≡ 16 →
     s ≡ getD s 0 0 ∷ getD s 1 0 ∷ getD s 2 0 ∷ getD s 3 0 ∷ getD s 4 0 ∷ getD s 5 0 ∷ getD s 6 0 ∷ getD s 7 0 ∷ getD s 8 0 ∷ getD s 9 0 ∷ getD s 10 0
     ∷ getD s 11 0 ∷ getD s 12 0 ∷ getD s 13 0 ∷ getD s 14 0 ∷ getD s 15 0 ∷ []
 spelt s h =

@@ -3,7 +3,7 @@ use mathlib.Core.Bool.{Bool}
 use mathlib.Core.List.{List, [], _∷_}
 use Prim.Native.Nat.{ℕ}
 use lib.Dec.{eqb}
-use lib.ListN.{getD}
+use lib.ListN.{getD, set}
 use Rattle.reader.specs.declared.Reader.{Reader}
 use Rattle.terrain.specs.States.{flag, isState}
 
@@ -24,6 +24,10 @@ readerOf s =
       y = getD s 9 0;
       back = getD s 10 0;
     }
+
+-- what a feed or a draw that passes writes of the array: the other words stand there already
+abbrev pub movedWords : Reader → List ℕ → List ℕ
+movedWords r s = set (set (set (set (set s 4 (r .drawn)) 5 (r .level)) 6 (r .band)) 7 (flag (r .ended))) 10 (r .back)
 
 abbrev pub readerWords : Reader → List ℕ
 readerWords r =

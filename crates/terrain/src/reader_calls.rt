@@ -94,7 +94,7 @@ pub extern "C" fn terrain_reader_feed(state: &mut [u64; 16], store: &mut [i32], 
     let s = reader_state::unpack_reader(state);
     match s.feed(store, run) {
         Fed::Passed(next) => {
-            reader_state::pack_reader(next, state);
+            reader_state::pack_moved(next, state);
             0
         }
         Fed::Impossible(next) => {
@@ -131,7 +131,7 @@ pub extern "C" fn terrain_reader_draw(
     let s = reader_state::unpack_reader(state);
     match s.draw(store, out) {
         Drawn::Heights(n, next) => {
-            reader_state::pack_reader(next, state);
+            reader_state::pack_moved(next, state);
             *drawn = n;
             0
         }

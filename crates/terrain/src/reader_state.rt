@@ -2,7 +2,8 @@
 use crate::states;
 use reader::Reader;
 ghost use mathlib.Core.Path.{_≡_};
-ghost use Rattle.terrain.specs.ReaderState.{isReader, readerOf, readerWords};
+ghost use lib.ListN.{length};
+ghost use Rattle.terrain.specs.ReaderState.{isReader, readerOf, movedWords, readerWords};
 
 // Is this the state array of a reader?
 pub fn is_reader(s: &[u64; 16]) -> bool
@@ -58,4 +59,17 @@ pub fn pack_reader(r: Reader, s: &mut [u64; 16])
         0,
         0,
     ];
+}
+
+// Those of its words that a feed or a draw changes; the others stand there already.
+pub fn pack_moved(r: Reader, s: &mut [u64; 16])
+    ensures { λ _. ⌜ (now (s .exit) ≡ movedWords r (now (s .entry))) × (length (now (s .entry)) ≡ 16) ⌝ }
+{
+    let over = states::flag_of(r.ended);
+    states::sized(*s);
+    s[4] = r.drawn as u64;
+    s[5] = r.level as u64;
+    s[6] = r.band as u64;
+    s[7] = over;
+    s[10] = r.back as u64;
 }

@@ -13,6 +13,8 @@ use Rattle.lifting.specs.Grid.{Side}
 use Rattle.wavelet.proofs.QuestionLaws.{within-true}
 use Rattle.wavelet.specs.Levels.{next}
 use Rattle.wavelet.specs.Store.{storeLength}
+use Rattle.level.specs.Level.{ahead}
+use Rattle.level.specs.FiveThreeLevel.{fiveThree}
 use Rattle.writer.specs.declared.Writer.{Writer}
 use Rattle.writer.specs.Counts.{mostLeft, startOf}
 use Rattle.writer.specs.Taking.{columnsOf}
@@ -43,7 +45,7 @@ module _ (p q : ℕ) where
 -- ---- question 1, the tests of sizes and counts passed: what waits is left
 pub ranges-last : (s : Writer) → onGrid (s .x) (s .y) ≡ true → within 1 maxWidth (s .width) ≡ true → within 1 maxLevels (s .levels) ≡ true →
     s .rows ≤ maxHeight → s .column < s .width →
-    s .closed ≤ s .levels → s .level ≤ s .levels → (b : Bool) → b ≡ both (leb (s .left) (mostLeft (s .levels) (s .level)))
+    s .closed ≤ ahead fiveThree * s .levels → s .level ≤ s .levels → (b : Bool) → b ≡ both (leb (s .left) (mostLeft (s .levels) (s .level)))
     (eqb (s .offset) (startOf (columnsOf s) (s .level))) → b ≡ inRanges s
 unfolding inRanges
 ranges-last s o a b d e f g t is = is ∙ simp (o, a, b, le-leb _ _ d, lt-ltb _ _ e, le-leb _ _ f, le-leb _ _ g)
@@ -60,16 +62,15 @@ module _ (a k : ℕ) (t : Bool) where
 pub begins-short : (w : Side) (k o : ℕ) → 1 < k → o < 4 * w .length → false ≡ eqb o (startOf w k)
 begins-short w k o h g = sym (ne-eqb o (startOf w k) (λ e. absurd (omega (arith, start-more w k h))))
 
-pub begins-on : (w : Side) (k o : ℕ) (h : Side) → 1 < k → 4 * w .length ≤ o → h ≡ next w → eqb (o - 4 * w .length) (startOf h (k - 1)) ≡ eqb o (startOf w k)
-begins-on w k o h g f e = go (eqb o (startOf w k)) refl
+pub begins-on : (w : Side) (k o a : ℕ) (h : Side) → a ≡ 4 * w .length → 1 < k → a ≤ o → h ≡ next w → eqb (o - a) (startOf h (k - 1)) ≡ eqb o (startOf w k)
+begins-on w k o a h s g f e = go (eqb o (startOf w k)) refl
   where
-    more : 4 * w .length + startOf h (k - 1) ≡ startOf w k
-    more = rw e (start-more w k g)
+    more : a + startOf h (k - 1) ≡ startOf w k
+    more = rw (s, e) (start-more w k g)
 
-    go : (t : Bool) → eqb o (startOf w k) ≡ t → eqb (o - 4 * w .length) (startOf h (k - 1)) ≡ t
-    go true d = eq-eqb (o - 4 * w .length) (startOf h (k - 1)) (omega (arith, eqb-true o (startOf w k) d, more))
-    go false d =
-        ne-eqb (o - 4 * w .length) (startOf h (k - 1)) (λ (z : o - 4 * w .length ≡ startOf h (k - 1)). eqb-false o (startOf w k) d (omega (arith, more)))
+    go : (t : Bool) → eqb o (startOf w k) ≡ t → eqb (o - a) (startOf h (k - 1)) ≡ t
+    go true d = eq-eqb (o - a) (startOf h (k - 1)) (omega (arith, eqb-true o (startOf w k) d, more))
+    go false d = ne-eqb (o - a) (startOf h (k - 1)) (λ (z : o - a ≡ startOf h (k - 1)). eqb-false o (startOf w k) d (omega (arith, more)))
 
 pub begins-first : (w : Side) (k o : ℕ) → k ≤ 1 → eqb o 0 ≡ eqb o (startOf w k)
 begins-first w k o h = ap (eqb o) (sym (start-first w k h))
@@ -82,7 +83,7 @@ pub record Sound (s : Writer) (n : ℕ) : Type 0 where
   pub levels : (1 ≤ s .levels) × (s .levels ≤ 5)
   pub rows : s .rows ≤ maxHeight
   pub column : s .column < s .width
-  pub closed : s .closed ≤ s .levels
+  pub closed : s .closed ≤ ahead fiveThree * s .levels
   pub level : s .level ≤ s .levels
   pub left : s .left ≤ mostLeft (s .levels) (s .level)
   pub placed : s .offset ≡ startOf (columnsOf s) (s .level)

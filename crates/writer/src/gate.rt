@@ -1,6 +1,7 @@
 // The gate questions of the writer's calls, in order: 0, or the number of the first that says no.
 use crate::Writer;
 use crate::counts;
+use level::making;
 use wavelet::limits;
 use wavelet::sizes;
 use wavelet::store;
@@ -24,7 +25,7 @@ fn begins(w: usize, x: usize, v: usize, o: usize) -> bool
     let mut rest = o;
     let mut k = v;
     while 1 < k {
-        let a = 4 * width;
+        let a = counts::stretch(width, column);
         if rest < a {
             return false;
         }
@@ -82,7 +83,7 @@ pub fn in_ranges(s: Writer) -> bool
     if s.width <= s.column {
         return false;
     }
-    if s.levels < s.closed {
+    if making::ahead() * s.levels < s.closed {
         return false;
     }
     if s.levels < s.level {

@@ -11,6 +11,7 @@ use Rattle.reader.specs.Calls.{drawReply, drawStore, drawArea}
 use Rattle.terrain.specs.ReaderCalls.{drawing, stateDrawn, countOf}
 use Rattle.terrain.specs.ReaderState.{isReader, readerOf}
 use Rattle.terrain.proofs.StateLaws.{turned, went}
+use Rattle.terrain.proofs.MovedWords.{drawn-words}
 use Rattle.terrain.proofs.reader_calls.terrain_reader_draw.Statement.{statement}
 use Rattle.terrain.proofs.reader_calls.terrain_reader_draw.Tie as tie
 
@@ -45,8 +46,8 @@ draw-requires c κs = search needs
 enum-known-n : tie.Need-enum-known-n
 enum-known-n c = search needs
 
-pack-reader-requires : tie.Need-pack-reader-requires
-pack-reader-requires c κs = search needs
+pack-moved-requires : tie.Need-pack-moved-requires
+pack-moved-requires c κs = tt
 
 enum-told : tie.Need-enum-told
 enum-told c = search needs
@@ -54,8 +55,8 @@ enum-told c = search needs
 enum-known-next : tie.Need-enum-known-next
 enum-known-next c = search needs
 
-pack-reader-requires-2 : tie.Need-pack-reader-requires-2
-pack-reader-requires-2 c κs = search needs
+pack-reader-requires : tie.Need-pack-reader-requires
+pack-reader-requires c κs = tt
 
 enum-known-no : tie.Need-enum-known-no
 enum-known-no c = search needs
@@ -81,7 +82,8 @@ returns-2 c =
     ∙ ap ofDrawn (c .before .before .before .n .given .1) in (
       sym (ap number e),
       (
-        c .pack-reader .ensures ∙ sym (ap (λ (q : Reply Handed). stateDrawn q (a .state .now)) e),
+        c .pack-moved .ensures .0 ∙ drawn-words (a .state .now) (c .pack-moved .ensures .1) _ _ _ _ _ e
+            ∙ sym (ap (λ (q : Reply Handed). stateDrawn q (a .state .now)) e),
         (
           sym (went (isReader (a .state .now)) (i .is-reader .result) (i .is-reader .ensures)
               (λ (r : Reader). drawStore r (drawQuestion r (length (a .store .now)) (at (a .store .now)) (length (a .out .now))) (at (a .store .now)))
@@ -151,7 +153,7 @@ returns-4 c =
     ∙ ap ofDrawn (c .before .before .before .next .given .1) in (
       sym (ap number e),
       (
-        c .pack-reader2 .ensures ∙ sym (ap (λ (q : Reply Handed). stateDrawn q (a .state .now)) e),
+        c .pack-reader .ensures ∙ sym (ap (λ (q : Reply Handed). stateDrawn q (a .state .now)) e),
         (
           sym (went (isReader (a .state .now)) (i .is-reader .result) (i .is-reader .ensures)
               (λ (r : Reader). drawStore r (drawQuestion r (length (a .store .now)) (at (a .store .now)) (length (a .out .now))) (at (a .store .now)))
@@ -212,10 +214,10 @@ terrain-reader-draw-spec =
     unpack-reader-requires
     draw-requires
     enum-known-n
-    pack-reader-requires
+    pack-moved-requires
     enum-told
     enum-known-next
-    pack-reader-requires-2
+    pack-reader-requires
     enum-known-no
     cast-result
     same-length

@@ -10,6 +10,7 @@ use Rattle.reader.specs.Calls.{feedReply, feedStore}
 use Rattle.terrain.specs.ReaderCalls.{feeding, stateOf}
 use Rattle.terrain.specs.ReaderState.{isReader, readerOf}
 use Rattle.terrain.proofs.StateLaws.{turned, went}
+use Rattle.terrain.proofs.MovedWords.{fed-words}
 use Rattle.terrain.proofs.reader_calls.terrain_reader_feed.Statement.{statement}
 use Rattle.terrain.proofs.reader_calls.terrain_reader_feed.Tie as tie
 
@@ -38,14 +39,14 @@ feed-requires c κs = search needs
 enum-known-next : tie.Need-enum-known-next
 enum-known-next c = search needs
 
-pack-reader-requires : tie.Need-pack-reader-requires
-pack-reader-requires c κs = search needs
+pack-moved-requires : tie.Need-pack-moved-requires
+pack-moved-requires c κs = tt
 
 enum-known-next-2 : tie.Need-enum-known-next-2
 enum-known-next-2 c = search needs
 
-pack-reader-requires-2 : tie.Need-pack-reader-requires-2
-pack-reader-requires-2 c κs = search needs
+pack-reader-requires : tie.Need-pack-reader-requires
+pack-reader-requires c κs = tt
 
 enum-known-no : tie.Need-enum-known-no
 enum-known-no c = search needs
@@ -68,7 +69,8 @@ returns-2 c =
     (o .before .feed .ensures .0) ∙ ap ofFed (c .before .before .before .next .given .1) in (
       sym (ap number e),
       (
-        c .pack-reader .ensures ∙ sym (ap (λ (q : Reply Reader). stateOf q (a .state .now)) e),
+        c .pack-moved .ensures .0 ∙ fed-words (a .state .now) (c .pack-moved .ensures .1) _ _ _ _ _ e
+            ∙ sym (ap (λ (q : Reply Reader). stateOf q (a .state .now)) e),
         sym (went (isReader (a .state .now)) (i .is-reader .result) (i .is-reader .ensures)
             (λ (r : Reader). feedStore r (feedQuestion r (length (a .store .now)) (at (a .store .now)) (length (a .run .now)) (at (a .run .now)))
             (at (a .run .now)) (at (a .store .now))) (readerOf (a .state .now)) (u .unpack-reader .result) (at (a .store .now)) _
@@ -91,7 +93,7 @@ returns-3 c =
     (o .before .feed .ensures .0) ∙ ap ofFed (c .before .before .before .next2 .given .1) in (
       sym (ap number e),
       (
-        c .pack-reader2 .ensures ∙ sym (ap (λ (q : Reply Reader). stateOf q (a .state .now)) e),
+        c .pack-reader .ensures ∙ sym (ap (λ (q : Reply Reader). stateOf q (a .state .now)) e),
         sym (went (isReader (a .state .now)) (i .is-reader .result) (i .is-reader .ensures)
             (λ (r : Reader). feedStore r (feedQuestion r (length (a .store .now)) (at (a .store .now)) (length (a .run .now)) (at (a .run .now)))
             (at (a .run .now)) (at (a .store .now))) (readerOf (a .state .now)) (u .unpack-reader .result) (at (a .store .now)) _
@@ -131,9 +133,9 @@ terrain-reader-feed-spec =
     unpack-reader-requires
     feed-requires
     enum-known-next
-    pack-reader-requires
+    pack-moved-requires
     enum-known-next-2
-    pack-reader-requires-2
+    pack-reader-requires
     enum-known-no
     cast-result
     same-length

@@ -1,0 +1,101 @@
+-- The words that a feed or a draw writes, with those that stand in the array already, are the reader's. Assumes nothing.
+use mathlib.Core.Path.{_≡_, refl, sym, ap, _∙_}
+use mathlib.Core.Bool.{Bool, true, false}
+use mathlib.Core.List.{List}
+use Prim.Native.Nat.{ℕ}
+use native.Mathlib.Omega.{arith}
+use lib.IntN.{ℤ}
+use lib.Dec.{eqb, leb}
+use lib.ListN.{length, getD}
+use borrow.Author.Tests.{eqb-true}
+use Rattle.numbers.specs.Signal.{pick}
+use Rattle.numbers.proofs.Sweep as sweep
+use Rattle.reader.specs.declared.Reader.{Reader}
+use Rattle.reader.specs.Answers.{Reply, gives, refused, impossible, Handed, aRow, nothing}
+use Rattle.reader.specs.State.{drawDue, fedReader, drawnReader, endedReader}
+use Rattle.reader.specs.Questions.{feedQuestion, drawQuestion}
+use Rattle.reader.specs.Calls.{feedReply, drawReply}
+use Rattle.terrain.specs.States.{zeroNext, zeroFrom, isState}
+use Rattle.terrain.specs.ReaderState.{isReader, readerOf, movedWords, readerWords}
+use Rattle.terrain.specs.ReaderCalls.{feeding, drawing}
+use Rattle.terrain.proofs.WordLaws.{spelt}
+
+-- the words of a reader that no feed and no draw changes
+record Fixed (s : List ℕ) : Type 0 where
+  kind : getD s 0 0 ≡ 2
+  eleven : getD s 11 0 ≡ 0
+  twelve : getD s 12 0 ≡ 0
+  thirteen : getD s 13 0 ≡ 0
+  fourteen : getD s 14 0 ≡ 0
+  fifteen : getD s 15 0 ≡ 0
+
+fixed : (s : List ℕ) → isReader s ≡ true → Fixed s
+unfolding isState zeroFrom zeroNext
+fixed s h =
+    let a = sweep.both (eqb (getD s 0 0) 2) _ h in
+    let b = sweep.both (leb (getD s 7 0) 1) _ (a .1) in
+    let c₃ = sweep.both (eqb (getD s 11 0) 0) _ (b .1) in
+    let c₄ = sweep.both (eqb (getD s 12 0) 0) _ (c₃ .1) in
+    let c₅ = sweep.both (eqb (getD s 13 0) 0) _ (c₄ .1) in
+    let c₆ = sweep.both (eqb (getD s 14 0) 0) _ (c₅ .1) in
+    let c₇ = sweep.both (eqb (getD s 15 0) 0) _ (c₆ .1) in
+    record {
+      kind = eqb-true _ _ (a .0);
+      eleven = eqb-true _ _ (c₃ .0);
+      twelve = eqb-true _ _ (c₄ .0);
+      thirteen = eqb-true _ _ (c₅ .0);
+      fourteen = eqb-true _ _ (c₆ .0);
+      fifteen = eqb-true _ _ (c₇ .0);
+    }
+
+-- what a feed and a draw leave as it was in a reader
+record Stays (s t : Reader) : Type 0 where
+  width : t .width ≡ s .width
+  height : t .height ≡ s .height
+  levels : t .levels ≡ s .levels
+  x : t .x ≡ s .x
+  y : t .y ≡ s .y
+
+words-moved : (s : List ℕ) → length s ≡ 16 → isReader s ≡ true → (t : Reader) → Stays (readerOf s) t → movedWords t s ≡ readerWords t
+words-moved s size is t e =
+    let f = fixed s is in
+    ap (movedWords t) (spelt s size) ∙ cc (f .kind, e .width, e .height, e .levels, e .x, e .y, f .eleven, f .twelve, f .thirteen, f .fourteen, f .fifteen)
+
+-- a call on a reader's array that gives something
+gave : {A : Type 0} (b : Bool) (r : Reply A) (a : A) → pick b r (refused 1) ≡ gives a → (b ≡ true) × (r ≡ gives a)
+gave true r a e = (refl, e)
+gave false r a e = let z : _≡_ {A = ℕ} 0 1 = cc in absurd (omega arith)
+
+-- what it gives is what no question turned away
+given : {A : Type 0} (b c : Bool) (a t : A) (r : Reader) (q : ℕ) → pick b (gives a) (pick c (impossible r) (refused q)) ≡ gives t → a ≡ t
+given true c a t r q e = cc
+given false true a t r q e = let z : _≡_ {A = ℕ} 0 1 = cc in absurd (omega arith)
+given false false a t r q e = let z : _≡_ {A = ℕ} 0 1 = cc in absurd (omega arith)
+
+feed-stays : (s t : Reader) (q : ℕ) → feedReply s q ≡ gives t → Stays s t
+unfolding feedReply fedReader
+feed-stays s t q e =
+    let g : fedReader s ≡ t = given (eqb q 0) (eqb q 14) (fedReader s) t (endedReader s) q e in
+    rw (← g) (record { width = refl; height = refl; levels = refl; x = refl; y = refl })
+
+row-is : (b : Bool) (n m : ℕ) (r t : Reader) → pick b (aRow n r) nothing ≡ aRow m t → r ≡ t
+row-is true n m r t e = cc
+row-is false n m r t e = let z : _≡_ {A = ℕ} 0 1 = cc in absurd (omega arith)
+
+draw-stays : (s t : Reader) (n q : ℕ) → drawReply s q ≡ gives (aRow n t) → Stays s t
+unfolding drawReply drawnReader
+draw-stays s t n q e =
+    let g = given (eqb q 0) (eqb q 14) (pick (drawDue s) (aRow (s .width) (drawnReader s)) nothing) (aRow n t) (endedReader s) q e in
+    let h : drawnReader s ≡ t = row-is (drawDue s) (s .width) n (drawnReader s) t g in
+    rw (← h) (record { width = refl; height = refl; levels = refl; x = refl; y = refl })
+
+module _ (s : List ℕ) (size : length s ≡ 16) (n : ℕ) (x : ℕ → ℤ) where
+  pub fed-words : (m : ℕ) (v : ℕ → ℤ) (t : Reader) → feeding s n x m v ≡ gives t → movedWords t s ≡ readerWords t
+  fed-words m v t e =
+      let g = gave (isReader s) _ t e in
+      words-moved s size (g .0) t (feed-stays (readerOf s) t (feedQuestion (readerOf s) n x m v) (g .1))
+
+  pub drawn-words : (m k : ℕ) (t : Reader) → drawing s n x m ≡ gives (aRow k t) → movedWords t s ≡ readerWords t
+  drawn-words m k t e =
+      let g = gave (isReader s) _ (aRow k t) e in
+      words-moved s size (g .0) t (draw-stays (readerOf s) t k (drawQuestion (readerOf s) n x m) (g .1))
