@@ -18,7 +18,10 @@ use Rattle.level.specs.Rebuilding.{widest, workAnswer, Kept, workable, workLeft
 use Rattle.nine_seven_rebuilding.specs.Slots as slots97
 use Rattle.nine_seven_rebuilding.specs.Work as work97
 use Rattle.nine_seven_rebuilding.specs.Rebuilding as rebuilding97
-use Rattle.filters.specs.Back.{backOf, rowPlaceOf, workableOf, workLeftOf}
+use Rattle.level.proofs.ReaderLaws.{ReaderLawsBy}
+use Rattle.level.proofs.FiveThreeBackLaws.{five-three-back-laws}
+use Rattle.nine_seven_rebuilding.proofs.NineSevenBackLaws.{nine-seven-back-laws}
+use Rattle.filters.specs.Back.{backOf, standsOf, rowPlaceOf, workableOf, workLeftOf}
 
 -- its look-ahead and its stretch are the filter's
 pub back-ahead : (f : ℕ) → backOf f .ahead ≡ filterOf f .ahead
@@ -30,6 +33,12 @@ pub back-stretch : (f : ℕ) (W : Side) → backOf f .stretch W ≡ filterOf f .
 unfolding backOf filterOf
 back-stretch zero W = refl
 back-stretch (suc f) W = refl
+
+-- and it meets what is asked of a level on the way back
+pub back-laws : (f : ℕ) → ReaderLawsBy (filterOf f) (backOf f) (standsOf f)
+unfolding backOf standsOf filterOf
+back-laws zero = five-three-back-laws
+back-laws (suc f) = nine-seven-back-laws
 
 -- ---- the numbers of a filter
 module _ (f : ℕ) where

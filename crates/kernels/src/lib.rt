@@ -2,6 +2,7 @@
 // and the line calls with a start. Each has `lifting`'s own promise. The library that a program links is `terrain`, not this.
 mod ccsds;
 mod ccsds_back;
+mod ccsds_columns;
 mod ccsds_level;
 
 use lifting::halves;

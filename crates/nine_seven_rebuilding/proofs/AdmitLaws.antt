@@ -40,7 +40,8 @@ pub levels-small : maxLevels < 2 ^ 32
 unfolding maxLevels
 levels-small = omega arith
 
-pub same-range : (k : ℕ) → k ≤ maxLevels → (pos (range nineSevenFilter (min k maxLevels)) ≡ pos (range nineSevenFilter k)) × (lowestOf (min k maxLevels) ≡ lowestOf k)
+pub same-range : (k : ℕ) → k ≤ maxLevels →
+    (pos (range nineSevenFilter (min k maxLevels)) ≡ pos (range nineSevenFilter k)) × (lowestOf (min k maxLevels) ≡ lowestOf k)
 same-range k h = let e : min k maxLevels ≡ k = omega arith in (ap (λ (i : ℕ). pos (range nineSevenFilter i)) e, ap lowestOf e)
 
 -- the lesser of a level and the last is 0 for level 0 alone

@@ -12,7 +12,7 @@ use Rattle.wavelet.specs.Bands.{Grid, Band, bandOf, rowsHave, rowsUnlifted, col
 use Rattle.wavelet.specs.Order.{firstSet, lastSet}
 use Rattle.wavelet.specs.Steps.{setOf}
 use Rattle.nine_seven.specs.NineSevenFilter.{nineSevenFilter}
-use Rattle.nine_seven_rebuilding.specs.Stands.{SetHas}
+use Rattle.level.specs.Stands.{SetHasBy}
 use Rattle.nine_seven_rebuilding.proofs.RowSets.{set-there}
 
 -- the sets of the low rows and of the high rows
@@ -24,7 +24,7 @@ high-set : (H : Side) (r : ℕ) → r < count hi H → r ≤ lastSet H
 unfolding count lastSet
 high-set H r b = omega arith
 
-pub sets-have : (W H : Side) (p : Band → Grid) → ((n : ℕ) → n ≤ lastSet H → SetHas W H p n) → levelHas nineSevenFilter W H p ≡ true
+pub sets-have : (W H : Side) (p : Band → Grid) → ((n : ℕ) → n ≤ lastSet H → SetHasBy nineSevenFilter 2 W H p n) → levelHas nineSevenFilter W H p ≡ true
 unfolding levelHas rowsHave columnsHave
 sets-have W H p s = rw (each-every (count lo H) _ low, each-every (count hi H) _ high, each-every (W .length) _ (λ c b. column c b (loneHigh H) refl)) refl
   where

@@ -1,4 +1,4 @@
--- The 9/7 level meets what is asked of a level on the way back (ReaderLaws of `level`), at its own levels' way back and ranges. Assumes nothing.
+-- The 9/7 level meets what is asked of a level on the way back: `nine-seven-back-laws`. Assumes nothing.
 use mathlib.Core.Path.{_≡_, refl, sym, ap, ap₂, subst, _∙_}
 use mathlib.Core.Bool.{Bool, true, false}
 use Prim.Native.Nat.{ℕ, suc, _+_, _-_, _*_, _≤_, _<_}
@@ -19,18 +19,19 @@ use Rattle.wavelet.specs.Order.{firstSet, lastSet, setRow, setHas}
 use Rattle.level.specs.Slots.{local, rowOfSet, halfPlace}
 use Rattle.level.specs.Work.{endOf, hasLow}
 use Rattle.level.proofs.RowsIn.{half-inside, joined-reads}
-use Rattle.level.proofs.SetMade.{Outcome}
+use Rattle.level.proofs.SetMade.{Outcome, FitAllBy}
+use Rattle.level.proofs.ReaderLaws.{ReaderLawsBy}
 use Rattle.wavelet.specs.Maps.{valueFits}
 use Rattle.wavelet.specs.Steps.{setOf}
 use Rattle.nine_seven.specs.NineSevenFilter.{nineSevenFilter}
 use Rattle.nine_seven_rebuilding.specs.Slots.{slot, rowPlace, bandFed, lowRowTaken}
 use Rattle.nine_seven_rebuilding.specs.Work.{lowTaken, setWorked, setMade}
-use Rattle.nine_seven_rebuilding.specs.Stands.{SetHas, SetLeaves, SetBefore, BandStands}
-use Rattle.nine_seven_rebuilding.specs.NineSevenBack.{rowMade}
+use Rattle.nine_seven_rebuilding.specs.Stands.{SetLeaves, SetBefore, BandStands, nineSevenStands}
+use Rattle.nine_seven_rebuilding.specs.NineSevenBack.{rowMade, nineSevenBack}
 use Rattle.nine_seven_rebuilding.proofs.RebuildingLaws.{set-row}
 use Rattle.nine_seven_rebuilding.proofs.RowsIn.{apart, row-end, Is, Only, is-old, only-fed, fed-here, fed-beside, only-taken, taken-is, taken-beside}
 use Rattle.nine_seven_rebuilding.proofs.RowsIn.{row-halves, half-reads}
-use Rattle.nine_seven_rebuilding.proofs.SetMade.{FitAll, Needs, set-made}
+use Rattle.nine_seven_rebuilding.proofs.SetMade.{Needs, set-made}
 
 -- ---- two memories that agree in a level's eight rows
 abbrev SameMem : Side → (ℕ → ℤ) → (ℕ → ℤ) → Type 0
@@ -92,13 +93,13 @@ module _ (W H : Side) (p : Band → Grid) (n : ℕ) where
   Got x c = BandStands W H p n x c
 
   -- ---- memories that agree hold the same
-  pub before-same : (m : ℕ) (x y : ℕ → ℤ) → SameMem W x y → SetBefore W H p m x → SetBefore W H p m y
+  before-same : (m : ℕ) (x y : ℕ → ℤ) → SameMem W x y → SetBefore W H p m x → SetBefore W H p m y
   before-same m x y e s = record {
     even = λ i a b c. is-same W x y (2 * i) _ e (s .even i a b c);
     high = λ i a b. is-same W x y (2 * i + 1) _ e (s .high i a b);
   }
 
-  pub leaves-same : (k : ℕ) (x y : ℕ → ℤ) → SameMem W x y → SetLeaves k W H p n x → SetLeaves k W H p n y
+  leaves-same : (k : ℕ) (x y : ℕ → ℤ) → SameMem W x y → SetLeaves k W H p n x → SetLeaves k W H p n y
   leaves-same k x y e s = record {
     made = λ r b q. is-same W x y (local (H .start) r) _ e (s .made r b q);
     fit = s .fit;
@@ -106,19 +107,19 @@ module _ (W H : Side) (p : Band → Grid) (n : ℕ) where
     has = s .has;
   }
 
-  pub got-same : (c : Band) (x y : ℕ → ℤ) → SameMem W x y → Got x c → Got y c
+  got-same : (c : Band) (x y : ℕ → ℤ) → SameMem W x y → Got x c → Got y c
   got-same c x y e s t i q =
       e (rowPlace (W .length) (rowOfSet (down c) n) + (halfPlace (across c) W + i))
       (omega (arith, half-inside (across c) W i q, row-end (W .length) (rowOfSet (down c) n))) ∙ s t i q
 
   -- ---- a row of the set changed, and a band row fed
-  pub before-only : (a : Half) (x y : ℕ → ℤ) → Only (W .length) (rowOfSet a n) x y → Before x → Before y
+  before-only : (a : Half) (x y : ℕ → ℤ) → Only (W .length) (rowOfSet a n) x y → Before x → Before y
   before-only a x y o s = record {
     even = λ m u v c. is-old W (rowOfSet a n) x y (2 * m) _ o (set-old a n (2 * m) (omega arith) (omega arith)) (s .even m u v c);
     high = λ m u v. is-old W (rowOfSet a n) x y (2 * m + 1) _ o (set-old a n (2 * m + 1) (omega arith) (omega arith)) (s .high m u v);
   }
 
-  pub got-old : (c e : Band) (v x : ℕ → ℤ) → (c ≡ e → ⊥) → Got x e → Got (bandFed W c n v x) e
+  got-old : (c e : Band) (v x : ℕ → ℤ) → (c ≡ e → ⊥) → Got x e → Got (bandFed W c n v x) e
   got-old c e v x d s t i q = elim (Half-discrete (down c) (down e)) [
     | yes z ↦ ap (λ (a : Half). bandFed W c n v x (rowPlace (W .length) (rowOfSet a n) + (halfPlace (across e) W + i))) (sym z)
         ∙ fed-beside W c n v x (across e) (λ y. d (sym (band-of c) ∙ ap₂ bandOf y z ∙ band-of e)) i q
@@ -128,7 +129,7 @@ module _ (W H : Side) (p : Band → Grid) (n : ℕ) where
         ∙ s t i q
   ]
 
-  pub got-new : (c : Band) (v x : ℕ → ℤ) → ((i : ℕ) → i < count (across c) W → v i ≡ p c (setRow H c n) i) → Got (bandFed W c n v x) c
+  got-new : (c : Band) (v x : ℕ → ℤ) → ((i : ℕ) → i < count (across c) W → v i ≡ p c (setRow H c n) i) → Got (bandFed W c n v x) c
   got-new c v x e t i q = fed-here W c n v x (across c) refl i q ∙ e i q
 
   -- ---- a set worked out
@@ -160,7 +161,7 @@ module _ (W H : Side) (p : Band → Grid) (n : ℕ) where
     Done y = SetLeaves k W H p n y × ((j : ℕ) → 8 * W .length ≤ j → y j ≡ x j)
 
     -- at the last level all bands are fed
-    pub last-done : ((c : Band) → Got x c) → Outcome (FitAll k W H p) Done (setWorked true k W H n x)
+    last-done : ((c : Band) → Got x c) → Outcome (FitAllBy nineSevenFilter k W H p) Done (setWorked true k W H n x)
     unfolding setWorked lowTaken
     last-done got = set-made k W H p x n x some (set-row′ H n some there) (λ j _. refl) (needs-of x before got)
 
@@ -202,27 +203,36 @@ module _ (W H : Side) (p : Band → Grid) (n : ℕ) where
         unfolding rowOfSet
         before-taken = before-only lo x taken (only-taken W H n x) before
 
-        taken-done : Outcome (FitAll k W H p) Done (setMade k W H n taken)
+        taken-done : Outcome (FitAllBy nineSevenFilter k W H p) Done (setMade k W H n taken)
         taken-done = set-made k W H p x n taken some (set-row′ H n some there) (only-taken W H n x .past) (needs-of taken before-taken got-taken)
 
-      pub on-done : (firstSet H lo ≤ n → (i : ℕ) → i < count lo W →
+      on-done : (firstSet H lo ≤ n → (i : ℕ) → i < count lo W →
           rowMade (next W) (next H .start) (n - firstSet H lo) (λ j. x (8 * W .length + j)) i ≡ p LL (n - firstSet H lo) i) →
-          Outcome (FitAll k W H p) Done (setWorked false k W H n x)
+          Outcome (FitAllBy nineSevenFilter k W H p) Done (setWorked false k W H n x)
       unfolding setWorked lowTaken hasLow
       on-done low = go (decLt n (firstSet H lo))
         where
-          go : Dec (n < firstSet H lo) → Outcome (FitAll k W H p) Done (setMade k W H n (pick (leb (firstSet H lo) n) taken x))
+          go : Dec (n < firstSet H lo) → Outcome (FitAllBy nineSevenFilter k W H p) Done (setMade k W H n (pick (leb (firstSet H lo) n) taken x))
           go (yes b) = rw (lt-leb (firstSet H lo) n b) (set-made k W H p x n x some (set-row′ H n some there) (λ j _. refl) (needs-of x before (no-low b)))
           go (no b) = rw (le-leb (firstSet H lo) n (omega arith)) (taken-done (low (omega arith)))
 
--- ---- the rows that a set makes
-pub made-is : (k : ℕ) (W H : Side) (p : Band → Grid) (n : ℕ) (x : ℕ → ℤ) → SetLeaves k W H p n x → (r : ℕ) → r < H .length → setOf 2 H r ≡ n → (c : ℕ) →
-    c < W .length → rowMade W (H .start) r x c ≡ levelBack nineSevenFilter wrap32 W H p r c
-made-is k W H p n x s r b q c t = joined-reads W _ (levelBack nineSevenFilter wrap32 W H p r) (row-halves W x (local (H .start) r) _ (s .made r b q)) c t
-
--- ---- a band without a row has none to be there, and the first set needs nothing
-pub got-none : (W H : Side) (p : Band → Grid) (n : ℕ) (c : Band) (x : ℕ → ℤ) → setHas W H c n ≡ false → BandStands W H p n x c
-got-none W H p n c x none t i q = absurd (no-true (setHas W H c n) none t)
-
-pub before-first : (W H : Side) (p : Band → Grid) (x : ℕ → ℤ) → SetBefore W H p 0 x
-before-first W H p x = record { even = λ m a b c. absurd (omega arith); high = λ m a b. absurd (omega arith) }
+pub nine-seven-back-laws : ReaderLawsBy nineSevenFilter nineSevenBack nineSevenStands
+nine-seven-back-laws = record {
+  leaves-reads = λ k W H p n x y e s. leaves-same W H p n k x y e s;
+  before-reads = λ W H p n x y e s. before-same W H p n n x y e s;
+  got-reads = λ W H p n c x y e s. got-same W H p n c x y e s;
+  feed-past = λ W s c n v x j b. only-fed W c n v x .past j b;
+  feed-before = λ W H p n c v x s. before-only W H p n (down c) x (bandFed W c n v x) (only-fed W c n v x) s;
+  feed-old = λ W H p n c e v x d s. got-old W H p n c e v x d s;
+  feed-new = λ W H p n c v x e. got-new W H p n c v x e;
+  got-none = λ W H p n c x none t i q. absurd (no-true (setHas W H c n) none t);
+  looks = omega arith;
+  before-first = λ W H p x. record { even = λ m a b c. absurd (omega arith); high = λ m a b. absurd (omega arith) };
+  before-next = λ k W H p n x l s. s .more l;
+  work-last = λ k W H p n x some there before got. last-done W H p n k x some there before got;
+  work-on = λ k W H p n x some there before got low. on-done W H p n k x some there before got low;
+  made-is = λ k W H p n x s r b q c t.
+      joined-reads W _ (levelBack nineSevenFilter wrap32 W H p r) (row-halves W x (local (H .start) r) _ (s .made r b q)) c t;
+  made-fits = λ k W H p n x s r b q c t. s .fit r b q c t;
+  made-has = λ k W H p n x s. s .has;
+}

@@ -28,8 +28,9 @@ use Rattle.wavelet.specs.Order.{firstSet, lastSet}
 use Rattle.level.specs.Tried.{Tried, failed, passed, bind}
 use Rattle.level.specs.Slots.{local, halfPlace}
 use Rattle.level.specs.Work.{endOf, hasLow}
+use Rattle.level.specs.Stands.{SetHasBy}
 use Rattle.level.proofs.RowsIn.{half-inside, by-halves}
-use Rattle.level.proofs.SetMade.{Outcome, stops, goes, bind-outcome}
+use Rattle.level.proofs.SetMade.{Outcome, FitAllBy, stops, goes, bind-outcome}
 use Rattle.wavelet.specs.Maps.{valueFits}
 use Rattle.wavelet.specs.Steps.{setOf}
 use Rattle.nine_seven.specs.NineSevenFilter.{nineSevenFilter}
@@ -37,7 +38,7 @@ use Rattle.nine_seven_rebuilding.specs.Slots.{rowPlace, rowUnlifted, row
 use Rattle.nine_seven_rebuilding.specs.Work.{rowBefore, rowAfter, lineTried, lowTried, highTried, setUnlifted, evenRow, oddRow, evenDone, rowFits}
 use Rattle.nine_seven_rebuilding.specs.Work.{admitted, pairMade, firstMade, earlierPair, earlierMade, ownMade, loneMade, lastMade, restMade}
 use Rattle.nine_seven_rebuilding.specs.Work.{rowsMade, setMade}
-use Rattle.nine_seven_rebuilding.specs.Stands.{SetHas, SetBefore, SetLeaves}
+use Rattle.nine_seven_rebuilding.specs.Stands.{SetBefore, SetLeaves}
 use Rattle.nine_seven_rebuilding.proofs.WorkLaws.{others}
 use Rattle.nine_seven_rebuilding.proofs.RowSets.{low-before, low-after, high-before, high-after, high-far-before, high-far-after}
 use Rattle.nine_seven_rebuilding.proofs.RowSets.{before-in, after-in, evens-in, set-low, set-high, set-first}
@@ -47,10 +48,11 @@ use Rattle.nine_seven_rebuilding.proofs.RowsIn.{only-halved, halved-is}
 not-false : (t : Bool) → t ≡ true → t ≡ false → ⊥
 not-false t e f = subst T (sym e ∙ f) tt
 
--- every value of the way back fits as a low-low value of level k, and none that is halved is odd
-pub record FitAll (k : ℕ) (W H : Side) (p : Band → Grid) : Type 0 where
-  pub has : levelHas nineSevenFilter W H p ≡ true
-  pub fit : (r c : ℕ) → r < H .length → c < W .length → valueFits nineSevenFilter k (levelBack nineSevenFilter wrap32 W H p r c) ≡ true
+abbrev FitAll : ℕ → Side → Side → (Band → Grid) → Type 0
+FitAll = FitAllBy nineSevenFilter
+
+abbrev SetHas : Side → Side → (Band → Grid) → ℕ → Type 0
+SetHas = SetHasBy nineSevenFilter 2
 
 has-row : (W H : Side) (p : Band → Grid) → levelHas nineSevenFilter W H p ≡ true → (h : Half) (r : ℕ) → r < count h H → hasLine W (λ a. p (bandOf a h) r) ≡ true
 unfolding levelHas rowsHave

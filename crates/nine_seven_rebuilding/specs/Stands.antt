@@ -6,11 +6,11 @@ use Prim.Native.Nat.{ℕ, suc, _+_, _-_, _*_, _≤_, _<_}
 use lib.IntN.{ℤ}
 use Rattle.numbers.specs.Word.{wrap32}
 use Rattle.lifting.specs.Line.{Half, lo, hi}
-use Rattle.lifting.specs.Grid.{Side, count, parted, hasLine}
-use Rattle.wavelet.specs.Bands.{Grid, Band, across, down, bandOf, rowsUnlifted, levelBack}
+use Rattle.lifting.specs.Grid.{Side, count, parted}
+use Rattle.wavelet.specs.Bands.{Grid, Band, across, down, rowsUnlifted, levelBack}
 use Rattle.wavelet.specs.Order.{firstSet, lastSet, setRow, setHas}
 use Rattle.level.specs.Slots.{local, rowOfSet, halfPlace}
-use Rattle.level.specs.Stands.{BackMeaning}
+use Rattle.level.specs.Stands.{SetHasBy, BackMeaning}
 use Rattle.wavelet.specs.Maps.{valueFits}
 use Rattle.wavelet.specs.Steps.{setOf}
 use Rattle.nine_seven.specs.NineSevenFilter.{nineSevenFilter}
@@ -19,12 +19,6 @@ use Rattle.nine_seven_rebuilding.specs.Slots.{rowPlace}
 -- in the slot of the row at q stands a row by its halves: two band rows, or the even and the odd coordinates of a line
 abbrev pub RowStands : Side → (ℕ → ℤ) → ℕ → (Half → ℕ → ℤ) → Type 0
 RowStands W x q c = (h : Half) (i : ℕ) → i < count h W → x (rowPlace (W .length) q + (halfPlace h W + i)) ≡ c h i
-
--- no number that set n halves is odd: its band rows are lines', and so are the columns of the rows that it makes
-pub record SetHas (W H : Side) (p : Band → Grid) (n : ℕ) : Type 0 where
-  pub low : firstSet H lo ≤ n → hasLine W (λ a. p (bandOf a lo) (n - firstSet H lo)) ≡ true
-  pub high : n < count hi H → hasLine W (λ a. p (bandOf a hi) n) ≡ true
-  pub columns : (r : ℕ) → r < H .length → setOf 2 H r ≡ n → (c : ℕ) → c < W .length → hasLine H (λ h i. rowsUnlifted nineSevenFilter wrap32 W p h i c) ≡ true
 
 -- what set n needs of the sets before it: the even rows of the last three, rebuilt, and the high rows of the columns of the last two
 pub record SetBefore (W H : Side) (p : Band → Grid) (n : ℕ) (x : ℕ → ℤ) : Type 0 where
@@ -37,7 +31,7 @@ pub record SetLeaves (k : ℕ) (W H : Side) (p : Band → Grid) (n : ℕ) (x : �
   pub fit : (r : ℕ) → r < H .length → setOf 2 H r ≡ n → (c : ℕ) → c < W .length →
       valueFits nineSevenFilter k (levelBack nineSevenFilter wrap32 W H p r c) ≡ true
   pub more : suc n ≤ lastSet H → SetBefore W H p (suc n) x
-  pub has : SetHas W H p n
+  pub has : SetHasBy nineSevenFilter 2 W H p n
 
 -- the row of band c of set n, if there is one
 abbrev pub BandStands : Side → Side → (Band → Grid) → ℕ → (ℕ → ℤ) → Band → Type 0

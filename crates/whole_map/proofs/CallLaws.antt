@@ -15,7 +15,9 @@ use Rattle.numbers.specs.Signal.{pick, both}
 use Rattle.numbers.specs.Word.{wrap32, whole}
 use Rattle.lifting.specs.Halves.{fronted}
 use Rattle.lifting.specs.Grid.{Side}
+use Rattle.lifting.specs.Filter.{Filter}
 use Rattle.lifting.specs.FiveThree.{fiveThreeFilter}
+use Rattle.lifting.proofs.FilterLaws.{FilterLaws}
 use Rattle.lifting.proofs.FiveThreeFilter.{five-three-laws}
 use Rattle.wavelet.specs.Limits.{maxWidth, maxHeight, maxLevels, maxSample, range}
 use Rattle.wavelet.specs.Questions.{ask, within, sizeQuestion, Sized}
@@ -23,7 +25,7 @@ use Rattle.wavelet.specs.Bands.{Grid, levelHas}
 use Rattle.wavelet.specs.Plane.{cells, flat, planeCell, planeOf, planeBands, mapBack}
 use Rattle.wavelet.specs.Maps.{IsMap, everyCell, valueFits, inRange, rebuiltFits}
 use Rattle.wavelet.proofs.GridLaws.{cells-flat, row-below}
-use Rattle.wavelet.proofs.LimitLaws.{stride-small, five-three-few}
+use Rattle.wavelet.proofs.LimitLaws.{stride-small}
 use Rattle.wavelet.proofs.QuestionLaws.{sized, size-no, size-yes}
 use Rattle.wavelet.proofs.MapTheorems.{cells-same}
 use Rattle.wavelet.specs.Levels.{next}
@@ -232,7 +234,7 @@ heights-map W H l f = record { heights = λ r c _ _. height (getD l (r * W + c) 
     height n b = (record { le = le→leb 0 n (omega arith) }, record { le = le→leb n maxSample (omega arith) })
 
 -- z₁ is the plane loaded with the heights l, z₂ the plane after the levels
-module _ (W H : Side) (L : ℕ) (l : List ℕ) (z₀ z₁ : ℕ → ℤ) (s : Sized (W .length) (H .length) L)
+module _ (F : Filter) (laws : FilterLaws F) (W H : Side) (L : ℕ) (l : List ℕ) (z₀ z₁ : ℕ → ℤ) (s : Sized (W .length) (H .length) L)
     (e : z₁ ≡ flat (W .length) (gridHalved W H (cells (W .length) (heightsAt l)) (cells (W .length) z₀))) where
   abbrev w : ℕ
   w = W .length
@@ -241,30 +243,30 @@ module _ (W H : Side) (L : ℕ) (l : List ℕ) (z₀ z₁ : ℕ → ℤ) (s : Si
   heights = cells w (heightsAt l)
 
   -- what stood past the map still does
-  over : (g : Grid) → flat w (planeWritten L W H g (cells w z₁)) ≡ flat w (planeWritten L W H g (cells w z₀))
+  over : (g : Grid) → flat w (planeWritten F L W H g (cells w z₁)) ≡ flat w (planeWritten F L W H g (cells w z₀))
   over g =
       flat-same w _ _ (s .width .0)
       (λ r c cw.
       by-within w (H .length) r c
-      (λ rh cv. written-in L W H g (cells w z₁) r c rh cv ∙ sym (written-in L W H g (cells w z₀) r c rh cv))
+      (λ rh cv. written-in F L W H g (cells w z₁) r c rh cv ∙ sym (written-in F L W H g (cells w z₀) r c rh cv))
       (λ o.
-      written-out L W H g (cells w z₁) r c o
+      written-out F L W H g (cells w z₁) r c o
       ∙ ap (λ (z : ℕ → ℤ). cells w z r c) e
       ∙ cells-flat w _ r c cw
       ∙ halved-out W H heights (cells w z₀) r c o
-      ∙ sym (written-out L W H g (cells w z₀) r c o)))
+      ∙ sym (written-out F L W H g (cells w z₀) r c o)))
 
-  pub plane-made : (z₂ : ℕ → ℤ) → ((i : ℕ) → getD l i 0 < 65536) → z₂ ≡ flat w (planeWritten L W H (cornerGrid W H (cells w z₁)) (cells w z₁)) →
-      z₂ ≡ fronted (w * H .length) (planeOf fiveThreeFilter whole L W H heights) z₀
+  pub plane-made : L ≤ F .levels → (z₂ : ℕ → ℤ) → ((i : ℕ) → getD l i 0 < 65536) → z₂ ≡ flat w (planeWritten F L W H (cornerGrid W H (cells w z₁)) (cells w z₁)) →
+      z₂ ≡ fronted (w * H .length) (planeOf F whole L W H heights) z₀
   unfolding planeOf
-  plane-made z₂ fits f =
+  plane-made few z₂ fits f =
       let g = cornerGrid W H (cells w z₁) in
-      f ∙ over g ∙ map-places w (H .length) _ (planeCell fiveThreeFilter whole L W H heights) z₀ (s .width .0) (s .height .0)
+      f ∙ over g ∙ map-places w (H .length) _ (planeCell F whole L W H heights) z₀ (s .width .0) (s .height .0)
       (λ r c rh cw.
-      written-in L W H g (cells w z₀) r c rh cw
-      ∙ plane-reads fiveThreeFilter five-three-laws wrap32 L W H g heights (halved-grid w W H heights (cells w z₀) z₁ (omega arith) e) r c rh cw
-      ∙ map-plane fiveThreeFilter five-three-laws W H heights (heights-map w (H .length) l fits) L (five-three-few (s .levels .1)) r c rh cw)
-      (λ r c o. written-out L W H g (cells w z₀) r c o)
+      written-in F L W H g (cells w z₀) r c rh cw
+      ∙ plane-reads F laws wrap32 L W H g heights (halved-grid w W H heights (cells w z₀) z₁ (omega arith) e) r c rh cw
+      ∙ map-plane F laws W H heights (heights-map w (H .length) l fits) L few r c rh cw)
+      (λ r c o. written-out F L W H g (cells w z₀) r c o)
 
 -- ---- backward
 pub region-one : (L : ℕ) (W H : Side) (x : Grid) → regionInRange 1 L W H x ≡ inRange fiveThreeFilter L W H x

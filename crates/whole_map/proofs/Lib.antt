@@ -15,3 +15,5 @@ pub mod LevelSteps
 pub mod ForwardSteps
 pub mod CallLaws
 pub mod Demand2
+pub mod ByFilterLaws
+pub mod QuestionBy

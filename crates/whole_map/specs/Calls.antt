@@ -10,6 +10,7 @@ use Rattle.wavelet.specs.Limits.{maxWidth, maxHeight, maxLevels}
 use Rattle.wavelet.specs.Questions.{ask, within}
 use Rattle.wavelet.specs.Bands.{Grid}
 use Rattle.wavelet.specs.Maps.{inRange, rebuiltFits}
+use Rattle.whole_map.specs.ByFilter.{filterOf}
 
 -- questions 2, 3, 4 and 5, of areas of a, b and c numbers, and then `rest`; where the map starts is not asked
 unfoldable pub sizeQuestions : ℕ → ℕ → ℕ → ℕ → ℕ → ℕ → ℕ → ℕ
@@ -19,6 +20,16 @@ sizeQuestions W H L a b c rest =
     (ask (within 1 maxLevels L) 4
     (ask (both (leb (W * H) a) (both (leb (W * H) b) (leb (W * H) c))) 5
     rest)))
+
+-- the same for the filter f, with 18, "before 4, if the filter is unknown", and as many levels as it has: document 02, Q-8
+unfoldable pub sizeQuestionsBy : ℕ → ℕ → ℕ → ℕ → ℕ → ℕ → ℕ → ℕ
+sizeQuestionsBy f W H L a b c =
+    ask (within 1 maxWidth W) 2
+    (ask (within 1 maxHeight H) 3
+    (ask (leb f 1) 18
+    (ask (within 1 (filterOf f .levels) L) 4
+    (ask (both (leb (W * H) a) (both (leb (W * H) b) (leb (W * H) c))) 5
+    0))))
 
 unfoldable pub forwardQuestion : Side → Side → ℕ → ℕ → ℕ → ℕ → ℕ
 forwardQuestion W H L heights plane work = sizeQuestions (W .length) (H .length) L heights plane work 0

@@ -12,6 +12,7 @@ use Rattle.lifting.specs.Halves.{fronted}
 use Rattle.lifting.specs.Grid.{Side, joined, loneHigh, isEven}
 use Rattle.lifting.specs.GridHalves.{halvesOf, liftedInPlace, unliftedInPlace}
 use Rattle.lifting.specs.Rows.{rowsChanged}
+use Rattle.lifting.specs.Filter.{Filter}
 use Rattle.lifting.specs.FiveThree.{fiveThreeFilter}
 use Rattle.wavelet.specs.Limits.{maxWidth, range}
 use Rattle.wavelet.specs.Bands.{Grid, levelHas}
@@ -74,8 +75,8 @@ firstBack n from W H s z x =
     (rowsChanged (unupdated wrap32) n s (W .length) 0 1 1 (rowBack from W H s z (rowBack from W H s z x 0) 1))
 
 -- the plane z with the plane of the grid g, at L levels, in its corner
-unfoldable pub planeWritten : ℕ → Side → Side → Grid → Grid → Grid
-planeWritten L W H g z r c = pick (within (W .length) (H .length) r c) (planeCell fiveThreeFilter wrap32 L W H g r c) (z r c)
+unfoldable pub planeWritten : Filter → ℕ → Side → Side → Grid → Grid → Grid
+planeWritten F L W H g z r c = pick (within (W .length) (H .length) r c) (planeCell F wrap32 L W H g r c) (z r c)
 
 -- the rows X are those of the grid that the plane's corner x gives back at L levels
 pub record Rebuilt (L : ℕ) (W H : Side) (x X : Grid) : Type 0 where

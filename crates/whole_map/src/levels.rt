@@ -25,6 +25,7 @@ ghost use Rattle.wavelet.specs.Plane.{cells, flat};
 ghost use Rattle.wavelet.specs.Questions.{Sized};
 ghost use Rattle.whole_map.specs.Rowwise.{partedInPlace, wovenInPlace, halvedInPlace};
 ghost use Rattle.whole_map.specs.Passes.{Rows, KeptFrom, isLow, planeRow, levelRow, rowsMapped, rowsFetched, gridHalved, gridCopied};
+ghost use Rattle.whole_map.specs.ByFilter.{filterOf};
 ghost use Rattle.whole_map.specs.LevelPasses.{cornerGrid, levelUnlifted, rowBack, firstBack, planeWritten, goesOn, rowsEven, rowsBetween};
 ghost use Rattle.whole_map.specs.LevelPasses.{regionInRange, Doubling, LevelMade, LevelsBack};
 
@@ -203,15 +204,16 @@ pub fn forward_levels(
     y: usize,
     height: usize,
     levels: usize,
+    filter: usize,
 )
     requires { ⌜ Rows (length (now plane)) across width height × Rows (length (now work)) width width height × (0 < levels) ⌝ }
     ensures { λ _. ⌜ at (now (plane .exit)) ≡
-        flat across (planeWritten levels (side x width) (side y height)
+        flat across (planeWritten (filterOf filter) levels (side x width) (side y height)
         (cornerGrid (side x width) (side y height) (cells across (at (now (plane .entry)))))
         (cells across (at (now (plane .entry))))) ⌝ }
     ensures { λ _. ⌜ KeptFrom ((height - 1) * width + width) (at (now (work .entry))) (at (now (work .exit))) ⌝ }
 {
-    passes::lift_level(plane, across, x, width, y, height);
+    passes::lift_by(plane, across, x, width, y, height, filter);
     let w = sizes::low_count(x, width);
     let h = sizes::low_count(y, height);
     if !goes_on(levels, w, h) {
@@ -221,7 +223,7 @@ pub fn forward_levels(
     let v = sizes::next_start(y);
     save(plane, work, across, w, h);
     spread(work, plane, across, u, w, v, h);
-    forward_levels(plane, work, across, u, w, v, h, levels - 1);
+    forward_levels(plane, work, across, u, w, v, h, levels - 1, filter);
 }
 
 // The largest magnitude of a level's numbers, as the least of them.

@@ -18,8 +18,9 @@ ghost use Rattle.wavelet.specs.Plane.{cells, flat, planeOf, mapBack};
 ghost use Rattle.wavelet.specs.Questions.{Sized};
 ghost use Rattle.wavelet.specs.Shape.{columns, rows};
 ghost use Rattle.whole_map.specs.Rowwise.{heightsAt};
+ghost use Rattle.whole_map.specs.ByFilter.{filterOf};
 ghost use Rattle.whole_map.specs.LevelPasses.{MapRebuilt};
-ghost use Rattle.whole_map.specs.Calls.{sizeQuestions, forwardQuestion, planeQuestions, backwardQuestion, zeros, passed, rebuilt};
+ghost use Rattle.whole_map.specs.Calls.{sizeQuestions, sizeQuestionsBy, forwardQuestion, planeQuestions, backwardQuestion, zeros, passed, rebuilt};
 
 // Questions 2 to 5: 0, or the number of the first that says no. a, b and c are the lengths of the areas.
 fn size_question(width: usize, height: usize, levels: usize, a: usize, b: usize, c: usize) -> u8
@@ -52,16 +53,17 @@ fn transform(
     levels: usize,
     plane: &mut [i32],
     work: &mut [i32],
+    filter: usize,
 )
     requires { ⌜ Sized width height levels × (width * height ≤ length (now heights)) × (width * height ≤ length (now plane))
-        × (width * height ≤ length (now work)) ⌝ }
+        × (width * height ≤ length (now work)) × (levels ≤ filterOf filter .levels) ⌝ }
     ensures { λ _. ⌜ at (now (plane .exit)) ≡
-        fronted (width * height) (planeOf fiveThreeFilter whole levels (side x width) (side y height) (cells width (heightsAt (now (heights .entry)))))
+        fronted (width * height) (planeOf (filterOf filter) whole levels (side x width) (side y height) (cells width (heightsAt (now (heights .entry)))))
         (at (now (plane .entry))) ⌝ }
     ensures { λ _. ⌜ at (now (work .exit)) ≡ fronted (width * height) zeros (at (now (work .entry))) ⌝ }
 {
     heights::load_rows(heights, plane, x, width, y, height);
-    levels::forward_levels(plane, work, width, x, width, y, height, levels);
+    levels::forward_levels(plane, work, width, x, width, y, height, levels, filter);
     areas::copies::clear(work, width * height);
 }
 
@@ -96,6 +98,78 @@ pub fn forward(heights: &[u16], shape: Shape, plane: &mut [i32], work: &mut [i32
         shape.levels,
         plane,
         work,
+        0,
+    );
+    0
+}
+
+// Questions 2, 3, 18, 4 and 5, for the filter of a number.
+fn question_by(
+    filter: usize,
+    width: usize,
+    height: usize,
+    levels: usize,
+    a: usize,
+    b: usize,
+    c: usize,
+) -> u8
+    ensures { λ r. ⌜ r ≡ sizeQuestionsBy filter width height levels a b c ⌝ }
+{
+    if filter == 0 {
+        return size_question(width, height, levels, a, b, c);
+    }
+    let q = limits::size_question(width, height, 1);
+    if q != 0 {
+        return q;
+    }
+    if 1 < filter {
+        return 18;
+    }
+    if 4 < levels {
+        return 4;
+    }
+    size_question(width, height, levels, a, b, c)
+}
+
+// The plane of a map of heights by the filter of a number. It answers 0, or the number of the question that turned it away.
+pub fn forward_by(
+    filter: usize,
+    heights: &[u16],
+    shape: Shape,
+    plane: &mut [i32],
+    work: &mut [i32],
+) -> u8
+    ensures { λ r. ⌜ r ≡
+        sizeQuestionsBy filter (shape .width) (shape .height) (shape .levels) (length (now (heights .entry))) (length (now (plane .entry)))
+        (length (now (work .entry))) ⌝ }
+    ensures { λ r. ⌜ at (now (plane .exit)) ≡
+        passed r (shape .width * shape .height)
+        (planeOf (filterOf filter) whole (shape .levels) (columns shape) (rows shape) (cells (shape .width) (heightsAt (now (heights .entry)))))
+        (at (now (plane .entry))) ⌝ }
+    ensures { λ r. ⌜ at (now (work .exit)) ≡ passed r (shape .width * shape .height) zeros (at (now (work .entry))) ⌝ }
+{
+    let q = question_by(
+        filter,
+        shape.width,
+        shape.height,
+        shape.levels,
+        heights.len(),
+        plane.len(),
+        work.len(),
+    );
+    if q != 0 {
+        return q;
+    }
+    transform(
+        heights,
+        shape.x as usize,
+        shape.width,
+        shape.y as usize,
+        shape.height,
+        shape.levels,
+        plane,
+        work,
+        filter,
     );
     0
 }

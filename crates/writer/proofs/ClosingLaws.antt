@@ -17,7 +17,7 @@ use Rattle.writer.specs.declared.closing.Closure.{Closure}
 use Rattle.writer.specs.Counts.{deeper, further, made, most, skip}
 use Rattle.writer.specs.Machine.{Out, still, under, settled, passOn}
 use Rattle.writer.specs.Closing.{Shut, stepped, onward, closeStep, closeLevel, shut}
-use Rattle.writer.specs.Steps.{Left, LevelClosed, Closed}
+use Rattle.writer.specs.Steps.{Left, LevelClosed, Closed, idle}
 use Rattle.writer.proofs.CountLaws.{deeper-le, start-first, start-le}
 use Rattle.writer.proofs.CascadeLaws.{left-waits, left-same, under-offset, settled-waits, settled-goes}
 
@@ -76,9 +76,9 @@ module _ (l : ℕ) (w : Side) (s m : ℕ) where
 
   module _ (c k : ℕ) (x₀ x : Memory) (e : from k x ≡ from c x₀) where
     -- all are done, and nothing waits
-    pub level-done : A ≤ k → LevelClosed (l + 1) w (from c x₀) (record { closed = k; level = 0; left = 0; offset = 0 }) x
-    level-done h =
-        rw (sym e ∙ from-done k x h)
+    pub level-done : (r : Closure) → r ≡ idle k → A ≤ k → LevelClosed (l + 1) w (from c x₀) r x
+    level-done r d h =
+        rw (d, sym e ∙ from-done k x h)
         (record {
           closed = refl;
           level = refl;
@@ -115,10 +115,9 @@ module _ (l : ℕ) (w : Side) (s m : ℕ) where
 pub closed-small : (l : ℕ) (w : Side) (o : Shut) (r : Closure) (x : Memory) → w .length < 2 ^ 16 → l < 2 ^ 16 → Closed l w o r x → r .offset < 4294967296
 closed-small l w o r x h g f = omega (arith, f .offset, f .level, f .within, start-le w (o .out .level))
 
-pub shut-none : (l : ℕ) (w : Side) (s c m : ℕ) (x : Memory) → l ≡ 0 → c ≤ A * l →
-    Closed l w (shut fiveThree l w s c m x) (record { closed = c; level = 0; left = 0; offset = 0 }) x
+pub shut-none : (l : ℕ) (w : Side) (s c m : ℕ) (x : Memory) (r : Closure) → r ≡ idle c → l ≡ 0 → c ≤ A * l → Closed l w (shut fiveThree l w s c m x) r x
 unfolding shut
-shut-none zero w s c m x e h = record {
+shut-none zero w s c m x r d e h = rw d (record {
   closed = refl;
   level = refl;
   left = refl;
@@ -126,8 +125,8 @@ shut-none zero w s c m x e h = record {
   store = refl;
   within = omega arith;
   all = h;
-}
-shut-none (suc l) w s c m x e h = absurd (omega arith)
+})
+shut-none (suc l) w s c m x r d e h = absurd (omega arith)
 
 shut-more : (l : ℕ) (w : Side) (s c m : ℕ) (x : Memory) →
     shut fiveThree (suc l) w s c m x ≡ onward A (4 * w .length) (shut fiveThree l (next w) ((s + 1) / 2) (c - A) (count lo (side s m)))

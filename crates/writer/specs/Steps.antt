@@ -96,9 +96,12 @@ pub record Found (l : ℕ) (W : Side) (o : Waiting) (r : Spot) : Type 0 where
   pub room : r .start + r .length ≤ storeLength W l
   pub within : r .level ≤ l
 
--- nothing waits
+-- nothing waits, and c steps of the closing are done
 abbrev pub noWait : Wait
 noWait = record { level = 0; left = 0; offset = 0 }
+
+abbrev pub idle : ℕ → Closure
+idle c = record { closed = c; level = 0; left = 0; offset = 0 }
 
 -- what the steps of the first level's closing leave, of l levels, the first of the columns W
 pub record LevelClosed (l : ℕ) (W : Side) (o : Shut) (r : Closure) (x : Memory) : Type 0 where

@@ -6,6 +6,7 @@ use crate::cascade::Wait;
 use crate::counts;
 use level::making;
 use wavelet::sizes;
+ghost use mathlib.Core.Path.{_≡_};
 ghost use Prim.Native.Nat.{_≤_, _+_, _-_, _*_};
 ghost use lib.ListN.{length};
 ghost use Rattle.numbers.specs.Signal.{at};
@@ -13,7 +14,7 @@ ghost use Rattle.lifting.specs.Grid.{side};
 ghost use Rattle.level.specs.Level.{ahead};
 ghost use Rattle.level.specs.FiveThreeLevel.{fiveThree};
 ghost use Rattle.writer.specs.Closing.{closeStep, closeLevel, shut};
-ghost use Rattle.writer.specs.Steps.{Room, Left, LevelClosed, Closed};
+ghost use Rattle.writer.specs.Steps.{Room, Left, LevelClosed, Closed, idle};
 
 // How many steps are done, and what waits.
 pub struct Closure {
@@ -21,6 +22,18 @@ pub struct Closure {
     pub level: usize,
     pub left: usize,
     pub offset: usize,
+}
+
+// c steps are done, and nothing waits.
+fn idle(c: usize) -> Closure
+    ensures { λ r. ⌜ r ≡ idle c ⌝ }
+{
+    Closure {
+        closed: c,
+        level: 0,
+        left: 0,
+        offset: 0,
+    }
 }
 
 // Step c of the level: its first set that is not made is made, if one is left; l levels are below.
@@ -72,12 +85,7 @@ fn close_level(
             };
         }
     }
-    Closure {
-        closed: k,
-        level: 0,
-        left: 0,
-        offset: 0,
-    }
+    idle(k)
 }
 
 // The l levels close, c steps being done, until a row waits.
@@ -94,12 +102,7 @@ pub fn shut(
     ensures { λ r. ⌜ Closed l (side x w) (shut fiveThree l (side x w) y c m (at (now (store .entry)))) r (at (now (store .exit))) ⌝ }
 {
     if l == 0 {
-        return Closure {
-            closed: c,
-            level: 0,
-            left: 0,
-            offset: 0,
-        };
+        return idle(c);
     }
     let o = close_level(store, l - 1, w, x, y, c, m);
     if 0 < o.level {

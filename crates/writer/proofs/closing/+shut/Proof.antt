@@ -21,6 +21,7 @@ use Rattle.level.proofs.making.ahead.Reads as ahead-reads
 use Rattle.wavelet.proofs.sizes.low_count.Reads as low-count-reads
 use Rattle.wavelet.proofs.sizes.next_start.Reads as next-start-reads
 use Rattle.writer.proofs.closing.close_level.Reads as close-level-reads
+use Rattle.writer.proofs.closing.idle.Reads as idle-reads
 use Rattle.writer.proofs.counts.closed_below.Reads as closed-below-reads
 use Rattle.writer.proofs.counts.deeper.Reads as deeper-reads
 use Rattle.writer.proofs.counts.further.Reads as further-reads
@@ -40,6 +41,8 @@ shut-below t = and 1 shut-kinds.ps (falls 1 shut-kinds.ps _<_ μ-shut t) shut.Pr
 -- what is known of the calls, those of `shut` itself at fewer levels
 abbrev claims : ℕ → shut-lts.Claims
 claims t = (
+  idle-reads.Asked,
+  idle-reads.Learnt,
   close-level-reads.Asked,
   close-level-reads.Learnt,
   stretch-reads.Asked,
@@ -60,8 +63,13 @@ claims t = (
   further-reads.Learnt,
 )
 
+shut-idle-requires : (t : ℕ) → shut-lts.Need-idle-requires (claims t) (shut-at t) shut.Post
+shut-idle-requires t c κs = tt
+
 shut-returns : (t : ℕ) → shut-lts.Need-returns (claims t) (shut-at t) shut.Post
-shut-returns t c = let a = c .before .args in shut-none (a .l) (side (a .x) (a .w)) (a .y) (a .c) (a .m) _ (omega arith) (omega arith)
+shut-returns t c =
+    let a = c .before .before .args in
+    shut-none (a .l) (side (a .x) (a .w)) (a .y) (a .c) (a .m) _ _ (c .idle .ensures) (omega arith) (omega arith)
 
 shut-sub-close-level : (t : ℕ) → shut-lts.Need-sub-close-level (claims t) (shut-at t) shut.Post
 shut-sub-close-level t c = omega arith
@@ -198,6 +206,7 @@ pub +shut-spec : {M : Type 1} → statement M
     (claims t)
     (shut-at t)
     shut.Post
+    (shut-idle-requires t)
     (shut-returns t)
     (shut-sub-close-level t)
     (shut-close-level-requires t)

@@ -56,14 +56,18 @@ loop-again c =
           (step .close-step .ensures) _ refl (omega arith),
     )
 
+idle-requires : tie.Need-idle-requires Inv-loop μ-loop
+idle-requires c κs = tt
+
 same-length-2 : tie.Need-same-length-2 Inv-loop μ-loop
 same-length-2 c = search needs
 
 returns-2 : tie.Need-returns-2 Inv-loop μ-loop
 returns-2 c =
-    let loop = c .before .loop in
-    let a = c .before .before .before .args in
-    level-done (a .l) (side (a .x) (a .w)) (a .y) (a .m) (a .c) (loop .k) _ (at (loop .store)) (loop .inv .2) (omega (arith, loop .inv .1))
+    let loop = c .before .before .loop in
+    let a = c .before .before .before .before .args in
+    level-done (a .l) (side (a .x) (a .w)) (a .y) (a .m) (a .c) (loop .k) _ (at (loop .store)) (loop .inv .2) _ (c .idle .ensures)
+    (omega (arith, loop .inv .1))
 
 pub close-level-spec : {M : Type 1} → statement M
 close-level-spec =
@@ -79,5 +83,6 @@ close-level-spec =
     returns
     loop-less
     loop-again
+    idle-requires
     same-length-2
     returns-2)

@@ -1,0 +1,27 @@
+-- A level where it stands, by any filter F: rows in halves, each of them in halves. A number stands for a filter (document 02, Q-8).
+use Prim.Native.Nat.{ℕ, zero, suc}
+use lib.IntN.{ℤ}
+use Rattle.numbers.specs.Signal.{pick}
+use Rattle.numbers.specs.Word.{wrap32}
+use Rattle.lifting.specs.Grid.{Side, joined}
+use Rattle.lifting.specs.GridHalves.{halvesOf, inHalves}
+use Rattle.lifting.specs.Filter.{Filter}
+use Rattle.lifting.specs.FiveThree.{fiveThreeFilter}
+use Rattle.nine_seven.specs.NineSevenFilter.{nineSevenFilter}
+use Rattle.wavelet.specs.Bands.{Grid}
+use Rattle.whole_map.specs.Passes.{within, rowsMapped}
+
+-- "a filter number, 0 the 5/3, 1 this one"
+unfoldable pub filterOf : ℕ → Filter
+filterOf zero = fiveThreeFilter
+filterOf (suc f) = nineSevenFilter
+
+-- a line in halves, then all columns, then all rows of a level, lifted in place
+unfoldable pub liftedBy : Filter → Side → (ℕ → ℤ) → ℕ → ℤ
+liftedBy F S y = inHalves S (F .forward wrap32 S (joined S (halvesOf S y))) y
+
+unfoldable pub columnsLiftedBy : Filter → ℕ → Side → Grid → Grid
+columnsLiftedBy F w H X r c = pick (within w (H .length) r c) (liftedBy F H (λ i. X i c) r) (X r c)
+
+unfoldable pub levelLiftedBy : Filter → Side → Side → Grid → Grid
+levelLiftedBy F W H X = rowsMapped (liftedBy F W) (W .length) (H .length) (columnsLiftedBy F (W .length) H X)
