@@ -39,7 +39,8 @@ module _ (W : Side) (n : ℕ) where
     place-none n0 n1 n2 n3 = simp (ne-eqb c 0 n0, ne-eqb c 1 n1, ne-eqb c 2 n2, ne-eqb c 3 n3)
 
   -- as a caller finds it, the stretch being countable
-  pub place-code : (b : Band) (c r : ℕ) → W .length < 2 ^ 61 → c ≡ code b → r ≡ pick (ltb (W .length) (2 ^ 61)) (named c (bandPlace W n) 0) 0 → r ≡ bandPlace W n b
+  pub place-code : (b : Band) (c r : ℕ) → W .length < 2 ^ 61 → c ≡ code b → r ≡ pick (ltb (W .length) (2 ^ 61)) (named c (bandPlace W n) 0) 0
+      → r ≡ bandPlace W n b
   place-code b c r h e d =
       d
       ∙ ap (λ (t : Bool). pick t (named c (bandPlace W n) 0) 0) (lt-ltb (W .length) (2 ^ 61) h)

@@ -139,7 +139,8 @@ module _ (W H : Side) (g : Grid) (m n : ℕ) (t : H .start % 2 + m ≡ 2 * n + 4
           begun = λ i p. absurd (omega arith);
         }
 
-    same-band : (b : Band) (i : ℕ) → firstSet H (down b) ≤ n → subband nineSevenFilter wrap32 W R g b (setRow H b n) i ≡ subband nineSevenFilter wrap32 W H g b (setRow H b n) i
+    same-band : (b : Band) (i : ℕ) → firstSet H (down b) ≤ n
+        → subband nineSevenFilter wrap32 W R g b (setRow H b n) i ≡ subband nineSevenFilter wrap32 W H g b (setRow H b n) i
     unfolding subband setRow
     same-band b i f =
         ap (λ (y : ℕ → ℤ). lineForward wrap32 W y (across b) i) (sym (same-row (down b) (n - firstSet H (down b)) (omega arith)))

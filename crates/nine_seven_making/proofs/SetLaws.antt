@@ -63,7 +63,8 @@ lifted-same W a b x e = rw (slot-same (W .length) a b e) refl
 -- ---- the high row of set n: by four rows, or doubled
 module _ (w k : ℕ) (H : Side) (n h : ℕ) (x₀ x₁ : ℕ → ℤ) (room : 8 * w ≤ k) (eh : h ≡ (2 * n + 1) % 8) where
   pub high-done : (l r b a : ℕ) → 1 < H .length → l ≡ rowBefore H 1 (2 * n + 1) % 8 → r ≡ rowAfter H 1 (2 * n + 1) % 8
-      → b ≡ rowBefore H 3 (2 * n + 1) % 8 → a ≡ rowAfter H 3 (2 * n + 1) % 8 → x₁ ≡ rowsBy (predicted wrap32) k w w h l r b a x₀ → x₁ ≡ rowHigh w H (2 * n + 1) x₀
+      → b ≡ rowBefore H 3 (2 * n + 1) % 8 → a ≡ rowAfter H 3 (2 * n + 1) % 8 → x₁ ≡ rowsBy (predicted wrap32) k w w h l r b a x₀
+      → x₁ ≡ rowHigh w H (2 * n + 1) x₀
   unfolding rowHigh
   high-done l r b a g el er eb ea e =
       let c = five-call (predicted wrap32) k w h l r b a x₀ room (omega arith) (omega arith) (omega arith) (omega arith) (omega arith) in

@@ -28,7 +28,8 @@ use Rattle.nine_seven_making.specs.NineSevenLevel.{highMade, lowWaits, h
 use Rattle.nine_seven_making.proofs.NearRows.{high-place, low-place, before-high, after-high, far-before-high, far-after-high, before-low, after-low}
 use Rattle.nine_seven_making.proofs.NearRows.{has-row, no-row}
 use Rattle.nine_seven_making.proofs.Slots.{apart, apart′, Only, only-none, only-then, only-if, only-either, only-slot, only-past, only-row}
-use Rattle.nine_seven_making.proofs.Slots.{changed-only, changed-cell, four-only, four-cell, copied-only, copied-row, lifted-only, lifted-low, lifted-high}
+use Rattle.nine_seven_making.proofs.Slots.{changed-only, changed-cell, four-only, four-cell}
+use Rattle.nine_seven_making.proofs.Slots.{copied-only, copied-row, lifted-only, lifted-low, lifted-high}
 
 ap₅ : (f : ℤ → ℤ → ℤ → ℤ → ℤ → ℤ) {u v a a′ b b′ c c′ e e′ : ℤ} → u ≡ v → a ≡ a′ → b ≡ b′ → c ≡ c′ → e ≡ e′ → f u a b c e ≡ f v a′ b′ c′ e′
 ap₅ f p q r s t = λ i. f (p i) (q i) (r i) (s i) (t i)
@@ -162,12 +163,14 @@ module _ (W H : Side) (g : Grid) (n : ℕ) (x : Memory) (k : Left W H g n x) whe
     unfolding setMade
     high-stays =
         only-row W (high-waits-only W H n x2) (2 * n + 1) (W .length) (high n) (apart (2 * n + 1) (waitsAt hi n) (omega arith) (omega arith)) (omega arith)
-        (only-row W (low-waits-only W H n x1) (2 * n + 1) (W .length) (high n) (apart (2 * n + 1) (waitsAt lo n) (omega arith) (omega arith)) (omega arith) high-1)
+        (only-row W (low-waits-only W H n x1) (2 * n + 1) (W .length) (high n) (apart (2 * n + 1) (waitsAt lo n) (omega arith) (omega arith)) (omega arith)
+        high-1)
 
     copy-3 : RowStands W (waitsAt hi n) (W .length) (high n) (rowCopied (W .length) (2 * n + 1) (waitsAt hi n) x2)
     copy-3 =
         copied-row W (2 * n + 1) (waitsAt hi n) x2 (W .length) (high n) (omega arith)
-        (only-row W (low-waits-only W H n x1) (2 * n + 1) (W .length) (high n) (apart (2 * n + 1) (waitsAt lo n) (omega arith) (omega arith)) (omega arith) high-1)
+        (only-row W (low-waits-only W H n x1) (2 * n + 1) (W .length) (high n) (apart (2 * n + 1) (waitsAt lo n) (omega arith) (omega arith)) (omega arith)
+        high-1)
 
     pub waits-low-high : (i : ℕ) → i < count lo W → setMade W H n x (slot (W .length) (waitsAt hi n) + i) ≡ lineForward wrap32 W (high n) lo i
     unfolding setMade highWaits
@@ -242,7 +245,8 @@ module _ (W H : Side) (g : Grid) (n : ℕ) (x : Memory) (k : Left W H g n x) whe
     unfolding firstSet
     has-low = has-row H lo n f b
 
-    waits-still : (j : ℕ) → j < W .length → setMade W H n x (slot (W .length) (waitsAt lo n) + j) ≡ rowLifted W (waitsAt lo n) y2 (slot (W .length) (waitsAt lo n) + j)
+    waits-still : (j : ℕ) → j < W .length
+        → setMade W H n x (slot (W .length) (waitsAt lo n) + j) ≡ rowLifted W (waitsAt lo n) y2 (slot (W .length) (waitsAt lo n) + j)
     unfolding setMade lowWaits
     waits-still j h =
         only-slot (high-waits-only W H n x2) (waitsAt lo n) j (apart (waitsAt lo n) (waitsAt hi n) (omega arith) (omega arith)) h

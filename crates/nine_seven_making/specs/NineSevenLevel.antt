@@ -3,8 +3,8 @@
 -- slot q mod 8. Document 02, Q-8.
 --     set n, row 2n + 4 being there: row 2n + 1 becomes d(n) by rows 2n − 2, 2n, 2n + 2 and 2n + 4. Row 2n stays as it is, since d(n + 1) goes by it: it is
 --             copied to the slot of row 2n + 6, where row 2n − 2 stood, and the copy becomes s(n) by d(n−1), which stands where row 2n − 1 stood, and d(n).
---             d(n) is copied to the slot of row 2n + 7, where d(n−1) stood, and stays itself for the next set. The two copies are lifted along the row: they are
---             the rows that wait, LL|HL and LH|HH. Row 2n + 5 may be begun while they wait.
+--             d(n) is copied to the slot of row 2n + 7, where d(n−1) stood, and stays itself for the next set. The two copies are lifted along the row: they
+--             are the rows that wait, LL|HL and LH|HH. Row 2n + 5 may be begun while they wait.
 --     at the finish the same, for each set left in turn. Where a row is not there, before the first or past the last, it is the mirrored one; an only row stays
 --             at an even coordinate and is doubled at an odd one.
 use mathlib.Core.Path.{_≡_}

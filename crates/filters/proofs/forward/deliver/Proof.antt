@@ -24,7 +24,8 @@ returns c =
     let a = c .before .before .before .before .args in
     let k = length (a .store .now) in
     let o = c .before .deliver .ensures in
-    zero-both (a .filter) (λ f. nextFits f k (side (a .x) (a .w))) (λ f. delivered f (side (a .x) (a .w)) (a .n) (a .q) (at (a .store .now))) (at (a .store .now)) _ _ (omega arith) (o .0) (o .1)
+    zero-both (a .filter) (λ f. nextFits f k (side (a .x) (a .w))) (λ f. delivered f (side (a .x) (a .w)) (a .n) (a .q) (at (a .store .now)))
+    (at (a .store .now)) _ _ (omega arith) (o .0) (o .1)
 
 deliver-requires-2 : tie.Need-deliver-requires-2
 deliver-requires-2 c κs = tt
@@ -38,7 +39,8 @@ returns-2 c =
     let a = c .before .before .before .before .args in
     let k = length (a .store .now) in
     let o = c .before .deliver2 .ensures in
-    other-both (a .filter) (λ f. nextFits f k (side (a .x) (a .w))) (λ f. delivered f (side (a .x) (a .w)) (a .n) (a .q) (at (a .store .now))) (at (a .store .now)) _ _ (omega arith) (λ _. o .0) (λ _. o .1)
+    other-both (a .filter) (λ f. nextFits f k (side (a .x) (a .w))) (λ f. delivered f (side (a .x) (a .w)) (a .n) (a .q) (at (a .store .now)))
+    (at (a .store .now)) _ _ (omega arith) (λ _. o .0) (λ _. o .1)
 
 pub deliver-spec : {M : Type 1} → statement M
 deliver-spec = tie.close (tie.spec deliver-requires same-length returns deliver-requires-2 same-length-2 returns-2)

@@ -23,7 +23,8 @@ returns c =
     let a = c .before .before .before .before .args in
     let k = length (a .store .now) in
     let o = c .before .make .ensures in
-    zero-both (a .filter) (λ f. levelFits f k (side (a .x) (a .w))) (λ f. kindOf f .make (side (a .x) (a .w)) (a .y) (a .n) (at (a .store .now))) (at (a .store .now)) _ _ (omega arith) (o .0) (o .1)
+    zero-both (a .filter) (λ f. levelFits f k (side (a .x) (a .w))) (λ f. kindOf f .make (side (a .x) (a .w)) (a .y) (a .n) (at (a .store .now)))
+    (at (a .store .now)) _ _ (omega arith) (o .0) (o .1)
 
 make-requires-2 : tie.Need-make-requires-2
 make-requires-2 c κs = tt
@@ -37,7 +38,8 @@ returns-2 c =
     let a = c .before .before .before .before .args in
     let k = length (a .store .now) in
     let o = c .before .make2 .ensures in
-    other-both (a .filter) (λ f. levelFits f k (side (a .x) (a .w))) (λ f. kindOf f .make (side (a .x) (a .w)) (a .y) (a .n) (at (a .store .now))) (at (a .store .now)) _ _ (omega arith) (λ _. o .0) (λ _. o .1)
+    other-both (a .filter) (λ f. levelFits f k (side (a .x) (a .w))) (λ f. kindOf f .make (side (a .x) (a .w)) (a .y) (a .n) (at (a .store .now)))
+    (at (a .store .now)) _ _ (omega arith) (λ _. o .0) (λ _. o .1)
 
 pub make-spec : {M : Type 1} → statement M
 make-spec = tie.close (tie.spec make-requires same-length returns make-requires-2 same-length-2 returns-2)

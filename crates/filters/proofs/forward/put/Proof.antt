@@ -25,7 +25,9 @@ returns c =
     let a = c .before .before .before .before .before .args in
     let k = length (a .store .now) in
     let o = c .before .put .ensures in
-    zero-both (a .filter) (λ f. heightsFit f k (side (a .x) (a .w)) (a .column) (a .n) (length (a .run .now)) (a .from)) (λ f. heightsPut f (side (a .x) (a .w)) (a .q) (a .column) (a .n) (λ j. heightAt (a .run .now) (a .from + j)) (at (a .store .now))) (at (a .store .now)) _ _ (omega arith) (o .0) (o .1)
+    zero-both (a .filter) (λ f. heightsFit f k (side (a .x) (a .w)) (a .column) (a .n) (length (a .run .now)) (a .from))
+    (λ f. heightsPut f (side (a .x) (a .w)) (a .q) (a .column) (a .n) (λ j. heightAt (a .run .now) (a .from + j)) (at (a .store .now))) (at (a .store .now)) _
+    _ (omega arith) (o .0) (o .1)
 
 put-requires-2 : tie.Need-put-requires-2
 put-requires-2 c κs = tt
@@ -39,7 +41,9 @@ returns-2 c =
     let a = c .before .before .before .before .before .args in
     let k = length (a .store .now) in
     let o = c .before .put2 .ensures in
-    other-both (a .filter) (λ f. heightsFit f k (side (a .x) (a .w)) (a .column) (a .n) (length (a .run .now)) (a .from)) (λ f. heightsPut f (side (a .x) (a .w)) (a .q) (a .column) (a .n) (λ j. heightAt (a .run .now) (a .from + j)) (at (a .store .now))) (at (a .store .now)) _ _ (omega arith) (λ _. o .0) (λ _. o .1)
+    other-both (a .filter) (λ f. heightsFit f k (side (a .x) (a .w)) (a .column) (a .n) (length (a .run .now)) (a .from))
+    (λ f. heightsPut f (side (a .x) (a .w)) (a .q) (a .column) (a .n) (λ j. heightAt (a .run .now) (a .from + j)) (at (a .store .now))) (at (a .store .now)) _
+    _ (omega arith) (λ _. o .0) (λ _. o .1)
 
 pub put-spec : {M : Type 1} → statement M
 put-spec = tie.close (tie.spec put-requires same-length returns put-requires-2 same-length-2 returns-2)

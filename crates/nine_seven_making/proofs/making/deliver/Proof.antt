@@ -30,7 +30,8 @@ record Fits (k w x v from t : ℕ) : Type 0 where
 
 fits : (c : tie.After-low-count) →
     Fits (length (c .before .before .before .args .store .now)) (c .before .before .before .args .w) (c .before .before .before .args .x) (c .low-count .result)
-    ((2 * (c .before .before .before .args .n % 4) + 6) % 8 * c .before .before .before .args .w) (c .before .before .before .args .q % 8 * c .low-count .result)
+    ((2 * (c .before .before .before .args .n % 4) + 6) % 8 * c .before .before .before .args .w)
+    (c .before .before .before .args .q % 8 * c .low-count .result)
 fits c =
     let t = c .before in
     let a = t .before .before .args in
@@ -99,4 +100,19 @@ returns-2 : tie.Need-returns-2
 returns-2 c = let bad = sym (c .before .next-fits .ensures) ∙ c .if1 .left in (simp bad, simp bad)
 
 pub deliver-spec : {M : Type 1} → statement M
-deliver-spec = tie.close (tie.spec next-fits-requires low-count-requires mul-from add-from mul-from-2 mul-to mul-to-2 add-to next-start-requires part-row-requires same-length returns returns-2)
+deliver-spec =
+    tie.close
+    (tie.spec
+    next-fits-requires
+    low-count-requires
+    mul-from
+    add-from
+    mul-from-2
+    mul-to
+    mul-to-2
+    add-to
+    next-start-requires
+    part-row-requires
+    same-length
+    returns
+    returns-2)

@@ -22,7 +22,10 @@ low-slot-requires : tie.Need-low-slot-requires
 low-slot-requires c κs = tt
 
 returns : tie.Need-returns
-returns c = let l = c .before in let s = l .before .before in after-slot (s .args .y) (s .args .m) (s .args .n) (s .pre .0) (s .pre .1) _ _ _ (l .before .low-count .ensures) (c .low-slot .ensures) (l .nearest .ensures)
+returns c =
+    let l = c .before in
+    let s = l .before .before in
+    after-slot (s .args .y) (s .args .m) (s .args .n) (s .pre .0) (s .pre .1) _ _ _ (l .before .low-count .ensures) (c .low-slot .ensures) (l .nearest .ensures)
 
 pub after-high-spec : {M : Type 1} → statement M
 after-high-spec = tie.close (tie.spec low-count-requires sub-nearest add-nearest nearest-requires low-slot-requires returns)

@@ -17,7 +17,10 @@ low-slot-requires : tie.Need-low-slot-requires
 low-slot-requires c κs = tt
 
 returns : tie.Need-returns
-returns c = let l = c .before in let s = l .before .before in before-slot (s .args .y) (s .args .m) (s .args .n) (s .pre .0) (s .pre .1) _ _ _ (l .before .low-count .ensures) (c .low-slot .ensures) (l .left .ensures)
+returns c =
+    let l = c .before in
+    let s = l .before .before in
+    before-slot (s .args .y) (s .args .m) (s .args .n) (s .pre .0) (s .pre .1) _ _ _ (l .before .low-count .ensures) (c .low-slot .ensures) (l .left .ensures)
 
 pub before-high-spec : {M : Type 1} → statement M
 before-high-spec = tie.close (tie.spec low-count-requires sub-left left-requires low-slot-requires returns)

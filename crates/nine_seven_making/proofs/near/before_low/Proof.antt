@@ -14,7 +14,11 @@ high-slot-requires : tie.Need-high-slot-requires
 high-slot-requires c κs = tt
 
 returns : tie.Need-returns
-returns c = let l = c .before in let s = l .before .before in low-before-slot (s .args .y) (s .args .m) (s .args .n) (s .pre .0) (s .pre .1) (s .pre .2) _ _ _ (l .before .high-count .ensures) (c .high-slot .ensures) (l .left .ensures)
+returns c =
+    let l = c .before in
+    let s = l .before .before in
+    low-before-slot (s .args .y) (s .args .m) (s .args .n) (s .pre .0) (s .pre .1) (s .pre .2) _ _ _ (l .before .high-count .ensures) (c .high-slot .ensures)
+    (l .left .ensures)
 
 pub before-low-spec : {M : Type 1} → statement M
 before-low-spec = tie.close (tie.spec high-count-requires left-requires high-slot-requires returns)

@@ -57,7 +57,9 @@ returns-4 : tie.Need-returns-4
 returns-4 c = let a = c .before .before .args in place-last (side (a .x) (a .w)) (a .n) (a .band) _ _ (omega arith) (by-four (a .n) _) (c .low-count2 .ensures)
 
 returns-5 : tie.Need-returns-5
-returns-5 c = let a = c .before .args in place-none (side (a .x) (a .w)) (a .n) (a .band) 0 (λ e. omega arith) (λ e. omega arith) (λ e. omega arith) (λ e. omega arith)
+returns-5 c =
+    let a = c .before .args in
+    place-none (side (a .x) (a .w)) (a .n) (a .band) 0 (λ e. omega arith) (λ e. omega arith) (λ e. omega arith) (λ e. omega arith)
 
 pub placed-spec : {M : Type 1} → statement M
 placed-spec =

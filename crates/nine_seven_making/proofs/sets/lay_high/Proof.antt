@@ -44,7 +44,21 @@ returns c =
     (s .pre) (high-slot (a .n)) (by-four (a .n) _) (by-four (a .n) _) (d .copy-row .ensures .1) (l .lift-row .ensures)
 
 returns-2 : tie.Need-returns-2
-returns-2 c = let a = c .before .before .args in high-unlaid (side (a .x) (a .w)) (side (a .y) (a .m)) 0 (a .n) _ (sym (c .before .has-high .ensures) ∙ c .if1 .left)
+returns-2 c =
+    let a = c .before .before .args in
+    high-unlaid (side (a .x) (a .w)) (side (a .y) (a .m)) 0 (a .n) _ (sym (c .before .has-high .ensures) ∙ c .if1 .left)
 
 pub lay-high-spec : {M : Type 1} → statement M
-lay-high-spec = tie.close (tie.spec has-high-requires mul-low add-copy-row add-copy-row-2 copy-row-requires add-lift-row lift-row-requires same-length returns returns-2)
+lay-high-spec =
+    tie.close
+    (tie.spec
+    has-high-requires
+    mul-low
+    add-copy-row
+    add-copy-row-2
+    copy-row-requires
+    add-lift-row
+    lift-row-requires
+    same-length
+    returns
+    returns-2)

@@ -47,7 +47,21 @@ returns c =
     (s .pre) (low-slot (a .n)) (by-four (a .n) _) (by-four (a .n) _) (d .copy-row .ensures .1) (u .update-copy .ensures) (l .lift-row .ensures)
 
 returns-2 : tie.Need-returns-2
-returns-2 c = let a = c .before .before .args in low-none (side (a .x) (a .w)) (side (a .y) (a .m)) 0 (a .n) _ (sym (c .before .has-low .ensures) ∙ c .if1 .left)
+returns-2 c =
+    let a = c .before .before .args in
+    low-none (side (a .x) (a .w)) (side (a .y) (a .m)) 0 (a .n) _ (sym (c .before .has-low .ensures) ∙ c .if1 .left)
 
 pub lay-low-spec : {M : Type 1} → statement M
-lay-low-spec = tie.close (tie.spec has-low-requires mul-low add-copy-row copy-row-requires update-copy-requires add-lift-row lift-row-requires same-length returns returns-2)
+lay-low-spec =
+    tie.close
+    (tie.spec
+    has-low-requires
+    mul-low
+    add-copy-row
+    copy-row-requires
+    update-copy-requires
+    add-lift-row
+    lift-row-requires
+    same-length
+    returns
+    returns-2)

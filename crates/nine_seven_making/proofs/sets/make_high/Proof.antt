@@ -11,7 +11,10 @@ has-high-requires : tie.Need-has-high-requires
 has-high-requires c κs = tt
 
 predict-row-requires : tie.Need-predict-row-requires
-predict-row-requires c κs = let t = c .before .before in let h = t .before in (h .before .pre, c .before .if2 .taken, sym (h .has-high .ensures) ∙ t .if1 .taken)
+predict-row-requires c κs =
+    let t = c .before .before in
+    let h = t .before in
+    (h .before .pre, c .before .if2 .taken, sym (h .has-high .ensures) ∙ t .if1 .taken)
 
 double-row-requires : tie.Need-double-row-requires
 double-row-requires c κs = search needs

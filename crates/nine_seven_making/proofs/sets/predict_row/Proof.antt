@@ -45,4 +45,15 @@ returns c =
     (s .pre .1) (e .before-high .ensures) (d .after-high .ensures) (b .far-before-high .ensures) (a .far-after-high .ensures) (r .predict-row .ensures .1)
 
 pub predict-row-spec : {M : Type 1} → statement M
-predict-row-spec = tie.close (tie.spec mul-high add-high before-high-requires after-high-requires far-before-high-requires far-after-high-requires predict-row-requires same-length returns)
+predict-row-spec =
+    tie.close
+    (tie.spec
+    mul-high
+    add-high
+    before-high-requires
+    after-high-requires
+    far-before-high-requires
+    far-after-high-requires
+    predict-row-requires
+    same-length
+    returns)

@@ -19,7 +19,11 @@ before-low-requires : tie.Need-before-low-requires
 before-low-requires c κs = let s = c .before in let i = low-in (side (s .args .y) (s .args .m)) (s .args .n) (s .pre .1) in (c .if1 .taken, i .0, i .1)
 
 after-low-requires : tie.Need-after-low-requires
-after-low-requires c κs = let t = c .before in let s = t .before in let i = low-in (side (s .args .y) (s .args .m)) (s .args .n) (s .pre .1) in (t .if1 .taken, i .0, i .1)
+after-low-requires c κs =
+    let t = c .before in
+    let s = t .before in
+    let i = low-in (side (s .args .y) (s .args .m)) (s .args .n) (s .pre .1) in
+    (t .if1 .taken, i .0, i .1)
 
 update-row-requires : tie.Need-update-row-requires
 update-row-requires c κs = tt
