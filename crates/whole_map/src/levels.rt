@@ -486,7 +486,7 @@ pub fn back_levels(
 ) -> bool
     requires { ⌜ Rows (length (now plane)) across width height × Rows (length (now work)) stride width height × Doubling levels stride width
         × (level + levels ≤ maxLevels) ⌝ }
-    ensures { λ ok. ⌜ LevelsBack ok level levels stride across (side x width) (side y height) (at (now (plane .entry))) (at (now (work .entry)))
+    ensures { λ ok. ⌜ LevelsBack fiveThreeFilter ok level levels stride across (side x width) (side y height) (at (now (plane .entry))) (at (now (work .entry)))
         (at (now (work .exit))) ⌝ }
 {
     let w = sizes::low_count(x, width);
@@ -530,7 +530,7 @@ fn in_range(
     level: usize,
 ) -> bool
     requires { ⌜ Rows (length (now plane)) across width height × (0 < levels) × (0 < level) × (level + levels ≤ maxLevels + 1) ⌝ }
-    ensures { λ r. ⌜ r ≡ regionInRange level levels (side x width) (side y height) (cells across (at (now (plane .entry)))) ⌝ }
+    ensures { λ r. ⌜ r ≡ regionInRange fiveThreeFilter level levels (side x width) (side y height) (cells across (at (now (plane .entry)))) ⌝ }
 {
     let w = sizes::low_count(x, width);
     let h = sizes::low_count(y, height);
@@ -559,7 +559,7 @@ pub fn plane_in_range(
     levels: usize,
 ) -> bool
     requires { ⌜ Sized width height levels × (width * height ≤ length (now plane)) ⌝ }
-    ensures { λ r. ⌜ r ≡ regionInRange 1 levels (side x width) (side y height) (cells width (at (now (plane .entry)))) ⌝ }
+    ensures { λ r. ⌜ r ≡ regionInRange fiveThreeFilter 1 levels (side x width) (side y height) (cells width (at (now (plane .entry)))) ⌝ }
 {
     let n = width * height;
     if rows_in_range(plane, n, 0, 1, 0, n, 1) {

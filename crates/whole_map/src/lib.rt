@@ -187,7 +187,7 @@ fn rebuild(
 ) -> bool
     requires { ⌜ Sized width height levels × (width * height ≤ length (now plane)) × (width * height ≤ length (now heights))
         × (width * height ≤ length (now work)) ⌝ }
-    ensures { λ ok. ⌜ MapRebuilt ok (side x width) (side y height) levels (at (now (plane .entry))) (heightsAt (now (heights .entry)))
+    ensures { λ ok. ⌜ MapRebuilt fiveThreeFilter ok (side x width) (side y height) levels (at (now (plane .entry))) (heightsAt (now (heights .entry)))
         (heightsAt (now (heights .exit))) (at (now (work .entry))) (at (now (work .exit))) ⌝ }
 {
     if !levels::back_levels(plane, work, width, width, x, width, y, height, levels, 0) {
@@ -209,7 +209,7 @@ fn restore(
 ) -> u8
     requires { ⌜ Sized width height levels × (width * height ≤ length (now plane)) × (width * height ≤ length (now heights))
         × (width * height ≤ length (now work)) ⌝ }
-    ensures { λ r. ⌜ r ≡ planeQuestions (side x width) (side y height) levels (cells width (at (now (plane .entry)))) ⌝ }
+    ensures { λ r. ⌜ r ≡ planeQuestions fiveThreeFilter (side x width) (side y height) levels (cells width (at (now (plane .entry)))) ⌝ }
     ensures { λ r. ⌜ heightsAt (now (heights .exit)) ≡
         rebuilt r (width * height) (flat width (mapBack fiveThreeFilter wrap32 levels (side x width) (side y height) (cells width (at (now (plane .entry))))))
         (heightsAt (now (heights .entry))) ⌝ }

@@ -6,6 +6,8 @@ use native.Mathlib.Omega.{arith}
 use lib.ListN.{length}
 use borrow.Author.Tests.{not-true, not-false}
 use borrow.Rule.Slice.PartMut.{putMid}
+use Rattle.lifting.proofs.FiveThreeFilter.{five-three-laws}
+use Rattle.lifting.specs.FiveThree.{fiveThreeFilter}
 use Rattle.numbers.proofs.Parts.{length-mid, at-mid}
 use Rattle.lifting.specs.Line.{lo}
 use Rattle.lifting.specs.Grid.{side, count}
@@ -15,6 +17,7 @@ use Rattle.whole_map.proofs.GridSweep.{rows-kept}
 use Rattle.whole_map.proofs.LevelCalls.{put-area, put-same, put-again}
 use Rattle.whole_map.proofs.TestLaws.{goes-as, goes-yes}
 use Rattle.whole_map.proofs.LevelSteps.{stride-small, doubled, next-side, rows-next, rows-corner, part-room, lows-few, back-end, back-no, back-low}
+use Rattle.whole_map.proofs.LevelMath.{five-three-made}
 use Rattle.whole_map.proofs.LevelSteps.{back-step}
 use Prim.Native.Nat.{ℕ, _<_}
 use borrow.Fn.Kinds.{In}
@@ -142,10 +145,10 @@ back-levels-returns t c =
     let low2 = goes .before in
     let low = low2 .before in
     let start = low .before in
-    back-end _ _ _ _ (side (start .args .x) (start .args .width)) (side (start .args .y) (start .args .height)) _ _ _ _ (start .pre .1 .1 .wide)
+    back-end fiveThreeFilter five-three-laws _ _ _ _ (side (start .args .x) (start .args .width)) (side (start .args .y) (start .args .height)) _ _ _ _ (start .pre .1 .1 .wide)
     (start .pre .1 .2 .some)
     (goes-as _ _ _ _ _ _ _ (low .low-count .ensures) (low2 .low-count2 .ensures) (goes .goes-on .ensures) (not-true _ (then .if1 .taken)))
-    (back .level-back .ensures)
+    (five-three-made (back .level-back .ensures))
 
 back-levels-next-start-requires : (t : ℕ) → back-levels-lts.Need-next-start-requires (
   low-count-reads.Asked,
@@ -510,7 +513,7 @@ back-levels-returns-2 t c =
     let size₁ = again .back-levels .kept .1 .0 in
     let work₁ = putMid a (n - a) work z₁ in
     let same₁ : length work₁ ≡ n = put-same a (n - a) work z₁ fit size₁ in
-    back-no n _ _ _ _ a (n - a) W H _ _ _ _ _ _ _ _ R (yes′ .0) ch
+    back-no fiveThreeFilter five-three-laws n _ _ _ _ a (n - a) W H _ _ _ _ _ _ _ _ R (yes′ .0) ch
     (next-side W _ _ (next .next-start .ensures) (low .low-count .ensures)) (next-side H _ _ (next2 .next-start2 .ensures) (low2 .low-count2 .ensures)) refl
     refl (at-mid a (n - a) work) (again .back-levels .ensures) (put-area a (n - a) work z₁ fit size₁) (not-true _ (c .if2 .taken))
 
@@ -845,7 +848,7 @@ back-levels-returns-3 t c =
     let size₂ = weave .weave-low .kept .0 in
     let work₂ = putMid a (n - a) work₁ z₂ in
     let same₂ : length work₂ ≡ n = put-same a (n - a) work₁ z₂ fit₁ size₂ ∙ same₁ in
-    back-low n _ _ _ _ a (n - a) W H _ _ _ _ _ _ _ _ R (yes′ .0) ch
+    back-low fiveThreeFilter five-three-laws n _ _ _ _ a (n - a) W H _ _ _ _ _ _ _ _ R (yes′ .0) ch
     (next-side W _ _ (next .next-start .ensures) (low .low-count .ensures)) (next-side H _ _ (next2 .next-start2 .ensures) (low2 .low-count2 .ensures)) refl
     refl (at-mid a (n - a) work) (again .back-levels .ensures) (put-area a (n - a) work z₁ fit size₁)
     (not-false _ (fits .if2 .left)) _ _ _ _ (at-mid a (n - a) work₁) (put-again a (n - a) work z₁ fit size₁) (weave .weave-low .ensures .0)
@@ -993,11 +996,11 @@ back-levels-returns-4 t c =
     let size₂ = weave .weave-low .kept .0 in
     let work₂ = putMid a (n - a) work₁ z₂ in
     let same₂ : length work₂ ≡ n = put-same a (n - a) work₁ z₂ fit₁ size₂ ∙ same₁ in
-    back-step n _ _ _ _ a (n - a) W H _ _ _ _ _ _ _ _ R (yes′ .0) ch
+    back-step fiveThreeFilter five-three-laws n _ _ _ _ a (n - a) W H _ _ _ _ _ _ _ _ R (yes′ .0) ch
     (next-side W _ _ (next .next-start .ensures) (low .low-count .ensures)) (next-side H _ _ (next2 .next-start2 .ensures) (low2 .low-count2 .ensures)) refl
     refl (at-mid a (n - a) work) (again .back-levels .ensures) (put-area a (n - a) work z₁ fit size₁)
     (not-false _ (fits .if2 .left)) _ _ _ _ (at-mid a (n - a) work₁) (put-again a (n - a) work z₁ fit size₁) (weave .weave-low .ensures .0)
-    (weave .weave-low .ensures .1) (put-area a (n - a) work₁ z₂ fit₁ size₂) _ _ (not-false _ (good .if3 .left)) (back .level-back2 .ensures)
+    (weave .weave-low .ensures .1) (put-area a (n - a) work₁ z₂ fit₁ size₂) _ _ (not-false _ (good .if3 .left)) (five-three-made (back .level-back2 .ensures))
 
 pub +back-levels-spec : {M : Type 1} → statement M
 +back-levels-spec = close μ-back-levels λ t. back-levels-lts.spec (

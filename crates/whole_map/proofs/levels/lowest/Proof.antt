@@ -23,14 +23,14 @@ sub-result : tie.Need-sub-result
 sub-result c =
     let k = c .before .args .level in
     let small : range fiveThreeFilter k < 2147483648 = range-small fiveThreeFilter five-three-laws k (five-three-few (c .before .pre)) in
-    neg-fits (range fiveThreeFilter k) _ small (read-back _ (c .range-of .ok) ∙ c .range-of .ensures ∙ range-is k (c .before .pre))
+    neg-fits (range fiveThreeFilter k) _ small (read-back _ (c .range-of .ok) ∙ c .range-of .ensures ∙ range-is fiveThreeFilter k (c .before .pre))
 
 returns : tie.Need-returns
 returns c =
     let v = toZ w32 (ofZ w32 (c .range-of .result)) in
     toZ-ofZ w32 (pos 0 -ℤ v) (sub-result c)
     ∙ neg-is v
-    ∙ ap negℤ (read-back (c .range-of .result) (c .range-of .ok) ∙ c .range-of .ensures ∙ range-is (c .before .args .level) (c .before .pre))
+    ∙ ap negℤ (read-back (c .range-of .result) (c .range-of .ok) ∙ c .range-of .ensures ∙ range-is fiveThreeFilter (c .before .args .level) (c .before .pre))
 
 pub lowest-spec : {M : Type 1} → statement M
 lowest-spec = tie.close (tie.spec range-of-requires sub-result returns)

@@ -2,6 +2,8 @@
 use mathlib.Core.Path.{sym, _∙_}
 use native.Mathlib.Omega.{arith}
 use borrow.Author.Needs.{needs}
+use Rattle.lifting.proofs.FiveThreeFilter.{five-three-laws}
+use Rattle.lifting.specs.FiveThree.{fiveThreeFilter}
 use Rattle.lifting.specs.Grid.{side}
 use Rattle.whole_map.proofs.TestLaws.{region-least}
 use Rattle.whole_map.proofs.CallLaws.{map-rows, one-row}
@@ -18,7 +20,7 @@ returns : tie.Need-returns
 returns c =
     let test = c .before in
     let start = test .before in
-    sym (region-least _ (side (start .args .x) (start .args .width)) (side (start .args .y) (start .args .height)) _ (start .pre .0 .levels .0)
+    sym (region-least fiveThreeFilter five-three-laws _ (side (start .args .x) (start .args .width)) (side (start .args .y) (start .args .height)) _ (start .pre .0 .levels .0)
     (sym (test .rows-in-range .ensures) ∙ c .if1 .taken))
 
 in-range-requires : tie.Need-in-range-requires

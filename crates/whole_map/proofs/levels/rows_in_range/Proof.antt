@@ -1,6 +1,7 @@
 -- `levels::rows_in_range` meets its contract: the test of the rows, with the range of the level. Assumes nothing.
 use mathlib.Core.Path.{_∙_}
 use borrow.Author.Needs.{needs}
+use Rattle.lifting.specs.FiveThree.{fiveThreeFilter}
 use Rattle.numbers.specs.Signal.{at}
 use Rattle.wavelet.specs.Plane.{cells}
 use Rattle.numbers.proofs.Words.{read-back}
@@ -25,7 +26,7 @@ returns c =
     c .rows-between .ensures
     ∙ between-by (a .first) (a .last) (a .from) (a .to) (cells (a .across) (at (a .plane .now)))
     (read-back (low .lowest .result) (low .lowest .ok) ∙ low .lowest .ensures)
-    (read-back (high .range-of .result) (high .range-of .ok) ∙ high .range-of .ensures ∙ range-is (a .level) (low .before .pre .3))
+    (read-back (high .range-of .result) (high .range-of .ok) ∙ high .range-of .ensures ∙ range-is fiveThreeFilter (a .level) (low .before .pre .3))
 
 pub rows-in-range-spec : {M : Type 1} → statement M
 rows-in-range-spec =

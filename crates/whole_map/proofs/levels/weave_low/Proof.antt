@@ -1,5 +1,6 @@
 -- `levels::weave_low` meets its contract: the rows, and the range of their level. Assumes nothing.
 use mathlib.Core.Path.{_∙_}
+use Rattle.lifting.specs.FiveThree.{fiveThreeFilter}
 use Rattle.numbers.specs.Signal.{at}
 use Rattle.numbers.proofs.Words.{read-back}
 use Rattle.wavelet.specs.Plane.{cells}
@@ -30,7 +31,7 @@ returns c =
       rows .weave-rows .ensures .0
           ∙ between-by 0 (a .height) 0 (a .width) (cells (a .stride) (at (a .work .now)))
           (read-back (low .lowest .result) (low .lowest .ok) ∙ low .lowest .ensures)
-          (read-back (high .range-of .result) (high .range-of .ok) ∙ high .range-of .ensures ∙ range-is (a .level) (start .pre .2)),
+          (read-back (high .range-of .result) (high .range-of .ok) ∙ high .range-of .ensures ∙ range-is fiveThreeFilter (a .level) (start .pre .2)),
       rows .weave-rows .ensures .1,
     )
 
