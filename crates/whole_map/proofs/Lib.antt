@@ -17,3 +17,4 @@ pub mod CallLaws
 pub mod Demand2
 pub mod ByFilterLaws
 pub mod QuestionBy
+pub mod NineSevenBack

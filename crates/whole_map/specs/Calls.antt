@@ -42,6 +42,12 @@ planeQuestions F W H L x = ask (inRange F L W H x) 7 (ask (rebuiltFits F 0 L W H
 unfoldable pub backwardQuestion : Side → Side → ℕ → ℕ → ℕ → ℕ → Grid → ℕ
 backwardQuestion W H L plane heights work x = sizeQuestions (W .length) (H .length) L plane heights work (planeQuestions fiveThreeFilter W H L x)
 
+-- by the filter f: these after those of the sizes
+unfoldable pub backwardQuestionBy : ℕ → Side → Side → ℕ → ℕ → ℕ → ℕ → Grid → ℕ
+backwardQuestionBy f W H L plane heights work x =
+    pick (eqb (sizeQuestionsBy f (W .length) (H .length) L plane heights work) 0) (planeQuestions (filterOf f) W H L x)
+    (sizeQuestionsBy f (W .length) (H .length) L plane heights work)
+
 abbrev pub zeros : ℕ → ℤ
 zeros _ = pos 0
 
