@@ -18,3 +18,4 @@ pub mod Demand2
 pub mod ByFilterLaws
 pub mod QuestionBy
 pub mod NineSevenBack
+pub mod Demand2By
