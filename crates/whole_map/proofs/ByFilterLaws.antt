@@ -1,10 +1,10 @@
 -- Each filter's own passes over a level are those of the definition, and each filter has the laws of one. Assumes nothing.
 use mathlib.Core.Path.{_≡_, refl, sym, ap, _∙_, fun-ext}
-use mathlib.Core.Bool.{true, false}
-use Prim.Native.Nat.{ℕ, zero, suc, _+_, _-_, _*_, _/_, _%_, _≤_, _<_}
+use mathlib.Core.Bool.{Bool, true, false}
+use Prim.Native.Nat.{ℕ, zero, suc, _+_, _-_, _*_, _/_, _%_, _≤_, _<_, min}
 use native.Mathlib.Nat.{div-add-mod'}
 use native.Mathlib.Omega.{arith}
-use lib.IntN.{ℤ}
+use lib.IntN.{ℤ, pos}
 use Rattle.numbers.specs.Signal.{pick}
 use Rattle.lifting.specs.Grid.{Side}
 use Rattle.lifting.specs.GridHalves as five
@@ -18,12 +18,14 @@ use Rattle.nine_seven.specs.NineSevenFilter.{nineSevenFilter}
 use Rattle.nine_seven.proofs.NineSevenFilter.{nine-seven-laws}
 use Rattle.nine_seven_sweep.specs.Columns.{column, columnsBy, columnsLifted, columnsFit}
 use Rattle.areas.proofs.AreaLaws.{did}
+use Rattle.wavelet.specs.Limits.{maxLevels, range}
 use Rattle.wavelet.specs.Bands.{Grid}
 use Rattle.wavelet.specs.Plane.{cells, flat}
 use Rattle.wavelet.proofs.GridLaws.{cells-flat}
 use Rattle.whole_map.specs.Passes.{Rows, within, rowsMapped}
 use Rattle.whole_map.specs.ByFilter.{filterOf, liftedBy, columnsLiftedBy, levelLiftedBy}
-use Rattle.whole_map.specs.LevelPasses.{columnsLiftedInPlace, levelLifted}
+use Rattle.whole_map.specs.LevelPasses.{columnsLiftedInPlace, levelLifted, LevelMade, LevelMadeBy}
+use Rattle.whole_map.proofs.LevelMath.{five-three-made}
 use Rattle.whole_map.proofs.CellLaws.{flat-same}
 use Rattle.whole_map.proofs.LevelCalls.{mapped-same}
 
@@ -75,3 +77,35 @@ pub by-nine-seven : (f s : ℕ) (W H : Side) (x x′ : ℕ → ℤ) → (f ≡ 0
 unfolding filterOf
 by-nine-seven zero s W H x x′ d is = absurd (d refl)
 by-nine-seven (suc f) s W H x x′ d is = is
+
+-- ---- the way back
+pub levels-few : (f : ℕ) → filterOf f .levels ≤ maxLevels
+unfolding filterOf maxLevels
+levels-few zero = omega arith
+levels-few (suc f) = omega arith
+
+pub back-five-three : (f : ℕ) {ok : Bool} {from s : ℕ} {W H : Side} {z : Grid} {y₀ y : ℕ → ℤ} → f ≡ 0 → LevelMade ok from s W H z y₀ y →
+    LevelMadeBy (filterOf f) ok from s W H z y₀ y
+unfolding filterOf
+back-five-three f e m = rw e (five-three-made m)
+
+pub back-nine-seven : (f : ℕ) {ok : Bool} {from s : ℕ} {W H : Side} {z : Grid} {y₀ y : ℕ → ℤ} → (f ≡ 0 → ⊥) → LevelMadeBy nineSevenFilter ok from s W H z y₀ y →
+    LevelMadeBy (filterOf f) ok from s W H z y₀ y
+unfolding filterOf
+back-nine-seven zero d m = absurd (d refl)
+back-nine-seven (suc f) d m = m
+
+pub range-five-three : (f k : ℕ) (r : ℤ) → f ≡ 0 → k ≤ filterOf f .levels → r ≡ pos (range fiveThreeFilter (min k maxLevels)) → r ≡ pos (range (filterOf f) k)
+unfolding filterOf maxLevels
+range-five-three zero k r e b is = let m : min k 5 ≡ k = omega arith in is ∙ ap (λ (i : ℕ). pos (range fiveThreeFilter i)) m
+range-five-three (suc f) k r e b is = absurd (omega arith)
+
+pub range-nine-seven : (f k : ℕ) (r : ℤ) → (f ≡ 0 → ⊥) → r ≡ pos (range nineSevenFilter k) → r ≡ pos (range (filterOf f) k)
+unfolding filterOf
+range-nine-seven zero k r d is = absurd (d refl)
+range-nine-seven (suc f) k r d is = is
+
+pub nine-seven-few : (f k : ℕ) → (f ≡ 0 → ⊥) → k ≤ filterOf f .levels → k ≤ nineSevenFilter .levels
+unfolding filterOf
+nine-seven-few zero k d b = absurd (d refl)
+nine-seven-few (suc f) k d b = b

@@ -12,9 +12,7 @@ use Rattle.lifting.specs.Grid.{Side, place, count, joined}
 use Rattle.lifting.specs.GridHalves.{halvesOf}
 use Rattle.lifting.proofs.GridLaws.{counts, place-in, front-in}
 use Rattle.lifting.specs.Filter.{Filter}
-use Rattle.lifting.specs.FiveThree.{fiveThreeFilter}
 use Rattle.lifting.proofs.FilterLaws.{FilterLaws}
-use Rattle.lifting.proofs.FiveThreeFilter.{five-three-laws}
 use Rattle.wavelet.specs.Bands.{Grid, Band, LL, bandOf, subband}
 use Rattle.wavelet.specs.Plane.{cells, flat, halfAt, placeIn, inCorner, planeCell, planeBands, mapBack}
 use Rattle.wavelet.proofs.GridLaws.{cells-flat}
@@ -22,8 +20,8 @@ use Rattle.wavelet.specs.Levels.{next}
 use Rattle.wavelet.proofs.LevelTheory.{plane-reads}
 use Rattle.whole_map.specs.Rowwise.{cut, wovenInPlace}
 use Rattle.whole_map.specs.Passes.{within, rowsMapped, rowsFetched, gridHalved, gridCopied}
-use Rattle.whole_map.specs.ByFilter.{liftedBy, columnsLiftedBy, levelLiftedBy}
-use Rattle.whole_map.specs.LevelPasses.{levelGrid, cornerGrid, levelUnlifted, planeWritten, goesOn, Rebuilt}
+use Rattle.whole_map.specs.ByFilter.{liftedBy, columnsLiftedBy, levelLiftedBy, levelUnliftedBy}
+use Rattle.whole_map.specs.LevelPasses.{levelGrid, cornerGrid, planeWritten, goesOn, Rebuilt}
 use Rattle.whole_map.proofs.GridSweep.{mapped-in}
 use Rattle.whole_map.proofs.CellLaws.{halved-out, halved-grid, copied-in, mapped-out, fetched-new, fetched-made, made-low, made-high}
 use Rattle.whole_map.proofs.CellLaws.{placed-low, placed-high, flat-same, placed, placed-in, joined-at, grid-at, half-low, cut-in, within-in, by-within}
@@ -151,8 +149,8 @@ unfolding cells place
 twice s H x r c = let k : H .start % 2 * s + (r * (2 * s) + c) ≡ (2 * r + H .start % 2) * s + c = omega arith in rw k
 
 -- the bands that the plane x and the levels left give
-abbrev pub bandsBack : ℕ → Side → Side → Grid → Band → Grid
-bandsBack L W H x = planeBands W H (mapBack fiveThreeFilter wrap32 L (next W) (next H) x) x
+abbrev pub bandsBack : Filter → ℕ → Side → Side → Grid → Band → Grid
+bandsBack F L W H x = planeBands W H (mapBack F wrap32 L (next W) (next H) x) x
 
 -- what is fetched from the plane, and what is left
 module _ (from w : ℕ) (H : Side) (z x : Grid) (c : ℕ) (cw : c < w) (i : ℕ) where
@@ -179,13 +177,13 @@ woven-in W h X r c rh cw =
     ∙ sym (grid-at W X r c)
 
 -- X is the area before the plane's rows x are fetched; from column `from` on the low-low part comes from the plane, and before it from X
-module _ (from : ℕ) (W H : Side) (x X : Grid) (few : from ≤ count lo W) (L : ℕ)
-    (left : (i n : ℕ) → i < count lo H → n < from → X (place H lo i) n ≡ mapBack fiveThreeFilter wrap32 L (next W) (next H) x i n)
-    (new : (i n : ℕ) → i < count lo H → n < count lo W → from ≤ n → x i n ≡ mapBack fiveThreeFilter wrap32 L (next W) (next H) x i n) where
+module _ (F : Filter) (laws : FilterLaws F) (from : ℕ) (W H : Side) (x X : Grid) (few : from ≤ count lo W) (L : ℕ)
+    (left : (i n : ℕ) → i < count lo H → n < from → X (place H lo i) n ≡ mapBack F wrap32 L (next W) (next H) x i n)
+    (new : (i n : ℕ) → i < count lo H → n < count lo W → from ≤ n → x i n ≡ mapBack F wrap32 L (next W) (next H) x i n) where
   abbrev fetchedRows : Grid
   fetchedRows = rowsFetched from (W .length) H x X
 
-  pub bands-fetched : BandsIn W H (bandsBack L W H x) fetchedRows
+  pub bands-fetched : BandsIn W H (bandsBack F L W H x) fetchedRows
   unfolding halvesOf planeBands bandOf
   bands-fetched =
       let both = counts W in
@@ -208,8 +206,8 @@ module _ (from : ℕ) (W H : Side) (x X : Grid) (few : from ≤ count lo W) (L :
       }
 
   -- y is the level lifted back
-  module _ (s : ℕ) (y : ℕ → ℤ) (ws : W .length ≤ s) (e : y ≡ flat s (levelUnlifted W H (cells s (flat s fetchedRows)))) where
-    bands-cells : BandsIn W H (bandsBack L W H x) (cells s (flat s fetchedRows))
+  module _ (s : ℕ) (y : ℕ → ℤ) (ws : W .length ≤ s) (e : y ≡ flat s (levelUnliftedBy F W H (cells s (flat s fetchedRows)))) where
+    bands-cells : BandsIn W H (bandsBack F L W H x) (cells s (flat s fetchedRows))
     unfolding halvesOf
     bands-cells =
         let both = counts W in
@@ -220,7 +218,7 @@ module _ (from : ℕ) (W H : Side) (x X : Grid) (few : from ≤ count lo W) (L :
           ];
         }
 
-    pub level-rebuilt : Rebuilt (suc L) W H x (cells s y)
+    pub level-rebuilt : Rebuilt F (suc L) W H x (cells s y)
     unfolding mapBack
     level-rebuilt =
         record {
@@ -228,7 +226,7 @@ module _ (from : ℕ) (W H : Side) (x X : Grid) (few : from ≤ count lo W) (L :
               let m = placed-in W c cw in
               grid-at W (cells s y) r c
               ∙ ap (λ (u : ℕ → ℤ). cells s u r (placed W c)) e
-              ∙ cells-flat s (levelUnlifted W H (cells s (flat s fetchedRows))) r (placed W c) (omega arith)
-              ∙ sym (grid-at W (levelUnlifted W H (cells s (flat s fetchedRows))) r c)
-              ∙ level-back W H (bandsBack L W H x) (cells s (flat s fetchedRows)) bands-cells r c rh cw;
+              ∙ cells-flat s (levelUnliftedBy F W H (cells s (flat s fetchedRows))) r (placed W c) (omega arith)
+              ∙ sym (grid-at W (levelUnliftedBy F W H (cells s (flat s fetchedRows))) r c)
+              ∙ level-back F laws W H (bandsBack F L W H x) (cells s (flat s fetchedRows)) bands-cells r c rh cw;
         }

@@ -17,3 +17,5 @@ pub mod CallLaws
 pub mod Demand2
 pub mod ByFilterLaws
 pub mod QuestionBy
+pub mod NineSevenBack
+pub mod Demand2By

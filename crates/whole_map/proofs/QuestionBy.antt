@@ -3,26 +3,22 @@ use mathlib.Core.Path.{_≡_, refl, sym, ap, _∙_}
 use mathlib.Core.Bool.{Bool, true, false}
 use Prim.Native.Nat.{ℕ, zero, suc, _*_, _≤_, _<_}
 use native.Mathlib.Omega.{arith}
-use lib.Dec.{leb}
-use borrow.Author.Tests.{leb-true, le-leb, lt-leb}
-use Rattle.numbers.specs.Signal.{both}
+use lib.Dec.{leb, eqb}
+use borrow.Author.Tests.{leb-true, le-leb, lt-leb, eq-eqb, ne-eqb}
+use Rattle.numbers.specs.Signal.{pick, both}
 use Rattle.numbers.proofs.Sweep.{both as both-hold}
 use Rattle.wavelet.specs.Limits.{maxWidth, maxHeight, maxLevels}
 use Rattle.wavelet.specs.Questions.{ask, within, sizeQuestion}
 use Rattle.wavelet.proofs.QuestionLaws.{within-true}
 use Rattle.whole_map.specs.ByFilter.{filterOf}
 use Rattle.whole_map.specs.Calls.{sizeQuestions, sizeQuestionsBy}
+use Rattle.whole_map.proofs.ByFilterLaws.{levels-few}
 use Rattle.whole_map.proofs.CallLaws.{Roomy}
 
 -- a question that passes, and what follows it
 passes : (q : Bool) (n rest : ℕ) → (n ≡ 0 → ⊥) → ask q n rest ≡ 0 → (q ≡ true) × (rest ≡ 0)
 passes true n rest d e = (refl, e)
 passes false n rest d e = absurd (d e)
-
-few : (f : ℕ) → filterOf f .levels ≤ maxLevels
-unfolding filterOf maxLevels
-few zero = omega arith
-few (suc f) = omega arith
 
 -- ---- the first two, asked with one level
 one : within 1 maxLevels 1 ≡ true
@@ -78,7 +74,7 @@ roomy-by f W H L a b c e =
     let u = both-hold (leb (W * H) a) _ (t .0) in
     let v = both-hold (leb (W * H) b) _ (u .1) in
     let l = within-true 1 (filterOf f .levels) L (s .0) in
-    let m = few f in (
+    let m = levels-few f in (
       record {
         size = record {
           width = within-true 1 maxWidth W (p .0);
@@ -91,3 +87,24 @@ roomy-by f W H L a b c e =
       },
       l .1,
     )
+
+-- ---- what follows them
+pub asked-no : (q rest : ℕ) → (q ≡ 0 → ⊥) → q ≡ pick (eqb q 0) rest q
+asked-no q rest d = simp (ne-eqb q 0 d)
+
+pub asked-on : (q rest : ℕ) → q ≡ 0 → rest ≡ pick (eqb q 0) rest q
+asked-on q rest e = simp (eq-eqb q 0 e)
+
+no-fourteen : (a b d e g : Bool) → ask a 2 (ask b 3 (ask d 18 (ask e 4 (ask g 5 0)))) ≡ 14 → ⊥
+no-fourteen true true true true true h = omega arith
+no-fourteen true true true true false h = omega arith
+no-fourteen true true true false g h = omega arith
+no-fourteen true true false e g h = omega arith
+no-fourteen true false d e g h = omega arith
+no-fourteen false b d e g h = omega arith
+
+pub never-fourteen : (f W H L a b c : ℕ) → sizeQuestionsBy f W H L a b c ≡ 14 → ⊥
+unfolding sizeQuestionsBy
+never-fourteen f W H L a b c h =
+    no-fourteen (within 1 maxWidth W) (within 1 maxHeight H) (leb f 1) (within 1 (filterOf f .levels) L)
+    (both (leb (W * H) a) (both (leb (W * H) b) (leb (W * H) c))) h

@@ -5,6 +5,7 @@ use lib.Dec.{leb, eqb}
 use Rattle.numbers.specs.Signal.{pick, both}
 use Rattle.lifting.specs.Halves.{fronted}
 use Rattle.lifting.specs.Grid.{Side}
+use Rattle.lifting.specs.Filter.{Filter}
 use Rattle.lifting.specs.FiveThree.{fiveThreeFilter}
 use Rattle.wavelet.specs.Limits.{maxWidth, maxHeight, maxLevels}
 use Rattle.wavelet.specs.Questions.{ask, within}
@@ -35,11 +36,17 @@ unfoldable pub forwardQuestion : Side → Side → ℕ → ℕ → ℕ → ℕ �
 forwardQuestion W H L heights plane work = sizeQuestions (W .length) (H .length) L heights plane work 0
 
 -- 7 and 14, of the plane x
-unfoldable pub planeQuestions : Side → Side → ℕ → Grid → ℕ
-planeQuestions W H L x = ask (inRange fiveThreeFilter L W H x) 7 (ask (rebuiltFits fiveThreeFilter 0 L W H x) 14 0)
+unfoldable pub planeQuestions : Filter → Side → Side → ℕ → Grid → ℕ
+planeQuestions F W H L x = ask (inRange F L W H x) 7 (ask (rebuiltFits F 0 L W H x) 14 0)
 
 unfoldable pub backwardQuestion : Side → Side → ℕ → ℕ → ℕ → ℕ → Grid → ℕ
-backwardQuestion W H L plane heights work x = sizeQuestions (W .length) (H .length) L plane heights work (planeQuestions W H L x)
+backwardQuestion W H L plane heights work x = sizeQuestions (W .length) (H .length) L plane heights work (planeQuestions fiveThreeFilter W H L x)
+
+-- by the filter f: these after those of the sizes
+unfoldable pub backwardQuestionBy : ℕ → Side → Side → ℕ → ℕ → ℕ → ℕ → Grid → ℕ
+backwardQuestionBy f W H L plane heights work x =
+    pick (eqb (sizeQuestionsBy f (W .length) (H .length) L plane heights work) 0) (planeQuestions (filterOf f) W H L x)
+    (sizeQuestionsBy f (W .length) (H .length) L plane heights work)
 
 abbrev pub zeros : ℕ → ℤ
 zeros _ = pos 0
