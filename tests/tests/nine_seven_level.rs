@@ -6,15 +6,19 @@ use terrain_tests::random::Random;
 use terrain_tests::{grid, nine_seven};
 
 /// The rows of a level's low and of its high half down, each lifted along the row and in halves.
-fn bands(heights: &[Vec<u16>], x: i64, y: i64) -> [Vec<Vec<i32>>; 2] {
-    let columns: Vec<Vec<i32>> =
-        (0..heights[0].len()).map(|c| nine_seven::forward(&heights.iter().map(|row| row[c] as i32).collect::<Vec<_>>(), y)).collect();
+fn bands(rows: &[Vec<i32>], x: i64, y: i64) -> [Vec<Vec<i32>>; 2] {
+    let width = rows.first().map_or(0, Vec::len);
+    let columns: Vec<Vec<i32>> = (0..width).map(|c| nine_seven::forward(&rows.iter().map(|row| row[c]).collect::<Vec<_>>(), y)).collect();
     let mut halves = [vec![], vec![]];
-    for r in 0..heights.len() {
+    for r in 0..rows.len() {
         let row: Vec<i32> = columns.iter().map(|column| column[r]).collect();
         halves[((y + r as i64) % 2) as usize].push(grid::in_halves(&nine_seven::forward(&row, x), x));
     }
     halves
+}
+
+fn whole(heights: &[Vec<u16>]) -> Vec<Vec<i32>> {
+    heights.iter().map(|row| row.iter().map(|&h| h as i32).collect()).collect()
 }
 
 /// A level that is being made, what its sets should be, and how many low and high rows were seen.
@@ -28,7 +32,7 @@ struct Making {
 impl Making {
     fn new(level: Level, heights: &[Vec<u16>]) -> Self {
         let numbers = 8 * (level.w + grid::lows(level.w, level.x as i64));
-        Making { level, store: Guarded::unset(numbers), halves: bands(heights, level.x as i64, level.y as i64), seen: [0, 0] }
+        Making { level, store: Guarded::unset(numbers), halves: bands(&whole(heights), level.x as i64, level.y as i64), seen: [0, 0] }
     }
 
     /// The low row of set n, if it has one.
@@ -152,4 +156,147 @@ fn a_store_too_short_gives_5_and_stays() {
         assert_eq!(slot(w, 7), 0);
         assert!(store.is_unset_from(0));
     }
+}
+
+/// A band row: its level from 1, its band's code, its number.
+type Name = (usize, usize, usize);
+
+/// Levels one below another in one store, driven as document 01's writer drives them, and the band rows that they made, in their order.
+struct Cascade {
+    levels: Vec<Level>,
+    begins: Vec<usize>,
+    rows: Vec<usize>,
+    store: Guarded,
+    made: Vec<(Name, Vec<i32>)>,
+}
+
+impl Cascade {
+    fn new(depth: usize, w: usize, x: usize, y: usize) -> Self {
+        let (mut level, mut begin) = (Level { w, x, y }, 0);
+        let (mut levels, mut begins) = (vec![], vec![]);
+        for _ in 0..depth {
+            levels.push(level);
+            begins.push(begin);
+            begin += 8 * level.w;
+            level = Level { w: grid::lows(level.w, level.x as i64), x: (level.x + 1) / 2, y: (level.y + 1) / 2 };
+        }
+        // a level's LL row goes past its own stretch, the last one's nowhere
+        Cascade { levels, begins, rows: vec![0; depth], store: Guarded::unset(begin), made: vec![] }
+    }
+
+    fn stretch(&mut self, k: usize) -> &mut [i32] {
+        let begin = self.begins[k];
+        &mut self.store.lent()[begin..]
+    }
+
+    /// A row of level k is complete.
+    fn arrived(&mut self, k: usize) {
+        let q = self.levels[k].y % 2 + self.rows[k];
+        self.rows[k] += 1;
+        if 4 <= q && q % 2 == 0 {
+            let (level, n) = (self.levels[k], (q - 4) / 2);
+            assert_eq!(level.make(self.stretch(k), n), 0);
+            self.handed_out(k, n);
+        }
+    }
+
+    /// Set n of level k stands: its rows, then what its LL row makes below.
+    fn handed_out(&mut self, k: usize, n: usize) {
+        let Level { w, x, y } = self.levels[k];
+        let (first, last) = (y % 2, y % 2 + self.rows[k]);
+        let low = grid::lows(w, x as i64);
+        let has = [first <= n && 2 * n < last, 2 * n + 1 < last];
+        for band in 0..4 {
+            let (down, across) = (band / 2, band % 2);
+            let columns = [low, w - low][across];
+            if has[down] && 0 < columns && (0 < band || k + 1 == self.levels.len()) {
+                let place = slot(w, 2 * n + 6 + down) + low * across;
+                let row = self.stretch(k)[place..place + columns].to_vec();
+                self.made.push(((k + 1, band, n - [first, 0][down]), row));
+            }
+        }
+        if has[0] && 0 < low && k + 1 < self.levels.len() {
+            let q = self.levels[k + 1].y % 2 + (n - first);
+            assert_eq!(self.levels[k].deliver(self.stretch(k), n, q), 0);
+            self.arrived(k + 1);
+        }
+    }
+
+    /// All rows are there: each level makes the sets that are left, in their order.
+    fn finished(&mut self) {
+        for k in 0..self.levels.len() {
+            if self.rows[k] == 0 || self.levels[k].w == 0 {
+                continue;
+            }
+            let last = (self.levels[k].y % 2 + self.rows[k] - 1) / 2;
+            for n in last.saturating_sub(1)..=last {
+                let (level, m) = (self.levels[k], self.rows[k]);
+                assert_eq!(level.close(self.stretch(k), m, n), 0);
+                self.handed_out(k, n);
+            }
+        }
+    }
+}
+
+/// The band rows of a map, level by level.
+fn planes(depth: usize, heights: &[Vec<u16>], x: usize, y: usize) -> Vec<(Name, Vec<i32>)> {
+    let (mut rows, mut x, mut y, mut names) = (whole(heights), x, y, vec![]);
+    for k in 0..depth {
+        let halves = bands(&rows, x as i64, y as i64);
+        let low = grid::lows(rows.first().map_or(0, Vec::len), x as i64);
+        for (down, half) in halves.iter().enumerate() {
+            for (r, row) in half.iter().enumerate() {
+                for (across, part) in [&row[..low], &row[low..]].into_iter().enumerate() {
+                    let band = 2 * down + across;
+                    if !part.is_empty() && (0 < band || k + 1 == depth) {
+                        names.push(((k + 1, band, r), part.to_vec()));
+                    }
+                }
+            }
+        }
+        rows = halves[0].iter().map(|row| row[..low].to_vec()).collect();
+        (x, y) = ((x + 1) / 2, (y + 1) / 2);
+    }
+    names
+}
+
+fn cascaded(depth: usize, heights: &[Vec<u16>], x: usize, y: usize) -> (Cascade, usize) {
+    let mut cascade = Cascade::new(depth, heights[0].len(), x, y);
+    for (r, row) in heights.iter().enumerate() {
+        let level = cascade.levels[0];
+        assert_eq!(level.put(cascade.stretch(0), y % 2 + r, 0, row), 0);
+        cascade.arrived(0);
+    }
+    let before = cascade.made.len();
+    cascade.finished();
+    (cascade, before)
+}
+
+#[test]
+fn up_to_four_levels_one_below_another_make_the_maps_bands() {
+    let mut random = Random::new(9);
+    for depth in 1..=4 {
+        for w in 1..=9 {
+            for h in [1, 2, 3, 4, 5, 7, 11, 16, 23, 37] {
+                let (x, y) = (random.below(16), random.below(16));
+                let heights: Vec<Vec<u16>> = (0..h).map(|_| (0..w).map(|_| random.below(65_536) as u16).collect()).collect();
+                let (cascade, _) = cascaded(depth, &heights, x, y);
+                let mut made = cascade.made;
+                made.sort();
+                let mut all = planes(depth, &heights, x, y);
+                all.sort();
+                assert_eq!(made, all, "{depth} levels of {w} × {h} from {x}, {y}");
+            }
+        }
+    }
+}
+
+/// Each set left at the finish is made with all that it makes below before the next.
+#[test]
+fn the_order_at_the_finish() {
+    let heights: Vec<Vec<u16>> = (0..12).map(|r| vec![r, 7 * r]).collect();
+    let (cascade, before) = cascaded(2, &heights, 0, 0);
+    let names: Vec<Name> = cascade.made[before..].iter().map(|(name, _)| *name).collect();
+    let wanted = [(1, 1, 4), (1, 2, 4), (1, 3, 4), (2, 0, 0), (2, 2, 0), (1, 1, 5), (1, 2, 5), (1, 3, 5), (2, 0, 1), (2, 2, 1), (2, 0, 2), (2, 2, 2)];
+    assert_eq!(names, wanted);
 }
