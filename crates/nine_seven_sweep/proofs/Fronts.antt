@@ -1,4 +1,5 @@
--- A sweep over the rows of two halves, one row changed after the other: which low and which high rows are done. x₀ is the area at its beginning, Y what the rows
+-- A sweep over the rows of two halves, one row changed after the other: which low and which high rows are done. x₀ is the area at its beginning, Y what the
+-- rows
 -- become, and P says where a row stands, by its half and its number there. Assumes nothing.
 use mathlib.Core.Path.{_≡_, refl, sym, ap, _∙_, fun-ext}
 use mathlib.Core.Logic.{_≢_}

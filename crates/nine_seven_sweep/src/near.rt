@@ -1,5 +1,5 @@
-// Which rows of the other half a row goes by, those of each half counted from 0: the nearest where there is none such, and for the farther ones of the first and
-// of the last high row the second low row from there. o is 1 where the other half begins the column, else 0.
+// Which rows of the other half a row goes by, those of each half counted from 0: the nearest where there is none such, and for the farther ones of the first
+// and of the last high row the second low row from there. o is 1 where the other half begins the column, else 0.
 // The module is private: only the sweeps, which meet what is required, can call it.
 ghost use mathlib.Core.Path.{_≡_};
 ghost use Prim.Native.Nat.{ℕ, _+_, _-_, _<_, _≤_};

@@ -254,7 +254,8 @@ module _ (F : Filter) (laws : FilterLaws F) (W H : Side) (L : ℕ) (l : List ℕ
       ∙ halved-out W H heights (cells w z₀) r c o
       ∙ sym (written-out F L W H g (cells w z₀) r c o)))
 
-  pub plane-made : L ≤ F .levels → (z₂ : ℕ → ℤ) → ((i : ℕ) → getD l i 0 < 65536) → z₂ ≡ flat w (planeWritten F L W H (cornerGrid W H (cells w z₁)) (cells w z₁)) →
+  pub plane-made : L ≤ F .levels → (z₂ : ℕ → ℤ) → ((i : ℕ) → getD l i 0 < 65536) → z₂ ≡ flat w
+      (planeWritten F L W H (cornerGrid W H (cells w z₁)) (cells w z₁)) →
       z₂ ≡ fronted (w * H .length) (planeOf F whole L W H heights) z₀
   unfolding planeOf
   plane-made few z₂ fits f =

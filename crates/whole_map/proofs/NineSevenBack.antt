@@ -147,7 +147,8 @@ module _ (n s A from : ℕ) (W H : Side) (z y₀ : ℕ → ℤ) (R : Rows n s (W
       unfolding columnsBack columnsBy column flat cells columnsUnliftedBy lineBack within
       columns-of = fun-ext λ j. let back : j / s * s + j % s ≡ j = div-add-mod' j s in rw back
 
-      columns-same : (X Y : Grid) (r c : ℕ) → ((i : ℕ) → X i c ≡ Y i c) → columnsUnliftedBy nineSevenFilter w H X r c ≡ columnsUnliftedBy nineSevenFilter w H Y r c
+      columns-same : (X Y : Grid) (r c : ℕ) → ((i : ℕ) → X i c ≡ Y i c) → columnsUnliftedBy nineSevenFilter w H X r c ≡ columnsUnliftedBy nineSevenFilter w H
+          Y r c
       unfolding columnsUnliftedBy
       columns-same X Y r c e =
           ap (λ (u : ℕ → ℤ). pick (within w h r c) (lineBackBy nineSevenFilter wrap32 H (parted H u) r) (u r)) (fun-ext e)

@@ -626,8 +626,8 @@ pub fn back_levels(
 ) -> bool
     requires { ⌜ Rows (length (now plane)) across width height × Rows (length (now work)) stride width height × Doubling levels stride width
         × (level + levels ≤ filterOf filter .levels) ⌝ }
-    ensures { λ ok. ⌜ LevelsBack (filterOf filter) ok level levels stride across (side x width) (side y height) (at (now (plane .entry))) (at (now (work .entry)))
-        (at (now (work .exit))) ⌝ }
+    ensures { λ ok. ⌜ LevelsBack (filterOf filter) ok level levels stride across (side x width) (side y height) (at (now (plane .entry)))
+        (at (now (work .entry))) (at (now (work .exit))) ⌝ }
 {
     let w = sizes::low_count(x, width);
     let h = sizes::low_count(y, height);
@@ -671,7 +671,8 @@ fn in_range(
     level: usize,
     filter: usize,
 ) -> bool
-    requires { ⌜ Rows (length (now plane)) across width height × (0 < levels) × (0 < level) × (level + levels ≤ filterOf filter .levels + 1) ⌝ }
+    requires { ⌜ Rows (length (now plane)) across width height × (0 < levels) × (0 < level)
+        × (level + levels ≤ filterOf filter .levels + 1) ⌝ }
     ensures { λ r. ⌜ r ≡ regionInRange (filterOf filter) level levels (side x width) (side y height) (cells across (at (now (plane .entry)))) ⌝ }
 {
     let w = sizes::low_count(x, width);

@@ -20,7 +20,8 @@ ghost use Rattle.wavelet.specs.Shape.{columns, rows};
 ghost use Rattle.whole_map.specs.Rowwise.{heightsAt};
 ghost use Rattle.whole_map.specs.ByFilter.{filterOf};
 ghost use Rattle.whole_map.specs.LevelPasses.{MapRebuilt};
-ghost use Rattle.whole_map.specs.Calls.{sizeQuestions, sizeQuestionsBy, forwardQuestion, planeQuestions, backwardQuestion, backwardQuestionBy, zeros, passed, rebuilt};
+ghost use Rattle.whole_map.specs.Calls.{sizeQuestions, sizeQuestionsBy, forwardQuestion, planeQuestions, backwardQuestion};
+ghost use Rattle.whole_map.specs.Calls.{backwardQuestionBy, zeros, passed, rebuilt};
 
 // Questions 2 to 5: 0, or the number of the first that says no. a, b and c are the lengths of the areas.
 fn size_question(width: usize, height: usize, levels: usize, a: usize, b: usize, c: usize) -> u8

@@ -22,7 +22,8 @@ returns : tie.Need-returns
 returns c =
     let back = c .before .before in
     let start = back .before .before .before in
-    map-no (filterOf (start .args .filter)) (filter-laws (start .args .filter)) _ _ _ _ _ _ _ (start .pre .0) _ (not-true _ (c .if1 .taken)) (back .back-levels .ensures)
+    map-no (filterOf (start .args .filter)) (filter-laws (start .args .filter)) _ _ _ _ _ _ _ (start .pre .0) _ (not-true _ (c .if1 .taken))
+    (back .back-levels .ensures)
 
 finish-rows-requires : tie.Need-finish-rows-requires
 finish-rows-requires c κs =
@@ -43,7 +44,8 @@ returns-2 c =
     let good = finish .before .before .before in
     let back = good .before .before in
     let start = back .before .before .before in
-    map-yes (filterOf (start .args .filter)) (filter-laws (start .args .filter)) _ _ _ _ _ _ _ (start .pre .0) _ _ _ _ (not-false _ (good .if1 .left)) (back .back-levels .ensures) (finish .finish-rows .ensures)
+    map-yes (filterOf (start .args .filter)) (filter-laws (start .args .filter)) _ _ _ _ _ _ _ (start .pre .0) _ _ _ _ (not-false _ (good .if1 .left))
+    (back .back-levels .ensures) (finish .finish-rows .ensures)
 
 pub rebuild-spec : {M : Type 1} → statement M
 rebuild-spec =

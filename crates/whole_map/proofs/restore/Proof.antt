@@ -19,7 +19,8 @@ plane-in-range-requires c κs = (c .before .pre .0, c .before .pre .1, c .before
 returns : tie.Need-returns
 returns c =
     let start = c .before .before .before in (
-      out-of-range (filterOf (start .args .filter)) (filter-laws (start .args .filter)) _ _ _ _ _ (c .before .plane-in-range .ensures) (not-true _ (c .if1 .taken)),
+      out-of-range (filterOf (start .args .filter)) (filter-laws (start .args .filter)) _ _ _ _ _ (c .before .plane-in-range .ensures)
+          (not-true _ (c .if1 .taken)),
       (rebuilt-no _ _ _ 7 (omega arith) (omega arith), rebuilt-no _ _ _ 7 (omega arith) (omega arith)),
     )
 
@@ -56,7 +57,8 @@ returns-2 c =
     let size = start .args .width * start .args .height in
     let room : (m k : ℕ) → m ≡ k → size ≤ k → leb size m ≡ true = λ m k e h. le-leb size m (omega arith) in
     let b = map .rebuild .ensures in (
-      not-rebuilt (filterOf (start .args .filter)) (filter-laws (start .args .filter)) _ _ _ _ _ (range .plane-in-range .ensures) (not-false _ (good .if1 .left)) _ (b .answer) (not-true _ (bad .if2 .taken)),
+      not-rebuilt (filterOf (start .args .filter)) (filter-laws (start .args .filter)) _ _ _ _ _ (range .plane-in-range .ensures)
+          (not-false _ (good .if1 .left)) _ (b .answer) (not-true _ (bad .if2 .taken)),
       (
         cleared _ _ _ _ _ (start .pre .0 .height .0) (b .keptHeights)
             (did _ _ _ _ (room _ _ (map .rebuild .kept .1 .1 .1 .1 .1 .1 .0) (start .pre .2)) (heights .clear-heights .ensures .1)) ∙ sym (rebuilt-zero _ _ _),
@@ -79,7 +81,8 @@ returns-3 c =
     let start = range .before .before in
     let t = not-false _ (c .if2 .left) in
     let b = map .rebuild .ensures in (
-      all-rebuilt (filterOf (start .args .filter)) (filter-laws (start .args .filter)) _ _ _ _ _ (range .plane-in-range .ensures) (not-false _ (good .if1 .left)) _ (b .answer) t,
+      all-rebuilt (filterOf (start .args .filter)) (filter-laws (start .args .filter)) _ _ _ _ _ (range .plane-in-range .ensures)
+          (not-false _ (good .if1 .left)) _ (b .answer) t,
       (b .heights t ∙ sym (rebuilt-yes _ _ _), b .cleared t ∙ sym (rebuilt-yes _ _ _)),
     )
 

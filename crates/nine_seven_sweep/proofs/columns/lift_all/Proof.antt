@@ -30,7 +30,8 @@ returns-2 c =
     let lone = c .before in
     let start = lone .before .before in
     let a = start .args in
-    short-lifted (a .stride) (a .width) (side (a .y) (a .height)) _ (start .pre .some) (start .pre .wide) (sym (lone .lone-high .ensures) ∙ not-true _ (c .if2 .taken))
+    short-lifted (a .stride) (a .width) (side (a .y) (a .height)) _ (start .pre .some) (start .pre .wide)
+    (sym (lone .lone-high .ensures) ∙ not-true _ (c .if2 .taken))
     (omega arith)
 
 sub-double-row : tie.Need-sub-double-row
@@ -56,7 +57,8 @@ returns-3 c =
     let lone = left .before in
     let start = lone .before .before in
     let a = start .args in
-    mapped-part (a .width) (a .width - 0) (a .area .now) (omega arith) (omega (arith, start .pre .room)) (λ v. wrap32 (pos 2 *ℤ v)) (called .last .0) (called .kept .0)
+    mapped-part (a .width) (a .width - 0) (a .area .now) (omega arith) (omega (arith, start .pre .room)) (λ v. wrap32 (pos 2 *ℤ v)) (called .last .0)
+    (called .kept .0)
     (called .ensures)
     ∙ lone-lifted (a .stride) (a .width) (side (a .y) (a .height)) _ (start .pre .some) (start .pre .wide)
     (sym (lone .lone-high .ensures) ∙ not-false _ (left .if2 .left))

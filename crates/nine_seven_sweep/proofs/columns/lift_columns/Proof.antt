@@ -19,7 +19,8 @@ returns-2 c =
     let left = c .before in
     let fit = left .before in
     let a = fit .before .args in
-    went _ _ _ _ (sym (fit .columns-fit .ensures) ∙ not-false _ (left .if1 .left)) (narrow-lifted (a .stride) (a .width) (side (a .y) (a .height)) _ (c .if2 .taken))
+    went _ _ _ _ (sym (fit .columns-fit .ensures) ∙ not-false _ (left .if1 .left))
+    (narrow-lifted (a .stride) (a .width) (side (a .y) (a .height)) _ (c .if2 .taken))
 
 lift-all-requires : tie.Need-lift-all-requires
 lift-all-requires c κs =

@@ -29,7 +29,8 @@ returns-2 c =
     let lone = c .before in
     let start = lone .before .before in
     let a = start .args in
-    short-back (a .stride) (a .width) (side (a .y) (a .height)) _ (start .pre .some) (start .pre .wide) (sym (lone .lone-high .ensures) ∙ not-true _ (c .if2 .taken))
+    short-back (a .stride) (a .width) (side (a .y) (a .height)) _ (start .pre .some) (start .pre .wide)
+    (sym (lone .lone-high .ensures) ∙ not-true _ (c .if2 .taken))
     (omega arith)
 
 sub-halve-row : tie.Need-sub-halve-row

@@ -20,7 +20,8 @@ returns-2 c =
     let fit = left .before in
     let a = fit .before .args in
     let H = side (a .y) (a .height) in
-    passed _ _ _ _ _ (sym (fit .columns-fit .ensures) ∙ not-false _ (left .if1 .left)) (have-none (a .width) H _ (c .if2 .taken)) (narrow-back (a .stride) (a .width) H _ (c .if2 .taken))
+    passed _ _ _ _ _ (sym (fit .columns-fit .ensures) ∙ not-false _ (left .if1 .left)) (have-none (a .width) H _ (c .if2 .taken))
+    (narrow-back (a .stride) (a .width) H _ (c .if2 .taken))
 
 columns-have-requires : tie.Need-columns-have-requires
 columns-have-requires c κs =
@@ -55,7 +56,8 @@ returns-4 c =
     let have = even .before in
     let left = have .before .before .before in
     let fit = left .before in
-    passed _ _ _ _ _ (sym (fit .columns-fit .ensures) ∙ not-false _ (left .if1 .left)) (sym (have .columns-have .ensures) ∙ not-false _ (even .if3 .left)) (call .unlift-all .ensures)
+    passed _ _ _ _ _ (sym (fit .columns-fit .ensures) ∙ not-false _ (left .if1 .left)) (sym (have .columns-have .ensures) ∙ not-false _ (even .if3 .left))
+    (call .unlift-all .ensures)
 
 pub unlift-columns-spec : {M : Type 1} → statement M
 unlift-columns-spec =

@@ -144,7 +144,8 @@ back-levels-returns t c =
     let low2 = goes .before in
     let low = low2 .before in
     let start = low .before in
-    back-end (filterOf (start .args .filter)) (filter-laws (start .args .filter)) _ _ _ _ (side (start .args .x) (start .args .width)) (side (start .args .y) (start .args .height)) _ _ _ _ (start .pre .1 .1 .wide)
+    back-end (filterOf (start .args .filter)) (filter-laws (start .args .filter)) _ _ _ _ (side (start .args .x) (start .args .width))
+    (side (start .args .y) (start .args .height)) _ _ _ _ (start .pre .1 .1 .wide)
     (start .pre .1 .2 .some)
     (goes-as _ _ _ _ _ _ _ (low .low-count .ensures) (low2 .low-count2 .ensures) (goes .goes-on .ensures) (not-true _ (then .if1 .taken)))
     (back .back-by .ensures)

@@ -106,7 +106,8 @@ in-range-returns t c =
     let low2 = goes .before in
     let low = low2 .before in
     let start = low .before in
-    range-end (filterOf (start .args .filter)) (filter-laws (start .args .filter)) _ _ (side (start .args .x) (start .args .width)) (side (start .args .y) (start .args .height)) _ _ (start .pre .1 .2) (start .pre .1 .1)
+    range-end (filterOf (start .args .filter)) (filter-laws (start .args .filter)) _ _ (side (start .args .x) (start .args .width))
+    (side (start .args .y) (start .args .height)) _ _ (start .pre .1 .2) (start .pre .1 .1)
     (goes-as _ _ _ _ _ _ _ (low .low-count .ensures) (low2 .low-count2 .ensures) (goes .goes-on .ensures) (not-true _ (c .before .if1 .taken)))
     (c .rows-in-range .ensures)
 
@@ -223,7 +224,8 @@ in-range-returns-2 t c =
     let W = side (start .args .x) (start .args .width) in
     let H = side (start .args .y) (start .args .height) in
     let yes′ = goes-yes _ _ _ (sym (goes .goes-on .ensures) ∙ not-false _ (left .if1 .left)) in
-    range-first (filterOf (start .args .filter)) (filter-laws (start .args .filter)) _ _ W H _ _ _ _ (start .pre .1 .2) (yes′ .0) (next-side W _ _ (next .next-start .ensures) (low .low-count .ensures))
+    range-first (filterOf (start .args .filter)) (filter-laws (start .args .filter)) _ _ W H _ _ _ _ (start .pre .1 .2) (yes′ .0)
+    (next-side W _ _ (next .next-start .ensures) (low .low-count .ensures))
     (next-side H _ _ (next2 .next-start2 .ensures) (low2 .low-count2 .ensures)) (again .in-range .ensures) (not-true _ (c .if2 .taken))
 
 in-range-rows-in-range-requires-2 : (t : ℕ) → in-range-lts.Need-rows-in-range-requires-2 (
@@ -282,7 +284,8 @@ in-range-returns-3 t c =
     let W = side (start .args .x) (start .args .width) in
     let H = side (start .args .y) (start .args .height) in
     let yes′ = goes-yes _ _ _ (sym (goes .goes-on .ensures) ∙ not-false _ (left .if1 .left)) in
-    range-second (filterOf (start .args .filter)) (filter-laws (start .args .filter)) _ _ W H _ _ _ _ (start .pre .1 .2) (yes′ .0) (next-side W _ _ (next .next-start .ensures) (low .low-count .ensures))
+    range-second (filterOf (start .args .filter)) (filter-laws (start .args .filter)) _ _ W H _ _ _ _ (start .pre .1 .2) (yes′ .0)
+    (next-side W _ _ (next .next-start .ensures) (low .low-count .ensures))
     (next-side H _ _ (next2 .next-start2 .ensures) (low2 .low-count2 .ensures)) (again .in-range .ensures)
     (not-false _ (c .before .before .if2 .left)) _ (c .before .rows-in-range2 .ensures) (not-true _ (c .if3 .taken))
 
@@ -338,7 +341,8 @@ in-range-returns-4 t c =
     let W = side (start .args .x) (start .args .width) in
     let H = side (start .args .y) (start .args .height) in
     let yes′ = goes-yes _ _ _ (sym (goes .goes-on .ensures) ∙ not-false _ (left .if1 .left)) in
-    range-third (filterOf (start .args .filter)) (filter-laws (start .args .filter)) _ _ W H _ _ _ _ (start .pre .1 .2) (yes′ .0) (next-side W _ _ (next .next-start .ensures) (low .low-count .ensures))
+    range-third (filterOf (start .args .filter)) (filter-laws (start .args .filter)) _ _ W H _ _ _ _ (start .pre .1 .2) (yes′ .0)
+    (next-side W _ _ (next .next-start .ensures) (low .low-count .ensures))
     (next-side H _ _ (next2 .next-start2 .ensures) (low2 .low-count2 .ensures)) (again .in-range .ensures)
     (not-false _ (rows .before .if2 .left)) _ (rows .rows-in-range2 .ensures) (not-false _ (c .before .if3 .left)) _ (c .rows-in-range3 .ensures)
 

@@ -20,7 +20,8 @@ returns : tie.Need-returns
 returns c =
     let test = c .before in
     let start = test .before in
-    sym (region-least (filterOf (start .args .filter)) (filter-laws (start .args .filter)) _ (side (start .args .x) (start .args .width)) (side (start .args .y) (start .args .height)) _ (start .pre .0 .levels .0)
+    sym (region-least (filterOf (start .args .filter)) (filter-laws (start .args .filter)) _ (side (start .args .x) (start .args .width))
+    (side (start .args .y) (start .args .height)) _ (start .pre .0 .levels .0)
     (sym (test .rows-in-range .ensures) ∙ c .if1 .taken))
 
 in-range-requires : tie.Need-in-range-requires
