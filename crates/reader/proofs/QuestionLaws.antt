@@ -13,7 +13,7 @@ use Rattle.wavelet.specs.Limits.{maxWidth, maxHeight, maxLevels, maxOrigin}
 use Rattle.wavelet.specs.Questions.{ask, within}
 use Rattle.wavelet.proofs.LimitLaws.{width-small, height-small, origin-small}
 use Rattle.wavelet.proofs.QuestionLaws.{within-true, within-yes}
-use Rattle.wavelet.specs.Store.{storeLength}
+use Rattle.wavelet.specs.Store.{storeLength, anyLength}
 use Rattle.wavelet.proofs.StoreLaws.{store-most}
 use Rattle.reader.proofs.StoreLaws.{length-is}
 use Rattle.reader.specs.declared.Reader.{Reader}
@@ -196,9 +196,11 @@ module _ (s : Reader) (n : ℕ) where
 
   -- question 5 by the most that a store needs, and by what this one needs
   module _ (counts : Counts s) where
-    pub store-any : (31 * s .width + 52) / 4 ≤ n → true ≡ storeFits (columns s) (s .levels) n
+    pub store-any : both (leb (s .width) maxWidth) (leb (anyLength (s .width)) n) ≡ true → true ≡ storeFits (columns s) (s .levels) n
     unfolding storeFits
-    store-any h = sym (le-leb (storeLength (columns s) (s .levels)) n (omega (arith, store-most (columns s) (s .levels) (counts .deep .1))))
+    store-any h =
+        let room = leb-true (anyLength (s .width)) n (halves (leb (s .width) maxWidth) _ h .1) in
+        sym (le-leb (storeLength (columns s) (s .levels)) n (omega (arith, room, store-most (columns s) (s .levels) (counts .deep .1))))
 
     pub store-own : (m : ℕ) → m ≡ asked (columns s) (s .levels) → leb m n ≡ storeFits (columns s) (s .levels) n
     unfolding storeFits

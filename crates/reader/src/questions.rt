@@ -89,7 +89,7 @@ fn store_fits(s: Reader, length: usize) -> bool
     requires { ⌜ Counts s ⌝ }
     ensures { λ r. ⌜ r ≡ storeFits (columns s) (s .levels) length ⌝ }
 {
-    if (31 * s.width + 52) / 4 <= length {
+    if store::holds_any(s.width, length) {
         return true;
     }
     store::store_length(s.width, s.x, s.levels) <= length

@@ -80,7 +80,7 @@ pub record Sound (s : Writer) (n : ℕ) : Type 0 where
   pub across : s .x ≤ maxOrigin
   pub down : s .y ≤ maxOrigin
   pub width : (1 ≤ s .width) × (s .width ≤ maxWidth)
-  pub levels : (1 ≤ s .levels) × (s .levels ≤ 5)
+  pub levels : (1 ≤ s .levels) × (s .levels ≤ maxLevels)
   pub rows : s .rows ≤ maxHeight
   pub column : s .column < s .width
   pub closed : s .closed ≤ ahead fiveThree * s .levels
@@ -115,7 +115,7 @@ module _ (s : Writer) (n : ℕ) where
         across = leb-true _ _ (p .0);
         down = leb-true _ _ (p .1);
         width = within-true 1 maxWidth _ (a .0);
-        levels = within-true 1 5 _ (b .0);
+        levels = within-true 1 maxLevels _ (b .0);
         rows = leb-true _ _ (d .0);
         column = ltb-true _ _ (f .0);
         closed = leb-true _ _ (g .0);

@@ -92,14 +92,6 @@ pub fn in_ranges(s: Writer) -> bool
     waits_in_range(s)
 }
 
-// Whether n numbers are enough for every number of levels. At the most levels a width of 2^k + 1 needs just as many, so the sizes are seldom added up.
-fn holds_any(width: usize, n: usize) -> bool
-    requires { ⌜ width < 2 ^ 16 ⌝ }
-    ensures { λ r. ⌜ r ≡ leb ((31 * width + 52) / 4) n ⌝ }
-{
-    (31 * width + 52) / 4 <= n
-}
-
 // Questions 1 and 5, n being the length of the store. The first is asked before: two small functions are put into each call, one of both would not be.
 pub fn state_question(s: Writer, fits: bool, n: usize) -> u8
     requires { ⌜ fits ≡ inRanges s ⌝ }
@@ -108,7 +100,7 @@ pub fn state_question(s: Writer, fits: bool, n: usize) -> u8
     if !fits {
         return 1;
     }
-    if holds_any(s.width, n) {
+    if store::holds_any(s.width, n) {
         return 0;
     }
     if n < store::store_length(s.width, s.x, s.levels) {
