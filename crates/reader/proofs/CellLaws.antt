@@ -163,7 +163,8 @@ module _ (W H : Side) (n : ℕ) (high : n < count hi H) where
   unfolding asked
   asks t b k d p = rw (k, row-has W H b n (record { columns = p; first = high-first b d; row = high-row b d })) refl
 
-  by : (t : Bool) (i : ℕ) (b : Band) → keptAt t b ≡ true → down b ≡ hi → i ≤ code b → 0 < count (across b) W → firstCode (those (asked t W H n) (bandsFrom i)) < 4
+  by : (t : Bool) (i : ℕ) (b : Band) → keptAt t b ≡ true → down b ≡ hi → i ≤ code b → 0 < count (across b) W
+      → firstCode (those (asked t W H n) (bandsFrom i)) < 4
   by t i b k d h p = omega (arith, first-le (asked t W H n) i b (asks t b k d p) h, code-lt b)
 
   one-half : 0 < W .length → (0 < count lo W → ⊥) → 0 < count hi W

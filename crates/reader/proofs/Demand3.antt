@@ -319,7 +319,8 @@ module _ (W H : Side) (l n : ℕ) (lim : Limits W H l n) where
       unfolding event
       draw-is = go (draw-view W H l n lim d p (kept .drawn-le) (kept .level-le) (kept .band-le) (kept .back-le) e t x a viewed)
         where
-          go : DrawView W H l n lim d p (kept .drawn-le) (kept .level-le) (kept .band-le) (kept .back-le) e t x a → Draws W e t a (seenDraw (drawQuestion s n x (a .size)))
+          go : DrawView W H l n lim d p (kept .drawn-le) (kept .level-le) (kept .band-le) (kept .back-le) e t x a
+              → Draws W e t a (seenDraw (drawQuestion s n x (a .size)))
           go (draw-away q z f says at) = subst (λ i. Draws W e t a (seenDraw i)) (sym at) (drawn-away q z f says)
           go (draw-idle live z says at) = subst (λ i. Draws W e t a (seenDraw i)) (sym at) (drawn-idle z says)
           go (draw-onward live due is-height head to-draw says at) = subst (λ i. Draws W e t a (seenDraw i)) (sym at) (tried (fits (settles s x)))
@@ -458,7 +459,8 @@ module _ (W H : Side) (l n : ℕ) (lim : Limits W H l n) where
 
             held : Outcome (Fits W H l P) (FedHeld W H l P k u (code c)) (feeds s′ (a .numbers) x)
             held =
-                feeds-worked W H l d p (kept .level-le) (kept .ready (o .due)) P x (kept .rows P (all-left fs _ has) .holds live (o .due)) e k u c o (a .numbers)
+                feeds-worked W H l d p (kept .level-le) (kept .ready (o .due)) P x (kept .rows P (all-left fs _ has) .holds live (o .due))
+                e k u c o (a .numbers)
                 (subst (λ v. HasFedRow W P (record { row = v; run = a })) (sym name-is) (all-last fs _ has))
 
             tried : (v : Tried) → feeds s′ (a .numbers) x ≡ v → FeedFits W H (suc l) P y t′
@@ -512,7 +514,8 @@ module _ (W H : Side) (l n : ℕ) (lim : Limits W H l n) where
       all-names = sym (append-nil (namesOf fs)) ∙ ap (λ v. namesOf fs ++ bandRowsOf v) (sym over) ∙ kept .names live
 
       once : (f : FedRow) → times (f .row) (namesOf fs) ≤ 1
-      once f = rw (all-names, steps-once ahead looks W H (suc l) (omega arith) (f .row)) (go (bandRowExists W H (suc l) (f .row .level) (f .row .band) (f .row .row)))
+      once f = rw (all-names, steps-once ahead looks W H (suc l) (omega arith) (f .row))
+          (go (bandRowExists W H (suc l) (f .row .level) (f .row .band) (f .row .row)))
         where
           go : (u : Bool) → pick u 1 0 ≤ 1
           go true = omega arith
@@ -536,7 +539,8 @@ module _ (W H : Side) (l n : ℕ) (lim : Limits W H l n) where
       words-at k c r i h b q = let z : suc k - 1 ≡ k = omega arith in lookup-words W H l few fs (kept .good) (rowName (suc k) c r) i (rw z q)
 
       -- the last row drawn has had every set of every level worked out
-      lines-at : (k : ℕ) → k ≤ l → hasCells (sideAt k W) (sideAt k H) ≡ true → levelHas fiveThreeFilter (sideAt k W) (sideAt k H) (bandsAt W H (lookup fs) (suc l) k) ≡ true
+      lines-at : (k : ℕ) → k ≤ l → hasCells (sideAt k W) (sideAt k H) ≡ true
+          → levelHas fiveThreeFilter (sideAt k W) (sideAt k H) (bandsAt W H (lookup fs) (suc l) k) ≡ true
       lines-at k h cells = sets-have ahead (sideAt k W) (sideAt k H) _ (λ m q.
           fed-agrees .has (H .length - 1) (omega (arith, d-is, tall)) k (h, cells) m
           (omega (arith, q, last-needed H k (cells-are (sideAt k W) (sideAt k H) cells .1))))

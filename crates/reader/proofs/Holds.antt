@@ -302,7 +302,16 @@ module _ (W H : Side) (l : ℕ) (P : Rows) where
     -- the low-low row, if the set has one, comes from the next level
     low-there : firstSet (sideAt k H) lo ≤ n → n - firstSet (sideAt k H) lo < sideAt (suc k) H .length
     low-there f =
-        omega (arith, f, there, cells-are (sideAt k W) (sideAt k H) (live .1) .1, first-low (sideAt k H), low-is (sideAt k H), last-is (sideAt k H), side-long k H)
+        omega (
+          arith,
+          f,
+          there,
+          cells-are (sideAt k W) (sideAt k H) (live .1) .1,
+          first-low (sideAt k H),
+          low-is (sideAt k H),
+          last-is (sideAt k H),
+          side-long k H,
+        )
 
     next-live : (i : ℕ) → k < l → firstSet (sideAt k H) lo ≤ n → i < count lo (sideAt k W) → Live (suc k)
     next-live i q f b = (q, cells-yes (sideAt (suc k) W) (sideAt (suc k) H) (omega (arith, side-long k W)) (omega (arith, low-there f)))
@@ -338,7 +347,8 @@ module _ (W H : Side) (l : ℕ) (P : Rows) where
 
     work-made : Outcome Fits (Worked k n) (workedAt W H (suc l) k n x)
     unfolding workedAt hasSet
-    work-made = rw (live .1, le-leb n (lastSet (sideAt k H)) there) (onto-outcome _ _ _ _ (behind (stretchAt W k) x) _ (λ f. record { has = f k live .has; fit = f k live .fit })
+    work-made = rw (live .1, le-leb n (lastSet (sideAt k H)) there)
+        (onto-outcome _ _ _ _ (behind (stretchAt W k) x) _ (λ f. record { has = f k live .has; fit = f k live .fit })
         worked-of (go (ℕ-discrete k l)))
       where
         some : 0 < sideAt k H .length

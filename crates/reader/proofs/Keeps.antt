@@ -268,7 +268,8 @@ module _ (W H : Side) (l d : ℕ) (p : Place) (e : Bool) (n : ℕ) (x : ℕ → 
       asks : o₀ ≡ ask (fits (settles (s W H l d p e) x)) 14 0
 
     -- what a draw was asked that gave a row, or 14
-    drawing : (d < H .length → Ready W H (suc l) d (at W H l d p)) → (eqb o₀ 0 ≡ false → eqb o₀ 14 ≡ false → ⊥) → (o₀ ≡ 1 → ⊥) → (o₀ ≡ 5 → ⊥) → (drawDue (s W H l d p e) ≡ false → o₀ ≡ 0 → ⊥) → Drawing
+    drawing : (d < H .length → Ready W H (suc l) d (at W H l d p)) → (eqb o₀ 0 ≡ false → eqb o₀ 14 ≡ false → ⊥)
+        → (o₀ ≡ 1 → ⊥) → (o₀ ≡ 5 → ⊥) → (drawDue (s W H l d p e) ≡ false → o₀ ≡ 0 → ⊥) → Drawing
     unfolding drawQuestion
     drawing ready never f g idle =
         let t = two-yes (countsFit (s W H l d p e)) (storeFits W (suc l) n) _ o₀ refl f g in
@@ -329,7 +330,8 @@ module _ (W H : Side) (l d : ℕ) (p : Place) (e : Bool) (n : ℕ) (x : ℕ → 
             × ((c : ℕ) → c < W .length → drawArea (s W H l d p e) o₀ x (a .numbers) c ≡ partAt W H P (suc l) 0 d c)
         on m t r P h =
             let k = heights-only (s W H l d p e) o₀ m t r in
-            let o = drawing (h .ready) (λ z _. subst T (sym (ap (λ j. eqb j 0) (k .0)) ∙ z) tt) (λ z. omega (arith, k .0)) (λ z. omega (arith, k .0)) (λ z _. k .2 z) in
+            let o = drawing (h .ready) (λ z _. subst T (sym (ap (λ j. eqb j 0) (k .0)) ∙ z) tt)
+            (λ z. omega (arith, k .0)) (λ z. omega (arith, k .0)) (λ z _. k .2 z) in
             tried o (k .0) t (k .1) P h (settles (s W H l d p e) x) refl
 
         not-fit : (o : Drawing) → o₀ ≡ 14 → (P : Rows) → Holds P (s W H l d p e) x → AllFit P (s W H l d p e) →
@@ -341,7 +343,8 @@ module _ (W H : Side) (l d : ℕ) (p : Place) (e : Bool) (n : ℕ) (x : ℕ → 
             AllFit P (s W H l d p e) → ⊥
         stopped t r P h all =
             let z = drawn-fourteen (s W H l d p e) o₀ t r in
-            let o = drawing (h .ready) (λ _ y. subst T (sym (ap (λ j. eqb j 14) z) ∙ y) tt) (λ y. omega (arith, z)) (λ y. omega (arith, z)) (λ _ y. omega (arith, z, y)) in
+            let o = drawing (h .ready) (λ _ y. subst T (sym (ap (λ j. eqb j 14) z) ∙ y) tt)
+            (λ y. omega (arith, z)) (λ y. omega (arith, z)) (λ _ y. omega (arith, z, y)) in
             not-fit o z P h all (settles (s W H l d p e) x) refl
 
 -- ---- every state: one of no levels passes no question 1

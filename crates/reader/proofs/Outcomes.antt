@@ -90,6 +90,7 @@ module _ (W H : Side) (l d : ℕ) (p : Place) (level-le : p .level ≤ suc l) (r
       Outcome (Fits W H l P) (HeldAt W H l P (beyond W H (suc l) k n (code c))) (feeds (here W H l d p e) v x)
   feeds-outcome e k n c o v row = first _ (feeds-worked e k n c o v row)
     where
-      first : (t : Tried) → Outcome (Fits W H l P) (FedHeld W H l P k n (code c)) t → Outcome (Fits W H l P) (HeldAt W H l P (beyond W H (suc l) k n (code c))) t
+      first : (t : Tried) → Outcome (Fits W H l P) (FedHeld W H l P k n (code c)) t
+          → Outcome (Fits W H l P) (HeldAt W H l P (beyond W H (suc l) k n (code c))) t
       first _ (stops z) = stops z
       first _ (goes y q) = goes y (q .0)

@@ -118,7 +118,8 @@ module _ (W H : Side) (l : ℕ) where
   pub record Agrees (P : Rows) (d : ℕ) (p : Place) (e : Bool) (x : ℕ → ℤ) (ds : List (ℕ → ℤ)) : Type 0 where
     pub fit : (r c : ℕ) → r < d → c < W .length → valueFits fiveThreeFilter 0 (partAt W H P (suc l) 0 r c) ≡ true
     pub shows : (r c : ℕ) → r < d → c < W .length → getD ds r (λ _. pos 0) c ≡ partAt W H P (suc l) 0 r c
-    pub has : (r : ℕ) → r < d → (k : ℕ) → Live W H l P k → (m : ℕ) → m ≤ needed H 0 r (suc k) → SetHas ahead (sideAt k W) (sideAt k H) (bandsAt W H P (suc l) k) m
+    pub has : (r : ℕ) → r < d → (k : ℕ) → Live W H l P k → (m : ℕ) → m ≤ needed H 0 r (suc k)
+        → SetHas ahead (sideAt k W) (sideAt k H) (bandsAt W H P (suc l) k) m
     pub holds : e ≡ false → d < H .length → HeldAt W H l P (at W H l d p) x
     pub refuses : e ≡ true → Fits W H l P → ⊥
 
@@ -288,7 +289,8 @@ module _ (W H : Side) (l : ℕ) where
         feed-reached : FedTo (feedQuestion s n x (a .size) (a .numbers))
         feed-reached = go (feed-view W H l n lim d p (kept .drawn-le) (kept .level-le) (kept .band-le) (kept .back-le) e t x a viewed)
           where
-            go : FeedView W H l n lim d p (kept .drawn-le) (kept .level-le) (kept .band-le) (kept .back-le) e t x a → FedTo (feedQuestion s n x (a .size) (a .numbers))
+            go : FeedView W H l n lim d p (kept .drawn-le) (kept .level-le) (kept .band-le) (kept .back-le) e t x a
+                → FedTo (feedQuestion s n x (a .size) (a .numbers))
             go (feed-away q _ z f at) = subst FedTo (sym at) (fed-away q z f)
             go (feed-onward k u c live o head long in-range _ at) = subst FedTo (sym at) (tried (feeds s (a .numbers) x) refl)
               where

@@ -86,7 +86,13 @@ ready-band W H l d k n b c s a = record {
 }
   where
     none : bandAt W H (suc l) k n (code c) ≡ 4 → ⊥
-    none f = unfold bandAt nextBand look in omega (arith, f, first-le (asked (eqb (suc k) (suc l)) (sideAt k W) (sideAt k H) n) (code c) c a (omega arith), code-lt c)
+    none f = unfold bandAt nextBand look in omega (
+      arith,
+      f,
+      first-le (asked (eqb (suc k) (suc l)) (sideAt k W) (sideAt k H) n) (code c) c a
+          (omega arith),
+      code-lt c,
+    )
 
 module _ (W H : Side) (l d : ℕ) where
   abbrev At : Spot → Type 0
@@ -153,7 +159,8 @@ module _ (W H : Side) (l d : ℕ) where
     where
       go : (t : Bool) → makes (sideAt k H) n ≡ t → At (pick t (spot k (waiting H k n) 1) (begins W H (suc l) (suc k) (suc n)))
       go true e = waits-up W H l d k n b h s
-      go false e = ready-begins k (suc n) h (s .cells k refl) (omega (arith, makes-not (sideAt k H) n e, set-there ahead (sideAt k H) (firstRow (sideAt k H) n)))
+      go false e = ready-begins k (suc n) h (s .cells k refl)
+          (omega (arith, makes-not (sideAt k H) n e, set-there ahead (sideAt k H) (firstRow (sideAt k H) n)))
           (waits-finer H k (suc n) 0 (omega arith) ∙ ap (λ i. waitsAt H k i 0) (ap (taking H k) (row-next (sideAt k H) n e))
           ∙ sym (waits-finer H k n 0 (omega arith)) ∙ s .top)
 

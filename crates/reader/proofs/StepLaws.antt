@@ -76,7 +76,8 @@ module _ (s : Reader) where
   next-own n e = ap (λ (i : ℕ). nextUp (columns s) (rows s) (s .levels) (s .level) i (s .band)) e
 
   pub next-at : (n : ℕ) (q : Next) → n ≡ spotNow s .set →
-      IsNext (columns s) (rows s) (s .drawn) (nextUp (columns s) (rows s) (s .levels) (s .level) n (s .band)) q → IsNext (columns s) (rows s) (s .drawn) (next s) q
+      IsNext (columns s) (rows s) (s .drawn) (nextUp (columns s) (rows s) (s .levels) (s .level) n (s .band)) q
+      → IsNext (columns s) (rows s) (s .drawn) (next s) q
   next-at n q e is = subst (λ (p : machine.Spot). IsNext (columns s) (rows s) (s .drawn) p q) (next-own n e) is
 
   module _ (p : Spot) (is : Is (next s) p) where

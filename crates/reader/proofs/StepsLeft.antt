@@ -222,7 +222,8 @@ module _ (W H : Side) (l : ℕ) where
   begin-tail zero k n e = go (hasRow H (suc k) n) refl
     where
       go : (t : Bool) → hasRow H (suc k) n ≡ t →
-          tailAt (pick t (dive (suc l - suc k) (suc k) (sideAt (suc k) W) (sideAt (suc k) H) n (rowOf H (suc k) n)) (spot (suc k) n 1)) ≡ setLeft 0 k n ++ rest k n
+          tailAt (pick t (dive (suc l - suc k) (suc k) (sideAt (suc k) W) (sideAt (suc k) H) n (rowOf H (suc k) n)) (spot (suc k) n 1))
+          ≡ setLeft 0 k n ++ rest k n
       go false h = ap (λ u. u ++ rest k n) (sym (alone-steps 0 k n e h))
       go true h = let z : suc l - suc k ≡ 0 = omega arith in rw z (ap (λ u. u ++ rest k n) (sym (last-steps k n (omega arith))))
   begin-tail (suc m) k n e = go (hasRow H (suc k) n) refl (λ i. begin-tail m (suc k) i (omega arith))

@@ -51,8 +51,8 @@ pub struct Next {
     pub at: Level,
 }
 
-// Level k + 1, at the last set that row `drawn` needs. The coordinates where its columns and rows begin and end are halved from level to level, and the row that
-// the set of each level takes is found.
+// Level k + 1, at the last set that row `drawn` needs. The coordinates where its columns and rows begin and end are halved from level to level, and the row
+// that the set of each level takes is found.
 pub fn level_at(x: usize, width: usize, y: usize, height: usize, drawn: usize, k: usize) -> Level
     requires { ⌜ Small (side x width) (side y height) drawn × (k ≤ maxLevels) ⌝ }
     ensures { λ l. ⌜ IsAt (side x width) (side y height) drawn k l ⌝ }

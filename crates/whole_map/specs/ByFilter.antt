@@ -6,15 +6,10 @@ use Rattle.numbers.specs.Word.{wrap32}
 use Rattle.lifting.specs.Grid.{Side, parted, joined}
 use Rattle.lifting.specs.GridHalves.{halvesOf, inHalves}
 use Rattle.lifting.specs.Filter.{Filter, lineBackBy}
-use Rattle.lifting.specs.FiveThree.{fiveThreeFilter}
-use Rattle.nine_seven.specs.NineSevenFilter.{nineSevenFilter}
 use Rattle.wavelet.specs.Bands.{Grid}
 use Rattle.whole_map.specs.Passes.{within, isLow, planeRow, rowsMapped}
-
 -- "a filter number, 0 the 5/3, 1 this one"
-unfoldable pub filterOf : ℕ → Filter
-filterOf zero = fiveThreeFilter
-filterOf (suc f) = nineSevenFilter
+unfoldable pub use Rattle.nine_seven.specs.Filters.{filterOf}
 
 -- a line in halves, then all columns, then all rows of a level, lifted in place
 unfoldable pub liftedBy : Filter → Side → (ℕ → ℤ) → ℕ → ℤ

@@ -97,7 +97,8 @@ returns-2 c =
       band = 0;
       ended = false;
     } in
-    let there = fresh-at W H (a .map .levels) s (c .moved .result) (dive .dive-from .result) (enter-is W H (a .map .levels) 0 _ (dive .dive-from .ensures)) refl refl
+    let there = fresh-at W H (a .map .levels) s (c .moved .result) (dive .dive-from .result)
+    (enter-is W H (a .map .levels) 0 _ (dive .dive-from .ensures)) refl refl
     refl (c .moved .ensures) in
     set-up-also W H (a .map .levels) (length (a .store .now)) (at (a .store .now))
     (set-up-yes W H (a .map .levels) _ _ _ _ _ there asked n (did _ _ _ _ room (call .clear .ensures .1)))

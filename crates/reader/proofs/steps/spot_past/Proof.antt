@@ -44,7 +44,8 @@ returns c =
     let s = start .args .s in
     let n = start .args .n in
     let at = start .pre .1 .at (start .pre .2) in
-    let none = sym (ap (λ (S : Side). makes S (n .at .set)) (level-high _ _ _ _ (n .at) at)) ∙ sym (making .is-making .ensures) ∙ not-true _ (not .if1 .taken) in
+    let none = sym (ap (λ (S : Side). makes S (n .at .set)) (level-high _ _ _ _ (n .at) at)) ∙ sym (making .is-making .ensures)
+    ∙ not-true _ (not .if1 .taken) in
     is-spot _ _
     (spot-of _ _ (c .begin .ensures)
     ∙ begins-at (columns s) (rows s) (s .levels) (s .drawn) (n .spot .level) (n .at .set + 1) (n .at) (start .pre .2) at
@@ -89,7 +90,8 @@ returns-3 c =
     let high = level-high _ _ _ _ (n .at) at in
     let some = sym (ap (λ (S : Side). makes S (n .at .set)) high) ∙ sym (making .is-making .ensures) ∙ not-false _ (yes .if1 .left) in
     is-spot _ _
-    (past-finer (columns s) (rows s) (s .levels) (n .spot .level - 1) (n .at .set) (n .spot .set) _ (start .pre .1 .set (start .pre .2)) (c .finer .ensures .1) some)
+    (past-finer (columns s) (rows s) (s .levels) (n .spot .level - 1) (n .at .set) (n .spot .set) _ (start .pre .1 .set (start .pre .2))
+    (c .finer .ensures .1) some)
 
 pub spot-past-spec : {M : Type 1} → statement M
 spot-past-spec =

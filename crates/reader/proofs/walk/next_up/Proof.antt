@@ -34,7 +34,8 @@ returns c =
     let test = band .before in
     let l = test .before .loop in
     let a = test .before .before .args in
-    up-next (side (a .x) (a .width)) (side (a .y) (a .height)) (a .levels) (a .drawn) _ (l .k) (band .band-at .result) (l .m) (l .inv .3 (test .loop-test .taken))
+    up-next (side (a .x) (a .width)) (side (a .y) (a .height)) (a .levels) (a .drawn) _ (l .k) (band .band-at .result)
+    (l .m) (l .inv .3 (test .loop-test .taken))
     (up-here _ _ _ (l .k) (l .b) (band .band-at .result) (l .m .set) (test .loop-test .taken) (band .band-at .ensures) (c .if1 .taken) ∙ l .inv .4)
 
 sub-k : tie.Need-sub-k Inv-loop μ-loop

@@ -89,7 +89,8 @@ returns c =
     let room = put-room _ _ _ _ (a .l) (start .pre .2) (a .band) (half .half-place .result) n (half .half-place .ensures) (omega arith) in
     let long = length-mid p (p + n - p) (a .store .now) (omega arith) in
     let fits = le-leb n (length (midOf p (p + n - p) (a .store .now))) (omega (arith, long)) in
-    put-is (side (a .x) (a .width)) (side (a .y) (a .height)) (a .drawn) (a .k) (a .band) (a .l) p (half .half-place .result) (p + n - p) (a .run .now) (a .store .now)
+    put-is (side (a .x) (a .width)) (side (a .y) (a .height)) (a .drawn) (a .k) (a .band) (a .l) p (half .half-place .result)
+    (p + n - p) (a .run .now) (a .store .now)
     (call .copy .last .1 .0) (start .pre .2) (half .half-place .ensures) refl (omega arith) (omega arith) (omega arith) (call .copy .kept .1 .0 ∙ long)
     (did _ _ _ _ fits (call .copy .ensures .1))
 
