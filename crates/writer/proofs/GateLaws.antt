@@ -1,7 +1,7 @@
 -- What the gate questions say. Assumes nothing.
 use mathlib.Core.Path.{_≡_, refl, sym, ap, _∙_}
 use mathlib.Core.Bool.{Bool, true, false, not}
-use Prim.Native.Nat.{ℕ, suc, _+_, _*_, _≤_, _<_, _-_}
+use Prim.Native.Nat.{ℕ, suc, _+_, _*_, _^_, _≤_, _<_, _-_}
 use native.Mathlib.Omega.{arith}
 use lib.Dec.{leb, ltb, eqb}
 use borrow.Author.Tests.{leb-true, ltb-true, le-leb, lt-leb, lt-ltb, le-ltb, eq-eqb, ne-eqb, eqb-true, eqb-false}
@@ -10,6 +10,7 @@ use Rattle.numbers.proofs.Sweep as sweep
 use Rattle.wavelet.specs.Limits.{maxWidth, maxHeight, maxLevels, maxOrigin}
 use Rattle.wavelet.specs.Questions.{ask, within}
 use Rattle.lifting.specs.Grid.{Side}
+use Rattle.wavelet.proofs.LimitLaws.{levels-small}
 use Rattle.wavelet.proofs.QuestionLaws.{within-true}
 use Rattle.wavelet.specs.Levels.{next}
 use Rattle.wavelet.specs.Store.{storeLength}
@@ -81,6 +82,7 @@ pub record Sound (s : Writer) (n : ℕ) : Type 0 where
   pub down : s .y ≤ maxOrigin
   pub width : (1 ≤ s .width) × (s .width ≤ maxWidth)
   pub levels : (1 ≤ s .levels) × (s .levels ≤ maxLevels)
+  pub deep : s .levels < 2 ^ 16
   pub rows : s .rows ≤ maxHeight
   pub column : s .column < s .width
   pub closed : s .closed ≤ ahead fiveThree * s .levels
@@ -99,7 +101,7 @@ module _ (s : Writer) (n : ℕ) where
   state-yes x h = asked-yes 0 4 (inRanges s) (longEnough n s) x h
 
   pub sound : stateQuestion s n ≡ 0 → Sound s n
-  unfolding stateQuestion inRanges longEnough maxLevels
+  unfolding stateQuestion inRanges longEnough
   sound h =
       let e = asked-all 0 4 (inRanges s) (longEnough n s) h in
       let o = sweep.both _ _ (e .0) in
@@ -116,6 +118,7 @@ module _ (s : Writer) (n : ℕ) where
         down = leb-true _ _ (p .1);
         width = within-true 1 maxWidth _ (a .0);
         levels = within-true 1 maxLevels _ (b .0);
+        deep = omega (arith, within-true 1 maxLevels _ (b .0), levels-small);
         rows = leb-true _ _ (d .0);
         column = ltb-true _ _ (f .0);
         closed = leb-true _ _ (g .0);
