@@ -143,4 +143,30 @@ pub mod ccsds {
         update_row => ccsds_update_row(),
         unupdate_row => ccsds_unupdate_row()
     );
+
+    /// The rows of a level: how they stand, and where they start on the grid.
+    #[derive(Clone, Copy, Debug)]
+    pub struct Level {
+        pub stride: usize,
+        pub width: usize,
+        pub y: usize,
+        pub height: usize,
+    }
+
+    macro_rules! column_calls {
+        ($($name:ident => $symbol:ident),+) => {
+            extern "C" {
+                $(fn $symbol(area: *mut i32, area_len: usize, stride: usize, width: usize, y: usize, height: usize) -> u32;)+
+            }
+            $(pub fn $name(area: &mut [i32], l: Level) -> u32 {
+                // SAFETY: the area is a whole slice.
+                unsafe { $symbol(area.as_mut_ptr(), area.len(), l.stride, l.width, l.y, l.height) }
+            })+
+        };
+    }
+
+    column_calls!(
+        lift_columns => ccsds_lift_columns,
+        unlift_columns => ccsds_unlift_columns
+    );
 }

@@ -1,6 +1,7 @@
 //! The calls of the integer 9/7: lines that start at an even and at an odd coordinate, every length to 70 and some beyond, against document
 //! 02's formulas, and its row calls, number by number.
 use terrain_tests::areas::{lengths, lines, Guarded};
+use terrain_tests::kernels::ccsds::Level;
 use terrain_tests::kernels::{ccsds, Rows};
 use terrain_tests::random::Random;
 use terrain_tests::{grid, nine_seven};
@@ -155,6 +156,74 @@ fn the_row_calls() {
                 }
             }
             assert_eq!((answer, lent.content()), (if fits { 0 } else { 5 }, &after[..]), "call {call}, {r:?} of {rows:?} in {len} numbers");
+        }
+    }
+}
+
+/// The columns of an area whose rows are `stride` apart, and the area with others in their place.
+fn columns(area: &[i32], l: Level) -> Vec<Vec<i32>> {
+    (0..l.width).map(|c| (0..l.height).map(|r| area[r * l.stride + c]).collect()).collect()
+}
+
+fn with_columns(area: &[i32], l: Level, columns: &[Vec<i32>]) -> Vec<i32> {
+    let mut changed = area.to_vec();
+    for (c, column) in columns.iter().enumerate() {
+        for (r, x) in column.iter().enumerate() {
+            changed[r * l.stride + c] = *x;
+        }
+    }
+    changed
+}
+
+/// Rows in halves, each column by itself, and back in their own order; what lies beside the columns stays.
+#[test]
+fn all_columns_are_lifted_as_lines() {
+    let mut random = Random::new(9_7_3);
+    for height in 1..=21 {
+        for width in [0, 1, 2, 3, 4, 5, 8, 17] {
+            for stride in [width, width + 3] {
+                for y in STARTS {
+                    let l = Level { stride, width, y, height };
+                    let n = (height - 1) * stride + width;
+                    let whole: Vec<i32> = (0..n + 2).map(|_| random.word() >> (8 * (height % 3))).collect();
+                    let i0 = parity(y);
+
+                    let mut area = Guarded::new(&whole);
+                    assert_eq!(ccsds::lift_columns(area.lent(), l), 0);
+                    let expected: Vec<_> = columns(&whole, l)
+                        .iter()
+                        .map(|halves| grid::in_halves(&nine_seven::forward(&grid::interleaved(halves, i0), i0), i0))
+                        .collect();
+                    assert_eq!(area.content(), with_columns(&whole, l, &expected), "{l:?}");
+
+                    let mut area = Guarded::new(&whole);
+                    let answer = ccsds::unlift_columns(area.lent(), l);
+                    match columns(&whole, l).iter().map(|c| nine_seven::backward(c, i0)).collect::<Option<Vec<_>>>() {
+                        Some(expected) => {
+                            assert_eq!(answer, 0, "{l:?}");
+                            assert_eq!(area.content(), with_columns(&whole, l, &expected), "{l:?}");
+                        }
+                        None => {
+                            assert_eq!(answer, 14, "{l:?}");
+                            assert_eq!(area.content(), whole, "14 and something changed");
+                        }
+                    }
+                }
+            }
+        }
+    }
+}
+
+/// One number too few, a stride too short, a row too far.
+#[test]
+fn columns_that_do_not_fit_give_five() {
+    let l = Level { stride: 4, width: 3, y: 0, height: 5 };
+    for (n, l) in [(18, l), (19, Level { stride: 2, ..l }), (19, Level { height: usize::MAX, ..l }), (19, Level { stride: usize::MAX, ..l })] {
+        let whole: Vec<i32> = (0..n).collect();
+        for call in [ccsds::lift_columns, ccsds::unlift_columns] {
+            let mut area = Guarded::new(&whole);
+            assert_eq!(call(area.lent(), l), 5, "{l:?}");
+            assert_eq!(area.content(), whole);
         }
     }
 }

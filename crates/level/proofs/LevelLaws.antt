@@ -1,6 +1,6 @@
 -- What the theorems above ask of a level, whatever it does: `LevelLaws`; and that the 5/3 level meets it: `five-three-laws`.
 -- Assumes nothing.
-use mathlib.Core.Path.{_≡_, refl, sym, ap, _∙_}
+use mathlib.Core.Path.{_≡_, refl, sym, ap, subst, _∙_}
 use mathlib.Core.Bool.{Bool, true, false}
 use Prim.Native.Nat.{ℕ, suc, _+_, _-_, _*_, _/_, _%_, _≤_, _<_}
 use native.Mathlib.Decide.{decLt, ℕ-discrete}
@@ -17,19 +17,22 @@ use Rattle.lifting.specs.GridHalves.{partedInto}
 use Rattle.lifting.proofs.GridLaws.{halves-low, halves-high}
 use Rattle.lifting.specs.FiveThree.{fiveThreeFilter}
 use Rattle.wavelet.specs.Bands.{Grid, Band, LL, HL, LH, HH, across, columnsLifted}
-use Rattle.wavelet.specs.Order.{lastSet}
+use Rattle.wavelet.specs.Order.{lastSet, unmade}
+use Rattle.wavelet.proofs.OrderLaws.{unmade-is}
 use Rattle.wavelet.proofs.SideLaws.{count-lo, count-sum}
-use Rattle.level.specs.Level.{Memory, LevelKind, completes, Meaning, SetStands}
+use Rattle.level.specs.Level.{Memory, LevelKind, completes, Meaning, Ending, SetStands, ahead}
 use Rattle.level.specs.FiveThreeLevel.{cellOf, rowPut, rowPredicted, doubled, rowDoubled, setWith, lowAlone, highAlone, setMade, setClosed}
-use Rattle.level.specs.FiveThreeLevel.{bandPlace, fiveThree, RowStands, Kept}
-use Rattle.level.proofs.Places.{slot-room}
+use Rattle.level.specs.FiveThreeLevel.{bandPlace, fiveThree, RowStands, Kept, LastLeft}
+use Rattle.level.proofs.Places.{slot-room, place-room}
 use Rattle.level.proofs.SetRows.{ap₃, high-mid, high-end, low-mid, low-end, low-only, high-only, high-first}
 use Rattle.level.proofs.Slots.{spot, cell-spot, spot-even, spot-odd, spot-in, spot-apart, slots-apart′}
 use Rattle.level.proofs.Slots.{Only, only-row, only-past, changed-only, changed-cell, spliced-only, spliced-at, stored-only}
 use Rattle.level.proofs.Slots.{next-stays, set-past, high-stays, set-stands, alone-stands, alone-past, high-past, high-keeps, high-alone-stands}
 
--- Held W H g m c x: what a level holds after m rows of g and c columns of row m
-pub record LevelLaws (K : LevelKind) (Held : Meaning) : Type 0 where
+-- Held W H g m c x: what a level holds after m rows of g and c columns of row m; Ended W H g n x: once all rows are there, n being the first set not made
+pub record LevelLaws (K : LevelKind) (Held : Meaning) (Ended : Ending) : Type 0 where
+  -- a set is made by a row after it
+  pub ahead-some : 1 ≤ ahead K
   -- at first, whatever stands in the store
   pub held-none : (W H : Side) (g : Grid) (x : Memory) → Held W H g 0 0 x
   -- a number of row m more, or all of row m
@@ -38,23 +41,25 @@ pub record LevelLaws (K : LevelKind) (Held : Meaning) : Type 0 where
   pub held-put : (W H : Side) (g : Grid) (m : ℕ) (row : ℕ → ℤ) (x : Memory) → ((i : ℕ) → i < W .length → row i ≡ g m i)
       → Held W H g m 0 x → Held W H g m (W .length) (K .put W (H .start) m row x)
   -- row m is there: a row more, and it may complete a set
-  pub held-still : (W H : Side) (g : Grid) (m : ℕ) (x : Memory) → m < H .length → completes (H .start) m ≡ false
+  pub held-still : (W H : Side) (g : Grid) (m : ℕ) (x : Memory) → m < H .length → completes (ahead K) (H .start) m ≡ false
       → Held W H g m (W .length) x → Held W H g (m + 1) 0 x
-  pub held-make : (W H : Side) (g : Grid) (m n : ℕ) (x : Memory) → H .start % 2 + m ≡ 2 * n + 2 → m < H .length
+  pub held-make : (W H : Side) (g : Grid) (m n : ℕ) (x : Memory) → H .start % 2 + m ≡ 2 * n + 2 * ahead K → m < H .length
       → Held W H g m (W .length) x → Held W H g (m + 1) 0 (K .make W (H .start) n x)
-  pub make-stands : (W H : Side) (g : Grid) (m n : ℕ) (x : Memory) → H .start % 2 + m ≡ 2 * n + 2 → m < H .length
+  pub make-stands : (W H : Side) (g : Grid) (m n : ℕ) (x : Memory) → H .start % 2 + m ≡ 2 * n + 2 * ahead K → m < H .length
       → Held W H g m (W .length) x → SetStands K W H g n (K .make W (H .start) n x)
-  -- all rows are there
-  pub close-stands : (W H : Side) (g : Grid) (x : Memory) → 0 < H .length → Held W H g (H .length) 0 x
-      → SetStands K W H g (lastSet H) (K .close W H x)
+  -- all rows are there: the sets left are made, one after the other
+  pub held-ended : (W H : Side) (g : Grid) (x : Memory) → 0 < H .length → Held W H g (H .length) 0 x → Ended W H g (unmade (ahead K) H) x
+  pub close-ended : (W H : Side) (g : Grid) (n : ℕ) (x : Memory) → n ≤ lastSet H → Ended W H g n x → Ended W H g (suc n) (K .close W H n x)
+  pub close-stands : (W H : Side) (g : Grid) (n : ℕ) (x : Memory) → n ≤ lastSet H → Ended W H g n x → SetStands K W H g n (K .close W H n x)
   -- all this is in the level's stretch
   pub held-reads : (W H : Side) (g : Grid) (m c : ℕ) (x y : Memory) → c ≤ W .length → ((j : ℕ) → j < K .stretch W → y j ≡ x j)
       → Held W H g m c x → Held W H g m c y
+  pub ended-reads : (W H : Side) (g : Grid) (n : ℕ) (x y : Memory) → ((j : ℕ) → j < K .stretch W → y j ≡ x j) → Ended W H g n x → Ended W H g n y
   pub place-in : (W : Side) (s n : ℕ) (b : Band) (i : ℕ) → i < count (across b) W → K .place W s n b + i < K .stretch W
   pub cell-past : (W : Side) (s m c : ℕ) (v : ℤ) (x : Memory) (j : ℕ) → c < W .length → K .stretch W ≤ j → stored (K .cell W s m c) v x j ≡ x j
   pub put-past : (W : Side) (s m : ℕ) (row : ℕ → ℤ) (x : Memory) (j : ℕ) → K .stretch W ≤ j → K .put W s m row x j ≡ x j
   pub make-past : (W : Side) (s n : ℕ) (x : Memory) (j : ℕ) → K .stretch W ≤ j → K .make W s n x j ≡ x j
-  pub close-past : (W H : Side) (x : Memory) (j : ℕ) → K .stretch W ≤ j → K .close W H x j ≡ x j
+  pub close-past : (W H : Side) (n : ℕ) (x : Memory) (j : ℕ) → K .stretch W ≤ j → K .close W H n x j ≡ x j
 
 -- ---- the 5/3 level
 -- a number stored, or a row put, in the slot of row m, leaves the level's other rows
@@ -136,11 +141,11 @@ module _ (W H : Side) (g : Grid) (m : ℕ) (x : Memory) (k : Kept W H g m (W .le
     begun = λ i p. absurd (omega arith);
   }
 
-  few : completes (H .start) m ≡ false → q % 2 ≡ 0 → q ≡ 0
+  few : completes 1 (H .start) m ≡ false → q % 2 ≡ 0 → q ≡ 0
   unfolding completes
   few e z = let t : ltb 1 q ≡ false = rw (eq-eqb (q % 2) 0 z) at e in omega (arith, ltb-false 1 q t)
 
-  kept-still : completes (H .start) m ≡ false → Kept W H g (m + 1) 0 x
+  kept-still : completes 1 (H .start) m ≡ false → Kept W H g (m + 1) 0 x
   kept-still e =
       elim (ℕ-discrete (q % 2) 0) [
         | yes z ↦ kept-first (few e z)
@@ -360,15 +365,24 @@ kept-reads W H g m c x y h e k = record {
     in-stretch : (r i : ℕ) → i < W .length → cellOf W r i < 4 * W .length
     in-stretch r i l = omega (arith, cell-spot W r i, spot-in W i l, slot-room (W .length) r)
 
-place-in : (W : Side) (n : ℕ) (b : Band) (i : ℕ) → i < count (across b) W → bandPlace W n b + i < 4 * W .length
-unfolding bandPlace across
-place-in W n LL i h = omega (arith, slot-room (W .length) (2 * n), count-sum W)
-place-in W n HL i h = omega (arith, slot-room (W .length) (2 * n), count-sum W)
-place-in W n LH i h = omega (arith, slot-room (W .length) (2 * n + 3), count-sum W)
-place-in W n HH i h = omega (arith, slot-room (W .length) (2 * n + 3), count-sum W)
+-- the only set left
+last-left : (W H : Side) (g : Grid) (x : Memory) → 0 < H .length → Kept W H g (H .length) 0 x → LastLeft W H g (unmade 1 H) x
+last-left W H g x h k _ = (omega (arith, unmade-is 1 H), h, k)
 
-pub five-three-laws : LevelLaws fiveThree Kept
+none-left : (W H : Side) (g : Grid) (n : ℕ) (x y : Memory) → n ≤ lastSet H → LastLeft W H g n x → LastLeft W H g (suc n) y
+none-left W H g n x y h e i = let z : n ≡ lastSet H = e h .0 in absurd (omega arith)
+
+left-stands : (W H : Side) (g : Grid) (n : ℕ) (x : Memory) → n ≤ lastSet H → LastLeft W H g n x → SetStands fiveThree W H g n (setClosed W H x)
+left-stands W H g n x h e =
+    let l = e h in
+    subst (λ i. SetStands fiveThree W H g i (setClosed W H x)) (sym (l .0)) (last-stands W H g x (l .1) (l .2))
+
+left-reads : (W H : Side) (g : Grid) (n : ℕ) (x y : Memory) → ((j : ℕ) → j < 4 * W .length → y j ≡ x j) → LastLeft W H g n x → LastLeft W H g n y
+left-reads W H g n x y e l h = let k = l h in (k .0, k .1, kept-reads W H g (H .length) 0 x y (omega arith) e (k .2))
+
+pub five-three-laws : LevelLaws fiveThree Kept LastLeft
 five-three-laws = record {
+  ahead-some = omega arith;
   held-none = λ W H g x. record {
     even = λ n f p q. absurd (omega arith);
     odd = λ n p. absurd (omega arith);
@@ -380,11 +394,14 @@ five-three-laws = record {
   held-still = λ W H g m x _ e k. kept-still W H g m x k e;
   held-make = kept-make;
   make-stands = kept-stands;
-  close-stands = last-stands;
+  held-ended = last-left;
+  close-ended = λ W H g n x. none-left W H g n x _;
+  close-stands = left-stands;
   held-reads = kept-reads;
-  place-in = λ W s. place-in W;
+  ended-reads = left-reads;
+  place-in = λ W s n b i h. omega (arith, place-room W n b);
   cell-past = λ W s m c v x j l h. only-past (stored-only W (s % 2 + m) c v x l) j h;
   put-past = λ W s m row x j h. only-past (put-only W (s % 2 + m) row x) j h;
   make-past = λ W s n x j h. made-past W W x j h s n;
-  close-past = λ W H x j h. closed-past W H x j h;
+  close-past = λ W H n x j h. closed-past W H x j h;
 }

@@ -1,5 +1,5 @@
--- What the theorems above ask of a level on the way back, whatever it does: `ReaderLaws`. The 5/3 level meets it: `five-three-back-laws` (FiveThreeBackLaws).
--- They are laws of any bands p of the level: a grid's, or numbers that no grid has. Assumes nothing.
+-- What the theorems above ask of a level on the way back, whatever it does, for a filter F: `ReaderLawsBy`. The 5/3 level meets it: `five-three-back-laws`
+-- (FiveThreeBackLaws). They are laws of any bands p of the level: a grid's, or numbers that no grid has. Assumes nothing.
 use mathlib.Core.Path.{_≡_}
 use mathlib.Core.Bool.{true, false}
 use Prim.Native.Nat.{ℕ, suc, _+_, _-_, _≤_, _<_}
@@ -7,6 +7,7 @@ use lib.IntN.{ℤ}
 use Rattle.numbers.specs.Word.{wrap32}
 use Rattle.lifting.specs.Line.{lo}
 use Rattle.lifting.specs.Grid.{Side, count}
+use Rattle.lifting.specs.Filter.{Filter}
 use Rattle.lifting.specs.FiveThree.{fiveThreeFilter}
 use Rattle.wavelet.specs.Bands.{Grid, Band, LL, across, levelBack}
 use Rattle.wavelet.specs.Maps.{valueFits}
@@ -14,10 +15,10 @@ use Rattle.wavelet.specs.Levels.{next}
 use Rattle.wavelet.specs.Order.{firstSet, lastSet, setRow, setHas}
 use Rattle.wavelet.specs.Steps.{setOf}
 use Rattle.level.specs.ReaderLevel.{ReaderLevel}
-use Rattle.level.specs.Stands.{SetHas, BackMeaning}
-use Rattle.level.proofs.SetMade.{Outcome, FitAll}
+use Rattle.level.specs.Stands.{SetHasBy, BackMeaning}
+use Rattle.level.proofs.SetMade.{Outcome, FitAllBy}
 
-pub record ReaderLaws (K : ReaderLevel) (M : BackMeaning) : Type 0 where
+pub record ReaderLawsBy (F : Filter) (K : ReaderLevel) (M : BackMeaning) : Type 0 where
   -- all this is in the level's stretch
   pub leaves-reads : (k : ℕ) (W H : Side) (p : Band → Grid) (n : ℕ) (x y : ℕ → ℤ) → ((j : ℕ) → j < K .stretch W → y j ≡ x j) → M .Leaves k W H p n x →
       M .Leaves k W H p n y
@@ -41,15 +42,18 @@ pub record ReaderLaws (K : ReaderLevel) (M : BackMeaning) : Type 0 where
   -- Set n worked out: it makes the rows of the way back. If a number is refused, a row does not fit, or one that is halved is odd.
   pub work-last : (k : ℕ) (W H : Side) (p : Band → Grid) (n : ℕ) (x : ℕ → ℤ) → 0 < H .length → n ≤ lastSet H → M .Before W H p n x →
       ((c : Band) → M .Got W H p n x c) →
-      Outcome (FitAll k W H p) (λ y. M .Leaves k W H p n y × ((j : ℕ) → K .stretch W ≤ j → y j ≡ x j)) (K .work true k W H n x)
+      Outcome (FitAllBy F k W H p) (λ y. M .Leaves k W H p n y × ((j : ℕ) → K .stretch W ≤ j → y j ≡ x j)) (K .work true k W H n x)
   pub work-on : (k : ℕ) (W H : Side) (p : Band → Grid) (n : ℕ) (x : ℕ → ℤ) → 0 < H .length → n ≤ lastSet H → M .Before W H p n x →
       ((c : Band) → (c ≡ LL → ⊥) → M .Got W H p n x c) →
       (firstSet H lo ≤ n → (i : ℕ) → i < count lo W →
       K .made (next W) (next H .start) (n - firstSet H lo) (λ j. x (K .stretch W + j)) i ≡ p LL (n - firstSet H lo) i) →
-      Outcome (FitAll k W H p) (λ y. M .Leaves k W H p n y × ((j : ℕ) → K .stretch W ≤ j → y j ≡ x j)) (K .work false k W H n x)
+      Outcome (FitAllBy F k W H p) (λ y. M .Leaves k W H p n y × ((j : ℕ) → K .stretch W ≤ j → y j ≡ x j)) (K .work false k W H n x)
   -- the rows that it makes, and that no number that it halved is odd
-  pub made-is : (k : ℕ) (W H : Side) (p : Band → Grid) (n : ℕ) (x : ℕ → ℤ) → M .Leaves k W H p n x → (r : ℕ) → r < H .length → setOf (K .ahead) H r ≡ n → (c : ℕ) →
-      c < W .length → K .made W (H .start) r x c ≡ levelBack fiveThreeFilter wrap32 W H p r c
-  pub made-fits : (k : ℕ) (W H : Side) (p : Band → Grid) (n : ℕ) (x : ℕ → ℤ) → M .Leaves k W H p n x → (r : ℕ) → r < H .length → setOf (K .ahead) H r ≡ n → (c : ℕ) →
-      c < W .length → valueFits fiveThreeFilter k (levelBack fiveThreeFilter wrap32 W H p r c) ≡ true
-  pub made-has : (k : ℕ) (W H : Side) (p : Band → Grid) (n : ℕ) (x : ℕ → ℤ) → M .Leaves k W H p n x → SetHas (K .ahead) W H p n
+  pub made-is : (k : ℕ) (W H : Side) (p : Band → Grid) (n : ℕ) (x : ℕ → ℤ) → M .Leaves k W H p n x → (r : ℕ) → r < H .length → setOf (K .ahead) H r ≡ n →
+      (c : ℕ) → c < W .length → K .made W (H .start) r x c ≡ levelBack F wrap32 W H p r c
+  pub made-fits : (k : ℕ) (W H : Side) (p : Band → Grid) (n : ℕ) (x : ℕ → ℤ) → M .Leaves k W H p n x → (r : ℕ) → r < H .length → setOf (K .ahead) H r ≡ n →
+      (c : ℕ) → c < W .length → valueFits F k (levelBack F wrap32 W H p r c) ≡ true
+  pub made-has : (k : ℕ) (W H : Side) (p : Band → Grid) (n : ℕ) (x : ℕ → ℤ) → M .Leaves k W H p n x → SetHasBy F (K .ahead) W H p n
+
+abbrev pub ReaderLaws : ReaderLevel → BackMeaning → Type 0
+ReaderLaws = ReaderLawsBy fiveThreeFilter

@@ -123,14 +123,14 @@ module _ (W : Side) (b : Band) (n : ℕ) (v x : ℕ → ℤ) where
       go hi hi d p = absurd (d refl)
 
 -- ---- a row lifted back
-in-halves : (W : Side) (p : Half → ℕ → ℤ) (z : ℕ → ℤ) (h : Half) (i : ℕ) → i < count h W → inHalves W p z (halfPlace h W + i) ≡ p h i
+pub in-halves : (W : Side) (p : Half → ℕ → ℤ) (z : ℕ → ℤ) (h : Half) (i : ℕ) → i < count h W → inHalves W p z (halfPlace h W + i) ≡ p h i
 unfolding halfPlace
 in-halves W p z lo i b = let e : 0 + i ≡ i = omega arith in rw e (halves-low W p z i b)
 in-halves W p z hi i b =
     let e : count lo W + i - count lo W ≡ i = omega arith in
     halves-high W p z (count lo W + i) (omega arith) (omega (arith, counts W)) ∙ ap (p hi) e
 
-halves-at : (W : Side) (y : ℕ → ℤ) (h : Half) (i : ℕ) → halvesOf W y h i ≡ y (halfPlace h W + i)
+pub halves-at : (W : Side) (y : ℕ → ℤ) (h : Half) (i : ℕ) → halvesOf W y h i ≡ y (halfPlace h W + i)
 unfolding halvesOf halfPlace
 halves-at W y lo i = let e : 0 + i ≡ i = omega arith in rw e refl
 halves-at W y hi i = refl

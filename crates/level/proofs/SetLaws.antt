@@ -128,7 +128,7 @@ twice v = unfold unpredicted in ap wrap32 (mean v)
     mean : (v : ℤ) → v +ℤ shrZ (v +ℤ v) 2 ≡ pos 2 *ℤ v
     mean = each _ λ p q. simp lin (omega arith)
 
-row-doubled : (w t : ℕ) (x : ℕ → ℤ) → rowChanged (unpredicted wrap32) w w t t t x ≡ rowChanged doubled w w t t t x
+pub row-doubled : (w t : ℕ) (x : ℕ → ℤ) → rowChanged (unpredicted wrap32) w w t t t x ≡ rowChanged doubled w w t t t x
 unfolding rowChanged
 row-doubled w t x =
     fun-ext λ j.

@@ -20,6 +20,7 @@ use Rattle.lifting.specs.Grid.{Side, place, count, parted, lineHalvesBack, line
 use Rattle.lifting.specs.Passes.{near}
 use Rattle.lifting.proofs.GridLaws.{place-in, in-place, by-place, joined-place, even-near, odd-near, even-one, odd-one}
 use Rattle.lifting.proofs.LoneLaws.{lone-high, lone-odd, has-lone, has-other}
+use Rattle.lifting.specs.Filter.{Filter}
 use Rattle.lifting.specs.FiveThree.{fiveThreeFilter}
 use Rattle.wavelet.specs.Bands.{Grid, Band, bandOf, rowsUnlifted, levelBack, rowsHave, columnsHave, levelHas}
 use Rattle.wavelet.specs.Maps.{valueFits}
@@ -49,9 +50,12 @@ not-false : (t : Bool) → t ≡ true → t ≡ false → ⊥
 not-false t e f = subst T (sym e ∙ f) tt
 
 -- every value of the way back fits as a low-low value of level k, and none that is halved is odd
-pub record FitAll (k : ℕ) (W H : Side) (p : Band → Grid) : Type 0 where
-  pub has : levelHas fiveThreeFilter W H p ≡ true
-  pub fit : (r c : ℕ) → r < H .length → c < W .length → valueFits fiveThreeFilter k (levelBack fiveThreeFilter wrap32 W H p r c) ≡ true
+pub record FitAllBy (F : Filter) (k : ℕ) (W H : Side) (p : Band → Grid) : Type 0 where
+  pub has : levelHas F W H p ≡ true
+  pub fit : (r c : ℕ) → r < H .length → c < W .length → valueFits F k (levelBack F wrap32 W H p r c) ≡ true
+
+abbrev pub FitAll : ℕ → Side → Side → (Band → Grid) → Type 0
+FitAll = FitAllBy fiveThreeFilter
 
 pub has-row : (W H : Side) (p : Band → Grid) → levelHas fiveThreeFilter W H p ≡ true → (h : Half) (r : ℕ) → r < count h H
     → hasLine W (λ a. p (bandOf a h) r) ≡ true

@@ -135,7 +135,7 @@ module _ (W : Side) (q c : ℕ) (v : ℤ) (x : Memory) where
       record { below = λ j p. stored-off _ j v x (λ e. omega arith); past = λ j p. stored-off _ j v x (λ e. omega arith) }
 
 -- ---- a row lifted along the row
-joined-spot : (W : Side) (z : ℕ → ℤ) (i : ℕ) → joined W (halvesOf W z) i ≡ z (spot W i)
+pub joined-spot : (W : Side) (z : ℕ → ℤ) (i : ℕ) → joined W (halvesOf W z) i ≡ z (spot W i)
 unfolding joined halvesOf
 joined-spot W z i =
     elim (ℕ-discrete ((W .start % 2 + i) % 2) 0) [

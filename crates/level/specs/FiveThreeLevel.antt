@@ -19,7 +19,7 @@ use Rattle.lifting.specs.Pairs.{first}
 use Rattle.lifting.specs.FiveThree.{fiveThreeFilter}
 use Rattle.wavelet.specs.Bands.{Grid, Band, LL, HL, LH, HH, columnsLifted}
 use Rattle.wavelet.specs.Order.{lastSet}
-use Rattle.level.specs.Level.{Memory, LevelKind}
+use Rattle.level.specs.Level.{Memory, LevelKind, Ending}
 
 -- where the slot of row q of w numbers begins
 unfoldable pub slot : ℕ → ℕ → ℕ
@@ -101,11 +101,12 @@ bandPlace W n HH = slot (W .length) (2 * n + 3) + count lo W
 
 abbrev pub fiveThree : LevelKind
 fiveThree = record {
+  filter = fiveThreeFilter;
   stretch = λ W. 4 * W .length;
   cell = λ W s m c. cellOf W (s % 2 + m) c;
   put = λ W s m row x. rowPut W (s % 2 + m) row x;
   make = setMade;
-  close = setClosed;
+  close = λ W H n x. setClosed W H x;
   place = λ W s n b. bandPlace W n b;
 }
 
@@ -126,3 +127,7 @@ pub record Kept (W H : Side) (g : Grid) (m c : ℕ) (x : Memory) : Type 0 where
       → RowStands W (2 * n + 1) (W .length) (columnsLifted fiveThreeFilter wrap32 H g hi n) x
   -- the row begun
   pub begun : RowStands W (H .start % 2 + m) c (g m) x
+
+-- and what it holds once all rows are there: a set that is not made is the last, the only one left
+abbrev pub LastLeft : Ending
+LastLeft W H g n x = n ≤ lastSet H → (n ≡ lastSet H) × (0 < H .length) × Kept W H g (H .length) 0 x

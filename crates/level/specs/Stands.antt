@@ -7,6 +7,7 @@ use lib.IntN.{ℤ}
 use Rattle.numbers.specs.Word.{wrap32}
 use Rattle.lifting.specs.Line.{Half, lo, hi}
 use Rattle.lifting.specs.Grid.{Side, count, parted, hasLine}
+use Rattle.lifting.specs.Filter.{Filter}
 use Rattle.lifting.specs.FiveThree.{fiveThreeFilter}
 use Rattle.wavelet.specs.Bands.{Grid, Band, across, down, bandOf, rowsUnlifted, levelBack}
 use Rattle.wavelet.specs.Maps.{valueFits}
@@ -19,16 +20,20 @@ use Rattle.level.specs.Work.{endOf}
 abbrev pub RowStands : Side → (ℕ → ℤ) → ℕ → (Half → ℕ → ℤ) → Type 0
 RowStands W x q c = (h : Half) (i : ℕ) → i < count h W → x (rowPlace (W .length) q + (halfPlace h W + i)) ≡ c h i
 
--- no number that set n halves is odd: its band rows are lines', and so are the columns of the rows that it makes, at the look-ahead a
-pub record SetHas (a : ℕ) (W H : Side) (p : Band → Grid) (n : ℕ) : Type 0 where
+-- no number that set n halves is odd: its band rows are lines', and so are the columns of the rows that it makes, by the filter F at the look-ahead a
+pub record SetHasBy (F : Filter) (a : ℕ) (W H : Side) (p : Band → Grid) (n : ℕ) : Type 0 where
   pub low : firstSet H lo ≤ n → hasLine W (λ h. p (bandOf h lo) (n - firstSet H lo)) ≡ true
   pub high : n < count hi H → hasLine W (λ h. p (bandOf h hi) n) ≡ true
-  pub columns : (r : ℕ) → r < H .length → setOf a H r ≡ n → (c : ℕ) → c < W .length → hasLine H (λ h i. rowsUnlifted fiveThreeFilter wrap32 W p h i c) ≡ true
+  pub columns : (r : ℕ) → r < H .length → setOf a H r ≡ n → (c : ℕ) → c < W .length → hasLine H (λ h i. rowsUnlifted F wrap32 W p h i c) ≡ true
+
+abbrev pub SetHas : ℕ → Side → Side → (Band → Grid) → ℕ → Type 0
+SetHas = SetHasBy fiveThreeFilter
 
 -- what set n leaves: the rows that it makes, which fit as low-low values of level k, and its high row of the columns for the next set
 pub record SetLeaves (k : ℕ) (W H : Side) (p : Band → Grid) (n : ℕ) (x : ℕ → ℤ) : Type 0 where
   pub made : (r : ℕ) → r < H .length → setOf 1 H r ≡ n → RowStands W x (local (H .start) r) (parted W (levelBack fiveThreeFilter wrap32 W H p r))
-  pub fit : (r : ℕ) → r < H .length → setOf 1 H r ≡ n → (c : ℕ) → c < W .length → valueFits fiveThreeFilter k (levelBack fiveThreeFilter wrap32 W H p r c) ≡ true
+  pub fit : (r : ℕ) → r < H .length → setOf 1 H r ≡ n → (c : ℕ) → c < W .length →
+      valueFits fiveThreeFilter k (levelBack fiveThreeFilter wrap32 W H p r c) ≡ true
   pub high : 2 * n + 2 < endOf H → RowStands W x (2 * n + 1) (parted W (rowsUnlifted fiveThreeFilter wrap32 W p hi n))
   pub has : SetHas 1 W H p n
 

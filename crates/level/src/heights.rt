@@ -62,7 +62,7 @@ fn fill(store: &mut [i32], w: usize, x: usize, q: usize, column: usize, run: &[u
 }
 
 // Whether n numbers from place a on lie within `all`.
-fn lies_in(a: usize, n: usize, all: usize) -> bool
+pub fn lies_in(a: usize, n: usize, all: usize) -> bool
     ensures { λ r. ⌜ r ≡ leb (a + n) all ⌝ }
 {
     if n <= all {

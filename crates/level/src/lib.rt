@@ -2,8 +2,9 @@
 // begins and how many rows it has received; what stands in the stretch, and the filter, only this crate knows.
 mod copies;
 pub mod heights;
-mod lone;
+pub mod lone;
 pub mod making;
+pub mod moves;
 pub mod rebuilding;
 pub mod rows;
 mod sets;

@@ -1,4 +1,4 @@
-// A level of one row, at an odd coordinate: its numbers are halved on the way back. The module is private.
+// A level of one row, at an odd coordinate: its numbers are halved on the way back.
 use lifting::sample;
 ghost use mathlib.Core.Path.{_≡_};
 ghost use lib.ListN.{length};

@@ -8,8 +8,16 @@ ghost use mathlib.Core.Path.{_≡_};
 ghost use lib.ListN.{length};
 ghost use Rattle.numbers.specs.Signal.{at, pick};
 ghost use Rattle.lifting.specs.Grid.{side};
-ghost use Rattle.level.specs.FiveThreeLevel.{setMade, setClosed};
+ghost use Rattle.level.specs.Level.{ahead};
+ghost use Rattle.level.specs.FiveThreeLevel.{fiveThree, setMade, setClosed};
 ghost use Rattle.level.specs.Making.{levelFits, nextFits, delivered};
+
+// The look-ahead: set n is made once the row at coordinate 2n + 2 × ahead is there, so that ahead sets at most are left when all rows are.
+pub fn ahead() -> usize
+    ensures { λ r. ⌜ r ≡ ahead fiveThree ⌝ }
+{
+    1
+}
 
 // Whether the stretch lies within n numbers, and whether the next level's does: by division, so that no product can overflow.
 fn level_fits(n: usize, w: usize) -> bool

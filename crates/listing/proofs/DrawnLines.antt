@@ -103,13 +103,15 @@ module _ (W L n : ℕ) (x : Memory) (ready : setUpQuestion (side 0 W) L n ≡ 0)
   module _ (some : 1 ≤ H) (limit : H ≤ maxHeight) (small : All (λ h. h ≤ maxSample) (taken es)) (within : length (taken es) ≤ W * H)
       (all : finishedBy es ≡ true → length (taken es) ≡ W * H) where
     -- the lines drawn, and those of the rows that wait
-    pub lines-all : (sizeLine W H L ++ drawnText (drawn es)) ++ linesOf W H (gridOf W (taken es)) (waitingOf (side 0 W) 0 L es) ≡ linesDue q (taken es) (finishedBy es)
+    pub lines-all : (sizeLine W H L ++ drawnText (drawn es)) ++ linesOf W H (gridOf W (taken es)) (waitingOf (side 0 W) 0 L es)
+        ≡ linesDue q (taken es) (finishedBy es)
     unfolding linesDue waitingOf madeOf wholeRows
     lines-all =
         let d = demand-3 (side 0 W) 0 L n x (omega arith) (omega arith) ready cs .1 in
         append-assoc (sizeLine W H L) (drawnText (drawn es)) _
         ∙ ap (λ t. sizeLine W H L ++ t)
-        (lines-same W H (gridOf W (taken es)) (drawn es) (madeOf (side 0 W) 0 L es) (d .values H (gridOf W (taken es)) (grid-map-of W H es some limit small within all))
+        (lines-same W H (gridOf W (taken es)) (drawn es) (madeOf (side 0 W) 0 L es)
+        (d .values H (gridOf W (taken es)) (grid-map-of W H es some limit small within all))
         (d .in-order))
 
     pub lines-prefix : (r : List ℕ) × ((sizeLine W H L ++ drawnText (drawn es)) ++ r ≡ linesDue q (taken es) (finishedBy es))

@@ -100,7 +100,8 @@ pairs L h m w (b ∷ r) zero v = refused 15 L h zero m false v r ∙ surplus m b
 pairs L h m w (b ∷ []) (suc n) v = ap (then []) (first-byte maxLevels L h n m v b w) ∙ too-few L h n m true b ∙ half-short m n b w
 pairs L h m w (b ∷ c ∷ r) (suc n) v =
     ap (then (c ∷ r)) (first-byte maxLevels L h n m v b w)
-    ∙ lasts L h n m true b c (256 * b + c) (b ∷ c ∷ r) r (leb (256 * b + c) m) refl (second-byte maxLevels L h n m b c w) (leads-two m b c r w) (pairs L h m w r n 0)
+    ∙ lasts L h n m true b c (256 * b + c) (b ∷ c ∷ r) r (leb (256 * b + c) m) refl (second-byte maxLevels L h n m b c w) (leads-two m b c r w)
+    (pairs L h m w r n 0)
 
 singles : (L : ℕ) (h : Header) (m : ℕ) → wide m ≡ false → (r : List ℕ) (n v : ℕ) → sum (readAll (at 3 L h n m false v) r) ≡ heightsReading m n r
 unfolding readAll readByte heightRead inputEnded

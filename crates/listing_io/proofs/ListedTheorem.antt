@@ -79,7 +79,8 @@ pub record AfterRefusal (n k : ℕ) (s : State) (v : List ℕ) : Type 0 where
 
 after-refusal-one : (n k b : ℕ) (s : State) → 3 < s .listing .input .phase → (Idle (readState n k b s)) × (3 < readState n k b s .listing .input .phase)
 unfolding readState
-after-refusal-one n k b s h = rw (sym (phase-on maxLevels (s .listing .input) b (λ e. omega arith) (λ e. omega arith) (λ e. omega arith) (λ e. omega arith))) (refl, h)
+after-refusal-one n k b s h =
+    rw (sym (phase-on maxLevels (s .listing .input) b (λ e. omega arith) (λ e. omega arith) (λ e. omega arith) (λ e. omega arith))) (refl, h)
 
 after-refusal-all : (n k : ℕ) (v : List ℕ) (s : State) → Idle s → 3 < s .listing .input .phase → AfterRefusal n k s v
 after-refusal-all n k [] s i h = record { state = s; goes = stays s; idle = i; phase = h }

@@ -64,7 +64,8 @@ after-refusal true i W H f z [] h =
     ends-to i W H f z ended.Before (end-over i (omega arith)) ∙ left-none (idle i W H f) z refl
 after-refusal false i W H f z [] h = idle-owed (idle i W H f) z refl
 after-refusal e i W H f z (b ∷ u) h =
-    read-as e i W H f z b u (steps.More i) (sym (phase-on 0 i b (λ d. omega arith) (λ d. omega arith) (λ d. omega arith) (λ d. omega arith))) ∙ after-refusal e i W H f z u h
+    read-as e i W H f z b u (steps.More i) (sym (phase-on 0 i b (λ d. omega arith) (λ d. omega arith) (λ d. omega arith) (λ d. omega arith)))
+    ∙ after-refusal e i W H f z u h
 
 refused-left : (i : Input) (W H f q : ℕ) (z : List ℕ) → leftOn (rewriting i W H f (partOf 3 q)) z ≡ refusedLine q
 unfolding leftOn partText
@@ -220,7 +221,8 @@ module _ (e : Bool) (h : Header) (W H : ℕ) (some : 0 < W) (m n f u : ℕ) (z r
   same : take (f + 1) y ++ hs ≡ take f z ++ (u ∷ hs)
   same = set-taken z f u hs (omega arith)
 
-  at-part : (p : Part) → p ≡ rowPart (f + 1) W → owed e (heightKept (idle k W H f) i u z .state) (heightKept (idle k W H f) i u z .row) r ≡ owed e (rewriting i W H (f + 1) p) y r
+  at-part : (p : Part) → p ≡ rowPart (f + 1) W
+      → owed e (heightKept (idle k W H f) i u z .state) (heightKept (idle k W H f) i u z .row) r ≡ owed e (rewriting i W H (f + 1) p) y r
   at-part p q =
       let d = kept-some (idle k W H f) i u z p (omega arith) q in
       ap₂ (λ s l. owed e s l r) (sym (d .0)) (sym (d .1))
@@ -339,7 +341,9 @@ module _ (e : Bool) (z : List ℕ) (room : maxPictureWidth ≤ length z) where
   step-due k next.Refused s g = refused e (phased 4 (early k)) 0 0 0 15 z s refl
 
   ends-early : (d : Bool) (k : Header) → owed d (idle (early k) 0 0 0) z [] ≡ answerLine (pick d 15 0)
-  ends-early true k = ends-to (early k) 0 0 0 z (ended.Short (phased 4 (early k))) (end-early (early k) (omega arith)) ∙ refused-left (phased 4 (early k)) 0 0 0 15 z
+  ends-early true k =
+      ends-to (early k) 0 0 0 z (ended.Short (phased 4 (early k))) (end-early (early k) (omega arith))
+      ∙ refused-left (phased 4 (early k)) 0 0 0 15 z
   ends-early false k = idle-owed (idle (early k) 0 0 0) z refl
 
   header : (s : List ℕ) (k : Header) → owed e (idle (early k) 0 0 0) z s ≡ pictureDue e (andThen (readBy (feed k s)) sizeEnd)

@@ -27,7 +27,7 @@ use Rattle.level.specs.Tried.{Tried, failed, passed, fits, memory}
 use Rattle.level.specs.Slots.{rowPlace, local, rowIn}
 use Rattle.wavelet.specs.Store.{storeLength}
 use Rattle.reader.specs.Store.{zeroed}
-use Rattle.reader.specs.Machine.{place, dive, enter, placeFed}
+use Rattle.reader.specs.Machine.{spot, placeOf, dive, enter, spotFed}
 use Rattle.reader.specs.State.{columns, rows, next, nextRow, nextLength, unfinished, rowDue, drawDue, wants, settles, feeds, movedTo}
 use Rattle.reader.specs.State.{fedReader, drawnReader, endedReader}
 use Rattle.reader.specs.Questions.{countsFit, storeFits, runFits, wantQuestion, feedQuestion, drawQuestion}
@@ -35,7 +35,7 @@ use Rattle.reader.specs.Calls.{fresh, setUpReply, setUpStore, wantReply,
 use Rattle.reader.specs.Inside.{Is, storeQuestion, rowQuestion}
 use Rattle.level.specs.Rebuilding.{Kept}
 use Rattle.areas.proofs.AreaLaws.{front-at, front-rest}
-use Rattle.reader.proofs.StepLaws.{place-of, next-draw}
+use Rattle.reader.proofs.StepLaws.{spot-of, next-draw}
 
 -- ---- a store zeroed after places past n were kept
 pub zero-kept : (W : Side) (L n : ℕ) (x y z : ℕ → ℤ) → n ≡ storeLength W L → Kept (storeLength W L) x y → z ≡ fronted n (λ _. pos 0) y → z ≡ zeroed W L x
@@ -99,7 +99,7 @@ module _ (s : Reader) where
 
   pub wants-top : s .level ≡ 0 → s .ended ≡ false → s .drawn < s .height → drawNow ≡ wants s
   wants-top e live more =
-      wants-draw (record { level = 0; alone = next s .alone; band = next s .band }) (record { level = sym (next-draw s e); alone = refl; band = refl }) live more
+      wants-draw (record { level = 0; set = next s .set; band = next s .band }) (record { level = sym (next-draw s e); set = refl; band = refl }) live more
       refl
 
 -- ---- the number of the question that says no
@@ -188,17 +188,18 @@ module _ (s : Reader) (Q : ℕ) (v x : ℕ → ℤ) where
   unfolding feedReply feedStore storeAfter
   feed-end t z e et is = (rw (← e) (ap impossible et), rw (← e) is)
 
-pub fed-reader : (s t : Reader) (p : Spot) → Is (placeFed (columns s) (rows s) (s .levels) (s .drawn) (next s .level) (next s .alone) (next s .band)) p →
-    t ≡ movedTo s (s .drawn) (place (p .level) (p .alone) (p .band)) → t ≡ fedReader s
+pub fed-reader : (s t : Reader) (p : Spot) → Is (spotFed (columns s) (rows s) (s .levels) (next s .level) (next s .set) (next s .band)) p →
+    t ≡ movedTo s (s .drawn) (placeOf (rows s) (s .drawn) (spot (p .level) (p .set) (p .band))) → t ≡ fedReader s
 unfolding fedReader
-fed-reader s t p is e = e ∙ ap (movedTo s (s .drawn)) (place-of _ p is)
+fed-reader s t p is e = e ∙ ap (λ q. movedTo s (s .drawn) (placeOf (rows s) (s .drawn) q)) (spot-of _ p is)
 
 pub drawn-reader : (s t : Reader) (d : ℕ) (p : Spot) → d ≡ s .drawn + 1 → Is (enter (columns s) (rows s) (s .levels) d) p →
-    t ≡ movedTo s d (place (p .level) (p .alone) (p .band)) → t ≡ drawnReader s
+    t ≡ movedTo s d (placeOf (rows s) d (spot (p .level) (p .set) (p .band))) → t ≡ drawnReader s
 unfolding drawnReader
 drawn-reader s t d p ed is e =
     let n : d ≡ suc (s .drawn) = ed ∙ add-one (s .drawn) in
-    e ∙ ap (movedTo s d) (place-of _ p is) ∙ ap (λ (i : ℕ). movedTo s i (enter (columns s) (rows s) (s .levels) i)) n
+    e ∙ ap (λ q. movedTo s d (placeOf (rows s) d q)) (spot-of _ p is)
+    ∙ ap (λ (i : ℕ). movedTo s i (placeOf (rows s) i (enter (columns s) (rows s) (s .levels) i))) n
 
 -- ---- draw
 module _ (s : Reader) (Q : ℕ) (x z : ℕ → ℤ) where
@@ -239,23 +240,14 @@ drawn-row s a k l z u ea ek room made =
     ∙ ap (λ (i : ℕ). windowed i k (at l)) ea ∙ ap (λ (i : ℕ). windowed (rowPlace W d) i (at l)) ek)
 
 -- where a height row begins, from level 0 on
-pub enter-is : (W H : Side) (L d : ℕ) (p : Spot) → Is (dive (L - 0) 0 W H d) p → Is (enter W H L d) p
+pub enter-is : (W H : Side) (L d : ℕ) (p : Spot) → Is (dive (L - 0) 0 W H d d) p → Is (enter W H L d) p
 unfolding enter
-enter-is W H L d p is = let z : L - 0 ≡ L = omega arith in subst (λ (m : ℕ). Is (dive m 0 W H d) p) z is
+enter-is W H L d p is = let z : L - 0 ≡ L = omega arith in subst (λ (m : ℕ). Is (dive m 0 W H d d) p) z is
 
 -- where a fresh reader begins
-pub fresh-at : (W H : Side) (L : ℕ) (s : Reader) (p : Spot) → Is (enter W H L 0) p →
-    s ≡ record {
-      width = W .length;
-      height = H .length;
-      levels = L;
-      x = W .start;
-      y = H .start;
-      drawn = 0;
-      level = p .level;
-      alone = p .alone;
-      band = p .band;
-      ended = false;
-    } → s ≡ fresh W H L
+pub fresh-at : (W H : Side) (L : ℕ) (s t : Reader) (p : Spot) → Is (enter W H L 0) p → columns s ≡ W → rows s ≡ H → s .levels ≡ L →
+    t ≡ movedTo s 0 (placeOf (rows s) 0 (spot (p .level) (p .set) (p .band))) → t ≡ fresh W H L
 unfolding fresh
-fresh-at W H L s p is e = e ∙ rw (is .level, is .alone, is .band)
+fresh-at W H L s t p is ew eh el e =
+    e ∙ ap (λ q. movedTo s 0 (placeOf (rows s) 0 q)) (spot-of _ p is)
+    ∙ rw (← ew, ← eh, ← el) refl

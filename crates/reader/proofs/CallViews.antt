@@ -2,7 +2,7 @@
 use mathlib.Core.Bool.{Bool, true, false}
 use mathlib.Core.Path.{_≡_, refl, sym, ap, subst, _∙_}
 use mathlib.Core.List.{List, [], _∷_}
-use Prim.Native.Nat.{ℕ, suc, _-_, _≤_, _<_}
+use Prim.Native.Nat.{ℕ, suc, _-_, _*_, _≤_, _<_}
 use native.Mathlib.Decide.{decLt, decLe}
 use native.Mathlib.Omega.{arith}
 use lib.IntN.{ℤ}
@@ -20,16 +20,17 @@ use Rattle.wavelet.specs.Steps.{Step, feed, draw}
 use Rattle.calls.specs.Lists.{gives, refused, Area}
 use Rattle.calls.proofs.QuestionLaws.{asked-yes}
 use Rattle.reader.specs.declared.Reader.{Reader}
-use Rattle.reader.specs.Sets.{needsTwo, rowAt}
+use Rattle.reader.specs.Sets.{ahead}
 use Rattle.reader.specs.Asked.{asked}
 use Rattle.level.specs.Tried.{fits}
-use Rattle.reader.specs.Machine.{Place, place, nowAt, nextAt, beyond, enter}
+use Rattle.reader.specs.Machine.{Spot, spot, Place, spotOf, nextUp, beyond, enter}
+use Rattle.reader.specs.Holds.{Ready}
 use Rattle.reader.specs.State.{next, nextRow, nextLength, unfinished, rowDue, drawDue, wants, settles, feeds}
 use Rattle.reader.specs.Questions.{countsFit, storeFits, runFits, setUpQuestion, wantQuestion, feedQuestion, drawQuestion}
 use Rattle.reader.specs.Calls.{wantReply}
 use Rattle.reader.specs.Demand3.{said, heights, nothing, wantSays, feedTurned, drawSays}
 use Rattle.reader.proofs.Looks.{named-code}
-use Rattle.reader.proofs.StepsLeft.{stepsLeft, tailAt, Ahead, height, row, ahead, left-row, left-height, left-done}
+use Rattle.reader.proofs.StepsLeft.{stepsLeft, tailAt, Ahead, height, row, ahead-is, left-row, left-height, left-done}
 
 -- ---- a set-up that passed
 pub record Limits (W H : Side) (l n : ℕ) : Type 0 where
@@ -60,44 +61,48 @@ module _ (W H : Side) (l : ℕ) where
     y = H .start;
     drawn = d;
     level = p .level;
-    alone = p .alone;
+    back = p .back;
     band = p .band;
     ended = e;
   }
 
-  abbrev pub nextOf : ℕ → Place → Place
-  nextOf d p = nextAt W H (suc l) d (p .level) (p .alone) (p .band)
+  abbrev pub at : ℕ → Place → Spot
+  at d p = spotOf H d p
 
-  -- the row of band c of the set that level k + 1 is at
-  abbrev pub nameOf : ℕ → ℕ → Bool → Band → RowName
-  nameOf d k a c = rowName (suc k) c (setRow (sideAt k H) c (nowAt W H (suc l) d k a))
+  abbrev pub nextOf : ℕ → Place → Spot
+  nextOf d p = nextUp W H (suc l) (at d p .level) (at d p .set) (at d p .band)
+
+  -- the row of band c of set n of level k + 1
+  abbrev pub nameOf : ℕ → ℕ → Band → RowName
+  nameOf k n c = rowName (suc k) c (setRow (sideAt k H) c n)
 
   -- what is known of a row that is wanted
-  pub record Due (d : ℕ) (p : Place) (k : ℕ) (a : Bool) (c : Band) : Type 0 where
+  pub record Due (d : ℕ) (p : Place) (k n : ℕ) (c : Band) : Type 0 where
     pub due : d < H .length
     pub below : k < p .level
-    pub two : a ≡ true → needsTwo (sideAt k H) (rowAt H d k) ≡ true
-    pub asks : asked (eqb (suc k) (suc l)) (sideAt k W) (sideAt k H) (nowAt W H (suc l) d k a) c ≡ true
-    pub is : nextOf d p ≡ place (suc k) a (code c)
+    pub ready : Ready W H (suc l) d (spot (suc k) n (code c))
+    pub asks : asked (eqb (suc k) (suc l)) (sideAt k W) (sideAt k H) n c ≡ true
+    pub is : nextOf d p ≡ spot (suc k) n (code c)
 
   -- ---- what is next, by what is left
   pub data View (d : ℕ) (p : Place) : List Step → Type 0 where
     at-end : H .length ≤ d → View d p []
-    at-height : d < H .length → nextOf d p ≡ place 0 false 4 → View d p (draw d ∷ stepsLeft W H l (suc d) (enter W H (suc l) (suc d)))
-    at-row : (k : ℕ) (a : Bool) (c : Band) → Due d p k a c → View d p (feed (nameOf d k a c) ∷ stepsLeft W H l d (beyond W H (suc l) d k a (code c)))
+    at-height : d < H .length → nextOf d p ≡ spot 0 0 4 → View d p (draw d ∷ stepsLeft W H l (suc d) (enter W H (suc l) (suc d)))
+    at-row : (k n : ℕ) (c : Band) → Due d p k n c → View d p (feed (nameOf k n c) ∷ stepsLeft W H l d (beyond W H (suc l) k n (code c)))
 
-  pub view : (d : ℕ) (p : Place) → p .level ≤ suc l → View d p (stepsLeft W H l d p)
-  view d p level-le = elim (decLt d (H .length)) [
-    | yes due ↦ go due (nextOf d p) refl (ahead W H l d (p .level) (p .alone) (p .band) level-le)
-    | no over ↦ subst (View d p) (sym (left-done W H l d p (omega arith))) (at-end (omega arith))
+  pub view : (d : ℕ) (p : Place) → p .level ≤ suc l → (d < H .length → Ready W H (suc l) d (at d p)) → View d p (stepsLeft W H l d (at d p))
+  view d p level-le ready = elim (decLt d (H .length)) [
+    | yes due ↦ go due (nextOf d p) refl (ahead-is W H l d (p .level) (at d p .set) (p .band) level-le (ready due))
+    | no over ↦ subst (View d p) (sym (left-done W H l d (at d p) (omega arith))) (at-end (omega arith))
   ]
     where
-      go : d < H .length → (q : Place) → nextOf d p ≡ q → Ahead W H l d (p .level) (tailAt W H l d p) q → View d p (stepsLeft W H l d p)
-      go due _ q (height e) = subst (View d p) (sym (left-height W H l d p due e)) (at-height due q)
-      go due _ q (row k a c h two asks e) =
-          subst (View d p) (sym (left-row W H l d p k a c due e)) (at-row k a c (record { due = due; below = h; two = two; asks = asks; is = q }))
+      go : d < H .length → (q : Spot) → nextOf d p ≡ q → Ahead W H l d (p .level) (tailAt W H l (at d p)) q → View d p (stepsLeft W H l d (at d p))
+      go due _ q (height e) = subst (View d p) (sym (left-height W H l d (at d p) due e)) (at-height due q)
+      go due _ q (row k n c h ready asks e) =
+          subst (View d p) (sym (left-row W H l d (at d p) k n c due e)) (at-row k n c (record { due = due; below = h; ready = ready; asks = asks; is = q }))
 
-  module _ (n : ℕ) (lim : Limits W H l n) (d : ℕ) (p : Place) (drawn-le : d ≤ H .length) (level-le : p .level ≤ suc l) (band-le : p .band ≤ 4) where
+  module _ (n : ℕ) (lim : Limits W H l n) (d : ℕ) (p : Place) (drawn-le : d ≤ H .length) (level-le : p .level ≤ suc l) (band-le : p .band ≤ 4)
+      (back-le : p .back ≤ 2 * ahead - 1) where
     pub counts : (e : Bool) → countsFit (here d p e) ≡ true
     unfolding countsFit
     counts e = rw (
@@ -109,6 +114,7 @@ module _ (W H : Side) (l : ℕ) where
       le-leb d (H .length) drawn-le,
       le-leb (p .level) (suc l) level-le,
       le-leb (p .band) 4 band-le,
+      le-leb (p .back) (2 * ahead - 1) back-le,
     ) refl
 
     -- ---- want
@@ -117,7 +123,7 @@ module _ (W H : Side) (l : ℕ) where
     wants-are true _ v = refl
     wants-are false _ (at-end h) = rw (le-ltb d (H .length) h) refl
     wants-are false _ (at-height due q) = rw (lt-ltb d (H .length) due, q) refl
-    wants-are false _ (at-row k a c o) =
+    wants-are false _ (at-row k n c o) =
         let z : suc k - 1 ≡ k = omega arith in
         rw (lt-ltb d (H .length) (o .due), o .is, lt-ltb 0 (suc k) (omega arith), named-code c, z) refl
 
@@ -127,25 +133,25 @@ module _ (W H : Side) (l : ℕ) where
     want-says e t v = rw (counts e) (ap gives (wants-are e t v))
 
     -- ---- feed
-    row-due : (k : ℕ) (a : Bool) (c : Band) → d < H .length → nextOf d p ≡ place (suc k) a (code c) → rowDue (here d p false) ≡ true
+    row-due : (k i : ℕ) (c : Band) → d < H .length → nextOf d p ≡ spot (suc k) i (code c) → rowDue (here d p false) ≡ true
     unfolding rowDue unfinished next
-    row-due k a c due q = rw (lt-ltb d (H .length) due, q, lt-ltb 0 (suc k) (omega arith)) refl
+    row-due k i c due q = rw (lt-ltb d (H .length) due, q, lt-ltb 0 (suc k) (omega arith)) refl
 
     no-row-end : H .length ≤ d → rowDue (here d p false) ≡ false
     unfolding rowDue unfinished
     no-row-end h = rw (le-ltb d (H .length) h) refl
 
-    no-row-height : d < H .length → nextOf d p ≡ place 0 false 4 → rowDue (here d p false) ≡ false
+    no-row-height : d < H .length → nextOf d p ≡ spot 0 0 4 → rowDue (here d p false) ≡ false
     unfolding rowDue unfinished next
     no-row-height due q = rw (lt-ltb d (H .length) due, q) refl
 
-    length-is : (k : ℕ) (a : Bool) (c : Band) → nextOf d p ≡ place (suc k) a (code c) → nextLength (here d p false) ≡ bandColumns W (suc k) c
+    length-is : (k i : ℕ) (c : Band) → nextOf d p ≡ spot (suc k) i (code c) → nextLength (here d p false) ≡ bandColumns W (suc k) c
     unfolding nextLength next
-    length-is k a c q = rw (q, named-code c) refl
+    length-is k i c q = rw (q, named-code c) refl
 
-    level-is : (k : ℕ) (a : Bool) (c : Band) → nextOf d p ≡ place (suc k) a (code c) → next (here d p false) .level ≡ suc k
+    level-is : (k i : ℕ) (c : Band) → nextOf d p ≡ spot (suc k) i (code c) → next (here d p false) .level ≡ suc k
     unfolding next
-    level-is k a c q = rw q refl
+    level-is k i c q = rw q refl
 
     pub feed-asked : (e : Bool) (t : List Step) (x : ℕ → ℤ) (a : Area) → View d p t →
         feedQuestion (here d p e) n x (a .size) (a .numbers) ≡ pick (eqb (feedTurned W e t a) 0) (ask (fits (feeds (here d p e) (a .numbers) x)) 14 0)
@@ -164,7 +170,7 @@ module _ (W H : Side) (l : ℕ) where
         go false t₂ r = refl
 
     -- ---- draw
-    draw-due : d < H .length → nextOf d p ≡ place 0 false 4 → drawDue (here d p false) ≡ true
+    draw-due : d < H .length → nextOf d p ≡ spot 0 0 4 → drawDue (here d p false) ≡ true
     unfolding drawDue unfinished next
     draw-due due q = rw (lt-ltb d (H .length) due, q) refl
 
@@ -172,16 +178,16 @@ module _ (W H : Side) (l : ℕ) where
     unfolding drawDue unfinished
     no-draw-end h = rw (le-ltb d (H .length) h) refl
 
-    no-draw-row : (k : ℕ) (a : Bool) (c : Band) → d < H .length → nextOf d p ≡ place (suc k) a (code c) → drawDue (here d p false) ≡ false
+    no-draw-row : (k i : ℕ) (c : Band) → d < H .length → nextOf d p ≡ spot (suc k) i (code c) → drawDue (here d p false) ≡ false
     unfolding drawDue unfinished next
-    no-draw-row k a c due q = rw (lt-ltb d (H .length) due, q) (ne-eqb (suc k) 0 (λ z. omega arith))
+    no-draw-row k i c due q = rw (lt-ltb d (H .length) due, q) (ne-eqb (suc k) 0 (λ z. omega arith))
 
     -- ---- a feed: turned away by a question before 14, or not
     pub data FeedView (e : Bool) (t : List Step) (x : ℕ → ℤ) (a : Area) : Type 0 where
       feed-away : (q : ℕ) → feedTurned W e t a ≡ q → eqb q 0 ≡ false → eqb q 14 ≡ false → feedQuestion (here d p e) n x (a .size) (a .numbers) ≡ q →
           FeedView e t x a
-      feed-onward : (k : ℕ) (u : Bool) (c : Band) → e ≡ false → Due d p k u c →
-          t ≡ feed (nameOf d k u c) ∷ stepsLeft W H l d (beyond W H (suc l) d k u (code c)) → a .size ≡ bandColumns W (suc k) c →
+      feed-onward : (k u : ℕ) (c : Band) → e ≡ false → Due d p k u c →
+          t ≡ feed (nameOf k u c) ∷ stepsLeft W H l d (beyond W H (suc l) k u (code c)) → a .size ≡ bandColumns W (suc k) c →
           runFits (suc k) (a .size) (a .numbers) ≡ true →
           feedTurned W e t a ≡ 0 → feedQuestion (here d p e) n x (a .size) (a .numbers) ≡ ask (fits (feeds (here d p e) (a .numbers) x)) 14 0 →
           FeedView e t x a
@@ -202,7 +208,7 @@ module _ (W H : Side) (l : ℕ) where
     feed-view false _ x a (at-row k u c o) = go (eqb (a .size) (bandColumns W (suc k) c)) refl (runFits (suc k) (a .size) (a .numbers)) refl
       where
         go : (t₁ : Bool) → eqb (a .size) (bandColumns W (suc k) c) ≡ t₁ → (t₂ : Bool) → runFits (suc k) (a .size) (a .numbers) ≡ t₂ →
-            FeedView false (feed (nameOf d k u c) ∷ stepsLeft W H l d (beyond W H (suc l) d k u (code c))) x a
+            FeedView false (feed (nameOf k u c) ∷ stepsLeft W H l d (beyond W H (suc l) k u (code c))) x a
         go false y t₂ z = asked-away false _ x a 13 (at-row k u c o) (rw y refl) refl refl
         go true y false z = asked-away false _ x a 7 (at-row k u c o) (rw (y, z) refl) refl refl
         go true y true z = feed-onward k u c refl o refl (eqb-true _ _ y) z (rw (y, z) refl) (feed-asked false _ x a (at-row k u c o) ∙ rw (y, z) refl)
@@ -213,7 +219,7 @@ module _ (W H : Side) (l : ℕ) where
           DrawView e t x a
       draw-idle : e ≡ false → drawDue (here d p e) ≡ false → drawSays W e t (a .size) ≡ gives nothing → drawQuestion (here d p e) n x (a .size) ≡ 0 →
           DrawView e t x a
-      draw-onward : e ≡ false → d < H .length → nextOf d p ≡ place 0 false 4 → t ≡ draw d ∷ stepsLeft W H l (suc d) (enter W H (suc l) (suc d)) →
+      draw-onward : e ≡ false → d < H .length → nextOf d p ≡ spot 0 0 4 → t ≡ draw d ∷ stepsLeft W H l (suc d) (enter W H (suc l) (suc d)) →
           drawDue (here d p e) ≡ true → drawSays W e t (a .size) ≡ gives (heights (W .length)) →
           drawQuestion (here d p e) n x (a .size) ≡ ask (fits (settles (here d p e) x)) 14 0 → DrawView e t x a
 

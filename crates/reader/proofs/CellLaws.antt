@@ -1,8 +1,8 @@
--- Levels with cells and without: an empty level has no band row, and no level after it has one. A set of a high row alone asks for a row. Assumes nothing.
+-- Levels with cells and without: an empty level has no band row, and no level after it has one. A set with a high row asks for a row. Assumes nothing.
 use mathlib.Core.Bool.{Bool, true, false}
 use mathlib.Core.Path.{_≡_, refl, sym, subst, _∙_}
 use mathlib.Core.List.{List, [], _∷_, _++_}
-use Prim.Native.Nat.{ℕ, zero, suc, _+_, _-_, _%_, _≤_, _<_}
+use Prim.Native.Nat.{ℕ, zero, suc, _+_, _-_, _/_, _%_, _≤_, _<_}
 use native.Mathlib.Decide.{ℕ-discrete, decLt}
 use native.Mathlib.Omega.{arith}
 use lib.Dec.{T, ltb, leb}
@@ -12,9 +12,10 @@ use Rattle.numbers.proofs.Sweep.{both as halves}
 use Rattle.lifting.specs.Line.{Half, lo, hi}
 use Rattle.lifting.specs.Grid.{Side, count}
 use Rattle.wavelet.specs.Bands.{Band, LH, HH, code, across, down}
-use Rattle.wavelet.specs.Order.{inTurn, firstSet, setRow, setHas, rowsOf, setRows}
+use Rattle.wavelet.specs.Order.{inTurn, firstSet, lastSet, setRow, setHas, rowsOf, setRows}
 use Rattle.wavelet.specs.Steps.{Step, feedAll, setSteps, rowSteps}
 use Rattle.wavelet.specs.Levels.{next, sideAt}
+use Rattle.reader.specs.Sets.{ahead}
 use Rattle.reader.specs.Asked.{keptAt, asked, bandsFrom, those, look, firstCode, nextBand}
 use Rattle.reader.specs.Store.{hasCells}
 use Rattle.reader.proofs.Looks.{code-lt, first-le}
@@ -125,17 +126,17 @@ unfolding inTurn
 turn-none zero f e = refl
 turn-none (suc n) f e = rw (turn-none n f e, e n) refl
 
-pub empty-row : (H : Side) (set : ℕ → List Step) (r : ℕ) → ((n : ℕ) → set n ≡ []) → rowSteps 1 H set r ≡ []
+pub empty-row : (H : Side) (set : ℕ → List Step) (r : ℕ) → ((n : ℕ) → set n ≡ []) → rowSteps ahead H set r ≡ []
 unfolding rowSteps
 empty-row H set r e = turn-none _ _ (λ i. e _)
 
-pub empty-set : (l k : ℕ) (W H : Side) (n : ℕ) → Empty W H → setSteps 1 l k W H n ≡ []
+pub empty-set : (l k : ℕ) (W H : Side) (n : ℕ) → Empty W H → setSteps ahead l k W H n ≡ []
 unfolding setSteps setRows feedAll
 empty-set zero k W H n e = rw (empty-rows k n W H _ e) refl
 empty-set (suc l) k W H n e =
     rw (
       empty-rows k n W H _ e,
-      empty-row (next H) (setSteps 1 l (suc k) (next W) (next H)) (n - firstSet H lo)
+      empty-row (next H) (setSteps ahead l (suc k) (next W) (next H)) (n - firstSet H lo)
           (λ m. empty-set l (suc k) (next W) (next H) m (empty-next W H e)),
     ) (same (leb (firstSet H lo) n))
   where
@@ -143,42 +144,55 @@ empty-set (suc l) k W H n e =
     same true = refl
     same false = refl
 
--- ---- a high row alone
-module _ (W H : Side) (odd : H .start % 2 ≡ 1) where
-  not-first : firstSet H lo ≤ 0 → ⊥
+-- ---- a set without a low row
+pub no-low : (W H : Side) (n : ℕ) → n < firstSet H lo → (b : Band) → down b ≡ lo → setHas W H b n ≡ false
+unfolding setHas
+no-low W H n h b e = both-no (ltb 0 (count (across b) W)) _ (rw e (rw (lt-leb (firstSet H lo) n h) refl))
+
+-- ---- a set with a high row asks for a row, whichever of its bands may be next
+module _ (W H : Side) (n : ℕ) (high : n < count hi H) where
+  high-first : (b : Band) → down b ≡ hi → firstSet H (down b) ≤ n
   unfolding firstSet
-  not-first h = omega arith
+  high-first b d = rw d (omega arith)
 
-  pub alone-low : (b : Band) → down b ≡ lo → setHas W H b 0 ≡ false
-  unfolding setHas firstSet
-  alone-low b e = both-no (ltb 0 (count (across b) W)) _ (rw e (rw (lt-leb (H .start % 2) 0 (omega arith)) refl))
+  high-row : (b : Band) → down b ≡ hi → setRow H b n < count (down b) H
+  unfolding setRow firstSet
+  high-row b d = rw d (omega (arith, high))
 
-  high-row : (b : Band) → down b ≡ hi → 0 < H .length → firstSet H (down b) ≤ 0 × (setRow H b 0 < count (down b) H)
-  unfolding setRow firstSet count
-  high-row b e p = rw e (omega arith, omega arith)
-
-  asks : (t : Bool) (b : Band) → keptAt t b ≡ true → down b ≡ hi → 0 < H .length → 0 < count (across b) W → asked t W H 0 b ≡ true
+  asks : (t : Bool) (b : Band) → keptAt t b ≡ true → down b ≡ hi → 0 < count (across b) W → asked t W H n b ≡ true
   unfolding asked
-  asks t b k d q p = let h = high-row b d q in rw (k, row-has W H b 0 (record { columns = p; first = h .0; row = h .1 })) refl
+  asks t b k d p = rw (k, row-has W H b n (record { columns = p; first = high-first b d; row = high-row b d })) refl
 
-  by : (t : Bool) (b : Band) → keptAt t b ≡ true → down b ≡ hi → 1 ≤ code b → 0 < H .length → 0 < count (across b) W →
-      firstCode (those (asked t W H 0) (bandsFrom 1)) < 4
-  by t b k d i q p = omega (arith, first-le (asked t W H 0) 1 b (asks t b k d q p) i, code-lt b)
+  by : (t : Bool) (i : ℕ) (b : Band) → keptAt t b ≡ true → down b ≡ hi → i ≤ code b → 0 < count (across b) W
+      → firstCode (those (asked t W H n) (bandsFrom i)) < 4
+  by t i b k d h p = omega (arith, first-le (asked t W H n) i b (asks t b k d p) h, code-lt b)
 
   one-half : 0 < W .length → (0 < count lo W → ⊥) → 0 < count hi W
   unfolding count
-  one-half p n = omega (arith, n)
+  one-half p z = omega (arith, z)
 
-  pub alone-asks : (t : Bool) → hasCells W H ≡ true → nextBand t W H 0 1 < 4
+  pub high-asks : (t : Bool) (i : ℕ) → i ≤ 1 → hasCells W H ≡ true → nextBand t W H n i < 4
   unfolding nextBand look keptAt down across code
-  alone-asks t e = go (decLt 0 (count lo W))
+  high-asks t i h e = go (decLt 0 (count lo W))
     where
-      c : (0 < W .length) × (0 < H .length)
-      c = cells-are W H e
+      go : Dec (0 < count lo W) → firstCode (those (asked t W H n) (bandsFrom i)) < 4
+      go (yes p) = by t i LH refl refl (omega arith) p
+      go (no p) = by t i HH refl refl (omega arith) (one-half (cells-are W H e .0) p)
 
-      go : Dec (0 < count lo W) → firstCode (those (asked t W H 0) (bandsFrom 1)) < 4
-      go (yes p) = by t LH refl refl (omega arith) (c .1) p
-      go (no p) = by t HH refl refl (omega arith) (c .1) (one-half (c .0) p)
+high-is : (H : Side) → count hi H ≡ (H .length + H .start % 2) / 2
+unfolding count
+high-is H = omega arith
+
+end-is : (H : Side) → lastSet H ≡ (H .start % 2 + (H .length - 1)) / 2
+unfolding lastSet
+end-is H = refl
+
+-- so a set of a level that asks for nothing is its last
+pub last-asks : (t : Bool) (W H : Side) (n i : ℕ) → i ≤ 1 → hasCells W H ≡ true → n ≤ lastSet H → nextBand t W H n i ≡ 4 → n ≡ lastSet H
+last-asks t W H n i h cells there e = elim (decLt n (count hi H)) [
+  | yes p ↦ absurd (omega (arith, e, high-asks W H n p t i h cells))
+  | no p ↦ omega (arith, p, there, cells-are W H cells .1, high-is H, end-is H)
+]
 
 -- without a low row in set n, the next level has no rows
 pub no-low-empty : (W H : Side) → count lo H ≡ 0 → Empty (next W) (next H)

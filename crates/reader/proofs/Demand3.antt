@@ -41,11 +41,11 @@ use Rattle.reader.specs.declared.Reader.{Reader}
 use Rattle.reader.specs.Asked.{keptAt, asked}
 use Rattle.reader.specs.Rebuilt.{Rows, rebuilt, bandsAt, partAt, SetFits}
 use Rattle.reader.specs.Store.{hasCells}
-use Rattle.reader.specs.Holds.{Tested}
+use Rattle.reader.specs.Holds.{Ready}
 use Rattle.reader.specs.Answers.{done}
-use Rattle.reader.specs.Sets.{needsTwo, rowAt, setAt}
+use Rattle.reader.specs.Sets.{ahead, hasRow, needed}
 use Rattle.level.specs.Tried.{Tried, failed, passed, fits}
-use Rattle.reader.specs.Machine.{Place, place, bandAt, aloneAt, nowAt, lastOfSet, nextUp, nextAt, past, beyond, dive, enter}
+use Rattle.reader.specs.Machine.{Spot, spot, Place, placeOf, bandAt, lastOfSet, nextUp, past, beyond, enter}
 use Rattle.reader.specs.State.{drawDue, feeds, settles}
 use Rattle.reader.specs.Questions.{countsFit, setUpQuestion, feedQuestion, drawQuestion}
 use Rattle.reader.specs.Calls.{fresh, feedReply, drawReply, drawArea}
@@ -54,17 +54,18 @@ use Rattle.reader.specs.Demand3.{World, event, events, final, freshWorld
 use Rattle.reader.specs.Demand3.{HasRow, FirstRows, HasFedRow, SetsFit, FeedFits, setNumber, goesOnSet, wantSays, feedTurned, drawSays}
 use Rattle.reader.specs.Demand3.{OneOf, this, that, written, Draws, Demand3, OfCalls}
 use Rattle.reader.specs.Demand3 as demand
-use Rattle.reader.proofs.StepsLeft.{stepsLeft, left-first, not-alone, still-alone}
+use Rattle.reader.proofs.ReadyLaws.{ready-still, ready-enter, ready-back}
+use Rattle.reader.proofs.StepsLeft.{stepsLeft, tailAt, Ahead, height, row, ahead-is, left-first, left-row}
 use Rattle.level.proofs.SetMade.{Outcome}
-use Rattle.reader.proofs.Outcomes.{outcome-passed, settles-outcome, feeds-outcome, kept-last}
-use Rattle.reader.proofs.Holds.{Live, Fits, LeavesAt, Held, HeldAt, first-holds}
-use Rattle.reader.proofs.CallViews.{Limits, limits, here, nextOf, nameOf, Due, View, at-end, at-height, at-row, view, counts, want-says}
+use Rattle.reader.proofs.Outcomes.{outcome-passed, settles-outcome, feeds-worked, kept-last}
+use Rattle.reader.proofs.Holds.{Fits, LeavesAt, Held, HeldAt, Worked, FedHeld, first-holds}
+use Rattle.reader.proofs.CallViews.{Limits, limits, here, at, nextOf, nameOf, Due, View, at-end, at-height, at-row, view, counts, want-says}
 use Rattle.reader.proofs.CallViews.{FeedView, feed-away, feed-onward, feed-view, DrawView, draw-away, draw-idle, draw-onward, draw-view}
-use Rattle.reader.proofs.Reached.{namesOf, Good, dive-le, dive-deep, Agrees, Kept, Reached, reached, world, call-reached}
+use Rattle.reader.proofs.Reached.{namesOf, Good, enter-le, Agrees, Kept, Reached, reached, world, call-reached}
 use Rattle.reader.proofs.Rebuilt.{lookup, lookup-words, found, back, back-has, rowsOf, part-same, bands-have}
-use Rattle.reader.proofs.CellLaws.{cells-are, has-cells, asked-has, has-row}
+use Rattle.reader.proofs.CellLaws.{cells-are, asked-has, has-row}
 use Rattle.level.proofs.LevelHas.{sets-have}
-use Rattle.reader.proofs.OpenedSets.{Two, two-is, last-set, set-is, setAt-is}
+use Rattle.reader.proofs.OpenedSets.{looks, last-needed}
 
 -- ---- the steps left and the rows fed, one list of events after another
 pub left-append : (t : List Step) (es fs : List Event) → left t (es ++ fs) ≡ left (left t es) fs
@@ -102,7 +103,7 @@ no-levels W H n e =
 
 module _ (W H : Side) (l n : ℕ) (lim : Limits W H l n) where
   abbrev T₀ : List Step
-  T₀ = steps 1 W H (suc l)
+  T₀ = steps ahead W H (suc l)
 
   -- what is reached after the events es
   abbrev Then : List Event → World → Type 0
@@ -123,13 +124,15 @@ module _ (W H : Side) (l n : ℕ) (lim : Limits W H l n) where
   few : suc l ≤ maxLevels
   few = within-true 1 maxLevels (suc l) (lim .deep) .1
 
-  fresh-reached : (x : ℕ → ℤ) → Reached W H l n lim (freshWorld W H (suc l) n x) false (steps 1 W H (suc l)) [] []
+  fresh-reached : (x : ℕ → ℤ) → Reached W H l n lim (freshWorld W H (suc l) n x) false (steps ahead W H (suc l)) [] []
   unfolding fresh
-  fresh-reached x = reached 0 (enter W H (suc l) 0) false _ (steps 1 W H (suc l)) [] [] (record {
+  fresh-reached x = reached 0 (placeOf H 0 (enter W H (suc l) 0)) false _ (steps ahead W H (suc l)) [] [] (record {
     drawn-le = omega arith;
-    level-le = first-le .0;
-    band-le = first-le .1;
-    left = left-first W H l;
+    level-le = enter-le W H l 0 .0;
+    band-le = enter-le W H l 0 .1;
+    back-le = ready-back W H (suc l) 0 _ tall (ready-enter W H l 0 tall) .1;
+    ready = λ _. subst (Ready W H (suc l) 0) (sym same) (ready-enter W H l 0 tall);
+    left = ap (stepsLeft W H l 0) same ∙ left-first W H l;
     drawn = refl;
     good = all-none;
     names = λ _. refl;
@@ -137,13 +140,13 @@ module _ (W H : Side) (l n : ℕ) (lim : Limits W H l n) where
       fit = λ r c p q. absurd (omega arith);
       shows = λ r c p q. absurd (omega arith);
       has = λ r p k live m q. absurd (omega arith);
-      holds = λ _ _. first-holds W H l P _;
+      holds = λ _ _. subst (λ q. HeldAt W H l P q (freshWorld W H (suc l) n x .store)) (sym same) (first-holds W H l P _);
       refuses = λ z. absurd (subst T (sym z) tt);
     };
   })
     where
-      first-le : (enter W H (suc l) 0 .level ≤ suc l) × (enter W H (suc l) 0 .band ≤ 4)
-      first-le = unfold enter in dive-le l (suc l) 0 W H 0 (omega arith)
+      same : at W H l 0 (placeOf H 0 (enter W H (suc l) 0)) ≡ enter W H (suc l) 0
+      same = ready-back W H (suc l) 0 _ tall (ready-enter W H l 0 tall) .0
 
   then-reached : (x : ℕ → ℤ) (cs : List Call) → (let w = freshWorld W H (suc l) n x in Then (events cs w) (final cs w))
   unfolding lists.ever lists.gathered left fedRows
@@ -204,11 +207,11 @@ module _ (W H : Side) (l n : ℕ) (lim : Limits W H l n) where
   -- ---- each part of the claim, for a world that is reached
   module _ (d : ℕ) (p : Place) (e : Bool) (x : ℕ → ℤ) (t : List Step) (fs : List FedRow) (ds : List (ℕ → ℤ)) (kept : Kept W H l d p e x t fs ds) where
     viewed : View W H l d p t
-    viewed = subst (View W H l d p) (kept .left) (view W H l d p (kept .level-le))
+    viewed = subst (View W H l d p) (kept .left) (view W H l d p (kept .level-le) (kept .ready))
 
     want-is : event want (world W H l n lim d p e x) ≡ wanted (gives (wantSays W e t))
     unfolding event
-    want-is = ap wanted (want-says W H l n lim d p (kept .drawn-le) (kept .level-le) (kept .band-le) e t viewed)
+    want-is = ap wanted (want-says W H l n lim d p (kept .drawn-le) (kept .level-le) (kept .band-le) (kept .back-le) e t viewed)
 
     -- ---- feed
     module _ (a : Area) where
@@ -229,21 +232,21 @@ module _ (W H : Side) (l n : ℕ) (lim : Limits W H l n) where
 
       feed-turned : (q : ℕ) → feedTurned W e t a ≡ suc q → event (feed a) (world W H l n lim d p e x) ≡ fed a (refused (suc q))
       unfolding event
-      feed-turned q h = go (feed-view W H l n lim d p (kept .drawn-le) (kept .level-le) (kept .band-le) e t x a viewed)
+      feed-turned q h = go (feed-view W H l n lim d p (kept .drawn-le) (kept .level-le) (kept .band-le) (kept .back-le) e t x a viewed)
         where
-          go : FeedView W H l n lim d p (kept .drawn-le) (kept .level-le) (kept .band-le) e t x a →
+          go : FeedView W H l n lim d p (kept .drawn-le) (kept .level-le) (kept .band-le) (kept .back-le) e t x a →
               seenFeed (feedQuestion (here W H l d p e) n x (a .size) (a .numbers)) ≡ fed a (refused (suc q))
           go (feed-away p f z z′ at) = ap seenFeed at ∙ seen-away p z z′ ∙ ap (λ i. fed a (refused i)) (sym f ∙ h)
           go (feed-onward k u c live o head long in-range f at) = absurd (omega (arith, f, h))
 
       feed-on : feedTurned W e t a ≡ 0 → OneOf (event (feed a) (world W H l n lim d p e x)) (fed a (gives tt)) (fed a (refused 14))
       unfolding event
-      feed-on h = go (feed-view W H l n lim d p (kept .drawn-le) (kept .level-le) (kept .band-le) e t x a viewed)
+      feed-on h = go (feed-view W H l n lim d p (kept .drawn-le) (kept .level-le) (kept .band-le) (kept .back-le) e t x a viewed)
         where
           zero-away : (q : ℕ) → q ≡ 0 → eqb q 0 ≡ false → ⊥
           zero-away q f z = subst T (ap (λ i. eqb i 0) (sym f) ∙ z) tt
 
-          go : FeedView W H l n lim d p (kept .drawn-le) (kept .level-le) (kept .band-le) e t x a →
+          go : FeedView W H l n lim d p (kept .drawn-le) (kept .level-le) (kept .band-le) (kept .back-le) e t x a →
               OneOf (seenFeed (feedQuestion (here W H l d p e) n x (a .size) (a .numbers))) (fed a (gives tt)) (fed a (refused 14))
           go (feed-away p f z z′ at) = absurd (zero-away p (sym f ∙ h) z)
           go (feed-onward k u c live o head long in-range f at) = tried (fits (feeds (here W H l d p e) (a .numbers) x)) at
@@ -314,9 +317,10 @@ module _ (W H : Side) (l n : ℕ) (lim : Limits W H l n) where
 
       draw-is : Draws W e t a (event (draw a) (world W H l n lim d p e x))
       unfolding event
-      draw-is = go (draw-view W H l n lim d p (kept .drawn-le) (kept .level-le) (kept .band-le) e t x a viewed)
+      draw-is = go (draw-view W H l n lim d p (kept .drawn-le) (kept .level-le) (kept .band-le) (kept .back-le) e t x a viewed)
         where
-          go : DrawView W H l n lim d p (kept .drawn-le) (kept .level-le) (kept .band-le) e t x a → Draws W e t a (seenDraw (drawQuestion s n x (a .size)))
+          go : DrawView W H l n lim d p (kept .drawn-le) (kept .level-le) (kept .band-le) (kept .back-le) e t x a
+              → Draws W e t a (seenDraw (drawQuestion s n x (a .size)))
           go (draw-away q z f says at) = subst (λ i. Draws W e t a (seenDraw i)) (sym at) (drawn-away q z f says)
           go (draw-idle live z says at) = subst (λ i. Draws W e t a (seenDraw i)) (sym at) (drawn-idle z says)
           go (draw-onward live due is-height head to-draw says at) = subst (λ i. Draws W e t a (seenDraw i)) (sym at) (tried (fits (settles s x)))
@@ -341,152 +345,85 @@ module _ (W H : Side) (l n : ℕ) (lim : Limits W H l n) where
 
     -- ---- what a call that goes on has worked out
     -- the set of a row that is asked for
-    set-of-row : (k : ℕ) (u : Bool) (c : Band) → asked (eqb (suc k) (suc l)) (sideAt k W) (sideAt k H) (nowAt W H (suc l) d k u) c ≡ true →
-        setNumber H (nameOf W H l d k u c) ≡ nowAt W H (suc l) d k u
+    set-of-row : (k n : ℕ) (c : Band) → asked (eqb (suc k) (suc l)) (sideAt k W) (sideAt k H) n c ≡ true → setNumber H (nameOf W H l k n c) ≡ n
     unfolding setNumber setRow
-    set-of-row k u c asks =
+    set-of-row k n c asks =
         let z : suc k - 1 ≡ k = omega arith in
-        let a = has-row (sideAt k W) (sideAt k H) c (nowAt W H (suc l) d k u) (asked-has _ _ _ _ _ asks .1) .first in
+        let a = has-row (sideAt k W) (sideAt k H) c n (asked-has _ _ _ _ _ asks .1) .first in
         rw z (omega (arith, a))
 
     -- where row c does not complete its set, the next step is a row of it
-    next-is : (k c : ℕ) (u : Bool) → (u ≡ true → needsTwo (sideAt k H) (rowAt H d k) ≡ true) →
-        lastOfSet W H (suc l) d k (nowAt W H (suc l) d k u) c ≡ false →
-        nextOf W H l d (place (suc k) u (c + 1)) ≡ place (suc k) u (bandAt W H (suc l) d k (nowAt W H (suc l) d k u) (c + 1))
-    unfolding nextAt nowAt
-    next-is k c true two more = let z : suc k - 1 ≡ k = omega arith in rw (still-alone W H l d k c (two refl) more, z) refl
-    next-is k c false two more =
-        rw (not-alone W H (suc l) d (suc k) (c + 1)) (unfold nextUp in rw (lt-ltb (bandAt W H (suc l) d k (setAt H d k) (c + 1)) 4 small) refl)
+    set-goes-on : (k n : ℕ) (c : Band) → Due W H l d p k n c → lastOfSet W H (suc l) k n (code c) ≡ false →
+        goesOnSet H (nameOf W H l k n c) (stepsLeft W H l d (spot (suc k) n (code c + 1))) ≡ true
+    unfolding goesOnSet
+    set-goes-on k n c o more = first (nextUp W H (suc l) (suc k) n (code c + 1)) next-is
+        (ahead-is W H l d (suc k) n (code c + 1) (omega (arith, o .below, kept .level-le)) after)
       where
         under : (m i : ℕ) → m ≤ 4 → leb m i ≡ false → i < 4
         under m i b z = omega (arith, leb-false m i z)
 
-        small : bandAt W H (suc l) d k (setAt H d k) (c + 1) < 4
+        small : bandAt W H (suc l) k n (code c + 1) < 4
         small = unfold lastOfSet in under _ _ (omega arith) more
 
-    set-goes-on : (k : ℕ) (u : Bool) (c : Band) → Due W H l d p k u c → lastOfSet W H (suc l) d k (nowAt W H (suc l) d k u) (code c) ≡ false →
-        goesOnSet H (nameOf W H l d k u c) (stepsLeft W H l d (place (suc k) u (code c + 1))) ≡ true
-    unfolding goesOnSet
-    set-goes-on k u c o more = go _ (view W H l d (place (suc k) u (code c + 1)) (omega (arith, o .below, kept .level-le)))
-      where
-        is : nextOf W H l d (place (suc k) u (code c + 1)) ≡ place (suc k) u (bandAt W H (suc l) d k (nowAt W H (suc l) d k u) (code c + 1))
-        is = next-is k (code c) u (o .two) more
+        next-is : nextUp W H (suc l) (suc k) n (code c + 1) ≡ spot (suc k) n (bandAt W H (suc l) k n (code c + 1))
+        next-is = unfold nextUp in rw (lt-ltb (bandAt W H (suc l) k n (code c + 1)) 4 small) refl
 
-        go : (v : List Step) → View W H l d (place (suc k) u (code c + 1)) v → goesOnSet H (nameOf W H l d k u c) v ≡ true
-        go _ (at-end h) = absurd (omega (arith, o .due))
-        go _ (at-height _ q) = let z : suc k ≡ 0 = ap (λ r. r .level) (sym is ∙ q) in absurd (omega arith)
-        go _ (at-row j v b w) =
-            let z : suc k ≡ suc j = ap (λ r. r .level) (sym is ∙ w .is) in
-            let y : u ≡ v = ap (λ r. r .alone) (sym is ∙ w .is) in
-            let z′ : k ≡ j = omega arith in
-            let n : nowAt W H (suc l) d j v ≡ nowAt W H (suc l) d k u = ap₂ (nowAt W H (suc l) d) (sym z′) (sym y) in
-            rw (
-              eq-eqb (suc j) (suc k) (sym z),
-              eq-eqb (setNumber H (nameOf W H l d j v b)) (setNumber H (nameOf W H l d k u c))
-                  (set-of-row j v b (w .asks) ∙ n ∙ sym (set-of-row k u c (o .asks))),
-            ) refl
+        after : Ready W H (suc l) d (spot (suc k) n (code c + 1))
+        after = ready-still W H l d k n (code c) (o .ready) more
+
+        first : (q : Spot) → q ≡ spot (suc k) n (bandAt W H (suc l) k n (code c + 1)) →
+            Ahead W H l d (suc k) (tailAt W H l (spot (suc k) n (code c + 1))) q →
+            goesOnSet H (nameOf W H l k n c) (stepsLeft W H l d (spot (suc k) n (code c + 1))) ≡ true
+        first _ e (height f) = let z : 0 ≡ suc k = ap (λ r. r .level) e in absurd (omega arith)
+        first _ e (row j i b h r asks f) =
+            let z : suc j ≡ suc k = ap (λ r. r .level) e in
+            let y : i ≡ n = ap (λ r. r .set) e in
+            rw (left-row W H l d (spot (suc k) n (code c + 1)) j i b (o .due) f)
+            (rw (
+              eq-eqb (suc j) (suc k) z,
+              eq-eqb (setNumber H (nameOf W H l j i b)) (setNumber H (nameOf W H l k n c)) (set-of-row j i b asks ∙ y ∙ sym (set-of-row k n c (o .asks))),
+            ) refl)
 
     -- the set that a level has left
     leaves-fit : (P : Rows) (k i : ℕ) (y : ℕ → ℤ) → LeavesAt W H l P k i y → SetFits W H P (suc l) k i
+    unfolding ahead
     leaves-fit P k i y s = record { fit = λ r c b q q′. s .0 .fit r b q c q′; has = s .0 .has }
 
     -- the sets of the levels that a store is past
-    sets-fit : (P : Rows) (q : Place) (k : ℕ) (y : ℕ → ℤ) → q .level ≤ k → Held W H l P d (q .level) false (q .band) y → SetsFit W H (suc l) P d k
-    sets-fit P q k y h held = record { fit = λ j b i cells. leaves-fit P j (setAt H d j) _ (held .below refl j (omega arith, cells) (omega arith)) }
+    sets-fit : (P : Rows) (k i b : ℕ) (y : ℕ → ℤ) → hasRow H k i ≡ true → Held W H l P k i b y → SetsFit W H (suc l) P k i
+    sets-fit P k i b y h held = record { fit = λ j b i′ cells. leaves-fit P j (needed H k i (suc j)) _ (held .below h j (omega arith, cells) b) }
 
-    -- a high row alone that is past has been tested; it makes no row
-    alone-fits : (P : Rows) (k : ℕ) (y : ℕ → ℤ) → Live W H l P k → needsTwo (sideAt k H) (rowAt H d k) ≡ true →
-        HeldAt W H l P d (dive (suc l - suc k) (suc k) (sideAt (suc k) W) (sideAt (suc k) H) (rowAt H d (suc k))) y → SetFits W H P (suc l) k 0
-    alone-fits P k y live two held = record {
-      fit = λ r c b q i. absurd (omega (arith, q, set-is (sideAt k H) r, s .odd, s .long));
-      has = tested (deep .0) (deep .1) 0 (omega arith);
-    }
-      where
-        s : Two (sideAt k H) (rowAt H d k)
-        s = two-is (sideAt k H) (rowAt H d k) two
-
-        one : setAt H d k ≡ 1
-        one = setAt-is H d k ∙ s .set
-
-        q : Place
-        q = dive (suc l - suc k) (suc k) (sideAt (suc k) W) (sideAt (suc k) H) (rowAt H d (suc k))
-
-        deep : (suc k ≤ q .level) × (suc k ≡ q .level → q .alone ≡ false)
-        deep = dive-deep (suc l - suc k) (suc k) (sideAt (suc k) W) (sideAt (suc k) H) (rowAt H d (suc k))
-
-        tested : suc k ≤ q .level → (suc k ≡ q .level → q .alone ≡ false) → Tested (sideAt k W) (sideAt k H) (bandsAt W H P (suc l) k) 1
-        tested a b = elim (ℕ-discrete (suc k) (q .level)) [
-          | yes z ↦ subst (Tested (sideAt k W) (sideAt k H) (bandsAt W H P (suc l) k)) (now-one (q .level) (q .alone) (b z)) (held .here k live z .1)
-          | no z ↦ subst (Tested (sideAt k W) (sideAt k H) (bandsAt W H P (suc l) k)) one (held .before k live (omega (arith, z)) .1)
-        ]
-          where
-            now-one : (i : ℕ) (v : Bool) → v ≡ false → nowAt W H (suc l) d k (aloneAt W H (suc l) d i v (q .band)) ≡ 1
-            now-one i v z = rw (z, not-alone W H (suc l) d i (q .band)) (unfold nowAt in one)
-
-    -- after a set that is done
-    own-fits : (P : Rows) (k : ℕ) (y : ℕ → ℤ) (u : Bool) → Live W H l P k → (u ≡ true → needsTwo (sideAt k H) (rowAt H d k) ≡ true) →
-        HeldAt W H l P d (past W H (suc l) d k u) y → SetFits W H P (suc l) k (nowAt W H (suc l) d k u)
-    unfolding past nowAt
-    own-fits P k y true live two held = alone-fits P k y live (two refl) held
-    own-fits P k y false live two held =
-        leaves-fit P k (setAt H d k) _ (held .below (not-alone W H (suc l) d k 1) k live (omega arith))
-
-    not-alone-set : (k : ℕ) → needsTwo (sideAt k H) (rowAt H d k) ≡ true → _≡_ {A = ℕ} 0 (setAt H d k) → ⊥
-    not-alone-set k two z = omega (arith, z, setAt-is H d k, two-is (sideAt k H) (rowAt H d k) two .set)
-
-    above-past : (P : Rows) (k : ℕ) (y : ℕ → ℤ) (u : Bool) → (u ≡ true → needsTwo (sideAt k H) (rowAt H d k) ≡ true) →
-        nowAt W H (suc l) d k u ≡ setAt H d k → HeldAt W H l P d (past W H (suc l) d k u) y → SetsFit W H (suc l) P d (suc k)
-    unfolding past nowAt
-    above-past P k y true two z held = absurd (not-alone-set k (two refl) z)
-    above-past P k y false two z held =
-        sets-fit P (place k false 1) (suc k) y (omega arith) (subst (λ v. Held W H l P d k v 1 y) (not-alone W H (suc l) d k 1) held)
-
-    above-still : (P : Rows) (k b : ℕ) (y : ℕ → ℤ) (u : Bool) → (u ≡ true → needsTwo (sideAt k H) (rowAt H d k) ≡ true) →
-        nowAt W H (suc l) d k u ≡ setAt H d k → HeldAt W H l P d (place (suc k) u b) y → SetsFit W H (suc l) P d (suc k)
-    unfolding nowAt
-    above-still P k b y true two z held = absurd (not-alone-set k (two refl) z)
-    above-still P k b y false two z held =
-        sets-fit P (place (suc k) false b) (suc k) y (omega arith) (subst (λ v. Held W H l P d (suc k) v b y) (not-alone W H (suc l) d (suc k) b) held)
-
-    fed-fits : (P : Rows) (k : ℕ) (u : Bool) (c : Band) → Due W H l d p k u c → (y : ℕ → ℤ) → HeldAt W H l P d (beyond W H (suc l) d k u (code c)) y →
-        FeedFits W H (suc l) P d (nameOf W H l d k u c) (stepsLeft W H l d (beyond W H (suc l) d k u (code c)))
+    fed-fits : (P : Rows) (k n : ℕ) (c : Band) → Due W H l d p k n c → (y : ℕ → ℤ) → HeldAt W H l P (beyond W H (suc l) k n (code c)) y →
+        (lastOfSet W H (suc l) k n (code c) ≡ true → Worked W H l P k n y) →
+        FeedFits W H (suc l) P (nameOf W H l k n c) (stepsLeft W H l d (beyond W H (suc l) k n (code c)))
     unfolding beyond
-    fed-fits P k u c o y = go (lastOfSet W H (suc l) d k n′ (code c)) refl
+    fed-fits P k n c o y held worked = go (lastOfSet W H (suc l) k n (code c)) refl held
       where
-        n′ : ℕ
-        n′ = nowAt W H (suc l) d k u
-
         back-one : suc k - 1 ≡ k
         back-one = omega arith
 
-        ask : (keptAt (eqb (suc k) (suc l)) c ≡ true) × (setHas (sideAt k W) (sideAt k H) c n′ ≡ true)
-        ask = asked-has (eqb (suc k) (suc l)) (sideAt k W) (sideAt k H) n′ c (o .asks)
-
-        live : Live W H l P k
-        live = (omega (arith, o .below, kept .level-le), has-cells (sideAt k W) (sideAt k H) c n′ (ask .1))
-
         name : RowName
-        name = nameOf W H l d k u c
+        name = nameOf W H l k n c
 
-        number : setNumber H name ≡ n′
-        number = set-of-row k u c (o .asks)
-
-        same : setNumber H name ≡ setAt H d (suc k - 1) → n′ ≡ setAt H d k
-        same z = sym number ∙ z ∙ ap (setAt H d) back-one
+        number : setNumber H name ≡ n
+        number = set-of-row k n c (o .asks)
 
         differ : true ≡ false → ⊥
         differ z = subst T z tt
 
-        go : (v : Bool) → lastOfSet W H (suc l) d k n′ (code c) ≡ v →
-            HeldAt W H l P d (pick v (past W H (suc l) d k u) (place (suc k) u (code c + 1))) y →
-            FeedFits W H (suc l) P d name (stepsLeft W H l d (pick v (past W H (suc l) d k u) (place (suc k) u (code c + 1))))
+        worked-fits : Worked W H l P k n y → hasRow H (suc k) n ≡ true → SetsFit W H (suc l) P (suc k) n
+        worked-fits w h = record { fit = λ j b i cells. leaves-fit P j (needed H (suc k) n (suc j)) _ (w .below h j (omega arith, cells) b) }
+
+        go : (v : Bool) → lastOfSet W H (suc l) k n (code c) ≡ v →
+            HeldAt W H l P (pick v (past W H (suc l) k n) (spot (suc k) n (code c + 1))) y →
+            FeedFits W H (suc l) P name (stepsLeft W H l d (pick v (past W H (suc l) k n) (spot (suc k) n (code c + 1))))
         go true z held = record {
-          own = λ _. rw (back-one, number) (own-fits P k y u live (o .two) held);
-          above = λ q. above-past P k y u (o .two) (same q) held;
+          own = λ _. rw (back-one, number) (leaves-fit P k n _ (worked z .leaves));
+          above = λ q. rw number (worked-fits (worked z) (subst (λ i. hasRow H (suc k) i ≡ true) number q));
         }
         go false z held = record {
-          own = λ q. absurd (differ (sym (set-goes-on k u c o z) ∙ q));
-          above = λ q. above-still P k (code c + 1) y u (o .two) (same q) held;
+          own = λ q. absurd (differ (sym (set-goes-on k n c o z) ∙ q));
+          above = λ q. rw number (sets-fit P (suc k) n (code c + 1) y (subst (λ i. hasRow H (suc k) i ≡ true) number q) held);
         }
 
     fits-no : (v : Tried) → failed ≡ v → 14 ≡ ask (fits v) 14 0
@@ -494,9 +431,9 @@ module _ (W H : Side) (l n : ℕ) (lim : Limits W H l n) where
     fits-no v z = ap (λ (w : Tried). ask (fits w) 14 0) z
 
     feed-works-here : (a : Area) (y : RowName) (t′ : List Step) → t ≡ step.feed y ∷ t′ → event (feed a) (world W H l n lim d p e x) ≡ fed a (gives tt) →
-        (P : Rows) → All (HasFedRow W P) (fs ++ (record { row = y; run = a } ∷ [])) → FeedFits W H (suc l) P d y t′
+        (P : Rows) → All (HasFedRow W P) (fs ++ (record { row = y; run = a } ∷ [])) → FeedFits W H (suc l) P y t′
     unfolding event
-    feed-works-here a y t′ first passes P has = go (feed-view W H l n lim d p (kept .drawn-le) (kept .level-le) (kept .band-le) e t x a viewed)
+    feed-works-here a y t′ first passes P has = go (feed-view W H l n lim d p (kept .drawn-le) (kept .level-le) (kept .band-le) (kept .back-le) e t x a viewed)
       where
         s′ : Reader
         s′ = here W H l d p e
@@ -504,38 +441,39 @@ module _ (W H : Side) (l n : ℕ) (lim : Limits W H l n) where
         differ : (q : ℕ) → _≡_ {A = Event} (fed a (refused q)) (fed a (gives tt)) → ⊥
         differ q z = let b : _≡_ {A = ℕ} 0 1 = cc in omega arith
 
-        go : FeedView W H l n lim d p (kept .drawn-le) (kept .level-le) (kept .band-le) e t x a → FeedFits W H (suc l) P d y t′
+        go : FeedView W H l n lim d p (kept .drawn-le) (kept .level-le) (kept .band-le) (kept .back-le) e t x a → FeedFits W H (suc l) P y t′
         go (feed-away q f z z′ at) = absurd (differ q (sym (ap (seenFeed a) at ∙ seen-away a q z z′) ∙ passes))
         go (feed-onward k u c live o head long in-range f at) = tried (feeds s′ (a .numbers) x) refl
           where
-            to : Place
-            to = beyond W H (suc l) d k u (code c)
+            to : Spot
+            to = beyond W H (suc l) k u (code c)
 
-            named-same : _≡_ {A = List Step} (step.feed (nameOf W H l d k u c) ∷ stepsLeft W H l d to) (step.feed y ∷ t′)
+            named-same : _≡_ {A = List Step} (step.feed (nameOf W H l k u c) ∷ stepsLeft W H l d to) (step.feed y ∷ t′)
             named-same = sym head ∙ first
 
-            name-is : nameOf W H l d k u c ≡ y
+            name-is : nameOf W H l k u c ≡ y
             name-is = cc
 
             rest-is : stepsLeft W H l d to ≡ t′
             rest-is = cc
 
-            held : Outcome (Fits W H l P) (HeldAt W H l P d to) (feeds s′ (a .numbers) x)
+            held : Outcome (Fits W H l P) (FedHeld W H l P k u (code c)) (feeds s′ (a .numbers) x)
             held =
-                feeds-outcome W H l d p (o .due) (kept .level-le) P x (kept .rows P (all-left fs _ has) .holds live (o .due)) e k u c o (a .numbers)
+                feeds-worked W H l d p (kept .level-le) (kept .ready (o .due)) P x (kept .rows P (all-left fs _ has) .holds live (o .due))
+                e k u c o (a .numbers)
                 (subst (λ v. HasFedRow W P (record { row = v; run = a })) (sym name-is) (all-last fs _ has))
 
-            tried : (v : Tried) → feeds s′ (a .numbers) x ≡ v → FeedFits W H (suc l) P d y t′
+            tried : (v : Tried) → feeds s′ (a .numbers) x ≡ v → FeedFits W H (suc l) P y t′
             tried failed z = absurd (differ 14 (sym (ap (seenFeed a) (at ∙ sym (fits-no _ (sym z))) ∙ seen-stops a) ∙ passes))
             tried (passed m) z =
-                subst (λ v. FeedFits W H (suc l) P d v t′) name-is
-                (subst (FeedFits W H (suc l) P d (nameOf W H l d k u c)) rest-is
-                (fed-fits P k u c o m (outcome-passed m (subst (Outcome (Fits W H l P) _) z held))))
+                subst (λ v. FeedFits W H (suc l) P v t′) name-is
+                (subst (FeedFits W H (suc l) P (nameOf W H l k u c)) rest-is
+                (let q : FedHeld W H l P k u (code c) m = outcome-passed m (subst (Outcome (Fits W H l P) _) z held) in fed-fits P k u c o m (q .0) (q .1)))
 
     draw-works-here : (a z : Area) → event (draw a) (world W H l n lim d p e x) ≡ drew a (gives (heights (W .length))) z →
-        (P : Rows) → All (HasFedRow W P) fs → SetsFit W H (suc l) P d 0
+        (P : Rows) → All (HasFedRow W P) fs → SetsFit W H (suc l) P 0 d
     unfolding event
-    draw-works-here a after passes P has = go (draw-view W H l n lim d p (kept .drawn-le) (kept .level-le) (kept .band-le) e t x a viewed)
+    draw-works-here a after passes P has = go (draw-view W H l n lim d p (kept .drawn-le) (kept .level-le) (kept .band-le) (kept .back-le) e t x a viewed)
       where
         s′ : Reader
         s′ = here W H l d p e
@@ -547,18 +485,18 @@ module _ (W H : Side) (l n : ℕ) (lim : Limits W H l n) where
             drawQuestion s′ n x (a .size) ≡ q → ⊥
         no-row v not-this q says at = not-this (sym says ∙ given-is q at)
 
-        go : DrawView W H l n lim d p (kept .drawn-le) (kept .level-le) (kept .band-le) e t x a → SetsFit W H (suc l) P d 0
+        go : DrawView W H l n lim d p (kept .drawn-le) (kept .level-le) (kept .band-le) (kept .back-le) e t x a → SetsFit W H (suc l) P 0 d
         go (draw-away q z f says at) = absurd (no-row (refused q) (λ r. let b : _≡_ {A = ℕ} 0 1 = cc in omega arith) q (unfold drawReply in rw (z, f) refl) at)
         go (draw-idle live z says at) = absurd (no-row (gives nothing) (λ r. let b : _≡_ {A = ℕ} 0 1 = cc in omega arith) 0 (unfold drawReply in rw z refl) at)
         go (draw-onward live due is-height head to-draw says at) = tried (settles s′ x) refl
           where
-            held : Outcome (Fits W H l P) (Held W H l P d 0 false 4) (settles s′ x)
-            held = settles-outcome W H l d p due (kept .level-le) P x (kept .rows P has .holds live due) e (place 0 false 4) is-height
+            held : Outcome (Fits W H l P) (Held W H l P 0 d 4) (settles s′ x)
+            held = settles-outcome W H l d p (kept .level-le) (kept .ready due) P x (kept .rows P has .holds live due) e (spot 0 0 4) is-height
 
-            tried : (v : Tried) → settles s′ x ≡ v → SetsFit W H (suc l) P d 0
+            tried : (v : Tried) → settles s′ x ≡ v → SetsFit W H (suc l) P 0 d
             tried failed z = absurd (no-row (refused 14) (λ r. let b : _≡_ {A = ℕ} 0 1 = cc in omega arith) 14 (unfold drawReply in
                 refl) (at ∙ sym (fits-no _ (sym z))))
-            tried (passed m) z = sets-fit P (place 0 false 4) 0 m (omega arith) (outcome-passed m (subst (Outcome (Fits W H l P) _) z held))
+            tried (passed m) z = sets-fit P 0 d 4 m (unfold hasRow in refl) (outcome-passed m (subst (Outcome (Fits W H l P) _) z held))
 
     -- ---- Done
     all-drawn : View W H l d p [] → H .length ≤ d
@@ -571,12 +509,13 @@ module _ (W H : Side) (l n : ℕ) (lim : Limits W H l n) where
 
     -- the grid that has the rows fed
     module _ (live : e ≡ false) (over : t ≡ []) where
-      all-names : namesOf fs ≡ bandRowsOf (steps 1 W H (suc l))
+      all-names : namesOf fs ≡ bandRowsOf (steps ahead W H (suc l))
       unfolding bandRowsOf
       all-names = sym (append-nil (namesOf fs)) ∙ ap (λ v. namesOf fs ++ bandRowsOf v) (sym over) ∙ kept .names live
 
       once : (f : FedRow) → times (f .row) (namesOf fs) ≤ 1
-      once f = rw (all-names, steps-once 1 (omega arith) W H (suc l) (omega arith) (f .row)) (go (bandRowExists W H (suc l) (f .row .level) (f .row .band) (f .row .row)))
+      once f = rw (all-names, steps-once ahead looks W H (suc l) (omega arith) (f .row))
+          (go (bandRowExists W H (suc l) (f .row .level) (f .row .band) (f .row .row)))
         where
           go : (u : Bool) → pick u 1 0 ≤ 1
           go true = omega arith
@@ -600,10 +539,11 @@ module _ (W H : Side) (l n : ℕ) (lim : Limits W H l n) where
       words-at k c r i h b q = let z : suc k - 1 ≡ k = omega arith in lookup-words W H l few fs (kept .good) (rowName (suc k) c r) i (rw z q)
 
       -- the last row drawn has had every set of every level worked out
-      lines-at : (k : ℕ) → k ≤ l → hasCells (sideAt k W) (sideAt k H) ≡ true → levelHas fiveThreeFilter (sideAt k W) (sideAt k H) (bandsAt W H (lookup fs) (suc l) k) ≡ true
-      lines-at k h cells = sets-have 1 (sideAt k W) (sideAt k H) _ (λ m q.
+      lines-at : (k : ℕ) → k ≤ l → hasCells (sideAt k W) (sideAt k H) ≡ true
+          → levelHas fiveThreeFilter (sideAt k W) (sideAt k H) (bandsAt W H (lookup fs) (suc l) k) ≡ true
+      lines-at k h cells = sets-have ahead (sideAt k W) (sideAt k H) _ (λ m q.
           fed-agrees .has (H .length - 1) (omega (arith, d-is, tall)) k (h, cells) m
-          (omega (arith, q, last-set H k (cells-are (sideAt k W) (sideAt k H) cells .1))))
+          (omega (arith, q, last-needed H k (cells-are (sideAt k W) (sideAt k H) cells .1))))
 
       abbrev grid : Grid
       grid = back W H l (lookup fs) words-at lines-at
@@ -660,20 +600,18 @@ module _ (W H : Side) (l n : ℕ) (lim : Limits W H l n) where
   -- ---- the claim, for a world that is reached
   claim : (w : World) (es : List Event) → Then es w → (countsFit (w .reader) ≡ true) × Demand3 W H (suc l) es (λ c. event c w)
   claim _ es (reached d p e x t fs ds kept) = (
-    counts W H l n lim d p (kept .drawn-le) (kept .level-le) (kept .band-le) e,
+    counts W H l n lim d p (kept .drawn-le) (kept .level-le) (kept .band-le) (kept .back-le) e,
     record {
-      rows-once = steps-once 1 (omega arith) W H (suc l) (omega arith);
-      heights-once = steps-heights 1 W H (suc l);
+      rows-once = steps-once ahead looks W H (suc l) (omega arith);
+      heights-once = steps-heights ahead W H (suc l);
       wants = want-is d p e x t fs ds kept;
       feeds-turned = feed-turned d p e x t fs ds kept;
       feeds-on = feed-on d p e x t fs ds kept;
       draws = draw-is d p e x t fs ds kept;
       first = λ g has. first-rows d p e x t fs ds kept g (has .map) (has .rows);
-      feed-works = λ a y t′ goes P has.
-          subst (λ i. FeedFits W H (suc l) P i y t′) (sym (kept .drawn))
-          (feed-works-here d p e x t fs ds kept a y t′ (goes .next) (goes .passes) P has);
+      feed-works = λ a y t′ goes P has. feed-works-here d p e x t fs ds kept a y t′ (goes .next) (goes .passes) P has;
       draw-works = λ a z passes P has.
-          subst (λ i. SetsFit W H (suc l) P i 0) (sym (kept .drawn)) (draw-works-here d p e x t fs ds kept a z passes P has);
+          subst (λ i. SetsFit W H (suc l) P 0 i) (sym (kept .drawn)) (draw-works-here d p e x t fs ds kept a z passes P has);
       impossible = λ z g has. none-has d p e x t fs ds kept z g (has .map) (has .rows);
       finished = (
         λ z. let f = finished-then d p e x t fs ds kept z in record { map = f .0; has = record { map = f .1; rows = f .2 }; all = f .3; first = f .4 },

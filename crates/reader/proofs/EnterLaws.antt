@@ -1,37 +1,36 @@
--- The place where a row begins, found level by level. Assumes nothing.
-use mathlib.Core.Bool.{true, false}
+-- The place where a number of a level begins, found level by level. Assumes nothing.
+use mathlib.Core.Bool.{Bool, true, false}
 use mathlib.Core.Path.{_≡_, refl, sym, ap, _∙_}
-use Prim.Native.Nat.{ℕ, suc, _+_, _-_, _≤_, _<_}
+use Prim.Native.Nat.{ℕ, zero, suc, _+_, _-_, _%_, _≤_, _<_, _^_}
 use native.Mathlib.Omega.{arith}
+use lib.Dec.{leb}
+use borrow.Author.Tests.{lt-leb, le-leb}
 use Rattle.numbers.specs.Signal.{pick, both}
 use Rattle.numbers.proofs.Sweep.{both as halves}
 use Rattle.lifting.specs.Line.{lo}
 use Rattle.lifting.specs.Grid.{Side, side, count}
 use Rattle.wavelet.specs.Levels.{next}
+use Rattle.wavelet.specs.Order.{firstSet}
+use Rattle.wavelet.specs.Steps.{setOf, setsBefore}
+use Rattle.wavelet.proofs.StepLaws.{set-there}
 use Rattle.level.specs.Sets.{opens}
-use Rattle.reader.specs.Sets.{rowBelow, needsTwo}
+use Rattle.reader.specs.Sets.{ahead}
 use Rattle.reader.specs.Store.{hasCells}
-use Rattle.reader.specs.Machine.{Place, place, dive}
-use Rattle.reader.specs.declared.walk.Spot.{Spot}
-use Rattle.reader.specs.Inside.{Is}
-use Rattle.reader.proofs.OpenedSets.{set-is, low-is, below-is}
-use Rattle.reader.proofs.CellLaws.{cells-are}
+use Rattle.reader.specs.Machine.{Spot, spot, dive}
+use Rattle.reader.proofs.OpenedSets.{low-is, last-is, first-low, opens-yes}
 
--- at level k: the sides and the row that are looked at, and where the search, which is for q, goes on
-pub record Down (L w₀ h₀ k wx w hy h r : ℕ) (q : Place) : Type 0 where
+-- at level k: the sides, the number and the row that are looked at, and where the search, which is for q, goes on
+pub record Down (L w₀ h₀ k wx w hy h n r : ℕ) (q : Spot) : Type 0 where
   pub deep : k ≤ L
   pub narrow : w ≤ w₀
   pub most : h ≤ h₀
-  pub near : r ≤ h
-  pub goes : dive (L - k) k (side wx w) (side hy h) r ≡ q
+  pub near : r ≤ 2 ^ 34
+  pub goes : dive (L - k) k (side wx w) (side hy h) n r ≡ q
 
-pub down-start : (L k x w y h r : ℕ) → k ≤ L → r ≤ h → Down L w h k x w y h r (dive (L - k) k (side x w) (side y h) r)
-down-start L k x w y h r d n = record { deep = d; narrow = omega arith; most = omega arith; near = n; goes = refl }
+pub down-start : (L k x w y h n r : ℕ) → k ≤ L → r ≤ 2 ^ 34 → Down L w h k x w y h n r (dive (L - k) k (side x w) (side y h) n r)
+down-start L k x w y h n r d near = record { deep = d; narrow = omega arith; most = omega arith; near = near; goes = refl }
 
-below-in : (S : Side) (r : ℕ) → 0 < S .length → rowBelow S r ≤ count lo S
-below-in S r some = omega (arith, below-is S r, set-is S r, low-is S)
-
-module _ (L w₀ h₀ k wx w hy h r : ℕ) (q : Place) (s : Down L w₀ h₀ k wx w hy h r q) (more : k < L) where
+module _ (L w₀ h₀ k wx w hy h n r : ℕ) (q : Spot) (s : Down L w₀ h₀ k wx w hy h n r q) (more : k < L) where
   abbrev W : Side
   W = side wx w
 
@@ -41,41 +40,69 @@ module _ (L w₀ h₀ k wx w hy h r : ℕ) (q : Place) (s : Down L w₀ h₀ k w
   left : L - k ≡ suc (L - suc k)
   left = omega arith
 
-  here : q ≡ pick (both (hasCells W H) (opens 1 H r)) (pick (needsTwo H r) (place (suc k) true 1) (dive (L - suc k) (suc k) (next W) (next H) (rowBelow H r)))
-      (place k false 1)
-  here = sym (s .goes) ∙ ap (λ (m : ℕ). dive m k W H r) left ∙ unfold dive in refl
+  here : q ≡ pick (both (hasCells W H) (opens ahead H r))
+      (pick (leb (firstSet H lo) (setsBefore ahead H r))
+      (dive (L - suc k) (suc k) (next W) (next H) (setsBefore ahead H r) (setsBefore ahead H r - firstSet H lo))
+      (spot (suc k) (setsBefore ahead H r) 1))
+      (spot k n 1)
+  here = sym (s .goes) ∙ ap (λ (m : ℕ). dive m k W H n r) left ∙ unfold dive in refl
 
-  pub down-out : both (hasCells W H) (opens 1 H r) ≡ false → place k false 1 ≡ q
+  pub down-out : both (hasCells W H) (opens ahead H r) ≡ false → spot k n 1 ≡ q
   down-out e = sym (here ∙ rw e refl)
 
-  module _ (into : both (hasCells W H) (opens 1 H r) ≡ true) where
-    pub down-two : needsTwo H r ≡ true → place (k + 1) true 1 ≡ q
-    down-two e = let one : k + 1 ≡ suc k = omega arith in sym (here ∙ rw (into, e, one) refl)
-
-    pub down-on : needsTwo H r ≡ false → (wx′ w′ hy′ h′ r′ : ℕ) → r′ ≡ rowBelow H r → w′ ≡ count lo W → wx′ ≡ next W .start → h′ ≡ count lo H →
-        hy′ ≡ next H .start → Down L w₀ h₀ (k + 1) wx′ w′ hy′ h′ r′ q
-    unfolding next
-    down-on e wx′ w′ hy′ h′ r′ er ew ex eh ey =
+  module _ (into : both (hasCells W H) (opens ahead H r) ≡ true) (m : ℕ) (set : m ≡ setsBefore ahead H r) where
+    pub down-alone : m < hy % 2 → spot (k + 1) m 1 ≡ q
+    down-alone h =
         let one : k + 1 ≡ suc k = omega arith in
-        let cells = cells-are W H (halves (hasCells W H) (opens 1 H r) into .0) in
-        let below = below-in H r (cells .1) in
+        sym (here ∙ rw (into, one, set, lt-leb (firstSet H lo) (setsBefore ahead H r) (omega (arith, set, first-low H))) refl)
+
+    pub down-on : hy % 2 ≤ m → h₀ < 2 ^ 32 → (wx′ w′ hy′ h′ r′ : ℕ) → r′ ≡ m - hy % 2 → w′ ≡ count lo W → wx′ ≡ next W .start → h′ ≡ count lo H →
+        hy′ ≡ next H .start → Down L w₀ h₀ (k + 1) wx′ w′ hy′ h′ m r′ q
+    unfolding next
+    down-on low small wx′ w′ hy′ h′ r′ er ew ex eh ey =
+        let one : k + 1 ≡ suc k = omega arith in
+        let o = opens-yes H r (halves (hasCells W H) (opens ahead H r) into .1) in
+        let row : r′ ≡ setsBefore ahead H r - firstSet H lo = omega (arith, er, set, first-low H) in
         rw one
         record {
           deep = omega arith;
           narrow = omega (arith, s .narrow, ew, low-is W);
           most = omega (arith, s .most, eh, low-is H);
-          near = omega (arith, er, eh);
-          goes = rw (er, ew, ex, eh, ey) (sym (here ∙ rw (into, e) refl));
+          near = omega (arith, er, set, o, s .most, set-there ahead H r, last-is H);
+          goes = rw (row, set, ew, ex, eh, ey)
+              (sym (here ∙ rw (into, le-leb (firstSet H lo) (setsBefore ahead H r) (omega (arith, set, first-low H))) refl));
         }
 
-pub down-end : (L w₀ h₀ k wx w hy h r : ℕ) (q : Place) → Down L w₀ h₀ k wx w hy h r q → L ≤ k → place k false 0 ≡ q
-down-end L w₀ h₀ k wx w hy h r q s end =
+pub down-end : (L w₀ h₀ k wx w hy h n r : ℕ) (q : Spot) → Down L w₀ h₀ k wx w hy h n r q → L ≤ k → spot k n 0 ≡ q
+down-end L w₀ h₀ k wx w hy h n r q s end =
     let deep = s .deep in
     let left : L - k ≡ 0 = omega arith in
-    sym (ap (λ (m : ℕ). dive m k (side wx w) (side hy h) r) left ∙ unfold dive in refl) ∙ s .goes
+    sym (ap (λ (m : ℕ). dive m k (side wx w) (side hy h) n r) left ∙ unfold dive in refl) ∙ s .goes
 
--- the search from the next sides on, as the code has them
-pub next-dive : (W H : Side) (m k wx w hy h : ℕ) (p : Spot) → wx ≡ next W .start → w ≡ count lo W → hy ≡ next H .start → h ≡ count lo H →
-    Is (dive m k (side wx w) (side hy h) 0) p → Is (dive m k (next W) (next H) 0) p
+-- it is no deeper than the last level
+pub dive-level : (m k : ℕ) (W H : Side) (n r : ℕ) → dive m k W H n r .level ≤ k + m
+unfolding dive
+dive-level zero k W H n r = omega arith
+dive-level (suc m) k W H n r =
+    go (both (hasCells W H) (opens ahead H r)) (leb (firstSet H lo) (setsBefore ahead H r))
+    (dive-level m (suc k) (next W) (next H) (setsBefore ahead H r) (setsBefore ahead H r - firstSet H lo))
+  where
+    to : Spot
+    to = dive m (suc k) (next W) (next H) (setsBefore ahead H r) (setsBefore ahead H r - firstSet H lo)
+
+    go : (t u : Bool) → to .level ≤ suc k + m → pick t (pick u to (spot (suc k) (setsBefore ahead H r) 1)) (spot k n 1) .level ≤ k + suc m
+    go true true ih = omega (arith, ih)
+    go true false ih = omega arith
+    go false u ih = omega arith
+
+-- a set of a level as the code has it, and the search from the next sides on
+pub begin-alone : (S : Side) (n : ℕ) (to sp : Spot) → n < S .start % 2 → sp ≡ pick (leb (firstSet S lo) n) to sp
+begin-alone S n to sp h = sym (ap (λ (t : Bool). pick t to sp) (lt-leb (firstSet S lo) n (omega (arith, first-low S))))
+
+pub begin-on : (X S : Side) (m k n wx w hy h r : ℕ) (sp : Spot) → S .start % 2 ≤ n → wx ≡ next X .start → w ≡ count lo X → hy ≡ next S .start → h ≡ count lo S →
+    r ≡ n - S .start % 2 →
+    dive m k (side wx w) (side hy h) n r ≡ pick (leb (firstSet S lo) n) (dive m k (next X) (next S) n (n - firstSet S lo)) sp
 unfolding next
-next-dive W H m k wx w hy h p ex ew ey eh is = rw (ex, ew, ey, eh) at is
+begin-on X S m k n wx w hy h r sp low ex ew ey eh er =
+    let z : r ≡ n - firstSet S lo = omega (arith, er, first-low S) in
+    rw (ex, ew, ey, eh, z, le-leb (firstSet S lo) n (omega (arith, first-low S))) refl

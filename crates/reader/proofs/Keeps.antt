@@ -1,7 +1,7 @@
 -- Each call keeps what the store holds: `set-up-holds`, `feed-keeps`, `draw-keeps`, for every state, store, run and area. Assumes nothing.
 use mathlib.Core.Bool.{Bool, true, false}
 use mathlib.Core.Path.{_≡_, refl, sym, ap, subst, _∙_}
-use Prim.Native.Nat.{ℕ, zero, suc, _-_, _≤_, _<_}
+use Prim.Native.Nat.{ℕ, zero, suc, _-_, _*_, _≤_, _<_}
 use native.Mathlib.Omega.{arith}
 use lib.IntN.{ℤ}
 use lib.Dec.{T, leb, eqb}
@@ -19,17 +19,19 @@ use Rattle.reader.specs.declared.Reader.{Reader}
 use Rattle.reader.specs.Answers.{Reply, gives, refused, impossible, Handed, aRow, nothing}
 use Rattle.reader.specs.Rebuilt.{Rows, partAt}
 use Rattle.level.specs.Tried.{Tried, failed, passed, fits, memory}
-use Rattle.reader.specs.Machine.{Place, place, placeFed, beyond, enter}
+use Rattle.reader.specs.Sets.{ahead, needed, waitsAt}
+use Rattle.reader.specs.Machine.{Spot, spot, Place, place, spotOf, placeOf, spotFed, beyond, dive, enter}
 use Rattle.reader.specs.State.{columns, next, nextRow, nextLength, settles, feeds, drawDue, fedReader, drawnReader, endedReader}
 use Rattle.reader.specs.Questions.{countsFit, storeFits, setUpQuestion, feedQuestion, drawQuestion}
 use Rattle.lifting.specs.Halves.{fronted}
 use Rattle.reader.specs.Calls.{fresh, setUpReply, setUpStore, feedReply, feedStore, storeAfter, drawReply, drawStore, drawArea, heightRow}
-use Rattle.reader.specs.Holds.{Holds, AllFit, IsWanted, SetUpHolds, FeedKeeps, DrawKeeps}
+use Rattle.reader.specs.Holds.{Ready, Holds, AllFit, IsWanted, SetUpHolds, FeedKeeps, DrawKeeps}
 use Rattle.reader.proofs.Looks.{named-code}
 use Rattle.reader.proofs.StepsLeft.{stepsLeft}
 use Rattle.level.proofs.SetMade.{Outcome}
 use Rattle.reader.proofs.Holds.{Fits, Held, HeldAt, first-holds, enter-holds}
-use Rattle.reader.proofs.CallViews.{Limits, here, nextOf, nameOf, Due, view, FeedView, feed-away, feed-onward, feed-view}
+use Rattle.reader.proofs.ReadyLaws.{ready-back, ready-beyond, ready-enter}
+use Rattle.reader.proofs.CallViews.{Limits, here, at, nextOf, nameOf, Due, view, FeedView, feed-away, feed-onward, feed-view}
 use Rattle.reader.proofs.CallViews.{DrawView, draw-away, draw-idle, draw-onward}
 use Rattle.reader.proofs.CallViews.{draw-view}
 use Rattle.reader.proofs.Outcomes.{outcome-failed, outcome-passed, settles-outcome, feeds-outcome, row-out}
@@ -44,6 +46,7 @@ pub record Inside (W H : Side) (l d : ℕ) (p : Place) : Type 0 where
   drawn-le : d ≤ H .length
   level-le : p .level ≤ suc l
   band-le : p .band ≤ 4
+  back-le : p .back ≤ 2 * ahead - 1
 
 inside : (W H : Side) (l d : ℕ) (p : Place) (e : Bool) → countsFit (here W H l d p e) ≡ true → Inside W H l d p
 unfolding countsFit
@@ -55,6 +58,7 @@ inside W H l d p e h =
     let n = both (leb (H .start) maxOrigin) _ (m .1) in
     let g = both (leb d (H .length)) _ (n .1) in
     let i = both (leb (p .level) (suc l)) _ (g .1) in
+    let j = both (leb (p .band) 4) _ (i .1) in
     record {
       wide = a .0;
       high = c .0;
@@ -63,7 +67,8 @@ inside W H l d p e h =
       down = leb-true _ _ (n .0);
       drawn-le = leb-true _ _ (g .0);
       level-le = leb-true _ _ (i .0);
-      band-le = leb-true _ _ (i .1);
+      band-le = leb-true _ _ (j .0);
+      back-le = leb-true _ _ (j .1);
     }
 
 -- a call that questions 1 and 5 do not turn away
@@ -128,21 +133,29 @@ module _ (W H : Side) (l d : ℕ) (p : Place) (e : Bool) where
   s = here W H l d p e
 
   -- ---- the definition, and the laws' own form of it
-  held : (P : Rows) (x : ℕ → ℤ) → d < H .length → Holds P s x → HeldAt W H l P d p x
+  held : (P : Rows) (x : ℕ → ℤ) → d < H .length → Holds P s x → HeldAt W H l P (at W H l d p) x
   held P x due h = record {
     below = λ u k i q. h .below due u k (record { inside = omega (arith, i .0); cells = i .1 }) q;
     before = λ k i q. h .before due k (record { inside = omega (arith, i .0); cells = i .1 }) q;
-    here = λ k i q. h .here due k (record { inside = omega (arith, i .0); cells = i .1 }) q;
     got = λ k i q c kept less. h .got due k (record { inside = omega (arith, i .0); cells = i .1 }) q c kept less;
   }
 
-holds : (W H : Side) (l d : ℕ) (p : Place) (e : Bool) (P : Rows) (x : ℕ → ℤ) → (d < H .length → HeldAt W H l P d p x) → Holds P (here W H l d p e) x
-holds W H l d p e P x h = record {
+holds : (W H : Side) (l d : ℕ) (p : Place) (e : Bool) (P : Rows) (x : ℕ → ℤ) → (d < H .length → Ready W H (suc l) d (at W H l d p)) →
+    (d < H .length → HeldAt W H l P (at W H l d p) x) → Holds P (here W H l d p e) x
+holds W H l d p e P x ready h = record {
+  ready = ready;
   below = λ due u k i q. h due .below u k (omega (arith, i .inside), i .cells) q;
   before = λ due k i q. h due .before k (omega (arith, i .inside), i .cells) q;
-  here = λ due k i q. h due .here k (omega (arith, i .inside), i .cells) q;
   got = λ due k i q c kept less. h due .got k (omega (arith, i .inside), i .cells) q c kept less;
 }
+
+-- at a place kept as a state keeps it
+holds-at : (W H : Side) (l d : ℕ) (q : Spot) (P : Rows) (x : ℕ → ℤ) → (d < H .length → Ready W H (suc l) d q) → (d < H .length → HeldAt W H l P q x) →
+    Holds P (here W H l d (placeOf H d q) false) x
+holds-at W H l d q P x ready h =
+    holds W H l d (placeOf H d q) false P x
+    (λ due. subst (Ready W H (suc l) d) (sym (ready-back W H (suc l) d q due (ready due) .0)) (ready due))
+    (λ due. subst (λ r. HeldAt W H l P r x) (sym (ready-back W H (suc l) d q due (ready due) .0)) (h due))
 
 -- all levels fit
 all-fits : (W H : Side) (l d : ℕ) (p : Place) (e : Bool) (P : Rows) → AllFit P (here W H l d p e) → Fits W H l P
@@ -163,28 +176,28 @@ module _ (W H : Side) (l d : ℕ) (p : Place) (e : Bool) (n : ℕ) (x : ℕ → 
     -- what a feed that passed, or gave 14, was asked
     pub record Onward : Type 0 where
       k : ℕ
-      u : Bool
+      u : ℕ
       c : Band
       level-le : p .level ≤ suc l
       row : Due W H l d p k u c
       asks : q ≡ ask (fits (feeds (s W H l d p e) v x)) 14 0
 
-    onward : (eqb q 0 ≡ false → eqb q 14 ≡ false → ⊥) → (q ≡ 1 → ⊥) → (q ≡ 5 → ⊥) → Onward
+    onward : (d < H .length → Ready W H (suc l) d (at W H l d p)) → (eqb q 0 ≡ false → eqb q 14 ≡ false → ⊥) → (q ≡ 1 → ⊥) → (q ≡ 5 → ⊥) → Onward
     unfolding feedQuestion
-    onward never f g =
+    onward ready never f g =
         let t = two-yes (countsFit (s W H l d p e)) (storeFits W (suc l) n) _ q refl f g in
         let i = inside W H l d p e (t .0) in
-        go i (feed-view W H l n (limits-of i (t .1)) d p (i .drawn-le) (i .level-le) (i .band-le) e (stepsLeft W H l d p) x a
-        (view W H l d p (i .level-le)))
+        go i (feed-view W H l n (limits-of i (t .1)) d p (i .drawn-le) (i .level-le) (i .band-le) (i .back-le) e (stepsLeft W H l d (at W H l d p)) x a
+        (view W H l d p (i .level-le) ready))
       where
         go : (i : Inside W H l d p) {lim : Limits W H l n} →
-            FeedView W H l n lim d p (i .drawn-le) (i .level-le) (i .band-le) e (stepsLeft W H l d p) x a → Onward
+            FeedView W H l n lim d p (i .drawn-le) (i .level-le) (i .band-le) (i .back-le) e (stepsLeft W H l d (at W H l d p)) x a → Onward
         go i (feed-away r _ z y at) = absurd (never (ap (λ j. eqb j 0) at ∙ z) (ap (λ j. eqb j 14) at ∙ y))
         go i (feed-onward k u c live o head long in-range _ at) = record { k = k; u = u; c = c; level-le = i .level-le; row = o; asks = at }
 
     -- the run is the row that is named
     wanted-row : (P : Rows) (o : Onward) → IsWanted P (s W H l d p e) v → (i : ℕ) → i < bandColumns W (suc (o .k)) (o .c) →
-        v i ≡ P (nameOf W H l d (o .k) (o .u) (o .c)) i
+        v i ≡ P (nameOf W H l (o .k) (o .u) (o .c)) i
     unfolding next nextRow nextLength
     wanted-row P o h = let z : suc (o .k) - 1 ≡ o .k = omega arith in rw (o .row .is, named-code (o .c), z) at h
 
@@ -193,11 +206,11 @@ module _ (W H : Side) (l d : ℕ) (p : Place) (e : Bool) (n : ℕ) (x : ℕ → 
     unfolding feedStore storeAfter memory
     store-is y z = ap (memory x) z
 
-    abbrev to : Onward → Place
-    to o = beyond W H (suc l) d (o .k) (o .u) (code (o .c))
+    abbrev to : Onward → Spot
+    to o = beyond W H (suc l) (o .k) (o .u) (code (o .c))
 
-    reader-is : (o : Onward) → fedReader (s W H l d p e) ≡ here W H l d (to o) false
-    unfolding fedReader next placeFed
+    reader-is : (o : Onward) → fedReader (s W H l d p e) ≡ here W H l d (placeOf H d (to o)) false
+    unfolding fedReader next spotFed
     reader-is o = rw (o .row .is) refl
 
     -- a feed that gave neither 0 nor what its test says
@@ -208,9 +221,9 @@ module _ (W H : Side) (l d : ℕ) (p : Place) (e : Bool) (n : ℕ) (x : ℕ → 
     feed-at = record { passed = on; ended = stopped }
       where
         outcome-of : (o : Onward) (P : Rows) → IsWanted P (s W H l d p e) v → Holds P (s W H l d p e) x → (u : Tried) → feeds (s W H l d p e) v x ≡ u →
-            Outcome (Fits W H l P) (HeldAt W H l P d (to o)) u
+            Outcome (Fits W H l P) (HeldAt W H l P (to o)) u
         outcome-of o P row h u z = subst (Outcome (Fits W H l P) _) z
-            (feeds-outcome W H l d p (o .row .due) (o .level-le) P x (held W H l d p e P x (o .row .due) h) e (o .k) (o .u) (o .c) (o .row) v
+            (feeds-outcome W H l d p (o .level-le) (h .ready (o .row .due)) P x (held W H l d p e P x (o .row .due) h) e (o .k) (o .u) (o .c) (o .row) v
             (wanted-row P o row))
 
         tried : (o : Onward) → q ≡ 0 → (t : Reader) → t ≡ fedReader (s W H l d p e) → (P : Rows) → IsWanted P (s W H l d p e) v →
@@ -219,13 +232,14 @@ module _ (W H : Side) (l d : ℕ) (p : Place) (e : Bool) (n : ℕ) (x : ℕ → 
         tried o z t same P row h (passed y) g =
             subst (λ r. Holds P r (feedStore (s W H l d p e) q v x)) (sym (same ∙ reader-is o))
             (subst (Holds P _) (sym (ap (λ r. feedStore (s W H l d p e) r v x) z ∙ store-is y g))
-            (holds W H l d (to o) false P y (λ _. outcome-passed y (outcome-of o P row h (passed y) g))))
+            (holds-at W H l d (to o) P y (λ due. ready-beyond W H l d (o .k) (o .u) (code (o .c)) (omega (arith, o .row .below, o .level-le)) (o .row .ready))
+            (λ _. outcome-passed y (outcome-of o P row h (passed y) g))))
 
         on : (t : Reader) → feedReply (s W H l d p e) q ≡ gives t → (P : Rows) → IsWanted P (s W H l d p e) v →
             Holds P (s W H l d p e) x → Holds P t (feedStore (s W H l d p e) q v x)
         on t r P row h =
             let k = feed-passed (s W H l d p e) q t r in
-            let o = onward (λ z _. subst T (sym (ap (λ j. eqb j 0) (k .0)) ∙ z) tt) (λ z. omega (arith, k .0)) (λ z. omega (arith, k .0)) in
+            let o = onward (h .ready) (λ z _. subst T (sym (ap (λ j. eqb j 0) (k .0)) ∙ z) tt) (λ z. omega (arith, k .0)) (λ z. omega (arith, k .0)) in
             tried o (k .0) t (k .1) P row h (feeds (s W H l d p e) v x) refl
 
         not-fit : (o : Onward) → q ≡ 14 → (P : Rows) → IsWanted P (s W H l d p e) v → Holds P (s W H l d p e) x →
@@ -237,7 +251,7 @@ module _ (W H : Side) (l d : ℕ) (p : Place) (e : Bool) (n : ℕ) (x : ℕ → 
             Holds P (s W H l d p e) x → AllFit P (s W H l d p e) → ⊥
         stopped t r P row h all =
             let z = feed-fourteen (s W H l d p e) q t r in
-            let o = onward (λ _ y. subst T (sym (ap (λ j. eqb j 14) z) ∙ y) tt) (λ y. omega (arith, z)) (λ y. omega (arith, z)) in
+            let o = onward (h .ready) (λ _ y. subst T (sym (ap (λ j. eqb j 14) z) ∙ y) tt) (λ y. omega (arith, z)) (λ y. omega (arith, z)) in
             not-fit o z P row h all (feeds (s W H l d p e) v x) refl
 
   -- ---- draw
@@ -249,21 +263,22 @@ module _ (W H : Side) (l d : ℕ) (p : Place) (e : Bool) (n : ℕ) (x : ℕ → 
       due : d < H .length
       broad : 0 < W .length
       level-le : p .level ≤ suc l
-      at-height : nextOf W H l d p ≡ place 0 false 4
+      at-height : nextOf W H l d p ≡ spot 0 0 4
       to-draw : drawDue (s W H l d p e) ≡ true
       asks : o₀ ≡ ask (fits (settles (s W H l d p e) x)) 14 0
 
     -- what a draw was asked that gave a row, or 14
-    drawing : (eqb o₀ 0 ≡ false → eqb o₀ 14 ≡ false → ⊥) → (o₀ ≡ 1 → ⊥) → (o₀ ≡ 5 → ⊥) → (drawDue (s W H l d p e) ≡ false → o₀ ≡ 0 → ⊥) → Drawing
+    drawing : (d < H .length → Ready W H (suc l) d (at W H l d p)) → (eqb o₀ 0 ≡ false → eqb o₀ 14 ≡ false → ⊥)
+        → (o₀ ≡ 1 → ⊥) → (o₀ ≡ 5 → ⊥) → (drawDue (s W H l d p e) ≡ false → o₀ ≡ 0 → ⊥) → Drawing
     unfolding drawQuestion
-    drawing never f g idle =
+    drawing ready never f g idle =
         let t = two-yes (countsFit (s W H l d p e)) (storeFits W (suc l) n) _ o₀ refl f g in
         let i = inside W H l d p e (t .0) in
-        go i (draw-view W H l n (limits-of i (t .1)) d p (i .drawn-le) (i .level-le) (i .band-le) e (stepsLeft W H l d p) x a
-        (view W H l d p (i .level-le)))
+        go i (draw-view W H l n (limits-of i (t .1)) d p (i .drawn-le) (i .level-le) (i .band-le) (i .back-le) e (stepsLeft W H l d (at W H l d p)) x a
+        (view W H l d p (i .level-le) ready))
       where
         go : (i : Inside W H l d p) {lim : Limits W H l n} →
-            DrawView W H l n lim d p (i .drawn-le) (i .level-le) (i .band-le) e (stepsLeft W H l d p) x a → Drawing
+            DrawView W H l n lim d p (i .drawn-le) (i .level-le) (i .band-le) (i .back-le) e (stepsLeft W H l d (at W H l d p)) x a → Drawing
         go i (draw-away r z y _ at) = absurd (never (ap (λ j. eqb j 0) at ∙ z) (ap (λ j. eqb j 14) at ∙ y))
         go i (draw-idle live z _ at) = absurd (idle z at)
         go i (draw-onward live due at-height head to-draw _ at) =
@@ -280,7 +295,7 @@ module _ (W H : Side) (l d : ℕ) (p : Place) (e : Bool) (n : ℕ) (x : ℕ → 
     unfolding drawArea memory
     drawn-area y u k = rw (u, k) refl
 
-    drawn-reader : drawnReader (s W H l d p e) ≡ here W H l (suc d) (enter W H (suc l) (suc d)) false
+    drawn-reader : drawnReader (s W H l d p e) ≡ here W H l (suc d) (placeOf H (suc d) (enter W H (suc l) (suc d))) false
     unfolding drawnReader
     drawn-reader = refl
 
@@ -292,9 +307,9 @@ module _ (W H : Side) (l d : ℕ) (p : Place) (e : Bool) (n : ℕ) (x : ℕ → 
     draw-at = record { passed = on; ended = stopped }
       where
         outcome-of : (o : Drawing) (P : Rows) → Holds P (s W H l d p e) x → (u : Tried) →
-            settles (s W H l d p e) x ≡ u → Outcome (Fits W H l P) (Held W H l P d 0 false 4) u
+            settles (s W H l d p e) x ≡ u → Outcome (Fits W H l P) (Held W H l P 0 d 4) u
         outcome-of o P h u z = subst (Outcome (Fits W H l P) _) z
-            (settles-outcome W H l d p (o .due) (o .level-le) P x (held W H l d p e P x (o .due) h) e (place 0 false 4) (o .at-height))
+            (settles-outcome W H l d p (o .level-le) (h .ready (o .due)) P x (held W H l d p e P x (o .due) h) e (spot 0 0 4) (o .at-height))
 
         tried : (o : Drawing) → o₀ ≡ 0 → (t : Reader) → t ≡ drawnReader (s W H l d p e) → (P : Rows) →
             Holds P (s W H l d p e) x → (u : Tried) → settles (s W H l d p e) x ≡ u →
@@ -302,10 +317,10 @@ module _ (W H : Side) (l d : ℕ) (p : Place) (e : Bool) (n : ℕ) (x : ℕ → 
             × ((c : ℕ) → c < W .length → drawArea (s W H l d p e) o₀ x (a .numbers) c ≡ partAt W H P (suc l) 0 d c)
         tried o z t same P h failed k = absurd (omega (arith, same-test failed 0 z (o .asks) k, ask-failed))
         tried o z t same P h (passed y) k =
-            let is : Held W H l P d 0 false 4 y = outcome-passed y (outcome-of o P h (passed y) k) in (
+            let is : Held W H l P 0 d 4 y = outcome-passed y (outcome-of o P h (passed y) k) in (
               subst (λ r. Holds P r (drawStore (s W H l d p e) o₀ x)) (sym (same ∙ drawn-reader))
                   (subst (Holds P _) (sym (ap (λ r. drawStore (s W H l d p e) r x) z ∙ drawn-store y (o .to-draw) k))
-                  (holds W H l (suc d) _ false P y (λ more. enter-holds W H l P d more y is))),
+                  (holds-at W H l (suc d) (enter W H (suc l) (suc d)) P y (ready-enter W H l (suc d)) (λ _. enter-holds W H l P d 4 y is))),
               λ c i. ap (λ r. drawArea (s W H l d p e) r x (a .numbers) c) z ∙ ap (λ f. f c) (drawn-area y (o .to-draw) k)
                   ∙ row-out W H l d p e (o .due) (o .broad) P y is (a .numbers) c i,
             )
@@ -315,7 +330,8 @@ module _ (W H : Side) (l d : ℕ) (p : Place) (e : Bool) (n : ℕ) (x : ℕ → 
             × ((c : ℕ) → c < W .length → drawArea (s W H l d p e) o₀ x (a .numbers) c ≡ partAt W H P (suc l) 0 d c)
         on m t r P h =
             let k = heights-only (s W H l d p e) o₀ m t r in
-            let o = drawing (λ z _. subst T (sym (ap (λ j. eqb j 0) (k .0)) ∙ z) tt) (λ z. omega (arith, k .0)) (λ z. omega (arith, k .0)) (λ z _. k .2 z) in
+            let o = drawing (h .ready) (λ z _. subst T (sym (ap (λ j. eqb j 0) (k .0)) ∙ z) tt)
+            (λ z. omega (arith, k .0)) (λ z. omega (arith, k .0)) (λ z _. k .2 z) in
             tried o (k .0) t (k .1) P h (settles (s W H l d p e) x) refl
 
         not-fit : (o : Drawing) → o₀ ≡ 14 → (P : Rows) → Holds P (s W H l d p e) x → AllFit P (s W H l d p e) →
@@ -327,7 +343,8 @@ module _ (W H : Side) (l d : ℕ) (p : Place) (e : Bool) (n : ℕ) (x : ℕ → 
             AllFit P (s W H l d p e) → ⊥
         stopped t r P h all =
             let z = drawn-fourteen (s W H l d p e) o₀ t r in
-            let o = drawing (λ _ y. subst T (sym (ap (λ j. eqb j 14) z) ∙ y) tt) (λ y. omega (arith, z)) (λ y. omega (arith, z)) (λ _ y. omega (arith, z, y)) in
+            let o = drawing (h .ready) (λ _ y. subst T (sym (ap (λ j. eqb j 14) z) ∙ y) tt)
+            (λ y. omega (arith, z)) (λ y. omega (arith, z)) (λ _ y. omega (arith, z, y)) in
             not-fit o z P h all (settles (s W H l d p e) x) refl
 
 -- ---- every state: one of no levels passes no question 1
@@ -340,7 +357,7 @@ at-levels L s = record {
   y = s .y;
   drawn = s .drawn;
   level = s .level;
-  alone = s .alone;
+  back = s .back;
   band = s .band;
   ended = s .ended;
 }
@@ -364,12 +381,17 @@ draw-counts s n m x f g = two-yes (countsFit s) (storeFits (columns s) (s .level
 fresh-holds : (W H : Side) (L : ℕ) (P : Rows) (y : ℕ → ℤ) → Holds P (fresh W H L) y
 unfolding fresh
 fresh-holds W H zero P y = record {
+  ready = λ _. unfold enter dive needed in record {
+    top = unfold waitsAt in refl;
+    cells = λ k e. absurd (omega arith);
+    there = λ k e. absurd (omega arith);
+    asks = λ k e. absurd (omega arith);
+  };
   below = λ _ _ k i q. absurd (omega (arith, i .inside));
   before = λ _ k i q. absurd (omega (arith, i .inside));
-  here = λ _ k i q. absurd (omega (arith, i .inside));
   got = λ _ k i q c kept less. absurd (omega (arith, i .inside));
 }
-fresh-holds W H (suc l) P y = holds W H l 0 (enter W H (suc l) 0) false P y (λ _. first-holds W H l P y)
+fresh-holds W H (suc l) P y = holds-at W H l 0 (enter W H (suc l) 0) P y (ready-enter W H l 0) (λ _. first-holds W H l P y)
 
 ready-only : (W H : Side) (L q : ℕ) (s : Reader) → setUpReply W H L q ≡ gives s → s ≡ fresh W H L
 unfolding setUpReply
@@ -393,7 +415,7 @@ feed-keeps s n m x v = at (s .levels)
   where
     at : (L : ℕ) → (let u = at-levels L s in FeedKeeps u v x (feedReply u (feedQuestion u n x m v)) (feedStore u (feedQuestion u n x m v) v x))
     at (suc l) =
-        feed-at (side (s .x) (s .width)) (side (s .y) (s .height)) l (s .drawn) (place (s .level) (s .alone) (s .band)) (s .ended) n x
+        feed-at (side (s .x) (s .width)) (side (s .y) (s .height)) l (s .drawn) (place (s .level) (s .back) (s .band)) (s .ended) n x
         (record { size = m; numbers = v })
     at zero =
         let u = at-levels 0 s in
@@ -412,7 +434,7 @@ draw-keeps s n m x z = at (s .levels)
     at : (L : ℕ) → (let u = at-levels L s in
         DrawKeeps u x (drawReply u (drawQuestion u n x m)) (drawStore u (drawQuestion u n x m) x) (drawArea u (drawQuestion u n x m) x z))
     at (suc l) =
-        draw-at (side (s .x) (s .width)) (side (s .y) (s .height)) l (s .drawn) (place (s .level) (s .alone) (s .band)) (s .ended) n x
+        draw-at (side (s .x) (s .width)) (side (s .y) (s .height)) l (s .drawn) (place (s .level) (s .back) (s .band)) (s .ended) n x
         (record { size = m; numbers = z })
     at zero =
         let u = at-levels 0 s in

@@ -25,10 +25,10 @@ use Rattle.reader.proofs.StoreLaws.{stretch-suc, stretch-is}
 use Rattle.reader.proofs.PartLaws.{behind-past, from-at, at-rest, at-put-rest, work-room}
 
 -- ---- the stretch within the store
-pub part-kept : (W H : Side) (k L : ℕ) (l : Level) (is : IsLevel W H k l) (n : ℕ) (s ys : List ℤ) → k < L → l .start + n ≡ length s → length ys ≡ n →
+pub part-kept : (W H : Side) (d k L : ℕ) (l : Level) (is : IsLevel W H d k l) (n : ℕ) (s ys : List ℤ) → k < L → l .start + n ≡ length s → length ys ≡ n →
     Kept (4 * l .width) (at (midOf (l .start) n s)) (at ys) → Kept (storeLength W L) (at s) (at (putMid (l .start) n s ys))
-part-kept W H k L l is n s ys h whole long a =
-    let room = work-room W H k l is L h in
+part-kept W H d k L l is n s ys h whole long a =
+    let room = work-room W H d k l is L h in
     let b = l .start in
     record {
       same = λ j le.

@@ -11,6 +11,7 @@ pub mod WalkLaws
 pub mod EnterLaws
 pub mod StepLaws
 pub mod QuestionLaws
+pub mod ReadyLaws
 pub mod StepsLeft
 pub mod Holds
 pub mod CallLaws

@@ -19,14 +19,15 @@ use Rattle.areas.specs.Areas.{height16}
 use Rattle.areas.proofs.HeightLaws.{height-kept}
 use Rattle.reader.specs.Asked.{keptAt}
 use Rattle.reader.specs.Rebuilt.{Rows, bandsBy, rebuilt, bandsAt, partAt}
-use Rattle.level.specs.Tried.{failed, passed, bind}
-use Rattle.reader.specs.Machine.{Place, nowAt, settled, fedOn, beyond}
+use Rattle.level.specs.Tried.{Tried, failed, passed, bind}
+use Rattle.reader.specs.Machine.{Spot, spot, Place, settled, fedOn, beyond}
+use Rattle.reader.specs.Holds.{Ready}
 use Rattle.reader.specs.State.{next, settles, feeds}
 use Rattle.reader.specs.Calls.{heightRow}
 use Rattle.level.proofs.SetMade.{Outcome, stops, goes, bind-outcome}
-use Rattle.reader.proofs.CellLaws.{has-cells, asked-has}
-use Rattle.reader.proofs.Holds.{Live, Fits, Held, HeldAt, HeldNext, settle-holds, fed-holds, height-made, height-fit}
-use Rattle.reader.proofs.CallViews.{here, nextOf, nameOf, Due}
+use Rattle.reader.proofs.CellLaws.{asked-has}
+use Rattle.reader.proofs.Holds.{Fits, Held, HeldAt, HeldNext, FedHeld, settle-holds, fed-holds, height-made, height-fit}
+use Rattle.reader.proofs.CallViews.{here, at, nextOf, nameOf, Due}
 
 pub outcome-failed : {N : Type 0} {P : (ℕ → ℤ) → Type 0} → Outcome N P failed → N → ⊥
 outcome-failed (stops n) = n
@@ -35,7 +36,7 @@ pub outcome-passed : {N : Type 0} {P : (ℕ → ℤ) → Type 0} (y : ℕ → �
 outcome-passed _ (goes _ p) = p
 
 -- the height row that is drawn
-pub row-out : (W H : Side) (l d : ℕ) (p : Place) (e : Bool) → d < H .length → 0 < W .length → (P : Rows) (y : ℕ → ℤ) → Held W H l P d 0 false 4 y →
+pub row-out : (W H : Side) (l d : ℕ) (p : Place) (e : Bool) → d < H .length → 0 < W .length → (P : Rows) (y : ℕ → ℤ) → Held W H l P 0 d 4 y →
     (z : ℕ → ℤ) (c : ℕ) → c < W .length → fronted (W .length) (heightRow (here W H l d p e) y) z c ≡ partAt W H P (suc l) 0 d c
 unfolding fronted heightRow maxSample
 row-out W H l d p e due wide P y h z c b =
@@ -60,26 +61,36 @@ band-named W H l P k HL r h = refl
 band-named W H l P k LH r h = refl
 band-named W H l P k HH r h = refl
 
-module _ (W H : Side) (l d : ℕ) (p : Place) (due : d < H .length) (level-le : p .level ≤ suc l) (P : Rows) (x : ℕ → ℤ) (held : HeldAt W H l P d p x) where
-  pub settles-outcome : (e : Bool) (q : Place) → nextOf W H l d p ≡ q → Outcome (Fits W H l P) (HeldNext W H l P d q) (settles (here W H l d p e) x)
+module _ (W H : Side) (l d : ℕ) (p : Place) (level-le : p .level ≤ suc l) (ready : Ready W H (suc l) d (at W H l d p)) (P : Rows) (x : ℕ → ℤ)
+    (held : HeldAt W H l P (at W H l d p) x) where
+  pub settles-outcome : (e : Bool) (q : Spot) → nextOf W H l d p ≡ q → Outcome (Fits W H l P) (HeldNext W H l P d q) (settles (here W H l d p e) x)
   unfolding settles next
   settles-outcome e q z =
-      subst (λ u. Outcome (Fits W H l P) (HeldNext W H l P d u) (settled W H (suc l) d (nextOf W H l d p .level) (p .level) x)) z
-      (settle-holds W H l P d (p .level) (p .alone) (p .band) x due level-le held)
+      subst (λ u. Outcome (Fits W H l P) (HeldNext W H l P d u) (settled W H (suc l) (nextOf W H l d p .level) (p .level) (at W H l d p .set) x)) z
+      (settle-holds W H l P d (p .level) (at W H l d p .set) (p .band) x level-le ready held)
 
-  pub feeds-outcome : (e : Bool) (k : ℕ) (a : Bool) (c : Band) → Due W H l d p k a c → (v : ℕ → ℤ) →
-      ((i : ℕ) → i < bandColumns W (suc k) c → v i ≡ P (nameOf W H l d k a c) i) →
-      Outcome (Fits W H l P) (HeldAt W H l P d (beyond W H (suc l) d k a (code c))) (feeds (here W H l d p e) v x)
+  pub feeds-worked : (e : Bool) (k n : ℕ) (c : Band) → Due W H l d p k n c → (v : ℕ → ℤ) →
+      ((i : ℕ) → i < bandColumns W (suc k) c → v i ≡ P (nameOf W H l k n c) i) →
+      Outcome (Fits W H l P) (FedHeld W H l P k n (code c)) (feeds (here W H l d p e) v x)
   unfolding feeds settles next bandColumns
-  feeds-outcome e k a c o v row =
+  feeds-worked e k n c o v row =
       let z : suc k - 1 ≡ k = omega arith in
-      let ask = asked-has (eqb (suc k) (suc l)) (sideAt k W) (sideAt k H) (nowAt W H (suc l) d k a) c (o .asks) in
-      let live : Live W H l P k = (omega (arith, o .below), has-cells (sideAt k W) (sideAt k H) c (nowAt W H (suc l) d k a) (ask .1)) in
-      let row′ : (i : ℕ) → i < count (across c) (sideAt k W) → v i ≡ P (nameOf W H l d k a c) i = rw z at row in
-      let named = band-named W H l P k c (setRow (sideAt k H) c (nowAt W H (suc l) d k a)) (ask .0) in
-      let set = subst (λ q. Outcome (Fits W H l P) (HeldNext W H l P d q) (settled W H (suc l) d (q .level) (p .level) x)) (o .is)
-      (settle-holds W H l P d (p .level) (p .alone) (p .band) x due level-le held) in
-      subst (λ q. Outcome (Fits W H l P) (HeldAt W H l P d (beyond W H (suc l) d k a (code c)))
-      (bind (settled W H (suc l) d (q .level) (p .level) x) (fedOn W H (suc l) d (q .level) (q .alone) (q .band) v))) (sym (o .is))
-      (bind-outcome (settled W H (suc l) d (suc k) (p .level) x) _ set
-      (λ y h. fed-holds W H l P d k a c v y due live (o .two) (λ i b. row′ i b ∙ ap (λ (f : ℕ → ℤ). f i) (sym named)) h))
+      let ask = asked-has (eqb (suc k) (suc l)) (sideAt k W) (sideAt k H) n c (o .asks) in
+      let row′ : (i : ℕ) → i < count (across c) (sideAt k W) → v i ≡ P (nameOf W H l k n c) i = rw z at row in
+      let named = band-named W H l P k c (setRow (sideAt k H) c n) (ask .0) in
+      let set = subst (λ q. Outcome (Fits W H l P) (HeldNext W H l P d q) (settled W H (suc l) (q .level) (p .level) (at W H l d p .set) x)) (o .is)
+      (settle-holds W H l P d (p .level) (at W H l d p .set) (p .band) x level-le ready held) in
+      subst (λ q. Outcome (Fits W H l P) (FedHeld W H l P k n (code c))
+      (bind (settled W H (suc l) (q .level) (p .level) (at W H l d p .set) x) (fedOn W H (suc l) (q .level) (q .set) (q .band) v))) (sym (o .is))
+      (bind-outcome (settled W H (suc l) (suc k) (p .level) (at W H l d p .set) x) _ set
+      (λ y h. fed-holds W H l P d k n c v y (omega (arith, o .below)) (o .ready) (λ i b. row′ i b ∙ ap (λ (f : ℕ → ℤ). f i) (sym named)) h))
+
+  pub feeds-outcome : (e : Bool) (k n : ℕ) (c : Band) → Due W H l d p k n c → (v : ℕ → ℤ) →
+      ((i : ℕ) → i < bandColumns W (suc k) c → v i ≡ P (nameOf W H l k n c) i) →
+      Outcome (Fits W H l P) (HeldAt W H l P (beyond W H (suc l) k n (code c))) (feeds (here W H l d p e) v x)
+  feeds-outcome e k n c o v row = first _ (feeds-worked e k n c o v row)
+    where
+      first : (t : Tried) → Outcome (Fits W H l P) (FedHeld W H l P k n (code c)) t
+          → Outcome (Fits W H l P) (HeldAt W H l P (beyond W H (suc l) k n (code c))) t
+      first _ (stops z) = stops z
+      first _ (goes y q) = goes y (q .0)

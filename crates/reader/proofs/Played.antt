@@ -38,6 +38,7 @@ use Rattle.reader.specs.Demand3.{IsRow, HasFed, wantSays, feedTurned, dr
 use Rattle.reader.specs.Demand3 as demand
 use Rattle.reader.specs.Played.{asWanted, answering, played, Sized, HasAll, Back, Stopped, Refusal, seven, fed-fourteen, drawn-fourteen, after, Played}
 use Rattle.reader.proofs.Looks.{named-code}
+use Rattle.reader.specs.Sets.{ahead}
 use Rattle.reader.proofs.Reached.{namesOf}
 use Rattle.reader.proofs.Rebuilt.{same-name, same-self}
 use Rattle.reader.proofs.Demand3.{left-append, fed-append, done-only, demand-3}
@@ -131,7 +132,7 @@ module _ (W H : Side) (L n : ℕ) (across : W .start ≤ maxOrigin) (down : H .s
   w₀ = freshWorld W H L n x
 
   abbrev T₀ : List Step
-  T₀ = steps 1 W H L
+  T₀ = steps ahead W H L
 
   claim : (cs : List Call) → Demand3 W H L (events cs w₀) (λ c. event c (final cs w₀))
   claim cs = demand-3 W H L n across down ok x cs .claim
@@ -440,7 +441,7 @@ module _ (W H : Side) (L n : ℕ) (across : W .start ≤ maxOrigin) (down : H .s
 module _ (W H : Side) (L n : ℕ) (across : W .start ≤ maxOrigin) (down : H .start ≤ maxOrigin) (ok : setUpQuestion W H L n ≡ 0) (rows : RowName → Area)
     (outs : ℕ → Area) (room : (i : ℕ) → W .length ≤ outs i .size) (x : ℕ → ℤ) where
   abbrev turnsOf : List Call
-  turnsOf = played rows outs (length (steps 1 W H L)) (freshWorld W H L n x)
+  turnsOf = played rows outs (length (steps ahead W H L)) (freshWorld W H L n x)
 
   pub played-holds : Played W H L rows (events turnsOf (freshWorld W H L n x)) (λ c. event c (final turnsOf (freshWorld W H L n x)))
   played-holds = record {

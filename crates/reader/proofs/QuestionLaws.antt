@@ -1,7 +1,7 @@
 -- The questions, one after another: what each no and each yes says. Assumes nothing.
 use mathlib.Core.Path.{_≡_, refl, sym, ap, _∙_}
 use mathlib.Core.Bool.{Bool, true, false, not}
-use Prim.Native.Nat.{ℕ, _+_, _*_, _/_, _≤_, _<_}
+use Prim.Native.Nat.{ℕ, _+_, _*_, _/_, _≤_, _<_, _-_}
 use native.Mathlib.Omega.{arith}
 use lib.IntN.{ℤ}
 use lib.Dec.{leb, ltb, eqb}
@@ -13,12 +13,13 @@ use Rattle.wavelet.specs.Limits.{maxWidth, maxHeight, maxLevels, maxOrigin}
 use Rattle.wavelet.specs.Questions.{ask, within}
 use Rattle.wavelet.proofs.LimitLaws.{width-small, height-small, origin-small}
 use Rattle.wavelet.proofs.QuestionLaws.{within-true, within-yes}
-use Rattle.wavelet.specs.Store.{storeLength}
+use Rattle.wavelet.specs.Store.{storeLength, anyLength}
 use Rattle.wavelet.proofs.StoreLaws.{store-most}
 use Rattle.reader.proofs.StoreLaws.{length-is}
 use Rattle.reader.specs.declared.Reader.{Reader}
 use Rattle.reader.specs.State.{columns, rows, next, nextLength, unfinished, rowDue, drawDue}
 use Rattle.reader.specs.Questions.{countsFit, storeFits, runFits, setUpQuestion}
+use Rattle.reader.specs.Sets.{ahead}
 use Rattle.reader.specs.Inside.{Counts, Small, storeQuestion, rowQuestion}
 
 -- the length that the code asks for, 0 outside the limits
@@ -67,9 +68,9 @@ module _ (s : Reader) where
             lt-leb (s .level) (s .levels) h,
           )
 
-          pub counts-6 : s .drawn ≤ s .height → s .level ≤ s .levels → leb (s .band) 4 ≡ countsFit s
+          pub counts-6 : s .drawn ≤ s .height → s .level ≤ s .levels → 4 < s .band → false ≡ countsFit s
           unfolding countsFit
-          counts-6 g h = rw (
+          counts-6 g h b = rw (
             one,
             two,
             three,
@@ -77,6 +78,20 @@ module _ (s : Reader) where
             le-leb (s .y) maxOrigin down,
             le-leb (s .drawn) (s .height) g,
             le-leb (s .level) (s .levels) h,
+            lt-leb (s .band) 4 b,
+          )
+
+          pub counts-7 : s .drawn ≤ s .height → s .level ≤ s .levels → s .band ≤ 4 → leb (s .back) (2 * ahead - 1) ≡ countsFit s
+          unfolding countsFit
+          counts-7 g h b = rw (
+            one,
+            two,
+            three,
+            le-leb (s .x) maxOrigin across,
+            le-leb (s .y) maxOrigin down,
+            le-leb (s .drawn) (s .height) g,
+            le-leb (s .level) (s .levels) h,
+            le-leb (s .band) 4 b,
           )
 
   pub counts-in : countsFit s ≡ true → Counts s
@@ -89,6 +104,7 @@ module _ (s : Reader) where
       let v = halves (leb (s .y) maxOrigin) _ (u .1) in
       let f = halves (leb (s .drawn) (s .height)) _ (v .1) in
       let g = halves (leb (s .level) (s .levels)) _ (f .1) in
+      let b′ = halves (leb (s .band) 4) _ (g .1) in
       record {
         wide = within-true 1 maxWidth (s .width) (a .0);
         high = within-true 1 maxHeight (s .height) (b .0);
@@ -97,7 +113,8 @@ module _ (s : Reader) where
         down = leb-true _ _ (v .0);
         drew = leb-true _ _ (f .0);
         at = leb-true _ _ (g .0);
-        next = leb-true _ _ (g .1);
+        next = leb-true _ _ (b′ .0);
+        behind = leb-true _ _ (b′ .1);
       }
 
   pub counts-length : Counts s → (m : ℕ) → m ≡ asked (columns s) (s .levels) → m ≡ storeLength (columns s) (s .levels)
@@ -179,9 +196,11 @@ module _ (s : Reader) (n : ℕ) where
 
   -- question 5 by the most that a store needs, and by what this one needs
   module _ (counts : Counts s) where
-    pub store-any : (31 * s .width + 52) / 4 ≤ n → true ≡ storeFits (columns s) (s .levels) n
+    pub store-any : both (leb (s .width) maxWidth) (leb (anyLength (s .width)) n) ≡ true → true ≡ storeFits (columns s) (s .levels) n
     unfolding storeFits
-    store-any h = sym (le-leb (storeLength (columns s) (s .levels)) n (omega (arith, store-most (columns s) (s .levels) (counts .deep .1))))
+    store-any h =
+        let room = leb-true (anyLength (s .width)) n (halves (leb (s .width) maxWidth) _ h .1) in
+        sym (le-leb (storeLength (columns s) (s .levels)) n (omega (arith, room, store-most (columns s) (s .levels) (counts .deep .1))))
 
     pub store-own : (m : ℕ) → m ≡ asked (columns s) (s .levels) → leb m n ≡ storeFits (columns s) (s .levels) n
     unfolding storeFits

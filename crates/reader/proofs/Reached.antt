@@ -4,27 +4,28 @@
 use mathlib.Core.Bool.{Bool, true, false, true≢false, false≢true}
 use mathlib.Core.Path.{_≡_, refl, sym, ap, subst, _∙_}
 use mathlib.Core.List.{List, [], _∷_, _++_, map, map-append, append-nil, append-assoc}
-use Prim.Native.Nat.{ℕ, zero, suc, _+_, _-_, _≤_, _<_}
-use native.Mathlib.Decide.{ℕ-discrete}
+use Prim.Native.Nat.{ℕ, zero, suc, _+_, _-_, _*_, _≤_, _<_}
+use native.Mathlib.Decide.{ℕ-discrete, decLt}
 use native.Mathlib.Omega.{arith}
 use lib.IntN.{ℤ, pos, natAbs}
 use lib.ListN.{length, length-append, getD, List·getD-append}
 use lib.Seq.{getD-append-add}
-use lib.Dec.{eqb}
+use lib.Dec.{leb, eqb}
 use borrow.Author.Tests.{leb-true}
 use Rattle.numbers.specs.Signal.{pick, both}
 use Rattle.lifting.specs.FiveThree.{fiveThreeFilter}
 use Rattle.wavelet.proofs.QuestionLaws.{within-true}
+use Rattle.lifting.specs.Line.{lo}
 use Rattle.lifting.specs.Grid.{Side, count}
 use Rattle.lifting.specs.Halves.{fronted}
 use Rattle.wavelet.specs.Limits.{maxWidth, range}
 use Rattle.wavelet.specs.Bands.{Grid, Band, code, down}
 use Rattle.wavelet.specs.Levels.{next, sideAt}
 use Rattle.wavelet.specs.View.{bandColumns}
-use Rattle.wavelet.specs.Steps.{steps, Step, bandRowsOf}
+use Rattle.wavelet.specs.Steps.{setsBefore, steps, Step, bandRowsOf}
 use Rattle.wavelet.specs.Maps.{valueFits}
 use Rattle.wavelet.specs.Questions.{ask}
-use Rattle.wavelet.specs.Order.{RowName}
+use Rattle.wavelet.specs.Order.{firstSet, RowName}
 use Rattle.wavelet.specs.Steps as step
 use Rattle.numbers.proofs.TestLaws.{every-each}
 use Rattle.calls.specs.Lists.{Area, All, all-none, all-more}
@@ -32,12 +33,13 @@ use Rattle.calls.proofs.AllLaws.{all-append, all-left, all-last}
 use Rattle.reader.specs.declared.Reader.{Reader}
 use Rattle.level.specs.Sets.{opens}
 use Rattle.level.specs.Stands.{SetHas}
-use Rattle.reader.specs.Sets.{rowBelow, needsTwo, rowAt, setAt}
+use Rattle.reader.specs.Sets.{ahead, hasRow, rowOf, needed, makes, waiting}
 use Rattle.reader.specs.Asked.{keptAt}
 use Rattle.reader.specs.Rebuilt.{Rows, bandsAt, partAt}
 use Rattle.reader.specs.Store.{hasCells}
 use Rattle.level.specs.Tried.{Tried, failed, passed, fits, memory}
-use Rattle.reader.specs.Machine.{Place, place, nowAt, lastOfSet, placeFed, past, beyond, dive, enter}
+use Rattle.reader.specs.Machine.{Spot, spot, Place, placeOf, lastOfSet, spotFed, past, beyond, dive, begins, enter}
+use Rattle.reader.specs.Holds.{Ready}
 use Rattle.reader.specs.State as state
 use Rattle.reader.specs.State.{settles, feeds, drawDue, fedReader, drawnReader, endedReader}
 use Rattle.reader.specs.Questions.{runFits, feedQuestion, drawQuestion}
@@ -47,11 +49,12 @@ use Rattle.reader.specs.Demand3.{given, leaves, drawnTo, HasFedRow}
 use Rattle.reader.specs.Demand3 as demand
 use Rattle.reader.proofs.Looks.{code-lt}
 use Rattle.reader.proofs.CellLaws.{asked-has, has-row}
-use Rattle.reader.proofs.StepsLeft.{stepsLeft}
+use Rattle.reader.proofs.ReadyLaws.{ready-beyond, ready-enter, ready-back, enter-end}
+use Rattle.reader.proofs.StepsLeft.{stepsLeft, left-done}
 use Rattle.level.proofs.SetMade.{Outcome}
 use Rattle.reader.proofs.Holds.{Live, Fits, Held, HeldAt, enter-holds, height-fit, sets-tested}
 use Rattle.reader.proofs.Outcomes.{outcome-failed, outcome-passed, settles-outcome, feeds-outcome, row-out}
-use Rattle.reader.proofs.CallViews.{Limits, here, nextOf, nameOf, Due, View, view, FeedView, feed-away, feed-onward, feed-view}
+use Rattle.reader.proofs.CallViews.{Limits, here, at, nextOf, nameOf, Due, View, view, FeedView, feed-away, feed-onward, feed-view}
 use Rattle.reader.proofs.CallViews.{DrawView, draw-away, draw-idle, draw-onward}
 use Rattle.reader.proofs.CallViews.{draw-view}
 
@@ -59,30 +62,46 @@ use Rattle.reader.proofs.CallViews.{draw-view}
 abbrev pub namesOf : List FedRow → List RowName
 namesOf = map (λ f. f .row)
 
--- where a row begins, the numbers are inside their ranges
-pub dive-le : (l m k : ℕ) (W H : Side) (r : ℕ) → k + m ≡ suc l → (dive m k W H r .level ≤ suc l) × (dive m k W H r .band ≤ 4)
+-- where a number of a level begins, and past a set, the numbers are inside their ranges
+dive-le : (l m k : ℕ) (W H : Side) (n r : ℕ) → k + m ≡ suc l → (dive m k W H n r .level ≤ suc l) × (dive m k W H n r .band ≤ 4)
 unfolding dive
-dive-le l zero k W H r e = (omega arith, omega arith)
-dive-le l (suc m) k W H r e = go (both (hasCells W H) (opens 1 H r)) (needsTwo H r) _ (dive-le l m (suc k) (next W) (next H) (rowBelow H r) (omega arith))
+dive-le l zero k W H n r e = (omega arith, omega arith)
+dive-le l (suc m) k W H n r e =
+    go (both (hasCells W H) (opens ahead H r)) (leb (firstSet H lo) (setsBefore ahead H r)) _
+    (dive-le l m (suc k) (next W) (next H) (setsBefore ahead H r) (setsBefore ahead H r - firstSet H lo) (omega arith))
   where
-    go : (t u : Bool) (q : Place) → (q .level ≤ suc l) × (q .band ≤ 4) →
-        (pick t (pick u (place (suc k) true 1) q) (place k false 1) .level ≤ suc l) × (pick t (pick u (place (suc k) true 1) q) (place k false 1) .band ≤ 4)
-    go true true q ih = (omega arith, omega arith)
-    go true false q ih = ih
+    go : (t u : Bool) (q : Spot) → (q .level ≤ suc l) × (q .band ≤ 4) →
+        (pick t (pick u q (spot (suc k) (setsBefore ahead H r) 1)) (spot k n 1) .level ≤ suc l)
+        × (pick t (pick u q (spot (suc k) (setsBefore ahead H r) 1)) (spot k n 1) .band ≤ 4)
+    go true true q ih = ih
+    go true false q ih = (omega arith, omega arith)
     go false u q ih = (omega arith, omega arith)
 
--- and no level before it is left out
-pub dive-deep : (m k : ℕ) (W H : Side) (r : ℕ) → (k ≤ dive m k W H r .level) × (k ≡ dive m k W H r .level → dive m k W H r .alone ≡ false)
-unfolding dive
-dive-deep zero k W H r = (omega arith, λ _. refl)
-dive-deep (suc m) k W H r = go (both (hasCells W H) (opens 1 H r)) (needsTwo H r) _ (dive-deep m (suc k) (next W) (next H) (rowBelow H r))
+pub enter-le : (W H : Side) (l d : ℕ) → (enter W H (suc l) d .level ≤ suc l) × (enter W H (suc l) d .band ≤ 4)
+unfolding enter
+enter-le W H l d = dive-le l (suc l) 0 W H d d (omega arith)
+
+begins-le : (W H : Side) (l k n : ℕ) → k ≤ l → (begins W H (suc l) (suc k) n .level ≤ suc l) × (begins W H (suc l) (suc k) n .band ≤ 4)
+unfolding begins
+begins-le W H l k n h = go (hasRow H (suc k) n)
   where
-    go : (t u : Bool) (q : Place) → (suc k ≤ q .level) × (suc k ≡ q .level → q .alone ≡ false) →
-        (k ≤ pick t (pick u (place (suc k) true 1) q) (place k false 1) .level)
-        × (k ≡ pick t (pick u (place (suc k) true 1) q) (place k false 1) .level → pick t (pick u (place (suc k) true 1) q) (place k false 1) .alone ≡ false)
-    go true true q ih = (omega arith, λ z. absurd (omega (arith, z)))
-    go true false q ih = (omega (arith, ih .0), λ z. absurd (omega (arith, z, ih .0)))
-    go false u q ih = (omega arith, λ _. refl)
+    to : Spot
+    to = dive (suc l - suc k) (suc k) (sideAt (suc k) W) (sideAt (suc k) H) n (rowOf H (suc k) n)
+
+    go : (t : Bool) → (pick t to (spot (suc k) n 1) .level ≤ suc l) × (pick t to (spot (suc k) n 1) .band ≤ 4)
+    go true = dive-le l (suc l - suc k) (suc k) _ _ _ _ (omega arith)
+    go false = (omega arith, omega arith)
+
+pub beyond-le : (W H : Side) (l k n c : ℕ) → k ≤ l → c < 4 → (beyond W H (suc l) k n c .level ≤ suc l) × (beyond W H (suc l) k n c .band ≤ 4)
+unfolding beyond past
+beyond-le W H l k n c h b = go (lastOfSet W H (suc l) k n c) (makes (sideAt k H) n)
+  where
+    go : (t u : Bool) →
+        (pick t (pick u (spot k (waiting H k n) 1) (begins W H (suc l) (suc k) (suc n))) (spot (suc k) n (c + 1)) .level ≤ suc l)
+        × (pick t (pick u (spot k (waiting H k n) 1) (begins W H (suc l) (suc k) (suc n))) (spot (suc k) n (c + 1)) .band ≤ 4)
+    go true true = (omega arith, omega arith)
+    go true false = begins-le W H l k (suc n) h
+    go false u = (omega arith, omega arith)
 
 module _ (W H : Side) (l : ℕ) where
   -- what is known of a row fed: it is a row of the plane, its run has its length and is in range
@@ -99,18 +118,21 @@ module _ (W H : Side) (l : ℕ) where
   pub record Agrees (P : Rows) (d : ℕ) (p : Place) (e : Bool) (x : ℕ → ℤ) (ds : List (ℕ → ℤ)) : Type 0 where
     pub fit : (r c : ℕ) → r < d → c < W .length → valueFits fiveThreeFilter 0 (partAt W H P (suc l) 0 r c) ≡ true
     pub shows : (r c : ℕ) → r < d → c < W .length → getD ds r (λ _. pos 0) c ≡ partAt W H P (suc l) 0 r c
-    pub has : (r : ℕ) → r < d → (k : ℕ) → Live W H l P k → (m : ℕ) → m ≤ setAt H r k → SetHas 1 (sideAt k W) (sideAt k H) (bandsAt W H P (suc l) k) m
-    pub holds : e ≡ false → d < H .length → HeldAt W H l P d p x
+    pub has : (r : ℕ) → r < d → (k : ℕ) → Live W H l P k → (m : ℕ) → m ≤ needed H 0 r (suc k)
+        → SetHas ahead (sideAt k W) (sideAt k H) (bandsAt W H P (suc l) k) m
+    pub holds : e ≡ false → d < H .length → HeldAt W H l P (at W H l d p) x
     pub refuses : e ≡ true → Fits W H l P → ⊥
 
   pub record Kept (d : ℕ) (p : Place) (e : Bool) (x : ℕ → ℤ) (t : List Step) (fs : List FedRow) (ds : List (ℕ → ℤ)) : Type 0 where
     pub drawn-le : d ≤ H .length
     pub level-le : p .level ≤ suc l
     pub band-le : p .band ≤ 4
-    pub left : stepsLeft W H l d p ≡ t
+    pub back-le : p .back ≤ 2 * ahead - 1
+    pub ready : d < H .length → Ready W H (suc l) d (at W H l d p)
+    pub left : stepsLeft W H l d (at W H l d p) ≡ t
     pub drawn : length ds ≡ d
     pub good : All Good fs
-    pub names : e ≡ false → namesOf fs ++ bandRowsOf t ≡ bandRowsOf (steps 1 W H (suc l))
+    pub names : e ≡ false → namesOf fs ++ bandRowsOf t ≡ bandRowsOf (steps ahead W H (suc l))
     pub rows : (P : Rows) → All (HasFedRow W P) fs → Agrees P d p e x ds
 
   module _ (n : ℕ) (lim : Limits W H l n) where
@@ -129,7 +151,7 @@ module _ (W H : Side) (l : ℕ) where
       s = here W H l d p e
 
       viewed : View W H l d p t
-      viewed = subst (View W H l d p) (kept .left) (view W H l d p (kept .level-le))
+      viewed = subst (View W H l d p) (kept .left) (view W H l d p (kept .level-le) (kept .ready))
 
       -- nothing has changed
       stays : Reached (world d p e x) e t (fs ++ []) (ds ++ [])
@@ -149,11 +171,11 @@ module _ (W H : Side) (l : ℕ) where
         fed-away q z f = rw (z, f) (rw f stays)
 
         -- the row that is fed
-        module _ (k : ℕ) (u : Bool) (c : Band) (live : e ≡ false) (o : Due W H l d p k u c)
-            (head : t ≡ step.feed (nameOf W H l d k u c) ∷ stepsLeft W H l d (beyond W H (suc l) d k u (code c)))
+        module _ (k u : ℕ) (c : Band) (live : e ≡ false) (o : Due W H l d p k u c)
+            (head : t ≡ step.feed (nameOf W H l k u c) ∷ stepsLeft W H l d (beyond W H (suc l) k u (code c)))
             (long : a .size ≡ bandColumns W (suc k) c) (in-range : runFits (suc k) (a .size) (a .numbers) ≡ true) where
           abbrev f : FedRow
-          f = record { row = nameOf W H l d k u c; run = a }
+          f = record { row = nameOf W H l k u c; run = a }
 
           inside : k ≤ l
           inside = omega (arith, kept .level-le, o .below)
@@ -161,13 +183,13 @@ module _ (W H : Side) (l : ℕ) where
           good-f : Good f
           unfolding runFits
           good-f =
-              let ask = asked-has (eqb (suc k) (suc l)) (sideAt k W) (sideAt k H) (nowAt W H (suc l) d k u) c (o .asks) in
+              let ask = asked-has (eqb (suc k) (suc l)) (sideAt k W) (sideAt k H) u c (o .asks) in
               record {
                 k = k;
                 inside = inside;
                 level = refl;
                 kept = ask .0;
-                in-rows = has-row (sideAt k W) (sideAt k H) c (nowAt W H (suc l) d k u) (ask .1) .row;
+                in-rows = has-row (sideAt k W) (sideAt k H) c u (ask .1) .row;
                 size = long;
                 range-of =
                     λ i b. leb-true _ _ (every-each (a .size) _ in-range i b);
@@ -178,9 +200,9 @@ module _ (W H : Side) (l : ℕ) where
 
           -- what the feed comes to, for a grid that has the row too
           outcome-is : (P : Rows) → All (HasFedRow W P) (fs ++ (f ∷ [])) →
-              Outcome (Fits W H l P) (HeldAt W H l P d (beyond W H (suc l) d k u (code c))) (feeds s (a .numbers) x)
+              Outcome (Fits W H l P) (HeldAt W H l P (beyond W H (suc l) k u (code c))) (feeds s (a .numbers) x)
           outcome-is P has =
-              feeds-outcome W H l d p (o .due) (kept .level-le) P x (kept .rows P (all-left fs (f ∷ []) has) .holds live (o .due)) e k u c o
+              feeds-outcome W H l d p (kept .level-le) (kept .ready (o .due)) P x (kept .rows P (all-left fs (f ∷ []) has) .holds live (o .due)) e k u c o
               (a .numbers) (all-last fs f has)
 
           -- 14
@@ -192,6 +214,8 @@ module _ (W H : Side) (l : ℕ) where
             drawn-le = kept .drawn-le;
             level-le = kept .level-le;
             band-le = kept .band-le;
+            back-le = kept .back-le;
+            ready = kept .ready;
             left = kept .left;
             drawn = kept .drawn;
             good = good-all;
@@ -213,29 +237,30 @@ module _ (W H : Side) (l : ℕ) where
               (reached d p true zeros t (fs ++ (f ∷ [])) ds (ended-kept z₁)))
 
           -- it goes on
-          abbrev to : Place
-          to = beyond W H (suc l) d k u (code c)
+          abbrev to : Spot
+          to = beyond W H (suc l) k u (code c)
 
-          beyond-le : (to .level ≤ suc l) × (to .band ≤ 4)
-          unfolding beyond past
-          beyond-le = go (lastOfSet W H (suc l) d k (nowAt W H (suc l) d k u) (code c)) u
-            where
-              into : Place
-              into = dive (suc l - suc k) (suc k) (sideAt (suc k) W) (sideAt (suc k) H) (rowAt H d (suc k))
+          abbrev stored : Place
+          stored = placeOf H d to
 
-              go : (v w : Bool) → (pick v (pick w into (place k false 1)) (place (suc k) u (code c + 1)) .level ≤ suc l)
-                  × (pick v (pick w into (place k false 1)) (place (suc k) u (code c + 1)) .band ≤ 4)
-              go true true = dive-le l (suc l - suc k) (suc k) _ _ _ (omega (arith, inside))
-              go true false = (omega (arith, inside), omega arith)
-              go false w = (omega (arith, inside), omega (arith, code-lt c))
+          ready-to : Ready W H (suc l) d to
+          ready-to = ready-beyond W H l d k u (code c) inside (o .ready)
 
-          on-kept : (y : ℕ → ℤ) → feeds s (a .numbers) x ≡ passed y → Kept d to false y (stepsLeft W H l d to) (fs ++ (f ∷ [])) ds
+          same-spot : at W H l d stored ≡ to
+          same-spot = ready-back W H (suc l) d to (o .due) ready-to .0
+
+          in-range-to : (to .level ≤ suc l) × (to .band ≤ 4)
+          in-range-to = beyond-le W H l k u (code c) inside (code-lt c)
+
+          on-kept : (y : ℕ → ℤ) → feeds s (a .numbers) x ≡ passed y → Kept d stored false y (stepsLeft W H l d to) (fs ++ (f ∷ [])) ds
           unfolding bandRowsOf
           on-kept y z₁ = record {
             drawn-le = kept .drawn-le;
-            level-le = beyond-le .0;
-            band-le = beyond-le .1;
-            left = refl;
+            level-le = in-range-to .0;
+            band-le = in-range-to .1;
+            back-le = ready-back W H (suc l) d to (o .due) ready-to .1;
+            ready = λ _. subst (Ready W H (suc l) d) (sym same-spot) ready-to;
+            left = ap (stepsLeft W H l d) same-spot;
             drawn = kept .drawn;
             good = good-all;
             names = λ _. rename ∙ kept .names live;
@@ -245,7 +270,8 @@ module _ (W H : Side) (l : ℕ) where
                   fit = old .fit;
                   shows = old .shows;
                   has = old .has;
-                  holds = λ _ _. outcome-passed y (subst (Outcome (Fits W H l P) _) z₁ (outcome-is P has));
+                  holds = λ _ _. subst (λ r. HeldAt W H l P r y) (sym same-spot)
+                      (outcome-passed y (subst (Outcome (Fits W H l P) _) z₁ (outcome-is P has)));
                   refuses = λ z. absurd (false≢true z);
                 };
           }
@@ -255,15 +281,16 @@ module _ (W H : Side) (l : ℕ) where
                   ∙ ap (λ u. namesOf fs ++ bandRowsOf u) (sym head)
 
           fed-goes : (y : ℕ → ℤ) → feeds s (a .numbers) x ≡ passed y → FedTo 0
-          unfolding feedReply feedStore storeAfter ends leftBy goesOn fedBy drawnBy fedReader state.next placeFed
+          unfolding feedReply feedStore storeAfter ends leftBy goesOn fedBy drawnBy fedReader state.next spotFed
           fed-goes y z₁ =
               rw (append-nil ds, z₁, o .is, head, live) (unfold memory in
-              reached d to false y (stepsLeft W H l d to) (fs ++ (f ∷ [])) ds (on-kept y z₁))
+              reached d stored false y (stepsLeft W H l d to) (fs ++ (f ∷ [])) ds (on-kept y z₁))
 
         feed-reached : FedTo (feedQuestion s n x (a .size) (a .numbers))
-        feed-reached = go (feed-view W H l n lim d p (kept .drawn-le) (kept .level-le) (kept .band-le) e t x a viewed)
+        feed-reached = go (feed-view W H l n lim d p (kept .drawn-le) (kept .level-le) (kept .band-le) (kept .back-le) e t x a viewed)
           where
-            go : FeedView W H l n lim d p (kept .drawn-le) (kept .level-le) (kept .band-le) e t x a → FedTo (feedQuestion s n x (a .size) (a .numbers))
+            go : FeedView W H l n lim d p (kept .drawn-le) (kept .level-le) (kept .band-le) (kept .back-le) e t x a
+                → FedTo (feedQuestion s n x (a .size) (a .numbers))
             go (feed-away q _ z f at) = subst FedTo (sym at) (fed-away q z f)
             go (feed-onward k u c live o head long in-range _ at) = subst FedTo (sym at) (tried (feeds s (a .numbers) x) refl)
               where
@@ -288,10 +315,10 @@ module _ (W H : Side) (l : ℕ) where
         unfolding drawReply drawStore storeAfter ends leftBy goesOn fedBy drawnBy
         drawn-idle z = rw z stays
 
-        module _ (live : e ≡ false) (due : d < H .length) (at-height : nextOf W H l d p ≡ place 0 false 4)
+        module _ (live : e ≡ false) (due : d < H .length) (at-height : nextOf W H l d p ≡ spot 0 0 4)
             (head : t ≡ step.draw d ∷ stepsLeft W H l (suc d) (enter W H (suc l) (suc d))) (to-draw : drawDue s ≡ true) where
-          settles-is : (P : Rows) → All (HasFedRow W P) fs → Outcome (Fits W H l P) (Held W H l P d 0 false 4) (settles s x)
-          settles-is P has = settles-outcome W H l d p due (kept .level-le) P x (kept .rows P has .holds live due) e (place 0 false 4) at-height
+          settles-is : (P : Rows) → All (HasFedRow W P) fs → Outcome (Fits W H l P) (Held W H l P 0 d 4) (settles s x)
+          settles-is P has = settles-outcome W H l d p (kept .level-le) (kept .ready due) P x (kept .rows P has .holds live due) e (spot 0 0 4) at-height
 
           -- 14
           abbrev zeros-drawn : ℕ → ℤ
@@ -302,6 +329,8 @@ module _ (W H : Side) (l : ℕ) where
             drawn-le = kept .drawn-le;
             level-le = kept .level-le;
             band-le = kept .band-le;
+            back-le = kept .back-le;
+            ready = kept .ready;
             left = kept .left;
             drawn = kept .drawn;
             good = kept .good;
@@ -326,10 +355,26 @@ module _ (W H : Side) (l : ℕ) where
             abbrev out : ℕ → ℤ
             out = fronted (W .length) (heightRow s y) (a .numbers)
 
-            abbrev into : Place
+            abbrev into : Spot
             into = enter W H (suc l) (suc d)
 
-            out-is : (P : Rows) → Held W H l P d 0 false 4 y → (c : ℕ) → c < W .length → out c ≡ partAt W H P (suc l) 0 d c
+            abbrev kept-as : Place
+            kept-as = placeOf H (suc d) into
+
+            -- where a row is left, the place is that of its beginning; where none is, nothing is left
+            back-small : kept-as .back ≤ 2 * ahead - 1
+            back-small = elim (decLt (suc d) (H .length)) [
+              | yes more ↦ ready-back W H (suc l) (suc d) into more (ready-enter W H l (suc d) more) .1
+              | no end ↦ omega (arith, enter-end W H (suc l) (suc d) (omega arith) (omega (arith, end)))
+            ]
+
+            same-left : stepsLeft W H l (suc d) (at W H l (suc d) kept-as) ≡ stepsLeft W H l (suc d) into
+            same-left = elim (decLt (suc d) (H .length)) [
+              | yes more ↦ ap (stepsLeft W H l (suc d)) (ready-back W H (suc l) (suc d) into more (ready-enter W H l (suc d) more) .0)
+              | no end ↦ left-done W H l (suc d) _ (omega (arith, end)) ∙ sym (left-done W H l (suc d) _ (omega (arith, end)))
+            ]
+
+            out-is : (P : Rows) → Held W H l P 0 d 4 y → (c : ℕ) → c < W .length → out c ≡ partAt W H P (suc l) 0 d c
             out-is P h = row-out W H l d p e due wide P y h (a .numbers)
 
             -- the rows drawn before, and it
@@ -342,22 +387,21 @@ module _ (W H : Side) (l : ℕ) where
               | no z ↦ ap (λ u. u c) (List·getD-append ds (out ∷ []) (λ _. pos 0) r (omega (arith, kept .drawn, z))) ∙ old r c (omega (arith, z)) q
             ]
 
-            enter-le : (into .level ≤ suc l) × (into .band ≤ 4)
-            unfolding enter
-            enter-le = dive-le l (suc l) 0 W H (suc d) (omega arith)
-
-            given-kept : Kept (suc d) into false y (stepsLeft W H l (suc d) into) fs (ds ++ (out ∷ []))
+            given-kept : Kept (suc d) kept-as false y (stepsLeft W H l (suc d) into) fs (ds ++ (out ∷ []))
             given-kept = record {
               drawn-le = due;
-              level-le = enter-le .0;
-              band-le = enter-le .1;
-              left = refl;
+              level-le = enter-le W H l (suc d) .0;
+              band-le = enter-le W H l (suc d) .1;
+              back-le = back-small;
+              ready = λ more. subst (Ready W H (suc l) (suc d)) (sym (ready-back W H (suc l) (suc d) into more (ready-enter W H l (suc d) more) .0))
+                  (ready-enter W H l (suc d) more);
+              left = same-left;
               drawn = length-append ds (out ∷ []) ∙ omega (arith, kept .drawn);
               good = kept .good;
               names = λ _. names-same ∙ kept .names live;
               rows = λ P has.
                   let old = kept .rows P has in
-                  let h : Held W H l P d 0 false 4 y = outcome-passed y (subst (Outcome (Fits W H l P) _) made (settles-is P has)) in
+                  let h : Held W H l P 0 d 4 y = outcome-passed y (subst (Outcome (Fits W H l P) _) made (settles-is P has)) in
                   record {
                     fit = λ r c b q. elim (ℕ-discrete r d) [
                       | yes z ↦ rw z (height-fit W H l P d y due wide h c q)
@@ -365,10 +409,11 @@ module _ (W H : Side) (l : ℕ) where
                     ];
                     shows = row-at (partAt W H P (suc l) 0) (out-is P h) (old .shows);
                     has = λ r b k live m q. elim (ℕ-discrete r d) [
-                      | yes z ↦ sets-tested W H l P d 4 y h k live m (subst (λ i. m ≤ setAt H i k) z q)
+                      | yes z ↦ sets-tested W H l P d 4 y h k live m (subst (λ i. m ≤ needed H 0 i (suc k)) z q)
                       | no z ↦ old .has r (omega (arith, z)) k live m q
                     ];
-                    holds = λ _ more. enter-holds W H l P d more y h;
+                    holds = λ _ more. subst (λ r. HeldAt W H l P r y)
+                        (sym (ready-back W H (suc l) (suc d) into more (ready-enter W H l (suc d) more) .0)) (enter-holds W H l P d 4 y h);
                     refuses = λ z. absurd (false≢true z);
                   };
             }
@@ -379,12 +424,12 @@ module _ (W H : Side) (l : ℕ) where
             drawn-goes : DrawnTo 0
             unfolding drawReply drawStore storeAfter drawArea ends leftBy goesOn fedBy drawnBy drawnReader memory heightRow
             drawn-goes = rw (to-draw, made, head, live, append-nil fs)
-                (reached (suc d) into false y (stepsLeft W H l (suc d) into) fs (ds ++ (out ∷ [])) given-kept)
+                (reached (suc d) kept-as false y (stepsLeft W H l (suc d) into) fs (ds ++ (out ∷ [])) given-kept)
 
         draw-reached : DrawnTo (drawQuestion s n x (a .size))
-        draw-reached = go (draw-view W H l n lim d p (kept .drawn-le) (kept .level-le) (kept .band-le) e t x a viewed)
+        draw-reached = go (draw-view W H l n lim d p (kept .drawn-le) (kept .level-le) (kept .band-le) (kept .back-le) e t x a viewed)
           where
-            go : DrawView W H l n lim d p (kept .drawn-le) (kept .level-le) (kept .band-le) e t x a → DrawnTo (drawQuestion s n x (a .size))
+            go : DrawView W H l n lim d p (kept .drawn-le) (kept .level-le) (kept .band-le) (kept .back-le) e t x a → DrawnTo (drawQuestion s n x (a .size))
             go (draw-away q z f _ at) = subst DrawnTo (sym at) (drawn-away q z f)
             go (draw-idle live z _ at) = subst DrawnTo (sym at) (drawn-idle z)
             go (draw-onward live due at-height head to-draw _ at) = subst DrawnTo (sym at) (tried (settles s x) refl)

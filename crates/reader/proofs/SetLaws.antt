@@ -1,60 +1,84 @@
 -- The laws of sets as the code finds them, and of a band by its code. Assumes nothing.
-use mathlib.Core.Path.{_≡_, refl, sym, ap, subst, _∙_}
+use mathlib.Core.Path.{_≡_, refl, sym, ap, ap₂, subst, _∙_}
 use mathlib.Core.Bool.{Bool, true, false, _||_}
-use Prim.Native.Nat.{ℕ, zero, suc, _+_, _-_, _*_, _/_, _%_, _≤_, _<_}
-use native.Mathlib.Decide.{ℕ-discrete}
+use Prim.Native.Nat.{ℕ, zero, suc, _+_, _-_, _*_, _/_, _%_, min, _≤_, _<_, _^_}
 use native.Mathlib.Omega.{arith}
 use lib.Dec.{T, ltb, eqb}
-use borrow.Author.Tests.{lt-ltb, le-ltb, eq-eqb, ne-eqb, eqb-true, eqb-false}
+use borrow.Author.Tests.{eqb-true, eqb-false}
 use Rattle.numbers.specs.Signal.{both}
 use Rattle.lifting.specs.Line.{lo, hi}
 use Rattle.lifting.specs.Grid.{Side, count}
 use Rattle.wavelet.specs.Bands.{across, down}
-use Rattle.wavelet.specs.Order.{firstSet, setRow}
-use Rattle.wavelet.specs.Steps.{setOf, setsBefore}
+use Rattle.wavelet.specs.Order.{firstSet, lastSet, setRow}
+use Rattle.wavelet.specs.Steps.{setTo, setOf, setsBefore}
+use Rattle.wavelet.proofs.StepLaws.{to-first, to-later, set-of, before-suc}
 use Rattle.level.specs.Sets.{opens}
 use Rattle.level.specs.Slots.{rowOfSet, halfPlace}
-use Rattle.level.proofs.OpenedSets.{opens-first}
-use Rattle.reader.specs.Sets.{needsTwo}
+use Rattle.reader.specs.Sets.{ahead, firstRow}
 use Rattle.reader.specs.Asked.{named}
 use Rattle.reader.specs.Store.{hasCells}
-use Rattle.reader.proofs.OpenedSets.{set-is}
 use Rattle.reader.proofs.CellLaws.{Empty, wide, high, empty-not, cells-yes}
 
+-- ---- the set of a row, as the code finds it
+pub ahead-small : ahead ≤ 2 ^ 16
+unfolding ahead
+ahead-small = omega arith
+
+pub set-first : (S : Side) (r : ℕ) → S .start % 2 + r ≡ 0 → 0 ≡ setOf ahead S r
+set-first S r e =
+    let f : setTo ahead (S .start % 2 + r) ≡ 0 = ap (setTo ahead) e ∙ to-first ahead in
+    omega (arith, set-of ahead S r, f)
+
+pub set-later : (S : Side) (r a b : ℕ) → 0 < S .start % 2 + r → a ≡ (S .start % 2 + r - 1) / 2 + ahead → b ≡ lastSet S → min a b ≡ setOf ahead S r
+set-later S r a b p ea eb =
+    let f : setTo ahead (S .start % 2 + r) ≡ (S .start % 2 + r - 1) / 2 + ahead =
+    ap (setTo ahead) (omega arith) ∙ to-later ahead (S .start % 2 + r - 1) in
+    omega (arith, set-of ahead S r, f)
+
+pub before-later : (S : Side) (r n : ℕ) → 0 < r → n ≡ setOf ahead S (r - 1) → n + 1 ≡ setsBefore ahead S r
+before-later S zero n p e = absurd (omega arith)
+before-later S (suc r) n p e = let z : suc r - 1 ≡ r = omega arith in ap (λ i. i + 1) (e ∙ ap (setOf ahead S) z) ∙ sym (before-suc ahead S r)
+
 -- ---- whether a row needs a set that no row before it needs
-module _ (S : Side) (r n : ℕ) (set : n ≡ setOf 1 S r) where
-  opens-odd : (q : ℕ) → r ≡ suc q → r + S .start % 2 + 1 ≡ 2 * n → setOf 1 S q + 1 < setOf 1 S (suc q) + 1
-  opens-odd q e o = omega (arith, set-is S q, set-is S r, ap (setOf 1 S) e)
+pub down-none : (W H : Side) (r : ℕ) → Empty W H → false ≡ both (hasCells W H) (opens ahead H r)
+down-none W H r e = sym (ap (λ (t : Bool). both t (opens ahead H r)) (empty-not W H e))
 
-  opens-not : (q : ℕ) → r ≡ suc q → (r + S .start % 2 + 1 ≡ 2 * n → ⊥) → setOf 1 S (suc q) + 1 ≤ setOf 1 S q + 1
-  opens-not q e o = omega (arith, o, set-is S q, set-is S r, ap (setOf 1 S) e)
+pub down-some : (W H : Side) (r n m : ℕ) → 0 < W .length → 0 < H .length → n ≡ setsBefore ahead H r → m ≡ setOf ahead H r →
+    ltb n (m + 1) ≡ both (hasCells W H) (opens ahead H r)
+unfolding opens
+down-some W H r n m w h en em =
+    let z : m + 1 ≡ setsBefore ahead H (suc r) = ap (λ i. i + 1) em ∙ sym (before-suc ahead H r) in
+    ap₂ ltb en z ∙ sym (ap (λ (t : Bool). both t (ltb (setsBefore ahead H r) (setsBefore ahead H (suc r)))) (cells-yes W H w h))
 
-pub opens-later : (S : Side) (r n : ℕ) → n ≡ setOf 1 S r → (r ≡ 0 → ⊥) → eqb (r + S .start % 2 + 1) (2 * n) ≡ opens 1 S r
-unfolding opens setsBefore
-opens-later S zero n set some = absurd (some refl)
-opens-later S (suc q) n set some = elim (ℕ-discrete (suc q + S .start % 2 + 1) (2 * n)) [
-  | yes e ↦ eq-eqb (suc q + S .start % 2 + 1) (2 * n) e ∙ sym (lt-ltb (setOf 1 S q + 1) (setOf 1 S (suc q) + 1) (opens-odd S (suc q) n set q refl e))
-  | no e ↦ ne-eqb (suc q + S .start % 2 + 1) (2 * n) e ∙ sym (le-ltb (setOf 1 S q + 1) (setOf 1 S (suc q) + 1) (opens-not S (suc q) n set q refl e))
-]
+-- ---- the first row that needs a set
+pub row-none : (S : Side) (n : ℕ) → S .length ≡ 0 → 0 ≡ firstRow S n
+unfolding firstRow
+row-none S zero e = refl
+row-none S (suc n) e = omega arith
 
-pub down-none : (W H : Side) (r : ℕ) → Empty W H → false ≡ both (hasCells W H) (opens 1 H r)
-down-none W H r e = sym (ap (λ (t : Bool). both t (opens 1 H r)) (empty-not W H e))
+pub row-some : (S : Side) (n t r : ℕ) → 0 < n → t ≡ n - ahead → r ≡ 2 * t + 1 - S .start % 2 → min r (S .length - 1) ≡ firstRow S n
+unfolding firstRow
+row-some S zero t r p et er = absurd (omega arith)
+row-some S (suc n) t r p et er = omega (arith, et, er)
 
-pub down-first : (W H : Side) (r : ℕ) → 0 < W .length → 0 < H .length → r ≡ 0 → true ≡ both (hasCells W H) (opens 1 H r)
-down-first W H r w h e = sym (rw (cells-yes W H w h, e) (opens-first 1 H))
+pub row-either : (S : Side) (n : ℕ) → eqb n 0 || eqb (S .length) 0 ≡ true → 0 ≡ firstRow S n
+row-either S n e = go (eqb n 0) refl (eqb (S .length) 0) refl e
+  where
+    go : (a : Bool) → eqb n 0 ≡ a → (b : Bool) → eqb (S .length) 0 ≡ b → a || b ≡ true → 0 ≡ firstRow S n
+    go true p b q z = let y : n ≡ 0 = eqb-true n 0 p in rw y (unfold firstRow in refl)
+    go false p true q z = row-none S n (eqb-true (S .length) 0 q)
+    go false p false q z = absurd (subst T (sym z) tt)
 
-pub down-later : (W H : Side) (r n : ℕ) → 0 < W .length → 0 < H .length → n ≡ setOf 1 H r → (r ≡ 0 → ⊥) →
-    eqb (r + H .start % 2 + 1) (2 * n) ≡ both (hasCells W H) (opens 1 H r)
-down-later W H r n w h set some = opens-later H r n set some ∙ sym (ap (λ (t : Bool). both t (opens 1 H r)) (cells-yes W H w h))
+pub row-high : (S : Side) (n : ℕ) → eqb n 0 || eqb (S .length) 0 ≡ false → (0 < n) × (0 < S .length)
+row-high S n e = go (eqb n 0) refl (eqb (S .length) 0) refl e
+  where
+    positive : (n : ℕ) → (n ≡ 0 → ⊥) → 0 < n
+    positive n f = omega (arith, f)
 
--- ---- whether it needs two
-pub two-first : (S : Side) (r n : ℕ) → n ≡ setOf 1 S r → r ≡ 0 → ltb 0 n ≡ needsTwo S r
-unfolding needsTwo
-two-first S r n set e = rw (← set, eq-eqb r 0 e) refl
-
-pub two-not : (S : Side) (r : ℕ) → (r ≡ 0 → ⊥) → false ≡ needsTwo S r
-unfolding needsTwo
-two-not S r e = rw (ne-eqb r 0 e) refl
+    go : (a : Bool) → eqb n 0 ≡ a → (b : Bool) → eqb (S .length) 0 ≡ b → a || b ≡ false → (0 < n) × (0 < S .length)
+    go true p b q z = absurd (subst T z tt)
+    go false p true q z = absurd (subst T z tt)
+    go false p false q z = (positive n (eqb-false n 0 p), positive (S .length) (eqb-false (S .length) 0 q))
 
 -- ---- a band by its code
 pub across-even : (W : Side) (c : ℕ) → c < 4 → c % 2 ≡ 0 → count (across (named c)) W ≡ count lo W
@@ -80,12 +104,12 @@ row-low H zero n lt = refl
 row-low H (suc zero) n lt = refl
 row-low H (suc (suc c)) n lt = absurd (omega arith)
 
-pub row-high : (H : Side) (c n : ℕ) → 2 ≤ c → setRow H (named c) n ≡ n
+pub row-hi : (H : Side) (c n : ℕ) → 2 ≤ c → setRow H (named c) n ≡ n
 unfolding setRow named down firstSet
-row-high H zero n le = absurd (omega arith)
-row-high H (suc zero) n le = absurd (omega arith)
-row-high H (suc (suc zero)) n le = omega arith
-row-high H (suc (suc (suc c))) n le = omega arith
+row-hi H zero n le = absurd (omega arith)
+row-hi H (suc zero) n le = absurd (omega arith)
+row-hi H (suc (suc zero)) n le = omega arith
+row-hi H (suc (suc (suc c))) n le = omega arith
 
 -- the row of a set, and the half of it, that a band's row goes to
 pub set-row : (n c : ℕ) → c < 4 → 2 * n + c / 2 ≡ rowOfSet (down (named c)) n

@@ -1,83 +1,84 @@
 -- The steps of a reader: the row wanted, a row fed, the place after it. Assumes nothing.
 use mathlib.Core.Bool.{Bool, true, false}
-use mathlib.Core.Path.{_≡_, refl, sym, ap, _∙_}
-use Prim.Native.Nat.{ℕ, zero, suc, _-_, _≤_, _<_, _^_}
+use mathlib.Core.Path.{_≡_, refl, sym, ap, subst, _∙_}
+use Prim.Native.Nat.{ℕ, zero, suc, _+_, _-_, _≤_, _<_, _^_}
 use native.Mathlib.Omega.{arith}
 use lib.IntN.{ℤ}
-use lib.Dec.{ltb}
+use lib.Dec.{leb, ltb}
 use borrow.Author.Tests.{ltb-true}
-use Rattle.numbers.specs.Signal.{pick, both}
-use Rattle.numbers.proofs.Sweep.{both as halves}
+use Rattle.numbers.specs.Signal.{pick}
 use Rattle.lifting.specs.Grid.{Side, side, count}
 use Rattle.wavelet.specs.Bands.{across}
 use Rattle.wavelet.specs.Levels.{sideAt}
 use Rattle.wavelet.specs.Levels as levels
-use Rattle.wavelet.specs.Order.{setRow}
+use Rattle.lifting.specs.Line.{lo}
+use Rattle.wavelet.specs.Order.{firstSet, setRow}
 use Rattle.wavelet.specs.View.{bandColumns}
 use Rattle.reader.specs.declared.Reader.{Reader}
 use Rattle.reader.specs.declared.walk.Level.{Level}
 use Rattle.reader.specs.declared.walk.Spot.{Spot}
-use Rattle.reader.specs.declared.walk.Next.{Next}
-use Rattle.reader.specs.Sets.{rowBelow, needsTwo, rowAt, setAt}
+use Rattle.reader.specs.Sets.{hasRow, rowOf, taking, firstRow, makes, waiting}
 use Rattle.reader.specs.Asked.{named}
 use Rattle.level.specs.Tried.{failed, passed}
 use Rattle.reader.specs.Store.{fedAt}
-use Rattle.reader.specs.Machine.{Place, place, bandAt, aloneAt, nowAt, nextUp, nextAt, settled, finished, past, beyond, dive, fedOn, placeFed}
-use Rattle.reader.specs.State.{columns, rows, next, nextRow, nextLength, settles, feeds}
+use Rattle.reader.specs.Machine.{spot, placeOf, bandAt, nextUp, settled, lastOfSet, finished, past, beyond, dive, begins, fedOn, spotFed}
+use Rattle.reader.specs.Machine as machine
+use Rattle.reader.specs.State.{columns, rows, spotNow, next, nextRow, nextLength, settles, feeds}
+use Rattle.reader.specs.declared.walk.Next.{Next}
 use Rattle.reader.specs.Inside.{Counts, IsLevel, Is, IsNext}
 use Rattle.wavelet.proofs.SideLaws.{size-le}
-use Rattle.reader.proofs.StepsLeft.{not-alone}
 use Rattle.reader.proofs.QuestionLaws.{counts-small}
 use Rattle.level.proofs.WorkLaws.{bind-failed, bind-passed}
-use Rattle.reader.proofs.OpenedSets.{two-is, rowAt-next, below-zero}
+use Rattle.reader.proofs.EnterLaws.{dive-level}
 use Rattle.reader.proofs.PartLaws.{level-wide, level-high}
 
-pub place-of : (q : Place) (p : Spot) → Is q p → place (p .level) (p .alone) (p .band) ≡ q
-place-of q p is = rw (is .level, is .alone, is .band)
+pub spot-of : (q : machine.Spot) (p : Spot) → Is q p → spot (p .level) (p .set) (p .band) ≡ q
+spot-of q p is = rw (is .level, is .set, is .band)
 
--- ---- the row wanted is of a level walked to, and of a band; a high row alone is of a row that needs two sets
-pub record Near (W H : Side) (d k : ℕ) (p : Place) : Type 0 where
+-- ---- the row wanted is of a level walked to, and of a band
+pub record Near (k : ℕ) (p : machine.Spot) : Type 0 where
   pub within : p .level ≤ k
   pub named : 0 < p .level → p .band < 4
-  pub two : p .alone ≡ true → needsTwo (sideAt (p .level - 1) H) (rowAt H d (p .level - 1)) ≡ true
 
-differ : {A : Type 0} → false ≡ true → A
-differ z = let p : _≡_ {A = ℕ} 0 1 = ap (λ (t : Bool). pick t 1 0) z in absurd (omega arith)
-
-up-in : (W H : Side) (L d k b : ℕ) → Near W H d k (nextUp W H L d k b)
+up-in : (W H : Side) (L k n b : ℕ) → Near k (nextUp W H L k n b)
 unfolding nextUp
-up-in W H L d zero b = record { within = omega arith; named = λ h. absurd (omega arith); two = differ }
-up-in W H L d (suc k) b = go (ltb (bandAt W H L d k (setAt H d k) b) 4) refl (up-in W H L d k 1)
+up-in W H L zero n b = record { within = omega arith; named = λ h. absurd (omega arith) }
+up-in W H L (suc k) n b = go (ltb (bandAt W H L k n b) 4) refl (up-in W H L k (waiting H k n) 1)
   where
-    go : (t : Bool) → ltb (bandAt W H L d k (setAt H d k) b) 4 ≡ t → Near W H d k (nextUp W H L d k 1) →
-        Near W H d (suc k) (pick t (place (suc k) false (bandAt W H L d k (setAt H d k) b)) (nextUp W H L d k 1))
-    go true e n = record { within = omega arith; named = λ h. ltb-true _ _ e; two = differ }
-    go false e n = record { within = omega (arith, n .within); named = n .named; two = n .two }
-
-pub next-in : (W H : Side) (L d k : ℕ) (a : Bool) (b : ℕ) → Near W H d k (nextAt W H L d k a b)
-unfolding nextAt
-next-in W H L d k a b = go k (aloneAt W H L d k a b) refl
-  where
-    go : (k : ℕ) (t : Bool) → aloneAt W H L d k a b ≡ t → Near W H d k (pick t (place k true (bandAt W H L d (k - 1) 0 b)) (nextUp W H L d k b))
-    go k false e = up-in W H L d k b
-    go zero true e = let z : false ≡ true = unfold aloneAt in e in differ z
-    go (suc k) true e =
-        let z : suc k - 1 ≡ k = omega arith in
-        let u : both a (both (needsTwo (sideAt k H) (rowAt H d k)) (ltb (bandAt W H L d k 0 b) 4)) ≡ true = unfold aloneAt in e in
-        let v = halves (needsTwo (sideAt k H) (rowAt H d k)) _ (halves a _ u .1) in
-        rw z (record { within = omega arith; named = λ h. ltb-true _ _ (v .1); two = λ _. rw z (v .0) })
+    go : (t : Bool) → ltb (bandAt W H L k n b) 4 ≡ t → Near k (nextUp W H L k (waiting H k n) 1) →
+        Near (suc k) (pick t (spot (suc k) n (bandAt W H L k n b)) (nextUp W H L k (waiting H k n) 1))
+    go true e n = record { within = omega arith; named = λ h. ltb-true _ _ e }
+    go false e n = record { within = omega (arith, n .within); named = n .named }
 
 module _ (s : Reader) where
-  pub near : Near (columns s) (rows s) (s .drawn) (s .level) (next s)
+  pub near : Near (s .level) (next s)
   unfolding next
-  near = next-in _ _ _ _ (s .level) (s .alone) (s .band)
+  near = up-in _ _ _ (s .level) (spotNow s .set) (s .band)
 
-  pub settles-all : next s .level ≡ 0 → (x : ℕ → ℤ) → settled (columns s) (rows s) (s .levels) (s .drawn) 0 (s .level) x ≡ settles s x
+  pub settles-all : next s .level ≡ 0 → (n : ℕ) → n ≡ spotNow s .set → (x : ℕ → ℤ) →
+      settled (columns s) (rows s) (s .levels) 0 (s .level) n x ≡ settles s x
   unfolding settles
-  settles-all e x = rw e
+  settles-all e n f x = rw (e, f)
 
   pub next-draw : s .level ≡ 0 → next s .level ≡ 0
   next-draw e = omega (arith, near .within)
+
+  pub next-none : s .level ≡ 0 → spot 0 0 4 ≡ next s
+  unfolding next
+  next-none e = go (s .level) e
+    where
+      go : (k : ℕ) → k ≡ 0 → spot 0 0 4 ≡ nextUp (columns s) (rows s) (s .levels) k (spotNow s .set) (s .band)
+      go zero e = unfold nextUp in refl
+      go (suc k) e = absurd (omega arith)
+
+  pub next-own : (n : ℕ) → n ≡ spotNow s .set → nextUp (columns s) (rows s) (s .levels) (s .level) n (s .band) ≡ next s
+  unfolding next
+  next-own n e = ap (λ (i : ℕ). nextUp (columns s) (rows s) (s .levels) (s .level) i (s .band)) e
+
+  pub next-at : (n : ℕ) (q : Next) → n ≡ spotNow s .set →
+      IsNext (columns s) (rows s) (s .drawn) (nextUp (columns s) (rows s) (s .levels) (s .level) n (s .band)) q
+      → IsNext (columns s) (rows s) (s .drawn) (next s) q
+  next-at n q e is = subst (λ (p : machine.Spot). IsNext (columns s) (rows s) (s .drawn) p q) (next-own n e) is
 
   module _ (p : Spot) (is : Is (next s) p) where
     pub spot-in : 0 < p .level → (p .level ≤ s .level) × (p .band < 4) × (0 < next s .level)
@@ -87,140 +88,115 @@ module _ (s : Reader) where
         let b = is .band in
         (omega (arith, n .within), omega (arith, n .named (omega arith)), omega arith)
 
-    pub length-is : (l : Level) (n : ℕ) → IsLevel (columns s) (rows s) (p .level - 1) l → n ≡ count (across (named (p .band))) (side (l .x) (l .width)) →
-        n ≡ nextLength s
+    pub length-is : (l : Level) (n : ℕ) → IsLevel (columns s) (rows s) (s .drawn) (p .level - 1) l →
+        n ≡ count (across (named (p .band))) (side (l .x) (l .width)) → n ≡ nextLength s
     unfolding nextLength bandColumns
-    length-is l n at e = cc (e, level-wide (columns s) (rows s) (p .level - 1) l at, is .level, is .band)
+    length-is l n at e = cc (e, level-wide (columns s) (rows s) (s .drawn) (p .level - 1) l at, is .level, is .band)
 
-    pub number-is : (l : Level) (r : ℕ) → IsLevel (columns s) (rows s) (p .level - 1) l →
-        l .set ≡ nowAt (columns s) (rows s) (s .levels) (s .drawn) (p .level - 1) (p .alone) →
+    pub number-is : (l : Level) (r : ℕ) → IsLevel (columns s) (rows s) (s .drawn) (p .level - 1) l → l .set ≡ p .set →
         r ≡ setRow (side (l .y) (l .height)) (named (p .band)) (l .set) → r ≡ nextRow s
     unfolding nextRow
-    number-is l r at set e = cc (e, level-high (columns s) (rows s) (p .level - 1) l at, set, is .level, is .band, is .alone)
+    number-is l r at set e = cc (e, level-high (columns s) (rows s) (s .drawn) (p .level - 1) l at, set, is .level, is .band, is .set)
 
-    pub settles-is : (x : ℕ → ℤ) → settled (columns s) (rows s) (s .levels) (s .drawn) (p .level) (s .level) x ≡ settles s x
+    pub settles-is : (n : ℕ) → n ≡ spotNow s .set → (x : ℕ → ℤ) → settled (columns s) (rows s) (s .levels) (p .level) (s .level) n x ≡ settles s x
     unfolding settles
-    settles-is x = rw (is .level)
+    settles-is n e x = rw (is .level, e)
 
     pub feed-failed : (v x : ℕ → ℤ) → failed ≡ settles s x → failed ≡ feeds s v x
     unfolding feeds
     feed-failed v x e = bind-failed _ _ e
 
-    pub feed-on : (v x y : ℕ → ℤ) (n : ℕ) → 0 < p .level → n ≡ nowAt (columns s) (rows s) (s .levels) (s .drawn) (p .level - 1) (p .alone) →
-        passed y ≡ settles s x →
-        finished (columns s) (rows s) (s .levels) (s .drawn) (p .level - 1) n (p .band)
+    pub feed-on : (v x y : ℕ → ℤ) (n : ℕ) → 0 < p .level → n ≡ p .set → passed y ≡ settles s x →
+        finished (columns s) (rows s) (s .levels) (p .level - 1) n (p .band)
         (fedAt (columns s) (rows s) (p .level - 1) n (p .band) v y) ≡ feeds s v x
     unfolding feeds
     feed-on v x y n h set e =
-        ap (λ (i : ℕ). finished (columns s) (rows s) (s .levels) (s .drawn) (p .level - 1) i (p .band)
-        (fedAt (columns s) (rows s) (p .level - 1) i (p .band) v y)) set ∙ on (p .level) (p .alone) (p .band) h
-        ∙ ap (λ (q : Place). fedOn (columns s) (rows s) (s .levels) (s .drawn) (q .level) (q .alone) (q .band) v y) (place-of (next s) p is)
+        ap (λ (i : ℕ). finished (columns s) (rows s) (s .levels) (p .level - 1) i (p .band)
+        (fedAt (columns s) (rows s) (p .level - 1) i (p .band) v y)) set ∙ on (p .level) (p .set) (p .band) h
+        ∙ ap (λ (q : machine.Spot). fedOn (columns s) (rows s) (s .levels) (q .level) (q .set) (q .band) v y) (spot-of (next s) p is)
         ∙ bind-passed _ _ y e
       where
-        on : (k : ℕ) (a : Bool) (c : ℕ) → 0 < k → (let i = nowAt (columns s) (rows s) (s .levels) (s .drawn) (k - 1) a in
-            finished (columns s) (rows s) (s .levels) (s .drawn) (k - 1) i c (fedAt (columns s) (rows s) (k - 1) i c v y))
-            ≡ fedOn (columns s) (rows s) (s .levels) (s .drawn) k a c v y
-        on zero a c h = absurd (omega arith)
-        on (suc k) a c h = let i : suc k - 1 ≡ k = omega arith in rw i (unfold fedOn in refl)
+        on : (k i c : ℕ) → 0 < k →
+            finished (columns s) (rows s) (s .levels) (k - 1) i c (fedAt (columns s) (rows s) (k - 1) i c v y)
+            ≡ fedOn (columns s) (rows s) (s .levels) k i c v y
+        on zero i c h = absurd (omega arith)
+        on (suc k) i c h = let z : suc k - 1 ≡ k = omega arith in rw z (unfold fedOn in refl)
 
-    pub beyond-is : 0 < p .level → beyond (columns s) (rows s) (s .levels) (s .drawn) (p .level - 1) (p .alone) (p .band)
-        ≡ placeFed (columns s) (rows s) (s .levels) (s .drawn) (next s .level) (next s .alone) (next s .band)
-    beyond-is h = on (p .level) (p .alone) (p .band) h
-        ∙ ap (λ (q : Place). placeFed (columns s) (rows s) (s .levels) (s .drawn) (q .level) (q .alone) (q .band)) (place-of (next s) p is)
+    pub beyond-is : 0 < p .level → beyond (columns s) (rows s) (s .levels) (p .level - 1) (p .set) (p .band)
+        ≡ spotFed (columns s) (rows s) (s .levels) (next s .level) (next s .set) (next s .band)
+    beyond-is h = on (p .level) (p .set) (p .band) h
+        ∙ ap (λ (q : machine.Spot). spotFed (columns s) (rows s) (s .levels) (q .level) (q .set) (q .band)) (spot-of (next s) p is)
       where
-        on : (k : ℕ) (a : Bool) (c : ℕ) → 0 < k → beyond (columns s) (rows s) (s .levels) (s .drawn) (k - 1) a c
-            ≡ placeFed (columns s) (rows s) (s .levels) (s .drawn) k a c
-        on zero a c h = absurd (omega arith)
-        on (suc k) a c h = let i : suc k - 1 ≡ k = omega arith in rw i (unfold placeFed in refl)
+        on : (k i c : ℕ) → 0 < k → beyond (columns s) (rows s) (s .levels) (k - 1) i c ≡ spotFed (columns s) (rows s) (s .levels) k i c
+        on zero i c h = absurd (omega arith)
+        on (suc k) i c h = let z : suc k - 1 ≡ k = omega arith in rw z (unfold spotFed in refl)
 
     pub length-back : nextLength s ≡ count (across (named (p .band))) (sideAt (p .level - 1) (columns s))
     unfolding nextLength bandColumns
     length-back = cc (is .level, is .band)
 
--- after a high row alone: where row 0 of the next level begins
-past-first : (W H : Side) (L d k : ℕ) → 0 < k → needsTwo (sideAt (k - 1) H) (rowAt H d (k - 1)) ≡ true →
-    dive (L - k) k (levels.next (sideAt (k - 1) W)) (levels.next (sideAt (k - 1) H)) 0 ≡ past W H L d (k - 1) true
-past-first W H L d zero h t = absurd (omega arith)
-past-first W H L d (suc k) h t =
+-- ---- where a set begins, as the code has its level
+pub begins-at : (W H : Side) (L d k n : ℕ) (l : Level) → 0 < k → IsLevel W H d (k - 1) l →
+    pick (leb (firstSet (side (l .y) (l .height)) lo) n)
+    (dive (L - k) k (levels.next (side (l .x) (l .width))) (levels.next (side (l .y) (l .height))) n (n - firstSet (side (l .y) (l .height)) lo))
+    (spot k n 1) ≡ begins W H L k n
+unfolding begins hasRow rowOf sideAt
+begins-at W H L d zero n l h is = absurd (omega arith)
+begins-at W H L d (suc k) n l h is =
     let z : suc k - 1 ≡ k = omega arith in
-    let u : needsTwo (sideAt k H) (rowAt H d k) ≡ true = ap (λ (i : ℕ). needsTwo (sideAt i H) (rowAt H d i)) (sym z) ∙ t in
-    let r : 0 ≡ rowAt H d (suc k) = sym (rowAt-next H d k ∙ ap (rowBelow (sideAt k H)) (two-is (sideAt k H) (rowAt H d k) u .row) ∙ below-zero (sideAt k H)) in
-    rw z (ap (dive (L - suc k) (suc k) (levels.next (sideAt k W)) (levels.next (sideAt k H))) r ∙ unfold past sideAt in refl)
-
-pub past-alone : (s : Reader) (p : Spot) (l : Level) → Is (next s) p → 0 < p .level → IsLevel (columns s) (rows s) (p .level - 1) l → p .alone ≡ true →
-    dive (s .levels - p .level) (p .level) (levels.next (side (l .x) (l .width))) (levels.next (side (l .y) (l .height))) 0
-    ≡ past (columns s) (rows s) (s .levels) (s .drawn) (p .level - 1) (p .alone)
-past-alone s p l is h at alone =
-    let t = near s .two (sym (is .alone) ∙ alone) in
-    let u : needsTwo (sideAt (p .level - 1) (rows s)) (rowAt (rows s) (s .drawn) (p .level - 1)) ≡ true =
-    ap (λ (i : ℕ). needsTwo (sideAt (i - 1) (rows s)) (rowAt (rows s) (s .drawn) (i - 1))) (is .level) ∙ t in
-    rw (level-wide (columns s) (rows s) (p .level - 1) l at, level-high (columns s) (rows s) (p .level - 1) l at, alone)
-    (past-first (columns s) (rows s) (s .levels) (s .drawn) (p .level) h u)
-
--- ---- the row wanted, found in two steps
-abbrev FirstOf : Reader → Place
-FirstOf s =
-    pick (aloneAt (columns s) (rows s) (s .levels) (s .drawn) (s .level) (s .alone) (s .band))
-    (place (s .level) true (bandAt (columns s) (rows s) (s .levels) (s .drawn) (s .level - 1) 0 (s .band))) (place 0 false 4)
-
-pub next-top : (s : Reader) (n : Next) → s .level ≡ 0 →
-    IsNext (columns s) (rows s) (s .levels) (s .drawn) (nextUp (columns s) (rows s) (s .levels) (s .drawn) (s .level) (s .band)) n →
-    IsNext (columns s) (rows s) (s .levels) (s .drawn) (next s) n
-unfolding next nextAt aloneAt
-next-top s n e up = rw e (rw e at up)
-
-pub first-is : (s : Reader) (n : Next) → s .alone ≡ true → IsNext (columns s) (rows s) (s .levels) (s .drawn)
-    (pick (aloneAt (columns s) (rows s) (s .levels) (s .drawn) (s .level) true (s .band))
-    (place (s .level) true (bandAt (columns s) (rows s) (s .levels) (s .drawn) (s .level - 1) 0 (s .band))) (place 0 false 4)) n →
-    IsNext (columns s) (rows s) (s .levels) (s .drawn) (FirstOf s) n
-first-is s n e is = rw e is
-
-module _ (s : Reader) (first : Next) (is : IsNext (columns s) (rows s) (s .levels) (s .drawn) (FirstOf s) first) where
-  pub next-first : 0 < first .spot .level → IsNext (columns s) (rows s) (s .levels) (s .drawn) (next s) first
-  unfolding next nextAt
-  next-first h = go (aloneAt (columns s) (rows s) (s .levels) (s .drawn) (s .level) (s .alone) (s .band)) is
-    where
-      a : Place
-      a = place (s .level) true (bandAt (columns s) (rows s) (s .levels) (s .drawn) (s .level - 1) 0 (s .band))
-
-      go : (t : Bool) → IsNext (columns s) (rows s) (s .levels) (s .drawn) (pick t a (place 0 false 4)) first →
-          IsNext (columns s) (rows s) (s .levels) (s .drawn) (pick t a (nextUp (columns s) (rows s) (s .levels) (s .drawn) (s .level) (s .band))) first
-      go true i = i
-      go false i = absurd (omega (arith, i .spot .level))
-
-  pub next-walk : (n : Next) → first .spot .level ≡ 0 →
-      IsNext (columns s) (rows s) (s .levels) (s .drawn) (nextUp (columns s) (rows s) (s .levels) (s .drawn) (s .level) (s .band)) n →
-      IsNext (columns s) (rows s) (s .levels) (s .drawn) (next s) n
-  unfolding next nextAt
-  next-walk n h up = go (s .level) (aloneAt (columns s) (rows s) (s .levels) (s .drawn) (s .level) (s .alone) (s .band)) refl is up
-    where
-      a : ℕ → Place
-      a k = place k true (bandAt (columns s) (rows s) (s .levels) (s .drawn) (k - 1) 0 (s .band))
-
-      u : ℕ → Place
-      u k = nextUp (columns s) (rows s) (s .levels) (s .drawn) k (s .band)
-
-      go : (k : ℕ) (t : Bool) → aloneAt (columns s) (rows s) (s .levels) (s .drawn) k (s .alone) (s .band) ≡ t →
-          IsNext (columns s) (rows s) (s .levels) (s .drawn) (pick t (a k) (place 0 false 4)) first →
-          IsNext (columns s) (rows s) (s .levels) (s .drawn) (u k) n → IsNext (columns s) (rows s) (s .levels) (s .drawn) (pick t (a k) (u k)) n
-      go k false e i j = j
-      go zero true e i j = let z : false ≡ true = unfold aloneAt in e in differ z
-      go (suc k) true e i j = absurd (omega (arith, h, i .spot .level))
-
-pub next-plain : (s : Reader) (n : Next) → s .alone ≡ false →
-    IsNext (columns s) (rows s) (s .levels) (s .drawn) (nextUp (columns s) (rows s) (s .levels) (s .drawn) (s .level) (s .band)) n →
-    IsNext (columns s) (rows s) (s .levels) (s .drawn) (next s) n
-unfolding next nextAt
-next-plain s n e up = rw e (rw (not-alone (columns s) (rows s) (s .levels) (s .drawn) (s .level) (s .band)) up)
-
-pub next-own : (s : Reader) → s .alone ≡ false → nextUp (columns s) (rows s) (s .levels) (s .drawn) (s .level) (s .band) ≡ next s
-unfolding next nextAt
-next-own s e = rw (e, not-alone (columns s) (rows s) (s .levels) (s .drawn) (s .level) (s .band))
+    rw (level-wide W H d (suc k - 1) l is, level-high W H d (suc k - 1) l is, z) refl
 
 -- ---- a level is no larger than the map
-pub level-small : (s : Reader) → Counts s → (k : ℕ) (l : Level) → IsLevel (columns s) (rows s) k l → (l .width ≤ 2 ^ 16) × (l .height < 2 ^ 32)
+pub level-small : (s : Reader) → Counts s → (k : ℕ) (l : Level) → IsLevel (columns s) (rows s) (s .drawn) k l → (l .width ≤ 2 ^ 16) × (l .height < 2 ^ 32)
 level-small s c k l is =
     let m = counts-small s c in (
       omega (arith, is .width, size-le k (columns s), m .0),
       omega (arith, is .height, size-le k (rows s), m .2),
     )
+
+-- ---- the place after a row is of one of the levels
+begins-level : (W H : Side) (L k n : ℕ) → k < L → begins W H L (suc k) n .level ≤ L
+unfolding begins
+begins-level W H L k n h = go (hasRow H (suc k) n)
+  where
+    to : machine.Spot
+    to = dive (L - suc k) (suc k) (sideAt (suc k) W) (sideAt (suc k) H) n (rowOf H (suc k) n)
+
+    go : (t : Bool) → pick t to (spot (suc k) n 1) .level ≤ L
+    go true = omega (arith, dive-level (L - suc k) (suc k) (sideAt (suc k) W) (sideAt (suc k) H) n (rowOf H (suc k) n))
+    go false = omega arith
+
+pub fed-level : (W H : Side) (L k n c : ℕ) → k ≤ L → spotFed W H L k n c .level ≤ L
+unfolding spotFed beyond past
+fed-level W H L zero n c h = omega arith
+fed-level W H L (suc k) n c h = go (lastOfSet W H L k n c) (makes (sideAt k H) n)
+  where
+    go : (t u : Bool) →
+        pick t (pick u (spot k (waiting H k n) 1) (begins W H L (suc k) (suc n))) (spot (suc k) n (c + 1)) .level ≤ L
+    go true true = omega arith
+    go true false = begins-level W H L k (suc n) (omega arith)
+    go false u = omega arith
+
+-- ---- past a set, as the code has it
+pub past-begin : (W H : Side) (L k m n : ℕ) → 0 < k → m ≡ n → makes (sideAt (k - 1) H) m ≡ false → begins W H L k (m + 1) ≡ past W H L (k - 1) n
+unfolding past
+past-begin W H L zero m n h e f = absurd (omega arith)
+past-begin W H L (suc k) m n h e f =
+    let z : suc k - 1 ≡ k = omega arith in
+    let g : makes (sideAt k H) n ≡ false = ap (makes (sideAt k H)) (sym e) ∙ ap (λ (i : ℕ). makes (sideAt i H) m) (sym z) ∙ f in
+    let u : m + 1 ≡ suc n = omega (arith, e) in
+    rw (z, g, u) refl
+
+pub past-finer : (W H : Side) (L k m n r : ℕ) → m ≡ n → r ≡ waiting H k m → makes (sideAt k H) m ≡ true → spot k r 1 ≡ past W H L k n
+unfolding past
+past-finer W H L k m n r e w f =
+    let g : makes (sideAt k H) n ≡ true = ap (makes (sideAt k H)) (sym e) ∙ f in
+    rw g (ap (λ (i : ℕ). spot k i 1) (w ∙ ap (waiting H k) e))
+
+pub past-top : (W H : Side) (L k m n r : ℕ) (l : Level) → k ≡ 1 → 0 < k → m ≡ n → side (l .y) (l .height) ≡ sideAt (k - 1) H →
+    r ≡ firstRow (side (l .y) (l .height)) m → makes (sideAt (k - 1) H) m ≡ true → spot 0 r 1 ≡ past W H L (k - 1) n
+past-top W H L k m n r l one h e high er f =
+    let z : k - 1 ≡ 0 = omega arith in
+    let row : r ≡ waiting H 0 m = er ∙ ap (λ (S : Side). firstRow S m) (high ∙ ap (λ (i : ℕ). sideAt i H) z) ∙ unfold waiting taking sideAt in refl in
+    let g : makes (sideAt 0 H) m ≡ true = ap (λ (i : ℕ). makes (sideAt i H) m) (sym z) ∙ f in
+    past-finer W H L 0 m n r e row g ∙ ap (λ (i : ℕ). past W H L i n) (sym z)

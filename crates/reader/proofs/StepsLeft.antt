@@ -15,15 +15,18 @@ use Rattle.lifting.specs.Grid.{Side, count}
 use Rattle.wavelet.specs.Bands.{Band, LL, HL, LH, HH, code, down}
 use Rattle.wavelet.specs.Order.{RowName, rowName, handedOut, inTurn, firstSet, setRow, setHas, rowsOf, setRows}
 use Rattle.wavelet.specs.Steps.{Step, feed, draw, feedAll, setOf, setsBefore, rowSteps, setSteps, steps}
+use Rattle.wavelet.proofs.StepLaws.{before-suc, set-there}
 use Rattle.wavelet.specs.Levels.{next, sideAt}
 use Rattle.level.specs.Sets.{opens}
-use Rattle.reader.specs.Sets.{rowBelow, needsTwo, rowAt, setAt}
+use Rattle.reader.specs.Sets.{ahead, hasRow, rowOf, taking, firstRow, makes, waiting, waitsAt}
 use Rattle.reader.specs.Asked.{keptAt, asked, bandsFrom, those, look, firstCode, nextBand}
 use Rattle.reader.specs.Store.{hasCells}
-use Rattle.reader.specs.Machine.{Place, place, bandAt, aloneAt, nowAt, lastOfSet, nextUp, nextAt, past, beyond, dive, enter}
+use Rattle.reader.specs.Machine.{Spot, spot, bandAt, lastOfSet, nextUp, past, beyond, dive, begins, enter}
+use Rattle.reader.specs.Holds.{Ready}
 use Rattle.reader.proofs.Looks.{code-lt, Look, nothing, first, look-is}
-use Rattle.reader.proofs.OpenedSets.{set-is, first-low, low-is, Two, two-is, sets-none, sets-one, sets-two}
-use Rattle.reader.proofs.CellLaws.{cells-not, Empty, empty-row, empty-set, alone-low, alone-asks, no-low-empty}
+use Rattle.reader.proofs.OpenedSets.{sets-none, opens-yes, opened-row, row-next, makes-yes, makes-not, taking-row}
+use Rattle.reader.proofs.CellLaws.{cells-not, Empty, empty-row, empty-set, no-low}
+use Rattle.reader.proofs.ReadyLaws.{ready-up, ready-band}
 
 pub data Each {A : Type 0} (P : A → Type 0) : List A → Type 0 where
   none : Each P []
@@ -54,16 +57,21 @@ set-names : (l k : ℕ) (W H : Side) (n : ℕ) → setRows (suc l) k W H n ≡ n
 unfolding setRows handedOut look bandsFrom asked keptAt
 set-names l k W H n = rows-names k W H n (asked false W H n) (HL ∷ LH ∷ HH ∷ []) (more refl (more refl (more refl none)))
 
--- a high row alone has no LL row
-alone-names : (W H : Side) → asked true W H 0 LL ≡ false → look true W H 0 0 ≡ look true W H 0 1
+-- a set without a low row has no LL row
+low-names : (W H : Side) (n : ℕ) → asked true W H n LL ≡ false → look true W H n 0 ≡ look true W H n 1
 unfolding look bandsFrom those
-alone-names W H e = rw e refl
+low-names W H n e = rw e refl
 
--- ---- the tests of a place
-pub not-alone : (W H : Side) (L d k b : ℕ) → aloneAt W H L d k false b ≡ false
-unfolding aloneAt
-not-alone W H L d zero b = refl
-not-alone W H L d (suc k) b = refl
+-- the first of some in turn
+turn-first : (c : ℕ) (f : ℕ → List Step) → inTurn (suc c) f ≡ f 0 ++ inTurn c (λ i. f (suc i))
+unfolding inTurn
+turn-first zero f = sym (append-nil (f 0))
+turn-first (suc c) f = ap (λ t. t ++ f (suc c)) (turn-first c f) ∙ append-assoc (f 0) (inTurn c (λ i. f (suc i))) (f (suc c))
+
+turn-same : (c : ℕ) (f g : ℕ → List Step) → ((i : ℕ) → f i ≡ g i) → inTurn c f ≡ inTurn c g
+unfolding inTurn
+turn-same zero f g e = refl
+turn-same (suc c) f g e = rw (turn-same c f g e, e c) refl
 
 -- ---- what is left, at suc l levels
 module _ (W H : Side) (l : ℕ) where
@@ -72,50 +80,41 @@ module _ (W H : Side) (l : ℕ) where
   rowsLeft k n b = feedAll (names (suc k) (sideAt k H) n (look (eqb (suc k) (suc l)) (sideAt k W) (sideAt k H) n b))
 
   abbrev setLeft : ℕ → ℕ → ℕ → List Step
-  setLeft m k n = setSteps 1 m (suc k) (sideAt k W) (sideAt k H) n
+  setLeft m k n = setSteps ahead m (suc k) (sideAt k W) (sideAt k H) n
 
-  -- until row d is drawn: the rows that the set at this level still asks for, then those of each finer level
+  -- the sets after set n that the row which waits for it needs
+  abbrev moreSets : ℕ → ℕ → List Step
+  moreSets k n = inTurn (setOf ahead (sideAt k H) (firstRow (sideAt k H) n) - n) (λ i. setLeft (l - k) k (suc n + i))
+
+  -- until the row waited for is drawn: the rows that the set at this level still asks for, the sets after it that the row needs which it waits for, and so of
+  -- each finer level
   unfoldable pub tail : ℕ → ℕ → ℕ → List Step
-  tail d zero b = draw d ∷ []
-  tail d (suc k) b = rowsLeft k (setAt H d k) b ++ tail d k 1
+  tail zero n b = draw n ∷ []
+  tail (suc k) n b = rowsLeft k n b ++ (moreSets k n ++ tail k (waiting H k n) 1)
 
-  -- at a high row alone: its rows, then all of the set that makes the row
-  unfoldable pub aloneTail : ℕ → ℕ → ℕ → List Step
-  aloneTail d k b = rowsLeft k 0 b ++ (setLeft (l - k) k (setAt H d k) ++ tail d k 1)
+  abbrev pub tailAt : Spot → List Step
+  tailAt q = tail (q .level) (q .set) (q .band)
 
-  unfoldable pub tailAt : ℕ → Place → List Step
-  tailAt d p =
-      pick (aloneAt W H (suc l) d (p .level) (p .alone) (p .band)) (aloneTail d (p .level - 1) (p .band)) (tail d (p .level) (p .band))
+  abbrev rest : ℕ → ℕ → List Step
+  rest k n = moreSets k n ++ tail k (waiting H k n) 1
 
   -- row r with what it needs, and c rows from row d on
   abbrev turn : ℕ → List Step
-  turn r = rowSteps 1 H (setSteps 1 l 1 W H) r ++ (draw r ∷ [])
+  turn r = rowSteps ahead H (setSteps ahead l 1 W H) r ++ (draw r ∷ [])
 
   unfoldable pub later : ℕ → ℕ → List Step
   later zero d = []
   later (suc c) d = turn d ++ later c (suc d)
 
-  unfoldable pub leftFor : ℕ → ℕ → Place → List Step
+  unfoldable pub leftFor : ℕ → ℕ → Spot → List Step
   leftFor zero d p = []
-  leftFor (suc c) d p = tailAt d p ++ later c (suc d)
+  leftFor (suc c) d p = tailAt p ++ later c (suc d)
 
   -- the steps left when d rows are drawn and the reader is at that place
-  unfoldable pub stepsLeft : ℕ → Place → List Step
+  unfoldable pub stepsLeft : ℕ → Spot → List Step
   stepsLeft d p = leftFor (H .length - d) d p
 
-  -- ---- a place that is not at a high row alone, and one that is
-  tail-up : (d k b : ℕ) → tailAt d (place k false b) ≡ tail d k b
-  unfolding tailAt
-  tail-up d k b = rw (not-alone W H (suc l) d k b) refl
-
-  tail-alone : (d k b : ℕ) → aloneAt W H (suc l) d (suc k) true b ≡ true → tailAt d (place (suc k) true b) ≡ aloneTail d k b
-  unfolding tailAt
-  tail-alone d k b e = let z : suc k - 1 ≡ k = omega arith in rw (e, z) refl
-
   -- ---- the rows left of a set
-  abbrev tests : ℕ → ℕ → Band → Bool
-  tests k n = asked (eqb (suc k) (suc l)) (sideAt k W) (sideAt k H) n
-
   rows-none : (k n b : ℕ) → look (eqb (suc k) (suc l)) (sideAt k W) (sideAt k H) n b ≡ [] → rowsLeft k n b ≡ []
   unfolding names feedAll
   rows-none k n b e = ap (λ xs. feedAll (names (suc k) (sideAt k H) n xs)) e
@@ -126,9 +125,9 @@ module _ (W H : Side) (l : ℕ) where
   rows-some k n b c e = ap (λ xs. feedAll (names (suc k) (sideAt k H) n xs)) e
 
   -- a row that completes its set leaves none of it
-  pub last-none : (d k n c : ℕ) → lastOfSet W H (suc l) d k n c ≡ true → look (eqb (suc k) (suc l)) (sideAt k W) (sideAt k H) n (c + 1) ≡ []
+  pub last-none : (k n c : ℕ) → lastOfSet W H (suc l) k n c ≡ true → look (eqb (suc k) (suc l)) (sideAt k W) (sideAt k H) n (c + 1) ≡ []
   unfolding lastOfSet bandAt nextBand
-  last-none d k n c e = no-more _ (omega arith) _ e
+  last-none k n c e = no-more _ (omega arith) _ e
     where
       no-more : (m : ℕ) → 4 ≤ m → (xs : List Band) → leb m (firstCode xs) ≡ true → xs ≡ []
       no-more m h [] e = refl
@@ -142,239 +141,200 @@ module _ (W H : Side) (l : ℕ) where
 
   -- else what its low row needs of the next level, and its rows
   abbrev rowsBelow : ℕ → ℕ → ℕ → List Step
-  rowsBelow m k r = rowSteps 1 (sideAt k H) (setSteps 1 m (suc k) (sideAt k W) (sideAt k H)) r
+  rowsBelow m k r = rowSteps ahead (sideAt k H) (setSteps ahead m (suc k) (sideAt k W) (sideAt k H)) r
+
+  on-steps : (m k n : ℕ) → k + suc m ≡ l →
+      setLeft (suc m) k n ≡ pick (hasRow H (suc k) n) (rowsBelow m (suc k) (rowOf H (suc k) n)) [] ++ rowsLeft k n 1
+  unfolding setSteps hasRow rowOf sideAt
+  on-steps m k n e = rw (ne-eqb (suc k) (suc l) (λ z. omega arith), set-names m (suc k) (sideAt k W) (sideAt k H) n) refl
+
+  -- the steps of a set without a low row
+  alone-steps : (m k n : ℕ) → k + m ≡ l → hasRow H (suc k) n ≡ false → setLeft m k n ≡ rowsLeft k n 1
+  alone-steps zero k n e h =
+      let z : k ≡ l = omega arith in
+      last-steps k n z
+      ∙ ap (λ xs. feedAll (names (suc k) (sideAt k H) n xs))
+      (rw (eq-eqb (suc k) (suc l) (omega arith)) (low-names (sideAt k W) (sideAt k H) n (no-row (sideAt k W) (sideAt k H) (unfold hasRow in h))))
+    where
+      no-row : (W H : Side) → leb (firstSet H lo) n ≡ false → asked true W H n LL ≡ false
+      no-row W H h = unfold asked keptAt down in no-low W H n (omega (arith, leb-false (firstSet H lo) n h)) LL refl
+  alone-steps (suc m) k n e h = on-steps m k n e ∙ ap (λ t. pick t (rowsBelow m (suc k) (rowOf H (suc k) n)) [] ++ rowsLeft k n 1) h
 
   no-rows : (m k r : ℕ) → Empty (sideAt k W) (sideAt k H) → rowsBelow m k r ≡ []
   no-rows m k r e = empty-row (sideAt k H) _ r (λ n. empty-set m (suc k) (sideAt k W) (sideAt k H) n e)
 
-  low-steps : (d m k : ℕ) → pick (leb (firstSet (sideAt k H) lo) (setAt H d k))
-      (rowSteps 1 (next (sideAt k H)) (setSteps 1 m (suc (suc k)) (next (sideAt k W)) (next (sideAt k H))) (setAt H d k - firstSet (sideAt k H) lo)) []
-      ≡ rowsBelow m (suc k) (rowAt H d (suc k))
-  unfolding sideAt rowAt rowBelow setAt
-  low-steps d m k = go (decLe (firstSet (sideAt k H) lo) (setOf 1 (sideAt k H) (rowAt H d k)))
+  below-no : (m k r : ℕ) → opens ahead (sideAt k H) r ≡ false → rowsBelow m k r ≡ []
+  unfolding rowSteps inTurn
+  below-no m k r o = rw (sets-none (sideAt k H) r o) refl
+
+  -- a row that opens sets: the first of them, and the rest
+  below-first : (m k n r : ℕ) → k + m ≡ l → opens ahead (sideAt k H) r ≡ true → taking H k r ≡ n →
+      rowsBelow m k r ++ tail k n 1 ≡ setLeft m k (setsBefore ahead (sideAt k H) r) ++ rest k (setsBefore ahead (sideAt k H) r)
+  unfolding rowSteps waiting
+  below-first m k n r e o t =
+      let left : l - k ≡ m = omega arith in
+      let z : s + 0 ≡ s = omega arith in
+      let c : setsBefore ahead S (suc r) - s ≡ suc (setOf ahead S r - s) = omega (arith, before-suc ahead S r, opens-yes S r o) in
+      rw (left, opened-row S r o, t)
+      (ap (λ i. inTurn i (λ i. setLeft m k (s + i)) ++ tail k n 1) c
+      ∙ ap (λ u. u ++ tail k n 1) (turn-first (setOf ahead S r - s) (λ i. setLeft m k (s + i)))
+      ∙ ap (λ i. (setLeft m k i ++ inTurn (setOf ahead S r - s) (λ i. setLeft m k (s + suc i))) ++ tail k n 1) z
+      ∙ append-assoc (setLeft m k s) (inTurn (setOf ahead S r - s) (λ i. setLeft m k (s + suc i))) (tail k n 1)
+      ∙ ap (λ u. setLeft m k s ++ (u ++ tail k n 1)) (turn-same (setOf ahead S r - s) _ _ (λ i. ap (setLeft m k) (omega arith))))
     where
       S : Side
       S = sideAt k H
 
-      r : ℕ
-      r = rowAt H d k
+      s : ℕ
+      s = setsBefore ahead (sideAt k H) r
 
-      go : Dec (firstSet S lo ≤ setOf 1 S r) → pick (leb (firstSet S lo) (setOf 1 S r))
-          (rowSteps 1 (next S) (setSteps 1 m (suc (suc k)) (next (sideAt k W)) (next S)) (setOf 1 S r - firstSet S lo)) []
-          ≡ rowSteps 1 (next S) (setSteps 1 m (suc (suc k)) (next (sideAt k W)) (next S)) (setOf 1 S r - firstSet S lo)
-      go (yes p) = rw (le-leb (firstSet S lo) (setOf 1 S r) p) refl
-      go (no p) =
-          let few : count lo S ≡ 0 = omega (arith, p, first-low S, set-is S r, low-is S) in
-          rw (lt-leb (firstSet S lo) (setOf 1 S r) (omega (arith, p)))
-          (sym (empty-row (next S) _ _ (λ n. empty-set m (suc (suc k)) (next (sideAt k W)) (next S) n (no-low-empty (sideAt k W) S few))))
+  -- where a set begins, as the search for it has it
+  pub begins-is : (m k n : ℕ) → k + m ≡ l → begins W H (suc l) (suc k) n ≡
+      pick (leb (firstSet (sideAt k H) lo) n)
+      (dive m (suc k) (next (sideAt k W)) (next (sideAt k H)) n (n - firstSet (sideAt k H) lo)) (spot (suc k) n 1)
+  unfolding begins hasRow rowOf sideAt
+  begins-is m k n e = let z : suc l - suc k ≡ m = omega arith in rw z refl
 
-  on-steps : (d m k : ℕ) → k + suc m ≡ l → setLeft (suc m) k (setAt H d k) ≡ rowsBelow m (suc k) (rowAt H d (suc k)) ++ rowsLeft k (setAt H d k) 1
-  unfolding setSteps
-  on-steps d m k e =
-      rw (low-steps d m k, ne-eqb (suc k) (suc l) (λ z. omega arith), set-names m (suc k) (sideAt k W) (sideAt k H) (setAt H d k)) refl
-
-  -- the steps of a set of a high row alone
-  alone-steps : (m k : ℕ) → k + m ≡ l → sideAt k H .start % 2 ≡ 1 → setLeft m k 0 ≡ rowsLeft k 0 1
-  alone-steps zero k e odd =
-      let z : k ≡ l = omega arith in
-      last-steps k 0 z
-      ∙ ap (λ xs. feedAll (names (suc k) (sideAt k H) 0 xs))
-      (rw (eq-eqb (suc k) (suc l) (omega arith)) (alone-names (sideAt k W) (sideAt k H) (no-low (sideAt k W) (sideAt k H) odd)))
+  -- where number n of level k begins, if the steps of the set are left that it begins with
+  dive-tail : (m k n r : ℕ) → k + m ≡ l → taking H k r ≡ n →
+      ((i : ℕ) → tailAt (begins W H (suc l) (suc k) i) ≡ setLeft m k i ++ rest k i) →
+      tailAt (dive (suc m) k (sideAt k W) (sideAt k H) n r) ≡ rowsBelow m k r ++ tail k n 1
+  unfolding dive
+  dive-tail m k n r e t f = go (hasCells (sideAt k W) (sideAt k H)) refl (opens ahead (sideAt k H) r) refl
     where
-      no-low : (W H : Side) → H .start % 2 ≡ 1 → asked true W H 0 LL ≡ false
-      no-low W H odd = unfold asked keptAt down in alone-low W H odd LL refl
-  alone-steps (suc m) k e odd = on m e
+      S : Side
+      S = sideAt k H
+
+      s : ℕ
+      s = setsBefore ahead S r
+
+      to : Spot
+      to = pick (leb (firstSet S lo) s) (dive m (suc k) (next (sideAt k W)) (next S) s (s - firstSet S lo)) (spot (suc k) s 1)
+
+      go : (c : Bool) → hasCells (sideAt k W) S ≡ c → (o : Bool) → opens ahead S r ≡ o →
+          tailAt (pick (both c o) to (spot k n 1)) ≡ rowsBelow m k r ++ tail k n 1
+      go false c o _ = ap (λ u. u ++ tail k n 1) (sym (no-rows m k r (cells-not (sideAt k W) S c)))
+      go true c false o = ap (λ u. u ++ tail k n 1) (sym (below-no m k r o))
+      go true c true o = ap tailAt (sym (begins-is m k s e)) ∙ f s ∙ sym (below-first m k n r e o t)
+
+  begin-tail : (m k n : ℕ) → k + m ≡ l → tailAt (begins W H (suc l) (suc k) n) ≡ setLeft m k n ++ rest k n
+  unfolding begins dive tail
+  begin-tail zero k n e = go (hasRow H (suc k) n) refl
     where
-      on : (m : ℕ) → k + suc m ≡ l → setLeft (suc m) k 0 ≡ rowsLeft k 0 1
-      on m e = unfold setSteps firstSet in
-          rw (odd, ne-eqb (suc k) (suc l) (λ z. omega arith), set-names m (suc k) (sideAt k W) (sideAt k H) 0) refl
-
-  -- ---- where a row begins, what is left is what it needs and it
-  below-no : (m k r : ℕ) → opens 1 (sideAt k H) r ≡ false → rowsBelow m k r ≡ []
-  unfolding rowSteps inTurn
-  below-no m k r o = rw (sets-none (sideAt k H) r o) refl
-
-  below-one : (m k r : ℕ) → opens 1 (sideAt k H) r ≡ true → needsTwo (sideAt k H) r ≡ false → rowsBelow m k r ≡ setLeft m k (setOf 1 (sideAt k H) r)
-  unfolding rowSteps inTurn
-  below-one m k r o f =
-      let s = sets-one (sideAt k H) r o f in
-      let z : setsBefore 1 (sideAt k H) r + 0 ≡ setOf 1 (sideAt k H) r = omega (arith, s .is) in
-      rw (s .one) (ap (setLeft m k) z)
-
-  below-two : (m k r : ℕ) → Two (sideAt k H) r → rowsBelow m k r ≡ setLeft m k 0 ++ setLeft m k (setOf 1 (sideAt k H) r)
-  unfolding rowSteps inTurn
-  below-two m k r t =
-      let s = sets-two (sideAt k H) r t in
-      let y : setsBefore 1 (sideAt k H) r + 0 ≡ 0 = omega (arith, s .1) in
-      let z : setsBefore 1 (sideAt k H) r + 1 ≡ setOf 1 (sideAt k H) r = omega (arith, s .1, t .set) in
-      rw (s .0) (rw (y, z) refl)
-
-  -- at a high row alone
-  alone-is : (d k : ℕ) → hasCells (sideAt k W) (sideAt k H) ≡ true → needsTwo (sideAt k H) (rowAt H d k) ≡ true →
-      aloneAt W H (suc l) d (suc k) true 1 ≡ true
-  unfolding aloneAt bandAt
-  alone-is d k cells two =
-      let t = two-is (sideAt k H) (rowAt H d k) two in
-      rw (two, lt-ltb _ 4 (alone-asks (sideAt k W) (sideAt k H) (t .odd) (eqb (suc k) (suc l)) cells)) refl
-
-  -- where a row begins at level k, if the steps of its set are left where that set begins
-  dive-step : (d m k : ℕ) → k + m ≡ l → tailAt d (dive m (suc k) (sideAt (suc k) W) (sideAt (suc k) H) (rowAt H d (suc k)))
-      ≡ setLeft m k (setAt H d k) ++ tail d k 1 →
-      tailAt d (dive (suc m) k (sideAt k W) (sideAt k H) (rowAt H d k)) ≡ rowsBelow m k (rowAt H d k) ++ tail d k 1
-  unfolding dive sideAt rowAt setAt aloneTail
-  dive-step d m k e f =
-      go (hasCells (sideAt k W) (sideAt k H)) refl (opens 1 (sideAt k H) (rowAt H d k)) refl (needsTwo (sideAt k H) (rowAt H d k)) refl
+      go : (t : Bool) → hasRow H (suc k) n ≡ t →
+          tailAt (pick t (dive (suc l - suc k) (suc k) (sideAt (suc k) W) (sideAt (suc k) H) n (rowOf H (suc k) n)) (spot (suc k) n 1))
+          ≡ setLeft 0 k n ++ rest k n
+      go false h = ap (λ u. u ++ rest k n) (sym (alone-steps 0 k n e h))
+      go true h = let z : suc l - suc k ≡ 0 = omega arith in rw z (ap (λ u. u ++ rest k n) (sym (last-steps k n (omega arith))))
+  begin-tail (suc m) k n e = go (hasRow H (suc k) n) refl (λ i. begin-tail m (suc k) i (omega arith))
     where
-      r : ℕ
-      r = rowAt H d k
+      go : (t : Bool) → hasRow H (suc k) n ≡ t → ((i : ℕ) → tailAt (begins W H (suc l) (suc (suc k)) i) ≡ setLeft m (suc k) i ++ rest (suc k) i) →
+          tailAt (pick t (dive (suc l - suc k) (suc k) (sideAt (suc k) W) (sideAt (suc k) H) n (rowOf H (suc k) n)) (spot (suc k) n 1))
+          ≡ setLeft (suc m) k n ++ rest k n
+      go false h ih = ap (λ u. u ++ rest k n) (sym (alone-steps (suc m) k n e h))
+      go true h ih =
+          let z : suc l - suc k ≡ suc m = omega arith in
+          rw z
+          (dive-tail m (suc k) n (rowOf H (suc k) n) (omega arith) (taking-row H (suc k) n h) ih
+          ∙ sym (append-assoc (rowsBelow m (suc k) (rowOf H (suc k) n)) (rowsLeft k n 1) (rest k n))
+          ∙ ap (λ u. u ++ rest k n) (sym (on-steps m k n e ∙ ap (λ t. pick t (rowsBelow m (suc k) (rowOf H (suc k) n)) [] ++ rowsLeft k n 1) h)))
 
-      to : Place
-      to = dive m (suc k) (next (sideAt k W)) (next (sideAt k H)) (rowBelow (sideAt k H) r)
+  enter-tail : (d : ℕ) → tailAt (enter W H (suc l) d) ≡ turn d
+  unfolding enter tail sideAt
+  enter-tail d = dive-tail l 0 d d (omega arith) (unfold taking in refl) (λ i. begin-tail l 0 i (omega arith))
 
-      stays : rowsBelow m k r ≡ [] → tailAt d (place k false 1) ≡ rowsBelow m k r ++ tail d k 1
-      stays n = tail-up d k 1 ∙ ap (λ t. t ++ tail d k 1) (sym n)
+  -- ---- past a set
+  -- one that does not make the row which waits leaves the next to be asked for
+  rest-next : (k n : ℕ) → makes (sideAt k H) n ≡ false → setLeft (l - k) k (suc n) ++ rest k (suc n) ≡ rest k n
+  unfolding waiting
+  rest-next k n e =
+      let z : setOf ahead S (firstRow S n) - n ≡ suc c = omega (arith, makes-not S n e) in
+      let u : suc n + 0 ≡ suc n = omega arith in
+      rw (row-next S n e)
+      (sym (append-assoc (g (suc n)) (inTurn c (λ i. g (suc (suc n) + i))) t)
+      ∙ ap (λ (w : List Step). (g (suc n) ++ w) ++ t) (turn-same c (λ i. g (suc (suc n) + i)) (λ i. g (suc n + suc i)) (λ i. ap g (omega arith)))
+      ∙ ap (λ (i : ℕ). (g i ++ inTurn c (λ i. g (suc n + suc i))) ++ t) (sym u)
+      ∙ ap (λ (w : List Step). w ++ t) (sym (turn-first c (λ i. g (suc n + i))))
+      ∙ ap (λ (i : ℕ). inTurn i (λ i. g (suc n + i)) ++ t) (sym z))
+    where
+      S : Side
+      S = sideAt k H
 
-      go : (c : Bool) → hasCells (sideAt k W) (sideAt k H) ≡ c → (o : Bool) → opens 1 (sideAt k H) r ≡ o → (t : Bool) → needsTwo (sideAt k H) r ≡ t →
-          tailAt d (pick (both c o) (pick t (place (suc k) true 1) to) (place k false 1)) ≡ rowsBelow m k r ++ tail d k 1
-      go false c o _ t _ = stays (no-rows m k r (cells-not (sideAt k W) (sideAt k H) c))
-      go true c false o t _ = stays (below-no m k r o)
-      go true c true o false t = f ∙ ap (λ u. u ++ tail d k 1) (sym (below-one m k r o t))
-      go true c true o true t =
-          let two = two-is (sideAt k H) r t in
-          let left : l - k ≡ m = omega arith in
-          tail-alone d k 1 (alone-is d k c t)
-          ∙ ap (λ i. rowsLeft k 0 1 ++ (setLeft i k (setOf 1 (sideAt k H) r) ++ tail d k 1)) left
-          ∙ sym (append-assoc (rowsLeft k 0 1) (setLeft m k (setOf 1 (sideAt k H) r)) (tail d k 1))
-          ∙ ap (λ u. (u ++ setLeft m k (setOf 1 (sideAt k H) r)) ++ tail d k 1) (sym (alone-steps m k e (two .odd)))
-          ∙ ap (λ u. u ++ tail d k 1) (sym (below-two m k r two))
+      c : ℕ
+      c = setOf ahead (sideAt k H) (firstRow (sideAt k H) n) - suc n
 
-  -- where the set that makes a row begins, its steps are left
-  dive-set : (d m k : ℕ) → k + m ≡ l → tailAt d (dive m (suc k) (sideAt (suc k) W) (sideAt (suc k) H) (rowAt H d (suc k)))
-      ≡ setLeft m k (setAt H d k) ++ tail d k 1
-  dive-set d zero k e = unfold dive tail in
-      tail-up d (suc k) 0 ∙ ap (λ t. t ++ tail d k 1) (sym (last-steps k (setAt H d k) (omega arith)))
-  dive-set d (suc m) k e =
-      dive-step d m (suc k) (omega arith) (dive-set d m (suc k) (omega arith))
-      ∙ unfold tail in sym (append-assoc (rowsBelow m (suc k) (rowAt H d (suc k))) (rowsLeft k (setAt H d k) 1) (tail d k 1))
-      ∙ ap (λ t. t ++ tail d k 1) (sym (on-steps d m k e))
+      g : ℕ → List Step
+      g = setLeft (l - k) k
 
-  enter-tail : (d : ℕ) → tailAt d (enter W H (suc l) d) ≡ turn d
-  unfolding enter tail sideAt rowAt
-  enter-tail d = dive-step d l 0 (omega arith) (dive-set d l 0 (omega arith))
+      t : List Step
+      t = tail k (taking H k (firstRow (sideAt k H) n)) 1
+
+  past-tail : (k n : ℕ) → k ≤ l → tailAt (past W H (suc l) k n) ≡ rest k n
+  unfolding past inTurn
+  past-tail k n h = go (makes (sideAt k H) n) refl
+    where
+      go : (t : Bool) → makes (sideAt k H) n ≡ t → tailAt (pick t (spot k (waiting H k n) 1) (begins W H (suc l) (suc k) (suc n))) ≡ rest k n
+      go true e =
+          let z : setOf ahead (sideAt k H) (firstRow (sideAt k H) n) - n ≡ 0 = omega (arith, makes-yes (sideAt k H) n e) in
+          rw z refl
+      go false e = begin-tail (l - k) k (suc n) (omega arith) ∙ rest-next k n e
+
+  beyond-tail : (k n c : ℕ) → k ≤ l → tail (suc k) n (c + 1) ≡ tailAt (beyond W H (suc l) k n c)
+  unfolding beyond tail
+  beyond-tail k n c h = go (lastOfSet W H (suc l) k n c) refl
+    where
+      go : (t : Bool) → lastOfSet W H (suc l) k n c ≡ t →
+          rowsLeft k n (c + 1) ++ rest k n ≡ tailAt (pick t (past W H (suc l) k n) (spot (suc k) n (c + 1)))
+      go true e = ap (λ t. t ++ rest k n) (rows-none k n (c + 1) (last-none k n c e)) ∙ sym (past-tail k n h)
+      go false e = unfold tail in refl
 
   -- ---- the want is the first
-  -- past a set that asks for nothing more, what is left is what the reader goes on with
-  beyond-up : (d k c : ℕ) → tail d (suc k) (c + 1) ≡ tailAt d (beyond W H (suc l) d k false c)
-  unfolding beyond past nowAt tail
-  beyond-up d k c = go (lastOfSet W H (suc l) d k (setAt H d k) c) refl
-    where
-      go : (t : Bool) → lastOfSet W H (suc l) d k (setAt H d k) c ≡ t →
-          rowsLeft k (setAt H d k) (c + 1) ++ tail d k 1 ≡ tailAt d (pick t (place k false 1) (place (suc k) false (c + 1)))
-      go true e = ap (λ t. t ++ tail d k 1) (rows-none k (setAt H d k) (c + 1) (last-none d k (setAt H d k) c e)) ∙ sym (tail-up d k 1)
-      go false e = sym (tail-up d (suc k) (c + 1))
-
-  -- a row of a high row alone that is not the last of it
-  pub still-alone : (d k c : ℕ) → needsTwo (sideAt k H) (rowAt H d k) ≡ true → lastOfSet W H (suc l) d k 0 c ≡ false →
-      aloneAt W H (suc l) d (suc k) true (c + 1) ≡ true
-  unfolding aloneAt lastOfSet
-  still-alone d k c two e = rw (two, lt-ltb (bandAt W H (suc l) d k 0 (c + 1)) 4 (under _ _ (omega arith) e)) refl
-    where
-      under : (m i : ℕ) → m ≤ 4 → leb m i ≡ false → i < 4
-      under m i b z = omega (arith, leb-false m i z)
-
-  beyond-alone : (d k c : ℕ) → k ≤ l → needsTwo (sideAt k H) (rowAt H d k) ≡ true → aloneTail d k (c + 1) ≡ tailAt d (beyond W H (suc l) d k true c)
-  unfolding beyond past nowAt aloneTail
-  beyond-alone d k c h two = go (lastOfSet W H (suc l) d k 0 c) refl
-    where
-      to : Place
-      to = dive (suc l - suc k) (suc k) (sideAt (suc k) W) (sideAt (suc k) H) (rowAt H d (suc k))
-
-      go : (t : Bool) → lastOfSet W H (suc l) d k 0 c ≡ t →
-          rowsLeft k 0 (c + 1) ++ (setLeft (l - k) k (setAt H d k) ++ tail d k 1) ≡ tailAt d (pick t to (place (suc k) true (c + 1)))
-      go true e =
-          let z : l - k ≡ suc l - suc k = omega arith in
-          ap (λ t. t ++ (setLeft (l - k) k (setAt H d k) ++ tail d k 1)) (rows-none k 0 (c + 1) (last-none d k 0 c e))
-          ∙ ap (λ i. setLeft i k (setAt H d k) ++ tail d k 1) z ∙ sym (dive-set d (suc l - suc k) k (omega arith))
-      go false e = sym (tail-alone d k (c + 1) (still-alone d k c two e))
-
   -- what the machine says is next, and what is left then: a height row, or a band row
-  pub data Ahead (d lev : ℕ) (t : List Step) : Place → Type 0 where
-    height : t ≡ draw d ∷ [] → Ahead d lev t (place 0 false 4)
-    row : (k : ℕ) (a : Bool) (c : Band) → k < lev → (a ≡ true → needsTwo (sideAt k H) (rowAt H d k) ≡ true) →
-        asked (eqb (suc k) (suc l)) (sideAt k W) (sideAt k H) (nowAt W H (suc l) d k a) c ≡ true →
-        t ≡ feed (rowName (suc k) c (setRow (sideAt k H) c (nowAt W H (suc l) d k a))) ∷ tailAt d (beyond W H (suc l) d k a (code c)) →
-        Ahead d lev t (place (suc k) a (code c))
+  pub data Ahead (d lev : ℕ) (t : List Step) : Spot → Type 0 where
+    height : t ≡ draw d ∷ [] → Ahead d lev t (spot 0 0 4)
+    row : (k n : ℕ) (c : Band) → k < lev → Ready W H (suc l) d (spot (suc k) n (code c)) →
+        asked (eqb (suc k) (suc l)) (sideAt k W) (sideAt k H) n c ≡ true →
+        t ≡ feed (rowName (suc k) c (setRow (sideAt k H) c n)) ∷ tailAt (beyond W H (suc l) k n (code c)) → Ahead d lev t (spot (suc k) n (code c))
 
-  up-ahead : (d lev b : ℕ) → Ahead d lev (tail d lev b) (nextUp W H (suc l) d lev b)
-  unfolding nextUp bandAt nextBand look nowAt
-  up-ahead d zero b = height (unfold tail in refl)
-  up-ahead d (suc k) b = go (those p (bandsFrom b)) refl (look-is p b) (up-ahead d k 1)
+  pub ahead-is : (d lev n b : ℕ) → lev ≤ suc l → Ready W H (suc l) d (spot lev n b) → Ahead d lev (tail lev n b) (nextUp W H (suc l) lev n b)
+  unfolding nextUp bandAt nextBand look firstCode tail inTurn
+  ahead-is d zero n b h s = height (ap (λ i. draw i ∷ []) (top-is n s))
     where
-      n : ℕ
-      n = setAt H d k
-
+      top-is : (n : ℕ) → Ready W H (suc l) d (spot 0 n b) → n ≡ d
+      top-is n s = unfold waitsAt in s .top
+  ahead-is d (suc k) n b h s =
+      go (those p (bandsFrom b)) refl (look-is p b)
+      (λ z. ahead-is d k (waiting H k n) 1 (omega arith) (ready-up W H l d k n b (omega arith) s z))
+    where
       p : Band → Bool
       p = asked (eqb (suc k) (suc l)) (sideAt k W) (sideAt k H) n
 
-      finer : (q : Place) → tail d (suc k) b ≡ tail d k 1 → Ahead d k (tail d k 1) q → Ahead d (suc k) (tail d (suc k) b) q
+      finer : (q : Spot) → tail (suc k) n b ≡ tail k (waiting H k n) 1 → Ahead d k (tail k (waiting H k n) 1) q → Ahead d (suc k) (tail (suc k) n b) q
       finer _ e (height f) = height (e ∙ f)
-      finer _ e (row j a c h two ask f) = row j a c (omega arith) two ask (e ∙ f)
+      finer _ e (row j i c h r ask f) = row j i c (omega arith) r ask (e ∙ f)
 
-      go : (xs : List Band) → those p (bandsFrom b) ≡ xs → Look p xs → Ahead d k (tail d k 1) (nextUp W H (suc l) d k 1) →
-          Ahead d (suc k) (tail d (suc k) b) (pick (ltb (firstCode xs) 4) (place (suc k) false (firstCode xs)) (nextUp W H (suc l) d k 1))
-      go _ e nothing ih = unfold firstCode tail in finer _ (ap (λ t. t ++ tail d k 1) (rows-none k n b (unfold look in e))) ih
-      go _ e (first c a) ih = unfold firstCode tail in rw (lt-ltb (code c) 4 (code-lt c))
-          (row k false c (omega arith) (λ z. absurd (differ z)) a
-          (ap (λ t. t ++ tail d k 1) (rows-some k n b c (unfold look in e))
-          ∙ ap (λ t. feed (rowName (suc k) c (setRow (sideAt k H) c n)) ∷ t) (beyond-up d k (code c))))
+      lazy : those p (bandsFrom b) ≡ [] → tail (suc k) n b ≡ tail k (waiting H k n) 1
+      lazy e =
+          let m = s .asks k refl (ap firstCode e) in
+          let z : setOf ahead (sideAt k H) (firstRow (sideAt k H) n) - n ≡ 0 = omega (arith, makes-yes (sideAt k H) n m) in
+          ap (λ t. t ++ rest k n) (rows-none k n b e) ∙ rw z refl
+
+      go : (xs : List Band) → those p (bandsFrom b) ≡ xs → Look p xs →
+          (firstCode (those p (bandsFrom b)) ≡ 4 → Ahead d k (tail k (waiting H k n) 1) (nextUp W H (suc l) k (waiting H k n) 1)) →
+          Ahead d (suc k) (tail (suc k) n b) (pick (ltb (firstCode xs) 4) (spot (suc k) n (firstCode xs)) (nextUp W H (suc l) k (waiting H k n) 1))
+      go _ e nothing ih = finer _ (lazy e) (ih (ap firstCode e))
+      go _ e (first c a) ih = rw (lt-ltb (code c) 4 (code-lt c))
+          (row k n c (omega arith) (at-band c a) a
+          (ap (λ t. t ++ rest k n) (rows-some k n b c e)
+          ∙ ap (λ t. feed (rowName (suc k) c (setRow (sideAt k H) c n)) ∷ t) (beyond-tail k n (code c) (omega arith))))
         where
-          differ : false ≡ true → ⊥
-          differ z = subst T (sym z) tt
-
-  alone-ahead : (d k b : ℕ) → k ≤ l → needsTwo (sideAt k H) (rowAt H d k) ≡ true → bandAt W H (suc l) d k 0 b < 4 →
-      Ahead d (suc k) (aloneTail d k b) (place (suc k) true (bandAt W H (suc l) d k 0 b))
-  unfolding bandAt nextBand look nowAt aloneTail
-  alone-ahead d k b h two less = go (those p (bandsFrom b)) refl (look-is p b) less
-    where
-      p : Band → Bool
-      p = asked (eqb (suc k) (suc l)) (sideAt k W) (sideAt k H) 0
-
-      more : List Step
-      more = setLeft (l - k) k (setAt H d k) ++ tail d k 1
-
-      go : (xs : List Band) → those p (bandsFrom b) ≡ xs → Look p xs → firstCode xs < 4 →
-          Ahead d (suc k) (rowsLeft k 0 b ++ more) (place (suc k) true (firstCode xs))
-      go _ e nothing q = let z : 4 < 4 = unfold firstCode in q in absurd (omega (arith, z))
-      go _ e (first c a) q = unfold firstCode in
-          row k true c (omega arith) (λ _. two) a
-          (ap (λ t. t ++ more) (rows-some k 0 b c (unfold look in e))
-          ∙ ap (λ t. feed (rowName (suc k) c (setRow (sideAt k H) c 0)) ∷ t) (beyond-alone d k (code c) h two))
-
-  pub alone-two : (d k : ℕ) (a : Bool) (b : ℕ) → aloneAt W H (suc l) d (suc k) a b ≡ true →
-      (a ≡ true) × (needsTwo (sideAt k H) (rowAt H d k) ≡ true) × (bandAt W H (suc l) d k 0 b < 4)
-  unfolding aloneAt
-  alone-two d k a b e =
-      let p = halves a _ e in
-      let q = halves (needsTwo (sideAt k H) (rowAt H d k)) _ (p .1) in
-      (p .0, q .0, ltb-true (bandAt W H (suc l) d k 0 b) 4 (q .1))
-
-  pub ahead : (d lev : ℕ) (a : Bool) (b : ℕ) → lev ≤ suc l → Ahead d lev (tailAt d (place lev a b)) (nextAt W H (suc l) d lev a b)
-  unfolding nextAt tailAt
-  ahead d lev a b h = go lev h (aloneAt W H (suc l) d lev a b) refl
-    where
-      go : (k : ℕ) → k ≤ suc l → (t : Bool) → aloneAt W H (suc l) d k a b ≡ t → Ahead d k (pick t (aloneTail d (k - 1) b) (tail d k b))
-          (pick t (place k true (bandAt W H (suc l) d (k - 1) 0 b)) (nextUp W H (suc l) d k b))
-      go k h false e = up-ahead d k b
-      go zero h true e = let z : false ≡ true = unfold aloneAt in e in absurd (subst T (sym z) tt)
-      go (suc k) h true e =
-          let q = alone-two d k a b e in
-          let z : suc k - 1 ≡ k = omega arith in
-          rw z (alone-ahead d k b (omega arith) (q .1) (q .2))
+          at-band : (c : Band) → p c ≡ true → Ready W H (suc l) d (spot (suc k) n (code c))
+          at-band c a = ready-band W H l d k n b c s a
 
   -- ---- so the steps left go on from row to row
   -- a row fed, or drawn, takes off the first
   module _ (d c : ℕ) (rest : H .length - d ≡ suc c) where
-    pub left-now : (p : Place) → stepsLeft d p ≡ tailAt d p ++ later c (suc d)
+    pub left-now : (p : Spot) → stepsLeft d p ≡ tailAt p ++ later c (suc d)
     unfolding stepsLeft leftFor
     left-now p = ap (λ q. leftFor q d p) rest
 
@@ -382,7 +342,7 @@ module _ (W H : Side) (l : ℕ) where
     unfolding later
     left-enter = left-now (enter W H (suc l) d) ∙ ap (λ t. t ++ later c (suc d)) (enter-tail d)
 
-  left-end : (d : ℕ) (p : Place) → H .length ≤ d → stepsLeft d p ≡ []
+  left-end : (d : ℕ) (p : Spot) → H .length ≤ d → stepsLeft d p ≡ []
   unfolding stepsLeft leftFor
   left-end d p h = let e : H .length - d ≡ 0 = omega arith in ap (λ q. leftFor q d p) e
 
@@ -390,23 +350,23 @@ module _ (W H : Side) (l : ℕ) where
   left-later d zero e = left-end d _ (omega arith) ∙ unfold later in refl
   left-later d (suc c) e = left-enter d c e
 
-  pub left-row : (d : ℕ) (q : Place) (k : ℕ) (a : Bool) (c : Band) → d < H .length →
-      tailAt d q ≡ feed (rowName (suc k) c (setRow (sideAt k H) c (nowAt W H (suc l) d k a))) ∷ tailAt d (beyond W H (suc l) d k a (code c)) →
-      stepsLeft d q ≡ feed (rowName (suc k) c (setRow (sideAt k H) c (nowAt W H (suc l) d k a))) ∷ stepsLeft d (beyond W H (suc l) d k a (code c))
-  left-row d q k a c h e =
+  pub left-row : (d : ℕ) (q : Spot) (k n : ℕ) (c : Band) → d < H .length →
+      tailAt q ≡ feed (rowName (suc k) c (setRow (sideAt k H) c n)) ∷ tailAt (beyond W H (suc l) k n (code c)) →
+      stepsLeft d q ≡ feed (rowName (suc k) c (setRow (sideAt k H) c n)) ∷ stepsLeft d (beyond W H (suc l) k n (code c))
+  left-row d q k n c h e =
       let rest : H .length - d ≡ suc (H .length - d - 1) = omega arith in
       left-now d _ rest q
       ∙ ap (λ t. t ++ later (H .length - d - 1) (suc d)) e
-      ∙ ap (λ t. feed (rowName (suc k) c (setRow (sideAt k H) c (nowAt W H (suc l) d k a))) ∷ t)
-      (sym (left-now d _ rest (beyond W H (suc l) d k a (code c))))
+      ∙ ap (λ t. feed (rowName (suc k) c (setRow (sideAt k H) c n)) ∷ t)
+      (sym (left-now d _ rest (beyond W H (suc l) k n (code c))))
 
-  pub left-height : (d : ℕ) (q : Place) → d < H .length → tailAt d q ≡ draw d ∷ [] → stepsLeft d q ≡ draw d ∷ stepsLeft (suc d) (enter W H (suc l) (suc d))
+  pub left-height : (d : ℕ) (q : Spot) → d < H .length → tailAt q ≡ draw d ∷ [] → stepsLeft d q ≡ draw d ∷ stepsLeft (suc d) (enter W H (suc l) (suc d))
   left-height d q h e =
       let rest : H .length - d ≡ suc (H .length - d - 1) = omega arith in
       left-now d _ rest q ∙ ap (λ t. t ++ later (H .length - d - 1) (suc d)) e
       ∙ ap (λ t. draw d ∷ t) (sym (left-later (suc d) (H .length - d - 1) (omega arith)))
 
-  pub left-done : (d : ℕ) (q : Place) → H .length ≤ d → stepsLeft d q ≡ []
+  pub left-done : (d : ℕ) (q : Spot) → H .length ≤ d → stepsLeft d q ≡ []
   left-done d q h = left-end d q h
 
   -- ---- at first all steps are left
@@ -416,11 +376,11 @@ module _ (W H : Side) (l : ℕ) where
   turns-later (suc c) d = let e : suc d + c ≡ d + suc c = omega arith in sym (append-assoc (inTurn d turn) _ _) ∙ turns-later c (suc d)
       ∙ ap (λ n. inTurn n turn) e
 
-  later-steps : later (H .length) 0 ≡ steps 1 W H (suc l)
+  later-steps : later (H .length) 0 ≡ steps ahead W H (suc l)
   unfolding steps inTurn
   later-steps = let e : 0 + H .length ≡ H .length = omega arith in let f : suc l - 1 ≡ l = omega arith in
       turns-later (H .length) 0 ∙ ap (λ n. inTurn n turn) e
-      ∙ ap (λ q. inTurn (H .length) (λ r. rowSteps 1 H (setSteps 1 q 1 W H) r ++ (draw r ∷ []))) (sym f)
+      ∙ ap (λ q. inTurn (H .length) (λ r. rowSteps ahead H (setSteps ahead q 1 W H) r ++ (draw r ∷ []))) (sym f)
 
-  pub left-first : stepsLeft 0 (enter W H (suc l) 0) ≡ steps 1 W H (suc l)
+  pub left-first : stepsLeft 0 (enter W H (suc l) 0) ≡ steps ahead W H (suc l)
   left-first = let f : H .length - 0 ≡ H .length = omega arith in left-later 0 (H .length) f ∙ later-steps

@@ -1,11 +1,9 @@
 -- The laws of the line store: where the stretches of the levels stand, and the walk to a level. Assumes nothing.
-use mathlib.Core.Path.{_≡_, refl, sym, ap, ap₂, subst, _∙_}
-use mathlib.Core.Bool.{Bool, true, false, _&&_}
+use mathlib.Core.Path.{_≡_, refl, sym, ap, ap₂, _∙_}
+use mathlib.Core.Bool.{true}
 use Prim.Native.Nat.{ℕ, zero, suc, _+_, _-_, _*_, _/_, _%_, _≤_, _<_, _^_}
-use native.Mathlib.Decide.{decLt, ℕ-discrete}
+use native.Mathlib.Decide.{ℕ-discrete}
 use native.Mathlib.Omega.{arith}
-use lib.Dec.{ltb, eqb}
-use borrow.Author.Tests.{le-ltb, eq-eqb, ne-eqb}
 use Rattle.numbers.specs.Signal.{pick, both}
 use Rattle.lifting.specs.Line.{lo}
 use Rattle.lifting.specs.Grid.{Side, side, count}
@@ -16,11 +14,13 @@ use Rattle.wavelet.specs.Store.{storeLength}
 use Rattle.wavelet.specs.Steps.{setOf}
 use Rattle.wavelet.proofs.SideLaws.{size-le, size-suc}
 use Rattle.wavelet.proofs.StoreLaws as grid
-use Rattle.reader.specs.Sets.{rowBelow, needsTwo, rowAt, setAt}
+use Rattle.reader.specs.declared.walk.Level.{Level}
+use Rattle.wavelet.specs.Order.{firstSet}
+use Rattle.reader.specs.Sets.{ahead, rowOf, taking, needed, firstRow, waiting}
 use Rattle.reader.specs.Store.{stretchAt}
-use Rattle.reader.specs.Inside.{IsAt}
+use Rattle.reader.specs.Inside.{IsLevel, IsAt}
 use Rattle.wavelet.proofs.StepLaws.{set-there}
-use Rattle.reader.proofs.OpenedSets.{set-is, low-is, below-is, rowAt-next, setAt-is}
+use Rattle.reader.proofs.OpenedSets.{low-is, last-is, needed-next}
 
 pub stretch-zero : (W : Side) → stretchAt W 0 ≡ 0
 unfolding stretchAt
@@ -55,82 +55,42 @@ pub length-is : (W : Side) (L : ℕ) → within 1 maxWidth (W .length) ≡ true 
     pick (both (within 1 maxWidth (W .length)) (within 1 maxLevels L)) (storeLength W L) 0 ≡ storeLength W L
 length-is W L a b = rw (a, b)
 
--- ---- the row waited for, halved as the height is. It is the row on which row d waits, or both are at the end of the level's rows.
-pub data Halved (S : Side) (r q : ℕ) : Type 0 where
-  same : q ≡ r → Halved S r q
-  late : S .length ≤ r + 1 → S .length ≤ q + 1 → Halved S r q
-
-below-same : (S : Side) (r : ℕ) → r + 1 < S .length → rowBelow S r ≡ (r + 1 - S .start % 2) / 2
-below-same S r b = omega (arith, below-is S r, set-is S r)
-
-below-late : (S : Side) (q : ℕ) → S .length ≤ q + 1 → count lo S ≤ rowBelow S q + 1
-below-late S q b = omega (arith, below-is S q, set-is S q, low-is S)
-
-rows-late : (s r N : ℕ) → N ≤ r + 1 → count lo (side s N) ≤ count lo (side s r) + 1
-rows-late s r N b = omega (arith, low-is (side s N), low-is (side s r))
-
-pub halved-on : (S : Side) (r q : ℕ) → Halved S r q → Halved (next S) (count lo (side (S .start) r)) (rowBelow S q)
-unfolding next
-halved-on S r q (same e) = elim (decLt (r + 1) (S .length)) [
-  | yes b ↦ same (ap (rowBelow S) e ∙ below-same S r b ∙ sym (low-is (side (S .start) r)))
-  | no b ↦ late (rows-late (S .start) r (S .length) (omega arith)) (below-late S q (omega arith))
-]
-halved-on S r q (late a b) = late (rows-late (S .start) r (S .length) a) (below-late S q b)
-
-late-set : (S : Side) (r : ℕ) → S .length ≤ r + 1 → setOf 1 S r ≡ (S .start % 2 + (S .length - 1)) / 2
-late-set S r b = omega (arith, set-is S r)
-
-pub halved-set : (S : Side) (r q : ℕ) → Halved S r q → setOf 1 S r ≡ setOf 1 S q
-halved-set S r q (same e) = ap (setOf 1 S) (sym e)
-halved-set S r q (late a b) = late-set S r a ∙ sym (late-set S q b)
-
-late-two : (S : Side) (r : ℕ) → S .length ≤ r + 1 → needsTwo S r ≡ false
-unfolding needsTwo
-late-two S r b = elim (ℕ-discrete r 0) [
-  | yes e ↦ rw (eq-eqb r 0 e) (le-ltb 0 (setOf 1 S r) (omega (arith, set-is S r)))
-  | no e ↦ rw (ne-eqb r 0 e) refl
-]
-
-pub halved-two : (S : Side) (r q : ℕ) → Halved S r q → needsTwo S r ≡ needsTwo S q
-halved-two S r q (same e) = ap (needsTwo S) (sym e)
-halved-two S r q (late a b) = late-two S r a ∙ sym (late-two S q b)
-
-and-both : (a b : Bool) → a && b ≡ both a b
-and-both true b = refl
-and-both false b = refl
-
-pub two-is : (S : Side) (r n : ℕ) → n ≡ setOf 1 S r → eqb r 0 && ltb 0 n ≡ needsTwo S r
-unfolding needsTwo
-two-is S r n set = and-both (eqb r 0) (ltb 0 n) ∙ ap (λ (i : ℕ). both (eqb r 0) (ltb 0 i)) set
-
--- ---- a walk from level 1 on: after i levels, the start and the sides of level i + 1, and the row waited for halved as often
+-- ---- a walk from level 1 on: after i levels, the start and the sides of level i + 1, and the row of its rows that row d of the map takes
 pub record Walked (W H : Side) (d i start wx w hy h r : ℕ) : Type 0 where
   pub begins : start ≡ stretchAt W i
   pub wide : side wx w ≡ sideAt i W
   pub high : side hy h ≡ sideAt i H
-  pub row : Halved (side hy h) r (rowAt H d i)
+  pub row : r ≡ rowOf H i (needed H 0 d i)
   pub narrow : w ≤ W .length
   pub short : h ≤ H .length
-  pub near : r ≤ d
+  pub near : r ≤ 2 ^ 32
 
-pub walk-start : (W H : Side) (d : ℕ) → Walked W H d 0 0 (W .start) (W .length) (H .start) (H .length) d
-unfolding sideAt rowAt
-walk-start W H d =
+pub walk-start : (W H : Side) (d : ℕ) → d ≤ 2 ^ 32 → Walked W H d 0 0 (W .start) (W .length) (H .start) (H .length) d
+unfolding sideAt rowOf needed
+walk-start W H d small =
     record {
       begins = sym (stretch-zero W);
       wide = refl;
       high = refl;
-      row = same refl;
+      row = refl;
       narrow = omega arith;
       short = omega arith;
-      near = omega arith;
+      near = small;
     }
 
 module _ (W H : Side) (d i start wx w hy h r : ℕ) (a : Walked W H d i start wx w hy h r) where
-  pub walk-on : (wx′ w′ hy′ h′ r′ : ℕ) → w′ ≡ count lo (side wx w) → wx′ ≡ next (side wx w) .start → r′ ≡ count lo (side hy r) →
-      h′ ≡ count lo (side hy h) → hy′ ≡ next (side hy h) .start → Walked W H d (i + 1) (start + 4 * w) wx′ w′ hy′ h′ r′
+  -- the set of the row, and the row of the next level that it takes
+  pub walked-set : (n : ℕ) → n ≡ setOf ahead (side hy h) r → n ≡ needed H 0 d (suc i)
+  walked-set n e = e ∙ ap₂ (setOf ahead) (a .high) (a .row) ∙ sym (needed-next H 0 d i (omega arith))
+
+  walked-row : (n r′ : ℕ) → n ≡ setOf ahead (side hy h) r → r′ ≡ n - firstSet (side hy h) lo → r′ ≡ rowOf H (suc i) (needed H 0 d (suc i))
+  unfolding rowOf
+  walked-row n r′ e f = f ∙ ap₂ (λ (m : ℕ) (S : Side). m - firstSet S lo) (walked-set n e) (a .high)
+
+  pub walk-on : (wx′ w′ hy′ h′ n r′ : ℕ) → H .length < 2 ^ 32 → w′ ≡ count lo (side wx w) → wx′ ≡ next (side wx w) .start → n ≡ setOf ahead (side hy h) r →
+      r′ ≡ n - firstSet (side hy h) lo → h′ ≡ count lo (side hy h) → hy′ ≡ next (side hy h) .start → Walked W H d (i + 1) (start + 4 * w) wx′ w′ hy′ h′ r′
   unfolding next
-  walk-on wx′ w′ hy′ h′ r′ ew ex er eh ey =
+  walk-on wx′ w′ hy′ h′ n r′ small ew ex en er eh ey =
       let one : i + 1 ≡ suc i = omega arith in
       let wide = a .wide in
       let high = a .high in
@@ -139,17 +99,11 @@ module _ (W H : Side) (d i start wx w hy h r : ℕ) (a : Walked W H d i start wx
         begins = sym (stretch-suc W i ∙ ap₂ (λ (x y : ℕ). x + 4 * y) (sym (a .begins)) (ap (λ (S : Side). S .length) (sym wide)));
         wide = ap₂ side ex ew ∙ ap next wide ∙ sym (size-suc i W);
         high = ap₂ side ey eh ∙ ap next high ∙ sym (size-suc i H);
-        row = rows;
+        row = walked-row n r′ en er;
         narrow = omega (arith, ew, a .narrow, low-is (side wx w));
         short = omega (arith, eh, a .short, low-is (side hy h));
-        near = omega (arith, er, a .near, low-is (side hy r));
+        near = omega (arith, er, en, a .short, set-there ahead (side hy h) r, last-is (side hy h));
       }
-    where
-      rows : Halved (side hy′ h′) r′ (rowAt H d (suc i))
-      rows =
-          rw (ey, eh, er, rowAt-next H d i)
-          (subst (λ (S : Side). Halved (next (side hy h)) (count lo (side hy r)) (rowBelow S (rowAt H d i))) (a .high)
-          (halved-on (side hy h) r (rowAt H d i) (a .row)))
 
 -- ---- the same by the coordinates where a side begins and ends
 half-of : (v n r : ℕ) → r ≡ next (side v n) .start → r ≡ (v + 1) / 2
@@ -162,43 +116,39 @@ between a b a′ b′ h ea eb = (omega arith, omega (arith, low-is (side a (b - 
 pub record Ends (W H : Side) (d i start left right top bottom row : ℕ) : Type 0 where
   pub across : left ≤ right
   pub down : top ≤ bottom
-  pub at : top ≤ row
-  pub walked : Walked W H d i start left (right - left) top (bottom - top) (row - top)
+  pub walked : Walked W H d i start left (right - left) top (bottom - top) row
   pub small : (left ≤ W .start) × (top ≤ H .start)
 
-pub ends-start : (W H : Side) (d : ℕ) → Ends W H d 0 0 (W .start) (W .start + W .length) (H .start) (H .start + H .length) (H .start + d)
-ends-start W H d =
+pub ends-start : (W H : Side) (d : ℕ) → d ≤ 2 ^ 32 → Ends W H d 0 0 (W .start) (W .start + W .length) (H .start) (H .start + H .length) d
+ends-start W H d near =
     let a : W .start + W .length - W .start ≡ W .length = omega arith in
     let b : H .start + H .length - H .start ≡ H .length = omega arith in
-    let c : H .start + d - H .start ≡ d = omega arith in
-    record { across = omega arith; down = omega arith; at = omega arith; walked = rw (a, b, c) (walk-start W H d); small = (omega arith, omega arith) }
+    record { across = omega arith; down = omega arith; walked = rw (a, b) (walk-start W H d near); small = (omega arith, omega arith) }
 
-pub ends-on : (W H : Side) (d i start a b t u c : ℕ) → Ends W H d i start a b t u c → (a′ b′ t′ u′ c′ : ℕ) →
+pub ends-on : (W H : Side) (d i start a b t u c : ℕ) → H .length < 2 ^ 32 → Ends W H d i start a b t u c → (a′ b′ t′ u′ n c′ : ℕ) →
+    n ≡ setOf ahead (side t (u - t)) c → ((h : ℕ) → c′ ≡ n - firstSet (side t h) lo) →
     ((n : ℕ) → a′ ≡ next (side a n) .start) → ((n : ℕ) → b′ ≡ next (side b n) .start) → ((n : ℕ) → t′ ≡ next (side t n) .start) →
-    ((n : ℕ) → u′ ≡ next (side u n) .start) → ((n : ℕ) → c′ ≡ next (side c n) .start) → Ends W H d (i + 1) (start + 4 * (b - a)) a′ b′ t′ u′ c′
-ends-on W H d i start a b t u c e a′ b′ t′ u′ c′ ea eb et eu ec =
+    ((n : ℕ) → u′ ≡ next (side u n) .start) → Ends W H d (i + 1) (start + 4 * (b - a)) a′ b′ t′ u′ c′
+ends-on W H d i start a b t u c small e a′ b′ t′ u′ n c′ en ec ea eb et eu =
     let fa = half-of a 0 a′ (ea 0) in
     let ft = half-of t 0 t′ (et 0) in
     let w = between a b a′ b′ (e .across) fa (half-of b 0 b′ (eb 0)) in
     let h = between t u t′ u′ (e .down) ft (half-of u 0 u′ (eu 0)) in
-    let r = between t c t′ c′ (e .at) ft (half-of c 0 c′ (ec 0)) in
     record {
       across = w .0;
       down = h .0;
-      at = r .0;
-      walked = walk-on W H d i start a (b - a) t (u - t) (c - t) (e .walked) a′ (b′ - a′) t′ (u′ - t′) (c′ - t′) (w .1) (ea (b - a)) (r .1) (h .1) (et (u - t));
+      walked = walk-on W H d i start a (b - a) t (u - t) c (e .walked) a′ (b′ - a′) t′ (u′ - t′) n c′ small (w .1) (ea (b - a)) en (ec (u - t)) (h .1)
+          (et (u - t));
       small = (omega (arith, fa, e .small .0), omega (arith, ft, e .small .1));
     }
 
--- the level come to, at the set that makes the row waited for
-pub walked-level : (W H : Side) (d k i start wx w hy h r : ℕ) → i ≡ k → Walked W H d i start wx w hy h r → (n : ℕ) → n ≡ setOf 1 (side hy h) r →
-    IsAt W H d k (record { start = start; x = wx; width = w; y = hy; height = h; set = n; two = eqb r 0 && ltb 0 n })
-walked-level W H d k i start wx w hy h r e a n set =
+-- the level come to, at the last set that row d needs
+pub walked-level : (W H : Side) (d k i start wx w hy h r : ℕ) → H .length < 2 ^ 32 → i ≡ k → Walked W H d i start wx w hy h r → (n : ℕ) →
+    n ≡ setOf ahead (side hy h) r → IsAt W H d k (record { start = start; x = wx; width = w; y = hy; height = h; set = n; last = n })
+walked-level W H d k i start wx w hy h r small e a n set =
     let wide : side wx w ≡ sideAt k W = a .wide ∙ ap (λ (j : ℕ). sideAt j W) e in
     let high : side hy h ≡ sideAt k H = a .high ∙ ap (λ (j : ℕ). sideAt j H) e in
-    let row : rowAt H d i ≡ rowAt H d k = ap (rowAt H d) e in
-    let now : n ≡ setAt H d k =
-    set ∙ halved-set (side hy h) r (rowAt H d i) (a .row) ∙ ap₂ (setOf 1) high row ∙ sym (setAt-is H d k) in
+    let now : n ≡ needed H 0 d (suc k) = walked-set W H d i start wx w hy h r a n set ∙ ap (λ (j : ℕ). needed H 0 d (suc j)) e in
     record {
       level = record {
         start = a .begins ∙ ap (stretchAt W) e;
@@ -206,8 +156,30 @@ walked-level W H d k i start wx w hy h r e a n set =
         width = ap (λ (S : Side). S .length) wide;
         y = ap (λ (S : Side). S .start) high;
         height = ap (λ (S : Side). S .length) high;
-        set = omega (arith, now, setAt-is H d k, set-there 1 (sideAt k H) (rowAt H d k));
+        set = omega (arith, set, a .short, set-there ahead (side hy h) r, last-is (side hy h));
+        last = now;
       };
       now = now;
-      two = two-is (side hy h) r n set ∙ halved-two (side hy h) r (rowAt H d i) (a .row) ∙ ap₂ needsTwo high row;
     }
+
+-- a level at another set
+abbrev pub AtSet : Level → ℕ → Level → Type 0
+AtSet l n m =
+    (m .start ≡ l .start) × (m .x ≡ l .x) × (m .width ≡ l .width) × (m .y ≡ l .y) × (m .height ≡ l .height) × (m .set ≡ n) × (m .last ≡ l .last)
+
+pub set-level : (W H : Side) (d k n : ℕ) (l m : Level) → n ≤ 2 ^ 32 → IsLevel W H d k l → AtSet l n m → IsLevel W H d k m
+set-level W H d k n l m small is e = record {
+  start = e .0 ∙ is .start;
+  x = e .1 ∙ is .x;
+  width = e .2 ∙ is .width;
+  y = e .3 ∙ is .y;
+  height = e .4 ∙ is .height;
+  set = omega (arith, e .5);
+  last = e .6 ∙ is .last;
+}
+
+-- the finer level that waits
+pub waiting-is : (H : Side) (k n r y : ℕ) → 0 < k → r ≡ firstRow (sideAt k H) n → y ≡ sideAt (k - 1) H .start → r + y % 2 ≡ waiting H k n
+unfolding waiting taking firstSet
+waiting-is H zero n r y h er ey = absurd (omega arith)
+waiting-is H (suc k) n r y h er ey = let z : suc k - 1 ≡ k = omega arith in rw (er, ey, z) refl

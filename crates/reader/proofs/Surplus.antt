@@ -12,11 +12,11 @@ use Rattle.lifting.specs.Grid.{Side}
 use Rattle.wavelet.specs.Levels.{sideAt}
 use Rattle.wavelet.specs.Store.{storeLength}
 use Rattle.reader.specs.declared.Reader.{Reader}
-use Rattle.reader.specs.Sets.{K, setAt}
+use Rattle.reader.specs.Sets.{K, waiting}
 use Rattle.level.specs.Tried.{Tried, passed, bind, onto, memory}
-use Rattle.reader.specs.Store.{stretchAt, from, behind, zeroed, hasCells, fedAt, workedAt}
-use Rattle.reader.specs.Machine.{nowAt, lastOfSet, settled, finished, fedOn}
-use Rattle.reader.specs.State.{columns, rows, next, settles, feeds, drawDue}
+use Rattle.reader.specs.Store.{stretchAt, from, behind, zeroed, hasSet, fedAt, workedAt}
+use Rattle.reader.specs.Machine.{lastOfSet, settled, finished, fedOn}
+use Rattle.reader.specs.State.{columns, rows, spotNow, next, settles, feeds, drawDue}
 use Rattle.reader.specs.Questions.{setUpQuestion, feedQuestion, drawQuestion}
 use Rattle.reader.specs.Calls.{setUpStore, storeAfter, feedStore, drawStore}
 use Rattle.areas.proofs.AreaLaws.{front-rest}
@@ -31,7 +31,7 @@ use Rattle.reader.proofs.QuestionLaws.{counts-in}
 use Rattle.reader.proofs.Keeps.{feed-counts, draw-counts}
 
 -- ---- in the store
-module _ (W H : Side) (L d : ℕ) where
+module _ (W H : Side) (L : ℕ) where
   abbrev N : ℕ
   N = storeLength W L
 
@@ -52,36 +52,35 @@ module _ (W H : Side) (L d : ℕ) where
 
   worked-at-past : (k n : ℕ) (x : ℕ → ℤ) → k < L → Keeps N x (workedAt W H L k n x)
   unfolding workedAt
-  worked-at-past k n x h = go (hasCells (sideAt k W) (sideAt k H))
+  worked-at-past k n x h = go (hasSet (sideAt k W) (sideAt k H) n)
     where
       go : (t : Bool) → Keeps N x (pick t
           (onto (behind (stretchAt W k) x) (K .work (eqb (suc k) L) k (sideAt k W) (sideAt k H) n (from (stretchAt W k) x))) (passed x))
       go true = put-past k x _ h (worked-past k (sideAt k W) (sideAt k H) (eqb (suc k) L) n (from (stretchAt W k) x))
       go false = goes (kept-none N x)
 
-  settled-past : (to k : ℕ) (x : ℕ → ℤ) → k ≤ L → Keeps N x (settled W H L d to k x)
+  settled-past : (to k n : ℕ) (x : ℕ → ℤ) → k ≤ L → Keeps N x (settled W H L to k n x)
   unfolding settled
-  settled-past to zero x h = goes (kept-none N x)
-  settled-past to (suc k) x h = go (ltb to (suc k)) (λ y. settled-past to k y (omega arith))
+  settled-past to zero n x h = goes (kept-none N x)
+  settled-past to (suc k) n x h = go (ltb to (suc k)) (λ y. settled-past to k (waiting H k n) y (omega arith))
     where
-      go : (t : Bool) → ((y : ℕ → ℤ) → Keeps N y (settled W H L d to k y)) →
-          Keeps N x (pick t (bind (workedAt W H L k (setAt H d k) x) (settled W H L d to k)) (passed x))
-      go true ih = bound N x _ _ (worked-at-past k (setAt H d k) x (omega arith)) ih
+      go : (t : Bool) → ((y : ℕ → ℤ) → Keeps N y (settled W H L to k (waiting H k n) y)) →
+          Keeps N x (pick t (bind (workedAt W H L k n x) (settled W H L to k (waiting H k n))) (passed x))
+      go true ih = bound N x _ _ (worked-at-past k n x (omega arith)) ih
       go false ih = goes (kept-none N x)
 
-  finished-past : (k n c : ℕ) (x : ℕ → ℤ) → k < L → Keeps N x (finished W H L d k n c x)
+  finished-past : (k n c : ℕ) (x : ℕ → ℤ) → k < L → Keeps N x (finished W H L k n c x)
   unfolding finished
-  finished-past k n c x h = go (lastOfSet W H L d k n c)
+  finished-past k n c x h = go (lastOfSet W H L k n c)
     where
       go : (t : Bool) → Keeps N x (pick t (workedAt W H L k n x) (passed x))
       go true = worked-at-past k n x h
       go false = goes (kept-none N x)
 
-  fed-past : (k : ℕ) (a : Bool) (c : ℕ) (v x : ℕ → ℤ) → k ≤ L → Keeps N x (fedOn W H L d k a c v x)
+  fed-past : (k n c : ℕ) (v x : ℕ → ℤ) → k ≤ L → Keeps N x (fedOn W H L k n c v x)
   unfolding fedOn
-  fed-past zero a c v x h = goes (kept-none N x)
-  fed-past (suc k) a c v x h =
-      let n = nowAt W H L d k a in
+  fed-past zero n c v x h = goes (kept-none N x)
+  fed-past (suc k) n c v x h =
       let y = fedAt W H k n c v x in
       let room : storeLength W (k + 1) ≤ N = store-in W (k + 1) L (omega arith) in
       after N x y _ (kept-more (storeLength W (k + 1)) N x y room (fed-kept W H k n c v x)) (finished-past k n c y (omega arith))
@@ -90,13 +89,13 @@ module _ (W H : Side) (L d : ℕ) where
 module _ (s : Reader) (deep : s .level ≤ s .levels) where
   settles-past : (x : ℕ → ℤ) → Keeps (storeLength (columns s) (s .levels)) x (settles s x)
   unfolding settles
-  settles-past x = settled-past (columns s) (rows s) (s .levels) (s .drawn) (next s .level) (s .level) x deep
+  settles-past x = settled-past (columns s) (rows s) (s .levels) (next s .level) (s .level) (spotNow s .set) x deep
 
   feeds-past : (v x : ℕ → ℤ) → Keeps (storeLength (columns s) (s .levels)) x (feeds s v x)
   unfolding feeds
   feeds-past v x =
       bound (storeLength (columns s) (s .levels)) x (settles s x) _ (settles-past x)
-      (λ y. fed-past (columns s) (rows s) (s .levels) (s .drawn) (next s .level) (next s .alone) (next s .band) v y (omega (arith, near s .within)))
+      (λ y. fed-past (columns s) (rows s) (s .levels) (next s .level) (next s .set) (next s .band) v y (omega (arith, near s .within)))
 
 remembered : (n : ℕ) (x : ℕ → ℤ) (t : Tried) → Keeps n x t → (j : ℕ) → n ≤ j → memory x t j ≡ x j
 unfolding memory

@@ -15,172 +15,115 @@ use Rattle.level.proofs.WorkLaws.{bind-failed, bind-passed}
 use Rattle.reader.specs.declared.walk.Level.{Level}
 use Rattle.reader.specs.declared.walk.Spot.{Spot}
 use Rattle.reader.specs.declared.walk.Next.{Next}
-use Rattle.reader.specs.Sets.{needsTwo, rowAt, setAt}
+use Rattle.reader.specs.Sets.{makes, waiting}
 use Rattle.reader.specs.Asked.{nextBand}
 use Rattle.reader.specs.Store.{workedAt}
-use Rattle.reader.specs.Machine.{Place, place, bandAt, aloneAt, nowAt, lastOfSet, nextUp, settled, finished, past, beyond}
-use Rattle.reader.specs.Inside.{IsLevel, IsAt, Is, IsNext}
+use Rattle.reader.specs.Machine.{spot, bandAt, lastOfSet, nextUp, settled, finished, past, beyond, begins}
+use Rattle.reader.specs.Machine as machine
+use Rattle.reader.specs.Inside.{IsLevel, Is, IsNext}
 use Rattle.reader.proofs.PartLaws.{level-wide, level-high}
 
 -- a place by its numbers
-pub is-place : (q : Place) (p : Spot) → place (p .level) (p .alone) (p .band) ≡ q → Is q p
-is-place q p e = record {
-  level = ap (λ (r : Place). r .level) e;
-  alone = ap (λ (r : Place). r .alone) e;
-  band = ap (λ (r : Place). r .band) e;
+pub is-spot : (q : machine.Spot) (p : Spot) → spot (p .level) (p .set) (p .band) ≡ q → Is q p
+is-spot q p e = record {
+  level = ap (λ (r : machine.Spot). r .level) e;
+  set = ap (λ (r : machine.Spot). r .set) e;
+  band = ap (λ (r : machine.Spot). r .band) e;
 }
 
--- a level by its numbers; whether its row needs two sets does not count
-pub level-plain : (W H : Side) (k : ℕ) (l : Level) → IsLevel W H k l →
-    IsLevel W H k (record { start = l .start; x = l .x; width = l .width; y = l .y; height = l .height; set = l .set; two = false })
-level-plain W H k l is = record { start = is .start; x = is .x; width = is .width; y = is .y; height = is .height; set = is .set }
-
 -- no row
-pub no-next : (W H : Side) (L d : ℕ) (q : Place) (n : Next) → place 0 false 4 ≡ q → n .spot .level ≡ 0 → n .spot .alone ≡ false → n .spot .band ≡ 4 →
-    IsNext W H L d q n
-no-next W H L d q n e a b c = record {
-  spot = is-place q (n .spot) (rw (a, b, c) e);
+pub no-next : (W H : Side) (d : ℕ) (q : machine.Spot) (n : Next) → spot 0 0 4 ≡ q → n .spot .level ≡ 0 → n .spot .set ≡ 0 → n .spot .band ≡ 4 → IsNext W H d q n
+no-next W H d q n e a b c = record {
+  spot = is-spot q (n .spot) (rw (a, b, c) e);
   at = λ h. absurd (omega arith);
   set = λ h. absurd (omega arith);
 }
 
-module _ (W H : Side) (L d : ℕ) where
-  pub band-is : (k b : ℕ) (l : Level) → IsLevel W H k l →
-      nextBand (eqb (k + 1) L) (side (l .x) (l .width)) (side (l .y) (l .height)) (l .set) b ≡ bandAt W H L d k (l .set) b
+module _ (W H : Side) (L : ℕ) where
+  pub band-is : (d k b : ℕ) (l : Level) → IsLevel W H d k l →
+      nextBand (eqb (k + 1) L) (side (l .x) (l .width)) (side (l .y) (l .height)) (l .set) b ≡ bandAt W H L k (l .set) b
   unfolding bandAt
-  band-is k b l is = cc (level-wide W H k l is, level-high W H k l is, add-one k)
+  band-is d k b l is = cc (level-wide W H d k l is, level-high W H d k l is, add-one k)
 
   -- ---- the row wanted
-  pub up-here : (k b c n : ℕ) → 0 < k → n ≡ setAt H d (k - 1) → c ≡ bandAt W H L d (k - 1) n b → c < 4 → place k false c ≡ nextUp W H L d k b
+  pub up-here : (k b c n : ℕ) → 0 < k → c ≡ bandAt W H L (k - 1) n b → c < 4 → spot k n c ≡ nextUp W H L k n b
   unfolding nextUp
-  up-here zero b c n some set e h = absurd (omega arith)
-  up-here (suc k) b c n some set e h =
+  up-here zero b c n some e h = absurd (omega arith)
+  up-here (suc k) b c n some e h =
       let i : suc k - 1 ≡ k = omega arith in
-      let is : c ≡ bandAt W H L d k (setAt H d k) b = e ∙ ap (λ (m : ℕ). bandAt W H L d (suc k - 1) m b) set
-      ∙ ap (λ (j : ℕ). bandAt W H L d j (setAt H d j) b) i in
+      let is : c ≡ bandAt W H L k n b = e ∙ ap (λ (j : ℕ). bandAt W H L j n b) i in
       rw (← is, lt-ltb c 4 h)
 
-  pub up-finer : (k b c n : ℕ) → 0 < k → n ≡ setAt H d (k - 1) → c ≡ bandAt W H L d (k - 1) n b → 4 ≤ c → nextUp W H L d (k - 1) 1 ≡ nextUp W H L d k b
+  pub up-finer : (k b c n m : ℕ) → 0 < k → c ≡ bandAt W H L (k - 1) n b → 4 ≤ c → (0 < k - 1 → m ≡ waiting H (k - 1) n) →
+      nextUp W H L (k - 1) m 1 ≡ nextUp W H L k n b
   unfolding nextUp
-  up-finer zero b c n some set e h = absurd (omega arith)
-  up-finer (suc k) b c n some set e h =
+  up-finer zero b c n m some e h w = absurd (omega arith)
+  up-finer (suc k) b c n m some e h w =
       let i : suc k - 1 ≡ k = omega arith in
-      let is : c ≡ bandAt W H L d k (setAt H d k) b = e ∙ ap (λ (m : ℕ). bandAt W H L d (suc k - 1) m b) set
-      ∙ ap (λ (j : ℕ). bandAt W H L d j (setAt H d j) b) i in
-      rw (← is, le-ltb c 4 h, i)
-
-  pub up-none : (k b : ℕ) → k ≡ 0 → place 0 false 4 ≡ nextUp W H L d k b
-  unfolding nextUp
-  up-none k b e = rw e
-
-  -- of the set of a high row alone
-  abbrev pub aloneNext : ℕ → ℕ → Place
-  aloneNext k b = pick (aloneAt W H L d k true b) (place k true (bandAt W H L d (k - 1) 0 b)) (place 0 false 4)
-
-  pub alone-not : (k b : ℕ) → 0 < k → needsTwo (sideAt (k - 1) H) (rowAt H d (k - 1)) ≡ false → place 0 false 4 ≡ aloneNext k b
-  unfolding aloneAt
-  alone-not zero b some e = absurd (omega arith)
-  alone-not (suc k) b some e =
-      let i : suc k - 1 ≡ k = omega arith in
-      let f : needsTwo (sideAt k H) (rowAt H d k) ≡ false = ap (λ (j : ℕ). needsTwo (sideAt j H) (rowAt H d j)) (sym i) ∙ e in
-      rw f refl
-
-  pub alone-past : (k b c : ℕ) → 0 < k → c ≡ bandAt W H L d (k - 1) 0 b → 4 ≤ c → place 0 false 4 ≡ aloneNext k b
-  unfolding aloneAt
-  alone-past zero b c some e h = absurd (omega arith)
-  alone-past (suc k) b c some e h =
-      let i : suc k - 1 ≡ k = omega arith in
-      let is : c ≡ bandAt W H L d k 0 b = e ∙ ap (λ (j : ℕ). bandAt W H L d j 0 b) i in
-      rw (← is, le-ltb c 4 h) (either (needsTwo (sideAt k H) (rowAt H d k)))
+      let is : c ≡ bandAt W H L k n b = e ∙ ap (λ (j : ℕ). bandAt W H L j n b) i in
+      rw (← is, le-ltb c 4 h, i) (same k (rw i at w))
     where
-      either : (t : Bool) → place 0 false 4 ≡ pick (pick t false false) (place (suc k) true (bandAt W H L d (suc k - 1) 0 b)) (place 0 false 4)
-      either true = refl
-      either false = refl
+      same : (k : ℕ) → (0 < k → m ≡ waiting H k n) → nextUp W H L k m 1 ≡ nextUp W H L k (waiting H k n) 1
+      same zero w = refl
+      same (suc k) w = ap (λ (i : ℕ). nextUp W H L (suc k) i 1) (w (omega arith))
 
-  pub alone-here : (k b c : ℕ) → 0 < k → needsTwo (sideAt (k - 1) H) (rowAt H d (k - 1)) ≡ true → c ≡ bandAt W H L d (k - 1) 0 b → c < 4 →
-      place k true c ≡ aloneNext k b
-  unfolding aloneAt
-  alone-here zero b c some e f h = absurd (omega arith)
-  alone-here (suc k) b c some e f h =
-      let i : suc k - 1 ≡ k = omega arith in
-      let two : needsTwo (sideAt k H) (rowAt H d k) ≡ true = ap (λ (j : ℕ). needsTwo (sideAt j H) (rowAt H d j)) (sym i) ∙ e in
-      let is : c ≡ bandAt W H L d k 0 b = f ∙ ap (λ (j : ℕ). bandAt W H L d j 0 b) i in
-      rw (two, ← is, lt-ltb c 4 h, ← f) refl
+  pub up-none : (k n b : ℕ) → k ≡ 0 → spot 0 0 4 ≡ nextUp W H L k n b
+  unfolding nextUp
+  up-none k n b e = rw e
+
+  pub up-next : (d : ℕ) (q : machine.Spot) (k c : ℕ) (l : Level) → IsLevel W H d (k - 1) l → spot k (l .set) c ≡ q →
+      IsNext W H d q (record { spot = record { level = k; set = l .set; band = c }; at = l })
+  up-next d q k c l is e = record { spot = is-spot q (record { level = k; set = l .set; band = c }) e; at = λ h. is; set = λ h. refl }
 
   -- ---- the sets on the way
-  pub settle-none : (to k : ℕ) (x : ℕ → ℤ) → k ≤ to → passed x ≡ settled W H L d to k x
+  pub settle-none : (to k n : ℕ) (x : ℕ → ℤ) → k ≤ to → passed x ≡ settled W H L to k n x
   unfolding settled
-  settle-none to zero x h = refl
-  settle-none to (suc k) x h = rw (le-ltb to (suc k) h)
+  settle-none to zero n x h = refl
+  settle-none to (suc k) n x h = rw (le-ltb to (suc k) h)
 
-  pub settle-failed : (to k n : ℕ) (x : ℕ → ℤ) → to < k → n ≡ setAt H d (k - 1) → failed ≡ workedAt W H L (k - 1) n x → failed ≡ settled W H L d to k x
+  pub settle-failed : (to k n : ℕ) (x : ℕ → ℤ) → to < k → failed ≡ workedAt W H L (k - 1) n x → failed ≡ settled W H L to k n x
   unfolding settled
-  settle-failed to zero n x h set e = absurd (omega arith)
-  settle-failed to (suc k) n x h set e =
+  settle-failed to zero n x h e = absurd (omega arith)
+  settle-failed to (suc k) n x h e =
       let i : suc k - 1 ≡ k = omega arith in
-      rw (lt-ltb to (suc k) h) (bind-failed _ _ (e ∙ ap (λ (m : ℕ). workedAt W H L (suc k - 1) m x) set ∙ ap (λ (j : ℕ). workedAt W H L j (setAt H d j) x) i))
+      rw (lt-ltb to (suc k) h) (bind-failed _ _ (e ∙ ap (λ (j : ℕ). workedAt W H L j n x) i))
 
-  pub settle-on : (to k n : ℕ) (x y : ℕ → ℤ) → to < k → n ≡ setAt H d (k - 1) → passed y ≡ workedAt W H L (k - 1) n x →
-      settled W H L d to (k - 1) y ≡ settled W H L d to k x
+  pub settle-on : (to k n m : ℕ) (x y : ℕ → ℤ) → to < k → (0 < k - 1 → m ≡ waiting H (k - 1) n) → passed y ≡ workedAt W H L (k - 1) n x →
+      settled W H L to (k - 1) m y ≡ settled W H L to k n x
   unfolding settled
-  settle-on to zero n x y h set e = absurd (omega arith)
-  settle-on to (suc k) n x y h set e =
+  settle-on to zero n m x y h w e = absurd (omega arith)
+  settle-on to (suc k) n m x y h w e =
       let i : suc k - 1 ≡ k = omega arith in
       rw (lt-ltb to (suc k) h, i)
-      (bind-passed _ (settled W H L d to k) y
-      (e ∙ ap (λ (m : ℕ). workedAt W H L (suc k - 1) m x) set ∙ ap (λ (j : ℕ). workedAt W H L j (setAt H d j) x) i))
+      (same k (rw i at w) ∙ bind-passed _ (settled W H L to k (waiting H k n)) y (e ∙ ap (λ (j : ℕ). workedAt W H L j n x) i))
+    where
+      same : (k : ℕ) → (0 < k → m ≡ waiting H k n) → settled W H L to k m y ≡ settled W H L to k (waiting H k n) y
+      same zero w = refl
+      same (suc k) w = ap (λ (i : ℕ). settled W H L to (suc k) i y) (w (omega arith))
 
   -- ---- the set that a row completes, and the place after it
-  module _ (k n c : ℕ) (t : Bool) (x : ℕ → ℤ) (is : t ≡ lastOfSet W H L d k n c) where
-    pub finish-not : t ≡ false → passed x ≡ finished W H L d k n c x
+  module _ (k n c : ℕ) (t : Bool) (x : ℕ → ℤ) (is : t ≡ lastOfSet W H L k n c) where
+    pub finish-not : t ≡ false → passed x ≡ finished W H L k n c x
     unfolding finished
-    finish-not e = let u : lastOfSet W H L d k n c ≡ false = sym is ∙ e in rw u
+    finish-not e = let u : lastOfSet W H L k n c ≡ false = sym is ∙ e in rw u
 
-    pub finish-set : t ≡ true → workedAt W H L k n x ≡ finished W H L d k n c x
+    pub finish-set : t ≡ true → workedAt W H L k n x ≡ finished W H L k n c x
     unfolding finished
-    finish-set e = let u : lastOfSet W H L d k n c ≡ true = sym is ∙ e in rw u
+    finish-set e = let u : lastOfSet W H L k n c ≡ true = sym is ∙ e in rw u
 
-  module _ (k n c : ℕ) (a t : Bool) (set : n ≡ nowAt W H L d k a) (is : t ≡ lastOfSet W H L d k n c) where
-    complete : lastOfSet W H L d k (nowAt W H L d k a) c ≡ t
-    complete = sym (is ∙ ap (λ (m : ℕ). lastOfSet W H L d k m c) set)
+  -- the place after it
+  pub beyond-more : (k n c j : ℕ) (t : Bool) → t ≡ lastOfSet W H L k n c → j ≡ k + 1 → t ≡ false → spot j n (c + 1) ≡ beyond W H L k n c
+  unfolding beyond
+  beyond-more k n c j t is e h = rw (← is, h, e, add-one k)
 
-    pub beyond-more : (j : ℕ) → j ≡ k + 1 → t ≡ false → place j a (c + 1) ≡ beyond W H L d k a c
-    unfolding beyond
-    beyond-more j e h = rw (complete, h, e, add-one k)
+  pub beyond-set : (k n c : ℕ) (t : Bool) → t ≡ lastOfSet W H L k n c → t ≡ true → past W H L k n ≡ beyond W H L k n c
+  unfolding beyond
+  beyond-set k n c t is h = rw (← is, h)
 
-    pub beyond-set : t ≡ true → past W H L d k a ≡ beyond W H L d k a c
-    unfolding beyond
-    beyond-set h = rw (complete, h)
-
-  pub past-set : (k : ℕ) (a : Bool) → a ≡ false → place k false 1 ≡ past W H L d k a
+  pub past-next : (k n : ℕ) → makes (sideAt k H) n ≡ false → begins W H L (suc k) (suc n) ≡ past W H L k n
   unfolding past
-  past-set k a e = rw e
+  past-next k n e = rw e
 
--- ---- the rows wanted, as the code gives them
--- the same level at its set 0
-abbrev pub AtFirst : Level → Level → Type 0
-AtFirst l m = (m .start ≡ l .start) × (m .x ≡ l .x) × (m .width ≡ l .width) × (m .y ≡ l .y) × (m .height ≡ l .height) × (m .set ≡ 0)
-
-pub first-level : (W H : Side) (k : ℕ) (l m : Level) → IsLevel W H k l → AtFirst l m → IsLevel W H k m
-first-level W H k l m is e = record {
-  start = e .0 ∙ is .start;
-  x = e .1 ∙ is .x;
-  width = e .2 ∙ is .width;
-  y = e .3 ∙ is .y;
-  height = e .4 ∙ is .height;
-  set = omega (arith, e .5);
-}
-
-module _ (W H : Side) (L d : ℕ) where
-  pub first-band : (k : ℕ) (m : Level) (b c : ℕ) → m .set ≡ 0 → c ≡ bandAt W H L d k (m .set) b → c ≡ bandAt W H L d k 0 b
-  first-band k m b c z e = e ∙ ap (λ (n : ℕ). bandAt W H L d k n b) z
-
-  pub alone-next : (k b c : ℕ) (m : Level) → IsLevel W H (k - 1) m → m .set ≡ 0 → place k true c ≡ aloneNext W H L d k b →
-      IsNext W H L d (aloneNext W H L d k b) (record { spot = record { level = k; alone = true; band = c }; at = m })
-  unfolding nowAt
-  alone-next k b c m is z e = record { spot = is-place _ (record { level = k; alone = true; band = c }) e; at = λ h. is; set = λ h. z }
-
-  pub up-next : (q : Place) (k c : ℕ) (l : Level) → IsAt W H d (k - 1) l → place k false c ≡ q →
-      IsNext W H L d q (record { spot = record { level = k; alone = false; band = c }; at = l })
-  unfolding nowAt
-  up-next q k c l is e = record { spot = is-place q (record { level = k; alone = false; band = c }) e; at = λ h. is .level; set = λ h. is .now }
+  pub past-up : (k n : ℕ) → makes (sideAt k H) n ≡ true → spot k (waiting H k n) 1 ≡ past W H L k n
+  unfolding past
+  past-up k n e = rw e

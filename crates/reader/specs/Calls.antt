@@ -12,7 +12,7 @@ use Rattle.level.specs.Tried.{memory}
 use Rattle.reader.specs.Sets.{K}
 use Rattle.reader.specs.Store.{zeroed}
 use Rattle.reader.specs.Answers.{Reply, gives, refused, impossible, Want, Handed, aRow, nothing}
-use Rattle.reader.specs.Machine.{enter}
+use Rattle.reader.specs.Machine.{placeOf, enter}
 use Rattle.reader.specs.State.{columns, wants, settles, feeds, drawDue, fedReader, drawnReader, endedReader}
 
 -- ---- set-up
@@ -26,7 +26,7 @@ fresh W H L = record {
   y = H .start;
   drawn = 0;
   level = enter W H L 0 .level;
-  alone = enter W H L 0 .alone;
+  back = placeOf H 0 (enter W H L 0) .back;
   band = enter W H L 0 .band;
   ended = false;
 }

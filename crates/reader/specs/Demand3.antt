@@ -25,7 +25,7 @@ use Rattle.wavelet.specs.Steps as step
 use Rattle.calls.specs.Lists.{Reply, gives, refused, Area, All, gathered, ever}
 use Rattle.calls.specs.Lists as lists
 use Rattle.reader.specs.declared.Reader.{Reader}
-use Rattle.reader.specs.Sets.{setAt}
+use Rattle.reader.specs.Sets.{ahead, hasRow, needed}
 use Rattle.reader.specs.Rebuilt.{Rows, SetFits}
 use Rattle.reader.specs.Store.{hasCells}
 use Rattle.reader.specs.Answers.{Want, row, drawNow, done, ended, Handed, aRow}
@@ -194,7 +194,7 @@ HasRow W H g f = IsRow W H g (f .row) (f .run)
 
 pub record HasFed (W H : Side) (L : ℕ) (g : Grid) (es : List Event) : Type 0 where
   pub map : IsMap (W .length) (H .length) g
-  pub rows : All (HasRow W H g) (fedRows (steps 1 W H L) es)
+  pub rows : All (HasRow W H g) (fedRows (steps ahead W H L) es)
 
 -- the rows ys are the first rows of the map
 pub record FirstRows (W : Side) (g : Grid) (ys : List (ℕ → ℤ)) : Type 0 where
@@ -269,43 +269,43 @@ goesOnSet H x [] = false
 goesOnSet H x (step.feed y ∷ t) = both (eqb (y .level) (x .level)) (eqb (setNumber H y) (setNumber H x))
 goesOnSet H x (step.draw r ∷ t) = false
 
--- While row d is waited for, the sets of the levels above k fit: `setAt` is the set of each that makes what is waited for.
-pub record SetsFit (W H : Side) (L : ℕ) (P : Rows) (d k : ℕ) : Type 0 where
-  pub fit : (j : ℕ) → k ≤ j → j < L → hasCells (sideAt j W) (sideAt j H) ≡ true → SetFits W H P L j (setAt H d j)
+-- The sets of the levels above level k that number n of level k (level 0: a height row) needs fit, up to the last of each.
+pub record SetsFit (W H : Side) (L : ℕ) (P : Rows) (k n : ℕ) : Type 0 where
+  pub fit : (j : ℕ) → k ≤ j → j < L → hasCells (sideAt j W) (sideAt j H) ≡ true → SetFits W H P L j (needed H k n (suc j))
 
--- A feed of row x, with the steps t after it. Its own set fits if x is the last of it; and the sets of the levels above, which made what its set waited for:
--- where it is not that of a high row alone before the set that makes a row.
-pub record FeedFits (W H : Side) (L : ℕ) (P : Rows) (d : ℕ) (x : RowName) (t : List Step) : Type 0 where
+-- A feed of row x, with the steps t after it. Its own set fits if x is the last of it; and the sets of the levels above, which made what its set takes, if it
+-- takes a row.
+pub record FeedFits (W H : Side) (L : ℕ) (P : Rows) (x : RowName) (t : List Step) : Type 0 where
   pub own : goesOnSet H x t ≡ false → SetFits W H P L (x .level - 1) (setNumber H x)
-  pub above : setNumber H x ≡ setAt H d (x .level - 1) → SetsFit W H L P d (x .level)
+  pub above : hasRow H (x .level) (setNumber H x) ≡ true → SetsFit W H L P (x .level) (setNumber H x)
 
 -- a feed of the run a as row x goes on, with the steps t after it
 pub record FeedGoes (W H : Side) (L : ℕ) (es : List Event) (then : Call → Event) (a : Area) (x : RowName) (t : List Step) : Type 0 where
-  pub next : left (steps 1 W H L) es ≡ step.feed x ∷ t
+  pub next : left (steps ahead W H L) es ≡ step.feed x ∷ t
   pub passes : then (feed a) ≡ fed a (gives tt)
 
 -- ---- the claim, of the events es of any list of calls; `then` is what would be seen of a further call
 pub record Demand3 (W H : Side) (L : ℕ) (es : List Event) (then : Call → Event) : Type 0 where
   -- "one list of steps: each band row to feed, once, and each height row to draw, once"
-  pub rows-once : (x : RowName) → times x (bandRowsOf (steps 1 W H L)) ≡ pick (bandRowExists W H L (x .level) (x .band) (x .row)) 1 0
-  pub heights-once : heightRowsOf (steps 1 W H L) ≡ inTurn (H .length) (λ r. r ∷ [])
+  pub rows-once : (x : RowName) → times x (bandRowsOf (steps ahead W H L)) ≡ pick (bandRowExists W H L (x .level) (x .band) (x .row)) 1 0
+  pub heights-once : heightRowsOf (steps ahead W H L) ≡ inTurn (H .length) (λ r. r ∷ [])
   -- the want
-  pub wants : then want ≡ wanted (gives (wantSays W (endedBy es) (left (steps 1 W H L) es)))
+  pub wants : then want ≡ wanted (gives (wantSays W (endedBy es) (left (steps ahead W H L) es)))
   -- "A feed of the length that the want names goes one step on or gives 7 or 14"; any other is turned away
-  pub feeds-turned : (a : Area) (q : ℕ) → feedTurned W (endedBy es) (left (steps 1 W H L) es) a ≡ suc q → then (feed a) ≡ fed a (refused (suc q))
-  pub feeds-on : (a : Area) → feedTurned W (endedBy es) (left (steps 1 W H L) es) a ≡ 0 → OneOf (then (feed a)) (fed a (gives tt)) (fed a (refused 14))
+  pub feeds-turned : (a : Area) (q : ℕ) → feedTurned W (endedBy es) (left (steps ahead W H L) es) a ≡ suc q → then (feed a) ≡ fed a (refused (suc q))
+  pub feeds-on : (a : Area) → feedTurned W (endedBy es) (left (steps ahead W H L) es) a ≡ 0 → OneOf (then (feed a)) (fed a (gives tt)) (fed a (refused 14))
   -- "a draw at Draw goes one step on or gives 12 or 14; no other call goes on"
-  pub draws : (a : Area) → Draws W (endedBy es) (left (steps 1 W H L) es) a (then (draw a))
+  pub draws : (a : Area) → Draws W (endedBy es) (left (steps ahead W H L) es) a (then (draw a))
   -- the heights drawn are the first of every map that has the rows fed
   pub first : (g : Grid) → HasFed W H L g es → FirstRows W g (drawnRows es)
   -- "14 comes only if no map has them."
   pub impossible : endedBy es ≡ true → (g : Grid) → HasFed W H L g es → ⊥
   -- a call that goes on has worked out what is due, and it fits: 14 comes no later
   pub feed-works : (a : Area) (x : RowName) (t : List Step) → FeedGoes W H L es then a x t →
-      (P : Rows) → All (HasFedRow W P) (fedRows (steps 1 W H L) es ++ (record { row = x; run = a } ∷ [])) →
-      FeedFits W H L P (length (drawnRows es)) x t
+      (P : Rows) → All (HasFedRow W P) (fedRows (steps ahead W H L) es ++ (record { row = x; run = a } ∷ [])) →
+      FeedFits W H L P x t
   pub draw-works : (a b : Area) → then (draw a) ≡ drew a (gives (heights (W .length))) b →
-      (P : Rows) → All (HasFedRow W P) (fedRows (steps 1 W H L) es) → SetsFit W H L P (length (drawnRows es)) 0
+      (P : Rows) → All (HasFedRow W P) (fedRows (steps ahead W H L) es) → SetsFit W H L P 0 (length (drawnRows es))
   -- it says Done exactly when the heights drawn are all of such a map
   pub finished : then want ≡ wanted (gives done) ↔ AllDrawn W H L es
 

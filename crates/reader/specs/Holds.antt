@@ -1,27 +1,27 @@
 -- What stands in the line store of a reader, `Holds P s x`, for band rows P, by their names, that have the rows fed; and what each call keeps of it.
 -- The numbers are 32-bit words; for the rows of a map they are T.800's whole numbers, and the way back from them is the map.
 use mathlib.Core.Path.{_≡_}
-use mathlib.Core.Bool.{Bool, true, false}
+use mathlib.Core.Bool.{true}
 use Prim.Native.Nat.{ℕ, suc, _≤_, _<_}
 use lib.IntN.{ℤ}
 use lib.Dec.{eqb}
 use Rattle.lifting.specs.Grid.{Side}
 use Rattle.wavelet.specs.Bands.{Grid, Band, code}
-use Rattle.wavelet.specs.Order.{rowName}
+use Rattle.wavelet.specs.Order.{rowName, lastSet}
 use Rattle.wavelet.specs.Levels.{sideAt}
 use Rattle.reader.specs.declared.Reader.{Reader}
 use Rattle.reader.specs.Answers.{Reply, gives, impossible, Handed, aRow}
-use Rattle.reader.specs.Sets.{setAt}
+use Rattle.reader.specs.Sets.{ahead, hasRow, needed, makes, waitsAt}
 use Rattle.reader.specs.Asked.{keptAt, named}
-use Rattle.reader.specs.Machine.{aloneAt, nowAt}
+use Rattle.reader.specs.Machine.{Spot, bandAt}
 use Rattle.level.specs.Stands.{SetHas, SetLeaves, SetBefore, BandStands, BackMeaning}
 use Rattle.reader.specs.Rebuilt.{Rows, bandsAt, partAt, LevelFits}
 use Rattle.reader.specs.Store.{stretchAt, from, hasCells}
-use Rattle.reader.specs.State.{columns, rows, next, nextRow, nextLength}
+use Rattle.reader.specs.State.{columns, rows, spotNow, next, nextRow, nextLength}
 
 -- ---- what stands in a level's memory: of the sets before set n also that none of them halved an odd number
 abbrev pub Tested : Side → Side → (Band → Grid) → ℕ → Type 0
-Tested W H p n = (m : ℕ) → m < n → SetHas 1 W H p m
+Tested W H p n = (m : ℕ) → m < n → SetHas ahead W H p m
 
 abbrev pub M : BackMeaning
 M = record {
@@ -30,31 +30,32 @@ M = record {
   Got = BandStands;
 }
 
--- ---- the reader's store, while row `drawn` is waited for: levels coarser than `level` have their set, it has the bands before `band`, finer ones wait
+-- ---- a place at which a reader can be, of a map of the columns W and the rows H at L levels while row d is waited for: the set collected is one that row d
+-- waits for, of a level that is not empty; and if it asks for no more, it makes the row that waits for it
+pub record Ready (W H : Side) (L d : ℕ) (q : Spot) : Type 0 where
+  pub top : waitsAt H (q .level) (q .set) 0 ≡ d
+  pub cells : (k : ℕ) → suc k ≡ q .level → hasCells (sideAt k W) (sideAt k H) ≡ true
+  pub there : (k : ℕ) → suc k ≡ q .level → q .set ≤ lastSet (sideAt k H)
+  pub asks : (k : ℕ) → suc k ≡ q .level → bandAt W H L k (q .set) (q .band) ≡ 4 → makes (sideAt k H) (q .set) ≡ true
+
+-- ---- the reader's store, while row `drawn` is waited for: coarser levels than `level` have the last set that what it collects needs, it has the bands before
+-- `band`, finer ones wait
 module _ (P : Rows) (s : Reader) where
   -- level k + 1 is one of the reader's, and not empty
   pub record Level (k : ℕ) : Type 0 where
     pub inside : k < s .levels
     pub cells : hasCells (sideAt k (columns s)) (sideAt k (rows s)) ≡ true
 
-  -- at a high row alone, the coarser levels have not begun
-  abbrev pub isAlone : Bool
-  isAlone = aloneAt (columns s) (rows s) (s .levels) (s .drawn) (s .level) (s .alone) (s .band)
-
-  abbrev pub now : ℕ → ℕ
-  now k = nowAt (columns s) (rows s) (s .levels) (s .drawn) k isAlone
-
   pub record Holds (x : ℕ → ℤ) : Type 0 where
-    pub below : s .drawn < s .height → isAlone ≡ false → (k : ℕ) → Level k → s .level ≤ k →
-        M .Leaves k (sideAt k (columns s)) (sideAt k (rows s)) (bandsAt (columns s) (rows s) P (s .levels) k) (setAt (rows s) (s .drawn) k)
-        (from (stretchAt (columns s) k) x)
-    pub before : s .drawn < s .height → (k : ℕ) → Level k → suc k < s .level →
-        M .Before (sideAt k (columns s)) (sideAt k (rows s)) (bandsAt (columns s) (rows s) P (s .levels) k) (setAt (rows s) (s .drawn) k)
-        (from (stretchAt (columns s) k) x)
-    pub here : s .drawn < s .height → (k : ℕ) → Level k → suc k ≡ s .level →
-        M .Before (sideAt k (columns s)) (sideAt k (rows s)) (bandsAt (columns s) (rows s) P (s .levels) k) (now k) (from (stretchAt (columns s) k) x)
+    pub ready : s .drawn < s .height → Ready (columns s) (rows s) (s .levels) (s .drawn) (spotNow s)
+    pub below : s .drawn < s .height → hasRow (rows s) (s .level) (spotNow s .set) ≡ true → (k : ℕ) → Level k → s .level ≤ k →
+        M .Leaves k (sideAt k (columns s)) (sideAt k (rows s)) (bandsAt (columns s) (rows s) P (s .levels) k)
+        (needed (rows s) (s .level) (spotNow s .set) (suc k)) (from (stretchAt (columns s) k) x)
+    pub before : s .drawn < s .height → (k : ℕ) → Level k → suc k ≤ s .level →
+        M .Before (sideAt k (columns s)) (sideAt k (rows s)) (bandsAt (columns s) (rows s) P (s .levels) k)
+        (waitsAt (rows s) (s .level) (spotNow s .set) (suc k)) (from (stretchAt (columns s) k) x)
     pub got : s .drawn < s .height → (k : ℕ) → Level k → suc k ≡ s .level → (c : Band) → keptAt (eqb (suc k) (s .levels)) c ≡ true → code c < s .band →
-        M .Got (sideAt k (columns s)) (sideAt k (rows s)) (bandsAt (columns s) (rows s) P (s .levels) k) (now k) (from (stretchAt (columns s) k) x) c
+        M .Got (sideAt k (columns s)) (sideAt k (rows s)) (bandsAt (columns s) (rows s) P (s .levels) k) (spotNow s .set) (from (stretchAt (columns s) k) x) c
 
   -- every level's part fits, and no number that is halved is odd
   abbrev pub AllFit : Type 0

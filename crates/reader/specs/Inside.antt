@@ -1,7 +1,7 @@
 -- What the private functions of the reader require and ensure of each other. No public contract cites it.
 use mathlib.Core.Path.{_≡_}
 use mathlib.Core.Bool.{Bool, not}
-use Prim.Native.Nat.{ℕ, _-_, _≤_, _<_, _^_}
+use Prim.Native.Nat.{ℕ, suc, _-_, _*_, _≤_, _<_, _^_}
 use lib.IntN.{ℤ}
 use lib.Dec.{eqb}
 use Rattle.wavelet.specs.Limits.{maxWidth, maxHeight, maxLevels, maxOrigin}
@@ -12,11 +12,11 @@ use Rattle.reader.specs.declared.Reader.{Reader}
 use Rattle.reader.specs.declared.walk.Level.{Level}
 use Rattle.reader.specs.declared.walk.Spot.{Spot}
 use Rattle.reader.specs.declared.walk.Next.{Next}
-use Rattle.reader.specs.Sets.{needsTwo, rowAt, setAt}
-use Rattle.wavelet.specs.Order.{lastSet}
+use Rattle.reader.specs.Sets.{ahead, needed}
 use Rattle.reader.specs.Store.{stretchAt}
-use Rattle.reader.specs.Machine.{Place, nowAt, lastOfSet}
-use Rattle.reader.specs.State.{columns, rows, next, nextLength, rowDue}
+use Rattle.reader.specs.Machine.{lastOfSet}
+use Rattle.reader.specs.Machine as machine
+use Rattle.reader.specs.State.{columns, rows, spotNow, next, nextLength, rowDue}
 use Rattle.reader.specs.Questions.{countsFit, storeFits, runFits}
 
 -- ---- a reader and its places
@@ -30,44 +30,49 @@ pub record Counts (s : Reader) : Type 0 where
   pub drew : s .drawn ≤ s .height
   pub at : s .level ≤ s .levels
   pub next : s .band ≤ 4
+  pub behind : s .back ≤ 2 * ahead - 1
 
 -- a map's columns and rows while row d is waited for: sizes so small that no place in memory overflows
 abbrev pub Small : Side → Side → ℕ → Type 0
 Small W H d = (W .length ≤ 2 ^ 16) × (W .start ≤ 2 ^ 16) × (H .length < 2 ^ 32) × (H .start ≤ 2 ^ 16) × (d ≤ H .length)
 
--- l is level k + 1 of that map, at one of its sets
-pub record IsLevel (W H : Side) (k : ℕ) (l : Level) : Type 0 where
+-- l is level k + 1 of that map, at a set, and has the last set that row d needs
+pub record IsLevel (W H : Side) (d k : ℕ) (l : Level) : Type 0 where
   pub start : l .start ≡ stretchAt W k
   pub x : l .x ≡ sideAt k W .start
   pub width : l .width ≡ sideAt k W .length
   pub y : l .y ≡ sideAt k H .start
   pub height : l .height ≡ sideAt k H .length
-  pub set : l .set ≤ lastSet (sideAt k H)
+  pub set : l .set ≤ 2 ^ 32
+  pub last : l .last ≡ needed H 0 d (suc k)
 
--- at the set that makes the row waited for; `two`: that row needs set 0 before it
+-- at the last set that row d of the map needs
 pub record IsAt (W H : Side) (d k : ℕ) (l : Level) : Type 0 where
-  pub level : IsLevel W H k l
-  pub now : l .set ≡ setAt H d k
-  pub two : l .two ≡ needsTwo (sideAt k H) (rowAt H d k)
+  pub level : IsLevel W H d k l
+  pub now : l .set ≡ needed H 0 d (suc k)
 
 -- p is a place
-pub record Is (q : Place) (p : Spot) : Type 0 where
+pub record Is (q : machine.Spot) (p : Spot) : Type 0 where
   pub level : p .level ≡ q .level
-  pub alone : p .alone ≡ q .alone
+  pub set : p .set ≡ q .set
   pub band : p .band ≡ q .band
 
 -- n is a place, and its level, at its set, if it has one
-pub record IsNext (W H : Side) (L d : ℕ) (q : Place) (n : Next) : Type 0 where
+pub record IsNext (W H : Side) (d : ℕ) (q : machine.Spot) (n : Next) : Type 0 where
   pub spot : Is q (n .spot)
-  pub at : 0 < n .spot .level → IsLevel W H (n .spot .level - 1) (n .at)
-  pub set : 0 < n .spot .level → n .at .set ≡ nowAt W H L d (n .spot .level - 1) (n .spot .alone)
+  pub at : 0 < n .spot .level → IsLevel W H d (n .spot .level - 1) (n .at)
+  pub set : 0 < n .spot .level → n .at .set ≡ n .spot .set
+
+-- l is the level that is collected, at its set
+abbrev pub Collected : Reader → Level → Type 0
+Collected s l = IsLevel (columns s) (rows s) (s .drawn) (s .level - 1) l × (l .set ≡ spotNow s .set)
 
 -- n is the row wanted; t says whether it completes its set
 abbrev pub Due : Reader → Next → Type 0
-Due s n = IsNext (columns s) (rows s) (s .levels) (s .drawn) (next s) n
+Due s n = IsNext (columns s) (rows s) (s .drawn) (next s) n
 
 abbrev pub Completing : Reader → Next → Bool → Type 0
-Completing s n t = t ≡ lastOfSet (columns s) (rows s) (s .levels) (s .drawn) (n .spot .level - 1) (n .at .set) (n .spot .band)
+Completing s n t = t ≡ lastOfSet (columns s) (rows s) (s .levels) (n .spot .level - 1) (n .at .set) (n .spot .band)
 
 -- the questions of a feed or a draw that the state and the store's length answer, and those of a feed that the run answers
 unfoldable pub storeQuestion : Reader → ℕ → ℕ

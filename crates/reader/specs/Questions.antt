@@ -1,6 +1,6 @@
 -- The gate questions of each call, in the order of document 01. "The first no gives its number, and nothing changes." 0: no question says no.
 use mathlib.Core.Bool.{Bool, not}
-use Prim.Native.Nat.{ℕ}
+use Prim.Native.Nat.{ℕ, _-_, _*_}
 use lib.IntN.{ℤ, natAbs}
 use lib.Dec.{leb, eqb}
 use Rattle.numbers.specs.Signal.{pick, both}
@@ -12,6 +12,7 @@ use Rattle.lifting.specs.Grid.{Side}
 use Rattle.wavelet.specs.Store.{storeLength}
 use Rattle.reader.specs.declared.Reader.{Reader}
 use Rattle.level.specs.Tried.{fits}
+use Rattle.reader.specs.Sets.{ahead}
 use Rattle.reader.specs.State.{columns, next, nextLength, rowDue, drawDue, settles, feeds}
 
 -- question 1: "Is every count in the state inside its range?"
@@ -24,7 +25,8 @@ countsFit s =
     (both (leb (s .y) maxOrigin)
     (both (leb (s .drawn) (s .height))
     (both (leb (s .level) (s .levels))
-    (leb (s .band) 4)))))))
+    (both (leb (s .band) 4)
+    (leb (s .back) (2 * ahead - 1)))))))))
 
 -- question 5: is a line store of n numbers long enough?
 unfoldable pub storeFits : Side → ℕ → ℕ → Bool

@@ -12,6 +12,7 @@ use Rattle.wavelet.specs.Order.{RowName, rowName}
 use Rattle.wavelet.specs.Levels.{sideAt}
 use Rattle.wavelet.specs.Steps.{setOf}
 use Rattle.level.specs.Stands.{SetHas}
+use Rattle.reader.specs.Sets.{ahead}
 
 -- band rows by their names
 abbrev pub Rows : Type 0
@@ -39,8 +40,8 @@ module _ (W H : Side) (P : Rows) where
 
   -- the rows that set n of level k + 1 makes fit, and no number that it halves is odd
   pub record SetFits (L k n : ℕ) : Type 0 where
-    pub fit : (r c : ℕ) → r < sideAt k H .length → setOf 1 (sideAt k H) r ≡ n → c < sideAt k W .length → valueFits fiveThreeFilter k (partAt L k r c) ≡ true
-    pub has : SetHas 1 (sideAt k W) (sideAt k H) (bandsAt L k) n
+    pub fit : (r c : ℕ) → r < sideAt k H .length → setOf ahead (sideAt k H) r ≡ n → c < sideAt k W .length → valueFits fiveThreeFilter k (partAt L k r c) ≡ true
+    pub has : SetHas ahead (sideAt k W) (sideAt k H) (bandsAt L k) n
 
   -- so of all of level k + 1
   pub record LevelFits (L k : ℕ) : Type 0 where

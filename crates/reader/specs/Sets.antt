@@ -1,8 +1,9 @@
--- The reader's levels: what each is, and the set that it is at while a height row is waited for. H is the side of a level's rows.
-use mathlib.Core.Bool.{Bool}
-use Prim.Native.Nat.{ℕ, zero, suc, _-_}
-use lib.Dec.{ltb, eqb}
-use Rattle.numbers.specs.Signal.{both}
+-- The reader's levels: what each is, and the sets that are waited for. H is the side of the map's rows.
+-- What is waited for at a level is told by a number: at level 0, the map itself, a row; at level k + 1 a set of that level.
+use mathlib.Core.Bool.{Bool, true}
+use Prim.Native.Nat.{ℕ, zero, suc, _+_, _-_, _*_, _%_, min}
+use lib.Dec.{leb, eqb}
+use Rattle.numbers.specs.Signal.{pick}
 use Rattle.lifting.specs.Line.{lo}
 use Rattle.lifting.specs.Grid.{Side}
 use Rattle.wavelet.specs.Levels.{sideAt}
@@ -12,23 +13,46 @@ use Rattle.level.specs.Work.{admitted}
 use Rattle.level.specs.ReaderLevel.{ReaderLevel}
 use Rattle.level.specs.FiveThreeBack.{fiveThreeBack}
 
--- Every level is the 5/3's, and each row made passes the test of 14. The machine, the store and the calls know a level by this name alone.
+-- Every level is the 5/3's, and each row made passes the test of 14. The machine, the store and the calls know a level by this name alone,
 abbrev pub K : ReaderLevel
 K = fiveThreeBack admitted
 
--- while row r of a level is waited for: the row of the next level that its set takes
-unfoldable pub rowBelow : Side → ℕ → ℕ
-rowBelow H r = setOf 1 H r - firstSet H lo
+-- and its look-ahead by this one
+unfoldable pub ahead : ℕ
+ahead = K .ahead
 
--- Does row r need a set before the one that makes it? Row 0 of a level that starts at an odd coordinate does: the set of its first high row alone, set 0.
-unfoldable pub needsTwo : Side → ℕ → Bool
-needsTwo H r = both (eqb r 0) (ltb 0 (setOf 1 H r))
+-- ---- number n of level k: does it take a row of level k's low-low part, and which? A set of a high row alone takes none.
+unfoldable pub hasRow : Side → ℕ → ℕ → Bool
+hasRow H zero n = true
+hasRow H (suc k) n = leb (firstSet (sideAt k H) lo) n
 
--- The row of level k's low-low part on which row d of a map of the rows H waits (level 0: the map itself),
-unfoldable pub rowAt : Side → ℕ → ℕ → ℕ
-rowAt H d zero = d
-rowAt H d (suc k) = rowBelow (sideAt k H) (rowAt H d k)
+unfoldable pub rowOf : Side → ℕ → ℕ → ℕ
+rowOf H zero n = n
+rowOf H (suc k) n = n - firstSet (sideAt k H) lo
 
--- and the set of level k + 1 that makes it
-unfoldable pub setAt : Side → ℕ → ℕ → ℕ
-setAt H d k = setOf 1 (sideAt k H) (rowAt H d k)
+-- the number of level k that takes row r
+unfoldable pub taking : Side → ℕ → ℕ → ℕ
+taking H zero r = r
+taking H (suc k) r = r + firstSet (sideAt k H) lo
+
+-- ---- to the coarser levels: the last set of level j that number n of level k needs; at level k itself n
+unfoldable pub needed : Side → ℕ → ℕ → ℕ → ℕ
+needed H k n zero = n
+needed H k n (suc j) = pick (eqb k (suc j)) n (setOf ahead (sideAt j H) (rowOf H j (needed H k n j)))
+
+-- ---- to the finer ones: the first row of a level, of the rows S, that set n or a later one makes, and whether set n makes it
+unfoldable pub firstRow : Side → ℕ → ℕ
+firstRow S zero = 0
+firstRow S (suc n) = min (2 * (suc n - ahead) + 1 - S .start % 2) (S .length - 1)
+
+unfoldable pub makes : Side → ℕ → Bool
+makes S n = leb (setOf ahead S (firstRow S n)) n
+
+-- the number of level k that waits while set n of level k + 1 is collected,
+unfoldable pub waiting : Side → ℕ → ℕ → ℕ
+waiting H k n = taking H k (firstRow (sideAt k H) n)
+
+-- and that of level j while number n of level k is
+unfoldable pub waitsAt : Side → ℕ → ℕ → ℕ → ℕ
+waitsAt H zero n j = n
+waitsAt H (suc k) n j = pick (eqb j (suc k)) n (waitsAt H k (waiting H k n) j)

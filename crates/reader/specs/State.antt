@@ -12,7 +12,7 @@ use Rattle.reader.specs.declared.Reader.{Reader}
 use Rattle.reader.specs.Asked.{named}
 use Rattle.reader.specs.Answers.{Want, row, drawNow, done, ended}
 use Rattle.level.specs.Tried.{Tried, bind}
-use Rattle.reader.specs.Machine.{Place, nowAt, nextAt, settled, fedOn, placeFed, enter}
+use Rattle.reader.specs.Machine.{Spot, Place, place, spotOf, placeOf, nextUp, settled, fedOn, spotFed, enter}
 
 -- its map's columns and rows
 abbrev pub columns : Reader → Side
@@ -22,14 +22,17 @@ abbrev pub rows : Reader → Side
 rows s = side (s .y) (s .height)
 
 module _ (s : Reader) where
+  -- where it is: the set of `level` that is collected is `back` before the last that row `drawn` needs
+  abbrev pub spotNow : Spot
+  spotNow = spotOf (rows s) (s .drawn) (place (s .level) (s .back) (s .band))
+
   -- the place of the row wanted; level 0: there is none
-  unfoldable pub next : Place
-  next = nextAt (columns s) (rows s) (s .levels) (s .drawn) (s .level) (s .alone) (s .band)
+  unfoldable pub next : Spot
+  next = nextUp (columns s) (rows s) (s .levels) (spotNow .level) (spotNow .set) (spotNow .band)
 
   -- its number, and its length
   unfoldable pub nextRow : ℕ
-  nextRow =
-      setRow (sideAt (next .level - 1) (rows s)) (named (next .band)) (nowAt (columns s) (rows s) (s .levels) (s .drawn) (next .level - 1) (next .alone))
+  nextRow = setRow (sideAt (next .level - 1) (rows s)) (named (next .band)) (next .set)
 
   unfoldable pub nextLength : ℕ
   nextLength = bandColumns (columns s) (next .level) (named (next .band))
@@ -54,11 +57,11 @@ module _ (s : Reader) where
 
   -- the sets that wait, worked out
   unfoldable pub settles : (ℕ → ℤ) → Tried
-  settles x = settled (columns s) (rows s) (s .levels) (s .drawn) (next .level) (s .level) x
+  settles x = settled (columns s) (rows s) (s .levels) (next .level) (spotNow .level) (spotNow .set) x
 
   -- "ahead of that call's own work": then the run v is fed
   unfoldable pub feeds : (ℕ → ℤ) → (ℕ → ℤ) → Tried
-  feeds v x = bind (settles x) (fedOn (columns s) (rows s) (s .levels) (s .drawn) (next .level) (next .alone) (next .band) v)
+  feeds v x = bind (settles x) (fedOn (columns s) (rows s) (s .levels) (next .level) (next .set) (next .band) v)
 
   -- ---- the reader after it
   abbrev pub movedTo : ℕ → Place → Reader
@@ -70,16 +73,16 @@ module _ (s : Reader) where
     y = s .y;
     drawn = d;
     level = p .level;
-    alone = p .alone;
+    back = p .back;
     band = p .band;
     ended = false;
   }
 
   unfoldable pub fedReader : Reader
-  fedReader = movedTo (s .drawn) (placeFed (columns s) (rows s) (s .levels) (s .drawn) (next .level) (next .alone) (next .band))
+  fedReader = movedTo (s .drawn) (placeOf (rows s) (s .drawn) (spotFed (columns s) (rows s) (s .levels) (next .level) (next .set) (next .band)))
 
   unfoldable pub drawnReader : Reader
-  drawnReader = movedTo (suc (s .drawn)) (enter (columns s) (rows s) (s .levels) (suc (s .drawn)))
+  drawnReader = movedTo (suc (s .drawn)) (placeOf (rows s) (suc (s .drawn)) (enter (columns s) (rows s) (s .levels) (suc (s .drawn))))
 
   -- "a no ends the reader"; its other numbers stay
   unfoldable pub endedReader : Reader
@@ -91,7 +94,7 @@ module _ (s : Reader) where
     y = s .y;
     drawn = s .drawn;
     level = s .level;
-    alone = s .alone;
+    back = s .back;
     band = s .band;
     ended = true;
   }

@@ -3,11 +3,12 @@
 use mathlib.Core.Bool.{Bool}
 use Prim.Native.Nat.{ℕ, zero, suc, _+_, _-_}
 use lib.IntN.{ℤ, pos}
-use lib.Dec.{ltb, eqb}
+use lib.Dec.{leb, ltb, eqb}
 use Rattle.numbers.specs.Signal.{pick, both}
 use Rattle.lifting.specs.Halves.{fronted}
 use Rattle.lifting.specs.Grid.{Side}
 use Rattle.wavelet.specs.Levels.{sideAt}
+use Rattle.wavelet.specs.Order.{lastSet}
 use Rattle.wavelet.specs.Store.{storeLength}
 use Rattle.level.specs.Tried.{Tried, passed, onto}
 use Rattle.reader.specs.Sets.{K}
@@ -39,9 +40,12 @@ unfoldable pub fedAt : Side → Side → ℕ → ℕ → ℕ → (ℕ → ℤ) �
 fedAt W H k n c v x =
     behind (stretchAt W k) x (K .feed (sideAt k W) (sideAt k H .start) (named c) n v (from (stretchAt W k) x))
 
--- set n worked out; an empty level has none
+-- set n worked out; an empty level has none, nor has a level one after its last
+unfoldable pub hasSet : Side → Side → ℕ → Bool
+hasSet W H n = both (hasCells W H) (leb n (lastSet H))
+
 unfoldable pub workedAt : Side → Side → ℕ → ℕ → ℕ → (ℕ → ℤ) → Tried
 workedAt W H L k n x =
-    pick (hasCells (sideAt k W) (sideAt k H))
+    pick (hasSet (sideAt k W) (sideAt k H) n)
     (onto (behind (stretchAt W k) x) (K .work (eqb (suc k) L) k (sideAt k W) (sideAt k H) n (from (stretchAt W k) x)))
     (passed x)

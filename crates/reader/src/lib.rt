@@ -12,23 +12,23 @@ use walk::Spot;
 use wavelet::shape::Shape;
 ghost use mathlib.Core.Path.{_≡_};
 ghost use mathlib.Core.Bool.{false};
-ghost use Prim.Native.Nat.{_<_};
+ghost use Prim.Native.Nat.{_<_, _≤_};
 ghost use lib.ListN.{length};
 ghost use Rattle.numbers.specs.Signal.{at};
 ghost use Rattle.wavelet.specs.Limits.{maxWidth, maxHeight, maxLevels, maxOrigin};
 ghost use Rattle.wavelet.specs.Shape as shape;
 ghost use Rattle.areas.specs.Areas.{heightsAt};
-ghost use Rattle.reader.specs.Machine.{place};
-ghost use Rattle.reader.specs.Inside.{Due};
-ghost use Rattle.reader.specs.State.{wants, movedTo, endedReader};
+ghost use Rattle.reader.specs.Machine.{spot, placeOf};
+ghost use Rattle.reader.specs.Inside.{Small, Due};
+ghost use Rattle.reader.specs.State.{columns, rows, wants, movedTo, endedReader};
 ghost use Rattle.reader.specs.Questions.{setUpQuestion, wantQuestion, feedQuestion, drawQuestion};
 ghost use Rattle.reader.specs.Holds.{SetUpHolds, FeedKeeps, DrawKeeps};
 ghost use Rattle.reader.specs.Answers.{gives, ofSetUp, ofWanted, ofFed, ofDrawn};
 ghost use Rattle.reader.specs.Calls.{setUpReply, setUpStore, wantReply, feedReply, feedStore, drawReply, drawStore, drawArea};
 
 // The counts of a reader; docs/STATE.md gives their ranges. Its map starts at (x, y). `drawn` height rows are drawn; rows of `level` are collected (0: a height
-// row can be drawn), and `band` is the code of the first band that may be next. `alone`: they are rows of the level's set 0, a high row alone, before the set
-// that makes its row 0.
+// row can be drawn), and `band` is the code of the first band that may be next. They are rows of the set that is `back` before the last of its level that row
+// `drawn` needs.
 pub struct Reader {
     pub width: usize,
     pub height: usize,
@@ -37,7 +37,7 @@ pub struct Reader {
     pub y: usize,
     pub drawn: usize,
     pub level: usize,
-    pub alone: bool,
+    pub back: usize,
     pub band: usize,
     pub ended: bool,
 }
@@ -123,19 +123,20 @@ impl Reader {
         }
         let n = wavelet::store::store_length(map.width, x, map.levels);
         copies::clear(store, n);
-        let p = walk::dive_from(map.levels, 0, x, map.width, y, map.height, 0);
-        SetUp::Ready(Reader {
+        let p = walk::dive_from(map.levels, 0, x, map.width, y, map.height, 0, 0);
+        let s = Reader {
             width: map.width,
             height: map.height,
             levels: map.levels,
             x,
             y,
             drawn: 0,
-            level: p.level,
-            alone: p.alone,
-            band: p.band,
+            level: 0,
+            back: 0,
+            band: 0,
             ended: false,
-        })
+        };
+        SetUp::Ready(s.moved(0, p))
     }
 
     // The band row wanted, or Draw, Done or Ended. Question 1 is asked.
@@ -160,23 +161,13 @@ impl Reader {
             return self.told(Next {
                 spot: Spot {
                     level: self.level,
-                    alone: false,
+                    set: l.set,
                     band: c,
                 },
                 at: l,
             });
         }
-        self.told(walk::next_at(
-            self.x,
-            self.width,
-            self.y,
-            self.height,
-            self.levels,
-            self.drawn,
-            self.level,
-            self.alone,
-            self.band,
-        ))
+        self.told(steps::next_from(self, l))
     }
 
     // What is wanted, n being the row wanted if there is one.
@@ -217,7 +208,7 @@ impl Reader {
         }
         let complete = steps::completes(self, next);
         if steps::feed_row(self, store, next, complete, run) {
-            return Fed::Passed(self.moved(self.drawn, steps::place_fed(self, next, complete)));
+            return Fed::Passed(self.moved(self.drawn, steps::spot_fed(self, next, complete)));
         }
         let n = wavelet::store::store_length(self.width, self.x, self.levels);
         copies::clear(store, n);
@@ -252,7 +243,7 @@ impl Reader {
             let e = a + w;
             height_rows::draw_heights(&store[a..e], self.x, out);
             let d = self.drawn + 1;
-            let p = walk::dive_from(self.levels, 0, self.x, w, self.y, self.height, d);
+            let p = walk::dive_from(self.levels, 0, self.x, w, self.y, self.height, d, d);
             return Drawn::Heights(w, self.moved(d, p));
         }
         let n = wavelet::store::store_length(w, self.x, self.levels);
@@ -262,7 +253,8 @@ impl Reader {
 
     // The reader at another place.
     fn moved(self, drawn: usize, p: Spot) -> Reader
-        ensures { λ r. ⌜ r ≡ movedTo self drawn (place (p .level) (p .alone) (p .band)) ⌝ }
+        requires { ⌜ Small (columns self) (rows self) drawn × (p .level ≤ maxLevels) ⌝ }
+        ensures { λ r. ⌜ r ≡ movedTo self drawn (placeOf (rows self) drawn (spot (p .level) (p .set) (p .band))) ⌝ }
     {
         Reader {
             width: self.width,
@@ -272,7 +264,7 @@ impl Reader {
             y: self.y,
             drawn,
             level: p.level,
-            alone: p.alone,
+            back: steps::back_of(self, drawn, p),
             band: p.band,
             ended: false,
         }
@@ -290,7 +282,7 @@ impl Reader {
             y: self.y,
             drawn: self.drawn,
             level: self.level,
-            alone: self.alone,
+            back: self.back,
             band: self.band,
             ended: true,
         }

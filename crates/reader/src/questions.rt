@@ -1,7 +1,7 @@
 // The gate questions of the reader, in the order of document 01. The module is private, as `walk` is.
 use crate::Reader;
+use crate::sets;
 use crate::steps;
-use crate::walk;
 use crate::walk::Next;
 use areas::ranges;
 use wavelet::limits;
@@ -42,7 +42,10 @@ pub fn counts_fit(s: Reader) -> bool
     if s.levels < s.level {
         return false;
     }
-    s.band <= 4
+    if 4 < s.band {
+        return false;
+    }
+    s.back <= 2 * sets::look_ahead() - 1
 }
 
 // Questions 2, 3, 4 and 5 of a set-up, whose line store has `length` numbers.
@@ -86,7 +89,7 @@ fn store_fits(s: Reader, length: usize) -> bool
     requires { ⌜ Counts s ⌝ }
     ensures { λ r. ⌜ r ≡ storeFits (columns s) (s .levels) length ⌝ }
 {
-    if (31 * s.width + 52) / 4 <= length {
+    if store::holds_any(s.width, length) {
         return true;
     }
     store::store_length(s.width, s.x, s.levels) <= length
@@ -139,16 +142,5 @@ pub fn draw_due(s: Reader) -> bool
     if s.level == 0 {
         return true;
     }
-    let n = walk::next_at(
-        s.x,
-        s.width,
-        s.y,
-        s.height,
-        s.levels,
-        s.drawn,
-        s.level,
-        s.alone,
-        s.band,
-    );
-    n.spot.level == 0
+    steps::next_of(s).spot.level == 0
 }

@@ -2,60 +2,97 @@
 // `walk` is.
 use wavelet::sizes;
 ghost use mathlib.Core.Path.{_≡_};
-ghost use Prim.Native.Nat.{ℕ, _<_, _≤_, _^_};
+ghost use Prim.Native.Nat.{ℕ, _-_, _<_, _≤_, _^_};
 ghost use Rattle.numbers.specs.Signal.{both};
 ghost use Rattle.lifting.specs.Grid.{side, count};
 ghost use Rattle.wavelet.specs.Bands.{across};
-ghost use Rattle.wavelet.specs.Order.{setRow};
-ghost use Rattle.wavelet.specs.Steps.{setOf};
+ghost use Rattle.lifting.specs.Line.{lo};
+ghost use Rattle.wavelet.specs.Order.{firstSet, lastSet, setRow};
+ghost use Rattle.wavelet.specs.Steps.{setOf, setsBefore};
 ghost use Rattle.level.specs.Sets.{opens};
-ghost use Rattle.reader.specs.Sets.{rowBelow, needsTwo};
+ghost use Rattle.reader.specs.Sets.{ahead, firstRow, makes};
 ghost use Rattle.reader.specs.Asked.{named, nextBand};
 ghost use Rattle.reader.specs.Store.{hasCells};
 
+// How far a level looks ahead.
+pub fn look_ahead() -> usize
+    ensures { λ a. ⌜ a ≡ ahead ⌝ }
+{
+    1
+}
+
+// a less b, 0 where b is more.
+pub fn less(a: usize, b: usize) -> usize
+    ensures { λ r. ⌜ r ≡ a - b ⌝ }
+{
+    if a < b { 0 } else { a - b }
+}
+
+// The last set of a level.
+pub fn last_set(y: usize, h: usize) -> usize
+    requires { ⌜ h < 2 ^ 32 ⌝ }
+    ensures { λ n. ⌜ n ≡ lastSet (side y h) ⌝ }
+{
+    if h == 0 { 0 } else { (y % 2 + h - 1) / 2 }
+}
+
 // The set that makes row r.
 pub fn set_of(y: usize, h: usize, r: usize) -> usize
-    requires { ⌜ (h < 2 ^ 32) × (r ≤ 2 ^ 32) ⌝ }
-    ensures { λ n. ⌜ n ≡ setOf 1 (side y h) r ⌝ }
+    requires { ⌜ (h < 2 ^ 32) × (r ≤ 2 ^ 34) ⌝ }
+    ensures { λ n. ⌜ n ≡ setOf ahead (side y h) r ⌝ }
 {
-    if h == 0 {
+    let q = y % 2 + r;
+    if q == 0 {
         return 0;
     }
-    let p = y % 2;
-    let a = (p + r + 1) / 2;
-    let b = (p + h - 1) / 2;
+    let a = (q - 1) / 2 + look_ahead();
+    let b = last_set(y, h);
     if a < b { a } else { b }
 }
 
-// Whether row r of w columns is there and the first that needs set n, the one that makes it.
+// The first set that no row before row r needs.
+pub fn sets_before(y: usize, h: usize, r: usize) -> usize
+    requires { ⌜ (h < 2 ^ 32) × (r ≤ 2 ^ 34) ⌝ }
+    ensures { λ n. ⌜ n ≡ setsBefore ahead (side y h) r ⌝ }
+{
+    if r == 0 { 0 } else { set_of(y, h, r - 1) + 1 }
+}
+
+// Whether row r of w columns is there and needs set n, the first that no row before it needs.
 pub fn goes_down(w: usize, y: usize, h: usize, r: usize, n: usize) -> bool
-    requires { ⌜ (r ≤ 2 ^ 32) × (n ≤ 2 ^ 32) × (r ≤ h) × (n ≡ setOf 1 (side y h) r) ⌝ }
-    ensures { λ t. ⌜ ((x : ℕ) → t ≡ both (hasCells (side x w) (side y h)) (opens 1 (side y h) r)) ⌝ }
+    requires { ⌜ (h < 2 ^ 32) × (r ≤ 2 ^ 34) × (n ≡ setsBefore ahead (side y h) r) ⌝ }
+    ensures { λ t. ⌜ ((x : ℕ) → t ≡ both (hasCells (side x w) (side y h)) (opens ahead (side y h) r)) ⌝ }
 {
     if (w == 0) | (h == 0) {
         return false;
     }
-    if r == 0 {
-        return true;
+    n < set_of(y, h, r) + 1
+}
+
+// The first row that needs set n or a later one, and whether set n makes it.
+pub fn first_row(y: usize, h: usize, n: usize) -> usize
+    requires { ⌜ n ≤ 2 ^ 32 ⌝ }
+    ensures { λ r. ⌜ r ≡ firstRow (side y h) n ⌝ }
+{
+    if (n == 0) | (h == 0) {
+        return 0;
     }
-    r + y % 2 + 1 == 2 * n
+    let r = 2 * less(n, look_ahead()) + 1 - y % 2;
+    if r < h { r } else { h - 1 }
 }
 
-// Whether it needs set 0 before it, a high row alone.
-pub fn is_two(y: usize, h: usize, r: usize, n: usize) -> bool
-    requires { ⌜ n ≡ setOf 1 (side y h) r ⌝ }
-    ensures { λ t. ⌜ t ≡ needsTwo (side y h) r ⌝ }
+pub fn is_making(y: usize, h: usize, n: usize) -> bool
+    requires { ⌜ (h < 2 ^ 32) × (n ≤ 2 ^ 32) ⌝ }
+    ensures { λ t. ⌜ t ≡ makes (side y h) n ⌝ }
 {
-    if r == 0 { 0 < n } else { false }
+    set_of(y, h, first_row(y, h, n)) <= n
 }
 
-// The row of the next level that set n, which makes row r, takes.
-pub fn row_below(y: usize, h: usize, r: usize, n: usize) -> usize
-    requires { ⌜ n ≡ setOf 1 (side y h) r ⌝ }
-    ensures { λ q. ⌜ q ≡ rowBelow (side y h) r ⌝ }
+// The row of the next level that set n takes.
+pub fn row_below(y: usize, n: usize) -> usize
+    ensures { λ q. ⌜ ((h : ℕ) → q ≡ n - firstSet (side y h) lo) ⌝ }
 {
-    let p = y % 2;
-    if n < p { 0 } else { n - p }
+    less(n, y % 2)
 }
 
 // The columns of a band.

@@ -7,33 +7,32 @@ use crate::walk::Level;
 use crate::walk::Next;
 use crate::walk::Spot;
 ghost use mathlib.Core.Path.{_≡_};
-ghost use mathlib.Core.Bool.{false};
 ghost use Prim.Native.Nat.{_-_, _<_, _≤_};
 ghost use lib.ListN.{length};
 ghost use Rattle.numbers.specs.Signal.{at};
 ghost use Rattle.level.specs.Tried.{outcome};
+ghost use Rattle.wavelet.specs.Limits.{maxLevels};
 ghost use Rattle.wavelet.specs.Store.{storeLength};
-ghost use Rattle.reader.specs.Machine.{place, placeFed};
+ghost use Rattle.reader.specs.Sets.{needed};
+ghost use Rattle.reader.specs.Machine.{spot, placeOf, past, spotFed};
 ghost use Rattle.reader.specs.State.{columns, rows, next, nextRow, nextLength, settles, feeds};
-ghost use Rattle.reader.specs.Inside.{Counts, IsAt, Is, Due, Completing};
+ghost use Rattle.reader.specs.Inside.{Counts, Small, Is, Collected, Due, Completing};
 ghost use Rattle.level.specs.Rebuilding.{Kept};
 
-// The reader's own level, at the set that makes the row waited for.
+// The reader's own level, at the set that is collected.
 pub fn own_level(s: Reader) -> Level
     requires { ⌜ Counts s × (0 < s .level) ⌝ }
-    ensures { λ l. ⌜ IsAt (columns s) (rows s) (s .drawn) (s .level - 1) l ⌝ }
+    ensures { λ l. ⌜ Collected s l ⌝ }
 {
-    walk::level_at(s.x, s.width, s.y, s.height, s.drawn, s.level - 1)
+    let l = walk::level_at(s.x, s.width, s.y, s.height, s.drawn, s.level - 1);
+    walk::at_set(l, sets::less(l.last, s.back))
 }
 
 // The band that is wanted of it, l; 4 where the row wanted is another one, which is rare.
 pub fn own_band(s: Reader, l: Level) -> usize
-    requires { ⌜ Counts s × (0 < s .level) × IsAt (columns s) (rows s) (s .drawn) (s .level - 1) l ⌝ }
-    ensures { λ c. ⌜ (c < 4 → place (s .level) false c ≡ next s) ⌝ }
+    requires { ⌜ Counts s × (0 < s .level) × Collected s l ⌝ }
+    ensures { λ c. ⌜ (c < 4 → spot (s .level) (l .set) c ≡ next s) ⌝ }
 {
-    if s.alone {
-        return 4;
-    }
     walk::band_at(
         s.x,
         s.width,
@@ -47,26 +46,12 @@ pub fn own_band(s: Reader, l: Level) -> usize
     )
 }
 
-// The row wanted; level 0: there is none.
-pub fn next_of(s: Reader) -> Next
-    requires { ⌜ Counts s ⌝ }
+// The row wanted, from it on; level 0: there is none.
+pub fn next_from(s: Reader, l: Level) -> Next
+    requires { ⌜ Counts s × (0 < s .level) × Collected s l ⌝ }
     ensures { λ n. ⌜ Due s n ⌝ }
 {
-    if 0 < s.level {
-        let l = own_level(s);
-        let c = own_band(s, l);
-        if c < 4 {
-            return Next {
-                spot: Spot {
-                    level: s.level,
-                    alone: false,
-                    band: c,
-                },
-                at: l,
-            };
-        }
-    }
-    walk::next_at(
+    walk::next_up(
         s.x,
         s.width,
         s.y,
@@ -74,9 +59,32 @@ pub fn next_of(s: Reader) -> Next
         s.levels,
         s.drawn,
         s.level,
-        s.alone,
+        l,
         s.band,
     )
+}
+
+// The row wanted; level 0: there is none.
+pub fn next_of(s: Reader) -> Next
+    requires { ⌜ Counts s ⌝ }
+    ensures { λ n. ⌜ Due s n ⌝ }
+{
+    if s.level == 0 {
+        return walk::no_row();
+    }
+    let l = own_level(s);
+    let c = own_band(s, l);
+    if c < 4 {
+        return Next {
+            spot: Spot {
+                level: s.level,
+                set: l.set,
+                band: c,
+            },
+            at: l,
+        };
+    }
+    next_from(s, l)
 }
 
 // The length of the row wanted, and its number.
@@ -131,6 +139,7 @@ pub fn settle(s: Reader, store: &mut [i32], n: Next) -> bool
         s.drawn,
         store,
         s.level,
+        own_level(s),
         n.spot.level,
     )
 }
@@ -153,6 +162,7 @@ pub fn settle_all(s: Reader, store: &mut [i32]) -> bool
         s.drawn,
         store,
         s.level,
+        own_level(s),
         0,
     )
 }
@@ -183,7 +193,7 @@ pub fn feed_row(s: Reader, store: &mut [i32], n: Next, complete: bool, run: &[i3
     if !complete {
         return true;
     }
-    walk::work_on(
+    walk::work_at(
         s.x,
         s.width,
         s.y,
@@ -192,33 +202,65 @@ pub fn feed_row(s: Reader, store: &mut [i32], n: Next, complete: bool, run: &[i3
         s.drawn,
         store,
         k,
-        n.at.start,
-        n.at.x,
-        n.at.width,
-        n.at.y,
-        n.at.height,
-        n.at.set,
+        n.at,
     )
 }
 
-// Where the reader goes on after that row: another band of the set, a finer level, or after a high row alone the next set.
-pub fn place_fed(s: Reader, n: Next, complete: bool) -> Spot
+// Where the reader goes on after the set of n is worked out: to the next finer level, if a row is made that waits, else to the next set.
+fn spot_past(s: Reader, n: Next) -> Spot
+    requires { ⌜ Counts s × Due s n × (0 < n .spot .level) ⌝ }
+    ensures { λ q. ⌜ Is (past (columns s) (rows s) (s .levels) (n .spot .level - 1) (n .spot .set)) q ⌝ }
+{
+    let k = n.spot.level - 1;
+    if !sets::is_making(n.at.y, n.at.height, n.at.set) {
+        return walk::begin(s.levels, n.spot.level, n.at, n.at.set + 1);
+    }
+    let r = sets::first_row(n.at.y, n.at.height, n.at.set);
+    if k == 0 {
+        return Spot {
+            level: 0,
+            set: r,
+            band: 1,
+        };
+    }
+    let m = walk::finer(s.x, s.width, s.y, s.height, s.drawn, k, n.at);
+    Spot {
+        level: k,
+        set: m.set,
+        band: 1,
+    }
+}
+
+// Where the reader goes on after that row: another band of the set, or past the set.
+pub fn spot_fed(s: Reader, n: Next, complete: bool) -> Spot
     requires { ⌜ Counts s × Due s n × (0 < n .spot .level) × Completing s n complete ⌝ }
-    ensures { λ q. ⌜ Is (placeFed (columns s) (rows s) (s .levels) (s .drawn) (next s .level) (next s .alone) (next s .band)) q ⌝ }
+    ensures { λ q. ⌜ Is (spotFed (columns s) (rows s) (s .levels) (next s .level) (next s .set) (next s .band)) q ⌝ }
 {
     if !complete {
         return Spot {
             level: n.spot.level,
-            alone: n.spot.alone,
+            set: n.spot.set,
             band: n.spot.band + 1,
         };
     }
-    if n.spot.alone {
-        return walk::dive_past(s.levels, n.spot.level, n.at);
+    spot_past(s, n)
+}
+
+// The last set of a level that row d needs; of level 0 row d.
+fn last_of(s: Reader, d: usize, level: usize) -> usize
+    requires { ⌜ Small (columns s) (rows s) d × (level ≤ maxLevels) ⌝ }
+    ensures { λ n. ⌜ n ≡ needed (rows s) 0 d level ⌝ }
+{
+    if level == 0 {
+        return d;
     }
-    Spot {
-        level: n.spot.level - 1,
-        alone: false,
-        band: 1,
-    }
+    walk::level_at(s.x, s.width, s.y, s.height, d, level - 1).last
+}
+
+// How many sets the set of a place is before the last of its level that row d needs.
+pub fn back_of(s: Reader, d: usize, q: Spot) -> usize
+    requires { ⌜ Small (columns s) (rows s) d × (q .level ≤ maxLevels) ⌝ }
+    ensures { λ b. ⌜ b ≡ placeOf (rows s) d (spot (q .level) (q .set) (q .band)) .back ⌝ }
+{
+    sets::less(last_of(s, d, q.level), q.set)
 }

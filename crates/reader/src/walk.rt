@@ -9,10 +9,13 @@ ghost use mathlib.Core.Path.{_≡_};
 ghost use mathlib.Core.Bool.{true, false};
 ghost use Prim.Native.Nat.{_+_, _-_, _<_, _≤_, _^_};
 ghost use lib.ListN.{length};
+ghost use lib.Dec.{leb};
 ghost use Rattle.numbers.specs.Signal.{at, pick};
 ghost use Rattle.lifting.specs.Grid.{side, count};
 ghost use Rattle.wavelet.specs.Bands.{across, down};
 ghost use Rattle.wavelet.specs.Limits.{maxLevels};
+ghost use Rattle.lifting.specs.Line.{lo};
+ghost use Rattle.wavelet.specs.Order.{firstSet};
 ghost use Rattle.wavelet.specs.Levels.{next, sideAt};
 ghost use Rattle.wavelet.specs.Store.{storeLength};
 ghost use Rattle.level.specs.Tried.{passed, outcome};
@@ -20,10 +23,11 @@ ghost use Rattle.level.specs.Slots.{rowPlace, rowOfSet, halfPlace};
 ghost use Rattle.level.specs.Rebuilding.{Kept};
 ghost use Rattle.reader.specs.Asked.{named};
 ghost use Rattle.reader.specs.Store.{fedAt, workedAt};
-ghost use Rattle.reader.specs.Machine.{place, bandAt, aloneAt, nextUp, nextAt, settled, dive};
+ghost use Rattle.reader.specs.Sets.{waiting};
+ghost use Rattle.reader.specs.Machine.{spot, bandAt, nextUp, settled, dive};
 ghost use Rattle.reader.specs.Inside.{Small, IsLevel, IsAt, Is, IsNext};
 
-// A level: where its stretch begins, the columns and rows that it splits, the set that it is at, and whether the row waited for needs set 0 before it.
+// A level: where its stretch begins, the columns and rows that it splits, the set that it is at, and the last that the row waited for needs.
 pub struct Level {
     pub start: usize,
     pub x: usize,
@@ -31,13 +35,13 @@ pub struct Level {
     pub y: usize,
     pub height: usize,
     pub set: usize,
-    pub two: bool,
+    pub last: usize,
 }
 
-// A level, which of its sets, and a band of it: the row wanted, or where the reader goes on. Level 0: a height row can be drawn.
+// A level, one of its sets, and a band of it: the row wanted, or where the reader goes on. Level 0: a height row can be drawn.
 pub struct Spot {
     pub level: usize,
-    pub alone: bool,
+    pub set: usize,
     pub band: usize,
 }
 
@@ -47,8 +51,8 @@ pub struct Next {
     pub at: Level,
 }
 
-// Level k + 1. The coordinates where its columns and rows begin and end are halved from level to level, and that of the row waited for as they are; the level's
-// set is that of its row.
+// Level k + 1, at the last set that row `drawn` needs. The coordinates where its columns and rows begin and end are halved from level to level, and the row
+// that the set of each level takes is found.
 pub fn level_at(x: usize, width: usize, y: usize, height: usize, drawn: usize, k: usize) -> Level
     requires { ⌜ Small (side x width) (side y height) drawn × (k ≤ maxLevels) ⌝ }
     ensures { λ l. ⌜ IsAt (side x width) (side y height) drawn k l ⌝ }
@@ -58,20 +62,20 @@ pub fn level_at(x: usize, width: usize, y: usize, height: usize, drawn: usize, k
     let mut right = x + width;
     let mut top = y;
     let mut bottom = y + height;
-    let mut row = y + drawn;
+    let mut row = drawn;
     let mut i = 0;
     while i < k {
+        let n = sets::set_of(top, bottom - top, row);
+        row = sets::row_below(top, n);
         start += 4 * (right - left);
         left = sizes::next_start(left);
         right = sizes::next_start(right);
         top = sizes::next_start(top);
         bottom = sizes::next_start(bottom);
-        row = sizes::next_start(row);
         i += 1;
     }
     let h = bottom - top;
-    let r = row - top;
-    let n = sets::set_of(top, h, r);
+    let n = sets::set_of(top, h, row);
     Level {
         start,
         x: left,
@@ -79,8 +83,41 @@ pub fn level_at(x: usize, width: usize, y: usize, height: usize, drawn: usize, k
         y: top,
         height: h,
         set: n,
-        two: (r == 0) & (0 < n),
+        last: n,
     }
+}
+
+// The same level at another set.
+pub fn at_set(l: Level, n: usize) -> Level
+    ensures { λ m. ⌜ (m .start ≡ l .start) × (m .x ≡ l .x) × (m .width ≡ l .width) × (m .y ≡ l .y) × (m .height ≡ l .height) × (m .set ≡ n) ×
+        (m .last ≡ l .last) ⌝ }
+{
+    Level {
+        start: l.start,
+        x: l.x,
+        width: l.width,
+        y: l.y,
+        height: l.height,
+        set: n,
+        last: l.last,
+    }
+}
+
+// Level k, at the set that waits while l, level k + 1, is at its own.
+pub fn finer(
+    x: usize,
+    width: usize,
+    y: usize,
+    height: usize,
+    drawn: usize,
+    k: usize,
+    l: Level,
+) -> Level
+    requires { ⌜ Small (side x width) (side y height) drawn × IsLevel (side x width) (side y height) drawn k l × (0 < k) × (k ≤ maxLevels) ⌝ }
+    ensures { λ m. ⌜ IsLevel (side x width) (side y height) drawn (k - 1) m × (m .set ≡ waiting (side y height) k (l .set)) ⌝ }
+{
+    let m = level_at(x, width, y, height, drawn, k - 1);
+    at_set(m, sets::first_row(l.y, l.height, l.set) + m.y % 2)
 }
 
 // The code of the first band from `band` on that the set of l, level k + 1, asks for; 4 where there is none.
@@ -95,20 +132,20 @@ pub fn band_at(
     l: Level,
     band: usize,
 ) -> usize
-    requires { ⌜ Small (side x width) (side y height) drawn × IsLevel (side x width) (side y height) k l × (k ≤ maxLevels) ⌝ }
-    ensures { λ c. ⌜ c ≡ bandAt (side x width) (side y height) levels drawn k (l .set) band ⌝ }
+    requires { ⌜ Small (side x width) (side y height) drawn × IsLevel (side x width) (side y height) drawn k l × (k ≤ maxLevels) ⌝ }
+    ensures { λ c. ⌜ c ≡ bandAt (side x width) (side y height) levels k (l .set) band ⌝ }
 {
     sets::next_band(k + 1 == levels, l.x, l.width, l.y, l.height, l.set, band)
 }
 
 // No row wanted.
-fn no_row() -> Next
-    ensures { λ n. ⌜ (n .spot .level ≡ 0) × (n .spot .alone ≡ false) × (n .spot .band ≡ 4) ⌝ }
+pub fn no_row() -> Next
+    ensures { λ n. ⌜ (n .spot .level ≡ 0) × (n .spot .set ≡ 0) × (n .spot .band ≡ 4) ⌝ }
 {
     Next {
         spot: Spot {
             level: 0,
-            alone: false,
+            set: 0,
             band: 4,
         },
         at: Level {
@@ -118,62 +155,12 @@ fn no_row() -> Next
             y: 0,
             height: 0,
             set: 0,
-            two: false,
+            last: 0,
         },
     }
 }
 
-// The same level at its set 0.
-fn at_first(l: Level) -> Level
-    ensures { λ m. ⌜ (m .start ≡ l .start) × (m .x ≡ l .x) × (m .width ≡ l .width) × (m .y ≡ l .y) × (m .height ≡ l .height) × (m .set ≡ 0) ⌝ }
-{
-    Level {
-        start: l.start,
-        x: l.x,
-        width: l.width,
-        y: l.y,
-        height: l.height,
-        set: 0,
-        two: l.two,
-    }
-}
-
-// The row wanted of the set of a high row alone, if the level is at one that asks for a row.
-pub fn next_alone(
-    x: usize,
-    width: usize,
-    y: usize,
-    height: usize,
-    levels: usize,
-    drawn: usize,
-    level: usize,
-    band: usize,
-) -> Next
-    requires { ⌜ Small (side x width) (side y height) drawn × (0 < level) × (level ≤ maxLevels) ⌝ }
-    ensures { λ n. ⌜ IsNext (side x width) (side y height) levels drawn
-        (pick (aloneAt (side x width) (side y height) levels drawn level true band)
-        (place level true (bandAt (side x width) (side y height) levels drawn (level - 1) 0 band)) (place 0 false 4)) n ⌝ }
-{
-    let l = level_at(x, width, y, height, drawn, level - 1);
-    if !l.two {
-        return no_row();
-    }
-    let first = at_first(l);
-    let c = band_at(x, width, y, height, levels, drawn, level - 1, first, band);
-    if 4 <= c {
-        return no_row();
-    }
-    Next {
-        spot: Spot {
-            level,
-            alone: true,
-            band: c,
-        },
-        at: first,
-    }
-}
-
-// The row wanted: of this level, or of the next finer one whose set asks for one.
+// The row wanted: of the set of l, this level, or of the next finer one that waits and asks for one.
 pub fn next_up(
     x: usize,
     width: usize,
@@ -182,58 +169,34 @@ pub fn next_up(
     levels: usize,
     drawn: usize,
     level: usize,
+    l: Level,
     band: usize,
 ) -> Next
-    requires { ⌜ Small (side x width) (side y height) drawn × (level ≤ maxLevels) ⌝ }
-    ensures { λ n. ⌜ IsNext (side x width) (side y height) levels drawn (nextUp (side x width) (side y height) levels drawn level band) n ⌝ }
+    requires { ⌜ Small (side x width) (side y height) drawn × (0 < level) × (level ≤ maxLevels) × IsLevel (side x width) (side y height) drawn (level - 1) l ⌝ }
+    ensures { λ n. ⌜ IsNext (side x width) (side y height) drawn (nextUp (side x width) (side y height) levels level (l .set) band) n ⌝ }
 {
     let mut k = level;
+    let mut m = l;
     let mut b = band;
     while 0 < k {
-        let l = level_at(x, width, y, height, drawn, k - 1);
-        let c = band_at(x, width, y, height, levels, drawn, k - 1, l, b);
+        let c = band_at(x, width, y, height, levels, drawn, k - 1, m, b);
         if c < 4 {
             return Next {
                 spot: Spot {
                     level: k,
-                    alone: false,
+                    set: m.set,
                     band: c,
                 },
-                at: l,
+                at: m,
             };
         }
         k -= 1;
         b = 1;
+        if 0 < k {
+            m = finer(x, width, y, height, drawn, k, m);
+        }
     }
     no_row()
-}
-
-// The row wanted of a reader at this place: of a high row alone, if it is at one that asks for a row.
-pub fn next_at(
-    x: usize,
-    width: usize,
-    y: usize,
-    height: usize,
-    levels: usize,
-    drawn: usize,
-    level: usize,
-    alone: bool,
-    band: usize,
-) -> Next
-    requires { ⌜ Small (side x width) (side y height) drawn × (level ≤ maxLevels) ⌝ }
-    ensures { λ n. ⌜ IsNext (side x width) (side y height) levels drawn (nextAt (side x width) (side y height) levels drawn level alone band) n ⌝ }
-{
-    if !alone {
-        return next_up(x, width, y, height, levels, drawn, level, band);
-    }
-    if level == 0 {
-        return no_row();
-    }
-    let first = next_alone(x, width, y, height, levels, drawn, level, band);
-    if 0 < first.spot.level {
-        return first;
-    }
-    next_up(x, width, y, height, levels, drawn, level, band)
 }
 
 // Where the half row of a band of set n begins, in its level's stretch.
@@ -262,7 +225,7 @@ pub fn put_row(
     band: usize,
     run: &[i32],
 )
-    requires { ⌜ Small (side x width) (side y height) drawn × (k < maxLevels) × IsLevel (side x width) (side y height) k l × (band < 4) ×
+    requires { ⌜ Small (side x width) (side y height) drawn × (k < maxLevels) × IsLevel (side x width) (side y height) drawn k l × (band < 4) ×
         (storeLength (side x width) (k + 1) ≤ length (now store)) × (length (now run) ≡ count (across (named band)) (sideAt k (side x width))) ⌝ }
     ensures { λ _. ⌜ at (now (store .exit)) ≡
         fedAt (side x width) (side y height) k (l .set) band (at (now (run .entry))) (at (now (store .entry))) ⌝ }
@@ -273,7 +236,7 @@ pub fn put_row(
 }
 
 // The set of l, level k + 1, worked out in the level's own stretch; an empty level has none.
-fn work_at(
+pub fn work_at(
     x: usize,
     width: usize,
     y: usize,
@@ -284,13 +247,16 @@ fn work_at(
     k: usize,
     l: Level,
 ) -> bool
-    requires { ⌜ Small (side x width) (side y height) drawn × (levels ≤ maxLevels) × (k < levels) × IsLevel (side x width) (side y height) k l ×
+    requires { ⌜ Small (side x width) (side y height) drawn × (levels ≤ maxLevels) × (k < levels) × IsLevel (side x width) (side y height) drawn k l ×
         (storeLength (side x width) levels ≤ length (now store)) ⌝ }
     ensures { λ ok. ⌜ outcome ok (at (now (store .exit))) ≡
         workedAt (side x width) (side y height) levels k (l .set) (at (now (store .entry))) ⌝ }
     ensures { λ _. ⌜ Kept (storeLength (side x width) levels) (at (now (store .entry))) (at (now (store .exit))) ⌝ }
 {
     if (l.width == 0) | (l.height == 0) {
+        return true;
+    }
+    if sets::last_set(l.y, l.height) < l.set {
         return true;
     }
     let a = l.start;
@@ -307,44 +273,7 @@ fn work_at(
         == 0
 }
 
-// The same, the level's numbers handed on one by one: a structure would be laid into memory by every feed, also by one that completes no set.
-pub fn work_on(
-    x: usize,
-    width: usize,
-    y: usize,
-    height: usize,
-    levels: usize,
-    drawn: usize,
-    store: &mut [i32],
-    k: usize,
-    start: usize,
-    left: usize,
-    w: usize,
-    top: usize,
-    h: usize,
-    set: usize,
-) -> bool
-    requires { ⌜ Small (side x width) (side y height) drawn × (levels ≤ maxLevels) × (k < levels) ×
-        IsLevel (side x width) (side y height) k
-        (record { start = start; x = left; width = w; y = top; height = h; set = set; two = false }) ×
-        (storeLength (side x width) levels ≤ length (now store)) ⌝ }
-    ensures { λ ok. ⌜ outcome ok (at (now (store .exit))) ≡
-        workedAt (side x width) (side y height) levels k set (at (now (store .entry))) ⌝ }
-    ensures { λ _. ⌜ Kept (storeLength (side x width) levels) (at (now (store .entry))) (at (now (store .exit))) ⌝ }
-{
-    let l = Level {
-        start,
-        x: left,
-        width: w,
-        y: top,
-        height: h,
-        set,
-        two: false,
-    };
-    work_at(x, width, y, height, levels, drawn, store, k, l)
-}
-
-// The sets of the levels from `from` down to above `to`, the coarsest first.
+// The sets of the levels from `from`, at the set of l, down to above `to`, the coarsest first.
 pub fn settle(
     x: usize,
     width: usize,
@@ -354,42 +283,32 @@ pub fn settle(
     drawn: usize,
     store: &mut [i32],
     from: usize,
+    l: Level,
     to: usize,
 ) -> bool
     requires { ⌜ Small (side x width) (side y height) drawn × (levels ≤ maxLevels) × (from ≤ levels) ×
+        (0 < from → IsLevel (side x width) (side y height) drawn (from - 1) l) ×
         (storeLength (side x width) levels ≤ length (now store)) ⌝ }
     ensures { λ ok. ⌜ outcome ok (at (now (store .exit))) ≡
-        settled (side x width) (side y height) levels drawn to from (at (now (store .entry))) ⌝ }
+        settled (side x width) (side y height) levels to from (l .set) (at (now (store .entry))) ⌝ }
     ensures { λ _. ⌜ Kept (storeLength (side x width) levels) (at (now (store .entry))) (at (now (store .exit))) ⌝ }
 {
     let mut k = from;
+    let mut m = l;
     while to < k {
         k -= 1;
-        let l = level_at(x, width, y, height, drawn, k);
-        if !work_on(
-            x,
-            width,
-            y,
-            height,
-            levels,
-            drawn,
-            store,
-            k,
-            l.start,
-            l.x,
-            l.width,
-            l.y,
-            l.height,
-            l.set,
-        ) {
+        if !work_at(x, width, y, height, levels, drawn, store, k, m) {
             return false;
+        }
+        if 0 < k {
+            m = finer(x, width, y, height, drawn, k, m);
         }
     }
     true
 }
 
-// Where row `row` of level `level` begins, of the columns from x on and the rows from y on: past each level whose set it opens. A set of a high row alone comes
-// first.
+// Where number n of level `level` begins, which takes row `row` of the level's low-low part, of the columns from x on and the rows from y on: past each level
+// whose set it needs. A set of a high row alone needs none.
 pub fn dive_from(
     levels: usize,
     level: usize,
@@ -397,34 +316,37 @@ pub fn dive_from(
     width: usize,
     y: usize,
     height: usize,
+    n: usize,
     row: usize,
 ) -> Spot
-    requires { ⌜ (level ≤ levels) × (levels ≤ maxLevels) × (width ≤ 2 ^ 16) × (height < 2 ^ 32) × (row ≤ height) ⌝ }
-    ensures { λ p. ⌜ Is (dive (levels - level) level (side x width) (side y height) row) p ⌝ }
+    requires { ⌜ (level ≤ levels) × (levels ≤ maxLevels) × (width ≤ 2 ^ 16) × (height < 2 ^ 32) × (row ≤ 2 ^ 34) ⌝ }
+    ensures { λ p. ⌜ Is (dive (levels - level) level (side x width) (side y height) n row) p ⌝ }
 {
     let mut k = level;
     let mut wx = x;
     let mut w = width;
     let mut hy = y;
     let mut h = height;
+    let mut m = n;
     let mut r = row;
     while k < levels {
-        let n = sets::set_of(hy, h, r);
-        if !sets::goes_down(w, hy, h, r, n) {
+        let s = sets::sets_before(hy, h, r);
+        if !sets::goes_down(w, hy, h, r, s) {
             return Spot {
                 level: k,
-                alone: false,
+                set: m,
                 band: 1,
             };
         }
-        if sets::is_two(hy, h, r, n) {
+        if s < hy % 2 {
             return Spot {
                 level: k + 1,
-                alone: true,
+                set: s,
                 band: 1,
             };
         }
-        r = sets::row_below(hy, h, r, n);
+        m = s;
+        r = s - hy % 2;
         w = sizes::low_count(wx, w);
         wx = sizes::next_start(wx);
         h = sizes::low_count(hy, h);
@@ -433,16 +355,25 @@ pub fn dive_from(
     }
     Spot {
         level: k,
-        alone: false,
+        set: m,
         band: 0,
     }
 }
 
-// Where the reader goes on after the set of a high row alone of l, level `level`: where row 0 of the next level begins.
-pub fn dive_past(levels: usize, level: usize, l: Level) -> Spot
-    requires { ⌜ (level ≤ levels) × (levels ≤ maxLevels) × (l .width ≤ 2 ^ 16) × (l .height < 2 ^ 32) ⌝ }
-    ensures { λ p. ⌜ Is (dive (levels - level) level (next (side (l .x) (l .width))) (next (side (l .y) (l .height))) 0) p ⌝ }
+// Where set n of l, level `level`, begins.
+pub fn begin(levels: usize, level: usize, l: Level, n: usize) -> Spot
+    requires { ⌜ (level ≤ levels) × (levels ≤ maxLevels) × (l .width ≤ 2 ^ 16) × (l .height < 2 ^ 32) × (n ≤ 2 ^ 33) ⌝ }
+    ensures { λ p. ⌜ Is (pick (leb (firstSet (side (l .y) (l .height)) lo) n)
+        (dive (levels - level) level (next (side (l .x) (l .width))) (next (side (l .y) (l .height))) n (n - firstSet (side (l .y) (l .height)) lo))
+        (spot level n 1)) p ⌝ }
 {
+    if n < l.y % 2 {
+        return Spot {
+            level,
+            set: n,
+            band: 1,
+        };
+    }
     dive_from(
         levels,
         level,
@@ -450,6 +381,7 @@ pub fn dive_past(levels: usize, level: usize, l: Level) -> Spot
         sizes::low_count(l.x, l.width),
         sizes::next_start(l.y),
         sizes::low_count(l.y, l.height),
-        0,
+        n,
+        n - l.y % 2,
     )
 }

@@ -22,6 +22,7 @@ use Rattle.writer.specs.declared.BandRow.{BandRow}
 use Rattle.writer.specs.History as writer
 use Rattle.writer.specs.Demand3.{wholeRows, waitingOf}
 use Rattle.writer.specs.Questions as writer-asks
+use Rattle.reader.specs.Sets.{ahead}
 use Rattle.reader.specs.Answers.{done}
 use Rattle.reader.specs.Demand3 as reader
 use Rattle.reader.specs.Questions as reader-asks
@@ -62,7 +63,7 @@ module _ (W : Side) (s L n : ℕ) (x : ℕ → ℤ) (cs : List writer.Call) wher
     freshReader = reader.freshWorld W sideWrote L n′ y
 
     abbrev pub turns : List reader.Call
-    turns = played (drawnAs (writer.drawn wrote)) outs (length (steps 1 W sideWrote L)) freshReader
+    turns = played (drawnAs (writer.drawn wrote)) outs (length (steps ahead W sideWrote L)) freshReader
 
     abbrev pub read : List reader.Event
     read = reader.events turns freshReader
@@ -88,7 +89,7 @@ planeRows W H plane x =
 
 module _ (W H : Side) (L n : ℕ) (y : ℕ → ℤ) (plane : ℕ → ℤ) (outs : ℕ → Area) where
   abbrev pub planeTurns : List reader.Call
-  planeTurns = played (planeRows W H plane) outs (length (steps 1 W H L)) (reader.freshWorld W H L n y)
+  planeTurns = played (planeRows W H plane) outs (length (steps ahead W H L)) (reader.freshWorld W H L n y)
 
   abbrev pub planeRead : List reader.Event
   planeRead = reader.events planeTurns (reader.freshWorld W H L n y)

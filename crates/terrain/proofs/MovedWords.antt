@@ -32,8 +32,7 @@ record Fixed (s : List ℕ) : Type 0 where
 fixed : (s : List ℕ) → isReader s ≡ true → Fixed s
 unfolding isState zeroFrom zeroNext
 fixed s h =
-    let o = sweep.both (leb (getD s 10 0) 1) _ h in
-    let a = sweep.both (eqb (getD s 0 0) 2) _ (o .1) in
+    let a = sweep.both (eqb (getD s 0 0) 2) _ h in
     let b = sweep.both (leb (getD s 7 0) 1) _ (a .1) in
     let c₃ = sweep.both (eqb (getD s 11 0) 0) _ (b .1) in
     let c₄ = sweep.both (eqb (getD s 12 0) 0) _ (c₃ .1) in

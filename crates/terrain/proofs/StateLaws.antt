@@ -52,14 +52,6 @@ module _ (kind f k : ℕ) (s : List ℕ) where
   unfolding isState
   rest-left h g = simp (eq-eqb (getD s 0 0) kind h, le-leb (getD s f 0) 1 g)
 
--- with another flag, at place g, that is looked at first
-module _ (kind f g k : ℕ) (s : List ℕ) where
-  pub no-second : 1 < getD s g 0 → both (leb (getD s g 0) 1) (isState kind f k s) ≡ false
-  no-second h = simp (lt-leb (getD s g 0) 1 h)
-
-  pub second-left : getD s g 0 ≤ 1 → both (leb (getD s g 0) 1) (isState kind f k s) ≡ isState kind f k s
-  second-left h = simp (le-leb (getD s g 0) 1 h)
-
 -- what a test chooses
 pub pick-no : {A : Type 0} (t : Bool) (a b : A) → t ≡ false → pick t a b ≡ b
 pick-no t a b e = rw e refl

@@ -1,5 +1,5 @@
 -- What is packed into a state array is what is unpacked from it, and the array is one of its kind: a call finds what the call before it left. Assumes nothing.
-use mathlib.Core.Path.{_≡_, refl, ap, ap₂}
+use mathlib.Core.Path.{_≡_, refl, ap}
 use mathlib.Core.Bool.{Bool, true, false}
 use lib.Dec.{eqb}
 use Rattle.writer.specs.declared.Writer.{Writer}
@@ -42,8 +42,8 @@ writer-is w = go (w .finished) refl
 -- ---- a reader
 pub reader-back : (r : Reader) → readerOf (readerWords r) ≡ r
 reader-back r =
-    ap₂
-    (λ (b a : Bool). record {
+    ap
+    (λ (b : Bool). record {
       width = r .width;
       height = r .height;
       levels = r .levels;
@@ -51,18 +51,16 @@ reader-back r =
       y = r .y;
       drawn = r .drawn;
       level = r .level;
-      alone = a;
+      back = r .back;
       band = r .band;
       ended = b;
     })
-    (flag-back (r .ended)) (flag-back (r .alone))
+    (flag-back (r .ended))
 
 pub reader-is : (r : Reader) → isReader (readerWords r) ≡ true
 unfolding isState zeroFrom zeroNext
-reader-is r = go (r .ended) (r .alone) refl refl
+reader-is r = go (r .ended) refl
   where
-    go : (b a : Bool) → r .ended ≡ b → r .alone ≡ a → isReader (readerWords r) ≡ true
-    go true true e f = rw (e, f) refl
-    go true false e f = rw (e, f) refl
-    go false true e f = rw (e, f) refl
-    go false false e f = rw (e, f) refl
+    go : (b : Bool) → r .ended ≡ b → isReader (readerWords r) ≡ true
+    go true e = rw e refl
+    go false e = rw e refl

@@ -2,15 +2,13 @@
 use mathlib.Core.Bool.{Bool}
 use mathlib.Core.List.{List, [], _∷_}
 use Prim.Native.Nat.{ℕ}
-use lib.Dec.{eqb, leb}
+use lib.Dec.{eqb}
 use lib.ListN.{getD, set}
-use Rattle.numbers.specs.Signal.{both}
 use Rattle.reader.specs.declared.Reader.{Reader}
 use Rattle.terrain.specs.States.{flag, isState}
 
--- its second flag is at place 10
 abbrev pub isReader : List ℕ → Bool
-isReader s = both (leb (getD s 10 0) 1) (isState 2 7 11 s)
+isReader s = isState 2 7 11 s
 
 abbrev pub readerOf : List ℕ → Reader
 readerOf s =
@@ -24,14 +22,14 @@ readerOf s =
       ended = eqb (getD s 7 0) 1;
       x = getD s 8 0;
       y = getD s 9 0;
-      alone = eqb (getD s 10 0) 1;
+      back = getD s 10 0;
     }
 
 -- what a feed or a draw that passes writes of the array: the other words stand there already
 abbrev pub movedWords : Reader → List ℕ → List ℕ
-movedWords r s = set (set (set (set (set s 4 (r .drawn)) 5 (r .level)) 6 (r .band)) 7 (flag (r .ended))) 10 (flag (r .alone))
+movedWords r s = set (set (set (set (set s 4 (r .drawn)) 5 (r .level)) 6 (r .band)) 7 (flag (r .ended))) 10 (r .back)
 
 abbrev pub readerWords : Reader → List ℕ
 readerWords r =
     2 ∷ r .width ∷ r .height ∷ r .levels ∷ r .drawn ∷ r .level ∷ r .band ∷ flag (r .ended)
-    ∷ r .x ∷ r .y ∷ flag (r .alone) ∷ 0 ∷ 0 ∷ 0 ∷ 0 ∷ 0 ∷ []
+    ∷ r .x ∷ r .y ∷ r .back ∷ 0 ∷ 0 ∷ 0 ∷ 0 ∷ 0 ∷ []

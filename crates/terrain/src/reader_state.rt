@@ -9,9 +9,6 @@ ghost use Rattle.terrain.specs.ReaderState.{isReader, readerOf, movedWor
 pub fn is_reader(s: &[u64; 16]) -> bool
     ensures { λ r. ⌜ r ≡ isReader (now (s .entry)) ⌝ }
 {
-    if 1 < s[10] {
-        return false;
-    }
     if s[0] != 2 {
         return false;
     }
@@ -35,7 +32,7 @@ pub fn unpack_reader(s: &[u64; 16]) -> Reader
         ended: s[7] == 1,
         x: s[8] as usize,
         y: s[9] as usize,
-        alone: s[10] == 1,
+        back: s[10] as usize,
     }
 }
 
@@ -44,7 +41,6 @@ pub fn pack_reader(r: Reader, s: &mut [u64; 16])
     ensures { λ _. ⌜ now (s .exit) ≡ readerWords r ⌝ }
 {
     let ended = states::flag_of(r.ended);
-    let alone = states::flag_of(r.alone);
     *s = [
         2,
         r.width as u64,
@@ -56,7 +52,7 @@ pub fn pack_reader(r: Reader, s: &mut [u64; 16])
         ended,
         r.x as u64,
         r.y as u64,
-        alone,
+        r.back as u64,
         0,
         0,
         0,
@@ -70,11 +66,10 @@ pub fn pack_moved(r: Reader, s: &mut [u64; 16])
     ensures { λ _. ⌜ (now (s .exit) ≡ movedWords r (now (s .entry))) × (length (now (s .entry)) ≡ 16) ⌝ }
 {
     let over = states::flag_of(r.ended);
-    let alone = states::flag_of(r.alone);
     states::sized(*s);
     s[4] = r.drawn as u64;
     s[5] = r.level as u64;
     s[6] = r.band as u64;
     s[7] = over;
-    s[10] = alone;
+    s[10] = r.back as u64;
 }

@@ -7,7 +7,7 @@ use native.Mathlib.Numerals.{add-one}
 use Rattle.lifting.specs.Grid.{Side, side}
 use Rattle.wavelet.specs.Limits.{maxLevels}
 use Rattle.wavelet.specs.Levels.{next, sideAt}
-use Rattle.wavelet.specs.Store.{widths, storeLength}
+use Rattle.wavelet.specs.Store.{widths, storeLength, anyLength}
 use Rattle.wavelet.proofs.SideLaws.{next-length, count-lo, size-inner, size-grows}
 
 pub store-none : (W : Side) → storeLength W 0 ≡ 0
@@ -79,6 +79,6 @@ five : (W : Side) → 16 * storeLength W 5 ≤ 124 * W .length + 196
 five W = omega (arith, store-below W 4, half-most W, four (next W))
 
 -- enough for every number of levels
-pub store-most : (W : Side) (L : ℕ) → L ≤ maxLevels → storeLength W L ≤ (31 * W .length + 52) / 4
-unfolding maxLevels
-store-most W L h = omega (arith, store-in W L 5 h, five W)
+pub store-most : (W : Side) (L : ℕ) → L ≤ maxLevels → storeLength W L ≤ anyLength (W .length)
+unfolding maxLevels anyLength
+store-most W L h = omega (arith, store-in W L maxLevels h, five W)

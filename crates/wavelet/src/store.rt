@@ -3,11 +3,12 @@ use crate::limits;
 use crate::sizes;
 ghost use mathlib.Core.Path.{_≡_};
 ghost use Prim.Native.Nat.{_≤_};
+ghost use lib.Dec.{leb};
 ghost use Rattle.numbers.specs.Signal.{pick, both};
 ghost use Rattle.lifting.specs.Grid.{side};
 ghost use Rattle.wavelet.specs.Limits.{maxWidth, maxLevels};
 ghost use Rattle.wavelet.specs.Questions.{within};
-ghost use Rattle.wavelet.specs.Store.{storeLength};
+ghost use Rattle.wavelet.specs.Store.{storeLength, anyLength};
 
 // 4 × (W(0) + ... + W(levels − 1)) of the columns from x on.
 fn needed(width: usize, x: usize, levels: usize) -> usize
@@ -38,4 +39,14 @@ pub fn store_length(width: usize, x: usize, levels: usize) -> usize
         return 0;
     }
     needed(width, x, levels)
+}
+
+// Whether n numbers are enough for so many columns, wherever they start, at every number of levels within the limits. So the sizes are seldom added up.
+pub fn holds_any(width: usize, n: usize) -> bool
+    ensures { λ r. ⌜ r ≡ both (leb width maxWidth) (leb (anyLength width) n) ⌝ }
+{
+    if limits::MAX_WIDTH < width {
+        return false;
+    }
+    (31 * width + 52) / 4 <= n
 }

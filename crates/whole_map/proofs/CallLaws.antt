@@ -15,15 +15,15 @@ use Rattle.numbers.specs.Signal.{pick, both}
 use Rattle.numbers.specs.Word.{wrap32, whole}
 use Rattle.lifting.specs.Halves.{fronted}
 use Rattle.lifting.specs.Grid.{Side}
-use Rattle.lifting.specs.FiveThree.{fiveThreeFilter}
-use Rattle.lifting.proofs.FiveThreeFilter.{five-three-laws}
+use Rattle.lifting.specs.Filter.{Filter}
+use Rattle.lifting.proofs.FilterLaws.{FilterLaws}
 use Rattle.wavelet.specs.Limits.{maxWidth, maxHeight, maxLevels, maxSample, range}
 use Rattle.wavelet.specs.Questions.{ask, within, sizeQuestion, Sized}
 use Rattle.wavelet.specs.Bands.{Grid, levelHas}
 use Rattle.wavelet.specs.Plane.{cells, flat, planeCell, planeOf, planeBands, mapBack}
 use Rattle.wavelet.specs.Maps.{IsMap, everyCell, valueFits, inRange, rebuiltFits}
 use Rattle.wavelet.proofs.GridLaws.{cells-flat, row-below}
-use Rattle.wavelet.proofs.LimitLaws.{stride-small, five-three-few}
+use Rattle.wavelet.proofs.LimitLaws.{stride-small}
 use Rattle.wavelet.proofs.QuestionLaws.{sized, size-no, size-yes}
 use Rattle.wavelet.proofs.MapTheorems.{cells-same}
 use Rattle.wavelet.specs.Levels.{next}
@@ -232,7 +232,7 @@ heights-map W H l f = record { heights = λ r c _ _. height (getD l (r * W + c) 
     height n b = (record { le = le→leb 0 n (omega arith) }, record { le = le→leb n maxSample (omega arith) })
 
 -- z₁ is the plane loaded with the heights l, z₂ the plane after the levels
-module _ (W H : Side) (L : ℕ) (l : List ℕ) (z₀ z₁ : ℕ → ℤ) (s : Sized (W .length) (H .length) L)
+module _ (F : Filter) (laws : FilterLaws F) (W H : Side) (L : ℕ) (l : List ℕ) (z₀ z₁ : ℕ → ℤ) (s : Sized (W .length) (H .length) L)
     (e : z₁ ≡ flat (W .length) (gridHalved W H (cells (W .length) (heightsAt l)) (cells (W .length) z₀))) where
   abbrev w : ℕ
   w = W .length
@@ -241,117 +241,120 @@ module _ (W H : Side) (L : ℕ) (l : List ℕ) (z₀ z₁ : ℕ → ℤ) (s : Si
   heights = cells w (heightsAt l)
 
   -- what stood past the map still does
-  over : (g : Grid) → flat w (planeWritten L W H g (cells w z₁)) ≡ flat w (planeWritten L W H g (cells w z₀))
+  over : (g : Grid) → flat w (planeWritten F L W H g (cells w z₁)) ≡ flat w (planeWritten F L W H g (cells w z₀))
   over g =
       flat-same w _ _ (s .width .0)
       (λ r c cw.
       by-within w (H .length) r c
-      (λ rh cv. written-in L W H g (cells w z₁) r c rh cv ∙ sym (written-in L W H g (cells w z₀) r c rh cv))
+      (λ rh cv. written-in F L W H g (cells w z₁) r c rh cv ∙ sym (written-in F L W H g (cells w z₀) r c rh cv))
       (λ o.
-      written-out L W H g (cells w z₁) r c o
+      written-out F L W H g (cells w z₁) r c o
       ∙ ap (λ (z : ℕ → ℤ). cells w z r c) e
       ∙ cells-flat w _ r c cw
       ∙ halved-out W H heights (cells w z₀) r c o
-      ∙ sym (written-out L W H g (cells w z₀) r c o)))
+      ∙ sym (written-out F L W H g (cells w z₀) r c o)))
 
-  pub plane-made : (z₂ : ℕ → ℤ) → ((i : ℕ) → getD l i 0 < 65536) → z₂ ≡ flat w (planeWritten L W H (cornerGrid W H (cells w z₁)) (cells w z₁)) →
-      z₂ ≡ fronted (w * H .length) (planeOf fiveThreeFilter whole L W H heights) z₀
+  pub plane-made : L ≤ F .levels → (z₂ : ℕ → ℤ) → ((i : ℕ) → getD l i 0 < 65536) → z₂ ≡ flat w
+      (planeWritten F L W H (cornerGrid W H (cells w z₁)) (cells w z₁)) →
+      z₂ ≡ fronted (w * H .length) (planeOf F whole L W H heights) z₀
   unfolding planeOf
-  plane-made z₂ fits f =
+  plane-made few z₂ fits f =
       let g = cornerGrid W H (cells w z₁) in
-      f ∙ over g ∙ map-places w (H .length) _ (planeCell fiveThreeFilter whole L W H heights) z₀ (s .width .0) (s .height .0)
+      f ∙ over g ∙ map-places w (H .length) _ (planeCell F whole L W H heights) z₀ (s .width .0) (s .height .0)
       (λ r c rh cw.
-      written-in L W H g (cells w z₀) r c rh cw
-      ∙ plane-reads fiveThreeFilter five-three-laws wrap32 L W H g heights (halved-grid w W H heights (cells w z₀) z₁ (omega arith) e) r c rh cw
-      ∙ map-plane fiveThreeFilter five-three-laws W H heights (heights-map w (H .length) l fits) L (five-three-few (s .levels .1)) r c rh cw)
-      (λ r c o. written-out L W H g (cells w z₀) r c o)
+      written-in F L W H g (cells w z₀) r c rh cw
+      ∙ plane-reads F laws wrap32 L W H g heights (halved-grid w W H heights (cells w z₀) z₁ (omega arith) e) r c rh cw
+      ∙ map-plane F laws W H heights (heights-map w (H .length) l fits) L few r c rh cw)
+      (λ r c o. written-out F L W H g (cells w z₀) r c o)
 
--- ---- backward
-pub region-one : (L : ℕ) (W H : Side) (x : Grid) → regionInRange 1 L W H x ≡ inRange fiveThreeFilter L W H x
-unfolding regionInRange inRange
-region-one L W H x =
-    cells-same (W .length) (H .length) _ _ (λ r c _ _. ap (λ (k : ℕ). leb (natAbs (x r c)) (range fiveThreeFilter k)) (omega arith))
+module _ (F : Filter) (laws : FilterLaws F) where
+  -- ---- backward
+  pub region-one : (L : ℕ) (W H : Side) (x : Grid) → regionInRange F 1 L W H x ≡ inRange F L W H x
+  unfolding regionInRange inRange
+  region-one L W H x =
+      cells-same (W .length) (H .length) _ _ (λ r c _ _. ap (λ (k : ℕ). leb (natAbs (x r c)) (range F k)) (omega arith))
 
-module _ (W H : Side) (L : ℕ) (x : Grid) (ok : Bool) (e : ok ≡ regionInRange 1 L W H x) where
-  pub out-of-range : ok ≡ false → 7 ≡ planeQuestions W H L x
-  unfolding planeQuestions
-  out-of-range f = let g = sym (region-one L W H x) ∙ sym e ∙ f in rw g
-
-  module _ (t : ok ≡ true) (ok′ : Bool) (e′ : ok′ ≡ rebuiltFits fiveThreeFilter 0 L W H x) where
-    pub not-rebuilt : ok′ ≡ false → 14 ≡ planeQuestions W H L x
+  module _ (W H : Side) (L : ℕ) (x : Grid) (ok : Bool) (e : ok ≡ regionInRange F 1 L W H x) where
+    pub out-of-range : ok ≡ false → 7 ≡ planeQuestions F W H L x
     unfolding planeQuestions
-    not-rebuilt f =
-        let g = sym (region-one L W H x) ∙ sym e ∙ t in
-        let g′ = sym e′ ∙ f in
-        rw (g, g′)
+    out-of-range f = let g = sym (region-one L W H x) ∙ sym e ∙ f in rw g
 
-    pub all-rebuilt : ok′ ≡ true → 0 ≡ planeQuestions W H L x
-    unfolding planeQuestions
-    all-rebuilt f =
-        let g = sym (region-one L W H x) ∙ sym e ∙ t in
-        let g′ = sym e′ ∙ f in
-        rw (g, g′)
+    module _ (t : ok ≡ true) (ok′ : Bool) (e′ : ok′ ≡ rebuiltFits F 0 L W H x) where
+      pub not-rebuilt : ok′ ≡ false → 14 ≡ planeQuestions F W H L x
+      unfolding planeQuestions
+      not-rebuilt f =
+          let g = sym (region-one L W H x) ∙ sym e ∙ t in
+          let g′ = sym e′ ∙ f in
+          rw (g, g′)
 
-module _ (W H : Side) (L : ℕ) (x X : Grid) (s : Sized (W .length) (H .length) L) (B : Rebuilt L W H x X) where
-  -- the rebuilt rows, returned
-  pub map-returned : (h h′ : ℕ → ℤ) → h′ ≡ flat (W .length) (rowsReturned W (H .length) X (cells (W .length) h)) →
-      h′ ≡ fronted (W .length * H .length) (flat (W .length) (mapBack fiveThreeFilter wrap32 L W H x)) h
-  map-returned h h′ e =
-      e ∙ map-places (W .length) (H .length) _ (mapBack fiveThreeFilter wrap32 L W H x) h (s .width .0) (s .height .0)
-      (λ r c rh cw. returned-in W (H .length) X (cells (W .length) h) r c rh cw ∙ B .cell r c rh cw)
-      (returned-out W (H .length) X (cells (W .length) h))
+      pub all-rebuilt : ok′ ≡ true → 0 ≡ planeQuestions F W H L x
+      unfolding planeQuestions
+      all-rebuilt f =
+          let g = sym (region-one L W H x) ∙ sym e ∙ t in
+          let g′ = sym e′ ∙ f in
+          rw (g, g′)
 
--- the rows cleared, each by itself
-map-cleared : (W H : ℕ) (x : ℕ → ℤ) → 0 < W → 0 < H → flat W (rowsMapped (fronted W zeros) W H (cells W x)) ≡ fronted (W * H) zeros x
-unfolding flat
-map-cleared W H x w h =
-    map-places W H _ (λ _ _. pos 0) x w h
-    (λ r c rh cw. mapped-in (fronted W zeros) W H (cells W x) r c rh cw ∙ front-at W zeros _ c cw)
-    (λ r c o. mapped-out W H (cells W x) r c o (fronted W zeros))
+  module _ (W H : Side) (L : ℕ) (x X : Grid) (s : Sized (W .length) (H .length) L) (B : Rebuilt F L W H x X) where
+    -- the rebuilt rows, returned
+    pub map-returned : (h h′ : ℕ → ℤ) → h′ ≡ flat (W .length) (rowsReturned W (H .length) X (cells (W .length) h)) →
+        h′ ≡ fronted (W .length * H .length) (flat (W .length) (mapBack F wrap32 L W H x)) h
+    map-returned h h′ e =
+        e ∙ map-places (W .length) (H .length) _ (mapBack F wrap32 L W H x) h (s .width .0) (s .height .0)
+        (λ r c rh cw. returned-in W (H .length) X (cells (W .length) h) r c rh cw ∙ B .cell r c rh cw)
+        (returned-out W (H .length) X (cells (W .length) h))
 
--- 14 of a map: of the low-low part and of what level 1 halves, `done`, and of the heights, t
-map-fits : (W H : Side) (L : ℕ) (x : Grid) (done t : Bool) → 0 < L →
-    done ≡ pick (rebuiltFits fiveThreeFilter (0 + 1) (L - 1) (next W) (next H) x)
-    (levelHas fiveThreeFilter W H (planeBands W H (mapBack fiveThreeFilter wrap32 (L - 1) (next W) (next H) x) x)) false →
-    t ≡ everyCell (W .length) (H .length) (λ r c. valueFits fiveThreeFilter 0 (mapBack fiveThreeFilter wrap32 L W H x r c))
-    → pick done t false ≡ rebuiltFits fiveThreeFilter 0 L W H x
-map-fits W H L x done t some e f =
-    let A = rebuiltFits fiveThreeFilter (0 + 1) (L - 1) (next W) (next H) x in
-    let B = levelHas fiveThreeFilter W H (planeBands W H (mapBack fiveThreeFilter wrap32 (L - 1) (next W) (next H) x) x) in
-    let C = everyCell (W .length) (H .length) (λ r c. valueFits fiveThreeFilter 0 (mapBack fiveThreeFilter wrap32 L W H x r c)) in
-    ap₂ (λ (p q : Bool). pick p q false) e f
-    ∙ sym (both-both A B C)
-    ∙ sym (fits-more 0 L W H x some)
+  -- the rows cleared, each by itself
+  map-cleared : (W H : ℕ) (x : ℕ → ℤ) → 0 < W → 0 < H → flat W (rowsMapped (fronted W zeros) W H (cells W x)) ≡ fronted (W * H) zeros x
+  unfolding flat
+  map-cleared W H x w h =
+      map-places W H _ (λ _ _. pos 0) x w h
+      (λ r c rh cw. mapped-in (fronted W zeros) W H (cells W x) r c rh cw ∙ front-at W zeros _ c cw)
+      (λ r c o. mapped-out W H (cells W x) r c o (fronted W zeros))
 
--- what the levels and the last test come to: z is the plane, y₁ the work area that the levels left
-module _ (W H : Side) (L : ℕ) (z g₀ y₀ y₁ : ℕ → ℤ) (s : Sized (W .length) (H .length) L) where
-  abbrev plane : Grid
-  plane = cells (W .length) z
+  -- 14 of a map: of the low-low part and of what level 1 halves, `done`, and of the heights, t
+  map-fits : (W H : Side) (L : ℕ) (x : Grid) (done t : Bool) → 0 < L →
+      done ≡ pick (rebuiltFits F (0 + 1) (L - 1) (next W) (next H) x)
+      (levelHas F W H (planeBands W H (mapBack F wrap32 (L - 1) (next W) (next H) x) x)) false →
+      t ≡ everyCell (W .length) (H .length) (λ r c. valueFits F 0 (mapBack F wrap32 L W H x r c))
+      → pick done t false ≡ rebuiltFits F 0 L W H x
+  map-fits W H L x done t some e f =
+      let A = rebuiltFits F (0 + 1) (L - 1) (next W) (next H) x in
+      let B = levelHas F W H (planeBands W H (mapBack F wrap32 (L - 1) (next W) (next H) x) x) in
+      let C = everyCell (W .length) (H .length) (λ r c. valueFits F 0 (mapBack F wrap32 L W H x r c)) in
+      ap₂ (λ (p q : Bool). pick p q false) e f
+      ∙ sym (both-both A B C)
+      ∙ sym (fits-more F laws 0 L W H x some)
 
-  pub map-no : (done : Bool) → done ≡ false → LevelsBack done 0 L (W .length) (W .length) W H z y₀ y₁ → MapRebuilt false W H L z g₀ g₀ y₀ y₁
-  map-no done it b =
-      let l = s .levels in
-      let f = map-fits W H L plane done _ (l .0) (b .answer) refl in
-      record {
-        answer = (rw it at f);
-        heights = λ t. absurd (false-true t);
-        cleared = λ t. absurd (false-true t);
-        kept = b .kept;
-        keptHeights = record { kept = λ j q. refl };
-      }
+  -- what the levels and the last test come to: z is the plane, y₁ the work area that the levels left
+  module _ (W H : Side) (L : ℕ) (z g₀ y₀ y₁ : ℕ → ℤ) (s : Sized (W .length) (H .length) L) where
+    abbrev plane : Grid
+    plane = cells (W .length) z
 
-  pub map-yes : (ok done : Bool) (g y : ℕ → ℤ) → done ≡ true → LevelsBack done 0 L (W .length) (W .length) W H z y₀ y₁ →
-      Finished ok W (H .length) y₁ y g₀ g → MapRebuilt ok W H L z g₀ g y₀ y
-  map-yes ok done g y it b f =
-      let l = s .levels in
-      let B = b .grid it in
-      let w = s .width .0 in
-      let h = s .height .0 in
-      let all = map-fits W H L plane done ok (l .0) (b .answer) (f .answer ∙ rebuilt-cells 0 L W H plane (cells (W .length) y₁) B) in
-      record {
-        answer = (rw it at all);
-        heights = λ t. map-returned W H L plane (cells (W .length) y₁) s B g₀ g (f .heights t);
-        cleared = λ t. cleared (W .length) (H .length) y₀ y₁ y h (b .kept) (f .cleared t ∙ map-cleared (W .length) (H .length) y₁ w h);
-        kept = kept-then (b .kept) (f .kept) (omega arith);
-        keptHeights = f .keptHeights;
-      }
+    pub map-no : (done : Bool) → done ≡ false → LevelsBack F done 0 L (W .length) (W .length) W H z y₀ y₁ → MapRebuilt F false W H L z g₀ g₀ y₀ y₁
+    map-no done it b =
+        let l = s .levels in
+        let f = map-fits W H L plane done _ (l .0) (b .answer) refl in
+        record {
+          answer = (rw it at f);
+          heights = λ t. absurd (false-true t);
+          cleared = λ t. absurd (false-true t);
+          kept = b .kept;
+          keptHeights = record { kept = λ j q. refl };
+        }
+
+    pub map-yes : (ok done : Bool) (g y : ℕ → ℤ) → done ≡ true → LevelsBack F done 0 L (W .length) (W .length) W H z y₀ y₁ →
+        Finished ok W (H .length) y₁ y g₀ g → MapRebuilt F ok W H L z g₀ g y₀ y
+    unfolding valueFits everyCell
+    map-yes ok done g y it b f =
+        let l = s .levels in
+        let B = b .grid it in
+        let w = s .width .0 in
+        let h = s .height .0 in
+        let all = map-fits W H L plane done ok (l .0) (b .answer) (f .answer ∙ rebuilt-cells F laws 0 L W H plane (cells (W .length) y₁) B) in
+        record {
+          answer = (rw it at all);
+          heights = λ t. map-returned W H L plane (cells (W .length) y₁) s B g₀ g (f .heights t);
+          cleared = λ t. cleared (W .length) (H .length) y₀ y₁ y h (b .kept) (f .cleared t ∙ map-cleared (W .length) (H .length) y₁ w h);
+          kept = kept-then (b .kept) (f .kept) (omega arith);
+          keptHeights = f .keptHeights;
+        }

@@ -32,7 +32,7 @@ use Rattle.whole_map.proofs.TestLaws.{false-true}
 use Rattle.whole_map.proofs.CallLaws.{roomy-is, asked-on, passed-yes, rebuilt-yes}
 
 -- the cells of an area with a map or a plane at its front
-front-cells : (W H : ℕ) (Q : Grid) (h : ℕ → ℤ) (r c : ℕ) → r < H → c < W → cells W (fronted (W * H) (flat W Q) h) r c ≡ Q r c
+pub front-cells : (W H : ℕ) (Q : Grid) (h : ℕ → ℤ) (r c : ℕ) → r < H → c < W → cells W (fronted (W * H) (flat W Q) h) r c ≡ Q r c
 unfolding cells
 front-cells W H Q h r c rh cw =
     front-at (W * H) (flat W Q) h _ (rw (mul-comm W H) (place-below W H r c rh cw)) ∙ flat-at W Q r c cw
@@ -42,12 +42,12 @@ pub data SevenOrFourteen (q : ℕ) : Type 0 where
   seven : q ≡ 7 → SevenOrFourteen q
   fourteen : q ≡ 14 → SevenOrFourteen q
 
-passes : (p q : Bool) → ask p 7 (ask q 14 0) ≡ 0 ↔ (p ≡ true) × (q ≡ true)
+pub passes : (p q : Bool) → ask p 7 (ask q 14 0) ≡ 0 ↔ (p ≡ true) × (q ≡ true)
 passes true true = (λ e. (refl, refl), λ e. refl)
 passes true false = (λ e. absurd (omega arith), λ e. absurd (false-true (e .1)))
 passes false q = (λ e. absurd (omega arith), λ e. absurd (false-true (e .0)))
 
-refuses : (p q : Bool) → SevenOrFourteen (ask p 7 (ask q 14 0)) ↔ (ask p 7 (ask q 14 0) ≡ 0 → ⊥)
+pub refuses : (p q : Bool) → SevenOrFourteen (ask p 7 (ask q 14 0)) ↔ (ask p 7 (ask q 14 0) ≡ 0 → ⊥)
 refuses true true = (λ s n. elim s [ seven e ↦ omega arith | fourteen e ↦ omega arith ], λ n. absurd (n refl))
 refuses true false = (λ s n. omega arith, λ n. fourteen refl)
 refuses false q = (λ s n. omega arith, λ n. seven refl)

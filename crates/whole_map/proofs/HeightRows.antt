@@ -8,6 +8,7 @@ use native.Mathlib.Omega.{arith}
 use lib.IntN.{ℤ, pos}
 use lib.ListN.{length, length-map}
 use borrow.Rule.Slice.PartMut.{midOf, putMid}
+use Rattle.lifting.proofs.FiveThreeFilter.{five-three-laws}
 use Rattle.numbers.specs.Signal.{at}
 use Rattle.numbers.proofs.Parts.{length-mid, at-mid}
 use Rattle.lifting.specs.Line.{Half, lo}
@@ -79,10 +80,11 @@ pub row-fits : (w i n : ℕ) (X : Grid) (y : ℕ → ℤ) → n ≡ w → y ≡ 
     every n (λ j. between (pos 0) (pos maxSample) (y j)) ≡ every w (λ c. valueFits fiveThreeFilter 0 (X i c))
 row-fits w i n X y en ey =
     ap (λ (m : ℕ). every m (λ j. between (pos 0) (pos maxSample) (y j))) en
-    ∙ every-same w _ _ (λ j q. ap (between (pos 0) (pos maxSample)) (ap (λ (f : ℕ → ℤ). f j) ey ∙ cut-in w (X i) j q) ∙ height-fits (X i j))
+    ∙ every-same w _ _ (λ j q. ap (between (pos 0) (pos maxSample)) (ap (λ (f : ℕ → ℤ). f j) ey ∙ cut-in w (X i) j q) ∙ height-fits fiveThreeFilter
+    five-three-laws (X i j))
 
 pub row-heights : (n : ℕ) (y : ℕ → ℤ) → every n (λ j. between (pos 0) (pos maxSample) (y j)) ≡ true → every n (λ j. valueFits fiveThreeFilter 0 (y j)) ≡ true
-row-heights n y e = sym (every-same n _ _ (λ j q. height-fits (y j))) ∙ e
+row-heights n y e = sym (every-same n _ _ (λ j q. height-fits fiveThreeFilter five-three-laws (y j))) ∙ e
 
 -- and its heights z
 pub store-turn : (W : Side) (h : ℕ) (X : Grid) (g₀ : List ℕ) (i k n : ℕ) (y : ℕ → ℤ) (g z : List ℕ) → k ≡ W .length → i < h →

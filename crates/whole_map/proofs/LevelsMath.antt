@@ -9,10 +9,10 @@ use native.Mathlib.Decide.{decLt}
 use Rattle.numbers.specs.Word.{wrap32}
 use Rattle.lifting.specs.Line.{lo, hi}
 use Rattle.lifting.specs.Grid.{Side, place, count, joined}
-use Rattle.lifting.specs.GridHalves.{halvesOf, liftedInPlace}
+use Rattle.lifting.specs.GridHalves.{halvesOf}
 use Rattle.lifting.proofs.GridLaws.{counts, place-in, front-in}
-use Rattle.lifting.specs.FiveThree.{fiveThreeFilter}
-use Rattle.lifting.proofs.FiveThreeFilter.{five-three-laws}
+use Rattle.lifting.specs.Filter.{Filter}
+use Rattle.lifting.proofs.FilterLaws.{FilterLaws}
 use Rattle.wavelet.specs.Bands.{Grid, Band, LL, bandOf, subband}
 use Rattle.wavelet.specs.Plane.{cells, flat, halfAt, placeIn, inCorner, planeCell, planeBands, mapBack}
 use Rattle.wavelet.proofs.GridLaws.{cells-flat}
@@ -20,33 +20,34 @@ use Rattle.wavelet.specs.Levels.{next}
 use Rattle.wavelet.proofs.LevelTheory.{plane-reads}
 use Rattle.whole_map.specs.Rowwise.{cut, wovenInPlace}
 use Rattle.whole_map.specs.Passes.{within, rowsMapped, rowsFetched, gridHalved, gridCopied}
-use Rattle.whole_map.specs.LevelPasses.{levelGrid, cornerGrid, levelLifted, levelUnlifted, planeWritten, goesOn, Rebuilt}
+use Rattle.whole_map.specs.ByFilter.{liftedBy, columnsLiftedBy, levelLiftedBy, levelUnliftedBy}
+use Rattle.whole_map.specs.LevelPasses.{levelGrid, cornerGrid, planeWritten, goesOn, Rebuilt}
 use Rattle.whole_map.proofs.GridSweep.{mapped-in}
-use Rattle.whole_map.proofs.CellLaws.{column-out, halved-out, halved-grid, copied-in, mapped-out, fetched-new, fetched-made, made-low, made-high}
+use Rattle.whole_map.proofs.CellLaws.{halved-out, halved-grid, copied-in, mapped-out, fetched-new, fetched-made, made-low, made-high}
 use Rattle.whole_map.proofs.CellLaws.{placed-low, placed-high, flat-same, placed, placed-in, joined-at, grid-at, half-low, cut-in, within-in, by-within}
 use Rattle.whole_map.proofs.LevelMath.{BandsIn, level-forward, level-back}
 use Rattle.whole_map.proofs.TestLaws.{goes-no}
 
 -- ---- the plane, by cells
-module _ (keep : ℤ → ℤ) (W H : Side) (g : Grid) (r c : ℕ) where
+module _ (F : Filter) (keep : ℤ → ℤ) (W H : Side) (g : Grid) (r c : ℕ) where
   plane-corner : (L : ℕ) → r < count lo H → c < count lo W →
-      planeCell fiveThreeFilter keep (suc L) W H g r c ≡ planeCell fiveThreeFilter keep L (next W) (next H) (subband fiveThreeFilter keep W H g LL) r c
+      planeCell F keep (suc L) W H g r c ≡ planeCell F keep L (next W) (next H) (subband F keep W H g LL) r c
   unfolding planeCell inCorner
   plane-corner L rb cb = simp (lt-ltb r (count lo H) rb, lt-ltb c (count lo W) cb)
 
   plane-rest : (L : ℕ) → within (count lo W) (count lo H) r c ≡ false →
-      planeCell fiveThreeFilter keep (suc L) W H g r c ≡ subband fiveThreeFilter keep W H g (bandOf (halfAt W c) (halfAt H r)) (placeIn H r) (placeIn W c)
+      planeCell F keep (suc L) W H g r c ≡ subband F keep W H g (bandOf (halfAt W c) (halfAt H r)) (placeIn H r) (placeIn W c)
   unfolding planeCell inCorner within
   plane-rest L e = simp e
 
-  plane-none : (L : ℕ) → L ≡ 0 → planeCell fiveThreeFilter keep L (next W) (next H) (subband fiveThreeFilter keep W H g LL) r c
-      ≡ subband fiveThreeFilter keep W H g LL r c
+  plane-none : (L : ℕ) → L ≡ 0 → planeCell F keep L (next W) (next H) (subband F keep W H g LL) r c
+      ≡ subband F keep W H g LL r c
   unfolding planeCell
   plane-none L z = rw z refl
 
   -- the last level: the corner is its low-low band, or empty
   plane-last : (L : ℕ) → 0 < L → goesOn L (count lo W) (count lo H) ≡ false →
-      planeCell fiveThreeFilter keep L W H g r c ≡ subband fiveThreeFilter keep W H g (bandOf (halfAt W c) (halfAt H r)) (placeIn H r) (placeIn W c)
+      planeCell F keep L W H g r c ≡ subband F keep W H g (bandOf (halfAt W c) (halfAt H r)) (placeIn H r) (placeIn W c)
   unfolding bandOf
   plane-last zero some e = absurd (omega arith)
   plane-last (suc L) some e =
@@ -58,39 +59,44 @@ module _ (keep : ℤ → ℤ) (W H : Side) (g : Grid) (r c : ℕ) where
       ∙ sym (rw (half-low W c cb .0, half-low H r rb .0, half-low W c cb .1, half-low H r rb .1)))
       (plane-rest L)
 
-module _ (L : ℕ) (W H : Side) (g z : Grid) (r c : ℕ) where
-  pub written-in : r < H .length → c < W .length → planeWritten L W H g z r c ≡ planeCell fiveThreeFilter wrap32 L W H g r c
+module _ (F : Filter) (L : ℕ) (W H : Side) (g z : Grid) (r c : ℕ) where
+  pub written-in : r < H .length → c < W .length → planeWritten F L W H g z r c ≡ planeCell F wrap32 L W H g r c
   unfolding planeWritten
   written-in rh cw = simp (within-in (W .length) (H .length) r c rh cw)
 
-  pub written-out : within (W .length) (H .length) r c ≡ false → planeWritten L W H g z r c ≡ z r c
+  pub written-out : within (W .length) (H .length) r c ≡ false → planeWritten F L W H g z r c ≡ z r c
   unfolding planeWritten
   written-out e = simp e
 
+columns-out : (F : Filter) (w : ℕ) (H : Side) (X : Grid) (r c : ℕ) → within w (H .length) r c ≡ false → columnsLiftedBy F w H X r c ≡ X r c
+unfolding columnsLiftedBy
+columns-out F w H X r c e = simp e
+
 -- ---- forward: z₀ is the plane at the start, z₁ the plane with the level lifted
-module _ (A : ℕ) (W H : Side) (z₀ z₁ : ℕ → ℤ) (wa : W .length ≤ A) (some : 0 < A) (f₁ : z₁ ≡ flat A (levelLifted W H (cells A z₀))) where
+module _ (F : Filter) (laws : FilterLaws F) (A : ℕ) (W H : Side) (z₀ z₁ : ℕ → ℤ) (wa : W .length ≤ A) (some : 0 < A)
+    (f₁ : z₁ ≡ flat A (levelLiftedBy F W H (cells A z₀))) where
   abbrev g : Grid
   g = cornerGrid W H (cells A z₀)
 
-  level-cell : (r c : ℕ) → c < A → cells A z₁ r c ≡ levelLifted W H (cells A z₀) r c
-  level-cell r c ca = ap (λ (z : ℕ → ℤ). cells A z r c) f₁ ∙ cells-flat A (levelLifted W H (cells A z₀)) r c ca
+  level-cell : (r c : ℕ) → c < A → cells A z₁ r c ≡ levelLiftedBy F W H (cells A z₀) r c
+  level-cell r c ca = ap (λ (z : ℕ → ℤ). cells A z r c) f₁ ∙ cells-flat A (levelLiftedBy F W H (cells A z₀)) r c ca
 
-  level-out : (r c : ℕ) → within (W .length) (H .length) r c ≡ false → levelLifted W H (cells A z₀) r c ≡ cells A z₀ r c
-  unfolding levelLifted
-  level-out r c o = mapped-out (W .length) (H .length) _ r c o (liftedInPlace W) ∙ column-out (W .length) H (cells A z₀) r c o
+  level-out : (r c : ℕ) → within (W .length) (H .length) r c ≡ false → levelLiftedBy F W H (cells A z₀) r c ≡ cells A z₀ r c
+  unfolding levelLiftedBy
+  level-out r c o = mapped-out (W .length) (H .length) _ r c o (liftedBy F W) ∙ columns-out F (W .length) H (cells A z₀) r c o
 
-  pub forward-last : (L : ℕ) → 0 < L → goesOn L (count lo W) (count lo H) ≡ false → z₁ ≡ flat A (planeWritten L W H g (cells A z₀))
+  pub forward-last : (L : ℕ) → 0 < L → goesOn L (count lo W) (count lo H) ≡ false → z₁ ≡ flat A (planeWritten F L W H g (cells A z₀))
   forward-last L l e =
       f₁ ∙ flat-same A _ _ some
       (λ r c _.
       by-within (W .length) (H .length) r c
-      (λ rh cw. level-forward W H (cells A z₀) r c rh cw ∙ sym (written-in L W H g (cells A z₀) r c rh cw ∙ plane-last wrap32 W H g r c L l e))
-      (λ o. level-out r c o ∙ sym (written-out L W H g (cells A z₀) r c o)))
+      (λ rh cw. level-forward F laws W H (cells A z₀) r c rh cw ∙ sym (written-in F L W H g (cells A z₀) r c rh cw ∙ plane-last F wrap32 W H g r c L l e))
+      (λ o. level-out r c o ∙ sym (written-out F L W H g (cells A z₀) r c o)))
 
   -- the low-low part copied to the rows x₁ of its own width, and laid in the corner again, in halves: z₂
   module _ (x₀ x₁ z₂ : ℕ → ℤ) (e₁ : x₁ ≡ flat (count lo W) (gridCopied (count lo W) (count lo H) (cells A z₁) (cells (count lo W) x₀)))
       (f₂ : z₂ ≡ flat A (gridHalved (next W) (next H) (cells (count lo W) x₁) (cells A z₁))) where
-    next-grid : (r c : ℕ) → r < count lo H → c < count lo W → cornerGrid (next W) (next H) (cells A z₂) r c ≡ subband fiveThreeFilter wrap32 W H g LL r c
+    next-grid : (r c : ℕ) → r < count lo H → c < count lo W → cornerGrid (next W) (next H) (cells A z₂) r c ≡ subband F wrap32 W H g LL r c
     unfolding bandOf next
     next-grid r c rb cb =
         let both = counts W in
@@ -102,12 +108,12 @@ module _ (A : ℕ) (W H : Side) (z₀ z₁ : ℕ → ℤ) (wa : W .length ≤ A)
         ∙ cells-flat w′ _ r c cb
         ∙ copied-in w′ h′ (cells A z₁) (cells w′ x₀) r c rb cb
         ∙ level-cell r c (omega arith)
-        ∙ level-forward W H (cells A z₀) r c (omega arith) (omega arith)
+        ∙ level-forward F laws W H (cells A z₀) r c (omega arith) (omega arith)
         ∙ rw (half-low W c cb .0, half-low H r rb .0, half-low W c cb .1, half-low H r rb .1)
 
     pub forward-more : (L : ℕ) (z₃ : ℕ → ℤ) → 1 < L →
-        z₃ ≡ flat A (planeWritten (L - 1) (next W) (next H) (cornerGrid (next W) (next H) (cells A z₂)) (cells A z₂)) →
-        z₃ ≡ flat A (planeWritten L W H g (cells A z₀))
+        z₃ ≡ flat A (planeWritten F (L - 1) (next W) (next H) (cornerGrid (next W) (next H) (cells A z₂)) (cells A z₂)) →
+        z₃ ≡ flat A (planeWritten F L W H g (cells A z₀))
     unfolding next
     forward-more zero z₃ b f₃ = absurd (omega arith)
     forward-more (suc L) z₃ b f₃ =
@@ -123,18 +129,18 @@ module _ (A : ℕ) (W H : Side) (z₀ z₁ : ℕ → ℤ) (wa : W .length ≤ A)
         (λ r c ca.
         by-within w′ h′ r c
         (λ rb cb.
-        written-in L W′ H′ g′ (cells A z₂) r c rb cb
-        ∙ plane-reads fiveThreeFilter five-three-laws wrap32 L W′ H′ g′ (subband fiveThreeFilter wrap32 W H g LL) next-grid r c rb cb
-        ∙ sym (written-in (suc L) W H g (cells A z₀) r c (omega arith) (omega arith) ∙ plane-corner wrap32 W H g r c L rb cb))
+        written-in F L W′ H′ g′ (cells A z₂) r c rb cb
+        ∙ plane-reads F laws wrap32 L W′ H′ g′ (subband F wrap32 W H g LL) next-grid r c rb cb
+        ∙ sym (written-in F (suc L) W H g (cells A z₀) r c (omega arith) (omega arith) ∙ plane-corner F wrap32 W H g r c L rb cb))
         (λ e.
-        written-out L W′ H′ g′ (cells A z₂) r c e
+        written-out F L W′ H′ g′ (cells A z₂) r c e
         ∙ ap (λ (z : ℕ → ℤ). cells A z r c) f₂
         ∙ cells-flat A _ r c ca
         ∙ halved-out W′ H′ (cells w′ x₁) (cells A z₁) r c e
         ∙ level-cell r c ca
         ∙ by-within (W .length) (H .length) r c
-        (λ rh cw. level-forward W H (cells A z₀) r c rh cw ∙ sym (written-in (suc L) W H g (cells A z₀) r c rh cw ∙ plane-rest wrap32 W H g r c L e))
-        (λ o. level-out r c o ∙ sym (written-out (suc L) W H g (cells A z₀) r c o))))
+        (λ rh cw. level-forward F laws W H (cells A z₀) r c rh cw ∙ sym (written-in F (suc L) W H g (cells A z₀) r c rh cw ∙ plane-rest F wrap32 W H g r c L e))
+        (λ o. level-out r c o ∙ sym (written-out F (suc L) W H g (cells A z₀) r c o))))
 
 -- ---- back
 -- every second row of an area from the first low one on is a row at twice the stride
@@ -143,8 +149,8 @@ unfolding cells place
 twice s H x r c = let k : H .start % 2 * s + (r * (2 * s) + c) ≡ (2 * r + H .start % 2) * s + c = omega arith in rw k
 
 -- the bands that the plane x and the levels left give
-abbrev pub bandsBack : ℕ → Side → Side → Grid → Band → Grid
-bandsBack L W H x = planeBands W H (mapBack fiveThreeFilter wrap32 L (next W) (next H) x) x
+abbrev pub bandsBack : Filter → ℕ → Side → Side → Grid → Band → Grid
+bandsBack F L W H x = planeBands W H (mapBack F wrap32 L (next W) (next H) x) x
 
 -- what is fetched from the plane, and what is left
 module _ (from w : ℕ) (H : Side) (z x : Grid) (c : ℕ) (cw : c < w) (i : ℕ) where
@@ -171,13 +177,13 @@ woven-in W h X r c rh cw =
     ∙ sym (grid-at W X r c)
 
 -- X is the area before the plane's rows x are fetched; from column `from` on the low-low part comes from the plane, and before it from X
-module _ (from : ℕ) (W H : Side) (x X : Grid) (few : from ≤ count lo W) (L : ℕ)
-    (left : (i n : ℕ) → i < count lo H → n < from → X (place H lo i) n ≡ mapBack fiveThreeFilter wrap32 L (next W) (next H) x i n)
-    (new : (i n : ℕ) → i < count lo H → n < count lo W → from ≤ n → x i n ≡ mapBack fiveThreeFilter wrap32 L (next W) (next H) x i n) where
+module _ (F : Filter) (laws : FilterLaws F) (from : ℕ) (W H : Side) (x X : Grid) (few : from ≤ count lo W) (L : ℕ)
+    (left : (i n : ℕ) → i < count lo H → n < from → X (place H lo i) n ≡ mapBack F wrap32 L (next W) (next H) x i n)
+    (new : (i n : ℕ) → i < count lo H → n < count lo W → from ≤ n → x i n ≡ mapBack F wrap32 L (next W) (next H) x i n) where
   abbrev fetchedRows : Grid
   fetchedRows = rowsFetched from (W .length) H x X
 
-  pub bands-fetched : BandsIn W H (bandsBack L W H x) fetchedRows
+  pub bands-fetched : BandsIn W H (bandsBack F L W H x) fetchedRows
   unfolding halvesOf planeBands bandOf
   bands-fetched =
       let both = counts W in
@@ -200,8 +206,8 @@ module _ (from : ℕ) (W H : Side) (x X : Grid) (few : from ≤ count lo W) (L :
       }
 
   -- y is the level lifted back
-  module _ (s : ℕ) (y : ℕ → ℤ) (ws : W .length ≤ s) (e : y ≡ flat s (levelUnlifted W H (cells s (flat s fetchedRows)))) where
-    bands-cells : BandsIn W H (bandsBack L W H x) (cells s (flat s fetchedRows))
+  module _ (s : ℕ) (y : ℕ → ℤ) (ws : W .length ≤ s) (e : y ≡ flat s (levelUnliftedBy F W H (cells s (flat s fetchedRows)))) where
+    bands-cells : BandsIn W H (bandsBack F L W H x) (cells s (flat s fetchedRows))
     unfolding halvesOf
     bands-cells =
         let both = counts W in
@@ -212,7 +218,7 @@ module _ (from : ℕ) (W H : Side) (x X : Grid) (few : from ≤ count lo W) (L :
           ];
         }
 
-    pub level-rebuilt : Rebuilt (suc L) W H x (cells s y)
+    pub level-rebuilt : Rebuilt F (suc L) W H x (cells s y)
     unfolding mapBack
     level-rebuilt =
         record {
@@ -220,7 +226,7 @@ module _ (from : ℕ) (W H : Side) (x X : Grid) (few : from ≤ count lo W) (L :
               let m = placed-in W c cw in
               grid-at W (cells s y) r c
               ∙ ap (λ (u : ℕ → ℤ). cells s u r (placed W c)) e
-              ∙ cells-flat s (levelUnlifted W H (cells s (flat s fetchedRows))) r (placed W c) (omega arith)
-              ∙ sym (grid-at W (levelUnlifted W H (cells s (flat s fetchedRows))) r c)
-              ∙ level-back W H (bandsBack L W H x) (cells s (flat s fetchedRows)) bands-cells r c rh cw;
+              ∙ cells-flat s (levelUnliftedBy F W H (cells s (flat s fetchedRows))) r (placed W c) (omega arith)
+              ∙ sym (grid-at W (levelUnliftedBy F W H (cells s (flat s fetchedRows))) r c)
+              ∙ level-back F laws W H (bandsBack F L W H x) (cells s (flat s fetchedRows)) bands-cells r c rh cw;
         }

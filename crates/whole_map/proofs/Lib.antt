@@ -15,3 +15,7 @@ pub mod LevelSteps
 pub mod ForwardSteps
 pub mod CallLaws
 pub mod Demand2
+pub mod ByFilterLaws
+pub mod QuestionBy
+pub mod NineSevenBack
+pub mod Demand2By

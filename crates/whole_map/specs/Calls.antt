@@ -5,11 +5,13 @@ use lib.Dec.{leb, eqb}
 use Rattle.numbers.specs.Signal.{pick, both}
 use Rattle.lifting.specs.Halves.{fronted}
 use Rattle.lifting.specs.Grid.{Side}
+use Rattle.lifting.specs.Filter.{Filter}
 use Rattle.lifting.specs.FiveThree.{fiveThreeFilter}
 use Rattle.wavelet.specs.Limits.{maxWidth, maxHeight, maxLevels}
 use Rattle.wavelet.specs.Questions.{ask, within}
 use Rattle.wavelet.specs.Bands.{Grid}
 use Rattle.wavelet.specs.Maps.{inRange, rebuiltFits}
+use Rattle.whole_map.specs.ByFilter.{filterOf}
 
 -- questions 2, 3, 4 and 5, of areas of a, b and c numbers, and then `rest`; where the map starts is not asked
 unfoldable pub sizeQuestions : ℕ → ℕ → ℕ → ℕ → ℕ → ℕ → ℕ → ℕ
@@ -20,15 +22,31 @@ sizeQuestions W H L a b c rest =
     (ask (both (leb (W * H) a) (both (leb (W * H) b) (leb (W * H) c))) 5
     rest)))
 
+-- the same for the filter f, with 18, "before 4, if the filter is unknown", and as many levels as it has: document 02, Q-8
+unfoldable pub sizeQuestionsBy : ℕ → ℕ → ℕ → ℕ → ℕ → ℕ → ℕ → ℕ
+sizeQuestionsBy f W H L a b c =
+    ask (within 1 maxWidth W) 2
+    (ask (within 1 maxHeight H) 3
+    (ask (leb f 1) 18
+    (ask (within 1 (filterOf f .levels) L) 4
+    (ask (both (leb (W * H) a) (both (leb (W * H) b) (leb (W * H) c))) 5
+    0))))
+
 unfoldable pub forwardQuestion : Side → Side → ℕ → ℕ → ℕ → ℕ → ℕ
 forwardQuestion W H L heights plane work = sizeQuestions (W .length) (H .length) L heights plane work 0
 
 -- 7 and 14, of the plane x
-unfoldable pub planeQuestions : Side → Side → ℕ → Grid → ℕ
-planeQuestions W H L x = ask (inRange fiveThreeFilter L W H x) 7 (ask (rebuiltFits fiveThreeFilter 0 L W H x) 14 0)
+unfoldable pub planeQuestions : Filter → Side → Side → ℕ → Grid → ℕ
+planeQuestions F W H L x = ask (inRange F L W H x) 7 (ask (rebuiltFits F 0 L W H x) 14 0)
 
 unfoldable pub backwardQuestion : Side → Side → ℕ → ℕ → ℕ → ℕ → Grid → ℕ
-backwardQuestion W H L plane heights work x = sizeQuestions (W .length) (H .length) L plane heights work (planeQuestions W H L x)
+backwardQuestion W H L plane heights work x = sizeQuestions (W .length) (H .length) L plane heights work (planeQuestions fiveThreeFilter W H L x)
+
+-- by the filter f: these after those of the sizes
+unfoldable pub backwardQuestionBy : ℕ → Side → Side → ℕ → ℕ → ℕ → ℕ → Grid → ℕ
+backwardQuestionBy f W H L plane heights work x =
+    pick (eqb (sizeQuestionsBy f (W .length) (H .length) L plane heights work) 0) (planeQuestions (filterOf f) W H L x)
+    (sizeQuestionsBy f (W .length) (H .length) L plane heights work)
 
 abbrev pub zeros : ℕ → ℤ
 zeros _ = pos 0

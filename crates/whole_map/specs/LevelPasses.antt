@@ -12,6 +12,7 @@ use Rattle.lifting.specs.Halves.{fronted}
 use Rattle.lifting.specs.Grid.{Side, joined, loneHigh, isEven}
 use Rattle.lifting.specs.GridHalves.{halvesOf, liftedInPlace, unliftedInPlace}
 use Rattle.lifting.specs.Rows.{rowsChanged}
+use Rattle.lifting.specs.Filter.{Filter}
 use Rattle.lifting.specs.FiveThree.{fiveThreeFilter}
 use Rattle.wavelet.specs.Limits.{maxWidth, range}
 use Rattle.wavelet.specs.Bands.{Grid, levelHas}
@@ -19,6 +20,7 @@ use Rattle.wavelet.specs.Plane.{cells, flat, planeCell, levelAt, planeBands, ma
 use Rattle.wavelet.specs.Maps.{everyCell, valueFits, rebuiltFits}
 use Rattle.wavelet.specs.Levels.{next}
 use Rattle.whole_map.specs.Rowwise.{cut, between, halvedInPlace}
+use Rattle.whole_map.specs.ByFilter.{unliftedBy, levelUnliftedBy}
 use Rattle.whole_map.specs.Passes.{within, highRowsChanged, lowRowsChanged, rowsMapped, rowsFetched, rowsReturned, KeptFrom}
 
 -- the grid of the columns W whose rows stand in X, each in halves
@@ -74,12 +76,12 @@ firstBack n from W H s z x =
     (rowsChanged (unupdated wrap32) n s (W .length) 0 1 1 (rowBack from W H s z (rowBack from W H s z x 0) 1))
 
 -- the plane z with the plane of the grid g, at L levels, in its corner
-unfoldable pub planeWritten : ℕ → Side → Side → Grid → Grid → Grid
-planeWritten L W H g z r c = pick (within (W .length) (H .length) r c) (planeCell fiveThreeFilter wrap32 L W H g r c) (z r c)
+unfoldable pub planeWritten : Filter → ℕ → Side → Side → Grid → Grid → Grid
+planeWritten F L W H g z r c = pick (within (W .length) (H .length) r c) (planeCell F wrap32 L W H g r c) (z r c)
 
 -- the rows X are those of the grid that the plane's corner x gives back at L levels
-pub record Rebuilt (L : ℕ) (W H : Side) (x X : Grid) : Type 0 where
-  pub cell : (r c : ℕ) → r < H .length → c < W .length → levelGrid W X r c ≡ mapBack fiveThreeFilter wrap32 L W H x r c
+pub record Rebuilt (F : Filter) (L : ℕ) (W H : Side) (x X : Grid) : Type 0 where
+  pub cell : (r c : ℕ) → r < H .length → c < W .length → levelGrid W X r c ≡ mapBack F wrap32 L W H x r c
 
 -- whether more levels follow on a low-low part of w columns and h rows: levels are left, and it is not empty
 unfoldable pub goesOn : ℕ → ℕ → ℕ → Bool
@@ -99,8 +101,8 @@ rowsBetween first last from to low high x =
     everyCell (to - from) (last - first) (λ r c. between low high (x (first + r) (from + c)))
 
 -- question 7 of the corner of a plane, k being the level of its own bands
-unfoldable pub regionInRange : ℕ → ℕ → Side → Side → Grid → Bool
-regionInRange k L W H x = everyCell (W .length) (H .length) (λ r c. leb (natAbs (x r c)) (range fiveThreeFilter (k - 1 + levelAt L W H r c)))
+unfoldable pub regionInRange : Filter → ℕ → ℕ → Side → Side → Grid → Bool
+regionInRange F k L W H x = everyCell (W .length) (H .length) (λ r c. leb (natAbs (x r c)) (range F (k - 1 + levelAt L W H r c)))
 
 -- L levels of rows of w numbers, s apart: strides double from level to level, and stay small
 pub record Doubling (L s w : ℕ) : Type 0 where
@@ -115,12 +117,19 @@ pub record LevelMade (ok : Bool) (from s : ℕ) (W H : Side) (z : Grid) (y₀ y 
   pub rows : ok ≡ true → y ≡ flat s (levelUnlifted W H (cells s (flat s (rowsFetched from (W .length) H z (cells s y₀)))))
   pub kept : KeptFrom ((H .length - 1) * s + W .length) y₀ y
 
+-- the same by any filter
+pub record LevelMadeBy (F : Filter) (ok : Bool) (from s : ℕ) (W H : Side) (z : Grid) (y₀ y : ℕ → ℤ) : Type 0 where
+  pub answer : ok ≡ both (rowsEven W (H .length) z)
+      (columnsEven (W .length) H (rowsMapped (unliftedBy F W) (W .length) (H .length) (rowsFetched from (W .length) H z (cells s y₀))))
+  pub rows : ok ≡ true → y ≡ flat s (levelUnliftedBy F W H (cells s (flat s (rowsFetched from (W .length) H z (cells s y₀)))))
+  pub kept : KeptFrom ((H .length - 1) * s + W .length) y₀ y
+
 -- what all levels back leave of the work area y₀, and their answer, question 14 of the low-low part and of what this level halves: z is the plane, k the level
 -- that this grid is the low-low part of, 0 for the map
-pub record LevelsBack (ok : Bool) (k L s A : ℕ) (W H : Side) (z y₀ y : ℕ → ℤ) : Type 0 where
-  pub answer : ok ≡ both (rebuiltFits fiveThreeFilter (k + 1) (L - 1) (next W) (next H) (cells A z))
-      (levelHas fiveThreeFilter W H (planeBands W H (mapBack fiveThreeFilter wrap32 (L - 1) (next W) (next H) (cells A z)) (cells A z)))
-  pub grid : ok ≡ true → Rebuilt L W H (cells A z) (cells s y)
+pub record LevelsBack (F : Filter) (ok : Bool) (k L s A : ℕ) (W H : Side) (z y₀ y : ℕ → ℤ) : Type 0 where
+  pub answer : ok ≡ both (rebuiltFits F (k + 1) (L - 1) (next W) (next H) (cells A z))
+      (levelHas F W H (planeBands W H (mapBack F wrap32 (L - 1) (next W) (next H) (cells A z)) (cells A z)))
+  pub grid : ok ≡ true → Rebuilt F L W H (cells A z) (cells s y)
   pub kept : KeptFrom ((H .length - 1) * s + W .length) y₀ y
 
 -- h rows of the columns W, y₀, each in halves, made heights: the answer, whether they all are heights; where it is yes the heights g, and the rows are cleared
@@ -132,9 +141,9 @@ pub record Finished (ok : Bool) (W : Side) (h : ℕ) (y₀ y g₀ g : ℕ → �
   pub keptHeights : KeptFrom ((h - 1) * W .length + W .length) g₀ g
 
 -- what the plane z leaves of the heights g₀ and of the work area y₀, and the answer, question 14
-pub record MapRebuilt (ok : Bool) (W H : Side) (L : ℕ) (z g₀ g y₀ y : ℕ → ℤ) : Type 0 where
-  pub answer : ok ≡ rebuiltFits fiveThreeFilter 0 L W H (cells (W .length) z)
-  pub heights : ok ≡ true → g ≡ fronted (W .length * H .length) (flat (W .length) (mapBack fiveThreeFilter wrap32 L W H (cells (W .length) z))) g₀
+pub record MapRebuilt (F : Filter) (ok : Bool) (W H : Side) (L : ℕ) (z g₀ g y₀ y : ℕ → ℤ) : Type 0 where
+  pub answer : ok ≡ rebuiltFits F 0 L W H (cells (W .length) z)
+  pub heights : ok ≡ true → g ≡ fronted (W .length * H .length) (flat (W .length) (mapBack F wrap32 L W H (cells (W .length) z))) g₀
   pub cleared : ok ≡ true → y ≡ fronted (W .length * H .length) (λ _. pos 0) y₀
   pub kept : KeptFrom ((H .length - 1) * W .length + W .length) y₀ y
   pub keptHeights : KeptFrom ((H .length - 1) * W .length + W .length) g₀ g

@@ -1,4 +1,5 @@
 pub mod Rowwise
 pub mod Passes
+pub mod ByFilter
 pub mod LevelPasses
 pub mod Calls

@@ -7,6 +7,7 @@ use crate::rowwise;
 use lifting::halves;
 use lifting::rows;
 use lifting::sample;
+use nine_seven_sweep::columns;
 use wavelet::sizes;
 ghost use mathlib.Core.Path.{_≡_};
 ghost use mathlib.Core.Bool.{true};
@@ -20,13 +21,16 @@ ghost use Rattle.lifting.specs.Line.{lo};
 ghost use Rattle.lifting.specs.Grid.{side, count, loneHigh, isEven};
 ghost use Rattle.lifting.specs.GridHalves.{unliftedInPlace, hasLineIn, highsLaid};
 ghost use Rattle.lifting.specs.FiveThree.{fiveThreeFilter};
+ghost use Rattle.nine_seven.specs.Memory.{unliftedInPlace as nineSevenBack};
+ghost use Rattle.nine_seven.specs.NineSevenFilter.{nineSevenFilter};
 ghost use Rattle.wavelet.specs.Limits.{maxWidth, maxLevels, range};
 ghost use Rattle.wavelet.specs.Plane.{cells, flat};
 ghost use Rattle.wavelet.specs.Questions.{Sized};
 ghost use Rattle.whole_map.specs.Rowwise.{partedInPlace, wovenInPlace, halvedInPlace};
 ghost use Rattle.whole_map.specs.Passes.{Rows, KeptFrom, isLow, planeRow, levelRow, rowsMapped, rowsFetched, gridHalved, gridCopied};
+ghost use Rattle.whole_map.specs.ByFilter.{filterOf, rowCopied};
 ghost use Rattle.whole_map.specs.LevelPasses.{cornerGrid, levelUnlifted, rowBack, firstBack, planeWritten, goesOn, rowsEven, rowsBetween};
-ghost use Rattle.whole_map.specs.LevelPasses.{regionInRange, Doubling, LevelMade, LevelsBack};
+ghost use Rattle.whole_map.specs.LevelPasses.{regionInRange, Doubling, LevelMade, LevelMadeBy, LevelsBack};
 
 // The plane's row for row r of a level: the low rows come first.
 fn plane_row(y: usize, height: usize, r: usize) -> usize
@@ -203,15 +207,16 @@ pub fn forward_levels(
     y: usize,
     height: usize,
     levels: usize,
+    filter: usize,
 )
     requires { ⌜ Rows (length (now plane)) across width height × Rows (length (now work)) width width height × (0 < levels) ⌝ }
     ensures { λ _. ⌜ at (now (plane .exit)) ≡
-        flat across (planeWritten levels (side x width) (side y height)
+        flat across (planeWritten (filterOf filter) levels (side x width) (side y height)
         (cornerGrid (side x width) (side y height) (cells across (at (now (plane .entry)))))
         (cells across (at (now (plane .entry))))) ⌝ }
     ensures { λ _. ⌜ KeptFrom ((height - 1) * width + width) (at (now (work .entry))) (at (now (work .exit))) ⌝ }
 {
-    passes::lift_level(plane, across, x, width, y, height);
+    passes::lift_by(plane, across, x, width, y, height, filter);
     let w = sizes::low_count(x, width);
     let h = sizes::low_count(y, height);
     if !goes_on(levels, w, h) {
@@ -221,15 +226,45 @@ pub fn forward_levels(
     let v = sizes::next_start(y);
     save(plane, work, across, w, h);
     spread(work, plane, across, u, w, v, h);
-    forward_levels(plane, work, across, u, w, v, h, levels - 1);
+    forward_levels(plane, work, across, u, w, v, h, levels - 1, filter);
+}
+
+// The largest magnitude of a level's numbers by the 9/7, and by the filter of a number.
+fn nine_seven_range(level: usize) -> i32
+    requires { ⌜ level ≤ nineSevenFilter .levels ⌝ }
+    ensures { λ r. ⌜ r ≡ pos (range nineSevenFilter level) ⌝ }
+{
+    if level == 0 {
+        return 65535;
+    }
+    if level == 1 {
+        return 393210;
+    }
+    if level == 2 {
+        return 2359260;
+    }
+    if level == 3 {
+        return 14155560;
+    }
+    84933360
+}
+
+fn range_by(level: usize, filter: usize) -> i32
+    requires { ⌜ level ≤ filterOf filter .levels ⌝ }
+    ensures { λ r. ⌜ r ≡ pos (range (filterOf filter) level) ⌝ }
+{
+    if filter == 0 {
+        return sizes::range_of(level);
+    }
+    nine_seven_range(level)
 }
 
 // The largest magnitude of a level's numbers, as the least of them.
-fn lowest(level: usize) -> i32
-    requires { ⌜ level ≤ maxLevels ⌝ }
-    ensures { λ r. ⌜ r ≡ negℤ (pos (range fiveThreeFilter level)) ⌝ }
+fn lowest(level: usize, filter: usize) -> i32
+    requires { ⌜ level ≤ filterOf filter .levels ⌝ }
+    ensures { λ r. ⌜ r ≡ negℤ (pos (range (filterOf filter) level)) ⌝ }
 {
-    0 - sizes::range_of(level)
+    0 - range_by(level, filter)
 }
 
 // Whether the numbers of some rows lie from `low` to `high`: rows `first` up to `last`, columns `from` up to `to`.
@@ -267,9 +302,10 @@ fn rows_in_range(
     from: usize,
     to: usize,
     level: usize,
+    filter: usize,
 ) -> bool
-    requires { ⌜ Rows (length (now plane)) across to last × (first ≤ last) × (from ≤ to) × (level ≤ maxLevels) ⌝ }
-    ensures { λ r. ⌜ r ≡ rowsBetween first last from to (negℤ (pos (range fiveThreeFilter level))) (pos (range fiveThreeFilter level))
+    requires { ⌜ Rows (length (now plane)) across to last × (first ≤ last) × (from ≤ to) × (level ≤ filterOf filter .levels) ⌝ }
+    ensures { λ r. ⌜ r ≡ rowsBetween first last from to (negℤ (pos (range (filterOf filter) level))) (pos (range (filterOf filter) level))
         (cells across (at (now (plane .entry)))) ⌝ }
 {
     rows_between(
@@ -279,8 +315,8 @@ fn rows_in_range(
         last,
         from,
         to,
-        lowest(level),
-        sizes::range_of(level),
+        lowest(level, filter),
+        range_by(level, filter),
     )
 }
 
@@ -292,9 +328,10 @@ fn weave_low(
     width: usize,
     height: usize,
     level: usize,
+    filter: usize,
 ) -> bool
-    requires { ⌜ Rows (length (now work)) stride width height × (width + width ≤ maxWidth + 1) × (level ≤ maxLevels) ⌝ }
-    ensures { λ r. ⌜ r ≡ rowsBetween 0 height 0 width (negℤ (pos (range fiveThreeFilter level))) (pos (range fiveThreeFilter level))
+    requires { ⌜ Rows (length (now work)) stride width height × (width + width ≤ maxWidth + 1) × (level ≤ filterOf filter .levels) ⌝ }
+    ensures { λ r. ⌜ r ≡ rowsBetween 0 height 0 width (negℤ (pos (range (filterOf filter) level))) (pos (range (filterOf filter) level))
         (cells stride (at (now (work .entry)))) ⌝ }
     ensures { λ _. ⌜ at (now (work .exit)) ≡
         flat stride (rowsMapped (wovenInPlace (side x width)) width height (cells stride (at (now (work .entry))))) ⌝ }
@@ -305,8 +342,8 @@ fn weave_low(
         x,
         width,
         height,
-        lowest(level),
-        sizes::range_of(level),
+        lowest(level, filter),
+        range_by(level, filter),
     )
 }
 
@@ -468,6 +505,110 @@ fn level_back(
     true
 }
 
+// ---- a level back by the 9/7: the plane's rows fetched, all rows lifted back, then all columns
+
+fn copy_row(
+    plane: &[i32],
+    work: &mut [i32],
+    across: usize,
+    stride: usize,
+    from: usize,
+    width: usize,
+    y: usize,
+    height: usize,
+    r: usize,
+)
+    requires { ⌜ Rows (length (now plane)) across width height × Rows (length (now work)) stride width height × (from ≤ width) × (r < height) ⌝ }
+    ensures { λ _. ⌜ at (now (work .exit)) ≡
+        rowCopied from width (side y height) across stride (at (now (plane .entry))) r (at (now (work .entry))) ⌝ }
+{
+    let made = made_of(y, r, from);
+    let a = plane_row(y, height, r) * across;
+    let b = r * stride;
+    copy_part(plane, a + made, work, b + made, width - made);
+}
+
+fn copy_rows(
+    plane: &[i32],
+    work: &mut [i32],
+    across: usize,
+    stride: usize,
+    from: usize,
+    width: usize,
+    y: usize,
+    height: usize,
+)
+    requires { ⌜ Rows (length (now plane)) across width height × Rows (length (now work)) stride width height × (from ≤ width) ⌝ }
+    ensures { λ _. ⌜ at (now (work .exit)) ≡
+        flat stride (rowsFetched from width (side y height) (cells across (at (now (plane .entry)))) (cells stride (at (now (work .entry))))) ⌝ }
+{
+    let mut r = 0;
+    while r < height {
+        copy_row(plane, work, across, stride, from, width, y, height, r);
+        r += 1;
+    }
+}
+
+fn unlift_rows(work: &mut [i32], stride: usize, x: usize, width: usize, height: usize)
+    requires { ⌜ Rows (length (now work)) stride width height × (rowsEven (side x width) height (cells stride (at (now work))) ≡ true) ⌝ }
+    ensures { λ _. ⌜ at (now (work .exit)) ≡
+        flat stride (rowsMapped (nineSevenBack (side x width)) width height (cells stride (at (now (work .entry))))) ⌝ }
+{
+    let mut r = 0;
+    while r < height {
+        let a = r * stride;
+        let e = a + width;
+        nine_seven::line::unlift(&mut work[a..e], x);
+        r += 1;
+    }
+}
+
+fn nine_seven_back(
+    plane: &[i32],
+    work: &mut [i32],
+    across: usize,
+    stride: usize,
+    from: usize,
+    x: usize,
+    width: usize,
+    y: usize,
+    height: usize,
+) -> bool
+    requires { ⌜ Rows (length (now plane)) across width height × Rows (length (now work)) stride width height × (from ≤ count lo (side x width)) ⌝ }
+    ensures { λ ok. ⌜ LevelMadeBy nineSevenFilter ok from stride (side x width) (side y height) (cells across (at (now (plane .entry))))
+        (at (now (work .entry))) (at (now (work .exit))) ⌝ }
+{
+    if !rows_even(plane, across, x, width, height) {
+        return false;
+    }
+    copy_rows(plane, work, across, stride, from, width, y, height);
+    unlift_rows(work, stride, x, width, height);
+    columns::unlift_columns(work, stride, width, y, height) == 0
+}
+
+// A level back by the filter of a number.
+fn back_by(
+    plane: &[i32],
+    work: &mut [i32],
+    across: usize,
+    stride: usize,
+    from: usize,
+    x: usize,
+    width: usize,
+    y: usize,
+    height: usize,
+    filter: usize,
+) -> bool
+    requires { ⌜ Rows (length (now plane)) across width height × Rows (length (now work)) stride width height × (from ≤ count lo (side x width)) ⌝ }
+    ensures { λ ok. ⌜ LevelMadeBy (filterOf filter) ok from stride (side x width) (side y height) (cells across (at (now (plane .entry))))
+        (at (now (work .entry))) (at (now (work .exit))) ⌝ }
+{
+    if filter == 0 {
+        return level_back(plane, work, across, stride, from, x, width, y, height);
+    }
+    nine_seven_back(plane, work, across, stride, from, x, width, y, height)
+}
+
 // All levels back: first the low-low part with the levels left, whose numbers are tested while they are laid in their own order, then this
 // level. False where one does not fit, or is odd and halved. The numbers of this level itself are for the caller to test.
 pub fn back_levels(
@@ -481,16 +622,17 @@ pub fn back_levels(
     height: usize,
     levels: usize,
     level: usize,
+    filter: usize,
 ) -> bool
     requires { ⌜ Rows (length (now plane)) across width height × Rows (length (now work)) stride width height × Doubling levels stride width
-        × (level + levels ≤ maxLevels) ⌝ }
-    ensures { λ ok. ⌜ LevelsBack ok level levels stride across (side x width) (side y height) (at (now (plane .entry))) (at (now (work .entry)))
-        (at (now (work .exit))) ⌝ }
+        × (level + levels ≤ filterOf filter .levels) ⌝ }
+    ensures { λ ok. ⌜ LevelsBack (filterOf filter) ok level levels stride across (side x width) (side y height) (at (now (plane .entry)))
+        (at (now (work .entry))) (at (now (work .exit))) ⌝ }
 {
     let w = sizes::low_count(x, width);
     let h = sizes::low_count(y, height);
     if !goes_on(levels, w, h) {
-        return level_back(plane, work, across, stride, 0, x, width, y, height);
+        return back_by(plane, work, across, stride, 0, x, width, y, height, filter);
     }
     let u = sizes::next_start(x);
     let v = sizes::next_start(y);
@@ -507,13 +649,14 @@ pub fn back_levels(
         h,
         levels - 1,
         level + 1,
+        filter,
     ) {
         return false;
     }
-    if !weave_low(&mut work[a..n], 2 * stride, u, w, h, level + 1) {
+    if !weave_low(&mut work[a..n], 2 * stride, u, w, h, level + 1, filter) {
         return false;
     }
-    level_back(plane, work, across, stride, w, x, width, y, height)
+    back_by(plane, work, across, stride, w, x, width, y, height, filter)
 }
 
 // Whether each coefficient of the plane lies in its level's range, `level` being that of this region's own bands.
@@ -526,24 +669,26 @@ fn in_range(
     height: usize,
     levels: usize,
     level: usize,
+    filter: usize,
 ) -> bool
-    requires { ⌜ Rows (length (now plane)) across width height × (0 < levels) × (0 < level) × (level + levels ≤ maxLevels + 1) ⌝ }
-    ensures { λ r. ⌜ r ≡ regionInRange level levels (side x width) (side y height) (cells across (at (now (plane .entry)))) ⌝ }
+    requires { ⌜ Rows (length (now plane)) across width height × (0 < levels) × (0 < level)
+        × (level + levels ≤ filterOf filter .levels + 1) ⌝ }
+    ensures { λ r. ⌜ r ≡ regionInRange (filterOf filter) level levels (side x width) (side y height) (cells across (at (now (plane .entry)))) ⌝ }
 {
     let w = sizes::low_count(x, width);
     let h = sizes::low_count(y, height);
     if !goes_on(levels, w, h) {
-        return rows_in_range(plane, across, 0, height, 0, width, level);
+        return rows_in_range(plane, across, 0, height, 0, width, level, filter);
     }
     let u = sizes::next_start(x);
     let v = sizes::next_start(y);
-    if !in_range(plane, across, u, w, v, h, levels - 1, level + 1) {
+    if !in_range(plane, across, u, w, v, h, levels - 1, level + 1, filter) {
         return false;
     }
-    if !rows_in_range(plane, across, 0, h, w, width, level) {
+    if !rows_in_range(plane, across, 0, h, w, width, level, filter) {
         return false;
     }
-    rows_in_range(plane, across, h, height, 0, width, level)
+    rows_in_range(plane, across, h, height, 0, width, level, filter)
 }
 
 // Question 7 of a map's whole plane. The least range of all, that of level 1, is asked first, of all coefficients one after the other: a plane
@@ -555,13 +700,14 @@ pub fn plane_in_range(
     y: usize,
     height: usize,
     levels: usize,
+    filter: usize,
 ) -> bool
-    requires { ⌜ Sized width height levels × (width * height ≤ length (now plane)) ⌝ }
-    ensures { λ r. ⌜ r ≡ regionInRange 1 levels (side x width) (side y height) (cells width (at (now (plane .entry)))) ⌝ }
+    requires { ⌜ Sized width height levels × (width * height ≤ length (now plane)) × (levels ≤ filterOf filter .levels) ⌝ }
+    ensures { λ r. ⌜ r ≡ regionInRange (filterOf filter) 1 levels (side x width) (side y height) (cells width (at (now (plane .entry)))) ⌝ }
 {
     let n = width * height;
-    if rows_in_range(plane, n, 0, 1, 0, n, 1) {
+    if rows_in_range(plane, n, 0, 1, 0, n, 1, filter) {
         return true;
     }
-    in_range(plane, width, x, width, y, height, levels, 1)
+    in_range(plane, width, x, width, y, height, levels, 1, filter)
 }

@@ -18,8 +18,10 @@ ghost use Rattle.wavelet.specs.Plane.{cells, flat, planeOf, mapBack};
 ghost use Rattle.wavelet.specs.Questions.{Sized};
 ghost use Rattle.wavelet.specs.Shape.{columns, rows};
 ghost use Rattle.whole_map.specs.Rowwise.{heightsAt};
+ghost use Rattle.whole_map.specs.ByFilter.{filterOf};
 ghost use Rattle.whole_map.specs.LevelPasses.{MapRebuilt};
-ghost use Rattle.whole_map.specs.Calls.{sizeQuestions, forwardQuestion, planeQuestions, backwardQuestion, zeros, passed, rebuilt};
+ghost use Rattle.whole_map.specs.Calls.{sizeQuestions, sizeQuestionsBy, forwardQuestion, planeQuestions, backwardQuestion};
+ghost use Rattle.whole_map.specs.Calls.{backwardQuestionBy, zeros, passed, rebuilt};
 
 // Questions 2 to 5: 0, or the number of the first that says no. a, b and c are the lengths of the areas.
 fn size_question(width: usize, height: usize, levels: usize, a: usize, b: usize, c: usize) -> u8
@@ -52,16 +54,17 @@ fn transform(
     levels: usize,
     plane: &mut [i32],
     work: &mut [i32],
+    filter: usize,
 )
     requires { ⌜ Sized width height levels × (width * height ≤ length (now heights)) × (width * height ≤ length (now plane))
-        × (width * height ≤ length (now work)) ⌝ }
+        × (width * height ≤ length (now work)) × (levels ≤ filterOf filter .levels) ⌝ }
     ensures { λ _. ⌜ at (now (plane .exit)) ≡
-        fronted (width * height) (planeOf fiveThreeFilter whole levels (side x width) (side y height) (cells width (heightsAt (now (heights .entry)))))
+        fronted (width * height) (planeOf (filterOf filter) whole levels (side x width) (side y height) (cells width (heightsAt (now (heights .entry)))))
         (at (now (plane .entry))) ⌝ }
     ensures { λ _. ⌜ at (now (work .exit)) ≡ fronted (width * height) zeros (at (now (work .entry))) ⌝ }
 {
     heights::load_rows(heights, plane, x, width, y, height);
-    levels::forward_levels(plane, work, width, x, width, y, height, levels);
+    levels::forward_levels(plane, work, width, x, width, y, height, levels, filter);
     areas::copies::clear(work, width * height);
 }
 
@@ -96,6 +99,78 @@ pub fn forward(heights: &[u16], shape: Shape, plane: &mut [i32], work: &mut [i32
         shape.levels,
         plane,
         work,
+        0,
+    );
+    0
+}
+
+// Questions 2, 3, 18, 4 and 5, for the filter of a number.
+fn question_by(
+    filter: usize,
+    width: usize,
+    height: usize,
+    levels: usize,
+    a: usize,
+    b: usize,
+    c: usize,
+) -> u8
+    ensures { λ r. ⌜ r ≡ sizeQuestionsBy filter width height levels a b c ⌝ }
+{
+    if filter == 0 {
+        return size_question(width, height, levels, a, b, c);
+    }
+    let q = limits::size_question(width, height, 1);
+    if q != 0 {
+        return q;
+    }
+    if 1 < filter {
+        return 18;
+    }
+    if 4 < levels {
+        return 4;
+    }
+    size_question(width, height, levels, a, b, c)
+}
+
+// The plane of a map of heights by the filter of a number. It answers 0, or the number of the question that turned it away.
+pub fn forward_by(
+    filter: usize,
+    heights: &[u16],
+    shape: Shape,
+    plane: &mut [i32],
+    work: &mut [i32],
+) -> u8
+    ensures { λ r. ⌜ r ≡
+        sizeQuestionsBy filter (shape .width) (shape .height) (shape .levels) (length (now (heights .entry))) (length (now (plane .entry)))
+        (length (now (work .entry))) ⌝ }
+    ensures { λ r. ⌜ at (now (plane .exit)) ≡
+        passed r (shape .width * shape .height)
+        (planeOf (filterOf filter) whole (shape .levels) (columns shape) (rows shape) (cells (shape .width) (heightsAt (now (heights .entry)))))
+        (at (now (plane .entry))) ⌝ }
+    ensures { λ r. ⌜ at (now (work .exit)) ≡ passed r (shape .width * shape .height) zeros (at (now (work .entry))) ⌝ }
+{
+    let q = question_by(
+        filter,
+        shape.width,
+        shape.height,
+        shape.levels,
+        heights.len(),
+        plane.len(),
+        work.len(),
+    );
+    if q != 0 {
+        return q;
+    }
+    transform(
+        heights,
+        shape.x as usize,
+        shape.width,
+        shape.y as usize,
+        shape.height,
+        shape.levels,
+        plane,
+        work,
+        filter,
     );
     0
 }
@@ -110,13 +185,26 @@ fn rebuild(
     levels: usize,
     heights: &mut [u16],
     work: &mut [i32],
+    filter: usize,
 ) -> bool
     requires { ⌜ Sized width height levels × (width * height ≤ length (now plane)) × (width * height ≤ length (now heights))
-        × (width * height ≤ length (now work)) ⌝ }
-    ensures { λ ok. ⌜ MapRebuilt ok (side x width) (side y height) levels (at (now (plane .entry))) (heightsAt (now (heights .entry)))
+        × (width * height ≤ length (now work)) × (levels ≤ filterOf filter .levels) ⌝ }
+    ensures { λ ok. ⌜ MapRebuilt (filterOf filter) ok (side x width) (side y height) levels (at (now (plane .entry))) (heightsAt (now (heights .entry)))
         (heightsAt (now (heights .exit))) (at (now (work .entry))) (at (now (work .exit))) ⌝ }
 {
-    if !levels::back_levels(plane, work, width, width, x, width, y, height, levels, 0) {
+    if !levels::back_levels(
+        plane,
+        work,
+        width,
+        width,
+        x,
+        width,
+        y,
+        height,
+        levels,
+        0,
+        filter,
+    ) {
         return false;
     }
     heights::finish_rows(work, heights, x, width, height)
@@ -132,19 +220,20 @@ fn restore(
     levels: usize,
     heights: &mut [u16],
     work: &mut [i32],
+    filter: usize,
 ) -> u8
     requires { ⌜ Sized width height levels × (width * height ≤ length (now plane)) × (width * height ≤ length (now heights))
-        × (width * height ≤ length (now work)) ⌝ }
-    ensures { λ r. ⌜ r ≡ planeQuestions (side x width) (side y height) levels (cells width (at (now (plane .entry)))) ⌝ }
+        × (width * height ≤ length (now work)) × (levels ≤ filterOf filter .levels) ⌝ }
+    ensures { λ r. ⌜ r ≡ planeQuestions (filterOf filter) (side x width) (side y height) levels (cells width (at (now (plane .entry)))) ⌝ }
     ensures { λ r. ⌜ heightsAt (now (heights .exit)) ≡
-        rebuilt r (width * height) (flat width (mapBack fiveThreeFilter wrap32 levels (side x width) (side y height) (cells width (at (now (plane .entry))))))
+        rebuilt r (width * height) (flat width (mapBack (filterOf filter) wrap32 levels (side x width) (side y height) (cells width (at (now (plane .entry))))))
         (heightsAt (now (heights .entry))) ⌝ }
     ensures { λ r. ⌜ at (now (work .exit)) ≡ rebuilt r (width * height) zeros (at (now (work .entry))) ⌝ }
 {
-    if !levels::plane_in_range(plane, x, width, y, height, levels) {
+    if !levels::plane_in_range(plane, x, width, y, height, levels, filter) {
         return 7;
     }
-    if !rebuild(plane, x, width, y, height, levels, heights, work) {
+    if !rebuild(plane, x, width, y, height, levels, heights, work, filter) {
         areas::height_rows::clear_heights(heights, width * height);
         areas::copies::clear(work, width * height);
         return 14;
@@ -183,5 +272,49 @@ pub fn backward(plane: &[i32], shape: Shape, heights: &mut [u16], work: &mut [i3
         shape.levels,
         heights,
         work,
+        0,
+    )
+}
+
+// The same by the filter of a number.
+pub fn backward_by(
+    filter: usize,
+    plane: &[i32],
+    shape: Shape,
+    heights: &mut [u16],
+    work: &mut [i32],
+) -> u8
+    ensures { λ r. ⌜ r ≡
+        backwardQuestionBy filter (columns shape) (rows shape) (shape .levels) (length (now (plane .entry))) (length (now (heights .entry)))
+        (length (now (work .entry))) (cells (shape .width) (at (now (plane .entry)))) ⌝ }
+    ensures { λ r. ⌜ heightsAt (now (heights .exit)) ≡
+        rebuilt r (shape .width * shape .height)
+        (flat (shape .width) (mapBack (filterOf filter) wrap32 (shape .levels) (columns shape) (rows shape)
+        (cells (shape .width) (at (now (plane .entry))))))
+        (heightsAt (now (heights .entry))) ⌝ }
+    ensures { λ r. ⌜ at (now (work .exit)) ≡ rebuilt r (shape .width * shape .height) zeros (at (now (work .entry))) ⌝ }
+{
+    let q = question_by(
+        filter,
+        shape.width,
+        shape.height,
+        shape.levels,
+        plane.len(),
+        heights.len(),
+        work.len(),
+    );
+    if q != 0 {
+        return q;
+    }
+    restore(
+        plane,
+        shape.x as usize,
+        shape.width,
+        shape.y as usize,
+        shape.height,
+        shape.levels,
+        heights,
+        work,
+        filter,
     )
 }

@@ -3,6 +3,7 @@
 use crate::rowwise;
 use lifting::line;
 use lifting::rows;
+use nine_seven_sweep::columns;
 use wavelet::sizes;
 ghost use mathlib.Core.Path.{_≡_};
 ghost use Prim.Native.Nat.{_+_, _-_, _*_, _<_, _≤_, min};
@@ -13,10 +14,13 @@ ghost use Rattle.numbers.specs.Word.{wrap32};
 ghost use Rattle.lifting.specs.Line.{updated, unupdated, unpredicted};
 ghost use Rattle.lifting.specs.Grid.{side, loneHigh};
 ghost use Rattle.lifting.specs.Rows.{rowsChanged};
+ghost use Rattle.nine_seven.specs.Memory.{liftedInPlace as nineSevenInPlace};
+ghost use Rattle.nine_seven.specs.NineSevenFilter.{nineSevenFilter};
 ghost use Rattle.wavelet.specs.Limits.{maxWidth};
 ghost use Rattle.wavelet.specs.Plane.{cells, flat};
 ghost use Rattle.whole_map.specs.Rowwise.{wovenInPlace, doubledInPlace};
 ghost use Rattle.whole_map.specs.Passes.{after, before, nextChanged, pairChanged, rowsMapped, Rows};
+ghost use Rattle.whole_map.specs.ByFilter.{filterOf, levelLiftedBy};
 ghost use Rattle.whole_map.specs.LevelPasses.{rowLifted, pairLifted, firstLifted, levelLifted, rowsBetween};
 
 // The row after row r of `height` rows, and the row before: mirrored at the ends.
@@ -173,7 +177,7 @@ fn lift_lone(area: &mut [i32], width: usize, y: usize)
 }
 
 // A level forward, in place.
-pub fn lift_level(area: &mut [i32], stride: usize, x: usize, width: usize, y: usize, height: usize)
+fn lift_level(area: &mut [i32], stride: usize, x: usize, width: usize, y: usize, height: usize)
     requires { ⌜ Rows (length (now area)) stride width height ⌝ }
     ensures { λ _. ⌜ at (now (area .exit)) ≡ flat stride (levelLifted (side x width) (side y height) (cells stride (at (now (area .entry))))) ⌝ }
 {
@@ -183,6 +187,52 @@ pub fn lift_level(area: &mut [i32], stride: usize, x: usize, width: usize, y: us
         return;
     }
     lift_sweep(area, stride, x, width, y, height);
+}
+
+// Each row, in halves, lifted in place by the 9/7.
+fn lift_rows(area: &mut [i32], stride: usize, x: usize, width: usize, height: usize)
+    requires { ⌜ Rows (length (now area)) stride width height ⌝ }
+    ensures { λ _. ⌜ at (now (area .exit)) ≡
+        flat stride (rowsMapped (nineSevenInPlace (side x width)) width height (cells stride (at (now (area .entry))))) ⌝ }
+{
+    let mut r = 0;
+    while r < height {
+        let a = r * stride;
+        let e = a + width;
+        nine_seven::line::lift(&mut area[a..e], x);
+        r += 1;
+    }
+}
+
+// A level forward by the 9/7, in place: all columns, then all rows.
+fn lift_nine_seven(area: &mut [i32], stride: usize, x: usize, width: usize, y: usize, height: usize)
+    requires { ⌜ Rows (length (now area)) stride width height ⌝ }
+    ensures { λ _. ⌜ at (now (area .exit)) ≡
+        flat stride (levelLiftedBy nineSevenFilter (side x width) (side y height) (cells stride (at (now (area .entry))))) ⌝ }
+{
+    columns::lift_columns(area, stride, width, y, height);
+    lift_rows(area, stride, x, width, height);
+}
+
+// A level forward by the filter of a number.
+pub fn lift_by(
+    area: &mut [i32],
+    stride: usize,
+    x: usize,
+    width: usize,
+    y: usize,
+    height: usize,
+    filter: usize,
+)
+    requires { ⌜ Rows (length (now area)) stride width height ⌝ }
+    ensures { λ _. ⌜ at (now (area .exit)) ≡
+        flat stride (levelLiftedBy (filterOf filter) (side x width) (side y height) (cells stride (at (now (area .entry))))) ⌝ }
+{
+    if filter == 0 {
+        lift_level(area, stride, x, width, y, height);
+        return;
+    }
+    lift_nine_seven(area, stride, x, width, y, height);
 }
 
 // The row after row r lifted back by the update, where there is one.

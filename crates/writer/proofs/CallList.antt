@@ -21,7 +21,6 @@ use Rattle.numbers.specs.Signal.{pick, both, stored}
 use Rattle.numbers.specs.Word.{wrap32}
 use Rattle.numbers.proofs.Sweep.{both as split-both}
 use Rattle.lifting.specs.Grid.{Side, side, count}
-use Rattle.lifting.specs.FiveThree.{fiveThreeFilter}
 use Rattle.wavelet.specs.Limits.{maxWidth, maxHeight, maxLevels, maxOrigin}
 use Rattle.wavelet.specs.Bands.{Grid, Band, code, across, down}
 use Rattle.wavelet.specs.Questions.{within}
@@ -31,6 +30,7 @@ use Rattle.wavelet.specs.Levels.{sideAt, levelBand}
 use Rattle.wavelet.specs.View.{bandColumns}
 use Rattle.calls.specs.Lists.{All, all-none, all-more}
 use Rattle.calls.proofs.AllLaws.{all-append}
+use Rattle.writer.specs.Kind.{kind, Held, Ended}
 use Rattle.writer.specs.Counts.{mostLeft, startOf}
 use Rattle.writer.specs.Machine.{Out, arrive}
 use Rattle.writer.specs.Draws.{Waiting, waiting, pull}
@@ -41,13 +41,12 @@ use Rattle.writer.specs.Calls.{resumed, bandRow}
 use Rattle.writer.specs.Holds.{Holds}
 use Rattle.writer.specs.History.{DrawnRow}
 use Rattle.writer.specs.Demand3.{answered, isNone}
+use Rattle.writer.proofs.KindLaws.{kind-laws}
 use Rattle.writer.proofs.Waiting.{pend, later, pend-none, later-all, later-none}
 use Rattle.writer.proofs.CascadeHolds.{Good, Pulled, level-le, closed-le}
 use Rattle.writer.proofs.StateHolds.{differ, st, fresh-holds, pulled-by, shut-on, draw-holds, shut-first, finish-holds, begun-holds, arrived-by}
 use Rattle.writer.proofs.StateHolds.{complete-holds}
-use Rattle.level.specs.Level.{Memory, LevelKind}
-use Rattle.level.specs.FiveThreeLevel.{cellOf, fiveThree, Kept}
-use Rattle.level.proofs.LevelLaws.{five-three-laws}
+use Rattle.level.specs.Level.{Memory, LevelKind, ahead}
 
 -- ---- numbers
 pub rows-below : (W H r c : ℕ) → r * W + c < W * H → r < H
@@ -86,16 +85,20 @@ fits-height W H g ts h us f r c e p t =
     let len : length (ts ++ h ∷ us) ≡ length ts + suc (length us) = length-append ts (h ∷ us) in
     (t .heights r c p (omega arith) ∙ ap pos (getD-at ts h us 0 (r * W .length + c) e), rows-below (W .length) H r c (omega (arith, t .within)))
 
+-- the look-ahead
+abbrev A : ℕ
+A = ahead kind
+
 -- ---- what is to come without a further row
 unfoldable pub coming : (L : ℕ) (W : Side) (top : ℕ) → Bool → (cl v i r : ℕ) → List RowName
-coming L W top false cl v i r = pend L 1 W top cl v i r
-coming L W top true cl v i r = pend L 1 W top cl v i r ++ later L 1 W (side top r) cl
+coming L W top false cl v i r = pend A L 1 W top cl v i r
+coming L W top true cl v i r = pend A L 1 W top cl v i r ++ later A L 1 W (side top r) cl
 
-coming-open : (L : ℕ) (W : Side) (top cl v i r : ℕ) → coming L W top false cl v i r ≡ pend L 1 W top cl v i r
+coming-open : (L : ℕ) (W : Side) (top cl v i r : ℕ) → coming L W top false cl v i r ≡ pend A L 1 W top cl v i r
 unfolding coming
 coming-open L W top cl v i r = refl
 
-coming-closed : (L : ℕ) (W : Side) (top cl v i r : ℕ) → coming L W top true cl v i r ≡ pend L 1 W top cl v i r ++ later L 1 W (side top r) cl
+coming-closed : (L : ℕ) (W : Side) (top cl v i r : ℕ) → coming L W top true cl v i r ≡ pend A L 1 W top cl v i r ++ later A L 1 W (side top r) cl
 unfolding coming
 coming-closed L W top cl v i r = refl
 
@@ -108,18 +111,18 @@ pub record Right (L : ℕ) (W : Side) (top H : ℕ) (g : Grid) (d : DrawnRow) : 
   pub band-is : d .row .band ≡ code band
   pub length-is : d .row .length ≡ count (across band) (sideAt depth W)
   pub row-in : d .row .row < count (down band) (sideAt depth (side top H))
-  pub values : (i : ℕ) → i < d .row .length → d .values i ≡ levelBand fiveThreeFilter wrap32 W (side top H) g (suc depth) band (d .row .row) i
+  pub values : (i : ℕ) → i < d .row .length → d .values i ≡ levelBand (kind .filter) wrap32 W (side top H) g (suc depth) band (d .row .row) i
 
 pub record Sound (L : ℕ) (W : Side) (top H : ℕ) (g : Grid) (f : Bool) (ds : List DrawnRow) (r c cl v i : ℕ) (x : Memory) : Type 0 where
   pub holds : Holds H g (st W top L r c f cl v i) x
   pub names : List RowName
   pub named : map (λ d. d .row) ds ≡ map (answered W) names
-  pub order : names ++ coming L W top f cl v i r ≡ made 1 W top L r f
+  pub order : names ++ coming L W top f cl v i r ≡ made A W top L r f
   pub values : All (Right L W top H g) ds
 
 pub record Early (L : ℕ) (W : Side) (top : ℕ) (ts : List ℕ) (ds : List DrawnRow) (r : ℕ) : Type 0 where
-  pub drawn : length (made 1 W top L r false) ≤ length ds
-  pub right : (H : ℕ) (g : Grid) → Fits W H g ts false → All (Right L W top H g) (take (length (made 1 W top L r false)) ds)
+  pub drawn : length (made A W top L r false) ≤ length ds
+  pub right : (H : ℕ) (g : Grid) → Fits W H g ts false → All (Right L W top H g) (take (length (made A W top L r false)) ds)
 
 pub record At (L : ℕ) (W : Side) (top : ℕ) (ts : List ℕ) (f : Bool) (ds : List DrawnRow) (r c cl v i : ℕ) (x : Memory) : Type 0 where
   pub counted : length ts ≡ r * W .length + c
@@ -173,15 +176,15 @@ module _ {L : ℕ} {W : Side} {top : ℕ} {ts : List ℕ} {f : Bool} {ds : List 
         q,
         le-leb r maxHeight (a .rows-in),
         lt-ltb c (W .length) (a .column-in),
-        le-leb cl L
-            (closed-le fiveThree Kept five-three-laws L _ _ _ _ _ _ _ _ _ (s .holds .levels)),
+        le-leb cl (A * L)
+            (closed-le kind Held Ended kind-laws L _ _ _ _ _ _ _ _ _ (s .holds .levels)),
         le-leb v L
-            (level-le fiveThree Kept five-three-laws L _ _ _ _ _ _ _ _ _ (s .holds .levels)),
+            (level-le kind Held Ended kind-laws L _ _ _ _ _ _ _ _ _ (s .holds .levels)),
         le-leb i (mostLeft L v) (s .holds .few),
       ) (eq-eqb (startOf W v) (startOf W v) refl)
 
   -- what waits, by the history: made and not drawn
-  pub waiting-is : drop (length ds) (made 1 W top L r f) ≡ coming L W top f cl v i r
+  pub waiting-is : drop (length ds) (made A W top L r f) ≡ coming L W top f cl v i r
   waiting-is =
       let s = own-sound in
       ap (drop (length ds)) (sym (s .order))
@@ -192,12 +195,12 @@ module _ {L : ℕ} {W : Side} {top : ℕ} {ts : List ℕ} {f : Bool} {ds : List 
   pub none-waits : v ≡ 0 → coming L W top f cl v i r ≡ []
   none-waits z = go f (λ e. own-sound .holds .ended e .2 z)
     where
-      none : pend L 1 W top cl v i r ≡ []
-      none = ap (λ a. pend L 1 W top cl a i r) z ∙ pend-none L 1 W top cl i r
+      none : pend A L 1 W top cl v i r ≡ []
+      none = ap (λ a. pend A L 1 W top cl a i r) z ∙ pend-none A L 1 W top cl i r
 
-      go : (t : Bool) → (t ≡ true → cl ≡ L) → coming L W top t cl v i r ≡ []
+      go : (t : Bool) → (t ≡ true → cl ≡ A * L) → coming L W top t cl v i r ≡ []
       go false q = coming-open L W top cl v i r ∙ none
-      go true q = coming-closed L W top cl v i r ∙ ap₂ _++_ none (ap (later L 1 W (side top r)) (q refl) ∙ later-all L 1 W (side top r))
+      go true q = coming-closed L W top cl v i r ∙ ap₂ _++_ none (ap (later A L 1 W (side top r)) (q refl) ∙ later-all A L 1 W (side top r) (omega arith))
 
 -- ---- one height more
 module _ (l : ℕ) (W : Side) (top : ℕ) (ds : List DrawnRow) where
@@ -205,11 +208,11 @@ module _ (l : ℕ) (W : Side) (top : ℕ) (ds : List DrawnRow) where
   L = suc l
 
   abbrev K : LevelKind
-  K = fiveThree
+  K = kind
 
   module _ (ts : List ℕ) (r c cl v i : ℕ) (x : Memory) (a : At L W top ts false ds r c cl v i x) (z : v ≡ 0) (h : ℕ) where
     abbrev x′ : Memory
-    x′ = stored (cellOf W (top % 2 + r) c) (pos h) x
+    x′ = stored (kind .cell W top r c) (pos h) x
 
     longer : length (ts ++ h ∷ []) ≡ suc (length ts)
     longer = length-append ts (h ∷ []) ∙ omega arith
@@ -231,7 +234,7 @@ module _ (l : ℕ) (W : Side) (top : ℕ) (ds : List DrawnRow) where
       ended = λ e. absurd (differ e);
       sound = λ H g t. let s = before H g t in record {
         holds =
-            subst (λ d. Holds H g (st W top L r (c + 1) false cl v i) (stored (cellOf W (top % 2 + r) c) d x)) (here H g t .0)
+            subst (λ d. Holds H g (st W top L r (c + 1) false cl v i) (stored (kind .cell W top r c) d x)) (here H g t .0)
             (begun-holds H g W top l r c cl v i x
             (s .holds) z (a .column-in));
         names = s .names;
@@ -246,14 +249,14 @@ module _ (l : ℕ) (W : Side) (top : ℕ) (ds : List DrawnRow) where
     abbrev o : Out
     o = arrive K L W top r x′
 
-    made-next : (names : List RowName) → names ++ coming L W top false cl v i r ≡ made 1 W top L r false → (todo : List RowName) → todo ≡ madeBy 1 L 1 W top r →
-        names ++ todo ≡ made 1 W top L (r + 1) false
+    made-next : (names : List RowName) → names ++ coming L W top false cl v i r ≡ made A W top L r false → (todo : List RowName) → todo ≡ madeBy A L 1 W top r →
+        names ++ todo ≡ made A W top L (r + 1) false
     unfolding made
     made-next names e todo q =
-        let n : names ≡ inTurn r (madeBy 1 L 1 W top) ++ [] = sym (append-nil names) ∙ ap (λ b. names ++ b) (sym (none-waits a z)) ∙ e in
-        ap₂ _++_ (n ∙ append-nil (inTurn r (madeBy 1 L 1 W top))) q
-        ∙ sym (turn-suc r (madeBy 1 L 1 W top))
-        ∙ ap (λ b. inTurn b (madeBy 1 L 1 W top)) (omega arith)
+        let n : names ≡ inTurn r (madeBy A L 1 W top) ++ [] = sym (append-nil names) ∙ ap (λ b. names ++ b) (sym (none-waits a z)) ∙ e in
+        ap₂ _++_ (n ∙ append-nil (inTurn r (madeBy A L 1 W top))) q
+        ∙ sym (turn-suc r (madeBy A L 1 W top))
+        ∙ ap (λ b. inTurn b (madeBy A L 1 W top)) (omega arith)
         ∙ sym (append-nil _)
 
     complete-sound : (H : ℕ) (g : Grid) → Fits W H g (ts ++ h ∷ []) false → W .length ≤ c + 1 →
@@ -263,19 +266,19 @@ module _ (l : ℕ) (W : Side) (top : ℕ) (ds : List DrawnRow) where
         let q = here H g t in
         let e : c + 1 ≡ W .length = omega (arith, a .column-in) in
         let k =
-        subst (λ d. Good K Kept five-three-laws L 1 W (side top H) g 0 (suc r) (arrive K L W top r (stored (cellOf W (top % 2 + r) c) d x))
-        (madeBy 1 L 1 W top r)) (q .0)
+        subst (λ d. Good kind Held Ended kind-laws L 1 W (side top H) g 0 (suc r) (arrive K L W top r (stored (kind .cell W top r c) d x))
+        (madeBy A L 1 W top r)) (q .0)
         (arrived-by H g W top l r c cl v i x (s .holds) z (a .column-in) e (q .1)) in
         record {
           holds =
-              subst (λ d. let b = arrive K L W top r (stored (cellOf W (top % 2 + r) c) d x) in
+              subst (λ d. let b = arrive K L W top r (stored (kind .cell W top r c) d x) in
               Holds H g (st W top L (r + 1) 0 false cl (b .level) (b .left)) (b .store)) (q .0)
               (complete-holds H g W top l r c cl v i x (s .holds) z (a .column-in) e (q .1));
           names = s .names;
           named = s .named;
           order =
               made-next (s .names) (s .order) _
-              (coming-open L W top cl (o .level) (o .left) (r + 1) ∙ ap₂ (λ b d. pend L 1 W top b (o .level) (o .left) d) (s .holds .before refl)
+              (coming-open L W top cl (o .level) (o .left) (r + 1) ∙ ap₂ (λ b d. pend A L 1 W top b (o .level) (o .left) d) (s .holds .before refl)
               (omega arith) ∙ k .rows);
           values = s .values;
         }
@@ -301,12 +304,12 @@ module _ (l : ℕ) (W : Side) (top : ℕ) (ds : List DrawnRow) where
       s : Sound L W top (own-height f r) (own W ts) f ds r c cl (suc v) i x
       s = own-sound a
 
-      P : Pulled K Kept five-three-laws L 1 W (side top (own-height f r)) (own W ts) cl v i r x
+      P : Pulled kind Held Ended kind-laws L 1 W (side top (own-height f r)) (own W ts) cl v i r x
       P = pulled-by _ _ W top L r c f cl v i x (s .holds)
 
       go : (t : Bool) → isNone (coming L W top t cl (suc v) i r) ≡ false
       go false = ap isNone (coming-open L W top cl (suc v) i r ∙ P .first)
-      go true = ap isNone (coming-closed L W top cl (suc v) i r ∙ ap (λ l. l ++ later L 1 W (side top r) cl) (P .first))
+      go true = ap isNone (coming-closed L W top cl (suc v) i r ∙ ap (λ l. l ++ later A L 1 W (side top r) cl) (P .first))
 
   pub none-eqb : (ts : List ℕ) (f : Bool) (r c cl v i : ℕ) (x : Memory) → At L W top ts f ds r c cl v i x → isNone (coming L W top f cl v i r) ≡ eqb v 0
   none-eqb ts f r c cl zero i x a = ap isNone (none-waits a refl) ∙ sym (eq-eqb 0 0 refl)
@@ -314,12 +317,12 @@ module _ (l : ℕ) (W : Side) (top : ℕ) (ds : List DrawnRow) where
 
   -- after so many heights no row waits, and the limit is not reached
   abbrev pub takesAt : ℕ → Bool
-  takesAt m = both (isNone (drop (length ds) (made 1 W top L (m / W .length) false))) (ltb (m / W .length) maxHeight)
+  takesAt m = both (isNone (drop (length ds) (made A W top L (m / W .length) false))) (ltb (m / W .length) maxHeight)
 
   takes-is : (ts : List ℕ) (r c cl v i : ℕ) (x : Memory) → At L W top ts false ds r c cl v i x → takes (st W top L r c false cl v i) ≡ takesAt (length ts)
   unfolding takes
   takes-is ts r c cl v i x a =
-      sym (ap (λ m. both (isNone (drop (length ds) (made 1 W top L m false))) (ltb m maxHeight)) (whole-rows a)
+      sym (ap (λ m. both (isNone (drop (length ds) (made A W top L m false))) (ltb m maxHeight)) (whole-rows a)
       ∙ ap (λ b. both b (ltb r maxHeight)) (ap isNone (waiting-is a) ∙ none-eqb ts false r c cl v i x a))
 
   -- ---- an offer
@@ -383,7 +386,7 @@ module _ (l : ℕ) (W : Side) (top : ℕ) (ds : List DrawnRow) where
   offer-more h run ih ts r c cl v i x a = go (takes (st W top L r c false cl v i)) refl
     where
       y : Memory
-      y = stored (cellOf W (top % 2 + r) c) (pos h) x
+      y = stored (kind .cell W top r c) (pos h) x
 
       o : Out
       o = arrive K L W top r y
@@ -435,7 +438,7 @@ module _ (l : ℕ) (W : Side) (top : ℕ) (ds : List DrawnRow) where
       abbrev s : Sound L W top H g f ds r c cl (suc v) i x
       s = a .sound H g t
 
-      P : Pulled K Kept five-three-laws L 1 W (side top H) g cl v i r x
+      P : Pulled kind Held Ended kind-laws L 1 W (side top H) g cl v i r x
       P = pulled-by H g W top L r c f cl v i x (s .holds)
 
       abbrev name : RowName
@@ -455,7 +458,7 @@ module _ (l : ℕ) (W : Side) (top : ℕ) (ds : List DrawnRow) where
           unfold resumed in
           (coming-open L W top cl (suc v) i r ∙ P .first ∙ ap (λ l. name ∷ l) (sym (coming-open L W top cl (out .level) (out .left) r ∙ P .good .rows)))
       still true e =
-          coming-closed L W top cl (suc v) i r ∙ ap (λ l. l ++ later L 1 W (side top r) cl) (P .first) ∙ ap (λ l. name ∷ l) (sym (go (out .level) refl))
+          coming-closed L W top cl (suc v) i r ∙ ap (λ l. l ++ later A L 1 W (side top r) cl) (P .first) ∙ ap (λ l. name ∷ l) (sym (go (out .level) refl))
         where
           h : Holds H g (st W top L r c true cl (suc v) i) x
           h = subst (λ b. Holds H g (st W top L r c b cl (suc v) i) x) e (s .holds)
@@ -464,17 +467,17 @@ module _ (l : ℕ) (W : Side) (top : ℕ) (ds : List DrawnRow) where
           ended = h .ended refl .0
 
           go : (b : ℕ) → out .level ≡ b → (let k = resumed true (st W top L r c true cl (suc v) i) out b in
-              coming L W top true (k .closed) (k .out .level) (k .out .left) r ≡ P .todo ++ later L 1 W (side top r) cl)
+              coming L W top true (k .closed) (k .out .level) (k .out .left) r ≡ P .todo ++ later A L 1 W (side top r) cl)
           go zero y =
               unfold resumed in
               (let k : Shut = shut K L W top cl r (out .store) in
               coming-closed L W top _ _ _ r
-              ∙ ap (λ m. pend L 1 W top (k .closed) (k .out .level) (k .out .left) r ++ later L 1 W (side top m) (k .closed)) ended
+              ∙ ap (λ m. pend A L 1 W top (k .closed) (k .out .level) (k .out .left) r ++ later A L 1 W (side top m) (k .closed)) ended
               ∙ shut-on H g W top L r c cl v i x h y .rows
-              ∙ ap (λ m. later L 1 W (side top m) cl) (sym ended)
-              ∙ ap (λ l. l ++ later L 1 W (side top r) cl)
-              (sym (sym (P .good .rows) ∙ ap (λ b. pend L 1 W top cl b (out .left) r) y ∙ pend-none L 1 W top cl (out .left) r)))
-          go (suc b) y = unfold resumed in (coming-closed L W top cl (out .level) (out .left) r ∙ ap (λ l. l ++ later L 1 W (side top r) cl) (P .good .rows))
+              ∙ ap (λ m. later A L 1 W (side top m) cl) (sym ended)
+              ∙ ap (λ l. l ++ later A L 1 W (side top r) cl)
+              (sym (sym (P .good .rows) ∙ ap (λ b. pend A L 1 W top cl b (out .left) r) y ∙ pend-none A L 1 W top cl (out .left) r)))
+          go (suc b) y = unfold resumed in (coming-closed L W top cl (out .level) (out .left) r ∙ ap (λ l. l ++ later A L 1 W (side top r) cl) (P .good .rows))
 
       drawn-sound : (z : ℕ → ℤ) → ((j : ℕ) → j < q .length → z j ≡ x (q .start + j)) →
           Sound L W top H g f (ds ++ (record { row = bandRow q; values = z } ∷ [])) r c (left .closed) (left .out .level) (left .out .left) (left .out .store)
@@ -522,12 +525,12 @@ module _ (l : ℕ) (W : Side) (top : ℕ) (ds : List DrawnRow) where
     abbrev k : Shut
     k = shut K L W top 0 r x
 
-    made-whole : (names : List RowName) → names ++ coming L W top false cl v i r ≡ made 1 W top L r false → (l : List RowName) → l ≡ closing 1 L 1 W (side top r) →
-        names ++ l ≡ made 1 W top L r true
+    made-whole : (names : List RowName) → names ++ coming L W top false cl v i r ≡ made A W top L r false → (l : List RowName) →
+        l ≡ closing A L 1 W (side top r) → names ++ l ≡ made A W top L r true
     unfolding made
     made-whole names e l q =
-        let m : names ≡ inTurn r (madeBy 1 L 1 W top) ++ [] = sym (append-nil names) ∙ ap (λ b. names ++ b) (sym (none-waits a z)) ∙ e in
-        ap₂ _++_ (m ∙ append-nil (inTurn r (madeBy 1 L 1 W top))) q
+        let m : names ≡ inTurn r (madeBy A L 1 W top) ++ [] = sym (append-nil names) ∙ ap (λ b. names ++ b) (sym (none-waits a z)) ∙ e in
+        ap₂ _++_ (m ∙ append-nil (inTurn r (madeBy A L 1 W top))) q
 
     finish-sound : (H : ℕ) (g : Grid) → Fits W H g ts true → Sound L W top H g true ds r c (k .closed) (k .out .level) (k .out .left) (k .out .store)
     finish-sound H g t =
@@ -540,10 +543,10 @@ module _ (l : ℕ) (W : Side) (top : ℕ) (ds : List DrawnRow) where
           order =
               made-whole (s .names) (s .order) _
               (coming-closed L W top (k .closed) (k .out .level) (k .out .left) r
-              ∙ ap (λ m. pend L 1 W top (k .closed) (k .out .level) (k .out .left) r ++ later L 1 W (side top m) (k .closed)) e
+              ∙ ap (λ m. pend A L 1 W top (k .closed) (k .out .level) (k .out .left) r ++ later A L 1 W (side top m) (k .closed)) e
               ∙ shut-first H g W top L r c cl v i x (s .holds) z p n e .rows
-              ∙ later-none L 1 W (side top H)
-              ∙ ap (λ m. closing 1 L 1 W (side top m)) (sym e));
+              ∙ later-none A L 1 W (side top H) (omega arith)
+              ∙ ap (λ m. closing A L 1 W (side top m)) (sym e));
           values = s .values;
         }
 
@@ -551,14 +554,14 @@ module _ (l : ℕ) (W : Side) (top : ℕ) (ds : List DrawnRow) where
     all-early : Early L W top ts ds r
     all-early =
         let s = own-sound a in
-        let e : length ds ≡ length (made 1 W top L r false) =
+        let e : length ds ≡ length (made A W top L r false) =
         sym (length-map ds (λ d. d .row))
         ∙ ap length (s .named)
         ∙ length-map (s .names) (answered W)
         ∙ ap length (sym (append-nil (s .names)) ∙ ap (λ b. s .names ++ b) (sym (none-waits a z)) ∙ s .order) in
         record {
           drawn = omega arith;
-          right = λ H g t. subst (All (Right L W top H g)) (sym (take-all (length (made 1 W top L r false)) ds (omega arith)))
+          right = λ H g t. subst (All (Right L W top H g)) (sym (take-all (length (made A W top L r false)) ds (omega arith)))
               (a .sound H g t .values);
         }
 
@@ -574,7 +577,7 @@ module _ (l : ℕ) (W : Side) (top : ℕ) (ds : List DrawnRow) where
     }
 
 -- ---- at first
-none-made : (W : Side) (top L : ℕ) → made 1 W top L 0 false ≡ []
+none-made : (W : Side) (top L : ℕ) → made A W top L 0 false ≡ []
 unfolding made inTurn
 none-made W top L = refl
 
@@ -589,7 +592,7 @@ fresh-at L W top x p = record {
     holds = fresh-holds H g W top L x;
     names = [];
     named = refl;
-    order = coming-open L W top 0 0 0 0 ∙ pend-none L 1 W top 0 0 0 ∙ sym (none-made W top L);
+    order = coming-open L W top 0 0 0 0 ∙ pend-none A L 1 W top 0 0 0 ∙ sym (none-made W top L);
     values = all-none;
   };
   early = λ e. absurd (differ e);

@@ -15,13 +15,13 @@ use Rattle.numbers.specs.Signal.{pick, stored}
 use Rattle.numbers.specs.Word.{wrap32}
 use Rattle.numbers.proofs.Sweep.{both as split-both}
 use Rattle.lifting.specs.Halves.{fronted}
-use Rattle.lifting.specs.FiveThree.{fiveThreeFilter}
 use Rattle.wavelet.specs.Limits.{maxHeight}
 use Rattle.wavelet.specs.Bands.{Grid}
 use Rattle.lifting.specs.Grid.{Side, side}
 use Rattle.wavelet.specs.Levels.{levelBand}
 use Rattle.wavelet.specs.Questions.{within}
 use Rattle.calls.specs.Lists.{Reply, gives, refused, unless, changedUnless}
+use Rattle.writer.specs.Kind.{kind}
 use Rattle.writer.specs.declared.Writer.{Writer}
 use Rattle.writer.specs.declared.BandRow.{BandRow}
 use Rattle.writer.specs.Machine.{Out, arrive}
@@ -37,7 +37,6 @@ use Rattle.writer.proofs.StateHolds.{st, placed-st, fresh-st, fresh-hol
 use Rattle.writer.proofs.CallList.{rows-of, column-of, rows-below}
 use Rattle.writer.proofs.CallLaws.{offer-sound, finish-may, offer-may}
 use Rattle.level.specs.Level.{Memory, rest}
-use Rattle.level.specs.FiveThreeLevel.{cellOf, fiveThree}
 
 -- ---- set-up
 pub set-up-holds : (W : Side) (top L H : ℕ) (g : Grid) (x : Memory) → Holds H g (fresh W top L) x
@@ -62,19 +61,19 @@ draw-keeps s n k x = record { keeps = λ H g _ h. go H g h (drawQuestion s n k) 
 
 -- the row that waits has the map's values
 draw-values : (s : Writer) (x : Memory) (H : ℕ) (g : Grid) → Holds H g s x → 0 < s .level → (i : ℕ) → i < waitingRow s .length →
-    x (waitingRow s .start + i) ≡ levelBand fiveThreeFilter wrap32 (columnsOf s) (side (s .y) H) g (waitingRow s .level) (waitingRow s .band)
+    x (waitingRow s .start + i) ≡ levelBand (kind .filter) wrap32 (columnsOf s) (side (s .y) H) g (waitingRow s .level) (waitingRow s .band)
     (waitingRow s .row) i
 draw-values s x H g h p = go (s .level) (subst (λ t. Holds H g t x) (placed-st s (h .placed)) h) p
   where
     go : (v : ℕ) → (let s′ = st (columnsOf s) (s .y) (s .levels) (s .rows) (s .column) (s .finished) (s .closed) v (s .left) in
         Holds H g s′ x → 0 < v → (i : ℕ) → i < waitingRow s′ .length
-        → x (waitingRow s′ .start + i) ≡ levelBand fiveThreeFilter wrap32 (columnsOf s) (side (s .y) H) g
+        → x (waitingRow s′ .start + i) ≡ levelBand (kind .filter) wrap32 (columnsOf s) (side (s .y) H) g
         (waitingRow s′ .level) (waitingRow s′ .band) (waitingRow s′ .row) i)
     go zero h p i b = absurd (omega arith)
     go (suc v) h p i b =
         let P = pulled-by H g (columnsOf s) (s .y) (s .levels) (s .rows) (s .column) (s .finished) (s .closed) v (s .left) x h in
         let q : Waiting = waitingRow (st (columnsOf s) (s .y) (s .levels) (s .rows) (s .column) (s .finished) (s .closed) (suc v) (s .left)) in
-        P .is .values i b ∙ ap (λ k. levelBand fiveThreeFilter wrap32 (columnsOf s) (side (s .y) H) g k (q .band) (q .row) i) (sym (P .is .level-is))
+        P .is .values i b ∙ ap (λ k. levelBand (kind .filter) wrap32 (columnsOf s) (side (s .y) H) g k (q .band) (q .row) i) (sym (P .is .level-is))
 
 -- and so has the row that is answered, in the output area, where z stood before
 area-values : (s : Writer) (n k : ℕ) (x z : Memory) (H : ℕ) (g : Grid) → Holds H g s x → (b : BandRow) (t : Writer) →
@@ -95,7 +94,7 @@ area-values s n k x z H g h b t e = go (drawQuestion s n k) (s .level) refl e
     here p = record {
       are = λ c f i l.
           front i l ∙ draw-values s x H g h p i l
-          ∙ ap (λ d. levelBand fiveThreeFilter wrap32 (columnsOf s) (side (s .y) H) g (q .level) d (q .row) i) (code-one (q .band) c f);
+          ∙ ap (λ d. levelBand (kind .filter) wrap32 (columnsOf s) (side (s .y) H) g (q .level) d (q .row) i) (code-one (q .band) c f);
     }
 
     go : (a v : ℕ) → s .level ≡ v → unless a (handed v s x) ≡ gives (aRow b t) →
@@ -129,7 +128,7 @@ module _ (H : ℕ) (g : Grid) (W : Side) (top l : ℕ) where
 
   Taken : List ℕ → Type 0
   Taken run = (r c cl v i : ℕ) (x : Memory) → c < W .length → Holds H g (st W top L r c false cl v i) x →
-      (let t = offering fiveThree run (st W top L r c false cl v i) x in
+      (let t = offering kind run (st W top L r c false cl v i) x in
       r * W .length + c + t .taken ≤ W .length * H → Next run (r * W .length + c) (t .taken) →
       Holds H g (t .writer) (t .store))
 
@@ -138,16 +137,16 @@ module _ (H : ℕ) (g : Grid) (W : Side) (top l : ℕ) where
   more h run ih r c cl v i x p a = go (takes (st W top L r c false cl v i)) refl
     where
       y : Memory
-      y = stored (cellOf W (top % 2 + r) c) (pos h) x
+      y = stored (kind .cell W top r c) (pos h) x
 
       o : Out
-      o = arrive fiveThree L W top r y
+      o = arrive kind L W top r y
 
       b : Taking
-      b = offering fiveThree run (st W top L r (c + 1) false cl v i) y
+      b = offering kind run (st W top L r (c + 1) false cl v i) y
 
       d : Taking
-      d = offering fiveThree run (st W top L (r + 1) 0 false cl (o .level) (o .left)) (o .store)
+      d = offering kind run (st W top L (r + 1) 0 false cl (o .level) (o .left)) (o .store)
 
       also : Taking → Taking
       also t = record { taken = suc (t .taken); writer = t .writer; store = t .store }
@@ -175,14 +174,14 @@ module _ (H : ℕ) (g : Grid) (W : Side) (top l : ℕ) where
               Next (h ∷ run) (r * W .length + c) (q .taken) → Holds H g (q .writer) (q .store))
           inner true f room has =
               ih r (c + 1) cl v i y (ltb-true (c + 1) (W .length) f)
-              (subst (λ w. Holds H g (st W top L r (c + 1) false cl v i) (stored (cellOf W (top % 2 + r) c) w x)) (first (b .taken) has)
+              (subst (λ w. Holds H g (st W top L r (c + 1) false cl v i) (stored (kind .cell W top r c) w x)) (first (b .taken) has)
               (begun-holds H g W top l r c cl v i x a free p))
               (omega arith) (others (b .taken) (r * W .length + (c + 1)) (omega arith) has)
           inner false f room has =
               let whole : c + 1 ≡ W .length = omega (arith, ltb-false (c + 1) (W .length) f) in
               let next : (r + 1) * W .length + 0 ≡ r * W .length + c + 1 = omega (arith, suc-mul r (W .length), ap (λ k. k * W .length) up) in
               ih (r + 1) 0 cl (o .level) (o .left) (o .store) (omega arith)
-              (subst (λ w. let k = arrive fiveThree L W top r (stored (cellOf W (top % 2 + r) c) w x) in
+              (subst (λ w. let k = arrive kind L W top r (stored (kind .cell W top r c) w x) in
               Holds H g (st W top L (r + 1) 0 false cl (k .level) (k .left))
               (k .store)) (first (d .taken) has)
               (complete-holds H g W top l r c cl v i x a free p whole (rows-below (W .length) H r c (omega arith))))
@@ -201,18 +200,18 @@ unfolding offerReply offerStore
 offer-keeps s n run x = record { keeps = λ H g t h. go H g h (offerQuestion s n (length run)) refl t }
   where
     passed : (H : ℕ) (g : Grid) (W : Side) (top L r c : ℕ) (f : Bool) (cl v i : ℕ) → f ≡ false → 0 < L → c < W .length →
-        (let t = offering fiveThree run (st W top L r c f cl v i) x in GoesOn (st W top L r c f cl v i) run (t .taken) H g →
+        (let t = offering kind run (st W top L r c f cl v i) x in GoesOn (st W top L r c f cl v i) run (t .taken) H g →
         Holds H g (st W top L r c f cl v i) x → Holds H g (t .writer) (t .store))
     passed H g W top zero r c f cl v i z p q m h = absurd (omega arith)
     passed H g W top (suc l) r c true cl v i z p q m h = let y : _≡_ {A = ℕ} 0 1 = ap (λ b. pick b 0 1) z in absurd (omega arith)
     passed H g W top (suc l) r c false cl v i z p q m h = unfold Taken in offering-holds H g W top l run r c cl v i x q h (m .within) (m .heights)
 
-    go : (H : ℕ) (g : Grid) → Holds H g s x → (q : ℕ) → offerQuestion s n (length run) ≡ q → (let a = unless q (took (offering fiveThree run s x)) in
-        GoesOn s run (tookOf a) H g → Holds H g (left (λ t. t .writer) s a) (changedUnless q (offering fiveThree run s x .store) x))
+    go : (H : ℕ) (g : Grid) → Holds H g s x → (q : ℕ) → offerQuestion s n (length run) ≡ q → (let a = unless q (took (offering kind run s x)) in
+        GoesOn s run (tookOf a) H g → Holds H g (left (λ t. t .writer) s a) (changedUnless q (offering kind run s x .store) x))
     go H g h zero z m =
         let y = offer-sound s n (length run) z in
-        subst (λ t. GoesOn t run (offering fiveThree run t x .taken) H g → Holds H g t x → Holds H g (offering fiveThree run t x .writer)
-        (offering fiveThree run t x .store))
+        subst (λ t. GoesOn t run (offering kind run t x .taken) H g → Holds H g t x → Holds H g (offering kind run t x .writer)
+        (offering kind run t x .store))
         (sym (placed-st s (h .placed)))
         (passed H g (columnsOf s) (s .y) (s .levels) (s .rows) (s .column) (s .finished) (s .closed) (s .level) (s .left) (offer-may s n (length run) z .0)
         (y .levels .0)

@@ -9,19 +9,23 @@ use Rattle.numbers.specs.Signal.{both}
 use Rattle.numbers.proofs.Sweep as sweep
 use Rattle.lifting.specs.Grid.{Side, side}
 use Rattle.wavelet.specs.Levels.{next}
-use Rattle.level.specs.Level.{Memory, completes, rest, joinAt}
+use Rattle.level.specs.Level.{Memory, completes, rest, joinAt, ahead}
 use Rattle.level.specs.FiveThreeLevel.{fiveThree, setMade}
 use Rattle.level.specs.Making.{delivered}
 use Rattle.level.proofs.RestLaws.{rest-join, join-again}
 use Rattle.writer.specs.declared.cascade.Wait.{Wait}
 use Rattle.writer.specs.Counts.{deeper, further, most, skip, startOf}
 use Rattle.writer.specs.Machine.{Out, still, under, passed, settled, arrived, arrive, passOn}
-use Rattle.writer.specs.Steps.{Left}
+use Rattle.writer.specs.Steps.{Left, noWait}
 use Rattle.writer.proofs.CountLaws.{deeper-le, start-first, start-deeper, start-le}
 
+-- the look-ahead
+abbrev A : ℕ
+A = ahead fiveThree
+
 -- ---- what a step leaves
-pub left-still : (l : ℕ) (w : Side) (o : Out) (x : Memory) → o ≡ still x → Left l w o (record { level = 0; left = 0; offset = 0 }) x
-left-still l w o x e = rw e (record { level = refl; left = refl; offset = sym (start-first w 0 (omega arith)); store = refl; within = omega arith })
+pub left-still : (l : ℕ) (w : Side) (o : Out) (r : Wait) (x : Memory) → r ≡ noWait → o ≡ still x → Left l w o r x
+left-still l w o r x d e = rw (d, e) (record { level = refl; left = refl; offset = sym (start-first w 0 (omega arith)); store = refl; within = omega arith })
 
 pub left-waits : (l : ℕ) (w : Side) (i : ℕ) (o : Out) (x : Memory) → 0 < l → o ≡ record { store = x; level = 1; left = i } →
     Left l w o (record { level = 1; left = i; offset = 0 }) x
@@ -104,36 +108,37 @@ pub record Below (W : Side) (s n : ℕ) (v a b k : ℕ) : Type 0 where
   pub start : b ≡ (s + 1) / 2
   pub row : k ≡ n - s % 2
 
--- the LL row has gone on to the levels below, which leave t
-pub passed-goes : (l : ℕ) (W : Side) (s n v a b k d o p : ℕ) (x y t z : Memory) (r : Wait) → 0 < l → s % 2 ≤ n → Below W s n v a b k → p ≡ b % 2 + k →
-    y ≡ delivered W n p x → Left l (side a v) (arrive fiveThree l (side a v) b k (rest (4 * W .length) y)) r t → z ≡ joinAt (4 * W .length) y t →
-    d ≡ deeper (r .level) → o ≡ further (r .level) (4 * W .length) (r .offset) → Left (l + 1) W (passOn fiveThree l W s n x)
+-- the LL row has gone on to the levels below, whose stretches begin at j, and which leave t
+pub passed-goes : (l : ℕ) (W : Side) (s n v a b k d o p j : ℕ) (x y t z : Memory) (r : Wait) → 0 < l → s % 2 ≤ n → Below W s n v a b k → p ≡ b % 2 + k →
+    j ≡ fiveThree .stretch W →
+    y ≡ delivered W n p x → Left l (side a v) (arrive fiveThree l (side a v) b k (rest j y)) r t → z ≡ joinAt j y t →
+    d ≡ deeper (r .level) → o ≡ further (r .level) j (r .offset) → Left (l + 1) W (passOn fiveThree l W s n x)
     (record { level = d; left = r .left; offset = o }) z
-passed-goes l W s n v a b k d o p x y t z r h f g ep e u ez ed eo =
+passed-goes l W s n v a b k d o p j x y t z r h f g ep ej e u ez ed eo =
     let place : p ≡ (s + 1) / 2 % 2 + (n - s % 2) = ep ∙ ap (λ (i : ℕ). i % 2 + k) (g .start) ∙ ap (λ (i : ℕ). (s + 1) / 2 % 2 + i) (g .row) in
     let y-is : y ≡ delivered W n ((s + 1) / 2 % 2 + (n - s % 2)) x = e ∙ ap (λ (i : ℕ). delivered W n i x) place in
     left-same (l + 1) W _ _ _ z (pass-goes W s n x l h f)
-    (left-under (l + 1) l W d o x y _ t z _ r refl (y-is ∙ delivered-join W s n x) ez ed eo (rw (g .columns, g .start, g .row, y-is) at u))
+    (left-under (l + 1) l W d o x y _ t z _ r refl (y-is ∙ delivered-join W s n x) (ez ∙ ap (λ (i : ℕ). joinAt i y t) ej) ed
+    (eo ∙ ap (λ (i : ℕ). further (r .level) i (r .offset)) ej) (rw (g .columns, g .start, g .row, ej, y-is) at u))
 
 -- ---- a row that comes
 module _ (l : ℕ) (W : Side) (s m : ℕ) (x : Memory) where
-  pub arrive-none : l ≡ 0 → arrive fiveThree l W s m x ≡ still x
-  unfolding arrive
-  arrive-none e = rw e refl
-
-  pub arrive-still : completes s m ≡ false → arrive fiveThree l W s m x ≡ still x
-  arrive-still e = go l
+  pub arrive-still : both (ltb 0 l) (completes A s m) ≡ false → arrive fiveThree l W s m x ≡ still x
+  arrive-still e = go l e
     where
-      go : (l : ℕ) → arrive fiveThree l W s m x ≡ still x
-      go zero = unfold arrive in refl
-      go (suc l) = unfold arrive arrived in simp e
+      more : (l : ℕ) → both (ltb 0 (suc l)) (completes A s m) ≡ false → completes A s m ≡ false
+      more l d = sym (ap (λ t. both t (completes A s m)) (lt-ltb 0 (suc l) (omega arith))) ∙ d
 
-  pub arrive-set : 0 < l → completes s m ≡ true → arrive fiveThree l W s m x ≡ settled (passOn fiveThree (l - 1) W s)
-      ((s % 2 + m) / 2 - 1) (setMade W s ((s % 2 + m) / 2 - 1) x) (skip W (side s (m + 1)) ((s % 2 + m) / 2 - 1) (most (l - 1)))
+      go : (l : ℕ) → both (ltb 0 l) (completes A s m) ≡ false → arrive fiveThree l W s m x ≡ still x
+      go zero d = unfold arrive in refl
+      go (suc l) d = unfold arrive arrived in simp (more l d)
+
+  pub arrive-set : 0 < l → completes A s m ≡ true → arrive fiveThree l W s m x ≡ settled (passOn fiveThree (l - 1) W s)
+      ((s % 2 + m) / 2 - A) (setMade W s ((s % 2 + m) / 2 - A) x) (skip W (side s (m + 1)) ((s % 2 + m) / 2 - A) (most (l - 1)))
   arrive-set h e = go l h
     where
       n : ℕ
-      n = (s % 2 + m) / 2 - 1
+      n = (s % 2 + m) / 2 - A
 
       go : (l : ℕ) → 0 < l → arrive fiveThree l W s m x ≡ settled (passOn fiveThree (l - 1) W s) n (setMade W s n x)
           (skip W (side s (m + 1)) n (most (l - 1)))
@@ -141,11 +146,17 @@ module _ (l : ℕ) (W : Side) (s m : ℕ) (x : Memory) where
       go (suc l) h = let q : suc l - 1 ≡ l = omega arith in rw q (unfold arrive arrived in simp e)
 
 -- ---- the same, as what `arrive` leaves
-module _ (l : ℕ) (W : Side) (s m n : ℕ) (x x₁ : Memory) (i : ℕ) (hl : 0 < l) (c : Bool) (ec : c ≡ completes s m) (sure : not c ≡ false)
-    (en : n ≡ (s % 2 + m) / 2 - 1) (e₁ : x₁ ≡ setMade W s n x) where
+pub sets-off : (l s m : ℕ) (c : Bool) → c ≡ both (ltb 0 l) (completes A s m) → not c ≡ false → (0 < l) × (completes A s m ≡ true)
+sets-off l s m c e h = let p = sweep.both (ltb 0 l) (completes A s m) (sym e ∙ not-false c h) in (ltb-true 0 l (p .0), p .1)
+
+module _ (l : ℕ) (W : Side) (s m n : ℕ) (x x₁ : Memory) (i : ℕ) (c : Bool) (ec : c ≡ both (ltb 0 l) (completes A s m)) (sure : not c ≡ false)
+    (en : n ≡ (s % 2 + m) / 2 - A) (e₁ : x₁ ≡ setMade W s n x) where
+  hl : 0 < l
+  hl = sets-off l s m c ec sure .0
+
   came : arrive fiveThree l W s m x ≡ settled (passOn fiveThree (l - 1) W s) n x₁ (skip W (side s (m + 1)) n (most (l - 1)))
   came =
-      arrive-set l W s m x hl (sym ec ∙ not-false c sure)
+      arrive-set l W s m x hl (sets-off l s m c ec sure .1)
       ∙ ap (λ (k : ℕ). settled (passOn fiveThree (l - 1) W s) k (setMade W s k x) (skip W (side s (m + 1)) k (most (l - 1)))) (sym en)
       ∙ ap (λ (y : Memory). settled (passOn fiveThree (l - 1) W s) n y (skip W (side s (m + 1)) n (most (l - 1)))) (sym e₁)
 
@@ -157,15 +168,15 @@ module _ (l : ℕ) (W : Side) (s m n : ℕ) (x x₁ : Memory) (i : ℕ) (hl : 0 
   goes-on q h = came ∙ ap (settled (passOn fiveThree (l - 1) W s) n x₁) (sym q) ∙ settled-goes _ n i x₁ h
 
   pub came-last : i ≡ skip W (side s (m + 1)) n (most (l - 1)) → i ≡ 0 → (t : Bool) → t ≡ both (ltb 0 (l - 1)) (leb (s % 2) n) → not t ≡ true →
-      Left l W (arrive fiveThree l W s m x) (record { level = 0; left = 0; offset = 0 }) x₁
-  came-last q h t et n₂ = left-still l W _ x₁ (goes-on q h ∙ pass-none W s n x₁ (l - 1) (sym et ∙ not-true t n₂))
+      (r : Wait) → r ≡ noWait → Left l W (arrive fiveThree l W s m x) r x₁
+  came-last q h t et n₂ r er = left-still l W _ r x₁ er (goes-on q h ∙ pass-none W s n x₁ (l - 1) (sym et ∙ not-true t n₂))
 
   pub came-goes : i ≡ skip W (side s (m + 1)) n (most (l - 1)) → i ≡ 0 → (t : Bool) → t ≡ both (ltb 0 (l - 1)) (leb (s % 2) n) → not t ≡ false →
-      (v a b k d o p : ℕ) (x₂ y z : Memory) (r : Wait) → Below W s n v a b k → p ≡ b % 2 + k → x₂ ≡ delivered W n p x₁ →
-      Left (l - 1) (side a v) (arrive fiveThree (l - 1) (side a v) b k (rest (4 * W .length) x₂)) r y → z ≡ joinAt (4 * W .length) x₂ y →
-      d ≡ deeper (r .level) → o ≡ further (r .level) (4 * W .length) (r .offset) →
+      (v a b k d o p e : ℕ) (x₂ y z : Memory) (r : Wait) → Below W s n v a b k → p ≡ b % 2 + k → e ≡ fiveThree .stretch W → x₂ ≡ delivered W n p x₁ →
+      Left (l - 1) (side a v) (arrive fiveThree (l - 1) (side a v) b k (rest e x₂)) r y → z ≡ joinAt e x₂ y →
+      d ≡ deeper (r .level) → o ≡ further (r .level) e (r .offset) →
       Left l W (arrive fiveThree l W s m x) (record { level = d; left = r .left; offset = o }) z
-  came-goes q h t et yes₂ v a b k d o p x₂ y z r g ep e₂ f ez ed eo =
+  came-goes q h t et yes₂ v a b k d o p e x₂ y z r g ep ee e₂ f ez ed eo =
       let w = goes (l - 1) s n t et yes₂ in
-      let j : l - 1 + 1 ≡ l = omega arith in
-      rw j at (left-same (l - 1 + 1) W _ _ _ z (goes-on q h) (passed-goes (l - 1) W s n v a b k d o p x₁ x₂ y z r (w .0) (w .1) g ep e₂ f ez ed eo))
+      let j : l - 1 + 1 ≡ l = omega (arith, hl) in
+      rw j at (left-same (l - 1 + 1) W _ _ _ z (goes-on q h) (passed-goes (l - 1) W s n v a b k d o p e x₁ x₂ y z r (w .0) (w .1) g ep ee e₂ f ez ed eo))

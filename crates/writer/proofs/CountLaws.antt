@@ -15,7 +15,7 @@ use Rattle.level.specs.Level.{prev, completes}
 use Rattle.level.proofs.Places.{prev-is}
 use Rattle.writer.specs.Counts.{deeper, deeperBy, further, made, most, mostLeft, bandAt, skip, startOf}
 use lib.Dec.{ltb, leb, eqb}
-use borrow.Author.Tests.{lt-ltb, le-ltb, le-leb, eq-eqb, ne-eqb, eqb-true, ltb-true, leb-true}
+use borrow.Author.Tests.{lt-ltb, le-ltb, le-leb, lt-leb, eq-eqb, ne-eqb, eqb-true, ltb-true, leb-true}
 use Rattle.numbers.specs.Signal.{both, pick}
 use Rattle.numbers.proofs.Sweep as sweep
 
@@ -136,35 +136,43 @@ start-deeper w (suc v) = store-below w v
 pub start-le : (w : Side) (v : ℕ) → startOf w v ≤ 8 * w .length + 4 * v
 start-le w v = omega (arith, store-le w (prev v), prev-is v)
 
-pub made-open : (c s m : ℕ) → c ≡ 0 → made c s m ≡ (s % 2 + (m - 1)) / 2
+-- ---- how many sets are made, at the look-ahead a
+pub made-is : (a c s m : ℕ) → made a c s m ≡ min ((s % 2 + m + 1) / 2) ((s % 2 + (m - 1)) / 2 + 1 - a + c)
 unfolding made
-made-open zero s m e = refl
-made-open (suc c) s m e = absurd (omega arith)
+made-is a c s m = refl
 
-pub made-shut : (c s m : ℕ) → 0 < c → made c s m ≡ (s % 2 + m + 1) / 2
-unfolding made
-made-shut zero s m h = absurd (omega arith)
-made-shut (suc c) s m h = refl
+-- by the rows alone
+pub made-open : (a s m : ℕ) → 1 ≤ a → made a 0 s m ≡ (s % 2 + (m - 1)) / 2 + 1 - a
+made-open a s m one = omega (arith, made-is a 0 s m)
 
--- no more than the rows, but for a set of a high row alone
-pub made-le : (c s m : ℕ) → made c s m ≤ m + 1
-unfolding made
-made-le zero s m = omega arith
-made-le (suc c) s m = omega arith
+-- by all steps of the closing
+pub made-shut : (a c s m : ℕ) → 1 ≤ a → a ≤ c → made a c s m ≡ (s % 2 + m + 1) / 2
+made-shut a c s m one h = omega (arith, made-is a c s m)
+
+-- no more than there are, so no more than the rows, but for a set of a high row alone
+pub made-most : (a c s m : ℕ) → made a c s m ≤ (s % 2 + m + 1) / 2
+made-most a c s m = omega (arith, made-is a c s m)
+
+pub made-le : (a c s m : ℕ) → made a c s m ≤ m + 1
+made-le a c s m = omega (arith, made-most a c s m)
+
+-- a step makes one more while one is left
+pub made-step : (a c s m n : ℕ) → 0 < m → made a c s m ≡ n → n ≤ (s % 2 + (m - 1)) / 2 → made a (suc c) s m ≡ suc n
+made-step a c s m n h e p = omega (arith, made-is a c s m, made-is a (suc c) s m)
+
+pub made-stop : (a c s m : ℕ) → (s % 2 + (m - 1)) / 2 < made a c s m → made a (suc c) s m ≡ made a c s m
+made-stop a c s m p = omega (arith, made-is a c s m, made-is a (suc c) s m)
 
 -- what they give the next level
-pub low-le : (c s m : ℕ) → made c s m - s % 2 ≤ m
-unfolding made
-low-le zero s m = omega arith
-low-le (suc c) s m = omega arith
+pub low-le : (a c s m : ℕ) → made a c s m - s % 2 ≤ m
+low-le a c s m = omega (arith, made-most a c s m)
 
-pub low-open : (s m : ℕ) → made 0 s m - s % 2 ≡ (s % 2 + (m - 1)) / 2 - s % 2
-unfolding made
-low-open s m = refl
+pub low-shut : (a c s m : ℕ) → 1 ≤ a → a ≤ c → made a c s m - s % 2 ≡ count lo (side s m)
+unfolding count
+low-shut a c s m one h = omega (arith, made-shut a c s m one h)
 
-pub low-shut : (c s m : ℕ) → made (suc c) s m - s % 2 ≡ count lo (side s m)
-unfolding made count
-low-shut c s m = omega arith
+pub low-none : (a c s m : ℕ) → m ≡ 0 → made a c s m - s % 2 ≡ 0
+low-none a c s m e = omega (arith, made-most a c s m)
 
 -- ---- the next level, as the code finds it
 pub start-is : (s b : ℕ) → ((n : ℕ) → b ≡ next (side s n) .start) → b ≡ (s + 1) / 2
@@ -174,50 +182,48 @@ pub next-is : (s n b m : ℕ) → ((n : ℕ) → b ≡ next (side s n) .start) �
 next-is s n b m e f = ap₂ side (e n) (f ∙ sym (next-length (side s n)))
 
 -- ---- whether a row completes a set
-pub completes-yes : (s m n : ℕ) → s % 2 + m ≡ 2 * n + 2 → completes s m ≡ true
+pub completes-yes : (a s m n : ℕ) → s % 2 + m ≡ 2 * n + 2 * a → completes a s m ≡ true
 unfolding completes
-completes-yes s m n e = simp (eq-eqb ((s % 2 + m) % 2) 0 (omega arith), lt-ltb 1 (s % 2 + m) (omega arith))
+completes-yes a s m n e = simp (eq-eqb ((s % 2 + m) % 2) 0 (omega arith), le-leb (2 * a) (s % 2 + m) (omega arith))
 
-pub completes-first : (s m : ℕ) → s % 2 + m < 2 → completes s m ≡ false
+pub completes-first : (a s m : ℕ) → s % 2 + m < 2 * a → completes a s m ≡ false
 unfolding completes
-completes-first s m h = simp (le-ltb 1 (s % 2 + m) (omega arith)) (last (eqb ((s % 2 + m) % 2) 0))
+completes-first a s m h = simp (lt-leb (2 * a) (s % 2 + m) h) (last (eqb ((s % 2 + m) % 2) 0))
   where
     last : (a : Bool) → both a false ≡ false
     last true = refl
     last false = refl
 
-pub completes-odd : (s m : ℕ) → (s % 2 + m) % 2 ≡ 1 → completes s m ≡ false
+pub completes-late : (a s m : ℕ) → 2 * a ≤ s % 2 + m → eqb ((s % 2 + m) % 2) 0 ≡ completes a s m
 unfolding completes
-completes-odd s m e = simp (ne-eqb ((s % 2 + m) % 2) 0 (omega arith))
-
-pub completes-late : (s m : ℕ) → 2 ≤ s % 2 + m → eqb ((s % 2 + m) % 2) 0 ≡ completes s m
-unfolding completes
-completes-late s m h = simp (lt-ltb 1 (s % 2 + m) (omega arith)) (sym (last (eqb ((s % 2 + m) % 2) 0)))
+completes-late a s m h = simp (le-leb (2 * a) (s % 2 + m) h) (sym (last (eqb ((s % 2 + m) % 2) 0)))
   where
     last : (a : Bool) → both a true ≡ a
     last true = refl
     last false = refl
 
 -- of a row that does, the set; of one that does not, one set more is not made
-pub completes-set : (s m : ℕ) → completes s m ≡ true → s % 2 + m ≡ 2 * ((s % 2 + m) / 2 - 1) + 2
+pub completes-set : (a s m : ℕ) → completes a s m ≡ true → s % 2 + m ≡ 2 * ((s % 2 + m) / 2 - a) + 2 * a
 unfolding completes
-completes-set s m e =
-    let p = sweep.both (eqb ((s % 2 + m) % 2) 0) (ltb 1 (s % 2 + m)) e in
-    omega (arith, eqb-true ((s % 2 + m) % 2) 0 (p .0), ltb-true 1 (s % 2 + m) (p .1))
+completes-set a s m e =
+    let p = sweep.both (eqb ((s % 2 + m) % 2) 0) (leb (2 * a) (s % 2 + m)) e in
+    omega (arith, eqb-true ((s % 2 + m) % 2) 0 (p .0), leb-true (2 * a) (s % 2 + m) (p .1))
 
-pub completes-no : (s m : ℕ) → completes s m ≡ false → made 0 s (suc m) ≡ made 0 s m
-unfolding made
-completes-no s m e =
+rows-make : (a s m : ℕ) → 1 ≤ a → made a 0 s (suc m) ≡ (s % 2 + m) / 2 + 1 - a
+rows-make a s m one = let e : suc m - 1 ≡ m = omega arith in made-open a s (suc m) one ∙ ap (λ i. (s % 2 + i) / 2 + 1 - a) e
+
+pub completes-no : (a s m : ℕ) → 1 ≤ a → completes a s m ≡ false → made a 0 s (suc m) ≡ made a 0 s m
+completes-no a s m one e =
     elim (ℕ-discrete ((s % 2 + m) % 2) 0) [
       | yes d ↦
-          elim (decLt 1 (s % 2 + m)) [
-            | yes h ↦
-                let z : false ≡ true = sym e ∙ completes-yes s m ((s % 2 + m) / 2 - 1) (omega arith) in
+          elim (decLt (s % 2 + m) (2 * a)) [
+            | yes h ↦ omega (arith, rows-make a s m one, made-open a s m one)
+            | no h ↦
+                let z : false ≡ true = sym e ∙ completes-yes a s m ((s % 2 + m) / 2 - a) (omega arith) in
                 let y : _≡_ {A = ℕ} 0 1 = ap (λ t. pick t 1 0) z in
                 absurd (omega arith)
-            | no h ↦ omega arith
           ]
-      | no d ↦ omega (arith, d)
+      | no d ↦ omega (arith, d, rows-make a s m one, made-open a s m one)
     ]
 
 -- ---- whether a set gives a row to the levels below

@@ -13,13 +13,10 @@ use lib.ListN.{length, take, getD}
 use lib.Dec.{leb, le→leb}
 use Rattle.numbers.specs.Signal.{pick}
 use Rattle.numbers.specs.Word.{whole}
-use Rattle.lifting.specs.FiveThree.{fiveThreeFilter}
-use Rattle.lifting.proofs.FiveThreeFilter.{five-three-laws}
 use Rattle.wavelet.specs.Limits.{maxWidth, maxHeight, maxLevels, maxSample, maxOrigin}
 use Rattle.wavelet.specs.Bands.{Grid}
 use Rattle.wavelet.specs.Questions.{within}
 use Rattle.wavelet.specs.Order.{RowName, inTurn, times, madeBy, closing, made}
-use Rattle.wavelet.proofs.LimitLaws.{five-three-few}
 use Rattle.wavelet.proofs.QuestionLaws.{within-true}
 use Rattle.wavelet.proofs.OrderLaws.{turn-prefix}
 use Rattle.lifting.specs.Grid.{Side, side}
@@ -30,11 +27,13 @@ use Rattle.wavelet.proofs.OrderOnce.{made-once}
 use Rattle.wavelet.proofs.Bridge.{map-band}
 use Rattle.calls.specs.Lists.{All}
 use Rattle.calls.proofs.AllLaws.{all-map, all-take, all-at}
-use Rattle.level.specs.Level.{Memory, rest}
+use Rattle.level.specs.Level.{Memory, rest, ahead}
+use Rattle.writer.specs.Kind.{kind}
 use Rattle.writer.specs.Taking.{columnsOf}
 use Rattle.writer.specs.Questions.{inRanges, setUpQuestion}
 use Rattle.writer.specs.History.{Call, row, Event, World, event, events, final, freshWorld, taken, finishes, finishedBy, DrawnRow, drawn}
 use Rattle.writer.specs.Demand3.{wholeRows, madeOf, waitingOf, answered, Begins, MapOf, HasValues, PlaneDrawn, Demand3}
+use Rattle.writer.proofs.KindLaws.{filter-laws, filter-few}
 use Rattle.writer.proofs.CountLaws.{code-one}
 use Rattle.writer.proofs.StateHolds.{differ, st}
 use Rattle.writer.proofs.CallLaws.{set-up-passed}
@@ -54,9 +53,9 @@ right-values L W top H g few es m d t = record {
   are = λ b e j p.
       let same : b ≡ t .band = code-one b (t .band) (sym e ∙ t .band-is) in
       t .values j p
-      ∙ map-band fiveThreeFilter five-three-laws W (side top H) g (m .map) (t .depth) (five-three-few (omega (arith, t .deep))) (t .band) (d .row .row) j
+      ∙ map-band (kind .filter) filter-laws W (side top H) g (m .map) (t .depth) (filter-few (omega (arith, t .deep))) (t .band) (d .row .row) j
       (t .row-in) (subst (λ k. j < k) (t .length-is) p)
-      ∙ ap₂ (λ k c. levelBand fiveThreeFilter whole W (side top H) g k c (d .row .row) j) (sym (t .level-is)) (sym same);
+      ∙ ap₂ (λ k c. levelBand (kind .filter) whole W (side top H) g k c (d .row .row) j) (sym (t .level-is)) (sym same);
 }
 
 -- a map that begins with the heights taken has at least the rows taken whole
@@ -108,13 +107,14 @@ pub height-range : (h : ℕ) → h ≤ maxSample → (pos 0 ≤ℤ pos h) × (po
 height-range h p = (record { le = le→leb 0 h (omega arith) }, record { le = le→leb h maxSample p })
 
 -- the rows made so far are the first of all
-made-prefix : (W : Side) (top L H r : ℕ) → r ≤ H → (k : List RowName) × (made 1 W top L r false ++ k ≡ made 1 W top L H true)
+made-prefix : (W : Side) (top L H r : ℕ) → r ≤ H → (k : List RowName) × (made (ahead kind) W top L r false ++ k ≡ made (ahead kind) W top L H true)
 unfolding made
 made-prefix W top L H r h =
-    let q = turn-prefix H r (madeBy 1 L 1 W top) h in (
-      q .0 ++ closing 1 L 1 W (side top H),
-      ap (λ b. b ++ (q .0 ++ closing 1 L 1 W (side top H))) (append-nil (inTurn r (madeBy 1 L 1 W top)))
-          ∙ sym (append-assoc (inTurn r (madeBy 1 L 1 W top)) (q .0) (closing 1 L 1 W (side top H))) ∙ ap (λ b. b ++ closing 1 L 1 W (side top H)) (q .1),
+    let q = turn-prefix H r (madeBy (ahead kind) L 1 W top) h in (
+      q .0 ++ closing (ahead kind) L 1 W (side top H),
+      ap (λ b. b ++ (q .0 ++ closing (ahead kind) L 1 W (side top H))) (append-nil (inTurn r (madeBy (ahead kind) L 1 W top)))
+          ∙ sym (append-assoc (inTurn r (madeBy (ahead kind) L 1 W top)) (q .0) (closing (ahead kind) L 1 W (side top H)))
+          ∙ ap (λ b. b ++ closing (ahead kind) L 1 W (side top H)) (q .1),
     )
 
 module _ (l : ℕ) (W : Side) (top : ℕ) (from : W .start ≤ maxOrigin) (low : top ≤ maxOrigin) (wide : within 1 maxWidth (W .length) ≡ true)
@@ -135,9 +135,9 @@ module _ (l : ℕ) (W : Side) (top : ℕ) (from : W .start ≤ maxOrigin) (low :
   waiting-here : waitingOf W top M es ≡ coming M W top g₀ cl v i r
   waiting-here = waiting-coming l W top from low wide deep es n r c cl v i x long a
 
-  made-here : madeOf W top M es ≡ made 1 W top M r g₀
+  made-here : madeOf W top M es ≡ made (ahead kind) W top M r g₀
   unfolding madeOf
-  made-here = ap (λ b. made 1 W top M b g₀) rows-here
+  made-here = ap (λ b. made (ahead kind) W top M b g₀) rows-here
 
   ordered : map (λ d. d .row) (drawn es) ++ map (answered W) (waitingOf W top M es) ≡ map (answered W) (madeOf W top M es)
   ordered =
@@ -146,20 +146,20 @@ module _ (l : ℕ) (W : Side) (top : ℕ) (from : W .start ≤ maxOrigin) (low :
       ∙ sym (map-append (answered W) (s .names) (coming M W top g₀ cl v i r))
       ∙ ap (map (answered W)) (s .order ∙ sym made-here)
 
-  firsts : (H : ℕ) (g : Grid) → MapOf W H g es → (k : List RowName) × (made 1 W top M r g₀ ++ k ≡ made 1 W top M H true)
+  firsts : (H : ℕ) (g : Grid) → MapOf W H g es → (k : List RowName) × (made (ahead kind) W top M r g₀ ++ k ≡ made (ahead kind) W top M H true)
   firsts H g m = go g₀ refl
     where
       t : Fits W H g (taken es) g₀
       t = map-fits W H g es m
 
-      go : (b : Bool) → g₀ ≡ b → (k : List RowName) × (made 1 W top M r b ++ k ≡ made 1 W top M H true)
+      go : (b : Bool) → g₀ ≡ b → (k : List RowName) × (made (ahead kind) W top M r b ++ k ≡ made (ahead kind) W top M H true)
       go false e = made-prefix W top M H r (rows-within (W .length) H r c (some-width (W .length) wide) (omega (arith, a .counted, t .within)))
       go true e =
           let z : r ≡ H = rows-all (W .length) H r c (some-width (W .length) wide) (a .ended e .1) (sym (a .counted) ∙ t .whole e) in
-          ([], append-nil _ ∙ ap (λ b. made 1 W top M b true) z)
+          ([], append-nil _ ∙ ap (λ b. made (ahead kind) W top M b true) z)
 
   is-first : (H : ℕ) (g : Grid) → MapOf W H g es → (k : List RowName) × (map (λ d. d .row) (drawn es) ++ map (answered W) k ≡ map (answered W)
-      (made 1 W top M H true))
+      (made (ahead kind) W top M H true))
   is-first H g m =
       let s = own-sound a in
       let p = firsts H g m in (
@@ -185,13 +185,14 @@ module _ (l : ℕ) (W : Side) (top : ℕ) (from : W .start ≤ maxOrigin) (low :
     },
   )
 
-  early : (H : ℕ) (g : Grid) → Begins W H g es → All (HasValues W top H g) (take (length (made 1 W top M (wholeRows W es) false)) (drawn es))
+  early : (H : ℕ) (g : Grid) → Begins W H g es → All (HasValues W top H g) (take (length (made (ahead kind) W top M (wholeRows W es) false)) (drawn es))
   early H g m =
-      subst (λ k. All (HasValues W top H g) (take (length (made 1 W top M k false)) (drawn es))) (sym rows-here)
+      subst (λ k. All (HasValues W top H g) (take (length (made (ahead kind) W top M k false)) (drawn es))) (sym rows-here)
       (all-map (right-values M W top H g (few-levels l deep) es m) (go g₀ refl a))
     where
-      go : (b : Bool) → g₀ ≡ b → At M W top (taken es) g₀ (drawn es) r c cl v i x → All (Right M W top H g) (take (length (made 1 W top M r false)) (drawn es))
-      go false e h = all-take (length (made 1 W top M r false)) (subst (λ b. At M W top (taken es) b (drawn es) r c cl v i x) e h .sound H g
+      go : (b : Bool) → g₀ ≡ b → At M W top (taken es) g₀ (drawn es) r c cl v i x →
+          All (Right M W top H g) (take (length (made (ahead kind) W top M r false)) (drawn es))
+      go false e h = all-take (length (made (ahead kind) W top M r false)) (subst (λ b. At M W top (taken es) b (drawn es) r c cl v i x) e h .sound H g
           (begins-fits W H g es m) .values)
       go true e h = h .early e .right H g (begins-fits W H g es m)
 
@@ -209,8 +210,8 @@ module _ (l : ℕ) (W : Side) (top : ℕ) (from : W .start ≤ maxOrigin) (low :
     names = madeOf W top M es;
     answers = sym (append-nil _) ∙ ap (λ b. map (λ d. d .row) (drawn es) ++ map (answered W) b) (sym z) ∙ ordered;
     once = λ y.
-        ap (times y) (made-here ∙ ap (made 1 W top M r) e)
-        ∙ made-once 1 (omega arith) W (side top r) M y
+        ap (times y) (made-here ∙ ap (made (ahead kind) W top M r) e)
+        ∙ made-once (ahead kind) (omega arith) W (side top r) M y
         ∙ ap (λ b. pick (bandRowExists W (side top b) M (y .level) (y .band) (y .row)) 1 0) (sym rows-here);
   }
 

@@ -4,14 +4,14 @@ use Prim.Native.Nat.{ℕ, zero, suc, _+_, _-_, _*_, _/_, _≤_, _<_, _^_}
 use native.Mathlib.Decide.{decLt}
 use native.Mathlib.Omega.{arith}
 use Rattle.lifting.specs.Grid.{Side, side, count}
-use Rattle.wavelet.specs.Bands.{Band, LL, HL, LH, HH, across, code}
+use Rattle.wavelet.specs.Bands.{across, code}
 use Rattle.wavelet.specs.Levels.{next}
 use Rattle.wavelet.specs.Order.{setRow}
-use Rattle.wavelet.proofs.SideLaws.{count-sum, next-le}
+use Rattle.wavelet.proofs.SideLaws.{next-le}
 use Rattle.wavelet.proofs.StoreLaws.{store-back, store-next}
-use Rattle.level.specs.Level.{Memory, prev, rest, joinAt}
+use Rattle.level.specs.Level.{Memory, prev, rest, joinAt, ahead}
 use Rattle.level.specs.FiveThreeLevel.{fiveThree, bandPlace}
-use Rattle.level.proofs.Places.{slot-room, prev-is}
+use Rattle.level.proofs.Places.{place-room, prev-is}
 use Rattle.level.proofs.RestLaws.{rest-at, join-below, join-past}
 use Rattle.writer.specs.declared.Writer.{Writer}
 use Rattle.writer.specs.declared.cascade.Wait.{Wait}
@@ -27,16 +27,12 @@ use Rattle.writer.proofs.CountLaws.{start-first, start-deeper, further-
 use Rattle.writer.proofs.CountLaws.{deeper-by-some, deeper-by-le, made-le, low-le, start-more}
 use Rattle.writer.proofs.CascadeLaws.{left-same, settled-waits, settled-goes}
 
--- a band row lies within its level's stretch
-pub place-room : (W : Side) (n : ℕ) (b : Band) → bandPlace W n b + count (across b) W ≤ 4 * W .length
-unfolding bandPlace across
-place-room W n LL = omega (arith, slot-room (W .length) (2 * n), count-sum W)
-place-room W n HL = omega (arith, slot-room (W .length) (2 * n), count-sum W)
-place-room W n LH = omega (arith, slot-room (W .length) (2 * n + 3), count-sum W)
-place-room W n HH = omega (arith, slot-room (W .length) (2 * n + 3), count-sum W)
+-- the look-ahead
+abbrev A : ℕ
+A = ahead fiveThree
 
 module _ (w : Side) (s c i m : ℕ) where
-  pub waiting-here : (l v : ℕ) → 0 < l → v ≡ 1 → waiting fiveThree l w s c v i m ≡ rowOf fiveThree w (side s m) (prev (made c s m)) (bandAt (prev i))
+  pub waiting-here : (l v : ℕ) → 0 < l → v ≡ 1 → waiting fiveThree l w s c v i m ≡ rowOf fiveThree w (side s m) (prev (made A c s m)) (bandAt (prev i))
   unfolding waiting
   waiting-here zero v h e = absurd (omega arith)
   waiting-here (suc l) zero h e = absurd (omega arith)
@@ -44,7 +40,7 @@ module _ (w : Side) (s c i m : ℕ) where
   waiting-here (suc l) (suc (suc v)) h e = absurd (omega arith)
 
   pub waiting-below : (l v : ℕ) → 0 < l → 1 < v → waiting fiveThree l w s c v i m ≡ lower (4 * w .length) (waiting fiveThree (l - 1) (next w)
-      ((s + 1) / 2) (prev c) (v - 1) i (lowRows s (made c s m)))
+      ((s + 1) / 2) (c - A) (v - 1) i (lowRows s (made A c s m)))
   unfolding waiting
   waiting-below zero v h e = absurd (omega arith)
   waiting-below (suc l) zero h e = absurd (omega arith)
@@ -54,8 +50,8 @@ module _ (w : Side) (s c i m : ℕ) where
       let q : suc (suc v) - 1 ≡ suc v = omega arith in
       rw (p, q) refl
 
-  pub pull-here : (l v : ℕ) (x : Memory) → 0 < l → v ≡ 1 → pull fiveThree l w s c v i m x ≡ settled (passOn fiveThree (l - 1) w s) (prev (made c s m)) x
-      (skip w (side s m) (prev (made c s m)) (prev i))
+  pub pull-here : (l v : ℕ) (x : Memory) → 0 < l → v ≡ 1 → pull fiveThree l w s c v i m x ≡ settled (passOn fiveThree (l - 1) w s) (prev (made A c s m)) x
+      (skip w (side s m) (prev (made A c s m)) (prev i))
   unfolding pull
   pull-here zero v x h e = absurd (omega arith)
   pull-here (suc l) zero x h e = absurd (omega arith)
@@ -63,7 +59,7 @@ module _ (w : Side) (s c i m : ℕ) where
   pull-here (suc l) (suc (suc v)) x h e = absurd (omega arith)
 
   pub pull-below : (l v : ℕ) (x : Memory) → 0 < l → 1 < v → pull fiveThree l w s c v i m x ≡ under (4 * w .length) x (pull fiveThree (l - 1) (next w)
-      ((s + 1) / 2) (prev c) (v - 1) i (lowRows s (made c s m)) (rest (4 * w .length) x))
+      ((s + 1) / 2) (c - A) (v - 1) i (lowRows s (made A c s m)) (rest (4 * w .length) x))
   unfolding pull
   pull-below zero v x h e = absurd (omega arith)
   pull-below (suc l) zero x h e = absurd (omega arith)
@@ -116,16 +112,16 @@ from-first x o = rw (join-first x (o .store), deeper-by-same (o .level)) refl
 
 module _ (w : Side) (s c m l v a i : ℕ) (e : v ≡ 1) (z : a ≡ 0) where
   abbrev first : Level
-  first = record { below = l; width = w .length; x = w .start; rows = m; y = s; set = prev (made c s m) }
+  first = record { below = l; width = w .length; x = w .start; rows = m; y = s; set = prev (made A c s m) }
 
-  at-first : waitingAt v a first i ≡ rowOf fiveThree w (side s m) (prev (made c s m)) (bandAt (prev i))
+  at-first : waitingAt v a first i ≡ rowOf fiveThree w (side s m) (prev (made A c s m)) (bandAt (prev i))
   unfolding waitingAt
   at-first =
-      let k : 0 + bandPlace w (prev (made c s m)) (bandAt (prev i)) ≡ bandPlace w (prev (made c s m)) (bandAt (prev i)) = omega arith in
+      let k : 0 + bandPlace w (prev (made A c s m)) (bandAt (prev i)) ≡ bandPlace w (prev (made A c s m)) (bandAt (prev i)) = omega arith in
       rw (z, e, k) refl
 
   pull-first : (x : Memory) → pullAt v a first i x ≡ settled (passOn fiveThree l w s)
-      (prev (made c s m)) x (skip w (side s m) (prev (made c s m)) (prev i))
+      (prev (made A c s m)) x (skip w (side s m) (prev (made A c s m)) (prev i))
   unfolding pullAt
   pull-first x = rw (z, e, rest-first x) (from-first x _)
 
@@ -139,7 +135,7 @@ starts-here w v (suc u) e =
     ap (λ (k : ℕ). startOf w (deeperBy k (suc u))) k ∙ ap (startOf w) (deeper-by-same (suc u)) ∙ q ∙ further-some (suc u) (startOf w v) _ (omega arith)
 
 pub reaches-here : (l : ℕ) (w : Side) (s c v m : ℕ) → 0 < l → v ≡ 1 → w .length < 2 ^ 16 → m < 2 ^ 32 →
-    Reaches l w s c v m (record { below = l - 1; width = w .length; x = w .start; rows = m; y = s; set = prev (made c s m) })
+    Reaches l w s c v m (record { below = l - 1; width = w .length; x = w .start; rows = m; y = s; set = prev (made A c s m) })
 reaches-here l w s c v m h e g g′ =
     let z = start-first w v (omega arith) in
     let k : l - 1 + 1 ≡ l = omega arith in
@@ -150,7 +146,7 @@ reaches-here l w s c v m h e g g′ =
       room = rw (z, k) (omega arith);
       wide = g;
       rows = g′;
-      sets = omega (arith, prev-is (made c s m), made-le c s m);
+      sets = omega (arith, prev-is (made A c s m), made-le A c s m);
       deep = omega arith;
     }
 
@@ -196,10 +192,10 @@ starts-below w v h (suc u) g f =
     ∙ sum
     ∙ further-some (suc u) (startOf w v) _ (omega arith)
 
-pub reaches-below : (l : ℕ) (w : Side) (s c v m : ℕ) (h : Side) (b p k : ℕ) (r : Level) → 1 < v → v ≤ l → h ≡ next w → b ≡ (s + 1) / 2 → p ≡ prev c →
-    k ≡ lowRows s (made c s m) → Reaches (l - 1) h b p (v - 1) k r → Reaches l w s c v m r
+pub reaches-below : (l : ℕ) (w : Side) (s c v m : ℕ) (h : Side) (b p k : ℕ) (r : Level) → 1 < v → v ≤ l → h ≡ next w → b ≡ (s + 1) / 2 → p ≡ c - A →
+    k ≡ lowRows s (made A c s m) → Reaches (l - 1) h b p (v - 1) k r → Reaches l w s c v m r
 reaches-below l w s c v m h b p k r g g′ eh eb ep ek f =
-    let below : Reaches (l - 1) (next w) ((s + 1) / 2) (prev c) (v - 1) (lowRows s (made c s m)) r = rw (eh, eb, ep, ek) at f in
+    let below : Reaches (l - 1) (next w) ((s + 1) / 2) (c - A) (v - 1) (lowRows s (made A c s m)) r = rw (eh, eb, ep, ek) at f in
     record {
       waits = λ i. waiting-below w s c i m l v (omega arith) g ∙ ap (lower (4 * w .length)) (below .waits i) ∙ at-below w v r i g;
       pulls =
@@ -228,7 +224,7 @@ module _ (l : ℕ) (w : Side) (s c v m : ℕ) where
       record { first = h .first; last = omega arith; wide = h .wide; rows = h .rows; found = λ r f. rw e at f }
 
   module _ (u : Side) (t b n k : ℕ) (d : v ≤ l) (h : Walked u t b n k) where
-    pub walk-on : (u′ : Side) (t′ b′ n′ : ℕ) → 1 < k → u′ ≡ next u → t′ ≡ (t + 1) / 2 → b′ ≡ prev b → n′ ≡ lowRows t (made b t n) → Walked u′ t′ b′ n′ (k - 1)
+    pub walk-on : (u′ : Side) (t′ b′ n′ : ℕ) → 1 < k → u′ ≡ next u → t′ ≡ (t + 1) / 2 → b′ ≡ b - A → n′ ≡ lowRows t (made A b t n) → Walked u′ t′ b′ n′ (k - 1)
     walk-on u′ t′ b′ n′ g eu et eb en =
         let below : (r : Level) → Reaches (l - (v - (k - 1))) u′ t′ b′ (k - 1) n′ r → Reaches l w s c v m r =
         λ r f.
@@ -238,17 +234,17 @@ module _ (l : ℕ) (w : Side) (s c v m : ℕ) where
           first = omega arith;
           last = omega (arith, h .last);
           wide = omega (arith, h .wide, next-le u, ap (λ (S : Side). S .length) eu);
-          rows = omega (arith, h .rows, low-le b t n);
+          rows = omega (arith, h .rows, low-le A b t n);
           found = below;
         }
 
-    pub walk-end : (i j : ℕ) → k ≤ 1 → i ≡ made b t n → j ≡ prev i →
+    pub walk-end : (i j : ℕ) → k ≤ 1 → i ≡ made A b t n → j ≡ prev i →
         Reaches l w s c v m (record { below = l - v; width = u .length; x = u .start; rows = n; y = t; set = j })
     walk-end i j g ei ej =
         let e : l - (v - k) - 1 ≡ l - v = omega (arith, h .first, h .last) in
-        let z : prev (made b t n) ≡ j = sym (ej ∙ ap prev ei) in
+        let z : prev (made A b t n) ≡ j = sym (ej ∙ ap prev ei) in
         let f :
-        Reaches (l - (v - k)) u t b k n (record { below = l - (v - k) - 1; width = u .length; x = u .start; rows = n; y = t; set = prev (made b t n) }) =
+        Reaches (l - (v - k)) u t b k n (record { below = l - (v - k) - 1; width = u .length; x = u .start; rows = n; y = t; set = prev (made A b t n) }) =
         reaches-here (l - (v - k)) u t b k n (omega (arith, h .first, h .last)) (omega (arith, h .first)) (h .wide) (h .rows) in
         h .found _ (rw (e, z) at f)
 

@@ -1,7 +1,7 @@
 -- What the gate questions say. Assumes nothing.
 use mathlib.Core.Path.{_≡_, refl, sym, ap, _∙_}
 use mathlib.Core.Bool.{Bool, true, false, not}
-use Prim.Native.Nat.{ℕ, suc, _+_, _*_, _≤_, _<_, _-_}
+use Prim.Native.Nat.{ℕ, suc, _+_, _*_, _^_, _≤_, _<_, _-_}
 use native.Mathlib.Omega.{arith}
 use lib.Dec.{leb, ltb, eqb}
 use borrow.Author.Tests.{leb-true, ltb-true, le-leb, lt-leb, lt-ltb, le-ltb, eq-eqb, ne-eqb, eqb-true, eqb-false}
@@ -10,9 +10,12 @@ use Rattle.numbers.proofs.Sweep as sweep
 use Rattle.wavelet.specs.Limits.{maxWidth, maxHeight, maxLevels, maxOrigin}
 use Rattle.wavelet.specs.Questions.{ask, within}
 use Rattle.lifting.specs.Grid.{Side}
+use Rattle.wavelet.proofs.LimitLaws.{levels-small}
 use Rattle.wavelet.proofs.QuestionLaws.{within-true}
 use Rattle.wavelet.specs.Levels.{next}
 use Rattle.wavelet.specs.Store.{storeLength}
+use Rattle.level.specs.Level.{ahead}
+use Rattle.level.specs.FiveThreeLevel.{fiveThree}
 use Rattle.writer.specs.declared.Writer.{Writer}
 use Rattle.writer.specs.Counts.{mostLeft, startOf}
 use Rattle.writer.specs.Taking.{columnsOf}
@@ -43,7 +46,7 @@ module _ (p q : ℕ) where
 -- ---- question 1, the tests of sizes and counts passed: what waits is left
 pub ranges-last : (s : Writer) → onGrid (s .x) (s .y) ≡ true → within 1 maxWidth (s .width) ≡ true → within 1 maxLevels (s .levels) ≡ true →
     s .rows ≤ maxHeight → s .column < s .width →
-    s .closed ≤ s .levels → s .level ≤ s .levels → (b : Bool) → b ≡ both (leb (s .left) (mostLeft (s .levels) (s .level)))
+    s .closed ≤ ahead fiveThree * s .levels → s .level ≤ s .levels → (b : Bool) → b ≡ both (leb (s .left) (mostLeft (s .levels) (s .level)))
     (eqb (s .offset) (startOf (columnsOf s) (s .level))) → b ≡ inRanges s
 unfolding inRanges
 ranges-last s o a b d e f g t is = is ∙ simp (o, a, b, le-leb _ _ d, lt-ltb _ _ e, le-leb _ _ f, le-leb _ _ g)
@@ -60,16 +63,15 @@ module _ (a k : ℕ) (t : Bool) where
 pub begins-short : (w : Side) (k o : ℕ) → 1 < k → o < 4 * w .length → false ≡ eqb o (startOf w k)
 begins-short w k o h g = sym (ne-eqb o (startOf w k) (λ e. absurd (omega (arith, start-more w k h))))
 
-pub begins-on : (w : Side) (k o : ℕ) (h : Side) → 1 < k → 4 * w .length ≤ o → h ≡ next w → eqb (o - 4 * w .length) (startOf h (k - 1)) ≡ eqb o (startOf w k)
-begins-on w k o h g f e = go (eqb o (startOf w k)) refl
+pub begins-on : (w : Side) (k o a : ℕ) (h : Side) → a ≡ 4 * w .length → 1 < k → a ≤ o → h ≡ next w → eqb (o - a) (startOf h (k - 1)) ≡ eqb o (startOf w k)
+begins-on w k o a h s g f e = go (eqb o (startOf w k)) refl
   where
-    more : 4 * w .length + startOf h (k - 1) ≡ startOf w k
-    more = rw e (start-more w k g)
+    more : a + startOf h (k - 1) ≡ startOf w k
+    more = rw (s, e) (start-more w k g)
 
-    go : (t : Bool) → eqb o (startOf w k) ≡ t → eqb (o - 4 * w .length) (startOf h (k - 1)) ≡ t
-    go true d = eq-eqb (o - 4 * w .length) (startOf h (k - 1)) (omega (arith, eqb-true o (startOf w k) d, more))
-    go false d =
-        ne-eqb (o - 4 * w .length) (startOf h (k - 1)) (λ (z : o - 4 * w .length ≡ startOf h (k - 1)). eqb-false o (startOf w k) d (omega (arith, more)))
+    go : (t : Bool) → eqb o (startOf w k) ≡ t → eqb (o - a) (startOf h (k - 1)) ≡ t
+    go true d = eq-eqb (o - a) (startOf h (k - 1)) (omega (arith, eqb-true o (startOf w k) d, more))
+    go false d = ne-eqb (o - a) (startOf h (k - 1)) (λ (z : o - a ≡ startOf h (k - 1)). eqb-false o (startOf w k) d (omega (arith, more)))
 
 pub begins-first : (w : Side) (k o : ℕ) → k ≤ 1 → eqb o 0 ≡ eqb o (startOf w k)
 begins-first w k o h = ap (eqb o) (sym (start-first w k h))
@@ -79,10 +81,11 @@ pub record Sound (s : Writer) (n : ℕ) : Type 0 where
   pub across : s .x ≤ maxOrigin
   pub down : s .y ≤ maxOrigin
   pub width : (1 ≤ s .width) × (s .width ≤ maxWidth)
-  pub levels : (1 ≤ s .levels) × (s .levels ≤ 5)
+  pub levels : (1 ≤ s .levels) × (s .levels ≤ maxLevels)
+  pub deep : s .levels < 2 ^ 16
   pub rows : s .rows ≤ maxHeight
   pub column : s .column < s .width
-  pub closed : s .closed ≤ s .levels
+  pub closed : s .closed ≤ ahead fiveThree * s .levels
   pub level : s .level ≤ s .levels
   pub left : s .left ≤ mostLeft (s .levels) (s .level)
   pub placed : s .offset ≡ startOf (columnsOf s) (s .level)
@@ -98,7 +101,7 @@ module _ (s : Writer) (n : ℕ) where
   state-yes x h = asked-yes 0 4 (inRanges s) (longEnough n s) x h
 
   pub sound : stateQuestion s n ≡ 0 → Sound s n
-  unfolding stateQuestion inRanges longEnough maxLevels
+  unfolding stateQuestion inRanges longEnough
   sound h =
       let e = asked-all 0 4 (inRanges s) (longEnough n s) h in
       let o = sweep.both _ _ (e .0) in
@@ -114,7 +117,8 @@ module _ (s : Writer) (n : ℕ) where
         across = leb-true _ _ (p .0);
         down = leb-true _ _ (p .1);
         width = within-true 1 maxWidth _ (a .0);
-        levels = within-true 1 5 _ (b .0);
+        levels = within-true 1 maxLevels _ (b .0);
+        deep = omega (arith, within-true 1 maxLevels _ (b .0), levels-small);
         rows = leb-true _ _ (d .0);
         column = ltb-true _ _ (f .0);
         closed = leb-true _ _ (g .0);

@@ -13,6 +13,7 @@ use Rattle.lifting.specs.Grid.{Side}
 use Rattle.wavelet.specs.Limits.{maxHeight, maxOrigin}
 use Rattle.calls.specs.Lists.{gives, unless, changedUnless, seen, Area}
 use Rattle.calls.specs.Lists as lists
+use Rattle.writer.specs.Kind.{kind}
 use Rattle.writer.specs.declared.Writer.{Writer}
 use Rattle.writer.specs.Counts.{startOf}
 use Rattle.writer.specs.Machine.{Out}
@@ -27,7 +28,6 @@ use Rattle.writer.specs.Before.{Before}
 use Rattle.writer.proofs.StateHolds.{st, fresh-st}
 use Rattle.writer.proofs.Demand3.{columns-kept}
 use Rattle.level.specs.Level.{Memory}
-use Rattle.level.specs.FiveThreeLevel.{fiveThree}
 
 -- the writer before, with its offset
 abbrev carry : Before → Writer
@@ -40,7 +40,7 @@ abbrev taking : before.Taking → Taking
 taking t = record { taken = t .taken; writer = carry (t .writer); store = t .store }
 
 -- ---- heights taken
-same-taking : (run : List ℕ) (b : Before) (x : Memory) → offering fiveThree run (carry b) x ≡ taking (before.offering run b x)
+same-taking : (run : List ℕ) (b : Before) (x : Memory) → offering kind run (carry b) x ≡ taking (before.offering run b x)
 unfolding offering before.offering takes before.takes
 same-taking [] b x = refl
 same-taking (h ∷ run) b x =

@@ -19,6 +19,7 @@ use Rattle.wavelet.specs.View.{bandColumns}
 use Rattle.wavelet.specs.Store.{storeLength}
 use Rattle.calls.specs.Lists.{Reply, gives, refused, unless, seen, Area, gathered, ever}
 use Rattle.calls.proofs.ListLaws.{either-no, gathered-snoc, ever-snoc, list-reached}
+use Rattle.writer.specs.Kind.{kind}
 use Rattle.writer.specs.declared.Writer.{Writer}
 use Rattle.writer.specs.Machine.{Out}
 use Rattle.writer.specs.Draws.{Waiting, waiting, pull}
@@ -35,11 +36,10 @@ use Rattle.writer.proofs.StateHolds.{st, fresh-st}
 use Rattle.writer.proofs.CallLaws.{finish-may, offer-may}
 use Rattle.writer.proofs.CallList.{coming, At, whole-rows, begun-row, in-ranges, waiting-is, none-waits, none-eqb, Offered, offering-good, head-is}
 use Rattle.writer.proofs.CallList.{draw-good, finish-good, fresh-at}
-use Rattle.level.specs.Level.{Memory, rest}
-use Rattle.level.specs.FiveThreeLevel.{fiveThree}
+use Rattle.level.specs.Level.{Memory, rest, ahead}
 
 -- where it may take, an offer of one height or more takes one
-pub takes-one : (run : List ℕ) (s : Writer) (x : Memory) → takes s ≡ true → 0 < length run → 0 < offering fiveThree run s x .taken
+pub takes-one : (run : List ℕ) (s : Writer) (x : Memory) → takes s ≡ true → 0 < length run → 0 < offering kind run s x .taken
 unfolding offering
 takes-one [] s x e p = absurd (omega arith)
 takes-one (h ∷ run) s x e p = rw e (omega arith)
@@ -114,7 +114,7 @@ module _ (l : ℕ) (W : Side) (top : ℕ) (from : W .start ≤ maxOrigin) (low :
 
     pub waiting-coming : waitingOf W top L es ≡ coming L W top f cl v i r
     unfolding waitingOf madeOf
-    waiting-coming = ap (λ m. drop (length (drawn es)) (made 1 W top L m f)) rows-are ∙ waiting-is a
+    waiting-coming = ap (λ m. drop (length (drawn es)) (made (ahead kind) W top L m f)) rows-are ∙ waiting-is a
 
     pub none-is : isNone (waitingOf W top L es) ≡ eqb v 0
     none-is = ap isNone waiting-coming ∙ none-eqb l W top (drawn es) (taken es) f r c cl v i x a
@@ -126,7 +126,7 @@ module _ (l : ℕ) (W : Side) (top : ℕ) (from : W .start ≤ maxOrigin) (low :
 
     module _ (run : List ℕ) where
       abbrev t : Taking
-      t = offering fiveThree run s x
+      t = offering kind run s x
 
       offer-refused : (q : ℕ) → offerQuestion s n (length run) ≡ suc q → (event (offer run) w ≡ offered run (refused (suc q))) × (next (offer run) w ≡ w)
       unfolding event next offerReply offerStore
@@ -146,7 +146,7 @@ module _ (l : ℕ) (W : Side) (top : ℕ) (from : W .start ≤ maxOrigin) (low :
       offer-open e = offer-may s n (length run) e .1
 
       abbrev T : Bool → Taking
-      T b = offering fiveThree run (st W top L r c b cl v i) x
+      T b = offering kind run (st W top L r c b cl v i) x
 
       taking : f ≡ false → Offered l W top (drawn es) run (taken es) (T false)
       taking z = offering-good l W top (drawn es) run (taken es) r c cl v i x (subst (λ b. At L W top (taken es) b (drawn es) r c cl v i x) z a)
@@ -203,7 +203,7 @@ module _ (l : ℕ) (W : Side) (top : ℕ) (from : W .start ≤ maxOrigin) (low :
         go (suc b) = refl
 
     abbrev k : Shut
-    k = shut fiveThree L W top 0 r x
+    k = shut kind L W top 0 r x
 
     finish-passed : finishQuestion s n ≡ 0 →
         (event finish w ≡ finished (gives tt)) × (next finish w ≡ world (st W top L r c true (k .closed) (k .out .level) (k .out .left)) n (k .out .store))
@@ -266,10 +266,10 @@ module _ (l : ℕ) (W : Side) (top : ℕ) (from : W .start ≤ maxOrigin) (low :
     s₁ = st W top L r c f₁ cl (suc u) i
 
     abbrev q : Waiting
-    q = waiting fiveThree L W top cl (suc u) i r
+    q = waiting kind L W top cl (suc u) i r
 
     abbrev o : Out
-    o = pull fiveThree L W top cl (suc u) i r x
+    o = pull kind L W top cl (suc u) i r x
 
     abbrev R : Shut
     R = resumed f₁ s₁ o (o .level)

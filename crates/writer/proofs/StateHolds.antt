@@ -2,16 +2,15 @@
 -- Assumes nothing.
 use mathlib.Core.Bool.{Bool, true, false}
 use mathlib.Core.Path.{_≡_, refl, sym, ap, subst, subst₂}
-use Prim.Native.Nat.{ℕ, zero, suc, _+_, _%_, _≤_, _<_}
+use Prim.Native.Nat.{ℕ, zero, suc, _+_, _*_, _%_, _≤_, _<_}
 use native.Mathlib.Omega.{arith}
 use Rattle.numbers.specs.Signal.{pick, stored}
 use Rattle.wavelet.specs.Bands.{Grid}
 use Rattle.lifting.specs.Grid.{Side, side}
 use Rattle.wavelet.specs.Order.{madeBy}
 use Rattle.wavelet.proofs.StoreLaws.{store-none}
-use Rattle.level.specs.Level.{Memory, LevelKind}
-use Rattle.level.specs.FiveThreeLevel.{cellOf, fiveThree, Kept}
-use Rattle.level.proofs.LevelLaws.{five-three-laws}
+use Rattle.level.specs.Level.{Memory, LevelKind, ahead}
+use Rattle.writer.specs.Kind.{kind, Held, Ended}
 use Rattle.writer.specs.declared.Writer.{Writer}
 use Rattle.writer.specs.Counts.{mostLeft, startOf}
 use Rattle.writer.specs.Machine.{Out, arrive}
@@ -20,6 +19,7 @@ use Rattle.writer.specs.Closing.{Shut, shut}
 use Rattle.writer.specs.Taking.{columnsOf}
 use Rattle.writer.specs.Calls.{fresh, resumed}
 use Rattle.writer.specs.Holds.{LevelsHold, Holds}
+use Rattle.writer.proofs.KindLaws.{kind-laws}
 use Rattle.writer.proofs.CascadeHolds.{Good, Pulled, Closed, cell-good, arrive-good, pull-good, shut-good, fresh-good}
 
 pub differ : false ≡ true → ⊥
@@ -64,11 +64,11 @@ pub fresh-st : (W : Side) (s L : ℕ) → fresh W s L ≡ st W s L 0 0 false 0 0
 fresh-st W s L = placed-st (fresh W s L) (sym (store-none W))
 
 abbrev K : LevelKind
-K = fiveThree
+K = kind
 
 module _ (H : ℕ) (g : Grid) (W : Side) (s L : ℕ) where
   abbrev Inv : (cl v i r c : ℕ) → Memory → Type 0
-  Inv cl v i r c x = LevelsHold K Kept L W (side s H) g cl v i r c x
+  Inv cl v i r c x = LevelsHold kind Held Ended L W (side s H) g cl v i r c x
 
   abbrev Has : (r c : ℕ) → Bool → (cl v i : ℕ) → Memory → Type 0
   Has r c f cl v i x = Holds H g (st W s L r c f cl v i) x
@@ -78,8 +78,8 @@ module _ (H : ℕ) (g : Grid) (W : Side) (s L : ℕ) where
   open-holds r c cl v i x inv few idle z = record { levels = inv; placed = refl; few = few; idle = idle; before = λ _. z; ended = λ e. absurd (differ e) }
 
   -- after it
-  closed-holds : (r c cl v i : ℕ) (x : Memory) → Inv cl v i r c x → i ≤ mostLeft L v → (0 < v → c ≡ 0) → r ≡ H → 0 < r → (v ≡ 0 → cl ≡ L) →
-      Has r c true cl v i x
+  closed-holds : (r c cl v i : ℕ) (x : Memory) → Inv cl v i r c x → i ≤ mostLeft L v → (0 < v → c ≡ 0) → r ≡ H → 0 < r →
+      (v ≡ 0 → cl ≡ ahead kind * L) → Has r c true cl v i x
   closed-holds r c cl v i x inv few idle e p all = record {
     levels = inv;
     placed = refl;
@@ -91,26 +91,26 @@ module _ (H : ℕ) (g : Grid) (W : Side) (s L : ℕ) where
   }
 
   pub fresh-holds : (x : Memory) → Has 0 0 false 0 0 0 x
-  fresh-holds x = open-holds 0 0 0 0 0 x (fresh-good K Kept five-three-laws L W (side s H) g x) (omega arith) (λ _. refl) refl
+  fresh-holds x = open-holds 0 0 0 0 0 x (fresh-good kind Held Ended kind-laws L W (side s H) g x) (omega arith) (λ _. refl) refl
 
   -- ---- a row is drawn
   module _ (r c : ℕ) (f : Bool) (cl v i : ℕ) (x : Memory) (h : Has r c f cl (suc v) i x) where
     pub none-begun : c ≡ 0
     none-begun = h .idle (omega arith)
 
-    pub pulled-by : Pulled K Kept five-three-laws L 1 W (side s H) g cl v i r x
-    pulled-by = pull-good K Kept five-three-laws L 1 W (side s H) g cl v i r c x (h .few) none-begun (h .levels)
+    pub pulled-by : Pulled kind Held Ended kind-laws L 1 W (side s H) g cl v i r x
+    pulled-by = pull-good kind Held Ended kind-laws L 1 W (side s H) g cl v i r c x (h .few) none-begun (h .levels)
 
     abbrev o : Out
     o = pull K L W s cl (suc v) i r x
 
   -- the levels close on once nothing waits
   pub shut-on : (r c cl v i : ℕ) (x : Memory) (h : Has r c true cl (suc v) i x) → (let o = pull K L W s cl (suc v) i r x in o .level ≡ 0 →
-      Closed K Kept five-three-laws L 1 W (side s H) g cl r (shut K L W s cl r (o .store)))
+      Closed kind Held Ended kind-laws L 1 W (side s H) g cl r (shut K L W s cl r (o .store)))
   shut-on r c cl v i x h y =
       let o = pull K L W s cl (suc v) i r x in
       let e = h .ended refl in
-      shut-good K Kept five-three-laws L 1 W (side s H) g cl r (o .left) (o .store) (e .0) (subst (λ b. Inv cl b (o .left) r 0 (o .store)) y
+      shut-good kind Held Ended kind-laws L 1 W (side s H) g cl r (o .left) (o .store) (e .0) (subst (λ b. Inv cl b (o .left) r 0 (o .store)) y
       (pulled-by r c true cl v i x h .good .inv))
 
   draw-open : (r c cl v i : ℕ) (x : Memory) → Has r c false cl (suc v) i x → (let o = pull K L W s cl (suc v) i r x in
@@ -152,8 +152,8 @@ module _ (H : ℕ) (g : Grid) (W : Side) (s L : ℕ) where
     abbrev k : Shut
     k = shut K L W s 0 r x
 
-    pub shut-first : Closed K Kept five-three-laws L 1 W (side s H) g 0 r k
-    shut-first = shut-good K Kept five-three-laws L 1 W (side s H) g 0 r i x e (subst₂ (λ b d. Inv 0 b i r d x) z n (subst (λ b. Inv b v i r c x)
+    pub shut-first : Closed kind Held Ended kind-laws L 1 W (side s H) g 0 r k
+    shut-first = shut-good kind Held Ended kind-laws L 1 W (side s H) g 0 r i x e (subst₂ (λ b d. Inv 0 b i r d x) z n (subst (λ b. Inv b v i r c x)
         (h .before refl) (h .levels)))
 
     pub finish-holds : Has r c true (k .closed) (k .out .level) (k .out .left) (k .out .store)
@@ -165,10 +165,11 @@ module _ (H : ℕ) (g : Grid) (W : Side) (s L : ℕ) where
 module _ (H : ℕ) (g : Grid) (W : Side) (s l r c cl v i : ℕ) (x : Memory) (h : Holds H g (st W s (suc l) r c false cl v i) x) (z : v ≡ 0)
     (in-row : c < W .length) where
   abbrev y : Memory
-  y = stored (cellOf W (s % 2 + r) c) (g r c) x
+  y = stored (kind .cell W s r c) (g r c) x
 
   cell-inv : Inv H g W s (suc l) 0 0 i r (suc c) y
-  cell-inv = cell-good K Kept five-three-laws l W (side s H) g i r c x in-row (subst₂ (λ e b. Inv H g W s (suc l) e b i r c x) (h .before refl) z (h .levels))
+  cell-inv = cell-good kind Held Ended kind-laws l W (side s H) g i r c x in-row
+      (subst₂ (λ e b. Inv H g W s (suc l) e b i r c x) (h .before refl) z (h .levels))
 
   pub begun-holds : Holds H g (st W s (suc l) r (c + 1) false cl v i) y
   begun-holds =
@@ -181,8 +182,9 @@ module _ (H : ℕ) (g : Grid) (W : Side) (s l r c cl v i : ℕ) (x : Memory) (h 
   abbrev made : Out
   made = arrive K (suc l) W s r y
 
-  pub arrived-by : c + 1 ≡ W .length → r < H → Good K Kept five-three-laws (suc l) 1 W (side s H) g 0 (suc r) made (madeBy 1 (suc l) 1 W s r)
-  arrived-by e p = arrive-good K Kept five-three-laws (suc l) 1 W (side s H) g r y i p (subst (λ b. Inv H g W s (suc l) 0 0 i r b y) (omega arith) cell-inv)
+  pub arrived-by : c + 1 ≡ W .length → r < H → Good kind Held Ended kind-laws (suc l) 1 W (side s H) g 0 (suc r) made (madeBy (ahead kind) (suc l) 1 W s r)
+  arrived-by e p = arrive-good kind Held Ended kind-laws (suc l) 1 W (side s H) g r y i p
+      (subst (λ b. Inv H g W s (suc l) 0 0 i r b y) (omega arith) cell-inv)
 
   pub complete-holds : c + 1 ≡ W .length → r < H → Holds H g (st W s (suc l) (r + 1) 0 false cl (made .level) (made .left)) (made .store)
   complete-holds e p =

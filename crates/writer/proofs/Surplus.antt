@@ -10,7 +10,7 @@ use lib.IntN.{pos}
 use lib.ListN.{length}
 use lib.Dec.{ltb, leb}
 use borrow.Author.Tests.{le-ltb, ltb-true}
-use Rattle.numbers.specs.Signal.{pick}
+use Rattle.numbers.specs.Signal.{pick, both}
 use Rattle.lifting.specs.Line.{lo}
 use Rattle.lifting.specs.Grid.{Side, side, count}
 use Rattle.lifting.specs.Halves.{fronted}
@@ -20,7 +20,7 @@ use Rattle.wavelet.specs.Store.{storeLength}
 use Rattle.wavelet.proofs.StoreLaws.{store-below}
 use Rattle.wavelet.specs.Bands.{LL}
 use Rattle.calls.specs.Lists.{changedUnless}
-use Rattle.level.specs.Level.{Memory, LevelKind, completes, prev, rest, joinAt}
+use Rattle.level.specs.Level.{Memory, LevelKind, completes, prev, rest, joinAt, ahead}
 use Rattle.level.specs.FiveThreeLevel.{fiveThree}
 use Rattle.level.proofs.RestLaws.{rest-at, join-past}
 use Rattle.level.proofs.LevelLaws.{LevelLaws}
@@ -29,7 +29,7 @@ use Rattle.writer.specs.declared.Writer.{Writer}
 use Rattle.writer.specs.Counts.{made, lowRows, most, skip}
 use Rattle.writer.specs.Machine.{Out, still, under, passed, settled, arrived, arrive, passOn}
 use Rattle.writer.specs.Draws.{pull}
-use Rattle.writer.specs.Closing.{Shut, onward, closeLevel, shut}
+use Rattle.writer.specs.Closing.{Shut, stepped, onward, closeStep, closeLevel, shut}
 use Rattle.writer.specs.Taking.{columnsOf, none, oneMore, takes, begun, complete, heightPut, rowMakes, offering}
 use Rattle.writer.specs.Questions.{setUpQuestion, offerQuestion, drawQuestion, finishQuestion}
 use Rattle.writer.specs.Calls.{setUpStore, offerStore, resumed, handedStore, drawStore, finishStore}
@@ -80,10 +80,10 @@ settle-past l ih w s n x y h (suc i) j p = h j p
 pub arrive-past : (L : ℕ) → Arrives L
 unfolding arrive arrived
 arrive-past zero w s m x j p = refl
-arrive-past (suc l) w s m x j p = go (arrive-past l) (completes s m)
+arrive-past (suc l) w s m x j p = go (arrive-past l) (completes (ahead K) s m)
   where
     n : ℕ
-    n = (s % 2 + m) / 2 - 1
+    n = (s % 2 + m) / 2 - ahead K
 
     o : Out
     o = settled (passOn K l w s) n (K .make w s n x) (skip w (side s (m + 1)) n (most l))
@@ -99,34 +99,56 @@ unfolding pull
 pull-past zero w s c v i m x j p = refl
 pull-past (suc l) w s c zero i m x j p = refl
 pull-past (suc l) w s c (suc zero) i m x j p =
-    settle-past l (arrive-past l) w s (prev (made c s m)) x x (λ _ _. refl) (skip w (side s m) (prev (made c s m)) (prev i)) j p
+    settle-past l (arrive-past l) w s (prev (made (ahead K) c s m)) x x (λ _ _. refl) (skip w (side s m) (prev (made (ahead K) c s m)) (prev i)) j p
 pull-past (suc l) w s c (suc (suc v)) i m x j p =
-    under-past l w x _ (λ a q. pull-past l (next w) ((s + 1) / 2) (prev c) (suc v) i (lowRows s (made c s m)) (rest (4 * w .length) x) a q) j p
+    under-past l w x _ (λ a q. pull-past l (next w) ((s + 1) / 2) (c - ahead K) (suc v) i (lowRows s (made (ahead K) c s m)) (rest (4 * w .length) x) a q) j p
 
--- ---- levels are closed
-level-past : (l : ℕ) (w : Side) (s c m : ℕ) (x : Memory) → Past (storeLength w (suc l)) x (closeLevel K l w s c m x .store)
-unfolding closeLevel
-level-past l w s zero zero x j p = refl
-level-past l w s zero (suc m) x j p =
-    settle-past l (arrive-past l) w s (lastSet (side s (suc m))) x _ (λ i q. close-past w (side s (suc m)) x i (omega (arith, store-below w l)))
-    (skip w (side s (suc m)) (lastSet (side s (suc m))) (most l)) j p
-level-past l w s (suc c) m x j p = refl
+-- ---- levels close
+step-past : (l : ℕ) (w : Side) (s c m : ℕ) (x : Memory) → Past (storeLength w (suc l)) x (closeStep K l w s c m x .store)
+unfolding closeStep
+step-past l w s c m x j p = go (both (ltb 0 m) (leb n (lastSet (side s m))))
+  where
+    n : ℕ
+    n = made (ahead K) c s m
+
+    go : (t : Bool) → pick t (settled (passOn K l w s) n (K .close w (side s m) n x) (skip w (side s m) n (most l))) (still x) .store j ≡ x j
+    go true =
+        settle-past l (arrive-past l) w s n x _ (λ i q. close-past w (side s m) n x i (omega (arith, store-below w l))) (skip w (side s m) n (most l)) j p
+    go false = refl
+
+level-past : (f l : ℕ) (w : Side) (s c m : ℕ) (x : Memory) → Past (storeLength w (suc l)) x (closeLevel K f l w s c m x .out .store)
+unfolding closeLevel stepped
+level-past zero l w s c m x j p = refl
+level-past (suc f) l w s c m x j p = go (level-past f l w s (suc c) m) (closeStep K l w s c m x .level)
+  where
+    o : Out
+    o = closeStep K l w s c m x
+
+    on : Memory → Shut
+    on y = closeLevel K f l w s (suc c) m y
+
+    go : ((y : Memory) → Past (storeLength w (suc l)) y (on y .out .store)) → (v : ℕ) → stepped c on o v .out .store j ≡ x j
+    go ih zero = ih (o .store) j p ∙ step-past l w s c m x j p
+    go ih (suc v) = step-past l w s c m x j p
 
 pub shut-past : (L : ℕ) (w : Side) (s c m : ℕ) (x : Memory) → Past (storeLength w L) x (shut K L w s c m x .out .store)
 unfolding shut onward
 shut-past zero w s c m x j p = refl
 shut-past (suc l) w s c m x j p =
-    go (shut-past l (next w) ((s + 1) / 2) (prev c) (count lo (side s m))) (closeLevel K l w s c m x .level)
+    go (shut-past l (next w) ((s + 1) / 2) (c - ahead K) (count lo (side s m))) (o .out .level)
   where
-    o : Out
-    o = closeLevel K l w s c m x
+    o : Shut
+    o = closeLevel K (ahead K - c) l w s c m x
 
     below : Memory → Shut
-    below y = shut K l (next w) ((s + 1) / 2) (prev c) (count lo (side s m)) y
+    below y = shut K l (next w) ((s + 1) / 2) (c - ahead K) (count lo (side s m)) y
 
-    go : ((y : Memory) → Past (storeLength (next w) l) y (below y .out .store)) → (v : ℕ) → onward (4 * w .length) below o v .out .store j ≡ x j
-    go ih zero = under-past l w (o .store) _ (ih (rest (4 * w .length) (o .store))) j p ∙ level-past l w s c m x j p
-    go ih (suc v) = level-past l w s c m x j p
+    closed : o .out .store j ≡ x j
+    closed = level-past (ahead K - c) l w s c m x j p
+
+    go : ((y : Memory) → Past (storeLength (next w) l) y (below y .out .store)) → (v : ℕ) → onward (ahead K) (4 * w .length) below o v .out .store j ≡ x j
+    go ih zero = under-past l w (o .out .store) _ (ih (rest (4 * w .length) (o .out .store))) j p ∙ closed
+    go ih (suc v) = closed
 
 -- ---- heights are taken
 abbrev Taken : ℕ → List ℕ → Type 0

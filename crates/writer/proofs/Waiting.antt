@@ -1,23 +1,22 @@
--- Which rows wait, as the writer's numbers say it, in the words of the order: `pend`; and which the levels not yet closed will make: `later`.
+-- Which rows wait, as the writer's numbers say it, in the words of the order: `pend`; and which the steps of the closing that are not done will make: `later`.
 -- Assumes nothing.
 use mathlib.Core.Bool.{Bool, true, false}
-use mathlib.Core.Path.{_≡_, refl, sym, ap, _∙_}
-use mathlib.Core.List.{List, [], _∷_, _++_, append-nil}
-use Prim.Native.Nat.{ℕ, zero, suc, _+_, _-_, _/_, _%_, _≤_}
+use mathlib.Core.Path.{_≡_, refl, sym, ap, ap₂, _∙_}
+use mathlib.Core.List.{List, [], _∷_, _++_, append-assoc}
+use Prim.Native.Nat.{ℕ, zero, suc, _+_, _-_, _*_, _/_, _%_, _≤_, _<_}
+use native.Mathlib.Nat.{mul-suc}
+use native.Mathlib.Decide.{decLt}
 use native.Mathlib.Omega.{arith}
-use Rattle.numbers.specs.Signal.{pick, both}
-use lib.Dec.{leb, ltb}
-use borrow.Author.Tests.{le-ltb}
-use Rattle.lifting.specs.Line.{lo}
-use Rattle.lifting.specs.Grid.{Side, side, count}
-use Rattle.wavelet.specs.Bands.{Band, across, down}
-use Rattle.wavelet.specs.Order.{RowName, rowName, handedOut, firstSet, lastSet, setRow, setHas, rowsOf, setRows, madeBy, unmade, closing}
-use Rattle.wavelet.specs.Order.{inTurn}
+use lib.Dec.{leb}
+use Rattle.numbers.specs.Signal.{pick}
+use Rattle.lifting.specs.Grid.{Side, side}
+use Rattle.wavelet.specs.Bands.{Band}
+use Rattle.wavelet.specs.Order.{RowName, rowName, handedOut, inTurn, firstSet, lastSet, setRow, setHas, rowsOf, setRows, madeBy, unmade, closing}
 use Rattle.wavelet.specs.Levels.{next}
-use Rattle.wavelet.proofs.SideLaws.{count-none, next-length}
+use Rattle.wavelet.proofs.OrderLaws.{made-early, last-set, unmade-is, turn-zero, turn-suc, turn-same, turn-none, turn-add, set-empty}
 use Rattle.level.specs.Level.{prev, completes}
 use Rattle.writer.specs.Counts.{deeper, made, lowRows, most, bandAt, skip}
-use Rattle.writer.proofs.CountLaws.{completes-first}
+use Rattle.writer.proofs.CountLaws.{made-open, made-shut}
 
 -- the last i bands of a set
 unfoldable pub lasts : ℕ → List Band
@@ -69,59 +68,126 @@ skip-le W H n (suc i) = go (setHas W H (bandAt i) n) (skip-le W H n i)
     go false h = omega arith
 
 -- what the LL row of set n makes at the l levels below: nothing, where the set has none
-unfoldable pub onwards : (l k : ℕ) (W : Side) (s n : ℕ) → List RowName
-onwards l k W s n = pick (leb (s % 2) n) (madeBy 1 l (suc k) (next W) ((s + 1) / 2) (n - s % 2)) []
+unfoldable pub onwards : (a l k : ℕ) (W : Side) (s n : ℕ) → List RowName
+onwards a l k W s n = pick (leb (s % 2) n) (madeBy a l (suc k) (next W) ((s + 1) / 2) (n - s % 2)) []
 
--- ---- rows to be drawn: c levels closed, i bands left of the set of level v, m rows received, the first at coordinate s
-unfoldable pub pend : (L k : ℕ) (W : Side) (s c v i m : ℕ) → List RowName
-pend zero k W s c v i m = []
-pend (suc l) k W s c zero i m = []
-pend (suc l) k W s c (suc zero) i m = rowsOf k W (side s m) (prev (made c s m)) (lasts i) ++ onwards l k W s (prev (made c s m))
-pend (suc l) k W s c (suc (suc v)) i m = pend l (suc k) (next W) ((s + 1) / 2) (prev c) (suc v) i (lowRows s (made c s m))
+-- ---- rows to be drawn: c steps of the closing done, i bands left of the set of level v, m rows received, the first at coordinate s
+unfoldable pub pend : (a L k : ℕ) (W : Side) (s c v i m : ℕ) → List RowName
+pend a zero k W s c v i m = []
+pend a (suc l) k W s c zero i m = []
+pend a (suc l) k W s c (suc zero) i m = rowsOf k W (side s m) (prev (made a c s m)) (lasts i) ++ onwards a l k W s (prev (made a c s m))
+pend a (suc l) k W s c (suc (suc v)) i m = pend a l (suc k) (next W) ((s + 1) / 2) (c - a) (suc v) i (lowRows s (made a c s m))
 
--- and those that the levels not yet closed will make, of the rows H
-unfoldable pub later : (L k : ℕ) (W H : Side) (c : ℕ) → List RowName
-later zero k W H c = []
-later (suc l) k W H zero = closing 1 (suc l) k W H
-later (suc l) k W H (suc c) = later l (suc k) (next W) (next H) c
+-- and those that the steps not yet done will make, of the rows H: of a level its sets from set n on, each with what its LL row makes
+unfoldable pub leftOf : (a l k : ℕ) (W H : Side) (n : ℕ) → List RowName
+leftOf a l k W H n = inTurn (lastSet H + 1 - n) (λ i. setRows l k W H (n + i) ++ onwards a l k W (H .start) (n + i))
 
-pub pend-none : (L k : ℕ) (W : Side) (s c i m : ℕ) → pend L k W s c 0 i m ≡ []
+unfoldable pub later : (a L k : ℕ) (W H : Side) (c : ℕ) → List RowName
+later a zero k W H c = []
+later a (suc l) k W H c = leftOf a l k W H (made a c (H .start) (H .length)) ++ later a l (suc k) (next W) (next H) (c - a)
+
+pub pend-none : (a L k : ℕ) (W : Side) (s c i m : ℕ) → pend a L k W s c 0 i m ≡ []
 unfolding pend
-pend-none zero k W s c i m = refl
-pend-none (suc l) k W s c i m = refl
+pend-none a zero k W s c i m = refl
+pend-none a (suc l) k W s c i m = refl
 
-pub pend-under : (l k : ℕ) (W : Side) (s c v i m : ℕ) →
-    pend (suc l) k W s c (deeper v) i m ≡ pend l (suc k) (next W) ((s + 1) / 2) (prev c) v i (lowRows s (made c s m))
+pub pend-under : (a l k : ℕ) (W : Side) (s c v i m : ℕ) →
+    pend a (suc l) k W s c (deeper v) i m ≡ pend a l (suc k) (next W) ((s + 1) / 2) (c - a) v i (lowRows s (made a c s m))
 unfolding pend deeper
-pend-under l k W s c zero i m = sym (pend-none l _ _ _ _ i _)
-pend-under l k W s c (suc v) i m = refl
+pend-under a l k W s c zero i m = sym (pend-none a l _ _ _ _ i _)
+pend-under a l k W s c (suc v) i m = refl
 
-pub later-all : (L k : ℕ) (W H : Side) → later L k W H L ≡ []
+-- ---- the sets that are left of a level
+module _ (a l k : ℕ) (W H : Side) where
+  -- the first of them, then the others
+  pub left-first : (n : ℕ) → n ≤ lastSet H → leftOf a l k W H n ≡ (setRows l k W H n ++ onwards a l k W (H .start) n) ++ leftOf a l k W H (suc n)
+  unfolding leftOf
+  left-first n h =
+      let f : ℕ → List RowName = λ i. setRows l k W H (n + i) ++ onwards a l k W (H .start) (n + i) in
+      let e : lastSet H + 1 - n ≡ 1 + (lastSet H + 1 - suc n) = omega arith in
+      ap (λ i. inTurn i f) e
+      ∙ turn-add 1 (lastSet H + 1 - suc n) f
+      ∙ ap₂ _++_ (turn-suc 0 f ∙ ap (λ t. t ++ f 0) (turn-zero f) ∙ ap (λ i. setRows l k W H i ++ onwards a l k W (H .start) i) (omega arith))
+      (turn-same (lastSet H + 1 - suc n) _ _ (λ i p. ap (λ j. setRows l k W H j ++ onwards a l k W (H .start) j) (omega arith)))
+
+  pub left-none : (n : ℕ) → lastSet H < n → leftOf a l k W H n ≡ []
+  unfolding leftOf
+  left-none n h = let e : lastSet H + 1 - n ≡ 0 = omega arith in rw e (turn-zero _)
+
+  -- a level without rows has none with rows
+  pub left-empty : (n : ℕ) → 1 ≤ a → H .length ≡ 0 → leftOf a l k W H n ≡ []
+  unfolding leftOf onwards
+  left-empty n one e =
+      turn-same (lastSet H + 1 - n) _ (λ _. []) (λ i p. ap₂ _++_ (set-empty l k W H e (n + i)) (go (leb (H .start % 2) (n + i)) i p))
+      ∙ turn-none (lastSet H + 1 - n)
+    where
+      go : (t : Bool) (i : ℕ) → i < lastSet H + 1 - n → pick t (madeBy a l (suc k) (next W) ((H .start + 1) / 2) (n + i - H .start % 2)) [] ≡ []
+      go true i p = made-early a l (suc k) (next W) ((H .start + 1) / 2) _ (omega (arith, last-set H))
+      go false i p = refl
+
+  -- all of them are made after a steps
+  pub left-shut : (c : ℕ) → 1 ≤ a → a ≤ c → leftOf a l k W H (made a c (H .start) (H .length)) ≡ []
+  left-shut c one h =
+      elim (decLt 0 (H .length)) [
+        | yes p ↦ left-none _ (omega (arith, made-shut a c (H .start) (H .length) one h, last-set H))
+        | no p ↦ left-empty _ one (omega arith)
+      ]
+
+-- ---- what is left of all levels
+pub later-shut : (a l k : ℕ) (W H : Side) (c : ℕ) → 1 ≤ a → a ≤ c → later a (suc l) k W H c ≡ later a l (suc k) (next W) (next H) (c - a)
 unfolding later
-later-all zero k W H = refl
-later-all (suc l) k W H = later-all l (suc k) (next W) (next H)
+later-shut a l k W H c one h = ap (λ t. t ++ later a l (suc k) (next W) (next H) (c - a)) (left-shut a l k W H c one h)
 
-pub later-none : (L k : ℕ) (W H : Side) → later L k W H 0 ≡ closing 1 L k W H
-unfolding later closing
-later-none zero k W H = refl
-later-none (suc l) k W H = refl
+pub later-all : (a L k : ℕ) (W H : Side) → 1 ≤ a → later a L k W H (a * L) ≡ []
+later-all a zero k W H one = unfold later in refl
+later-all a (suc l) k W H one =
+    let e : a * suc l - a ≡ a * l = omega (arith, mul-suc a l) in
+    later-shut a l k W H (a * suc l) one (omega (arith, mul-suc a l))
+    ∙ ap (later a l (suc k) (next W) (next H)) e
+    ∙ later-all a l (suc k) (next W) (next H) one
 
--- the last set of the first level, then the levels below it
-pub later-first : (l k : ℕ) (W H : Side) →
-    later (suc l) k W H 0 ≡ (setRows l k W H (lastSet H) ++ onwards l k W (H .start) (lastSet H)) ++ later (suc l) k W H 1
-unfolding later closing unmade inTurn onwards firstSet next
-later-first l k W H =
-    let n : lastSet H + 1 - 1 + 0 ≡ lastSet H = omega arith in
-    let o : lastSet H + 1 - (lastSet H + 1 - 1) ≡ 1 = omega arith in
-    rw (o, n) (ap (λ r. (setRows l k W H (lastSet H) ++ onwards l k W (H .start) (lastSet H)) ++ r) (sym (later-none l (suc k) (next W) (next H))))
+pub later-none : (a L k : ℕ) (W H : Side) → 1 ≤ a → later a L k W H 0 ≡ closing a L k W H
+unfolding later leftOf closing onwards firstSet next
+later-none a zero k W H one = refl
+later-none a (suc l) k W H one =
+    let n : made a 0 (H .start) (H .length) ≡ unmade a H = omega (arith, made-open a (H .start) (H .length) one, unmade-is a H, last-set H) in
+    let z : 0 - a ≡ 0 = omega arith in
+    rw (n, z) (ap (λ t. inTurn (lastSet H + 1 - unmade a H)
+    (λ i. setRows l k W H (unmade a H + i) ++ pick (leb (H .start % 2) (unmade a H + i)) (madeBy a l (suc k) (next W) ((H .start + 1) / 2)
+    (unmade a H + i - H .start % 2)) []) ++ t) (later-none a l (suc k) (next W) (next H) one))
+
+-- a step that makes a set, and one that does not
+module _ (a l k : ℕ) (W H : Side) (c : ℕ) (h : c < a) where
+  same-below : suc c - a ≡ c - a
+  same-below = omega arith
+
+  pub later-step : (n : ℕ) → n ≤ lastSet H → made a c (H .start) (H .length) ≡ n → made a (suc c) (H .start) (H .length) ≡ suc n →
+      (setRows l k W H n ++ onwards a l k W (H .start) n) ++ later a (suc l) k W H (suc c) ≡ later a (suc l) k W H c
+  unfolding later
+  later-step n p e d =
+      rw (e, d, same-below)
+      (sym (append-assoc (setRows l k W H n ++ onwards a l k W (H .start) n) (leftOf a l k W H (suc n)) _)
+      ∙ ap (λ t. t ++ later a l (suc k) (next W) (next H) (c - a)) (sym (left-first a l k W H n p)))
+
+  pub later-still : made a (suc c) (H .start) (H .length) ≡ made a c (H .start) (H .length) → later a (suc l) k W H (suc c) ≡ later a (suc l) k W H c
+  unfolding later
+  later-still e = rw (e, same-below) refl
+
+  pub later-empty : 1 ≤ a → H .length ≡ 0 → later a (suc l) k W H (suc c) ≡ later a (suc l) k W H c
+  unfolding later
+  later-empty one e = rw (
+    left-empty a l k W H (made a (suc c) (H .start) (H .length)) one e,
+    left-empty a l k W H (made a c (H .start) (H .length)) one e,
+    same-below,
+  ) refl
 
 -- ---- what a row makes: nothing, or a set and what its LL row makes
-module _ (l k : ℕ) (W : Side) (s m : ℕ) where
-  pub made-still : completes s m ≡ false → madeBy 1 (suc l) k W s m ≡ []
+module _ (a l k : ℕ) (W : Side) (s m : ℕ) where
+  pub made-still : completes a s m ≡ false → madeBy a (suc l) k W s m ≡ []
   unfolding madeBy completes
   made-still e = simp e
 
-  pub made-set : completes s m ≡ true → madeBy 1 (suc l) k W s m ≡
-      setRows l k W (side s (m + 1)) ((s % 2 + m) / 2 - 1) ++ onwards l k W s ((s % 2 + m) / 2 - 1)
+  pub made-set : completes a s m ≡ true → madeBy a (suc l) k W s m ≡
+      setRows l k W (side s (m + 1)) ((s % 2 + m) / 2 - a) ++ onwards a l k W s ((s % 2 + m) / 2 - a)
   unfolding madeBy completes onwards
   made-set e = simp e

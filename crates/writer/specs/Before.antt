@@ -2,7 +2,7 @@
 -- It is the reference of `same-events` and `same-store` (proofs/Offset.antt); no contract cites it.
 use mathlib.Core.Bool.{Bool, true, false, not}
 use mathlib.Core.List.{List, [], _∷_}
-use Prim.Native.Nat.{ℕ, zero, suc, _+_, _%_}
+use Prim.Native.Nat.{ℕ, zero, suc, _+_, _*_, _%_}
 use lib.IntN.{pos}
 use lib.ListN.{length}
 use lib.Dec.{leb, ltb, eqb}
@@ -14,8 +14,8 @@ use Rattle.wavelet.specs.Questions.{ask, within}
 use Rattle.wavelet.specs.Store.{storeLength}
 use Rattle.calls.specs.Lists.{unless, changedUnless, Area}
 use Rattle.calls.specs.Lists as lists
-use Rattle.level.specs.Level.{Memory, rest}
-use Rattle.level.specs.FiveThreeLevel.{fiveThree, cellOf}
+use Rattle.level.specs.Level.{Memory, rest, ahead}
+use Rattle.writer.specs.Kind.{kind}
 use Rattle.writer.specs.Counts.{mostLeft}
 use Rattle.writer.specs.Machine.{Out, arrive}
 use Rattle.writer.specs.Draws.{Waiting, waiting, pull}
@@ -60,10 +60,10 @@ abbrev pub oneMore : Taking → Taking
 oneMore t = record { taken = suc (t .taken); writer = t .writer; store = t .store }
 
 abbrev pub heightPut : ℕ → Before → Memory → Memory
-heightPut h s x = stored (cellOf (s .columns) (s .start % 2 + s .rows) (s .column)) (pos h) x
+heightPut h s x = stored (kind .cell (s .columns) (s .start) (s .rows) (s .column)) (pos h) x
 
 abbrev pub rowMakes : Before → Memory → Out
-rowMakes s x = arrive fiveThree (s .levels) (s .columns) (s .start) (s .rows) x
+rowMakes s x = arrive kind (s .levels) (s .columns) (s .start) (s .rows) x
 
 unfoldable pub offering : List ℕ → Before → Memory → Taking
 offering [] s x = untaken s x
@@ -83,7 +83,7 @@ inRanges s =
     (both (within 1 maxLevels (s .levels))
     (both (leb (s .rows) maxHeight)
     (both (ltb (s .column) (s .columns .length))
-    (both (leb (s .closed) (s .levels))
+    (both (leb (s .closed) (ahead kind * s .levels))
     (both (leb (s .level) (s .levels))
     (leb (s .left) (mostLeft (s .levels) (s .level)))))))))
 
@@ -91,7 +91,7 @@ unfoldable pub longEnough : ℕ → Before → Bool
 longEnough n s = leb (storeLength (s .columns) (s .levels)) n
 
 abbrev pub waitingRow : Before → Waiting
-waitingRow s = waiting fiveThree (s .levels) (s .columns) (s .start) (s .closed) (s .level) (s .left) (s .rows)
+waitingRow s = waiting kind (s .levels) (s .columns) (s .start) (s .closed) (s .level) (s .left) (s .rows)
 
 unfoldable pub offerQuestion : Before → ℕ → ℕ → ℕ
 offerQuestion s n k =
@@ -123,15 +123,15 @@ abbrev pub waits : Bool → Before → Shut → Before
 waits f s r = at (s .columns) (s .start) (s .levels) (s .rows) (s .column) f (r .closed) (r .out .level) (r .out .left)
 
 abbrev pub closing : Before → Memory → Shut
-closing s x = shut fiveThree (s .levels) (s .columns) (s .start) 0 (s .rows) x
+closing s x = shut kind (s .levels) (s .columns) (s .start) 0 (s .rows) x
 
 unfoldable pub resumed : Bool → Before → Out → ℕ → Shut
 resumed false s o v = record { closed = s .closed; out = o }
-resumed true s o zero = shut fiveThree (s .levels) (s .columns) (s .start) (s .closed) (s .rows) (o .store)
+resumed true s o zero = shut kind (s .levels) (s .columns) (s .start) (s .closed) (s .rows) (o .store)
 resumed true s o (suc v) = record { closed = s .closed; out = o }
 
 abbrev pub pulled : Before → Memory → Out
-pulled s x = pull fiveThree (s .levels) (s .columns) (s .start) (s .closed) (s .level) (s .left) (s .rows) x
+pulled s x = pull kind (s .levels) (s .columns) (s .start) (s .closed) (s .level) (s .left) (s .rows) x
 
 abbrev pub afterDraw : Before → Memory → Shut
 afterDraw s x = resumed (s .finished) s (pulled s x) (pulled s x .level)

@@ -10,7 +10,7 @@ use Rattle.lifting.specs.Grid.{Side}
 use Rattle.wavelet.specs.Store.{storeLength}
 use Rattle.calls.specs.Lists.{Reply, unless, changedUnless}
 use Rattle.level.specs.Level.{Memory, rest}
-use Rattle.level.specs.FiveThreeLevel.{fiveThree}
+use Rattle.writer.specs.Kind.{kind}
 use Rattle.writer.specs.declared.Writer.{Writer}
 use Rattle.writer.specs.declared.BandRow.{BandRow}
 use Rattle.writer.specs.Counts.{startOf}
@@ -49,10 +49,10 @@ abbrev pub took : Taking → Took
 took t = record { taken = t .taken; writer = t .writer }
 
 unfoldable pub offerReply : Writer → ℕ → List ℕ → Memory → Reply Took
-offerReply s n run x = unless (offerQuestion s n (length run)) (took (offering fiveThree run s x))
+offerReply s n run x = unless (offerQuestion s n (length run)) (took (offering kind run s x))
 
 unfoldable pub offerStore : Writer → ℕ → List ℕ → Memory → Memory
-offerStore s n run x = changedUnless (offerQuestion s n (length run)) (offering fiveThree run s x .store) x
+offerStore s n run x = changedUnless (offerQuestion s n (length run)) (offering kind run s x .store) x
 
 -- ---- finish: "At the finish level 1 closes first, then level 2, and so on."
 -- the writer with what waits, f: finished
@@ -72,7 +72,7 @@ waits f s r = record {
 }
 
 abbrev pub closing : Writer → Memory → Shut
-closing s x = shut fiveThree (s .levels) (columnsOf s) (s .y) 0 (s .rows) x
+closing s x = shut kind (s .levels) (columnsOf s) (s .y) 0 (s .rows) x
 
 unfoldable pub finishReply : Writer → ℕ → Memory → Reply Writer
 finishReply s n x = unless (finishQuestion s n) (waits true s (closing s x))
@@ -83,11 +83,11 @@ finishStore s n x = changedUnless (finishQuestion s n) (closing s x .out .store)
 -- ---- draw: the row is handed out; once finished and nothing waits, the levels close on
 unfoldable pub resumed : Bool → Writer → Out → ℕ → Shut
 resumed false s o v = record { closed = s .closed; out = o }
-resumed true s o zero = shut fiveThree (s .levels) (columnsOf s) (s .y) (s .closed) (s .rows) (o .store)
+resumed true s o zero = shut kind (s .levels) (columnsOf s) (s .y) (s .closed) (s .rows) (o .store)
 resumed true s o (suc v) = record { closed = s .closed; out = o }
 
 abbrev pub pulled : Writer → Memory → Out
-pulled s x = pull fiveThree (s .levels) (columnsOf s) (s .y) (s .closed) (s .level) (s .left) (s .rows) x
+pulled s x = pull kind (s .levels) (columnsOf s) (s .y) (s .closed) (s .level) (s .left) (s .rows) x
 
 abbrev pub afterDraw : Writer → Memory → Shut
 afterDraw s x = resumed (s .finished) s (pulled s x) (pulled s x .level)

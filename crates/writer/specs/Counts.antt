@@ -1,6 +1,6 @@
 -- The numbers that the writer derives on its way down the levels. Of them the state keeps where the stretch of its level begins (`startOf`).
 -- s is the coordinate that a level's rows start at.
-use Prim.Native.Nat.{ℕ, zero, suc, _+_, _-_, _/_, _%_}
+use Prim.Native.Nat.{ℕ, zero, suc, _+_, _-_, _/_, _%_, min}
 use Rattle.numbers.specs.Signal.{pick}
 use Rattle.lifting.specs.Grid.{Side}
 use Rattle.wavelet.specs.Bands.{Band, LL, HL, LH, HH}
@@ -22,11 +22,11 @@ unfoldable pub further : ℕ → ℕ → ℕ → ℕ
 further zero a o = 0
 further (suc v) a o = a + o
 
--- How many sets a level has made that has received m rows; c = 0: and that is not closed. "Set n of a level is made when its row 2n+2 is complete, or
--- when the map is finished." A set of a high row alone counts as made in a closed level without a row, too.
-unfoldable pub made : ℕ → ℕ → ℕ → ℕ
-made zero s m = (s % 2 + (m - 1)) / 2
-made (suc c) s m = (s % 2 + m + 1) / 2
+-- How many sets a level has made that has received m rows, at the look-ahead a. "Set n of a level is made when its row 2n+2 is complete, or when the map is
+-- finished" (Q-8: when row 2n+4 is complete): the rows make all sets but the last a, and each step of the level's closing, c of which are done, makes one more,
+-- until all are made. A set of a high row alone counts as made in a closed level without a row, too.
+unfoldable pub made : ℕ → ℕ → ℕ → ℕ → ℕ
+made a c s m = min ((s % 2 + m + 1) / 2) ((s % 2 + (m - 1)) / 2 + 1 - a + c)
 
 -- How many low rows the first n sets have: the rows that they give the next level. Where the rows start at an odd coordinate, set 0 has none.
 abbrev pub lowRows : ℕ → ℕ → ℕ

@@ -10,7 +10,6 @@ use lib.Dec.{leb, ltb, eqb}
 use Rattle.numbers.specs.Signal.{pick, both}
 use Rattle.numbers.specs.Word.{whole}
 use Rattle.lifting.specs.Grid.{Side, side}
-use Rattle.lifting.specs.FiveThree.{fiveThreeFilter}
 use Rattle.wavelet.specs.Limits.{maxHeight, maxSample}
 use Rattle.wavelet.specs.Bands.{Grid, Band, code}
 use Rattle.wavelet.specs.Maps.{IsMap}
@@ -20,6 +19,8 @@ use Rattle.wavelet.specs.Levels.{levelBand}
 use Rattle.wavelet.specs.View.{bandColumns}
 use Rattle.wavelet.specs.ViewCall.{bandRowExists}
 use Rattle.calls.specs.Lists.{Reply, gives, refused, unless, Area, All}
+use Rattle.level.specs.Level.{ahead}
+use Rattle.writer.specs.Kind.{kind}
 use Rattle.writer.specs.declared.BandRow.{BandRow}
 use Rattle.writer.specs.Questions.{either}
 use Rattle.writer.specs.History.{Call, offer, draw, finish, Given, row, none, Event, offered, drew, finished}
@@ -30,7 +31,7 @@ unfoldable pub wholeRows : Side → List Event → ℕ
 wholeRows W es = length (taken es) / W .length
 
 unfoldable pub madeOf : Side → ℕ → ℕ → List Event → List RowName
-madeOf W s L es = made 1 W s L (wholeRows W es) (finishedBy es)
+madeOf W s L es = made (ahead kind) W s L (wholeRows W es) (finishedBy es)
 
 -- "Waiting: made and not drawn."
 unfoldable pub waitingOf : Side → ℕ → ℕ → List Event → List RowName
@@ -61,7 +62,7 @@ pub record MapOf (W : Side) (H : ℕ) (g : Grid) (es : List Event) : Type 0 wher
 -- the values of a drawn row are the map's, T.800's whole numbers
 pub record HasValues (W : Side) (s H : ℕ) (g : Grid) (d : DrawnRow) : Type 0 where
   pub are : (b : Band) → d .row .band ≡ code b → (i : ℕ) → i < d .row .length →
-      d .values i ≡ levelBand fiveThreeFilter whole W (side s H) g (d .row .level) b (d .row .row) i
+      d .values i ≡ levelBand (kind .filter) whole W (side s H) g (d .row .level) b (d .row .row) i
 
 -- "The rows drawn then are exactly the plane's band rows, each once."
 pub record PlaneDrawn (W : Side) (s L : ℕ) (es : List Event) : Type 0 where
@@ -97,7 +98,7 @@ pub record DrawSeen (W : Side) (s L : ℕ) (es : List Event) (a : Area) (e : Eve
 -- after j heights more no row would wait, and the row limit is not reached
 unfoldable pub takesOn : Side → ℕ → ℕ → List Event → ℕ → Bool
 takesOn W s L es j =
-    both (isNone (drop (length (drawn es)) (made 1 W s L ((length (taken es) + j) / W .length) false)))
+    both (isNone (drop (length (drawn es)) (made (ahead kind) W s L ((length (taken es) + j) / W .length) false)))
     (ltb ((length (taken es) + j) / W .length) maxHeight)
 
 -- an offer of k heights: 9, 8, 10, or it takes "heights until a band row waits, the row limit is reached or the run is used up"
@@ -130,10 +131,10 @@ pub record Demand3 (W : Side) (s L : ℕ) (es : List Event) (then : Call → Eve
   -- of the map that was finished all of them
   pub values : (H : ℕ) (g : Grid) → MapOf W H g es → All (HasValues W s H g) (drawn es)
   pub early-values : (H : ℕ) (g : Grid) → Begins W H g es →
-      All (HasValues W s H g) (take (length (made 1 W s L (wholeRows W es) false)) (drawn es))
+      All (HasValues W s H g) (take (length (made (ahead kind) W s L (wholeRows W es) false)) (drawn es))
   -- and are the first in that map's order
   pub first : (H : ℕ) (g : Grid) → MapOf W H g es →
-      (r : List RowName) × (map (λ d. d .row) (drawn es) ++ map (answered W) r ≡ map (answered W) (made 1 W s L H true))
+      (r : List RowName) × (map (λ d. d .row) (drawn es) ++ map (answered W) r ≡ map (answered W) (made (ahead kind) W s L H true))
   -- there is such a map, the heights taken being 16-bit numbers
   pub some-map : All (λ h. h ≤ maxSample) (taken es) → (H : ℕ) × (g : Grid) × MapOf W H g es
   -- once finished, the heights taken are a map

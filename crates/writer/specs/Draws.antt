@@ -1,10 +1,10 @@
 -- The row that waits, and what a draw of it leaves.
-use Prim.Native.Nat.{ℕ, zero, suc, _+_, _/_}
+use Prim.Native.Nat.{ℕ, zero, suc, _+_, _-_, _/_}
 use Rattle.lifting.specs.Grid.{Side, side, count}
 use Rattle.wavelet.specs.Bands.{Band, HH, across}
 use Rattle.wavelet.specs.Levels.{next}
 use Rattle.wavelet.specs.Order.{setRow}
-use Rattle.level.specs.Level.{Memory, LevelKind, prev, rest}
+use Rattle.level.specs.Level.{Memory, LevelKind, prev, rest, ahead}
 use Rattle.writer.specs.Counts.{made, lowRows, bandAt, skip}
 use Rattle.writer.specs.Machine.{Out, still, under, settled, passOn}
 
@@ -31,14 +31,14 @@ module _ (K : LevelKind) where
   unfoldable pub waiting : (L : ℕ) (W : Side) (s c v i m : ℕ) → Waiting
   waiting zero W s c v i m = nothing
   waiting (suc l) W s c zero i m = nothing
-  waiting (suc l) W s c (suc zero) i m = rowOf W (side s m) (prev (made c s m)) (bandAt (prev i))
+  waiting (suc l) W s c (suc zero) i m = rowOf W (side s m) (prev (made (ahead K) c s m)) (bandAt (prev i))
   waiting (suc l) W s c (suc (suc v)) i m =
-      lower (K .stretch W) (waiting l (next W) ((s + 1) / 2) (prev c) (suc v) i (lowRows s (made c s m)))
+      lower (K .stretch W) (waiting l (next W) ((s + 1) / 2) (c - ahead K) (suc v) i (lowRows s (made (ahead K) c s m)))
 
   -- it is drawn: the next band of the set that has a row in it waits, or the set's LL row goes on
   unfoldable pub pull : (L : ℕ) (W : Side) (s c v i m : ℕ) → Memory → Out
   pull zero W s c v i m x = still x
   pull (suc l) W s c zero i m x = still x
-  pull (suc l) W s c (suc zero) i m x = settled (passOn K l W s) (prev (made c s m)) x (skip W (side s m) (prev (made c s m)) (prev i))
+  pull (suc l) W s c (suc zero) i m x = settled (passOn K l W s) (prev (made (ahead K) c s m)) x (skip W (side s m) (prev (made (ahead K) c s m)) (prev i))
   pull (suc l) W s c (suc (suc v)) i m x =
-      under (K .stretch W) x (pull l (next W) ((s + 1) / 2) (prev c) (suc v) i (lowRows s (made c s m)) (rest (K .stretch W) x))
+      under (K .stretch W) x (pull l (next W) ((s + 1) / 2) (c - ahead K) (suc v) i (lowRows s (made (ahead K) c s m)) (rest (K .stretch W) x))

@@ -1,13 +1,14 @@
 -- The writer as a machine over its line store, by recursion over the levels: a machine of L levels is its first level, of the columns W, and below it a machine
 -- of L − 1 levels, of the even ones of these columns, in the rest of the store.
--- The first level's rows start at coordinate s, and m is how many it has received; c is how many levels the finish has closed. L = 0 is no level.
+-- The first level's rows start at coordinate s, and m is how many it has received; c is how many steps of the closing are done,
+-- as many a level as its look-ahead. L = 0 is no level.
 use Prim.Native.Nat.{ℕ, zero, suc, _+_, _-_, _/_, _%_}
 use lib.Dec.{leb}
 use Rattle.numbers.specs.Signal.{pick}
 use Rattle.lifting.specs.Grid.{Side, side}
 use Rattle.wavelet.specs.Bands.{LL}
 use Rattle.wavelet.specs.Levels.{next}
-use Rattle.level.specs.Level.{Memory, LevelKind, completes, rest, joinAt}
+use Rattle.level.specs.Level.{Memory, LevelKind, completes, rest, joinAt, ahead}
 use Rattle.writer.specs.Counts.{deeper, most, skip}
 
 -- the store, the level (from 1) whose set is being handed out, 0: nothing waits, and how many bands of that set are left
@@ -42,8 +43,9 @@ module _ (K : LevelKind) where
   -- Row m stands in its place; l levels are below.
   unfoldable pub arrived : (ℕ → Memory → Out) → ℕ → Side → ℕ → ℕ → Memory → Out
   arrived pass l W s m x =
-      pick (completes s m)
-      (settled pass ((s % 2 + m) / 2 - 1) (K .make W s ((s % 2 + m) / 2 - 1) x) (skip W (side s (m + 1)) ((s % 2 + m) / 2 - 1) (most l)))
+      pick (completes (ahead K) s m)
+      (settled pass ((s % 2 + m) / 2 - ahead K) (K .make W s ((s % 2 + m) / 2 - ahead K) x)
+      (skip W (side s (m + 1)) ((s % 2 + m) / 2 - ahead K) (most l)))
       (still x)
 
   unfoldable pub arrive : (L : ℕ) (W : Side) (s m : ℕ) → Memory → Out

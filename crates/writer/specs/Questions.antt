@@ -1,13 +1,14 @@
 -- The gate questions of the writer's calls, in the order of document 01: 0, or the number of the first that says no. n is the length of the line store.
 use mathlib.Core.Bool.{Bool, true, not}
-use Prim.Native.Nat.{ℕ}
+use Prim.Native.Nat.{ℕ, _*_}
 use lib.Dec.{leb, ltb, eqb}
 use Rattle.numbers.specs.Signal.{pick, both}
 use Rattle.wavelet.specs.Limits.{maxWidth, maxHeight, maxLevels, maxOrigin}
 use Rattle.wavelet.specs.Questions.{ask, within}
 use Rattle.lifting.specs.Grid.{Side}
 use Rattle.wavelet.specs.Store.{storeLength}
-use Rattle.level.specs.FiveThreeLevel.{fiveThree}
+use Rattle.level.specs.Level.{ahead}
+use Rattle.writer.specs.Kind.{kind}
 use Rattle.writer.specs.declared.Writer.{Writer}
 use Rattle.writer.specs.Counts.{mostLeft, startOf}
 use Rattle.writer.specs.Draws.{Waiting, waiting}
@@ -28,7 +29,7 @@ inRanges s =
     (both (within 1 maxLevels (s .levels))
     (both (leb (s .rows) maxHeight)
     (both (ltb (s .column) (s .width))
-    (both (leb (s .closed) (s .levels))
+    (both (leb (s .closed) (ahead kind * s .levels))
     (both (leb (s .level) (s .levels))
     (both (leb (s .left) (mostLeft (s .levels) (s .level)))
     (eqb (s .offset) (startOf (columnsOf s) (s .level))))))))))
@@ -39,7 +40,7 @@ longEnough n s = leb (storeLength (columnsOf s) (s .levels)) n
 
 -- the row that waits
 abbrev pub waitingRow : Writer → Waiting
-waitingRow s = waiting fiveThree (s .levels) (columnsOf s) (s .y) (s .closed) (s .level) (s .left) (s .rows)
+waitingRow s = waiting kind (s .levels) (columnsOf s) (s .y) (s .closed) (s .level) (s .left) (s .rows)
 
 unfoldable pub setUpQuestion : Side → ℕ → ℕ → ℕ
 setUpQuestion W L n =

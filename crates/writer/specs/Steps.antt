@@ -1,11 +1,11 @@
 -- What the private functions require and leave: the machine's steps at the 5/3 level. Nothing here needs to be believed.
 use mathlib.Core.Path.{_≡_}
-use Prim.Native.Nat.{ℕ, _+_, _^_, _<_, _≤_}
+use Prim.Native.Nat.{ℕ, _+_, _*_, _^_, _<_, _≤_}
 use Rattle.lifting.specs.Grid.{Side, side, count}
 use Rattle.wavelet.specs.Bands.{across, code}
 use Rattle.wavelet.specs.Order.{setRow}
 use Rattle.wavelet.specs.Store.{storeLength}
-use Rattle.level.specs.Level.{Memory, prev, rest, joinAt}
+use Rattle.level.specs.Level.{Memory, prev, rest, joinAt, ahead}
 use Rattle.level.specs.FiveThreeLevel.{fiveThree, bandPlace}
 use Rattle.writer.specs.declared.Writer.{Writer}
 use Rattle.writer.specs.declared.cascade.Wait.{Wait}
@@ -96,6 +96,24 @@ pub record Found (l : ℕ) (W : Side) (o : Waiting) (r : Spot) : Type 0 where
   pub room : r .start + r .length ≤ storeLength W l
   pub within : r .level ≤ l
 
+-- nothing waits, and c steps of the closing are done
+abbrev pub noWait : Wait
+noWait = record { level = 0; left = 0; offset = 0 }
+
+abbrev pub idle : ℕ → Closure
+idle c = record { closed = c; level = 0; left = 0; offset = 0 }
+
+-- what the steps of the first level's closing leave, of l levels, the first of the columns W
+pub record LevelClosed (l : ℕ) (W : Side) (o : Shut) (r : Closure) (x : Memory) : Type 0 where
+  pub closed : r .closed ≡ o .closed
+  pub level : r .level ≡ o .out .level
+  pub left : r .left ≡ o .out .left
+  pub offset : r .offset ≡ startOf W (o .out .level)
+  pub store : x ≡ o .out .store
+  pub within : r .level ≤ l
+  -- while a row waits, no more steps than the level has are done
+  pub some : 0 < r .level → r .closed ≤ ahead fiveThree
+
 -- what the finish of l levels leaves, the first of the columns W
 pub record Closed (l : ℕ) (W : Side) (o : Shut) (r : Closure) (x : Memory) : Type 0 where
   pub closed : r .closed ≡ o .closed
@@ -104,14 +122,14 @@ pub record Closed (l : ℕ) (W : Side) (o : Shut) (r : Closure) (x : Memory) : T
   pub offset : r .offset ≡ startOf W (o .out .level)
   pub store : x ≡ o .out .store
   pub within : r .level ≤ l
-  pub all : r .closed ≤ l
+  pub all : r .closed ≤ ahead fiveThree * l
 
 -- a row waits in a writer whose store has n numbers
 pub record Drawable (s : Writer) (n : ℕ) : Type 0 where
   pub room : Room (s .levels) (columnsOf s) (s .rows) n
   pub walk : Walk (s .levels) (columnsOf s) (s .level) (s .rows)
   pub placed : Placed s
-  pub closed : s .closed ≤ s .levels
+  pub closed : s .closed ≤ ahead fiveThree * s .levels
 
 -- what the draw leaves: the writer r and the store y
 pub record Drew (s : Writer) (x : Memory) (r : Writer) (y : Memory) : Type 0 where

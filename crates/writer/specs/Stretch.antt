@@ -4,8 +4,8 @@ use mathlib.Core.List.{List}
 use Prim.Native.Nat.{ℕ, _+_, _-_, _%_, _<_, min}
 use Rattle.numbers.specs.Signal.{pick}
 use Rattle.level.specs.Level.{Memory}
-use Rattle.level.specs.FiveThreeLevel.{fiveThree}
 use Rattle.level.specs.Heights.{heightAt, heightsPut}
+use Rattle.writer.specs.Kind.{kind}
 use Rattle.writer.specs.declared.Writer.{Writer}
 use Rattle.writer.specs.Machine.{arrive}
 use Rattle.writer.specs.Taking.{columnsOf, takes, complete}
@@ -42,8 +42,8 @@ pub record Stretched (s : Writer) (run : List ℕ) (k n : ℕ) (x : Memory) (r :
   pub inside : s .column + n < s .width → (r ≡ atColumn s (s .column + n)) ×
       (y ≡ heightsPut (columnsOf s) (s .y % 2 + s .rows) (s .column) n (λ j. heightAt run (k + j)) x)
   pub whole : s .column + n ≡ s .width →
-      (r ≡ complete s (arrive fiveThree (s .levels) (columnsOf s) (s .y) (s .rows)
+      (r ≡ complete s (arrive kind (s .levels) (columnsOf s) (s .y) (s .rows)
       (heightsPut (columnsOf s) (s .y % 2 + s .rows) (s .column) n (λ j. heightAt run (k + j)) x)))
-      × (y ≡ arrive fiveThree (s .levels) (columnsOf s) (s .y) (s .rows)
+      × (y ≡ arrive kind (s .levels) (columnsOf s) (s .y) (s .rows)
       (heightsPut (columnsOf s) (s .y % 2 + s .rows) (s .column) n (λ j. heightAt run (k + j)) x) .store)
   pub taker : Taker r l

@@ -4,13 +4,14 @@
 use crate::counts;
 use level::making;
 use wavelet::sizes;
+ghost use mathlib.Core.Path.{_≡_};
 ghost use Prim.Native.Nat.{_+_};
 ghost use lib.ListN.{length};
 ghost use Rattle.numbers.specs.Signal.{at};
 ghost use Rattle.lifting.specs.Grid.{side};
 ghost use Rattle.level.specs.FiveThreeLevel.{fiveThree};
 ghost use Rattle.writer.specs.Machine.{arrive, passOn};
-ghost use Rattle.writer.specs.Steps.{Left, Room};
+ghost use Rattle.writer.specs.Steps.{Left, Room, noWait};
 
 // What waits: the level, from 1, of the set that is being handed out (0: nothing), the bands of it that are left, and where that level's stretch begins,
 // counted as the level is.
@@ -20,26 +21,26 @@ pub struct Wait {
     pub offset: usize,
 }
 
+// Nothing waits.
+pub fn nothing() -> Wait
+    ensures { λ r. ⌜ r ≡ noWait ⌝ }
+{
+    Wait {
+        level: 0,
+        left: 0,
+        offset: 0,
+    }
+}
+
 // Row m of a level stands in its slot; the level and those below it are l.
 pub fn arrive(store: &mut [i32], l: usize, w: usize, x: usize, y: usize, m: usize) -> Wait
     requires { ⌜ Room l (side x w) m (length (now store)) ⌝ }
     ensures { λ r. ⌜ Left l (side x w) (arrive fiveThree l (side x w) y m (at (now (store .entry)))) r (at (now (store .exit))) ⌝ }
 {
-    if l == 0 {
-        return Wait {
-            level: 0,
-            left: 0,
-            offset: 0,
-        };
+    if !counts::sets_off(l, y, m) {
+        return nothing();
     }
-    if !counts::completes(y, m) {
-        return Wait {
-            level: 0,
-            left: 0,
-            offset: 0,
-        };
-    }
-    let n = (y % 2 + m) / 2 - 1;
+    let n = (y % 2 + m) / 2 - making::ahead();
     making::make(store, w, x, y, n);
     let i = counts::next_band(w, x, m + 1, y, n, counts::most(l - 1));
     if 0 < i {
@@ -50,16 +51,12 @@ pub fn arrive(store: &mut [i32], l: usize, w: usize, x: usize, y: usize, m: usiz
         };
     }
     if !counts::goes_on(l - 1, y, n) {
-        return Wait {
-            level: 0,
-            left: 0,
-            offset: 0,
-        };
+        return nothing();
     }
     let k = n - y % 2;
     let s = sizes::next_start(y);
     making::deliver(store, w, x, n, s % 2 + k);
-    let a = 4 * w;
+    let a = counts::stretch(w, x);
     let r = arrive(
         &mut store[a..],
         l - 1,
@@ -81,16 +78,12 @@ pub fn pass_on(store: &mut [i32], l: usize, w: usize, x: usize, y: usize, n: usi
     ensures { λ r. ⌜ Left (l + 1) (side x w) (passOn fiveThree l (side x w) y n (at (now (store .entry)))) r (at (now (store .exit))) ⌝ }
 {
     if !counts::goes_on(l, y, n) {
-        return Wait {
-            level: 0,
-            left: 0,
-            offset: 0,
-        };
+        return nothing();
     }
     let k = n - y % 2;
     let s = sizes::next_start(y);
     making::deliver(store, w, x, n, s % 2 + k);
-    let a = 4 * w;
+    let a = counts::stretch(w, x);
     let r = arrive(
         &mut store[a..],
         l,

@@ -1,20 +1,22 @@
-// The finish: the levels close in turn, each once nothing waits at any level.
-// A level has w columns, the first at coordinate x; its rows start at coordinate y.
+// The finish: the levels close in turn, each step once nothing waits at any level.
+// A level has w columns, the first at coordinate x, and m rows, the first at coordinate y.
 // The module is private: only this crate, which meets what is required, can call it.
 use crate::cascade;
 use crate::cascade::Wait;
 use crate::counts;
 use level::making;
 use wavelet::sizes;
-ghost use Prim.Native.Nat.{_<_, _≤_, _+_};
+ghost use mathlib.Core.Path.{_≡_};
+ghost use Prim.Native.Nat.{_≤_, _+_, _-_, _*_};
 ghost use lib.ListN.{length};
 ghost use Rattle.numbers.specs.Signal.{at};
 ghost use Rattle.lifting.specs.Grid.{side};
+ghost use Rattle.level.specs.Level.{ahead};
 ghost use Rattle.level.specs.FiveThreeLevel.{fiveThree};
-ghost use Rattle.writer.specs.Closing.{closeLevel, shut};
-ghost use Rattle.writer.specs.Steps.{Room, Left, Closed};
+ghost use Rattle.writer.specs.Closing.{closeStep, closeLevel, shut};
+ghost use Rattle.writer.specs.Steps.{Room, Left, LevelClosed, Closed, idle};
 
-// How many levels are closed, and what waits.
+// How many steps are done, and what waits.
 pub struct Closure {
     pub closed: usize,
     pub level: usize,
@@ -22,34 +24,27 @@ pub struct Closure {
     pub offset: usize,
 }
 
-// The last set of the level's m rows is made, if it is not closed yet; l levels are below.
-fn close_level(
-    store: &mut [i32],
-    l: usize,
-    w: usize,
-    x: usize,
-    y: usize,
-    c: usize,
-    m: usize,
-) -> Wait
-    requires { ⌜ Room (l + 1) (side x w) m (length (now store)) ⌝ }
-    ensures { λ r. ⌜ Left (l + 1) (side x w) (closeLevel fiveThree l (side x w) y c m (at (now (store .entry)))) r (at (now (store .exit))) ⌝ }
+// c steps are done, and nothing waits.
+fn idle(c: usize) -> Closure
+    ensures { λ r. ⌜ r ≡ idle c ⌝ }
 {
-    if 0 < c {
-        return Wait {
-            level: 0,
-            left: 0,
-            offset: 0,
-        };
+    Closure {
+        closed: c,
+        level: 0,
+        left: 0,
+        offset: 0,
     }
-    if m == 0 {
-        return Wait {
-            level: 0,
-            left: 0,
-            offset: 0,
-        };
+}
+
+// Step c of the level: its first set that is not made is made, if one is left; l levels are below.
+fn close_step(store: &mut [i32], l: usize, w: usize, x: usize, y: usize, c: usize, m: usize) -> Wait
+    requires { ⌜ Room (l + 1) (side x w) m (length (now store)) ⌝ }
+    ensures { λ r. ⌜ Left (l + 1) (side x w) (closeStep fiveThree l (side x w) y c m (at (now (store .entry)))) r (at (now (store .exit))) ⌝ }
+{
+    let n = counts::made(c, y, m);
+    if !counts::is_left(y, m, n) {
+        return cascade::nothing();
     }
-    let n = (y % 2 + (m - 1)) / 2;
     making::close(store, w, x, y, m);
     let i = counts::next_band(w, x, m, y, n, counts::most(l));
     if 0 < i {
@@ -62,7 +57,38 @@ fn close_level(
     cascade::pass_on(store, l, w, x, y, n)
 }
 
-// The l levels close, of which c are closed, until a row waits.
+// The steps of the level from step c on, until a row waits.
+fn close_level(
+    store: &mut [i32],
+    l: usize,
+    w: usize,
+    x: usize,
+    y: usize,
+    c: usize,
+    m: usize,
+) -> Closure
+    requires { ⌜ Room (l + 1) (side x w) m (length (now store)) ⌝ }
+    ensures { λ r. ⌜ LevelClosed (l + 1) (side x w) (closeLevel fiveThree (ahead fiveThree - c) l (side x w) y c m (at (now (store .entry)))) r
+        (at (now (store .exit))) ⌝ }
+{
+    let a = making::ahead();
+    let mut k = c;
+    while k < a {
+        let o = close_step(store, l, w, x, y, k, m);
+        k += 1;
+        if 0 < o.level {
+            return Closure {
+                closed: k,
+                level: o.level,
+                left: o.left,
+                offset: o.offset,
+            };
+        }
+    }
+    idle(k)
+}
+
+// The l levels close, c steps being done, until a row waits.
 pub fn shut(
     store: &mut [i32],
     l: usize,
@@ -72,38 +98,28 @@ pub fn shut(
     c: usize,
     m: usize,
 ) -> Closure
-    requires { ⌜ Room l (side x w) m (length (now store)) × (c ≤ l) ⌝ }
+    requires { ⌜ Room l (side x w) m (length (now store)) × (c ≤ ahead fiveThree * l) ⌝ }
     ensures { λ r. ⌜ Closed l (side x w) (shut fiveThree l (side x w) y c m (at (now (store .entry)))) r (at (now (store .exit))) ⌝ }
 {
     if l == 0 {
-        return Closure {
-            closed: c,
-            level: 0,
-            left: 0,
-            offset: 0,
-        };
+        return idle(c);
     }
     let o = close_level(store, l - 1, w, x, y, c, m);
     if 0 < o.level {
-        return Closure {
-            closed: 1,
-            level: o.level,
-            left: o.left,
-            offset: o.offset,
-        };
+        return o;
     }
-    let a = 4 * w;
+    let a = counts::stretch(w, x);
     let r = shut(
         &mut store[a..],
         l - 1,
         sizes::low_count(x, w),
         sizes::next_start(x),
         sizes::next_start(y),
-        counts::prev(c),
+        counts::closed_below(c),
         sizes::low_count(y, m),
     );
     Closure {
-        closed: r.closed + 1,
+        closed: making::ahead() + r.closed,
         level: counts::deeper(r.level),
         left: r.left,
         offset: counts::further(r.level, a, r.offset),

@@ -1,17 +1,18 @@
 // The numbers that the writer derives on its way down the levels. A level has w columns, the first at coordinate x, and has received m rows, the first at
 // coordinate y. The module is private: only this crate, which meets what is required, can call it.
+use level::making;
 use level::rows;
 use wavelet::sizes;
 ghost use mathlib.Core.Path.{_≡_};
-ghost use Prim.Native.Nat.{_<_, _+_, _/_, _%_, _^_};
+ghost use Prim.Native.Nat.{_<_, _-_, _%_, _^_};
 ghost use lib.Dec.{ltb, leb};
 ghost use Rattle.numbers.specs.Signal.{both};
 ghost use Rattle.lifting.specs.Line.{hi};
 ghost use Rattle.lifting.specs.Grid.{side, count};
 ghost use Rattle.wavelet.specs.Bands.{across, down, code};
-ghost use Rattle.wavelet.specs.Order.{firstSet, setRow, setHas};
-ghost use Rattle.level.specs.Level.{prev, completes};
-ghost use Rattle.level.specs.FiveThreeLevel.{slot};
+ghost use Rattle.wavelet.specs.Order.{firstSet, lastSet, setRow, setHas};
+ghost use Rattle.level.specs.Level.{prev, completes, ahead};
+ghost use Rattle.level.specs.FiveThreeLevel.{fiveThree};
 ghost use Rattle.writer.specs.Counts.{deeper, deeperBy, further, made, lowRows, most, bandAt, skip};
 
 // One less, and 0 of 0.
@@ -45,15 +46,45 @@ pub fn further(v: usize, a: usize, o: usize) -> usize
     if 0 < v { a + o } else { 0 }
 }
 
-// How many sets a level has made; c = 0: and is not closed.
+// How many sets a level has made, c steps of its closing being done: all of them, or all but those that are left for the steps to come.
 pub fn made(c: usize, y: usize, m: usize) -> usize
     requires { ⌜ m < 2 ^ 32 ⌝ }
-    ensures { λ r. ⌜ r ≡ made c y m ⌝ }
+    ensures { λ r. ⌜ r ≡ made (ahead fiveThree) c y m ⌝ }
 {
-    if c == 0 {
-        return (y % 2 + prev(m)) / 2;
+    let a = making::ahead();
+    let all = (y % 2 + m + 1) / 2;
+    if a <= c {
+        return all;
     }
-    (y % 2 + m + 1) / 2
+    let n = (y % 2 + prev(m)) / 2 + 1;
+    if n < a {
+        if all < c {
+            return all;
+        }
+        return c;
+    }
+    n - a + c
+}
+
+// Whether set n is one of them or the first that is not made: a set of the m rows.
+pub fn is_left(y: usize, m: usize, n: usize) -> bool
+    ensures { λ r. ⌜ r ≡ both (ltb 0 m) (leb n (lastSet (side y m))) ⌝ }
+{
+    if m == 0 {
+        return false;
+    }
+    n <= (y % 2 + (m - 1)) / 2
+}
+
+// How many steps of the closing are done below a level, of c: the level itself has as many as its look-ahead.
+pub fn closed_below(c: usize) -> usize
+    ensures { λ r. ⌜ r ≡ c - ahead fiveThree ⌝ }
+{
+    let a = making::ahead();
+    if c < a {
+        return 0;
+    }
+    c - a
 }
 
 // How many rows n sets give the next level.
@@ -69,13 +100,24 @@ pub fn low_rows(y: usize, n: usize) -> usize
 // Whether row m completes a set.
 pub fn completes(y: usize, m: usize) -> bool
     requires { ⌜ m < 2 ^ 32 ⌝ }
-    ensures { λ r. ⌜ r ≡ completes y m ⌝ }
+    ensures { λ r. ⌜ r ≡ completes (ahead fiveThree) y m ⌝ }
 {
     let q = y % 2 + m;
-    if q < 2 {
+    if q < 2 * making::ahead() {
         return false;
     }
     q % 2 == 0
+}
+
+// Whether row m sets off a set of the first of l levels.
+pub fn sets_off(l: usize, y: usize, m: usize) -> bool
+    requires { ⌜ m < 2 ^ 32 ⌝ }
+    ensures { λ r. ⌜ r ≡ both (ltb 0 l) (completes (ahead fiveThree) y m) ⌝ }
+{
+    if l == 0 {
+        return false;
+    }
+    completes(y, m)
 }
 
 // Whether set n gives a row to the l levels below.
@@ -193,10 +235,10 @@ pub fn next_band(w: usize, x: usize, m: usize, y: usize, n: usize, i: usize) -> 
     0
 }
 
-// Where the slot of row q begins.
-pub fn slot(w: usize, q: usize) -> usize
+// How many numbers the stretch of a level has.
+pub fn stretch(w: usize, x: usize) -> usize
     requires { ⌜ w < 4294967296 ⌝ }
-    ensures { λ s. ⌜ s ≡ slot w q ⌝ }
+    ensures { λ r. ⌜ r ≡ fiveThree .stretch (side x w) ⌝ }
 {
-    rows::slot(w, q)
+    rows::stretch(w, x)
 }

@@ -3,14 +3,11 @@ use crate::Writer;
 use crate::cascade;
 use crate::cascade::Wait;
 use crate::counts;
+use level::rows;
 use wavelet::sizes;
-ghost use mathlib.Core.Path.{_≡_};
-ghost use Prim.Native.Nat.{_<_, _+_, _*_, _^_};
 ghost use lib.ListN.{length};
 ghost use Rattle.numbers.specs.Signal.{at};
 ghost use Rattle.lifting.specs.Grid.{side};
-ghost use Rattle.level.specs.FiveThreeLevel.{bandPlace};
-ghost use Rattle.writer.specs.Counts.{bandAt};
 ghost use Rattle.writer.specs.Questions.{waitingRow};
 ghost use Rattle.writer.specs.Taking.{columnsOf};
 ghost use Rattle.writer.specs.Calls.{pulled};
@@ -25,19 +22,6 @@ pub struct Spot {
     pub start: usize,
 }
 
-// Where the row of the band that i bands come after stands, of set n of a level of w columns, the first at coordinate x.
-fn place(w: usize, x: usize, n: usize, i: usize) -> usize
-    requires { ⌜ (w < 2 ^ 16) × (n < 2 ^ 33) ⌝ }
-    ensures { λ r. ⌜ r ≡ bandPlace (side x w) n (bandAt i) ⌝ }
-{
-    match i {
-        0 => counts::slot(w, 2 * n + 3) + sizes::low_count(x, w),
-        1 => counts::slot(w, 2 * n + 3),
-        2 => counts::slot(w, 2 * n) + sizes::low_count(x, w),
-        _ => counts::slot(w, 2 * n),
-    }
-}
-
 // A level that a set is handed out of: the levels below it, its columns and the first one's coordinate, the rows that it has received and the first one's
 // coordinate, and the number of the set.
 pub struct Level {
@@ -49,8 +33,8 @@ pub struct Level {
     pub set: usize,
 }
 
-// Level v of l levels, the first of w columns from x on and m rows from y on, of which c are closed. Numbers alone: where it stands in the store, the writer
-// carries.
+// Level v of l levels, the first of w columns from x on and m rows from y on, c steps of the closing being done. Numbers alone: where it stands in the store,
+// the writer carries.
 pub fn level_of(l: usize, w: usize, x: usize, y: usize, c: usize, v: usize, m: usize) -> Level
     requires { ⌜ Walk l (side x w) v m ⌝ }
     ensures { λ r. ⌜ Reaches l (side x w) y c v m r ⌝ }
@@ -64,7 +48,7 @@ pub fn level_of(l: usize, w: usize, x: usize, y: usize, c: usize, v: usize, m: u
     while 1 < k {
         rows = counts::low_rows(row, counts::made(closed, row, rows));
         row = sizes::next_start(row);
-        closed = counts::prev(closed);
+        closed = counts::closed_below(closed);
         width = sizes::low_count(column, width);
         column = sizes::next_start(column);
         k -= 1;
@@ -86,12 +70,13 @@ pub fn waiting(s: Writer, q: Level) -> Spot
     ensures { λ r. ⌜ Found (s .levels) (columnsOf s) (waitingRow s) r ⌝ }
 {
     let i = counts::prev(s.left);
+    let band = counts::code(i);
     Spot {
         level: s.level,
-        band: counts::code(i),
+        band,
         row: counts::set_row(q.rows, q.y, q.set, i),
         length: counts::columns(q.width, q.x, i),
-        start: s.offset + place(q.width, q.x, q.set, i),
+        start: s.offset + rows::band_place(q.width, q.x, q.set, band),
     }
 }
 

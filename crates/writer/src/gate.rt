@@ -1,6 +1,7 @@
 // The gate questions of the writer's calls, in order: 0, or the number of the first that says no.
 use crate::Writer;
 use crate::counts;
+use level::making;
 use wavelet::limits;
 use wavelet::sizes;
 use wavelet::store;
@@ -24,7 +25,7 @@ fn begins(w: usize, x: usize, v: usize, o: usize) -> bool
     let mut rest = o;
     let mut k = v;
     while 1 < k {
-        let a = 4 * width;
+        let a = counts::stretch(width, column);
         if rest < a {
             return false;
         }
@@ -82,21 +83,13 @@ pub fn in_ranges(s: Writer) -> bool
     if s.width <= s.column {
         return false;
     }
-    if s.levels < s.closed {
+    if making::ahead() * s.levels < s.closed {
         return false;
     }
     if s.levels < s.level {
         return false;
     }
     waits_in_range(s)
-}
-
-// Whether n numbers are enough for every number of levels. At the most levels a width of 2^k + 1 needs just as many, so the sizes are seldom added up.
-fn holds_any(width: usize, n: usize) -> bool
-    requires { ⌜ width < 2 ^ 16 ⌝ }
-    ensures { λ r. ⌜ r ≡ leb ((31 * width + 52) / 4) n ⌝ }
-{
-    (31 * width + 52) / 4 <= n
 }
 
 // Questions 1 and 5, n being the length of the store. The first is asked before: two small functions are put into each call, one of both would not be.
@@ -107,7 +100,7 @@ pub fn state_question(s: Writer, fits: bool, n: usize) -> u8
     if !fits {
         return 1;
     }
-    if holds_any(s.width, n) {
+    if store::holds_any(s.width, n) {
         return 0;
     }
     if n < store::store_length(s.width, s.x, s.levels) {

@@ -32,7 +32,7 @@ pub struct Writer {
     // heights taken of the row begun
     pub column: usize,
     pub finished: bool,
-    // levels that the finish has closed
+    // steps of the closing that the finish has done, as many a level as its look-ahead
     pub closed: usize,
     // the level, from 1, whose set is being handed out; 0: nothing waits
     pub level: usize,

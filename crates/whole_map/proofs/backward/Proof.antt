@@ -3,6 +3,8 @@ use mathlib.Core.Path.{sym, _∙_}
 use Prim.Native.Nat.{_≤_}
 use native.Mathlib.Omega.{arith}
 use lib.ListN.{length}
+use Rattle.wavelet.proofs.LimitLaws.{five-three-few}
+use Rattle.whole_map.specs.ByFilter.{filterOf}
 use Rattle.whole_map.specs.Calls.{backwardQuestion}
 use Rattle.whole_map.proofs.CallLaws.{roomy-is, asked-on, asked-no, asked-few, rebuilt-no}
 use borrow.Author.Needs.{needs}
@@ -31,10 +33,11 @@ cast-restore-2 : tie.Need-cast-restore-2
 cast-restore-2 c = search needs
 
 restore-requires : tie.Need-restore-requires
+unfolding filterOf
 restore-requires c κs =
     let q = c .before .before .before .before in
     let r = roomy-is _ _ _ _ _ _ (sym (q .before .size-question .ensures) ∙ q .if1 .left) in
-    (r .size, r .first, r .second, r .third)
+    (r .size, r .first, r .second, r .third, five-three-few (r .size .levels .1))
 
 same-length : tie.Need-same-length
 same-length c = search needs
@@ -43,7 +46,7 @@ same-length-2 : tie.Need-same-length-2
 same-length-2 c = search needs
 
 returns-2 : tie.Need-returns-2
-unfolding backwardQuestion
+unfolding backwardQuestion filterOf
 returns-2 c =
     let made = c .before .before .before in
     let q = made .before .before .before .before .before in (

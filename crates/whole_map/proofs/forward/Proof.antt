@@ -1,5 +1,7 @@
 -- `forward` meets its contract: the questions, and then the transform. Assumes nothing.
 use mathlib.Core.Path.{refl, sym, _∙_}
+use Rattle.wavelet.proofs.LimitLaws.{five-three-few}
+use Rattle.whole_map.specs.ByFilter.{filterOf}
 use Rattle.whole_map.specs.Calls.{forwardQuestion}
 use Rattle.whole_map.proofs.CallLaws.{roomy-is, passed-no, passed-yes}
 use borrow.Author.Needs.{needs}
@@ -21,10 +23,11 @@ cast-transform-2 : tie.Need-cast-transform-2
 cast-transform-2 c = search needs
 
 transform-requires : tie.Need-transform-requires
+unfolding filterOf
 transform-requires c κs =
     let q = c .before .before .before .before in
     let r = roomy-is _ _ _ _ _ _ (sym (q .before .size-question .ensures) ∙ q .if1 .left) in
-    (r .size, r .first, r .second, r .third)
+    (r .size, r .first, r .second, r .third, five-three-few (r .size .levels .1))
 
 same-length : tie.Need-same-length
 same-length c = search needs
@@ -33,7 +36,7 @@ same-length-2 : tie.Need-same-length-2
 same-length-2 c = search needs
 
 returns-2 : tie.Need-returns-2
-unfolding forwardQuestion
+unfolding forwardQuestion filterOf
 returns-2 c =
     let made = c .before .before in
     let q = made .before .before .before .before .before in (

@@ -1,6 +1,8 @@
 -- `rebuild` meets its contract: the levels, and then the rows tested and stored. Assumes nothing.
 use native.Mathlib.Omega.{arith}
 use borrow.Author.Tests.{not-true, not-false}
+use Rattle.whole_map.proofs.ByFilterLaws.{filter-laws}
+use Rattle.whole_map.specs.ByFilter.{filterOf}
 use Rattle.whole_map.proofs.GridSweep.{rows-kept}
 use Rattle.whole_map.proofs.CallLaws.{map-rows, map-doubling, map-no, map-yes}
 use borrow.Author.Needs.{needs}
@@ -11,7 +13,7 @@ back-levels-requires : tie.Need-back-levels-requires
 back-levels-requires c κs =
     let start = c .before .before in
     let s = start .pre .0 in
-    (map-rows _ _ _ _ s (start .pre .1), map-rows _ _ _ _ s (start .pre .3), map-doubling _ _ _ s, omega (arith, s .levels .1))
+    (map-rows _ _ _ _ s (start .pre .1), map-rows _ _ _ _ s (start .pre .3), map-doubling _ _ _ s, omega (arith, start .pre .4))
 
 same-length : tie.Need-same-length
 same-length c = search needs
@@ -20,7 +22,8 @@ returns : tie.Need-returns
 returns c =
     let back = c .before .before in
     let start = back .before .before .before in
-    map-no _ _ _ _ _ _ _ (start .pre .0) _ (not-true _ (c .if1 .taken)) (back .back-levels .ensures)
+    map-no (filterOf (start .args .filter)) (filter-laws (start .args .filter)) _ _ _ _ _ _ _ (start .pre .0) _ (not-true _ (c .if1 .taken))
+    (back .back-levels .ensures)
 
 finish-rows-requires : tie.Need-finish-rows-requires
 finish-rows-requires c κs =
@@ -41,7 +44,8 @@ returns-2 c =
     let good = finish .before .before .before in
     let back = good .before .before in
     let start = back .before .before .before in
-    map-yes _ _ _ _ _ _ _ (start .pre .0) _ _ _ _ (not-false _ (good .if1 .left)) (back .back-levels .ensures) (finish .finish-rows .ensures)
+    map-yes (filterOf (start .args .filter)) (filter-laws (start .args .filter)) _ _ _ _ _ _ _ (start .pre .0) _ _ _ _ (not-false _ (good .if1 .left))
+    (back .back-levels .ensures) (finish .finish-rows .ensures)
 
 pub rebuild-spec : {M : Type 1} → statement M
 rebuild-spec =

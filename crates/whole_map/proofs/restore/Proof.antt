@@ -6,19 +6,23 @@ use lib.Dec.{leb}
 use native.Mathlib.Omega.{arith}
 use borrow.Author.Tests.{not-true, not-false, le-leb}
 use Rattle.areas.proofs.AreaLaws.{did}
+use Rattle.whole_map.proofs.ByFilterLaws.{filter-laws}
+use Rattle.whole_map.specs.ByFilter.{filterOf}
 use Rattle.whole_map.proofs.CallLaws.{cleared, rebuilt-no, rebuilt-yes, rebuilt-zero, out-of-range, not-rebuilt, all-rebuilt}
 use borrow.Author.Needs.{needs}
 use Rattle.whole_map.proofs.restore.Statement.{statement}
 use Rattle.whole_map.proofs.restore.Tie as tie
 
 plane-in-range-requires : tie.Need-plane-in-range-requires
-plane-in-range-requires c κs = (c .before .pre .0, c .before .pre .1)
+plane-in-range-requires c κs = (c .before .pre .0, c .before .pre .1, c .before .pre .4)
 
 returns : tie.Need-returns
-returns c = (
-  out-of-range _ _ _ _ _ (c .before .plane-in-range .ensures) (not-true _ (c .if1 .taken)),
-  (rebuilt-no _ _ _ 7 (omega arith) (omega arith), rebuilt-no _ _ _ 7 (omega arith) (omega arith)),
-)
+returns c =
+    let start = c .before .before .before in (
+      out-of-range (filterOf (start .args .filter)) (filter-laws (start .args .filter)) _ _ _ _ _ (c .before .plane-in-range .ensures)
+          (not-true _ (c .if1 .taken)),
+      (rebuilt-no _ _ _ 7 (omega arith) (omega arith), rebuilt-no _ _ _ 7 (omega arith) (omega arith)),
+    )
 
 rebuild-requires : tie.Need-rebuild-requires
 rebuild-requires c κs = search needs
@@ -53,7 +57,8 @@ returns-2 c =
     let size = start .args .width * start .args .height in
     let room : (m k : ℕ) → m ≡ k → size ≤ k → leb size m ≡ true = λ m k e h. le-leb size m (omega arith) in
     let b = map .rebuild .ensures in (
-      not-rebuilt _ _ _ _ _ (range .plane-in-range .ensures) (not-false _ (good .if1 .left)) _ (b .answer) (not-true _ (bad .if2 .taken)),
+      not-rebuilt (filterOf (start .args .filter)) (filter-laws (start .args .filter)) _ _ _ _ _ (range .plane-in-range .ensures)
+          (not-false _ (good .if1 .left)) _ (b .answer) (not-true _ (bad .if2 .taken)),
       (
         cleared _ _ _ _ _ (start .pre .0 .height .0) (b .keptHeights)
             (did _ _ _ _ (room _ _ (map .rebuild .kept .1 .1 .1 .1 .1 .1 .0) (start .pre .2)) (heights .clear-heights .ensures .1)) ∙ sym (rebuilt-zero _ _ _),
@@ -73,9 +78,11 @@ returns-3 c =
     let map = c .before .before .before .before in
     let good = map .before .before .before in
     let range = good .before in
+    let start = range .before .before in
     let t = not-false _ (c .if2 .left) in
     let b = map .rebuild .ensures in (
-      all-rebuilt _ _ _ _ _ (range .plane-in-range .ensures) (not-false _ (good .if1 .left)) _ (b .answer) t,
+      all-rebuilt (filterOf (start .args .filter)) (filter-laws (start .args .filter)) _ _ _ _ _ (range .plane-in-range .ensures)
+          (not-false _ (good .if1 .left)) _ (b .answer) t,
       (b .heights t ∙ sym (rebuilt-yes _ _ _), b .cleared t ∙ sym (rebuilt-yes _ _ _)),
     )
 

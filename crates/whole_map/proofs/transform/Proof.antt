@@ -4,6 +4,8 @@ use native.Mathlib.Omega.{arith}
 use lib.ListN.{length, getD}
 use borrow.Author.Tests.{le-leb}
 use Rattle.areas.proofs.AreaLaws.{did}
+use Rattle.whole_map.specs.ByFilter.{filterOf}
+use Rattle.whole_map.proofs.ByFilterLaws.{filter-laws}
 use Rattle.whole_map.proofs.CallLaws.{map-rows, plane-made, cleared}
 use borrow.Author.Needs.{needs}
 use Rattle.whole_map.proofs.transform.Statement.{statement}
@@ -43,7 +45,8 @@ returns c =
     let room = le-leb (start .args .width * start .args .height) (length (after .last .1 .0)) (omega (arith, start .pre .3, after .kept .1 .0)) in
     let fits : (i : ℕ) → getD (start .args .heights .now) i 0 < 65536 =
     λ i. omega (arith, load .before .before .shared-slice-known .given i) in (
-      plane-made _ _ _ (start .args .heights .now) _ _ s (load .load-rows .ensures) _ fits (levels .forward-levels .ensures .0),
+      plane-made (filterOf (start .args .filter)) (filter-laws (start .args .filter)) _ _ _ (start .args .heights .now) _ _ s (load .load-rows .ensures)
+          (start .pre .4) _ fits (levels .forward-levels .ensures .0),
       cleared _ _ _ _ _ (s .height .0) (levels .forward-levels .ensures .1) (did _ _ _ _ room (c .before .clear .ensures .1)),
     )
 

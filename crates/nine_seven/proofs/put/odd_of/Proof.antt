@@ -133,7 +133,8 @@ returns c =
       read-back (e4 .even-of4 .result) (e4 .even-of4 .ok),
     )
     (odd-value S y (p .pre .1) (a .low) (a .n) e (e1 .even-of .result) (e2 .even-of2 .result) (e3 .even-of3 .result) (e4 .even-of4 .result) _ _ _ _
-    (omega arith) (e1 .before .left .ensures) (e2 .before .nearest .ensures) (e3 .before .far-left .ensures) (e4 .before .far-right .ensures) (e1 .even-of .ensures)
+    (omega arith) (e1 .before .left .ensures) (e2 .before .nearest .ensures) (e3 .before .far-left .ensures) (e4 .before .far-right .ensures)
+    (e1 .even-of .ensures)
     (e2 .even-of2 .ensures) (e3 .even-of3 .ensures) (e4 .even-of4 .ensures))
 
 pub odd-of-spec : {M : Type 1} → statement M

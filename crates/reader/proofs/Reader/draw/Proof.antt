@@ -12,7 +12,8 @@ use Rattle.areas.proofs.AreaLaws.{did}
 use Rattle.level.specs.Rebuilding.{widest}
 use Rattle.level.proofs.WorkLaws.{told-no, told-yes}
 use Rattle.wavelet.proofs.StoreLaws.{first-room}
-use Rattle.reader.specs.State.{columns}
+use Rattle.reader.specs.State.{columns, rows}
+use Rattle.reader.proofs.EnterLaws.{dive-level}
 use Rattle.reader.proofs.QuestionLaws.{counts-small, counts-length, store-in, due-in}
 use Rattle.reader.proofs.CallLaws.{store-14, draw-early, draw-none, draw-12, draw-last, draw-no, draw-nothing, draw-yes, draw-end, fits-yes, fits-no}
 use Rattle.reader.proofs.CallLaws.{drawn-reader, drawn-row, enter-is, zero-kept}
@@ -164,7 +165,21 @@ dive-from-requires c κs =
     (omega arith, one .0 .deep .1, shape .0, shape .2, omega (arith, draws .0))
 
 moved-requires : tie.Need-moved-requires
-moved-requires c κs = tt
+moved-requires c κs =
+    let call = c .before .before .before .before .before .before .before .before .before .before .before .before .before in
+    let fits = call .before .before in
+    let due = fits .before in
+    let ok = due .before .before in
+    let start = ok .before .before .before in
+    let a = start .args in
+    let s = a .self in
+    let one = store-in s _ (sym (ok .before .store-question .ensures) ∙ ok .if1 .left) in
+    let shape = counts-small s (one .0) in
+    let draws = due-in s (sym (due .before .draw-due .ensures) ∙ not-false _ (due .if2 .left)) in
+    let deep = dive-level (s .levels - 0) 0 (columns s) (rows s) (s .drawn + 1) (s .drawn + 1) in (
+      (shape .0, shape .1, shape .2, shape .3, omega (arith, draws .0)),
+      omega (arith, deep, c .dive-from .ensures .level, one .0 .deep .1),
+    )
 
 same-length : tie.Need-same-length
 same-length c = c .before .before .before .before .before .before .before .before .before .before .before .before .before .before .settle-all .kept .1 .0

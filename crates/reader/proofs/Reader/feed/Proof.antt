@@ -5,9 +5,11 @@ use lib.ListN.{length}
 use borrow.Author.Tests.{le-leb}
 use Rattle.areas.proofs.AreaLaws.{did}
 use Rattle.numbers.specs.Signal.{at}
-use Rattle.reader.specs.State.{columns}
+use Rattle.reader.specs.State.{columns, rows}
+use Rattle.reader.specs.State as state
+use Rattle.reader.proofs.StepLaws.{near, fed-level}
 use Rattle.level.proofs.WorkLaws.{told-no, told-yes}
-use Rattle.reader.proofs.QuestionLaws.{counts-length, store-in, row-asked}
+use Rattle.reader.proofs.QuestionLaws.{counts-small, counts-length, store-in, row-asked}
 use Rattle.reader.proofs.CallLaws.{store-14, row-14, feed-early, feed-late, feed-last, feed-no, feed-yes, feed-end}
 use Rattle.reader.proofs.CallLaws.{fits-yes, fits-no, fed-reader, zero-kept}
 use Rattle.reader.proofs.Keeps.{feed-also}
@@ -67,8 +69,8 @@ feed-row-requires c κs =
     let two = row-asked _ _ _ (sym (asked .before .row-question .ensures) ∙ asked .if2 .left) in
     (one .0, next .next-of .ensures, omega (arith, next .next-of .ensures .spot .level, two .0), last .completes .ensures, one .1, two .1)
 
-place-fed-requires : tie.Need-place-fed-requires
-place-fed-requires c κs =
+spot-fed-requires : tie.Need-spot-fed-requires
+spot-fed-requires c κs =
     let last = c .before .before .before .before in
     let asked = last .before in
     let next = asked .before .before in
@@ -77,7 +79,16 @@ place-fed-requires c κs =
     (one .0, next .next-of .ensures, omega (arith, next .next-of .ensures .spot .level, two .0), last .completes .ensures)
 
 moved-requires : tie.Need-moved-requires
-moved-requires c κs = tt
+moved-requires c κs =
+    let last = c .before .before .before .before .before in
+    let asked = last .before in
+    let next = asked .before .before in
+    let ok = next .before in
+    let s = ok .before .before .args .self in
+    let one = store-in s _ (sym (ok .before .store-question .ensures) ∙ ok .if1 .left) in
+    let deep = fed-level (columns s) (rows s) (s .levels) (state.next s .level) (state.next s .set) (state.next s .band)
+    (omega (arith, near s .within, one .0 .at)) in
+    (counts-small s (one .0), omega (arith, deep, c .spot-fed .ensures .level, one .0 .deep .1))
 
 same-length : tie.Need-same-length
 same-length c = c .before .before .before .before .feed-row .kept .1 .0
@@ -97,7 +108,7 @@ returns-3 c =
     let made = told-yes (call .feed-row .result) (at (call .feed-row .last .1 .0)) _ (call .feed-row .ensures .0) (fed .if3 .taken) in
     let v = at (a .run .now) in
     let x = at (a .store .now) in
-    let goes = fed-reader (a .self) (c .moved .result) (there .place-fed .result) (there .place-fed .ensures) (c .moved .ensures) in
+    let goes = fed-reader (a .self) (c .moved .result) (there .spot-fed .result) (there .spot-fed .ensures) (c .moved .ensures) in
     feed-also (a .self) n m x v (feed-yes (a .self) _ _ _ _ _ (fits-yes _ _ made ∙ feed-last (a .self) n m v x one two) goes made)
 
 store-length-requires : tie.Need-store-length-requires
@@ -150,7 +161,7 @@ feed-spec =
     returns-2
     completes-requires
     feed-row-requires
-    place-fed-requires
+    spot-fed-requires
     moved-requires
     same-length
     returns-3

@@ -1,7 +1,10 @@
 -- `reader::Reader::set_up` meets its contract: refused by a question, or the needed part of the store cleared. Assumes nothing.
 use mathlib.Core.Path.{_∙_, sym, refl}
+use Prim.Native.Nat.{_-_}
 use native.Mathlib.Omega.{arith}
+use mathlib.Core.Bool.{false}
 use lib.ListN.{length}
+use Rattle.reader.specs.declared.Reader.{Reader}
 use borrow.Author.Needs.{needs}
 use borrow.Author.Tests.{le-leb}
 use Rattle.numbers.specs.Signal.{at}
@@ -12,6 +15,7 @@ use Rattle.wavelet.proofs.QuestionLaws.{within-true}
 use Rattle.areas.proofs.AreaLaws.{did}
 use Rattle.reader.proofs.StoreLaws.{length-is}
 use Rattle.reader.proofs.QuestionLaws.{up-in}
+use Rattle.reader.proofs.EnterLaws.{dive-level}
 use Rattle.reader.proofs.CallLaws.{set-up-no, set-up-yes, fresh-at, enter-is}
 use Rattle.reader.proofs.Keeps.{set-up-also}
 use Rattle.reader.proofs.Reader.set_up.Statement.{statement}
@@ -51,12 +55,27 @@ dive-from-requires c κs =
     let h = within-true 1 maxHeight (a .map .height) (ok .3) in
     (omega arith, l .1, omega (arith, w .1, width-small), omega (arith, h .1, height-small), omega arith)
 
+moved-requires : tie.Need-moved-requires
+moved-requires c κs =
+    let passed = c .before .before .before .before .before in
+    let a = passed .before .before .before .before .args in
+    let ok = up-in (side (a .map .x) (a .map .width)) (side (a .map .y) (a .map .height)) (a .map .levels) _
+    (sym (passed .before .set-up-question .ensures) ∙ passed .if1 .left) in
+    let w = within-true 1 maxWidth (a .map .width) (ok .0) in
+    let l = within-true 1 maxLevels (a .map .levels) (ok .1) in
+    let h = within-true 1 maxHeight (a .map .height) (ok .3) in
+    let deep = dive-level (a .map .levels - 0) 0 (side (a .map .x) (a .map .width)) (side (a .map .y) (a .map .height)) 0 0 in (
+      (omega (arith, w .1, width-small), omega arith, omega (arith, h .1, height-small), omega arith, omega arith),
+      omega (arith, l .1, deep, c .dive-from .ensures .level),
+    )
+
 same-length : tie.Need-same-length
-same-length c = c .before .before .clear .kept .0
+same-length c = c .before .before .before .clear .kept .0
 
 returns-2 : tie.Need-returns-2
 returns-2 c =
-    let call = c .before .before in
+    let dive = c .before in
+    let call = dive .before .before in
     let long = call .before .before in
     let passed = long .before in
     let a = passed .before .before .before .before .args in
@@ -66,7 +85,21 @@ returns-2 c =
     let ok = up-in W H (a .map .levels) _ asked in
     let n = long .store-length .ensures ∙ length-is W (a .map .levels) (ok .0) (ok .1) in
     let room = le-leb (long .store-length .result) (length (a .store .now)) (omega (arith, ok .2, n)) in
-    let there = fresh-at W H (a .map .levels) _ (c .dive-from .result) (enter-is W H (a .map .levels) 0 _ (c .dive-from .ensures)) refl in
+    let s : Reader = record {
+      width = a .map .width;
+      height = a .map .height;
+      levels = a .map .levels;
+      x = a .map .x;
+      y = a .map .y;
+      drawn = 0;
+      level = 0;
+      back = 0;
+      band = 0;
+      ended = false;
+    } in
+    let there = fresh-at W H (a .map .levels) s (c .moved .result) (dive .dive-from .result)
+    (enter-is W H (a .map .levels) 0 _ (dive .dive-from .ensures)) refl refl
+    refl (c .moved .ensures) in
     set-up-also W H (a .map .levels) (length (a .store .now)) (at (a .store .now))
     (set-up-yes W H (a .map .levels) _ _ _ _ _ there asked n (did _ _ _ _ room (call .clear .ensures .1)))
 
@@ -81,5 +114,6 @@ set-up-spec =
     store-length-requires
     clear-requires
     dive-from-requires
+    moved-requires
     same-length
     returns-2)

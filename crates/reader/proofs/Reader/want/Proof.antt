@@ -2,7 +2,7 @@
 use mathlib.Core.Path.{_∙_, sym, refl}
 use native.Mathlib.Omega.{arith}
 use borrow.Author.Tests.{not-true, not-false}
-use Rattle.reader.proofs.QuestionLaws.{counts-in, counts-small}
+use Rattle.reader.proofs.QuestionLaws.{counts-in}
 use Rattle.reader.specs.State.{columns, rows, next}
 use Rattle.reader.proofs.WalkLaws.{up-next}
 use Rattle.reader.proofs.CallLaws.{want-no, want-yes, wants-ended, wants-done, wants-top}
@@ -48,7 +48,7 @@ told-requires c κs =
     let level = band .before in
     let live = level .before .before .before .before .before in
     let s = live .before .before .before .args .self in (
-      up-next (columns s) (rows s) (s .levels) (s .drawn) (next s) (s .level) (band .own-band .result) (level .own-level .result) (level .own-level .ensures)
+      up-next (columns s) (rows s) (s .levels) (s .drawn) (next s) (s .level) (band .own-band .result) (level .own-level .result) (level .own-level .ensures .0)
           (band .own-band .ensures (c .if5 .taken)),
       live .if2 .left,
       omega arith,
@@ -59,18 +59,16 @@ returns-5 c =
     let fit = c .before .before .before .before .before .before .before .before .before in
     c .told .ensures ∙ want-yes _ _ (sym (fit .before .counts-fit .ensures) ∙ not-false _ (fit .if1 .left)) refl
 
-next-at-requires : tie.Need-next-at-requires
-next-at-requires c κs =
-    let fit = c .before .before .before .before .before .before .before .before in
-    let s = fit .before .before .args .self in
-    let counts = counts-in s (sym (fit .before .counts-fit .ensures) ∙ not-false _ (fit .if1 .left)) in
-    (counts-small s counts, omega (arith, counts .at, counts .deep .1))
+next-from-requires : tie.Need-next-from-requires
+next-from-requires c κs =
+    let level = c .before .before in
+    let fit = level .before .before .before .before .before .before in
+    (counts-in _ (sym (fit .before .counts-fit .ensures) ∙ not-false _ (fit .if1 .left)), omega arith, level .own-level .ensures)
 
 told-requires-2 : tie.Need-told-requires-2
-unfolding next
 told-requires-2 c κs =
     let live = c .before .before .before .before .before .before .before .before in
-    (c .next-at .ensures, live .if2 .left, omega arith)
+    (c .next-from .ensures, live .if2 .left, omega arith)
 
 returns-6 : tie.Need-returns-6
 returns-6 c =
@@ -90,6 +88,6 @@ want-spec =
     own-band-requires
     told-requires
     returns-5
-    next-at-requires
+    next-from-requires
     told-requires-2
     returns-6)

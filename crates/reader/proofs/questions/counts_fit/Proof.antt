@@ -1,9 +1,13 @@
 -- `reader::questions::counts_fit` meets its contract: the definition's tests, in its order. Assumes nothing.
-use mathlib.Core.Path.{_∙_, sym}
+use mathlib.Core.Path.{_∙_, sym, ap}
+use Prim.Native.Nat.{_-_, _*_}
+use lib.Dec.{leb}
 use native.Mathlib.Omega.{arith}
 use borrow.Author.Tests.{not-true, not-false}
 use Rattle.wavelet.specs.Limits.{maxWidth, maxHeight, maxLevels, maxOrigin}
-use Rattle.reader.proofs.QuestionLaws.{counts-1, counts-2, counts-3, counts-x, counts-y, counts-4, counts-5, counts-6}
+use Rattle.reader.proofs.QuestionLaws.{counts-1, counts-2, counts-3, counts-x, counts-y, counts-4, counts-5, counts-6, counts-7}
+use Rattle.reader.proofs.OpenedSets.{looks}
+use Rattle.reader.proofs.SetLaws.{ahead-small}
 use Rattle.reader.proofs.questions.counts_fit.Statement.{statement}
 use Rattle.reader.proofs.questions.counts_fit.Tie as tie
 
@@ -79,7 +83,7 @@ returns-7 c =
 returns-8 : tie.Need-returns-8
 unfolding maxWidth maxHeight maxLevels maxOrigin
 returns-8 c =
-    let h = c .before in
+    let h = c .before .before in
     let g = h .before .before in
     let f = g .before .before in
     let e = f .before .before in
@@ -87,7 +91,31 @@ returns-8 c =
     let b = d .before .before in
     let a = b .before .before in
     counts-6 _ (sym (a .before .is-within .ensures) ∙ not-false _ (a .if1 .left)) (sym (b .before .is-within2 .ensures) ∙ not-false _ (b .if2 .left))
-    (sym (d .before .is-within3 .ensures) ∙ not-false _ (d .if3 .left)) (omega arith) (omega arith) (omega arith) (omega arith)
+    (sym (d .before .is-within3 .ensures) ∙ not-false _ (d .if3 .left)) (omega arith) (omega arith) (omega arith) (omega arith) (c .if8 .taken)
+
+look-ahead-requires : tie.Need-look-ahead-requires
+look-ahead-requires c κs = tt
+
+mul-result : tie.Need-mul-result
+mul-result c = omega (arith, c .look-ahead .ensures, ahead-small)
+
+sub-result : tie.Need-sub-result
+sub-result c = omega (arith, c .look-ahead .ensures, looks)
+
+returns-9 : tie.Need-returns-9
+unfolding maxWidth maxHeight maxLevels maxOrigin
+returns-9 c =
+    let i = c .before .before in
+    let h = i .before .before in
+    let g = h .before .before in
+    let f = g .before .before in
+    let e = f .before .before in
+    let d = e .before .before in
+    let b = d .before .before in
+    let a = b .before .before in
+    ap (λ n. leb (a .before .before .args .s .back) (2 * n - 1)) (c .before .look-ahead .ensures)
+    ∙ counts-7 _ (sym (a .before .is-within .ensures) ∙ not-false _ (a .if1 .left)) (sym (b .before .is-within2 .ensures) ∙ not-false _ (b .if2 .left))
+    (sym (d .before .is-within3 .ensures) ∙ not-false _ (d .if3 .left)) (omega arith) (omega arith) (omega arith) (omega arith) (omega arith)
 
 pub counts-fit-spec : {M : Type 1} → statement M
 counts-fit-spec =
@@ -103,4 +131,8 @@ counts-fit-spec =
     returns-5
     returns-6
     returns-7
-    returns-8)
+    returns-8
+    look-ahead-requires
+    mul-result
+    sub-result
+    returns-9)

@@ -3,8 +3,7 @@ use mathlib.Core.Path.{_∙_, ap, sym}
 use native.Mathlib.Omega.{arith}
 use Prim.Native.Nat.{ℕ}
 use lib.Dec.{eqb}
-use Rattle.reader.proofs.QuestionLaws.{counts-small, due-done, due-is}
-use Rattle.reader.specs.State.{next}
+use Rattle.reader.proofs.QuestionLaws.{due-done, due-is}
 use Rattle.reader.proofs.StepLaws.{next-draw}
 use Rattle.reader.proofs.questions.draw_due.Statement.{statement}
 use Rattle.reader.proofs.questions.draw_due.Tie as tie
@@ -17,17 +16,13 @@ returns-2 c =
     let s = c .before .before .before .before .args .s in
     sym (ap (λ (k : ℕ). eqb k 0) (next-draw s (c .if2 .taken))) ∙ due-is s (omega arith)
 
-next-at-requires : tie.Need-next-at-requires
-next-at-requires c κs =
-    let start = c .before .before .before .before in
-    let counts = start .pre in
-    (counts-small (start .args .s) counts, omega (arith, counts .at, counts .deep .1))
+next-of-requires : tie.Need-next-of-requires
+next-of-requires c κs = c .before .before .before .before .pre
 
 returns-3 : tie.Need-returns-3
-unfolding next
 returns-3 c =
     let s = c .before .before .before .before .before .before .args .s in
-    ap (λ (k : ℕ). eqb k 0) (c .before .next-at .ensures .spot .level) ∙ due-is s (omega arith)
+    ap (λ (k : ℕ). eqb k 0) (c .before .next-of .ensures .spot .level) ∙ due-is s (omega arith)
 
 pub draw-due-spec : {M : Type 1} → statement M
-draw-due-spec = tie.close (tie.spec returns returns-2 next-at-requires returns-3)
+draw-due-spec = tie.close (tie.spec returns returns-2 next-of-requires returns-3)

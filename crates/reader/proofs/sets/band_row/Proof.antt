@@ -2,12 +2,12 @@
 use mathlib.Core.Path.{sym}
 use native.Mathlib.Omega.{arith}
 use Rattle.lifting.specs.Grid.{side}
-use Rattle.reader.proofs.SetLaws.{row-low, row-high}
+use Rattle.reader.proofs.SetLaws.{row-low, row-hi}
 use Rattle.reader.proofs.sets.band_row.Statement.{statement}
 use Rattle.reader.proofs.sets.band_row.Tie as tie
 
 returns : tie.Need-returns
-returns c = let a = c .before .args in sym (row-high (side (a .y) (a .h)) (a .band) (a .n) (omega arith))
+returns c = let a = c .before .args in sym (row-hi (side (a .y) (a .h)) (a .band) (a .n) (omega arith))
 
 returns-2 : tie.Need-returns-2
 returns-2 c =

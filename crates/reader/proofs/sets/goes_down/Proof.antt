@@ -1,12 +1,23 @@
--- `reader::sets::goes_down` meets its contract: no cells, the first row, or a later one. Assumes nothing.
+-- `reader::sets::goes_down` meets its contract: no cells, or the definition's test. Assumes nothing.
 use native.Mathlib.Omega.{arith}
 use Rattle.lifting.specs.Grid.{side}
-use Rattle.reader.proofs.SetLaws.{down-none, down-first, down-later, none-of, some-of}
+use Rattle.wavelet.proofs.StepLaws.{set-there}
+use Rattle.reader.specs.Sets.{ahead}
+use Rattle.reader.proofs.OpenedSets.{last-is}
+use Rattle.reader.proofs.SetLaws.{down-none, down-some, none-of, some-of}
 use Rattle.reader.proofs.sets.goes_down.Statement.{statement}
 use Rattle.reader.proofs.sets.goes_down.Tie as tie
 
 returns : tie.Need-returns
 returns c = let a = c .before .args in λ x. down-none (side x (a .w)) (side (a .y) (a .h)) (a .r) (none-of (side x (a .w)) (side (a .y) (a .h)) (c .if1 .taken))
+
+set-of-requires : tie.Need-set-of-requires
+set-of-requires c κs = omega arith
+
+add-result : tie.Need-add-result
+add-result c =
+    let a = c .before .before .args in
+    omega (arith, c .set-of .ensures, set-there ahead (side (a .y) (a .h)) (a .r), last-is (side (a .y) (a .h)))
 
 returns-2 : tie.Need-returns-2
 returns-2 c =
@@ -14,25 +25,7 @@ returns-2 c =
     let a = cells .before .args in
     λ x.
     let f = some-of (side x (a .w)) (side (a .y) (a .h)) (cells .if1 .left) in
-    down-first (side x (a .w)) (side (a .y) (a .h)) (a .r) (f .0) (f .1) (c .if2 .taken)
-
-add-result : tie.Need-add-result
-add-result c = omega arith
-
-add-result-2 : tie.Need-add-result-2
-add-result-2 c = omega arith
-
-mul-result : tie.Need-mul-result
-mul-result c = omega arith
-
-returns-3 : tie.Need-returns-3
-returns-3 c =
-    let cells = c .before in
-    let a = cells .before .args in
-    λ x.
-    let f = some-of (side x (a .w)) (side (a .y) (a .h)) (cells .if1 .left) in
-    down-later (side x (a .w)) (side (a .y) (a .h)) (a .r) (a .n) (f .0) (f .1) (cells .before .pre .3) (c .if2 .left)
+    down-some (side x (a .w)) (side (a .y) (a .h)) (a .r) (a .n) _ (f .0) (f .1) (cells .before .pre .2) (c .set-of .ensures)
 
 pub goes-down-spec : {M : Type 1} → statement M
-goes-down-spec =
-    tie.close (tie.spec returns returns-2 add-result add-result-2 mul-result returns-3)
+goes-down-spec = tie.close (tie.spec returns set-of-requires add-result returns-2)

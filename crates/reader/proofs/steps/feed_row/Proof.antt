@@ -7,7 +7,7 @@ use Rattle.numbers.specs.Signal.{at}
 use Rattle.reader.specs.Machine.{finished}
 use Rattle.reader.specs.State.{columns, rows}
 use Rattle.level.proofs.WorkLaws.{told-no, told-yes}
-use Rattle.reader.proofs.WalkLaws.{level-plain, finish-not, finish-set}
+use Rattle.reader.proofs.WalkLaws.{finish-not, finish-set}
 use Rattle.wavelet.proofs.StoreLaws.{store-in}
 use Rattle.level.proofs.KeptLaws.{kept-both, kept-is, kept-more}
 use Rattle.reader.proofs.KeptLaws.{fed-kept}
@@ -67,14 +67,14 @@ returns-2 c =
     let room = store-in (columns s) (p .level - 1 + 1) (s .levels) (omega (arith, near .0, start .pre .0 .at)) in
     let own = fed-kept (columns s) (rows s) (p .level - 1) n (p .band) _ _ in
     let fed = kept-is _ _ _ _ (kept-more _ _ _ _ room own) (put .put-row .ensures) in (
-      finish-not (columns s) (rows s) (s .levels) (s .drawn) (p .level - 1) n (p .band) _ _ (start .pre .3) (not-true _ (c .if2 .taken))
-          ∙ ap (λ y. finished (columns s) (rows s) (s .levels) (s .drawn) (p .level - 1) n (p .band) y) (put .put-row .ensures)
+      finish-not (columns s) (rows s) (s .levels) (p .level - 1) n (p .band) _ _ (start .pre .3) (not-true _ (c .if2 .taken))
+          ∙ ap (λ y. finished (columns s) (rows s) (s .levels) (p .level - 1) n (p .band) y) (put .put-row .ensures)
           ∙ feed-on s p due _ _ _ n (omega arith) (start .pre .1 .set (start .pre .2)) settled,
       kept-both _ _ _ _ (call .settle .ensures .1) fed,
     )
 
-work-on-requires : tie.Need-work-on-requires
-work-on-requires c κs =
+work-at-requires : tie.Need-work-at-requires
+work-at-requires c κs =
     let put = c .before .before .before in
     let call = put .before .before .before .before .before in
     let start = call .before .before in
@@ -84,7 +84,7 @@ work-on-requires c κs =
       counts-small (start .args .s) counts,
       counts .deep .1,
       omega (arith, near .0, counts .at),
-      level-plain _ _ _ _ within,
+      within,
       omega (arith, put .put-row .kept .1 .1 .1 .1 .1 .0, call .settle .kept .1 .0),
     )
 
@@ -92,7 +92,7 @@ same-length-3 : tie.Need-same-length-3
 same-length-3 c =
     let done = c .before in
     let put = done .before .before .before .before in
-    done .work-on .kept .1 .1 .1 .1 .1 .1 .0 ∙ put .put-row .kept .1 .1 .1 .1 .1 .0 ∙ put .before .before .before .before .before .settle .kept .1 .0
+    done .work-at .kept .1 .1 .1 .1 .1 .1 .0 ∙ put .put-row .kept .1 .1 .1 .1 .1 .0 ∙ put .before .before .before .before .before .settle .kept .1 .0
 
 returns-3 : tie.Need-returns-3
 returns-3 c =
@@ -111,11 +111,11 @@ returns-3 c =
     let room = store-in (columns s) (p .level - 1 + 1) (s .levels) (omega (arith, near .0, start .pre .0 .at)) in
     let own = fed-kept (columns s) (rows s) (p .level - 1) n (p .band) _ _ in
     let fed = kept-is _ _ _ _ (kept-more _ _ _ _ room own) (put .put-row .ensures) in (
-      done .work-on .ensures .0
-          ∙ finish-set (columns s) (rows s) (s .levels) (s .drawn) (p .level - 1) n (p .band) _ _ (start .pre .3) (not-false _ (set .if2 .left))
-          ∙ ap (λ y. finished (columns s) (rows s) (s .levels) (s .drawn) (p .level - 1) n (p .band) y) (put .put-row .ensures)
+      done .work-at .ensures .0
+          ∙ finish-set (columns s) (rows s) (s .levels) (p .level - 1) n (p .band) _ _ (start .pre .3) (not-false _ (set .if2 .left))
+          ∙ ap (λ y. finished (columns s) (rows s) (s .levels) (p .level - 1) n (p .band) y) (put .put-row .ensures)
           ∙ feed-on s p due _ _ _ n (omega arith) (start .pre .1 .set (start .pre .2)) settled,
-      kept-both _ _ _ _ (kept-both _ _ _ _ (call .settle .ensures .1) fed) (done .work-on .ensures .1),
+      kept-both _ _ _ _ (kept-both _ _ _ _ (call .settle .ensures .1) fed) (done .work-at .ensures .1),
     )
 
 pub feed-row-spec : {M : Type 1} → statement M
@@ -129,6 +129,6 @@ feed-row-spec =
     put-row-requires
     same-length-2
     returns-2
-    work-on-requires
+    work-at-requires
     same-length-3
     returns-3)

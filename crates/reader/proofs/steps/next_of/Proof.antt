@@ -1,10 +1,20 @@
--- `reader::steps::next_of` meets its contract: a row of the reader's own level, or the walk from its place. Assumes nothing.
+-- `reader::steps::next_of` meets its contract: no row, a row of the reader's own level, or the walk from it on. Assumes nothing.
 use native.Mathlib.Omega.{arith}
 use Rattle.reader.specs.State.{columns, rows, next}
-use Rattle.reader.proofs.QuestionLaws.{counts-small}
-use Rattle.reader.proofs.WalkLaws.{up-next}
+use Rattle.reader.proofs.StepLaws.{next-none}
+use Rattle.reader.proofs.WalkLaws.{no-next, up-next}
 use Rattle.reader.proofs.steps.next_of.Statement.{statement}
 use Rattle.reader.proofs.steps.next_of.Tie as tie
+
+no-row-requires : tie.Need-no-row-requires
+no-row-requires c κs = tt
+
+returns : tie.Need-returns
+returns c =
+    let top = c .before in
+    let s = top .before .before .args .s in
+    let n = c .no-row .ensures in
+    no-next (columns s) (rows s) (s .drawn) (next s) _ (next-none s (top .if1 .taken)) (n .0) (n .1) (n .2)
 
 own-level-requires : tie.Need-own-level-requires
 own-level-requires c κs = (c .before .before .pre, omega arith)
@@ -12,23 +22,21 @@ own-level-requires c κs = (c .before .before .pre, omega arith)
 own-band-requires : tie.Need-own-band-requires
 own-band-requires c κs = let start = c .before .before .before in (start .pre, omega arith, c .own-level .ensures)
 
-returns : tie.Need-returns
-returns c =
+returns-2 : tie.Need-returns-2
+returns-2 c =
     let band = c .before in
     let level = band .before in
     let s = level .before .before .before .args .s in
-    up-next (columns s) (rows s) (s .levels) (s .drawn) (next s) (s .level) (band .own-band .result) (level .own-level .result) (level .own-level .ensures)
+    up-next (columns s) (rows s) (s .levels) (s .drawn) (next s) (s .level) (band .own-band .result) (level .own-level .result) (level .own-level .ensures .0)
     (band .own-band .ensures (c .if2 .taken))
 
-next-at-requires : tie.Need-next-at-requires
-next-at-requires c κs =
-    let start = c .before .before in
-    let counts = start .pre in
-    (counts-small (start .args .s) counts, omega (arith, counts .at, counts .deep .1))
+next-from-requires : tie.Need-next-from-requires
+next-from-requires c κs =
+    let level = c .before .before in
+    (level .before .before .before .pre, omega arith, level .own-level .ensures)
 
-returns-2 : tie.Need-returns-2
-unfolding next
-returns-2 c = c .next-at .ensures
+returns-3 : tie.Need-returns-3
+returns-3 c = c .next-from .ensures
 
 pub next-of-spec : {M : Type 1} → statement M
-next-of-spec = tie.close (tie.spec own-level-requires own-band-requires returns next-at-requires returns-2)
+next-of-spec = tie.close (tie.spec no-row-requires returns own-level-requires own-band-requires returns-2 next-from-requires returns-3)

@@ -1,8 +1,8 @@
 -- `reader::steps::settle_all` meets its contract: nothing, or the walk down to level 1. Assumes nothing.
-use mathlib.Core.Path.{_∙_}
+use mathlib.Core.Path.{_∙_, refl}
 use native.Mathlib.Omega.{arith}
 use Rattle.level.proofs.KeptLaws.{kept-none}
-use Rattle.reader.specs.State.{columns, rows}
+use Rattle.reader.specs.State.{columns, rows, spotNow}
 use Rattle.reader.proofs.QuestionLaws.{counts-small}
 use Rattle.reader.proofs.WalkLaws.{settle-none}
 use Rattle.reader.proofs.StepLaws.{settles-all}
@@ -12,14 +12,19 @@ use Rattle.reader.proofs.steps.settle_all.Tie as tie
 returns : tie.Need-returns
 returns c =
     let start = c .before .before in
-    let s = start .args .s in
-    (settle-none (columns s) (rows s) (s .levels) (s .drawn) 0 (s .level) _ (omega arith) ∙ settles-all s (start .pre .1) _, kept-none _ _)
+    let s = start .args .s in (
+      settle-none (columns s) (rows s) (s .levels) 0 (s .level) (spotNow s .set) _ (omega arith) ∙ settles-all s (start .pre .1) (spotNow s .set) refl _,
+      kept-none _ _,
+    )
+
+own-level-requires : tie.Need-own-level-requires
+own-level-requires c κs = let start = c .before .before .before in (start .pre .0, omega arith)
 
 settle-requires : tie.Need-settle-requires
 settle-requires c κs =
-    let start = c .before .before .before in
+    let start = c .before .before .before .before in
     let counts = start .pre .0 in
-    (counts-small (start .args .s) counts, counts .deep .1, counts .at, omega arith)
+    (counts-small (start .args .s) counts, counts .deep .1, counts .at, λ _. c .own-level .ensures .0, omega arith)
 
 same-length : tie.Need-same-length
 same-length c = c .before .settle .kept .1 .1 .1 .1 .1 .1 .0
@@ -27,8 +32,9 @@ same-length c = c .before .settle .kept .1 .1 .1 .1 .1 .1 .0
 returns-2 : tie.Need-returns-2
 returns-2 c =
     let call = c .before in
-    let start = call .before .before .before .before in
-    (call .settle .ensures .0 ∙ settles-all (start .args .s) (start .pre .1) _, call .settle .ensures .1)
+    let level = call .before in
+    let start = level .before .before .before .before in
+    (call .settle .ensures .0 ∙ settles-all (start .args .s) (start .pre .1) _ (level .own-level .ensures .1) _, call .settle .ensures .1)
 
 pub settle-all-spec : {M : Type 1} → statement M
-settle-all-spec = tie.close (tie.spec returns settle-requires same-length returns-2)
+settle-all-spec = tie.close (tie.spec returns own-level-requires settle-requires same-length returns-2)

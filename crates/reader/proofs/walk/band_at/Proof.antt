@@ -14,7 +14,7 @@ add-next-band c = omega arith
 
 next-band-requires : tie.Need-next-band-requires
 next-band-requires c κs =
-    let here = level-in _ _ _ (c .args .l) (c .pre .1) (omega arith) (omega arith) in
+    let here = level-in _ _ _ _ (c .args .l) (c .pre .1) (omega arith) (omega arith) in
     omega (arith, here .1, here .2, here .3)
 
 returns : tie.Need-returns

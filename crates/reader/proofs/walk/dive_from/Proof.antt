@@ -6,59 +6,54 @@ use borrow.Author.Tests.{not-true, not-false}
 use Rattle.lifting.specs.Grid.{side}
 use Rattle.wavelet.specs.Limits.{maxLevels}
 use Rattle.reader.specs.Machine.{dive}
-use Rattle.reader.proofs.OpenedSets.{set-is}
-use Rattle.reader.proofs.WalkLaws.{is-place}
-use Rattle.reader.proofs.EnterLaws.{Down, down-start, down-on, down-out, down-two, down-end}
+use Rattle.reader.proofs.WalkLaws.{is-spot}
+use Rattle.reader.proofs.EnterLaws.{Down, down-start, down-on, down-out, down-alone, down-end}
 use Rattle.reader.proofs.walk.dive_from.Statement.{statement}
 use Rattle.reader.proofs.walk.dive_from.Tie as tie
 
 abbrev Inv-loop : tie.InvT-loop
-Inv-loop levels level x width y height row k₀ wx₀ w₀ hy₀ h₀ r₀ k wx w hy h r =
+Inv-loop levels level x width y height n row k₀ wx₀ w₀ hy₀ h₀ m₀ r₀ k wx w hy h m r =
     (levels ≤ maxLevels) × (width ≤ 2 ^ 16) × (height < 2 ^ 32)
-    × Down levels width height k wx w hy h r (dive (levels - level) level (side x width) (side y height) row)
+    × Down levels width height k wx w hy h m r (dive (levels - level) level (side x width) (side y height) n row)
 
 abbrev μ-loop : tie.MeasureT-loop
-μ-loop levels level x width y height row k₀ wx₀ w₀ hy₀ h₀ r₀ k wx w hy h r = levels - k
+μ-loop levels level x width y height n row k₀ wx₀ w₀ hy₀ h₀ m₀ r₀ k wx w hy h m r = levels - k
 
 loop-holds : tie.Need-loop-holds Inv-loop μ-loop
-loop-holds c = (omega arith, omega arith, omega arith, down-start _ _ _ _ _ _ _ (omega arith) (omega arith))
+loop-holds c = (omega arith, omega arith, omega arith, down-start _ _ _ _ _ _ _ _ (omega arith) (omega arith))
 
-set-of-requires : tie.Need-set-of-requires Inv-loop μ-loop
-set-of-requires c κs = let s = c .before .loop .inv .3 in omega (arith, s .most, s .near)
+sets-before-requires : tie.Need-sets-before-requires Inv-loop μ-loop
+sets-before-requires c κs = let s = c .before .loop .inv .3 in omega (arith, s .most, s .near)
 
 goes-down-requires : tie.Need-goes-down-requires Inv-loop μ-loop
 goes-down-requires c κs =
-    let l = c .before .before .loop in
-    let s = l .inv .3 in
-    (omega (arith, s .most, s .near), omega (arith, s .most, c .set-of .ensures, set-is (side (l .hy) (l .h)) (l .r)), s .near, c .set-of .ensures)
+    let s = c .before .before .loop .inv .3 in
+    (omega (arith, s .most), s .near, c .sets-before .ensures)
 
 returns : tie.Need-returns Inv-loop μ-loop
 returns c =
     let down = c .before in
     let test = down .before .before in
     let l = test .before .loop in
-    is-place _ _ (down-out _ _ _ _ _ _ _ _ _ _ (l .inv .3) (test .loop-test .taken) (sym (down .goes-down .ensures (l .wx)) ∙ not-true _ (c .if1 .taken)))
+    is-spot _ _ (down-out _ _ _ _ _ _ _ _ _ _ _ (l .inv .3) (test .loop-test .taken) (sym (down .goes-down .ensures (l .wx)) ∙ not-true _ (c .if1 .taken)))
 
-is-two-requires : tie.Need-is-two-requires Inv-loop μ-loop
-is-two-requires c κs = c .before .before .set-of .ensures
-
-add-t18 : tie.Need-add-t18 Inv-loop μ-loop
+add-t20 : tie.Need-add-t20 Inv-loop μ-loop
 unfolding maxLevels
-add-t18 c = omega arith
+add-t20 c = omega arith
 
 returns-2 : tie.Need-returns-2 Inv-loop μ-loop
 returns-2 c =
-    let two = c .before in
-    let on = two .before in
+    let on = c .before in
     let down = on .before in
-    let test = down .before .before in
+    let set = down .before in
+    let test = set .before in
     let l = test .before .loop in
-    is-place _ _
-    (down-two _ _ _ _ _ _ _ _ _ _ (l .inv .3) (test .loop-test .taken) (sym (down .goes-down .ensures (l .wx)) ∙ not-false _ (on .if1 .left))
-    (sym (two .is-two .ensures) ∙ c .if2 .taken))
+    is-spot _ _
+    (down-alone _ _ _ _ _ _ _ _ _ _ _ (l .inv .3) (test .loop-test .taken) (sym (down .goes-down .ensures (l .wx)) ∙ not-false _ (on .if1 .left))
+    _ (set .sets-before .ensures) (c .if2 .taken))
 
-row-below-requires : tie.Need-row-below-requires Inv-loop μ-loop
-row-below-requires c κs = c .before .before .before .before .set-of .ensures
+sub-r : tie.Need-sub-r Inv-loop μ-loop
+sub-r c = omega arith
 
 low-count-requires : tie.Need-low-count-requires Inv-loop μ-loop
 low-count-requires c κs = tt
@@ -84,24 +79,23 @@ loop-again c =
     let h = c .before in
     let x = h .before in
     let w = x .before in
-    let below = w .before in
-    let one = below .before in
-    let two = one .before in
-    let on = two .before in
+    let low = w .before in
+    let on = low .before in
     let down = on .before in
-    let test = down .before .before in
+    let set = down .before in
+    let test = set .before in
     let l = test .before .loop in
     let inv = l .inv in (
       inv .0,
       inv .1,
       inv .2,
-      down-on _ _ _ _ _ _ _ _ _ _ (inv .3) (test .loop-test .taken) (sym (down .goes-down .ensures (l .wx)) ∙ not-false _ (on .if1 .left))
-          (sym (two .is-two .ensures) ∙ one .if2 .left) _ _ _ _ _ (below .row-below .ensures) (w .low-count .ensures) (x .next-start .ensures (l .w))
+      down-on _ _ _ _ _ _ _ _ _ _ _ (inv .3) (test .loop-test .taken) (sym (down .goes-down .ensures (l .wx)) ∙ not-false _ (on .if1 .left))
+          _ (set .sets-before .ensures) (omega arith) (inv .2) _ _ _ _ _ (omega arith) (w .low-count .ensures) (x .next-start .ensures (l .w))
           (h .low-count2 .ensures) (c .next-start2 .ensures (l .h)),
     )
 
 returns-3 : tie.Need-returns-3 Inv-loop μ-loop
-returns-3 c = is-place _ _ (down-end _ _ _ _ _ _ _ _ _ _ (c .before .loop .inv .3) (omega arith))
+returns-3 c = is-spot _ _ (down-end _ _ _ _ _ _ _ _ _ _ _ (c .before .loop .inv .3) (omega arith))
 
 pub dive-from-spec : {M : Type 1} → statement M
 dive-from-spec =
@@ -110,13 +104,12 @@ dive-from-spec =
     Inv-loop
     μ-loop
     loop-holds
-    set-of-requires
+    sets-before-requires
     goes-down-requires
     returns
-    is-two-requires
-    add-t18
+    add-t20
     returns-2
-    row-below-requires
+    sub-r
     low-count-requires
     next-start-requires
     low-count-requires-2

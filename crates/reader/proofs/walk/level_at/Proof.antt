@@ -22,24 +22,31 @@ add-right c = omega arith
 add-bottom : tie.Need-add-bottom Inv-loop μ-loop
 add-bottom c = omega arith
 
-add-row : tie.Need-add-row Inv-loop μ-loop
-add-row c = omega arith
-
 loop-holds : tie.Need-loop-holds Inv-loop μ-loop
-loop-holds c = (omega arith, omega arith, omega arith, omega arith, omega arith, ends-start _ _ _)
+loop-holds c = (omega arith, omega arith, omega arith, omega arith, omega arith, ends-start _ _ _ (omega arith))
+
+sub-set-of : tie.Need-sub-set-of Inv-loop μ-loop
+sub-set-of c = let a = c .before .loop .inv .5 in omega (arith, a .down)
+
+set-of-requires : tie.Need-set-of-requires Inv-loop μ-loop
+set-of-requires c κs = let a = c .before .loop .inv .5 .walked in omega (arith, a .short, a .near)
+
+row-below-requires : tie.Need-row-below-requires Inv-loop μ-loop
+row-below-requires c κs = tt
 
 sub-start : tie.Need-sub-start Inv-loop μ-loop
-sub-start c = let a = c .before .loop .inv .5 in omega (arith, a .across)
+sub-start c = let a = c .before .before .before .loop .inv .5 in omega (arith, a .across)
 
 mul-start : tie.Need-mul-start Inv-loop μ-loop
-mul-start c = let a = c .before .loop .inv .5 in omega (arith, a .walked .narrow)
+mul-start c = let a = c .before .before .before .loop .inv .5 in omega (arith, a .walked .narrow)
 
 add-start : tie.Need-add-start Inv-loop μ-loop
 unfolding maxLevels
 add-start c =
-    let a = c .before .loop .inv .5 .walked in
-    let args = c .before .before .args in
-    omega (arith, a .narrow, a .begins, stretch-small (side (args .x) (args .width)) (c .before .loop .i) (omega arith))
+    let head = c .before .before .before in
+    let a = head .loop .inv .5 .walked in
+    let args = head .before .args in
+    omega (arith, a .narrow, a .begins, stretch-small (side (args .x) (args .width)) (head .loop .i) (omega arith))
 
 next-start-requires : tie.Need-next-start-requires Inv-loop μ-loop
 next-start-requires c κs = tt
@@ -53,9 +60,6 @@ next-start-requires-3 c κs = tt
 next-start-requires-4 : tie.Need-next-start-requires-4 Inv-loop μ-loop
 next-start-requires-4 c κs = tt
 
-next-start-requires-5 : tie.Need-next-start-requires-5 Inv-loop μ-loop
-next-start-requires-5 c κs = tt
-
 add-i : tie.Need-add-i Inv-loop μ-loop
 unfolding maxLevels
 add-i c = omega arith
@@ -65,28 +69,26 @@ loop-less c = omega arith
 
 loop-again : tie.Need-loop-again Inv-loop μ-loop
 loop-again c =
-    let bottom = c .before in
-    let top = bottom .before in
+    let top = c .before in
     let right = top .before in
     let left = right .before in
-    let inv = left .before .before .loop .inv in (
+    let row = left .before in
+    let set = row .before in
+    let inv = set .before .before .loop .inv in (
       omega arith,
       inv .1,
       inv .2,
       inv .3,
       inv .4,
-      ends-on _ _ _ _ _ _ _ _ _ _ (inv .5) _ _ _ _ _ (left .next-start .ensures) (right .next-start2 .ensures) (top .next-start3 .ensures)
-          (bottom .next-start4 .ensures) (c .next-start5 .ensures),
+      ends-on _ _ _ _ _ _ _ _ _ _ (inv .3) (inv .5) _ _ _ _ _ _ (set .set-of .ensures) (row .row-below .ensures) (left .next-start .ensures)
+          (right .next-start2 .ensures) (top .next-start3 .ensures) (c .next-start4 .ensures),
     )
 
 sub-h : tie.Need-sub-h Inv-loop μ-loop
 sub-h c = let a = c .before .loop .inv .5 in omega (arith, a .down)
 
-sub-r : tie.Need-sub-r Inv-loop μ-loop
-sub-r c = let a = c .before .loop .inv .5 in omega (arith, a .at)
-
-set-of-requires : tie.Need-set-of-requires Inv-loop μ-loop
-set-of-requires c κs = let inv = c .before .loop .inv in omega (arith, inv .5 .walked .short, inv .5 .walked .near)
+set-of-requires-2 : tie.Need-set-of-requires-2 Inv-loop μ-loop
+set-of-requires-2 c κs = let inv = c .before .loop .inv in omega (arith, inv .5 .walked .short, inv .5 .walked .near)
 
 sub-t20 : tie.Need-sub-t20 Inv-loop μ-loop
 sub-t20 c = let a = c .before .before .loop .inv .5 in omega (arith, a .across)
@@ -96,8 +98,8 @@ returns c =
     let head = c .before .before in
     let a = head .before .args in
     let e : head .loop .i ≡ a .k = omega arith in
-    walked-level (side (a .x) (a .width)) (side (a .y) (a .height)) (a .drawn) (a .k) _ _ _ _ _ _ _ e (head .loop .inv .5 .walked) (c .set-of .result)
-    (c .set-of .ensures)
+    walked-level (side (a .x) (a .width)) (side (a .y) (a .height)) (a .drawn) (a .k) _ _ _ _ _ _ _ (head .loop .inv .3) e (head .loop .inv .5 .walked)
+    (c .set-of2 .result) (c .set-of2 .ensures)
 
 pub level-at-spec : {M : Type 1} → statement M
 level-at-spec =
@@ -107,8 +109,10 @@ level-at-spec =
     μ-loop
     add-right
     add-bottom
-    add-row
     loop-holds
+    sub-set-of
+    set-of-requires
+    row-below-requires
     sub-start
     mul-start
     add-start
@@ -116,12 +120,10 @@ level-at-spec =
     next-start-requires-2
     next-start-requires-3
     next-start-requires-4
-    next-start-requires-5
     add-i
     loop-less
     loop-again
     sub-h
-    sub-r
-    set-of-requires
+    set-of-requires-2
     sub-t20
     returns)

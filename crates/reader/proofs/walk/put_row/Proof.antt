@@ -17,7 +17,7 @@ use Rattle.reader.proofs.walk.put_row.Tie as tie
 
 half-place-requires : tie.Need-half-place-requires
 half-place-requires c κs =
-    let here = level-in _ _ _ (c .args .l) (c .pre .2) (omega arith) (omega arith) in
+    let here = level-in _ _ _ _ (c .args .l) (c .pre .2) (omega arith) (omega arith) in
     omega (arith, here .1, here .3)
 
 add-a : tie.Need-add-a
@@ -28,7 +28,7 @@ add-a c =
     let a = start .args in
     omega (
       arith,
-      put-room _ _ _ (a .l) (start .pre .2) (a .band) (half .half-place .result) (length (a .run .now)) (half .half-place .ensures) (omega arith),
+      put-room _ _ _ _ (a .l) (start .pre .2) (a .band) (half .half-place .result) (length (a .run .now)) (half .half-place .ensures) (omega arith),
       store-small (side (a .x) (a .width)) (a .k + 1) (omega arith),
     )
 
@@ -40,7 +40,7 @@ add-e c =
     let a = start .args in
     omega (
       arith,
-      put-room _ _ _ (a .l) (start .pre .2) (a .band) (half .half-place .result) (length (a .run .now)) (half .half-place .ensures) (omega arith),
+      put-room _ _ _ _ (a .l) (start .pre .2) (a .band) (half .half-place .result) (length (a .run .now)) (half .half-place .ensures) (omega arith),
       store-small (side (a .x) (a .width)) (a .k + 1) (omega arith),
     )
 
@@ -52,7 +52,7 @@ mul-copy c =
     let a = start .args in
     omega (
       arith,
-      put-room _ _ _ (a .l) (start .pre .2) (a .band) (half .half-place .result) (length (a .run .now)) (half .half-place .ensures) (omega arith),
+      put-room _ _ _ _ (a .l) (start .pre .2) (a .band) (half .half-place .result) (length (a .run .now)) (half .half-place .ensures) (omega arith),
       store-small (side (a .x) (a .width)) (a .k + 1) (omega arith),
     )
 
@@ -69,7 +69,7 @@ part-copy-end c =
     let a = start .args in
     omega (
       arith,
-      put-room _ _ _ (a .l) (start .pre .2) (a .band) (half .half-place .result) (length (a .run .now)) (half .half-place .ensures) (omega arith),
+      put-room _ _ _ _ (a .l) (start .pre .2) (a .band) (half .half-place .result) (length (a .run .now)) (half .half-place .ensures) (omega arith),
     )
 
 copy-requires : tie.Need-copy-requires
@@ -86,10 +86,11 @@ returns c =
     let a = start .args in
     let p = a .l .start + half .half-place .result in
     let n = length (a .run .now) in
-    let room = put-room _ _ _ (a .l) (start .pre .2) (a .band) (half .half-place .result) n (half .half-place .ensures) (omega arith) in
+    let room = put-room _ _ _ _ (a .l) (start .pre .2) (a .band) (half .half-place .result) n (half .half-place .ensures) (omega arith) in
     let long = length-mid p (p + n - p) (a .store .now) (omega arith) in
     let fits = le-leb n (length (midOf p (p + n - p) (a .store .now))) (omega (arith, long)) in
-    put-is (side (a .x) (a .width)) (side (a .y) (a .height)) (a .k) (a .band) (a .l) p (half .half-place .result) (p + n - p) (a .run .now) (a .store .now)
+    put-is (side (a .x) (a .width)) (side (a .y) (a .height)) (a .drawn) (a .k) (a .band) (a .l) p (half .half-place .result)
+    (p + n - p) (a .run .now) (a .store .now)
     (call .copy .last .1 .0) (start .pre .2) (half .half-place .ensures) refl (omega arith) (omega arith) (omega arith) (call .copy .kept .1 .0 ∙ long)
     (did _ _ _ _ fits (call .copy .ensures .1))
 

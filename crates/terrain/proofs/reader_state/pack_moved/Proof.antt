@@ -1,13 +1,10 @@
--- `reader_state::pack_moved` meets its contract: three numbers as they are, and the flags as one each. Assumes nothing.
+-- `reader_state::pack_moved` meets its contract: four numbers as they are, and the flag as one. Assumes nothing.
 use borrow.Author.Needs.{needs}
 use Rattle.terrain.proofs.reader_state.pack_moved.Statement.{statement}
 use Rattle.terrain.proofs.reader_state.pack_moved.Tie as tie
 
 flag-of-requires : tie.Need-flag-of-requires
 flag-of-requires c κs = tt
-
-flag-of-requires-2 : tie.Need-flag-of-requires-2
-flag-of-requires-2 c κs = tt
 
 sized-requires : tie.Need-sized-requires
 sized-requires c κs = tt
@@ -29,8 +26,7 @@ element-write-s-5 c = search needs
 
 returns : tie.Need-returns
 returns c =
-    let e = c .before .before .before .flag-of .ensures in
-    let f = c .before .before .flag-of2 .ensures in
+    let e = c .before .before .flag-of .ensures in
     (cc, c .sized .ensures)
 
 pub pack-moved-spec : {M : Type 1} → statement M
@@ -38,7 +34,6 @@ pack-moved-spec =
     tie.close
     (tie.spec
     flag-of-requires
-    flag-of-requires-2
     sized-requires
     element-write-s
     element-write-s-2

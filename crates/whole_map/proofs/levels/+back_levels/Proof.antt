@@ -11,6 +11,8 @@ use Rattle.lifting.specs.Line.{lo}
 use Rattle.lifting.specs.Grid.{side, count}
 use Rattle.lifting.proofs.GridLaws.{counts}
 use Rattle.wavelet.proofs.LimitLaws.{levels-small}
+use Rattle.whole_map.proofs.ByFilterLaws.{filter-laws, levels-few}
+use Rattle.whole_map.specs.ByFilter.{filterOf}
 use Rattle.whole_map.proofs.GridSweep.{rows-kept}
 use Rattle.whole_map.proofs.LevelCalls.{put-area, put-same, put-again}
 use Rattle.whole_map.proofs.TestLaws.{goes-as, goes-yes}
@@ -25,7 +27,7 @@ use Rattle.whole_map.proofs.levels.+back_levels.Lts-back_levels as back
 use Rattle.wavelet.proofs.sizes.low_count.Reads as low-count-reads
 use Rattle.wavelet.proofs.sizes.next_start.Reads as next-start-reads
 use Rattle.whole_map.proofs.levels.goes_on.Reads as goes-on-reads
-use Rattle.whole_map.proofs.levels.level_back.Reads as level-back-reads
+use Rattle.whole_map.proofs.levels.back_by.Reads as back-by-reads
 use Rattle.whole_map.proofs.levels.weave_low.Reads as weave-low-reads
 use Rattle.whole_map.proofs.levels.+back_levels.{statement}
 use Rattle.whole_map.proofs.levels.+back_levels.Tie.{close}
@@ -46,8 +48,8 @@ back-levels-low-count-requires : (t : ℕ) → back-levels-lts.Need-low-count-re
   low-count-reads.Learnt,
   goes-on-reads.Asked,
   goes-on-reads.Learnt,
-  level-back-reads.Asked,
-  level-back-reads.Learnt,
+  back-by-reads.Asked,
+  back-by-reads.Learnt,
   next-start-reads.Asked,
   next-start-reads.Learnt,
   back-levels-below t,
@@ -62,8 +64,8 @@ back-levels-low-count-requires-2 : (t : ℕ) → back-levels-lts.Need-low-count-
   low-count-reads.Learnt,
   goes-on-reads.Asked,
   goes-on-reads.Learnt,
-  level-back-reads.Asked,
-  level-back-reads.Learnt,
+  back-by-reads.Asked,
+  back-by-reads.Learnt,
   next-start-reads.Asked,
   next-start-reads.Learnt,
   back-levels-below t,
@@ -78,8 +80,8 @@ back-levels-goes-on-requires : (t : ℕ) → back-levels-lts.Need-goes-on-requir
   low-count-reads.Learnt,
   goes-on-reads.Asked,
   goes-on-reads.Learnt,
-  level-back-reads.Asked,
-  level-back-reads.Learnt,
+  back-by-reads.Asked,
+  back-by-reads.Learnt,
   next-start-reads.Asked,
   next-start-reads.Learnt,
   back-levels-below t,
@@ -89,13 +91,13 @@ back-levels-goes-on-requires : (t : ℕ) → back-levels-lts.Need-goes-on-requir
 ) (back-levels-at t) back-levels.Post
 back-levels-goes-on-requires t c κs = tt
 
-back-levels-level-back-requires : (t : ℕ) → back-levels-lts.Need-level-back-requires (
+back-levels-back-by-requires : (t : ℕ) → back-levels-lts.Need-back-by-requires (
   low-count-reads.Asked,
   low-count-reads.Learnt,
   goes-on-reads.Asked,
   goes-on-reads.Learnt,
-  level-back-reads.Asked,
-  level-back-reads.Learnt,
+  back-by-reads.Asked,
+  back-by-reads.Learnt,
   next-start-reads.Asked,
   next-start-reads.Learnt,
   back-levels-below t,
@@ -103,15 +105,15 @@ back-levels-level-back-requires : (t : ℕ) → back-levels-lts.Need-level-back-
   weave-low-reads.Asked,
   weave-low-reads.Learnt,
 ) (back-levels-at t) back-levels.Post
-back-levels-level-back-requires t c κs = let start = c .before .before .before .before .before in (start .pre .1 .0, start .pre .1 .1, omega arith)
+back-levels-back-by-requires t c κs = let start = c .before .before .before .before .before in (start .pre .1 .0, start .pre .1 .1, omega arith)
 
 back-levels-same-length : (t : ℕ) → back-levels-lts.Need-same-length (
   low-count-reads.Asked,
   low-count-reads.Learnt,
   goes-on-reads.Asked,
   goes-on-reads.Learnt,
-  level-back-reads.Asked,
-  level-back-reads.Learnt,
+  back-by-reads.Asked,
+  back-by-reads.Learnt,
   next-start-reads.Asked,
   next-start-reads.Learnt,
   back-levels-below t,
@@ -119,15 +121,15 @@ back-levels-same-length : (t : ℕ) → back-levels-lts.Need-same-length (
   weave-low-reads.Asked,
   weave-low-reads.Learnt,
 ) (back-levels-at t) back-levels.Post
-back-levels-same-length t c = c .before .level-back .kept .1 .0
+back-levels-same-length t c = c .before .back-by .kept .1 .0
 
 back-levels-returns : (t : ℕ) → back-levels-lts.Need-returns (
   low-count-reads.Asked,
   low-count-reads.Learnt,
   goes-on-reads.Asked,
   goes-on-reads.Learnt,
-  level-back-reads.Asked,
-  level-back-reads.Learnt,
+  back-by-reads.Asked,
+  back-by-reads.Learnt,
   next-start-reads.Asked,
   next-start-reads.Learnt,
   back-levels-below t,
@@ -142,18 +144,19 @@ back-levels-returns t c =
     let low2 = goes .before in
     let low = low2 .before in
     let start = low .before in
-    back-end _ _ _ _ (side (start .args .x) (start .args .width)) (side (start .args .y) (start .args .height)) _ _ _ _ (start .pre .1 .1 .wide)
+    back-end (filterOf (start .args .filter)) (filter-laws (start .args .filter)) _ _ _ _ (side (start .args .x) (start .args .width))
+    (side (start .args .y) (start .args .height)) _ _ _ _ (start .pre .1 .1 .wide)
     (start .pre .1 .2 .some)
     (goes-as _ _ _ _ _ _ _ (low .low-count .ensures) (low2 .low-count2 .ensures) (goes .goes-on .ensures) (not-true _ (then .if1 .taken)))
-    (back .level-back .ensures)
+    (back .back-by .ensures)
 
 back-levels-next-start-requires : (t : ℕ) → back-levels-lts.Need-next-start-requires (
   low-count-reads.Asked,
   low-count-reads.Learnt,
   goes-on-reads.Asked,
   goes-on-reads.Learnt,
-  level-back-reads.Asked,
-  level-back-reads.Learnt,
+  back-by-reads.Asked,
+  back-by-reads.Learnt,
   next-start-reads.Asked,
   next-start-reads.Learnt,
   back-levels-below t,
@@ -168,8 +171,8 @@ back-levels-next-start-requires-2 : (t : ℕ) → back-levels-lts.Need-next-star
   low-count-reads.Learnt,
   goes-on-reads.Asked,
   goes-on-reads.Learnt,
-  level-back-reads.Asked,
-  level-back-reads.Learnt,
+  back-by-reads.Asked,
+  back-by-reads.Learnt,
   next-start-reads.Asked,
   next-start-reads.Learnt,
   back-levels-below t,
@@ -184,8 +187,8 @@ back-levels-mul-a : (t : ℕ) → back-levels-lts.Need-mul-a (
   low-count-reads.Learnt,
   goes-on-reads.Asked,
   goes-on-reads.Learnt,
-  level-back-reads.Asked,
-  level-back-reads.Learnt,
+  back-by-reads.Asked,
+  back-by-reads.Learnt,
   next-start-reads.Asked,
   next-start-reads.Learnt,
   back-levels-below t,
@@ -214,8 +217,8 @@ back-levels-mul-back-levels : (t : ℕ) → back-levels-lts.Need-mul-back-levels
   low-count-reads.Learnt,
   goes-on-reads.Asked,
   goes-on-reads.Learnt,
-  level-back-reads.Asked,
-  level-back-reads.Learnt,
+  back-by-reads.Asked,
+  back-by-reads.Learnt,
   next-start-reads.Asked,
   next-start-reads.Learnt,
   back-levels-below t,
@@ -244,8 +247,8 @@ back-levels-sub-back-levels : (t : ℕ) → back-levels-lts.Need-sub-back-levels
   low-count-reads.Learnt,
   goes-on-reads.Asked,
   goes-on-reads.Learnt,
-  level-back-reads.Asked,
-  level-back-reads.Learnt,
+  back-by-reads.Asked,
+  back-by-reads.Learnt,
   next-start-reads.Asked,
   next-start-reads.Learnt,
   back-levels-below t,
@@ -274,8 +277,8 @@ back-levels-part-back-levels-start : (t : ℕ) → back-levels-lts.Need-part-bac
   low-count-reads.Learnt,
   goes-on-reads.Asked,
   goes-on-reads.Learnt,
-  level-back-reads.Asked,
-  level-back-reads.Learnt,
+  back-by-reads.Asked,
+  back-by-reads.Learnt,
   next-start-reads.Asked,
   next-start-reads.Learnt,
   back-levels-below t,
@@ -304,8 +307,8 @@ back-levels-part-back-levels-end : (t : ℕ) → back-levels-lts.Need-part-back-
   low-count-reads.Learnt,
   goes-on-reads.Asked,
   goes-on-reads.Learnt,
-  level-back-reads.Asked,
-  level-back-reads.Learnt,
+  back-by-reads.Asked,
+  back-by-reads.Learnt,
   next-start-reads.Asked,
   next-start-reads.Learnt,
   back-levels-below t,
@@ -334,8 +337,8 @@ back-levels-mul-back-levels-2 : (t : ℕ) → back-levels-lts.Need-mul-back-leve
   low-count-reads.Learnt,
   goes-on-reads.Asked,
   goes-on-reads.Learnt,
-  level-back-reads.Asked,
-  level-back-reads.Learnt,
+  back-by-reads.Asked,
+  back-by-reads.Learnt,
   next-start-reads.Asked,
   next-start-reads.Learnt,
   back-levels-below t,
@@ -350,8 +353,8 @@ back-levels-sub-back-levels-2 : (t : ℕ) → back-levels-lts.Need-sub-back-leve
   low-count-reads.Learnt,
   goes-on-reads.Asked,
   goes-on-reads.Learnt,
-  level-back-reads.Asked,
-  level-back-reads.Learnt,
+  back-by-reads.Asked,
+  back-by-reads.Learnt,
   next-start-reads.Asked,
   next-start-reads.Learnt,
   back-levels-below t,
@@ -381,8 +384,8 @@ back-levels-add-back-levels : (t : ℕ) → back-levels-lts.Need-add-back-levels
   low-count-reads.Learnt,
   goes-on-reads.Asked,
   goes-on-reads.Learnt,
-  level-back-reads.Asked,
-  level-back-reads.Learnt,
+  back-by-reads.Asked,
+  back-by-reads.Learnt,
   next-start-reads.Asked,
   next-start-reads.Learnt,
   back-levels-below t,
@@ -390,15 +393,16 @@ back-levels-add-back-levels : (t : ℕ) → back-levels-lts.Need-add-back-levels
   weave-low-reads.Asked,
   weave-low-reads.Learnt,
 ) (back-levels-at t) back-levels.Post
-back-levels-add-back-levels t c = omega (arith, levels-small)
+back-levels-add-back-levels t c =
+    omega (arith, levels-small, levels-few (c .before .before .before .before .before .before .before .args .filter))
 
 back-levels-back-levels-requires : (t : ℕ) → back-levels-lts.Need-back-levels-requires (
   low-count-reads.Asked,
   low-count-reads.Learnt,
   goes-on-reads.Asked,
   goes-on-reads.Learnt,
-  level-back-reads.Asked,
-  level-back-reads.Learnt,
+  back-by-reads.Asked,
+  back-by-reads.Learnt,
   next-start-reads.Asked,
   next-start-reads.Learnt,
   back-levels-below t,
@@ -437,8 +441,8 @@ back-levels-same-length-2 : (t : ℕ) → back-levels-lts.Need-same-length-2 (
   low-count-reads.Learnt,
   goes-on-reads.Asked,
   goes-on-reads.Learnt,
-  level-back-reads.Asked,
-  level-back-reads.Learnt,
+  back-by-reads.Asked,
+  back-by-reads.Learnt,
   next-start-reads.Asked,
   next-start-reads.Learnt,
   back-levels-below t,
@@ -477,8 +481,8 @@ back-levels-returns-2 : (t : ℕ) → back-levels-lts.Need-returns-2 (
   low-count-reads.Learnt,
   goes-on-reads.Asked,
   goes-on-reads.Learnt,
-  level-back-reads.Asked,
-  level-back-reads.Learnt,
+  back-by-reads.Asked,
+  back-by-reads.Learnt,
   next-start-reads.Asked,
   next-start-reads.Learnt,
   back-levels-below t,
@@ -510,7 +514,7 @@ back-levels-returns-2 t c =
     let size₁ = again .back-levels .kept .1 .0 in
     let work₁ = putMid a (n - a) work z₁ in
     let same₁ : length work₁ ≡ n = put-same a (n - a) work z₁ fit size₁ in
-    back-no n _ _ _ _ a (n - a) W H _ _ _ _ _ _ _ _ R (yes′ .0) ch
+    back-no (filterOf (start .args .filter)) (filter-laws (start .args .filter)) n _ _ _ _ a (n - a) W H _ _ _ _ _ _ _ _ R (yes′ .0) ch
     (next-side W _ _ (next .next-start .ensures) (low .low-count .ensures)) (next-side H _ _ (next2 .next-start2 .ensures) (low2 .low-count2 .ensures)) refl
     refl (at-mid a (n - a) work) (again .back-levels .ensures) (put-area a (n - a) work z₁ fit size₁) (not-true _ (c .if2 .taken))
 
@@ -519,8 +523,8 @@ back-levels-mul-weave-low : (t : ℕ) → back-levels-lts.Need-mul-weave-low (
   low-count-reads.Learnt,
   goes-on-reads.Asked,
   goes-on-reads.Learnt,
-  level-back-reads.Asked,
-  level-back-reads.Learnt,
+  back-by-reads.Asked,
+  back-by-reads.Learnt,
   next-start-reads.Asked,
   next-start-reads.Learnt,
   back-levels-below t,
@@ -559,8 +563,8 @@ back-levels-sub-weave-low : (t : ℕ) → back-levels-lts.Need-sub-weave-low (
   low-count-reads.Learnt,
   goes-on-reads.Asked,
   goes-on-reads.Learnt,
-  level-back-reads.Asked,
-  level-back-reads.Learnt,
+  back-by-reads.Asked,
+  back-by-reads.Learnt,
   next-start-reads.Asked,
   next-start-reads.Learnt,
   back-levels-below t,
@@ -599,8 +603,8 @@ back-levels-part-weave-low-start : (t : ℕ) → back-levels-lts.Need-part-weave
   low-count-reads.Learnt,
   goes-on-reads.Asked,
   goes-on-reads.Learnt,
-  level-back-reads.Asked,
-  level-back-reads.Learnt,
+  back-by-reads.Asked,
+  back-by-reads.Learnt,
   next-start-reads.Asked,
   next-start-reads.Learnt,
   back-levels-below t,
@@ -639,8 +643,8 @@ back-levels-part-weave-low-end : (t : ℕ) → back-levels-lts.Need-part-weave-l
   low-count-reads.Learnt,
   goes-on-reads.Asked,
   goes-on-reads.Learnt,
-  level-back-reads.Asked,
-  level-back-reads.Learnt,
+  back-by-reads.Asked,
+  back-by-reads.Learnt,
   next-start-reads.Asked,
   next-start-reads.Learnt,
   back-levels-below t,
@@ -679,8 +683,8 @@ back-levels-mul-weave-low-2 : (t : ℕ) → back-levels-lts.Need-mul-weave-low-2
   low-count-reads.Learnt,
   goes-on-reads.Asked,
   goes-on-reads.Learnt,
-  level-back-reads.Asked,
-  level-back-reads.Learnt,
+  back-by-reads.Asked,
+  back-by-reads.Learnt,
   next-start-reads.Asked,
   next-start-reads.Learnt,
   back-levels-below t,
@@ -697,8 +701,8 @@ back-levels-add-weave-low : (t : ℕ) → back-levels-lts.Need-add-weave-low (
   low-count-reads.Learnt,
   goes-on-reads.Asked,
   goes-on-reads.Learnt,
-  level-back-reads.Asked,
-  level-back-reads.Learnt,
+  back-by-reads.Asked,
+  back-by-reads.Learnt,
   next-start-reads.Asked,
   next-start-reads.Learnt,
   back-levels-below t,
@@ -706,15 +710,17 @@ back-levels-add-weave-low : (t : ℕ) → back-levels-lts.Need-add-weave-low (
   weave-low-reads.Asked,
   weave-low-reads.Learnt,
 ) (back-levels-at t) back-levels.Post
-back-levels-add-weave-low t c = omega (arith, levels-small)
+back-levels-add-weave-low t c =
+    let start = c .before .before .before .before .before .before .before .before .before .before .before in
+    omega (arith, levels-small, levels-few (start .args .filter))
 
 back-levels-weave-low-requires : (t : ℕ) → back-levels-lts.Need-weave-low-requires (
   low-count-reads.Asked,
   low-count-reads.Learnt,
   goes-on-reads.Asked,
   goes-on-reads.Learnt,
-  level-back-reads.Asked,
-  level-back-reads.Learnt,
+  back-by-reads.Asked,
+  back-by-reads.Learnt,
   next-start-reads.Asked,
   next-start-reads.Learnt,
   back-levels-below t,
@@ -758,8 +764,8 @@ back-levels-same-length-3 : (t : ℕ) → back-levels-lts.Need-same-length-3 (
   low-count-reads.Learnt,
   goes-on-reads.Asked,
   goes-on-reads.Learnt,
-  level-back-reads.Asked,
-  level-back-reads.Learnt,
+  back-by-reads.Asked,
+  back-by-reads.Learnt,
   next-start-reads.Asked,
   next-start-reads.Learnt,
   back-levels-below t,
@@ -805,8 +811,8 @@ back-levels-returns-3 : (t : ℕ) → back-levels-lts.Need-returns-3 (
   low-count-reads.Learnt,
   goes-on-reads.Asked,
   goes-on-reads.Learnt,
-  level-back-reads.Asked,
-  level-back-reads.Learnt,
+  back-by-reads.Asked,
+  back-by-reads.Learnt,
   next-start-reads.Asked,
   next-start-reads.Learnt,
   back-levels-below t,
@@ -845,19 +851,19 @@ back-levels-returns-3 t c =
     let size₂ = weave .weave-low .kept .0 in
     let work₂ = putMid a (n - a) work₁ z₂ in
     let same₂ : length work₂ ≡ n = put-same a (n - a) work₁ z₂ fit₁ size₂ ∙ same₁ in
-    back-low n _ _ _ _ a (n - a) W H _ _ _ _ _ _ _ _ R (yes′ .0) ch
+    back-low (filterOf (start .args .filter)) (filter-laws (start .args .filter)) n _ _ _ _ a (n - a) W H _ _ _ _ _ _ _ _ R (yes′ .0) ch
     (next-side W _ _ (next .next-start .ensures) (low .low-count .ensures)) (next-side H _ _ (next2 .next-start2 .ensures) (low2 .low-count2 .ensures)) refl
     refl (at-mid a (n - a) work) (again .back-levels .ensures) (put-area a (n - a) work z₁ fit size₁)
     (not-false _ (fits .if2 .left)) _ _ _ _ (at-mid a (n - a) work₁) (put-again a (n - a) work z₁ fit size₁) (weave .weave-low .ensures .0)
     (weave .weave-low .ensures .1) (put-area a (n - a) work₁ z₂ fit₁ size₂) (not-true _ (c .if3 .taken))
 
-back-levels-level-back-requires-2 : (t : ℕ) → back-levels-lts.Need-level-back-requires-2 (
+back-levels-back-by-requires-2 : (t : ℕ) → back-levels-lts.Need-back-by-requires-2 (
   low-count-reads.Asked,
   low-count-reads.Learnt,
   goes-on-reads.Asked,
   goes-on-reads.Learnt,
-  level-back-reads.Asked,
-  level-back-reads.Learnt,
+  back-by-reads.Asked,
+  back-by-reads.Learnt,
   next-start-reads.Asked,
   next-start-reads.Learnt,
   back-levels-below t,
@@ -865,7 +871,7 @@ back-levels-level-back-requires-2 : (t : ℕ) → back-levels-lts.Need-level-bac
   weave-low-reads.Asked,
   weave-low-reads.Learnt,
 ) (back-levels-at t) back-levels.Post
-back-levels-level-back-requires-2 t c κs =
+back-levels-back-by-requires-2 t c κs =
     let weave = c .before .before .before in
     let fits = weave .before .before in
     let again = fits .before .before in
@@ -903,8 +909,8 @@ back-levels-same-length-4 : (t : ℕ) → back-levels-lts.Need-same-length-4 (
   low-count-reads.Learnt,
   goes-on-reads.Asked,
   goes-on-reads.Learnt,
-  level-back-reads.Asked,
-  level-back-reads.Learnt,
+  back-by-reads.Asked,
+  back-by-reads.Learnt,
   next-start-reads.Asked,
   next-start-reads.Learnt,
   back-levels-below t,
@@ -944,15 +950,15 @@ back-levels-same-length-4 t c =
     let size₂ = weave .weave-low .kept .0 in
     let work₂ = putMid a (n - a) work₁ z₂ in
     let same₂ : length work₂ ≡ n = put-same a (n - a) work₁ z₂ fit₁ size₂ ∙ same₁ in
-    back .level-back2 .kept .1 .0 ∙ same₂
+    back .back-by2 .kept .1 .0 ∙ same₂
 
 back-levels-returns-4 : (t : ℕ) → back-levels-lts.Need-returns-4 (
   low-count-reads.Asked,
   low-count-reads.Learnt,
   goes-on-reads.Asked,
   goes-on-reads.Learnt,
-  level-back-reads.Asked,
-  level-back-reads.Learnt,
+  back-by-reads.Asked,
+  back-by-reads.Learnt,
   next-start-reads.Asked,
   next-start-reads.Learnt,
   back-levels-below t,
@@ -993,11 +999,11 @@ back-levels-returns-4 t c =
     let size₂ = weave .weave-low .kept .0 in
     let work₂ = putMid a (n - a) work₁ z₂ in
     let same₂ : length work₂ ≡ n = put-same a (n - a) work₁ z₂ fit₁ size₂ ∙ same₁ in
-    back-step n _ _ _ _ a (n - a) W H _ _ _ _ _ _ _ _ R (yes′ .0) ch
+    back-step (filterOf (start .args .filter)) (filter-laws (start .args .filter)) n _ _ _ _ a (n - a) W H _ _ _ _ _ _ _ _ R (yes′ .0) ch
     (next-side W _ _ (next .next-start .ensures) (low .low-count .ensures)) (next-side H _ _ (next2 .next-start2 .ensures) (low2 .low-count2 .ensures)) refl
     refl (at-mid a (n - a) work) (again .back-levels .ensures) (put-area a (n - a) work z₁ fit size₁)
     (not-false _ (fits .if2 .left)) _ _ _ _ (at-mid a (n - a) work₁) (put-again a (n - a) work z₁ fit size₁) (weave .weave-low .ensures .0)
-    (weave .weave-low .ensures .1) (put-area a (n - a) work₁ z₂ fit₁ size₂) _ _ (not-false _ (good .if3 .left)) (back .level-back2 .ensures)
+    (weave .weave-low .ensures .1) (put-area a (n - a) work₁ z₂ fit₁ size₂) _ _ (not-false _ (good .if3 .left)) (back .back-by2 .ensures)
 
 pub +back-levels-spec : {M : Type 1} → statement M
 +back-levels-spec = close μ-back-levels λ t. back-levels-lts.spec (
@@ -1005,8 +1011,8 @@ pub +back-levels-spec : {M : Type 1} → statement M
   low-count-reads.Learnt,
   goes-on-reads.Asked,
   goes-on-reads.Learnt,
-  level-back-reads.Asked,
-  level-back-reads.Learnt,
+  back-by-reads.Asked,
+  back-by-reads.Learnt,
   next-start-reads.Asked,
   next-start-reads.Learnt,
   back-levels-below t,
@@ -1019,7 +1025,7 @@ pub +back-levels-spec : {M : Type 1} → statement M
     (back-levels-low-count-requires t)
     (back-levels-low-count-requires-2 t)
     (back-levels-goes-on-requires t)
-    (back-levels-level-back-requires t)
+    (back-levels-back-by-requires t)
     (back-levels-same-length t)
     (back-levels-returns t)
     (back-levels-next-start-requires t)
@@ -1044,6 +1050,6 @@ pub +back-levels-spec : {M : Type 1} → statement M
     (back-levels-weave-low-requires t)
     (back-levels-same-length-3 t)
     (back-levels-returns-3 t)
-    (back-levels-level-back-requires-2 t)
+    (back-levels-back-by-requires-2 t)
     (back-levels-same-length-4 t)
     (back-levels-returns-4 t)

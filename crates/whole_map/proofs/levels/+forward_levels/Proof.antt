@@ -4,6 +4,8 @@ use native.Mathlib.Omega.{arith}
 use borrow.Author.Needs.{needs}
 use borrow.Author.Tests.{not-true, not-false}
 use Rattle.lifting.specs.Grid.{side}
+use Rattle.whole_map.specs.ByFilter.{filterOf}
+use Rattle.whole_map.proofs.ByFilterLaws.{filter-laws}
 use Rattle.whole_map.proofs.LevelSteps.{next-side, rows-corner}
 use Rattle.whole_map.proofs.ForwardSteps.{goes-on, own-rows, forward-end, forward-step}
 use Prim.Native.Nat.{ℕ, _<_}
@@ -17,7 +19,7 @@ use Rattle.wavelet.proofs.sizes.next_start.Reads as next-start-reads
 use Rattle.whole_map.proofs.levels.goes_on.Reads as goes-on-reads
 use Rattle.whole_map.proofs.levels.save.Reads as save-reads
 use Rattle.whole_map.proofs.levels.spread.Reads as spread-reads
-use Rattle.whole_map.proofs.passes.lift_level.Reads as lift-level-reads
+use Rattle.whole_map.proofs.passes.lift_by.Reads as lift-by-reads
 use Rattle.whole_map.proofs.levels.+forward_levels.{statement}
 use Rattle.whole_map.proofs.levels.+forward_levels.Tie.{close}
 
@@ -40,9 +42,9 @@ forward-levels-below t =
     (falls 2 forward-levels-kinds.ps _<_ μ-forward-levels t)
     forward-levels.Pre
 
-forward-levels-lift-level-requires : (t : ℕ) → forward-levels-lts.Need-lift-level-requires (
-  lift-level-reads.Asked,
-  lift-level-reads.Learnt,
+forward-levels-lift-by-requires : (t : ℕ) → forward-levels-lts.Need-lift-by-requires (
+  lift-by-reads.Asked,
+  lift-by-reads.Learnt,
   low-count-reads.Asked,
   low-count-reads.Learnt,
   goes-on-reads.Asked,
@@ -56,11 +58,11 @@ forward-levels-lift-level-requires : (t : ℕ) → forward-levels-lts.Need-lift-
   forward-levels-below t,
   forward-levels.Post,
 ) (forward-levels-at t) forward-levels.Post
-forward-levels-lift-level-requires t c κs = c .before .pre .1 .0
+forward-levels-lift-by-requires t c κs = c .before .pre .1 .0
 
 forward-levels-low-count-requires : (t : ℕ) → forward-levels-lts.Need-low-count-requires (
-  lift-level-reads.Asked,
-  lift-level-reads.Learnt,
+  lift-by-reads.Asked,
+  lift-by-reads.Learnt,
   low-count-reads.Asked,
   low-count-reads.Learnt,
   goes-on-reads.Asked,
@@ -77,8 +79,8 @@ forward-levels-low-count-requires : (t : ℕ) → forward-levels-lts.Need-low-co
 forward-levels-low-count-requires t c κs = tt
 
 forward-levels-low-count-requires-2 : (t : ℕ) → forward-levels-lts.Need-low-count-requires-2 (
-  lift-level-reads.Asked,
-  lift-level-reads.Learnt,
+  lift-by-reads.Asked,
+  lift-by-reads.Learnt,
   low-count-reads.Asked,
   low-count-reads.Learnt,
   goes-on-reads.Asked,
@@ -95,8 +97,8 @@ forward-levels-low-count-requires-2 : (t : ℕ) → forward-levels-lts.Need-low-
 forward-levels-low-count-requires-2 t c κs = tt
 
 forward-levels-goes-on-requires : (t : ℕ) → forward-levels-lts.Need-goes-on-requires (
-  lift-level-reads.Asked,
-  lift-level-reads.Learnt,
+  lift-by-reads.Asked,
+  lift-by-reads.Learnt,
   low-count-reads.Asked,
   low-count-reads.Learnt,
   goes-on-reads.Asked,
@@ -113,8 +115,8 @@ forward-levels-goes-on-requires : (t : ℕ) → forward-levels-lts.Need-goes-on-
 forward-levels-goes-on-requires t c κs = tt
 
 forward-levels-same-length : (t : ℕ) → forward-levels-lts.Need-same-length (
-  lift-level-reads.Asked,
-  lift-level-reads.Learnt,
+  lift-by-reads.Asked,
+  lift-by-reads.Learnt,
   low-count-reads.Asked,
   low-count-reads.Learnt,
   goes-on-reads.Asked,
@@ -131,8 +133,8 @@ forward-levels-same-length : (t : ℕ) → forward-levels-lts.Need-same-length (
 forward-levels-same-length t c = search needs
 
 forward-levels-returns : (t : ℕ) → forward-levels-lts.Need-returns (
-  lift-level-reads.Asked,
-  lift-level-reads.Learnt,
+  lift-by-reads.Asked,
+  lift-by-reads.Learnt,
   low-count-reads.Asked,
   low-count-reads.Learnt,
   goes-on-reads.Asked,
@@ -154,15 +156,17 @@ forward-levels-returns t c =
     let start = lift .before .before in
     let R = start .pre .1 .0 in
     let W = side (start .args .x) (start .args .width) in
+    let F = filterOf (start .args .filter) in
+    let laws = filter-laws (start .args .filter) in
     let H = side (start .args .y) (start .args .height) in (
-      forward-end _ W H _ _ (R .wide) (R .apart) (lift .lift-level .ensures) _ _ _ (start .pre .1 .2) (low .low-count .ensures) (low2 .low-count2 .ensures)
+      forward-end F laws _ W H _ _ (R .wide) (R .apart) (lift .lift-by .ensures) _ _ _ (start .pre .1 .2) (low .low-count .ensures) (low2 .low-count2 .ensures)
           (sym (goes .goes-on .ensures) ∙ not-true _ (c .if1 .taken)),
       record { kept = λ j b. refl },
     )
 
 forward-levels-next-start-requires : (t : ℕ) → forward-levels-lts.Need-next-start-requires (
-  lift-level-reads.Asked,
-  lift-level-reads.Learnt,
+  lift-by-reads.Asked,
+  lift-by-reads.Learnt,
   low-count-reads.Asked,
   low-count-reads.Learnt,
   goes-on-reads.Asked,
@@ -179,8 +183,8 @@ forward-levels-next-start-requires : (t : ℕ) → forward-levels-lts.Need-next-
 forward-levels-next-start-requires t c κs = tt
 
 forward-levels-next-start-requires-2 : (t : ℕ) → forward-levels-lts.Need-next-start-requires-2 (
-  lift-level-reads.Asked,
-  lift-level-reads.Learnt,
+  lift-by-reads.Asked,
+  lift-by-reads.Learnt,
   low-count-reads.Asked,
   low-count-reads.Learnt,
   goes-on-reads.Asked,
@@ -197,8 +201,8 @@ forward-levels-next-start-requires-2 : (t : ℕ) → forward-levels-lts.Need-nex
 forward-levels-next-start-requires-2 t c κs = tt
 
 forward-levels-save-requires : (t : ℕ) → forward-levels-lts.Need-save-requires (
-  lift-level-reads.Asked,
-  lift-level-reads.Learnt,
+  lift-by-reads.Asked,
+  lift-by-reads.Learnt,
   low-count-reads.Asked,
   low-count-reads.Learnt,
   goes-on-reads.Asked,
@@ -224,13 +228,13 @@ forward-levels-save-requires t c κs =
     let on = goes-on _ _ _ (sym (goes .goes-on .ensures) ∙ not-false _ (more .if1 .left)) in
     let W = side (start .args .x) (start .args .width) in
     let H = side (start .args .y) (start .args .height) in (
-      rows-corner _ _ _ W H _ _ (low .low-count .ensures) (low2 .low-count2 .ensures) (on .2) (start .pre .1 .0) (lift .lift-level .kept .0),
+      rows-corner _ _ _ W H _ _ (low .low-count .ensures) (low2 .low-count2 .ensures) (on .2) (start .pre .1 .0) (lift .lift-by .kept .0),
       own-rows _ _ W H _ _ refl (low .low-count .ensures) (low2 .low-count2 .ensures) (on .1) (on .2) (start .pre .1 .1),
     )
 
 forward-levels-spread-requires : (t : ℕ) → forward-levels-lts.Need-spread-requires (
-  lift-level-reads.Asked,
-  lift-level-reads.Learnt,
+  lift-by-reads.Asked,
+  lift-by-reads.Learnt,
   low-count-reads.Asked,
   low-count-reads.Learnt,
   goes-on-reads.Asked,
@@ -258,12 +262,12 @@ forward-levels-spread-requires t c κs =
     let W = side (start .args .x) (start .args .width) in
     let H = side (start .args .y) (start .args .height) in (
       own-rows _ _ W H _ _ (save .save .kept .1 .0) (low .low-count .ensures) (low2 .low-count2 .ensures) (on .1) (on .2) (start .pre .1 .1),
-      rows-corner _ _ _ W H _ _ (low .low-count .ensures) (low2 .low-count2 .ensures) (on .2) (start .pre .1 .0) (lift .lift-level .kept .0),
+      rows-corner _ _ _ W H _ _ (low .low-count .ensures) (low2 .low-count2 .ensures) (on .2) (start .pre .1 .0) (lift .lift-by .kept .0),
     )
 
 forward-levels-sub-forward-levels : (t : ℕ) → forward-levels-lts.Need-sub-forward-levels (
-  lift-level-reads.Asked,
-  lift-level-reads.Learnt,
+  lift-by-reads.Asked,
+  lift-by-reads.Learnt,
   low-count-reads.Asked,
   low-count-reads.Learnt,
   goes-on-reads.Asked,
@@ -280,8 +284,8 @@ forward-levels-sub-forward-levels : (t : ℕ) → forward-levels-lts.Need-sub-fo
 forward-levels-sub-forward-levels t c = omega arith
 
 forward-levels-forward-levels-requires : (t : ℕ) → forward-levels-lts.Need-forward-levels-requires (
-  lift-level-reads.Asked,
-  lift-level-reads.Learnt,
+  lift-by-reads.Asked,
+  lift-by-reads.Learnt,
   low-count-reads.Asked,
   low-count-reads.Learnt,
   goes-on-reads.Asked,
@@ -312,15 +316,15 @@ forward-levels-forward-levels-requires t c κs =
       omega arith,
       (
         rows-corner _ _ _ W H _ _ (low .low-count .ensures) (low2 .low-count2 .ensures) (on .2) (start .pre .1 .0)
-            (spread .spread .kept .1 .0 ∙ lift .lift-level .kept .0),
+            (spread .spread .kept .1 .0 ∙ lift .lift-by .kept .0),
         own-rows _ _ W H _ _ (save .save .kept .1 .0) (low .low-count .ensures) (low2 .low-count2 .ensures) (on .1) (on .2) (start .pre .1 .1),
         omega arith,
       ),
     )
 
 forward-levels-same-length-2 : (t : ℕ) → forward-levels-lts.Need-same-length-2 (
-  lift-level-reads.Asked,
-  lift-level-reads.Learnt,
+  lift-by-reads.Asked,
+  lift-by-reads.Learnt,
   low-count-reads.Asked,
   low-count-reads.Learnt,
   goes-on-reads.Asked,
@@ -337,8 +341,8 @@ forward-levels-same-length-2 : (t : ℕ) → forward-levels-lts.Need-same-length
 forward-levels-same-length-2 t c = search needs
 
 forward-levels-same-length-3 : (t : ℕ) → forward-levels-lts.Need-same-length-3 (
-  lift-level-reads.Asked,
-  lift-level-reads.Learnt,
+  lift-by-reads.Asked,
+  lift-by-reads.Learnt,
   low-count-reads.Asked,
   low-count-reads.Learnt,
   goes-on-reads.Asked,
@@ -355,8 +359,8 @@ forward-levels-same-length-3 : (t : ℕ) → forward-levels-lts.Need-same-length
 forward-levels-same-length-3 t c = search needs
 
 forward-levels-returns-2 : (t : ℕ) → forward-levels-lts.Need-returns-2 (
-  lift-level-reads.Asked,
-  lift-level-reads.Learnt,
+  lift-by-reads.Asked,
+  lift-by-reads.Learnt,
   low-count-reads.Asked,
   low-count-reads.Learnt,
   goes-on-reads.Asked,
@@ -384,16 +388,18 @@ forward-levels-returns-2 t c =
     let start = lift .before .before in
     let on = goes-on _ _ _ (sym (goes .goes-on .ensures) ∙ not-false _ (more .if1 .left)) in
     let W = side (start .args .x) (start .args .width) in
+    let F = filterOf (start .args .filter) in
+    let laws = filter-laws (start .args .filter) in
     let H = side (start .args .y) (start .args .height) in
     let R = start .pre .1 .0 in
-    forward-step _ W H _ _ (R .wide) (R .apart) (lift .lift-level .ensures) _ _ _ _ _ _ _ _ _ (start .pre .1 .1) (on .0)
+    forward-step F laws _ W H _ _ (R .wide) (R .apart) (lift .lift-by .ensures) _ _ _ _ _ _ _ _ _ (start .pre .1 .1) (on .0)
     (next-side W _ _ (next .next-start .ensures) (low .low-count .ensures)) (next-side H _ _ (next2 .next-start2 .ensures) (low2 .low-count2 .ensures))
     (on .1) (on .2) (save .save .ensures) (spread .spread .ensures) (again .forward-levels .ensures .0) (again .forward-levels .ensures .1)
 
 pub +forward-levels-spec : {M : Type 1} → statement M
 +forward-levels-spec = close μ-forward-levels λ t. forward-levels-lts.spec (
-  lift-level-reads.Asked,
-  lift-level-reads.Learnt,
+  lift-by-reads.Asked,
+  lift-by-reads.Learnt,
   low-count-reads.Asked,
   low-count-reads.Learnt,
   goes-on-reads.Asked,
@@ -409,7 +415,7 @@ pub +forward-levels-spec : {M : Type 1} → statement M
 )
     (forward-levels-at t)
     forward-levels.Post
-    (forward-levels-lift-level-requires t)
+    (forward-levels-lift-by-requires t)
     (forward-levels-low-count-requires t)
     (forward-levels-low-count-requires-2 t)
     (forward-levels-goes-on-requires t)

@@ -5,6 +5,8 @@ use borrow.Author.Tests.{not-true, not-false}
 use Rattle.lifting.specs.Grid.{side}
 use Rattle.lifting.proofs.GridLaws.{counts}
 use Rattle.wavelet.proofs.LimitLaws.{levels-small}
+use Rattle.whole_map.proofs.ByFilterLaws.{filter-laws, levels-few}
+use Rattle.whole_map.specs.ByFilter.{filterOf}
 use Rattle.whole_map.proofs.CellLaws.{fewer-rows}
 use Rattle.whole_map.proofs.TestLaws.{goes-as, goes-yes}
 use Rattle.whole_map.proofs.LevelSteps.{next-side, rows-corner, range-end, range-first, range-second, range-third}
@@ -104,7 +106,8 @@ in-range-returns t c =
     let low2 = goes .before in
     let low = low2 .before in
     let start = low .before in
-    range-end _ _ (side (start .args .x) (start .args .width)) (side (start .args .y) (start .args .height)) _ _ (start .pre .1 .2) (start .pre .1 .1)
+    range-end (filterOf (start .args .filter)) (filter-laws (start .args .filter)) _ _ (side (start .args .x) (start .args .width))
+    (side (start .args .y) (start .args .height)) _ _ (start .pre .1 .2) (start .pre .1 .1)
     (goes-as _ _ _ _ _ _ _ (low .low-count .ensures) (low2 .low-count2 .ensures) (goes .goes-on .ensures) (not-true _ (c .before .if1 .taken)))
     (c .rows-in-range .ensures)
 
@@ -166,7 +169,7 @@ in-range-add-in-range : (t : ℕ) → in-range-lts.Need-add-in-range (
   in-range-below t,
   in-range.Post,
 ) (in-range-at t) in-range.Post
-in-range-add-in-range t c = omega (arith, levels-small)
+in-range-add-in-range t c = omega (arith, levels-small, levels-few (c .before .before .before .before .before .before .args .filter))
 
 in-range-in-range-requires : (t : ℕ) → in-range-lts.Need-in-range-requires (
   low-count-reads.Asked,
@@ -221,7 +224,8 @@ in-range-returns-2 t c =
     let W = side (start .args .x) (start .args .width) in
     let H = side (start .args .y) (start .args .height) in
     let yes′ = goes-yes _ _ _ (sym (goes .goes-on .ensures) ∙ not-false _ (left .if1 .left)) in
-    range-first _ _ W H _ _ _ _ (start .pre .1 .2) (yes′ .0) (next-side W _ _ (next .next-start .ensures) (low .low-count .ensures))
+    range-first (filterOf (start .args .filter)) (filter-laws (start .args .filter)) _ _ W H _ _ _ _ (start .pre .1 .2) (yes′ .0)
+    (next-side W _ _ (next .next-start .ensures) (low .low-count .ensures))
     (next-side H _ _ (next2 .next-start2 .ensures) (low2 .low-count2 .ensures)) (again .in-range .ensures) (not-true _ (c .if2 .taken))
 
 in-range-rows-in-range-requires-2 : (t : ℕ) → in-range-lts.Need-rows-in-range-requires-2 (
@@ -280,7 +284,8 @@ in-range-returns-3 t c =
     let W = side (start .args .x) (start .args .width) in
     let H = side (start .args .y) (start .args .height) in
     let yes′ = goes-yes _ _ _ (sym (goes .goes-on .ensures) ∙ not-false _ (left .if1 .left)) in
-    range-second _ _ W H _ _ _ _ (start .pre .1 .2) (yes′ .0) (next-side W _ _ (next .next-start .ensures) (low .low-count .ensures))
+    range-second (filterOf (start .args .filter)) (filter-laws (start .args .filter)) _ _ W H _ _ _ _ (start .pre .1 .2) (yes′ .0)
+    (next-side W _ _ (next .next-start .ensures) (low .low-count .ensures))
     (next-side H _ _ (next2 .next-start2 .ensures) (low2 .low-count2 .ensures)) (again .in-range .ensures)
     (not-false _ (c .before .before .if2 .left)) _ (c .before .rows-in-range2 .ensures) (not-true _ (c .if3 .taken))
 
@@ -336,7 +341,8 @@ in-range-returns-4 t c =
     let W = side (start .args .x) (start .args .width) in
     let H = side (start .args .y) (start .args .height) in
     let yes′ = goes-yes _ _ _ (sym (goes .goes-on .ensures) ∙ not-false _ (left .if1 .left)) in
-    range-third _ _ W H _ _ _ _ (start .pre .1 .2) (yes′ .0) (next-side W _ _ (next .next-start .ensures) (low .low-count .ensures))
+    range-third (filterOf (start .args .filter)) (filter-laws (start .args .filter)) _ _ W H _ _ _ _ (start .pre .1 .2) (yes′ .0)
+    (next-side W _ _ (next .next-start .ensures) (low .low-count .ensures))
     (next-side H _ _ (next2 .next-start2 .ensures) (low2 .low-count2 .ensures)) (again .in-range .ensures)
     (not-false _ (rows .before .if2 .left)) _ (rows .rows-in-range2 .ensures) (not-false _ (c .before .if3 .left)) _ (c .rows-in-range3 .ensures)
 

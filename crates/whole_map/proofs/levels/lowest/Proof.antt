@@ -5,32 +5,30 @@ use lib.IntN.{pos, negℤ, _-ℤ_}
 use mir.Syntax.{w32}
 use mir.Val.{toZ, ofZ}
 use mir.ValLaws.{toZ-ofZ}
-use borrow.Author.Needs.{needs}
 use Rattle.numbers.proofs.Words.{read-back}
-use Rattle.lifting.specs.FiveThree.{fiveThreeFilter}
-use Rattle.lifting.proofs.FiveThreeFilter.{five-three-laws}
 use Rattle.wavelet.specs.Limits.{range}
-use Rattle.wavelet.proofs.LimitLaws.{five-three-few}
 use Rattle.wavelet.proofs.Bridge.{range-small}
-use Rattle.whole_map.proofs.LevelSteps.{range-is, neg-fits, neg-is}
+use Rattle.whole_map.specs.ByFilter.{filterOf}
+use Rattle.whole_map.proofs.ByFilterLaws.{filter-laws}
+use Rattle.whole_map.proofs.LevelSteps.{neg-fits, neg-is}
 use Rattle.whole_map.proofs.levels.lowest.Statement.{statement}
 use Rattle.whole_map.proofs.levels.lowest.Tie as tie
 
-range-of-requires : tie.Need-range-of-requires
-range-of-requires c κs = search needs
+range-by-requires : tie.Need-range-by-requires
+range-by-requires c κs = c .pre
 
 sub-result : tie.Need-sub-result
 sub-result c =
-    let k = c .before .args .level in
-    let small : range fiveThreeFilter k < 2147483648 = range-small fiveThreeFilter five-three-laws k (five-three-few (c .before .pre)) in
-    neg-fits (range fiveThreeFilter k) _ small (read-back _ (c .range-of .ok) ∙ c .range-of .ensures ∙ range-is k (c .before .pre))
+    let start = c .before in
+    let k = start .args .level in
+    let f = start .args .filter in
+    let small : range (filterOf f) k < 2147483648 = range-small (filterOf f) (filter-laws f) k (start .pre) in
+    neg-fits (range (filterOf f) k) _ small (read-back _ (c .range-by .ok) ∙ c .range-by .ensures)
 
 returns : tie.Need-returns
 returns c =
-    let v = toZ w32 (ofZ w32 (c .range-of .result)) in
-    toZ-ofZ w32 (pos 0 -ℤ v) (sub-result c)
-    ∙ neg-is v
-    ∙ ap negℤ (read-back (c .range-of .result) (c .range-of .ok) ∙ c .range-of .ensures ∙ range-is (c .before .args .level) (c .before .pre))
+    let v = toZ w32 (ofZ w32 (c .range-by .result)) in
+    toZ-ofZ w32 (pos 0 -ℤ v) (sub-result c) ∙ neg-is v ∙ ap negℤ (read-back (c .range-by .result) (c .range-by .ok) ∙ c .range-by .ensures)
 
 pub lowest-spec : {M : Type 1} → statement M
-lowest-spec = tie.close (tie.spec range-of-requires sub-result returns)
+lowest-spec = tie.close (tie.spec range-by-requires sub-result returns)

@@ -3,6 +3,8 @@ use mathlib.Core.Path.{sym, _∙_}
 use native.Mathlib.Omega.{arith}
 use borrow.Author.Needs.{needs}
 use Rattle.lifting.specs.Grid.{side}
+use Rattle.whole_map.proofs.ByFilterLaws.{filter-laws}
+use Rattle.whole_map.specs.ByFilter.{filterOf}
 use Rattle.whole_map.proofs.TestLaws.{region-least}
 use Rattle.whole_map.proofs.CallLaws.{map-rows, one-row}
 use Rattle.whole_map.proofs.levels.plane_in_range.Statement.{statement}
@@ -12,20 +14,21 @@ mul-n : tie.Need-mul-n
 mul-n c = search needs
 
 rows-in-range-requires : tie.Need-rows-in-range-requires
-rows-in-range-requires c κs = (one-row _ _ _ _ (c .pre .0) (c .pre .1), omega arith, omega arith, omega arith)
+rows-in-range-requires c κs = (one-row _ _ _ _ (c .pre .0) (c .pre .1), omega arith, omega arith, omega (arith, c .pre .0 .levels .0))
 
 returns : tie.Need-returns
 returns c =
     let test = c .before in
     let start = test .before in
-    sym (region-least _ (side (start .args .x) (start .args .width)) (side (start .args .y) (start .args .height)) _ (start .pre .0 .levels .0)
+    sym (region-least (filterOf (start .args .filter)) (filter-laws (start .args .filter)) _ (side (start .args .x) (start .args .width))
+    (side (start .args .y) (start .args .height)) _ (start .pre .0 .levels .0)
     (sym (test .rows-in-range .ensures) ∙ c .if1 .taken))
 
 in-range-requires : tie.Need-in-range-requires
 in-range-requires c κs =
     let start = c .before .before in
     let s = start .pre .0 in
-    (map-rows _ _ _ _ s (start .pre .1), s .levels .0, omega arith, omega (arith, s .levels .1))
+    (map-rows _ _ _ _ s (start .pre .1), s .levels .0, omega arith, omega (arith, start .pre .2))
 
 returns-2 : tie.Need-returns-2
 returns-2 c = search needs

@@ -2,6 +2,8 @@
 use mathlib.Core.Path.{_∙_}
 use native.Mathlib.Omega.{arith}
 use borrow.Author.Tests.{eq-eqb}
+use Rattle.lifting.proofs.FiveThreeFilter.{five-three-laws}
+use Rattle.lifting.specs.FiveThree.{fiveThreeFilter}
 use Rattle.lifting.specs.Grid.{side}
 use Rattle.lifting.proofs.LoneLaws.{lone-odd, lone-even}
 use Rattle.whole_map.specs.LevelPasses.{rowsEven}
@@ -12,7 +14,7 @@ use Rattle.whole_map.proofs.levels.rows_even.Tie as tie
 
 returns : tie.Need-returns
 unfolding rowsEven
-returns c = let a = c .before .args in simp (lone-wide (side (a .x) (a .width)) (c .if1 .taken))
+returns c = let a = c .before .args in simp (lone-wide fiveThreeFilter five-three-laws (side (a .x) (a .width)) (c .if1 .taken))
 
 returns-2 : tie.Need-returns-2
 unfolding rowsEven

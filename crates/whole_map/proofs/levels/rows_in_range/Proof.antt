@@ -4,15 +4,15 @@ use borrow.Author.Needs.{needs}
 use Rattle.numbers.specs.Signal.{at}
 use Rattle.wavelet.specs.Plane.{cells}
 use Rattle.numbers.proofs.Words.{read-back}
-use Rattle.whole_map.proofs.LevelSteps.{between-by, range-is}
+use Rattle.whole_map.proofs.LevelSteps.{between-by}
 use Rattle.whole_map.proofs.levels.rows_in_range.Statement.{statement}
 use Rattle.whole_map.proofs.levels.rows_in_range.Tie as tie
 
 lowest-requires : tie.Need-lowest-requires
 lowest-requires c κs = search needs
 
-range-of-requires : tie.Need-range-of-requires
-range-of-requires c κs = search needs
+range-by-requires : tie.Need-range-by-requires
+range-by-requires c κs = search needs
 
 rows-between-requires : tie.Need-rows-between-requires
 rows-between-requires c κs = search needs
@@ -25,8 +25,8 @@ returns c =
     c .rows-between .ensures
     ∙ between-by (a .first) (a .last) (a .from) (a .to) (cells (a .across) (at (a .plane .now)))
     (read-back (low .lowest .result) (low .lowest .ok) ∙ low .lowest .ensures)
-    (read-back (high .range-of .result) (high .range-of .ok) ∙ high .range-of .ensures ∙ range-is (a .level) (low .before .pre .3))
+    (read-back (high .range-by .result) (high .range-by .ok) ∙ high .range-by .ensures)
 
 pub rows-in-range-spec : {M : Type 1} → statement M
 rows-in-range-spec =
-    tie.close (tie.spec lowest-requires range-of-requires rows-between-requires returns)
+    tie.close (tie.spec lowest-requires range-by-requires rows-between-requires returns)

@@ -3,7 +3,7 @@ use mathlib.Core.Path.{_∙_}
 use Rattle.numbers.specs.Signal.{at}
 use Rattle.numbers.proofs.Words.{read-back}
 use Rattle.wavelet.specs.Plane.{cells}
-use Rattle.whole_map.proofs.LevelSteps.{between-by, range-is}
+use Rattle.whole_map.proofs.LevelSteps.{between-by}
 use borrow.Author.Needs.{needs}
 use Rattle.whole_map.proofs.levels.weave_low.Statement.{statement}
 use Rattle.whole_map.proofs.levels.weave_low.Tie as tie
@@ -11,8 +11,8 @@ use Rattle.whole_map.proofs.levels.weave_low.Tie as tie
 lowest-requires : tie.Need-lowest-requires
 lowest-requires c κs = search needs
 
-range-of-requires : tie.Need-range-of-requires
-range-of-requires c κs = tt
+range-by-requires : tie.Need-range-by-requires
+range-by-requires c κs = search needs
 
 weave-rows-requires : tie.Need-weave-rows-requires
 weave-rows-requires c κs = search needs
@@ -30,10 +30,10 @@ returns c =
       rows .weave-rows .ensures .0
           ∙ between-by 0 (a .height) 0 (a .width) (cells (a .stride) (at (a .work .now)))
           (read-back (low .lowest .result) (low .lowest .ok) ∙ low .lowest .ensures)
-          (read-back (high .range-of .result) (high .range-of .ok) ∙ high .range-of .ensures ∙ range-is (a .level) (start .pre .2)),
+          (read-back (high .range-by .result) (high .range-by .ok) ∙ high .range-by .ensures),
       rows .weave-rows .ensures .1,
     )
 
 pub weave-low-spec : {M : Type 1} → statement M
 weave-low-spec =
-    tie.close (tie.spec lowest-requires range-of-requires weave-rows-requires same-length returns)
+    tie.close (tie.spec lowest-requires range-by-requires weave-rows-requires same-length returns)

@@ -1,5 +1,5 @@
 -- `cascade::pass_on` meets its contract: the LL row delivered, and what it makes below. Assumes nothing.
-use mathlib.Core.Path.{sym, ap, refl, _∙_}
+use mathlib.Core.Path.{_≡_, sym, ap, refl, _∙_}
 use Prim.Native.Nat.{_+_, _-_, _*_}
 use native.Mathlib.Omega.{arith}
 use lib.ListN.{length}
@@ -21,11 +21,15 @@ use Rattle.writer.proofs.cascade.pass_on.Tie as tie
 goes-on-requires : tie.Need-goes-on-requires
 goes-on-requires c κs = tt
 
+nothing-requires : tie.Need-nothing-requires
+nothing-requires c κs = tt
+
 returns : tie.Need-returns
 returns c =
-    let a = c .before .before .args in
-    left-still (a .l + 1) (side (a .x) (a .w)) _ _
-    (pass-none (side (a .x) (a .w)) (a .y) (a .n) _ (a .l) (sym (c .before .goes-on .ensures) ∙ not-true _ (c .if1 .taken)))
+    let on = c .before .before in
+    let a = on .before .args in
+    left-still (a .l + 1) (side (a .x) (a .w)) _ _ _ (c .nothing .ensures)
+    (pass-none (side (a .x) (a .w)) (a .y) (a .n) _ (a .l) (sym (on .goes-on .ensures) ∙ not-true _ (c .before .if1 .taken)))
 
 sub-k : tie.Need-sub-k
 sub-k c = let a = c .before .before .args in omega (arith, goes (a .l) (a .y) (a .n) _ (c .before .goes-on .ensures) (c .if1 .left))
@@ -39,17 +43,23 @@ add-deliver c = omega arith
 deliver-requires : tie.Need-deliver-requires
 deliver-requires c κs = tt
 
-mul-a : tie.Need-mul-a
-mul-a c = omega arith
+stretch-requires : tie.Need-stretch-requires
+stretch-requires c κs = omega arith
 
 mul-arrive : tie.Need-mul-arrive
 mul-arrive c = omega arith
 
 sub-arrive : tie.Need-sub-arrive
-sub-arrive c = let a = c .before .before .before .before .before .before .args in omega (arith, store-next (side (a .x) (a .w)) (a .l))
+sub-arrive c =
+    let a = c .before .before .before .before .before .before .before .args in
+    let e : c .stretch .result ≡ 4 * a .w = c .stretch .ensures in
+    omega (arith, e, store-next (side (a .x) (a .w)) (a .l))
 
 part-arrive-start : tie.Need-part-arrive-start
-part-arrive-start c = let a = c .before .before .before .before .before .before .args in omega (arith, store-next (side (a .x) (a .w)) (a .l))
+part-arrive-start c =
+    let a = c .before .before .before .before .before .before .before .args in
+    let e : c .stretch .result ≡ 4 * a .w = c .stretch .ensures in
+    omega (arith, e, store-next (side (a .x) (a .w)) (a .l))
 
 part-arrive-end : tie.Need-part-arrive-end
 part-arrive-end c = search needs
@@ -62,10 +72,13 @@ next-start-requires-2 c κs = tt
 
 arrive-requires : tie.Need-arrive-requires
 arrive-requires c κs =
-    let a = c .before .before .before .before .before .before .before .before .before .args in
+    let st = c .before .before .before in
+    let a = st .before .before .before .before .before .before .before .args in
+    let e : st .stretch .result ≡ 4 * a .w = st .stretch .ensures in
     let v = next-is (a .x) (a .w) _ _ (c .next-start2 .ensures) (c .before .low-count .ensures) in
     omega (
       arith,
+      e,
       store-next (side (a .x) (a .w)) (a .l),
       count-lo (side (a .x) (a .w)),
       c .before .low-count .ensures,
@@ -75,17 +88,19 @@ arrive-requires c κs =
 
 deeper-requires : tie.Need-deeper-requires
 deeper-requires c κs =
-    omega (arith, c .before .arrive .ensures .within, c .before .before .before .before .before .before .before .before .before .before .before .pre)
+    omega (arith, c .before .arrive .ensures .within, c .before .before .before .before .before .before .before .before .before .before .before .before .pre)
 
 further-requires : tie.Need-further-requires
 further-requires c κs =
-    let start = c .before .before .before .before .before .before .before .before .before .before .before .before in
+    let st = c .before .before .before .before .before .before in
+    let start = st .before .before .before .before .before .before .before in
     let a = start .args in
+    let e : st .stretch .result ≡ 4 * a .w = st .stretch .ensures in
     let v = c .before .before .before .before .low-count in
     let o =
     left-small (a .l) (side _ (v .result)) _ _ _ (omega (arith, start .pre, v .ensures, count-lo (side (a .x) (a .w)))) (omega (arith, start .pre))
     (c .before .before .arrive .ensures) in
-    omega (arith, start .pre)
+    omega (arith, start .pre, e)
 
 same-length : tie.Need-same-length
 same-length c = search needs
@@ -94,7 +109,8 @@ returns-2 : tie.Need-returns-2
 returns-2 c =
     let e = c .before in
     let below = e .before .before in
-    let sent = below .before .before .before .before .before in
+    let st = below .before .before .before .before in
+    let sent = st .before .before in
     let first = sent .before .before in
     let on = first .before in
     let start = on .before .before in
@@ -104,14 +120,16 @@ returns-2 c =
     let s = store-next (side (a .x) (a .w)) (a .l) in
     let q = store-back (next (side (a .x) (a .w))) (a .l) (g .0) in
     let h = next-length (side (a .x) (a .w)) in
-    passed-goes (a .l) (side (a .x) (a .w)) (a .y) (a .n) _ _ _ _ _ _ _ _ (at l) (at (below .arrive .last .0)) _ _ (g .0) (g .1)
+    let j : st .stretch .result ≡ 4 * a .w = st .stretch .ensures in
+    passed-goes (a .l) (side (a .x) (a .w)) (a .y) (a .n) _ _ _ _ _ _ _ _ _ (at l) (at (below .arrive .last .0)) _ _ (g .0) (g .1)
     (record {
       columns = next-is (a .x) (a .w) _ _ (below .before .next-start2 .ensures) (below .before .before .low-count .ensures);
       start = start-is (a .y) _ (first .next-start .ensures);
       row = refl;
-    }) refl
+    }) refl (st .stretch .ensures)
     (delivered-done (length (a .store .now)) (side (a .x) (a .w)) (a .n) _ _ _ (omega (arith, start .pre)) (sent .deliver .ensures .1))
-    (rw (at-rest (4 * a .w) l) at (below .arrive .ensures)) (at-join (4 * a .w) l (below .arrive .last .0) (omega (arith, start .pre, sent .deliver)))
+    (rw (at-rest (st .stretch .result) l) at (below .arrive .ensures))
+    (at-join (st .stretch .result) l (below .arrive .last .0) (omega (arith, start .pre, sent .deliver, j)))
     (e .deeper .ensures) (c .further .ensures)
 
 pub pass-on-spec : {M : Type 1} → statement M
@@ -119,12 +137,13 @@ pass-on-spec =
     tie.close
     (tie.spec
     goes-on-requires
+    nothing-requires
     returns
     sub-k
     next-start-requires
     add-deliver
     deliver-requires
-    mul-a
+    stretch-requires
     mul-arrive
     sub-arrive
     part-arrive-start

@@ -10,19 +10,22 @@ use Rattle.lifting.specs.Grid.{Side, side}
 use Rattle.wavelet.specs.Store.{storeLength}
 use Rattle.wavelet.proofs.SideLaws.{count-lo}
 use Rattle.wavelet.proofs.StoreLaws.{store-back}
-use Rattle.level.proofs.Places.{prev-is}
+use Rattle.level.specs.FiveThreeLevel.{fiveThree}
 use Rattle.level.proofs.RestLaws.{at-rest, at-join}
 use Rattle.writer.proofs.CountLaws.{next-is, start-is}
 use Rattle.writer.proofs.ClosingLaws.{closed-small, shut-none, shut-waits, shut-goes}
 use Rattle.writer.proofs.closing.shut.Reads as shut
 use Rattle.writer.proofs.closing.shut.Kinds as shut-kinds
 use Rattle.writer.proofs.closing.+shut.Lts-shut as shut-lts
+use Rattle.level.proofs.making.ahead.Reads as ahead-reads
 use Rattle.wavelet.proofs.sizes.low_count.Reads as low-count-reads
 use Rattle.wavelet.proofs.sizes.next_start.Reads as next-start-reads
 use Rattle.writer.proofs.closing.close_level.Reads as close-level-reads
+use Rattle.writer.proofs.closing.idle.Reads as idle-reads
+use Rattle.writer.proofs.counts.closed_below.Reads as closed-below-reads
 use Rattle.writer.proofs.counts.deeper.Reads as deeper-reads
 use Rattle.writer.proofs.counts.further.Reads as further-reads
-use Rattle.writer.proofs.counts.prev.Reads as prev-reads
+use Rattle.writer.proofs.counts.stretch.Reads as stretch-reads
 use Rattle.writer.proofs.closing.+shut.{statement}
 use Rattle.writer.proofs.closing.+shut.Tie.{close}
 
@@ -38,24 +41,35 @@ shut-below t = and 1 shut-kinds.ps (falls 1 shut-kinds.ps _<_ μ-shut t) shut.Pr
 -- what is known of the calls, those of `shut` itself at fewer levels
 abbrev claims : ℕ → shut-lts.Claims
 claims t = (
+  idle-reads.Asked,
+  idle-reads.Learnt,
   close-level-reads.Asked,
   close-level-reads.Learnt,
+  stretch-reads.Asked,
+  stretch-reads.Learnt,
   low-count-reads.Asked,
   low-count-reads.Learnt,
   next-start-reads.Asked,
   next-start-reads.Learnt,
-  prev-reads.Asked,
-  prev-reads.Learnt,
+  closed-below-reads.Asked,
+  closed-below-reads.Learnt,
   shut-below t,
   shut.Post,
+  ahead-reads.Asked,
+  ahead-reads.Learnt,
   deeper-reads.Asked,
   deeper-reads.Learnt,
   further-reads.Asked,
   further-reads.Learnt,
 )
 
+shut-idle-requires : (t : ℕ) → shut-lts.Need-idle-requires (claims t) (shut-at t) shut.Post
+shut-idle-requires t c κs = tt
+
 shut-returns : (t : ℕ) → shut-lts.Need-returns (claims t) (shut-at t) shut.Post
-shut-returns t c = let a = c .before .args in shut-none (a .l) (side (a .x) (a .w)) (a .y) (a .c) (a .m) _ (omega arith) (omega arith)
+shut-returns t c =
+    let a = c .before .before .args in
+    shut-none (a .l) (side (a .x) (a .w)) (a .y) (a .c) (a .m) _ _ (c .idle .ensures) (omega arith) (omega arith)
 
 shut-sub-close-level : (t : ℕ) → shut-lts.Need-sub-close-level (claims t) (shut-at t) shut.Post
 shut-sub-close-level t c = omega arith
@@ -74,18 +88,23 @@ shut-returns-2 t c =
     let a = c .before .before .before .before .before .before .args in
     shut-waits (a .l) (side (a .x) (a .w)) (a .y) (a .c) (a .m) _ _ _ (omega arith) (c .before .before .before .close-level .ensures) (omega arith)
 
-shut-mul-a : (t : ℕ) → shut-lts.Need-mul-a (claims t) (shut-at t) shut.Post
-shut-mul-a t c = omega arith
+shut-stretch-requires : (t : ℕ) → shut-lts.Need-stretch-requires (claims t) (shut-at t) shut.Post
+shut-stretch-requires t c κs = omega arith
 
 shut-mul-shut : (t : ℕ) → shut-lts.Need-mul-shut (claims t) (shut-at t) shut.Post
 shut-mul-shut t c = omega arith
 
 shut-sub-shut : (t : ℕ) → shut-lts.Need-sub-shut (claims t) (shut-at t) shut.Post
-shut-sub-shut t c = let a = c .before .before .before .before .before .before .args in omega (arith, store-back (side (a .x) (a .w)) (a .l) (omega arith))
+shut-sub-shut t c =
+    let a = c .before .before .before .before .before .before .before .args in
+    let e : c .stretch .result ≡ 4 * a .w = c .stretch .ensures in
+    omega (arith, e, store-back (side (a .x) (a .w)) (a .l) (omega arith))
 
 shut-part-shut-start : (t : ℕ) → shut-lts.Need-part-shut-start (claims t) (shut-at t) shut.Post
 shut-part-shut-start t c =
-    let a = c .before .before .before .before .before .before .args in omega (arith, store-back (side (a .x) (a .w)) (a .l) (omega arith))
+    let a = c .before .before .before .before .before .before .before .args in
+    let e : c .stretch .result ≡ 4 * a .w = c .stretch .ensures in
+    omega (arith, e, store-back (side (a .x) (a .w)) (a .l) (omega arith))
 
 shut-part-shut-end : (t : ℕ) → shut-lts.Need-part-shut-end (claims t) (shut-at t) shut.Post
 shut-part-shut-end t c = search needs
@@ -102,55 +121,60 @@ shut-next-start-requires t c κs = tt
 shut-next-start-requires-2 : (t : ℕ) → shut-lts.Need-next-start-requires-2 (claims t) (shut-at t) shut.Post
 shut-next-start-requires-2 t c κs = tt
 
-shut-prev-requires : (t : ℕ) → shut-lts.Need-prev-requires (claims t) (shut-at t) shut.Post
-shut-prev-requires t c κs = tt
+shut-closed-below-requires : (t : ℕ) → shut-lts.Need-closed-below-requires (claims t) (shut-at t) shut.Post
+shut-closed-below-requires t c κs = tt
 
 shut-low-count-requires-2 : (t : ℕ) → shut-lts.Need-low-count-requires-2 (claims t) (shut-at t) shut.Post
 shut-low-count-requires-2 t c κs = tt
 
 shut-shut-requires : (t : ℕ) → shut-lts.Need-shut-requires (claims t) (shut-at t) shut.Post
 shut-shut-requires t c κs =
-    let a = c .before .before .before .before .before .before .before .before .before .before .before .before .args in
+    let st = c .before .before .before .before .before .before in
+    let start = st .before .before .before .before .before .before .before in
+    let a = start .args in
     let width = c .before .before .before .before .low-count in
     let v = next-is (a .x) (a .w) _ _ (c .before .before .before .next-start .ensures) (width .ensures) in
+    let e : st .stretch .result ≡ 4 * a .w = st .stretch .ensures in
     omega (
       arith,
-      c .before .before .before .before .before .before .before .before .before .before .before .before .pre,
+      start .pre,
+      e,
       store-back (side (a .x) (a .w)) (a .l) (omega arith),
       count-lo (side (a .x) (a .w)),
       width .ensures,
       count-lo (side (a .y) (a .m)),
       c .low-count2 .ensures,
-      c .before .prev .ensures,
-      prev-is (a .c),
+      c .before .closed-below .ensures,
       ap (λ (S : Side). storeLength S (a .l - 1)) v,
     )
 
-shut-add-t14 : (t : ℕ) → shut-lts.Need-add-t14 (claims t) (shut-at t) shut.Post
-shut-add-t14 t c =
-    omega (
-      arith,
-      c .before .before .shut .ensures .all,
-      c .before .before .before .before .before .before .before .before .before .before .before .before .before .before .before .pre,
-    )
+shut-ahead-requires : (t : ℕ) → shut-lts.Need-ahead-requires (claims t) (shut-at t) shut.Post
+shut-ahead-requires t c κs = tt
+
+shut-add-t24 : (t : ℕ) → shut-lts.Need-add-t24 (claims t) (shut-at t) shut.Post
+shut-add-t24 t c =
+    let below = c .before .before .before in
+    let start = below .before .before .before .before .before .before .before .before .before .before .before .before .before .before in
+    omega (arith, c .before .ahead .ensures, below .shut .ensures .all, start .pre)
 
 shut-deeper-requires : (t : ℕ) → shut-lts.Need-deeper-requires (claims t) (shut-at t) shut.Post
 shut-deeper-requires t c κs =
-    omega (
-      arith,
-      c .before .before .shut .ensures .within,
-      c .before .before .before .before .before .before .before .before .before .before .before .before .before .before .before .pre,
-    )
+    let below = c .before .before .before in
+    let start = below .before .before .before .before .before .before .before .before .before .before .before .before .before .before in
+    omega (arith, below .shut .ensures .within, start .pre)
 
 shut-further-requires : (t : ℕ) → shut-lts.Need-further-requires (claims t) (shut-at t) shut.Post
 shut-further-requires t c κs =
-    let start = c .before .before .before .before .before .before .before .before .before .before .before .before .before .before .before .before in
+    let below = c .before .before .before .before in
+    let st = below .before .before .before .before .before .before .before in
+    let start = st .before .before .before .before .before .before .before in
     let a = start .args in
-    let v = c .before .before .before .before .before .before .before .before .low-count in
+    let v = below .before .before .before .before .before .low-count in
+    let e : st .stretch .result ≡ 4 * a .w = st .stretch .ensures in
     let o =
     closed-small (a .l - 1) (side _ (v .result)) _ _ _ (omega (arith, start .pre, v .ensures, count-lo (side (a .x) (a .w)))) (omega (arith, start .pre))
-    (c .before .before .before .shut .ensures) in
-    omega (arith, start .pre)
+    (below .shut .ensures) in
+    omega (arith, start .pre, e)
 
 shut-same-length-2 : (t : ℕ) → shut-lts.Need-same-length-2 (claims t) (shut-at t) shut.Post
 shut-same-length-2 t c = search needs
@@ -158,20 +182,23 @@ shut-same-length-2 t c = search needs
 shut-returns-3 : (t : ℕ) → shut-lts.Need-returns-3 (claims t) (shut-at t) shut.Post
 shut-returns-3 t c =
     let e = c .before in
-    let below = e .before .before .before in
-    let level = below .before .before .before .before .before .before .before .before .before .before in
+    let ah = e .before .before in
+    let below = ah .before .before in
+    let prev = below .before .before in
+    let from = prev .before .before in
+    let st = from .before .before .before in
+    let level = st .before .before .before .before in
     let start = level .before .before .before in
     let a = start .args in
     let l = level .close-level .last .0 in
     let s = store-back (side (a .x) (a .w)) (a .l) (omega (arith, e .before)) in
-    let prev = below .before .before in
-    let from = prev .before .before in
-    shut-goes (a .l) (side (a .x) (a .w)) (a .y) (a .c) (a .m) _ (at l) _ (omega (arith, e .before)) (level .close-level .ensures) _ _ _ _ _ _
-    (at (below .shut .last .0)) _ _ (omega (arith, e .before))
+    let j : st .stretch .result ≡ 4 * a .w = st .stretch .ensures in
+    shut-goes (a .l) (side (a .x) (a .w)) (a .y) (a .c) (a .m) _ (at l) _ (omega (arith, e .before)) (level .close-level .ensures) _ _ _ _ _ _ _ _
+    (at (below .shut .last .0)) _ _ (omega (arith, e .before)) (st .stretch .ensures)
     (next-is (a .x) (a .w) _ _ (from .next-start .ensures) (from .before .low-count .ensures)) (start-is (a .y) _ (prev .before .next-start2 .ensures))
-    (prev .prev .ensures) (below .before .low-count2 .ensures)
-    (rw (at-rest (4 * a .w) l) at (below .shut .ensures)) (at-join (4 * a .w) l (below .shut .last .0) (omega (arith, e .before)))
-    (e .deeper .ensures) (c .further .ensures)
+    (prev .closed-below .ensures) (below .before .low-count2 .ensures)
+    (rw (at-rest (st .stretch .result) l) at (below .shut .ensures)) (at-join (st .stretch .result) l (below .shut .last .0) (omega (arith, e .before, j)))
+    (ah .ahead .ensures) (e .deeper .ensures) (c .further .ensures)
 
 pub +shut-spec : {M : Type 1} → statement M
 +shut-spec =
@@ -181,12 +208,13 @@ pub +shut-spec : {M : Type 1} → statement M
     (claims t)
     (shut-at t)
     shut.Post
+    (shut-idle-requires t)
     (shut-returns t)
     (shut-sub-close-level t)
     (shut-close-level-requires t)
     (shut-same-length t)
     (shut-returns-2 t)
-    (shut-mul-a t)
+    (shut-stretch-requires t)
     (shut-mul-shut t)
     (shut-sub-shut t)
     (shut-part-shut-start t)
@@ -195,10 +223,11 @@ pub +shut-spec : {M : Type 1} → statement M
     (shut-low-count-requires t)
     (shut-next-start-requires t)
     (shut-next-start-requires-2 t)
-    (shut-prev-requires t)
+    (shut-closed-below-requires t)
     (shut-low-count-requires-2 t)
     (shut-shut-requires t)
-    (shut-add-t14 t)
+    (shut-ahead-requires t)
+    (shut-add-t24 t)
     (shut-deeper-requires t)
     (shut-further-requires t)
     (shut-same-length-2 t)

@@ -1,81 +1,88 @@
--- `closing::close_level` meets its contract: each way out is the machine's step. Assumes nothing.
-use mathlib.Core.Path.{refl}
-use Prim.Native.Nat.{_+_}
+-- `closing::close_level` meets its contract. The loop's invariant: what the steps from step k on come to is what all of them do. Assumes nothing.
+use mathlib.Core.Path.{_≡_, refl, sym, _∙_}
+use Prim.Native.Nat.{_-_, _≤_}
 use native.Mathlib.Omega.{arith}
 use lib.ListN.{length}
-use Rattle.lifting.specs.Grid.{side}
-use Rattle.wavelet.proofs.StoreLaws.{store-next}
-use Rattle.level.proofs.SetLaws.{closed-done}
-use Rattle.writer.proofs.CascadeLaws.{left-still}
-use Rattle.writer.proofs.ClosingLaws.{level-closed, level-empty, close-waits, close-goes}
 use borrow.Author.Needs.{needs}
+use Rattle.numbers.specs.Signal.{at}
+use Rattle.lifting.specs.Grid.{side}
+use Rattle.level.specs.Level.{ahead}
+use Rattle.level.specs.FiveThreeLevel.{fiveThree}
+use Rattle.writer.proofs.ClosingLaws.{from, level-done, level-waits, level-on}
 use Rattle.writer.proofs.closing.close_level.Statement.{statement}
 use Rattle.writer.proofs.closing.close_level.Tie as tie
 
-returns : tie.Need-returns
-returns c =
-    let a = c .before .args in left-still (a .l + 1) (side (a .x) (a .w)) _ _ (level-closed (a .l) (side (a .x) (a .w)) (a .y) _ (a .c) (a .m) (omega arith))
+abbrev Inv-loop : tie.InvT-loop
+Inv-loop store₀ l w x y c m a k₀ store k =
+    (length store ≡ length store₀) × (a ≡ ahead fiveThree) × (from l (side x w) y m k (at store) ≡ from l (side x w) y m c (at store₀))
 
-returns-2 : tie.Need-returns-2
-returns-2 c =
-    let a = c .before .before .args in left-still (a .l + 1) (side (a .x) (a .w)) _ _
-    (level-empty (a .l) (side (a .x) (a .w)) (a .y) _ (a .c) (a .m) (omega arith) (omega arith))
+abbrev μ-loop : tie.MeasureT-loop
+μ-loop store₀ l w x y c m a k₀ store k = a - k
 
-sub-n : tie.Need-sub-n
-sub-n c = omega arith
+ahead-requires : tie.Need-ahead-requires Inv-loop μ-loop
+ahead-requires c κs = tt
 
-add-n : tie.Need-add-n
-add-n c = omega arith
+loop-holds : tie.Need-loop-holds Inv-loop μ-loop
+loop-holds c = (refl, c .ahead .ensures, refl)
 
-close-requires : tie.Need-close-requires
-close-requires c κs = tt
+close-step-requires : tie.Need-close-step-requires Inv-loop μ-loop
+close-step-requires c κs = omega (arith, c .before .before .loop .inv .0, c .before .before .before .before .pre)
 
-most-requires : tie.Need-most-requires
-most-requires c κs = tt
+add-k : tie.Need-add-k Inv-loop μ-loop
+add-k c = omega arith
 
-next-band-requires : tie.Need-next-band-requires
-next-band-requires c κs = tt
-
-same-length : tie.Need-same-length
+same-length : tie.Need-same-length Inv-loop μ-loop
 same-length c = search needs
 
-returns-3 : tie.Need-returns-3
-returns-3 c =
-    let band = c .before in
-    let close = band .before .before .before in
-    let a = close .before .before .before .before .args in
-    close-waits (a .l) (side (a .x) (a .w)) (a .y) (a .c) (a .m) _ _ _ _ _ (omega arith) (omega arith) refl
-    (closed-done (length (a .store .now)) (a .w) (a .x) (a .y) (a .m) _ _ (omega (arith, store-next (side (a .x) (a .w)) (a .l))) (close .close .ensures .1))
-    (band .before .most .ensures) (band .next-band .ensures) (omega arith)
+returns : tie.Need-returns Inv-loop μ-loop
+returns c =
+    let step = c .before .before .before in
+    let loop = step .before .before .before .loop in
+    let a = step .before .before .before .before .before .args in
+    level-waits (a .l) (side (a .x) (a .w)) (a .y) (a .m) (a .c) (loop .k) _ (at (loop .store)) (loop .inv .2) (omega (arith, loop .inv .1)) _ _
+    (step .close-step .ensures) _ refl (omega arith)
 
-pass-on-requires : tie.Need-pass-on-requires
-pass-on-requires c κs = omega arith
+loop-less : tie.Need-loop-less Inv-loop μ-loop
+loop-less c = omega arith
 
-same-length-2 : tie.Need-same-length-2
+loop-again : tie.Need-loop-again Inv-loop μ-loop
+loop-again c =
+    let step = c .before .before .before in
+    let loop = step .before .before .before .loop in
+    let a = step .before .before .before .before .before .args in (
+      omega (arith, loop .inv .0, step .close-step),
+      loop .inv .1,
+      level-on (a .l) (side (a .x) (a .w)) (a .y) (a .m) (a .c) (loop .k) _ (at (loop .store)) (loop .inv .2) (omega (arith, loop .inv .1)) _ _
+          (step .close-step .ensures) _ refl (omega arith),
+    )
+
+idle-requires : tie.Need-idle-requires Inv-loop μ-loop
+idle-requires c κs = tt
+
+same-length-2 : tie.Need-same-length-2 Inv-loop μ-loop
 same-length-2 c = search needs
 
-returns-4 : tie.Need-returns-4
-returns-4 c =
-    let band = c .before .before .before .before in
-    let close = band .before .before .before in
-    let a = close .before .before .before .before .args in
-    close-goes (a .l) (side (a .x) (a .w)) (a .y) (a .c) (a .m) _ _ _ _ _ (omega arith) (omega arith) refl
-    (closed-done (length (a .store .now)) (a .w) (a .x) (a .y) (a .m) _ _ (omega (arith, store-next (side (a .x) (a .w)) (a .l))) (close .close .ensures .1))
-    (band .before .most .ensures) (band .next-band .ensures) _ _ (omega arith) (c .before .pass-on .ensures)
+returns-2 : tie.Need-returns-2 Inv-loop μ-loop
+returns-2 c =
+    let loop = c .before .before .loop in
+    let a = c .before .before .before .before .args in
+    level-done (a .l) (side (a .x) (a .w)) (a .y) (a .m) (a .c) (loop .k) _ (at (loop .store)) (loop .inv .2) _ (c .idle .ensures)
+    (omega (arith, loop .inv .1))
 
 pub close-level-spec : {M : Type 1} → statement M
 close-level-spec =
     tie.close
     (tie.spec
-    returns
-    returns-2
-    sub-n
-    add-n
-    close-requires
-    most-requires
-    next-band-requires
+    Inv-loop
+    μ-loop
+    ahead-requires
+    loop-holds
+    close-step-requires
+    add-k
     same-length
-    returns-3
-    pass-on-requires
+    returns
+    loop-less
+    loop-again
+    idle-requires
     same-length-2
-    returns-4)
+    returns-2)

@@ -1,28 +1,62 @@
 -- `counts::made` meets its contract. Assumes nothing.
 use native.Mathlib.Omega.{arith}
+use Rattle.level.specs.Level.{ahead}
+use Rattle.level.specs.FiveThreeLevel.{fiveThree}
 use Rattle.level.proofs.Places.{prev-is}
-use Rattle.writer.proofs.CountLaws.{made-open, made-shut}
+use Rattle.writer.proofs.CountLaws.{made-is, made-shut}
 use Rattle.writer.proofs.counts.made.Statement.{statement}
 use Rattle.writer.proofs.counts.made.Tie as tie
+
+ahead-requires : tie.Need-ahead-requires
+ahead-requires c κs = tt
+
+add-all : tie.Need-add-all
+add-all c = omega arith
+
+add-all-2 : tie.Need-add-all-2
+add-all-2 c = omega arith
+
+returns : tie.Need-returns
+returns c =
+    let a = c .before .before .args in
+    let h = c .before .ahead .ensures in
+    omega (arith, h, made-shut (ahead fiveThree) (a .c) (a .y) (a .m) (omega arith) (omega (arith, h)))
 
 prev-requires : tie.Need-prev-requires
 prev-requires c κs = tt
 
-add-result : tie.Need-add-result
-add-result c = omega (arith, c .prev .ensures, prev-is (c .before .before .args .m))
+add-n : tie.Need-add-n
+add-n c = omega (arith, c .prev .ensures, prev-is (c .before .before .before .args .m))
 
-returns : tie.Need-returns
-returns c = let a = c .before .before .args in omega (arith, c .prev .ensures, prev-is (a .m), made-open (a .c) (a .y) (a .m) (omega arith))
-
-add-result-2 : tie.Need-add-result-2
-add-result-2 c = omega arith
-
-add-result-3 : tie.Need-add-result-3
-add-result-3 c = omega arith
+add-n-2 : tie.Need-add-n-2
+add-n-2 c = omega (arith, c .prev .ensures, prev-is (c .before .before .before .args .m))
 
 returns-2 : tie.Need-returns-2
-returns-2 c = let a = c .before .args in omega (arith, made-shut (a .c) (a .y) (a .m) (omega arith))
+returns-2 c = absurd (omega (arith, c .before .before .before .before .ahead .ensures))
+
+returns-3 : tie.Need-returns-3
+returns-3 c = absurd (omega (arith, c .before .before .before .before .ahead .ensures))
+
+add-result : tie.Need-add-result
+add-result c = omega arith
+
+returns-4 : tie.Need-returns-4
+returns-4 c =
+    let a = c .before .before .before .before .args in
+    omega (arith, c .before .before .before .ahead .ensures, c .before .prev .ensures, prev-is (a .m), made-is (ahead fiveThree) (a .c) (a .y) (a .m))
 
 pub made-spec : {M : Type 1} → statement M
 made-spec =
-    tie.close (tie.spec prev-requires add-result returns add-result-2 add-result-3 returns-2)
+    tie.close
+    (tie.spec
+    ahead-requires
+    add-all
+    add-all-2
+    returns
+    prev-requires
+    add-n
+    add-n-2
+    returns-2
+    returns-3
+    add-result
+    returns-4)

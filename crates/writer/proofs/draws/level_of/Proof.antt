@@ -28,8 +28,8 @@ low-rows-requires c κs = tt
 next-start-requires : tie.Need-next-start-requires Inv-loop μ-loop
 next-start-requires c κs = tt
 
-prev-requires : tie.Need-prev-requires Inv-loop μ-loop
-prev-requires c κs = tt
+closed-below-requires : tie.Need-closed-below-requires Inv-loop μ-loop
+closed-below-requires c κs = tt
 
 low-count-requires : tie.Need-low-count-requires Inv-loop μ-loop
 low-count-requires c κs = tt
@@ -51,14 +51,14 @@ loop-again c =
       walk-on _ _ _ _ _ _ _ _ _ _ _ (l .inv .0) (l .inv .1) _ _ _ _ (omega arith)
           (next-is (l .column) (l .width) _ _ (c .next-start2 .ensures) (c .before .low-count .ensures))
           (start-is (l .row) _ (c .before .before .before .next-start .ensures))
-          (c .before .before .prev .ensures) (c .before .before .before .before .low-rows .ensures ∙ ap (lowRows (l .row)) (e .made .ensures)),
+          (c .before .before .closed-below .ensures) (c .before .before .before .before .low-rows .ensures ∙ ap (lowRows (l .row)) (e .made .ensures)),
     )
 
 made-requires-2 : tie.Need-made-requires-2 Inv-loop μ-loop
 made-requires-2 c κs = omega (arith, c .before .loop .inv .1 .rows)
 
-prev-requires-2 : tie.Need-prev-requires-2 Inv-loop μ-loop
-prev-requires-2 c κs = tt
+prev-requires : tie.Need-prev-requires Inv-loop μ-loop
+prev-requires c κs = tt
 
 sub-t17 : tie.Need-sub-t17 Inv-loop μ-loop
 sub-t17 c = omega arith
@@ -66,7 +66,7 @@ sub-t17 c = omega arith
 returns : tie.Need-returns Inv-loop μ-loop
 returns c =
     let l = c .before .before .before .loop in
-    walk-end _ _ _ _ _ _ _ _ _ _ _ (l .inv .0) (l .inv .1) _ _ (omega arith) (c .before .made2 .ensures) (c .prev2 .ensures)
+    walk-end _ _ _ _ _ _ _ _ _ _ _ (l .inv .0) (l .inv .1) _ _ (omega arith) (c .before .made2 .ensures) (c .prev .ensures)
 
 pub level-of-spec : {M : Type 1} → statement M
 level-of-spec =
@@ -78,13 +78,13 @@ level-of-spec =
     made-requires
     low-rows-requires
     next-start-requires
-    prev-requires
+    closed-below-requires
     low-count-requires
     next-start-requires-2
     sub-k
     loop-less
     loop-again
     made-requires-2
-    prev-requires-2
+    prev-requires
     sub-t17
     returns)

@@ -1,10 +1,11 @@
 -- `draws::waiting` meets its contract: the row stands at its place from the offset on. Assumes nothing.
 use native.Mathlib.Omega.{arith}
 use Rattle.wavelet.proofs.StoreLaws.{store-le}
+use Rattle.level.proofs.Places.{place-room, place-code}
 use Rattle.writer.specs.Counts.{bandAt}
 use Rattle.writer.specs.Taking.{columnsOf}
 use Rattle.writer.specs.Steps.{columns}
-use Rattle.writer.proofs.DrawLaws.{place-room, found}
+use Rattle.writer.proofs.DrawLaws.{found}
 use Rattle.writer.proofs.draws.waiting.Statement.{statement}
 use Rattle.writer.proofs.draws.waiting.Tie as tie
 
@@ -20,27 +21,29 @@ set-row-requires c κs = tt
 columns-requires : tie.Need-columns-requires
 columns-requires c κs = tt
 
-place-requires : tie.Need-place-requires
-place-requires c κs = let d = c .before .before .before .before .pre .2 in (d .wide, omega (arith, d .sets))
+band-place-requires : tie.Need-band-place-requires
+band-place-requires c κs = tt
 
 add-t8 : tie.Need-add-t8
 add-t8 c =
     let e = c .before in
-    let a = e .before .before .before .before .before .args in
-    omega (
-      arith,
-      place-room (columns (a .q)) (a .q .set) (bandAt (e .before .before .before .before .prev .result)),
-      store-le (columnsOf (a .s))
-          (a .s .levels),
-    )
+    let b = e .before .before .before in
+    let d = b .before .before in
+    let a = d .args in
+    let p = place-code (columns (a .q)) (a .q .set) (bandAt (b .before .prev .result)) _ _ (omega (arith, d .pre .2 .wide)) (b .code .ensures)
+    (e .band-place .ensures) in
+    omega (arith, p, place-room (columns (a .q)) (a .q .set) (bandAt (b .before .prev .result)), store-le (columnsOf (a .s)) (a .s .levels))
 
 returns : tie.Need-returns
 returns c =
     let e = c .before in
-    let d = e .before .before .before .before .before in
-    found (d .args .s) (d .args .q) (d .pre .2) (d .pre .1) _ _ _ _ _ (omega arith)
-    (e .before .before .before .before .prev .ensures) (e .before .before .before .code .ensures) (e .before .before .set-row .ensures)
-    (e .before .columns .ensures) (e .place .ensures)
+    let b = e .before .before .before in
+    let d = b .before .before in
+    let a = d .args in
+    found (a .s) (a .q) (d .pre .2) (d .pre .1) _ _ _ _ _ (omega arith)
+    (b .before .prev .ensures) (b .code .ensures) (e .before .before .set-row .ensures) (e .before .columns .ensures)
+    (place-code (columns (a .q)) (a .q .set) (bandAt (b .before .prev .result)) _ _ (omega (arith, d .pre .2 .wide)) (b .code .ensures)
+    (e .band-place .ensures))
 
 pub waiting-spec : {M : Type 1} → statement M
 waiting-spec =
@@ -50,6 +53,6 @@ waiting-spec =
     code-requires
     set-row-requires
     columns-requires
-    place-requires
+    band-place-requires
     add-t8
     returns)

@@ -21,11 +21,14 @@ abbrev μ-loop : tie.MeasureT-loop
 loop-holds : tie.Need-loop-holds Inv-loop μ-loop
 loop-holds c = (c .pre .0, c .pre .1, refl)
 
-mul-a : tie.Need-mul-a Inv-loop μ-loop
-mul-a c = omega arith
+stretch-requires : tie.Need-stretch-requires Inv-loop μ-loop
+stretch-requires c κs = omega (arith, c .before .loop .inv .0)
 
 returns : tie.Need-returns Inv-loop μ-loop
-returns c = let l = c .before .before .loop in begins-short _ _ _ (c .before .loop-test .taken) (omega arith) ∙ l .inv .2
+returns c =
+    let e = c .before in
+    let l = e .before .before .loop in
+    begins-short (side (l .column) (l .width)) (l .k) (l .rest) (e .before .loop-test .taken) (omega (arith, e .stretch .ensures)) ∙ l .inv .2
 
 low-count-requires : tie.Need-low-count-requires Inv-loop μ-loop
 low-count-requires c κs = tt
@@ -41,10 +44,11 @@ loop-less c = omega arith
 
 loop-again : tie.Need-loop-again Inv-loop μ-loop
 loop-again c =
-    let l = c .before .before .before .before .loop in (
+    let e = c .before .before .before in
+    let l = e .before .before .loop in (
       omega (arith, c .before .low-count .ensures, count-lo (side (l .column) (l .width))),
       omega arith,
-      begins-on (side (l .column) (l .width)) (l .k) (l .rest) _ (omega arith) (omega arith)
+      begins-on (side (l .column) (l .width)) (l .k) (l .rest) _ _ (e .stretch .ensures) (omega arith) (omega (arith, e .stretch .ensures))
           (next-is (l .column) (l .width) _ _ (c .next-start .ensures) (c .before .low-count .ensures)) ∙ l .inv .2,
     )
 
@@ -58,7 +62,7 @@ begins-spec =
     Inv-loop
     μ-loop
     loop-holds
-    mul-a
+    stretch-requires
     returns
     low-count-requires
     next-start-requires

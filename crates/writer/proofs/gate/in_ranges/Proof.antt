@@ -59,23 +59,19 @@ returns-5 c = simp (
   le-ltb _ _ (c .if5 .taken),
 )
 
+ahead-requires : tie.Need-ahead-requires
+ahead-requires c κs = tt
+
+mul-if6 : tie.Need-mul-if6
+unfolding maxLevels
+mul-if6 c =
+    let d = c .before .before .before .before .before .before in
+    let l = within-true 1 maxLevels _ (sym (d .before .is-within2 .ensures) ∙ not-false _ (d .if3 .left)) in
+    rw (c .before .ahead .ensures) (omega (arith, l .1))
+
 returns-6 : tie.Need-returns-6
 unfolding inRanges maxWidth maxHeight maxLevels
 returns-6 c = simp (
-  sym (c .before .before .before .before .before .before .before .before .before .before .before .on-grid .ensures)
-      ∙ not-false _ (c .before .before .before .before .before .before .before .before .before .before .if1 .left),
-  sym (c .before .before .before .before .before .before .before .before .before .is-within .ensures)
-      ∙ not-false _ (c .before .before .before .before .before .before .before .before .if2 .left),
-  sym (c .before .before .before .before .before .before .before .is-within2 .ensures)
-      ∙ not-false _ (c .before .before .before .before .before .before .if3 .left),
-  le-leb _ _ (c .before .before .before .before .if4 .left),
-  lt-ltb _ _ (c .before .before .if5 .left),
-  lt-leb _ _ (c .if6 .taken),
-)
-
-returns-7 : tie.Need-returns-7
-unfolding inRanges maxWidth maxHeight maxLevels
-returns-7 c = simp (
   sym (c .before .before .before .before .before .before .before .before .before .before .before .before .before .on-grid .ensures)
       ∙ not-false _ (c .before .before .before .before .before .before .before .before .before .before .before .before .if1 .left),
   sym (c .before .before .before .before .before .before .before .before .before .before .before .is-within .ensures)
@@ -84,26 +80,42 @@ returns-7 c = simp (
       ∙ not-false _ (c .before .before .before .before .before .before .before .before .if3 .left),
   le-leb _ _ (c .before .before .before .before .before .before .if4 .left),
   lt-ltb _ _ (c .before .before .before .before .if5 .left),
-  le-leb _ _ (c .before .before .if6 .left),
+  lt-leb _ _ (rw (c .before .before .before .ahead .ensures) at (c .if6 .taken)),
+)
+
+returns-7 : tie.Need-returns-7
+unfolding inRanges maxWidth maxHeight maxLevels
+returns-7 c = simp (
+  sym (c .before .before .before .before .before .before .before .before .before .before .before .before .before .before .before .on-grid .ensures)
+      ∙ not-false _ (c .before .before .before .before .before .before .before .before .before .before .before .before .before .before .if1 .left),
+  sym (c .before .before .before .before .before .before .before .before .before .before .before .before .before .is-within .ensures)
+      ∙ not-false _ (c .before .before .before .before .before .before .before .before .before .before .before .before .if2 .left),
+  sym (c .before .before .before .before .before .before .before .before .before .before .before .is-within2 .ensures)
+      ∙ not-false _ (c .before .before .before .before .before .before .before .before .before .before .if3 .left),
+  le-leb _ _ (c .before .before .before .before .before .before .before .before .if4 .left),
+  lt-ltb _ _ (c .before .before .before .before .before .before .if5 .left),
+  le-leb _ _ (rw (c .before .before .before .before .before .ahead .ensures) at (c .before .before .if6 .left)),
   lt-leb _ _ (c .if7 .taken),
 )
 
 waits-in-range-requires : tie.Need-waits-in-range-requires
 unfolding maxWidth
 waits-in-range-requires c κs =
-    let d = c .before .before .before .before .before .before .before .before .before .before in
+    let d = c .before .before .before .before .before .before .before .before .before .before .before .before in
     let w = within-true 1 maxWidth _ (sym (d .before .is-within .ensures) ∙ not-false _ (d .if2 .left)) in
     (omega arith, omega arith)
 
 returns-8 : tie.Need-returns-8
 unfolding maxWidth maxHeight maxLevels
 returns-8 c =
-    let d = c .before .before .before .before .before .before .before .before .before in
+    let d = c .before .before .before .before .before .before .before .before .before .before .before in
     let e = d .before .before in
     let o = sym (e .before .before .before .on-grid .ensures) ∙ not-false _ (e .before .before .if1 .left) in
     let w = sym (e .before .is-within .ensures) ∙ not-false _ (e .if2 .left) in
     let l = sym (d .before .is-within2 .ensures) ∙ not-false _ (d .if3 .left) in
-    ranges-last (e .before .before .before .before .args .s) o w l (omega arith) (omega arith) (omega arith) (omega arith) _ (c .waits-in-range .ensures)
+    ranges-last (e .before .before .before .before .args .s) o w l (omega arith) (omega arith)
+    (rw (c .before .before .before .before .before .before .ahead .ensures) at (c .before .before .before .if6 .left)) (omega arith)
+    _ (c .waits-in-range .ensures)
 
 pub in-ranges-spec : {M : Type 1} → statement M
 in-ranges-spec =
@@ -117,6 +129,8 @@ in-ranges-spec =
     returns-3
     returns-4
     returns-5
+    ahead-requires
+    mul-if6
     returns-6
     returns-7
     waits-in-range-requires

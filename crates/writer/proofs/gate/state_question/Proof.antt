@@ -1,7 +1,7 @@
 -- `gate::state_question` meets its contract: each test is the definition's, in its order. Assumes nothing.
 use mathlib.Core.Path.{_≡_, sym, _∙_}
 use mathlib.Core.Bool.{true}
-use Prim.Native.Nat.{ℕ, _+_, _*_, _/_, _^_, _<_, _≤_}
+use Prim.Native.Nat.{ℕ, _<_, _≤_}
 use native.Mathlib.Omega.{arith}
 use lib.Dec.{leb}
 use borrow.Author.Tests.{not-true, not-false, le-leb, lt-leb, leb-true}
@@ -9,9 +9,8 @@ use Rattle.numbers.specs.Signal.{pick, both}
 use Rattle.numbers.proofs.Sweep as sweep
 use Rattle.wavelet.specs.Limits.{maxWidth, maxLevels}
 use Rattle.wavelet.specs.Questions.{within}
-use Rattle.wavelet.proofs.LimitLaws.{width-small}
 use Rattle.wavelet.proofs.QuestionLaws.{within-true}
-use Rattle.wavelet.specs.Store.{storeLength}
+use Rattle.wavelet.specs.Store.{storeLength, anyLength}
 use Rattle.wavelet.proofs.StoreLaws.{store-most}
 use Rattle.writer.specs.declared.Writer.{Writer}
 use Rattle.writer.specs.Taking.{columnsOf}
@@ -29,17 +28,14 @@ within-limits s h =
     (a .0, sweep.both (within 1 maxLevels (s .levels)) _ (a .1) .0)
 
 module _ (s : Writer) (n : ℕ) (h : inRanges s ≡ true) where
-  wide : s .width < 2 ^ 16
-  wide = omega (arith, within-true 1 maxWidth _ (within-limits s h .0), width-small)
-
-  any : leb ((31 * s .width + 52) / 4) n ≡ true → 0 ≡ stateQuestion s n
+  any : both (leb (s .width) maxWidth) (leb (anyLength (s .width)) n) ≡ true → 0 ≡ stateQuestion s n
   unfolding stateQuestion longEnough
   any g =
       let l = within-true 1 maxLevels _ (within-limits s h .1) in
       simp (
         h,
         le-leb (storeLength (columnsOf s) (s .levels)) n
-            (omega (arith, store-most (columnsOf s) (s .levels) (l .1), leb-true ((31 * s .width + 52) / 4) n g)),
+            (omega (arith, store-most (columnsOf s) (s .levels) (l .1), leb-true (anyLength (s .width)) n (sweep.both (leb (s .width) maxWidth) _ g .1))),
       )
 
 module _ (s : Writer) (n k : ℕ) (h : inRanges s ≡ true)
@@ -60,7 +56,7 @@ unfolding stateQuestion
 returns c = simp (sym (c .before .pre) ∙ not-true _ (c .if1 .taken))
 
 holds-any-requires : tie.Need-holds-any-requires
-holds-any-requires c κs = wide _ 0 (sym (c .before .pre) ∙ not-false _ (c .if1 .left))
+holds-any-requires c κs = tt
 
 returns-2 : tie.Need-returns-2
 returns-2 c =

@@ -14,7 +14,9 @@ none-requires : tie.Need-none-requires
 none-requires c κs = tt
 
 returns : tie.Need-returns
-returns c = ap (λ i. listed i (fresh (side 0 1) 0 1) (c .none .result)) (c .before .start .ensures) ∙ ap (listed (startAt 0) (fresh (side 0 1) 0 1)) (c .none .ensures)
+returns c =
+    ap (λ i. listed i (fresh (side 0 1) 0 1) (c .none .result)) (c .before .start .ensures)
+    ∙ ap (listed (startAt 0) (fresh (side 0 1) 0 1)) (c .none .ensures)
 
 pub start-spec : {M : Type 1} → statement M
 start-spec = tie.close (tie.spec start-requires none-requires returns)

@@ -1,0 +1,109 @@
+-- A level by the number of its filter, case by case: what is asked and left is what the filter's own level asks and leaves. Assumes nothing.
+use mathlib.Core.Path.{_≡_, refl}
+use mathlib.Core.Bool.{Bool}
+use Prim.Native.Nat.{ℕ, zero, suc, _+_, _*_, _≤_, min}
+use native.Mathlib.Omega.{arith}
+use lib.IntN.{ℤ, pos}
+use lib.Dec.{leb, eqb}
+use Rattle.numbers.specs.Signal.{pick}
+use Rattle.lifting.specs.Grid.{Side}
+use Rattle.lifting.specs.FiveThree.{fiveThreeFilter}
+use Rattle.nine_seven.specs.NineSevenFilter.{nineSevenFilter}
+use Rattle.nine_seven.specs.Filters.{filterOf}
+use Rattle.wavelet.specs.Limits.{maxLevels, range}
+use Rattle.level.specs.Tried.{failed, outcome}
+use Rattle.level.specs.Slots as slots
+use Rattle.level.specs.Work.{admitted, setWorked}
+use Rattle.level.specs.Rebuilding.{widest, workAnswer, Kept, workable, workLeft}
+use Rattle.nine_seven_rebuilding.specs.Slots as slots97
+use Rattle.nine_seven_rebuilding.specs.Work as work97
+use Rattle.nine_seven_rebuilding.specs.Rebuilding as rebuilding97
+use Rattle.level.proofs.ReaderLaws.{ReaderLawsBy}
+use Rattle.level.proofs.FiveThreeBackLaws.{five-three-back-laws}
+use Rattle.nine_seven_rebuilding.proofs.NineSevenBackLaws.{nine-seven-back-laws}
+use Rattle.filters.specs.Back.{backOf, standsOf, rowPlaceOf, workableOf, workLeftOf}
+
+-- its look-ahead and its stretch are the filter's
+pub back-ahead : (f : ℕ) → backOf f .ahead ≡ filterOf f .ahead
+unfolding backOf filterOf
+back-ahead zero = refl
+back-ahead (suc f) = refl
+
+pub back-stretch : (f : ℕ) (W : Side) → backOf f .stretch W ≡ filterOf f .rows * W .length
+unfolding backOf filterOf
+back-stretch zero W = refl
+back-stretch (suc f) W = refl
+
+-- and it meets what is asked of a level on the way back
+pub back-laws : (f : ℕ) → ReaderLawsBy (filterOf f) (backOf f) (standsOf f)
+unfolding backOf standsOf filterOf
+back-laws zero = five-three-back-laws
+back-laws (suc f) = nine-seven-back-laws
+
+-- ---- the numbers of a filter
+module _ (f : ℕ) where
+  abbrev Figures : ℕ → ℕ → ℕ → Type 0
+  Figures l r a = (l ≡ filterOf f .levels) × (r ≡ filterOf f .rows) × (a ≡ filterOf f .ahead)
+
+  pub first-figures : f ≡ 0 → Figures 5 4 1
+  unfolding filterOf
+  first-figures e = rw e (refl, refl, refl)
+
+pub second-figures : (f : ℕ) → (f ≡ 0 → ⊥) → Figures f 4 8 2
+unfolding filterOf
+second-figures zero d = absurd (d refl)
+second-figures (suc f) d = (refl, refl, refl)
+
+abbrev Ranged : ℕ → ℕ → ℤ → Type 0
+Ranged f k z = z ≡ pos (range (filterOf f) (min k (filterOf f .levels)))
+
+pub first-ranged : (f k : ℕ) (z : ℤ) → f ≡ 0 → z ≡ pos (range fiveThreeFilter (min k maxLevels)) → Ranged f k z
+unfolding filterOf maxLevels
+first-ranged zero k z e p = p
+first-ranged (suc f) k z e p = absurd (omega arith)
+
+pub second-ranged : (f k : ℕ) (z : ℤ) → (f ≡ 0 → ⊥) → z ≡ pos (range nineSevenFilter (min k rebuilding97.maxLevels)) → Ranged f k z
+unfolding filterOf rebuilding97.maxLevels
+second-ranged zero k z d p = absurd (d refl)
+second-ranged (suc f) k z d p = p
+
+-- ---- where a row begins
+abbrev Placed : ℕ → ℕ → ℕ → ℕ → Type 0
+Placed f w r a = (a ≡ pick (leb w widest) (rowPlaceOf f w r) 0) × (a + w ≤ filterOf f .rows * w)
+
+pub first-placed : (f w r a : ℕ) → f ≡ 0 → (a ≡ pick (leb w widest) (slots.rowPlace w r) 0) × (a + w ≤ 4 * w) → Placed f w r a
+unfolding rowPlaceOf filterOf
+first-placed zero w r a e p = p
+first-placed (suc f) w r a e p = absurd (omega arith)
+
+pub second-placed : (f w r a : ℕ) → (f ≡ 0 → ⊥) → (a ≡ pick (leb w widest) (slots97.rowPlace w r) 0) × (a + w ≤ 8 * w) → Placed f w r a
+unfolding rowPlaceOf filterOf
+second-placed zero w r a d p = absurd (d refl)
+second-placed (suc f) w r a d p = p
+
+-- ---- a set worked out
+module _ (last : Bool) (k : ℕ) (W H : Side) (n m r : ℕ) (x y : ℕ → ℤ) where
+  abbrev Worked : ℕ → Type 0
+  Worked f =
+      (r ≡ workAnswer (workableOf f last k W H n m) (backOf f .work last k W H n x))
+      × ((outcome (eqb r 0) y ≡ pick (workableOf f last k W H n m) (backOf f .work last k W H n x) failed)
+      × (Kept (filterOf f .rows * W .length) x y
+      × (y ≡ workLeftOf f W (workableOf f last k W H n m) (backOf f .work last k W H n x) x)))
+
+  pub first-worked : (f : ℕ) → f ≡ 0 →
+      (r ≡ workAnswer (workable last k W H n m) (setWorked admitted last k W H n x))
+      × ((outcome (eqb r 0) y ≡ pick (workable last k W H n m) (setWorked admitted last k W H n x) failed)
+      × (Kept (4 * W .length) x y
+      × (y ≡ workLeft W (workable last k W H n m) (setWorked admitted last k W H n x) x))) → Worked f
+  unfolding workableOf workLeftOf backOf filterOf workable workLeft maxLevels
+  first-worked zero e p = p
+  first-worked (suc f) e p = absurd (omega arith)
+
+  pub second-worked : (f : ℕ) → (f ≡ 0 → ⊥) →
+      (r ≡ workAnswer (rebuilding97.workable last k W H n m) (work97.setWorked last k W H n x))
+      × ((outcome (eqb r 0) y ≡ pick (rebuilding97.workable last k W H n m) (work97.setWorked last k W H n x) failed)
+      × (Kept (8 * W .length) x y
+      × (y ≡ rebuilding97.workLeft W (rebuilding97.workable last k W H n m) (work97.setWorked last k W H n x) x))) → Worked f
+  unfolding workableOf workLeftOf backOf filterOf rebuilding97.workable rebuilding97.workLeft rebuilding97.maxLevels
+  second-worked zero d p = absurd (d refl)
+  second-worked (suc f) d p = p

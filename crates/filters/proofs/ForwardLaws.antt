@@ -1,0 +1,62 @@
+-- The laws of a level by its filter's number: those of the 5/3's and of the 9/7's, case by case. Assumes nothing.
+use mathlib.Core.Path.{_≡_, refl}
+use mathlib.Core.Bool.{Bool}
+use Prim.Native.Nat.{ℕ, zero, suc, _+_, _-_, _%_, _<_}
+use native.Mathlib.Omega.{arith}
+use lib.IntN.{ℤ}
+use Rattle.numbers.specs.Signal.{pick, stored}
+use Rattle.lifting.specs.Grid.{Side}
+use Rattle.nine_seven.specs.Filters.{filterOf}
+use Rattle.wavelet.specs.Bands.{LL}
+use Rattle.wavelet.specs.Levels.{next}
+use Rattle.level.specs.Level.{Memory, rest, joinAt}
+use Rattle.level.specs.Making as five-making
+use Rattle.level.specs.Heights as five-heights
+use Rattle.level.proofs.LevelLaws.{LevelLaws, five-three-laws}
+use Rattle.nine_seven_making.specs.Making as nine-making
+use Rattle.nine_seven_making.specs.Heights as nine-heights
+use Rattle.nine_seven_making.proofs.LevelLaws.{nine-seven-laws}
+use Rattle.filters.specs.Forward.{kindOf, heldOf, endedOf, delivered, heightsPut}
+
+pub laws-of : (f : ℕ) → LevelLaws (kindOf f) (heldOf f) (endedOf f)
+laws-of zero = five-three-laws
+laws-of (suc f) = nine-seven-laws
+
+pub kind-filter : (f : ℕ) → kindOf f .filter ≡ filterOf f
+unfolding filterOf
+kind-filter zero = refl
+kind-filter (suc f) = refl
+
+-- ---- by what a level is to the streams: a height more, and the LL row passed on
+pub height-more : (f : ℕ) (W : Side) (s m c n : ℕ) (h x : ℕ → ℤ)
+    → heightsPut f W (s % 2 + m) c (suc n) h x ≡ stored (kindOf f .cell W s m (c + n)) (h n) (heightsPut f W (s % 2 + m) c n h x)
+unfolding heightsPut five-heights.heightsPut nine-heights.heightsPut
+height-more zero W s m c n h x = refl
+height-more (suc f) W s m c n h x = refl
+
+pub height-none : (f : ℕ) (W : Side) (q c : ℕ) (h x : ℕ → ℤ) → heightsPut f W q c 0 h x ≡ x
+unfolding heightsPut five-heights.heightsPut nine-heights.heightsPut
+height-none zero W q c h x = refl
+height-none (suc f) W q c h x = refl
+
+pub passed-on : (f : ℕ) (W : Side) (s n t m : ℕ) (x : Memory) → delivered f W n (t % 2 + m) x
+    ≡ joinAt (kindOf f .stretch W) x (kindOf f .put (next W) t m (λ i. x (kindOf f .place W s n LL + i)) (rest (kindOf f .stretch W) x))
+unfolding delivered five-making.delivered nine-making.delivered
+passed-on zero W s n t m x = refl
+passed-on (suc f) W s n t m x = refl
+
+-- ---- the calls: f is 0, or not. What they give is a number, or an answer by a test and a store
+module _ (f : ℕ) where
+  pub zero-is : (v : ℕ → ℕ) (r : ℕ) → f ≡ 0 → r ≡ v 0 → r ≡ v f
+  zero-is v r e d = rw e d
+
+  pub other-is : (v : ℕ → ℕ) (r : ℕ) → 0 < f → ((i : ℕ) → r ≡ v (suc i)) → r ≡ v f
+  other-is v r h d = let e : f ≡ suc (f - 1) = omega arith in rw e (d (f - 1))
+
+  module _ (t : ℕ → Bool) (y : ℕ → Memory) (x z : Memory) (r : ℕ) where
+    pub zero-both : f ≡ 0 → r ≡ pick (t 0) 0 5 → z ≡ pick (t 0) (y 0) x → (r ≡ pick (t f) 0 5) × (z ≡ pick (t f) (y f) x)
+    zero-both e a b = rw e (a, b)
+
+    pub other-both : 0 < f → ((i : ℕ) → r ≡ pick (t (suc i)) 0 5) → ((i : ℕ) → z ≡ pick (t (suc i)) (y (suc i)) x)
+        → (r ≡ pick (t f) 0 5) × (z ≡ pick (t f) (y f) x)
+    other-both h a b = let e : f ≡ suc (f - 1) = omega arith in rw e (a (f - 1), b (f - 1))

@@ -1,0 +1,9 @@
+-- The filters by their numbers. Document 02, Q-8: "Filter 0 is the 5/3, 1 this one"; any other is refused (18) before it is asked here.
+use Prim.Native.Nat.{ℕ, zero, suc}
+use Rattle.lifting.specs.Filter.{Filter}
+use Rattle.lifting.specs.FiveThree.{fiveThreeFilter}
+use Rattle.nine_seven.specs.NineSevenFilter.{nineSevenFilter}
+
+unfoldable pub filterOf : ℕ → Filter
+filterOf zero = fiveThreeFilter
+filterOf (suc n) = nineSevenFilter

@@ -1,0 +1,24 @@
+-- `near::before_low` meets its contract. Assumes nothing.
+use native.Mathlib.Omega.{arith}
+use Rattle.nine_seven_making.proofs.NearRows.{highs-there, low-before-slot}
+use Rattle.nine_seven_making.proofs.near.before_low.Statement.{statement}
+use Rattle.nine_seven_making.proofs.near.before_low.Tie as tie
+
+high-count-requires : tie.Need-high-count-requires
+high-count-requires c κs = tt
+
+left-requires : tie.Need-left-requires
+left-requires c κs = let s = c .before in (highs-there (s .args .y) (s .args .m) (s .args .n) (s .pre .0) _ (c .high-count .ensures), omega arith)
+
+high-slot-requires : tie.Need-high-slot-requires
+high-slot-requires c κs = tt
+
+returns : tie.Need-returns
+returns c =
+    let l = c .before in
+    let s = l .before .before in
+    low-before-slot (s .args .y) (s .args .m) (s .args .n) (s .pre .0) (s .pre .1) (s .pre .2) _ _ _ (l .before .high-count .ensures) (c .high-slot .ensures)
+    (l .left .ensures)
+
+pub before-low-spec : {M : Type 1} → statement M
+before-low-spec = tie.close (tie.spec high-count-requires left-requires high-slot-requires returns)

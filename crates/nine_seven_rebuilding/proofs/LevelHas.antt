@@ -1,0 +1,41 @@
+-- Where no set of a level halves an odd number, the level has none: `sets-have`. Assumes nothing.
+use mathlib.Core.Path.{_≡_, refl, subst}
+use mathlib.Core.Bool.{Bool, true, false}
+use Prim.Native.Nat.{ℕ, _+_, _-_, _≤_, _<_}
+use native.Mathlib.Omega.{arith}
+use Rattle.numbers.specs.Word.{wrap32}
+use Rattle.numbers.proofs.TestLaws.{each-every}
+use Rattle.lifting.specs.Line.{lo, hi}
+use Rattle.lifting.specs.Grid.{Side, count, loneHigh, hasLine}
+use Rattle.lifting.proofs.LoneLaws.{lone-high, has-other}
+use Rattle.wavelet.specs.Bands.{Grid, Band, bandOf, rowsHave, rowsUnlifted, columnsHave, levelHas}
+use Rattle.wavelet.specs.Order.{firstSet, lastSet}
+use Rattle.wavelet.specs.Steps.{setOf}
+use Rattle.nine_seven.specs.NineSevenFilter.{nineSevenFilter}
+use Rattle.level.specs.Stands.{SetHasBy}
+use Rattle.nine_seven_rebuilding.proofs.RowSets.{set-there}
+
+-- the sets of the low rows and of the high rows
+low-set : (H : Side) (r : ℕ) → r < count lo H → (r + firstSet H lo ≤ lastSet H) × (r + firstSet H lo - firstSet H lo ≡ r)
+unfolding count firstSet lastSet
+low-set H r b = (omega arith, omega arith)
+
+high-set : (H : Side) (r : ℕ) → r < count hi H → r ≤ lastSet H
+unfolding count lastSet
+high-set H r b = omega arith
+
+pub sets-have : (W H : Side) (p : Band → Grid) → ((n : ℕ) → n ≤ lastSet H → SetHasBy nineSevenFilter 2 W H p n) → levelHas nineSevenFilter W H p ≡ true
+unfolding levelHas rowsHave columnsHave
+sets-have W H p s = rw (each-every (count lo H) _ low, each-every (count hi H) _ high, each-every (W .length) _ (λ c b. column c b (loneHigh H) refl)) refl
+  where
+    low : (r : ℕ) → r < count lo H → hasLine W (λ a. p (bandOf a lo) r) ≡ true
+    low r b =
+        let t = low-set H r b in
+        subst (λ (i : ℕ). hasLine W (λ a. p (bandOf a lo) i) ≡ true) (t .1) (s (r + firstSet H lo) (t .0) .low (omega arith))
+
+    high : (r : ℕ) → r < count hi H → hasLine W (λ a. p (bandOf a hi) r) ≡ true
+    high r b = s r (high-set H r b) .high b
+
+    column : (c : ℕ) → c < W .length → (t : Bool) → loneHigh H ≡ t → hasLine H (λ h i. rowsUnlifted nineSevenFilter wrap32 W p h i c) ≡ true
+    column c b true e = let one = lone-high H e .0 in s (setOf 2 H 0) (set-there H 0) .columns 0 (omega arith) refl c b
+    column c b false e = has-other H _ e

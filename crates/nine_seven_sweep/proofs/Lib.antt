@@ -1,0 +1,6 @@
+pub mod Fronts
+pub mod RaiseLaws
+pub mod LowerLaws
+pub mod CallLaws
+pub mod ShortColumns
+pub mod LoneLaws

@@ -1,0 +1,80 @@
+-- `columns::lift_all` meets its contract: the sweep, or the only row lent. Assumes nothing.
+use mathlib.Core.Path.{_≡_, sym, ap, _∙_}
+use borrow.Author.Needs.{needs}
+use Prim.Native.Nat.{_-_}
+use native.Mathlib.Omega.{arith}
+use lib.IntN.{pos, _*ℤ_}
+use borrow.Author.Tests.{not-true, not-false}
+use Rattle.numbers.specs.Word.{wrap32}
+use Rattle.lifting.specs.Grid.{side}
+use Rattle.nine_seven_sweep.specs.Lone.{doubledInPlace}
+use Rattle.nine_seven_sweep.proofs.LoneLaws.{mapped-part}
+use Rattle.nine_seven_sweep.proofs.ShortColumns.{lone-lifted, short-lifted}
+use Rattle.nine_seven_sweep.proofs.columns.lift_all.Statement.{statement}
+use Rattle.nine_seven_sweep.proofs.columns.lift_all.Tie as tie
+
+lift-rows-requires : tie.Need-lift-rows-requires
+lift-rows-requires c κs = (c .before .before .pre, omega arith)
+
+same-length : tie.Need-same-length
+same-length c = c .before .lift-rows .kept .0
+
+returns : tie.Need-returns
+returns c = c .before .lift-rows .ensures
+
+lone-high-requires : tie.Need-lone-high-requires
+lone-high-requires c κs = tt
+
+returns-2 : tie.Need-returns-2
+returns-2 c =
+    let lone = c .before in
+    let start = lone .before .before in
+    let a = start .args in
+    short-lifted (a .stride) (a .width) (side (a .y) (a .height)) _ (start .pre .some) (start .pre .wide)
+    (sym (lone .lone-high .ensures) ∙ not-true _ (c .if2 .taken))
+    (omega arith)
+
+sub-double-row : tie.Need-sub-double-row
+sub-double-row c = omega arith
+
+part-double-row-start : tie.Need-part-double-row-start
+part-double-row-start c = omega arith
+
+part-double-row-end : tie.Need-part-double-row-end
+part-double-row-end c = omega (arith, c .before .before .before .pre .room)
+
+double-row-requires : tie.Need-double-row-requires
+double-row-requires c κs = tt
+
+same-length-2 : tie.Need-same-length-2
+same-length-2 c = search needs
+
+returns-3 : tie.Need-returns-3
+unfolding doubledInPlace
+returns-3 c =
+    let called = c .before .double-row in
+    let left = c .before .before .before in
+    let lone = left .before in
+    let start = lone .before .before in
+    let a = start .args in
+    mapped-part (a .width) (a .width - 0) (a .area .now) (omega arith) (omega (arith, start .pre .room)) (λ v. wrap32 (pos 2 *ℤ v)) (called .last .0)
+    (called .kept .0)
+    (called .ensures)
+    ∙ lone-lifted (a .stride) (a .width) (side (a .y) (a .height)) _ (start .pre .some) (start .pre .wide)
+    (sym (lone .lone-high .ensures) ∙ not-false _ (left .if2 .left))
+
+pub lift-all-spec : {M : Type 1} → statement M
+lift-all-spec =
+    tie.close
+    (tie.spec
+    lift-rows-requires
+    same-length
+    returns
+    lone-high-requires
+    returns-2
+    sub-double-row
+    part-double-row-start
+    part-double-row-end
+    double-row-requires
+    same-length-2
+    returns-3)

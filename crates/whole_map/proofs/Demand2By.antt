@@ -1,0 +1,100 @@
+-- Demand 2 for each filter, over the definitions that the contracts of `forward_by` and `backward_by` cite: the statements are those of Demand2, where f is 0.
+-- Document 02, Q-8: "demands 2 and 3 hold for each". Assumes nothing.
+use mathlib.Core.Path.{_≡_, refl, sym, ap, _∙_}
+use mathlib.Core.Bool.{Bool, true, false}
+use mathlib.Core.Logic.{_↔_}
+use Prim.Native.Nat.{ℕ, _*_, _<_}
+use native.Mathlib.Omega.{arith}
+use lib.IntN.{ℤ}
+use Rattle.numbers.specs.Word.{wrap32, whole}
+use Rattle.lifting.specs.Grid.{Side}
+use Rattle.wavelet.specs.Questions.{ask}
+use Rattle.wavelet.specs.Bands.{Grid}
+use Rattle.wavelet.specs.Plane.{cells, flat, planeCell, planeOf, mapBack}
+use Rattle.wavelet.specs.Maps.{IsMap, HasPlane, inRange, rebuiltFits}
+use Rattle.wavelet.proofs.LevelTheory.{Same}
+use Rattle.wavelet.proofs.MapTheorems.{some-map, one-map, back-exactly}
+use Rattle.whole_map.specs.ByFilter.{filterOf}
+use Rattle.whole_map.specs.Calls.{sizeQuestionsBy, planeQuestions, backwardQuestionBy, passed, rebuilt}
+use Rattle.whole_map.proofs.ByFilterLaws.{filter-laws}
+use Rattle.whole_map.proofs.CallLaws.{passed-yes, rebuilt-yes}
+use Rattle.whole_map.proofs.QuestionBy.{roomy-by, asked-on}
+use Rattle.whole_map.proofs.Demand2.{front-cells, SevenOrFourteen, passes, refuses}
+
+-- a map of the columns W and the rows H at L levels, in areas of a, b and c numbers that pass questions 2, 3, 18, 4 and 5 of the filter f
+module _ (f : ℕ) (W H : Side) (L a b c : ℕ) (pass : sizeQuestionsBy f (W .length) (H .length) L a b c ≡ 0) where
+  abbrev w : ℕ
+  w = W .length
+
+  abbrev h : ℕ
+  h = H .length
+
+  -- z is the plane's area before the call
+  pub forward-gives : (g : Grid) (z : ℕ → ℤ) → IsMap w h g
+      → HasPlane (filterOf f) L W H g (cells w (passed (sizeQuestionsBy f w h L a b c) (w * h) (planeOf (filterOf f) whole L W H g) z))
+  unfolding planeOf
+  forward-gives g z m =
+      record {
+        map = m;
+        coefficients = λ r c rh cw.
+            ap (λ (u : ℕ → ℤ). cells w u r c) (passed-yes (w * h) (planeOf (filterOf f) whole L W H g) z _ pass)
+            ∙ front-cells w h (planeCell (filterOf f) whole L W H g) z r c rh cw;
+      }
+
+  -- x is the plane, y the heights' area before the call
+  module _ (x : Grid) (y : ℕ → ℤ) where
+    abbrev answer : ℕ
+    answer = backwardQuestionBy f W H L a b c x
+
+    abbrev heightsAfter : ℕ → ℤ
+    heightsAfter = rebuilt answer (w * h) (flat w (mapBack (filterOf f) wrap32 L W H x)) y
+
+    answer-is : answer ≡ ask (inRange (filterOf f) L W H x) 7 (ask (rebuiltFits (filterOf f) 0 L W H x) 14 0)
+    unfolding backwardQuestionBy planeQuestions
+    answer-is = sym (asked-on _ _ pass)
+
+    asked : answer ≡ 0 ↔ (inRange (filterOf f) L W H x ≡ true) × (rebuiltFits (filterOf f) 0 L W H x ≡ true)
+    asked = let p = passes (inRange (filterOf f) L W H x) (rebuiltFits (filterOf f) 0 L W H x) in (λ e. p .0 (sym answer-is ∙ e), λ e. answer-is ∙ p .1 e)
+
+    -- what stands in the heights' area after a call that passes
+    left : answer ≡ 0 → Same W H (cells w heightsAfter) (mapBack (filterOf f) wrap32 L W H x)
+    left e r c rh cw =
+        ap (λ (q : ℕ). cells w (rebuilt q (w * h) (flat w (mapBack (filterOf f) wrap32 L W H x)) y) r c) e
+        ∙ ap (λ (u : ℕ → ℤ). cells w u r c) (rebuilt-yes (w * h) (flat w (mapBack (filterOf f) wrap32 L W H x)) y)
+        ∙ front-cells w h (mapBack (filterOf f) wrap32 L W H x) y r c rh cw
+
+    pub backward-gives : (g : Grid) → HasPlane (filterOf f) L W H g x ↔ (answer ≡ 0) × Same W H (cells w heightsAfter) g
+    backward-gives g =
+        let s = roomy-by f w h L a b c pass in
+        let m = back-exactly (filterOf f) (filter-laws f) L W H g x (s .0 .size .levels .0) (s .1) in (
+          λ has.
+              let k = m .0 has in
+              let e = asked .1 (k .0, k .1) in
+              (e, λ r c rh cw. left e r c rh cw ∙ k .2 r c rh cw),
+          λ k.
+              let t = asked .0 (k .0) in
+              m .1 (t .0, t .1, λ r c rh cw. sym (left (k .0) r c rh cw) ∙ k .1 r c rh cw),
+        )
+
+    pub backward-passes : answer ≡ 0 ↔ (g : Grid) × HasPlane (filterOf f) L W H g x
+    backward-passes =
+        let s = roomy-by f w h L a b c pass in
+        let m = some-map (filterOf f) (filter-laws f) L W H x (s .0 .size .levels .0) (s .1) in
+        (λ e. m .0 (asked .0 e), λ k. asked .1 (m .1 k))
+
+    pub one-map-only : (g g′ : Grid) → HasPlane (filterOf f) L W H g x → HasPlane (filterOf f) L W H g′ x → Same W H g g′
+    one-map-only g g′ = let s = roomy-by f w h L a b c pass in one-map (filterOf f) (filter-laws f) L W H g g′ x (s .1)
+
+    pub backward-refuses : SevenOrFourteen answer ↔ ((g : Grid) → HasPlane (filterOf f) L W H g x → ⊥)
+    backward-refuses =
+        let r = refuses (inRange (filterOf f) L W H x) (rebuiltFits (filterOf f) 0 L W H x) in (
+          λ s g has. r .0 (rw answer-is at s) (sym answer-is ∙ backward-passes .1 (g, has)),
+          λ n. rw answer-is (r .1 (λ e. let m = backward-passes .0 (answer-is ∙ e) in n (m .0) (m .1))),
+        )
+
+  pub there-and-back : (g : Grid) (z y : ℕ → ℤ) → IsMap w h g →
+      let x = cells w (passed (sizeQuestionsBy f w h L a b c) (w * h) (planeOf (filterOf f) whole L W H g) z) in
+      (answer x y ≡ 0) × Same W H (cells w (heightsAfter x y)) g
+  there-and-back g z y m =
+      let x = cells w (passed (sizeQuestionsBy f w h L a b c) (w * h) (planeOf (filterOf f) whole L W H g) z) in
+      backward-gives x y g .0 (forward-gives g z m)
