@@ -1,4 +1,4 @@
--- `store::needed` meets its contract. The loop's invariant: `sum` is what the first k levels need, and `from` and `length` are the side of level k. Assumes
+-- `store::added` meets its contract. The loop's invariant: `sum` is that of the first k levels, and `from` and `length` are the side of level k. Assumes
 -- nothing.
 use mathlib.Core.Path.{_≡_, sym, ap, ap₂, _∙_}
 use Prim.Native.Nat.{ℕ, _≤_, _<_, _+_, _-_, _*_, _^_}
@@ -7,17 +7,17 @@ use native.Mathlib.Numerals.{add-one}
 use Rattle.lifting.specs.Grid.{Side, side}
 use Rattle.wavelet.proofs.LimitLaws.{width-small, levels-small}
 use Rattle.wavelet.specs.Levels.{next, sideAt}
-use Rattle.wavelet.specs.Store.{storeLength}
+use Rattle.wavelet.specs.Store.{widths}
 use Rattle.wavelet.proofs.SideLaws.{size-zero, size-suc, next-length, size-le}
-use Rattle.wavelet.proofs.StoreLaws.{store-none, store-more, store-le}
-use Rattle.wavelet.proofs.store.needed.Statement.{statement}
-use Rattle.wavelet.proofs.store.needed.Tie as tie
+use Rattle.wavelet.proofs.StoreLaws.{widths-none, widths-more, widths-le}
+use Rattle.wavelet.proofs.store.added.Statement.{statement}
+use Rattle.wavelet.proofs.store.added.Tie as tie
 
 record Summed (width x levels sum from length k : ℕ) : Type 0 where
   most : k ≤ levels
   narrow : width < 2 ^ 16
   few : levels < 2 ^ 16
-  total : sum ≡ storeLength (side x width) k
+  total : sum ≡ widths (side x width) k
   level : side from length ≡ sideAt k (side x width)
   shorter : length ≤ width
 
@@ -36,18 +36,15 @@ loop-holds c =
       most = omega arith;
       narrow = omega (arith, width-small);
       few = omega (arith, levels-small);
-      total = sym (store-none _);
+      total = sym (widths-none _);
       level = sym (size-zero _);
       shorter = omega arith;
     }
 
-mul-sum : tie.Need-mul-sum Inv-loop μ-loop
-mul-sum c = omega arith
-
 add-sum : tie.Need-add-sum Inv-loop μ-loop
 add-sum c =
     let a = c .before .before .args in
-    omega (arith, store-le (side (a .x) (a .width)) (c .before .loop .k))
+    omega (arith, widths-le (side (a .x) (a .width)) (c .before .loop .k))
 
 low-count-requires : tie.Need-low-count-requires Inv-loop μ-loop
 low-count-requires c κs = tt
@@ -63,7 +60,7 @@ loop-less c = omega arith
 
 -- one level more
 turn : (width x levels sum from length k from′ length′ : ℕ) → Summed width x levels sum from length k → k < levels → from′ ≡ next (side from length) .start
-    → length′ ≡ next (side from length) .length → Summed width x levels (sum + 4 * length) from′ length′ (k + 1)
+    → length′ ≡ next (side from length) .length → Summed width x levels (sum + length) from′ length′ (k + 1)
 turn width x levels sum from length k from′ length′ v b es el =
     let W = side x width in
     let next-is : side from′ length′ ≡ sideAt (k + 1) W = rw add-one (ap₂ side es el ∙ ap next (v .level) ∙ sym (size-suc k W)) in
@@ -71,7 +68,7 @@ turn width x levels sum from length k from′ length′ v b es el =
       most = omega arith;
       narrow = v .narrow;
       few = v .few;
-      total = rw add-one (omega (arith, store-more W k, length-is k width x from length (v .level), v .total));
+      total = rw add-one (omega (arith, widths-more W k, length-is k width x from length (v .level), v .total));
       level = next-is;
       shorter = omega (arith, size-le (k + 1) W, length-is (k + 1) width x from′ length′ next-is);
     }
@@ -90,16 +87,15 @@ returns c =
     let l = c .before .loop in
     let a = c .before .before .args in
     let e : l .k ≡ a .levels = omega arith in
-    l .inv .total ∙ ap (storeLength (side (a .x) (a .width))) e
+    l .inv .total ∙ ap (widths (side (a .x) (a .width))) e
 
-pub needed-spec : {M : Type 1} → statement M
-needed-spec =
+pub added-spec : {M : Type 1} → statement M
+added-spec =
     tie.close
     (tie.spec
     Inv-loop
     μ-loop
     loop-holds
-    mul-sum
     add-sum
     low-count-requires
     next-start-requires
