@@ -1,7 +1,7 @@
 -- What a stream needs by its filter's number. Assumes nothing.
 use mathlib.Core.Path.{_≡_, refl, sym}
 use mathlib.Core.Bool.{Bool, true, false}
-use Prim.Native.Nat.{ℕ, zero, suc, _*_, _^_, _≤_, _<_}
+use Prim.Native.Nat.{ℕ, zero, suc, _+_, _*_, _^_, _≤_, _<_}
 use native.Mathlib.Omega.{arith}
 use native.Mathlib.Nat.{mul-zero, mul-le-mul}
 use lib.Dec.{leb}
@@ -28,6 +28,12 @@ pub rows-few : (f : ℕ) → filterOf f .rows < 2 ^ 16
 unfolding filterOf
 rows-few zero = omega arith
 rows-few (suc f) = omega arith
+
+-- a line store is not long: at most sixteen numbers a column and eight a level
+pub store-few : (f : ℕ) (W : Side) (L : ℕ) → storeBy f W L ≤ 16 * W .length + 8 * L
+unfolding filterOf
+store-few zero W L = omega (arith, store-is 4 W L, widths-le W L)
+store-few (suc f) W L = omega (arith, store-is 8 W L, widths-le W L)
 
 -- ---- the code's product fits a word
 picked : (b : Bool) (v : ℕ) → (b ≡ true → v < 2 ^ 32) → pick b v 0 < 2 ^ 32
