@@ -4,7 +4,7 @@ use mathlib.Core.Bool.{Bool, true, not}
 use Prim.Native.Nat.{ℕ, suc, _-_, _*_, _≤_, _<_, _^_}
 use lib.IntN.{ℤ}
 use lib.Dec.{eqb}
-use Rattle.wavelet.specs.Limits.{maxWidth, maxHeight, maxOrigin}
+use Rattle.wavelet.specs.Limits.{maxWidth, maxHeight, maxLevels, maxOrigin}
 use Rattle.lifting.specs.Grid.{Side}
 use Rattle.nine_seven.specs.Filters.{filterOf, isFilter}
 use Rattle.wavelet.specs.Levels.{sideAt}
@@ -27,6 +27,7 @@ pub record Counts (s : Reader) : Type 0 where
   pub high : (1 ≤ s .height) × (s .height ≤ maxHeight)
   pub known : isFilter (s .filter) ≡ true
   pub deep : (1 ≤ s .levels) × (s .levels ≤ filterOf (s .filter) .levels)
+  pub few : s .levels ≤ maxLevels
   pub across : s .x ≤ maxOrigin
   pub down : s .y ≤ maxOrigin
   pub drew : s .drawn ≤ s .height

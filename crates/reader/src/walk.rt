@@ -18,6 +18,7 @@ ghost use Rattle.wavelet.specs.Limits.{maxLevels};
 ghost use Rattle.lifting.specs.Line.{lo};
 ghost use Rattle.wavelet.specs.Order.{firstSet};
 ghost use Rattle.wavelet.specs.Levels.{next, sideAt};
+ghost use Rattle.nine_seven.specs.Filters.{filterOf};
 ghost use Rattle.filters.specs.Figures.{storeBy};
 ghost use Rattle.filters.specs.Back.{rowPlaceOf};
 ghost use Rattle.level.specs.Tried.{outcome};
@@ -53,8 +54,8 @@ pub struct Next {
     pub at: Level,
 }
 
-// Level k + 1, at the last set that row `drawn` needs. The coordinates where its columns and rows begin and end are halved from level to level, and the row
-// that the set of each level takes is found.
+// Level k + 1, at the last set that row `drawn` needs. The coordinates where its columns and rows begin and end are halved from level to level, the columns
+// of the levels before it are added up, and the row that the set of each level takes is found.
 pub fn level_at(
     filter: usize,
     x: usize,
@@ -67,8 +68,7 @@ pub fn level_at(
     requires { ⌜ Small (side x width) (side y height) drawn × (k ≤ maxLevels) ⌝ }
     ensures { λ l. ⌜ IsAt filter (side x width) (side y height) drawn k l ⌝ }
 {
-    let rows = figures::rows_kept(filter);
-    let mut start = 0;
+    let mut columns = 0;
     let mut left = x;
     let mut right = x + width;
     let mut top = y;
@@ -78,7 +78,7 @@ pub fn level_at(
     while i < k {
         let n = sets::set_of(filter, top, bottom - top, row);
         row = sets::row_below(top, n);
-        start += rows * (right - left);
+        columns += right - left;
         left = sizes::next_start(left);
         right = sizes::next_start(right);
         top = sizes::next_start(top);
@@ -87,8 +87,9 @@ pub fn level_at(
     }
     let h = bottom - top;
     let n = sets::set_of(filter, top, h, row);
+    let rows = figures::rows_kept(filter);
     Level {
-        start,
+        start: rows * columns,
         x: left,
         width: right - left,
         y: top,
@@ -263,7 +264,7 @@ pub fn work_at(
     k: usize,
     l: Level,
 ) -> bool
-    requires { ⌜ Small (side x width) (side y height) drawn × (levels ≤ maxLevels) × (k < levels) × IsLevel filter (side x width) (side y height) drawn k l ×
+    requires { ⌜ Small (side x width) (side y height) drawn × (levels ≤ filterOf filter .levels) × (k < levels) × IsLevel filter (side x width) (side y height) drawn k l ×
         (storeBy filter (side x width) levels ≤ length (now store)) ⌝ }
     ensures { λ ok. ⌜ outcome ok (at (now (store .exit))) ≡
         workedAt filter (side x width) (side y height) levels k (l .set) (at (now (store .entry))) ⌝ }
@@ -304,7 +305,7 @@ pub fn settle(
     l: Level,
     to: usize,
 ) -> bool
-    requires { ⌜ Small (side x width) (side y height) drawn × (levels ≤ maxLevels) × (from ≤ levels) ×
+    requires { ⌜ Small (side x width) (side y height) drawn × (levels ≤ filterOf filter .levels) × (from ≤ levels) ×
         (0 < from → IsLevel filter (side x width) (side y height) drawn (from - 1) l) ×
         (storeBy filter (side x width) levels ≤ length (now store)) ⌝ }
     ensures { λ ok. ⌜ outcome ok (at (now (store .exit))) ≡

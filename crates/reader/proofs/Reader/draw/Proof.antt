@@ -176,7 +176,7 @@ moved-requires c κs =
     let one = store-in s _ (sym (ok .before .store-question .ensures) ∙ ok .if1 .left) in
     let shape = counts-small s (one .0) in
     let draws = due-in s (sym (due .before .draw-due .ensures) ∙ not-false _ (due .if2 .left)) in
-    let deep = dive-level (s .levels - 0) 0 (columns s) (rows s) (s .drawn + 1) (s .drawn + 1) in (
+    let deep = dive-level _ (s .levels - 0) 0 (columns s) (rows s) (s .drawn + 1) (s .drawn + 1) in (
       (shape .0, shape .1, shape .2, shape .3, omega (arith, draws .0)),
       omega (arith, deep, c .dive-from .ensures .level, one .0 .deep .1),
     )
@@ -216,7 +216,7 @@ returns-4 c =
     (draw-yes s _ _ _ _ _ _
     (fits-yes _ _ made ∙ draw-last s n m (at (a .store .now)) (sym (ok .before .store-question .ensures) ∙ ok .if1 .left) is-due (omega arith))
     is-due
-    (drawn-reader s (c .moved .result) _ (enter .dive-from .result) refl (enter-is _ _ _ _ _ (enter .dive-from .ensures)) (c .moved .ensures))
+    (drawn-reader s (c .moved .result) _ (enter .dive-from .result) refl (enter-is _ _ _ _ _ _ (enter .dive-from .ensures)) (c .moved .ensures))
     made
     (drawn-row s p (p + w - p) y _ _ stands (omega arith) part (did _ _ _ _ fits-out (drawing .draw-heights .ensures .1))))
 
@@ -255,7 +255,7 @@ returns-5 c =
     (fits-no _ made ∙ draw-last s n m (at (a .store .now)) (sym (ok .before .store-question .ensures) ∙ ok .if1 .left)
     (sym (due .before .draw-due .ensures) ∙ not-false _ (due .if2 .left)) (omega arith))
     (c .over .ensures)
-    (zero-kept (columns s) (s .levels) _ _ _ _ long-is (call .settle-all .ensures .1) (did _ _ _ _ room (clear .clear .ensures .1))))
+    (zero-kept _ (columns s) (s .levels) _ _ _ _ long-is (call .settle-all .ensures .1) (did _ _ _ _ room (clear .clear .ensures .1))))
 
 pub draw-spec : {M : Type 1} → statement M
 draw-spec =

@@ -21,7 +21,7 @@ returns : tie.Need-returns
 returns c =
     let start = c .before .before in
     let s = start .args .s in
-    λ h. up-here (columns s) (rows s) (s .levels) (s .level) (s .band) (c .band-at .result) (start .args .l .set) (start .pre .1)
+    λ h. up-here _ (columns s) (rows s) (s .levels) (s .level) (s .band) (c .band-at .result) (start .args .l .set) (start .pre .1)
     (c .band-at .ensures) h ∙ next-own s _ (start .pre .2 .1)
 
 pub own-band-spec : {M : Type 1} → statement M

@@ -13,7 +13,7 @@ returns : tie.Need-returns
 returns c =
     let start = c .before .before .before in
     let s = start .args .s in (
-      settle-none (columns s) (rows s) (s .levels) _ (s .level) (spotNow s .set) _ (c .if1 .taken)
+      settle-none _ (columns s) (rows s) (s .levels) _ (s .level) (spotNow s .set) _ (c .if1 .taken)
           ∙ settles-is s (start .args .n .spot) (start .pre .1 .spot) (spotNow s .set) refl _,
       kept-none _ _,
     )

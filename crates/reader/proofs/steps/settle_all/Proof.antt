@@ -13,7 +13,7 @@ returns : tie.Need-returns
 returns c =
     let start = c .before .before in
     let s = start .args .s in (
-      settle-none (columns s) (rows s) (s .levels) 0 (s .level) (spotNow s .set) _ (omega arith) ∙ settles-all s (start .pre .1) (spotNow s .set) refl _,
+      settle-none _ (columns s) (rows s) (s .levels) 0 (s .level) (spotNow s .set) _ (omega arith) ∙ settles-all s (start .pre .1) (spotNow s .set) refl _,
       kept-none _ _,
     )
 

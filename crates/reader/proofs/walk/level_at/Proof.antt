@@ -4,17 +4,17 @@ use Prim.Native.Nat.{_-_, _≤_, _<_, _^_}
 use native.Mathlib.Omega.{arith}
 use Rattle.lifting.specs.Grid.{side}
 use Rattle.wavelet.specs.Limits.{maxLevels}
-use Rattle.reader.proofs.StoreLaws.{Ends, ends-start, ends-on, walked-level, stretch-small}
+use Rattle.reader.proofs.StoreLaws.{Ends, ends-start, ends-on, walked-level, begins-small}
 use Rattle.reader.proofs.walk.level_at.Statement.{statement}
 use Rattle.reader.proofs.walk.level_at.Tie as tie
 
 abbrev Inv-loop : tie.InvT-loop
-Inv-loop x width y height drawn k start₀ left₀ right₀ top₀ bottom₀ row₀ i₀ start left right top bottom row i =
+Inv-loop filter x width y height drawn k columns₀ left₀ right₀ top₀ bottom₀ row₀ i₀ columns left right top bottom row i =
     (i ≤ k) × (k ≤ maxLevels) × (width ≤ 2 ^ 16) × (height < 2 ^ 32) × (drawn ≤ height)
-    × Ends (side x width) (side y height) drawn i start left right top bottom row
+    × Ends filter (side x width) (side y height) drawn i columns left right top bottom row
 
 abbrev μ-loop : tie.MeasureT-loop
-μ-loop x width y height drawn k start₀ left₀ right₀ top₀ bottom₀ row₀ i₀ start left right top bottom row i = k - i
+μ-loop filter x width y height drawn k columns₀ left₀ right₀ top₀ bottom₀ row₀ i₀ columns left right top bottom row i = k - i
 
 add-right : tie.Need-add-right Inv-loop μ-loop
 add-right c = omega arith
@@ -23,7 +23,7 @@ add-bottom : tie.Need-add-bottom Inv-loop μ-loop
 add-bottom c = omega arith
 
 loop-holds : tie.Need-loop-holds Inv-loop μ-loop
-loop-holds c = (omega arith, omega arith, omega arith, omega arith, omega arith, ends-start _ _ _ (omega arith))
+loop-holds c = (omega arith, omega arith, omega arith, omega arith, omega arith, ends-start _ _ _ _ (omega arith))
 
 sub-set-of : tie.Need-sub-set-of Inv-loop μ-loop
 sub-set-of c = let a = c .before .loop .inv .5 in omega (arith, a .down)
@@ -80,7 +80,7 @@ loop-again c =
       inv .2,
       inv .3,
       inv .4,
-      ends-on _ _ _ _ _ _ _ _ _ _ (inv .3) (inv .5) _ _ _ _ _ _ (set .set-of .ensures) (row .row-below .ensures) (left .next-start .ensures)
+      ends-on _ _ _ _ _ _ _ _ _ _ _ (inv .3) (inv .5) _ _ _ _ _ _ (set .set-of .ensures) (row .row-below .ensures) (left .next-start .ensures)
           (right .next-start2 .ensures) (top .next-start3 .ensures) (c .next-start4 .ensures),
     )
 

@@ -18,15 +18,15 @@ use Rattle.reader.proofs.walk.settle.Statement.{statement}
 use Rattle.reader.proofs.walk.settle.Tie as tie
 
 abbrev Inv-loop : tie.InvT-loop
-Inv-loop x width y height levels drawn store₀ from to k₀ m₀ store k m =
+Inv-loop filter x width y height levels drawn store₀ from to k₀ m₀ store k m =
     Small (side x width) (side y height) drawn × (levels ≤ maxLevels) × (k ≤ levels) × (storeLength (side x width) levels ≤ length store₀)
     × (length store ≡ length store₀)
-    × (0 < k → IsLevel (side x width) (side y height) drawn (k - 1) m)
-    × (settled (side x width) (side y height) levels to k (m .set) (at store) ≡ settled (side x width) (side y height) levels to from (m₀ .set) (at store₀))
+    × (0 < k → IsLevel filter (side x width) (side y height) drawn (k - 1) m)
+    × (settled filter (side x width) (side y height) levels to k (m .set) (at store) ≡ settled filter (side x width) (side y height) levels to from (m₀ .set) (at store₀))
     × Kept (storeLength (side x width) levels) (at store₀) (at store)
 
 abbrev μ-loop : tie.MeasureT-loop
-μ-loop x width y height levels drawn store₀ from to k₀ m₀ store k m = k
+μ-loop filter x width y height levels drawn store₀ from to k₀ m₀ store k m = k
 
 loop-holds : tie.Need-loop-holds Inv-loop μ-loop
 loop-holds c = (c .pre .0, omega arith, omega arith, omega arith, refl, c .pre .3, refl, kept-none _ _)
@@ -50,7 +50,7 @@ returns c =
     let test = call .before .before in
     let l = test .before .loop in
     let failed = told-no (call .work-at .result) (at (call .work-at .last .1 .1 .1 .1 .1 .1 .0)) _ (call .work-at .ensures .0) (not-true _ (c .if1 .taken)) in (
-      settle-failed _ _ _ _ (l .k) (l .m .set) (at (l .store)) (test .loop-test .taken) failed ∙ l .inv .6,
+      settle-failed _ _ _ _ _ (l .k) (l .m .set) (at (l .store)) (test .loop-test .taken) failed ∙ l .inv .6,
       kept-both _ _ _ _ (l .inv .7) (call .work-at .ensures .1),
     )
 
@@ -78,7 +78,7 @@ loop-again c =
       inv .3,
       call .work-at .kept .1 .1 .1 .1 .1 .1 .0 ∙ inv .4,
       λ _. c .finer .ensures .0,
-      settle-on _ _ _ _ (l .k) (l .m .set) (c .finer .result .set) (at (l .store)) _ (test .loop-test .taken) (λ _. c .finer .ensures .1) worked ∙ inv .6,
+      settle-on _ _ _ _ _ (l .k) (l .m .set) (c .finer .result .set) (at (l .store)) _ (test .loop-test .taken) (λ _. c .finer .ensures .1) worked ∙ inv .6,
       kept-both _ _ _ _ (inv .7) (call .work-at .ensures .1),
     )
 
@@ -100,7 +100,7 @@ loop-again-2 c =
       inv .3,
       call .work-at .kept .1 .1 .1 .1 .1 .1 .0 ∙ inv .4,
       λ h. absurd (omega (arith, h)),
-      settle-on _ _ _ _ (l .k) (l .m .set) (l .m .set) (at (l .store)) _ (test .loop-test .taken) (λ h. absurd (omega (arith, h))) worked ∙ inv .6,
+      settle-on _ _ _ _ _ (l .k) (l .m .set) (l .m .set) (at (l .store)) _ (test .loop-test .taken) (λ h. absurd (omega (arith, h))) worked ∙ inv .6,
       kept-both _ _ _ _ (inv .7) (call .work-at .ensures .1),
     )
 
@@ -108,7 +108,7 @@ same-length-2 : tie.Need-same-length-2 Inv-loop μ-loop
 same-length-2 c = c .before .loop .inv .4
 
 returns-2 : tie.Need-returns-2 Inv-loop μ-loop
-returns-2 c = let l = c .before .loop in (settle-none _ _ _ _ (l .k) (l .m .set) (at (l .store)) (omega arith) ∙ l .inv .6, l .inv .7)
+returns-2 c = let l = c .before .loop in (settle-none _ _ _ _ _ (l .k) (l .m .set) (at (l .store)) (omega arith) ∙ l .inv .6, l .inv .7)
 
 pub settle-spec : {M : Type 1} → statement M
 settle-spec =
