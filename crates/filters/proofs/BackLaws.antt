@@ -24,6 +24,9 @@ use Rattle.level.specs.Rebuilding.{widest, tallest, workAnswer, Kept, workable,
 use Rattle.nine_seven_rebuilding.specs.Slots as slots97
 use Rattle.nine_seven_rebuilding.specs.Work as work97
 use Rattle.nine_seven_rebuilding.specs.Rebuilding as rebuilding97
+use Rattle.level.proofs.WorkedPast.{Keeps}
+use Rattle.level.proofs.WorkedPast as past
+use Rattle.nine_seven_rebuilding.proofs.WorkedPast as past97
 use Rattle.level.proofs.SlotLaws as laws
 use Rattle.nine_seven_rebuilding.proofs.SlotLaws as laws97
 use Rattle.level.proofs.ReaderLaws.{ReaderLawsBy}
@@ -59,6 +62,12 @@ pub place-room : (f w q : ℕ) → rowPlaceOf f w q + w ≤ filterOf f .rows * w
 unfolding rowPlaceOf filterOf
 place-room zero w q = omega (arith, laws.place-is w q, laws.slot-room w q)
 place-room (suc f) w q = omega (arith, laws97.place-is w q, laws97.slot-room w q)
+
+-- a set worked out leaves what is past the stretch
+pub back-worked : (f k : ℕ) (W H : Side) (last : Bool) (n : ℕ) (x : ℕ → ℤ) → Keeps (filterOf f .rows * W .length) x (backOf f .work last k W H n x)
+unfolding backOf filterOf
+back-worked zero k W H last n x = past.worked-past k W H last n x
+back-worked (suc f) k W H last n x = past97.worked-past k W H last n x
 
 -- and it meets what is asked of a level on the way back
 pub back-laws : (f : ℕ) → ReaderLawsBy (filterOf f) (backOf f) (standsOf f)

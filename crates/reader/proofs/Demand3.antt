@@ -516,7 +516,7 @@ module _ (f : ℕ) (W H : Side) (l n : ℕ) (lim : Limits f W H l n) where
       all-names = sym (append-nil (namesOf fs)) ∙ ap (λ v. namesOf fs ++ bandRowsOf v) (sym over) ∙ kept .names live
 
       once : (fr : FedRow) → times (fr .row) (namesOf fs) ≤ 1
-      once fr = rw (all-names, steps-once (ahead f) looks f W H (suc l) (omega arith) (fr .row))
+      once fr = rw (all-names, steps-once (ahead f) (looks f) W H (suc l) (omega arith) (fr .row))
           (go (bandRowExists W H (suc l) (fr .row .level) (fr .row .band) (fr .row .row)))
         where
           go : (u : Bool) → pick u 1 0 ≤ 1
@@ -604,7 +604,7 @@ module _ (f : ℕ) (W H : Side) (l n : ℕ) (lim : Limits f W H l n) where
   claim _ es (reached d p e x t fs ds kept) = (
     counts f W H l n lim d p (kept .drawn-le) (kept .level-le) (kept .band-le) (kept .back-le) e,
     record {
-      rows-once = steps-once (ahead f) looks f W H (suc l) (omega arith);
+      rows-once = steps-once (ahead f) (looks f) W H (suc l) (omega arith);
       heights-once = steps-heights (ahead f) W H (suc l);
       wants = want-is d p e x t fs ds kept;
       feeds-turned = feed-turned d p e x t fs ds kept;

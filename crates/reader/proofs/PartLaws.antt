@@ -6,6 +6,7 @@ use Prim.Native.Nat.{ℕ, suc, _+_, _-_, _*_, _≤_, _<_, _^_}
 use native.Mathlib.Decide.{decLt, ℕ-discrete}
 use native.Mathlib.Omega.{arith}
 use native.Mathlib.Numerals.{add-one}
+use native.Mathlib.Nat.{mul-zero}
 use lib.IntN.{ℤ, pos}
 use lib.Dec.{eqb, leb}
 use lib.ListN.{length, List·getD-eq-default}
@@ -178,8 +179,9 @@ work-is f W H L d k l a n s ys ok is wide high last ea whole long made =
 pub stretch-room : (f : ℕ) (W : Side) (k L : ℕ) → k < L → 
     stretchAt f W k + (filterOf f .rows * sideAt k W .length + filterOf f .rows * pick (eqb (k + 1) L) 0 (count lo (sideAt k W))) ≤ stretchAt f W L
 stretch-room f W k L h = elim (ℕ-discrete (k + 1) L) [
-  | yes e ↦ rw (eq-eqb (k + 1) L e) (omega (arith, stretch-suc f W k, stretch-in f W (suc k) L (omega arith)))
-  | no d ↦ rw (ne-eqb (k + 1) L d) (omega (arith, stretch-suc f W k, stretch-suc f W (suc k), length-suc k W, stretch-in f W (suc (suc k)) L (omega arith)))
+  | yes e ↦ rw (eq-eqb (k + 1) L e) (omega (arith, mul-zero (filterOf f .rows), stretch-suc f W k, stretch-in f W (suc k) L (omega arith)))
+  | no d ↦ rw (ne-eqb (k + 1) L d, ← length-suc k W)
+      (omega (arith, stretch-suc f W k, stretch-suc f W (suc k), stretch-in f W (suc (suc k)) L (omega arith)))
 ]
 
 -- ---- the same of a level

@@ -18,13 +18,18 @@ use Rattle.level.specs.Slots.{rowOfSet, halfPlace}
 use Rattle.reader.specs.Sets.{ahead, firstRow}
 use Rattle.reader.specs.Asked.{named}
 use Rattle.reader.specs.Store.{hasCells}
+use Rattle.reader.proofs.OpenedSets.{looks}
 use Rattle.reader.proofs.CellLaws.{Empty, wide, high, empty-not, cells-yes}
 
 -- ---- the set of a row, as the code finds it
-pub ahead-small : (f : ℕ) → ahead f ≤ 2 ^ 16
+ahead-small : (f : ℕ) → ahead f ≤ 2 ^ 16
 unfolding filterOf
 ahead-small zero = omega arith
 ahead-small (suc f) = omega arith
+
+-- of a number that is the look-ahead
+pub ahead-fits : (f n : ℕ) → n ≡ ahead f → (1 ≤ n) × (n ≤ 2 ^ 16)
+ahead-fits f n e = (omega (arith, looks f), omega (arith, ahead-small f))
 
 pub set-first : (f : ℕ) (S : Side) (r : ℕ) → S .start % 2 + r ≡ 0 → 0 ≡ setOf (ahead f) S r
 set-first f S r e =

@@ -10,7 +10,9 @@ use borrow.Author.Tests.{eqb-true}
 use Rattle.numbers.specs.Signal.{pick}
 use Rattle.lifting.specs.Grid.{Side}
 use Rattle.wavelet.specs.Levels.{sideAt}
+use Rattle.nine_seven.specs.Filters.{filterOf}
 use Rattle.filters.specs.Back.{backOf}
+use Rattle.filters.proofs.BackLaws.{back-worked}
 use Rattle.filters.specs.Figures.{storeBy}
 use Rattle.reader.specs.declared.Reader.{Reader}
 use Rattle.reader.specs.Sets.{waiting}
@@ -25,7 +27,7 @@ use Rattle.wavelet.proofs.StoreLaws.{store-in}
 use Rattle.reader.proofs.StoreLaws.{stretch-suc, stretch-in, stretch-is}
 use Rattle.reader.proofs.PartLaws.{behind-past, from-at}
 use Rattle.level.proofs.KeptLaws.{kept-none, kept-more}
-use Rattle.level.proofs.WorkedPast.{Keeps, stops, goes, after, bound, worked-past}
+use Rattle.level.proofs.WorkedPast.{Keeps, stops, goes, after, bound}
 use Rattle.reader.proofs.KeptLaws.{fed-kept}
 use Rattle.reader.proofs.StepLaws.{near}
 use Rattle.reader.proofs.QuestionLaws.{counts-in}
@@ -36,10 +38,11 @@ module _ (f : ℕ) (W H : Side) (L : ℕ) where
   abbrev N : ℕ
   N = storeBy f W L
 
-  stretch-within : (k : ℕ) → k < L → stretchAt f W k + 4 * sideAt k W .length ≤ N
+  stretch-within : (k : ℕ) → k < L → stretchAt f W k + filterOf f .rows * sideAt k W .length ≤ N
   stretch-within k h = omega (arith, stretch-suc f W k, stretch-in f W (suc k) L h, stretch-is f W L)
 
-  put-past : (k : ℕ) (x : ℕ → ℤ) (t : Tried) → k < L → Keeps (4 * sideAt k W .length) (from (stretchAt f W k) x) t → Keeps N x (onto (behind (stretchAt f W k) x) t)
+  put-past : (k : ℕ) (x : ℕ → ℤ) (t : Tried) → k < L → Keeps (filterOf f .rows * sideAt k W .length) (from (stretchAt f W k) x) t →
+      Keeps N x (onto (behind (stretchAt f W k) x) t)
   unfolding onto
   put-past k x _ h stops = stops
   put-past k x _ h (goes {y} a) =
@@ -57,7 +60,7 @@ module _ (f : ℕ) (W H : Side) (L : ℕ) where
     where
       go : (t : Bool) → Keeps N x (pick t
           (onto (behind (stretchAt f W k) x) (backOf f .work (eqb (suc k) L) k (sideAt k W) (sideAt k H) n (from (stretchAt f W k) x))) (passed x))
-      go true = put-past k x _ h (worked-past k (sideAt k W) (sideAt k H) (eqb (suc k) L) n (from (stretchAt f W k) x))
+      go true = put-past k x _ h (back-worked f k (sideAt k W) (sideAt k H) (eqb (suc k) L) n (from (stretchAt f W k) x))
       go false = goes (kept-none N x)
 
   settled-past : (to k n : ℕ) (x : ℕ → ℤ) → k ≤ L → Keeps N x (settled f W H L to k n x)
@@ -83,7 +86,7 @@ module _ (f : ℕ) (W H : Side) (L : ℕ) where
   fed-past zero n c v x h = goes (kept-none N x)
   fed-past (suc k) n c v x h =
       let y = fedAt f W H k n c v x in
-      let room : storeBy f W (k + 1) ≤ N = store-in W (k + 1) L (omega arith) in
+      let room : storeBy f W (k + 1) ≤ N = store-in (filterOf f .rows) W (k + 1) L (omega arith) in
       after N x y _ (kept-more (storeBy f W (k + 1)) N x y room (fed-kept f W H k n c v x)) (finished-past k n c y (omega arith))
 
 -- ---- a reader whose level is one of its own

@@ -86,9 +86,9 @@ moved-requires c κs =
     let ok = next .before in
     let s = ok .before .before .args .self in
     let one = store-in s _ (sym (ok .before .store-question .ensures) ∙ ok .if1 .left) in
-    let deep = fed-level _ (columns s) (rows s) (s .levels) (state.next s .level) (state.next s .set) (state.next s .band)
+    let deep = fed-level (s .filter) (columns s) (rows s) (s .levels) (state.next s .level) (state.next s .set) (state.next s .band)
     (omega (arith, near s .within, one .0 .at)) in
-    (counts-small s (one .0), omega (arith, deep, c .spot-fed .ensures .level, one .0 .deep .1))
+    (counts-small s (one .0), omega (arith, deep, c .spot-fed .ensures .level, one .0 .few))
 
 same-length : tie.Need-same-length
 same-length c = c .before .before .before .before .feed-row .kept .1 .0

@@ -69,7 +69,7 @@ moved-requires c κs =
     let w = within-true 1 maxWidth (a .map .width) (ok .0) in
     let l = within-true 1 (filterOf (a .map .filter) .levels) (a .map .levels) (ok .1) in
     let h = within-true 1 maxHeight (a .map .height) (ok .3) in
-    let deep = dive-level _ (a .map .levels - 0) 0 (side (a .map .x) (a .map .width)) (side (a .map .y) (a .map .height)) 0 0 in (
+    let deep = dive-level (a .map .filter) (a .map .levels - 0) 0 (side (a .map .x) (a .map .width)) (side (a .map .y) (a .map .height)) 0 0 in (
       (omega (arith, w .1, width-small), omega arith, omega (arith, h .1, height-small), omega arith, omega arith),
       omega (arith, l .1, levels-most (a .map .filter), deep, c .dive-from .ensures .level),
     )

@@ -7,8 +7,7 @@ use borrow.Author.Tests.{not-true, not-false}
 use Rattle.wavelet.specs.Limits.{maxWidth, maxHeight, maxOrigin}
 use Rattle.wavelet.specs.Questions.{within}
 use Rattle.reader.proofs.QuestionLaws.{counts-1, counts-2, counts-f, counts-3, counts-x, counts-y, counts-4, counts-5, counts-6, counts-7}
-use Rattle.reader.proofs.OpenedSets.{looks}
-use Rattle.reader.proofs.SetLaws.{ahead-small}
+use Rattle.reader.proofs.SetLaws.{ahead-fits}
 use Rattle.reader.proofs.questions.counts_fit.Statement.{statement}
 use Rattle.reader.proofs.questions.counts_fit.Tie as tie
 
@@ -129,10 +128,10 @@ look-ahead-requires : tie.Need-look-ahead-requires
 look-ahead-requires c κs = tt
 
 mul-result : tie.Need-mul-result
-mul-result c = omega (arith, c .look-ahead .ensures, ahead-small _)
+mul-result c = omega (arith, ahead-fits _ _ (c .look-ahead .ensures))
 
 sub-result : tie.Need-sub-result
-sub-result c = omega (arith, c .look-ahead .ensures, looks _)
+sub-result c = omega (arith, ahead-fits _ _ (c .look-ahead .ensures))
 
 returns-10 : tie.Need-returns-10
 unfolding maxWidth maxHeight maxOrigin

@@ -21,7 +21,7 @@ returns : tie.Need-returns
 unfolding makes
 returns c =
     let a = c .before .before .args in
-    ap (λ m. leb m (a .n)) (c .set-of .ensures ∙ ap (setOf ahead (a .filter) (side (a .y) (a .h))) (c .before .first-row .ensures))
+    ap (λ m. leb m (a .n)) (c .set-of .ensures ∙ ap (setOf (ahead (a .filter)) (side (a .y) (a .h))) (c .before .first-row .ensures))
 
 pub is-making-spec : {M : Type 1} → statement M
 is-making-spec = tie.close (tie.spec first-row-requires set-of-requires returns)

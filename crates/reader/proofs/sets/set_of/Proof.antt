@@ -2,8 +2,7 @@
 use native.Mathlib.Omega.{arith}
 use Prim.Native.Nat.{_+_, _-_, _/_, _%_}
 use Rattle.lifting.specs.Grid.{side}
-use Rattle.reader.specs.Sets.{ahead}
-use Rattle.reader.proofs.SetLaws.{ahead-small, set-first, set-later}
+use Rattle.reader.proofs.SetLaws.{ahead-fits, set-first, set-later}
 use Rattle.reader.proofs.sets.set_of.Statement.{statement}
 use Rattle.reader.proofs.sets.set_of.Tie as tie
 
@@ -20,7 +19,7 @@ look-ahead-requires : tie.Need-look-ahead-requires
 look-ahead-requires c κs = tt
 
 add-a : tie.Need-add-a
-add-a c = omega (arith, c .look-ahead .ensures, ahead-small _)
+add-a c = omega (arith, ahead-fits _ _ (c .look-ahead .ensures))
 
 last-set-requires : tie.Need-last-set-requires
 last-set-requires c κs = omega arith

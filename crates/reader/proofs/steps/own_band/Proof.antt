@@ -15,7 +15,7 @@ band-at-requires : tie.Need-band-at-requires
 band-at-requires c κs =
     let start = c .before in
     let counts = start .pre .0 in
-    (counts-small (start .args .s) counts, start .pre .2 .0, omega (arith, counts .at, counts .deep .1))
+    (counts-small (start .args .s) counts, start .pre .2 .0, omega (arith, counts .at, counts .few))
 
 returns : tie.Need-returns
 returns c =

@@ -16,7 +16,7 @@ level-at-requires : tie.Need-level-at-requires
 level-at-requires c κs =
     let start = c .before in
     let counts = start .pre .0 in
-    (counts-small (start .args .s) counts, omega (arith, counts .at, counts .deep .1))
+    (counts-small (start .args .s) counts, omega (arith, counts .at, counts .few))
 
 less-requires : tie.Need-less-requires
 less-requires c κs = tt

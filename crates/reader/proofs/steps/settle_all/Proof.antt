@@ -27,7 +27,7 @@ settle-requires c κs =
     (counts-small (start .args .s) counts, counts .deep .1, counts .at, λ _. c .own-level .ensures .0, omega arith)
 
 same-length : tie.Need-same-length
-same-length c = c .before .settle .kept .1 .1 .1 .1 .1 .1 .0
+same-length c = c .before .settle .kept .1 .1 .1 .1 .1 .1 .1 .0
 
 returns-2 : tie.Need-returns-2
 returns-2 c =

@@ -34,7 +34,7 @@ begin-requires c κs =
     let at = start .pre .1 .at (start .pre .2) in
     let near = spot-in _ _ (start .pre .1 .spot) (start .pre .2) in
     let small = level-small s counts _ (start .args .n .at) at in
-    (omega (arith, near .0, counts .at), counts .deep .1, small .0, small .1, omega (arith, at .set))
+    (omega (arith, near .0, counts .at), counts .few, small .0, small .1, omega (arith, at .set))
 
 returns : tie.Need-returns
 returns c =
@@ -75,7 +75,7 @@ finer-requires c κs =
     let s = start .args .s in
     let counts = start .pre .0 in
     let near = spot-in _ _ (start .pre .1 .spot) (start .pre .2) in
-    (counts-small s counts, start .pre .1 .at (start .pre .2), omega arith, omega (arith, near .0, counts .at, counts .deep .1))
+    (counts-small s counts, start .pre .1 .at (start .pre .2), omega arith, omega (arith, near .0, counts .at, counts .few))
 
 returns-3 : tie.Need-returns-3
 returns-3 c =

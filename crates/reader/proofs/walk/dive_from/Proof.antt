@@ -37,9 +37,9 @@ returns c =
     let l = test .before .loop in
     is-spot _ _ (down-out _ _ _ _ _ _ _ _ _ _ _ _ (l .inv .3) (test .loop-test .taken) (sym (down .goes-down .ensures (l .wx)) ∙ not-true _ (c .if1 .taken)))
 
-add-t20 : tie.Need-add-t20 Inv-loop μ-loop
+add-t21 : tie.Need-add-t21 Inv-loop μ-loop
 unfolding maxLevels
-add-t20 c = omega arith
+add-t21 c = omega arith
 
 returns-2 : tie.Need-returns-2 Inv-loop μ-loop
 returns-2 c =
@@ -107,7 +107,7 @@ dive-from-spec =
     sets-before-requires
     goes-down-requires
     returns
-    add-t20
+    add-t21
     returns-2
     sub-r
     low-count-requires

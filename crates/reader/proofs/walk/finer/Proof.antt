@@ -24,7 +24,7 @@ add-at-set c =
     let row = c .before in
     let start = row .before .before in
     let l = start .args .l in
-    omega (arith, row .first-row .ensures, row-in (l .filter) (side (l .y) (l .height)) (l .set), level-in _ _ _ _ _ l (start .pre .1) (omega arith) (omega arith) .2)
+    omega (arith, row .first-row .ensures, row-in (start .args .filter) (side (l .y) (l .height)) (l .set), level-in _ _ _ _ _ l (start .pre .1) (omega arith) (omega arith) .2)
 
 at-set-requires : tie.Need-at-set-requires
 at-set-requires c κs = tt
@@ -40,7 +40,7 @@ returns c =
     let at = level .level-at .ensures .level in
     let n = row .first-row .result + level .level-at .result .y % 2 in
     let small : n ≤ 2 ^ 32 =
-    omega (arith, row .first-row .ensures, row-in (l .filter) (side (l .y) (l .height)) (l .set), level-in _ _ _ _ _ l is (omega arith) (omega arith) .2) in
+    omega (arith, row .first-row .ensures, row-in (start .args .filter) (side (l .y) (l .height)) (l .set), level-in _ _ _ _ _ l is (omega arith) (omega arith) .2) in
     let first = row .first-row .ensures ∙ ap (λ (S : Side). firstRow _ S (l .set)) (level-high _ _ _ _ _ l is) in (
       set-level (a .filter) (side (a .x) (a .width)) (side (a .y) (a .height)) (a .drawn) (a .k - 1) n (level .level-at .result) (c .at-set .result) small at
           (c .at-set .ensures),

@@ -9,6 +9,7 @@ use borrow.Rule.Slice.PartMut.{midOf}
 use Rattle.areas.proofs.AreaLaws.{did}
 use Rattle.lifting.specs.Grid.{side}
 use Rattle.filters.proofs.BackLaws.{workable-of}
+use Rattle.filters.proofs.FigureLaws.{levels-most}
 use Rattle.level.proofs.KeptLaws.{kept-none}
 use Rattle.numbers.proofs.Parts.{length-mid}
 use Rattle.wavelet.specs.Limits.{maxLevels}
@@ -43,7 +44,7 @@ unfolding maxLevels
 mul-work-set c =
     let start = c .before .before .before .before .before .before in
     let here = level-in _ _ _ _ _ (start .args .l) (start .pre .3) (omega arith) (omega arith) in
-    omega (arith, here .0)
+    omega (arith, here .0, levels-most (start .args .filter))
 
 sub-work-set : tie.Need-sub-work-set
 sub-work-set c =
