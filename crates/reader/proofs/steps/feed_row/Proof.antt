@@ -66,10 +66,10 @@ returns-2 c =
     let near = spot-in _ _ due (omega arith) in
     let settled = told-yes (call .settle .result) (at (call .settle .last .1 .0)) _ (call .settle .ensures .0) (not-false _ (on .if1 .left)) in
     let room = store-in (filterOf (s .filter) .rows) (columns s) (p .level - 1 + 1) (s .levels) (omega (arith, near .0, start .pre .0 .at)) in
-    let own = fed-kept _ (columns s) (rows s) (p .level - 1) n (p .band) _ _ in
+    let own = fed-kept (s .filter) (columns s) (rows s) (p .level - 1) n (p .band) _ _ in
     let fed = kept-is _ _ _ _ (kept-more _ _ _ _ room own) (put .put-row .ensures) in (
-      finish-not _ (columns s) (rows s) (s .levels) (p .level - 1) n (p .band) _ _ (start .pre .3) (not-true _ (c .if2 .taken))
-          ∙ ap (λ y. finished _ (columns s) (rows s) (s .levels) (p .level - 1) n (p .band) y) (put .put-row .ensures)
+      finish-not (s .filter) (columns s) (rows s) (s .levels) (p .level - 1) n (p .band) _ _ (start .pre .3) (not-true _ (c .if2 .taken))
+          ∙ ap (λ y. finished (s .filter) (columns s) (rows s) (s .levels) (p .level - 1) n (p .band) y) (put .put-row .ensures)
           ∙ feed-on s p due _ _ _ n (omega arith) (start .pre .1 .set (start .pre .2)) settled,
       kept-both _ _ _ _ (call .settle .ensures .1) fed,
     )
@@ -110,11 +110,11 @@ returns-3 c =
     let near = spot-in _ _ due (omega arith) in
     let settled = told-yes (call .settle .result) (at (call .settle .last .1 .0)) _ (call .settle .ensures .0) (not-false _ (on .if1 .left)) in
     let room = store-in (filterOf (s .filter) .rows) (columns s) (p .level - 1 + 1) (s .levels) (omega (arith, near .0, start .pre .0 .at)) in
-    let own = fed-kept _ (columns s) (rows s) (p .level - 1) n (p .band) _ _ in
+    let own = fed-kept (s .filter) (columns s) (rows s) (p .level - 1) n (p .band) _ _ in
     let fed = kept-is _ _ _ _ (kept-more _ _ _ _ room own) (put .put-row .ensures) in (
       done .work-at .ensures .0
-          ∙ finish-set _ (columns s) (rows s) (s .levels) (p .level - 1) n (p .band) _ _ (start .pre .3) (not-false _ (set .if2 .left))
-          ∙ ap (λ y. finished _ (columns s) (rows s) (s .levels) (p .level - 1) n (p .band) y) (put .put-row .ensures)
+          ∙ finish-set (s .filter) (columns s) (rows s) (s .levels) (p .level - 1) n (p .band) _ _ (start .pre .3) (not-false _ (set .if2 .left))
+          ∙ ap (λ y. finished (s .filter) (columns s) (rows s) (s .levels) (p .level - 1) n (p .band) y) (put .put-row .ensures)
           ∙ feed-on s p due _ _ _ n (omega arith) (start .pre .1 .set (start .pre .2)) settled,
       kept-both _ _ _ _ (kept-both _ _ _ _ (call .settle .ensures .1) fed) (done .work-at .ensures .1),
     )

@@ -40,8 +40,13 @@ returns c =
     let at = level .level-at .ensures .level in
     let n = row .first-row .result + level .level-at .result .y % 2 in
     let small : n ≤ 2 ^ 32 =
-    omega (arith, row .first-row .ensures, row-in (start .args .filter) (side (l .y) (l .height)) (l .set), level-in _ _ _ _ _ l is (omega arith) (omega arith) .2) in
-    let first = row .first-row .ensures ∙ ap (λ (S : Side). firstRow _ S (l .set)) (level-high _ _ _ _ _ l is) in (
+    omega (
+      arith,
+      row .first-row .ensures,
+      row-in (a .filter) (side (l .y) (l .height)) (l .set),
+      level-in _ _ _ _ _ l is (omega arith) (omega arith) .2,
+    ) in
+    let first = row .first-row .ensures ∙ ap (λ (S : Side). firstRow (a .filter) S (l .set)) (level-high _ _ _ _ _ l is) in (
       set-level (a .filter) (side (a .x) (a .width)) (side (a .y) (a .height)) (a .drawn) (a .k - 1) n (level .level-at .result) (c .at-set .result) small at
           (c .at-set .ensures),
       c .at-set .ensures .5 ∙ waiting-is (a .filter) (side (a .y) (a .height)) (a .k) (l .set) _ _ (start .pre .2) first (at .y),
