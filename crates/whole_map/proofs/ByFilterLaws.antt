@@ -95,17 +95,7 @@ unfolding filterOf
 back-nine-seven zero d m = absurd (d refl)
 back-nine-seven (suc f) d m = m
 
-pub range-five-three : (f k : ℕ) (r : ℤ) → f ≡ 0 → k ≤ filterOf f .levels → r ≡ pos (range fiveThreeFilter (min k maxLevels)) → r ≡ pos (range (filterOf f) k)
-unfolding filterOf maxLevels
-range-five-three zero k r e b is = let m : min k 5 ≡ k = omega arith in is ∙ ap (λ (i : ℕ). pos (range fiveThreeFilter i)) m
-range-five-three (suc f) k r e b is = absurd (omega arith)
-
-pub range-nine-seven : (f k : ℕ) (r : ℤ) → (f ≡ 0 → ⊥) → r ≡ pos (range nineSevenFilter k) → r ≡ pos (range (filterOf f) k)
-unfolding filterOf
-range-nine-seven zero k r d is = absurd (d refl)
-range-nine-seven (suc f) k r d is = is
-
-pub nine-seven-few : (f k : ℕ) → (f ≡ 0 → ⊥) → k ≤ filterOf f .levels → k ≤ nineSevenFilter .levels
-unfolding filterOf
-nine-seven-few zero k d b = absurd (d refl)
-nine-seven-few (suc f) k d b = b
+pub range-at : (f k : ℕ) (r : ℤ) → k ≤ filterOf f .levels → r ≡ pos (range (filterOf f) (min k (filterOf f .levels))) → r ≡ pos (range (filterOf f) k)
+range-at f k r b is =
+    let m : min k (filterOf f .levels) ≡ k = omega arith in
+    is ∙ ap (λ (i : ℕ). pos (range (filterOf f) i)) m
