@@ -1,7 +1,7 @@
 -- The questions of the sizes for each filter. Assumes nothing.
-use mathlib.Core.Path.{_≡_, refl, sym, _∙_}
+use mathlib.Core.Path.{_≡_, refl, sym, ap, _∙_}
 use mathlib.Core.Bool.{Bool, true, false}
-use Prim.Native.Nat.{ℕ, zero, suc, _*_, _≤_, _<_}
+use Prim.Native.Nat.{ℕ, _*_, _≤_, _<_}
 use native.Mathlib.Omega.{arith}
 use lib.Dec.{leb}
 use borrow.Author.Tests.{leb-true, le-leb, lt-leb}
@@ -62,7 +62,7 @@ on true false d e g x h = refl
 on false b d e g x h = refl
 
 -- question 5
-unfoldable pub roomy : ℕ → ℕ → ℕ → ℕ → ℕ → Bool
+unfoldable roomy : ℕ → ℕ → ℕ → ℕ → ℕ → Bool
 roomy W H a b c = both (leb (W * H) a) (both (leb (W * H) b) (leb (W * H) c))
 
 -- all of them answered yes
@@ -89,9 +89,11 @@ module _ (f W H L : ℕ) where
       unfolding shapeQuestions
       unknown d = rw (a, b, d)
 
-      pub four : (l : Bool) → isFilter f ≡ true → within 1 (filterOf f .levels) L ≡ l → ask l 4 0 ≡ shapeQuestions f W H L 0
+      pub four : (l : Bool) (most : ℕ) → isFilter f ≡ true → most ≡ filterOf f .levels → within 1 most L ≡ l → ask l 4 0 ≡ shapeQuestions f W H L 0
       unfolding shapeQuestions
-      four l d e = rw (a, b, d, e)
+      four l most d m e =
+          let n = ap (λ (k : ℕ). within 1 k L) (sym m) ∙ e in
+          rw (a, b, d, n)
 
   pub shaped : shapeQuestions f W H L 0 ≡ 0 → Sized W H L × (L ≤ filterOf f .levels)
   unfolding shapeQuestions
@@ -174,9 +176,9 @@ module _ (f W H L : ℕ) where
     asked-on x e = let p = passes 0 e in shape-yes _ (p .0) ∙ simp (p .1)
 
     pub asked-no : (x : ℕ) → (sizes 0 ≡ 0 → ⊥) → sizes x ≡ sizes 0
-    unfolding sizeQuestions shapeQuestions
-    asked-no x h = on (within 1 maxWidth W) (within 1 maxHeight H) (isFilter f) (within 1 (filterOf f .levels) L) _ x h
+    unfolding sizeQuestions shapeQuestions roomy
+    asked-no x h = on (within 1 maxWidth W) (within 1 maxHeight H) (isFilter f) (within 1 (filterOf f .levels) L) (roomy W H a b c) x h
 
     pub never-fourteen : sizes 0 ≡ 14 → ⊥
-    unfolding sizeQuestions shapeQuestions
-    never-fourteen h = never (within 1 maxWidth W) (within 1 maxHeight H) (isFilter f) (within 1 (filterOf f .levels) L) _ h
+    unfolding sizeQuestions shapeQuestions roomy
+    never-fourteen h = never (within 1 maxWidth W) (within 1 maxHeight H) (isFilter f) (within 1 (filterOf f .levels) L) (roomy W H a b c) h
