@@ -22,9 +22,9 @@ use Rattle.samples.specs.Samples.{also}
 pub samples-hold : AllHold table
 unfolding values listed lineForward lowAt highAt before after half place mirror predicted updated count planeOf planeCell inCorner flat cells subband
     columnsLifted across down bandOf halfAt placeIn bandRow bandColumns next sideAt approximation levelBand handedOut firstSet lastSet setRow setHas rowsOf
-    setRows madeBy unmade closing inTurn made feedAll setTo setOf setsBefore rowSteps setSteps steps bandRowsOf backwardQuestion sizeQuestions shapeQuestions planeQuestions
-    isFilter filterOf within maxWidth maxHeight maxSample range inRange rebuiltFits everyCell every valueFits levelAt planeBands mapBack levelBack levelHas rowsHave
-    columnsHave rowsUnlifted lineBack lineHalvesBack joined evenAt oddAt hasLine loneHigh isEven unupdated unpredicted wrap32
+    setRows madeBy unmade closing inTurn made feedAll setTo setOf setsBefore rowSteps setSteps steps bandRowsOf backwardQuestion sizeQuestions shapeQuestions
+    planeQuestions isFilter filterOf within maxWidth maxHeight maxSample range inRange rebuiltFits everyCell every valueFits levelAt planeBands mapBack
+    levelBack levelHas rowsHave columnsHave rowsUnlifted lineBack lineHalvesBack joined evenAt oddAt hasLine loneHigh isEven unupdated unpredicted wrap32
 samples-hold =
     also (holds-line refl refl)
     (also (holds-line refl refl)
@@ -42,9 +42,9 @@ samples-hold =
 pub odd-samples-hold : AllHold oddTable
 unfolding values listed lineForward lowAt highAt before after half place mirror predicted updated count planeOf planeCell inCorner flat cells subband
     columnsLifted across down bandOf halfAt placeIn bandRow bandColumns next sideAt approximation levelBand handedOut firstSet lastSet setRow setHas rowsOf
-    setRows madeBy unmade closing inTurn made feedAll setTo setOf setsBefore rowSteps setSteps steps bandRowsOf backwardQuestion sizeQuestions shapeQuestions planeQuestions
-    isFilter filterOf within maxWidth maxHeight maxSample range inRange rebuiltFits everyCell every valueFits levelAt planeBands mapBack levelBack levelHas rowsHave
-    columnsHave rowsUnlifted lineBack lineHalvesBack joined evenAt oddAt hasLine loneHigh isEven unupdated unpredicted wrap32
+    setRows madeBy unmade closing inTurn made feedAll setTo setOf setsBefore rowSteps setSteps steps bandRowsOf backwardQuestion sizeQuestions shapeQuestions
+    planeQuestions isFilter filterOf within maxWidth maxHeight maxSample range inRange rebuiltFits everyCell every valueFits levelAt planeBands mapBack
+    levelBack levelHas rowsHave columnsHave rowsUnlifted lineBack lineHalvesBack joined evenAt oddAt hasLine loneHigh isEven unupdated unpredicted wrap32
 odd-samples-hold =
     also (holds-line refl refl)
     (also (holds-line refl refl)

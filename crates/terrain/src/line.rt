@@ -53,7 +53,8 @@ pub extern "C" fn terrain_ccsds_line_backward(
         (pick (hasLineIn (side start (length (now (coefficients .entry)))) (at (now (coefficients .entry)))) 0 14) 5 ⌝ }
     ensures { λ r. ⌜ at (now (out .exit)) ≡ pick (both (leb (length (now (coefficients .entry))) (length (now (out .entry))))
         (hasLineIn (side start (length (now (coefficients .entry)))) (at (now (coefficients .entry)))))
-        (ccsdsBackwardInto (side start (length (now (coefficients .entry)))) (at (now (coefficients .entry))) (at (now (out .entry)))) (at (now (out .entry))) ⌝ }
+        (ccsdsBackwardInto (side start (length (now (coefficients .entry)))) (at (now (coefficients .entry))) (at (now (out .entry))))
+        (at (now (out .entry))) ⌝ }
 {
     ccsds::backward(coefficients, start, out) as u32
 }

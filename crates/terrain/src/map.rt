@@ -23,8 +23,8 @@ pub extern "C" fn terrain_map_forward(
     plane: &mut [i32],
     work: &mut [i32],
 ) -> u32
-    ensures { λ r. ⌜ r ≡ forwardQuestion (shape .filter) (columns shape) (rows shape) (shape .levels) (length (now (heights .entry))) (length (now (plane .entry)))
-        (length (now (work .entry))) ⌝ }
+    ensures { λ r. ⌜ r ≡ forwardQuestion (shape .filter) (columns shape) (rows shape) (shape .levels) (length (now (heights .entry)))
+        (length (now (plane .entry))) (length (now (work .entry))) ⌝ }
     ensures { λ r. ⌜ at (now (plane .exit)) ≡ passed r (shape .width * shape .height)
         (planeOf (filterOf (shape .filter)) whole (shape .levels) (columns shape) (rows shape) (cells (shape .width) (heightsAt (now (heights .entry)))))
         (at (now (plane .entry))) ⌝ }
@@ -41,8 +41,8 @@ pub extern "C" fn terrain_map_backward(
     heights: &mut [u16],
     work: &mut [i32],
 ) -> u32
-    ensures { λ r. ⌜ r ≡ backwardQuestion (shape .filter) (columns shape) (rows shape) (shape .levels) (length (now (plane .entry))) (length (now (heights .entry)))
-        (length (now (work .entry))) (cells (shape .width) (at (now (plane .entry)))) ⌝ }
+    ensures { λ r. ⌜ r ≡ backwardQuestion (shape .filter) (columns shape) (rows shape) (shape .levels) (length (now (plane .entry)))
+        (length (now (heights .entry))) (length (now (work .entry))) (cells (shape .width) (at (now (plane .entry)))) ⌝ }
     ensures { λ r. ⌜ heightsAt (now (heights .exit)) ≡ rebuilt r (shape .width * shape .height)
         (flat (shape .width) (mapBack (filterOf (shape .filter)) wrap32 (shape .levels) (columns shape) (rows shape)
         (cells (shape .width) (at (now (plane .entry))))))
