@@ -19,13 +19,9 @@ use Rattle.nine_seven_making.proofs.LevelLaws.{nine-seven-laws}
 use Rattle.filters.specs.Forward.{kindOf, heldOf, endedOf, delivered, heightsPut}
 
 pub laws-of : (f : ℕ) → LevelLaws (kindOf f) (heldOf f) (endedOf f)
+unfolding filterOf
 laws-of zero = five-three-laws
 laws-of (suc f) = nine-seven-laws
-
-pub kind-filter : (f : ℕ) → kindOf f .filter ≡ filterOf f
-unfolding filterOf
-kind-filter zero = refl
-kind-filter (suc f) = refl
 
 -- ---- by what a level is to the streams: a height more, and the LL row passed on
 pub height-more : (f : ℕ) (W : Side) (s m c n : ℕ) (h x : ℕ → ℤ)
@@ -41,7 +37,7 @@ height-none (suc f) W q c h x = refl
 
 pub passed-on : (f : ℕ) (W : Side) (s n t m : ℕ) (x : Memory) → delivered f W n (t % 2 + m) x
     ≡ joinAt (kindOf f .stretch W) x (kindOf f .put (next W) t m (λ i. x (kindOf f .place W s n LL + i)) (rest (kindOf f .stretch W) x))
-unfolding delivered five-making.delivered nine-making.delivered
+unfolding filterOf delivered five-making.delivered nine-making.delivered
 passed-on zero W s n t m x = refl
 passed-on (suc f) W s n t m x = refl
 
