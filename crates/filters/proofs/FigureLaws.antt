@@ -18,16 +18,27 @@ use Rattle.wavelet.proofs.StoreLaws.{store-is, widths-le}
 use Rattle.nine_seven.specs.Filters.{filterOf, isFilter}
 use Rattle.filters.specs.Figures.{storeBy, anyBy, streamable}
 
--- no filter has more levels than the limit, or many rows
+-- no filter has more levels than the limit, or many rows, or looks far ahead
 pub levels-most : (f : ℕ) → filterOf f .levels ≤ maxLevels
 unfolding filterOf maxLevels
 levels-most zero = omega arith
 levels-most (suc f) = omega arith
 
-pub rows-few : (f : ℕ) → filterOf f .rows < 2 ^ 16
+pub rows-few : (f : ℕ) → filterOf f .rows < 2 ^ 8
 unfolding filterOf
 rows-few zero = omega arith
 rows-few (suc f) = omega arith
+
+pub ahead-few : (f : ℕ) → filterOf f .ahead < 2 ^ 8
+unfolding filterOf
+ahead-few zero = omega arith
+ahead-few (suc f) = omega arith
+
+-- the store of few columns and levels is far from what a number holds
+pub store-small : (f : ℕ) (W : Side) (L : ℕ) → W .length < 2 ^ 16 → L < 2 ^ 16 → storeBy f W L < 2 ^ 32
+store-small f W L w l =
+    let p = mul-le-mul {n₁ = filterOf f .rows} {m₁ = widths W L} {n₂ = 2 ^ 8} {m₂ = 2 ^ 18} (omega (arith, rows-few f)) (omega (arith, widths-le W L)) in
+    omega (arith, store-is (filterOf f .rows) W L, p)
 
 -- ---- the code's product fits a word
 picked : (b : Bool) (v : ℕ) → (b ≡ true → v < 2 ^ 32) → pick b v 0 < 2 ^ 32
