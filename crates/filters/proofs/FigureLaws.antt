@@ -34,6 +34,19 @@ unfolding filterOf
 ahead-few zero = omega arith
 ahead-few (suc f) = omega arith
 
+-- the sizes of a stream
+pub record Streams (f : ℕ) (W : Side) (L : ℕ) : Type 0 where
+  pub known : isFilter f ≡ true
+  pub width : (1 ≤ W .length) × (W .length ≤ maxWidth)
+  pub levels : (1 ≤ L) × (L ≤ filterOf f .levels)
+
+pub streams : (f : ℕ) (W : Side) (L : ℕ) → streamable f W L ≡ true → Streams f W L
+unfolding streamable
+streams f W L e =
+    let a = tests.both (isFilter f) _ e in
+    let b = tests.both (within 1 maxWidth (W .length)) _ (a .1) in
+    record { known = a .0; width = within-true 1 maxWidth _ (b .0); levels = within-true 1 (filterOf f .levels) _ (b .1) }
+
 -- the store of few columns and levels is far from what a number holds
 pub store-small : (f : ℕ) (W : Side) (L : ℕ) → W .length < 2 ^ 16 → L < 2 ^ 16 → storeBy f W L < 2 ^ 32
 store-small f W L w l =
