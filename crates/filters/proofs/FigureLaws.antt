@@ -24,7 +24,7 @@ unfolding filterOf maxLevels
 levels-most zero = omega arith
 levels-most (suc f) = omega arith
 
-pub rows-few : (f : ℕ) → filterOf f .rows < 2 ^ 8
+rows-few : (f : ℕ) → filterOf f .rows < 2 ^ 8
 unfolding filterOf
 rows-few zero = omega arith
 rows-few (suc f) = omega arith
@@ -47,7 +47,17 @@ streams f W L e =
     let b = tests.both (within 1 maxWidth (W .length)) _ (a .1) in
     record { known = a .0; width = within-true 1 maxWidth _ (b .0); levels = within-true 1 (filterOf f .levels) _ (b .1) }
 
--- the store of few columns and levels is far from what a number holds
+-- few columns and levels are far from what a number holds: the steps of the closing, a stretch, and the store
+pub steps-small : (f l : ℕ) → l < 2 ^ 16 → filterOf f .ahead * l < 2 ^ 32
+steps-small f l h =
+    let p = mul-le-mul {n₁ = filterOf f .ahead} {m₁ = l} {n₂ = 2 ^ 8} {m₂ = 2 ^ 16} (omega (arith, ahead-few f)) (omega arith) in
+    omega (arith, p)
+
+pub stretch-small : (f w : ℕ) → w < 2 ^ 16 → filterOf f .rows * w < 2 ^ 32
+stretch-small f w h =
+    let p = mul-le-mul {n₁ = filterOf f .rows} {m₁ = w} {n₂ = 2 ^ 8} {m₂ = 2 ^ 16} (omega (arith, rows-few f)) (omega arith) in
+    omega (arith, p)
+
 pub store-small : (f : ℕ) (W : Side) (L : ℕ) → W .length < 2 ^ 16 → L < 2 ^ 16 → storeBy f W L < 2 ^ 32
 store-small f W L w l =
     let p = mul-le-mul {n₁ = filterOf f .rows} {m₁ = widths W L} {n₂ = 2 ^ 8} {m₂ = 2 ^ 18} (omega (arith, rows-few f)) (omega (arith, widths-le W L)) in

@@ -270,7 +270,7 @@ module _ (φ : ℕ) where
     unfolding pullAt
     pull-is x p j ep ej = cc
 
-module _ (s : Writer) (r : Level) (f : Reaches (s .filter) (s .levels) (columnsOf s) (s .y) (s .closed) (s .level) (s .rows) r) 
+module _ (s : Writer) (r : Level) (f : Reaches (s .filter) (s .levels) (columnsOf s) (s .y) (s .closed) (s .level) (s .rows) r)
     (placed : s .offset ≡ startOf (s .filter) (columnsOf s) (s .level)) where
   row-is : waitingRow s ≡ waitingAt (s .filter) (s .level) (s .offset) r (s .left)
   row-is = f .waits (s .left) ∙ ap (λ (a : ℕ). waitingAt (s .filter) (s .level) a r (s .left)) (sym placed)
