@@ -137,7 +137,8 @@ module _ (s : Writer) (n q : ℕ) (x : Memory) (e : q ≡ finishQuestion s n) wh
   unfolding finishReply finishStore
   finish-no h = rw (← e) (unless-no q _ h, changed-no q _ x h)
 
-  pub finish-yes : (r : Closure) (y : Memory) → q ≡ 0 → Closed (s .filter) (s .levels) (columnsOf s) (shut (kind s) (s .levels) (columnsOf s) (s .y) 0 (s .rows) x) r y →
+  pub finish-yes : (r : Closure) (y : Memory) → q ≡ 0 →
+      Closed (s .filter) (s .levels) (columnsOf s) (shut (kind s) (s .levels) (columnsOf s) (s .y) 0 (s .rows) x) r y →
       (gives (record {
         x = s .x;
         y = s .y;

@@ -265,7 +265,8 @@ module _ (φ : ℕ) where
       abbrev o : Out
       o = arrive K L W top r x′
 
-      made-next : (names : List RowName) → names ++ coming L W top false cl v i r ≡ made A W top L r false → (todo : List RowName) → todo ≡ madeBy A L 1 W top r →
+      made-next : (names : List RowName) → names ++ coming L W top false cl v i r ≡ made A W top L r false → (todo : List RowName) →
+          todo ≡ madeBy A L 1 W top r →
           names ++ todo ≡ made A W top L (r + 1) false
       unfolding made
       made-next names e todo q =
@@ -493,7 +494,8 @@ module _ (φ : ℕ) where
                 ∙ ap (λ m. later A L 1 W (side top m) cl) (sym ended)
                 ∙ ap (λ l. l ++ later A L 1 W (side top r) cl)
                 (sym (sym (P .good .rows) ∙ ap (λ b. pend A L 1 W top cl b (out .left) r) y ∙ pend-none A L 1 W top cl (out .left) r)))
-            go (suc b) y = unfold resumed in (coming-closed L W top cl (out .level) (out .left) r ∙ ap (λ l. l ++ later A L 1 W (side top r) cl) (P .good .rows))
+            go (suc b) y = unfold resumed in (coming-closed L W top cl (out .level) (out .left) r
+                ∙ ap (λ l. l ++ later A L 1 W (side top r) cl) (P .good .rows))
 
         drawn-sound : (z : ℕ → ℤ) → ((j : ℕ) → j < q .length → z j ≡ x (q .start + j)) →
             Sound L W top H g f (ds ++ (record { row = bandRow q; values = z } ∷ [])) r c (left .closed) (left .out .level) (left .out .left) (left .out .store)

@@ -214,7 +214,8 @@ offer-keeps s n run x = record { keeps = λ H g t h. go H g h (offerQuestion s n
         subst (λ t. GoesOn t run (offering (kind t) run t x .taken) H g → Holds H g t x → Holds H g (offering (kind t) run t x .writer)
         (offering (kind t) run t x .store))
         (sym (placed-st s (h .placed)))
-        (passed (s .filter) H g (columnsOf s) (s .y) (s .levels) (s .rows) (s .column) (s .finished) (s .closed) (s .level) (s .left) (offer-may s n (length run) z .0)
+        (passed (s .filter) H g (columnsOf s) (s .y) (s .levels) (s .rows) (s .column) (s .finished) (s .closed) (s .level) (s .left)
+        (offer-may s n (length run) z .0)
         (y .levels .0)
         (y .column)) m h
     go H g h (suc q) z m = h

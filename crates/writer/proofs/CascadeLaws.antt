@@ -58,7 +58,8 @@ module _ (φ : ℕ) where
 
   -- ---- what a step leaves
   pub left-still : (l : ℕ) (w : Side) (o : Out) (r : Wait) (x : Memory) → r ≡ noWait → o ≡ still x → Left φ l w o r x
-  left-still l w o r x d e = rw (d, e) (record { level = refl; left = refl; offset = sym (start-first φ w 0 (omega arith)); store = refl; within = omega arith })
+  left-still l w o r x d e = rw (d, e)
+      (record { level = refl; left = refl; offset = sym (start-first φ w 0 (omega arith)); store = refl; within = omega arith })
 
   pub left-waits : (l : ℕ) (w : Side) (i : ℕ) (o : Out) (x : Memory) → 0 < l → o ≡ record { store = x; level = 1; left = i } →
       Left φ l w o (record { level = 1; left = i; offset = 0 }) x

@@ -18,7 +18,7 @@ use Rattle.level.proofs.Places.{prev-is}
 use Rattle.filters.proofs.FigureLaws.{store-small}
 use Rattle.writer.specs.Counts.{deeper, deeperBy, further, made, most, mostLeft, bandAt, skip, startOf}
 use lib.Dec.{ltb, leb, eqb}
-use borrow.Author.Tests.{lt-ltb, le-ltb, le-leb, lt-leb, eq-eqb, ne-eqb, eqb-true, ltb-true, leb-true}
+use borrow.Author.Tests.{lt-ltb, le-ltb, le-leb, lt-leb, eq-eqb, eqb-true, ltb-true, leb-true}
 use Rattle.numbers.specs.Signal.{both, pick}
 use Rattle.numbers.proofs.Sweep as sweep
 

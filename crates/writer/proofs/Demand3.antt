@@ -100,7 +100,8 @@ pub height-range : (h : ℕ) → h ≤ maxSample → (pos 0 ≤ℤ pos h) × (po
 height-range h p = (record { le = le→leb 0 h (omega arith) }, record { le = le→leb h maxSample p })
 
 -- the rows made so far are the first of all
-made-prefix : (φ : ℕ) (W : Side) (top L H r : ℕ) → r ≤ H → (k : List RowName) × (made (filterOf φ .ahead) W top L r false ++ k ≡ made (filterOf φ .ahead) W top L H true)
+made-prefix : (φ : ℕ) (W : Side) (top L H r : ℕ) → r ≤ H →
+    (k : List RowName) × (made (filterOf φ .ahead) W top L r false ++ k ≡ made (filterOf φ .ahead) W top L H true)
 unfolding made
 made-prefix φ W top L H r h =
     let q = turn-prefix H r (madeBy (filterOf φ .ahead) L 1 W top) h in (
@@ -184,7 +185,8 @@ module _ (φ l : ℕ) (W : Side) (top : ℕ) (from : W .start ≤ maxOrigin) (lo
     },
   )
 
-  early : (H : ℕ) (g : Grid) → Begins W H g es → All (HasValues φ W top H g) (take (length (made (filterOf φ .ahead) W top M (wholeRows W es) false)) (drawn es))
+  early : (H : ℕ) (g : Grid) → Begins W H g es →
+      All (HasValues φ W top H g) (take (length (made (filterOf φ .ahead) W top M (wholeRows W es) false)) (drawn es))
   early H g m =
       subst (λ k. All (HasValues φ W top H g) (take (length (made (filterOf φ .ahead) W top M k false)) (drawn es))) (sym rows-here)
       (all-map (right-values φ M W top H g few es m) (go g₀ refl a))

@@ -177,7 +177,8 @@ module _ (φ : ℕ) where
         let q : R * w .length + (a + d) ≡ startOf φ w v + d = omega (arith, start-more φ w v g) in
         rw (e, q) refl
 
-    pull-more : (x : Memory) → under (R * w .length) x (pullAt φ (v - 1) (startOf φ (next w) (v - 1)) r i (rest (R * w .length) x)) ≡ pullAt φ v (startOf φ w v) r i x
+    pull-more : (x : Memory) → under (R * w .length) x (pullAt φ (v - 1) (startOf φ (next w) (v - 1)) r i (rest (R * w .length) x))
+        ≡ pullAt φ v (startOf φ w v) r i x
     unfolding pullAt
     pull-more x =
         from-under (prev (v - 1)) (R * w .length) (startOf φ (next w) (v - 1)) x _
@@ -234,7 +235,8 @@ module _ (φ : ℕ) where
         record { first = h .first; last = omega arith; wide = h .wide; rows = h .rows; found = λ r f. rw e at f }
 
     module _ (u : Side) (t b n k : ℕ) (d : v ≤ l) (h : Walked u t b n k) where
-      pub walk-on : (u′ : Side) (t′ b′ n′ : ℕ) → 1 < k → u′ ≡ next u → t′ ≡ (t + 1) / 2 → b′ ≡ b - A → n′ ≡ lowRows t (made A b t n) → Walked u′ t′ b′ n′ (k - 1)
+      pub walk-on : (u′ : Side) (t′ b′ n′ : ℕ) → 1 < k → u′ ≡ next u → t′ ≡ (t + 1) / 2 → b′ ≡ b - A → n′ ≡ lowRows t (made A b t n) →
+          Walked u′ t′ b′ n′ (k - 1)
       walk-on u′ t′ b′ n′ g eu et eb en =
           let below : (r : Level) → Reaches φ (l - (v - (k - 1))) u′ t′ b′ (k - 1) n′ r → Reaches φ l w s c v m r =
           λ r f.
@@ -276,7 +278,8 @@ module _ (s : Writer) (r : Level) (f : Reaches (s .filter) (s .levels) (columnsO
   row-is = f .waits (s .left) ∙ ap (λ (a : ℕ). waitingAt (s .filter) (s .level) a r (s .left)) (sym placed)
 
   pub found : (i b n d p : ℕ) → 0 < s .level → i ≡ prev (s .left) → b ≡ code (bandAt i) → n ≡ setRow (received r) (bandAt i) (r .set) →
-      d ≡ count (across (bandAt i)) (columns r) → p ≡ kind s .place (columns r) (r .y) (r .set) (bandAt i) → Found (s .filter) (s .levels) (columnsOf s) (waitingRow s)
+      d ≡ count (across (bandAt i)) (columns r) → p ≡ kind s .place (columns r) (r .y) (r .set) (bandAt i) →
+      Found (s .filter) (s .levels) (columnsOf s) (waitingRow s)
       (record { level = s .level; band = b; row = n; length = d; start = s .offset + p })
   found i b n d p h ei eb en ed ep =
       let q = place-room (s .filter) (columns r) (r .y) (r .set) (bandAt i) in
@@ -295,7 +298,8 @@ module _ (s : Writer) (r : Level) (f : Reaches (s .filter) (s .levels) (columnsO
         ∙ pull-is (s .filter) (s .level) (s .offset) r (s .left) x p i ep ei
 
     -- the next band of the set waits
-    pub pull-waits : 0 < s .level → 0 < i → Left (s .filter) (s .levels) (columnsOf s) (pulled s x) (record { level = s .level; left = i; offset = s .offset }) x
+    pub pull-waits : 0 < s .level → 0 < i →
+        Left (s .filter) (s .levels) (columnsOf s) (pulled s x) (record { level = s .level; left = i; offset = s .offset }) x
     pull-waits h g =
         let q = settled-waits (passOn (kind s) (r .below) (columns r) (r .y)) (r .set) i (rest (s .offset) x) g in
         let v : 1 + prev (s .level) ≡ s .level = omega (arith, prev-is (s .level)) in

@@ -290,7 +290,8 @@ sound-taker s l f =
     }
 
 -- ---- what a stretch leaves
-module _ (s : Writer) (run : List ℕ) (k n : ℕ) (x y : Memory) (l : ℕ) (t : Taker s l) (e : y ≡ heightsPut (s .filter) (columnsOf s) (s .y % 2 + s .rows) (s .column) n
+module _ (s : Writer) (run : List ℕ) (k n : ℕ) (x y : Memory) (l : ℕ) (t : Taker s l)
+    (e : y ≡ heightsPut (s .filter) (columnsOf s) (s .y % 2 + s .rows) (s .column) n
     (λ j. heightAt run (k + j)) x) where
   pub stretched-inside : s .column + n < s .width → Stretched s run k n x (atColumn s (s .column + n)) y l
   stretched-inside h = record { inside = λ g. (refl, e); whole = λ g. absurd (omega arith); taker = record { room = t .room; column = h; deep = t .deep } }

@@ -172,8 +172,10 @@ list-final (k ∷ cs) w = ap (final cs) (call-next (w .writer) (w .length) (w .s
 fresh-carries : (f : ℕ) (W : Side) (top L n : ℕ) (x : Memory) → freshWorld f W top L n x ≡ carries (before.freshWorld f W top L n x)
 fresh-carries f W top L n x = ap (λ s. record { writer = s; length = n; store = setUpStore f W L n x }) (fresh-st f W top L)
 
--- ---- the theorems: of a set-up of the filter of number f, the columns W, rows that start at `top`, and L levels on a store of n numbers in which x stood, and any list of calls
-pub same-events : (f : ℕ) (W : Side) (top L n : ℕ) (x : Memory) (cs : List Call) → events cs (freshWorld f W top L n x) ≡ before.events cs (before.freshWorld f W top L n x)
+-- ---- the theorems: of a set-up of the filter of number f, the columns W, rows that start at `top`, and L levels on a store of n numbers in which x stood,
+-- and any list of calls
+pub same-events : (f : ℕ) (W : Side) (top L n : ℕ) (x : Memory) (cs : List Call) →
+    events cs (freshWorld f W top L n x) ≡ before.events cs (before.freshWorld f W top L n x)
 same-events f W top L n x cs = ap (events cs) (fresh-carries f W top L n x) ∙ list-events cs (before.freshWorld f W top L n x)
 
 same-final : (f : ℕ) (W : Side) (top L n : ℕ) (x : Memory) (cs : List Call) →

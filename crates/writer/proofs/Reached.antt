@@ -225,7 +225,8 @@ module _ (φ l : ℕ) (W : Side) (top : ℕ) (from : W .start ≤ maxOrigin) (lo
         subst₂ (λ d g. Reached (es ++ d ∷ []) g) (sym (p .0)) (sym (p .1))
         (more es (finished (gives tt)) true n r c (k .closed) (k .out .level) (k .out .left) (k .out .store) long (done f)
         (subst₂ (λ d g. At φ L W top d true g r c (k .closed) (k .out .level) (k .out .left) (k .out .store)) (sym (append-nil _)) (sym (append-nil _))
-        (finish-good φ l W top (drawn es) (taken es) r c cl v i x (subst (λ b. At φ L W top (taken es) b (drawn es) r c cl v i x) (m .0) a) (m .1) (m .2) (m .3))))
+        (finish-good φ l W top (drawn es) (taken es) r c cl v i x (subst (λ b. At φ L W top (taken es) b (drawn es) r c cl v i x) (m .0) a)
+        (m .1) (m .2) (m .3))))
       where
         done : (b : Bool) → either b true ≡ true
         done true = refl

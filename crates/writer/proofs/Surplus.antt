@@ -122,7 +122,8 @@ module _ (φ : ℕ) where
 
       go : (t : Bool) → pick t (settled (passOn K l w s) n (K .close w (side s m) n x) (skip w (side s m) n (most l))) (still x) .store j ≡ x j
       go true =
-          settle-past l (arrive-past l) w s n x _ (λ i q. laws .close-past w (side s m) n x i (omega (arith, store-below R w l))) (skip w (side s m) n (most l)) j p
+          settle-past l (arrive-past l) w s n x _ (λ i q. laws .close-past w (side s m) n x i (omega (arith, store-below R w l)))
+          (skip w (side s m) n (most l)) j p
       go false = refl
 
   level-past : (f l : ℕ) (w : Side) (s c m : ℕ) (x : Memory) → Past (storeBy φ w (suc l)) x (closeLevel K f l w s c m x .out .store)

@@ -2,7 +2,7 @@
 -- It is the reference of `same-events` and `same-store` (proofs/Offset.antt); no contract cites it.
 use mathlib.Core.Bool.{Bool, true, false, not}
 use mathlib.Core.List.{List, [], _∷_}
-use Prim.Native.Nat.{ℕ, zero, suc, _+_, _*_, _%_}
+use Prim.Native.Nat.{ℕ, zero, suc, _+_, _*_}
 use lib.IntN.{pos}
 use lib.ListN.{length}
 use lib.Dec.{leb, ltb, eqb}

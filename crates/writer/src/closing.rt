@@ -79,7 +79,8 @@ fn close_level(
     m: usize,
 ) -> Closure
     requires { ⌜ Room filter (l + 1) (side x w) m (length (now store)) ⌝ }
-    ensures { λ r. ⌜ LevelClosed filter (l + 1) (side x w) (closeLevel (kindOf filter) (filterOf filter .ahead - c) l (side x w) y c m (at (now (store .entry)))) r
+    ensures { λ r. ⌜ LevelClosed filter (l + 1) (side x w)
+        (closeLevel (kindOf filter) (filterOf filter .ahead - c) l (side x w) y c m (at (now (store .entry)))) r
         (at (now (store .exit))) ⌝ }
 {
     let a = figures::look_ahead(filter);

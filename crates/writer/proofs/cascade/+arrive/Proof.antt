@@ -269,7 +269,8 @@ arrive-further-requires t c κs =
     let v = c .before .before .before .before .low-count in
     let e : st .stretch .result ≡ filterOf (a .filter) .rows * a .w = st .stretch .ensures in
     let b =
-    left-small (a .filter) (a .l - 1) (side _ (v .result)) _ _ _ (omega (arith, start .pre, v .ensures, count-lo (side (a .x) (a .w)))) (omega (arith, start .pre))
+    left-small (a .filter) (a .l - 1) (side _ (v .result)) _ _ _ (omega (arith, start .pre, v .ensures, count-lo (side (a .x) (a .w))))
+    (omega (arith, start .pre))
     (c .before .before .arrive .ensures) in
     omega (arith, e, stretch-small (a .filter) (a .w) (omega (arith, start .pre)))
 

@@ -186,7 +186,8 @@ shut-further-requires t c κs =
     let v = below .before .before .before .before .before .low-count in
     let e : st .stretch .result ≡ filterOf (a .filter) .rows * a .w = st .stretch .ensures in
     let o =
-    closed-small (a .filter) (a .l - 1) (side _ (v .result)) _ _ _ (omega (arith, start .pre, v .ensures, count-lo (side (a .x) (a .w)))) (omega (arith, start .pre))
+    closed-small (a .filter) (a .l - 1) (side _ (v .result)) _ _ _ (omega (arith, start .pre, v .ensures, count-lo (side (a .x) (a .w))))
+    (omega (arith, start .pre))
     (below .shut .ensures) in
     omega (arith, e, stretch-small (a .filter) (a .w) (omega (arith, start .pre)))
 

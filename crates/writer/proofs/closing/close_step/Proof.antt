@@ -27,7 +27,8 @@ returns c =
     let left = c .before .before in
     let a = left .before .before .args in
     left-still (a .filter) (a .l + 1) (side (a .x) (a .w)) _ _ _ (c .nothing .ensures)
-    (step-none (a .filter) (a .l) (side (a .x) (a .w)) (a .y) (a .c) (a .m) _ _ (left .before .made .ensures) _ (left .is-left .ensures) (c .before .if1 .taken))
+    (step-none (a .filter) (a .l) (side (a .x) (a .w)) (a .y) (a .c) (a .m) _ _ (left .before .made .ensures) _ (left .is-left .ensures)
+    (c .before .if1 .taken))
 
 close-requires : tie.Need-close-requires
 close-requires c κs = tt
@@ -49,7 +50,8 @@ returns-2 c =
     let a = left .before .before .args in
     step-waits (a .filter) (a .l) (side (a .x) (a .w)) (a .y) (a .c) (a .m) _ _ (left .before .made .ensures) _ (left .is-left .ensures)
     (close .before .before .if1 .left) _ _ _
-    (level-done (a .filter) (length (a .store .now)) (side (a .x) (a .w)) _ _ _ (omega (arith, store-next (filterOf (a .filter) .rows) (side (a .x) (a .w)) (a .l))) (close .close .ensures .1))
+    (level-done (a .filter) (length (a .store .now)) (side (a .x) (a .w)) _ _ _
+    (omega (arith, store-next (filterOf (a .filter) .rows) (side (a .x) (a .w)) (a .l))) (close .close .ensures .1))
     (band .before .most .ensures) (band .next-band .ensures) (omega arith)
 
 pass-on-requires : tie.Need-pass-on-requires
@@ -69,7 +71,8 @@ returns-3 c =
     let a = left .before .before .args in
     step-goes (a .filter) (a .l) (side (a .x) (a .w)) (a .y) (a .c) (a .m) _ _ (left .before .made .ensures) _ (left .is-left .ensures)
     (close .before .before .if1 .left) _ _ _
-    (level-done (a .filter) (length (a .store .now)) (side (a .x) (a .w)) _ _ _ (omega (arith, store-next (filterOf (a .filter) .rows) (side (a .x) (a .w)) (a .l))) (close .close .ensures .1))
+    (level-done (a .filter) (length (a .store .now)) (side (a .x) (a .w)) _ _ _
+    (omega (arith, store-next (filterOf (a .filter) .rows) (side (a .x) (a .w)) (a .l))) (close .close .ensures .1))
     (band .before .most .ensures) (band .next-band .ensures) _ _ (omega arith) (c .before .pass-on .ensures)
 
 pub close-step-spec : {M : Type 1} → statement M

@@ -52,7 +52,13 @@ add-result c =
 returns-4 : tie.Need-returns-4
 returns-4 c =
     let a = c .before .before .before .before .args in
-    omega (arith, c .before .before .before .look-ahead .ensures, c .before .prev .ensures, prev-is (a .m), made-is (filterOf (a .filter) .ahead) (a .c) (a .y) (a .m))
+    omega (
+      arith,
+      c .before .before .before .look-ahead .ensures,
+      c .before .prev .ensures,
+      prev-is (a .m),
+      made-is (filterOf (a .filter) .ahead) (a .c) (a .y) (a .m),
+    )
 
 pub made-spec : {M : Type 1} → statement M
 made-spec =

@@ -32,7 +32,8 @@ add-t8 c =
     let b = e .before .before .before in
     let d = b .before .before in
     let a = d .args in
-    let p = place-code (a .s .filter) (columns (a .q)) (a .q .y) (a .q .set) (bandAt (b .before .prev .result)) _ _ (omega (arith, d .pre .2 .wide)) (b .code .ensures)
+    let p = place-code (a .s .filter) (columns (a .q)) (a .q .y) (a .q .set) (bandAt (b .before .prev .result)) _ _ (omega (arith, d .pre .2 .wide))
+    (b .code .ensures)
     (e .band-place .ensures) in
     omega (
       arith,

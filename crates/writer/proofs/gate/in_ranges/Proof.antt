@@ -95,7 +95,8 @@ returns-7 c =
     let g = d .before .before in
     ranges-last (g .before .before .args .s) (sym (g .before .on-grid .ensures) ∙ not-false _ (g .if1 .left))
     (sym (d .before .is-sized .ensures) ∙ not-false _ (d .if2 .left)) (omega arith) (omega arith)
-    (rw (c .before .before .before .before .before .before .look-ahead .ensures) at (c .before .before .before .if5 .left)) (omega arith) _ (c .waits-in-range .ensures)
+    (rw (c .before .before .before .before .before .before .look-ahead .ensures) at (c .before .before .before .if5 .left))
+    (omega arith) _ (c .waits-in-range .ensures)
 
 pub in-ranges-spec : {M : Type 1} → statement M
 in-ranges-spec =

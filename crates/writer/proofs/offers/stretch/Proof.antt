@@ -51,8 +51,7 @@ returns c =
     (put-there (a .s) (a .run .now) (a .from) (a .n) (length (a .store .now)) _ _ t (omega arith) (omega arith) (put .put .ensures .1)) (omega arith)
 
 arrive-requires : tie.Need-arrive-requires
-arrive-requires c κs =
-    omega arith
+arrive-requires c κs = omega arith
 
 add-t9 : tie.Need-add-t9
 add-t9 c = omega (arith, height-small)
