@@ -1,7 +1,7 @@
 -- What a stream needs by its filter's number. Assumes nothing.
 use mathlib.Core.Path.{_≡_, refl}
 use mathlib.Core.Bool.{Bool, true, false}
-use Prim.Native.Nat.{ℕ, zero, suc, _*_, _^_, _≤_, _<_}
+use Prim.Native.Nat.{ℕ, zero, suc, _+_, _*_, _^_, _≤_, _<_}
 use native.Mathlib.Omega.{arith}
 use native.Mathlib.Nat.{mul-zero, mul-le-mul}
 use lib.Dec.{leb}
@@ -34,6 +34,23 @@ unfolding filterOf
 ahead-few zero = omega arith
 ahead-few (suc f) = omega arith
 
+-- the steps of the closing of l levels, and a stretch of w columns
+pub steps-few : (f l : ℕ) → filterOf f .ahead * l ≤ 2 * l
+unfolding filterOf
+steps-few zero l = omega arith
+steps-few (suc f) l = omega arith
+
+pub row-few : (f w : ℕ) → filterOf f .rows * w ≤ 8 * w
+unfolding filterOf
+row-few zero w = omega arith
+row-few (suc f) w = omega arith
+
+-- a line store is not long: at most sixteen numbers a column and eight a level
+pub store-few : (f : ℕ) (W : Side) (L : ℕ) → storeBy f W L ≤ 16 * W .length + 8 * L
+unfolding filterOf
+store-few zero W L = omega (arith, store-is 4 W L, widths-le W L)
+store-few (suc f) W L = omega (arith, store-is 8 W L, widths-le W L)
+
 -- the sizes of a stream
 pub record Streams (f : ℕ) (W : Side) (L : ℕ) : Type 0 where
   pub known : isFilter f ≡ true
@@ -46,22 +63,6 @@ streams f W L e =
     let a = tests.both (isFilter f) _ e in
     let b = tests.both (within 1 maxWidth (W .length)) _ (a .1) in
     record { known = a .0; width = within-true 1 maxWidth _ (b .0); levels = within-true 1 (filterOf f .levels) _ (b .1) }
-
--- few columns and levels are far from what a number holds: the steps of the closing, a stretch, and the store
-pub steps-small : (f l : ℕ) → l < 2 ^ 16 → filterOf f .ahead * l < 2 ^ 32
-steps-small f l h =
-    let p = mul-le-mul {n₁ = filterOf f .ahead} {m₁ = l} {n₂ = 2 ^ 8} {m₂ = 2 ^ 16} (omega (arith, ahead-few f)) (omega arith) in
-    omega (arith, p)
-
-pub stretch-small : (f w : ℕ) → w < 2 ^ 16 → filterOf f .rows * w < 2 ^ 32
-stretch-small f w h =
-    let p = mul-le-mul {n₁ = filterOf f .rows} {m₁ = w} {n₂ = 2 ^ 8} {m₂ = 2 ^ 16} (omega (arith, rows-few f)) (omega arith) in
-    omega (arith, p)
-
-pub store-small : (f : ℕ) (W : Side) (L : ℕ) → W .length < 2 ^ 16 → L < 2 ^ 16 → storeBy f W L < 2 ^ 32
-store-small f W L w l =
-    let p = mul-le-mul {n₁ = filterOf f .rows} {m₁ = widths W L} {n₂ = 2 ^ 8} {m₂ = 2 ^ 18} (omega (arith, rows-few f)) (omega (arith, widths-le W L)) in
-    omega (arith, store-is (filterOf f .rows) W L, p)
 
 -- ---- the code's product fits a word
 picked : (b : Bool) (v : ℕ) → (b ≡ true → v < 2 ^ 32) → pick b v 0 < 2 ^ 32

@@ -8,10 +8,7 @@ use lib.Dec.{ltb}
 use borrow.Author.Tests.{lt-ltb, le-leb}
 use Rattle.numbers.specs.Signal.{pick, stored}
 use Rattle.lifting.specs.Grid.{Side, count}
-use Rattle.lifting.proofs.FilterLaws.{FilterLaws}
-use Rattle.lifting.proofs.FiveThreeFilter.{five-three-laws as five-three-filter}
 use Rattle.nine_seven.specs.Filters.{filterOf}
-use Rattle.nine_seven.proofs.NineSevenFilter.{nine-seven-laws as nine-seven-filter}
 use Rattle.wavelet.specs.Bands.{Band, LL, across, code}
 use Rattle.wavelet.specs.Levels.{next}
 use Rattle.wavelet.specs.ViewCall.{named}
@@ -32,12 +29,6 @@ pub count-fits : (f w : ℕ) → w < 2 ^ 61 → ltb w (countable f) ≡ true
 unfolding countable
 count-fits zero w h = lt-ltb w (2 ^ 62) (omega arith)
 count-fits (suc f) w h = lt-ltb w (2 ^ 61) h
-
--- a filter's own laws, and those of its level
-pub filter-laws : (f : ℕ) → FilterLaws (filterOf f)
-unfolding filterOf
-filter-laws zero = five-three-filter
-filter-laws (suc f) = nine-seven-filter
 
 pub laws-of : (f : ℕ) → LevelLaws (kindOf f) (heldOf f) (endedOf f)
 unfolding filterOf

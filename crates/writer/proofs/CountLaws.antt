@@ -15,7 +15,7 @@ use Rattle.wavelet.proofs.SideLaws.{count-lo, count-hi, next-start, next-length
 use Rattle.nine_seven.specs.Filters.{filterOf}
 use Rattle.level.specs.Level.{prev, completes}
 use Rattle.level.proofs.Places.{prev-is}
-use Rattle.filters.proofs.FigureLaws.{store-small}
+use Rattle.filters.proofs.FigureLaws.{store-few}
 use Rattle.writer.specs.Counts.{deeper, deeperBy, further, made, most, mostLeft, bandAt, skip, startOf}
 use lib.Dec.{ltb, leb, eqb}
 use borrow.Author.Tests.{lt-ltb, le-ltb, le-leb, lt-leb, eq-eqb, eqb-true, ltb-true, leb-true}
@@ -139,7 +139,7 @@ module _ (f : ℕ) where
   start-deeper w (suc v) = store-below (filterOf f .rows) w v
 
   pub start-small : (w : Side) (v : ℕ) → w .length < 2 ^ 16 → v < 2 ^ 16 → startOf f w v < 2 ^ 32
-  start-small w v h g = store-small f w (prev v) h (omega (arith, prev-is v))
+  start-small w v h g = omega (arith, store-few f w (prev v), prev-is v)
 
 -- ---- the steps of l levels, a of them each
 pub steps-more : (a l : ℕ) → 0 < l → a * l ≡ a + a * (l - 1)

@@ -1,6 +1,6 @@
 -- What stands in the line store of a writer, for a map g of H rows: `Holds H g s x`. While a band row of any level waits, its values are the map's;
 -- that is in it too.
--- The numbers are 32-bit words (`wrap32`); for a map they are T.800's whole numbers.
+-- The numbers are 32-bit words (`wrap32`); for a map they are the filter's whole numbers.
 use mathlib.Core.Path.{_≡_}
 use mathlib.Core.Bool.{true, false}
 use mathlib.Core.List.{List}

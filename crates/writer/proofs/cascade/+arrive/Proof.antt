@@ -14,7 +14,7 @@ use Rattle.wavelet.proofs.SideLaws.{count-lo, next-length}
 use Rattle.wavelet.proofs.StoreLaws.{store-back}
 use Rattle.nine_seven.specs.Filters.{filterOf}
 use Rattle.level.proofs.RestLaws.{at-rest, at-join}
-use Rattle.filters.proofs.FigureLaws.{stretch-small}
+use Rattle.filters.proofs.FigureLaws.{row-few}
 use Rattle.filters.proofs.ForwardLaws.{level-done, next-done}
 use Rattle.filters.specs.Figures.{storeBy}
 use Rattle.writer.specs.Counts.{skip}
@@ -200,7 +200,7 @@ arrive-mul-arrive t c =
     let start = c .before .before .before .before .before .before .before .before .before .before .before .before .before .before .before .before in
     let a = start .args in
     let e : c .stretch .result ≡ filterOf (a .filter) .rows * a .w = c .stretch .ensures in
-    omega (arith, e, stretch-small (a .filter) (a .w) (omega (arith, start .pre)))
+    omega (arith, e, start .pre, row-few (a .filter) (a .w))
 
 arrive-sub-arrive : (t : ℕ) → arrive-lts.Need-sub-arrive (claims t) (arrive-at t) arrive.Post
 arrive-sub-arrive t c =
@@ -272,7 +272,7 @@ arrive-further-requires t c κs =
     left-small (a .filter) (a .l - 1) (side _ (v .result)) _ _ _ (omega (arith, start .pre, v .ensures, count-lo (side (a .x) (a .w))))
     (omega (arith, start .pre))
     (c .before .before .arrive .ensures) in
-    omega (arith, e, stretch-small (a .filter) (a .w) (omega (arith, start .pre)))
+    omega (arith, e, start .pre, row-few (a .filter) (a .w))
 
 arrive-same-length-3 : (t : ℕ) → arrive-lts.Need-same-length-3 (claims t) (arrive-at t) arrive.Post
 arrive-same-length-3 t c = search needs

@@ -11,7 +11,7 @@ use Rattle.wavelet.proofs.SideLaws.{count-lo, next-length}
 use Rattle.wavelet.proofs.StoreLaws.{store-next, store-back}
 use Rattle.nine_seven.specs.Filters.{filterOf}
 use Rattle.filters.specs.Figures.{storeBy}
-use Rattle.filters.proofs.FigureLaws.{stretch-small}
+use Rattle.filters.proofs.FigureLaws.{row-few}
 use Rattle.filters.proofs.ForwardLaws.{next-done}
 use Rattle.level.proofs.RestLaws.{at-rest, at-join}
 use Rattle.writer.proofs.CountLaws.{next-is, start-is}
@@ -53,7 +53,7 @@ mul-arrive c =
     let start = c .before .before .before .before .before .before .before in
     let a = start .args in
     let e : c .stretch .result ≡ filterOf (a .filter) .rows * a .w = c .stretch .ensures in
-    omega (arith, e, stretch-small (a .filter) (a .w) (omega (arith, start .pre)))
+    omega (arith, e, start .pre, row-few (a .filter) (a .w))
 
 sub-arrive : tie.Need-sub-arrive
 sub-arrive c =
@@ -106,7 +106,7 @@ further-requires c κs =
     let o =
     left-small (a .filter) (a .l) (side _ (v .result)) _ _ _ (omega (arith, start .pre, v .ensures, count-lo (side (a .x) (a .w)))) (omega (arith, start .pre))
     (c .before .before .arrive .ensures) in
-    omega (arith, e, stretch-small (a .filter) (a .w) (omega (arith, start .pre)))
+    omega (arith, e, start .pre, row-few (a .filter) (a .w))
 
 same-length : tie.Need-same-length
 same-length c = search needs

@@ -11,7 +11,7 @@ use Rattle.wavelet.proofs.SideLaws.{count-lo}
 use Rattle.wavelet.proofs.StoreLaws.{store-back}
 use Rattle.nine_seven.specs.Filters.{filterOf}
 use Rattle.filters.specs.Figures.{storeBy}
-use Rattle.filters.proofs.FigureLaws.{steps-small, stretch-small}
+use Rattle.filters.proofs.FigureLaws.{steps-few, row-few}
 use Rattle.level.proofs.RestLaws.{at-rest, at-join}
 use Rattle.writer.proofs.CountLaws.{steps-more, next-is, start-is}
 use Rattle.writer.proofs.ClosingLaws.{closed-small, shut-none, shut-waits, shut-goes}
@@ -97,7 +97,7 @@ shut-mul-shut t c =
     let start = c .before .before .before .before .before .before .before in
     let a = start .args in
     let e : c .stretch .result ≡ filterOf (a .filter) .rows * a .w = c .stretch .ensures in
-    omega (arith, e, stretch-small (a .filter) (a .w) (omega (arith, start .pre)))
+    omega (arith, e, start .pre, row-few (a .filter) (a .w))
 
 shut-sub-shut : (t : ℕ) → shut-lts.Need-sub-shut (claims t) (shut-at t) shut.Post
 shut-sub-shut t c =
@@ -168,7 +168,8 @@ shut-add-t25 t c =
       c .before .look-ahead .ensures,
       below .shut .ensures .all,
       steps-more (filterOf (a .filter) .ahead) (a .l) (omega (arith, some .if1 .left)),
-      steps-small (a .filter) (a .l) (omega (arith, start .pre)),
+      start .pre,
+      steps-few (a .filter) (a .l),
     )
 
 shut-deeper-requires : (t : ℕ) → shut-lts.Need-deeper-requires (claims t) (shut-at t) shut.Post
@@ -189,7 +190,7 @@ shut-further-requires t c κs =
     closed-small (a .filter) (a .l - 1) (side _ (v .result)) _ _ _ (omega (arith, start .pre, v .ensures, count-lo (side (a .x) (a .w))))
     (omega (arith, start .pre))
     (below .shut .ensures) in
-    omega (arith, e, stretch-small (a .filter) (a .w) (omega (arith, start .pre)))
+    omega (arith, e, start .pre, row-few (a .filter) (a .w))
 
 shut-same-length-2 : (t : ℕ) → shut-lts.Need-same-length-2 (claims t) (shut-at t) shut.Post
 shut-same-length-2 t c = search needs

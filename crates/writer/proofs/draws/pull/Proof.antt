@@ -2,7 +2,7 @@
 use Prim.Native.Nat.{_+_, _-_}
 use native.Mathlib.Omega.{arith}
 use Rattle.numbers.specs.Signal.{at}
-use Rattle.filters.proofs.FigureLaws.{store-small}
+use Rattle.filters.proofs.FigureLaws.{store-few}
 use Rattle.level.proofs.RestLaws.{at-rest, at-join}
 use Rattle.writer.specs.Taking.{columnsOf}
 use Rattle.writer.specs.Steps.{columns}
@@ -59,7 +59,7 @@ further-requires c κs =
     let d = e .pre .0 in
     let f = e .pre .1 in
     let o = left-small (s .filter) (q .below + 1) (columns q) _ _ _ (f .wide) (omega (arith, f .deep, d .walk)) (p .pass-on .ensures) in
-    omega (arith, store-small (s .filter) (columnsOf s) (s .levels) (d .walk .wide) (d .walk .deep), f .room, d .placed, d .walk .wide, d .walk .deep)
+    omega (arith, store-few (s .filter) (columnsOf s) (s .levels), f .room, d .placed, d .walk .wide, d .walk .deep)
 
 same-length : tie.Need-same-length
 same-length c = search needs

@@ -2,7 +2,7 @@
 use native.Mathlib.Omega.{arith}
 use Rattle.wavelet.proofs.StoreLaws.{store-next}
 use Rattle.nine_seven.specs.Filters.{filterOf}
-use Rattle.filters.proofs.FigureLaws.{store-small}
+use Rattle.filters.proofs.FigureLaws.{store-few}
 use Rattle.filters.proofs.ForwardLaws.{place-room, place-code}
 use Rattle.writer.specs.Counts.{bandAt}
 use Rattle.writer.specs.Taking.{columnsOf}
@@ -42,7 +42,8 @@ add-t8 c =
       d .pre .2 .room,
       store-next (filterOf (a .s .filter) .rows) (columns (a .q)) (a .q .below),
       place-room (a .s .filter) (columns (a .q)) (a .q .y) (a .q .set) (bandAt (b .before .prev .result)),
-      store-small (a .s .filter) (columnsOf (a .s)) (a .s .levels) (d .pre .0 .wide) (d .pre .0 .deep),
+      store-few (a .s .filter) (columnsOf (a .s)) (a .s .levels),
+      d .pre .0,
     )
 
 returns : tie.Need-returns

@@ -5,7 +5,7 @@ use borrow.Author.Tests.{not-true, not-false, le-leb, lt-leb, lt-ltb, le-ltb}
 use Rattle.wavelet.specs.Limits.{maxHeight}
 use Rattle.wavelet.proofs.LimitLaws.{width-small}
 use Rattle.lifting.specs.Grid.{side}
-use Rattle.filters.proofs.FigureLaws.{streams, steps-small}
+use Rattle.filters.proofs.FigureLaws.{streams, steps-few}
 use Rattle.writer.specs.Questions.{inRanges}
 use Rattle.writer.proofs.GateLaws.{ranges-last, few-levels}
 use Rattle.writer.proofs.gate.in_ranges.Statement.{statement}
@@ -54,7 +54,7 @@ mul-if5 c =
     let d = c .before .before .before .before .before .before in
     let s = d .before .before .before .before .args .s in
     let t = streams (s .filter) (side (s .x) (s .width)) (s .levels) (sym (d .before .is-sized .ensures) ∙ not-false _ (d .if2 .left)) in
-    rw (c .before .look-ahead .ensures) (omega (arith, steps-small (s .filter) (s .levels) (few-levels (s .filter) (s .levels) (t .levels .1))))
+    rw (c .before .look-ahead .ensures) (omega (arith, steps-few (s .filter) (s .levels), few-levels (s .filter) (s .levels) (t .levels .1)))
 
 returns-5 : tie.Need-returns-5
 unfolding inRanges maxHeight
