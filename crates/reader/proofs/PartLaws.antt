@@ -176,7 +176,7 @@ work-is f W H L d k l a n s ys ok is wide high last ea whole long made =
     ∙ sym (ap (λ (t : Bool). pick t worked (passed (at s))) has)
 
 -- the stretch, and below the last level the next one's, lie within the store
-pub stretch-room : (f : ℕ) (W : Side) (k L : ℕ) → k < L → 
+pub stretch-room : (f : ℕ) (W : Side) (k L : ℕ) → k < L →
     stretchAt f W k + (filterOf f .rows * sideAt k W .length + filterOf f .rows * pick (eqb (k + 1) L) 0 (count lo (sideAt k W))) ≤ stretchAt f W L
 stretch-room f W k L h = elim (ℕ-discrete (k + 1) L) [
   | yes e ↦ rw (eq-eqb (k + 1) L e) (omega (arith, mul-zero (filterOf f .rows), stretch-suc f W k, stretch-in f W (suc k) L (omega arith)))
