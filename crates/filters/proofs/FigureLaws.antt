@@ -1,5 +1,5 @@
 -- What a stream needs by its filter's number. Assumes nothing.
-use mathlib.Core.Path.{_≡_, refl, sym}
+use mathlib.Core.Path.{_≡_, refl}
 use mathlib.Core.Bool.{Bool, true, false}
 use Prim.Native.Nat.{ℕ, zero, suc, _+_, _*_, _^_, _≤_, _<_}
 use native.Mathlib.Omega.{arith}
@@ -93,7 +93,8 @@ module _ (f w x L : ℕ) where
   stored r v k h e g =
       let a : leb L (filterOf f .levels) ≡ true = le-leb L _ h in
       let b : leb L maxLevels ≡ true = le-leb L _ (omega (arith, levels-most f)) in
-      rw (g, e, k, a, b, store-is (filterOf f .rows) W L) (scaled (both (both (leb 1 w) (leb w maxWidth)) (both (leb 1 L) true)) (filterOf f .rows) (widths W L))
+      rw (g, e, k, a, b, store-is (filterOf f .rows) W L)
+      (scaled (both (both (leb 1 w) (leb w maxWidth)) (both (leb 1 L) true)) (filterOf f .rows) (widths W L))
 
 -- ---- a length that holds any number of levels
 module _ (f w n : ℕ) where
