@@ -137,7 +137,8 @@ onto-outcome f true y = refl
 onto-outcome f false y = refl
 
 -- an empty level
-pub work-empty : (f : ℕ) (W H : Side) (L d k : ℕ) (l : Level) (x : ℕ → ℤ) → IsLevel f W H d k l → Empty (sideAt k W) (sideAt k H) → passed x ≡ workedAt f W H L k (l .set) x
+pub work-empty : (f : ℕ) (W H : Side) (L d k : ℕ) (l : Level) (x : ℕ → ℤ) → IsLevel f W H d k l → Empty (sideAt k W) (sideAt k H) →
+    passed x ≡ workedAt f W H L k (l .set) x
 unfolding workedAt hasSet
 work-empty f W H L d k l x is e = rw (empty-not (sideAt k W) (sideAt k H) e) refl
 
@@ -208,5 +209,6 @@ module _ (f : ℕ) (W H : Side) (d k : ℕ) (l : Level) (is : IsLevel f W H d k 
       rw (← stretch-is f W (k + 1), add-one k, stretch-suc f W k, ← is .width) (omega (arith, is .start, place-room f (l .width) r))
 
 -- ---- a level as the code has it: without cells, and at one of its sets
-pub level-none : (f : ℕ) (W H : Side) (d k : ℕ) (l : Level) → IsLevel f W H d k l → eqb (l .width) 0 || eqb (l .height) 0 ≡ true → Empty (sideAt k W) (sideAt k H)
+pub level-none : (f : ℕ) (W H : Side) (d k : ℕ) (l : Level) → IsLevel f W H d k l → eqb (l .width) 0 || eqb (l .height) 0 ≡ true →
+    Empty (sideAt k W) (sideAt k H)
 level-none f W H d k l is e = none-of (sideAt k W) (sideAt k H) (rw (is .width, is .height) at e)
