@@ -26,7 +26,7 @@ use Rattle.wavelet.proofs.GridLaws.{place-below, flat-at}
 use Rattle.wavelet.proofs.LevelTheory.{Same}
 use Rattle.wavelet.proofs.MapTheorems.{some-map, one-map, back-exactly}
 use Rattle.whole_map.specs.Calls.{forwardQuestion, planeQuestions, backwardQuestion, passed, rebuilt}
-use Rattle.whole_map.proofs.ByFilterLaws.{filter-laws}
+use Rattle.nine_seven.proofs.Filters.{filter-laws}
 use Rattle.whole_map.proofs.TestLaws.{false-true}
 use Rattle.whole_map.proofs.QuestionLaws.{Roomy, roomy-is, asked-on}
 use Rattle.whole_map.proofs.CallLaws.{passed-yes, rebuilt-yes}
