@@ -146,7 +146,9 @@ pub fn ccsds_line_forward(line: &[i32], start: usize, out: &mut [i32]) -> u32 {
 }
 
 pub fn ccsds_line_backward(coefficients: &[i32], start: usize, out: &mut [i32]) -> u32 {
-    unsafe { c::terrain_ccsds_line_backward(coefficients.as_ptr(), coefficients.len(), start, out.as_mut_ptr(), out.len()) }
+    unsafe {
+        c::terrain_ccsds_line_backward(coefficients.as_ptr(), coefficients.len(), start, out.as_mut_ptr(), out.len())
+    }
 }
 
 pub fn profile(row: &[u16], out: &mut [f32]) -> u32 {
