@@ -10,6 +10,7 @@ use lib.ListN.{length, drop}
 use borrow.Author.Tests.{le-leb}
 use Rattle.numbers.specs.Signal.{pick}
 use Rattle.lifting.specs.Grid.{side}
+use Rattle.nine_seven.specs.Filters.{filterOf}
 use Rattle.wavelet.specs.Bands.{across}
 use Rattle.wavelet.specs.Levels.{sideAt}
 use Rattle.wavelet.specs.View.{bandColumns}
@@ -65,7 +66,7 @@ module _ (W L n : ℕ) where
     es = events (r .calls) w₀
 
     pub waiting-is : waitingOf 0 (side 0 W) 0 L es ≡ waits W L hs f ds
-    unfolding waitingOf madeOf wholeRows waits
+    unfolding filterOf waitingOf madeOf wholeRows waits
     waiting-is = rw (r .heights, r .ended, r .rows) refl
 
     pub ran-next : (c : Call) (e : Event) (w′ : Writer) (x′ : Memory) → event c (worldOf n w x) ≡ e → next c (worldOf n w x) ≡ worldOf n w′ x′
