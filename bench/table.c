@@ -274,8 +274,8 @@ static void print(void)
 
 enum { NARROW_HEIGHTS = 1 << 20, MOST_ROWS = 65535 };
 
-static void write_strip(void) { strip_write(at.heights, terrain_shape_of(at.width, at.height, LEVELS), at.other); }
-static void read_strip(void) { strip_read(at.plane, terrain_shape_of(at.width, at.height, LEVELS), at.back); }
+static void write_strip(void) { strip_write(at.heights, shape_of(at.width, at.height), at.other); }
+static void read_strip(void) { strip_read(at.plane, shape_of(at.width, at.height), at.back); }
 
 static void narrow_round(int round)
 {
