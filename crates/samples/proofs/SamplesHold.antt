@@ -4,7 +4,7 @@ use Rattle.lifting.specs.Line.{predicted, updated, mirror, unupdated, unpredict
 use Rattle.lifting.specs.Grid.{half, place, count, joined, before, after, highAt, lowAt, evenAt, oddAt, lineForward, lineHalvesBack, lineBack, loneHigh, isEven}
 use Rattle.lifting.specs.Grid.{hasLine}
 use Rattle.numbers.specs.Word.{wrap32}
-use Rattle.wavelet.specs.Limits.{maxWidth, maxHeight, maxLevels, maxSample, range}
+use Rattle.wavelet.specs.Limits.{maxWidth, maxHeight, maxSample, range}
 use Rattle.wavelet.specs.Questions.{within}
 use Rattle.wavelet.specs.Maps.{every, everyCell, valueFits, inRange, rebuiltFits}
 use Rattle.wavelet.specs.Bands.{across, down, bandOf, columnsLifted, subband, rowsUnlifted, levelBack, rowsHave, columnsHave, levelHas}
@@ -14,15 +14,16 @@ use Rattle.wavelet.specs.Order.{made}
 use Rattle.wavelet.specs.Steps.{feedAll, bandRowsOf, setTo, setOf, setsBefore, rowSteps, setSteps, steps}
 use Rattle.wavelet.specs.Levels.{next, sideAt, approximation, levelBand}
 use Rattle.wavelet.specs.View.{bandColumns}
-use Rattle.whole_map.specs.Calls.{sizeQuestions, planeQuestions, backwardQuestion}
+use Rattle.nine_seven.specs.Filters.{filterOf, isFilter}
+use Rattle.whole_map.specs.Calls.{shapeQuestions, sizeQuestions, planeQuestions, backwardQuestion}
 use Rattle.samples.specs.Samples.{listed, values, bandRow, holds-line, holds-map, holds-answer, holds-order, holds-wants, table, oddTable, AllHold, none}
 use Rattle.samples.specs.Samples.{also}
 
 pub samples-hold : AllHold table
 unfolding values listed lineForward lowAt highAt before after half place mirror predicted updated count planeOf planeCell inCorner flat cells subband
     columnsLifted across down bandOf halfAt placeIn bandRow bandColumns next sideAt approximation levelBand handedOut firstSet lastSet setRow setHas rowsOf
-    setRows madeBy unmade closing inTurn made feedAll setTo setOf setsBefore rowSteps setSteps steps bandRowsOf backwardQuestion sizeQuestions planeQuestions
-    within maxWidth maxHeight maxLevels maxSample range inRange rebuiltFits everyCell every valueFits levelAt planeBands mapBack levelBack levelHas rowsHave
+    setRows madeBy unmade closing inTurn made feedAll setTo setOf setsBefore rowSteps setSteps steps bandRowsOf backwardQuestion sizeQuestions shapeQuestions planeQuestions
+    isFilter filterOf within maxWidth maxHeight maxSample range inRange rebuiltFits everyCell every valueFits levelAt planeBands mapBack levelBack levelHas rowsHave
     columnsHave rowsUnlifted lineBack lineHalvesBack joined evenAt oddAt hasLine loneHigh isEven unupdated unpredicted wrap32
 samples-hold =
     also (holds-line refl refl)
@@ -41,8 +42,8 @@ samples-hold =
 pub odd-samples-hold : AllHold oddTable
 unfolding values listed lineForward lowAt highAt before after half place mirror predicted updated count planeOf planeCell inCorner flat cells subband
     columnsLifted across down bandOf halfAt placeIn bandRow bandColumns next sideAt approximation levelBand handedOut firstSet lastSet setRow setHas rowsOf
-    setRows madeBy unmade closing inTurn made feedAll setTo setOf setsBefore rowSteps setSteps steps bandRowsOf backwardQuestion sizeQuestions planeQuestions
-    within maxWidth maxHeight maxLevels maxSample range inRange rebuiltFits everyCell every valueFits levelAt planeBands mapBack levelBack levelHas rowsHave
+    setRows madeBy unmade closing inTurn made feedAll setTo setOf setsBefore rowSteps setSteps steps bandRowsOf backwardQuestion sizeQuestions shapeQuestions planeQuestions
+    isFilter filterOf within maxWidth maxHeight maxSample range inRange rebuiltFits everyCell every valueFits levelAt planeBands mapBack levelBack levelHas rowsHave
     columnsHave rowsUnlifted lineBack lineHalvesBack joined evenAt oddAt hasLine loneHigh isEven unupdated unpredicted wrap32
 odd-samples-hold =
     also (holds-line refl refl)

@@ -43,7 +43,7 @@ pub data Sample : Type 0 where
   line : ℕ → List ℤ → List ℤ → List ℤ → Sample
   -- levels, columns, rows, a map row by row, and its plane
   map : ℕ → Side → Side → List ℤ → List ℤ → Sample
-  -- levels, columns, rows, a plane, and the number that the whole map's way back gives for it
+  -- levels, columns, rows, a plane, and the number that the whole map's way back gives for it by the 5/3
   answer : ℕ → Side → Side → List ℤ → ℕ → Sample
   -- levels, columns, rows, a map row by row, and its band rows in the writer's order
   order : ℕ → Side → Side → List ℤ → List BandRow → Sample
@@ -56,7 +56,7 @@ pub data Holds : Sample → Type 0 where
   holds-map : {L : ℕ} {W H : Side} {g p : List ℤ} → listed (W .length * H .length) (planeOf fiveThreeFilter whole L W H (cells (W .length) (at g))) ≡ p
       → Holds (map L W H g p)
   holds-answer : {L : ℕ} {W H : Side} {q : ℕ} {p : List ℤ} →
-      backwardQuestion W H L (length p) (W .length * H .length) (W .length * H .length) (cells (W .length) (at p)) ≡ q → Holds (answer L W H p q)
+      backwardQuestion 0 W H L (length p) (W .length * H .length) (W .length * H .length) (cells (W .length) (at p)) ≡ q → Holds (answer L W H p q)
   holds-order : {L : ℕ} {W H : Side} {g : List ℤ} {l : List BandRow} →
       each (bandRow W H (cells (W .length) (at g))) (made 1 W (H .start) L (H .length) true) ≡ l → Holds (order L W H g l)
   holds-wants : {L : ℕ} {W H : Side} {l : List RowName} → bandRowsOf (steps 1 W H L) ≡ l → Holds (wants L W H l)
