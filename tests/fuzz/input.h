@@ -40,11 +40,25 @@ static inline size_t size(void)
     return below(4) ? 1 + below(12) : number();
 }
 
+/* A coordinate at which a map starts: about 0 as a rule. */
+static inline uint16_t origin(void)
+{
+    return (uint16_t)(below(4) ? below(4) : wide(2));
+}
+
+/* The number of a filter, now and then of none. */
+static inline uint32_t filter_number(void)
+{
+    unsigned b = byte();
+    return b < 240 ? b % 2 : b < 250 ? b % 8 : (uint32_t)wide(4);
+}
+
 /* Any 32-bit number, those about the ranges of heights and coefficients above all. */
 static inline int32_t word(void)
 {
     unsigned b = byte();
-    int64_t reach = (int64_t)65535 << b / 16 % 6 * 2;
+    static const int32_t reaches[] = { 65535, 262140, 1048560, 4194240, 16776960, 67107840, 393210, 2359260, 14155560, 84933360 };
+    int64_t reach = reaches[b / 8 % 10];
     switch (b % 8) {
     case 0: return (int32_t)reach;
     case 1: return (int32_t)-reach;
