@@ -12,8 +12,8 @@ use Rattle.wavelet.specs.Bands.{Grid}
 use Rattle.wavelet.specs.Maps.{inRange, rebuiltFits}
 use Rattle.nine_seven.specs.Filters.{filterOf, isFilter}
 
--- questions 2, 3, 18 and 4 of the filter f, and then `rest`: 18 "before 4, if the filter is unknown", and as many levels as it has (document 02, Q-8). Where the
--- map starts is not asked.
+-- questions 2, 3, 18 and 4 of the filter f, and then `rest`: 18 "before 4, if the filter is unknown", and as many levels as it has (document 02, Q-8). Where
+-- the map starts is not asked.
 unfoldable pub shapeQuestions : ℕ → ℕ → ℕ → ℕ → ℕ → ℕ
 shapeQuestions f W H L rest =
     ask (within 1 maxWidth W) 2
