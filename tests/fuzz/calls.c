@@ -420,14 +420,15 @@ static void line(void)
     size_t n = below(4) ? below(40) : (size_t)wide(2) % RUN, more = below(12), len = n + (more < 8 ? more % 4 : 0);
     if (more >= 8) len = n ? byte() % n : 0;
     int forward = byte() & 1;
-    size_t start = below(4) ? below(4) : number();
+    size_t start = below(4) ? below(4) : number(), filter = below(FILTERS);
     uint32_t seed = byte();
     for (size_t i = 0; i < n; i++) values[i] = below(8) ? (int32_t)(uint32_t)(seed * i * 2654435761u) >> (i & 16) : word();
     memcpy(expected, values, n * sizeof *values);
-    uint32_t first = len < n ? 5 : model_line(expected, n, 1, start, 0, forward) ? 0 : 14;
+    uint32_t first = len < n ? 5 : model_line(expected, n, 1, start, filter, forward) ? 0 : 14;
     const int32_t *lent = area_lend(&run_area, values, n * sizeof *values, at_end());
     int32_t *out = area_lend(&out_area, NULL, len * sizeof *out, at_end());
-    uint32_t answer = (forward ? terrain_line_forward : terrain_line_backward)(lent, n, start, out, len);
+    uint32_t answer = filter ? (forward ? terrain_ccsds_line_forward : terrain_ccsds_line_backward)(lent, n, start, out, len)
+                             : (forward ? terrain_line_forward : terrain_line_backward)(lent, n, start, out, len);
     area_back(&run_area);
     area_back(&out_area);
     HOLDS(area_is(&run_area, values));
