@@ -10,7 +10,8 @@ static void high_step(int32_t *x, size_t n, size_t stride, int sign)
 {
     for (size_t p = 1; p < n; p += 2) {
         ptrdiff_t at = (ptrdiff_t)p;
-        x[p * stride] += sign * foretold(x[(p - 1) * stride], x[mirrored(at + 1, n) * stride], x[mirrored(at - 3, n) * stride], x[mirrored(at + 3, n) * stride]);
+        int32_t beside = x[mirrored(at + 1, n) * stride], before = x[mirrored(at - 3, n) * stride], after = x[mirrored(at + 3, n) * stride];
+        x[p * stride] += sign * foretold(x[(p - 1) * stride], beside, before, after);
     }
 }
 

@@ -1,5 +1,6 @@
-/* Whole maps and streams beside C, in one table, by the filter that it is compiled for (filter.h). The ways of a kind take turns in each round, so that what disturbs the machine disturbs all of
-   them. The results are compared before any time is taken. Arguments: shared objects to measure with them (plugin.h).
+/* Whole maps and streams beside C, in one table, by the filter that it is compiled for (filter.h). The ways of a kind take turns in each round, so
+   that what disturbs the machine disturbs all of them. The results are compared before any time is taken. Arguments: shared objects to measure
+   with them (plugin.h).
 
    What ran just before a way is worth up to a fifth of its time, by what it leaves in the caches. So each has a fixed one: the row-wise C, every
    plug-in and the copy follow the proved calls, the fused C follows the row-wise, the naive C the fused, the proved calls the naive C. And the

@@ -27,7 +27,8 @@ static inline uint64_t wide(int bytes)
 /* Any number: small ones, those about the limits, and a few as large as can be. */
 static inline size_t number(void)
 {
-    static const uint64_t edges[] = { 0, 1, 2, 5, 6, 2047, 2048, 2049, 2050, 65534, 65535, 65536, (1ull << 32) - 1, 1ull << 32, 1ull << 63, UINT64_MAX - 1, UINT64_MAX };
+    static const uint64_t edges[] = { 0, 1, 2, 5, 6, 2047, 2048, 2049, 2050, 65534, 65535, 65536, (1ull << 32) - 1, 1ull << 32, 1ull << 63,
+                                      UINT64_MAX - 1, UINT64_MAX };
     unsigned b = byte();
     if (b < 192) return b % 40;
     if (b < 240) return edges[b % 16];
