@@ -3,6 +3,7 @@
    the plane and drawn as it wants. */
 #ifndef STREAMS_H
 #define STREAMS_H
+#include "filter.h"
 #include <stddef.h>
 #include <stdint.h>
 #include <string.h>
@@ -30,7 +31,7 @@ extern const Streams streams_1025, streams_2049;
 #define plain_write OF_SIDE(plain_write)
 #define plain_read OF_SIDE(plain_read)
 
-enum { W = SIDE, H = SIDE, LEVELS = 5 };
+enum { W = SIDE, H = SIDE };
 
 extern uint16_t heights[W * H], back[W * H];
 extern int32_t plane[W * H], *kept, out[W];
