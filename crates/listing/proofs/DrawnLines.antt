@@ -106,7 +106,7 @@ module _ (W L n : ℕ) (x : Memory) (ready : setUpQuestion 0 (side 0 W) L n ≡ 
     -- the lines drawn, and those of the rows that wait
     pub lines-all : (sizeLine W H L ++ drawnText (drawn es)) ++ linesOf W H (gridOf W (taken es)) (waitingOf 0 (side 0 W) 0 L es)
         ≡ linesDue q (taken es) (finishedBy es)
-    unfolding linesDue waitingOf madeOf wholeRows
+    unfolding linesDue waitingOf madeOf wholeRows filterOf
     lines-all =
         let d = demand-3 0 (side 0 W) 0 L n x (omega arith) (omega arith) ready cs .1 in
         append-assoc (sizeLine W H L) (drawnText (drawn es)) _
