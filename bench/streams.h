@@ -17,7 +17,7 @@ typedef struct {
     void (*proved_rows)(void), (*proved_runs)(void), (*proved_runs_on_8)(void), (*proved_read)(void);
 } Streams;
 
-extern const Streams streams_1025, streams_2049;
+extern const Streams streams_257, streams_1025, streams_2049;
 
 #ifdef SIDE
 #define JOIN2(a, b) a##_##b

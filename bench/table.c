@@ -6,7 +6,10 @@
    plug-in and the copy follow the proved calls, the fused C follows the row-wise, the naive C the fused, the proved calls the naive C. And the
    rounds of the streams come after those of the whole maps: between planes the first of the streams, which is the C writer, would be a tenth
    slower, and every ratio to it would look better than it is. A writer's rows go into a plane, as the whole maps' do, and a reader's come from one,
-   so that streams too are told as times of the fused C. Last come narrow maps, down to one column. */
+   so that streams too are told as times of the fused C. Last come narrow maps, down to one column.
+
+   A map of 257 x 257 stays in the second cache: its ratios are those of the instructions, the same in every run. At 1,025 and 2,049 the fused C
+   waits for memory more than the proved calls do, so what else uses the machine's last cache makes every ratio look better than it is. */
 #define _POSIX_C_SOURCE 200809L
 #include "../include/terrain.h"
 #include "maps.h"
@@ -265,6 +268,9 @@ static void lines_of_maps(const char *group, const Result *results, double wante
     }
 }
 
+/* What is wanted is wanted of maps that no second cache holds. */
+static double mark(double wanted) { return at.width < 1025 ? 0 : wanted; }
+
 static void print(void)
 {
     static const char *const writers[] = { "row-wise C", "proved, a row at a time", "proved, runs of 64", "the same, drawn on 8" };
@@ -272,10 +278,10 @@ static void print(void)
     printf("\n%zu x %zu heights by the %s at %d levels, ns a height, %d rounds with all in turn: median (best)\n", at.width, at.height, filter_name,
            LEVELS, ROUNDS);
     printf("%-9s %-28s %16s %15s %10s %7s %8s\n", "", "", "", "/ fused C", against_second, "/ naive", "/ memcpy");
-    lines_of_maps("forward", at.forward, wanted_of_maps[0]);
-    for (int k = 0; k < WRITERS; k++) line("writer", writers[k], &at.writer[k], at.forward, &at.writer[0], wanted_of_writers[k]);
-    lines_of_maps("backward", at.backward, wanted_of_maps[1]);
-    for (int k = 0; k < READERS; k++) line("reader", readers[k], &at.reader[k], at.backward, &at.reader[0], k ? wanted_of_reader : 0);
+    lines_of_maps("forward", at.forward, mark(wanted_of_maps[0]));
+    for (int k = 0; k < WRITERS; k++) line("writer", writers[k], &at.writer[k], at.forward, &at.writer[0], mark(wanted_of_writers[k]));
+    lines_of_maps("backward", at.backward, mark(wanted_of_maps[1]));
+    for (int k = 0; k < READERS; k++) line("reader", readers[k], &at.reader[k], at.backward, &at.reader[0], mark(k ? wanted_of_reader : 0));
     printf("%-9s %-28s %7.2f (%6.2f)\n", "memcpy", "heights and plane, once each", median(at.copy.times), best(at.copy.times));
 }
 
@@ -322,7 +328,7 @@ static void narrow_maps(void)
 
 int main(int argc, char **argv)
 {
-    const Streams *const sizes[] = { &streams_1025, &streams_2049 };
+    const Streams *const sizes[] = { &streams_257, &streams_1025, &streams_2049 };
     for (int i = 1; i < argc; i++) load(argv[i]);
     for (size_t i = 0; i < sizeof sizes / sizeof *sizes; i++) {
         measure(sizes[i]);
