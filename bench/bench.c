@@ -23,8 +23,6 @@ uint32_t ccsds_unupdate_row(int32_t *area, size_t len, size_t stride, size_t wid
 uint32_t ccsds_unpredict_row(int32_t *area, size_t len, size_t stride, size_t width, size_t target, size_t left, size_t right, size_t before, size_t after);
 void ccsds_lift(int32_t *line, size_t len, size_t start);
 uint32_t ccsds_unlift(int32_t *line, size_t len, size_t start);
-uint32_t ccsds_forward(const int32_t *line, size_t len, size_t start, int32_t *out, size_t out_len);
-uint32_t ccsds_backward(const int32_t *line, size_t len, size_t start, int32_t *out, size_t out_len);
 
 enum { N = 2049, ROWS = 5, ROUNDS = 401, CALLS = 200, KINDS = 3 };
 
@@ -56,7 +54,7 @@ static int32_t start[ROWS * N], area[KINDS][ROWS * N], line[N], out[KINDS][N];
     static void whole_run_##name##_97(int k) { whole_##name##_97(area[k] + N, N); }                        \
     static void short_run_##name##_97(int k) { short_##name##_97(area[k] + N, N); }
 #define COPY_97(name)                                                                                      \
-    static void proved_##name##_97(int k) { if (ccsds_##name(line, N, 0, out[k], N)) exit(1); }            \
+    static void proved_##name##_97(int k) { if (terrain_ccsds_line_##name(line, N, 0, out[k], N)) exit(1); } \
     static void whole_run_##name##_97(int k) { whole_##name##_97(line, out[k], N); }                       \
     static void short_run_##name##_97(int k) { short_##name##_97(line, out[k], N); }
 
