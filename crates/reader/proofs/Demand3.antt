@@ -38,9 +38,9 @@ use Rattle.nine_seven.specs.Filters.{filterOf, isFilter}
 use Rattle.nine_seven.proofs.Filters.{filter-laws}
 use Rattle.reader.specs.declared.Reader.{Reader}
 use Rattle.reader.specs.Asked.{keptAt, asked}
-use Rattle.reader.specs.Rebuilt.{Rows, rebuilt, bandsAt, partAt, SetFits}
+use Rattle.reader.specs.Rebuilt.{Rows, rebuilt, bandsAt, partAt, SetFits, SetsFit}
 use Rattle.reader.specs.Store.{hasCells}
-use Rattle.reader.specs.Holds.{Ready}
+use Rattle.reader.specs.Holds.{Ready, FeedDue}
 use Rattle.reader.specs.Answers.{done}
 use Rattle.reader.specs.Sets.{ahead, hasRow, needed}
 use Rattle.level.specs.Tried.{Tried, failed, passed, fits}
@@ -50,20 +50,20 @@ use Rattle.reader.specs.Questions.{countsFit, setUpQuestion, feedQuestio
 use Rattle.reader.specs.Calls.{fresh, feedReply, drawReply, drawArea}
 use Rattle.reader.specs.Demand3.{Call, want, feed, draw, Given, heights, nothing, Event, wanted, fed, drew, said, given}
 use Rattle.reader.specs.Demand3.{World, event, events, final, freshWorld, leftBy, left, ends, endedBy, FedRow, fedBy, fedRows, drawnBy, drawnRows}
-use Rattle.reader.specs.Demand3.{HasRow, FirstRows, HasFedRow, SetsFit, FeedFits, setNumber, goesOnSet, wantSays, feedTurned, drawSays}
+use Rattle.reader.specs.Demand3.{HasRow, FirstRows, HasFedRow, FeedFits, setNumber, goesOnSet, wantSays, feedTurned, drawSays}
 use Rattle.reader.specs.Demand3.{OneOf, this, that, written, Draws, Demand3, OfCalls}
 use Rattle.reader.specs.Demand3 as demand
 use Rattle.reader.proofs.ReadyLaws.{ready-still, ready-enter, ready-back}
 use Rattle.reader.proofs.StepsLeft.{stepsLeft, tailAt, Ahead, height, row, ahead-is, left-first, left-row}
 use Rattle.level.proofs.SetMade.{Outcome}
 use Rattle.reader.proofs.Outcomes.{outcome-passed, settles-outcome, feeds-worked, kept-last}
-use Rattle.reader.proofs.Holds.{Fits, LeavesAt, Held, HeldAt, Worked, FedHeld, first-holds, set-fits, set-has}
+use Rattle.reader.proofs.Holds.{Fits, NextFits, LeavesAt, Held, HeldAt, Worked, FedHeld, first-holds, set-fits, set-has}
 use Rattle.reader.proofs.CallViews.{Limits, limits, here, at, nextOf, nameOf, Due, View, at-end, at-height, at-row, view, counts, want-says}
 use Rattle.reader.proofs.CallViews.{FeedView, feed-away, feed-onward, feed-view, DrawView, draw-away, draw-idle, draw-onward, draw-view}
 use Rattle.reader.proofs.Reached.{namesOf, Good, enter-le, Agrees, Kept, Reached, reached, world, call-reached}
 use Rattle.reader.proofs.Rebuilt.{lookup, lookup-words, found, back, back-has, rowsOf, part-same, bands-have}
 use Rattle.reader.proofs.CellLaws.{cells-are, asked-has, has-row}
-use Rattle.level.proofs.LevelHas.{sets-have}
+use Rattle.level.proofs.LevelHas.{sets-have, have-sets}
 use Rattle.reader.proofs.OpenedSets.{looks, last-needed}
 
 -- ---- the steps left and the rows fed, one list of events after another
@@ -199,9 +199,10 @@ module _ (f : ℕ) (W H : Side) (l n : ℕ) (lim : Limits f W H l n) where
       (map-approximation-range (filterOf f) (filter-laws f) W H g m (suc k) r c p q))
 
   map-fitting : (g : Grid) (m : Map g) → Fits f W H l (own g m)
-  map-fitting g m k live = record {
-    fit = λ r c p q. subst (λ v. valueFits (filterOf f) k v ≡ true) (sym (part-same f W H g m l few k (live .0) r c p q)) (map-value g m k r c (live .0) p q);
-    has = bands-have f W H g m l few k (live .0);
+  map-fitting g m k live i there = record {
+    fit = λ r c p _ q. subst (λ v. valueFits (filterOf f) k v ≡ true) (sym (part-same f W H g m l few k (live .0) r c p q)) (map-value g m k r c (live .0) p q);
+    has = have-sets (filterOf f) (ahead f) (sideAt k W) (sideAt k H) _ (bands-have f W H g m l few k (live .0))
+        (cells-are (sideAt k W) (sideAt k H) (live .1) .1) i there;
   }
 
   -- ---- each part of the claim, for a world that is reached
@@ -459,7 +460,7 @@ module _ (f : ℕ) (W H : Side) (l n : ℕ) (lim : Limits f W H l n) where
             rest-is : stepsLeft f W H l d to ≡ t′
             rest-is = cc
 
-            held : Outcome (Fits f W H l P) (FedHeld f W H l P k u (code c)) (feeds s′ (a .numbers) x)
+            held : Outcome (FeedDue f W H (suc l) P k u (code c)) (FedHeld f W H l P k u (code c)) (feeds s′ (a .numbers) x)
             held =
                 feeds-worked f W H l d p (kept .level-le) (kept .ready (o .due)) P x (kept .rows P (all-left fs _ has) .holds live (o .due))
                 e k u c o (a .numbers)
@@ -470,7 +471,8 @@ module _ (f : ℕ) (W H : Side) (l n : ℕ) (lim : Limits f W H l n) where
             tried (passed m) z =
                 subst (λ v. FeedFits f W H (suc l) P v t′) name-is
                 (subst (FeedFits f W H (suc l) P (nameOf f W H l k u c)) rest-is
-                (let q : FedHeld f W H l P k u (code c) m = outcome-passed m (subst (Outcome (Fits f W H l P) _) z held) in fed-fits P k u c o m (q .0) (q .1)))
+                (let q : FedHeld f W H l P k u (code c) m = outcome-passed m (subst (Outcome (FeedDue f W H (suc l) P k u (code c)) _) z held) in
+                fed-fits P k u c o m (q .0) (q .1)))
 
     draw-works-here : (a z : Area) → event (draw a) (world f W H l n lim d p e x) ≡ drew a (gives (heights (W .length))) z →
         (P : Rows) → All (HasFedRow W P) fs → SetsFit f W H (suc l) P 0 d
@@ -492,13 +494,13 @@ module _ (f : ℕ) (W H : Side) (l n : ℕ) (lim : Limits f W H l n) where
         go (draw-idle live z says at) = absurd (no-row (gives nothing) (λ r. let b : _≡_ {A = ℕ} 0 1 = cc in omega arith) 0 (unfold drawReply in rw z refl) at)
         go (draw-onward live due is-height head to-draw says at) = tried (settles s′ x) refl
           where
-            held : Outcome (Fits f W H l P) (Held f W H l P 0 d 4) (settles s′ x)
+            held : Outcome (NextFits f W H l P d (spot 0 0 4)) (Held f W H l P 0 d 4) (settles s′ x)
             held = settles-outcome f W H l d p (kept .level-le) (kept .ready due) P x (kept .rows P has .holds live due) e (spot 0 0 4) is-height
 
             tried : (v : Tried) → settles s′ x ≡ v → SetsFit f W H (suc l) P 0 d
             tried failed z = absurd (no-row (refused 14) (λ r. let b : _≡_ {A = ℕ} 0 1 = cc in omega arith) 14 (unfold drawReply in
                 refl) (at ∙ sym (fits-no _ (sym z))))
-            tried (passed m) z = sets-fit P 0 d 4 m (unfold hasRow in refl) (outcome-passed m (subst (Outcome (Fits f W H l P) _) z held))
+            tried (passed m) z = sets-fit P 0 d 4 m (unfold hasRow in refl) (outcome-passed m (subst (Outcome (NextFits f W H l P d (spot 0 0 4)) _) z held))
 
     -- ---- Done
     all-drawn : View f W H l d p [] → H .length ≤ d
