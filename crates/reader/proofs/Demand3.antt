@@ -3,14 +3,13 @@ use mathlib.Core.Bool.{Bool, true, false}
 use mathlib.Core.Path.{_≡_, refl, sym, ap, ap₂, subst, _∙_}
 use mathlib.Core.List.{List, [], _∷_, _++_, append-nil, append-assoc}
 use Prim.Native.Nat.{ℕ, zero, suc, _+_, _-_, _≤_, _<_}
-use native.Mathlib.Decide.{ℕ-discrete}
 use native.Mathlib.Omega.{arith}
 use lib.IntN.{ℤ}
 use lib.ListN.{length}
-use lib.Dec.{T, eqb, leb}
+use lib.Dec.{T, eqb}
 use mir.Syntax.{w32}
 use mir.Val.{SFits}
-use borrow.Author.Tests.{le-ltb, lt-ltb, eq-eqb, leb-false}
+use borrow.Author.Tests.{le-ltb}
 use Rattle.numbers.specs.Signal.{pick}
 use Rattle.numbers.specs.Word.{wrap32, whole}
 use Rattle.lifting.specs.Grid.{Side, count}
@@ -19,7 +18,7 @@ use Rattle.wavelet.specs.Limits.{maxWidth, maxHeight, maxOrigin}
 use Rattle.wavelet.specs.Bands.{Grid, Band, code, across, down, levelHas}
 use Rattle.wavelet.specs.Maps.{IsMap, valueFits}
 use Rattle.wavelet.specs.Questions.{ask, within}
-use Rattle.wavelet.specs.Order.{RowName, rowName, times, setRow, setHas}
+use Rattle.wavelet.specs.Order.{RowName, rowName, times}
 use Rattle.wavelet.specs.Steps.{Step, bandRowsOf, steps}
 use Rattle.wavelet.specs.Steps as step
 use Rattle.wavelet.proofs.MapTheorems.{height-fits, low-fits}
@@ -37,24 +36,23 @@ use Rattle.calls.proofs.QuestionLaws.{asked-yes}
 use Rattle.nine_seven.specs.Filters.{filterOf, isFilter}
 use Rattle.nine_seven.proofs.Filters.{filter-laws}
 use Rattle.reader.specs.declared.Reader.{Reader}
-use Rattle.reader.specs.Asked.{keptAt, asked}
 use Rattle.reader.specs.Rebuilt.{Rows, rebuilt, bandsAt, partAt, SetFits, SetsFit}
 use Rattle.reader.specs.Store.{hasCells}
 use Rattle.reader.specs.Holds.{Ready, FeedDue}
 use Rattle.reader.specs.Answers.{done}
 use Rattle.reader.specs.Sets.{ahead, hasRow, needed}
 use Rattle.level.specs.Tried.{Tried, failed, passed, fits}
-use Rattle.reader.specs.Machine.{Spot, spot, Place, placeOf, bandAt, lastOfSet, nextUp, past, beyond, enter}
+use Rattle.reader.specs.Machine.{spot, Place, placeOf, lastOfSet, past, beyond, enter}
 use Rattle.reader.specs.State.{drawDue, feeds, settles}
 use Rattle.reader.specs.Questions.{countsFit, setUpQuestion, feedQuestion, drawQuestion}
 use Rattle.reader.specs.Calls.{fresh, feedReply, drawReply, drawArea}
 use Rattle.reader.specs.Demand3.{Call, want, feed, draw, Given, heights, nothing, Event, wanted, fed, drew, said, given}
 use Rattle.reader.specs.Demand3.{World, event, events, final, freshWorld, leftBy, left, ends, endedBy, FedRow, fedBy, fedRows, drawnBy, drawnRows}
-use Rattle.reader.specs.Demand3.{HasRow, FirstRows, HasFedRow, FeedFits, setNumber, goesOnSet, wantSays, feedTurned, drawSays}
+use Rattle.reader.specs.Demand3.{HasRow, FirstRows, HasFedRow, FeedFits, setNumber, wantSays, feedTurned, drawSays}
 use Rattle.reader.specs.Demand3.{OneOf, this, that, written, Draws, Demand3, OfCalls}
 use Rattle.reader.specs.Demand3 as demand
-use Rattle.reader.proofs.ReadyLaws.{ready-still, ready-enter, ready-back}
-use Rattle.reader.proofs.StepsLeft.{stepsLeft, tailAt, Ahead, height, row, ahead-is, left-first, left-row}
+use Rattle.reader.proofs.ReadyLaws.{ready-enter, ready-back}
+use Rattle.reader.proofs.StepsLeft.{stepsLeft, left-first}
 use Rattle.level.proofs.SetMade.{Outcome}
 use Rattle.reader.proofs.Outcomes.{outcome-failed, outcome-passed, settles-outcome, feeds-worked, kept-last}
 use Rattle.reader.proofs.Holds.{by-outcome, Fits, LeavesAt, Held, HeldAt, Worked, first-holds, set-fits, set-has}
@@ -63,7 +61,7 @@ use Rattle.reader.proofs.CallViews.{FeedView, feed-away, feed-onward, f
 use Rattle.reader.proofs.Reached.{namesOf, Good, enter-le, Agrees, Kept, Reached, reached, world, call-reached}
 use Rattle.reader.proofs.SetSteps.{set-of-row, set-goes-on, set-ends}
 use Rattle.reader.proofs.Rebuilt.{lookup, lookup-words, found, back, back-has, rowsOf, part-same, bands-have}
-use Rattle.reader.proofs.CellLaws.{cells-are, asked-has, has-row}
+use Rattle.reader.proofs.CellLaws.{cells-are}
 use Rattle.level.proofs.LevelHas.{sets-have, have-sets}
 use Rattle.reader.proofs.OpenedSets.{looks, last-needed}
 

@@ -33,7 +33,8 @@ use Rattle.reader.specs.Store.{stretchAt, from, behind, hasCells, fedAt,
 use Rattle.reader.specs.Machine.{Spot, spot, bandAt, lastOfSet, nextUp, settled, finished, past, beyond, fedOn, dive, begins, enter}
 use Rattle.reader.proofs.Looks.{named-code, code-lt, first-le}
 use Rattle.reader.proofs.OpenedSets.{last-is, first-low, low-is, side-long, odd-first, makes-yes, makes-not, row-makes, row-next, opens-yes}
-use Rattle.reader.proofs.OpenedSets.{opened-row, row-taking, taking-row, taking-has, needed-next, needed-on, needed-from, waits-here, waits-finer, waiting-row}
+use Rattle.reader.proofs.OpenedSets.{opened-row, row-taking, taking-row, taking-has, needed-next, needed-on, needed-from}
+use Rattle.reader.proofs.OpenedSets.{waits-here, waits-finer, waiting-row}
 use Rattle.reader.proofs.CellLaws.{cells-yes, cells-are, cells-before, no-low}
 use Rattle.reader.proofs.ReadyLaws.{ready-up}
 use Rattle.reader.proofs.StepsLeft.{last-none, begins-is}
@@ -362,7 +363,8 @@ module _ (f : ℕ) (W H : Side) (l : ℕ) (P : Rows) where
     work-made : Outcome (SetFits f W H P (suc l) k n) (Worked k n) (workedAt f W H (suc l) k n x)
     unfolding workedAt hasSet
     work-made = rw (live .1, le-leb n (lastSet (sideAt k H)) there)
-        (onto-outcome _ _ _ _ (behind (stretchAt f W k) x) _ (λ g. subst (λ a. SetFitsBy (filterOf f) a k (sideAt k W) (sideAt k H) (B k) n) (sym (back-ahead f)) g)
+        (onto-outcome _ _ _ _ (behind (stretchAt f W k) x) _
+        (subst (λ a. SetFitsBy (filterOf f) a k (sideAt k W) (sideAt k H) (B k) n) (sym (back-ahead f)))
         worked-of (go (ℕ-discrete k l)))
       where
         some : 0 < sideAt k H .length
@@ -690,7 +692,8 @@ module _ (f : ℕ) (W H : Side) (l : ℕ) (P : Rows) where
       go (c ∷ cs) e ih = rw (lt-ltb (code c) 4 (code-lt c)) (λ j q. refl)
 
   pub settle-holds : (d lev n b : ℕ) (x : ℕ → ℤ) → lev ≤ suc l → Ready f W H (suc l) d (spot lev n b) → Held lev n b x →
-      Outcome (NextFits d (nextUp f W H (suc l) lev n b)) (HeldNext d (nextUp f W H (suc l) lev n b)) (settled f W H (suc l) (nextUp f W H (suc l) lev n b .level) lev n x)
+      Outcome (NextFits d (nextUp f W H (suc l) lev n b)) (HeldNext d (nextUp f W H (suc l) lev n b))
+      (settled f W H (suc l) (nextUp f W H (suc l) lev n b .level) lev n x)
   unfolding nextUp settled bandAt nextBand look firstCode
   settle-holds d zero n b x h r s = goes x (subst (λ i. Held 0 i 4 x) (top-is r) (record {
     below = s .below;
@@ -758,7 +761,8 @@ module _ (f : ℕ) (W H : Side) (l : ℕ) (P : Rows) where
       y = fedAt f W H k n (code c) v x
 
       go : (t : Bool) → lastOfSet W H (suc l) k n (code c) ≡ t →
-          Outcome (FeedDue f W H (suc l) P k n (code c)) (λ z. HeldAt (pick t (past f W H (suc l) k n) (spot (suc k) n (code c + 1))) z × (t ≡ true → Worked k n z))
+          Outcome (FeedDue f W H (suc l) P k n (code c))
+          (λ z. HeldAt (pick t (past f W H (suc l) k n) (spot (suc k) n (code c + 1))) z × (t ≡ true → Worked k n z))
           (pick t (workedAt f W H (suc l) k n y) (passed y))
       go true e = by-outcome _ _ _ _ _ (λ due. due .own e) (λ z q. (past-holds k n z h (r .there k refl) q, λ _. q))
           (work-made k n y live (r .there k refl)
