@@ -1,10 +1,10 @@
 -- Where each level is while a height row is waited for, whatever the look-ahead. Assumes nothing.
-use mathlib.Core.Bool.{Bool, true, false}
+use mathlib.Core.Bool.{true, false}
 use mathlib.Core.Path.{_≡_, refl, sym, ap, _∙_}
 use Prim.Native.Nat.{ℕ, zero, suc, _+_, _-_, _*_, _/_, _%_, min, _≤_, _<_}
-use native.Mathlib.Decide.{ℕ-discrete, decLt}
+use native.Mathlib.Decide.{ℕ-discrete}
 use native.Mathlib.Omega.{arith}
-use lib.Dec.{leb, ltb, eqb}
+use lib.Dec.{eqb}
 use Rattle.numbers.specs.Signal.{pick}
 use borrow.Author.Tests.{ltb-true, ltb-false, eq-eqb, ne-eqb, leb-true, leb-false, le-leb}
 use Rattle.lifting.specs.Line.{lo}
@@ -12,10 +12,10 @@ use Rattle.lifting.specs.Grid.{Side, count}
 use Rattle.wavelet.specs.Levels.{next, sideAt}
 use Rattle.wavelet.specs.Order.{firstSet, lastSet}
 use Rattle.wavelet.specs.Steps.{setTo, setOf, setsBefore}
-use Rattle.wavelet.proofs.StepLaws.{to-first, to-later, to-rises, set-of, set-there, set-rises, set-last, before-zero, before-suc, before-rises}
+use Rattle.wavelet.proofs.StepLaws.{to-first, to-later, set-of, set-there, set-rises, set-last, before-zero, before-suc, before-rises}
 use Rattle.nine_seven.proofs.Filters.{filter-laws}
 use Rattle.level.specs.Sets.{opens}
-use Rattle.reader.specs.Sets.{ahead, hasRow, rowOf, taking, needed, firstRow, makes, waiting, waitsAt}
+use Rattle.reader.specs.Sets.{ahead, hasRow, rowOf, taking, needed, rowTo, firstRow, makes, waiting, waitsAt}
 
 -- a filter looks ahead
 pub looks : (f : ℕ) → 1 ≤ ahead f
@@ -33,10 +33,6 @@ first-low S = refl
 pub low-is : (S : Side) → count lo S ≡ (S .length + 1 - S .start % 2) / 2
 unfolding count
 low-is S = refl
-
-pub next-long : (S : Side) → next S .length ≡ count lo S
-unfolding next
-next-long S = refl
 
 pub side-long : (k : ℕ) (S : Side) → sideAt (suc k) S .length ≡ count lo (sideAt k S)
 unfolding sideAt next
@@ -61,14 +57,11 @@ fewer f S r (suc q) h = elim (ℕ-discrete r (suc q)) [
   | no e ↦ omega (arith, fewer f S r q (omega (arith, e)), before-rises (ahead f) S q)
 ]
 
-abbrev rowTo : ℕ → Side → ℕ → ℕ
-rowTo f S n = 2 * (suc n - ahead f) + 1 - S .start % 2
-
-row-is : (f : ℕ) (S : Side) (n : ℕ) → firstRow f S (suc n) ≡ min (rowTo f S n) (S .length - 1)
+row-is : (f : ℕ) (S : Side) (n : ℕ) → firstRow f S (suc n) ≡ min (rowTo f S (suc n)) (S .length - 1)
 unfolding firstRow
 row-is f S n = refl
 
-to-before : (f : ℕ) (S : Side) (n r : ℕ) → rowTo f S n ≡ r → setsBefore (ahead f) S r ≤ suc n
+to-before : (f : ℕ) (S : Side) (n r : ℕ) → rowTo f S (suc n) ≡ r → setsBefore (ahead f) S r ≤ suc n
 to-before f S n zero e = omega (arith, before-zero (ahead f) S)
 to-before f S n (suc r) e = at (suc n - ahead f) refl
   where
@@ -83,18 +76,18 @@ to-before f S n (suc r) e = at (suc n - ahead f) refl
 pub row-before : (f : ℕ) (S : Side) (n : ℕ) → setsBefore (ahead f) S (firstRow f S n) ≤ n
 row-before f S zero = unfold firstRow in omega (arith, before-zero (ahead f) S)
 row-before f S (suc n) =
-    let a = fewer f S (firstRow f S (suc n)) (rowTo f S n) (omega (arith, row-is f S n)) in
-    omega (arith, a, to-before f S n (rowTo f S n) refl)
+    let a = fewer f S (firstRow f S (suc n)) (rowTo f S (suc n)) (omega (arith, row-is f S n)) in
+    omega (arith, a, to-before f S n (rowTo f S (suc n)) refl)
 
 -- and it does, if the level has such a set; then it is a row of the level
-within : (f : ℕ) (S : Side) (n : ℕ) → suc n ≤ lastSet S → firstRow f S (suc n) ≡ rowTo f S n
+within : (f : ℕ) (S : Side) (n : ℕ) → suc n ≤ lastSet S → firstRow f S (suc n) ≡ rowTo f S (suc n)
 within f S n h = omega (arith, row-is f S n, looks f, last-is S)
 
 pub row-makes : (f : ℕ) (S : Side) (n : ℕ) → n ≤ lastSet S → n ≤ setOf (ahead f) S (firstRow f S n)
 row-makes f S zero h = omega arith
 row-makes f S (suc n) h =
-    let u = to-at f (S .start % 2 + rowTo f S n) (2 * (suc n - ahead f)) (omega arith) in
-    rw (within f S n h) (omega (arith, set-of (ahead f) S (rowTo f S n), u))
+    let u = to-at f (S .start % 2 + rowTo f S (suc n)) (2 * (suc n - ahead f)) (omega arith) in
+    rw (within f S n h) (omega (arith, set-of (ahead f) S (rowTo f S (suc n)), u))
 
 pub row-there : (f : ℕ) (S : Side) (n : ℕ) → 0 < S .length → firstRow f S n < S .length
 row-there f S zero p = unfold firstRow in p
@@ -105,17 +98,17 @@ row-in f S zero = unfold firstRow in omega arith
 row-in f S (suc n) = omega (arith, row-is f S n)
 
 -- no other row is so
-to-only : (f : ℕ) (S : Side) (n r : ℕ) → setsBefore (ahead f) S r ≤ suc n → suc n ≤ setOf (ahead f) S r → rowTo f S n ≡ r
+to-only : (f : ℕ) (S : Side) (n r : ℕ) → setsBefore (ahead f) S r ≤ suc n → suc n ≤ setOf (ahead f) S r → rowTo f S (suc n) ≡ r
 to-only f S n zero b m = at (S .start % 2) refl
   where
-    at : (p : ℕ) → S .start % 2 ≡ p → rowTo f S n ≡ 0
+    at : (p : ℕ) → S .start % 2 ≡ p → rowTo f S (suc n) ≡ 0
     at zero e =
         let u : setTo (ahead f) (S .start % 2 + 0) ≡ 0 = ap (setTo (ahead f)) (omega arith) ∙ to-first (ahead f) in
         absurd (omega (arith, set-of (ahead f) S 0, u))
     at (suc p) e = omega (arith, set-of (ahead f) S 0, to-at f (S .start % 2 + 0) p (omega arith))
 to-only f S n (suc r) b m = at (S .start % 2 + r) refl
   where
-    at : (q : ℕ) → S .start % 2 + r ≡ q → rowTo f S n ≡ suc r
+    at : (q : ℕ) → S .start % 2 + r ≡ q → rowTo f S (suc n) ≡ suc r
     at zero e =
         let u = to-at f (S .start % 2 + suc r) 0 (omega arith) in
         omega (arith, set-of (ahead f) S (suc r), u)
@@ -171,7 +164,9 @@ far f S zero = at (S .start % 2 + (0 + (2 * ahead f - 1))) refl
   where
     at : (q : ℕ) → S .start % 2 + (0 + (2 * ahead f - 1)) ≡ q → setOf (ahead f) S (0 + (2 * ahead f - 1)) ≤ setsBefore (ahead f) S 0 + (2 * ahead f - 1)
     at zero e = absurd (omega (arith, looks f))
-    at (suc q) e = omega (arith, looks f, before-zero (ahead f) S, set-of (ahead f) S (0 + (2 * ahead f - 1)), to-at f (S .start % 2 + (0 + (2 * ahead f - 1))) q e)
+    at (suc q) e =
+        let u = to-at f (S .start % 2 + (0 + (2 * ahead f - 1))) q e in
+        omega (arith, looks f, before-zero (ahead f) S, set-of (ahead f) S (0 + (2 * ahead f - 1)), u)
 far f S (suc r) = at (S .start % 2 + r) refl
   where
     u : setTo (ahead f) (S .start % 2 + (suc r + (2 * ahead f - 1))) ≡ (S .start % 2 + (r + (2 * ahead f - 1))) / 2 + ahead f
@@ -180,7 +175,8 @@ far f S (suc r) = at (S .start % 2 + r) refl
     at : (q : ℕ) → S .start % 2 + r ≡ q → setOf (ahead f) S (suc r + (2 * ahead f - 1)) ≤ setsBefore (ahead f) S (suc r) + (2 * ahead f - 1)
     at zero e = omega (arith, looks f, before-suc (ahead f) S r, set-of (ahead f) S (suc r + (2 * ahead f - 1)), u)
     at (suc q) e =
-        omega (arith, looks f, before-suc (ahead f) S r, set-of (ahead f) S r, set-of (ahead f) S (suc r + (2 * ahead f - 1)), u, to-at f (S .start % 2 + r) q e)
+        let v = to-at f (S .start % 2 + r) q e in
+        omega (arith, looks f, before-suc (ahead f) S r, set-of (ahead f) S r, set-of (ahead f) S (suc r + (2 * ahead f - 1)), u, v)
 
 -- ---- numbers and the rows that they take
 pub row-taking : (H : Side) (k r : ℕ) → rowOf H k (taking H k r) ≡ r
@@ -232,11 +228,6 @@ module _ (f : ℕ) (H : Side) where
         ∙ ap (λ i. setOf (ahead f) (sideAt j H) (rowOf H j i)) (needed-on k n m e j (omega (arith, z)))
         ∙ sym (needed-next (suc k) m j (omega (arith, z)))
   ]
-
-  -- the same row, the same sets
-  pub needed-same : (k n m : ℕ) → rowOf H k n ≡ rowOf H k m → (j : ℕ) → suc k ≤ j → needed f H k n j ≡ needed f H k m j
-  needed-same k n m e j h =
-      needed-on k n _ (needed-from k n ∙ ap (setOf (ahead f) (sideAt k H)) e) j h ∙ sym (needed-on k m _ (needed-from k m) j h)
 
   pub waits-here : (k n : ℕ) → waitsAt f H k n k ≡ n
   unfolding waitsAt
