@@ -8,11 +8,12 @@ use native.Mathlib.Decide.{ℕ-discrete, decLt}
 use native.Mathlib.Omega.{arith}
 use lib.IntN.{ℤ}
 use lib.Signed.{shrZ}
-use lib.Dec.{T, ltb, leb, eqb}
-use borrow.Author.Tests.{lt-ltb, le-ltb, le-leb, lt-leb, eq-eqb, ne-eqb}
+use lib.Dec.{T, ltb, leb}
+use borrow.Author.Tests.{lt-ltb, le-ltb, le-leb, lt-leb, leb-true, ltb-true}
 use Rattle.numbers.specs.Signal.{pick}
 use Rattle.numbers.specs.Tests.{every}
 use Rattle.numbers.specs.Word.{wrap32}
+use Rattle.numbers.proofs.Sweep.{both as both-hold}
 use Rattle.numbers.proofs.TestLaws.{every-each, each-every}
 use Rattle.lifting.specs.Line.{Half, lo, hi}
 use Rattle.lifting.specs.Grid.{Side, place, count, parted, loneHigh, isEven, hasLine}
@@ -35,7 +36,7 @@ use Rattle.wavelet.specs.Steps.{setOf}
 use Rattle.nine_seven.specs.NineSevenFilter.{nineSevenFilter}
 use Rattle.nine_seven_rebuilding.specs.Slots.{rowPlace, rowUnlifted, rowHasLine, rowByTwo, rowHalved, rowIsEven}
 use Rattle.nine_seven_rebuilding.specs.Work.{rowBefore, rowAfter, lineTried, lowTried, highTried, setUnlifted, evenRow, oddRow, evenDone, rowFits}
-use Rattle.nine_seven_rebuilding.specs.Work.{admitted, pairMade, firstMade, earlierPair, earlierMade, ownMade, loneMade, lastMade, restMade}
+use Rattle.nine_seven_rebuilding.specs.Work.{admitted, pairMade, ownEven, firstMade, earlierPair, earlierMade, ownMade, loneMade, lastMade, restMade}
 use Rattle.nine_seven_rebuilding.specs.Work.{rowsMade, setMade}
 use Rattle.nine_seven_rebuilding.specs.Stands.{SetBefore, SetLeaves}
 use Rattle.nine_seven_rebuilding.proofs.WorkLaws.{others}
@@ -443,26 +444,37 @@ module _ (k : ℕ) (W H : Side) (p : Band → Grid) where
     at-zero : (n r : ℕ) → setOf 2 H r ≡ n → local (H .start) r < 1 → (H .start % 2 + n ≡ 0) × (r ≡ 0)
     at-zero n r s l = set-first H n r s l
 
-    zero-row : 0 < endOf H → H .start % 2 ≡ 0 → (row 0 < H .length) × (b₀ ≤ 0) × (row 0 ≡ 0)
-    unfolding endOf firstSet
-    zero-row l e = (omega arith, omega arith, omega arith)
+    -- an even row that its own set makes
+    own-low : (n : ℕ) → ownEven H n ≡ true → b₀ ≤ n
+    unfolding ownEven hasLow
+    own-low n e = leb-true b₀ n (both-hold (leb b₀ n) _ e .0)
+
+    own-set : (n : ℕ) → ownEven H n ≡ true → setOf 2 H (row (2 * n)) ≡ n
+    unfolding ownEven hasLow firstSet
+    own-set n e =
+        let t = both-hold (leb b₀ n) _ e in
+        let a = leb-true b₀ n (t .0) in
+        let b = ltb-true n _ (t .1) in
+        ap (setOf 2 H) (omega arith) ∙ set-start H n (omega arith)
+
+    own-there : (n : ℕ) → H .start % 2 + n ≡ 0 → ownEven H n ≡ true
+    unfolding ownEven hasLow firstSet
+    own-there n e = let z : n ≡ 0 = omega arith in rw z (rw (le-leb (H .start % 2) 0 (omega arith)) refl)
 
     first-made : (n : ℕ) (x : ℕ → ℤ) → 2 * n < endOf H → Held n (n - 2) x →
         Outcome (FitSet k W H p n) (Stage n (n - 2) 1) (firstMade k (W .length) H n x)
     unfolding firstMade
-    first-made n x l s = go (ℕ-discrete (H .start % 2 + n) 0)
+    first-made n x l s = go (ownEven H n) refl
       where
-        go : Dec (H .start % 2 + n ≡ 0) →
-            Outcome (FitSet k W H p n) (Stage n (n - 2) 1) (pick (eqb (H .start % 2 + n) 0) (admitted k (W .length) 0 x) (passed x))
-        go (yes e) =
-            let z = zero-row (omega arith) (omega arith) in
-            rw (eq-eqb (H .start % 2 + n) 0 e)
-            (admit (Stage n (n - 2) 1) n 0 (row 0) x (z .0) (ap (setOf 2 H) (z .2) ∙ set-start H n e)
-            (s .even 0 (z .1) (omega arith) (omega arith)) (λ t. record {
+        go : (t : Bool) → ownEven H n ≡ t → Outcome (FitSet k W H p n) (Stage n (n - 2) 1) (pick t (admitted k (W .length) (2 * n) x) (passed x))
+        go true e =
+            let b = own-low n e in
+            admit (Stage n (n - 2) 1) n (2 * n) (row (2 * n)) x (row-in (2 * n) l (omega arith)) (own-set n e)
+            (s .even n b (omega arith) (omega arith)) (λ t. record {
               held = s;
-              fit = λ r b q u. subst FitRow (z .2 ∙ sym (at-zero n r q u .1)) t;
-            }))
-        go (no e) = rw (ne-eqb (H .start % 2 + n) 0 e) (goes x (record { held = s; fit = λ r b q u. absurd (e (at-zero n r q u .0)) }))
+              fit = λ r _ q u. let z = at-zero n r q u in subst FitRow (at-row (2 * n) r (omega arith)) t;
+            })
+        go false e = goes x (record { held = s; fit = λ r b q u. absurd (not-false (ownEven H n) (own-there n (at-zero n r q u .0)) e) })
 
     -- ---- the earlier rows
     near-earlier : (n : ℕ) → 2 * n < endOf H → 2 ≤ n → Near n (earlierPair n)
