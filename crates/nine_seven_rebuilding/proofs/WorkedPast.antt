@@ -11,8 +11,9 @@ use Rattle.level.specs.Rebuilding.{Kept}
 use Rattle.level.proofs.KeptLaws.{kept-none}
 use Rattle.level.proofs.WorkedPast.{Keeps, stops, goes, after, bound}
 use Rattle.nine_seven_rebuilding.specs.Slots.{rowUnlifted, rowHasLine, rowHalved, rowIsEven, lowRowTaken}
-use Rattle.nine_seven_rebuilding.specs.Work.{lineTried, lowTried, highTried, setUnlifted, evenDone, oddRow, ownEven, rowFits, admitted, pairMade, firstMade}
-use Rattle.nine_seven_rebuilding.specs.Work.{earlierPair, earlierMade, ownMade, loneMade, lastMade, restMade, rowsMade, setMade, lowTaken, setWorked}
+use Rattle.nine_seven_rebuilding.specs.Work.{lineTried, lowTried, highTried, setUnlifted, evenDone, oddRow, rowFits, admitted, pairMade}
+use Rattle.nine_seven_rebuilding.specs.Work.{ownEven, firstMade, earlierPair, earlierMade, ownMade, loneMade, lastMade, restMade, rowsMade, setMade}
+use Rattle.nine_seven_rebuilding.specs.Work.{lowTaken, setWorked}
 use Rattle.nine_seven_rebuilding.proofs.KeptLaws.{unlifted-kept, low-kept, halved-kept, odd-kept, done-kept}
 
 module _ (n : ℕ) where

@@ -174,9 +174,9 @@ module _ (f : ℕ) (W H : Side) (l d : ℕ) (p : Place) (level-le : p .level ≤
       first _ e (height fr) = rw (left-height f W H l d to (o .due) fr) refl
       first _ e (row j i b h r asks fr) = rw (left-row f W H l d to j i b (o .due) fr) (elim (ℕ-discrete (suc j) (suc k)) [
         | yes z ↦ rw (
-            eq-eqb (suc j) (suc k) z,
-            ne-eqb (setNumber H (nameOf f W H l j i b)) (setNumber H (nameOf f W H l k n c))
-                (λ y. other j i (code b) e z (sym (set-of-row f W H l j i b asks) ∙ y ∙ set-of-row f W H l k n c (o .asks))),
-          ) refl
+          eq-eqb (suc j) (suc k) z,
+          ne-eqb (setNumber H (nameOf f W H l j i b)) (setNumber H (nameOf f W H l k n c))
+              (λ y. other j i (code b) e z (sym (set-of-row f W H l j i b asks) ∙ y ∙ set-of-row f W H l k n c (o .asks))),
+        ) refl
         | no z ↦ rw (ne-eqb (suc j) (suc k) z) refl
       ])

@@ -303,7 +303,8 @@ pub record Demand3 (f : ℕ) (W H : Side) (L : ℕ) (es : List Event) (then : Ca
       FeedFits f W H L P x t
   pub draw-works : (a b : Area) → then (draw a) ≡ drew a (gives (heights (W .length))) b →
       (P : Rows) → All (HasFedRow W P) (fedRows (steps (ahead f) W H L) es) → SetsFit f W H L P 0 (length (drawnRows es))
-  -- and 14 comes only where something due then does not fit: a row is asked 14 in the call that makes it, no earlier
+  -- and in a call that gives 14 something due then does not fit: 14 comes no earlier. Document 02, Q-8: a row "counts as made, and is asked 14, with the set
+  -- that brings the last value that it or any row above it needs."
   pub feed-ends : (a : Area) (x : RowName) (t : List Step) → left (steps (ahead f) W H L) es ≡ step.feed x ∷ t → then (feed a) ≡ fed a (refused 14) →
       (P : Rows) → All (HasFedRow W P) (fedRows (steps (ahead f) W H L) es ++ (record { row = x; run = a } ∷ [])) →
       FeedFits f W H L P x t → ⊥
