@@ -6,6 +6,12 @@ fn map(width: usize, height: usize) -> Vec<u16> {
     (0..width * height).map(|i| (i as u64 * 2_654_435_761 % 65_536) as u16).collect()
 }
 
+/// That size at every number of levels of each filter.
+fn shapes(width: usize, height: usize) -> impl Iterator<Item = Shape> {
+    let five_three = (1..=MAX_LEVELS).map(move |levels| Shape::new(width, height, levels));
+    five_three.chain((1..MAX_LEVELS).map(move |levels| Shape::new(width, height, levels).by(NINE_SEVEN)))
+}
+
 fn draw_all(writer: &mut Writer, line: &mut [i32], rows: &mut HashMap<BandRow, Vec<i32>>) {
     while let Some((row, values)) = writer.draw(line).unwrap() {
         assert!(rows.insert(row, values.to_vec()).is_none());
@@ -46,8 +52,7 @@ fn heights_of(rows: &HashMap<BandRow, Vec<i32>>, s: Shape) -> Result<Vec<u16>, Q
 #[test]
 fn writer_reader_and_whole_map_agree() {
     for (width, height) in [(1, 1), (1, 4), (4, 1), (2, 2), (5, 3), (9, 17), (33, 20)] {
-        for levels in 1..=MAX_LEVELS {
-            let s = Shape::new(width, height, levels);
+        for s in shapes(width, height) {
             let heights = map(width, height);
             let n = width * height;
             let (mut plane, mut work) = (vec![0; n], vec![1; n]);
@@ -71,7 +76,11 @@ fn writer_reader_and_whole_map_agree() {
 /// Saved after every call, and on from the copy: the same rows and the same heights.
 #[test]
 fn a_stream_is_its_numbers_and_its_store() {
-    let s = Shape::new(5, 9, 2);
+    goes_on(Shape::new(5, 9, 2));
+    goes_on(Shape::new(5, 9, 2).by(NINE_SEVEN));
+}
+
+fn goes_on(s: Shape) {
     let heights = map(s.width, s.height);
     let mut store = vec![0; store_length(s)];
     let writer = Writer::new(s, &mut store).unwrap();
@@ -117,6 +126,10 @@ fn a_line() {
     line_backward(&out, 0, &mut again).unwrap();
     assert_eq!(again, [1, 4, 2, 7, 3]);
     assert_eq!(line_forward(&[1, 2], 0, &mut out[..1]).unwrap_err().number, 5);
+    ccsds_line_forward(&[1, 4, 2, 7, 3], 0, &mut out).unwrap();
+    ccsds_line_backward(&out, 0, &mut again).unwrap();
+    assert_eq!(again, [1, 4, 2, 7, 3]);
+    assert_eq!(ccsds_line_forward(&[1, 2], 0, &mut out[..1]).unwrap_err().number, 5);
 }
 
 #[test]
@@ -134,7 +147,9 @@ fn the_questions() {
     let mut store = [0; 40];
     assert_eq!(Writer::new(Shape::new(0, 1, 1), &mut store).unwrap_err().number, 2);
     assert_eq!(Reader::new(Shape::new(1, MAX_HEIGHT + 1, 1), &mut store).unwrap_err().number, 3);
+    assert_eq!(Writer::new(Shape::new(1, 1, 6).by(2), &mut store).unwrap_err().number, 18);
     assert_eq!(Writer::new(Shape::new(1, 1, 6), &mut store).unwrap_err().number, 4);
+    assert_eq!(Writer::new(Shape::new(1, 1, 5).by(NINE_SEVEN), &mut store).unwrap_err().number, 4);
     assert_eq!(Writer::new(Shape::new(3, 1, 2), &mut store[..19]).unwrap_err().number, 5);
     assert_eq!(
         (store_length(Shape::new(3, 1, 2)), store_length(Shape::new(2_050, 1, 1)), store_length(Shape::new(3, 1, 0))),
@@ -196,18 +211,18 @@ fn a_question_prints_a_sentence() {
 #[test]
 fn every_question_of_every_call_has_a_sentence() {
     let questions: [(Call, &[u32]); 15] = [
-        (Call::Line, &[5]),
+        (Call::Line, &[5, 14]),
         (Call::Profile, &[2, 5]),
         (Call::Picture, &[2, 3]),
-        (Call::MapForward, &[2, 3, 4, 5]),
-        (Call::MapBackward, &[2, 3, 4, 5, 7, 14]),
+        (Call::MapForward, &[2, 3, 18, 4, 5]),
+        (Call::MapBackward, &[2, 3, 18, 4, 5, 7, 14]),
         (Call::View, &[2, 3, 4, 5, 6]),
-        (Call::WriterSetUp, &[2, 4, 5]),
+        (Call::WriterSetUp, &[2, 18, 4, 5]),
         (Call::Offer, &[1, 5, 9, 8, 10]),
         (Call::WriterDraw, &[1, 5, 12]),
         (Call::WriterWaits, &[1]),
         (Call::Finish, &[1, 5, 9, 8, 11]),
-        (Call::ReaderSetUp, &[2, 3, 4, 5]),
+        (Call::ReaderSetUp, &[2, 3, 18, 4, 5]),
         (Call::Want, &[1]),
         (Call::Feed, &[1, 5, 9, 8, 13, 7, 14]),
         (Call::ReaderDraw, &[1, 5, 9, 12, 14]),

@@ -14,6 +14,7 @@ use borrow.Rule.Slice.PartMut.{midOf}
 use Rattle.numbers.specs.Signal.{at, both}
 use Rattle.numbers.proofs.Integers.{each, lin, dif, dif-pos, dif-natAbs, dif-leZ}
 use Rattle.numbers.proofs.Parts.{length-mid, at-mid, window-in}
+use Rattle.lifting.specs.Filter.{Filter}
 use Rattle.lifting.specs.FiveThree.{fiveThreeFilter}
 use Rattle.wavelet.specs.Limits.{maxSample, maxLevels, range}
 use Rattle.numbers.specs.Tests.{every}
@@ -78,8 +79,8 @@ unfolding valueFits
 value-between zero v = unfold lowestOf between range maxSample in refl
 value-between (suc k) v = abs-between (range fiveThreeFilter (suc k)) v ∙ unfold lowestOf in refl
 
-pub same-range : (k : ℕ) → k ≤ maxLevels → pos (range fiveThreeFilter (min k maxLevels)) ≡ pos (range fiveThreeFilter k)
-same-range k h = let e : min k maxLevels ≡ k = omega arith in ap (λ (i : ℕ). pos (range fiveThreeFilter i)) e
+pub same-range : (F : Filter) (m k : ℕ) → k ≤ m → pos (range F (min k m)) ≡ pos (range F k)
+same-range F m k h = let e : min k m ≡ k = omega arith in ap (λ (i : ℕ). pos (range F i)) e
 
 -- ---- a row's test, made on the part that is lent
 pub admit-is : (k w r a m : ℕ) (l : List ℤ) (low high : ℤ) → a ≡ rowPlace w r → m ≡ w → a + m ≤ length l → low ≡ lowestOf k

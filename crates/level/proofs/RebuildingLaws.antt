@@ -59,10 +59,6 @@ module _ (last : Bool) (k : ℕ) (W H : Side) (n m : ℕ) where
       let s = both-hold (ltb 0 (H .length)) (leb n (lastSet H)) d in
       rw (le-leb k maxLevels a, le-leb (W .length) widest b, le-leb (H .length) tallest c, s .0, s .1) refl
 
-  pub workable-is : Workable → workable last k W H n m ≡ true
-  workable-is f =
-      sym (workable-last (f .0) (f .1) (f .2) (rw (lt-ltb 0 (H .length) (f .3), le-leb n (lastSet H) (f .4)) refl)) ∙ le-leb (workLength last W) m (f .5)
-
 -- ---- the answers of a set worked out, where it can be
 module _ (room : Bool) (t : Tried) (y : ℕ → ℤ) where
   pub did-fit : room ≡ true → passed y ≡ t → (_≡_ {A = ℕ} 0 (workAnswer room t)) × (passed y ≡ pick room t failed)

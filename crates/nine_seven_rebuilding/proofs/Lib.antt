@@ -8,5 +8,4 @@ pub mod RowsIn
 pub mod RowSets
 pub mod SetMade
 pub mod WorkedPast
-pub mod LevelHas
 pub mod NineSevenBackLaws

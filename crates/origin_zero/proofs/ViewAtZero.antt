@@ -5,6 +5,7 @@ use Prim.Native.Nat.{ℕ, zero, suc, _+_, _-_, _*_}
 use lib.IntN.{ℤ}
 use lib.ListN.{length}
 use Rattle.lifting.specs.Grid.{Side, side, count}
+use Rattle.lifting.specs.FiveThree.{fiveThreeFilter}
 use Rattle.lifting.proofs.AtZero.{count-zero}
 use Rattle.wavelet.specs.Bands.{Band, LL, HL, LH, HH, across, down}
 use Rattle.wavelet.specs.Levels.{sideAt}
@@ -69,6 +70,6 @@ unfolding widths store.widths
 widths-zero W zero = refl
 widths-zero W (suc L) = ap₂ _+_ (widths-zero W L) (length-zero L W)
 
-pub store-length-zero : (W L : ℕ) → storeLength (side 0 W) L ≡ store.storeLength W L
+pub store-length-zero : (W L : ℕ) → storeLength (fiveThreeFilter .rows) (side 0 W) L ≡ store.storeLength W L
 unfolding storeLength store.storeLength
 store-length-zero W L = ap (λ (n : ℕ). 4 * n) (widths-zero W L)

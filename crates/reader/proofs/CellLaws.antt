@@ -99,11 +99,6 @@ unfolding setHas
 row-has W H b n a =
     rw (lt-ltb 0 (count (across b) W) (a .columns), le-leb (firstSet H (down b)) n (a .first), lt-ltb (setRow H b n) (count (down b) H) (a .row)) refl
 
-pub has-cells : (W H : Side) (b : Band) (n : ℕ) → setHas W H b n ≡ true → hasCells W H ≡ true
-has-cells W H b n e =
-    let a = has-row W H b n e in
-    cells-yes W H (count-long (across b) W (a .columns)) (count-long (down b) H (omega (arith, a .row)))
-
 pub asked-has : (t : Bool) (W H : Side) (n : ℕ) (b : Band) → asked t W H n b ≡ true → (keptAt t b ≡ true) × (setHas W H b n ≡ true)
 unfolding asked
 asked-has t W H n b e = halves (keptAt t b) _ e
@@ -126,18 +121,18 @@ unfolding inTurn
 turn-none zero f e = refl
 turn-none (suc n) f e = rw (turn-none n f e, e n) refl
 
-pub empty-row : (H : Side) (set : ℕ → List Step) (r : ℕ) → ((n : ℕ) → set n ≡ []) → rowSteps ahead H set r ≡ []
+pub empty-row : (f : ℕ) (H : Side) (set : ℕ → List Step) (r : ℕ) → ((n : ℕ) → set n ≡ []) → rowSteps (ahead f) H set r ≡ []
 unfolding rowSteps
-empty-row H set r e = turn-none _ _ (λ i. e _)
+empty-row f H set r e = turn-none _ _ (λ i. e _)
 
-pub empty-set : (l k : ℕ) (W H : Side) (n : ℕ) → Empty W H → setSteps ahead l k W H n ≡ []
+pub empty-set : (f l k : ℕ) (W H : Side) (n : ℕ) → Empty W H → setSteps (ahead f) l k W H n ≡ []
 unfolding setSteps setRows feedAll
-empty-set zero k W H n e = rw (empty-rows k n W H _ e) refl
-empty-set (suc l) k W H n e =
+empty-set f zero k W H n e = rw (empty-rows k n W H _ e) refl
+empty-set f (suc l) k W H n e =
     rw (
       empty-rows k n W H _ e,
-      empty-row (next H) (setSteps ahead l (suc k) (next W) (next H)) (n - firstSet H lo)
-          (λ m. empty-set l (suc k) (next W) (next H) m (empty-next W H e)),
+      empty-row f (next H) (setSteps (ahead f) l (suc k) (next W) (next H)) (n - firstSet H lo)
+          (λ m. empty-set f l (suc k) (next W) (next H) m (empty-next W H e)),
     ) (same (leb (firstSet H lo) n))
   where
     same : (t : Bool) → _≡_ {A = List Step} (pick t [] [] ++ []) []
@@ -193,8 +188,3 @@ last-asks t W H n i h cells there e = elim (decLt n (count hi H)) [
   | yes p ↦ absurd (omega (arith, e, high-asks W H n p t i h cells))
   | no p ↦ omega (arith, p, there, cells-are W H cells .1, high-is H, end-is H)
 ]
-
--- without a low row in set n, the next level has no rows
-pub no-low-empty : (W H : Side) → count lo H ≡ 0 → Empty (next W) (next H)
-unfolding next
-no-low-empty W H e = high e

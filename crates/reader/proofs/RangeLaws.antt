@@ -4,13 +4,13 @@ use Prim.Native.Nat.{ℕ}
 use lib.IntN.{ℤ, pos, _-ℤ_}
 use Rattle.numbers.specs.Tests.{every}
 use Rattle.numbers.proofs.TestLaws.{every-same}
-use Rattle.lifting.specs.FiveThree.{fiveThreeFilter}
 use Rattle.wavelet.specs.Limits.{range}
 use Rattle.areas.specs.Areas.{between}
+use Rattle.nine_seven.specs.Filters.{filterOf}
 use Rattle.reader.specs.Questions.{runFits}
 use Rattle.level.proofs.AdmitLaws.{abs-between}
 
-pub run-is : (k n : ℕ) (v : ℕ → ℤ) (low high : ℤ) → low ≡ pos 0 -ℤ pos (range fiveThreeFilter k) → high ≡ pos (range fiveThreeFilter k)
-    → every n (λ i. between low high (v i)) ≡ runFits k n v
+pub run-is : (f k n : ℕ) (v : ℕ → ℤ) (low high : ℤ) → low ≡ pos 0 -ℤ pos (range (filterOf f) k) → high ≡ pos (range (filterOf f) k)
+    → every n (λ i. between low high (v i)) ≡ runFits f k n v
 unfolding runFits
-run-is k n v low high el eh = every-same n _ _ (λ i h. cc (el, eh, abs-between (range fiveThreeFilter k) (v i)))
+run-is f k n v low high el eh = every-same n _ _ (λ i h. cc (el, eh, abs-between (range (filterOf f) k) (v i)))

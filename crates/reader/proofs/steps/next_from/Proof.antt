@@ -1,7 +1,5 @@
 -- `reader::steps::next_from` meets its contract: the walk from the reader's level on. Assumes nothing.
-use mathlib.Core.Path.{_∙_}
 use native.Mathlib.Omega.{arith}
-use Rattle.reader.specs.State.{columns, rows}
 use Rattle.reader.proofs.QuestionLaws.{counts-small}
 use Rattle.reader.proofs.StepLaws.{next-at}
 use Rattle.reader.proofs.steps.next_from.Statement.{statement}
@@ -10,7 +8,7 @@ use Rattle.reader.proofs.steps.next_from.Tie as tie
 next-up-requires : tie.Need-next-up-requires
 next-up-requires c κs =
     let counts = c .pre .0 in
-    (counts-small (c .args .s) counts, c .pre .1, omega (arith, counts .at, counts .deep .1), c .pre .2 .0)
+    (counts-small (c .args .s) counts, c .pre .1, omega (arith, counts .at, counts .few), c .pre .2 .0)
 
 returns : tie.Need-returns
 returns c =
