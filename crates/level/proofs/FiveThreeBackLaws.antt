@@ -18,14 +18,15 @@ use Rattle.wavelet.proofs.BandPlaces.{band-of}
 use Rattle.wavelet.specs.Levels.{next}
 use Rattle.wavelet.specs.Order.{firstSet, lastSet, setRow, setHas}
 use Rattle.wavelet.specs.Steps.{setOf}
+use Rattle.level.specs.Stretch.{lowTaken}
 use Rattle.level.specs.Slots.{slot, rowPlace, local, rowOfSet, halfPlace, bandFed, lowRowTaken}
 use Rattle.level.specs.Work.{endOf, hasLow, admitted, setWorked, setMade}
-use Rattle.level.specs.Stands.{SetLeaves, SetBefore, BandStands, fiveThreeStands}
+use Rattle.level.specs.Stands.{RowStands as Is, SetLeaves, SetBefore, BandStands, fiveThreeStands}
 use Rattle.level.specs.FiveThreeBack.{rowMade, fiveThreeBack}
 use Rattle.wavelet.proofs.StepLaws.{set-one}
-use Rattle.level.proofs.RowsIn.{apart, parity, row-end, Is, Only, is-old, only-fed, fed-here, fed-beside, only-taken, taken-is, taken-beside}
-use Rattle.level.proofs.RowsIn.{half-inside}
+use Rattle.level.proofs.RowsIn.{row-end, Only, is-old, only-fed, fed-here, fed-beside, only-taken, taken-is, taken-beside, half-inside}
 use Rattle.level.proofs.RowsIn.{row-halves, half-reads, joined-reads}
+use Rattle.level.proofs.FourRows.{four, apart, parity}
 use Rattle.level.proofs.SetMade.{Outcome, FitAll, Needs, set-made}
 use Rattle.level.proofs.ReaderLaws.{ReaderLaws}
 
@@ -35,7 +36,7 @@ SameMem W x y = (j : ℕ) → j < 4 * W .length → y j ≡ x j
 
 is-same : (W : Side) (x y : ℕ → ℤ) (q : ℕ) (c : Half → ℕ → ℤ) → SameMem W x y → Is W x q c → Is W y q c
 is-same W x y q c e s h i b =
-    e (rowPlace (W .length) q + (halfPlace h W + i)) (omega (arith, half-inside h W i b, row-end (W .length) q)) ∙ s h i b
+    e (rowPlace (W .length) q + (halfPlace h W + i)) (omega (arith, half-inside h W i b, row-end four (W .length) q)) ∙ s h i b
 
 -- ---- the slots of a set's rows
 set-rows : (a b : Half) (n : ℕ) → (a ≡ b → ⊥) → slot (rowOfSet a n) ≡ slot (rowOfSet b n) → ⊥
@@ -106,27 +107,27 @@ module _ (W H : Side) (p : Band → Grid) (n : ℕ) where
   got-same : (c : Band) (x y : ℕ → ℤ) → SameMem W x y → Got x c → Got y c
   got-same c x y e s t i q =
       e (rowPlace (W .length) (rowOfSet (down c) n) + (halfPlace (across c) W + i))
-      (omega (arith, half-inside (across c) W i q, row-end (W .length) (rowOfSet (down c) n))) ∙ s t i q
+      (omega (arith, half-inside (across c) W i q, row-end four (W .length) (rowOfSet (down c) n))) ∙ s t i q
 
   -- ---- a row of the set changed, and a band row fed
-  before-only : (a : Half) (x y : ℕ → ℤ) → Only (W .length) (rowOfSet a n) x y → Before x → Before y
+  before-only : (a : Half) (x y : ℕ → ℤ) → Only 4 (W .length) (rowOfSet a n) x y → Before x → Before y
   before-only a x y o s = record {
-    even = λ m q b. is-old W (rowOfSet a n) x y (2 * m) _ o (λ z. set-old-even a m (ap (λ (i : ℕ). slot (rowOfSet a i)) (sym q) ∙ z)) (s .even m q b);
-    high = λ m q. is-old W (rowOfSet a n) x y (2 * m + 1) _ o (λ z. set-old-odd a m (ap (λ (i : ℕ). slot (rowOfSet a i)) (sym q) ∙ z)) (s .high m q);
+    even = λ m q b. is-old four W (rowOfSet a n) x y (2 * m) _ o (λ z. set-old-even a m (ap (λ (i : ℕ). slot (rowOfSet a i)) (sym q) ∙ z)) (s .even m q b);
+    high = λ m q. is-old four W (rowOfSet a n) x y (2 * m + 1) _ o (λ z. set-old-odd a m (ap (λ (i : ℕ). slot (rowOfSet a i)) (sym q) ∙ z)) (s .high m q);
   }
 
   got-old : (c e : Band) (v x : ℕ → ℤ) → (c ≡ e → ⊥) → Got x e → Got (bandFed W c n v x) e
   got-old c e v x d s t i q = elim (Half-discrete (down c) (down e)) [
     | yes z ↦ ap (λ (a : Half). bandFed W c n v x (rowPlace (W .length) (rowOfSet a n) + (halfPlace (across e) W + i))) (sym z)
-        ∙ fed-beside W c n v x (across e) (λ y. d (sym (band-of c) ∙ ap₂ bandOf y z ∙ band-of e)) i q
+        ∙ fed-beside four W c n v x (across e) (λ y. d (sym (band-of c) ∙ ap₂ bandOf y z ∙ band-of e)) i q
         ∙ ap (λ (a : Half). x (rowPlace (W .length) (rowOfSet a n) + (halfPlace (across e) W + i))) z
         ∙ s t i q
-    | no z ↦ only-fed W c n v x .row (rowOfSet (down e) n) (halfPlace (across e) W + i) (set-rows (down c) (down e) n z) (half-inside (across e) W i q)
+    | no z ↦ only-fed four W c n v x .row (rowOfSet (down e) n) (halfPlace (across e) W + i) (set-rows (down c) (down e) n z) (half-inside (across e) W i q)
         ∙ s t i q
   ]
 
   got-new : (c : Band) (v x : ℕ → ℤ) → ((i : ℕ) → i < count (across c) W → v i ≡ p c (setRow H c n) i) → Got (bandFed W c n v x) c
-  got-new c v x e t i q = fed-here W c n v x (across c) refl i q ∙ e i q
+  got-new c v x e t i q = fed-here four W c n v x (across c) refl i q ∙ e i q
 
   -- ---- a set worked out
   module _ (k : ℕ) (x : ℕ → ℤ) (some : 0 < H .length) (there : n ≤ lastSet H) (before : Before x) where
@@ -159,7 +160,7 @@ module _ (W H : Side) (p : Band → Grid) (n : ℕ) where
 
     -- at the last level all bands are fed
     last-done : ((c : Band) → Got x c) → Outcome (FitAll k W H p) Done (setWorked admitted true k W H n x)
-    unfolding setWorked
+    unfolding setWorked lowTaken
     last-done got = set-made k W H p x n x some there (λ j _. refl) (needs-of x before got)
 
     -- else the low-low row, if there is one, comes from the next level
@@ -185,28 +186,28 @@ module _ (W H : Side) (p : Band → Grid) (n : ℕ) where
             x (4 * W .length + (rowPlace (count lo W) (local (next H .start) (n - firstSet H lo)) + (halfPlace a (next W) + i))) ≡
             parted (next W) (p LL (n - firstSet H lo)) a i
         unfolding next
-        low-halves a i b = half-reads (next W) (λ j. x (4 * W .length + j)) (local (next H .start) (n - firstSet H lo)) (p LL (n - firstSet H lo)) low a i b
+        low-halves a i b = half-reads four (next W) (λ j. x (4 * W .length + j)) (local (next H .start) (n - firstSet H lo)) (p LL (n - firstSet H lo)) low a i b
 
         got-taken : (c : Band) → Got taken c
         unfolding across down rowOfSet setRow
-        got-taken LL = λ t i b. taken-is W H n x (p LL (n - firstSet H lo)) low-halves i b
-        got-taken HL = λ t i b. taken-beside W H n x i b ∙ got HL not-wide t i b
-        got-taken LH = λ t i b. only-taken W H n x .row (2 * n + 1) (halfPlace lo W + i)
+        got-taken LL = λ t i b. taken-is four W H n x (p LL (n - firstSet H lo)) low-halves i b
+        got-taken HL = λ t i b. taken-beside four W H n x i b ∙ got HL not-wide t i b
+        got-taken LH = λ t i b. only-taken four W H n x .row (2 * n + 1) (halfPlace lo W + i)
             (parity (2 * n) (2 * n + 1) n n (omega arith) (omega arith)) (half-inside lo W i b) ∙ got LH not-low t i b
-        got-taken HH = λ t i b. only-taken W H n x .row (2 * n + 1) (halfPlace hi W + i)
+        got-taken HH = λ t i b. only-taken four W H n x .row (2 * n + 1) (halfPlace hi W + i)
             (parity (2 * n) (2 * n + 1) n n (omega arith) (omega arith)) (half-inside hi W i b) ∙ got HH not-both t i b
 
         before-taken : Before taken
         unfolding rowOfSet
-        before-taken = before-only lo x taken (only-taken W H n x) before
+        before-taken = before-only lo x taken (only-taken four W H n x) before
 
         taken-done : Outcome (FitAll k W H p) Done (setMade admitted k W H n taken)
-        taken-done = set-made k W H p x n taken some there (only-taken W H n x .past) (needs-of taken before-taken got-taken)
+        taken-done = set-made k W H p x n taken some there (only-taken four W H n x .past) (needs-of taken before-taken got-taken)
 
       on-done : (firstSet H lo ≤ n → (i : ℕ) → i < count lo W →
           rowMade (next W) (next H .start) (n - firstSet H lo) (λ j. x (4 * W .length + j)) i ≡ p LL (n - firstSet H lo) i) →
           Outcome (FitAll k W H p) Done (setWorked admitted false k W H n x)
-      unfolding setWorked hasLow
+      unfolding setWorked lowTaken hasLow
       on-done low = go (decLt n (firstSet H lo))
         where
           go : Dec (n < firstSet H lo) → Outcome (FitAll k W H p) Done (setMade admitted k W H n (pick (leb (firstSet H lo) n) taken x))
@@ -238,8 +239,8 @@ five-three-back-laws = record {
   leaves-reads = λ k W H p n x y e s. leaves-same W H p n k x y e s;
   before-reads = λ W H p n x y e s. before-same W H p n x y e s;
   got-reads = λ W H p n c x y e s. got-same W H p n c x y e s;
-  feed-past = λ W s c n v x j b. only-fed W c n v x .past j b;
-  feed-before = λ W H p n c v x s. before-only W H p n (down c) x (bandFed W c n v x) (only-fed W c n v x) s;
+  feed-past = λ W s c n v x j b. only-fed four W c n v x .past j b;
+  feed-before = λ W H p n c v x s. before-only W H p n (down c) x (bandFed W c n v x) (only-fed four W c n v x) s;
   feed-old = λ W H p n c e v x d s. got-old W H p n c e v x d s;
   feed-new = λ W H p n c v x e. got-new W H p n c v x e;
   got-none = λ W H p n c x none t i q. absurd (no-true (setHas W H c n) none t);
@@ -248,7 +249,7 @@ five-three-back-laws = record {
   before-next = leaves-before;
   work-last = λ k W H p n x some there before got. last-done W H p n k x some there before got;
   work-on = λ k W H p n x some there before got low. on-done W H p n k x some there before got low;
-  made-is = λ k W H p n x s r b q c t. joined-reads W _ (levelBack fiveThreeFilter wrap32 W H p r) (row-halves W x (local (H .start) r) _ (s .made r b q)) c t;
+  made-is = λ k W H p n x s r b q c t. joined-reads W _ (levelBack fiveThreeFilter wrap32 W H p r) (row-halves four W x (local (H .start) r) _ (s .made r b q)) c t;
   made-fits = λ k W H p n x s r b q c t. s .fit r b q c t;
   made-has = λ k W H p n x s. s .has;
 }

@@ -8,11 +8,11 @@ use Rattle.numbers.proofs.TestLaws.{each-every}
 use Rattle.lifting.specs.Line.{lo, hi}
 use Rattle.lifting.specs.Grid.{Side, count, loneHigh, hasLine}
 use Rattle.lifting.proofs.LoneLaws.{lone-high, has-other}
-use Rattle.lifting.specs.FiveThree.{fiveThreeFilter}
+use Rattle.lifting.specs.Filter.{Filter}
 use Rattle.wavelet.specs.Bands.{Grid, Band, bandOf, rowsUnlifted, rowsHave, columnsHave, levelHas}
 use Rattle.wavelet.specs.Order.{firstSet, lastSet}
 use Rattle.wavelet.specs.Steps.{setOf}
-use Rattle.level.specs.Stands.{SetHas}
+use Rattle.level.specs.Stands.{SetHasBy}
 use Rattle.wavelet.proofs.StepLaws.{set-there}
 
 -- the sets of the low rows and of the high rows
@@ -24,9 +24,9 @@ high-set : (H : Side) (r : ℕ) → r < count hi H → r ≤ lastSet H
 unfolding count lastSet
 high-set H r b = omega arith
 
-pub sets-have : (a : ℕ) (W H : Side) (p : Band → Grid) → ((n : ℕ) → n ≤ lastSet H → SetHas a W H p n) → levelHas fiveThreeFilter W H p ≡ true
+pub sets-have : (F : Filter) (a : ℕ) (W H : Side) (p : Band → Grid) → ((n : ℕ) → n ≤ lastSet H → SetHasBy F a W H p n) → levelHas F W H p ≡ true
 unfolding levelHas rowsHave columnsHave
-sets-have a W H p s = rw (each-every (count lo H) _ low, each-every (count hi H) _ high, each-every (W .length) _ (λ c b. column c b (loneHigh H) refl)) refl
+sets-have F a W H p s = rw (each-every (count lo H) _ low, each-every (count hi H) _ high, each-every (W .length) _ (λ c b. column c b (loneHigh H) refl)) refl
   where
     low : (r : ℕ) → r < count lo H → hasLine W (λ h. p (bandOf h lo) r) ≡ true
     low r b =
@@ -36,6 +36,6 @@ sets-have a W H p s = rw (each-every (count lo H) _ low, each-every (count hi H)
     high : (r : ℕ) → r < count hi H → hasLine W (λ h. p (bandOf h hi) r) ≡ true
     high r b = s r (high-set H r b) .high b
 
-    column : (c : ℕ) → c < W .length → (t : Bool) → loneHigh H ≡ t → hasLine H (λ h i. rowsUnlifted fiveThreeFilter wrap32 W p h i c) ≡ true
+    column : (c : ℕ) → c < W .length → (t : Bool) → loneHigh H ≡ t → hasLine H (λ h i. rowsUnlifted F wrap32 W p h i c) ≡ true
     column c b true e = let one = lone-high H e .0 in s (setOf a H 0) (set-there a H 0) .columns 0 (omega arith) refl c b
     column c b false e = has-other H _ e

@@ -17,6 +17,7 @@ use Rattle.numbers.proofs.Sweep.{both as both-hold}
 use Rattle.numbers.proofs.TestLaws.{every-each, each-every}
 use Rattle.lifting.specs.Line.{Half, lo, hi, unupdated, unpredicted}
 use Rattle.lifting.specs.Grid.{Side, place, count, parted, lineHalvesBack, lineBack, loneHigh, isEven, hasLine}
+use Rattle.lifting.specs.GridHalves.{unliftedInPlace}
 use Rattle.lifting.specs.Passes.{near}
 use Rattle.lifting.proofs.GridLaws.{place-in, in-place, by-place, joined-place, even-near, odd-near, even-one, odd-one}
 use Rattle.lifting.proofs.LoneLaws.{lone-high, lone-odd, has-lone, has-other}
@@ -28,12 +29,13 @@ use Rattle.wavelet.specs.Order.{firstSet, lastSet}
 use Rattle.wavelet.specs.Steps.{setOf}
 use Rattle.wavelet.proofs.StepLaws.{set-one}
 use Rattle.level.specs.Tried.{Tried, failed, passed, bind}
+use Rattle.level.specs.Stretch as stretch
 use Rattle.level.specs.Slots.{rowPlace, local, rowUnlifted, rowHasLine, rowBy, rowHalved, rowIsEven, halfPlace}
-use Rattle.level.specs.Stands.{SetHas, SetLeaves}
+use Rattle.level.specs.Stands.{RowStands as Is, SetHas, SetLeaves}
 use Rattle.level.specs.Work.{endOf, hasLow, lowNear, highNear, lineTried, lowTried, highTried, setUnlifted, evenRow, oddRow, rowFits, admitted}
 use Rattle.level.specs.Work.{evenMade, oddMade, loneMade, lastMade, rowsMade, setMade}
-use Rattle.level.proofs.RowsIn.{apart, parity, Is, Only, only-by, is-old, only-unlifted, unlifted-is, line-is, by-is, only-halved, halved-is}
-use Rattle.level.proofs.RowsIn.{half-inside, by-halves}
+use Rattle.level.proofs.RowsIn.{Only, only-by, is-old, only-unlifted, line-is, by-is, only-halved, halved-is, half-inside, by-halves}
+use Rattle.level.proofs.FourRows.{four, apart, parity, unlifted-is}
 
 -- ---- what trying comes to: a memory with a property, or a value that does not fit where N says that all do
 pub data Outcome (N : Type 0) (P : (ℕ → ℤ) → Type 0) : Tried → Type 0 where
@@ -192,7 +194,7 @@ module _ (k : ℕ) (W H : Side) (p : Band → Grid) where
   -- ---- the test of 14
   admit : (P : (ℕ → ℤ) → Type 0) (q r : ℕ) (x : ℕ → ℤ) → r < H .length → Is W x q (parted W (G r)) → (FitRow r → P x) →
       Outcome (FitAll k W H p) P (admitted k (W .length) q x)
-  unfolding admitted rowFits
+  unfolding stretch.admitted stretch.rowFits
   admit P q r x b s f = go (rowFits k (W .length) q x) refl
     where
       go : (t : Bool) → rowFits k (W .length) q x ≡ t → Outcome (FitAll k W H p) P (pick t (passed x) failed)
@@ -238,12 +240,12 @@ module _ (k : ℕ) (W H : Side) (p : Band → Grid) where
     line-tried : (P : (ℕ → ℤ) → Type 0) (h : Half) (r q : ℕ) (x : ℕ → ℤ) → r < count h H → Is W x q (λ a. p (bandOf a h) r) →
         (hasLine W (λ a. p (bandOf a h) r) ≡ true → Is W (rowUnlifted W q x) q (parted W (cols h r)) → P (rowUnlifted W q x)) →
         Outcome (FitAll k W H p) P (lineTried W q x)
-    unfolding lineTried rowsUnlifted lineBack
+    unfolding stretch.lineTried rowsUnlifted lineBack
     line-tried P h r q x b s f = go (rowHasLine W q x) refl
       where
         go : (t : Bool) → rowHasLine W q x ≡ t → Outcome (FitAll k W H p) P (pick t (passed (rowUnlifted W q x)) failed)
-        go true e = goes (rowUnlifted W q x) (f (sym (line-is W q x _ s) ∙ e) (unlifted-is W q x _ s))
-        go false e = stops (λ all. not-false (rowHasLine W q x) (line-is W q x _ s ∙ has-row W H p (all .has) h r b) e)
+        go true e = goes (rowUnlifted W q x) (f (sym (line-is four W q x _ s) ∙ e) (unlifted-is W q x _ s))
+        go false e = stops (λ all. not-false (rowHasLine W q x) (line-is four W q x _ s ∙ has-row W H p (all .has) h r b) e)
 
     -- the low row lifted back
     record Low (n : ℕ) (x : ℕ → ℤ) : Type 0 where
@@ -255,7 +257,7 @@ module _ (k : ℕ) (W H : Side) (p : Band → Grid) where
       past : Past x
 
     low-tried : (n : ℕ) (x : ℕ → ℤ) → 0 < H .length → n ≤ lastSet H → Past x → Needs n x → Outcome (FitAll k W H p) (Low n) (lowTried W H n x)
-    unfolding lowTried hasLow
+    unfolding stretch.lowTried hasLow
     low-tried n x g l z s = go (decLt n b₀)
       where
         go : Dec (n < b₀) → Outcome (FitAll k W H p) (Low n) (pick (leb b₀ n) (lineTried W (2 * n) x) (passed x))
@@ -268,14 +270,14 @@ module _ (k : ℕ) (W H : Side) (p : Band → Grid) where
           past = z;
         }))
         go (no u) =
-            let o = only-unlifted W (2 * n) x in
+            let o = only-unlifted four unliftedInPlace W (2 * n) x in
             rw (le-leb b₀ n (omega arith))
             (line-tried (Low n) lo (n - b₀) (2 * n) x (in-lows n g l (omega arith)) (s .low (omega arith)) (λ e m. record {
               line = λ _. e;
               low = λ _. m;
-              high = λ v. is-old W (2 * n) x _ (2 * n + 1) _ o (parity (2 * n) (2 * n + 1) n n (omega arith) (omega arith)) (s .high v);
-              even-before = λ i v w. is-old W (2 * n) x _ (2 * i) _ o (λ y. apart (2 * i) (2 * n) (omega arith) (sym y)) (s .even-before i v w);
-              high-before = λ i v. is-old W (2 * n) x _ (2 * i + 1) _ o (parity (2 * n) (2 * i + 1) n i (omega arith) (omega arith)) (s .high-before i v);
+              high = λ v. is-old four W (2 * n) x _ (2 * n + 1) _ o (parity (2 * n) (2 * n + 1) n n (omega arith) (omega arith)) (s .high v);
+              even-before = λ i v w. is-old four W (2 * n) x _ (2 * i) _ o (λ y. apart (2 * i) (2 * n) (omega arith) (sym y)) (s .even-before i v w);
+              high-before = λ i v. is-old four W (2 * n) x _ (2 * i + 1) _ o (parity (2 * n) (2 * i + 1) n i (omega arith) (omega arith)) (s .high-before i v);
               past = λ j v. o .past j v ∙ z j v;
             }))
 
@@ -288,23 +290,23 @@ module _ (k : ℕ) (W H : Side) (p : Band → Grid) where
       past : Past x
 
     high-tried : (n : ℕ) (x : ℕ → ℤ) → Low n x → Outcome (FitAll k W H p) (Rows n) (highTried W H n x)
-    unfolding highTried
+    unfolding stretch.highTried
     high-tried n x s = go (decLt (2 * n + 1) (endOf H))
       where
         go : Dec (2 * n + 1 < endOf H) → Outcome (FitAll k W H p) (Rows n) (pick (ltb (2 * n + 1) (endOf H)) (lineTried W (2 * n + 1) x) (passed x))
         go (yes u) =
-            let o = only-unlifted W (2 * n + 1) x in
+            let o = only-unlifted four unliftedInPlace W (2 * n + 1) x in
             let v = in-highs n u in
             rw (lt-ltb (2 * n + 1) (endOf H) u)
             (line-tried (Rows n) hi n (2 * n + 1) x v (s .high v) (λ e m. record {
               lines = record { low = s .line; high = λ _. e };
-              low = λ b. is-old W (2 * n + 1) x _ (2 * n) _ o (λ y. parity (2 * n) (2 * n + 1) n n (omega arith) (omega arith) (sym y)) (s .low b);
+              low = λ b. is-old four W (2 * n + 1) x _ (2 * n) _ o (λ y. parity (2 * n) (2 * n + 1) n n (omega arith) (omega arith) (sym y)) (s .low b);
               high = λ i b c d. elim (ℕ-discrete i n) [
                 | yes y ↦ rw y m
-                | no y ↦ is-old W (2 * n + 1) x _ (2 * i + 1) _ o (λ y′. apart (2 * i + 1) (2 * n + 1) (omega (arith, y)) (sym y′))
+                | no y ↦ is-old four W (2 * n + 1) x _ (2 * i + 1) _ o (λ y′. apart (2 * i + 1) (2 * n + 1) (omega (arith, y)) (sym y′))
                     (s .high-before i (omega (arith, y)))
               ];
-              even-before = λ i b c. is-old W (2 * n + 1) x _ (2 * i) _ o (λ y. parity (2 * i) (2 * n + 1) i n (omega arith) (omega arith) (sym y))
+              even-before = λ i b c. is-old four W (2 * n + 1) x _ (2 * i) _ o (λ y. parity (2 * i) (2 * n + 1) i n (omega arith) (omega arith) (sym y))
                   (s .even-before i b c);
               past = λ j b. o .past j b ∙ s .past j b;
             }))
@@ -317,7 +319,7 @@ module _ (k : ℕ) (W H : Side) (p : Band → Grid) where
         }))
 
     unlifted : (n : ℕ) (x : ℕ → ℤ) → 0 < H .length → n ≤ lastSet H → Past x → Needs n x → Outcome (FitAll k W H p) (Rows n) (setUnlifted W H n x)
-    unfolding setUnlifted
+    unfolding stretch.setUnlifted
     unlifted n x g l z s = bind-outcome (lowTried W H n x) _ (low-tried n x g l z s) (high-tried n)
 
     -- ---- the even rows
@@ -348,18 +350,18 @@ module _ (k : ℕ) (W H : Side) (p : Band → Grid) where
         go : Dec (1 < H .length) →
             Evens n (pick (ltb 1 (H .length)) (rowBy (unupdated wrap32) (W .length) (2 * n) (2 * highNear H (n - 1) + 1) (2 * highNear H n + 1) x) x)
         go (yes m) =
-            let o = only-by (W .length) (2 * n) (unupdated wrap32) (2 * highNear H (n - 1) + 1) (2 * highNear H n + 1) x in
+            let o = only-by four (W .length) (2 * n) (unupdated wrap32) (2 * highNear H (n - 1) + 1) (2 * highNear H n + 1) x in
             let u = near-before n g l b m in
             let v = near-here n g l b m in
             rw (lt-ltb 1 (H .length) m) (record {
               even = λ i c q r. elim (ℕ-discrete i n) [
                 | yes e ↦ rw e (λ a j t.
-                    by-is (unupdated wrap32) W (2 * n) (2 * highNear H (n - 1) + 1) (2 * highNear H n + 1) x _ _ _ (s .low b)
+                    by-is four (unupdated wrap32) W (2 * n) (2 * highNear H (n - 1) + 1) (2 * highNear H n + 1) x _ _ _ (s .low b)
                     (s .high (highNear H (n - 1)) (u .0) (u .1) (u .2)) (s .high (highNear H n) (v .0) (v .1) (v .2)) a j t
                     ∙ by-columns (unupdated wrap32) _ _ _ (G (2 * n - b₀)) (λ d _. even-value n d m b (in-lows n g l b)) a j t)
-                | no e ↦ is-old W (2 * n) x _ (2 * i) _ o (λ z. apart (2 * i) (2 * n) (omega (arith, e)) (sym z)) (s .even-before i (omega (arith, e)) c)
+                | no e ↦ is-old four W (2 * n) x _ (2 * i) _ o (λ z. apart (2 * i) (2 * n) (omega (arith, e)) (sym z)) (s .even-before i (omega (arith, e)) c)
               ];
-              high = λ i c q r. is-old W (2 * n) x _ (2 * i + 1) _ o (parity (2 * n) (2 * i + 1) n i (omega arith) (omega arith)) (s .high i c q r);
+              high = λ i c q r. is-old four W (2 * n) x _ (2 * i + 1) _ o (parity (2 * n) (2 * i + 1) n i (omega arith) (omega arith)) (s .high i c q r);
               past = λ j c. o .past j c ∙ s .past j c;
             })
         go (no m) = rw (le-ltb 1 (H .length) (omega arith)) (record {
@@ -409,12 +411,12 @@ module _ (k : ℕ) (W H : Side) (p : Band → Grid) where
         Is W (oddRow (W .length) H m x) (2 * m + 1) (parted W (G (2 * m + 1 - b₀)))
     unfolding oddRow
     odd-is-made m x g b e f s a j q =
-        by-is (unpredicted wrap32) W (2 * m + 1) (2 * lowNear H m) (2 * lowNear H (m + 1)) x _ _ _ s e f a j q
+        by-is four (unpredicted wrap32) W (2 * m + 1) (2 * lowNear H m) (2 * lowNear H (m + 1)) x _ _ _ s e f a j q
         ∙ by-columns (unpredicted wrap32) _ _ _ (G (2 * m + 1 - b₀)) (λ c _. odd-value m c g b) a j q
 
-    only-odd : (m : ℕ) (x : ℕ → ℤ) → Only (W .length) (2 * m + 1) x (oddRow (W .length) H m x)
+    only-odd : (m : ℕ) (x : ℕ → ℤ) → Only 4 (W .length) (2 * m + 1) x (oddRow (W .length) H m x)
     unfolding oddRow
-    only-odd m x = only-by (W .length) (2 * m + 1) (unpredicted wrap32) (2 * lowNear H m) (2 * lowNear H (m + 1)) x
+    only-odd m x = only-by four (W .length) (2 * m + 1) (unpredicted wrap32) (2 * lowNear H m) (2 * lowNear H (m + 1)) x
 
     -- the rows at 2n and 2n − 1
     record Most (n : ℕ) (x : ℕ → ℤ) : Type 0 where
@@ -455,10 +457,10 @@ module _ (k : ℕ) (W H : Side) (p : Band → Grid) where
         let o = only-odd m x in
         admit (Most (suc m)) (2 * m + 1) (2 * m + 1 - b₀) (oddRow (W .length) H m x) (near-two m g l .2) made (λ f. record {
           lines = s .lines;
-          even = λ b. is-old W (2 * m + 1) x _ (2 * suc m) _ o (λ z. parity (2 * suc m) (2 * m + 1) (suc m) m (omega arith) (omega arith) (sym z))
+          even = λ b. is-old four W (2 * m + 1) x _ (2 * suc m) _ o (λ z. parity (2 * suc m) (2 * m + 1) (suc m) m (omega arith) (omega arith) (sym z))
               (s .rows .even (suc m) b (omega arith) (omega arith));
           odd = λ i e. let e′ : i ≡ m = omega arith in rw e′ made;
-          high = λ q. is-old W (2 * m + 1) x _ (2 * suc m + 1) _ o (apart (2 * m + 1) (2 * suc m + 1) (omega arith))
+          high = λ q. is-old four W (2 * m + 1) x _ (2 * suc m + 1) _ o (apart (2 * m + 1) (2 * suc m + 1) (omega arith))
               (s .rows .high (suc m) q (omega arith) (omega arith));
           even-fit = s .fit;
           odd-fit = λ i e. let e′ : i ≡ m = omega arith in rw e′ f;
@@ -565,8 +567,8 @@ module _ (k : ℕ) (W H : Side) (p : Band → Grid) where
         admit (Worked n) (2 * n + 1) (2 * n + 1 - b₀) y (last-in n g e .1) last (λ t. (
           record {
             made = made-by n y
-                (λ b. is-old W (2 * n + 1) x y (2 * n) _ o (λ z. parity (2 * n) (2 * n + 1) n n (omega arith) (omega arith) (sym z)) (s .even b))
-                (λ m z. is-old W (2 * n + 1) x y (2 * m + 1) _ o (λ u. apart (2 * m + 1) (2 * n + 1) (omega arith) (sym u)) (s .odd m z))
+                (λ b. is-old four W (2 * n + 1) x y (2 * n) _ o (λ z. parity (2 * n) (2 * n + 1) n n (omega arith) (omega arith) (sym z)) (s .even b))
+                (λ m z. is-old four W (2 * n + 1) x y (2 * m + 1) _ o (λ u. apart (2 * m + 1) (2 * n + 1) (omega arith) (sym u)) (s .odd m z))
                 (λ _. last);
             fit = by-set FitRow n (s .even-fit) (s .odd-fit) (λ _. t);
             high = λ l. absurd (omega arith);
@@ -578,7 +580,7 @@ module _ (k : ℕ) (W H : Side) (p : Band → Grid) where
         y : ℕ → ℤ
         y = oddRow (W .length) H n x
 
-        o : Only (W .length) (2 * n + 1) x y
+        o : Only 4 (W .length) (2 * n + 1) x y
         o = only-odd n x
 
         last : Is W y (2 * n + 1) (parted W (G (2 * n + 1 - b₀)))
@@ -590,7 +592,7 @@ module _ (k : ℕ) (W H : Side) (p : Band → Grid) where
     -- an only row, at an odd coordinate
     lone-made : (n : ℕ) (x : ℕ → ℤ) → 0 < H .length → 2 * n + 2 ≡ endOf H → loneHigh H ≡ true → Most n x →
         Outcome (FitAll k W H p) (Worked n) (loneMade admitted k (W .length) (2 * n + 1) x)
-    unfolding loneMade rowIsEven
+    unfolding stretch.loneMade stretch.rowIsEven
     lone-made n x g e f s = go (rowIsEven (W .length) (2 * n + 1) x) refl
       where
         y : ℕ → ℤ
@@ -605,12 +607,12 @@ module _ (k : ℕ) (W H : Side) (p : Band → Grid) where
         high : Is W x (2 * n + 1) (parted W (cols hi n))
         high = s .high (last-in n g e .0)
 
-        o : Only (W .length) (2 * n + 1) x y
-        o = only-halved W (2 * n + 1) x
+        o : Only 4 (W .length) (2 * n + 1) x y
+        o = only-halved four W (2 * n + 1) x
 
         last : Is W y (2 * n + 1) (parted W (G (2 * n + 1 - b₀)))
         last a i b =
-            halved-is W (2 * n + 1) x _ high a i b
+            halved-is four W (2 * n + 1) x _ high a i b
             ∙ by-columns (λ v _ _. shrZ v 2) (cols hi n) (cols hi n) (cols hi n) (G (2 * n + 1 - b₀)) (λ c _. lone-value n c (omega (arith, one))) a i b
 
         column : (c : ℕ) → hasLine H (λ h i. cols h i c) ≡ isEven (cols hi n c)
@@ -622,7 +624,7 @@ module _ (k : ℕ) (W H : Side) (p : Band → Grid) where
             admit (Worked n) (2 * n + 1) (2 * n + 1 - b₀) y (last-in n g e .1) last (λ t. (
               record {
                 made = made-by n y
-                    (λ b. is-old W (2 * n + 1) x y (2 * n) _ o (λ z. parity (2 * n) (2 * n + 1) n n (omega arith) (omega arith) (sym z)) (s .even b))
+                    (λ b. is-old four W (2 * n + 1) x y (2 * n) _ o (λ z. parity (2 * n) (2 * n + 1) n n (omega arith) (omega arith) (sym z)) (s .even b))
                     (λ m z. absurd (omega (arith, first)))
                     (λ _. last);
                 fit = by-set FitRow n (s .even-fit) (s .odd-fit) (λ _. t);

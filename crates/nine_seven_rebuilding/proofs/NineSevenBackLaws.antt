@@ -16,21 +16,19 @@ use Rattle.wavelet.specs.Bands.{Grid, Band, LL, HL, LH, HH, code, across, down,
 use Rattle.wavelet.proofs.BandPlaces.{band-of}
 use Rattle.wavelet.specs.Levels.{next}
 use Rattle.wavelet.specs.Order.{firstSet, lastSet, setRow, setHas}
-use Rattle.level.specs.Slots.{local, rowOfSet, halfPlace}
-use Rattle.level.specs.Work.{endOf, hasLow}
-use Rattle.level.proofs.RowsIn.{half-inside, joined-reads}
+use Rattle.level.specs.Stretch as stretch
+use Rattle.level.specs.Stretch.{local, rowOfSet, halfPlace, endOf, hasLow}
+use Rattle.level.proofs.RowsIn.{apart, row-end, Only, is-old, only-fed, fed-here, fed-beside, only-taken, taken-is, taken-beside, half-inside}
+use Rattle.level.proofs.RowsIn.{row-halves, half-reads, joined-reads}
+use Rattle.level.proofs.RebuildingLaws.{set-row}
 use Rattle.level.proofs.SetMade.{Outcome, FitAllBy}
 use Rattle.level.proofs.ReaderLaws.{ReaderLawsBy}
-use Rattle.wavelet.specs.Maps.{valueFits}
-use Rattle.wavelet.specs.Steps.{setOf}
 use Rattle.nine_seven.specs.NineSevenFilter.{nineSevenFilter}
 use Rattle.nine_seven_rebuilding.specs.Slots.{slot, rowPlace, bandFed, lowRowTaken}
-use Rattle.nine_seven_rebuilding.specs.Work.{lowTaken, setWorked, setMade}
-use Rattle.nine_seven_rebuilding.specs.Stands.{SetLeaves, SetBefore, BandStands, nineSevenStands}
+use Rattle.nine_seven_rebuilding.specs.Work.{setWorked, setMade}
+use Rattle.nine_seven_rebuilding.specs.Stands.{RowStands as Is, SetLeaves, SetBefore, BandStands, nineSevenStands}
 use Rattle.nine_seven_rebuilding.specs.NineSevenBack.{rowMade, nineSevenBack}
-use Rattle.nine_seven_rebuilding.proofs.RebuildingLaws.{set-row}
-use Rattle.nine_seven_rebuilding.proofs.RowsIn.{apart, row-end, Is, Only, is-old, only-fed, fed-here, fed-beside, only-taken, taken-is, taken-beside}
-use Rattle.nine_seven_rebuilding.proofs.RowsIn.{row-halves, half-reads}
+use Rattle.nine_seven_rebuilding.proofs.EightRows.{eight}
 use Rattle.nine_seven_rebuilding.proofs.SetMade.{Needs, set-made}
 
 -- ---- two memories that agree in a level's eight rows
@@ -39,20 +37,20 @@ SameMem W x y = (j : ℕ) → j < 8 * W .length → y j ≡ x j
 
 is-same : (W : Side) (x y : ℕ → ℤ) (q : ℕ) (c : Half → ℕ → ℤ) → SameMem W x y → Is W x q c → Is W y q c
 is-same W x y q c e s h i b =
-    e (rowPlace (W .length) q + (halfPlace h W + i)) (omega (arith, half-inside h W i b, row-end (W .length) q)) ∙ s h i b
+    e (rowPlace (W .length) q + (halfPlace h W + i)) (omega (arith, half-inside h W i b, row-end eight (W .length) q)) ∙ s h i b
 
 -- ---- the slots of a set's rows
 set-rows : (a b : Half) (n : ℕ) → (a ≡ b → ⊥) → slot (rowOfSet a n) ≡ slot (rowOfSet b n) → ⊥
 unfolding rowOfSet
 set-rows lo lo n d z = d refl
-set-rows lo hi n d z = apart (2 * n) (2 * n + 1) (λ e. omega arith) (omega arith) (omega arith) z
-set-rows hi lo n d z = apart (2 * n + 1) (2 * n) (λ e. omega arith) (omega arith) (omega arith) z
+set-rows lo hi n d z = apart 8 (2 * n) (2 * n + 1) (λ e. omega arith) (omega arith) (omega arith) z
+set-rows hi lo n d z = apart 8 (2 * n + 1) (2 * n) (λ e. omega arith) (omega arith) (omega arith) z
 set-rows hi hi n d z = d refl
 
 set-old : (a : Half) (n q : ℕ) → q < 2 * n → 2 * n < q + 7 → slot (rowOfSet a n) ≡ slot q → ⊥
 unfolding rowOfSet
-set-old lo n q l b z = apart (2 * n) q (λ e. omega arith) (omega arith) (omega arith) z
-set-old hi n q l b z = apart (2 * n + 1) q (λ e. omega arith) (omega arith) (omega arith) z
+set-old lo n q l b z = apart 8 (2 * n) q (λ e. omega arith) (omega arith) (omega arith) z
+set-old hi n q l b z = apart 8 (2 * n + 1) q (λ e. omega arith) (omega arith) (omega arith) z
 
 -- ---- the bands but LL
 not-wide : HL ≡ LL → ⊥
@@ -110,27 +108,27 @@ module _ (W H : Side) (p : Band → Grid) (n : ℕ) where
   got-same : (c : Band) (x y : ℕ → ℤ) → SameMem W x y → Got x c → Got y c
   got-same c x y e s t i q =
       e (rowPlace (W .length) (rowOfSet (down c) n) + (halfPlace (across c) W + i))
-      (omega (arith, half-inside (across c) W i q, row-end (W .length) (rowOfSet (down c) n))) ∙ s t i q
+      (omega (arith, half-inside (across c) W i q, row-end eight (W .length) (rowOfSet (down c) n))) ∙ s t i q
 
   -- ---- a row of the set changed, and a band row fed
-  before-only : (a : Half) (x y : ℕ → ℤ) → Only (W .length) (rowOfSet a n) x y → Before x → Before y
+  before-only : (a : Half) (x y : ℕ → ℤ) → Only 8 (W .length) (rowOfSet a n) x y → Before x → Before y
   before-only a x y o s = record {
-    even = λ m u v c. is-old W (rowOfSet a n) x y (2 * m) _ o (set-old a n (2 * m) (omega arith) (omega arith)) (s .even m u v c);
-    high = λ m u v. is-old W (rowOfSet a n) x y (2 * m + 1) _ o (set-old a n (2 * m + 1) (omega arith) (omega arith)) (s .high m u v);
+    even = λ m u v c. is-old eight W (rowOfSet a n) x y (2 * m) _ o (set-old a n (2 * m) (omega arith) (omega arith)) (s .even m u v c);
+    high = λ m u v. is-old eight W (rowOfSet a n) x y (2 * m + 1) _ o (set-old a n (2 * m + 1) (omega arith) (omega arith)) (s .high m u v);
   }
 
   got-old : (c e : Band) (v x : ℕ → ℤ) → (c ≡ e → ⊥) → Got x e → Got (bandFed W c n v x) e
   got-old c e v x d s t i q = elim (Half-discrete (down c) (down e)) [
     | yes z ↦ ap (λ (a : Half). bandFed W c n v x (rowPlace (W .length) (rowOfSet a n) + (halfPlace (across e) W + i))) (sym z)
-        ∙ fed-beside W c n v x (across e) (λ y. d (sym (band-of c) ∙ ap₂ bandOf y z ∙ band-of e)) i q
+        ∙ fed-beside eight W c n v x (across e) (λ y. d (sym (band-of c) ∙ ap₂ bandOf y z ∙ band-of e)) i q
         ∙ ap (λ (a : Half). x (rowPlace (W .length) (rowOfSet a n) + (halfPlace (across e) W + i))) z
         ∙ s t i q
-    | no z ↦ only-fed W c n v x .row (rowOfSet (down e) n) (halfPlace (across e) W + i) (set-rows (down c) (down e) n z) (half-inside (across e) W i q)
+    | no z ↦ only-fed eight W c n v x .row (rowOfSet (down e) n) (halfPlace (across e) W + i) (set-rows (down c) (down e) n z) (half-inside (across e) W i q)
         ∙ s t i q
   ]
 
   got-new : (c : Band) (v x : ℕ → ℤ) → ((i : ℕ) → i < count (across c) W → v i ≡ p c (setRow H c n) i) → Got (bandFed W c n v x) c
-  got-new c v x e t i q = fed-here W c n v x (across c) refl i q ∙ e i q
+  got-new c v x e t i q = fed-here eight W c n v x (across c) refl i q ∙ e i q
 
   -- ---- a set worked out
   module _ (k : ℕ) (x : ℕ → ℤ) (some : 0 < H .length) (there : n ≤ lastSet H) (before : Before x) where
@@ -162,7 +160,7 @@ module _ (W H : Side) (p : Band → Grid) (n : ℕ) where
 
     -- at the last level all bands are fed
     last-done : ((c : Band) → Got x c) → Outcome (FitAllBy nineSevenFilter k W H p) Done (setWorked true k W H n x)
-    unfolding setWorked lowTaken
+    unfolding setWorked stretch.lowTaken
     last-done got = set-made k W H p x n x some (set-row′ H n some there) (λ j _. refl) (needs-of x before got)
 
     -- else the low-low row, if there is one, comes from the next level
@@ -188,28 +186,28 @@ module _ (W H : Side) (p : Band → Grid) (n : ℕ) where
             x (8 * W .length + (rowPlace (count lo W) (local (next H .start) (n - firstSet H lo)) + (halfPlace a (next W) + i))) ≡
             parted (next W) (p LL (n - firstSet H lo)) a i
         unfolding next
-        low-halves a i b = half-reads (next W) (λ j. x (8 * W .length + j)) (local (next H .start) (n - firstSet H lo)) (p LL (n - firstSet H lo)) low a i b
+        low-halves a i b = half-reads eight (next W) (λ j. x (8 * W .length + j)) (local (next H .start) (n - firstSet H lo)) (p LL (n - firstSet H lo)) low a i b
 
         got-taken : (c : Band) → Got taken c
         unfolding across down rowOfSet setRow
-        got-taken LL = λ t i b. taken-is W H n x (p LL (n - firstSet H lo)) low-halves i b
-        got-taken HL = λ t i b. taken-beside W H n x i b ∙ got HL not-wide t i b
-        got-taken LH = λ t i b. only-taken W H n x .row (2 * n + 1) (halfPlace lo W + i)
-            (apart (2 * n) (2 * n + 1) (λ e. omega arith) (omega arith) (omega arith)) (half-inside lo W i b) ∙ got LH not-low t i b
-        got-taken HH = λ t i b. only-taken W H n x .row (2 * n + 1) (halfPlace hi W + i)
-            (apart (2 * n) (2 * n + 1) (λ e. omega arith) (omega arith) (omega arith)) (half-inside hi W i b) ∙ got HH not-both t i b
+        got-taken LL = λ t i b. taken-is eight W H n x (p LL (n - firstSet H lo)) low-halves i b
+        got-taken HL = λ t i b. taken-beside eight W H n x i b ∙ got HL not-wide t i b
+        got-taken LH = λ t i b. only-taken eight W H n x .row (2 * n + 1) (halfPlace lo W + i)
+            (apart 8 (2 * n) (2 * n + 1) (λ e. omega arith) (omega arith) (omega arith)) (half-inside lo W i b) ∙ got LH not-low t i b
+        got-taken HH = λ t i b. only-taken eight W H n x .row (2 * n + 1) (halfPlace hi W + i)
+            (apart 8 (2 * n) (2 * n + 1) (λ e. omega arith) (omega arith) (omega arith)) (half-inside hi W i b) ∙ got HH not-both t i b
 
         before-taken : Before taken
         unfolding rowOfSet
-        before-taken = before-only lo x taken (only-taken W H n x) before
+        before-taken = before-only lo x taken (only-taken eight W H n x) before
 
         taken-done : Outcome (FitAllBy nineSevenFilter k W H p) Done (setMade k W H n taken)
-        taken-done = set-made k W H p x n taken some (set-row′ H n some there) (only-taken W H n x .past) (needs-of taken before-taken got-taken)
+        taken-done = set-made k W H p x n taken some (set-row′ H n some there) (only-taken eight W H n x .past) (needs-of taken before-taken got-taken)
 
       on-done : (firstSet H lo ≤ n → (i : ℕ) → i < count lo W →
           rowMade (next W) (next H .start) (n - firstSet H lo) (λ j. x (8 * W .length + j)) i ≡ p LL (n - firstSet H lo) i) →
           Outcome (FitAllBy nineSevenFilter k W H p) Done (setWorked false k W H n x)
-      unfolding setWorked lowTaken hasLow
+      unfolding setWorked stretch.lowTaken hasLow
       on-done low = go (decLt n (firstSet H lo))
         where
           go : Dec (n < firstSet H lo) → Outcome (FitAllBy nineSevenFilter k W H p) Done (setMade k W H n (pick (leb (firstSet H lo) n) taken x))
@@ -221,8 +219,8 @@ nine-seven-back-laws = record {
   leaves-reads = λ k W H p n x y e s. leaves-same W H p n k x y e s;
   before-reads = λ W H p n x y e s. before-same W H p n n x y e s;
   got-reads = λ W H p n c x y e s. got-same W H p n c x y e s;
-  feed-past = λ W s c n v x j b. only-fed W c n v x .past j b;
-  feed-before = λ W H p n c v x s. before-only W H p n (down c) x (bandFed W c n v x) (only-fed W c n v x) s;
+  feed-past = λ W s c n v x j b. only-fed eight W c n v x .past j b;
+  feed-before = λ W H p n c v x s. before-only W H p n (down c) x (bandFed W c n v x) (only-fed eight W c n v x) s;
   feed-old = λ W H p n c e v x d s. got-old W H p n c e v x d s;
   feed-new = λ W H p n c v x e. got-new W H p n c v x e;
   got-none = λ W H p n c x none t i q. absurd (no-true (setHas W H c n) none t);
@@ -232,7 +230,7 @@ nine-seven-back-laws = record {
   work-last = λ k W H p n x some there before got. last-done W H p n k x some there before got;
   work-on = λ k W H p n x some there before got low. on-done W H p n k x some there before got low;
   made-is = λ k W H p n x s r b q c t.
-      joined-reads W _ (levelBack nineSevenFilter wrap32 W H p r) (row-halves W x (local (H .start) r) _ (s .made r b q)) c t;
+      joined-reads W _ (levelBack nineSevenFilter wrap32 W H p r) (row-halves eight W x (local (H .start) r) _ (s .made r b q)) c t;
   made-fits = λ k W H p n x s r b q c t. s .fit r b q c t;
   made-has = λ k W H p n x s. s .has;
 }
