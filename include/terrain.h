@@ -79,12 +79,13 @@ typedef struct terrain_shape {
     size_t levels;
     uint16_t x; /* of the first column */
     uint16_t y; /* of the first row */
+    uint32_t filter; /* 0 the 5/3, 1 the integer 9/7 */
 } terrain_shape;
 
 /* A map of that size that starts at 0. */
 TERRAIN_INLINE terrain_shape terrain_shape_of(size_t width, size_t height, size_t levels)
 {
-    terrain_shape shape = {0, 0, 0, 0, 0};
+    terrain_shape shape = {0, 0, 0, 0, 0, 0};
     shape.width = width;
     shape.height = height;
     shape.levels = levels;

@@ -3,6 +3,7 @@
 pub mod areas;
 pub mod ccsds_back;
 pub mod ccsds_level;
+pub mod filter;
 pub mod grid;
 pub mod kernels;
 pub mod listing;

@@ -1,17 +1,17 @@
-//! A second transform of a whole map that starts anywhere on the grid, written straight from T.800 over the line reading of `grid`: columns,
-//! then rows, level by level, in place of the bands of the plane. Sums stay whole: for a map nothing comes near 32 bits.
-use crate::grid;
+//! A second transform of a whole map that starts anywhere on the grid, by either filter, written straight from T.800 and document 02 over the line
+//! readings of `grid` and `nine_seven`: columns, then rows, level by level, in place of the bands of the plane.
 use crate::random::Random;
+use crate::{filter, grid};
 use terrain::Shape;
 
-/// The limits of document 01.
+/// The limits of document 01; the levels are the 5/3's, the most that a filter has.
 pub const MAX_WIDTH: usize = 2_049;
 pub const MAX_HEIGHT: usize = 4_294_967_295;
 pub const MAX_LEVELS: usize = 5;
 
 /// Largest magnitude of a coefficient of a level; of level 0, the largest height.
-pub fn range(level: usize) -> i64 {
-    65_535 << (2 * level)
+pub fn range(s: Shape, level: usize) -> i64 {
+    filter::of(s).range(level)
 }
 
 /// A side on the grid: the coordinate where it starts, and how many rows or columns it has.
@@ -48,26 +48,27 @@ pub fn down(s: Shape) -> Side {
 /// The plane of a map: as many coefficients as heights.
 pub fn forward(heights: &[u16], s: Shape) -> Vec<i32> {
     let mut plane: Vec<i32> = heights.iter().map(|&h| i32::from(h)).collect();
+    let lifted = |line: &[i32], side: Side| grid::in_halves(&(filter::of(s).forward)(line, side.i0()), side.i0());
     for k in 0..s.levels {
         let (w, h) = (across(s).at(k), down(s).at(k));
         for c in 0..w.length {
             let column: Vec<i32> = (0..h.length).map(|r| plane[r * s.width + c]).collect();
-            for (r, v) in grid::in_halves(&grid::forward(&column, h.i0()), h.i0()).into_iter().enumerate() {
+            for (r, v) in lifted(&column, h).into_iter().enumerate() {
                 plane[r * s.width + c] = v;
             }
         }
         for r in 0..h.length {
             let row = &mut plane[r * s.width..r * s.width + w.length];
-            row.copy_from_slice(&grid::in_halves(&grid::forward(row, w.i0()), w.i0()));
+            row.copy_from_slice(&lifted(row, w));
         }
     }
     plane
 }
 
 /// A line back from its values in halves, and whether a value that was halved on the way was even.
-fn line_back(values: &[i32], i0: i64) -> (Vec<i32>, bool) {
+fn line_back(s: Shape, values: &[i32], i0: i64) -> (Vec<i32>, bool) {
     let values = grid::interleaved(values, i0);
-    grid::backward(&values, i0).map_or_else(|| (values.iter().map(|v| v.div_euclid(2)).collect(), false), |line| (line, true))
+    (filter::of(s).backward)(&values, i0).map_or_else(|| (values.iter().map(|v| v.div_euclid(2)).collect(), false), |line| (line, true))
 }
 
 /// What a plane makes of a level over 32-bit words: its rows, and of each whether all values that were halved for it were even.
@@ -85,14 +86,14 @@ pub fn rebuilt(plane: &[i32], s: Shape) -> Vec<Rebuilt> {
         let (w, h) = (across(s).at(k), down(s).at(k));
         let mut even = Vec::new();
         for r in 0..h.length {
-            let (row, good) = line_back(&area[r * s.width..r * s.width + w.length], w.i0());
+            let (row, good) = line_back(s, &area[r * s.width..r * s.width + w.length], w.i0());
             area[r * s.width..r * s.width + w.length].copy_from_slice(&row);
             even.push(i32::from(good));
         }
         even = grid::interleaved(&even, h.i0());
         for c in 0..w.length {
             let column: Vec<i32> = (0..h.length).map(|r| area[r * s.width + c]).collect();
-            let (column, good) = line_back(&column, h.i0());
+            let (column, good) = line_back(s, &column, h.i0());
             for (r, v) in column.into_iter().enumerate() {
                 area[r * s.width + c] = v;
                 even[r] &= i32::from(good);
@@ -106,9 +107,9 @@ pub fn rebuilt(plane: &[i32], s: Shape) -> Vec<Rebuilt> {
 }
 
 /// Whether a rebuilt number fits: question 14.
-pub fn fits(level: usize, v: i32) -> bool {
-    let low = if level == 0 { 0 } else { -range(level) };
-    (low..=range(level)).contains(&i64::from(v))
+pub fn fits(s: Shape, level: usize, v: i32) -> bool {
+    let low = if level == 0 { 0 } else { -range(s, level) };
+    (low..=range(s, level)).contains(&i64::from(v))
 }
 
 /// The map that has this plane, by the definition: some map's plane is this one. `None` where no map has it.
@@ -125,7 +126,7 @@ pub fn level_at(s: Shape, i: usize) -> usize {
 
 /// Whether each coefficient lies in its level's range: question 7.
 pub fn in_range(plane: &[i32], s: Shape) -> bool {
-    (0..s.width * s.height).all(|i| i64::from(plane[i]).abs() <= range(level_at(s, i)))
+    (0..s.width * s.height).all(|i| i64::from(plane[i]).abs() <= range(s, level_at(s, i)))
 }
 
 /// Origins from 0 to 3 each way.

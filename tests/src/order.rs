@@ -1,6 +1,7 @@
-//! The writer's order and the reader's steps, straight from the words of documents 01 and 02 (Q-3): rows are counted and handed on one by one,
-//! and sets go by grid coordinates: set n of a level has its rows at the coordinates 2n, low, and 2n + 1, high, where the level has them. Here
-//! stands also what each call must answer: by the arguments and answers before it, by no state.
+//! The writer's order and the reader's steps, straight from the words of documents 01 and 02 (Q-3, Q-8): rows are counted and handed on one by
+//! one, and sets go by grid coordinates: set n of a level has its rows at the coordinates 2n, low, and 2n + 1, high, where the level has them.
+//! Here stands also what each call must answer: by the arguments and answers before it, by no state.
+use crate::filter;
 use crate::maps::{across, down, Side, MAX_HEIGHT};
 use std::collections::VecDeque;
 use terrain::Shape;
@@ -17,6 +18,11 @@ pub struct BandRow {
     pub band: usize,
     pub row: usize,
     pub length: usize,
+}
+
+/// The first set of each level, from level 1.
+fn first_sets(s: Shape) -> Vec<usize> {
+    (0..=s.levels).map(|level| down(s).at(level.max(1) - 1).start / 2).collect()
 }
 
 /// How many numbers a row of a band has: 0 where the band has no column.
@@ -65,7 +71,7 @@ pub fn place(s: Shape, r: BandRow) -> std::ops::Range<usize> {
 
 /// The numbers that a line store needs.
 pub fn store_length(s: Shape) -> usize {
-    4 * (0..s.levels).map(|k| across(s).at(k).length).sum::<usize>()
+    filter::of(s).rows * (0..s.levels).map(|k| across(s).at(k).length).sum::<usize>()
 }
 
 /// What a writer must answer.
@@ -73,8 +79,9 @@ pub struct Writer {
     shape: Shape,
     /// the heights of the row begun
     begun: usize,
-    /// the complete rows of each level, from level 1
+    /// of each level, from level 1: the complete rows, and the next set
     complete: Vec<usize>,
+    sets: Vec<usize>,
     finished: bool,
     waiting: VecDeque<BandRow>,
     /// the row limit
@@ -85,7 +92,7 @@ impl Writer {
     /// Of the shape the height is not looked at.
     pub fn new(shape: Shape) -> Self {
         let complete = vec![0; shape.levels + 1];
-        Writer { shape, begun: 0, complete, finished: false, waiting: VecDeque::new(), limit: MAX_HEIGHT }
+        Writer { shape, begun: 0, complete, sets: first_sets(shape), finished: false, waiting: VecDeque::new(), limit: MAX_HEIGHT }
     }
 
     /// The rows of a level that are complete.
@@ -109,19 +116,20 @@ impl Writer {
         self.waiting.front().copied()
     }
 
-    /// "Set n of a level is made when its row 2n+2 is complete."
+    /// "Set n of a level is made when its row 2n+2 is complete"; by the 9/7 "when row 2n+4 is complete".
     fn row_complete(&mut self, level: usize) {
         let coordinate = self.side(level).start + self.complete[level];
         self.complete[level] += 1;
-        if coordinate % 2 == 0 && self.complete[level] > 1 {
-            self.make(level, coordinate / 2 - 1);
+        if coordinate == 2 * self.sets[level] + 2 * filter::of(self.shape).ahead {
+            self.make(level);
         }
     }
 
     /// "Its rows wait in the order HL, LH, HH (at level L: LL, HL, LH, HH). Then its LL row goes to the next level, and all that this makes
     /// there comes before anything else."
-    fn make(&mut self, level: usize, n: usize) {
-        let rows = self.side(level);
+    fn make(&mut self, level: usize) {
+        let (rows, n) = (self.side(level), self.sets[level]);
+        self.sets[level] += 1;
         self.waiting.extend(rows_of(self.shape, level, rows, n));
         if goes_on(self.shape, level, rows, n) {
             self.row_complete(level + 1);
@@ -158,7 +166,7 @@ impl Writer {
         }
     }
 
-    /// "At the finish level 1 closes first, then level 2, and so on."
+    /// "At the finish level 1 closes first, then level 2, and so on"; the sets that a level has left are made "in order".
     pub fn finish(&mut self) -> Result<(), u32> {
         if self.finished {
             return Err(9);
@@ -172,8 +180,8 @@ impl Writer {
         self.finished = true;
         for level in 1..=self.shape.levels {
             let rows = self.side(level);
-            if rows.length > 0 {
-                self.make(level, (rows.start + rows.length - 1) / 2);
+            while rows.length > 0 && 2 * self.sets[level] < rows.start + rows.length {
+                self.make(level);
             }
         }
         Ok(())
@@ -203,11 +211,45 @@ pub struct Turn {
     pub made: Vec<Made>,
 }
 
+/// The place of the row at a coordinate of a level, which is mirrored at the ends until it lies inside.
+fn mirrored(rows: Side, mut coordinate: i64) -> usize {
+    let (first, last) = (rows.start as i64, (rows.start + rows.length) as i64 - 1);
+    while coordinate < first || last < coordinate {
+        coordinate = if coordinate < first { 2 * first - coordinate } else { 2 * last - coordinate };
+    }
+    (coordinate - first) as usize
+}
+
+/// The last set that brings a value which the row at that place of a level needs: an even row its own value and the high ones beside it, an odd
+/// row its own value and the even rows that it goes by.
+fn last_needed(near: &[i64], rows: Side, place: usize) -> usize {
+    let coordinate = rows.start + place;
+    let at = |far: i64| mirrored(rows, coordinate as i64 + far);
+    let others = match coordinate % 2 {
+        _ if rows.length == 1 => None,
+        0 => [-1, 1].iter().map(|&far| (rows.start + at(far)) / 2).max(),
+        _ => near.iter().map(|&far| last_needed(near, rows, at(far))).max(),
+    };
+    others.map_or(coordinate / 2, |set| set.max(coordinate / 2))
+}
+
+/// "A row counts as made ... with the set that brings the last value that it or any row above it needs": that set, of each row of a level.
+fn making_sets(near: &[i64], rows: Side) -> Vec<usize> {
+    let mut last = 0;
+    let make = |place| {
+        last = last_needed(near, rows, place).max(last);
+        last
+    };
+    (0..rows.length).map(make).collect()
+}
+
 /// The reader's steps as they come about.
 struct Steps {
     shape: Shape,
-    /// of each level, from 1: the next set, and the rows that those before it made and that are not used yet
+    /// of each level, from 1: the next set, the set that makes each row, the rows that the sets before have made, and those of them not used yet
     sets: Vec<usize>,
+    making: Vec<Vec<usize>>,
+    made: Vec<usize>,
     unused: Vec<usize>,
     turns: Vec<Turn>,
     /// sets without a fed row of their own that are to be worked out in the next call
@@ -240,11 +282,9 @@ impl Steps {
         let fed = !feeds.is_empty();
         feeds.into_iter().for_each(|r| self.push(Step::Feed(r)));
         self.sets[level] += 1;
-        // "A complete set makes rows 2n−1 and 2n", those "that the level has", and the last set also a last row at an odd coordinate
-        let end = rows.start + rows.length;
-        let from = (2 * n).max(rows.start + 1) - 1;
-        let to = if 2 * n + 2 == end { end } else { 2 * n + 1 };
-        let (first, end) = (from - rows.start, to.max(from).min(end) - rows.start);
+        let first = self.made[level];
+        let end = first + self.making[level][first..].iter().take_while(|&&set| set == n).count();
+        self.made[level] = end;
         self.unused[level] += end - first;
         let own = (2 * n).max(rows.start) - rows.start..(2 * n + 2).min(rows.start + rows.length) - rows.start;
         let made = Made { level: level - 1, first, end, own };
@@ -259,8 +299,9 @@ impl Steps {
 
 /// All steps of a reader of that shape.
 pub fn steps(shape: Shape) -> Vec<Turn> {
-    let sets = (0..=shape.levels).map(|level| down(shape).at(level.max(1) - 1).start / 2).collect();
-    let mut s = Steps { shape, sets, unused: vec![0; shape.levels + 1], turns: Vec::new(), lazy: Vec::new() };
+    let none = vec![0; shape.levels + 1];
+    let making = (0..=shape.levels).map(|level| making_sets(filter::of(shape).near, down(shape).at(level.max(1) - 1))).collect();
+    let mut s = Steps { shape, sets: first_sets(shape), making, made: none.clone(), unused: none, turns: Vec::new(), lazy: Vec::new() };
     for row in 0..shape.height {
         s.use_row(1);
         s.push(Step::Draw(row));
@@ -271,6 +312,8 @@ pub fn steps(shape: Shape) -> Vec<Turn> {
 #[cfg(test)]
 mod tests {
     use super::*;
+    use crate::filter::{FILTERS, NINE_SEVEN};
+    use crate::maps::origins;
 
     fn name(r: BandRow) -> String {
         format!("{} {} {}", r.level, ["LL", "HL", "LH", "HH"][r.band], r.row)
@@ -301,8 +344,8 @@ mod tests {
 
     /// Every shape of some sizes and origins at every number of levels.
     fn shapes(width: usize, height: usize) -> impl Iterator<Item = Shape> {
-        let origins = (0..4).flat_map(|x| (0..4).map(move |y| (x, y)));
-        origins.flat_map(move |(x, y)| (1..=5).map(move |levels| Shape { width, height, levels, x, y }))
+        let kinds = move || filter::kinds().map(move |(f, levels)| Shape::new(width, height, levels).by(f));
+        origins().flat_map(move |(x, y)| kinds().map(move |s| s.at(x, y)))
     }
 
     #[test]
@@ -316,6 +359,42 @@ mod tests {
         let s = Shape { y: 1, ..Shape::new(1, 4, 2) };
         assert_eq!(wants(s), ["1 LH 0", "2 LH 0", "2 LL 0", "1 LH 1"]);
         assert_eq!(drawn(s), ["1 LH 0", "1 LH 1", "2 LH 0", "2 LL 0"]);
+    }
+
+    /// Document 02, Q-8, where the sets of a level that are left at the finish come one by one.
+    #[test]
+    fn the_sets_left_at_the_finish() {
+        let drawn = drawn(Shape::new(2, 12, 2).by(NINE_SEVEN));
+        let left = ["1 HL 4", "1 LH 4", "1 HH 4", "2 LL 0", "2 LH 0", "1 HL 5", "1 LH 5", "1 HH 5", "2 LL 1", "2 LH 1", "2 LL 2", "2 LH 2"];
+        assert_eq!(drawn[drawn.len() - left.len()..], left);
+    }
+
+    /// The rows that each set of a level makes, by the words of document 01 for the 5/3 (with Q-3's coordinates) and by what follows from those
+    /// of document 02 for the 9/7.
+    #[test]
+    fn the_rows_that_a_set_makes() {
+        for start in 0..8 {
+            for length in 1..40 {
+                let rows = Side { start, length };
+                let last = (start + length - 1) / 2;
+                let inside = |wanted: &[usize]| -> Vec<usize> { wanted.iter().copied().filter(|c| (start..start + length).contains(c)).collect() };
+                for n in start / 2..=last {
+                    let made = FILTERS.each_ref().map(|f| {
+                        let sets = making_sets(f.near, rows);
+                        (start..start + length).filter(|c| sets[c - start] == n).collect::<Vec<_>>()
+                    });
+                    let odd_end = if n == last { 2 * n + 1 } else { usize::MAX };
+                    assert_eq!(made[0], inside(&[(2 * n).wrapping_sub(1), 2 * n, odd_end]), "set {n} of {rows:?}");
+                    let expected: Vec<usize> = match n {
+                        _ if n == last => (start..start + length).filter(|&c| c + 4 > 2 * n && (c > start || c % 2 == 1 || n == start / 2)).collect(),
+                        _ if 2 * n == start => vec![start],
+                        _ => inside(&[(2 * n).wrapping_sub(3), (2 * n).wrapping_sub(2)]).into_iter().filter(|&c| c > start || c % 2 == 1).collect(),
+                    };
+                    assert_eq!(made[1], expected, "set {n} of {rows:?}");
+                    assert!(made[1].len() <= 5);
+                }
+            }
+        }
     }
 
     #[test]

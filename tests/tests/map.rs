@@ -1,7 +1,8 @@
-//! The whole-map calls and the view against the reference.
+//! The whole-map calls and the view against the reference, by each filter.
 use terrain::Call::{MapBackward, MapForward, View};
 use terrain::{map_backward, map_forward, raw, view, Band, Question, Shape};
 use terrain_tests::areas::Guarded;
+use terrain_tests::filter::{self, FILTERS, NINE_SEVEN};
 use terrain_tests::maps::{self, across, down, forward, in_range, level_at, map_of, range, MAX_HEIGHT, MAX_LEVELS, MAX_WIDTH};
 use terrain_tests::random::Random;
 use terrain_tests::{refusal, UNSET};
@@ -23,20 +24,20 @@ fn there_and_back(heights: &[u16], s: Shape) {
     assert!(back.is_unset_from(n) && work.is_unset_from(n), "{s:?}: a surplus is touched");
 }
 
-/// A shape of sides up to `most`, at origins about 0 and at the largest.
+/// A shape of sides up to `most`, at origins about 0 and at the largest, by either filter.
 fn random_shape(random: &mut Random, most: usize) -> Shape {
-    let (x, y) = maps::origin(random);
-    Shape { width: 1 + random.below(most), height: 1 + random.below(most), levels: 1 + random.below(MAX_LEVELS), x, y }
+    let ((x, y), (number, levels)) = (maps::origin(random), filter::kind(random));
+    Shape::new(1 + random.below(most), 1 + random.below(most), levels).at(x, y).by(number)
 }
 
 #[test]
 fn every_small_size_at_every_origin() {
     for width in 1..=9 {
         for height in 1..=9 {
-            for levels in 1..=MAX_LEVELS {
+            for (number, levels) in filter::kinds() {
                 for heights in maps::maps(width, height) {
                     for (x, y) in maps::origins() {
-                        there_and_back(&heights, Shape { width, height, levels, x, y });
+                        there_and_back(&heights, Shape::new(width, height, levels).at(x, y).by(number));
                     }
                 }
             }
@@ -48,9 +49,9 @@ fn every_small_size_at_every_origin() {
 fn every_small_size_at_every_level_count() {
     for width in 1..=12 {
         for height in 1..=12 {
-            for levels in 1..=MAX_LEVELS {
+            for (number, levels) in filter::kinds() {
                 for heights in maps::maps(width, height) {
-                    there_and_back(&heights, Shape::new(width, height, levels));
+                    there_and_back(&heights, Shape::new(width, height, levels).by(number));
                 }
             }
         }
@@ -60,7 +61,7 @@ fn every_small_size_at_every_level_count() {
 #[test]
 fn larger_and_odd_sizes() {
     let mut random = Random::new(1);
-    for _ in 0..100 {
+    for _ in 0..160 {
         let s = random_shape(&mut random, 90);
         for heights in maps::maps(s.width, s.height) {
             there_and_back(&heights, s);
@@ -69,10 +70,10 @@ fn larger_and_odd_sizes() {
     for (width, height) in
         [(1, 1), (1, 2), (2, 1), (1, 333), (333, 1), (2, 200), (200, 2), (2_049, 1), (2_049, 2), (2_049, 7), (2_048, 5), (1, 65_535), (2, 40_001)]
     {
-        for levels in [1, 2, 5] {
+        for (number, levels) in filter::few_kinds(&mut random) {
             for heights in maps::maps(width, height) {
                 for (x, y) in [(0, 0), (1, 0), (0, 1), (65_535, 65_535)] {
-                    there_and_back(&heights, Shape { width, height, levels, x, y });
+                    there_and_back(&heights, Shape::new(width, height, levels).at(x, y).by(number));
                 }
             }
         }
@@ -110,14 +111,14 @@ fn check_backward(plane: &[i32], s: Shape) -> u32 {
 #[test]
 fn damaged_planes_are_turned_away_exactly_when_no_map_has_them() {
     let mut random = Random::new(77);
-    let mut seen = [0usize; 3];
-    for _ in 0..6_000 {
+    let mut seen = [[0usize; 3]; FILTERS.len()];
+    for _ in 0..12_000 {
         let s = random_shape(&mut random, 9);
         let all = maps::maps(s.width, s.height);
         let mut plane = forward(&all[random.below(all.len())], s);
         for _ in 0..1 + random.below(3) {
             let i = random.below(plane.len());
-            let reach = range(level_at(s, i)) as i32;
+            let reach = range(s, level_at(s, i)) as i32;
             plane[i] = match random.below(8) {
                 0 => reach,
                 1 => -reach,
@@ -129,13 +130,34 @@ fn damaged_planes_are_turned_away_exactly_when_no_map_has_them() {
                 _ => plane[i].wrapping_add(random.below(9) as i32 - 4),
             };
         }
-        seen[match check_backward(&plane, s) {
+        seen[s.filter as usize][match check_backward(&plane, s) {
             0 => 0,
             7 => 1,
             _ => 2,
         }] += 1;
     }
-    assert!(seen.iter().all(|&n| n > 300), "each answer is tried often: {seen:?}");
+    assert!(seen.iter().flatten().all(|&n| n > 300), "each answer is tried often: {seen:?}");
+}
+
+/// Planes that pass 7 and are no map's: the sums of the 9/7 pass 32 bits on the way back.
+#[test]
+fn planes_at_the_ends_of_their_ranges() {
+    let mut random = Random::new(78);
+    for _ in 0..6_000 {
+        let s = random_shape(&mut random, 17);
+        let ends = random.below(2) == 0;
+        let plane: Vec<i32> = (0..s.width * s.height)
+            .map(|i| {
+                let reach = range(s, level_at(s, i)) as i32;
+                match random.below(if ends { 2 } else { 4 }) {
+                    0 => reach,
+                    1 => -reach,
+                    _ => random.below(65_536) as i32,
+                }
+            })
+            .collect();
+        assert_ne!(check_backward(&plane, s), 7);
+    }
 }
 
 #[test]
@@ -179,6 +201,30 @@ fn the_samples_of_an_odd_origin() {
     assert_eq!(plane[..3], [3, -3, -2], "LL, HL");
 }
 
+/// Maps by the 9/7, worked out by hand from document 02's formulas.
+#[test]
+fn the_samples_of_the_nine_seven() {
+    let mut plane = [0; 8];
+    let by = |s: Shape| s.by(NINE_SEVEN);
+    // 2, 0: the mirror gives 2 on both sides, high 0 - floor((36 - 4 + 8) / 16), low 2 - floor((2 + 2 + 2) / 4)
+    assert_eq!(map_forward(&[2, 0], by(Shape::new(2, 1, 1)), &mut plane, &mut [0; 2]), Ok(()));
+    assert_eq!(plane[..2], [1, -2], "LL, HL");
+    // 1, 4, 2, 7: high 4 - floor((9 (1 + 2) - (2 + 2) + 8) / 16), 7 - floor((9 (2 + 2) - (1 + 1) + 8) / 16), low 1 - floor((2 - 3 - 3) / 4),
+    // 2 - floor((2 - 3 - 5) / 4)
+    assert_eq!(map_forward(&[1, 4, 2, 7], by(Shape::new(1, 4, 1)), &mut plane, &mut [0; 4]), Ok(()));
+    assert_eq!(plane[..4], [2, 4, 3, 5], "LL 0, LL 1, LH 0, LH 1");
+    // a lone sample is doubled at an odd coordinate, each way
+    let one = by(Shape::new(1, 1, 4));
+    assert_eq!(map_forward(&[65_535], one.at(1, 1), &mut plane, &mut [0; 1]), Ok(()));
+    assert_eq!(plane[0], 262_140);
+    assert_eq!([check_backward(&[65_535], one), check_backward(&[65_536], one), check_backward(&[3], one.at(1, 0))], [0, 14, 14]);
+    // the range is 65,535 × 6^k
+    for (levels, reach) in [(1, 393_210), (2, 2_359_260), (3, 14_155_560), (4, 84_933_360)] {
+        let s = by(Shape::new(1, 1, levels));
+        assert_eq!([check_backward(&[reach], s), check_backward(&[reach + 1], s), check_backward(&[-reach], s)], [14, 7, 14]);
+    }
+}
+
 /// Start and length, or the number of the question that says no. The raw call takes any code of a band, and sets nothing where it is turned
 /// away; where there is such a band, the wrapper says the same.
 fn band_row(plane_len: usize, s: Shape, level: usize, band: usize, row: usize) -> Result<(usize, usize), u32> {
@@ -200,7 +246,7 @@ fn band_row(plane_len: usize, s: Shape, level: usize, band: usize, row: usize) -
 }
 
 /// Both calls are turned away with `number`, and nothing lent has changed.
-fn refused(s: Shape, lens: [usize; 3], number: u32) {
+fn map_refused(s: Shape, lens: [usize; 3], number: u32) {
     let mut a = Guarded::<u16>::unset(lens[0]);
     let mut b = Guarded::unset(lens[1]);
     let mut c = Guarded::unset(lens[2]);
@@ -210,35 +256,59 @@ fn refused(s: Shape, lens: [usize; 3], number: u32) {
     let plane = Guarded::unset(lens[1]);
     assert_eq!(map_backward(plane.content(), s, a.lent(), c.lent()), refusal(MapBackward, number), "{s:?} {lens:?}");
     assert!(a.is_unset_from(0) && c.is_unset_from(0));
+}
+
+/// And the view, which has no filter.
+fn refused(s: Shape, lens: [usize; 3], number: u32) {
+    map_refused(s, lens, number);
     assert_eq!(band_row(lens[1], s, 1, 3, 0), Err(number), "{s:?} {lens:?}");
 }
 
 #[test]
 fn the_questions_in_their_order() {
-    let ok = Shape::new(3, 3, 2);
-    for width in [0, MAX_WIDTH + 1, usize::MAX] {
-        for height in [0, 3, usize::MAX] {
-            for levels in [0, 2, 6] {
-                refused(Shape::new(width, height, levels), [9, 9, 9], 2);
+    for number in [0, 1].into_iter().chain(filter::UNKNOWN) {
+        let ok = Shape::new(3, 3, 2).by(number);
+        for width in [0, MAX_WIDTH + 1, usize::MAX] {
+            for height in [0, 3, usize::MAX] {
+                for levels in [0, 2, 6] {
+                    refused(Shape { width, height, levels, ..ok }, [9, 9, 9], 2);
+                }
+            }
+        }
+        for height in [0, MAX_HEIGHT + 1, usize::MAX] {
+            for levels in [0, 2, usize::MAX] {
+                refused(Shape { height, levels, ..ok }, [9, 9, 9], 3);
             }
         }
     }
-    for height in [0, MAX_HEIGHT + 1, usize::MAX] {
-        for levels in [0, 2, usize::MAX] {
-            refused(Shape { height, levels, ..ok }, [9, 9, 9], 3);
+    for (number, filter) in (0..).zip(&FILTERS) {
+        let ok = Shape::new(3, 3, 2).by(number);
+        for levels in [0, filter.levels + 1, MAX_LEVELS + 1, usize::MAX] {
+            map_refused(Shape { levels, ..ok }, [9, 0, 9], 4);
+        }
+        refused(ok, [8, 8, 9], 5);
+        refused(ok, [0, 0, 0], 5);
+        let mut plane = Guarded::unset(9);
+        let mut work = Guarded::unset(8);
+        assert_eq!(map_forward(&[1; 9], ok, plane.lent(), work.lent()), refusal(MapForward, 5));
+        assert!(plane.is_unset_from(0) && work.is_unset_from(0));
+        there_and_back(&vec![7; MAX_WIDTH], Shape::new(MAX_WIDTH, 1, filter.levels).by(number));
+    }
+}
+
+/// 18 comes before 4 and 5, and from no view.
+#[test]
+fn an_unknown_filter() {
+    for number in filter::UNKNOWN {
+        for levels in [0, 1, 4, 5, 6, usize::MAX] {
+            for lens in [[9, 9, 9], [0, 0, 0]] {
+                map_refused(Shape::new(3, 3, levels).by(number), lens, 18);
+            }
+        }
+        for levels in [0, MAX_LEVELS + 1, usize::MAX] {
+            assert_eq!(band_row(9, Shape::new(3, 3, levels).by(number), 1, 3, 0), Err(4));
         }
     }
-    for levels in [0, MAX_LEVELS + 1, usize::MAX] {
-        refused(Shape { levels, ..ok }, [9, 0, 9], 4);
-    }
-    refused(ok, [8, 8, 9], 5);
-    refused(ok, [0, 0, 0], 5);
-    let mut plane = Guarded::unset(9);
-    let mut work = Guarded::unset(8);
-    assert_eq!(map_forward(&[1; 9], ok, plane.lent(), work.lent()), refusal(MapForward, 5));
-    assert!(plane.is_unset_from(0) && work.is_unset_from(0));
-    let wide = Shape::new(MAX_WIDTH, 1, MAX_LEVELS);
-    there_and_back(&vec![7; MAX_WIDTH], wide);
 }
 
 #[test]
@@ -254,6 +324,9 @@ fn the_view_is_the_plane_s_band_row() {
                             for row in (0..=height).chain([usize::MAX]) {
                                 let got = band_row(width * height + 2, s, level, band, row);
                                 assert_eq!(got, expected(s, level, band, row).ok_or(6), "{s:?} {level} {band} {row}");
+                                for number in [NINE_SEVEN, 2, u32::MAX] {
+                                    assert_eq!(band_row(width * height + 2, s.by(number), level, band, row), got, "each filter has the same bands");
+                                }
                                 if let Ok((start, length)) = got {
                                     covered[start..start + length].iter_mut().for_each(|n| *n += 1);
                                 }

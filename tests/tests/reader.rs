@@ -1,8 +1,9 @@
-//! The reader against the independent transform and the independent steps, and round trips through writer and reader.
+//! The reader against the independent transform and the independent steps, and round trips through writer and reader, by each filter.
 use std::collections::HashMap;
 use terrain::raw::State;
 use terrain::{map_backward, Reader, Shape, Writer};
 use terrain_tests::areas::Guarded;
+use terrain_tests::filter::{self, FILTERS, NINE_SEVEN};
 use terrain_tests::maps::{self, Rebuilt, MAX_HEIGHT, MAX_LEVELS, MAX_WIDTH};
 use terrain_tests::order::{self, BandRow, Step, Turn};
 use terrain_tests::random::Random;
@@ -57,7 +58,7 @@ impl<'a> Play<'a> {
     fn fits(&self) -> bool {
         self.turns[self.at].made.iter().all(|m| {
             let grid = &self.grids[m.level];
-            let fits = grid.rows[m.first..m.end].iter().flatten().all(|&v| maps::fits(m.level, v));
+            let fits = grid.rows[m.first..m.end].iter().flatten().all(|&v| maps::fits(self.shape, m.level, v));
             fits && grid.even[m.own.clone()].iter().all(|&even| even)
         })
     }
@@ -94,7 +95,7 @@ impl<'a> Play<'a> {
         let answer = match self.step() {
             _ if self.ended => Err(9),
             Some(Step::Feed(r)) if run.len() != r.length => Err(13),
-            Some(Step::Feed(r)) if run.iter().any(|&v| i64::from(v).abs() > maps::range(r.level)) => Err(7),
+            Some(Step::Feed(r)) if run.iter().any(|&v| i64::from(v).abs() > maps::range(self.shape, r.level)) => Err(7),
             Some(Step::Feed(_)) if !self.fits() => Err(14),
             Some(Step::Feed(_)) => Ok(()),
             _ => Err(8),
@@ -155,7 +156,7 @@ impl<'a> Play<'a> {
             4 => {
                 if let (Some(Step::Feed(r)), false) = (self.step(), self.ended) {
                     let mut run = vec![0; r.length];
-                    let reach = maps::range(r.level) as i32;
+                    let reach = maps::range(self.shape, r.level) as i32;
                     run[random.below(r.length)] = [reach + 1, -reach - 1, i32::MIN, i32::MAX][random.below(4)];
                     assert_eq!(self.feed(&run), Err(7));
                 }
@@ -198,10 +199,10 @@ fn every_small_size_at_every_origin() {
     let mut random = Random::new(21);
     for width in 1..=9 {
         for height in 1..=9 {
-            for levels in 1..=MAX_LEVELS {
+            for (number, levels) in filter::kinds() {
                 for heights in maps::maps(width, height) {
                     for (x, y) in maps::origins() {
-                        let s = Shape::new(width, height, levels).at(x, y);
+                        let s = Shape::new(width, height, levels).at(x, y).by(number);
                         let plane = maps::forward(&heights, s);
                         assert_eq!(Play::new(&plane, s).run(&mut random), 0);
                     }
@@ -215,10 +216,10 @@ fn every_small_size_at_every_origin() {
 fn single_columns_and_single_rows() {
     let mut random = Random::new(22);
     for long in (1..=70).chain([127, 128, 129, 333, 1_025]) {
-        for levels in 1..=MAX_LEVELS {
+        for (number, levels) in filter::kinds() {
             for (width, height) in [(1, long), (long, 1), (2, long), (long, 2)] {
                 for (x, y) in [(0, 0), (1, 0), (0, 1), (1, 1), (3, 3)] {
-                    let s = Shape::new(width, height, levels).at(x, y);
+                    let s = Shape::new(width, height, levels).at(x, y).by(number);
                     let mut all = maps::maps(width, height);
                     let plane = maps::forward(&all.swap_remove(random.below(all.len())), s);
                     assert_eq!(Play::new(&plane, s).run(&mut random), 0);
@@ -235,10 +236,10 @@ fn larger_and_odd_sizes() {
     shapes.extend((0..20).map(|_| (1 + random.below(MAX_WIDTH), 1 + random.below(12))));
     shapes.extend([(2_049, 1), (2_049, 2), (2_049, 9), (2_048, 6), (2_047, 5), (1_025, 34), (1, 65_535), (2, 40_001)]);
     for (width, height) in shapes {
-        for levels in [1, 2 + random.below(3), MAX_LEVELS] {
+        for (number, levels) in filter::few_kinds(&mut random) {
             let mut all = maps::maps(width, height);
             let (x, y) = maps::origin(&mut random);
-            let s = Shape::new(width, height, levels).at(x, y);
+            let s = Shape::new(width, height, levels).at(x, y).by(number);
             let plane = maps::forward(&all.swap_remove(random.below(all.len())), s);
             assert_eq!(Play::new(&plane, s).run(&mut random), 0);
         }
@@ -248,7 +249,7 @@ fn larger_and_odd_sizes() {
 /// A reader a few rows below the limit: one in the middle of a map, whose state is told that the map is the longest there is and that as many
 /// more rows are drawn. What it answers then is what it answers without, but for the row numbers.
 fn near_the_limit<'a>(plane: &'a [i32], shape: Shape) -> Play<'a> {
-    let period = 4 << shape.levels;
+    let period = filter::of(shape).rows as u64 * (1 << shape.levels);
     let mut play = Play::new(plane, shape);
     while play.state[DRAWN] < period {
         match play.step() {
@@ -266,13 +267,15 @@ fn near_the_limit<'a>(plane: &'a [i32], shape: Shape) -> Play<'a> {
 #[test]
 fn the_row_limit() {
     let mut random = Random::new(27);
-    for (width, levels) in [(1, 1), (1, 5), (2, 3), (5, 2), (9, 5)] {
-        let shape = Shape::new(width, 3 * (4 << levels) - 1, levels);
-        for heights in maps::maps(width, shape.height) {
-            let plane = maps::forward(&heights, shape);
-            let mut play = near_the_limit(&plane, shape);
-            assert_eq!(play.run(&mut random), 0);
-            assert_eq!(play.state[HEIGHT..=DRAWN], [MAX_HEIGHT as u64, levels as u64, MAX_HEIGHT as u64]);
+    for (number, filter) in (0..).zip(&FILTERS) {
+        for (width, levels) in [(1, 1), (1, filter.levels), (2, 3), (5, 2), (9, filter.levels)] {
+            let shape = Shape::new(width, 3 * (filter.rows << levels) - 1, levels).by(number);
+            for heights in maps::maps(width, shape.height) {
+                let plane = maps::forward(&heights, shape);
+                let mut play = near_the_limit(&plane, shape);
+                assert_eq!(play.run(&mut random), 0);
+                assert_eq!(play.state[HEIGHT..=DRAWN], [MAX_HEIGHT as u64, levels as u64, MAX_HEIGHT as u64]);
+            }
         }
     }
 }
@@ -302,7 +305,7 @@ fn damaged(s: Shape, random: &mut Random) -> Vec<i32> {
     let mut plane = maps::forward(&all[random.below(all.len())], s);
     for _ in 0..1 + random.below(3) {
         let i = random.below(plane.len());
-        let reach = maps::range(maps::level_at(s, i)) as i32;
+        let reach = maps::range(s, maps::level_at(s, i)) as i32;
         plane[i] = match random.below(8) {
             0 => reach,
             1 => -reach,
@@ -330,28 +333,28 @@ fn same_verdict(plane: &[i32], s: Shape, random: &mut Random) -> u32 {
 #[test]
 fn damaged_planes() {
     let mut random = Random::new(24);
-    let mut seen = [0; 15];
-    for _ in 0..12_000 {
-        let (a, b, levels) = (1 + random.below(9), 1 + random.below(9), 1 + random.below(MAX_LEVELS));
+    let mut seen = [[0; 15]; FILTERS.len()];
+    for _ in 0..24_000 {
+        let (a, b, (number, levels)) = (1 + random.below(9), 1 + random.below(9), filter::kind(&mut random));
         // one column and one row above all: sets without a fed row of their own
         let (width, height) = [(a, b), (1, b), (1, 4 * b + a), (a, 1)][random.below(4)];
         let (x, y) = maps::origin(&mut random);
-        let s = Shape::new(width, height, levels).at(x, y);
+        let s = Shape::new(width, height, levels).at(x, y).by(number);
         let plane = damaged(s, &mut random);
-        seen[same_verdict(&plane, s, &mut random) as usize] += 1;
+        seen[number as usize][same_verdict(&plane, s, &mut random) as usize] += 1;
     }
-    assert!([0, 7, 14].iter().all(|&q: &usize| seen[q] > 500), "each answer is tried often: {seen:?}");
+    assert!([0, 7, 14].iter().all(|&q: &usize| seen.iter().all(|seen| seen[q] > 500)), "each answer is tried often: {seen:?}");
 }
 
 #[test]
 fn planes_of_noise() {
     let mut random = Random::new(25);
-    for _ in 0..3_000 {
-        let (x, y) = maps::origin(&mut random);
-        let s = Shape::new(1 + random.below(4), 1 + random.below(9), 1 + random.below(MAX_LEVELS)).at(x, y);
+    for _ in 0..6_000 {
+        let ((x, y), (number, levels)) = (maps::origin(&mut random), filter::kind(&mut random));
+        let s = Shape::new(1 + random.below(4), 1 + random.below(9), levels).at(x, y).by(number);
         let plane: Vec<i32> = (0..s.width * s.height)
             .map(|i| {
-                let reach = maps::range(maps::level_at(s, i)) as i32;
+                let reach = maps::range(s, maps::level_at(s, i)) as i32;
                 [random.below(65_536) as i32, random.below(9) as i32 - 4, reach, -reach][random.below(4)]
             })
             .collect();
@@ -379,12 +382,54 @@ fn the_samples_of_the_scope() {
     assert_eq!(Play::new(&[65_536], one).run(&mut Random::new(1)), 14);
 }
 
+/// By the 9/7 row 0 is made by set 0, and rows 1 and 2 by set 2: with the set that brings the last value that row 1 needs. The last set makes rows
+/// 3 to 6.
+#[test]
+fn fourteen_in_the_feed_of_the_set_that_makes_the_row() {
+    let s = Shape::new(1, 7, 1).by(NINE_SEVEN);
+    let until_14 = |place: usize, value: i32| {
+        let mut plane = [0; 7];
+        plane[place] = value;
+        let mut play = Play::new(&plane, s);
+        assert_eq!(play.run(&mut Random::new(5)), 14);
+        match play.step() {
+            Some(Step::Feed(r)) => (r.band, r.row, play.state[DRAWN]),
+            step => panic!("{step:?}"),
+        }
+    };
+    // LL 0 to 3, then LH 0 to 2
+    assert_eq!(until_14(0, 70_000), (order::LH, 0, 0));
+    assert_eq!(until_14(1, 70_000), (order::LH, 2, 1), "row 0 is drawn");
+    assert_eq!(until_14(3, 70_000), (order::LL, 3, 3), "rows 0 to 2 are drawn: the last set has no high row");
+    assert_eq!(until_14(6, 70_000), (order::LL, 3, 3));
+}
+
+/// One misfit among the rows that the last set makes, up to five, and none of them is drawn.
+#[test]
+fn no_row_of_the_last_set_is_drawn_where_one_does_not_fit() {
+    for height in 1..=24 {
+        for y in 0..4 {
+            let s = Shape::new(1, height, 1).at(0, y).by(NINE_SEVEN);
+            let last = order::steps(s).into_iter().rev().find(|t| !t.made.is_empty()).expect("a set").made.pop().expect("rows");
+            for misfit in last.first..last.end {
+                // a column that only here is no height
+                let heights: Vec<i32> = (0..height).map(|r| if r == misfit { -1 } else { 9 }).collect();
+                let values = terrain_tests::nine_seven::forward(&heights, y.into());
+                let plane = terrain_tests::grid::in_halves(&values, y.into());
+                let mut play = Play::new(&plane, s);
+                assert_eq!(play.run(&mut Random::new(6)), 14);
+                assert_eq!(play.state[DRAWN], last.first as u64, "{s:?}");
+            }
+        }
+    }
+}
+
 /// Document 02, Q-3: an odd value that is due to be halved gives 14 when its set is worked out, also where that set makes no row.
 #[test]
 fn an_odd_lone_value_gives_14_in_the_feed_of_its_set() {
-    let s = Shape::new(1, 3, 1).at(1, 1);
-    let plane = maps::forward(&[5, 6, 7], s);
-    for (row, value) in [(0, 3), (1, -1)] {
+    for (number, row, value) in [(0, 0, 3), (0, 1, -1), (1, 0, 3), (1, 1, -1)] {
+        let s = Shape::new(1, 3, 1).at(1, 1).by(number);
+        let plane = maps::forward(&[5, 6, 7], s);
         let mut damaged = plane.clone();
         let r = order::steps(s)
             .iter()
@@ -436,19 +481,19 @@ fn round_trip(heights: &[u16], s: Shape) {
 fn round_trips() {
     for width in 1..=12 {
         for height in 1..=12 {
-            for levels in 1..=MAX_LEVELS {
+            for (number, levels) in filter::kinds() {
                 for heights in maps::maps(width, height) {
                     for (x, y) in [(0, 0), (1, 0), (0, 1), (1, 1), (2, 3), (3, 2)] {
-                        round_trip(&heights, Shape::new(width, height, levels).at(x, y));
+                        round_trip(&heights, Shape::new(width, height, levels).at(x, y).by(number));
                     }
                 }
             }
         }
     }
     for (width, height) in [(2_049, 65), (2_048, 33), (1_000, 100), (1, 65_535), (3, 9_999), (2_049, 1)] {
-        for levels in [1, 3, MAX_LEVELS] {
+        for (number, levels) in filter::kinds().filter(|&(number, levels)| [1, 3, FILTERS[number as usize].levels].contains(&levels)) {
             for heights in maps::maps(width, height) {
-                round_trip(&heights, Shape::new(width, height, levels));
+                round_trip(&heights, Shape::new(width, height, levels).by(number));
             }
         }
     }
@@ -461,27 +506,36 @@ fn the_questions_of_set_up() {
         assert_eq!(reader::set_up(&mut [7; 16], s, store.lent()), Err(number), "{s:?} {len}");
         assert!(store.is_unset_from(0));
     };
-    let ok = Shape::new(3, 3, 2);
-    for width in [0, MAX_WIDTH + 1, 1 << 32, usize::MAX] {
-        for height in [0, 3, usize::MAX] {
-            for levels in [0, 2, 6] {
-                refused(Shape::new(width, height, levels), 0, 2);
+    for number in [0, 1].into_iter().chain(filter::UNKNOWN) {
+        let ok = Shape::new(3, 3, 2).by(number);
+        for width in [0, MAX_WIDTH + 1, 1 << 32, usize::MAX] {
+            for height in [0, 3, usize::MAX] {
+                for levels in [0, 2, 6] {
+                    refused(Shape { width, height, levels, ..ok }, 0, 2);
+                }
+            }
+        }
+        for height in [0, MAX_HEIGHT + 1, usize::MAX] {
+            for levels in [0, 2, usize::MAX] {
+                refused(Shape { height, levels, ..ok }, 0, 3);
             }
         }
     }
-    for height in [0, MAX_HEIGHT + 1, usize::MAX] {
-        for levels in [0, 2, usize::MAX] {
-            refused(Shape { height, levels, ..ok }, 0, 3);
+    for number in filter::UNKNOWN {
+        for levels in [0, 1, 4, 5, 6, usize::MAX] {
+            refused(Shape::new(3, 3, levels).by(number), 0, 18);
         }
     }
-    for levels in [0, MAX_LEVELS + 1, usize::MAX] {
-        refused(Shape { levels, ..ok }, 0, 4);
+    for (number, filter) in (0..).zip(&FILTERS) {
+        for levels in [0, filter.levels + 1, MAX_LEVELS + 1, usize::MAX] {
+            refused(Shape::new(3, 3, levels).by(number), 0, 4);
+        }
     }
     for width in [1, 2, 3, 9, MAX_WIDTH] {
         for height in [1, 2, MAX_HEIGHT] {
-            for levels in 1..=MAX_LEVELS {
+            for (number, levels) in filter::kinds() {
                 for (x, y) in maps::origins() {
-                    let s = Shape::new(width, height, levels).at(x, y);
+                    let s = Shape::new(width, height, levels).at(x, y).by(number);
                     let needed = order::store_length(s);
                     refused(s, needed - 1, 5);
                     let mut store = Guarded::unset(needed);
@@ -496,9 +550,9 @@ fn the_questions_of_set_up() {
 #[test]
 fn a_made_row_is_drawn_modulo_65_536_whatever_the_store_holds() {
     let mut random = Random::new(26);
-    for _ in 0..500 {
-        let (x, y) = maps::origin(&mut random);
-        let s = Shape::new(1 + random.below(9), 1 + random.below(9), 1 + random.below(MAX_LEVELS)).at(x, y);
+    for _ in 0..1_000 {
+        let ((x, y), (number, levels)) = (maps::origin(&mut random), filter::kind(&mut random));
+        let s = Shape::new(1 + random.below(9), 1 + random.below(9), levels).at(x, y).by(number);
         let plane = vec![0; s.width * s.height];
         let mut play = Play::new(&plane, s);
         let until = random.below(play.turns.len());
@@ -522,25 +576,27 @@ fn a_made_row_is_drawn_modulo_65_536_whatever_the_store_holds() {
 
 /// The counts of a reader, as docs/STATE.md lists them: whether question 1 passes.
 fn counts_fit(s: &State) -> bool {
-    let [kind, width, height, levels, drawn, level, band, ended, x, y, alone, ..] = *s;
+    let [kind, width, height, levels, drawn, level, band, ended, x, y, back, number, ..] = *s;
     kind == 2
+        && number < FILTERS.len() as u64
         && (1..=2_049).contains(&width)
         && (1..=MAX_HEIGHT as u64).contains(&height)
-        && (1..=5).contains(&levels)
+        && (1..=FILTERS[number as usize].levels as u64).contains(&levels)
         && drawn <= height
         && level <= levels
         && band <= 4
         && ended <= 1
         && x <= 65_535
         && y <= 65_535
-        && alone <= 1
-        && s[11..].iter().all(|&n| n == 0)
+        && back <= 2 * FILTERS[number as usize].ahead as u64 - 1
+        && s[12..].iter().all(|&n| n == 0)
 }
 
 /// All calls on a state and a store, whatever they hold: each returns, answers 1 or 5 exactly where it must, and stays in its areas.
 fn bear(state: &State, store: &[i32], random: &mut Random) {
     let fit = counts_fit(state);
-    let needed = if fit { order::store_length(Shape::new(state[1] as usize, 1, state[3] as usize).at(state[8] as u16, 0)) } else { 0 };
+    let shape = || Shape::new(state[1] as usize, 1, state[3] as usize).at(state[8] as u16, 0).by(state[11] as u32);
+    let needed = if fit { order::store_length(shape()) } else { 0 };
     let first = if !fit {
         Some(1)
     } else if store.len() < needed {
@@ -592,11 +648,12 @@ fn states_nobody_reached_and_scribbled_stores() {
     for _ in 0..60_000 {
         let width = [1, 1, 2, 3, 5, 8, 17, 2_049][random.below(8)] as u64;
         let height = [1 + random.below(12), 1 + random.below(MAX_HEIGHT), MAX_HEIGHT][random.below(3)] as u64;
-        let levels = 1 + random.below(5) as u64;
+        let (number, levels) = filter::kind(&mut random);
+        let (ahead, number, levels) = (FILTERS[number as usize].ahead as u64, number as u64, levels as u64);
         let up_to = |random: &mut Random, n: u64| random.below(n as usize + 1) as u64;
         let (x, y) = maps::origin(&mut random);
         let mut state = [0; 16];
-        state[..11].copy_from_slice(&[
+        state[..12].copy_from_slice(&[
             2,
             width,
             height,
@@ -607,14 +664,16 @@ fn states_nobody_reached_and_scribbled_stores() {
             u64::from(random.below(8) == 0),
             x.into(),
             y.into(),
-            up_to(&mut random, 1),
+            up_to(&mut random, 2 * ahead - 1),
+            // the other filter's, now and then
+            if random.below(12) == 0 { 1 - number } else { number },
         ]);
         if random.below(3) == 0 {
             let i = random.below(16);
             state[i] = [0, 1, 2, 6, 2_050, 65_536, 1 << 32, u64::MAX][random.below(8)];
         }
         passed += usize::from(counts_fit(&state));
-        let needed = order::store_length(Shape::new(width as usize, 1, levels as usize).at(x, y));
+        let needed = order::store_length(Shape::new(width as usize, 1, levels as usize).at(x, y).by(number as u32));
         let len = needed + [0, 3, 11][random.below(3)] - usize::from(random.below(5) == 0);
         let store: Vec<i32> = match random.below(3) {
             0 => vec![[i32::MIN, i32::MAX, -1][random.below(3)]; len],
@@ -629,9 +688,9 @@ fn states_nobody_reached_and_scribbled_stores() {
 #[test]
 fn a_store_scribbled_in_between_two_calls() {
     let mut random = Random::new(28);
-    for _ in 0..3_000 {
-        let (x, y) = maps::origin(&mut random);
-        let s = Shape::new(1 + random.below(9), 1 + random.below(12), 1 + random.below(MAX_LEVELS)).at(x, y);
+    for _ in 0..6_000 {
+        let ((x, y), (number, levels)) = (maps::origin(&mut random), filter::kind(&mut random));
+        let s = Shape::new(1 + random.below(9), 1 + random.below(12), levels).at(x, y).by(number);
         let plane = vec![32_768; s.width * s.height];
         let mut play = Play::new(&plane, s);
         // wants never depend on what the store holds, and every call returns: it goes on, or ends in 14
@@ -655,6 +714,36 @@ fn a_store_scribbled_in_between_two_calls() {
             play.at += 1;
         }
         play.want();
+    }
+}
+
+/// A number that no filter has, levels that the 9/7 has not, and a count of sets that only the 9/7 has.
+#[test]
+fn states_with_a_wrong_filter_give_1() {
+    let mut store = vec![0; order::store_length(Shape::new(3, 1, 4).by(NINE_SEVEN))];
+    for (number, levels) in filter::kinds() {
+        let mut state = [0; 16];
+        assert_eq!(reader::set_up(&mut state, Shape::new(3, 9, levels).by(number), &mut store), Ok(()));
+        assert_eq!(state[11], u64::from(number), "the set-up keeps the filter's number");
+        for (place, value, fits) in [
+            (11, 2, false),
+            (11, 1 << 32, false),
+            (11, u64::MAX, false),
+            (11, 1, levels < 5),
+            (11, 0, state[10] < 2),
+            (3, 5, number == 0),
+            (10, 2, number == 1),
+            (10, 4, false),
+        ] {
+            let mut other = state;
+            other[place] = value;
+            assert_eq!(counts_fit(&other), fits);
+            assert_eq!(reader::want(&other).err(), (!fits).then_some(1), "{other:?}");
+            if !fits {
+                assert_eq!(reader::feed(&mut other, &mut store, &[0]), Err(1));
+                assert_eq!(reader::draw(&mut other, &mut store, &mut [0; 3]), Err(1));
+            }
+        }
     }
 }
 

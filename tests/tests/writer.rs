@@ -1,7 +1,8 @@
-//! The writer against the independent transform and the independent order.
+//! The writer against the independent transform and the independent order, by each filter.
 use terrain::raw::State;
 use terrain::{store_length, Band, Shape, Writer};
 use terrain_tests::areas::Guarded;
+use terrain_tests::filter::{self, FILTERS, NINE_SEVEN};
 use terrain_tests::maps::{self, MAX_HEIGHT, MAX_LEVELS, MAX_WIDTH};
 use terrain_tests::order::{self, BandRow};
 use terrain_tests::random::Random;
@@ -132,10 +133,10 @@ fn every_small_size_at_every_origin() {
     let mut random = Random::new(11);
     for width in 1..=9 {
         for height in 1..=9 {
-            for levels in 1..=MAX_LEVELS {
+            for (number, levels) in filter::kinds() {
                 for heights in maps::maps(width, height) {
                     for (x, y) in maps::origins() {
-                        Play::new(&heights, Shape::new(width, height, levels).at(x, y)).run(&mut random, 9);
+                        Play::new(&heights, Shape::new(width, height, levels).at(x, y).by(number)).run(&mut random, 9);
                     }
                 }
             }
@@ -150,33 +151,39 @@ fn larger_and_odd_sizes() {
     shapes.extend((0..24).map(|_| (1 + random.below(MAX_WIDTH), 1 + random.below(12))));
     shapes.extend([(1, 333), (2, 200), (3, 1_001), (333, 1), (2_049, 1), (2_049, 2), (2_049, 9), (2_048, 6), (2_047, 5), (1_025, 34)]);
     for (width, height) in shapes {
-        for levels in [1, 2 + random.below(3), MAX_LEVELS] {
+        for (number, levels) in filter::few_kinds(&mut random) {
             let mut all = maps::maps(width, height);
             let heights = all.swap_remove(random.below(all.len()));
             let (x, y) = maps::origin(&mut random);
-            Play::new(&heights, Shape::new(width, height, levels).at(x, y)).run(&mut random, 3 * width);
+            Play::new(&heights, Shape::new(width, height, levels).at(x, y).by(number)).run(&mut random, 3 * width);
         }
     }
 }
 
 /// Rows in which every level's slots and sets come round again.
-fn period(levels: usize) -> usize {
-    4 << levels
+fn period(number: u32, levels: usize) -> usize {
+    FILTERS[number as usize].rows << levels
+}
+
+/// Filters, widths and levels to try the row limit at.
+fn at_the_limit() -> impl Iterator<Item = (u32, usize, usize)> {
+    let kinds = [(1, 1), (1, MAX_LEVELS), (2, 3), (5, 2), (9, MAX_LEVELS)];
+    (0..).zip(&FILTERS).flat_map(move |(number, filter)| kinds.map(|(width, levels)| (number, width, levels.min(filter.levels))))
 }
 
 /// A writer a few rows below the limit: one in the middle of a map, whose state is told that it has taken many more rows. What it answers
 /// then is what it answers without, but for the row numbers, up to the limit.
-fn near_the_limit<'a>(heights: &'a [u16], width: usize, levels: usize, random: &mut Random) -> Play<'a> {
+fn near_the_limit<'a>(heights: &'a [u16], number: u32, width: usize, levels: usize, random: &mut Random) -> Play<'a> {
     let height = heights.len() / width;
-    let mut play = Play::new(heights, Shape::new(width, height, levels));
-    while play.model.rows() < period(levels) {
+    let mut play = Play::new(heights, Shape::new(width, height, levels).by(number));
+    while play.model.rows() < period(number, levels) {
         play.offer(1 + random.below(3 * width));
         while play.model.waits().is_some() {
             play.draw(width);
         }
     }
     play.skipped = MAX_HEIGHT - height;
-    assert_eq!(play.skipped % period(levels), 0);
+    assert_eq!(play.skipped % period(number, levels), 0);
     play.state[ROWS] += play.skipped as u64;
     play.model.limit = height;
     play
@@ -185,10 +192,10 @@ fn near_the_limit<'a>(heights: &'a [u16], width: usize, levels: usize, random: &
 #[test]
 fn the_row_limit() {
     let mut random = Random::new(13);
-    for (width, levels) in [(1, 1), (1, 5), (2, 3), (5, 2), (9, 5)] {
-        let height = 3 * period(levels) - 1;
+    for (number, width, levels) in at_the_limit() {
+        let height = 3 * period(number, levels) - 1;
         let heights: Vec<u16> = (0..width * height + 1).map(|_| random.below(65_536) as u16).collect();
-        let mut play = near_the_limit(&heights[..width * height], width, levels, &mut random);
+        let mut play = near_the_limit(&heights[..width * height], number, width, levels, &mut random);
         while play.model.rows() < height {
             // one height more than the map has: the limit stops the offer before it
             play.heights = &heights;
@@ -214,19 +221,21 @@ fn the_row_limit() {
 #[test]
 fn past_the_row_limit() {
     let mut random = Random::new(14);
-    let heights: Vec<u16> = (0..3 * (3 * period(2) - 1)).map(|i| i as u16).collect();
-    let mut play = near_the_limit(&heights, 3, 2, &mut random);
-    for (rows, answers) in [(MAX_HEIGHT - 1, [0, 0, 0]), (MAX_HEIGHT, [10, 0, 0]), (MAX_HEIGHT + 1, [1, 1, 1]), (usize::MAX, [1, 1, 1])] {
-        play.state[ROWS] = rows as u64;
-        play.state[4] = 0;
-        let state = play.state;
-        let (mut store, mut out) = (play.store.content().to_vec(), [0; 3]);
-        let given = [
-            writer::offer(&mut state.clone(), &mut store.clone(), &[1, 2, 3]).err().unwrap_or(0),
-            writer::draw(&mut state.clone(), &mut store.clone(), &mut out).err().unwrap_or(0),
-            writer::finish(&mut state.clone(), &mut store).err().unwrap_or(0),
-        ];
-        assert_eq!(given, answers, "{rows} rows");
+    for number in [0, 1] {
+        let heights: Vec<u16> = (0..3 * (3 * period(number, 2) - 1)).map(|i| i as u16).collect();
+        let mut play = near_the_limit(&heights, number, 3, 2, &mut random);
+        for (rows, answers) in [(MAX_HEIGHT - 1, [0, 0, 0]), (MAX_HEIGHT, [10, 0, 0]), (MAX_HEIGHT + 1, [1, 1, 1]), (usize::MAX, [1, 1, 1])] {
+            play.state[ROWS] = rows as u64;
+            play.state[4] = 0;
+            let state = play.state;
+            let (mut store, mut out) = (play.store.content().to_vec(), [0; 3]);
+            let given = [
+                writer::offer(&mut state.clone(), &mut store.clone(), &[1, 2, 3]).err().unwrap_or(0),
+                writer::draw(&mut state.clone(), &mut store.clone(), &mut out).err().unwrap_or(0),
+                writer::finish(&mut state.clone(), &mut store).err().unwrap_or(0),
+            ];
+            assert_eq!(given, answers, "{rows} rows");
+        }
     }
 }
 
@@ -236,6 +245,9 @@ fn a_run_is_taken_up_to_the_first_row_that_waits() {
     let mut play = Play::new(&heights, Shape::new(4, 10, 2));
     play.offer(40);
     assert_eq!(play.taken, 12, "the third row makes set 0");
+    let mut far = Play::new(&heights, Shape::new(4, 10, 2).by(NINE_SEVEN));
+    far.offer(40);
+    assert_eq!(far.taken, 20, "by the 9/7 the fifth row does");
     play.offer(0);
     play.finish();
     for _ in 0..3 {
@@ -246,55 +258,85 @@ fn a_run_is_taken_up_to_the_first_row_that_waits() {
     assert_eq!(play.taken, 15);
 }
 
-#[test]
-fn the_column_of_the_scope() {
-    fn draw(writer: &mut Writer, drawn: &mut Vec<(usize, Band, usize, Vec<i32>)>) {
-        while let Some((r, values)) = writer.draw(&mut [0]).unwrap() {
+/// The band rows of a map, drawn as they come due after each height and after the finish: level, band, number, values.
+fn all_drawn(heights: &[u16], s: Shape) -> [Vec<(usize, Band, usize, Vec<i32>)>; 2] {
+    let mut store = vec![9; store_length(s)];
+    let mut out = vec![0; s.width];
+    let mut writer = Writer::new(s, &mut store).unwrap();
+    let mut drawn = [vec![], vec![]];
+    let mut draw = |writer: &mut Writer, drawn: &mut Vec<_>| {
+        while let Some((r, values)) = writer.draw(&mut out).unwrap() {
             drawn.push((r.level, r.band, r.row, values.to_vec()));
         }
-    }
-    let column = Shape::new(1, 4, 2);
-    let mut store = vec![9; store_length(column)];
-    let mut writer = Writer::new(column, &mut store).unwrap();
-    let mut drawn = Vec::new();
-    for height in [1, 4, 2, 7] {
+    };
+    for &height in heights {
         assert_eq!(writer.offer(&[height]), Ok(1));
-        draw(&mut writer, &mut drawn);
+        draw(&mut writer, &mut drawn[0]);
     }
     assert_eq!(writer.finish(), Ok(()));
-    draw(&mut writer, &mut drawn);
+    draw(&mut writer, &mut drawn[1]);
+    drawn
+}
+
+#[test]
+fn the_column_of_the_scope() {
+    let drawn = all_drawn(&[1, 4, 2, 7], Shape::new(1, 4, 2)).concat();
     let expected = [(1, Band::Lh, 0, 3), (1, Band::Lh, 1, 5), (2, Band::Ll, 0, 4), (2, Band::Lh, 0, 1)];
     assert_eq!(drawn, expected.map(|(level, band, row, value)| (level, band, row, vec![value])));
+}
+
+/// Document 02, Q-8: "a set is made when row 2n+4 is complete, or at the finish, in order".
+#[test]
+fn the_order_at_the_finish_by_the_nine_seven() {
+    use Band::{Hh, Hl, Lh, Ll};
+    let heights: Vec<u16> = (0..24).map(|i| i * i).collect();
+    let s = Shape::new(2, 12, 2).by(NINE_SEVEN);
+    let [before, after] = all_drawn(&heights, s).map(|rows| rows.into_iter().map(|(level, band, row, _)| (level, band, row)).collect::<Vec<_>>());
+    let sets: Vec<_> = (0..4).flat_map(|n| [Hl, Lh, Hh].map(|band| (1, band, n))).collect();
+    assert_eq!(before, sets, "set 3 with row 10, and nothing of level 2");
+    let of_level_1 = |n| [Hl, Lh, Hh].map(|band| (1, band, n)).to_vec();
+    let of_level_2 = |n| [Ll, Lh].map(|band| (2, band, n)).to_vec();
+    assert_eq!(after, [of_level_1(4), of_level_2(0), of_level_1(5), of_level_2(1), of_level_2(2)].concat());
 }
 
 #[test]
 fn the_questions_of_set_up() {
     // a writer does not read the height
-    let shape = |width: usize, levels: usize| Shape::new(width, 0, levels);
-    let refused = |width: usize, levels: usize, len: usize, number: u32| {
+    let shape = |number: u32, width: usize, levels: usize| Shape::new(width, 0, levels).by(number);
+    let refused = |s: Shape, len: usize, number: u32| {
         let mut store = Guarded::unset(len);
-        assert_eq!(writer::set_up(&mut [7; 16], shape(width, levels), store.lent()), Err(number), "{width} {levels} {len}");
+        assert_eq!(writer::set_up(&mut [7; 16], s, store.lent()), Err(number), "{s:?} {len}");
         assert!(store.is_unset_from(0));
     };
     for width in [0, MAX_WIDTH + 1, 1 << 32, usize::MAX] {
-        for levels in [0, 1, 6, usize::MAX] {
-            refused(width, levels, 0, 2);
-            assert_eq!(store_length(shape(width, levels)), 0);
+        for number in [0, 1].into_iter().chain(filter::UNKNOWN) {
+            for levels in [0, 1, 6, usize::MAX] {
+                refused(shape(number, width, levels), 0, 2);
+                assert_eq!(store_length(shape(number, width, levels)), 0);
+            }
         }
     }
     for width in [1, 9, MAX_WIDTH] {
-        for levels in [0, MAX_LEVELS + 1, 1 << 32, usize::MAX] {
-            refused(width, levels, 0, 4);
-            assert_eq!(store_length(shape(width, levels)), 0);
+        for number in filter::UNKNOWN {
+            for levels in [0, 1, 4, 5, 6, usize::MAX] {
+                refused(shape(number, width, levels), 0, 18);
+                assert_eq!(store_length(shape(number, width, levels)), 0);
+            }
+        }
+        for (number, filter) in (0..).zip(&FILTERS) {
+            for levels in [0, filter.levels + 1, MAX_LEVELS + 1, 1 << 32, usize::MAX] {
+                refused(shape(number, width, levels), 0, 4);
+                assert_eq!(store_length(shape(number, width, levels)), 0);
+            }
         }
     }
     for width in (1..=40).chain([1_024, 1_025, MAX_WIDTH]) {
-        for levels in 1..=MAX_LEVELS {
-            let needed = order::store_length(shape(width, levels));
-            refused(width, levels, needed - 1, 5);
-            refused(width, levels, 0, 5);
+        for (number, levels) in filter::kinds() {
+            let needed = order::store_length(shape(number, width, levels));
+            refused(shape(number, width, levels), needed - 1, 5);
+            refused(shape(number, width, levels), 0, 5);
             for (x, y) in maps::origins() {
-                let s = shape(width, levels).at(x, y);
+                let s = shape(number, width, levels).at(x, y);
                 let needed = order::store_length(s);
                 assert_eq!(store_length(s), needed);
                 let mut store = Guarded::unset(needed);
@@ -316,35 +358,46 @@ fn most_left(levels: u64, level: u64) -> u64 {
 }
 
 /// Where the stretch of a level begins in the line store; 0 where there is no level.
-fn start_of(width: u64, x: u64, level: u64) -> u64 {
+fn start_of(number: u64, width: u64, x: u64, level: u64) -> u64 {
     if level < 2 {
         0
     } else {
-        order::store_length(Shape::new(width as usize, 1, level as usize - 1).at(x as u16, 0)) as u64
+        order::store_length(Shape::new(width as usize, 1, level as usize - 1).at(x as u16, 0).by(number as u32)) as u64
     }
 }
 
 /// The counts of a writer, as docs/STATE.md lists them: whether question 1 passes.
 fn counts_fit(s: &State) -> bool {
-    let [kind, width, levels, rows, column, finished, closed, level, left, offset, x, y, ..] = *s;
+    let [kind, width, levels, rows, column, finished, closed, level, left, offset, x, y, number, ..] = *s;
     kind == 1
+        && number < FILTERS.len() as u64
         && (1..=2_049).contains(&width)
-        && (1..=5).contains(&levels)
+        && (1..=FILTERS[number as usize].levels as u64).contains(&levels)
         && rows <= MAX_HEIGHT as u64
         && column < width
         && finished <= 1
-        && closed <= levels
+        && closed <= FILTERS[number as usize].ahead as u64 * levels
         && level <= levels
         && left <= most_left(levels, level)
         && x <= 65_535
         && y <= 65_535
-        && offset == start_of(width, x, level)
-        && s[12..].iter().all(|&n| n == 0)
+        && offset == start_of(number, width, x, level)
+        && s[13..].iter().all(|&n| n == 0)
+}
+
+/// The numbers of the line store that the counts of a writer speak of, or 0.
+fn needed_by(s: &State) -> usize {
+    let [_, width, levels, ..] = s.map(|n| n as usize);
+    if counts_fit(s) {
+        order::store_length(Shape::new(width, 1, levels).at(s[10] as u16, 0).by(s[12] as u32))
+    } else {
+        0
+    }
 }
 
 /// All calls on a state and a store, whatever they hold: each returns, answers 1 or 5 exactly where it must, and stays in its areas.
 fn bear(state: &State, store: &[i32], random: &mut Random) {
-    let needed = if counts_fit(state) { order::store_length(Shape::new(state[1] as usize, 1, state[2] as usize).at(state[10] as u16, 0)) } else { 0 };
+    let needed = needed_by(state);
     let first = if !counts_fit(state) {
         Some(1)
     } else if store.len() < needed {
@@ -388,33 +441,36 @@ fn states_nobody_reached_and_scribbled_stores() {
     let mut passed = 0;
     for _ in 0..60_000 {
         let width = [1, 1, 2, 3, 5, 8, 17, 2_049][random.below(8)] as u64;
-        let levels = 1 + random.below(5) as u64;
+        let (number, levels) = filter::kind(&mut random);
+        let (ahead, number, levels) = (FILTERS[number as usize].ahead as u64, number as u64, levels as u64);
         let rows = [random.below(12), random.below(MAX_HEIGHT), MAX_HEIGHT][random.below(3)] as u64;
         let up_to = |random: &mut Random, n: u64| random.below(n as usize + 1) as u64;
         let level = up_to(&mut random, levels);
         let most = if random.below(6) == 0 { 4 } else { most_left(levels, level) };
         let (x, y) = maps::origin(&mut random);
         let mut state = [0; 16];
-        state[..12].copy_from_slice(&[
+        state[..13].copy_from_slice(&[
             1,
             width,
             levels,
             rows,
             up_to(&mut random, width - 1),
             up_to(&mut random, 1),
-            up_to(&mut random, levels),
+            up_to(&mut random, ahead * levels),
             level,
             up_to(&mut random, most),
-            if random.below(6) == 0 { up_to(&mut random, 8 * width) } else { start_of(width, x.into(), level) },
+            if random.below(6) == 0 { up_to(&mut random, 8 * width) } else { start_of(number, width, x.into(), level) },
             x.into(),
             y.into(),
+            // the other filter's, now and then: its levels, its closing and its stretches are not the same
+            if random.below(12) == 0 { 1 - number } else { number },
         ]);
         if random.below(3) == 0 {
             let i = random.below(16);
             state[i] = [0, 1, 2, 6, 2_050, 65_536, 1 << 32, u64::MAX][random.below(8)];
         }
         passed += usize::from(counts_fit(&state));
-        let needed = order::store_length(Shape::new(width as usize, 1, levels as usize).at(x, y));
+        let needed = order::store_length(Shape::new(width as usize, 1, levels as usize).at(x, y).by(number as u32));
         let len = needed + [0, 3, 11][random.below(3)] - usize::from(random.below(5) == 0);
         let store: Vec<i32> =
             if random.below(2) == 0 { vec![[i32::MIN, i32::MAX, -1][random.below(3)]; len] } else { (0..len).map(|_| random.word()).collect() };
@@ -423,12 +479,45 @@ fn states_nobody_reached_and_scribbled_stores() {
     assert!(passed > 30_000, "{passed} states pass question 1");
 }
 
+/// A number that no filter has, levels that the 9/7 has not, and a closing longer than the 5/3's.
+#[test]
+fn states_with_a_wrong_filter_give_1() {
+    let mut store = vec![0; order::store_length(Shape::new(3, 1, 4).by(NINE_SEVEN))];
+    for (number, levels) in filter::kinds() {
+        let mut state = [0; 16];
+        assert_eq!(writer::set_up(&mut state, Shape::new(3, 1, levels).by(number), &mut store), Ok(()));
+        assert_eq!(state[12], u64::from(number), "the set-up keeps the filter's number");
+        let ahead = FILTERS[number as usize].ahead as u64;
+        for (place, value, fits) in [
+            (12, 2, false),
+            (12, 1 << 32, false),
+            (12, u64::MAX, false),
+            (12, 1, levels < 5),
+            (12, 0, true),
+            (2, 5, number == 0),
+            (6, ahead * levels as u64, true),
+            (6, ahead * levels as u64 + 1, false),
+        ] {
+            let mut other = state;
+            other[place] = value;
+            assert_eq!(counts_fit(&other), fits);
+            assert_eq!(writer::waits(&other), if fits { Ok(None) } else { Err(1) }, "{other:?}");
+            if !fits {
+                assert_eq!(writer::offer(&mut other, &mut store, &[1]), Err(1));
+                assert_eq!(writer::draw(&mut other, &mut store, &mut [0; 3]), Err(1));
+                assert_eq!(writer::finish(&mut other, &mut store), Err(1));
+            }
+        }
+    }
+}
+
 #[test]
 fn a_store_scribbled_in_between_two_calls() {
     let mut random = Random::new(14);
     for _ in 0..2_000 {
         let (x, y) = maps::origin(&mut random);
-        let s = Shape::new(1 + random.below(20), 1, 1 + random.below(MAX_LEVELS)).at(x, y);
+        let (number, levels) = filter::kind(&mut random);
+        let s = Shape::new(1 + random.below(20), 1, levels).at(x, y).by(number);
         let (width, needed) = (s.width, order::store_length(s));
         let mut store = Guarded::unset(needed + SURPLUS);
         let mut state = [0; 16];

@@ -2,8 +2,9 @@
 use crate::{raw, Band, Call, Question};
 use std::ops::Range;
 
-/// A map on its grid: width, height and levels, and the coordinates of its first column and its first row. A map that is no tile of a larger
-/// one starts at 0: [`Shape::new`]. More fields may come, in which 0 means what they were not there for.
+/// A map on its grid: width, height and levels, the coordinates of its first column and its first row, and the number of its filter. A map that
+/// is no tile of a larger one starts at 0, and the 5/3 has the number 0: [`Shape::new`]. More fields may come, in which 0 means what they were
+/// not there for.
 #[repr(C)]
 #[derive(Clone, Copy, Debug, Default, PartialEq, Eq, Hash)]
 pub struct Shape {
@@ -12,10 +13,12 @@ pub struct Shape {
     pub levels: usize,
     pub x: u16,
     pub y: u16,
+    /// 0 the 5/3, 1 the integer 9/7; any other gives 18
+    pub filter: u32,
 }
 
 impl Shape {
-    /// A map of that size that starts at 0.
+    /// A map of that size that starts at 0, by the 5/3.
     pub fn new(width: usize, height: usize, levels: usize) -> Shape {
         Shape { width, height, levels, ..Shape::default() }
     }
@@ -23,6 +26,11 @@ impl Shape {
     /// The same map with its first column and its first row at these coordinates.
     pub fn at(self, x: u16, y: u16) -> Shape {
         Shape { x, y, ..self }
+    }
+
+    /// The same map by the filter of that number.
+    pub fn by(self, filter: u32) -> Shape {
+        Shape { filter, ..self }
     }
 }
 

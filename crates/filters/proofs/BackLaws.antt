@@ -1,23 +1,34 @@
 -- A level by the number of its filter, case by case: what is asked and left is what the filter's own level asks and leaves. Assumes nothing.
 use mathlib.Core.Path.{_≡_, refl}
-use mathlib.Core.Bool.{Bool}
-use Prim.Native.Nat.{ℕ, zero, suc, _+_, _*_, _≤_, min}
+use mathlib.Core.Bool.{Bool, true}
+use Prim.Native.Nat.{ℕ, zero, suc, _+_, _*_, _≤_, _<_, min}
 use native.Mathlib.Omega.{arith}
 use lib.IntN.{ℤ, pos}
 use lib.Dec.{leb, eqb}
-use Rattle.numbers.specs.Signal.{pick}
-use Rattle.lifting.specs.Grid.{Side}
+use borrow.Author.Tests.{le-leb, lt-ltb}
+use Rattle.numbers.specs.Signal.{pick, windowed, spliced}
+use Rattle.lifting.specs.Line.{lo}
+use Rattle.lifting.specs.Grid.{Side, count, joined}
+use Rattle.lifting.specs.GridHalves.{halvesOf}
 use Rattle.lifting.specs.FiveThree.{fiveThreeFilter}
 use Rattle.nine_seven.specs.NineSevenFilter.{nineSevenFilter}
 use Rattle.nine_seven.specs.Filters.{filterOf}
 use Rattle.wavelet.specs.Limits.{maxLevels, range}
+use Rattle.wavelet.specs.Bands.{Band, across, down}
+use Rattle.wavelet.specs.Order.{lastSet}
 use Rattle.level.specs.Tried.{failed, outcome}
+use Rattle.level.specs.Slots.{local, rowOfSet, halfPlace}
 use Rattle.level.specs.Slots as slots
 use Rattle.level.specs.Work.{admitted, setWorked}
-use Rattle.level.specs.Rebuilding.{widest, workAnswer, Kept, workable, workLeft}
+use Rattle.level.specs.Rebuilding.{widest, tallest, workAnswer, Kept, workable, workLeft}
 use Rattle.nine_seven_rebuilding.specs.Slots as slots97
 use Rattle.nine_seven_rebuilding.specs.Work as work97
 use Rattle.nine_seven_rebuilding.specs.Rebuilding as rebuilding97
+use Rattle.level.proofs.WorkedPast.{Keeps}
+use Rattle.level.proofs.WorkedPast as past
+use Rattle.nine_seven_rebuilding.proofs.WorkedPast as past97
+use Rattle.level.proofs.SlotLaws as laws
+use Rattle.nine_seven_rebuilding.proofs.SlotLaws as laws97
 use Rattle.level.proofs.ReaderLaws.{ReaderLawsBy}
 use Rattle.level.proofs.FiveThreeBackLaws.{five-three-back-laws}
 use Rattle.nine_seven_rebuilding.proofs.NineSevenBackLaws.{nine-seven-back-laws}
@@ -33,6 +44,30 @@ pub back-stretch : (f : ℕ) (W : Side) → backOf f .stretch W ≡ filterOf f .
 unfolding backOf filterOf
 back-stretch zero W = refl
 back-stretch (suc f) W = refl
+
+-- a band row fed, and a row made, in the slots that it keeps; a row's slot lies within the stretch
+pub back-feed : (f : ℕ) (W : Side) (s : ℕ) (b : Band) (n : ℕ) (v x : ℕ → ℤ) → backOf f .feed W s b n v x
+    ≡ spliced (rowPlaceOf f (W .length) (rowOfSet (down b) n) + halfPlace (across b) W) (count (across b) W) v x
+unfolding backOf rowPlaceOf slots.bandFed slots97.bandFed
+back-feed zero W s b n v x = refl
+back-feed (suc f) W s b n v x = refl
+
+pub back-made : (f : ℕ) (W : Side) (s r : ℕ) (x : ℕ → ℤ) → backOf f .made W s r x
+    ≡ joined W (halvesOf W (windowed (rowPlaceOf f (W .length) (local s r)) (W .length) x))
+unfolding backOf rowPlaceOf slots.rowIn slots97.rowIn
+back-made zero W s r x = refl
+back-made (suc f) W s r x = refl
+
+pub place-room : (f w q : ℕ) → rowPlaceOf f w q + w ≤ filterOf f .rows * w
+unfolding rowPlaceOf filterOf
+place-room zero w q = omega (arith, laws.place-is w q, laws.slot-room w q)
+place-room (suc f) w q = omega (arith, laws97.place-is w q, laws97.slot-room w q)
+
+-- a set worked out leaves what is past the stretch
+pub back-worked : (f k : ℕ) (W H : Side) (last : Bool) (n : ℕ) (x : ℕ → ℤ) → Keeps (filterOf f .rows * W .length) x (backOf f .work last k W H n x)
+unfolding backOf filterOf
+back-worked zero k W H last n x = past.worked-past k W H last n x
+back-worked (suc f) k W H last n x = past97.worked-past k W H last n x
 
 -- and it meets what is asked of a level on the way back
 pub back-laws : (f : ℕ) → ReaderLawsBy (filterOf f) (backOf f) (standsOf f)
@@ -80,6 +115,20 @@ pub second-placed : (f w r a : ℕ) → (f ≡ 0 → ⊥) → (a ≡ pick (leb w
 unfolding rowPlaceOf filterOf
 second-placed zero w r a d p = absurd (d refl)
 second-placed (suc f) w r a d p = p
+
+-- ---- a set that can be worked out
+pub workable-of : (f : ℕ) (last : Bool) (k : ℕ) (W H : Side) (n m : ℕ) → k ≤ filterOf f .levels → W .length ≤ widest → H .length ≤ tallest → 0 < H .length →
+    n ≤ lastSet H → filterOf f .rows * W .length + filterOf f .rows * pick last 0 (count lo W) ≤ m → workableOf f last k W H n m ≡ true
+unfolding workableOf
+workable-of f last k W H n m a b c d e g =
+    rw (
+      le-leb k (filterOf f .levels) a,
+      le-leb (W .length) widest b,
+      le-leb (H .length) tallest c,
+      lt-ltb 0 (H .length) d,
+      le-leb n (lastSet H) e,
+      le-leb (filterOf f .rows * W .length + filterOf f .rows * pick last 0 (count lo W)) m g,
+    ) refl
 
 -- ---- a set worked out
 module _ (last : Bool) (k : ℕ) (W H : Side) (n m r : ℕ) (x y : ℕ → ℤ) where

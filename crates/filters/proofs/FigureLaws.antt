@@ -29,6 +29,11 @@ unfolding filterOf
 rows-few zero = omega arith
 rows-few (suc f) = omega arith
 
+pub row-few : (f w : ℕ) → filterOf f .rows * w ≤ 8 * w
+unfolding filterOf
+row-few zero w = omega arith
+row-few (suc f) w = omega arith
+
 -- a line store is not long: at most sixteen numbers a column and eight a level
 pub store-few : (f : ℕ) (W : Side) (L : ℕ) → storeBy f W L ≤ 16 * W .length + 8 * L
 unfolding filterOf

@@ -1,4 +1,4 @@
--- Where no set of a level halves an odd number, the level has none: `sets-have`. Assumes nothing.
+-- Where no set of a level halves an odd number, the level has none, by any filter: `sets-have`. Assumes nothing.
 use mathlib.Core.Path.{_≡_, refl, subst}
 use mathlib.Core.Bool.{Bool, true, false}
 use Prim.Native.Nat.{ℕ, _+_, _-_, _≤_, _<_}

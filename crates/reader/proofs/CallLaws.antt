@@ -19,13 +19,15 @@ use Rattle.lifting.specs.GridHalves.{halvesOf}
 use Rattle.wavelet.specs.Questions.{ask}
 use Rattle.calls.specs.Lists.{all-none, all-more}
 use Rattle.calls.proofs.QuestionLaws.{asks, asks-no, asks-yes, asks-none}
+use Rattle.filters.specs.Figures.{storeBy}
+use Rattle.filters.specs.Back.{rowPlaceOf}
+use Rattle.filters.proofs.BackLaws.{back-made}
 use Rattle.reader.specs.declared.Reader.{Reader}
 use Rattle.reader.specs.declared.walk.Spot.{Spot}
 use Rattle.areas.specs.Areas.{height16}
 use Rattle.reader.specs.Answers.{gives, refused, impossible, Want, row, drawNow, done, ended, aRow, nothing}
 use Rattle.level.specs.Tried.{Tried, failed, passed, fits, memory}
-use Rattle.level.specs.Slots.{rowPlace, local, rowIn}
-use Rattle.wavelet.specs.Store.{storeLength}
+use Rattle.level.specs.Slots.{local}
 use Rattle.reader.specs.Store.{zeroed}
 use Rattle.reader.specs.Machine.{spot, placeOf, dive, enter, spotFed}
 use Rattle.reader.specs.State.{columns, rows, next, nextRow, nextLength, unfinished, rowDue, drawDue, wants, settles, feeds, movedTo}
@@ -38,23 +40,23 @@ use Rattle.areas.proofs.AreaLaws.{front-at, front-rest}
 use Rattle.reader.proofs.StepLaws.{spot-of, next-draw}
 
 -- ---- a store zeroed after places past n were kept
-pub zero-kept : (W : Side) (L n : ℕ) (x y z : ℕ → ℤ) → n ≡ storeLength W L → Kept (storeLength W L) x y → z ≡ fronted n (λ _. pos 0) y → z ≡ zeroed W L x
+pub zero-kept : (f : ℕ) (W : Side) (L n : ℕ) (x y z : ℕ → ℤ) → n ≡ storeBy f W L → Kept (storeBy f W L) x y → z ≡ fronted n (λ _. pos 0) y → z ≡ zeroed f W L x
 unfolding zeroed
-zero-kept W L n x y z e a is =
-    let N = storeLength W L in
+zero-kept f W L n x y z e a is =
+    let N = storeBy f W L in
     is ∙ ap (λ (i : ℕ). fronted i (λ _. pos 0) y) e ∙ fun-ext λ j. elim (decLt j N) [
       | yes p ↦ front-at N _ y j p ∙ sym (front-at N _ x j p)
       | no q ↦ front-rest N _ y j (omega arith) ∙ a .same j (omega arith) ∙ sym (front-rest N _ x j (omega arith))
     ]
 
 -- ---- set-up
-module _ (W H : Side) (L Q : ℕ) (x : ℕ → ℤ) where
-  pub set-up-no : (r : ℕ) → r ≡ Q → (r ≡ 0 → ⊥) → (refused r ≡ setUpReply W H L Q) × (x ≡ setUpStore W L Q x)
+module _ (f : ℕ) (W H : Side) (L Q : ℕ) (x : ℕ → ℤ) where
+  pub set-up-no : (r : ℕ) → r ≡ Q → (r ≡ 0 → ⊥) → (refused r ≡ setUpReply f W H L Q) × (x ≡ setUpStore f W L Q x)
   unfolding setUpReply setUpStore
-  set-up-no r e n = let f = ne-eqb r 0 n in (rw (← e, f), rw (← e, f))
+  set-up-no r e n = let u = ne-eqb r 0 n in (rw (← e, u), rw (← e, u))
 
-  pub set-up-yes : (s : Reader) (y : ℕ → ℤ) (n : ℕ) → s ≡ fresh W H L → Q ≡ 0 → n ≡ storeLength W L → y ≡ fronted n (λ _. pos 0) x →
-      (gives s ≡ setUpReply W H L Q) × (y ≡ setUpStore W L Q x)
+  pub set-up-yes : (s : Reader) (y : ℕ → ℤ) (n : ℕ) → s ≡ fresh f W H L → Q ≡ 0 → n ≡ storeBy f W L → y ≡ fronted n (λ _. pos 0) x →
+      (gives s ≡ setUpReply f W H L Q) × (y ≡ setUpStore f W L Q x)
   unfolding setUpReply setUpStore zeroed
   set-up-yes s y n es e en ey = let t = eq-eqb Q 0 e in (rw t (ap gives es), rw t (ey ∙ ap (λ (i : ℕ). fronted i (λ _. pos 0) x) en))
 
@@ -106,12 +108,12 @@ module _ (s : Reader) where
 -- questions 1, 5 and 9
 module _ (s : Reader) (n : ℕ) where
   abbrev early : List (Bool × ℕ)
-  early = (countsFit s, 0) ∷ (storeFits (columns s) (s .levels) n, 4) ∷ (not (s .ended), 8) ∷ []
+  early = (countsFit s, 0) ∷ (storeFits (s .filter) (columns s) (s .levels) n, 4) ∷ (not (s .ended), 8) ∷ []
 
 -- 8, 13 and 7
 module _ (s : Reader) (m : ℕ) (v : ℕ → ℤ) where
   abbrev late : List (Bool × ℕ)
-  late = (rowDue s, 7) ∷ (eqb m (nextLength s), 12) ∷ (runFits (next s .level) m v, 6) ∷ []
+  late = (rowDue s, 7) ∷ (eqb m (nextLength s), 12) ∷ (runFits (s .filter) (next s .level) m v, 6) ∷ []
 
 -- ---- of a feed
 module _ (s : Reader) (n m : ℕ) (v x : ℕ → ℤ) where
@@ -183,23 +185,23 @@ module _ (s : Reader) (Q : ℕ) (v x : ℕ → ℤ) where
   unfolding feedReply feedStore storeAfter
   feed-yes t y e et is = (rw (← e) (ap gives et), rw (← e) (memory-is (feeds s v x) x y is))
 
-  pub feed-end : (t : Reader) (z : ℕ → ℤ) → 14 ≡ Q → t ≡ endedReader s → z ≡ zeroed (columns s) (s .levels) x →
+  pub feed-end : (t : Reader) (z : ℕ → ℤ) → 14 ≡ Q → t ≡ endedReader s → z ≡ zeroed (s .filter) (columns s) (s .levels) x →
       (impossible t ≡ feedReply s Q) × (z ≡ feedStore s Q v x)
   unfolding feedReply feedStore storeAfter
   feed-end t z e et is = (rw (← e) (ap impossible et), rw (← e) is)
 
-pub fed-reader : (s t : Reader) (p : Spot) → Is (spotFed (columns s) (rows s) (s .levels) (next s .level) (next s .set) (next s .band)) p →
-    t ≡ movedTo s (s .drawn) (placeOf (rows s) (s .drawn) (spot (p .level) (p .set) (p .band))) → t ≡ fedReader s
+pub fed-reader : (s t : Reader) (p : Spot) → Is (spotFed (s .filter) (columns s) (rows s) (s .levels) (next s .level) (next s .set) (next s .band)) p →
+    t ≡ movedTo s (s .drawn) (placeOf (s .filter) (rows s) (s .drawn) (spot (p .level) (p .set) (p .band))) → t ≡ fedReader s
 unfolding fedReader
-fed-reader s t p is e = e ∙ ap (λ q. movedTo s (s .drawn) (placeOf (rows s) (s .drawn) q)) (spot-of _ p is)
+fed-reader s t p is e = e ∙ ap (λ q. movedTo s (s .drawn) (placeOf (s .filter) (rows s) (s .drawn) q)) (spot-of _ p is)
 
-pub drawn-reader : (s t : Reader) (d : ℕ) (p : Spot) → d ≡ s .drawn + 1 → Is (enter (columns s) (rows s) (s .levels) d) p →
-    t ≡ movedTo s d (placeOf (rows s) d (spot (p .level) (p .set) (p .band))) → t ≡ drawnReader s
+pub drawn-reader : (s t : Reader) (d : ℕ) (p : Spot) → d ≡ s .drawn + 1 → Is (enter (s .filter) (columns s) (rows s) (s .levels) d) p →
+    t ≡ movedTo s d (placeOf (s .filter) (rows s) d (spot (p .level) (p .set) (p .band))) → t ≡ drawnReader s
 unfolding drawnReader
 drawn-reader s t d p ed is e =
     let n : d ≡ suc (s .drawn) = ed ∙ add-one (s .drawn) in
-    e ∙ ap (λ q. movedTo s d (placeOf (rows s) d q)) (spot-of _ p is)
-    ∙ ap (λ (i : ℕ). movedTo s i (placeOf (rows s) i (enter (columns s) (rows s) (s .levels) i))) n
+    e ∙ ap (λ q. movedTo s d (placeOf (s .filter) (rows s) d q)) (spot-of _ p is)
+    ∙ ap (λ (i : ℕ). movedTo s i (placeOf (s .filter) (rows s) i (enter (s .filter) (columns s) (rows s) (s .levels) i))) n
 
 -- ---- draw
 module _ (s : Reader) (Q : ℕ) (x z : ℕ → ℤ) where
@@ -220,34 +222,35 @@ module _ (s : Reader) (Q : ℕ) (x z : ℕ → ℤ) where
       let area = made ∙ ap (λ (f : ℕ → ℤ). fronted (s .width) (heightRow s f) z) m in
       (rw (← e, d) (ap (λ (r : Reader). gives (aRow (s .width) r)) et), (rw (← e, d) m, rw (← e, d) area))
 
-  pub draw-end : (t : Reader) (y : ℕ → ℤ) → 14 ≡ Q → t ≡ endedReader s → y ≡ zeroed (columns s) (s .levels) x →
+  pub draw-end : (t : Reader) (y : ℕ → ℤ) → 14 ≡ Q → t ≡ endedReader s → y ≡ zeroed (s .filter) (columns s) (s .levels) x →
       (impossible t ≡ drawReply s Q) × ((y ≡ drawStore s Q x) × (z ≡ drawArea s Q x z))
   unfolding drawReply drawStore storeAfter drawArea
   draw-end t y e et is = (rw (← e) (ap impossible et), (rw (← e) is, rw (← e)))
 
 -- the heights of the row that is lent
-pub drawn-row : (s : Reader) (a k : ℕ) (l : List ℤ) (z u : ℕ → ℤ) → a ≡ rowPlace (s .width) (s .y % 2 + s .drawn) → k ≡ s .width → a + k ≤ length l →
+pub drawn-row : (s : Reader) (a k : ℕ) (l : List ℤ) (z u : ℕ → ℤ) → a ≡ rowPlaceOf (s .filter) (s .width) (s .y % 2 + s .drawn) → k ≡ s .width → a + k ≤ length l →
     u ≡ fronted (length (midOf a k l)) (λ c. height16 (joined (side (s .x) (length (midOf a k l)))
     (halvesOf (side (s .x) (length (midOf a k l))) (at (midOf a k l))) c)) z →
     u ≡ fronted (s .width) (heightRow s (at l)) z
-unfolding heightRow rowIn local
+unfolding heightRow local
 drawn-row s a k l z u ea ek room made =
     let W = s .width in
     let d = s .y % 2 + s .drawn in
     made
     ∙ ap (λ (i : ℕ). fronted i (λ c. height16 (joined (side (s .x) i) (halvesOf (side (s .x) i) (at (midOf a k l))) c)) z) (length-mid a k l room ∙ ek)
     ∙ ap (λ (f : ℕ → ℤ). fronted W (λ c. height16 (joined (columns s) (halvesOf (columns s) f) c)) z) (at-mid a k l
-    ∙ ap (λ (i : ℕ). windowed i k (at l)) ea ∙ ap (λ (i : ℕ). windowed (rowPlace W d) i (at l)) ek)
+    ∙ ap (λ (i : ℕ). windowed i k (at l)) ea ∙ ap (λ (i : ℕ). windowed (rowPlaceOf (s .filter) W d) i (at l)) ek)
+    ∙ ap (λ (f : ℕ → ℤ). fronted W (λ c. height16 (f c)) z) (sym (back-made (s .filter) (columns s) (s .y) (s .drawn) (at l)))
 
 -- where a height row begins, from level 0 on
-pub enter-is : (W H : Side) (L d : ℕ) (p : Spot) → Is (dive (L - 0) 0 W H d d) p → Is (enter W H L d) p
+pub enter-is : (f : ℕ) (W H : Side) (L d : ℕ) (p : Spot) → Is (dive f (L - 0) 0 W H d d) p → Is (enter f W H L d) p
 unfolding enter
-enter-is W H L d p is = let z : L - 0 ≡ L = omega arith in subst (λ (m : ℕ). Is (dive m 0 W H d d) p) z is
+enter-is f W H L d p is = let z : L - 0 ≡ L = omega arith in subst (λ (m : ℕ). Is (dive f m 0 W H d d) p) z is
 
 -- where a fresh reader begins
-pub fresh-at : (W H : Side) (L : ℕ) (s t : Reader) (p : Spot) → Is (enter W H L 0) p → columns s ≡ W → rows s ≡ H → s .levels ≡ L →
-    t ≡ movedTo s 0 (placeOf (rows s) 0 (spot (p .level) (p .set) (p .band))) → t ≡ fresh W H L
+pub fresh-at : (f : ℕ) (W H : Side) (L : ℕ) (s t : Reader) (p : Spot) → Is (enter f W H L 0) p → columns s ≡ W → rows s ≡ H → s .levels ≡ L →
+    s .filter ≡ f → t ≡ movedTo s 0 (placeOf (s .filter) (rows s) 0 (spot (p .level) (p .set) (p .band))) → t ≡ fresh f W H L
 unfolding fresh
-fresh-at W H L s t p is ew eh el e =
-    e ∙ ap (λ q. movedTo s 0 (placeOf (rows s) 0 q)) (spot-of _ p is)
-    ∙ rw (← ew, ← eh, ← el) refl
+fresh-at f W H L s t p is ew eh el ef e =
+    e ∙ ap (λ q. movedTo s 0 (placeOf (s .filter) (rows s) 0 q)) (spot-of _ p is)
+    ∙ rw (← ew, ← eh, ← el, ← ef) refl

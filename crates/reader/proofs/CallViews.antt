@@ -9,7 +9,8 @@ use lib.IntN.{ℤ}
 use lib.Dec.{eqb}
 use borrow.Author.Tests.{lt-ltb, le-ltb, le-leb, lt-leb, ne-eqb, eqb-true}
 use Rattle.numbers.specs.Signal.{pick}
-use Rattle.wavelet.specs.Limits.{maxWidth, maxHeight, maxLevels, maxOrigin}
+use Rattle.wavelet.specs.Limits.{maxWidth, maxHeight, maxOrigin}
+use Rattle.nine_seven.specs.Filters.{filterOf, isFilter}
 use Rattle.wavelet.specs.Bands.{Band, code}
 use Rattle.lifting.specs.Grid.{Side}
 use Rattle.wavelet.specs.Levels.{sideAt}
@@ -33,24 +34,26 @@ use Rattle.reader.proofs.Looks.{named-code}
 use Rattle.reader.proofs.StepsLeft.{stepsLeft, tailAt, Ahead, height, row, ahead-is, left-row, left-height, left-done}
 
 -- ---- a set-up that passed
-pub record Limits (W H : Side) (l n : ℕ) : Type 0 where
+pub record Limits (f : ℕ) (W H : Side) (l n : ℕ) : Type 0 where
   pub across : W .start ≤ maxOrigin
   pub down : H .start ≤ maxOrigin
   pub wide : within 1 maxWidth (W .length) ≡ true
   pub high : within 1 maxHeight (H .length) ≡ true
-  pub deep : within 1 maxLevels (suc l) ≡ true
-  pub room : storeFits W (suc l) n ≡ true
+  pub known : isFilter f ≡ true
+  pub deep : within 1 (filterOf f .levels) (suc l) ≡ true
+  pub room : storeFits f W (suc l) n ≡ true
 
-pub limits : (W H : Side) (l n : ℕ) → W .start ≤ maxOrigin → H .start ≤ maxOrigin → setUpQuestion W H (suc l) n ≡ 0 → Limits W H l n
+pub limits : (f : ℕ) (W H : Side) (l n : ℕ) → W .start ≤ maxOrigin → H .start ≤ maxOrigin → setUpQuestion f W H (suc l) n ≡ 0 → Limits f W H l n
 unfolding setUpQuestion
-limits W H l n p q e =
+limits f W H l n p q e =
     let a = asked-yes (within 1 maxWidth (W .length)) 1 _ e in
     let b = asked-yes (within 1 maxHeight (H .length)) 2 _ (a .1) in
-    let c = asked-yes (within 1 maxLevels (suc l)) 3 _ (b .1) in
-    let d = asked-yes (storeFits W (suc l) n) 4 _ (c .1) in
-    record { across = p; down = q; wide = a .0; high = b .0; deep = c .0; room = d .0 }
+    let k = asked-yes (isFilter f) 17 _ (b .1) in
+    let c = asked-yes (within 1 (filterOf f .levels) (suc l)) 3 _ (k .1) in
+    let d = asked-yes (storeFits f W (suc l) n) 4 _ (c .1) in
+    record { across = p; down = q; wide = a .0; high = b .0; known = k .0; deep = c .0; room = d .0 }
 
-module _ (W H : Side) (l : ℕ) where
+module _ (f : ℕ) (W H : Side) (l : ℕ) where
   -- a reader of that map, at a place
   abbrev pub here : ℕ → Place → Bool → Reader
   here d p e = record {
@@ -64,13 +67,14 @@ module _ (W H : Side) (l : ℕ) where
     back = p .back;
     band = p .band;
     ended = e;
+    filter = f;
   }
 
   abbrev pub at : ℕ → Place → Spot
-  at d p = spotOf H d p
+  at d p = spotOf f H d p
 
   abbrev pub nextOf : ℕ → Place → Spot
-  nextOf d p = nextUp W H (suc l) (at d p .level) (at d p .set) (at d p .band)
+  nextOf d p = nextUp f W H (suc l) (at d p .level) (at d p .set) (at d p .band)
 
   -- the row of band c of set n of level k + 1
   abbrev pub nameOf : ℕ → ℕ → Band → RowName
@@ -80,41 +84,42 @@ module _ (W H : Side) (l : ℕ) where
   pub record Due (d : ℕ) (p : Place) (k n : ℕ) (c : Band) : Type 0 where
     pub due : d < H .length
     pub below : k < p .level
-    pub ready : Ready W H (suc l) d (spot (suc k) n (code c))
+    pub ready : Ready f W H (suc l) d (spot (suc k) n (code c))
     pub asks : asked (eqb (suc k) (suc l)) (sideAt k W) (sideAt k H) n c ≡ true
     pub is : nextOf d p ≡ spot (suc k) n (code c)
 
   -- ---- what is next, by what is left
   pub data View (d : ℕ) (p : Place) : List Step → Type 0 where
     at-end : H .length ≤ d → View d p []
-    at-height : d < H .length → nextOf d p ≡ spot 0 0 4 → View d p (draw d ∷ stepsLeft W H l (suc d) (enter W H (suc l) (suc d)))
-    at-row : (k n : ℕ) (c : Band) → Due d p k n c → View d p (feed (nameOf k n c) ∷ stepsLeft W H l d (beyond W H (suc l) k n (code c)))
+    at-height : d < H .length → nextOf d p ≡ spot 0 0 4 → View d p (draw d ∷ stepsLeft f W H l (suc d) (enter f W H (suc l) (suc d)))
+    at-row : (k n : ℕ) (c : Band) → Due d p k n c → View d p (feed (nameOf k n c) ∷ stepsLeft f W H l d (beyond f W H (suc l) k n (code c)))
 
-  pub view : (d : ℕ) (p : Place) → p .level ≤ suc l → (d < H .length → Ready W H (suc l) d (at d p)) → View d p (stepsLeft W H l d (at d p))
+  pub view : (d : ℕ) (p : Place) → p .level ≤ suc l → (d < H .length → Ready f W H (suc l) d (at d p)) → View d p (stepsLeft f W H l d (at d p))
   view d p level-le ready = elim (decLt d (H .length)) [
-    | yes due ↦ go due (nextOf d p) refl (ahead-is W H l d (p .level) (at d p .set) (p .band) level-le (ready due))
-    | no over ↦ subst (View d p) (sym (left-done W H l d (at d p) (omega arith))) (at-end (omega arith))
+    | yes due ↦ go due (nextOf d p) refl (ahead-is f W H l d (p .level) (at d p .set) (p .band) level-le (ready due))
+    | no over ↦ subst (View d p) (sym (left-done f W H l d (at d p) (omega arith))) (at-end (omega arith))
   ]
     where
-      go : d < H .length → (q : Spot) → nextOf d p ≡ q → Ahead W H l d (p .level) (tailAt W H l (at d p)) q → View d p (stepsLeft W H l d (at d p))
-      go due _ q (height e) = subst (View d p) (sym (left-height W H l d (at d p) due e)) (at-height due q)
+      go : d < H .length → (q : Spot) → nextOf d p ≡ q → Ahead f W H l d (p .level) (tailAt f W H l (at d p)) q → View d p (stepsLeft f W H l d (at d p))
+      go due _ q (height e) = subst (View d p) (sym (left-height f W H l d (at d p) due e)) (at-height due q)
       go due _ q (row k n c h ready asks e) =
-          subst (View d p) (sym (left-row W H l d (at d p) k n c due e)) (at-row k n c (record { due = due; below = h; ready = ready; asks = asks; is = q }))
+          subst (View d p) (sym (left-row f W H l d (at d p) k n c due e)) (at-row k n c (record { due = due; below = h; ready = ready; asks = asks; is = q }))
 
-  module _ (n : ℕ) (lim : Limits W H l n) (d : ℕ) (p : Place) (drawn-le : d ≤ H .length) (level-le : p .level ≤ suc l) (band-le : p .band ≤ 4)
-      (back-le : p .back ≤ 2 * ahead - 1) where
+  module _ (n : ℕ) (lim : Limits f W H l n) (d : ℕ) (p : Place) (drawn-le : d ≤ H .length) (level-le : p .level ≤ suc l) (band-le : p .band ≤ 4)
+      (back-le : p .back ≤ 2 * ahead f - 1) where
     pub counts : (e : Bool) → countsFit (here d p e) ≡ true
     unfolding countsFit
     counts e = rw (
       lim .wide,
       lim .high,
+      lim .known,
       lim .deep,
       le-leb (W .start) maxOrigin (lim .across),
       le-leb (H .start) maxOrigin (lim .down),
       le-leb d (H .length) drawn-le,
       le-leb (p .level) (suc l) level-le,
       le-leb (p .band) 4 band-le,
-      le-leb (p .back) (2 * ahead - 1) back-le,
+      le-leb (p .back) (2 * ahead f - 1) back-le,
     ) refl
 
     -- ---- want
@@ -154,15 +159,15 @@ module _ (W H : Side) (l : ℕ) where
     level-is k i c q = rw q refl
 
     pub feed-asked : (e : Bool) (t : List Step) (x : ℕ → ℤ) (a : Area) → View d p t →
-        feedQuestion (here d p e) n x (a .size) (a .numbers) ≡ pick (eqb (feedTurned W e t a) 0) (ask (fits (feeds (here d p e) (a .numbers) x)) 14 0)
-        (feedTurned W e t a)
+        feedQuestion (here d p e) n x (a .size) (a .numbers) ≡ pick (eqb (feedTurned f W e t a) 0) (ask (fits (feeds (here d p e) (a .numbers) x)) 14 0)
+        (feedTurned f W e t a)
     unfolding feedQuestion feedTurned
     feed-asked true t x a v = rw (counts true, lim .room) refl
     feed-asked false _ x a (at-end h) = rw (counts false, lim .room, no-row-end h) refl
     feed-asked false _ x a (at-height due q) = rw (counts false, lim .room, no-row-height due q) refl
     feed-asked false _ x a (at-row k u c o) =
         rw (counts false, lim .room, row-due k u c (o .due) (o .is), length-is k u c (o .is), level-is k u c (o .is))
-        (go (eqb (a .size) (bandColumns W (suc k) c)) (runFits (suc k) (a .size) (a .numbers)) (ask (fits (feeds (here d p false) (a .numbers) x)) 14 0))
+        (go (eqb (a .size) (bandColumns W (suc k) c)) (runFits f (suc k) (a .size) (a .numbers)) (ask (fits (feeds (here d p false) (a .numbers) x)) 14 0))
       where
         go : (t₁ t₂ : Bool) (r : ℕ) → ask t₁ 13 (ask t₂ 7 r) ≡ pick (eqb (ask t₁ 13 (ask t₂ 7 0)) 0) r (ask t₁ 13 (ask t₂ 7 0))
         go true true r = refl
@@ -184,18 +189,18 @@ module _ (W H : Side) (l : ℕ) where
 
     -- ---- a feed: turned away by a question before 14, or not
     pub data FeedView (e : Bool) (t : List Step) (x : ℕ → ℤ) (a : Area) : Type 0 where
-      feed-away : (q : ℕ) → feedTurned W e t a ≡ q → eqb q 0 ≡ false → eqb q 14 ≡ false → feedQuestion (here d p e) n x (a .size) (a .numbers) ≡ q →
+      feed-away : (q : ℕ) → feedTurned f W e t a ≡ q → eqb q 0 ≡ false → eqb q 14 ≡ false → feedQuestion (here d p e) n x (a .size) (a .numbers) ≡ q →
           FeedView e t x a
       feed-onward : (k u : ℕ) (c : Band) → e ≡ false → Due d p k u c →
-          t ≡ feed (nameOf k u c) ∷ stepsLeft W H l d (beyond W H (suc l) k u (code c)) → a .size ≡ bandColumns W (suc k) c →
-          runFits (suc k) (a .size) (a .numbers) ≡ true →
-          feedTurned W e t a ≡ 0 → feedQuestion (here d p e) n x (a .size) (a .numbers) ≡ ask (fits (feeds (here d p e) (a .numbers) x)) 14 0 →
+          t ≡ feed (nameOf k u c) ∷ stepsLeft f W H l d (beyond f W H (suc l) k u (code c)) → a .size ≡ bandColumns W (suc k) c →
+          runFits f (suc k) (a .size) (a .numbers) ≡ true →
+          feedTurned f W e t a ≡ 0 → feedQuestion (here d p e) n x (a .size) (a .numbers) ≡ ask (fits (feeds (here d p e) (a .numbers) x)) 14 0 →
           FeedView e t x a
 
-    asked-away : (e : Bool) (t : List Step) (x : ℕ → ℤ) (a : Area) (q : ℕ) → View d p t → feedTurned W e t a ≡ q → eqb q 0 ≡ false → eqb q 14 ≡ false →
+    asked-away : (e : Bool) (t : List Step) (x : ℕ → ℤ) (a : Area) (q : ℕ) → View d p t → feedTurned f W e t a ≡ q → eqb q 0 ≡ false → eqb q 14 ≡ false →
         FeedView e t x a
-    asked-away e t x a q v f g h = feed-away q f g h (feed-asked e t x a v
-        ∙ ap (λ i. pick (eqb i 0) (ask (fits (feeds (here d p e) (a .numbers) x)) 14 0) i) f ∙ go (eqb q 0) g)
+    asked-away e t x a q v w g h = feed-away q w g h (feed-asked e t x a v
+        ∙ ap (λ i. pick (eqb i 0) (ask (fits (feeds (here d p e) (a .numbers) x)) 14 0) i) w ∙ go (eqb q 0) g)
       where
         go : (s : Bool) → s ≡ false → pick s (ask (fits (feeds (here d p e) (a .numbers) x)) 14 0) q ≡ q
         go s z = rw z refl
@@ -205,10 +210,10 @@ module _ (W H : Side) (l : ℕ) where
     feed-view true t x a v = asked-away true t x a 9 v refl refl refl
     feed-view false _ x a (at-end h) = asked-away false [] x a 8 (at-end h) refl refl refl
     feed-view false _ x a (at-height due q) = asked-away false _ x a 8 (at-height due q) refl refl refl
-    feed-view false _ x a (at-row k u c o) = go (eqb (a .size) (bandColumns W (suc k) c)) refl (runFits (suc k) (a .size) (a .numbers)) refl
+    feed-view false _ x a (at-row k u c o) = go (eqb (a .size) (bandColumns W (suc k) c)) refl (runFits f (suc k) (a .size) (a .numbers)) refl
       where
-        go : (t₁ : Bool) → eqb (a .size) (bandColumns W (suc k) c) ≡ t₁ → (t₂ : Bool) → runFits (suc k) (a .size) (a .numbers) ≡ t₂ →
-            FeedView false (feed (nameOf k u c) ∷ stepsLeft W H l d (beyond W H (suc l) k u (code c))) x a
+        go : (t₁ : Bool) → eqb (a .size) (bandColumns W (suc k) c) ≡ t₁ → (t₂ : Bool) → runFits f (suc k) (a .size) (a .numbers) ≡ t₂ →
+            FeedView false (feed (nameOf k u c) ∷ stepsLeft f W H l d (beyond f W H (suc l) k u (code c))) x a
         go false y t₂ z = asked-away false _ x a 13 (at-row k u c o) (rw y refl) refl refl
         go true y false z = asked-away false _ x a 7 (at-row k u c o) (rw (y, z) refl) refl refl
         go true y true z = feed-onward k u c refl o refl (eqb-true _ _ y) z (rw (y, z) refl) (feed-asked false _ x a (at-row k u c o) ∙ rw (y, z) refl)
@@ -219,7 +224,7 @@ module _ (W H : Side) (l : ℕ) where
           DrawView e t x a
       draw-idle : e ≡ false → drawDue (here d p e) ≡ false → drawSays W e t (a .size) ≡ gives nothing → drawQuestion (here d p e) n x (a .size) ≡ 0 →
           DrawView e t x a
-      draw-onward : e ≡ false → d < H .length → nextOf d p ≡ spot 0 0 4 → t ≡ draw d ∷ stepsLeft W H l (suc d) (enter W H (suc l) (suc d)) →
+      draw-onward : e ≡ false → d < H .length → nextOf d p ≡ spot 0 0 4 → t ≡ draw d ∷ stepsLeft f W H l (suc d) (enter f W H (suc l) (suc d)) →
           drawDue (here d p e) ≡ true → drawSays W e t (a .size) ≡ gives (heights (W .length)) →
           drawQuestion (here d p e) n x (a .size) ≡ ask (fits (settles (here d p e) x)) 14 0 → DrawView e t x a
 

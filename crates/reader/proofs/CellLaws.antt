@@ -126,18 +126,18 @@ unfolding inTurn
 turn-none zero f e = refl
 turn-none (suc n) f e = rw (turn-none n f e, e n) refl
 
-pub empty-row : (H : Side) (set : ℕ → List Step) (r : ℕ) → ((n : ℕ) → set n ≡ []) → rowSteps ahead H set r ≡ []
+pub empty-row : (f : ℕ) (H : Side) (set : ℕ → List Step) (r : ℕ) → ((n : ℕ) → set n ≡ []) → rowSteps (ahead f) H set r ≡ []
 unfolding rowSteps
-empty-row H set r e = turn-none _ _ (λ i. e _)
+empty-row f H set r e = turn-none _ _ (λ i. e _)
 
-pub empty-set : (l k : ℕ) (W H : Side) (n : ℕ) → Empty W H → setSteps ahead l k W H n ≡ []
+pub empty-set : (f l k : ℕ) (W H : Side) (n : ℕ) → Empty W H → setSteps (ahead f) l k W H n ≡ []
 unfolding setSteps setRows feedAll
-empty-set zero k W H n e = rw (empty-rows k n W H _ e) refl
-empty-set (suc l) k W H n e =
+empty-set f zero k W H n e = rw (empty-rows k n W H _ e) refl
+empty-set f (suc l) k W H n e =
     rw (
       empty-rows k n W H _ e,
-      empty-row (next H) (setSteps ahead l (suc k) (next W) (next H)) (n - firstSet H lo)
-          (λ m. empty-set l (suc k) (next W) (next H) m (empty-next W H e)),
+      empty-row f (next H) (setSteps (ahead f) l (suc k) (next W) (next H)) (n - firstSet H lo)
+          (λ m. empty-set f l (suc k) (next W) (next H) m (empty-next W H e)),
     ) (same (leb (firstSet H lo) n))
   where
     same : (t : Bool) → _≡_ {A = List Step} (pick t [] [] ++ []) []

@@ -15,16 +15,13 @@ use Rattle.numbers.specs.Signal.{pick}
 use Rattle.numbers.specs.Word.{wrap32, whole}
 use Rattle.lifting.specs.Grid.{Side, count}
 use Rattle.lifting.specs.Halves.{fronted}
-use Rattle.lifting.specs.FiveThree.{fiveThreeFilter}
-use Rattle.lifting.proofs.FiveThreeFilter.{five-three-laws}
-use Rattle.wavelet.specs.Limits.{maxWidth, maxHeight, maxLevels, maxOrigin}
+use Rattle.wavelet.specs.Limits.{maxWidth, maxHeight, maxOrigin}
 use Rattle.wavelet.specs.Bands.{Grid, Band, code, across, down, levelHas}
 use Rattle.wavelet.specs.Maps.{IsMap, valueFits}
 use Rattle.wavelet.specs.Questions.{ask, within}
 use Rattle.wavelet.specs.Order.{RowName, rowName, times, setRow, setHas}
 use Rattle.wavelet.specs.Steps.{Step, bandRowsOf, steps}
 use Rattle.wavelet.specs.Steps as step
-use Rattle.wavelet.proofs.LimitLaws.{five-three-few}
 use Rattle.wavelet.proofs.MapTheorems.{height-fits, low-fits}
 use Rattle.wavelet.proofs.QuestionLaws.{within-true}
 use Rattle.wavelet.specs.Levels.{sideAt, approximation, levelBand}
@@ -37,6 +34,8 @@ use Rattle.calls.specs.Lists as lists
 use Rattle.calls.proofs.AllLaws.{In, all-left, all-last, all-in, in-all}
 use Rattle.calls.proofs.ListLaws.{either-swap, gathered-snoc, ever-snoc, list-reached}
 use Rattle.calls.proofs.QuestionLaws.{asked-yes}
+use Rattle.nine_seven.specs.Filters.{filterOf, isFilter}
+use Rattle.nine_seven.proofs.Filters.{filter-laws}
 use Rattle.reader.specs.declared.Reader.{Reader}
 use Rattle.reader.specs.Asked.{keptAt, asked}
 use Rattle.reader.specs.Rebuilt.{Rows, rebuilt, bandsAt, partAt, SetFits}
@@ -58,7 +57,7 @@ use Rattle.reader.proofs.ReadyLaws.{ready-still, ready-enter, ready-bac
 use Rattle.reader.proofs.StepsLeft.{stepsLeft, tailAt, Ahead, height, row, ahead-is, left-first, left-row}
 use Rattle.level.proofs.SetMade.{Outcome}
 use Rattle.reader.proofs.Outcomes.{outcome-passed, settles-outcome, feeds-worked, kept-last}
-use Rattle.reader.proofs.Holds.{Fits, LeavesAt, Held, HeldAt, Worked, FedHeld, first-holds}
+use Rattle.reader.proofs.Holds.{Fits, LeavesAt, Held, HeldAt, Worked, FedHeld, first-holds, set-fits, set-has}
 use Rattle.reader.proofs.CallViews.{Limits, limits, here, at, nextOf, nameOf, Due, View, at-end, at-height, at-row, view, counts, want-says}
 use Rattle.reader.proofs.CallViews.{FeedView, feed-away, feed-onward, feed-view, DrawView, draw-away, draw-idle, draw-onward, draw-view}
 use Rattle.reader.proofs.Reached.{namesOf, Good, enter-le, Agrees, Kept, Reached, reached, world, call-reached}
@@ -95,25 +94,26 @@ done-only W false (step.feed y ∷ v) z = absurd (let p : _≡_ {A = ℕ} 0 1 = 
 done-only W false (step.draw r ∷ v) z = absurd (let p : _≡_ {A = ℕ} 0 1 = cc in omega arith)
 
 -- a set-up of no levels does not pass
-no-levels : (W H : Side) (n : ℕ) → setUpQuestion W H 0 n ≡ 0 → ⊥
+no-levels : (f : ℕ) (W H : Side) (n : ℕ) → setUpQuestion f W H 0 n ≡ 0 → ⊥
 unfolding setUpQuestion
-no-levels W H n e =
+no-levels f W H n e =
     let a = asked-yes (within 1 maxHeight (H .length)) _ _ (asked-yes (within 1 maxWidth (W .length)) _ _ e .1) in
-    omega (arith, within-true 1 maxLevels 0 (asked-yes (within 1 maxLevels 0) _ _ (a .1) .0) .0)
+    let b = asked-yes (isFilter f) 17 _ (a .1) in
+    omega (arith, within-true 1 (filterOf f .levels) 0 (asked-yes (within 1 (filterOf f .levels) 0) 3 _ (b .1) .0) .0)
 
-module _ (W H : Side) (l n : ℕ) (lim : Limits W H l n) where
+module _ (f : ℕ) (W H : Side) (l n : ℕ) (lim : Limits f W H l n) where
   abbrev T₀ : List Step
-  T₀ = steps ahead W H (suc l)
+  T₀ = steps (ahead f) W H (suc l)
 
   -- what is reached after the events es
   abbrev Then : List Event → World → Type 0
-  Then es w = Reached W H l n lim w (endedBy es) (left T₀ es) (fedRows T₀ es) (drawnRows es)
+  Then es w = Reached f W H l n lim w (endedBy es) (left T₀ es) (fedRows T₀ es) (drawnRows es)
 
   step-reached : (c : Call) (es : List Event) (w : World) → Then es w → Then (es ++ (event c w ∷ [])) (demand.next c w)
   step-reached c es w r =
       let e = event c w in
       rw (ever-snoc ends es e, either-swap (endedBy es) (ends e), left-snoc T₀ es e, fed-snoc T₀ es e, gathered-snoc drawnBy es e)
-      (call-reached W H l n lim c w (endedBy es) (left T₀ es) (fedRows T₀ es) (drawnRows es) r)
+      (call-reached f W H l n lim c w (endedBy es) (left T₀ es) (fedRows T₀ es) (drawnRows es) r)
 
   tall : 0 < H .length
   tall = within-true 1 maxHeight (H .length) (lim .high) .0
@@ -121,18 +121,18 @@ module _ (W H : Side) (l n : ℕ) (lim : Limits W H l n) where
   broad : 0 < W .length
   broad = within-true 1 maxWidth (W .length) (lim .wide) .0
 
-  few : suc l ≤ maxLevels
-  few = within-true 1 maxLevels (suc l) (lim .deep) .1
+  few : suc l ≤ filterOf f .levels
+  few = within-true 1 (filterOf f .levels) (suc l) (lim .deep) .1
 
-  fresh-reached : (x : ℕ → ℤ) → Reached W H l n lim (freshWorld W H (suc l) n x) false (steps ahead W H (suc l)) [] []
+  fresh-reached : (x : ℕ → ℤ) → Reached f W H l n lim (freshWorld f W H (suc l) n x) false (steps (ahead f) W H (suc l)) [] []
   unfolding fresh
-  fresh-reached x = reached 0 (placeOf H 0 (enter W H (suc l) 0)) false _ (steps ahead W H (suc l)) [] [] (record {
+  fresh-reached x = reached 0 (placeOf f H 0 (enter f W H (suc l) 0)) false _ (steps (ahead f) W H (suc l)) [] [] (record {
     drawn-le = omega arith;
-    level-le = enter-le W H l 0 .0;
-    band-le = enter-le W H l 0 .1;
-    back-le = ready-back W H (suc l) 0 _ tall (ready-enter W H l 0 tall) .1;
-    ready = λ _. subst (Ready W H (suc l) 0) (sym same) (ready-enter W H l 0 tall);
-    left = ap (stepsLeft W H l 0) same ∙ left-first W H l;
+    level-le = enter-le f W H l 0 .0;
+    band-le = enter-le f W H l 0 .1;
+    back-le = ready-back f W H (suc l) 0 _ tall (ready-enter f W H l 0 tall) .1;
+    ready = λ _. subst (Ready f W H (suc l) 0) (sym same) (ready-enter f W H l 0 tall);
+    left = ap (stepsLeft f W H l 0) same ∙ left-first f W H l;
     drawn = refl;
     good = all-none;
     names = λ _. refl;
@@ -140,28 +140,28 @@ module _ (W H : Side) (l n : ℕ) (lim : Limits W H l n) where
       fit = λ r c p q. absurd (omega arith);
       shows = λ r c p q. absurd (omega arith);
       has = λ r p k live m q. absurd (omega arith);
-      holds = λ _ _. subst (λ q. HeldAt W H l P q (freshWorld W H (suc l) n x .store)) (sym same) (first-holds W H l P _);
+      holds = λ _ _. subst (λ q. HeldAt f W H l P q (freshWorld f W H (suc l) n x .store)) (sym same) (first-holds f W H l P _);
       refuses = λ z. absurd (subst T (sym z) tt);
     };
   })
     where
-      same : at W H l 0 (placeOf H 0 (enter W H (suc l) 0)) ≡ enter W H (suc l) 0
-      same = ready-back W H (suc l) 0 _ tall (ready-enter W H l 0 tall) .0
+      same : at f W H l 0 (placeOf f H 0 (enter f W H (suc l) 0)) ≡ enter f W H (suc l) 0
+      same = ready-back f W H (suc l) 0 _ tall (ready-enter f W H l 0 tall) .0
 
-  then-reached : (x : ℕ → ℤ) (cs : List Call) → (let w = freshWorld W H (suc l) n x in Then (events cs w) (final cs w))
+  then-reached : (x : ℕ → ℤ) (cs : List Call) → (let w = freshWorld f W H (suc l) n x in Then (events cs w) (final cs w))
   unfolding lists.ever lists.gathered left fedRows
-  then-reached x cs = list-reached event demand.next Then step-reached cs [] (freshWorld W H (suc l) n x) (fresh-reached x)
+  then-reached x cs = list-reached event demand.next Then step-reached cs [] (freshWorld f W H (suc l) n x) (fresh-reached x)
 
   -- ---- what a row fed says of a map, over words and over whole numbers
   -- the cells of a row fed are cells of its band
-  in-band : (f : FedRow) (R : ℕ → ℕ → Type 0) (good : Good W H l f) →
-      ((i : ℕ) → i < count (across (f .row .band)) (sideAt (good .k) W) → R (suc (good .k)) i) →
-      (i : ℕ) → i < bandColumns W (f .row .level) (f .row .band) → R (f .row .level) i
+  in-band : (fr : FedRow) (R : ℕ → ℕ → Type 0) (good : Good f W H l fr) →
+      ((i : ℕ) → i < count (across (fr .row .band)) (sideAt (good .k) W) → R (suc (good .k)) i) →
+      (i : ℕ) → i < bandColumns W (fr .row .level) (fr .row .band) → R (fr .row .level) i
   unfolding bandColumns
-  in-band f R good h i p =
+  in-band fr R good h i p =
       let z : suc (good .k) - 1 ≡ good .k = omega arith in
-      let q : i < count (across (f .row .band)) (sideAt (suc (good .k) - 1) W) =
-      subst (λ v. i < count (across (f .row .band)) (sideAt (v - 1) W)) (good .level) p in
+      let q : i < count (across (fr .row .band)) (sideAt (suc (good .k) - 1) W) =
+      subst (λ v. i < count (across (fr .row .band)) (sideAt (v - 1) W)) (good .level) p in
       subst (λ v. R v i) (sym (good .level)) (h i (rw z at q))
 
   abbrev Map : Grid → Type 0
@@ -169,58 +169,58 @@ module _ (W H : Side) (l n : ℕ) (lim : Limits W H l n) where
 
   -- the rows of its plane over words
   abbrev own : (g : Grid) → Map g → Rows
-  own g m = rowsOf W H g m l few
+  own g m = rowsOf f W H g m l few
 
-  exact : (g : Grid) → Map g → (f : FedRow) → Good W H l f → (i : ℕ) → i < bandColumns W (f .row .level) (f .row .band) →
-      levelBand fiveThreeFilter wrap32 W H g (f .row .level) (f .row .band) (f .row .row) i
-      ≡ levelBand fiveThreeFilter whole W H g (f .row .level) (f .row .band) (f .row .row) i
-  exact g m f good =
-      in-band f (λ v i. levelBand fiveThreeFilter wrap32 W H g v (f .row .band) (f .row .row) i
-      ≡ levelBand fiveThreeFilter whole W H g v (f .row .band) (f .row .row) i) good
-      (λ i p. map-band fiveThreeFilter five-three-laws W H g m (good .k) (five-three-few (omega (arith, good .inside, few))) (f .row .band) (f .row .row) i
+  exact : (g : Grid) → Map g → (fr : FedRow) → Good f W H l fr → (i : ℕ) → i < bandColumns W (fr .row .level) (fr .row .band) →
+      levelBand (filterOf f) wrap32 W H g (fr .row .level) (fr .row .band) (fr .row .row) i
+      ≡ levelBand (filterOf f) whole W H g (fr .row .level) (fr .row .band) (fr .row .row) i
+  exact g m fr good =
+      in-band fr (λ v i. levelBand (filterOf f) wrap32 W H g v (fr .row .band) (fr .row .row) i
+      ≡ levelBand (filterOf f) whole W H g v (fr .row .band) (fr .row .row) i) good
+      (λ i p. map-band (filterOf f) (filter-laws f) W H g m (good .k) (omega (arith, good .inside, few)) (fr .row .band) (fr .row .row) i
       (good .in-rows) p)
 
-  words-of : (g : Grid) (m : Map g) (fs : List FedRow) → All (Good W H l) fs → All (HasRow W H g) fs → All (HasFedRow W (own g m)) fs
+  words-of : (g : Grid) (m : Map g) (fs : List FedRow) → All (Good f W H l) fs → All (HasRow f W H g) fs → All (HasFedRow W (own g m)) fs
   words-of g m [] all-none all-none = all-none
-  words-of g m (f ∷ fs) (all-more good gs) (all-more h hs) = all-more (λ i p. h .values i p ∙ sym (exact g m f good i p)) (words-of g m fs gs hs)
+  words-of g m (fr ∷ fs) (all-more good gs) (all-more h hs) = all-more (λ i p. h .values i p ∙ sym (exact g m fr good i p)) (words-of g m fs gs hs)
 
-  wholes-of : (g : Grid) (m : Map g) (fs : List FedRow) → All (Good W H l) fs → All (HasFedRow W (own g m)) fs → All (HasRow W H g) fs
+  wholes-of : (g : Grid) (m : Map g) (fs : List FedRow) → All (Good f W H l) fs → All (HasFedRow W (own g m)) fs → All (HasRow f W H g) fs
   wholes-of g m [] all-none all-none = all-none
-  wholes-of g m (f ∷ fs) (all-more good gs) (all-more h hs) =
-      all-more (record { size = good .size; values = λ i p. h i p ∙ exact g m f good i p }) (wholes-of g m fs gs hs)
+  wholes-of g m (fr ∷ fs) (all-more good gs) (all-more h hs) =
+      all-more (record { size = good .size; values = λ i p. h i p ∙ exact g m fr good i p }) (wholes-of g m fs gs hs)
 
   -- every value of a map and of its low-low parts fits
   map-value : (g : Grid) (m : Map g) (k r c : ℕ) → k ≤ l → r < sideAt k H .length → c < sideAt k W .length →
-      valueFits fiveThreeFilter k (approximation fiveThreeFilter wrap32 W H g k r c) ≡ true
+      valueFits (filterOf f) k (approximation (filterOf f) wrap32 W H g k r c) ≡ true
   unfolding approximation sideAt
-  map-value g m zero r c h p q = height-fits fiveThreeFilter (g r c) .1 (m .heights r c p q)
-  map-value g m (suc k) r c h p q = low-fits fiveThreeFilter k _ .1
-      (rw (map-approximation fiveThreeFilter five-three-laws W H g m (suc k) (five-three-few (omega (arith, few))) r c p q)
-      (map-approximation-range fiveThreeFilter five-three-laws W H g m (suc k) r c p q))
+  map-value g m zero r c h p q = height-fits (filterOf f) (g r c) .1 (m .heights r c p q)
+  map-value g m (suc k) r c h p q = low-fits (filterOf f) k _ .1
+      (rw (map-approximation (filterOf f) (filter-laws f) W H g m (suc k) (omega (arith, few)) r c p q)
+      (map-approximation-range (filterOf f) (filter-laws f) W H g m (suc k) r c p q))
 
-  map-fitting : (g : Grid) (m : Map g) → Fits W H l (own g m)
+  map-fitting : (g : Grid) (m : Map g) → Fits f W H l (own g m)
   map-fitting g m k live = record {
-    fit = λ r c p q. subst (λ v. valueFits fiveThreeFilter k v ≡ true) (sym (part-same W H g m l few k (live .0) r c p q)) (map-value g m k r c (live .0) p q);
-    has = bands-have W H g m l few k (live .0);
+    fit = λ r c p q. subst (λ v. valueFits (filterOf f) k v ≡ true) (sym (part-same f W H g m l few k (live .0) r c p q)) (map-value g m k r c (live .0) p q);
+    has = bands-have f W H g m l few k (live .0);
   }
 
   -- ---- each part of the claim, for a world that is reached
-  module _ (d : ℕ) (p : Place) (e : Bool) (x : ℕ → ℤ) (t : List Step) (fs : List FedRow) (ds : List (ℕ → ℤ)) (kept : Kept W H l d p e x t fs ds) where
-    viewed : View W H l d p t
-    viewed = subst (View W H l d p) (kept .left) (view W H l d p (kept .level-le) (kept .ready))
+  module _ (d : ℕ) (p : Place) (e : Bool) (x : ℕ → ℤ) (t : List Step) (fs : List FedRow) (ds : List (ℕ → ℤ)) (kept : Kept f W H l d p e x t fs ds) where
+    viewed : View f W H l d p t
+    viewed = subst (View f W H l d p) (kept .left) (view f W H l d p (kept .level-le) (kept .ready))
 
-    want-is : event want (world W H l n lim d p e x) ≡ wanted (gives (wantSays W e t))
+    want-is : event want (world f W H l n lim d p e x) ≡ wanted (gives (wantSays W e t))
     unfolding event
-    want-is = ap wanted (want-says W H l n lim d p (kept .drawn-le) (kept .level-le) (kept .band-le) (kept .back-le) e t viewed)
+    want-is = ap wanted (want-says f W H l n lim d p (kept .drawn-le) (kept .level-le) (kept .band-le) (kept .back-le) e t viewed)
 
     -- ---- feed
     module _ (a : Area) where
       abbrev seenFeed : ℕ → Event
-      seenFeed q = fed a (said (λ _. tt) (feedReply (here W H l d p e) q))
+      seenFeed q = fed a (said (λ _. tt) (feedReply (here f W H l d p e) q))
 
       seen-away : (q : ℕ) → eqb q 0 ≡ false → eqb q 14 ≡ false → seenFeed q ≡ fed a (refused q)
       unfolding feedReply
-      seen-away q z f = rw (z, f) refl
+      seen-away q z fr = rw (z, fr) refl
 
       seen-goes : seenFeed 0 ≡ fed a (gives tt)
       unfolding feedReply
@@ -230,43 +230,43 @@ module _ (W H : Side) (l n : ℕ) (lim : Limits W H l n) where
       unfolding feedReply
       seen-stops = refl
 
-      feed-turned : (q : ℕ) → feedTurned W e t a ≡ suc q → event (feed a) (world W H l n lim d p e x) ≡ fed a (refused (suc q))
+      feed-turned : (q : ℕ) → feedTurned f W e t a ≡ suc q → event (feed a) (world f W H l n lim d p e x) ≡ fed a (refused (suc q))
       unfolding event
-      feed-turned q h = go (feed-view W H l n lim d p (kept .drawn-le) (kept .level-le) (kept .band-le) (kept .back-le) e t x a viewed)
+      feed-turned q h = go (feed-view f W H l n lim d p (kept .drawn-le) (kept .level-le) (kept .band-le) (kept .back-le) e t x a viewed)
         where
-          go : FeedView W H l n lim d p (kept .drawn-le) (kept .level-le) (kept .band-le) (kept .back-le) e t x a →
-              seenFeed (feedQuestion (here W H l d p e) n x (a .size) (a .numbers)) ≡ fed a (refused (suc q))
-          go (feed-away p f z z′ at) = ap seenFeed at ∙ seen-away p z z′ ∙ ap (λ i. fed a (refused i)) (sym f ∙ h)
-          go (feed-onward k u c live o head long in-range f at) = absurd (omega (arith, f, h))
+          go : FeedView f W H l n lim d p (kept .drawn-le) (kept .level-le) (kept .band-le) (kept .back-le) e t x a →
+              seenFeed (feedQuestion (here f W H l d p e) n x (a .size) (a .numbers)) ≡ fed a (refused (suc q))
+          go (feed-away p fr z z′ at) = ap seenFeed at ∙ seen-away p z z′ ∙ ap (λ i. fed a (refused i)) (sym fr ∙ h)
+          go (feed-onward k u c live o head long in-range fr at) = absurd (omega (arith, fr, h))
 
-      feed-on : feedTurned W e t a ≡ 0 → OneOf (event (feed a) (world W H l n lim d p e x)) (fed a (gives tt)) (fed a (refused 14))
+      feed-on : feedTurned f W e t a ≡ 0 → OneOf (event (feed a) (world f W H l n lim d p e x)) (fed a (gives tt)) (fed a (refused 14))
       unfolding event
-      feed-on h = go (feed-view W H l n lim d p (kept .drawn-le) (kept .level-le) (kept .band-le) (kept .back-le) e t x a viewed)
+      feed-on h = go (feed-view f W H l n lim d p (kept .drawn-le) (kept .level-le) (kept .band-le) (kept .back-le) e t x a viewed)
         where
           zero-away : (q : ℕ) → q ≡ 0 → eqb q 0 ≡ false → ⊥
-          zero-away q f z = subst T (ap (λ i. eqb i 0) (sym f) ∙ z) tt
+          zero-away q fr z = subst T (ap (λ i. eqb i 0) (sym fr) ∙ z) tt
 
-          go : FeedView W H l n lim d p (kept .drawn-le) (kept .level-le) (kept .band-le) (kept .back-le) e t x a →
-              OneOf (seenFeed (feedQuestion (here W H l d p e) n x (a .size) (a .numbers))) (fed a (gives tt)) (fed a (refused 14))
-          go (feed-away p f z z′ at) = absurd (zero-away p (sym f ∙ h) z)
-          go (feed-onward k u c live o head long in-range f at) = tried (fits (feeds (here W H l d p e) (a .numbers) x)) at
+          go : FeedView f W H l n lim d p (kept .drawn-le) (kept .level-le) (kept .band-le) (kept .back-le) e t x a →
+              OneOf (seenFeed (feedQuestion (here f W H l d p e) n x (a .size) (a .numbers))) (fed a (gives tt)) (fed a (refused 14))
+          go (feed-away p fr z z′ at) = absurd (zero-away p (sym fr ∙ h) z)
+          go (feed-onward k u c live o head long in-range fr at) = tried (fits (feeds (here f W H l d p e) (a .numbers) x)) at
             where
-              tried : (u : Bool) → feedQuestion (here W H l d p e) n x (a .size) (a .numbers) ≡ ask u 14 0 →
-                  OneOf (seenFeed (feedQuestion (here W H l d p e) n x (a .size) (a .numbers))) (fed a (gives tt)) (fed a (refused 14))
+              tried : (u : Bool) → feedQuestion (here f W H l d p e) n x (a .size) (a .numbers) ≡ ask u 14 0 →
+                  OneOf (seenFeed (feedQuestion (here f W H l d p e) n x (a .size) (a .numbers))) (fed a (gives tt)) (fed a (refused 14))
               tried true z = this (ap seenFeed z ∙ seen-goes)
               tried false z = that (ap seenFeed z ∙ seen-stops)
 
     -- ---- draw
     module _ (a : Area) where
       abbrev s : Reader
-      s = here W H l d p e
+      s = here f W H l d p e
 
       abbrev seenDraw : ℕ → Event
       seenDraw q = drew a (said given (drawReply s q)) (record { size = a .size; numbers = drawArea s q x (a .numbers) })
 
       drawn-away : (q : ℕ) → eqb q 0 ≡ false → eqb q 14 ≡ false → drawSays W e t (a .size) ≡ refused q → Draws W e t a (seenDraw q)
       unfolding drawReply drawArea
-      drawn-away q z f says = rw (z, f) (record {
+      drawn-away q z fr says = rw (z, fr) (record {
         answer = refused q;
         after = a;
         is = refl;
@@ -277,7 +277,7 @@ module _ (W H : Side) (l n : ℕ) (lim : Limits W H l n) where
       })
         where
           no-fourteen : _≡_ {A = Reply Given} (refused q) (refused 14) → ⊥
-          no-fourteen r = let p : q ≡ 14 = cc in subst T (ap (λ i. eqb i 14) (sym p) ∙ f) tt
+          no-fourteen r = let p : q ≡ 14 = cc in subst T (ap (λ i. eqb i 14) (sym p) ∙ fr) tt
 
       drawn-idle : drawDue s ≡ false → drawSays W e t (a .size) ≡ gives nothing → Draws W e t a (seenDraw 0)
       unfolding drawReply drawArea
@@ -315,13 +315,13 @@ module _ (W H : Side) (l n : ℕ) (lim : Limits W H l n) where
         possible = λ r. absurd (let p : _≡_ {A = ℕ} 0 1 = cc in omega arith);
       })
 
-      draw-is : Draws W e t a (event (draw a) (world W H l n lim d p e x))
+      draw-is : Draws W e t a (event (draw a) (world f W H l n lim d p e x))
       unfolding event
-      draw-is = go (draw-view W H l n lim d p (kept .drawn-le) (kept .level-le) (kept .band-le) (kept .back-le) e t x a viewed)
+      draw-is = go (draw-view f W H l n lim d p (kept .drawn-le) (kept .level-le) (kept .band-le) (kept .back-le) e t x a viewed)
         where
-          go : DrawView W H l n lim d p (kept .drawn-le) (kept .level-le) (kept .band-le) (kept .back-le) e t x a
+          go : DrawView f W H l n lim d p (kept .drawn-le) (kept .level-le) (kept .band-le) (kept .back-le) e t x a
               → Draws W e t a (seenDraw (drawQuestion s n x (a .size)))
-          go (draw-away q z f says at) = subst (λ i. Draws W e t a (seenDraw i)) (sym at) (drawn-away q z f says)
+          go (draw-away q z fr says at) = subst (λ i. Draws W e t a (seenDraw i)) (sym at) (drawn-away q z fr says)
           go (draw-idle live z says at) = subst (λ i. Draws W e t a (seenDraw i)) (sym at) (drawn-idle z says)
           go (draw-onward live due is-height head to-draw says at) = subst (λ i. Draws W e t a (seenDraw i)) (sym at) (tried (fits (settles s x)))
             where
@@ -330,22 +330,22 @@ module _ (W H : Side) (l n : ℕ) (lim : Limits W H l n) where
               tried false = drawn-stops says
 
     -- ---- maps that have the rows fed
-    agrees : (g : Grid) (m : Map g) → All (HasRow W H g) fs → Agrees W H l (own g m) d p e x ds
+    agrees : (g : Grid) (m : Map g) → All (HasRow f W H g) fs → Agrees f W H l (own g m) d p e x ds
     agrees g m has = kept .rows (own g m) (words-of g m fs (kept .good) has)
 
-    first-rows : (g : Grid) → Map g → All (HasRow W H g) fs → FirstRows W g ds
+    first-rows : (g : Grid) → Map g → All (HasRow f W H g) fs → FirstRows W g ds
     unfolding approximation sideAt
     first-rows g m has = record {
       are = λ r c b q. agrees g m has .shows r c (omega (arith, kept .drawn)) q
-          ∙ part-same W H g m l few 0 (omega arith) r c (omega (arith, kept .drawn, kept .drawn-le)) q;
+          ∙ part-same f W H g m l few 0 (omega arith) r c (omega (arith, kept .drawn, kept .drawn-le)) q;
     }
 
-    none-has : e ≡ true → (g : Grid) → Map g → All (HasRow W H g) fs → ⊥
+    none-has : e ≡ true → (g : Grid) → Map g → All (HasRow f W H g) fs → ⊥
     none-has z g m has = agrees g m has .refuses z (map-fitting g m)
 
     -- ---- what a call that goes on has worked out
     -- the set of a row that is asked for
-    set-of-row : (k n : ℕ) (c : Band) → asked (eqb (suc k) (suc l)) (sideAt k W) (sideAt k H) n c ≡ true → setNumber H (nameOf W H l k n c) ≡ n
+    set-of-row : (k n : ℕ) (c : Band) → asked (eqb (suc k) (suc l)) (sideAt k W) (sideAt k H) n c ≡ true → setNumber H (nameOf f W H l k n c) ≡ n
     unfolding setNumber setRow
     set-of-row k n c asks =
         let z : suc k - 1 ≡ k = omega arith in
@@ -353,11 +353,11 @@ module _ (W H : Side) (l n : ℕ) (lim : Limits W H l n) where
         rw z (omega (arith, a))
 
     -- where row c does not complete its set, the next step is a row of it
-    set-goes-on : (k n : ℕ) (c : Band) → Due W H l d p k n c → lastOfSet W H (suc l) k n (code c) ≡ false →
-        goesOnSet H (nameOf W H l k n c) (stepsLeft W H l d (spot (suc k) n (code c + 1))) ≡ true
+    set-goes-on : (k n : ℕ) (c : Band) → Due f W H l d p k n c → lastOfSet W H (suc l) k n (code c) ≡ false →
+        goesOnSet H (nameOf f W H l k n c) (stepsLeft f W H l d (spot (suc k) n (code c + 1))) ≡ true
     unfolding goesOnSet
-    set-goes-on k n c o more = first (nextUp W H (suc l) (suc k) n (code c + 1)) next-is
-        (ahead-is W H l d (suc k) n (code c + 1) (omega (arith, o .below, kept .level-le)) after)
+    set-goes-on k n c o more = first (nextUp f W H (suc l) (suc k) n (code c + 1)) next-is
+        (ahead-is f W H l d (suc k) n (code c + 1) (omega (arith, o .below, kept .level-le)) after)
       where
         under : (m i : ℕ) → m ≤ 4 → leb m i ≡ false → i < 4
         under m i b z = omega (arith, leb-false m i z)
@@ -365,37 +365,39 @@ module _ (W H : Side) (l n : ℕ) (lim : Limits W H l n) where
         small : bandAt W H (suc l) k n (code c + 1) < 4
         small = unfold lastOfSet in under _ _ (omega arith) more
 
-        next-is : nextUp W H (suc l) (suc k) n (code c + 1) ≡ spot (suc k) n (bandAt W H (suc l) k n (code c + 1))
+        next-is : nextUp f W H (suc l) (suc k) n (code c + 1) ≡ spot (suc k) n (bandAt W H (suc l) k n (code c + 1))
         next-is = unfold nextUp in rw (lt-ltb (bandAt W H (suc l) k n (code c + 1)) 4 small) refl
 
-        after : Ready W H (suc l) d (spot (suc k) n (code c + 1))
-        after = ready-still W H l d k n (code c) (o .ready) more
+        after : Ready f W H (suc l) d (spot (suc k) n (code c + 1))
+        after = ready-still f W H l d k n (code c) (o .ready) more
 
         first : (q : Spot) → q ≡ spot (suc k) n (bandAt W H (suc l) k n (code c + 1)) →
-            Ahead W H l d (suc k) (tailAt W H l (spot (suc k) n (code c + 1))) q →
-            goesOnSet H (nameOf W H l k n c) (stepsLeft W H l d (spot (suc k) n (code c + 1))) ≡ true
-        first _ e (height f) = let z : 0 ≡ suc k = ap (λ r. r .level) e in absurd (omega arith)
-        first _ e (row j i b h r asks f) =
+            Ahead f W H l d (suc k) (tailAt f W H l (spot (suc k) n (code c + 1))) q →
+            goesOnSet H (nameOf f W H l k n c) (stepsLeft f W H l d (spot (suc k) n (code c + 1))) ≡ true
+        first _ e (height fr) = let z : 0 ≡ suc k = ap (λ r. r .level) e in absurd (omega arith)
+        first _ e (row j i b h r asks fr) =
             let z : suc j ≡ suc k = ap (λ r. r .level) e in
             let y : i ≡ n = ap (λ r. r .set) e in
-            rw (left-row W H l d (spot (suc k) n (code c + 1)) j i b (o .due) f)
+            rw (left-row f W H l d (spot (suc k) n (code c + 1)) j i b (o .due) fr)
             (rw (
               eq-eqb (suc j) (suc k) z,
-              eq-eqb (setNumber H (nameOf W H l j i b)) (setNumber H (nameOf W H l k n c)) (set-of-row j i b asks ∙ y ∙ sym (set-of-row k n c (o .asks))),
+              eq-eqb (setNumber H (nameOf f W H l j i b)) (setNumber H (nameOf f W H l k n c)) (set-of-row j i b asks ∙ y ∙ sym (set-of-row k n c (o .asks))),
             ) refl)
 
     -- the set that a level has left
-    leaves-fit : (P : Rows) (k i : ℕ) (y : ℕ → ℤ) → LeavesAt W H l P k i y → SetFits W H P (suc l) k i
-    unfolding ahead
-    leaves-fit P k i y s = record { fit = λ r c b q q′. s .0 .fit r b q c q′; has = s .0 .has }
+    leaves-fit : (P : Rows) (k i : ℕ) (y : ℕ → ℤ) → LeavesAt f W H l P k i y → SetFits f W H P (suc l) k i
+    leaves-fit P k i y s = record {
+      fit = λ r c b q q′. set-fits f k (sideAt k W) (sideAt k H) _ i y (s .0) r b q c q′;
+      has = set-has f k (sideAt k W) (sideAt k H) _ i y (s .0);
+    }
 
     -- the sets of the levels that a store is past
-    sets-fit : (P : Rows) (k i b : ℕ) (y : ℕ → ℤ) → hasRow H k i ≡ true → Held W H l P k i b y → SetsFit W H (suc l) P k i
-    sets-fit P k i b y h held = record { fit = λ j b i′ cells. leaves-fit P j (needed H k i (suc j)) _ (held .below h j (omega arith, cells) b) }
+    sets-fit : (P : Rows) (k i b : ℕ) (y : ℕ → ℤ) → hasRow H k i ≡ true → Held f W H l P k i b y → SetsFit f W H (suc l) P k i
+    sets-fit P k i b y h held = record { fit = λ j b i′ cells. leaves-fit P j (needed f H k i (suc j)) _ (held .below h j (omega arith, cells) b) }
 
-    fed-fits : (P : Rows) (k n : ℕ) (c : Band) → Due W H l d p k n c → (y : ℕ → ℤ) → HeldAt W H l P (beyond W H (suc l) k n (code c)) y →
-        (lastOfSet W H (suc l) k n (code c) ≡ true → Worked W H l P k n y) →
-        FeedFits W H (suc l) P (nameOf W H l k n c) (stepsLeft W H l d (beyond W H (suc l) k n (code c)))
+    fed-fits : (P : Rows) (k n : ℕ) (c : Band) → Due f W H l d p k n c → (y : ℕ → ℤ) → HeldAt f W H l P (beyond f W H (suc l) k n (code c)) y →
+        (lastOfSet W H (suc l) k n (code c) ≡ true → Worked f W H l P k n y) →
+        FeedFits f W H (suc l) P (nameOf f W H l k n c) (stepsLeft f W H l d (beyond f W H (suc l) k n (code c)))
     unfolding beyond
     fed-fits P k n c o y held worked = go (lastOfSet W H (suc l) k n (code c)) refl held
       where
@@ -403,7 +405,7 @@ module _ (W H : Side) (l n : ℕ) (lim : Limits W H l n) where
         back-one = omega arith
 
         name : RowName
-        name = nameOf W H l k n c
+        name = nameOf f W H l k n c
 
         number : setNumber H name ≡ n
         number = set-of-row k n c (o .asks)
@@ -411,12 +413,12 @@ module _ (W H : Side) (l n : ℕ) (lim : Limits W H l n) where
         differ : true ≡ false → ⊥
         differ z = subst T z tt
 
-        worked-fits : Worked W H l P k n y → hasRow H (suc k) n ≡ true → SetsFit W H (suc l) P (suc k) n
-        worked-fits w h = record { fit = λ j b i cells. leaves-fit P j (needed H (suc k) n (suc j)) _ (w .below h j (omega arith, cells) b) }
+        worked-fits : Worked f W H l P k n y → hasRow H (suc k) n ≡ true → SetsFit f W H (suc l) P (suc k) n
+        worked-fits w h = record { fit = λ j b i cells. leaves-fit P j (needed f H (suc k) n (suc j)) _ (w .below h j (omega arith, cells) b) }
 
         go : (v : Bool) → lastOfSet W H (suc l) k n (code c) ≡ v →
-            HeldAt W H l P (pick v (past W H (suc l) k n) (spot (suc k) n (code c + 1))) y →
-            FeedFits W H (suc l) P name (stepsLeft W H l d (pick v (past W H (suc l) k n) (spot (suc k) n (code c + 1))))
+            HeldAt f W H l P (pick v (past f W H (suc l) k n) (spot (suc k) n (code c + 1))) y →
+            FeedFits f W H (suc l) P name (stepsLeft f W H l d (pick v (past f W H (suc l) k n) (spot (suc k) n (code c + 1))))
         go true z held = record {
           own = λ _. rw (back-one, number) (leaves-fit P k n _ (worked z .leaves));
           above = λ q. rw number (worked-fits (worked z) (subst (λ i. hasRow H (suc k) i ≡ true) number q));
@@ -430,53 +432,53 @@ module _ (W H : Side) (l n : ℕ) (lim : Limits W H l n) where
     unfolding fits
     fits-no v z = ap (λ (w : Tried). ask (fits w) 14 0) z
 
-    feed-works-here : (a : Area) (y : RowName) (t′ : List Step) → t ≡ step.feed y ∷ t′ → event (feed a) (world W H l n lim d p e x) ≡ fed a (gives tt) →
-        (P : Rows) → All (HasFedRow W P) (fs ++ (record { row = y; run = a } ∷ [])) → FeedFits W H (suc l) P y t′
+    feed-works-here : (a : Area) (y : RowName) (t′ : List Step) → t ≡ step.feed y ∷ t′ → event (feed a) (world f W H l n lim d p e x) ≡ fed a (gives tt) →
+        (P : Rows) → All (HasFedRow W P) (fs ++ (record { row = y; run = a } ∷ [])) → FeedFits f W H (suc l) P y t′
     unfolding event
-    feed-works-here a y t′ first passes P has = go (feed-view W H l n lim d p (kept .drawn-le) (kept .level-le) (kept .band-le) (kept .back-le) e t x a viewed)
+    feed-works-here a y t′ first passes P has = go (feed-view f W H l n lim d p (kept .drawn-le) (kept .level-le) (kept .band-le) (kept .back-le) e t x a viewed)
       where
         s′ : Reader
-        s′ = here W H l d p e
+        s′ = here f W H l d p e
 
         differ : (q : ℕ) → _≡_ {A = Event} (fed a (refused q)) (fed a (gives tt)) → ⊥
         differ q z = let b : _≡_ {A = ℕ} 0 1 = cc in omega arith
 
-        go : FeedView W H l n lim d p (kept .drawn-le) (kept .level-le) (kept .band-le) (kept .back-le) e t x a → FeedFits W H (suc l) P y t′
-        go (feed-away q f z z′ at) = absurd (differ q (sym (ap (seenFeed a) at ∙ seen-away a q z z′) ∙ passes))
-        go (feed-onward k u c live o head long in-range f at) = tried (feeds s′ (a .numbers) x) refl
+        go : FeedView f W H l n lim d p (kept .drawn-le) (kept .level-le) (kept .band-le) (kept .back-le) e t x a → FeedFits f W H (suc l) P y t′
+        go (feed-away q fr z z′ at) = absurd (differ q (sym (ap (seenFeed a) at ∙ seen-away a q z z′) ∙ passes))
+        go (feed-onward k u c live o head long in-range fr at) = tried (feeds s′ (a .numbers) x) refl
           where
             to : Spot
-            to = beyond W H (suc l) k u (code c)
+            to = beyond f W H (suc l) k u (code c)
 
-            named-same : _≡_ {A = List Step} (step.feed (nameOf W H l k u c) ∷ stepsLeft W H l d to) (step.feed y ∷ t′)
+            named-same : _≡_ {A = List Step} (step.feed (nameOf f W H l k u c) ∷ stepsLeft f W H l d to) (step.feed y ∷ t′)
             named-same = sym head ∙ first
 
-            name-is : nameOf W H l k u c ≡ y
+            name-is : nameOf f W H l k u c ≡ y
             name-is = cc
 
-            rest-is : stepsLeft W H l d to ≡ t′
+            rest-is : stepsLeft f W H l d to ≡ t′
             rest-is = cc
 
-            held : Outcome (Fits W H l P) (FedHeld W H l P k u (code c)) (feeds s′ (a .numbers) x)
+            held : Outcome (Fits f W H l P) (FedHeld f W H l P k u (code c)) (feeds s′ (a .numbers) x)
             held =
-                feeds-worked W H l d p (kept .level-le) (kept .ready (o .due)) P x (kept .rows P (all-left fs _ has) .holds live (o .due))
+                feeds-worked f W H l d p (kept .level-le) (kept .ready (o .due)) P x (kept .rows P (all-left fs _ has) .holds live (o .due))
                 e k u c o (a .numbers)
                 (subst (λ v. HasFedRow W P (record { row = v; run = a })) (sym name-is) (all-last fs _ has))
 
-            tried : (v : Tried) → feeds s′ (a .numbers) x ≡ v → FeedFits W H (suc l) P y t′
+            tried : (v : Tried) → feeds s′ (a .numbers) x ≡ v → FeedFits f W H (suc l) P y t′
             tried failed z = absurd (differ 14 (sym (ap (seenFeed a) (at ∙ sym (fits-no _ (sym z))) ∙ seen-stops a) ∙ passes))
             tried (passed m) z =
-                subst (λ v. FeedFits W H (suc l) P v t′) name-is
-                (subst (FeedFits W H (suc l) P (nameOf W H l k u c)) rest-is
-                (let q : FedHeld W H l P k u (code c) m = outcome-passed m (subst (Outcome (Fits W H l P) _) z held) in fed-fits P k u c o m (q .0) (q .1)))
+                subst (λ v. FeedFits f W H (suc l) P v t′) name-is
+                (subst (FeedFits f W H (suc l) P (nameOf f W H l k u c)) rest-is
+                (let q : FedHeld f W H l P k u (code c) m = outcome-passed m (subst (Outcome (Fits f W H l P) _) z held) in fed-fits P k u c o m (q .0) (q .1)))
 
-    draw-works-here : (a z : Area) → event (draw a) (world W H l n lim d p e x) ≡ drew a (gives (heights (W .length))) z →
-        (P : Rows) → All (HasFedRow W P) fs → SetsFit W H (suc l) P 0 d
+    draw-works-here : (a z : Area) → event (draw a) (world f W H l n lim d p e x) ≡ drew a (gives (heights (W .length))) z →
+        (P : Rows) → All (HasFedRow W P) fs → SetsFit f W H (suc l) P 0 d
     unfolding event
-    draw-works-here a after passes P has = go (draw-view W H l n lim d p (kept .drawn-le) (kept .level-le) (kept .band-le) (kept .back-le) e t x a viewed)
+    draw-works-here a after passes P has = go (draw-view f W H l n lim d p (kept .drawn-le) (kept .level-le) (kept .band-le) (kept .back-le) e t x a viewed)
       where
         s′ : Reader
-        s′ = here W H l d p e
+        s′ = here f W H l d p e
 
         given-is : (q : ℕ) → drawQuestion s′ n x (a .size) ≡ q → said given (drawReply s′ q) ≡ gives (heights (W .length))
         given-is q at = let z : seenDraw a q ≡ drew a (gives (heights (W .length))) after = sym (ap (seenDraw a) at) ∙ passes in cc
@@ -485,95 +487,95 @@ module _ (W H : Side) (l n : ℕ) (lim : Limits W H l n) where
             drawQuestion s′ n x (a .size) ≡ q → ⊥
         no-row v not-this q says at = not-this (sym says ∙ given-is q at)
 
-        go : DrawView W H l n lim d p (kept .drawn-le) (kept .level-le) (kept .band-le) (kept .back-le) e t x a → SetsFit W H (suc l) P 0 d
-        go (draw-away q z f says at) = absurd (no-row (refused q) (λ r. let b : _≡_ {A = ℕ} 0 1 = cc in omega arith) q (unfold drawReply in rw (z, f) refl) at)
+        go : DrawView f W H l n lim d p (kept .drawn-le) (kept .level-le) (kept .band-le) (kept .back-le) e t x a → SetsFit f W H (suc l) P 0 d
+        go (draw-away q z fr says at) = absurd (no-row (refused q) (λ r. let b : _≡_ {A = ℕ} 0 1 = cc in omega arith) q (unfold drawReply in rw (z, fr) refl) at)
         go (draw-idle live z says at) = absurd (no-row (gives nothing) (λ r. let b : _≡_ {A = ℕ} 0 1 = cc in omega arith) 0 (unfold drawReply in rw z refl) at)
         go (draw-onward live due is-height head to-draw says at) = tried (settles s′ x) refl
           where
-            held : Outcome (Fits W H l P) (Held W H l P 0 d 4) (settles s′ x)
-            held = settles-outcome W H l d p (kept .level-le) (kept .ready due) P x (kept .rows P has .holds live due) e (spot 0 0 4) is-height
+            held : Outcome (Fits f W H l P) (Held f W H l P 0 d 4) (settles s′ x)
+            held = settles-outcome f W H l d p (kept .level-le) (kept .ready due) P x (kept .rows P has .holds live due) e (spot 0 0 4) is-height
 
-            tried : (v : Tried) → settles s′ x ≡ v → SetsFit W H (suc l) P 0 d
+            tried : (v : Tried) → settles s′ x ≡ v → SetsFit f W H (suc l) P 0 d
             tried failed z = absurd (no-row (refused 14) (λ r. let b : _≡_ {A = ℕ} 0 1 = cc in omega arith) 14 (unfold drawReply in
                 refl) (at ∙ sym (fits-no _ (sym z))))
-            tried (passed m) z = sets-fit P 0 d 4 m (unfold hasRow in refl) (outcome-passed m (subst (Outcome (Fits W H l P) _) z held))
+            tried (passed m) z = sets-fit P 0 d 4 m (unfold hasRow in refl) (outcome-passed m (subst (Outcome (Fits f W H l P) _) z held))
 
     -- ---- Done
-    all-drawn : View W H l d p [] → H .length ≤ d
+    all-drawn : View f W H l d p [] → H .length ≤ d
     all-drawn (at-end h) = h
 
-    none-left : (v : List Step) → View W H l d p v → H .length ≤ d → v ≡ []
+    none-left : (v : List Step) → View f W H l d p v → H .length ≤ d → v ≡ []
     none-left _ (at-end h) b = refl
     none-left _ (at-height due q) b = absurd (omega arith)
     none-left _ (at-row k u c o) b = absurd (omega (arith, o .due))
 
     -- the grid that has the rows fed
     module _ (live : e ≡ false) (over : t ≡ []) where
-      all-names : namesOf fs ≡ bandRowsOf (steps ahead W H (suc l))
+      all-names : namesOf fs ≡ bandRowsOf (steps (ahead f) W H (suc l))
       unfolding bandRowsOf
       all-names = sym (append-nil (namesOf fs)) ∙ ap (λ v. namesOf fs ++ bandRowsOf v) (sym over) ∙ kept .names live
 
-      once : (f : FedRow) → times (f .row) (namesOf fs) ≤ 1
-      once f = rw (all-names, steps-once ahead looks W H (suc l) (omega arith) (f .row))
-          (go (bandRowExists W H (suc l) (f .row .level) (f .row .band) (f .row .row)))
+      once : (fr : FedRow) → times (fr .row) (namesOf fs) ≤ 1
+      once fr = rw (all-names, steps-once (ahead f) (looks f) W H (suc l) (omega arith) (fr .row))
+          (go (bandRowExists W H (suc l) (fr .row .level) (fr .row .band) (fr .row .row)))
         where
           go : (u : Bool) → pick u 1 0 ≤ 1
           go true = omega arith
           go false = omega arith
 
-      found-in : (f : FedRow) → In f fs → lookup fs (f .row) ≡ f .run .numbers
-      found-in f i = found f fs i (once f)
+      found-in : (fr : FedRow) → In fr fs → lookup fs (fr .row) ≡ fr .run .numbers
+      found-in fr i = found fr fs i (once fr)
 
       fed-has : All (HasFedRow W (lookup fs)) fs
-      fed-has = all-in fs (λ f i j b. ap (λ (u : ℕ → ℤ). u j) (sym (found-in f i)))
+      fed-has = all-in fs (λ fr i j b. ap (λ (u : ℕ → ℤ). u j) (sym (found-in fr i)))
 
-      fed-agrees : Agrees W H l (lookup fs) d p e x ds
+      fed-agrees : Agrees f W H l (lookup fs) d p e x ds
       fed-agrees = kept .rows (lookup fs) fed-has
 
       d-is : d ≡ H .length
-      d-is = omega (arith, kept .drawn-le, all-drawn (subst (View W H l d p) over viewed))
+      d-is = omega (arith, kept .drawn-le, all-drawn (subst (View f W H l d p) over viewed))
 
       words-at : (k : ℕ) (c : Band) (r i : ℕ) → k ≤ l → r < count (down c) (sideAt k H) → i < count (across c) (sideAt k W) →
           SFits w32 (lookup fs (rowName (suc k) c r) i)
       unfolding bandColumns
-      words-at k c r i h b q = let z : suc k - 1 ≡ k = omega arith in lookup-words W H l few fs (kept .good) (rowName (suc k) c r) i (rw z q)
+      words-at k c r i h b q = let z : suc k - 1 ≡ k = omega arith in lookup-words f W H l few fs (kept .good) (rowName (suc k) c r) i (rw z q)
 
       -- the last row drawn has had every set of every level worked out
       lines-at : (k : ℕ) → k ≤ l → hasCells (sideAt k W) (sideAt k H) ≡ true
-          → levelHas fiveThreeFilter (sideAt k W) (sideAt k H) (bandsAt W H (lookup fs) (suc l) k) ≡ true
-      lines-at k h cells = sets-have ahead (sideAt k W) (sideAt k H) _ (λ m q.
+          → levelHas (filterOf f) (sideAt k W) (sideAt k H) (bandsAt f W H (lookup fs) (suc l) k) ≡ true
+      lines-at k h cells = sets-have (filterOf f) (ahead f) (sideAt k W) (sideAt k H) _ (λ m q.
           fed-agrees .has (H .length - 1) (omega (arith, d-is, tall)) k (h, cells) m
-          (omega (arith, q, last-needed H k (cells-are (sideAt k W) (sideAt k H) cells .1))))
+          (omega (arith, q, last-needed f H k (cells-are (sideAt k W) (sideAt k H) cells .1))))
 
       abbrev grid : Grid
-      grid = back W H l (lookup fs) words-at lines-at
+      grid = back f W H l (lookup fs) words-at lines-at
 
-      grid-is : grid ≡ partAt W H (lookup fs) (suc l) 0
+      grid-is : grid ≡ partAt f W H (lookup fs) (suc l) 0
       unfolding rebuilt
       grid-is = let z : suc l - 1 ≡ l = omega arith in rw z refl
 
       grid-map : Map grid
       grid-map = record {
-        heights = λ r c b q. height-fits fiveThreeFilter (grid r c) .0
-            (subst (λ (g : Grid). valueFits fiveThreeFilter 0 (g r c) ≡ true) (sym grid-is) (fed-agrees .fit r c (omega (arith, d-is)) q));
+        heights = λ r c b q. height-fits (filterOf f) (grid r c) .0
+            (subst (λ (g : Grid). valueFits (filterOf f) 0 (g r c) ≡ true) (sym grid-is) (fed-agrees .fit r c (omega (arith, d-is)) q));
       }
 
       grid-has : All (HasFedRow W (own grid grid-map)) fs
-      grid-has = all-in fs (λ f i. one f (in-all f fs i (kept .good)) (found-in f i))
+      grid-has = all-in fs (λ fr i. one fr (in-all fr fs i (kept .good)) (found-in fr i))
         where
-          one : (f : FedRow) → Good W H l f → lookup fs (f .row) ≡ f .run .numbers → HasFedRow W (own grid grid-map) f
-          one f good eq i b =
-              sym (in-band f (λ v j. levelBand fiveThreeFilter wrap32 W H grid v (f .row .band) (f .row .row) j
-              ≡ lookup fs (rowName v (f .row .band) (f .row .row)) j) good
-              (λ j q. back-has W H l (lookup fs) words-at lines-at (good .k) (f .row .band) (good .inside)
-              (kept-last (good .k) l (f .row .band) (good .kept)) (f .row .row) j (good .in-rows) q) i b
+          one : (fr : FedRow) → Good f W H l fr → lookup fs (fr .row) ≡ fr .run .numbers → HasFedRow W (own grid grid-map) fr
+          one fr good eq i b =
+              sym (in-band fr (λ v j. levelBand (filterOf f) wrap32 W H grid v (fr .row .band) (fr .row .row) j
+              ≡ lookup fs (rowName v (fr .row .band) (fr .row .row)) j) good
+              (λ j q. back-has f W H l (lookup fs) words-at lines-at (good .k) (fr .row .band) (good .inside)
+              (kept-last (good .k) l (fr .row .band) (good .kept)) (fr .row .row) j (good .in-rows) q) i b
               ∙ ap (λ u. u i) eq)
 
-      grid-rows : All (HasRow W H grid) fs
+      grid-rows : All (HasRow f W H grid) fs
       grid-rows = wholes-of grid grid-map fs (kept .good) grid-has
 
-    finished-then : event want (world W H l n lim d p e x) ≡ wanted (gives done) →
-        (g : Grid) × Map g × All (HasRow W H g) fs × (length ds ≡ H .length) × FirstRows W g ds
+    finished-then : event want (world f W H l n lim d p e x) ≡ wanted (gives done) →
+        (g : Grid) × Map g × All (HasRow f W H g) fs × (length ds ≡ H .length) × FirstRows W g ds
     finished-then z =
         let w : _≡_ {A = Event} (wanted (gives (wantSays W e t))) (wanted (gives done)) = sym want-is ∙ z in
         let v : wantSays W e t ≡ done = cc in
@@ -590,7 +592,7 @@ module _ (W H : Side) (l n : ℕ) (lim : Limits W H l n) where
     not-ended true h = absurd (h refl)
     not-ended false h = refl
 
-    then-finished : (g : Grid) → Map g → All (HasRow W H g) fs → length ds ≡ H .length → event want (world W H l n lim d p e x) ≡ wanted (gives done)
+    then-finished : (g : Grid) → Map g → All (HasRow f W H g) fs → length ds ≡ H .length → event want (world f W H l n lim d p e x) ≡ wanted (gives done)
     unfolding wantSays
     then-finished g m has all =
         let live : e ≡ false = not-ended e (λ z. none-has z g m has) in
@@ -598,12 +600,12 @@ module _ (W H : Side) (l n : ℕ) (lim : Limits W H l n) where
         want-is ∙ ap₂ (λ u v. wanted (gives (wantSays W u v))) live over
 
   -- ---- the claim, for a world that is reached
-  claim : (w : World) (es : List Event) → Then es w → (countsFit (w .reader) ≡ true) × Demand3 W H (suc l) es (λ c. event c w)
+  claim : (w : World) (es : List Event) → Then es w → (countsFit (w .reader) ≡ true) × Demand3 f W H (suc l) es (λ c. event c w)
   claim _ es (reached d p e x t fs ds kept) = (
-    counts W H l n lim d p (kept .drawn-le) (kept .level-le) (kept .band-le) (kept .back-le) e,
+    counts f W H l n lim d p (kept .drawn-le) (kept .level-le) (kept .band-le) (kept .back-le) e,
     record {
-      rows-once = steps-once ahead looks W H (suc l) (omega arith);
-      heights-once = steps-heights ahead W H (suc l);
+      rows-once = steps-once (ahead f) (looks f) W H (suc l) (omega arith);
+      heights-once = steps-heights (ahead f) W H (suc l);
       wants = want-is d p e x t fs ds kept;
       feeds-turned = feed-turned d p e x t fs ds kept;
       feeds-on = feed-on d p e x t fs ds kept;
@@ -611,20 +613,20 @@ module _ (W H : Side) (l n : ℕ) (lim : Limits W H l n) where
       first = λ g has. first-rows d p e x t fs ds kept g (has .map) (has .rows);
       feed-works = λ a y t′ goes P has. feed-works-here d p e x t fs ds kept a y t′ (goes .next) (goes .passes) P has;
       draw-works = λ a z passes P has.
-          subst (λ i. SetsFit W H (suc l) P 0 i) (sym (kept .drawn)) (draw-works-here d p e x t fs ds kept a z passes P has);
+          subst (λ i. SetsFit f W H (suc l) P 0 i) (sym (kept .drawn)) (draw-works-here d p e x t fs ds kept a z passes P has);
       impossible = λ z g has. none-has d p e x t fs ds kept z g (has .map) (has .rows);
       finished = (
-        λ z. let f = finished-then d p e x t fs ds kept z in record { map = f .0; has = record { map = f .1; rows = f .2 }; all = f .3; first = f .4 },
-        λ f. then-finished d p e x t fs ds kept (f .map) (f .has .map) (f .has .rows) (f .all),
+        λ z. let fr = finished-then d p e x t fs ds kept z in record { map = fr .0; has = record { map = fr .1; rows = fr .2 }; all = fr .3; first = fr .4 },
+        λ fr. then-finished d p e x t fs ds kept (fr .map) (fr .has .map) (fr .has .rows) (fr .all),
       );
     },
   )
 
 -- ---- demand 3: a set-up that passes, of a map that starts on the grid, on a store of n numbers in which x stood, then any calls
-pub demand-3 : (W H : Side) (L n : ℕ) → W .start ≤ maxOrigin → H .start ≤ maxOrigin → setUpQuestion W H L n ≡ 0 → (x : ℕ → ℤ) (cs : List Call) →
-    OfCalls W H L n x cs
-demand-3 W H zero n across down ok x cs = absurd (no-levels W H n ok)
-demand-3 W H (suc l) n across down ok x cs =
-    let lim = limits W H l n across down ok in
-    let c = claim W H l n lim _ _ (then-reached W H l n lim x cs) in
+pub demand-3 : (f : ℕ) (W H : Side) (L n : ℕ) → W .start ≤ maxOrigin → H .start ≤ maxOrigin → setUpQuestion f W H L n ≡ 0 → (x : ℕ → ℤ) (cs : List Call) →
+    OfCalls f W H L n x cs
+demand-3 f W H zero n across down ok x cs = absurd (no-levels f W H n ok)
+demand-3 f W H (suc l) n across down ok x cs =
+    let lim = limits f W H l n across down ok in
+    let c = claim f W H l n lim _ _ (then-reached f W H l n lim x cs) in
     record { in-range = c .0; claim = c .1 }

@@ -15,17 +15,19 @@ use Rattle.numbers.specs.Signal.{pick, both}
 use Rattle.numbers.specs.Word.{wrap32}
 use Rattle.lifting.specs.Line.{lo}
 use Rattle.lifting.specs.Grid.{Side, count}
-use Rattle.lifting.specs.FiveThree.{fiveThreeFilter}
 use Rattle.wavelet.specs.Bands.{Grid, Band, LL, HL, LH, HH, Band-discrete, code, across, down, levelBack}
 use Rattle.wavelet.specs.Maps.{valueFits}
 use Rattle.wavelet.specs.Levels.{next, sideAt}
 use Rattle.wavelet.specs.Order.{firstSet, lastSet, setRow, setHas}
-use Rattle.reader.specs.Sets.{K, ahead, hasRow, rowOf, taking, needed, firstRow, makes, waiting, waitsAt}
+use Rattle.nine_seven.specs.Filters.{filterOf}
+use Rattle.filters.specs.Back.{backOf, standsOf}
+use Rattle.filters.proofs.BackLaws.{back-ahead, back-laws}
+use Rattle.reader.specs.Sets.{ahead, hasRow, rowOf, taking, needed, firstRow, makes, waiting, waitsAt}
 use Rattle.reader.specs.Asked.{keptAt, asked, bandsFrom, those, look, firstCode, nextBand, named}
 use Rattle.reader.specs.Rebuilt.{Rows, bandsBy, rebuilt, bandsAt, partAt, LevelFits}
 use Rattle.reader.specs.Holds.{Tested, M, Ready}
 use Rattle.level.specs.Tried.{Tried, passed, bind, onto}
-use Rattle.level.specs.Stands.{SetHas, fiveThreeStands}
+use Rattle.level.specs.Stands.{SetHasBy}
 use Rattle.reader.specs.Store.{stretchAt, from, behind, hasCells, fedAt, workedAt, hasSet}
 use Rattle.reader.specs.Machine.{Spot, spot, bandAt, lastOfSet, nextUp, settled, finished, past, beyond, fedOn, dive, begins, enter}
 use Rattle.reader.proofs.Looks.{named-code, code-lt, first-le}
@@ -34,62 +36,69 @@ use Rattle.reader.proofs.OpenedSets.{opened-row, row-taking, taking-row
 use Rattle.reader.proofs.CellLaws.{cells-yes, cells-are, cells-before, no-low}
 use Rattle.reader.proofs.ReadyLaws.{ready-up}
 use Rattle.reader.proofs.StepsLeft.{last-none, begins-is}
-use Rattle.level.proofs.SetMade.{Outcome, stops, goes, bind-outcome, FitAll}
+use Rattle.level.proofs.SetMade.{Outcome, stops, goes, bind-outcome, FitAllBy}
 use Rattle.wavelet.proofs.StepLaws.{set-there, before-zero, before-suc}
 use Rattle.wavelet.specs.Steps.{setOf, setsBefore}
 use Rattle.level.specs.Sets.{opens}
 use Rattle.level.proofs.OpenedSets.{opens-first, same-set}
-use Rattle.level.proofs.ReaderLaws.{ReaderLaws}
-use Rattle.level.proofs.FiveThreeBackLaws.{five-three-back-laws}
+use Rattle.level.proofs.ReaderLaws.{ReaderLawsBy}
 
 -- ---- what the reader's level is known by: what stands in its memory, and its laws
-five : ReaderLaws K fiveThreeStands
-five = five-three-back-laws
-
-module _ (W H : Side) (p : Band → Grid) (n : ℕ) (tested : Tested W H p n) where
+module _ (f : ℕ) (W H : Side) (p : Band → Grid) (n : ℕ) (tested : Tested f W H p n) where
   -- a set that is worked out has been tested too
-  tested-next : SetHas ahead W H p n → Tested W H p (suc n)
-  tested-next h m b = elim (ℕ-discrete m n) [ yes e ↦ subst (SetHas ahead W H p) (sym e) h | no e ↦ tested m (omega (arith, e)) ]
+  tested-next : SetHasBy (filterOf f) (ahead f) W H p n → Tested f W H p (suc n)
+  tested-next h m b = elim (ℕ-discrete m n) [ yes e ↦ subst (SetHasBy (filterOf f) (ahead f) W H p) (sym e) h | no e ↦ tested m (omega (arith, e)) ]
 
 -- what is left by a set worked out, with what was tested before
 with-tested : (N : Type 0) (P Q : (ℕ → ℤ) → Type 0) (t : Tried) → ((y : ℕ → ℤ) → P y → Q y) → Outcome N P t → Outcome N Q t
 with-tested N P Q _ f (stops z) = stops z
 with-tested N P Q _ f (goes y q) = goes y (f y q)
 
-laws : ReaderLaws K M
-unfolding ahead
-laws = record {
-  leaves-reads = λ k W H p n x y e s. (five .leaves-reads k W H p n x y e (s .0), s .1);
-  before-reads = λ W H p n x y e s. (five .before-reads W H p n x y e (s .0), s .1);
-  got-reads = five .got-reads;
-  feed-past = five .feed-past;
-  feed-before = λ W H p n c v x s. (five .feed-before W H p n c v x (s .0), s .1);
-  feed-old = five .feed-old;
-  feed-new = five .feed-new;
-  got-none = five .got-none;
-  looks = five .looks;
-  before-first = λ W H p x. (five .before-first W H p x, λ m b. absurd (omega arith));
-  before-next = λ k W H p n x b s. (five .before-next k W H p n x b (s .0), tested-next W H p n (s .1) (five .made-has k W H p n x (s .0)));
+-- a set worked out: its rows are those of the way back and fit, and it halved no odd number
+set-made : (f k : ℕ) (W H : Side) (p : Band → Grid) (n : ℕ) (x : ℕ → ℤ) → standsOf f .Leaves k W H p n x → (r : ℕ) → r < H .length →
+    setOf (ahead f) H r ≡ n → (c : ℕ) → c < W .length → backOf f .made W (H .start) r x c ≡ levelBack (filterOf f) wrap32 W H p r c
+set-made f k W H p n x s r b e = back-laws f .made-is k W H p n x s r b (ap (λ a. setOf a H r) (back-ahead f) ∙ e)
+
+pub set-fits : (f k : ℕ) (W H : Side) (p : Band → Grid) (n : ℕ) (x : ℕ → ℤ) → standsOf f .Leaves k W H p n x → (r : ℕ) → r < H .length →
+    setOf (ahead f) H r ≡ n → (c : ℕ) → c < W .length → valueFits (filterOf f) k (levelBack (filterOf f) wrap32 W H p r c) ≡ true
+set-fits f k W H p n x s r b e = back-laws f .made-fits k W H p n x s r b (ap (λ a. setOf a H r) (back-ahead f) ∙ e)
+
+pub set-has : (f k : ℕ) (W H : Side) (p : Band → Grid) (n : ℕ) (x : ℕ → ℤ) → standsOf f .Leaves k W H p n x → SetHasBy (filterOf f) (ahead f) W H p n
+set-has f k W H p n x s = subst (λ a. SetHasBy (filterOf f) a W H p n) (back-ahead f) (back-laws f .made-has k W H p n x s)
+
+laws : (f : ℕ) → ReaderLawsBy (filterOf f) (backOf f) (M f)
+laws f = record {
+  leaves-reads = λ k W H p n x y e s. (back-laws f .leaves-reads k W H p n x y e (s .0), s .1);
+  before-reads = λ W H p n x y e s. (back-laws f .before-reads W H p n x y e (s .0), s .1);
+  got-reads = back-laws f .got-reads;
+  feed-past = back-laws f .feed-past;
+  feed-before = λ W H p n c v x s. (back-laws f .feed-before W H p n c v x (s .0), s .1);
+  feed-old = back-laws f .feed-old;
+  feed-new = back-laws f .feed-new;
+  got-none = back-laws f .got-none;
+  looks = back-laws f .looks;
+  before-first = λ W H p x. (back-laws f .before-first W H p x, λ m b. absurd (omega arith));
+  before-next = λ k W H p n x b s. (back-laws f .before-next k W H p n x b (s .0), tested-next f W H p n (s .1) (set-has f k W H p n x (s .0)));
   work-last = λ k W H p n x some there before got. with-tested _ _ _ _ (λ y a. ((a .0, before .1), a .1))
-      (five .work-last k W H p n x some there (before .0) got);
+      (back-laws f .work-last k W H p n x some there (before .0) got);
   work-on = λ k W H p n x some there before got low. with-tested _ _ _ _ (λ y a. ((a .0, before .1), a .1))
-      (five .work-on k W H p n x some there (before .0) got low);
-  made-is = λ k W H p n x s. five .made-is k W H p n x (s .0);
-  made-fits = λ k W H p n x s. five .made-fits k W H p n x (s .0);
-  made-has = λ k W H p n x s. five .made-has k W H p n x (s .0);
+      (back-laws f .work-on k W H p n x some there (before .0) got low);
+  made-is = λ k W H p n x s. back-laws f .made-is k W H p n x (s .0);
+  made-fits = λ k W H p n x s. back-laws f .made-fits k W H p n x (s .0);
+  made-has = λ k W H p n x s. back-laws f .made-has k W H p n x (s .0);
 }
 
 -- two memories that agree in a level's stretch
-abbrev SameMem : Side → (ℕ → ℤ) → (ℕ → ℤ) → Type 0
-SameMem W x y = (j : ℕ) → j < K .stretch W → y j ≡ x j
+abbrev SameMem : ℕ → Side → (ℕ → ℤ) → (ℕ → ℤ) → Type 0
+SameMem f W x y = (j : ℕ) → j < backOf f .stretch W → y j ≡ x j
 
 -- ---- the stretches of the store
-module _ (W : Side) where
+module _ (f : ℕ) (W : Side) where
   -- the memory of level k + 1
   abbrev pub mem : ℕ → (ℕ → ℤ) → ℕ → ℤ
-  mem k x = from (stretchAt W k) x
+  mem k x = from (stretchAt f W k) x
 
-  stretch-up : (k j : ℕ) → k ≤ j → stretchAt W k ≤ stretchAt W j
+  stretch-up : (k j : ℕ) → k ≤ j → stretchAt f W k ≤ stretchAt f W j
   unfolding stretchAt
   stretch-up k zero h = let e : k ≡ 0 = omega arith in rw e (omega arith)
   stretch-up k (suc j) h = elim (ℕ-discrete k (suc j)) [
@@ -97,7 +106,7 @@ module _ (W : Side) where
     | no e ↦ omega (arith, stretch-up k j (omega (arith, e)))
   ]
 
-  stretch-end : (k j : ℕ) → k < j → stretchAt W k + K .stretch (sideAt k W) ≤ stretchAt W j
+  stretch-end : (k j : ℕ) → k < j → stretchAt f W k + backOf f .stretch (sideAt k W) ≤ stretchAt f W j
   unfolding stretchAt
   stretch-end k j h = stretch-up (suc k) j h
 
@@ -106,32 +115,32 @@ module _ (W : Side) where
   unfolding from stretchAt
   first-mem x = fun-ext λ j. let e : 0 + j ≡ j = omega arith in ap x e
 
-  next-mem : (k : ℕ) (x : ℕ → ℤ) → (λ j. mem k x (K .stretch (sideAt k W) + j)) ≡ mem (suc k) x
+  next-mem : (k : ℕ) (x : ℕ → ℤ) → (λ j. mem k x (backOf f .stretch (sideAt k W) + j)) ≡ mem (suc k) x
   unfolding from stretchAt
   next-mem k x = fun-ext λ j.
-      let e : stretchAt W k + (K .stretch (sideAt k W) + j) ≡ stretchAt W k + K .stretch (sideAt k W) + j = omega arith in
+      let e : stretchAt f W k + (backOf f .stretch (sideAt k W) + j) ≡ stretchAt f W k + backOf f .stretch (sideAt k W) + j = omega arith in
       ap x e
 
-  module _ (k : ℕ) (x y : ℕ → ℤ) (past : (j : ℕ) → K .stretch (sideAt k W) ≤ j → y j ≡ mem k x j) where
+  module _ (k : ℕ) (x y : ℕ → ℤ) (past : (j : ℕ) → backOf f .stretch (sideAt k W) ≤ j → y j ≡ mem k x j) where
     abbrev after : ℕ → ℤ
-    after = behind (stretchAt W k) x y
+    after = behind (stretchAt f W k) x y
 
     here : (j : ℕ) → mem k after j ≡ y j
     unfolding from behind
     here j =
-        let e : stretchAt W k + j - stretchAt W k ≡ j = omega arith in
-        rw (le-ltb (stretchAt W k + j) (stretchAt W k) (omega arith)) (ap y e)
+        let e : stretchAt f W k + j - stretchAt f W k ≡ j = omega arith in
+        rw (le-ltb (stretchAt f W k + j) (stretchAt f W k) (omega arith)) (ap y e)
 
-    finer : (i : ℕ) → i < k → SameMem (sideAt i W) (mem i x) (mem i after)
+    finer : (i : ℕ) → i < k → SameMem f (sideAt i W) (mem i x) (mem i after)
     unfolding from behind
-    finer i h j b = rw (lt-ltb (stretchAt W i + j) (stretchAt W k) (omega (arith, stretch-end i k h))) refl
+    finer i h j b = rw (lt-ltb (stretchAt f W i + j) (stretchAt f W k) (omega (arith, stretch-end i k h))) refl
 
-    coarser : (i : ℕ) → k < i → SameMem (sideAt i W) (mem i x) (mem i after)
+    coarser : (i : ℕ) → k < i → SameMem f (sideAt i W) (mem i x) (mem i after)
     unfolding from behind
     coarser i h j b =
         let o = stretch-end k i h in
-        let e : stretchAt W k + (stretchAt W i + j - stretchAt W k) ≡ stretchAt W i + j = omega arith in
-        rw (le-ltb (stretchAt W i + j) (stretchAt W k) (omega arith)) (past (stretchAt W i + j - stretchAt W k) (omega arith) ∙ ap x e)
+        let e : stretchAt f W k + (stretchAt f W i + j - stretchAt f W k) ≡ stretchAt f W i + j = omega arith in
+        rw (le-ltb (stretchAt f W i + j) (stretchAt f W k) (omega arith)) (past (stretchAt f W i + j - stretchAt f W k) (omega arith) ∙ ap x e)
 
 -- ---- bands
 kept-first : (t : Bool) (c : Band) → keptAt t c ≡ true → code c < 1 → (t ≡ true) × (c ≡ LL)
@@ -147,10 +156,10 @@ code-same c e z = sym (named-code c) ∙ ap named z ∙ named-code e
 not-both : true ≡ false → ⊥
 not-both z = subst T z tt
 
-module _ (W H : Side) (l : ℕ) (P : Rows) where
+module _ (f : ℕ) (W H : Side) (l : ℕ) (P : Rows) where
   -- the bands of level k + 1
   abbrev pub B : ℕ → Band → Grid
-  B k = bandsAt W H P (suc l) k
+  B k = bandsAt f W H P (suc l) k
 
   -- a level that is not empty
   abbrev pub Live : ℕ → Type 0
@@ -158,108 +167,108 @@ module _ (W H : Side) (l : ℕ) (P : Rows) where
 
   -- every value of the way back fits, and no number that is halved is odd
   abbrev pub Fits : Type 0
-  Fits = (k : ℕ) → Live k → LevelFits W H P (suc l) k
+  Fits = (k : ℕ) → Live k → LevelFits f W H P (suc l) k
 
   abbrev pub LeavesAt : ℕ → ℕ → (ℕ → ℤ) → Type 0
-  LeavesAt k n m = M .Leaves k (sideAt k W) (sideAt k H) (B k) n m
+  LeavesAt k n m = M f .Leaves k (sideAt k W) (sideAt k H) (B k) n m
 
   -- what of the set before set n is still needed
   abbrev pub Before : ℕ → ℕ → (ℕ → ℤ) → Type 0
-  Before k n m = M .Before (sideAt k W) (sideAt k H) (B k) n m
+  Before k n m = M f .Before (sideAt k W) (sideAt k H) (B k) n m
 
   -- the row of band c of set n is there, if there is one
   abbrev pub Got : ℕ → ℕ → (ℕ → ℤ) → Band → Type 0
-  Got k n m c = M .Got (sideAt k W) (sideAt k H) (B k) n m c
+  Got k n m c = M f .Got (sideAt k W) (sideAt k H) (B k) n m c
 
   -- ---- what the store x holds while set n of level lev is collected: coarser levels have the last set that it needs, this level has the bands before b, finer
   -- ones wait
   pub record Held (lev n b : ℕ) (x : ℕ → ℤ) : Type 0 where
-    pub below : hasRow H lev n ≡ true → (k : ℕ) → Live k → lev ≤ k → LeavesAt k (needed H lev n (suc k)) (mem W k x)
-    pub before : (k : ℕ) → Live k → suc k ≤ lev → Before k (waitsAt H lev n (suc k)) (mem W k x)
-    pub got : (k : ℕ) → Live k → suc k ≡ lev → (c : Band) → keptAt (eqb (suc k) (suc l)) c ≡ true → code c < b → Got k n (mem W k x) c
+    pub below : hasRow H lev n ≡ true → (k : ℕ) → Live k → lev ≤ k → LeavesAt k (needed f H lev n (suc k)) (mem f W k x)
+    pub before : (k : ℕ) → Live k → suc k ≤ lev → Before k (waitsAt f H lev n (suc k)) (mem f W k x)
+    pub got : (k : ℕ) → Live k → suc k ≡ lev → (c : Band) → keptAt (eqb (suc k) (suc l)) c ≡ true → code c < b → Got k n (mem f W k x) c
 
   abbrev pub HeldAt : Spot → (ℕ → ℤ) → Type 0
   HeldAt q x = Held (q .level) (q .set) (q .band) x
 
   -- ---- memories that agree hold the same
-  leaves-same : (k n : ℕ) (m m′ : ℕ → ℤ) → SameMem (sideAt k W) m m′ → LeavesAt k n m → LeavesAt k n m′
-  leaves-same k n m m′ e s = laws .leaves-reads k (sideAt k W) (sideAt k H) (B k) n m m′ e s
+  leaves-same : (k n : ℕ) (m m′ : ℕ → ℤ) → SameMem f (sideAt k W) m m′ → LeavesAt k n m → LeavesAt k n m′
+  leaves-same k n m m′ e s = laws f .leaves-reads k (sideAt k W) (sideAt k H) (B k) n m m′ e s
 
-  before-same : (k n : ℕ) (m m′ : ℕ → ℤ) → SameMem (sideAt k W) m m′ → Before k n m → Before k n m′
-  before-same k n m m′ e s = laws .before-reads (sideAt k W) (sideAt k H) (B k) n m m′ e s
+  before-same : (k n : ℕ) (m m′ : ℕ → ℤ) → SameMem f (sideAt k W) m m′ → Before k n m → Before k n m′
+  before-same k n m m′ e s = laws f .before-reads (sideAt k W) (sideAt k H) (B k) n m m′ e s
 
-  got-same : (k n : ℕ) (c : Band) (m m′ : ℕ → ℤ) → SameMem (sideAt k W) m m′ → Got k n m c → Got k n m′ c
-  got-same k n c m m′ e s = laws .got-reads (sideAt k W) (sideAt k H) (B k) n c m m′ e s
+  got-same : (k n : ℕ) (c : Band) (m m′ : ℕ → ℤ) → SameMem f (sideAt k W) m m′ → Got k n m c → Got k n m′ c
+  got-same k n c m m′ e s = laws f .got-reads (sideAt k W) (sideAt k H) (B k) n c m m′ e s
 
   -- a band that is not asked for has no row to be there
   got-none : (k n : ℕ) (m : ℕ → ℤ) (t : Bool) (c : Band) → keptAt t c ≡ true → (asked t (sideAt k W) (sideAt k H) n c ≡ true → ⊥) → Got k n m c
   unfolding asked
-  got-none k n m t c e f = go (setHas (sideAt k W) (sideAt k H) c n) refl
+  got-none k n m t c e g = go (setHas (sideAt k W) (sideAt k H) c n) refl
     where
       go : (u : Bool) → setHas (sideAt k W) (sideAt k H) c n ≡ u → Got k n m c
-      go true z = absurd (f (rw (e, z) refl))
-      go false z = laws .got-none (sideAt k W) (sideAt k H) (B k) n c m z
+      go true z = absurd (g (rw (e, z) refl))
+      go false z = laws f .got-none (sideAt k W) (sideAt k H) (B k) n c m z
 
   -- so the band that may be next may be any up to the next that is asked for
   holds-more : (k n b b′ : ℕ) (x : ℕ → ℤ) →
       ((c : Band) → asked (eqb (suc k) (suc l)) (sideAt k W) (sideAt k H) n c ≡ true → code c < b′ → code c < b) →
       Held (suc k) n b x → Held (suc k) n b′ x
-  holds-more k n b b′ x f s = record {
+  holds-more k n b b′ x g s = record {
     below = s .below;
     before = s .before;
     got = λ j h e c kept less. at j h e c kept less;
   }
     where
-      at : (j : ℕ) → Live j → suc j ≡ suc k → (c : Band) → keptAt (eqb (suc j) (suc l)) c ≡ true → code c < b′ → Got j n (mem W j x) c
+      at : (j : ℕ) → Live j → suc j ≡ suc k → (c : Band) → keptAt (eqb (suc j) (suc l)) c ≡ true → code c < b′ → Got j n (mem f W j x) c
       at j h e c kept less = elim (decLt (code c) b) [
         | yes q ↦ s .got j h e c kept q
-        | no q ↦ let z : j ≡ k = omega arith in got-none j n (mem W j x) (eqb (suc j) (suc l)) c kept
-            (λ u. q (f c (subst (λ i. asked (eqb (suc i) (suc l)) (sideAt i W) (sideAt i H) n c ≡ true) z u) less))
+        | no q ↦ let z : j ≡ k = omega arith in got-none j n (mem f W j x) (eqb (suc j) (suc l)) c kept
+            (λ u. q (g c (subst (λ i. asked (eqb (suc i) (suc l)) (sideAt i W) (sideAt i H) n c ≡ true) z u) less))
       ]
 
   -- this level waits for its own set
-  before-here : (k n b : ℕ) (x : ℕ → ℤ) → Live k → Held (suc k) n b x → Before k n (mem W k x)
-  before-here k n b x live s = subst (λ i. Before k i (mem W k x)) (waits-here H (suc k) n) (s .before k live (omega arith))
+  before-here : (k n b : ℕ) (x : ℕ → ℤ) → Live k → Held (suc k) n b x → Before k n (mem f W k x)
+  before-here k n b x live s = subst (λ i. Before k i (mem f W k x)) (waits-here f H (suc k) n) (s .before k live (omega arith))
 
-  here-before : (k n j : ℕ) (x : ℕ → ℤ) → j ≡ k → Before k n (mem W k x) → Before j (waitsAt H (suc k) n (suc j)) (mem W j x)
+  here-before : (k n j : ℕ) (x : ℕ → ℤ) → j ≡ k → Before k n (mem f W k x) → Before j (waitsAt f H (suc k) n (suc j)) (mem f W j x)
   here-before k n j x e s =
-      subst (λ i. Before i (waitsAt H (suc k) n (suc i)) (mem W i x)) (sym e) (subst (λ i. Before k i (mem W k x)) (sym (waits-here H (suc k) n)) s)
+      subst (λ i. Before i (waitsAt f H (suc k) n (suc i)) (mem f W i x)) (sym e) (subst (λ i. Before k i (mem f W k x)) (sym (waits-here f H (suc k) n)) s)
 
   -- ---- a band row fed
   pub feed-holds : (k n : ℕ) (c : Band) (v x : ℕ → ℤ) → Live k →
       ((i : ℕ) → i < count (across c) (sideAt k W) → v i ≡ B k c (setRow (sideAt k H) c n) i) → Held (suc k) n (code c) x →
-      Held (suc k) n (code c + 1) (fedAt W H k n (code c) v x)
+      Held (suc k) n (code c + 1) (fedAt f W H k n (code c) v x)
   unfolding fedAt
   feed-holds k n c v x inside row s =
       rw (named-code c) (record {
-        below = λ u j h e. leaves-same j _ _ _ (coarser W k x y past j (omega arith)) (s .below u j h e);
+        below = λ u j h e. leaves-same j _ _ _ (coarser f W k x y past j (omega arith)) (s .below u j h e);
         before = λ j h e. elim (ℕ-discrete j k) [
-          | yes z ↦ here-before k n j (behind (stretchAt W k) x y) z
-              (before-same k n y _ (λ i _. here W k x y past i)
-              (laws .feed-before (sideAt k W) (sideAt k H) (B k) n c v (mem W k x) (before-here k n (code c) x inside s)))
-          | no z ↦ before-same j _ _ _ (finer W k x y past j (omega (arith, z))) (s .before j h e)
+          | yes z ↦ here-before k n j (behind (stretchAt f W k) x y) z
+              (before-same k n y _ (λ i _. here f W k x y past i)
+              (laws f .feed-before (sideAt k W) (sideAt k H) (B k) n c v (mem f W k x) (before-here k n (code c) x inside s)))
+          | no z ↦ before-same j _ _ _ (finer f W k x y past j (omega (arith, z))) (s .before j h e)
         ];
         got = λ j h e b kept less. let z : j ≡ k = omega arith in
-            subst (λ i. keptAt (eqb (suc i) (suc l)) b ≡ true → Got i n (mem W i (behind (stretchAt W k) x y)) b) (sym z) (at b less) kept;
+            subst (λ i. keptAt (eqb (suc i) (suc l)) b ≡ true → Got i n (mem f W i (behind (stretchAt f W k) x y)) b) (sym z) (at b less) kept;
       })
     where
       y : ℕ → ℤ
-      y = K .feed (sideAt k W) (sideAt k H .start) c n v (mem W k x)
+      y = backOf f .feed (sideAt k W) (sideAt k H .start) c n v (mem f W k x)
 
-      past : (j : ℕ) → K .stretch (sideAt k W) ≤ j → y j ≡ mem W k x j
-      past = laws .feed-past (sideAt k W) (sideAt k H .start) c n v (mem W k x)
+      past : (j : ℕ) → backOf f .stretch (sideAt k W) ≤ j → y j ≡ mem f W k x j
+      past = laws f .feed-past (sideAt k W) (sideAt k H .start) c n v (mem f W k x)
 
       in-y : (b : Band) → code b < code c + 1 → keptAt (eqb (suc k) (suc l)) b ≡ true → Got k n y b
       in-y b less kept = elim (Band-discrete c b) [
-        | yes z ↦ subst (Got k n y) z (laws .feed-new (sideAt k W) (sideAt k H) (B k) n c v (mem W k x) row)
-        | no z ↦ laws .feed-old (sideAt k W) (sideAt k H) (B k) n c b v (mem W k x) z (s .got k inside refl b kept (less-than b less z))
+        | yes z ↦ subst (Got k n y) z (laws f .feed-new (sideAt k W) (sideAt k H) (B k) n c v (mem f W k x) row)
+        | no z ↦ laws f .feed-old (sideAt k W) (sideAt k H) (B k) n c b v (mem f W k x) z (s .got k inside refl b kept (less-than b less z))
       ]
         where
           less-than : (b : Band) → code b < code c + 1 → (c ≡ b → ⊥) → code b < code c
           less-than b less z = elim (ℕ-discrete (code c) (code b)) [ yes u ↦ absurd (z (code-same c b u)) | no u ↦ omega (arith, u) ]
 
-      at : (b : Band) → code b < code c + 1 → keptAt (eqb (suc k) (suc l)) b ≡ true → Got k n (mem W k (behind (stretchAt W k) x y)) b
-      at b less kept = got-same k n b y _ (λ i _. here W k x y past i) (in-y b less kept)
+      at : (b : Band) → code b < code c + 1 → keptAt (eqb (suc k) (suc l)) b ≡ true → Got k n (mem f W k (behind (stretchAt f W k) x y)) b
+      at b less kept = got-same k n b y _ (λ i _. here f W k x y past i) (in-y b less kept)
 
   -- ---- a set worked out
   -- at the last level all four are fed
@@ -276,35 +285,35 @@ module _ (W H : Side) (l : ℕ) (P : Rows) where
   other-kept LH d t = refl
   other-kept HH d t = refl
 
-  low-part : (k : ℕ) → k < l → (r i : ℕ) → levelBack fiveThreeFilter wrap32 (sideAt (suc k) W) (sideAt (suc k) H) (B (suc k)) r i ≡ B k LL r i
+  low-part : (k : ℕ) → k < l → (r i : ℕ) → levelBack (filterOf f) wrap32 (sideAt (suc k) W) (sideAt (suc k) H) (B (suc k)) r i ≡ B k LL r i
   unfolding bandsBy rebuilt
   low-part k q r i = let z : suc l - suc k ≡ suc (suc l - suc (suc k)) = omega arith in rw z refl
 
-  onto-outcome : (Q R : (ℕ → ℤ) → Type 0) (N N′ : Type 0) (f : (ℕ → ℤ) → ℕ → ℤ) (t : Tried) → (N → N′) → ((y : ℕ → ℤ) → Q y → R (f y)) → Outcome N′ Q t →
-      Outcome N R (onto f t)
+  onto-outcome : (Q R : (ℕ → ℤ) → Type 0) (N N′ : Type 0) (g : (ℕ → ℤ) → ℕ → ℤ) (t : Tried) → (N → N′) → ((y : ℕ → ℤ) → Q y → R (g y)) → Outcome N′ Q t →
+      Outcome N R (onto g t)
   unfolding onto
-  onto-outcome Q R N N′ f _ a b (stops z) = stops (λ p. z (a p))
-  onto-outcome Q R N N′ f _ a b (goes y q) = goes (f y) (b y q)
+  onto-outcome Q R N N′ g _ a b (stops z) = stops (λ p. z (a p))
+  onto-outcome Q R N N′ g _ a b (goes y q) = goes (g y) (b y q)
 
   -- what a set worked out leaves
   pub record Worked (k n : ℕ) (z : ℕ → ℤ) : Type 0 where
-    pub leaves : LeavesAt k n (mem W k z)
-    pub below : hasRow H (suc k) n ≡ true → (j : ℕ) → Live j → suc k ≤ j → LeavesAt j (needed H (suc k) n (suc j)) (mem W j z)
-    pub before : (j : ℕ) → Live j → suc j ≤ k → Before j (waitsAt H (suc k) n (suc j)) (mem W j z)
+    pub leaves : LeavesAt k n (mem f W k z)
+    pub below : hasRow H (suc k) n ≡ true → (j : ℕ) → Live j → suc k ≤ j → LeavesAt j (needed f H (suc k) n (suc j)) (mem f W j z)
+    pub before : (j : ℕ) → Live j → suc j ≤ k → Before j (waitsAt f H (suc k) n (suc j)) (mem f W j z)
 
   module _ (k n : ℕ) (x : ℕ → ℤ) (live : Live k) (there : n ≤ lastSet (sideAt k H)) (s : Held (suc k) n 4 x) where
     abbrev m : ℕ → ℤ
-    m = mem W k x
+    m = mem f W k x
 
     got-kept : (c : Band) → keptAt (eqb (suc k) (suc l)) c ≡ true → Got k n m c
     got-kept c kept = s .got k live refl c kept (code-lt c)
 
     -- the low-low row, if the set has one, comes from the next level
     low-there : firstSet (sideAt k H) lo ≤ n → n - firstSet (sideAt k H) lo < sideAt (suc k) H .length
-    low-there f =
+    low-there g =
         omega (
           arith,
-          f,
+          g,
           there,
           cells-are (sideAt k W) (sideAt k H) (live .1) .1,
           first-low (sideAt k H),
@@ -314,51 +323,51 @@ module _ (W H : Side) (l : ℕ) (P : Rows) where
         )
 
     next-live : (i : ℕ) → k < l → firstSet (sideAt k H) lo ≤ n → i < count lo (sideAt k W) → Live (suc k)
-    next-live i q f b = (q, cells-yes (sideAt (suc k) W) (sideAt (suc k) H) (omega (arith, side-long k W)) (omega (arith, low-there f)))
+    next-live i q g b = (q, cells-yes (sideAt (suc k) W) (sideAt (suc k) H) (omega (arith, side-long k W)) (omega (arith, low-there g)))
 
     low-row : k < l → firstSet (sideAt k H) lo ≤ n → (i : ℕ) → i < count lo (sideAt k W) →
-        K .made (next (sideAt k W)) (next (sideAt k H) .start) (n - firstSet (sideAt k H) lo) (λ j. m (K .stretch (sideAt k W) + j)) i
+        backOf f .made (next (sideAt k W)) (next (sideAt k H) .start) (n - firstSet (sideAt k H) lo) (λ j. m (backOf f .stretch (sideAt k W) + j)) i
         ≡ B k LL (n - firstSet (sideAt k H) lo) i
-    unfolding sideAt ahead rowOf hasRow next
-    low-row q f i b =
-        ap (λ (z : ℕ → ℤ). K .made (next (sideAt k W)) (next (sideAt k H) .start) r z i) (next-mem W k x)
+    unfolding sideAt rowOf hasRow next
+    low-row q g i b =
+        ap (λ (z : ℕ → ℤ). backOf f .made (next (sideAt k W)) (next (sideAt k H) .start) r z i) (next-mem f W k x)
         ∙ there-row i b ∙ low-part k q r i
       where
         r : ℕ
         r = n - firstSet (sideAt k H) lo
 
         on : Live (suc k)
-        on = next-live i q f b
+        on = next-live i q g b
 
-        row-is : setOf ahead (sideAt (suc k) H) r ≡ needed H (suc k) n (suc (suc k))
-        row-is = sym (needed-from H (suc k) n)
+        row-is : setOf (ahead f) (sideAt (suc k) H) r ≡ needed f H (suc k) n (suc (suc k))
+        row-is = sym (needed-from f H (suc k) n)
 
-        there-row : (i : ℕ) → i < next (sideAt k W) .length → K .made (next (sideAt k W)) (next (sideAt k H) .start) r (mem W (suc k) x) i
-            ≡ levelBack fiveThreeFilter wrap32 (sideAt (suc k) W) (sideAt (suc k) H) (B (suc k)) r i
-        there-row = laws .made-is (suc k) (sideAt (suc k) W) (sideAt (suc k) H) (B (suc k)) (needed H (suc k) n (suc (suc k))) (mem W (suc k) x)
-            (s .below (le-leb (firstSet (sideAt k H) lo) n f) (suc k) on (omega arith)) r (low-there f) row-is
+        there-row : (i : ℕ) → i < next (sideAt k W) .length → backOf f .made (next (sideAt k W)) (next (sideAt k H) .start) r (mem f W (suc k) x) i
+            ≡ levelBack (filterOf f) wrap32 (sideAt (suc k) W) (sideAt (suc k) H) (B (suc k)) r i
+        there-row = set-made f (suc k) (sideAt (suc k) W) (sideAt (suc k) H) (B (suc k)) (needed f H (suc k) n (suc (suc k))) (mem f W (suc k) x)
+            (s .below (le-leb (firstSet (sideAt k H) lo) n g) (suc k) on (omega arith) .0) r (low-there g) row-is
 
-    worked-of : (y : ℕ → ℤ) → LeavesAt k n y × ((j : ℕ) → K .stretch (sideAt k W) ≤ j → y j ≡ m j) → Worked k n (behind (stretchAt W k) x y)
+    worked-of : (y : ℕ → ℤ) → LeavesAt k n y × ((j : ℕ) → backOf f .stretch (sideAt k W) ≤ j → y j ≡ m j) → Worked k n (behind (stretchAt f W k) x y)
     worked-of y q = record {
-      leaves = leaves-same k n y _ (λ i _. here W k x y (q .1) i) (q .0);
-      below = λ u j h e. leaves-same j _ _ _ (coarser W k x y (q .1) j (omega arith)) (s .below u j h e);
-      before = λ j h e. before-same j _ _ _ (finer W k x y (q .1) j (omega arith)) (s .before j h (omega arith));
+      leaves = leaves-same k n y _ (λ i _. here f W k x y (q .1) i) (q .0);
+      below = λ u j h e. leaves-same j _ _ _ (coarser f W k x y (q .1) j (omega arith)) (s .below u j h e);
+      before = λ j h e. before-same j _ _ _ (finer f W k x y (q .1) j (omega arith)) (s .before j h (omega arith));
     }
 
-    work-made : Outcome Fits (Worked k n) (workedAt W H (suc l) k n x)
+    work-made : Outcome Fits (Worked k n) (workedAt f W H (suc l) k n x)
     unfolding workedAt hasSet
     work-made = rw (live .1, le-leb n (lastSet (sideAt k H)) there)
-        (onto-outcome _ _ _ _ (behind (stretchAt W k) x) _ (λ f. record { has = f k live .has; fit = f k live .fit })
+        (onto-outcome _ _ _ _ (behind (stretchAt f W k) x) _ (λ g. record { has = g k live .has; fit = g k live .fit })
         worked-of (go (ℕ-discrete k l)))
       where
         some : 0 < sideAt k H .length
         some = cells-are (sideAt k W) (sideAt k H) (live .1) .1
 
-        go : Dec (k ≡ l) → Outcome (FitAll k (sideAt k W) (sideAt k H) (B k))
-            (λ y. LeavesAt k n y × ((j : ℕ) → K .stretch (sideAt k W) ≤ j → y j ≡ m j)) (K .work (eqb (suc k) (suc l)) k (sideAt k W) (sideAt k H) n m)
-        go (yes e) = rw (eq-eqb (suc k) (suc l) (omega arith)) (laws .work-last k (sideAt k W) (sideAt k H) (B k) n m some there (before-here k n 4 x live s)
+        go : Dec (k ≡ l) → Outcome (FitAllBy (filterOf f) k (sideAt k W) (sideAt k H) (B k))
+            (λ y. LeavesAt k n y × ((j : ℕ) → backOf f .stretch (sideAt k W) ≤ j → y j ≡ m j)) (backOf f .work (eqb (suc k) (suc l)) k (sideAt k W) (sideAt k H) n m)
+        go (yes e) = rw (eq-eqb (suc k) (suc l) (omega arith)) (laws f .work-last k (sideAt k W) (sideAt k H) (B k) n m some there (before-here k n 4 x live s)
             (λ c. got-kept c (rw (eq-eqb (suc k) (suc l) (omega arith)) (all-kept c))))
-        go (no e) = rw (ne-eqb (suc k) (suc l) (λ z. e (omega arith))) (laws .work-on k (sideAt k W) (sideAt k H) (B k) n m some there
+        go (no e) = rw (ne-eqb (suc k) (suc l) (λ z. e (omega arith))) (laws f .work-on k (sideAt k W) (sideAt k H) (B k) n m some there
             (before-here k n 4 x live s) (λ c d. got-kept c (other-kept c d (eqb (suc k) (suc l)))) (low-row (omega (arith, e, live .0))))
 
   -- no band is before HL at a level that is not the last
@@ -371,16 +380,16 @@ module _ (W H : Side) (l : ℕ) (P : Rows) where
 
   -- ---- where a number of a level begins, which takes row r of its low-low part: finer levels wait, and coarser ones have what the row before needs
   record Down (k n r : ℕ) (x : ℕ → ℤ) : Type 0 where
-    before : (j : ℕ) → Live j → suc j ≤ k → Before j (waitsAt H k n (suc j)) (mem W j x)
-    done : (q : ℕ) → r ≡ suc q → (j : ℕ) → Live j → k ≤ j → LeavesAt j (needed H k (taking H k q) (suc j)) (mem W j x)
+    before : (j : ℕ) → Live j → suc j ≤ k → Before j (waitsAt f H k n (suc j)) (mem f W j x)
+    done : (q : ℕ) → r ≡ suc q → (j : ℕ) → Live j → k ≤ j → LeavesAt j (needed f H k (taking H k q) (suc j)) (mem f W j x)
 
   -- a set of a level: so, and the level has what the set needs of those before it
   record Begun (k n : ℕ) (x : ℕ → ℤ) : Type 0 where
-    own : Before k n (mem W k x)
-    before : (j : ℕ) → Live j → suc j ≤ k → Before j (waitsAt H (suc k) n (suc j)) (mem W j x)
-    done : (q : ℕ) → n ≡ suc q → hasRow H (suc k) q ≡ true → (j : ℕ) → Live j → suc k ≤ j → LeavesAt j (needed H (suc k) q (suc j)) (mem W j x)
+    own : Before k n (mem f W k x)
+    before : (j : ℕ) → Live j → suc j ≤ k → Before j (waitsAt f H (suc k) n (suc j)) (mem f W j x)
+    done : (q : ℕ) → n ≡ suc q → hasRow H (suc k) q ≡ true → (j : ℕ) → Live j → suc k ≤ j → LeavesAt j (needed f H (suc k) q (suc j)) (mem f W j x)
 
-  begun-before : (k n : ℕ) (x : ℕ → ℤ) → Begun k n x → (j : ℕ) → Live j → suc j ≤ suc k → Before j (waitsAt H (suc k) n (suc j)) (mem W j x)
+  begun-before : (k n : ℕ) (x : ℕ → ℤ) → Begun k n x → (j : ℕ) → Live j → suc j ≤ suc k → Before j (waitsAt f H (suc k) n (suc j)) (mem f W j x)
   begun-before k n x s j h e = elim (ℕ-discrete j k) [
     | yes z ↦ here-before k n j x z (s .own)
     | no z ↦ s .before j h (omega (arith, z))
@@ -388,7 +397,7 @@ module _ (W H : Side) (l : ℕ) (P : Rows) where
 
   abbrev startsAt : ℕ → ℕ → ℕ → Spot
   startsAt m k n = pick (leb (firstSet (sideAt k H) lo) n)
-      (dive m (suc k) (next (sideAt k W)) (next (sideAt k H)) n (n - firstSet (sideAt k H) lo)) (spot (suc k) n 1)
+      (dive f m (suc k) (next (sideAt k W)) (next (sideAt k H)) n (n - firstSet (sideAt k H) lo)) (spot (suc k) n 1)
 
   begun-down : (k n : ℕ) (x : ℕ → ℤ) → hasRow H (suc k) n ≡ true → Begun k n x → Down (suc k) n (rowOf H (suc k) n) x
   begun-down k n x t s = record {
@@ -408,7 +417,7 @@ module _ (W H : Side) (l : ℕ) (P : Rows) where
     got = λ j live q c kept less.
         let e : j ≡ k = omega arith in
         let z = kept-first (eqb (suc j) (suc l)) c kept less .1 in
-        laws .got-none (sideAt j W) (sideAt j H) (B j) n c (mem W j x)
+        laws f .got-none (sideAt j W) (sideAt j H) (B j) n c (mem f W j x)
         (subst (λ i. setHas (sideAt i W) (sideAt i H) c n ≡ false) (sym e)
         (no-low (sideAt k W) (sideAt k H) n (omega (arith, leb-false (firstSet (sideAt k H) lo) n t)) c (ap down z ∙ low-low)));
   }
@@ -417,19 +426,19 @@ module _ (W H : Side) (l : ℕ) (P : Rows) where
       low-low = unfold down in refl
 
   begin-holds : (m k n : ℕ) (x : ℕ → ℤ) → k ≤ l → Begun k n x →
-      ((n r : ℕ) → taking H (suc k) r ≡ n → Down (suc k) n r x → HeldAt (dive m (suc k) (sideAt (suc k) W) (sideAt (suc k) H) n r) x) →
+      ((n r : ℕ) → taking H (suc k) r ≡ n → Down (suc k) n r x → HeldAt (dive f m (suc k) (sideAt (suc k) W) (sideAt (suc k) H) n r) x) →
       HeldAt (startsAt m k n) x
   unfolding sideAt hasRow rowOf
-  begin-holds m k n x h s f = go (leb (firstSet (sideAt k H) lo) n) refl
+  begin-holds m k n x h s g = go (leb (firstSet (sideAt k H) lo) n) refl
     where
       go : (t : Bool) → leb (firstSet (sideAt k H) lo) n ≡ t →
-          HeldAt (pick t (dive m (suc k) (next (sideAt k W)) (next (sideAt k H)) n (n - firstSet (sideAt k H) lo)) (spot (suc k) n 1)) x
-      go true t = f n (n - firstSet (sideAt k H) lo) (taking-row H (suc k) n t) (begun-down k n x t s)
+          HeldAt (pick t (dive f m (suc k) (next (sideAt k W)) (next (sideAt k H)) n (n - firstSet (sideAt k H) lo)) (spot (suc k) n 1)) x
+      go true t = g n (n - firstSet (sideAt k H) lo) (taking-row H (suc k) n t) (begun-down k n x t s)
       go false t = begun-alone k n x h t s
 
   -- the level rests: no coarser level is asked
-  rests : (k n : ℕ) (x : ℕ → ℤ) → k ≤ l → ((j : ℕ) → Live j → suc j ≤ k → Before j (waitsAt H k n (suc j)) (mem W j x)) →
-      ((j : ℕ) → Live j → k ≤ j → LeavesAt j (needed H k n (suc j)) (mem W j x)) → Held k n 1 x
+  rests : (k n : ℕ) (x : ℕ → ℤ) → k ≤ l → ((j : ℕ) → Live j → suc j ≤ k → Before j (waitsAt f H k n (suc j)) (mem f W j x)) →
+      ((j : ℕ) → Live j → k ≤ j → LeavesAt j (needed f H k n (suc j)) (mem f W j x)) → Held k n 1 x
   rests k n x h before below = record {
     below = λ _ j live q. below j live q;
     before = before;
@@ -437,65 +446,65 @@ module _ (W H : Side) (l : ℕ) (P : Rows) where
   }
 
   -- the sets that row r opens, the first of them
-  down-begun : (k n r : ℕ) (x : ℕ → ℤ) → Live k → taking H k r ≡ n → opens ahead (sideAt k H) r ≡ true → Down k n r x →
-      Begun k (setsBefore ahead (sideAt k H) r) x
-  down-begun k n zero x live t o s = rw (before-zero ahead (sideAt k H)) (record {
-    own = laws .before-first (sideAt k W) (sideAt k H) (B k) (mem W k x);
-    before = λ j h e. subst (λ i. Before j i (mem W j x)) (sym (up j e)) (s .before j h e);
+  down-begun : (k n r : ℕ) (x : ℕ → ℤ) → Live k → taking H k r ≡ n → opens (ahead f) (sideAt k H) r ≡ true → Down k n r x →
+      Begun k (setsBefore (ahead f) (sideAt k H) r) x
+  down-begun k n zero x live t o s = rw (before-zero (ahead f) (sideAt k H)) (record {
+    own = laws f .before-first (sideAt k W) (sideAt k H) (B k) (mem f W k x);
+    before = λ j h e. subst (λ i. Before j i (mem f W j x)) (sym (up j e)) (s .before j h e);
     done = λ q e. absurd (omega arith);
   })
     where
-      up : (j : ℕ) → suc j ≤ k → waitsAt H (suc k) 0 (suc j) ≡ waitsAt H k n (suc j)
+      up : (j : ℕ) → suc j ≤ k → waitsAt f H (suc k) 0 (suc j) ≡ waitsAt f H k n (suc j)
       up j e =
-          waits-finer H k 0 (suc j) e
-          ∙ ap (λ i. waitsAt H k i (suc j)) (unfold waiting firstRow in t)
-  down-begun k n (suc q) x live t o s = rw (before-suc ahead (sideAt k H) q) (record {
-    own = subst (λ i. Before k i (mem W k x)) (sym (omega arith))
-        (laws .before-next k (sideAt k W) (sideAt k H) (B k) (setOf ahead S q) (mem W k x) (omega (arith, opened, set-there ahead S (suc q)))
-        (subst (λ i. LeavesAt k i (mem W k x)) from-q (s .done q refl k live (omega arith))));
-    before = λ j h e. subst (λ i. Before j i (mem W j x)) (sym (up j e)) (s .before j h e);
+          waits-finer f H k 0 (suc j) e
+          ∙ ap (λ i. waitsAt f H k i (suc j)) (unfold waiting firstRow in t)
+  down-begun k n (suc q) x live t o s = rw (before-suc (ahead f) (sideAt k H) q) (record {
+    own = subst (λ i. Before k i (mem f W k x)) (sym (omega arith))
+        (laws f .before-next k (sideAt k W) (sideAt k H) (B k) (setOf (ahead f) S q) (mem f W k x) (omega (arith, opened, set-there (ahead f) S (suc q)))
+        (subst (λ i. LeavesAt k i (mem f W k x)) from-q (s .done q refl k live (omega arith))));
+    before = λ j h e. subst (λ i. Before j i (mem f W j x)) (sym (up j e)) (s .before j h e);
     done = λ p e u j h b.
-        subst (λ i. LeavesAt j i (mem W j x))
-        (needed-on H k (taking H k q) (setOf ahead S q) from-q (suc j) (omega arith) ∙ ap (λ i. needed H (suc k) i (suc j)) (omega arith))
+        subst (λ i. LeavesAt j i (mem f W j x))
+        (needed-on f H k (taking H k q) (setOf (ahead f) S q) from-q (suc j) (omega arith) ∙ ap (λ i. needed f H (suc k) i (suc j)) (omega arith))
         (s .done q refl j h (omega arith));
   })
     where
       S : Side
       S = sideAt k H
 
-      opened : setOf ahead S q + 1 ≤ setOf ahead S (suc q)
-      opened = omega (arith, opens-yes S (suc q) o, before-suc ahead S q)
+      opened : setOf (ahead f) S q + 1 ≤ setOf (ahead f) S (suc q)
+      opened = omega (arith, opens-yes f S (suc q) o, before-suc (ahead f) S q)
 
-      from-q : needed H k (taking H k q) (suc k) ≡ setOf ahead S q
-      from-q = needed-from H k (taking H k q) ∙ ap (setOf ahead S) (row-taking H k q)
+      from-q : needed f H k (taking H k q) (suc k) ≡ setOf (ahead f) S q
+      from-q = needed-from f H k (taking H k q) ∙ ap (setOf (ahead f) S) (row-taking H k q)
 
-      up : (j : ℕ) → suc j ≤ k → waitsAt H (suc k) (setOf ahead S q + 1) (suc j) ≡ waitsAt H k n (suc j)
+      up : (j : ℕ) → suc j ≤ k → waitsAt f H (suc k) (setOf (ahead f) S q + 1) (suc j) ≡ waitsAt f H k n (suc j)
       up j e =
-          waits-finer H k (setOf ahead S q + 1) (suc j) e
-          ∙ ap (λ i. waitsAt H k i (suc j))
-          (unfold waiting in ap (taking H k) (ap (firstRow S) (sym (before-suc ahead S q)) ∙ opened-row S (suc q) o) ∙ t)
+          waits-finer f H k (setOf (ahead f) S q + 1) (suc j) e
+          ∙ ap (λ i. waitsAt f H k i (suc j))
+          (unfold waiting in ap (taking H k) (ap (firstRow f S) (sym (before-suc (ahead f) S q)) ∙ opened-row f S (suc q) o) ∙ t)
 
   -- a row that opens none needs what the row before it does
-  down-rests : (k n r : ℕ) (x : ℕ → ℤ) → k ≤ l → taking H k r ≡ n → opens ahead (sideAt k H) r ≡ false → Down k n r x → Held k n 1 x
-  down-rests k n zero x h t o s = absurd (not-both (sym (opens-first ahead (sideAt k H)) ∙ o))
+  down-rests : (k n r : ℕ) (x : ℕ → ℤ) → k ≤ l → taking H k r ≡ n → opens (ahead f) (sideAt k H) r ≡ false → Down k n r x → Held k n 1 x
+  down-rests k n zero x h t o s = absurd (not-both (sym (opens-first (ahead f) (sideAt k H)) ∙ o))
   down-rests k n (suc q) x h t o s = rests k n x h (s .before)
-      (λ j live b. subst (λ i. LeavesAt j i (mem W j x)) (same (suc j) (omega arith)) (s .done q refl j live b))
+      (λ j live b. subst (λ i. LeavesAt j i (mem f W j x)) (same (suc j) (omega arith)) (s .done q refl j live b))
     where
       S : Side
       S = sideAt k H
 
-      at-q : needed H k (taking H k q) (suc k) ≡ setOf ahead S q
-      at-q = needed-from H k (taking H k q) ∙ ap (setOf ahead S) (row-taking H k q)
+      at-q : needed f H k (taking H k q) (suc k) ≡ setOf (ahead f) S q
+      at-q = needed-from f H k (taking H k q) ∙ ap (setOf (ahead f) S) (row-taking H k q)
 
-      at-n : needed H k n (suc k) ≡ setOf ahead S q
+      at-n : needed f H k n (suc k) ≡ setOf (ahead f) S q
       at-n =
-          needed-from H k n ∙ ap (λ i. setOf ahead S (rowOf H k i)) (sym t) ∙ ap (setOf ahead S) (row-taking H k (suc q))
-          ∙ same-set ahead S q o
+          needed-from f H k n ∙ ap (λ i. setOf (ahead f) S (rowOf H k i)) (sym t) ∙ ap (setOf (ahead f) S) (row-taking H k (suc q))
+          ∙ same-set (ahead f) S q o
 
-      same : (j : ℕ) → suc k ≤ j → needed H k (taking H k q) j ≡ needed H k n j
-      same j b = needed-on H k (taking H k q) _ at-q j b ∙ sym (needed-on H k n _ at-n j b)
+      same : (j : ℕ) → suc k ≤ j → needed f H k (taking H k q) j ≡ needed f H k n j
+      same j b = needed-on f H k (taking H k q) _ at-q j b ∙ sym (needed-on f H k n _ at-n j b)
 
-  dive-holds : (m k n r : ℕ) (x : ℕ → ℤ) → k + m ≡ suc l → taking H k r ≡ n → Down k n r x → HeldAt (dive m k (sideAt k W) (sideAt k H) n r) x
+  dive-holds : (m k n r : ℕ) (x : ℕ → ℤ) → k + m ≡ suc l → taking H k r ≡ n → Down k n r x → HeldAt (dive f m k (sideAt k W) (sideAt k H) n r) x
   unfolding dive
   dive-holds zero k n r x e t s = record {
     below = λ _ j live q. absurd (omega (arith, live .0));
@@ -503,31 +512,31 @@ module _ (W H : Side) (l : ℕ) (P : Rows) where
     got = λ j live q c kept less. absurd (omega arith);
   }
   dive-holds (suc m) k n r x e t s =
-      go (hasCells (sideAt k W) (sideAt k H)) refl (opens ahead (sideAt k H) r) refl (λ n r t s. dive-holds m (suc k) n r x (omega arith) t s)
+      go (hasCells (sideAt k W) (sideAt k H)) refl (opens (ahead f) (sideAt k H) r) refl (λ n r t s. dive-holds m (suc k) n r x (omega arith) t s)
     where
-      go : (c : Bool) → hasCells (sideAt k W) (sideAt k H) ≡ c → (o : Bool) → opens ahead (sideAt k H) r ≡ o →
-          ((n r : ℕ) → taking H (suc k) r ≡ n → Down (suc k) n r x → HeldAt (dive m (suc k) (sideAt (suc k) W) (sideAt (suc k) H) n r) x) →
-          HeldAt (pick (both c o) (startsAt m k (setsBefore ahead (sideAt k H) r)) (spot k n 1)) x
+      go : (c : Bool) → hasCells (sideAt k W) (sideAt k H) ≡ c → (o : Bool) → opens (ahead f) (sideAt k H) r ≡ o →
+          ((n r : ℕ) → taking H (suc k) r ≡ n → Down (suc k) n r x → HeldAt (dive f m (suc k) (sideAt (suc k) W) (sideAt (suc k) H) n r) x) →
+          HeldAt (pick (both c o) (startsAt m k (setsBefore (ahead f) (sideAt k H) r)) (spot k n 1)) x
       go false c o _ ih = rests k n x (omega arith) (s .before) (λ j live q. absurd (empty-past k j c q live))
       go true c false o ih = down-rests k n r x (omega arith) t o s
       go true c true o ih =
-          begin-holds m k (setsBefore ahead (sideAt k H) r) x (omega arith) (down-begun k n r x (omega arith, c) t o s) ih
+          begin-holds m k (setsBefore (ahead f) (sideAt k H) r) x (omega arith) (down-begun k n r x (omega arith, c) t o s) ih
 
   -- ---- the first: nothing is needed
-  pub first-holds : (x : ℕ → ℤ) → HeldAt (enter W H (suc l) 0) x
+  pub first-holds : (x : ℕ → ℤ) → HeldAt (enter f W H (suc l) 0) x
   unfolding enter sideAt
   first-holds x =
       dive-holds (suc l) 0 0 0 x (omega arith) (unfold taking in refl)
       (record { before = λ j h e. absurd (omega arith); done = λ q e. absurd (omega arith) })
 
   -- ---- a row drawn: the next one begins
-  pub enter-holds : (d b : ℕ) (x : ℕ → ℤ) → Held 0 d b x → HeldAt (enter W H (suc l) (suc d)) x
+  pub enter-holds : (d b : ℕ) (x : ℕ → ℤ) → Held 0 d b x → HeldAt (enter f W H (suc l) (suc d)) x
   unfolding enter sideAt
   enter-holds d b x s =
       dive-holds (suc l) 0 (suc d) (suc d) x (omega arith) (unfold taking in refl)
       (record {
         before = λ j h e. absurd (omega arith);
-        done = λ q e j h f. subst (λ i. LeavesAt j (needed H 0 i (suc j)) (mem W j x)) (row-q q e) (s .below (unfold hasRow in refl) j h f);
+        done = λ q e j h g. subst (λ i. LeavesAt j (needed f H 0 i (suc j)) (mem f W j x)) (row-q q e) (s .below (unfold hasRow in refl) j h g);
       })
     where
       row-q : (q : ℕ) → suc d ≡ suc q → d ≡ taking H 0 q
@@ -535,57 +544,57 @@ module _ (W H : Side) (l : ℕ) (P : Rows) where
 
   -- ---- past a set that is worked out
   -- a set without a low row that makes a row is of a level whose next is empty
-  lone : (k n j : ℕ) → n ≤ lastSet (sideAt k H) → makes (sideAt k H) n ≡ true → hasRow H (suc k) n ≡ false → Live j → suc k ≤ j → ⊥
+  lone : (k n j : ℕ) → n ≤ lastSet (sideAt k H) → makes f (sideAt k H) n ≡ true → hasRow H (suc k) n ≡ false → Live j → suc k ≤ j → ⊥
   unfolding hasRow
   lone k n j there e t live q =
       let S = sideAt k H in
       let b = leb-false (firstSet S lo) n t in
       let c = cells-are (sideAt (suc k) W) (sideAt (suc k) H) (cells-before W H (suc k) j q (live .1)) .1 in
-      omega (arith, b, c, odd-first S n (omega (arith, b, first-low S)) e, first-low S, side-long k H, low-is S, last-is S)
+      omega (arith, b, c, odd-first f S n (omega (arith, b, first-low S)) e, first-low S, side-long k H, low-is S, last-is S)
 
-  makes-set : (k n : ℕ) → n ≤ lastSet (sideAt k H) → makes (sideAt k H) n ≡ true → needed H k (waiting H k n) (suc k) ≡ n
+  makes-set : (k n : ℕ) → n ≤ lastSet (sideAt k H) → makes f (sideAt k H) n ≡ true → needed f H k (waiting f H k n) (suc k) ≡ n
   makes-set k n there e =
-      needed-from H k (waiting H k n) ∙ ap (setOf ahead (sideAt k H)) (waiting-row H k n)
-      ∙ omega (arith, makes-yes (sideAt k H) n e, row-makes (sideAt k H) n there)
+      needed-from f H k (waiting f H k n) ∙ ap (setOf (ahead f) (sideAt k H)) (waiting-row f H k n)
+      ∙ omega (arith, makes-yes f (sideAt k H) n e, row-makes f (sideAt k H) n there)
 
-  up-holds : (k n : ℕ) (z : ℕ → ℤ) → k ≤ l → n ≤ lastSet (sideAt k H) → makes (sideAt k H) n ≡ true → Worked k n z → Held k (waiting H k n) 1 z
-  up-holds k n z h there e s = rests k (waiting H k n) z h
-      (λ j live q. subst (λ i. Before j i (mem W j z)) (waits-finer H k n (suc j) q) (s .before j live q))
+  up-holds : (k n : ℕ) (z : ℕ → ℤ) → k ≤ l → n ≤ lastSet (sideAt k H) → makes f (sideAt k H) n ≡ true → Worked k n z → Held k (waiting f H k n) 1 z
+  up-holds k n z h there e s = rests k (waiting f H k n) z h
+      (λ j live q. subst (λ i. Before j i (mem f W j z)) (waits-finer f H k n (suc j) q) (s .before j live q))
       (λ j live q. elim (ℕ-discrete j k) [
-        | yes y ↦ subst (λ i. LeavesAt i (needed H k (waiting H k n) (suc i)) (mem W i z)) (sym y)
-            (subst (λ i. LeavesAt k i (mem W k z)) (sym (makes-set k n there e)) (s .leaves))
-        | no y ↦ subst (λ i. LeavesAt j i (mem W j z)) (sym (needed-on H k (waiting H k n) n (makes-set k n there e) (suc j) (omega arith)))
+        | yes y ↦ subst (λ i. LeavesAt i (needed f H k (waiting f H k n) (suc i)) (mem f W i z)) (sym y)
+            (subst (λ i. LeavesAt k i (mem f W k z)) (sym (makes-set k n there e)) (s .leaves))
+        | no y ↦ subst (λ i. LeavesAt j i (mem f W j z)) (sym (needed-on f H k (waiting f H k n) n (makes-set k n there e) (suc j) (omega arith)))
             (coarse (hasRow H (suc k) n) refl j live (omega (arith, y)))
       ])
     where
-      coarse : (t : Bool) → hasRow H (suc k) n ≡ t → (j : ℕ) → Live j → suc k ≤ j → LeavesAt j (needed H (suc k) n (suc j)) (mem W j z)
+      coarse : (t : Bool) → hasRow H (suc k) n ≡ t → (j : ℕ) → Live j → suc k ≤ j → LeavesAt j (needed f H (suc k) n (suc j)) (mem f W j z)
       coarse true t j live q = s .below t j live q
       coarse false t j live q = absurd (lone k n j there e t live q)
 
-  next-begun : (k n : ℕ) (z : ℕ → ℤ) → makes (sideAt k H) n ≡ false → Worked k n z → Begun k (suc n) z
+  next-begun : (k n : ℕ) (z : ℕ → ℤ) → makes f (sideAt k H) n ≡ false → Worked k n z → Begun k (suc n) z
   unfolding waiting
   next-begun k n z e s = record {
-    own = laws .before-next k (sideAt k W) (sideAt k H) (B k) n (mem W k z)
-        (omega (arith, makes-not (sideAt k H) n e, set-there ahead (sideAt k H) (firstRow (sideAt k H) n))) (s .leaves);
-    before = λ j h q. subst (λ i. Before j i (mem W j z)) (up j q) (s .before j h q);
+    own = laws f .before-next k (sideAt k W) (sideAt k H) (B k) n (mem f W k z)
+        (omega (arith, makes-not f (sideAt k H) n e, set-there (ahead f) (sideAt k H) (firstRow f (sideAt k H) n))) (s .leaves);
+    before = λ j h q. subst (λ i. Before j i (mem f W j z)) (up j q) (s .before j h q);
     done = λ q y t j h b. let w : q ≡ n = omega arith in
-        subst (λ i. LeavesAt j (needed H (suc k) i (suc j)) (mem W j z)) (sym w) (s .below (subst (λ i. hasRow H (suc k) i ≡ true) w t) j h b);
+        subst (λ i. LeavesAt j (needed f H (suc k) i (suc j)) (mem f W j z)) (sym w) (s .below (subst (λ i. hasRow H (suc k) i ≡ true) w t) j h b);
   }
     where
-      up : (j : ℕ) → suc j ≤ k → waitsAt H (suc k) n (suc j) ≡ waitsAt H (suc k) (suc n) (suc j)
+      up : (j : ℕ) → suc j ≤ k → waitsAt f H (suc k) n (suc j) ≡ waitsAt f H (suc k) (suc n) (suc j)
       up j q =
-          waits-finer H k n (suc j) q
-          ∙ ap (λ i. waitsAt H k i (suc j)) (ap (taking H k) (sym (row-next (sideAt k H) n e)))
-          ∙ sym (waits-finer H k (suc n) (suc j) q)
+          waits-finer f H k n (suc j) q
+          ∙ ap (λ i. waitsAt f H k i (suc j)) (ap (taking H k) (sym (row-next f (sideAt k H) n e)))
+          ∙ sym (waits-finer f H k (suc n) (suc j) q)
 
-  past-holds : (k n : ℕ) (z : ℕ → ℤ) → k ≤ l → n ≤ lastSet (sideAt k H) → Worked k n z → HeldAt (past W H (suc l) k n) z
+  past-holds : (k n : ℕ) (z : ℕ → ℤ) → k ≤ l → n ≤ lastSet (sideAt k H) → Worked k n z → HeldAt (past f W H (suc l) k n) z
   unfolding past
-  past-holds k n z h there s = go (makes (sideAt k H) n) refl
+  past-holds k n z h there s = go (makes f (sideAt k H) n) refl
     where
-      go : (t : Bool) → makes (sideAt k H) n ≡ t → HeldAt (pick t (spot k (waiting H k n) 1) (begins W H (suc l) (suc k) (suc n))) z
+      go : (t : Bool) → makes f (sideAt k H) n ≡ t → HeldAt (pick t (spot k (waiting f H k n) 1) (begins f W H (suc l) (suc k) (suc n))) z
       go true e = up-holds k n z h there e s
       go false e =
-          subst (λ q. HeldAt q z) (sym (begins-is W H l (l - k) k (suc n) (omega arith)))
+          subst (λ q. HeldAt q z) (sym (begins-is f W H l (l - k) k (suc n) (omega arith)))
           (begin-holds (l - k) k (suc n) z h (next-begun k n z e s) (λ n r t q. dive-holds (l - k) (suc k) n r z (omega arith) t q))
 
   -- ---- the sets that wait
@@ -606,22 +615,22 @@ module _ (W H : Side) (l : ℕ) (P : Rows) where
   holds-up : (k n b : ℕ) (x : ℕ → ℤ) (c : Band) (cs : List Band) → look (eqb (suc k) (suc l)) (sideAt k W) (sideAt k H) n b ≡ c ∷ cs →
       Held (suc k) n b x → Held (suc k) n (code c) x
   unfolding look firstCode
-  holds-up k n b x c cs e s = holds-more k n b (code c) x (λ f u less. elim (decLt (code f) b) [
+  holds-up k n b x c cs e s = holds-more k n b (code c) x (λ g u less. elim (decLt (code g) b) [
     | yes q ↦ q
     | no q ↦ absurd (omega (
       arith,
-      first-le (asked (eqb (suc k) (suc l)) (sideAt k W) (sideAt k H) n) b f u (omega arith),
+      first-le (asked (eqb (suc k) (suc l)) (sideAt k W) (sideAt k H) n) b g u (omega arith),
       ap firstCode e,
     ))
   ]) s
 
-  next-le : (lev n b : ℕ) → nextUp W H (suc l) lev n b .level ≤ lev
+  next-le : (lev n b : ℕ) → nextUp f W H (suc l) lev n b .level ≤ lev
   unfolding nextUp
   next-le zero n b = omega arith
-  next-le (suc k) n b = go (ltb (bandAt W H (suc l) k n b) 4) (next-le k (waiting H k n) 1)
+  next-le (suc k) n b = go (ltb (bandAt W H (suc l) k n b) 4) (next-le k (waiting f H k n) 1)
     where
-      go : (t : Bool) → nextUp W H (suc l) k (waiting H k n) 1 .level ≤ k →
-          pick t (spot (suc k) n (bandAt W H (suc l) k n b)) (nextUp W H (suc l) k (waiting H k n) 1) .level ≤ suc k
+      go : (t : Bool) → nextUp f W H (suc l) k (waiting f H k n) 1 .level ≤ k →
+          pick t (spot (suc k) n (bandAt W H (suc l) k n b)) (nextUp f W H (suc l) k (waiting f H k n) 1) .level ≤ suc k
       go true h = omega arith
       go false h = omega arith
 
@@ -633,8 +642,8 @@ module _ (W H : Side) (l : ℕ) (P : Rows) where
   abbrev pub HeldNext : ℕ → Spot → (ℕ → ℤ) → Type 0
   HeldNext d q = Held (q .level) (numberAt d (q .level) (q .set)) (q .band)
 
-  pub settle-holds : (d lev n b : ℕ) (x : ℕ → ℤ) → lev ≤ suc l → Ready W H (suc l) d (spot lev n b) → Held lev n b x →
-      Outcome Fits (HeldNext d (nextUp W H (suc l) lev n b)) (settled W H (suc l) (nextUp W H (suc l) lev n b .level) lev n x)
+  pub settle-holds : (d lev n b : ℕ) (x : ℕ → ℤ) → lev ≤ suc l → Ready f W H (suc l) d (spot lev n b) → Held lev n b x →
+      Outcome Fits (HeldNext d (nextUp f W H (suc l) lev n b)) (settled f W H (suc l) (nextUp f W H (suc l) lev n b .level) lev n x)
   unfolding nextUp settled bandAt nextBand look firstCode
   settle-holds d zero n b x h r s = goes x (subst (λ i. Held 0 i 4 x) (top-is r) (record {
     below = s .below;
@@ -642,46 +651,46 @@ module _ (W H : Side) (l : ℕ) (P : Rows) where
     got = λ k _ e c _ _. absurd (omega arith);
   }))
     where
-      top-is : Ready W H (suc l) d (spot 0 n b) → n ≡ d
+      top-is : Ready f W H (suc l) d (spot 0 n b) → n ≡ d
       top-is r = unfold waitsAt in r .top
   settle-holds d (suc k) n b x h r s = go (those p (bandsFrom b)) refl
-      (λ z y. settle-holds d k (waiting H k n) 1 y (omega arith) (ready-up W H l d k n b (omega arith) r z))
+      (λ z y. settle-holds d k (waiting f H k n) 1 y (omega arith) (ready-up f W H l d k n b (omega arith) r z))
     where
       p : Band → Bool
       p = asked (eqb (suc k) (suc l)) (sideAt k W) (sideAt k H) n
 
       to : Spot
-      to = nextUp W H (suc l) k (waiting H k n) 1
+      to = nextUp f W H (suc l) k (waiting f H k n) 1
 
       live : Live k
       live = (omega arith, r .cells k refl)
 
       on : those p (bandsFrom b) ≡ [] →
-          ((y : ℕ → ℤ) → Held k (waiting H k n) 1 y → Outcome Fits (HeldNext d to) (settled W H (suc l) (to .level) k (waiting H k n) y)) →
+          ((y : ℕ → ℤ) → Held k (waiting f H k n) 1 y → Outcome Fits (HeldNext d to) (settled f W H (suc l) (to .level) k (waiting f H k n) y)) →
           Outcome Fits (HeldNext d to)
-          (pick (ltb (to .level) (suc k)) (bind (workedAt W H (suc l) k n x) (settled W H (suc l) (to .level) k (waiting H k n))) (passed x))
-      on e ih = rw (lt-ltb (to .level) (suc k) (omega (arith, next-le k (waiting H k n) 1)))
-          (bind-outcome (workedAt W H (suc l) k n x) _
+          (pick (ltb (to .level) (suc k)) (bind (workedAt f W H (suc l) k n x) (settled f W H (suc l) (to .level) k (waiting f H k n))) (passed x))
+      on e ih = rw (lt-ltb (to .level) (suc k) (omega (arith, next-le k (waiting f H k n) 1)))
+          (bind-outcome (workedAt f W H (suc l) k n x) _
           (with-tested _ _ _ _ (λ y q. up-holds k n y (omega arith) (r .there k refl) (r .asks k refl (ap firstCode e)) q)
           (work-made k n x live (r .there k refl) (holds-all k n b x e s))) ih)
 
       go : (xs : List Band) → those p (bandsFrom b) ≡ xs →
           (firstCode (those p (bandsFrom b)) ≡ 4 →
-          (y : ℕ → ℤ) → Held k (waiting H k n) 1 y → Outcome Fits (HeldNext d to) (settled W H (suc l) (to .level) k (waiting H k n) y)) →
+          (y : ℕ → ℤ) → Held k (waiting f H k n) 1 y → Outcome Fits (HeldNext d to) (settled f W H (suc l) (to .level) k (waiting f H k n) y)) →
           Outcome Fits (HeldNext d (pick (ltb (firstCode xs) 4) (spot (suc k) n (firstCode xs)) to))
           (pick (ltb (pick (ltb (firstCode xs) 4) (spot (suc k) n (firstCode xs)) to .level) (suc k))
-          (bind (workedAt W H (suc l) k n x)
-          (settled W H (suc l) (pick (ltb (firstCode xs) 4) (spot (suc k) n (firstCode xs)) to .level) k (waiting H k n))) (passed x))
+          (bind (workedAt f W H (suc l) k n x)
+          (settled f W H (suc l) (pick (ltb (firstCode xs) 4) (spot (suc k) n (firstCode xs)) to .level) k (waiting f H k n))) (passed x))
       go [] e ih = on e (ih (ap firstCode e))
       go (c ∷ cs) e ih = rw (lt-ltb (code c) 4 (code-lt c), le-ltb (suc k) (suc k) (omega arith)) (goes x (holds-up k n b x c cs e s))
 
   -- ---- a row that is wanted, fed: the place after it, and what its set leaves if it completes it
   abbrev pub FedHeld : ℕ → ℕ → ℕ → (ℕ → ℤ) → Type 0
-  FedHeld k n c z = HeldAt (beyond W H (suc l) k n c) z × (lastOfSet W H (suc l) k n c ≡ true → Worked k n z)
+  FedHeld k n c z = HeldAt (beyond f W H (suc l) k n c) z × (lastOfSet W H (suc l) k n c ≡ true → Worked k n z)
 
-  pub fed-holds : (d k n : ℕ) (c : Band) (v x : ℕ → ℤ) → k ≤ l → Ready W H (suc l) d (spot (suc k) n (code c)) →
+  pub fed-holds : (d k n : ℕ) (c : Band) (v x : ℕ → ℤ) → k ≤ l → Ready f W H (suc l) d (spot (suc k) n (code c)) →
       ((i : ℕ) → i < count (across c) (sideAt k W) → v i ≡ B k c (setRow (sideAt k H) c n) i) → Held (suc k) n (code c) x →
-      Outcome Fits (FedHeld k n (code c)) (fedOn W H (suc l) (suc k) n (code c) v x)
+      Outcome Fits (FedHeld k n (code c)) (fedOn f W H (suc l) (suc k) n (code c) v x)
   unfolding fedOn finished beyond
   fed-holds d k n c v x h r row s = go (lastOfSet W H (suc l) k n (code c)) refl
     where
@@ -689,14 +698,14 @@ module _ (W H : Side) (l : ℕ) (P : Rows) where
       live = (h, r .cells k refl)
 
       y : ℕ → ℤ
-      y = fedAt W H k n (code c) v x
+      y = fedAt f W H k n (code c) v x
 
       go : (t : Bool) → lastOfSet W H (suc l) k n (code c) ≡ t →
-          Outcome Fits (λ z. HeldAt (pick t (past W H (suc l) k n) (spot (suc k) n (code c + 1))) z × (t ≡ true → Worked k n z))
-          (pick t (workedAt W H (suc l) k n y) (passed y))
+          Outcome Fits (λ z. HeldAt (pick t (past f W H (suc l) k n) (spot (suc k) n (code c + 1))) z × (t ≡ true → Worked k n z))
+          (pick t (workedAt f W H (suc l) k n y) (passed y))
       go true e = with-tested _ _ _ _ (λ z q. (past-holds k n z h (r .there k refl) q, λ _. q))
           (work-made k n y live (r .there k refl)
-          (holds-all k n (code c + 1) y (last-none W H l k n (code c) e) (feed-holds k n c v x live row s)))
+          (holds-all k n (code c + 1) y (last-none f W H l k n (code c) e) (feed-holds k n c v x live row s)))
       go false e = goes y (feed-holds k n c v x live row s, λ z. absurd (not-both (sym z)))
 
   -- ---- the row that can be drawn
@@ -705,28 +714,27 @@ module _ (W H : Side) (l : ℕ) (P : Rows) where
     unfolding sideAt
     top = (omega arith, cells-yes W H wide (omega arith))
 
-    top-leaves : LeavesAt 0 (needed H 0 d 1) (mem W 0 x)
+    top-leaves : LeavesAt 0 (needed f H 0 d 1) (mem f W 0 x)
     top-leaves = s .below (unfold hasRow in refl) 0 top (omega arith)
 
-    top-set : setOf ahead H d ≡ needed H 0 d 1
+    top-set : setOf (ahead f) H d ≡ needed f H 0 d 1
     unfolding sideAt rowOf
-    top-set = sym (needed-from H 0 d)
+    top-set = sym (needed-from f H 0 d)
 
-    pub height-made : (c : ℕ) → c < W .length → K .made W (H .start) d x c ≡ partAt W H P (suc l) 0 d c
-    unfolding sideAt ahead
+    pub height-made : (c : ℕ) → c < W .length → backOf f .made W (H .start) d x c ≡ partAt f W H P (suc l) 0 d c
+    unfolding sideAt
     height-made c p =
-        ap (λ (z : ℕ → ℤ). K .made W (H .start) d z c) (sym (first-mem W x))
-        ∙ laws .made-is 0 W H (B 0) (needed H 0 d 1) (mem W 0 x) top-leaves d due top-set c p
+        ap (λ (z : ℕ → ℤ). backOf f .made W (H .start) d z c) (sym (first-mem f W x))
+        ∙ set-made f 0 W H (B 0) (needed f H 0 d 1) (mem f W 0 x) (top-leaves .0) d due top-set c p
 
-    pub height-fit : (c : ℕ) → c < W .length → valueFits fiveThreeFilter 0 (partAt W H P (suc l) 0 d c) ≡ true
-    unfolding sideAt ahead
-    height-fit = laws .made-fits 0 W H (B 0) (needed H 0 d 1) (mem W 0 x) top-leaves d due top-set
+    pub height-fit : (c : ℕ) → c < W .length → valueFits (filterOf f) 0 (partAt f W H P (suc l) 0 d c) ≡ true
+    unfolding sideAt
+    height-fit = set-fits f 0 W H (B 0) (needed f H 0 d 1) (mem f W 0 x) (top-leaves .0) d due top-set
 
   -- ---- the sets that were worked out
-  pub sets-tested : (d b : ℕ) (x : ℕ → ℤ) → Held 0 d b x → (k : ℕ) → Live k → (m : ℕ) → m ≤ needed H 0 d (suc k) →
-      SetHas ahead (sideAt k W) (sideAt k H) (B k) m
-  unfolding ahead
+  pub sets-tested : (d b : ℕ) (x : ℕ → ℤ) → Held 0 d b x → (k : ℕ) → Live k → (m : ℕ) → m ≤ needed f H 0 d (suc k) →
+      SetHasBy (filterOf f) (ahead f) (sideAt k W) (sideAt k H) (B k) m
   sets-tested d b x s k live m h =
       let q = s .below (unfold hasRow in refl) k live (omega arith) in
-      tested-next (sideAt k W) (sideAt k H) (B k) (needed H 0 d (suc k)) (q .1)
-      (laws .made-has k (sideAt k W) (sideAt k H) (B k) (needed H 0 d (suc k)) (mem W k x) q) m (omega arith)
+      tested-next f (sideAt k W) (sideAt k H) (B k) (needed f H 0 d (suc k)) (q .1)
+      (set-has f k (sideAt k W) (sideAt k H) (B k) (needed f H 0 d (suc k)) (mem f W k x) (q .0)) m (omega arith)

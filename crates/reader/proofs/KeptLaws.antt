@@ -12,11 +12,13 @@ use Rattle.numbers.proofs.Parts.{splice-past}
 use Rattle.lifting.specs.Grid.{Side, count}
 use Rattle.wavelet.specs.Bands.{across, down}
 use Rattle.wavelet.specs.Levels.{sideAt}
-use Rattle.wavelet.specs.Store.{storeLength}
-use Rattle.level.specs.Slots.{rowOfSet, halfPlace, bandFed, rowPlace}
+use Rattle.level.specs.Slots.{rowOfSet, halfPlace}
 use Rattle.level.specs.Rebuilding.{Kept}
-use Rattle.level.proofs.SlotLaws.{slot-room, place-is}
 use Rattle.level.proofs.RowsIn.{half-end}
+use Rattle.nine_seven.specs.Filters.{filterOf}
+use Rattle.filters.specs.Figures.{storeBy}
+use Rattle.filters.specs.Back.{rowPlaceOf}
+use Rattle.filters.proofs.BackLaws.{back-feed, place-room}
 use Rattle.reader.specs.declared.walk.Level.{Level}
 use Rattle.reader.specs.Asked.{named}
 use Rattle.reader.specs.Store.{stretchAt, from, fedAt}
@@ -25,37 +27,38 @@ use Rattle.reader.proofs.StoreLaws.{stretch-suc, stretch-is}
 use Rattle.reader.proofs.PartLaws.{behind-past, from-at, at-rest, at-put-rest, work-room}
 
 -- ---- the stretch within the store
-pub part-kept : (W H : Side) (d k L : ℕ) (l : Level) (is : IsLevel W H d k l) (n : ℕ) (s ys : List ℤ) → k < L → l .start + n ≡ length s → length ys ≡ n →
-    Kept (4 * l .width) (at (midOf (l .start) n s)) (at ys) → Kept (storeLength W L) (at s) (at (putMid (l .start) n s ys))
-part-kept W H d k L l is n s ys h whole long a =
-    let room = work-room W H d k l is L h in
+pub part-kept : (f : ℕ) (W H : Side) (d k L : ℕ) (l : Level) (is : IsLevel f W H d k l) (n : ℕ) (s ys : List ℤ) → k < L → l .start + n ≡ length s → length ys ≡ n →
+    Kept (filterOf f .rows * l .width) (at (midOf (l .start) n s)) (at ys) → Kept (storeBy f W L) (at s) (at (putMid (l .start) n s ys))
+part-kept f W H d k L l is n s ys h whole long a =
+    let room = work-room f W H d k l is L h in
     let b = l .start in
     record {
       same = λ j le.
           let back : b + (j - b) ≡ j = omega arith in
-          ap (λ (f : ℕ → ℤ). f j) (at-put-rest b n s whole ys long)
+          ap (λ (u : ℕ → ℤ). u j) (at-put-rest b n s whole ys long)
           ∙ behind-past b (at s) (at ys) j (omega arith)
           ∙ a .same (j - b) (omega arith)
-          ∙ ap (λ (f : ℕ → ℤ). f (j - b)) (at-rest b n s whole)
+          ∙ ap (λ (u : ℕ → ℤ). u (j - b)) (at-rest b n s whole)
           ∙ from-at b (at s) (j - b)
           ∙ ap (at s) back;
     }
 
 -- a band row fed
-pub fed-kept : (W H : Side) (k n c : ℕ) (v x : ℕ → ℤ) → Kept (storeLength W (k + 1)) x (fedAt W H k n c v x)
-unfolding fedAt bandFed
-fed-kept W H k n c v x =
+pub fed-kept : (f : ℕ) (W H : Side) (k n c : ℕ) (v x : ℕ → ℤ) → Kept (storeBy f W (k + 1)) x (fedAt f W H k n c v x)
+unfolding fedAt
+fed-kept f W H k n c v x =
     let S = sideAt k W in
     let r = rowOfSet (down (named c)) n in
-    let a = stretchAt W k in
+    let a = stretchAt f W k in
     let half = half-end (across (named c)) S in
-    let next : storeLength W (k + 1) ≡ a + 4 * S .length = sym (stretch-is W (k + 1)) ∙ ap (stretchAt W) (add-one k) ∙ stretch-suc W k in
+    let next : storeBy f W (k + 1) ≡ a + filterOf f .rows * S .length = sym (stretch-is f W (k + 1)) ∙ ap (stretchAt f W) (add-one k) ∙ stretch-suc f W k in
     record {
       same = λ j le.
           let back : a + (j - a) ≡ j = omega arith in
           behind-past a x _ j (omega arith)
-          ∙ splice-past (rowPlace (S .length) r + halfPlace (across (named c)) S) (count (across (named c)) S) v (from a x) (j - a)
-          (omega (arith, place-is (S .length) r, slot-room (S .length) r))
+          ∙ ap (λ (u : ℕ → ℤ). u (j - a)) (back-feed f S (sideAt k H .start) (named c) n v (from a x))
+          ∙ splice-past (rowPlaceOf f (S .length) r + halfPlace (across (named c)) S) (count (across (named c)) S) v (from a x) (j - a)
+          (omega (arith, place-room f (S .length) r))
           ∙ from-at a x (j - a)
           ∙ ap x back;
     }

@@ -13,13 +13,13 @@ use Rattle.wavelet.specs.Levels.{next, sideAt}
 use Rattle.wavelet.specs.Order.{firstSet, lastSet}
 use Rattle.wavelet.specs.Steps.{setTo, setOf, setsBefore}
 use Rattle.wavelet.proofs.StepLaws.{to-first, to-later, to-rises, set-of, set-there, set-rises, set-last, before-zero, before-suc, before-rises}
+use Rattle.nine_seven.proofs.Filters.{filter-laws}
 use Rattle.level.specs.Sets.{opens}
-use Rattle.reader.specs.Sets.{K, ahead, hasRow, rowOf, taking, needed, firstRow, makes, waiting, waitsAt}
+use Rattle.reader.specs.Sets.{ahead, hasRow, rowOf, taking, needed, firstRow, makes, waiting, waitsAt}
 
--- the level looks ahead
-pub looks : 1 ≤ ahead
-unfolding ahead
-looks = omega arith
+-- a filter looks ahead
+pub looks : (f : ℕ) → 1 ≤ ahead f
+looks f = filter-laws f .ahead-some
 
 -- ---- the sides, by numbers
 pub last-is : (S : Side) → lastSet S ≡ (S .start % 2 + (S .length - 1)) / 2
@@ -43,144 +43,144 @@ unfolding sideAt next
 side-long k S = refl
 
 -- ---- the sets of rows
-pub set-mono : (S : Side) (r q : ℕ) → r ≤ q → setOf ahead S r ≤ setOf ahead S q
-set-mono S r zero h = let e : r ≡ 0 = omega arith in rw e (omega arith)
-set-mono S r (suc q) h = elim (ℕ-discrete r (suc q)) [
+pub set-mono : (f : ℕ) (S : Side) (r q : ℕ) → r ≤ q → setOf (ahead f) S r ≤ setOf (ahead f) S q
+set-mono f S r zero h = let e : r ≡ 0 = omega arith in rw e (omega arith)
+set-mono f S r (suc q) h = elim (ℕ-discrete r (suc q)) [
   | yes e ↦ rw e (omega arith)
-  | no e ↦ omega (arith, set-mono S r q (omega (arith, e)), set-rises ahead S q)
+  | no e ↦ omega (arith, set-mono f S r q (omega (arith, e)), set-rises (ahead f) S q)
 ]
 
-to-at : (q t : ℕ) → q ≡ suc t → setTo ahead q ≡ t / 2 + ahead
-to-at q t e = ap (setTo ahead) e ∙ to-later ahead t
+to-at : (f q t : ℕ) → q ≡ suc t → setTo (ahead f) q ≡ t / 2 + ahead f
+to-at f q t e = ap (setTo (ahead f)) e ∙ to-later (ahead f) t
 
 -- the first row that needs set n or a later one: no row before it needs set n,
-fewer : (S : Side) (r q : ℕ) → r ≤ q → setsBefore ahead S r ≤ setsBefore ahead S q
-fewer S r zero h = let e : r ≡ 0 = omega arith in rw e (omega arith)
-fewer S r (suc q) h = elim (ℕ-discrete r (suc q)) [
+fewer : (f : ℕ) (S : Side) (r q : ℕ) → r ≤ q → setsBefore (ahead f) S r ≤ setsBefore (ahead f) S q
+fewer f S r zero h = let e : r ≡ 0 = omega arith in rw e (omega arith)
+fewer f S r (suc q) h = elim (ℕ-discrete r (suc q)) [
   | yes e ↦ rw e (omega arith)
-  | no e ↦ omega (arith, fewer S r q (omega (arith, e)), before-rises ahead S q)
+  | no e ↦ omega (arith, fewer f S r q (omega (arith, e)), before-rises (ahead f) S q)
 ]
 
-abbrev rowTo : Side → ℕ → ℕ
-rowTo S n = 2 * (suc n - ahead) + 1 - S .start % 2
+abbrev rowTo : ℕ → Side → ℕ → ℕ
+rowTo f S n = 2 * (suc n - ahead f) + 1 - S .start % 2
 
-row-is : (S : Side) (n : ℕ) → firstRow S (suc n) ≡ min (rowTo S n) (S .length - 1)
+row-is : (f : ℕ) (S : Side) (n : ℕ) → firstRow f S (suc n) ≡ min (rowTo f S n) (S .length - 1)
 unfolding firstRow
-row-is S n = refl
+row-is f S n = refl
 
-to-before : (S : Side) (n r : ℕ) → rowTo S n ≡ r → setsBefore ahead S r ≤ suc n
-to-before S n zero e = omega (arith, before-zero ahead S)
-to-before S n (suc r) e = at (suc n - ahead) refl
+to-before : (f : ℕ) (S : Side) (n r : ℕ) → rowTo f S n ≡ r → setsBefore (ahead f) S r ≤ suc n
+to-before f S n zero e = omega (arith, before-zero (ahead f) S)
+to-before f S n (suc r) e = at (suc n - ahead f) refl
   where
-    at : (t : ℕ) → suc n - ahead ≡ t → setsBefore ahead S (suc r) ≤ suc n
+    at : (t : ℕ) → suc n - ahead f ≡ t → setsBefore (ahead f) S (suc r) ≤ suc n
     at zero z =
-        let f : setTo ahead (S .start % 2 + r) ≡ 0 = ap (setTo ahead) (omega arith) ∙ to-first ahead in
-        omega (arith, before-suc ahead S r, set-of ahead S r, f)
+        let u : setTo (ahead f) (S .start % 2 + r) ≡ 0 = ap (setTo (ahead f)) (omega arith) ∙ to-first (ahead f) in
+        omega (arith, before-suc (ahead f) S r, set-of (ahead f) S r, u)
     at (suc t) z =
-        let f = to-at (S .start % 2 + r) (2 * t + 1) (omega arith) in
-        omega (arith, before-suc ahead S r, set-of ahead S r, f)
+        let u = to-at f (S .start % 2 + r) (2 * t + 1) (omega arith) in
+        omega (arith, before-suc (ahead f) S r, set-of (ahead f) S r, u)
 
-pub row-before : (S : Side) (n : ℕ) → setsBefore ahead S (firstRow S n) ≤ n
-row-before S zero = unfold firstRow in omega (arith, before-zero ahead S)
-row-before S (suc n) =
-    let a = fewer S (firstRow S (suc n)) (rowTo S n) (omega (arith, row-is S n)) in
-    omega (arith, a, to-before S n (rowTo S n) refl)
+pub row-before : (f : ℕ) (S : Side) (n : ℕ) → setsBefore (ahead f) S (firstRow f S n) ≤ n
+row-before f S zero = unfold firstRow in omega (arith, before-zero (ahead f) S)
+row-before f S (suc n) =
+    let a = fewer f S (firstRow f S (suc n)) (rowTo f S n) (omega (arith, row-is f S n)) in
+    omega (arith, a, to-before f S n (rowTo f S n) refl)
 
 -- and it does, if the level has such a set; then it is a row of the level
-within : (S : Side) (n : ℕ) → suc n ≤ lastSet S → firstRow S (suc n) ≡ rowTo S n
-within S n h = omega (arith, row-is S n, looks, last-is S)
+within : (f : ℕ) (S : Side) (n : ℕ) → suc n ≤ lastSet S → firstRow f S (suc n) ≡ rowTo f S n
+within f S n h = omega (arith, row-is f S n, looks f, last-is S)
 
-pub row-makes : (S : Side) (n : ℕ) → n ≤ lastSet S → n ≤ setOf ahead S (firstRow S n)
-row-makes S zero h = omega arith
-row-makes S (suc n) h =
-    let f = to-at (S .start % 2 + rowTo S n) (2 * (suc n - ahead)) (omega arith) in
-    rw (within S n h) (omega (arith, set-of ahead S (rowTo S n), f))
+pub row-makes : (f : ℕ) (S : Side) (n : ℕ) → n ≤ lastSet S → n ≤ setOf (ahead f) S (firstRow f S n)
+row-makes f S zero h = omega arith
+row-makes f S (suc n) h =
+    let u = to-at f (S .start % 2 + rowTo f S n) (2 * (suc n - ahead f)) (omega arith) in
+    rw (within f S n h) (omega (arith, set-of (ahead f) S (rowTo f S n), u))
 
-pub row-there : (S : Side) (n : ℕ) → 0 < S .length → firstRow S n < S .length
-row-there S zero p = unfold firstRow in p
-row-there S (suc n) p = omega (arith, row-is S n)
+pub row-there : (f : ℕ) (S : Side) (n : ℕ) → 0 < S .length → firstRow f S n < S .length
+row-there f S zero p = unfold firstRow in p
+row-there f S (suc n) p = omega (arith, row-is f S n)
 
-pub row-in : (S : Side) (n : ℕ) → firstRow S n ≤ S .length
-row-in S zero = unfold firstRow in omega arith
-row-in S (suc n) = omega (arith, row-is S n)
+pub row-in : (f : ℕ) (S : Side) (n : ℕ) → firstRow f S n ≤ S .length
+row-in f S zero = unfold firstRow in omega arith
+row-in f S (suc n) = omega (arith, row-is f S n)
 
 -- no other row is so
-to-only : (S : Side) (n r : ℕ) → setsBefore ahead S r ≤ suc n → suc n ≤ setOf ahead S r → rowTo S n ≡ r
-to-only S n zero b m = at (S .start % 2) refl
+to-only : (f : ℕ) (S : Side) (n r : ℕ) → setsBefore (ahead f) S r ≤ suc n → suc n ≤ setOf (ahead f) S r → rowTo f S n ≡ r
+to-only f S n zero b m = at (S .start % 2) refl
   where
-    at : (p : ℕ) → S .start % 2 ≡ p → rowTo S n ≡ 0
+    at : (p : ℕ) → S .start % 2 ≡ p → rowTo f S n ≡ 0
     at zero e =
-        let f : setTo ahead (S .start % 2 + 0) ≡ 0 = ap (setTo ahead) (omega arith) ∙ to-first ahead in
-        absurd (omega (arith, set-of ahead S 0, f))
-    at (suc p) e = omega (arith, set-of ahead S 0, to-at (S .start % 2 + 0) p (omega arith))
-to-only S n (suc r) b m = at (S .start % 2 + r) refl
+        let u : setTo (ahead f) (S .start % 2 + 0) ≡ 0 = ap (setTo (ahead f)) (omega arith) ∙ to-first (ahead f) in
+        absurd (omega (arith, set-of (ahead f) S 0, u))
+    at (suc p) e = omega (arith, set-of (ahead f) S 0, to-at f (S .start % 2 + 0) p (omega arith))
+to-only f S n (suc r) b m = at (S .start % 2 + r) refl
   where
-    at : (q : ℕ) → S .start % 2 + r ≡ q → rowTo S n ≡ suc r
+    at : (q : ℕ) → S .start % 2 + r ≡ q → rowTo f S n ≡ suc r
     at zero e =
-        let f = to-at (S .start % 2 + suc r) 0 (omega arith) in
-        omega (arith, set-of ahead S (suc r), f)
+        let u = to-at f (S .start % 2 + suc r) 0 (omega arith) in
+        omega (arith, set-of (ahead f) S (suc r), u)
     at (suc q) e =
-        let f = to-at (S .start % 2 + suc r) (suc q) (omega arith) in
-        let g = to-at (S .start % 2 + r) q e in
-        omega (arith, before-suc ahead S r, set-of ahead S r, set-of ahead S (suc r), f, g)
+        let u = to-at f (S .start % 2 + suc r) (suc q) (omega arith) in
+        let g = to-at f (S .start % 2 + r) q e in
+        omega (arith, before-suc (ahead f) S r, set-of (ahead f) S r, set-of (ahead f) S (suc r), u, g)
 
-pub row-only : (S : Side) (n r : ℕ) → setsBefore ahead S r ≤ n → n ≤ setOf ahead S r → firstRow S n ≡ r
-row-only S zero zero b m = unfold firstRow in refl
-row-only S zero (suc r) b m = absurd (omega (arith, before-suc ahead S r))
-row-only S (suc n) r b m = within S n (omega (arith, set-there ahead S r)) ∙ to-only S n r b m
+pub row-only : (f : ℕ) (S : Side) (n r : ℕ) → setsBefore (ahead f) S r ≤ n → n ≤ setOf (ahead f) S r → firstRow f S n ≡ r
+row-only f S zero zero b m = unfold firstRow in refl
+row-only f S zero (suc r) b m = absurd (omega (arith, before-suc (ahead f) S r))
+row-only f S (suc n) r b m = within f S n (omega (arith, set-there (ahead f) S r)) ∙ to-only f S n r b m
 
 -- a set that makes no row leaves the next set to make it
-pub makes-yes : (S : Side) (n : ℕ) → makes S n ≡ true → setOf ahead S (firstRow S n) ≤ n
+pub makes-yes : (f : ℕ) (S : Side) (n : ℕ) → makes f S n ≡ true → setOf (ahead f) S (firstRow f S n) ≤ n
 unfolding makes
-makes-yes S n e = leb-true _ _ e
+makes-yes f S n e = leb-true _ _ e
 
-pub makes-not : (S : Side) (n : ℕ) → makes S n ≡ false → n < setOf ahead S (firstRow S n)
+pub makes-not : (f : ℕ) (S : Side) (n : ℕ) → makes f S n ≡ false → n < setOf (ahead f) S (firstRow f S n)
 unfolding makes
-makes-not S n e = omega (arith, leb-false (setOf ahead S (firstRow S n)) n e)
+makes-not f S n e = omega (arith, leb-false (setOf (ahead f) S (firstRow f S n)) n e)
 
-pub row-next : (S : Side) (n : ℕ) → makes S n ≡ false → firstRow S (suc n) ≡ firstRow S n
-row-next S n e = row-only S (suc n) (firstRow S n) (omega (arith, row-before S n)) (makes-not S n e)
+pub row-next : (f : ℕ) (S : Side) (n : ℕ) → makes f S n ≡ false → firstRow f S (suc n) ≡ firstRow f S n
+row-next f S n e = row-only f S (suc n) (firstRow f S n) (omega (arith, row-before f S n)) (makes-not f S n e)
 
-pub makes-last : (S : Side) (n : ℕ) → n ≡ lastSet S → makes S n ≡ true
+pub makes-last : (f : ℕ) (S : Side) (n : ℕ) → n ≡ lastSet S → makes f S n ≡ true
 unfolding makes
-makes-last S n e = le-leb (setOf ahead S (firstRow S n)) n (omega (arith, set-there ahead S (firstRow S n)))
+makes-last f S n e = le-leb (setOf (ahead f) S (firstRow f S n)) n (omega (arith, set-there (ahead f) S (firstRow f S n)))
 
 -- a first set without a low row makes a row only where it is the last
-pub odd-first : (S : Side) (n : ℕ) → n < S .start % 2 → makes S n ≡ true → lastSet S ≡ 0
+pub odd-first : (f : ℕ) (S : Side) (n : ℕ) → n < S .start % 2 → makes f S n ≡ true → lastSet S ≡ 0
 unfolding makes firstRow
-odd-first S zero p e =
-    let a = leb-true (setOf ahead S 0) 0 e in
-    omega (arith, a, looks, set-of ahead S 0, to-at (S .start % 2 + 0) 0 (omega arith))
-odd-first S (suc n) p e = absurd (omega arith)
+odd-first f S zero p e =
+    let a = leb-true (setOf (ahead f) S 0) 0 e in
+    omega (arith, a, looks f, set-of (ahead f) S 0, to-at f (S .start % 2 + 0) 0 (omega arith))
+odd-first f S (suc n) p e = absurd (omega arith)
 
 -- ---- the sets that a row needs and no row before it
-pub opens-yes : (S : Side) (r : ℕ) → opens ahead S r ≡ true → setsBefore ahead S r ≤ setOf ahead S r
+pub opens-yes : (f : ℕ) (S : Side) (r : ℕ) → opens (ahead f) S r ≡ true → setsBefore (ahead f) S r ≤ setOf (ahead f) S r
 unfolding opens
-opens-yes S r e = omega (arith, ltb-true (setsBefore ahead S r) (setsBefore ahead S (suc r)) e, before-suc ahead S r)
+opens-yes f S r e = omega (arith, ltb-true (setsBefore (ahead f) S r) (setsBefore (ahead f) S (suc r)) e, before-suc (ahead f) S r)
 
-pub sets-none : (S : Side) (r : ℕ) → opens ahead S r ≡ false → setsBefore ahead S (suc r) - setsBefore ahead S r ≡ 0
+pub sets-none : (f : ℕ) (S : Side) (r : ℕ) → opens (ahead f) S r ≡ false → setsBefore (ahead f) S (suc r) - setsBefore (ahead f) S r ≡ 0
 unfolding opens
-sets-none S r e = let p = ltb-false (setsBefore ahead S r) (setsBefore ahead S (suc r)) e in omega arith
+sets-none f S r e = let p = ltb-false (setsBefore (ahead f) S r) (setsBefore (ahead f) S (suc r)) e in omega arith
 
-pub opened-row : (S : Side) (r : ℕ) → opens ahead S r ≡ true → firstRow S (setsBefore ahead S r) ≡ r
-opened-row S r e = row-only S (setsBefore ahead S r) r (omega arith) (opens-yes S r e)
+pub opened-row : (f : ℕ) (S : Side) (r : ℕ) → opens (ahead f) S r ≡ true → firstRow f S (setsBefore (ahead f) S r) ≡ r
+opened-row f S r e = row-only f S (setsBefore (ahead f) S r) r (omega arith) (opens-yes f S r e)
 
 -- ---- rows that are so many apart
-far : (S : Side) (r : ℕ) → setOf ahead S (r + (2 * ahead - 1)) ≤ setsBefore ahead S r + (2 * ahead - 1)
-far S zero = at (S .start % 2 + (0 + (2 * ahead - 1))) refl
+far : (f : ℕ) (S : Side) (r : ℕ) → setOf (ahead f) S (r + (2 * ahead f - 1)) ≤ setsBefore (ahead f) S r + (2 * ahead f - 1)
+far f S zero = at (S .start % 2 + (0 + (2 * ahead f - 1))) refl
   where
-    at : (q : ℕ) → S .start % 2 + (0 + (2 * ahead - 1)) ≡ q → setOf ahead S (0 + (2 * ahead - 1)) ≤ setsBefore ahead S 0 + (2 * ahead - 1)
-    at zero e = absurd (omega (arith, looks))
-    at (suc q) e = omega (arith, looks, before-zero ahead S, set-of ahead S (0 + (2 * ahead - 1)), to-at (S .start % 2 + (0 + (2 * ahead - 1))) q e)
-far S (suc r) = at (S .start % 2 + r) refl
+    at : (q : ℕ) → S .start % 2 + (0 + (2 * ahead f - 1)) ≡ q → setOf (ahead f) S (0 + (2 * ahead f - 1)) ≤ setsBefore (ahead f) S 0 + (2 * ahead f - 1)
+    at zero e = absurd (omega (arith, looks f))
+    at (suc q) e = omega (arith, looks f, before-zero (ahead f) S, set-of (ahead f) S (0 + (2 * ahead f - 1)), to-at f (S .start % 2 + (0 + (2 * ahead f - 1))) q e)
+far f S (suc r) = at (S .start % 2 + r) refl
   where
-    f : setTo ahead (S .start % 2 + (suc r + (2 * ahead - 1))) ≡ (S .start % 2 + (r + (2 * ahead - 1))) / 2 + ahead
-    f = to-at (S .start % 2 + (suc r + (2 * ahead - 1))) (S .start % 2 + (r + (2 * ahead - 1))) (omega arith)
+    u : setTo (ahead f) (S .start % 2 + (suc r + (2 * ahead f - 1))) ≡ (S .start % 2 + (r + (2 * ahead f - 1))) / 2 + ahead f
+    u = to-at f (S .start % 2 + (suc r + (2 * ahead f - 1))) (S .start % 2 + (r + (2 * ahead f - 1))) (omega arith)
 
-    at : (q : ℕ) → S .start % 2 + r ≡ q → setOf ahead S (suc r + (2 * ahead - 1)) ≤ setsBefore ahead S (suc r) + (2 * ahead - 1)
-    at zero e = omega (arith, looks, before-suc ahead S r, set-of ahead S (suc r + (2 * ahead - 1)), f)
+    at : (q : ℕ) → S .start % 2 + r ≡ q → setOf (ahead f) S (suc r + (2 * ahead f - 1)) ≤ setsBefore (ahead f) S (suc r) + (2 * ahead f - 1)
+    at zero e = omega (arith, looks f, before-suc (ahead f) S r, set-of (ahead f) S (suc r + (2 * ahead f - 1)), u)
     at (suc q) e =
-        omega (arith, looks, before-suc ahead S r, set-of ahead S r, set-of ahead S (suc r + (2 * ahead - 1)), f, to-at (S .start % 2 + r) q e)
+        omega (arith, looks f, before-suc (ahead f) S r, set-of (ahead f) S r, set-of (ahead f) S (suc r + (2 * ahead f - 1)), u, to-at f (S .start % 2 + r) q e)
 
 -- ---- numbers and the rows that they take
 pub row-taking : (H : Side) (k r : ℕ) → rowOf H k (taking H k r) ≡ r
@@ -209,41 +209,41 @@ row-near H zero m n c h = h
 row-near H (suc k) m n c h = omega arith
 
 -- ---- the chains
-module _ (H : Side) where
-  pub needed-here : (k n : ℕ) → needed H k n k ≡ n
+module _ (f : ℕ) (H : Side) where
+  pub needed-here : (k n : ℕ) → needed f H k n k ≡ n
   unfolding needed
   needed-here zero n = refl
   needed-here (suc k) n = rw (eq-eqb (suc k) (suc k) refl) refl
 
-  pub needed-next : (k n j : ℕ) → k ≤ j → needed H k n (suc j) ≡ setOf ahead (sideAt j H) (rowOf H j (needed H k n j))
+  pub needed-next : (k n j : ℕ) → k ≤ j → needed f H k n (suc j) ≡ setOf (ahead f) (sideAt j H) (rowOf H j (needed f H k n j))
   unfolding needed
   needed-next k n j h = rw (ne-eqb k (suc j) (λ z. omega arith)) refl
 
-  pub needed-from : (k n : ℕ) → needed H k n (suc k) ≡ setOf ahead (sideAt k H) (rowOf H k n)
-  needed-from k n = needed-next k n k (omega arith) ∙ ap (λ i. setOf ahead (sideAt k H) (rowOf H k i)) (needed-here k n)
+  pub needed-from : (k n : ℕ) → needed f H k n (suc k) ≡ setOf (ahead f) (sideAt k H) (rowOf H k n)
+  needed-from k n = needed-next k n k (omega arith) ∙ ap (λ i. setOf (ahead f) (sideAt k H) (rowOf H k i)) (needed-here k n)
 
   -- from the next level on
-  pub needed-on : (k n m : ℕ) → needed H k n (suc k) ≡ m → (j : ℕ) → suc k ≤ j → needed H k n j ≡ needed H (suc k) m j
+  pub needed-on : (k n m : ℕ) → needed f H k n (suc k) ≡ m → (j : ℕ) → suc k ≤ j → needed f H k n j ≡ needed f H (suc k) m j
   needed-on k n m e zero h = absurd (omega arith)
   needed-on k n m e (suc j) h = elim (ℕ-discrete j k) [
     | yes z ↦ rw z (e ∙ sym (needed-here (suc k) m))
     | no z ↦
         needed-next k n j (omega arith)
-        ∙ ap (λ i. setOf ahead (sideAt j H) (rowOf H j i)) (needed-on k n m e j (omega (arith, z)))
+        ∙ ap (λ i. setOf (ahead f) (sideAt j H) (rowOf H j i)) (needed-on k n m e j (omega (arith, z)))
         ∙ sym (needed-next (suc k) m j (omega (arith, z)))
   ]
 
   -- the same row, the same sets
-  pub needed-same : (k n m : ℕ) → rowOf H k n ≡ rowOf H k m → (j : ℕ) → suc k ≤ j → needed H k n j ≡ needed H k m j
+  pub needed-same : (k n m : ℕ) → rowOf H k n ≡ rowOf H k m → (j : ℕ) → suc k ≤ j → needed f H k n j ≡ needed f H k m j
   needed-same k n m e j h =
-      needed-on k n _ (needed-from k n ∙ ap (setOf ahead (sideAt k H)) e) j h ∙ sym (needed-on k m _ (needed-from k m) j h)
+      needed-on k n _ (needed-from k n ∙ ap (setOf (ahead f) (sideAt k H)) e) j h ∙ sym (needed-on k m _ (needed-from k m) j h)
 
-  pub waits-here : (k n : ℕ) → waitsAt H k n k ≡ n
+  pub waits-here : (k n : ℕ) → waitsAt f H k n k ≡ n
   unfolding waitsAt
   waits-here zero n = refl
   waits-here (suc k) n = rw (eq-eqb (suc k) (suc k) refl) refl
 
-  pub waits-finer : (k n j : ℕ) → j ≤ k → waitsAt H (suc k) n j ≡ waitsAt H k (waiting H k n) j
+  pub waits-finer : (k n j : ℕ) → j ≤ k → waitsAt f H (suc k) n j ≡ waitsAt f H k (waiting f H k n) j
   unfolding waitsAt
   waits-finer k n j h = rw (ne-eqb j (suc k) (λ z. omega arith)) refl
 
@@ -259,57 +259,57 @@ module _ (H : Side) where
       let S = sideAt k H in
       (omega (arith, h, side-long k H, low-is S), omega (arith, h, side-long k H, low-is S, last-is S, first-low S))
 
-  pub waiting-there : (k n : ℕ) → There (suc k) n → There k (waiting H k n)
+  pub waiting-there : (k n : ℕ) → There (suc k) n → There k (waiting f H k n)
   unfolding waiting
-  waiting-there k n t = taking-there k (firstRow (sideAt k H) n) (row-there (sideAt k H) n (t .0))
+  waiting-there k n t = taking-there k (firstRow f (sideAt k H) n) (row-there f (sideAt k H) n (t .0))
 
-  pub waiting-row : (k n : ℕ) → rowOf H k (waiting H k n) ≡ firstRow (sideAt k H) n
+  pub waiting-row : (k n : ℕ) → rowOf H k (waiting f H k n) ≡ firstRow f (sideAt k H) n
   unfolding waiting
-  waiting-row k n = row-taking H k (firstRow (sideAt k H) n)
+  waiting-row k n = row-taking H k (firstRow f (sideAt k H) n)
 
   -- a number that row d waits for is one of the last that row d needs
-  pub in-back : (d k n : ℕ) → There k n → waitsAt H k n 0 ≡ d → (n ≤ needed H 0 d k) × (needed H 0 d k ≤ n + (2 * ahead - 1))
+  pub in-back : (d k n : ℕ) → There k n → waitsAt f H k n 0 ≡ d → (n ≤ needed f H 0 d k) × (needed f H 0 d k ≤ n + (2 * ahead f - 1))
   unfolding needed waitsAt
   in-back d zero n t e = (omega arith, omega arith)
-  in-back d (suc k) n t e = go (in-back d k (waiting H k n) (waiting-there k n t) (sym (waits-finer k n 0 (omega arith)) ∙ e))
+  in-back d (suc k) n t e = go (in-back d k (waiting f H k n) (waiting-there k n t) (sym (waits-finer k n 0 (omega arith)) ∙ e))
     where
       S : Side
       S = sideAt k H
 
       m : ℕ
-      m = needed H 0 d k
+      m = needed f H 0 d k
 
       r : ℕ
-      r = firstRow S n
+      r = firstRow f S n
 
-      go : (waiting H k n ≤ m) × (m ≤ waiting H k n + (2 * ahead - 1)) →
-          (n ≤ pick (eqb 0 (suc k)) d (setOf ahead S (rowOf H k m))) × (pick (eqb 0 (suc k)) d (setOf ahead S (rowOf H k m)) ≤ n + (2 * ahead - 1))
+      go : (waiting f H k n ≤ m) × (m ≤ waiting f H k n + (2 * ahead f - 1)) →
+          (n ≤ pick (eqb 0 (suc k)) d (setOf (ahead f) S (rowOf H k m))) × (pick (eqb 0 (suc k)) d (setOf (ahead f) S (rowOf H k m)) ≤ n + (2 * ahead f - 1))
       go ih =
-          let low = row-up H k (waiting H k n) m (ih .0) in
-          let high = row-near H k (waiting H k n) m (2 * ahead - 1) (ih .1) in
+          let low = row-up H k (waiting f H k n) m (ih .0) in
+          let high = row-near H k (waiting f H k n) m (2 * ahead f - 1) (ih .1) in
           let is = waiting-row k n in
-          let a = set-mono S r (rowOf H k m) (omega arith) in
-          let b = set-mono S (rowOf H k m) (r + (2 * ahead - 1)) (omega arith) in
-          rw (ne-eqb 0 (suc k) (λ z. omega arith)) (omega (arith, a, row-makes S n (t .1)), omega (arith, b, far S r, row-before S n))
+          let a = set-mono f S r (rowOf H k m) (omega arith) in
+          let b = set-mono f S (rowOf H k m) (r + (2 * ahead f - 1)) (omega arith) in
+          rw (ne-eqb 0 (suc k) (λ z. omega arith)) (omega (arith, a, row-makes f S n (t .1)), omega (arith, b, far f S r, row-before f S n))
 
 -- ---- while the last row of a map is waited for, every level is at its last set
-last-from : (H : Side) (k : ℕ) → 0 < sideAt k H .length → rowOf H k (needed H 0 (H .length - 1) k) ≡ sideAt k H .length - 1 →
-    needed H 0 (H .length - 1) (suc k) ≡ lastSet (sideAt k H)
-last-from H k p e =
-    needed-next H 0 (H .length - 1) k (omega arith)
-    ∙ ap (setOf ahead (sideAt k H)) e ∙ set-last ahead (sideAt k H) (sideAt k H .length - 1) looks (omega arith)
+last-from : (f : ℕ) (H : Side) (k : ℕ) → 0 < sideAt k H .length → rowOf H k (needed f H 0 (H .length - 1) k) ≡ sideAt k H .length - 1 →
+    needed f H 0 (H .length - 1) (suc k) ≡ lastSet (sideAt k H)
+last-from f H k p e =
+    needed-next f H 0 (H .length - 1) k (omega arith)
+    ∙ ap (setOf (ahead f) (sideAt k H)) e ∙ set-last (ahead f) (sideAt k H) (sideAt k H .length - 1) (looks f) (omega arith)
 
-last-row : (H : Side) (k : ℕ) → 0 < sideAt k H .length → rowOf H k (needed H 0 (H .length - 1) k) ≡ sideAt k H .length - 1
-last-row H zero p = unfold rowOf needed sideAt in refl
-last-row H (suc k) p =
+last-row : (f : ℕ) (H : Side) (k : ℕ) → 0 < sideAt k H .length → rowOf H k (needed f H 0 (H .length - 1) k) ≡ sideAt k H .length - 1
+last-row f H zero p = unfold rowOf needed sideAt in refl
+last-row f H (suc k) p =
     let S = sideAt k H in
     let long = side-long k H in
     let q : 0 < S .length = omega (arith, p, long, low-is S) in
-    below (last-from H k q (last-row H k q))
+    below (last-from f H k q (last-row f H k q))
   where
-    below : needed H 0 (H .length - 1) (suc k) ≡ lastSet (sideAt k H) → rowOf H (suc k) (needed H 0 (H .length - 1) (suc k)) ≡ sideAt (suc k) H .length - 1
+    below : needed f H 0 (H .length - 1) (suc k) ≡ lastSet (sideAt k H) → rowOf H (suc k) (needed f H 0 (H .length - 1) (suc k)) ≡ sideAt (suc k) H .length - 1
     below n = unfold rowOf in
         omega (arith, n, p, side-long k H, low-is (sideAt k H), last-is (sideAt k H), first-low (sideAt k H))
 
-pub last-needed : (H : Side) (k : ℕ) → 0 < sideAt k H .length → needed H 0 (H .length - 1) (suc k) ≡ lastSet (sideAt k H)
-last-needed H k p = last-from H k p (last-row H k p)
+pub last-needed : (f : ℕ) (H : Side) (k : ℕ) → 0 < sideAt k H .length → needed f H 0 (H .length - 1) (suc k) ≡ lastSet (sideAt k H)
+last-needed f H k p = last-from f H k p (last-row f H k p)

@@ -8,7 +8,6 @@ use lib.Dec.{eqb}
 use borrow.Author.Tests.{lt-ltb, eqb-true}
 use Rattle.lifting.specs.Grid.{Side, count}
 use Rattle.lifting.specs.Halves.{fronted}
-use Rattle.lifting.specs.FiveThree.{fiveThreeFilter}
 use Rattle.wavelet.specs.Limits.{maxSample}
 use Rattle.wavelet.specs.Bands.{Band, LL, HL, LH, HH, code, across}
 use Rattle.wavelet.specs.Order.{rowName, setRow}
@@ -17,6 +16,7 @@ use Rattle.wavelet.specs.Levels.{sideAt}
 use Rattle.wavelet.specs.View.{bandColumns}
 use Rattle.areas.specs.Areas.{height16}
 use Rattle.areas.proofs.HeightLaws.{height-kept}
+use Rattle.nine_seven.specs.Filters.{filterOf}
 use Rattle.reader.specs.Asked.{keptAt}
 use Rattle.reader.specs.Rebuilt.{Rows, bandsBy, rebuilt, bandsAt, partAt}
 use Rattle.level.specs.Tried.{Tried, failed, passed, bind}
@@ -36,13 +36,13 @@ pub outcome-passed : {N : Type 0} {P : (ℕ → ℤ) → Type 0} (y : ℕ → �
 outcome-passed _ (goes _ p) = p
 
 -- the height row that is drawn
-pub row-out : (W H : Side) (l d : ℕ) (p : Place) (e : Bool) → d < H .length → 0 < W .length → (P : Rows) (y : ℕ → ℤ) → Held W H l P 0 d 4 y →
-    (z : ℕ → ℤ) (c : ℕ) → c < W .length → fronted (W .length) (heightRow (here W H l d p e) y) z c ≡ partAt W H P (suc l) 0 d c
+pub row-out : (f : ℕ) (W H : Side) (l d : ℕ) (p : Place) (e : Bool) → d < H .length → 0 < W .length → (P : Rows) (y : ℕ → ℤ) → Held f W H l P 0 d 4 y →
+    (z : ℕ → ℤ) (c : ℕ) → c < W .length → fronted (W .length) (heightRow (here f W H l d p e) y) z c ≡ partAt f W H P (suc l) 0 d c
 unfolding fronted heightRow maxSample
-row-out W H l d p e due wide P y h z c b =
-    let g = partAt W H P (suc l) 0 in
-    let fit = height-fits fiveThreeFilter (g d c) .0 (height-fit W H l P d y due wide h c b) in
-    rw (lt-ltb c (W .length) b) (ap height16 (height-made W H l P d y due wide h c b) ∙ height-kept (g d c) (fit .0) (fit .1))
+row-out f W H l d p e due wide P y h z c b =
+    let g = partAt f W H P (suc l) 0 in
+    let fit = height-fits (filterOf f) (g d c) .0 (height-fit f W H l P d y due wide h c b) in
+    rw (lt-ltb c (W .length) b) (ap height16 (height-made f W H l P d y due wide h c b) ∙ height-kept (g d c) (fit .0) (fit .1))
 
 -- a row that is kept stands among the bands by its name
 pub kept-last : (k l : ℕ) (c : Band) → keptAt (eqb (suc k) (suc l)) c ≡ true → c ≡ LL → k ≡ l
@@ -50,47 +50,47 @@ unfolding keptAt
 kept-last k l c h z = let q : keptAt (eqb (suc k) (suc l)) LL ≡ true = subst (λ v. keptAt (eqb (suc k) (suc l)) v ≡ true) z h in
     let p = eqb-true (suc k) (suc l) q in omega arith
 
-pub band-named : (W H : Side) (l : ℕ) (P : Rows) (k : ℕ) (c : Band) (r : ℕ) → keptAt (eqb (suc k) (suc l)) c ≡ true →
-    bandsAt W H P (suc l) k c r ≡ P (rowName (suc k) c r)
+pub band-named : (f : ℕ) (W H : Side) (l : ℕ) (P : Rows) (k : ℕ) (c : Band) (r : ℕ) → keptAt (eqb (suc k) (suc l)) c ≡ true →
+    bandsAt f W H P (suc l) k c r ≡ P (rowName (suc k) c r)
 unfolding bandsBy
-band-named W H l P k LL r h =
+band-named f W H l P k LL r h =
     let e = kept-last k l LL h refl in
     let z : suc l - suc k ≡ 0 = omega arith in
     rw z (unfold rebuilt in refl)
-band-named W H l P k HL r h = refl
-band-named W H l P k LH r h = refl
-band-named W H l P k HH r h = refl
+band-named f W H l P k HL r h = refl
+band-named f W H l P k LH r h = refl
+band-named f W H l P k HH r h = refl
 
-module _ (W H : Side) (l d : ℕ) (p : Place) (level-le : p .level ≤ suc l) (ready : Ready W H (suc l) d (at W H l d p)) (P : Rows) (x : ℕ → ℤ)
-    (held : HeldAt W H l P (at W H l d p) x) where
-  pub settles-outcome : (e : Bool) (q : Spot) → nextOf W H l d p ≡ q → Outcome (Fits W H l P) (HeldNext W H l P d q) (settles (here W H l d p e) x)
+module _ (f : ℕ) (W H : Side) (l d : ℕ) (p : Place) (level-le : p .level ≤ suc l) (ready : Ready f W H (suc l) d (at f W H l d p)) (P : Rows) (x : ℕ → ℤ)
+    (held : HeldAt f W H l P (at f W H l d p) x) where
+  pub settles-outcome : (e : Bool) (q : Spot) → nextOf f W H l d p ≡ q → Outcome (Fits f W H l P) (HeldNext f W H l P d q) (settles (here f W H l d p e) x)
   unfolding settles next
   settles-outcome e q z =
-      subst (λ u. Outcome (Fits W H l P) (HeldNext W H l P d u) (settled W H (suc l) (nextOf W H l d p .level) (p .level) (at W H l d p .set) x)) z
-      (settle-holds W H l P d (p .level) (at W H l d p .set) (p .band) x level-le ready held)
+      subst (λ u. Outcome (Fits f W H l P) (HeldNext f W H l P d u) (settled f W H (suc l) (nextOf f W H l d p .level) (p .level) (at f W H l d p .set) x)) z
+      (settle-holds f W H l P d (p .level) (at f W H l d p .set) (p .band) x level-le ready held)
 
-  pub feeds-worked : (e : Bool) (k n : ℕ) (c : Band) → Due W H l d p k n c → (v : ℕ → ℤ) →
-      ((i : ℕ) → i < bandColumns W (suc k) c → v i ≡ P (nameOf W H l k n c) i) →
-      Outcome (Fits W H l P) (FedHeld W H l P k n (code c)) (feeds (here W H l d p e) v x)
+  pub feeds-worked : (e : Bool) (k n : ℕ) (c : Band) → Due f W H l d p k n c → (v : ℕ → ℤ) →
+      ((i : ℕ) → i < bandColumns W (suc k) c → v i ≡ P (nameOf f W H l k n c) i) →
+      Outcome (Fits f W H l P) (FedHeld f W H l P k n (code c)) (feeds (here f W H l d p e) v x)
   unfolding feeds settles next bandColumns
   feeds-worked e k n c o v row =
       let z : suc k - 1 ≡ k = omega arith in
       let ask = asked-has (eqb (suc k) (suc l)) (sideAt k W) (sideAt k H) n c (o .asks) in
-      let row′ : (i : ℕ) → i < count (across c) (sideAt k W) → v i ≡ P (nameOf W H l k n c) i = rw z at row in
-      let named = band-named W H l P k c (setRow (sideAt k H) c n) (ask .0) in
-      let set = subst (λ q. Outcome (Fits W H l P) (HeldNext W H l P d q) (settled W H (suc l) (q .level) (p .level) (at W H l d p .set) x)) (o .is)
-      (settle-holds W H l P d (p .level) (at W H l d p .set) (p .band) x level-le ready held) in
-      subst (λ q. Outcome (Fits W H l P) (FedHeld W H l P k n (code c))
-      (bind (settled W H (suc l) (q .level) (p .level) (at W H l d p .set) x) (fedOn W H (suc l) (q .level) (q .set) (q .band) v))) (sym (o .is))
-      (bind-outcome (settled W H (suc l) (suc k) (p .level) (at W H l d p .set) x) _ set
-      (λ y h. fed-holds W H l P d k n c v y (omega (arith, o .below)) (o .ready) (λ i b. row′ i b ∙ ap (λ (f : ℕ → ℤ). f i) (sym named)) h))
+      let row′ : (i : ℕ) → i < count (across c) (sideAt k W) → v i ≡ P (nameOf f W H l k n c) i = rw z at row in
+      let named = band-named f W H l P k c (setRow (sideAt k H) c n) (ask .0) in
+      let set = subst (λ q. Outcome (Fits f W H l P) (HeldNext f W H l P d q) (settled f W H (suc l) (q .level) (p .level) (at f W H l d p .set) x)) (o .is)
+      (settle-holds f W H l P d (p .level) (at f W H l d p .set) (p .band) x level-le ready held) in
+      subst (λ q. Outcome (Fits f W H l P) (FedHeld f W H l P k n (code c))
+      (bind (settled f W H (suc l) (q .level) (p .level) (at f W H l d p .set) x) (fedOn f W H (suc l) (q .level) (q .set) (q .band) v))) (sym (o .is))
+      (bind-outcome (settled f W H (suc l) (suc k) (p .level) (at f W H l d p .set) x) _ set
+      (λ y h. fed-holds f W H l P d k n c v y (omega (arith, o .below)) (o .ready) (λ i b. row′ i b ∙ ap (λ (w : ℕ → ℤ). w i) (sym named)) h))
 
-  pub feeds-outcome : (e : Bool) (k n : ℕ) (c : Band) → Due W H l d p k n c → (v : ℕ → ℤ) →
-      ((i : ℕ) → i < bandColumns W (suc k) c → v i ≡ P (nameOf W H l k n c) i) →
-      Outcome (Fits W H l P) (HeldAt W H l P (beyond W H (suc l) k n (code c))) (feeds (here W H l d p e) v x)
+  pub feeds-outcome : (e : Bool) (k n : ℕ) (c : Band) → Due f W H l d p k n c → (v : ℕ → ℤ) →
+      ((i : ℕ) → i < bandColumns W (suc k) c → v i ≡ P (nameOf f W H l k n c) i) →
+      Outcome (Fits f W H l P) (HeldAt f W H l P (beyond f W H (suc l) k n (code c))) (feeds (here f W H l d p e) v x)
   feeds-outcome e k n c o v row = first _ (feeds-worked e k n c o v row)
     where
-      first : (t : Tried) → Outcome (Fits W H l P) (FedHeld W H l P k n (code c)) t
-          → Outcome (Fits W H l P) (HeldAt W H l P (beyond W H (suc l) k n (code c))) t
+      first : (t : Tried) → Outcome (Fits f W H l P) (FedHeld f W H l P k n (code c)) t
+          → Outcome (Fits f W H l P) (HeldAt f W H l P (beyond f W H (suc l) k n (code c))) t
       first _ (stops z) = stops z
       first _ (goes y q) = goes y (q .0)

@@ -6,6 +6,7 @@ use Prim.Native.Nat.{ℕ, suc, _+_, _-_, _*_, _≤_, _<_, _^_}
 use native.Mathlib.Decide.{decLt, ℕ-discrete}
 use native.Mathlib.Omega.{arith}
 use native.Mathlib.Numerals.{add-one}
+use native.Mathlib.Nat.{mul-zero}
 use lib.IntN.{ℤ, pos}
 use lib.Dec.{eqb, leb}
 use lib.ListN.{length, List·getD-eq-default}
@@ -19,18 +20,18 @@ use Rattle.lifting.specs.Halves.{fronted}
 use Rattle.wavelet.specs.Bands.{across, down}
 use Rattle.wavelet.specs.Levels.{sideAt}
 use Rattle.wavelet.specs.Order.{lastSet}
-use Rattle.wavelet.specs.Store.{storeLength}
 use Rattle.wavelet.proofs.SideLaws.{length-suc, size-le}
 use Rattle.areas.proofs.AreaLaws.{front-at}
 use Rattle.level.specs.Tried.{Tried, passed, outcome, onto}
-use Rattle.level.specs.Slots.{rowPlace, rowOfSet, halfPlace, bandFed}
-use Rattle.level.specs.Work.{admitted, setWorked}
-use Rattle.level.proofs.SlotLaws.{slot-room, place-is}
+use Rattle.level.specs.Slots.{rowOfSet, halfPlace}
 use Rattle.level.proofs.RowsIn.{half-end}
+use Rattle.nine_seven.specs.Filters.{filterOf}
+use Rattle.filters.specs.Back.{backOf, rowPlaceOf}
+use Rattle.filters.proofs.BackLaws.{back-feed, place-room}
+use Rattle.filters.specs.Figures.{storeBy}
 use Rattle.reader.specs.declared.walk.Level.{Level}
 use Rattle.reader.specs.Asked.{named}
 use Rattle.reader.specs.Store.{stretchAt, from, behind, fedAt, workedAt, hasSet, hasCells}
-use Rattle.reader.specs.Sets.{K}
 use Rattle.reader.specs.Inside.{IsLevel}
 use Rattle.reader.proofs.SetLaws.{none-of}
 use Rattle.reader.proofs.StoreLaws.{stretch-suc, stretch-in, stretch-is, stretch-small}
@@ -102,22 +103,22 @@ behind-splice a p n v x = fun-ext λ j. elim (decLt j a) [
         ]
 
 -- ---- the sides of a level
-pub level-wide : (W H : Side) (d k : ℕ) (l : Level) → IsLevel W H d k l → side (l .x) (l .width) ≡ sideAt k W
-level-wide W H d k l is = ap₂ side (is .x) (is .width)
+pub level-wide : (f : ℕ) (W H : Side) (d k : ℕ) (l : Level) → IsLevel f W H d k l → side (l .x) (l .width) ≡ sideAt k W
+level-wide f W H d k l is = ap₂ side (is .x) (is .width)
 
-pub level-high : (W H : Side) (d k : ℕ) (l : Level) → IsLevel W H d k l → side (l .y) (l .height) ≡ sideAt k H
-level-high W H d k l is = ap₂ side (is .y) (is .height)
+pub level-high : (f : ℕ) (W H : Side) (d k : ℕ) (l : Level) → IsLevel f W H d k l → side (l .y) (l .height) ≡ sideAt k H
+level-high f W H d k l is = ap₂ side (is .y) (is .height)
 
 -- ---- a band row put
-pub put-is : (W H : Side) (d k c : ℕ) (l : Level) (a p m : ℕ) (v : List ℤ) (s ys : List ℤ) → IsLevel W H d k l →
-    p ≡ rowPlace (l .width) (rowOfSet (down (named c)) (l .set)) + halfPlace (across (named c)) (side (l .x) (l .width)) → a ≡ l .start + p → m ≡ length v →
+pub put-is : (f : ℕ) (W H : Side) (d k c : ℕ) (l : Level) (a p m : ℕ) (v : List ℤ) (s ys : List ℤ) → IsLevel f W H d k l →
+    p ≡ rowPlaceOf f (l .width) (rowOfSet (down (named c)) (l .set)) + halfPlace (across (named c)) (side (l .x) (l .width)) → a ≡ l .start + p → m ≡ length v →
     length v ≡ count (across (named c)) (sideAt k W) → a + m ≤ length s → length ys ≡ m → at ys ≡ fronted (length v) (at v) (at (midOf a m s)) →
-    at (putMid a m s ys) ≡ fedAt W H k (l .set) c (at v) (at s)
-unfolding fedAt bandFed
-put-is W H d k c l a p m v s ys is ep ea em en room long made =
+    at (putMid a m s ys) ≡ fedAt f W H k (l .set) c (at v) (at s)
+unfolding fedAt
+put-is f W H d k c l a p m v s ys is ep ea em en room long made =
     let n = count (across (named c)) (sideAt k W) in
-    let q = rowPlace (sideAt k W .length) (rowOfSet (down (named c)) (l .set)) + halfPlace (across (named c)) (sideAt k W) in
-    let place : a ≡ stretchAt W k + q = cc (ea, ep, is .start, is .width, level-wide W H d k l is) in
+    let q = rowPlaceOf f (sideAt k W .length) (rowOfSet (down (named c)) (l .set)) + halfPlace (across (named c)) (sideAt k W) in
+    let place : a ≡ stretchAt f W k + q = cc (ea, ep, is .start, is .width, level-wide f W H d k l is) in
     let size : m ≡ n = em ∙ en in
     let z = at (midOf a m s) in
     let step : at ys ≡ fronted n (at v) z = cc (made, en) in
@@ -126,7 +127,8 @@ put-is W H d k c l a p m v s ys is ep ea em en room long made =
     ∙ ap (λ (i : ℕ). spliced a i (fronted n (at v) z) (at s)) size
     ∙ copied a n (at v) z (at s)
     ∙ ap (λ (i : ℕ). spliced i n (at v) (at s)) place
-    ∙ behind-splice (stretchAt W k) q n (at v) (at s)
+    ∙ behind-splice (stretchAt f W k) q n (at v) (at s)
+    ∙ ap (behind (stretchAt f W k) (at s)) (sym (back-feed f (sideAt k W) (sideAt k H .start) (named c) (l .set) (at v) (from (stretchAt f W k) (at s))))
 
 -- ---- a set worked out in its level's stretch
 onto-outcome : (f : (ℕ → ℤ) → ℕ → ℤ) (ok : Bool) (y : ℕ → ℤ) → outcome ok (f y) ≡ onto f (outcome ok y)
@@ -135,73 +137,76 @@ onto-outcome f true y = refl
 onto-outcome f false y = refl
 
 -- an empty level
-pub work-empty : (W H : Side) (L d k : ℕ) (l : Level) (x : ℕ → ℤ) → IsLevel W H d k l → Empty (sideAt k W) (sideAt k H) → passed x ≡ workedAt W H L k (l .set) x
+pub work-empty : (f : ℕ) (W H : Side) (L d k : ℕ) (l : Level) (x : ℕ → ℤ) → IsLevel f W H d k l → Empty (sideAt k W) (sideAt k H) → passed x ≡ workedAt f W H L k (l .set) x
 unfolding workedAt hasSet
-work-empty W H L d k l x is e = rw (empty-not (sideAt k W) (sideAt k H) e) refl
+work-empty f W H L d k l x is e = rw (empty-not (sideAt k W) (sideAt k H) e) refl
 
 -- a set after the last
-pub work-late : (W H : Side) (L d k : ℕ) (l : Level) (x : ℕ → ℤ) (n : ℕ) → IsLevel W H d k l → n ≡ lastSet (side (l .y) (l .height)) → n < l .set →
-    passed x ≡ workedAt W H L k (l .set) x
+pub work-late : (f : ℕ) (W H : Side) (L d k : ℕ) (l : Level) (x : ℕ → ℤ) (n : ℕ) → IsLevel f W H d k l → n ≡ lastSet (side (l .y) (l .height)) → n < l .set →
+    passed x ≡ workedAt f W H L k (l .set) x
 unfolding workedAt hasSet
-work-late W H L d k l x n is e h = sym (ap (λ (t : Bool). pick t (onto (behind (stretchAt W k) x)
-    (K .work (eqb (suc k) L) k (sideAt k W) (sideAt k H) (l .set) (from (stretchAt W k) x))) (passed x)) (go (hasCells (sideAt k W) (sideAt k H))))
+work-late f W H L d k l x n is e h = sym (ap (λ (t : Bool). pick t (onto (behind (stretchAt f W k) x)
+    (backOf f .work (eqb (suc k) L) k (sideAt k W) (sideAt k H) (l .set) (from (stretchAt f W k) x))) (passed x)) (go (hasCells (sideAt k W) (sideAt k H))))
   where
     last : lastSet (sideAt k H) < l .set
-    last = rw (← level-high W H d k l is) (omega (arith, e, h))
+    last = rw (← level-high f W H d k l is) (omega (arith, e, h))
 
     go : (t : Bool) → both t (leb (l .set) (lastSet (sideAt k H))) ≡ false
     go true = lt-leb (l .set) (lastSet (sideAt k H)) last
     go false = refl
 
-pub work-is : (W H : Side) (L d k : ℕ) (l : Level) (a n : ℕ) (s ys : List ℤ) (ok : Bool) → IsLevel W H d k l → 0 < l .width → 0 < l .height →
+pub work-is : (f : ℕ) (W H : Side) (L d k : ℕ) (l : Level) (a n : ℕ) (s ys : List ℤ) (ok : Bool) → IsLevel f W H d k l → 0 < l .width → 0 < l .height →
     l .set ≤ lastSet (side (l .y) (l .height)) → a ≡ l .start →
     a + n ≡ length s → length ys ≡ n →
-    outcome ok (at ys) ≡ setWorked admitted (eqb (k + 1) L) k (side (l .x) (l .width)) (side (l .y) (l .height)) (l .set) (at (midOf a n s)) →
-    outcome ok (at (putMid a n s ys)) ≡ workedAt W H L k (l .set) (at s)
+    outcome ok (at ys) ≡ backOf f .work (eqb (k + 1) L) k (side (l .x) (l .width)) (side (l .y) (l .height)) (l .set) (at (midOf a n s)) →
+    outcome ok (at (putMid a n s ys)) ≡ workedAt f W H L k (l .set) (at s)
 unfolding workedAt hasSet
-work-is W H L d k l a n s ys ok is wide high last ea whole long made =
-    let place : a ≡ stretchAt W k = ea ∙ is .start in
+work-is f W H L d k l a n s ys ok is wide high last ea whole long made =
+    let place : a ≡ stretchAt f W k = ea ∙ is .start in
     let cells = cells-yes (sideAt k W) (sideAt k H) (omega (arith, is .width)) (omega (arith, is .height)) in
-    let there : l .set ≤ lastSet (sideAt k H) = rw (← level-high W H d k l is) last in
+    let there : l .set ≤ lastSet (sideAt k H) = rw (← level-high f W H d k l is) last in
     let has : both (hasCells (sideAt k W) (sideAt k H)) (leb (l .set) (lastSet (sideAt k H))) ≡ true =
     rw (cells, le-leb (l .set) (lastSet (sideAt k H)) there) refl in
-    let worked : Tried = onto (behind (stretchAt W k) (at s)) (setWorked admitted (eqb (suc k) L) k (sideAt k W) (sideAt k H) (l .set)
-    (from (stretchAt W k) (at s))) in
+    let worked : Tried = onto (behind (stretchAt f W k) (at s)) (backOf f .work (eqb (suc k) L) k (sideAt k W) (sideAt k H) (l .set)
+    (from (stretchAt f W k) (at s))) in
     ap (outcome ok) (at-put-rest a n s whole ys long)
     ∙ onto-outcome (behind a (at s)) ok (at ys)
-    ∙ ap (onto (behind a (at s))) (made ∙ cc (level-wide W H d k l is, level-high W H d k l is, add-one k, at-rest a n s whole))
-    ∙ ap (λ (i : ℕ). onto (behind i (at s)) (setWorked admitted (eqb (suc k) L) k (sideAt k W) (sideAt k H) (l .set) (from i (at s)))) place
+    ∙ ap (onto (behind a (at s))) (made ∙ cc (level-wide f W H d k l is, level-high f W H d k l is, add-one k, at-rest a n s whole))
+    ∙ ap (λ (i : ℕ). onto (behind i (at s)) (backOf f .work (eqb (suc k) L) k (sideAt k W) (sideAt k H) (l .set) (from i (at s)))) place
     ∙ sym (ap (λ (t : Bool). pick t worked (passed (at s))) has)
 
 -- the stretch, and below the last level the next one's, lie within the store
-pub stretch-room : (W : Side) (k L : ℕ) → k < L → stretchAt W k + (4 * sideAt k W .length + 4 * pick (eqb (k + 1) L) 0 (count lo (sideAt k W))) ≤ stretchAt W L
-stretch-room W k L h = elim (ℕ-discrete (k + 1) L) [
-  | yes e ↦ rw (eq-eqb (k + 1) L e) (omega (arith, stretch-suc W k, stretch-in W (suc k) L (omega arith)))
-  | no d ↦ rw (ne-eqb (k + 1) L d) (omega (arith, stretch-suc W k, stretch-suc W (suc k), length-suc k W, stretch-in W (suc (suc k)) L (omega arith)))
+pub stretch-room : (f : ℕ) (W : Side) (k L : ℕ) → k < L → 
+    stretchAt f W k + (filterOf f .rows * sideAt k W .length + filterOf f .rows * pick (eqb (k + 1) L) 0 (count lo (sideAt k W))) ≤ stretchAt f W L
+stretch-room f W k L h = elim (ℕ-discrete (k + 1) L) [
+  | yes e ↦ rw (eq-eqb (k + 1) L e) (omega (arith, mul-zero (filterOf f .rows), stretch-suc f W k, stretch-in f W (suc k) L (omega arith)))
+  | no d ↦ rw (ne-eqb (k + 1) L d, ← length-suc k W)
+      (omega (arith, stretch-suc f W k, stretch-suc f W (suc k), stretch-in f W (suc (suc k)) L (omega arith)))
 ]
 
 -- ---- the same of a level
-module _ (W H : Side) (d k : ℕ) (l : Level) (is : IsLevel W H d k l) where
-  pub level-in : W .length ≤ 2 ^ 16 → H .length < 2 ^ 32 → (l .start ≤ 2 ^ 18 * k) × (l .width ≤ 2 ^ 16) × (l .height < 2 ^ 32) × (l .set ≤ 2 ^ 32)
+module _ (f : ℕ) (W H : Side) (d k : ℕ) (l : Level) (is : IsLevel f W H d k l) where
+  pub level-in : W .length ≤ 2 ^ 16 → H .length < 2 ^ 32 → (l .start ≤ 2 ^ 20 + 8 * k) × (l .width ≤ 2 ^ 16) × (l .height < 2 ^ 32) × (l .set ≤ 2 ^ 32)
   level-in wide high = (
-    rw (is .start) (stretch-small W k wide),
+    rw (is .start) (stretch-small f W k wide),
     omega (arith, is .width, size-le k W),
     omega (arith, is .height, size-le k H),
     is .set,
   )
 
-  pub work-room : (L : ℕ) → k < L → l .start + (4 * l .width + 4 * pick (eqb (k + 1) L) 0 (count lo (side (l .x) (l .width)))) ≤ storeLength W L
-  work-room L h = rw (is .start, is .width, is .x, ← stretch-is W L) (stretch-room W k L h)
+  pub work-room : (L : ℕ) → k < L →
+      l .start + (filterOf f .rows * l .width + filterOf f .rows * pick (eqb (k + 1) L) 0 (count lo (side (l .x) (l .width)))) ≤ storeBy f W L
+  work-room L h = rw (is .start, is .width, is .x, ← stretch-is f W L) (stretch-room f W k L h)
 
-  pub put-room : (c p n : ℕ) → p ≡ rowPlace (l .width) (rowOfSet (down (named c)) (l .set)) + halfPlace (across (named c)) (side (l .x) (l .width)) →
-      n ≡ count (across (named c)) (sideAt k W) → l .start + p + n ≤ storeLength W (k + 1)
+  pub put-room : (c p n : ℕ) → p ≡ rowPlaceOf f (l .width) (rowOfSet (down (named c)) (l .set)) + halfPlace (across (named c)) (side (l .x) (l .width)) →
+      n ≡ count (across (named c)) (sideAt k W) → l .start + p + n ≤ storeBy f W (k + 1)
   put-room c p n ep en =
       let S = side (l .x) (l .width) in
       let r = rowOfSet (down (named c)) (l .set) in
       let half = half-end (across (named c)) S in
-      let columns : n ≡ count (across (named c)) S = en ∙ ap (count (across (named c))) (sym (level-wide W H d k l is)) in
-      rw (← stretch-is W (k + 1), add-one k, stretch-suc W k) (omega (arith, is .start, is .width, place-is (l .width) r, slot-room (l .width) r))
+      let columns : n ≡ count (across (named c)) S = en ∙ ap (count (across (named c))) (sym (level-wide f W H d k l is)) in
+      rw (← stretch-is f W (k + 1), add-one k, stretch-suc f W k, ← is .width) (omega (arith, is .start, place-room f (l .width) r))
 
 -- ---- a level as the code has it: without cells, and at one of its sets
-pub level-none : (W H : Side) (d k : ℕ) (l : Level) → IsLevel W H d k l → eqb (l .width) 0 || eqb (l .height) 0 ≡ true → Empty (sideAt k W) (sideAt k H)
-level-none W H d k l is e = none-of (sideAt k W) (sideAt k H) (rw (is .width, is .height) at e)
+pub level-none : (f : ℕ) (W H : Side) (d k : ℕ) (l : Level) → IsLevel f W H d k l → eqb (l .width) 0 || eqb (l .height) 0 ≡ true → Empty (sideAt k W) (sideAt k H)
+level-none f W H d k l is e = none-of (sideAt k W) (sideAt k H) (rw (is .width, is .height) at e)

@@ -10,8 +10,6 @@ use lib.Dec.{T, leb, ltb}
 use borrow.Author.Tests.{le-leb, eq-eqb, leb-true, ltb-true}
 use Rattle.numbers.specs.Signal.{pick}
 use Rattle.numbers.specs.Word.{whole}
-use Rattle.lifting.specs.FiveThree.{fiveThreeFilter}
-use Rattle.lifting.proofs.FiveThreeFilter.{five-three-laws}
 use Rattle.wavelet.specs.Bands.{Grid, Band}
 use Rattle.lifting.specs.Grid.{Side}
 use Rattle.wavelet.specs.Levels.{levelBand}
@@ -30,6 +28,8 @@ use Rattle.calls.specs.Lists.{Reply, gives, refused, Area, All, all-none, all-m
 use Rattle.calls.specs.Lists as lists
 use Rattle.calls.proofs.AllLaws.{all-append, In, first, later, in-left, in-right, all-in, in-all}
 use Rattle.calls.proofs.ListLaws.{ever-append, final-append, events-append, events-length}
+use Rattle.nine_seven.specs.Filters.{filterOf}
+use Rattle.nine_seven.proofs.Filters.{filter-laws}
 use Rattle.reader.specs.Answers.{row, drawNow, done, ended}
 use Rattle.reader.specs.Questions.{runFits, setUpQuestion}
 use Rattle.reader.specs.Demand3.{Call, want, feed, draw, Given, heights, Event, wanted, fed, drew, World, event, events}
@@ -113,34 +113,34 @@ exists-parts W H L k b r e =
     let f = both (ltb 0 (bandColumns W k b)) _ (d .1) in
     (leb-true 1 k (c .0), ltb-true r (bandRows H k b) (f .1), leb-true k L (c .1), d .0)
 
-row-in-range : (W H : Side) (L : ℕ) (g : Grid) → IsMap (W .length) (H .length) g → (y : RowName) →
+row-in-range : (f : ℕ) (W H : Side) (L : ℕ) (g : Grid) → IsMap (W .length) (H .length) g → (y : RowName) →
     bandRowExists W H L (y .level) (y .band) (y .row) ≡ true → (i : ℕ) →
-    i < bandColumns W (y .level) (y .band) → natAbs (levelBand fiveThreeFilter whole W H g (y .level) (y .band) (y .row) i) ≤ range fiveThreeFilter (y .level)
+    i < bandColumns W (y .level) (y .band) → natAbs (levelBand (filterOf f) whole W H g (y .level) (y .band) (y .row) i) ≤ range (filterOf f) (y .level)
 unfolding bandRows bandColumns
-row-in-range W H L g m y e = let p = exists-parts W H L (y .level) (y .band) (y .row) e in at (y .level) (p .0) (p .1)
+row-in-range f W H L g m y e = let p = exists-parts W H L (y .level) (y .band) (y .row) e in at (y .level) (p .0) (p .1)
   where
     at : (v : ℕ) → 1 ≤ v → y .row < bandRows H v (y .band) → (i : ℕ) → i < bandColumns W v (y .band) →
-        natAbs (levelBand fiveThreeFilter whole W H g v (y .band) (y .row) i) ≤ range fiveThreeFilter v
+        natAbs (levelBand (filterOf f) whole W H g v (y .band) (y .row) i) ≤ range (filterOf f) v
     at zero h r i p = absurd (omega arith)
     at (suc k) h r i p =
         let z : suc k - 1 ≡ k = omega arith in
-        map-band-range fiveThreeFilter five-three-laws W H g m k (y .band) (y .row) i (rw z at r) (rw z at p)
+        map-band-range (filterOf f) (filter-laws f) W H g m k (y .band) (y .row) i (rw z at r) (rw z at p)
 
-module _ (W H : Side) (L n : ℕ) (across : W .start ≤ maxOrigin) (down : H .start ≤ maxOrigin) (ok : setUpQuestion W H L n ≡ 0) (rows : RowName → Area)
+module _ (f : ℕ) (W H : Side) (L n : ℕ) (across : W .start ≤ maxOrigin) (down : H .start ≤ maxOrigin) (ok : setUpQuestion f W H L n ≡ 0) (rows : RowName → Area)
     (sized : Sized W H L rows) (outs : ℕ → Area) (room : (i : ℕ) → W .length ≤ outs i .size) (x : ℕ → ℤ) where
   abbrev w₀ : World
-  w₀ = freshWorld W H L n x
+  w₀ = freshWorld f W H L n x
 
   abbrev T₀ : List Step
-  T₀ = steps ahead W H L
+  T₀ = steps (ahead f) W H L
 
-  claim : (cs : List Call) → Demand3 W H L (events cs w₀) (λ c. event c (final cs w₀))
-  claim cs = demand-3 W H L n across down ok x cs .claim
+  claim : (cs : List Call) → Demand3 f W H L (events cs w₀) (λ c. event c (final cs w₀))
+  claim cs = demand-3 f W H L n across down ok x cs .claim
 
   -- all went on so far, and each row fed is the one of that name
   record Fair (es : List Event) : Type 0 where
     live : endedBy es ≡ false
-    from-rows : All (λ f. f .run ≡ rows (f .row)) (fedRows T₀ es)
+    from-rows : All (λ fr. fr .run ≡ rows (fr .row)) (fedRows T₀ es)
     names : namesOf (fedRows T₀ es) ++ bandRowsOf (left T₀ es) ≡ bandRowsOf T₀
 
   -- the rows of the steps are the plane's
@@ -151,9 +151,9 @@ module _ (W H : Side) (L n : ℕ) (across : W .start ≤ maxOrigin) (down : H .s
       go true e h = refl
       go false e h = absurd (omega arith)
 
-  fed-exists : (es : List Event) → Fair es → (f : FedRow) → In f (fedRows T₀ es) → bandRowExists W H L (f .row .level) (f .row .band) (f .row .row) ≡ true
-  fed-exists es fair f i = step-exists (f .row) (subst (In (f .row)) (fair .names)
-      (in-left (f .row) (namesOf (fedRows T₀ es)) _ (in-names f (fedRows T₀ es) i)))
+  fed-exists : (es : List Event) → Fair es → (fr : FedRow) → In fr (fedRows T₀ es) → bandRowExists W H L (fr .row .level) (fr .row .band) (fr .row .row) ≡ true
+  fed-exists es fair fr i = step-exists (fr .row) (subst (In (fr .row)) (fair .names)
+      (in-left (fr .row) (namesOf (fedRows T₀ es)) _ (in-names fr (fedRows T₀ es) i)))
 
   next-exists : (es : List Event) → Fair es → (y : RowName) (t : List Step) → left T₀ es ≡ step.feed y ∷ t →
       bandRowExists W H L (y .level) (y .band) (y .row) ≡ true
@@ -162,21 +162,21 @@ module _ (W H : Side) (L n : ℕ) (across : W .start ≤ maxOrigin) (down : H .s
       (in-right y (namesOf (fedRows T₀ es)) _ (subst (λ v. In y (bandRowsOf v)) (sym e) first)))
 
   -- a map that has all the rows has those fed
-  has-fed : (es : List Event) → Fair es → (g : Grid) → IsMap (W .length) (H .length) g → HasAll W H L g rows → All (HasRow W H g) (fedRows T₀ es)
+  has-fed : (es : List Event) → Fair es → (g : Grid) → IsMap (W .length) (H .length) g → HasAll f W H L g rows → All (HasRow f W H g) (fedRows T₀ es)
   has-fed es fair g m h =
-      all-in (fedRows T₀ es) (λ f i. subst (IsRow W H g (f .row)) (sym (in-all f (fedRows T₀ es) i (fair .from-rows)))
-      (h .are (f .row) (fed-exists es fair f i)))
+      all-in (fedRows T₀ es) (λ fr i. subst (IsRow f W H g (fr .row)) (sym (in-all fr (fedRows T₀ es) i (fair .from-rows)))
+      (h .are (fr .row) (fed-exists es fair fr i)))
 
   -- ---- one turn
   -- no map has all rows where 14 comes
   none-fourteen : (cs : List Call) (c : Call) → endedBy (events (cs ++ (c ∷ [])) w₀) ≡ true → (g : Grid) → IsMap (W .length) (H .length) g →
-      All (HasRow W H g) (fedRows T₀ (events (cs ++ (c ∷ [])) w₀)) → ⊥
+      All (HasRow f W H g) (fedRows T₀ (events (cs ++ (c ∷ [])) w₀)) → ⊥
   none-fourteen cs c e g m h = claim (cs ++ (c ∷ [])) .impossible e g (record { map = m; rows = h })
 
   data Verdict (cs : List Call) : Type 0 where
     fine : Fair (events cs w₀) → left T₀ (events cs w₀) ≡ [] → Verdict cs
     bad : Refusal (events cs w₀) → (event want (final cs w₀) ≡ wanted (gives done) → ⊥) →
-        ((g : Grid) → IsMap (W .length) (H .length) g → HasAll W H L g rows → ⊥) → Verdict cs
+        ((g : Grid) → IsMap (W .length) (H .length) g → HasAll f W H L g rows → ⊥) → Verdict cs
 
   said-done : (cs : List Call) → event want (final cs w₀) ≡ wanted (gives done) → left T₀ (events cs w₀) ≡ []
   said-done cs z =
@@ -192,19 +192,19 @@ module _ (W H : Side) (L n : ℕ) (across : W .start ≤ maxOrigin) (down : H .s
   too-few m cs c ps len off few z =
       let e : left T₀ (events (cs ++ (c ∷ ps)) w₀) ≡ left (left T₀ (events cs w₀)) (events (c ∷ ps) (final cs w₀)) =
       ap (left T₀) (events-append event demand.next cs (c ∷ ps) w₀) ∙ left-append T₀ (events cs w₀) _ in
-      let f : left (pick (goesOn (event c (final cs w₀))) (rest (left T₀ (events cs w₀))) (left T₀ (events cs w₀))) (events ps (demand.next c (final cs w₀)))
+      let u : left (pick (goesOn (event c (final cs w₀))) (rest (left T₀ (events cs w₀))) (left T₀ (events cs w₀))) (events ps (demand.next c (final cs w₀)))
       ≡ [] = sym e ∙ said-done (cs ++ (c ∷ ps)) z in
-      let h : left (left T₀ (events cs w₀)) (events ps (demand.next c (final cs w₀))) ≡ [] = rw off at f in
+      let h : left (left T₀ (events cs w₀)) (events ps (demand.next c (final cs w₀))) ≡ [] = rw off at u in
       let a = left-length (left T₀ (events cs w₀)) (events ps (demand.next c (final cs w₀))) in
       omega (arith, ap length h, events-length event demand.next ps (demand.next c (final cs w₀)))
 
   -- a row of a map is not refused by 7
-  run-fits : (y : RowName) → bandRowExists W H L (y .level) (y .band) (y .row) ≡ true → (g : Grid) → IsMap (W .length) (H .length) g → HasAll W H L g rows →
-      runFits (y .level) (rows y .size) (rows y .numbers) ≡ true
+  run-fits : (y : RowName) → bandRowExists W H L (y .level) (y .band) (y .row) ≡ true → (g : Grid) → IsMap (W .length) (H .length) g → HasAll f W H L g rows →
+      runFits f (y .level) (rows y .size) (rows y .numbers) ≡ true
   unfolding runFits
   run-fits y e g m h =
       each-every (rows y .size) _ (λ i p. let q : i < bandColumns W (y .level) (y .band) = rw (h .are y e .size) at p in
-      le-leb (natAbs (rows y .numbers i)) (range fiveThreeFilter (y .level)) (rw (h .are y e .values i q) (row-in-range W H L g m y e i q)))
+      le-leb (natAbs (rows y .numbers i)) (range (filterOf f) (y .level)) (rw (h .are y e .values i q) (row-in-range f W H L g m y e i q)))
 
   module _ (cs : List Call) (fair : Fair (events cs w₀)) where
     abbrev es : List Event
@@ -224,16 +224,16 @@ module _ (W H : Side) (L n : ℕ) (across : W .start ≤ maxOrigin) (down : H .s
 
     -- what a fed row adds
     module _ (y : RowName) (t : List Step) (head : left T₀ es ≡ step.feed y ∷ t) where
-      abbrev f : FedRow
-      f = record { row = y; run = rows y }
+      abbrev fr : FedRow
+      fr = record { row = y; run = rows y }
 
       fed-goes : Fair (es ++ (fed (rows y) (gives tt) ∷ [])) × (left T₀ (es ++ (fed (rows y) (gives tt) ∷ [])) ≡ t)
       fed-goes = (
         record {
           live = ever-append ends es _ ∙ rw (fair .live) (unfold lists.ever ends in refl);
           from-rows = subst (All _) (sym rows-are) (all-append (fair .from-rows) (all-more refl all-none));
-          names = ap₂ (λ u v. namesOf u ++ bandRowsOf v) rows-are left-is ∙ ap (λ u. u ++ bandRowsOf t) (map-append (λ f. f .row) (fedRows T₀ es) (f ∷ []))
-              ∙ append-assoc (namesOf (fedRows T₀ es)) (namesOf (f ∷ [])) (bandRowsOf t) ∙ names-more ∙ fair .names;
+          names = ap₂ (λ u v. namesOf u ++ bandRowsOf v) rows-are left-is ∙ ap (λ u. u ++ bandRowsOf t) (map-append (λ fr. fr .row) (fedRows T₀ es) (fr ∷ []))
+              ∙ append-assoc (namesOf (fedRows T₀ es)) (namesOf (fr ∷ [])) (bandRowsOf t) ∙ names-more ∙ fair .names;
         },
         left-is,
       )
@@ -241,23 +241,23 @@ module _ (W H : Side) (L n : ℕ) (across : W .start ≤ maxOrigin) (down : H .s
           left-is : left T₀ (es ++ (fed (rows y) (gives tt) ∷ [])) ≡ t
           left-is = left-append T₀ es _ ∙ ap (λ u. left u (fed (rows y) (gives tt) ∷ [])) head ∙ unfold left leftBy goesOn in refl
 
-          rows-are : fedRows T₀ (es ++ (fed (rows y) (gives tt) ∷ [])) ≡ fedRows T₀ es ++ (f ∷ [])
+          rows-are : fedRows T₀ (es ++ (fed (rows y) (gives tt) ∷ [])) ≡ fedRows T₀ es ++ (fr ∷ [])
           rows-are = fed-append T₀ es _ ∙ ap (λ u. fedRows T₀ es ++ fedRows u (fed (rows y) (gives tt) ∷ [])) head ∙ unfold fedRows fedBy in refl
 
-          names-more : namesOf (fedRows T₀ es) ++ (namesOf (f ∷ []) ++ bandRowsOf t) ≡ namesOf (fedRows T₀ es) ++ bandRowsOf (left T₀ es)
+          names-more : namesOf (fedRows T₀ es) ++ (namesOf (fr ∷ []) ++ bandRowsOf t) ≡ namesOf (fedRows T₀ es) ++ bandRowsOf (left T₀ es)
           names-more = ap (λ u. namesOf (fedRows T₀ es) ++ u) (sym (ap bandRowsOf head ∙ unfold bandRowsOf in refl))
 
       -- where 14 comes no map has all rows
-      fed-none : event (feed (rows y)) w ≡ fed (rows y) (refused 14) → (g : Grid) → IsMap (W .length) (H .length) g → HasAll W H L g rows → ⊥
+      fed-none : event (feed (rows y)) w ≡ fed (rows y) (refused 14) → (g : Grid) → IsMap (W .length) (H .length) g → HasAll f W H L g rows → ⊥
       fed-none e g m h =
           none-fourteen cs (feed (rows y)) (ap endedBy on ∙ ever-append ends es _ ∙ rw (fair .live) (unfold lists.ever ends in refl)) g m
-          (subst (All (HasRow W H g)) (sym (ap (fedRows T₀) on ∙ rows-are))
+          (subst (All (HasRow f W H g)) (sym (ap (fedRows T₀) on ∙ rows-are))
           (all-append (has-fed es fair g m h) (all-more (h .are y (next-exists es fair y t head)) all-none)))
         where
           on : events (cs ++ (feed (rows y) ∷ [])) w₀ ≡ es ++ (fed (rows y) (refused 14) ∷ [])
           on = events-on (feed (rows y)) _ e
 
-          rows-are : fedRows T₀ (es ++ (fed (rows y) (refused 14) ∷ [])) ≡ fedRows T₀ es ++ (f ∷ [])
+          rows-are : fedRows T₀ (es ++ (fed (rows y) (refused 14) ∷ [])) ≡ fedRows T₀ es ++ (fr ∷ [])
           rows-are = fed-append T₀ es _ ∙ ap (λ u. fedRows T₀ es ++ fedRows u (fed (rows y) (refused 14) ∷ [])) head ∙ unfold fedRows fedBy in refl
 
     -- a height row drawn adds none
@@ -281,10 +281,10 @@ module _ (W H : Side) (L n : ℕ) (across : W .start ≤ maxOrigin) (down : H .s
           names-same : namesOf (fedRows T₀ es) ++ bandRowsOf t ≡ namesOf (fedRows T₀ es) ++ bandRowsOf (left T₀ es)
           names-same = ap (λ u. namesOf (fedRows T₀ es) ++ u) (sym (ap bandRowsOf head ∙ unfold bandRowsOf in refl))
 
-      drawn-none : event (draw a) w ≡ drew a (refused 14) b → (g : Grid) → IsMap (W .length) (H .length) g → HasAll W H L g rows → ⊥
+      drawn-none : event (draw a) w ≡ drew a (refused 14) b → (g : Grid) → IsMap (W .length) (H .length) g → HasAll f W H L g rows → ⊥
       drawn-none e g m h =
           none-fourteen cs (draw a) (ap endedBy on ∙ ever-append ends es _ ∙ rw (fair .live) (unfold lists.ever ends in refl)) g m
-          (subst (All (HasRow W H g)) (sym (ap (fedRows T₀) on ∙ drawn-same _)) (has-fed es fair g m h))
+          (subst (All (HasRow f W H g)) (sym (ap (fedRows T₀) on ∙ drawn-same _)) (has-fed es fair g m h))
         where
           on : events (cs ++ (draw a ∷ [])) w₀ ≡ es ++ (drew a (refused 14) b ∷ [])
           on = events-on (draw a) _ e
@@ -323,7 +323,7 @@ module _ (W H : Side) (L n : ℕ) (across : W .start ≤ maxOrigin) (down : H .s
         subst Verdict (sym (later-calls m c a)) (ih (cs ++ (c ∷ [])) (ap (λ u. length (left T₀ u)) z ∙ ap length is ∙ len) (subst Fair (sym z) on))
 
     refuses : (m : ℕ) (c : Call) (v : Event) → answering rows (outs m) (event want w) ≡ c ∷ [] → event c w ≡ v → length (left T₀ es) ≡ suc m →
-        goesOn v ≡ false → ((vs : List Event) → Refusal (v ∷ vs)) → ((g : Grid) → IsMap (W .length) (H .length) g → HasAll W H L g rows → ⊥) →
+        goesOn v ≡ false → ((vs : List Event) → Refusal (v ∷ vs)) → ((g : Grid) → IsMap (W .length) (H .length) g → HasAll f W H L g rows → ⊥) →
         Verdict (cs ++ played rows outs (suc m) w)
     refuses m c v a e len off r no-g =
         subst Verdict (ap (λ u. cs ++ u) (sym (played-on m c a)))
@@ -355,7 +355,7 @@ module _ (W H : Side) (L n : ℕ) (across : W .start ≤ maxOrigin) (down : H .s
               refl) (λ vs. drawn-fourteen) (drawn-none cs fair (outs m) (d .after) r t head is)
 
       at-feed : (y : RowName) (t : List Step) → left T₀ (events cs w₀) ≡ step.feed y ∷ t → (u : Bool) →
-          runFits (y .level) (rows y .size) (rows y .numbers) ≡ u → Verdict (cs ++ played rows outs (suc m) (final cs w₀))
+          runFits f (y .level) (rows y .size) (rows y .numbers) ≡ u → Verdict (cs ++ played rows outs (suc m) (final cs w₀))
       at-feed y t head false z =
           let is : event (feed (rows y)) (final cs w₀) ≡ fed (rows y) (refused 7) =
           claim cs .feeds-turned (rows y) 6 (turned 7 (unfold feedTurned in
@@ -363,9 +363,9 @@ module _ (W H : Side) (L n : ℕ) (across : W .start ≤ maxOrigin) (down : H .s
           refuses cs fair m (feed (rows y)) (fed (rows y) (refused 7)) (wanted-row cs fair (outs m) y t head) is len (unfold goesOn in
           refl) (λ vs. seven) (λ g mp h. subst T (sym (run-fits y (next-exists (events cs w₀) fair y t head) g mp h) ∙ z) tt)
         where
-          turned : (q : ℕ) → feedTurned W false (step.feed y ∷ t) (rows y) ≡ q → feedTurned W (endedBy (events cs w₀)) (left T₀ (events cs w₀)) (rows y) ≡ q
-          turned q e = ap₂ (λ u v. feedTurned W u v (rows y)) (fair .live) head ∙ e
-      at-feed y t head true z = says (claim cs .feeds-on (rows y) (ap₂ (λ u v. feedTurned W u v (rows y)) (fair .live) head
+          turned : (q : ℕ) → feedTurned f W false (step.feed y ∷ t) (rows y) ≡ q → feedTurned f W (endedBy (events cs w₀)) (left T₀ (events cs w₀)) (rows y) ≡ q
+          turned q e = ap₂ (λ u v. feedTurned f W u v (rows y)) (fair .live) head ∙ e
+      at-feed y t head true z = says (claim cs .feeds-on (rows y) (ap₂ (λ u v. feedTurned f W u v (rows y)) (fair .live) head
           ∙ (unfold feedTurned in rw (eq-eqb (rows y .size) (bandColumns W (y .level) (y .band)) (sized .size y (next-exists (events cs w₀) fair y t head)), z)
           refl)))
         where
@@ -380,7 +380,7 @@ module _ (W H : Side) (L n : ℕ) (across : W .start ≤ maxOrigin) (down : H .s
 
       go : (t : List Step) → left T₀ (events cs w₀) ≡ t → Verdict (cs ++ played rows outs (suc m) (final cs w₀))
       go [] e = absurd (omega (arith, ap length e))
-      go (step.feed y ∷ t) e = at-feed y t e (runFits (y .level) (rows y .size) (rows y .numbers)) refl
+      go (step.feed y ∷ t) e = at-feed y t e (runFits f (y .level) (rows y .size) (rows y .numbers)) refl
       go (step.draw r ∷ t) e = at-draw r t e (claim cs .draws (outs m))
 
   no-length : (t : List Step) → length t ≡ 0 → t ≡ []
@@ -408,7 +408,7 @@ module _ (W H : Side) (L n : ℕ) (across : W .start ≤ maxOrigin) (down : H .s
   unfolding wantSays
   done-then fair over = claim all .wants ∙ ap₂ (λ u v. wanted (gives (wantSays W u v))) (fair .live) over
 
-  has-all : Fair (events all w₀) → left T₀ (events all w₀) ≡ [] → (g : Grid) → HasFed W H L g (events all w₀) → HasAll W H L g rows
+  has-all : Fair (events all w₀) → left T₀ (events all w₀) ≡ [] → (g : Grid) → HasFed f W H L g (events all w₀) → HasAll f W H L g rows
   unfolding bandRowsOf
   has-all fair over g has = record { are = λ y e. at y (names-in y (fedRows T₀ (events all w₀)) (in-fed y e)) }
     where
@@ -419,33 +419,33 @@ module _ (W H : Side) (L n : ℕ) (across : W .start ≤ maxOrigin) (down : H .s
           let one : times y (bandRowsOf T₀) ≡ 1 = claim [] .rows-once y ∙ ap (λ u. pick u 1 0) e in
           subst (In y) (sym names) (times-in y (bandRowsOf T₀) (omega arith))
 
-      at : (y : RowName) → (f : FedRow) × In f (fedRows T₀ (events all w₀)) × (f .row ≡ y) → IsRow W H g y (rows y)
+      at : (y : RowName) → (fr : FedRow) × In fr (fedRows T₀ (events all w₀)) × (fr .row ≡ y) → IsRow f W H g y (rows y)
       at y r =
           let fs = fedRows T₀ (events all w₀) in
-          subst (λ v. IsRow W H g v (rows v)) (r .2)
-          (subst (IsRow W H g (r .0 .row)) (in-all (r .0) fs (r .1) (fair .from-rows)) (in-all (r .0) fs (r .1) (has .rows)))
+          subst (λ v. IsRow f W H g v (rows v)) (r .2)
+          (subst (IsRow f W H g (r .0 .row)) (in-all (r .0) fs (r .1) (fair .from-rows)) (in-all (r .0) fs (r .1) (has .rows)))
 
-  handed-back : (g : Grid) → IsMap (W .length) (H .length) g → HasAll W H L g rows → Verdict all → Back W H g (events all w₀) (λ c. event c (final all w₀))
+  handed-back : (g : Grid) → IsMap (W .length) (H .length) g → HasAll f W H L g rows → Verdict all → Back W H g (events all w₀) (λ c. event c (final all w₀))
   handed-back g m h (fine fair over) =
       let z = done-then fair over in
       record { all = claim all .finished .0 z .all; heights = claim all .first g (record { map = m; rows = has-fed (events all w₀) fair g m h }); says = z }
   handed-back g m h (bad _ _ no-g) = absurd (no-g g m h)
 
-  refused-by : ((g : Grid) → IsMap (W .length) (H .length) g → HasAll W H L g rows → ⊥) → Verdict all → Stopped (events all w₀) (λ c. event c (final all w₀))
+  refused-by : ((g : Grid) → IsMap (W .length) (H .length) g → HasAll f W H L g rows → ⊥) → Verdict all → Stopped (events all w₀) (λ c. event c (final all w₀))
   refused-by none-has (bad r d _) = record { refusal = r; not-done = d }
   refused-by none-has (fine fair over) =
-      let f = claim all .finished .0 (done-then fair over) in
-      absurd (none-has (f .map) (f .has .map) (has-all fair over (f .map) (f .has)))
+      let fr = claim all .finished .0 (done-then fair over) in
+      absurd (none-has (fr .map) (fr .has .map) (has-all fair over (fr .map) (fr .has)))
 
 -- ---- the theorem
-module _ (W H : Side) (L n : ℕ) (across : W .start ≤ maxOrigin) (down : H .start ≤ maxOrigin) (ok : setUpQuestion W H L n ≡ 0) (rows : RowName → Area)
+module _ (f : ℕ) (W H : Side) (L n : ℕ) (across : W .start ≤ maxOrigin) (down : H .start ≤ maxOrigin) (ok : setUpQuestion f W H L n ≡ 0) (rows : RowName → Area)
     (outs : ℕ → Area) (room : (i : ℕ) → W .length ≤ outs i .size) (x : ℕ → ℤ) where
   abbrev turnsOf : List Call
-  turnsOf = played rows outs (length (steps ahead W H L)) (freshWorld W H L n x)
+  turnsOf = played rows outs (length (steps (ahead f) W H L)) (freshWorld f W H L n x)
 
-  pub played-holds : Played W H L rows (events turnsOf (freshWorld W H L n x)) (λ c. event c (final turnsOf (freshWorld W H L n x)))
+  pub played-holds : Played f W H L rows (events turnsOf (freshWorld f W H L n x)) (λ c. event c (final turnsOf (freshWorld f W H L n x)))
   played-holds = record {
     map-back = λ g m h. let sized : Sized W H L rows = record { size = λ y e. h .are y e .size } in
-        handed-back W H L n across down ok rows sized outs room x g m h (verdict W H L n across down ok rows sized outs room x);
-    no-map = λ sized none-has. refused-by W H L n across down ok rows sized outs room x none-has (verdict W H L n across down ok rows sized outs room x);
+        handed-back f W H L n across down ok rows sized outs room x g m h (verdict f W H L n across down ok rows sized outs room x);
+    no-map = λ sized none-has. refused-by f W H L n across down ok rows sized outs room x none-has (verdict f W H L n across down ok rows sized outs room x);
   }

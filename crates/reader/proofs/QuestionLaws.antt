@@ -9,12 +9,15 @@ use borrow.Author.Tests.{le-leb, lt-leb, lt-ltb, le-ltb, eq-eqb, ne-eqb, leb-tru
 use Rattle.numbers.specs.Signal.{pick, both}
 use Rattle.numbers.proofs.Sweep.{both as halves}
 use Rattle.lifting.specs.Grid.{Side}
-use Rattle.wavelet.specs.Limits.{maxWidth, maxHeight, maxLevels, maxOrigin}
+use Rattle.wavelet.specs.Limits.{maxWidth, maxHeight, maxOrigin}
 use Rattle.wavelet.specs.Questions.{ask, within}
 use Rattle.wavelet.proofs.LimitLaws.{width-small, height-small, origin-small}
 use Rattle.wavelet.proofs.QuestionLaws.{within-true, within-yes}
-use Rattle.wavelet.specs.Store.{storeLength, anyLength}
 use Rattle.wavelet.proofs.StoreLaws.{store-most}
+use Rattle.nine_seven.specs.Filters.{filterOf, isFilter}
+use Rattle.filters.specs.Figures.{storeBy, anyBy, streamable}
+use Rattle.filters.proofs.FigureLaws.{levels-most}
+use Rattle.calls.proofs.QuestionLaws.{asked-yes}
 use Rattle.reader.proofs.StoreLaws.{length-is}
 use Rattle.reader.specs.declared.Reader.{Reader}
 use Rattle.reader.specs.State.{columns, rows, next, nextLength, unfinished, rowDue, drawDue}
@@ -23,8 +26,8 @@ use Rattle.reader.specs.Sets.{ahead}
 use Rattle.reader.specs.Inside.{Counts, Small, storeQuestion, rowQuestion}
 
 -- the length that the code asks for, 0 outside the limits
-abbrev pub asked : Side → ℕ → ℕ
-asked W L = pick (both (within 1 maxWidth (W .length)) (within 1 maxLevels L)) (storeLength W L) 0
+abbrev pub asked : ℕ → Side → ℕ → ℕ
+asked f W L = pick (streamable f W L) (storeBy f W L) 0
 
 -- ---- question 1
 module _ (s : Reader) where
@@ -38,29 +41,34 @@ module _ (s : Reader) where
     counts-2 b = rw (one, b)
 
     module _ (two : within 1 maxHeight (s .height) ≡ true) where
-      pub counts-3 : within 1 maxLevels (s .levels) ≡ false → false ≡ countsFit s
+      pub counts-f : isFilter (s .filter) ≡ false → false ≡ countsFit s
       unfolding countsFit
-      counts-3 b = rw (one, two, b)
+      counts-f b = rw (one, two, b)
 
-      module _ (three : within 1 maxLevels (s .levels) ≡ true) where
+      pub counts-3 : isFilter (s .filter) ≡ true → within 1 (filterOf (s .filter) .levels) (s .levels) ≡ false → false ≡ countsFit s
+      unfolding countsFit
+      counts-3 k b = rw (one, two, k, b)
+
+      module _ (known : isFilter (s .filter) ≡ true) (three : within 1 (filterOf (s .filter) .levels) (s .levels) ≡ true) where
         pub counts-x : maxOrigin < s .x → false ≡ countsFit s
         unfolding countsFit
-        counts-x h = rw (one, two, three, lt-leb (s .x) maxOrigin h)
+        counts-x h = rw (one, two, known, three, lt-leb (s .x) maxOrigin h)
 
         pub counts-y : s .x ≤ maxOrigin → maxOrigin < s .y → false ≡ countsFit s
         unfolding countsFit
-        counts-y g h = rw (one, two, three, le-leb (s .x) maxOrigin g, lt-leb (s .y) maxOrigin h)
+        counts-y g h = rw (one, two, known, three, le-leb (s .x) maxOrigin g, lt-leb (s .y) maxOrigin h)
 
         module _ (across : s .x ≤ maxOrigin) (down : s .y ≤ maxOrigin) where
           pub counts-4 : s .height < s .drawn → false ≡ countsFit s
           unfolding countsFit
-          counts-4 h = rw (one, two, three, le-leb (s .x) maxOrigin across, le-leb (s .y) maxOrigin down, lt-leb (s .drawn) (s .height) h)
+          counts-4 h = rw (one, two, known, three, le-leb (s .x) maxOrigin across, le-leb (s .y) maxOrigin down, lt-leb (s .drawn) (s .height) h)
 
           pub counts-5 : s .drawn ≤ s .height → s .levels < s .level → false ≡ countsFit s
           unfolding countsFit
           counts-5 g h = rw (
             one,
             two,
+            known,
             three,
             le-leb (s .x) maxOrigin across,
             le-leb (s .y) maxOrigin down,
@@ -73,6 +81,7 @@ module _ (s : Reader) where
           counts-6 g h b = rw (
             one,
             two,
+            known,
             three,
             le-leb (s .x) maxOrigin across,
             le-leb (s .y) maxOrigin down,
@@ -81,11 +90,12 @@ module _ (s : Reader) where
             lt-leb (s .band) 4 b,
           )
 
-          pub counts-7 : s .drawn ≤ s .height → s .level ≤ s .levels → s .band ≤ 4 → leb (s .back) (2 * ahead - 1) ≡ countsFit s
+          pub counts-7 : s .drawn ≤ s .height → s .level ≤ s .levels → s .band ≤ 4 → leb (s .back) (2 * ahead (s .filter) - 1) ≡ countsFit s
           unfolding countsFit
           counts-7 g h b = rw (
             one,
             two,
+            known,
             three,
             le-leb (s .x) maxOrigin across,
             le-leb (s .y) maxOrigin down,
@@ -99,7 +109,8 @@ module _ (s : Reader) where
   counts-in e =
       let a = halves (within 1 maxWidth (s .width)) _ e in
       let b = halves (within 1 maxHeight (s .height)) _ (a .1) in
-      let c = halves (within 1 maxLevels (s .levels)) _ (b .1) in
+      let k = halves (isFilter (s .filter)) _ (b .1) in
+      let c = halves (within 1 (filterOf (s .filter) .levels) (s .levels)) _ (k .1) in
       let u = halves (leb (s .x) maxOrigin) _ (c .1) in
       let v = halves (leb (s .y) maxOrigin) _ (u .1) in
       let f = halves (leb (s .drawn) (s .height)) _ (v .1) in
@@ -108,7 +119,9 @@ module _ (s : Reader) where
       record {
         wide = within-true 1 maxWidth (s .width) (a .0);
         high = within-true 1 maxHeight (s .height) (b .0);
-        deep = within-true 1 maxLevels (s .levels) (c .0);
+        known = k .0;
+        deep = within-true 1 (filterOf (s .filter) .levels) (s .levels) (c .0);
+        few = omega (arith, within-true 1 (filterOf (s .filter) .levels) (s .levels) (c .0) .1, levels-most (s .filter));
         across = leb-true _ _ (u .0);
         down = leb-true _ _ (v .0);
         drew = leb-true _ _ (f .0);
@@ -117,9 +130,9 @@ module _ (s : Reader) where
         behind = leb-true _ _ (b′ .1);
       }
 
-  pub counts-length : Counts s → (m : ℕ) → m ≡ asked (columns s) (s .levels) → m ≡ storeLength (columns s) (s .levels)
-  counts-length c m e = e ∙ length-is (columns s) (s .levels) (within-yes 1 maxWidth (s .width) (c .wide .0) (c .wide .1))
-      (within-yes 1 maxLevels (s .levels) (c .deep .0) (c .deep .1))
+  pub counts-length : Counts s → (m : ℕ) → m ≡ asked (s .filter) (columns s) (s .levels) → m ≡ storeBy (s .filter) (columns s) (s .levels)
+  counts-length c m e = e ∙ length-is (s .filter) (columns s) (s .levels) (c .known) (within-yes 1 maxWidth (s .width) (c .wide .0) (c .wide .1))
+      (within-yes 1 (filterOf (s .filter) .levels) (s .levels) (c .deep .0) (c .deep .1))
 
   pub counts-small : Counts s → Small (columns s) (rows s) (s .drawn)
   counts-small c =
@@ -131,48 +144,50 @@ module _ (s : Reader) where
       (omega (arith, width-small), omega (arith, origin-small), omega (arith, height-small), omega (arith, origin-small), omega arith)
 
 -- ---- the set-up
-module _ (W H : Side) (L n : ℕ) where
-  pub up-2 : within 1 maxWidth (W .length) ≡ false → 2 ≡ setUpQuestion W H L n
+module _ (f : ℕ) (W H : Side) (L n : ℕ) where
+  pub up-2 : within 1 maxWidth (W .length) ≡ false → 2 ≡ setUpQuestion f W H L n
   unfolding setUpQuestion
   up-2 a = rw a
 
   module _ (one : within 1 maxWidth (W .length) ≡ true) where
-    pub up-3 : within 1 maxHeight (H .length) ≡ false → 3 ≡ setUpQuestion W H L n
+    pub up-3 : within 1 maxHeight (H .length) ≡ false → 3 ≡ setUpQuestion f W H L n
     unfolding setUpQuestion
     up-3 b = rw (one, b)
 
     module _ (two : within 1 maxHeight (H .length) ≡ true) where
-      pub up-4 : within 1 maxLevels L ≡ false → 4 ≡ setUpQuestion W H L n
+      pub up-18 : isFilter f ≡ false → 18 ≡ setUpQuestion f W H L n
       unfolding setUpQuestion
-      up-4 b = rw (one, two, b)
+      up-18 b = rw (one, two, b)
 
-      module _ (three : within 1 maxLevels L ≡ true) where
+      pub up-4 : isFilter f ≡ true → within 1 (filterOf f .levels) L ≡ false → 4 ≡ setUpQuestion f W H L n
+      unfolding setUpQuestion
+      up-4 k b = rw (one, two, k, b)
+
+      module _ (known : isFilter f ≡ true) (three : within 1 (filterOf f .levels) L ≡ true) where
         -- m is the length that the code asks for
-        pub up-length : (m : ℕ) → m ≡ asked W L → m ≡ storeLength W L
-        up-length m e = e ∙ length-is W L one three
+        pub up-length : (m : ℕ) → m ≡ asked f W L → m ≡ storeBy f W L
+        up-length m e = e ∙ length-is f W L known one three
 
-        pub up-5 : (m : ℕ) → m ≡ asked W L → n < m → 5 ≡ setUpQuestion W H L n
+        pub up-5 : (m : ℕ) → m ≡ asked f W L → n < m → 5 ≡ setUpQuestion f W H L n
         unfolding setUpQuestion storeFits
-        up-5 m e h = rw (one, two, three, lt-leb (storeLength W L) n (omega (arith, up-length m e)))
+        up-5 m e h = rw (one, two, known, three, lt-leb (storeBy f W L) n (omega (arith, up-length m e)))
 
-        pub up-0 : (m : ℕ) → m ≡ asked W L → m ≤ n → 0 ≡ setUpQuestion W H L n
+        pub up-0 : (m : ℕ) → m ≡ asked f W L → m ≤ n → 0 ≡ setUpQuestion f W H L n
         unfolding setUpQuestion storeFits
-        up-0 m e h = rw (one, two, three, le-leb (storeLength W L) n (omega (arith, up-length m e)))
+        up-0 m e h = rw (one, two, known, three, le-leb (storeBy f W L) n (omega (arith, up-length m e)))
 
   -- a set-up that passes
-  pub up-in : setUpQuestion W H L n ≡ 0 →
-      (within 1 maxWidth (W .length) ≡ true) × (within 1 maxLevels L ≡ true) × (storeLength W L ≤ n) × (within 1 maxHeight (H .length) ≡ true)
+  pub up-in : setUpQuestion f W H L n ≡ 0 →
+      (within 1 maxWidth (W .length) ≡ true) × (within 1 (filterOf f .levels) L ≡ true) × (storeBy f W L ≤ n) × (within 1 maxHeight (H .length) ≡ true)
+      × (isFilter f ≡ true)
   unfolding setUpQuestion storeFits
-  up-in e = go (within 1 maxWidth (W .length)) (within 1 maxHeight (H .length)) (within 1 maxLevels L) (leb (storeLength W L) n) refl refl refl refl e
-    where
-      go : (a b c d : Bool) → within 1 maxWidth (W .length) ≡ a → within 1 maxHeight (H .length) ≡ b → within 1 maxLevels L ≡ c → leb (storeLength W L) n ≡ d →
-          ask a 2 (ask b 3 (ask c 4 (ask d 5 0))) ≡ 0 →
-          (within 1 maxWidth (W .length) ≡ true) × (within 1 maxLevels L ≡ true) × (storeLength W L ≤ n) × (within 1 maxHeight (H .length) ≡ true)
-      go true true true true ea eb ec ed e = (ea, ec, leb-true _ _ ed, eb)
-      go true true true false ea eb ec ed e = absurd (omega arith)
-      go true true false d ea eb ec ed e = absurd (omega arith)
-      go true false c d ea eb ec ed e = absurd (omega arith)
-      go false b c d ea eb ec ed e = absurd (omega arith)
+  up-in e =
+      let a = asked-yes (within 1 maxWidth (W .length)) 1 _ e in
+      let b = asked-yes (within 1 maxHeight (H .length)) 2 _ (a .1) in
+      let k = asked-yes (isFilter f) 17 _ (b .1) in
+      let c = asked-yes (within 1 (filterOf f .levels) L) 3 _ (k .1) in
+      let d = asked-yes (leb (storeBy f W L) n) 4 _ (c .1) in
+      (a .0, c .0, leb-true _ _ (d .0), b .0, k .0)
 
 -- ---- questions 1, 5 and 9
 module _ (s : Reader) (n : ℕ) where
@@ -181,11 +196,11 @@ module _ (s : Reader) (n : ℕ) where
   store-1 a = rw a
 
   module _ (one : countsFit s ≡ true) where
-    pub store-5 : storeFits (columns s) (s .levels) n ≡ false → 5 ≡ storeQuestion s n
+    pub store-5 : storeFits (s .filter) (columns s) (s .levels) n ≡ false → 5 ≡ storeQuestion s n
     unfolding storeQuestion
     store-5 h = rw (one, h)
 
-    module _ (two : storeFits (columns s) (s .levels) n ≡ true) where
+    module _ (two : storeFits (s .filter) (columns s) (s .levels) n ≡ true) where
       pub store-9 : s .ended ≡ true → 9 ≡ storeQuestion s n
       unfolding storeQuestion
       store-9 f = rw (one, two, f)
@@ -196,22 +211,22 @@ module _ (s : Reader) (n : ℕ) where
 
   -- question 5 by the most that a store needs, and by what this one needs
   module _ (counts : Counts s) where
-    pub store-any : both (leb (s .width) maxWidth) (leb (anyLength (s .width)) n) ≡ true → true ≡ storeFits (columns s) (s .levels) n
+    pub store-any : both (leb (s .width) maxWidth) (leb (anyBy (s .filter) (s .width)) n) ≡ true → true ≡ storeFits (s .filter) (columns s) (s .levels) n
     unfolding storeFits
     store-any h =
-        let room = leb-true (anyLength (s .width)) n (halves (leb (s .width) maxWidth) _ h .1) in
-        sym (le-leb (storeLength (columns s) (s .levels)) n (omega (arith, room, store-most (columns s) (s .levels) (counts .deep .1))))
+        let room = leb-true (anyBy (s .filter) (s .width)) n (halves (leb (s .width) maxWidth) _ h .1) in
+        sym (le-leb (storeBy (s .filter) (columns s) (s .levels)) n (omega (arith, room, store-most (filterOf (s .filter) .rows) (columns s) (s .levels) (counts .few))))
 
-    pub store-own : (m : ℕ) → m ≡ asked (columns s) (s .levels) → leb m n ≡ storeFits (columns s) (s .levels) n
+    pub store-own : (m : ℕ) → m ≡ asked (s .filter) (columns s) (s .levels) → leb m n ≡ storeFits (s .filter) (columns s) (s .levels) n
     unfolding storeFits
     store-own m e = ap (λ (i : ℕ). leb i n) (counts-length s counts m e)
 
-  pub store-in : storeQuestion s n ≡ 0 → Counts s × (storeLength (columns s) (s .levels) ≤ n) × (s .ended ≡ false)
+  pub store-in : storeQuestion s n ≡ 0 → Counts s × (storeBy (s .filter) (columns s) (s .levels) ≤ n) × (s .ended ≡ false)
   unfolding storeQuestion storeFits
-  store-in e = go (countsFit s) (leb (storeLength (columns s) (s .levels)) n) (s .ended) refl refl refl e
+  store-in e = go (countsFit s) (leb (storeBy (s .filter) (columns s) (s .levels)) n) (s .ended) refl refl refl e
     where
-      go : (a b c : Bool) → countsFit s ≡ a → leb (storeLength (columns s) (s .levels)) n ≡ b → s .ended ≡ c → ask a 1 (ask b 5 (ask (not c) 9 0)) ≡ 0 →
-          Counts s × (storeLength (columns s) (s .levels) ≤ n) × (s .ended ≡ false)
+      go : (a b c : Bool) → countsFit s ≡ a → leb (storeBy (s .filter) (columns s) (s .levels)) n ≡ b → s .ended ≡ c → ask a 1 (ask b 5 (ask (not c) 9 0)) ≡ 0 →
+          Counts s × (storeBy (s .filter) (columns s) (s .levels) ≤ n) × (s .ended ≡ false)
       go true true false ea eb ec e = (counts-in s ea, leb-true _ _ eb, ec)
       go true true true ea eb ec e = absurd (omega arith)
       go true false c ea eb ec e = absurd (omega arith)
@@ -234,11 +249,11 @@ module _ (s : Reader) (m : ℕ) (v : ℕ → ℤ) where
       row-13 e = rw (lt-ltb (s .drawn) (s .height) more, lt-ltb 0 (next s .level) some, ne-eqb m (nextLength s) e)
 
       module _ (long : m ≡ nextLength s) where
-        pub row-7 : runFits (next s .level) m v ≡ false → 7 ≡ rowQuestion s m v
+        pub row-7 : runFits (s .filter) (next s .level) m v ≡ false → 7 ≡ rowQuestion s m v
         unfolding rowQuestion rowDue unfinished
         row-7 e = rw (lt-ltb (s .drawn) (s .height) more, lt-ltb 0 (next s .level) some, eq-eqb m (nextLength s) long, e)
 
-        pub row-0 : runFits (next s .level) m v ≡ true → 0 ≡ rowQuestion s m v
+        pub row-0 : runFits (s .filter) (next s .level) m v ≡ true → 0 ≡ rowQuestion s m v
         unfolding rowQuestion rowDue unfinished
         row-0 e = rw (lt-ltb (s .drawn) (s .height) more, lt-ltb 0 (next s .level) some, eq-eqb m (nextLength s) long, e)
 
@@ -246,7 +261,7 @@ module _ (s : Reader) (m : ℕ) (v : ℕ → ℤ) where
   unfolding rowQuestion rowDue
   row-asked e = go (unfinished s) (ltb 0 (next s .level)) (eqb m (nextLength s)) refl refl e
     where
-      go : (a b c : Bool) → ltb 0 (next s .level) ≡ b → eqb m (nextLength s) ≡ c → ask (both a b) 8 (ask c 13 (ask (runFits (next s .level) m v) 7 0)) ≡ 0 →
+      go : (a b c : Bool) → ltb 0 (next s .level) ≡ b → eqb m (nextLength s) ≡ c → ask (both a b) 8 (ask c 13 (ask (runFits (s .filter) (next s .level) m v) 7 0)) ≡ 0 →
           (0 < next s .level) × (m ≡ nextLength s)
       go true true true eb ec e = (ltb-true _ _ eb, eqb-true _ _ ec)
       go true true false eb ec e = absurd (omega arith)

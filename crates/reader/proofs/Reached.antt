@@ -13,7 +13,6 @@ use lib.Seq.{getD-append-add}
 use lib.Dec.{leb, eqb}
 use borrow.Author.Tests.{leb-true}
 use Rattle.numbers.specs.Signal.{pick, both}
-use Rattle.lifting.specs.FiveThree.{fiveThreeFilter}
 use Rattle.wavelet.proofs.QuestionLaws.{within-true}
 use Rattle.lifting.specs.Line.{lo}
 use Rattle.lifting.specs.Grid.{Side, count}
@@ -30,9 +29,10 @@ use Rattle.wavelet.specs.Steps as step
 use Rattle.numbers.proofs.TestLaws.{every-each}
 use Rattle.calls.specs.Lists.{Area, All, all-none, all-more}
 use Rattle.calls.proofs.AllLaws.{all-append, all-left, all-last}
+use Rattle.nine_seven.specs.Filters.{filterOf}
 use Rattle.reader.specs.declared.Reader.{Reader}
 use Rattle.level.specs.Sets.{opens}
-use Rattle.level.specs.Stands.{SetHas}
+use Rattle.level.specs.Stands.{SetHasBy}
 use Rattle.reader.specs.Sets.{ahead, hasRow, rowOf, needed, makes, waiting}
 use Rattle.reader.specs.Asked.{keptAt}
 use Rattle.reader.specs.Rebuilt.{Rows, bandsAt, partAt}
@@ -63,81 +63,81 @@ abbrev pub namesOf : List FedRow → List RowName
 namesOf = map (λ f. f .row)
 
 -- where a number of a level begins, and past a set, the numbers are inside their ranges
-dive-le : (l m k : ℕ) (W H : Side) (n r : ℕ) → k + m ≡ suc l → (dive m k W H n r .level ≤ suc l) × (dive m k W H n r .band ≤ 4)
+dive-le : (f l m k : ℕ) (W H : Side) (n r : ℕ) → k + m ≡ suc l → (dive f m k W H n r .level ≤ suc l) × (dive f m k W H n r .band ≤ 4)
 unfolding dive
-dive-le l zero k W H n r e = (omega arith, omega arith)
-dive-le l (suc m) k W H n r e =
-    go (both (hasCells W H) (opens ahead H r)) (leb (firstSet H lo) (setsBefore ahead H r)) _
-    (dive-le l m (suc k) (next W) (next H) (setsBefore ahead H r) (setsBefore ahead H r - firstSet H lo) (omega arith))
+dive-le f l zero k W H n r e = (omega arith, omega arith)
+dive-le f l (suc m) k W H n r e =
+    go (both (hasCells W H) (opens (ahead f) H r)) (leb (firstSet H lo) (setsBefore (ahead f) H r)) _
+    (dive-le f l m (suc k) (next W) (next H) (setsBefore (ahead f) H r) (setsBefore (ahead f) H r - firstSet H lo) (omega arith))
   where
     go : (t u : Bool) (q : Spot) → (q .level ≤ suc l) × (q .band ≤ 4) →
-        (pick t (pick u q (spot (suc k) (setsBefore ahead H r) 1)) (spot k n 1) .level ≤ suc l)
-        × (pick t (pick u q (spot (suc k) (setsBefore ahead H r) 1)) (spot k n 1) .band ≤ 4)
+        (pick t (pick u q (spot (suc k) (setsBefore (ahead f) H r) 1)) (spot k n 1) .level ≤ suc l)
+        × (pick t (pick u q (spot (suc k) (setsBefore (ahead f) H r) 1)) (spot k n 1) .band ≤ 4)
     go true true q ih = ih
     go true false q ih = (omega arith, omega arith)
     go false u q ih = (omega arith, omega arith)
 
-pub enter-le : (W H : Side) (l d : ℕ) → (enter W H (suc l) d .level ≤ suc l) × (enter W H (suc l) d .band ≤ 4)
+pub enter-le : (f : ℕ) (W H : Side) (l d : ℕ) → (enter f W H (suc l) d .level ≤ suc l) × (enter f W H (suc l) d .band ≤ 4)
 unfolding enter
-enter-le W H l d = dive-le l (suc l) 0 W H d d (omega arith)
+enter-le f W H l d = dive-le f l (suc l) 0 W H d d (omega arith)
 
-begins-le : (W H : Side) (l k n : ℕ) → k ≤ l → (begins W H (suc l) (suc k) n .level ≤ suc l) × (begins W H (suc l) (suc k) n .band ≤ 4)
+begins-le : (f : ℕ) (W H : Side) (l k n : ℕ) → k ≤ l → (begins f W H (suc l) (suc k) n .level ≤ suc l) × (begins f W H (suc l) (suc k) n .band ≤ 4)
 unfolding begins
-begins-le W H l k n h = go (hasRow H (suc k) n)
+begins-le f W H l k n h = go (hasRow H (suc k) n)
   where
     to : Spot
-    to = dive (suc l - suc k) (suc k) (sideAt (suc k) W) (sideAt (suc k) H) n (rowOf H (suc k) n)
+    to = dive f (suc l - suc k) (suc k) (sideAt (suc k) W) (sideAt (suc k) H) n (rowOf H (suc k) n)
 
     go : (t : Bool) → (pick t to (spot (suc k) n 1) .level ≤ suc l) × (pick t to (spot (suc k) n 1) .band ≤ 4)
-    go true = dive-le l (suc l - suc k) (suc k) _ _ _ _ (omega arith)
+    go true = dive-le f l (suc l - suc k) (suc k) _ _ _ _ (omega arith)
     go false = (omega arith, omega arith)
 
-pub beyond-le : (W H : Side) (l k n c : ℕ) → k ≤ l → c < 4 → (beyond W H (suc l) k n c .level ≤ suc l) × (beyond W H (suc l) k n c .band ≤ 4)
+pub beyond-le : (f : ℕ) (W H : Side) (l k n c : ℕ) → k ≤ l → c < 4 → (beyond f W H (suc l) k n c .level ≤ suc l) × (beyond f W H (suc l) k n c .band ≤ 4)
 unfolding beyond past
-beyond-le W H l k n c h b = go (lastOfSet W H (suc l) k n c) (makes (sideAt k H) n)
+beyond-le f W H l k n c h b = go (lastOfSet W H (suc l) k n c) (makes f (sideAt k H) n)
   where
     go : (t u : Bool) →
-        (pick t (pick u (spot k (waiting H k n) 1) (begins W H (suc l) (suc k) (suc n))) (spot (suc k) n (c + 1)) .level ≤ suc l)
-        × (pick t (pick u (spot k (waiting H k n) 1) (begins W H (suc l) (suc k) (suc n))) (spot (suc k) n (c + 1)) .band ≤ 4)
+        (pick t (pick u (spot k (waiting f H k n) 1) (begins f W H (suc l) (suc k) (suc n))) (spot (suc k) n (c + 1)) .level ≤ suc l)
+        × (pick t (pick u (spot k (waiting f H k n) 1) (begins f W H (suc l) (suc k) (suc n))) (spot (suc k) n (c + 1)) .band ≤ 4)
     go true true = (omega arith, omega arith)
-    go true false = begins-le W H l k (suc n) h
+    go true false = begins-le f W H l k (suc n) h
     go false u = (omega arith, omega arith)
 
-module _ (W H : Side) (l : ℕ) where
+module _ (f : ℕ) (W H : Side) (l : ℕ) where
   -- what is known of a row fed: it is a row of the plane, its run has its length and is in range
-  pub record Good (f : FedRow) : Type 0 where
+  pub record Good (fr : FedRow) : Type 0 where
     pub k : ℕ
     pub inside : k ≤ l
-    pub level : f .row .level ≡ suc k
-    pub kept : keptAt (eqb (suc k) (suc l)) (f .row .band) ≡ true
-    pub in-rows : f .row .row < count (down (f .row .band)) (sideAt k H)
-    pub size : f .run .size ≡ bandColumns W (f .row .level) (f .row .band)
-    pub range-of : (i : ℕ) → i < f .run .size → natAbs (f .run .numbers i) ≤ range fiveThreeFilter (f .row .level)
+    pub level : fr .row .level ≡ suc k
+    pub kept : keptAt (eqb (suc k) (suc l)) (fr .row .band) ≡ true
+    pub in-rows : fr .row .row < count (down (fr .row .band)) (sideAt k H)
+    pub size : fr .run .size ≡ bandColumns W (fr .row .level) (fr .row .band)
+    pub range-of : (i : ℕ) → i < fr .run .size → natAbs (fr .run .numbers i) ≤ range (filterOf f) (fr .row .level)
 
   -- what holds of rows that have those fed
   pub record Agrees (P : Rows) (d : ℕ) (p : Place) (e : Bool) (x : ℕ → ℤ) (ds : List (ℕ → ℤ)) : Type 0 where
-    pub fit : (r c : ℕ) → r < d → c < W .length → valueFits fiveThreeFilter 0 (partAt W H P (suc l) 0 r c) ≡ true
-    pub shows : (r c : ℕ) → r < d → c < W .length → getD ds r (λ _. pos 0) c ≡ partAt W H P (suc l) 0 r c
-    pub has : (r : ℕ) → r < d → (k : ℕ) → Live W H l P k → (m : ℕ) → m ≤ needed H 0 r (suc k)
-        → SetHas ahead (sideAt k W) (sideAt k H) (bandsAt W H P (suc l) k) m
-    pub holds : e ≡ false → d < H .length → HeldAt W H l P (at W H l d p) x
-    pub refuses : e ≡ true → Fits W H l P → ⊥
+    pub fit : (r c : ℕ) → r < d → c < W .length → valueFits (filterOf f) 0 (partAt f W H P (suc l) 0 r c) ≡ true
+    pub shows : (r c : ℕ) → r < d → c < W .length → getD ds r (λ _. pos 0) c ≡ partAt f W H P (suc l) 0 r c
+    pub has : (r : ℕ) → r < d → (k : ℕ) → Live f W H l P k → (m : ℕ) → m ≤ needed f H 0 r (suc k)
+        → SetHasBy (filterOf f) (ahead f) (sideAt k W) (sideAt k H) (bandsAt f W H P (suc l) k) m
+    pub holds : e ≡ false → d < H .length → HeldAt f W H l P (at f W H l d p) x
+    pub refuses : e ≡ true → Fits f W H l P → ⊥
 
   pub record Kept (d : ℕ) (p : Place) (e : Bool) (x : ℕ → ℤ) (t : List Step) (fs : List FedRow) (ds : List (ℕ → ℤ)) : Type 0 where
     pub drawn-le : d ≤ H .length
     pub level-le : p .level ≤ suc l
     pub band-le : p .band ≤ 4
-    pub back-le : p .back ≤ 2 * ahead - 1
-    pub ready : d < H .length → Ready W H (suc l) d (at W H l d p)
-    pub left : stepsLeft W H l d (at W H l d p) ≡ t
+    pub back-le : p .back ≤ 2 * ahead f - 1
+    pub ready : d < H .length → Ready f W H (suc l) d (at f W H l d p)
+    pub left : stepsLeft f W H l d (at f W H l d p) ≡ t
     pub drawn : length ds ≡ d
     pub good : All Good fs
-    pub names : e ≡ false → namesOf fs ++ bandRowsOf t ≡ bandRowsOf (steps ahead W H (suc l))
+    pub names : e ≡ false → namesOf fs ++ bandRowsOf t ≡ bandRowsOf (steps (ahead f) W H (suc l))
     pub rows : (P : Rows) → All (HasFedRow W P) fs → Agrees P d p e x ds
 
-  module _ (n : ℕ) (lim : Limits W H l n) where
+  module _ (n : ℕ) (lim : Limits f W H l n) where
     abbrev pub world : ℕ → Place → Bool → (ℕ → ℤ) → World
-    world d p e x = record { reader = here W H l d p e; length = n; store = x }
+    world d p e x = record { reader = here f W H l d p e; length = n; store = x }
 
     wide : 0 < W .length
     wide = within-true 1 maxWidth (W .length) (lim .wide) .0
@@ -148,10 +148,10 @@ module _ (W H : Side) (l : ℕ) where
 
     module _ (d : ℕ) (p : Place) (e : Bool) (x : ℕ → ℤ) (t : List Step) (fs : List FedRow) (ds : List (ℕ → ℤ)) (kept : Kept d p e x t fs ds) where
       abbrev s : Reader
-      s = here W H l d p e
+      s = here f W H l d p e
 
-      viewed : View W H l d p t
-      viewed = subst (View W H l d p) (kept .left) (view W H l d p (kept .level-le) (kept .ready))
+      viewed : View f W H l d p t
+      viewed = subst (View f W H l d p) (kept .left) (view f W H l d p (kept .level-le) (kept .ready))
 
       -- nothing has changed
       stays : Reached (world d p e x) e t (fs ++ []) (ds ++ [])
@@ -168,19 +168,19 @@ module _ (W H : Side) (l : ℕ) where
 
         fed-away : (q : ℕ) → eqb q 0 ≡ false → eqb q 14 ≡ false → FedTo q
         unfolding feedReply feedStore storeAfter ends leftBy goesOn fedBy drawnBy
-        fed-away q z f = rw (z, f) (rw f stays)
+        fed-away q z fr = rw (z, fr) (rw fr stays)
 
         -- the row that is fed
-        module _ (k u : ℕ) (c : Band) (live : e ≡ false) (o : Due W H l d p k u c)
-            (head : t ≡ step.feed (nameOf W H l k u c) ∷ stepsLeft W H l d (beyond W H (suc l) k u (code c)))
-            (long : a .size ≡ bandColumns W (suc k) c) (in-range : runFits (suc k) (a .size) (a .numbers) ≡ true) where
-          abbrev f : FedRow
-          f = record { row = nameOf W H l k u c; run = a }
+        module _ (k u : ℕ) (c : Band) (live : e ≡ false) (o : Due f W H l d p k u c)
+            (head : t ≡ step.feed (nameOf f W H l k u c) ∷ stepsLeft f W H l d (beyond f W H (suc l) k u (code c)))
+            (long : a .size ≡ bandColumns W (suc k) c) (in-range : runFits f (suc k) (a .size) (a .numbers) ≡ true) where
+          abbrev fr : FedRow
+          fr = record { row = nameOf f W H l k u c; run = a }
 
           inside : k ≤ l
           inside = omega (arith, kept .level-le, o .below)
 
-          good-f : Good f
+          good-f : Good fr
           unfolding runFits
           good-f =
               let ask = asked-has (eqb (suc k) (suc l)) (sideAt k W) (sideAt k H) u c (o .asks) in
@@ -195,21 +195,21 @@ module _ (W H : Side) (l : ℕ) where
                     λ i b. leb-true _ _ (every-each (a .size) _ in-range i b);
               }
 
-          good-all : All Good (fs ++ (f ∷ []))
+          good-all : All Good (fs ++ (fr ∷ []))
           good-all = all-append (kept .good) (all-more good-f all-none)
 
           -- what the feed comes to, for a grid that has the row too
-          outcome-is : (P : Rows) → All (HasFedRow W P) (fs ++ (f ∷ [])) →
-              Outcome (Fits W H l P) (HeldAt W H l P (beyond W H (suc l) k u (code c))) (feeds s (a .numbers) x)
+          outcome-is : (P : Rows) → All (HasFedRow W P) (fs ++ (fr ∷ [])) →
+              Outcome (Fits f W H l P) (HeldAt f W H l P (beyond f W H (suc l) k u (code c))) (feeds s (a .numbers) x)
           outcome-is P has =
-              feeds-outcome W H l d p (kept .level-le) (kept .ready (o .due)) P x (kept .rows P (all-left fs (f ∷ []) has) .holds live (o .due)) e k u c o
-              (a .numbers) (all-last fs f has)
+              feeds-outcome f W H l d p (kept .level-le) (kept .ready (o .due)) P x (kept .rows P (all-left fs (fr ∷ []) has) .holds live (o .due)) e k u c o
+              (a .numbers) (all-last fs fr has)
 
           -- 14
           abbrev zeros : ℕ → ℤ
           zeros = feedStore s 14 (a .numbers) x
 
-          ended-kept : feeds s (a .numbers) x ≡ failed → Kept d p true zeros t (fs ++ (f ∷ [])) ds
+          ended-kept : feeds s (a .numbers) x ≡ failed → Kept d p true zeros t (fs ++ (fr ∷ [])) ds
           ended-kept z₁ = record {
             drawn-le = kept .drawn-le;
             level-le = kept .level-le;
@@ -221,77 +221,77 @@ module _ (W H : Side) (l : ℕ) where
             good = good-all;
             names = λ z. absurd (true≢false z);
             rows = λ P has.
-                let old = kept .rows P (all-left fs (f ∷ []) has) in
+                let old = kept .rows P (all-left fs (fr ∷ []) has) in
                 record {
                   fit = old .fit;
                   shows = old .shows;
                   has = old .has;
                   holds = λ z _. absurd (true≢false z);
-                  refuses = λ _. outcome-failed (subst (Outcome (Fits W H l P) _) z₁ (outcome-is P has));
+                  refuses = λ _. outcome-failed (subst (Outcome (Fits f W H l P) _) z₁ (outcome-is P has));
                 };
           }
 
           fed-stops : feeds s (a .numbers) x ≡ failed → FedTo 14
           unfolding feedReply ends leftBy goesOn fedBy drawnBy endedReader
           fed-stops z₁ = rw (append-nil ds) (subst (λ u. Reached (world d p true zeros) true t (fs ++ fedAs u a) ds) (sym head)
-              (reached d p true zeros t (fs ++ (f ∷ [])) ds (ended-kept z₁)))
+              (reached d p true zeros t (fs ++ (fr ∷ [])) ds (ended-kept z₁)))
 
           -- it goes on
           abbrev to : Spot
-          to = beyond W H (suc l) k u (code c)
+          to = beyond f W H (suc l) k u (code c)
 
           abbrev stored : Place
-          stored = placeOf H d to
+          stored = placeOf f H d to
 
-          ready-to : Ready W H (suc l) d to
-          ready-to = ready-beyond W H l d k u (code c) inside (o .ready)
+          ready-to : Ready f W H (suc l) d to
+          ready-to = ready-beyond f W H l d k u (code c) inside (o .ready)
 
-          same-spot : at W H l d stored ≡ to
-          same-spot = ready-back W H (suc l) d to (o .due) ready-to .0
+          same-spot : at f W H l d stored ≡ to
+          same-spot = ready-back f W H (suc l) d to (o .due) ready-to .0
 
           in-range-to : (to .level ≤ suc l) × (to .band ≤ 4)
-          in-range-to = beyond-le W H l k u (code c) inside (code-lt c)
+          in-range-to = beyond-le f W H l k u (code c) inside (code-lt c)
 
-          on-kept : (y : ℕ → ℤ) → feeds s (a .numbers) x ≡ passed y → Kept d stored false y (stepsLeft W H l d to) (fs ++ (f ∷ [])) ds
+          on-kept : (y : ℕ → ℤ) → feeds s (a .numbers) x ≡ passed y → Kept d stored false y (stepsLeft f W H l d to) (fs ++ (fr ∷ [])) ds
           unfolding bandRowsOf
           on-kept y z₁ = record {
             drawn-le = kept .drawn-le;
             level-le = in-range-to .0;
             band-le = in-range-to .1;
-            back-le = ready-back W H (suc l) d to (o .due) ready-to .1;
-            ready = λ _. subst (Ready W H (suc l) d) (sym same-spot) ready-to;
-            left = ap (stepsLeft W H l d) same-spot;
+            back-le = ready-back f W H (suc l) d to (o .due) ready-to .1;
+            ready = λ _. subst (Ready f W H (suc l) d) (sym same-spot) ready-to;
+            left = ap (stepsLeft f W H l d) same-spot;
             drawn = kept .drawn;
             good = good-all;
             names = λ _. rename ∙ kept .names live;
             rows = λ P has.
-                let old = kept .rows P (all-left fs (f ∷ []) has) in
+                let old = kept .rows P (all-left fs (fr ∷ []) has) in
                 record {
                   fit = old .fit;
                   shows = old .shows;
                   has = old .has;
-                  holds = λ _ _. subst (λ r. HeldAt W H l P r y) (sym same-spot)
-                      (outcome-passed y (subst (Outcome (Fits W H l P) _) z₁ (outcome-is P has)));
+                  holds = λ _ _. subst (λ r. HeldAt f W H l P r y) (sym same-spot)
+                      (outcome-passed y (subst (Outcome (Fits f W H l P) _) z₁ (outcome-is P has)));
                   refuses = λ z. absurd (false≢true z);
                 };
           }
             where
-              rename : namesOf (fs ++ (f ∷ [])) ++ bandRowsOf (stepsLeft W H l d to) ≡ namesOf fs ++ bandRowsOf t
-              rename = ap (λ u. u ++ bandRowsOf (stepsLeft W H l d to)) (map-append (λ f. f .row) fs (f ∷ [])) ∙ append-assoc (namesOf fs) (namesOf (f ∷ [])) _
+              rename : namesOf (fs ++ (fr ∷ [])) ++ bandRowsOf (stepsLeft f W H l d to) ≡ namesOf fs ++ bandRowsOf t
+              rename = ap (λ u. u ++ bandRowsOf (stepsLeft f W H l d to)) (map-append (λ fr. fr .row) fs (fr ∷ [])) ∙ append-assoc (namesOf fs) (namesOf (fr ∷ [])) _
                   ∙ ap (λ u. namesOf fs ++ bandRowsOf u) (sym head)
 
           fed-goes : (y : ℕ → ℤ) → feeds s (a .numbers) x ≡ passed y → FedTo 0
           unfolding feedReply feedStore storeAfter ends leftBy goesOn fedBy drawnBy fedReader state.next spotFed
           fed-goes y z₁ =
               rw (append-nil ds, z₁, o .is, head, live) (unfold memory in
-              reached d stored false y (stepsLeft W H l d to) (fs ++ (f ∷ [])) ds (on-kept y z₁))
+              reached d stored false y (stepsLeft f W H l d to) (fs ++ (fr ∷ [])) ds (on-kept y z₁))
 
         feed-reached : FedTo (feedQuestion s n x (a .size) (a .numbers))
-        feed-reached = go (feed-view W H l n lim d p (kept .drawn-le) (kept .level-le) (kept .band-le) (kept .back-le) e t x a viewed)
+        feed-reached = go (feed-view f W H l n lim d p (kept .drawn-le) (kept .level-le) (kept .band-le) (kept .back-le) e t x a viewed)
           where
-            go : FeedView W H l n lim d p (kept .drawn-le) (kept .level-le) (kept .band-le) (kept .back-le) e t x a
+            go : FeedView f W H l n lim d p (kept .drawn-le) (kept .level-le) (kept .band-le) (kept .back-le) e t x a
                 → FedTo (feedQuestion s n x (a .size) (a .numbers))
-            go (feed-away q _ z f at) = subst FedTo (sym at) (fed-away q z f)
+            go (feed-away q _ z fr at) = subst FedTo (sym at) (fed-away q z fr)
             go (feed-onward k u c live o head long in-range _ at) = subst FedTo (sym at) (tried (feeds s (a .numbers) x) refl)
               where
                 tried : (v : Tried) → feeds s (a .numbers) x ≡ v → FedTo (ask (fits v) 14 0)
@@ -309,16 +309,16 @@ module _ (W H : Side) (l : ℕ) where
 
         drawn-away : (q : ℕ) → eqb q 0 ≡ false → eqb q 14 ≡ false → DrawnTo q
         unfolding drawReply drawStore storeAfter ends leftBy goesOn fedBy drawnBy
-        drawn-away q z f = rw (z, f) (rw f stays)
+        drawn-away q z fr = rw (z, fr) (rw fr stays)
 
         drawn-idle : drawDue s ≡ false → DrawnTo 0
         unfolding drawReply drawStore storeAfter ends leftBy goesOn fedBy drawnBy
         drawn-idle z = rw z stays
 
-        module _ (live : e ≡ false) (due : d < H .length) (at-height : nextOf W H l d p ≡ spot 0 0 4)
-            (head : t ≡ step.draw d ∷ stepsLeft W H l (suc d) (enter W H (suc l) (suc d))) (to-draw : drawDue s ≡ true) where
-          settles-is : (P : Rows) → All (HasFedRow W P) fs → Outcome (Fits W H l P) (Held W H l P 0 d 4) (settles s x)
-          settles-is P has = settles-outcome W H l d p (kept .level-le) (kept .ready due) P x (kept .rows P has .holds live due) e (spot 0 0 4) at-height
+        module _ (live : e ≡ false) (due : d < H .length) (at-height : nextOf f W H l d p ≡ spot 0 0 4)
+            (head : t ≡ step.draw d ∷ stepsLeft f W H l (suc d) (enter f W H (suc l) (suc d))) (to-draw : drawDue s ≡ true) where
+          settles-is : (P : Rows) → All (HasFedRow W P) fs → Outcome (Fits f W H l P) (Held f W H l P 0 d 4) (settles s x)
+          settles-is P has = settles-outcome f W H l d p (kept .level-le) (kept .ready due) P x (kept .rows P has .holds live due) e (spot 0 0 4) at-height
 
           -- 14
           abbrev zeros-drawn : ℕ → ℤ
@@ -342,7 +342,7 @@ module _ (W H : Side) (l : ℕ) where
                   shows = old .shows;
                   has = old .has;
                   holds = λ z _. absurd (true≢false z);
-                  refuses = λ _. outcome-failed (subst (Outcome (Fits W H l P) _) z₁ (settles-is P has));
+                  refuses = λ _. outcome-failed (subst (Outcome (Fits f W H l P) _) z₁ (settles-is P has));
                 };
           }
 
@@ -356,26 +356,26 @@ module _ (W H : Side) (l : ℕ) where
             out = fronted (W .length) (heightRow s y) (a .numbers)
 
             abbrev into : Spot
-            into = enter W H (suc l) (suc d)
+            into = enter f W H (suc l) (suc d)
 
             abbrev kept-as : Place
-            kept-as = placeOf H (suc d) into
+            kept-as = placeOf f H (suc d) into
 
             -- where a row is left, the place is that of its beginning; where none is, nothing is left
-            back-small : kept-as .back ≤ 2 * ahead - 1
+            back-small : kept-as .back ≤ 2 * ahead f - 1
             back-small = elim (decLt (suc d) (H .length)) [
-              | yes more ↦ ready-back W H (suc l) (suc d) into more (ready-enter W H l (suc d) more) .1
-              | no end ↦ omega (arith, enter-end W H (suc l) (suc d) (omega arith) (omega (arith, end)))
+              | yes more ↦ ready-back f W H (suc l) (suc d) into more (ready-enter f W H l (suc d) more) .1
+              | no end ↦ omega (arith, enter-end f W H (suc l) (suc d) (omega arith) (omega (arith, end)))
             ]
 
-            same-left : stepsLeft W H l (suc d) (at W H l (suc d) kept-as) ≡ stepsLeft W H l (suc d) into
+            same-left : stepsLeft f W H l (suc d) (at f W H l (suc d) kept-as) ≡ stepsLeft f W H l (suc d) into
             same-left = elim (decLt (suc d) (H .length)) [
-              | yes more ↦ ap (stepsLeft W H l (suc d)) (ready-back W H (suc l) (suc d) into more (ready-enter W H l (suc d) more) .0)
-              | no end ↦ left-done W H l (suc d) _ (omega (arith, end)) ∙ sym (left-done W H l (suc d) _ (omega (arith, end)))
+              | yes more ↦ ap (stepsLeft f W H l (suc d)) (ready-back f W H (suc l) (suc d) into more (ready-enter f W H l (suc d) more) .0)
+              | no end ↦ left-done f W H l (suc d) _ (omega (arith, end)) ∙ sym (left-done f W H l (suc d) _ (omega (arith, end)))
             ]
 
-            out-is : (P : Rows) → Held W H l P 0 d 4 y → (c : ℕ) → c < W .length → out c ≡ partAt W H P (suc l) 0 d c
-            out-is P h = row-out W H l d p e due wide P y h (a .numbers)
+            out-is : (P : Rows) → Held f W H l P 0 d 4 y → (c : ℕ) → c < W .length → out c ≡ partAt f W H P (suc l) 0 d c
+            out-is P h = row-out f W H l d p e due wide P y h (a .numbers)
 
             -- the rows drawn before, and it
             row-at : (g : Grid) → ((c : ℕ) → c < W .length → out c ≡ g d c) → ((r c : ℕ) → r < d → c < W .length → getD ds r (λ _. pos 0) c ≡ g r c) →
@@ -387,50 +387,50 @@ module _ (W H : Side) (l : ℕ) where
               | no z ↦ ap (λ u. u c) (List·getD-append ds (out ∷ []) (λ _. pos 0) r (omega (arith, kept .drawn, z))) ∙ old r c (omega (arith, z)) q
             ]
 
-            given-kept : Kept (suc d) kept-as false y (stepsLeft W H l (suc d) into) fs (ds ++ (out ∷ []))
+            given-kept : Kept (suc d) kept-as false y (stepsLeft f W H l (suc d) into) fs (ds ++ (out ∷ []))
             given-kept = record {
               drawn-le = due;
-              level-le = enter-le W H l (suc d) .0;
-              band-le = enter-le W H l (suc d) .1;
+              level-le = enter-le f W H l (suc d) .0;
+              band-le = enter-le f W H l (suc d) .1;
               back-le = back-small;
-              ready = λ more. subst (Ready W H (suc l) (suc d)) (sym (ready-back W H (suc l) (suc d) into more (ready-enter W H l (suc d) more) .0))
-                  (ready-enter W H l (suc d) more);
+              ready = λ more. subst (Ready f W H (suc l) (suc d)) (sym (ready-back f W H (suc l) (suc d) into more (ready-enter f W H l (suc d) more) .0))
+                  (ready-enter f W H l (suc d) more);
               left = same-left;
               drawn = length-append ds (out ∷ []) ∙ omega (arith, kept .drawn);
               good = kept .good;
               names = λ _. names-same ∙ kept .names live;
               rows = λ P has.
                   let old = kept .rows P has in
-                  let h : Held W H l P 0 d 4 y = outcome-passed y (subst (Outcome (Fits W H l P) _) made (settles-is P has)) in
+                  let h : Held f W H l P 0 d 4 y = outcome-passed y (subst (Outcome (Fits f W H l P) _) made (settles-is P has)) in
                   record {
                     fit = λ r c b q. elim (ℕ-discrete r d) [
-                      | yes z ↦ rw z (height-fit W H l P d y due wide h c q)
+                      | yes z ↦ rw z (height-fit f W H l P d y due wide h c q)
                       | no z ↦ old .fit r c (omega (arith, z)) q
                     ];
-                    shows = row-at (partAt W H P (suc l) 0) (out-is P h) (old .shows);
+                    shows = row-at (partAt f W H P (suc l) 0) (out-is P h) (old .shows);
                     has = λ r b k live m q. elim (ℕ-discrete r d) [
-                      | yes z ↦ sets-tested W H l P d 4 y h k live m (subst (λ i. m ≤ needed H 0 i (suc k)) z q)
+                      | yes z ↦ sets-tested f W H l P d 4 y h k live m (subst (λ i. m ≤ needed f H 0 i (suc k)) z q)
                       | no z ↦ old .has r (omega (arith, z)) k live m q
                     ];
-                    holds = λ _ more. subst (λ r. HeldAt W H l P r y)
-                        (sym (ready-back W H (suc l) (suc d) into more (ready-enter W H l (suc d) more) .0)) (enter-holds W H l P d 4 y h);
+                    holds = λ _ more. subst (λ r. HeldAt f W H l P r y)
+                        (sym (ready-back f W H (suc l) (suc d) into more (ready-enter f W H l (suc d) more) .0)) (enter-holds f W H l P d 4 y h);
                     refuses = λ z. absurd (false≢true z);
                   };
             }
               where
-                names-same : namesOf fs ++ bandRowsOf (stepsLeft W H l (suc d) into) ≡ namesOf fs ++ bandRowsOf t
+                names-same : namesOf fs ++ bandRowsOf (stepsLeft f W H l (suc d) into) ≡ namesOf fs ++ bandRowsOf t
                 names-same = ap (λ u. namesOf fs ++ u) (sym (ap bandRowsOf head ∙ unfold bandRowsOf in refl))
 
             drawn-goes : DrawnTo 0
             unfolding drawReply drawStore storeAfter drawArea ends leftBy goesOn fedBy drawnBy drawnReader memory heightRow
             drawn-goes = rw (to-draw, made, head, live, append-nil fs)
-                (reached (suc d) kept-as false y (stepsLeft W H l (suc d) into) fs (ds ++ (out ∷ [])) given-kept)
+                (reached (suc d) kept-as false y (stepsLeft f W H l (suc d) into) fs (ds ++ (out ∷ [])) given-kept)
 
         draw-reached : DrawnTo (drawQuestion s n x (a .size))
-        draw-reached = go (draw-view W H l n lim d p (kept .drawn-le) (kept .level-le) (kept .band-le) (kept .back-le) e t x a viewed)
+        draw-reached = go (draw-view f W H l n lim d p (kept .drawn-le) (kept .level-le) (kept .band-le) (kept .back-le) e t x a viewed)
           where
-            go : DrawView W H l n lim d p (kept .drawn-le) (kept .level-le) (kept .band-le) (kept .back-le) e t x a → DrawnTo (drawQuestion s n x (a .size))
-            go (draw-away q z f _ at) = subst DrawnTo (sym at) (drawn-away q z f)
+            go : DrawView f W H l n lim d p (kept .drawn-le) (kept .level-le) (kept .band-le) (kept .back-le) e t x a → DrawnTo (drawQuestion s n x (a .size))
+            go (draw-away q z fr _ at) = subst DrawnTo (sym at) (drawn-away q z fr)
             go (draw-idle live z _ at) = subst DrawnTo (sym at) (drawn-idle z)
             go (draw-onward live due at-height head to-draw _ at) = subst DrawnTo (sym at) (tried (settles s x) refl)
               where

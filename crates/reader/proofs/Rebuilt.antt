@@ -16,13 +16,10 @@ use Rattle.numbers.proofs.Words.{abs-fits}
 use Rattle.numbers.proofs.Sweep.{both}
 use Rattle.lifting.specs.Line.{Half, lo, hi}
 use Rattle.lifting.specs.Grid.{Side, count}
-use Rattle.lifting.specs.FiveThree.{fiveThreeFilter}
-use Rattle.lifting.proofs.FiveThreeFilter.{five-three-laws}
-use Rattle.wavelet.specs.Limits.{maxLevels, range}
+use Rattle.wavelet.specs.Limits.{range}
 use Rattle.wavelet.specs.Bands.{Grid, Band, LL, HL, LH, HH, code, across, down, subband, levelBack, levelHas}
 use Rattle.wavelet.specs.Maps.{IsMap}
 use Rattle.wavelet.specs.Order.{RowName, rowName, sameName, times}
-use Rattle.wavelet.proofs.LimitLaws.{five-three-few}
 use Rattle.wavelet.proofs.Bridge.{range-small, map-words, map-doubles, map-level-has}
 use Rattle.wavelet.specs.Levels.{next, sideAt, approximation, levelBand}
 use Rattle.wavelet.specs.View.{bandColumns}
@@ -30,6 +27,8 @@ use Rattle.wavelet.proofs.LevelTheory.{OnCells, OnBands, Same, SameBands, level
 use Rattle.wavelet.proofs.LevelTheory.{words-forward-back, subband-same, same-low}
 use Rattle.calls.specs.Lists.{All, all-none, all-more}
 use Rattle.calls.proofs.AllLaws.{In, first, later}
+use Rattle.nine_seven.specs.Filters.{filterOf}
+use Rattle.nine_seven.proofs.Filters.{filter-laws}
 use Rattle.reader.specs.Asked.{named}
 use Rattle.reader.specs.Rebuilt.{Rows, bandsBy, rebuilt, bandsAt, partAt}
 use Rattle.reader.specs.Store.{hasCells}
@@ -39,46 +38,46 @@ use Rattle.reader.proofs.CellLaws.{Empty, wide, high, cells-not}
 use Rattle.reader.proofs.Reached.{namesOf, Good}
 
 -- the way back from level k on is the low-low part that the bands of level k + 1 make
-pub part-is : (W H : Side) (P : Rows) (l k : ℕ) → k ≤ l → rebuilt W H P (suc l - k) k ≡ partAt W H P (suc l) k
+pub part-is : (f : ℕ) (W H : Side) (P : Rows) (l k : ℕ) → k ≤ l → rebuilt f W H P (suc l - k) k ≡ partAt f W H P (suc l) k
 unfolding rebuilt
-part-is W H P l k h = let z : suc l - k ≡ suc (suc l - suc k) = omega arith in rw z refl
+part-is f W H P l k h = let z : suc l - k ≡ suc (suc l - suc k) = omega arith in rw z refl
 
 -- ---- the rows of a map
-module _ (W H : Side) (g : Grid) (m : IsMap (W .length) (H .length) g) (l : ℕ) (few : suc l ≤ maxLevels) where
+module _ (f : ℕ) (W H : Side) (g : Grid) (m : IsMap (W .length) (H .length) g) (l : ℕ) (few : suc l ≤ filterOf f .levels) where
   -- the rows of its plane, over words
   abbrev pub rowsOf : Rows
-  rowsOf x i = levelBand fiveThreeFilter wrap32 W H g (x .level) (x .band) (x .row) i
+  rowsOf x i = levelBand (filterOf f) wrap32 W H g (x .level) (x .band) (x .row) i
 
   abbrev part : ℕ → Grid
-  part k = approximation fiveThreeFilter wrap32 W H g k
+  part k = approximation (filterOf f) wrap32 W H g k
 
   bands-same : (k : ℕ) (a : Grid) → Same (sideAt (suc k) W) (sideAt (suc k) H) a (part (suc k)) →
-      SameBands (sideAt k W) (sideAt k H) (bandsBy rowsOf (suc k) a) (subband fiveThreeFilter wrap32 (sideAt k W) (sideAt k H) (part k))
+      SameBands (sideAt k W) (sideAt k H) (bandsBy rowsOf (suc k) a) (subband (filterOf f) wrap32 (sideAt k W) (sideAt k H) (part k))
   unfolding bandsBy levelBand approximation sideAt next across down
   bands-same k a e LL r c p q = e r c p q
   bands-same k a e HL r c p q = refl
   bands-same k a e LH r c p q = refl
   bands-same k a e HH r c p q = refl
 
-  level-same : (k : ℕ) (a : Grid) → suc k ≤ maxLevels → Same (sideAt (suc k) W) (sideAt (suc k) H) a (part (suc k)) →
-      Same (sideAt k W) (sideAt k H) (levelBack fiveThreeFilter wrap32 (sideAt k W) (sideAt k H) (bandsBy rowsOf (suc k) a)) (part k)
+  level-same : (k : ℕ) (a : Grid) → suc k ≤ filterOf f .levels → Same (sideAt (suc k) W) (sideAt (suc k) H) a (part (suc k)) →
+      Same (sideAt k W) (sideAt k H) (levelBack (filterOf f) wrap32 (sideAt k W) (sideAt k H) (bandsBy rowsOf (suc k) a)) (part k)
   level-same k a h e r c p q =
-      level-back-reads fiveThreeFilter five-three-laws wrap32 (sideAt k W) (sideAt k H) _ _ (bands-same k a e) r c p q
-      ∙ words-back-forward fiveThreeFilter five-three-laws (sideAt k W) (sideAt k H) (part k) (map-words fiveThreeFilter five-three-laws W H g m k
-      (five-three-few (omega arith))) (map-doubles fiveThreeFilter five-three-laws W H g m k (five-three-few h)) r c p q
+      level-back-reads (filterOf f) (filter-laws f) wrap32 (sideAt k W) (sideAt k H) _ _ (bands-same k a e) r c p q
+      ∙ words-back-forward (filterOf f) (filter-laws f) (sideAt k W) (sideAt k H) (part k) (map-words (filterOf f) (filter-laws f) W H g m k
+      (omega arith)) (map-doubles (filterOf f) (filter-laws f) W H g m k h) r c p q
 
-  back-same : (i k : ℕ) → k + i ≡ suc l → Same (sideAt k W) (sideAt k H) (rebuilt W H rowsOf i k) (part k)
+  back-same : (i k : ℕ) → k + i ≡ suc l → Same (sideAt k W) (sideAt k H) (rebuilt f W H rowsOf i k) (part k)
   unfolding rebuilt
   back-same zero k e = let z : k ≡ suc l = omega arith in rw z (unfold levelBand approximation in λ r c p q. refl)
-  back-same (suc i) k e = level-same k (rebuilt W H rowsOf i (suc k)) (omega arith) (back-same i (suc k) (omega arith))
+  back-same (suc i) k e = level-same k (rebuilt f W H rowsOf i (suc k)) (omega arith) (back-same i (suc k) (omega arith))
 
-  pub part-same : (k : ℕ) → k ≤ l → Same (sideAt k W) (sideAt k H) (partAt W H rowsOf (suc l) k) (part k)
-  part-same k h = level-same k (rebuilt W H rowsOf (suc l - suc k) (suc k)) (omega arith) (back-same (suc l - suc k) (suc k) (omega arith))
+  pub part-same : (k : ℕ) → k ≤ l → Same (sideAt k W) (sideAt k H) (partAt f W H rowsOf (suc l) k) (part k)
+  part-same k h = level-same k (rebuilt f W H rowsOf (suc l - suc k) (suc k)) (omega arith) (back-same (suc l - suc k) (suc k) (omega arith))
 
-  pub bands-have : (k : ℕ) → k ≤ l → levelHas fiveThreeFilter (sideAt k W) (sideAt k H) (bandsAt W H rowsOf (suc l) k) ≡ true
+  pub bands-have : (k : ℕ) → k ≤ l → levelHas (filterOf f) (sideAt k W) (sideAt k H) (bandsAt f W H rowsOf (suc l) k) ≡ true
   bands-have k h =
-      level-has-reads fiveThreeFilter five-three-laws (sideAt k W) (sideAt k H) _ _ (bands-same k _ (back-same (suc l - suc k) (suc k) (omega arith)))
-      ∙ unfold levelBand in map-level-has fiveThreeFilter five-three-laws W H g m k (five-three-few (omega arith))
+      level-has-reads (filterOf f) (filter-laws f) (sideAt k W) (sideAt k H) _ _ (bands-same k _ (back-same (suc l - suc k) (suc k) (omega arith)))
+      ∙ unfold levelBand in map-level-has (filterOf f) (filter-laws f) W H g m k (omega arith)
 
 no-cell : (h : Half) (S : Side) → S .length ≡ 0 → (i : ℕ) → i < count h S → ⊥
 unfolding count
@@ -86,55 +85,55 @@ no-cell lo S e i p = omega arith
 no-cell hi S e i p = omega arith
 
 -- ---- from rows P that are words
-module _ (W H : Side) (l : ℕ) (P : Rows)
+module _ (f : ℕ) (W H : Side) (l : ℕ) (P : Rows)
     (words : (k : ℕ) (b : Band) (r c : ℕ) → k ≤ l → r < count (down b) (sideAt k H) → c < count (across b) (sideAt k W) → SFits w32 (P (rowName (suc k) b r) c))
     (has : (k : ℕ) → k ≤ l → hasCells (sideAt k W) (sideAt k H) ≡ true
-    → levelHas fiveThreeFilter (sideAt k W) (sideAt k H) (bandsAt W H P (suc l) k) ≡ true) where
-  bands-words : (m k : ℕ) → k ≤ l → OnCells (SFits w32) (sideAt (suc k) W) (sideAt (suc k) H) (rebuilt W H P m (suc k)) →
-      OnBands (SFits w32) (sideAt k W) (sideAt k H) (bandsBy P (suc k) (rebuilt W H P m (suc k)))
+    → levelHas (filterOf f) (sideAt k W) (sideAt k H) (bandsAt f W H P (suc l) k) ≡ true) where
+  bands-words : (m k : ℕ) → k ≤ l → OnCells (SFits w32) (sideAt (suc k) W) (sideAt (suc k) H) (rebuilt f W H P m (suc k)) →
+      OnBands (SFits w32) (sideAt k W) (sideAt k H) (bandsBy P (suc k) (rebuilt f W H P m (suc k)))
   unfolding bandsBy sideAt next across down
-  bands-words m k h f LL r c p q = f r c p q
-  bands-words m k h f HL r c p q = words k HL r c h p q
-  bands-words m k h f LH r c p q = words k LH r c h p q
-  bands-words m k h f HH r c p q = words k HH r c h p q
+  bands-words m k h w LL r c p q = w r c p q
+  bands-words m k h w HL r c p q = words k HL r c h p q
+  bands-words m k h w LH r c p q = words k LH r c h p q
+  bands-words m k h w HH r c p q = words k HH r c h p q
 
-  rebuilt-words : (m k : ℕ) → k + m ≡ suc l → OnCells (SFits w32) (sideAt k W) (sideAt k H) (rebuilt W H P m k)
+  rebuilt-words : (m k : ℕ) → k + m ≡ suc l → OnCells (SFits w32) (sideAt k W) (sideAt k H) (rebuilt f W H P m k)
   unfolding rebuilt
   rebuilt-words zero k e = let z : k ≡ suc l = omega arith in rw z (unfold sideAt next across down in λ r c p q. words l LL r c (omega arith) p q)
-  rebuilt-words (suc m) k e = level-back-fits fiveThreeFilter five-three-laws (sideAt k W) (sideAt k H) _
+  rebuilt-words (suc m) k e = level-back-fits (filterOf f) (filter-laws f) (sideAt k W) (sideAt k H) _
       (bands-words m k (omega arith) (rebuilt-words m (suc k) (omega arith)))
 
   abbrev pub back : Grid
-  back = rebuilt W H P (suc l) 0
+  back = rebuilt f W H P (suc l) 0
 
   -- the bands of an empty level have no cell
   none-same : (k : ℕ) (p q : Band → Grid) → Empty (sideAt k W) (sideAt k H) → SameBands (sideAt k W) (sideAt k H) p q
   none-same k p q (wide e) b r c u v = absurd (no-cell (across b) (sideAt k W) e c v)
   none-same k p q (high e) b r c u v = absurd (no-cell (down b) (sideAt k H) e r u)
 
-  bands-of : (k m : ℕ) → k + suc m ≡ suc l → Same (sideAt k W) (sideAt k H) (approximation fiveThreeFilter wrap32 W H back k) (rebuilt W H P (suc m) k) →
-      SameBands (sideAt k W) (sideAt k H) (subband fiveThreeFilter wrap32 (sideAt k W) (sideAt k H) (approximation fiveThreeFilter wrap32 W H back k))
-      (bandsBy P (suc k) (rebuilt W H P m (suc k)))
+  bands-of : (k m : ℕ) → k + suc m ≡ suc l → Same (sideAt k W) (sideAt k H) (approximation (filterOf f) wrap32 W H back k) (rebuilt f W H P (suc m) k) →
+      SameBands (sideAt k W) (sideAt k H) (subband (filterOf f) wrap32 (sideAt k W) (sideAt k H) (approximation (filterOf f) wrap32 W H back k))
+      (bandsBy P (suc k) (rebuilt f W H P m (suc k)))
   bands-of k m e a = go (hasCells (sideAt k W) (sideAt k H)) refl
     where
       left : suc l - suc k ≡ m
       left = omega arith
 
       lines : hasCells (sideAt k W) (sideAt k H) ≡ true
-          → levelHas fiveThreeFilter (sideAt k W) (sideAt k H) (bandsBy P (suc k) (rebuilt W H P m (suc k))) ≡ true
-      lines c = subst (λ i. levelHas fiveThreeFilter (sideAt k W) (sideAt k H) (bandsBy P (suc k) (rebuilt W H P i (suc k))) ≡ true) left
+          → levelHas (filterOf f) (sideAt k W) (sideAt k H) (bandsBy P (suc k) (rebuilt f W H P m (suc k))) ≡ true
+      lines c = subst (λ i. levelHas (filterOf f) (sideAt k W) (sideAt k H) (bandsBy P (suc k) (rebuilt f W H P i (suc k))) ≡ true) left
           (has k (omega arith) c)
 
       go : (c : Bool) → hasCells (sideAt k W) (sideAt k H) ≡ c →
-          SameBands (sideAt k W) (sideAt k H) (subband fiveThreeFilter wrap32 (sideAt k W) (sideAt k H) (approximation fiveThreeFilter wrap32 W H back k))
-          (bandsBy P (suc k) (rebuilt W H P m (suc k)))
+          SameBands (sideAt k W) (sideAt k H) (subband (filterOf f) wrap32 (sideAt k W) (sideAt k H) (approximation (filterOf f) wrap32 W H back k))
+          (bandsBy P (suc k) (rebuilt f W H P m (suc k)))
       go false c = none-same k _ _ (cells-not (sideAt k W) (sideAt k H) c)
       go true c = λ b r i p q.
-          subband-same fiveThreeFilter five-three-laws wrap32 (sideAt k W) (sideAt k H) _ _ a b r i p q ∙ unfold rebuilt in
-          words-forward-back fiveThreeFilter five-three-laws (sideAt k W) (sideAt k H) _
+          subband-same (filterOf f) (filter-laws f) wrap32 (sideAt k W) (sideAt k H) _ _ a b r i p q ∙ unfold rebuilt in
+          words-forward-back (filterOf f) (filter-laws f) (sideAt k W) (sideAt k H) _
           (bands-words m k (omega arith) (rebuilt-words m (suc k) (omega arith))) (lines c) b r i p q
 
-  approximation-is : (k m : ℕ) → k + m ≡ suc l → Same (sideAt k W) (sideAt k H) (approximation fiveThreeFilter wrap32 W H back k) (rebuilt W H P m k)
+  approximation-is : (k m : ℕ) → k + m ≡ suc l → Same (sideAt k W) (sideAt k H) (approximation (filterOf f) wrap32 W H back k) (rebuilt f W H P m k)
   unfolding approximation sideAt bandsBy
   approximation-is zero m e = let z : m ≡ suc l = omega arith in rw z (λ r c p q. refl)
   approximation-is (suc k) m e =
@@ -142,7 +141,7 @@ module _ (W H : Side) (l : ℕ) (P : Rows)
 
   -- ---- its plane has them
   pub back-has : (k : ℕ) (b : Band) → k ≤ l → (b ≡ LL → k ≡ l) → (r c : ℕ) → r < count (down b) (sideAt k H) → c < count (across b) (sideAt k W) →
-      levelBand fiveThreeFilter wrap32 W H back (suc k) b r c ≡ P (rowName (suc k) b r) c
+      levelBand (filterOf f) wrap32 W H back (suc k) b r c ≡ P (rowName (suc k) b r) c
   unfolding bandsBy rebuilt levelBand
   back-has k LL h last r c p q = bands-of k 0 (omega (arith, last refl)) (approximation-is k 1 (omega (arith, last refl))) LL r c p q
   back-has k HL h last r c p q = bands-of k (l - k) (omega arith) (approximation-is k (suc (l - k)) (omega arith)) HL r c p q
@@ -187,17 +186,17 @@ found f (g ∷ fs) (later i) h = go (sameName (f .row) (g .row)) h (found f fs i
 zero-fits : SFits w32 (pos 0)
 zero-fits = abs-fits (pos 0) 0 (omega arith) (omega arith)
 
-pub lookup-words : (W H : Side) (l : ℕ) → suc l ≤ maxLevels → (fs : List FedRow) → All (Good W H l) fs → (x : RowName) (i : ℕ) →
+pub lookup-words : (f : ℕ) (W H : Side) (l : ℕ) → suc l ≤ filterOf f .levels → (fs : List FedRow) → All (Good f W H l) fs → (x : RowName) (i : ℕ) →
     i < bandColumns W (x .level) (x .band) →
     SFits w32 (lookup fs x i)
 unfolding lookup
-lookup-words W H l few [] all-none x i p = zero-fits
-lookup-words W H l few (f ∷ fs) (all-more g gs) x i p = go (sameName x (f .row)) refl (lookup-words W H l few fs gs x i p)
+lookup-words f W H l few [] all-none x i p = zero-fits
+lookup-words f W H l few (u ∷ fs) (all-more g gs) x i p = go (sameName x (u .row)) refl (lookup-words f W H l few fs gs x i p)
   where
-    go : (t : Bool) → sameName x (f .row) ≡ t → SFits w32 (lookup fs x i) → SFits w32 (pick t (f .run .numbers) (lookup fs x) i)
+    go : (t : Bool) → sameName x (u .row) ≡ t → SFits w32 (lookup fs x i) → SFits w32 (pick t (u .run .numbers) (lookup fs x) i)
     go true e ih =
-        let z = same-name x (f .row) e in
-        let q : i < f .run .size = rw (g .size) (subst (λ y. i < bandColumns W (y .level) (y .band)) z p) in
-        abs-fits _ (range fiveThreeFilter (f .row .level))
-        (range-small fiveThreeFilter five-three-laws (f .row .level) (five-three-few (omega (arith, g .level, g .inside)))) (g .range-of i q)
+        let z = same-name x (u .row) e in
+        let q : i < u .run .size = rw (g .size) (subst (λ y. i < bandColumns W (y .level) (y .band)) z p) in
+        abs-fits _ (range (filterOf f) (u .row .level))
+        (range-small (filterOf f) (filter-laws f) (u .row .level) (omega (arith, g .level, g .inside))) (g .range-of i q)
     go false e ih = ih

@@ -12,61 +12,68 @@ use Rattle.wavelet.specs.Bands.{across, down}
 use Rattle.wavelet.specs.Order.{firstSet, lastSet, setRow}
 use Rattle.wavelet.specs.Steps.{setTo, setOf, setsBefore}
 use Rattle.wavelet.proofs.StepLaws.{to-first, to-later, set-of, before-suc}
+use Rattle.nine_seven.specs.Filters.{filterOf}
 use Rattle.level.specs.Sets.{opens}
 use Rattle.level.specs.Slots.{rowOfSet, halfPlace}
 use Rattle.reader.specs.Sets.{ahead, firstRow}
 use Rattle.reader.specs.Asked.{named}
 use Rattle.reader.specs.Store.{hasCells}
+use Rattle.reader.proofs.OpenedSets.{looks}
 use Rattle.reader.proofs.CellLaws.{Empty, wide, high, empty-not, cells-yes}
 
 -- ---- the set of a row, as the code finds it
-pub ahead-small : ahead ≤ 2 ^ 16
-unfolding ahead
-ahead-small = omega arith
+ahead-small : (f : ℕ) → ahead f ≤ 2 ^ 16
+unfolding filterOf
+ahead-small zero = omega arith
+ahead-small (suc f) = omega arith
 
-pub set-first : (S : Side) (r : ℕ) → S .start % 2 + r ≡ 0 → 0 ≡ setOf ahead S r
-set-first S r e =
-    let f : setTo ahead (S .start % 2 + r) ≡ 0 = ap (setTo ahead) e ∙ to-first ahead in
-    omega (arith, set-of ahead S r, f)
+-- of a number that is the look-ahead
+pub ahead-fits : (f n : ℕ) → n ≡ ahead f → (1 ≤ n) × (n ≤ 2 ^ 16)
+ahead-fits f n e = (omega (arith, looks f), omega (arith, ahead-small f))
 
-pub set-later : (S : Side) (r a b : ℕ) → 0 < S .start % 2 + r → a ≡ (S .start % 2 + r - 1) / 2 + ahead → b ≡ lastSet S → min a b ≡ setOf ahead S r
-set-later S r a b p ea eb =
-    let f : setTo ahead (S .start % 2 + r) ≡ (S .start % 2 + r - 1) / 2 + ahead =
-    ap (setTo ahead) (omega arith) ∙ to-later ahead (S .start % 2 + r - 1) in
-    omega (arith, set-of ahead S r, f)
+pub set-first : (f : ℕ) (S : Side) (r : ℕ) → S .start % 2 + r ≡ 0 → 0 ≡ setOf (ahead f) S r
+set-first f S r e =
+    let u : setTo (ahead f) (S .start % 2 + r) ≡ 0 = ap (setTo (ahead f)) e ∙ to-first (ahead f) in
+    omega (arith, set-of (ahead f) S r, u)
 
-pub before-later : (S : Side) (r n : ℕ) → 0 < r → n ≡ setOf ahead S (r - 1) → n + 1 ≡ setsBefore ahead S r
-before-later S zero n p e = absurd (omega arith)
-before-later S (suc r) n p e = let z : suc r - 1 ≡ r = omega arith in ap (λ i. i + 1) (e ∙ ap (setOf ahead S) z) ∙ sym (before-suc ahead S r)
+pub set-later : (f : ℕ) (S : Side) (r a b : ℕ) → 0 < S .start % 2 + r → a ≡ (S .start % 2 + r - 1) / 2 + ahead f → b ≡ lastSet S → min a b ≡ setOf (ahead f) S r
+set-later f S r a b p ea eb =
+    let u : setTo (ahead f) (S .start % 2 + r) ≡ (S .start % 2 + r - 1) / 2 + ahead f =
+    ap (setTo (ahead f)) (omega arith) ∙ to-later (ahead f) (S .start % 2 + r - 1) in
+    omega (arith, set-of (ahead f) S r, u)
+
+pub before-later : (f : ℕ) (S : Side) (r n : ℕ) → 0 < r → n ≡ setOf (ahead f) S (r - 1) → n + 1 ≡ setsBefore (ahead f) S r
+before-later f S zero n p e = absurd (omega arith)
+before-later f S (suc r) n p e = let z : suc r - 1 ≡ r = omega arith in ap (λ i. i + 1) (e ∙ ap (setOf (ahead f) S) z) ∙ sym (before-suc (ahead f) S r)
 
 -- ---- whether a row needs a set that no row before it needs
-pub down-none : (W H : Side) (r : ℕ) → Empty W H → false ≡ both (hasCells W H) (opens ahead H r)
-down-none W H r e = sym (ap (λ (t : Bool). both t (opens ahead H r)) (empty-not W H e))
+pub down-none : (f : ℕ) (W H : Side) (r : ℕ) → Empty W H → false ≡ both (hasCells W H) (opens (ahead f) H r)
+down-none f W H r e = sym (ap (λ (t : Bool). both t (opens (ahead f) H r)) (empty-not W H e))
 
-pub down-some : (W H : Side) (r n m : ℕ) → 0 < W .length → 0 < H .length → n ≡ setsBefore ahead H r → m ≡ setOf ahead H r →
-    ltb n (m + 1) ≡ both (hasCells W H) (opens ahead H r)
+pub down-some : (f : ℕ) (W H : Side) (r n m : ℕ) → 0 < W .length → 0 < H .length → n ≡ setsBefore (ahead f) H r → m ≡ setOf (ahead f) H r →
+    ltb n (m + 1) ≡ both (hasCells W H) (opens (ahead f) H r)
 unfolding opens
-down-some W H r n m w h en em =
-    let z : m + 1 ≡ setsBefore ahead H (suc r) = ap (λ i. i + 1) em ∙ sym (before-suc ahead H r) in
-    ap₂ ltb en z ∙ sym (ap (λ (t : Bool). both t (ltb (setsBefore ahead H r) (setsBefore ahead H (suc r)))) (cells-yes W H w h))
+down-some f W H r n m w h en em =
+    let z : m + 1 ≡ setsBefore (ahead f) H (suc r) = ap (λ i. i + 1) em ∙ sym (before-suc (ahead f) H r) in
+    ap₂ ltb en z ∙ sym (ap (λ (t : Bool). both t (ltb (setsBefore (ahead f) H r) (setsBefore (ahead f) H (suc r)))) (cells-yes W H w h))
 
 -- ---- the first row that needs a set
-pub row-none : (S : Side) (n : ℕ) → S .length ≡ 0 → 0 ≡ firstRow S n
+pub row-none : (f : ℕ) (S : Side) (n : ℕ) → S .length ≡ 0 → 0 ≡ firstRow f S n
 unfolding firstRow
-row-none S zero e = refl
-row-none S (suc n) e = omega arith
+row-none f S zero e = refl
+row-none f S (suc n) e = omega arith
 
-pub row-some : (S : Side) (n t r : ℕ) → 0 < n → t ≡ n - ahead → r ≡ 2 * t + 1 - S .start % 2 → min r (S .length - 1) ≡ firstRow S n
+pub row-some : (f : ℕ) (S : Side) (n t r : ℕ) → 0 < n → t ≡ n - ahead f → r ≡ 2 * t + 1 - S .start % 2 → min r (S .length - 1) ≡ firstRow f S n
 unfolding firstRow
-row-some S zero t r p et er = absurd (omega arith)
-row-some S (suc n) t r p et er = omega (arith, et, er)
+row-some f S zero t r p et er = absurd (omega arith)
+row-some f S (suc n) t r p et er = omega (arith, et, er)
 
-pub row-either : (S : Side) (n : ℕ) → eqb n 0 || eqb (S .length) 0 ≡ true → 0 ≡ firstRow S n
-row-either S n e = go (eqb n 0) refl (eqb (S .length) 0) refl e
+pub row-either : (f : ℕ) (S : Side) (n : ℕ) → eqb n 0 || eqb (S .length) 0 ≡ true → 0 ≡ firstRow f S n
+row-either f S n e = go (eqb n 0) refl (eqb (S .length) 0) refl e
   where
-    go : (a : Bool) → eqb n 0 ≡ a → (b : Bool) → eqb (S .length) 0 ≡ b → a || b ≡ true → 0 ≡ firstRow S n
+    go : (a : Bool) → eqb n 0 ≡ a → (b : Bool) → eqb (S .length) 0 ≡ b → a || b ≡ true → 0 ≡ firstRow f S n
     go true p b q z = let y : n ≡ 0 = eqb-true n 0 p in rw y (unfold firstRow in refl)
-    go false p true q z = row-none S n (eqb-true (S .length) 0 q)
+    go false p true q z = row-none f S n (eqb-true (S .length) 0 q)
     go false p false q z = absurd (subst T (sym z) tt)
 
 pub row-high : (S : Side) (n : ℕ) → eqb n 0 || eqb (S .length) 0 ≡ false → (0 < n) × (0 < S .length)

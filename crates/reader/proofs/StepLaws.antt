@@ -40,23 +40,23 @@ pub record Near (k : ℕ) (p : machine.Spot) : Type 0 where
   pub within : p .level ≤ k
   pub named : 0 < p .level → p .band < 4
 
-up-in : (W H : Side) (L k n b : ℕ) → Near k (nextUp W H L k n b)
+up-in : (f : ℕ) (W H : Side) (L k n b : ℕ) → Near k (nextUp f W H L k n b)
 unfolding nextUp
-up-in W H L zero n b = record { within = omega arith; named = λ h. absurd (omega arith) }
-up-in W H L (suc k) n b = go (ltb (bandAt W H L k n b) 4) refl (up-in W H L k (waiting H k n) 1)
+up-in f W H L zero n b = record { within = omega arith; named = λ h. absurd (omega arith) }
+up-in f W H L (suc k) n b = go (ltb (bandAt W H L k n b) 4) refl (up-in f W H L k (waiting f H k n) 1)
   where
-    go : (t : Bool) → ltb (bandAt W H L k n b) 4 ≡ t → Near k (nextUp W H L k (waiting H k n) 1) →
-        Near (suc k) (pick t (spot (suc k) n (bandAt W H L k n b)) (nextUp W H L k (waiting H k n) 1))
+    go : (t : Bool) → ltb (bandAt W H L k n b) 4 ≡ t → Near k (nextUp f W H L k (waiting f H k n) 1) →
+        Near (suc k) (pick t (spot (suc k) n (bandAt W H L k n b)) (nextUp f W H L k (waiting f H k n) 1))
     go true e n = record { within = omega arith; named = λ h. ltb-true _ _ e }
     go false e n = record { within = omega (arith, n .within); named = n .named }
 
 module _ (s : Reader) where
   pub near : Near (s .level) (next s)
   unfolding next
-  near = up-in _ _ _ (s .level) (spotNow s .set) (s .band)
+  near = up-in (s .filter) _ _ _ (s .level) (spotNow s .set) (s .band)
 
   pub settles-all : next s .level ≡ 0 → (n : ℕ) → n ≡ spotNow s .set → (x : ℕ → ℤ) →
-      settled (columns s) (rows s) (s .levels) 0 (s .level) n x ≡ settles s x
+      settled (s .filter) (columns s) (rows s) (s .levels) 0 (s .level) n x ≡ settles s x
   unfolding settles
   settles-all e n f x = rw (e, f)
 
@@ -67,18 +67,18 @@ module _ (s : Reader) where
   unfolding next
   next-none e = go (s .level) e
     where
-      go : (k : ℕ) → k ≡ 0 → spot 0 0 4 ≡ nextUp (columns s) (rows s) (s .levels) k (spotNow s .set) (s .band)
+      go : (k : ℕ) → k ≡ 0 → spot 0 0 4 ≡ nextUp (s .filter) (columns s) (rows s) (s .levels) k (spotNow s .set) (s .band)
       go zero e = unfold nextUp in refl
       go (suc k) e = absurd (omega arith)
 
-  pub next-own : (n : ℕ) → n ≡ spotNow s .set → nextUp (columns s) (rows s) (s .levels) (s .level) n (s .band) ≡ next s
+  pub next-own : (n : ℕ) → n ≡ spotNow s .set → nextUp (s .filter) (columns s) (rows s) (s .levels) (s .level) n (s .band) ≡ next s
   unfolding next
-  next-own n e = ap (λ (i : ℕ). nextUp (columns s) (rows s) (s .levels) (s .level) i (s .band)) e
+  next-own n e = ap (λ (i : ℕ). nextUp (s .filter) (columns s) (rows s) (s .levels) (s .level) i (s .band)) e
 
   pub next-at : (n : ℕ) (q : Next) → n ≡ spotNow s .set →
-      IsNext (columns s) (rows s) (s .drawn) (nextUp (columns s) (rows s) (s .levels) (s .level) n (s .band)) q
-      → IsNext (columns s) (rows s) (s .drawn) (next s) q
-  next-at n q e is = subst (λ (p : machine.Spot). IsNext (columns s) (rows s) (s .drawn) p q) (next-own n e) is
+      IsNext (s .filter) (columns s) (rows s) (s .drawn) (nextUp (s .filter) (columns s) (rows s) (s .levels) (s .level) n (s .band)) q
+      → IsNext (s .filter) (columns s) (rows s) (s .drawn) (next s) q
+  next-at n q e is = subst (λ (p : machine.Spot). IsNext (s .filter) (columns s) (rows s) (s .drawn) p q) (next-own n e) is
 
   module _ (p : Spot) (is : Is (next s) p) where
     pub spot-in : 0 < p .level → (p .level ≤ s .level) × (p .band < 4) × (0 < next s .level)
@@ -88,17 +88,17 @@ module _ (s : Reader) where
         let b = is .band in
         (omega (arith, n .within), omega (arith, n .named (omega arith)), omega arith)
 
-    pub length-is : (l : Level) (n : ℕ) → IsLevel (columns s) (rows s) (s .drawn) (p .level - 1) l →
+    pub length-is : (l : Level) (n : ℕ) → IsLevel (s .filter) (columns s) (rows s) (s .drawn) (p .level - 1) l →
         n ≡ count (across (named (p .band))) (side (l .x) (l .width)) → n ≡ nextLength s
     unfolding nextLength bandColumns
-    length-is l n at e = cc (e, level-wide (columns s) (rows s) (s .drawn) (p .level - 1) l at, is .level, is .band)
+    length-is l n at e = cc (e, level-wide (s .filter) (columns s) (rows s) (s .drawn) (p .level - 1) l at, is .level, is .band)
 
-    pub number-is : (l : Level) (r : ℕ) → IsLevel (columns s) (rows s) (s .drawn) (p .level - 1) l → l .set ≡ p .set →
+    pub number-is : (l : Level) (r : ℕ) → IsLevel (s .filter) (columns s) (rows s) (s .drawn) (p .level - 1) l → l .set ≡ p .set →
         r ≡ setRow (side (l .y) (l .height)) (named (p .band)) (l .set) → r ≡ nextRow s
     unfolding nextRow
-    number-is l r at set e = cc (e, level-high (columns s) (rows s) (s .drawn) (p .level - 1) l at, set, is .level, is .band, is .set)
+    number-is l r at set e = cc (e, level-high (s .filter) (columns s) (rows s) (s .drawn) (p .level - 1) l at, set, is .level, is .band, is .set)
 
-    pub settles-is : (n : ℕ) → n ≡ spotNow s .set → (x : ℕ → ℤ) → settled (columns s) (rows s) (s .levels) (p .level) (s .level) n x ≡ settles s x
+    pub settles-is : (n : ℕ) → n ≡ spotNow s .set → (x : ℕ → ℤ) → settled (s .filter) (columns s) (rows s) (s .levels) (p .level) (s .level) n x ≡ settles s x
     unfolding settles
     settles-is n e x = rw (is .level, e)
 
@@ -107,27 +107,27 @@ module _ (s : Reader) where
     feed-failed v x e = bind-failed _ _ e
 
     pub feed-on : (v x y : ℕ → ℤ) (n : ℕ) → 0 < p .level → n ≡ p .set → passed y ≡ settles s x →
-        finished (columns s) (rows s) (s .levels) (p .level - 1) n (p .band)
-        (fedAt (columns s) (rows s) (p .level - 1) n (p .band) v y) ≡ feeds s v x
+        finished (s .filter) (columns s) (rows s) (s .levels) (p .level - 1) n (p .band)
+        (fedAt (s .filter) (columns s) (rows s) (p .level - 1) n (p .band) v y) ≡ feeds s v x
     unfolding feeds
     feed-on v x y n h set e =
-        ap (λ (i : ℕ). finished (columns s) (rows s) (s .levels) (p .level - 1) i (p .band)
-        (fedAt (columns s) (rows s) (p .level - 1) i (p .band) v y)) set ∙ on (p .level) (p .set) (p .band) h
-        ∙ ap (λ (q : machine.Spot). fedOn (columns s) (rows s) (s .levels) (q .level) (q .set) (q .band) v y) (spot-of (next s) p is)
+        ap (λ (i : ℕ). finished (s .filter) (columns s) (rows s) (s .levels) (p .level - 1) i (p .band)
+        (fedAt (s .filter) (columns s) (rows s) (p .level - 1) i (p .band) v y)) set ∙ on (p .level) (p .set) (p .band) h
+        ∙ ap (λ (q : machine.Spot). fedOn (s .filter) (columns s) (rows s) (s .levels) (q .level) (q .set) (q .band) v y) (spot-of (next s) p is)
         ∙ bind-passed _ _ y e
       where
         on : (k i c : ℕ) → 0 < k →
-            finished (columns s) (rows s) (s .levels) (k - 1) i c (fedAt (columns s) (rows s) (k - 1) i c v y)
-            ≡ fedOn (columns s) (rows s) (s .levels) k i c v y
+            finished (s .filter) (columns s) (rows s) (s .levels) (k - 1) i c (fedAt (s .filter) (columns s) (rows s) (k - 1) i c v y)
+            ≡ fedOn (s .filter) (columns s) (rows s) (s .levels) k i c v y
         on zero i c h = absurd (omega arith)
         on (suc k) i c h = let z : suc k - 1 ≡ k = omega arith in rw z (unfold fedOn in refl)
 
-    pub beyond-is : 0 < p .level → beyond (columns s) (rows s) (s .levels) (p .level - 1) (p .set) (p .band)
-        ≡ spotFed (columns s) (rows s) (s .levels) (next s .level) (next s .set) (next s .band)
+    pub beyond-is : 0 < p .level → beyond (s .filter) (columns s) (rows s) (s .levels) (p .level - 1) (p .set) (p .band)
+        ≡ spotFed (s .filter) (columns s) (rows s) (s .levels) (next s .level) (next s .set) (next s .band)
     beyond-is h = on (p .level) (p .set) (p .band) h
-        ∙ ap (λ (q : machine.Spot). spotFed (columns s) (rows s) (s .levels) (q .level) (q .set) (q .band)) (spot-of (next s) p is)
+        ∙ ap (λ (q : machine.Spot). spotFed (s .filter) (columns s) (rows s) (s .levels) (q .level) (q .set) (q .band)) (spot-of (next s) p is)
       where
-        on : (k i c : ℕ) → 0 < k → beyond (columns s) (rows s) (s .levels) (k - 1) i c ≡ spotFed (columns s) (rows s) (s .levels) k i c
+        on : (k i c : ℕ) → 0 < k → beyond (s .filter) (columns s) (rows s) (s .levels) (k - 1) i c ≡ spotFed (s .filter) (columns s) (rows s) (s .levels) k i c
         on zero i c h = absurd (omega arith)
         on (suc k) i c h = let z : suc k - 1 ≡ k = omega arith in rw z (unfold spotFed in refl)
 
@@ -136,18 +136,18 @@ module _ (s : Reader) where
     length-back = cc (is .level, is .band)
 
 -- ---- where a set begins, as the code has its level
-pub begins-at : (W H : Side) (L d k n : ℕ) (l : Level) → 0 < k → IsLevel W H d (k - 1) l →
+pub begins-at : (f : ℕ) (W H : Side) (L d k n : ℕ) (l : Level) → 0 < k → IsLevel f W H d (k - 1) l →
     pick (leb (firstSet (side (l .y) (l .height)) lo) n)
-    (dive (L - k) k (levels.next (side (l .x) (l .width))) (levels.next (side (l .y) (l .height))) n (n - firstSet (side (l .y) (l .height)) lo))
-    (spot k n 1) ≡ begins W H L k n
+    (dive f (L - k) k (levels.next (side (l .x) (l .width))) (levels.next (side (l .y) (l .height))) n (n - firstSet (side (l .y) (l .height)) lo))
+    (spot k n 1) ≡ begins f W H L k n
 unfolding begins hasRow rowOf sideAt
-begins-at W H L d zero n l h is = absurd (omega arith)
-begins-at W H L d (suc k) n l h is =
+begins-at f W H L d zero n l h is = absurd (omega arith)
+begins-at f W H L d (suc k) n l h is =
     let z : suc k - 1 ≡ k = omega arith in
-    rw (level-wide W H d (suc k - 1) l is, level-high W H d (suc k - 1) l is, z) refl
+    rw (level-wide f W H d (suc k - 1) l is, level-high f W H d (suc k - 1) l is, z) refl
 
 -- ---- a level is no larger than the map
-pub level-small : (s : Reader) → Counts s → (k : ℕ) (l : Level) → IsLevel (columns s) (rows s) (s .drawn) k l → (l .width ≤ 2 ^ 16) × (l .height < 2 ^ 32)
+pub level-small : (s : Reader) → Counts s → (k : ℕ) (l : Level) → IsLevel (s .filter) (columns s) (rows s) (s .drawn) k l → (l .width ≤ 2 ^ 16) × (l .height < 2 ^ 32)
 level-small s c k l is =
     let m = counts-small s c in (
       omega (arith, is .width, size-le k (columns s), m .0),
@@ -155,48 +155,48 @@ level-small s c k l is =
     )
 
 -- ---- the place after a row is of one of the levels
-begins-level : (W H : Side) (L k n : ℕ) → k < L → begins W H L (suc k) n .level ≤ L
+begins-level : (f : ℕ) (W H : Side) (L k n : ℕ) → k < L → begins f W H L (suc k) n .level ≤ L
 unfolding begins
-begins-level W H L k n h = go (hasRow H (suc k) n)
+begins-level f W H L k n h = go (hasRow H (suc k) n)
   where
     to : machine.Spot
-    to = dive (L - suc k) (suc k) (sideAt (suc k) W) (sideAt (suc k) H) n (rowOf H (suc k) n)
+    to = dive f (L - suc k) (suc k) (sideAt (suc k) W) (sideAt (suc k) H) n (rowOf H (suc k) n)
 
     go : (t : Bool) → pick t to (spot (suc k) n 1) .level ≤ L
-    go true = omega (arith, dive-level (L - suc k) (suc k) (sideAt (suc k) W) (sideAt (suc k) H) n (rowOf H (suc k) n))
+    go true = omega (arith, dive-level f (L - suc k) (suc k) (sideAt (suc k) W) (sideAt (suc k) H) n (rowOf H (suc k) n))
     go false = omega arith
 
-pub fed-level : (W H : Side) (L k n c : ℕ) → k ≤ L → spotFed W H L k n c .level ≤ L
+pub fed-level : (f : ℕ) (W H : Side) (L k n c : ℕ) → k ≤ L → spotFed f W H L k n c .level ≤ L
 unfolding spotFed beyond past
-fed-level W H L zero n c h = omega arith
-fed-level W H L (suc k) n c h = go (lastOfSet W H L k n c) (makes (sideAt k H) n)
+fed-level f W H L zero n c h = omega arith
+fed-level f W H L (suc k) n c h = go (lastOfSet W H L k n c) (makes f (sideAt k H) n)
   where
     go : (t u : Bool) →
-        pick t (pick u (spot k (waiting H k n) 1) (begins W H L (suc k) (suc n))) (spot (suc k) n (c + 1)) .level ≤ L
+        pick t (pick u (spot k (waiting f H k n) 1) (begins f W H L (suc k) (suc n))) (spot (suc k) n (c + 1)) .level ≤ L
     go true true = omega arith
-    go true false = begins-level W H L k (suc n) (omega arith)
+    go true false = begins-level f W H L k (suc n) (omega arith)
     go false u = omega arith
 
 -- ---- past a set, as the code has it
-pub past-begin : (W H : Side) (L k m n : ℕ) → 0 < k → m ≡ n → makes (sideAt (k - 1) H) m ≡ false → begins W H L k (m + 1) ≡ past W H L (k - 1) n
+pub past-begin : (f : ℕ) (W H : Side) (L k m n : ℕ) → 0 < k → m ≡ n → makes f (sideAt (k - 1) H) m ≡ false → begins f W H L k (m + 1) ≡ past f W H L (k - 1) n
 unfolding past
-past-begin W H L zero m n h e f = absurd (omega arith)
-past-begin W H L (suc k) m n h e f =
+past-begin f W H L zero m n h e w = absurd (omega arith)
+past-begin f W H L (suc k) m n h e w =
     let z : suc k - 1 ≡ k = omega arith in
-    let g : makes (sideAt k H) n ≡ false = ap (makes (sideAt k H)) (sym e) ∙ ap (λ (i : ℕ). makes (sideAt i H) m) (sym z) ∙ f in
+    let g : makes f (sideAt k H) n ≡ false = ap (makes f (sideAt k H)) (sym e) ∙ ap (λ (i : ℕ). makes f (sideAt i H) m) (sym z) ∙ w in
     let u : m + 1 ≡ suc n = omega (arith, e) in
     rw (z, g, u) refl
 
-pub past-finer : (W H : Side) (L k m n r : ℕ) → m ≡ n → r ≡ waiting H k m → makes (sideAt k H) m ≡ true → spot k r 1 ≡ past W H L k n
+pub past-finer : (f : ℕ) (W H : Side) (L k m n r : ℕ) → m ≡ n → r ≡ waiting f H k m → makes f (sideAt k H) m ≡ true → spot k r 1 ≡ past f W H L k n
 unfolding past
-past-finer W H L k m n r e w f =
-    let g : makes (sideAt k H) n ≡ true = ap (makes (sideAt k H)) (sym e) ∙ f in
-    rw g (ap (λ (i : ℕ). spot k i 1) (w ∙ ap (waiting H k) e))
+past-finer f W H L k m n r e w u =
+    let g : makes f (sideAt k H) n ≡ true = ap (makes f (sideAt k H)) (sym e) ∙ u in
+    rw g (ap (λ (i : ℕ). spot k i 1) (w ∙ ap (waiting f H k) e))
 
-pub past-top : (W H : Side) (L k m n r : ℕ) (l : Level) → k ≡ 1 → 0 < k → m ≡ n → side (l .y) (l .height) ≡ sideAt (k - 1) H →
-    r ≡ firstRow (side (l .y) (l .height)) m → makes (sideAt (k - 1) H) m ≡ true → spot 0 r 1 ≡ past W H L (k - 1) n
-past-top W H L k m n r l one h e high er f =
+pub past-top : (f : ℕ) (W H : Side) (L k m n r : ℕ) (l : Level) → k ≡ 1 → 0 < k → m ≡ n → side (l .y) (l .height) ≡ sideAt (k - 1) H →
+    r ≡ firstRow f (side (l .y) (l .height)) m → makes f (sideAt (k - 1) H) m ≡ true → spot 0 r 1 ≡ past f W H L (k - 1) n
+past-top f W H L k m n r l one h e high er u =
     let z : k - 1 ≡ 0 = omega arith in
-    let row : r ≡ waiting H 0 m = er ∙ ap (λ (S : Side). firstRow S m) (high ∙ ap (λ (i : ℕ). sideAt i H) z) ∙ unfold waiting taking sideAt in refl in
-    let g : makes (sideAt 0 H) m ≡ true = ap (λ (i : ℕ). makes (sideAt i H) m) (sym z) ∙ f in
-    past-finer W H L 0 m n r e row g ∙ ap (λ (i : ℕ). past W H L i n) (sym z)
+    let row : r ≡ waiting f H 0 m = er ∙ ap (λ (S : Side). firstRow f S m) (high ∙ ap (λ (i : ℕ). sideAt i H) z) ∙ unfold waiting taking sideAt in refl in
+    let g : makes f (sideAt 0 H) m ≡ true = ap (λ (i : ℕ). makes f (sideAt i H) m) (sym z) ∙ u in
+    past-finer f W H L 0 m n r e row g ∙ ap (λ (i : ℕ). past f W H L i n) (sym z)

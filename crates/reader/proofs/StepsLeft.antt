@@ -74,33 +74,33 @@ turn-same zero f g e = refl
 turn-same (suc c) f g e = rw (turn-same c f g e, e c) refl
 
 -- ---- what is left, at suc l levels
-module _ (W H : Side) (l : ℕ) where
+module _ (f : ℕ) (W H : Side) (l : ℕ) where
   -- the rows that set n at level k + 1 still asks for, and all the steps of it
   abbrev pub rowsLeft : ℕ → ℕ → ℕ → List Step
   rowsLeft k n b = feedAll (names (suc k) (sideAt k H) n (look (eqb (suc k) (suc l)) (sideAt k W) (sideAt k H) n b))
 
   abbrev setLeft : ℕ → ℕ → ℕ → List Step
-  setLeft m k n = setSteps ahead m (suc k) (sideAt k W) (sideAt k H) n
+  setLeft m k n = setSteps (ahead f) m (suc k) (sideAt k W) (sideAt k H) n
 
   -- the sets after set n that the row which waits for it needs
   abbrev moreSets : ℕ → ℕ → List Step
-  moreSets k n = inTurn (setOf ahead (sideAt k H) (firstRow (sideAt k H) n) - n) (λ i. setLeft (l - k) k (suc n + i))
+  moreSets k n = inTurn (setOf (ahead f) (sideAt k H) (firstRow f (sideAt k H) n) - n) (λ i. setLeft (l - k) k (suc n + i))
 
   -- until the row waited for is drawn: the rows that the set at this level still asks for, the sets after it that the row needs which it waits for, and so of
   -- each finer level
   unfoldable pub tail : ℕ → ℕ → ℕ → List Step
   tail zero n b = draw n ∷ []
-  tail (suc k) n b = rowsLeft k n b ++ (moreSets k n ++ tail k (waiting H k n) 1)
+  tail (suc k) n b = rowsLeft k n b ++ (moreSets k n ++ tail k (waiting f H k n) 1)
 
   abbrev pub tailAt : Spot → List Step
   tailAt q = tail (q .level) (q .set) (q .band)
 
   abbrev rest : ℕ → ℕ → List Step
-  rest k n = moreSets k n ++ tail k (waiting H k n) 1
+  rest k n = moreSets k n ++ tail k (waiting f H k n) 1
 
   -- row r with what it needs, and c rows from row d on
   abbrev turn : ℕ → List Step
-  turn r = rowSteps ahead H (setSteps ahead l 1 W H) r ++ (draw r ∷ [])
+  turn r = rowSteps (ahead f) H (setSteps (ahead f) l 1 W H) r ++ (draw r ∷ [])
 
   unfoldable pub later : ℕ → ℕ → List Step
   later zero d = []
@@ -141,7 +141,7 @@ module _ (W H : Side) (l : ℕ) where
 
   -- else what its low row needs of the next level, and its rows
   abbrev rowsBelow : ℕ → ℕ → ℕ → List Step
-  rowsBelow m k r = rowSteps ahead (sideAt k H) (setSteps ahead m (suc k) (sideAt k W) (sideAt k H)) r
+  rowsBelow m k r = rowSteps (ahead f) (sideAt k H) (setSteps (ahead f) m (suc k) (sideAt k W) (sideAt k H)) r
 
   on-steps : (m k n : ℕ) → k + suc m ≡ l →
       setLeft (suc m) k n ≡ pick (hasRow H (suc k) n) (rowsBelow m (suc k) (rowOf H (suc k) n)) [] ++ rowsLeft k n 1
@@ -161,75 +161,75 @@ module _ (W H : Side) (l : ℕ) where
   alone-steps (suc m) k n e h = on-steps m k n e ∙ ap (λ t. pick t (rowsBelow m (suc k) (rowOf H (suc k) n)) [] ++ rowsLeft k n 1) h
 
   no-rows : (m k r : ℕ) → Empty (sideAt k W) (sideAt k H) → rowsBelow m k r ≡ []
-  no-rows m k r e = empty-row (sideAt k H) _ r (λ n. empty-set m (suc k) (sideAt k W) (sideAt k H) n e)
+  no-rows m k r e = empty-row f (sideAt k H) _ r (λ n. empty-set f m (suc k) (sideAt k W) (sideAt k H) n e)
 
-  below-no : (m k r : ℕ) → opens ahead (sideAt k H) r ≡ false → rowsBelow m k r ≡ []
+  below-no : (m k r : ℕ) → opens (ahead f) (sideAt k H) r ≡ false → rowsBelow m k r ≡ []
   unfolding rowSteps inTurn
-  below-no m k r o = rw (sets-none (sideAt k H) r o) refl
+  below-no m k r o = rw (sets-none f (sideAt k H) r o) refl
 
   -- a row that opens sets: the first of them, and the rest
-  below-first : (m k n r : ℕ) → k + m ≡ l → opens ahead (sideAt k H) r ≡ true → taking H k r ≡ n →
-      rowsBelow m k r ++ tail k n 1 ≡ setLeft m k (setsBefore ahead (sideAt k H) r) ++ rest k (setsBefore ahead (sideAt k H) r)
+  below-first : (m k n r : ℕ) → k + m ≡ l → opens (ahead f) (sideAt k H) r ≡ true → taking H k r ≡ n →
+      rowsBelow m k r ++ tail k n 1 ≡ setLeft m k (setsBefore (ahead f) (sideAt k H) r) ++ rest k (setsBefore (ahead f) (sideAt k H) r)
   unfolding rowSteps waiting
   below-first m k n r e o t =
       let left : l - k ≡ m = omega arith in
       let z : s + 0 ≡ s = omega arith in
-      let c : setsBefore ahead S (suc r) - s ≡ suc (setOf ahead S r - s) = omega (arith, before-suc ahead S r, opens-yes S r o) in
-      rw (left, opened-row S r o, t)
+      let c : setsBefore (ahead f) S (suc r) - s ≡ suc (setOf (ahead f) S r - s) = omega (arith, before-suc (ahead f) S r, opens-yes f S r o) in
+      rw (left, opened-row f S r o, t)
       (ap (λ i. inTurn i (λ i. setLeft m k (s + i)) ++ tail k n 1) c
-      ∙ ap (λ u. u ++ tail k n 1) (turn-first (setOf ahead S r - s) (λ i. setLeft m k (s + i)))
-      ∙ ap (λ i. (setLeft m k i ++ inTurn (setOf ahead S r - s) (λ i. setLeft m k (s + suc i))) ++ tail k n 1) z
-      ∙ append-assoc (setLeft m k s) (inTurn (setOf ahead S r - s) (λ i. setLeft m k (s + suc i))) (tail k n 1)
-      ∙ ap (λ u. setLeft m k s ++ (u ++ tail k n 1)) (turn-same (setOf ahead S r - s) _ _ (λ i. ap (setLeft m k) (omega arith))))
+      ∙ ap (λ u. u ++ tail k n 1) (turn-first (setOf (ahead f) S r - s) (λ i. setLeft m k (s + i)))
+      ∙ ap (λ i. (setLeft m k i ++ inTurn (setOf (ahead f) S r - s) (λ i. setLeft m k (s + suc i))) ++ tail k n 1) z
+      ∙ append-assoc (setLeft m k s) (inTurn (setOf (ahead f) S r - s) (λ i. setLeft m k (s + suc i))) (tail k n 1)
+      ∙ ap (λ u. setLeft m k s ++ (u ++ tail k n 1)) (turn-same (setOf (ahead f) S r - s) _ _ (λ i. ap (setLeft m k) (omega arith))))
     where
       S : Side
       S = sideAt k H
 
       s : ℕ
-      s = setsBefore ahead (sideAt k H) r
+      s = setsBefore (ahead f) (sideAt k H) r
 
   -- where a set begins, as the search for it has it
-  pub begins-is : (m k n : ℕ) → k + m ≡ l → begins W H (suc l) (suc k) n ≡
+  pub begins-is : (m k n : ℕ) → k + m ≡ l → begins f W H (suc l) (suc k) n ≡
       pick (leb (firstSet (sideAt k H) lo) n)
-      (dive m (suc k) (next (sideAt k W)) (next (sideAt k H)) n (n - firstSet (sideAt k H) lo)) (spot (suc k) n 1)
+      (dive f m (suc k) (next (sideAt k W)) (next (sideAt k H)) n (n - firstSet (sideAt k H) lo)) (spot (suc k) n 1)
   unfolding begins hasRow rowOf sideAt
   begins-is m k n e = let z : suc l - suc k ≡ m = omega arith in rw z refl
 
   -- where number n of level k begins, if the steps of the set are left that it begins with
   dive-tail : (m k n r : ℕ) → k + m ≡ l → taking H k r ≡ n →
-      ((i : ℕ) → tailAt (begins W H (suc l) (suc k) i) ≡ setLeft m k i ++ rest k i) →
-      tailAt (dive (suc m) k (sideAt k W) (sideAt k H) n r) ≡ rowsBelow m k r ++ tail k n 1
+      ((i : ℕ) → tailAt (begins f W H (suc l) (suc k) i) ≡ setLeft m k i ++ rest k i) →
+      tailAt (dive f (suc m) k (sideAt k W) (sideAt k H) n r) ≡ rowsBelow m k r ++ tail k n 1
   unfolding dive
-  dive-tail m k n r e t f = go (hasCells (sideAt k W) (sideAt k H)) refl (opens ahead (sideAt k H) r) refl
+  dive-tail m k n r e t y = go (hasCells (sideAt k W) (sideAt k H)) refl (opens (ahead f) (sideAt k H) r) refl
     where
       S : Side
       S = sideAt k H
 
       s : ℕ
-      s = setsBefore ahead S r
+      s = setsBefore (ahead f) S r
 
       to : Spot
-      to = pick (leb (firstSet S lo) s) (dive m (suc k) (next (sideAt k W)) (next S) s (s - firstSet S lo)) (spot (suc k) s 1)
+      to = pick (leb (firstSet S lo) s) (dive f m (suc k) (next (sideAt k W)) (next S) s (s - firstSet S lo)) (spot (suc k) s 1)
 
-      go : (c : Bool) → hasCells (sideAt k W) S ≡ c → (o : Bool) → opens ahead S r ≡ o →
+      go : (c : Bool) → hasCells (sideAt k W) S ≡ c → (o : Bool) → opens (ahead f) S r ≡ o →
           tailAt (pick (both c o) to (spot k n 1)) ≡ rowsBelow m k r ++ tail k n 1
       go false c o _ = ap (λ u. u ++ tail k n 1) (sym (no-rows m k r (cells-not (sideAt k W) S c)))
       go true c false o = ap (λ u. u ++ tail k n 1) (sym (below-no m k r o))
-      go true c true o = ap tailAt (sym (begins-is m k s e)) ∙ f s ∙ sym (below-first m k n r e o t)
+      go true c true o = ap tailAt (sym (begins-is m k s e)) ∙ y s ∙ sym (below-first m k n r e o t)
 
-  begin-tail : (m k n : ℕ) → k + m ≡ l → tailAt (begins W H (suc l) (suc k) n) ≡ setLeft m k n ++ rest k n
+  begin-tail : (m k n : ℕ) → k + m ≡ l → tailAt (begins f W H (suc l) (suc k) n) ≡ setLeft m k n ++ rest k n
   unfolding begins dive tail
   begin-tail zero k n e = go (hasRow H (suc k) n) refl
     where
       go : (t : Bool) → hasRow H (suc k) n ≡ t →
-          tailAt (pick t (dive (suc l - suc k) (suc k) (sideAt (suc k) W) (sideAt (suc k) H) n (rowOf H (suc k) n)) (spot (suc k) n 1))
+          tailAt (pick t (dive f (suc l - suc k) (suc k) (sideAt (suc k) W) (sideAt (suc k) H) n (rowOf H (suc k) n)) (spot (suc k) n 1))
           ≡ setLeft 0 k n ++ rest k n
       go false h = ap (λ u. u ++ rest k n) (sym (alone-steps 0 k n e h))
       go true h = let z : suc l - suc k ≡ 0 = omega arith in rw z (ap (λ u. u ++ rest k n) (sym (last-steps k n (omega arith))))
   begin-tail (suc m) k n e = go (hasRow H (suc k) n) refl (λ i. begin-tail m (suc k) i (omega arith))
     where
-      go : (t : Bool) → hasRow H (suc k) n ≡ t → ((i : ℕ) → tailAt (begins W H (suc l) (suc (suc k)) i) ≡ setLeft m (suc k) i ++ rest (suc k) i) →
-          tailAt (pick t (dive (suc l - suc k) (suc k) (sideAt (suc k) W) (sideAt (suc k) H) n (rowOf H (suc k) n)) (spot (suc k) n 1))
+      go : (t : Bool) → hasRow H (suc k) n ≡ t → ((i : ℕ) → tailAt (begins f W H (suc l) (suc (suc k)) i) ≡ setLeft m (suc k) i ++ rest (suc k) i) →
+          tailAt (pick t (dive f (suc l - suc k) (suc k) (sideAt (suc k) W) (sideAt (suc k) H) n (rowOf H (suc k) n)) (spot (suc k) n 1))
           ≡ setLeft (suc m) k n ++ rest k n
       go false h ih = ap (λ u. u ++ rest k n) (sym (alone-steps (suc m) k n e h))
       go true h ih =
@@ -239,18 +239,18 @@ module _ (W H : Side) (l : ℕ) where
           ∙ sym (append-assoc (rowsBelow m (suc k) (rowOf H (suc k) n)) (rowsLeft k n 1) (rest k n))
           ∙ ap (λ u. u ++ rest k n) (sym (on-steps m k n e ∙ ap (λ t. pick t (rowsBelow m (suc k) (rowOf H (suc k) n)) [] ++ rowsLeft k n 1) h)))
 
-  enter-tail : (d : ℕ) → tailAt (enter W H (suc l) d) ≡ turn d
+  enter-tail : (d : ℕ) → tailAt (enter f W H (suc l) d) ≡ turn d
   unfolding enter tail sideAt
   enter-tail d = dive-tail l 0 d d (omega arith) (unfold taking in refl) (λ i. begin-tail l 0 i (omega arith))
 
   -- ---- past a set
   -- one that does not make the row which waits leaves the next to be asked for
-  rest-next : (k n : ℕ) → makes (sideAt k H) n ≡ false → setLeft (l - k) k (suc n) ++ rest k (suc n) ≡ rest k n
+  rest-next : (k n : ℕ) → makes f (sideAt k H) n ≡ false → setLeft (l - k) k (suc n) ++ rest k (suc n) ≡ rest k n
   unfolding waiting
   rest-next k n e =
-      let z : setOf ahead S (firstRow S n) - n ≡ suc c = omega (arith, makes-not S n e) in
+      let z : setOf (ahead f) S (firstRow f S n) - n ≡ suc c = omega (arith, makes-not f S n e) in
       let u : suc n + 0 ≡ suc n = omega arith in
-      rw (row-next S n e)
+      rw (row-next f S n e)
       (sym (append-assoc (g (suc n)) (inTurn c (λ i. g (suc (suc n) + i))) t)
       ∙ ap (λ (w : List Step). (g (suc n) ++ w) ++ t) (turn-same c (λ i. g (suc (suc n) + i)) (λ i. g (suc n + suc i)) (λ i. ap g (omega arith)))
       ∙ ap (λ (i : ℕ). (g i ++ inTurn c (λ i. g (suc n + suc i))) ++ t) (sym u)
@@ -261,30 +261,30 @@ module _ (W H : Side) (l : ℕ) where
       S = sideAt k H
 
       c : ℕ
-      c = setOf ahead (sideAt k H) (firstRow (sideAt k H) n) - suc n
+      c = setOf (ahead f) (sideAt k H) (firstRow f (sideAt k H) n) - suc n
 
       g : ℕ → List Step
       g = setLeft (l - k) k
 
       t : List Step
-      t = tail k (taking H k (firstRow (sideAt k H) n)) 1
+      t = tail k (taking H k (firstRow f (sideAt k H) n)) 1
 
-  past-tail : (k n : ℕ) → k ≤ l → tailAt (past W H (suc l) k n) ≡ rest k n
+  past-tail : (k n : ℕ) → k ≤ l → tailAt (past f W H (suc l) k n) ≡ rest k n
   unfolding past inTurn
-  past-tail k n h = go (makes (sideAt k H) n) refl
+  past-tail k n h = go (makes f (sideAt k H) n) refl
     where
-      go : (t : Bool) → makes (sideAt k H) n ≡ t → tailAt (pick t (spot k (waiting H k n) 1) (begins W H (suc l) (suc k) (suc n))) ≡ rest k n
+      go : (t : Bool) → makes f (sideAt k H) n ≡ t → tailAt (pick t (spot k (waiting f H k n) 1) (begins f W H (suc l) (suc k) (suc n))) ≡ rest k n
       go true e =
-          let z : setOf ahead (sideAt k H) (firstRow (sideAt k H) n) - n ≡ 0 = omega (arith, makes-yes (sideAt k H) n e) in
+          let z : setOf (ahead f) (sideAt k H) (firstRow f (sideAt k H) n) - n ≡ 0 = omega (arith, makes-yes f (sideAt k H) n e) in
           rw z refl
       go false e = begin-tail (l - k) k (suc n) (omega arith) ∙ rest-next k n e
 
-  beyond-tail : (k n c : ℕ) → k ≤ l → tail (suc k) n (c + 1) ≡ tailAt (beyond W H (suc l) k n c)
+  beyond-tail : (k n c : ℕ) → k ≤ l → tail (suc k) n (c + 1) ≡ tailAt (beyond f W H (suc l) k n c)
   unfolding beyond tail
   beyond-tail k n c h = go (lastOfSet W H (suc l) k n c) refl
     where
       go : (t : Bool) → lastOfSet W H (suc l) k n c ≡ t →
-          rowsLeft k n (c + 1) ++ rest k n ≡ tailAt (pick t (past W H (suc l) k n) (spot (suc k) n (c + 1)))
+          rowsLeft k n (c + 1) ++ rest k n ≡ tailAt (pick t (past f W H (suc l) k n) (spot (suc k) n (c + 1)))
       go true e = ap (λ t. t ++ rest k n) (rows-none k n (c + 1) (last-none k n c e)) ∙ sym (past-tail k n h)
       go false e = unfold tail in refl
 
@@ -292,44 +292,44 @@ module _ (W H : Side) (l : ℕ) where
   -- what the machine says is next, and what is left then: a height row, or a band row
   pub data Ahead (d lev : ℕ) (t : List Step) : Spot → Type 0 where
     height : t ≡ draw d ∷ [] → Ahead d lev t (spot 0 0 4)
-    row : (k n : ℕ) (c : Band) → k < lev → Ready W H (suc l) d (spot (suc k) n (code c)) →
+    row : (k n : ℕ) (c : Band) → k < lev → Ready f W H (suc l) d (spot (suc k) n (code c)) →
         asked (eqb (suc k) (suc l)) (sideAt k W) (sideAt k H) n c ≡ true →
-        t ≡ feed (rowName (suc k) c (setRow (sideAt k H) c n)) ∷ tailAt (beyond W H (suc l) k n (code c)) → Ahead d lev t (spot (suc k) n (code c))
+        t ≡ feed (rowName (suc k) c (setRow (sideAt k H) c n)) ∷ tailAt (beyond f W H (suc l) k n (code c)) → Ahead d lev t (spot (suc k) n (code c))
 
-  pub ahead-is : (d lev n b : ℕ) → lev ≤ suc l → Ready W H (suc l) d (spot lev n b) → Ahead d lev (tail lev n b) (nextUp W H (suc l) lev n b)
+  pub ahead-is : (d lev n b : ℕ) → lev ≤ suc l → Ready f W H (suc l) d (spot lev n b) → Ahead d lev (tail lev n b) (nextUp f W H (suc l) lev n b)
   unfolding nextUp bandAt nextBand look firstCode tail inTurn
   ahead-is d zero n b h s = height (ap (λ i. draw i ∷ []) (top-is n s))
     where
-      top-is : (n : ℕ) → Ready W H (suc l) d (spot 0 n b) → n ≡ d
+      top-is : (n : ℕ) → Ready f W H (suc l) d (spot 0 n b) → n ≡ d
       top-is n s = unfold waitsAt in s .top
   ahead-is d (suc k) n b h s =
       go (those p (bandsFrom b)) refl (look-is p b)
-      (λ z. ahead-is d k (waiting H k n) 1 (omega arith) (ready-up W H l d k n b (omega arith) s z))
+      (λ z. ahead-is d k (waiting f H k n) 1 (omega arith) (ready-up f W H l d k n b (omega arith) s z))
     where
       p : Band → Bool
       p = asked (eqb (suc k) (suc l)) (sideAt k W) (sideAt k H) n
 
-      finer : (q : Spot) → tail (suc k) n b ≡ tail k (waiting H k n) 1 → Ahead d k (tail k (waiting H k n) 1) q → Ahead d (suc k) (tail (suc k) n b) q
-      finer _ e (height f) = height (e ∙ f)
-      finer _ e (row j i c h r ask f) = row j i c (omega arith) r ask (e ∙ f)
+      finer : (q : Spot) → tail (suc k) n b ≡ tail k (waiting f H k n) 1 → Ahead d k (tail k (waiting f H k n) 1) q → Ahead d (suc k) (tail (suc k) n b) q
+      finer _ e (height y) = height (e ∙ y)
+      finer _ e (row j i c h r ask y) = row j i c (omega arith) r ask (e ∙ y)
 
-      lazy : those p (bandsFrom b) ≡ [] → tail (suc k) n b ≡ tail k (waiting H k n) 1
+      lazy : those p (bandsFrom b) ≡ [] → tail (suc k) n b ≡ tail k (waiting f H k n) 1
       lazy e =
           let m = s .asks k refl (ap firstCode e) in
-          let z : setOf ahead (sideAt k H) (firstRow (sideAt k H) n) - n ≡ 0 = omega (arith, makes-yes (sideAt k H) n m) in
+          let z : setOf (ahead f) (sideAt k H) (firstRow f (sideAt k H) n) - n ≡ 0 = omega (arith, makes-yes f (sideAt k H) n m) in
           ap (λ t. t ++ rest k n) (rows-none k n b e) ∙ rw z refl
 
       go : (xs : List Band) → those p (bandsFrom b) ≡ xs → Look p xs →
-          (firstCode (those p (bandsFrom b)) ≡ 4 → Ahead d k (tail k (waiting H k n) 1) (nextUp W H (suc l) k (waiting H k n) 1)) →
-          Ahead d (suc k) (tail (suc k) n b) (pick (ltb (firstCode xs) 4) (spot (suc k) n (firstCode xs)) (nextUp W H (suc l) k (waiting H k n) 1))
+          (firstCode (those p (bandsFrom b)) ≡ 4 → Ahead d k (tail k (waiting f H k n) 1) (nextUp f W H (suc l) k (waiting f H k n) 1)) →
+          Ahead d (suc k) (tail (suc k) n b) (pick (ltb (firstCode xs) 4) (spot (suc k) n (firstCode xs)) (nextUp f W H (suc l) k (waiting f H k n) 1))
       go _ e nothing ih = finer _ (lazy e) (ih (ap firstCode e))
       go _ e (first c a) ih = rw (lt-ltb (code c) 4 (code-lt c))
           (row k n c (omega arith) (at-band c a) a
           (ap (λ t. t ++ rest k n) (rows-some k n b c e)
           ∙ ap (λ t. feed (rowName (suc k) c (setRow (sideAt k H) c n)) ∷ t) (beyond-tail k n (code c) (omega arith))))
         where
-          at-band : (c : Band) → p c ≡ true → Ready W H (suc l) d (spot (suc k) n (code c))
-          at-band c a = ready-band W H l d k n b c s a
+          at-band : (c : Band) → p c ≡ true → Ready f W H (suc l) d (spot (suc k) n (code c))
+          at-band c a = ready-band f W H l d k n b c s a
 
   -- ---- so the steps left go on from row to row
   -- a row fed, or drawn, takes off the first
@@ -338,29 +338,29 @@ module _ (W H : Side) (l : ℕ) where
     unfolding stepsLeft leftFor
     left-now p = ap (λ q. leftFor q d p) rest
 
-    pub left-enter : stepsLeft d (enter W H (suc l) d) ≡ later (suc c) d
+    pub left-enter : stepsLeft d (enter f W H (suc l) d) ≡ later (suc c) d
     unfolding later
-    left-enter = left-now (enter W H (suc l) d) ∙ ap (λ t. t ++ later c (suc d)) (enter-tail d)
+    left-enter = left-now (enter f W H (suc l) d) ∙ ap (λ t. t ++ later c (suc d)) (enter-tail d)
 
   left-end : (d : ℕ) (p : Spot) → H .length ≤ d → stepsLeft d p ≡ []
   unfolding stepsLeft leftFor
   left-end d p h = let e : H .length - d ≡ 0 = omega arith in ap (λ q. leftFor q d p) e
 
-  left-later : (d c : ℕ) → H .length - d ≡ c → stepsLeft d (enter W H (suc l) d) ≡ later c d
+  left-later : (d c : ℕ) → H .length - d ≡ c → stepsLeft d (enter f W H (suc l) d) ≡ later c d
   left-later d zero e = left-end d _ (omega arith) ∙ unfold later in refl
   left-later d (suc c) e = left-enter d c e
 
   pub left-row : (d : ℕ) (q : Spot) (k n : ℕ) (c : Band) → d < H .length →
-      tailAt q ≡ feed (rowName (suc k) c (setRow (sideAt k H) c n)) ∷ tailAt (beyond W H (suc l) k n (code c)) →
-      stepsLeft d q ≡ feed (rowName (suc k) c (setRow (sideAt k H) c n)) ∷ stepsLeft d (beyond W H (suc l) k n (code c))
+      tailAt q ≡ feed (rowName (suc k) c (setRow (sideAt k H) c n)) ∷ tailAt (beyond f W H (suc l) k n (code c)) →
+      stepsLeft d q ≡ feed (rowName (suc k) c (setRow (sideAt k H) c n)) ∷ stepsLeft d (beyond f W H (suc l) k n (code c))
   left-row d q k n c h e =
       let rest : H .length - d ≡ suc (H .length - d - 1) = omega arith in
       left-now d _ rest q
       ∙ ap (λ t. t ++ later (H .length - d - 1) (suc d)) e
       ∙ ap (λ t. feed (rowName (suc k) c (setRow (sideAt k H) c n)) ∷ t)
-      (sym (left-now d _ rest (beyond W H (suc l) k n (code c))))
+      (sym (left-now d _ rest (beyond f W H (suc l) k n (code c))))
 
-  pub left-height : (d : ℕ) (q : Spot) → d < H .length → tailAt q ≡ draw d ∷ [] → stepsLeft d q ≡ draw d ∷ stepsLeft (suc d) (enter W H (suc l) (suc d))
+  pub left-height : (d : ℕ) (q : Spot) → d < H .length → tailAt q ≡ draw d ∷ [] → stepsLeft d q ≡ draw d ∷ stepsLeft (suc d) (enter f W H (suc l) (suc d))
   left-height d q h e =
       let rest : H .length - d ≡ suc (H .length - d - 1) = omega arith in
       left-now d _ rest q ∙ ap (λ t. t ++ later (H .length - d - 1) (suc d)) e
@@ -376,11 +376,11 @@ module _ (W H : Side) (l : ℕ) where
   turns-later (suc c) d = let e : suc d + c ≡ d + suc c = omega arith in sym (append-assoc (inTurn d turn) _ _) ∙ turns-later c (suc d)
       ∙ ap (λ n. inTurn n turn) e
 
-  later-steps : later (H .length) 0 ≡ steps ahead W H (suc l)
+  later-steps : later (H .length) 0 ≡ steps (ahead f) W H (suc l)
   unfolding steps inTurn
-  later-steps = let e : 0 + H .length ≡ H .length = omega arith in let f : suc l - 1 ≡ l = omega arith in
+  later-steps = let e : 0 + H .length ≡ H .length = omega arith in let y : suc l - 1 ≡ l = omega arith in
       turns-later (H .length) 0 ∙ ap (λ n. inTurn n turn) e
-      ∙ ap (λ q. inTurn (H .length) (λ r. rowSteps ahead H (setSteps ahead q 1 W H) r ++ (draw r ∷ []))) (sym f)
+      ∙ ap (λ q. inTurn (H .length) (λ r. rowSteps (ahead f) H (setSteps (ahead f) q 1 W H) r ++ (draw r ∷ []))) (sym y)
 
-  pub left-first : stepsLeft 0 (enter W H (suc l) 0) ≡ steps ahead W H (suc l)
-  left-first = let f : H .length - 0 ≡ H .length = omega arith in left-later 0 (H .length) f ∙ later-steps
+  pub left-first : stepsLeft 0 (enter f W H (suc l) 0) ≡ steps (ahead f) W H (suc l)
+  left-first = let y : H .length - 0 ≡ H .length = omega arith in left-later 0 (H .length) y ∙ later-steps

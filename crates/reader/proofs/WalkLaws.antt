@@ -32,21 +32,21 @@ is-spot q p e = record {
 }
 
 -- no row
-pub no-next : (W H : Side) (d : ℕ) (q : machine.Spot) (n : Next) → spot 0 0 4 ≡ q → n .spot .level ≡ 0 → n .spot .set ≡ 0 → n .spot .band ≡ 4 → IsNext W H d q n
-no-next W H d q n e a b c = record {
+pub no-next : (f : ℕ) (W H : Side) (d : ℕ) (q : machine.Spot) (n : Next) → spot 0 0 4 ≡ q → n .spot .level ≡ 0 → n .spot .set ≡ 0 → n .spot .band ≡ 4 → IsNext f W H d q n
+no-next f W H d q n e a b c = record {
   spot = is-spot q (n .spot) (rw (a, b, c) e);
   at = λ h. absurd (omega arith);
   set = λ h. absurd (omega arith);
 }
 
-module _ (W H : Side) (L : ℕ) where
-  pub band-is : (d k b : ℕ) (l : Level) → IsLevel W H d k l →
+module _ (f : ℕ) (W H : Side) (L : ℕ) where
+  pub band-is : (d k b : ℕ) (l : Level) → IsLevel f W H d k l →
       nextBand (eqb (k + 1) L) (side (l .x) (l .width)) (side (l .y) (l .height)) (l .set) b ≡ bandAt W H L k (l .set) b
   unfolding bandAt
-  band-is d k b l is = cc (level-wide W H d k l is, level-high W H d k l is, add-one k)
+  band-is d k b l is = cc (level-wide f W H d k l is, level-high f W H d k l is, add-one k)
 
   -- ---- the row wanted
-  pub up-here : (k b c n : ℕ) → 0 < k → c ≡ bandAt W H L (k - 1) n b → c < 4 → spot k n c ≡ nextUp W H L k n b
+  pub up-here : (k b c n : ℕ) → 0 < k → c ≡ bandAt W H L (k - 1) n b → c < 4 → spot k n c ≡ nextUp f W H L k n b
   unfolding nextUp
   up-here zero b c n some e h = absurd (omega arith)
   up-here (suc k) b c n some e h =
@@ -54,8 +54,8 @@ module _ (W H : Side) (L : ℕ) where
       let is : c ≡ bandAt W H L k n b = e ∙ ap (λ (j : ℕ). bandAt W H L j n b) i in
       rw (← is, lt-ltb c 4 h)
 
-  pub up-finer : (k b c n m : ℕ) → 0 < k → c ≡ bandAt W H L (k - 1) n b → 4 ≤ c → (0 < k - 1 → m ≡ waiting H (k - 1) n) →
-      nextUp W H L (k - 1) m 1 ≡ nextUp W H L k n b
+  pub up-finer : (k b c n m : ℕ) → 0 < k → c ≡ bandAt W H L (k - 1) n b → 4 ≤ c → (0 < k - 1 → m ≡ waiting f H (k - 1) n) →
+      nextUp f W H L (k - 1) m 1 ≡ nextUp f W H L k n b
   unfolding nextUp
   up-finer zero b c n m some e h w = absurd (omega arith)
   up-finer (suc k) b c n m some e h w =
@@ -63,67 +63,67 @@ module _ (W H : Side) (L : ℕ) where
       let is : c ≡ bandAt W H L k n b = e ∙ ap (λ (j : ℕ). bandAt W H L j n b) i in
       rw (← is, le-ltb c 4 h, i) (same k (rw i at w))
     where
-      same : (k : ℕ) → (0 < k → m ≡ waiting H k n) → nextUp W H L k m 1 ≡ nextUp W H L k (waiting H k n) 1
+      same : (k : ℕ) → (0 < k → m ≡ waiting f H k n) → nextUp f W H L k m 1 ≡ nextUp f W H L k (waiting f H k n) 1
       same zero w = refl
-      same (suc k) w = ap (λ (i : ℕ). nextUp W H L (suc k) i 1) (w (omega arith))
+      same (suc k) w = ap (λ (i : ℕ). nextUp f W H L (suc k) i 1) (w (omega arith))
 
-  pub up-none : (k n b : ℕ) → k ≡ 0 → spot 0 0 4 ≡ nextUp W H L k n b
+  pub up-none : (k n b : ℕ) → k ≡ 0 → spot 0 0 4 ≡ nextUp f W H L k n b
   unfolding nextUp
   up-none k n b e = rw e
 
-  pub up-next : (d : ℕ) (q : machine.Spot) (k c : ℕ) (l : Level) → IsLevel W H d (k - 1) l → spot k (l .set) c ≡ q →
-      IsNext W H d q (record { spot = record { level = k; set = l .set; band = c }; at = l })
+  pub up-next : (d : ℕ) (q : machine.Spot) (k c : ℕ) (l : Level) → IsLevel f W H d (k - 1) l → spot k (l .set) c ≡ q →
+      IsNext f W H d q (record { spot = record { level = k; set = l .set; band = c }; at = l })
   up-next d q k c l is e = record { spot = is-spot q (record { level = k; set = l .set; band = c }) e; at = λ h. is; set = λ h. refl }
 
   -- ---- the sets on the way
-  pub settle-none : (to k n : ℕ) (x : ℕ → ℤ) → k ≤ to → passed x ≡ settled W H L to k n x
+  pub settle-none : (to k n : ℕ) (x : ℕ → ℤ) → k ≤ to → passed x ≡ settled f W H L to k n x
   unfolding settled
   settle-none to zero n x h = refl
   settle-none to (suc k) n x h = rw (le-ltb to (suc k) h)
 
-  pub settle-failed : (to k n : ℕ) (x : ℕ → ℤ) → to < k → failed ≡ workedAt W H L (k - 1) n x → failed ≡ settled W H L to k n x
+  pub settle-failed : (to k n : ℕ) (x : ℕ → ℤ) → to < k → failed ≡ workedAt f W H L (k - 1) n x → failed ≡ settled f W H L to k n x
   unfolding settled
   settle-failed to zero n x h e = absurd (omega arith)
   settle-failed to (suc k) n x h e =
       let i : suc k - 1 ≡ k = omega arith in
-      rw (lt-ltb to (suc k) h) (bind-failed _ _ (e ∙ ap (λ (j : ℕ). workedAt W H L j n x) i))
+      rw (lt-ltb to (suc k) h) (bind-failed _ _ (e ∙ ap (λ (j : ℕ). workedAt f W H L j n x) i))
 
-  pub settle-on : (to k n m : ℕ) (x y : ℕ → ℤ) → to < k → (0 < k - 1 → m ≡ waiting H (k - 1) n) → passed y ≡ workedAt W H L (k - 1) n x →
-      settled W H L to (k - 1) m y ≡ settled W H L to k n x
+  pub settle-on : (to k n m : ℕ) (x y : ℕ → ℤ) → to < k → (0 < k - 1 → m ≡ waiting f H (k - 1) n) → passed y ≡ workedAt f W H L (k - 1) n x →
+      settled f W H L to (k - 1) m y ≡ settled f W H L to k n x
   unfolding settled
   settle-on to zero n m x y h w e = absurd (omega arith)
   settle-on to (suc k) n m x y h w e =
       let i : suc k - 1 ≡ k = omega arith in
       rw (lt-ltb to (suc k) h, i)
-      (same k (rw i at w) ∙ bind-passed _ (settled W H L to k (waiting H k n)) y (e ∙ ap (λ (j : ℕ). workedAt W H L j n x) i))
+      (same k (rw i at w) ∙ bind-passed _ (settled f W H L to k (waiting f H k n)) y (e ∙ ap (λ (j : ℕ). workedAt f W H L j n x) i))
     where
-      same : (k : ℕ) → (0 < k → m ≡ waiting H k n) → settled W H L to k m y ≡ settled W H L to k (waiting H k n) y
+      same : (k : ℕ) → (0 < k → m ≡ waiting f H k n) → settled f W H L to k m y ≡ settled f W H L to k (waiting f H k n) y
       same zero w = refl
-      same (suc k) w = ap (λ (i : ℕ). settled W H L to (suc k) i y) (w (omega arith))
+      same (suc k) w = ap (λ (i : ℕ). settled f W H L to (suc k) i y) (w (omega arith))
 
   -- ---- the set that a row completes, and the place after it
   module _ (k n c : ℕ) (t : Bool) (x : ℕ → ℤ) (is : t ≡ lastOfSet W H L k n c) where
-    pub finish-not : t ≡ false → passed x ≡ finished W H L k n c x
+    pub finish-not : t ≡ false → passed x ≡ finished f W H L k n c x
     unfolding finished
     finish-not e = let u : lastOfSet W H L k n c ≡ false = sym is ∙ e in rw u
 
-    pub finish-set : t ≡ true → workedAt W H L k n x ≡ finished W H L k n c x
+    pub finish-set : t ≡ true → workedAt f W H L k n x ≡ finished f W H L k n c x
     unfolding finished
     finish-set e = let u : lastOfSet W H L k n c ≡ true = sym is ∙ e in rw u
 
   -- the place after it
-  pub beyond-more : (k n c j : ℕ) (t : Bool) → t ≡ lastOfSet W H L k n c → j ≡ k + 1 → t ≡ false → spot j n (c + 1) ≡ beyond W H L k n c
+  pub beyond-more : (k n c j : ℕ) (t : Bool) → t ≡ lastOfSet W H L k n c → j ≡ k + 1 → t ≡ false → spot j n (c + 1) ≡ beyond f W H L k n c
   unfolding beyond
   beyond-more k n c j t is e h = rw (← is, h, e, add-one k)
 
-  pub beyond-set : (k n c : ℕ) (t : Bool) → t ≡ lastOfSet W H L k n c → t ≡ true → past W H L k n ≡ beyond W H L k n c
+  pub beyond-set : (k n c : ℕ) (t : Bool) → t ≡ lastOfSet W H L k n c → t ≡ true → past f W H L k n ≡ beyond f W H L k n c
   unfolding beyond
   beyond-set k n c t is h = rw (← is, h)
 
-  pub past-next : (k n : ℕ) → makes (sideAt k H) n ≡ false → begins W H L (suc k) (suc n) ≡ past W H L k n
+  pub past-next : (k n : ℕ) → makes f (sideAt k H) n ≡ false → begins f W H L (suc k) (suc n) ≡ past f W H L k n
   unfolding past
   past-next k n e = rw e
 
-  pub past-up : (k n : ℕ) → makes (sideAt k H) n ≡ true → spot k (waiting H k n) 1 ≡ past W H L k n
+  pub past-up : (k n : ℕ) → makes f (sideAt k H) n ≡ true → spot k (waiting f H k n) 1 ≡ past f W H L k n
   unfolding past
   past-up k n e = rw e

@@ -9,34 +9,35 @@ use Rattle.lifting.specs.Grid.{Side}
 use Rattle.reader.specs.declared.Reader.{Reader}
 use Rattle.areas.specs.Areas.{height16}
 use Rattle.level.specs.Tried.{memory}
-use Rattle.reader.specs.Sets.{K}
+use Rattle.filters.specs.Back.{backOf}
 use Rattle.reader.specs.Store.{zeroed}
 use Rattle.reader.specs.Answers.{Reply, gives, refused, impossible, Want, Handed, aRow, nothing}
 use Rattle.reader.specs.Machine.{placeOf, enter}
 use Rattle.reader.specs.State.{columns, wants, settles, feeds, drawDue, fedReader, drawnReader, endedReader}
 
 -- ---- set-up
--- a fresh reader: nothing drawn, and row 0 begins
-unfoldable pub fresh : Side → Side → ℕ → Reader
-fresh W H L = record {
+-- a fresh reader of the filter f: nothing drawn, and row 0 begins
+unfoldable pub fresh : ℕ → Side → Side → ℕ → Reader
+fresh f W H L = record {
   width = W .length;
   height = H .length;
   levels = L;
   x = W .start;
   y = H .start;
   drawn = 0;
-  level = enter W H L 0 .level;
-  back = placeOf H 0 (enter W H L 0) .back;
-  band = enter W H L 0 .band;
+  level = enter f W H L 0 .level;
+  back = placeOf f H 0 (enter f W H L 0) .back;
+  band = enter f W H L 0 .band;
   ended = false;
+  filter = f;
 }
 
-unfoldable pub setUpReply : Side → Side → ℕ → ℕ → Reply Reader
-setUpReply W H L q = pick (eqb q 0) (gives (fresh W H L)) (refused q)
+unfoldable pub setUpReply : ℕ → Side → Side → ℕ → ℕ → Reply Reader
+setUpReply f W H L q = pick (eqb q 0) (gives (fresh f W H L)) (refused q)
 
 -- "whose needed part set-up zeroes"
-unfoldable pub setUpStore : Side → ℕ → ℕ → (ℕ → ℤ) → ℕ → ℤ
-setUpStore W L q x = pick (eqb q 0) (zeroed W L x) x
+unfoldable pub setUpStore : ℕ → Side → ℕ → ℕ → (ℕ → ℤ) → ℕ → ℤ
+setUpStore f W L q x = pick (eqb q 0) (zeroed f W L x) x
 
 -- ---- want
 unfoldable pub wantReply : Reader → ℕ → Reply Want
@@ -48,7 +49,7 @@ feedReply s q = pick (eqb q 0) (gives (fedReader s)) (pick (eqb q 14) (impossibl
 
 -- y where the call passes, zeroed where it gives 14, as it was where another question turns it away
 unfoldable pub storeAfter : Reader → ℕ → (ℕ → ℤ) → (ℕ → ℤ) → ℕ → ℤ
-storeAfter s q y x = pick (eqb q 0) y (pick (eqb q 14) (zeroed (columns s) (s .levels) x) x)
+storeAfter s q y x = pick (eqb q 0) y (pick (eqb q 14) (zeroed (s .filter) (columns s) (s .levels) x) x)
 
 unfoldable pub feedStore : Reader → ℕ → (ℕ → ℤ) → (ℕ → ℤ) → ℕ → ℤ
 feedStore s q v x = storeAfter s q (memory x (feeds s v x)) x
@@ -65,7 +66,7 @@ drawStore s q x = storeAfter s q (pick (drawDue s) (memory x (settles s x)) x) x
 
 -- the height row that stands in the store x: row d of level 1
 unfoldable pub heightRow : Reader → (ℕ → ℤ) → ℕ → ℤ
-heightRow s x c = height16 (K .made (columns s) (s .y) (s .drawn) x c)
+heightRow s x c = height16 (backOf (s .filter) .made (columns s) (s .y) (s .drawn) x c)
 
 -- the output area z afterwards
 unfoldable pub drawArea : Reader → ℕ → (ℕ → ℤ) → (ℕ → ℤ) → ℕ → ℤ

@@ -12,7 +12,7 @@ use lib.Dec.{leb, eqb}
 use Rattle.numbers.specs.Signal.{pick, both}
 use Rattle.numbers.specs.Word.{whole}
 use Rattle.lifting.specs.Grid.{Side}
-use Rattle.lifting.specs.FiveThree.{fiveThreeFilter}
+use Rattle.nine_seven.specs.Filters.{filterOf}
 use Rattle.wavelet.specs.Bands.{Grid, code, down}
 use Rattle.wavelet.specs.Maps.{IsMap}
 use Rattle.wavelet.specs.Levels.{sideAt, levelBand}
@@ -114,9 +114,10 @@ events = lists.events event next
 abbrev pub final : List Call → World → World
 final = lists.final next
 
--- "Fresh means the state and line store of a set-up that passed": of the columns W and the rows H at L levels, on a store of n numbers in which x stood
-abbrev pub freshWorld : Side → Side → ℕ → ℕ → (ℕ → ℤ) → World
-freshWorld W H L n x = record { reader = fresh W H L; length = n; store = setUpStore W L 0 x }
+-- "Fresh means the state and line store of a set-up that passed": of the filter f, the columns W and the rows H at L levels, on a store of n
+-- numbers in which x stood
+abbrev pub freshWorld : ℕ → Side → Side → ℕ → ℕ → (ℕ → ℤ) → World
+freshWorld f W H L n x = record { reader = fresh f W H L; length = n; store = setUpStore f W L 0 x }
 
 -- ---- how far the steps are gone
 -- one step on: a feed that passed, a draw that gave a row
@@ -184,26 +185,26 @@ abbrev pub drawnRows : List Event → List (ℕ → ℤ)
 drawnRows = gathered drawnBy
 
 -- ---- "A map has them if it fits the set-up, in H too, and its plane at the set-up's levels has them as these rows."
--- a run a is band row x of a map g: its length, and T.800's whole numbers
-pub record IsRow (W H : Side) (g : Grid) (x : RowName) (a : Area) : Type 0 where
+-- a run a is band row x of a map g: its length, and the whole numbers of the filter's transform
+pub record IsRow (f : ℕ) (W H : Side) (g : Grid) (x : RowName) (a : Area) : Type 0 where
   pub size : a .size ≡ bandColumns W (x .level) (x .band)
-  pub values : (i : ℕ) → i < bandColumns W (x .level) (x .band) → a .numbers i ≡ levelBand fiveThreeFilter whole W H g (x .level) (x .band) (x .row) i
+  pub values : (i : ℕ) → i < bandColumns W (x .level) (x .band) → a .numbers i ≡ levelBand (filterOf f) whole W H g (x .level) (x .band) (x .row) i
 
-abbrev pub HasRow : Side → Side → Grid → FedRow → Type 0
-HasRow W H g f = IsRow W H g (f .row) (f .run)
+abbrev pub HasRow : ℕ → Side → Side → Grid → FedRow → Type 0
+HasRow f W H g u = IsRow f W H g (u .row) (u .run)
 
-pub record HasFed (W H : Side) (L : ℕ) (g : Grid) (es : List Event) : Type 0 where
+pub record HasFed (f : ℕ) (W H : Side) (L : ℕ) (g : Grid) (es : List Event) : Type 0 where
   pub map : IsMap (W .length) (H .length) g
-  pub rows : All (HasRow W H g) (fedRows (steps ahead W H L) es)
+  pub rows : All (HasRow f W H g) (fedRows (steps (ahead f) W H L) es)
 
 -- the rows ys are the first rows of the map
 pub record FirstRows (W : Side) (g : Grid) (ys : List (ℕ → ℤ)) : Type 0 where
   pub are : (r c : ℕ) → r < length ys → c < W .length → getD ys r (λ _. pos 0) c ≡ g r c
 
 -- they are all the rows of a map that has the rows fed
-pub record AllDrawn (W H : Side) (L : ℕ) (es : List Event) : Type 0 where
+pub record AllDrawn (f : ℕ) (W H : Side) (L : ℕ) (es : List Event) : Type 0 where
   pub map : Grid
-  pub has : HasFed W H L map es
+  pub has : HasFed f W H L map es
   pub all : length (drawnRows es) ≡ H .length
   pub first : FirstRows W map (drawnRows es)
 
@@ -216,13 +217,13 @@ wantSays W false (step.feed x ∷ t) = row (x .level) (code (x .band)) (x .row) 
 wantSays W false (step.draw r ∷ t) = drawNow
 
 -- the number of the question before 14 that turns a feed away: 9, 8, 13, 7, or 0
-unfoldable pub feedTurned : Side → Bool → List Step → Area → ℕ
-feedTurned W true t a = 9
-feedTurned W false [] a = 8
-feedTurned W false (step.draw r ∷ t) a = 8
-feedTurned W false (step.feed x ∷ t) a =
+unfoldable pub feedTurned : ℕ → Side → Bool → List Step → Area → ℕ
+feedTurned f W true t a = 9
+feedTurned f W false [] a = 8
+feedTurned f W false (step.draw r ∷ t) a = 8
+feedTurned f W false (step.feed x ∷ t) a =
     ask (eqb (a .size) (bandColumns W (x .level) (x .band))) 13
-    (ask (runFits (x .level) (a .size) (a .numbers)) 7
+    (ask (runFits f (x .level) (a .size) (a .numbers)) 7
     0)
 
 -- what a draw into an area of m heights gives, unless it gives 14: 9, 12, a row or Nothing
@@ -257,7 +258,7 @@ pub record Draws (W : Side) (e : Bool) (t : List Step) (a : Area) (seen : Event)
 -- ---- "A set completed by a fed row is worked out in that feed", one without a fed row of its own in the next call that goes on
 -- band rows by their names that have those fed
 abbrev pub HasFedRow : Side → Rows → FedRow → Type 0
-HasFedRow W P f = (i : ℕ) → i < bandColumns W (f .row .level) (f .row .band) → f .run .numbers i ≡ P (f .row) i
+HasFedRow W P u = (i : ℕ) → i < bandColumns W (u .row .level) (u .row .band) → u .run .numbers i ≡ P (u .row) i
 
 -- the set of a row of level k + 1
 unfoldable pub setNumber : Side → RowName → ℕ
@@ -270,46 +271,47 @@ goesOnSet H x (step.feed y ∷ t) = both (eqb (y .level) (x .level)) (eqb (setNu
 goesOnSet H x (step.draw r ∷ t) = false
 
 -- The sets of the levels above level k that number n of level k (level 0: a height row) needs fit, up to the last of each.
-pub record SetsFit (W H : Side) (L : ℕ) (P : Rows) (k n : ℕ) : Type 0 where
-  pub fit : (j : ℕ) → k ≤ j → j < L → hasCells (sideAt j W) (sideAt j H) ≡ true → SetFits W H P L j (needed H k n (suc j))
+pub record SetsFit (f : ℕ) (W H : Side) (L : ℕ) (P : Rows) (k n : ℕ) : Type 0 where
+  pub fit : (j : ℕ) → k ≤ j → j < L → hasCells (sideAt j W) (sideAt j H) ≡ true → SetFits f W H P L j (needed f H k n (suc j))
 
 -- A feed of row x, with the steps t after it. Its own set fits if x is the last of it; and the sets of the levels above, which made what its set takes, if it
 -- takes a row.
-pub record FeedFits (W H : Side) (L : ℕ) (P : Rows) (x : RowName) (t : List Step) : Type 0 where
-  pub own : goesOnSet H x t ≡ false → SetFits W H P L (x .level - 1) (setNumber H x)
-  pub above : hasRow H (x .level) (setNumber H x) ≡ true → SetsFit W H L P (x .level) (setNumber H x)
+pub record FeedFits (f : ℕ) (W H : Side) (L : ℕ) (P : Rows) (x : RowName) (t : List Step) : Type 0 where
+  pub own : goesOnSet H x t ≡ false → SetFits f W H P L (x .level - 1) (setNumber H x)
+  pub above : hasRow H (x .level) (setNumber H x) ≡ true → SetsFit f W H L P (x .level) (setNumber H x)
 
 -- a feed of the run a as row x goes on, with the steps t after it
-pub record FeedGoes (W H : Side) (L : ℕ) (es : List Event) (then : Call → Event) (a : Area) (x : RowName) (t : List Step) : Type 0 where
-  pub next : left (steps ahead W H L) es ≡ step.feed x ∷ t
+pub record FeedGoes (f : ℕ) (W H : Side) (L : ℕ) (es : List Event) (then : Call → Event) (a : Area) (x : RowName) (t : List Step) : Type 0 where
+  pub next : left (steps (ahead f) W H L) es ≡ step.feed x ∷ t
   pub passes : then (feed a) ≡ fed a (gives tt)
 
 -- ---- the claim, of the events es of any list of calls; `then` is what would be seen of a further call
-pub record Demand3 (W H : Side) (L : ℕ) (es : List Event) (then : Call → Event) : Type 0 where
+pub record Demand3 (f : ℕ) (W H : Side) (L : ℕ) (es : List Event) (then : Call → Event) : Type 0 where
   -- "one list of steps: each band row to feed, once, and each height row to draw, once"
-  pub rows-once : (x : RowName) → times x (bandRowsOf (steps ahead W H L)) ≡ pick (bandRowExists W H L (x .level) (x .band) (x .row)) 1 0
-  pub heights-once : heightRowsOf (steps ahead W H L) ≡ inTurn (H .length) (λ r. r ∷ [])
+  pub rows-once : (x : RowName) → times x (bandRowsOf (steps (ahead f) W H L)) ≡ pick (bandRowExists W H L (x .level) (x .band) (x .row)) 1 0
+  pub heights-once : heightRowsOf (steps (ahead f) W H L) ≡ inTurn (H .length) (λ r. r ∷ [])
   -- the want
-  pub wants : then want ≡ wanted (gives (wantSays W (endedBy es) (left (steps ahead W H L) es)))
+  pub wants : then want ≡ wanted (gives (wantSays W (endedBy es) (left (steps (ahead f) W H L) es)))
   -- "A feed of the length that the want names goes one step on or gives 7 or 14"; any other is turned away
-  pub feeds-turned : (a : Area) (q : ℕ) → feedTurned W (endedBy es) (left (steps ahead W H L) es) a ≡ suc q → then (feed a) ≡ fed a (refused (suc q))
-  pub feeds-on : (a : Area) → feedTurned W (endedBy es) (left (steps ahead W H L) es) a ≡ 0 → OneOf (then (feed a)) (fed a (gives tt)) (fed a (refused 14))
+  pub feeds-turned : (a : Area) (q : ℕ) → feedTurned f W (endedBy es) (left (steps (ahead f) W H L) es) a ≡ suc q → then (feed a) ≡ fed a (refused (suc q))
+  pub feeds-on : (a : Area) → feedTurned f W (endedBy es) (left (steps (ahead f) W H L) es) a ≡ 0 →
+      OneOf (then (feed a)) (fed a (gives tt)) (fed a (refused 14))
   -- "a draw at Draw goes one step on or gives 12 or 14; no other call goes on"
-  pub draws : (a : Area) → Draws W (endedBy es) (left (steps ahead W H L) es) a (then (draw a))
+  pub draws : (a : Area) → Draws W (endedBy es) (left (steps (ahead f) W H L) es) a (then (draw a))
   -- the heights drawn are the first of every map that has the rows fed
-  pub first : (g : Grid) → HasFed W H L g es → FirstRows W g (drawnRows es)
+  pub first : (g : Grid) → HasFed f W H L g es → FirstRows W g (drawnRows es)
   -- "14 comes only if no map has them."
-  pub impossible : endedBy es ≡ true → (g : Grid) → HasFed W H L g es → ⊥
+  pub impossible : endedBy es ≡ true → (g : Grid) → HasFed f W H L g es → ⊥
   -- a call that goes on has worked out what is due, and it fits: 14 comes no later
-  pub feed-works : (a : Area) (x : RowName) (t : List Step) → FeedGoes W H L es then a x t →
-      (P : Rows) → All (HasFedRow W P) (fedRows (steps ahead W H L) es ++ (record { row = x; run = a } ∷ [])) →
-      FeedFits W H L P x t
+  pub feed-works : (a : Area) (x : RowName) (t : List Step) → FeedGoes f W H L es then a x t →
+      (P : Rows) → All (HasFedRow W P) (fedRows (steps (ahead f) W H L) es ++ (record { row = x; run = a } ∷ [])) →
+      FeedFits f W H L P x t
   pub draw-works : (a b : Area) → then (draw a) ≡ drew a (gives (heights (W .length))) b →
-      (P : Rows) → All (HasFedRow W P) (fedRows (steps ahead W H L) es) → SetsFit W H L P 0 (length (drawnRows es))
+      (P : Rows) → All (HasFedRow W P) (fedRows (steps (ahead f) W H L) es) → SetsFit f W H L P 0 (length (drawnRows es))
   -- it says Done exactly when the heights drawn are all of such a map
-  pub finished : then want ≡ wanted (gives done) ↔ AllDrawn W H L es
+  pub finished : then want ≡ wanted (gives done) ↔ AllDrawn f W H L es
 
 -- of a list of calls on a fresh reader: "a state reached by calls always passes" question 1, and the claim
-pub record OfCalls (W H : Side) (L n : ℕ) (x : ℕ → ℤ) (cs : List Call) : Type 0 where
-  pub in-range : countsFit (final cs (freshWorld W H L n x) .reader) ≡ true
-  pub claim : Demand3 W H L (events cs (freshWorld W H L n x)) (λ c. event c (final cs (freshWorld W H L n x)))
+pub record OfCalls (f : ℕ) (W H : Side) (L n : ℕ) (x : ℕ → ℤ) (cs : List Call) : Type 0 where
+  pub in-range : countsFit (final cs (freshWorld f W H L n x) .reader) ≡ true
+  pub claim : Demand3 f W H L (events cs (freshWorld f W H L n x)) (λ c. event c (final cs (freshWorld f W H L n x)))

@@ -1,5 +1,5 @@
 -- What stands in the line store of a reader, `Holds P s x`, for band rows P, by their names, that have the rows fed; and what each call keeps of it.
--- The numbers are 32-bit words; for the rows of a map they are T.800's whole numbers, and the way back from them is the map.
+-- The numbers are 32-bit words; for the rows of a map they are its transform's whole numbers, and the way back from them is the map.
 use mathlib.Core.Path.{_≡_}
 use mathlib.Core.Bool.{true}
 use Prim.Native.Nat.{ℕ, suc, _≤_, _<_}
@@ -14,29 +14,31 @@ use Rattle.reader.specs.Answers.{Reply, gives, impossible, Handed, aRow}
 use Rattle.reader.specs.Sets.{ahead, hasRow, needed, makes, waitsAt}
 use Rattle.reader.specs.Asked.{keptAt, named}
 use Rattle.reader.specs.Machine.{Spot, bandAt}
-use Rattle.level.specs.Stands.{SetHas, SetLeaves, SetBefore, BandStands, BackMeaning}
+use Rattle.level.specs.Stands.{SetHasBy, BackMeaning}
+use Rattle.nine_seven.specs.Filters.{filterOf}
+use Rattle.filters.specs.Back.{standsOf}
 use Rattle.reader.specs.Rebuilt.{Rows, bandsAt, partAt, LevelFits}
 use Rattle.reader.specs.Store.{stretchAt, from, hasCells}
 use Rattle.reader.specs.State.{columns, rows, spotNow, next, nextRow, nextLength}
 
 -- ---- what stands in a level's memory: of the sets before set n also that none of them halved an odd number
-abbrev pub Tested : Side → Side → (Band → Grid) → ℕ → Type 0
-Tested W H p n = (m : ℕ) → m < n → SetHas ahead W H p m
+abbrev pub Tested : ℕ → Side → Side → (Band → Grid) → ℕ → Type 0
+Tested f W H p n = (m : ℕ) → m < n → SetHasBy (filterOf f) (ahead f) W H p m
 
-abbrev pub M : BackMeaning
-M = record {
-  Leaves = λ k W H p n x. SetLeaves k W H p n x × Tested W H p n;
-  Before = λ W H p n x. SetBefore W H p n x × Tested W H p n;
-  Got = BandStands;
+abbrev pub M : ℕ → BackMeaning
+M f = record {
+  Leaves = λ k W H p n x. standsOf f .Leaves k W H p n x × Tested f W H p n;
+  Before = λ W H p n x. standsOf f .Before W H p n x × Tested f W H p n;
+  Got = standsOf f .Got;
 }
 
 -- ---- a place at which a reader can be, of a map of the columns W and the rows H at L levels while row d is waited for: the set collected is one that row d
 -- waits for, of a level that is not empty; and if it asks for no more, it makes the row that waits for it
-pub record Ready (W H : Side) (L d : ℕ) (q : Spot) : Type 0 where
-  pub top : waitsAt H (q .level) (q .set) 0 ≡ d
+pub record Ready (f : ℕ) (W H : Side) (L d : ℕ) (q : Spot) : Type 0 where
+  pub top : waitsAt f H (q .level) (q .set) 0 ≡ d
   pub cells : (k : ℕ) → suc k ≡ q .level → hasCells (sideAt k W) (sideAt k H) ≡ true
   pub there : (k : ℕ) → suc k ≡ q .level → q .set ≤ lastSet (sideAt k H)
-  pub asks : (k : ℕ) → suc k ≡ q .level → bandAt W H L k (q .set) (q .band) ≡ 4 → makes (sideAt k H) (q .set) ≡ true
+  pub asks : (k : ℕ) → suc k ≡ q .level → bandAt W H L k (q .set) (q .band) ≡ 4 → makes f (sideAt k H) (q .set) ≡ true
 
 -- ---- the reader's store, while row `drawn` is waited for: coarser levels than `level` have the last set that what it collects needs, it has the bands before
 -- `band`, finer ones wait
@@ -47,19 +49,19 @@ module _ (P : Rows) (s : Reader) where
     pub cells : hasCells (sideAt k (columns s)) (sideAt k (rows s)) ≡ true
 
   pub record Holds (x : ℕ → ℤ) : Type 0 where
-    pub ready : s .drawn < s .height → Ready (columns s) (rows s) (s .levels) (s .drawn) (spotNow s)
+    pub ready : s .drawn < s .height → Ready (s .filter) (columns s) (rows s) (s .levels) (s .drawn) (spotNow s)
     pub below : s .drawn < s .height → hasRow (rows s) (s .level) (spotNow s .set) ≡ true → (k : ℕ) → Level k → s .level ≤ k →
-        M .Leaves k (sideAt k (columns s)) (sideAt k (rows s)) (bandsAt (columns s) (rows s) P (s .levels) k)
-        (needed (rows s) (s .level) (spotNow s .set) (suc k)) (from (stretchAt (columns s) k) x)
+        M (s .filter) .Leaves k (sideAt k (columns s)) (sideAt k (rows s)) (bandsAt (s .filter) (columns s) (rows s) P (s .levels) k)
+        (needed (s .filter) (rows s) (s .level) (spotNow s .set) (suc k)) (from (stretchAt (s .filter) (columns s) k) x)
     pub before : s .drawn < s .height → (k : ℕ) → Level k → suc k ≤ s .level →
-        M .Before (sideAt k (columns s)) (sideAt k (rows s)) (bandsAt (columns s) (rows s) P (s .levels) k)
-        (waitsAt (rows s) (s .level) (spotNow s .set) (suc k)) (from (stretchAt (columns s) k) x)
+        M (s .filter) .Before (sideAt k (columns s)) (sideAt k (rows s)) (bandsAt (s .filter) (columns s) (rows s) P (s .levels) k)
+        (waitsAt (s .filter) (rows s) (s .level) (spotNow s .set) (suc k)) (from (stretchAt (s .filter) (columns s) k) x)
     pub got : s .drawn < s .height → (k : ℕ) → Level k → suc k ≡ s .level → (c : Band) → keptAt (eqb (suc k) (s .levels)) c ≡ true → code c < s .band →
-        M .Got (sideAt k (columns s)) (sideAt k (rows s)) (bandsAt (columns s) (rows s) P (s .levels) k) (spotNow s .set) (from (stretchAt (columns s) k) x) c
+        M (s .filter) .Got (sideAt k (columns s)) (sideAt k (rows s)) (bandsAt (s .filter) (columns s) (rows s) P (s .levels) k) (spotNow s .set) (from (stretchAt (s .filter) (columns s) k) x) c
 
   -- every level's part fits, and no number that is halved is odd
   abbrev pub AllFit : Type 0
-  AllFit = (k : ℕ) → Level k → LevelFits (columns s) (rows s) P (s .levels) k
+  AllFit = (k : ℕ) → Level k → LevelFits (s .filter) (columns s) (rows s) P (s .levels) k
 
   -- v is the row of P that is wanted
   abbrev pub IsWanted : (ℕ → ℤ) → Type 0
@@ -77,5 +79,5 @@ pub record FeedKeeps (s : Reader) (v x : ℕ → ℤ) (r : Reply Reader) (x′ :
 -- a draw gives the row of the way back from P in the area z′, and goes on to hold P; 14 likewise
 pub record DrawKeeps (s : Reader) (x : ℕ → ℤ) (r : Reply Handed) (x′ z′ : ℕ → ℤ) : Type 0 where
   pub passed : (n : ℕ) (t : Reader) → r ≡ gives (aRow n t) → (P : Rows) → Holds P s x →
-      Holds P t x′ × ((c : ℕ) → c < s .width → z′ c ≡ partAt (columns s) (rows s) P (s .levels) 0 (s .drawn) c)
+      Holds P t x′ × ((c : ℕ) → c < s .width → z′ c ≡ partAt (s .filter) (columns s) (rows s) P (s .levels) 0 (s .drawn) c)
   pub ended : (t : Reader) → r ≡ impossible t → (P : Rows) → Holds P s x → AllFit P s → ⊥

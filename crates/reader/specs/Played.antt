@@ -43,8 +43,8 @@ pub record Sized (W H : Side) (L : ℕ) (rows : RowName → Area) : Type 0 where
   pub size : (x : RowName) → bandRowExists W H L (x .level) (x .band) (x .row) ≡ true → rows x .size ≡ bandColumns W (x .level) (x .band)
 
 -- a map has all of them for its plane
-pub record HasAll (W H : Side) (L : ℕ) (g : Grid) (rows : RowName → Area) : Type 0 where
-  pub are : (x : RowName) → bandRowExists W H L (x .level) (x .band) (x .row) ≡ true → IsRow W H g x (rows x)
+pub record HasAll (f : ℕ) (W H : Side) (L : ℕ) (g : Grid) (rows : RowName → Area) : Type 0 where
+  pub are : (x : RowName) → bandRowExists W H L (x .level) (x .band) (x .row) ≡ true → IsRow f W H g x (rows x)
 
 -- ---- one of the calls gave 7 or 14
 pub data Refusal : List Event → Type 0 where
@@ -65,6 +65,6 @@ pub record Stopped (es : List Event) (then : Call → Event) : Type 0 where
   pub not-done : then want ≡ wanted (gives done) → ⊥
 
 -- ---- of the rows of a map it hands back that map; of rows that no map has, each of its length, it stops
-pub record Played (W H : Side) (L : ℕ) (rows : RowName → Area) (es : List Event) (then : Call → Event) : Type 0 where
-  pub map-back : (g : Grid) → IsMap (W .length) (H .length) g → HasAll W H L g rows → Back W H g es then
-  pub no-map : Sized W H L rows → ((g : Grid) → IsMap (W .length) (H .length) g → HasAll W H L g rows → ⊥) → Stopped es then
+pub record Played (f : ℕ) (W H : Side) (L : ℕ) (rows : RowName → Area) (es : List Event) (then : Call → Event) : Type 0 where
+  pub map-back : (g : Grid) → IsMap (W .length) (H .length) g → HasAll f W H L g rows → Back W H g es then
+  pub no-map : Sized W H L rows → ((g : Grid) → IsMap (W .length) (H .length) g → HasAll f W H L g rows → ⊥) → Stopped es then

@@ -1,4 +1,4 @@
--- The reader's levels: what each is, and the sets that are waited for. H is the side of the map's rows.
+-- The sets that are waited for, by the number f of the filter: its look-ahead is all that they know of it. H is the side of the map's rows.
 -- What is waited for at a level is told by a number: at level 0, the map itself, a row; at level k + 1 a set of that level.
 use mathlib.Core.Bool.{Bool, true}
 use Prim.Native.Nat.{ℕ, zero, suc, _+_, _-_, _*_, _%_, min}
@@ -9,17 +9,11 @@ use Rattle.lifting.specs.Grid.{Side}
 use Rattle.wavelet.specs.Levels.{sideAt}
 use Rattle.wavelet.specs.Order.{firstSet}
 use Rattle.wavelet.specs.Steps.{setOf}
-use Rattle.level.specs.Work.{admitted}
-use Rattle.level.specs.ReaderLevel.{ReaderLevel}
-use Rattle.level.specs.FiveThreeBack.{fiveThreeBack}
+use Rattle.nine_seven.specs.Filters.{filterOf}
 
--- Every level is the 5/3's, and each row made passes the test of 14. The machine, the store and the calls know a level by this name alone,
-abbrev pub K : ReaderLevel
-K = fiveThreeBack admitted
-
--- and its look-ahead by this one
-unfoldable pub ahead : ℕ
-ahead = K .ahead
+-- how far the filter looks ahead
+abbrev pub ahead : ℕ → ℕ
+ahead f = filterOf f .ahead
 
 -- ---- number n of level k: does it take a row of level k's low-low part, and which? A set of a high row alone takes none.
 unfoldable pub hasRow : Side → ℕ → ℕ → Bool
@@ -36,23 +30,23 @@ taking H zero r = r
 taking H (suc k) r = r + firstSet (sideAt k H) lo
 
 -- ---- to the coarser levels: the last set of level j that number n of level k needs; at level k itself n
-unfoldable pub needed : Side → ℕ → ℕ → ℕ → ℕ
-needed H k n zero = n
-needed H k n (suc j) = pick (eqb k (suc j)) n (setOf ahead (sideAt j H) (rowOf H j (needed H k n j)))
+unfoldable pub needed : ℕ → Side → ℕ → ℕ → ℕ → ℕ
+needed f H k n zero = n
+needed f H k n (suc j) = pick (eqb k (suc j)) n (setOf (ahead f) (sideAt j H) (rowOf H j (needed f H k n j)))
 
 -- ---- to the finer ones: the first row of a level, of the rows S, that set n or a later one makes, and whether set n makes it
-unfoldable pub firstRow : Side → ℕ → ℕ
-firstRow S zero = 0
-firstRow S (suc n) = min (2 * (suc n - ahead) + 1 - S .start % 2) (S .length - 1)
+unfoldable pub firstRow : ℕ → Side → ℕ → ℕ
+firstRow f S zero = 0
+firstRow f S (suc n) = min (2 * (suc n - ahead f) + 1 - S .start % 2) (S .length - 1)
 
-unfoldable pub makes : Side → ℕ → Bool
-makes S n = leb (setOf ahead S (firstRow S n)) n
+unfoldable pub makes : ℕ → Side → ℕ → Bool
+makes f S n = leb (setOf (ahead f) S (firstRow f S n)) n
 
 -- the number of level k that waits while set n of level k + 1 is collected,
-unfoldable pub waiting : Side → ℕ → ℕ → ℕ
-waiting H k n = taking H k (firstRow (sideAt k H) n)
+unfoldable pub waiting : ℕ → Side → ℕ → ℕ → ℕ
+waiting f H k n = taking H k (firstRow f (sideAt k H) n)
 
 -- and that of level j while number n of level k is
-unfoldable pub waitsAt : Side → ℕ → ℕ → ℕ → ℕ
-waitsAt H zero n j = n
-waitsAt H (suc k) n j = pick (eqb j (suc k)) n (waitsAt H k (waiting H k n) j)
+unfoldable pub waitsAt : ℕ → Side → ℕ → ℕ → ℕ → ℕ
+waitsAt f H zero n j = n
+waitsAt f H (suc k) n j = pick (eqb j (suc k)) n (waitsAt f H k (waiting f H k n) j)

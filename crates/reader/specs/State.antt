@@ -24,11 +24,11 @@ rows s = side (s .y) (s .height)
 module _ (s : Reader) where
   -- where it is: the set of `level` that is collected is `back` before the last that row `drawn` needs
   abbrev pub spotNow : Spot
-  spotNow = spotOf (rows s) (s .drawn) (place (s .level) (s .back) (s .band))
+  spotNow = spotOf (s .filter) (rows s) (s .drawn) (place (s .level) (s .back) (s .band))
 
   -- the place of the row wanted; level 0: there is none
   unfoldable pub next : Spot
-  next = nextUp (columns s) (rows s) (s .levels) (spotNow .level) (spotNow .set) (spotNow .band)
+  next = nextUp (s .filter) (columns s) (rows s) (s .levels) (spotNow .level) (spotNow .set) (spotNow .band)
 
   -- its number, and its length
   unfoldable pub nextRow : ℕ
@@ -57,11 +57,11 @@ module _ (s : Reader) where
 
   -- the sets that wait, worked out
   unfoldable pub settles : (ℕ → ℤ) → Tried
-  settles x = settled (columns s) (rows s) (s .levels) (next .level) (spotNow .level) (spotNow .set) x
+  settles x = settled (s .filter) (columns s) (rows s) (s .levels) (next .level) (spotNow .level) (spotNow .set) x
 
   -- "ahead of that call's own work": then the run v is fed
   unfoldable pub feeds : (ℕ → ℤ) → (ℕ → ℤ) → Tried
-  feeds v x = bind (settles x) (fedOn (columns s) (rows s) (s .levels) (next .level) (next .set) (next .band) v)
+  feeds v x = bind (settles x) (fedOn (s .filter) (columns s) (rows s) (s .levels) (next .level) (next .set) (next .band) v)
 
   -- ---- the reader after it
   abbrev pub movedTo : ℕ → Place → Reader
@@ -76,13 +76,18 @@ module _ (s : Reader) where
     back = p .back;
     band = p .band;
     ended = false;
+    filter = s .filter;
   }
 
   unfoldable pub fedReader : Reader
-  fedReader = movedTo (s .drawn) (placeOf (rows s) (s .drawn) (spotFed (columns s) (rows s) (s .levels) (next .level) (next .set) (next .band)))
+  fedReader =
+      movedTo (s .drawn)
+      (placeOf (s .filter) (rows s) (s .drawn) (spotFed (s .filter) (columns s) (rows s) (s .levels) (next .level) (next .set) (next .band)))
 
   unfoldable pub drawnReader : Reader
-  drawnReader = movedTo (suc (s .drawn)) (placeOf (rows s) (suc (s .drawn)) (enter (columns s) (rows s) (s .levels) (suc (s .drawn))))
+  drawnReader =
+      movedTo (suc (s .drawn))
+      (placeOf (s .filter) (rows s) (suc (s .drawn)) (enter (s .filter) (columns s) (rows s) (s .levels) (suc (s .drawn))))
 
   -- "a no ends the reader"; its other numbers stay
   unfoldable pub endedReader : Reader
@@ -97,4 +102,5 @@ module _ (s : Reader) where
     back = s .back;
     band = s .band;
     ended = true;
+    filter = s .filter;
   }

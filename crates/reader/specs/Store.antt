@@ -1,5 +1,5 @@
--- The line store: the levels' memories one after another, level 1 first. Document 01: it "needs 4 × (W(0) + ... + W(L−1)) numbers", and "each level works in
--- its own stretch".
+-- The line store: the levels' memories one after another, level 1 first, each what the level of filter f keeps (`backOf f`). Document 01: it "needs
+-- 4 × (W(0) + ... + W(L−1)) numbers", and "each level works in its own stretch"; document 02, Q-8: eight rows for the 9/7.
 use mathlib.Core.Bool.{Bool}
 use Prim.Native.Nat.{ℕ, zero, suc, _+_, _-_}
 use lib.IntN.{ℤ, pos}
@@ -9,15 +9,15 @@ use Rattle.lifting.specs.Halves.{fronted}
 use Rattle.lifting.specs.Grid.{Side}
 use Rattle.wavelet.specs.Levels.{sideAt}
 use Rattle.wavelet.specs.Order.{lastSet}
-use Rattle.wavelet.specs.Store.{storeLength}
 use Rattle.level.specs.Tried.{Tried, passed, onto}
-use Rattle.reader.specs.Sets.{K}
+use Rattle.filters.specs.Figures.{storeBy}
+use Rattle.filters.specs.Back.{backOf}
 use Rattle.reader.specs.Asked.{named}
 
 -- where the stretch of level k + 1 begins: past those of the levels before it
-unfoldable pub stretchAt : Side → ℕ → ℕ
-stretchAt W zero = 0
-stretchAt W (suc k) = stretchAt W k + K .stretch (sideAt k W)
+unfoldable pub stretchAt : ℕ → Side → ℕ → ℕ
+stretchAt f W zero = 0
+stretchAt f W (suc k) = stretchAt f W k + backOf f .stretch (sideAt k W)
 
 -- the store from place a on, and the store x with y from place a on
 unfoldable pub from : ℕ → (ℕ → ℤ) → ℕ → ℤ
@@ -27,8 +27,8 @@ unfoldable pub behind : ℕ → (ℕ → ℤ) → (ℕ → ℤ) → ℕ → ℤ
 behind a x y j = pick (ltb j a) (x j) (y (j - a))
 
 -- the needed part zeroed
-unfoldable pub zeroed : Side → ℕ → (ℕ → ℤ) → ℕ → ℤ
-zeroed W L x = fronted (storeLength W L) (λ _. pos 0) x
+unfoldable pub zeroed : ℕ → Side → ℕ → (ℕ → ℤ) → ℕ → ℤ
+zeroed f W L x = fronted (storeBy f W L) (λ _. pos 0) x
 
 -- columns and rows that have a number between them: "a level may be empty, after which no further level has rows"
 unfoldable pub hasCells : Side → Side → Bool
@@ -36,16 +36,16 @@ hasCells W H = both (ltb 0 (W .length)) (ltb 0 (H .length))
 
 -- ---- at level k + 1, which splits the columns sideAt k W and the rows sideAt k H
 -- the row with band code c of set n fed
-unfoldable pub fedAt : Side → Side → ℕ → ℕ → ℕ → (ℕ → ℤ) → (ℕ → ℤ) → ℕ → ℤ
-fedAt W H k n c v x =
-    behind (stretchAt W k) x (K .feed (sideAt k W) (sideAt k H .start) (named c) n v (from (stretchAt W k) x))
+unfoldable pub fedAt : ℕ → Side → Side → ℕ → ℕ → ℕ → (ℕ → ℤ) → (ℕ → ℤ) → ℕ → ℤ
+fedAt f W H k n c v x =
+    behind (stretchAt f W k) x (backOf f .feed (sideAt k W) (sideAt k H .start) (named c) n v (from (stretchAt f W k) x))
 
 -- set n worked out; an empty level has none, nor has a level one after its last
 unfoldable pub hasSet : Side → Side → ℕ → Bool
 hasSet W H n = both (hasCells W H) (leb n (lastSet H))
 
-unfoldable pub workedAt : Side → Side → ℕ → ℕ → ℕ → (ℕ → ℤ) → Tried
-workedAt W H L k n x =
+unfoldable pub workedAt : ℕ → Side → Side → ℕ → ℕ → ℕ → (ℕ → ℤ) → Tried
+workedAt f W H L k n x =
     pick (hasSet (sideAt k W) (sideAt k H) n)
-    (onto (behind (stretchAt W k) x) (K .work (eqb (suc k) L) k (sideAt k W) (sideAt k H) n (from (stretchAt W k) x)))
+    (onto (behind (stretchAt f W k) x) (backOf f .work (eqb (suc k) L) k (sideAt k W) (sideAt k H) n (from (stretchAt f W k) x)))
     (passed x)

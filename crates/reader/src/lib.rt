@@ -6,7 +6,8 @@ mod walk;
 
 use areas::copies;
 use areas::height_rows;
-use level::rebuilding;
+use filters::back;
+use filters::figures;
 use walk::Next;
 use walk::Spot;
 use wavelet::shape::Shape;
@@ -28,7 +29,7 @@ ghost use Rattle.reader.specs.Calls.{setUpReply, setUpStore, wantReply, 
 
 // The counts of a reader; docs/STATE.md gives their ranges. Its map starts at (x, y). `drawn` height rows are drawn; rows of `level` are collected (0: a height
 // row can be drawn), and `band` is the code of the first band that may be next. They are rows of the set that is `back` before the last of its level that row
-// `drawn` needs.
+// `drawn` needs. `filter` is the number of the filter, which says what each level does.
 pub struct Reader {
     pub width: usize,
     pub height: usize,
@@ -40,6 +41,7 @@ pub struct Reader {
     pub back: usize,
     pub band: usize,
     pub ended: bool,
+    pub filter: usize,
 }
 
 pub enum SetUp {
@@ -105,25 +107,34 @@ impl Reader {
         Reader::MAX_ORIGIN
     }
 
-    // A fresh reader; the needed part of the line store is zeroed. The questions are 2, 3, 4 and 5.
+    // A fresh reader; the needed part of the line store is zeroed. The questions are 2, 3, 18, 4 and 5.
     pub fn set_up(map: Shape, store: &mut [i32]) -> SetUp
         ensures answer { λ r. ⌜ ofSetUp r ≡
-            setUpReply (shape.columns map) (shape.rows map) (map .levels)
-            (setUpQuestion (shape.columns map) (shape.rows map) (map .levels) (length (now (store .entry)))) ⌝ }
+            setUpReply (map .filter) (shape.columns map) (shape.rows map) (map .levels)
+            (setUpQuestion (map .filter) (shape.columns map) (shape.rows map) (map .levels) (length (now (store .entry)))) ⌝ }
         ensures kept { λ _. ⌜ at (now (store .exit)) ≡
-            setUpStore (shape.columns map) (map .levels)
-            (setUpQuestion (shape.columns map) (shape.rows map) (map .levels) (length (now (store .entry)))) (at (now (store .entry))) ⌝ }
+            setUpStore (map .filter) (shape.columns map) (map .levels)
+            (setUpQuestion (map .filter) (shape.columns map) (shape.rows map) (map .levels) (length (now (store .entry)))) (at (now (store .entry))) ⌝ }
         ensures meaning { λ r. ⌜ SetUpHolds (ofSetUp r) (at (now (store .exit))) ⌝ }
     {
         let x = map.x as usize;
         let y = map.y as usize;
-        let q = questions::set_up_question(map.width, map.height, map.levels, x, y, store.len());
+        let filter = map.filter as usize;
+        let q = questions::set_up_question(
+            filter,
+            map.width,
+            map.height,
+            map.levels,
+            x,
+            y,
+            store.len(),
+        );
         if q != 0 {
             return SetUp::Refused(q);
         }
-        let n = wavelet::store::store_length(map.width, x, map.levels);
+        let n = figures::store_length(filter, map.width, x, map.levels);
         copies::clear(store, n);
-        let p = walk::dive_from(map.levels, 0, x, map.width, y, map.height, 0, 0);
+        let p = walk::dive_from(filter, map.levels, 0, x, map.width, y, map.height, 0, 0);
         let s = Reader {
             width: map.width,
             height: map.height,
@@ -135,6 +146,7 @@ impl Reader {
             back: 0,
             band: 0,
             ended: false,
+            filter,
         };
         SetUp::Ready(s.moved(0, p))
     }
@@ -210,7 +222,7 @@ impl Reader {
         if steps::feed_row(self, store, next, complete, run) {
             return Fed::Passed(self.moved(self.drawn, steps::spot_fed(self, next, complete)));
         }
-        let n = wavelet::store::store_length(self.width, self.x, self.levels);
+        let n = figures::store_length(self.filter, self.width, self.x, self.levels);
         copies::clear(store, n);
         Fed::Impossible(self.over())
     }
@@ -239,14 +251,14 @@ impl Reader {
             return Drawn::Refused(12);
         }
         if steps::settle_all(self, store) {
-            let a = rebuilding::row_place(w, self.y % 2 + self.drawn);
+            let a = back::row_place(self.filter, w, self.y % 2 + self.drawn);
             let e = a + w;
             height_rows::draw_heights(&store[a..e], self.x, out);
             let d = self.drawn + 1;
-            let p = walk::dive_from(self.levels, 0, self.x, w, self.y, self.height, d, d);
+            let p = walk::dive_from(self.filter, self.levels, 0, self.x, w, self.y, self.height, d, d);
             return Drawn::Heights(w, self.moved(d, p));
         }
-        let n = wavelet::store::store_length(w, self.x, self.levels);
+        let n = figures::store_length(self.filter, w, self.x, self.levels);
         copies::clear(store, n);
         Drawn::Impossible(self.over())
     }
@@ -254,7 +266,7 @@ impl Reader {
     // The reader at another place.
     fn moved(self, drawn: usize, p: Spot) -> Reader
         requires { ⌜ Small (columns self) (rows self) drawn × (p .level ≤ maxLevels) ⌝ }
-        ensures { λ r. ⌜ r ≡ movedTo self drawn (placeOf (rows self) drawn (spot (p .level) (p .set) (p .band))) ⌝ }
+        ensures { λ r. ⌜ r ≡ movedTo self drawn (placeOf (self .filter) (rows self) drawn (spot (p .level) (p .set) (p .band))) ⌝ }
     {
         Reader {
             width: self.width,
@@ -267,6 +279,7 @@ impl Reader {
             back: steps::back_of(self, drawn, p),
             band: p.band,
             ended: false,
+            filter: self.filter,
         }
     }
 
@@ -285,6 +298,7 @@ impl Reader {
             back: self.back,
             band: self.band,
             ended: true,
+            filter: self.filter,
         }
     }
 }

@@ -1,18 +1,16 @@
 // The gate questions of the reader, in the order of document 01. The module is private, as `walk` is.
 use crate::Reader;
-use crate::sets;
 use crate::steps;
 use crate::walk::Next;
 use areas::ranges;
+use filters::figures;
 use wavelet::limits;
-use wavelet::sizes;
-use wavelet::store;
 ghost use mathlib.Core.Path.{_≡_};
 ghost use Prim.Native.Nat.{_≤_};
 ghost use lib.ListN.{length};
-ghost use Rattle.wavelet.specs.Limits.{maxLevels};
 ghost use Rattle.numbers.specs.Signal.{at};
 ghost use Rattle.lifting.specs.Grid.{side};
+ghost use Rattle.nine_seven.specs.Filters.{filterOf};
 ghost use Rattle.reader.specs.State.{columns, drawDue};
 ghost use Rattle.reader.specs.Questions.{countsFit, storeFits, runFits, setUpQuestion};
 ghost use Rattle.reader.specs.Inside.{Counts, Due, storeQuestion, rowQuestion};
@@ -27,7 +25,10 @@ pub fn counts_fit(s: Reader) -> bool
     if !limits::is_within(s.height, Reader::MAX_HEIGHT) {
         return false;
     }
-    if !limits::is_within(s.levels, Reader::MAX_LEVELS) {
+    if !figures::is_filter(s.filter) {
+        return false;
+    }
+    if !limits::is_within(s.levels, figures::most_levels(s.filter)) {
         return false;
     }
     if Reader::MAX_ORIGIN < s.x {
@@ -45,11 +46,12 @@ pub fn counts_fit(s: Reader) -> bool
     if 4 < s.band {
         return false;
     }
-    s.back <= 2 * sets::look_ahead() - 1
+    s.back <= 2 * figures::look_ahead(s.filter) - 1
 }
 
-// Questions 2, 3, 4 and 5 of a set-up, whose line store has `length` numbers.
+// Questions 2, 3, 18, 4 and 5 of a set-up, whose line store has `length` numbers.
 pub fn set_up_question(
+    filter: usize,
     width: usize,
     height: usize,
     levels: usize,
@@ -57,7 +59,7 @@ pub fn set_up_question(
     y: usize,
     length: usize,
 ) -> u8
-    ensures { λ r. ⌜ r ≡ setUpQuestion (side x width) (side y height) levels length ⌝ }
+    ensures { λ r. ⌜ r ≡ setUpQuestion filter (side x width) (side y height) levels length ⌝ }
 {
     if !limits::is_within(width, Reader::MAX_WIDTH) {
         return 2;
@@ -65,21 +67,24 @@ pub fn set_up_question(
     if !limits::is_within(height, Reader::MAX_HEIGHT) {
         return 3;
     }
-    if !limits::is_within(levels, Reader::MAX_LEVELS) {
+    if !figures::is_filter(filter) {
+        return 18;
+    }
+    if !limits::is_within(levels, figures::most_levels(filter)) {
         return 4;
     }
-    if length < store::store_length(width, x, levels) {
+    if length < figures::store_length(filter, width, x, levels) {
         return 5;
     }
     0
 }
 
 // Question 7: is each number of the run in its level's range?
-fn run_fits(run: &[i32], level: usize) -> bool
-    requires { ⌜ level ≤ maxLevels ⌝ }
-    ensures { λ r. ⌜ r ≡ runFits level (length (now (run .entry))) (at (now (run .entry))) ⌝ }
+fn run_fits(filter: usize, run: &[i32], level: usize) -> bool
+    requires { ⌜ level ≤ filterOf filter .levels ⌝ }
+    ensures { λ r. ⌜ r ≡ runFits filter level (length (now (run .entry))) (at (now (run .entry))) ⌝ }
 {
-    let most = sizes::range_of(level);
+    let most = figures::range_of(filter, level);
     ranges::all_between(run, -most, most)
 }
 
@@ -87,12 +92,12 @@ fn run_fits(run: &[i32], level: usize) -> bool
 // just as many, so the sizes are seldom added up.
 fn store_fits(s: Reader, length: usize) -> bool
     requires { ⌜ Counts s ⌝ }
-    ensures { λ r. ⌜ r ≡ storeFits (columns s) (s .levels) length ⌝ }
+    ensures { λ r. ⌜ r ≡ storeFits (s .filter) (columns s) (s .levels) length ⌝ }
 {
-    if store::holds_any(s.width, length) {
+    if figures::holds_any(s.filter, s.width, length) {
         return true;
     }
-    store::store_length(s.width, s.x, s.levels) <= length
+    figures::store_length(s.filter, s.width, s.x, s.levels) <= length
 }
 
 // Questions 1, 5 and 9 of a feed or a draw.
@@ -125,7 +130,7 @@ pub fn row_question(s: Reader, n: Next, run: &[i32]) -> u8
     if run.len() != steps::row_length(s, n) {
         return 13;
     }
-    if !run_fits(run, n.spot.level) {
+    if !run_fits(s.filter, run, n.spot.level) {
         return 7;
     }
     0

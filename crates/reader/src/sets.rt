@@ -1,5 +1,6 @@
-// Sets of rows, and the bands that a set asks for: numbers alone. A side is its start and its length: x, w across and y, h down. The module is private, as
+// Sets of rows by the filter's number, and the bands that a set asks for: numbers alone. A side is its start and its length: x, w across and y, h down. The module is private, as
 // `walk` is.
+use filters::figures;
 use wavelet::sizes;
 ghost use mathlib.Core.Path.{_≡_};
 ghost use Prim.Native.Nat.{ℕ, _-_, _<_, _≤_, _^_};
@@ -13,13 +14,6 @@ ghost use Rattle.level.specs.Sets.{opens};
 ghost use Rattle.reader.specs.Sets.{ahead, firstRow, makes};
 ghost use Rattle.reader.specs.Asked.{named, nextBand};
 ghost use Rattle.reader.specs.Store.{hasCells};
-
-// How far a level looks ahead.
-pub fn look_ahead() -> usize
-    ensures { λ a. ⌜ a ≡ ahead ⌝ }
-{
-    1
-}
 
 // a less b, 0 where b is more.
 pub fn less(a: usize, b: usize) -> usize
@@ -37,55 +31,55 @@ pub fn last_set(y: usize, h: usize) -> usize
 }
 
 // The set that makes row r.
-pub fn set_of(y: usize, h: usize, r: usize) -> usize
+pub fn set_of(filter: usize, y: usize, h: usize, r: usize) -> usize
     requires { ⌜ (h < 2 ^ 32) × (r ≤ 2 ^ 34) ⌝ }
-    ensures { λ n. ⌜ n ≡ setOf ahead (side y h) r ⌝ }
+    ensures { λ n. ⌜ n ≡ setOf (ahead filter) (side y h) r ⌝ }
 {
     let q = y % 2 + r;
     if q == 0 {
         return 0;
     }
-    let a = (q - 1) / 2 + look_ahead();
+    let a = (q - 1) / 2 + figures::look_ahead(filter);
     let b = last_set(y, h);
     if a < b { a } else { b }
 }
 
 // The first set that no row before row r needs.
-pub fn sets_before(y: usize, h: usize, r: usize) -> usize
+pub fn sets_before(filter: usize, y: usize, h: usize, r: usize) -> usize
     requires { ⌜ (h < 2 ^ 32) × (r ≤ 2 ^ 34) ⌝ }
-    ensures { λ n. ⌜ n ≡ setsBefore ahead (side y h) r ⌝ }
+    ensures { λ n. ⌜ n ≡ setsBefore (ahead filter) (side y h) r ⌝ }
 {
-    if r == 0 { 0 } else { set_of(y, h, r - 1) + 1 }
+    if r == 0 { 0 } else { set_of(filter, y, h, r - 1) + 1 }
 }
 
 // Whether row r of w columns is there and needs set n, the first that no row before it needs.
-pub fn goes_down(w: usize, y: usize, h: usize, r: usize, n: usize) -> bool
-    requires { ⌜ (h < 2 ^ 32) × (r ≤ 2 ^ 34) × (n ≡ setsBefore ahead (side y h) r) ⌝ }
-    ensures { λ t. ⌜ ((x : ℕ) → t ≡ both (hasCells (side x w) (side y h)) (opens ahead (side y h) r)) ⌝ }
+pub fn goes_down(filter: usize, w: usize, y: usize, h: usize, r: usize, n: usize) -> bool
+    requires { ⌜ (h < 2 ^ 32) × (r ≤ 2 ^ 34) × (n ≡ setsBefore (ahead filter) (side y h) r) ⌝ }
+    ensures { λ t. ⌜ ((x : ℕ) → t ≡ both (hasCells (side x w) (side y h)) (opens (ahead filter) (side y h) r)) ⌝ }
 {
     if (w == 0) | (h == 0) {
         return false;
     }
-    n < set_of(y, h, r) + 1
+    n < set_of(filter, y, h, r) + 1
 }
 
 // The first row that needs set n or a later one, and whether set n makes it.
-pub fn first_row(y: usize, h: usize, n: usize) -> usize
+pub fn first_row(filter: usize, y: usize, h: usize, n: usize) -> usize
     requires { ⌜ n ≤ 2 ^ 32 ⌝ }
-    ensures { λ r. ⌜ r ≡ firstRow (side y h) n ⌝ }
+    ensures { λ r. ⌜ r ≡ firstRow filter (side y h) n ⌝ }
 {
     if (n == 0) | (h == 0) {
         return 0;
     }
-    let r = 2 * less(n, look_ahead()) + 1 - y % 2;
+    let r = 2 * less(n, figures::look_ahead(filter)) + 1 - y % 2;
     if r < h { r } else { h - 1 }
 }
 
-pub fn is_making(y: usize, h: usize, n: usize) -> bool
+pub fn is_making(filter: usize, y: usize, h: usize, n: usize) -> bool
     requires { ⌜ (h < 2 ^ 32) × (n ≤ 2 ^ 32) ⌝ }
-    ensures { λ t. ⌜ t ≡ makes (side y h) n ⌝ }
+    ensures { λ t. ⌜ t ≡ makes filter (side y h) n ⌝ }
 {
-    set_of(y, h, first_row(y, h, n)) <= n
+    set_of(filter, y, h, first_row(filter, y, h, n)) <= n
 }
 
 // The row of the next level that set n takes.

@@ -12,7 +12,7 @@ ghost use lib.ListN.{length};
 ghost use Rattle.numbers.specs.Signal.{at};
 ghost use Rattle.level.specs.Tried.{outcome};
 ghost use Rattle.wavelet.specs.Limits.{maxLevels};
-ghost use Rattle.wavelet.specs.Store.{storeLength};
+ghost use Rattle.filters.specs.Figures.{storeBy};
 ghost use Rattle.reader.specs.Sets.{needed};
 ghost use Rattle.reader.specs.Machine.{spot, placeOf, past, spotFed};
 ghost use Rattle.reader.specs.State.{columns, rows, next, nextRow, nextLength, settles, feeds};
@@ -24,7 +24,7 @@ pub fn own_level(s: Reader) -> Level
     requires { ⌜ Counts s × (0 < s .level) ⌝ }
     ensures { λ l. ⌜ Collected s l ⌝ }
 {
-    let l = walk::level_at(s.x, s.width, s.y, s.height, s.drawn, s.level - 1);
+    let l = walk::level_at(s.filter, s.x, s.width, s.y, s.height, s.drawn, s.level - 1);
     walk::at_set(l, sets::less(l.last, s.back))
 }
 
@@ -34,6 +34,7 @@ pub fn own_band(s: Reader, l: Level) -> usize
     ensures { λ c. ⌜ (c < 4 → spot (s .level) (l .set) c ≡ next s) ⌝ }
 {
     walk::band_at(
+        s.filter,
         s.x,
         s.width,
         s.y,
@@ -52,6 +53,7 @@ pub fn next_from(s: Reader, l: Level) -> Next
     ensures { λ n. ⌜ Due s n ⌝ }
 {
     walk::next_up(
+        s.filter,
         s.x,
         s.width,
         s.y,
@@ -108,6 +110,7 @@ pub fn completes(s: Reader, n: Next) -> bool
     ensures { λ r. ⌜ Completing s n r ⌝ }
 {
     let c = walk::band_at(
+        s.filter,
         s.x,
         s.width,
         s.y,
@@ -123,14 +126,15 @@ pub fn completes(s: Reader, n: Next) -> bool
 
 // The sets that wait worked out; most often none does.
 pub fn settle(s: Reader, store: &mut [i32], n: Next) -> bool
-    requires { ⌜ Counts s × Due s n × (storeLength (columns s) (s .levels) ≤ length (now store)) ⌝ }
+    requires { ⌜ Counts s × Due s n × (storeBy (s .filter) (columns s) (s .levels) ≤ length (now store)) ⌝ }
     ensures { λ ok. ⌜ outcome ok (at (now (store .exit))) ≡ settles s (at (now (store .entry))) ⌝ }
-    ensures { λ _. ⌜ Kept (storeLength (columns s) (s .levels)) (at (now (store .entry))) (at (now (store .exit))) ⌝ }
+    ensures { λ _. ⌜ Kept (storeBy (s .filter) (columns s) (s .levels)) (at (now (store .entry))) (at (now (store .exit))) ⌝ }
 {
     if s.level <= n.spot.level {
         return true;
     }
     walk::settle(
+        s.filter,
         s.x,
         s.width,
         s.y,
@@ -146,14 +150,15 @@ pub fn settle(s: Reader, store: &mut [i32], n: Next) -> bool
 
 // The same before a draw, where no row is wanted.
 pub fn settle_all(s: Reader, store: &mut [i32]) -> bool
-    requires { ⌜ Counts s × (next s .level ≡ 0) × (storeLength (columns s) (s .levels) ≤ length (now store)) ⌝ }
+    requires { ⌜ Counts s × (next s .level ≡ 0) × (storeBy (s .filter) (columns s) (s .levels) ≤ length (now store)) ⌝ }
     ensures { λ ok. ⌜ outcome ok (at (now (store .exit))) ≡ settles s (at (now (store .entry))) ⌝ }
-    ensures { λ _. ⌜ Kept (storeLength (columns s) (s .levels)) (at (now (store .entry))) (at (now (store .exit))) ⌝ }
+    ensures { λ _. ⌜ Kept (storeBy (s .filter) (columns s) (s .levels)) (at (now (store .entry))) (at (now (store .exit))) ⌝ }
 {
     if s.level == 0 {
         return true;
     }
     walk::settle(
+        s.filter,
         s.x,
         s.width,
         s.y,
@@ -169,16 +174,17 @@ pub fn settle_all(s: Reader, store: &mut [i32]) -> bool
 
 // Then the run put where it belongs, and the set worked out if it completes it.
 pub fn feed_row(s: Reader, store: &mut [i32], n: Next, complete: bool, run: &[i32]) -> bool
-    requires { ⌜ Counts s × Due s n × (0 < n .spot .level) × Completing s n complete × (storeLength (columns s) (s .levels) ≤ length (now store)) ×
+    requires { ⌜ Counts s × Due s n × (0 < n .spot .level) × Completing s n complete × (storeBy (s .filter) (columns s) (s .levels) ≤ length (now store)) ×
         (length (now run) ≡ nextLength s) ⌝ }
     ensures { λ ok. ⌜ outcome ok (at (now (store .exit))) ≡ feeds s (at (now (run .entry))) (at (now (store .entry))) ⌝ }
-    ensures { λ _. ⌜ Kept (storeLength (columns s) (s .levels)) (at (now (store .entry))) (at (now (store .exit))) ⌝ }
+    ensures { λ _. ⌜ Kept (storeBy (s .filter) (columns s) (s .levels)) (at (now (store .entry))) (at (now (store .exit))) ⌝ }
 {
     if !settle(s, store, n) {
         return false;
     }
     let k = n.spot.level - 1;
     walk::put_row(
+        s.filter,
         s.x,
         s.width,
         s.y,
@@ -194,6 +200,7 @@ pub fn feed_row(s: Reader, store: &mut [i32], n: Next, complete: bool, run: &[i3
         return true;
     }
     walk::work_at(
+        s.filter,
         s.x,
         s.width,
         s.y,
@@ -209,13 +216,13 @@ pub fn feed_row(s: Reader, store: &mut [i32], n: Next, complete: bool, run: &[i3
 // Where the reader goes on after the set of n is worked out: to the next finer level, if a row is made that waits, else to the next set.
 fn spot_past(s: Reader, n: Next) -> Spot
     requires { ⌜ Counts s × Due s n × (0 < n .spot .level) ⌝ }
-    ensures { λ q. ⌜ Is (past (columns s) (rows s) (s .levels) (n .spot .level - 1) (n .spot .set)) q ⌝ }
+    ensures { λ q. ⌜ Is (past (s .filter) (columns s) (rows s) (s .levels) (n .spot .level - 1) (n .spot .set)) q ⌝ }
 {
     let k = n.spot.level - 1;
-    if !sets::is_making(n.at.y, n.at.height, n.at.set) {
-        return walk::begin(s.levels, n.spot.level, n.at, n.at.set + 1);
+    if !sets::is_making(s.filter, n.at.y, n.at.height, n.at.set) {
+        return walk::begin(s.filter, s.levels, n.spot.level, n.at, n.at.set + 1);
     }
-    let r = sets::first_row(n.at.y, n.at.height, n.at.set);
+    let r = sets::first_row(s.filter, n.at.y, n.at.height, n.at.set);
     if k == 0 {
         return Spot {
             level: 0,
@@ -223,7 +230,7 @@ fn spot_past(s: Reader, n: Next) -> Spot
             band: 1,
         };
     }
-    let m = walk::finer(s.x, s.width, s.y, s.height, s.drawn, k, n.at);
+    let m = walk::finer(s.filter, s.x, s.width, s.y, s.height, s.drawn, k, n.at);
     Spot {
         level: k,
         set: m.set,
@@ -234,7 +241,7 @@ fn spot_past(s: Reader, n: Next) -> Spot
 // Where the reader goes on after that row: another band of the set, or past the set.
 pub fn spot_fed(s: Reader, n: Next, complete: bool) -> Spot
     requires { ⌜ Counts s × Due s n × (0 < n .spot .level) × Completing s n complete ⌝ }
-    ensures { λ q. ⌜ Is (spotFed (columns s) (rows s) (s .levels) (next s .level) (next s .set) (next s .band)) q ⌝ }
+    ensures { λ q. ⌜ Is (spotFed (s .filter) (columns s) (rows s) (s .levels) (next s .level) (next s .set) (next s .band)) q ⌝ }
 {
     if !complete {
         return Spot {
@@ -249,18 +256,18 @@ pub fn spot_fed(s: Reader, n: Next, complete: bool) -> Spot
 // The last set of a level that row d needs; of level 0 row d.
 fn last_of(s: Reader, d: usize, level: usize) -> usize
     requires { ⌜ Small (columns s) (rows s) d × (level ≤ maxLevels) ⌝ }
-    ensures { λ n. ⌜ n ≡ needed (rows s) 0 d level ⌝ }
+    ensures { λ n. ⌜ n ≡ needed (s .filter) (rows s) 0 d level ⌝ }
 {
     if level == 0 {
         return d;
     }
-    walk::level_at(s.x, s.width, s.y, s.height, d, level - 1).last
+    walk::level_at(s.filter, s.x, s.width, s.y, s.height, d, level - 1).last
 }
 
 // How many sets the set of a place is before the last of its level that row d needs.
 pub fn back_of(s: Reader, d: usize, q: Spot) -> usize
     requires { ⌜ Small (columns s) (rows s) d × (q .level ≤ maxLevels) ⌝ }
-    ensures { λ b. ⌜ b ≡ placeOf (rows s) d (spot (q .level) (q .set) (q .band)) .back ⌝ }
+    ensures { λ b. ⌜ b ≡ placeOf (s .filter) (rows s) d (spot (q .level) (q .set) (q .band)) .back ⌝ }
 {
     sets::less(last_of(s, d, q.level), q.set)
 }

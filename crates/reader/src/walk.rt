@@ -1,9 +1,10 @@
-// The walk over the levels of a map that starts at (x, y), of `width` × `height`, while row `drawn` is waited for: the stretch and the set of each level, the
+// The walk over the levels of a map by its filter's number, that starts at (x, y), of `width` × `height`, while row `drawn` is waited for: the stretch and the set of each level, the
 // row wanted, the sets worked out on the way. A level is found once a call and handed on. The module is private: only this crate, which meets what is required,
 // can call it.
 use crate::sets;
 use areas::copies;
-use level::rebuilding;
+use filters::back;
+use filters::figures;
 use wavelet::sizes;
 ghost use mathlib.Core.Path.{_≡_};
 ghost use mathlib.Core.Bool.{true, false};
@@ -17,9 +18,11 @@ ghost use Rattle.wavelet.specs.Limits.{maxLevels};
 ghost use Rattle.lifting.specs.Line.{lo};
 ghost use Rattle.wavelet.specs.Order.{firstSet};
 ghost use Rattle.wavelet.specs.Levels.{next, sideAt};
-ghost use Rattle.wavelet.specs.Store.{storeLength};
-ghost use Rattle.level.specs.Tried.{passed, outcome};
-ghost use Rattle.level.specs.Slots.{rowPlace, rowOfSet, halfPlace};
+ghost use Rattle.nine_seven.specs.Filters.{filterOf};
+ghost use Rattle.filters.specs.Figures.{storeBy};
+ghost use Rattle.filters.specs.Back.{rowPlaceOf};
+ghost use Rattle.level.specs.Tried.{outcome};
+ghost use Rattle.level.specs.Slots.{rowOfSet, halfPlace};
 ghost use Rattle.level.specs.Rebuilding.{Kept};
 ghost use Rattle.reader.specs.Asked.{named};
 ghost use Rattle.reader.specs.Store.{fedAt, workedAt};
@@ -51,13 +54,21 @@ pub struct Next {
     pub at: Level,
 }
 
-// Level k + 1, at the last set that row `drawn` needs. The coordinates where its columns and rows begin and end are halved from level to level, and the row
-// that the set of each level takes is found.
-pub fn level_at(x: usize, width: usize, y: usize, height: usize, drawn: usize, k: usize) -> Level
+// Level k + 1, at the last set that row `drawn` needs. The coordinates where its columns and rows begin and end are halved from level to level, the columns
+// of the levels before it are added up, and the row that the set of each level takes is found.
+pub fn level_at(
+    filter: usize,
+    x: usize,
+    width: usize,
+    y: usize,
+    height: usize,
+    drawn: usize,
+    k: usize,
+) -> Level
     requires { ⌜ Small (side x width) (side y height) drawn × (k ≤ maxLevels) ⌝ }
-    ensures { λ l. ⌜ IsAt (side x width) (side y height) drawn k l ⌝ }
+    ensures { λ l. ⌜ IsAt filter (side x width) (side y height) drawn k l ⌝ }
 {
-    let mut start = 0;
+    let mut columns = 0;
     let mut left = x;
     let mut right = x + width;
     let mut top = y;
@@ -65,9 +76,9 @@ pub fn level_at(x: usize, width: usize, y: usize, height: usize, drawn: usize, k
     let mut row = drawn;
     let mut i = 0;
     while i < k {
-        let n = sets::set_of(top, bottom - top, row);
+        let n = sets::set_of(filter, top, bottom - top, row);
         row = sets::row_below(top, n);
-        start += 4 * (right - left);
+        columns += right - left;
         left = sizes::next_start(left);
         right = sizes::next_start(right);
         top = sizes::next_start(top);
@@ -75,9 +86,10 @@ pub fn level_at(x: usize, width: usize, y: usize, height: usize, drawn: usize, k
         i += 1;
     }
     let h = bottom - top;
-    let n = sets::set_of(top, h, row);
+    let n = sets::set_of(filter, top, h, row);
+    let rows = figures::rows_kept(filter);
     Level {
-        start,
+        start: rows * columns,
         x: left,
         width: right - left,
         y: top,
@@ -105,6 +117,7 @@ pub fn at_set(l: Level, n: usize) -> Level
 
 // Level k, at the set that waits while l, level k + 1, is at its own.
 pub fn finer(
+    filter: usize,
     x: usize,
     width: usize,
     y: usize,
@@ -113,15 +126,16 @@ pub fn finer(
     k: usize,
     l: Level,
 ) -> Level
-    requires { ⌜ Small (side x width) (side y height) drawn × IsLevel (side x width) (side y height) drawn k l × (0 < k) × (k ≤ maxLevels) ⌝ }
-    ensures { λ m. ⌜ IsLevel (side x width) (side y height) drawn (k - 1) m × (m .set ≡ waiting (side y height) k (l .set)) ⌝ }
+    requires { ⌜ Small (side x width) (side y height) drawn × IsLevel filter (side x width) (side y height) drawn k l × (0 < k) × (k ≤ maxLevels) ⌝ }
+    ensures { λ m. ⌜ IsLevel filter (side x width) (side y height) drawn (k - 1) m × (m .set ≡ waiting filter (side y height) k (l .set)) ⌝ }
 {
-    let m = level_at(x, width, y, height, drawn, k - 1);
-    at_set(m, sets::first_row(l.y, l.height, l.set) + m.y % 2)
+    let m = level_at(filter, x, width, y, height, drawn, k - 1);
+    at_set(m, sets::first_row(filter, l.y, l.height, l.set) + m.y % 2)
 }
 
 // The code of the first band from `band` on that the set of l, level k + 1, asks for; 4 where there is none.
 pub fn band_at(
+    filter: usize,
     x: usize,
     width: usize,
     y: usize,
@@ -132,7 +146,7 @@ pub fn band_at(
     l: Level,
     band: usize,
 ) -> usize
-    requires { ⌜ Small (side x width) (side y height) drawn × IsLevel (side x width) (side y height) drawn k l × (k ≤ maxLevels) ⌝ }
+    requires { ⌜ Small (side x width) (side y height) drawn × IsLevel filter (side x width) (side y height) drawn k l × (k ≤ maxLevels) ⌝ }
     ensures { λ c. ⌜ c ≡ bandAt (side x width) (side y height) levels k (l .set) band ⌝ }
 {
     sets::next_band(k + 1 == levels, l.x, l.width, l.y, l.height, l.set, band)
@@ -162,6 +176,7 @@ pub fn no_row() -> Next
 
 // The row wanted: of the set of l, this level, or of the next finer one that waits and asks for one.
 pub fn next_up(
+    filter: usize,
     x: usize,
     width: usize,
     y: usize,
@@ -172,14 +187,14 @@ pub fn next_up(
     l: Level,
     band: usize,
 ) -> Next
-    requires { ⌜ Small (side x width) (side y height) drawn × (0 < level) × (level ≤ maxLevels) × IsLevel (side x width) (side y height) drawn (level - 1) l ⌝ }
-    ensures { λ n. ⌜ IsNext (side x width) (side y height) drawn (nextUp (side x width) (side y height) levels level (l .set) band) n ⌝ }
+    requires { ⌜ Small (side x width) (side y height) drawn × (0 < level) × (level ≤ maxLevels) × IsLevel filter (side x width) (side y height) drawn (level - 1) l ⌝ }
+    ensures { λ n. ⌜ IsNext filter (side x width) (side y height) drawn (nextUp filter (side x width) (side y height) levels level (l .set) band) n ⌝ }
 {
     let mut k = level;
     let mut m = l;
     let mut b = band;
     while 0 < k {
-        let c = band_at(x, width, y, height, levels, drawn, k - 1, m, b);
+        let c = band_at(filter, x, width, y, height, levels, drawn, k - 1, m, b);
         if c < 4 {
             return Next {
                 spot: Spot {
@@ -193,18 +208,18 @@ pub fn next_up(
         k -= 1;
         b = 1;
         if 0 < k {
-            m = finer(x, width, y, height, drawn, k, m);
+            m = finer(filter, x, width, y, height, drawn, k, m);
         }
     }
     no_row()
 }
 
 // Where the half row of a band of set n begins, in its level's stretch.
-fn half_place(x: usize, w: usize, n: usize, band: usize) -> usize
+fn half_place(filter: usize, x: usize, w: usize, n: usize, band: usize) -> usize
     requires { ⌜ (band < 4) × (w ≤ 2 ^ 16) × (n ≤ 2 ^ 32) ⌝ }
-    ensures { λ a. ⌜ a ≡ rowPlace w (rowOfSet (down (named band)) n) + halfPlace (across (named band)) (side x w) ⌝ }
+    ensures { λ a. ⌜ a ≡ rowPlaceOf filter w (rowOfSet (down (named band)) n) + halfPlace (across (named band)) (side x w) ⌝ }
 {
-    let a = rebuilding::row_place(w, 2 * n + band / 2);
+    let a = back::row_place(filter, w, 2 * n + band / 2);
     if band % 2 == 0 {
         a
     } else {
@@ -214,6 +229,7 @@ fn half_place(x: usize, w: usize, n: usize, band: usize) -> usize
 
 // A band row put into the half row where it belongs, in the stretch of l, level k + 1.
 pub fn put_row(
+    filter: usize,
     x: usize,
     width: usize,
     y: usize,
@@ -225,18 +241,19 @@ pub fn put_row(
     band: usize,
     run: &[i32],
 )
-    requires { ⌜ Small (side x width) (side y height) drawn × (k < maxLevels) × IsLevel (side x width) (side y height) drawn k l × (band < 4) ×
-        (storeLength (side x width) (k + 1) ≤ length (now store)) × (length (now run) ≡ count (across (named band)) (sideAt k (side x width))) ⌝ }
+    requires { ⌜ Small (side x width) (side y height) drawn × (k < maxLevels) × IsLevel filter (side x width) (side y height) drawn k l × (band < 4) ×
+        (storeBy filter (side x width) (k + 1) ≤ length (now store)) × (length (now run) ≡ count (across (named band)) (sideAt k (side x width))) ⌝ }
     ensures { λ _. ⌜ at (now (store .exit)) ≡
-        fedAt (side x width) (side y height) k (l .set) band (at (now (run .entry))) (at (now (store .entry))) ⌝ }
+        fedAt filter (side x width) (side y height) k (l .set) band (at (now (run .entry))) (at (now (store .entry))) ⌝ }
 {
-    let a = l.start + half_place(l.x, l.width, l.set, band);
+    let a = l.start + half_place(filter, l.x, l.width, l.set, band);
     let e = a + run.len();
     copies::copy(run, &mut store[a..e]);
 }
 
 // The set of l, level k + 1, worked out in the level's own stretch; an empty level has none.
 pub fn work_at(
+    filter: usize,
     x: usize,
     width: usize,
     y: usize,
@@ -247,11 +264,11 @@ pub fn work_at(
     k: usize,
     l: Level,
 ) -> bool
-    requires { ⌜ Small (side x width) (side y height) drawn × (levels ≤ maxLevels) × (k < levels) × IsLevel (side x width) (side y height) drawn k l ×
-        (storeLength (side x width) levels ≤ length (now store)) ⌝ }
+    requires { ⌜ Small (side x width) (side y height) drawn × (levels ≤ filterOf filter .levels) × (k < levels) × IsLevel filter (side x width) (side y height) drawn k l ×
+        (storeBy filter (side x width) levels ≤ length (now store)) ⌝ }
     ensures { λ ok. ⌜ outcome ok (at (now (store .exit))) ≡
-        workedAt (side x width) (side y height) levels k (l .set) (at (now (store .entry))) ⌝ }
-    ensures { λ _. ⌜ Kept (storeLength (side x width) levels) (at (now (store .entry))) (at (now (store .exit))) ⌝ }
+        workedAt filter (side x width) (side y height) levels k (l .set) (at (now (store .entry))) ⌝ }
+    ensures { λ _. ⌜ Kept (storeBy filter (side x width) levels) (at (now (store .entry))) (at (now (store .exit))) ⌝ }
 {
     if (l.width == 0) | (l.height == 0) {
         return true;
@@ -260,8 +277,9 @@ pub fn work_at(
         return true;
     }
     let a = l.start;
-    rebuilding::work_set(
+    back::work_set(
         &mut store[a..],
+        filter,
         k + 1 == levels,
         k,
         l.width,
@@ -275,6 +293,7 @@ pub fn work_at(
 
 // The sets of the levels from `from`, at the set of l, down to above `to`, the coarsest first.
 pub fn settle(
+    filter: usize,
     x: usize,
     width: usize,
     y: usize,
@@ -286,22 +305,22 @@ pub fn settle(
     l: Level,
     to: usize,
 ) -> bool
-    requires { ⌜ Small (side x width) (side y height) drawn × (levels ≤ maxLevels) × (from ≤ levels) ×
-        (0 < from → IsLevel (side x width) (side y height) drawn (from - 1) l) ×
-        (storeLength (side x width) levels ≤ length (now store)) ⌝ }
+    requires { ⌜ Small (side x width) (side y height) drawn × (levels ≤ filterOf filter .levels) × (from ≤ levels) ×
+        (0 < from → IsLevel filter (side x width) (side y height) drawn (from - 1) l) ×
+        (storeBy filter (side x width) levels ≤ length (now store)) ⌝ }
     ensures { λ ok. ⌜ outcome ok (at (now (store .exit))) ≡
-        settled (side x width) (side y height) levels to from (l .set) (at (now (store .entry))) ⌝ }
-    ensures { λ _. ⌜ Kept (storeLength (side x width) levels) (at (now (store .entry))) (at (now (store .exit))) ⌝ }
+        settled filter (side x width) (side y height) levels to from (l .set) (at (now (store .entry))) ⌝ }
+    ensures { λ _. ⌜ Kept (storeBy filter (side x width) levels) (at (now (store .entry))) (at (now (store .exit))) ⌝ }
 {
     let mut k = from;
     let mut m = l;
     while to < k {
         k -= 1;
-        if !work_at(x, width, y, height, levels, drawn, store, k, m) {
+        if !work_at(filter, x, width, y, height, levels, drawn, store, k, m) {
             return false;
         }
         if 0 < k {
-            m = finer(x, width, y, height, drawn, k, m);
+            m = finer(filter, x, width, y, height, drawn, k, m);
         }
     }
     true
@@ -310,6 +329,7 @@ pub fn settle(
 // Where number n of level `level` begins, which takes row `row` of the level's low-low part, of the columns from x on and the rows from y on: past each level
 // whose set it needs. A set of a high row alone needs none.
 pub fn dive_from(
+    filter: usize,
     levels: usize,
     level: usize,
     x: usize,
@@ -320,7 +340,7 @@ pub fn dive_from(
     row: usize,
 ) -> Spot
     requires { ⌜ (level ≤ levels) × (levels ≤ maxLevels) × (width ≤ 2 ^ 16) × (height < 2 ^ 32) × (row ≤ 2 ^ 34) ⌝ }
-    ensures { λ p. ⌜ Is (dive (levels - level) level (side x width) (side y height) n row) p ⌝ }
+    ensures { λ p. ⌜ Is (dive filter (levels - level) level (side x width) (side y height) n row) p ⌝ }
 {
     let mut k = level;
     let mut wx = x;
@@ -330,8 +350,8 @@ pub fn dive_from(
     let mut m = n;
     let mut r = row;
     while k < levels {
-        let s = sets::sets_before(hy, h, r);
-        if !sets::goes_down(w, hy, h, r, s) {
+        let s = sets::sets_before(filter, hy, h, r);
+        if !sets::goes_down(filter, w, hy, h, r, s) {
             return Spot {
                 level: k,
                 set: m,
@@ -361,10 +381,10 @@ pub fn dive_from(
 }
 
 // Where set n of l, level `level`, begins.
-pub fn begin(levels: usize, level: usize, l: Level, n: usize) -> Spot
+pub fn begin(filter: usize, levels: usize, level: usize, l: Level, n: usize) -> Spot
     requires { ⌜ (level ≤ levels) × (levels ≤ maxLevels) × (l .width ≤ 2 ^ 16) × (l .height < 2 ^ 32) × (n ≤ 2 ^ 33) ⌝ }
     ensures { λ p. ⌜ Is (pick (leb (firstSet (side (l .y) (l .height)) lo) n)
-        (dive (levels - level) level (next (side (l .x) (l .width))) (next (side (l .y) (l .height))) n (n - firstSet (side (l .y) (l .height)) lo))
+        (dive filter (levels - level) level (next (side (l .x) (l .width))) (next (side (l .y) (l .height))) n (n - firstSet (side (l .y) (l .height)) lo))
         (spot level n 1)) p ⌝ }
 {
     if n < l.y % 2 {
@@ -375,6 +395,7 @@ pub fn begin(levels: usize, level: usize, l: Level, n: usize) -> Spot
         };
     }
     dive_from(
+        filter,
         levels,
         level,
         sizes::next_start(l.x),

@@ -12,17 +12,17 @@ use borrow.Author.Tests.{le-leb, lt-ltb, eq-eqb, eqb-true}
 use Rattle.numbers.specs.Signal.{pick}
 use Rattle.numbers.specs.Word.{whole}
 use Rattle.numbers.proofs.Sweep.{both}
-use Rattle.lifting.specs.FiveThree.{fiveThreeFilter}
+use Rattle.nine_seven.specs.Filters.{filterOf, isFilter}
+use Rattle.filters.specs.Figures.{storeBy}
 use Rattle.wavelet.specs.Bands.{Grid, Band, LL, HL, LH, HH, code}
 use Rattle.wavelet.specs.Plane.{cells, planeCell}
 use Rattle.wavelet.specs.ViewCall.{keptAt, bandRowExists}
 use Rattle.lifting.specs.Grid.{Side, side}
 use Rattle.wavelet.specs.Levels.{levelBand}
 use Rattle.wavelet.specs.View.{bandRows, bandColumns}
-use Rattle.wavelet.specs.Limits.{maxOrigin, maxWidth, maxHeight, maxLevels}
+use Rattle.wavelet.specs.Limits.{maxOrigin, maxWidth, maxHeight}
 use Rattle.wavelet.specs.Questions.{within}
 use Rattle.wavelet.specs.Maps.{IsMap, HasPlane}
-use Rattle.wavelet.specs.Store.{storeLength}
 use Rattle.wavelet.specs.Order.{RowName}
 use Rattle.wavelet.proofs.QuestionLaws.{within-true}
 use Rattle.wavelet.proofs.PlaneLayout.{Stands, place-is, row-in, column-in, cell-places}
@@ -65,12 +65,12 @@ in-split : {A C : Type 0} (x z : A) (xs : List A) → In x (z ∷ xs) → (x ≡
 in-split x _ xs first f g = f refl
 in-split x z xs (later i) f g = g i
 
-module _ (W : Side) (s H : ℕ) (g : Grid) where
+module _ (f : ℕ) (W : Side) (s H : ℕ) (g : Grid) where
   abbrev Right : RowName → Area → Type 0
-  Right = reader.IsRow W (side s H) g
+  Right = reader.IsRow f W (side s H) g
 
   -- a drawn row of that name is that band row
-  drawn-right : (x z : RowName) (d : writer.DrawnRow) → d .row ≡ answered W z → HasValues W s H g d → isNamed x (d .row) ≡ true →
+  drawn-right : (x z : RowName) (d : writer.DrawnRow) → d .row ≡ answered W z → HasValues f W s H g d → isNamed x (d .row) ≡ true →
       Right x (record { size = d .row .length; numbers = d .values })
   drawn-right x z d e has is =
       let n = named-is x (d .row) is in
@@ -81,11 +81,11 @@ module _ (W : Side) (s H : ℕ) (g : Grid) where
         size = sym long;
         values = λ i p.
             has .are (x .band) (sym (n .band)) i (rw long at p)
-            ∙ ap₂ (λ q r. levelBand fiveThreeFilter whole W (side s H) g q (x .band) r i) (sym (n .level)) (sym (n .row));
+            ∙ ap₂ (λ q r. levelBand (filterOf f) whole W (side s H) g q (x .band) r i) (sym (n .level)) (sym (n .row));
       }
 
   found-right : (ds : List writer.DrawnRow) (names : List RowName) → map (λ d. d .row) ds ≡ map (answered W) names →
-      All (HasValues W s H g) ds → (x : RowName) → In x names → Right x (drawnAs ds x)
+      All (HasValues f W s H g) ds → (x : RowName) → In x names → Right x (drawnAs ds x)
   unfolding drawnAs
   found-right [] (z ∷ names) e a x i = absurd (let p : _≡_ {A = ℕ} 0 1 = cc in omega arith)
   found-right (d ∷ ds) (z ∷ names) e (all-more h a) x i =
@@ -101,23 +101,23 @@ module _ (W : Side) (s H : ℕ) (g : Grid) where
           (λ same. absurd (subst T (sym (ap (isNamed x) q ∙ ap (λ v. isNamed x (answered W v)) (sym same) ∙ named-self W x) ∙ is) tt))
           ih
 
--- ---- questions 2 and 4 are the writer's too
-set-up-passes : (W H : Side) (L n : ℕ) → within 1 maxWidth (W .length) ≡ true → (1 ≤ H .length) × (H .length ≤ maxHeight) →
-    within 1 maxLevels L ≡ true → storeLength W L ≤ n → reader-asks.setUpQuestion W H L n ≡ 0
+-- ---- questions 2, 18 and 4 are the writer's too
+set-up-passes : (f : ℕ) (W H : Side) (L n : ℕ) → within 1 maxWidth (W .length) ≡ true → (1 ≤ H .length) × (H .length ≤ maxHeight) →
+    isFilter f ≡ true → within 1 (filterOf f .levels) L ≡ true → storeBy f W L ≤ n → reader-asks.setUpQuestion f W H L n ≡ 0
 unfolding reader-asks.setUpQuestion reader-asks.storeFits within
-set-up-passes W H L n wide high deep room =
-    rw (wide, le-leb 1 (H .length) (high .0), le-leb (H .length) maxHeight (high .1), deep, le-leb (storeLength W L) n room) refl
+set-up-passes f W H L n wide high known deep room =
+    rw (wide, le-leb 1 (H .length) (high .0), le-leb (H .length) maxHeight (high .1), known, deep, le-leb (storeBy f W L) n room) refl
 
-module _ (W : Side) (s L n : ℕ) (x : ℕ → ℤ) (cs : List writer.Call) (done : Finished W s L n x cs) where
+module _ (f : ℕ) (W : Side) (s L n : ℕ) (x : ℕ → ℤ) (cs : List writer.Call) (done : Finished f W s L n x cs) where
   abbrev es : List writer.Event
-  es = wrote W s L n x cs
+  es = wrote f W s L n x cs
 
-  claim : writes.Demand3 W s L es (λ k. writer.event k (writer.final cs (writer.freshWorld W s L n x)))
-  claim = writer-holds.demand-3 W s L n x (done .across) (done .down) (done .set-up) cs .1
+  claim : writes.Demand3 f W s L es (λ k. writer.event k (writer.final cs (writer.freshWorld f W s L n x)))
+  claim = writer-holds.demand-3 f W s L n x (done .across) (done .down) (done .set-up) cs .1
 
   -- ---- the map that was written
-  in-limits : (within 1 maxWidth (W .length) ≡ true) × (within 1 maxLevels L ≡ true) × (storeLength W L ≤ n)
-  in-limits = set-up-passed W L n (done .set-up)
+  in-limits : (within 1 maxWidth (W .length) ≡ true) × (isFilter f ≡ true) × (within 1 (filterOf f .levels) L ≡ true) × (storeBy f W L ≤ n)
+  in-limits = set-up-passed f W L n (done .set-up)
 
   width : 0 < W .length
   width = within-true 1 maxWidth (W .length) (in-limits .0) .0
@@ -131,42 +131,42 @@ module _ (W : Side) (s L n : ℕ) (x : ℕ → ℤ) (cs : List writer.Call) (don
   abbrev g : Grid
   g = written .1
 
-  whole-map : length (writer.taken es) ≡ W .length * rowsWrote W s L n x cs
+  whole-map : length (writer.taken es) ≡ W .length * rowsWrote f W s L n x cs
   whole-map = claim .finished-map (done .finished) .2
 
-  height : H ≡ rowsWrote W s L n x cs
-  height = eq-of-mul-eq-mul-left (W .length) width H (rowsWrote W s L n x cs) (sym (written .2 .all (done .finished)) ∙ whole-map)
+  height : H ≡ rowsWrote f W s L n x cs
+  height = eq-of-mul-eq-mul-left (W .length) width H (rowsWrote f W s L n x cs) (sym (written .2 .all (done .finished)) ∙ whole-map)
 
   abbrev rows : RowName → Area
   rows = drawnAs (writer.drawn es)
 
   -- it has all the rows drawn
-  has-all : HasAll W (sideWrote W s L n x cs) L g rows
+  has-all : HasAll f W (sideWrote f W s L n x cs) L g rows
   has-all =
       let a = claim .all-drawn (done .finished) (done .none-waits) in
-      let R = rowsWrote W s L n x cs in
+      let R = rowsWrote f W s L n x cs in
       record {
         are = λ y e.
-            found-right W s R g (writer.drawn es) (a .names) (a .answers) values y
+            found-right f W s R g (writer.drawn es) (a .names) (a .answers) values y
             (times-in y (a .names) (omega (arith, a .once y ∙ ap (λ t. pick t 1 0) e)));
       }
     where
-      values : All (HasValues W s (rowsWrote W s L n x cs) g) (writer.drawn es)
-      values = subst (λ h. All (HasValues W s h g) (writer.drawn es)) height (claim .values H g (written .2))
+      values : All (HasValues f W s (rowsWrote f W s L n x cs) g) (writer.drawn es)
+      values = subst (λ h. All (HasValues f W s h g) (writer.drawn es)) height (claim .values H g (written .2))
 
-  is-map : IsMap (W .length) (rowsWrote W s L n x cs) g
+  is-map : IsMap (W .length) (rowsWrote f W s L n x cs) g
   is-map = subst (λ h. IsMap (W .length) h g) height (written .2 .begins .map)
 
-  passes : (n′ : ℕ) → storeLength W L ≤ n′ → reader-asks.setUpQuestion W (sideWrote W s L n x cs) L n′ ≡ 0
+  passes : (n′ : ℕ) → storeBy f W L ≤ n′ → reader-asks.setUpQuestion f W (sideWrote f W s L n x cs) L n′ ≡ 0
   passes n′ room =
       let m = claim .finished-map (done .finished) in
-      set-up-passes W (sideWrote W s L n x cs) L n′ (in-limits .0) (m .0, m .1) (in-limits .1) room
+      set-up-passes f W (sideWrote f W s L n x cs) L n′ (in-limits .0) (m .0, m .1) (in-limits .1) (in-limits .2) room
 
   -- ---- the theorem: a reader set up with that size, fed and drawn as it wants with the rows drawn, hands back every height in order and says Done
-  pub hands-back : (n′ : ℕ) (y : ℕ → ℤ) (outs : ℕ → Area) → Lent W s L n x cs n′ y outs → HandsBack W s L n x cs n′ y outs
+  pub hands-back : (n′ : ℕ) (y : ℕ → ℤ) (outs : ℕ → Area) → Lent f W s L n x cs n′ y outs → HandsBack f W s L n x cs n′ y outs
   hands-back n′ y outs lent =
       let ok = passes n′ (lent .store) in
-      let p = played-holds W (sideWrote W s L n x cs) L n′ (done .across) (done .down) ok rows outs (lent .areas) y .map-back g is-map has-all in
+      let p = played-holds f W (sideWrote f W s L n x cs) L n′ (done .across) (done .down) ok rows outs (lent .areas) y .map-back g is-map has-all in
       record {
         set-up = ok;
         rows = p .all;
@@ -175,12 +175,12 @@ module _ (W : Side) (s L n : ℕ) (x : ℕ → ℤ) (cs : List writer.Call) (don
         done = p .says;
       }
     where
-      place : (r c : ℕ) → r < rowsWrote W s L n x cs → c < W .length → r * W .length + c < length (writer.taken es)
-      place r c h k = let m : (r + 1) * W .length ≤ rowsWrote W s L n x cs * W .length = mul-le-mul-right (W .length) (omega arith) in
-          omega (arith, whole-map, mul-comm (W .length) (rowsWrote W s L n x cs))
+      place : (r c : ℕ) → r < rowsWrote f W s L n x cs → c < W .length → r * W .length + c < length (writer.taken es)
+      place r c h k = let m : (r + 1) * W .length ≤ rowsWrote f W s L n x cs * W .length = mul-le-mul-right (W .length) (omega arith) in
+          omega (arith, whole-map, mul-comm (W .length) (rowsWrote f W s L n x cs))
 
 -- ---- from a plane: its band rows are a map's exactly where the plane is
-module _ (W H : Side) (L : ℕ) (plane : ℕ → ℤ) (g : Grid) where
+module _ (f : ℕ) (W H : Side) (L : ℕ) (plane : ℕ → ℤ) (g : Grid) where
   kept-if : (k : ℕ) (b : Band) → (b ≡ LL → k ≡ L) → keptAt L k b ≡ true
   unfolding keptAt
   kept-if k LL h = eq-eqb k L (h refl)
@@ -207,19 +207,19 @@ module _ (W H : Side) (L : ℕ) (plane : ℕ → ℤ) (g : Grid) where
       let a = exists-parts W H L k b r e in
       record { deep = a .0; most = a .2; last = kept-last k b (a .3); row = a .1; column = p }
 
-  rows-plane : 0 < L → IsMap (W .length) (H .length) g → HasAll W H L g (planeRows W H plane) → HasPlane fiveThreeFilter L W H g (cells (W .length) plane)
+  rows-plane : 0 < L → IsMap (W .length) (H .length) g → HasAll f W H L g (planeRows W H plane) → HasPlane (filterOf f) L W H g (cells (W .length) plane)
   unfolding planeRows cells
   rows-plane some m h = record { map = m; coefficients = λ r c p q. at r c (found L W H r c some p q) }
     where
-      at : (r c : ℕ) → Found L W H r c → plane (r * W .length + c) ≡ planeCell fiveThreeFilter whole L W H g r c
-      at r c f =
-          ap plane (sym (found-place L W H r c f))
-          ∙ h .are (record { level = f .level; band = f .band; row = f .row }) (exists-if (f .level) (f .band) (f .row) (f .column) (f .stands)) .values
-          (f .column) (f .stands .column)
-          ∙ sym (cell-places fiveThreeFilter whole L W H g (f .level) (f .band) (f .row) (f .column) (f .stands))
-          ∙ ap₂ (planeCell fiveThreeFilter whole L W H g) (f .row-is) (f .column-is)
+      at : (r c : ℕ) → Found L W H r c → plane (r * W .length + c) ≡ planeCell (filterOf f) whole L W H g r c
+      at r c z =
+          ap plane (sym (found-place L W H r c z))
+          ∙ h .are (record { level = z .level; band = z .band; row = z .row }) (exists-if (z .level) (z .band) (z .row) (z .column) (z .stands)) .values
+          (z .column) (z .stands .column)
+          ∙ sym (cell-places (filterOf f) whole L W H g (z .level) (z .band) (z .row) (z .column) (z .stands))
+          ∙ ap₂ (planeCell (filterOf f) whole L W H g) (z .row-is) (z .column-is)
 
-  plane-rows : HasPlane fiveThreeFilter L W H g (cells (W .length) plane) → HasAll W H L g (planeRows W H plane)
+  plane-rows : HasPlane (filterOf f) L W H g (cells (W .length) plane) → HasAll f W H L g (planeRows W H plane)
   unfolding planeRows cells
   plane-rows has = record {
     are = λ y e. record {
@@ -228,7 +228,7 @@ module _ (W H : Side) (L : ℕ) (plane : ℕ → ℤ) (g : Grid) where
           let s = stands-if (y .level) (y .band) (y .row) i e p in
           ap plane (place-is W H (y .level) (y .band) (y .row) i)
           ∙ has .coefficients _ _ (row-in L W H (y .level) (y .band) (y .row) i s) (column-in L W H (y .level) (y .band) (y .row) i s)
-          ∙ cell-places fiveThreeFilter whole L W H g (y .level) (y .band) (y .row) i s;
+          ∙ cell-places (filterOf f) whole L W H g (y .level) (y .band) (y .row) i s;
     };
   }
 
@@ -236,18 +236,19 @@ planes-sized : (W H : Side) (L : ℕ) (plane : ℕ → ℤ) → Sized W H L (pla
 unfolding planeRows
 planes-sized W H L plane = record { size = λ y e. refl }
 
-some-levels : (W H : Side) (L n : ℕ) → reader-asks.setUpQuestion W H L n ≡ 0 → 0 < L
+some-levels : (f : ℕ) (W H : Side) (L n : ℕ) → reader-asks.setUpQuestion f W H L n ≡ 0 → 0 < L
 unfolding reader-asks.setUpQuestion
-some-levels W H L n e =
+some-levels f W H L n e =
     let a = asked-yes (within 1 maxHeight (H .length)) _ _ (asked-yes (within 1 maxWidth (W .length)) _ _ e .1) in
-    within-true 1 maxLevels L (asked-yes (within 1 maxLevels L) _ _ (a .1) .0) .0
+    let b = asked-yes (isFilter f) _ _ (a .1) in
+    within-true 1 (filterOf f .levels) L (asked-yes (within 1 (filterOf f .levels) L) _ _ (b .1) .0) .0
 
 -- ---- the theorem: of a map's plane the map and Done, of any other plane 7 or 14 and no Done
-pub from-plane : (W H : Side) (L n : ℕ) (y plane : ℕ → ℤ) (outs : ℕ → Area) → W .start ≤ maxOrigin → H .start ≤ maxOrigin →
-    reader-asks.setUpQuestion W H L n ≡ 0 → ((i : ℕ) → W .length ≤ outs i .size) → FromPlane W H L n y plane outs
-from-plane W H L n y plane outs across down ok room =
-    let p = played-holds W H L n across down ok (planeRows W H plane) outs room y in
+pub from-plane : (f : ℕ) (W H : Side) (L n : ℕ) (y plane : ℕ → ℤ) (outs : ℕ → Area) → W .start ≤ maxOrigin → H .start ≤ maxOrigin →
+    reader-asks.setUpQuestion f W H L n ≡ 0 → ((i : ℕ) → W .length ≤ outs i .size) → FromPlane f W H L n y plane outs
+from-plane f W H L n y plane outs across down ok room =
+    let p = played-holds f W H L n across down ok (planeRows W H plane) outs room y in
     record {
-      map-back = λ g has. p .map-back g (has .map) (plane-rows W H L plane g has);
-      no-map = λ none-has. p .no-map (planes-sized W H L plane) (λ g m h. none-has g (rows-plane W H L plane g (some-levels W H L n ok) m h));
+      map-back = λ g has. p .map-back g (has .map) (plane-rows f W H L plane g has);
+      no-map = λ none-has. p .no-map (planes-sized W H L plane) (λ g m h. none-has g (rows-plane f W H L plane g (some-levels f W H L n ok) m h));
     }

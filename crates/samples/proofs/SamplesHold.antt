@@ -1,10 +1,10 @@
--- Every sample of the two tables holds: both sides compute to the same. Assumes nothing.
+-- Every sample of the three tables holds: both sides compute to the same. Assumes nothing.
 use mathlib.Core.Path.{refl}
 use Rattle.lifting.specs.Line.{predicted, updated, mirror, unupdated, unpredicted}
 use Rattle.lifting.specs.Grid.{half, place, count, joined, before, after, highAt, lowAt, evenAt, oddAt, lineForward, lineHalvesBack, lineBack, loneHigh, isEven}
 use Rattle.lifting.specs.Grid.{hasLine}
 use Rattle.numbers.specs.Word.{wrap32}
-use Rattle.wavelet.specs.Limits.{maxWidth, maxHeight, maxLevels, maxSample, range}
+use Rattle.wavelet.specs.Limits.{maxWidth, maxHeight, maxSample, range}
 use Rattle.wavelet.specs.Questions.{within}
 use Rattle.wavelet.specs.Maps.{every, everyCell, valueFits, inRange, rebuiltFits}
 use Rattle.wavelet.specs.Bands.{across, down, bandOf, columnsLifted, subband, rowsUnlifted, levelBack, rowsHave, columnsHave, levelHas}
@@ -14,16 +14,18 @@ use Rattle.wavelet.specs.Order.{made}
 use Rattle.wavelet.specs.Steps.{feedAll, bandRowsOf, setTo, setOf, setsBefore, rowSteps, setSteps, steps}
 use Rattle.wavelet.specs.Levels.{next, sideAt, approximation, levelBand}
 use Rattle.wavelet.specs.View.{bandColumns}
-use Rattle.whole_map.specs.Calls.{sizeQuestions, planeQuestions, backwardQuestion}
-use Rattle.samples.specs.Samples.{listed, values, bandRow, holds-line, holds-map, holds-answer, holds-order, holds-wants, table, oddTable, AllHold, none}
-use Rattle.samples.specs.Samples.{also}
+use Rattle.nine_seven.specs.NineSeven as nine
+use Rattle.nine_seven.specs.Filters.{filterOf, isFilter}
+use Rattle.whole_map.specs.Calls.{shapeQuestions, sizeQuestions, planeQuestions, backwardQuestion}
+use Rattle.samples.specs.Samples.{listed, values, bandRow, holds-line, holds-map, holds-answer, holds-order, holds-wants, AllHold, none}
+use Rattle.samples.specs.Samples.{also, table, oddTable, secondTable}
 
-pub samples-hold : AllHold table
+pub samples-hold : AllHold 0 table
 unfolding values listed lineForward lowAt highAt before after half place mirror predicted updated count planeOf planeCell inCorner flat cells subband
     columnsLifted across down bandOf halfAt placeIn bandRow bandColumns next sideAt approximation levelBand handedOut firstSet lastSet setRow setHas rowsOf
-    setRows madeBy unmade closing inTurn made feedAll setTo setOf setsBefore rowSteps setSteps steps bandRowsOf backwardQuestion sizeQuestions planeQuestions
-    within maxWidth maxHeight maxLevels maxSample range inRange rebuiltFits everyCell every valueFits levelAt planeBands mapBack levelBack levelHas rowsHave
-    columnsHave rowsUnlifted lineBack lineHalvesBack joined evenAt oddAt hasLine loneHigh isEven unupdated unpredicted wrap32
+    setRows madeBy unmade closing inTurn made feedAll setTo setOf setsBefore rowSteps setSteps steps bandRowsOf backwardQuestion sizeQuestions shapeQuestions
+    planeQuestions isFilter filterOf within maxWidth maxHeight maxSample range inRange rebuiltFits everyCell every valueFits levelAt planeBands mapBack
+    levelBack levelHas rowsHave columnsHave rowsUnlifted lineBack lineHalvesBack joined evenAt oddAt hasLine loneHigh isEven unupdated unpredicted wrap32
 samples-hold =
     also (holds-line refl refl)
     (also (holds-line refl refl)
@@ -38,12 +40,12 @@ samples-hold =
     (also (holds-answer refl)
     none))))))))))
 
-pub odd-samples-hold : AllHold oddTable
+pub odd-samples-hold : AllHold 0 oddTable
 unfolding values listed lineForward lowAt highAt before after half place mirror predicted updated count planeOf planeCell inCorner flat cells subband
     columnsLifted across down bandOf halfAt placeIn bandRow bandColumns next sideAt approximation levelBand handedOut firstSet lastSet setRow setHas rowsOf
-    setRows madeBy unmade closing inTurn made feedAll setTo setOf setsBefore rowSteps setSteps steps bandRowsOf backwardQuestion sizeQuestions planeQuestions
-    within maxWidth maxHeight maxLevels maxSample range inRange rebuiltFits everyCell every valueFits levelAt planeBands mapBack levelBack levelHas rowsHave
-    columnsHave rowsUnlifted lineBack lineHalvesBack joined evenAt oddAt hasLine loneHigh isEven unupdated unpredicted wrap32
+    setRows madeBy unmade closing inTurn made feedAll setTo setOf setsBefore rowSteps setSteps steps bandRowsOf backwardQuestion sizeQuestions shapeQuestions
+    planeQuestions isFilter filterOf within maxWidth maxHeight maxSample range inRange rebuiltFits everyCell every valueFits levelAt planeBands mapBack
+    levelBack levelHas rowsHave columnsHave rowsUnlifted lineBack lineHalvesBack joined evenAt oddAt hasLine loneHigh isEven unupdated unpredicted wrap32
 odd-samples-hold =
     also (holds-line refl refl)
     (also (holds-line refl refl)
@@ -54,3 +56,27 @@ odd-samples-hold =
     (also (holds-order refl)
     (also (holds-wants refl)
     none)))))))
+
+pub second-samples-hold : AllHold 1 secondTable
+unfolding values listed lineForward lowAt highAt before after half place mirror predicted updated count planeOf planeCell inCorner flat cells subband
+    columnsLifted across down bandOf halfAt placeIn bandRow bandColumns next sideAt approximation levelBand handedOut firstSet lastSet setRow setHas rowsOf
+    setRows madeBy unmade closing inTurn made feedAll setTo setOf setsBefore rowSteps setSteps steps bandRowsOf backwardQuestion sizeQuestions shapeQuestions
+    planeQuestions isFilter filterOf within maxWidth maxHeight maxSample range inRange rebuiltFits everyCell every valueFits levelAt planeBands mapBack
+    levelBack levelHas rowsHave columnsHave rowsUnlifted lineBack lineHalvesBack joined evenAt oddAt hasLine loneHigh isEven unupdated unpredicted wrap32
+    nine.lineForward nine.lineHalvesBack nine.lineBack nine.lowAt nine.highAt nine.evenAt nine.oddAt nine.mirror nine.before nine.after nine.predicted
+    nine.updated nine.unpredicted nine.unupdated nine.lowPart
+second-samples-hold =
+    also (holds-line refl refl)
+    (also (holds-line refl refl)
+    (also (holds-line refl refl)
+    (also (holds-line refl refl)
+    (also (holds-line refl refl)
+    (also (holds-line refl refl)
+    (also (holds-line refl refl)
+    (also (holds-answer refl)
+    (also (holds-answer refl)
+    (also (holds-answer refl)
+    (also (holds-answer refl)
+    (also (holds-order refl)
+    (also (holds-wants refl)
+    none))))))))))))

@@ -15,7 +15,7 @@ pub const AT_ZERO: usize = SIZES * limits::MAX_LEVELS * KINDS;
 // and once more at origins from 0 to 3 each way.
 pub const MAPS: usize = 2 * AT_ZERO;
 
-// A map at origin 0.
+// A map at origin 0, by the 5/3.
 pub fn shape_of(width: usize, height: usize, levels: usize) -> Shape {
     Shape {
         width,
@@ -23,6 +23,7 @@ pub fn shape_of(width: usize, height: usize, levels: usize) -> Shape {
         levels,
         x: 0,
         y: 0,
+        filter: 0,
     }
 }
 
@@ -33,6 +34,7 @@ fn placed(s: Shape, x: u16, y: u16) -> Shape {
         levels: s.levels,
         x,
         y,
+        filter: s.filter,
     }
 }
 

@@ -23,7 +23,6 @@ use Rattle.terrain.proofs.WordLaws.{spelt}
 -- the words of a reader that no feed and no draw changes
 record Fixed (s : List ℕ) : Type 0 where
   kind : getD s 0 0 ≡ 2
-  eleven : getD s 11 0 ≡ 0
   twelve : getD s 12 0 ≡ 0
   thirteen : getD s 13 0 ≡ 0
   fourteen : getD s 14 0 ≡ 0
@@ -34,14 +33,12 @@ unfolding isState zeroFrom zeroNext
 fixed s h =
     let a = sweep.both (eqb (getD s 0 0) 2) _ h in
     let b = sweep.both (leb (getD s 7 0) 1) _ (a .1) in
-    let c₃ = sweep.both (eqb (getD s 11 0) 0) _ (b .1) in
-    let c₄ = sweep.both (eqb (getD s 12 0) 0) _ (c₃ .1) in
+    let c₄ = sweep.both (eqb (getD s 12 0) 0) _ (b .1) in
     let c₅ = sweep.both (eqb (getD s 13 0) 0) _ (c₄ .1) in
     let c₆ = sweep.both (eqb (getD s 14 0) 0) _ (c₅ .1) in
     let c₇ = sweep.both (eqb (getD s 15 0) 0) _ (c₆ .1) in
     record {
       kind = eqb-true _ _ (a .0);
-      eleven = eqb-true _ _ (c₃ .0);
       twelve = eqb-true _ _ (c₄ .0);
       thirteen = eqb-true _ _ (c₅ .0);
       fourteen = eqb-true _ _ (c₆ .0);
@@ -55,11 +52,12 @@ record Stays (s t : Reader) : Type 0 where
   levels : t .levels ≡ s .levels
   x : t .x ≡ s .x
   y : t .y ≡ s .y
+  filter : t .filter ≡ s .filter
 
 words-moved : (s : List ℕ) → length s ≡ 16 → isReader s ≡ true → (t : Reader) → Stays (readerOf s) t → movedWords t s ≡ readerWords t
 words-moved s size is t e =
     let f = fixed s is in
-    ap (movedWords t) (spelt s size) ∙ cc (f .kind, e .width, e .height, e .levels, e .x, e .y, f .eleven, f .twelve, f .thirteen, f .fourteen, f .fifteen)
+    ap (movedWords t) (spelt s size) ∙ cc (f .kind, e .width, e .height, e .levels, e .x, e .y, e .filter, f .twelve, f .thirteen, f .fourteen, f .fifteen)
 
 -- a call on a reader's array that gives something
 gave : {A : Type 0} (b : Bool) (r : Reply A) (a : A) → pick b r (refused 1) ≡ gives a → (b ≡ true) × (r ≡ gives a)
@@ -76,7 +74,7 @@ feed-stays : (s t : Reader) (q : ℕ) → feedReply s q ≡ gives t → Stays s 
 unfolding feedReply fedReader
 feed-stays s t q e =
     let g : fedReader s ≡ t = given (eqb q 0) (eqb q 14) (fedReader s) t (endedReader s) q e in
-    rw (← g) (record { width = refl; height = refl; levels = refl; x = refl; y = refl })
+    rw (← g) (record { width = refl; height = refl; levels = refl; x = refl; y = refl; filter = refl })
 
 row-is : (b : Bool) (n m : ℕ) (r t : Reader) → pick b (aRow n r) nothing ≡ aRow m t → r ≡ t
 row-is true n m r t e = cc
@@ -87,7 +85,7 @@ unfolding drawReply drawnReader
 draw-stays s t n q e =
     let g = given (eqb q 0) (eqb q 14) (pick (drawDue s) (aRow (s .width) (drawnReader s)) nothing) (aRow n t) (endedReader s) q e in
     let h : drawnReader s ≡ t = row-is (drawDue s) (s .width) n (drawnReader s) t g in
-    rw (← h) (record { width = refl; height = refl; levels = refl; x = refl; y = refl })
+    rw (← h) (record { width = refl; height = refl; levels = refl; x = refl; y = refl; filter = refl })
 
 module _ (s : List ℕ) (size : length s ≡ 16) (n : ℕ) (x : ℕ → ℤ) where
   pub fed-words : (m : ℕ) (v : ℕ → ℤ) (t : Reader) → feeding s n x m v ≡ gives t → movedWords t s ≡ readerWords t

@@ -28,6 +28,7 @@ writer-back w =
       offset = w .offset;
       x = w .x;
       y = w .y;
+      filter = w .filter;
     })
     (flag-back (w .finished))
 
@@ -54,6 +55,7 @@ reader-back r =
       back = r .back;
       band = r .band;
       ended = b;
+      filter = r .filter;
     })
     (flag-back (r .ended))
 

@@ -61,7 +61,6 @@ flag-back (suc (suc n)) h = absurd (omega arith)
 record Fixed (s : List ℕ) : Type 0 where
   kind : getD s 0 0 ≡ 1
   turned : flag (eqb (getD s 5 0) 1) ≡ getD s 5 0
-  twelve : getD s 12 0 ≡ 0
   thirteen : getD s 13 0 ≡ 0
   fourteen : getD s 14 0 ≡ 0
   fifteen : getD s 15 0 ≡ 0
@@ -71,14 +70,12 @@ unfolding isState zeroFrom zeroNext
 fixed s h =
     let a = sweep.both (eqb (getD s 0 0) 1) _ h in
     let b = sweep.both (leb (getD s 5 0) 1) _ (a .1) in
-    let c₄ = sweep.both (eqb (getD s 12 0) 0) _ (b .1) in
-    let c₅ = sweep.both (eqb (getD s 13 0) 0) _ (c₄ .1) in
+    let c₅ = sweep.both (eqb (getD s 13 0) 0) _ (b .1) in
     let c₆ = sweep.both (eqb (getD s 14 0) 0) _ (c₅ .1) in
     let c₇ = sweep.both (eqb (getD s 15 0) 0) _ (c₆ .1) in
     record {
       kind = eqb-true _ _ (a .0);
       turned = flag-back _ (leb-true _ _ (b .0));
-      twelve = eqb-true _ _ (c₄ .0);
       thirteen = eqb-true _ _ (c₅ .0);
       fourteen = eqb-true _ _ (c₆ .0);
       fifteen = eqb-true _ _ (c₇ .0);
@@ -89,7 +86,7 @@ module _ (s : List ℕ) (size : length s ≡ 16) (is : isWriter s ≡ true) wher
   words-offered t e =
       let f = fixed s is in
       let g : flag (t .finished) ≡ getD s 5 0 = ap flag (e .finished) ∙ f .turned in
-      ap (offeredWords t) (spelt s size) ∙ cc (f .kind, e .width, e .levels, e .x, e .y, e .closed, g, f .twelve, f .thirteen, f .fourteen, f .fifteen)
+      ap (offeredWords t) (spelt s size) ∙ cc (f .kind, e .width, e .levels, e .x, e .y, e .filter, e .closed, g, f .thirteen, f .fourteen, f .fifteen)
 
   words-drawn : (t : Writer) (r : Shut) → t ≡ waits (writerOf s .finished) (writerOf s) r → drawnWords t s ≡ writerWords t
   words-drawn t r e =
@@ -101,7 +98,8 @@ module _ (s : List ℕ) (size : length s ≡ 16) (is : isWriter s ≡ true) wher
       let g : flag (t .finished) ≡ getD s 5 0 = ap (λ (u : Writer). flag (u .finished)) e ∙ f .turned in
       let x : t .x ≡ getD s 10 0 = ap (λ (u : Writer). u .x) e in
       let y : t .y ≡ getD s 11 0 = ap (λ (u : Writer). u .y) e in
-      ap (drawnWords t) (spelt s size) ∙ cc (f .kind, w, l, m, c, g, x, y, f .twelve, f .thirteen, f .fourteen, f .fifteen)
+      let o : t .filter ≡ getD s 12 0 = ap (λ (u : Writer). u .filter) e in
+      ap (drawnWords t) (spelt s size) ∙ cc (f .kind, w, l, m, c, g, x, y, o, f .thirteen, f .fourteen, f .fifteen)
 
 -- a call on a writer's array that gives something
 gave : {A : Type 0} (b : Bool) (r : Reply A) (a : A) → pick b r (refused 1) ≡ gives a → (b ≡ true) × (r ≡ gives a)

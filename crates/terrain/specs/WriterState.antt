@@ -8,7 +8,7 @@ use Rattle.writer.specs.declared.Writer.{Writer}
 use Rattle.terrain.specs.States.{flag, isState}
 
 abbrev pub isWriter : List ℕ → Bool
-isWriter s = isState 1 5 12 s
+isWriter s = isState 1 5 13 s
 
 abbrev pub writerOf : List ℕ → Writer
 writerOf s =
@@ -24,6 +24,7 @@ writerOf s =
       offset = getD s 9 0;
       x = getD s 10 0;
       y = getD s 11 0;
+      filter = getD s 12 0;
     }
 
 -- what an offer writes of the array, and what a draw: the other words stand there already
@@ -36,4 +37,4 @@ drawnWords w s = set (set (set (set s 6 (w .closed)) 7 (w .level)) 8 (w .left)) 
 abbrev pub writerWords : Writer → List ℕ
 writerWords w =
     1 ∷ w .width ∷ w .levels ∷ w .rows ∷ w .column ∷ flag (w .finished) ∷ w .closed ∷ w .level ∷ w .left ∷ w .offset
-    ∷ w .x ∷ w .y ∷ 0 ∷ 0 ∷ 0 ∷ 0 ∷ []
+    ∷ w .x ∷ w .y ∷ w .filter ∷ 0 ∷ 0 ∷ 0 ∷ []

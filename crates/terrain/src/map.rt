@@ -8,14 +8,14 @@ ghost use lib.ListN.{length};
 ghost use lib.Dec.{eqb};
 ghost use Rattle.numbers.specs.Signal.{at, pick};
 ghost use Rattle.numbers.specs.Word.{whole, wrap32};
-ghost use Rattle.lifting.specs.FiveThree.{fiveThreeFilter};
+ghost use Rattle.nine_seven.specs.Filters.{filterOf};
 ghost use Rattle.wavelet.specs.Plane.{cells, flat, planeOf, mapBack};
 ghost use Rattle.wavelet.specs.Shape.{columns, rows};
 ghost use Rattle.wavelet.specs.ViewCall.{viewQuestion, viewStart, viewLength};
 ghost use Rattle.whole_map.specs.Rowwise.{heightsAt};
 ghost use Rattle.whole_map.specs.Calls.{forwardQuestion, backwardQuestion, zeros, passed, rebuilt};
 
-// A map of heights to its plane. The questions are 2, 3, 4 and 5.
+// A map of heights to its plane, by the filter of its shape. The questions are 2, 3, 18, 4 and 5.
 #[no_mangle]
 pub extern "C" fn terrain_map_forward(
     heights: &[u16],
@@ -23,17 +23,17 @@ pub extern "C" fn terrain_map_forward(
     plane: &mut [i32],
     work: &mut [i32],
 ) -> u32
-    ensures { λ r. ⌜ r ≡ forwardQuestion (columns shape) (rows shape) (shape .levels) (length (now (heights .entry))) (length (now (plane .entry)))
-        (length (now (work .entry))) ⌝ }
+    ensures { λ r. ⌜ r ≡ forwardQuestion (shape .filter) (columns shape) (rows shape) (shape .levels) (length (now (heights .entry)))
+        (length (now (plane .entry))) (length (now (work .entry))) ⌝ }
     ensures { λ r. ⌜ at (now (plane .exit)) ≡ passed r (shape .width * shape .height)
-        (planeOf fiveThreeFilter whole (shape .levels) (columns shape) (rows shape) (cells (shape .width) (heightsAt (now (heights .entry)))))
+        (planeOf (filterOf (shape .filter)) whole (shape .levels) (columns shape) (rows shape) (cells (shape .width) (heightsAt (now (heights .entry)))))
         (at (now (plane .entry))) ⌝ }
     ensures { λ r. ⌜ at (now (work .exit)) ≡ passed r (shape .width * shape .height) zeros (at (now (work .entry))) ⌝ }
 {
     whole_map::forward(heights, shape, plane, work) as u32
 }
 
-// A plane to the map that has it. The questions are 2, 3, 4, 5, 7 and 14.
+// A plane to the map that has it. The questions are 2, 3, 18, 4, 5, 7 and 14.
 #[no_mangle]
 pub extern "C" fn terrain_map_backward(
     plane: &[i32],
@@ -41,17 +41,19 @@ pub extern "C" fn terrain_map_backward(
     heights: &mut [u16],
     work: &mut [i32],
 ) -> u32
-    ensures { λ r. ⌜ r ≡ backwardQuestion (columns shape) (rows shape) (shape .levels) (length (now (plane .entry))) (length (now (heights .entry)))
-        (length (now (work .entry))) (cells (shape .width) (at (now (plane .entry)))) ⌝ }
+    ensures { λ r. ⌜ r ≡ backwardQuestion (shape .filter) (columns shape) (rows shape) (shape .levels) (length (now (plane .entry)))
+        (length (now (heights .entry))) (length (now (work .entry))) (cells (shape .width) (at (now (plane .entry)))) ⌝ }
     ensures { λ r. ⌜ heightsAt (now (heights .exit)) ≡ rebuilt r (shape .width * shape .height)
-        (flat (shape .width) (mapBack fiveThreeFilter wrap32 (shape .levels) (columns shape) (rows shape) (cells (shape .width) (at (now (plane .entry))))))
+        (flat (shape .width) (mapBack (filterOf (shape .filter)) wrap32 (shape .levels) (columns shape) (rows shape)
+        (cells (shape .width) (at (now (plane .entry))))))
         (heightsAt (now (heights .entry))) ⌝ }
     ensures { λ r. ⌜ at (now (work .exit)) ≡ rebuilt r (shape .width * shape .height) zeros (at (now (work .entry))) ⌝ }
 {
     whole_map::backward(plane, shape, heights, work) as u32
 }
 
-// First place and length of a band row in a plane of `len` numbers. The questions are 2, 3, 4, 5 and 6; a no leaves both numbers.
+// First place and length of a band row in a plane of `len` numbers. The questions are 2, 3, 4, 5 and 6; a no leaves both numbers. The filter is not
+// read: sizes alone say where a band row stands.
 #[no_mangle]
 pub extern "C" fn terrain_band_row(
     len: usize,

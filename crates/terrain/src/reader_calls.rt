@@ -16,7 +16,7 @@ ghost use Rattle.reader.specs.Answers.{number};
 ghost use Rattle.reader.specs.Calls.{setUpReply, setUpStore};
 ghost use Rattle.terrain.specs.ReaderCalls.{stateOf, wanting, wantOf, feeding, feedingStore, drawing, drawingStore, drawingArea, stateDrawn, countOf};
 
-// A fresh reader. The questions are 2, 3, 4 and 5.
+// A fresh reader. The questions are 2, 3, 18, 4 and 5.
 #[no_mangle]
 pub extern "C" fn terrain_reader_set_up(
     state: &mut [u64; 16],
@@ -25,15 +25,15 @@ pub extern "C" fn terrain_reader_set_up(
 ) -> u32
     ensures { λ r. ⌜ r ≡
         number
-        (setUpReply (columns shape) (rows shape) (shape .levels)
-        (setUpQuestion (columns shape) (rows shape) (shape .levels) (length (now (store .entry))))) ⌝ }
+        (setUpReply (shape .filter) (columns shape) (rows shape) (shape .levels)
+        (setUpQuestion (shape .filter) (columns shape) (rows shape) (shape .levels) (length (now (store .entry))))) ⌝ }
     ensures { λ _. ⌜ now (state .exit) ≡
         stateOf
-        (setUpReply (columns shape) (rows shape) (shape .levels)
-        (setUpQuestion (columns shape) (rows shape) (shape .levels) (length (now (store .entry))))) (now (state .entry)) ⌝ }
+        (setUpReply (shape .filter) (columns shape) (rows shape) (shape .levels)
+        (setUpQuestion (shape .filter) (columns shape) (rows shape) (shape .levels) (length (now (store .entry))))) (now (state .entry)) ⌝ }
     ensures { λ _. ⌜ at (now (store .exit)) ≡
-        setUpStore (columns shape) (shape .levels)
-        (setUpQuestion (columns shape) (rows shape) (shape .levels) (length (now (store .entry)))) (at (now (store .entry))) ⌝ }
+        setUpStore (shape .filter) (columns shape) (shape .levels)
+        (setUpQuestion (shape .filter) (columns shape) (rows shape) (shape .levels) (length (now (store .entry)))) (at (now (store .entry))) ⌝ }
 {
     match Reader::set_up(shape, store) {
         SetUp::Ready(r) => {

@@ -15,7 +15,7 @@ pub fn is_reader(s: &[u64; 16]) -> bool
     if 1 < s[7] {
         return false;
     }
-    states::zero_from(s, 11)
+    states::zero_from(s, 12)
 }
 
 // The reader that the array holds.
@@ -33,6 +33,7 @@ pub fn unpack_reader(s: &[u64; 16]) -> Reader
         x: s[8] as usize,
         y: s[9] as usize,
         back: s[10] as usize,
+        filter: s[11] as usize,
     }
 }
 
@@ -53,7 +54,7 @@ pub fn pack_reader(r: Reader, s: &mut [u64; 16])
         r.x as u64,
         r.y as u64,
         r.back as u64,
-        0,
+        r.filter as u64,
         0,
         0,
         0,

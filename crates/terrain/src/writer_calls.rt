@@ -1,7 +1,7 @@
 // The writer's calls. The state is the caller's array: `writer_state` unpacks and packs it.
 use crate::writer_state;
+use filters::figures;
 use wavelet::shape::Shape;
-use wavelet::store;
 use writer::Drawn;
 use writer::Finished;
 use writer::Look;
@@ -10,35 +10,39 @@ use writer::SetUp;
 use writer::Writer;
 ghost use mathlib.Core.Path.{_≡_};
 ghost use lib.ListN.{length};
-ghost use Rattle.numbers.specs.Signal.{at, pick, both};
-ghost use Rattle.wavelet.specs.Limits.{maxWidth, maxLevels};
-ghost use Rattle.wavelet.specs.Questions.{within};
+ghost use Rattle.numbers.specs.Signal.{at, pick};
 ghost use Rattle.wavelet.specs.Shape.{columns};
-ghost use Rattle.wavelet.specs.Store.{storeLength};
+ghost use Rattle.filters.specs.Figures.{storeBy, streamable};
 ghost use Rattle.writer.specs.Calls.{setUpReply, setUpStore};
 ghost use Rattle.terrain.specs.WriterCalls.{number, stateOf, offered, offeredStore, stateTook, takenOf, drawn, drawnStore, drawnArea, stateHanded, rowOf};
 ghost use Rattle.terrain.specs.WriterCalls.{waiting, lookOf, finished, finishedStore};
 
-// The numbers that the line store of a writer or a reader needs; 0 where set-up would give 2 or 4. The height does not count.
+// The numbers that the line store of a writer or a reader needs; 0 where set-up would give 2, 18 or 4. The height does not
+// count.
 #[no_mangle]
 pub extern "C" fn terrain_store_length(shape: Shape) -> usize
-    ensures { λ r. ⌜ r ≡ pick (both (within 1 maxWidth (shape .width)) (within 1 maxLevels (shape .levels))) (storeLength (columns shape) (shape .levels)) 0 ⌝ }
+    ensures { λ r. ⌜ r ≡ pick (streamable (shape .filter) (columns shape) (shape .levels)) (storeBy (shape .filter) (columns shape) (shape .levels)) 0 ⌝ }
 {
-    store::store_length(shape.width, shape.x as usize, shape.levels)
+    figures::store_length(
+        shape.filter as usize,
+        shape.width,
+        shape.x as usize,
+        shape.levels,
+    )
 }
 
-// A fresh writer. The questions are 2, 4 and 5. The height is not read.
+// A fresh writer. The questions are 2, 18, 4 and 5. The height is not read.
 #[no_mangle]
 pub extern "C" fn terrain_writer_set_up(
     state: &mut [u64; 16],
     shape: Shape,
     store: &mut [i32],
 ) -> u32
-    ensures { λ r. ⌜ r ≡ number (setUpReply (columns shape) (shape .y) (shape .levels) (length (now (store .entry)))) ⌝ }
+    ensures { λ r. ⌜ r ≡ number (setUpReply (shape .filter) (columns shape) (shape .y) (shape .levels) (length (now (store .entry)))) ⌝ }
     ensures { λ r. ⌜ now (state .exit) ≡
-        stateOf (setUpReply (columns shape) (shape .y) (shape .levels) (length (now (store .entry)))) (now (state .entry)) ⌝ }
+        stateOf (setUpReply (shape .filter) (columns shape) (shape .y) (shape .levels) (length (now (store .entry)))) (now (state .entry)) ⌝ }
     ensures { λ r. ⌜ at (now (store .exit)) ≡
-        setUpStore (columns shape) (shape .levels) (length (now (store .entry))) (at (now (store .entry))) ⌝ }
+        setUpStore (shape .filter) (columns shape) (shape .levels) (length (now (store .entry))) (at (now (store .entry))) ⌝ }
 {
     match Writer::set_up(shape, store) {
         SetUp::Ready(w) => {

@@ -15,7 +15,7 @@ pub fn is_writer(s: &[u64; 16]) -> bool
     if 1 < s[5] {
         return false;
     }
-    states::zero_from(s, 12)
+    states::zero_from(s, 13)
 }
 
 // The writer that the array holds.
@@ -34,6 +34,7 @@ pub fn unpack_writer(s: &[u64; 16]) -> Writer
         offset: s[9] as usize,
         x: s[10] as usize,
         y: s[11] as usize,
+        filter: s[12] as usize,
     }
 }
 
@@ -55,7 +56,7 @@ pub fn pack_writer(w: Writer, s: &mut [u64; 16])
         w.offset as u64,
         w.x as u64,
         w.y as u64,
-        0,
+        w.filter as u64,
         0,
         0,
         0,

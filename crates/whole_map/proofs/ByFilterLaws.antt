@@ -1,6 +1,6 @@
 -- Each filter's own passes over a level are those of the definition, and each filter has the laws of one. Assumes nothing.
-use mathlib.Core.Path.{_≡_, refl, sym, ap, _∙_, fun-ext}
-use mathlib.Core.Bool.{Bool, true, false}
+use mathlib.Core.Path.{_≡_, refl, ap, _∙_, fun-ext}
+use mathlib.Core.Bool.{Bool, true}
 use Prim.Native.Nat.{ℕ, zero, suc, _+_, _-_, _*_, _/_, _%_, _≤_, _<_, min}
 use native.Mathlib.Nat.{div-add-mod'}
 use native.Mathlib.Omega.{arith}
@@ -8,7 +8,6 @@ use lib.IntN.{ℤ, pos}
 use Rattle.numbers.specs.Signal.{pick}
 use Rattle.lifting.specs.Grid.{Side}
 use Rattle.lifting.specs.GridHalves as five
-use Rattle.lifting.specs.Filter.{Filter}
 use Rattle.lifting.specs.FiveThree.{fiveThreeFilter}
 use Rattle.lifting.proofs.FilterLaws.{FilterLaws}
 use Rattle.lifting.proofs.FiveThreeFilter.{five-three-laws}
@@ -95,17 +94,7 @@ unfolding filterOf
 back-nine-seven zero d m = absurd (d refl)
 back-nine-seven (suc f) d m = m
 
-pub range-five-three : (f k : ℕ) (r : ℤ) → f ≡ 0 → k ≤ filterOf f .levels → r ≡ pos (range fiveThreeFilter (min k maxLevels)) → r ≡ pos (range (filterOf f) k)
-unfolding filterOf maxLevels
-range-five-three zero k r e b is = let m : min k 5 ≡ k = omega arith in is ∙ ap (λ (i : ℕ). pos (range fiveThreeFilter i)) m
-range-five-three (suc f) k r e b is = absurd (omega arith)
-
-pub range-nine-seven : (f k : ℕ) (r : ℤ) → (f ≡ 0 → ⊥) → r ≡ pos (range nineSevenFilter k) → r ≡ pos (range (filterOf f) k)
-unfolding filterOf
-range-nine-seven zero k r d is = absurd (d refl)
-range-nine-seven (suc f) k r d is = is
-
-pub nine-seven-few : (f k : ℕ) → (f ≡ 0 → ⊥) → k ≤ filterOf f .levels → k ≤ nineSevenFilter .levels
-unfolding filterOf
-nine-seven-few zero k d b = absurd (d refl)
-nine-seven-few (suc f) k d b = b
+pub range-at : (f k : ℕ) (r : ℤ) → k ≤ filterOf f .levels → r ≡ pos (range (filterOf f) (min k (filterOf f .levels))) → r ≡ pos (range (filterOf f) k)
+range-at f k r b is =
+    let m : min k (filterOf f .levels) ≡ k = omega arith in
+    is ∙ ap (λ (i : ℕ). pos (range (filterOf f) i)) m

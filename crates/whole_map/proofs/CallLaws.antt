@@ -1,30 +1,29 @@
--- What the two calls come to: their questions, and the areas that they leave. Assumes nothing.
+-- What the two calls come to: the questions of the plane, and the areas that they leave. Assumes nothing.
 use mathlib.Core.Path.{_≡_, refl, sym, ap, ap₂, _∙_, fun-ext}
 use mathlib.Core.Bool.{Bool, true, false}
 use mathlib.Core.List.{List}
 use Prim.Native.Nat.{ℕ, zero, suc, _+_, _-_, _*_, _/_, _%_, _^_, _≤_, _<_}
 use native.Mathlib.Nat.{mul-le-mul, pow-le-pow-right, mod-lt, mul-comm, suc-mul, div-add-mod'}
-use native.Mathlib.Decide.{decLt, ℕ-discrete}
+use native.Mathlib.Decide.{decLt}
 use native.Mathlib.Omega.{arith}
 use lib.IntN.{ℤ, pos, natAbs}
 use lib.Signed.{_≤ℤ_}
 use lib.ListN.{getD}
 use lib.Dec.{leb, le→leb}
-use borrow.Author.Tests.{le-leb, lt-leb, eq-eqb, ne-eqb}
+use borrow.Author.Tests.{eq-eqb, ne-eqb}
 use Rattle.numbers.specs.Signal.{pick, both}
 use Rattle.numbers.specs.Word.{wrap32, whole}
 use Rattle.lifting.specs.Halves.{fronted}
 use Rattle.lifting.specs.Grid.{Side}
 use Rattle.lifting.specs.Filter.{Filter}
 use Rattle.lifting.proofs.FilterLaws.{FilterLaws}
-use Rattle.wavelet.specs.Limits.{maxWidth, maxHeight, maxLevels, maxSample, range}
-use Rattle.wavelet.specs.Questions.{ask, within, sizeQuestion, Sized}
+use Rattle.wavelet.specs.Limits.{maxWidth, maxLevels, maxSample, range}
+use Rattle.wavelet.specs.Questions.{Sized}
 use Rattle.wavelet.specs.Bands.{Grid, levelHas}
 use Rattle.wavelet.specs.Plane.{cells, flat, planeCell, planeOf, planeBands, mapBack}
 use Rattle.wavelet.specs.Maps.{IsMap, everyCell, valueFits, inRange, rebuiltFits}
 use Rattle.wavelet.proofs.GridLaws.{cells-flat, row-below}
 use Rattle.wavelet.proofs.LimitLaws.{stride-small}
-use Rattle.wavelet.proofs.QuestionLaws.{sized, size-no, size-yes}
 use Rattle.wavelet.proofs.MapTheorems.{cells-same}
 use Rattle.wavelet.specs.Levels.{next}
 use Rattle.wavelet.proofs.LevelTheory.{plane-reads}
@@ -33,118 +32,12 @@ use Rattle.whole_map.specs.Rowwise.{heightsAt}
 use Rattle.whole_map.specs.Passes.{within as inside}
 use Rattle.whole_map.specs.Passes.{Rows, KeptFrom, rowsMapped, gridHalved, rowsReturned}
 use Rattle.whole_map.specs.LevelPasses.{cornerGrid, planeWritten, Rebuilt, regionInRange, Doubling, LevelsBack, Finished, MapRebuilt}
-use Rattle.whole_map.specs.Calls.{sizeQuestions, planeQuestions, zeros, passed, rebuilt}
+use Rattle.whole_map.specs.Calls.{planeQuestions, zeros, passed, rebuilt}
 use Rattle.areas.proofs.AreaLaws.{front-at, front-rest}
 use Rattle.whole_map.proofs.CellLaws.{flat-same, by-within, past-rows, kept-then, halved-grid, halved-out, returned-in, returned-out, mapped-out}
 use Rattle.whole_map.proofs.GridSweep.{mapped-in}
 use Rattle.whole_map.proofs.LevelsMath.{written-in, written-out}
 use Rattle.whole_map.proofs.TestLaws.{false-true, both-both, rebuilt-cells, fits-more}
-
--- ---- the questions of the sizes
--- question 5
-unfoldable pub roomy : ℕ → ℕ → ℕ → ℕ → ℕ → Bool
-roomy W H a b c = both (leb (W * H) a) (both (leb (W * H) b) (leb (W * H) c))
-
-module _ (W H L a b c : ℕ) where
-  pub sizes-no : (rest : ℕ) → (sizeQuestion W H L ≡ 0 → ⊥) → sizeQuestions W H L a b c rest ≡ sizeQuestion W H L
-  unfolding sizeQuestions
-  sizes-no rest n = size-no W H L _ n
-
-  sizes-five : (rest : ℕ) → sizeQuestion W H L ≡ 0 → roomy W H a b c ≡ false → sizeQuestions W H L a b c rest ≡ 5
-  unfolding sizeQuestions roomy
-  sizes-five rest e f = size-yes W H L _ e ∙ simp f
-
-  sizes-yes : (rest : ℕ) → sizeQuestion W H L ≡ 0 → roomy W H a b c ≡ true → sizeQuestions W H L a b c rest ≡ rest
-  unfolding sizeQuestions roomy
-  sizes-yes rest e f = size-yes W H L _ e ∙ simp f
-
-  module _ (rest : ℕ) (e : sizeQuestion W H L ≡ 0) where
-    pub short-first : a < W * H → 5 ≡ sizeQuestions W H L a b c rest
-    unfolding roomy
-    short-first h = sym (sizes-five rest e (simp (lt-leb (W * H) a h)))
-
-    pub short-second : W * H ≤ a → b < W * H → 5 ≡ sizeQuestions W H L a b c rest
-    unfolding roomy
-    short-second h i = sym (sizes-five rest e (simp (le-leb (W * H) a h, lt-leb (W * H) b i)))
-
-    pub short-third : W * H ≤ a → W * H ≤ b → c < W * H → 5 ≡ sizeQuestions W H L a b c rest
-    unfolding roomy
-    short-third h i j = sym (sizes-five rest e (simp (le-leb (W * H) a h, le-leb (W * H) b i, lt-leb (W * H) c j)))
-
-    pub long-enough : W * H ≤ a → W * H ≤ b → W * H ≤ c → sizeQuestions W H L a b c rest ≡ rest
-    unfolding roomy
-    long-enough h i j = sizes-yes rest e (simp (le-leb (W * H) a h, le-leb (W * H) b i, le-leb (W * H) c j))
-
--- all four answered yes
-pub record Roomy (W H L a b c : ℕ) : Type 0 where
-  pub size : Sized W H L
-  pub first : W * H ≤ a
-  pub second : W * H ≤ b
-  pub third : W * H ≤ c
-
-module _ (W H L a b c : ℕ) where
-  abbrev asked : ℕ → ℕ
-  asked = sizeQuestions W H L a b c
-
-  pub roomy-is : asked 0 ≡ 0 → Roomy W H L a b c
-  roomy-is e =
-      elim (ℕ-discrete (sizeQuestion W H L) 0) [
-        | no d ↦ absurd (d (sym (sizes-no W H L a b c 0 d) ∙ e))
-        | yes s ↦
-            elim (decLt a (W * H)) [
-              | yes h ↦ absurd (omega (arith, short-first W H L a b c 0 s h))
-              | no h ↦
-                  elim (decLt b (W * H)) [
-                    | yes i ↦ absurd (omega (arith, short-second W H L a b c 0 s (omega arith) i))
-                    | no i ↦
-                        elim (decLt c (W * H)) [
-                          | yes j ↦ absurd (omega (arith, short-third W H L a b c 0 s (omega arith) (omega arith) j))
-                          | no j ↦ record { size = sized W H L s; first = omega arith; second = omega arith; third = omega arith }
-                        ]
-                  ]
-            ]
-      ]
-
-  -- what follows is asked exactly where they are
-  pub asked-on : (rest : ℕ) → asked 0 ≡ 0 → asked rest ≡ rest
-  asked-on rest e =
-      let r = roomy-is e in
-      elim (ℕ-discrete (sizeQuestion W H L) 0) [
-        | no d ↦ absurd (d (sym (sizes-no W H L a b c 0 d) ∙ e))
-        | yes s ↦ long-enough W H L a b c rest s (r .first) (r .second) (r .third)
-      ]
-
-  pub asked-no : (rest : ℕ) → (asked 0 ≡ 0 → ⊥) → asked rest ≡ asked 0
-  asked-no rest n =
-      elim (ℕ-discrete (sizeQuestion W H L) 0) [
-        | no d ↦ sizes-no W H L a b c rest d ∙ sym (sizes-no W H L a b c 0 d)
-        | yes s ↦
-            elim (decLt a (W * H)) [
-              | yes h ↦ sym (short-first W H L a b c rest s h) ∙ short-first W H L a b c 0 s h
-              | no h ↦
-                  elim (decLt b (W * H)) [
-                    | yes i ↦ sym (short-second W H L a b c rest s (omega arith) i) ∙ short-second W H L a b c 0 s (omega arith) i
-                    | no i ↦
-                        elim (decLt c (W * H)) [
-                          | yes j ↦ sym (short-third W H L a b c rest s (omega arith) (omega arith) j) ∙
-                              short-third W H L a b c 0 s (omega arith) (omega arith) j
-                          | no j ↦ absurd (n (long-enough W H L a b c 0 s (omega arith) (omega arith) (omega arith)))
-                        ]
-                  ]
-            ]
-      ]
-
-  pub asked-few : asked 0 ≤ 5
-  unfolding sizeQuestions
-  asked-few =
-      few (within 1 maxWidth W) (within 1 maxHeight H) (within 1 maxLevels L) (both (leb (W * H) a) (both (leb (W * H) b) (leb (W * H) c)))
-    where
-      few : (p q r s : Bool) → ask p 2 (ask q 3 (ask r 4 (ask s 5 0))) ≤ 5
-      few true true true true = omega arith
-      few true true true false = omega arith
-      few true true false s = omega arith
-      few true false r s = omega arith
-      few false q r s = omega arith
 
 -- ---- the areas by the answer
 module _ (n : ℕ) (y x : ℕ → ℤ) where

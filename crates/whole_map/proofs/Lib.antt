@@ -13,9 +13,8 @@ pub mod ForwardCalls
 pub mod BackPass
 pub mod LevelSteps
 pub mod ForwardSteps
-pub mod CallLaws
-pub mod Demand2
 pub mod ByFilterLaws
-pub mod QuestionBy
+pub mod QuestionLaws
+pub mod CallLaws
 pub mod NineSevenBack
-pub mod Demand2By
+pub mod Demand2

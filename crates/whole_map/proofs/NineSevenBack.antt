@@ -4,7 +4,6 @@ use mathlib.Core.Bool.{Bool, true, false}
 use mathlib.Core.List.{List}
 use Prim.Native.Nat.{ℕ, _+_, _-_, _*_, _/_, _%_, _≤_, _<_}
 use native.Mathlib.Nat.{div-add-mod'}
-use native.Mathlib.Decide.{decLt}
 use native.Mathlib.Omega.{arith}
 use lib.IntN.{ℤ}
 use lib.Dec.{eqb}
@@ -18,9 +17,8 @@ use Rattle.numbers.specs.Word.{wrap32}
 use Rattle.lifting.specs.Line.{lo}
 use Rattle.lifting.specs.Grid.{Side, side, count, parted, loneHigh, isEven}
 use Rattle.lifting.specs.GridHalves.{hasLineIn}
-use Rattle.lifting.specs.Filter.{Filter, lineBackBy}
+use Rattle.lifting.specs.Filter.{lineBackBy}
 use Rattle.lifting.proofs.LoneLaws.{lone-high}
-use Rattle.lifting.proofs.GridLaws.{counts}
 use Rattle.lifting.proofs.RowLaws.{row-fits}
 use Rattle.nine_seven.specs.NineSeven.{lineBack}
 use Rattle.nine_seven.specs.Memory.{unliftedInPlace}
@@ -29,12 +27,12 @@ use Rattle.nine_seven_sweep.specs.Columns.{column, columnsBy, columnsBack, colu
 use Rattle.areas.proofs.AreaLaws.{did}
 use Rattle.wavelet.specs.Bands.{Grid}
 use Rattle.wavelet.specs.Plane.{cells, flat}
-use Rattle.wavelet.proofs.GridLaws.{cells-flat, flat-at}
+use Rattle.wavelet.proofs.GridLaws.{cells-flat}
 use Rattle.whole_map.specs.Rowwise.{cut}
 use Rattle.whole_map.specs.Passes.{Rows, KeptFrom, within, isLow, planeRow, rowsMapped, rowsFetched}
 use Rattle.whole_map.specs.ByFilter.{unliftedBy, columnsUnliftedBy, levelUnliftedBy, rowCopied}
 use Rattle.whole_map.specs.LevelPasses.{rowsEven, columnsEven, LevelMadeBy}
-use Rattle.whole_map.proofs.GridSweep.{RowSwept, Passed, row-length, lent-row, map-turn, within-wide, within-past}
+use Rattle.whole_map.proofs.GridSweep.{RowSwept, Passed, row-length, lent-row, map-turn, within-wide}
 use Rattle.whole_map.proofs.RowwiseLaws.{window-cut}
 use Rattle.whole_map.proofs.CellLaws.{flat-same, fetched-new, fetched-made, fetched-out, mapped-out, kept-flat, kept-then, placed-in}
 use Rattle.whole_map.proofs.LevelCalls.{mapped-same, copy-turn, made-few}

@@ -1,5 +1,5 @@
 -- A level where it stands, by any filter F: rows in halves, each of them in halves. A number stands for a filter (document 02, Q-8).
-use Prim.Native.Nat.{ℕ, zero, suc, _+_, _-_, _*_}
+use Prim.Native.Nat.{ℕ, _+_, _-_, _*_}
 use lib.IntN.{ℤ}
 use Rattle.numbers.specs.Signal.{pick, windowed, spliced}
 use Rattle.numbers.specs.Word.{wrap32}

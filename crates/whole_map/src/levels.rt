@@ -4,6 +4,7 @@
 // The module is private: only this crate, which meets what is required, can call it.
 use crate::passes;
 use crate::rowwise;
+use filters::figures;
 use lifting::halves;
 use lifting::rows;
 use lifting::sample;
@@ -20,10 +21,9 @@ ghost use Rattle.numbers.specs.Tests.{every};
 ghost use Rattle.lifting.specs.Line.{lo};
 ghost use Rattle.lifting.specs.Grid.{side, count, loneHigh, isEven};
 ghost use Rattle.lifting.specs.GridHalves.{unliftedInPlace, hasLineIn, highsLaid};
-ghost use Rattle.lifting.specs.FiveThree.{fiveThreeFilter};
 ghost use Rattle.nine_seven.specs.Memory.{unliftedInPlace as nineSevenBack};
 ghost use Rattle.nine_seven.specs.NineSevenFilter.{nineSevenFilter};
-ghost use Rattle.wavelet.specs.Limits.{maxWidth, maxLevels, range};
+ghost use Rattle.wavelet.specs.Limits.{maxWidth, range};
 ghost use Rattle.wavelet.specs.Plane.{cells, flat};
 ghost use Rattle.wavelet.specs.Questions.{Sized};
 ghost use Rattle.whole_map.specs.Rowwise.{partedInPlace, wovenInPlace, halvedInPlace};
@@ -229,37 +229,15 @@ pub fn forward_levels(
     forward_levels(plane, work, across, u, w, v, h, levels - 1, filter);
 }
 
-// The largest magnitude of a level's numbers by the 9/7, and by the filter of a number.
-fn nine_seven_range(level: usize) -> i32
-    requires { ⌜ level ≤ nineSevenFilter .levels ⌝ }
-    ensures { λ r. ⌜ r ≡ pos (range nineSevenFilter level) ⌝ }
-{
-    if level == 0 {
-        return 65535;
-    }
-    if level == 1 {
-        return 393210;
-    }
-    if level == 2 {
-        return 2359260;
-    }
-    if level == 3 {
-        return 14155560;
-    }
-    84933360
-}
-
+// The largest magnitude of a level's numbers.
 fn range_by(level: usize, filter: usize) -> i32
     requires { ⌜ level ≤ filterOf filter .levels ⌝ }
     ensures { λ r. ⌜ r ≡ pos (range (filterOf filter) level) ⌝ }
 {
-    if filter == 0 {
-        return sizes::range_of(level);
-    }
-    nine_seven_range(level)
+    figures::range_of(filter, level)
 }
 
-// The largest magnitude of a level's numbers, as the least of them.
+// And as the least of them.
 fn lowest(level: usize, filter: usize) -> i32
     requires { ⌜ level ≤ filterOf filter .levels ⌝ }
     ensures { λ r. ⌜ r ≡ negℤ (pos (range (filterOf filter) level)) ⌝ }

@@ -4,6 +4,7 @@ mod levels;
 mod passes;
 mod rowwise;
 
+use filters::figures;
 use wavelet::limits;
 use wavelet::shape::Shape;
 ghost use mathlib.Core.Path.{_≡_};
@@ -13,21 +14,47 @@ ghost use Rattle.numbers.specs.Signal.{at};
 ghost use Rattle.numbers.specs.Word.{whole, wrap32};
 ghost use Rattle.lifting.specs.Halves.{fronted};
 ghost use Rattle.lifting.specs.Grid.{side};
-ghost use Rattle.lifting.specs.FiveThree.{fiveThreeFilter};
 ghost use Rattle.wavelet.specs.Plane.{cells, flat, planeOf, mapBack};
 ghost use Rattle.wavelet.specs.Questions.{Sized};
 ghost use Rattle.wavelet.specs.Shape.{columns, rows};
 ghost use Rattle.whole_map.specs.Rowwise.{heightsAt};
 ghost use Rattle.whole_map.specs.ByFilter.{filterOf};
 ghost use Rattle.whole_map.specs.LevelPasses.{MapRebuilt};
-ghost use Rattle.whole_map.specs.Calls.{sizeQuestions, sizeQuestionsBy, forwardQuestion, planeQuestions, backwardQuestion};
-ghost use Rattle.whole_map.specs.Calls.{backwardQuestionBy, zeros, passed, rebuilt};
+ghost use Rattle.whole_map.specs.Calls.{shapeQuestions, sizeQuestions, forwardQuestion, planeQuestions, backwardQuestion};
+ghost use Rattle.whole_map.specs.Calls.{zeros, passed, rebuilt};
 
-// Questions 2 to 5: 0, or the number of the first that says no. a, b and c are the lengths of the areas.
-fn size_question(width: usize, height: usize, levels: usize, a: usize, b: usize, c: usize) -> u8
-    ensures { λ r. ⌜ r ≡ sizeQuestions width height levels a b c 0 ⌝ }
+// Questions 2, 3, 18 and 4: 0, or the number of the first that says no.
+fn shape_question(filter: usize, width: usize, height: usize, levels: usize) -> u8
+    ensures { λ r. ⌜ r ≡ shapeQuestions filter width height levels 0 ⌝ }
 {
-    let q = limits::size_question(width, height, levels);
+    if !limits::is_within(width, limits::MAX_WIDTH) {
+        return 2;
+    }
+    if !limits::is_within(height, limits::MAX_HEIGHT) {
+        return 3;
+    }
+    if !figures::is_filter(filter) {
+        return 18;
+    }
+    if !limits::is_within(levels, figures::most_levels(filter)) {
+        return 4;
+    }
+    0
+}
+
+// And question 5: a, b and c are the lengths of the areas.
+fn size_question(
+    filter: usize,
+    width: usize,
+    height: usize,
+    levels: usize,
+    a: usize,
+    b: usize,
+    c: usize,
+) -> u8
+    ensures { λ r. ⌜ r ≡ sizeQuestions filter width height levels a b c 0 ⌝ }
+{
+    let q = shape_question(filter, width, height, levels);
     if q != 0 {
         return q;
     }
@@ -68,88 +95,19 @@ fn transform(
     areas::copies::clear(work, width * height);
 }
 
-// The plane of a map of heights, by the levels of T.800. It answers 0, or the number of the question that turned it away.
+// The plane of a map of heights, by the filter of its shape. It answers 0, or the number of the question that turned it away.
 pub fn forward(heights: &[u16], shape: Shape, plane: &mut [i32], work: &mut [i32]) -> u8
     ensures { λ r. ⌜ r ≡
-        forwardQuestion (columns shape) (rows shape) (shape .levels) (length (now (heights .entry))) (length (now (plane .entry)))
+        forwardQuestion (shape .filter) (columns shape) (rows shape) (shape .levels) (length (now (heights .entry))) (length (now (plane .entry)))
         (length (now (work .entry))) ⌝ }
     ensures { λ r. ⌜ at (now (plane .exit)) ≡
         passed r (shape .width * shape .height)
-        (planeOf fiveThreeFilter whole (shape .levels) (columns shape) (rows shape) (cells (shape .width) (heightsAt (now (heights .entry)))))
+        (planeOf (filterOf (shape .filter)) whole (shape .levels) (columns shape) (rows shape) (cells (shape .width) (heightsAt (now (heights .entry)))))
         (at (now (plane .entry))) ⌝ }
     ensures { λ r. ⌜ at (now (work .exit)) ≡ passed r (shape .width * shape .height) zeros (at (now (work .entry))) ⌝ }
 {
+    let filter = shape.filter as usize;
     let q = size_question(
-        shape.width,
-        shape.height,
-        shape.levels,
-        heights.len(),
-        plane.len(),
-        work.len(),
-    );
-    if q != 0 {
-        return q;
-    }
-    transform(
-        heights,
-        shape.x as usize,
-        shape.width,
-        shape.y as usize,
-        shape.height,
-        shape.levels,
-        plane,
-        work,
-        0,
-    );
-    0
-}
-
-// Questions 2, 3, 18, 4 and 5, for the filter of a number.
-fn question_by(
-    filter: usize,
-    width: usize,
-    height: usize,
-    levels: usize,
-    a: usize,
-    b: usize,
-    c: usize,
-) -> u8
-    ensures { λ r. ⌜ r ≡ sizeQuestionsBy filter width height levels a b c ⌝ }
-{
-    if filter == 0 {
-        return size_question(width, height, levels, a, b, c);
-    }
-    let q = limits::size_question(width, height, 1);
-    if q != 0 {
-        return q;
-    }
-    if 1 < filter {
-        return 18;
-    }
-    if 4 < levels {
-        return 4;
-    }
-    size_question(width, height, levels, a, b, c)
-}
-
-// The plane of a map of heights by the filter of a number. It answers 0, or the number of the question that turned it away.
-pub fn forward_by(
-    filter: usize,
-    heights: &[u16],
-    shape: Shape,
-    plane: &mut [i32],
-    work: &mut [i32],
-) -> u8
-    ensures { λ r. ⌜ r ≡
-        sizeQuestionsBy filter (shape .width) (shape .height) (shape .levels) (length (now (heights .entry))) (length (now (plane .entry)))
-        (length (now (work .entry))) ⌝ }
-    ensures { λ r. ⌜ at (now (plane .exit)) ≡
-        passed r (shape .width * shape .height)
-        (planeOf (filterOf filter) whole (shape .levels) (columns shape) (rows shape) (cells (shape .width) (heightsAt (now (heights .entry)))))
-        (at (now (plane .entry))) ⌝ }
-    ensures { λ r. ⌜ at (now (work .exit)) ≡ passed r (shape .width * shape .height) zeros (at (now (work .entry))) ⌝ }
-{
-    let q = question_by(
         filter,
         shape.width,
         shape.height,
@@ -241,60 +199,20 @@ fn restore(
     0
 }
 
-// The map that has a plane. It answers 0, or the number of the question that turned it away: 7 or 14 where no map has it.
+// The map that has a plane, by the filter of its shape. It answers 0, or the number of the question that turned it away: 7 or 14 where no map has it.
 pub fn backward(plane: &[i32], shape: Shape, heights: &mut [u16], work: &mut [i32]) -> u8
     ensures { λ r. ⌜ r ≡
-        backwardQuestion (columns shape) (rows shape) (shape .levels) (length (now (plane .entry))) (length (now (heights .entry)))
+        backwardQuestion (shape .filter) (columns shape) (rows shape) (shape .levels) (length (now (plane .entry))) (length (now (heights .entry)))
         (length (now (work .entry))) (cells (shape .width) (at (now (plane .entry)))) ⌝ }
     ensures { λ r. ⌜ heightsAt (now (heights .exit)) ≡
         rebuilt r (shape .width * shape .height)
-        (flat (shape .width) (mapBack fiveThreeFilter wrap32 (shape .levels) (columns shape) (rows shape) (cells (shape .width) (at (now (plane .entry))))))
-        (heightsAt (now (heights .entry))) ⌝ }
-    ensures { λ r. ⌜ at (now (work .exit)) ≡ rebuilt r (shape .width * shape .height) zeros (at (now (work .entry))) ⌝ }
-{
-    let q = size_question(
-        shape.width,
-        shape.height,
-        shape.levels,
-        plane.len(),
-        heights.len(),
-        work.len(),
-    );
-    if q != 0 {
-        return q;
-    }
-    restore(
-        plane,
-        shape.x as usize,
-        shape.width,
-        shape.y as usize,
-        shape.height,
-        shape.levels,
-        heights,
-        work,
-        0,
-    )
-}
-
-// The same by the filter of a number.
-pub fn backward_by(
-    filter: usize,
-    plane: &[i32],
-    shape: Shape,
-    heights: &mut [u16],
-    work: &mut [i32],
-) -> u8
-    ensures { λ r. ⌜ r ≡
-        backwardQuestionBy filter (columns shape) (rows shape) (shape .levels) (length (now (plane .entry))) (length (now (heights .entry)))
-        (length (now (work .entry))) (cells (shape .width) (at (now (plane .entry)))) ⌝ }
-    ensures { λ r. ⌜ heightsAt (now (heights .exit)) ≡
-        rebuilt r (shape .width * shape .height)
-        (flat (shape .width) (mapBack (filterOf filter) wrap32 (shape .levels) (columns shape) (rows shape)
+        (flat (shape .width) (mapBack (filterOf (shape .filter)) wrap32 (shape .levels) (columns shape) (rows shape)
         (cells (shape .width) (at (now (plane .entry))))))
         (heightsAt (now (heights .entry))) ⌝ }
     ensures { λ r. ⌜ at (now (work .exit)) ≡ rebuilt r (shape .width * shape .height) zeros (at (now (work .entry))) ⌝ }
 {
-    let q = question_by(
+    let filter = shape.filter as usize;
+    let q = size_question(
         filter,
         shape.width,
         shape.height,

@@ -1,29 +1,27 @@
 -- `backward` meets its contract: the questions of the sizes, and then those of the plane. Assumes nothing.
 use mathlib.Core.Path.{sym, _∙_}
-use Prim.Native.Nat.{_≤_}
-use native.Mathlib.Omega.{arith}
-use lib.ListN.{length}
-use Rattle.wavelet.proofs.LimitLaws.{five-three-few}
-use Rattle.whole_map.specs.ByFilter.{filterOf}
 use Rattle.whole_map.specs.Calls.{backwardQuestion}
-use Rattle.whole_map.proofs.CallLaws.{roomy-is, asked-on, asked-no, asked-few, rebuilt-no}
+use Rattle.whole_map.proofs.QuestionLaws.{roomy-is, asked-on, asked-no, never-fourteen}
+use Rattle.whole_map.proofs.CallLaws.{rebuilt-no}
 use borrow.Author.Needs.{needs}
 use Rattle.whole_map.proofs.backward.Statement.{statement}
 use Rattle.whole_map.proofs.backward.Tie as tie
 
+cast-filter : tie.Need-cast-filter
+cast-filter c = search needs
+
 size-question-requires : tie.Need-size-question-requires
-size-question-requires c κs = search needs
+size-question-requires c κs = tt
 
 returns : tie.Need-returns
 unfolding backwardQuestion
 returns c =
-    let a = c .before .before .before .args in
-    let s = a .shape in
-    let q = c .before .size-question .ensures in
-    let few : c .before .size-question .result ≤ 5 = rw q
-    (asked-few (s .width) (s .height) (s .levels) (length (a .plane .now)) (length (a .heights .now)) (length (a .work .now))) in (
-      q ∙ sym (asked-no (s .width) (s .height) (s .levels) _ _ _ _ (λ e. c .if1 .taken (q ∙ e))),
-      (rebuilt-no _ _ _ _ (c .if1 .taken) (λ e. omega arith), rebuilt-no _ _ _ _ (c .if1 .taken) (λ e. omega arith)),
+    let q = c .before .size-question .ensures in (
+      q ∙ sym (asked-no _ _ _ _ _ _ _ _ (λ e. c .if1 .taken (q ∙ e))),
+      (
+        rebuilt-no _ _ _ _ (c .if1 .taken) (λ e. never-fourteen _ _ _ _ _ _ _ (sym q ∙ e)),
+        rebuilt-no _ _ _ _ (c .if1 .taken) (λ e. never-fourteen _ _ _ _ _ _ _ (sym q ∙ e)),
+      ),
     )
 
 cast-restore : tie.Need-cast-restore
@@ -33,11 +31,10 @@ cast-restore-2 : tie.Need-cast-restore-2
 cast-restore-2 c = search needs
 
 restore-requires : tie.Need-restore-requires
-unfolding filterOf
 restore-requires c κs =
     let q = c .before .before .before .before in
-    let r = roomy-is _ _ _ _ _ _ (sym (q .before .size-question .ensures) ∙ q .if1 .left) in
-    (r .size, r .first, r .second, r .third, five-three-few (r .size .levels .1))
+    let r = roomy-is _ _ _ _ _ _ _ (sym (q .before .size-question .ensures) ∙ q .if1 .left) in
+    (r .size, r .first, r .second, r .third, r .few)
 
 same-length : tie.Need-same-length
 same-length c = search needs
@@ -46,15 +43,15 @@ same-length-2 : tie.Need-same-length-2
 same-length-2 c = search needs
 
 returns-2 : tie.Need-returns-2
-unfolding backwardQuestion filterOf
+unfolding backwardQuestion
 returns-2 c =
     let made = c .before .before .before in
     let q = made .before .before .before .before .before in (
-      made .restore .ensures .0 ∙ sym (asked-on _ _ _ _ _ _ _ (sym (q .before .size-question .ensures) ∙ q .if1 .left)),
+      made .restore .ensures .0 ∙ sym (asked-on _ _ _ _ _ _ _ _ (sym (q .before .size-question .ensures) ∙ q .if1 .left)),
       made .restore .ensures .1,
     )
 
 pub backward-spec : {M : Type 1} → statement M
 backward-spec =
     tie.close
-    (tie.spec size-question-requires returns cast-restore cast-restore-2 restore-requires same-length same-length-2 returns-2)
+    (tie.spec cast-filter size-question-requires returns cast-restore cast-restore-2 restore-requires same-length same-length-2 returns-2)

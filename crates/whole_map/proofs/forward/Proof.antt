@@ -1,15 +1,17 @@
 -- `forward` meets its contract: the questions, and then the transform. Assumes nothing.
 use mathlib.Core.Path.{refl, sym, _∙_}
-use Rattle.wavelet.proofs.LimitLaws.{five-three-few}
-use Rattle.whole_map.specs.ByFilter.{filterOf}
 use Rattle.whole_map.specs.Calls.{forwardQuestion}
-use Rattle.whole_map.proofs.CallLaws.{roomy-is, passed-no, passed-yes}
+use Rattle.whole_map.proofs.QuestionLaws.{roomy-is}
+use Rattle.whole_map.proofs.CallLaws.{passed-no, passed-yes}
 use borrow.Author.Needs.{needs}
 use Rattle.whole_map.proofs.forward.Statement.{statement}
 use Rattle.whole_map.proofs.forward.Tie as tie
 
+cast-filter : tie.Need-cast-filter
+cast-filter c = search needs
+
 size-question-requires : tie.Need-size-question-requires
-size-question-requires c κs = search needs
+size-question-requires c κs = tt
 
 returns : tie.Need-returns
 unfolding forwardQuestion
@@ -23,11 +25,10 @@ cast-transform-2 : tie.Need-cast-transform-2
 cast-transform-2 c = search needs
 
 transform-requires : tie.Need-transform-requires
-unfolding filterOf
 transform-requires c κs =
     let q = c .before .before .before .before in
-    let r = roomy-is _ _ _ _ _ _ (sym (q .before .size-question .ensures) ∙ q .if1 .left) in
-    (r .size, r .first, r .second, r .third, five-three-few (r .size .levels .1))
+    let r = roomy-is _ _ _ _ _ _ _ (sym (q .before .size-question .ensures) ∙ q .if1 .left) in
+    (r .size, r .first, r .second, r .third, r .few)
 
 same-length : tie.Need-same-length
 same-length c = search needs
@@ -36,7 +37,7 @@ same-length-2 : tie.Need-same-length-2
 same-length-2 c = search needs
 
 returns-2 : tie.Need-returns-2
-unfolding forwardQuestion filterOf
+unfolding forwardQuestion
 returns-2 c =
     let made = c .before .before in
     let q = made .before .before .before .before .before in (
@@ -48,6 +49,7 @@ pub forward-spec : {M : Type 1} → statement M
 forward-spec =
     tie.close
     (tie.spec
+    cast-filter
     size-question-requires
     returns
     cast-transform

@@ -12,6 +12,8 @@ use Rattle.areas.proofs.AreaLaws.{did}
 use Rattle.level.specs.Rebuilding.{widest}
 use Rattle.level.proofs.WorkLaws.{told-no, told-yes}
 use Rattle.wavelet.proofs.StoreLaws.{first-room}
+use Rattle.nine_seven.specs.Filters.{filterOf}
+use Rattle.filters.proofs.FigureLaws.{row-few}
 use Rattle.reader.specs.State.{columns, rows}
 use Rattle.reader.proofs.EnterLaws.{dive-level}
 use Rattle.reader.proofs.QuestionLaws.{counts-small, counts-length, store-in, due-in}
@@ -90,7 +92,7 @@ add-e c =
     let s = a .self in
     let one = store-in s _ (sym (ok .before .store-question .ensures) ∙ ok .if1 .left) in
     let shape = counts-small s (one .0) in
-    omega (arith, shape .0, c .row-place .ensures .1)
+    omega (arith, shape .0, c .row-place .ensures .1, row-few (s .filter) (s .width))
 
 mul-draw-heights : tie.Need-mul-draw-heights
 mul-draw-heights c =
@@ -103,7 +105,7 @@ mul-draw-heights c =
     let s = a .self in
     let one = store-in s _ (sym (ok .before .store-question .ensures) ∙ ok .if1 .left) in
     let shape = counts-small s (one .0) in
-    omega (arith, shape .0, c .row-place .ensures .1)
+    omega (arith, shape .0, c .row-place .ensures .1, row-few (s .filter) (s .width))
 
 sub-draw-heights : tie.Need-sub-draw-heights
 sub-draw-heights c = omega arith
@@ -119,7 +121,8 @@ part-draw-heights-start c =
     let s = a .self in
     let one = store-in s _ (sym (ok .before .store-question .ensures) ∙ ok .if1 .left) in
     let shape = counts-small s (one .0) in
-    omega (arith, shape .0, c .before .row-place .ensures .1, one .1, first-room (columns s) (s .levels) (one .0 .deep .0), call .settle-all .kept .1 .0)
+    let room = first-room (filterOf (s .filter) .rows) (columns s) (s .levels) (one .0 .deep .0) in
+    omega (arith, shape .0, c .before .row-place .ensures .1, one .1, room, call .settle-all .kept .1 .0)
 
 part-draw-heights-end : tie.Need-part-draw-heights-end
 part-draw-heights-end c =
@@ -132,7 +135,8 @@ part-draw-heights-end c =
     let s = a .self in
     let one = store-in s _ (sym (ok .before .store-question .ensures) ∙ ok .if1 .left) in
     let shape = counts-small s (one .0) in
-    omega (arith, shape .0, c .before .row-place .ensures .1, one .1, first-room (columns s) (s .levels) (one .0 .deep .0), call .settle-all .kept .1 .0)
+    let room = first-room (filterOf (s .filter) .rows) (columns s) (s .levels) (one .0 .deep .0) in
+    omega (arith, shape .0, c .before .row-place .ensures .1, one .1, room, call .settle-all .kept .1 .0)
 
 draw-heights-requires : tie.Need-draw-heights-requires
 draw-heights-requires c κs = tt
@@ -162,7 +166,7 @@ dive-from-requires c κs =
     let one = store-in s _ (sym (ok .before .store-question .ensures) ∙ ok .if1 .left) in
     let shape = counts-small s (one .0) in
     let draws = due-in s (sym (due .before .draw-due .ensures) ∙ not-false _ (due .if2 .left)) in
-    (omega arith, one .0 .deep .1, shape .0, shape .2, omega (arith, draws .0))
+    (omega arith, one .0 .few, shape .0, shape .2, omega (arith, draws .0))
 
 moved-requires : tie.Need-moved-requires
 moved-requires c κs =
@@ -176,9 +180,9 @@ moved-requires c κs =
     let one = store-in s _ (sym (ok .before .store-question .ensures) ∙ ok .if1 .left) in
     let shape = counts-small s (one .0) in
     let draws = due-in s (sym (due .before .draw-due .ensures) ∙ not-false _ (due .if2 .left)) in
-    let deep = dive-level (s .levels - 0) 0 (columns s) (rows s) (s .drawn + 1) (s .drawn + 1) in (
+    let deep = dive-level (s .filter) (s .levels - 0) 0 (columns s) (rows s) (s .drawn + 1) (s .drawn + 1) in (
       (shape .0, shape .1, shape .2, shape .3, omega (arith, draws .0)),
-      omega (arith, deep, c .dive-from .ensures .level, one .0 .deep .1),
+      omega (arith, deep, c .dive-from .ensures .level, one .0 .few),
     )
 
 same-length : tie.Need-same-length
@@ -206,7 +210,7 @@ returns-4 c =
     let p = place .row-place .result in
     let y = call .settle-all .last .1 .0 in
     let w = s .width in
-    let room = first-room (columns s) (s .levels) (one .0 .deep .0) in
+    let room = first-room (filterOf (s .filter) .rows) (columns s) (s .levels) (one .0 .deep .0) in
     let stands = did _ _ _ _ (le-leb w widest (counts-small s (one .0) .0)) (place .row-place .ensures .0) in
     let part : p + (p + w - p) ≤ length y = omega (arith, place .row-place .ensures .1, one .1, room, call .settle-all .kept .1 .0) in
     let fits-out = le-leb (length (midOf p (p + w - p) y)) m (omega (arith, length-mid p (p + w - p) y part)) in
@@ -216,7 +220,7 @@ returns-4 c =
     (draw-yes s _ _ _ _ _ _
     (fits-yes _ _ made ∙ draw-last s n m (at (a .store .now)) (sym (ok .before .store-question .ensures) ∙ ok .if1 .left) is-due (omega arith))
     is-due
-    (drawn-reader s (c .moved .result) _ (enter .dive-from .result) refl (enter-is _ _ _ _ _ (enter .dive-from .ensures)) (c .moved .ensures))
+    (drawn-reader s (c .moved .result) _ (enter .dive-from .result) refl (enter-is _ _ _ _ _ _ (enter .dive-from .ensures)) (c .moved .ensures))
     made
     (drawn-row s p (p + w - p) y _ _ stands (omega arith) part (did _ _ _ _ fits-out (drawing .draw-heights .ensures .1))))
 
@@ -255,7 +259,7 @@ returns-5 c =
     (fits-no _ made ∙ draw-last s n m (at (a .store .now)) (sym (ok .before .store-question .ensures) ∙ ok .if1 .left)
     (sym (due .before .draw-due .ensures) ∙ not-false _ (due .if2 .left)) (omega arith))
     (c .over .ensures)
-    (zero-kept (columns s) (s .levels) _ _ _ _ long-is (call .settle-all .ensures .1) (did _ _ _ _ room (clear .clear .ensures .1))))
+    (zero-kept _ (columns s) (s .levels) _ _ _ _ long-is (call .settle-all .ensures .1) (did _ _ _ _ room (clear .clear .ensures .1))))
 
 pub draw-spec : {M : Type 1} → statement M
 draw-spec =

@@ -86,9 +86,9 @@ moved-requires c κs =
     let ok = next .before in
     let s = ok .before .before .args .self in
     let one = store-in s _ (sym (ok .before .store-question .ensures) ∙ ok .if1 .left) in
-    let deep = fed-level (columns s) (rows s) (s .levels) (state.next s .level) (state.next s .set) (state.next s .band)
+    let deep = fed-level (s .filter) (columns s) (rows s) (s .levels) (state.next s .level) (state.next s .set) (state.next s .band)
     (omega (arith, near s .within, one .0 .at)) in
-    (counts-small s (one .0), omega (arith, deep, c .spot-fed .ensures .level, one .0 .deep .1))
+    (counts-small s (one .0), omega (arith, deep, c .spot-fed .ensures .level, one .0 .few))
 
 same-length : tie.Need-same-length
 same-length c = c .before .before .before .before .feed-row .kept .1 .0
@@ -147,7 +147,7 @@ returns-4 c =
     let made = told-no (call .feed-row .result) (at (call .feed-row .last .1 .0)) _ (call .feed-row .ensures .0) (failed .if3 .left) in
     let v = at (a .run .now) in
     let x = at (a .store .now) in
-    let zeroed = zero-kept (columns s) (s .levels) _ _ _ _ long-is (call .feed-row .ensures .1) (did _ _ _ _ room (clear .clear .ensures .1)) in
+    let zeroed = zero-kept _ (columns s) (s .levels) _ _ _ _ long-is (call .feed-row .ensures .1) (did _ _ _ _ room (clear .clear .ensures .1)) in
     feed-also (a .self) n m x v (feed-end s _ _ _ _ _ (fits-no _ made ∙ feed-last s n m v x one two) (c .over .ensures) zeroed)
 
 pub feed-spec : {M : Type 1} → statement M

@@ -9,9 +9,11 @@ use borrow.Author.Needs.{needs}
 use borrow.Author.Tests.{le-leb}
 use Rattle.numbers.specs.Signal.{at}
 use Rattle.lifting.specs.Grid.{side}
-use Rattle.wavelet.specs.Limits.{maxWidth, maxHeight, maxLevels}
+use Rattle.wavelet.specs.Limits.{maxWidth, maxHeight}
 use Rattle.wavelet.proofs.LimitLaws.{width-small, height-small}
 use Rattle.wavelet.proofs.QuestionLaws.{within-true}
+use Rattle.nine_seven.specs.Filters.{filterOf}
+use Rattle.filters.proofs.FigureLaws.{levels-most}
 use Rattle.areas.proofs.AreaLaws.{did}
 use Rattle.reader.proofs.StoreLaws.{length-is}
 use Rattle.reader.proofs.QuestionLaws.{up-in}
@@ -27,16 +29,19 @@ cast-x c = search needs
 cast-y : tie.Need-cast-y
 cast-y c = search needs
 
+cast-filter : tie.Need-cast-filter
+cast-filter c = search needs
+
 set-up-question-requires : tie.Need-set-up-question-requires
 set-up-question-requires c κs = tt
 
 returns : tie.Need-returns
 returns c =
-    let a = c .before .before .before .before .args in
+    let a = c .before .before .before .before .before .args in
     let W = side (a .map .x) (a .map .width) in
     let H = side (a .map .y) (a .map .height) in
-    set-up-also W H (a .map .levels) (length (a .store .now)) (at (a .store .now))
-    (set-up-no W H (a .map .levels) _ _ _ (c .before .set-up-question .ensures) (c .if1 .taken))
+    set-up-also _ W H (a .map .levels) (length (a .store .now)) (at (a .store .now))
+    (set-up-no _ W H (a .map .levels) _ _ _ (c .before .set-up-question .ensures) (c .if1 .taken))
 
 store-length-requires : tie.Need-store-length-requires
 store-length-requires c κs = tt
@@ -47,26 +52,26 @@ clear-requires c κs = tt
 dive-from-requires : tie.Need-dive-from-requires
 dive-from-requires c κs =
     let passed = c .before .before .before .before in
-    let a = passed .before .before .before .before .args in
-    let ok = up-in (side (a .map .x) (a .map .width)) (side (a .map .y) (a .map .height)) (a .map .levels) _
+    let a = passed .before .before .before .before .before .args in
+    let ok = up-in (a .map .filter) (side (a .map .x) (a .map .width)) (side (a .map .y) (a .map .height)) (a .map .levels) _
     (sym (passed .before .set-up-question .ensures) ∙ passed .if1 .left) in
     let w = within-true 1 maxWidth (a .map .width) (ok .0) in
-    let l = within-true 1 maxLevels (a .map .levels) (ok .1) in
+    let l = within-true 1 (filterOf (a .map .filter) .levels) (a .map .levels) (ok .1) in
     let h = within-true 1 maxHeight (a .map .height) (ok .3) in
-    (omega arith, l .1, omega (arith, w .1, width-small), omega (arith, h .1, height-small), omega arith)
+    (omega arith, omega (arith, l .1, levels-most (a .map .filter)), omega (arith, w .1, width-small), omega (arith, h .1, height-small), omega arith)
 
 moved-requires : tie.Need-moved-requires
 moved-requires c κs =
     let passed = c .before .before .before .before .before in
-    let a = passed .before .before .before .before .args in
-    let ok = up-in (side (a .map .x) (a .map .width)) (side (a .map .y) (a .map .height)) (a .map .levels) _
+    let a = passed .before .before .before .before .before .args in
+    let ok = up-in (a .map .filter) (side (a .map .x) (a .map .width)) (side (a .map .y) (a .map .height)) (a .map .levels) _
     (sym (passed .before .set-up-question .ensures) ∙ passed .if1 .left) in
     let w = within-true 1 maxWidth (a .map .width) (ok .0) in
-    let l = within-true 1 maxLevels (a .map .levels) (ok .1) in
+    let l = within-true 1 (filterOf (a .map .filter) .levels) (a .map .levels) (ok .1) in
     let h = within-true 1 maxHeight (a .map .height) (ok .3) in
-    let deep = dive-level (a .map .levels - 0) 0 (side (a .map .x) (a .map .width)) (side (a .map .y) (a .map .height)) 0 0 in (
+    let deep = dive-level (a .map .filter) (a .map .levels - 0) 0 (side (a .map .x) (a .map .width)) (side (a .map .y) (a .map .height)) 0 0 in (
       (omega (arith, w .1, width-small), omega arith, omega (arith, h .1, height-small), omega arith, omega arith),
-      omega (arith, l .1, deep, c .dive-from .ensures .level),
+      omega (arith, l .1, levels-most (a .map .filter), deep, c .dive-from .ensures .level),
     )
 
 same-length : tie.Need-same-length
@@ -78,12 +83,12 @@ returns-2 c =
     let call = dive .before .before in
     let long = call .before .before in
     let passed = long .before in
-    let a = passed .before .before .before .before .args in
+    let a = passed .before .before .before .before .before .args in
     let W = side (a .map .x) (a .map .width) in
     let H = side (a .map .y) (a .map .height) in
     let asked = sym (passed .before .set-up-question .ensures) ∙ passed .if1 .left in
-    let ok = up-in W H (a .map .levels) _ asked in
-    let n = long .store-length .ensures ∙ length-is W (a .map .levels) (ok .0) (ok .1) in
+    let ok = up-in _ W H (a .map .levels) _ asked in
+    let n = long .store-length .ensures ∙ length-is _ W (a .map .levels) (ok .4) (ok .0) (ok .1) in
     let room = le-leb (long .store-length .result) (length (a .store .now)) (omega (arith, ok .2, n)) in
     let s : Reader = record {
       width = a .map .width;
@@ -96,12 +101,13 @@ returns-2 c =
       back = 0;
       band = 0;
       ended = false;
+      filter = a .map .filter;
     } in
-    let there = fresh-at W H (a .map .levels) s (c .moved .result) (dive .dive-from .result)
-    (enter-is W H (a .map .levels) 0 _ (dive .dive-from .ensures)) refl refl
-    refl (c .moved .ensures) in
-    set-up-also W H (a .map .levels) (length (a .store .now)) (at (a .store .now))
-    (set-up-yes W H (a .map .levels) _ _ _ _ _ there asked n (did _ _ _ _ room (call .clear .ensures .1)))
+    let there = fresh-at _ W H (a .map .levels) s (c .moved .result) (dive .dive-from .result)
+    (enter-is _ W H (a .map .levels) 0 _ (dive .dive-from .ensures)) refl refl
+    refl refl (c .moved .ensures) in
+    set-up-also _ W H (a .map .levels) (length (a .store .now)) (at (a .store .now))
+    (set-up-yes _ W H (a .map .levels) _ _ _ _ _ there asked n (did _ _ _ _ room (call .clear .ensures .1)))
 
 pub set-up-spec : {M : Type 1} → statement M
 set-up-spec =
@@ -109,6 +115,7 @@ set-up-spec =
     (tie.spec
     cast-x
     cast-y
+    cast-filter
     set-up-question-requires
     returns
     store-length-requires

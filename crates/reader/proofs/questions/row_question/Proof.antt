@@ -43,7 +43,7 @@ returns-4 c =
     let start = some .before .before .before .before in
     let near = spot-in _ _ (start .pre .1 .spot) (omega arith) in
     let run = start .args .run .now in
-    let range = ap (λ k. runFits k (length run) (at run)) (sym (start .pre .1 .spot .level)) in
+    let range = ap (λ k. runFits (start .args .s .filter) k (length run) (at run)) (sym (start .pre .1 .spot .level)) in
     row-7 _ _ _ (omega arith) (near .2) (same .if3 .left ∙ same .before .row-length .ensures)
     (range ∙ sym (c .before .run-fits .ensures) ∙ not-true _ (c .if4 .taken))
 
@@ -54,7 +54,7 @@ returns-5 c =
     let start = some .before .before .before .before in
     let near = spot-in _ _ (start .pre .1 .spot) (omega arith) in
     let run = start .args .run .now in
-    let range = ap (λ k. runFits k (length run) (at run)) (sym (start .pre .1 .spot .level)) in
+    let range = ap (λ k. runFits (start .args .s .filter) k (length run) (at run)) (sym (start .pre .1 .spot .level)) in
     row-0 _ _ _ (omega arith) (near .2) (same .if3 .left ∙ same .before .row-length .ensures)
     (range ∙ sym (c .before .run-fits .ensures) ∙ not-false _ (c .if4 .left))
 

@@ -7,7 +7,7 @@ use Rattle.reader.proofs.sets.first_row.Statement.{statement}
 use Rattle.reader.proofs.sets.first_row.Tie as tie
 
 returns : tie.Need-returns
-returns c = let a = c .before .args in row-either (side (a .y) (a .h)) (a .n) (c .if1 .taken)
+returns c = let a = c .before .args in row-either (a .filter) (side (a .y) (a .h)) (a .n) (c .if1 .taken)
 
 look-ahead-requires : tie.Need-look-ahead-requires
 look-ahead-requires c κs = tt
@@ -35,7 +35,7 @@ returns-2 c =
     let h = row-high (side (a .y) (a .h)) (a .n) (some .if1 .left) in
     omega (
       arith,
-      row-some (side (a .y) (a .h)) (a .n) (t .less .result) (2 * t .less .result + 1 - a .y % 2) (h .0)
+      row-some (a .filter) (side (a .y) (a .h)) (a .n) (t .less .result) (2 * t .less .result + 1 - a .y % 2) (h .0)
           (omega (arith, t .less .ensures, t .before .look-ahead .ensures)) (omega arith),
     )
 
@@ -47,7 +47,7 @@ returns-3 c =
     let h = row-high (side (a .y) (a .h)) (a .n) (some .if1 .left) in
     omega (
       arith,
-      row-some (side (a .y) (a .h)) (a .n) (t .less .result) (2 * t .less .result + 1 - a .y % 2) (h .0)
+      row-some (a .filter) (side (a .y) (a .h)) (a .n) (t .less .result) (2 * t .less .result + 1 - a .y % 2) (h .0)
           (omega (arith, t .less .ensures, t .before .look-ahead .ensures)) (omega arith),
     )
 

@@ -9,7 +9,7 @@ use Rattle.reader.proofs.sets.goes_down.Statement.{statement}
 use Rattle.reader.proofs.sets.goes_down.Tie as tie
 
 returns : tie.Need-returns
-returns c = let a = c .before .args in λ x. down-none (side x (a .w)) (side (a .y) (a .h)) (a .r) (none-of (side x (a .w)) (side (a .y) (a .h)) (c .if1 .taken))
+returns c = let a = c .before .args in λ x. down-none _ (side x (a .w)) (side (a .y) (a .h)) (a .r) (none-of (side x (a .w)) (side (a .y) (a .h)) (c .if1 .taken))
 
 set-of-requires : tie.Need-set-of-requires
 set-of-requires c κs = omega arith
@@ -17,7 +17,7 @@ set-of-requires c κs = omega arith
 add-result : tie.Need-add-result
 add-result c =
     let a = c .before .before .args in
-    omega (arith, c .set-of .ensures, set-there ahead (side (a .y) (a .h)) (a .r), last-is (side (a .y) (a .h)))
+    omega (arith, c .set-of .ensures, set-there (ahead (a .filter)) (side (a .y) (a .h)) (a .r), last-is (side (a .y) (a .h)))
 
 returns-2 : tie.Need-returns-2
 returns-2 c =
@@ -25,7 +25,7 @@ returns-2 c =
     let a = cells .before .args in
     λ x.
     let f = some-of (side x (a .w)) (side (a .y) (a .h)) (cells .if1 .left) in
-    down-some (side x (a .w)) (side (a .y) (a .h)) (a .r) (a .n) _ (f .0) (f .1) (cells .before .pre .2) (c .set-of .ensures)
+    down-some _ (side x (a .w)) (side (a .y) (a .h)) (a .r) (a .n) _ (f .0) (f .1) (cells .before .pre .2) (c .set-of .ensures)
 
 pub goes-down-spec : {M : Type 1} → statement M
 goes-down-spec = tie.close (tie.spec returns set-of-requires add-result returns-2)

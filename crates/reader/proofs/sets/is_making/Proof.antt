@@ -15,13 +15,13 @@ first-row-requires c κs = omega arith
 set-of-requires : tie.Need-set-of-requires
 set-of-requires c κs =
     let a = c .before .args in
-    omega (arith, c .first-row .ensures, row-in (side (a .y) (a .h)) (a .n))
+    omega (arith, c .first-row .ensures, row-in (a .filter) (side (a .y) (a .h)) (a .n))
 
 returns : tie.Need-returns
 unfolding makes
 returns c =
     let a = c .before .before .args in
-    ap (λ m. leb m (a .n)) (c .set-of .ensures ∙ ap (setOf ahead (side (a .y) (a .h))) (c .before .first-row .ensures))
+    ap (λ m. leb m (a .n)) (c .set-of .ensures ∙ ap (setOf (ahead (a .filter)) (side (a .y) (a .h))) (c .before .first-row .ensures))
 
 pub is-making-spec : {M : Type 1} → statement M
 is-making-spec = tie.close (tie.spec first-row-requires set-of-requires returns)

@@ -2,8 +2,7 @@
 use native.Mathlib.Omega.{arith}
 use Prim.Native.Nat.{_+_, _-_, _/_, _%_}
 use Rattle.lifting.specs.Grid.{side}
-use Rattle.reader.specs.Sets.{ahead}
-use Rattle.reader.proofs.SetLaws.{ahead-small, set-first, set-later}
+use Rattle.reader.proofs.SetLaws.{ahead-fits, set-first, set-later}
 use Rattle.reader.proofs.sets.set_of.Statement.{statement}
 use Rattle.reader.proofs.sets.set_of.Tie as tie
 
@@ -11,7 +10,7 @@ add-q : tie.Need-add-q
 add-q c = omega arith
 
 returns : tie.Need-returns
-returns c = let a = c .before .args in set-first (side (a .y) (a .h)) (a .r) (c .if1 .taken)
+returns c = let a = c .before .args in set-first (a .filter) (side (a .y) (a .h)) (a .r) (c .if1 .taken)
 
 sub-a : tie.Need-sub-a
 sub-a c = omega arith
@@ -20,7 +19,7 @@ look-ahead-requires : tie.Need-look-ahead-requires
 look-ahead-requires c κs = tt
 
 add-a : tie.Need-add-a
-add-a c = omega (arith, c .look-ahead .ensures, ahead-small)
+add-a c = omega (arith, ahead-fits _ _ (c .look-ahead .ensures))
 
 last-set-requires : tie.Need-last-set-requires
 last-set-requires c κs = omega arith
@@ -31,7 +30,7 @@ returns-2 c =
     let a = last .before .before .before .args in
     omega (
       arith,
-      set-later (side (a .y) (a .h)) (a .r) ((a .y % 2 + a .r - 1) / 2 + last .before .look-ahead .result) (last .last-set .result) (omega arith)
+      set-later (a .filter) (side (a .y) (a .h)) (a .r) ((a .y % 2 + a .r - 1) / 2 + last .before .look-ahead .result) (last .last-set .result) (omega arith)
           (omega (arith, last .before .look-ahead .ensures)) (last .last-set .ensures),
     )
 
@@ -41,7 +40,7 @@ returns-3 c =
     let a = last .before .before .before .args in
     omega (
       arith,
-      set-later (side (a .y) (a .h)) (a .r) ((a .y % 2 + a .r - 1) / 2 + last .before .look-ahead .result) (last .last-set .result) (omega arith)
+      set-later (a .filter) (side (a .y) (a .h)) (a .r) ((a .y % 2 + a .r - 1) / 2 + last .before .look-ahead .result) (last .last-set .result) (omega arith)
           (omega (arith, last .before .look-ahead .ensures)) (last .last-set .ensures),
     )
 

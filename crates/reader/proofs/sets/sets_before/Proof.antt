@@ -20,15 +20,15 @@ set-of-requires c κs = omega arith
 add-result : tie.Need-add-result
 add-result c =
     let a = c .before .before .args in
-    omega (arith, c .set-of .ensures, set-there ahead (side (a .y) (a .h)) (a .r - 1), last-is (side (a .y) (a .h)))
+    omega (arith, c .set-of .ensures, set-there (ahead (a .filter)) (side (a .y) (a .h)) (a .r - 1), last-is (side (a .y) (a .h)))
 
 returns : tie.Need-returns
 returns c =
     let a = c .before .args in
-    sym (before-zero ahead (side (a .y) (a .h))) ∙ ap (setsBefore ahead (side (a .y) (a .h))) (sym (c .if1 .taken))
+    sym (before-zero (ahead (a .filter)) (side (a .y) (a .h))) ∙ ap (setsBefore (ahead (a .filter)) (side (a .y) (a .h))) (sym (c .if1 .taken))
 
 returns-2 : tie.Need-returns-2
-returns-2 c = let a = c .before .before .args in before-later (side (a .y) (a .h)) (a .r) _ (omega arith) (c .set-of .ensures)
+returns-2 c = let a = c .before .before .args in before-later (a .filter) (side (a .y) (a .h)) (a .r) _ (omega arith) (c .set-of .ensures)
 
 pub sets-before-spec : {M : Type 1} → statement M
 sets-before-spec = tie.close (tie.spec sub-set-of set-of-requires add-result returns returns-2)

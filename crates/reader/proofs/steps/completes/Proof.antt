@@ -21,7 +21,7 @@ band-at-requires c κs =
     let start = c .before .before in
     let counts = start .pre .0 in
     let near = spot-in _ _ (start .pre .1 .spot) (start .pre .2) in
-    (counts-small (start .args .s) counts, start .pre .1 .at (start .pre .2), omega (arith, near .0, counts .at, counts .deep .1))
+    (counts-small (start .args .s) counts, start .pre .1 .at (start .pre .2), omega (arith, near .0, counts .at, counts .few))
 
 returns : tie.Need-returns
 unfolding lastOfSet

@@ -4,6 +4,7 @@ use native.Mathlib.Omega.{arith}
 use borrow.Author.Tests.{not-true, not-false}
 use Prim.Native.Nat.{_+_, _-_}
 use Rattle.numbers.specs.Signal.{at}
+use Rattle.nine_seven.specs.Filters.{filterOf}
 use Rattle.reader.specs.Machine.{finished}
 use Rattle.reader.specs.State.{columns, rows}
 use Rattle.level.proofs.WorkLaws.{told-no, told-yes}
@@ -40,17 +41,17 @@ put-row-requires c κs =
     let counts = start .pre .0 in
     let call = c .before .before .before .before in (
       counts-small s counts,
-      omega (arith, near .0, counts .at, counts .deep .1),
+      omega (arith, near .0, counts .at, counts .few),
       start .pre .1 .at (start .pre .2),
       near .1,
-      omega (arith, store-in (columns s) (start .args .n .spot .level - 1 + 1) (s .levels) (omega (arith, near .0, counts .at)), call .settle .kept .1 .0),
+      omega (arith, store-in (filterOf (s .filter) .rows) (columns s) (start .args .n .spot .level - 1 + 1) (s .levels) (omega (arith, near .0, counts .at)), call .settle .kept .1 .0),
       start .pre .5 ∙ length-back s (start .args .n .spot) (start .pre .1 .spot),
     )
 
 same-length-2 : tie.Need-same-length-2
 same-length-2 c =
     let put = c .before .before in
-    put .put-row .kept .1 .1 .1 .1 .1 .0 ∙ put .before .before .before .before .before .settle .kept .1 .0
+    put .put-row .kept .1 .1 .1 .1 .1 .1 .0 ∙ put .before .before .before .before .before .settle .kept .1 .0
 
 returns-2 : tie.Need-returns-2
 returns-2 c =
@@ -64,11 +65,11 @@ returns-2 c =
     let due = start .pre .1 .spot in
     let near = spot-in _ _ due (omega arith) in
     let settled = told-yes (call .settle .result) (at (call .settle .last .1 .0)) _ (call .settle .ensures .0) (not-false _ (on .if1 .left)) in
-    let room = store-in (columns s) (p .level - 1 + 1) (s .levels) (omega (arith, near .0, start .pre .0 .at)) in
-    let own = fed-kept (columns s) (rows s) (p .level - 1) n (p .band) _ _ in
+    let room = store-in (filterOf (s .filter) .rows) (columns s) (p .level - 1 + 1) (s .levels) (omega (arith, near .0, start .pre .0 .at)) in
+    let own = fed-kept (s .filter) (columns s) (rows s) (p .level - 1) n (p .band) _ _ in
     let fed = kept-is _ _ _ _ (kept-more _ _ _ _ room own) (put .put-row .ensures) in (
-      finish-not (columns s) (rows s) (s .levels) (p .level - 1) n (p .band) _ _ (start .pre .3) (not-true _ (c .if2 .taken))
-          ∙ ap (λ y. finished (columns s) (rows s) (s .levels) (p .level - 1) n (p .band) y) (put .put-row .ensures)
+      finish-not (s .filter) (columns s) (rows s) (s .levels) (p .level - 1) n (p .band) _ _ (start .pre .3) (not-true _ (c .if2 .taken))
+          ∙ ap (λ y. finished (s .filter) (columns s) (rows s) (s .levels) (p .level - 1) n (p .band) y) (put .put-row .ensures)
           ∙ feed-on s p due _ _ _ n (omega arith) (start .pre .1 .set (start .pre .2)) settled,
       kept-both _ _ _ _ (call .settle .ensures .1) fed,
     )
@@ -85,14 +86,14 @@ work-at-requires c κs =
       counts .deep .1,
       omega (arith, near .0, counts .at),
       within,
-      omega (arith, put .put-row .kept .1 .1 .1 .1 .1 .0, call .settle .kept .1 .0),
+      omega (arith, put .put-row .kept .1 .1 .1 .1 .1 .1 .0, call .settle .kept .1 .0),
     )
 
 same-length-3 : tie.Need-same-length-3
 same-length-3 c =
     let done = c .before in
     let put = done .before .before .before .before in
-    done .work-at .kept .1 .1 .1 .1 .1 .1 .0 ∙ put .put-row .kept .1 .1 .1 .1 .1 .0 ∙ put .before .before .before .before .before .settle .kept .1 .0
+    done .work-at .kept .1 .1 .1 .1 .1 .1 .1 .0 ∙ put .put-row .kept .1 .1 .1 .1 .1 .1 .0 ∙ put .before .before .before .before .before .settle .kept .1 .0
 
 returns-3 : tie.Need-returns-3
 returns-3 c =
@@ -108,12 +109,12 @@ returns-3 c =
     let due = start .pre .1 .spot in
     let near = spot-in _ _ due (omega arith) in
     let settled = told-yes (call .settle .result) (at (call .settle .last .1 .0)) _ (call .settle .ensures .0) (not-false _ (on .if1 .left)) in
-    let room = store-in (columns s) (p .level - 1 + 1) (s .levels) (omega (arith, near .0, start .pre .0 .at)) in
-    let own = fed-kept (columns s) (rows s) (p .level - 1) n (p .band) _ _ in
+    let room = store-in (filterOf (s .filter) .rows) (columns s) (p .level - 1 + 1) (s .levels) (omega (arith, near .0, start .pre .0 .at)) in
+    let own = fed-kept (s .filter) (columns s) (rows s) (p .level - 1) n (p .band) _ _ in
     let fed = kept-is _ _ _ _ (kept-more _ _ _ _ room own) (put .put-row .ensures) in (
       done .work-at .ensures .0
-          ∙ finish-set (columns s) (rows s) (s .levels) (p .level - 1) n (p .band) _ _ (start .pre .3) (not-false _ (set .if2 .left))
-          ∙ ap (λ y. finished (columns s) (rows s) (s .levels) (p .level - 1) n (p .band) y) (put .put-row .ensures)
+          ∙ finish-set (s .filter) (columns s) (rows s) (s .levels) (p .level - 1) n (p .band) _ _ (start .pre .3) (not-false _ (set .if2 .left))
+          ∙ ap (λ y. finished (s .filter) (columns s) (rows s) (s .levels) (p .level - 1) n (p .band) y) (put .put-row .ensures)
           ∙ feed-on s p due _ _ _ n (omega arith) (start .pre .1 .set (start .pre .2)) settled,
       kept-both _ _ _ _ (kept-both _ _ _ _ (call .settle .ensures .1) fed) (done .work-at .ensures .1),
     )

@@ -11,7 +11,7 @@ use Rattle.reader.proofs.steps.last_of.Tie as tie
 returns : tie.Need-returns
 returns c =
     let a = c .before .args in
-    sym (ap (needed (rows (a .s)) 0 (a .d)) (c .if1 .taken) ∙ needed-here (rows (a .s)) 0 (a .d))
+    sym (ap (needed _ (rows (a .s)) 0 (a .d)) (c .if1 .taken) ∙ needed-here _ (rows (a .s)) 0 (a .d))
 
 sub-level-at : tie.Need-sub-level-at
 sub-level-at c = omega arith
@@ -24,7 +24,7 @@ returns-2 c =
     let some = c .before in
     let a = some .before .args in
     let k : suc (a .level - 1) ≡ a .level = omega arith in
-    c .level-at .ensures .level .last ∙ ap (needed (rows (a .s)) 0 (a .d)) k
+    c .level-at .ensures .level .last ∙ ap (needed _ (rows (a .s)) 0 (a .d)) k
 
 pub last-of-spec : {M : Type 1} → statement M
 last-of-spec = tie.close (tie.spec returns sub-level-at level-at-requires returns-2)

@@ -10,7 +10,7 @@ use Rattle.reader.proofs.steps.next_from.Tie as tie
 next-up-requires : tie.Need-next-up-requires
 next-up-requires c κs =
     let counts = c .pre .0 in
-    (counts-small (c .args .s) counts, c .pre .1, omega (arith, counts .at, counts .deep .1), c .pre .2 .0)
+    (counts-small (c .args .s) counts, c .pre .1, omega (arith, counts .at, counts .few), c .pre .2 .0)
 
 returns : tie.Need-returns
 returns c =

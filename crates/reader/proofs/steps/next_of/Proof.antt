@@ -14,7 +14,7 @@ returns c =
     let top = c .before in
     let s = top .before .before .args .s in
     let n = c .no-row .ensures in
-    no-next (columns s) (rows s) (s .drawn) (next s) _ (next-none s (top .if1 .taken)) (n .0) (n .1) (n .2)
+    no-next _ (columns s) (rows s) (s .drawn) (next s) _ (next-none s (top .if1 .taken)) (n .0) (n .1) (n .2)
 
 own-level-requires : tie.Need-own-level-requires
 own-level-requires c κs = (c .before .before .pre, omega arith)
@@ -27,7 +27,7 @@ returns-2 c =
     let band = c .before in
     let level = band .before in
     let s = level .before .before .before .args .s in
-    up-next (columns s) (rows s) (s .levels) (s .drawn) (next s) (s .level) (band .own-band .result) (level .own-level .result) (level .own-level .ensures .0)
+    up-next _ (columns s) (rows s) (s .levels) (s .drawn) (next s) (s .level) (band .own-band .result) (level .own-level .result) (level .own-level .ensures .0)
     (band .own-band .ensures (c .if2 .taken))
 
 next-from-requires : tie.Need-next-from-requires

@@ -15,13 +15,13 @@ band-at-requires : tie.Need-band-at-requires
 band-at-requires c κs =
     let start = c .before in
     let counts = start .pre .0 in
-    (counts-small (start .args .s) counts, start .pre .2 .0, omega (arith, counts .at, counts .deep .1))
+    (counts-small (start .args .s) counts, start .pre .2 .0, omega (arith, counts .at, counts .few))
 
 returns : tie.Need-returns
 returns c =
     let start = c .before .before in
     let s = start .args .s in
-    λ h. up-here (columns s) (rows s) (s .levels) (s .level) (s .band) (c .band-at .result) (start .args .l .set) (start .pre .1)
+    λ h. up-here _ (columns s) (rows s) (s .levels) (s .level) (s .band) (c .band-at .result) (start .args .l .set) (start .pre .1)
     (c .band-at .ensures) h ∙ next-own s _ (start .pre .2 .1)
 
 pub own-band-spec : {M : Type 1} → statement M

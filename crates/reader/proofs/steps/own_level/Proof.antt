@@ -16,7 +16,7 @@ level-at-requires : tie.Need-level-at-requires
 level-at-requires c κs =
     let start = c .before in
     let counts = start .pre .0 in
-    (counts-small (start .args .s) counts, omega (arith, counts .at, counts .deep .1))
+    (counts-small (start .args .s) counts, omega (arith, counts .at, counts .few))
 
 less-requires : tie.Need-less-requires
 less-requires c κs = tt
@@ -33,8 +33,8 @@ returns c =
     let at = level .level-at .ensures in
     let small : less .less .result ≤ 2 ^ 32 = omega (arith, less .less .ensures, at .now, at .level .last, at .level .set) in
     let k : suc (s .level - 1) ≡ s .level = omega (arith, start .pre .1) in
-    let last = at .level .last ∙ ap (needed (rows s) 0 (s .drawn)) k in (
-      set-level (columns s) (rows s) (s .drawn) (s .level - 1) (less .less .result) (level .level-at .result) (c .at-set .result) small (at .level)
+    let last = at .level .last ∙ ap (needed _ (rows s) 0 (s .drawn)) k in (
+      set-level _ (columns s) (rows s) (s .drawn) (s .level - 1) (less .less .result) (level .level-at .result) (c .at-set .result) small (at .level)
           (c .at-set .ensures),
       c .at-set .ensures .5 ∙ less .less .ensures ∙ ap (λ (i : ℕ). i - s .back) last,
     )

@@ -13,7 +13,7 @@ returns : tie.Need-returns
 returns c =
     let start = c .before .before .before in
     let s = start .args .s in (
-      settle-none (columns s) (rows s) (s .levels) _ (s .level) (spotNow s .set) _ (c .if1 .taken)
+      settle-none _ (columns s) (rows s) (s .levels) _ (s .level) (spotNow s .set) _ (c .if1 .taken)
           ∙ settles-is s (start .args .n .spot) (start .pre .1 .spot) (spotNow s .set) refl _,
       kept-none _ _,
     )
@@ -28,7 +28,7 @@ settle-requires c κs =
     (counts-small (start .args .s) counts, counts .deep .1, counts .at, λ _. c .own-level .ensures .0, omega arith)
 
 same-length : tie.Need-same-length
-same-length c = c .before .settle .kept .1 .1 .1 .1 .1 .1 .0
+same-length c = c .before .settle .kept .1 .1 .1 .1 .1 .1 .1 .0
 
 returns-2 : tie.Need-returns-2
 returns-2 c =

@@ -13,7 +13,7 @@ returns : tie.Need-returns
 returns c =
     let start = c .before .before in
     let s = start .args .s in (
-      settle-none (columns s) (rows s) (s .levels) 0 (s .level) (spotNow s .set) _ (omega arith) ∙ settles-all s (start .pre .1) (spotNow s .set) refl _,
+      settle-none _ (columns s) (rows s) (s .levels) 0 (s .level) (spotNow s .set) _ (omega arith) ∙ settles-all s (start .pre .1) (spotNow s .set) refl _,
       kept-none _ _,
     )
 
@@ -27,7 +27,7 @@ settle-requires c κs =
     (counts-small (start .args .s) counts, counts .deep .1, counts .at, λ _. c .own-level .ensures .0, omega arith)
 
 same-length : tie.Need-same-length
-same-length c = c .before .settle .kept .1 .1 .1 .1 .1 .1 .0
+same-length c = c .before .settle .kept .1 .1 .1 .1 .1 .1 .1 .0
 
 returns-2 : tie.Need-returns-2
 returns-2 c =

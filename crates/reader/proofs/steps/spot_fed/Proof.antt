@@ -21,7 +21,7 @@ returns c =
     let p = start .args .n .spot in
     let same = start .pre .1 .set (start .pre .2) in
     is-spot _ _
-    (beyond-more (columns s) (rows s) (s .levels) (p .level - 1) (p .set) (p .band) (p .level) _
+    (beyond-more _ (columns s) (rows s) (s .levels) (p .level - 1) (p .set) (p .band) (p .level) _
     (start .pre .3 ∙ ap (λ (n : ℕ). lastOfSet (columns s) (rows s) (s .levels) (p .level - 1) n (p .band)) same) (omega arith) (not-true _ (more .if1 .taken))
     ∙ beyond-is s p (start .pre .1 .spot) (start .pre .2))
 
@@ -37,7 +37,7 @@ returns-2 c =
     let same = start .pre .1 .set (start .pre .2) in
     is-spot _ _
     (spot-of _ _ (c .spot-past .ensures)
-    ∙ beyond-set (columns s) (rows s) (s .levels) (p .level - 1) (p .set) (p .band) _
+    ∙ beyond-set _ (columns s) (rows s) (s .levels) (p .level - 1) (p .set) (p .band) _
     (start .pre .3 ∙ ap (λ (n : ℕ). lastOfSet (columns s) (rows s) (s .levels) (p .level - 1) n (p .band)) same) (not-false _ (done .if1 .left))
     ∙ beyond-is s p (start .pre .1 .spot) (start .pre .2))
 

@@ -34,7 +34,7 @@ begin-requires c κs =
     let at = start .pre .1 .at (start .pre .2) in
     let near = spot-in _ _ (start .pre .1 .spot) (start .pre .2) in
     let small = level-small s counts _ (start .args .n .at) at in
-    (omega (arith, near .0, counts .at), counts .deep .1, small .0, small .1, omega (arith, at .set))
+    (omega (arith, near .0, counts .at), counts .few, small .0, small .1, omega (arith, at .set))
 
 returns : tie.Need-returns
 returns c =
@@ -44,12 +44,12 @@ returns c =
     let s = start .args .s in
     let n = start .args .n in
     let at = start .pre .1 .at (start .pre .2) in
-    let none = sym (ap (λ (S : Side). makes S (n .at .set)) (level-high _ _ _ _ (n .at) at)) ∙ sym (making .is-making .ensures)
+    let none = sym (ap (λ (S : Side). makes (s .filter) S (n .at .set)) (level-high _ _ _ _ _ (n .at) at)) ∙ sym (making .is-making .ensures)
     ∙ not-true _ (not .if1 .taken) in
     is-spot _ _
     (spot-of _ _ (c .begin .ensures)
-    ∙ begins-at (columns s) (rows s) (s .levels) (s .drawn) (n .spot .level) (n .at .set + 1) (n .at) (start .pre .2) at
-    ∙ past-begin (columns s) (rows s) (s .levels) (n .spot .level) (n .at .set) (n .spot .set) (start .pre .2) (start .pre .1 .set (start .pre .2)) none)
+    ∙ begins-at (s .filter) (columns s) (rows s) (s .levels) (s .drawn) (n .spot .level) (n .at .set + 1) (n .at) (start .pre .2) at
+    ∙ past-begin (s .filter) (columns s) (rows s) (s .levels) (n .spot .level) (n .at .set) (n .spot .set) (start .pre .2) (start .pre .1 .set (start .pre .2)) none)
 
 first-row-requires : tie.Need-first-row-requires
 first-row-requires c κs = let start = c .before .before .before in start .pre .1 .at (start .pre .2) .set
@@ -63,10 +63,10 @@ returns-2 c =
     let s = start .args .s in
     let n = start .args .n in
     let at = start .pre .1 .at (start .pre .2) in
-    let high = level-high _ _ _ _ (n .at) at in
-    let some = sym (ap (λ (S : Side). makes S (n .at .set)) high) ∙ sym (making .is-making .ensures) ∙ not-false _ (yes .if1 .left) in
+    let high = level-high _ _ _ _ _ (n .at) at in
+    let some = sym (ap (λ (S : Side). makes (s .filter) S (n .at .set)) high) ∙ sym (making .is-making .ensures) ∙ not-false _ (yes .if1 .left) in
     is-spot _ _
-    (past-top (columns s) (rows s) (s .levels) (n .spot .level) (n .at .set) (n .spot .set) _ (n .at) (omega arith) (start .pre .2)
+    (past-top (s .filter) (columns s) (rows s) (s .levels) (n .spot .level) (n .at .set) (n .spot .set) _ (n .at) (omega arith) (start .pre .2)
     (start .pre .1 .set (start .pre .2)) high (row .first-row .ensures) some)
 
 finer-requires : tie.Need-finer-requires
@@ -75,7 +75,7 @@ finer-requires c κs =
     let s = start .args .s in
     let counts = start .pre .0 in
     let near = spot-in _ _ (start .pre .1 .spot) (start .pre .2) in
-    (counts-small s counts, start .pre .1 .at (start .pre .2), omega arith, omega (arith, near .0, counts .at, counts .deep .1))
+    (counts-small s counts, start .pre .1 .at (start .pre .2), omega arith, omega (arith, near .0, counts .at, counts .few))
 
 returns-3 : tie.Need-returns-3
 returns-3 c =
@@ -87,10 +87,10 @@ returns-3 c =
     let s = start .args .s in
     let n = start .args .n in
     let at = start .pre .1 .at (start .pre .2) in
-    let high = level-high _ _ _ _ (n .at) at in
-    let some = sym (ap (λ (S : Side). makes S (n .at .set)) high) ∙ sym (making .is-making .ensures) ∙ not-false _ (yes .if1 .left) in
+    let high = level-high _ _ _ _ _ (n .at) at in
+    let some = sym (ap (λ (S : Side). makes (s .filter) S (n .at .set)) high) ∙ sym (making .is-making .ensures) ∙ not-false _ (yes .if1 .left) in
     is-spot _ _
-    (past-finer (columns s) (rows s) (s .levels) (n .spot .level - 1) (n .at .set) (n .spot .set) _ (start .pre .1 .set (start .pre .2))
+    (past-finer (s .filter) (columns s) (rows s) (s .levels) (n .spot .level - 1) (n .at .set) (n .spot .set) _ (start .pre .1 .set (start .pre .2))
     (c .finer .ensures .1) some)
 
 pub spot-past-spec : {M : Type 1} → statement M

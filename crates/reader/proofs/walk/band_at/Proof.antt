@@ -14,14 +14,14 @@ add-next-band c = omega arith
 
 next-band-requires : tie.Need-next-band-requires
 next-band-requires c κs =
-    let here = level-in _ _ _ _ (c .args .l) (c .pre .1) (omega arith) (omega arith) in
+    let here = level-in _ _ _ _ _ (c .args .l) (c .pre .1) (omega arith) (omega arith) in
     omega (arith, here .1, here .2, here .3)
 
 returns : tie.Need-returns
 returns c =
     let start = c .before in
     let a = start .args in
-    c .next-band .ensures ∙ band-is (side (a .x) (a .width)) (side (a .y) (a .height)) (a .levels) (a .drawn) (a .k) (a .band) (a .l) (start .pre .1)
+    c .next-band .ensures ∙ band-is (a .filter) (side (a .x) (a .width)) (side (a .y) (a .height)) (a .levels) (a .drawn) (a .k) (a .band) (a .l) (start .pre .1)
 
 pub band-at-spec : {M : Type 1} → statement M
 band-at-spec = tie.close (tie.spec add-next-band next-band-requires returns)

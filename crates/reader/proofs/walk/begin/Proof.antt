@@ -48,7 +48,7 @@ returns-2 c =
     let l = a .l in
     is-spot _ _
     (spot-of _ _ (c .dive-from .ensures)
-    ∙ begin-on (side (l .x) (l .width)) (side (l .y) (l .height)) _ _ (a .n) _ _ _ _ _ _ (omega arith) (x .next-start .ensures (l .width))
+    ∙ begin-on (a .filter) (side (l .x) (l .width)) (side (l .y) (l .height)) _ _ (a .n) _ _ _ _ _ _ (omega arith) (x .next-start .ensures (l .width))
     (w .low-count .ensures) (y .next-start2 .ensures (l .height)) (h .low-count2 .ensures) (omega arith))
 
 pub begin-spec : {M : Type 1} → statement M

@@ -12,15 +12,15 @@ use Rattle.reader.proofs.walk.dive_from.Statement.{statement}
 use Rattle.reader.proofs.walk.dive_from.Tie as tie
 
 abbrev Inv-loop : tie.InvT-loop
-Inv-loop levels level x width y height n row k₀ wx₀ w₀ hy₀ h₀ m₀ r₀ k wx w hy h m r =
+Inv-loop filter levels level x width y height n row k₀ wx₀ w₀ hy₀ h₀ m₀ r₀ k wx w hy h m r =
     (levels ≤ maxLevels) × (width ≤ 2 ^ 16) × (height < 2 ^ 32)
-    × Down levels width height k wx w hy h m r (dive (levels - level) level (side x width) (side y height) n row)
+    × Down filter levels width height k wx w hy h m r (dive filter (levels - level) level (side x width) (side y height) n row)
 
 abbrev μ-loop : tie.MeasureT-loop
-μ-loop levels level x width y height n row k₀ wx₀ w₀ hy₀ h₀ m₀ r₀ k wx w hy h m r = levels - k
+μ-loop filter levels level x width y height n row k₀ wx₀ w₀ hy₀ h₀ m₀ r₀ k wx w hy h m r = levels - k
 
 loop-holds : tie.Need-loop-holds Inv-loop μ-loop
-loop-holds c = (omega arith, omega arith, omega arith, down-start _ _ _ _ _ _ _ _ (omega arith) (omega arith))
+loop-holds c = (omega arith, omega arith, omega arith, down-start _ _ _ _ _ _ _ _ _ (omega arith) (omega arith))
 
 sets-before-requires : tie.Need-sets-before-requires Inv-loop μ-loop
 sets-before-requires c κs = let s = c .before .loop .inv .3 in omega (arith, s .most, s .near)
@@ -35,11 +35,11 @@ returns c =
     let down = c .before in
     let test = down .before .before in
     let l = test .before .loop in
-    is-spot _ _ (down-out _ _ _ _ _ _ _ _ _ _ _ (l .inv .3) (test .loop-test .taken) (sym (down .goes-down .ensures (l .wx)) ∙ not-true _ (c .if1 .taken)))
+    is-spot _ _ (down-out _ _ _ _ _ _ _ _ _ _ _ _ (l .inv .3) (test .loop-test .taken) (sym (down .goes-down .ensures (l .wx)) ∙ not-true _ (c .if1 .taken)))
 
-add-t20 : tie.Need-add-t20 Inv-loop μ-loop
+add-t21 : tie.Need-add-t21 Inv-loop μ-loop
 unfolding maxLevels
-add-t20 c = omega arith
+add-t21 c = omega arith
 
 returns-2 : tie.Need-returns-2 Inv-loop μ-loop
 returns-2 c =
@@ -49,7 +49,7 @@ returns-2 c =
     let test = set .before in
     let l = test .before .loop in
     is-spot _ _
-    (down-alone _ _ _ _ _ _ _ _ _ _ _ (l .inv .3) (test .loop-test .taken) (sym (down .goes-down .ensures (l .wx)) ∙ not-false _ (on .if1 .left))
+    (down-alone _ _ _ _ _ _ _ _ _ _ _ _ (l .inv .3) (test .loop-test .taken) (sym (down .goes-down .ensures (l .wx)) ∙ not-false _ (on .if1 .left))
     _ (set .sets-before .ensures) (c .if2 .taken))
 
 sub-r : tie.Need-sub-r Inv-loop μ-loop
@@ -89,13 +89,13 @@ loop-again c =
       inv .0,
       inv .1,
       inv .2,
-      down-on _ _ _ _ _ _ _ _ _ _ _ (inv .3) (test .loop-test .taken) (sym (down .goes-down .ensures (l .wx)) ∙ not-false _ (on .if1 .left))
+      down-on _ _ _ _ _ _ _ _ _ _ _ _ (inv .3) (test .loop-test .taken) (sym (down .goes-down .ensures (l .wx)) ∙ not-false _ (on .if1 .left))
           _ (set .sets-before .ensures) (omega arith) (inv .2) _ _ _ _ _ (omega arith) (w .low-count .ensures) (x .next-start .ensures (l .w))
           (h .low-count2 .ensures) (c .next-start2 .ensures (l .h)),
     )
 
 returns-3 : tie.Need-returns-3 Inv-loop μ-loop
-returns-3 c = is-spot _ _ (down-end _ _ _ _ _ _ _ _ _ _ _ (c .before .loop .inv .3) (omega arith))
+returns-3 c = is-spot _ _ (down-end _ _ _ _ _ _ _ _ _ _ _ _ (c .before .loop .inv .3) (omega arith))
 
 pub dive-from-spec : {M : Type 1} → statement M
 dive-from-spec =
@@ -107,7 +107,7 @@ dive-from-spec =
     sets-before-requires
     goes-down-requires
     returns
-    add-t20
+    add-t21
     returns-2
     sub-r
     low-count-requires

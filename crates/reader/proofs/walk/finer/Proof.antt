@@ -24,7 +24,7 @@ add-at-set c =
     let row = c .before in
     let start = row .before .before in
     let l = start .args .l in
-    omega (arith, row .first-row .ensures, row-in (side (l .y) (l .height)) (l .set), level-in _ _ _ _ l (start .pre .1) (omega arith) (omega arith) .2)
+    omega (arith, row .first-row .ensures, row-in (start .args .filter) (side (l .y) (l .height)) (l .set), level-in _ _ _ _ _ l (start .pre .1) (omega arith) (omega arith) .2)
 
 at-set-requires : tie.Need-at-set-requires
 at-set-requires c κs = tt
@@ -40,11 +40,16 @@ returns c =
     let at = level .level-at .ensures .level in
     let n = row .first-row .result + level .level-at .result .y % 2 in
     let small : n ≤ 2 ^ 32 =
-    omega (arith, row .first-row .ensures, row-in (side (l .y) (l .height)) (l .set), level-in _ _ _ _ l is (omega arith) (omega arith) .2) in
-    let first = row .first-row .ensures ∙ ap (λ (S : Side). firstRow S (l .set)) (level-high _ _ _ _ l is) in (
-      set-level (side (a .x) (a .width)) (side (a .y) (a .height)) (a .drawn) (a .k - 1) n (level .level-at .result) (c .at-set .result) small at
+    omega (
+      arith,
+      row .first-row .ensures,
+      row-in (a .filter) (side (l .y) (l .height)) (l .set),
+      level-in _ _ _ _ _ l is (omega arith) (omega arith) .2,
+    ) in
+    let first = row .first-row .ensures ∙ ap (λ (S : Side). firstRow (a .filter) S (l .set)) (level-high _ _ _ _ _ l is) in (
+      set-level (a .filter) (side (a .x) (a .width)) (side (a .y) (a .height)) (a .drawn) (a .k - 1) n (level .level-at .result) (c .at-set .result) small at
           (c .at-set .ensures),
-      c .at-set .ensures .5 ∙ waiting-is (side (a .y) (a .height)) (a .k) (l .set) _ _ (start .pre .2) first (at .y),
+      c .at-set .ensures .5 ∙ waiting-is (a .filter) (side (a .y) (a .height)) (a .k) (l .set) _ _ (start .pre .2) first (at .y),
     )
 
 pub finer-spec : {M : Type 1} → statement M

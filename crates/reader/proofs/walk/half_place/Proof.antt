@@ -6,7 +6,8 @@ use Rattle.areas.proofs.AreaLaws.{did}
 use Rattle.lifting.specs.Grid.{side}
 use Rattle.lifting.proofs.GridLaws.{counts}
 use Rattle.level.specs.Rebuilding.{widest}
-use Rattle.level.specs.Slots.{rowPlace}
+use Rattle.filters.specs.Back.{rowPlaceOf}
+use Rattle.filters.proofs.FigureLaws.{row-few}
 use Rattle.reader.proofs.SetLaws.{set-row, half-even, half-odd}
 use Rattle.reader.proofs.walk.half_place.Statement.{statement}
 use Rattle.reader.proofs.walk.half_place.Tie as tie
@@ -27,14 +28,14 @@ add-result : tie.Need-add-result
 add-result c =
     let place = c .before .before in
     let a = place .before .args in
-    omega (arith, counts (side (a .x) (a .w)), c .low-count .ensures, place .row-place .ensures .1)
+    omega (arith, counts (side (a .x) (a .w)), c .low-count .ensures, place .row-place .ensures .1, row-few (a .filter) (a .w))
 
 returns : tie.Need-returns
 returns c =
     let start = c .before .before in
     let a = start .args in
     let is = did _ _ _ _ (le-leb (a .w) widest (omega arith)) (c .before .row-place .ensures .0) in
-    let place = is ∙ ap (rowPlace (a .w)) (set-row (a .n) (a .band) (start .pre .0)) in
+    let place = is ∙ ap (rowPlaceOf (a .filter) (a .w)) (set-row (a .n) (a .band) (start .pre .0)) in
     omega (arith, place, half-even (side (a .x) (a .w)) (a .band) (start .pre .0) (c .if1 .taken))
 
 returns-2 : tie.Need-returns-2
@@ -43,7 +44,7 @@ returns-2 c =
     let start = odd .before .before in
     let a = start .args in
     let is = did _ _ _ _ (le-leb (a .w) widest (omega arith)) (odd .before .row-place .ensures .0) in
-    let place = is ∙ ap (rowPlace (a .w)) (set-row (a .n) (a .band) (start .pre .0)) in
+    let place = is ∙ ap (rowPlaceOf (a .filter) (a .w)) (set-row (a .n) (a .band) (start .pre .0)) in
     omega (arith, place, c .low-count .ensures, half-odd (side (a .x) (a .w)) (a .band) (start .pre .0) (odd .if1 .left))
 
 pub half-place-spec : {M : Type 1} → statement M

@@ -4,17 +4,18 @@ use Prim.Native.Nat.{_-_, _≤_, _<_, _^_}
 use native.Mathlib.Omega.{arith}
 use Rattle.lifting.specs.Grid.{side}
 use Rattle.wavelet.specs.Limits.{maxLevels}
-use Rattle.reader.proofs.StoreLaws.{Ends, ends-start, ends-on, walked-level, stretch-small}
+use Rattle.wavelet.proofs.StoreLaws.{widths-le}
+use Rattle.reader.proofs.StoreLaws.{Ends, ends-start, ends-on, walked-level, begins-small}
 use Rattle.reader.proofs.walk.level_at.Statement.{statement}
 use Rattle.reader.proofs.walk.level_at.Tie as tie
 
 abbrev Inv-loop : tie.InvT-loop
-Inv-loop x width y height drawn k start₀ left₀ right₀ top₀ bottom₀ row₀ i₀ start left right top bottom row i =
+Inv-loop filter x width y height drawn k columns₀ left₀ right₀ top₀ bottom₀ row₀ i₀ columns left right top bottom row i =
     (i ≤ k) × (k ≤ maxLevels) × (width ≤ 2 ^ 16) × (height < 2 ^ 32) × (drawn ≤ height)
-    × Ends (side x width) (side y height) drawn i start left right top bottom row
+    × Ends filter (side x width) (side y height) drawn i columns left right top bottom row
 
 abbrev μ-loop : tie.MeasureT-loop
-μ-loop x width y height drawn k start₀ left₀ right₀ top₀ bottom₀ row₀ i₀ start left right top bottom row i = k - i
+μ-loop filter x width y height drawn k columns₀ left₀ right₀ top₀ bottom₀ row₀ i₀ columns left right top bottom row i = k - i
 
 add-right : tie.Need-add-right Inv-loop μ-loop
 add-right c = omega arith
@@ -23,7 +24,7 @@ add-bottom : tie.Need-add-bottom Inv-loop μ-loop
 add-bottom c = omega arith
 
 loop-holds : tie.Need-loop-holds Inv-loop μ-loop
-loop-holds c = (omega arith, omega arith, omega arith, omega arith, omega arith, ends-start _ _ _ (omega arith))
+loop-holds c = (omega arith, omega arith, omega arith, omega arith, omega arith, ends-start _ _ _ _ (omega arith))
 
 sub-set-of : tie.Need-sub-set-of Inv-loop μ-loop
 sub-set-of c = let a = c .before .loop .inv .5 in omega (arith, a .down)
@@ -34,19 +35,16 @@ set-of-requires c κs = let a = c .before .loop .inv .5 .walked in omega (arith,
 row-below-requires : tie.Need-row-below-requires Inv-loop μ-loop
 row-below-requires c κs = tt
 
-sub-start : tie.Need-sub-start Inv-loop μ-loop
-sub-start c = let a = c .before .before .before .loop .inv .5 in omega (arith, a .across)
+sub-columns : tie.Need-sub-columns Inv-loop μ-loop
+sub-columns c = let a = c .before .before .before .loop .inv .5 in omega (arith, a .across)
 
-mul-start : tie.Need-mul-start Inv-loop μ-loop
-mul-start c = let a = c .before .before .before .loop .inv .5 in omega (arith, a .walked .narrow)
-
-add-start : tie.Need-add-start Inv-loop μ-loop
+add-columns : tie.Need-add-columns Inv-loop μ-loop
 unfolding maxLevels
-add-start c =
+add-columns c =
     let head = c .before .before .before in
     let a = head .loop .inv .5 .walked in
     let args = head .before .args in
-    omega (arith, a .narrow, a .begins, stretch-small (side (args .x) (args .width)) (head .loop .i) (omega arith))
+    omega (arith, a .narrow, a .passed, widths-le (side (args .x) (args .width)) (head .loop .i))
 
 next-start-requires : tie.Need-next-start-requires Inv-loop μ-loop
 next-start-requires c κs = tt
@@ -80,7 +78,7 @@ loop-again c =
       inv .2,
       inv .3,
       inv .4,
-      ends-on _ _ _ _ _ _ _ _ _ _ (inv .3) (inv .5) _ _ _ _ _ _ (set .set-of .ensures) (row .row-below .ensures) (left .next-start .ensures)
+      ends-on _ _ _ _ _ _ _ _ _ _ _ (inv .3) (inv .5) _ _ _ _ _ _ (set .set-of .ensures) (row .row-below .ensures) (left .next-start .ensures)
           (right .next-start2 .ensures) (top .next-start3 .ensures) (c .next-start4 .ensures),
     )
 
@@ -90,16 +88,31 @@ sub-h c = let a = c .before .loop .inv .5 in omega (arith, a .down)
 set-of-requires-2 : tie.Need-set-of-requires-2 Inv-loop μ-loop
 set-of-requires-2 c κs = let inv = c .before .loop .inv in omega (arith, inv .5 .walked .short, inv .5 .walked .near)
 
-sub-t20 : tie.Need-sub-t20 Inv-loop μ-loop
-sub-t20 c = let a = c .before .before .loop .inv .5 in omega (arith, a .across)
+rows-kept-requires : tie.Need-rows-kept-requires Inv-loop μ-loop
+rows-kept-requires c κs = tt
+
+mul-t21 : tie.Need-mul-t21 Inv-loop μ-loop
+unfolding maxLevels
+mul-t21 c =
+    let head = c .before .before .before in
+    let args = head .before .args in
+    omega (
+      arith,
+      begins-small (args .filter) (c .rows-kept .result) (side (args .x) (args .width)) (head .loop .i) (head .loop .columns) (c .rows-kept .ensures)
+          (head .loop .inv .5 .walked .passed) (omega arith),
+    )
+
+sub-t22 : tie.Need-sub-t22 Inv-loop μ-loop
+sub-t22 c = let a = c .before .before .before .loop .inv .5 in omega (arith, a .across)
 
 returns : tie.Need-returns Inv-loop μ-loop
 returns c =
-    let head = c .before .before in
+    let set = c .before in
+    let head = set .before .before in
     let a = head .before .args in
     let e : head .loop .i ≡ a .k = omega arith in
-    walked-level (side (a .x) (a .width)) (side (a .y) (a .height)) (a .drawn) (a .k) _ _ _ _ _ _ _ (head .loop .inv .3) e (head .loop .inv .5 .walked)
-    (c .set-of2 .result) (c .set-of2 .ensures)
+    walked-level (a .filter) _ (side (a .x) (a .width)) (side (a .y) (a .height)) (a .drawn) (a .k) _ _ _ _ _ _ _ (head .loop .inv .3) e
+    (head .loop .inv .5 .walked) (set .set-of2 .result) (set .set-of2 .ensures) (c .rows-kept .ensures)
 
 pub level-at-spec : {M : Type 1} → statement M
 level-at-spec =
@@ -113,9 +126,8 @@ level-at-spec =
     sub-set-of
     set-of-requires
     row-below-requires
-    sub-start
-    mul-start
-    add-start
+    sub-columns
+    add-columns
     next-start-requires
     next-start-requires-2
     next-start-requires-3
@@ -125,5 +137,7 @@ level-at-spec =
     loop-again
     sub-h
     set-of-requires-2
-    sub-t20
+    rows-kept-requires
+    mul-t21
+    sub-t22
     returns)

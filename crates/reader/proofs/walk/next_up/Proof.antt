@@ -11,13 +11,13 @@ use Rattle.reader.proofs.walk.next_up.Statement.{statement}
 use Rattle.reader.proofs.walk.next_up.Tie as tie
 
 abbrev Inv-loop : tie.InvT-loop
-Inv-loop x width y height levels drawn level band k₀ m₀ b₀ k m b =
+Inv-loop filter x width y height levels drawn level band k₀ m₀ b₀ k m b =
     Small (side x width) (side y height) drawn × (k ≤ level) × (level ≤ maxLevels)
-    × (0 < k → IsLevel (side x width) (side y height) drawn (k - 1) m)
-    × (nextUp (side x width) (side y height) levels k (m .set) b ≡ nextUp (side x width) (side y height) levels level (m₀ .set) band)
+    × (0 < k → IsLevel filter (side x width) (side y height) drawn (k - 1) m)
+    × (nextUp filter (side x width) (side y height) levels k (m .set) b ≡ nextUp filter (side x width) (side y height) levels level (m₀ .set) band)
 
 abbrev μ-loop : tie.MeasureT-loop
-μ-loop x width y height levels drawn level band k₀ m₀ b₀ k m b = k
+μ-loop filter x width y height levels drawn level band k₀ m₀ b₀ k m b = k
 
 loop-holds : tie.Need-loop-holds Inv-loop μ-loop
 loop-holds c = (c .pre .0, omega arith, omega arith, λ _. c .pre .3, refl)
@@ -34,9 +34,9 @@ returns c =
     let test = band .before in
     let l = test .before .loop in
     let a = test .before .before .args in
-    up-next (side (a .x) (a .width)) (side (a .y) (a .height)) (a .levels) (a .drawn) _ (l .k) (band .band-at .result)
+    up-next (a .filter) (side (a .x) (a .width)) (side (a .y) (a .height)) (a .levels) (a .drawn) _ (l .k) (band .band-at .result)
     (l .m) (l .inv .3 (test .loop-test .taken))
-    (up-here _ _ _ (l .k) (l .b) (band .band-at .result) (l .m .set) (test .loop-test .taken) (band .band-at .ensures) (c .if1 .taken) ∙ l .inv .4)
+    (up-here _ _ _ _ (l .k) (l .b) (band .band-at .result) (l .m .set) (test .loop-test .taken) (band .band-at .ensures) (c .if1 .taken) ∙ l .inv .4)
 
 sub-k : tie.Need-sub-k Inv-loop μ-loop
 sub-k c = omega arith
@@ -56,7 +56,7 @@ loop-again c =
     let band = else .before in
     let test = band .before in
     let l = test .before .loop in
-    let goes = up-finer _ _ _ (l .k) (l .b) (band .band-at .result) (l .m .set) (c .finer .result .set) (test .loop-test .taken) (band .band-at .ensures)
+    let goes = up-finer _ _ _ _ (l .k) (l .b) (band .band-at .result) (l .m .set) (c .finer .result .set) (test .loop-test .taken) (band .band-at .ensures)
     (omega arith) (λ _. c .finer .ensures .1) in
     (l .inv .0, omega arith, l .inv .2, λ _. c .finer .ensures .0, goes ∙ l .inv .4)
 
@@ -69,7 +69,7 @@ loop-again-2 c =
     let band = else .before in
     let test = band .before in
     let l = test .before .loop in
-    let goes = up-finer _ _ _ (l .k) (l .b) (band .band-at .result) (l .m .set) (l .m .set) (test .loop-test .taken) (band .band-at .ensures)
+    let goes = up-finer _ _ _ _ (l .k) (l .b) (band .band-at .result) (l .m .set) (l .m .set) (test .loop-test .taken) (band .band-at .ensures)
     (omega arith) (λ h. absurd (omega (arith, h))) in
     (l .inv .0, omega arith, l .inv .2, λ h. absurd (omega (arith, h)), goes ∙ l .inv .4)
 
@@ -80,7 +80,7 @@ returns-2 : tie.Need-returns-2 Inv-loop μ-loop
 returns-2 c =
     let l = c .before .before .loop in
     let n = c .no-row .ensures in
-    no-next _ _ _ _ _ (up-none _ _ _ (l .k) (l .m .set) (l .b) (omega arith) ∙ l .inv .4) (n .0) (n .1) (n .2)
+    no-next _ _ _ _ _ _ (up-none _ _ _ _ (l .k) (l .m .set) (l .b) (omega arith) ∙ l .inv .4) (n .0) (n .1) (n .2)
 
 pub next-up-spec : {M : Type 1} → statement M
 next-up-spec =

@@ -11,13 +11,13 @@ use Rattle.numbers.proofs.Parts.{length-mid}
 use Rattle.lifting.specs.Grid.{side}
 use Rattle.wavelet.specs.Limits.{maxLevels}
 use Rattle.reader.proofs.PartLaws.{level-in, put-room, put-is}
-use Rattle.reader.proofs.StoreLaws.{store-small}
+use Rattle.reader.proofs.StoreLaws.{stretch-is, stretch-small}
 use Rattle.reader.proofs.walk.put_row.Statement.{statement}
 use Rattle.reader.proofs.walk.put_row.Tie as tie
 
 half-place-requires : tie.Need-half-place-requires
 half-place-requires c κs =
-    let here = level-in _ _ _ _ (c .args .l) (c .pre .2) (omega arith) (omega arith) in
+    let here = level-in _ _ _ _ _ (c .args .l) (c .pre .2) (omega arith) (omega arith) in
     omega (arith, here .1, here .3)
 
 add-a : tie.Need-add-a
@@ -28,8 +28,9 @@ add-a c =
     let a = start .args in
     omega (
       arith,
-      put-room _ _ _ _ (a .l) (start .pre .2) (a .band) (half .half-place .result) (length (a .run .now)) (half .half-place .ensures) (omega arith),
-      store-small (side (a .x) (a .width)) (a .k + 1) (omega arith),
+      put-room _ _ _ _ _ (a .l) (start .pre .2) (a .band) (half .half-place .result) (length (a .run .now)) (half .half-place .ensures) (omega arith),
+      stretch-is (a .filter) (side (a .x) (a .width)) (a .k + 1),
+      stretch-small (a .filter) (side (a .x) (a .width)) (a .k + 1) (omega arith),
     )
 
 add-e : tie.Need-add-e
@@ -40,8 +41,9 @@ add-e c =
     let a = start .args in
     omega (
       arith,
-      put-room _ _ _ _ (a .l) (start .pre .2) (a .band) (half .half-place .result) (length (a .run .now)) (half .half-place .ensures) (omega arith),
-      store-small (side (a .x) (a .width)) (a .k + 1) (omega arith),
+      put-room _ _ _ _ _ (a .l) (start .pre .2) (a .band) (half .half-place .result) (length (a .run .now)) (half .half-place .ensures) (omega arith),
+      stretch-is (a .filter) (side (a .x) (a .width)) (a .k + 1),
+      stretch-small (a .filter) (side (a .x) (a .width)) (a .k + 1) (omega arith),
     )
 
 mul-copy : tie.Need-mul-copy
@@ -52,8 +54,9 @@ mul-copy c =
     let a = start .args in
     omega (
       arith,
-      put-room _ _ _ _ (a .l) (start .pre .2) (a .band) (half .half-place .result) (length (a .run .now)) (half .half-place .ensures) (omega arith),
-      store-small (side (a .x) (a .width)) (a .k + 1) (omega arith),
+      put-room _ _ _ _ _ (a .l) (start .pre .2) (a .band) (half .half-place .result) (length (a .run .now)) (half .half-place .ensures) (omega arith),
+      stretch-is (a .filter) (side (a .x) (a .width)) (a .k + 1),
+      stretch-small (a .filter) (side (a .x) (a .width)) (a .k + 1) (omega arith),
     )
 
 sub-copy : tie.Need-sub-copy
@@ -69,7 +72,7 @@ part-copy-end c =
     let a = start .args in
     omega (
       arith,
-      put-room _ _ _ _ (a .l) (start .pre .2) (a .band) (half .half-place .result) (length (a .run .now)) (half .half-place .ensures) (omega arith),
+      put-room _ _ _ _ _ (a .l) (start .pre .2) (a .band) (half .half-place .result) (length (a .run .now)) (half .half-place .ensures) (omega arith),
     )
 
 copy-requires : tie.Need-copy-requires
@@ -86,10 +89,10 @@ returns c =
     let a = start .args in
     let p = a .l .start + half .half-place .result in
     let n = length (a .run .now) in
-    let room = put-room _ _ _ _ (a .l) (start .pre .2) (a .band) (half .half-place .result) n (half .half-place .ensures) (omega arith) in
+    let room = put-room _ _ _ _ _ (a .l) (start .pre .2) (a .band) (half .half-place .result) n (half .half-place .ensures) (omega arith) in
     let long = length-mid p (p + n - p) (a .store .now) (omega arith) in
     let fits = le-leb n (length (midOf p (p + n - p) (a .store .now))) (omega (arith, long)) in
-    put-is (side (a .x) (a .width)) (side (a .y) (a .height)) (a .drawn) (a .k) (a .band) (a .l) p (half .half-place .result)
+    put-is (a .filter) (side (a .x) (a .width)) (side (a .y) (a .height)) (a .drawn) (a .k) (a .band) (a .l) p (half .half-place .result)
     (p + n - p) (a .run .now) (a .store .now)
     (call .copy .last .1 .0) (start .pre .2) (half .half-place .ensures) refl (omega arith) (omega arith) (omega arith) (call .copy .kept .1 .0 ∙ long)
     (did _ _ _ _ fits (call .copy .ensures .1))

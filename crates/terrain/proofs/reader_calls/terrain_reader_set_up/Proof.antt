@@ -33,8 +33,8 @@ returns : tie.Need-returns
 returns c =
     let o = c .before .before .before .before .before in
     let a = o .before .before .before .args in
-    let e : setUpReply (columns (a .shape)) (rows (a .shape)) (a .shape .levels)
-    (setUpQuestion (columns (a .shape)) (rows (a .shape)) (a .shape .levels) (length (a .store .now))) ≡ _ =
+    let e : setUpReply (a .shape .filter) (columns (a .shape)) (rows (a .shape)) (a .shape .levels)
+    (setUpQuestion (a .shape .filter) (columns (a .shape)) (rows (a .shape)) (a .shape .levels) (length (a .store .now))) ≡ _ =
     sym (o .before .set-up .ensures .0) ∙ ap ofSetUp (c .before .before .before .r .given .1) in (
       sym (ap number e),
       (
@@ -50,8 +50,8 @@ returns-2 : tie.Need-returns-2
 returns-2 c =
     let o = c .before .before .before in
     let a = o .before .before .before .args in
-    let e : setUpReply (columns (a .shape)) (rows (a .shape)) (a .shape .levels)
-    (setUpQuestion (columns (a .shape)) (rows (a .shape)) (a .shape .levels) (length (a .store .now))) ≡ _ =
+    let e : setUpReply (a .shape .filter) (columns (a .shape)) (rows (a .shape)) (a .shape .levels)
+    (setUpQuestion (a .shape .filter) (columns (a .shape)) (rows (a .shape)) (a .shape .levels) (length (a .store .now))) ≡ _ =
     sym (o .before .set-up .ensures .0) ∙ ap ofSetUp (c .before .no .given .1) in (
       sym (ap number e),
       (

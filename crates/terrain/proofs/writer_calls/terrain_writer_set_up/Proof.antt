@@ -36,7 +36,7 @@ returns c =
     let o = c .before .before .before .before .before in
     let a = o .before .before .before .args in
     let g = c .before .before .before .w .given in
-    let e : setUpReply (columns (a .shape)) (a .shape .y) (a .shape .levels) (length (a .store .now)) ≡ _ =
+    let e : setUpReply (a .shape .filter) (columns (a .shape)) (a .shape .y) (a .shape .levels) (length (a .store .now)) ≡ _ =
     sym (o .before .set-up .ensures .0) ∙ ap ofSetUp (g .1) in (
       sym (ap number e),
       (
@@ -53,7 +53,7 @@ returns-2 c =
     let o = c .before .before .before in
     let a = o .before .before .before .args in
     let g = c .before .no .given in
-    let e : setUpReply (columns (a .shape)) (a .shape .y) (a .shape .levels) (length (a .store .now)) ≡ _ =
+    let e : setUpReply (a .shape .filter) (columns (a .shape)) (a .shape .y) (a .shape .levels) (length (a .store .now)) ≡ _ =
     sym (o .before .set-up .ensures .0) ∙ ap ofSetUp (g .1) in (
       sym (ap number e),
       (
